@@ -77,16 +77,4 @@ impl Bits {
     {
         item_at(self.words.as_slice(), word) == 0
     }
-
-    /// Whether no number is in the set.
-    pub(crate) fn is_empty(&self) -> bool
-        ensures { IsTrue result → (r : ℕ) → Has self.now r → ⊥ }
-    {
-        for place in 0..self.words.len() {
-            if item_at(self.words.as_slice(), place) != 0 {
-                return false;
-            }
-        }
-        true
-    }
 }

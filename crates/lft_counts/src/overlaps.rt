@@ -127,12 +127,4 @@ impl Overlaps {
     {
         self.met[reaction as usize].has_none(word)
     }
-
-    /// Whether no reaction had an open run when a run of this one started.
-    pub fn is_alone(&self, reaction: u32) -> bool
-        requires { reaction < length self.now.met.items }
-        ensures { IsTrue result → (r : ℕ) → Has (met_by self.now reaction) r → ⊥ }
-    {
-        self.met[reaction as usize].is_empty()
-    }
 }

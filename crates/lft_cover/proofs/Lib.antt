@@ -1,3 +1,4 @@
+mod Taking
 mod Listed
 mod Tests
 mod Once

@@ -1,9 +1,11 @@
--- Texts that grow by one piece for each item of a list.
-use Rattle.std.proofs.Common.{◌≡◌, ℕ, zero, suc, ◌+◌, ◌≤◌, List, [], ◌∷◌, ◌++◌, length, take, drop, flat_map, refl, sym, ap, ◌∙◌, arith, Some, slice_get, min}
+-- Texts of which a writer takes one piece for each item of a list.
+use Rattle.std.proofs.Common.{◌≡◌, ℕ, zero, suc, ◌+◌, ◌≤◌, List, [], ◌∷◌, ◌++◌, length, take, drop, flat_map, refl, sym, ap, ◌∙◌, arith, Some, slice_get, min, Option, Bool, subst}
 use Rattle.std.specs.List.{enumerate_from}
 use Rattle.std.proofs.lemmas.List.{append_assoc, append-nil, take_all}
 use Rattle.std.proofs.lemmas.List.FromFn.{length-enumerate_from}
 use Rattle.lft_lists.proofs.Mapped.{enumerate_at}
+use Rattle.lft_cover.specs.Taking.{TookMore}
+use Rattle.lft_cover.proofs.Taking.{took_both}
 
 -- one item more
 one_more : {X : Type 0} (f : X → List ℕ) (xs : List X) (k : ℕ) (x : X) → slice_get xs k ≡ Some x → flat_map f (take (suc k) xs) ≡ flat_map f (take k xs) ++ f x
@@ -11,11 +13,15 @@ one_more f [] k x e = absurd (cc)
 one_more f (y ∷ ys) zero x e = let q : y ≡ x = cc in append-nil (f y) ∙ ap f q
 one_more f (y ∷ ys) (suc k) x e = ap (λ w. f y ++ w) (one_more f ys k x e) ∙ sym (append_assoc (f y) (flat_map f (take k ys)) (f x))
 
--- a text that grew by the piece of one item more
-pub grown : {X : Type 0} (f : X → List ℕ) (xs : List X) (k : ℕ) (x : X) (start before after : List ℕ) → slice_get xs k ≡ Some x → before ≡ start ++ flat_map f (take k xs) → after ≡ before ++ f x → after ≡ start ++ flat_map f (take (k + 1) xs)
-grown f xs k x start before after e b a =
+-- the piece of one item more
+pub took_one : {X : Type 0} (f : X → List ℕ) (xs : List X) (k : ℕ) (x : X) {a b c : Option (List ℕ)} {p q r : Bool} → slice_get xs k ≡ Some x → TookMore a p b q (flat_map f (take k xs)) → TookMore b q c r (f x) → TookMore a p c r (flat_map f (take (k + 1) xs))
+took_one f xs k x {a} {b} {c} {p} {q} {r} e first second =
     let n : suc k ≡ k + 1 = omega arith in
-    a ∙ ap (λ w. w ++ f x) b ∙ append_assoc start (flat_map f (take k xs)) (f x) ∙ ap (λ w. start ++ w) (sym (one_more f xs k x e) ∙ ap (λ j. flat_map f (take j xs)) n)
+    subst (TookMore a p c r) (sym (one_more f xs k x e) ∙ ap (λ j. flat_map f (take j xs)) n) (took_both first second)
+
+-- the pieces of all items
+pub took_items : {X : Type 0} (f : X → List ℕ) (xs ys : List X) {a b : Option (List ℕ)} {p q : Bool} → xs ≡ ys → TookMore a p b q (flat_map f xs) → TookMore a p b q (flat_map f ys)
+took_items f xs ys {a} {b} {p} {q} e took = subst (λ zs. TookMore a p b q (flat_map f zs)) e took
 
 pub placed_first : {X : Type 0} (xs : List X) (n : ℕ) (x : X) → slice_get xs n ≡ Some x → slice_get (enumerate_from 0 xs) n ≡ Some (n, x)
 placed_first xs n x e = let j : 0 + n ≡ n = omega arith in enumerate_at 0 xs n x e ∙ ap (λ w. Some (w, x)) j
@@ -39,14 +45,13 @@ some_more f (x ∷ xs) (suc n) m =
     let j : suc n + m ≡ suc (n + m) = omega arith in
     ap (λ k. flat_map f (take k (x ∷ xs))) j ∙ ap (λ w. f x ++ w) (some_more f xs n m) ∙ sym (append_assoc (f x) (flat_map f (take n xs)) (flat_map f (take m (drop n xs))))
 
--- a text that grew by the pieces of some items more, each with its number
-pub grown_by : {X : Type 0} (f : ℕ × X → List ℕ) (xs : List X) (n m : ℕ) (start before after : List ℕ) → before ≡ start ++ flat_map f (take n (enumerate_from 0 xs)) → after ≡ before ++ flat_map f (take m (enumerate_from n (drop n xs))) → after ≡ start ++ flat_map f (take (n + m) (enumerate_from 0 xs))
-grown_by f xs n m start before after b a =
+-- the pieces of some items more, each with its number
+pub took_more : {X : Type 0} (f : ℕ × X → List ℕ) (xs : List X) (n m k : ℕ) {a b c : Option (List ℕ)} {p q r : Bool} → n + m ≡ k → TookMore a p b q (flat_map f (take n (enumerate_from 0 xs))) → TookMore b q c r (flat_map f (take m (enumerate_from n (drop n xs)))) → TookMore a p c r (flat_map f (take k (enumerate_from 0 xs)))
+took_more f xs n m k {a} {b} {c} {p} {q} {r} e first second =
     let all = enumerate_from 0 xs in
-    let more = flat_map f (take m (enumerate_from n (drop n xs))) in
     let j : 0 + n ≡ n = omega arith in
-    a ∙ ap (λ w. w ++ more) b ∙ append_assoc start (flat_map f (take n all)) more
-    ∙ ap (λ w. start ++ w) (ap (λ ys. flat_map f (take n all) ++ flat_map f (take m ys)) (ap (λ k. enumerate_from k (drop n xs)) (sym j) ∙ sym (left_placed 0 n xs)) ∙ sym (some_more f all n m))
+    let same = ap (λ ys. flat_map f (take n all) ++ flat_map f (take m ys)) (ap (λ i. enumerate_from i (drop n xs)) (sym j) ∙ sym (left_placed 0 n xs)) ∙ sym (some_more f all n m) ∙ ap (λ i. flat_map f (take i all)) e in
+    subst (TookMore a p c r) same (took_both first second)
 
 -- numbers that reach equally far into a list take the same of it
 pub take_same : {X : Type 0} (xs : List X) (n m : ℕ) → min n (length xs) ≡ min m (length xs) → take n xs ≡ take m xs

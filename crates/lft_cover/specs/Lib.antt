@@ -1,3 +1,4 @@
 pub mod Facts
 pub mod Pairs
 pub mod Sums
+pub mod Taking

@@ -6,8 +6,9 @@ mod inputs;
 mod least;
 mod listing;
 mod pairs;
+mod putting;
 mod sums;
 mod telling;
 
-pub use listing::push_facts;
+pub use listing::write_facts;
 pub use telling::push_told;

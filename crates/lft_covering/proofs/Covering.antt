@@ -1,79 +1,124 @@
--- What is answered of a trace table is right for the three texts, where the plan is that of the first two.
-use Rattle.std.proofs.Common.{◌≡◌, ◌⊎◌, ◌++◌, ℕ, Bool, List, OnOk, Option, Result, Ok, Err, refl, inl, inr}
-use Rattle.std.specs.Io.KnownBytes.{Appends}
-use Rattle.lft_flat.specs.Sound.{IsSound}
+-- What is answered of a trace table is right under its plan.
+use Rattle.std.proofs.Common.{◌≡◌, ◌≢◌, ◌⊎◌, ◌++◌, inl, inr, ℕ, Bool, true, false, List, [], IfErr, IfOk, OnOk, Option, Result, Ok, Err, refl, sym, ap, ◌∙◌, subst, append-nil, length}
+use Rattle.std.specs.Io.KnownBytes.{Appends, Keeps}
+use Rattle.lft_flat.specs.Parts.{Parts}
 use Rattle.lft_steps.specs.declared.row.Row.{Row}
 use Rattle.lft_trace.specs.Records.{records_of}
 use Rattle.lft_trace.specs.Traces.{Table}
-use Rattle.lft_trace.proofs.TraceFacts.{one_table}
 use Rattle.lft_model.specs.Plans.{PlanParts}
+use Rattle.lft_model.specs.declared.breach.Breach.{Breach}
 use Rattle.lft_model.specs.OneWorker.{LegalRunsAreOneWorker, LegalRunsKeepPrecedence}
+use Rattle.lft_model.specs.Workers.{IsWorkers}
 use Rattle.lft_check.specs.Verdicts.{IsVerdict}
-use Rattle.lft_load.specs.Meaning.{IsPlanOf, IsOnly}
+use Rattle.lft_check.specs.declared.verdict.Verdict.TheVariants as verdict
+use Rattle.lft_counts.specs.Cover.{CoversRows}
+use Rattle.lft_counts.specs.declared.cover.Cover.{Cover}
+use Rattle.lft_cover.specs.Facts.{HasCounts, fact_lines}
+use Rattle.lft_cover.specs.Sums.{TellsSums}
+use Rattle.lft_load.specs.Faults.{table_number}
+use Rattle.lft_load.specs.Refusals.{is_of_text}
 use Rattle.lft_load.specs.Written.{AppendsFront}
 use Rattle.lft_load.specs.declared.fault.Fault.{Fault}
 use Rattle.lft_load.specs.declared.fault.Part.TheVariants as part
+use Rattle.lft_load.proofs.Loading.{memory_untold, told_at, trace_told}
+use Rattle.lft_front.specs.Explained.{WriteRefusal, Writes}
 use Rattle.lft_front.specs.Lines.{line_of}
-use Rattle.lft_front.specs.Meaning.{IsMeaning}
 use Rattle.lft_front.specs.Refusals.{CheckRefusal}
-use Rattle.lft_front.proofs.Judging.{accepted_runs, meaning_of, none_of, refused_of, refusal_untold, write_untold}
-use Rattle.lft_covering.specs.Covered.{IsBehind, IsCoverAnswer, IsCovered, IsUnread, verdict_in}
-use Rattle.lft_covering.specs.Covered.CoverRefusal.{by_check, by_texts, by_writer}
+use Rattle.lft_front.specs.Refusals.CheckRefusal.{by_growth}
+use Rattle.lft_front.proofs.Judging.{accepted_runs, refusal_untold, write_untold}
+use Rattle.lft_covering.specs.Covered.{CoverRefusalUnder, IsCovered, IsCoveredTable, IsBehind, IsCoverText, IsJudgedCoverUnder, IsTold, IsUnread, verdict_in}
+use Rattle.lft_covering.specs.Covered.CoverRefusalUnder.{by_check, by_trace, by_writer}
 use Rattle.lft_covering.specs.declared.covered.Covered.{Covered}
 use Rattle.lft_covering.specs.declared.covered.Covered.TheVariants.{Accepted, Broken}
 
--- what follows where there is a value
-pub on_ok : {T E P Q : Type 0} (r : Result T E) → OnOk r P → (P → Q) → OnOk r Q
-on_ok (Ok x) h f = f h
-on_ok (Err e) h f = tt
+-- what follows of a value, where there is one
+pub if_ok : {T E : Type 0} {P Q : T → Type 0} (r : Result T E) → IfOk r P → ((x : T) → P x → Q x) → IfOk r Q
+if_ok (Ok x) h f = f x h
+if_ok (Err e) h f = tt
+
+-- what follows of a fault, where there is one
+pub if_err : {T E : Type 0} {P Q : E → Type 0} (r : Result T E) → IfErr r P → ((e : E) → P e → Q e) → IfErr r Q
+if_err (Ok x) h f = tt
+if_err (Err e) h f = f e h
+
+-- what was written of one kind is of another
+pub written_as : {T E : Type 0} {P Q : List ℕ → Type 0} {old new : Option (List ℕ)} (r : Result T E) → OnOk r (Writes P old new) → ((text : List ℕ) → P text → Q text) → OnOk r (Writes Q old new)
+written_as (Ok x) (text, is, w) f = (text, f text is, w)
+written_as (Err e) h f = tt
+
+-- and so is what wasn't
+pub refused_as : {T : Type 0} {P Q : List ℕ → Type 0} {old new : Option (List ℕ)} (r : Result T Fault) → IfErr r (WriteRefusal P old new) → ((text : List ℕ) → P text → Q text) → IfErr r (WriteRefusal Q old new)
+refused_as (Ok x) h f = tt
+refused_as (Err e) (inl x) f = inl x
+refused_as (Err e) (inr (p, n, (text, is, front))) f = inr (p, n, (text, f text is, front))
+
+-- what covers rows has a count for each thing
+pub has_counts : (program : Parts) (t : List Row) (n : ℕ) (cover : Cover) → CoversRows program t n cover → HasCounts program cover
+has_counts program t n cover so = record {
+  reactions = so.counts.counted.reactions;
+  ports = so.counts.counted.ports;
+  met = record { as_long = so.counts.overlapped.met.as_long; room = so.counts.overlapped.met.room };
+}
+
+pub counts_of : (plan : PlanParts) (rows : List Row) (covered : Covered) {runs tags : ℕ} {cover : Cover} → covered ≡ Accepted runs tags cover → IsCovered plan rows covered → HasCounts plan.program cover
+counts_of plan rows covered {runs} {tags} {cover} is x = has_counts plan.program rows (length rows) cover (subst (λ k. IsCovered plan rows k) is x).1
+
+-- the line of a verdict, and what stands behind it
+module _ (list : Bool) (plan : PlanParts) (covered : Covered) (line text : List ℕ) (is_line : line ≡ line_of plan.program (verdict_in covered)) where
+  -- the facts
+  pub listed_text : {runs tags : ℕ} {cover : Cover} → list ≡ true → covered ≡ Accepted runs tags cover → text ≡ line ++ fact_lines plan.program cover → IsCoverText list plan covered text
+  listed_text {runs} {tags} {cover} e is t rows x =
+      let facts = fact_lines plan.program cover in
+      let told : IsTold list plan rows facts = subst (λ b. IsTold b plan rows facts) (sym e) (cover, (subst (λ k. IsCovered plan rows k) is x).1, refl) in
+      (facts, t ∙ ap (λ z. z ++ facts) is_line, subst (λ k. IsBehind list plan rows (verdict_in k) facts) (sym is) told)
+
+  -- the text for people
+  pub people_text : {runs tags : ℕ} {cover : Cover} → list ≡ false → covered ≡ Accepted runs tags cover → (told : List ℕ) × (text ≡ line ++ told) × TellsSums plan.program cover told → IsCoverText list plan covered text
+  people_text {runs} {tags} {cover} e is (words, t, tells) rows x =
+      let told : IsTold list plan rows words = subst (λ b. IsTold b plan rows words) (sym e) (cover, (subst (λ k. IsCovered plan rows k) is x).1, tells) in
+      (words, t ∙ ap (λ z. z ++ words) is_line, subst (λ k. IsBehind list plan rows (verdict_in k) words) (sym is) told)
+
+  -- nothing
+  pub broken_text : {b : Breach} → covered ≡ Broken b → text ≡ line → IsCoverText list plan covered text
+  broken_text {b} is t rows x = ([], t ∙ is_line ∙ sym (append-nil (line_of plan.program (verdict_in covered))), subst (λ k. IsBehind list plan rows (verdict_in k) []) (sym is) refl)
 
 -- the verdict alone is right
 pub right_verdict : (plan : PlanParts) (rows : List Row) (covered : Covered) → IsCovered plan rows covered → IsVerdict plan rows (verdict_in covered)
 right_verdict plan rows (Accepted runs tags cover) is = is.0
 right_verdict plan rows (Broken b) is = is.0
 
-module _ (list : Bool) (program externals trace : List ℕ) (plan : PlanParts) (is_plan : IsOnly (IsPlanOf program externals) plan) (workers : ℕ) (old new : Option (List ℕ)) where
-  module _ (sound : IsSound plan.program) (rows : List Row) (table : Table plan.program (records_of trace) rows) (covered : Covered) (is : IsCovered plan rows covered) (behind : List ℕ) (told : IsBehind list plan rows (verdict_in covered) behind) where
-    meant : IsMeaning program externals trace plan rows
-    meant = meaning_of program externals trace plan is_plan plan.program refl rows table (λ other h. one_table plan.program (records_of trace) rows other sound table h)
-
+module _ (list : Bool) (plan : PlanParts) (trace : List ℕ) (workers : ℕ) (old new : Option (List ℕ)) where
+  module _ (covered : Covered) (x : IsCoveredTable plan trace covered) where
     -- the text was written
-    pub written_answer : LegalRunsAreOneWorker plan → LegalRunsKeepPrecedence plan → Appends old new (line_of plan.program (verdict_in covered) ++ behind) → IsCoverAnswer list program externals trace workers old new (Ok (verdict_in covered))
-    written_answer runs order written = record {
-      judged = record {
-        plan = plan;
-        rows = rows;
-        meaning = meant;
-        right = right_verdict plan rows covered is;
-        one_worker = accepted_runs plan rows runs order (verdict_in covered) (right_verdict plan rows covered is);
-        behind = behind;
-        told = told;
-        written = written;
-      };
-      refused = tt;
-      none = tt;
-    }
+    pub judged : LegalRunsAreOneWorker plan → LegalRunsKeepPrecedence plan → Writes (IsCoverText list plan covered) old new → IsJudgedCoverUnder list plan trace old new (verdict_in covered)
+    judged runs order (text, is, written) =
+        let right = right_verdict plan x.0 covered x.2 in
+        let y = is x.0 x.2 in
+        record { rows = x.0; has_table = x.1; right = right; one_worker = accepted_runs plan x.0 runs order (verdict_in covered) right; behind = y.0; told = y.2; written = subst (λ bytes. Appends old new bytes) y.1 written }
 
-    -- the writer failed
-    pub unwritten_answer : (f : Fault) → f.part ≡ part.Write → f.number ≡ 1 → AppendsFront old new (line_of plan.program (verdict_in covered) ++ behind) → IsCoverAnswer list program externals trace workers old new (Err f)
-    unwritten_answer f in_part numbered front = record {
-      judged = tt;
-      refused = by_writer plan rows (verdict_in covered) behind in_part numbered meant (right_verdict plan rows covered is) told front;
-      none = λ t other others x. write_untold f.part f.number in_part t;
-    }
+    -- it wasn't, for want of memory or by the writer
+    pub unwritten : IsWorkers workers → (f : Fault) → WriteRefusal (IsCoverText list plan covered) old new f → CoverRefusalUnder list plan trace workers old new f
+    unwritten lawful f (inl (m, n, k)) = by_check (by_growth (inr (m, n)) lawful)
+    unwritten lawful f (inr (p, n, (text, is, front))) =
+        let y = is x.0 x.2 in
+        by_writer x.0 (verdict_in covered) y.0 p n x.1 (right_verdict plan x.0 covered x.2) y.2 (subst (λ bytes. AppendsFront old new bytes) y.1 front)
 
-  -- there is no verdict by so many workers
-  pub unchecked_answer : (f : Fault) → CheckRefusal workers f → IsCoverAnswer list program externals trace workers old new (Err f)
-  unchecked_answer f x = record { judged = tt; refused = by_check x; none = λ t other others y. refusal_untold workers f x t }
+  -- the table has no verdict
+  pub refused : (f : Fault) → CheckRefusal workers f ⊎ IsUnread plan trace f → CoverRefusalUnder list plan trace workers old new f
+  refused f (inl x) = by_check x
+  refused f (inr x) = by_trace x
 
-  -- the trace is no table
-  pub unread_answer : (f : Fault) → IsUnread plan trace f → IsCoverAnswer list program externals trace workers old new (Err f)
-  unread_answer f x = record {
-    judged = tt;
-    refused = by_texts (refused_of program externals trace plan is_plan plan.program refl x.0 f x.1 x.2 x.3);
-    none = none_of program externals trace plan is_plan plan.program refl x.0 f x.1 x.2 x.3;
-  }
+  -- a fault that is of the text
+  pub refused_none : (f : Fault) → CheckRefusal workers f ⊎ IsUnread plan trace f → is_of_text f.part f.number ≡ true → (rows : List Row) → Table plan.program (records_of trace) rows → ⊥
+  refused_none f (inl x) t rows table = refusal_untold workers f x t
+  refused_none f (inr x) t rows table = (x.3 (trace_told x.0 (told_at f.part part.Trace f.number (table_number x.0) x.1 x.2 t))).1 rows table
 
-  pub refused_answer : (f : Fault) → CheckRefusal workers f ⊎ IsUnread plan trace f → IsCoverAnswer list program externals trace workers old new (Err f)
-  refused_answer f (inl x) = unchecked_answer f x
-  refused_answer f (inr x) = unread_answer f x
+module _ (P : List ℕ → Type 0) (old new : Option (List ℕ)) (f : Fault) where
+  pub unwritten_none : WriteRefusal P old new f → is_of_text f.part f.number ≡ true → ⊥
+  unwritten_none (inl (m, n, k)) t = memory_untold f.part f.number m t
+  unwritten_none (inr (p, n, w)) t = write_untold f.part f.number p t
+
+  -- without a fault of the writer nothing was written
+  pub unwritten_kept : WriteRefusal P old new f → f.part ≢ part.Write → Keeps old new
+  unwritten_kept (inl (m, n, k)) w = k
+  unwritten_kept (inr (p, n, x)) w = absurd (w p)

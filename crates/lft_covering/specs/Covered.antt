@@ -1,6 +1,7 @@
--- A verdict on three texts with what an accepted trace exercised, and what was written of both.
-use Rattle.std.specs.Prelude.{◌≡◌, ◌↔◌, ◌++◌, ℕ, Bool, true, false, IsTrue, List, [], Option, Result, IfOk, IfErr, length}
+-- A verdict on a trace table with what an accepted one exercised, and what was written of both.
+use Rattle.std.specs.Prelude.{◌≡◌, ◌↔◌, ◌++◌, ℕ, Bool, true, false, IsTrue, List, [], Option, length}
 use Rattle.std.specs.Io.KnownBytes.{Appends}
+use Rattle.lft_flat.specs.Parts.{Parts}
 use Rattle.lft_steps.specs.declared.row.Row.{Row}
 use Rattle.lft_trace.specs.declared.fault.TraceFault.{TraceFault}
 use Rattle.lft_trace.specs.Faults.{is_told}
@@ -17,16 +18,20 @@ use Rattle.lft_counts.specs.declared.cover.Cover.{Cover}
 use Rattle.lft_cover.specs.Facts.{fact_lines}
 use Rattle.lft_cover.specs.Sums.{TellsSums}
 use Rattle.lft_load.specs.Faults.{table_number}
-use Rattle.lft_load.specs.Refusals.{is_of_text}
+use Rattle.lft_load.specs.Meaning.{IsOnly, IsPlanOf}
+use Rattle.lft_load.specs.Refusals.{LoadRefusal}
 use Rattle.lft_load.specs.Written.{AppendsFront}
 use Rattle.lft_load.specs.declared.fault.Fault.{Fault}
 use Rattle.lft_load.specs.declared.fault.Part.TheVariants as part
 use Rattle.lft_front.specs.Judged.{Accepts, AcceptedRuns}
 use Rattle.lft_front.specs.Lines.{HasReaction, line_of}
-use Rattle.lft_front.specs.Meaning.{IsMeaning, Mean}
-use Rattle.lft_front.specs.Refusals.{CheckRefusal, TextsRefusal}
+use Rattle.lft_front.specs.Refusals.{CheckRefusal}
 use Rattle.lft_covering.specs.declared.covered.Covered.{Covered}
 use Rattle.lft_covering.specs.declared.covered.Covered.TheVariants.{Accepted, Broken}
+
+-- the rows are the one list of rows of the trace table
+abbrev pub HasTable : Parts → List ℕ → List Row → Type 0
+HasTable program trace rows = IsOnly (Table program (records_of trace)) rows
 
 -- the verdict alone
 abbrev pub verdict_in : Covered → Verdict
@@ -38,6 +43,10 @@ abbrev pub IsCovered : PlanParts → List Row → Covered → Type 0
 IsCovered plan rows (Accepted runs tags cover) = IsAccepted plan rows runs tags × CoversRows plan.program rows (length rows) cover
 IsCovered plan rows (Broken b) = First plan rows b × HasReaction plan.program b.reaction
 
+-- the same of the rows of a trace table
+abbrev pub IsCoveredTable : PlanParts → List ℕ → Covered → Type 0
+IsCoveredTable plan trace covered = (rows : List Row) × HasTable plan.program trace rows × IsCovered plan rows covered
+
 -- what stands behind the line of an accepted trace: with `--list` the facts of the counts of all rows, else a text that begins with their sums
 abbrev pub IsTold : Bool → PlanParts → List Row → List ℕ → Type 0
 IsTold true plan rows text = (cover : Cover) × CoversRows plan.program rows (length rows) cover × (text ≡ fact_lines plan.program cover)
@@ -48,16 +57,25 @@ abbrev pub IsBehind : Bool → PlanParts → List Row → Verdict → List ℕ �
 IsBehind list plan rows (verdict.Accepted runs tags) text = IsTold list plan rows text
 IsBehind list plan rows (verdict.Broken b) text = text ≡ []
 
--- the verdict on the meaning of the three texts; its line was written, and behind it what an accepted trace exercised
-pub record IsJudgedCover (list : Bool) (program externals trace : List ℕ) (old new : Option (List ℕ)) (v : Verdict) : Type 0 where
-  pub plan : PlanParts
+-- the line of a verdict, and behind it what is right for all rows that it is of
+abbrev pub IsCoverText : Bool → PlanParts → Covered → List ℕ → Type 0
+IsCoverText list plan covered text = (rows : List Row) → IsCovered plan rows covered → (behind : List ℕ) × (text ≡ line_of plan.program (verdict_in covered) ++ behind) × IsBehind list plan rows (verdict_in covered) behind
+
+-- the verdict on the rows of the trace table; its line was written, and behind it what an accepted trace exercised
+pub record IsJudgedCoverUnder (list : Bool) (plan : PlanParts) (trace : List ℕ) (old new : Option (List ℕ)) (v : Verdict) : Type 0 where
   pub rows : List Row
-  pub meaning : IsMeaning program externals trace plan rows
+  pub has_table : HasTable plan.program trace rows
   pub right : IsVerdict plan rows v
   pub one_worker : AcceptedRuns plan rows v
   pub behind : List ℕ
   pub told : IsBehind list plan rows v behind
   pub written : Appends old new (line_of plan.program v ++ behind)
+
+-- the same under the one plan of the first two texts
+pub record IsJudgedCover (list : Bool) (program externals trace : List ℕ) (old new : Option (List ℕ)) (v : Verdict) : Type 0 where
+  pub plan : PlanParts
+  pub is_plan : IsOnly (IsPlanOf program externals) plan
+  pub judged : IsJudgedCoverUnder list plan trace old new v
 
 -- true is the answer where the verdict accepts, and false where it doesn't
 abbrev pub IsAcceptedCover : Bool → List ℕ → List ℕ → List ℕ → Option (List ℕ) → Option (List ℕ) → Bool → Type 0
@@ -67,14 +85,13 @@ IsAcceptedCover list program externals trace old new answer = (v : Verdict) × I
 abbrev pub IsUnread : PlanParts → List ℕ → Fault → Type 0
 IsUnread plan trace f = (e : TraceFault) × (f.part ≡ part.Trace) × (f.number ≡ table_number e) × (is_told e ≡ true → TraceFails plan.program (records_of trace) e × ((rows : List Row) → Table plan.program (records_of trace) rows → ⊥))
 
--- the three texts get no verdict: they have no meaning, there is none by so many workers, or the writer failed and took a front of what is right
-pub data CoverRefusal (list : Bool) (program externals trace : List ℕ) (workers : ℕ) (old new : Option (List ℕ)) (f : Fault) : Type 0 where
-  by_texts : TextsRefusal program externals trace f → CoverRefusal list program externals trace workers old new f
-  by_check : CheckRefusal workers f → CoverRefusal list program externals trace workers old new f
-  by_writer : (plan : PlanParts) (rows : List Row) (v : Verdict) (behind : List ℕ) → f.part ≡ part.Write → f.number ≡ 1 → IsMeaning program externals trace plan rows → IsVerdict plan rows v → IsBehind list plan rows v behind → AppendsFront old new (line_of plan.program v ++ behind) → CoverRefusal list program externals trace workers old new f
+-- a text gets no verdict under a plan: it is no trace table, there is none by so many workers, or the writer failed and took a front of what is right
+pub data CoverRefusalUnder (list : Bool) (plan : PlanParts) (trace : List ℕ) (workers : ℕ) (old new : Option (List ℕ)) (f : Fault) : Type 0 where
+  by_trace : IsUnread plan trace f → CoverRefusalUnder list plan trace workers old new f
+  by_check : CheckRefusal workers f → CoverRefusalUnder list plan trace workers old new f
+  by_writer : (rows : List Row) (v : Verdict) (behind : List ℕ) → f.part ≡ part.Write → f.number ≡ 1 → HasTable plan.program trace rows → IsVerdict plan rows v → IsBehind list plan rows v behind → AppendsFront old new (line_of plan.program v ++ behind) → CoverRefusalUnder list plan trace workers old new f
 
--- the answer is right for the three texts
-pub record IsCoverAnswer (list : Bool) (program externals trace : List ℕ) (workers : ℕ) (old new : Option (List ℕ)) (answer : Result Verdict Fault) : Type 0 where
-  pub judged : IfOk answer (IsJudgedCover list program externals trace old new)
-  pub refused : IfErr answer (CoverRefusal list program externals trace workers old new)
-  pub none : IfErr answer (λ f. is_of_text f.part f.number ≡ true → (plan : PlanParts) (rows : List Row) → ¬ Mean program externals trace plan rows)
+-- the three texts get no verdict: the first two have no plan, or the third gets none under it
+pub data CoverRefusal (list : Bool) (program externals trace : List ℕ) (workers : ℕ) (old new : Option (List ℕ)) (f : Fault) : Type 0 where
+  by_load : LoadRefusal program externals f → CoverRefusal list program externals trace workers old new f
+  by_plan : (plan : PlanParts) → IsOnly (IsPlanOf program externals) plan → CoverRefusalUnder list plan trace workers old new f → CoverRefusal list program externals trace workers old new f

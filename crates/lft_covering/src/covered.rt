@@ -4,19 +4,16 @@ ghost use Rattle.std.specs.Prelude.{◌≡◌, ◌⊎◌, IfOk, IfErr, OnOk, Lis
 ghost use Rattle.lft_flat.specs.Parts.{Parts};
 ghost use Rattle.lft_steps.specs.Fits.{RowsFit};
 ghost use Rattle.lft_steps.specs.declared.row.Row.{Row as TheRow};
-ghost use Rattle.lft_trace.specs.Records.{records_of};
-ghost use Rattle.lft_trace.specs.Traces.{Table};
 ghost use Rattle.lft_model.specs.Workers.{IsWorkers};
 ghost use Rattle.lft_counts.specs.Counts.{KeepsRows};
 ghost use Rattle.lft_counts.specs.Cover.{CoversRows};
 ghost use Rattle.lft_front.specs.Refusals.{CheckRefusal};
-ghost use Rattle.lft_covering.specs.Covered.{IsCovered, IsUnread, verdict_in};
+ghost use Rattle.lft_covering.specs.Covered.{IsCovered, IsCoveredTable, IsUnread, verdict_in};
 
 use lft_batches::covers_text;
-use lft_check::Verdict;
+use lft_check::{CheckFault, NoWatch, Verdict, judge};
 use lft_counts::Cover;
-use lft_front::verdict_of;
-use lft_load::Fault;
+use lft_load::{Fault, Part};
 use lft_model::{Breach, Plan, is_workers};
 use lft_steps::Rows;
 use lft_tag::NoMemory;
@@ -60,7 +57,7 @@ fn count_rows(alloc: Global, plan: &Plan, rows: &Rows) -> Result<Cover, NoMemory
     Ok(cover)
 }
 
-/// The verdict on rows by so many workers, and what they exercise.
+/// The verdict of the checker on rows by so many workers, and what they exercise.
 fn cover_rows<R: Threads + Sync>(
     rt: &R,
     alloc: Global,
@@ -73,18 +70,20 @@ fn cover_rows<R: Threads + Sync>(
     ensures workers { OnOk result (IsWorkers workers) }
     ensures refused { IfErr result (CheckRefusal workers) }
 {
-    match verdict_of(rt, alloc, plan, rows, workers) {
+    match judge(rt, alloc, plan, rows, workers, &NoWatch) {
         Ok(Verdict::Broken(breach)) => Ok(Covered::Broken(breach)),
         Ok(Verdict::Accepted { runs, tags }) => match count_rows(alloc, plan, rows) {
             Ok(cover) => Ok(Covered::Accepted { runs, tags, cover }),
             Err(_) => Err(Fault::no_memory()),
         },
-        Err(fault) => Err(fault),
+        Err(CheckFault::BadWorkers) => Err(Fault::plain(Part::Check, 1, "BadWorkers")),
+        Err(CheckFault::NoMemory) => Err(Fault::plain(Part::Check, 3, "NoMemory")),
     }
 }
 
 /// The verdict on a trace table of a plan by so many workers, and what it exercises. A table that is accepted
-/// from its text is gone over once, and no list of its rows is made.
+/// from its text is gone over once, and no list of its rows is made. Any other is read and judged by the
+/// checker.
 pub(crate) fn cover_table<R: Threads + Sync>(
     rt: &R,
     alloc: Global,
@@ -92,10 +91,11 @@ pub(crate) fn cover_table<R: Threads + Sync>(
     trace: &[u8],
     workers: u32,
 ) -> Result<Covered, Fault>
-    ensures covered { IfOk result (λ covered. (rows : List TheRow) × Table plan.now.program (records_of trace.now) rows × IsCovered plan.now rows covered) }
+    ensures covered { IfOk result (IsCoveredTable plan.now trace.now) }
     ensures workers { OnOk result (IsWorkers workers) }
     ensures refused { IfErr result (λ f. CheckRefusal workers f ⊎ IsUnread plan.now trace.now f) }
 {
+    let program = plan.program();
     if is_workers(workers) {
         if let Some((counts, cover)) = covers_text(alloc, plan, trace) {
             return Ok(Covered::Accepted {
@@ -105,7 +105,7 @@ pub(crate) fn cover_table<R: Threads + Sync>(
             });
         }
     }
-    match read_trace_shared(rt, alloc, plan.program(), trace, workers) {
+    match read_trace_shared(rt, alloc, program, trace, workers) {
         Ok(rows) => cover_rows(rt, alloc, plan, &rows, workers),
         Err(fault) => Err(Fault::trace(fault)),
     }

@@ -1,7 +1,7 @@
 #![tactic(auto)]
-//! From three texts to a verdict, and to what an accepted trace exercised.
+//! From three texts, or a plan and a text, to a verdict, and to what an accepted trace exercised.
 
 mod covered;
 mod texts;
 
-pub use texts::{cover_answer, cover_texts};
+pub use texts::{cover_answer, cover_plan, cover_texts};

@@ -1,24 +1,26 @@
-//! The verdict on three texts, and what an accepted trace exercised, written.
+//! The verdict on a trace table, and what an accepted trace exercised, written.
 
 ghost use Rattle.std.specs.Prelude.{◌≡◌, ◌≢◌, ◌++◌, ℕ, true, List, IfErr, IfOk, OnOk, length, string_bytes};
 ghost use Rattle.std.specs.Io.KnownBytes.{Keeps};
 ghost use Rattle.lft_steps.specs.declared.row.Row.{Row as TheRow};
+ghost use Rattle.lft_trace.specs.Records.{records_of};
+ghost use Rattle.lft_trace.specs.Traces.{Table};
 ghost use Rattle.lft_model.specs.Plans.{PlanParts};
 ghost use Rattle.lft_model.specs.Workers.{IsWorkers};
-ghost use Rattle.lft_counts.specs.Cover.{CoversRows};
-ghost use Rattle.lft_load.specs.Meaning.{IsOnly, IsPlanOf};
+ghost use Rattle.lft_cover.specs.Facts.{HasCounts, fact_lines};
+ghost use Rattle.lft_cover.specs.Sums.{TellsSums};
 ghost use Rattle.lft_load.specs.Refusals.{is_of_text};
 ghost use Rattle.lft_load.specs.declared.fault.Part.TheVariants as part;
-ghost use Rattle.lft_front.specs.Lines.{line_of};
+ghost use Rattle.lft_front.specs.Explained.{WriteRefusal, Writes};
 ghost use Rattle.lft_front.specs.Meaning.{Mean};
-ghost use Rattle.lft_covering.specs.Covered.{CoverRefusal, IsAcceptedCover, IsBehind, IsCoverAnswer, IsCovered, IsJudgedCover, IsTold, verdict_in};
+ghost use Rattle.lft_covering.specs.Covered.{CoverRefusal, CoverRefusalUnder, IsAcceptedCover, IsCoverText, IsCovered, IsJudgedCover, IsJudgedCoverUnder, verdict_in};
 
 use crate::covered::{Covered, cover_table};
 use lft_check::Verdict;
 use lft_counts::Cover;
-use lft_cover::{push_facts, push_told};
+use lft_cover::{push_told, write_facts};
 use lft_front::verdict_line;
-use lft_load::{Fault, load, write_text};
+use lft_load::{Fault, Part, load, write_text};
 use lft_model::Plan;
 use lft_model::laws::law_one_worker;
 use lft_tag::NoMemory;
@@ -26,49 +28,110 @@ use std::alloc::Global;
 use std::io::Write;
 use std::thread::Threads;
 
-/// Puts what an accepted trace exercised at the end of a text.
-fn push_cover(
-    text: &mut String,
+/// A line, and behind it for people what an accepted trace exercised.
+fn told_text(
     alloc: Global,
     plan: &Plan,
     cover: &Cover,
     runs: u32,
     tags: u32,
-    list: bool,
-) -> Result<(), NoMemory>
-    requires { (rows : List TheRow) × CoversRows plan.now.program rows (length rows) cover.now }
-    ensures { OnOk result ((rows : List TheRow) → CoversRows plan.now.program rows (length rows) cover.now → (told : List ℕ) × (string_bytes text.new ≡ string_bytes text.old ++ told) × IsTold list plan.now rows told) }
+    line: String,
+) -> Result<String, NoMemory>
+    requires { HasCounts plan.now.program cover.now }
+    ensures { IfOk result (λ text. (told : List ℕ) × (string_bytes text ≡ string_bytes line ++ told) × TellsSums plan.now.program cover.now told) }
 {
-    if list {
-        return push_facts(text, alloc, plan.program(), cover);
-    }
+    let mut text = line;
     let (runs, tags) = (u64::from(runs), u64::from(tags));
-    push_told(text, alloc, plan.program(), plan.graph(), cover, runs, tags)
+    push_told(
+        &mut text,
+        alloc,
+        plan.program(),
+        plan.graph(),
+        cover,
+        runs,
+        tags,
+    )?;
+    Ok(text)
 }
 
-/// The line of a verdict, and behind it what an accepted trace exercised.
-fn covered_text(
+/// Writes a line, and behind it for people what an accepted trace exercised. Nothing is written before all
+/// of the text is there.
+fn write_told<W: Write>(
+    alloc: Global,
+    plan: &Plan,
+    cover: &Cover,
+    runs: u32,
+    tags: u32,
+    line: String,
+    out: &mut W,
+) -> Result<(), Fault>
+    requires { HasCounts plan.now.program cover.now }
+    ensures written { OnOk result (Writes (λ text. (told : List ℕ) × (text ≡ string_bytes line ++ told) × TellsSums plan.now.program cover.now told) (W.contents out.old) (W.contents out.new)) }
+    ensures refused { IfErr result (WriteRefusal (λ text. (told : List ℕ) × (text ≡ string_bytes line ++ told) × TellsSums plan.now.program cover.now told) (W.contents out.old) (W.contents out.new)) }
+{
+    match told_text(alloc, plan, cover, runs, tags, line) {
+        Ok(text) => write_text(text.as_bytes(), out),
+        Err(_) => Err(Fault::no_memory()),
+    }
+}
+
+/// Writes a line, and behind it each fact of what an accepted trace exercised as it is made. Behind the
+/// line no memory is asked for.
+fn write_listed<W: Write>(
+    alloc: Global,
+    plan: &Plan,
+    cover: &Cover,
+    line: &str,
+    out: &mut W,
+) -> Result<(), Fault>
+    requires { HasCounts plan.now.program cover.now }
+    ensures written { OnOk result (Writes (λ text. text ≡ line.now ++ fact_lines plan.now.program cover.now) (W.contents out.old) (W.contents out.new)) }
+    ensures refused { IfErr result (WriteRefusal (λ text. text ≡ line.now ++ fact_lines plan.now.program cover.now) (W.contents out.old) (W.contents out.new)) }
+{
+    let workers = match cover.counting.workers.list(alloc) {
+        Ok(workers) => workers,
+        Err(_) => return Err(Fault::no_memory()),
+    };
+    if write_facts(out, line, plan.program(), cover, workers.as_slice()) {
+        Ok(())
+    } else {
+        Err(Fault::plain(Part::Write, 1, "Failed"))
+    }
+}
+
+/// Writes the line of a verdict, and behind it what an accepted trace exercised: with `list` one fact a line,
+/// else for people. Behind the line of a broken rule stands nothing.
+fn write_covered<W: Write>(
     alloc: Global,
     plan: &Plan,
     covered: &Covered,
     list: bool,
-) -> Result<String, NoMemory>
+    out: &mut W,
+) -> Result<(), Fault>
     requires { (rows : List TheRow) × IsCovered plan.now rows covered.now }
-    ensures { IfOk result (λ text. (rows : List TheRow) → IsCovered plan.now rows covered.now → (behind : List ℕ) × (string_bytes text ≡ line_of plan.now.program (verdict_in covered.now) ++ behind) × IsBehind list plan.now rows (verdict_in covered.now) behind) }
+    ensures written { OnOk result (Writes (IsCoverText list plan.now covered.now) (W.contents out.old) (W.contents out.new)) }
+    ensures refused { IfErr result (WriteRefusal (IsCoverText list plan.now covered.now) (W.contents out.old) (W.contents out.new)) }
 {
-    let mut text = verdict_line(alloc, plan.program(), covered.verdict())?;
+    let line = match verdict_line(alloc, plan.program(), covered.verdict()) {
+        Ok(line) => line,
+        Err(_) => return Err(Fault::no_memory()),
+    };
     match covered {
         Covered::Accepted { runs, tags, cover } => {
-            push_cover(&mut text, alloc, plan, cover, *runs, *tags, list)?;
+            if list {
+                return write_listed(alloc, plan, cover, line.as_str(), out);
+            }
+            write_told(alloc, plan, cover, *runs, *tags, line, out)
         }
-        Covered::Broken(_) => {}
+        Covered::Broken(_) => write_text(line.as_bytes(), out),
     }
-    Ok(text)
 }
 
-/// Judges a trace table of a plan by so many workers, and writes the verdict's line and what stands behind it.
-/// Nothing is written before all of the text is there.
-fn cover_trace<W: Write, R: Threads + Sync>(
+/// Judges a trace table of a plan by so many workers, and writes the verdict's line. Behind the line of an
+/// accepted trace it writes what that exercised: with `list` one fact a line, each as it is made, else for
+/// people. Behind the line of a broken rule stands nothing. A table that is accepted from its text is gone
+/// over by one worker.
+pub fn cover_plan<W: Write, R: Threads + Sync>(
     rt: &R,
     alloc: Global,
     plan: &Plan,
@@ -77,32 +140,26 @@ fn cover_trace<W: Write, R: Threads + Sync>(
     list: bool,
     out: &mut W,
 ) -> Result<Verdict, Fault>
-    ensures answer { (program externals : List ℕ) → IsOnly (IsPlanOf program externals) plan.now → IsCoverAnswer list program externals trace.now workers (W.contents out.old) (W.contents out.new) result }
+    ensures judged { IfOk result (IsJudgedCoverUnder list plan.now trace.now (W.contents out.old) (W.contents out.new)) }
     ensures workers { OnOk result (IsWorkers workers) }
+    ensures refused { IfErr result (CoverRefusalUnder list plan.now trace.now workers (W.contents out.old) (W.contents out.new)) }
+    ensures none { IfErr result (λ f. is_of_text f.part f.number ≡ true → (rows : List TheRow) → Table plan.now.program (records_of trace.now) rows → ⊥) }
     ensures kept { IfErr result (λ f. f.part ≢ part.Write → Keeps (W.contents out.old) (W.contents out.new)) }
 {
     // Called for its clause: of an accepted trace it says that the runs are an execution.
     law_one_worker(plan);
-    // And of every program: no two of its things have one name.
-    plan.program().keeps();
     let covered = match cover_table(rt, alloc, plan, trace, workers) {
         Ok(covered) => covered,
         Err(fault) => return Err(fault),
     };
-    let text = match covered_text(alloc, plan, &covered, list) {
-        Ok(text) => text,
-        Err(_) => return Err(Fault::no_memory()),
-    };
-    match write_text(text.as_bytes(), out) {
+    match write_covered(alloc, plan, &covered, list, out) {
         Ok(()) => Ok(covered.verdict()),
         Err(fault) => Err(fault),
     }
 }
 
 /// Judges the trace of a program under external inputs, from their texts, by so many workers, as
-/// `judge_texts` does. Behind the line of an accepted trace it writes what that exercised: with `list` one
-/// fact a line, else for people. Behind the line of a broken rule stands nothing. A table that is accepted
-/// from its text is gone over by one worker.
+/// `judge_texts` does, and tells of an accepted one what it exercised, as `cover_plan` does.
 pub fn cover_texts<W: Write, R: Threads + Sync>(
     rt: &R,
     alloc: Global,
@@ -120,7 +177,7 @@ pub fn cover_texts<W: Write, R: Threads + Sync>(
     ensures kept { IfErr result (λ f. f.part ≢ part.Write → Keeps (W.contents out.old) (W.contents out.new)) }
 {
     match load(alloc, program, externals) {
-        Ok(plan) => cover_trace(rt, alloc, &plan, trace, workers, list, out),
+        Ok(plan) => cover_plan(rt, alloc, &plan, trace, workers, list, out),
         Err(fault) => Err(fault),
     }
 }

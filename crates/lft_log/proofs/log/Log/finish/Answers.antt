@@ -2,6 +2,7 @@ use Rattle.std.proofs.Common.{◌++◌, ◌∷◌, ℕ, List, [], refl, subst}
 use Rattle.std.proofs.lemmas.Bool.{false≢true}
 use Rattle.std.proofs.lemmas.Result.{IfOk-weaker, IfErr-weaker}
 use Rattle.lft_log.specs.Logs.{IsWholeLine}
+use Rattle.lft_log.specs.declared.told.Final.TheVariants.{Soon}
 use Rattle.lft_log.proofs.Finishing.{ended_left, ended_whole, has_last}
 use Rattle.lft_log.proofs.Pieces.{log_again}
 use Rattle.lft_log.proofs.log.Log.finish.Goals as goal
@@ -31,4 +32,4 @@ returns-in-Ok-None-clause-fault c = IfErr-weaker c.told_at_end-in-Ok-None.result
 pub returns-in-Ok-Some-clause-ended : goal.returns-in-Ok-Some-clause-ended
 returns-in-Ok-Some-clause-ended c = λ base until bytes is.
     let last = subst (λ (x : List ℕ). IsWholeLine x) c.as_slice.ensures.value (c.if-not-is_whole.ensures.0 refl) in
-    ended_whole base until c.args.whole bytes _ (c.args.self.now.rest.items, has_last base c.args.plan.now until bytes c.args.self.now is, last) (rw c.in-Ok-Some.field-0-is at (c.in-Ok-Some.ensures.told base until bytes is))
+    ended_whole base until c.args.whole bytes (Soon c.in-Ok-Some.told) (c.args.self.now.rest.items, has_last base c.args.plan.now until bytes c.args.self.now is, last) (rw c.in-Ok-Some.field-0-is at (c.in-Ok-Some.ensures.told base until bytes is))

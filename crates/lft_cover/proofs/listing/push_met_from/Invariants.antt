@@ -1,8 +1,0 @@
-use Rattle.std.proofs.Common.{◌≡◌, ◌++◌, ◌-◌, drop, take, flat_map, string_bytes}
-use Rattle.std.specs.List.{enumerate_from}
-use Rattle.lft_counts.specs.Overlaps.{met_by}
-use Rattle.lft_cover.specs.Facts.{has, pair_words}
-use Rattle.lft_cover.proofs.listing.push_met_from.Given as goal
-
-abbrev pub invariant-loop-number : goal.invariant-loop-number
-invariant-loop-number l = string_bytes l.text ≡ string_bytes l.fn.text ++ flat_map (λ d. pair_words l.program (has (met_by l.overlaps l.then) d.0) d.0 l.then) (take (l.number - l.from) (enumerate_from l.from (drop l.from l.program.reactions)))
