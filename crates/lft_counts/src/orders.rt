@@ -1,7 +1,7 @@
 //! How often both reactions of an order ran at one tag, and how often on two workers.
 
 ghost use Rattle.lft_graph.specs.Graph.{IsGraphOf};
-ghost use Rattle.std.specs.Prelude.{IfOk, OnOk, None, replicate, map, ◌≡◌, ◌++◌, ◌+◌, ◌<◌, ◌≤◌, ℕ, List, Some, length, slice_get};
+ghost use Rattle.std.specs.Prelude.{IfOk, OnOk, None, replicate, map, ◌≡◌, ◌++◌, ◌+◌, ◌<◌, ℕ, List, Some, length, slice_get};
 ghost use Rattle.lft_steps.specs.declared.row.Row.{Row as TheRow};
 ghost use Rattle.lft_model.specs.Runs.{start_row};
 ghost use Rattle.lft_counts.specs.Counts.{Count, Here, KeepsRows};
