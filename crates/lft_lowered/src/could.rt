@@ -162,28 +162,47 @@ impl Front<'_> {
         is_read_past(self.alloc, &text, self.token)
     }
 
+    /// Puts the thing at the end of a list, if it can stand behind it.
+    fn try_thing(self, found: &mut Vec<Thing>, thing: Thing) -> Result<(), NoMemory>
+        requires { All (CanStand self.text.now self.token) found.old.items }
+        ensures { OnOk result (All (CanStand self.entry.text.now self.entry.token) found.new.items) }
+    {
+        if !self.can_stand(thing)? {
+            return Ok(());
+        }
+        found.push(thing)?;
+        Ok(())
+    }
+
     /// Puts those of the things that can stand behind it at the end of a list.
     fn find(self, found: &mut Vec<Thing>, things: &[Thing]) -> Result<(), NoMemory>
         requires { All (CanStand self.text.now self.token) found.old.items }
         ensures { OnOk result (All (CanStand self.entry.text.now self.entry.token) found.new.items) }
     {
         for place in 0..things.len() {
-            if self.can_stand(things[place])? {
-                found.push(things[place])?;
-            }
+            self.try_thing(found, things[place])?;
         }
         Ok(())
+    }
+
+    /// A name, where one can stand behind it; else the words that can.
+    fn name_or_words(self) -> Result<Vec<Thing>, NoMemory>
+        ensures { IfOk result (λ found. All (CanStand self.entry.text.now self.entry.token) found.items) }
+    {
+        let mut found = Vec::new(self.alloc);
+        self.try_thing(&mut found, NAME)?;
+        if !found.is_empty() {
+            return Ok(found);
+        }
+        self.find(&mut found, &WORDS)?;
+        Ok(found)
     }
 
     /// What can stand behind it: a name, or the words that can, and other things.
     fn candidates(self) -> Result<Vec<Thing>, NoMemory>
         ensures { IfOk result (λ found. All (CanStand self.entry.text.now self.entry.token) found.items) }
     {
-        let mut found = Vec::new(self.alloc);
-        self.find(&mut found, &[NAME])?;
-        if found.is_empty() {
-            self.find(&mut found, &WORDS)?;
-        }
+        let mut found = self.name_or_words()?;
         self.find(&mut found, &OTHERS)?;
         Ok(found)
     }
