@@ -1,9 +1,8 @@
 -- What is told of a program that isn't lowered.
-use Rattle.std.specs.Prelude.{◌≡◌, ◌⊎◌, ◌++◌, ◌-◌, ℕ, IfSome, List, [], Option, Some, None, codes, option_map, slice_get, string_bytes, unwrap_or}
+use Rattle.std.specs.Prelude.{◌≡◌, ◌⊎◌, ◌++◌, ◌-◌, ℕ, IfSome, List, [], Some, None, codes, option_map, slice_get, string_bytes, unwrap_or}
 use Rattle.lft_load.specs.Faults.{words_of}
 use Rattle.lft_load.specs.declared.fault.Fault.{Fault}
 use Rattle.lft_load.specs.declared.fault.Part.TheVariants as part
-use Rattle.lft_program.specs.Faults.{number_of as program_number}
 use Rattle.lft_reasons.specs.Reasons.{IsToldIn}
 use Rattle.lft_sources.specs.Causes.{names, number_of, sentence_of}
 use Rattle.lft_sources.specs.Shown.{place_words}
