@@ -5,7 +5,7 @@ use Rattle.lft_tag.specs.declared.Tag.{Tag}
 use Rattle.lft_steps.specs.declared.row.Row.{Row}
 use Rattle.lft_model.specs.declared.breach.Breach.{Breach}
 use Rattle.lft_model.specs.Plans.{PlanParts}
-use Rattle.lft_load.specs.Meaning.{IsOnly, IsPlanOf}
+use Rattle.lft_load.specs.Meaning.{IsPlanOf, OfOnly}
 use Rattle.lft_races.specs.Races.{FirstSoFar}
 use Rattle.lft_explain_log.specs.Cuts.{IsCutBehind}
 use Rattle.lft_explain_log.specs.Reasons.{AreReasonsSoFar}
@@ -39,9 +39,9 @@ ExplainsFirst all plan t b text = FirstSoFar plan t b × AreReasonsSoFar all pla
 abbrev pub ExplainsCut : Bool → PlanParts → List ℕ → Breach → List ℕ → Type 0
 ExplainsCut all base log b text = (plan : PlanParts) × (rows : List Row) × IsLogCut base log plan b rows × ExplainsFirst all plan rows b text
 
--- the two texts have one plan, all of the log is kept, and the text stands behind the line of a breach that is told of it
-abbrev pub IsReasonOf : List ℕ → List ℕ → Option (Vec ℕ) → Found → Bool → List ℕ → Type 0
-IsReasonOf program externals kept found all text = (plan : PlanParts) × (log : Vec ℕ) × IsOnly (IsPlanOf program externals) plan × (kept ≡ Some log) × ExplainsCut all plan log.items (breach_of found) text
+-- all of the log is kept, and the text stands behind the line of a breach that is told of it under the plan
+abbrev pub IsReasonOf : PlanParts → Option (Vec ℕ) → Found → Bool → List ℕ → Type 0
+IsReasonOf plan kept found all text = (log : Vec ℕ) × (kept ≡ Some log) × ExplainsCut all plan log.items (breach_of found) text
 
 -- what stands behind the line of a breach: what explains it, or nothing where that can't be had
 abbrev pub IsBehindBreach : Bool → PlanParts → List ℕ → Bool → Found → List ℕ → Type 0
@@ -52,12 +52,14 @@ IsBehindBreach all base log false found text = ExplainsCut all base log (breach_
 abbrev pub IsBehindLine : Bool → PlanParts → List ℕ → Explained → List ℕ → Type 0
 IsBehindLine all base log e text = MatchOption (found_in e.told) ((e.is_unexplained ≡ false) × (text ≡ [])) (λ found. IsBehindBreach all base log e.is_unexplained found text)
 
--- the two texts have one plan, what is told is so of the log that the reader gave, and its line was written, with what stands behind it
-pub record IsExplained (program externals : List ℕ) (until : Option Tag) (whole all : Bool) (old new out_old out_new : Option (List ℕ)) (e : Explained) : Type 0 where
-  pub plan : PlanParts
-  pub is_plan : IsOnly (IsPlanOf program externals) plan
+-- what is told is so of the log that the reader gave under the plan, and its line was written, with what stands behind it
+pub record IsExplainedUnder (plan : PlanParts) (until : Option Tag) (whole all : Bool) (old new out_old out_new : Option (List ℕ)) (e : Explained) : Type 0 where
   pub log : List ℕ
   pub read : IsRead plan until whole log old new e.told
   pub rest : List ℕ
   pub behind : IsBehindLine all plan log e rest
   pub written : Writes (λ text. text ≡ line_of_log plan.program e.told ++ rest) out_old out_new
+
+-- the two texts have one plan, and under it the same is so
+abbrev pub IsExplained : List ℕ → List ℕ → Option Tag → Bool → Bool → Option (List ℕ) → Option (List ℕ) → Option (List ℕ) → Option (List ℕ) → Explained → Type 0
+IsExplained program externals until whole all old new out_old out_new e = OfOnly (IsPlanOf program externals) (λ plan. IsExplainedUnder plan until whole all old new out_old out_new e)

@@ -3,7 +3,7 @@
 ghost use Rattle.std.specs.Prelude.{◌≡◌, IfOk, IfSome};
 ghost use Rattle.lft_steps.specs.Fits.{RowsFit};
 ghost use Rattle.lft_follow.specs.Follows.{breach_of};
-ghost use Rattle.lft_explain_log.specs.Explained.{ExplainsCut, ExplainsFirst, IsExplained, IsLogCut, IsReasonOf, found_in};
+ghost use Rattle.lft_explain_log.specs.Explained.{ExplainsCut, ExplainsFirst, IsExplained, IsExplainedUnder, IsLogCut, IsReasonOf, found_in};
 
 use crate::cut::cut_at;
 use crate::first::is_first_so_far;
@@ -12,7 +12,7 @@ use lft_follow::{Ending, Found};
 use lft_load::{Fault, load, write_text};
 use lft_log::rows_of_log;
 use lft_model::{Breach, Plan};
-use lft_monitor::{Final, Following, Told, follow_log};
+use lft_monitor::{Final, Following, Told, follow_plan};
 use lft_steps::Rows;
 use lft_tag::NoMemory;
 use std::alloc::Global;
@@ -108,36 +108,75 @@ fn reasons_of_log(
     Ok(Some(text))
 }
 
-/// What explains a breach that is told of two texts and a log, of which all may be kept. None where it can't
-/// be had.
+/// What explains a breach that is told of a log, of which all may be kept. None where it can't be had.
 fn reasons_of_kept(
     alloc: Global,
-    program: &[u8],
-    externals: &[u8],
+    plan: &mut Plan,
     kept: Option<Vec<u8>>,
     found: Found,
     all: bool,
 ) -> Option<Vec<u8>>
-    ensures { IfSome result (λ text. IsReasonOf program.now externals.now kept found all text.items) }
+    ensures { IfSome result (λ text. IsReasonOf plan.old kept found all text.items) }
 {
     let Some(log) = kept else {
         return None;
     };
-    let Ok(mut plan) = load(alloc, program, externals) else {
-        return None;
-    };
-    match reasons_of_log(alloc, &mut plan, log.as_slice(), found, all) {
+    match reasons_of_log(alloc, plan, log.as_slice(), found, all) {
         Ok(text) => text,
         Err(_) => None,
     }
 }
 
-/// Follows the log of a reader as `follow_log` does, and writes behind the line of a broken rule the facts that
-/// explain it: all, or the first lines of each part. They are of the rows up to the one behind which the
-/// breach is sure, as their heading says. The line is written before the facts are looked for. Nothing stands
-/// behind it where the breach isn't the first of these rows: a row that breaks rule 1 asks for a stop before
-/// an earlier row. For the facts what is read is kept, as far as `follow_log` keeps it. The faults are those
-/// of `follow_log`.
+/// Follows the log of a reader under a plan as `follow_plan` does, and writes behind the line of a broken rule
+/// the facts that explain it: all, or the first lines of each part. They are of the rows up to the one behind
+/// which the breach is sure, as their heading says. The line is written before the facts are looked for.
+/// Nothing stands behind it where the breach isn't the first of these rows: a row that breaks rule 1 asks for
+/// a stop before an earlier row. For the facts what is read is kept, as far as `follow_plan` keeps it, and a
+/// copy of the plan. The faults are those of `follow_plan`.
+pub fn explain_log_plan<R: Read, W: Write, E: Write>(
+    alloc: Global,
+    plan: Plan,
+    path: &str,
+    reader: &mut R,
+    following: Following,
+    all: bool,
+    out: &mut W,
+    errors: &mut E,
+) -> Result<Explained, Fault>
+    ensures { IfOk result (IsExplainedUnder plan following.until following.whole all (R.remaining reader.old) (R.remaining reader.new) (W.contents out.old) (W.contents out.new)) }
+{
+    // The log tells the plan more, and its rows are read once more under the plan as it was.
+    let Ok(mut before) = plan.copy(alloc) else {
+        return Err(Fault::no_memory());
+    };
+    let mut kept = Some(Vec::new(alloc));
+    let told = match follow_plan(alloc, plan, path, reader, following, &mut kept, out, errors) {
+        Ok(told) => told,
+        Err(fault) => return Err(fault),
+    };
+    let Some(found) = found_in(told) else {
+        return Ok(Explained {
+            told,
+            is_unexplained: false,
+        });
+    };
+    let Some(text) = reasons_of_kept(alloc, &mut before, kept, found, all) else {
+        return Ok(Explained {
+            told,
+            is_unexplained: true,
+        });
+    };
+    match write_text(text.as_slice(), out) {
+        Ok(()) => Ok(Explained {
+            told,
+            is_unexplained: false,
+        }),
+        Err(fault) => Err(fault),
+    }
+}
+
+/// Follows the log of a reader under the plan of two texts, and explains it, as `explain_log_plan` does. The
+/// fault may be that of `load` too.
 pub fn explain_log<R: Read, W: Write, E: Write>(
     alloc: Global,
     program: &[u8],
@@ -151,30 +190,8 @@ pub fn explain_log<R: Read, W: Write, E: Write>(
 ) -> Result<Explained, Fault>
     ensures { IfOk result (IsExplained program.now externals.now following.until following.whole all (R.remaining reader.old) (R.remaining reader.new) (W.contents out.old) (W.contents out.new)) }
 {
-    let mut kept = Some(Vec::new(alloc));
-    let told = match follow_log(
-        alloc, program, externals, path, reader, following, &mut kept, out, errors,
-    ) {
-        Ok(told) => told,
-        Err(fault) => return Err(fault),
-    };
-    let Some(found) = found_in(told) else {
-        return Ok(Explained {
-            told,
-            is_unexplained: false,
-        });
-    };
-    let Some(text) = reasons_of_kept(alloc, program, externals, kept, found, all) else {
-        return Ok(Explained {
-            told,
-            is_unexplained: true,
-        });
-    };
-    match write_text(text.as_slice(), out) {
-        Ok(()) => Ok(Explained {
-            told,
-            is_unexplained: false,
-        }),
+    match load(alloc, program, externals) {
+        Ok(plan) => explain_log_plan(alloc, plan, path, reader, following, all, out, errors),
         Err(fault) => Err(fault),
     }
 }

@@ -6,4 +6,4 @@ mod explaining;
 mod first;
 mod reasons;
 
-pub use explaining::{Explained, explain_log};
+pub use explaining::{Explained, explain_log, explain_log_plan};

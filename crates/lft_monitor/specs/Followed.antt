@@ -5,7 +5,7 @@ use Rattle.std.specs.Io.KnownBytes.{Appends, Consumes, IsAtEnd}
 use Rattle.lft_tag.specs.declared.Tag.{Tag}
 use Rattle.lft_trace.specs.Numbers.{number}
 use Rattle.lft_model.specs.Plans.{PlanParts}
-use Rattle.lft_load.specs.Meaning.{IsOnly, IsPlanOf}
+use Rattle.lft_load.specs.Meaning.{IsPlanOf, OfOnly}
 use Rattle.lft_follow.specs.declared.judged.Ending.{Ending}
 use Rattle.lft_log.specs.Told.{IsEnded}
 use Rattle.lft_log.specs.declared.told.Final.{Final}
@@ -30,9 +30,11 @@ pub record IsRead (base : PlanParts) (until : Option Tag) (whole : Bool) (bytes 
 abbrev pub IsReadKept : PlanParts → Option Tag → Bool → Option (Vec ℕ) → Option (Vec ℕ) → Option (List ℕ) → Option (List ℕ) → Final → Type 0
 IsReadKept base until whole kept_old kept_new old new told = (bytes : List ℕ) × IsRead base until whole bytes old new told × IsKeptOn kept_old kept_new bytes
 
--- the two texts have one plan, what is told is so of the bytes that the reader gave to it, which are kept, and its line was written
-pub record IsFollowed (program externals : List ℕ) (until : Option Tag) (whole : Bool) (kept_old kept_new : Option (Vec ℕ)) (old new out_old out_new : Option (List ℕ)) (told : Final) : Type 0 where
-  pub plan : PlanParts
-  pub is_plan : IsOnly (IsPlanOf program externals) plan
+-- what is told is so of the bytes that the reader gave under the plan, which are kept, and its line was written
+pub record IsFollowedUnder (plan : PlanParts) (until : Option Tag) (whole : Bool) (kept_old kept_new : Option (Vec ℕ)) (old new out_old out_new : Option (List ℕ)) (told : Final) : Type 0 where
   pub read : IsReadKept plan until whole kept_old kept_new old new told
   pub written : Appends out_old out_new (line_of_log plan.program told)
+
+-- the two texts have one plan, and under it the same is so
+abbrev pub IsFollowed : List ℕ → List ℕ → Option Tag → Bool → Option (Vec ℕ) → Option (Vec ℕ) → Option (List ℕ) → Option (List ℕ) → Option (List ℕ) → Option (List ℕ) → Final → Type 0
+IsFollowed program externals until whole kept_old kept_new old new out_old out_new told = OfOnly (IsPlanOf program externals) (λ plan. IsFollowedUnder plan until whole kept_old kept_new old new out_old out_new told)

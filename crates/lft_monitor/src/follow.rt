@@ -8,7 +8,7 @@ ghost use Rattle.lft_model.specs.Plans.{PlanParts};
 ghost use Rattle.lft_load.specs.declared.fault.Part.TheVariants as part;
 ghost use Rattle.lft_log.specs.Told.{IsLog, IsSoon};
 ghost use Rattle.lft_monitor.specs.Lines.{HasFound, line_of_log, log_status};
-ghost use Rattle.lft_monitor.specs.Followed.{IsFollowed, IsKeptOn, IsReadKept, until_words};
+ghost use Rattle.lft_monitor.specs.Followed.{IsFollowed, IsFollowedUnder, IsKeptOn, IsReadKept, until_words};
 
 use crate::line::{line_of_final, unbroken_line};
 use lft_flat::Program;
@@ -232,11 +232,42 @@ fn report<W: Write>(alloc: Global, program: &Program, told: Final, out: &mut W) 
     }
 }
 
-/// Follows the log of a reader, and writes the line of what is told of it. Each `every` rows it writes how
-/// far they are judged to `errors`. What is read is put behind `kept`, where something is kept: up to 2^30
-/// bytes, and as long as memory suffices. The fault is that of `load`; or of a line of the log, once the rows
-/// before it are judged: part `trace`, or `externals` of an event or a stop; `read` 1 `Failed` where the reader fails; `write` 1 `Failed` where
-/// a writer fails; `memory` 1. The path is for a fault alone.
+/// Follows the log of a reader under a plan, and writes the line of what is told of it. Each `every` rows it
+/// writes how far they are judged to `errors`. What is read is put behind `kept`, where something is kept: up
+/// to 2^30 bytes, and as long as memory suffices. The fault is that of a line of the log, once the rows before
+/// it are judged: part `trace`, or `externals` of an event or a stop; `read` 1 `Failed` where the reader fails;
+/// `write` 1 `Failed` where a writer fails; `memory` 1. The path is for a fault alone.
+pub fn follow_plan<R: Read, W: Write, E: Write>(
+    alloc: Global,
+    plan: Plan,
+    path: &str,
+    reader: &mut R,
+    following: Following,
+    kept: &mut Option<Vec<u8>>,
+    out: &mut W,
+    errors: &mut E,
+) -> Result<Final, Fault>
+    ensures followed { IfOk result (IsFollowedUnder plan following.until following.whole kept.old kept.new (R.remaining reader.old) (R.remaining reader.new) (W.contents out.old) (W.contents out.new)) }
+{
+    let mut plan = plan;
+    let Ok(mut chunk) = vec![in alloc; 0u8; CHUNK] else {
+        return Err(Fault::no_memory());
+    };
+    let chunk = chunk.as_mut_slice();
+    let told = match read_log(
+        alloc, &mut plan, path, reader, chunk, following, kept, errors,
+    ) {
+        Ok(told) => told,
+        Err(fault) => return Err(fault),
+    };
+    match report(alloc, plan.program(), told, out) {
+        Ok(()) => Ok(told),
+        Err(fault) => Err(fault),
+    }
+}
+
+/// Follows the log of a reader under the plan of two texts, as `follow_plan` does. The fault may be that of
+/// `load` too.
 pub fn follow_log<R: Read, W: Write, E: Write>(
     alloc: Global,
     program: &[u8],
@@ -250,22 +281,8 @@ pub fn follow_log<R: Read, W: Write, E: Write>(
 ) -> Result<Final, Fault>
     ensures followed { IfOk result (IsFollowed program.now externals.now following.until following.whole kept.old kept.new (R.remaining reader.old) (R.remaining reader.new) (W.contents out.old) (W.contents out.new)) }
 {
-    let mut plan = match load(alloc, program, externals) {
-        Ok(plan) => plan,
-        Err(fault) => return Err(fault),
-    };
-    let Ok(mut chunk) = vec![in alloc; 0u8; CHUNK] else {
-        return Err(Fault::no_memory());
-    };
-    let chunk = chunk.as_mut_slice();
-    let told = match read_log(
-        alloc, &mut plan, path, reader, chunk, following, kept, errors,
-    ) {
-        Ok(told) => told,
-        Err(fault) => return Err(fault),
-    };
-    match report(alloc, plan.program(), told, out) {
-        Ok(()) => Ok(told),
+    match load(alloc, program, externals) {
+        Ok(plan) => follow_plan(alloc, plan, path, reader, following, kept, out, errors),
         Err(fault) => Err(fault),
     }
 }

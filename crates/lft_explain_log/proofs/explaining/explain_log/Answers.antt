@@ -1,18 +1,5 @@
-use Rattle.std.proofs.Common.{◌∙◌, ℕ, List, refl, sym, subst}
-use Rattle.std.specs.Io.KnownBytes.{Appends}
-use Rattle.lft_explain_log.proofs.Writing.{line_alone, line_and_facts, line_unexplained, none_told}
+use Rattle.std.proofs.lemmas.Result.{IfOk-weaker}
 use Rattle.lft_explain_log.proofs.explaining.explain_log.Goals as goal
 
-pub returns-in_default : goal.returns-in_default
-returns-in_default g c = line_alone c.args.program.now c.args.externals.now c.args.following.until c.args.following.whole c.args.all _ c.follow_log.new.kept (g.R.Read.remaining c.args.reader.now) (g.R.Read.remaining c.follow_log.new.reader) (g.W.Write.contents c.args.out.now) (g.W.Write.contents c.follow_log.new.out) c.in-Ok.told c.in-Ok.ensures.followed (sym c.found_in.ensures ∙ none_told c.found_in.result c.in_default.not-Some)
-
-pub returns-in_default-reasons_of_kept : goal.returns-in_default-reasons_of_kept
-returns-in_default-reasons_of_kept g c = line_unexplained c.args.program.now c.args.externals.now c.args.following.until c.args.following.whole c.args.all _ c.follow_log.new.kept (g.R.Read.remaining c.args.reader.now) (g.R.Read.remaining c.follow_log.new.reader) (g.W.Write.contents c.args.out.now) (g.W.Write.contents c.follow_log.new.out) c.in-Ok.told c.in-Ok.ensures.followed c.in-Some.found (sym c.found_in.ensures ∙ c.in-Some.is)
-
-pub returns-in-Ok-write_text : goal.returns-in-Ok-write_text
-returns-in-Ok-write_text g c =
-    let mid = g.W.Write.contents c.follow_log.new.out in
-    let new = g.W.Write.contents c.write_text.new.out in
-    let text = c.in-Some-reasons_of_kept.text.items in
-    let written = subst (λ (x : List ℕ). Appends mid new x) c.as_slice.ensures.value c.in-Ok-write_text.ensures.whole in
-    line_and_facts c.args.program.now c.args.externals.now c.args.following.until c.args.following.whole c.args.all _ c.follow_log.new.kept (g.R.Read.remaining c.args.reader.now) (g.R.Read.remaining c.follow_log.new.reader) (g.W.Write.contents c.args.out.now) mid new c.in-Ok.told c.in-Ok.ensures.followed c.new.result c.in-Some.found text refl c.new.ensures.items (sym c.found_in.ensures ∙ c.in-Some.is) c.in-Some-reasons_of_kept.ensures written
+pub returns-in-Ok : goal.returns-in-Ok
+returns-in-Ok g c = IfOk-weaker c.explain_log_plan.result _ _ (λ e h. record { it = c.in-Ok.plan; is_only = c.in-Ok.ensures.plan; said = h }) c.explain_log_plan.ensures

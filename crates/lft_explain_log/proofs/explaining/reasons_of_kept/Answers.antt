@@ -5,8 +5,8 @@ use Rattle.lft_explain_log.specs.Explained.{ExplainsCut}
 use Rattle.lft_explain_log.proofs.Writing.{reason_of}
 use Rattle.lft_explain_log.proofs.explaining.reasons_of_kept.Goals as goal
 
-pub returns-in-Ok-reasons_of_log : goal.returns-in-Ok-reasons_of_log
-returns-in-Ok-reasons_of_log c =
-    let text = c.in-Ok-reasons_of_log.text in
-    let explains = subst (λ (log : List ℕ). IfSome text (λ (v : Vec ℕ). ExplainsCut c.args.all c.in-Ok.plan log (breach_of c.args.found) v.items)) c.as_slice.ensures.value c.in-Ok-reasons_of_log.ensures in
-    reason_of c.args.program.now c.args.externals.now c.args.kept c.args.found c.args.all c.in-Ok.plan c.in-Some.log text c.in-Ok.ensures.plan c.in-Some.is explains
+pub returns-in-Ok : goal.returns-in-Ok
+returns-in-Ok c =
+    let text = c.in-Ok.text in
+    let explains = subst (λ (log : List ℕ). IfSome text (λ (v : Vec ℕ). ExplainsCut c.args.all c.args.plan.now log (breach_of c.args.found) v.items)) c.as_slice.ensures.value c.in-Ok.ensures in
+    reason_of c.args.plan.now c.args.kept c.args.found c.args.all c.in-Some.log text c.in-Some.is explains

@@ -1,14 +1,5 @@
-use Rattle.std.proofs.Common.{◌∙◌, sym, subst}
-use Rattle.lft_flat.specs.Parts.{Parts}
-use Rattle.lft_flat.specs.Sound.{IsSound}
-use Rattle.lft_monitor.specs.Lines.{HasFound}
-use Rattle.lft_monitor.proofs.Telling.{has_found}
+use Rattle.std.proofs.lemmas.Result.{IfOk-weaker}
 use Rattle.lft_monitor.proofs.follow.follow_log.Goals as goal
 
-pub report-requires : goal.report-requires
-report-requires g c =
-    let plan = c.in-Ok.plan in
-    let read = c.in-Ok-read_log.ensures.read in
-    let same = c.program.ensures.value ∙ c.in-Ok-read_log.ensures.program in
-    let sound = subst (λ (p : Parts). IsSound p) c.in-Ok-read_log.ensures.program c.program.ensures.sound.sound in
-    subst (λ (p : Parts). HasFound p c.in-Ok-read_log.told) (sym same) (has_found plan c.args.following.until c.args.following.whole read.0 c.in-Ok-read_log.told sound read.1.ended)
+pub returns-in-Ok : goal.returns-in-Ok
+returns-in-Ok g c = record { followed = IfOk-weaker c.follow_plan.result _ _ (λ told h. record { it = c.in-Ok.plan; is_only = c.in-Ok.ensures.plan; said = h }) c.follow_plan.ensures.followed }
