@@ -1,6 +1,7 @@
 //! The flat program of a whole one, in names of the source.
 
-ghost use Rattle.std.specs.Prelude.{IfErr, IfOk};
+ghost use Rattle.std.specs.Prelude.{◌≡◌, ◌≢◌, IfErr, IfOk, false};
+ghost use Rattle.lft_program.specs.declared.refusal.Refusal.TheVariants as refusals;
 ghost use Rattle.lft_imports.specs.Files.{AreOfTexts};
 ghost use Rattle.lft_lowered.specs.Lowered.{IsOfFiles, IsProgramOf};
 ghost use Rattle.lft_lowered.specs.Unlowered.{IsUnloweredFrom, IsUnloweredOf};
@@ -8,8 +9,9 @@ ghost use Rattle.lft_lowered.specs.Unlowered.{IsUnloweredFrom, IsUnloweredOf};
 use crate::reading::read_sources;
 use crate::told::{Unlowered, unlowered_by, unlowered_tree};
 use lft_flat::Program;
+use lft_load::Fault;
 use lft_lower::lower;
-use lft_program::flattened;
+use lft_program::{Refusal, flattened};
 use lft_sources::SourceFile;
 use std::alloc::Global;
 use std::rt::Files;
@@ -19,6 +21,13 @@ use std::rt::Files;
 pub struct Whole {
     pub program: Program,
     pub notes: Vec<String>,
+}
+
+/// Whether memory is refused, so that no cause was found.
+fn is_no_memory(refusal: &Refusal) -> bool
+    ensures other { result ≡ false → refusal.now ≢ refusals.NoMemory }
+{
+    matches!(refusal, Refusal::NoMemory)
 }
 
 /// The flat program of these files.
@@ -36,7 +45,12 @@ fn program_of(alloc: Global, files: &[SourceFile]) -> Result<Whole, Unlowered>
             program,
             notes: lowering.notes,
         }),
-        Err(refusal) => Err(unlowered_tree(alloc, files, &lowering.tree, &refusal)),
+        Err(refusal) => {
+            if is_no_memory(&refusal) {
+                return Err(Unlowered::from(Fault::no_memory()));
+            }
+            Err(unlowered_tree(alloc, files, &lowering.tree, &refusal))
+        }
     }
 }
 
