@@ -42,15 +42,15 @@ if_err (Ok x) h f = tt
 if_err (Err e) h f = f e h
 
 -- what was written of one kind is of another
-pub written_as : {T E : Type 0} {P Q : List ℕ → Type 0} {old new : Option (List ℕ)} (r : Result T E) → OnOk r (Writes P old new) → ((text : List ℕ) → P text → Q text) → OnOk r (Writes Q old new)
-written_as (Ok x) (text, is, w) f = (text, f text is, w)
-written_as (Err e) h f = tt
+pub written_as : {T E : Type 0} {P Q : List ℕ → Type 0} (old new : Option (List ℕ)) (r : Result T E) → OnOk r (Writes P old new) → ((text : List ℕ) → P text → Q text) → OnOk r (Writes Q old new)
+written_as old new (Ok x) (text, is, w) f = (text, f text is, w)
+written_as old new (Err e) h f = tt
 
 -- and so is what wasn't
-pub refused_as : {T : Type 0} {P Q : List ℕ → Type 0} {old new : Option (List ℕ)} (r : Result T Fault) → IfErr r (WriteRefusal P old new) → ((text : List ℕ) → P text → Q text) → IfErr r (WriteRefusal Q old new)
-refused_as (Ok x) h f = tt
-refused_as (Err e) (inl x) f = inl x
-refused_as (Err e) (inr (p, n, (text, is, front))) f = inr (p, n, (text, f text is, front))
+pub refused_as : {T : Type 0} {P Q : List ℕ → Type 0} (old new : Option (List ℕ)) (r : Result T Fault) → IfErr r (WriteRefusal P old new) → ((text : List ℕ) → P text → Q text) → IfErr r (WriteRefusal Q old new)
+refused_as old new (Ok x) h f = tt
+refused_as old new (Err e) (inl x) f = inl x
+refused_as old new (Err e) (inr (p, n, (text, is, front))) f = inr (p, n, (text, f text is, front))
 
 -- what covers rows has a count for each thing
 pub has_counts : (program : Parts) (t : List Row) (n : ℕ) (cover : Cover) → CoversRows program t n cover → HasCounts program cover

@@ -20,25 +20,25 @@ pub returns-then-list-clause-written : goal.returns-then-list-clause-written
 returns-then-list-clause-written g c =
     let plan = c.args.plan.now in
     let line : string_bytes c.in-Ok.line ≡ line_of c.args.plan.now.program (verdict_in c.args.covered.now) = c.in-Ok.ensures ∙ ap (λ (p : Parts). line_of p c.verdict.result) c.program.ensures.value ∙ ap (λ (v : Verdict). line_of plan.program v) c.verdict.ensures in
-    written_as c.write_listed.result c.write_listed.ensures.written (λ text e. listed_text c.args.list plan c.args.covered.now c.as_str.result.now text (c.as_str.ensures.value ∙ line) c.if-list.true c.in-Accepted.is e)
+    written_as _ _ c.write_listed.result c.write_listed.ensures.written (λ text e. listed_text c.args.list plan c.args.covered.now c.as_str.result.now text (c.as_str.ensures.value ∙ line) c.if-list.true c.in-Accepted.is e)
 
 pub returns-then-list-clause-refused : goal.returns-then-list-clause-refused
 returns-then-list-clause-refused g c =
     let plan = c.args.plan.now in
     let line : string_bytes c.in-Ok.line ≡ line_of c.args.plan.now.program (verdict_in c.args.covered.now) = c.in-Ok.ensures ∙ ap (λ (p : Parts). line_of p c.verdict.result) c.program.ensures.value ∙ ap (λ (v : Verdict). line_of plan.program v) c.verdict.ensures in
-    refused_as c.write_listed.result c.write_listed.ensures.refused (λ text e. listed_text c.args.list plan c.args.covered.now c.as_str.result.now text (c.as_str.ensures.value ∙ line) c.if-list.true c.in-Accepted.is e)
+    refused_as _ _ c.write_listed.result c.write_listed.ensures.refused (λ text e. listed_text c.args.list plan c.args.covered.now c.as_str.result.now text (c.as_str.ensures.value ∙ line) c.if-list.true c.in-Accepted.is e)
 
 pub returns-else-list-clause-written : goal.returns-else-list-clause-written
 returns-else-list-clause-written g c =
     let plan = c.args.plan.now in
     let line : string_bytes c.in-Ok.line ≡ line_of c.args.plan.now.program (verdict_in c.args.covered.now) = c.in-Ok.ensures ∙ ap (λ (p : Parts). line_of p c.verdict.result) c.program.ensures.value ∙ ap (λ (v : Verdict). line_of plan.program v) c.verdict.ensures in
-    written_as c.write_told.result c.write_told.ensures.written (λ text x. people_text c.args.list plan c.args.covered.now (string_bytes c.in-Ok.line) text line c.if-list.false c.in-Accepted.is x)
+    written_as _ _ c.write_told.result c.write_told.ensures.written (λ text x. people_text c.args.list plan c.args.covered.now (string_bytes c.in-Ok.line) text line c.if-list.false c.in-Accepted.is x)
 
 pub returns-else-list-clause-refused : goal.returns-else-list-clause-refused
 returns-else-list-clause-refused g c =
     let plan = c.args.plan.now in
     let line : string_bytes c.in-Ok.line ≡ line_of c.args.plan.now.program (verdict_in c.args.covered.now) = c.in-Ok.ensures ∙ ap (λ (p : Parts). line_of p c.verdict.result) c.program.ensures.value ∙ ap (λ (v : Verdict). line_of plan.program v) c.verdict.ensures in
-    refused_as c.write_told.result c.write_told.ensures.refused (λ text x. people_text c.args.list plan c.args.covered.now (string_bytes c.in-Ok.line) text line c.if-list.false c.in-Accepted.is x)
+    refused_as _ _ c.write_told.result c.write_told.ensures.refused (λ text x. people_text c.args.list plan c.args.covered.now (string_bytes c.in-Ok.line) text line c.if-list.false c.in-Accepted.is x)
 
 pub returns-in-Broken-clause-written : goal.returns-in-Broken-clause-written
 returns-in-Broken-clause-written g c =
