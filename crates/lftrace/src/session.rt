@@ -76,10 +76,12 @@ impl<'w, F: Files, W: Write> Session<'w, F, W> {
         match whole_program(self.rt, self.alloc, path, text) {
             Ok(whole) => Ok(whole),
             Err(unlowered) => {
+                let told = unlowered.told;
+                let failure = unlowered.failure;
                 if self.tells {
-                    self.tell(Ok(unlowered.told));
+                    self.tell(Ok(told));
                 }
-                Err(unlowered.failure)
+                Err(failure)
             }
         }
     }
