@@ -51,8 +51,7 @@ def main(words):
     try:
         log.finish(STOP)
     except lftrace.NotRecorded as why:
-        print(f"not recorded: {why}", file=sys.stderr)
-        return 1
+        sys.exit(f"not recorded: {why}")
     return 0
 
 

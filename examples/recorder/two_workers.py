@@ -128,8 +128,7 @@ def main(words):
         else:
             log.save(words[0], words[1], STOP)
     except lftrace.NotRecorded as why:
-        print(f"not recorded: {why}", file=sys.stderr)
-        return 1
+        sys.exit(f"not recorded: {why}")
     return 0
 
 
