@@ -1,7 +1,7 @@
 //! The text of a program as it is told of: one that stands alone, or files one behind another.
 
 ghost use Rattle.std.specs.Prelude.{◌≡◌, ◌↔◌, ◌≤◌, ◌++◌, ℕ, List, Contains, IfNone, IfOk, IfSome, IsTrue, OnOk, length, string_bytes};
-ghost use Rattle.lft_refusals.specs.Pages.{ArePages, HasByte, HasNone, SaysByte, SaysSpot, page_words};
+ghost use Rattle.lft_refusals.specs.Pages.{ArePages, HasByte, HasBytes, HasNone, MarksBytes, MarksSpot, SaysByte, SaysSpot, page_words};
 
 use crate::place::{Place, place_of};
 use crate::quoting::{push_line, push_place};
@@ -93,7 +93,8 @@ fn push_spot(
     spot: Spot,
 ) -> Result<(), NoMemory>
     requires pages { ArePages text.now files.now }
-    requires inside { (spot.start ≤ spot.end) × (spot.end ≤ length text.now) }
+    requires inside { HasBytes text.now spot }
+    ensures { OnOk result ((words : List ℕ) × MarksBytes text.now files.now spot words × (string_bytes out.new ≡ string_bytes out.old ++ words)) }
 {
     match page_of(files, spot.start) {
         Some(page) => {
@@ -122,6 +123,7 @@ pub fn push_marked(
     spot: Option<Spot>,
 ) -> Result<(), NoMemory>
     requires { ArePages text.now files.now }
+    ensures { OnOk result ((words : List ℕ) × MarksSpot text.now files.now spot words × (string_bytes out.new ≡ string_bytes out.old ++ words)) }
 {
     match spot {
         Some(spot) if spot.start <= spot.end && spot.end <= text.len() => {

@@ -1,10 +1,10 @@
 //! Why a program's text is refused, for people.
 
-ghost use Rattle.std.specs.Prelude.{◌≡◌, ◌≢◌, ℕ, ◌+◌, ◌<◌, ◌≤◌, ◌++◌, List, flat_map, length, string_bytes, IfOk, OnOk};
+ghost use Rattle.std.specs.Prelude.{◌≡◌, ◌≢◌, ℕ, ◌+◌, ◌<◌, ◌≤◌, ◌++◌, List, flat_map, length, string_bytes, IfOk, IfSome, OnOk};
 ghost use Rattle.lft_syntax.specs.declared.fault.LexFault.TheVariants.{NoMemory as LexNoMemory};
 ghost use Rattle.lft_syntax.specs.Lexes.{LexFails, Lexes};
 ghost use Rattle.lft_refusals.specs.Candidates.{IsHelp, IsWholeHelp, could_words, few, other_words};
-ghost use Rattle.lft_refusals.specs.Refusals.{HasNoTree};
+ghost use Rattle.lft_refusals.specs.Refusals.{HasNoTree, IsRefusedFrom, MayHelp};
 ghost use Rattle.lft_refusals.specs.Trying.{AreTokens, CanStandBehind};
 ghost use Rattle.lft_refusals.specs.Told.{SaysAt, TellsProgram, fault_words, long_words as words_of_long, sentence, spelled, token_words};
 
@@ -278,12 +278,19 @@ fn way_among(
     to: usize,
 ) -> Result<Option<&'static str>, NoMemory>
     requires lexed { Lexes text.now tokens.now }
+    ensures { IfOk result (λ way. IfSome way (λ _. IsRefusedFrom text.now from to)) }
 {
     let number = match parse(alloc, text, tokens) {
         Ok(_) => return Ok(None),
         Err(SyntaxFault::NoMemory) => return Err(NoMemory),
         Err(SyntaxFault::Unexpected(number)) => number,
     };
+    let Some(token) = tokens.as_slice().get(number - 1) else {
+        return Ok(None);
+    };
+    if token.start < from || to < token.start {
+        return Ok(None);
+    }
     let count = number - 1;
     let before = Before {
         alloc,
@@ -291,9 +298,25 @@ fn way_among(
         tokens,
         count,
     };
-    match before.token(0) {
-        Some(token) if from <= token.start && token.start <= to => way_behind(&before, token),
-        _ => Ok(None),
+    way_behind(&before, *token)
+}
+
+/// What helps where a core text is refused at a byte, or at a token from another byte on.
+fn way_of_core(
+    alloc: Global,
+    text: &[u8],
+    from: usize,
+    at: usize,
+) -> Result<Option<&'static str>, NoMemory>
+    ensures { IfOk result (λ way. IfSome way (λ _. IsRefusedFrom text.now from at)) }
+{
+    match lex(alloc, text) {
+        Ok(tokens) => way_among(alloc, text, &tokens, from, at),
+        Err(LexFault::NoMemory) => Err(NoMemory),
+        Err(fault) => match text.get(at..) {
+            Some(rest) if refused_at(text) == Some(at) => Ok(of_fault(fault, rest)),
+            _ => Ok(None),
+        },
     }
 }
 
@@ -304,18 +327,15 @@ pub fn way_at(
     text: &[u8],
     from: usize,
     at: usize,
-) -> Result<Option<&'static str>, NoMemory> {
-    let way = headers::of_program(text);
-    if way.is_some() {
-        return Ok(way);
-    }
-    let way = match lex(alloc, text) {
-        Ok(tokens) => way_among(alloc, text, &tokens, from, at)?,
-        Err(LexFault::NoMemory) => return Err(NoMemory),
-        Err(fault) => match text.get(at..) {
-            Some(rest) if refused_at(text) == Some(at) => of_fault(fault, rest),
-            _ => None,
-        },
+) -> Result<Option<&'static str>, NoMemory>
+    ensures { IfOk result (λ way. IfSome way (λ words. MayHelp text.now from at words.now)) }
+{
+    let way = match headers::of_program(text) {
+        Some(way) => Some(way),
+        None => way_of_core(alloc, text, from, at)?,
     };
-    Ok(way.filter(|way| !way.contains("left out")))
+    match way {
+        Some(words) if !words.contains("left out") => Ok(way),
+        _ => Ok(None),
+    }
 }
