@@ -16,7 +16,7 @@ use crate::place::place_of;
 use crate::quoting::{push_line, push_place};
 use crate::refusal::{Refusal, Why, at_byte, at_token};
 use crate::thing::Thing;
-use crate::ways::{of_candidates, of_fault, of_token};
+use crate::ways::{CODE, NO_CODE, of_candidates, of_fault, of_token};
 use crate::words::{push_bytes, push_way};
 use lft_syntax::{
     LexFault, MAX_LENGTH, SyntaxFault, Token, TokenKind, Tokens, lex, parse, refused_at,
@@ -261,12 +261,16 @@ pub fn tell_no_tree(
 }
 
 /// What helps in place of a token that stands behind others: by the tokens before it, or by what could stand there.
+/// A whole program may have a reaction without code, so of a string or a sign in its place it is told how code is written.
 fn way_behind(before: &Before<'_>, token: Token) -> Result<Option<&'static str>, NoMemory>
     requires lexed { AreTokens before.now }
 {
     let better = before.way(token.kind, before.spelling(0))?;
     let found = candidates(before)?;
-    Ok(better.or(of_candidates(token.kind, before, &found)))
+    match better.or(of_candidates(token.kind, before, &found)) {
+        Some(way) if way == NO_CODE && token.kind != TokenKind::Name => Ok(Some(CODE)),
+        way => Ok(way),
+    }
 }
 
 /// What helps where the tokens of a text spell no tree, if a token that begins between two bytes shows that.

@@ -15,6 +15,10 @@ const PARAMETERS: &str =
 
 pub(crate) const SPACING: &str = "Minimum spacing is left out: write the least delay alone.";
 
+pub(crate) const CODE: &str = "Code stands between {= and =}.";
+
+pub(crate) const NO_CODE: &str = "A reaction without code is left out: write {= =} behind it.";
+
 pub(crate) const TYPE: &str = "Write the type as code, between {= and =}.";
 
 pub(crate) const VALUE: &str = "Write the value as code, between {= and =}.";
@@ -73,9 +77,9 @@ fn of_code(before: &Before<'_>) -> &'static str {
     } else if before.is(1, "=") {
         VALUE
     } else if before.is(1, "preamble") {
-        "Code stands between {= and =}."
+        CODE
     } else {
-        "A reaction without code is left out: write {= =} behind it."
+        NO_CODE
     }
 }
 
