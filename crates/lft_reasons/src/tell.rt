@@ -224,8 +224,8 @@ fn sentence_for(fault: ProgramFault) -> Option<Sentence>
 }
 
 /// Why a program that has this tree is refused, in lines that end with a line feed: the place, what is wrong
-/// there, the line with a mark, and what to write. Where something stands twice, both lines. Of several places
-/// the first in the text. `NoMemory` where the refusal is. The text may be that of several files, one behind another.
+/// there, the line with a mark, and what to write. Where something stands twice, both lines. `NoMemory` where the refusal
+/// is. The text may be that of several files, one behind another.
 pub fn tell_refusal_in(
     alloc: Global,
     text: &[u8],

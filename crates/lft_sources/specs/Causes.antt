@@ -1,4 +1,4 @@
--- Why a program has no core program: a number and a name for scripts, and what is said of it.
+-- Why files have no program: a number and a name for scripts, and what is said of it.
 use Rattle.std.specs.Prelude.{ℕ, List, [], ◌∷◌, codes}
 use Rattle.lft_sources.specs.declared.why.Why.{Why}
 use Rattle.lft_sources.specs.declared.why.Why.TheVariants as why
@@ -61,7 +61,7 @@ abbrev pub sentence_of : Why → List ℕ
 sentence_of why.NotRead = codes "The file can't be read. Correct the path."
 sentence_of why.NotText = codes "This begins nothing that Lingua Franca has, or isn't closed."
 sentence_of why.Unexpected = codes "This can't stand here."
-sentence_of why.NoMain = codes "The file has no main reactor. Lower the file that has it."
+sentence_of why.NoMain = codes "The file has no main reactor. Name the file that has it."
 sentence_of why.TwoMains = codes "The file has two main reactors."
 sentence_of why.NoReactor = codes "There is no reactor of this name in the file, or imported by it."
 sentence_of why.NotImported = codes "The imported file has no reactor of this name."
@@ -86,12 +86,12 @@ sentence_of why.TimeTooLong = codes "This time is longer than 10^18 nanoseconds,
 sentence_of why.NotOfTypeTime = codes "The parameter isn't of type time."
 sentence_of why.StandsForTime = codes "The parameter stands for a time, and isn't of type time."
 sentence_of why.DefaultByName = codes "A default can't be a parameter. Write the time."
-sentence_of why.Mode = codes "A mode decides which reactions run, and the core has none. There is no equivalent core program."
+sentence_of why.Mode = codes "A mode decides which reactions run, and `lftrace` knows none. No program without modes is equivalent."
 sentence_of why.PhysicalConnection = codes "A physical connection gives its events tags by a clock. Write a reactor with a physical action in its place, whose events stand in the external table."
-sentence_of why.Spacing = codes "A least spacing of a logical action moves or drops events, and the core has none. Leave it out where it never acts."
-sentence_of why.Mutation = codes "A mutation changes the program while it runs. There is no equivalent core program."
+sentence_of why.Spacing = codes "A least spacing of a logical action moves or drops events, and `lftrace` knows none. Leave it out where it never acts."
+sentence_of why.Mutation = codes "A mutation changes the program while it runs. No program without mutations is equivalent."
 sentence_of why.Watchdog = codes "A watchdog expires by a clock. Write a physical action of its name in its place. Its expiries are then events of the external table."
-sentence_of why.Decentralized = codes "With decentralized coordination a message may be handled after its tag, and the core has no such runs. Lower the program with `coordination: centralized`."
+sentence_of why.Decentralized = codes "With decentralized coordination a message may be handled after its tag, and `lftrace` knows no such runs. Write `coordination: centralized`."
 sentence_of why.Package = codes "A package isn't looked up. Import its file by its path."
 sentence_of why.MissingNumber = codes "A parameter decides a width, and has neither a default nor a value. Give it."
 sentence_of why.MissingTime = codes "A parameter stands for a time, and has neither a default nor a value here. Give it."

@@ -1,5 +1,5 @@
 #![tactic(auto)]
-//! The files of a program as they are read, and why there is no core program of them.
+//! The files of a program as they are read, and why there is no program of them.
 
 mod shown;
 mod source;

@@ -18,7 +18,7 @@ pub struct Refusal {
     pub place: Place,
 }
 
-/// Why there is no core program.
+/// Why there is no program.
 #[derive(Clone, Copy, Debug, PartialEq, Eq)]
 pub enum Stop {
     Refused(Refusal),

@@ -1,6 +1,6 @@
 //! The causes for which a program isn't lowered: numbers, names, and what is said of them.
 
-/// Why a program has no core program. Causes of one number have one name, and sentences of their own.
+/// Why files have no program. Causes of one number have one name, and sentences of their own.
 #[derive(Clone, Copy, Debug, PartialEq, Eq)]
 pub enum Why {
     NotRead,
@@ -98,7 +98,7 @@ impl Why {
             Why::NotRead => "The file can't be read. Correct the path.",
             Why::NotText => "This begins nothing that Lingua Franca has, or isn't closed.",
             Why::Unexpected => "This can't stand here.",
-            Why::NoMain => "The file has no main reactor. Lower the file that has it.",
+            Why::NoMain => "The file has no main reactor. Name the file that has it.",
             Why::TwoMains => "The file has two main reactors.",
             Why::NoReactor => "There is no reactor of this name in the file, or imported by it.",
             Why::NotImported => "The imported file has no reactor of this name.",
@@ -130,17 +130,17 @@ impl Why {
             Why::StandsForTime => "The parameter stands for a time, and isn't of type time.",
             Why::DefaultByName => "A default can't be a parameter. Write the time.",
             Why::Mode =>
-                "A mode decides which reactions run, and the core has none. There is no equivalent core program.",
+                "A mode decides which reactions run, and `lftrace` knows none. No program without modes is equivalent.",
             Why::PhysicalConnection =>
                 "A physical connection gives its events tags by a clock. Write a reactor with a physical action in its place, whose events stand in the external table.",
             Why::Spacing =>
-                "A least spacing of a logical action moves or drops events, and the core has none. Leave it out where it never acts.",
+                "A least spacing of a logical action moves or drops events, and `lftrace` knows none. Leave it out where it never acts.",
             Why::Mutation =>
-                "A mutation changes the program while it runs. There is no equivalent core program.",
+                "A mutation changes the program while it runs. No program without mutations is equivalent.",
             Why::Watchdog =>
                 "A watchdog expires by a clock. Write a physical action of its name in its place. Its expiries are then events of the external table.",
             Why::Decentralized =>
-                "With decentralized coordination a message may be handled after its tag, and the core has no such runs. Lower the program with `coordination: centralized`.",
+                "With decentralized coordination a message may be handled after its tag, and `lftrace` knows no such runs. Write `coordination: centralized`.",
             Why::Package => "A package isn't looked up. Import its file by its path.",
             Why::MissingNumber =>
                 "A parameter decides a width, and has neither a default nor a value. Give it.",
