@@ -1,18 +1,14 @@
 -- Loops that pick what they want from a list.
 use Rattle.std.proofs.Common.{◌≡◌, ℕ, ◌+◌, ◌<◌, ◌≤◌, List, [], ◌∷◌, ◌++◌, map, filter_map, take, drop, length, get_or, slice_get, Option, Some, None, append-nil, sym, ap, ◌∙◌, arith}
 use Rattle.std.specs.List.{cons_option}
-use Rattle.std.proofs.lemmas.Grind.{common_steps}
 use Rattle.std.proofs.lemmas.List.{map-append, drop_all}
 use Rattle.std.proofs.lemmas.List.Elements.{filter_map-append}
-
--- one more element of a list
-take_more : {X : Type 0} (xs : List X) (i : ℕ) (x : X) → i < length xs → get_or xs i x ≡ x → take (i + 1) xs ≡ take i xs ++ x ∷ []
-take_more xs i x l is = grind (arith, common_steps)
+use Rattle.lft_lists.proofs.Picked.{take_one_more}
 
 module _ {X Y : Type 0} (h : X → Option Y) (xs : List X) (i : ℕ) (x : X) (l : i < length xs) (is : get_or xs i x ≡ x) where
   -- what is picked of one more item
   kept : filter_map h (take (i + 1) xs) ≡ filter_map h (take i xs) ++ cons_option (h x) []
-  kept = ap (filter_map h) (take_more xs i x l is) ∙ filter_map-append h (take i xs) (x ∷ [])
+  kept = ap (filter_map h) (take_one_more xs i x l is) ∙ filter_map-append h (take i xs) (x ∷ [])
 
   -- one more turn: it found something, or nothing
   module _ {D : Type 0} (w : D → Y) (found : List D) (so_far : map w found ≡ filter_map h (take i xs)) where
