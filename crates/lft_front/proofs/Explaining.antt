@@ -17,7 +17,8 @@ use Rattle.lft_front.specs.Lines.{line_of}
 use Rattle.lft_front.specs.Explained.{StandsBehind, IsExplanation, Writes, WriteRefusal, ExplainingRefusal}
 use Rattle.lft_front.specs.Explained.ExplainingRefusal.{by_check, by_line, by_writer}
 use Rattle.lft_front.proofs.Judging.{refusal_untold, write_untold}
-use Rattle.lft_front.proofs.Behind.{appends_kept, writes_both, front_both, growth_kept}
+use Rattle.std.proofs.KnownBytes.{Appends-kept}
+use Rattle.lft_front.proofs.Behind.{writes_both, front_both, growth_kept}
 
 module _ (all : Bool) (plan : PlanParts) (rows : List Row) (workers : ℕ) (program : Parts) (same : program ≡ plan.program) (verdict : Verdict) (right : IsVerdict plan rows verdict) (lawful : IsWorkers workers) (old mid new : Option (List ℕ)) where
   -- the writer failed on the line, or there was no memory for it
@@ -38,7 +39,7 @@ module _ (all : Bool) (plan : PlanParts) (rows : List Row) (workers : ℕ) (prog
 
     -- the line was written, and what stands behind it wasn't
     pub rest_refused : (f : Fault) → WriteRefusal (StandsBehind all plan rows verdict) mid new f → ExplainingRefusal all plan rows workers old new f
-    rest_refused f (inl x) = by_check (by_growth (inr (x.0, x.1)) lawful) (inr (x.0, (verdict, right, appends_kept old mid new (line_of plan.program verdict) first x.2)))
+    rest_refused f (inl x) = by_check (by_growth (inr (x.0, x.1)) lawful) (inr (x.0, (verdict, right, Appends-kept old mid new (line_of plan.program verdict) first x.2)))
     rest_refused f (inr (p, n, rest)) =
         let whole = front_both (StandsBehind all plan rows verdict) (IsExplanation all plan rows verdict) (line_of plan.program verdict) joins old mid new first rest.0 rest.1 rest.2 in
         by_writer verdict whole.0 p n right whole.1 whole.2

@@ -3,9 +3,7 @@ use Rattle.std.proofs.Common.{◌≡◌, ℕ, ◌<◌, inl, inr, List, length, O
 use Rattle.lft_steps.specs.declared.row.Row.{Row}
 use Rattle.lft_steps.specs.Fits.{RowsFit}
 use Rattle.lft_trace.specs.Records.{records_of}
-use Rattle.lft_trace.specs.Traces.{Table, TraceFails}
-use Rattle.lft_trace.specs.Faults.{is_told}
-use Rattle.lft_trace.specs.declared.fault.TraceFault.{TraceFault}
+use Rattle.lft_trace.specs.Traces.{Table}
 use Rattle.lft_model.specs.declared.breach.Breach.{Breach}
 use Rattle.lft_model.specs.Plans.{PlanParts}
 use Rattle.lft_model.specs.Presence.{Triggered}
@@ -18,19 +16,15 @@ use Rattle.lft_check.specs.Verdicts.{IsVerdict}
 use Rattle.lft_model.specs.OneWorker.{LegalRunsAreOneWorker, LegalRunsKeepPrecedence}
 use Rattle.lft_front.specs.Judged.{AcceptedRuns}
 use Rattle.lft_front.specs.Lines.{HasReaction}
-use Rattle.lft_flat.specs.Parts.{Parts}
-use Rattle.lft_load.specs.Faults.{table_number}
 use Rattle.lft_load.specs.Meaning.{IsPlanOf, IsOnly}
 use Rattle.lft_load.proofs.Loading.{memory_untold}
-use Rattle.lft_front.specs.Meaning.{IsMeaning, Mean}
+use Rattle.lft_front.specs.Meaning.{Mean}
 use Rattle.lft_load.specs.Refusals.{is_of_text}
-use Rattle.lft_front.specs.Refusals.{CheckRefusal, IsRefusedGrowth, TextsRefusal}
+use Rattle.lft_front.specs.Refusals.{CheckRefusal, IsRefusedGrowth}
 use Rattle.lft_front.specs.Refusals.CheckRefusal.{by_workers, by_growth}
-use Rattle.lft_front.specs.Refusals.TextsRefusal.{by_trace}
 use Rattle.lft_load.specs.declared.fault.Fault.{Fault}
 use Rattle.lft_load.specs.declared.fault.Part.{Part}
 use Rattle.lft_load.specs.declared.fault.Part.TheVariants as part
-use Rattle.lft_front.proofs.Tables.{has_table, no_trace, unread}
 
 -- the reaction of a breach is one of the program
 module _ (plan : PlanParts) (rows : List Row) (fit : RowsFit plan.program rows) where
@@ -83,15 +77,3 @@ refusal_untold workers f (by_growth x w) t = growth_untold f x t
 -- the rows of three texts are those of its one plan
 pub rows_of_plan : (program externals trace : List ℕ) (plan : PlanParts) → IsOnly (IsPlanOf program externals) plan → (other : PlanParts) (rows : List Row) → Mean program externals trace other rows → Table plan.program (records_of trace) rows
 rows_of_plan program externals trace plan only other rows x = subst (λ p. Table p.program (records_of trace) rows) (only.only other x.is_plan) x.is_trace
-
--- what a reader of trace tables says of the third text, its program being that of the plan of the first two
-module _ (program externals trace : List ℕ) (plan : PlanParts) (is_plan : IsOnly (IsPlanOf program externals) plan) (p : Parts) (same : p ≡ plan.program) where
-  pub meaning_of : (rows : List Row) → Table p (records_of trace) rows → ((other : List Row) → Table p (records_of trace) other → other ≡ rows) → IsMeaning program externals trace plan rows
-  meaning_of rows table one = record { is_plan = is_plan; has_table = has_table trace p plan.program same rows table one }
-
-  module _ (e : TraceFault) (f : Fault) (in_part : f.part ≡ part.Trace) (numbered : f.number ≡ table_number e) (fails : is_told e ≡ true → TraceFails p (records_of trace) e × ((rows : List Row) → ¬ Table p (records_of trace) rows)) where
-    pub refused_of : TextsRefusal program externals trace f
-    refused_of = by_trace plan is_plan.is (unread trace p plan.program same e f in_part numbered fails)
-
-    pub none_of : is_of_text f.part f.number ≡ true → (other : PlanParts) (rows : List Row) → ¬ Mean program externals trace other rows
-    none_of t other rows x = no_trace trace p plan.program same e f in_part numbered fails t rows (rows_of_plan program externals trace plan is_plan other rows x)

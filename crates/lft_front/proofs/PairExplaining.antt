@@ -18,7 +18,8 @@ use Rattle.lft_front.specs.PairExplained.{StandsBehind, IsPairExplanation, PairE
 use Rattle.lft_front.specs.PairExplained.PairExplainingRefusal.{by_check, by_line, by_writer}
 use Rattle.lft_front.specs.Pairs.{IsPairing}
 use Rattle.lft_front.proofs.Judging.{refusal_untold, write_untold}
-use Rattle.lft_front.proofs.Behind.{appends_kept, writes_both, front_both, growth_kept}
+use Rattle.std.proofs.KnownBytes.{Appends-kept}
+use Rattle.lft_front.proofs.Behind.{writes_both, front_both, growth_kept}
 
 module _ (all : Bool) (plan : PlanParts) (rows others : List Row) (workers : ℕ) (program : Parts) (same : program ≡ plan.program) (said : Paired) (right : IsPairing plan rows others said) (lawful : IsWorkers workers) (old mid new : Option (List ℕ)) where
   -- the writer failed on the line, or there was no memory for it
@@ -39,7 +40,7 @@ module _ (all : Bool) (plan : PlanParts) (rows others : List Row) (workers : ℕ
 
     -- the line was written, and what stands behind it wasn't
     pub rest_refused : (f : Fault) → WriteRefusal (StandsBehind all plan rows others said) mid new f → PairExplainingRefusal all plan rows others workers old new f
-    rest_refused f (inl x) = by_check (by_growth (inr (x.0, x.1)) lawful) (inr (x.0, (said, right, appends_kept old mid new (line_of_pair plan.program said) first x.2)))
+    rest_refused f (inl x) = by_check (by_growth (inr (x.0, x.1)) lawful) (inr (x.0, (said, right, Appends-kept old mid new (line_of_pair plan.program said) first x.2)))
     rest_refused f (inr (p, n, rest)) =
         let whole = front_both (StandsBehind all plan rows others said) (IsPairExplanation all plan rows others said) (line_of_pair plan.program said) joins old mid new first rest.0 rest.1 rest.2 in
         by_writer said whole.0 p n right whole.1 whole.2

@@ -12,7 +12,7 @@ use Rattle.lft_trace.specs.declared.fault.TraceFault.{TraceFault}
 use Rattle.lft_trace.specs.declared.fault.TraceFault.TheVariants as fault
 use Rattle.lft_table_faults.specs.Tables.{Begins, field_line, heading, line_words}
 use Rattle.lft_front.specs.Meaning.{IsNoTrace, IsTrace, Mean}
-use Rattle.lft_front.specs.Told.{HasNoOrder, HaveMeaning, HaveMeaningBoth, HaveNoMeaning, HaveNoMeaningBoth, HaveNoPlan, IsNoTable, IsPlanned, IsUnplanned, TellsLoop}
+use Rattle.lft_front.specs.Told.{HasNoOrder, HaveMeaning, HaveNoMeaning, IsNoTable, IsPlanned, IsUnplanned, TellsLoop}
 
 -- what holds where something is told holds of what is told
 pub some_so : {X : Type 0} (o : Option X) (x : X) (P : Type 0) → o ≡ Some x → IfSome o (λ _. P) → P
@@ -44,26 +44,16 @@ unplanned_by_table parts externals h plan x = h plan.externals x.is_externals
 pub unplanned_by_loop : (parts : Parts) (externals : List ℕ) → (HasNoLoop parts → ⊥) → IsUnplanned parts externals
 unplanned_by_loop parts externals h plan x = h x.no_loop
 
--- a text without a program has no plan, and where there is no plan, texts have no meaning
-pub none_by_program : (program externals : List ℕ) → ((parts : Parts) → IsProgramOf program parts → ⊥) → HaveNoPlan program externals
-none_by_program program externals h plan x = h plan.program x.is_program
-
-pub none_by_plan : (program externals trace : List ℕ) → HaveNoPlan program externals → HaveNoMeaning program externals trace
-none_by_plan program externals trace h plan rows m = h plan m.is_plan
-
-pub none_of_both : (program externals first second : List ℕ) → HaveNoPlan program externals → HaveNoMeaningBoth program externals first second
-none_of_both program externals first second h plan rows others m = h plan m.is_first.is_plan
+-- where a text has no program, or that has no plan, texts have no meaning
+pub none_by_program : (program externals trace : List ℕ) → ((parts : Parts) → IsProgramOf program parts → ⊥) → HaveNoMeaning program externals trace
+none_by_program program externals trace h plan rows m = h plan.program m.is_plan.is_program
 
 module _ (program externals : List ℕ) (parts : Parts) (only : IsOnly (IsProgramOf program) parts) where
-  pub none_by_unplanned : IsUnplanned parts externals → HaveNoPlan program externals
-  none_by_unplanned h plan x = h plan (under program externals parts only plan x)
+  pub none_by_unplanned : (trace : List ℕ) → IsUnplanned parts externals → HaveNoMeaning program externals trace
+  none_by_unplanned trace h plan rows m = h plan (under program externals parts only plan m.is_plan)
 
   pub none_by_trace : (trace : List ℕ) → IsNoTrace parts trace → HaveNoMeaning program externals trace
   none_by_trace trace h plan rows m = h rows (subst (λ p. Table p (records_of trace) rows) (only.only plan.program m.is_plan.is_program) m.is_trace)
-
-  pub none_by_traces : (first second : List ℕ) → IsNoTrace parts first ⊎ IsNoTrace parts second → HaveNoMeaningBoth program externals first second
-  none_by_traces first second (inl h) plan rows others m = none_by_trace first h plan rows m.is_first
-  none_by_traces first second (inr h) plan rows others m = h others (subst (λ p. Table p (records_of second) others) (only.only plan.program m.is_first.is_plan.is_program) m.is_second)
 
 -- texts that are read have a meaning
 module _ (program externals : List ℕ) (parts : Parts) (only : IsOnly (IsProgramOf program) parts) (planned : IsPlanned parts externals) where
@@ -72,9 +62,6 @@ module _ (program externals : List ℕ) (parts : Parts) (only : IsOnly (IsProgra
 
   pub meant : (trace : List ℕ) → IsTrace parts trace → HaveMeaning program externals trace
   meant trace is = (record { program = parts; externals = planned.0.0 }, is.0, meaning trace is)
-
-  pub both_meant : (first second : List ℕ) → IsTrace parts first × IsTrace parts second → HaveMeaningBoth program externals first second
-  both_meant first second are = (record { program = parts; externals = planned.0.0 }, are.0.0, are.1.0, record { is_first = meaning first are.0; is_second = are.1.1 })
 
 -- what holds where nothing is told holds
 pub none_so : {X : Type 0} (o : Option X) (P : Type 0) → o ≡ None → IfNone o P → P

@@ -23,8 +23,3 @@ IsNoTrace program trace = (rows : List Row) → Table program (records_of trace)
 pub record Mean (program externals trace : List ℕ) (plan : PlanParts) (rows : List Row) : Type 0 where
   pub is_plan : IsPlanOf program externals plan
   pub is_trace : Table plan.program (records_of trace) rows
-
--- the plan and the rows are the one meaning of the three texts
-pub record IsMeaning (program externals trace : List ℕ) (plan : PlanParts) (rows : List Row) : Type 0 where
-  pub is_plan : IsOnly (IsPlanOf program externals) plan
-  pub has_table : HasTable plan.program trace rows

@@ -50,10 +50,6 @@ pub record IsPairExplainedUnder (all : Bool) (plan : PlanParts) (first second : 
 abbrev pub IsPairExplained : Bool → List ℕ → List ℕ → List ℕ → List ℕ → Option (List ℕ) → Option (List ℕ) → Paired → Type 0
 IsPairExplained all program externals first second old new said = OfOnly (IsPlanOf program externals) (λ plan. IsPairExplainedUnder all plan first second old new said)
 
--- true is the answer where the traces of the four texts, which were explained, are accepted and have the same runs, and false where not
-abbrev pub IsPairExplainedAnswer : Bool → List ℕ → List ℕ → List ℕ → List ℕ → Option (List ℕ) → Option (List ℕ) → Bool → Type 0
-IsPairExplainedAnswer all program externals first second old new answer = (said : Paired) × IsPairExplained all program externals first second old new said × (IsTrue answer ↔ SaysSame said)
-
 -- a plan and two traces get no written explanation: by the checker or for want of memory they get none; or the writer failed on the line, or on the whole
 pub data PairExplainingRefusal (all : Bool) (plan : PlanParts) (rows others : List Row) (workers : ℕ) (old new : Option (List ℕ)) (f : Fault) : Type 0 where
   by_check : CheckRefusal workers f → WritesPairLineAtMost plan rows others old new f → PairExplainingRefusal all plan rows others workers old new f

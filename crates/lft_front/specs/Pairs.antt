@@ -70,7 +70,3 @@ SaysSame (paired.First b) = ⊥
 SaysSame (paired.Second b) = ⊥
 SaysSame (paired.Same runs tags) = Unit {0}
 SaysSame (paired.Differ g r) = ⊥
-
--- true is the answer where the traces of the four texts, of which a line was written, are accepted and have the same runs, and false where not
-abbrev pub IsSameAnswer : List ℕ → List ℕ → List ℕ → List ℕ → Option (List ℕ) → Option (List ℕ) → Bool → Type 0
-IsSameAnswer program externals first second old new answer = (said : Paired) × IsPaired program externals first second old new said × (IsTrue answer ↔ SaysSame said)

@@ -35,11 +35,6 @@ pub data CheckRefusal (workers : ℕ) (f : Fault) : Type 0 where
 abbrev pub TraceRefusal : Parts → List ℕ → Fault → Type 0
 TraceRefusal program trace f = (e : TraceFault) × (f.part ≡ part.Trace) × (f.number ≡ table_number e) × (is_told e ≡ true → TraceFails program (records_of trace) e)
 
--- the three texts have no meaning: the first two have no plan, or the third is no trace table
-pub data TextsRefusal (program externals trace : List ℕ) (f : Fault) : Type 0 where
-  by_load : LoadRefusal program externals f → TextsRefusal program externals trace f
-  by_trace : (plan : PlanParts) → IsPlanOf program externals plan → TraceRefusal plan.program trace f → TextsRefusal program externals trace f
-
 -- a plan and rows get no written verdict: they get none, or the writer failed on its line
 pub data JudgingRefusal (plan : PlanParts) (rows : List Row) (workers : ℕ) (old new : Option (List ℕ)) (f : Fault) : Type 0 where
   by_check : CheckRefusal workers f → JudgingRefusal plan rows workers old new f

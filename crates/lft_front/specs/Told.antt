@@ -18,7 +18,6 @@ use Rattle.lft_reasons.specs.Loops.{loop_words}
 use Rattle.lft_front.specs.Bundles.{IsBundle}
 use Rattle.lft_front.specs.Markers.{IsMissing}
 use Rattle.lft_front.specs.Meaning.{IsTrace, Mean}
-use Rattle.lft_front.specs.Pairs.{MeanBoth}
 use Rattle.lft_front.specs.declared.bundle.Marker.{Marker}
 use Rattle.lft_front.specs.declared.bundle.Marker.TheVariants as markers
 use Rattle.lft_front.specs.declared.refused.Start.{Start}
@@ -48,10 +47,6 @@ HasOrder program = (parts : Parts) × IsProgramOf program parts × HasNoLoop par
 abbrev pub IsUnplanned : Parts → List ℕ → Type 0
 IsUnplanned program externals = (plan : PlanParts) → IsPlanUnder program externals plan → ⊥
 
--- a program's text and that of its external inputs have no plan
-abbrev pub HaveNoPlan : List ℕ → List ℕ → Type 0
-HaveNoPlan program externals = (plan : PlanParts) → IsPlanOf program externals plan → ⊥
-
 -- the three texts have no meaning
 abbrev pub HaveNoMeaning : List ℕ → List ℕ → List ℕ → Type 0
 HaveNoMeaning program externals trace = (plan : PlanParts) (rows : List Row) → Mean program externals trace plan rows → ⊥
@@ -59,14 +54,6 @@ HaveNoMeaning program externals trace = (plan : PlanParts) (rows : List Row) →
 -- the three texts have a meaning
 abbrev pub HaveMeaning : List ℕ → List ℕ → List ℕ → Type 0
 HaveMeaning program externals trace = (plan : PlanParts) × (rows : List Row) × Mean program externals trace plan rows
-
--- the four texts have a meaning
-abbrev pub HaveMeaningBoth : List ℕ → List ℕ → List ℕ → List ℕ → Type 0
-HaveMeaningBoth program externals first second = (plan : PlanParts) × (rows : List Row) × (others : List Row) × MeanBoth program externals first second plan rows others
-
--- the four texts have no meaning
-abbrev pub HaveNoMeaningBoth : List ℕ → List ℕ → List ℕ → List ℕ → Type 0
-HaveNoMeaningBoth program externals first second = (plan : PlanParts) (rows others : List Row) → MeanBoth program externals first second plan rows others → ⊥
 
 -- the words tell why a program's text is refused: why it has no tree, or for which cause
 abbrev pub TellsText : List ℕ → List ℕ → Type 0
@@ -116,19 +103,10 @@ TellsRefusal text externals trace words = TellsNoPlan text externals words ⊎ O
 abbrev pub TellsOneTrace : Parts → List ℕ → List ℕ → List ℕ → Type 0
 TellsOneTrace program first second words = TellsTrace program first (codes "First trace") words ⊎ (IsTrace program first × TellsTrace program second (codes "Second trace") words)
 
--- the words tell of the first of four texts that is refused; of a loop of the reactions before the two traces
-abbrev pub TellsRefusalOfBoth : List ℕ → List ℕ → List ℕ → List ℕ → List ℕ → Type 0
-TellsRefusalOfBoth text externals first second words = TellsNoPlan text externals words ⊎ OfOnly (IsProgramOf text) (λ program. IsPlanned program externals × TellsOneTrace program first second words)
-
 -- what a program's text gives: its one program; where it has none, the words tell why
 abbrev pub Reads : List ℕ → Start → Type 0
 Reads text (start.Program parts) = IsOnly (IsProgramOf text) parts
 Reads text (start.Refused words) = HasNoProgram text × TellsText text (string_bytes words)
-
--- what a program's text and that of its external inputs give: the program, where it has a plan; where it has none, the words tell why
-abbrev pub Gives : List ℕ → List ℕ → Start → Type 0
-Gives program externals (start.Program parts) = IsOnly (IsProgramOf program) parts × IsPlanned parts externals
-Gives program externals (start.Refused words) = HaveNoPlan program externals × TellsNoPlan program externals (string_bytes words)
 
 -- the sentence on a missing marker
 abbrev pub missing_words : Marker → List ℕ

@@ -17,10 +17,7 @@ mod refused;
 mod show;
 
 pub use alone::{judge_plan_alone, judge_texts_alone};
-pub use answer::{
-    bundle_answer, explain_answer, explain_bundle_answer, explain_pair_answer, is_accepted,
-    is_same, judge_answer, pair_answer,
-};
+pub use answer::{bundle_answer, explain_bundle_answer, is_accepted, is_same};
 pub use bundle::{Bundle, split_bundle};
 pub use explain::{explain_plan, explain_texts};
 pub use explain_pair::{explain_pair_plan, explain_pair_texts};
@@ -30,7 +27,7 @@ pub use line::{accepted_line, broken_line, verdict_line};
 pub use pair::{pair_plan, pair_texts};
 pub use paired::Paired;
 pub use refused::{
-    refusal_of_bundle, refusal_of_externals, refusal_of_graph, refusal_of_pair_texts,
-    refusal_of_plan, refusal_of_program, refusal_of_texts, refusal_of_trace, refusal_of_traces,
+    refusal_of_bundle, refusal_of_externals, refusal_of_graph, refusal_of_plan, refusal_of_program,
+    refusal_of_texts, refusal_of_trace, refusal_of_traces,
 };
 pub use show::{show_program, show_text};

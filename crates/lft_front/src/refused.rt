@@ -4,7 +4,7 @@ ghost use Rattle.std.specs.Prelude.{◌≡◌, ◌++◌, ◌⊎◌, ℕ, List, I
 ghost use Rattle.lft_graph.specs.Precedence.{HasNoLoop};
 ghost use Rattle.lft_trace.specs.Faults.{is_told};
 ghost use Rattle.lft_front.specs.Meaning.{IsNoTrace, IsTrace};
-ghost use Rattle.lft_front.specs.Told.{Gives, HasNoOrder, HasOrder, HaveMeaning, HaveMeaningBoth, HaveNoMeaning, HaveNoMeaningBoth, IsBundleRefusal, IsNoTable, IsPlanned, IsReadBundle, IsTable, IsUnplanned, Reads, TellsExternals, TellsInputsOrLoop, TellsLoop, TellsNoOrder, TellsOneTrace, TellsRefusal, TellsRefusalOfBoth, TellsTrace, missing_words};
+ghost use Rattle.lft_front.specs.Told.{HasNoOrder, HasOrder, HaveMeaning, HaveNoMeaning, IsBundleRefusal, IsNoTable, IsPlanned, IsReadBundle, IsTable, IsUnplanned, Reads, TellsExternals, TellsInputsOrLoop, TellsLoop, TellsNoOrder, TellsOneTrace, TellsRefusal, TellsTrace, missing_words};
 
 use crate::bundle::{Marker, has_returned_marker, read_bundle};
 use lft_flat::Program;
@@ -18,7 +18,7 @@ use lft_tag::NoMemory;
 use lft_trace::{TraceFault, read_externals, read_trace};
 use std::alloc::Global;
 
-/// What a program's text gives, alone or with that of its external inputs: the program, or why a text is refused.
+/// What a program's text gives: the program, or why the text is refused.
 #[derive(Drop)]
 enum Start {
     Program(Program),
@@ -147,20 +147,6 @@ pub fn refusal_of_plan(
     }
 }
 
-/// What a program's text and that of its external inputs give.
-fn start_of(alloc: Global, program: &[u8], externals: &[u8]) -> Result<Start, NoMemory>
-    ensures { IfOk result (Gives program.now externals.now) }
-{
-    let flat = match read(alloc, program)? {
-        Start::Program(flat) => flat,
-        Start::Refused(words) => return Ok(Start::Refused(words)),
-    };
-    match refusal_of_plan(alloc, &flat, externals)? {
-        Some(words) => Ok(Start::Refused(words)),
-        None => Ok(Start::Program(flat)),
-    }
-}
-
 /// Why the first of three texts that is refused is: where, the line with a mark, and what helps, in lines
 /// that end with a line feed. None where all three are read. `NoMemory` too where the reader of records failed.
 ///
@@ -175,9 +161,13 @@ pub fn refusal_of_texts(
     ensures tells { IfOk result (λ told. IfSome told (λ words. TellsRefusal program.now externals.now trace.now (string_bytes words))) }
     ensures none { IfOk result (λ told. IfNone told (HaveMeaning program.now externals.now trace.now)) }
 {
-    match start_of(alloc, program, externals)? {
-        Start::Program(flat) => refusal_of_trace(alloc, &flat, trace, "Trace"),
-        Start::Refused(words) => Ok(Some(words)),
+    let flat = match read(alloc, program)? {
+        Start::Program(flat) => flat,
+        Start::Refused(words) => return Ok(Some(words)),
+    };
+    match refusal_of_plan(alloc, &flat, externals)? {
+        Some(words) => Ok(Some(words)),
+        None => refusal_of_trace(alloc, &flat, trace, "Trace"),
     }
 }
 
@@ -195,24 +185,6 @@ pub fn refusal_of_traces(
     match refusal_of_trace(alloc, program, first, "First trace")? {
         Some(words) => Ok(Some(words)),
         None => refusal_of_trace(alloc, program, second, "Second trace"),
-    }
-}
-
-/// The same of four texts: a program, its external inputs and two traces.
-pub fn refusal_of_pair_texts(
-    alloc: Global,
-    program: &[u8],
-    externals: &[u8],
-    first: &[u8],
-    second: &[u8],
-) -> Result<Option<String>, NoMemory>
-    ensures no_meaning { IfOk result (λ told. IfSome told (λ _. HaveNoMeaningBoth program.now externals.now first.now second.now)) }
-    ensures tells { IfOk result (λ told. IfSome told (λ words. TellsRefusalOfBoth program.now externals.now first.now second.now (string_bytes words))) }
-    ensures none { IfOk result (λ told. IfNone told (HaveMeaningBoth program.now externals.now first.now second.now)) }
-{
-    match start_of(alloc, program, externals)? {
-        Start::Program(flat) => refusal_of_traces(alloc, &flat, first, second),
-        Start::Refused(words) => Ok(Some(words)),
     }
 }
 

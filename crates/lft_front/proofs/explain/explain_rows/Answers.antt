@@ -2,7 +2,7 @@ use Rattle.std.proofs.Common.{inl, sym, subst}
 use Rattle.lft_flat.specs.Parts.{Parts}
 use Rattle.lft_front.specs.Lines.{HasReaction}
 use Rattle.lft_front.specs.Explained.ExplainingRefusal.{by_check}
-use Rattle.lft_front.proofs.Behind.{keeps_self}
+use Rattle.std.proofs.KnownBytes.{Keeps-refl}
 use Rattle.lft_front.proofs.Judging.{has_reaction}
 use Rattle.lft_front.proofs.Explaining.{line_refused, all_written, rest_refused}
 use Rattle.lft_front.proofs.explain.explain_rows.Goals as goal
@@ -11,7 +11,7 @@ pub report-requires : goal.report-requires
 report-requires g c = λ b e. subst (λ (p : Parts). HasReaction p b.reaction) (sym c.program.ensures.value) (has_reaction c.args.plan.now c.args.rows.now c.requires.fit c.in-Ok.verdict c.in-Ok.ensures.verdict b e)
 
 pub returns-in-Err-clause-refused : goal.returns-in-Err-clause-refused
-returns-in-Err-clause-refused g c = by_check c.in-Err.ensures.fault (inl (keeps_self (g.W.Write.contents c.args.out.now)))
+returns-in-Err-clause-refused g c = by_check c.in-Err.ensures.fault (inl (Keeps-refl (g.W.Write.contents c.args.out.now)))
 
 pub returns-in-Err-report-clause-refused : goal.returns-in-Err-report-clause-refused
 returns-in-Err-report-clause-refused g c = line_refused c.args.all c.args.plan.now c.args.rows.now c.args.workers c.program.result.now c.program.ensures.value c.in-Ok.verdict c.in-Ok.ensures.verdict c.in-Ok.ensures.workers (g.W.Write.contents c.args.out.now) (g.W.Write.contents c.report.new.out) (g.W.Write.contents c.report.new.out) c.in-Err-report.fault c.in-Err-report.ensures.front c.in-Err-report.ensures.kept

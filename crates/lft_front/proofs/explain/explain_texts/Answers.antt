@@ -1,6 +1,6 @@
 use Rattle.std.proofs.Common.{inl, inr}
 use Rattle.std.proofs.lemmas.Result.{IfErr-weaker, IfOk-weaker}
-use Rattle.lft_front.proofs.Behind.{keeps_self}
+use Rattle.std.proofs.KnownBytes.{Keeps-refl}
 use Rattle.lft_front.proofs.Judging.{rows_of_plan}
 use Rattle.lft_front.proofs.explain.explain_texts.Goals as goal
 
@@ -14,7 +14,7 @@ pub returns-in-Ok-clause-none : goal.returns-in-Ok-clause-none
 returns-in-Ok-clause-none g c = IfErr-weaker c.explain_plan.result _ _ (λ f h t other rows x. h t rows (rows_of_plan c.args.program.now c.args.externals.now c.args.trace.now c.in-Ok.plan c.in-Ok.ensures.plan other rows x)) c.explain_plan.ensures.none
 
 pub returns-in-Err-clause-refused : goal.returns-in-Err-clause-refused
-returns-in-Err-clause-refused g c = inl (c.in-Err.ensures.refused, keeps_self (g.W.Write.contents c.args.out.now))
+returns-in-Err-clause-refused g c = inl (c.in-Err.ensures.refused, Keeps-refl (g.W.Write.contents c.args.out.now))
 
 pub returns-in-Err-clause-none : goal.returns-in-Err-clause-none
 returns-in-Err-clause-none g c = λ t plan rows x. c.in-Err.ensures.none t plan x.is_plan

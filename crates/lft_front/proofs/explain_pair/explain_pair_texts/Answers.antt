@@ -1,6 +1,6 @@
 use Rattle.std.proofs.Common.{inl, inr}
 use Rattle.std.proofs.lemmas.Result.{IfErr-weaker, IfOk-weaker}
-use Rattle.lft_front.proofs.Behind.{keeps_self}
+use Rattle.std.proofs.KnownBytes.{Keeps-refl}
 use Rattle.lft_front.proofs.Pairing.{none_of_both}
 use Rattle.lft_front.proofs.explain_pair.explain_pair_texts.Goals as goal
 
@@ -14,7 +14,7 @@ pub returns-in-Ok-clause-none : goal.returns-in-Ok-clause-none
 returns-in-Ok-clause-none g c = IfErr-weaker c.explain_pair_plan.result _ _ (λ f h t other one two x. none_of_both c.args.program.now c.args.externals.now c.args.first.now c.args.second.now c.in-Ok.plan c.in-Ok.ensures.plan (h t) other one two x) c.explain_pair_plan.ensures.none
 
 pub returns-in-Err-clause-refused : goal.returns-in-Err-clause-refused
-returns-in-Err-clause-refused g c = inl (c.in-Err.ensures.refused, keeps_self (g.W.Write.contents c.args.out.now))
+returns-in-Err-clause-refused g c = inl (c.in-Err.ensures.refused, Keeps-refl (g.W.Write.contents c.args.out.now))
 
 pub returns-in-Err-clause-none : goal.returns-in-Err-clause-none
 returns-in-Err-clause-none g c = λ t plan rows others x. c.in-Err.ensures.none t plan x.is_first.is_plan
