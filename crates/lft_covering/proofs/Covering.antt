@@ -31,16 +31,6 @@ use Rattle.lft_covering.specs.Covered.CoverRefusalUnder.{by_check, by_trace, by_
 use Rattle.lft_covering.specs.declared.covered.Covered.{Covered}
 use Rattle.lft_covering.specs.declared.covered.Covered.TheVariants.{Accepted, Broken}
 
--- what follows of a value, where there is one
-pub if_ok : {T E : Type 0} {P Q : T → Type 0} (r : Result T E) → IfOk r P → ((x : T) → P x → Q x) → IfOk r Q
-if_ok (Ok x) h f = f x h
-if_ok (Err e) h f = tt
-
--- what follows of a fault, where there is one
-pub if_err : {T E : Type 0} {P Q : E → Type 0} (r : Result T E) → IfErr r P → ((e : E) → P e → Q e) → IfErr r Q
-if_err (Ok x) h f = tt
-if_err (Err e) h f = f e h
-
 -- what was written of one kind is of another
 pub written_as : {T E : Type 0} {P Q : List ℕ → Type 0} (old new : Option (List ℕ)) (r : Result T E) → OnOk r (Writes P old new) → ((text : List ℕ) → P text → Q text) → OnOk r (Writes Q old new)
 written_as old new (Ok x) (text, is, w) f = (text, f text is, w)

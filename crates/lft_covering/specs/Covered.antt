@@ -1,7 +1,6 @@
 -- A verdict on a trace table with what an accepted one exercised, and what was written of both.
-use Rattle.std.specs.Prelude.{◌≡◌, ◌↔◌, ◌++◌, ℕ, Bool, true, false, IsTrue, List, [], Option, length}
+use Rattle.std.specs.Prelude.{◌≡◌, ◌++◌, ℕ, Bool, true, false, List, [], Option, length}
 use Rattle.std.specs.Io.KnownBytes.{Appends}
-use Rattle.lft_flat.specs.Parts.{Parts}
 use Rattle.lft_steps.specs.declared.row.Row.{Row}
 use Rattle.lft_trace.specs.declared.fault.TraceFault.{TraceFault}
 use Rattle.lft_trace.specs.Faults.{is_told}
@@ -23,15 +22,12 @@ use Rattle.lft_load.specs.Refusals.{LoadRefusal}
 use Rattle.lft_load.specs.Written.{AppendsFront}
 use Rattle.lft_load.specs.declared.fault.Fault.{Fault}
 use Rattle.lft_load.specs.declared.fault.Part.TheVariants as part
-use Rattle.lft_front.specs.Judged.{Accepts, AcceptedRuns}
+use Rattle.lft_front.specs.Judged.{AcceptedRuns}
 use Rattle.lft_front.specs.Lines.{HasReaction, line_of}
+use Rattle.lft_front.specs.Meaning.{HasTable}
 use Rattle.lft_front.specs.Refusals.{CheckRefusal}
 use Rattle.lft_covering.specs.declared.covered.Covered.{Covered}
 use Rattle.lft_covering.specs.declared.covered.Covered.TheVariants.{Accepted, Broken}
-
--- the rows are the one list of rows of the trace table
-abbrev pub HasTable : Parts → List ℕ → List Row → Type 0
-HasTable program trace rows = IsOnly (Table program (records_of trace)) rows
 
 -- the verdict alone
 abbrev pub verdict_in : Covered → Verdict
@@ -76,10 +72,6 @@ pub record IsJudgedCover (list : Bool) (program externals trace : List ℕ) (old
   pub plan : PlanParts
   pub is_plan : IsOnly (IsPlanOf program externals) plan
   pub judged : IsJudgedCoverUnder list plan trace old new v
-
--- true is the answer where the verdict accepts, and false where it doesn't
-abbrev pub IsAcceptedCover : Bool → List ℕ → List ℕ → List ℕ → Option (List ℕ) → Option (List ℕ) → Bool → Type 0
-IsAcceptedCover list program externals trace old new answer = (v : Verdict) × IsJudgedCover list program externals trace old new v × (IsTrue answer ↔ Accepts v)
 
 -- the trace is no table of the plan's program
 abbrev pub IsUnread : PlanParts → List ℕ → Fault → Type 0

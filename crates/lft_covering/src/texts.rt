@@ -13,7 +13,7 @@ ghost use Rattle.lft_load.specs.Refusals.{is_of_text};
 ghost use Rattle.lft_load.specs.declared.fault.Part.TheVariants as part;
 ghost use Rattle.lft_front.specs.Explained.{WriteRefusal, Writes};
 ghost use Rattle.lft_front.specs.Meaning.{Mean};
-ghost use Rattle.lft_covering.specs.Covered.{CoverRefusal, CoverRefusalUnder, IsAcceptedCover, IsCoverText, IsCovered, IsJudgedCover, IsJudgedCoverUnder, verdict_in};
+ghost use Rattle.lft_covering.specs.Covered.{CoverRefusal, CoverRefusalUnder, IsCoverText, IsCovered, IsJudgedCover, IsJudgedCoverUnder, verdict_in};
 
 use crate::covered::{Covered, cover_table};
 use lft_check::Verdict;
@@ -180,23 +180,4 @@ pub fn cover_texts<W: Write, R: Threads + Sync>(
         Ok(plan) => cover_plan(rt, alloc, &plan, trace, workers, list, out),
         Err(fault) => Err(fault),
     }
-}
-
-/// Whether the trace of three texts is accepted, whose verdict's line is written, with what it exercised.
-pub fn cover_answer<W: Write, R: Threads + Sync>(
-    rt: &R,
-    alloc: Global,
-    program: &[u8],
-    externals: &[u8],
-    trace: &[u8],
-    workers: u32,
-    list: bool,
-    out: &mut W,
-) -> Result<bool, Fault>
-    ensures accepted { IfOk result (IsAcceptedCover list program.now externals.now trace.now (W.contents out.old) (W.contents out.new)) }
-    ensures refused { IfErr result (CoverRefusal list program.now externals.now trace.now workers (W.contents out.old) (W.contents out.new)) }
-    ensures kept { IfErr result (λ f. f.part ≢ part.Write → Keeps (W.contents out.old) (W.contents out.new)) }
-{
-    let verdict = cover_texts(rt, alloc, program, externals, trace, workers, list, out)?;
-    Ok(matches!(verdict, Verdict::Accepted { .. }))
 }

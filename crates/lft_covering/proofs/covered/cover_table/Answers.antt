@@ -1,12 +1,13 @@
 use Rattle.std.proofs.Common.{◌≡◌, inr, List, true, sym, subst}
+use Rattle.std.proofs.lemmas.Result.{IfOk-weaker}
 use Rattle.lft_flat.specs.Parts.{Parts}
 use Rattle.lft_steps.specs.declared.row.Row.{Row}
 use Rattle.lft_trace.specs.Faults.{is_told}
 use Rattle.lft_trace.specs.Records.{records_of}
 use Rattle.lft_trace.specs.Traces.{Table, TraceFails}
 use Rattle.lft_trace.proofs.TraceFacts.{one_table}
-use Rattle.lft_covering.specs.Covered.{HasTable}
-use Rattle.lft_covering.proofs.Covering.{if_ok}
+use Rattle.lft_front.specs.Meaning.{HasTable}
+use Rattle.lft_covering.specs.Covered.{IsCovered, IsCoveredTable}
 use Rattle.lft_covering.proofs.covered.cover_table.Goals as goal
 
 pub returns-in-Some-clause-covered : goal.returns-in-Some-clause-covered
@@ -25,7 +26,7 @@ returns-in-Ok-clause-covered g c =
       is = subst (λ (p : Parts). Table p records c.in-Ok.rows) same c.in-Ok.ensures.table;
       only = λ (other : List Row) (h : Table plan.program records other). c.in-Ok.ensures.one other (subst (λ (p : Parts). Table p records other) (sym same) h);
     } in
-    if_ok c.cover_rows.result c.cover_rows.ensures.covered (λ covered is. (c.in-Ok.rows, table, is))
+    IfOk-weaker c.cover_rows.result (IsCovered plan c.in-Ok.rows) (IsCoveredTable plan c.args.trace.now) (λ covered is. (c.in-Ok.rows, table, is)) c.cover_rows.ensures.covered
 
 pub returns-in-Err-clause-refused : goal.returns-in-Err-clause-refused
 returns-in-Err-clause-refused g c =
