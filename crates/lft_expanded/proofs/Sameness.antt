@@ -1,0 +1,22 @@
+-- The flat program of a core tree is that of the whole program.
+use Rattle.std.proofs.Common.{◌≡◌, ℕ, List, Option, Some, None, option_map, refl, sym, ap, subst, ◌∙◌}
+use Rattle.lft_expanded.specs.Core.{expanded_tree}
+use Rattle.lft_expanded.specs.Expanded.{Contents}
+use Rattle.lft_expanded.specs.Flat.{IsFlat}
+use Rattle.lft_expanded.specs.Laws.{CoreLaw, SameLaw}
+use Rattle.lft_expanded.specs.Same.{awake}
+use Rattle.lft_expanded.specs.Whole.{expanded_files}
+use Rattle.lft_expanded.proofs.Flattened.{flat_out}
+
+pub core_law : CoreLaw
+core_law = flat_out
+
+awoken : (path : List ℕ) (q : Option (List ℕ)) → q ≡ None → (o : Option Contents) → option_map (awake path q) o ≡ o
+awoken path q none None = refl
+awoken path q none (Some c) = ap (λ v. Some (awake path v c)) none
+
+pub same_law : SameLaw
+same_law files tree same wake p flat = subst (λ e. IsFlat e p) at_each (flat_out tree p flat)
+  where
+    at_each : expanded_tree tree ≡ expanded_files files same.widths
+    at_each = λ i path. (sym (awoken path (same.never path) (wake path) (expanded_tree tree path)) ∙ same.same path) i
