@@ -1,0 +1,10 @@
+pub mod Channels
+pub mod ClassNames
+pub mod Fitting
+pub mod Found
+pub mod Giving
+pub mod Lineage
+pub mod MemberNames
+pub mod Nested
+pub mod Shapes
+pub mod Widths
