@@ -23,13 +23,13 @@ use Rattle.lft_shapes.specs.Causes.{HasCause, IsCauseInside, SaysBelow, last_tok
 use Rattle.lft_shapes.specs.Chains.{base_of, extended}
 use Rattle.lft_shapes.specs.Circles.{HasCircle, HasNoParameter, HasWrongGiven}
 use Rattle.lft_shapes.specs.Makings.{AreShapes}
+use Rattle.lft_shapes.specs.Needs.{IsMarkedByIndex, IsReadyAt, Widths}
 use Rattle.lft_shapes.specs.Refused.{HasCauseIn, HasNoOneMain, IsCauseIn}
 use Rattle.lft_shapes.specs.Scopes.{AreScopes, IsMain}
 use Rattle.lft_shapes.specs.Shapes.{inside, is_at, tables, width_of}
-use Rattle.lft_shapes.specs.Sized.{IsMarkedByIndex, IsReadyAt}
 use Rattle.lft_shapes.specs.Walks.{Reaches, further, itself}
 use Rattle.lft_shapes.proofs.Goings.{noted_child}
-use Rattle.lft_shapes.proofs.Sizing.{inner_means, needs_name}
+use Rattle.lft_shapes.proofs.Decided.{inner_means, needs_name}
 use Rattle.lft_shapes.proofs.Needing.{below_inside, below_reached, declared, instance_is, is_instance, parameter_has, parameter_of}
 
 -- a cause of a reactor with all that it extends
@@ -168,7 +168,7 @@ index_is_below scopes first shapes s k shape m instance t inner given is is_insi
         inner = inner.class.number;
         is_inside = instance_is scopes d.class d.which (m.file, m.member.now) d.is_there ∙ means;
         has_index = parameter_has scopes (core inner) bank_index h.index (all.built t (core inner) within) h.is_index;
-        is_needed = needs_name scopes shapes t inner bank_index h.index (all.built t (core inner) within) (ready.inner k t is_inside) is_inner h.is_index h.is_marked;
+        is_needed = needs_name scopes Widths shapes t inner bank_index h.index (all.built t (core inner) within) (ready.inner k t is_inside) is_inner h.is_index h.is_marked;
       });
     }
 

@@ -16,7 +16,7 @@ use Rattle.lft_shapes.specs.declared.shapes.Thing.TheVariants as thing
 use Rattle.lft_shapes.specs.Below.{Declares, HasParameter, IsBelow, base, inner, instance_at, itself as self}
 use Rattle.lft_shapes.specs.Built.{Core, IsBuilt, instance_of, members_at, parameters_at}
 use Rattle.lft_shapes.specs.Chains.{base_of, extended}
-use Rattle.lft_shapes.specs.Sized.{HasMember}
+use Rattle.lft_shapes.specs.Needs.{HasMember}
 use Rattle.lft_shapes.specs.Walks.{Has, IsBehind, IsList, Reaches, Ways, further, itself, nothing, one}
 use Rattle.lft_shapes.proofs.Refusing.{listed_of}
 
@@ -45,15 +45,23 @@ declared scopes c k m is at =
     let from = listed_of (members_at scopes) is.chain k (locate m) (ap (λ l. slice_get l k) (sym is.has_members) ∙ mapped locate c.members k m at) in
     record { class = from.1.0; reached = is.extends.all.reached from.1.0 (from.0, from.1.1); which = from.1.2.0; is_there = from.1.2.1 }
 
+-- what one of the reactors that it extends has, it has
+reached_there : {X Y : Type 0} (scopes : Scopes) (c : Core) (f : ℕ → List Y) (locate : X → Y) (xs : List X) (class which : ℕ) (y : Y) → (is : IsBuilt scopes c) → map locate xs ≡ flat_map f is.chain → Reaches (base_of scopes) c.class.number class → slice_get (f class) which ≡ Some y → (k : ℕ) × ((x : X) × (slice_get xs k ≡ Some x) × (locate x ≡ y))
+reached_there scopes c f locate xs class which y is all reached at =
+    let has = listed_all (base_of scopes) c.class.number is.chain is.extends.all class reached in
+    let mem = mem_flat f class y is.chain (mem_get is.chain has.0 class has.1) (mem_get (f class) which y at) in
+    let there = get_mem y (flat_map f is.chain) mem in
+    (there.0, mapped_from locate xs there.0 y (ap (λ l. slice_get l there.0) all ∙ there.1))
+
 -- a parameter that the reactor has is one of its shape
 pub parameter_of : (scopes : Scopes) (c : Core) (q : List ℕ) → IsBuilt scopes c → HasParameter scopes c.class.number q → (n : ℕ) × (c.things q ≡ Some (thing.Parameter n))
 parameter_of scopes c q is h =
-    let locate : InheritedParameter → ℕ × Parameter = λ x. (x.file, x.parameter.now) in
-    let has = listed_all (base_of scopes) c.class.number is.chain is.extends.all h.class h.reached in
-    let mem = mem_flat (parameters_at scopes) h.class h.parameter is.chain (mem_get is.chain has.0 h.class has.1) (mem_get (parameters_at scopes h.class) h.which h.parameter h.is_declared) in
-    let there = get_mem h.parameter (flat_map (parameters_at scopes) is.chain) mem in
-    let p = mapped_from locate c.parameters there.0 h.parameter (ap (λ l. slice_get l there.0) is.has_parameters ∙ there.1) in
-    (there.0, (is.has_names q (thing.Parameter there.0)).1 (p.0, p.1, ap (λ (x : ℕ × Parameter). string_bytes x.1.name.text) p.2 ∙ h.has_name))
+    let p = reached_there scopes c (parameters_at scopes) (λ (x : InheritedParameter). (x.file, x.parameter.now)) c.parameters h.class h.which h.parameter is is.has_parameters h.reached h.is_declared in
+    (p.0, (is.has_names q (thing.Parameter p.0)).1 (p.1.0, p.1.1, ap (λ (x : ℕ × Parameter). string_bytes x.1.name.text) p.1.2 ∙ h.has_name))
+
+-- so is a member
+pub member_of : (scopes : Scopes) (c : Core) (m : ℕ × Member) → IsBuilt scopes c → HasMember scopes c.class.number m → (k : ℕ) × ((x : Inherited) × (slice_get c.members k ≡ Some x) × ((x.file, x.member.now) ≡ m))
+member_of scopes c m is h = reached_there scopes c (members_at scopes) (λ (x : Inherited). (x.file, x.member.now)) c.members h.class h.which m is is.has_members h.reached h.is_there
 
 -- and one of its shape is one that it has
 pub parameter_has : (scopes : Scopes) (c : Core) (q : List ℕ) (n : ℕ) → IsBuilt scopes c → c.things q ≡ Some (thing.Parameter n) → HasParameter scopes c.class.number q

@@ -16,10 +16,10 @@ use Rattle.lft_shapes.specs.Below.{Declares, HasParameter, IsBelow, bank_index, 
 use Rattle.lft_shapes.specs.Built.{members_at}
 use Rattle.lft_shapes.specs.Chains.{base_of}
 use Rattle.lft_shapes.specs.Circles.{GivesTwice, NamesAt}
+use Rattle.lft_shapes.specs.Needs.{NeedsName, Widths}
 use Rattle.lft_shapes.specs.Refused.{HasNoOneMain, IsCauseIn}
 use Rattle.lft_shapes.specs.Scopes.{AreScopes, IsMain, meaning_in}
 use Rattle.lft_shapes.specs.Shapes.{width_of}
-use Rattle.lft_shapes.specs.Sized.{Sizes}
 use Rattle.lft_shapes.specs.Unnamed.{HasTwoReactors, ImportsNone}
 use Rattle.lft_shapes.specs.Walks.{Reaches}
 
@@ -90,7 +90,7 @@ pub record IsByIndex (scopes : Scopes) (r : ℕ) (place : Place) : Type 0 where
   pub inner : ℕ
   pub is_inside : instance_at scopes r which ≡ Some inner
   pub has_index : HasParameter scopes inner bank_index
-  pub is_needed : Sizes scopes inner bank_index
+  pub is_needed : NeedsName scopes Widths inner bank_index
 
 -- what holds of an instance that the reactor declares, or of a width that it has, for each cause
 abbrev pub IsCauseInside : Scopes → ℕ → Why → Place → Type 0

@@ -5,10 +5,10 @@ pub mod Chains
 pub mod Circles
 pub mod Makings
 pub mod Naming
+pub mod Needs
 pub mod Nestings
 pub mod Refused
 pub mod Scopes
 pub mod Shapes
-pub mod Sized
 pub mod Unnamed
 pub mod Walks

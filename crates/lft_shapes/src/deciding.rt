@@ -1,16 +1,15 @@
 //! Which parameters decide widths, and which are times.
 
-ghost use Rattle.std.specs.Prelude.{◌≡◌, ◌≢◌, ℕ, Some, IfErr, IfOk, IfSome, OnOk, slice_get, true};
+ghost use Rattle.std.specs.Prelude.{◌≡◌, ◌≢◌, ℕ, Some, IfErr, IfNone, IfOk, IfSome, OnOk, slice_get, true};
 ghost use Rattle.lft_shapes.specs.declared.scopes.Scopes.{Scopes};
 ghost use Rattle.lft_shapes.specs.Built.{cores};
 ghost use Rattle.lft_shapes.specs.Causes.{SaysBelow};
 ghost use Rattle.lft_shapes.specs.Circles.{HasNoParameter};
 ghost use Rattle.lft_shapes.specs.Shapes.{tables};
-ghost use Rattle.lft_shapes.specs.Sized.{IsMarkedByIndex, IsParameterIn, IsPassed, IsPassedIn, IsReady, IsReadyAt, IsSized, IsSizing, MarksSuch, NamesParameter};
+ghost use Rattle.lft_shapes.specs.Needs.{AreMarks, HasNeed, IsDecided, IsMarkedByIndex, IsParameterIn, IsPassed, IsPassedIn, IsReady, IsReadyAt, IsTimeIn, Marks, NamesParameter, Times, Widths};
 
 use crate::shapes::{Inherited, Shape};
 use lft_sources::{Stop, Why};
-use lft_tag::NoMemory;
 use lft_whole::{Assignment, Connection, Count, Expression, Instance, Member, Value, Width};
 use std::alloc::Global;
 
@@ -23,7 +22,8 @@ struct Needs {
 
 /// The parameter that is named where a value stands.
 fn named(shape: &Shape, value: &Expression) -> Option<usize>
-    ensures { IfSome result (IsParameterIn shape.now value.now) }
+    ensures some { IfSome result (IsParameterIn shape.now value.now) }
+    ensures none { IfNone result ((n : ℕ) → IsParameterIn shape.now value.now n → ⊥) }
 {
     match &value.value {
         Value::Word(word) => shape.parameter(word.as_str()),
@@ -33,7 +33,7 @@ fn named(shape: &Shape, value: &Expression) -> Option<usize>
 
 /// Notes the parameter of this number.
 fn mark(list: &mut Vec<bool>, parameter: usize)
-    ensures { MarksSuch (λ n. n ≡ parameter) list.old.items list.new.items }
+    ensures { Marks (λ n. n ≡ parameter) list.old.items list.new.items }
 {
     if parameter < list.len() {
         list[parameter] = true;
@@ -42,7 +42,7 @@ fn mark(list: &mut Vec<bool>, parameter: usize)
 
 /// Notes the parameter of this number, if it is needed.
 fn mark_if(list: &mut Vec<bool>, parameter: usize, is_needed: bool)
-    ensures { MarksSuch (λ n. (is_needed ≡ true) × (n ≡ parameter)) list.old.items list.new.items }
+    ensures { Marks (λ n. (is_needed ≡ true) × (n ≡ parameter)) list.old.items list.new.items }
 {
     if is_needed {
         mark(list, parameter);
@@ -65,28 +65,33 @@ fn refuse_by_index(inner: &Shape, file: usize, instance: &Instance) -> Result<()
 impl Needs {
     /// Notes what stands where a time does.
     fn note_time(&mut self, shape: &Shape, value: &Option<Expression>)
-        ensures { self.new.sized ≡ self.old.sized }
+        ensures sized { self.new.sized ≡ self.old.sized }
+        ensures timed { Marks (IsTimeIn shape.now value.now) self.old.timed.items self.new.timed.items }
     {
-        if let Some(value) = value
-            && let Some(parameter) = named(shape, value)
-        {
-            mark(&mut self.timed, parameter);
-        }
+        let Some(value) = value else {
+            return;
+        };
+        let Some(parameter) = named(shape, value) else {
+            return;
+        };
+        mark(&mut self.timed, parameter);
     }
 
     /// Notes the parameters that a width names.
     fn note_width(&mut self, shape: &Shape, file: usize, width: &Option<Width>) -> Result<(), Stop>
-        ensures marks { OnOk result (MarksSuch (NamesParameter shape.now width.now) self.old.sized.items self.new.sized.items) }
+        ensures sized { OnOk result (Marks (NamesParameter shape.now width.now) self.old.sized.items self.new.sized.items) }
+        ensures timed { self.new.timed ≡ self.old.timed }
         ensures cause { IfErr result (HasNoParameter shape.now file width.now) }
     {
-        if let Some(width) = width {
-            for term in &width.terms {
-                if let Count::Word(word) = &term.count {
-                    let Some(parameter) = shape.parameter(word.as_str()) else {
-                        return Err(Stop::at(Why::UnknownParameter, file, term.at));
-                    };
-                    mark(&mut self.sized, parameter);
-                }
+        let Some(width) = width else {
+            return Ok(());
+        };
+        for term in &width.terms {
+            if let Count::Word(word) = &term.count {
+                let Some(parameter) = shape.parameter(word.as_str()) else {
+                    return Err(Stop::at(Why::UnknownParameter, file, term.at));
+                };
+                mark(&mut self.sized, parameter);
             }
         }
         Ok(())
@@ -94,7 +99,8 @@ impl Needs {
 
     /// Notes the parameter that is given to one that an instance needs.
     fn note_assignment(&mut self, shape: &Shape, inner: &Shape, assignment: &Assignment)
-        ensures { MarksSuch (IsPassed shape.now inner.now assignment.now) self.old.sized.items self.new.sized.items }
+        ensures sized { Marks (IsPassed Widths shape.now inner.now assignment.now) self.old.sized.items self.new.sized.items }
+        ensures timed { Marks (IsPassed Times shape.now inner.now assignment.now) self.old.timed.items self.new.timed.items }
     {
         let Some(needed) = inner.parameter(assignment.name.text.as_str()) else {
             return;
@@ -108,7 +114,8 @@ impl Needs {
 
     /// Notes the parameters that are given to those that an instance needs.
     fn note_given(&mut self, shape: &Shape, inner: &Shape, given: &[Assignment])
-        ensures { MarksSuch (IsPassedIn shape.now inner.now given.now) self.old.sized.items self.new.sized.items }
+        ensures sized { Marks (IsPassedIn Widths shape.now inner.now given.now) self.old.sized.items self.new.sized.items }
+        ensures timed { Marks (IsPassedIn Times shape.now inner.now given.now) self.old.timed.items self.new.timed.items }
     {
         for assignment in given {
             self.note_assignment(shape, inner, assignment);
@@ -117,7 +124,8 @@ impl Needs {
 
     /// Notes what a connection needs.
     fn note_connection(&mut self, shape: &Shape, connection: &Connection)
-        ensures { self.new.sized ≡ self.old.sized }
+        ensures sized { self.new.sized ≡ self.old.sized }
+        ensures timed { Marks (IsTimeIn shape.now connection.now.delay) self.old.timed.items self.new.timed.items }
     {
         self.note_time(shape, &connection.delay);
     }
@@ -131,7 +139,8 @@ impl Needs {
         inherited: Inherited,
         instance: &Instance,
     ) -> Result<(), Stop>
-        ensures marks { OnOk result ((scopes : Scopes) (first s : ℕ) → IsReadyAt scopes first shapes.now s shape.now number inherited.entry → inherited.entry.member.now ≡ Member.Instance instance.now → MarksSuch (IsSizing scopes shape.now) self.old.sized.items self.new.sized.items) }
+        ensures sized { OnOk result (Marks (HasNeed Widths shapes.now shape.now number (Member.Instance instance.now)) self.old.sized.items self.new.sized.items) }
+        ensures timed { OnOk result (Marks (HasNeed Times shapes.now shape.now number (Member.Instance instance.now)) self.old.timed.items self.new.timed.items) }
         ensures cause { IfErr result (λ stop. (scopes : Scopes) (first s : ℕ) → IsReadyAt scopes first shapes.now s shape.now number inherited.entry → inherited.entry.member.now ≡ Member.Instance instance.now → SaysBelow scopes first stop) }
     {
         self.note_width(shape, inherited.file, &instance.width)?;
@@ -154,7 +163,8 @@ impl Needs {
         number: usize,
         inherited: Inherited,
     ) -> Result<(), Stop>
-        ensures marks { OnOk result ((scopes : Scopes) (first s : ℕ) → IsReadyAt scopes first shapes.now s shape.now number inherited.entry → MarksSuch (IsSizing scopes shape.now) self.old.sized.items self.new.sized.items) }
+        ensures sized { OnOk result (Marks (HasNeed Widths shapes.now shape.now number inherited.entry.member.now) self.old.sized.items self.new.sized.items) }
+        ensures timed { OnOk result (Marks (HasNeed Times shapes.now shape.now number inherited.entry.member.now) self.old.timed.items self.new.timed.items) }
         ensures cause { IfErr result (λ stop. (scopes : Scopes) (first s : ℕ) → IsReadyAt scopes first shapes.now s shape.now number inherited.entry → SaysBelow scopes first stop) }
     {
         match inherited.member {
@@ -174,26 +184,16 @@ impl Needs {
     }
 }
 
-/// As many times `false`.
-fn none(alloc: Global, count: usize) -> Result<Vec<bool>, NoMemory>
-    ensures { IfOk result (λ list. (n : ℕ) → slice_get list.items n ≡ Some true → ⊥) }
-{
-    let mut list = Vec::new(alloc);
-    for _ in 0..count {
-        list.push(false)?;
-    }
-    Ok(list)
-}
-
 /// What a shape needs of its parameters, where that is known of the shapes in it.
 fn needs_of(alloc: Global, shapes: &[Shape], shape: &Shape) -> Result<Needs, Stop>
-    ensures marks { IfOk result (λ needs. (scopes : Scopes) (first s : ℕ) → IsReady scopes first shapes.now s → slice_get shapes.now s ≡ Some shape.now → (n : ℕ) → slice_get needs.sized.items n ≡ Some true → IsSizing scopes shape.now n) }
+    ensures sized { IfOk result (λ needs. AreMarks Widths shapes.now shape.now needs.sized.items) }
+    ensures timed { IfOk result (λ needs. AreMarks Times shapes.now shape.now needs.timed.items) }
     ensures cause { IfErr result (λ stop. (scopes : Scopes) (first s : ℕ) → IsReady scopes first shapes.now s → slice_get shapes.now s ≡ Some shape.now → SaysBelow scopes first stop) }
 {
     let count = shape.parameters.len();
     let mut needs = Needs {
-        sized: none(alloc, count)?,
-        timed: none(alloc, count)?,
+        sized: vec![in alloc; false; count]?,
+        timed: vec![in alloc; false; count]?,
     };
     for number in 0..shape.members.len() {
         needs.note(shapes, shape, number, shape.members[number])?;
@@ -205,8 +205,8 @@ fn needs_of(alloc: Global, shapes: &[Shape], shape: &Shape) -> Result<Needs, Sto
 pub(crate) fn decide(alloc: Global, shapes: &mut Vec<Shape>, number: usize) -> Result<(), Stop>
     ensures tables { OnOk result (tables shapes.new.items ≡ tables shapes.old.items) }
     ensures cores { OnOk result (cores shapes.new.items ≡ cores shapes.old.items) }
-    ensures sized { OnOk result ((scopes : Scopes) (first : ℕ) → IsReady scopes first shapes.old.items number → IsSized scopes shapes.new.items number) }
-    ensures kept { OnOk result ((scopes : Scopes) (s : ℕ) → s ≢ number → IsSized scopes shapes.old.items s → IsSized scopes shapes.new.items s) }
+    ensures decided { OnOk result ((scopes : Scopes) (first : ℕ) → IsReady scopes first shapes.old.items number → IsDecided scopes shapes.new.items number) }
+    ensures kept { OnOk result ((scopes : Scopes) (s : ℕ) → s ≢ number → IsDecided scopes shapes.old.items s → IsDecided scopes shapes.new.items s) }
     ensures cause { IfErr result (λ stop. (scopes : Scopes) (first : ℕ) → IsReady scopes first shapes.old.items number → SaysBelow scopes first stop) }
 {
     if number >= shapes.len() {

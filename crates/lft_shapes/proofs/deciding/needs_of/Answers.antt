@@ -1,19 +1,25 @@
-use Rattle.std.proofs.Common.{◌<◌, inl, inr, length, refl, arith}
+use Rattle.std.proofs.Common.{◌<◌, length, refl, arith}
 use Rattle.std.proofs.lemmas.Option.{slice_get_read}
 use Rattle.std.proofs.lemmas.Result.{err_from_is_err_and}
-use Rattle.lft_shapes.specs.Sized.{IsReadyAt}
+use Rattle.lft_shapes.specs.declared.shapes.Inherited.{Inherited}
+use Rattle.lft_shapes.specs.Needs.{HasNeed, Times, Widths}
+use Rattle.lft_shapes.proofs.Marking.{below_more}
+use Rattle.lft_shapes.proofs.Passing.{marked_all}
 use Rattle.lft_shapes.proofs.deciding.needs_of.Goals as goal
 
-pub loop-number-init : goal.loop-number-init
-loop-number-init c scopes first s ready at n marked = absurd (c.in_ok-none.ensures n marked)
-
 pub loop-number-preserved : goal.loop-number-preserved
-loop-number-preserved c scopes first s ready at n marked =
-    let members = c.args.shape.now.members.items in
+loop-number-preserved c =
+    let shapes = c.args.shapes.now in
+    let shape = c.args.shape.now in
+    let members = shape.members.items in
     let number = c.loop-number.number in
+    let m = c.index.result.now in
     let within : number < length members = omega arith in
-    let is : IsReadyAt scopes first c.args.shapes.now s c.args.shape.now number c.index.result.now = record { ready = ready; is_shape = at; is_member = slice_get_read members (length members) number c.index.result.now refl within c.index.ensures } in
-    elim (c.in_ok-note.ensures.marks scopes first s is n marked) [ inl was ↦ c.loop-number.invariant scopes first s ready at n was | inr now ↦ now ]
+    let there = slice_get_read members (length members) number m refl within c.index.ensures in
+    record {
+      sized = below_more (λ k (x : Inherited). HasNeed Widths shapes shape k x.member.now) members number m _ _ _ there c.loop-number.invariant.sized c.in_ok-note.ensures.sized;
+      timed = below_more (λ k (x : Inherited). HasNeed Times shapes shape k x.member.now) members number m _ _ _ there c.loop-number.invariant.timed c.in_ok-note.ensures.timed;
+    }
 
 pub returns-in_err-note-clause-cause : goal.returns-in_err-note-clause-cause
 returns-in_err-note-clause-cause c =
@@ -22,3 +28,9 @@ returns-in_err-note-clause-cause c =
     let number = c.loop-number.number in
     let within : number < length members = omega arith in
     rw (p.1, p.2) (λ scopes first s ready at. c.in_err-note.ensures.cause scopes first s (record { ready = ready; is_shape = at; is_member = slice_get_read members (length members) number c.index.result.now refl within c.index.ensures }))
+
+pub returns-clause-sized : goal.returns-clause-sized
+returns-clause-sized c = marked_all Widths c.args.shapes.now c.args.shape.now c.len-count.result c.loop-number.number _ _ (omega arith) (c.in_ok-vec.ensures.items_if_clones_equal (λ y e. e)) (omega arith) c.loop-number.invariant.sized
+
+pub returns-clause-timed : goal.returns-clause-timed
+returns-clause-timed c = marked_all Times c.args.shapes.now c.args.shape.now c.len-count.result c.loop-number.number _ _ (omega arith) (c.in_ok-vec-2.ensures.items_if_clones_equal (λ y e. e)) (omega arith) c.loop-number.invariant.timed

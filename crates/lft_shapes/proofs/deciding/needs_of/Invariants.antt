@@ -1,7 +1,10 @@
-use Rattle.std.proofs.Common.{◌≡◌, ℕ, Some, true, slice_get}
-use Rattle.lft_shapes.specs.declared.scopes.Scopes.{Scopes}
-use Rattle.lft_shapes.specs.Sized.{IsReady, IsSizing}
+use Rattle.lft_shapes.specs.Needs.{HasNeed, Marks, Times, Widths}
+use Rattle.lft_shapes.specs.declared.shapes.Inherited.{Inherited}
+use Rattle.lft_shapes.proofs.Marking.{AnyBelow}
 use Rattle.lft_shapes.proofs.deciding.needs_of.Given as goal
 
 abbrev pub invariant-loop-number : goal.invariant-loop-number
-invariant-loop-number l = (scopes : Scopes) (first s : ℕ) → IsReady scopes first l.shapes s → slice_get l.shapes s ≡ Some l.shape → (n : ℕ) → slice_get l.needs.sized.items n ≡ Some true → IsSizing scopes l.shape n
+invariant-loop-number l = record {
+  sized : Marks (AnyBelow (λ k (m : Inherited). HasNeed Widths l.shapes l.shape k m.member.now) l.shape.members.items l.number) l.initial.needs.sized.items l.needs.sized.items;
+  timed : Marks (AnyBelow (λ k (m : Inherited). HasNeed Times l.shapes l.shape k m.member.now) l.shape.members.items l.number) l.initial.needs.timed.items l.needs.timed.items;
+}

@@ -1,7 +1,8 @@
 use Rattle.std.proofs.Common.{◌≡◌, ◌<◌, Some, length, slice_get, refl, arith}
 use Rattle.std.proofs.lemmas.Option.{slice_get_read}
-use Rattle.lft_shapes.specs.Sized.{IsPassed, IsPassedIn}
-use Rattle.lft_shapes.proofs.Sizing.{marks_on}
+use Rattle.lft_whole.specs.declared.tree.Assignment.{Assignment}
+use Rattle.lft_shapes.specs.Needs.{IsPassed, IsPassedIn, Times, Widths}
+use Rattle.lft_shapes.proofs.Marking.{AnyBelow, below_all, below_more}
 use Rattle.lft_shapes.proofs.deciding.Needs.note_given.Goals as goal
 
 pub loop-assignment-preserved : goal.loop-assignment-preserved
@@ -13,4 +14,21 @@ loop-assignment-preserved c =
     let assignment = c.assignment-item.result in
     let within : i < length given = omega arith in
     let there : slice_get given i ≡ Some assignment = slice_get_read given (length given) i assignment refl within c.assignment-item.is in
-    marks_on (IsPassedIn shape inner given) (IsPassed shape inner assignment) _ _ _ c.loop-assignment.invariant c.note_assignment.ensures (λ n is. (i, (assignment, there, is)))
+    record {
+      sized = below_more (λ k (a : Assignment). IsPassed Widths shape inner a) given i assignment _ _ _ there c.loop-assignment.invariant.sized c.note_assignment.ensures.sized;
+      timed = below_more (λ k (a : Assignment). IsPassed Times shape inner a) given i assignment _ _ _ there c.loop-assignment.invariant.timed c.note_assignment.ensures.timed;
+    }
+
+pub returns-clause-sized : goal.returns-clause-sized
+returns-clause-sized c =
+    let shape = c.args.shape.now in
+    let inner = c.args.inner.now in
+    let given = c.args.given.now in
+    below_all (λ k (a : Assignment). IsPassed Widths shape inner a) given c.loop-assignment.assignment-index (IsPassedIn Widths shape inner given) _ _ c.loop-assignment-test.false c.loop-assignment.invariant.sized (λ n. (λ h. h, λ h. h))
+
+pub returns-clause-timed : goal.returns-clause-timed
+returns-clause-timed c =
+    let shape = c.args.shape.now in
+    let inner = c.args.inner.now in
+    let given = c.args.given.now in
+    below_all (λ k (a : Assignment). IsPassed Times shape inner a) given c.loop-assignment.assignment-index (IsPassedIn Times shape inner given) _ _ c.loop-assignment-test.false c.loop-assignment.invariant.timed (λ n. (λ h. h, λ h. h))

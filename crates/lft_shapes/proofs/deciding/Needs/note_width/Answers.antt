@@ -1,11 +1,13 @@
-use Rattle.std.proofs.Common.{◌≡◌, ◌≢◌, ◌<◌, ℕ, Some, length, slice_get, string_bytes, refl, sym, subst, arith}
+use Rattle.std.proofs.Common.{◌≡◌, ◌≢◌, ◌↔◌, ◌<◌, ℕ, List, Some, length, slice_get, string_bytes, refl, sym, ap, subst, arith, ◌∙◌}
 use Rattle.std.proofs.lemmas.Option.{slice_get_read}
 use Rattle.lft_lists.proofs.Options.{lacking}
+use Rattle.lft_whole.specs.declared.tree.Term.{Term}
 use Rattle.lft_shapes.specs.declared.shapes.Thing.TheVariants as thing
 use Rattle.lft_shapes.specs.Circles.{HasNoParameter}
 use Rattle.lft_shapes.specs.Shapes.{thing_named}
-use Rattle.lft_shapes.specs.Sized.{IsParameter, MarksSuch, Names, NamesParameter}
-use Rattle.lft_shapes.proofs.Sizing.{marks_on}
+use Rattle.lft_shapes.specs.Needs.{IsParameter, NamesParameter}
+use Rattle.lft_shapes.proofs.Marking.{below_all, below_more, marks_as, marks_none}
+use Rattle.lft_shapes.proofs.Passing.{IsTermIn, term_one, terms_name}
 use Rattle.lft_shapes.proofs.deciding.Needs.note_width.Goals.{in-Word+in-Some-parameter, in_default-count}
 use Rattle.lft_shapes.proofs.deciding.Needs.note_width.Goals as goal
 
@@ -35,20 +37,31 @@ returns-in_default-parameter-clause-cause c =
 pub loop-term-preserved : goal.loop-term-preserved
 loop-term-preserved c =
     let shape = c.args.shape.now in
-    let width = c.args.width.now in
     let items = c.deref-term-items.result.now in
     let i = c.loop-term.term-index in
     let term = c.term-item.result in
     let within : i < length items = omega arith in
-    let there : slice_get c.in-Some.width.terms.items i ≡ Some term = subst (λ l. slice_get l i ≡ Some term) c.deref-term-items.ensures.value (slice_get_read items (length items) i term refl within c.term-item.is) in
+    let there : slice_get items i ≡ Some term = slice_get_read items (length items) i term refl within c.term-item.is in
+    let was = c.loop-term.invariant in
     elim c.match-term.branch [
       | in-Word+in-Some-parameter w ↦ (
-          let q = string_bytes w.in-Word.word in
           let n = w.in-Some-parameter.parameter in
-          let is : IsParameter shape q n = subst (λ t. IsParameter shape t n) w.as_str.ensures.value w.in-Some-parameter.ensures.some in
-          let names : Names c.in-Some.width q = (term.at, record { which = i; term = term; is_term = there; word = w.in-Word.word; is_word = w.in-Word.is; is_name = refl; stands = refl }) in
-          let more : MarksSuch (NamesParameter shape width) c.args.self.now.sized.items w.mark.new.list.items = marks_on (NamesParameter shape width) (λ m. m ≡ n) c.args.self.now.sized.items c.loop-term.self.sized.items w.mark.new.list.items c.loop-term.invariant w.mark.ensures (λ m e. (c.in-Some.width, c.in-Some.is, (q, names, subst (IsParameter shape q) (sym e) is))) in
-          rw w.self-is more
+          let is : IsParameter shape (string_bytes w.in-Word.word) n = subst (λ t. IsParameter shape t n) w.as_str.ensures.value w.in-Some-parameter.ensures.some in
+          let one = marks_as (λ k. k ≡ n) (IsTermIn shape i term) _ _ w.mark.ensures (term_one shape i term w.in-Word.word n w.in-Word.is is) in
+          rw w.self-is (record { sized = below_more (IsTermIn shape) items i term _ _ _ there was.sized one; timed = was.timed })
           )
-      | in_default-count w ↦ rw w.self-is c.loop-term.invariant
+      | in_default-count w ↦ (
+          let none = marks_none (IsTermIn shape i term) c.loop-term.self.sized.items (λ n h. w.in_default-count.not-Word h.0 h.1) in
+          rw w.self-is (record { sized = below_more (IsTermIn shape) items i term _ _ _ there was.sized none; timed = was.timed })
+          )
     ]
+
+pub returns-clause-sized : goal.returns-clause-sized
+returns-clause-sized c =
+    let shape = c.args.shape.now in
+    let width = c.in-Some.width in
+    let items = c.deref-term-items.result.now in
+    below_all (IsTermIn shape) items c.loop-term.term-index (NamesParameter shape c.args.width.now) _ _ (omega arith) c.loop-term.invariant.sized (subst (λ (l : List Term). (n : ℕ) → ((i : ℕ) × ((term : Term) × (slice_get l i ≡ Some term) × IsTermIn shape i term n)) ↔ NamesParameter shape c.args.width.now n) (sym c.deref-term-items.ensures.value) (terms_name shape c.args.width.now width c.in-Some.is))
+
+pub returns-in_default-clause-sized : goal.returns-in_default-clause-sized
+returns-in_default-clause-sized c = marks_none (NamesParameter c.args.shape.now c.args.width.now) c.args.self.now.sized.items (λ n h. (let e = h.1 in let f = c.in_default.is in absurd (cc)))
