@@ -4,20 +4,13 @@ use Rattle.std.specs.List.{enumerate_from}
 use Rattle.std.proofs.lemmas.List.{append_assoc, append-nil, take_all}
 use Rattle.std.proofs.lemmas.List.FromFn.{length-enumerate_from}
 use Rattle.lft_lists.proofs.Mapped.{enumerate_at}
+use Rattle.lft_words.proofs.Steps.{said_more}
 use Rattle.lft_cover.specs.Taking.{TookMore}
 use Rattle.lft_cover.proofs.Taking.{took_both}
 
--- one item more
-one_more : {X : Type 0} (f : X → List ℕ) (xs : List X) (k : ℕ) (x : X) → slice_get xs k ≡ Some x → flat_map f (take (suc k) xs) ≡ flat_map f (take k xs) ++ f x
-one_more f [] k x e = absurd (cc)
-one_more f (y ∷ ys) zero x e = let q : y ≡ x = cc in append-nil (f y) ∙ ap f q
-one_more f (y ∷ ys) (suc k) x e = ap (λ w. f y ++ w) (one_more f ys k x e) ∙ sym (append_assoc (f y) (flat_map f (take k ys)) (f x))
-
 -- the piece of one item more
 pub took_one : {X : Type 0} (f : X → List ℕ) (xs : List X) (k : ℕ) (x : X) {a b c : Option (List ℕ)} {p q r : Bool} → slice_get xs k ≡ Some x → TookMore a p b q (flat_map f (take k xs)) → TookMore b q c r (f x) → TookMore a p c r (flat_map f (take (k + 1) xs))
-took_one f xs k x {a} {b} {c} {p} {q} {r} e first second =
-    let n : suc k ≡ k + 1 = omega arith in
-    subst (TookMore a p c r) (sym (one_more f xs k x e) ∙ ap (λ j. flat_map f (take j xs)) n) (took_both first second)
+took_one f xs k x {a} {b} {c} {p} {q} {r} e first second = subst (TookMore a p c r) (said_more f xs k x [] (flat_map f (take k xs)) (flat_map f (take k xs) ++ f x) e refl refl) (took_both first second)
 
 -- the pieces of all items
 pub took_items : {X : Type 0} (f : X → List ℕ) (xs ys : List X) {a b : Option (List ℕ)} {p q : Bool} → xs ≡ ys → TookMore a p b q (flat_map f xs) → TookMore a p b q (flat_map f ys)

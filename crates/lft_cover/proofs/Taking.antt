@@ -1,6 +1,6 @@
 -- What a writer takes of a text that it gets piece by piece.
 use Rattle.std.proofs.Common.{IsTrue, ◌≡◌, ℕ, zero, suc, ◌+◌, Bool, true, false, List, [], ◌∷◌, ◌++◌, length, take, Option, refl, sym, ap, ◌∙◌, subst, arith, append_assoc, append-nil, drop, ◌-◌, ◌≤◌}
-use Rattle.std.proofs.Math.Seq.{take-add}
+use Rattle.std.proofs.Math.Seq.{take-add, take-append-add}
 use Rattle.std.proofs.lemmas.List.{take_all, length-drop}
 use Rattle.std.proofs.KnownBytes.{Appends-kept, Appends-nil, Appends-trans}
 use Rattle.std.specs.Io.KnownBytes.{Appends, Keeps}
@@ -11,11 +11,6 @@ front_more : (text more : List ℕ) (n : ℕ) → (k : ℕ) × (take k (text ++ 
 front_more text more zero = (0, refl)
 front_more [] more (suc n) = (0, refl)
 front_more (x ∷ xs) more (suc n) = let r = front_more xs more n in (suc r.0, ap (λ s. x ∷ s) r.1)
-
--- the whole text and a front of more
-behind : (text more : List ℕ) (n : ℕ) → take (length text + n) (text ++ more) ≡ text ++ take n more
-behind [] more n = let e : 0 + n ≡ n = omega arith in ap (λ k. take k more) e
-behind (x ∷ xs) more n = let e : suc (length xs) + n ≡ suc (length xs + n) = omega arith in ap (λ k. take k (x ∷ (xs ++ more))) e ∙ ap (λ s. x ∷ s) (behind xs more n)
 
 -- the rest of a text from a place, as a slice gives it
 pub rest_from : (text : List ℕ) (n : ℕ) → take (length text - n) (drop n text) ≡ drop n text
@@ -37,7 +32,7 @@ took_all mid new more n e took = record { behind = λ old text h. Appends-trans 
 
 -- a front of what was given
 pub took_some : (mid new : Option (List ℕ)) (more : List ℕ) (n : ℕ) → Appends mid new (take n more) → TookMore mid true new false more
-took_some mid new more n took = record { behind = λ old text h. (length text + n, subst (Appends old new) (sym (behind text more n)) (Appends-trans old mid new text (take n more) h took)) }
+took_some mid new more n took = record { behind = λ old text h. (length text + n, subst (Appends old new) (sym (take-append-add text more n)) (Appends-trans old mid new text (take n more) h took)) }
 
 -- more, and then more again
 pub took_both : {a b c : Option (List ℕ)} {x y z : Bool} {m n : List ℕ} → TookMore a x b y m → TookMore b y c z n → TookMore a x c z (m ++ n)

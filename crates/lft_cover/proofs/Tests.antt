@@ -22,13 +22,6 @@ has_room program overlaps sets r l =
     let x = get_there overlaps.met.items r (let e = sets.as_long in omega (arith, l, e)) in
     ap (λ o. length (unwrap_or o [])) x.1 ∙ sets.room r x.0 x.1
 
--- no lines of an empty set
-pub none_met : {X : Type 0} (program : Parts) (set : List ℕ) (then : ℕ) (xs : List (ℕ × X)) → ((r : ℕ) → Has set r → ⊥) → flat_map (λ d. pair_words program (has set d.0) d.0 then) xs ≡ []
-none_met program set then [] empty = refl
-none_met program set then (x ∷ xs) empty =
-    let off : has set x.0 ≡ false = ne_eqb (bit_at (slice_index set (x.0 / 64)) (x.0 % 64)) 1 (empty x.0) in
-    ap (λ b. pair_words program b x.0 then ++ flat_map (λ d. pair_words program (has set d.0) d.0 then) xs) off ∙ none_met program set then xs empty
-
 -- no lines of so many reactions from a number on, none of which is in the set
 pub none_met_from : {X : Type 0} (program : Parts) (set : List ℕ) (then n from : ℕ) (xs : List X) → ((r : ℕ) → from ≤ r → r < from + n → Has set r → ⊥) → flat_map (λ d. pair_words program (has set d.0) d.0 then) (take n (enumerate_from from xs)) ≡ []
 none_met_from program set then zero from xs none = refl
