@@ -1,7 +1,7 @@
 -- Files as one text.
-use Rattle.std.proofs.Common.{◌≡◌, ℕ, ◌+◌, ◌≤◌, ◌<◌, suc, List, [], ◌∷◌, ◌++◌, Ok, Some, length, map, take, get_or, slice_get, sym, ap, subst, ◌∙◌, add-one, arith, string_bytes}
+use Rattle.std.proofs.Common.{◌≡◌, ℕ, ◌+◌, ◌≤◌, ◌<◌, List, [], ◌∷◌, ◌++◌, Ok, Some, length, map, take, get_or, slice_get, sym, ap, subst, ◌∙◌, add-one, arith, string_bytes}
 use Rattle.std.specs.List.{All}
-use Rattle.std.proofs.lemmas.List.{append_assoc, length-append, take_all}
+use Rattle.std.proofs.lemmas.List.{append_assoc, length-append}
 use Rattle.std.proofs.lemmas.List.Elements.{All-append, All-cons, All-nil}
 use Rattle.std.proofs.lemmas.Option.{slice_get-get_or}
 use Rattle.lft_lists.proofs.Picked.{take_next}
@@ -46,10 +46,6 @@ joined_next files i file old new at is more =
     (subst (λ t. Join (take i files ++ file ∷ []) t new.tokens.items new.pages.items) (sym more.text)
     (subst (λ ts. Join (take i files ++ file ∷ []) (old.text.items ++ (file.text.items ++ 10 ∷ [])) ts new.pages.items) (sym more.tokens)
     (subst (λ ps. Join (take i files ++ file ∷ []) (old.text.items ++ (file.text.items ++ 10 ∷ [])) (old.tokens.items ++ file_tokens (length old.text.items) file) ps) (sym more.pages) made)))
-
--- all are there
-pub joined_all : (files : List SourceFile) (i : ℕ) (joined : Joined) → length files ≤ i → AreJoined (take i files) joined → AreJoined files joined
-joined_all files i joined le is = subst (λ fs. AreJoined fs joined) (take_all i files le) is
 
 abbrev Within : ℕ → Page → Type 0
 Within n page = (page.start ≤ page.end) × (page.end ≤ n)

@@ -1,10 +1,10 @@
 -- What is said of a refusal.
-use Rattle.std.proofs.Common.{◌≡◌, ℕ, inl, inr, List, None, refl, subst}
+use Rattle.std.proofs.Common.{◌≡◌, ℕ, inl, inr, List, refl, subst}
 use Rattle.lft_sources.specs.declared.source.SourceFile.{SourceFile}
 use Rattle.lft_sources.specs.declared.stop.Refusal.{Refusal}
 use Rattle.lft_sources.specs.declared.stop.Stop.{Stop}
 use Rattle.lft_sources.specs.declared.stop.Stop.TheVariants as stop
-use Rattle.lft_lowered.specs.Told.{IsTold, TellsRefusal}
+use Rattle.lft_lowered.specs.Told.{IsTold}
 use Rattle.lft_lowered.specs.Unlowered.{Says}
 use Rattle.lft_lowered.specs.declared.told.Unlowered.{Unlowered}
 

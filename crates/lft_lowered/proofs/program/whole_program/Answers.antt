@@ -1,4 +1,4 @@
-use Rattle.std.proofs.Common.{ℕ, List, inl, inr, ⊎_elim, refl, subst, sym}
+use Rattle.std.proofs.Common.{List, inl, inr, ⊎_elim, refl, subst, sym}
 use Rattle.std.proofs.lemmas.Result.{IfErr-weaker, IfOk-weaker}
 use Rattle.lft_sources.specs.declared.source.SourceFile.{SourceFile}
 use Rattle.lft_lowered.specs.Lowered.{AreFilesOf}
