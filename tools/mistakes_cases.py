@@ -177,6 +177,8 @@ def follows():
     case("a run that starts too early, judged up to its tag", ["judge", *USUAL, "--until", "5000000,0"], prints("broken rule=9 too-early time=5000000 microstep=0 reaction=main#2\n", 1), files={"trace.csv": EARLY})
     case("a run that starts too early, judged up to the tag before", ["judge", *USUAL, "--until", "0,0"], prints("unbroken runs=2 tags=1 time=0 microstep=0\n"), files={"trace.csv": EARLY})
     case("a trace without its last row, judged up to the tag before", ["judge", *USUAL, "--until", "5000000,0"], prints("unbroken runs=4 tags=2 time=5000000 microstep=0\n"), files={"trace.csv": ROWS[: ROWS.rindex("end,")]})
+    for word in ("judge", "explain", "follow"):
+        case(f"{word} up to a tag behind which the first row ends no run", [word, *USUAL, "--until", "5000000,0"], prints("unbroken runs=4 tags=2 time=5000000 microstep=0\n"), files={"trace.csv": ROWS.replace("start,0,10000000", "end,0,10000000")})
     case("judged up to a tag without a microstep", ["judge", *USUAL, "--until", "5000000"], refused("error: `--until` wants TIME,MICROSTEP, as 5000000,0\n"))
     case("explained up to a tag", ["explain", *USUAL, "--until", "5000000,0"], prints("unbroken runs=4 tags=2 time=5000000 microstep=0\n"))
     case("explained up to a tag without a microstep", ["explain", *USUAL, "--until", "5000000"], refused("error: `--until` wants TIME,MICROSTEP, as 5000000,0\n"))

@@ -176,6 +176,9 @@ def told(plan, text, until=None, whole=False):
     log = read_log(plan, text)
     rows, is_past = asked(log.rows, until)
     bad = first_bad(rows, log.plans)
+    if is_past and bad and bad[0] == len(rows) - 1 and bad[1][0] != 5:
+        # The row behind what is asked for shows only that the tag before is over.
+        bad = None
     breach = first_broken(rows[:bad[0]] if bad else rows, log.plans)
     if breach:
         return breach_line(plan, breach), 1

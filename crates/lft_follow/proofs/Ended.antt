@@ -1,5 +1,5 @@
 -- Rows at hand behind rows that are done, where no more come: the first breach of all.
-use Rattle.std.proofs.Common.{◌≡◌, ℕ, ◌+◌, ◌<◌, ◌≤◌, ◌⊎◌, inl, inr, List, [], ◌++◌, length, refl, sym, ap, ◌∙◌, subst, arith, Some, None, slice_get}
+use Rattle.std.proofs.Common.{◌≡◌, ℕ, ◌+◌, ◌^◌, ◌<◌, ◌≤◌, ◌⊎◌, inl, inr, List, [], ◌++◌, length, refl, sym, ap, ◌∙◌, subst, arith, Some, None, slice_get}
 use Rattle.std.proofs.lemmas.List.{append-nil}
 use Rattle.lft_tag.specs.declared.Tag.{Tag}
 use Rattle.lft_tag.specs.Tags.{Before, UpTo}
@@ -21,6 +21,8 @@ use Rattle.lft_stream.proofs.Settling.{rows_in_time, rows_until}
 use Rattle.lft_follow.specs.Sure.{IsFirstBefore}
 use Rattle.lft_follow.specs.declared.follower.Follower.{Follower}
 use Rattle.lft_follow.specs.declared.judged.Judged.{Judged}
+use Rattle.lft_follow.specs.declared.past.Past.{Past}
+use Rattle.lft_follow.specs.Kept.{IsPast}
 use Rattle.lft_follow.specs.Follows.{AreJudged, done_of, IsFollowerOf, IsJudged, IsJudgedOf, KeepsRows}
 use Rattle.lft_follow.proofs.Following.{judged_so_far}
 use Rattle.lft_follow.proofs.Hand.{breaks_own, breaks_whole}
@@ -82,9 +84,9 @@ module _ (plan : PlanParts) (d v : List Row) (settled : FirstRow (stop plan d) p
           go (inl l) = let a : c.row ≡ length d + (j + 2) = at in inl (omega arith)
           go (inr (p, r)) = let a : c.row ≡ length d + (j + 2) = at in let s : o.row ≡ j + 2 = p in inr (omega arith, r)
 
--- what is known of judged rows
-pub are_judged : (plan : PlanParts) (d : List Row) (j : Judged) → IsJudgedOf plan d j → AreJudged plan d j
-are_judged plan d j is = record { past = is.past; counted = is.counted; few = is.few; rows = is.acceptor.stands.state.settled.rows }
+-- what is known of judged rows where the acceptor went on alone
+pub still_judged : (plan : PlanParts) (d : List Row) (old new : Judged) → IsJudgedOf plan d old → new.past ≡ old.past → new.count ≡ old.count → AreJudged plan d new
+still_judged plan d old new is past count = record { past = subst (λ (p : Past). IsPast plan d p) (sym past) is.past; counted = count ∙ is.counted; few = subst (λ (n : ℕ). n ≤ 2 ^ 62 + 4000000) (sym count) is.few; rows = is.acceptor.stands.state.settled.rows }
 
 -- the rows that a follower holds are later than those that it has judged
 pub hand_later : (plan : PlanParts) (t : List Row) (f : Follower) → IsFollowerOf plan t f → AreEarlier (done_of t f) f.rows.items

@@ -21,6 +21,8 @@ use Rattle.lft_follow.specs.Going.{IsFirstBad, IsGoing, IsGoneTo, IsLost}
 use Rattle.lft_follow.specs.Reach.{IsReach}
 use Rattle.lft_follow.specs.declared.reach.Reach.{Reach}
 use Rattle.lft_follow.specs.declared.judged.Judged.{Judged}
+use Rattle.lft_follow.specs.declared.judged.Closing.{Closing}
+use Rattle.lft_follow.specs.declared.judged.Closing.TheVariants as closing
 use Rattle.lft_follow.specs.declared.judged.Ending.{Ending}
 use Rattle.lft_follow.specs.declared.judged.Ending.TheVariants as ending
 use Rattle.lft_follow.specs.declared.judged.Unjudged.{Unjudged}
@@ -229,6 +231,19 @@ abbrev pub IsEnding : PlanParts → Bool → List Row → Ending → Type 0
 IsEnding plan whole t (ending.Accepted c) = IsAccepted plan t c.runs c.tags
 IsEnding plan whole t (ending.Unbroken r) = (whole ≡ false) × IsReached plan t r
 IsEnding plan whole t (ending.Broken b) = (whole ≡ true) × First plan t (breach_of b)
+
+-- the breach is the first of the rows, at a tag up to that of one of them
+pub record IsFirstUpToLast (plan : PlanParts) (t : List Row) (b : Breach) : Type 0 where
+  pub first : First plan t b
+  pub place : ℕ
+  pub row : Row
+  pub is_row : slice_get t place ≡ Some row
+  pub up : UpTo b.tag row.tag
+
+-- what is told of rows that are all up to their last tag: they are clean, and reach so far; or this is their first breach, and not behind that tag
+abbrev pub IsClosing : PlanParts → List Row → Closing → Type 0
+IsClosing plan t (closing.Unbroken r) = IsClean plan t r
+IsClosing plan t (closing.Broken b) = IsFirstUpToLast plan t (breach_of b)
 
 -- the rows can't be judged up to their last line, and reach so far
 abbrev pub IsUnjudged : PlanParts → List Row → Unjudged → Type 0

@@ -5,15 +5,16 @@ ghost use Rattle.lft_tag.specs.declared.Tag.{Tag as TheTag};
 ghost use Rattle.lft_tag.specs.Tags.{Before, IsRecorded};
 ghost use Rattle.lft_steps.specs.declared.row.Row.{Row as TheRow};
 ghost use Rattle.lft_steps.specs.Fits.{EventFits, RowsFit};
+ghost use Rattle.lft_model.specs.Plans.{PlanParts};
 ghost use Rattle.lft_rows.specs.Slices.{Rises};
 ghost use Rattle.lft_coming.specs.AtTag.{AreAt};
 ghost use Rattle.lft_stream.specs.Kept.{KeepRules};
-ghost use Rattle.lft_follow.specs.Follows.{AreDone, IsAtHand, IsHeld, IsFollowerOf, IsHalt, IsPassed, HasManyLater, IsReceipt, stopped_at, IsProgress, IsEnding, IsJudged, IsJudgedOf, IsTurn, IsUnjudged, BeginsLast, done_of};
+ghost use Rattle.lft_follow.specs.Follows.{AreDone, IsAtHand, IsHeld, IsFollowerOf, IsHalt, IsPassed, HasManyLater, IsReceipt, stopped_at, IsProgress, IsClosing, IsEnding, IsJudged, IsJudgedOf, IsTurn, IsUnjudged, BeginsLast, done_of};
 ghost use Rattle.lft_follow.specs.declared.follower.Follower.{Follower as TheFollower};
 
 use crate::found::{Found, found_at, found_of};
 use crate::gone::{Going, Halt};
-use crate::judged::{Ending, Judged, Unjudged};
+use crate::judged::{Closing, Ending, Judged, Unjudged};
 use crate::reach::Reach;
 use lft_model::Plan;
 use lft_steps::{Event, Row, row_at};
@@ -279,6 +280,31 @@ impl Follower {
         true
     }
 
+    /// What is told where the rows can't be judged to their end.
+    fn unjudged(&self) -> Unjudged
+        requires { (plan : PlanParts) × (t : List TheRow) × IsFollowerOf plan t self.now }
+        ensures { (plan : PlanParts) (t : List TheRow) → IsFollowerOf plan t self.now → IsUnjudged plan t result }
+    {
+        Unjudged {
+            reach: self.judged.reach,
+            line: self.judged.count + self.rows.as_slice().len() as u64 + 1,
+        }
+    }
+
+    /// What the rows show where all at their last tag are there. The last tag is judged too, and nothing behind
+    /// it.
+    pub fn close(&mut self, alloc: Global, plan: &Plan) -> Result<Closing, Unjudged>
+        requires { (t : List TheRow) × IsFollowerOf plan.now t self.old }
+        ensures closed { IfOk result (λ closing. (t : List TheRow) → IsFollowerOf plan.now t self.old → IsClosing plan.now t closing) }
+        ensures unjudged { IfErr result (λ left. (t : List TheRow) → IsFollowerOf plan.now t self.old → IsUnjudged plan.now t left) }
+    {
+        if self.judged.count > MOST {
+            return Err(self.unjudged());
+        }
+        let rows = self.rows.as_slice();
+        self.judged.close(alloc, plan, rows)
+    }
+
     /// What the rows show where no more come. The last tag is judged too, where all of its runs are there.
     /// With `whole` no row is missing.
     pub fn finish(&mut self, alloc: Global, plan: &Plan, whole: bool) -> Result<Ending, Unjudged>
@@ -286,13 +312,10 @@ impl Follower {
         ensures ended { IfOk result (λ ending. (t : List TheRow) → IsFollowerOf plan.now t self.old → IsEnding plan.now whole t ending) }
         ensures unjudged { IfErr result (λ left. (t : List TheRow) → IsFollowerOf plan.now t self.old → IsUnjudged plan.now t left) }
     {
-        let rows = self.rows.as_slice();
         if self.judged.count > MOST {
-            return Err(Unjudged {
-                reach: self.judged.reach,
-                line: self.judged.count + rows.len() as u64 + 1,
-            });
+            return Err(self.unjudged());
         }
+        let rows = self.rows.as_slice();
         self.judged.finish(alloc, plan, rows, whole)
     }
 }

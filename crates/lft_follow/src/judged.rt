@@ -6,7 +6,7 @@ ghost use Rattle.lft_steps.specs.Fits.{RowsFit};
 ghost use Rattle.lft_model.specs.Breaches.{First};
 ghost use Rattle.lft_rows.specs.Parts.{AreEarlier};
 ghost use Rattle.lft_stream.specs.Kept.{KeepRules};
-ghost use Rattle.lft_follow.specs.Follows.{AreJudged, IsEnding, IsJudged, IsJudgedOf, IsReached, IsUnjudged, breach_of, stopped_judged};
+ghost use Rattle.lft_follow.specs.Follows.{AreJudged, IsClosing, IsEnding, IsFirstUpToLast, IsJudged, IsJudgedOf, IsReached, IsUnjudged, breach_of, stopped_judged};
 
 use crate::found::{Found, found_behind};
 use crate::gone::stop_over;
@@ -15,7 +15,7 @@ use crate::past::Past;
 use crate::reach::{Reach, reach_behind};
 use lft_model::Plan;
 use lft_rows::first_breach;
-use lft_steps::Row;
+use lft_steps::{Row, row_at};
 use lft_stream::{Acceptor, Counts, earlier_of};
 use lft_tag::{NoMemory, Tag};
 use std::alloc::Global;
@@ -28,6 +28,15 @@ pub enum Ending {
     /// No rule is broken up to the tag, and more rows are needed.
     Unbroken(Reach),
     /// The first rule that is broken, where no row is missing.
+    Broken(Found),
+}
+
+/// What rows show that are all up to their last tag.
+#[derive(Clone, Copy, PartialEq, Eq, Debug, Drop)]
+pub enum Closing {
+    /// No rule is broken in them.
+    Unbroken(Reach),
+    /// The first rule that they break.
     Broken(Found),
 }
 
@@ -120,6 +129,48 @@ impl Judged {
             Ok(Some(breach)) => Some(found_behind(breach, self.count)),
             Ok(None) => self.past.first_of_all(alloc, plan, rows),
             Err(_) => None,
+        }
+    }
+
+    /// The same where that breach is at a tag up to the last of these rows. It may be at a later one, where a
+    /// run is missing.
+    fn first_up_to_last(&self, alloc: Global, plan: &Plan, rows: &[Row]) -> Option<Found>
+        requires some { 0 < length rows.now }
+        requires fit { RowsFit plan.now.program rows.now }
+        requires stands { (t : List TheRow) × AreJudged plan.now t self.now }
+        ensures { IfSome result (λ found. (t : List TheRow) → AreJudged plan.now t self.now → AreEarlier t rows.now → IsFirstUpToLast plan.now (t ++ rows.now) (breach_of found)) }
+    {
+        let found = self.first_of(alloc, plan, rows)?;
+        if row_at(rows, rows.len() - 1).tag.is_before(found.tag) {
+            return None;
+        }
+        Some(found)
+    }
+
+    /// What the rows show, where these come behind those that are judged, and all at their last tag are there.
+    pub(crate) fn close(
+        &mut self,
+        alloc: Global,
+        plan: &Plan,
+        rows: &[Row],
+    ) -> Result<Closing, Unjudged>
+        requires fit { RowsFit plan.now.program rows.now }
+        requires few { self.old.count ≤ 2 ^ 62 }
+        requires stands { (t : List TheRow) × IsJudgedOf plan.now t self.old }
+        ensures closed { IfOk result (λ closing. (t : List TheRow) → IsJudgedOf plan.now t self.old → AreEarlier t rows.now → IsClosing plan.now (t ++ rows.now) closing) }
+        ensures unjudged { IfErr result (λ left. (t : List TheRow) → IsJudgedOf plan.now t self.old → IsJudged plan.now (t ++ rows.now) self.old.reach → IsUnjudged plan.now (t ++ rows.now) left) }
+    {
+        let left = Unjudged {
+            reach: self.reach,
+            line: self.count + rows.len() as u64 + 1,
+        };
+        match self.judge(alloc, plan, rows, false) {
+            Ok(true) => Ok(Closing::Unbroken(self.reach)),
+            Ok(false) => match self.first_up_to_last(alloc, plan, rows) {
+                Some(found) => Ok(Closing::Broken(found)),
+                None => Err(left),
+            },
+            Err(_) => Err(left),
         }
     }
 

@@ -13,7 +13,7 @@ mod reach;
 
 pub use follower::{Follower, Progress, Receipt};
 pub use found::Found;
-pub use judged::{Ending, Unjudged};
+pub use judged::{Closing, Ending, Unjudged};
 pub use laws::{law_sure, law_timely};
 pub use monitor::{go_on, is_unbroken};
 pub use reach::Reach;

@@ -7,10 +7,10 @@ use Rattle.lft_tag.specs.declared.Tag.{Tag}
 use Rattle.lft_tag.specs.Tags.{Before, UpTo}
 use Rattle.lft_tag.proofs.Order.{Before-UpTo, Before-weaken, UpTo-not, UpTo-refl, order_cases}
 use Rattle.lft_lists.proofs.Picked.{take_next}
-use Rattle.lft_lists.proofs.Places.{get_append_cases, get_last, get_left, same_at}
+use Rattle.lft_lists.proofs.Places.{get_last, get_left, get_push_cases, same_at}
 use Rattle.lft_steps.specs.declared.row.Row.{Row}
 use Rattle.lft_model.proofs.Places.{slice_get_within}
-use Rattle.lft_log.specs.Told.{ComeTo, GoPast, IsAskedOf, IsFirstFrom, KeepTo}
+use Rattle.lft_log.specs.Told.{ComeTo, IsAskedOf, IsFirstFrom, IsPastEnd, KeepTo}
 use Rattle.lft_log.specs.declared.asked.Asked.{Asked}
 
 -- each row is before the tag
@@ -21,20 +21,12 @@ AreBefore t asked = (i : ℕ) (x : Row) → slice_get t i ≡ Some x → Before 
 pub next_row : (t rows : List Row) (i : ℕ) (x : Row) → slice_get rows i ≡ Some x → (t ++ take i rows) ++ x ∷ [] ≡ t ++ take (i + 1) rows
 next_row t rows i x e = append_assoc t (take i rows) (x ∷ []) ∙ ap (λ (y : List Row). t ++ y) (sym (ap (λ (n : ℕ). take n rows) (add-one i) ∙ take_next rows i x e))
 
--- a row of some, or the one behind them
-one_more : (t : List Row) (y x : Row) (i : ℕ) → slice_get (t ++ y ∷ []) i ≡ Some x → (slice_get t i ≡ Some x) ⊎ (i ≡ length t) × (y ≡ x)
-one_more t y x i e = ⊎_elim inl (λ p. inr (last p.0 p.1 p.2)) (get_append_cases t (y ∷ []) i x e)
-  where
-    last : (j : ℕ) → i ≡ length t + j → slice_get (y ∷ []) j ≡ Some x → (i ≡ length t) × (y ≡ x)
-    last zero at p = (omega (arith, at), cc p)
-    last (suc j) at p = absurd (cc p)
-
 -- the first row at or past the tag is so with more rows behind
 first_more : (asked : Tag) (t : List Row) (y : Row) (place : ℕ) (row : Row) → IsFirstFrom asked t place row → IsFirstFrom asked (t ++ y ∷ []) place row
 first_more asked t y place row is = record {
   there = get_left t (y ∷ []) place row is.there;
   from = is.from;
-  first = λ i x l e. ⊎_elim (λ p. is.first i x l p) (λ p. let in_it : place < length t = slice_get_within t place row is.there in let at = p.0 in absurd (omega (arith, in_it, l, at))) (one_more t y x i e);
+  first = λ i x l e. ⊎_elim (λ p. is.first i x l p) (λ p. let in_it : place < length t = slice_get_within t place row is.there in let at = p.0 in absurd (omega (arith, in_it, l, at))) (get_push_cases t y i x e);
 }
 
 -- there is one first row
@@ -53,9 +45,9 @@ pub asked_within : (t : List Row) (a : Asked) → IsAskedOf t a → KeepTo a.unt
 asked_within t a is = go a.until a.last is
   where
     go : (until last : Option Tag) → MatchOption until (Unit {0}) (λ asked. MatchOption last (AreBefore t asked) (ComeTo asked t)) → KeepTo until t
-    go None last is i x l e = tt
-    go (Some asked) None is i x l e = λ place row first. absurd (UpTo-not asked row.tag first.from (is place row first.there))
-    go (Some asked) (Some last) is i x l e = λ place row first. subst (λ (g : Tag). UpTo x.tag g) (sym is.same ∙ ap (λ (r : Row). r.tag) (first_one asked t is.place place is.row row is.first first)) (is.up i x e)
+    go None last is i x e = tt
+    go (Some asked) None is i x e = λ place row first. absurd (UpTo-not asked row.tag first.from (is place row first.there))
+    go (Some asked) (Some last) is i x e = λ place row first. subst (λ (g : Tag). UpTo x.tag g) (sym is.same ∙ ap (λ (r : Row). r.tag) (first_one asked t is.place place is.row row is.first first)) (is.up i x e)
 
 -- no tag is asked for
 pub asked_none : (t : List Row) (a : Asked) → a.until ≡ None → IsAskedOf t a
@@ -78,14 +70,8 @@ come_asked t a asked last e f is = subst (λ (o : Option Tag). MatchOption o (Ar
 -- ---- one row more
 
 -- it is past the end
-pub row_past : (t : List Row) (until : Option Tag) (asked last : Tag) (next : Row) → until ≡ Some asked → ComeTo asked t last → Before last next.tag → GoPast until (t ++ next ∷ []) × KeepTo until (t ++ next ∷ [])
-row_past t until asked last next e is before = subst (λ (o : Option Tag). GoPast o (t ++ next ∷ []) × KeepTo o (t ++ next ∷ [])) (sym e) ((is.place, is.row, more, (length t, next, get_last t next, subst (λ (g : Tag). Before g next.tag) (sym is.same) before)), within)
-  where
-    more : IsFirstFrom asked (t ++ next ∷ []) is.place is.row
-    more = first_more asked t next is.place is.row is.first
-
-    within : KeepTo (Some asked) (t ++ next ∷ [])
-    within i x l f place row first = subst (λ (g : Tag). UpTo x.tag g) (sym is.same ∙ ap (λ (r : Row). r.tag) (first_one asked (t ++ next ∷ []) is.place place is.row row more first)) (⊎_elim (λ p. is.up i x p) (λ p. let long : length (t ++ next ∷ []) ≡ length t + 1 = length-append t (next ∷ []) in let at = p.0 in absurd (omega (arith, long, l, at))) (one_more t next x i f))
+pub row_past : (t : List Row) (until : Option Tag) (asked last g : Tag) → until ≡ Some asked → ComeTo asked t last → Before last g → IsPastEnd until t g
+row_past t until asked last g e is before = subst (λ (o : Option Tag). IsPastEnd o t g) (sym e) (is.place, is.row, is.first, subst (λ (h : Tag). Before h g) (sym is.same) before)
 
 -- it isn't
 pub row_within : (t : List Row) (asked last : Tag) (y : Row) → ComeTo asked t last → ¬ Before last y.tag → ComeTo asked (t ++ y ∷ []) last
@@ -94,7 +80,7 @@ row_within t asked last y is past = record {
   row = is.row;
   first = first_more asked t y is.place is.row is.first;
   same = is.same;
-  up = λ i x e. ⊎_elim (λ p. is.up i x p) (λ p. subst (λ (r : Row). UpTo r.tag last) p.1 (⊎_elim (λ b. absurd (past b)) (λ u. u) (order_cases last y.tag))) (one_more t y x i e);
+  up = λ i x e. ⊎_elim (λ p. is.up i x p) (λ p. subst (λ (r : Row). UpTo r.tag last) p.1 (⊎_elim (λ b. absurd (past b)) (λ u. u) (order_cases last y.tag))) (get_push_cases t y i x e);
 }
 
 -- it is the first at or past the tag
@@ -105,10 +91,10 @@ row_first t asked y before past = record {
   first = record {
     there = get_last t y;
     from = from;
-    first = λ i x l e. ⊎_elim (λ p. before i x p) (λ p. let at = p.0 in absurd (omega (arith, l, at))) (one_more t y x i e);
+    first = λ i x l e. ⊎_elim (λ p. before i x p) (λ p. let at = p.0 in absurd (omega (arith, l, at))) (get_push_cases t y i x e);
   };
   same = refl;
-  up = λ i x e. ⊎_elim (λ p. Before-weaken x.tag y.tag (Before-UpTo x.tag asked y.tag (before i x p) from)) (λ p. subst (λ (r : Row). UpTo r.tag y.tag) p.1 (UpTo-refl y.tag)) (one_more t y x i e);
+  up = λ i x e. ⊎_elim (λ p. Before-weaken x.tag y.tag (Before-UpTo x.tag asked y.tag (before i x p) from)) (λ p. subst (λ (r : Row). UpTo r.tag y.tag) p.1 (UpTo-refl y.tag)) (get_push_cases t y i x e);
 }
   where
     from : UpTo asked y.tag
@@ -116,7 +102,7 @@ row_first t asked y before past = record {
 
 -- it is before the tag
 pub row_before : (t : List Row) (asked : Tag) (y : Row) → AreBefore t asked → Before y.tag asked → AreBefore (t ++ y ∷ []) asked
-row_before t asked y before under i x e = ⊎_elim (λ p. before i x p) (λ p. subst (λ (r : Row). Before r.tag asked) p.1 under) (one_more t y x i e)
+row_before t asked y before under i x e = ⊎_elim (λ p. before i x p) (λ p. subst (λ (r : Row). Before r.tag asked) p.1 under) (get_push_cases t y i x e)
 
 -- before the first row
 pub asked_first : (a : Asked) → a.last ≡ None → IsAskedOf [] a

@@ -48,14 +48,15 @@ ended_left base until whole bytes (AtEnd ending) last is = inr (last, is)
 pub tells_plan : (base plan : PlanParts) (until : Option Tag) (bytes rest left : List ℕ) (log : Log) (is : IsLogOf base plan until bytes rest log) → HoldSoFar base.program bytes is.lines [] left → TellsPlan base bytes plan (rows is.lines) [] left
 tells_plan base plan until bytes rest left log is held = record { lines = is.lines; held = held; rows_are = refl; timely = is.timely; told = is.told }
 
-pub final_of : (base plan : PlanParts) (until : Option Tag) (whole : Bool) (bytes rest : List ℕ) (log : Log) (is : IsLogOf base plan until bytes rest log) → HoldSoFar base.program bytes is.lines [] [] → (e : Ending) → IsEnding plan whole (rows is.lines) e → IsFinal base until whole bytes (AtEnd e)
-final_of base plan until whole bytes rest log is held (Accepted c) so = (plan, rows is.lines, tells_plan base plan until bytes rest [] log is held, so)
-final_of base plan until whole bytes rest log is held (Unbroken r) so = (plan, rows is.lines, [], tells_plan base plan until bytes rest [] log is held, λ i e. absurd (cc e), so.1)
-final_of base plan until whole bytes rest log is held (Broken b) so = (so.0, (plan, rows is.lines, tells_plan base plan until bytes rest [] log is held, so.1))
-
 -- no row of a log is past the end of what is asked for
 pub kept_to : (base plan : PlanParts) (until : Option Tag) (bytes rest : List ℕ) (log : Log) (is : IsLogOf base plan until bytes rest log) → KeepTo until (rows is.lines)
 kept_to base plan until bytes rest log is = subst (λ (o : Option Tag). KeepTo o (rows is.lines)) is.until_is (asked_within (rows is.lines) log.asked is.asked)
+
+-- what is told at the end of a log
+pub final_of : (base plan : PlanParts) (until : Option Tag) (whole : Bool) (bytes rest : List ℕ) (log : Log) (is : IsLogOf base plan until bytes rest log) → HoldSoFar base.program bytes is.lines [] [] → (e : Ending) → IsEnding plan whole (rows is.lines) e → IsFinal base until whole bytes (AtEnd e)
+final_of base plan until whole bytes rest log is held (Accepted c) so = (plan, rows is.lines, tells_plan base plan until bytes rest [] log is held, kept_to base plan until bytes rest log is, so)
+final_of base plan until whole bytes rest log is held (Unbroken r) so = (plan, rows is.lines, [], tells_plan base plan until bytes rest [] log is held, kept_to base plan until bytes rest log is, λ i e. absurd (cc e), so.1)
+final_of base plan until whole bytes rest log is held (Broken b) so = (so.0, (plan, rows is.lines, tells_plan base plan until bytes rest [] log is held, kept_to base plan until bytes rest log is, so.1))
 
 -- what is told of rows that can't be judged to their end
 pub odd_at_end : (base plan : PlanParts) (until : Option Tag) (bytes rest : List ℕ) (t : List Row) (u : Unjudged) → TellsPlan base bytes plan t [] rest → KeepTo until t → IsUnjudged plan t u → IsSoon base until bytes (Odd u.reach u.line)

@@ -13,7 +13,7 @@ use Rattle.lft_trace.specs.declared.log_table.LineFault.TheVariants as none
 use Rattle.lft_steps.specs.declared.row.Row.{Row}
 use Rattle.lft_model.specs.Plans.{PlanParts}
 use Rattle.lft_follow.specs.declared.follower.Follower.{Follower}
-use Rattle.lft_follow.specs.Follows.{IsFollowerOf}
+use Rattle.lft_follow.specs.Follows.{IsFollowerOf, IsQuiet}
 use Rattle.lft_log.specs.declared.asked.Asked.{Asked}
 use Rattle.lft_log.specs.declared.fault.LogFault.{LogFault}
 use Rattle.lft_log.specs.declared.front.Front.{Front}
@@ -88,7 +88,7 @@ module _ (base old new : PlanParts) (until : Option Tag) (bytes text : List ℕ)
   pub fault_on : (f : LogFault) → taken.fault ≡ Some f → IsFaultOf base bytes f
   fault_on f named = fault_held base old new bytes text [] so_far log.rows log.inputs front taken held fronts takes is.0.timely is.0.told f named is.0.counted is.0.numbered
 
-  pub soon_on : (told : Told) (first more : List Row) → u ≡ first ++ more → KeepTo until (rows so_far ++ first) → IsSaid new until (rows so_far ++ first) told → IsSoon base until bytes told
+  pub soon_on : (told : Told) (first more : List Row) → u ≡ first ++ more → KeepTo until (rows so_far ++ first) → IsSaid new until (rows so_far ++ first) more told → IsSoon base until bytes told
   soon_on told first more parted within said = (
     new,
     rows so_far ++ first,
@@ -159,10 +159,10 @@ fault_longer base bytes more NoMemory x = tt
 pub piece_parts : (bytes piece : List ℕ) (n : ℕ) → (bytes ++ take n piece) ++ drop n piece ≡ bytes ++ piece
 piece_parts bytes piece n = append_assoc bytes (take n piece) (drop n piece) ∙ ap (λ (x : List ℕ). bytes ++ x) (take-append-drop n piece)
 
--- what is told of rows is told of those up to the last that is asked for, where it isn't among them
-pub rows_told : (plan : PlanParts) (until : Option Tag) (t rows : List Row) (follower : Follower) (asked : Asked) (o : Option Told) → MatchOption o (IsFollowerOf plan (t ++ rows) follower) (λ (told : Told). (until : Option Tag) → IsSaid plan until (t ++ rows) told) → IsAskedOf (t ++ rows) asked → asked.until ≡ until → MatchOption o (IsFollowerOf plan (t ++ rows) follower × IsAskedOf (t ++ rows) asked) (λ (told : Told). (u : List Row) × (more : List Row) × (rows ≡ u ++ more) × KeepTo until (t ++ u) × IsSaid plan until (t ++ u) told)
-rows_told plan until t rows follower asked None follows is same = (follows, is)
-rows_told plan until t rows follower asked (Some told) said is same = (rows, [], sym (append-nil rows), subst (λ (o : Option Tag). KeepTo o (t ++ rows)) same (asked_within (t ++ rows) asked is), said until)
+-- what is told of rows is told of those up to the last that is asked for, where none is past it
+pub rows_told : (plan : PlanParts) (until : Option Tag) (t rows : List Row) (follower : Follower) (asked : Asked) (o : Option Told) → MatchOption o (IsFollowerOf plan (t ++ rows) follower × IsQuiet plan (t ++ rows)) (λ (told : Told). (until : Option Tag) (more : List Row) → IsSaid plan until (t ++ rows) more told) → IsAskedOf (t ++ rows) asked → asked.until ≡ until → MatchOption o (IsFollowerOf plan (t ++ rows) follower × IsAskedOf (t ++ rows) asked) (λ (told : Told). (u : List Row) × (more : List Row) × (rows ≡ u ++ more) × KeepTo until (t ++ u) × IsSaid plan until (t ++ u) more told)
+rows_told plan until t rows follower asked None follows is same = (follows.0, is)
+rows_told plan until t rows follower asked (Some told) said is same = (rows, [], sym (append-nil rows), subst (λ (o : Option Tag). KeepTo o (t ++ rows)) same (asked_within (t ++ rows) asked is), said until [])
 
 pub with_fact : (A E : Type 0) (Q : Told → Type 0) (o : Option Told) → MatchOption o A Q → E → MatchOption o (A × E) Q
 with_fact A E Q None a e = (a, e)

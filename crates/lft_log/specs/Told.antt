@@ -12,7 +12,7 @@ use Rattle.lft_model.specs.Plans.{PlanParts}
 use Rattle.lft_model.specs.Breaches.{First}
 use Rattle.lft_rows.specs.Accepted.{IsAccepted}
 use Rattle.lft_follow.specs.declared.judged.Ending.TheVariants as ending
-use Rattle.lft_follow.specs.Follows.{HasManyLater, IsFollowerOf, IsSureSoFar, IsOddSoFar, IsClean, IsJudged, IsPassed, breach_of}
+use Rattle.lft_follow.specs.Follows.{HasManyLater, IsFollowerOf, IsSureSoFar, IsOddSoFar, IsClean, IsFirstUpToLast, IsJudged, IsPassed, IsQuiet, breach_of}
 use Rattle.lft_trace.specs.ExternalTables.{IsEntry, event_of, stop_of}
 use Rattle.lft_trace.specs.LogTables.{IsNoLine}
 use Rattle.lft_trace.specs.declared.external_table.Entry.{Entry}
@@ -59,14 +59,18 @@ abbrev pub IsWithin : Option Tag → List Row → Tag → Type 0
 IsWithin None t g = Unit {0}
 IsWithin (Some asked) t g = (place : ℕ) (row : Row) → IsFirstFrom asked t place row → UpTo g row.tag
 
--- no row but perhaps the last is past the end of what is asked for
+-- no row is past the end of what is asked for
 abbrev pub KeepTo : Option Tag → List Row → Type 0
-KeepTo until t = (i : ℕ) (x : Row) → i + 1 < length t → slice_get t i ≡ Some x → IsWithin until t x.tag
+KeepTo until t = (i : ℕ) (x : Row) → slice_get t i ≡ Some x → IsWithin until t x.tag
 
--- some row is past the end of what is asked for
-abbrev pub GoPast : Option Tag → List Row → Type 0
-GoPast None t = ⊥
-GoPast (Some asked) t = (place : ℕ) × (row : Row) × IsFirstFrom asked t place row × ((i : ℕ) × (x : Row) × (slice_get t i ≡ Some x) × Before row.tag x.tag)
+-- the tag is past the end of what is asked for
+abbrev pub IsPastEnd : Option Tag → List Row → Tag → Type 0
+IsPastEnd None t g = ⊥
+IsPastEnd (Some asked) t g = (place : ℕ) × (row : Row) × IsFirstFrom asked t place row × Before row.tag g
+
+-- the rows are all that are asked for: the next one is past their end
+abbrev pub AreAll : Option Tag → List Row → List Row → Type 0
+AreAll until t more = (next : Row) × (slice_get more 0 ≡ Some next) × IsPastEnd until t next.tag
 
 -- the first row at or past the asked tag is at the last tag of the rows
 pub record ComeTo (asked : Tag) (t : List Row) (last : Tag) : Type 0 where
@@ -80,22 +84,22 @@ pub record ComeTo (asked : Tag) (t : List Row) (last : Tag) : Type 0 where
 abbrev pub IsAskedOf : List Row → Asked → Type 0
 IsAskedOf t a = MatchOption a.until (Unit {0}) (λ asked. MatchOption a.last ((i : ℕ) (x : Row) → slice_get t i ≡ Some x → Before x.tag asked) (ComeTo asked t))
 
--- what is told before the end is so of these rows: a breach is sure behind some of them, so many of them are clean and a later line is told, or those but the ones at the last tag are, and go past what is asked for
-abbrev pub IsSaid : PlanParts → Option Tag → List Row → Told → Type 0
-IsSaid plan until t (Broken b) = IsSureSoFar plan t (breach_of b)
-IsSaid plan until t (Odd r line) = IsOddSoFar plan t r line
-IsSaid plan until t (Reached r) = IsJudged plan t r × GoPast until t
+-- what is told before the end is so of these rows: a breach is sure behind some of them, or so many of them are clean, and the line is a later one; or they are all that are asked for, nothing was to be told before, and the breach is their first; or all of them are clean
+abbrev pub IsSaid : PlanParts → Option Tag → List Row → List Row → Told → Type 0
+IsSaid plan until t more (Broken b) = IsSureSoFar plan t (breach_of b) ⊎ AreAll until t more × IsQuiet plan t × IsFirstUpToLast plan t (breach_of b)
+IsSaid plan until t more (Odd r line) = IsOddSoFar plan t r line
+IsSaid plan until t more (Reached r) = AreAll until t more × IsClean plan t r
 
--- what is told before the end is so of the first rows of the bytes, none of which but perhaps the last is past the end of what is asked for, for the plan that they tell
+-- what is told before the end is so of the first rows of the bytes, none of which is past the end of what is asked for, for the plan that they tell
 abbrev pub IsSoon : PlanParts → Option Tag → List ℕ → Told → Type 0
-IsSoon base until bytes told = (plan : PlanParts) × (t : List Row) × (more : List Row) × (others : List (List (List ℕ))) × (rest : List ℕ) × TellsPlan base bytes plan (t ++ more) others rest × KeepTo until t × IsSaid plan until t told
+IsSoon base until bytes told = (plan : PlanParts) × (t : List Row) × (more : List Row) × (others : List (List (List ℕ))) × (rest : List ℕ) × TellsPlan base bytes plan (t ++ more) others rest × KeepTo until t × IsSaid plan until t more told
 
--- what is told at the end: the bytes are a log whose rows are accepted, for the plan that it tells; or a log and a line without its end, and the rows are clean, all or but those at the last tag; or the bytes are a log, no row is missing, and this is their first breach
+-- what is told at the end, where no row is past the end of what is asked for: the bytes are a log whose rows are accepted, for the plan that it tells; or a log and a line without its end, and the rows are clean, all or but those at the last tag; or the bytes are a log, no row is missing, and this is their first breach
 abbrev pub IsFinal : PlanParts → Option Tag → Bool → List ℕ → Final → Type 0
 IsFinal base until whole bytes (Soon told) = IsSoon base until bytes told
-IsFinal base until whole bytes (AtEnd (ending.Accepted c)) = (plan : PlanParts) × (t : List Row) × TellsPlan base bytes plan t [] [] × IsAccepted plan t c.runs c.tags
-IsFinal base until whole bytes (AtEnd (ending.Unbroken r)) = (plan : PlanParts) × (t : List Row) × (rest : List ℕ) × TellsPlan base bytes plan t [] rest × HasNoEnd rest × (IsJudged plan t r ⊎ IsClean plan t r)
-IsFinal base until whole bytes (AtEnd (ending.Broken b)) = (whole ≡ true) × ((plan : PlanParts) × (t : List Row) × TellsPlan base bytes plan t [] [] × First plan t (breach_of b))
+IsFinal base until whole bytes (AtEnd (ending.Accepted c)) = (plan : PlanParts) × (t : List Row) × TellsPlan base bytes plan t [] [] × KeepTo until t × IsAccepted plan t c.runs c.tags
+IsFinal base until whole bytes (AtEnd (ending.Unbroken r)) = (plan : PlanParts) × (t : List Row) × (rest : List ℕ) × TellsPlan base bytes plan t [] rest × KeepTo until t × HasNoEnd rest × (IsJudged plan t r ⊎ IsClean plan t r)
+IsFinal base until whole bytes (AtEnd (ending.Broken b)) = (whole ≡ true) × ((plan : PlanParts) × (t : List Row) × TellsPlan base bytes plan t [] [] × KeepTo until t × First plan t (breach_of b))
 
 -- what is told of bytes behind which no more come, or before the end: at the end it is so of all that counts
 abbrev pub IsEnded : PlanParts → Option Tag → Bool → List ℕ → Final → Type 0

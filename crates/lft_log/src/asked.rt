@@ -1,9 +1,9 @@
 //! Up to where rows are asked for.
 
-ghost use Rattle.std.specs.Prelude.{◌≡◌, ◌≤◌, ◌++◌, ◌∷◌, List, [], length, take, false, IfSome, IfNone, IsTrue, Some};
+ghost use Rattle.std.specs.Prelude.{◌≡◌, ◌<◌, ◌++◌, ◌∷◌, List, [], length, take, drop, false, IfSome, IfNone, IsTrue, Some};
 ghost use Rattle.lft_tag.specs.Tags.{Before};
 ghost use Rattle.lft_steps.specs.declared.row.Row.{Row as TheRow};
-ghost use Rattle.lft_log.specs.Told.{GoPast, IsAskedOf, KeepTo};
+ghost use Rattle.lft_log.specs.Told.{AreAll, IsAskedOf, IsPastEnd, KeepTo};
 
 use lft_steps::{Row, row_at};
 use lft_tag::Tag;
@@ -28,7 +28,7 @@ impl Asked {
     /// Whether the row behind others goes past what is asked for.
     fn is_past(&mut self, row: Row) -> bool
         ensures until { self.new.until ≡ self.old.until }
-        ensures past { IsTrue result → (t : List TheRow) → IsAskedOf t self.old → GoPast self.old.until (t ++ row ∷ []) × KeepTo self.old.until (t ++ row ∷ []) }
+        ensures past { IsTrue result → (t : List TheRow) → IsAskedOf t self.old → IsPastEnd self.old.until t row.tag }
         ensures asked { result ≡ false → (t : List TheRow) → IsAskedOf t self.old → IsAskedOf (t ++ row ∷ []) self.new }
     {
         let Some(until) = self.until else {
@@ -45,17 +45,16 @@ impl Asked {
         }
     }
 
-    /// How many rows there are up to the first that is past what is asked for, and with it. None where
-    /// no row is.
+    /// How many rows there are before the first that is past what is asked for. None where no row is.
     pub(crate) fn past_end(&mut self, rows: &[Row]) -> Option<usize>
         ensures until { self.new.until ≡ self.old.until }
-        ensures within { IfSome result (λ n. n ≤ length rows.now) }
-        ensures past { IfSome result (λ n. (t : List TheRow) → IsAskedOf t self.old → GoPast self.old.until (t ++ take n rows.now) × KeepTo self.old.until (t ++ take n rows.now)) }
+        ensures within { IfSome result (λ n. n < length rows.now) }
+        ensures past { IfSome result (λ n. (t : List TheRow) → IsAskedOf t self.old → KeepTo self.old.until (t ++ take n rows.now) × AreAll self.old.until (t ++ take n rows.now) (drop n rows.now)) }
         ensures asked { IfNone result ((t : List TheRow) → IsAskedOf t self.old → IsAskedOf (t ++ rows.now) self.new) }
     {
         for place in 0..rows.len() {
             if self.is_past(row_at(rows, place)) {
-                return Some(place + 1);
+                return Some(place);
             }
         }
         None

@@ -6,9 +6,9 @@ ghost use Rattle.lft_trace.specs.Parts.{EndsLine};
 ghost use Rattle.lft_steps.specs.declared.row.Row.{Row as TheRow};
 ghost use Rattle.lft_steps.specs.Fits.{RowsFit};
 ghost use Rattle.lft_model.specs.Plans.{PlanParts};
-ghost use Rattle.lft_follow.specs.Follows.{IsFollowerOf, IsJudged};
+ghost use Rattle.lft_follow.specs.Follows.{IsFollowerOf, IsJudged, IsQuiet};
 ghost use Rattle.lft_log.specs.Logs.{AreLines, HasNoEnd, IsHead};
-ghost use Rattle.lft_log.specs.Told.{GoPast, IsAskedOf, IsBegun, IsEnded, IsFaultOf, IsFinal, IsLog, IsLogOf, IsSaid, IsSoon, KeepTo};
+ghost use Rattle.lft_log.specs.Told.{AreAll, IsAskedOf, IsBegun, IsEnded, IsFaultOf, IsFinal, IsLog, IsLogOf, IsSaid, IsSoon, KeepTo};
 
 use crate::asked::Asked;
 use crate::fault::LogFault;
@@ -16,7 +16,7 @@ use crate::front::read_front;
 use crate::lines::{below_header, is_whole, whole_lines};
 use crate::telling::tell_all;
 use crate::told::{Final, Told};
-use lft_follow::{Ending, Follower, Progress, Reach};
+use lft_follow::{Closing, Ending, Follower, Progress, Reach};
 use lft_model::Plan;
 use lft_steps::Row;
 use lft_tag::{NoMemory, Tag};
@@ -53,7 +53,7 @@ fn add_rows(
 ) -> Result<Option<Told>, LogFault>
     requires fit { RowsFit plan.now.program rows.now }
     requires stands { (t : List TheRow) × IsFollowerOf plan.now t follower.old }
-    ensures told { IfOk result (λ o. (t : List TheRow) → IsFollowerOf plan.now t follower.old → MatchOption o (IsFollowerOf plan.now (t ++ rows.now) follower.new) (λ told. (until : Option TheTag) → IsSaid plan.now until (t ++ rows.now) told)) }
+    ensures told { IfOk result (λ o. (t : List TheRow) → IsFollowerOf plan.now t follower.old → MatchOption o (IsFollowerOf plan.now (t ++ rows.now) follower.new × IsQuiet plan.now (t ++ rows.now)) (λ told. (until : Option TheTag) (more : List TheRow) → IsSaid plan.now until (t ++ rows.now) more told)) }
     ensures fault { IfErr result (λ f. (base : PlanParts) (bytes : List ℕ) → IsFaultOf base bytes f) }
 {
     match follower.add(alloc, plan, rows) {
@@ -65,26 +65,20 @@ fn add_rows(
     }
 }
 
-/// Goes on past the last rows that are asked for.
-fn add_last(
-    follower: &mut Follower,
-    alloc: Global,
-    plan: &Plan,
-    rows: &[Row],
-) -> Result<Told, LogFault>
-    requires fit { RowsFit plan.now.program rows.now }
-    requires stands { (t : List TheRow) × IsFollowerOf plan.now t follower.old }
-    ensures told { IfOk result (λ told. (until : Option TheTag) (t : List TheRow) → IsFollowerOf plan.now t follower.old → GoPast until (t ++ rows.now) → IsSaid plan.now until (t ++ rows.now) told) }
-    ensures fault { IfErr result (λ f. (base : PlanParts) (bytes : List ℕ) → IsFaultOf base bytes f) }
+/// What all rows show that are asked for.
+fn close(follower: &mut Follower, alloc: Global, plan: &Plan) -> Told
+    requires { (t : List TheRow) × IsFollowerOf plan.now t follower.old }
+    ensures { (until : Option TheTag) (t more : List TheRow) → IsFollowerOf plan.now t follower.old → IsQuiet plan.now t → AreAll until t more → IsSaid plan.now until t more result }
 {
-    match add_rows(follower, alloc, plan, rows) {
-        Ok(Some(told)) => Ok(told),
-        Ok(None) => Ok(Told::Reached(follower.reach(plan))),
-        Err(fault) => Err(fault),
+    match follower.close(alloc, plan) {
+        Ok(Closing::Unbroken(reach)) => Told::Reached(reach),
+        Ok(Closing::Broken(found)) => Told::Broken(found),
+        Err(left) => Told::Odd(left.reach, left.line),
     }
 }
 
-/// Goes on past rows, up to the last that is asked for.
+/// Goes on past rows, up to the last that is asked for. The first one behind it shows only that there are
+/// no more.
 fn add_asked(
     follower: &mut Follower,
     asked: &mut Asked,
@@ -95,15 +89,16 @@ fn add_asked(
     requires fit { RowsFit plan.now.program rows.now }
     requires stands { (t : List TheRow) × IsFollowerOf plan.now t follower.old }
     ensures until { asked.new.until ≡ asked.old.until }
-    ensures told { IfOk result (λ o. (t : List TheRow) → IsFollowerOf plan.now t follower.old → IsAskedOf t asked.old → MatchOption o (IsFollowerOf plan.now (t ++ rows.now) follower.new × IsAskedOf (t ++ rows.now) asked.new) (λ told. (u more : List TheRow) × (rows.now ≡ u ++ more) × KeepTo asked.old.until (t ++ u) × IsSaid plan.now asked.old.until (t ++ u) told)) }
+    ensures told { IfOk result (λ o. (t : List TheRow) → IsFollowerOf plan.now t follower.old → IsAskedOf t asked.old → MatchOption o (IsFollowerOf plan.now (t ++ rows.now) follower.new × IsAskedOf (t ++ rows.now) asked.new) (λ told. (u more : List TheRow) × (rows.now ≡ u ++ more) × KeepTo asked.old.until (t ++ u) × IsSaid plan.now asked.old.until (t ++ u) more told)) }
     ensures fault { IfErr result (λ f. (base : PlanParts) (bytes : List ℕ) → IsFaultOf base bytes f) }
 {
-    match asked.past_end(rows) {
-        Some(end) => match add_last(follower, alloc, plan, &rows[0..end]) {
-            Ok(told) => Ok(Some(told)),
-            Err(fault) => Err(fault),
-        },
-        None => add_rows(follower, alloc, plan, rows),
+    let Some(end) = asked.past_end(rows) else {
+        return add_rows(follower, alloc, plan, rows);
+    };
+    match add_rows(follower, alloc, plan, &rows[0..end]) {
+        Ok(Some(told)) => Ok(Some(told)),
+        Ok(None) => Ok(Some(close(follower, alloc, plan))),
+        Err(fault) => Err(fault),
     }
 }
 

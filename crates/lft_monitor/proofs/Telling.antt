@@ -9,6 +9,7 @@ use Rattle.lft_flat.specs.Parts.{Parts}
 use Rattle.lft_flat.specs.Sound.{IsSound}
 use Rattle.lft_trace.specs.Traces.{IsRow}
 use Rattle.lft_steps.specs.declared.row.Row.{Row}
+use Rattle.lft_model.specs.declared.breach.Breach.{Breach}
 use Rattle.lft_model.specs.Plans.{PlanParts}
 use Rattle.lft_model.specs.Breaches.{BreaksAt, First}
 use Rattle.lft_model.proofs.Places.{slice_get_take}
@@ -17,7 +18,7 @@ use Rattle.lft_follow.specs.declared.found.Found.{Found}
 use Rattle.lft_follow.specs.declared.judged.Ending.TheVariants as ending
 use Rattle.lft_follow.specs.Follows.{IsSureBehind, IsFirstBehind, breach_of}
 use Rattle.lft_log.specs.Logs.{row_records}
-use Rattle.lft_log.specs.Told.{IsEnded, IsFinal, IsSoon, TellsPlan}
+use Rattle.lft_log.specs.Told.{IsEnded, IsFinal, IsSaid, IsSoon, TellsPlan}
 use Rattle.lft_log.proofs.Behind.{rows_each}
 use Rattle.lft_log.specs.declared.told.Told.TheVariants.{Broken, Odd, Reached}
 use Rattle.lft_log.specs.declared.told.Final.{Final}
@@ -39,6 +40,10 @@ module _ (plan : PlanParts) (t : List Row) (own : (i : ℕ) (x : Row) → slice_
   of_tag g (Some r) k (inr (inr (inl x))) = own x.1.place _ x.1.starts
   of_tag g (Some r) k (inr (inr (inr x))) = own x.1.place _ x.1.starts
 
+  of_first : (b : Breach) → First plan t b → HasReaction plan.program b.reaction
+  of_first b (inl o) = subst (λ r. HasReaction plan.program r) (sym o.0.reaction_is) (own o.0.place o.0.row o.0.is_row)
+  of_first b (inr o) = of_tag b.tag b.reaction b.rule o.1.breaks
+
 -- the reactions of rows of a log are of the program
 of_log : (base plan : PlanParts) (bytes : List ℕ) (others : List (List (List ℕ))) (rest : List ℕ) (t : List Row) → IsSound base.program → TellsPlan base bytes plan t others rest → (i : ℕ) (x : Row) → slice_get t i ≡ Some x → x.reaction < length plan.program.reactions
 of_log base plan bytes others rest t sound is i x e =
@@ -51,21 +56,18 @@ of_base : (base plan : PlanParts) (bytes : List ℕ) (others : List (List (List 
 of_base base plan bytes others rest t o is x = subst (λ (p : Parts). HasReaction p o) is.told.program x
 
 of_found : (base : PlanParts) (until : Option Tag) (bytes : List ℕ) (b : Found) → IsSound base.program → IsSoon base until bytes (Broken b) → HasReaction base.program b.reaction
-of_found base until bytes b sound (plan, t, more, others, rest, is, within, (n, sure)) = of_base base plan bytes others rest (t ++ more) b.reaction is (go sure)
+of_found base until bytes b sound (plan, t, more, others, rest, is, within, said) = of_base base plan bytes others rest (t ++ more) b.reaction is (go said)
   where
-    own : (i : ℕ) (x : Row) → slice_get (take n t) i ≡ Some x → x.reaction < length plan.program.reactions
-    own i x e = of_log base plan bytes others rest (t ++ more) sound is i x (get_left t more i x (slice_get_take n t i x e).1)
+    own : (i : ℕ) (x : Row) → slice_get t i ≡ Some x → x.reaction < length plan.program.reactions
+    own i x e = of_log base plan bytes others rest (t ++ more) sound is i x (get_left t more i x e)
 
-    go : IsSureBehind plan t (breach_of b) n ⊎ IsFirstBehind plan t (breach_of b) n → HasReaction plan.program b.reaction
-    go (inl o) = subst (λ r. HasReaction plan.program r) (sym o.breaks.reaction_is) (own o.breaks.place o.breaks.row o.breaks.is_row)
-    go (inr o) = of_tag plan (take n t) own b.tag b.reaction b.rule o.first.breaks.breaks
+    sure : (n : ℕ) → IsSureBehind plan t (breach_of b) n ⊎ IsFirstBehind plan t (breach_of b) n → HasReaction plan.program b.reaction
+    sure n (inl o) = subst (λ r. HasReaction plan.program r) (sym o.breaks.reaction_is) (own o.breaks.place o.breaks.row (slice_get_take n t o.breaks.place o.breaks.row o.breaks.is_row).1)
+    sure n (inr o) = of_tag plan (take n t) (λ i x e. own i x (slice_get_take n t i x e).1) b.tag b.reaction b.rule o.first.breaks.breaks
 
-of_first : (base plan : PlanParts) (bytes : List ℕ) (t : List Row) (b : Found) → IsSound base.program → TellsPlan base bytes plan t [] [] → First plan t (breach_of b) → HasReaction base.program b.reaction
-of_first base plan bytes t b sound is first = of_base base plan bytes [] [] t b.reaction is (go first)
-  where
-    go : First plan t (breach_of b) → HasReaction plan.program b.reaction
-    go (inl o) = subst (λ r. HasReaction plan.program r) (sym o.0.reaction_is) (of_log base plan bytes [] [] t sound is o.0.place o.0.row o.0.is_row)
-    go (inr o) = of_tag plan t (of_log base plan bytes [] [] t sound is) b.tag b.reaction b.rule o.1.breaks
+    go : IsSaid plan until t more (Broken b) → HasReaction plan.program b.reaction
+    go (inl o) = sure o.0 o.1
+    go (inr o) = of_first plan t own (breach_of b) o.2.first
 
 of_final : (base : PlanParts) (until : Option Tag) (whole : Bool) (bytes : List ℕ) (told : Final) → IsSound base.program → IsFinal base until whole bytes told → HasFound base.program told
 of_final base until whole bytes (Soon (Broken b)) sound s = of_found base until bytes b sound s
@@ -73,7 +75,9 @@ of_final base until whole bytes (Soon (Odd r line)) sound s = tt
 of_final base until whole bytes (Soon (Reached r)) sound s = tt
 of_final base until whole bytes (AtEnd (ending.Accepted c)) sound s = tt
 of_final base until whole bytes (AtEnd (ending.Unbroken r)) sound s = tt
-of_final base until whole bytes (AtEnd (ending.Broken b)) sound s = of_first base s.1.0 bytes s.1.1 b sound s.1.2 s.1.3
+of_final base until whole bytes (AtEnd (ending.Broken b)) sound s =
+    let t = s.1.1 in
+    of_base base s.1.0 bytes [] [] t b.reaction s.1.2 (of_first s.1.0 t (of_log base s.1.0 bytes [] [] t sound s.1.2) (breach_of b) s.1.4)
 
 -- a breach that is told is of a reaction of the program
 pub has_found : (base : PlanParts) (until : Option Tag) (whole : Bool) (bytes : List ℕ) (told : Final) → IsSound base.program → IsEnded base until whole bytes told → HasFound base.program told

@@ -1,18 +1,9 @@
-use Rattle.std.proofs.Common.{◌≡◌, ◌+◌, ◌∙◌, inl, List, length, length-append, ap, arith}
+use Rattle.std.proofs.Common.{List}
 use Rattle.std.proofs.lemmas.Result.{IfOk-weaker, IfErr-weaker}
 use Rattle.lft_steps.specs.declared.row.Row.{Row}
-use Rattle.lft_follow.specs.Follows.{done_of, IsEnding, IsUnjudged}
+use Rattle.lft_follow.specs.Follows.{IsEnding, IsUnjudged}
 use Rattle.lft_follow.proofs.Ended.{at_end}
-use Rattle.lft_follow.proofs.Following.{judged_so_far}
 use Rattle.lft_follow.proofs.follower.Follower.finish.Goals as goal
-
-pub returns-then-self-gt-MOST-clause-unjudged : goal.returns-then-self-gt-MOST-clause-unjudged
-returns-then-self-gt-MOST-clause-unjudged c = λ t is.
-    let f = c.args.self.now in
-    let long : length t ≡ length (done_of t f) + length f.rows.items = ap (λ (x : List Row). length x) is.hand.held.parts ∙ length-append (done_of t f) f.rows.items in
-    let counted = is.hand.held.judged.counted in
-    let same = ap (λ (x : List Row). length x) c.as_slice-rows.ensures.value in
-    (inl (judged_so_far c.args.plan.now t f is), omega (arith, long, counted, same))
 
 pub returns-clause-ended : goal.returns-clause-ended
 returns-clause-ended c = IfOk-weaker c.finish.result _ _ (λ ending told t is. at_end c.args.plan.now t c.args.self.now is c.as_slice-rows.result.now c.as_slice-rows.ensures.value (λ (u : List Row). IsEnding c.args.plan.now c.args.whole u ending) told) c.finish.ensures.ended

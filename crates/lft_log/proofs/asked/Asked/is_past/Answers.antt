@@ -4,7 +4,7 @@ use Rattle.lft_log.proofs.Asking.{asked_before, asked_come, asked_none, before_a
 use Rattle.lft_log.proofs.asked.Asked.is_past.Goals as goal
 
 pub returns-in-Some-last-clause-past : goal.returns-in-Some-last-clause-past
-returns-in-Some-last-clause-past c = λ yes t is. row_past t c.args.self.now.until c.in-Some.until c.in-Some-last.last c.args.row c.in-Some.is (come_asked t c.args.self.now c.in-Some.until c.in-Some-last.last c.in-Some.is c.in-Some-last.is is) (c.is_before.ensures.0 yes)
+returns-in-Some-last-clause-past c = λ yes t is. row_past t c.args.self.now.until c.in-Some.until c.in-Some-last.last c.args.row.tag c.in-Some.is (come_asked t c.args.self.now c.in-Some.until c.in-Some-last.last c.in-Some.is c.in-Some-last.is is) (c.is_before.ensures.0 yes)
 
 pub returns-in-Some-last-clause-asked : goal.returns-in-Some-last-clause-asked
 returns-in-Some-last-clause-asked c = λ past t is. asked_come (t ++ c.args.row ∷ []) c.args.self.now c.in-Some.until c.in-Some-last.last c.in-Some.is c.in-Some-last.is (row_within t c.in-Some.until c.in-Some-last.last c.args.row (come_asked t c.args.self.now c.in-Some.until c.in-Some-last.last c.in-Some.is c.in-Some-last.is is) (λ b. false≢true (sym past ∙ c.is_before.ensures.1 b)))

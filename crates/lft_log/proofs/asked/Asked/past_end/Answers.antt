@@ -1,17 +1,20 @@
-use Rattle.std.proofs.Common.{◌≡◌, ◌+◌, ◌++◌, ◌∙◌, ℕ, List, Option, length, take, refl, subst, arith}
+use Rattle.std.proofs.Common.{◌≡◌, ◌+◌, ◌++◌, ◌∙◌, ℕ, List, Option, Some, length, take, drop, slice_get, refl, ap, subst, arith}
 use Rattle.std.proofs.Math.Seq.{take-length}
 use Rattle.lft_tag.specs.declared.Tag.{Tag}
+use Rattle.lft_flat.proofs.Ranges.{slice_get-drop}
 use Rattle.lft_steps.specs.declared.row.Row.{Row}
-use Rattle.lft_log.specs.Told.{GoPast, IsAskedOf, KeepTo}
-use Rattle.lft_log.proofs.Asking.{next_row}
+use Rattle.lft_log.specs.Told.{AreAll, IsAskedOf, KeepTo}
+use Rattle.lft_log.proofs.Asking.{asked_within, next_row}
 use Rattle.lft_log.proofs.asked.Asked.past_end.Goals as goal
 
 pub returns-then-is_past-clause-past : goal.returns-then-is_past-clause-past
 returns-then-is_past-clause-past c = λ t is.
     let rows = c.args.rows.now in
-    let past = c.if-is_past.ensures.past refl (t ++ take c.loop-place.place rows) (c.loop-place.invariant.asked t is) in
-    let here = subst (λ (x : List Row). GoPast c.loop-place.self.until x × KeepTo c.loop-place.self.until x) (next_row t rows c.loop-place.place c.row_at.result c.row_at.ensures) past in
-    subst (λ (o : Option Tag). GoPast o (t ++ take (c.loop-place.place + 1) rows) × KeepTo o (t ++ take (c.loop-place.place + 1) rows)) c.loop-place.invariant.until here
+    let place = c.loop-place.place in
+    let first = t ++ take place rows in
+    let asked = c.loop-place.invariant.asked t is in
+    let at : slice_get (drop place rows) 0 ≡ Some c.row_at.result = slice_get-drop rows place 0 ∙ ap (λ (k : ℕ). slice_get rows k) (let zero : place + 0 ≡ place = omega arith in zero) ∙ c.row_at.ensures in
+    subst (λ (o : Option Tag). KeepTo o first × AreAll o first (drop place rows)) c.loop-place.invariant.until (asked_within first c.loop-place.self asked, (c.row_at.result, at, c.if-is_past.ensures.past refl first asked))
 
 pub loop-place-preserved : goal.loop-place-preserved
 loop-place-preserved c = record {

@@ -47,7 +47,7 @@ returns-in-Ok-Some-clause-told c = λ base until bytes is.
     let given = subst (λ (p : Parts). IsFront p lines log.rows log.inputs front) c.program.ensures.value c.in-Ok.ensures in
     let x = rw c.in-Ok-Some.field-0-is at (c.in-Ok-Some.ensures.told t (c.tell_all-taken.ensures.stands t is.0.follower) is.0.asked) in
     let e = ap (λ (r : List Row). slice_range r 0 taken.rows) c.as_slice.ensures.value in
-    soon_on base c.args.plan.now plan until bytes lines log front taken is given c.tell_all-taken.ensures.taken c.in-Ok-Some.told x.0 x.1 (sym e ∙ x.2) (subst (λ (o : Option Tag). KeepTo o (t ++ x.0)) is.0.until_is x.3) (subst (λ (o : Option Tag). IsSaid plan o (t ++ x.0) c.in-Ok-Some.told) is.0.until_is x.4)
+    soon_on base c.args.plan.now plan until bytes lines log front taken is given c.tell_all-taken.ensures.taken c.in-Ok-Some.told x.0 x.1 (sym e ∙ x.2) (subst (λ (o : Option Tag). KeepTo o (t ++ x.0)) is.0.until_is x.3) (subst (λ (o : Option Tag). IsSaid plan o (t ++ x.0) x.1 c.in-Ok-Some.told) is.0.until_is x.4)
 
 pub add_asked-requires-clause-fit : goal.add_asked-requires-clause-fit
 add_asked-requires-clause-fit c =
