@@ -46,14 +46,14 @@ module _ (plan : PlanParts) (inputs : ExternalInputs) where
   -- what is due is so still, where whoever ran at the stop runs at the stop now
   module _ (t : List Row) (last : (r : ℕ) → Ran t (stop plan t) r → Ran t (stop other t) r) where
     due_other : (r : ℕ) (x : Trigger) (due : Due) → IsDue plan t r x due → IsDue other t r x due
-    due_other r Startup (AtTag g) y = y
+    due_other r Startup (AtTag g period) y = y
     due_other r Startup AtStop y = y
     due_other r Startup Never y = y
-    due_other r Shutdown (AtTag g) y = y
+    due_other r Shutdown (AtTag g period) y = y
     due_other r Shutdown AtStop y = y
     due_other r Shutdown Never y = last r y
     due_other r (Timer n) due y = y
-    due_other r (On n) (AtTag g) y = y
+    due_other r (On n) (AtTag g period) y = y
     due_other r (On n) AtStop y = y
     due_other r (On n) Never y = y
 

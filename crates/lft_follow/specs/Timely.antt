@@ -30,4 +30,4 @@ not_run g r = record { rule = 7; tag = g; reaction = Some r; row = 0 }
 
 -- where a trigger of a reaction is due at a tag up to the stop, and the reaction has no run there, rule 7 is broken there
 abbrev pub OverdueLaw : PlanParts → Type 0
-OverdueLaw plan = (t : List Row) (dues : List (List Due)) (r k : ℕ) (list : List Due) (g : Tag) → AreDues plan t dues → slice_get dues r ≡ Some list → slice_get list k ≡ Some (AtTag g) → UpTo g (stop plan t) → ¬ Ran t g r → TagBreach plan t (not_run g r)
+OverdueLaw plan = (t : List Row) (dues : List (List Due)) (r k : ℕ) (list : List Due) (g : Tag) (period : ℕ) → AreDues plan t dues → slice_get dues r ≡ Some list → slice_get list k ≡ Some (AtTag g period) → UpTo g (stop plan t) → ¬ Ran t g r → TagBreach plan t (not_run g r)

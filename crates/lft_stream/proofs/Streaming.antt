@@ -18,7 +18,7 @@ use Rattle.lft_stream.specs.Settled.{IsRightBehind}
 use Rattle.lft_stream.specs.Counted.{IsCounted}
 use Rattle.lft_stream.specs.declared.due.Due.{Due}
 use Rattle.lft_stream.specs.Owed.{IsMet, IsApart}
-use Rattle.lft_stream.specs.Dues.{AreDues, IsTimed}
+use Rattle.lft_stream.specs.Dues.{AreDues, timed}
 use Rattle.lft_coming.specs.Lanes.{made, carried, IsLane, LaneGoesOn}
 use Rattle.lft_stream.specs.Streams.{State, first_state, IsStream, IsEnded, IsGrown}
 use Rattle.lft_stream.proofs.Settling.{step_law, legal_of}
@@ -86,13 +86,13 @@ module _ (plan : PlanParts) where
     name_apart (Port p) = λ h up c. (port_ends p c.is_first.origin c.is_first.delays c.is_first.is_origin).1 h up c
     name_apart (Action a) = (action_ends a).1
 
-    timed_met : (x : Trigger) → IsTimed x → IsMet plan t x
-    timed_met x timed = (due_law plan).meets t s.dues stream.dues ended.dues x timed
+    timed_met : (x : Trigger) → timed x ≡ Some x → IsMet plan t x
+    timed_met x is_timed = (due_law plan).meets t s.dues stream.dues ended.dues x is_timed
 
     trigger_met : (x : Trigger) → IsMet plan t x
-    trigger_met Startup = timed_met Startup tt
-    trigger_met Shutdown = timed_met Shutdown tt
-    trigger_met (Timer n) = timed_met (Timer n) tt
+    trigger_met Startup = timed_met Startup refl
+    trigger_met Shutdown = timed_met Shutdown refl
+    trigger_met (Timer n) = timed_met (Timer n) refl
     trigger_met (On n) = name_met n
 
     stream_accepts : IsAccepted plan t s.runs s.tags

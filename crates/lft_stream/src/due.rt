@@ -1,23 +1,25 @@
 //! When a trigger that waits for no event is present next.
 
-ghost use Rattle.std.specs.Prelude.{◌≡◌, ◌↔◌, ℕ, List, [], ◌<◌, Some, IfSome, IsTrue};
+ghost use Rattle.std.specs.Prelude.{◌≡◌, ◌↔◌, ℕ, List, [], IfSome, IsTrue};
 ghost use Rattle.lft_tag.specs.declared.Tag.{Tag as TheTag};
 ghost use Rattle.lft_flat.specs.Sound.{IsTriggerOf};
+ghost use Rattle.lft_flat.specs.declared.parts.Trigger.{Trigger as TheTrigger};
 ghost use Rattle.lft_steps.specs.declared.row.Row.{Row as TheRow};
+ghost use Rattle.lft_model.specs.Plans.{PlanParts};
 ghost use Rattle.lft_model.specs.Presence.{stop};
 ghost use Rattle.lft_model.specs.Runs.{Ran};
 ghost use Rattle.lft_stream.specs.Dues.{IsDue, IsDueAt, IsOwed, IsDueBefore};
 
-use lft_flat::{Timer, Trigger};
-use lft_lists::item_at;
+use lft_flat::Trigger;
 use lft_model::Plan;
 use lft_tag::Tag;
 
 /// When a trigger is present next, of the tags at which its reaction has no run so far.
+// The period stands here, so that a run looks up neither its triggers nor their timers.
 #[derive(Clone, Copy, PartialEq, Eq, Drop)]
 pub(crate) enum Due {
-    /// At this tag.
-    AtTag(Tag),
+    /// At this tag, and again after each such period; once where that is 0.
+    AtTag(Tag, u64),
     /// At the stop, which a later row may bring nearer.
     AtStop,
     /// At none; or an event is waited for.
@@ -38,9 +40,12 @@ impl Due {
         ensures { (r : ℕ) → IsDue plan.now [] r trigger result }
     {
         match trigger {
-            Trigger::Startup => Due::AtTag(at_time(0)),
+            Trigger::Startup => Due::AtTag(at_time(0), 0),
             Trigger::Shutdown => Due::AtStop,
-            Trigger::Timer(number) => Due::AtTag(at_time(plan.program().timer(number).offset)),
+            Trigger::Timer(number) => {
+                let timer = plan.program().timer(number);
+                Due::AtTag(at_time(timer.offset), timer.period)
+            }
             Trigger::On(_) => Due::Never,
         }
     }
@@ -50,7 +55,7 @@ impl Due {
         ensures { IsTrue result ↔ IsDueAt last tag self }
     {
         match self {
-            Due::AtTag(next) => next.is_same(tag),
+            Due::AtTag(next, _) => next.is_same(tag),
             Due::AtStop => tag.is_same(last),
             Due::Never => false,
         }
@@ -61,7 +66,7 @@ impl Due {
         ensures { IsTrue result ↔ IsOwed last self }
     {
         match self {
-            Due::AtTag(next) => !last.is_before(next),
+            Due::AtTag(next, _) => !last.is_before(next),
             Due::AtStop => true,
             Due::Never => false,
         }
@@ -72,7 +77,7 @@ impl Due {
         ensures { IsTrue result ↔ IsDueBefore last low self }
     {
         match self {
-            Due::AtTag(next) => next.is_before(low),
+            Due::AtTag(next, _) => next.is_before(low),
             Due::AtStop => last.is_before(low),
             Due::Never => false,
         }
@@ -80,18 +85,13 @@ impl Due {
 
     /// When the trigger is due next, where its reaction has a run now. None where that is at no tag
     /// that 64 bits hold.
-    pub(crate) fn next(self, plan: &Plan, trigger: Trigger) -> Option<Due>
-        requires { IsTriggerOf plan.now.program trigger }
-        ensures { IfSome result (λ due. (t : List TheRow) (g : TheTag) (r : ℕ) → IsDue plan.now t r trigger self → IsDueAt (stop plan.now t) g self → Ran t g r → IsDue plan.now t r trigger due) }
+    pub(crate) fn next(self) -> Option<Due>
+        ensures { IfSome result (λ due. (plan : PlanParts) (t : List TheRow) (g : TheTag) (r : ℕ) (x : TheTrigger) → IsDue plan t r x self → IsDueAt (stop plan t) g self → Ran t g r → IsDue plan t r x due) }
     {
-        match (trigger, self) {
-            (Trigger::Timer(number), Due::AtTag(tag)) => {
-                let timer = plan.program().timer(number);
-                if timer.period == 0 {
-                    return Some(Due::Never);
-                }
-                let time = tag.time.checked_add(timer.period)?;
-                Some(Due::AtTag(at_time(time)))
+        match self {
+            Due::AtTag(tag, period) if period > 0 => {
+                let time = tag.time.checked_add(period)?;
+                Some(Due::AtTag(at_time(time), period))
             }
             _ => Some(Due::Never),
         }

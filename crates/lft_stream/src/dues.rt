@@ -1,15 +1,16 @@
 //! When the triggers of each reaction are due.
 
-ghost use Rattle.std.specs.Prelude.{◌≡◌, ℕ, List, [], ◌<◌, length, Some, IfOk, IsTrue, slice_get};
+ghost use Rattle.std.specs.Prelude.{◌≡◌, ℕ, List, [], ◌<◌, ◌≤◌, length, filter_map, Some, IfOk, IfSome, IsTrue, slice_get};
 ghost use Rattle.lft_flat.specs.Sound.{IsTriggerOf};
 ghost use Rattle.lft_flat.specs.declared.parts.Trigger.{Trigger as TheTrigger};
 ghost use Rattle.lft_steps.specs.declared.row.Row.{Row as TheRow};
 ghost use Rattle.lft_model.specs.Presence.{stop, Triggered};
 ghost use Rattle.lft_model.specs.Runs.{Ran};
 ghost use Rattle.lft_stream.specs.declared.due.Due.{Due as TheDue};
-ghost use Rattle.lft_stream.specs.Dues.{AreDue, AreDues, IsOwed, NoneOwed, IsDueBefore, NoneDueBefore, SomeOccurs};
+ghost use Rattle.lft_stream.specs.Dues.{timed as the_timed, AreDue, AreDues, IsOwed, NoneOwed, IsDueBefore, NoneDueBefore, GoOn, IsSomePresent};
 
 use crate::due::Due;
+use crate::stream::earlier_of;
 use lft_flat::Trigger;
 use lft_lists::item_at;
 use lft_model::Plan;
@@ -17,29 +18,71 @@ use lft_tag::{NoMemory, Tag};
 use std::alloc::Global;
 use std::marker::Model;
 
-/// For each trigger of each reaction when it is due.
+/// No tag is later.
+const LATEST: Tag = Tag {
+    time: u64::MAX,
+    micro: u32::MAX,
+};
+
+/// So many dues stand in a block. A run looks at the blocks in which something is due.
+const BLOCK: usize = 64;
+
+/// When some triggers of a reaction are due.
+#[derive(Drop)]
+struct Beats {
+    dues: Vec<Due>,
+    /// For each block, where there are several, a tag before which nothing there is due. Where it is wrong, a run
+    /// that is triggered may be taken for one that isn't.
+    soonest: Vec<Tag>,
+}
+
+impl Model for Beats {
+    ghost use Rattle.std.specs.Prelude.{List};
+    ghost use Rattle.lft_stream.specs.declared.due.Due.{Due};
+
+    ghost Value = { List Due };
+
+    ghost view = { λ beats. beats.dues.items };
+}
+
+/// For each reaction when those of its triggers are due that wait for no event.
 #[derive(Drop)]
 pub(crate) struct Dues {
-    lists: Vec<Vec<Due>>,
+    lists: Vec<Beats>,
 }
 
 impl Model for Dues {
-    ghost use Rattle.std.specs.Prelude.{List, map};
+    ghost use Rattle.std.specs.Prelude.{List};
     ghost use Rattle.lft_stream.specs.declared.due.Due.{Due};
 
     ghost Value = { List (List Due) };
 
-    ghost view = { λ dues. map (λ list. list.items) dues.lists.items };
+    ghost view = { λ dues. dues.lists.items };
 }
 
-/// When some triggers are due before the first row.
+/// The trigger, where it waits for no event.
+fn timed(trigger: Trigger) -> Option<Trigger>
+    ensures { result ≡ the_timed trigger }
+{
+    match trigger {
+        Trigger::On(_) => None,
+        _ => Some(trigger),
+    }
+}
+
+/// When those of some triggers that wait for no event are due before the first row.
 fn first_dues(alloc: Global, plan: &Plan, triggers: &[Trigger]) -> Result<Vec<Due>, NoMemory>
     requires { (k : ℕ) (x : TheTrigger) → slice_get triggers.now k ≡ Some x → IsTriggerOf plan.now.program x }
-    ensures { IfOk result (λ dues. (r : ℕ) → AreDue plan.now [] r triggers.now dues.items) }
+    ensures { IfOk result (λ dues. (r : ℕ) → AreDue plan.now [] r (filter_map the_timed triggers.now) dues.items) }
 {
-    let mut dues = Vec::with_capacity(alloc, triggers.len())?;
+    let mut dues = Vec::new(alloc);
     for place in 0..triggers.len() {
-        dues.push(Due::first(plan, item_at(triggers, place)))?;
+        match timed(item_at(triggers, place)) {
+            Some(trigger) => {
+                dues.push(Due::first(plan, trigger))?;
+            }
+            None => {}
+        }
     }
     Ok(dues)
 }
@@ -68,33 +111,114 @@ fn none_before(dues: &[Due], low: Tag, last: Tag) -> bool
     true
 }
 
-/// Whether one of a reaction's triggers is present at the tag, where the stop is the last. Those that
-/// were due there are due later now. It is false too where 64 bits hold no such time.
-fn meet(
-    plan: &Plan,
-    triggers: &[Trigger],
-    dues: &mut [Due],
-    tag: Tag,
-    last: Tag,
-    reaction: u32,
-) -> bool
-    requires triggers { (k : ℕ) (x : TheTrigger) → slice_get triggers.now k ≡ Some x → IsTriggerOf plan.now.program x }
-    requires long { length dues.old ≡ length triggers.now }
-    ensures due { (t : List TheRow) → last ≡ stop plan.now t → Ran t tag reaction → AreDue plan.now t reaction triggers.now dues.old → AreDue plan.now t reaction triggers.now dues.new }
-    ensures present { IsTrue result → (t : List TheRow) → last ≡ stop plan.now t → Ran t tag reaction → AreDue plan.now t reaction triggers.now dues.old → SomeOccurs plan.now t tag triggers.now }
+/// The earlier of a tag and the one at which this is due.
+fn sooner(due: Due, tag: Tag) -> Tag {
+    match due {
+        Due::AtTag(next, _) => earlier_of(next, tag),
+        // The stop may come at any tag.
+        Due::AtStop => Tag { time: 0, micro: 0 },
+        Due::Never => tag,
+    }
+}
+
+/// What a run found among the dues of a block.
+#[derive(Clone, Copy, Drop)]
+struct Met {
+    is_present: bool,
+    /// Nothing is due before this tag now.
+    soonest: Tag,
+}
+
+/// Whether one of a reaction's triggers from the first place up to the end is present at the tag, where the stop
+/// is the last. Those that were due there are due later now. It is none where 64 bits hold no such time.
+fn meet(dues: &mut [Due], first: usize, end: usize, tag: Tag, last: Tag) -> Option<Met>
+    requires { end ≤ length dues.old }
+    ensures due { GoOn last tag dues.old dues.new }
+    ensures present { IfSome result (λ met. IsTrue met.is_present → IsSomePresent last tag dues.old) }
 {
-    let mut is_present = false;
-    for place in 0..triggers.len() {
+    let mut met = Met {
+        is_present: false,
+        soonest: LATEST,
+    };
+    for place in first..end {
         let due = item_at(dues, place);
         if due.is_at(tag, last) {
-            match due.next(plan, item_at(triggers, place)) {
-                Some(next) => dues[place] = next,
-                None => return false,
-            }
-            is_present = true;
+            let next = due.next()?;
+            dues[place] = next;
+            met.is_present = true;
+            met.soonest = sooner(next, met.soonest);
+        } else {
+            met.soonest = sooner(due, met.soonest);
+        }
+    }
+    Some(met)
+}
+
+/// The same of all of them, block by block.
+fn meet_blocks(dues: &mut [Due], soonest: &mut [Tag], tag: Tag, last: Tag) -> bool
+    ensures due { GoOn last tag dues.old dues.new }
+    ensures present { IsTrue result → IsSomePresent last tag dues.old }
+{
+    let mut is_present = false;
+    for block in 0..soonest.len() {
+        if !tag.is_before(item_at(soonest, block)) {
+            let first = block.saturating_mul(BLOCK);
+            let end = first.saturating_add(BLOCK).min(dues.len());
+            let Some(met) = meet(dues, first, end, tag, last) else {
+                return false;
+            };
+            soonest[block] = met.soonest;
+            is_present = is_present || met.is_present;
         }
     }
     is_present
+}
+
+/// The same, where one block has no tag.
+fn meet_all(dues: &mut [Due], soonest: &mut [Tag], tag: Tag, last: Tag) -> bool
+    ensures due { GoOn last tag dues.old dues.new }
+    ensures present { IsTrue result → IsSomePresent last tag dues.old }
+{
+    if soonest.len() > 0 {
+        return meet_blocks(dues, soonest, tag, last);
+    }
+    match meet(dues, 0, dues.len(), tag, last) {
+        Some(met) => met.is_present,
+        None => false,
+    }
+}
+
+impl Beats {
+    /// These dues. Any of them may be due at the first tag.
+    fn new(alloc: Global, dues: Vec<Due>) -> Result<Beats, NoMemory>
+        ensures { IfOk result (λ beats. beats ≡ dues.items) }
+    {
+        let first = Tag { time: 0, micro: 0 };
+        let blocks = if dues.len() > BLOCK {
+            dues.len() / BLOCK + 1
+        } else {
+            0
+        };
+        let soonest = vec![in alloc; first; blocks]?;
+        Ok(Beats { dues, soonest })
+    }
+
+    /// The dues, in the order of their triggers.
+    fn as_slice(&self) -> &[Due]
+        ensures { result.now ≡ self.now }
+    {
+        self.dues.as_slice()
+    }
+
+    /// Whether one of the triggers is present at the tag, where the stop is the last. Those that were due there
+    /// are due later now. It is false too where 64 bits hold no such time.
+    fn meet(&mut self, tag: Tag, last: Tag) -> bool
+        ensures due { GoOn last tag self.old self.new }
+        ensures present { IsTrue result → IsSomePresent last tag self.old }
+    {
+        let dues = self.dues.as_mut_slice();
+        meet_all(dues, self.soonest.as_mut_slice(), tag, last)
+    }
 }
 
 impl Dues {
@@ -105,9 +229,8 @@ impl Dues {
         let program = plan.program();
         let mut lists = Vec::new(alloc);
         for number in 0..program.reactions() {
-            let reaction = program.reaction(number as u32);
-            lists.reserve(1)?;
-            lists.push_reserved(first_dues(alloc, plan, reaction.triggers.as_slice())?);
+            let triggers = program.reaction(number as u32).triggers.as_slice();
+            lists.push(Beats::new(alloc, first_dues(alloc, plan, triggers)?)?)?;
         }
         Ok(Dues { lists })
     }
@@ -128,9 +251,9 @@ impl Dues {
         ensures dues { (t : List TheRow) → last ≡ stop plan.now t → Ran t tag reaction → AreDues plan.now t self.old → AreDues plan.now t self.new }
         ensures triggered { IsTrue result → (t : List TheRow) → last ≡ stop plan.now t → Ran t tag reaction → AreDues plan.now t self.old → Triggered plan.now t tag reaction }
     {
-        let triggers = plan.program().reaction(reaction).triggers.as_slice();
-        let dues = self.lists[reaction as usize].as_mut_slice();
-        meet(plan, triggers, dues, tag, last, reaction)
+        // The plan is passed for what the contract says of it.
+        let _ = plan;
+        self.lists[reaction as usize].meet(tag, last)
     }
 
     /// Whether nothing is due up to the stop.

@@ -1,5 +1,4 @@
-use Rattle.std.proofs.Common.{◌≡◌, ℕ, ◌+◌, ◌<◌, List, length, refl, sym, ap, ◌∙◌, subst, arith, Some, slice_get}
-use Rattle.std.proofs.lemmas.List.{length-map}
+use Rattle.std.proofs.Common.{◌≡◌, ℕ, ◌+◌, ◌<◌, List, length, refl, sym, ap, subst, arith, Some, slice_get}
 use native.Mathlib.Decide.{ℕ_discrete}
 use Rattle.lft_lists.proofs.Places.{same_at}
 use Rattle.lft_model.proofs.Places.{slice_get_within}
@@ -17,5 +16,5 @@ loop-number-preserved c = λ r k list due l e f. go r k list due l e f (ℕ_disc
 pub returns : goal.returns
 returns c = λ z r k list due e f.
     let a : r < length c.args.self.now = slice_get_within c.args.self.now r list e in
-    let b : length c.args.self.now ≡ length c.self.inside.lists.items = ap (λ xs. length xs) (sym c.self.view_is) ∙ length-map c.self.inside.lists.items (λ x. x.items) in
+    let b : length c.args.self.now ≡ length c.self.inside.lists.items = ap (λ xs. length xs) (sym c.self.view_is) in
     c.loop-number.invariant r k list due (omega arith) e f
