@@ -10,8 +10,7 @@ use Rattle.lft_steps.specs.declared.row.Row.{Row}
 use Rattle.lft_model.specs.declared.breach.Breach.{Breach}
 use Rattle.lft_model.specs.Plans.{PlanParts}
 use Rattle.lft_model.specs.Presence.{stop}
-use Rattle.lft_model.specs.Runs.{end_row}
-use Rattle.lft_model.specs.Breaches.{IsUnended, BreaksRowUntil, RowBreach, TagBreach, TagOrder, RowOrder, First}
+use Rattle.lft_model.specs.Breaches.{BreaksRowUntil, RowBreach, TagBreach, TagOrder, RowOrder, First}
 use Rattle.lft_model.proofs.Places.{slice_get_within}
 use Rattle.lft_rows.specs.Firsts.{FirstRow}
 use Rattle.lft_rows.specs.Parts.{AreEarlier}
@@ -25,7 +24,7 @@ use Rattle.lft_follow.specs.declared.past.Past.{Past}
 use Rattle.lft_follow.specs.Kept.{IsPast}
 use Rattle.lft_follow.specs.Follows.{AreJudged, done_of, IsFollowerOf, IsJudged, IsJudgedOf, KeepsRows}
 use Rattle.lft_follow.proofs.Following.{judged_so_far}
-use Rattle.lft_follow.proofs.Hand.{breaks_own, breaks_whole}
+use Rattle.lft_follow.proofs.Hand.{breaks_own, breaks_whole, unended_whole}
 use Rattle.lft_follow.proofs.Rows.{breaks_back}
 
 module _ (plan : PlanParts) (d v : List Row) (settled : FirstRow (stop plan d) plan d None) (earlier : AreEarlier d v) where
@@ -52,19 +51,12 @@ module _ (plan : PlanParts) (d v : List Row) (settled : FirstRow (stop plan d) p
       few : (n : ℕ) → k ≡ n → n < 5 → k < 5
       few n is l = omega arith
 
-      ends : IsUnended v j x → (n : ℕ) → length d + j < n → ¬ (slice_get all n ≡ Some (end_row x.worker x.tag x.reaction))
-      ends o n l e = by (get_append_cases d v n (end_row x.worker x.tag x.reaction) e)
-        where
-          by : (slice_get d n ≡ Some (end_row x.worker x.tag x.reaction)) ⊎ ((m : ℕ) × (n ≡ length d + m) × (slice_get v m ≡ Some (end_row x.worker x.tag x.reaction))) → ⊥
-          by (inl p) = let a : n < length d = slice_get_within d n (end_row x.worker x.tag x.reaction) p in absurd (omega arith)
-          by (inr (m, q, p)) = let a : n ≡ length d + m = q in o.1 m (omega arith) p
-
       go : BreaksRowUntil last plan v j x k → BreaksRowUntil last plan all (length d + j) x k
       go (inl y) = less (few 1 y.0 (omega arith))
       go (inr (inl y)) = less (few 2 y.0 (omega arith))
       go (inr (inr (inl y))) = less (few 3 y.0 (omega arith))
       go (inr (inr (inr (inl y)))) = less (few 4 y.0 (omega arith))
-      go (inr (inr (inr (inr y)))) = inr (inr (inr (inr (y.0, (y.1.0, ends y.1)))))
+      go (inr (inr (inr (inr y)))) = inr (inr (inr (inr (y.0, unended_whole d v j x y.1))))
 
   -- the first of them that breaks one is the first of all
   pub first_of_rows : (o : Breach) → FirstRow last plan v (Some o) → First plan all (record o { row = length d + o.row })

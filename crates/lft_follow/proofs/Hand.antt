@@ -14,6 +14,14 @@ use Rattle.lft_model.proofs.Places.{slice_get_within}
 use Rattle.lft_rows.specs.Firsts.{FirstRow}
 use Rattle.lft_rows.specs.Parts.{AreEarlier}
 
+-- a run of rows at hand without an end has none in the whole
+pub unended_whole : (d v : List Row) (j : ℕ) (x : Row) → IsUnended v j x → IsUnended (d ++ v) (length d + j) x
+unended_whole d v j x o = (o.0, λ n l e. go n l (get_append_cases d v n (end_row x.worker x.tag x.reaction) e))
+  where
+    go : (n : ℕ) → length d + j < n → (slice_get d n ≡ Some (end_row x.worker x.tag x.reaction)) ⊎ ((m : ℕ) × (n ≡ length d + m) × (slice_get v m ≡ Some (end_row x.worker x.tag x.reaction))) → ⊥
+    go n l (inl p) = let a : n < length d = slice_get_within d n (end_row x.worker x.tag x.reaction) p in absurd (omega arith)
+    go n l (inr (m, q, p)) = let a : n ≡ length d + m = q in o.1 m (omega arith) p
+
 module _ (plan : PlanParts) (d v : List Row) (last : Tag) (settled : FirstRow last plan d None) (i : ℕ) where
   -- a start of the rows that are done has its end among them
   pub ended : (j : ℕ) (x : Row) → slice_get d j ≡ Some x → ¬ IsUnended d j x

@@ -27,3 +27,4 @@ pub mod First
 pub mod Ended
 pub mod Front
 pub mod Opening
+pub mod Opened

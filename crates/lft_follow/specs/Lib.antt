@@ -3,4 +3,5 @@ pub mod Timely
 pub mod Going
 pub mod Reach
 pub mod Kept
+pub mod OpenRuns
 pub mod Follows

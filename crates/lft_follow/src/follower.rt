@@ -10,11 +10,13 @@ ghost use Rattle.lft_rows.specs.Slices.{Rises};
 ghost use Rattle.lft_coming.specs.AtTag.{AreAt};
 ghost use Rattle.lft_stream.specs.Kept.{KeepRules};
 ghost use Rattle.lft_follow.specs.Follows.{AreDone, IsAtHand, IsHeld, IsFollowerOf, IsHalt, IsPassed, HasManyLater, IsReceipt, stopped_at, IsProgress, IsClosing, IsEnding, IsJudged, IsJudgedOf, IsTurn, IsUnjudged, BeginsLast, done_of};
+ghost use Rattle.lft_follow.specs.OpenRuns.{AreOpenRuns};
 ghost use Rattle.lft_follow.specs.declared.follower.Follower.{Follower as TheFollower};
 
 use crate::found::{Found, found_at, found_of};
 use crate::gone::{Going, Halt};
 use crate::judged::{Closing, Ending, Judged, Unjudged};
+use crate::open::{OpenRun, open_among};
 use crate::reach::Reach;
 use lft_model::Plan;
 use lft_steps::{Event, Row, row_at};
@@ -303,6 +305,15 @@ impl Follower {
         }
         let rows = self.rows.as_slice();
         self.judged.close(alloc, plan, rows)
+    }
+
+    /// The runs that have no end so far. They are at the last tag.
+    pub fn open_runs(&self, alloc: Global, plan: &Plan) -> Result<Vec<OpenRun>, NoMemory>
+        requires { (t : List TheRow) × IsFollowerOf plan.now t self.now }
+        ensures { IfOk result (λ runs. (t : List TheRow) → IsFollowerOf plan.now t self.now → AreOpenRuns 0 t runs.items) }
+    {
+        let reactions = plan.program().reactions();
+        open_among(alloc, self.rows.as_slice(), self.judged.count, reactions)
     }
 
     /// What the rows show where no more come. The last tag is judged too, where all of its runs are there.

@@ -8,6 +8,7 @@ mod judged;
 mod kept;
 mod laws;
 mod monitor;
+mod open;
 mod past;
 mod reach;
 
@@ -16,4 +17,5 @@ pub use found::Found;
 pub use judged::{Closing, Ending, Unjudged};
 pub use laws::{law_sure, law_timely};
 pub use monitor::{go_on, is_unbroken};
+pub use open::OpenRun;
 pub use reach::Reach;
