@@ -16,7 +16,7 @@ use lft_follow::{Ending, Reach};
 use lft_load::{Detail, Fault, Part, load, write_text};
 use lft_log::{Final, Log, LogFault, Told};
 use lft_model::Plan;
-use lft_tag::{MAX_MICRO, MAX_TIME, Tag};
+use lft_tag::{MAX_MICRO, MAX_ROWS, MAX_TIME, Tag};
 use lft_trace::number::read_number;
 use memchr::memchr;
 use std::alloc::Global;
@@ -160,15 +160,15 @@ fn add<E: Write>(
     }
 }
 
-/// Puts a piece of a log behind what is kept of it. All is given up where that is more than may be kept, or
-/// memory is refused.
-fn keep(kept: &mut Option<Vec<u8>>, piece: &[u8])
+/// Puts a piece of a log behind what is kept of it, where so many rows came before. All is given up where these
+/// are more than a table may have, where the bytes are more than may be kept, or memory is refused.
+fn keep(kept: &mut Option<Vec<u8>>, rows: u64, piece: &[u8])
     ensures { IsKeptOn kept.old kept.new piece.now }
 {
     let Some(mut bytes) = kept.take() else {
         return;
     };
-    if piece.len() > MOST || bytes.len() > MOST - piece.len() {
+    if rows > MAX_ROWS as u64 || piece.len() > MOST || bytes.len() > MOST - piece.len() {
         return;
     }
     if bytes.extend_from_slice(piece).is_ok() {
@@ -204,7 +204,7 @@ fn read_log<R: Read, E: Write>(
             }
             Ok(count) => {
                 let piece = &chunk[..count];
-                keep(kept, piece);
+                keep(kept, log.rows(), piece);
                 match add(&mut log, alloc, plan, piece, following.every, errors) {
                     Ok(None) => {}
                     Ok(Some(told)) => return Ok(Final::Soon(told)),
@@ -234,9 +234,10 @@ fn report<W: Write>(alloc: Global, program: &Program, told: Final, out: &mut W) 
 
 /// Follows the log of a reader under a plan, and writes the line of what is told of it. Each `every` rows it
 /// writes how far they are judged to `errors`. What is read is put behind `kept`, where something is kept: up
-/// to 2^30 bytes, and as long as memory suffices. The fault is that of a line of the log, once the rows before
-/// it are judged: part `trace`, or `externals` of an event or a stop; `read` 1 `Failed` where the reader fails;
-/// `write` 1 `Failed` where a writer fails; `memory` 1. The path is for a fault alone.
+/// to 2^30 bytes and 4,000,000 rows, and as long as memory suffices. Then all of it is given up. The fault is
+/// that of a line of the log, once the rows before it are judged: part `trace`, or `externals` of an event or a
+/// stop; `read` 1 `Failed` where the reader fails; `write` 1 `Failed` where a writer fails; `memory` 1. The path
+/// is for a fault alone.
 pub fn follow_plan<R: Read, W: Write, E: Write>(
     alloc: Global,
     plan: Plan,
