@@ -1,3 +1,4 @@
 mod Cutting
 mod Early
+mod Listing
 mod Writing

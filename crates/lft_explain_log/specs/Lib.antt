@@ -1,3 +1,4 @@
 pub mod Cuts
+pub mod Listed
 pub mod Reasons
 pub mod Explained

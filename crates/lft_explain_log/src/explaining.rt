@@ -1,18 +1,20 @@
 //! The line of a log, and the facts behind a broken rule.
 
-ghost use Rattle.std.specs.Prelude.{◌≡◌, IfOk, IfSome};
+ghost use Rattle.std.specs.Prelude.{◌≡◌, List, ℕ, IfOk, IfNone, IfSome};
 ghost use Rattle.lft_steps.specs.Fits.{RowsFit};
 ghost use Rattle.lft_follow.specs.Follows.{breach_of};
-ghost use Rattle.lft_explain_log.specs.Explained.{ExplainsCut, ExplainsFirst, IsExplained, IsExplainedUnder, IsLogCut, IsReasonOf, found_in};
+ghost use Rattle.lft_log.specs.Told.{AreOpenAtEnd};
+ghost use Rattle.lft_explain_log.specs.Explained.{ExplainsCut, ExplainsFirst, HasMore, IsExplained, IsExplainedUnder, IsListOf, IsLogCut, IsReasonOf, IsTextBehind};
 
 use crate::cut::cut_at;
 use crate::first::is_first_so_far;
+use crate::listed::lines_of_runs;
 use crate::reasons::reasons;
-use lft_follow::{Ending, Found};
+use lft_follow::{Ending, Found, OpenRun};
 use lft_load::{Fault, load, write_text};
 use lft_log::rows_of_log;
 use lft_model::{Breach, Plan};
-use lft_monitor::{Final, Following, Told, follow_plan};
+use lft_monitor::{Ended, Final, Following, Told, follow_plan};
 use lft_steps::Rows;
 use lft_tag::NoMemory;
 use std::alloc::Global;
@@ -22,20 +24,8 @@ use std::io::{Read, Write};
 #[derive(Clone, Copy)]
 pub struct Explained {
     pub told: Final,
-    /// A rule is broken, and what explains it can't be had: more was read than a table may have, or memory is
-    /// refused.
+    /// What is to stand behind the line can't be had: more was read than a table may have, or memory is refused.
     pub is_unexplained: bool,
-}
-
-/// The breach that is told, if one is.
-fn found_in(told: Final) -> Option<Found>
-    ensures { result ≡ found_in told }
-{
-    match told {
-        Final::Soon(Told::Broken(found)) => Some(found),
-        Final::AtEnd(Ending::Broken(found)) => Some(found),
-        _ => None,
-    }
 }
 
 /// The same breach, where its line is one of a table.
@@ -127,12 +117,48 @@ fn reasons_of_kept(
     }
 }
 
-/// Follows the log of a reader under a plan as `follow_plan` does, and writes behind the line of a broken rule
-/// the facts that explain it: all, or the first lines of each part. They are of the rows up to the one behind
-/// which the breach is sure, as their heading says. The line is written before the facts are looked for.
-/// Nothing stands behind it where the breach isn't the first of these rows: a row that breaks rule 1 asks for
-/// a stop before an earlier row. For the facts what is read is kept, as far as `follow_plan` keeps it, and a
-/// copy of the plan. The faults are those of `follow_plan`.
+/// The lines of the runs that are open at the end. None where memory is refused.
+fn lines_of_open(alloc: Global, plan: &Plan, still_open: Option<Vec<OpenRun>>) -> Option<Vec<u8>>
+    requires { IfSome still_open (λ runs. (log : List ℕ) × AreOpenAtEnd plan.now log runs.items) }
+    ensures { IfSome result (λ text. IsListOf plan.now still_open text.items) }
+{
+    let Some(runs) = still_open else {
+        return None;
+    };
+    match lines_of_runs(alloc, plan.program(), runs.as_slice()) {
+        Ok(text) => Some(text),
+        Err(_) => None,
+    }
+}
+
+/// What is to stand behind the line of what is told: what explains a breach, or the runs that are open at the
+/// end. None where it can't be had.
+fn text_behind(
+    alloc: Global,
+    plan: &mut Plan,
+    kept: Option<Vec<u8>>,
+    ended: Ended,
+    all: bool,
+) -> Option<Vec<u8>>
+    requires { IfSome ended.still_open (λ runs. (log : List ℕ) × AreOpenAtEnd plan.old log runs.items) }
+    ensures text { IfSome result (λ text. IsTextBehind all plan.old kept ended text.items) }
+    ensures none { IfNone result (HasMore ended.told) }
+{
+    match ended.told {
+        Final::Soon(Told::Broken(found)) => reasons_of_kept(alloc, plan, kept, found, all),
+        Final::AtEnd(Ending::Broken(found)) => reasons_of_kept(alloc, plan, kept, found, all),
+        Final::AtEnd(Ending::Unbroken(_)) => lines_of_open(alloc, plan, ended.still_open),
+        _ => Some(Vec::new(alloc)),
+    }
+}
+
+/// Follows the log of a reader under a plan as `follow_plan` does, and writes more behind the line. Behind that
+/// of a broken rule stand the facts that explain it: all, or the first lines of each part. They are of the rows
+/// up to the one behind which the breach is sure, as their heading says. Nothing stands there where the breach
+/// isn't the first of these rows: a row that breaks rule 1 asks for a stop before an earlier row. Behind the
+/// line of rows that end without a breach, and of which some are missing, stand the runs that are open. The line
+/// is written before these are looked for. For the facts what is read is kept, as far as `follow_plan` keeps it,
+/// and a copy of the plan. The faults are those of `follow_plan`.
 pub fn explain_log_plan<R: Read, W: Write, E: Write>(
     alloc: Global,
     plan: Plan,
@@ -150,17 +176,12 @@ pub fn explain_log_plan<R: Read, W: Write, E: Write>(
         return Err(Fault::no_memory());
     };
     let mut kept = Some(Vec::new(alloc));
-    let told = match follow_plan(alloc, plan, path, reader, following, &mut kept, out, errors) {
-        Ok(told) => told,
+    let ended = match follow_plan(alloc, plan, path, reader, following, &mut kept, out, errors) {
+        Ok(ended) => ended,
         Err(fault) => return Err(fault),
     };
-    let Some(found) = found_in(told) else {
-        return Ok(Explained {
-            told,
-            is_unexplained: false,
-        });
-    };
-    let Some(text) = reasons_of_kept(alloc, &mut before, kept, found, all) else {
+    let told = ended.told;
+    let Some(text) = text_behind(alloc, &mut before, kept, ended, all) else {
         return Ok(Explained {
             told,
             is_unexplained: true,

@@ -4,6 +4,7 @@
 mod cut;
 mod explaining;
 mod first;
+mod listed;
 mod reasons;
 
 pub use explaining::{Explained, explain_log, explain_log_plan};

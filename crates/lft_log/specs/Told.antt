@@ -12,6 +12,8 @@ use Rattle.lft_model.specs.Plans.{PlanParts}
 use Rattle.lft_model.specs.Breaches.{First}
 use Rattle.lft_rows.specs.Accepted.{IsAccepted}
 use Rattle.lft_follow.specs.declared.judged.Ending.TheVariants as ending
+use Rattle.lft_follow.specs.declared.open.OpenRun.{OpenRun}
+use Rattle.lft_follow.specs.OpenRuns.{AreOpenRuns}
 use Rattle.lft_follow.specs.Follows.{HasManyLater, IsFollowerOf, IsSureSoFar, IsOddSoFar, IsClean, IsFirstUpToLast, IsJudged, IsPassed, IsQuiet, breach_of}
 use Rattle.lft_trace.specs.ExternalTables.{IsEntry, event_of, stop_of}
 use Rattle.lft_trace.specs.LogTables.{IsNoLine}
@@ -105,6 +107,14 @@ IsFinal base until whole bytes (AtEnd (ending.Broken b)) = (whole ≡ true) × (
 abbrev pub IsEnded : PlanParts → Option Tag → Bool → List ℕ → Final → Type 0
 IsEnded base until whole bytes (Soon told) = IsSoon base until bytes told ⊎ LastCounts bytes × IsSoon base until (bytes ++ 10 ∷ []) told
 IsEnded base until whole bytes (AtEnd ending) = LastCounts bytes × IsFinal base until whole (bytes ++ 10 ∷ []) (AtEnd ending) ⊎ LastIsLeft bytes × IsFinal base until whole bytes (AtEnd ending)
+
+-- the bytes are a log, up to a line without its end, and the runs are those of its rows without an end
+abbrev pub AreOpenIn : PlanParts → List ℕ → List OpenRun → Type 0
+AreOpenIn base bytes runs = (plan : PlanParts) × (t : List Row) × (rest : List ℕ) × TellsPlan base bytes plan t [] rest × HasNoEnd rest × AreOpenRuns 0 t runs
+
+-- the same of bytes behind which no more come, of all that counts
+abbrev pub AreOpenAtEnd : PlanParts → List ℕ → List OpenRun → Type 0
+AreOpenAtEnd base bytes runs = LastCounts bytes × AreOpenIn base (bytes ++ 10 ∷ []) runs ⊎ LastIsLeft bytes × AreOpenIn base bytes runs
 
 -- behind the lines of a log stands a record of which this is so
 abbrev pub StandsBehind : Parts → List ℕ → List Line → (List (List ℕ) → Type 0) → Type 0

@@ -15,4 +15,4 @@ pub use fault::LogFault;
 pub use laws::law_log;
 pub use log::Log;
 pub use rows::rows_of_log;
-pub use told::{Final, Told};
+pub use told::{Ended, Final, Told};

@@ -8,15 +8,15 @@ ghost use Rattle.lft_steps.specs.Fits.{RowsFit};
 ghost use Rattle.lft_model.specs.Plans.{PlanParts};
 ghost use Rattle.lft_follow.specs.Follows.{IsFollowerOf, IsJudged, IsQuiet};
 ghost use Rattle.lft_log.specs.Logs.{AreLines, HasNoEnd, IsHead};
-ghost use Rattle.lft_log.specs.Told.{AreAll, IsAskedOf, IsBegun, IsEnded, IsFaultOf, IsFinal, IsLog, IsLogOf, IsSaid, IsSoon, KeepTo};
+ghost use Rattle.lft_log.specs.Told.{AreAll, AreOpenAtEnd, AreOpenIn, IsAskedOf, IsBegun, IsEnded, IsFaultOf, IsFinal, IsLog, IsLogOf, IsSaid, IsSoon, KeepTo};
 
 use crate::asked::Asked;
 use crate::fault::LogFault;
 use crate::front::read_front;
 use crate::lines::{below_header, is_whole, whole_lines};
 use crate::telling::tell_all;
-use crate::told::{Final, Told};
-use lft_follow::{Closing, Ending, Follower, Progress, Reach};
+use crate::told::{Ended, Final, Told};
+use lft_follow::{Closing, Ending, Follower, OpenRun, Progress, Reach};
 use lft_model::Plan;
 use lft_steps::Row;
 use lft_tag::{NoMemory, Tag};
@@ -300,28 +300,53 @@ impl Log {
         }
     }
 
+    /// The same, whether a half line is left or not.
+    fn end_here(&mut self, alloc: Global, plan: &Plan, whole: bool) -> Final
+        requires begun { self.old.is_begun ≡ true }
+        requires stands { (base : PlanParts) × (until : Option TheTag) × (bytes : List ℕ) × IsLog base plan.now until bytes self.old }
+        ensures { (base : PlanParts) (until : Option TheTag) (bytes : List ℕ) → IsLog base plan.now until bytes self.old → IsFinal base until whole bytes result }
+    {
+        if self.rest.is_empty() {
+            self.end(alloc, plan, whole)
+        } else {
+            self.end_cut(alloc, plan)
+        }
+    }
+
+    /// The runs that have no end so far. None where memory is refused.
+    fn still_open(&self, alloc: Global, plan: &Plan) -> Option<Vec<OpenRun>>
+        requires begun { self.now.is_begun ≡ true }
+        requires stands { (base : PlanParts) × (until : Option TheTag) × (bytes : List ℕ) × IsLog base plan.now until bytes self.now }
+        ensures { (base : PlanParts) (until : Option TheTag) (bytes : List ℕ) → IsLog base plan.now until bytes self.now → IfSome result (λ runs. AreOpenIn base bytes runs.items) }
+    {
+        match self.follower.open_runs(alloc, plan) {
+            Ok(runs) => Some(runs),
+            Err(_) => None,
+        }
+    }
+
     /// What the table shows where no more comes and its lines are whole, but for a last one that says nothing.
-    fn told_at_end(&mut self, alloc: Global, plan: &Plan, whole: bool) -> Result<Final, LogFault>
+    fn told_at_end(&mut self, alloc: Global, plan: &Plan, whole: bool) -> Result<Ended, LogFault>
         requires { (base : PlanParts) × (until : Option TheTag) × (bytes : List ℕ) × IsLog base plan.now until bytes self.old }
-        ensures ended { IfOk result (λ told. (base : PlanParts) (until : Option TheTag) (bytes : List ℕ) → IsLog base plan.now until bytes self.old → IsFinal base until whole bytes told) }
+        ensures ended { IfOk result (λ e. (base : PlanParts) (until : Option TheTag) (bytes : List ℕ) → IsLog base plan.now until bytes self.old → IsFinal base until whole bytes e.told) }
+        ensures still_open { IfOk result (λ e. (base : PlanParts) (until : Option TheTag) (bytes : List ℕ) → IsLog base plan.now until bytes self.old → IfSome e.still_open (λ runs. AreOpenIn base bytes runs.items)) }
         ensures fault { IfErr result (λ f. (base : PlanParts) (bytes : List ℕ) → IsFaultOf base bytes f) }
     {
         if !self.is_begun {
             return Err(LogFault::NoHeader);
         }
-        if self.rest.is_empty() {
-            Ok(self.end(alloc, plan, whole))
-        } else {
-            Ok(self.end_cut(alloc, plan))
-        }
+        let still_open = self.still_open(alloc, plan);
+        let told = self.end_here(alloc, plan, whole);
+        Ok(Ended { told, still_open })
     }
 
     /// What the table shows where no more comes. A last line without its end counts only if nothing can
     /// be missing of it. With `whole` no row is missing, if the last line counts.
-    pub fn finish(&mut self, alloc: Global, plan: &mut Plan, whole: bool) -> Result<Final, LogFault>
+    pub fn finish(&mut self, alloc: Global, plan: &mut Plan, whole: bool) -> Result<Ended, LogFault>
         requires { (base : PlanParts) × (until : Option TheTag) × (bytes : List ℕ) × IsLog base plan.old until bytes self.old }
         ensures program { plan.new.program ≡ plan.old.program }
-        ensures ended { IfOk result (λ told. (base : PlanParts) (until : Option TheTag) (bytes : List ℕ) → IsLog base plan.old until bytes self.old → IsEnded base until whole bytes told) }
+        ensures ended { IfOk result (λ e. (base : PlanParts) (until : Option TheTag) (bytes : List ℕ) → IsLog base plan.old until bytes self.old → IsEnded base until whole bytes e.told) }
+        ensures still_open { IfOk result (λ e. (base : PlanParts) (until : Option TheTag) (bytes : List ℕ) → IsLog base plan.old until bytes self.old → IfSome e.still_open (λ runs. AreOpenAtEnd base bytes runs.items)) }
         ensures fault { IfErr result (λ f. (base : PlanParts) (until : Option TheTag) (bytes : List ℕ) → IsLog base plan.old until bytes self.old → IsFaultOf base (bytes ++ 10 ∷ []) f) }
     {
         if !is_whole(self.rest.as_slice()) {
@@ -329,7 +354,10 @@ impl Log {
         }
         match self.add_whole(alloc, plan, b"\n") {
             Ok(None) => self.told_at_end(alloc, plan, whole),
-            Ok(Some(told)) => Ok(Final::Soon(told)),
+            Ok(Some(told)) => Ok(Ended {
+                told: Final::Soon(told),
+                still_open: None,
+            }),
             Err(fault) => Err(fault),
         }
     }

@@ -1,6 +1,6 @@
 //! What is told of a table.
 
-use lft_follow::{Ending, Found, Reach};
+use lft_follow::{Ending, Found, OpenRun, Reach};
 
 /// What is told before the end of a table. Nothing is judged behind it.
 #[derive(Clone, Copy, PartialEq, Eq, Debug, Drop)]
@@ -18,4 +18,12 @@ pub enum Told {
 pub enum Final {
     Soon(Told),
     AtEnd(Ending),
+}
+
+/// What is told where no more comes, and the runs that have no end there.
+#[derive(Drop)]
+pub struct Ended {
+    pub told: Final,
+    /// None where more may come behind what is told, or memory is refused.
+    pub still_open: Option<Vec<OpenRun>>,
 }

@@ -45,7 +45,7 @@ module _ (plan : PlanParts) (t : List Row) (own : (i : ℕ) (x : Row) → slice_
   of_first b (inr o) = of_tag b.tag b.reaction b.rule o.1.breaks
 
 -- the reactions of rows of a log are of the program
-of_log : (base plan : PlanParts) (bytes : List ℕ) (others : List (List (List ℕ))) (rest : List ℕ) (t : List Row) → IsSound base.program → TellsPlan base bytes plan t others rest → (i : ℕ) (x : Row) → slice_get t i ≡ Some x → x.reaction < length plan.program.reactions
+pub of_log : (base plan : PlanParts) (bytes : List ℕ) (others : List (List (List ℕ))) (rest : List ℕ) (t : List Row) → IsSound base.program → TellsPlan base bytes plan t others rest → (i : ℕ) (x : Row) → slice_get t i ≡ Some x → x.reaction < length plan.program.reactions
 of_log base plan bytes others rest t sound is i x e =
     let records = row_records is.held.first is.lines in
     let each = subst (λ (u : List Row). AllZip (IsRow base.program) records u) is.rows_are (rows_each base.program is.held.first is.lines is.held.each) in

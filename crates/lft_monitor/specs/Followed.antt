@@ -7,7 +7,8 @@ use Rattle.lft_trace.specs.Numbers.{number}
 use Rattle.lft_model.specs.Plans.{PlanParts}
 use Rattle.lft_load.specs.Meaning.{IsPlanOf, OfOnly}
 use Rattle.lft_follow.specs.declared.judged.Ending.{Ending}
-use Rattle.lft_log.specs.Told.{IsEnded}
+use Rattle.lft_log.specs.Told.{AreOpenAtEnd, IsEnded}
+use Rattle.lft_log.specs.declared.told.Ended.{Ended}
 use Rattle.lft_log.specs.declared.told.Final.{Final}
 use Rattle.lft_log.specs.declared.told.Final.TheVariants.{AtEnd}
 use Rattle.lft_monitor.specs.Lines.{line_of_log}
@@ -26,15 +27,15 @@ pub record IsRead (base : PlanParts) (until : Option Tag) (whole : Bool) (bytes 
   pub ended : IsEnded base until whole bytes told
   pub all : (ending : Ending) → told ≡ AtEnd ending → IsAtEnd new
 
--- the reader gave some bytes of which this is so, and they are kept
-abbrev pub IsReadKept : PlanParts → Option Tag → Bool → Option (Vec ℕ) → Option (Vec ℕ) → Option (List ℕ) → Option (List ℕ) → Final → Type 0
-IsReadKept base until whole kept_old kept_new old new told = (bytes : List ℕ) × IsRead base until whole bytes old new told × IsKeptOn kept_old kept_new bytes
+-- the reader gave some bytes of which this is so, and they are kept; the runs are those without an end behind them
+abbrev pub IsReadKept : PlanParts → Option Tag → Bool → Option (Vec ℕ) → Option (Vec ℕ) → Option (List ℕ) → Option (List ℕ) → Ended → Type 0
+IsReadKept base until whole kept_old kept_new old new e = (bytes : List ℕ) × IsRead base until whole bytes old new e.told × IsKeptOn kept_old kept_new bytes × IfSome e.still_open (λ runs. AreOpenAtEnd base bytes runs.items)
 
 -- what is told is so of the bytes that the reader gave under the plan, which are kept, and its line was written
-pub record IsFollowedUnder (plan : PlanParts) (until : Option Tag) (whole : Bool) (kept_old kept_new : Option (Vec ℕ)) (old new out_old out_new : Option (List ℕ)) (told : Final) : Type 0 where
-  pub read : IsReadKept plan until whole kept_old kept_new old new told
-  pub written : Appends out_old out_new (line_of_log plan.program told)
+pub record IsFollowedUnder (plan : PlanParts) (until : Option Tag) (whole : Bool) (kept_old kept_new : Option (Vec ℕ)) (old new out_old out_new : Option (List ℕ)) (e : Ended) : Type 0 where
+  pub read : IsReadKept plan until whole kept_old kept_new old new e
+  pub written : Appends out_old out_new (line_of_log plan.program e.told)
 
 -- the two texts have one plan, and under it the same is so
-abbrev pub IsFollowed : List ℕ → List ℕ → Option Tag → Bool → Option (Vec ℕ) → Option (Vec ℕ) → Option (List ℕ) → Option (List ℕ) → Option (List ℕ) → Option (List ℕ) → Final → Type 0
-IsFollowed program externals until whole kept_old kept_new old new out_old out_new told = OfOnly (IsPlanOf program externals) (λ plan. IsFollowedUnder plan until whole kept_old kept_new old new out_old out_new told)
+abbrev pub IsFollowed : List ℕ → List ℕ → Option Tag → Bool → Option (Vec ℕ) → Option (Vec ℕ) → Option (List ℕ) → Option (List ℕ) → Option (List ℕ) → Option (List ℕ) → Ended → Type 0
+IsFollowed program externals until whole kept_old kept_new old new out_old out_new e = OfOnly (IsPlanOf program externals) (λ plan. IsFollowedUnder plan until whole kept_old kept_new old new out_old out_new e)

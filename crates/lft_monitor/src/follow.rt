@@ -14,7 +14,7 @@ use crate::line::{line_of_final, unbroken_line};
 use lft_flat::Program;
 use lft_follow::{Ending, Reach};
 use lft_load::{Detail, Fault, Part, load, write_text};
-use lft_log::{Final, Log, LogFault, Told};
+use lft_log::{Ended, Final, Log, LogFault, Told};
 use lft_model::Plan;
 use lft_tag::{MAX_MICRO, MAX_ROWS, MAX_TIME, Tag};
 use lft_trace::number::read_number;
@@ -186,7 +186,7 @@ fn read_log<R: Read, E: Write>(
     following: Following,
     kept: &mut Option<Vec<u8>>,
     errors: &mut E,
-) -> Result<Final, Fault>
+) -> Result<Ended, Fault>
     requires { 0 < length chunk.old }
     ensures program { plan.new.program ≡ plan.old.program }
     ensures read { IfOk result (IsReadKept plan.old following.until following.whole kept.old kept.new (R.remaining reader.old) (R.remaining reader.new)) }
@@ -198,7 +198,7 @@ fn read_log<R: Read, E: Write>(
         match reader.read(chunk) {
             Ok(0) => {
                 return match log.finish(alloc, plan, following.whole) {
-                    Ok(told) => Ok(told),
+                    Ok(ended) => Ok(ended),
                     Err(fault) => Err(fault_of(alloc, fault)),
                 };
             }
@@ -207,7 +207,12 @@ fn read_log<R: Read, E: Write>(
                 keep(kept, log.rows(), piece);
                 match add(&mut log, alloc, plan, piece, following.every, errors) {
                     Ok(None) => {}
-                    Ok(Some(told)) => return Ok(Final::Soon(told)),
+                    Ok(Some(told)) => {
+                        return Ok(Ended {
+                            told: Final::Soon(told),
+                            still_open: None,
+                        });
+                    }
                     Err(fault) => return Err(fault),
                 }
             }
@@ -232,12 +237,12 @@ fn report<W: Write>(alloc: Global, program: &Program, told: Final, out: &mut W) 
     }
 }
 
-/// Follows the log of a reader under a plan, and writes the line of what is told of it. Each `every` rows it
-/// writes how far they are judged to `errors`. What is read is put behind `kept`, where something is kept: up
-/// to 2^30 bytes and 4,000,000 rows, and as long as memory suffices. Then all of it is given up. The fault is
-/// that of a line of the log, once the rows before it are judged: part `trace`, or `externals` of an event or a
-/// stop; `read` 1 `Failed` where the reader fails; `write` 1 `Failed` where a writer fails; `memory` 1. The path
-/// is for a fault alone.
+/// Follows the log of a reader under a plan, and writes the line of what is told of it. At the end it gives the
+/// runs too that have no end, which it doesn't write. Each `every` rows it writes how far they are judged to
+/// `errors`. What is read is put behind `kept`, where something is kept: up to 2^30 bytes and 4,000,000 rows, and
+/// as long as memory suffices. Then all of it is given up. The fault is that of a line of the log, once the rows
+/// before it are judged: part `trace`, or `externals` of an event or a stop; `read` 1 `Failed` where the reader
+/// fails; `write` 1 `Failed` where a writer fails; `memory` 1. The path is for a fault alone.
 pub fn follow_plan<R: Read, W: Write, E: Write>(
     alloc: Global,
     plan: Plan,
@@ -247,7 +252,7 @@ pub fn follow_plan<R: Read, W: Write, E: Write>(
     kept: &mut Option<Vec<u8>>,
     out: &mut W,
     errors: &mut E,
-) -> Result<Final, Fault>
+) -> Result<Ended, Fault>
     ensures followed { IfOk result (IsFollowedUnder plan following.until following.whole kept.old kept.new (R.remaining reader.old) (R.remaining reader.new) (W.contents out.old) (W.contents out.new)) }
 {
     let mut plan = plan;
@@ -255,14 +260,14 @@ pub fn follow_plan<R: Read, W: Write, E: Write>(
         return Err(Fault::no_memory());
     };
     let chunk = chunk.as_mut_slice();
-    let told = match read_log(
+    let ended = match read_log(
         alloc, &mut plan, path, reader, chunk, following, kept, errors,
     ) {
-        Ok(told) => told,
+        Ok(ended) => ended,
         Err(fault) => return Err(fault),
     };
-    match report(alloc, plan.program(), told, out) {
-        Ok(()) => Ok(told),
+    match report(alloc, plan.program(), ended.told, out) {
+        Ok(()) => Ok(ended),
         Err(fault) => Err(fault),
     }
 }
@@ -279,7 +284,7 @@ pub fn follow_log<R: Read, W: Write, E: Write>(
     kept: &mut Option<Vec<u8>>,
     out: &mut W,
     errors: &mut E,
-) -> Result<Final, Fault>
+) -> Result<Ended, Fault>
     ensures followed { IfOk result (IsFollowed program.now externals.now following.until following.whole kept.old kept.new (R.remaining reader.old) (R.remaining reader.new) (W.contents out.old) (W.contents out.new)) }
 {
     match load(alloc, program, externals) {

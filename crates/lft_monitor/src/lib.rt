@@ -5,4 +5,4 @@ mod follow;
 mod line;
 
 pub use follow::{Following, drain, follow_log, follow_plan, read_until, status_of_log};
-pub use lft_log::{Final, Told};
+pub use lft_log::{Ended, Final, Told};

@@ -38,8 +38,8 @@ fn end_failed(rt: &HostRuntime, alloc: Global, failure: Failure) -> u8 {
     status
 }
 
-/// What is told of the trace of a reader under a plan, and behind the line of a broken rule the facts, where they are
-/// asked for.
+/// What is told of the trace of a reader under a plan. Where it is asked for, the facts stand behind the line of a
+/// broken rule, and the open runs behind that of an end where rows are missing.
 fn tell_plan<R: Read, W: Write>(
     rt: &HostRuntime,
     alloc: Global,
@@ -52,7 +52,7 @@ fn tell_plan<R: Read, W: Write>(
     let following = words.following;
     let mut errors = rt.stderr();
     if !words.explain {
-        return follow_plan(
+        let ended = follow_plan(
             alloc,
             plan,
             path,
@@ -61,7 +61,8 @@ fn tell_plan<R: Read, W: Write>(
             &mut None,
             out,
             &mut errors,
-        );
+        )?;
+        return Ok(ended.told);
     }
     let explained = explain_log_plan(
         alloc,

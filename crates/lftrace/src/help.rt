@@ -71,8 +71,8 @@ missing or those at the last tag may break a rule: --whole tells; the same with
 --until (status 0).
 With --explain an empty line and the facts that show it stand behind broken ..,
 of the trace up to the line that they name, and the runs that are open behind
-unbroken .. at the end. For them what is read is kept, as much as a table may
-have.";
+unbroken .. at the end. For the facts what is read is kept, as much as a table
+may have.";
 
 pub(crate) const SHOW_HELP: &str = "\
 PROGRAM is the path of a file; /dev/stdin is standard input.

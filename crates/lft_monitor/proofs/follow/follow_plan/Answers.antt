@@ -11,4 +11,4 @@ report-requires g c =
     let read = c.in-Ok-read_log.ensures.read in
     let same = c.program.ensures.value ∙ c.in-Ok-read_log.ensures.program in
     let sound = subst (λ (p : Parts). IsSound p) c.in-Ok-read_log.ensures.program c.program.ensures.sound.sound in
-    subst (λ (p : Parts). HasFound p c.in-Ok-read_log.told) (sym same) (has_found plan c.args.following.until c.args.following.whole read.0 c.in-Ok-read_log.told sound read.1.ended)
+    subst (λ (p : Parts). HasFound p c.in-Ok-read_log.ended.told) (sym same) (has_found plan c.args.following.until c.args.following.whole read.0 c.in-Ok-read_log.ended.told sound read.1.ended)

@@ -24,6 +24,7 @@ returns-in-Ok-eq0-clause-read g c =
           all = λ ending q. read.1 c.in-Ok-eq0.field-0-test room;
         },
         c.loop.invariant.5,
+        w.in-Ok-finish.ensures.still_open c.args.plan.now c.args.following.until bytes c.loop.invariant.2,
       )
       | in-Err-finish w ↦ subst (λ r. IfOk r is) (sym w.result-is) tt
     ]
@@ -39,6 +40,7 @@ returns-in-Ok-Some-clause-read g c =
         all = λ ending q. absurd (soon_is_no_end c.in-Ok-Some.told ending q);
       },
       kept_both c.args.kept.now c.loop.kept c.keep.new.kept bytes piece c.loop.invariant.5 c.keep.ensures,
+      tt,
     )
 
 pub loop-init : goal.loop-init

@@ -1,4 +1,7 @@
 use Rattle.lft_log.proofs.log.Log.told_at_end.Goals as goal
 
-pub returns-else-is_empty-clause-ended : goal.returns-else-is_empty-clause-ended
-returns-else-is_empty-clause-ended c = λ base until bytes is. c.end_cut.ensures base until c.args.whole bytes is c.if-not-self.false
+pub returns-clause-ended : goal.returns-clause-ended
+returns-clause-ended c = c.end_here-told.ensures
+
+pub returns-clause-still_open : goal.returns-clause-still_open
+returns-clause-still_open c = c.still_open-still_open.ensures
