@@ -1,2 +1,4 @@
 pub mod Lines
 pub mod Followed
+pub mod Refusals
+pub mod Reaches

@@ -1,25 +1,28 @@
 //! A log that is judged while it is written.
 
-ghost use Rattle.std.specs.Prelude.{◌≡◌, ◌≢◌, ◌<◌, ◌++◌, ℕ, List, Option, length, IfOk, IfNone, IfSome, IsTrue, OnOk, MatchOption};
-ghost use Rattle.std.specs.Io.KnownBytes.{Appends, IsAtEnd};
+ghost use Rattle.std.specs.Prelude.{◌≡◌, ◌≢◌, ◌⊎◌, ◌<◌, ◌++◌, ℕ, List, Option, length, IfOk, IfErr, IfNone, IfSome, IsTrue, OnOk, MatchOption};
+ghost use Rattle.std.specs.Io.KnownBytes.{Appends, IsAtEnd, Keeps};
 ghost use Rattle.lft_tag.specs.declared.Tag.{Tag as TheTag};
 ghost use Rattle.lft_tag.specs.Tags.{IsRecorded};
 ghost use Rattle.lft_model.specs.Plans.{PlanParts};
 ghost use Rattle.lft_load.specs.declared.fault.Part.TheVariants as part;
+ghost use Rattle.lft_front.specs.Explained.{WriteRefusal};
 ghost use Rattle.lft_log.specs.Told.{IsLog, IsSoon};
-ghost use Rattle.lft_monitor.specs.Lines.{HasFound, line_of_log, log_status};
+ghost use Rattle.lft_monitor.specs.Lines.{HasFound, line_of_log, log_status, unbroken_words};
 ghost use Rattle.lft_monitor.specs.Followed.{IsFollowed, IsFollowedUnder, IsKeptOn, IsReadKept, until_words};
+ghost use Rattle.lft_monitor.specs.Reaches.{OfReaches, OfReadReaches, OfTextReaches, WritesOrFails};
+ghost use Rattle.lft_monitor.specs.Refusals.{FollowRefusal, FollowRefusalUnder, IsFaultOfLog, IsNamed, IsOutside, IsToldAs, ReadRefusal, TellsLine};
 
 use crate::line::{line_of_final, unbroken_line};
 use lft_flat::Program;
 use lft_follow::{Ending, Reach};
-use lft_load::{Detail, Fault, Part, load, write_text};
+use lft_load::{Detail, Fault, Part, load, push_field, write_text};
 use lft_log::{Ended, Final, Log, LogFault, Told};
 use lft_model::Plan;
 use lft_tag::{MAX_MICRO, MAX_ROWS, MAX_TIME, Tag};
 use lft_trace::number::read_number;
 use memchr::memchr;
-use std::alloc::Global;
+use std::alloc::{AllocError, Global};
 use std::io::{ErrorKind, Read, Write};
 
 /// So many bytes are read at once at most.
@@ -68,43 +71,65 @@ pub fn status_of_log(told: Final) -> u8
     }
 }
 
-/// A fault of a line of a table, whose number may have 64 bits.
-fn fault_at(alloc: Global, table: Part, number: u32, name: &'static str, line: u64) -> Fault
-    requires { table ≢ part.Write }
-    ensures { result.part ≢ part.Write }
+/// What a fault tells of its line, whose number may have 64 bits.
+fn detail_of(alloc: Global, line: u64) -> Result<Detail, AllocError>
+    ensures { IfOk result (TellsLine (Some line)) }
 {
     if line <= u64::from(u32::MAX) {
-        return Fault::of_line(table, number, name, line as u32);
+        return Ok(Detail::Line(line as u32));
     }
-    match format!(in alloc; "line={line}") {
-        Ok(words) => Fault {
-            detail: Detail::Words(words),
-            ..Fault::plain(table, number, name)
+    let mut words = String::new(alloc);
+    push_field(&mut words, "line=", line)?;
+    Ok(Detail::Words(words))
+}
+
+/// A fault of a line of a table.
+fn fault_at(alloc: Global, table: Part, number: u32, name: &'static str, line: u64) -> Fault
+    ensures { IsNamed table number name.now (Some line) result }
+{
+    match detail_of(alloc, line) {
+        Ok(detail) => Fault {
+            part: table,
+            number,
+            name,
+            detail,
         },
         Err(_) => Fault::no_memory(),
     }
 }
 
+/// A fault of a table, and of no line of it.
+fn fault_of_all(table: Part, number: u32, name: &'static str) -> Fault
+    ensures { IsNamed table number name.now None result }
+{
+    Fault {
+        part: table,
+        number,
+        name,
+        detail: Detail::Nothing,
+    }
+}
+
 /// The fault of a line that is no row.
 fn fault_of_row(alloc: Global, number: u32, name: &'static str, line: u64) -> Fault
-    ensures { result.part ≢ part.Write }
+    ensures { IsNamed part.Trace number name.now (Some line) result }
 {
     fault_at(alloc, Part::Trace, number, name, line)
 }
 
 /// The fault of a line of an external input.
 fn fault_of_input(alloc: Global, number: u32, name: &'static str, line: u64) -> Fault
-    ensures { result.part ≢ part.Write }
+    ensures { IsNamed part.Externals number name.now (Some line) result }
 {
     fault_at(alloc, Part::Externals, number, name, line)
 }
 
 /// The fault of a log that can't be followed.
 fn fault_of(alloc: Global, fault: LogFault) -> Fault
-    ensures { result.part ≢ part.Write }
+    ensures { IsToldAs fault result }
 {
     match fault {
-        LogFault::NoHeader => Fault::plain(Part::Trace, 1, "BadHeader"),
+        LogFault::NoHeader => fault_of_all(Part::Trace, 1, "BadHeader"),
         LogFault::NoRow(fault, line) => {
             let plain = Fault::trace(fault);
             fault_of_row(alloc, plain.number, plain.name, line)
@@ -112,7 +137,7 @@ fn fault_of(alloc: Global, fault: LogFault) -> Fault
         LogFault::LongLine(line) => fault_of_row(alloc, 13, "LongLine", line),
         LogFault::NotPlain(line) => fault_of_row(alloc, 14, "NotPlain", line),
         LogFault::SecondHeader(line) => fault_of_row(alloc, 15, "SecondHeader", line),
-        LogFault::TooManyRows => Fault::plain(Part::Trace, 10, "TooManyRows"),
+        LogFault::TooManyRows => fault_of_all(Part::Trace, 10, "TooManyRows"),
         LogFault::NoInput(fault, line) => {
             let plain = Fault::externals(fault);
             fault_of_input(alloc, plain.number, plain.name, line)
@@ -121,13 +146,16 @@ fn fault_of(alloc: Global, fault: LogFault) -> Fault
         LogFault::InputAgain(line) => fault_of_input(alloc, 7, "DuplicateExternal", line),
         LogFault::ManyLater(line) => fault_of_input(alloc, 15, "ManyLater", line),
         LogFault::NotPlainInput(line) => fault_of_input(alloc, 14, "NotPlain", line),
-        LogFault::TooManyInputs => Fault::plain(Part::Externals, 10, "TooManyRows"),
+        LogFault::TooManyInputs => fault_of_all(Part::Externals, 10, "TooManyRows"),
         LogFault::NoMemory => Fault::no_memory(),
     }
 }
 
 /// Tells how far rows are judged.
-fn tell_reach<E: Write>(alloc: Global, reach: Reach, errors: &mut E) -> Result<(), Fault> {
+fn tell_reach<E: Write>(alloc: Global, reach: Reach, errors: &mut E) -> Result<(), Fault>
+    ensures written { OnOk result (Appends (E.contents errors.old) (E.contents errors.new) (unbroken_words reach)) }
+    ensures refused { IfErr result (WriteRefusal (λ text. text ≡ unbroken_words reach) (E.contents errors.old) (E.contents errors.new)) }
+{
     match unbroken_line(alloc, reach) {
         Ok(line) => write_text(line.as_bytes(), errors),
         Err(_) => Err(Fault::no_memory()),
@@ -146,12 +174,17 @@ fn add<E: Write>(
     requires { (base : PlanParts) × (until : Option TheTag) × (bytes : List ℕ) × IsLog base plan.old until bytes log.old }
     ensures program { plan.new.program ≡ plan.old.program }
     ensures told { IfOk result (λ o. (base : PlanParts) (until : Option TheTag) (bytes : List ℕ) → IsLog base plan.old until bytes log.old → MatchOption o (IsLog base plan.new until (bytes ++ piece.now) log.new) (IsSoon base until (bytes ++ piece.now))) }
+    ensures fault { IfErr result (λ f. (base : PlanParts) (until : Option TheTag) (bytes : List ℕ) → IsLog base plan.old until bytes log.old → IsFaultOfLog base (bytes ++ piece.now) f ⊎ IsOutside f) }
+    ensures every { (base : PlanParts) (until : Option TheTag) (bytes : List ℕ) → IsLog base plan.old until bytes log.old → OfReaches base (bytes ++ piece.now) every (WritesOrFails result (E.contents errors.old) (E.contents errors.new)) }
 {
     let before = log.rows();
     match log.add(alloc, plan, piece) {
         Ok(None) => {
             if every > 0 && log.rows() / every > before / every {
-                tell_reach(alloc, log.reach(plan), errors)?;
+                return match tell_reach(alloc, log.reach(plan), errors) {
+                    Ok(()) => Ok(None),
+                    Err(fault) => Err(fault),
+                };
             }
             Ok(None)
         }
@@ -190,6 +223,8 @@ fn read_log<R: Read, E: Write>(
     requires { 0 < length chunk.old }
     ensures program { plan.new.program ≡ plan.old.program }
     ensures read { IfOk result (IsReadKept plan.old following.until following.whole kept.old kept.new (R.remaining reader.old) (R.remaining reader.new)) }
+    ensures refused { IfErr result (ReadRefusal plan.old path.now (R.remaining reader.old) (R.remaining reader.new)) }
+    ensures every { OfReadReaches plan.old following.every (R.remaining reader.old) (R.remaining reader.new) (WritesOrFails result (E.contents errors.old) (E.contents errors.new)) }
 {
     let Ok(mut log) = Log::new(alloc, plan, following.until) else {
         return Err(Fault::no_memory());
@@ -229,7 +264,8 @@ fn read_log<R: Read, E: Write>(
 /// Writes the line of what is told.
 fn report<W: Write>(alloc: Global, program: &Program, told: Final, out: &mut W) -> Result<(), Fault>
     requires { HasFound program.now told }
-    ensures { OnOk result (Appends (W.contents out.old) (W.contents out.new) (line_of_log program.now told)) }
+    ensures written { OnOk result (Appends (W.contents out.old) (W.contents out.new) (line_of_log program.now told)) }
+    ensures refused { IfErr result (WriteRefusal (λ text. text ≡ line_of_log program.now told) (W.contents out.old) (W.contents out.new)) }
 {
     match line_of_final(alloc, program, told) {
         Ok(line) => write_text(line.as_bytes(), out),
@@ -254,6 +290,9 @@ pub fn follow_plan<R: Read, W: Write, E: Write>(
     errors: &mut E,
 ) -> Result<Ended, Fault>
     ensures followed { IfOk result (IsFollowedUnder plan following.until following.whole kept.old kept.new (R.remaining reader.old) (R.remaining reader.new) (W.contents out.old) (W.contents out.new)) }
+    ensures refused { IfErr result (FollowRefusalUnder plan path.now following.until following.whole (R.remaining reader.old) (R.remaining reader.new) (W.contents out.old) (W.contents out.new)) }
+    ensures kept { IfErr result (λ f. f.part ≢ part.Write → Keeps (W.contents out.old) (W.contents out.new)) }
+    ensures every { OfReadReaches plan following.every (R.remaining reader.old) (R.remaining reader.new) (WritesOrFails result (E.contents errors.old) (E.contents errors.new)) }
 {
     let mut plan = plan;
     let Ok(mut chunk) = vec![in alloc; 0u8; CHUNK] else {
@@ -286,6 +325,9 @@ pub fn follow_log<R: Read, W: Write, E: Write>(
     errors: &mut E,
 ) -> Result<Ended, Fault>
     ensures followed { IfOk result (IsFollowed program.now externals.now following.until following.whole kept.old kept.new (R.remaining reader.old) (R.remaining reader.new) (W.contents out.old) (W.contents out.new)) }
+    ensures refused { IfErr result (FollowRefusal program.now externals.now path.now following.until following.whole (R.remaining reader.old) (R.remaining reader.new) (W.contents out.old) (W.contents out.new)) }
+    ensures kept { IfErr result (λ f. f.part ≢ part.Write → Keeps (W.contents out.old) (W.contents out.new)) }
+    ensures every { OfTextReaches program.now externals.now following.every (R.remaining reader.old) (R.remaining reader.new) (WritesOrFails result (E.contents errors.old) (E.contents errors.new)) }
 {
     match load(alloc, program, externals) {
         Ok(plan) => follow_plan(alloc, plan, path, reader, following, kept, out, errors),
