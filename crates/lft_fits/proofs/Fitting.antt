@@ -61,7 +61,7 @@ row {X} f n p x at = go 0 n p at
     go a n p e = let r = at_place 0 n p x e in (r.0, ap f (let z : p ≡ 0 + p = omega arith in z) ∙ r.1)
 
 -- a parameter of a shape is that of the reactor
-parameter_is : (files : List SourceFile) (shape : Shape) (c : ℕ × ℕ) → IsShapeOf files shape c → (p : ℕ) (ip : InheritedParameter) → slice_get shape.parameters.items p ≡ Some ip → slice_get (parameters_of files c) p ≡ Some ip.parameter.now
+pub parameter_is : (files : List SourceFile) (shape : Shape) (c : ℕ × ℕ) → IsShapeOf files shape c → (p : ℕ) (ip : InheritedParameter) → slice_get shape.parameters.items p ≡ Some ip → slice_get (parameters_of files c) p ≡ Some ip.parameter.now
 parameter_is files shape c is p ip at = ap (λ l. slice_get l p) (sym is.parameters) ∙ mapped (λ (z : ℕ × Parameter). z.1) (located_parameters shape.parameters.items) p (ip.file, ip.parameter.now) (mapped (λ (z : InheritedParameter). (z.file, z.parameter.now)) shape.parameters.items p ip at)
 
 -- a default that is a number

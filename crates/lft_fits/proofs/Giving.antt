@@ -44,7 +44,7 @@ to_none (h ∷ gs) p g e m is = elim (eqb_tells h.parameter p) [
     go differs rest (inr n) = rest n is
 
 -- what a search finds, and what it doesn't
-find_some : {X : Type 0} (p : X → Bool) (xs : List X) (x : X) → find p xs ≡ Some x → Mem x xs × (p x ≡ true)
+pub find_some : {X : Type 0} (p : X → Bool) (xs : List X) (x : X) → find p xs ≡ Some x → Mem x xs × (p x ≡ true)
 find_some p [] x e = absurd (cc)
 find_some {X} p (y ∷ xs) x e = go (p y) refl e (find_some p xs x)
   where
@@ -52,7 +52,7 @@ find_some {X} p (y ∷ xs) x e = go (p y) refl e (find_some p xs x)
     go true t f rest = let s : y ≡ x = Some_same y x f in (inl s, ap p (sym s) ∙ t)
     go false t f rest = let r = rest f in (inr r.0, r.1)
 
-find_none : {X : Type 0} (p : X → Bool) (xs : List X) (x : X) → find p xs ≡ None → Mem x xs → p x ≡ true → ⊥
+pub find_none : {X : Type 0} (p : X → Bool) (xs : List X) (x : X) → find p xs ≡ None → Mem x xs → p x ≡ true → ⊥
 find_none p [] x e m t = absurd m
 find_none {X} p (y ∷ xs) x e m t = go (p y) refl e m (find_none p xs x)
   where

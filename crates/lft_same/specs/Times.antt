@@ -1,0 +1,20 @@
+-- The times of an instance, and those of its core instance.
+use Rattle.std.specs.Prelude.{◌≡◌, ℕ, List, Contains, map}
+use Rattle.std.specs.Option.{option_map_or}
+use Rattle.lft_tree.specs.Tree.{ParameterTree, TimeTree, Written, Named}
+use Rattle.lft_scope.specs.Instances.{Inside as CoreInside}
+use Rattle.lft_sources.specs.declared.source.SourceFile.{SourceFile}
+use Rattle.lft_expanded.specs.Instances.{Inside, time_of, value_named}
+
+-- the time of the value that the parameter of this name has in an instance, or 0
+abbrev pub time_named : List SourceFile → Inside → List ℕ → ℕ
+time_named files x q = option_map_or time_of (value_named files x q) 0
+
+-- each parameter of the core instance has the time of the value in the instance
+abbrev pub HasTimes : List SourceFile → Inside → CoreInside → Type 0
+HasTimes files x core = core.values ≡ map (λ p. time_named files x p.name) core.reactor.parameters
+
+-- the time is written out, or it names one of the parameters
+abbrev pub IsKnown : List ParameterTree → TimeTree → Type 0
+IsKnown ps (Written t) = Unit {0}
+IsKnown ps (Named q) = Contains (map (λ p. p.name) ps) q
