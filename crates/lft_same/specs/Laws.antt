@@ -7,7 +7,7 @@ use Rattle.lft_sources.specs.declared.source.SourceFile.{SourceFile}
 use Rattle.lft_whole.specs.declared.tree.Instance.{Instance}
 use Rattle.lft_whole.specs.declared.tree.Member.TheVariants as member
 use Rattle.lft_shapes.specs.declared.shapes.Shape.{Shape}
-use Rattle.lft_settings.specs.Values.{Valued, inside, main_setting}
+use Rattle.lft_settings.specs.Values.{Valued, inside}
 use Rattle.lft_meanings.specs.Meanings.{Here, shape_inside}
 use Rattle.lft_lower.specs.Lowered.{AreGiven, IsPeriod, IsRead, period_at, time_at}
 use Rattle.lft_lower.specs.Reactors.{AreShapes, timed_parameters}
