@@ -1,7 +1,9 @@
 -- How core instances stand to instances.
 use Rattle.std.specs.Prelude.{◌≡◌, ℕ, List, Some, Contains, map, slice_get}
-use Rattle.lft_tree.specs.Tree.{AssignmentTree, ReactorTree, TimeTree}
+use Rattle.lft_tree.specs.Tree.{AssignmentTree, FileTree, ReactorTree, TimeTree, reactors_of}
+use Rattle.lft_scope.specs.Causes.{NoneHolds, causes}
 use Rattle.lft_scope.specs.Instances.{Inside as CoreInside, given_in, main_instance as core_main}
+use Rattle.lft_scope.specs.Kinds.{times_in}
 use Rattle.lft_program.specs.Flattening.{time_or_zero}
 use Rattle.lft_sources.specs.declared.source.SourceFile.{SourceFile}
 use Rattle.lft_whole.specs.declared.tree.Instance.{Instance}
@@ -31,3 +33,7 @@ TimeLaw files = (x : Inside) (core : CoreInside) (shape : Shape) (e : _) → Has
 -- and so does a period
 abbrev pub PeriodLaw : List SourceFile → Type 0
 PeriodLaw files = (x : Inside) (core : CoreInside) (shape : Shape) (e : _) → HasTimes files x core → IsPeriod shape e → ((t : TimeTree) → period_at e ≡ Some t → IsKnown core.reactor.parameters t) → time_or_zero core (period_at e) ≡ period_in files x e
+
+-- A time in a tree of which no cause of refusal holds is written out, or it names a parameter of its reactor.
+abbrev pub KnownLaw : Type 0
+KnownLaw = (tree : FileTree) (r : ReactorTree) (t : TimeTree) → NoneHolds (causes tree) → Contains (reactors_of tree) r → Contains (times_in r) t → IsKnown r.parameters t

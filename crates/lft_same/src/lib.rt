@@ -1,7 +1,7 @@
 #![tactic(auto)]
 //! How the core reactors of a program stand to its instances. It has laws alone, and no code.
 
-ghost use Rattle.lft_same.specs.Laws.{InsideTimesLaw, MainTimesLaw, PeriodLaw, TimeLaw};
+ghost use Rattle.lft_same.specs.Laws.{InsideTimesLaw, KnownLaw, MainTimesLaw, PeriodLaw, TimeLaw};
 
 use lft_sources::SourceFile;
 
@@ -10,5 +10,6 @@ pub fn laws_of_times(files: &[SourceFile])
     ensures main { MainTimesLaw files.now }
     ensures inside { InsideTimesLaw files.now }
     ensures time { TimeLaw files.now }
+    ensures known { KnownLaw }
     ensures period { PeriodLaw files.now }
 {}
