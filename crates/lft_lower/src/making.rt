@@ -60,7 +60,7 @@ fn note_federated(notes: &mut Notes, files: &[SourceFile], main: &Shape) -> Resu
     notes.words(
         0,
         main.class.reactor.at,
-        "federated: the core program is that of one process. Merge the rows of all federates, sorted by tag. Of requests to stop, the end is that of the core.",
+        "federated: the program is taken as that of one process. Merge the rows of all federates, sorted by tag. Of requests to stop, the end is that of one process.",
     )?;
     Ok(())
 }
