@@ -10,19 +10,12 @@ ghost use Rattle.lft_stream.specs.declared.due.Due.{Due as TheDue};
 ghost use Rattle.lft_stream.specs.Dues.{timed as the_timed, AreDue, AreDues, IsOwed, NoneOwed, IsDueBefore, NoneDueBefore, GoOn, IsSomePresent};
 
 use crate::due::Due;
-use crate::stream::earlier_of;
 use lft_flat::Trigger;
 use lft_lists::item_at;
 use lft_model::Plan;
 use lft_tag::{NoMemory, Tag};
 use std::alloc::Global;
 use std::marker::Model;
-
-/// No tag is later.
-const LATEST: Tag = Tag {
-    time: u64::MAX,
-    micro: u32::MAX,
-};
 
 /// So many dues stand in a block. A run looks at the blocks in which something is due.
 const BLOCK: usize = 64;
@@ -31,9 +24,9 @@ const BLOCK: usize = 64;
 #[derive(Drop)]
 struct Beats {
     dues: Vec<Due>,
-    /// For each block, where there are several, a tag before which nothing there is due. Where it is wrong, a run
+    /// For each block, where there are several, a time before which nothing there is due. Where it is wrong, a run
     /// that is triggered may be taken for one that isn't.
-    soonest: Vec<Tag>,
+    soonest: Vec<u64>,
 }
 
 impl Model for Beats {
@@ -111,13 +104,13 @@ fn none_before(dues: &[Due], low: Tag, last: Tag) -> bool
     true
 }
 
-/// The earlier of a tag and the one at which this is due.
-fn sooner(due: Due, tag: Tag) -> Tag {
+/// The earlier of a time and the one at which this is due.
+fn sooner(due: Due, time: u64) -> u64 {
     match due {
-        Due::AtTag(next, _) => earlier_of(next, tag),
+        Due::AtTag(next, _) => next.time.min(time),
         // The stop may come at any tag.
-        Due::AtStop => Tag { time: 0, micro: 0 },
-        Due::Never => tag,
+        Due::AtStop => 0,
+        Due::Never => time,
     }
 }
 
@@ -125,8 +118,8 @@ fn sooner(due: Due, tag: Tag) -> Tag {
 #[derive(Clone, Copy, Drop)]
 struct Met {
     is_present: bool,
-    /// Nothing is due before this tag now.
-    soonest: Tag,
+    /// Nothing is due before this time now.
+    soonest: u64,
 }
 
 /// Whether one of a reaction's triggers from the first place up to the end is present at the tag, where the stop
@@ -138,7 +131,7 @@ fn meet(dues: &mut [Due], first: usize, end: usize, tag: Tag, last: Tag) -> Opti
 {
     let mut met = Met {
         is_present: false,
-        soonest: LATEST,
+        soonest: u64::MAX,
     };
     for place in first..end {
         let due = item_at(dues, place);
@@ -155,13 +148,13 @@ fn meet(dues: &mut [Due], first: usize, end: usize, tag: Tag, last: Tag) -> Opti
 }
 
 /// The same of all of them, block by block.
-fn meet_blocks(dues: &mut [Due], soonest: &mut [Tag], tag: Tag, last: Tag) -> bool
+fn meet_blocks(dues: &mut [Due], soonest: &mut [u64], tag: Tag, last: Tag) -> bool
     ensures due { GoOn last tag dues.old dues.new }
     ensures present { IsTrue result → IsSomePresent last tag dues.old }
 {
     let mut is_present = false;
     for block in 0..soonest.len() {
-        if !tag.is_before(item_at(soonest, block)) {
+        if item_at(soonest, block) <= tag.time {
             let first = block.saturating_mul(BLOCK);
             let end = first.saturating_add(BLOCK).min(dues.len());
             let Some(met) = meet(dues, first, end, tag, last) else {
@@ -174,8 +167,8 @@ fn meet_blocks(dues: &mut [Due], soonest: &mut [Tag], tag: Tag, last: Tag) -> bo
     is_present
 }
 
-/// The same, where one block has no tag.
-fn meet_all(dues: &mut [Due], soonest: &mut [Tag], tag: Tag, last: Tag) -> bool
+/// The same, where one block has no time.
+fn meet_all(dues: &mut [Due], soonest: &mut [u64], tag: Tag, last: Tag) -> bool
     ensures due { GoOn last tag dues.old dues.new }
     ensures present { IsTrue result → IsSomePresent last tag dues.old }
 {
@@ -189,17 +182,16 @@ fn meet_all(dues: &mut [Due], soonest: &mut [Tag], tag: Tag, last: Tag) -> bool
 }
 
 impl Beats {
-    /// These dues. Any of them may be due at the first tag.
+    /// These dues. Any of them may be due at once.
     fn new(alloc: Global, dues: Vec<Due>) -> Result<Beats, NoMemory>
         ensures { IfOk result (λ beats. beats ≡ dues.items) }
     {
-        let first = Tag { time: 0, micro: 0 };
         let blocks = if dues.len() > BLOCK {
             dues.len() / BLOCK + 1
         } else {
             0
         };
-        let soonest = vec![in alloc; first; blocks]?;
+        let soonest = vec![in alloc; 0; blocks]?;
         Ok(Beats { dues, soonest })
     }
 
