@@ -7,7 +7,7 @@ mod session;
 mod words;
 
 use crate::follow::end_followed;
-use crate::session::Session;
+use crate::session::{Session, is_known};
 use crate::words::{
     Behind, Job, JudgeWords, PairWords, Question, RecordWords, ShowWords, read_words,
 };
@@ -121,7 +121,8 @@ fn explain_bundle<T: Threads + Sync, R: Read, W: Write>(
 ) -> Result<bool, Failure> {
     let text = read_input(alloc, "-", reader)?;
     let answer = explain_bundle_answer(rt, alloc, text.as_slice(), all, out);
-    if answer.is_err()
+    if let Err(fault) = &answer
+        && is_known(fault)
         && let Ok(Some(told)) = refusal_of_bundle(alloc, text.as_slice())
     {
         let _ = out.write_all(told.as_bytes());

@@ -14,7 +14,7 @@ use lft_lowered::{Whole, whole_program};
 use lft_model::Plan;
 use lft_tag::NoMemory;
 use std::alloc::Global;
-use std::io::Write;
+use std::io::{BufWriter, Write};
 use std::rt::Files;
 use std::thread::Threads;
 
@@ -26,9 +26,14 @@ fn workers_for(workers: u32, bytes: usize) -> u32 {
     if bytes < SHORT { 1 } else { workers }
 }
 
-/// Whether a text of this fault isn't core. Want of memory says nothing of it.
+/// Whether a text can be told of: of one that was refused for want of memory nothing is known.
+pub(crate) fn is_known(fault: &Fault) -> bool {
+    fault.name != "NoMemory"
+}
+
+/// Whether a text of this fault isn't core.
 fn is_no_core(fault: &Fault) -> bool {
-    matches!(fault.part, Part::Lex | Part::Syntax) && fault.name != "NoMemory"
+    matches!(fault.part, Part::Lex | Part::Syntax) && is_known(fault)
 }
 
 /// What a session writes to, and whether it tells there why a text is refused.
@@ -50,6 +55,11 @@ impl<'w, F: Files, W: Write> Session<'w, F, W> {
         }
     }
 
+    /// Whether it is told why a text is refused.
+    fn tells_of(&self, fault: &Fault) -> bool {
+        self.tells && is_known(fault)
+    }
+
     /// Tells why a text is refused, where that is asked for and can be told. This is help alone: where it can't be
     /// written, the line of the fault comes all the same.
     fn tell(&mut self, told: Result<Option<String>, NoMemory>) {
@@ -60,7 +70,7 @@ impl<'w, F: Files, W: Write> Session<'w, F, W> {
 
     /// Tells why a core text has no program, and whether it is a whole one.
     fn tell_refused(&mut self, path: &str, text: &[u8], fault: &Fault) {
-        if !self.tells || fault.name == "NoMemory" {
+        if !self.tells_of(fault) {
             return;
         }
         self.tell(refusal_of_program(self.alloc, text));
@@ -116,7 +126,7 @@ impl<'w, F: Files, W: Write> Session<'w, F, W> {
         match plan_of(self.alloc, whole.program, externals) {
             Ok(plan) => Ok(plan),
             Err(unplanned) => {
-                if self.tells {
+                if self.tells_of(&unplanned.fault) {
                     self.tell(refusal_of_plan(self.alloc, &unplanned.program, externals));
                 }
                 Err(Failure::from(unplanned.fault))
@@ -129,7 +139,7 @@ impl<'w, F: Files, W: Write> Session<'w, F, W> {
         match show_program(self.alloc, program, all, self.out) {
             Ok(()) => Ok(true),
             Err(fault) => {
-                if self.tells {
+                if self.tells_of(&fault) {
                     self.tell(refusal_of_graph(self.alloc, program));
                 }
                 Err(Failure::from(fault))
@@ -150,7 +160,13 @@ impl<'w, F: Files + Threads + Sync, W: Write> Session<'w, F, W> {
         let (rt, alloc) = (self.rt, self.alloc);
         let verdict = match behind {
             Behind::Nothing => judge_plan(rt, alloc, plan, trace, workers, self.out)?,
-            Behind::Counts { list } => cover_plan(rt, alloc, plan, trace, workers, list, self.out)?,
+            Behind::Counts { list } => {
+                // A list has many short lines, and no buffer of its own.
+                let mut out = BufWriter::new(alloc, &mut *self.out).map_err(
+                    |_| Fault::no_memory(),
+                )?;
+                cover_plan(rt, alloc, plan, trace, workers, list, &mut out)?
+            }
             Behind::Facts { all } => explain_plan(rt, alloc, plan, trace, workers, all, self.out)?,
         };
         Ok(is_accepted(verdict))
@@ -168,7 +184,7 @@ impl<'w, F: Files + Threads + Sync, W: Write> Session<'w, F, W> {
         match self.verdict(plan, trace, workers, behind) {
             Ok(answer) => Ok(answer),
             Err(fault) => {
-                if self.tells {
+                if self.tells_of(&fault) {
                     self.tell(refusal_of_trace(self.alloc, plan.program(), trace, "Trace"));
                 }
                 Err(Failure::from(fault))
@@ -208,7 +224,7 @@ impl<'w, F: Files + Threads + Sync, W: Write> Session<'w, F, W> {
         match self.comparison(plan, first, second, workers, behind) {
             Ok(answer) => Ok(answer),
             Err(fault) => {
-                if self.tells {
+                if self.tells_of(&fault) {
                     self.tell(refusal_of_traces(self.alloc, plan.program(), first, second));
                 }
                 Err(Failure::from(fault))
