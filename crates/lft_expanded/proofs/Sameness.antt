@@ -1,6 +1,5 @@
--- The flat program of a core tree is that of the whole program.
+-- A flat program of what is the whole program is one of the whole program.
 use Rattle.std.proofs.Common.{◌≡◌, ℕ, List, Option, Some, None, option_map, refl, sym, ap, subst, ◌∙◌}
-use Rattle.lft_expanded.specs.Core.{expanded_tree}
 use Rattle.lft_expanded.specs.Expanded.{Contents}
 use Rattle.lft_expanded.specs.Flat.{IsFlat}
 use Rattle.lft_expanded.specs.Laws.{CoreLaw, SameLaw}
@@ -16,7 +15,7 @@ awoken path q none None = refl
 awoken path q none (Some c) = ap (λ v. Some (awake path v c)) none
 
 pub same_law : SameLaw
-same_law files tree same wake p flat = subst (λ e. IsFlat e p) at_each (flat_out tree p flat)
+same_law files expanded same wake p flat = subst (λ e. IsFlat e p) at_each flat
   where
-    at_each : expanded_tree tree ≡ expanded_files files same.widths
-    at_each = λ i path. (sym (awoken path (same.never path) (wake path) (expanded_tree tree path)) ∙ same.same path) i
+    at_each : expanded ≡ expanded_files files same.widths
+    at_each = λ i path. (sym (awoken path (same.never path) (wake path) (expanded path)) ∙ same.same path) i

@@ -8,7 +8,7 @@ use Rattle.lft_scope.specs.Instances.{Inside, Thing, stands_for, time_in}
 use Rattle.lft_sources.specs.declared.source.SourceFile.{SourceFile}
 use Rattle.lft_tree.specs.Tree.{ConnectionTree, FileTree, RefTree, TimeTree}
 use Rattle.lft_expanded.specs.Core.{core_links, expanded_tree}
-use Rattle.lft_expanded.specs.Expanded.{Link}
+use Rattle.lft_expanded.specs.Expanded.{Expanded, Link}
 use Rattle.lft_expanded.specs.Flat.{IsFlat}
 use Rattle.lft_expanded.specs.Same.{IsSame}
 use Rattle.lft_expanded.specs.Whole.{crossed, expanded_files, pairs}
@@ -17,9 +17,9 @@ use Rattle.lft_expanded.specs.Whole.{crossed, expanded_files, pairs}
 abbrev pub CoreLaw : Type 0
 CoreLaw = (tree : FileTree) (p : Parts) → Flat tree p → IsFlat (expanded_tree tree) p
 
--- Where a core tree is a whole program, each reaction of which has a trigger, its flat program is that of the whole program.
+-- Where a program that is written out is a whole program, each reaction of which has a trigger, its flat program is that of the whole program.
 abbrev pub SameLaw : Type 0
-SameLaw = (files : List SourceFile) (tree : FileTree) (same : IsSame files tree) → ((path : List ℕ) → same.never path ≡ None) → (p : Parts) → Flat tree p → IsFlat (expanded_files files same.widths) p
+SameLaw = (files : List SourceFile) (expanded : Expanded) (same : IsSame files expanded) → ((path : List ℕ) → same.never path ≡ None) → (p : Parts) → IsFlat expanded p → IsFlat (expanded_files files same.widths) p
 
 -- a source and a destination with this delay
 abbrev pub linked : Option ℕ → Thing × Thing → Link

@@ -1,12 +1,10 @@
--- That a core tree is the whole program of files.
+-- That a program which is written out is the whole program of files.
 use Rattle.std.specs.Prelude.{◌≡◌, ℕ, ◌&&◌, Bool, true, false, not, List, Option, Some, None, Contains, bytes_eq, filter, map, option_map}
-use Rattle.lft_expanded.specs.Core.{expanded_tree}
-use Rattle.lft_expanded.specs.Expanded.{Contents, Reaction, Trigger, OnThing}
+use Rattle.lft_expanded.specs.Expanded.{Contents, Expanded, Reaction, Trigger, OnThing}
 use Rattle.lft_expanded.specs.Instances.{Widths}
 use Rattle.lft_expanded.specs.Whole.{AreWidths, expanded_files}
 use Rattle.lft_scope.specs.Instances.{Thing, thing_at}
 use Rattle.lft_sources.specs.declared.source.SourceFile.{SourceFile}
-use Rattle.lft_tree.specs.Tree.{FileTree}
 
 -- the test of two things being the same
 abbrev pub same_thing : Thing → Thing → Bool
@@ -35,10 +33,10 @@ abbrev pub IsNever : List ℕ → Option (List ℕ) → Contents → Type 0
 IsNever path None c = Unit {0}
 IsNever path (Some q) c = Contains c.actions (record { name = q; is_physical = false; min_delay = 0 }) × IsUnscheduled (thing_at path q) c.reactions
 
--- The instances of the tree are at the paths at which those of the whole program are, and each has the same. But where a reaction of the whole program has no trigger, as all its channels are none, a logical action triggers it that nothing schedules.
-pub record IsSame (files : List SourceFile) (tree : FileTree) : Type 0 where
+-- The instances are at the paths at which those of the whole program are, and each has the same. But where a reaction of the whole program has no trigger, as all its channels are none, a logical action triggers it that nothing schedules.
+pub record IsSame (files : List SourceFile) (expanded : Expanded) : Type 0 where
   pub widths : Widths
   pub are_widths : AreWidths files widths
   pub never : List ℕ → Option (List ℕ)
-  pub is_never : (path : List ℕ) (c : Contents) → expanded_tree tree path ≡ Some c → IsNever path (never path) c
-  pub same : (path : List ℕ) → option_map (awake path (never path)) (expanded_tree tree path) ≡ expanded_files files widths path
+  pub is_never : (path : List ℕ) (c : Contents) → expanded path ≡ Some c → IsNever path (never path) c
+  pub same : (path : List ℕ) → option_map (awake path (never path)) (expanded path) ≡ expanded_files files widths path
