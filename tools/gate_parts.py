@@ -35,4 +35,5 @@ LFTRACE = (
     "tools/follow-cases --cases 40 PROGRAM",
     "tools/follow-bounds PROGRAM",
     "tools/lowered-by-chance PROGRAM",
+    "tools/core-texts PROGRAM",
 )

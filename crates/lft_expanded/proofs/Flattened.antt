@@ -106,13 +106,13 @@ timer_out path x t = record { name = t.name; offset = time_or_zero x t.offset; p
 abbrev pub reaction_out : List ℕ → Inside → ReactionTree → Reaction
 reaction_out path x r = core_reaction path x.reactor r
 
-ports_out : (all : List TreeLocated) → ports_in (map written_out all) ≡ tree_ports all
+pub ports_out : (all : List TreeLocated) → ports_in (map written_out all) ≡ tree_ports all
 ports_out all = things_turned ports_of (λ c. c.ports) port_out (λ path x. refl) (λ p. p.name) (λ p. p.name) (λ path x y. refl) all
 
-actions_out : (all : List TreeLocated) → actions_in (map written_out all) ≡ tree_actions all
+pub actions_out : (all : List TreeLocated) → actions_in (map written_out all) ≡ tree_actions all
 actions_out all = things_turned actions_of (λ c. c.actions) action_out (λ path x. refl) (λ p. p.name) (λ p. p.name) (λ path x y. refl) all
 
-timers_out : (all : List TreeLocated) → timers_in (map written_out all) ≡ tree_timers all
+pub timers_out : (all : List TreeLocated) → timers_in (map written_out all) ≡ tree_timers all
 timers_out all = things_turned timers_of (λ c. c.timers) timer_out (λ path x. refl) (λ p. p.name) (λ p. p.name) (λ path x y. refl) all
 
 -- ---- connections
@@ -127,7 +127,7 @@ abbrev pub linked : Option ℕ → Thing → Thing → Link
 linked d s t = record { from = s; to = t; delay = d }
 
 module _ (tree : FileTree) where
-  forth : (a b : Thing) (delay : Option ℕ) → TreeConnects tree a b delay → Connects (expanded_tree tree) a b delay
+  pub forth : (a b : Thing) (delay : Option ℕ) → TreeConnects tree a b delay → Connects (expanded_tree tree) a b delay
   forth a b delay c =
       let x : Inside = c.inside in
       let at : expanded_tree tree c.path ≡ Some (core_contents c.path x) = ap (option_and_then (λ main. option_map (core_contents c.path) (along (entered tree) (main_instance main) c.path))) c.is_inside.1 ∙ ap (option_map (core_contents c.path)) c.is_inside.2 in
@@ -141,7 +141,7 @@ module _ (tree : FileTree) where
       let k = get_mem (linked delay a b) (flat_map (core_links c.path x) (connections_of x.reactor)) in_all in
       (c.path, core_contents c.path x, k.0, at, k.1)
 
-  back : (a b : Thing) (delay : Option ℕ) → Connects (expanded_tree tree) a b delay → TreeConnects tree a b delay
+  pub back : (a b : Thing) (delay : Option ℕ) → Connects (expanded_tree tree) a b delay → TreeConnects tree a b delay
   back a b delay c =
       let main = then_some (λ main. option_map (core_contents c.0) (along (entered tree) (main_instance main) c.0)) (main_of tree) c.1 c.3 in
       let x = option_map_some (core_contents c.0) (along (entered tree) (main_instance main.0) c.0) c.1 main.2 in

@@ -3,7 +3,7 @@ use Rattle.std.specs.Prelude.{◌≡◌, ℕ, Bool, false, List, [], ◌∷◌, 
 use Rattle.lft_flat.specs.Parts.{Parts}
 use Rattle.lft_lowering.specs.Channels.{below, places}
 use Rattle.lft_lowering.specs.Lowered.{AreJoined}
-use Rattle.lft_program.specs.Flattening.{Flat}
+use Rattle.lft_program.specs.Flattening.{Flat, IsFlatOf}
 use Rattle.lft_scope.specs.Instances.{Inside, Thing, stands_for, time_in}
 use Rattle.lft_sources.specs.declared.source.SourceFile.{SourceFile}
 use Rattle.lft_tree.specs.Tree.{ConnectionTree, FileTree, RefTree, TimeTree}
@@ -16,6 +16,10 @@ use Rattle.lft_expanded.specs.Whole.{crossed, expanded_files, pairs}
 -- The flat program of a core tree is that of the tree written out.
 abbrev pub CoreLaw : Type 0
 CoreLaw = (tree : FileTree) (p : Parts) → Flat tree p → IsFlat (expanded_tree tree) p
+
+-- Of a core tree of which no cause of refusal holds the tree written out has one flat program.
+abbrev pub OnlyLaw : Type 0
+OnlyLaw = (tree : FileTree) (p q : Parts) → IsFlatOf tree p → IsFlat (expanded_tree tree) q → q ≡ p
 
 -- Where a program that is written out is a whole program, each reaction of which has a trigger, its flat program is that of the whole program.
 abbrev pub SameLaw : Type 0

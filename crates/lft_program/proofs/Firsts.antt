@@ -29,6 +29,10 @@ pub NoneHolds-both : (xs ys : List (ℕ × Type 0)) → NoneHolds xs → NoneHol
 NoneHolds-both [] ys none more = more
 NoneHolds-both ((k, C) ∷ xs) ys (not, none) more = (not, NoneHolds-both xs ys none more)
 
+pub NoneHolds-left : (xs ys : List (ℕ × Type 0)) → NoneHolds (xs ++ ys) → NoneHolds xs
+NoneHolds-left [] ys none = tt
+NoneHolds-left ((k, C) ∷ xs) ys (not, none) = (not, NoneHolds-left xs ys none)
+
 -- a first cause is one that holds
 pub first_holds : (xs : List (ℕ × Type 0)) (n : ℕ) → IsFirst xs n → NoneHolds xs → ⊥
 first_holds [] n f none = f

@@ -19,7 +19,7 @@ use Rattle.lft_program.proofs.Zips.{AllZip-one}
 
 -- lists that go with one list, where what is wanted of the items of an element is one
 module _ {A B C : Type 0} (R : A → B → Type 0) (f : B → C) where
-  one_mapped : (xs : List A) (ys zs : List B) → AllZip R xs ys → AllZip R xs zs → ((k : ℕ) (x : A) (y z : B) → slice_get xs k ≡ Some x → slice_get ys k ≡ Some y → slice_get zs k ≡ Some z → R x y → R x z → f y ≡ f z) → map f ys ≡ map f zs
+  pub one_mapped : (xs : List A) (ys zs : List B) → AllZip R xs ys → AllZip R xs zs → ((k : ℕ) (x : A) (y z : B) → slice_get xs k ≡ Some x → slice_get ys k ≡ Some y → slice_get zs k ≡ Some z → R x y → R x z → f y ≡ f z) → map f ys ≡ map f zs
   one_mapped [] [] [] a b one = refl
   one_mapped [] [] (z ∷ zs) a b one = absurd b
   one_mapped [] (y ∷ ys) zs a b one = absurd a

@@ -32,13 +32,13 @@ one_of_timer d x y a b =
     λ j. record { instance = instance j; offset = offset j; period = period j }
 
 module _ (tree : FileTree) (lawful : IsLawful tree) (all : List Located) (are : AreLocated tree all) where
-  one_meant : (t : Thing) (m n : Name) → Means all t m → Means all t n → m ≡ n
+  pub one_meant : (t : Thing) (m n : Name) → Means all t m → Means all t n → m ≡ n
   one_meant t (Port p) (Port q) a b = ap (λ k. Port k) (one_port tree lawful all are t p q a b)
   one_meant t (Port p) (Action q) a b = absurd (port_or_action tree lawful all are t p q a b)
   one_meant t (Action p) (Port q) a b = absurd (port_or_action tree lawful all are t q p b a)
   one_meant t (Action p) (Action q) a b = ap (λ k. Action k) (one_action tree lawful all are t p q a b)
 
-  timer_or_meant : (t : Thing) (n : ℕ) (m : Name) → slice_get (timers_in all) n ≡ Some t → Means all t m → ⊥
+  pub timer_or_meant : (t : Thing) (n : ℕ) (m : Name) → slice_get (timers_in all) n ≡ Some t → Means all t m → ⊥
   timer_or_meant t n (Port p) a b = port_or_timer tree lawful all are t p n b a
   timer_or_meant t n (Action p) a b = timer_or_action tree lawful all are t n p a b
 
