@@ -39,7 +39,7 @@ module _ (tree : FileTree) (all : List TreeLocated) (are : AreLocated tree all) 
   pub bodies_of : (path : List ℕ) → expanded_tree tree path ≡ option_map (core_contents path) (along (entered tree) (main_instance are.main) path)
   bodies_of path = ap (option_and_then (λ main. option_map (core_contents path) (along (entered tree) (main_instance main) path))) are.is_main
 
-  all_out : AreAll (expanded_tree tree) (map written_out all)
+  pub all_out : AreAll (expanded_tree tree) (map written_out all)
   all_out = record {
     in_order = λ i j x y a b l.
         let u = mapped_from written_out all i x a in

@@ -35,7 +35,7 @@ use Rattle.lft_program.proofs.Zips.{AllZip-one}
 use Rattle.lft_expanded.specs.Core.{core_contents, expanded_tree}
 use Rattle.lft_expanded.specs.Expanded.{Action, Contents, Port, Reaction, Timer, Trigger, AtStartup, AtShutdown, OnThing}
 use Rattle.lft_expanded.specs.Flat.{AreAll, Declared, IsAction, IsFlat, IsPort, IsReaction, IsSource, IsTimer, Located, Means, MeansTrigger, declared, names_of, ports_in, timers_in}
-use Rattle.lft_expanded.proofs.Flattened.{actions_out, back, bodies_of, declared_turned, flat_out, forth, port_out, ports_out, timers_out, turned, written_out}
+use Rattle.lft_expanded.proofs.Flattened.{actions_out, all_out, back, bodies_of, declared_turned, flat_out, forth, port_out, ports_out, timers_out, turned, written_out}
 
 -- lists of instances are the same where their paths are, and at each path stands one thing
 same_located : (e : List ℕ → Option Contents) (xs ys : List Located) → map (λ (x : Located). x.path) xs ≡ map (λ (x : Located). x.path) ys → ((n : ℕ) (x : Located) → slice_get xs n ≡ Some x → e x.path ≡ Some x.contents) → ((n : ℕ) (x : Located) → slice_get ys n ≡ Some x → e x.path ≡ Some x.contents) → xs ≡ ys
@@ -127,7 +127,7 @@ module _ (tree : FileTree) (all : List TreeLocated) (are : AreLocated tree all) 
     port_turned = turned ports_of (λ c. c.ports) port_out (λ path x. refl)
 
     source_there : (t : Thing) (s : Option Source) → IsSource (expanded_tree tree) (ports_in out) t s → IsTreeSource tree (tree_ports all) t s
-    source_there t None no = λ from delay c. no from delay (forth tree from t delay c)
+    source_there t None nothing = λ from delay c. nothing from delay (forth tree from t delay c)
     source_there t (Some s) one = (one.0, ap (λ l. slice_get l s.port) (sym (ports_out all)) ∙ one.1, back tree one.0 t s.delay one.2)
 
     same_source : (k : ℕ) (d : Declared Port) (x y : FlatPort) → slice_get (declared (λ c. c.ports) out) k ≡ Some d → IsPort (expanded_tree tree) out d x → IsPort (expanded_tree tree) out d y → x.source ≡ y.source
@@ -167,5 +167,6 @@ only_flat tree p q is other =
     let flat = flat_out tree p is.flat in
     let all : List TreeLocated = is.flat.instances in
     let are = is.flat.are_located in
-    let same : other.all ≡ map written_out all = one_list tree all are other.all (map written_out all) other.are_all flat.are_all in
-    one_of_out tree all are (lawful tree (NoneHolds-left (reactor_causes tree) (rest tree) is.none)) q p other flat same refl
+    let those = one_list tree all are in
+    let out = all_out tree all are in
+    one_of_out tree all are (lawful tree (NoneHolds-left (reactor_causes tree) (rest tree) is.none)) q p other flat (those other.all (map written_out all) other.are_all out) (those flat.all (map written_out all) flat.are_all out)
