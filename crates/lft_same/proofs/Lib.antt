@@ -1,2 +1,10 @@
+pub mod Declared
+pub mod Found
+pub mod Inners
 pub mod Known
+pub mod Listed
+pub mod Lowered
+pub mod Members
+pub mod Paths
+pub mod Sleeping
 pub mod Times

@@ -1,2 +1,3 @@
+pub mod Instances
 pub mod Laws
 pub mod Times

@@ -1,0 +1,33 @@
+-- Core instances that stand for instances.
+use Rattle.std.specs.Prelude.{◌≡◌, ℕ, List, Some, Contains}
+use Rattle.lft_tree.specs.Tree.{reactors_of}
+use Rattle.lft_tree.specs.View.{tree_view}
+use Rattle.lft_tree.specs.declared.ast.Ast.{Ast}
+use Rattle.lft_scope.specs.Instances.{Inside as CoreInside}
+use Rattle.lft_sources.specs.declared.source.SourceFile.{SourceFile}
+use Rattle.lft_shapes.specs.Walks.{Has}
+use Rattle.lft_shapes.specs.declared.shapes.Shape.{Shape}
+use Rattle.lft_settings.specs.Settings.{setting_at, shape_at}
+use Rattle.lft_settings.specs.Values.{Valued}
+use Rattle.lft_settings.specs.Widths.{found_width}
+use Rattle.lft_lower.specs.Reactors.{IsLowering, IsReactor}
+use Rattle.lft_expanded.specs.Instances.{Inside, Widths}
+use Rattle.lft_fits.specs.Fits.{Fits}
+use Rattle.lft_same.specs.Times.{HasTimes}
+
+-- where a setting that instances have fits an instance, the widths of the instance are those that lowering found of the setting
+abbrev pub AreWidthsFound : (files : List SourceFile) (tree : Ast) → IsLowering files tree → Widths → Type 0
+AreWidthsFound files tree low w = (k : ℕ) (t : Valued) (y : Inside) (m n : ℕ) → Has low.used k → setting_at low.settings k ≡ Some t → Fits files low.settings.shapes.items t y → found_width low.settings k m ≡ Some n → w y m ≡ n
+
+-- a core instance is of the core reactor of a setting that fits the instance, and has its times
+pub record StandsFor (files : List SourceFile) (tree : Ast) (low : IsLowering files tree) (x : Inside) (core : CoreInside) : Type 0 where
+  pub number : ℕ
+  pub used : Has low.used number
+  pub setting : Valued
+  pub is_setting : setting_at low.settings number ≡ Some setting
+  pub shape : Shape
+  pub is_shape : shape_at low.settings number ≡ Some shape
+  pub fits : Fits files low.settings.shapes.items setting x
+  pub listed : Contains (reactors_of (tree_view tree)) core.reactor
+  pub reactor : IsReactor low.settings low.names number shape core.reactor
+  pub times : HasTimes files x core
