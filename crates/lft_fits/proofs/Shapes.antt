@@ -76,7 +76,7 @@ there q (x ∷ xs) h = by (eqb_tells q x) (there q xs)
 few : (list : List ℕ) (n : ℕ) → Pairs (λ x y. x ≢ y) list → ((x : ℕ) → Mem x list → x < n) → length list ≤ n
 few list n apart below = length-le_from_distinct_below list n (distinct list apart) (λ q h. below q (there q list h))
 
-flat_alike : {X Y : Type 0} (f g : X → List Y) (xs : List X) → ((x : X) → Mem x xs → f x ≡ g x) → flat_map f xs ≡ flat_map g xs
+pub flat_alike : {X Y : Type 0} (f g : X → List Y) (xs : List X) → ((x : X) → Mem x xs → f x ≡ g x) → flat_map f xs ≡ flat_map g xs
 flat_alike f g [] same = refl
 flat_alike f g (x ∷ xs) same = ap (λ l. l ++ flat_map f xs) (same x (inl refl)) ∙ ap (λ l. g x ++ l) (flat_alike f g xs (λ y m. same y (inr m)))
 

@@ -2,7 +2,7 @@
 use Rattle.std.proofs.Common.{◌≡◌, ℕ, ◌⊎◌, inl, inr, List, ◌++◌, Option, Some, None, Contains, flat_map, map, option_to_list, slice_get, refl, sym, subst}
 use Rattle.lft_lists.proofs.Members.{Mem, mem_contains, mem_flat, mem_left, mem_map, mem_right}
 use Rattle.lft_lists.proofs.Places.{at_contains, contains_at}
-use Rattle.lft_tree.specs.Tree.{ActionTree, AssignmentTree, FileTree, InstanceTree, ReactorTree, TimeTree, TimerTree, Written, Named, actions_of, connections_of, instances_of, reactors_of, timers_of}
+use Rattle.lft_tree.specs.Tree.{ActionTree, AssignmentTree, ConnectionTree, FileTree, InstanceTree, ReactorTree, TimeTree, TimerTree, Written, Named, actions_of, connections_of, instances_of, reactors_of, timers_of}
 use Rattle.lft_scope.specs.Causes.{IsMisplacedTime, IsUnknownTime, Misplaces, NamesNothing, NoneHolds, UnknownName, WrongPlace, causes}
 use Rattle.lft_scope.specs.Kinds.{timer_times, times_in}
 use Rattle.lft_scope.specs.Sheets.{parameter_place}
@@ -63,3 +63,6 @@ module _ (r : ReactorTree) where
 
   pub given_time : (i : InstanceTree) (a : AssignmentTree) → Mem i (instances_of r) → Mem a i.given → Contains (times_in r) a.value
   given_time i a stands m = mem_contains a.value (times_in r) (mem_left a.value (of_timers ++ of_actions ++ of_instances) of_connections (mem_right a.value (of_timers ++ of_actions) of_instances (mem_flat values_of i a.value (instances_of r) stands (mem_map (λ (a : AssignmentTree). a.value) a i.given m))))
+
+  pub delay_time : (c : ConnectionTree) (z : TimeTree) → Mem c (connections_of r) → c.delay ≡ Some z → Contains (times_in r) z
+  delay_time c z stands e = mem_contains z (times_in r) (mem_right z (of_timers ++ of_actions ++ of_instances) of_connections (mem_flat (λ (c : ConnectionTree). option_to_list c.delay) c z (connections_of r) stands (listed c.delay z e)))

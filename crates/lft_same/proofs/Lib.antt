@@ -1,10 +1,14 @@
+pub mod Connections
 pub mod Declared
 pub mod Found
 pub mod Inners
+pub mod Kept
 pub mod Known
 pub mod Listed
 pub mod Lowered
 pub mod Members
 pub mod Paths
+pub mod References
+pub mod Settings
 pub mod Sleeping
 pub mod Times

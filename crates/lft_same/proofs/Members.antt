@@ -1,19 +1,15 @@
 -- The members of a reactor, and the numbers of each, where a core instance stands for an instance.
-use Rattle.std.proofs.Common.{◌≡◌, ℕ, true, List, [], ◌∷◌, map, Option, Some, None, option_map, slice_get, refl, sym, ap, subst, ◌∙◌}
-use Rattle.std.specs.Prelude.{is_some, unwrap_or}
+use Rattle.std.proofs.Common.{◌≡◌, ℕ, None, List, [], ◌∷◌, map, Option, Some, option_map, slice_get, subst}
+use Rattle.std.specs.Prelude.{unwrap_or}
 use Rattle.std.specs.List.{enumerate_from}
-use Rattle.lft_lists.proofs.Places.{same_some}
 use Rattle.lft_tree.specs.Tree.{MemberTree}
 use Rattle.lft_tree.specs.declared.ast.Ast.{Ast}
 use Rattle.lft_scope.specs.Instances.{Inside as CoreInside}
 use Rattle.lft_sources.specs.declared.source.SourceFile.{SourceFile}
 use Rattle.lft_whole.specs.declared.tree.Member.{Member}
-use Rattle.lft_whole.specs.declared.tree.Width.{Width}
 use Rattle.lft_lowering.specs.Channels.{below}
 use Rattle.lft_shapes.specs.declared.shapes.Inherited.{Inherited}
-use Rattle.lft_shapes.specs.declared.shapes.Shape.{Shape}
 use Rattle.lft_shapes.specs.Shapes.{width_of}
-use Rattle.lft_settings.specs.Places.{written_width}
 use Rattle.lft_settings.specs.Widths.{found_width}
 use Rattle.lft_meanings.specs.Meanings.{Here}
 use Rattle.lft_lower.specs.Lowered.{IsMeasured}
@@ -21,10 +17,9 @@ use Rattle.lft_lower.specs.Reactors.{IsLowering}
 use Rattle.lft_expanded.specs.Instances.{Inside, Widths, numbers}
 use Rattle.lft_expanded.specs.Reactors.{members_of}
 use Rattle.lft_fits.specs.Fits.{IsShapeOf}
-use Rattle.lft_fits.proofs.Widths.{width_is_written}
 use Rattle.lft_same.specs.Instances.{AreWidthsFound, StandsFor}
 use Rattle.lft_same.proofs.Lowered.{Appends, Becomes, all_become}
-use Rattle.lft_same.proofs.Found.{found_is_width, shape_of_setting, width_written}
+use Rattle.lft_same.proofs.Settings.{its_setting, numbers_are as numbers_found, of_class as class_found, same_shape as shape_found, unwritten as none_found}
 
 module _ (files : List SourceFile) (tree : Ast) (low : IsLowering files tree) (x : Inside) (core : CoreInside) (s : StandsFor files tree low x core) where
   -- where its references are looked up
@@ -32,11 +27,11 @@ module _ (files : List SourceFile) (tree : Ast) (low : IsLowering files tree) (x
   here = record { settings = low.settings; setting = s.number; shape = s.shape }
 
   pub same_shape : s.fits.shape ≡ s.shape
-  same_shape = same_some (slice_get low.settings.shapes.items s.setting.shape) s.fits.shape s.shape s.fits.is_shape (shape_of_setting low.settings s.number s.setting s.shape s.is_setting s.is_shape)
+  same_shape = shape_found files tree low x (its_setting files tree low x core s)
 
   -- its shape is of the instance's reactor
   pub of_class : IsShapeOf files s.shape x.class
-  of_class = subst (λ z. IsShapeOf files z x.class) same_shape s.fits.of_class
+  of_class = class_found files tree low x (its_setting files tree low x core s)
 
   -- the action without events that its reactor has, if it has one
   abbrev pub never_of : Option (List ℕ)
@@ -48,18 +43,9 @@ module _ (files : List SourceFile) (tree : Ast) (low : IsLowering files tree) (x
 
   -- a member that has no width written has none found
   pub unwritten : (n c : ℕ) (m : Inherited) → slice_get s.shape.members.items n ≡ Some m → width_of m.member.now ≡ None → found_width low.settings s.number n ≡ Some c → ⊥
-  unwritten n c m at none found =
-      let v = width_written low.settings.shapes.items s.setting n c (found_is_width low.settings low.program.settings s.number n c s.setting s.is_setting found) in
-      let e : written_width low.settings.shapes.items s.setting n ≡ width_of m.member.now = width_is_written files low.settings.shapes.items s.setting x s.fits n m (ap (λ (z : Shape). slice_get z.members.items n) same_shape ∙ at) in
-      let f : Some v.0 ≡ None = sym v.1 ∙ e ∙ none in cc
+  unwritten n c m at narrow is = none_found files tree low x (its_setting files tree low x core s) n c m at narrow is
 
   module _ (w : Widths) (found : AreWidthsFound files tree low w) where
     -- the numbers of a member are those that lowering found
     pub numbers_are : (n : ℕ) (m : Inherited) → slice_get s.shape.members.items n ≡ Some m → IsMeasured here n m.member.now → numbers (width_of m.member.now) (w x n) ≡ map (λ k. option_map (λ _. k) (found_width low.settings s.number n)) (below (unwrap_or (found_width low.settings s.number n) 1))
-    numbers_are n m at measured = go (width_of m.member.now) (found_width low.settings s.number n) refl refl measured
-      where
-        go : (o : Option Width) (f : Option ℕ) → width_of m.member.now ≡ o → found_width low.settings s.number n ≡ f → (is_some o ≡ true → is_some f ≡ true) → numbers o (w x n) ≡ map (λ k. option_map (λ _. k) f) (below (unwrap_or f 1))
-        go None None wide is measured = refl
-        go None (Some c) wide is measured = absurd (unwritten n c m at wide is)
-        go (Some width) None wide is measured = absurd (let f = measured refl in cc)
-        go (Some width) (Some c) wide is measured = ap (λ k. map Some (below k)) (found s.number s.setting x n c s.used s.is_setting s.fits is)
+    numbers_are n m at measured = numbers_found files tree low x (its_setting files tree low x core s) w found n m at

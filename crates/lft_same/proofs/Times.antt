@@ -79,7 +79,7 @@ read_time files x core value.Code t has e known = absurd (cc)
 read_time files x core value.Other t has e known = absurd (cc)
 
 -- what can be read as a time becomes one
-becomes : (shape : Shape) (v : Value) → IsTime shape v → (t : TimeTree) × (time_for v ≡ Some t)
+pub becomes : (shape : Shape) (v : Value) → IsTime shape v → (t : TimeTree) × (time_for v ≡ Some t)
 becomes shape (value.Word q) is = (Named (string_bytes q), refl)
 becomes shape (value.Number negative n unit) is = go (time_in (value.Number negative n unit)) is
   where
