@@ -4,11 +4,10 @@ use Rattle.lft_flat.specs.Parts.{Parts}
 use Rattle.lft_imports.specs.Files.{AreOfTexts, AreReached, EachOnce, IsFileOf, IsWhole, paths_of_files}
 use Rattle.lft_imports.specs.Paths.{normal}
 use Rattle.lft_load.specs.Meaning.{IsOnly}
-use Rattle.lft_lower.specs.Reactors.{IsLowering}
-use Rattle.lft_program.specs.Flattening.{IsFlatOf}
+use Rattle.lft_expanded.specs.Expanded.{Expanded}
+use Rattle.lft_expanded.specs.Flat.{IsFlat}
+use Rattle.lft_expanded.specs.Same.{IsSame}
 use Rattle.lft_sources.specs.declared.source.SourceFile.{SourceFile}
-use Rattle.lft_tree.specs.View.{tree_view}
-use Rattle.lft_tree.specs.declared.ast.Ast.{Ast}
 
 -- The first of the files has this path, and is read from this text.
 abbrev pub BeginWith : List ℕ → List ℕ → List SourceFile → Type 0
@@ -26,9 +25,9 @@ pub record AreFilesOf (path text : List ℕ) (files : List SourceFile) : Type 0 
   pub lead : LeadTo files (paths_of_files files)
   pub whole : IsWhole files
 
--- The program is the one flat program of a tree to which these files are lowered.
+-- The program is the one flat program of the whole program of these files, written out.
 abbrev pub IsOfFiles : List SourceFile → Parts → Type 0
-IsOfFiles files program = (tree : Ast) × IsLowering files tree × IsOnly (IsFlatOf (tree_view tree)) program
+IsOfFiles files program = (expanded : Expanded) × IsSame files expanded × IsOnly (IsFlat expanded) program
 
 -- So it is of the files of this path and this text.
 abbrev pub IsProgramOf : List ℕ → List ℕ → Parts → Type 0

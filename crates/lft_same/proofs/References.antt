@@ -50,7 +50,7 @@ use Rattle.lft_same.proofs.Settings.{HasSetting, IsFoundIn, found_in, here, nest
 -- ---- names in the core
 
 -- the name of a member that has one
-named : (m : Member) (q : List ℕ) → option_map (λ (n : Name). string_bytes n.text) (name_of m) ≡ Some q → name_in m ≡ q
+pub named : (m : Member) (q : List ℕ) → option_map (λ (n : Name). string_bytes n.text) (name_of m) ≡ Some q → name_in m ≡ q
 named (member.Port p) q e = Some_same (string_bytes p.name.text) q e
 named (member.Timer t) q e = Some_same (string_bytes t.name.text) q e
 named (member.Action a) q e = Some_same (string_bytes a.name.text) q e

@@ -1,8 +1,8 @@
 -- The settings that instances have, the numbers of their members, and the settings inside.
-use Rattle.std.proofs.Common.{◌≡◌, ℕ, zero, suc, ◌<◌, inl, inr, true, false, List, [], ◌∷◌, length, map, Option, Some, None, option_map, slice_get, refl, sym, ap, subst, ◌∙◌, arith}
+use Rattle.std.proofs.Common.{◌≡◌, ℕ, zero, suc, ◌<◌, inl, inr, true, false, List, [], ◌∷◌, map, Option, Some, None, option_map, slice_get, refl, sym, ap, subst, ◌∙◌, arith}
 use Rattle.std.specs.Prelude.{is_some, slice_index_or, string_bytes, unwrap_or}
-use Rattle.std.specs.Option.{option_and_then, option_or}
-use Rattle.lft_lists.proofs.Mapped.{mapped_from, option_map_some}
+use Rattle.std.specs.Option.{option_and_then}
+use Rattle.lft_lists.proofs.Mapped.{mapped_from}
 use Rattle.lft_lists.proofs.Places.{Some_same, get_push_cases, same_some}
 use Rattle.lft_program.proofs.Zipping.{then_some}
 use Rattle.lft_tree.specs.Tree.{ItemTree, MemberTree, ReactorTree}
@@ -15,21 +15,21 @@ use Rattle.lft_whole.specs.declared.tree.Member.{Member}
 use Rattle.lft_whole.specs.declared.tree.Member.TheVariants as member
 use Rattle.lft_whole.specs.declared.tree.Width.{Width}
 use Rattle.lft_lowering.specs.Channels.{below}
-use Rattle.lft_shapes.specs.declared.shapes.Child.{Child}
 use Rattle.lft_shapes.specs.declared.shapes.Inherited.{Inherited}
 use Rattle.lft_shapes.specs.declared.shapes.Shape.{Shape}
-use Rattle.lft_shapes.specs.Shapes.{child_at, width_of}
+use Rattle.lft_shapes.specs.Shapes.{width_of}
 use Rattle.lft_shapes.specs.Walks.{Has}
 use Rattle.lft_settings.specs.declared.settings.Setting.{Setting}
 use Rattle.lft_settings.specs.declared.settings.Settings.{Settings}
-use Rattle.lft_settings.specs.Noted.{found_inside, noted_at, noted_for, only_inside}
+use Rattle.lft_settings.specs.Noted.{found_inside, noted_for}
 use Rattle.lft_settings.specs.Places.{IsMany, IsWidth, many, width_in, written_width}
 use Rattle.lft_settings.specs.Settings.{setting_at, shape_at, valued}
 use Rattle.lft_settings.specs.Used.{IsReached, is_instance, is_instance_in, within}
-use Rattle.lft_settings.specs.Values.{Valued, inside, setting_of, values_inside}
+use Rattle.lft_settings.specs.Values.{Valued, inside}
 use Rattle.lft_settings.specs.Widths.{found_width}
+use Rattle.lft_settings.proofs.Keeping.{found_is_inside}
 use Rattle.lft_meanings.specs.Meanings.{Here}
-use Rattle.lft_lower.specs.Lowered.{AreInstances, AreLowered, IsLowered, IsMeasured, more_members, no_instances, no_members, some_instances}
+use Rattle.lft_lower.specs.Lowered.{AreInstances, IsLowered, no_instances, some_instances}
 use Rattle.lft_lower.specs.Reactors.{AreReactors, IsLowering, IsReactor, more_reactors, no_reactors}
 use Rattle.lft_expanded.specs.Instances.{Inside, Widths, inside_of, numbers}
 use Rattle.lft_expanded.specs.Reactors.{members_of}
@@ -37,9 +37,8 @@ use Rattle.lft_fits.specs.Fits.{Fits, IsShapeOf}
 use Rattle.lft_fits.proofs.Nested.{exists_law, inside_law, instance_law}
 use Rattle.lft_fits.proofs.Widths.{AreNested, width_is_written}
 use Rattle.lft_same.specs.Instances.{AreWidthsFound, StandsFor}
+use Rattle.lft_same.proofs.Lowered.{Becomes, made_at as member_made}
 use Rattle.lft_same.proofs.Found.{found_is_width, shape_of_setting, width_written}
-
--- ---- core reactors and their members
 
 -- the core reactor of a setting among those of all
 reactor_among : (s : Settings) (names : List (Option (List ℕ))) (used : List ℕ) (items : List ItemTree) → AreReactors s names used items → (i k : ℕ) → slice_get used i ≡ Some k → (shape : Shape) × (r : ReactorTree) × (shape_at s k ≡ Some shape) × IsReactor s names k shape r
@@ -47,21 +46,6 @@ reactor_among s names _ _ no_reactors i k at = absurd (cc)
 reactor_among s names _ _ (more_reactors front setting shape items r before is_shape is) i k at = elim (get_push_cases front setting i k at) [
   | inl a ↦ reactor_among s names front items before i k a
   | inr a ↦ (shape, r, subst (λ n. shape_at s n ≡ Some shape) a.1 is_shape, subst (λ n. IsReactor s names n shape r) a.1 is)
-]
-
--- what the member of this number becomes
-pub record IsOne (names : List (Option (List ℕ))) (h : Here) (n : ℕ) (m : Inherited) : Type 0 where
-  pub before : Option (List ℕ)
-  pub new : List MemberTree
-  pub after : Option (List ℕ)
-  pub measured : IsMeasured h n m.member.now
-  pub lowered : IsLowered names h n before new after m.member.now
-
-one_among : (names : List (Option (List ℕ))) (h : Here) (ms : List Inherited) (all : List MemberTree) (never : Option (List ℕ)) → AreLowered names h ms all never → (n : ℕ) (m : Inherited) → slice_get ms n ≡ Some m → IsOne names h n m
-one_among names h _ _ _ no_members n m at = absurd (cc)
-one_among names h _ _ _ (more_members front y done new before after old measured lowered) n m at = elim (get_push_cases front y n m at) [
-  | inl a ↦ one_among names h front done before old n m a
-  | inr a ↦ subst (λ k. IsOne names h k m) (sym a.0) (subst (IsOne names h (length front)) a.1 (record { before = before; new = new; after = after; measured = measured; lowered = lowered }))
 ]
 
 -- ---- settings and instances
@@ -130,13 +114,15 @@ module _ (files : List SourceFile) (tree : Ast) (low : IsLowering files tree) wh
     pub of_class : IsShapeOf files s.shape x.class
     of_class = subst (λ z. IsShapeOf files z x.class) same_shape s.fits.of_class
 
-    -- what each of its members becomes
-    pub becomes : (n : ℕ) (m : Inherited) → slice_get s.shape.members.items n ≡ Some m → IsOne low.names here n m
-    becomes n m at =
+    -- its core reactor
+    core : (r : ReactorTree) × IsReactor low.settings low.names s.number s.shape r
+    core =
         let a = reactor_among low.settings low.names low.used (item_views tree.items.items) low.reactors s.used.0 s.number s.used.1 in
-        let same : a.0 ≡ s.shape = Some_same a.0 s.shape (sym a.2 ∙ s.is_shape) in
-        let r = subst (λ (z : Shape). IsReactor low.settings low.names s.number z a.1) same a.3 in
-        one_among low.names here s.shape.members.items a.1.members r.members.0 r.members.1 n m at
+        (a.1, subst (λ (z : Shape). IsReactor low.settings low.names s.number z a.1) (Some_same a.0 s.shape (sym a.2 ∙ s.is_shape)) a.3)
+
+    -- what each of its members becomes
+    becomes : (n : ℕ) (m : Inherited) → slice_get s.shape.members.items n ≡ Some m → (new : List MemberTree) × Becomes low.names here core.0.members core.1.members.0 n m new
+    becomes = member_made low.names here core.0.members core.1.members.0 core.1.members.1
 
     -- a member of the reactor is one of the shape
     pub member_of : (n file : ℕ) (y : Member) → slice_get (members_of files x.class) n ≡ Some (file, y) → (m : Inherited) × (slice_get s.shape.members.items n ≡ Some m) × (m.member.now ≡ y)
@@ -159,7 +145,7 @@ module _ (files : List SourceFile) (tree : Ast) (low : IsLowering files tree) wh
     module _ (w : Widths) (found : AreWidthsFound files tree low w) where
       -- the numbers of a member are those that lowering found
       pub numbers_are : (n : ℕ) (m : Inherited) → slice_get s.shape.members.items n ≡ Some m → numbers (width_of m.member.now) (w x n) ≡ map (λ k. option_map (λ _. k) (found_width low.settings s.number n)) (below (unwrap_or (found_width low.settings s.number n) 1))
-      numbers_are n m at = go (width_of m.member.now) (found_width low.settings s.number n) refl refl (becomes n m at).measured
+      numbers_are n m at = go (width_of m.member.now) (found_width low.settings s.number n) refl refl (becomes n m at).1.measured
         where
           go : (o : Option Width) (f : Option ℕ) → width_of m.member.now ≡ o → found_width low.settings s.number n ≡ f → (is_some (width_of m.member.now) ≡ true → is_some (found_width low.settings s.number n) ≡ true) → numbers o (w x n) ≡ map (λ k. option_map (λ _. k) f) (below (unwrap_or f 1))
           go None None wide is measured = refl
@@ -171,24 +157,7 @@ module _ (files : List SourceFile) (tree : Ast) (low : IsLowering files tree) wh
 
     -- the setting that was found in a member is that of what is inside
     inside_found : (n k : ℕ) (u : Valued) → found_inside low.settings s.number n ≡ Some k → inside low.settings.shapes.items s.setting n ≡ Some u → setting_at low.settings k ≡ Some u
-    inside_found n k u e in_u = go (noted_at made.0.inner.items n) refl (sym (ap (option_and_then (λ (z : Setting). option_or (noted_at z.inner.items n) (only_inside low.settings z.shape n))) made.1) ∙ e)
-      where
-        of_child : Shape → Child → Shape → Valued
-        of_child outer child inner = record { shape = child.shape; values = values_inside outer s.setting.values child.given.items inner }
-
-        go : (o : Option ℕ) → noted_at made.0.inner.items n ≡ o → option_or o (only_inside low.settings made.0.shape n) ≡ Some k → setting_at low.settings k ≡ Some u
-        go (Some j) p f =
-            let v = (low.program.settings.made.noted s.number made.0 made.1).inner n j p in
-            let same : v.0 ≡ u = Some_same v.0 u (sym v.1 ∙ ap (λ (z : Valued). inside low.settings.shapes.items z n) made.2 ∙ in_u) in
-            ap (setting_at low.settings) (sym (Some_same j k f)) ∙ v.2 ∙ ap Some same
-        go None p f =
-            let outer = then_some (λ (outer : Shape). option_and_then (λ (child : Child). noted_at low.settings.only.items child.shape) (child_at outer.children.items n)) (slice_get low.settings.shapes.items made.0.shape) k f in
-            let child = then_some (λ (child : Child). noted_at low.settings.only.items child.shape) (child_at outer.0.children.items n) k outer.2 in
-            let there : slice_get low.settings.shapes.items s.setting.shape ≡ Some outer.0 = ap (λ (v : Valued). slice_get low.settings.shapes.items v.shape) (sym made.2) ∙ outer.1 in
-            let is : setting_of low.settings.shapes.items outer.0 s.setting.values child.0 ≡ Some u = sym (ap (option_and_then (λ (o : Shape). option_and_then (setting_of low.settings.shapes.items o s.setting.values) (child_at o.children.items n))) there ∙ ap (option_and_then (setting_of low.settings.shapes.items outer.0 s.setting.values)) child.1) ∙ in_u in
-            let inner = option_map_some (of_child outer.0 child.0) (slice_get low.settings.shapes.items child.0.shape) u is in
-            let same : child.0.shape ≡ u.shape = ap (λ (v : Valued). v.shape) inner.2 in
-            low.program.settings.made.only s.setting u n k in_u (ap (noted_at low.settings.only.items) (sym same) ∙ child.2)
+    inside_found n k u e in_u = let v = found_is_inside low.settings s.number n k s.setting low.program.settings.made e s.is_setting in v.2 ∙ ap Some (Some_same v.0 u (sym v.1 ∙ in_u))
 
     reached : IsReached low.settings.shapes.items s.setting
     reached =
@@ -197,7 +166,7 @@ module _ (files : List SourceFile) (tree : Ast) (low : IsLowering files tree) wh
 
     -- an instance that has members is so many
     is_many : (n c : ℕ) (m : Inherited) → slice_get s.shape.members.items n ≡ Some m → unwrap_or (found_width low.settings s.number n) 1 ≡ suc c → (count : ℕ) × IsMany low.settings.shapes.items s.setting n count × (0 < count)
-    is_many n c m at e = go (width_of m.member.now) (found_width low.settings s.number n) refl refl (becomes n m at).measured e
+    is_many n c m at e = go (width_of m.member.now) (found_width low.settings s.number n) refl refl (becomes n m at).1.measured e
       where
         go : (o : Option Width) (f : Option ℕ) → width_of m.member.now ≡ o → found_width low.settings s.number n ≡ f → (is_some (width_of m.member.now) ≡ true → is_some (found_width low.settings s.number n) ≡ true) → unwrap_or f 1 ≡ suc c → (count : ℕ) × IsMany low.settings.shapes.items s.setting n count × (0 < count)
         go None f wide is measured l = (1, (0, ap (many (width_in low.settings.shapes.items 0 s.setting n)) (written_at n m at ∙ wide)), omega arith)
@@ -232,7 +201,7 @@ module _ (files : List SourceFile) (tree : Ast) (low : IsLowering files tree) wh
         own = member_of n file (member.Instance i) at
 
         number : (k : ℕ) × (found_inside low.settings s.number n ≡ Some k)
-        number = of own.0.member.now own.2 (becomes n own.0 own.1).before (becomes n own.0 own.1).new (becomes n own.0 own.1).after (becomes n own.0 own.1).lowered
+        number = of own.0.member.now own.2 (becomes n own.0 own.1).1.before (becomes n own.0 own.1).0 (becomes n own.0 own.1).1.after (becomes n own.0 own.1).1.lowered
           where
             by : (new : List MemberTree) → AreInstances low.names here n (string_bytes i.name.text) new → (k : ℕ) × (found_inside low.settings s.number n ≡ Some k)
             by _ (no_instances none) = absurd (let e : zero ≡ suc c = sym none ∙ some in cc)

@@ -45,6 +45,7 @@ use Rattle.lft_same.specs.Instances.{StandsFor}
 use Rattle.lft_same.proofs.Listed.{none_mapped}
 use Rattle.lft_same.proofs.Lowered.{Appends, Becomes, IsAdded, all_become, made_at, never_added, of_connection, of_instance, of_reaction}
 use Rattle.lft_same.proofs.Members.{here, never_of, of_class, unwritten}
+use Rattle.lft_same.proofs.References.{named as member_named}
 
 -- what stands in two lists stands twice in both together
 both_twice : {X : Type 0} (x : X) (xs ys : List X) → Mem x xs → Mem x ys → IsTwice (xs ++ ys)
@@ -83,18 +84,8 @@ module _ (r : ReactorTree) (once : IsTwice (names_in r) → ⊥) (q : List ℕ) 
   no_instance : Mem q of_instances → ⊥
   no_instance m = once (both_twice q (of_parameters ++ of_ports ++ of_timers ++ of_actions) of_instances (mem_right q (of_parameters ++ of_ports ++ of_timers) of_actions stands) m)
 
--- the name of a member that has one
-called : (y : Member) (q : List ℕ) → option_map (λ (n : Name). string_bytes n.text) (name_of y) ≡ Some q → name_in y ≡ q
-called (member.Port p) q e = Some_same (string_bytes p.name.text) q e
-called (member.Timer t) q e = Some_same (string_bytes t.name.text) q e
-called (member.Action a) q e = Some_same (string_bytes a.name.text) q e
-called (member.Instance i) q e = Some_same (string_bytes i.name.text) q e
-called (member.Reaction r) q e = absurd (cc)
-called (member.Connection c) q e = absurd (cc)
-called (member.Foreign what at) q e = absurd (cc)
-
 -- what is an own thing is named so
-own_thing : (r : ReactorTree) (path q head : List ℕ) (port : Option (List ℕ)) → stands_inside r path head port ≡ Some (thing_at path q) → (port ≡ None) × (head ≡ q)
+pub own_thing : (r : ReactorTree) (path q head : List ℕ) (port : Option (List ℕ)) → stands_inside r path head port ≡ Some (thing_at path q) → (port ≡ None) × (head ≡ q)
 own_thing r path q head None e = (refl, ap (λ (t : Thing). t.name) (Some_same (thing_at path head) (thing_at path q) e))
 own_thing r path q head (Some p) e =
     let k = option_map_some (λ k. thing_at (path ++ k ∷ []) p) (position (λ (i : InstanceTree). bytes_eq head i.name) (instances_of r)) (thing_at path q) e in
@@ -132,7 +123,7 @@ module _ (files : List SourceFile) (tree : Ast) (none : NoneHolds (causes (tree_
   own_name (thing.Parameter n) head k named among same =
       let p = ((of_class files tree low x core s).names head (thing.Parameter n)).0 named in
       other_name (thing.Parameter n) head named (ap (λ z. z ++ []) (sym (ap (λ o. unwrap_or (option_map (λ (p : InheritedParameter). string_bytes p.parameter.now.name.text) o) []) p.1 ∙ p.2)) ∙ same)
-  own_name (thing.Member n) head k named among same = of m.0.member.now (called m.0.member.now head m.2) refl made.1.lowered
+  own_name (thing.Member n) head k named among same = of m.0.member.now (member_named m.0.member.now head m.2) refl made.1.lowered
     where
       m : (m : Inherited) × (slice_get s.shape.members.items n ≡ Some m) × (option_map (λ (z : Name). string_bytes z.text) (name_of m.member.now) ≡ Some head)
       m = ((of_class files tree low x core s).names head (thing.Member n)).0 named

@@ -1,6 +1,8 @@
--- How core instances stand to instances.
+-- How core instances stand to instances, and a core tree to the whole program.
 use Rattle.std.specs.Prelude.{◌≡◌, ℕ, List, Some, Contains, map, slice_get}
 use Rattle.lft_tree.specs.Tree.{AssignmentTree, FileTree, ReactorTree, TimeTree, reactors_of}
+use Rattle.lft_tree.specs.View.{tree_view}
+use Rattle.lft_tree.specs.declared.ast.Ast.{Ast}
 use Rattle.lft_scope.specs.Causes.{NoneHolds, causes}
 use Rattle.lft_scope.specs.Instances.{Inside as CoreInside, given_in, main_instance as core_main}
 use Rattle.lft_scope.specs.Kinds.{times_in}
@@ -12,9 +14,10 @@ use Rattle.lft_shapes.specs.declared.shapes.Shape.{Shape}
 use Rattle.lft_settings.specs.Values.{Valued, inside}
 use Rattle.lft_meanings.specs.Meanings.{Here, shape_inside}
 use Rattle.lft_lower.specs.Lowered.{AreGiven, IsPeriod, IsRead, period_at, time_at}
-use Rattle.lft_lower.specs.Reactors.{AreShapes, timed_parameters}
+use Rattle.lft_lower.specs.Reactors.{AreShapes, IsLowering, timed_parameters}
 use Rattle.lft_expanded.specs.Instances.{Inside, inside_of, main_instance, period_in, time_in}
 use Rattle.lft_expanded.specs.Reactors.{Class, main_of, members_of}
+use Rattle.lft_expanded.specs.Same.{IsSame}
 use Rattle.lft_fits.specs.Fits.{Fits}
 use Rattle.lft_same.specs.Times.{HasTimes, IsKnown}
 
@@ -37,3 +40,7 @@ PeriodLaw files = (x : Inside) (core : CoreInside) (shape : Shape) (e : _) → H
 -- A time in a tree of which no cause of refusal holds is written out, or it names a parameter of its reactor.
 abbrev pub KnownLaw : Type 0
 KnownLaw = (tree : FileTree) (r : ReactorTree) (t : TimeTree) → NoneHolds (causes tree) → Contains (reactors_of tree) r → Contains (times_in r) t → IsKnown r.parameters t
+
+-- A tree to which a program is lowered, and of which no cause of refusal holds, is the whole program.
+abbrev pub LoweredLaw : List SourceFile → Type 0
+LoweredLaw files = (tree : Ast) → IsLowering files tree → NoneHolds (causes (tree_view tree)) → IsSame files (tree_view tree)

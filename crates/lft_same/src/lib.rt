@@ -1,7 +1,7 @@
 #![tactic(auto)]
-//! How the core reactors of a program stand to its instances. It has laws alone, and no code.
+//! The core tree of a program is the whole program. It has laws alone, and no code.
 
-ghost use Rattle.lft_same.specs.Laws.{InsideTimesLaw, KnownLaw, MainTimesLaw, PeriodLaw, TimeLaw};
+ghost use Rattle.lft_same.specs.Laws.{InsideTimesLaw, KnownLaw, LoweredLaw, MainTimesLaw, PeriodLaw, TimeLaw};
 
 use lft_sources::SourceFile;
 
@@ -12,4 +12,9 @@ pub fn laws_of_times(files: &[SourceFile])
     ensures time { TimeLaw files.now }
     ensures known { KnownLaw }
     ensures period { PeriodLaw files.now }
+{}
+
+/// A lowered program is the whole program. It does no work.
+pub fn law_of_lowering(files: &[SourceFile])
+    ensures { LoweredLaw files.now }
 {}

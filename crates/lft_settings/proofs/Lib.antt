@@ -1,6 +1,6 @@
-mod Counting
+pub mod Counting
 mod Finding
-mod Keeping
+pub mod Keeping
 mod Marks
 mod Passing
 mod Refusing
