@@ -28,3 +28,4 @@ pub mod Ended
 pub mod Front
 pub mod Opening
 pub mod Opened
+pub mod Held

@@ -1,5 +1,5 @@
 -- What is kept of rows is right still once the plan stops sooner, at a tag that no row is past.
-use Rattle.std.proofs.Common.{◌≡◌, ℕ, ◌+◌, ◌<◌, ◌⊎◌, inl, inr, List, [], ◌∷◌, ◌++◌, take, refl, sym, ap, ◌∙◌, subst, arith, Some, slice_get, ⊎_elim}
+use Rattle.std.proofs.Common.{◌≡◌, ℕ, ◌<◌, ◌⊎◌, inl, inr, List, [], ◌∷◌, ◌++◌, take, refl, sym, ap, ◌∙◌, subst, arith, Some, slice_get, ⊎_elim}
 use Rattle.lft_tag.specs.declared.Tag.{Tag}
 use Rattle.lft_tag.specs.Tags.{Before, UpTo, earlier, earliest}
 use Rattle.lft_tag.proofs.Order.{Before-weaken, UpTo-refl, UpTo-trans, UpTo-not, UpTo_antisym, earlier_cases, order_cases}

@@ -211,12 +211,16 @@ pub record IsOdd (plan : PlanParts) (t more : List Row) (r : Reach) (line : ℕ)
 abbrev pub IsOddSoFar : PlanParts → List Row → Reach → ℕ → Type 0
 IsOddSoFar plan t r line = (n : ℕ) × IsCleanTo plan t r n × (n < line) × (line ≤ length t + 1)
 
--- what is told of rows and more behind them: nothing is to be told, and all are followed on; a breach is sure behind some of them; they are odd; or the follower holds or has judged too many
+-- some last rows are at one tag, and with those behind them more than 4,000,000
+abbrev pub HasManyAtLast : List Row → List Row → Type 0
+HasManyAtLast t more = (done : List Row) × (held : List Row) × (t ≡ done ++ held) × ((g : Tag) × AreAt held g) × (4000000 < length held + length more)
+
+-- what is told of rows and more behind them: nothing is to be told, and all are followed on; a breach is sure behind some of them; they are odd; or the rows behind are too many with the last ones at one tag, or too many came
 abbrev pub IsProgress : PlanParts → List Row → List Row → Follower → Progress → Type 0
 IsProgress plan t more f GoesOn = IsFollowerOf plan (t ++ more) f × IsQuiet plan (t ++ more)
 IsProgress plan t more f (Broken b) = IsSureSoFar plan (t ++ more) (breach_of b)
 IsProgress plan t more f (Odd r line) = IsOdd plan t more r line
-IsProgress plan t more f TooMany = (4000000 < length f.rows.items) ⊎ (2 ^ 62 < f.judged.count)
+IsProgress plan t more f TooMany = HasManyAtLast t more ⊎ (2 ^ 62 < length t)
 
 -- no row breaks one of the rules 1 to 5
 abbrev pub KeepsRows : PlanParts → List Row → Type 0

@@ -34,7 +34,7 @@ pub enum Progress {
     /// The rows that are judged break no rule. Of the next ones, up to the line, too much is to be kept or
     /// looked at, or memory is refused.
     Odd(Reach, u64),
-    /// More rows stand at one tag than a table may have, or more came than are counted.
+    /// The rows at the last tag and these are more than a table may have, or more came than are counted.
     TooMany,
 }
 
@@ -154,6 +154,13 @@ impl Follower {
     {
         let _ = plan;
         self.judged.reach
+    }
+
+    /// How many rows it holds. They are those at the last tag.
+    pub fn held(&self) -> usize
+        ensures { result ≡ length self.now.rows.items }
+    {
+        self.rows.as_slice().len()
     }
 
     /// Judges the rows at hand but those at the last tag, all of which are gone over.

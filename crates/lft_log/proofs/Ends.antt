@@ -5,7 +5,7 @@ use Rattle.std.proofs.lemmas.Option.{get_or_from_slice_get, slice_get-get_or, sl
 use Rattle.std.proofs.Math.Seq.{drop-append_seam}
 use Rattle.std.proofs.lemmas.List.{append-nil, append_assoc, length-take-le}
 use Rattle.memchr.specs.Find.{IsLastByte, Nowhere, Passes, is_byte}
-use Rattle.lft_flat.proofs.Ranges.{slice_get-drop}
+use Rattle.lft_flat.proofs.Ranges.{slice_get-drop, slice_get-take}
 use Rattle.lft_lists.proofs.Picked.{take_next}
 use Rattle.lft_trace.specs.Parts.{EndsLine}
 use Rattle.lft_log.specs.Logs.{AreLines, HasNoEnd, IsHead}
@@ -15,15 +15,23 @@ pub range_take : {X : Type 0} (xs : List X) (n : ℕ) → slice_range xs 0 n ≡
 range_take xs n = let e : n - 0 ≡ n = omega arith in ap (λ (k : ℕ). take k xs) e
 
 -- the byte that a search finds
-byte_there : (text : List ℕ) (b k : ℕ) → k < length text → Passes (is_byte b) text k → slice_get text k ≡ Some b
+pub byte_there : (text : List ℕ) (b k : ℕ) → k < length text → Passes (is_byte b) text k → slice_get text k ≡ Some b
 byte_there text b k within is = slice_get-get_or text k 0 within ∙ ap (λ (x : ℕ). Some x) (eqb-true (slice_index text k) b is)
 
 -- a byte that a search finds nowhere in a range
 pub no_byte : (text : List ℕ) (b i j : ℕ) → Nowhere (Passes (is_byte b) text) i j → (k : ℕ) → i ≤ k → k < j → slice_get text k ≢ Some b
 no_byte text b i j none k up down e = none k up down (eq-eqb (slice_index text k) b (get_or_from_slice_get text k b 0 e))
 
+-- no line ends before the first end
+pub none_before : (text : List ℕ) (n : ℕ) → n ≤ length text → Nowhere (Passes (is_byte 10) text) 0 n → HasNoEnd (take n text)
+none_before text n within none i e =
+    let long : length (take n text) ≡ n = length-take-le n text within in
+    let l = slice_get_within (take n text) i 10 e in
+    let in_it : i < n = omega (arith, long, l) in
+    no_byte text 10 0 n none i (omega arith) in_it (sym (slice_get-take text n i in_it) ∙ e)
+
 -- what ends with a line feed is a line
-ends_line : (text : List ℕ) (k : ℕ) → slice_get text k ≡ Some 10 → EndsLine (take (k + 1) text)
+pub ends_line : (text : List ℕ) (k : ℕ) → slice_get text k ≡ Some 10 → EndsLine (take (k + 1) text)
 ends_line text k e = (take k text, ap (λ (n : ℕ). take n text) (add-one k) ∙ take_next text k 10 e)
 
 -- up to the last end of a line there are whole lines

@@ -73,3 +73,8 @@ final_of base plan until whole bytes rest log is held (Broken b) so = (so.0, (pl
 -- what is told of rows that can't be judged to their end
 pub odd_at_end : (base plan : PlanParts) (until : Option Tag) (bytes rest : List ℕ) (t : List Row) (u : Unjudged) → TellsPlan base bytes plan t [] rest → KeepTo until t → IsUnjudged plan t u → IsSoon base until bytes (Odd u.reach u.line)
 odd_at_end base plan until bytes rest t u tells keeps is = (plan, t, [], [], rest, subst (λ (x : List Row). TellsPlan base bytes plan x [] rest) (sym (append-nil t)) tells, keeps, unjudged_so_far plan t u is)
+
+-- a byte stands behind bytes
+pub some_bytes : (bytes : List ℕ) (c : ℕ) → bytes ++ c ∷ [] ≡ [] → ⊥
+some_bytes [] c e = cc
+some_bytes (b ∷ bytes) c e = cc

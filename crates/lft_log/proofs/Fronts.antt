@@ -7,7 +7,7 @@ use Rattle.lft_trace.specs.Parts.{EndsLine}
 use Rattle.lft_trace.specs.declared.log_table.LineFault.{LineFault}
 use Rattle.lft_trace.specs.declared.log_table.LogLines.{LogLines}
 use Rattle.lft_steps.specs.Fits.{RowsFit}
-use Rattle.lft_log.specs.Logs.{AreLines, ArePlain, IsFront, IsRecordFault, inputs, records_below, rows}
+use Rattle.lft_log.specs.Logs.{AreLines, ArePlain, BeginsOdd, IsFaultBehind, IsFront, inputs, records_below, rows}
 use Rattle.lft_log.specs.declared.fault.LogFault.{LogFault}
 use Rattle.lft_log.specs.declared.front.Front.{Front}
 use Rattle.lft_log.proofs.Ends.{lines_left, range_take}
@@ -47,18 +47,18 @@ some_lines text (inl e) some = let none : length text ≡ 0 = ap (λ (x : List �
 some_lines text (inr ends) some = ends
 
 -- a fault of the next record, or one behind the lines that are read
-abbrev pub IsNextFault : Option LineFault → ℕ → ℕ → LogFault → Type 0
-IsNextFault fault row input f = (program : Parts) (records : List (List (List ℕ))) → StopsAt program records fault → IsRecordFault program records row input f
+abbrev pub IsNextFault : Option LineFault → List ℕ → ℕ → ℕ → LogFault → Type 0
+IsNextFault fault behind row input f = (program : Parts) (records : List (List (List ℕ))) → StopsAt program records fault → BeginsOdd behind → IsFaultBehind program records behind row input f
 
 pub front_is : (program : Parts) (text : List ℕ) (rows_before inputs_before plain : ℕ) (read : LogLines) (front : Front) (row input : ℕ)
-    → plain ≤ length text → AreLines (take plain text) → ArePlain (take plain text)
+    → plain ≤ length text → AreLines (take plain text) → ArePlain (take plain text) → BeginsOdd (drop plain text)
     → ReadsLines program (records_below (slice_range text 0 plain)) read → RowsFit program read.rows.items → InputsFit program read.inputs.items
     → front.rows ≡ read.rows → front.inputs ≡ read.inputs
     → (front.fault ≡ None → (read.fault ≡ None) × (length (slice_range text plain (length text)) ≡ 0))
-    → IfSome front.fault (IsNextFault read.fault row input)
+    → IfSome front.fault (IsNextFault read.fault (slice_range text plain (length text)) row input)
     → row ≡ rows_before + length read.rows.items + 2 → input ≡ inputs_before + length read.inputs.items + 2
     → IsFront program text rows_before inputs_before front
-front_is program text rows_before inputs_before plain read front row input within are quiet reads rows_fit inputs_fit rows_same inputs_same all none row_is input_is = record {
+front_is program text rows_before inputs_before plain read front row input within are quiet odd reads rows_fit inputs_fit rows_same inputs_same all none row_is input_is = record {
   plain = plain;
   within = within;
   are = are;
@@ -79,9 +79,11 @@ front_is program text rows_before inputs_before plain read front row input withi
       let end : plain ≡ length text = omega (arith, l, whole, within) in
       (subst (λ (o : Option LineFault). StopsAt program reads.rest o) a.0 reads.stops, end);
   none = λ f named.
-      let so = subst (λ (o : Option LogFault). IfSome o (IsNextFault read.fault row input)) named none in
+      let rest = drop plain text in
+      let behind = subst (λ (x : List ℕ). IfSome front.fault (IsNextFault read.fault x row input)) (rest_from text plain) none in
+      let so = subst (λ (o : Option LogFault). IfSome o (IsNextFault read.fault rest row input)) named behind in
       let counted : input ≡ inputs_before + length (inputs reads.lines) + 2 = (let long = ap (λ xs. length xs) reads.inputs_are ∙ length_inputs 0 reads.lines in omega (arith, long, input_is)) in
       let long_rows = ap (λ xs. length xs) reads.rows_are in
       let numbered : row ≡ rows_before + length (rows reads.lines) + 2 = omega (arith, long_rows, row_is) in
-      subst (λ (n : ℕ). IsRecordFault program reads.rest n (inputs_before + length (inputs reads.lines) + 2) f) numbered (subst (λ (n : ℕ). IsRecordFault program reads.rest row n f) counted (so program reads.rest reads.stops));
+      subst (λ (n : ℕ). IsFaultBehind program reads.rest rest n (inputs_before + length (inputs reads.lines) + 2) f) numbered (subst (λ (n : ℕ). IsFaultBehind program reads.rest rest row n f) counted (so program reads.rest reads.stops odd));
 }

@@ -2,9 +2,10 @@
 use Rattle.std.proofs.Common.{◌≡◌, ◌+◌, ◌-◌, ◌≤◌, ◌∙◌, ⊎_elim, ℕ, Bool, true, false, List, [], ◌∷◌, ◌++◌, Option, Some, None, length, take, drop, slice_range, refl, sym, ap, subst, arith, length-append}
 use Rattle.std.specs.Prelude.{MatchOption, is_some}
 use Rattle.std.proofs.lemmas.Bool.{false≢true}
-use Rattle.std.proofs.lemmas.List.{append_assoc, append-nil, drop-drop, take-append-drop}
+use Rattle.std.proofs.lemmas.List.{append_assoc, append-nil, drop-drop, length-take, take-append-drop}
 use Rattle.lft_lists.proofs.Places.{get_append_cases}
 use Rattle.lft_flat.specs.Parts.{Parts}
+use Rattle.lft_flat.proofs.Ranges.{slice_get-drop}
 use Rattle.lft_steps.specs.declared.row.Row.{Row}
 use Rattle.lft_steps.specs.Fits.{RowsFit}
 use Rattle.lft_steps.specs.Inputs.{InOrder}
@@ -41,6 +42,13 @@ pub fit_first : (program : Parts) (t : List Row) (n : ℕ) → RowsFit program t
 fit_first program t n fit = record {
   few = let l = first_short t n in let m = fit.few in omega (arith, l, m);
   each = λ i row q. fit.each i row (slice_get_take (n - 0) t i row q).1;
+}
+
+-- one of rows fits
+pub fit_part : (program : Parts) (t : List Row) (i : ℕ) → RowsFit program t → RowsFit program (slice_range t i (i + 1))
+fit_part program t i fit = record {
+  few = let l = length-take (i + 1 - i) (drop i t) in omega (arith, l);
+  each = λ j row q. fit.each (i + j) row (sym (slice_get-drop t i j) ∙ (slice_get_take (i + 1 - i) (drop i t) j row q).1);
 }
 
 -- more rows fit

@@ -1,6 +1,6 @@
 -- The header's line: its words, with a byte order mark before them or without.
-use Rattle.std.proofs.Common.{◌≡◌, ◌≢◌, ◌∙◌, ◌⊎◌, ⊎_elim, inl, inr, ℕ, List, [], ◌∷◌, ◌++◌, Option, Some, None, Bor, get_or, refl, sym, ap, arith}
-use Rattle.std.specs.Prelude.{MatchOption}
+use Rattle.std.proofs.Common.{◌≡◌, ◌≢◌, ◌∙◌, ◌⊎◌, ⊎_elim, inl, inr, ℕ, List, [], ◌∷◌, ◌++◌, Option, Some, None, Bor, get_or, refl, sym, ap, subst, arith}
+use Rattle.std.specs.Prelude.{IfNone, MatchOption}
 use Rattle.std.proofs.lemmas.List.{append_assoc, append_cancel_left, append_cancel_right}
 use Rattle.lft_log.specs.Logs.{IsHead, IsHeaderThen, header_words, mark}
 
@@ -44,3 +44,17 @@ words_before line end more (inr e) = inr (append_cancel_right line (mark ++ (hea
 pub no_header : (line : List ℕ) → ((rest : List ℕ) → ¬ IsHeaderThen rest line) → ¬ IsHead (line ++ 10 ∷ [])
 no_header line none (inl h) = none [] (words_before line [] (10 ∷ []) h)
 no_header line none (inr h) = none (13 ∷ []) (words_before line (13 ∷ []) (10 ∷ []) h)
+
+-- what stands behind the words of a header at the head of a text
+pub head_then : (rest text head more : List ℕ) → IsHeaderThen rest text → text ≡ head ++ more → IsHead head → (rest ≡ (10 ∷ []) ++ more) ⊎ (rest ≡ (13 ∷ 10 ∷ []) ++ more)
+head_then rest text head more is e (inl h) = inl (one_rest rest ((10 ∷ []) ++ more) text is (subst (IsHeaderThen ((10 ∷ []) ++ more)) (sym e) (then_more (10 ∷ []) head more h)))
+head_then rest text head more is e (inr h) = inr (one_rest rest ((13 ∷ 10 ∷ []) ++ more) text is (subst (IsHeaderThen ((13 ∷ 10 ∷ []) ++ more)) (sym e) (then_more (13 ∷ 10 ∷ []) head more h)))
+
+-- no header stands at the head of a text without its words
+pub none_head : (text : List ℕ) → ((rest : List ℕ) → ¬ IsHeaderThen rest text) → (head more : List ℕ) → text ≡ head ++ more → ¬ IsHead head
+none_head text none head more e (inl h) = none ((10 ∷ []) ++ more) (subst (IsHeaderThen ((10 ∷ []) ++ more)) (sym e) (then_more (10 ∷ []) head more h))
+none_head text none head more e (inr h) = none ((13 ∷ 10 ∷ []) ++ more) (subst (IsHeaderThen ((13 ∷ 10 ∷ []) ++ more)) (sym e) (then_more (13 ∷ 10 ∷ []) head more h))
+
+pub if_none : {X : Type 0} (o : Option X) (P : Type 0) → P → IfNone o P
+if_none None P p = p
+if_none (Some x) P p = tt

@@ -1,5 +1,5 @@
 -- What is kept of a table, over more lines and over more bytes.
-use Rattle.std.proofs.Common.{◌≡◌, ◌+◌, ◌∙◌, ℕ, Bool, true, false, List, [], ◌∷◌, ◌++◌, Option, Some, None, length, take, drop, slice_range, refl, sym, ap, subst, arith}
+use Rattle.std.proofs.Common.{◌≡◌, ◌+◌, ◌^◌, ◌≤◌, ◌∙◌, inl, inr, ℕ, Bool, true, false, List, [], ◌++◌, Option, Some, None, length, take, drop, slice_range, refl, sym, ap, subst, arith}
 use Rattle.std.specs.Prelude.{MatchOption}
 use Rattle.std.proofs.lemmas.List.{append_assoc, append-nil, length-append, take-append-drop}
 use Rattle.std.proofs.lemmas.Bool.{false≢true}
@@ -21,11 +21,12 @@ use Rattle.lft_log.specs.declared.fault.LogFault.TheVariants.{NoHeader, NoRow, N
 use Rattle.lft_log.specs.declared.log.Log.{Log}
 use Rattle.lft_log.specs.declared.telling.Taken.{Taken}
 use Rattle.lft_log.specs.declared.told.Told.{Told}
-use Rattle.lft_log.specs.Logs.{HoldSoFar, IsFront, IsHead, rows}
-use Rattle.lft_log.specs.Told.{IsAskedOf, IsBegun, IsFaultOf, IsLogOf, IsSaid, IsSoon, IsTaken, KeepTo, StandsBehind}
-use Rattle.lft_log.proofs.Asking.{asked_within}
+use Rattle.lft_log.specs.Logs.{BeginsLong, HoldSoFar, IsFront, IsHead, IsOddLine, inputs, rows}
+use Rattle.lft_log.specs.Told.{IsAskedOf, IsBegun, IsFaultOf, IsFaultOfRows, IsLog, IsLogOf, IsOddBehind, IsSaid, IsSaidOfSome, IsSoon, IsTaken, KeepTo, StandsBehind}
+use Rattle.lft_log.proofs.Asking.{asked_within, kept_before}
 use Rattle.lft_log.proofs.Holding.{header_there, hold_longer}
-use Rattle.lft_log.proofs.Taking.{all_held, fault_held, grown, grown_numbered, grown_rows, grown_tells, grown_timely, grown_told, taken_rows}
+use Rattle.lft_log.proofs.Odd.{line_longer, long_longer}
+use Rattle.lft_log.proofs.Taking.{all_held, fault_held, fault_of_rows, grown, grown_numbered, grown_rows, grown_tells, grown_timely, grown_told, taken_rows}
 
 -- the lines below the header
 pub body_held : (base plan : PlanParts) (until : Option Tag) (bytes lines body : List ℕ) (log : Log) (is : IsLogOf base plan until bytes lines log) → (log.is_begun ≡ true → body ≡ lines) → (log.is_begun ≡ false → (head : List ℕ) × (lines ≡ head ++ body) × IsHead head) → HoldSoFar base.program bytes is.lines [] body
@@ -56,8 +57,8 @@ module _ (base old new : PlanParts) (until : Option Tag) (bytes text : List ℕ)
   takes = are (rows so_far) fronts.lines is.0.follower fronts.rows_are fronts.inputs_are
 
   -- without a fault they are all
-  pub lines_on : taken.fault ≡ None → (after : Log) → IsFollowerOf new (rows so_far ++ u) after.follower → after.rows ≡ log.rows + taken.rows → after.inputs ≡ log.inputs + taken.inputs → after.asked.until ≡ log.asked.until → IsAskedOf (rows so_far ++ u) after.asked → after.is_begun ≡ true → IsBegun base new until bytes [] after
-  lines_on none after follower counted numbered until_is asked begun = (
+  pub lines_on : log.rows ≤ 2 ^ 62 → taken.rows ≤ length front.rows.items → taken.fault ≡ None → (after : Log) → IsFollowerOf new (rows so_far ++ u) after.follower → after.rows ≡ log.rows + taken.rows → after.inputs ≡ log.inputs + taken.inputs → after.asked.until ≡ log.asked.until → IsAskedOf (rows so_far ++ u) after.asked → after.is_begun ≡ true → IsBegun base new until bytes [] after
+  lines_on few within none after follower counted numbered until_is asked begun = (
     record {
       lines = grown base old new bytes text [] so_far log.rows log.inputs front taken held fronts takes;
       told = grown_told base old new bytes text [] so_far log.rows log.inputs front taken held fronts takes is.0.timely is.0.told;
@@ -70,6 +71,7 @@ module _ (base old new : PlanParts) (until : Option Tag) (bytes text : List ℕ)
           let k = takes.counted in
           let before = is.0.counted in
           omega (arith, l, m, n, k, before, counted);
+      few = let most = fronts.rows_fit.few in omega (arith, few, within, most, counted);
       numbered =
           let m = grown_numbered base old new bytes text [] so_far log.rows log.inputs front taken held fronts takes in
           let before = is.0.numbered in
@@ -87,6 +89,9 @@ module _ (base old new : PlanParts) (until : Option Tag) (bytes text : List ℕ)
 
   pub fault_on : (f : LogFault) → taken.fault ≡ Some f → IsFaultOf base bytes f
   fault_on f named = fault_held base old new bytes text [] so_far log.rows log.inputs front taken held fronts takes is.0.timely is.0.told f named is.0.counted is.0.numbered
+
+  pub rows_fault_on : (f : LogFault) → IsFaultOfRows (rows so_far ++ u) f → IsFaultOf base bytes f
+  rows_fault_on f of = fault_of_rows base old new bytes text [] so_far log.rows log.inputs front taken held fronts takes is.0.timely is.0.told f of
 
   pub soon_on : (told : Told) (first more : List Row) → u ≡ first ++ more → KeepTo until (rows so_far ++ first) → IsSaid new until (rows so_far ++ first) more told → IsSoon base until bytes told
   soon_on told first more parted within said = (
@@ -108,6 +113,7 @@ kept_as base plan until bytes rest other lines log new follower rows_are numbere
   timely = is.timely;
   follower = subst (λ x. IsFollowerOf plan (rows is.lines) x) (sym follower) is.follower;
   counted = rows_are ∙ is.counted;
+  few = subst (λ (n : ℕ). n ≤ 2 ^ 62 + 4000000) (sym rows_are) is.few;
   numbered = numbered ∙ is.numbered;
   until_is = ap (λ (a : Asked). a.until) asked ∙ is.until_is;
   asked = subst (λ (a : Asked). IsAskedOf (rows is.lines) a) (sym asked) is.asked;
@@ -138,7 +144,10 @@ soon_longer base until bytes more told (plan, t, later, others, rest, is, keeps,
 )
 
 behind_longer : (program : Parts) (bytes more : List ℕ) (lines : List Line) (P : List (List ℕ) → Type 0) → StandsBehind program bytes lines P → StandsBehind program (bytes ++ more) lines P
-behind_longer program bytes more lines P (others, rest, held, b) = (others, rest ++ more, hold_longer program bytes rest more lines others held, b)
+behind_longer program bytes more lines P (others, rest, held, b) = (others, rest ++ more, (hold_longer program bytes rest more lines others held.0, held.1), b)
+
+odd_longer : (base : PlanParts) (bytes more : List ℕ) (f : LogFault) → IsOddBehind base bytes f → IsOddBehind base (bytes ++ more) f
+odd_longer base bytes more f (lines, rest, held, x) = (lines, rest ++ more, (hold_longer base.program bytes rest more lines [] held.0, held.1), line_longer (IsOddLine (length (rows lines) + 2) (length (inputs lines) + 2) f) rest more x)
 
 pub fault_longer : (base : PlanParts) (bytes more : List ℕ) (f : LogFault) → IsFaultOf base bytes f → IsFaultOf base (bytes ++ more) f
 fault_longer base bytes more (NoRow e line) x = (x.0, behind_longer base.program bytes more x.0 (λ f. IsNoLine base.program f (none.NoRow e)) x.1, x.2)
@@ -146,23 +155,27 @@ fault_longer base bytes more (NoInput e line) x = (x.0, behind_longer base.progr
 fault_longer base bytes more (LateInput line) x = (x.0, x.1, behind_longer base.program bytes more x.0 (λ f. IsEntry base.program f x.1) x.2, x.3, x.4)
 fault_longer base bytes more (InputAgain line) x = (x.0, x.1, behind_longer base.program bytes more x.0 (λ f. IsEntry base.program f (Happens x.1)) x.2, x.3, x.4)
 fault_longer base bytes more (ManyLater line) x = (x.0, x.1, behind_longer base.program bytes more x.0 (λ f. IsEntry base.program f (Happens x.1)) x.2, x.3, x.4)
-fault_longer base bytes more NoHeader x = tt
-fault_longer base bytes more (NotPlain line) x = tt
-fault_longer base bytes more (SecondHeader line) x = tt
-fault_longer base bytes more (LongLine line) x = tt
-fault_longer base bytes more TooManyRows x = tt
-fault_longer base bytes more (NotPlainInput line) x = tt
-fault_longer base bytes more TooManyInputs x = tt
+fault_longer base bytes more NoHeader x = line_longer (λ line. ¬ IsHead line) bytes more x
+fault_longer base bytes more (NotPlain line) x = odd_longer base bytes more (NotPlain line) x
+fault_longer base bytes more (SecondHeader line) x = odd_longer base bytes more (SecondHeader line) x
+fault_longer base bytes more (NotPlainInput line) x = odd_longer base bytes more (NotPlainInput line) x
+fault_longer base bytes more (LongLine line) (inl x) = inl (long_longer bytes more x.0, x.1)
+fault_longer base bytes more (LongLine line) (inr (lines, rest, held, long, numbered)) = inr (lines, rest ++ more, (hold_longer base.program bytes rest more lines [] held.0, held.1), long_longer rest more long, numbered)
+fault_longer base bytes more TooManyRows (lines, others, rest, held, many) = (lines, others, rest ++ more, (hold_longer base.program bytes rest more lines others held.0, held.1), many)
+fault_longer base bytes more TooManyInputs (inl x) = inl (x.0, x.1, behind_longer base.program bytes more x.0 (λ f. IsEntry base.program f (Happens x.1)) x.2, x.3)
+fault_longer base bytes more TooManyInputs (inr (lines, rest, held, many)) = inr (lines, rest ++ more, (hold_longer base.program bytes rest more lines [] held.0, held.1), many)
 fault_longer base bytes more NoMemory x = tt
 
 -- a piece behind the bytes is the whole
 pub piece_parts : (bytes piece : List ℕ) (n : ℕ) → (bytes ++ take n piece) ++ drop n piece ≡ bytes ++ piece
 piece_parts bytes piece n = append_assoc bytes (take n piece) (drop n piece) ∙ ap (λ (x : List ℕ). bytes ++ x) (take-append-drop n piece)
 
--- what is told of rows is told of those up to the last that is asked for, where none is past it
-pub rows_told : (plan : PlanParts) (until : Option Tag) (t rows : List Row) (follower : Follower) (asked : Asked) (o : Option Told) → MatchOption o (IsFollowerOf plan (t ++ rows) follower × IsQuiet plan (t ++ rows)) (λ (told : Told). (until : Option Tag) (more : List Row) → IsSaid plan until (t ++ rows) more told) → IsAskedOf (t ++ rows) asked → asked.until ≡ until → MatchOption o (IsFollowerOf plan (t ++ rows) follower × IsAskedOf (t ++ rows) asked) (λ (told : Told). (u : List Row) × (more : List Row) × (rows ≡ u ++ more) × KeepTo until (t ++ u) × IsSaid plan until (t ++ u) more told)
+-- what is told of some rows is told of those up to the last that is asked for, where none of all is past it
+pub rows_told : (plan : PlanParts) (until : Option Tag) (t rows : List Row) (follower : Follower) (asked : Asked) (o : Option Told) → MatchOption o (IsFollowerOf plan (t ++ rows) follower × IsQuiet plan (t ++ rows)) (IsSaidOfSome plan t rows) → IsAskedOf (t ++ rows) asked → asked.until ≡ until → MatchOption o (IsFollowerOf plan (t ++ rows) follower × IsAskedOf (t ++ rows) asked) (λ (told : Told). (u : List Row) × (more : List Row) × (rows ≡ u ++ more) × KeepTo until (t ++ u) × IsSaid plan until (t ++ u) more told)
 rows_told plan until t rows follower asked None follows is same = (follows.0, is)
-rows_told plan until t rows follower asked (Some told) said is same = (rows, [], sym (append-nil rows), subst (λ (o : Option Tag). KeepTo o (t ++ rows)) same (asked_within (t ++ rows) asked is), said until [])
+rows_told plan until t rows follower asked (Some told) (first, behind, parted, said) is same =
+    let all = subst (λ (o : Option Tag). KeepTo o (t ++ rows)) same (asked_within (t ++ rows) asked is) in
+    (first, behind, parted, kept_before until t first behind rows parted all, said until behind)
 
 pub with_fact : (A E : Type 0) (Q : Told → Type 0) (o : Option Told) → MatchOption o A Q → E → MatchOption o (A × E) Q
 with_fact A E Q None a e = (a, e)
@@ -181,3 +194,11 @@ pub kept_all : (base plan : PlanParts) (until : Option Tag) (bytes rest more lin
 kept_all base plan until bytes rest more lines log new parted follower rows_are numbered asked begun is = kept_as base plan until bytes rest (bytes ++ more) lines log new follower rows_are numbered asked is
     (λ e. subst (λ (x : List ℕ). HoldSoFar base.program (bytes ++ more) is.lines [] x) (sym parted) (hold_longer base.program bytes rest more is.lines [] (is.begun (sym begun ∙ e))))
     (λ e. let f = is.fresh (sym begun ∙ e) in (ap (λ (x : List ℕ). x ++ more) f.0 ∙ sym parted, f.1))
+
+-- the line that comes next is too long
+pub long_fault : (base plan : PlanParts) (until : Option Tag) (bytes : List ℕ) (log : Log) (piece : List ℕ) (line : ℕ) → IsLog base plan until bytes log → (log.is_begun ≡ true → line ≡ log.rows + 2) → (log.is_begun ≡ false → line ≡ 1) → BeginsLong (log.rest.items ++ piece) → IsFaultOf base (bytes ++ piece) (LongLine line)
+long_fault base plan until bytes log piece line is begun fresh long = go log.is_begun refl
+  where
+    go : (b : Bool) → log.is_begun ≡ b → IsFaultOf base (bytes ++ piece) (LongLine line)
+    go true e = inr (is.kept.lines, log.rest.items ++ piece, (hold_longer base.program bytes log.rest.items piece is.kept.lines [] (is.kept.begun e), is.kept.timely), long, (let n = begun e in let m = is.kept.counted in omega (arith, n, m)))
+    go false e = inl (subst (λ (x : List ℕ). BeginsLong (x ++ piece)) (sym (is.kept.fresh e).0) long, fresh e)

@@ -1,6 +1,8 @@
 pub mod Ends
 pub mod Heads
 pub mod Plain
+pub mod Odd
+pub mod Many
 pub mod Below
 pub mod Behind
 pub mod Holding

@@ -1,11 +1,11 @@
 -- Which lines are plain.
-use Rattle.std.proofs.Common.{◌≡◌, ◌≢◌, ◌+◌, ◌-◌, ◌<◌, ◌≤◌, ◌∙◌, ◌⊎◌, inl, inr, ℕ, zero, suc, Bool, true, false, List, [], ◌∷◌, ◌++◌, Option, Some, length, take, drop, slice_range, get_or, slice_get, slice_index, refl, sym, ap, subst, arith, length-append}
+use Rattle.std.proofs.Common.{◌≡◌, ◌≢◌, ◌+◌, ◌-◌, ◌<◌, ◌≤◌, ◌∙◌, ◌⊎◌, inl, inr, ℕ, zero, suc, Bool, true, false, List, [], ◌∷◌, ◌++◌, Some, length, take, drop, slice_range, get_or, slice_get, refl, sym, ap, subst, arith, length-append}
 use Rattle.std.proofs.lemmas.List.{get_or-append-add, get_or-take, length-take, length-take-le, take-take}
 use Rattle.std.proofs.Math.ListN.{get_or-append}
 use Rattle.std.proofs.Math.Seq.{get_or-append_seam}
 use Rattle.std.specs.Prelude.{◌==◌, if◌then◌else◌}
 use Rattle.std.proofs.lemmas.Bool.{eq-eqb, false≢true}
-use Rattle.std.proofs.lemmas.Option.{slice_get_within, slice_get-get_or, get_or_from_slice_get}
+use Rattle.std.proofs.lemmas.Option.{slice_get_within}
 use Rattle.lft_flat.proofs.Ranges.{slice_get-take}
 use Rattle.lft_lists.proofs.Places.{get_append_cases, get_last, get_left, get_right, same_some}
 use native.Mathlib.Decide.{dec_lt}
@@ -60,7 +60,7 @@ never_there (c ∷ text) e (suc i) l at = go (c == 10) e (λ f. never_there text
     go false f later = later f
 
 -- no line ends among the header's words
-words_line : (i : ℕ) → i < length header_words → get_or header_words i 0 ≡ 10 → ⊥
+pub words_line : (i : ℕ) → i < length header_words → get_or header_words i 0 ≡ 10 → ⊥
 unfolding is_in_line
 words_line i l at = never_there header_words refl i l at
 

@@ -2,7 +2,7 @@
 use Rattle.std.proofs.Common.{◌≡◌, ◌+◌, ◌∙◌, ℕ, List, [], ◌∷◌, ◌++◌, ◌⊎◌, inl, inr, None, Some, length, take, drop, slice_range, refl, sym, ap, subst, arith}
 use Rattle.std.specs.List.{AllZip}
 use Rattle.std.proofs.Math.Seq.{take-append_seam}
-use Rattle.std.proofs.lemmas.List.{append_assoc, length-append}
+use Rattle.std.proofs.lemmas.List.{append-nil, append_assoc, length-append}
 use Rattle.lft_flat.specs.Parts.{Parts}
 use Rattle.lft_trace.specs.ExternalTables.{IsEntry}
 use Rattle.lft_trace.specs.LogTables.{IsLine}
@@ -15,11 +15,12 @@ use Rattle.lft_log.specs.declared.fault.LogFault.{LogFault}
 use Rattle.lft_log.specs.declared.fault.LogFault.TheVariants.{NoHeader, NoRow, NotPlain, SecondHeader, LongLine, TooManyRows, NoInput, NotPlainInput, LateInput, InputAgain, ManyLater, TooManyInputs, NoMemory}
 use Rattle.lft_log.specs.declared.front.Front.{Front}
 use Rattle.lft_log.specs.declared.telling.Taken.{Taken}
-use Rattle.lft_log.specs.Logs.{AreTimely, HoldSoFar, IsFront, IsRecordFault, inputs, rows}
-use Rattle.lft_log.specs.Told.{HasTold, IsFaultOf, IsRefused, IsTaken, StandsBehind, TellsPlan}
+use Rattle.lft_log.specs.Logs.{AreTimely, BeginsWithLine, HoldSoFar, IsFaultBehind, IsFront, IsOddLine, inputs, rows}
+use Rattle.lft_log.specs.Told.{AreTooMany, HasTold, IsFaultOf, IsFaultOfRows, IsOddBehind, IsRefused, IsTaken, StandsBehind, TellsPlan}
 use Rattle.lft_log.proofs.Ends.{range_take}
 use Rattle.lft_log.proofs.Fronts.{all_dropped}
 use Rattle.lft_log.proofs.Holding.{hold_cut, hold_front}
+use Rattle.lft_log.proofs.Odd.{line_longer}
 use Rattle.lft_log.proofs.Behind.{inputs_both, rows_both, timely_both}
 
 -- no records tell no lines
@@ -28,28 +29,41 @@ zip_none R [] xs e h = refl
 zip_none R (f ∷ fs) [] e h = absurd h
 zip_none R (f ∷ fs) (x ∷ xs) e h = absurd (cc e)
 
--- a fault of a record behind lines is one of the log
-record_fault : (base : PlanParts) (bytes : List ℕ) (lines : List Line) (others : List (List (List ℕ))) (rest : List ℕ) → HoldSoFar base.program bytes lines others rest → (row input : ℕ) (f : LogFault) → row ≡ length (rows lines) + 2 → input ≡ length (inputs lines) + 2 → IsRecordFault base.program others row input f → IsFaultOf base bytes f
-record_fault base bytes lines others rest h row input (NoRow e line) counted numbered x = (lines, (others, rest, h, x.1), x.0 ∙ counted)
-record_fault base bytes lines others rest h row input (NoInput e line) counted numbered x = (lines, (others, rest, h, x.1), x.0 ∙ numbered)
-record_fault base bytes lines others rest h row input (LateInput line) counted numbered x = absurd x
-record_fault base bytes lines others rest h row input (InputAgain line) counted numbered x = absurd x
-record_fault base bytes lines others rest h row input (ManyLater line) counted numbered x = absurd x
-record_fault base bytes lines others rest h row input NoHeader counted numbered x = tt
-record_fault base bytes lines others rest h row input (NotPlain line) counted numbered x = tt
-record_fault base bytes lines others rest h row input (SecondHeader line) counted numbered x = tt
-record_fault base bytes lines others rest h row input (LongLine line) counted numbered x = tt
-record_fault base bytes lines others rest h row input TooManyRows counted numbered x = tt
-record_fault base bytes lines others rest h row input (NotPlainInput line) counted numbered x = tt
-record_fault base bytes lines others rest h row input TooManyInputs counted numbered x = tt
-record_fault base bytes lines others rest h row input NoMemory counted numbered x = tt
+-- the fault of a record behind lines, or of the line behind them, is one of the log
+module _ (base : PlanParts) (bytes : List ℕ) (lines : List Line) (others : List (List (List ℕ))) (rest behind : List ℕ) (h : HoldSoFar base.program bytes lines others (rest ++ behind)) (timely : AreTimely [] lines) where
+  odd_behind : (f : LogFault) → (others ≡ []) × BeginsWithLine (IsOddLine (length (rows lines) + 2) (length (inputs lines) + 2) f) rest → IsOddBehind base bytes f
+  odd_behind f (none, x) = (lines, rest ++ behind, (subst (λ r. HoldSoFar base.program bytes lines r (rest ++ behind)) none h, timely), line_longer (IsOddLine (length (rows lines) + 2) (length (inputs lines) + 2) f) rest behind x)
+
+  neither : ⊥ ⊎ (others ≡ []) × BeginsWithLine (λ line. ⊥) rest → ⊥
+  neither (inl x) = x
+  neither (inr (none, x)) = x.4
+
+  fault_behind : (f : LogFault) → IsFaultBehind base.program others rest (length (rows lines) + 2) (length (inputs lines) + 2) f → IsFaultOf base bytes f
+  fault_behind (NoRow e line) (inl x) = (lines, (others, rest ++ behind, (h, timely), x.1), x.0)
+  fault_behind (NoRow e line) (inr (none, x)) = absurd x.4
+  fault_behind (NoInput e line) (inl x) = (lines, (others, rest ++ behind, (h, timely), x.1), x.0)
+  fault_behind (NoInput e line) (inr (none, x)) = absurd x.4
+  fault_behind (NotPlain line) (inl x) = absurd x
+  fault_behind (NotPlain line) (inr x) = odd_behind (NotPlain line) x
+  fault_behind (SecondHeader line) (inl x) = absurd x
+  fault_behind (SecondHeader line) (inr x) = odd_behind (SecondHeader line) x
+  fault_behind (NotPlainInput line) (inl x) = absurd x
+  fault_behind (NotPlainInput line) (inr x) = odd_behind (NotPlainInput line) x
+  fault_behind NoHeader x = absurd (neither x)
+  fault_behind (LateInput line) x = absurd (neither x)
+  fault_behind (InputAgain line) x = absurd (neither x)
+  fault_behind (ManyLater line) x = absurd (neither x)
+  fault_behind (LongLine line) x = absurd (neither x)
+  fault_behind TooManyRows x = absurd (neither x)
+  fault_behind TooManyInputs x = absurd (neither x)
+  fault_behind NoMemory x = absurd (neither x)
 
 -- the next line is that of an external input
-behind_cut : (program : Parts) (bytes : List ℕ) (lines : List Line) (cut others : List (List (List ℕ))) (rest : List ℕ) (left : List Line) (entry : Entry) (more : List Line) → HoldSoFar program bytes lines (cut ++ others) rest → left ≡ Input entry ∷ more → AllZip (IsLine program) cut left → StandsBehind program bytes lines (λ f. IsEntry program f entry)
-behind_cut program bytes lines [] others rest left entry more h next each = absurd (subst (λ (l : List Line). AllZip (IsLine program) [] l) next each)
-behind_cut program bytes lines (f ∷ cut) others rest left entry more h next each =
+behind_cut : (program : Parts) (bytes : List ℕ) (lines : List Line) (cut others : List (List (List ℕ))) (rest : List ℕ) (left : List Line) (entry : Entry) (more : List Line) → HoldSoFar program bytes lines (cut ++ others) rest → AreTimely [] lines → left ≡ Input entry ∷ more → AllZip (IsLine program) cut left → StandsBehind program bytes lines (λ f. IsEntry program f entry)
+behind_cut program bytes lines [] others rest left entry more h timely next each = absurd (subst (λ (l : List Line). AllZip (IsLine program) [] l) next each)
+behind_cut program bytes lines (f ∷ cut) others rest left entry more h timely next each =
     let e = subst (λ (l : List Line). AllZip (IsLine program) (f ∷ cut) l) next each in
-    ((f ∷ cut) ++ others, rest, h, (f, cut ++ others, refl, e.0))
+    ((f ∷ cut) ++ others, rest, (h, timely), (f, cut ++ others, refl, e.0))
 
 -- the first lines of a front are taken
 module _ (base old new : PlanParts) (bytes text behind : List ℕ) (before : List Line) (rows_before inputs_before : ℕ) (front : Front) (taken : Taken) (held : HoldSoFar base.program bytes before [] (text ++ behind)) (fronts : IsFront base.program text rows_before inputs_before front) (is : IsTaken old new (rows before) inputs_before front fronts.lines taken) where
@@ -124,19 +138,26 @@ module _ (base old new : PlanParts) (bytes text behind : List ℕ) (before : Lis
       told = grown_told;
     }
 
+    -- rows among them may show one
+    pub fault_of_rows : (f : LogFault) → IsFaultOfRows (rows before ++ slice_range front.rows.items 0 taken.rows) f → IsFaultOf base bytes f
+    fault_of_rows f (inl (e, many)) = subst (λ (g : LogFault). IsFaultOf base bytes g) (sym e) (grown, cut.0 ++ fronts.others, rest, (cut.1, grown_timely), subst AreTooMany (sym grown_rows) many)
+    fault_of_rows f (inr e) = subst (λ (g : LogFault). IsFaultOf base bytes g) (sym e) tt
+
     -- a fault is that of the next line
     pub fault_held : (f : LogFault) → taken.fault ≡ Some f → rows_before ≡ length (rows before) → inputs_before ≡ length (inputs before) → IsFaultOf base bytes f
     fault_held f named counted numbered = go is.ends
       where
         go : (is.others ≡ []) × (taken.fault ≡ front.fault) ⊎ IsRefused new (rows before ++ rows is.first) (inputs_before + taken.inputs + 2) is.others taken.fault → IsFaultOf base bytes f
         go (inl (end, same)) =
-            let of = fronts.none f (sym same ∙ named) in
-            record_fault base bytes (before ++ fronts.lines) fronts.others rest whole _ _ f
-            (let l = length-append (rows before) (rows fronts.lines) in let b = ap (λ (t : List Row). length t) (rows_both before fronts.lines) in omega (arith, l, b, counted))
-            (let l = length-append (inputs before) (inputs fronts.lines) in let b = ap (λ (t : List Entry). length t) (inputs_both before fronts.lines) in omega (arith, l, b, numbered))
-            of
+            let all = before ++ fronts.lines in
+            let left = drop fronts.plain text in
+            let row : rows_before + length (rows fronts.lines) + 2 ≡ length (rows all) + 2 = (let l = length-append (rows before) (rows fronts.lines) in let b = ap (λ (t : List Row). length t) (rows_both before fronts.lines) in omega (arith, l, b, counted)) in
+            let input : inputs_before + length (inputs fronts.lines) + 2 ≡ length (inputs all) + 2 = (let l = length-append (inputs before) (inputs fronts.lines) in let b = ap (λ (t : List Entry). length t) (inputs_both before fronts.lines) in omega (arith, l, b, numbered)) in
+            let of = subst (λ (n : ℕ). IsFaultBehind base.program fronts.others left n (inputs_before + length (inputs fronts.lines) + 2) f) row (fronts.none f (sym same ∙ named)) in
+            let whole_timely = subst (AreTimely []) (sym (parted ∙ ap (λ (l : List Line). grown ++ l) end ∙ append-nil grown)) grown_timely in
+            fault_behind base bytes all fronts.others left behind whole whole_timely f (subst (λ (n : ℕ). IsFaultBehind base.program fronts.others left (length (rows all) + 2) n f) input of)
         go (inr (entry, more, next, (g, has, of))) =
             let same : g ≡ f = cc (has, named) in
-            let stands = behind_cut base.program bytes grown cut.0 fronts.others rest is.others entry more cut.1 next cut.2 in
+            let stands = behind_cut base.program bytes grown cut.0 fronts.others rest is.others entry more cut.1 grown_timely next cut.2 in
             let number : inputs_before + taken.inputs + 2 ≡ length (inputs grown) + 2 = omega (arith, grown_numbered, numbered) in
             subst (λ (h : LogFault). IsFaultOf base bytes h) same (of base bytes grown stands grown_told (rows_both before is.first) number)

@@ -1,5 +1,5 @@
 -- The lines of a log: rows and external inputs, below the header of a trace table that comes in pieces.
-use Rattle.std.specs.Prelude.{◌≡◌, ◌≢◌, ◌⊎◌, ◌≤◌, ◌+◌, ℕ, List, [], ◌++◌, ◌∷◌, length, take, codes, filter_map, Option, None, Some, slice_get}
+use Rattle.std.specs.Prelude.{◌≡◌, ◌≢◌, ◌⊎◌, ◌≤◌, ◌+◌, ℕ, List, [], ◌++◌, ◌∷◌, ◌<◌, length, take, drop, codes, filter_map, Option, None, Some, slice_get}
 use Rattle.std.specs.List.{AllZip}
 use Rattle.csv.specs.Reading.{default_config, records}
 use Rattle.memchr.specs.Find.{OccursAt, is_byte, places}
@@ -18,7 +18,7 @@ use Rattle.lft_trace.specs.declared.log_table.Line.TheVariants.{Row, Input}
 use Rattle.lft_trace.specs.declared.log_table.LineFault.TheVariants as none
 use Rattle.lft_follow.specs.Follows.{IsPassed}
 use Rattle.lft_log.specs.declared.fault.LogFault.{LogFault}
-use Rattle.lft_log.specs.declared.fault.LogFault.TheVariants.{NoRow, NoInput, LateInput, InputAgain, ManyLater}
+use Rattle.lft_log.specs.declared.fault.LogFault.TheVariants.{NoRow, NoInput, NotPlain, NotPlainInput, SecondHeader}
 use Rattle.lft_log.specs.declared.front.Front.{Front}
 
 -- the words of the header
@@ -49,11 +49,35 @@ HasNoEnd text = (i : ℕ) → slice_get text i ≢ Some 10
 abbrev pub ReturnsEnd : List ℕ → Type 0
 ReturnsEnd text = (i : ℕ) → slice_get text i ≡ Some 13 → slice_get text (i + 1) ≡ Some 10
 
+-- the byte is a carriage return, and no line feed stands behind it
+abbrev pub IsLoneReturn : List ℕ → ℕ → Type 0
+IsLoneReturn text i = (slice_get text i ≡ Some 13) × (slice_get text (i + 1) ≢ Some 10)
+
 -- the text is plain: it has no quotation mark, no carriage return that doesn't end a line, and no line with the header's words
 pub record ArePlain (text : List ℕ) : Type 0 where
   pub unquoted : HasNoQuote text
   pub returns : ReturnsEnd text
   pub headless : (i : ℕ) → ¬ OccursAt text header_words i
+
+-- the header's words stand in the line
+abbrev pub HasWords : List ℕ → Type 0
+HasWords line = (i : ℕ) × OccursAt line header_words i
+
+-- the text is one line, with its end
+abbrev pub IsOneLine : List ℕ → Type 0
+IsOneLine text = (line : List ℕ) × (text ≡ line ++ 10 ∷ []) × HasNoEnd line
+
+-- the text begins with a line of which this is so
+abbrev pub BeginsWithLine : (List ℕ → Type 0) → List ℕ → Type 0
+BeginsWithLine P text = (line : List ℕ) × (rest : List ℕ) × (text ≡ line ++ rest) × IsOneLine line × P line
+
+-- the first line of the text isn't plain
+abbrev pub BeginsOdd : List ℕ → Type 0
+BeginsOdd text = (line rest : List ℕ) → text ≡ line ++ rest → IsOneLine line → ¬ ArePlain line
+
+-- more than 1,048,576 bytes of one line begin the text
+abbrev pub BeginsLong : List ℕ → Type 0
+BeginsLong text = (line : List ℕ) × (rest : List ℕ) × (text ≡ line ++ rest) × HasNoEnd line × (1048576 < length line)
 
 -- how many fields the line has: they stand between commas
 abbrev pub fields : List ℕ → ℕ
@@ -66,6 +90,10 @@ BeginsWith word line = (rest : List ℕ) × (line ≡ word ++ rest)
 -- the line ends with the word
 abbrev pub EndsWith : List ℕ → List ℕ → Type 0
 EndsWith word line = (front : List ℕ) × (line ≡ front ++ word)
+
+-- the line begins with the word of an external input, and has the fields of one
+abbrev pub IsOfInput : List ℕ → Type 0
+IsOfInput line = (BeginsWith (codes "event,") line ⊎ BeginsWith (codes "stop,") line) × (fields line ≡ 5)
 
 -- the line has the fields of a row, of which the last is empty, and isn't that of a `schedule`, whose last field may be longer
 abbrev pub IsWholeRow : List ℕ → Type 0
@@ -149,14 +177,22 @@ LogLaw program = (bytes rest : List ℕ) (lines : List Line) (log : HoldSoFar pr
 abbrev pub BeginsWithRecord : (List (List ℕ) → Type 0) → List (List (List ℕ)) → Type 0
 BeginsWithRecord P records = (next : List (List ℕ)) × (more : List (List (List ℕ))) × (records ≡ next ∷ more) × P next
 
--- the fault may be told of the first of the records, which has this number among rows, or that among external inputs
+-- the fault is of the first of the records, which has this number among rows, or that among external inputs
 abbrev pub IsRecordFault : Parts → List (List (List ℕ)) → ℕ → ℕ → LogFault → Type 0
 IsRecordFault program records row input (NoRow e line) = (line ≡ row) × BeginsWithRecord (λ f. IsNoLine program f (none.NoRow e)) records
 IsRecordFault program records row input (NoInput e line) = (line ≡ input) × BeginsWithRecord (λ f. IsNoLine program f (none.NoInput e)) records
-IsRecordFault program records row input (LateInput line) = ⊥
-IsRecordFault program records row input (InputAgain line) = ⊥
-IsRecordFault program records row input (ManyLater line) = ⊥
-IsRecordFault program records row input f = Unit {0}
+IsRecordFault program records row input f = ⊥
+
+-- the fault is of a line that isn't plain, which has this number among rows, or that among external inputs
+abbrev pub IsOddLine : ℕ → ℕ → LogFault → List ℕ → Type 0
+IsOddLine row input (SecondHeader n) line = (n ≡ row) × HasWords line
+IsOddLine row input (NotPlainInput n) line = (n ≡ input) × ¬ ArePlain line × ¬ HasWords line × IsOfInput line
+IsOddLine row input (NotPlain n) line = (n ≡ row) × ¬ ArePlain line × ¬ HasWords line × ¬ IsOfInput line
+IsOddLine row input f line = ⊥
+
+-- the fault is of the first of the records, or there are none and it is of the line behind them
+abbrev pub IsFaultBehind : Parts → List (List (List ℕ)) → List ℕ → ℕ → ℕ → LogFault → Type 0
+IsFaultBehind program records rest row input f = IsRecordFault program records row input f ⊎ (records ≡ []) × BeginsWithLine (IsOddLine row input f) rest
 
 -- the front has the rows and the external inputs of the first records of the plain lines, behind so many others; without a fault it is of all lines, and a fault is of the next record or of the line behind the plain ones
 pub record IsFront (program : Parts) (text : List ℕ) (rows_before inputs_before : ℕ) (front : Front) : Type 0 where
@@ -174,4 +210,4 @@ pub record IsFront (program : Parts) (text : List ℕ) (rows_before inputs_befor
   pub rows_fit : RowsFit program front.rows.items
   pub inputs_fit : InputsFit program front.inputs.items
   pub all : front.fault ≡ None → (others ≡ []) × (plain ≡ length text)
-  pub none : (f : LogFault) → front.fault ≡ Some f → IsRecordFault program others (rows_before + length (rows lines) + 2) (inputs_before + length (inputs lines) + 2) f
+  pub none : (f : LogFault) → front.fault ≡ Some f → IsFaultBehind program others (drop plain text) (rows_before + length (rows lines) + 2) (inputs_before + length (inputs lines) + 2) f

@@ -1,5 +1,5 @@
 -- What is told of a log.
-use Rattle.std.specs.Prelude.{◌≡◌, ◌↔◌, ◌⊎◌, ◌+◌, ◌<◌, true, false, ℕ, Bool, List, [], ◌++◌, ◌∷◌, length, filter_map, Option, None, Some, MatchOption, slice_get}
+use Rattle.std.specs.Prelude.{◌≡◌, ◌↔◌, ◌⊎◌, ◌+◌, ◌^◌, ◌<◌, ◌≤◌, true, false, ℕ, Bool, List, [], ◌++◌, ◌∷◌, length, filter_map, Option, None, Some, MatchOption, slice_get}
 use Rattle.std.specs.List.Sorted.{IsPermutation}
 use Rattle.lft_flat.specs.Parts.{Parts}
 use Rattle.lft_tag.specs.declared.Tag.{Tag}
@@ -14,7 +14,7 @@ use Rattle.lft_rows.specs.Accepted.{IsAccepted}
 use Rattle.lft_follow.specs.declared.judged.Ending.TheVariants as ending
 use Rattle.lft_follow.specs.declared.open.OpenRun.{OpenRun}
 use Rattle.lft_follow.specs.OpenRuns.{AreOpenRuns}
-use Rattle.lft_follow.specs.Follows.{HasManyLater, IsFollowerOf, IsSureSoFar, IsOddSoFar, IsClean, IsFirstUpToLast, IsJudged, IsPassed, IsQuiet, breach_of}
+use Rattle.lft_follow.specs.Follows.{HasManyAtLast, HasManyLater, IsFollowerOf, IsSureSoFar, IsOddSoFar, IsClean, IsFirstUpToLast, IsJudged, IsPassed, IsQuiet, breach_of}
 use Rattle.lft_trace.specs.ExternalTables.{IsEntry, event_of, stop_of}
 use Rattle.lft_trace.specs.LogTables.{IsNoLine}
 use Rattle.lft_trace.specs.declared.external_table.Entry.{Entry}
@@ -22,10 +22,10 @@ use Rattle.lft_trace.specs.declared.external_table.Entry.TheVariants.{Happens}
 use Rattle.lft_trace.specs.declared.log_table.Line.{Line}
 use Rattle.lft_trace.specs.declared.log_table.LineFault.TheVariants as none
 use Rattle.lft_trace.specs.declared.log_table.Line.TheVariants.{Input}
-use Rattle.lft_log.specs.Logs.{AreTimely, BeginsWithRecord, HasNoEnd, HoldSoFar, LastCounts, LastIsLeft, inputs, rows, tag_of}
+use Rattle.lft_log.specs.Logs.{AreTimely, BeginsLong, BeginsWithLine, BeginsWithRecord, HasNoEnd, HoldSoFar, IsHead, IsOddLine, LastCounts, LastIsLeft, inputs, rows, tag_of}
 use Rattle.lft_log.specs.declared.asked.Asked.{Asked}
 use Rattle.lft_log.specs.declared.fault.LogFault.{LogFault}
-use Rattle.lft_log.specs.declared.fault.LogFault.TheVariants.{NoRow, NoInput, LateInput, InputAgain, ManyLater}
+use Rattle.lft_log.specs.declared.fault.LogFault.TheVariants.{NoHeader, NoRow, NoInput, LateInput, InputAgain, ManyLater, LongLine, TooManyRows, TooManyInputs, NoMemory}
 use Rattle.lft_log.specs.declared.front.Front.{Front}
 use Rattle.lft_log.specs.declared.log.Log.{Log}
 use Rattle.lft_log.specs.declared.rows.LogRows.{LogRows}
@@ -92,6 +92,10 @@ IsSaid plan until t more (Broken b) = IsSureSoFar plan t (breach_of b) ⊎ AreAl
 IsSaid plan until t more (Odd r line) = IsOddSoFar plan t r line
 IsSaid plan until t more (Reached r) = AreAll until t more × IsClean plan t r
 
+-- what is told is so of the first of some rows behind these, whatever is asked for
+abbrev pub IsSaidOfSome : PlanParts → List Row → List Row → Told → Type 0
+IsSaidOfSome plan t rows told = (first : List Row) × (behind : List Row) × (rows ≡ first ++ behind) × ((until : Option Tag) (more : List Row) → IsSaid plan until (t ++ first) more told)
+
 -- what is told before the end is so of the first rows of the bytes, none of which is past the end of what is asked for, for the plan that they tell
 abbrev pub IsSoon : PlanParts → Option Tag → List ℕ → Told → Type 0
 IsSoon base until bytes told = (plan : PlanParts) × (t : List Row) × (more : List Row) × (others : List (List (List ℕ))) × (rest : List ℕ) × TellsPlan base bytes plan (t ++ more) others rest × KeepTo until t × IsSaid plan until t more told
@@ -116,18 +120,47 @@ AreOpenIn base bytes runs = (plan : PlanParts) × (t : List Row) × (rest : List
 abbrev pub AreOpenAtEnd : PlanParts → List ℕ → List OpenRun → Type 0
 AreOpenAtEnd base bytes runs = LastCounts bytes × AreOpenIn base (bytes ++ 10 ∷ []) runs ⊎ LastIsLeft bytes × AreOpenIn base bytes runs
 
+-- the bytes are a log of these lines, up to other records and a rest, and no external input among them is late
+abbrev pub HoldInTime : Parts → List ℕ → List Line → List (List (List ℕ)) → List ℕ → Type 0
+HoldInTime program bytes lines others rest = HoldSoFar program bytes lines others rest × AreTimely [] lines
+
 -- behind the lines of a log stands a record of which this is so
 abbrev pub StandsBehind : Parts → List ℕ → List Line → (List (List ℕ) → Type 0) → Type 0
-StandsBehind program bytes lines P = (others : List (List (List ℕ))) × (rest : List ℕ) × HoldSoFar program bytes lines others rest × BeginsWithRecord P others
+StandsBehind program bytes lines P = (others : List (List (List ℕ))) × (rest : List ℕ) × HoldInTime program bytes lines others rest × BeginsWithRecord P others
 
--- the fault of a record behind the lines of a log, with its number among rows or among external inputs: it is no row, no external input, one behind a row at a later tag, or an event that is there already, or before too many others
+-- behind the lines of a log stands one that isn't plain, of which the fault is told
+abbrev pub IsOddBehind : PlanParts → List ℕ → LogFault → Type 0
+IsOddBehind base bytes f = (lines : List Line) × (rest : List ℕ) × HoldInTime base.program bytes lines [] rest × BeginsWithLine (IsOddLine (length (rows lines) + 2) (length (inputs lines) + 2) f) rest
+
+-- behind 4,000,000 rows at one tag another row stands, or more than 2^62 rows are there
+abbrev pub AreTooMany : List Row → Type 0
+AreTooMany t = ((before : List Row) × (row : Row) × (more : List Row) × (t ≡ before ++ row ∷ more) × HasManyAtLast before (row ∷ [])) ⊎ (2 ^ 62 < length t)
+
+-- the plan of these external inputs has 4,000,000 events
+abbrev pub AreAllEvents : PlanParts → List Entry → Type 0
+AreAllEvents base told = (plan : PlanParts) × HasTold base told plan × (4000000 ≤ length plan.externals.events)
+
+-- what in the bytes shows the fault, with the number of its line among rows or among external inputs; want of memory shows nowhere
 abbrev pub IsFaultOf : PlanParts → List ℕ → LogFault → Type 0
+IsFaultOf base bytes NoHeader = BeginsWithLine (λ line. ¬ IsHead line) bytes
 IsFaultOf base bytes (NoRow e line) = (lines : List Line) × StandsBehind base.program bytes lines (λ f. IsNoLine base.program f (none.NoRow e)) × (line ≡ length (rows lines) + 2)
 IsFaultOf base bytes (NoInput e line) = (lines : List Line) × StandsBehind base.program bytes lines (λ f. IsNoLine base.program f (none.NoInput e)) × (line ≡ length (inputs lines) + 2)
 IsFaultOf base bytes (LateInput line) = (lines : List Line) × (entry : Entry) × StandsBehind base.program bytes lines (λ f. IsEntry base.program f entry) × IsPassed (rows lines) (tag_of entry) × (line ≡ length (inputs lines) + 2)
 IsFaultOf base bytes (InputAgain line) = (lines : List Line) × (event : EventOf) × StandsBehind base.program bytes lines (λ f. IsEntry base.program f (Happens event)) × ((plan : PlanParts) × HasTold base (inputs lines) plan × IsTold plan.externals.events event) × (line ≡ length (inputs lines) + 2)
 IsFaultOf base bytes (ManyLater line) = (lines : List Line) × (event : EventOf) × StandsBehind base.program bytes lines (λ f. IsEntry base.program f (Happens event)) × ((plan : PlanParts) × HasTold base (inputs lines) plan × HasManyLater plan.externals.events event.tag) × (line ≡ length (inputs lines) + 2)
-IsFaultOf base bytes f = Unit {0}
+IsFaultOf base bytes (LongLine line) = BeginsLong bytes × (line ≡ 1) ⊎ ((lines : List Line) × (rest : List ℕ) × HoldInTime base.program bytes lines [] rest × BeginsLong rest × (line ≡ length (rows lines) + 2))
+IsFaultOf base bytes TooManyRows = (lines : List Line) × (others : List (List (List ℕ))) × (rest : List ℕ) × HoldInTime base.program bytes lines others rest × AreTooMany (rows lines)
+IsFaultOf base bytes TooManyInputs = ((lines : List Line) × (event : EventOf) × StandsBehind base.program bytes lines (λ f. IsEntry base.program f (Happens event)) × AreAllEvents base (inputs lines)) ⊎ ((lines : List Line) × (rest : List ℕ) × HoldInTime base.program bytes lines [] rest × (2 ^ 62 < length (inputs lines)))
+IsFaultOf base bytes NoMemory = Unit {0}
+IsFaultOf base bytes f = IsOddBehind base bytes f
+
+-- what shows a fault where no more bytes come: it is of all that counts; or a half line that doesn't count is all there is, and there is no header
+abbrev pub IsFaultAtEnd : PlanParts → List ℕ → LogFault → Type 0
+IsFaultAtEnd base bytes f = LastCounts bytes × IsFaultOf base (bytes ++ 10 ∷ []) f ⊎ LastIsLeft bytes × HasNoEnd bytes × (f ≡ NoHeader)
+
+-- what in rows shows a fault: they are too many; or memory was refused
+abbrev pub IsFaultOfRows : List Row → LogFault → Type 0
+IsFaultOfRows t f = (f ≡ TooManyRows) × AreTooMany t ⊎ (f ≡ NoMemory)
 
 -- what is kept is right for the bytes, of which the rest is of no line yet, and for the plan that they tell
 pub record IsLogOf (base plan : PlanParts) (until : Option Tag) (bytes rest : List ℕ) (log : Log) : Type 0 where
@@ -136,6 +169,7 @@ pub record IsLogOf (base plan : PlanParts) (until : Option Tag) (bytes rest : Li
   pub timely : AreTimely [] lines
   pub follower : IsFollowerOf plan (rows lines) log.follower
   pub counted : log.rows ≡ length (rows lines)
+  pub few : log.rows ≤ 2 ^ 62 + 4000000
   pub numbered : log.inputs ≡ length (inputs lines)
   pub until_is : log.asked.until ≡ until
   pub asked : IsAskedOf (rows lines) log.asked

@@ -16,7 +16,7 @@ pub enum LogFault {
     SecondHeader(u64),
     /// The line has more bytes than 1,048,576.
     LongLine(u64),
-    /// More rows stand at one tag than a table may have, or more came than are counted.
+    /// A row stands behind 4,000,000 at one tag, or more came than are counted.
     TooManyRows,
     /// The line begins as one of an external input and is none. The line of the fault itself is that in
     /// a table of external inputs of the header and this line.

@@ -5,7 +5,7 @@ ghost use Rattle.lft_flat.specs.Parts.{Parts};
 ghost use Rattle.lft_steps.specs.Fits.{RowsFit};
 ghost use Rattle.lft_trace.specs.LogTables.{InputsFit, ReadsLines, StopsAt};
 ghost use Rattle.lft_trace.specs.Parts.{BeginsPlain, EndsLine};
-ghost use Rattle.lft_log.specs.Logs.{AreLines, IsFront, IsRecordFault, records_below};
+ghost use Rattle.lft_log.specs.Logs.{AreLines, BeginsOdd, BeginsWithLine, IsFaultBehind, IsFront, IsOddLine, records_below};
 
 use crate::fault::LogFault;
 use crate::lines::{first_line, has_words, is_input, plain_lines};
@@ -56,7 +56,7 @@ fn read_below(alloc: Global, program: &Program, lines: &[u8]) -> Result<LogLines
 /// The fault of the first line, which isn't plain. It has one of these numbers.
 fn fault_of_odd(lines: &[u8], row: u64, input: u64) -> LogFault
     requires { EndsLine lines.now }
-    ensures { (program : Parts) (records : List (List (List ℕ))) → IsRecordFault program records row input result }
+    ensures { BeginsOdd lines.now → BeginsWithLine (IsOddLine row input result) lines.now }
 {
     let line = &lines[0..first_line(lines)];
     if has_words(line) {
@@ -73,7 +73,7 @@ fn fault_of_odd(lines: &[u8], row: u64, input: u64) -> LogFault
 fn fault_behind(fault: Option<LineFault>, behind: &[u8], row: u64, input: u64) -> Option<LogFault>
     requires { AreLines behind.now }
     ensures all { result ≡ None → (fault ≡ None) × (length behind.now ≡ 0) }
-    ensures none { IfSome result (λ f. (program : Parts) (records : List (List (List ℕ))) → StopsAt program records fault → IsRecordFault program records row input f) }
+    ensures none { IfSome result (λ f. (program : Parts) (records : List (List (List ℕ))) → StopsAt program records fault → BeginsOdd behind.now → IsFaultBehind program records behind.now row input f) }
 {
     match fault {
         Some(LineFault::NoRow(fault)) => Some(LogFault::NoRow(fault, row)),

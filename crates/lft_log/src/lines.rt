@@ -1,9 +1,9 @@
 //! Lines of a table that comes in pieces.
 
-ghost use Rattle.std.specs.Prelude.{◌≡◌, ◌≢◌, ◌↔◌, ◌⊎◌, ◌<◌, ◌≤◌, ◌+◌, ◌++◌, ◌∷◌, ℕ, List, [], Some, length, take, drop, slice_get, IfSome, IsTrue, false, MatchOption};
+ghost use Rattle.std.specs.Prelude.{◌≡◌, ◌≢◌, ◌↔◌, ◌⊎◌, ◌<◌, ◌≤◌, ◌+◌, ◌++◌, ◌∷◌, ℕ, List, [], Some, length, take, drop, slice_get, IfNone, IfSome, IsTrue, false, MatchOption};
 ghost use Rattle.memchr.specs.Find.{OccursAt};
 ghost use Rattle.lft_trace.specs.Parts.{EndsLine};
-ghost use Rattle.lft_log.specs.Logs.{AreLines, ArePlain, BeginsWith, EndsWith, HasNoEnd, IsHead, IsHeaderThen, IsWholeLine, IsWholeRow, IsWholeStop, fields, header_words};
+ghost use Rattle.lft_log.specs.Logs.{AreLines, ArePlain, BeginsOdd, BeginsWith, EndsWith, HasNoEnd, HasWords, IsHead, IsHeaderThen, IsLoneReturn, IsOfInput, IsOneLine, IsWholeLine, IsWholeRow, IsWholeStop, fields, header_words};
 
 use memchr::{memchr, memchr_iter, memmem, memrchr};
 
@@ -25,7 +25,8 @@ fn behind_words(text: &[u8]) -> Option<&[u8]>
 
 /// What stands below the header.
 pub(crate) fn below_header(lines: &[u8]) -> Option<&[u8]>
-    ensures { IfSome result (λ rest. (head : List ℕ) × (lines.now ≡ head ++ rest.now) × IsHead head) }
+    ensures some { IfSome result (λ rest. (head : List ℕ) × (lines.now ≡ head ++ rest.now) × IsHead head) }
+    ensures none { IfNone result ((head rest : List ℕ) → lines.now ≡ head ++ rest → ¬ IsHead head) }
 {
     let rest = behind_words(lines)?;
     if let Some(below) = rest.strip_prefix(b"\n") {
@@ -46,16 +47,25 @@ pub(crate) fn whole_lines(text: &[u8]) -> usize
     }
 }
 
+/// How many bytes stand before the first end of a line. It is all where no line ends.
+pub(crate) fn before_end(text: &[u8]) -> usize
+    ensures within { result ≤ length text.now }
+    ensures none { HasNoEnd (take result text.now) }
+    ensures end { result < length text.now → slice_get text.now result ≡ Some 10 }
+{
+    match memchr(b'\n', text) {
+        Some(place) => place,
+        None => text.len(),
+    }
+}
+
 /// How many bytes the first of whole lines has.
 pub(crate) fn first_line(lines: &[u8]) -> usize
     requires { EndsLine lines.now }
     ensures within { result ≤ length lines.now }
-    ensures line { EndsLine (take result lines.now) }
+    ensures line { IsOneLine (take result lines.now) }
 {
-    match memchr(b'\n', lines) {
-        Some(place) => place + 1,
-        None => lines.len(),
-    }
+    before_end(lines) + 1
 }
 
 /// How many commas the line has.
@@ -67,19 +77,24 @@ fn commas(line: &[u8]) -> usize
 
 /// Whether the line is of an external input: it begins with the word of one, and has five parts. A row
 /// has eight.
-pub(crate) fn is_input(line: &[u8]) -> bool {
+pub(crate) fn is_input(line: &[u8]) -> bool
+    ensures { IsTrue result ↔ IsOfInput line.now }
+{
     (begins_with(line, b"event,") || begins_with(line, b"stop,")) && commas(line) == 4
 }
 
 /// Whether the header's words stand in the line.
-pub(crate) fn has_words(line: &[u8]) -> bool {
+pub(crate) fn has_words(line: &[u8]) -> bool
+    ensures { IsTrue result ↔ HasWords line.now }
+{
     memmem::find(line, WORDS).is_some()
 }
 
 /// Whether a carriage return stands at the place, and no line feed behind it.
 fn is_lone(lines: &[u8], place: usize) -> bool
     requires { place < length lines.now }
-    ensures { result ≡ false → slice_get lines.now place ≡ Some 13 → slice_get lines.now (place + 1) ≡ Some 10 }
+    ensures not { result ≡ false → slice_get lines.now place ≡ Some 13 → slice_get lines.now (place + 1) ≡ Some 10 }
+    ensures lone { IsTrue result → IsLoneReturn lines.now place }
 {
     if lines[place] != b'\r' {
         return false;
@@ -91,6 +106,7 @@ fn is_lone(lines: &[u8], place: usize) -> bool
 fn lone_return(lines: &[u8]) -> usize
     ensures within { result ≤ length lines.now }
     ensures returns { (i : ℕ) → i < result → slice_get lines.now i ≡ Some 13 → slice_get lines.now (i + 1) ≡ Some 10 }
+    ensures lone { result < length lines.now → IsLoneReturn lines.now result }
 {
     let Some(first) = memchr(b'\r', lines) else {
         return lines.len();
@@ -107,6 +123,7 @@ fn lone_return(lines: &[u8]) -> usize
 fn first_quote(lines: &[u8]) -> usize
     ensures within { result ≤ length lines.now }
     ensures none { (i : ℕ) → i < result → slice_get lines.now i ≢ Some 34 }
+    ensures quote { result < length lines.now → slice_get lines.now result ≡ Some 34 }
 {
     match memchr(b'"', lines) {
         Some(place) => place,
@@ -118,6 +135,7 @@ fn first_quote(lines: &[u8]) -> usize
 fn first_words(lines: &[u8]) -> usize
     ensures within { result ≤ length lines.now }
     ensures none { (i : ℕ) → i < result → ¬ OccursAt lines.now header_words i }
+    ensures words { result < length lines.now → OccursAt lines.now header_words result }
 {
     match memmem::find(lines, WORDS) {
         Some(place) => place.min(lines.len()),
@@ -131,6 +149,7 @@ pub(crate) fn plain_lines(lines: &[u8]) -> usize
     ensures within { result ≤ length lines.now }
     ensures lines { AreLines (take result lines.now) }
     ensures plain { ArePlain (take result lines.now) }
+    ensures odd { BeginsOdd (drop result lines.now) }
 {
     let odd = first_quote(lines)
         .min(lone_return(lines))

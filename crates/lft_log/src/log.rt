@@ -1,26 +1,25 @@
 //! A log: a trace table that comes in pieces, with lines of external inputs among its rows.
 
-ghost use Rattle.std.specs.Prelude.{◌≡◌, Bool, ◌++◌, ◌∷◌, ◌^◌, ◌≤◌, ℕ, List, [], Option, true, false, length, IfOk, IfErr, IfSome, MatchOption};
+ghost use Rattle.std.specs.Prelude.{◌≡◌, Bool, ◌⊎◌, ◌+◌, ◌++◌, ◌∷◌, ◌^◌, ◌≤◌, ℕ, List, [], Option, true, false, length, IfOk, IfErr, IfNone, IfSome, IsTrue, MatchOption};
 ghost use Rattle.lft_tag.specs.declared.Tag.{Tag as TheTag};
 ghost use Rattle.lft_trace.specs.Parts.{EndsLine};
 ghost use Rattle.lft_steps.specs.declared.row.Row.{Row as TheRow};
 ghost use Rattle.lft_steps.specs.Fits.{RowsFit};
 ghost use Rattle.lft_model.specs.Plans.{PlanParts};
 ghost use Rattle.lft_follow.specs.Follows.{IsFollowerOf, IsJudged, IsQuiet};
-ghost use Rattle.lft_log.specs.Logs.{AreLines, HasNoEnd, IsHead};
-ghost use Rattle.lft_log.specs.Told.{AreAll, AreOpenAtEnd, AreOpenIn, IsAskedOf, IsBegun, IsEnded, IsFaultOf, IsFinal, IsLog, IsLogOf, IsSaid, IsSoon, KeepTo};
+ghost use Rattle.lft_log.specs.Logs.{AreLines, BeginsLong, HasNoEnd, IsHead};
+ghost use Rattle.lft_log.specs.Told.{AreAll, AreOpenAtEnd, AreOpenIn, IsAskedOf, IsBegun, IsEnded, IsFaultAtEnd, IsFaultOf, IsFaultOfRows, IsFinal, IsLog, IsLogOf, IsSaid, IsSaidOfSome, IsSoon, KeepTo};
 
 use crate::asked::Asked;
 use crate::fault::LogFault;
 use crate::front::read_front;
-use crate::lines::{below_header, is_whole, whole_lines};
+use crate::lines::{before_end, below_header, is_whole, whole_lines};
 use crate::telling::tell_all;
 use crate::told::{Ended, Final, Told};
 use lft_follow::{Closing, Ending, Follower, OpenRun, Progress, Reach};
 use lft_model::Plan;
 use lft_steps::Row;
-use lft_tag::{NoMemory, Tag};
-use memchr::memchr;
+use lft_tag::{MAX_ROWS, NoMemory, Tag};
 use std::alloc::Global;
 
 /// No line has more bytes.
@@ -44,17 +43,18 @@ pub struct Log {
     asked: Asked,
 }
 
-/// Goes on past rows.
-fn add_rows(
+/// Goes on past rows that the follower can hold with those at the last tag, or past one.
+fn add_few(
     follower: &mut Follower,
     alloc: Global,
     plan: &Plan,
     rows: &[Row],
 ) -> Result<Option<Told>, LogFault>
     requires fit { RowsFit plan.now.program rows.now }
+    requires few { (length follower.old.rows.items + length rows.now ≤ 4000000) ⊎ (length rows.now ≡ 1) }
     requires stands { (t : List TheRow) × IsFollowerOf plan.now t follower.old }
     ensures told { IfOk result (λ o. (t : List TheRow) → IsFollowerOf plan.now t follower.old → MatchOption o (IsFollowerOf plan.now (t ++ rows.now) follower.new × IsQuiet plan.now (t ++ rows.now)) (λ told. (until : Option TheTag) (more : List TheRow) → IsSaid plan.now until (t ++ rows.now) more told)) }
-    ensures fault { IfErr result (λ f. (base : PlanParts) (bytes : List ℕ) → IsFaultOf base bytes f) }
+    ensures fault { IfErr result (λ f. (t : List TheRow) → IsFollowerOf plan.now t follower.old → IsFaultOfRows (t ++ rows.now) f) }
 {
     match follower.add(alloc, plan, rows) {
         Ok(Progress::GoesOn) => Ok(None),
@@ -63,6 +63,32 @@ fn add_rows(
         Ok(Progress::TooMany) => Err(LogFault::TooManyRows),
         Err(_) => Err(LogFault::NoMemory),
     }
+}
+
+/// Goes on past rows. Where the last tag has nearly as many as it may have they are told one by one: rows at
+/// other tags are not to be too many with these.
+fn add_rows(
+    follower: &mut Follower,
+    alloc: Global,
+    plan: &Plan,
+    rows: &[Row],
+) -> Result<Option<Told>, LogFault>
+    requires fit { RowsFit plan.now.program rows.now }
+    requires stands { (t : List TheRow) × IsFollowerOf plan.now t follower.old }
+    ensures told { IfOk result (λ o. (t : List TheRow) → IsFollowerOf plan.now t follower.old → MatchOption o (IsFollowerOf plan.now (t ++ rows.now) follower.new × IsQuiet plan.now (t ++ rows.now)) (IsSaidOfSome plan.now t rows.now)) }
+    ensures fault { IfErr result (λ f. (t : List TheRow) → IsFollowerOf plan.now t follower.old → IsFaultOfRows (t ++ rows.now) f) }
+{
+    if rows.len() <= MAX_ROWS - follower.held() {
+        return add_few(follower, alloc, plan, rows);
+    }
+    for place in 0..rows.len() {
+        match add_few(follower, alloc, plan, &rows[place..place + 1]) {
+            Ok(None) => {}
+            Ok(Some(told)) => return Ok(Some(told)),
+            Err(fault) => return Err(fault),
+        }
+    }
+    Ok(None)
 }
 
 /// What all rows show that are asked for.
@@ -90,7 +116,7 @@ fn add_asked(
     requires stands { (t : List TheRow) × IsFollowerOf plan.now t follower.old }
     ensures until { asked.new.until ≡ asked.old.until }
     ensures told { IfOk result (λ o. (t : List TheRow) → IsFollowerOf plan.now t follower.old → IsAskedOf t asked.old → MatchOption o (IsFollowerOf plan.now (t ++ rows.now) follower.new × IsAskedOf (t ++ rows.now) asked.new) (λ told. (u more : List TheRow) × (rows.now ≡ u ++ more) × KeepTo asked.old.until (t ++ u) × IsSaid plan.now asked.old.until (t ++ u) more told)) }
-    ensures fault { IfErr result (λ f. (base : PlanParts) (bytes : List ℕ) → IsFaultOf base bytes f) }
+    ensures fault { IfErr result (λ f. (t : List TheRow) → IsFollowerOf plan.now t follower.old → IsFaultOfRows (t ++ rows.now) f) }
 {
     let Some(end) = asked.past_end(rows) else {
         return add_rows(follower, alloc, plan, rows);
@@ -104,6 +130,7 @@ fn add_asked(
 
 /// The lines below the header, which came before or stands above them.
 fn body_of(is_begun: bool, lines: &[u8]) -> Option<&[u8]>
+    ensures none { IfNone result ((is_begun ≡ false) × ((head rest : List ℕ) → lines.now ≡ head ++ rest → ¬ IsHead head)) }
     ensures begun { IfSome result (λ body. is_begun ≡ true → body.now ≡ lines.now) }
     ensures fresh { IfSome result (λ body. is_begun ≡ false → (head : List ℕ) × (lines.now ≡ head ++ body.now) × IsHead head) }
 {
@@ -189,7 +216,7 @@ impl Log {
         plan: &mut Plan,
         lines: &[u8],
     ) -> Result<Option<Told>, LogFault>
-        requires lines { AreLines lines.now }
+        requires lines { EndsLine lines.now }
         requires stands { (base : PlanParts) × (until : Option TheTag) × (bytes : List ℕ) × IsLogOf base plan.old until bytes lines.now self.old }
         ensures program { plan.new.program ≡ plan.old.program }
         ensures rest { self.new.rest ≡ self.old.rest }
@@ -204,18 +231,19 @@ impl Log {
     }
 
     /// Whether the first line of the piece is too long with what came of it.
-    fn is_long(&self, piece: &[u8]) -> bool {
-        let first = memchr(b'\n', piece).unwrap_or(piece.len());
-        self.rest.len().saturating_add(first) > LONGEST
+    fn is_long(&self, piece: &[u8]) -> bool
+        ensures { IsTrue result → HasNoEnd self.now.rest.items → BeginsLong (self.now.rest.items ++ piece.now) }
+    {
+        self.rest.len() + before_end(piece) > LONGEST
     }
 
     /// The number of the line that comes next.
-    fn next_line(&self) -> u64 {
-        if self.is_begun {
-            self.rows.saturating_add(2)
-        } else {
-            1
-        }
+    fn next_line(&self) -> u64
+        requires { self.now.rows ≤ 2 ^ 62 + 4000000 }
+        ensures begun { self.now.is_begun ≡ true → result ≡ self.now.rows + 2 }
+        ensures fresh { self.now.is_begun ≡ false → result ≡ 1 }
+    {
+        if self.is_begun { self.rows + 2 } else { 1 }
     }
 
     /// Goes on past the rest and more bytes, which are whole lines together.
@@ -330,7 +358,7 @@ impl Log {
         requires { (base : PlanParts) × (until : Option TheTag) × (bytes : List ℕ) × IsLog base plan.now until bytes self.old }
         ensures ended { IfOk result (λ e. (base : PlanParts) (until : Option TheTag) (bytes : List ℕ) → IsLog base plan.now until bytes self.old → IsFinal base until whole bytes e.told) }
         ensures still_open { IfOk result (λ e. (base : PlanParts) (until : Option TheTag) (bytes : List ℕ) → IsLog base plan.now until bytes self.old → IfSome e.still_open (λ runs. AreOpenIn base bytes runs.items)) }
-        ensures fault { IfErr result (λ f. (base : PlanParts) (bytes : List ℕ) → IsFaultOf base bytes f) }
+        ensures fault { IfErr result (λ f. (f ≡ LogFault.NoHeader) × (self.old.is_begun ≡ false)) }
     {
         if !self.is_begun {
             return Err(LogFault::NoHeader);
@@ -347,17 +375,14 @@ impl Log {
         ensures program { plan.new.program ≡ plan.old.program }
         ensures ended { IfOk result (λ e. (base : PlanParts) (until : Option TheTag) (bytes : List ℕ) → IsLog base plan.old until bytes self.old → IsEnded base until whole bytes e.told) }
         ensures still_open { IfOk result (λ e. (base : PlanParts) (until : Option TheTag) (bytes : List ℕ) → IsLog base plan.old until bytes self.old → IfSome e.still_open (λ runs. AreOpenAtEnd base bytes runs.items)) }
-        ensures fault { IfErr result (λ f. (base : PlanParts) (until : Option TheTag) (bytes : List ℕ) → IsLog base plan.old until bytes self.old → IsFaultOf base (bytes ++ 10 ∷ []) f) }
+        ensures fault { IfErr result (λ f. (base : PlanParts) (until : Option TheTag) (bytes : List ℕ) → IsLog base plan.old until bytes self.old → IsFaultAtEnd base bytes f) }
     {
         if !is_whole(self.rest.as_slice()) {
             return self.told_at_end(alloc, plan, whole);
         }
         match self.add_whole(alloc, plan, b"\n") {
             Ok(None) => self.told_at_end(alloc, plan, whole),
-            Ok(Some(told)) => Ok(Ended {
-                told: Final::Soon(told),
-                still_open: None,
-            }),
+            Ok(Some(told)) => Ok(Ended::soon(told)),
             Err(fault) => Err(fault),
         }
     }

@@ -1,5 +1,8 @@
 //! What is told of a table.
 
+ghost use Rattle.std.specs.Prelude.{◌≡◌, None};
+ghost use Rattle.lft_log.specs.declared.told.Final.TheVariants.{Soon};
+
 use lft_follow::{Ending, Found, OpenRun, Reach};
 
 /// What is told before the end of a table. Nothing is judged behind it.
@@ -26,4 +29,16 @@ pub struct Ended {
     pub told: Final,
     /// None where more may come behind what is told, or memory is refused.
     pub still_open: Option<Vec<OpenRun>>,
+}
+
+impl Ended {
+    /// What is told before the end, where more may come.
+    pub fn soon(told: Told) -> Ended
+        ensures { result ≡ record { told = Soon told; still_open = None } }
+    {
+        Ended {
+            told: Final::Soon(told),
+            still_open: None,
+        }
+    }
 }

@@ -1,5 +1,5 @@
-use Rattle.std.proofs.Common.{◌≡◌, ◌∙◌, ℕ, Some, length, slice_get, refl, sym, subst}
-use Rattle.std.specs.Prelude.{◌↔◌, IsTrue, min}
+use Rattle.std.proofs.Common.{◌∙◌, ℕ, sym, subst}
+use Rattle.std.specs.Prelude.{◌↔◌, IsTrue}
 use Rattle.std.proofs.Math.Bool.{not}
 use Rattle.lft_lists.proofs.Places.{Some_same}
 use Rattle.lft_steps.specs.declared.row.Row.{Row}

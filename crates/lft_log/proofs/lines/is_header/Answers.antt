@@ -1,4 +1,4 @@
-use Rattle.std.proofs.Common.{◌∷◌, ◌++◌, [], ⊎_elim, inl, inr, sym, subst}
+use Rattle.std.proofs.Common.{◌∷◌, ◌++◌, [], ⊎_elim, inl, inr, subst}
 use Rattle.lft_log.specs.Logs.{IsHeaderThen}
 use Rattle.lft_log.proofs.Heads.{no_header, rest_of_header, then_more}
 use Rattle.lft_log.proofs.lines.is_header.Goals as goal

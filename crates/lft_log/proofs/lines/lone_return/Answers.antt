@@ -1,4 +1,4 @@
-use Rattle.std.proofs.Common.{◌≡◌, ◌+◌, ◌<◌, ◌≤◌, ℕ, Some, length, slice_get, refl, sym, subst, arith}
+use Rattle.std.proofs.Common.{◌≡◌, ◌+◌, ◌<◌, ℕ, Some, length, slice_get, refl, sym, subst, arith}
 use native.Mathlib.Decide.{dec_lt}
 use Rattle.lft_log.proofs.Ends.{no_byte}
 use Rattle.lft_log.proofs.lines.lone_return.Goals as goal
@@ -13,7 +13,7 @@ loop-place-preserved c = λ i l e. go i l e (dec_lt i c.loop-place.place)
     go i l e (yes m) = c.loop-place.invariant i m e
     go i l e (no m) =
         let place : i ≡ c.loop-place.place = omega (arith, l, m) in
-        subst (λ (k : ℕ). slice_get c.args.lines.now (k + 1) ≡ Some 10) (sym place) (c.if-is_lone.ensures refl (subst (λ (k : ℕ). slice_get c.args.lines.now k ≡ Some 13) place e))
+        subst (λ (k : ℕ). slice_get c.args.lines.now (k + 1) ≡ Some 10) (sym place) (c.if-is_lone.ensures.not refl (subst (λ (k : ℕ). slice_get c.args.lines.now k ≡ Some 13) place e))
 
 pub returns-clause-returns : goal.returns-clause-returns
 returns-clause-returns c = λ i l e. let up = c.in-Some.ensures.0.high in let end : c.loop-place.place ≡ length c.args.lines.now = omega (arith, up) in c.loop-place.invariant i (subst (λ (k : ℕ). i < k) (sym end) l) e

@@ -1,5 +1,6 @@
-use Rattle.std.proofs.Common.{◌≤◌, arith}
+use Rattle.std.proofs.Common.{◌≤◌, ◌∙◌, ℕ, ap, min, arith}
 use Rattle.std.proofs.Math.Nat.{min-le_left, min-le_right}
+use Rattle.lft_log.proofs.Odd.{begins_odd, first_odd}
 use Rattle.lft_log.proofs.Plain.{front_of, front_up, plain_front}
 use Rattle.lft_log.proofs.lines.plain_lines.Goals as goal
 
@@ -23,3 +24,10 @@ returns-clause-plain c =
     let up : n ≤ odd = front_up lines n odd c.whole_lines.ensures.within in
     let q = c.first_quote.ensures.within in
     plain_front lines n quote alone words (omega (arith, up, a, a1, b, b1, q)) (omega (arith, up, a, a1, b, b1)) (omega (arith, up, a, a2, b, b1)) (omega (arith, up, b, b2)) c.first_quote.ensures.none c.lone_return.ensures.returns c.first_words.ensures.none (front_of lines n odd c.whole_lines.ensures.within c.whole_lines.ensures.lines)
+
+pub returns-clause-odd : goal.returns-clause-odd
+returns-clause-odd c =
+    let lines = c.args.lines.now in
+    let odd = c.min-odd.result in
+    let up : c.whole_lines.result ≤ odd = front_up lines c.whole_lines.result odd c.whole_lines.ensures.within in
+    begins_odd lines c.whole_lines.result odd up c.whole_lines.ensures.rest (λ l. first_odd lines c.first_quote.result c.lone_return.result c.first_words.result odd (c.min-odd.ensures ∙ ap (λ (n : ℕ). min n c.first_words.result) c.min.ensures) l c.first_quote.ensures.quote c.lone_return.ensures.lone c.first_words.ensures.words)

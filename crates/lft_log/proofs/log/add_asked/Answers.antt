@@ -1,10 +1,11 @@
-use Rattle.std.proofs.Common.{◌++◌, List, take, drop, subst, sym}
-use Rattle.std.proofs.lemmas.List.{take-append-drop}
+use Rattle.std.proofs.Common.{◌≡◌, ◌∙◌, ◌++◌, List, take, drop, slice_range, ap, subst, sym}
+use Rattle.std.proofs.lemmas.List.{append_assoc, take-append-drop}
 use Rattle.std.proofs.lemmas.Result.{IfOk-weaker}
 use Rattle.lft_steps.specs.declared.row.Row.{Row}
 use Rattle.lft_follow.specs.Follows.{IsFollowerOf, IsQuiet}
-use Rattle.lft_log.specs.Told.{IsSaid}
+use Rattle.lft_log.proofs.Asking.{kept_before}
 use Rattle.lft_log.proofs.Ends.{range_take}
+use Rattle.lft_log.proofs.Many.{first_all, fault_more}
 use Rattle.lft_log.proofs.Gathering.{fit_first}
 use Rattle.lft_log.proofs.Keeping.{rows_told}
 use Rattle.lft_log.proofs.log.add_asked.Goals as goal
@@ -15,9 +16,10 @@ returns-in-Ok-Some-clause-told c = λ t follows is.
     let end = c.in-Some.end in
     let until = c.args.asked.now.until in
     let past = c.in-Some.ensures.past t is in
-    let told = rw c.in-Ok-Some.field-0-is at (c.in-Ok-Some.ensures.told t follows) in
-    let said = subst (λ (x : List Row). IsSaid c.args.plan.now until (t ++ x) (drop end rows) c.in-Ok-Some.told) (range_take rows end) (told until (drop end rows)) in
-    (take end rows, drop end rows, sym (take-append-drop end rows), past.0, said)
+    let (first, behind, parted, said) = rw c.in-Ok-Some.field-0-is at (c.in-Ok-Some.ensures.told t follows) in
+    let front : take end rows ≡ first ++ behind = sym (range_take rows end) ∙ parted in
+    let whole = sym (take-append-drop end rows) ∙ ap (λ (x : List Row). x ++ drop end rows) front ∙ append_assoc first behind (drop end rows) in
+    (first, behind ++ drop end rows, whole, kept_before until t first behind (take end rows) front past.0, said until (behind ++ drop end rows))
 
 pub returns-in-Ok-None-clause-told : goal.returns-in-Ok-None-clause-told
 returns-in-Ok-None-clause-told c = λ t follows is.
@@ -34,3 +36,10 @@ returns-in_default-clause-told c = IfOk-weaker c.add_rows.result _ _ (λ o told 
 
 pub add_rows-requires-2-clause-fit : goal.add_rows-requires-2-clause-fit
 add_rows-requires-2-clause-fit c = fit_first c.args.plan.now.program c.args.rows.now c.in-Some.end c.requires.fit
+
+pub returns-in-Err-clause-fault : goal.returns-in-Err-clause-fault
+returns-in-Err-clause-fault c = λ t follows.
+    let rows = c.args.rows.now in
+    let end = c.in-Some.end in
+    let whole = ap (λ (x : List Row). (t ++ x) ++ drop end rows) (range_take rows end) ∙ first_all t rows end in
+    fault_more (t ++ slice_range rows 0 end) (drop end rows) (t ++ rows) c.in-Err.fault whole (c.in-Err.ensures.fault t follows)

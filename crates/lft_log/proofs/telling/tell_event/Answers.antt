@@ -1,4 +1,4 @@
-use Rattle.std.proofs.Common.{sym, subst}
+use Rattle.std.proofs.Common.{inl, sym, subst}
 use Rattle.lft_trace.specs.declared.external_table.Entry.TheVariants.{Happens}
 use Rattle.lft_follow.specs.Follows.{IsPassed}
 use Rattle.lft_log.proofs.Plans.{told_event}
@@ -19,3 +19,6 @@ returns-in-Ok-Again-clause-fault c = λ t u follower base bytes lines stands tol
 
 pub returns-in-Ok-ManyLater-clause-fault : goal.returns-in-Ok-ManyLater-clause-fault
 returns-in-Ok-ManyLater-clause-fault c = λ t u follower base bytes lines stands told same numbered. (lines, c.args.event, stands, (c.args.plan.now, told, (rw c.in-Ok-ManyLater.field-0-is at c.in-Ok-ManyLater.ensures.receipt).1), numbered)
+
+pub returns-in-Ok-TooMany-clause-fault : goal.returns-in-Ok-TooMany-clause-fault
+returns-in-Ok-TooMany-clause-fault c = λ t u follower base bytes lines stands told same numbered. inl (lines, c.args.event, stands, (c.args.plan.now, told, (rw c.in-Ok-TooMany.field-0-is at c.in-Ok-TooMany.ensures.receipt).1))

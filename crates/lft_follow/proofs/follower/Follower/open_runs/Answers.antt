@@ -1,4 +1,3 @@
-use Rattle.std.proofs.Common.{◌≡◌, ◌≤◌, ◌+◌, ◌^◌, length, refl, sym, subst, arith}
 use Rattle.std.proofs.lemmas.Result.{IfOk-weaker}
 use Rattle.lft_follow.proofs.Opened.{open_runs}
 use Rattle.lft_follow.proofs.follower.Follower.open_runs.Goals as goal

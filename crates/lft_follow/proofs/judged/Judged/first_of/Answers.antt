@@ -1,4 +1,4 @@
-use Rattle.std.proofs.Common.{◌++◌, ◌+◌, ℕ, Option, Some, None, sym, subst}
+use Rattle.std.proofs.Common.{◌++◌, ◌+◌, ℕ, Some, None, sym, subst}
 use Rattle.lft_tag.specs.declared.Tag.{Tag}
 use Rattle.lft_model.specs.declared.breach.Breach.{Breach}
 use Rattle.lft_model.specs.Breaches.{First}

@@ -1,4 +1,4 @@
-use Rattle.std.proofs.Common.{◌++◌, ◌+◌, ◌-◌, ◌∙◌, ⊎_elim, length}
+use Rattle.std.proofs.Common.{◌+◌, ◌-◌, ◌∙◌, ⊎_elim, length}
 use Rattle.std.proofs.lemmas.Bool.{false≢true}
 use Rattle.lft_tag.proofs.Order.{order_cases}
 use Rattle.lft_lists.proofs.Places.{get_right}

@@ -1,6 +1,6 @@
 use Rattle.std.proofs.Common.{◌++◌, ◌∷◌, ◌∙◌, [], refl, sym}
 use Rattle.std.proofs.lemmas.Bool.{false≢true}
-use Rattle.lft_log.proofs.Asking.{asked_before, asked_come, asked_none, before_asked, come_asked, row_before, row_first, row_past, row_within}
+use Rattle.lft_log.proofs.Asking.{asked_before, asked_come, before_asked, come_asked, row_before, row_first, row_past, row_within}
 use Rattle.lft_log.proofs.asked.Asked.is_past.Goals as goal
 
 pub returns-in-Some-last-clause-past : goal.returns-in-Some-last-clause-past

@@ -1,9 +1,9 @@
-use Rattle.std.proofs.Common.{ℕ, ◌++◌, List, drop, length, slice_range, subst}
+use Rattle.std.proofs.Common.{ℕ, ◌++◌, List, drop, length, refl, slice_range, subst}
 use Rattle.std.proofs.lemmas.Result.{IfOk-weaker, IfErr-weaker}
 use Rattle.lft_log.specs.Logs.{HasNoEnd}
 use Rattle.lft_log.specs.Told.{IsFaultOf, IsSoon}
 use Rattle.lft_log.proofs.Ends.{never_both}
-use Rattle.lft_log.proofs.Keeping.{fault_longer, none_told, soon_longer}
+use Rattle.lft_log.proofs.Keeping.{fault_longer, long_fault, none_told, soon_longer}
 use Rattle.lft_log.proofs.Pieces.{kept_behind, whole_piece}
 use Rattle.lft_log.proofs.log.Log.add.Goals as goal
 
@@ -38,3 +38,9 @@ returns-in-Err-clause-fault c = λ base until bytes is.
     let piece = c.args.piece.now in
     let end = c.whole_lines-end.result in
     subst (λ (x : List ℕ). IsFaultOf base x c.in-Err.fault) (whole_piece bytes piece end) (fault_longer base (bytes ++ slice_range piece 0 end) (slice_range piece end (length piece)) c.in-Err.fault (c.in-Err.ensures.fault base until bytes is))
+
+pub next_line-requires : goal.next_line-requires
+next_line-requires c = c.requires.3.kept.few
+
+pub returns-then-is_long-clause-fault : goal.returns-then-is_long-clause-fault
+returns-then-is_long-clause-fault c = λ base until bytes is. long_fault base c.args.plan.now until bytes c.args.self.now c.args.piece.now c.next_line.result is c.next_line.ensures.begun c.next_line.ensures.fresh (c.if-is_long.ensures refl is.open_line)

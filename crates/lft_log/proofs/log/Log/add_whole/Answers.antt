@@ -1,7 +1,7 @@
-use Rattle.std.proofs.Common.{◌∙◌, ◌++◌, ℕ, Vec, inr, refl, sym, ap, subst}
+use Rattle.std.proofs.Common.{◌∙◌, ◌++◌, ℕ, Vec, refl, sym, ap, subst}
 use Rattle.std.specs.declared.alloc.Global.{Global}
 use Rattle.std.proofs.lemmas.Result.{IfOk-weaker, IfErr-weaker}
-use Rattle.lft_log.specs.Logs.{AreLines}
+use Rattle.lft_trace.specs.Parts.{EndsLine}
 use Rattle.lft_log.proofs.Ends.{ends_behind}
 use Rattle.lft_log.proofs.Keeping.{kept_all, with_fact}
 use Rattle.lft_log.proofs.log.Log.add_whole.Goals as goal
@@ -13,7 +13,7 @@ add_lines-requires c =
     let stands = c.requires.stands in
     let parted = c.as_slice.ensures.value ∙ c.in-Ok.ensures.items ∙ ap (λ (v : Vec ℕ Global). v.items ++ more) c.replace-lines.ensures.value in
     record {
-      lines = subst AreLines (sym parted) (inr (ends_behind rest more c.requires.line));
+      lines = subst EndsLine (sym parted) (ends_behind rest more c.requires.line);
       stands = (stands.0, stands.1, stands.2 ++ more, kept_all stands.0 c.args.plan.now stands.1 stands.2 rest more c.as_slice.result.now c.args.self.now _ parted refl refl refl refl refl stands.3.kept);
     }
 

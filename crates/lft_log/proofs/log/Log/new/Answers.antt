@@ -1,4 +1,4 @@
-use Rattle.std.proofs.Common.{[], refl, sym, subst}
+use Rattle.std.proofs.Common.{[], refl, sym, subst, arith}
 use Rattle.lft_log.specs.Logs.{HasNoEnd}
 use Rattle.lft_log.proofs.Plans.{told_none}
 use Rattle.lft_log.proofs.log.Log.new.Goals as goal
@@ -11,6 +11,7 @@ returns c = record {
     timely = tt;
     follower = c.in_ok-new.ensures;
     counted = refl;
+    few = omega arith;
     numbered = refl;
     until_is = c.new-3.ensures.until;
     asked = c.new-3.ensures.asked;

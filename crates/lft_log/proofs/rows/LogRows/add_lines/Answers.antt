@@ -1,10 +1,10 @@
-use Rattle.std.proofs.Common.{◌≡◌, ◌-◌, ◌≤◌, ◌++◌, ◌∙◌, ℕ, List, drop, length, slice_range, sym, ap, subst, arith}
+use Rattle.std.proofs.Common.{◌-◌, ◌≤◌, ◌++◌, ◌∙◌, List, length, slice_range, sym, ap, subst, arith}
 use Rattle.lft_flat.specs.Parts.{Parts}
 use Rattle.lft_steps.specs.declared.row.Row.{Row}
 use Rattle.lft_steps.specs.Fits.{RowsFit}
 use Rattle.lft_follow.specs.Follows.{IsFollowerOf}
 use Rattle.lft_log.specs.Logs.{IsFront}
-use Rattle.lft_log.proofs.Gathering.{all_read, fit_first, has_read, none_is, rows_fit, rows_read}
+use Rattle.lft_log.proofs.Gathering.{all_read, fit_first, none_is, rows_fit, rows_read}
 use Rattle.lft_log.proofs.rows.LogRows.add_lines.Goals as goal
 
 pub returns-then-is_some-clause-read : goal.returns-then-is_some-clause-read

@@ -1,0 +1,7 @@
+use Rattle.std.proofs.Common.{◌++◌, ◌<◌, List, take}
+use Rattle.lft_steps.specs.declared.row.Row.{Row}
+use Rattle.lft_follow.specs.Follows.{IsFollowerOf, IsQuiet}
+use Rattle.lft_log.proofs.log.add_rows.Given as goal
+
+abbrev pub invariant-loop-place : goal.invariant-loop-place
+invariant-loop-place l = (t : List Row) → IsFollowerOf l.plan t l.fn.follower → IsFollowerOf l.plan (t ++ take l.place l.rows) l.follower × (0 < l.place → IsQuiet l.plan (t ++ take l.place l.rows))
