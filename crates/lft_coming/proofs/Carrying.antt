@@ -252,7 +252,7 @@ module _ (program : Parts) (test : ℕ → Bool) (u : List Row) (count : ℕ) (r
         own p q (inr r) events h b up = absurd (some_last (ap (λ (k : ℕ). last_write u row.tag k) (sym q) ∙ sym (r.kept w (here p q)) ∙ none))
 
     -- and one that is kept is carried now
-    pub carried_now : (lists : List (List ℕ)) → AreChannelsTo program test lists → (targets : List ℕ) → slice_get lists o ≡ Some targets → (value : Value) → value_at row.tag w ≡ Some value → (new : Coming) → ((events : List Event) (h : Tag) (n : Name) → UpTo h last → to_come events new h n ≡ to_come events old h n ++ filter_map (arrival program o row.tag value h n) targets) → AreCarried program test u row.tag last (count + 1) start new rest
+    pub carried_now : (lists : List (List ℕ)) → AreChannelsTo program test false lists → (targets : List ℕ) → slice_get lists o ≡ Some targets → (value : Value) → value_at row.tag w ≡ Some value → (new : Coming) → ((events : List Event) (h : Tag) (n : Name) → UpTo h last → to_come events new h n ≡ to_come events old h n ++ filter_map (arrival program o row.tag value h n) targets) → AreCarried program test u row.tag last (count + 1) start new rest
     carried_now lists channels targets list value some new put = stepped new (λ events h a up. put events h (Action a) up ∙ ap (λ (vs : List Value). to_come events old h (Action a) ++ vs) (no_action program o row.tag value targets h a) ∙ append-nil (to_come events old h (Action a))) (λ p n events h up. put events h (Port p) up ∙ ap (λ (vs : List Value). to_come events old h (Port p) ++ vs) (no_other program o row.tag value targets h p n) ∙ append-nil (to_come events old h (Port p))) (λ p k q. own p k q)
       where
         listed : (p : ℕ) → test p ≡ true → origin_of program p ≡ o → (z : Bool) → is_undelayed program p ≡ z → Contains targets p ⊎ (is_undelayed program p ≡ true)

@@ -16,6 +16,7 @@ use Rattle.lft_queue.specs.Pending.{same_key}
 use Rattle.lft_queue.specs.Reading.{is_read}
 use Rattle.lft_coming.specs.AtOnce.{is_undelayed, origin_of}
 use Rattle.lft_coming.specs.Coming.{to_come, IsClear, IsNoLater}
+use Rattle.lft_coming.specs.declared.channels.Channels.{Channels}
 use Rattle.lft_coming.specs.declared.coming.Coming.{Coming}
 use Rattle.lft_coming.specs.declared.writes.Written.{Written}
 use Rattle.lft_coming.specs.Lanes.{held, made}
@@ -34,14 +35,15 @@ arrives_at program g p = unwrap_or (option_map (λ x. shifted g (x.shift.time, x
 abbrev pub arrival : Parts → ℕ → Tag → Value → Tag → Name → ℕ → Option Value
 arrival program o g v h n p = cond (is_behind program o p && same_key (arrives_at program g p) (Port p) h n) (Some v) None
 
--- the list of each origin has all ports that pass the test and lie behind a delay of it
-pub record AreChannelsTo (program : Parts) (test : ℕ → Bool) (lists : List (List ℕ)) : Type 0 where
+-- the list of each origin has all ports of it that pass the test and are reached without a delay, or all that pass it and lie behind one
+pub record AreChannelsTo (program : Parts) (test : ℕ → Bool) (at_once : Bool) (lists : List (List ℕ)) : Type 0 where
   pub as_long : length lists ≡ length program.ports
-  pub each : (p : ℕ) (port : PortOf) (list : List ℕ) → test p ≡ true → slice_get program.ports p ≡ Some port → is_undelayed program p ≡ false → slice_get lists port.origin ≡ Some list → Contains list p
+  pub each : (p : ℕ) (port : PortOf) (list : List ℕ) → test p ≡ true → slice_get program.ports p ≡ Some port → is_undelayed program p ≡ at_once → slice_get lists port.origin ≡ Some list → Contains list p
 
--- the list of each origin has all ports that lie behind a delay of it and that some reaction reads
-abbrev pub AreReadChannels : Parts → List (List ℕ) → Type 0
-AreReadChannels program lists = AreChannelsTo program (is_read program) lists
+-- the lists of each origin have all ports of it that some reaction reads
+pub record AreReadChannels (program : Parts) (channels : Channels) : Type 0 where
+  pub at_once : AreChannelsTo program (is_read program) true channels.at_once
+  pub delayed : AreChannelsTo program (is_read program) false channels.delayed
 
 -- the event that the rows u at g make of a port: one, of its origin's last write
 abbrev pub carried_to : Parts → List Row → Tag → ℕ → List (Tag × Value)

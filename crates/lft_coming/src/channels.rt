@@ -1,6 +1,6 @@
 //! The ports behind delays, and the events that writes carry to them.
 
-ghost use Rattle.std.specs.Prelude.{◌≡◌, ◌+◌, ◌<◌, ◌++◌, ℕ, Bool, true, false, List, IfOk, IsTrue, length, filter_map, slice_get, Some};
+ghost use Rattle.std.specs.Prelude.{◌≡◌, ◌≢◌, ◌+◌, ◌<◌, ◌++◌, ℕ, Bool, true, false, List, IfOk, IsTrue, length, filter_map, slice_get, Some};
 ghost use Rattle.lft_tag.specs.declared.Tag.{Tag as TheTag};
 ghost use Rattle.lft_tag.specs.Tags.{IsRecorded, Before, UpTo, after};
 ghost use Rattle.lft_flat.specs.declared.parts.Name.{Name as TheName};
@@ -27,36 +27,70 @@ use lft_steps::{Row, row_at};
 use lft_tag::{NoMemory, Tag};
 use std::alloc::Global;
 
-/// Whether the port is marked and lies behind a delay.
-fn is_channel(program: &Program, marked: &[bool], number: u32) -> bool
-    requires marked { number < length marked.now }
-    requires port { number < length program.now.ports }
-    ensures { result ≡ false → slice_get marked.now number ≡ Some true → is_reached program.now number ≡ true }
-{
-    item_at(marked, number as usize) && !is_undelayed(program, number)
+/// For each port, as an origin, the ports of it that some reaction reads.
+#[derive(Drop)]
+pub struct Channels {
+    /// Those that are reached without a delay.
+    at_once: NumberLists,
+    /// Those behind one.
+    delayed: NumberLists,
 }
 
-/// For each port, as an origin, the marked ports that lie behind a delay of it.
-fn channels_to(alloc: Global, program: &Program, marked: &[bool]) -> Result<NumberLists, NoMemory>
+/// Whether the port is marked, and is reached without a delay or lies behind one, whichever is asked for.
+fn is_channel(program: &Program, marked: &[bool], number: u32, at_once: bool) -> bool
+    requires marked { number < length marked.now }
+    requires port { number < length program.now.ports }
+    ensures { result ≡ false → slice_get marked.now number ≡ Some true → is_reached program.now number ≢ at_once }
+{
+    item_at(marked, number as usize) && is_undelayed(program, number) == at_once
+}
+
+/// For each port, as an origin, the marked ports of it that are reached without a delay, or those that lie
+/// behind one.
+fn channels_to(
+    alloc: Global,
+    program: &Program,
+    marked: &[bool],
+    at_once: bool,
+) -> Result<NumberLists, NoMemory>
     requires { length marked.now ≡ length program.now.ports }
-    ensures { IfOk result (λ lists. (test : ℕ → Bool) → ((p : ℕ) → p < length program.now.ports → slice_get marked.now p ≡ Some (test p)) → AreChannelsTo program.now test lists) }
+    ensures { IfOk result (λ lists. (test : ℕ → Bool) → ((p : ℕ) → p < length program.now.ports → slice_get marked.now p ≡ Some (test p)) → AreChannelsTo program.now test at_once lists) }
 {
     let mut channels = NumberLists::empty(alloc, program.ports())?;
     for number in 0..program.ports() as u32 {
-        if is_channel(program, marked, number) {
+        if is_channel(program, marked, number, at_once) {
             channels.push(program.port(number).origin, number)?;
         }
     }
     Ok(channels)
 }
 
-/// For each port, as an origin, the ports that lie behind a delay of it and that some reaction reads.
-pub fn read_channels_of(alloc: Global, program: &Program) -> Result<NumberLists, NoMemory>
-    ensures { IfOk result (AreReadChannels program.now) }
-{
-    let marked = read_ports(alloc, program)?;
-    let channels = channels_to(alloc, program, marked.as_slice())?;
-    Ok(channels)
+impl Channels {
+    /// Those of each port.
+    pub fn new(alloc: Global, program: &Program) -> Result<Channels, NoMemory>
+        ensures { IfOk result (AreReadChannels program.now) }
+    {
+        let marked = read_ports(alloc, program)?;
+        let at_once = channels_to(alloc, program, marked.as_slice(), true)?;
+        let delayed = channels_to(alloc, program, marked.as_slice(), false)?;
+        Ok(Channels { at_once, delayed })
+    }
+
+    /// The ports that are reached without a delay of the port.
+    pub fn at_once(&self, port: u32) -> &[u32]
+        requires { port < length self.now.at_once }
+        ensures { slice_get self.now.at_once port ≡ Some result.now }
+    {
+        self.at_once.of(port)
+    }
+
+    /// The ports that lie behind a delay of the port.
+    pub fn delayed(&self, port: u32) -> &[u32]
+        requires { port < length self.now.delayed }
+        ensures { slice_get self.now.delayed port ≡ Some result.now }
+    {
+        self.delayed.of(port)
+    }
 }
 
 /// Whether the port lies behind a delay of the origin.
@@ -103,7 +137,7 @@ fn carry(
 fn carry_row(
     coming: &mut Coming,
     writes: &mut Writes,
-    channels: &NumberLists,
+    channels: &Channels,
     program: &Program,
     row: Row,
     last: Tag,
@@ -125,7 +159,7 @@ fn carry_row(
     carry(
         coming,
         program,
-        channels.of(port),
+        channels.delayed(port),
         port,
         row.tag,
         value,
@@ -138,7 +172,7 @@ fn carry_row(
 pub(crate) fn carry_all(
     coming: &mut Coming,
     writes: &mut Writes,
-    channels: &NumberLists,
+    channels: &Channels,
     program: &Program,
     rows: &[Row],
     tag: Tag,

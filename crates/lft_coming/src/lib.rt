@@ -11,7 +11,7 @@ mod unread;
 mod writes;
 
 pub use at_once::is_undelayed;
-pub use channels::read_channels_of;
+pub use channels::Channels;
 pub use coming::Coming;
 pub use listeners::Listeners;
 pub use number_lists::NumberLists;

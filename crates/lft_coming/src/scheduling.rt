@@ -13,9 +13,8 @@ ghost use Rattle.lft_coming.specs.Lanes.{held};
 ghost use Rattle.lft_coming.specs.AtTag.{AreAt};
 ghost use Rattle.lft_coming.specs.Writes.{AreWrites, AreEarlier};
 
-use crate::channels::carry_all;
+use crate::channels::{Channels, carry_all};
 use crate::coming::Coming;
-use crate::number_lists::NumberLists;
 use crate::writes::Writes;
 use lft_flat::Name;
 use lft_model::Plan;
@@ -66,7 +65,7 @@ fn schedule_all(coming: &mut Coming, plan: &Plan, rows: &[Row], last: Tag) -> bo
 pub fn pass_on(
     coming: &mut Coming,
     writes: &mut Writes,
-    channels: &NumberLists,
+    channels: &Channels,
     plan: &Plan,
     rows: &[Row],
     tag: Tag,

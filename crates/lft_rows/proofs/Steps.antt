@@ -1,8 +1,10 @@
 -- One row more, and what the code asks of the open runs.
 use Rattle.std.proofs.Common.{◌≡◌, ℕ, ◌+◌, ◌≤◌, ◌⊎◌, inr, is_some, List, refl, sym, ap, ◌∙◌, subst, Option, Some, None, slice_get, cond, true, false, Bool, ◌==◌, ne_eqb, not}
-use Rattle.std.proofs.lemmas.Bool.{eq-eqb}
+use Rattle.std.proofs.lemmas.Bool.{eq-eqb, false≢true}
 use native.Mathlib.Decide.{ℕ_discrete}
 use Rattle.lft_tag.specs.declared.Tag.{Tag}
+use Rattle.lft_tag.specs.Tags.{same_tag}
+use Rattle.lft_tag.proofs.Order.{same_tag_refl, same_tag_true}
 use Rattle.lft_steps.specs.declared.row.Row.{Row}
 use Rattle.lft_steps.specs.declared.row.Step.{Step}
 use Rattle.lft_steps.specs.declared.row.Step.TheVariants.{Start, End}
@@ -64,6 +66,32 @@ has_open_run t i row runs h o = go (place_of runs row.worker) refl
     go : (p : Option ℕ) → place_of runs row.worker ≡ p → HasOpen t runs row
     go None e = absurd (none_open t i row.worker (subst (λ z. OpenPlace t i i row.worker z) e (h row.worker)) row.tag row.reaction o)
     go (Some s) e = (s, e, open_kept t i row.worker s row.tag row.reaction (at_kept t i i row.worker (place_of runs row.worker) s (h row.worker) e) o)
+
+-- a row that is no start row and breaks no rule is of its worker's open run
+pub is_inside : (t : List Row) (i : ℕ) (row : Row) (runs : OpenRuns) → Holds t i i runs → ¬ (row.step ≡ Start) → ¬ IsOutOfOrder t i row row.step → HasOpen t runs row
+is_inside t i row runs h n kept = go (place_of runs row.worker) refl
+  where
+    -- its run is open, unless that can't be
+    not_closed : ¬ ¬ IsOpen t i row.worker row.tag row.reaction
+    not_closed o = kept (out_inner t i row row.step n o)
+
+    go : (p : Option ℕ) → place_of runs row.worker ≡ p → HasOpen t runs row
+    go None e = absurd (not_closed (none_open t i row.worker (subst (λ z. OpenPlace t i i row.worker z) e (h row.worker)) row.tag row.reaction))
+    go (Some s) e = of_tag (same_tag k.tag row.tag) refl (ℕ_discrete k.reaction row.reaction)
+      where
+        k : OpenPlace t i i row.worker (Some s)
+        k = at_kept t i i row.worker (place_of runs row.worker) s (h row.worker) e
+
+        same : IsOpen t i row.worker row.tag row.reaction → end_row row.worker k.tag k.reaction ≡ end_row row.worker row.tag row.reaction
+        same o = same_start row.worker k.tag row.tag k.reaction row.reaction (sym k.unended.starts ∙ open_kept t i row.worker s row.tag row.reaction k o)
+
+        of_tag : (b : Bool) → same_tag k.tag row.tag ≡ b → Dec (k.reaction ≡ row.reaction) → HasOpen t runs row
+        of_tag false f d = absurd (not_closed (λ o. false≢true (sym f ∙ same_tag_refl k.tag row.tag (ap (λ (z : Row). z.tag) (same o)))))
+        of_tag true f (no m) = absurd (not_closed (λ o. m (ap (λ (z : Row). z.reaction) (same o))))
+        of_tag true f (yes q) = (s, e, k.unended.starts ∙ ap Some (both (same_tag_true k.tag row.tag f) q))
+          where
+            both : k.tag ≡ row.tag → k.reaction ≡ row.reaction → start_row row.worker k.tag k.reaction ≡ start_row row.worker row.tag row.reaction
+            both a b = cc
 
 -- rule 3 at a row that is no start row, by the test
 pub order_inner : (t : List Row) (i : ℕ) (row : Row) (runs : OpenRuns) (b : Bool) → Holds t i i runs → ¬ (row.step ≡ Start) → (b ≡ true → HasOpen t runs row) × (HasOpen t runs row → b ≡ true) → (not b ≡ true → IsOutOfOrder t i row row.step) × (IsOutOfOrder t i row row.step → not b ≡ true)

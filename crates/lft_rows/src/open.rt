@@ -1,8 +1,9 @@
 //! The open run of each worker, by the place of its start row; the last start of each reaction.
 
-ghost use Rattle.std.specs.Prelude.{◌≡◌, ℕ, ◌==◌, ◌<◌, cond, length, Some, None, IfOk, OnOk};
+ghost use Rattle.std.specs.Prelude.{◌≡◌, ℕ, ◌==◌, ◌<◌, cond, length, Option, Some, None, IfOk, OnOk, IsTrue, slice_get};
 ghost use Rattle.lft_rows.specs.Places.{far_place_of, place_of, last_of};
 
+use lft_lists::item_at;
 use lft_tag::{NoMemory, Tag};
 use std::alloc::Global;
 use std::collections::BTreeMap;
@@ -35,12 +36,31 @@ impl FarRuns {
         }
     }
 
+    /// Whether no worker has an open run.
+    fn are_none(&self) -> bool
+        ensures { IsTrue result → (w : ℕ) → far_place_of self.now w ≡ None }
+    {
+        self.places.is_empty()
+    }
+
     /// The worker has no open run now.
     fn end(&mut self, worker: u32)
         ensures { (w : ℕ) → far_place_of self.new w ≡ cond (worker == w) None (far_place_of self.old w) }
     {
         let _place = self.places.remove(&worker);
     }
+}
+
+/// Whether none of the places is there.
+fn are_all_none(places: &[Option<usize>]) -> bool
+    ensures { IsTrue result → (k : ℕ) (place : Option ℕ) → slice_get places.now k ≡ Some place → place ≡ None }
+{
+    for number in 0..places.len() {
+        if item_at(places, number).is_some() {
+            return false;
+        }
+    }
+    true
 }
 
 /// The place of the start row of each worker's open run.
@@ -72,6 +92,13 @@ impl OpenRuns {
             Some(place) => *place,
             None => self.far.of(worker),
         }
+    }
+
+    /// Whether no worker has an open run.
+    pub(crate) fn are_none(&self) -> bool
+        ensures { IsTrue result → (w : ℕ) → place_of self.now w ≡ None }
+    {
+        are_all_none(self.near.as_slice()) && self.far.are_none()
     }
 
     /// The worker's open run is now that of the start row at the place.

@@ -19,7 +19,7 @@ use crate::marks::Marks;
 use crate::open::{LastStarts, OpenRuns};
 use lft_flat::Program;
 use lft_model::{Breach, Plan};
-use lft_steps::{Row, is_end, is_start, row_at};
+use lft_steps::{Row, Step, is_end, is_start, row_at};
 use lft_tag::{NoMemory, Tag};
 use std::alloc::Global;
 
@@ -112,6 +112,10 @@ fn least_open(rows: &[Row], end: usize, runs: &OpenRuns) -> Option<usize>
     requires held { Holds rows.now end (length rows.now) runs.now }
     ensures { FirstUnended rows.now end result }
 {
+    // Mostly no run is open, and there are far fewer workers than rows.
+    if runs.are_none() {
+        return None;
+    }
     for place in 0..end {
         let row = row_at(rows, place);
         if is_start(&row.step) && runs.of(row.worker) == Some(place) {
@@ -203,11 +207,17 @@ impl Known {
         ensures { OnOk result (IsKnown program.now rows.now (place + 1) self.new) }
     {
         let row = row_at(rows, place);
-        self.marks.pass(program, rows, place);
-        close(rows, place, &mut self.runs);
-        if is_start(&row.step) {
-            self.runs.begin(row.worker, place)?;
-            self.starts.begin(row.reaction, row.tag);
+        match row.step {
+            Step::Start => {
+                self.runs.begin(row.worker, place)?;
+                self.starts.begin(row.reaction, row.tag);
+            }
+            Step::Read(_, _) => self.marks.pass(program, rows, place),
+            // The row breaks no rule, so the open run of its worker is its own.
+            Step::End => self.runs.end(row.worker),
+            Step::Write(_, _) => {}
+            Step::Schedule(_, _, _) => {}
+            Step::Stop => {}
         }
         self.last = row.tag;
         Ok(())

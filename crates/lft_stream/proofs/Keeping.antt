@@ -412,8 +412,8 @@ module _ (plan : PlanParts) (done rows : List Row) (s : Slice) (slice : IsSlice 
   own_ran r o = ran_whole plan so_far own s.tag (λ x m. let i = get_mem x so_far m in own_before i.0 x i.1) r (ran_part rows s slice r o)
 
   -- the rows of the slice are at hand
-  pub at_hand : IsSound plan.program → (hand : Stream) → IsReached plan.externals.events old.listeners s.tag old.coming hand.coming → hand.stop ≡ earliest old.stop (requests own) → hand.dues ≡ old.dues → hand.writes ≡ old.writes → hand.starts ≡ old.starts → hand.listeners ≡ old.listeners → IsAtHand plan so_far rows s hand
-  at_hand good hand reached stops dues writes starts listeners = record {
+  pub at_hand : IsSound plan.program → (hand : Stream) → IsReached plan.externals.events old.listeners s.tag old.coming hand.coming → hand.stop ≡ earliest old.stop (requests own) → hand.dues ≡ old.dues → hand.writes ≡ old.writes → hand.starts ≡ old.starts → hand.listeners ≡ old.listeners → hand.channels ≡ old.channels → IsAtHand plan so_far rows s hand
+  at_hand good hand reached stops dues writes starts listeners channels = record {
     earlier = own_before;
     ran = own_ran;
     stop_is = stops ∙ stop_now plan so_far own s.tag old is first.0 first.1 (are_at rows s slice) later reach own_kept;
@@ -421,6 +421,7 @@ module _ (plan : PlanParts) (done rows : List Row) (s : Slice) (slice : IsSlice 
     writes = rw writes (earlier_on plan.program (low_of old.tag) s.tag old.writes (passed plan so_far own s.tag old is first.0 first.1 (are_at rows s slice) later reach own_kept old.tag later) is.writes);
     starts = rw starts (record { as_long = is.starts.as_long; each = λ r g e. ran_grows so_far own g r (is.starts.each r g e) });
     listeners = rw listeners is.listeners;
+    channels = rw channels is.channels;
     queued = shows plan so_far own s.tag old is first.0 first.1 (are_at rows s slice) later reach own_kept good hand.coming reached;
   }
 

@@ -101,6 +101,7 @@ pub record IsAtHand (plan : PlanParts) (done rows : List Row) (s : Slice) (strea
   pub writes : AreEarlier plan.program s.tag stream.writes
   pub starts : AreStartTags plan.program (done ++ slice_range rows s.first s.end) stream.starts
   pub listeners : AreListeners plan stream.listeners
+  pub channels : AreReadChannels plan.program stream.channels
   pub queued : (n : Name) → HasEvents plan.program n → IsAwaited plan.program n → Shows plan (done ++ slice_range rows s.first s.end) s.tag n (value_of s.tag n stream.coming.queue)
 
 -- the runs of the slice are triggered and read what is present, the ports that it writes and the events of the queue at its tag are heard, and what is kept is right for the slice too

@@ -3,15 +3,16 @@
 ghost use Rattle.std.specs.Prelude.{◌≡◌, length};
 ghost use Rattle.lft_steps.specs.Fits.{RowFits, RowsFit};
 
-use lft_coming::{Listeners, NumberLists, written_port};
+use crate::presence::Presence;
+use lft_coming::{Channels, Listeners, written_port};
 use lft_flat::Program;
 use lft_steps::{Row, is_start, row_at};
 
-/// So many triggers, uses, listeners and ports behind delays may be looked at for each row. Most programs
-/// need a few. One whose runs have hundreds of inputs is judged sooner with an index of what the rows cause.
+/// So many inputs, listeners and ports behind delays may be looked at for each row. Most programs need a few.
+/// One in whose runs hundreds are looked at is judged sooner with an index of what the rows cause.
 const PER_ROW: u64 = 16;
 
-/// So many more may be looked at, so that a reaction with many inputs may run once or twice.
+/// So many more may be looked at, so that much may be present once or twice.
 const FIRST: u64 = 1024;
 
 /// So many events may wait at once, which is some 25 MB. A program whose delays keep more on their way is
@@ -26,19 +27,23 @@ pub(crate) struct Effort {
 }
 
 /// How many of them are looked at for a row.
-fn cost_of(program: &Program, listeners: &Listeners, channels: &NumberLists, row: Row) -> usize
+fn cost_of(
+    program: &Program,
+    presence: &Presence,
+    listeners: &Listeners,
+    channels: &Channels,
+    row: Row,
+) -> usize
     requires fits { RowFits program.now row }
     requires ports { length listeners.now.ports ≡ length program.now.ports }
-    requires channels { length channels.now ≡ length program.now.ports }
+    requires channels { length channels.now.delayed ≡ length program.now.ports }
 {
     if is_start(&row.step) {
-        let reaction = program.reaction(row.reaction);
-        let uses = reaction.uses.as_slice().len();
-        return reaction.triggers.as_slice().len().saturating_add(uses);
+        return presence.cost(program, row.reaction);
     }
     match written_port(&row.step) {
         Some((port, _)) => {
-            let targets = channels.of(port).len();
+            let targets = channels.delayed(port).len();
             listeners.of(port).len().saturating_add(targets)
         }
         None => 0,
@@ -69,20 +74,21 @@ impl Effort {
     pub(crate) fn allows(
         &mut self,
         program: &Program,
+        presence: &Presence,
         listeners: &Listeners,
-        channels: &NumberLists,
+        channels: &Channels,
         rows: &[Row],
     ) -> bool
         requires fit { RowsFit program.now rows.now }
         requires ports { length listeners.now.ports ≡ length program.now.ports }
-        requires channels { length channels.now ≡ length program.now.ports }
+        requires channels { length channels.now.delayed ≡ length program.now.ports }
     {
         let Some(most) = self.left else {
             return true;
         };
         let mut left = most;
         for place in 0..rows.len() {
-            let cost = cost_of(program, listeners, channels, row_at(rows, place));
+            let cost = cost_of(program, presence, listeners, channels, row_at(rows, place));
             match left.saturating_add(PER_ROW).checked_sub(cost as u64) {
                 Some(rest) => left = rest,
                 None => return false,

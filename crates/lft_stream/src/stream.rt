@@ -18,9 +18,10 @@ use crate::dues::Dues;
 use crate::effort::Effort;
 use crate::hearing::is_all_heard;
 use crate::order::Order;
+use crate::presence::Presence;
 use crate::reads::{have_read, is_woken};
 use crate::start_tags::StartTags;
-use lft_coming::{Coming, Listeners, NumberLists, Unread, Writes, pass_on, read_channels_of};
+use lft_coming::{Channels, Coming, Listeners, Unread, Writes, pass_on};
 use lft_flat::Program;
 use lft_model::Plan;
 use lft_rows::{Marks, Slice};
@@ -48,11 +49,11 @@ pub(crate) struct Stream {
     starts: StartTags,
     writes: Writes,
     listeners: Listeners,
-    /// For each port, as an origin, the ports that lie behind a delay of it and that some reaction reads.
-    channels: NumberLists,
+    channels: Channels,
     coming: Coming,
     unread: Unread,
     effort: Effort,
+    presence: Presence,
 }
 
 /// The earlier of two tags.
@@ -118,19 +119,23 @@ fn is_triggered(
     dues: &mut Dues,
     writes: &Writes,
     coming: &Coming,
+    marks: &Marks,
+    presence: &Presence,
     plan: &Plan,
     reaction: u32,
     tag: Tag,
     last: Tag,
 ) -> bool
     requires reaction { reaction < length plan.now.program.reactions }
+    requires laid { IsLaid plan.now.program marks.now }
     requires long { length writes.now ≡ length plan.now.program.ports }
     requires dues { (t : List TheRow) × AreDues plan.now t dues.old }
     ensures dues { (t : List TheRow) → last ≡ stop plan.now t → Ran t tag reaction → AreDues plan.now t dues.old → AreDues plan.now t dues.new }
     ensures triggered { IsTrue result → (d u : List TheRow) → last ≡ stop plan.now (d ++ u) → Ran (d ++ u) tag reaction → AreShown plan.now d u tag writes.now coming.now.queue → AreDues plan.now (d ++ u) dues.old → Triggered plan.now (d ++ u) tag reaction }
 {
     // The dues go on wherever the reaction has a run, so they are asked first.
-    dues.run(plan, reaction, tag, last) || is_woken(writes, coming, plan, tag, reaction)
+    dues.run(plan, reaction, tag, last)
+        || is_woken(writes, coming, marks, presence, plan, tag, reaction)
 }
 
 /// Whether each reaction that starts in the slice is triggered there, where the stop is the last. What
@@ -139,6 +144,8 @@ fn are_triggered(
     dues: &mut Dues,
     writes: &Writes,
     coming: &Coming,
+    marks: &Marks,
+    presence: &Presence,
     plan: &Plan,
     rows: &[Row],
     slice: Slice,
@@ -146,6 +153,7 @@ fn are_triggered(
 ) -> bool
     requires fit { RowsFit plan.now.program rows.now }
     requires slice { IsSlice rows.now slice }
+    requires laid { IsLaid plan.now.program marks.now }
     requires long { length writes.now ≡ length plan.now.program.ports }
     requires dues { (t : List TheRow) × AreDuesAt plan.now t rows.now slice.tag last dues.old }
     ensures dues { (t : List TheRow) → AreDuesAt plan.now t rows.now slice.tag last dues.old → AreDues plan.now t dues.new }
@@ -154,7 +162,17 @@ fn are_triggered(
     for place in slice.first..slice.end {
         let row = row_at(rows, place);
         if is_start(&row.step)
-            && !is_triggered(dues, writes, coming, plan, row.reaction, slice.tag, last)
+            && !is_triggered(
+                dues,
+                writes,
+                coming,
+                marks,
+                presence,
+                plan,
+                row.reaction,
+                slice.tag,
+                last,
+            )
         {
             return false;
         }
@@ -177,10 +195,11 @@ impl Stream {
             starts: StartTags::new(alloc, program)?,
             writes: Writes::new(alloc, program)?,
             listeners: Listeners::new(alloc, plan)?,
-            channels: read_channels_of(alloc, program)?,
+            channels: Channels::new(alloc, program)?,
             coming: Coming::new(alloc, effort.most_events()),
             unread: Unread::new(alloc, program)?,
             effort,
+            presence: Presence::new(alloc, program),
         })
     }
 
@@ -240,18 +259,38 @@ impl Stream {
         let program = plan.program();
         let own = &rows[slice.first..slice.end];
         let stop = self.stop;
+        self.presence
+            .find(plan, &self.channels, &self.coming, own, slice.tag);
+        if !self.effort.allows(
+            program,
+            &self.presence,
+            &self.listeners,
+            &self.channels,
+            own,
+        ) {
+            return false;
+        }
         self.writes.pass_all(program, own, slice.tag);
         self.starts.pass_all(program, rows, slice);
         if !are_triggered(
             &mut self.dues,
             &self.writes,
             &self.coming,
+            marks,
+            &self.presence,
             plan,
             rows,
             slice,
             stop,
-        ) || !have_read(&self.writes, &self.coming, marks, plan, rows, slice)
-        {
+        ) || !have_read(
+            &self.writes,
+            &self.coming,
+            marks,
+            &self.presence,
+            plan,
+            rows,
+            slice,
+        ) {
             return false;
         }
         is_all_heard(
@@ -287,9 +326,6 @@ impl Stream {
         let program = plan.program();
         let own = &rows[slice.first..slice.end];
         if !self.may_reach(slice.tag)
-            || !self
-                .effort
-                .allows(program, &self.listeners, &self.channels, own)
             || !order.is_kept(plan, own)
             || !self
                 .coming

@@ -36,7 +36,7 @@ returns-clause-carried c = λ z u count start h up clear is are.
     let there : o < length program.ports = subst (λ (s : Step). StepFits program s) c.in-Some.ensures c.requires.fits.step in
     let within : o < length writes = let a = c.requires.ports in omega arith in
     let w = get_there writes o within in
-    subst (λ (ws : List (Option Written)). AreCarried program (is_read program) u row.tag h (count + 1) start c.carry.new.coming ws) (sym c.take.ensures.taken) (carried_now program (is_read program) u count row is start old writes h are o c.in-Some.field-0-1 c.in-Some.ensures within w.0 w.1 c.args.channels.now c.requires.channels c.of.result.now c.of.ensures c.in-Some-take.value (sym (c.in-Some-take.ensures.value w.0 w.1)) c.carry.new.coming (λ events k n below. c.carry.ensures.put z events k n (UpTo-trans k h c.args.last below up) (clear_up c.carry.new.coming.clash k h below clear)))
+    subst (λ (ws : List (Option Written)). AreCarried program (is_read program) u row.tag h (count + 1) start c.carry.new.coming ws) (sym c.take.ensures.taken) (carried_now program (is_read program) u count row is start old writes h are o c.in-Some.field-0-1 c.in-Some.ensures within w.0 w.1 c.args.channels.now.delayed c.requires.channels.delayed c.delayed.result.now c.delayed.ensures c.in-Some-take.value (sym (c.in-Some-take.ensures.value w.0 w.1)) c.carry.new.coming (λ events k n below. c.carry.ensures.put z events k n (UpTo-trans k h c.args.last below up) (clear_up c.carry.new.coming.clash k h below clear)))
 
 pub returns-in_default-clause-fewer : goal.returns-in_default-clause-fewer
 returns-in_default-clause-fewer c = fewer_same c.args.writes.now

@@ -1,5 +1,5 @@
 use Rattle.std.proofs.Common.{◌≡◌, ◌<◌, inl, inr, ℕ, length, Some, Contains, slice_get, sym, ap, ◌∙◌, subst, arith}
-use Rattle.std.proofs.lemmas.Bool.{cases_eq, false≢true}
+use Rattle.std.proofs.lemmas.Bool.{cases_eq}
 use Rattle.lft_flat.specs.declared.parts.Port.{Port as PortOf}
 use Rattle.lft_flat.proofs.Origins.{origin_inside}
 use Rattle.lft_lists.proofs.Places.{same_at}
@@ -36,7 +36,7 @@ loop-number-preserved c = elim c.if-is_channel.branch [
       rw w.channels-is (record {
         as_long = c.loop-number.invariant.as_long;
         each = λ p port list l m e f h. elim (cases_eq p c.loop-number.number) [
-          | inl q ↦ absurd (false≢true (sym f ∙ ap (λ (k : ℕ). is_undelayed c.args.program.now k) q ∙ c.is_channel.ensures w.if-is_channel.false (ap (λ (k : ℕ). slice_get c.args.marked.now k) (sym q) ∙ m)))
+          | inl q ↦ absurd (c.is_channel.ensures w.if-is_channel.false (ap (λ (k : ℕ). slice_get c.args.marked.now k) (sym q) ∙ m) (ap (λ (k : ℕ). is_undelayed c.args.program.now k) (sym q) ∙ f))
           | inr d ↦ c.loop-number.invariant.each p port list (omega (arith, l, d)) m e f h
         ];
       })

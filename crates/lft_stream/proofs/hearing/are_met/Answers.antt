@@ -5,19 +5,11 @@ use Rattle.lft_lists.proofs.Places.{same_some}
 use Rattle.lft_flat.specs.declared.parts.Name.{Name}
 use Rattle.lft_steps.specs.declared.row.Row.{Row}
 use Rattle.lft_coming.specs.Listeners.{list_of, AreStarted}
+use Rattle.lft_stream.proofs.Meeting.{first_done}
 use Rattle.lft_stream.proofs.hearing.are_met.Goals as goal
 
 pub loop-name-init : goal.loop-name-init
 loop-name-init c = λ whole starts n m. inr m
-
--- the first name is done with
-first_done : (P : Name → Type 0) (n : Name) (ns rest : List Name) (m : Name) → ns ≡ n ∷ rest → P n → P m ⊎ Mem m ns → P m ⊎ Mem m rest
-first_done P n ns rest m steps here (inl p) = inl p
-first_done P n ns rest m steps here (inr k) = go (subst (λ (xs : List Name). Mem m xs) steps k)
-  where
-    go : Mem m (n ∷ rest) → P m ⊎ Mem m rest
-    go (inl e) = inl (subst P e here)
-    go (inr q) = inr q
 
 pub loop-name-preserved : goal.loop-name-preserved
 loop-name-preserved c = λ whole starts n m.

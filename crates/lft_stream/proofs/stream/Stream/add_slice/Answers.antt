@@ -25,8 +25,11 @@ judge_slice-requires c =
     let slice = c.requires.slice in
     let reached = subst (λ (x : ExternalInputs). IsReached x.events c.args.self.now.listeners s.tag c.args.self.now.coming c.reach.new.self) c.externals.ensures.value (c.if-not-reach.ensures refl) in
     let done = c.requires.stands.0 in
-    let hand = at_hand plan done rows s slice c.args.self.now c.requires.stands.1 (c.if-not-may_reach.ensures.later refl) (c.if-not-may_reach.ensures.in_time refl) c.requires.kept c.program-program.ensures.sound.sound (record { stop = c.stop_behind-self.result; tag = c.args.self.now.tag; runs = c.args.self.now.runs; tags = c.args.self.now.tags; dues = c.args.self.now.dues; starts = c.args.self.now.starts; writes = c.args.self.now.writes; listeners = c.args.self.now.listeners; channels = c.args.self.now.channels; coming = c.reach.new.self; unread = c.args.self.now.unread; effort = c.allows.new.self }) reached c.stop_behind-self.ensures refl refl refl refl in
+    let hand = at_hand plan done rows s slice c.args.self.now c.requires.stands.1 (c.if-not-may_reach.ensures.later refl) (c.if-not-may_reach.ensures.in_time refl) c.requires.kept c.program-program.ensures.sound.sound (record { stop = c.stop_behind-self.result; tag = c.args.self.now.tag; runs = c.args.self.now.runs; tags = c.args.self.now.tags; dues = c.args.self.now.dues; starts = c.args.self.now.starts; writes = c.args.self.now.writes; listeners = c.args.self.now.listeners; channels = c.args.self.now.channels; coming = c.reach.new.self; unread = c.args.self.now.unread; effort = c.args.self.now.effort; presence = c.args.self.now.presence }) reached c.stop_behind-self.ensures refl refl refl refl refl in
     record { fit = c.requires.fit; slice = slice; marks = subst (λ (p : Parts). AreMarks p rows s.first s.end c.pass_all.new.self) c.program-program.ensures.value c.pass_all.ensures; hand = (done ++ take s.first rows, hand) }
+
+pub stop_behind-self-requires : goal.stop_behind-self-requires
+stop_behind-self-requires c = subst (λ (p : Parts). RowsFit p (rows_of c.args.rows.now c.args.slice c.requires.slice)) (sym c.program-program.ensures.value) (part_fits c.args.rows.now c.args.slice c.requires.slice c.args.plan.now.program c.requires.fit)
 
 pub pass_all-met-requires-clause-fit : goal.pass_all-met-requires-clause-fit
 pass_all-met-requires-clause-fit c = subst (λ (p : Parts). RowsFit p (rows_of c.args.rows.now c.args.slice c.requires.slice)) (sym c.program-program.ensures.value) (part_fits c.args.rows.now c.args.slice c.requires.slice c.args.plan.now.program c.requires.fit)
@@ -50,7 +53,7 @@ pass_on-requires-clause-writes c =
     let done = c.requires.stands.0 in
     let stands = c.requires.stands.1 in
     let reached = subst (λ (x : ExternalInputs). IsReached x.events old.listeners s.tag old.coming c.reach.new.self) c.externals.ensures.value (c.if-not-reach.ensures refl) in
-    let hand = at_hand plan done rows s slice old stands (c.if-not-may_reach.ensures.later refl) (c.if-not-may_reach.ensures.in_time refl) c.requires.kept c.program-program.ensures.sound.sound (record { stop = c.stop_behind-self.result; tag = old.tag; runs = old.runs; tags = old.tags; dues = old.dues; starts = old.starts; writes = old.writes; listeners = old.listeners; channels = old.channels; coming = c.reach.new.self; unread = old.unread; effort = c.allows.new.self }) reached c.stop_behind-self.ensures refl refl refl refl in
+    let hand = at_hand plan done rows s slice old stands (c.if-not-may_reach.ensures.later refl) (c.if-not-may_reach.ensures.in_time refl) c.requires.kept c.program-program.ensures.sound.sound (record { stop = c.stop_behind-self.result; tag = old.tag; runs = old.runs; tags = old.tags; dues = old.dues; starts = old.starts; writes = old.writes; listeners = old.listeners; channels = old.channels; coming = c.reach.new.self; unread = old.unread; effort = c.args.self.now.effort; presence = c.args.self.now.presence }) reached c.stop_behind-self.ensures refl refl refl refl refl in
     (c.if-not-judge_slice.ensures.judged refl (done ++ take s.first rows) hand).writes
 
 pub returns-then-pass_on-clause-stands : goal.returns-then-pass_on-clause-stands
@@ -68,7 +71,7 @@ returns-then-pass_on-clause-stands c = λ z d stands.
     let own_rules = own_kept plan d rows s slice old stands later reach kept in
     let ordered = c.if-not-is_kept.ensures.kept refl own_rules.0 own_rules.1 s.tag in
     let reached = subst (λ (x : ExternalInputs). IsReached x.events old.listeners s.tag old.coming c.reach.new.self) c.externals.ensures.value (c.if-not-reach.ensures refl) in
-    let hand = at_hand plan d rows s slice old stands later reach kept c.program-program.ensures.sound.sound (record { stop = c.stop_behind-self.result; tag = old.tag; runs = old.runs; tags = old.tags; dues = old.dues; starts = old.starts; writes = old.writes; listeners = old.listeners; channels = old.channels; coming = c.reach.new.self; unread = old.unread; effort = c.allows.new.self }) reached c.stop_behind-self.ensures refl refl refl refl in
+    let hand = at_hand plan d rows s slice old stands later reach kept c.program-program.ensures.sound.sound (record { stop = c.stop_behind-self.result; tag = old.tag; runs = old.runs; tags = old.tags; dues = old.dues; starts = old.starts; writes = old.writes; listeners = old.listeners; channels = old.channels; coming = c.reach.new.self; unread = old.unread; effort = c.args.self.now.effort; presence = c.args.self.now.presence }) reached c.stop_behind-self.ensures refl refl refl refl refl in
     let own = c.judge_slice.ensures in
     let caused = c.if-pass_on.ensures in
     let counted = c.count.ensures in

@@ -26,7 +26,7 @@ returns-clause-judged c = λ z done hand.
     let starts = subst (λ (p : Parts). AreStartTags p t c.pass_all-2.new.self) is (c.pass_all-2.ensures.starts t hand.ran (subst (λ (p : Parts). AreStartTags p t c.args.self.now.starts) (sym is) hand.starts)) in
     record {
       triggered = c.if-not-are_triggered.ensures.triggered refl done own at shown;
-      reads = c.if-not-have_read.ensures refl done own shown;
+      reads = c.if-not-have_read.ensures refl done own shown c.find.ensures;
       heard = c.is_all_heard.ensures.heard z t starts;
       dues = c.if-not-are_triggered.ensures.dues t at;
       writes = written;

@@ -8,7 +8,7 @@ use Rattle.lft_lists.proofs.Members.{Mem, mem_get, mem_left}
 use Rattle.lft_coming.specs.AtOnce.{IsAwaited}
 use Rattle.lft_coming.proofs.AtOnce.{input_awaited}
 use Rattle.lft_stream.proofs.Present.{woken}
-use Rattle.lft_stream.proofs.reads.is_woken.Goals as goal
+use Rattle.lft_stream.proofs.reads.is_woken_by_any.Goals as goal
 
 pub shown-requires : goal.shown-requires
 shown-requires c =
