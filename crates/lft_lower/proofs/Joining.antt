@@ -67,7 +67,7 @@ joined_low zero right k less = absurd (omega (arith, less))
 joined_low (suc l) right k less = subst (λ n. k < n) (joined_wide l right) less
 
 -- which place on the left stands for a pair
-same_source : (left right pairs k : ℕ) (b : Bool) → pairs ≡ joined left right b → k < pairs → source (min (min pairs left) left) true k ≡ source left b k
+pub same_source : (left right pairs k : ℕ) (b : Bool) → pairs ≡ joined left right b → k < pairs → source (min (min pairs left) left) true k ≡ source left b k
 same_source left right pairs k false all less =
     let few : min (min pairs left) left ≡ pairs = omega (arith, all) in
     ap (λ m. k % m) few ∙ mod-eq_of_lt less
@@ -85,7 +85,7 @@ same_source (suc l) right pairs k true all less =
     ]
 
 -- so many are joined of the cut lists
-same_joined : (left right pairs : ℕ) (b : Bool) → pairs ≡ joined left right b → joined (min (min pairs left) left) (min pairs right) true ≡ pairs
+pub same_joined : (left right pairs : ℕ) (b : Bool) → pairs ≡ joined left right b → joined (min (min pairs left) left) (min pairs right) true ≡ pairs
 same_joined left right zero b all = ap (λ l. joined l (min 0 right) true) (let empty : min (min 0 left) left ≡ 0 = omega arith in empty)
 same_joined zero right (suc p) false all = absurd (omega (arith, all))
 same_joined zero right (suc p) true all = absurd (omega (arith, all))

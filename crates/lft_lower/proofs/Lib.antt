@@ -4,6 +4,7 @@ mod Joining
 mod Named
 mod Names
 mod Needing
+mod Pairing
 mod Refusing
 mod Standing
 mod Turns

@@ -13,7 +13,6 @@ use Rattle.lft_whole.specs.declared.tree.Effect.TheVariants as effects
 use Rattle.lft_whole.specs.declared.tree.Expression.{Expression}
 use Rattle.lft_whole.specs.declared.tree.Member.{Member}
 use Rattle.lft_whole.specs.declared.tree.Member.TheVariants as member
-use Rattle.lft_whole.specs.declared.tree.Port.{Port}
 use Rattle.lft_whole.specs.declared.tree.Reaction.{Reaction}
 use Rattle.lft_whole.specs.declared.tree.Timer.{Timer}
 use Rattle.lft_whole.specs.declared.tree.Trigger.{Trigger}

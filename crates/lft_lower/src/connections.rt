@@ -1,6 +1,6 @@
 //! What a connection becomes.
 
-ghost use Rattle.std.specs.Prelude.{◌≡◌, ◌⊎◌, IfErr, IfOk, IsTrue, OnOk, false, option_map, true};
+ghost use Rattle.std.specs.Prelude.{◌≡◌, ◌⊎◌, ◌∷◌, IfErr, IfOk, IsTrue, OnOk, false, option_map, true};
 ghost use Rattle.lft_tree.specs.ItemView.{connection_view, ref_view, ref_views, time_view};
 ghost use Rattle.lft_lowering.specs.Lowered.{single};
 ghost use Rattle.lft_meanings.specs.Meanings.{all_places, here, token_in};
@@ -8,7 +8,9 @@ ghost use Rattle.lft_sources.specs.declared.stop.Stop.TheVariants.{NoMemory};
 ghost use Rattle.lft_meanings.specs.Refused.{IfRefused, IsOfOne, IsPassed};
 ghost use Rattle.lft_lower.specs.Lowered.{Adds, AreConnected, AreEach, AreSides, IsRead, MeanSides, time_at};
 ghost use Rattle.lft_lower.specs.Refused.{IsOfConnection, IsOfSides};
-ghost use Rattle.lft_lower.specs.Standing.{AddsAt};
+ghost use Rattle.lft_meanings.specs.Standing.{all_tokens, ref_tokens};
+ghost use Rattle.lft_lower.specs.Standing.{AddsAt, AreSidesAt, pairs_tokens, parts_at, time_tokens, written_tokens};
+ghost use Rattle.lft_tree.specs.declared.tree.Member.TheVariants as kinds;
 
 use crate::copies::{copied_reference, copied_time};
 use crate::times::{bytes_of, maybe_time};
@@ -109,6 +111,7 @@ fn connected(
 ) -> Result<Connection, Stop>
     ensures made { IfOk result (λ made. connection_view made ≡ single (option_map time_view delay.now) (ref_view from.now) (ref_view to.now)) }
     ensures arrow { IfOk result (λ made. made.arrow ≡ arrow) }
+    ensures parts { IfOk result (λ made. parts_at (kinds.Connection made) ≡ from.now.at ∷ to.now.at ∷ time_tokens delay.now) }
     ensures cause { IfErr result (λ stop. stop ≡ NoMemory) }
 {
     let mut sources = Vec::new(alloc);
@@ -136,7 +139,7 @@ fn push_pairs(
     list: &mut Vec<Member>,
 ) -> Result<(), Stop>
     ensures made { OnOk result (Adds list.old.items list.new.items (AreEach (ref_views sources.now) (ref_views destinations.now) true (option_map time_view delay.now))) }
-    ensures at { OnOk result (AddsAt list.old.items list.new.items arrow) }
+    ensures at { OnOk result (AddsAt list.old.items list.new.items arrow (λ parts. parts ≡ pairs_tokens (ref_tokens sources.now) (ref_tokens destinations.now) true (time_tokens delay.now))) }
     ensures cause { IfErr result (IfRefused (IsPassed work.now.main)) }
 {
     let right = destinations.len();
@@ -167,7 +170,7 @@ fn push_sides(
 ) -> Result<(), Stop>
     requires { AreSides (here within) connection.now sides }
     ensures made { OnOk result (Adds list.old.items list.new.items (AreConnected (all_places (here within.entry) connection.now.sources.items) (all_places (here within.entry) connection.now.destinations.items) connection.now.is_broadcast (option_map time_view delay))) }
-    ensures at { OnOk result (AddsAt list.old.items list.new.items (token_in within.entry connection.now.arrow)) }
+    ensures at { OnOk result (AddsAt list.old.items list.new.items (token_in within.entry connection.now.arrow) (AreSidesAt (all_tokens (token_in within.entry) (here within.entry) connection.now.sources.items) (all_tokens (token_in within.entry) (here within.entry) connection.now.destinations.items) connection.now.is_broadcast (time_tokens delay))) }
     ensures cause { IfErr result (IfRefused (λ r. IsPassed within.entry.settings.now.work.main r ⊎ IsOfSides (here within.entry) within.entry.file connection.now r)) }
 {
     let arrow = within.token(connection.arrow);
@@ -211,7 +214,7 @@ pub(crate) fn push_connection(
     ensures mean { OnOk result (MeanSides (here within.entry) connection.now) }
     ensures read { OnOk result (IsRead within.entry.shape.now connection.now.delay) }
     ensures joined { OnOk result (Adds list.old.items list.new.items (AreConnected (all_places (here within.entry) connection.now.sources.items) (all_places (here within.entry) connection.now.destinations.items) connection.now.is_broadcast (time_at connection.now.delay))) }
-    ensures at { OnOk result (AddsAt list.old.items list.new.items (token_in within.entry connection.now.arrow)) }
+    ensures at { OnOk result (AddsAt list.old.items list.new.items (token_in within.entry connection.now.arrow) (AreSidesAt (all_tokens (token_in within.entry) (here within.entry) connection.now.sources.items) (all_tokens (token_in within.entry) (here within.entry) connection.now.destinations.items) connection.now.is_broadcast (written_tokens (token_in within.entry) connection.now.delay))) }
     ensures cause { IfErr result (IfRefused (λ r. IsPassed within.entry.settings.now.work.main r ⊎ IsOfConnection (here within.entry) within.entry.file connection.now r)) }
 {
     if connection.is_physical {

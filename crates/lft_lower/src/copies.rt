@@ -1,14 +1,16 @@
 //! Copies of parts of a core tree.
 
-ghost use Rattle.std.specs.Prelude.{◌≡◌, IfOk, map, option_map};
+ghost use Rattle.std.specs.Prelude.{◌≡◌, IfOk, flat_map, map, option_map};
 ghost use Rattle.lft_tree.specs.ItemView.{assignment_view, ref_view, time_view};
+ghost use Rattle.lft_lower.specs.Standing.{given_tokens, time_token, time_tokens};
 
 use lft_tree::{Assignment, Reference, TimeExpression};
 use std::alloc::{AllocError, Global};
 
 /// A copy of a time.
 fn copied(time: &TimeExpression) -> Result<TimeExpression, AllocError>
-    ensures { IfOk result (λ copy. time_view copy ≡ time_view time.now) }
+    ensures copy { IfOk result (λ copy. time_view copy ≡ time_view time.now) }
+    ensures at { IfOk result (λ copy. time_token copy ≡ time_token time.now) }
 {
     match time {
         TimeExpression::Written { time, at } => Ok(TimeExpression::Written {
@@ -26,7 +28,8 @@ fn copied(time: &TimeExpression) -> Result<TimeExpression, AllocError>
 pub(crate) fn copied_time(
     time: &Option<TimeExpression>,
 ) -> Result<Option<TimeExpression>, AllocError>
-    ensures { IfOk result (λ copy. option_map time_view copy ≡ option_map time_view time.now) }
+    ensures copy { IfOk result (λ copy. option_map time_view copy ≡ option_map time_view time.now) }
+    ensures at { IfOk result (λ copy. time_tokens copy ≡ time_tokens time.now) }
 {
     match time {
         Some(time) => Ok(Some(copied(time)?)),
@@ -36,7 +39,8 @@ pub(crate) fn copied_time(
 
 /// A copy of a reference.
 pub(crate) fn copied_reference(reference: &Reference) -> Result<Reference, AllocError>
-    ensures { IfOk result (λ copy. ref_view copy ≡ ref_view reference.now) }
+    ensures copy { IfOk result (λ copy. ref_view copy ≡ ref_view reference.now) }
+    ensures at { IfOk result (λ copy. copy.at ≡ reference.now.at) }
 {
     Ok(Reference {
         head: reference.head.clone()?,
@@ -50,7 +54,8 @@ pub(crate) fn copied_reference(reference: &Reference) -> Result<Reference, Alloc
 
 /// A copy of what a parameter is given.
 fn copied_assignment(assignment: &Assignment) -> Result<Assignment, AllocError>
-    ensures { IfOk result (λ copy. assignment_view copy ≡ assignment_view assignment.now) }
+    ensures copy { IfOk result (λ copy. assignment_view copy ≡ assignment_view assignment.now) }
+    ensures at { IfOk result (λ copy. given_tokens copy ≡ given_tokens assignment.now) }
 {
     Ok(Assignment {
         name: assignment.name.clone()?,
@@ -64,7 +69,8 @@ pub(crate) fn copied_given(
     alloc: Global,
     given: &[Assignment],
 ) -> Result<Vec<Assignment>, AllocError>
-    ensures { IfOk result (λ copies. map assignment_view copies.items ≡ map assignment_view given.now) }
+    ensures copy { IfOk result (λ copies. map assignment_view copies.items ≡ map assignment_view given.now) }
+    ensures at { IfOk result (λ copies. flat_map given_tokens copies.items ≡ flat_map given_tokens given.now) }
 {
     let mut list = Vec::new(alloc);
     for place in 0..given.len() {

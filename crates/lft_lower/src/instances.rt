@@ -1,6 +1,6 @@
 //! What an instance becomes.
 
-ghost use Rattle.std.specs.Prelude.{◌≡◌, ◌<◌, ◌≤◌, ◌++◌, ◌⊎◌, [], Some, false, IfErr, IfOk, OnOk, map, option_map, string_bytes, true};
+ghost use Rattle.std.specs.Prelude.{◌≡◌, ◌<◌, ◌≤◌, ◌++◌, ◌⊎◌, [], ◌∷◌, Some, false, IfErr, IfOk, OnOk, flat_map, map, option_map, string_bytes, true, unwrap_or};
 ghost use Rattle.std.specs.List.{All, cons_option};
 ghost use Rattle.lft_tree.specs.ItemView.{assignment_view, member_views};
 ghost use Rattle.lft_meanings.specs.Meanings.{here, token_in};
@@ -10,7 +10,7 @@ ghost use Rattle.lft_meanings.specs.Refused.{IfRefused, IsOfSome, IsPassed};
 ghost use Rattle.lft_lower.specs.Lowered.{Adds, AreGiven, AreInstances, IsGiven, given_times, instances, reactor_at, time_given};
 ghost use Rattle.lft_lower.specs.Needed.{is_needed, needed_given, needed_in};
 ghost use Rattle.lft_lower.specs.Refused.{IsOfGiven, IsOfInstance};
-ghost use Rattle.lft_lower.specs.Standing.{AddsAt};
+ghost use Rattle.lft_lower.specs.Standing.{AddsAt, given_token, given_tokens, instance_tokens, tokens_of_given};
 
 use crate::copies::copied_given;
 use crate::maker::Maker;
@@ -80,6 +80,7 @@ fn assigned(
     given: Given,
 ) -> Result<Option<Assignment>, Stop>
     ensures made { IfOk result (λ made. option_map assignment_view made ≡ time_given inner.now given.entry) }
+    ensures at { IfOk result (λ made. unwrap_or (option_map given_tokens made) [] ≡ given_token (token_in within.entry) inner.now given.entry) }
     ensures read { OnOk result (IsGiven within.entry.shape.now inner.now given.entry) }
     ensures cause { IfErr result (IfRefused (IsOfGiven within.entry.shape.now within.entry.file inner.now given.entry)) }
 {
@@ -99,7 +100,8 @@ fn assigned(
 
 /// Puts what a parameter is given at the end of a list, if it is given something.
 fn push_given(list: &mut Vec<Assignment>, made: Option<Assignment>) -> Result<(), AllocError>
-    ensures { OnOk result (map assignment_view list.new.items ≡ map assignment_view list.old.items ++ cons_option (option_map assignment_view made) []) }
+    ensures given { OnOk result (map assignment_view list.new.items ≡ map assignment_view list.old.items ++ cons_option (option_map assignment_view made) []) }
+    ensures at { OnOk result (flat_map given_tokens list.new.items ≡ flat_map given_tokens list.old.items ++ unwrap_or (option_map given_tokens made) []) }
 {
     if let Some(assignment) = made {
         list.push(assignment)?;
@@ -115,6 +117,7 @@ fn given_times(
     child: &Child,
 ) -> Result<Vec<Assignment>, Stop>
     ensures given { IfOk result (λ list. map assignment_view list.items ≡ given_times inner.now child.now) }
+    ensures at { IfOk result (λ list. flat_map given_tokens list.items ≡ flat_map (given_token (token_in within.entry) inner.now) child.now.given.items) }
     ensures read { OnOk result (All (IsGiven within.entry.shape.now inner.now) child.now.given.items) }
     ensures cause { IfErr result (IfRefused (IsOfSome (IsOfGiven within.entry.shape.now within.entry.file inner.now) child.now.given.items)) }
 {
@@ -130,6 +133,7 @@ fn given_times(
 /// What an instance gives, where it gives all that it has to.
 fn checked(maker: Maker, within: Within, member: usize, at: usize) -> Result<Vec<Assignment>, Stop>
     ensures given { maker.entry.settings.now ≡ within.entry.settings.now → IfOk result (λ given. AreGiven (here within.entry) member (map assignment_view given.items)) }
+    ensures at { IfOk result (λ given. flat_map given_tokens given.items ≡ tokens_of_given (token_in within.entry) (here within.entry) member) }
     ensures cause { maker.entry.settings.now ≡ within.entry.settings.now → IfErr result (IfRefused (λ r. IsPassed within.entry.settings.now.work.main r ⊎ IsOfInstance (here within.entry) within.entry.file member at r)) }
 {
     let Some(child) = within.shape.child(member) else {
@@ -186,7 +190,7 @@ fn push_each(
 ) -> Result<(), Stop>
     ensures cause { IfErr result (IfRefused (IsPassed work.now.main)) }
     ensures made { OnOk result (member_views list.new.items ≡ member_views list.old.items ++ instances (several members.entry) reactor.now (map assignment_view given.now)) }
-    ensures at { OnOk result (AddsAt list.old.items list.new.items at) }
+    ensures at { OnOk result (AddsAt list.old.items list.new.items at (All (λ tokens. tokens ≡ reactor_at ∷ flat_map given_tokens given.now))) }
 {
     let bytes = reactor.len().saturating_add(bytes_of_given(given));
     for number in 0..members.count() {
@@ -212,7 +216,7 @@ pub(crate) fn push_instances(
     list: &mut Vec<Member>,
 ) -> Result<(), Stop>
     ensures made { maker.entry.settings.now ≡ within.entry.settings.now → OnOk result (Adds list.old.items list.new.items (AreInstances (texts maker.entry.names.now) (here within.entry) member (string_bytes instance.now.name.text))) }
-    ensures at { OnOk result (AddsAt list.old.items list.new.items (token_in within.entry instance.now.name.at)) }
+    ensures at { OnOk result (AddsAt list.old.items list.new.items (token_in within.entry instance.now.name.at) (All (λ tokens. tokens ≡ instance_tokens (token_in within.entry) (here within.entry) member instance.now))) }
     ensures cause { maker.entry.settings.now ≡ within.entry.settings.now → IfErr result (IfRefused (λ r. IsPassed within.entry.settings.now.work.main r ⊎ IsOfInstance (here within.entry) within.entry.file member instance.now.name.at r)) }
 {
     let members = within.named(&instance.name, member);

@@ -11,7 +11,8 @@ ghost use Rattle.lft_sources.specs.declared.stop.Stop.TheVariants.{NoMemory};
 ghost use Rattle.lft_meanings.specs.Refused.{IfRefused, IsOfSome, IsPassed};
 ghost use Rattle.lft_lower.specs.Lowered.{Adds, AreTriggers, IsAsleep, IsReaction, MeansAll, MeansEffect, MeansTrigger, all_triggers, asleep, effect_places, trigger_places};
 ghost use Rattle.lft_lower.specs.Refused.{AreOfTriggers, IsOfEffect, IsOfReaction, IsOfTrigger};
-ghost use Rattle.lft_lower.specs.Standing.{AddsAt};
+ghost use Rattle.lft_meanings.specs.Standing.{ref_tokens};
+ghost use Rattle.lft_lower.specs.Standing.{AddsAt, all_trigger_tokens, reaction_tokens, tokens_of_effect, tokens_of_trigger, trigger_tokens};
 
 use lft_meanings::places::{Within, places, push_places};
 use lft_meanings::room::Room;
@@ -42,6 +43,7 @@ fn never(alloc: Global, within: Within) -> Result<String, Stop>
 /// Puts references at the end of a list of triggers.
 fn push_references(list: &mut Vec<Trigger>, references: Vec<Reference>) -> Result<(), Stop>
     ensures places { OnOk result (map trigger_view list.new.items ≡ map trigger_view list.old.items ++ map OnRef (ref_views references.items)) }
+    ensures at { OnOk result (flat_map trigger_tokens list.new.items ≡ flat_map trigger_tokens list.old.items ++ ref_tokens references.items) }
     ensures cause { IfErr result (λ stop. stop ≡ NoMemory) }
 {
     for reference in references {
@@ -59,6 +61,7 @@ fn push_trigger(
     list: &mut Vec<Trigger>,
 ) -> Result<(), Stop>
     ensures places { OnOk result (map trigger_view list.new.items ≡ map trigger_view list.old.items ++ trigger_places (here within.entry) trigger.now) }
+    ensures at { OnOk result (flat_map trigger_tokens list.new.items ≡ flat_map trigger_tokens list.old.items ++ tokens_of_trigger (token_in within.entry) (here within.entry) trigger.now) }
     ensures means { OnOk result (MeansTrigger (here within.entry) trigger.now) }
     ensures cause { IfErr result (IfRefused (λ r. IsPassed within.entry.settings.now.work.main r ⊎ IsOfTrigger (here within.entry) within.entry.file trigger.now r)) }
 {
@@ -83,6 +86,7 @@ fn triggers(
     reaction: &Written,
 ) -> Result<Vec<Trigger>, Stop>
     ensures places { IfOk result (λ list. map trigger_view list.items ≡ all_triggers (here within.entry) reaction.now) }
+    ensures at { IfOk result (λ list. flat_map trigger_tokens list.items ≡ flat_map (tokens_of_trigger (token_in within.entry) (here within.entry)) reaction.now.triggers.items) }
     ensures some { OnOk result (reaction.now.triggers.items ≢ []) }
     ensures means { OnOk result (All (MeansTrigger (here within.entry)) reaction.now.triggers.items) }
     ensures cause { IfErr result (IfRefused (λ r. IsPassed within.entry.settings.now.work.main r ⊎ AreOfTriggers (here within.entry) within.entry.file reaction.now r)) }
@@ -106,6 +110,7 @@ fn push_effect(
     list: &mut Vec<Reference>,
 ) -> Result<(), Stop>
     ensures places { OnOk result (ref_views list.new.items ≡ ref_views list.old.items ++ effect_places (here within.entry) effect.now) }
+    ensures at { OnOk result (ref_tokens list.new.items ≡ ref_tokens list.old.items ++ tokens_of_effect (token_in within.entry) (here within.entry) effect.now) }
     ensures means { OnOk result (MeansEffect (here within.entry) effect.now) }
     ensures cause { IfErr result (IfRefused (λ r. IsPassed within.entry.settings.now.work.main r ⊎ IsOfEffect (here within.entry) within.entry.file effect.now r)) }
 {
@@ -123,6 +128,7 @@ fn effects(
     reaction: &Written,
 ) -> Result<Vec<Reference>, Stop>
     ensures places { IfOk result (λ list. ref_views list.items ≡ flat_map (effect_places (here within.entry)) reaction.now.effects.items) }
+    ensures at { IfOk result (λ list. ref_tokens list.items ≡ flat_map (tokens_of_effect (token_in within.entry) (here within.entry)) reaction.now.effects.items) }
     ensures means { OnOk result (All (MeansEffect (here within.entry)) reaction.now.effects.items) }
     ensures cause { IfErr result (IfRefused (λ r. IsPassed within.entry.settings.now.work.main r ⊎ IsOfSome (IsOfEffect (here within.entry) within.entry.file) reaction.now.effects.items r)) }
 {
@@ -144,7 +150,7 @@ fn add_asleep(
     ensures free { IfOk result (λ name. thing_named within.entry.shape.now (string_bytes name) ≡ None) }
     ensures name { IfOk result (λ name. IsName (string_bytes name)) }
     ensures added { IfOk result (λ name. member_views list.new.items ≡ member_views list.old.items ++ asleep (string_bytes name) ∷ []) }
-    ensures at { OnOk result (AddsAt list.old.items list.new.items at) }
+    ensures at { OnOk result (AddsAt list.old.items list.new.items at (λ parts. flat_map (λ tokens. tokens) parts ≡ [])) }
     ensures cause { IfErr result (IfRefused (IsPassed within.entry.settings.now.work.main)) }
 {
     let free = never(alloc, within)?;
@@ -169,7 +175,7 @@ fn asleep(
 ) -> Result<String, Stop>
     ensures name { IfOk result (λ found. option_map string_bytes name.new ≡ Some (string_bytes found)) }
     ensures added { IfOk result (λ found. Adds list.old.items list.new.items (IsAsleep (here within.entry) (string_bytes found) (option_map string_bytes name.old))) }
-    ensures at { OnOk result (AddsAt list.old.items list.new.items at) }
+    ensures at { OnOk result (AddsAt list.old.items list.new.items at (λ parts. flat_map (λ tokens. tokens) parts ≡ [])) }
     ensures cause { IfErr result (IfRefused (IsPassed within.entry.settings.now.work.main)) }
 {
     if let Some(known) = name {
@@ -193,7 +199,8 @@ fn some_triggers(
 ) -> Result<Vec<Trigger>, Stop>
     ensures means { OnOk result (All (MeansTrigger (here within.entry)) reaction.now.triggers.items) }
     ensures triggers { IfOk result (λ found. Adds list.old.items list.new.items (λ more. AreTriggers (here within.entry) reaction.now (option_map string_bytes never.old) more (option_map string_bytes never.new) (map trigger_view found.items))) }
-    ensures at { OnOk result (AddsAt list.old.items list.new.items (token_in within.entry reaction.now.at)) }
+    ensures tokens { IfOk result (λ found. flat_map trigger_tokens found.items ≡ all_trigger_tokens (token_in within.entry) (here within.entry) reaction.now) }
+    ensures at { OnOk result (AddsAt list.old.items list.new.items (token_in within.entry reaction.now.at) (λ parts. flat_map (λ tokens. tokens) parts ≡ [])) }
     ensures cause { IfErr result (IfRefused (λ r. IsPassed within.entry.settings.now.work.main r ⊎ AreOfTriggers (here within.entry) within.entry.file reaction.now r)) }
 {
     let mut triggers = triggers(alloc, room, within, reaction)?;
@@ -223,7 +230,7 @@ pub(crate) fn push_reaction(
 ) -> Result<(), Stop>
     ensures means { OnOk result (MeansAll (here within.entry) reaction.now) }
     ensures lowered { OnOk result (Adds list.old.items list.new.items (λ more. IsReaction (here within.entry) reaction.now (option_map string_bytes never.old) more (option_map string_bytes never.new))) }
-    ensures at { OnOk result (AddsAt list.old.items list.new.items (token_in within.entry reaction.now.at)) }
+    ensures at { OnOk result (AddsAt list.old.items list.new.items (token_in within.entry reaction.now.at) (λ parts. flat_map (λ tokens. tokens) parts ≡ reaction_tokens (token_in within.entry) (here within.entry) reaction.now)) }
     ensures cause { IfErr result (IfRefused (λ r. IsPassed within.entry.settings.now.work.main r ⊎ IsOfReaction (here within.entry) within.entry.file reaction.now r)) }
 {
     let triggers = some_triggers(alloc, room, within, reaction, never, list)?;

@@ -1,6 +1,6 @@
 //! What a reactor becomes in a setting.
 
-ghost use Rattle.std.specs.Prelude.{◌≡◌, ◌++◌, ◌⊎◌, ℕ, [], ◌∷◌, Some, IfErr, IfOk, OnOk, false, map, option_map, string_bytes, true};
+ghost use Rattle.std.specs.Prelude.{◌≡◌, ◌++◌, ◌⊎◌, ℕ, [], ◌∷◌, Some, IfErr, IfOk, OnOk, false, filter_map, length, map, option_map, string_bytes, true};
 ghost use Rattle.std.specs.List.{cons_option};
 ghost use Rattle.lft_tree.specs.ItemView.{action_view, item_view, member_views, parameter_view, reactor_view, time_view, timer_view};
 ghost use Rattle.lft_tree.specs.Tree.{ActionMember, TimerMember};
@@ -11,7 +11,8 @@ ghost use Rattle.lft_meanings.specs.Refused.{IfRefused, IsOfSome, IsPassed};
 ghost use Rattle.lft_lower.specs.Lowered.{Adds, IsLowered, IsMeasured, IsPeriod, IsRead, action_tree, is_spaced, period_at, ports, timer_tree};
 ghost use Rattle.lft_lower.specs.Refused.{IsOfAction, IsOfDefault, IsOfMember, IsOfMembers, IsOfParameter, IsOfPeriod, IsOfReactor, IsOfSetting, IsOfTimer};
 ghost use Rattle.lft_lower.specs.Reactors.{AreMembers, AreReactors, HasDefault, IsDefault, IsReactor, default_time, timed_parameter, timed_parameters};
-ghost use Rattle.lft_lower.specs.Standing.{AddsAt, AreAt, ArePlaced, declared_at};
+ghost use Rattle.lft_lowering.specs.Channels.{below};
+ghost use Rattle.lft_lower.specs.Standing.{AddsAt, AreAt, ArePartsAt, ArePlaced, IsPlaced, declared_at, head_at, parameter_token, period_tokens, time_tokens, written_tokens};
 
 use crate::connections::push_connection;
 use crate::instances::push_instances;
@@ -67,6 +68,7 @@ fn timed(
     number: usize,
 ) -> Result<Option<Parameter>, Stop>
     ensures made { IfOk result (λ made. option_map parameter_view made ≡ timed_parameter shape.now number) }
+    ensures at { IfOk result (λ made. option_map (λ p. p.at) made ≡ parameter_token maker.entry.files.now shape.now number) }
     ensures known { OnOk result (HasDefault is_main shape.now number) }
     ensures cause { IfErr result (IfRefused (λ r. IsPassed maker.entry.settings.now.work.main r ⊎ IsOfParameter is_main shape.now number r)) }
 {
@@ -88,7 +90,8 @@ fn timed(
 
 /// Puts a parameter at the end of a list, if there is one.
 fn push_parameter(list: &mut Vec<Parameter>, made: Option<Parameter>) -> Result<(), AllocError>
-    ensures { OnOk result (map parameter_view list.new.items ≡ map parameter_view list.old.items ++ cons_option (option_map parameter_view made) []) }
+    ensures made { OnOk result (map parameter_view list.new.items ≡ map parameter_view list.old.items ++ cons_option (option_map parameter_view made) []) }
+    ensures at { OnOk result (map (λ p. p.at) list.new.items ≡ map (λ p. p.at) list.old.items ++ cons_option (option_map (λ p. p.at) made) []) }
 {
     if let Some(parameter) = made {
         list.push(parameter)?;
@@ -104,6 +107,7 @@ fn parameters(
     is_main: bool,
 ) -> Result<Vec<Parameter>, Stop>
     ensures made { IfOk result (λ list. map parameter_view list.items ≡ timed_parameters shape.now) }
+    ensures at { IfOk result (λ list. map (λ p. p.at) list.items ≡ filter_map (parameter_token maker.entry.files.now shape.now) (below (length shape.now.parameters.items))) }
     ensures known { OnOk result ((number : ℕ) → HasDefault is_main shape.now number) }
     ensures cause { IfErr result (IfRefused (λ r. IsPassed maker.entry.settings.now.work.main r ⊎ ((number : ℕ) × IsOfParameter is_main shape.now number r))) }
 {
@@ -122,6 +126,7 @@ fn period(
     value: &Option<Expression>,
 ) -> Result<Option<TimeExpression>, Stop>
     ensures time { IfOk result (λ time. option_map time_view time ≡ period_at value.now) }
+    ensures at { IfOk result (λ time. time_tokens time ≡ period_tokens (token_in within.entry) value.now) }
     ensures read { OnOk result (IsPeriod within.entry.shape.now value.now) }
     ensures cause { IfErr result (IfRefused (IsOfPeriod within.entry.shape.now within.entry.file value.now)) }
 {
@@ -140,6 +145,7 @@ fn period(
 fn lowered_timer(alloc: Global, within: Within, timer: &WrittenTimer) -> Result<Timer, Stop>
     ensures made { IfOk result (λ made. timer_view made ≡ timer_tree timer.now) }
     ensures at { IfOk result (λ made. made.at ≡ token_in within.entry timer.now.name.at) }
+    ensures times { IfOk result (λ made. time_tokens made.offset ++ time_tokens made.period ≡ written_tokens (token_in within.entry) timer.now.offset ++ period_tokens (token_in within.entry) timer.now.period) }
     ensures read { OnOk result (IsRead within.entry.shape.now timer.now.offset × IsPeriod within.entry.shape.now timer.now.period) }
     ensures cause { IfErr result (IfRefused (IsOfTimer within.entry.shape.now within.entry.file timer.now)) }
 {
@@ -155,6 +161,7 @@ fn lowered_timer(alloc: Global, within: Within, timer: &WrittenTimer) -> Result<
 fn lowered_action(alloc: Global, within: Within, action: &WrittenAction) -> Result<Action, Stop>
     ensures made { IfOk result (λ made. action_view made ≡ action_tree action.now) }
     ensures at { IfOk result (λ made. made.at ≡ token_in within.entry action.now.name.at) }
+    ensures times { IfOk result (λ made. time_tokens made.min_delay ≡ written_tokens (token_in within.entry) action.now.min_delay) }
     ensures read { OnOk result (IsRead within.entry.shape.now action.now.min_delay) }
     ensures spacing { OnOk result (is_spaced action.now ≡ false) }
     ensures cause { IfErr result (IfRefused (IsOfAction within.entry.shape.now within.entry.file action.now)) }
@@ -184,7 +191,7 @@ fn push_ports(
     list: &mut Vec<Member>,
 ) -> Result<(), Stop>
     ensures made { OnOk result (member_views list.new.items ≡ member_views list.old.items ++ ports (several channels.entry) is_input) }
-    ensures at { OnOk result (AddsAt list.old.items list.new.items at) }
+    ensures at { OnOk result (AddsAt list.old.items list.new.items at (λ parts. Unit {0})) }
     ensures cause { IfErr result (IfRefused (IsPassed work.now.main)) }
 {
     for number in 0..channels.count() {
@@ -206,7 +213,7 @@ fn push_timer(
     list: &mut Vec<Member>,
 ) -> Result<(), Stop>
     ensures made { OnOk result (member_views list.new.items ≡ member_views list.old.items ++ TimerMember (timer_tree timer.now) ∷ []) }
-    ensures at { OnOk result (AddsAt list.old.items list.new.items (token_in within.entry timer.now.name.at)) }
+    ensures at { OnOk result (AddsAt list.old.items list.new.items (token_in within.entry timer.now.name.at) (λ parts. parts ≡ (written_tokens (token_in within.entry) timer.now.offset ++ period_tokens (token_in within.entry) timer.now.period) ∷ [])) }
     ensures read { OnOk result (IsRead within.entry.shape.now timer.now.offset × IsPeriod within.entry.shape.now timer.now.period) }
     ensures cause { IfErr result (IfRefused (λ r. IsPassed within.entry.settings.now.work.main r ⊎ IsOfTimer within.entry.shape.now within.entry.file timer.now r)) }
 {
@@ -224,7 +231,7 @@ fn push_action(
     list: &mut Vec<Member>,
 ) -> Result<(), Stop>
     ensures made { OnOk result (member_views list.new.items ≡ member_views list.old.items ++ ActionMember (action_tree action.now) ∷ []) }
-    ensures at { OnOk result (AddsAt list.old.items list.new.items (token_in within.entry action.now.name.at)) }
+    ensures at { OnOk result (AddsAt list.old.items list.new.items (token_in within.entry action.now.name.at) (λ parts. parts ≡ written_tokens (token_in within.entry) action.now.min_delay ∷ [])) }
     ensures read { OnOk result (IsRead within.entry.shape.now action.now.min_delay) }
     ensures spacing { OnOk result (is_spaced action.now ≡ false) }
     ensures cause { IfErr result (IfRefused (λ r. IsPassed within.entry.settings.now.work.main r ⊎ IsOfAction within.entry.shape.now within.entry.file action.now r)) }
@@ -246,7 +253,7 @@ fn push_member(
     list: &mut Vec<Member>,
 ) -> Result<(), Stop>
     ensures made { maker.entry.settings.now ≡ within.entry.settings.now → OnOk result (Adds list.old.items list.new.items (λ more. IsLowered (texts maker.entry.names.now) (here within.entry) number (option_map string_bytes never.old) more (option_map string_bytes never.new) member.now)) }
-    ensures at { OnOk result (AddsAt list.old.items list.new.items (token_in within.entry (declared_at member.now))) }
+    ensures at { OnOk result (AddsAt list.old.items list.new.items (token_in within.entry (declared_at member.now)) (ArePartsAt (token_in within.entry) (here within.entry) number member.now)) }
     ensures cause { maker.entry.settings.now ≡ within.entry.settings.now → IfErr result (IfRefused (λ r. IsPassed within.entry.settings.now.work.main r ⊎ IsOfMember (here within.entry) within.entry.file number member.now r)) }
 {
     let alloc = maker.alloc;
@@ -310,7 +317,7 @@ fn members<'s, 'a>(
     shape: &'s Shape<'a>,
 ) -> Result<Vec<Member>, Stop>
     ensures made { IfOk result (λ list. AreMembers maker.entry.settings.now (texts maker.entry.names.now) setting shape.now (member_views list.items)) }
-    ensures at { IfOk result (λ list. AreAt maker.entry.files.now shape.now.members.items list.items) }
+    ensures at { IfOk result (λ list. AreAt maker.entry.files.now (record { settings = maker.entry.settings.now; setting = setting; shape = shape.now }) shape.now.members.items list.items) }
     ensures cause { IfErr result (IfRefused (λ r. IsPassed maker.entry.settings.now.work.main r ⊎ IsOfMembers maker.entry.settings.now setting shape.now r)) }
 {
     let mut list = Vec::new(maker.alloc);
@@ -340,7 +347,9 @@ fn members<'s, 'a>(
 }
 
 /// The token of a reactor's name, or of the word at which one without a name begins.
-fn head_of(reactor: &WrittenReactor) -> usize {
+fn head_of(reactor: &WrittenReactor) -> usize
+    ensures { result ≡ head_at reactor.now }
+{
     match &reactor.name {
         Some(name) => name.at,
         None => reactor.at,
@@ -356,7 +365,7 @@ fn core_reactor<'s, 'a>(
     shape: &'s Shape<'a>,
 ) -> Result<Reactor, Stop>
     ensures made { IfOk result (λ made. IsReactor maker.entry.settings.now (texts maker.entry.names.now) setting shape.now (reactor_view made)) }
-    ensures at { IfOk result (λ made. AreAt maker.entry.files.now shape.now.members.items made.members.items) }
+    ensures at { IfOk result (λ made. IsPlaced maker.entry.files.now maker.entry.settings.now setting shape.now made) }
     ensures cause { IfErr result (IfRefused (λ r. IsPassed maker.entry.settings.now.work.main r ⊎ IsOfReactor maker.entry.settings.now setting shape.now r)) }
 {
     let is_main = setting == 0;

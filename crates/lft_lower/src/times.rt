@@ -5,6 +5,8 @@ ghost use Rattle.lft_tree.specs.ItemView.{time_view};
 ghost use Rattle.lft_meanings.specs.Refused.{IfRefused, IsAt};
 ghost use Rattle.lft_lower.specs.Lowered.{IsRead, is_forever, is_some_time, time_at};
 ghost use Rattle.lft_lower.specs.Refused.{IsNoTime, IsNoWritten, IsOfTime};
+ghost use Rattle.lft_meanings.specs.Meanings.{token_in};
+ghost use Rattle.lft_lower.specs.Standing.{time_token, time_tokens, written_tokens};
 ghost use Rattle.lft_lower.specs.Times.{IsTime, IsWritten, named_by, time_for, time_in};
 
 use lft_meanings::places::Within;
@@ -92,6 +94,7 @@ pub(crate) fn read_time(
     value: &Expression,
 ) -> Result<TimeExpression, Stop>
     ensures time { IfOk result (λ time. time_for value.now.value ≡ Some (time_view time)) }
+    ensures at { IfOk result (λ time. time_token time ≡ token_in within.entry value.now.at) }
     ensures read { OnOk result (IsTime within.entry.shape.now value.now.value) }
     ensures cause { IfErr result (IfRefused (λ r. IsAt within.entry.file value.now.at r × IsNoTime within.entry.shape.now value.now.value r.why)) }
 {
@@ -119,6 +122,7 @@ pub(crate) fn maybe_time(
     value: &Option<Expression>,
 ) -> Result<Option<TimeExpression>, Stop>
     ensures time { IfOk result (λ time. option_map time_view time ≡ time_at value.now) }
+    ensures at { IfOk result (λ time. time_tokens time ≡ written_tokens (token_in within.entry) value.now) }
     ensures read { OnOk result (IsRead within.entry.shape.now value.now) }
     ensures cause { IfErr result (IfRefused (IsOfTime within.entry.shape.now within.entry.file value.now)) }
 {

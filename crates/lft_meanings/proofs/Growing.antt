@@ -7,6 +7,7 @@ use Rattle.std.proofs.lemmas.List.Elements.{All-more}
 use Rattle.std.proofs.lemmas.List.{append-nil, length-take, take-append-le, take_all}
 use Rattle.std.proofs.lemmas.Option.{get_or_from_slice_get, slice_get_within}
 use Rattle.lft_lists.proofs.Picked.{take_next}
+use Rattle.lft_meanings.specs.Places.{up_to}
 
 -- one more item
 pub one_more : {X : Type 0} (xs : List X) (n : ℕ) (x : X) → slice_get xs n ≡ Some x → take (n + 1) xs ≡ take n xs ++ x ∷ []
@@ -66,3 +67,7 @@ flat_grown f xs k x old now at so_far one = one ∙ ap (λ ys. ys ++ f x) so_far
 -- at the end it is that of all
 pub flat_all : {X Y : Type 0} (f : X → List Y) (xs : List X) (k : ℕ) (list : List Y) → length xs ≤ k → list ≡ flat_map f (take k xs) → list ≡ flat_map f xs
 flat_all f xs k list all so_far = so_far ∙ ap (flat_map f) (take_all k xs all)
+
+-- a list that is cut has what is made of one more
+pub cut_next : {X Y : Type 0} (f : X → List Y) (xs : List X) (k : ℕ) (x : X) (most : ℕ) (old now : List Y) → slice_get xs k ≡ Some x → old ≡ take most (flat_map f (take k xs)) → now ≡ up_to most old (f x) → now ≡ take most (flat_map f (take (k + 1) xs))
+cut_next f xs k x most old now at so_far one = one ∙ ap (λ o. up_to most o (f x)) so_far ∙ take_on (flat_map f (take k xs)) (f x) most ∙ ap (take most) (sym (flat_next f xs k x at))

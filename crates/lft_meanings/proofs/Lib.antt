@@ -3,3 +3,4 @@ pub mod Cuts
 pub mod Growing
 mod Placed
 pub mod Refusing
+pub mod Standing

@@ -1,11 +1,10 @@
 -- Places of references, one after another.
 use Rattle.std.proofs.Common.{◌≡◌, ℕ, ◌+◌, Bool, List, [], Some, take, length, sym, ◌∙◌, ap, arith, length-append}
 use Rattle.std.specs.Prelude.{option_map, slice_get, unwrap_or}
-use Rattle.lft_tree.specs.Tree.{RefTree}
 use Rattle.lft_whole.specs.declared.tree.Reference.{Reference}
 use Rattle.lft_meanings.specs.Meanings.{Here, all_places, places_in, sense_in}
-use Rattle.lft_meanings.specs.Places.{Sense, places_of, up_to}
-use Rattle.lft_meanings.proofs.Growing.{flat_next, take_on}
+use Rattle.lft_meanings.specs.Places.{Sense, places_of}
+use Rattle.lft_meanings.proofs.Growing.{flat_next}
 
 -- the places of a reference are those of what it means
 pub its_places : (h : Here) (r : Reference) (x : Sense) → sense_in h r ≡ Some x → places_in h r ≡ places_of r.is_interleaved x
@@ -17,7 +16,3 @@ count_next h rs k r x all count sum at is many whole so_far =
     let here : count ≡ length (places_in h r) = many r.is_interleaved ∙ ap length (sym (its_places h r x is)) in
     let next : length (all_places h (take (k + 1) rs)) ≡ length (all_places h (take k rs)) + length (places_in h r) = ap length (flat_next (places_in h) rs k r at) ∙ length-append (all_places h (take k rs)) (places_in h r) in
     omega (arith, here, next, whole, so_far)
-
--- a list that is cut has those of one more
-pub cut_next : (h : Here) (rs : List Reference) (k : ℕ) (r : Reference) (most : ℕ) (old now : List RefTree) → slice_get rs k ≡ Some r → old ≡ take most (all_places h (take k rs)) → now ≡ up_to most old (places_in h r) → now ≡ take most (all_places h (take (k + 1) rs))
-cut_next h rs k r most old now at so_far one = one ∙ ap (λ o. up_to most o (places_in h r)) so_far ∙ take_on (all_places h (take k rs)) (places_in h r) most ∙ ap (take most) (sym (flat_next (places_in h) rs k r at))

@@ -3,3 +3,4 @@ pub mod Names
 pub mod Notes
 pub mod Places
 pub mod Refused
+pub mod Standing

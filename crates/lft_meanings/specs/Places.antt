@@ -49,7 +49,7 @@ places_of interleaved (Own thing) = own_places thing
 places_of interleaved (Inner members ports) = inner_places members ports interleaved
 
 -- the list goes on with those, until it has so many
-abbrev pub up_to : ℕ → List RefTree → List RefTree → List RefTree
+abbrev pub up_to : {X : Type 0} → ℕ → List X → List X → List X
 up_to most old more = take (max most (length old)) (old ++ more)
 
 -- ---- what the crate has of them

@@ -8,6 +8,7 @@ ghost use Rattle.lft_settings.specs.Names.{spelled};
 ghost use Rattle.lft_meanings.specs.Meanings.{Means, all_places, here, inner_width, member_in, named_in, parameter_in, places_in, port_in, port_sense, sense_in, shape_inside, thing_in, token_in};
 ghost use Rattle.lft_meanings.specs.Places.{count_of, inner_places, name_at, own_places, places_of, sense, several, up_to, is_wide};
 ghost use Rattle.lft_meanings.specs.Refused.{IfRefused, IsAt, IsNoPort, IsOfOne, IsOfReference, IsPassed};
+ghost use Rattle.lft_meanings.specs.Standing.{AddsAt, all_tokens, ref_tokens, tokens_of};
 
 use crate::room::Room;
 use lft_lowering::place_at;
@@ -311,6 +312,7 @@ fn push_own(
     list: &mut Vec<Reference>,
 ) -> Result<(), Stop>
     ensures places { OnOk result (ref_views list.new.items ≡ up_to most (ref_views list.old.items) (own_places (several thing.entry))) }
+    ensures at { OnOk result (AddsAt list.old.items list.new.items at) }
     ensures cause { IfErr result (IfRefused (IsPassed work.now.main)) }
 {
     let count = thing.count();
@@ -337,6 +339,7 @@ fn push_inner(
     list: &mut Vec<Reference>,
 ) -> Result<(), Stop>
     ensures places { OnOk result (ref_views list.new.items ≡ up_to most (ref_views list.old.items) (inner_places (several members.entry) (several channels.entry) is_interleaved)) }
+    ensures at { OnOk result (AddsAt list.old.items list.new.items at) }
     ensures cause { IfErr result (IfRefused (IsPassed work.now.main)) }
 {
     let rows = members.count();
@@ -383,6 +386,7 @@ fn push_meant(
     list: &mut Vec<Reference>,
 ) -> Result<(), Stop>
     ensures places { OnOk result (ref_views list.new.items ≡ up_to most (ref_views list.old.items) (places_of is_interleaved (sense meant.entry))) }
+    ensures at { OnOk result (AddsAt list.old.items list.new.items at) }
     ensures cause { IfErr result (IfRefused (IsPassed work.now.main)) }
 {
     match meant {
@@ -413,6 +417,7 @@ fn push_some(
     list: &mut Vec<Reference>,
 ) -> Result<(), Stop>
     ensures places { OnOk result (ref_views list.new.items ≡ up_to most (ref_views list.old.items) (places_in (here within.entry) reference.now)) }
+    ensures tokens { OnOk result (ref_tokens list.new.items ≡ up_to most (ref_tokens list.old.items) (tokens_of (token_in within.entry) (here within.entry) reference.now)) }
     ensures cause { IfErr result (IfRefused (λ r. IsPassed within.entry.settings.now.work.main r ⊎ IsOfReference (here within.entry) within.entry.file reference.now r)) }
 {
     let meant = meaning(within, reference)?;
@@ -439,6 +444,7 @@ pub fn some_places(
     most: usize,
 ) -> Result<Vec<Reference>, Stop>
     ensures places { IfOk result (λ list. ref_views list.items ≡ take most (all_places (here within.entry) references.now)) }
+    ensures tokens { IfOk result (λ list. ref_tokens list.items ≡ take most (all_tokens (token_in within.entry) (here within.entry) references.now)) }
     ensures cause { IfErr result (IfRefused (λ r. IsPassed within.entry.settings.now.work.main r ⊎ IsOfOne (here within.entry) within.entry.file references.now r)) }
 {
     let mut list = Vec::new(alloc);
@@ -457,6 +463,7 @@ pub fn push_places(
     list: &mut Vec<Reference>,
 ) -> Result<(), Stop>
     ensures places { OnOk result (ref_views list.new.items ≡ ref_views list.old.items ++ places_in (here within.entry) reference.now) }
+    ensures tokens { OnOk result (ref_tokens list.new.items ≡ ref_tokens list.old.items ++ tokens_of (token_in within.entry) (here within.entry) reference.now) }
     ensures means { OnOk result (Means (here within.entry) reference.now) }
     ensures cause { IfErr result (IfRefused (λ r. IsPassed within.entry.settings.now.work.main r ⊎ IsOfReference (here within.entry) within.entry.file reference.now r)) }
 {
@@ -478,6 +485,7 @@ pub fn places(
     references: &[Written],
 ) -> Result<Vec<Reference>, Stop>
     ensures places { IfOk result (λ list. ref_views list.items ≡ all_places (here within.entry) references.now) }
+    ensures tokens { IfOk result (λ list. ref_tokens list.items ≡ all_tokens (token_in within.entry) (here within.entry) references.now) }
     ensures means { OnOk result (All (Means (here within.entry)) references.now) }
     ensures cause { IfErr result (IfRefused (λ r. IsPassed within.entry.settings.now.work.main r ⊎ IsOfOne (here within.entry) within.entry.file references.now r)) }
 {

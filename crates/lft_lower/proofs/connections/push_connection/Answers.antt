@@ -1,5 +1,7 @@
 use Rattle.std.proofs.Common.{subst}
-use Rattle.lft_meanings.specs.Meanings.{all_places, here}
+use Rattle.lft_meanings.specs.Meanings.{all_places, here, token_in}
+use Rattle.lft_meanings.specs.Standing.{all_tokens}
+use Rattle.lft_lower.specs.Standing.{AddsAt, AreSidesAt}
 use Rattle.lft_lower.specs.Lowered.{Adds, AreConnected}
 use Rattle.lft_lower.proofs.connections.push_connection.Goals as goal
 
@@ -10,4 +12,8 @@ returns-clause-joined c =
     subst (λ delay. Adds c.args.list.now.items c.push_sides.new.list.items (AreConnected (all_places h w.sources.items) (all_places h w.destinations.items) w.is_broadcast delay)) c.in_ok-delay.ensures.time c.in_ok-push_sides.ensures.made
 
 pub returns-clause-at : goal.returns-clause-at
-returns-clause-at c = c.in_ok-push_sides.ensures.at
+returns-clause-at c =
+    let number = token_in c.args.within in
+    let h = here c.args.within in
+    let w = c.args.connection.now in
+    subst (λ delay. AddsAt c.args.list.now.items c.push_sides.new.list.items (number w.arrow) (AreSidesAt (all_tokens number h w.sources.items) (all_tokens number h w.destinations.items) w.is_broadcast delay)) c.in_ok-delay.ensures.at c.in_ok-push_sides.ensures.at

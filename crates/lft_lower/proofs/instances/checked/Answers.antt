@@ -1,11 +1,14 @@
-use Rattle.std.proofs.Common.{◌≡◌, ◌⊎◌, ◌<◌, ◌≤◌, ℕ, List, inl, inr, Some, map, refl, slice_get, subst, sym, ap, ◌∙◌}
+use Rattle.std.proofs.Common.{◌≡◌, ◌⊎◌, ◌<◌, ◌≤◌, ℕ, List, [], inl, inr, Some, map, refl, slice_get, subst, sym, ap, ◌∙◌}
 use Rattle.std.specs.Prelude.{option_map, unwrap_or}
 use Rattle.std.specs.Option.{option_and_then}
 use Rattle.std.proofs.lemmas.Option.{slice_get-map}
 use Rattle.std.proofs.lemmas.Result.{err_from_is_err_and}
 use Rattle.lft_shapes.specs.declared.shapes.Shape.{Shape}
 use Rattle.lft_settings.specs.declared.settings.Settings.{Settings}
-use Rattle.lft_meanings.specs.Meanings.{here}
+use Rattle.std.specs.List.{flat_map}
+use Rattle.lft_shapes.specs.declared.shapes.Child.{Child}
+use Rattle.lft_meanings.specs.Meanings.{here, shape_inside, token_in}
+use Rattle.lft_lower.specs.Standing.{given_token}
 use Rattle.lft_meanings.specs.Refused.{IsOfSome, IsPassed}
 use Rattle.lft_lower.specs.Needed.{needed_given, needed_in}
 use Rattle.lft_lower.specs.Refused.{IsOfGiven, IsOfInstance}
@@ -32,6 +35,15 @@ returns-clause-given c same =
     let is = is_count c.args.maker.settings.now now c.args.maker.needed.now child.shape c.needed_of-needed.result inner c.args.maker.counted same there c.needed_of-needed.ensures in
     let enough = subst (λ n. n ≤ needed_given inner child) is (c.gives_needed.ensures.enough c.if-not-gives_needed.false) in
     (child, inner, sym c.in-Some.ensures, sym c.in-Some-inner_shape.ensures, none_lacks inner child enough, c.in_ok-given.ensures.read, c.in_ok-given.ensures.given)
+
+pub returns-clause-at : goal.returns-clause-at
+returns-clause-at c =
+    let number = token_in c.args.within in
+    let h = here c.args.within in
+    let child = c.in-Some.child.now in
+    c.in_ok-given.ensures.at
+    ∙ ap (λ o. unwrap_or (option_map (λ (s : Shape). flat_map (given_token number s) child.given.items) o) []) c.in-Some-inner_shape.ensures
+    ∙ ap (λ o. unwrap_or (option_and_then (λ (ch : Child). option_map (λ (s : Shape). flat_map (given_token number s) ch.given.items) (shape_inside h c.args.member)) o) []) c.in-Some.ensures
 
 pub returns-then-not-gives_needed-clause-cause : goal.returns-then-not-gives_needed-clause-cause
 returns-then-not-gives_needed-clause-cause c same =

@@ -1,4 +1,4 @@
-use Rattle.std.proofs.Common.{◌≡◌, Some, None, string_bytes, rules}
+use Rattle.std.proofs.Common.{◌≡◌, Some, None, string_bytes, refl, rules}
 use Rattle.std.specs.Prelude.{option_map}
 use Rattle.lft_meanings.specs.Meanings.{here}
 use Rattle.lft_lower.proofs.Adding.{asleep_added, asleep_known}
@@ -16,7 +16,7 @@ returns-clause-added c =
     asleep_added (here c.args.within) (string_bytes c.in_ok-free.free) _ c.args.list.now.items _ none c.in_ok-free.ensures.free c.in_ok-free.ensures.name c.in_ok-free.ensures.added
 
 pub returns-in-Some-clause-at : goal.returns-in-Some-clause-at
-returns-in-Some-clause-at c = at_none c.args.list.now.items c.args.at
+returns-in-Some-clause-at c = at_none c.args.list.now.items c.args.at _ refl
 
 pub returns-clause-at : goal.returns-clause-at
 returns-clause-at c = c.in_ok-free.ensures.at

@@ -1,10 +1,11 @@
 use Rattle.std.proofs.Common.{◌≡◌, Some, length, slice_get, refl, arith}
 use Rattle.std.proofs.lemmas.Option.{slice_get_read}
 use Rattle.std.proofs.lemmas.Result.{err_from_is_err_and}
-use Rattle.lft_meanings.specs.Meanings.{here}
+use Rattle.lft_meanings.specs.Meanings.{here, token_in}
 use Rattle.lft_meanings.specs.Refused.{IsPassed}
 use Rattle.lft_meanings.proofs.Growing.{all_done, all_next, flat_all, flat_grown}
 use Rattle.lft_lower.specs.Lowered.{MeansEffect, effect_places}
+use Rattle.lft_lower.specs.Standing.{tokens_of_effect}
 use Rattle.lft_lower.specs.Refused.{IsOfEffect}
 use Rattle.lft_meanings.proofs.Refusing.{of_this}
 use Rattle.lft_lower.proofs.reactions.effects.Goals as goal
@@ -18,14 +19,18 @@ loop-place-preserved c =
     let there : slice_get items place ≡ Some item = slice_get_read items (length items) place item refl (omega (arith, c.len-place-end.ensures)) c.index.ensures in
     let h = here c.args.within in (
       flat_grown (effect_places h) items place item _ _ there c.loop-place.invariant.0 c.in_ok-push_effect.ensures.places,
-      all_next (MeansEffect h) items place item there c.loop-place.invariant.1 c.in_ok-push_effect.ensures.means,
+      flat_grown (tokens_of_effect (token_in c.args.within) h) items place item _ _ there c.loop-place.invariant.1 c.in_ok-push_effect.ensures.at,
+      all_next (MeansEffect h) items place item there c.loop-place.invariant.2 c.in_ok-push_effect.ensures.means,
     )
 
 pub returns-clause-means : goal.returns-clause-means
-returns-clause-means c = all_done (MeansEffect (here c.args.within)) c.args.reaction.now.effects.items c.loop-place.place (omega (arith, c.len-place-end.ensures, c.loop-place-test.false)) c.loop-place.invariant.1
+returns-clause-means c = all_done (MeansEffect (here c.args.within)) c.args.reaction.now.effects.items c.loop-place.place (omega (arith, c.len-place-end.ensures, c.loop-place-test.false)) c.loop-place.invariant.2
 
 pub returns-clause-places : goal.returns-clause-places
 returns-clause-places c = flat_all (effect_places (here c.args.within)) (c.args.reaction.now.effects.items) c.loop-place.place _ (omega (arith, c.len-place-end.ensures, c.loop-place-test.false)) c.loop-place.invariant.0
+
+pub returns-clause-at : goal.returns-clause-at
+returns-clause-at c = flat_all (tokens_of_effect (token_in c.args.within) (here c.args.within)) (c.args.reaction.now.effects.items) c.loop-place.place _ (omega (arith, c.len-place-end.ensures, c.loop-place-test.false)) c.loop-place.invariant.1
 
 pub returns-in_err-push_effect-clause-cause : goal.returns-in_err-push_effect-clause-cause
 returns-in_err-push_effect-clause-cause c =

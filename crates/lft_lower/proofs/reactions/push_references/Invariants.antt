@@ -1,7 +1,10 @@
 use Rattle.std.proofs.Common.{◌≡◌, ◌++◌, map}
 use Rattle.lft_tree.specs.Tree.{OnRef}
 use Rattle.lft_tree.specs.View.{ref_views, trigger_view}
+use Rattle.std.specs.List.{flat_map}
+use Rattle.lft_meanings.specs.Standing.{ref_tokens}
+use Rattle.lft_lower.specs.Standing.{trigger_tokens}
 use Rattle.lft_lower.proofs.reactions.push_references.Given as goal
 
 abbrev pub invariant-loop-reference : goal.invariant-loop-reference
-invariant-loop-reference l = map trigger_view l.list.items ≡ map trigger_view l.fn.list.items ++ map OnRef (ref_views l.yielded)
+invariant-loop-reference l = (map trigger_view l.list.items ≡ map trigger_view l.fn.list.items ++ map OnRef (ref_views l.yielded)) × (flat_map trigger_tokens l.list.items ≡ flat_map trigger_tokens l.fn.list.items ++ ref_tokens l.yielded)

@@ -1,14 +1,17 @@
-use Rattle.std.proofs.Common.{◌≡◌, [], ◌∷◌, ◌++◌, List, length, map, string_bytes, refl, sym, subst, ap, ◌∙◌, arith}
+use Rattle.std.proofs.Common.{◌≡◌, ℕ, [], ◌∷◌, ◌++◌, List, length, map, string_bytes, refl, sym, ap, ◌∙◌, arith}
 use Rattle.std.specs.Prelude.{option_map}
+use Rattle.std.specs.List.{flat_map}
+use Rattle.std.proofs.lemmas.Grind.{flat_map-append}
 use Rattle.std.proofs.lemmas.List.{length-map, map-append}
 use Rattle.lft_tree.specs.Tree.{TriggerTree, OnRef}
 use Rattle.lft_tree.specs.View.{trigger_view}
 use Rattle.lft_tree.specs.declared.tree.Trigger.{Trigger}
 use Rattle.lft_lowering.specs.Lowered.{own}
-use Rattle.lft_meanings.specs.Meanings.{here}
+use Rattle.lft_meanings.specs.Meanings.{here, token_in}
+use Rattle.lft_lower.specs.Lowered.{all_triggers}
 use Rattle.lft_lower.proofs.Adding.{triggers_run, triggers_sleep}
-use Rattle.lft_lower.specs.Standing.{AddsAt}
-use Rattle.lft_lower.proofs.Standing.{at_none}
+use Rattle.lft_lower.specs.Standing.{or_at, tokens_of_trigger, trigger_tokens}
+use Rattle.lft_lower.proofs.Standing.{at_none, at_this}
 use Rattle.lft_lower.proofs.reactions.some_triggers.Goals as goal
 
 pub returns-then-count-ne0-clause-triggers : goal.returns-then-count-ne0-clause-triggers
@@ -28,7 +31,38 @@ returns-clause-triggers c =
     triggers_sleep (here c.args.within) c.args.reaction.now (string_bytes c.in_ok-head.head) (option_map string_bytes c.args.never.now) _ c.args.list.now.items _ _ c.in_ok-triggers.ensures.some (none_of items _ c.in_ok-triggers.ensures.places zero) c.in_ok-head.ensures.added c.in_ok-head.ensures.name (ap (map trigger_view) c.in_ok-push.ensures.items ∙ map-append trigger_view items _ ∙ ap (λ ts. ts ++ OnRef (own (string_bytes c.in_ok-head.head)) ∷ []) empty)
 
 pub returns-then-count-ne0-clause-at : goal.returns-then-count-ne0-clause-at
-returns-then-count-ne0-clause-at c = at_none c.args.list.now.items _
+returns-then-count-ne0-clause-at c = at_none c.args.list.now.items _ _ refl
 
 pub returns-clause-at : goal.returns-clause-at
-returns-clause-at c = subst (AddsAt c.args.list.now.items _) c.token-at.ensures c.in_ok-head.ensures.at
+returns-clause-at c = at_this c.args.list.now.items _ _ _ _ c.token-at.ensures c.in_ok-head.ensures.at
+
+triggers_stand : (at : ℕ) (ts : List TriggerTree) (tokens : List ℕ) → (ts ≡ [] → ⊥) → or_at at ts tokens ≡ tokens
+triggers_stand at [] tokens some = absurd (some refl)
+triggers_stand at (t ∷ ts) tokens some = refl
+
+pub returns-then-count-ne0-clause-tokens : goal.returns-then-count-ne0-clause-tokens
+returns-then-count-ne0-clause-tokens c =
+    let items = c.in_ok-triggers.triggers.items in
+    let number = token_in c.args.within in
+    let h = here c.args.within in
+    let r = c.args.reaction.now in
+    let some = λ (e : all_triggers h r ≡ []). absurd (omega (arith, ap length (c.in_ok-triggers.ensures.places ∙ e), length-map items trigger_view)) in
+    c.in_ok-triggers.ensures.at ∙ sym (triggers_stand (number r.at) (all_triggers h r) (flat_map (tokens_of_trigger number h) r.triggers.items) some)
+
+no_tokens : (items : List Trigger) → length items ≡ 0 → flat_map trigger_tokens items ≡ []
+no_tokens [] none = refl
+no_tokens (x ∷ xs) none = absurd (omega arith)
+
+pub returns-clause-tokens : goal.returns-clause-tokens
+returns-clause-tokens c =
+    let items = c.in_ok-triggers.triggers.items in
+    let zero : length items ≡ 0 = omega arith in
+    let h = here c.args.within in
+    let r = c.args.reaction.now in
+    let all = flat_map (tokens_of_trigger (token_in c.args.within) h) r.triggers.items in
+    let none : all_triggers h r ≡ [] = none_of items _ c.in_ok-triggers.ensures.places zero in
+    ap (flat_map trigger_tokens) c.in_ok-push.ensures.items
+    ∙ flat_map-append trigger_tokens items _
+    ∙ ap (λ ts. ts ++ c.token-at.result ∷ []) (no_tokens items zero)
+    ∙ ap (λ at. at ∷ []) c.token-at.ensures
+    ∙ ap (λ ts. or_at (token_in c.args.within r.at) ts all) (sym none)

@@ -1,9 +1,10 @@
 use Rattle.std.proofs.Common.{◌≡◌, map, take}
 use Rattle.std.specs.List.{All, flat_map}
 use Rattle.lft_tree.specs.View.{trigger_view}
-use Rattle.lft_meanings.specs.Meanings.{here}
+use Rattle.lft_meanings.specs.Meanings.{here, token_in}
+use Rattle.lft_lower.specs.Standing.{tokens_of_trigger, trigger_tokens}
 use Rattle.lft_lower.specs.Lowered.{MeansTrigger, trigger_places}
 use Rattle.lft_lower.proofs.reactions.triggers.Given as goal
 
 abbrev pub invariant-loop-place : goal.invariant-loop-place
-invariant-loop-place l = (map trigger_view l.list.items ≡ flat_map (trigger_places (here l.within)) (take l.place l.reaction.triggers.items)) × All (MeansTrigger (here l.within)) (take l.place l.reaction.triggers.items)
+invariant-loop-place l = (map trigger_view l.list.items ≡ flat_map (trigger_places (here l.within)) (take l.place l.reaction.triggers.items)) × (flat_map trigger_tokens l.list.items ≡ flat_map (tokens_of_trigger (token_in l.within) (here l.within)) (take l.place l.reaction.triggers.items)) × All (MeansTrigger (here l.within)) (take l.place l.reaction.triggers.items)

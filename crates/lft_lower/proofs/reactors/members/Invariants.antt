@@ -7,4 +7,4 @@ use Rattle.lft_lower.specs.Standing.{AreAt}
 use Rattle.lft_lower.proofs.reactors.members.Given as goal
 
 abbrev pub invariant-loop-number : goal.invariant-loop-number
-invariant-loop-number l = AreLowered (texts l.maker.names.now) (record { settings = l.maker.settings.now; setting = l.setting; shape = l.shape }) (take l.number l.shape.members.items) (member_views l.list.items) (option_map string_bytes l.never) × AreAt l.maker.files.now (take l.number l.shape.members.items) l.list.items
+invariant-loop-number l = AreLowered (texts l.maker.names.now) (record { settings = l.maker.settings.now; setting = l.setting; shape = l.shape }) (take l.number l.shape.members.items) (member_views l.list.items) (option_map string_bytes l.never) × AreAt l.maker.files.now (record { settings = l.maker.settings.now; setting = l.setting; shape = l.shape }) (take l.number l.shape.members.items) l.list.items

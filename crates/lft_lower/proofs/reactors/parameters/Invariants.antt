@@ -2,8 +2,10 @@ use Rattle.std.proofs.Common.{◌≡◌, filter_map, length, map, take}
 use Rattle.lft_tree.specs.View.{parameter_view}
 use Rattle.lft_lowering.specs.Channels.{below}
 use Rattle.lft_lower.specs.Reactors.{timed_parameter}
+use Rattle.lft_tree.specs.declared.tree.Parameter.{Parameter}
+use Rattle.lft_lower.specs.Standing.{parameter_token}
 use Rattle.lft_lower.proofs.Defaults.{HaveDefaults}
 use Rattle.lft_lower.proofs.reactors.parameters.Given as goal
 
 abbrev pub invariant-loop-number : goal.invariant-loop-number
-invariant-loop-number l = (map parameter_view l.list.items ≡ filter_map (timed_parameter l.shape) (take l.number (below (length l.shape.parameters.items)))) × HaveDefaults l.is_main l.shape l.number
+invariant-loop-number l = (map parameter_view l.list.items ≡ filter_map (timed_parameter l.shape) (take l.number (below (length l.shape.parameters.items)))) × (map (λ (p : Parameter). p.at) l.list.items ≡ filter_map (parameter_token l.maker.files.now l.shape) (take l.number (below (length l.shape.parameters.items)))) × HaveDefaults l.is_main l.shape l.number

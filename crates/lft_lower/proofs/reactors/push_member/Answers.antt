@@ -1,4 +1,4 @@
-use Rattle.std.proofs.Common.{◌≡◌, List, string_bytes, refl, subst, sym, ap}
+use Rattle.std.proofs.Common.{◌≡◌, ℕ, List, string_bytes, refl, subst, sym, ap}
 use Rattle.std.specs.Prelude.{option_map}
 use Rattle.std.proofs.lemmas.Result.{err_from_is_err_and}
 use Rattle.lft_whole.specs.declared.tree.Member.TheVariants as member
@@ -11,12 +11,13 @@ use Rattle.lft_meanings.specs.Refused.{IsPassed}
 use Rattle.lft_lower.specs.Lowered.{ports}
 use Rattle.lft_lower.proofs.Adding.{lowered_as}
 use Rattle.lft_lower.proofs.Refusing.{of_kind}
-use Rattle.lft_lower.specs.Standing.{AddsAt, declared_at}
+use Rattle.lft_lower.specs.Standing.{AddsAt, ArePartsAt, declared_at}
+use Rattle.lft_lower.proofs.Standing.{at_this}
 use Rattle.lft_lower.proofs.reactors.push_member.Goals as goal
 
 -- what stands at the token of this member, if it is the one
-stands_as : (w : Within) (old now : List Core) (m this : Member) → m ≡ this → AddsAt old now (token_in w (declared_at this)) → AddsAt old now (token_in w (declared_at m))
-stands_as w old now m this is adds = subst (λ x. AddsAt old now (token_in w (declared_at x))) (sym is) adds
+stands_as : (w : Within) (n : ℕ) (old now : List Core) (m this : Member) → m ≡ this → AddsAt old now (token_in w (declared_at this)) (ArePartsAt (token_in w) (here w) n this) → AddsAt old now (token_in w (declared_at m)) (ArePartsAt (token_in w) (here w) n m)
+stands_as w n old now m this is adds = subst (λ x. AddsAt old now (token_in w (declared_at x)) (ArePartsAt (token_in w) (here w) n x)) (sym is) adds
 
 pub returns-in_ok-push_ports-in-Port-clause-made : goal.returns-in_ok-push_ports-in-Port-clause-made
 returns-in_ok-push_ports-in-Port-clause-made c same =
@@ -76,19 +77,19 @@ returns-in_err-push_connection-in-Connection-clause-cause c same =
     rw (p.1, p.2) (of_kind (here c.args.within) c.args.within.file c.args.number c.args.member.now (member.Connection c.in-Connection.connection) (IsPassed c.args.within.settings.now.work.main) c.in_err-push_connection-in-Connection.field-0.0 c.in-Connection.is c.in_err-push_connection-in-Connection.ensures.cause)
 
 pub returns-in_ok-push_ports-in-Port-clause-at : goal.returns-in_ok-push_ports-in-Port-clause-at
-returns-in_ok-push_ports-in-Port-clause-at c = stands_as c.args.within c.args.list.now.items _ c.args.member.now (member.Port c.in-Port.port) c.in-Port.is (subst (AddsAt c.args.list.now.items _) c.token-at.ensures c.in_ok-push_ports-in-Port.ensures.at)
+returns-in_ok-push_ports-in-Port-clause-at c = stands_as c.args.within c.args.number c.args.list.now.items _ c.args.member.now (member.Port c.in-Port.port) c.in-Port.is (at_this c.args.list.now.items _ _ _ _ c.token-at.ensures c.in_ok-push_ports-in-Port.ensures.at)
 
 pub returns-in_ok-push_timer-in-Timer-clause-at : goal.returns-in_ok-push_timer-in-Timer-clause-at
-returns-in_ok-push_timer-in-Timer-clause-at c = stands_as c.args.within c.args.list.now.items _ c.args.member.now (member.Timer c.in-Timer.timer) c.in-Timer.is c.in_ok-push_timer-in-Timer.ensures.at
+returns-in_ok-push_timer-in-Timer-clause-at c = stands_as c.args.within c.args.number c.args.list.now.items _ c.args.member.now (member.Timer c.in-Timer.timer) c.in-Timer.is c.in_ok-push_timer-in-Timer.ensures.at
 
 pub returns-in_ok-push_action-in-Action-clause-at : goal.returns-in_ok-push_action-in-Action-clause-at
-returns-in_ok-push_action-in-Action-clause-at c = stands_as c.args.within c.args.list.now.items _ c.args.member.now (member.Action c.in-Action.action) c.in-Action.is c.in_ok-push_action-in-Action.ensures.at
+returns-in_ok-push_action-in-Action-clause-at c = stands_as c.args.within c.args.number c.args.list.now.items _ c.args.member.now (member.Action c.in-Action.action) c.in-Action.is c.in_ok-push_action-in-Action.ensures.at
 
 pub returns-in_ok-push_reaction-in-Reaction-clause-at : goal.returns-in_ok-push_reaction-in-Reaction-clause-at
-returns-in_ok-push_reaction-in-Reaction-clause-at c = stands_as c.args.within c.args.list.now.items _ c.args.member.now (member.Reaction c.in-Reaction.reaction) c.in-Reaction.is c.in_ok-push_reaction-in-Reaction.ensures.at
+returns-in_ok-push_reaction-in-Reaction-clause-at c = stands_as c.args.within c.args.number c.args.list.now.items _ c.args.member.now (member.Reaction c.in-Reaction.reaction) c.in-Reaction.is c.in_ok-push_reaction-in-Reaction.ensures.at
 
 pub returns-in_ok-push_instances-in-Instance-clause-at : goal.returns-in_ok-push_instances-in-Instance-clause-at
-returns-in_ok-push_instances-in-Instance-clause-at c = stands_as c.args.within c.args.list.now.items _ c.args.member.now (member.Instance c.in-Instance.instance) c.in-Instance.is c.in_ok-push_instances-in-Instance.ensures.at
+returns-in_ok-push_instances-in-Instance-clause-at c = stands_as c.args.within c.args.number c.args.list.now.items _ c.args.member.now (member.Instance c.in-Instance.instance) c.in-Instance.is c.in_ok-push_instances-in-Instance.ensures.at
 
 pub returns-in_ok-push_connection-in-Connection-clause-at : goal.returns-in_ok-push_connection-in-Connection-clause-at
-returns-in_ok-push_connection-in-Connection-clause-at c = stands_as c.args.within c.args.list.now.items _ c.args.member.now (member.Connection c.in-Connection.connection) c.in-Connection.is c.in_ok-push_connection-in-Connection.ensures.at
+returns-in_ok-push_connection-in-Connection-clause-at c = stands_as c.args.within c.args.number c.args.list.now.items _ c.args.member.now (member.Connection c.in-Connection.connection) c.in-Connection.is c.in_ok-push_connection-in-Connection.ensures.at

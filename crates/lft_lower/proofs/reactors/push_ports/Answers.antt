@@ -8,7 +8,7 @@ use Rattle.lft_lower.proofs.Standing.{at_more, at_none}
 use Rattle.lft_lower.proofs.reactors.push_ports.Goals as goal
 
 pub loop-number-init : goal.loop-number-init
-loop-number-init c = (sym (append-nil (member_views c.args.list.now.items)), at_none c.args.list.now.items c.args.at)
+loop-number-init c = (sym (append-nil (member_views c.args.list.now.items)), at_none c.args.list.now.items c.args.at _ tt)
 
 pub loop-number-preserved : goal.loop-number-preserved
 loop-number-preserved c =
@@ -18,7 +18,7 @@ loop-number-preserved c =
     let test = c.loop-number-test.true in
     let less : number < count_of x = omega (arith, c.count-number-end.ensures) in (
       named_grown member_view f (name_at x) (count_of x) number c.loop-number.list.items _ _ (member_views c.args.list.now.items) less c.in_ok-push.ensures.items (ap f (c.in_ok-counted.ensures.text ∙ c.at.ensures)) c.loop-number.invariant.0,
-      at_more c.args.list.now.items c.loop-number.list.items _ _ c.args.at c.loop-number.invariant.1 c.in_ok-push.ensures.items refl,
+      at_more c.args.list.now.items c.loop-number.list.items _ _ c.args.at _ _ c.loop-number.invariant.1 c.in_ok-push.ensures.items refl (λ parts none. tt),
     )
 
 pub returns-clause-made : goal.returns-clause-made

@@ -6,4 +6,4 @@ use Rattle.lft_lower.specs.Standing.{AddsAt}
 use Rattle.lft_lower.proofs.reactors.push_ports.Given as goal
 
 abbrev pub invariant-loop-number : goal.invariant-loop-number
-invariant-loop-number l = (member_views l.list.items ≡ member_views l.fn.list.items ++ take l.number (map (λ name. PortMember (record { name = name; is_input = l.is_input })) (names_of (several l.channels)))) × AddsAt l.fn.list.items l.list.items l.at
+invariant-loop-number l = (member_views l.list.items ≡ member_views l.fn.list.items ++ take l.number (map (λ name. PortMember (record { name = name; is_input = l.is_input })) (names_of (several l.channels)))) × AddsAt l.fn.list.items l.list.items l.at (λ parts. Unit {0})

@@ -1,5 +1,6 @@
+use Rattle.std.proofs.Common.{[], ◌∷◌, ap}
 use Rattle.lft_lower.proofs.Standing.{at_one}
 use Rattle.lft_lower.proofs.reactors.push_timer.Goals as goal
 
 pub returns-clause-at : goal.returns-clause-at
-returns-clause-at c = at_one c.args.list.now.items _ _ _ c.in_ok-push.ensures.items c.in_ok-lowered_timer.ensures.at
+returns-clause-at c = at_one c.args.list.now.items _ _ _ _ c.in_ok-push.ensures.items c.in_ok-lowered_timer.ensures.at (ap (λ ts. ts ∷ []) c.in_ok-lowered_timer.ensures.times)

@@ -8,6 +8,7 @@ use Rattle.lft_lowering.specs.Channels.{Place, places}
 use Rattle.lft_lowering.specs.Lowered.{inner}
 use Rattle.lft_meanings.specs.Places.{count_of, inner_places, name_at, several}
 use Rattle.lft_meanings.proofs.Cuts.{cut_more, cut_full, cut_end, length_places}
+use Rattle.lft_meanings.proofs.Standing.{refs_more, refs_none}
 use Rattle.lft_meanings.proofs.places.push_inner.Goals as goal
 
 pub loop-place-init : goal.loop-place-init
@@ -17,6 +18,7 @@ loop-place-init c =
       many = omega (arith, long);
       few = omega (arith, long);
       made = sym (append-nil (ref_views c.args.list.now.items));
+      stand = refs_none c.args.list.now.items c.args.at;
     }
 
 pub loop-place-preserved : goal.loop-place-preserved
@@ -37,6 +39,7 @@ loop-place-preserved c =
       many = omega (arith, longer, c.loop-place.invariant.many);
       few = omega (arith, longer, c.loop-place.invariant.many, c.loop-place.invariant.few);
       made = ap ref_views c.in_ok-push.ensures.items ∙ map-append ref_view items (made ∷ []) ∙ ap (λ vs. vs ++ ref_view made ∷ []) c.loop-place.invariant.made ∙ cut_more start (inner_places members channels b) place (ref_view made) there;
+      stand = refs_more c.args.list.now.items items _ made c.args.at c.loop-place.invariant.stand c.in_ok-push.ensures.items c.in_ok-reference.ensures.at;
     }
 
 pub returns-then-len-most-clause-places : goal.returns-then-len-most-clause-places
@@ -58,3 +61,9 @@ returns-clause-places c =
     let far : min (length more) (2 ^ 64 - 1) ≤ c.loop-place.place = omega (arith, ap (λ n. min n (2 ^ 64 - 1)) many, c.saturating_mul-all.ensures) in
     let small : c.args.most ≤ 2 ^ 64 - 1 = omega (arith, c.ranges.most) in
     c.loop-place.invariant.made ∙ cut_end start more c.loop-place.place c.args.most (2 ^ 64 - 1) low far small
+
+pub returns-then-len-most-clause-at : goal.returns-then-len-most-clause-at
+returns-then-len-most-clause-at c = c.loop-place.invariant.stand
+
+pub returns-clause-at : goal.returns-clause-at
+returns-clause-at c = c.loop-place.invariant.stand

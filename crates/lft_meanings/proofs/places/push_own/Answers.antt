@@ -6,6 +6,7 @@ use Rattle.lft_lowering.specs.Lowered.{own}
 use Rattle.lft_lowering.proofs.Grids.{row_at}
 use Rattle.lft_meanings.specs.Places.{count_of, name_at, own_places, several}
 use Rattle.lft_meanings.proofs.Cuts.{cut_more, cut_full, cut_all}
+use Rattle.lft_meanings.proofs.Standing.{refs_more, refs_none}
 use Rattle.lft_meanings.proofs.places.push_own.Goals as goal
 
 pub loop-place-init : goal.loop-place-init
@@ -15,6 +16,7 @@ loop-place-init c =
       many = omega (arith, long);
       few = omega (arith, long);
       made = sym (append-nil (ref_views c.args.list.now.items));
+      stand = refs_none c.args.list.now.items c.args.at;
     }
 
 pub loop-place-preserved : goal.loop-place-preserved
@@ -32,6 +34,7 @@ loop-place-preserved c =
       many = omega (arith, longer, c.loop-place.invariant.many);
       few = omega (arith, longer, c.loop-place.invariant.many, c.loop-place.invariant.few);
       made = ap ref_views c.in_ok-push.ensures.items ∙ map-append ref_view items (made ∷ []) ∙ ap (λ vs. vs ++ ref_view made ∷ []) c.loop-place.invariant.made ∙ cut_more start (own_places thing) place (ref_view made) there;
+      stand = refs_more c.args.list.now.items items _ made c.args.at c.loop-place.invariant.stand c.in_ok-push.ensures.items c.in_ok-reference.ensures.at;
     }
 
 pub returns-then-len-most-clause-places : goal.returns-then-len-most-clause-places
@@ -48,3 +51,9 @@ returns-clause-places c =
     let low : length start + c.loop-place.place ≤ max c.args.most (length start) = omega (arith, c.loop-place.invariant.many, c.loop-place.invariant.few) in
     let all : length (own_places thing) ≤ c.loop-place.place = omega (arith, length-map-range_with_len (λ k. own (name_at thing k)) 0 (count_of thing), c.count-count.ensures) in
     c.loop-place.invariant.made ∙ cut_all start (own_places thing) c.loop-place.place c.args.most low all
+
+pub returns-then-len-most-clause-at : goal.returns-then-len-most-clause-at
+returns-then-len-most-clause-at c = c.loop-place.invariant.stand
+
+pub returns-clause-at : goal.returns-clause-at
+returns-clause-at c = c.loop-place.invariant.stand

@@ -2,8 +2,9 @@ use Rattle.std.proofs.Common.{◌≡◌, Some, slice_get, take, sym, ap, ◌∙�
 use Rattle.std.proofs.lemmas.List.{take_all}
 use Rattle.std.proofs.lemmas.Option.{slice_get-get_or}
 use Rattle.std.proofs.lemmas.Result.{err_from_is_err_and}
-use Rattle.lft_meanings.specs.Meanings.{all_places, here}
-use Rattle.lft_meanings.proofs.Placed.{cut_next}
+use Rattle.lft_meanings.specs.Meanings.{all_places, here, places_in, token_in}
+use Rattle.lft_meanings.specs.Standing.{all_tokens, tokens_of}
+use Rattle.lft_meanings.proofs.Growing.{cut_next}
 use Rattle.lft_meanings.specs.Refused.{IsOfReference, IsPassed}
 use Rattle.lft_meanings.proofs.Refusing.{of_this}
 use Rattle.lft_meanings.proofs.places.some_places.Goals as goal
@@ -15,10 +16,16 @@ loop-place-preserved c =
     let item = c.index-references-place.result in
     let test = c.loop-place-test.true in
     let there : slice_get items place ≡ Some item = slice_get-get_or items place item (omega arith) ∙ ap Some (sym c.index-references-place.is) in
-    cut_next (here c.args.within) items place item c.args.most _ _ there c.loop-place.invariant c.in_ok-push_some.ensures.places
+    let h = here c.args.within in (
+      cut_next (places_in h) items place item c.args.most _ _ there c.loop-place.invariant.0 c.in_ok-push_some.ensures.places,
+      cut_next (tokens_of (token_in c.args.within) h) items place item c.args.most _ _ there c.loop-place.invariant.1 c.in_ok-push_some.ensures.tokens,
+    )
 
 pub returns-clause-places : goal.returns-clause-places
-returns-clause-places c = c.loop-place.invariant ∙ ap (λ rs. take c.args.most (all_places (here c.args.within) rs)) (take_all c.loop-place.place c.args.references.now c.loop-place-test.false)
+returns-clause-places c = c.loop-place.invariant.0 ∙ ap (λ rs. take c.args.most (all_places (here c.args.within) rs)) (take_all c.loop-place.place c.args.references.now c.loop-place-test.false)
+
+pub returns-clause-tokens : goal.returns-clause-tokens
+returns-clause-tokens c = c.loop-place.invariant.1 ∙ ap (λ rs. take c.args.most (all_tokens (token_in c.args.within) (here c.args.within) rs)) (take_all c.loop-place.place c.args.references.now c.loop-place-test.false)
 
 pub returns-in_err-push_some-clause-cause : goal.returns-in_err-push_some-clause-cause
 returns-in_err-push_some-clause-cause c =
