@@ -74,9 +74,7 @@ impl<'a> Refused<'a> {
         let Some(name) = declared_name(site.member) else {
             return Ok(None);
         };
-        let reason = Reason::of(self.alloc, Sentence::MainPort, &[name])?;
-        let way = "A main reactor has no ports. What comes from outside is a physical action.";
-        Ok(Some(reason.way(way)?))
+        Ok(Some(Reason::of(self.alloc, Sentence::MainPort, &[name])?))
     }
 
     /// The two lists of a connection differ in length.
@@ -90,8 +88,8 @@ impl<'a> Refused<'a> {
         let (mut from, mut to) = (Buffer::new(), Buffer::new());
         let from = from.format(connection.sources.len() as u64);
         let to = to.format(connection.destinations.len() as u64);
-        let reason = Reason::of(self.alloc, Sentence::Widths, &[owner.as_str(), from, to])?;
-        Ok(Some(reason.way("Write as many names behind the arrow as before it.")?))
+        let names = [owner.as_str(), from, to];
+        Ok(Some(Reason::of(self.alloc, Sentence::Widths, &names)?))
     }
 
     /// A reaction has no trigger.
@@ -99,8 +97,8 @@ impl<'a> Refused<'a> {
         ensures { IfOk result (λ found. IfSome found (IsOf 12)) }
     {
         let owner = reactor_words(self.alloc, site.reactor)?;
-        let reason = Reason::of(self.alloc, Sentence::NoTrigger, &[owner.as_str()])?;
-        Ok(Some(reason.way("Write one between the parentheses, as `startup`.")?))
+        let names = [owner.as_str()];
+        Ok(Some(Reason::of(self.alloc, Sentence::NoTrigger, &names)?))
     }
 
     /// A name stands twice in one role of a reaction.
@@ -118,8 +116,7 @@ impl<'a> Refused<'a> {
         let owner = reactor_words(self.alloc, site.reactor)?;
         let name = name_words(self.alloc, name)?;
         let names = [owner.as_str(), name.as_str(), list_words(role)];
-        let reason = Reason::of(self.alloc, Sentence::NamedTwice, &names)?;
-        Ok(Some(reason.way("Write it once. A trigger is read too.")?))
+        Ok(Some(Reason::of(self.alloc, Sentence::NamedTwice, &names)?))
     }
 
     /// An instance gives a parameter two values.
@@ -134,8 +131,7 @@ impl<'a> Refused<'a> {
         }
         let name = instance.given[second].name.as_str();
         let names = [instance.name.as_str(), name];
-        let reason = Reason::of(self.alloc, Sentence::GivenTwice, &names)?;
-        Ok(Some(reason))
+        Ok(Some(Reason::of(self.alloc, Sentence::GivenTwice, &names)?))
     }
 
     /// A time is too long.
@@ -143,8 +139,8 @@ impl<'a> Refused<'a> {
         ensures { IfOk result (λ found. IfSome found (IsOf 14)) }
     {
         let owner = reactor_words(self.alloc, site.reactor)?;
-        let reason = Reason::of(self.alloc, Sentence::LongTime, &[owner.as_str()])?;
-        Ok(Some(reason.way("That is some 31 years. No time may be longer.")?))
+        let names = [owner.as_str()];
+        Ok(Some(Reason::of(self.alloc, Sentence::LongTime, &names)?))
     }
 
     /// What is said of the finding.

@@ -20,4 +20,7 @@ mod whole;
 mod words;
 
 pub use loops::tell_loop;
+pub use near::{nearest, push_link, push_question};
+pub use sentence::Sentence;
 pub use tell::{tell_refusal, tell_refusal_in};
+pub use unknown::way_of_code;

@@ -2,6 +2,7 @@
 
 ghost use Rattle.std.specs.Prelude.{◌≡◌, IfOk};
 
+use crate::near::{push_link, push_question};
 use crate::sentence::Sentence;
 use lft_refusals::Spot;
 use lft_tag::NoMemory;
@@ -72,16 +73,12 @@ impl Reason {
         Ok(reason)
     }
 
-    /// The same with the question whether a name was meant.
-    pub(crate) fn ask(self, head: &str, point: &str, name: &str) -> Result<Reason, NoMemory>
+    /// The same with the question whether a name was meant, or a port of an instance.
+    pub(crate) fn ask(self, head: &str, port: Option<&str>) -> Result<Reason, NoMemory>
         ensures { IfOk result (λ r. r.sentence ≡ self.sentence) }
     {
         let mut reason = self;
-        reason.ways.push_str("  Is it `")?;
-        reason.ways.push_str(head)?;
-        reason.ways.push_str(point)?;
-        reason.ways.push_str(name)?;
-        reason.ways.push_str("`?\n")?;
+        push_question(&mut reason.ways, head, port)?;
         Ok(reason)
     }
 
@@ -90,11 +87,7 @@ impl Reason {
         ensures { IfOk result (λ r. r.sentence ≡ self.sentence) }
     {
         let mut reason = self;
-        reason.ways.push_str("  ")?;
-        reason.ways.push_str(outer)?;
-        reason.ways.push_str(" has an instance of ")?;
-        reason.ways.push_str(inner)?;
-        reason.ways.push_str(".\n")?;
+        push_link(&mut reason.ways, outer, inner)?;
         Ok(reason)
     }
 }

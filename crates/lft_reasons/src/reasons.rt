@@ -20,17 +20,14 @@ impl<'a> Refused<'a> {
     fn no_main(&self) -> Result<Option<Reason>, NoMemory>
         ensures { IfOk result (λ found. IfSome found (IsOf 1)) }
     {
-        let reason = Reason::of(self.alloc, Sentence::NoMain, &[])?;
-        let way = "Write `main reactor { .. }`, with instances of the others.";
-        Ok(Some(reason.way(way)?))
+        Ok(Some(Reason::of(self.alloc, Sentence::NoMain, &[])?))
     }
 
     /// Two reactors are main ones.
     fn two_mains(&self) -> Result<Option<Reason>, NoMemory>
         ensures { IfOk result (λ found. IfSome found (IsOf 2)) }
     {
-        let reason = Reason::of(self.alloc, Sentence::TwoMains, &[])?;
-        Ok(Some(reason.way("Take `main` from one of them.")?))
+        Ok(Some(Reason::of(self.alloc, Sentence::TwoMains, &[])?))
     }
 
     /// Two reactors have one name.
@@ -40,8 +37,7 @@ impl<'a> Refused<'a> {
         let Some(name) = self.name_of_named(second) else {
             return Ok(None);
         };
-        let reason = Reason::of(self.alloc, Sentence::SameReactors, &[name])?;
-        Ok(Some(reason.way("Give one of them another name.")?))
+        Ok(Some(Reason::of(self.alloc, Sentence::SameReactors, &[name])?))
     }
 
     /// A reactor declares two things of one name.
@@ -54,8 +50,7 @@ impl<'a> Refused<'a> {
         };
         let owner = reactor_words(self.alloc, reactor)?;
         let names = [owner.as_str(), name];
-        let reason = Reason::of(self.alloc, Sentence::SameThings, &names)?;
-        Ok(Some(reason.way("Give one of them another name.")?))
+        Ok(Some(Reason::of(self.alloc, Sentence::SameThings, &names)?))
     }
 
     /// A port is written at two places.
@@ -77,9 +72,7 @@ impl<'a> Refused<'a> {
         let name = name_words(self.alloc, name)?;
         let writers = writer_words(first.role, second.role);
         let names = [owner.as_str(), name.as_str(), writers];
-        let reason = Reason::of(self.alloc, Sentence::TwoSources, &names)?;
-        let way = "One connection may end at a port, or reactions of one reactor write it.";
-        Ok(Some(reason.way(way)?))
+        Ok(Some(Reason::of(self.alloc, Sentence::TwoSources, &names)?))
     }
 
     /// The default of a parameter is too long.
@@ -92,8 +85,7 @@ impl<'a> Refused<'a> {
         };
         let owner = reactor_words(self.alloc, reactor)?;
         let names = [name, owner.as_str()];
-        let reason = Reason::of(self.alloc, Sentence::LongDefault, &names)?;
-        Ok(Some(reason.way("That is some 31 years. No time may be longer.")?))
+        Ok(Some(Reason::of(self.alloc, Sentence::LongDefault, &names)?))
     }
 
     /// What is said of a finding in the member with that place in the reactor with that place.

@@ -1,7 +1,7 @@
 //! The sentences that tell why a program is refused.
 
-ghost use Rattle.std.specs.Prelude.{◌≡◌, ◌++◌, [], OnOk, get_or, map, string_bytes};
-ghost use Rattle.lft_reasons.specs.Sentences.{said, words_in};
+ghost use Rattle.std.specs.Prelude.{◌≡◌, ◌++◌, [], OnOk, get_or, map, option_map, string_bytes};
+ghost use Rattle.lft_reasons.specs.Sentences.{said, way_in, words_in};
 
 use lft_lists::item_at;
 use lft_tag::NoMemory;
@@ -34,7 +34,7 @@ const LONG_CHAIN: [&str; 3] = [
 
 /// What is said, without the names in it. Each has a cause.
 #[derive(Clone, Copy)]
-pub(crate) enum Sentence {
+pub enum Sentence {
     NoMain,
     TwoMains,
     SameReactors,
@@ -87,6 +87,34 @@ impl Sentence {
             Sentence::LongDefault => &["the default of ", " in ", " is past 10^18 nanoseconds"],
             Sentence::LongChain => &LONG_CHAIN,
             Sentence::TooMany => &["the program has ", ", and may have "],
+        }
+    }
+
+    /// What to write, where the sentence alone tells that.
+    pub fn way(self) -> Option<&'static str>
+        ensures { option_map (λ way. way.now) result ≡ way_in self }
+    {
+        match self {
+            Sentence::NoMain => Some("Write `main reactor { .. }`, with instances of the others."),
+            Sentence::TwoMains => Some("Take `main` from one of them."),
+            Sentence::SameReactors | Sentence::SameThings => Some("Give one of them another name."),
+            Sentence::MainPort => Some(
+                "A main reactor has no ports. What comes from outside is a physical action.",
+            ),
+            Sentence::TwoSources => Some(
+                "One connection may end at a port, or reactions of one reactor write it.",
+            ),
+            Sentence::Cycle => Some("No delay breaks such a loop: a reaction has to stand in it."),
+            Sentence::Widths => Some("Write as many names behind the arrow as before it."),
+            Sentence::NoTrigger => Some("Write one between the parentheses, as `startup`."),
+            Sentence::NamedTwice => Some("Write it once. A trigger is read too."),
+            Sentence::LongTime | Sentence::LongDefault => Some(
+                "That is some 31 years. No time may be longer.",
+            ),
+            Sentence::LongChain => Some(
+                "That is some 31 years. No chain of connections may delay longer.",
+            ),
+            _ => None,
         }
     }
 }

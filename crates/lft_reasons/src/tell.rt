@@ -22,6 +22,7 @@ use crate::sentence::{Sentence, push_said};
 use crate::spots::{reactors_among, spot_of};
 use lft_causes::{Finding, Witness};
 use lft_program::{ProgramFault, Refusal};
+use lft_refusals::words::push_way;
 use lft_refusals::{Page, Spot, place_words, push_marked};
 use lft_syntax::{Token, Tokens};
 use lft_tag::NoMemory;
@@ -184,6 +185,7 @@ fn rest_of(alloc: Global, text: &[u8], files: &[Page], reason: &Reason) -> Resul
     push_marked(alloc, &mut out, text, files, reason.before)?;
     push_marked(alloc, &mut out, text, files, reason.at)?;
     out.push_str(reason.ways.as_str())?;
+    push_way(&mut out, reason.sentence.way())?;
     Ok(out)
 }
 

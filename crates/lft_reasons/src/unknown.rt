@@ -1,6 +1,7 @@
 //! What is said of names that are nothing.
 
-ghost use Rattle.std.specs.Prelude.{◌≡◌, IfOk, IfSome};
+ghost use Rattle.std.specs.Prelude.{◌≡◌, IfOk, IfSome, codes};
+ghost use Rattle.lft_refusals.specs.Codes.{HasCodeWith};
 ghost use Rattle.lft_reasons.specs.Sentences.{IsOf};
 
 use crate::reason::Reason;
@@ -10,6 +11,7 @@ use crate::spots::{name_at, time_at};
 use crate::words::reactor_words;
 use lft_refusals::has_code_with;
 use lft_scope::kinds::Role;
+use lft_syntax::Token;
 use lft_tag::NoMemory;
 use lft_tree::{Instance, Member, TimeExpression};
 
@@ -21,12 +23,23 @@ pub(crate) fn instance_of(member: &Member) -> Option<&Instance> {
     }
 }
 
+/// What helps where code reaches too far, so that a reactor is in it.
+pub fn way_of_code(text: &[u8], tokens: &[Token]) -> Option<&'static str>
+    ensures { IfSome result (λ _. HasCodeWith text.now tokens.now (codes "reaction")) }
+{
+    if has_code_with(text, tokens, b"reaction") {
+        Some("Some code has the word `reaction`: is the `=}` before that missing?")
+    } else {
+        None
+    }
+}
+
 /// The reason with a question, where some name was probably meant.
 fn meant(reason: Reason, near: Option<&str>) -> Result<Reason, NoMemory>
     ensures { IfOk result (λ r. r.sentence ≡ reason.sentence) }
 {
     match near {
-        Some(name) => reason.ask("", "", name),
+        Some(name) => reason.ask(name, None),
         None => Ok(reason),
     }
 }
@@ -44,11 +57,10 @@ impl<'a> Refused<'a> {
         let names = [owner.as_str(), wanted];
         let reason = Reason::of(self.alloc, Sentence::UnknownReactor, &names)?;
         let reason = meant(reason, self.near_reactor(wanted)?)?;
-        if has_code_with(self.text, self.tokens, b"reaction") {
-            let way = "Some code has the word `reaction`: is the `=}` before that missing?";
-            return Ok(Some(reason.way(way)?));
+        match way_of_code(self.text, self.tokens) {
+            Some(way) => Ok(Some(reason.way(way)?)),
+            None => Ok(Some(reason)),
         }
-        Ok(Some(reason))
     }
 
     /// A name without a port is nothing.
@@ -60,7 +72,7 @@ impl<'a> Refused<'a> {
         let reason = Reason::of(self.alloc, Sentence::UnknownName, &names)?;
         let reason = meant(reason, self.near_declared(site.reactor, wanted)?)?;
         match self.with_that_port(site.reactor, wanted)? {
-            Some(instance) => Ok(reason.ask(instance, ".", wanted)?),
+            Some(instance) => Ok(reason.ask(instance, Some(wanted))?),
             None => Ok(reason),
         }
     }
@@ -73,7 +85,7 @@ impl<'a> Refused<'a> {
         let names = [owner.as_str(), head];
         let reason = Reason::of(self.alloc, Sentence::UnknownInstance, &names)?;
         match self.near_instance(site.reactor, head, port)? {
-            Some(near) => Ok(reason.ask(near, ".", port)?),
+            Some(near) => Ok(reason.ask(near, Some(port))?),
             None => Ok(reason),
         }
     }
@@ -95,7 +107,7 @@ impl<'a> Refused<'a> {
             return Ok(reason);
         };
         match self.near_port(reactor, port)? {
-            Some(near) => Ok(reason.ask(head, ".", near)?),
+            Some(near) => Ok(reason.ask(head, Some(near))?),
             None => Ok(reason),
         }
     }

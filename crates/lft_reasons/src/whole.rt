@@ -111,8 +111,7 @@ impl<'a> Refused<'a> {
         let reason = Reason::of(self.alloc, Sentence::Cycle, &[])?
             .at(self.end_spot(way, first))
             .way(words.as_str())?;
-        let words = "No delay breaks such a loop: a reaction has to stand in it.";
-        Ok(Some(reason.way(words)?))
+        Ok(Some(reason))
     }
 
     /// The delays of a chain of connections sum to more than the greatest time. The place is the delay with
@@ -127,8 +126,7 @@ impl<'a> Refused<'a> {
         let reason = Reason::of(self.alloc, Sentence::LongChain, &names)?.at(self.delay_spot(
             way, 0,
         ));
-        let words = "That is some 31 years. No chain of connections may delay longer.";
-        Ok(Some(reason.way(words)?))
+        Ok(Some(reason))
     }
 
     /// Which limit the program passes, and how many there are.

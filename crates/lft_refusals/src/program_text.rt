@@ -261,14 +261,14 @@ pub fn tell_no_tree(
 }
 
 /// What helps in place of a token that stands behind others: by the tokens before it, or by what could stand there.
-/// A whole program may have a reaction without code, so of a string or a sign in its place it is told how code is written.
+/// A whole program may have a reaction without code, so in its place it is told how code is written.
 fn way_behind(before: &Before<'_>, token: Token) -> Result<Option<&'static str>, NoMemory>
     requires lexed { AreTokens before.now }
 {
     let better = before.way(token.kind, before.spelling(0))?;
     let found = candidates(before)?;
     match better.or(of_candidates(token.kind, before, &found)) {
-        Some(way) if way == NO_CODE && token.kind != TokenKind::Name => Ok(Some(CODE)),
+        Some(way) if way == NO_CODE => Ok(Some(CODE)),
         way => Ok(way),
     }
 }

@@ -13,7 +13,7 @@ use std::alloc::Global;
 
 /// Whether the letter isn't seen, or decides how others are seen: what stands between letters without a
 /// width, what turns the direction of writing, what ends a line for some, the byte order mark, tags.
-fn is_format(letter: char) -> bool
+pub fn is_format(letter: char) -> bool
     ensures { result ≡ is_of_format letter }
 {
     let code = letter as u32;
