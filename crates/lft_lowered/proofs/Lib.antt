@@ -1,3 +1,4 @@
 mod Gathered
 mod Joining
+mod Sameness
 mod Saying

@@ -9,6 +9,7 @@ use Rattle.lft_tree.specs.declared.ast.Ast.{Ast}
 use Rattle.lft_expanded.specs.Core.{expanded_tree}
 use Rattle.lft_expanded.proofs.Only.{only_flat}
 use Rattle.lft_expanded.proofs.Sameness.{core_law}
+use Rattle.lft_same.proofs.Same.{lowered_law}
 use Rattle.lft_lowered.specs.Lowered.{IsOfFiles}
 
 pub the_program : (files : List SourceFile) (tree : Ast) → IsLowering files tree → (p : Parts) → IsFlatOf (tree_view tree) p → IsOfFiles files p

@@ -30,7 +30,7 @@ use Rattle.lft_expanded.specs.Reactors.{members_of}
 use Rattle.lft_expanded.specs.Whole.{channels, link, links_at, links_of, pairs}
 use Rattle.lft_expanded.proofs.Flattened.{linked}
 use Rattle.lft_expanded.proofs.Links.{joined_links, whole_links}
-use Rattle.lft_same.specs.Instances.{AreWidthsFound, StandsFor}
+use Rattle.lft_same.proofs.Instances.{AreWidthsFound, StandsFor}
 use Rattle.lft_same.proofs.Inners.{names_alike}
 use Rattle.lft_same.proofs.Known.{delay_time, known_law}
 use Rattle.lft_same.proofs.Listed.{all_mapped, none_mapped, unnumbered}

@@ -33,7 +33,7 @@ use Rattle.lft_expanded.specs.Instances.{Inside, Widths, numbers, period_in, tim
 use Rattle.lft_expanded.specs.Reactors.{members_of}
 use Rattle.lft_expanded.specs.Whole.{actions_at, ports_at, timers_at}
 use Rattle.lft_expanded.proofs.Flattened.{map_twice}
-use Rattle.lft_same.specs.Instances.{AreWidthsFound, StandsFor}
+use Rattle.lft_same.proofs.Instances.{AreWidthsFound, StandsFor}
 use Rattle.lft_same.specs.Times.{IsKnown}
 use Rattle.lft_same.proofs.Known.{action_time, known_law, listed, timer_time}
 use Rattle.lft_same.proofs.Listed.{all_mapped, none_mapped, unnumbered}

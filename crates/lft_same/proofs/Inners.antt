@@ -23,7 +23,7 @@ use Rattle.lft_lower.specs.Reactors.{IsLowering}
 use Rattle.lft_expanded.specs.Instances.{Inner, Inside, Widths, inners, inners_at, numbers, written}
 use Rattle.lft_expanded.specs.Reactors.{members_of}
 use Rattle.lft_expanded.proofs.Flattened.{map_twice}
-use Rattle.lft_same.specs.Instances.{AreWidthsFound, StandsFor}
+use Rattle.lft_same.proofs.Instances.{AreWidthsFound, StandsFor}
 use Rattle.lft_same.proofs.Listed.{all_mapped, none_mapped, zipped_append, zipped_maps, zipped_same}
 use Rattle.lft_same.proofs.Lowered.{Appends, Becomes, of_connection, of_reaction}
 use Rattle.lft_same.proofs.Members.{here, members_alike, never_of, numbers_are, of_class}

@@ -2,6 +2,7 @@ pub mod Connections
 pub mod Declared
 pub mod Found
 pub mod Inners
+pub mod Instances
 pub mod Kept
 pub mod Known
 pub mod Limits

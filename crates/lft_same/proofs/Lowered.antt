@@ -89,7 +89,7 @@ module _ (names : List (Option (List ℕ))) (h : Here) where
   keeps n (member.Connection c) before new after low q e = low.0 ∙ e
   keeps n (member.Foreign what at) before new after low q e = absurd low
 
-  -- what a member of the shape becomes, among all that its members become, of which the one action without events is known
+  -- what a member of the shape becomes, among all that its members become; the action without events is known
   pub record Becomes (all : List MemberTree) (never : Option (List ℕ)) (n : ℕ) (m : Inherited) (new : List MemberTree) : Type 0 where
     pub at : slice_get h.shape.members.items n ≡ Some m
     pub before : Option (List ℕ)

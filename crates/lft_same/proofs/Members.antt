@@ -17,7 +17,7 @@ use Rattle.lft_lower.specs.Reactors.{IsLowering}
 use Rattle.lft_expanded.specs.Instances.{Inside, Widths, numbers}
 use Rattle.lft_expanded.specs.Reactors.{members_of}
 use Rattle.lft_fits.specs.Fits.{IsShapeOf}
-use Rattle.lft_same.specs.Instances.{AreWidthsFound, StandsFor}
+use Rattle.lft_same.proofs.Instances.{AreWidthsFound, StandsFor}
 use Rattle.lft_same.proofs.Lowered.{Appends, Becomes, all_become}
 use Rattle.lft_same.proofs.Settings.{its_setting, numbers_are as numbers_found, of_class as class_found, same_shape as shape_found, unwritten as none_found}
 

@@ -1,4 +1,4 @@
--- The reactions of a core instance are those of the instance that it stands for, but for what the action without events triggers.
+-- The reactions of a core instance are those of the instance that it stands for, but for what sleeps.
 use Rattle.std.proofs.Common.{◌≡◌, ℕ, inl, inr, All, Bool, true, false, List, [], ◌∷◌, ◌++◌, map, flat_map, filter_map, Option, Some, None, option_to_list, refl, sym, ap, subst, ◌∙◌}
 use Rattle.std.specs.Prelude.{bytes_eq, filter, if◌then◌else◌, not, string_bytes, ◌&&◌}
 use Rattle.std.proofs.lemmas.Grind.{flat_map-append}
@@ -34,7 +34,7 @@ use Rattle.lft_expanded.specs.Reactors.{members_of}
 use Rattle.lft_expanded.specs.Same.{awake_reaction, is_other}
 use Rattle.lft_expanded.specs.Whole.{channels, effects_in, reactions_at, triggers_in, uses_in}
 use Rattle.lft_fits.proofs.Shapes.{flat_alike, flat_mapped}
-use Rattle.lft_same.specs.Instances.{AreWidthsFound, StandsFor}
+use Rattle.lft_same.proofs.Instances.{AreWidthsFound, StandsFor}
 use Rattle.lft_same.proofs.Inners.{names_alike}
 use Rattle.lft_same.proofs.Kept.{all_pass, filter-flat_map, flat_kept, flat_map-flat_map, of_all}
 use Rattle.lft_same.proofs.Listed.{none_mapped, unnumbered}

@@ -58,7 +58,7 @@ module _ (files : List SourceFile) (tree : Ast) (low : IsLowering files tree) wh
     pub listed : Contains (reactors_of (tree_view tree)) r
     pub reactor : IsReactor low.settings low.names number shape r
 
-  -- the core reactor that is named at an instance in one of a setting is that of the setting in it
+  -- the core reactor that is named at an instance is that of the setting in it
   pub reactor_found : (number n : ℕ) (t : Valued) (shape : Shape) (q : List ℕ) (r : ReactorTree) → setting_at low.settings number ≡ Some t → reactor_at low.names (record { settings = low.settings; setting = number; shape = shape }) n ≡ Some q → reactor_named (reactors_of (tree_view tree)) q ≡ Some r → (u : Valued) × (inside low.settings.shapes.items t n ≡ Some u) × IsCore u r
   reactor_found number n t shape q r is_setting named found =
       (u.0, u.1, record { number = k.0; used = subst (Has low.used) same one.used; is_setting = u.2; shape = one.shape; is_shape = ap (shape_at low.settings) (sym same) ∙ one.is_shape; listed = mem_contains r (reactors_of (tree_view tree)) f.0; reactor = subst (λ k. IsReactor low.settings low.names k one.shape r) same one.reactor })

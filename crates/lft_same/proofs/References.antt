@@ -43,7 +43,7 @@ use Rattle.lft_expanded.proofs.Flattened.{map_twice}
 use Rattle.lft_fits.proofs.Channels.{crossed_first, is_found}
 use Rattle.lft_fits.proofs.MemberNames.{member_found, member_lost}
 use Rattle.lft_fits.proofs.Shapes.{flat_alike}
-use Rattle.lft_same.specs.Instances.{AreWidthsFound}
+use Rattle.lft_same.proofs.Instances.{AreWidthsFound}
 use Rattle.lft_same.proofs.Kept.{kept_or, of_all, some_or}
 use Rattle.lft_same.proofs.Settings.{HasSetting, IsFoundIn, found_in, here, nested, numbers_are, of_class, shape_there, member_of}
 
@@ -77,7 +77,7 @@ crossed_places members ports interleaved =
 abbrev pub inner_numbers : List SourceFile → Widths → Inside → List ℕ → List ℕ → List (Option ℕ)
 inner_numbers files w x b p = flat_map (λ y. numbers_named files w y p) (option_to_list (inside_named files x b))
 
--- the names in the core of all that a name stands for, or the name of a port behind that of an instance
+-- the core names of all that a name stands for, or that of a port behind an instance's
 abbrev pub refs_named : List SourceFile → Widths → Inside → Bool → List ℕ → Option (List ℕ) → List RefTree
 refs_named files w x interleaved q None = map (λ n. own (written q n)) (numbers_named files w x q)
 refs_named files w x interleaved b (Some p) = map (λ n. inner (written b n.0) (written p n.1)) (crossed interleaved (numbers_named files w x b) (inner_numbers files w x b p))

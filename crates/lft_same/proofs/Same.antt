@@ -16,7 +16,7 @@ use Rattle.lft_expanded.specs.Instances.{Inside, Widths, entered, main_instance}
 use Rattle.lft_expanded.specs.Reactors.{Class, main_of}
 use Rattle.lft_expanded.specs.Same.{IsNever, IsSame, awake}
 use Rattle.lft_expanded.specs.Whole.{AreWidths, expanded_files, whole_contents}
-use Rattle.lft_same.specs.Instances.{AreWidthsFound, StandsFor}
+use Rattle.lft_same.proofs.Instances.{AreWidthsFound, StandsFor}
 use Rattle.lft_same.specs.Laws.{LoweredLaw}
 use Rattle.lft_same.proofs.Connections.{links_alike}
 use Rattle.lft_same.proofs.Declared.{actions_alike, awake_actions, ports_alike, timers_alike}
@@ -92,7 +92,7 @@ module _ (files : List SourceFile) (tree : Ast) (low : IsLowering files tree) (n
       go _ _ neither = refl
       go _ _ (both core x s) = ap Some (contents_alike path x core s)
 
-  is_same : AreWidths files w → IsSame files (tree_view tree)
+  is_same : AreWidths files w → IsSame files (expanded_tree (tree_view tree))
   is_same are = record { widths = w; are_widths = are; never = never_at; is_never = never_is; same = same_at }
 
 pub lowered_law : (files : List SourceFile) → LoweredLaw files

@@ -36,7 +36,7 @@ use Rattle.lft_expanded.specs.Reactors.{members_of}
 use Rattle.lft_fits.specs.Fits.{Fits, IsShapeOf}
 use Rattle.lft_fits.proofs.Nested.{exists_law, inside_law, instance_law}
 use Rattle.lft_fits.proofs.Widths.{AreNested, width_is_written}
-use Rattle.lft_same.specs.Instances.{AreWidthsFound, StandsFor}
+use Rattle.lft_same.proofs.Instances.{AreWidthsFound, StandsFor}
 use Rattle.lft_same.proofs.Lowered.{Becomes, made_at as member_made}
 use Rattle.lft_same.proofs.Found.{found_is_width, shape_of_setting, width_written}
 

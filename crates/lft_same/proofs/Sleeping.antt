@@ -41,7 +41,7 @@ use Rattle.lft_expanded.specs.Core.{core_contents, core_reaction}
 use Rattle.lft_expanded.specs.Expanded.{Action, Reaction}
 use Rattle.lft_expanded.specs.Instances.{Inside}
 use Rattle.lft_expanded.specs.Same.{IsNever, IsUnscheduled}
-use Rattle.lft_same.specs.Instances.{StandsFor}
+use Rattle.lft_same.proofs.Instances.{StandsFor}
 use Rattle.lft_same.proofs.Listed.{none_mapped}
 use Rattle.lft_same.proofs.Lowered.{Appends, Becomes, IsAdded, all_become, made_at, never_added, of_connection, of_instance, of_reaction}
 use Rattle.lft_same.proofs.Members.{here, never_of, of_class, unwritten}

@@ -21,7 +21,7 @@ use Rattle.lft_expanded.specs.Instances.{Inner, Inside, Widths, entered, inners,
 use Rattle.lft_expanded.specs.Reactors.{Class, main_of}
 use Rattle.lft_fits.specs.Fits.{Fits}
 use Rattle.lft_fits.proofs.Nested.{main_law}
-use Rattle.lft_same.specs.Instances.{AreWidthsFound, StandsFor}
+use Rattle.lft_same.proofs.Instances.{AreWidthsFound, StandsFor}
 use Rattle.lft_same.specs.Times.{IsKnown}
 use Rattle.lft_same.proofs.Found.{shape_of_setting}
 use Rattle.lft_same.proofs.Inners.{IsInner, instances_alike}

@@ -35,7 +35,7 @@ use Rattle.lft_expanded.specs.Reactors.{members_of}
 use Rattle.lft_expanded.specs.Whole.{channels, crossed, is_timer, names_timer, uses_in}
 use Rattle.lft_fits.proofs.Giving.{find_none, find_some}
 use Rattle.lft_fits.proofs.MemberNames.{member_found, member_lost}
-use Rattle.lft_same.specs.Instances.{AreWidthsFound, StandsFor}
+use Rattle.lft_same.proofs.Instances.{AreWidthsFound, StandsFor}
 use Rattle.lft_same.proofs.Inners.{names_alike}
 use Rattle.lft_same.proofs.Kept.{all_pass}
 use Rattle.lft_same.proofs.Listed.{none_mapped}

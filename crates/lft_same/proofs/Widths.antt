@@ -18,7 +18,7 @@ use Rattle.lft_expanded.specs.Instances.{Widths}
 use Rattle.lft_expanded.specs.Whole.{AreWidths}
 use Rattle.lft_fits.specs.Widths.{AreFound, AreThose, small}
 use Rattle.lft_fits.proofs.Found.{widths_law}
-use Rattle.lft_same.specs.Instances.{AreWidthsFound}
+use Rattle.lft_same.proofs.Instances.{AreWidthsFound}
 use Rattle.lft_same.proofs.Reached.{HasInstance, found_at, found_small, found_written, reached_instance}
 
 -- what holds of each at some depth, and at each greater one, holds of all at one depth

@@ -17,6 +17,7 @@ use Rattle.lft_lower.specs.Lowered.{AreGiven, IsPeriod, IsRead, period_at, time_
 use Rattle.lft_lower.specs.Reactors.{AreShapes, IsLowering, timed_parameters}
 use Rattle.lft_expanded.specs.Instances.{Inside, inside_of, main_instance, period_in, time_in}
 use Rattle.lft_expanded.specs.Reactors.{Class, main_of, members_of}
+use Rattle.lft_expanded.specs.Core.{expanded_tree}
 use Rattle.lft_expanded.specs.Same.{IsSame}
 use Rattle.lft_fits.specs.Fits.{Fits}
 use Rattle.lft_same.specs.Times.{HasTimes, IsKnown}
@@ -43,4 +44,4 @@ KnownLaw = (tree : FileTree) (r : ReactorTree) (t : TimeTree) → NoneHolds (cau
 
 -- A tree to which a program is lowered, and of which no cause of refusal holds, is the whole program.
 abbrev pub LoweredLaw : List SourceFile → Type 0
-LoweredLaw files = (tree : Ast) → IsLowering files tree → NoneHolds (causes (tree_view tree)) → IsSame files (tree_view tree)
+LoweredLaw files = (tree : Ast) → IsLowering files tree → NoneHolds (causes (tree_view tree)) → IsSame files (expanded_tree (tree_view tree))

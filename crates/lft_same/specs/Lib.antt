@@ -1,3 +1,2 @@
-pub mod Instances
 pub mod Laws
 pub mod Times

@@ -3,6 +3,7 @@ use Rattle.lft_lower.specs.Causes.{HasCause}
 use Rattle.lft_program.specs.Refusals.{cause_of}
 use Rattle.lft_lowered.specs.Unlowered.{AreRefused}
 use Rattle.lft_lowered.specs.declared.told.Unlowered.{Unlowered}
+use Rattle.lft_lowered.proofs.Sameness.{the_program}
 use Rattle.lft_lowered.proofs.Saying.{told_says}
 use Rattle.lft_lowered.proofs.program.program_of.Goals as goal
 

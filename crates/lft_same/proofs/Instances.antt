@@ -15,7 +15,7 @@ use Rattle.lft_expanded.specs.Instances.{Inside, Widths}
 use Rattle.lft_fits.specs.Fits.{Fits}
 use Rattle.lft_same.specs.Times.{HasTimes}
 
--- where a setting that instances have fits an instance, the widths of the instance are those that lowering found of the setting
+-- where a setting that instances have fits an instance, that one has the widths that lowering found
 abbrev pub AreWidthsFound : (files : List SourceFile) (tree : Ast) → IsLowering files tree → Widths → Type 0
 AreWidthsFound files tree low w = (k : ℕ) (t : Valued) (y : Inside) (m n : ℕ) → Has low.used k → setting_at low.settings k ≡ Some t → Fits files low.settings.shapes.items t y → found_width low.settings k m ≡ Some n → w y m ≡ n
 
