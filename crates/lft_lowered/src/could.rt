@@ -24,12 +24,14 @@ const NAME: Thing = Thing {
     words: "a name",
 };
 
+const UNIT: Thing = Thing {
+    spelling: "ms",
+    words: "a unit of time (ns us ms s min h d week)",
+};
+
 /// What is also a name elsewhere, and so isn't told where a name can stand.
 const WORDS: [Thing; 4] = [
-    Thing {
-        spelling: "ms",
-        words: "a unit of time (ns us ms s min h d week)",
-    },
+    UNIT,
     Thing {
         spelling: "time",
         words: "the type `time`",
@@ -44,7 +46,7 @@ const WORDS: [Thing; 4] = [
     },
 ];
 
-const OTHERS: [Thing; 20] = [
+const OTHERS: [Thing; 14] = [
     Thing {
         spelling: "1",
         words: "a number",
@@ -101,6 +103,10 @@ const OTHERS: [Thing; 20] = [
         spelling: "->",
         words: "`->`",
     },
+];
+
+/// Words that begin something. Where each of them can stand any word can, and it is told as a name.
+const KEYS: [Thing; 6] = [
     Thing {
         spelling: "timer",
         words: "a member of the reactor, as `timer` or `reaction`",
@@ -198,12 +204,27 @@ impl Front<'_> {
         Ok(found)
     }
 
+    /// Puts those of the words that can stand behind it at the end of a list, unless any word can.
+    fn find_keys(self, found: &mut Vec<Thing>) -> Result<(), NoMemory>
+        requires { All (CanStand self.text.now self.token) found.old.items }
+        ensures { OnOk result (All (CanStand self.entry.text.now self.entry.token) found.new.items) }
+    {
+        let mut keys = Vec::new(self.alloc);
+        self.find(&mut keys, &KEYS)?;
+        if keys.len() == KEYS.len() {
+            return Ok(());
+        }
+        found.extend_from_slice(&keys)?;
+        Ok(())
+    }
+
     /// What can stand behind it: a name, or the words that can, and other things.
     fn candidates(self) -> Result<Vec<Thing>, NoMemory>
         ensures { IfOk result (λ found. All (CanStand self.entry.text.now self.entry.token) found.items) }
     {
         let mut found = self.name_or_words()?;
         self.find(&mut found, &OTHERS)?;
+        self.find_keys(&mut found)?;
         Ok(found)
     }
 }
@@ -239,4 +260,25 @@ pub(crate) fn push_could(
     };
     let found = front.candidates()?;
     push_things(out, &found)
+}
+
+/// Puts behind a text that a unit could stand behind a token of a file, where one can. The token ends there.
+pub(crate) fn push_unit(
+    alloc: Global,
+    out: &mut String,
+    text: &[u8],
+    end: usize,
+    token: usize,
+) -> Result<(), NoMemory> {
+    let front = Front {
+        alloc,
+        text: text.get(..end).unwrap_or(b""),
+        token: token.saturating_add(1),
+    };
+    if front.can_stand(UNIT)? {
+        out.push_str("  Behind it could stand: ")?;
+        out.push_str(UNIT.words)?;
+        out.push_str(".\n")?;
+    }
+    Ok(())
 }

@@ -2,6 +2,8 @@
 //! From the files of a whole program to its flat program.
 
 mod could;
+mod hints;
+mod names;
 mod pages;
 mod program;
 mod reading;

@@ -45,7 +45,7 @@ fn moved(start: usize, token: WholeToken) -> Token
 }
 
 /// Puts the tokens of a file at the end of a list, where its text begins there in the text of all.
-fn push_tokens(
+pub(crate) fn push_tokens(
     list: &mut Vec<Token>,
     text: &[u8],
     tokens: &Tokens,

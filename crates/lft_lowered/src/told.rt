@@ -10,6 +10,8 @@ ghost use Rattle.lft_tree.specs.View.{tree_view};
 ghost use Rattle.lft_lowered.specs.Told.{IsSentence, IsTold, IsToldTree, IsUnexpected, TellsAt, TellsRefusal, TellsTree, where_words as words_where};
 
 use crate::could::push_could;
+use crate::hints::Hint;
+use crate::names::Names;
 use crate::pages::join_files;
 use lft_files::Failure;
 use lft_load::{Detail, Fault, Part};
@@ -192,25 +194,77 @@ fn sentence(
     Ok(out)
 }
 
-/// The line of a refusal with a mark, and what helps.
+/// Puts the line of a token behind the text, with a mark at it.
+fn push_line(
+    alloc: Global,
+    out: &mut String,
+    files: &[SourceFile],
+    place: Place,
+) -> Result<(), NoMemory> {
+    let Some(file) = files.get(place.file) else {
+        return Ok(());
+    };
+    let spot = spot_in(alloc, file, place.token)?;
+    push_marked(alloc, out, &file.text, &[], Some(spot))
+}
+
+/// Puts the line of the first of two behind the text, and where that is, if it is in another file.
+fn push_first(
+    alloc: Global,
+    out: &mut String,
+    files: &[SourceFile],
+    second: Place,
+    first: Place,
+) -> Result<(), NoMemory> {
+    if first.file != second.file {
+        let place = where_words(alloc, files, first)?;
+        out.push_str(place.as_str())?;
+        out.push_str(":\n")?;
+    }
+    push_line(alloc, out, files, first)
+}
+
+/// Puts what helps where a text isn't of the grammar behind the text.
+fn push_help(
+    alloc: Global,
+    out: &mut String,
+    file: &SourceFile,
+    refusal: Refusal,
+) -> Result<(), NoMemory> {
+    let token = refusal.place.token;
+    let spot = spot_in(alloc, file, token)?;
+    if refusal.why == Why::Unexpected {
+        push_could(alloc, out, &file.text, spot.start, token)?;
+    }
+    let before = spot_in(alloc, file, token.saturating_sub(1))?;
+    push_way(out, way_at(alloc, &file.text, before.start, spot.start)?)
+}
+
+/// The line of a refusal with a mark, and what helps. Of two things of which the second is refused both lines.
 fn rest_of(alloc: Global, files: &[SourceFile], refusal: Refusal) -> Result<String, NoMemory> {
     let mut out = String::new(alloc);
     let Some(file) = files.get(refusal.place.file) else {
         return Ok(out);
     };
-    let token = refusal.place.token;
-    let spot = spot_in(alloc, file, token)?;
-    push_marked(alloc, &mut out, &file.text, &[], Some(spot))?;
-    if refusal.why == Why::Unexpected {
-        push_could(alloc, &mut out, &file.text, spot.start, token)?;
-    }
     if matches!(refusal.why, Why::Unexpected | Why::NotText) {
-        let before = spot_in(alloc, file, token.saturating_sub(1))?;
-        push_way(
-            &mut out,
-            way_at(alloc, &file.text, before.start, spot.start)?,
-        )?;
+        push_line(alloc, &mut out, files, refusal.place)?;
+        push_help(alloc, &mut out, file, refusal)?;
+        return Ok(out);
     }
+    let Ok(tokens) = lex(alloc, &file.text) else {
+        return Err(NoMemory);
+    };
+    let hint = Hint {
+        names: Names { alloc, files },
+        file,
+        tokens: &tokens,
+        place: refusal.place,
+    };
+    if let Some(first) = hint.before(refusal.why)? {
+        push_first(alloc, &mut out, files, refusal.place, first)?;
+    }
+    push_line(alloc, &mut out, files, refusal.place)?;
+    hint.push(&mut out, refusal.why)?;
     Ok(out)
 }
 
