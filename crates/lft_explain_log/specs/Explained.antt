@@ -1,7 +1,9 @@
 -- What is told of a log, with what explains it.
-use Rattle.std.specs.Prelude.{◌≡◌, ◌⊎◌, ℕ, Bool, true, false, List, [], ◌∷◌, ◌++◌, take, Option, Some}
+use Rattle.std.specs.Prelude.{◌≡◌, ◌⊎◌, ◌<◌, ◌^◌, ℕ, Bool, true, false, List, [], ◌∷◌, ◌++◌, length, take, Option, Result, Ok, MatchOption}
 use Rattle.std.specs.Global.{Vec}
+use Rattle.lft_tag.specs.declared.NoMemory.{NoMemory as TheNoMemory}
 use Rattle.lft_tag.specs.declared.Tag.{Tag}
+use Rattle.lft_flat.specs.Parts.{Parts}
 use Rattle.lft_steps.specs.declared.row.Row.{Row}
 use Rattle.lft_model.specs.declared.breach.Breach.{Breach}
 use Rattle.lft_model.specs.Plans.{PlanParts}
@@ -14,6 +16,7 @@ use Rattle.lft_follow.specs.Follows.{breach_of}
 use Rattle.lft_follow.specs.declared.found.Found.{Found}
 use Rattle.lft_follow.specs.declared.judged.Ending.TheVariants as ending
 use Rattle.lft_follow.specs.declared.open.OpenRun.{OpenRun}
+use Rattle.lft_log.specs.Logs.{HasManyRows}
 use Rattle.lft_log.specs.Told.{AreOpenAtEnd, TellsPlan}
 use Rattle.lft_log.specs.declared.told.Ended.{Ended}
 use Rattle.lft_log.specs.declared.told.Told.TheVariants.{Broken}
@@ -22,45 +25,58 @@ use Rattle.lft_log.specs.declared.told.Final.TheVariants.{Soon, AtEnd}
 use Rattle.lft_front.specs.Explained.{Writes}
 use Rattle.lft_monitor.specs.Lines.{line_of_log}
 use Rattle.lft_monitor.specs.Followed.{IsRead}
+use Rattle.lft_monitor.specs.declared.kept.Kept.{Kept}
+use Rattle.lft_monitor.specs.declared.kept.Kept.TheVariants as keeps
 use Rattle.lft_explain_log.specs.declared.explaining.Explained.{Explained}
+use Rattle.lft_explain_log.specs.declared.explaining.Unexplained.{Unexplained}
+use Rattle.lft_explain_log.specs.declared.explaining.Unexplained.TheVariants.{NoMemory, TooLong}
 
--- of a breach the text is what explains it, where rows are missing it lists runs, else it is empty
-abbrev pub IsTextOf : (Found → List ℕ → Type 0) → (List ℕ → Type 0) → Final → List ℕ → Type 0
-IsTextOf Explain Lists (Soon (Broken b)) text = Explain b text
-IsTextOf Explain Lists (AtEnd (ending.Broken b)) text = Explain b text
+-- of a breach, at the end or before it, the text is what explains it, where rows are missing it lists runs, else it is empty
+abbrev pub IsTextOf : (Bool → Found → List ℕ → Type 0) → (List ℕ → Type 0) → Final → List ℕ → Type 0
+IsTextOf Explain Lists (Soon (Broken b)) text = Explain false b text
+IsTextOf Explain Lists (AtEnd (ending.Broken b)) text = Explain true b text
 IsTextOf Explain Lists (AtEnd (ending.Unbroken r)) text = Lists text
 IsTextOf Explain Lists told text = text ≡ []
 
--- more than the line may stand there
-abbrev pub HasMore : Final → Type 0
-HasMore (Soon (Broken b)) = Unit {0}
-HasMore (AtEnd (ending.Broken b)) = Unit {0}
-HasMore (AtEnd (ending.Unbroken r)) = Unit {0}
-HasMore told = ⊥
+-- why no such text is there: of a breach too much was read, or memory was refused; of runs memory was; else it is there
+abbrev pub IsLack : Type 0 → Final → Unexplained → Type 0
+IsLack IsLong (Soon (Broken b)) why = why ≡ TooLong → IsLong
+IsLack IsLong (AtEnd (ending.Broken b)) why = why ≡ TooLong → IsLong
+IsLack IsLong (AtEnd (ending.Unbroken r)) why = why ≡ NoMemory
+IsLack IsLong told why = ⊥
 
--- the rows are those of the log up to the one behind which the breach is sure, for the plan that the log tells: a last line without its end may count
-abbrev pub IsLogCut : PlanParts → List ℕ → PlanParts → Breach → List Row → Type 0
-IsLogCut base log plan b rows = (t : List Row) × (others : List (List (List ℕ))) × (rest : List ℕ) × (n : ℕ) × TellsPlan base (log ++ 10 ∷ []) plan t others rest × IsCutBehind t b n × (rows ≡ take n t)
+-- the first n rows are those up to the one behind which the breach is sure; at the end they are all, where it isn't sure before
+abbrev pub IsCutUpTo : Bool → List Row → Breach → ℕ → Type 0
+IsCutUpTo false t b n = IsCutBehind t b n
+IsCutUpTo true t b n = IsCutBehind t b n ⊎ ((m : ℕ) → ¬ IsCutBehind t b m) × (n ≡ length t)
+
+-- the rows are these first ones of the log, for the plan that it tells: a last line without its end may count
+abbrev pub IsLogCut : Bool → PlanParts → List ℕ → PlanParts → Breach → List Row → Type 0
+IsLogCut at_end base log plan b rows = (t : List Row) × (others : List (List (List ℕ))) × (rest : List ℕ) × (n : ℕ) × TellsPlan base (log ++ 10 ∷ []) plan t others rest × IsCutUpTo at_end t b n × (rows ≡ take n t)
 
 -- where the breach is the first of the rows, what explains it of them, else nothing
 abbrev pub ExplainsFirst : Bool → PlanParts → List Row → Breach → List ℕ → Type 0
 ExplainsFirst all plan t b text = FirstSoFar plan t b × AreReasonsSoFar all plan t b text ⊎ (¬ FirstSoFar plan t b) × (text ≡ [])
 
 -- the same of the first rows of the log, up to the one behind which the breach is sure
-abbrev pub ExplainsCut : Bool → PlanParts → List ℕ → Breach → List ℕ → Type 0
-ExplainsCut all base log b text = (plan : PlanParts) × (rows : List Row) × IsLogCut base log plan b rows × ExplainsFirst all plan rows b text
+abbrev pub ExplainsCut : Bool → Bool → PlanParts → List ℕ → Breach → List ℕ → Type 0
+ExplainsCut all at_end base log b text = (plan : PlanParts) × (rows : List Row) × IsLogCut at_end base log plan b rows × ExplainsFirst all plan rows b text
 
 -- all of the log is kept, and the text stands behind the line of a breach that is told of it under the plan
-abbrev pub IsReasonOf : PlanParts → Option (Vec ℕ) → Found → Bool → List ℕ → Type 0
-IsReasonOf plan kept found all text = (log : Vec ℕ) × (kept ≡ Some log) × ExplainsCut all plan log.items (breach_of found) text
+abbrev pub IsReasonOf : Bool → PlanParts → Kept → Found → Bool → List ℕ → Type 0
+IsReasonOf at_end plan kept found all text = (log : Vec ℕ) × (kept ≡ keeps.All log) × ExplainsCut all at_end plan log.items (breach_of found) text
+
+-- too much was read to be kept, or all of the log is kept and has too many rows
+abbrev pub IsLongKept : PlanParts → Kept → Type 0
+IsLongKept plan kept = (kept ≡ keeps.TooLong) ⊎ (log : Vec ℕ) × (kept ≡ keeps.All log) × HasManyRows plan.program (log.items ++ 10 ∷ [])
 
 -- the text has the lines of the runs, which are known
-abbrev pub IsListOf : PlanParts → Option (Vec OpenRun) → List ℕ → Type 0
-IsListOf plan still_open text = (runs : Vec OpenRun) × (still_open ≡ Some runs) × (text ≡ runs_words plan.program runs.items)
+abbrev pub IsListOf : PlanParts → Result (Vec OpenRun) TheNoMemory → List ℕ → Type 0
+IsListOf plan still_open text = (runs : Vec OpenRun) × (still_open ≡ Ok runs) × (text ≡ runs_words plan.program runs.items)
 
 -- the text stands behind the line of what is told: what explains a breach; the runs without an end where rows are missing; else nothing
-abbrev pub IsTextBehind : Bool → PlanParts → Option (Vec ℕ) → Ended → List ℕ → Type 0
-IsTextBehind all plan kept e text = IsTextOf (λ found. IsReasonOf plan kept found all) (IsListOf plan e.still_open) e.told text
+abbrev pub IsTextBehind : Bool → PlanParts → Kept → Ended → List ℕ → Type 0
+IsTextBehind all plan kept e text = IsTextOf (λ at_end found. IsReasonOf at_end plan kept found all) (IsListOf plan e.still_open) e.told text
 
 -- the text has the lines of the runs that are open at the end of the log
 abbrev pub ListsOpen : PlanParts → List ℕ → List ℕ → Type 0
@@ -68,11 +84,15 @@ ListsOpen base log text = (runs : List OpenRun) × AreOpenAtEnd base log runs ×
 
 -- what is to stand behind the line of what is told of a log
 abbrev pub IsToStand : Bool → PlanParts → List ℕ → Final → List ℕ → Type 0
-IsToStand all base log told text = IsTextOf (λ found. ExplainsCut all base log (breach_of found)) (ListsOpen base log) told text
+IsToStand all base log told text = IsTextOf (λ at_end found. ExplainsCut all at_end base log (breach_of found)) (ListsOpen base log) told text
 
--- it stands there, or nothing where it can't be had
+-- the log has more bytes than are kept, or more rows than a table may have: a last line without its end may count
+abbrev pub IsTooLong : Parts → List ℕ → Type 0
+IsTooLong program log = (2 ^ 30 < length log) ⊎ HasManyRows program (log ++ 10 ∷ [])
+
+-- it stands there; or nothing does, and why is told
 abbrev pub IsBehindLine : Bool → PlanParts → List ℕ → Explained → List ℕ → Type 0
-IsBehindLine all base log e text = (e.is_unexplained ≡ false) × IsToStand all base log e.told text ⊎ (e.is_unexplained ≡ true) × HasMore e.told × (text ≡ [])
+IsBehindLine all base log e text = MatchOption e.unexplained (IsToStand all base log e.told text) (λ why. IsLack (IsTooLong base.program log) e.told why × (text ≡ []))
 
 -- what is told is so of the log that the reader gave under the plan, and its line was written, with what stands behind it
 pub record IsExplainedUnder (plan : PlanParts) (until : Option Tag) (whole all : Bool) (old new out_old out_new : Option (List ℕ)) (e : Explained) : Type 0 where

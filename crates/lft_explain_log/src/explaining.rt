@@ -1,10 +1,15 @@
 //! The line of a log, and the facts behind a broken rule.
 
-ghost use Rattle.std.specs.Prelude.{◌≡◌, List, ℕ, IfOk, IfNone, IfSome};
+ghost use Rattle.std.specs.Prelude.{◌≡◌, ◌≢◌, ◌∷◌, ◌++◌, List, [], ℕ, Bool, IfErr, IfOk, IfSome};
+ghost use Rattle.std.specs.Io.KnownBytes.{Keeps};
 ghost use Rattle.lft_steps.specs.Fits.{RowsFit};
+ghost use Rattle.lft_load.specs.declared.fault.Part.TheVariants as part;
 ghost use Rattle.lft_follow.specs.Follows.{breach_of};
-ghost use Rattle.lft_log.specs.Told.{AreOpenAtEnd};
-ghost use Rattle.lft_explain_log.specs.Explained.{ExplainsCut, ExplainsFirst, HasMore, IsExplained, IsExplainedUnder, IsListOf, IsLogCut, IsReasonOf, IsTextBehind};
+ghost use Rattle.lft_log.specs.Logs.{HasManyRows};
+ghost use Rattle.lft_log.specs.Told.{AreOpenAtEnd, TellsOpen};
+ghost use Rattle.lft_monitor.specs.Reaches.{OfReadReaches, OfTextReaches, WritesOrFails};
+ghost use Rattle.lft_explain_log.specs.Explained.{ExplainsCut, ExplainsFirst, IsExplained, IsExplainedUnder, IsLack, IsListOf, IsLogCut, IsLongKept, IsReasonOf, IsTextBehind};
+ghost use Rattle.lft_explain_log.specs.Refusals.{ExplainLogRefusal, ExplainLogRefusalUnder};
 
 use crate::cut::cut_at;
 use crate::first::is_first_so_far;
@@ -14,18 +19,38 @@ use lft_follow::{Ending, Found, OpenRun};
 use lft_load::{Fault, load, write_text};
 use lft_log::rows_of_log;
 use lft_model::{Breach, Plan};
-use lft_monitor::{Ended, Final, Following, Told, follow_plan};
+use lft_monitor::{Ended, Final, Following, Kept, Told, follow_plan};
 use lft_steps::Rows;
 use lft_tag::NoMemory;
 use std::alloc::Global;
 use std::io::{Read, Write};
 
+/// Why nothing stands behind a line that should have more behind it.
+#[derive(Clone, Copy, PartialEq, Eq, Debug)]
+pub enum Unexplained {
+    /// Of a breach: more was read than 4,000,000 rows or 2^30 bytes.
+    TooLong,
+    /// A growth of memory was refused.
+    NoMemory,
+}
+
+impl From<NoMemory> for Unexplained {
+    ghost use Rattle.std.specs.Prelude.{◌≡◌};
+    ghost use Rattle.lft_explain_log.specs.declared.explaining.Unexplained.TheVariants.{NoMemory};
+
+    ghost from_gives = { λ _ why. why ≡ NoMemory };
+
+    fn from(_error: NoMemory) -> Unexplained {
+        Unexplained::NoMemory
+    }
+}
+
 /// What is told of a log, with what explains it.
 #[derive(Clone, Copy)]
 pub struct Explained {
     pub told: Final,
-    /// What is to stand behind the line can't be had: more was read than a table may have, or memory is refused.
-    pub is_unexplained: bool,
+    /// Why what is to stand behind the line doesn't stand there.
+    pub unexplained: Option<Unexplained>,
 }
 
 /// The same breach, where its line is one of a table.
@@ -44,20 +69,29 @@ fn breach_in_table(found: Found) -> Option<Breach>
 }
 
 /// The rows of a log up to the one behind which the breach is sure; the plan becomes the one that the log
-/// tells. None where they can't be read.
+/// tells. At the end they may be all: where no row is missing, none behind them is needed.
 fn cut_of(
     alloc: Global,
     plan: &mut Plan,
     log: &[u8],
     breach: Breach,
-) -> Result<Option<Rows>, NoMemory>
-    ensures cut { IfOk result (λ o. IfSome o (λ rows. IsLogCut plan.old log.now plan.new breach rows)) }
-    ensures fit { IfOk result (λ o. IfSome o (λ rows. RowsFit plan.new.program rows)) }
+    at_end: bool,
+) -> Result<Rows, Unexplained>
+    ensures cut { IfOk result (IsLogCut at_end plan.old log.now plan.new breach) }
+    ensures fit { IfOk result (RowsFit plan.new.program) }
+    ensures long { IfErr result (λ why. why ≡ Unexplained.TooLong → HasManyRows plan.old.program (log.now ++ 10 ∷ [])) }
 {
-    let Some(rows) = rows_of_log(alloc, plan, log)? else {
-        return Ok(None);
+    // What was told of a log was told of these rows. So they have a header, and the row behind which the
+    // breach is sure, unless too many rows or too little memory cut them short.
+    let Some(first) = rows_of_log(alloc, plan, log)? else {
+        return Err(Unexplained::NoMemory);
     };
-    cut_at(alloc, rows.as_slice(), breach)
+    match cut_at(alloc, first.rows.as_slice(), breach)? {
+        Some(rows) => Ok(rows),
+        None if first.is_cut => Err(Unexplained::TooLong),
+        None if at_end => Ok(Rows::from_vec(first.rows)),
+        None => Err(Unexplained::NoMemory),
+    }
 }
 
 /// What explains a breach of these rows, where it is their first.
@@ -78,77 +112,81 @@ fn reasons_of_first(
     }
 }
 
-/// What explains a breach that is told of a log. None where its rows can't be had.
+/// What explains a breach that is told of a log.
 fn reasons_of_log(
     alloc: Global,
     plan: &mut Plan,
     log: &[u8],
     found: Found,
+    at_end: bool,
     all: bool,
-) -> Result<Option<Vec<u8>>, NoMemory>
-    ensures { IfOk result (λ o. IfSome o (λ text. ExplainsCut all plan.old log.now (breach_of found) text.items)) }
+) -> Result<Vec<u8>, Unexplained>
+    ensures text { IfOk result (λ text. ExplainsCut all at_end plan.old log.now (breach_of found) text.items) }
+    ensures long { IfErr result (λ why. why ≡ Unexplained.TooLong → HasManyRows plan.old.program (log.now ++ 10 ∷ [])) }
 {
+    // So few bytes as are kept have no such line.
     let Some(breach) = breach_in_table(found) else {
-        return Ok(None);
+        return Err(Unexplained::NoMemory);
     };
-    let Some(rows) = cut_of(alloc, plan, log, breach)? else {
-        return Ok(None);
-    };
+    let rows = cut_of(alloc, plan, log, breach, at_end)?;
     let text = reasons_of_first(alloc, plan, &rows, breach, all)?;
-    Ok(Some(text))
+    Ok(text)
 }
 
-/// What explains a breach that is told of a log, of which all may be kept. None where it can't be had.
+/// What explains a breach that is told of a log, of which all may be kept.
 fn reasons_of_kept(
     alloc: Global,
     plan: &mut Plan,
-    kept: Option<Vec<u8>>,
+    kept: Kept,
     found: Found,
+    at_end: bool,
     all: bool,
-) -> Option<Vec<u8>>
-    ensures { IfSome result (λ text. IsReasonOf plan.old kept found all text.items) }
+) -> Result<Vec<u8>, Unexplained>
+    ensures text { IfOk result (λ text. IsReasonOf at_end plan.old kept found all text.items) }
+    ensures long { IfErr result (λ why. why ≡ Unexplained.TooLong → IsLongKept plan.old kept) }
 {
-    let Some(log) = kept else {
-        return None;
-    };
-    match reasons_of_log(alloc, plan, log.as_slice(), found, all) {
-        Ok(text) => text,
-        Err(_) => None,
+    match kept {
+        Kept::All(log) => reasons_of_log(alloc, plan, log.as_slice(), found, at_end, all),
+        Kept::TooLong => Err(Unexplained::TooLong),
+        Kept::Nothing => Err(Unexplained::NoMemory),
     }
 }
 
-/// The lines of the runs that are open at the end. None where memory is refused.
-fn lines_of_open(alloc: Global, plan: &Plan, still_open: Option<Vec<OpenRun>>) -> Option<Vec<u8>>
-    requires { IfSome still_open (λ runs. (log : List ℕ) × AreOpenAtEnd plan.now log runs.items) }
-    ensures { IfSome result (λ text. IsListOf plan.now still_open text.items) }
+/// The lines of the runs that are open at the end.
+fn lines_of_open(
+    alloc: Global,
+    plan: &Plan,
+    still_open: Result<Vec<OpenRun>, NoMemory>,
+) -> Result<Vec<u8>, NoMemory>
+    requires { IfOk still_open (λ runs. (log : List ℕ) × AreOpenAtEnd plan.now log runs.items) }
+    ensures { IfOk result (λ text. IsListOf plan.now still_open text.items) }
 {
-    let Some(runs) = still_open else {
-        return None;
-    };
-    match lines_of_runs(alloc, plan.program(), runs.as_slice()) {
-        Ok(text) => Some(text),
-        Err(_) => None,
-    }
+    let runs = still_open?;
+    let text = lines_of_runs(alloc, plan.program(), runs.as_slice())?;
+    Ok(text)
 }
 
 /// What is to stand behind the line of what is told: what explains a breach, or the runs that are open at the
-/// end. None where it can't be had.
+/// end.
 fn text_behind(
     alloc: Global,
     plan: &mut Plan,
-    kept: Option<Vec<u8>>,
+    kept: Kept,
     ended: Ended,
     all: bool,
-) -> Option<Vec<u8>>
-    requires { IfSome ended.still_open (λ runs. (log : List ℕ) × AreOpenAtEnd plan.old log runs.items) }
-    ensures text { IfSome result (λ text. IsTextBehind all plan.old kept ended text.items) }
-    ensures none { IfNone result (HasMore ended.told) }
+) -> Result<Vec<u8>, Unexplained>
+    requires { (log : List ℕ) × TellsOpen plan.old log ended.told ended.still_open }
+    ensures text { IfOk result (λ text. IsTextBehind all plan.old kept ended text.items) }
+    ensures lack { IfErr result (IsLack (IsLongKept plan.old kept) ended.told) }
 {
     match ended.told {
-        Final::Soon(Told::Broken(found)) => reasons_of_kept(alloc, plan, kept, found, all),
-        Final::AtEnd(Ending::Broken(found)) => reasons_of_kept(alloc, plan, kept, found, all),
-        Final::AtEnd(Ending::Unbroken(_)) => lines_of_open(alloc, plan, ended.still_open),
-        _ => Some(Vec::new(alloc)),
+        Final::Soon(Told::Broken(found)) => reasons_of_kept(alloc, plan, kept, found, false, all),
+        Final::AtEnd(Ending::Broken(found)) => reasons_of_kept(alloc, plan, kept, found, true, all),
+        Final::AtEnd(Ending::Unbroken(_)) => {
+            let text = lines_of_open(alloc, plan, ended.still_open)?;
+            Ok(text)
+        }
+        _ => Ok(Vec::new(alloc)),
     }
 }
 
@@ -169,28 +207,34 @@ pub fn explain_log_plan<R: Read, W: Write, E: Write>(
     out: &mut W,
     errors: &mut E,
 ) -> Result<Explained, Fault>
-    ensures { IfOk result (IsExplainedUnder plan following.until following.whole all (R.remaining reader.old) (R.remaining reader.new) (W.contents out.old) (W.contents out.new)) }
+    ensures explained { IfOk result (IsExplainedUnder plan following.until following.whole all (R.remaining reader.old) (R.remaining reader.new) (W.contents out.old) (W.contents out.new)) }
+    ensures refused { IfErr result (ExplainLogRefusalUnder plan path.now following.until following.whole all (R.remaining reader.old) (R.remaining reader.new) (W.contents out.old) (W.contents out.new)) }
+    ensures kept { IfErr result (λ f. f.part ≢ part.Write → Keeps (W.contents out.old) (W.contents out.new)) }
+    ensures every { OfReadReaches plan following.every (R.remaining reader.old) (R.remaining reader.new) (WritesOrFails result (E.contents errors.old) (E.contents errors.new)) }
 {
     // The log tells the plan more, and its rows are read once more under the plan as it was.
     let Ok(mut before) = plan.copy(alloc) else {
         return Err(Fault::no_memory());
     };
-    let mut kept = Some(Vec::new(alloc));
+    let mut kept = Kept::All(Vec::new(alloc));
     let ended = match follow_plan(alloc, plan, path, reader, following, &mut kept, out, errors) {
         Ok(ended) => ended,
         Err(fault) => return Err(fault),
     };
     let told = ended.told;
-    let Some(text) = text_behind(alloc, &mut before, kept, ended, all) else {
-        return Ok(Explained {
-            told,
-            is_unexplained: true,
-        });
+    let text = match text_behind(alloc, &mut before, kept, ended, all) {
+        Ok(text) => text,
+        Err(why) => {
+            return Ok(Explained {
+                told,
+                unexplained: Some(why),
+            });
+        }
     };
     match write_text(text.as_slice(), out) {
         Ok(()) => Ok(Explained {
             told,
-            is_unexplained: false,
+            unexplained: None,
         }),
         Err(fault) => Err(fault),
     }
@@ -209,7 +253,10 @@ pub fn explain_log<R: Read, W: Write, E: Write>(
     out: &mut W,
     errors: &mut E,
 ) -> Result<Explained, Fault>
-    ensures { IfOk result (IsExplained program.now externals.now following.until following.whole all (R.remaining reader.old) (R.remaining reader.new) (W.contents out.old) (W.contents out.new)) }
+    ensures explained { IfOk result (IsExplained program.now externals.now following.until following.whole all (R.remaining reader.old) (R.remaining reader.new) (W.contents out.old) (W.contents out.new)) }
+    ensures refused { IfErr result (ExplainLogRefusal program.now externals.now path.now following.until following.whole all (R.remaining reader.old) (R.remaining reader.new) (W.contents out.old) (W.contents out.new)) }
+    ensures kept { IfErr result (λ f. f.part ≢ part.Write → Keeps (W.contents out.old) (W.contents out.new)) }
+    ensures every { OfTextReaches program.now externals.now following.every (R.remaining reader.old) (R.remaining reader.new) (WritesOrFails result (E.contents errors.old) (E.contents errors.new)) }
 {
     match load(alloc, program, externals) {
         Ok(plan) => explain_log_plan(alloc, plan, path, reader, following, all, out, errors),

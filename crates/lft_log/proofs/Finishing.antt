@@ -1,8 +1,9 @@
 -- What is told at the end, where no half line is left.
 use Rattle.std.proofs.Common.{◌≡◌, ◌∙◌, ◌∷◌, ◌++◌, inl, inr, ℕ, Bool, true, false, List, [], Option, None, Some, append-nil, refl, subst, sym}
-use Rattle.std.specs.Prelude.{IfSome}
+use Rattle.std.specs.Prelude.{Err, IfOk, Ok, Result}
 use Rattle.std.specs.Global.{Vec}
 use Rattle.std.proofs.lemmas.List.{append_assoc}
+use Rattle.lft_tag.specs.declared.NoMemory.{NoMemory}
 use Rattle.lft_tag.specs.declared.Tag.{Tag}
 use Rattle.lft_steps.specs.declared.row.Row.{Row}
 use Rattle.lft_model.specs.Plans.{PlanParts}
@@ -13,7 +14,7 @@ use Rattle.lft_follow.specs.declared.open.OpenRun.{OpenRun}
 use Rattle.lft_follow.specs.Follows.{IsEnding, IsUnjudged}
 use Rattle.lft_follow.proofs.Following.{unjudged_so_far}
 use Rattle.lft_log.specs.Logs.{AreLines, HasLast, HoldSoFar, IsHead, LastCounts, LastIsLeft, header_words, mark, rows}
-use Rattle.lft_log.specs.Told.{AreOpenAtEnd, AreOpenIn, IsEnded, IsFinal, IsLog, IsLogOf, IsSoon, KeepTo, TellsPlan}
+use Rattle.lft_log.specs.Told.{AreOpenIn, IsEnded, IsFinal, IsLog, IsLogOf, IsSoon, KeepTo, TellsOpen, TellsPlan}
 use Rattle.lft_log.specs.declared.log.Log.{Log}
 use Rattle.lft_log.specs.declared.told.Final.{Final}
 use Rattle.lft_log.specs.declared.told.Final.TheVariants.{AtEnd, Soon}
@@ -48,13 +49,15 @@ ended_left base until whole bytes (Soon told) last is = inl is
 ended_left base until whole bytes (AtEnd ending) last is = inr (last, is)
 
 -- the runs without an end, where the last line counts and where it doesn't
-pub open_whole : (base : PlanParts) (bytes : List ℕ) (o : Option (Vec OpenRun)) → LastCounts bytes → IfSome o (λ (runs : Vec OpenRun). AreOpenIn base (bytes ++ 10 ∷ []) runs.items) → IfSome o (λ (runs : Vec OpenRun). AreOpenAtEnd base bytes runs.items)
-open_whole base bytes None last is = tt
-open_whole base bytes (Some runs) last is = inl (last, is)
+pub open_whole : (base : PlanParts) (bytes : List ℕ) (told : Final) (r : Result (Vec OpenRun) NoMemory) → LastCounts bytes → IfOk r (λ (runs : Vec OpenRun). AreOpenIn base (bytes ++ 10 ∷ []) runs.items) → TellsOpen base bytes told r
+open_whole base bytes (Soon told) r last is = tt
+open_whole base bytes (AtEnd ending) (Err e) last is = tt
+open_whole base bytes (AtEnd ending) (Ok runs) last is = inl (last, is)
 
-pub open_left : (base : PlanParts) (bytes : List ℕ) (o : Option (Vec OpenRun)) → LastIsLeft bytes → IfSome o (λ (runs : Vec OpenRun). AreOpenIn base bytes runs.items) → IfSome o (λ (runs : Vec OpenRun). AreOpenAtEnd base bytes runs.items)
-open_left base bytes None last is = tt
-open_left base bytes (Some runs) last is = inr (last, is)
+pub open_left : (base : PlanParts) (bytes : List ℕ) (told : Final) (r : Result (Vec OpenRun) NoMemory) → LastIsLeft bytes → IfOk r (λ (runs : Vec OpenRun). AreOpenIn base bytes runs.items) → TellsOpen base bytes told r
+open_left base bytes (Soon told) r last is = tt
+open_left base bytes (AtEnd ending) (Err e) last is = tt
+open_left base bytes (AtEnd ending) (Ok runs) last is = inr (last, is)
 
 -- what is kept of a log whose header came
 pub tells_plan : (base plan : PlanParts) (until : Option Tag) (bytes rest left : List ℕ) (log : Log) (is : IsLogOf base plan until bytes rest log) → HoldSoFar base.program bytes is.lines [] left → TellsPlan base bytes plan (rows is.lines) [] left

@@ -1,5 +1,5 @@
 -- Rows of a log that are read, over more lines.
-use Rattle.std.proofs.Common.{◌≡◌, ◌+◌, ◌-◌, ◌≤◌, ◌∙◌, ⊎_elim, ℕ, Bool, true, false, List, [], ◌∷◌, ◌++◌, Option, Some, None, length, take, drop, slice_range, refl, sym, ap, subst, arith, length-append}
+use Rattle.std.proofs.Common.{◌≡◌, ◌+◌, ◌-◌, ◌<◌, ◌≤◌, ◌∙◌, ⊎_elim, ℕ, Bool, true, false, List, [], ◌∷◌, ◌++◌, Option, Some, None, length, take, drop, slice_range, refl, sym, ap, subst, arith, length-append}
 use Rattle.std.specs.Prelude.{MatchOption, is_some}
 use Rattle.std.proofs.lemmas.Bool.{false≢true}
 use Rattle.std.proofs.lemmas.List.{append_assoc, append-nil, drop-drop, length-take, take-append-drop}
@@ -14,13 +14,14 @@ use Rattle.lft_trace.specs.declared.log_table.Line.{Line}
 use Rattle.lft_model.specs.Plans.{PlanParts}
 use Rattle.lft_model.proofs.Places.{slice_get_take}
 use Rattle.lft_follow.specs.Follows.{IsFollowerOf}
-use Rattle.lft_log.specs.Logs.{IsFront, IsHead, rows}
+use Rattle.lft_log.specs.Logs.{HasManyRows, IsFront, IsHead, rows}
 use Rattle.lft_log.specs.Told.{HasRead, IsReadOn, IsReadSoFar, IsTaken, TellsPlan}
 use Rattle.lft_log.specs.declared.front.Front.{Front}
 use Rattle.lft_log.specs.declared.rows.LogRows.{LogRows}
 use Rattle.lft_log.specs.declared.telling.Taken.{Taken}
+use Rattle.lft_log.proofs.Behind.{rows_both}
 use Rattle.lft_log.proofs.Fronts.{rest_from}
-use Rattle.lft_log.proofs.Holding.{header_there}
+use Rattle.lft_log.proofs.Holding.{header_there, hold_front}
 use Rattle.lft_log.proofs.Taking.{grown_tells, tells_all}
 use Rattle.lft_log.proofs.Plans.{told_none}
 
@@ -94,22 +95,38 @@ module _ (base old new : PlanParts) (bytes text behind : List ℕ) (r : LogRows)
           let l : length (slice_range front.rows.items 0 taken.rows) ≤ length front.rows.items = first_short front.rows.items taken.rows in
           omega (arith, l, few)
 
-  pub rows_read : ((others : List (List (List ℕ))) × (rest : List ℕ) × TellsPlan base bytes new t others rest) × RowsFit new.program t
-  rows_read = ((_, _, grown_tells base old new bytes text behind so.tells.lines rows_before inputs_before front taken so.tells.held fronts takes so.tells.timely so.tells.told t whole), rows_fit)
+  pub rows_read : (is_cut : Bool) → is_cut ≡ r.is_cut → ((others : List (List (List ℕ))) × (rest : List ℕ) × TellsPlan base bytes new t others rest) × RowsFit new.program t × (is_cut ≡ true → HasManyRows base.program bytes)
+  rows_read is_cut same = ((_, _, grown_tells base old new bytes text behind so.tells.lines rows_before inputs_before front taken so.tells.held fronts takes so.tells.timely so.tells.told t whole), rows_fit, λ yes. absurd (false≢true (sym so.uncut ∙ sym same ∙ yes)))
 
   pub all_read : taken.fault ≡ None → TellsPlan base bytes new t [] behind
   all_read none = tells_all base old new bytes text behind so.tells.lines rows_before inputs_before front taken so.tells.held fronts takes so.tells.timely so.tells.told none t whole
 
+-- with a front the log has more rows than a table may have
+pub cut_rows : (base old : PlanParts) (bytes text behind : List ℕ) (r : LogRows) (rows_before inputs_before : ℕ) (front : Front) → IsReadSoFar base old bytes (text ++ behind) r → IsFront old.program text rows_before inputs_before front → 4000000 < length r.rows.items + length front.rows.items → HasManyRows base.program bytes
+cut_rows base old bytes text behind r rows_before inputs_before front so given many = (so.tells.lines ++ fronts.lines, fronts.others, _, hold_front base.program bytes text behind so.tells.lines rows_before inputs_before front so.tells.held fronts, more)
+  where
+    fronts : IsFront base.program text rows_before inputs_before front
+    fronts = subst (λ (p : Parts). IsFront p text rows_before inputs_before front) so.tells.told.program given
+
+    more : 4000000 < length (rows (so.tells.lines ++ fronts.lines))
+    more =
+        let both = ap (λ (t : List Row). length t) (rows_both so.tells.lines fronts.lines) in
+        let long : length (rows so.tells.lines ++ rows fronts.lines) ≡ length (rows so.tells.lines) + length (rows fronts.lines) = length-append (rows so.tells.lines) (rows fronts.lines) in
+        let left = ap (λ (t : List Row). length t) so.tells.rows_are in
+        let right = ap (λ (t : List Row). length t) fronts.rows_are in
+        omega (arith, many, both, long, left, right)
+
 -- nothing is read yet
-pub read_none : (base : PlanParts) (log body more : List ℕ) (r : LogRows) → InOrder base.externals.events → (head : List ℕ) × (log ≡ head ++ body) × IsHead head → r.rows.items ≡ [] → IsFollowerOf base [] r.follower → IsReadSoFar base base (log ++ more) (body ++ more) r
-read_none base log body more r order below none follower = record {
+pub read_none : (base : PlanParts) (log body more : List ℕ) (r : LogRows) → InOrder base.externals.events → (head : List ℕ) × (log ≡ head ++ body) × IsHead head → r.rows.items ≡ [] → r.is_cut ≡ false → IsFollowerOf base [] r.follower → IsReadSoFar base base (log ++ more) (body ++ more) r
+read_none base log body more r order below none uncut follower = record {
   tells = tells_none base log body more r.rows.items order below none;
   fit = fit_none base.program r.rows.items none;
   follower = subst (λ (t : List Row). IsFollowerOf base t r.follower) (sym none) follower;
+  uncut = uncut;
 }
 
 pub has_read : (base plan : PlanParts) (bytes rest : List ℕ) (r : LogRows) → IsReadSoFar base plan bytes rest r → HasRead base plan bytes r
-has_read base plan bytes rest r is = (([], rest, is.tells), is.fit)
+has_read base plan bytes rest r is = (([], rest, is.tells), is.fit, λ yes. absurd (false≢true (sym is.uncut ∙ yes)))
 
 -- whether more is to be read or not
 pub still_read : (base plan : PlanParts) (bytes rest : List ℕ) (r : LogRows) (on : Bool) → IsReadOn on base plan bytes rest r → HasRead base plan bytes r

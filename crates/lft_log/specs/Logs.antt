@@ -162,6 +162,10 @@ pub record HoldSoFar (program : Parts) (bytes : List ℕ) (lines : List Line) (o
   pub under : records_below body ≡ first ++ others
   pub each : AllZip (IsLine program) first lines
 
+-- the first lines of the bytes have more rows than a table may have
+abbrev pub HasManyRows : Parts → List ℕ → Type 0
+HasManyRows program bytes = (lines : List Line) × (others : List (List (List ℕ))) × (rest : List ℕ) × HoldSoFar program bytes lines others rest × (4000000 < length (rows lines))
+
 -- the records that tell rows
 abbrev pub row_records : List (List (List ℕ)) → List Line → List (List (List ℕ))
 row_records [] lines = []

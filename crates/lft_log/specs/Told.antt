@@ -1,7 +1,9 @@
 -- What is told of a log.
-use Rattle.std.specs.Prelude.{◌≡◌, ◌↔◌, ◌⊎◌, ◌+◌, ◌^◌, ◌<◌, ◌≤◌, true, false, ℕ, Bool, List, [], ◌++◌, ◌∷◌, length, filter_map, Option, None, Some, MatchOption, slice_get}
+use Rattle.std.specs.Prelude.{◌≡◌, ◌↔◌, ◌⊎◌, ◌+◌, ◌^◌, ◌<◌, ◌≤◌, true, false, ℕ, Bool, List, [], ◌++◌, ◌∷◌, length, filter_map, Option, None, Some, MatchOption, slice_get, Result, IfOk}
+use Rattle.std.specs.Global.{Vec}
 use Rattle.std.specs.List.Sorted.{IsPermutation}
 use Rattle.lft_flat.specs.Parts.{Parts}
+use Rattle.lft_tag.specs.declared.NoMemory.{NoMemory}
 use Rattle.lft_tag.specs.declared.Tag.{Tag}
 use Rattle.lft_tag.specs.Tags.{Before, UpTo, earliest}
 use Rattle.lft_steps.specs.declared.externals.Event.{Event as EventOf}
@@ -22,7 +24,7 @@ use Rattle.lft_trace.specs.declared.external_table.Entry.TheVariants.{Happens}
 use Rattle.lft_trace.specs.declared.log_table.Line.{Line}
 use Rattle.lft_trace.specs.declared.log_table.LineFault.TheVariants as none
 use Rattle.lft_trace.specs.declared.log_table.Line.TheVariants.{Input}
-use Rattle.lft_log.specs.Logs.{AreTimely, BeginsLong, BeginsWithLine, BeginsWithRecord, HasNoEnd, HoldSoFar, IsHead, IsOddLine, LastCounts, LastIsLeft, inputs, rows, tag_of}
+use Rattle.lft_log.specs.Logs.{AreTimely, BeginsLong, BeginsWithLine, BeginsWithRecord, HasNoEnd, HoldSoFar, IsHead, IsOddLine, LastCounts, LastIsLeft, inputs, rows, tag_of, HasManyRows}
 use Rattle.lft_log.specs.declared.asked.Asked.{Asked}
 use Rattle.lft_log.specs.declared.fault.LogFault.{LogFault}
 use Rattle.lft_log.specs.declared.fault.LogFault.TheVariants.{NoHeader, NoRow, NoInput, LateInput, InputAgain, ManyLater, LongLine, TooManyRows, TooManyInputs, NoMemory}
@@ -124,6 +126,11 @@ AreOpenAtEnd base bytes runs = LastCounts bytes × AreOpenIn base (bytes ++ 10 �
 abbrev pub HoldInTime : Parts → List ℕ → List Line → List (List (List ℕ)) → List ℕ → Type 0
 HoldInTime program bytes lines others rest = HoldSoFar program bytes lines others rest × AreTimely [] lines
 
+-- at the end they are given, or memory was refused; what is told before it says nothing of them
+abbrev pub TellsOpen : PlanParts → List ℕ → Final → Result (Vec OpenRun) NoMemory → Type 0
+TellsOpen base bytes (Soon told) runs = Unit {0}
+TellsOpen base bytes (AtEnd ending) runs = IfOk runs (λ v. AreOpenAtEnd base bytes v.items)
+
 -- behind the lines of a log stands a record of which this is so
 abbrev pub StandsBehind : Parts → List ℕ → List Line → (List (List ℕ) → Type 0) → Type 0
 StandsBehind program bytes lines P = (others : List (List (List ℕ))) × (rest : List ℕ) × HoldInTime program bytes lines others rest × BeginsWithRecord P others
@@ -213,15 +220,16 @@ pub record IsLog (base plan : PlanParts) (until : Option Tag) (bytes : List ℕ)
   pub kept : IsLogOf base plan until bytes log.rest.items log
   pub open_line : HasNoEnd log.rest.items
 
--- the rows that are read are those with which the bytes begin, for the plan that they tell
+-- the rows that are read are those with which the bytes begin, for the plan that they tell; where they are said to be cut short, there are more than a table may have
 abbrev pub HasRead : PlanParts → PlanParts → List ℕ → LogRows → Type 0
-HasRead base plan bytes r = ((others : List (List (List ℕ))) × (rest : List ℕ) × TellsPlan base bytes plan r.rows.items others rest) × RowsFit plan.program r.rows.items
+HasRead base plan bytes r = ((others : List (List (List ℕ))) × (rest : List ℕ) × TellsPlan base bytes plan r.rows.items others rest) × RowsFit plan.program r.rows.items × (r.is_cut ≡ true → HasManyRows base.program bytes)
 
 -- the same, up to a rest, and they are followed
 pub record IsReadSoFar (base plan : PlanParts) (bytes rest : List ℕ) (r : LogRows) : Type 0 where
   pub tells : TellsPlan base bytes plan r.rows.items [] rest
   pub fit : RowsFit plan.program r.rows.items
   pub follower : IsFollowerOf plan r.rows.items r.follower
+  pub uncut : r.is_cut ≡ false
 
 -- the rows are read up to a rest, or no more is to be read
 abbrev pub IsReadOn : Bool → PlanParts → PlanParts → List ℕ → List ℕ → LogRows → Type 0

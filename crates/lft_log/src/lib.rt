@@ -14,5 +14,5 @@ mod told;
 pub use fault::LogFault;
 pub use laws::law_log;
 pub use log::Log;
-pub use rows::rows_of_log;
+pub use rows::{FirstRows, rows_of_log};
 pub use told::{Ended, Final, Told};

@@ -8,7 +8,7 @@ ghost use Rattle.lft_steps.specs.Fits.{RowsFit};
 ghost use Rattle.lft_model.specs.Plans.{PlanParts};
 ghost use Rattle.lft_follow.specs.Follows.{IsFollowerOf, IsJudged, IsQuiet};
 ghost use Rattle.lft_log.specs.Logs.{AreLines, BeginsLong, HasNoEnd, IsHead};
-ghost use Rattle.lft_log.specs.Told.{AreAll, AreOpenAtEnd, AreOpenIn, IsAskedOf, IsBegun, IsEnded, IsFaultAtEnd, IsFaultOf, IsFaultOfRows, IsFinal, IsLog, IsLogOf, IsSaid, IsSaidOfSome, IsSoon, KeepTo};
+ghost use Rattle.lft_log.specs.Told.{AreAll, AreOpenAtEnd, AreOpenIn, IsAskedOf, IsBegun, IsEnded, IsFaultAtEnd, IsFaultOf, IsFaultOfRows, IsFinal, IsLog, IsLogOf, IsSaid, IsSaidOfSome, IsSoon, KeepTo, TellsOpen};
 
 use crate::asked::Asked;
 use crate::fault::LogFault;
@@ -341,23 +341,20 @@ impl Log {
         }
     }
 
-    /// The runs that have no end so far. None where memory is refused.
-    fn still_open(&self, alloc: Global, plan: &Plan) -> Option<Vec<OpenRun>>
+    /// The runs that have no end so far.
+    fn still_open(&self, alloc: Global, plan: &Plan) -> Result<Vec<OpenRun>, NoMemory>
         requires begun { self.now.is_begun ≡ true }
         requires stands { (base : PlanParts) × (until : Option TheTag) × (bytes : List ℕ) × IsLog base plan.now until bytes self.now }
-        ensures { (base : PlanParts) (until : Option TheTag) (bytes : List ℕ) → IsLog base plan.now until bytes self.now → IfSome result (λ runs. AreOpenIn base bytes runs.items) }
+        ensures { (base : PlanParts) (until : Option TheTag) (bytes : List ℕ) → IsLog base plan.now until bytes self.now → IfOk result (λ runs. AreOpenIn base bytes runs.items) }
     {
-        match self.follower.open_runs(alloc, plan) {
-            Ok(runs) => Some(runs),
-            Err(_) => None,
-        }
+        self.follower.open_runs(alloc, plan)
     }
 
     /// What the table shows where no more comes and its lines are whole, but for a last one that says nothing.
     fn told_at_end(&mut self, alloc: Global, plan: &Plan, whole: bool) -> Result<Ended, LogFault>
         requires { (base : PlanParts) × (until : Option TheTag) × (bytes : List ℕ) × IsLog base plan.now until bytes self.old }
         ensures ended { IfOk result (λ e. (base : PlanParts) (until : Option TheTag) (bytes : List ℕ) → IsLog base plan.now until bytes self.old → IsFinal base until whole bytes e.told) }
-        ensures still_open { IfOk result (λ e. (base : PlanParts) (until : Option TheTag) (bytes : List ℕ) → IsLog base plan.now until bytes self.old → IfSome e.still_open (λ runs. AreOpenIn base bytes runs.items)) }
+        ensures still_open { IfOk result (λ e. (base : PlanParts) (until : Option TheTag) (bytes : List ℕ) → IsLog base plan.now until bytes self.old → IfOk e.still_open (λ runs. AreOpenIn base bytes runs.items)) }
         ensures fault { IfErr result (λ f. (f ≡ LogFault.NoHeader) × (self.old.is_begun ≡ false)) }
     {
         if !self.is_begun {
@@ -374,7 +371,7 @@ impl Log {
         requires { (base : PlanParts) × (until : Option TheTag) × (bytes : List ℕ) × IsLog base plan.old until bytes self.old }
         ensures program { plan.new.program ≡ plan.old.program }
         ensures ended { IfOk result (λ e. (base : PlanParts) (until : Option TheTag) (bytes : List ℕ) → IsLog base plan.old until bytes self.old → IsEnded base until whole bytes e.told) }
-        ensures still_open { IfOk result (λ e. (base : PlanParts) (until : Option TheTag) (bytes : List ℕ) → IsLog base plan.old until bytes self.old → IfSome e.still_open (λ runs. AreOpenAtEnd base bytes runs.items)) }
+        ensures still_open { IfOk result (λ e. (base : PlanParts) (until : Option TheTag) (bytes : List ℕ) → IsLog base plan.old until bytes self.old → TellsOpen base bytes e.told e.still_open) }
         ensures fault { IfErr result (λ f. (base : PlanParts) (until : Option TheTag) (bytes : List ℕ) → IsLog base plan.old until bytes self.old → IsFaultAtEnd base bytes f) }
     {
         if !is_whole(self.rest.as_slice()) {
@@ -382,7 +379,7 @@ impl Log {
         }
         match self.add_whole(alloc, plan, b"\n") {
             Ok(None) => self.told_at_end(alloc, plan, whole),
-            Ok(Some(told)) => Ok(Ended::soon(told)),
+            Ok(Some(told)) => Ok(Ended::soon(alloc, told)),
             Err(fault) => Err(fault),
         }
     }

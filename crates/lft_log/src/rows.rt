@@ -1,9 +1,9 @@
 //! The rows of a log, and the plan that its external inputs make of another.
 
-ghost use Rattle.std.specs.Prelude.{◌≡◌, ◌++◌, ◌∷◌, ◌≤◌, ◌<◌, List, [], ℕ, length, drop, slice_range, IfOk, IfSome, MatchOption};
+ghost use Rattle.std.specs.Prelude.{◌≡◌, ◌++◌, ◌∷◌, ◌≤◌, ◌<◌, List, [], ℕ, true, length, drop, slice_range, IfOk, IfSome, OnOk, MatchOption};
 ghost use Rattle.lft_model.specs.Plans.{PlanParts};
 ghost use Rattle.lft_steps.specs.Fits.{RowsFit};
-ghost use Rattle.lft_log.specs.Logs.{AreLines};
+ghost use Rattle.lft_log.specs.Logs.{AreLines, HasManyRows};
 ghost use Rattle.lft_log.specs.Told.{HasRead, IsReadOn, IsReadSoFar, TellsPlan};
 
 use crate::front::read_front;
@@ -18,10 +18,19 @@ use std::alloc::Global;
 /// No part of a log that is read at once has more bytes.
 const MOST: usize = 1 << 20;
 
+/// The rows with which a log begins.
+#[derive(Drop)]
+pub struct FirstRows {
+    pub rows: Vec<Row>,
+    /// Others are left out: the log has more than a table may have.
+    pub is_cut: bool,
+}
+
 /// The rows of a log so far, and what follows them: no external input may be late.
 #[derive(Drop)]
 pub(crate) struct LogRows {
     rows: Vec<Row>,
+    is_cut: bool,
     follower: Follower,
 }
 
@@ -46,6 +55,7 @@ impl LogRows {
     {
         let front = read_front(alloc, plan.program(), lines, 0, 0)?;
         if front.rows.len() > MAX_ROWS - self.rows.len() {
+            self.is_cut = true;
             return Ok(false);
         }
         let taken = tell_all(&mut self.follower, plan, &front, 0);
@@ -85,16 +95,41 @@ impl LogRows {
         }
         Ok(Some(begin))
     }
+
+    /// Goes on past the lines of a text behind which no more come. A last line without its end counts only
+    /// if nothing can be missing of it.
+    fn add_last(&mut self, alloc: Global, plan: &mut Plan, text: &[u8]) -> Result<(), NoMemory>
+        requires { (base : PlanParts) × (bytes : List ℕ) × IsReadSoFar base plan.old bytes (text.now ++ 10 ∷ []) self.old }
+        ensures program { plan.new.program ≡ plan.old.program }
+        ensures read { OnOk result ((base : PlanParts) (bytes : List ℕ) → IsReadSoFar base plan.old bytes (text.now ++ 10 ∷ []) self.old → HasRead base plan.new bytes self.new) }
+    {
+        let Some(end) = self.add_text(alloc, plan, text)? else {
+            return Ok(());
+        };
+        let last = &text[end..text.len()];
+        if !is_whole(last) {
+            return Ok(());
+        }
+        let mut line = Vec::from_slice(alloc, last)?;
+        line.push(b'\n')?;
+        let _ = self.add_text(alloc, plan, line.as_slice())?;
+        Ok(())
+    }
 }
 
 /// The rows of the first lines of a log, up to one that isn't to be followed; the plan becomes the one that
 /// the external inputs among them make of it. A breach that is told ends them too, and more rows than a
 /// table may have. None where the log has no header. A last line without its end counts only if nothing
 /// can be missing of it.
-pub fn rows_of_log(alloc: Global, plan: &mut Plan, log: &[u8]) -> Result<Option<Vec<Row>>, NoMemory>
+pub fn rows_of_log(
+    alloc: Global,
+    plan: &mut Plan,
+    log: &[u8],
+) -> Result<Option<FirstRows>, NoMemory>
     ensures program { plan.new.program ≡ plan.old.program }
-    ensures told { IfOk result (λ o. IfSome o (λ rows. (others : List (List (List ℕ))) × (rest : List ℕ) × TellsPlan plan.old (log.now ++ 10 ∷ []) plan.new rows.items others rest)) }
-    ensures fit { IfOk result (λ o. IfSome o (λ rows. RowsFit plan.new.program rows.items)) }
+    ensures told { IfOk result (λ o. IfSome o (λ first. (others : List (List (List ℕ))) × (rest : List ℕ) × TellsPlan plan.old (log.now ++ 10 ∷ []) plan.new first.rows.items others rest)) }
+    ensures fit { IfOk result (λ o. IfSome o (λ first. RowsFit plan.new.program first.rows.items)) }
+    ensures cut { IfOk result (λ o. IfSome o (λ first. first.is_cut ≡ true → HasManyRows plan.old.program (log.now ++ 10 ∷ []))) }
 {
     let Some(body) = below_header(log) else {
         return Ok(None);
@@ -103,17 +138,12 @@ pub fn rows_of_log(alloc: Global, plan: &mut Plan, log: &[u8]) -> Result<Option<
     plan.keeps();
     let mut read = LogRows {
         rows: Vec::new(alloc),
+        is_cut: false,
         follower: Follower::new(alloc, plan)?,
     };
-    let Some(end) = read.add_text(alloc, plan, body)? else {
-        return Ok(Some(read.rows));
-    };
-    let last = &body[end..body.len()];
-    if !is_whole(last) {
-        return Ok(Some(read.rows));
-    }
-    let mut line = Vec::from_slice(alloc, last)?;
-    line.push(b'\n')?;
-    let _ = read.add_text(alloc, plan, line.as_slice())?;
-    Ok(Some(read.rows))
+    read.add_last(alloc, plan, body)?;
+    Ok(Some(FirstRows {
+        rows: read.rows,
+        is_cut: read.is_cut,
+    }))
 }

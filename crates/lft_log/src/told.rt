@@ -1,9 +1,11 @@
 //! What is told of a table.
 
-ghost use Rattle.std.specs.Prelude.{◌≡◌, None};
+ghost use Rattle.std.specs.Prelude.{◌≡◌};
 ghost use Rattle.lft_log.specs.declared.told.Final.TheVariants.{Soon};
 
 use lft_follow::{Ending, Found, OpenRun, Reach};
+use lft_tag::NoMemory;
+use std::alloc::Global;
 
 /// What is told before the end of a table. Nothing is judged behind it.
 #[derive(Clone, Copy, PartialEq, Eq, Debug, Drop)]
@@ -27,18 +29,18 @@ pub enum Final {
 #[derive(Drop)]
 pub struct Ended {
     pub told: Final,
-    /// None where more may come behind what is told, or memory is refused.
-    pub still_open: Option<Vec<OpenRun>>,
+    /// They count only at the end. What is told before it says nothing of them.
+    pub still_open: Result<Vec<OpenRun>, NoMemory>,
 }
 
 impl Ended {
     /// What is told before the end, where more may come.
-    pub fn soon(told: Told) -> Ended
-        ensures { result ≡ record { told = Soon told; still_open = None } }
+    pub fn soon(alloc: Global, told: Told) -> Ended
+        ensures { result.told ≡ Soon told }
     {
         Ended {
             told: Final::Soon(told),
-            still_open: None,
+            still_open: Ok(Vec::new(alloc)),
         }
     }
 }

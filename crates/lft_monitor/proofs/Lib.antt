@@ -3,3 +3,4 @@ pub mod Telling
 pub mod Words
 pub mod Reaching
 pub mod Refusing
+pub mod Keeping

@@ -1,7 +1,6 @@
 -- What is told of a log while it comes, over more bytes.
-use Rattle.std.proofs.Common.{◌≡◌, ◌≢◌, ◌<◌, ◌≤◌, ◌/◌, ◌*◌, ◌∙◌, ℕ, Bool, true, false, Result, Ok, Err, List, [], ◌∷◌, ◌++◌, inl, inr, Option, length, append-nil, refl, sym, ap, subst, arith}
+use Rattle.std.proofs.Common.{◌≡◌, ◌<◌, ◌≤◌, ◌/◌, ◌*◌, ℕ, Bool, true, false, Result, Ok, Err, List, [], ◌∷◌, ◌++◌, inl, inr, Option, length, append-nil, refl, sym, ap, subst, arith}
 use Rattle.std.specs.Prelude.{flat_map}
-use Rattle.std.specs.List.{All}
 use Rattle.std.specs.Io.KnownBytes.{Appends}
 use Rattle.std.proofs.KnownBytes.{Appends-kept, Appends-nil, Appends-trans}
 use Rattle.std.proofs.Math.Nat.{le-div_iff_mul-le, le_refl}
@@ -39,6 +38,17 @@ pub writes_none : {X : Type 0} (r : Result X Fault) (o : Option (List ℕ)) → 
 writes_none (Ok x) o = Appends-nil o
 writes_none (Err f) o = ((λ n. Appends-nil o), (0, Appends-nil o))
 
+-- a log that has rows has its header
+pub is_begun : (base plan : PlanParts) (until : Option Tag) (bytes : List ℕ) (log : Log) → IsLog base plan until bytes log → 0 < log.rows → log.is_begun ≡ true
+is_begun base plan until bytes log is some = go log.is_begun refl
+  where
+    go : (b : Bool) → log.is_begun ≡ b → log.is_begun ≡ true
+    go true e = e
+    go false e =
+        let none : length (rows is.kept.lines) ≡ 0 = ap (λ (l : List Line). length (rows l)) (is.kept.fresh e).1 in
+        let counted = is.kept.counted in
+        absurd (omega (arith, none, counted, some))
+
 -- how far the rows of a log are judged
 pub reach_of : (base plan : PlanParts) (until : Option Tag) (bytes : List ℕ) (every : ℕ) (log : Log) (r : Reach) → IsLog base plan until bytes log → ((t : List Row) → IsFollowerOf plan t log.follower → IsJudged plan t r) → 0 < every → 0 < log.rows / every → IsReachOf base bytes every r
 reach_of base plan until bytes every log r is judged asked some = record {
@@ -46,7 +56,7 @@ reach_of base plan until bytes every log r is judged asked some = record {
   t = rows is.kept.lines;
   others = [];
   rest = log.rest.items;
-  tells = tells_plan base plan until bytes log.rest.items log.rest.items log is.kept (is.kept.begun (begun log.is_begun refl));
+  tells = tells_plan base plan until bytes log.rest.items log.rest.items log is.kept (is.kept.begun (is_begun base plan until bytes log is (omega (arith, least, asked))));
   judged = judged (rows is.kept.lines) is.kept.follower;
   asked = asked;
   many = many;
@@ -57,12 +67,6 @@ reach_of base plan until bytes every log r is judged asked some = record {
 
     many : every ≤ length (rows is.kept.lines)
     many = let n = is.kept.counted in omega (arith, least, n)
-
-    begun : (b : Bool) → log.is_begun ≡ b → log.is_begun ≡ true
-    begun true e = e
-    begun false e =
-        let none : length (rows is.kept.lines) ≡ 0 = ap (λ (l : List Line). length (rows l)) (is.kept.fresh e).1 in
-        absurd (omega (arith, none, many, asked))
 
 -- of more bytes it is so still
 reach_longer : (base : PlanParts) (bytes more : List ℕ) (every : ℕ) (r : Reach) → IsReachOf base bytes every r → IsReachOf base (bytes ++ more) every r

@@ -1,5 +1,5 @@
 -- Why nothing is told, and what was written then.
-use Rattle.std.proofs.Common.{◌≡◌, ◌≢◌, ◌⊎◌, ◌++◌, inl, inr, ℕ, Bool, List, Option, Result, Ok, Err, IfErr, ⊎_elim, subst}
+use Rattle.std.proofs.Common.{◌≡◌, ◌≢◌, inl, inr, ℕ, Bool, List, Option, subst}
 use Rattle.std.specs.Io.KnownBytes.{Keeps}
 use Rattle.lft_tag.specs.declared.Tag.{Tag}
 use Rattle.lft_model.specs.Plans.{PlanParts}

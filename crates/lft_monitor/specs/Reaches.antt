@@ -1,5 +1,5 @@
 -- What is told of a log while it comes: how far its rows are judged.
-use Rattle.std.specs.Prelude.{◌≡◌, ◌≢◌, ◌<◌, ◌≤◌, ℕ, ◌⊎◌, List, [], length, flat_map, Option, Result, MatchResult}
+use Rattle.std.specs.Prelude.{◌≢◌, ◌<◌, ◌≤◌, ℕ, ◌⊎◌, List, [], length, flat_map, Option, Result, MatchResult}
 use Rattle.std.specs.List.{All}
 use Rattle.std.specs.Io.KnownBytes.{Appends, Consumes}
 use Rattle.lft_steps.specs.declared.row.Row.{Row}

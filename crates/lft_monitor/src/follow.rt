@@ -9,17 +9,18 @@ ghost use Rattle.lft_load.specs.declared.fault.Part.TheVariants as part;
 ghost use Rattle.lft_front.specs.Explained.{WriteRefusal};
 ghost use Rattle.lft_log.specs.Told.{IsLog, IsSoon};
 ghost use Rattle.lft_monitor.specs.Lines.{HasFound, line_of_log, log_status, unbroken_words};
-ghost use Rattle.lft_monitor.specs.Followed.{IsFollowed, IsFollowedUnder, IsKeptOn, IsReadKept, until_words};
+ghost use Rattle.lft_monitor.specs.Followed.{IsFollowed, IsFollowedUnder, IsReadKept, until_words};
 ghost use Rattle.lft_monitor.specs.Reaches.{OfReaches, OfReadReaches, OfTextReaches, WritesOrFails};
 ghost use Rattle.lft_monitor.specs.Refusals.{FollowRefusal, FollowRefusalUnder, IsFaultOfLog, IsNamed, IsOutside, IsToldAs, ReadRefusal, TellsLine};
 
+use crate::kept::{Kept, keep};
 use crate::line::{line_of_final, unbroken_line};
 use lft_flat::Program;
 use lft_follow::{Ending, Reach};
 use lft_load::{Detail, Fault, Part, load, push_field, write_text};
 use lft_log::{Ended, Final, Log, LogFault, Told};
 use lft_model::Plan;
-use lft_tag::{MAX_MICRO, MAX_ROWS, MAX_TIME, Tag};
+use lft_tag::{MAX_MICRO, MAX_TIME, Tag};
 use lft_trace::number::read_number;
 use memchr::memchr;
 use std::alloc::{AllocError, Global};
@@ -27,9 +28,6 @@ use std::io::{ErrorKind, Read, Write};
 
 /// So many bytes are read at once at most.
 const CHUNK: usize = 1 << 18;
-
-/// No more bytes of a log are kept.
-const MOST: usize = 1 << 30;
 
 /// How a table is followed.
 #[derive(Clone, Copy)]
@@ -193,22 +191,6 @@ fn add<E: Write>(
     }
 }
 
-/// Puts a piece of a log behind what is kept of it, where so many rows came before. All is given up where these
-/// are more than a table may have, where the bytes are more than may be kept, or memory is refused.
-fn keep(kept: &mut Option<Vec<u8>>, rows: u64, piece: &[u8])
-    ensures { IsKeptOn kept.old kept.new piece.now }
-{
-    let Some(mut bytes) = kept.take() else {
-        return;
-    };
-    if rows > MAX_ROWS as u64 || piece.len() > MOST || bytes.len() > MOST - piece.len() {
-        return;
-    }
-    if bytes.extend_from_slice(piece).is_ok() {
-        *kept = Some(bytes);
-    }
-}
-
 /// What the log of a reader shows, up to its end or to what is told before. At most a chunk is read at once.
 fn read_log<R: Read, E: Write>(
     alloc: Global,
@@ -217,7 +199,7 @@ fn read_log<R: Read, E: Write>(
     reader: &mut R,
     chunk: &mut [u8],
     following: Following,
-    kept: &mut Option<Vec<u8>>,
+    kept: &mut Kept,
     errors: &mut E,
 ) -> Result<Ended, Fault>
     requires { 0 < length chunk.old }
@@ -245,7 +227,7 @@ fn read_log<R: Read, E: Write>(
                     Ok(Some(told)) => {
                         return Ok(Ended {
                             told: Final::Soon(told),
-                            still_open: None,
+                            still_open: Ok(Vec::new(alloc)),
                         });
                     }
                     Err(fault) => return Err(fault),
@@ -275,17 +257,17 @@ fn report<W: Write>(alloc: Global, program: &Program, told: Final, out: &mut W) 
 
 /// Follows the log of a reader under a plan, and writes the line of what is told of it. At the end it gives the
 /// runs too that have no end, which it doesn't write. Each `every` rows it writes how far they are judged to
-/// `errors`. What is read is put behind `kept`, where something is kept: up to 2^30 bytes and 4,000,000 rows, and
-/// as long as memory suffices. Then all of it is given up. The fault is that of a line of the log, once the rows
-/// before it are judged: part `trace`, or `externals` of an event or a stop; `read` 1 `Failed` where the reader
-/// fails; `write` 1 `Failed` where a writer fails; `memory` 1. The path is for a fault alone.
+/// `errors`. What is read is put behind what is kept, up to 2^30 bytes and 4,000,000 rows. The fault is that of a
+/// line of the log, once the rows before it are judged: part `trace`, or `externals` of an event or a stop;
+/// `read` 1 `Failed` where the reader fails; `write` 1 `Failed` where a writer fails; `memory` 1. The path is for
+/// a fault alone.
 pub fn follow_plan<R: Read, W: Write, E: Write>(
     alloc: Global,
     plan: Plan,
     path: &str,
     reader: &mut R,
     following: Following,
-    kept: &mut Option<Vec<u8>>,
+    kept: &mut Kept,
     out: &mut W,
     errors: &mut E,
 ) -> Result<Ended, Fault>
@@ -320,7 +302,7 @@ pub fn follow_log<R: Read, W: Write, E: Write>(
     path: &str,
     reader: &mut R,
     following: Following,
-    kept: &mut Option<Vec<u8>>,
+    kept: &mut Kept,
     out: &mut W,
     errors: &mut E,
 ) -> Result<Ended, Fault>

@@ -2,7 +2,9 @@
 //! Traces that are followed while they are written: from readers to printed lines.
 
 mod follow;
+mod kept;
 mod line;
 
 pub use follow::{Following, drain, follow_log, follow_plan, read_until, status_of_log};
+pub use kept::Kept;
 pub use lft_log::{Ended, Final, Told};

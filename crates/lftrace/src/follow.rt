@@ -3,11 +3,11 @@
 use crate::session::Session;
 use crate::words::FollowWords;
 use crate::{await_text, end, say};
-use lft_explain_log::explain_log_plan;
+use lft_explain_log::{Unexplained, explain_log_plan};
 use lft_files::{Failure, open_file, read_file};
 use lft_front::{Fault, Part};
 use lft_model::Plan;
-use lft_monitor::{Final, drain, follow_plan, status_of_log};
+use lft_monitor::{Final, Kept, drain, follow_plan, status_of_log};
 use std::alloc::Global;
 use std::io::{Read, Write};
 use std::process::ExitCode;
@@ -38,6 +38,14 @@ fn end_failed(rt: &HostRuntime, alloc: Global, failure: Failure) -> u8 {
     status
 }
 
+/// Why the facts behind a broken rule, or the open runs, are not told.
+fn why_untold(why: Unexplained) -> &'static str {
+    match why {
+        Unexplained::TooLong => "more was read than a table may have",
+        Unexplained::NoMemory => "memory is refused",
+    }
+}
+
 /// What is told of the trace of a reader under a plan. Where it is asked for, the facts stand behind the line of a
 /// broken rule, and the open runs behind that of an end where rows are missing.
 fn tell_plan<R: Read, W: Write>(
@@ -58,7 +66,7 @@ fn tell_plan<R: Read, W: Write>(
             path,
             reader,
             following,
-            &mut None,
+            &mut Kept::Nothing,
             out,
             &mut errors,
         )?;
@@ -74,10 +82,8 @@ fn tell_plan<R: Read, W: Write>(
         out,
         &mut errors,
     )?;
-    if explained.is_unexplained {
-        let _ = eprintln!(rt;
-            "lftrace: the facts are not told: more was read than a table may have, or memory is refused"
-        );
+    if let Some(why) = explained.unexplained {
+        let _ = eprintln!(rt; "lftrace: the facts are not told: {}", why_untold(why));
     }
     Ok(explained.told)
 }

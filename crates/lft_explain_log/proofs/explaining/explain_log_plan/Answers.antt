@@ -1,26 +1,66 @@
-use Rattle.std.proofs.Common.{◌≡◌, ◌∙◌, ℕ, List, Option, IfSome, refl, sym, subst}
-use Rattle.std.specs.Global.{Vec}
+use Rattle.std.proofs.Common.{ℕ, List, [], Err, inl, sym, subst}
 use Rattle.std.specs.Io.KnownBytes.{Appends}
+use Rattle.std.proofs.KnownBytes.{Consumes-nil, Keeps-refl}
 use Rattle.lft_model.specs.Plans.{PlanParts}
-use Rattle.lft_follow.specs.declared.open.OpenRun.{OpenRun}
-use Rattle.lft_log.specs.Told.{AreOpenAtEnd}
-use Rattle.lft_explain_log.specs.Explained.{HasMore, IsTextBehind}
-use Rattle.lft_explain_log.proofs.Writing.{line_and_text, line_unexplained, none_has, some_log}
+use Rattle.lft_load.specs.Written.{AppendsFront}
+use Rattle.lft_log.specs.Told.{TellsOpen}
+use Rattle.lft_monitor.specs.Refusals.FollowRefusalUnder.{by_reading}
+use Rattle.lft_monitor.specs.Refusals.ReadRefusal.{by_outside}
+use Rattle.lft_monitor.proofs.Reaching.{none_written, told_all}
+use Rattle.lft_explain_log.specs.Explained.{IsLack, IsLongKept, IsTextBehind}
+use Rattle.lft_explain_log.specs.Refusals.ExplainLogRefusalUnder.{by_log}
+use Rattle.lft_explain_log.specs.declared.explaining.Explained.{Explained}
+use Rattle.lft_explain_log.proofs.Writing.{line_alone, line_and_front, line_and_text}
 use Rattle.lft_explain_log.proofs.explaining.explain_log_plan.Goals as goal
 
 pub text_behind-requires : goal.text_behind-requires
 text_behind-requires g c =
+    let ended = c.in-Ok-follow_plan.ended in
     let read = c.in-Ok-follow_plan.ensures.followed.read in
-    subst (λ (p : PlanParts). IfSome c.in-Ok-follow_plan.ended.still_open (λ (runs : Vec OpenRun). (log : List ℕ) × AreOpenAtEnd p log runs.items)) (sym c.in-Ok.ensures) (some_log c.args.plan c.in-Ok-follow_plan.ended.still_open read.0 read.3)
+    (read.0, subst (λ (p : PlanParts). TellsOpen p read.0 ended.told ended.still_open) (sym c.in-Ok.ensures) read.3)
 
-pub returns-in_default-text_behind : goal.returns-in_default-text_behind
-returns-in_default-text_behind g c = line_unexplained c.args.plan c.args.following.until c.args.following.whole c.args.all _ c.follow_plan.new.kept (g.R.Read.remaining c.args.reader.now) (g.R.Read.remaining c.follow_plan.new.reader) (g.W.Write.contents c.args.out.now) (g.W.Write.contents c.follow_plan.new.out) c.in-Ok-follow_plan.ended c.in-Ok-follow_plan.ensures.followed (none_has c.text_behind.result (HasMore c.in-Ok-follow_plan.ended.told) c.in_default-text_behind.not-Some c.text_behind.ensures.none)
+pub returns-in_default-clause-refused : goal.returns-in_default-clause-refused
+returns-in_default-clause-refused g c = by_log (by_reading (by_outside (inl (c.no_memory.ensures.part, c.no_memory.ensures.number))) (Keeps-refl (g.W.Write.contents c.args.out.now)))
 
-pub returns-in-Ok-write_text : goal.returns-in-Ok-write_text
-returns-in-Ok-write_text g c =
+pub returns-in_default-clause-kept : goal.returns-in_default-clause-kept
+returns-in_default-clause-kept g c = λ other. Keeps-refl (g.W.Write.contents c.args.out.now)
+
+pub returns-in_default-clause-every : goal.returns-in_default-clause-every
+returns-in_default-clause-every g c = ([], Consumes-nil (g.R.Read.remaining c.args.reader.now), none_written {X = Explained} (Err c.no_memory.result) c.args.plan [] c.args.following.every (g.E.Write.contents c.args.errors.now))
+
+pub returns-in-Err-clause-refused : goal.returns-in-Err-clause-refused
+returns-in-Err-clause-refused g c = by_log c.in-Err.ensures.refused
+
+pub returns-in-Err-text_behind-clause-explained : goal.returns-in-Err-text_behind-clause-explained
+returns-in-Err-text_behind-clause-explained g c =
+    let ended = c.in-Ok-follow_plan.ended in
+    let lack = subst (λ (p : PlanParts). IsLack (IsLongKept p c.follow_plan.new.kept) ended.told c.in-Err-text_behind.why) c.in-Ok.ensures c.in-Err-text_behind.ensures.lack in
+    line_alone c.args.plan c.args.following.until c.args.following.whole c.args.all c.new.result c.follow_plan.new.kept _ _ _ _ ended c.in-Ok-follow_plan.ensures.followed c.new.ensures.items c.in-Err-text_behind.why lack
+
+pub returns-in-Ok-write_text-clause-explained : goal.returns-in-Ok-write_text-clause-explained
+returns-in-Ok-write_text-clause-explained g c =
+    let ended = c.in-Ok-follow_plan.ended in
+    let text = c.in-Ok-text_behind.text.items in
     let mid = g.W.Write.contents c.follow_plan.new.out in
     let new = g.W.Write.contents c.write_text.new.out in
-    let text = c.in-Some.text.items in
     let written = subst (λ (x : List ℕ). Appends mid new x) c.as_slice.ensures.value c.in-Ok-write_text.ensures.whole in
-    let behind = subst (λ (p : PlanParts). IsTextBehind c.args.all p c.follow_plan.new.kept c.in-Ok-follow_plan.ended text) c.in-Ok.ensures c.in-Some.ensures.text in
-    line_and_text c.args.plan c.args.following.until c.args.following.whole c.args.all _ c.follow_plan.new.kept (g.R.Read.remaining c.args.reader.now) (g.R.Read.remaining c.follow_plan.new.reader) (g.W.Write.contents c.args.out.now) mid new c.in-Ok-follow_plan.ended c.in-Ok-follow_plan.ensures.followed c.new.result text refl c.new.ensures.items behind written
+    let behind = subst (λ (p : PlanParts). IsTextBehind c.args.all p c.follow_plan.new.kept ended text) c.in-Ok.ensures c.in-Ok-text_behind.ensures.text in
+    line_and_text c.args.plan c.args.following.until c.args.following.whole c.args.all c.new.result c.follow_plan.new.kept _ _ _ mid ended c.in-Ok-follow_plan.ensures.followed c.new.ensures.items new text behind written
+
+pub returns-clause-refused : goal.returns-clause-refused
+returns-clause-refused g c =
+    let ended = c.in-Ok-follow_plan.ended in
+    let text = c.in-Ok-text_behind.text.items in
+    let mid = g.W.Write.contents c.follow_plan.new.out in
+    let new = g.W.Write.contents c.write_text.new.out in
+    let front = subst (λ (x : List ℕ). AppendsFront mid new x) c.as_slice.ensures.value c.in-Err-write_text.ensures.front in
+    let behind = subst (λ (p : PlanParts). IsTextBehind c.args.all p c.follow_plan.new.kept ended text) c.in-Ok.ensures c.in-Ok-text_behind.ensures.text in
+    line_and_front c.args.plan c.args.following.until c.args.following.whole c.args.all c.new.result c.follow_plan.new.kept _ _ _ mid ended c.in-Ok-follow_plan.ensures.followed c.new.ensures.items c.args.path.now new text c.in-Err-write_text.fault c.in-Err-write_text.ensures.part c.in-Err-write_text.ensures.number behind front
+
+pub returns-clause-kept : goal.returns-clause-kept
+returns-clause-kept g c = λ other. absurd (other c.in-Err-write_text.ensures.part)
+
+pub returns-clause-every : goal.returns-clause-every
+returns-clause-every g c =
+    let x = c.in-Ok-follow_plan.ensures.every in
+    (x.0, x.1, told_all {X = Explained} (Err c.in-Err-write_text.fault) c.args.plan x.0 c.args.following.every _ _ x.2)

@@ -1,4 +1,4 @@
-use Rattle.std.proofs.Common.{◌≡◌, ◌∙◌, List, sym, subst, ap}
+use Rattle.std.proofs.Common.{◌∙◌, List, sym, subst, ap}
 use Rattle.lft_flat.specs.Parts.{Parts}
 use Rattle.lft_follow.specs.declared.open.OpenRun.{OpenRun}
 use Rattle.lft_explain_log.specs.Listed.{AreOf, runs_words}
@@ -7,12 +7,12 @@ use Rattle.lft_explain_log.proofs.explaining.lines_of_open.Goals as goal
 
 pub lines_of_runs-requires : goal.lines_of_runs-requires
 lines_of_runs-requires c =
-    let runs = c.in-Some.runs in
-    let some = rw c.in-Some.is at c.requires in
+    let runs = c.in_ok-runs.runs in
+    let some = rw c.in_ok-runs.was at c.requires in
     let known = runs_known c.args.plan.now some.0 runs.items c.program.ensures.sound.sound some.1 in
     subst (λ (p : Parts). AreOf p c.as_slice.result.now) (sym c.program.ensures.value) (subst (λ (xs : List OpenRun). AreOf c.args.plan.now.program xs) (sym c.as_slice.ensures.value) known)
 
-pub returns-in-Ok : goal.returns-in-Ok
-returns-in-Ok c =
+pub returns : goal.returns
+returns c =
     let words = ap (λ (p : Parts). runs_words p c.as_slice.result.now) c.program.ensures.value ∙ ap (λ (xs : List OpenRun). runs_words c.args.plan.now.program xs) c.as_slice.ensures.value in
-    (c.in-Some.runs, c.in-Some.is, c.in-Ok.ensures ∙ words)
+    (c.in_ok-runs.runs, c.in_ok-runs.was, c.in_ok-text.ensures ∙ words)

@@ -1,18 +1,21 @@
 use Rattle.std.proofs.Common.{◌≡◌, ◌∙◌, ◌<◌, ◌++◌, ℕ, List, [], refl, Option, Ok, Err, None, IfOk, IfErr, ⊎_elim, length, take, inl, inr, sym, subst, arith}
-use Rattle.std.specs.Global.{Vec}
 use Rattle.std.specs.Io.KnownBytes.{Appends}
 use Rattle.std.proofs.KnownBytes.{Appends-nil, Consumes-nil, Consumes-trans, Consumes-kept}
 use Rattle.lft_model.specs.Plans.{PlanParts}
 use Rattle.lft_log.specs.declared.log.Log.{Log}
+use Rattle.lft_log.specs.Logs.{HasManyRows}
 use Rattle.lft_log.specs.Told.{IsLog}
 use Rattle.lft_log.specs.declared.told.Ended.{Ended}
 use Rattle.lft_log.specs.declared.told.Told.{Told}
-use Rattle.lft_monitor.specs.Followed.{IsKeptOn, IsReadKept}
+use Rattle.lft_monitor.specs.Followed.{IsReadKept}
+use Rattle.lft_monitor.specs.Kept.{IsKeptOn}
 use Rattle.lft_monitor.specs.Reaches.{OfReaches}
+use Rattle.lft_monitor.specs.declared.kept.Kept.{Kept}
 use Rattle.lft_monitor.specs.Refusals.{ReadRefusal}
 use Rattle.lft_monitor.specs.Refusals.ReadRefusal.{by_last_line, by_line, by_outside, by_reader}
+use Rattle.lft_monitor.proofs.Keeping.{kept_more, kept_none}
 use Rattle.lft_monitor.proofs.Reaching.{none_told, none_written, told_all, told_both}
-use Rattle.lft_monitor.proofs.Reading.{kept_both, kept_none, none_more, soon_is_no_end}
+use Rattle.lft_monitor.proofs.Reading.{none_more, soon_is_no_end}
 use Rattle.lft_monitor.proofs.follow.read_log.Goals.{in-Ok-finish, in-Err-finish, in-Ok-read+in-Ok-None, in-Err+else-ne}
 use Rattle.lft_monitor.proofs.follow.read_log.Goals as goal
 
@@ -46,12 +49,12 @@ returns-in-Ok-Some-clause-read g c =
         ended = inl (rw c.in-Ok-Some.field-0-is at (c.in-Ok-Some.ensures.told c.args.plan.now c.args.following.until bytes c.loop.invariant.2));
         all = λ ending q. absurd (soon_is_no_end c.in-Ok-Some.told ending q);
       },
-      kept_both c.args.kept.now c.loop.kept c.keep.new.kept bytes piece c.loop.invariant.5 c.keep.ensures,
+      kept_more c.args.plan.now c.loop.plan c.args.following.until bytes piece c.loop.log c.rows.result c.args.kept.now c.loop.kept c.keep.new.kept c.loop.invariant.2 c.rows.ensures c.loop.invariant.5 c.keep.ensures,
       tt,
     )
 
 pub loop-init : goal.loop-init
-loop-init g c = ([], Consumes-nil (g.R.Read.remaining c.args.reader.now), c.in-Ok.ensures, c.requires, refl, kept_none c.args.kept.now, none_told c.args.plan.now [] c.args.following.every (Appends (g.E.Write.contents c.args.errors.now) (g.E.Write.contents c.args.errors.now)) (Appends-nil (g.E.Write.contents c.args.errors.now)))
+loop-init g c = ([], Consumes-nil (g.R.Read.remaining c.args.reader.now), c.in-Ok.ensures, c.requires, refl, kept_none (HasManyRows c.args.plan.now.program []) c.args.kept.now, none_told c.args.plan.now [] c.args.following.every (Appends (g.E.Write.contents c.args.errors.now) (g.E.Write.contents c.args.errors.now)) (Appends-nil (g.E.Write.contents c.args.errors.now)))
 
 pub loop-preserved : goal.loop-preserved
 loop-preserved g c =
@@ -62,12 +65,12 @@ loop-preserved g c =
     let bytes = c.loop.invariant.0 in
     let long : 0 < length c.read.new.buf = omega (arith, c.loop.invariant.3, c.read.auto.buf) in
     let log_of = λ (plan : PlanParts) (x : List ℕ) (log : Log). IsLog base plan until x log in
-    let first = λ (x : List ℕ) (kept : Option (Vec ℕ)). IsKeptOn c.args.kept.now kept x in
+    let first = λ (x : List ℕ) (kept : Kept). IsKeptOn (HasManyRows base.program x) c.args.kept.now kept x in
     elim c.match-read.branch [
       | in-Ok-read+in-Ok-None w ↦
           let piece = take w.in-Ok-read.count c.read.new.buf in
           let more = bytes ++ piece in
-          (more, Consumes-trans _ _ _ _ _ c.loop.invariant.1 w.in-Ok-read.ensures.bytes.0, subst (λ (plan : PlanParts). log_of plan more c.match-read.log) (sym w.plan-is) (subst (log_of _ more) (sym w.log-is) (rw w.in-Ok-None.field-0-is at (w.in-Ok-None.ensures.told base until bytes c.loop.invariant.2))), long, subst (λ (plan : PlanParts). plan.program ≡ base.program) (sym w.plan-is) (w.in-Ok-None.ensures.program ∙ c.loop.invariant.4), subst (first more) (sym w.kept-is) (kept_both c.args.kept.now c.loop.kept _ bytes piece c.loop.invariant.5 w.keep.ensures), subst (λ x. OfReaches base more every (Appends errors (g.E.Write.contents x))) (sym w.errors-is) (told_both {X = Option Told} (Ok None) base bytes piece every errors _ _ c.loop.invariant.6 (w.in-Ok-None.ensures.every base until bytes c.loop.invariant.2)))
+          (more, Consumes-trans _ _ _ _ _ c.loop.invariant.1 w.in-Ok-read.ensures.bytes.0, subst (λ (plan : PlanParts). log_of plan more c.match-read.log) (sym w.plan-is) (subst (log_of _ more) (sym w.log-is) (rw w.in-Ok-None.field-0-is at (w.in-Ok-None.ensures.told base until bytes c.loop.invariant.2))), long, subst (λ (plan : PlanParts). plan.program ≡ base.program) (sym w.plan-is) (w.in-Ok-None.ensures.program ∙ c.loop.invariant.4), subst (first more) (sym w.kept-is) (kept_more base c.loop.plan until bytes piece c.loop.log w.rows.result c.args.kept.now c.loop.kept _ c.loop.invariant.2 w.rows.ensures c.loop.invariant.5 w.keep.ensures), subst (λ x. OfReaches base more every (Appends errors (g.E.Write.contents x))) (sym w.errors-is) (told_both {X = Option Told} (Ok None) base bytes piece every errors _ _ c.loop.invariant.6 (w.in-Ok-None.ensures.every base until bytes c.loop.invariant.2)))
       | in-Err+else-ne w ↦ (bytes, Consumes-kept _ _ _ _ c.loop.invariant.1 w.in-Err.ensures.bytes, subst (λ (plan : PlanParts). log_of plan bytes c.match-read.log) (sym w.plan-is) (subst (log_of _ bytes) (sym w.log-is) c.loop.invariant.2), long, subst (λ (plan : PlanParts). plan.program ≡ base.program) (sym w.plan-is) c.loop.invariant.4, subst (first bytes) (sym w.kept-is) c.loop.invariant.5, subst (λ x. OfReaches base bytes every (Appends errors (g.E.Write.contents x))) (sym w.errors-is) c.loop.invariant.6)
     ]
 

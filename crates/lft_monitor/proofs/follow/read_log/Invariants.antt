@@ -1,7 +1,8 @@
 use Rattle.std.proofs.Common.{◌≡◌, ◌<◌, ℕ, List, length}
 use Rattle.std.specs.Io.KnownBytes.{Appends, Consumes}
+use Rattle.lft_log.specs.Logs.{HasManyRows}
 use Rattle.lft_log.specs.Told.{IsLog}
-use Rattle.lft_monitor.specs.Followed.{IsKeptOn}
+use Rattle.lft_monitor.specs.Kept.{IsKeptOn}
 use Rattle.lft_monitor.specs.Reaches.{OfReaches}
 use Rattle.lft_monitor.proofs.follow.read_log.Given as goal
 
@@ -12,5 +13,5 @@ invariant-loop g l =
     × IsLog l.fn.plan l.plan l.following.until bytes l.log
     × (0 < length l.chunk)
     × (l.plan.program ≡ l.fn.plan.program)
-    × IsKeptOn l.fn.kept l.kept bytes
+    × IsKeptOn (HasManyRows l.fn.plan.program bytes) l.fn.kept l.kept bytes
     × OfReaches l.fn.plan bytes l.following.every (Appends (g.E.Write.contents l.fn.errors) (g.E.Write.contents l.errors))

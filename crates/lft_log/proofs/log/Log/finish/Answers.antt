@@ -49,10 +49,10 @@ returns-in-Ok-Some-clause-ended c = λ base until bytes is.
 pub returns-then-not-is_whole-clause-still_open : goal.returns-then-not-is_whole-clause-still_open
 returns-then-not-is_whole-clause-still_open c = IfOk-weaker c.told_at_end.result _ _ (λ e still base until bytes is.
     let left = subst (λ (x : List ℕ). ¬ IsWholeLine x) c.as_slice.ensures.value (λ whole. false≢true (c.if-not-is_whole.ensures.1 whole)) in
-    open_left base bytes e.still_open (c.args.self.now.rest.items, has_last base c.args.plan.now until bytes c.args.self.now is, left) (still base until bytes is)) c.told_at_end.ensures.still_open
+    open_left base bytes e.told e.still_open (c.args.self.now.rest.items, has_last base c.args.plan.now until bytes c.args.self.now is, left) (still base until bytes is)) c.told_at_end.ensures.still_open
 
 pub returns-in-Ok-None-clause-still_open : goal.returns-in-Ok-None-clause-still_open
 returns-in-Ok-None-clause-still_open c = IfOk-weaker c.told_at_end-in-Ok-None.result _ _ (λ e still base until bytes is.
     let last = subst (λ (x : List ℕ). IsWholeLine x) c.as_slice.ensures.value (c.if-not-is_whole.ensures.0 refl) in
     let whole = rw c.in-Ok-None.field-0-is at (c.in-Ok-None.ensures.told base until bytes is) in
-    open_whole base bytes e.still_open (c.args.self.now.rest.items, has_last base c.args.plan.now until bytes c.args.self.now is, last) (still base until (bytes ++ 10 ∷ []) (log_again base c.add_whole.new.plan until (bytes ++ 10 ∷ []) c.add_whole.new.self whole))) c.told_at_end-in-Ok-None.ensures.still_open
+    open_whole base bytes e.told e.still_open (c.args.self.now.rest.items, has_last base c.args.plan.now until bytes c.args.self.now is, last) (still base until (bytes ++ 10 ∷ []) (log_again base c.add_whole.new.plan until (bytes ++ 10 ∷ []) c.add_whole.new.self whole))) c.told_at_end-in-Ok-None.ensures.still_open
