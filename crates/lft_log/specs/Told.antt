@@ -3,7 +3,7 @@ use Rattle.std.specs.Prelude.{◌≡◌, ◌↔◌, ◌⊎◌, ◌+◌, ◌^◌,
 use Rattle.std.specs.Global.{Vec}
 use Rattle.std.specs.List.Sorted.{IsPermutation}
 use Rattle.lft_flat.specs.Parts.{Parts}
-use Rattle.lft_tag.specs.declared.NoMemory.{NoMemory}
+use Rattle.lft_tag.specs.declared.NoMemory.{NoMemory as WantOfMemory}
 use Rattle.lft_tag.specs.declared.Tag.{Tag}
 use Rattle.lft_tag.specs.Tags.{Before, UpTo, earliest}
 use Rattle.lft_steps.specs.declared.externals.Event.{Event as EventOf}
@@ -127,7 +127,7 @@ abbrev pub HoldInTime : Parts → List ℕ → List Line → List (List (List �
 HoldInTime program bytes lines others rest = HoldSoFar program bytes lines others rest × AreTimely [] lines
 
 -- at the end they are given, or memory was refused; what is told before it says nothing of them
-abbrev pub TellsOpen : PlanParts → List ℕ → Final → Result (Vec OpenRun) NoMemory → Type 0
+abbrev pub TellsOpen : PlanParts → List ℕ → Final → Result (Vec OpenRun) WantOfMemory → Type 0
 TellsOpen base bytes (Soon told) runs = Unit {0}
 TellsOpen base bytes (AtEnd ending) runs = IfOk runs (λ v. AreOpenAtEnd base bytes v.items)
 

@@ -24,7 +24,7 @@ returns-else-is_no_memory-clause-refused c = inr (record {
   tells = c.unlowered_tree.ensures;
 })
 
-pub returns-then-Ok-flattened-clause-program : goal.returns-then-Ok-flattened-clause-program
-returns-then-Ok-flattened-clause-program c =
+pub returns-in-Ok-flattened-clause-program : goal.returns-in-Ok-flattened-clause-program
+returns-in-Ok-flattened-clause-program c =
     let tree = c.in-Ok.lowering.tree in
     the_program c.args.files.now tree c.in-Ok.ensures.made c.in-Ok-flattened.program c.in-Ok-flattened.ensures.flat

@@ -2,8 +2,8 @@ use Rattle.std.proofs.Common.{◌++◌, ◌∷◌, inl, inr, ℕ, List, [], refl
 use Rattle.std.proofs.lemmas.Bool.{false≢true}
 use Rattle.std.proofs.lemmas.Result.{IfOk-weaker, IfErr-weaker}
 use Rattle.lft_log.specs.Logs.{HasNoEnd, IsWholeLine}
-use Rattle.lft_log.specs.Told.{IsEnded}
-use Rattle.lft_log.specs.declared.told.Ended.{Ended}
+use Rattle.lft_log.specs.Told.{IsEnded, TellsOpen}
+use Rattle.lft_log.specs.declared.told.Final.{Final}
 use Rattle.lft_log.specs.declared.told.Final.TheVariants.{Soon}
 use Rattle.lft_log.proofs.Finishing.{ended_left, ended_whole, has_last, open_left, open_whole, some_bytes}
 use Rattle.lft_log.proofs.Pieces.{log_again}
@@ -44,7 +44,7 @@ returns-in-Err-clause-fault c = λ base until bytes is.
 pub returns-in-Ok-Some-clause-ended : goal.returns-in-Ok-Some-clause-ended
 returns-in-Ok-Some-clause-ended c = λ base until bytes is.
     let last = subst (λ (x : List ℕ). IsWholeLine x) c.as_slice.ensures.value (c.if-not-is_whole.ensures.0 refl) in
-    subst (λ (e : Ended). IsEnded base until c.args.whole bytes e.told) (sym c.soon.ensures) (ended_whole base until c.args.whole bytes (Soon c.in-Ok-Some.told) (c.args.self.now.rest.items, has_last base c.args.plan.now until bytes c.args.self.now is, last) (rw c.in-Ok-Some.field-0-is at (c.in-Ok-Some.ensures.told base until bytes is)))
+    subst (λ (t : Final). IsEnded base until c.args.whole bytes t) (sym c.soon.ensures) (ended_whole base until c.args.whole bytes (Soon c.in-Ok-Some.told) (c.args.self.now.rest.items, has_last base c.args.plan.now until bytes c.args.self.now is, last) (rw c.in-Ok-Some.field-0-is at (c.in-Ok-Some.ensures.told base until bytes is)))
 
 pub returns-then-not-is_whole-clause-still_open : goal.returns-then-not-is_whole-clause-still_open
 returns-then-not-is_whole-clause-still_open c = IfOk-weaker c.told_at_end.result _ _ (λ e still base until bytes is.
@@ -56,3 +56,6 @@ returns-in-Ok-None-clause-still_open c = IfOk-weaker c.told_at_end-in-Ok-None.re
     let last = subst (λ (x : List ℕ). IsWholeLine x) c.as_slice.ensures.value (c.if-not-is_whole.ensures.0 refl) in
     let whole = rw c.in-Ok-None.field-0-is at (c.in-Ok-None.ensures.told base until bytes is) in
     open_whole base bytes e.told e.still_open (c.args.self.now.rest.items, has_last base c.args.plan.now until bytes c.args.self.now is, last) (still base until (bytes ++ 10 ∷ []) (log_again base c.add_whole.new.plan until (bytes ++ 10 ∷ []) c.add_whole.new.self whole))) c.told_at_end-in-Ok-None.ensures.still_open
+
+pub returns-in-Ok-Some-clause-still_open : goal.returns-in-Ok-Some-clause-still_open
+returns-in-Ok-Some-clause-still_open c = λ base until bytes is. subst (λ (t : Final). TellsOpen base bytes t c.soon.result.still_open) (sym c.soon.ensures) tt
