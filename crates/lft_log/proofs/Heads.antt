@@ -55,6 +55,7 @@ pub none_head : (text : List ℕ) → ((rest : List ℕ) → ¬ IsHeaderThen res
 none_head text none head more e (inl h) = none ((10 ∷ []) ++ more) (subst (IsHeaderThen ((10 ∷ []) ++ more)) (sym e) (then_more (10 ∷ []) head more h))
 none_head text none head more e (inr h) = none ((13 ∷ 10 ∷ []) ++ more) (subst (IsHeaderThen ((13 ∷ 10 ∷ []) ++ more)) (sym e) (then_more (13 ∷ 10 ∷ []) head more h))
 
+-- of any answer that is none
 pub if_none : {X : Type 0} (o : Option X) (P : Type 0) → P → IfNone o P
 if_none None P p = p
 if_none (Some x) P p = tt

@@ -1,5 +1,5 @@
 -- Words of a tag.
-use Rattle.std.proofs.Common.{◌≡◌, ◌≢◌, ◌+◌, ◌-◌, ◌∙◌, ◌<◌, ◌≤◌, ℕ, zero, suc, Bool, true, false, ◌&&◌, if◌then◌else◌, nat_le, List, [], ◌∷◌, ◌++◌, Option, Some, None, IfNone, length, take, drop, slice_range, slice_get, slice_index, refl, sym, ap, subst, arith, rules, add-one}
+use Rattle.std.proofs.Common.{◌≡◌, ◌≢◌, ◌+◌, ◌-◌, ◌∙◌, ◌<◌, ◌≤◌, ℕ, zero, suc, Bool, true, false, ◌&&◌, if◌then◌else◌, nat_le, List, [], ◌∷◌, ◌++◌, Some, None, length, take, drop, slice_range, slice_get, slice_index, refl, sym, ap, subst, arith, rules, add-one}
 use Rattle.std.specs.Char.{is_ascii_digit}
 use Rattle.std.specs.List.{list_all}
 use Rattle.std.proofs.lemmas.Bool.{eqb-true}
@@ -76,8 +76,3 @@ parts_same words ds rest limit n k e is_number is =
       ap (λ (m : ℕ). take m words) front ∙ ap (λ (xs : List ℕ). take k xs) e ∙ parts.0,
       take_all (length words - (k + 1)) (drop (k + 1) words) long ∙ ap (λ (m : ℕ). drop m words) (add-one k) ∙ ap (λ (xs : List ℕ). drop (suc k) xs) e ∙ parts.1,
     )
-
--- of any answer that is none
-pub if_none : {X : Type 0} (o : Option X) (P : Type 0) → P → IfNone o P
-if_none None P p = p
-if_none (Some x) P p = tt

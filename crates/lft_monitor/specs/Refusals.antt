@@ -1,5 +1,5 @@
 -- Why a log isn't followed: a line of it, the two texts, a reader or a writer, or want of memory.
-use Rattle.std.specs.Prelude.{◌≡◌, ◌⊎◌, ℕ, Bool, List, [], ◌∷◌, ◌++◌, Option, Some, None, codes}
+use Rattle.std.specs.Prelude.{◌≡◌, ◌⊎◌, ℕ, Bool, List, Option, Some, None, codes}
 use Rattle.std.specs.Io.KnownBytes.{Consumes, IsAtEnd, Keeps}
 use Rattle.lft_tag.specs.declared.Tag.{Tag}
 use Rattle.lft_model.specs.Plans.{PlanParts}
@@ -13,7 +13,7 @@ use Rattle.lft_load.specs.declared.fault.Detail.TheVariants as detail
 use Rattle.lft_load.specs.declared.fault.Fault.{Fault}
 use Rattle.lft_load.specs.declared.fault.Part.{Part}
 use Rattle.lft_load.specs.declared.fault.Part.TheVariants as part
-use Rattle.lft_log.specs.Told.{IsFaultOf}
+use Rattle.lft_log.specs.Told.{IsFaultAtEnd, IsFaultOf}
 use Rattle.lft_log.specs.declared.fault.LogFault.{LogFault}
 use Rattle.lft_log.specs.declared.fault.LogFault.TheVariants as log
 use Rattle.lft_log.specs.declared.told.Final.{Final}
@@ -53,14 +53,18 @@ IsToldAs log.NoMemory f = (f.part ≡ part.Memory) × (f.number ≡ 1)
 abbrev pub IsFaultOfLog : PlanParts → List ℕ → Fault → Type 0
 IsFaultOfLog base bytes f = (e : LogFault) × IsFaultOf base bytes e × IsToldAs e f
 
+-- a fault of the log of these bytes, behind which no more come
+abbrev pub IsFaultAtEndOfLog : PlanParts → List ℕ → Fault → Type 0
+IsFaultAtEndOfLog base bytes f = (e : LogFault) × IsFaultAtEnd base bytes e × IsToldAs e f
+
 -- memory was refused, or the writer of what is told while the log comes failed
 abbrev pub IsOutside : Fault → Type 0
 IsOutside f = (f.part ≡ part.Memory) × (f.number ≡ 1) ⊎ (f.part ≡ part.Write) × (f.number ≡ 1)
 
--- nothing is told of a reader's log: what it gave has a fault, at its end perhaps with a line feed behind it; the reader failed, or never ended; or it comes from outside
+-- nothing is told of a reader's log: what it gave has a fault, so far or at its end; the reader failed, or never ended; or it comes from outside
 pub data ReadRefusal (base : PlanParts) (path : List ℕ) (old new : Option (List ℕ)) (f : Fault) : Type 0 where
   by_line : (bytes : List ℕ) → Consumes old new bytes → IsFaultOfLog base bytes f → ReadRefusal base path old new f
-  by_last_line : (bytes : List ℕ) → Consumes old new bytes → IsAtEnd new → IsFaultOfLog base (bytes ++ 10 ∷ []) f → ReadRefusal base path old new f
+  by_end : (bytes : List ℕ) → Consumes old new bytes → IsAtEnd new → IsFaultAtEndOfLog base bytes f → ReadRefusal base path old new f
   by_reader : IsFaultOfPath f part.Read 1 path ⊎ IsFaultOfPath f part.Read 2 path → ReadRefusal base path old new f
   by_outside : IsOutside f → ReadRefusal base path old new f
 

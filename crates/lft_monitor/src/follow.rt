@@ -224,12 +224,7 @@ fn read_log<R: Read, E: Write>(
                 keep(kept, log.rows(), piece);
                 match add(&mut log, alloc, plan, piece, following.every, errors) {
                     Ok(None) => {}
-                    Ok(Some(told)) => {
-                        return Ok(Ended {
-                            told: Final::Soon(told),
-                            still_open: Ok(Vec::new(alloc)),
-                        });
-                    }
+                    Ok(Some(told)) => return Ok(Ended::soon(alloc, told)),
                     Err(fault) => return Err(fault),
                 }
             }

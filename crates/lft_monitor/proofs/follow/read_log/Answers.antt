@@ -4,15 +4,16 @@ use Rattle.std.proofs.KnownBytes.{Appends-nil, Consumes-nil, Consumes-trans, Con
 use Rattle.lft_model.specs.Plans.{PlanParts}
 use Rattle.lft_log.specs.declared.log.Log.{Log}
 use Rattle.lft_log.specs.Logs.{HasManyRows}
-use Rattle.lft_log.specs.Told.{IsLog}
+use Rattle.lft_log.specs.Told.{IsLog, TellsOpen}
 use Rattle.lft_log.specs.declared.told.Ended.{Ended}
+use Rattle.lft_log.specs.declared.told.Final.{Final}
 use Rattle.lft_log.specs.declared.told.Told.{Told}
-use Rattle.lft_monitor.specs.Followed.{IsReadKept}
+use Rattle.lft_monitor.specs.Followed.{IsRead, IsReadKept}
 use Rattle.lft_monitor.specs.Kept.{IsKeptOn}
 use Rattle.lft_monitor.specs.Reaches.{OfReaches}
 use Rattle.lft_monitor.specs.declared.kept.Kept.{Kept}
 use Rattle.lft_monitor.specs.Refusals.{ReadRefusal}
-use Rattle.lft_monitor.specs.Refusals.ReadRefusal.{by_last_line, by_line, by_outside, by_reader}
+use Rattle.lft_monitor.specs.Refusals.ReadRefusal.{by_end, by_line, by_outside, by_reader}
 use Rattle.lft_monitor.proofs.Keeping.{kept_more, kept_none}
 use Rattle.lft_monitor.proofs.Reaching.{none_told, none_written, told_all, told_both}
 use Rattle.lft_monitor.proofs.Reading.{none_more, soon_is_no_end}
@@ -41,8 +42,11 @@ returns-in-Ok-eq0-clause-read g c =
 
 pub returns-in-Ok-Some-clause-read : goal.returns-in-Ok-Some-clause-read
 returns-in-Ok-Some-clause-read g c =
+    let base = c.args.plan.now in
+    let is = λ (t : Final). (bytes : List ℕ) × IsRead base c.args.following.until c.args.following.whole bytes (g.R.Read.remaining c.args.reader.now) (g.R.Read.remaining c.read.new.self) t × IsKeptOn (HasManyRows base.program bytes) c.args.kept.now c.keep.new.kept bytes × TellsOpen base bytes t c.soon.result.still_open in
     let bytes = c.loop.invariant.0 in
-    let piece = take c.in-Ok-read.count c.read.new.buf in (
+    let piece = take c.in-Ok-read.count c.read.new.buf in
+    subst is (sym c.soon.ensures) (
       bytes ++ piece,
       record {
         given = Consumes-trans _ _ _ _ _ c.loop.invariant.1 c.in-Ok-read.ensures.bytes.0;
@@ -89,7 +93,7 @@ returns-in-Ok-eq0-clause-refused g c =
     let room : 0 < length c.read.new.buf = omega (arith, c.loop.invariant.3, c.read.auto.buf) in
     elim c.match-finish.branch [
       | in-Ok-finish w ↦ subst (λ r. IfErr r is) (sym w.result-is) tt
-      | in-Err-finish w ↦ subst (λ r. IfErr r is) (sym w.result-is) (by_last_line bytes (none_more _ _ _ bytes _ _ c.loop.invariant.1 c.in-Ok-eq0.field-0-test read.0) (read.1 c.in-Ok-eq0.field-0-test room) (w.in-Err-finish.fault, w.in-Err-finish.ensures.fault base c.args.following.until bytes c.loop.invariant.2, w.fault_of.ensures))
+      | in-Err-finish w ↦ subst (λ r. IfErr r is) (sym w.result-is) (by_end bytes (none_more _ _ _ bytes _ _ c.loop.invariant.1 c.in-Ok-eq0.field-0-test read.0) (read.1 c.in-Ok-eq0.field-0-test room) (w.in-Err-finish.fault, w.in-Err-finish.ensures.fault base c.args.following.until bytes c.loop.invariant.2, w.fault_of.ensures))
     ]
 
 pub returns-in-Ok-eq0-clause-every : goal.returns-in-Ok-eq0-clause-every

@@ -1,6 +1,7 @@
 use Rattle.std.proofs.Common.{◌≡◌, ◌≤◌, ◌+◌, ◌∙◌, ℕ, List, Some, length, slice_range, sym, ap, subst}
 use Rattle.lft_trace.specs.Numbers.{number}
-use Rattle.lft_monitor.proofs.Words.{if_none, no_comma, parts_at, parts_same}
+use Rattle.lft_log.proofs.Heads.{if_none}
+use Rattle.lft_monitor.proofs.Words.{no_comma, parts_at, parts_same}
 use Rattle.lft_monitor.proofs.follow.read_until.Goals as goal
 
 pub returns-clause-tag : goal.returns-clause-tag
