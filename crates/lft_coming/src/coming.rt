@@ -124,6 +124,13 @@ impl Coming {
         true
     }
 
+    /// Whether the queue has no event.
+    pub fn is_empty(&self) -> bool
+        ensures { IsTrue result → (tag : TheTag) (n : TheName) → value_of tag n self.now.queue ≡ None }
+    {
+        self.queue.len() == 0
+    }
+
     /// The value of the name's event at the tag, if it has one in the queue.
     pub fn value_at(&self, tag: Tag, name: Name) -> Option<Value>
         ensures { result ≡ value_of tag name self.now.queue }

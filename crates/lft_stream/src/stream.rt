@@ -258,21 +258,17 @@ impl Stream {
     {
         let program = plan.program();
         let own = &rows[slice.first..slice.end];
-        let stop = self.stop;
         self.presence
             .find(plan, &self.channels, &self.coming, own, slice.tag);
+        self.writes.pass_all(program, own, slice.tag);
+        self.starts.pass_all(program, rows, slice);
         if !self.effort.allows(
             program,
             &self.presence,
             &self.listeners,
             &self.channels,
             own,
-        ) {
-            return false;
-        }
-        self.writes.pass_all(program, own, slice.tag);
-        self.starts.pass_all(program, rows, slice);
-        if !are_triggered(
+        ) || !are_triggered(
             &mut self.dues,
             &self.writes,
             &self.coming,
@@ -281,7 +277,7 @@ impl Stream {
             plan,
             rows,
             slice,
-            stop,
+            self.stop,
         ) || !have_read(
             &self.writes,
             &self.coming,
