@@ -25,6 +25,7 @@ use Rattle.lft_program.specs.Links.{IsSource as IsTreeSource}
 use Rattle.lft_program.specs.Flattening.{Flat, time_or_zero, IsName as IsTreeName, IsTrigger as IsTreeTrigger, IsPort as IsTreePort, IsAction as IsTreeAction, IsTimer as IsTreeTimer, IsReaction as IsTreeReaction, Means as TreeMeans, name_under, name_of_path as tree_name_of_path, name_of_thing as tree_name_of_thing, name_of_reaction as tree_name_of_reaction, names_of as tree_names_of}
 use Rattle.lft_program.proofs.Listing.{enumerate_from_at}
 use Rattle.lft_program.proofs.Zipping.{then_some}
+use Rattle.lft_shapes.proofs.Rows.{map_alike}
 use Rattle.lft_expanded.specs.Expanded.{Action, Contents, OnThing, Link, Port, Reaction, Timer}
 use Rattle.lft_expanded.specs.Flat.{AreAll, Connects, Declared, IsAction, IsFlat, IsPort, IsReaction, IsSource, IsTimer, Located, Means, MeansTrigger, actions_in, declared, declared_in, name_behind, name_of_path, name_of_reaction, name_of_thing, names_along, names_of, ports_in, things, timers_in}
 use Rattle.lft_expanded.specs.Core.{things_for, triggers_for, expanded_tree, core_contents, link_of, core_links, core_reaction}
@@ -228,10 +229,6 @@ zip_from f R S (x ∷ xs) [] go h = absurd h
 zip_from f R S (x ∷ xs) (y ∷ ys) go h = (go x y (inl refl) h.0, zip_from f R S xs ys (λ z w m r. go z w (inr m) r) h.1)
 
 -- ---- names
-
-map_alike : {X Y : Type 0} (f g : X → Y) (xs : List X) → ((x : X) → Mem x xs → f x ≡ g x) → map f xs ≡ map g xs
-map_alike f g [] same = refl
-map_alike {X} {Y} f g (x ∷ xs) same = ap (λ (y : Y). y ∷ map f xs) (same x (inl refl)) ∙ ap (λ (l : List Y). g x ∷ l) (map_alike f g xs (λ z m. same z (inr m)))
 
 pub map_twice : {X Y Z : Type 0} (f : X → Y) (g : Y → Z) (xs : List X) → map g (map f xs) ≡ map (λ x. g (f x)) xs
 map_twice f g [] = refl

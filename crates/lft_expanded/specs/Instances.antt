@@ -1,9 +1,10 @@
 -- The instances of a whole program: the values of their parameters, and banks and multiports.
-use Rattle.std.specs.Prelude.{ℕ, ◌++◌, ℤ, pos, neg_ℤ, Bool, true, false, List, [], ◌∷◌, Option, Some, None, bytes_eq, codes, find, flat_map, if◌then◌else◌, map, option_map, position, slice_get, string_bytes}
+use Rattle.std.specs.Prelude.{ℕ, ◌++◌, ℤ, pos, neg_ℤ, true, false, List, [], ◌∷◌, Option, Some, None, find, flat_map, if◌then◌else◌, map, option_map, position, slice_get, string_bytes}
 use Rattle.std.specs.List.{enumerate_from}
 use Rattle.std.specs.Option.{option_and_then, option_map_or}
 use Rattle.lft_lowering.specs.Channels.{below}
 use Rattle.lft_settings.specs.Names.{tail}
+pub use Rattle.lft_settings.specs.Values.{is_forever}
 use Rattle.lft_shapes.specs.Shapes.{name_of, width_of}
 use Rattle.lft_sources.specs.declared.source.SourceFile.{SourceFile}
 use Rattle.lft_tree.specs.Tree.{nanoseconds}
@@ -76,11 +77,6 @@ time_of v = 0
 abbrev pub time_in : List SourceFile → Inside → Option Expression → ℕ
 time_in files x None = 0
 time_in files x (Some e) = option_map_or time_of (read_in files x e.value) 0
-
--- the word `forever`: a timer with this period fires once, as one without a period
-abbrev pub is_forever : Value → Bool
-is_forever (value.Word q) = bytes_eq (string_bytes q) (codes "forever")
-is_forever v = false
 
 -- the period of a timer, read in an instance
 abbrev pub period_in : List SourceFile → Inside → Option Expression → ℕ

@@ -1,5 +1,5 @@
 -- The names of reactors mean what they mean in the language.
-use Rattle.std.proofs.Common.{◌≡◌, inl, inr, ℕ, zero, suc, ◌+◌, ◌<◌, ◌≤◌, Bool, true, false, List, [], ◌∷◌, ◌++◌, length, flat_map, get_or, Option, Some, None, option_map, slice_get, refl, sym, take, ap, subst, ◌∙◌, arith}
+use Rattle.std.proofs.Common.{◌≡◌, inl, inr, ℕ, ◌+◌, ◌<◌, ◌≤◌, Bool, true, false, List, [], ◌∷◌, length, flat_map, get_or, Option, Some, None, option_map, slice_get, refl, sym, ap, subst, ◌∙◌, arith}
 use Rattle.std.specs.Prelude.{if◌then◌else◌, is_some, string_bytes, zip}
 use Rattle.std.specs.List.{position, position_or_len}
 use Rattle.std.specs.Option.{option_and_then, option_map_or, option_or}
@@ -9,19 +9,17 @@ use Rattle.std.proofs.lemmas.Bool.{true≢false}
 use Rattle.std.proofs.lemmas.Grind.{common_steps}
 use Rattle.std.proofs.lemmas.Option.{get_or_from_slice_get, slice_get-get_or, slice_get_within}
 use Rattle.std.proofs.lemmas.Slice.Eq.{bytes_eq-Decides}
-use Rattle.std.specs.List.{enumerate_from}
-use Rattle.std.proofs.lemmas.List.{length-append}
-use Rattle.lft_lists.proofs.Mapped.{enumerate_at, mapped, mapped_from, option_map_some, pair_at}
-use Rattle.lft_lists.proofs.Members.{mem_get, get_mem, mem_filter, mem_flat, mem_from_filter, mem_from_flat, mem_from_map, Mem}
-use Rattle.lft_lists.proofs.Places.{get_left, get_right, Some_same}
+use Rattle.lft_lists.proofs.Mapped.{mapped_from, option_map_some, pair_at}
+use Rattle.lft_lists.proofs.Members.{mem_get, get_mem, mem_filter, mem_flat, mem_from_filter, mem_from_flat, Mem}
+use Rattle.lft_lists.proofs.Places.{Some_same}
 use Rattle.lft_sources.specs.declared.source.SourceFile.{SourceFile}
 use Rattle.lft_whole.specs.declared.tree.ImportedName.{ImportedName}
 use Rattle.lft_whole.specs.declared.tree.Name.{Name}
 use Rattle.lft_whole.specs.declared.tree.Reactor.{Reactor}
 use Rattle.lft_shapes.specs.declared.scopes.Class.{Class}
-use Rattle.lft_shapes.specs.Scopes.{AreScopes, IsImport, IsImported, IsMeant, IsOf, IsOwn, meaning_in, number_in, reactors_before, reactors_in, reactors_of}
+use Rattle.lft_shapes.specs.Scopes.{AreScopes, IsImport, IsImported, IsMeant, IsOf, IsOwn, meaning_in, number_in, reactors_before, reactors_in}
+use Rattle.lft_shapes.proofs.Numbering.{at_file, file_of}
 use Rattle.lft_expanded.specs.Reactors.{class_named, imported_by, imported_class, is_called, is_named, own_class, reactor_of}
-use Rattle.lft_program.proofs.Listing.{enumerate_from_at}
 use Rattle.lft_program.proofs.Zipping.{then_some}
 use Rattle.lft_expanded.proofs.Flattened.{unzip}
 use Rattle.lft_fits.specs.Fits.{number_at}
@@ -31,22 +29,6 @@ pub record IsAt (files : List SourceFile) (c : Class) (at : ℕ × ℕ) : Type 0
   pub file : c.file ≡ at.0
   pub reactor : reactor_of files at ≡ Some c.reactor.now
   pub number : c.number ≡ number_at files at
-
--- an item of the part of one stands behind the parts of those before it
-flat_at : {X Y : Type 0} (f : X → List Y) (xs : List X) (n : ℕ) (x : X) (j : ℕ) (y : Y) → slice_get xs n ≡ Some x → slice_get (f x) j ≡ Some y → slice_get (flat_map f xs) (length (flat_map f (take n xs)) + j) ≡ Some y
-flat_at f [] n x j y at is = absurd (cc)
-flat_at f (z ∷ zs) zero x j y at is =
-    let e : 0 + j ≡ j = omega arith in
-    ap (slice_get (f z ++ flat_map f zs)) e ∙ get_left (f z) (flat_map f zs) j y (subst (λ w. slice_get (f w) j ≡ Some y) (sym (Some_same z x at)) is)
-flat_at f (z ∷ zs) (suc n) x j y at is =
-    let long = length-append (f z) (flat_map f (take n zs)) in
-    let e : length (f z ++ flat_map f (take n zs)) + j ≡ length (f z) + (length (flat_map f (take n zs)) + j) = omega (arith, long) in
-    ap (slice_get (f z ++ flat_map f zs)) e ∙ get_right (f z) (flat_map f zs) (length (flat_map f (take n zs)) + j) ∙ flat_at f zs n x j y at is
-
-pub at_file : (files : List SourceFile) (n : ℕ) (file : SourceFile) (j : ℕ) (r : Reactor) → slice_get files n ≡ Some file → slice_get file.tree.reactors.items j ≡ Some r → slice_get (reactors_in files) (length (reactors_before files n) + j) ≡ Some (n, r)
-at_file files n file j r at is =
-    let pair : Reactor → ℕ × Reactor = λ s. (n, s) in
-    flat_at reactors_of (enumerate_from 0 files) n (n, file) j (n, r) (enumerate_at 0 files n file at ∙ ap (λ k. Some (k, file)) (omega arith)) (mapped pair file.tree.reactors.items j r is)
 
 -- what a search finds
 pub position_found : {X : Type 0} (p : X → Bool) (xs : List X) (k : ℕ) → position p xs ≡ Some k → (x : X) × (slice_get xs k ≡ Some x) × (p x ≡ true)
@@ -70,18 +52,7 @@ called q (Some n) f = (bytes_eq-Decides q (string_bytes n.text)).1 (sym (Some_sa
 
 -- a reactor that is numbered stands at a place of its file
 pub own_place : (files : List SourceFile) (file : ℕ) (c : Class) → IsOf files c → c.file ≡ file → (f : SourceFile) × (slice_get files file ≡ Some f) × (j : ℕ) × (slice_get f.tree.reactors.items j ≡ Some c.reactor.now)
-own_place files file c stands is =
-    let all = enumerate_from 0 files in
-    let from = mem_from_flat reactors_of all (c.file, c.reactor.now) (mem_get (reactors_in files) c.number (c.file, c.reactor.now) stands) in
-    let there = get_mem from.0 all from.1 in
-    let numbered = enumerate_from_at 0 files there.0 from.0 there.1 in
-    let pair : Reactor → ℕ × Reactor = λ s. (from.0.0, s) in
-    let one = mem_from_map pair from.0.1.tree.reactors.items (c.file, c.reactor.now) from.2 in
-    let d : from.0.0 ≡ c.file = ap (λ (q : ℕ × Reactor). q.0) one.2 in
-    let e : from.0.0 ≡ 0 + there.0 = numbered.0 in
-    let same : there.0 ≡ file = omega (arith, e, d, is) in
-    let item = get_mem one.0 from.0.1.tree.reactors.items one.1 in
-    (from.0.1, subst (λ n. slice_get files n ≡ Some from.0.1) same numbered.1, item.0, item.1 ∙ ap (λ (q : ℕ × Reactor). Some q.1) one.2)
+own_place files file c stands is = let f = file_of files c.number c.file c.reactor.now stands in (f.0, subst (λ n. slice_get files n ≡ Some f.0) is f.1, f.2.0, f.2.1)
 
 -- the reactor of this name that stands in a file
 pub own_is : (files : List SourceFile) (scopes : _) → AreScopes files scopes → (file : ℕ) (q : List ℕ) (at : ℕ × ℕ) → own_class files file q ≡ Some at → (c : Class) × IsOwn files file q c × IsAt files c at

@@ -25,7 +25,8 @@ use Rattle.lft_program.proofs.Zipping.{then_some}
 use Rattle.lft_expanded.specs.Instances.{Inside, given_in, inside_of, main_instance}
 use Rattle.lft_expanded.specs.Reactors.{Class, class_named, main_of, members_of, parameters_of}
 use Rattle.lft_fits.specs.Fits.{Fits, IsShapeOf, number_at}
-use Rattle.lft_fits.proofs.ClassNames.{IsAt, at_file, names_law, own_place, position_found, position_lost}
+use Rattle.lft_shapes.proofs.Numbering.{at_file}
+use Rattle.lft_fits.proofs.ClassNames.{IsAt, names_law, own_place, position_found, position_lost}
 use Rattle.lft_fits.proofs.Fitting.{inside_fits, main_fits}
 use Rattle.lft_fits.proofs.Giving.{IsGivenBy, given_by}
 use Rattle.lft_fits.proofs.Shapes.{named_here, shape_is}

@@ -11,7 +11,7 @@ use Rattle.std.proofs.lemmas.Option.{slice_get_within}
 use Rattle.lft_lists.proofs.Mapped.{mapped_from, option_map_some}
 use Rattle.lft_lists.proofs.Members.{Mem, get_mem, mem_from_filter, mem_from_flat}
 use Rattle.lft_lists.proofs.Picked.{map-filter_map}
-use Rattle.lft_lists.proofs.Places.{get_push, get_push_cases, Some_same}
+use Rattle.lft_lists.proofs.Places.{get_push_cases, Some_same}
 use Rattle.lft_instances.proofs.Pairs.{Pairs}
 use Rattle.lft_instances.proofs.Unique.{pairs_from}
 use Rattle.lft_program.proofs.Zipping.{then_some}
@@ -28,18 +28,12 @@ use Rattle.lft_shapes.specs.Scopes.{AreScopes, class_at, reactors_before, reacto
 use Rattle.lft_shapes.specs.Walks.{IsBehind, Reaches, Ways, nothing, one, itself, further}
 use Rattle.lft_expanded.specs.Reactors.{Class, bases_of, class_named, lineage, reactor_count, reactor_of, same_class}
 use Rattle.lft_fits.specs.Fits.{IsShapeOf, number_at}
-use Rattle.lft_fits.proofs.ClassNames.{at_file, names_law, named_is}
+use Rattle.lft_shapes.proofs.Decided.{listed_before}
+use Rattle.lft_shapes.proofs.Numbering.{at_file}
+use Rattle.lft_fits.proofs.ClassNames.{names_law, named_is}
 use Rattle.lft_fits.proofs.Lineage.{Apart, Puts, all_put, lineage_apart, lineage_here, lineage_listed}
 
 -- ---- lists
-
--- a list each of whose numbers stands behind all that it leads to
-behind_lower : (next : Ways) (list : List ℕ) → IsBehind next list → (i x k r : ℕ) → slice_get list i ≡ Some x → next x k ≡ Some r → (j : ℕ) × (j < i) × (slice_get list j ≡ Some r)
-behind_lower next _ nothing i x k r at leads = absurd (cc)
-behind_lower next _ (one xs y before none all) i x k r at leads = elim (get_push_cases xs y i x at) [
-  | inl old ↦ (let j = behind_lower next xs before i x k r old leads in (j.0, j.1, get_push xs y j.0 r j.2))
-  | inr last ↦ (let h = all k r (subst (λ z. next z k ≡ Some r) (sym last.1) leads) in let l = slice_get_within xs h.0 r h.1 in let e = last.0 in (h.0, omega (arith, l, e), get_push xs y h.0 r h.1))
-]
 
 behind_alone : (next : Ways) (list : List ℕ) → IsBehind next list → (i j x : ℕ) → slice_get list i ≡ Some x → slice_get list j ≡ Some x → i ≡ j
 behind_alone next _ nothing i j x at there = absurd (cc)
@@ -196,7 +190,7 @@ module _ (files : List SourceFile) (scopes : _) (are : AreScopes files scopes) w
       alone = behind_alone (base_of scopes) list chain.all.behind
 
       lower : (i x s : ℕ) → slice_get list i ≡ Some x → Mem s (numbered_bases scopes x) → (j : ℕ) × (j < i) × (slice_get list j ≡ Some s)
-      lower i x s at m = let k = base_at x s m in behind_lower (base_of scopes) list chain.all.behind i x k.0 s at k.1
+      lower i x s at m = let k = base_at x s m in listed_before (base_of scopes) list chain.all.behind i x k.0 s at k.1
 
       short : length list ≤ reactor_count files
       short = let n = all_counted files in let l = few list (length (reactors_in files)) (pairs_from (λ x y. x ≢ y) list (λ i j x y a b l e. (let s = alone i j x a (b ∙ ap Some (sym e)) in omega (arith, l, s)))) (λ x m. reached_below c here x (chain.all.reached x (get_mem x list m))) in omega (arith, n, l)

@@ -21,6 +21,10 @@ use Rattle.lft_lower.specs.Standing.{AddsAt, AreAt, ArePartsAt, ArePlaced, IsPla
 abbrev At : ℕ → Core → Type 0
 At at m = stands_at m ≡ at
 
+-- the tokens are these
+abbrev pub AreThese : List ℕ → List ℕ → Type 0
+AreThese these tokens = tokens ≡ these
+
 -- none
 pub at_none : (old : List Core) (at : ℕ) (Are : List (List ℕ) → Type 0) → Are [] → AddsAt old old at Are
 at_none old at Are are = record { more = []; stand = All-nil (At at); parts = are; put = sym (append-nil old) }

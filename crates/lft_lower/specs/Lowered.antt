@@ -1,5 +1,5 @@
 -- What the members of a reactor become in a setting.
-use Rattle.std.specs.Prelude.{◌≡◌, ◌≢◌, ◌&&◌, ℕ, zero, Bool, true, false, not, is_some, List, [], ◌∷◌, ◌++◌, Option, Some, None, codes, bytes_eq, filter_map, flat_map, if◌then◌else◌, length, map, option_map, slice_get, slice_index_or, string_bytes, unwrap_or}
+use Rattle.std.specs.Prelude.{◌≡◌, ◌≢◌, ◌&&◌, ℕ, zero, Bool, true, false, not, is_some, List, [], ◌∷◌, ◌++◌, Option, Some, None, filter_map, flat_map, if◌then◌else◌, length, map, option_map, slice_get, slice_index_or, string_bytes, unwrap_or}
 use Rattle.std.specs.List.{All}
 use Rattle.std.specs.Option.{option_and_then}
 use Rattle.lft_tree.specs.Identifiers.{IsName}
@@ -26,6 +26,7 @@ use Rattle.lft_shapes.specs.declared.shapes.Shape.{Shape}
 use Rattle.lft_shapes.specs.Shapes.{child_at, thing_named, width_of}
 use Rattle.lft_lowering.specs.Lowered.{AreJoined, own}
 use Rattle.lft_settings.specs.Noted.{found_inside}
+pub use Rattle.lft_settings.specs.Values.{is_forever}
 use Rattle.lft_settings.specs.Widths.{found_width}
 use Rattle.lft_meanings.specs.Meanings.{Here, Means, all_places, named_in, places_in, shape_inside}
 use Rattle.lft_meanings.specs.Places.{Several, count_of, names_of}
@@ -44,11 +45,6 @@ time_at (Some e) = time_for e.value
 abbrev pub IsRead : Shape → Option Expression → Type 0
 IsRead shape None = Unit {0}
 IsRead shape (Some e) = IsTime shape e.value
-
--- the word `forever`
-abbrev pub is_forever : Value → Bool
-is_forever (value.Word name) = bytes_eq (string_bytes name) (codes "forever")
-is_forever v = false
 
 -- a period that is `forever` is none
 abbrev pub period_at : Option Expression → Option TimeTree

@@ -76,7 +76,7 @@ pub record IsProgram (files : List SourceFile) (s : Settings) (used : List ℕ) 
   pub settings : AreSettings (table s)
   pub are_used : AreUsed (table s) used
 
--- The program of these files is lowered to the tree: it has a core reactor for each setting that the instances of the program have, and no others, with names that differ. What a member becomes stands at its token.
+-- The program of these files is lowered to the tree: it has a core reactor for each setting that the instances of the program have, and no others, with names that differ. All in it stands at the tokens that it comes from.
 pub record IsLowering (files : List SourceFile) (tree : Ast) : Type 0 where
   pub settings : Settings
   pub used : List ℕ

@@ -42,6 +42,7 @@ use Rattle.lft_fits.proofs.Fitting.{parameter_is}
 use Rattle.lft_fits.proofs.Giving.{IsGivenBy, find_some}
 use Rattle.lft_fits.proofs.MemberNames.{value_found}
 use Rattle.lft_fits.proofs.Nested.{given_law, main_law}
+use Rattle.lft_shapes.proofs.Rows.{map_alike}
 use Rattle.lft_same.specs.Times.{HasTimes, IsKnown, time_named}
 
 -- ---- reading
@@ -200,10 +201,6 @@ is_timed_one shape p stands = go m.0 (is_timed shape m.0) refl m.2
           name = ap (λ (z : ParameterTree). z.name) (sym t.2);
           default = ap (λ (z : ParameterTree). nanoseconds z.default) (sym t.2) ∙ default_is ip.0.parameter.now.default t.0 t.1;
         }
-
-map_alike : {X Y : Type 0} (f g : X → Y) (xs : List X) → ((x : X) → Mem x xs → f x ≡ g x) → map f xs ≡ map g xs
-map_alike f g [] same = refl
-map_alike {X} {Y} f g (x ∷ xs) same = ap (λ (y : Y). y ∷ map f xs) (same x (inl refl)) ∙ ap (λ (l : List Y). g x ∷ l) (map_alike f g xs (λ z m. same z (inr m)))
 
 module _ (files : List SourceFile) (shape : Shape) (x : Inside) (is : IsShapeOf files shape x.class) where
   -- a parameter has the value at its place

@@ -1,14 +1,12 @@
 -- Widths that are being found, one for another.
-use Rattle.std.proofs.Common.{◌≡◌, ◌≢◌, ℕ, ◌<◌, ◌⊎◌, inl, inr, Bool, true, false, cond, not, List, [], ◌∷◌, ◌++◌, length, Some, slice_get, refl, sym, ap, subst, ◌∙◌, arith}
+use Rattle.std.proofs.Common.{◌≡◌, ◌≢◌, ℕ, ◌<◌, ◌⊎◌, inl, inr, Bool, true, false, cond, List, [], ◌∷◌, ◌++◌, length, Some, slice_get, refl, sym, ap, subst, ◌∙◌, arith}
 use Rattle.std.specs.BTreeMap.{is_at}
 use Rattle.std.specs.BTreeSet.{BTreeSet, UpdatesBy, contains}
 use Rattle.std.specs.Option.{option_and_then}
 use Rattle.std.specs.Ordering.{is_eq, nat_cmp, ordering_then}
 use Rattle.std.specs.declared.cmp.Ordering.{Ordering}
 use Rattle.std.specs.declared.cmp.Ordering.TheVariants.{Less, Equal, Greater}
-use Rattle.std.proofs.lemmas.Bool.{cases_eq}
 use Rattle.std.proofs.lemmas.Cmp.{nat_cmp_total, tied_itself}
-use Rattle.std.proofs.lemmas.List.{length_push}
 use Rattle.std.proofs.lemmas.Map.Lookups.{exact_pairs, exact_unsigned}
 use Rattle.std.proofs.lemmas.Option.{slice_get_within}
 use Rattle.lft_lists.proofs.Places.{get_last, get_push, get_push_cases, same_some}
@@ -27,7 +25,7 @@ use Rattle.lft_settings.specs.declared.path.Step.{Step}
 use Rattle.lft_settings.specs.declared.path.Wanted.{Wanted}
 use Rattle.lft_settings.specs.declared.settings.Setting.{Setting}
 use Rattle.lft_settings.specs.declared.settings.Settings.{Settings}
-use Rattle.lft_settings.specs.Finding.{AddsIf, AddsOnly, AreNeeded, AreNext, ArePath, HasWanted, IsFirst, IsOf, IsOpenAt, LeadsTo, Needs, pair_cmp}
+use Rattle.lft_settings.specs.Finding.{AddsIf, AddsOnly, AreNeeded, AreNext, ArePath, IsFirst, IsOpenAt, LeadsTo, Needs, pair_cmp}
 use Rattle.lft_settings.specs.Noted.{GoesOn, IsMeaning, Table}
 use Rattle.lft_settings.specs.Refused.{HangsFar, HangsOn, IsCounted, IsCountedBy, IsCountedIn, IsOfCount, IsOfTerms, IsOfWidth, Leads}
 use Rattle.lft_settings.specs.Places.{member_in, written_width}
@@ -312,15 +310,6 @@ module _ (shapes : List Shape) (settings : List Setting) (t : Valued) (m : ℕ) 
 
   pub circle : (steps : List Step) (w : Wanted) (noted : Wanted → Bool) → noted w ≡ true → AreNext shapes settings t m steps w → ArePath shapes settings t m steps noted → LeadsTo shapes settings w w
   circle steps w noted h n p = let at = p.stands w h in n.led at.0 w at.1
-
--- what an insertion says
-pub was_new : (known added : Bool) → added ≡ not known → added ≡ true → known ≡ false
-was_new true added e is = let f : false ≡ true = sym e ∙ is in absurd (cc)
-was_new false added e is = refl
-
-pub was_known : (known added : Bool) → added ≡ not known → added ≡ false → known ≡ true
-was_known true added e is = refl
-was_known false added e is = let f : true ≡ false = sym e ∙ is in absurd (cc)
 
 -- ---- a width that is being found
 

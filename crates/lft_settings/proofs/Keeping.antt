@@ -1,6 +1,6 @@
 -- What stays where settings are made and noted.
 use Rattle.std.proofs.Common.{◌≡◌, ◌≢◌, ℕ, zero, suc, ◌<◌, ℤ, ◌⊎◌, inl, inr, Bool, true, false, cond, List, [], ◌∷◌, ◌++◌, length, map, replicate, Option, Some, None, slice_get, slice_set, refl, sym, ap, subst, ◌∙◌, arith}
-use Rattle.std.specs.Prelude.{IfSome, Vec, option_map}
+use Rattle.std.specs.Prelude.{Vec, option_map}
 use Rattle.std.specs.Global.{Global}
 use Rattle.std.specs.BTreeMap.{BTreeMap, get_by, is_at}
 use Rattle.std.specs.Map.{lookup}
@@ -27,13 +27,8 @@ use Rattle.lft_settings.specs.declared.settings.Settings.{Settings}
 use Rattle.lft_settings.specs.Noted.{Adds, AreMade, AreSettings, GoesOn, GoesOnIf, IsNoted, IsNumberOf, Known, Table, found_inside, noted_at, noted_for, only_inside, table}
 use Rattle.lft_settings.specs.Settings.{setting_in, valued}
 use Rattle.lft_settings.specs.Values.{IsUnsized, Valued, inside, main_setting, setting_of, value_written, values_inside, written_inside}
+use Rattle.lft_shapes.proofs.Rows.{map_written}
 use Rattle.lft_settings.proofs.Valuing.{alike, is_given}
-
--- an item that is written over by one of the same image
-map_written : {X Y : Type 0} (f : X → Y) (xs : List X) (i : ℕ) (x y : X) → slice_get xs i ≡ Some x → f y ≡ f x → map f (slice_set xs i y) ≡ map f xs
-map_written f [] i x y at e = absurd (cc)
-map_written f (z ∷ zs) zero x y at e = let same : z ≡ x = cc in ap (λ w. w ∷ map f zs) (e ∙ ap f (sym same))
-map_written f (z ∷ zs) (suc i) x y at e = ap (λ ws. f z ∷ ws) (map_written f zs i x y at e)
 
 -- ---- what stays
 
@@ -319,10 +314,6 @@ found_is_inside s setting member k around a e at =
           option_and_then_some (λ (child : Child). noted_at s.only.items child.shape) (child_at outer.children.items member) k g (λ child is h.
           only_is_inside (table s) (valued x.0) member k outer child a there is h))
     ])
-
-pub if_some : {X : Type 0} (P : X → Type 0) (o : Option X) → ((x : X) → o ≡ Some x → P x) → IfSome o P
-if_some P None h = tt
-if_some P (Some x) h = h x refl
 
 -- ---- what is in an instance
 

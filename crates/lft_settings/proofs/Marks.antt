@@ -19,14 +19,11 @@ marks_more used marks a = record {
   once = a.once;
 }
 
-has_push : (used : List ℕ) (n k : ℕ) → Has (used ++ n ∷ []) k → Has used k ⊎ (k ≡ n)
-has_push used n k h = elim (get_push_cases used n h.0 k h.1) [ inl w ↦ inl (h.0, w) | inr w ↦ inr (sym w.1) ]
-
 pub stay_push : (used : List ℕ) (n : ℕ) → Stay used (used ++ n ∷ [])
 stay_push used n i k e = get_push used n i k e
 
 pub only_push : (used : List ℕ) (n k : ℕ) → Has (used ++ n ∷ []) k → Has used k ⊎ (k ≡ n)
-only_push used n k h = has_push used n k h
+only_push used n k h = elim (get_push_cases used n h.0 k h.1) [ inl w ↦ inl (h.0, w) | inr w ↦ inr (sym w.1) ]
 
 pub last_has : (used : List ℕ) (n : ℕ) → Has (used ++ n ∷ []) n
 last_has used n = (length used, get_last used n)
@@ -51,7 +48,7 @@ module _ (used : List ℕ) (marks : List Bool) (n : ℕ) (a : AreMarked used mar
   marked_more : (k : ℕ) → Has (used ++ n ∷ []) k → is_marked (slice_set marks n true) k ≡ true
   marked_more k h = elim (cases_eq k n) [
     | inl same ↦ subst (λ i. is_marked (slice_set marks n true) i ≡ true) (sym same) own_mark
-    | inr apart ↦ same_mark k apart ∙ elim (has_push used n k h) [ inl was ↦ a.marked k was | inr same ↦ absurd (apart same) ]
+    | inr apart ↦ same_mark k apart ∙ elim (only_push used n k h) [ inl was ↦ a.marked k was | inr same ↦ absurd (apart same) ]
   ]
 
   once_more : (i j k : ℕ) → slice_get (used ++ n ∷ []) i ≡ Some k → slice_get (used ++ n ∷ []) j ≡ Some k → i ≡ j

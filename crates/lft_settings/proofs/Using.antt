@@ -20,7 +20,8 @@ use Rattle.lft_settings.specs.Settings.{setting_at, setting_in, shape_at, valued
 use Rattle.lft_settings.specs.Used.{AreMarked, AreUsed, HasInner, IsIn, IsNumberIn, IsReached, HasNumber, main, within, Stay, is_instance, is_instance_in, is_marked}
 use Rattle.lft_settings.specs.Values.{Valued, inside, main_setting}
 use Rattle.lft_settings.proofs.Counting.{one_count}
-use Rattle.lft_settings.proofs.Keeping.{if_some, setting_from}
+use Rattle.lft_settings.proofs.Keeping.{setting_from}
+use Rattle.lft_shapes.proofs.Walking.{some_of}
 
 -- how far the list of those that are reached has come: what is in the first ones stands in it
 pub record Using (s : Table) (used : List ℕ) (marks : List Bool) (done : ℕ) : Type 0 where
@@ -151,7 +152,7 @@ module _ (t0 t1 t2 : Table) (one : GoesOn t0 t1) (setting m count : ℕ) (inner 
   number_is t made at = subst (λ shapes. IsNumberOf t2.settings (inside shapes t m) inner) one.shapes (inside_is t (one.made made) (one.stays setting t at))
 
   pub inside_some : 0 < count → IfSome inner (λ k. (t : Valued) → AreMade t0 → setting_in t0.settings setting ≡ Some t → IsNumberIn t0.shapes t2.settings t m k)
-  inside_some some = if_some (λ k. (t : Valued) → AreMade t0 → setting_in t0.settings setting ≡ Some t → IsNumberIn t0.shapes t2.settings t m k) inner (λ k is t made at. let n = subst (IsNumberOf t2.settings (inside t0.shapes t m)) is (number_is t made at) in (n.0, record { instance = instance t at; is_inside = n.1; count = count; many = many t made at; some = some }, n.2))
+  inside_some some = some_of (λ k. (t : Valued) → AreMade t0 → setting_in t0.settings setting ≡ Some t → IsNumberIn t0.shapes t2.settings t m k) inner (λ k is t made at. let n = subst (IsNumberOf t2.settings (inside t0.shapes t m)) is (number_is t made at) in (n.0, record { instance = instance t at; is_inside = n.1; count = count; many = many t made at; some = some }, n.2))
 
   pub inside_none : IfNone inner ((t u : Valued) → AreMade t0 → setting_in t0.settings setting ≡ Some t → IsIn t0.shapes t m u → ⊥)
   inside_none = none_if ((t u : Valued) → AreMade t0 → setting_in t0.settings setting ≡ Some t → IsIn t0.shapes t m u → ⊥) inner (λ none t u made at is. let n : inside t0.shapes t m ≡ None = subst (IsNumberOf t2.settings (inside t0.shapes t m)) none (number_is t made at) in let e = is.is_inside in cc)

@@ -5,7 +5,7 @@ use Rattle.std.specs.Borrow.{Bor}
 use Rattle.std.specs.Option.{option_and_then}
 use Rattle.std.proofs.lemmas.List.{map_push}
 use Rattle.std.proofs.lemmas.List.FromFn.{map-range_with_len_more}
-use Rattle.std.proofs.Math.Seq.{drop-cons}
+use Rattle.std.proofs.Math.Seq.{drop-cons, drop-length}
 use Rattle.std.proofs.lemmas.Bool.Decides.{eqb_tells}
 use Rattle.std.proofs.lemmas.Int.{to_z-of_z}
 use Rattle.std.proofs.lemmas.Option.{option_and_then_some, slice_get-map}
@@ -18,6 +18,7 @@ use Rattle.lft_shapes.specs.declared.shapes.Child.{Child}
 use Rattle.lft_shapes.specs.declared.shapes.Given.{Given}
 use Rattle.lft_shapes.specs.declared.shapes.Shape.{Shape}
 use Rattle.lft_shapes.specs.Shapes.{child_at}
+use Rattle.lft_shapes.proofs.Rows.{map_alike}
 use Rattle.lft_settings.specs.Values.{IsUnsized, Valued, given_to, inside, is_sized, setting_of, value_inside, values_inside}
 
 -- a test that is true where there is the mark
@@ -50,14 +51,10 @@ all_same f zero p x l = absurd (omega arith)
 all_same f (suc n) zero x l = refl
 all_same f (suc n) (suc p) x l = all_same f n p x (omega arith)
 
-none_left : {X : Type 0} (xs : List X) → drop (length xs) xs ≡ []
-none_left [] = refl
-none_left (x ∷ xs) = none_left xs
-
 -- nothing is noted yet
 pub given_none : (table : List (Option (Bor Expression))) (count n : ℕ) (gs : List Given) → table ≡ replicate count None → n ≡ length gs → (p : ℕ) → p < count → slice_get (map seen table) p ≡ Some (given_to (drop n gs) p)
 given_none table count n gs empty end p within =
-    let none : drop n gs ≡ [] = ap (λ k. drop k gs) end ∙ none_left gs in
+    let none : drop n gs ≡ [] = ap (λ k. drop k gs) end ∙ drop-length gs in
     ap (λ l. slice_get (map seen l) p) empty ∙ all_same seen count p None within ∙ ap (λ l. Some (given_to l p)) (sym none)
 
 -- one more is noted, from the last on
@@ -84,10 +81,6 @@ given_read table gs p v within is there = Some_same (seen v) (given_to gs p) (sy
 -- a number more of a list that is made by number
 pub number_pushed : (f : ℕ → Option ℤ) (vs now : List ℤ) (x : ℤ) (p : ℕ) → FitsSigned w64 x → now ≡ vs ++ to_z w64 (of_z w64 x) ∷ [] → map (λ v. Some v) vs ≡ map f (below p) → f p ≡ Some x → map (λ v. Some v) now ≡ map f (below (p + 1))
 number_pushed f vs now x p fits is so_far at = ap (map (λ v. Some v)) (is ∙ ap (λ v. vs ++ v ∷ []) (to_z-of_z w64 x fits)) ∙ numbered_more (λ v. Some v) f vs x p so_far at
-
-map_alike : {X Y : Type 0} (f g : X → Y) (xs : List X) → ((x : X) → f x ≡ g x) → map f xs ≡ map g xs
-map_alike f g [] h = refl
-map_alike f g (x ∷ xs) h = ap (λ y. y ∷ map f xs) (h x) ∙ ap (λ l. g x ∷ l) (map_alike f g xs h)
 
 value_alike : (outer other : Shape) (vs ws : List (Option ℤ)) (gs hs : List Given) (inner : Shape) (p : ℕ) → is_sized inner p ≡ false → value_inside outer vs gs inner p ≡ value_inside other ws hs inner p
 value_alike outer other vs ws gs hs inner p e = rw e refl
@@ -122,6 +115,6 @@ is_given shapes t m u e =
 pub alike : (shapes : List Shape) (u v : Valued) → IsGiven shapes u → IsGiven shapes v → u.shape ≡ v.shape → IsUnsized shapes u.shape → u ≡ v
 alike shapes u v a b same none =
     let one : a.inner ≡ b.inner = same_some (slice_get shapes u.shape) a.inner b.inner a.is_inner (ap (slice_get shapes) same ∙ b.is_inner) in
-    let values : values_inside a.outer a.values a.given a.inner ≡ values_inside b.outer b.values b.given a.inner = map_alike (value_inside a.outer a.values a.given a.inner) (value_inside b.outer b.values b.given a.inner) (below (length a.inner.parameters.items)) (λ p. value_alike a.outer b.outer a.values b.values a.given b.given a.inner p (none a.inner p a.is_inner)) in
+    let values : values_inside a.outer a.values a.given a.inner ≡ values_inside b.outer b.values b.given a.inner = map_alike (value_inside a.outer a.values a.given a.inner) (value_inside b.outer b.values b.given a.inner) (below (length a.inner.parameters.items)) (λ p m. value_alike a.outer b.outer a.values b.values a.given b.given a.inner p (none a.inner p a.is_inner)) in
     let all : u.values ≡ v.values = sym a.are_given ∙ values ∙ ap (values_inside b.outer b.values b.given) one ∙ b.are_given in
     ap (λ s. record { shape = s; values = u.values }) same ∙ ap (λ vs. record { shape = v.shape; values = vs }) all

@@ -1,5 +1,5 @@
 -- Reactors with the numbers of their parameters, from the texts alone.
-use Rattle.std.specs.Prelude.{◌≡◌, ℕ, ◌^◌, ℤ, pos, neg_ℤ, min, Bool, true, false, ◌==◌, List, [], ◌∷◌, map, length, Option, Some, None, option_map, slice_get, string_bytes, unwrap_or, if◌then◌else◌}
+use Rattle.std.specs.Prelude.{◌≡◌, ℕ, ◌^◌, ℤ, pos, neg_ℤ, min, Bool, true, false, ◌==◌, List, [], ◌∷◌, map, length, Option, Some, None, option_map, slice_get, bytes_eq, codes, string_bytes, unwrap_or, if◌then◌else◌}
 use Rattle.std.specs.Option.{option_and_then, option_or}
 use Rattle.lft_lowering.specs.Channels.{below}
 use Rattle.lft_whole.specs.declared.tree.Value.{Value}
@@ -25,6 +25,11 @@ signed false count = pos (min count (2 ^ 62))
 abbrev pub literal : Value → Option ℤ
 literal (value.Number negative count None) = Some (signed negative count)
 literal _ = None
+
+-- the word `forever`: a timer with this period fires once, as one without a period
+abbrev pub is_forever : Value → Bool
+is_forever (value.Word word) = bytes_eq (string_bytes word) (codes "forever")
+is_forever v = false
 
 -- a width needs the parameter of this number
 abbrev pub is_sized : Shape → ℕ → Bool

@@ -1,10 +1,9 @@
 -- Why a reactor that the main one needs is refused.
-use Rattle.std.proofs.Common.{◌≡◌, ℕ, true, inl, inr, List, [], ◌∷◌, Option, Some, None, map, slice_get, string_bytes, refl, sym, ap, subst, ◌∙◌}
+use Rattle.std.proofs.Common.{◌≡◌, ℕ, true, inl, inr, List, [], ◌∷◌, Option, Some, None, slice_get, string_bytes, refl, sym, ap, subst, ◌∙◌}
 use Rattle.std.specs.Prelude.{is_some}
 use Rattle.lft_lists.proofs.Mapped.{mapped}
 use Rattle.lft_lists.proofs.Places.{same_some}
 use Rattle.lft_whole.specs.declared.tree.Instance.{Instance}
-use Rattle.lft_whole.specs.declared.tree.Member.{Member}
 use Rattle.lft_whole.specs.declared.tree.Member.TheVariants as member
 use Rattle.lft_whole.specs.declared.tree.Width.{Width}
 use Rattle.lft_sources.specs.declared.stop.Place.{Place}
@@ -18,9 +17,9 @@ use Rattle.lft_shapes.specs.declared.shapes.Child.{Child}
 use Rattle.lft_shapes.specs.declared.shapes.Inherited.{Inherited}
 use Rattle.lft_shapes.specs.declared.shapes.Shape.{Shape}
 use Rattle.lft_shapes.specs.Below.{Declares, IsBelow, bank_index, instance_at, itself as self}
-use Rattle.lft_shapes.specs.Built.{Core, IsBuilt, core, cores, first_class, instance_of, members_at}
+use Rattle.lft_shapes.specs.Built.{Core, IsBuilt, core, cores, first_class, instance_of}
 use Rattle.lft_shapes.specs.Causes.{HasCause, IsCauseInside, SaysBelow, last_token}
-use Rattle.lft_shapes.specs.Chains.{base_of, extended}
+use Rattle.lft_shapes.specs.Chains.{extended}
 use Rattle.lft_shapes.specs.Circles.{HasCircle, HasNoParameter, HasWrongGiven}
 use Rattle.lft_shapes.specs.Makings.{AreShapes}
 use Rattle.lft_shapes.specs.Needs.{IsMarkedByIndex, IsReadyAt, Widths}

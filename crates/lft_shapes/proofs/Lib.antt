@@ -1,7 +1,7 @@
 mod Building
 mod Causing
 mod Circles
-mod Decided
+pub mod Decided
 mod Giving
 mod Goings
 mod Listing
@@ -9,9 +9,9 @@ mod Marking
 mod Meanings
 mod Naming
 mod Needing
-mod Numbering
+pub mod Numbering
 mod Passing
 mod Refusing
-mod Rows
-mod Sets
-mod Walking
+pub mod Rows
+pub mod Sets
+pub mod Walking

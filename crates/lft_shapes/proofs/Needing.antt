@@ -1,5 +1,5 @@
 -- What reactors need.
-use Rattle.std.proofs.Common.{◌≡◌, ℕ, inl, inr, List, [], ◌∷◌, ◌++◌, Option, Some, None, map, option_map, slice_get, string_bytes, refl, sym, ap, subst, ◌∙◌}
+use Rattle.std.proofs.Common.{◌≡◌, ℕ, inl, inr, List, Some, map, slice_get, string_bytes, refl, sym, ap, ◌∙◌}
 use Rattle.std.specs.Prelude.{flat_map}
 use Rattle.std.specs.Option.{option_and_then}
 use Rattle.lft_lists.proofs.Mapped.{mapped, mapped_from}
@@ -13,9 +13,9 @@ use Rattle.lft_shapes.specs.declared.scopes.Scopes.{Scopes}
 use Rattle.lft_shapes.specs.declared.shapes.Inherited.{Inherited}
 use Rattle.lft_shapes.specs.declared.shapes.InheritedParameter.{InheritedParameter}
 use Rattle.lft_shapes.specs.declared.shapes.Thing.TheVariants as thing
-use Rattle.lft_shapes.specs.Below.{Declares, HasParameter, IsBelow, base, inner, instance_at, itself as self}
+use Rattle.lft_shapes.specs.Below.{HasParameter, IsBelow, base, inner, instance_at}
 use Rattle.lft_shapes.specs.Built.{Core, IsBuilt, instance_of, members_at, parameters_at}
-use Rattle.lft_shapes.specs.Chains.{base_of, extended}
+use Rattle.lft_shapes.specs.Chains.{base_of}
 use Rattle.lft_shapes.specs.Needs.{HasMember}
 use Rattle.lft_shapes.specs.Walks.{Has, IsBehind, IsList, Reaches, Ways, further, itself, nothing, one}
 use Rattle.lft_shapes.proofs.Refusing.{listed_of}

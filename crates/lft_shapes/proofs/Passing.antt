@@ -1,5 +1,5 @@
 -- What a member of a shape needs.
-use Rattle.std.proofs.Common.{◌≡◌, ◌↔◌, ◌⊎◌, ◌<◌, ◌≤◌, ℕ, zero, suc, Bool, true, false, inl, inr, Contains, List, [], ◌∷◌, Option, Some, None, String, length, replicate, slice_get, string_bytes, refl, sym, ap, subst, ◌∙◌, arith}
+use Rattle.std.proofs.Common.{◌≡◌, ◌↔◌, ◌⊎◌, ◌≤◌, ℕ, zero, suc, Bool, true, false, inl, inr, Contains, List, [], ◌∷◌, Option, Some, None, String, length, replicate, slice_get, string_bytes, refl, sym, ap, subst, ◌∙◌, arith}
 use Rattle.std.specs.Global.{Global}
 use Rattle.std.proofs.lemmas.Option.{slice_get_within}
 use Rattle.lft_lists.proofs.Places.{at_contains, contains_at, get_same, get_there, length_same, same_some}

@@ -1,6 +1,7 @@
 -- What a walk keeps.
 use Rattle.std.proofs.Common.{◌≡◌, ℕ, suc, ◌+◌, ◌-◌, ◌<◌, ◌≤◌, ◌⊎◌, inl, inr, Bool, true, false, List, [], ◌∷◌, ◌++◌, length, Option, Some, None, IfSome, IfNone, slice_get, refl, sym, ap, subst, ◌∙◌, arith}
 use Rattle.std.proofs.lemmas.Bool.{cases_lt}
+use Rattle.std.proofs.lemmas.List.{length_push}
 use Rattle.std.proofs.lemmas.Option.{slice_get_within}
 use Rattle.lft_lists.proofs.Places.{get_there, get_push, get_last, get_push_cases, same_some, Some_same}
 use Rattle.lft_shapes.specs.Walks.{Ways, Has, Reaches, itself, further, nothing, one, IsList, IsVisitAt, Walking}
@@ -15,14 +16,10 @@ has_push xs y r (i, at) = (i, get_push xs y i r at)
 has_cases : (xs : List ℕ) (y r : ℕ) → Has (xs ++ y ∷ []) r → Has xs r ⊎ (y ≡ r)
 has_cases xs y r (i, at) = elim (get_push_cases xs y i r at) [ inl old ↦ inl (i, old) | inr last ↦ inr last.1 ]
 
-pub push_length : {X : Type 0} (xs : List X) (y : X) → length (xs ++ y ∷ []) ≡ length xs + 1
-push_length [] y = refl
-push_length (x ∷ xs) y = let r = push_length xs y in omega (arith, r)
-
 -- the last one of a list is one
 pub same_last : (xs ys : List Visit) (x y : Visit) → xs ++ x ∷ [] ≡ ys ++ y ∷ [] → x ≡ y
 same_last xs ys x y e =
-    let longs : length xs ≡ length ys = (let a = push_length xs x in let b = push_length ys y in let c = ap length e in omega (arith, a, b, c)) in
+    let longs : length xs ≡ length ys = (let a = length_push xs x in let b = length_push ys y in let c = ap length e in omega (arith, a, b, c)) in
     let there : slice_get (ys ++ y ∷ []) (length ys) ≡ Some x = subst (λ l. slice_get l (length ys) ≡ Some x) e (subst (λ n. slice_get (xs ++ x ∷ []) n ≡ Some x) longs (get_last xs x)) in
     same_some (slice_get (ys ++ y ∷ []) (length ys)) x y there (get_last ys y)
 
@@ -269,7 +266,7 @@ entered_as next first listed done met more path now node leads s new pushed know
     let reached : Reaches next first node = further leads.2.0 (s.reached_path (length leads.1.0) leads.0 at) leads.2.1 in
     let onto : (i : ℕ) (v : Visit) → slice_get path i ≡ Some v → Reaches next v.node node = λ i v is. (
     let within = slice_get_within path i v is in
-    let long = push_length leads.1.0 leads.0 in
+    let long = length_push leads.1.0 leads.0 in
     let same = ap length leads.1.1 in
     further leads.2.0 (s.leads i (length leads.1.0) v leads.0 is at (omega (arith, within, long, same))) leads.2.1) in
     subst (Walking next first listed done more) (sym pushed) (entered next first listed done met more path node s new reached onto known kept only)

@@ -1,8 +1,7 @@
 -- The reactors that the main one needs.
-use Rattle.std.specs.Prelude.{◌≡◌, ℕ, List, codes, Option, Some, None, option_map, slice_get, string_bytes}
+use Rattle.std.specs.Prelude.{◌≡◌, ℕ, List, codes, Option, Some, slice_get, string_bytes}
 use Rattle.std.specs.Option.{option_and_then}
 use Rattle.lft_whole.specs.declared.tree.Instance.{Instance}
-use Rattle.lft_whole.specs.declared.tree.Member.{Member}
 use Rattle.lft_whole.specs.declared.tree.Member.TheVariants as member
 use Rattle.lft_whole.specs.declared.tree.Parameter.{Parameter}
 use Rattle.lft_shapes.specs.declared.scopes.Scopes.{Scopes}

@@ -1,4 +1,4 @@
-use Rattle.std.proofs.Common.{◌≡◌, ℕ, List, ◌∷◌, ◌++◌, map, string_bytes, sym, ap, ◌∙◌, arith}
+use Rattle.std.proofs.Common.{◌≡◌, ◌∷◌, ◌++◌, map, string_bytes, sym, ap, ◌∙◌, arith}
 use Rattle.std.specs.List.{All, flat_map}
 use Rattle.std.proofs.lemmas.List.Elements.{All-nil, All-weaker}
 use Rattle.lft_tree.specs.View.{assignment_view, member_views}
@@ -8,11 +8,8 @@ use Rattle.lft_meanings.specs.Places.{count_of, several}
 use Rattle.lft_lower.specs.Lowered.{instances}
 use Rattle.lft_lower.proofs.Adding.{instances_none, instances_some}
 use Rattle.lft_lower.specs.Standing.{given_tokens, instance_tokens}
-use Rattle.lft_lower.proofs.Standing.{at_as, at_none, at_this}
+use Rattle.lft_lower.proofs.Standing.{AreThese, at_as, at_none, at_this}
 use Rattle.lft_lower.proofs.instances.push_instances.Goals as goal
-
-abbrev Is : List ℕ → List ℕ → Type 0
-Is all tokens = tokens ≡ all
 
 pub returns-then-count-eq0-clause-made : goal.returns-then-count-eq0-clause-made
 returns-then-count-eq0-clause-made c same =
@@ -23,7 +20,7 @@ pub returns-clause-made : goal.returns-clause-made
 returns-clause-made c same = instances_some (texts c.args.maker.names.now) (here c.args.within) c.args.member (string_bytes c.args.instance.now.name.text) c.args.list.now.items _ (several c.named-members.result) _ _ c.named-members.ensures c.in_ok-reactor.ensures.name (c.in_ok-given.ensures.given same) (c.in_ok-push_each.ensures.made ∙ ap (λ gs. member_views c.args.list.now.items ++ instances (several c.named-members.result) c.in_ok-reactor.reactor.now (map assignment_view gs)) c.deref.ensures.value)
 
 pub returns-then-count-eq0-clause-at : goal.returns-then-count-eq0-clause-at
-returns-then-count-eq0-clause-at c = at_none c.args.list.now.items _ _ (All-nil (Is (instance_tokens (token_in c.args.within) (here c.args.within) c.args.member c.args.instance.now)))
+returns-then-count-eq0-clause-at c = at_none c.args.list.now.items _ _ (All-nil (AreThese (instance_tokens (token_in c.args.within) (here c.args.within) c.args.member c.args.instance.now)))
 
 pub returns-clause-at : goal.returns-clause-at
 returns-clause-at c =
@@ -31,5 +28,5 @@ returns-clause-at c =
     let number = token_in c.args.within in
     let made : c.token-reactor_at.result ∷ flat_map given_tokens c.deref.result.now ≡ instance_tokens number (here c.args.within) c.args.member c.args.instance.now = ap (λ at. at ∷ flat_map given_tokens c.deref.result.now) c.token-reactor_at.ensures
     ∙ ap (λ ts. number c.args.instance.now.reactor.at ∷ ts) (ap (flat_map given_tokens) c.deref.ensures.value ∙ c.in_ok-given.ensures.at) in
-    let adds = at_as old _ _ (All (Is (c.token-reactor_at.result ∷ flat_map given_tokens c.deref.result.now))) (All (Is (instance_tokens number (here c.args.within) c.args.member c.args.instance.now))) c.in_ok-push_each.ensures.at (λ parts all. All-weaker (Is (c.token-reactor_at.result ∷ flat_map given_tokens c.deref.result.now)) (Is (instance_tokens number (here c.args.within) c.args.member c.args.instance.now)) (λ tokens is. is ∙ made) parts all) in
+    let adds = at_as old _ _ (All (AreThese (c.token-reactor_at.result ∷ flat_map given_tokens c.deref.result.now))) (All (AreThese (instance_tokens number (here c.args.within) c.args.member c.args.instance.now))) c.in_ok-push_each.ensures.at (λ parts all. All-weaker (AreThese (c.token-reactor_at.result ∷ flat_map given_tokens c.deref.result.now)) (AreThese (instance_tokens number (here c.args.within) c.args.member c.args.instance.now)) (λ tokens is. is ∙ made) parts all) in
     at_this old _ _ _ _ c.token-at.ensures adds

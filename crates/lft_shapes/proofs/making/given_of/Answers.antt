@@ -1,4 +1,5 @@
 use Rattle.std.proofs.Common.{◌≡◌, ◌≢◌, ◌+◌, ◌<◌, ℕ, List, Some, inl, inr, length, map, slice_get, string_bytes, refl, rules, sym, ap, subst, ◌∙◌, arith}
+use Rattle.std.proofs.lemmas.List.{length_push}
 use Rattle.std.specs.Prelude.{unwrap_or}
 use Rattle.std.proofs.lemmas.List.Sorted.{IsNonDecreasingBy-from_sort_by_key}
 use Rattle.std.proofs.lemmas.Option.{slice_get_read, slice_get_within}
@@ -14,7 +15,6 @@ use Rattle.lft_shapes.specs.Shapes.{thing_named}
 use Rattle.lft_shapes.proofs.Building.{below_one}
 use Rattle.lft_shapes.proofs.Giving.{given_moved, noted_more}
 use Rattle.lft_shapes.proofs.Naming.{first_one, once}
-use Rattle.lft_shapes.proofs.Walking.{push_length}
 use Rattle.lft_shapes.proofs.making.given_of.Goals as goal
 
 pub returns-in_default-clause-cause : goal.returns-in_default-clause-cause
@@ -86,7 +86,7 @@ loop-place-preserved c =
     let given = c.loop-place.given.items in
     record {
       once = below_one (λ j (x : Assignment). unwrap_or (place_in index (string_bytes x.name.text)) j ≡ j) xs k a there before.once (ap (λ o. unwrap_or o k) (sym is) ∙ e);
-      long = ap length c.in_ok-push.ensures.items ∙ push_length given _ ∙ ap (λ n. n + 1) before.long;
+      long = ap length c.in_ok-push.ensures.items ∙ length_push given _ ∙ ap (λ n. n + 1) before.long;
       given = noted_more (thing_named c.args.inner.now) xs given _ _ c.in_ok-push.ensures.items a (ap (slice_get xs) before.long ∙ there) (ap (thing_named c.args.inner.now) (sym c.as_str-name.ensures.value) ∙ c.in-Some.ensures.some, refl) before.given;
     }
 

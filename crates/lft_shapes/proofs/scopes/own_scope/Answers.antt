@@ -1,9 +1,7 @@
-use Rattle.std.proofs.Common.{◌≡◌, ◌+◌, ◌<◌, ◌++◌, ℕ, List, length, Some, map, take, option_map, string_bytes, get_or, slice_get, refl, sym, ap, subst, ◌∙◌, arith}
+use Rattle.std.proofs.Common.{◌≡◌, ◌+◌, ◌<◌, ◌++◌, ℕ, length, Some, map, take, option_map, string_bytes, slice_get, refl, sym, ap, subst, ◌∙◌, arith}
 use Rattle.std.proofs.lemmas.Grind.{common_steps}
 use Rattle.std.proofs.lemmas.List.{length-map}
 use Rattle.std.proofs.lemmas.Option.{slice_get_read, slice_get_within}
-use Rattle.std.proofs.lemmas.Bool.{cases_lt}
-use Rattle.lft_lists.proofs.Places.{same_at}
 use Rattle.lft_whole.specs.declared.tree.Reactor.{Reactor}
 use Rattle.lft_shapes.specs.declared.scopes.Class.{Class}
 use Rattle.lft_shapes.specs.Scopes.{AreNumbered, HasMeaning, IsOwnAt, placed}

@@ -1,4 +1,4 @@
-use Rattle.std.proofs.Common.{◌≡◌, ℕ, List, Some, option_map, string_bytes, refl, sym, ap, subst, ◌∙◌}
+use Rattle.std.proofs.Common.{◌≡◌, Some, option_map, string_bytes, refl, sym, ap, subst, ◌∙◌}
 use Rattle.lft_lists.proofs.Places.{Some_same}
 use Rattle.lft_shapes.specs.Scopes.{EachMeans, HasMeaning, IsOwnAt}
 use Rattle.lft_shapes.proofs.Meanings.{has_last, has_push, means_push}

@@ -1,7 +1,6 @@
-use Rattle.std.proofs.Common.{inl, ◌≡◌, ◌<◌, ℕ, List, inr, length, Some, slice_get, string_bytes, refl, sym, ap, subst, ◌∙◌, arith}
+use Rattle.std.proofs.Common.{inl, ◌≡◌, ◌<◌, ℕ, List, inr, length, Some, slice_get, string_bytes, refl, sym, subst, arith}
 use Rattle.std.proofs.lemmas.Option.{slice_get_read, slice_get_within}
 use Rattle.lft_lists.proofs.Options.{lacking}
-use Rattle.lft_whole.specs.declared.tree.ImportedName.{ImportedName}
 use Rattle.lft_shapes.specs.Causes.{HasCause}
 use Rattle.lft_shapes.specs.Unnamed.{ExportsNone, GivesNone}
 use Rattle.lft_shapes.specs.Scopes.{EachMeans, HasMeaning, IsGiven, IsOwn, MeansAt}

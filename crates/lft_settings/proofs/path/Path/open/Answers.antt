@@ -1,7 +1,8 @@
 use Rattle.std.proofs.Common.{◌≡◌, false, true}
 use Rattle.std.specs.BTreeSet.{contains}
 use Rattle.lft_settings.specs.Finding.{is_open, pair_cmp}
-use Rattle.lft_settings.proofs.Finding.{circle, next_begun, path_begun, was_known, was_new}
+use Rattle.lft_shapes.proofs.Sets.{was_known, was_new}
+use Rattle.lft_settings.proofs.Finding.{circle, next_begun, path_begun}
 use Rattle.lft_settings.proofs.path.Path.open.Goals as goal
 
 pub returns-then-not-is_new-clause-circle : goal.returns-then-not-is_new-clause-circle

@@ -1,4 +1,4 @@
-use Rattle.std.proofs.Common.{◌≡◌, ℕ, string_bytes, subst}
+use Rattle.std.proofs.Common.{ℕ, string_bytes, subst}
 use Rattle.lft_lists.proofs.Options.{lacking}
 use Rattle.lft_shapes.specs.Needs.{IsParameter, IsParameterIn, IsPassed, Times, Widths}
 use Rattle.lft_shapes.proofs.Marking.{marks_as, marks_none}

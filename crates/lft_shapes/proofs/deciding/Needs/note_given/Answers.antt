@@ -2,7 +2,7 @@ use Rattle.std.proofs.Common.{◌≡◌, ◌<◌, Some, length, slice_get, refl,
 use Rattle.std.proofs.lemmas.Option.{slice_get_read}
 use Rattle.lft_whole.specs.declared.tree.Assignment.{Assignment}
 use Rattle.lft_shapes.specs.Needs.{IsPassed, IsPassedIn, Times, Widths}
-use Rattle.lft_shapes.proofs.Marking.{AnyBelow, below_all, below_more}
+use Rattle.lft_shapes.proofs.Marking.{below_all, below_more}
 use Rattle.lft_shapes.proofs.deciding.Needs.note_given.Goals as goal
 
 pub loop-assignment-preserved : goal.loop-assignment-preserved

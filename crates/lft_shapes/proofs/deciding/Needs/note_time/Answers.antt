@@ -1,4 +1,4 @@
-use Rattle.std.proofs.Common.{◌≡◌, ℕ, Some, sym, ◌∙◌}
+use Rattle.std.proofs.Common.{◌≡◌, ℕ}
 use Rattle.lft_lists.proofs.Options.{lacking}
 use Rattle.lft_shapes.specs.Needs.{IsParameterIn, IsTimeIn}
 use Rattle.lft_shapes.proofs.Marking.{marks_as, marks_none}

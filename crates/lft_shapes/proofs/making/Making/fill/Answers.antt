@@ -1,5 +1,5 @@
 use Rattle.std.proofs.Common.{◌≡◌, ◌+◌, ℕ, length, Some, None, inl, inr, option_map, slice_get, refl, sym, ap, subst, ◌∙◌, arith}
-use Rattle.std.proofs.lemmas.List.{length-map}
+use Rattle.std.proofs.lemmas.List.{length-map, length_push}
 use Rattle.std.proofs.lemmas.Option.{slice_get_within}
 use Rattle.std.proofs.lemmas.Result.{err_from_is_err_and}
 use Rattle.lft_lists.proofs.Options.{found, lacking}
@@ -11,7 +11,6 @@ use Rattle.lft_shapes.specs.Causes.{SaysBelow}
 use Rattle.lft_shapes.specs.Makings.{AreMade}
 use Rattle.lft_shapes.specs.Shapes.{child_at}
 use Rattle.lft_shapes.proofs.Goings.{child_push, goes_nowhere, goes_further, inside_kept, noted_in, set_made}
-use Rattle.lft_shapes.proofs.Walking.{push_length}
 use Rattle.lft_shapes.proofs.making.Making.fill.Goals as goal
 
 pub loop-number-init : goal.loop-number-init
@@ -38,7 +37,7 @@ loop-number-preserved c =
         | inl was ↦ before.none k d m n was is member means
         | inr last ↦ lacking ((d : Core) (m : Inherited) (n : ℕ) → slice_get (cores old.shapes.items) c.args.shape ≡ Some d → slice_get d.members c.loop-number.number ≡ Some m → instance_of old.scopes (m.file, m.member.now) ≡ Some n → ⊥) c.in_ok-child.child c.in_ok-child.ensures.none last.1 d m n (before.goes.kept c.args.shape d is) (ap (slice_get d.members) (sym (last.0 ∙ before.count)) ∙ member) (ap (λ s. instance_of s (m.file, m.member.now)) before.goes.scopes ∙ means)
       ];
-      count = ap length c.in_ok-push.ensures.items ∙ push_length children c.in_ok-child.child ∙ ap (λ n. n + 1) before.count;
+      count = ap length c.in_ok-push.ensures.items ∙ length_push children c.in_ok-child.child ∙ ap (λ n. n + 1) before.count;
       children = λ first all. subst (λ l. (k : ℕ) (child : Child) → child_at l k ≡ Some child → Q k child) (sym c.in_ok-push.ensures.items) (child_push Q children c.in_ok-child.child c.loop-number.number before.count (λ k child at. inside_kept scopes (cores old.shapes.items) cs c.args.shape k child c.in_ok-child.ensures.goes.kept (before.children first all k child at)) (λ child is.
           let P : Child → Type 0 = λ x. (n : ℕ) → AreMade old.scopes n old → IsInside old.scopes cs c.args.shape c.loop-number.number x in
           subst (λ s. IsInside s cs c.args.shape c.loop-number.number child) before.goes.scopes (found P c.in_ok-child.child child c.in_ok-child.ensures.child is first (subst (λ s. AreMade s first old) (sym before.goes.scopes) (before.goes.made first tt all)))));

@@ -1,6 +1,6 @@
 use Rattle.std.proofs.Common.{◌≡◌, Some, slice_get, sym, ap, ◌∙◌}
 use Rattle.lft_scope.proofs.Placing.{lent}
-use Rattle.lft_shapes.proofs.Goings.{added_class, added_keeps, goes_added, goes_nowhere}
+use Rattle.lft_shapes.proofs.Goings.{added_class, added_keeps, goes_added}
 use Rattle.lft_shapes.proofs.making.Making.shape_of.Goals as goal
 
 pub returns-clause-goes : goal.returns-clause-goes

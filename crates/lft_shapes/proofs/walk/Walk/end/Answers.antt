@@ -1,8 +1,9 @@
 use Rattle.std.proofs.Common.{length, ap, arith}
+use Rattle.std.proofs.lemmas.List.{length_push}
 use Rattle.lft_shapes.proofs.Listing.{ended_as_ordered}
 use Rattle.lft_shapes.proofs.Sets.{kept, only}
 use Rattle.std.proofs.lemmas.Option.{MatchOption-at_none}
-use Rattle.lft_shapes.proofs.Walking.{ended_as, push_length}
+use Rattle.lft_shapes.proofs.Walking.{ended_as}
 use Rattle.lft_shapes.proofs.walk.Walk.end.Goals as goal
 
 pub returns-clause-walk : goal.returns-clause-walk
@@ -10,7 +11,7 @@ returns-clause-walk c next first ends s = ended_as next first _ _ _ _ _ _ c.in-S
 
 pub returns-in_default-clause-walk : goal.returns-in_default-clause-walk
 returns-in_default-clause-walk c next first ends s =
-    let long = push_length ends.1.0 ends.0 in
+    let long = length_push ends.1.0 ends.0 in
     let same = ap length ends.1.1 in
     let none = MatchOption-at_none _ _ c.in_default.is c.pop.ensures.cases in
     absurd (omega (arith, long, same, none.0))
@@ -20,7 +21,7 @@ returns-clause-order c from first ends is list now = is list (ended_as_ordered f
 
 pub returns-in_default-clause-order : goal.returns-in_default-clause-order
 returns-in_default-clause-order c from first ends is =
-    let long = push_length ends.1.0 ends.0 in
+    let long = length_push ends.1.0 ends.0 in
     let same = ap length ends.1.1 in
     let none = MatchOption-at_none _ _ c.in_default.is c.pop.ensures.cases in
     absurd (omega (arith, long, same, none.0))

@@ -1,8 +1,9 @@
 use Rattle.std.proofs.Common.{length, ap, refl, arith}
+use Rattle.std.proofs.lemmas.List.{length_push}
 use Rattle.std.proofs.lemmas.Option.{MatchOption-at_none}
 use Rattle.lft_shapes.specs.Walks.{is_done}
 use Rattle.lft_shapes.proofs.Listing.{moved_as_ordered}
-use Rattle.lft_shapes.proofs.Walking.{moved_as, push_length}
+use Rattle.lft_shapes.proofs.Walking.{moved_as}
 use Rattle.lft_shapes.proofs.walk.Walk.pass.Goals as goal
 
 pub returns-clause-walk : goal.returns-clause-walk
@@ -10,7 +11,7 @@ returns-clause-walk c next first passes s = moved_as next first _ _ _ _ _ _ c.in
 
 pub returns-in_default-clause-walk : goal.returns-in_default-clause-walk
 returns-in_default-clause-walk c next first passes s =
-    let long = push_length passes.1.0 passes.0 in
+    let long = length_push passes.1.0 passes.0 in
     let same = ap length passes.1.1 in
     let none = MatchOption-at_none _ _ c.in_default.is c.pop.ensures.cases in
     absurd (omega (arith, long, same, none.0))
@@ -20,7 +21,7 @@ returns-clause-order c next from first passes s is list now = is list (moved_as_
 
 pub returns-in_default-clause-order : goal.returns-in_default-clause-order
 returns-in_default-clause-order c next from first passes s is =
-    let long = push_length passes.1.0 passes.0 in
+    let long = length_push passes.1.0 passes.0 in
     let same = ap length passes.1.1 in
     let none = MatchOption-at_none _ _ c.in_default.is c.pop.ensures.cases in
     absurd (omega (arith, long, same, none.0))
