@@ -11,11 +11,11 @@ ghost use Rattle.lft_rows.specs.Accepted.{IsAccepted};
 ghost use Rattle.lft_trace.specs.Parts.{HoldsRows, rows_of};
 ghost use Rattle.lft_batches.specs.Fronts.{IsFront, IsNextBehind, judged_rows};
 
-use crate::text::{Front, add_batch, batch_bytes};
+use crate::text::{Front, add_batch, batch_bytes, reaction_names};
 use lft_model::Plan;
 use lft_steps::Row;
 use lft_stream::Counts;
-use lft_trace::{below_header, first_lines, read_lines};
+use lft_trace::{ReactionNames, below_header, first_lines, read_lines};
 use std::alloc::Global;
 use std::thread::{Threads, join};
 
@@ -59,6 +59,7 @@ fn go_beside<R: Threads + Sync>(
     rt: &R,
     alloc: Global,
     plan: &Plan,
+    names: &ReactionNames,
     body: &[u8],
     front: Front,
     waiting: Vec<Row>,
@@ -73,18 +74,17 @@ fn go_beside<R: Threads + Sync>(
     ensures stands { IfSome result (λ p. IsFront plan.now body.now p.0.0) }
     ensures fit { IfSome result (λ p. RowsFit plan.now.program p.0.1.items) }
     ensures rows { IfSome result (λ p. judged_rows plan.now body.now p.0.0 ++ p.0.1.items ≡ judged_rows plan.now body.now front ++ (waiting.items ++ rows_of parts.items)) }
-    ensures read { IfSome result (λ p. HoldsRows plan.now.program lines.now (rows_of p.1.items)) }
-    ensures read_fit { IfSome result (λ p. RowsFit plan.now.program (rows_of p.1.items)) }
+    ensures read { IfSome result (λ p. HoldsRows names.now lines.now (rows_of p.1.items)) }
+    ensures read_fit { IfSome result (λ p. RowsFit names.now (rows_of p.1.items)) }
 {
-    let program = plan.program();
     let judging = move || -> Option<(Front, Vec<Row>)>
         requires { RowsFit plan.now.program waiting.items × RowsFit plan.now.program (rows_of parts.items) × IsFront plan.now body.now front × IsNextBehind plan.now body.now front (waiting.items ++ rows_of parts.items) }
         ensures { IfSome result (λ p. IsFront plan.entry.now body.entry.now p.0 × RowsFit plan.entry.now.program p.1.items × (judged_rows plan.entry.now body.entry.now p.0 ++ p.1.items ≡ judged_rows plan.entry.now body.entry.now front ++ (waiting.items ++ rows_of parts.items))) }
     { add_parts(front, alloc, plan, body, waiting, parts) };
     let reading = move || -> Option<Vec<Vec<Row>>>
         requires { IsSync R.row }
-        ensures { IfSome result (λ parts. HoldsRows program.entry.now lines.entry.now (rows_of parts.items) × RowsFit program.entry.now (rows_of parts.items)) }
-    { read_lines(rt, alloc, program, lines, workers) };
+        ensures { IfSome result (λ parts. HoldsRows names.entry.now lines.entry.now (rows_of parts.items) × RowsFit names.entry.now (rows_of parts.items)) }
+    { read_lines(rt, alloc, names, lines, workers) };
     let (gone, read) = join(rt, judging, reading);
     Some((gone?, read?))
 }
@@ -104,8 +104,7 @@ pub fn accepts_text_shared<R: Threads + Sync>(
     let Ok(mut front) = Front::new(alloc, plan) else {
         return None;
     };
-    // Asked for what every program keeps: no two of its things have one name.
-    plan.program().keeps();
+    let names = reaction_names(alloc, plan)?;
     let readers = workers.saturating_sub(1).max(1);
     let bytes = batch_bytes(plan).max(SHARE * readers as usize);
     let mut waiting = Vec::new(alloc);
@@ -114,7 +113,7 @@ pub fn accepts_text_shared<R: Threads + Sync>(
     while !rest.is_empty() {
         let (lines, behind) = first_lines(rest, bytes);
         let ((gone, left), read) = go_beside(
-            rt, alloc, plan, body, front, waiting, parts, lines, readers,
+            rt, alloc, plan, &names, body, front, waiting, parts, lines, readers,
         )?;
         front = gone;
         waiting = left;

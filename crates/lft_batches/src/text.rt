@@ -2,6 +2,7 @@
 
 ghost use Rattle.std.specs.Prelude.{◌≡◌, ◌++◌, ◌+◌, ◌≤◌, ℕ, List, Some, length, slice_get, take, IfOk, IfSome, IsTrue};
 ghost use Rattle.lft_flat.specs.Parts.{Parts};
+ghost use Rattle.lft_flat.specs.Sound.{IsSound};
 ghost use Rattle.lft_steps.specs.Fits.{RowsFit};
 ghost use Rattle.lft_trace.specs.Records.{records_of};
 ghost use Rattle.lft_trace.specs.Telling.{rows_in};
@@ -19,7 +20,7 @@ use lft_model::Plan;
 use lft_steps::{Row, row_at};
 use lft_stream::{Acceptor, Counts};
 use lft_tag::{MAX_ROWS, NoMemory};
-use lft_trace::{below_header, read_batch};
+use lft_trace::{ReactionNames, below_header, read_batch};
 use std::alloc::Global;
 
 /// Rows have some bytes fewer in a text, so a batch has a few more rows than are to be taken together.
@@ -89,6 +90,17 @@ impl Front {
         ensures cover { self.new.cover ≡ self.old.cover }
     {
         self.acceptor.finish(plan)
+    }
+}
+
+/// The names of a plan's reactions, where there is memory for them.
+pub(crate) fn reaction_names(alloc: Global, plan: &Plan) -> Option<ReactionNames<'_>>
+    ensures names { IfSome result (λ names. names ≡ plan.now.program) }
+    ensures sound { IsSound plan.now.program }
+{
+    match ReactionNames::new(alloc, plan.program()) {
+        Ok(names) => Some(names),
+        Err(_) => None,
     }
 }
 
@@ -221,12 +233,13 @@ fn go_over(alloc: Global, plan: &Plan, text: &[u8], front: Front) -> Option<Fron
     ensures { IfSome result (IsWholeFront plan.now text.now) }
 {
     let body = below_header(text)?;
+    let names = reaction_names(alloc, plan)?;
     let bytes = batch_bytes(plan);
     let mut front = front;
     let mut waiting = Vec::new(alloc);
     let mut rest = body;
     while !rest.is_empty() {
-        let (batch, behind) = read_batch(alloc, plan.program(), rest, bytes)?;
+        let (batch, behind) = read_batch(alloc, &names, rest, bytes)?;
         waiting = add_batch(&mut front, alloc, plan, body, waiting, batch.as_slice())?;
         rest = behind;
     }

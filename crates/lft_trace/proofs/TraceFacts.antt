@@ -1,12 +1,14 @@
 -- Records have one trace table, or a fault, and what a table holds fits its program.
-use Rattle.std.proofs.Common.{◌≡◌, ◌≤◌, ℕ, List, [], ◌∷◌, Some, None, refl, arith, Bool, true, false, nat_le}
+use Rattle.std.proofs.Common.{◌≡◌, ◌<◌, ◌≤◌, length, ℕ, List, [], ◌∷◌, Some, None, refl, arith, Bool, true, false, nat_le}
 use Rattle.std.specs.Prelude.{if◌then◌else◌, ◌&&◌}
 use Rattle.std.specs.Char.{is_ascii_digit}
 use Rattle.std.specs.List.{list_all}
 use Rattle.std.proofs.lemmas.Bool.{leb-true}
 use Rattle.std.proofs.lemmas.Option.{slice_get_within}
+use Rattle.lft_flat.specs.Names.{IsNamed}
 use Rattle.lft_flat.specs.Parts.{Parts}
 use Rattle.lft_flat.specs.Sound.{IsNameOf, IsSound}
+use Rattle.lft_flat.specs.declared.found.Found.TheVariants as found
 use Rattle.lft_flat.specs.declared.parts.Name.{Name}
 use Rattle.lft_flat.specs.declared.parts.Name.TheVariants.{Port, Action}
 use Rattle.lft_steps.specs.Fits.{RowFits, RowsFit, StepFits}
@@ -56,10 +58,14 @@ step_fits program Schedule c s sound h = rw h.6 (thing_there program c.name h.0 
 step_fits program Stop c s sound h = rw h.3 tt
 step_fits program End c s sound h = rw h.3 tt
 
+-- a reaction that has a name is one of the program's
+pub reaction_there : (program : Parts) (text : List ℕ) (r : ℕ) → IsSound program → IsNamed program.names (found.Reaction r) text → r < length program.reactions
+reaction_there program text r sound h = rw (← sound.well_named.reactions) (slice_get_within program.names.reactions r text h)
+
 pub row_fits : (program : Parts) (kind : RowKind) (c : TraceFields) (row : Row) → IsSound program → RowOf program kind c row → RowFits program row
 row_fits program kind c row sound h = record {
   recorded = (within 1000000000000000000 c.time row.tag.time h.time, within 1000000000 c.microstep row.tag.micro h.microstep);
-  reaction = rw (← sound.well_named.reactions) (slice_get_within program.names.reactions row.reaction c.reaction h.reaction);
+  reaction = reaction_there program c.reaction row.reaction sound h.reaction;
   step = step_fits program kind c row.step sound h.step;
 }
 

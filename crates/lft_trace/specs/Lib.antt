@@ -11,4 +11,5 @@ pub mod Written
 pub mod SeenWriting
 pub mod Telling
 pub mod Parts
+pub mod ShortNames
 pub mod LogTables

@@ -11,8 +11,10 @@ mod log_table;
 pub mod names;
 mod next_names;
 pub mod number;
+mod reaction_names;
 mod reading;
 pub mod records;
+mod short_name;
 mod trace_table;
 mod trace_writer;
 
@@ -20,6 +22,7 @@ pub use external_table::{Entry, read_externals};
 pub use fault::TraceFault;
 pub use lft_steps::{Event, Externals, Row, Rows, Step, is_end, is_start, is_stop, row_at};
 pub use log_table::{Among, Line, LineFault, LogLines, read_log};
+pub use reaction_names::ReactionNames;
 pub use reading::{below_header, first_lines, read_batch, read_lines, read_trace_shared};
 pub use trace_table::{read_part, read_trace};
 pub use trace_writer::write_trace;

@@ -10,6 +10,7 @@ ghost use Rattle.lft_trace.specs.SeenExternals.{is_of_input};
 use crate::external_table::{Entry, read_entry};
 use crate::fault::TraceFault;
 use crate::next_names::NextNames;
+use crate::reaction_names::ReactionNames;
 use crate::records::{Records, Unread};
 use crate::trace_table::read_row;
 use csv::ByteRecord;
@@ -68,23 +69,23 @@ fn is_of_input(fault: TraceFault) -> bool
 /// What a record tells. `last` is the reaction of the row before, `next` where the names of a row are
 /// looked for first.
 fn read_line(
-    program: &Program,
+    names: &ReactionNames,
     last: Option<u32>,
     next: NextNames,
     fields: &ByteRecord,
 ) -> Result<Line, LineFault>
-    requires { IfSome last (λ r. r < length program.now.reactions) }
-    ensures line { IfOk result (λ line. IsLine program.now (fields_of fields.now) line) }
-    ensures fault { IfErr result (λ e. IsNoLine program.now (fields_of fields.now) e) }
-    ensures within { IfOk result (λ line. IsWithin program.now line) }
+    requires { IfSome last (λ r. r < length names.now.reactions) }
+    ensures line { IfOk result (λ line. IsLine names.now (fields_of fields.now) line) }
+    ensures fault { IfErr result (λ e. IsNoLine names.now (fields_of fields.now) e) }
+    ensures within { IfOk result (λ line. IsWithin names.now line) }
 {
-    match read_entry(program, fields, ONLY_LINE) {
+    match read_entry(names.program(), fields, ONLY_LINE) {
         Ok(entry) => Ok(Line::Input(entry)),
         Err(fault) => {
             if is_of_input(fault) {
                 return Err(LineFault::NoInput(fault));
             }
-            match read_row(program, last, next, fields, ONLY_LINE) {
+            match read_row(names, last, next, fields, ONLY_LINE) {
                 Ok(row) => Ok(Line::Row(row)),
                 Err(fault) => Err(LineFault::NoRow(fault)),
             }
@@ -92,8 +93,8 @@ fn read_line(
     }
 }
 
-fn read_lines_of(alloc: Global, program: &Program, text: &[u8]) -> Result<LogLines, Unread>
-    ensures read { IfOk result (λ read. ReadsLines program.now (records_of text.now) read) }
+fn read_lines_of(alloc: Global, names: &ReactionNames, text: &[u8]) -> Result<LogLines, Unread>
+    ensures read { IfOk result (λ read. ReadsLines names.now (records_of text.now) read) }
     ensures few { IfOk result (λ read. length read.rows.items ≤ 4000000) }
 {
     let mut records = Records::new(alloc, text, MAX_ROWS as u32);
@@ -113,13 +114,13 @@ fn read_lines_of(alloc: Global, program: &Program, text: &[u8]) -> Result<LogLin
             }
             Err(stop) => return Err(stop),
         }
-        match read_line(program, last, next, &records.fields) {
+        match read_line(names, last, next, &records.fields) {
             Ok(Line::Row(row)) => {
                 if rows.push(row).is_err() {
                     return Err(Unread::NoMemory);
                 }
                 last = Some(row.reaction);
-                next = next.after(program, row);
+                next = next.after(names.program(), row);
             }
             Ok(Line::Input(entry)) => {
                 let rows_before = rows.len();
@@ -150,5 +151,9 @@ pub fn read_log(alloc: Global, program: &Program, text: &[u8]) -> Result<LogLine
 {
     // Asked for what every program keeps: no two of its things have one name.
     program.keeps();
-    read_lines_of(alloc, program, text)
+    let names = ReactionNames::without(alloc, program);
+    match read_lines_of(alloc, &names, text) {
+        Ok(read) => Ok(read),
+        Err(unread) => Err(unread),
+    }
 }

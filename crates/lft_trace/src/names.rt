@@ -5,6 +5,8 @@ ghost use Rattle.lft_flat.specs.Names.{IsNamed};
 ghost use Rattle.lft_trace.specs.ExternalTables.{IsPhysical};
 ghost use Rattle.lft_trace.specs.Traces.{IsThing, thing};
 
+use crate::kind::RowKind;
+use crate::reaction_names::ReactionNames;
 use lft_flat::{Found, Name, Program};
 
 /// The reaction of this name. The rows of one run stand together, so the name of the last row's
@@ -24,6 +26,26 @@ pub fn read_reaction(program: &Program, last: Option<u32>, field: &[u8]) -> Opti
             }
         }
         None => find_reaction(program, field),
+    }
+}
+
+/// The reaction of this name that a row of this event has. `last` is that of the row before.
+#[inline(always)]
+pub(crate) fn read_reaction_of(
+    names: &ReactionNames,
+    last: Option<u32>,
+    kind: RowKind,
+    field: &[u8],
+) -> Option<u32>
+    requires { IfSome last (λ r. r < length names.now.reactions) }
+    ensures some { IfSome result (λ r. IsNamed names.now.names (Found.Reaction r) field.now) }
+    ensures none { IfNone result ((r : ℕ) → IsNamed names.now.names (Found.Reaction r) field.now → ⊥) }
+    ensures within { IfSome result (λ r. r < length names.now.reactions) }
+{
+    let program = names.program();
+    match names.guess(last, kind, field) {
+        Some(number) => Some(number),
+        None => read_reaction(program, last, field),
     }
 }
 

@@ -13,9 +13,10 @@ ghost use Rattle.lft_trace.specs.Seen.{FieldFault, NumbersOf, StepOf, trace_fiel
 use crate::fault::TraceFault;
 use crate::fields::TraceFields;
 use crate::kind::{RowKind, read_kind};
-use crate::names::{read_guessed, read_reaction};
+use crate::names::{read_guessed, read_reaction_of};
 use crate::next_names::NextNames;
 use crate::number::{read_number, read_number_or_zero, read_tag, read_value};
+use crate::reaction_names::ReactionNames;
 use crate::records::{LAST_LINE, Records, stopped};
 use csv::ByteRecord;
 use lft_flat::{Name, Program, Value};
@@ -36,15 +37,18 @@ pub fn read_trace(alloc: Global, program: &Program, text: &[u8]) -> Result<Rows,
 {
     // Asked for what every program keeps: no two of its things have one name.
     program.keeps();
-    match read_rows(alloc, program, text) {
+    let Ok(names) = ReactionNames::new(alloc, program) else {
+        return Err(TraceFault::NoMemory);
+    };
+    match read_rows(alloc, &names, text) {
         Ok(rows) => Ok(Rows::from_vec(rows)),
         Err(fault) => Err(fault),
     }
 }
 
-fn read_rows(alloc: Global, program: &Program, text: &[u8]) -> Result<Vec<Row>, TraceFault>
-    ensures table { IfOk result (λ rows. Table program.now (records_of text.now) rows.items) }
-    ensures fault { IfErr result (λ e. is_told e ≡ true → TraceFails program.now (records_of text.now) e) }
+fn read_rows(alloc: Global, names: &ReactionNames, text: &[u8]) -> Result<Vec<Row>, TraceFault>
+    ensures table { IfOk result (λ rows. Table names.now (records_of text.now) rows.items) }
+    ensures fault { IfErr result (λ e. is_told e ≡ true → TraceFails names.now (records_of text.now) e) }
 {
     let mut records = Records::new(alloc, text, LAST_LINE);
     match records.next() {
@@ -64,7 +68,7 @@ fn read_rows(alloc: Global, program: &Program, text: &[u8]) -> Result<Vec<Row>, 
             Ok(false) => return Ok(rows),
             Err(stop) => return Err(stopped(stop)),
         }
-        let row = match read_row(program, last, next, &records.fields, records.line) {
+        let row = match read_row(names, last, next, &records.fields, records.line) {
             Ok(row) => row,
             Err(fault) => return Err(fault),
         };
@@ -72,7 +76,7 @@ fn read_rows(alloc: Global, program: &Program, text: &[u8]) -> Result<Vec<Row>, 
             return Err(TraceFault::NoMemory);
         }
         last = Some(row.reaction);
-        next = next.after(program, row);
+        next = next.after(names.program(), row);
     }
 }
 
@@ -80,8 +84,8 @@ fn read_rows(alloc: Global, program: &Program, text: &[u8]) -> Result<Vec<Row>, 
 ///
 /// It says nothing of why a part has none: a record that is no row, more records than `most`, or
 /// want of memory. Which fault the whole table has is for [`read_trace`] to say.
-pub fn read_part(alloc: Global, program: &Program, text: &[u8], most: u32) -> Option<Vec<Row>>
-    ensures { IfSome result (λ rows. AllZip (IsRow program.now) (records_of text.now) rows.items) }
+pub fn read_part(alloc: Global, names: &ReactionNames, text: &[u8], most: u32) -> Option<Vec<Row>>
+    ensures { IfSome result (λ rows. AllZip (IsRow names.now) (records_of text.now) rows.items) }
 {
     let mut records = Records::new(alloc, text, most);
     let mut rows = Vec::new(alloc);
@@ -93,14 +97,14 @@ pub fn read_part(alloc: Global, program: &Program, text: &[u8], most: u32) -> Op
             Ok(false) => return Some(rows),
             Err(_) => return None,
         }
-        let Ok(row) = read_row(program, last, next, &records.fields, records.line) else {
+        let Ok(row) = read_row(names, last, next, &records.fields, records.line) else {
             return None;
         };
         if rows.push(row).is_err() {
             return None;
         }
         last = Some(row.reaction);
-        next = next.after(program, row);
+        next = next.after(names.program(), row);
     }
 }
 
@@ -210,20 +214,20 @@ fn read_step(
 // The row of a record, or the first fault that it has. `last` is the reaction of the row before,
 // `next` where its names are looked for first.
 pub(crate) fn read_row(
-    program: &Program,
+    names: &ReactionNames,
     last: Option<u32>,
     next: NextNames,
     fields: &ByteRecord,
     line: u32,
 ) -> Result<Row, TraceFault>
-    requires { IfSome last (λ r. r < length program.now.reactions) }
-    ensures row { IfOk result (λ row. IsRow program.now (fields_of fields.now) row) }
-    ensures fault { IfErr result (λ e. FaultAt program.now line (fields_of fields.now) e) }
-    ensures within { IfOk result (λ row. row.reaction < length program.now.reactions) }
+    requires { IfSome last (λ r. r < length names.now.reactions) }
+    ensures row { IfOk result (λ row. IsRow names.now (fields_of fields.now) row) }
+    ensures fault { IfErr result (λ e. FaultAt names.now line (fields_of fields.now) e) }
+    ensures within { IfOk result (λ row. row.reaction < length names.now.reactions) }
 {
     match TraceFields::of(fields) {
         Some(fields) => match read_kind(fields.event) {
-            Some(kind) => read_fields(program, kind, last, next, &fields, line),
+            Some(kind) => read_fields(names, kind, last, next, &fields, line),
             None => Err(TraceFault::BadEvent(line)),
         },
         None => Err(TraceFault::BadFieldCount(line)),
@@ -232,26 +236,27 @@ pub(crate) fn read_row(
 
 // The row of a record of this event, or the first fault that it has beside its event.
 fn read_fields(
-    program: &Program,
+    names: &ReactionNames,
     kind: RowKind,
     last: Option<u32>,
     next: NextNames,
     fields: &TraceFields,
     line: u32,
 ) -> Result<Row, TraceFault>
-    requires { IfSome last (λ r. r < length program.now.reactions) }
-    ensures row { (trace_fields fields.now).event ≡ word kind → IfOk result (λ row. RowOf program.now kind (trace_fields fields.now) row) }
-    ensures fault { IfErr result (λ e. FieldFault program.now kind line (trace_fields fields.now) e) }
-    ensures within { IfOk result (λ row. row.reaction < length program.now.reactions) }
+    requires { IfSome last (λ r. r < length names.now.reactions) }
+    ensures row { (trace_fields fields.now).event ≡ word kind → IfOk result (λ row. RowOf names.now kind (trace_fields fields.now) row) }
+    ensures fault { IfErr result (λ e. FieldFault names.now kind line (trace_fields fields.now) e) }
+    ensures within { IfOk result (λ row. row.reaction < length names.now.reactions) }
 {
     let numbers = match read_numbers(kind, fields) {
         Some(numbers) => numbers,
         None => return Err(TraceFault::BadNumber(line)),
     };
-    let reaction = match read_reaction(program, last, fields.reaction) {
+    let reaction = match read_reaction_of(names, last, kind, fields.reaction) {
         Some(reaction) => reaction,
         None => return Err(TraceFault::UnknownName(line)),
     };
+    let program = names.program();
     let guess = next.guess(program, reaction, kind);
     let step = match read_step(
         program,

@@ -4,9 +4,9 @@ ghost use Rattle.std.specs.Prelude.{◌<◌, ◌≤◌, length, IfSome, IsTrue};
 ghost use Rattle.lft_steps.specs.Fits.{RowsFit};
 ghost use Rattle.lft_trace.specs.Parts.{BeginsWith, HoldsRows, IsCut, rows_of};
 
+use crate::reaction_names::ReactionNames;
 use crate::reading::lines::cut_behind;
 use crate::reading::workers::{read_parts, read_plain};
-use lft_flat::Program;
 use lft_steps::Row;
 use lft_tag::MAX_ROWS;
 use std::alloc::Global;
@@ -30,18 +30,18 @@ pub fn first_lines(text: &[u8], bytes: usize) -> (&[u8], &[u8])
 /// want of memory. Which fault the table has is for `read_trace` of `lft_trace` to say.
 pub fn read_batch<'a>(
     alloc: Global,
-    program: &Program,
+    names: &ReactionNames,
     text: &'a [u8],
     bytes: usize,
 ) -> Option<(Vec<Row>, &'a [u8])>
-    ensures rows { IfSome result (λ p. BeginsWith program.now text.now p.0.items p.1.now) }
-    ensures fit { IfSome result (λ p. RowsFit program.now p.0.items) }
+    ensures rows { IfSome result (λ p. BeginsWith names.now text.now p.0.items p.1.now) }
+    ensures fit { IfSome result (λ p. RowsFit names.now p.0.items) }
     ensures shorter { IfSome result (λ p. 0 < length text.now → length p.1.now < length text.now) }
 {
     // Asked for what every program keeps: no two of its things have one name.
-    program.keeps();
+    names.program();
     let (lines, behind) = first_lines(text, bytes);
-    let rows = read_plain(alloc, program, lines)?;
+    let rows = read_plain(alloc, names, lines)?;
     if rows.len() > MAX_ROWS {
         return None;
     }
@@ -68,16 +68,16 @@ fn are_few(parts: &[Vec<Row>]) -> bool
 pub fn read_lines<R: Threads + Sync>(
     rt: &R,
     alloc: Global,
-    program: &Program,
+    names: &ReactionNames,
     lines: &[u8],
     workers: u32,
 ) -> Option<Vec<Vec<Row>>>
-    ensures rows { IfSome result (λ parts. HoldsRows program.now lines.now (rows_of parts.items)) }
-    ensures fit { IfSome result (λ parts. RowsFit program.now (rows_of parts.items)) }
+    ensures rows { IfSome result (λ parts. HoldsRows names.now lines.now (rows_of parts.items)) }
+    ensures fit { IfSome result (λ parts. RowsFit names.now (rows_of parts.items)) }
 {
     // Asked for what every program keeps: no two of its things have one name.
-    program.keeps();
-    let parts = read_parts(rt, alloc, program, lines, workers)?;
+    names.program();
+    let parts = read_parts(rt, alloc, names, lines, workers)?;
     if !are_few(parts.as_slice()) {
         return None;
     }

@@ -4,9 +4,9 @@ ghost use Rattle.std.specs.Prelude.{◌≡◌, ◌≤◌, ◌++◌, length, IfSo
 ghost use Rattle.std.specs.Thread.{IsSync};
 ghost use Rattle.lft_trace.specs.Parts.{HoldsRows, rows_of};
 
+use crate::reaction_names::ReactionNames;
 use crate::reading::lines::cut_behind;
 use crate::reading::workers::read_parts;
-use lft_flat::Program;
 use lft_steps::Row;
 use lft_tag::MAX_ROWS;
 use std::alloc::Global;
@@ -21,23 +21,23 @@ const SHARE: usize = 4 << 20;
 pub(crate) fn read_batches<R: Threads + Sync>(
     rt: &R,
     alloc: Global,
-    program: &Program,
+    names: &ReactionNames,
     text: &[u8],
     workers: u32,
 ) -> Option<Vec<Row>>
-    ensures rows { IfSome result (λ rows. HoldsRows program.now text.now rows.items) }
+    ensures rows { IfSome result (λ rows. HoldsRows names.now text.now rows.items) }
     ensures few { IfSome result (λ rows. length rows.items ≤ 4000000) }
 {
     let mut all = Vec::new(alloc);
     let mut read = Vec::new(alloc);
     let mut rest = text;
     while let Some((batch, behind)) = cut_behind(rest, SHARE * workers as usize) {
-        let (put, more) = read_beside(rt, alloc, program, all, read, batch, workers)?;
+        let (put, more) = read_beside(rt, alloc, names, all, read, batch, workers)?;
         all = put;
         read = more;
         rest = behind;
     }
-    let (put, last) = read_beside(rt, alloc, program, all, read, rest, workers)?;
+    let (put, last) = read_beside(rt, alloc, names, all, read, rest, workers)?;
     put_together(put, last)
 }
 
@@ -45,21 +45,21 @@ pub(crate) fn read_batches<R: Threads + Sync>(
 fn read_beside<R: Threads + Sync>(
     rt: &R,
     alloc: Global,
-    program: &Program,
+    names: &ReactionNames,
     all: Vec<Row>,
     read: Vec<Vec<Row>>,
     batch: &[u8],
     workers: u32,
 ) -> Option<(Vec<Row>, Vec<Vec<Row>>)>
-    ensures { IfSome result (λ p. (p.0.items ≡ all.items ++ rows_of read.items) × HoldsRows program.now batch.now (rows_of p.1.items)) }
+    ensures { IfSome result (λ p. (p.0.items ≡ all.items ++ rows_of read.items) × HoldsRows names.now batch.now (rows_of p.1.items)) }
 {
     let putting = move || -> Option<Vec<Row>>
         ensures { IfSome result (λ rows. rows.items ≡ all.items ++ rows_of read.items) }
     { put_together(all, read) };
     let reading = move || -> Option<Vec<Vec<Row>>>
         requires { IsSync R.row }
-        ensures { IfSome result (λ parts. HoldsRows program.entry.now batch.entry.now (rows_of parts.items)) }
-    { read_parts(rt, alloc, program, batch, workers) };
+        ensures { IfSome result (λ parts. HoldsRows names.entry.now batch.entry.now (rows_of parts.items)) }
+    { read_parts(rt, alloc, names, batch, workers) };
     let (rows, more) = join(rt, putting, reading);
     Some((rows?, more?))
 }

@@ -7,6 +7,7 @@ ghost use Rattle.lft_trace.specs.Records.{records_of};
 ghost use Rattle.lft_trace.specs.Traces.{Table, TraceFails};
 
 use crate::fault::TraceFault;
+use crate::reaction_names::ReactionNames;
 use crate::reading::batches::read_batches;
 use crate::reading::lines::below_header;
 use crate::reading::workers::is_one_part;
@@ -59,5 +60,6 @@ fn read_in_parts<R: Threads + Sync>(
         return None;
     }
     let rest = below_header(text)?;
-    read_batches(rt, alloc, program, rest, workers)
+    let names = ReactionNames::new(alloc, program).ok()?;
+    read_batches(rt, alloc, &names, rest, workers)
 }

@@ -4,9 +4,9 @@ ghost use Rattle.std.specs.Prelude.{◌≡◌, ◌≤◌, ◌++◌, IfSome, fals
 ghost use Rattle.std.specs.Thread.{IsSync};
 ghost use Rattle.lft_trace.specs.Parts.{HoldsRows, rows_of};
 
+use crate::reaction_names::ReactionNames;
 use crate::reading::lines::cut_behind;
 use crate::trace_table::read_part;
-use lft_flat::Program;
 use lft_steps::Row;
 use lft_tag::MAX_ROWS;
 use memchr::memchr;
@@ -29,50 +29,50 @@ pub(crate) fn is_one_part(text: &[u8], workers: u32) -> bool
 pub(crate) fn read_parts<R: Threads + Sync>(
     rt: &R,
     alloc: Global,
-    program: &Program,
+    names: &ReactionNames,
     text: &[u8],
     workers: u32,
 ) -> Option<Vec<Vec<Row>>>
-    ensures { IfSome result (λ parts. HoldsRows program.now text.now (rows_of parts.items)) }
+    ensures { IfSome result (λ parts. HoldsRows names.now text.now (rows_of parts.items)) }
 {
     if is_one_part(text, workers) {
-        return read_alone(alloc, program, text);
+        return read_alone(alloc, names, text);
     }
     let low = workers / 2;
     let high = workers - low;
     // The share of the low workers is no longer than the text, since they are fewer than all.
     let share = text.len() / workers as usize;
     let Some((first, second)) = cut_behind(text, share * low as usize) else {
-        return read_alone(alloc, program, text);
+        return read_alone(alloc, names, text);
     };
     let front = move || -> Option<Vec<Vec<Row>>>
         requires { IsSync R.row }
-        ensures { IfSome result (λ parts. HoldsRows program.entry.now first.entry.now (rows_of parts.items)) }
-    { read_parts(rt, alloc, program, first, low) };
+        ensures { IfSome result (λ parts. HoldsRows names.entry.now first.entry.now (rows_of parts.items)) }
+    { read_parts(rt, alloc, names, first, low) };
     let back = move || -> Option<Vec<Vec<Row>>>
         requires { IsSync R.row }
-        ensures { IfSome result (λ parts. HoldsRows program.entry.now second.entry.now (rows_of parts.items)) }
-    { read_parts(rt, alloc, program, second, high) };
+        ensures { IfSome result (λ parts. HoldsRows names.entry.now second.entry.now (rows_of parts.items)) }
+    { read_parts(rt, alloc, names, second, high) };
     let (parts, more) = join(rt, front, back);
     append(parts?, more?)
 }
 
 // The rows of a text as one part.
-fn read_alone(alloc: Global, program: &Program, text: &[u8]) -> Option<Vec<Vec<Row>>>
-    ensures { IfSome result (λ parts. HoldsRows program.now text.now (rows_of parts.items)) }
+fn read_alone(alloc: Global, names: &ReactionNames, text: &[u8]) -> Option<Vec<Vec<Row>>>
+    ensures { IfSome result (λ parts. HoldsRows names.now text.now (rows_of parts.items)) }
 {
-    only_part(alloc, read_plain(alloc, program, text)?)
+    only_part(alloc, read_plain(alloc, names, text)?)
 }
 
 // The rows of a text, by one worker. A line may end within quotes: no place of such a text is known
 // to be one where a record begins.
-pub(crate) fn read_plain(alloc: Global, program: &Program, text: &[u8]) -> Option<Vec<Row>>
-    ensures { IfSome result (λ rows. HoldsRows program.now text.now rows.items) }
+pub(crate) fn read_plain(alloc: Global, names: &ReactionNames, text: &[u8]) -> Option<Vec<Row>>
+    ensures { IfSome result (λ rows. HoldsRows names.now text.now rows.items) }
 {
     if memchr(b'"', text).is_some() {
         return None;
     }
-    read_part(alloc, program, text, MAX_ROWS as u32)
+    read_part(alloc, names, text, MAX_ROWS as u32)
 }
 
 // The rows as the only part.

@@ -1,8 +1,10 @@
-use Rattle.std.proofs.Common.{◌∙◌, ◌++◌, List, ap, length, refl, rules, subst, sym}
-use Rattle.std.proofs.lemmas.Bool.{eqb-true}
+use Rattle.std.proofs.Common.{◌≢◌, ◌∙◌, ◌++◌, List, ap, arith, length, refl, rules, subst, sym}
+use Rattle.std.proofs.lemmas.Bool.{eqb-false, eqb-true}
 use Rattle.std.proofs.lemmas.Option.{IfSome_then}
+use Rattle.lft_flat.specs.Parts.{Parts}
+use Rattle.lft_steps.specs.Fits.{RowsFit}
 use Rattle.lft_steps.specs.declared.row.Row.{Row}
-use Rattle.lft_trace.specs.Parts.{BeginsWith, rows_of}
+use Rattle.lft_trace.specs.Parts.{BeginsWith, HoldsRows, rows_of}
 use Rattle.lft_trace.proofs.Beginning.{begins_lines}
 use Rattle.lft_batches.specs.Fronts.{judged_rows}
 use Rattle.lft_batches.proofs.Reading.{gone_on, nothing_read, read_all}
@@ -14,6 +16,23 @@ loop-rest-init g c =
     let none = nothing_read c.args.plan.now c.in_ok-body.body.now c.in-Ok.front (c.new-waiting.result.items ++ rows_of c.new-parts.result.items) c.in-Ok.ensures.none (ap (λ (t : List Row). t ++ rows_of c.new-parts.result.items) c.new-waiting.ensures.items ∙ ap rows_of c.new-parts.ensures.items) in
     record { stands = c.in-Ok.ensures.stands c.in_ok-body.body.now; fit = search rules; parts_fit = search rules; next = none.0; begins = none.1 }
 
+pub loop-rest-smaller : goal.loop-rest-smaller
+loop-rest-smaller g c =
+    let some : length c.loop-rest.rest.now ≢ 0 = eqb-false (length c.loop-rest.rest.now) 0 (sym c.is_empty.ensures ∙ c.loop-rest-test.true) in
+    c.first_lines.ensures.shorter (omega arith)
+
+pub add_parts-requires-clause-waiting_fit : goal.add_parts-requires-clause-waiting_fit
+add_parts-requires-clause-waiting_fit g c = c.loop-rest.invariant.fit
+
+pub add_parts-requires-clause-parts_fit : goal.add_parts-requires-clause-parts_fit
+add_parts-requires-clause-parts_fit g c = c.loop-rest.invariant.parts_fit
+
+pub add_parts-requires-clause-stands : goal.add_parts-requires-clause-stands
+add_parts-requires-clause-stands g c = c.loop-rest.invariant.stands
+
+pub add_parts-requires-clause-next : goal.add_parts-requires-clause-next
+add_parts-requires-clause-next g c = c.loop-rest.invariant.next
+
 pub loop-rest-preserved : goal.loop-rest-preserved
 loop-rest-preserved g c =
     let plan = c.args.plan.now in
@@ -24,10 +43,11 @@ loop-rest-preserved g c =
     let waiting = c.loop-rest.waiting.items ++ rows_of c.loop-rest.parts.items in
     let read = rows_of c.in_ok-gone.read.items in
     let gone = c.in_ok-gone.ensures in
-    let more = begins_lines plan.program rest lines behind read c.first_lines.ensures.cut gone.read in
+    let is = c.in_ok-names.ensures.names in
+    let more = begins_lines plan.program rest lines behind read c.first_lines.ensures.cut (subst (λ (p : Parts). HoldsRows p lines read) is gone.read) in
     let same = rows_behind (judged_rows plan body c.loop-rest.front) waiting (judged_rows plan body c.in_ok-gone.gone) c.in_ok-gone.left.items read gone.rows in
-    let on = gone_on plan body c.loop-rest.front waiting rest behind read c.loop-rest.invariant.begins more c.in_ok-gone.gone (c.in_ok-gone.left.items ++ read) c.program.ensures.sound.sound same in
-    record { stands = gone.stands; fit = gone.fit; parts_fit = gone.read_fit; next = on.0; begins = on.1 }
+    let on = gone_on plan body c.loop-rest.front waiting rest behind read c.loop-rest.invariant.begins more c.in_ok-gone.gone (c.in_ok-gone.left.items ++ read) c.in_ok-names.ensures.sound same in
+    record { stands = gone.stands; fit = gone.fit; parts_fit = subst (λ (p : Parts). RowsFit p read) is gone.read_fit; next = on.0; begins = on.1 }
 
 pub returns : goal.returns
 returns g c =

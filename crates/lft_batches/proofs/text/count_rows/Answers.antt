@@ -1,4 +1,4 @@
-use Rattle.std.proofs.Common.{◌≡◌, ◌+◌, ◌∙◌, Option, Some, ap, length, slice_get, subst, sym, arith}
+use Rattle.std.proofs.Common.{◌≡◌, ◌+◌, Option, Some, slice_get, subst, sym, arith}
 use Rattle.std.specs.Prelude.{IfSome}
 use Rattle.lft_counts.specs.Cover.{CoversRows}
 use Rattle.lft_counts.specs.declared.cover.Cover.{Cover}

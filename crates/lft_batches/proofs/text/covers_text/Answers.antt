@@ -1,4 +1,4 @@
-use Rattle.std.proofs.Common.{◌≡◌, ◌∙◌, Option, Some, sym, subst}
+use Rattle.std.proofs.Common.{◌∙◌, Option, sym, subst}
 use Rattle.std.specs.Prelude.{IfSome}
 use Rattle.lft_trace.specs.Telling.{rows_in}
 use Rattle.lft_counts.specs.Cover.{CoversRows}

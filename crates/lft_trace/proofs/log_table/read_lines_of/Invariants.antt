@@ -4,7 +4,7 @@ use Rattle.lft_trace.proofs.LogTableFacts.{Gone}
 use Rattle.lft_trace.proofs.log_table.read_lines_of.Given as goal
 
 abbrev pub invariant-lines : goal.invariant-lines
-invariant-lines l = Gone l.program (records_of l.fn.text) l.rows.items l.inputs.items l.records × IfSome l.last (λ r. r < length l.program.reactions)
+invariant-lines l = Gone l.names (records_of l.fn.text) l.rows.items l.inputs.items l.records × IfSome l.last (λ r. r < length l.names.reactions)
 
 abbrev pub decreases-lines : goal.decreases-lines
 decreases-lines l = l.records.last - l.records.line

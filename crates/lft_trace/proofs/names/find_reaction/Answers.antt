@@ -1,10 +1,10 @@
 use Rattle.std.proofs.Common.{rules, ◌≢◌, ◌≡◌, ◌<◌, ℕ, IfNone, IfSome, List, Option, Some, None, length}
-use Rattle.std.proofs.lemmas.Option.{slice_get_within}
 use Rattle.lft_flat.specs.Names.{AreDistinct, IsNamed, ThingNames}
 use Rattle.lft_flat.specs.Parts.{Parts}
 use Rattle.lft_flat.specs.Sound.{IsSound}
 use Rattle.lft_flat.specs.declared.found.Found.{Found}
 use Rattle.lft_flat.specs.declared.found.Found.TheVariants as found
+use Rattle.lft_trace.proofs.TraceFacts.{reaction_there}
 use Rattle.lft_trace.proofs.names.find_reaction.Goals as goal
 
 other : (names : ThingNames) (f : Found) (text : List ℕ) (o : Option ℕ) → AreDistinct names → IsNamed names f text → IfNone o ((r : ℕ) → f ≢ found.Reaction r)
@@ -12,11 +12,10 @@ other : (names : ThingNames) (f : Found) (text : List ℕ) (o : Option ℕ) → 
 other names f text None distinct named not_one = λ r h. not_one r (distinct f (found.Reaction r) text named h)
 other names f text (Some n) distinct named not_one = tt
 
--- a reaction that has a name is one of the program's
 there : (program : Parts) (f : Found) (text : List ℕ) (o : Option ℕ) → IsSound program → IsNamed program.names f text → IfSome o (λ r. f ≡ found.Reaction r)
     → IfSome o (λ r. r < length program.reactions)
 there program f text None sound named is = tt
-there program f text (Some r) sound named is = rw (← sound.well_named.reactions) (slice_get_within program.names.reactions r text (rw is at named))
+there program f text (Some r) sound named is = reaction_there program text r sound (rw is at named)
 
 pub returns-in-Some-clause-none : goal.returns-in-Some-clause-none
 returns-in-Some-clause-none c =

@@ -1,4 +1,5 @@
-use Rattle.std.proofs.Common.{rules, ◌≡◌, false}
+use Rattle.std.proofs.Common.{rules, ◌≡◌, false, subst}
+use Rattle.lft_flat.specs.Parts.{Parts}
 use Rattle.lft_trace.specs.Traces.{is_filled}
 use Rattle.lft_trace.specs.Seen.{NumbersOf, StepOf, trace_fields}
 use Rattle.lft_trace.proofs.RowFacts.{step_is}
@@ -8,6 +9,7 @@ pub returns-clause-row : goal.returns-clause-row
 returns-clause-row c = λ event.
     let f = trace_fields c.args.fields.now in
     let n : NumbersOf c.args.kind f c.in-Some.numbers = c.in-Some.ensures.some.0 in
-    let s : StepOf c.args.program.now c.args.kind f.name c.in-Some.numbers.value c.in-Some.numbers.delay c.in-Some-read_step.step = c.in-Some-read_step.ensures.some in
+    let s : StepOf c.args.names.now c.args.kind f.name c.in-Some.numbers.value c.in-Some.numbers.delay c.in-Some-read_step.step =
+    subst (λ (p : Parts). StepOf p c.args.kind f.name c.in-Some.numbers.value c.in-Some.numbers.delay c.in-Some-read_step.step) c.program-program.ensures.value c.in-Some-read_step.ensures.some in
     let e : is_filled c.args.kind f ≡ false = search rules in
-    record { event = event; worker = n.worker; time = n.time; microstep = n.microstep; reaction = c.in-Some-read_reaction.ensures.some; step = step_is c.args.program.now c.args.kind f c.in-Some.numbers c.in-Some-read_step.step n s e }
+    record { event = event; worker = n.worker; time = n.time; microstep = n.microstep; reaction = c.in-Some-read_reaction_of.ensures.some; step = step_is c.args.names.now c.args.kind f c.in-Some.numbers c.in-Some-read_step.step n s e }

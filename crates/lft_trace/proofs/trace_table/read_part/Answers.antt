@@ -31,7 +31,7 @@ read_row-requires c = c.lines.invariant.last
 
 pub returns-in-Ok-false : goal.returns-in-Ok-false
 returns-in-Ok-false c =
-    all_read c.args.program.now (records_of c.args.text.now) (records_left c.lines.records) c.lines.rows.items c.lines.invariant.begins (c.in-Ok-false.ensures.none c.in-Ok-false.field-0-test)
+    all_read c.args.names.now (records_of c.args.text.now) (records_left c.lines.records) c.lines.rows.items c.lines.invariant.begins (c.in-Ok-false.ensures.none c.in-Ok-false.field-0-test)
 
 pub lines-smaller : goal.lines-smaller
 lines-smaller c = fewer c.lines.records c.next.new.self (c.in-Ok-true.ensures.found c.in-Ok-true.field-0-test)
@@ -40,5 +40,5 @@ pub lines-preserved : goal.lines-preserved
 lines-preserved c =
     let g : IsNext c.lines.records c.next.new.self = c.in-Ok-true.ensures.found c.in-Ok-true.field-0-test in
     let items : c.push.new.self.items ≡ c.lines.rows.items ++ (c.in-Ok.row ∷ []) = search rules in
-    let more = begins_more (trace_tables c.args.program.now) (header ∷ records_of c.args.text.now) c.lines.rows.items (fields_of c.next.new.self.fields) (records_left c.next.new.self) c.in-Ok.row (rw g.left at c.lines.invariant.begins) c.in-Ok.ensures.row tt in
+    let more = begins_more (trace_tables c.args.names.now) (header ∷ records_of c.args.text.now) c.lines.rows.items (fields_of c.next.new.self.fields) (records_left c.next.new.self) c.in-Ok.row (rw g.left at c.lines.invariant.begins) c.in-Ok.ensures.row tt in
     record { plain = g.plain; begins = rw items more; last = c.in-Ok.ensures.within }

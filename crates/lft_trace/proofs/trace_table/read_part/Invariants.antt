@@ -8,8 +8,8 @@ use Rattle.lft_trace.proofs.trace_table.read_part.Given as goal
 abbrev pub invariant-lines : goal.invariant-lines
 invariant-lines l = record {
   plain : IsPlain l.records;
-  begins : Begins (trace_tables l.program) (header ∷ records_of l.fn.text) l.rows.items (records_left l.records);
-  last : IfSome l.last (λ r. r < length l.program.reactions);
+  begins : Begins (trace_tables l.names) (header ∷ records_of l.fn.text) l.rows.items (records_left l.records);
+  last : IfSome l.last (λ r. r < length l.names.reactions);
 }
 
 abbrev pub decreases-lines : goal.decreases-lines

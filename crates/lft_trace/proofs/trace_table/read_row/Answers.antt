@@ -18,4 +18,4 @@ returns-in-Some-read_kind-clause-fault c =
     let f = trace_fields c.in-Some.fields in
     let e : fields_of c.args.fields.now ≡ in_order f = search rules in
     let w : f.event ≡ word c.in-Some-read_kind.kind = search rules in
-    fault_at c.args.program.now c.in-Some-read_kind.kind c.args.line f (fields_of c.args.fields.now) c.read_fields.result e w c.read_fields.ensures.fault
+    fault_at c.args.names.now c.in-Some-read_kind.kind c.args.line f (fields_of c.args.fields.now) c.read_fields.result e w c.read_fields.ensures.fault

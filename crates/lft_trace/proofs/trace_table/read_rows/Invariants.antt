@@ -5,7 +5,7 @@ use Rattle.lft_trace.proofs.TableFacts.{Read}
 use Rattle.lft_trace.proofs.trace_table.read_rows.Given as goal
 
 abbrev pub invariant-lines : goal.invariant-lines
-invariant-lines l = Read (trace_tables l.program) (records_of l.fn.text) l.rows.items l.records × IfSome l.last (λ r. r < length l.program.reactions)
+invariant-lines l = Read (trace_tables l.names) (records_of l.fn.text) l.rows.items l.records × IfSome l.last (λ r. r < length l.names.reactions)
 
 abbrev pub decreases-lines : goal.decreases-lines
 decreases-lines l = l.records.last - l.records.line

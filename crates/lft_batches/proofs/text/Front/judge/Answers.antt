@@ -1,4 +1,4 @@
-use Rattle.std.proofs.Common.{◌≡◌, ◌+◌, ◌++◌, List, length, take, refl, rules, sym, subst, arith}
+use Rattle.std.proofs.Common.{◌++◌, List, take, refl, rules, sym, subst, arith}
 use Rattle.std.proofs.lemmas.Option.{IfSome_then}
 use Rattle.lft_trace.specs.Telling.{rows_in}
 use Rattle.lft_steps.specs.declared.row.Row.{Row}

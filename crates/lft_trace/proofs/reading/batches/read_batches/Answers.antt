@@ -5,7 +5,7 @@ use Rattle.lft_trace.proofs.reading.batches.read_batches.Goals as goal
 
 pub loop-batch-preserved : goal.loop-batch-preserved
 loop-batch-preserved g c =
-    let program = c.args.program.now in
+    let program = c.args.names.now in
     let text = c.args.text.now in
     let cut = c.in-Some.ensures in
     let read = c.in_ok-put.ensures in

@@ -9,7 +9,7 @@ use Rattle.lft_trace.proofs.reading.workers.+parts.Goals as goal
 
 pub returns : goal.returns
 returns g t c =
-    let program = c.args.program.now in
+    let program = c.args.names.now in
     let cut = c.in-Some.ensures in
     let one = at_some (λ parts. HoldsRows program c.in-Some.first.now (rows_of parts.items)) c.join-parts.result.0 c.in_ok-parts.field-0 c.in_ok-parts.was c.join-parts.ensures.first in
     let other = at_some (λ parts. HoldsRows program c.in-Some.second.now (rows_of parts.items)) c.join-parts.result.1 c.in_ok-more.field-0 c.in_ok-more.was c.join-parts.ensures.second in
