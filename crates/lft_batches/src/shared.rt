@@ -100,6 +100,8 @@ pub fn accepts_text_shared<R: Threads + Sync>(
 ) -> Option<Counts>
     ensures { IfSome result (λ c. (rows : List TheRow) × Table plan.now.program (records_of text.now) rows × IsAccepted plan.now rows c.runs c.tags) }
 {
+    // Tags are judged one after another, since each needs what those before it leave behind. So reading
+    // alone is shared out.
     let body = below_header(text)?;
     let Ok(mut front) = Front::new(alloc, plan) else {
         return None;

@@ -257,6 +257,8 @@ fn go_over(alloc: Global, plan: &Plan, text: &[u8], front: Front) -> Option<Fron
 pub fn accepts_text(alloc: Global, plan: &Plan, text: &[u8]) -> Option<Counts>
     ensures { IfSome result (λ c. (rows : List TheRow) × Table plan.now.program (records_of text.now) rows × IsAccepted plan.now rows c.runs c.tags) }
 {
+    // Most traces are right, and to accept one takes no index and no first breach. The price: a trace of
+    // which nothing is said costs what was looked at more.
     let Ok(front) = Front::new(alloc, plan) else {
         return None;
     };

@@ -50,6 +50,7 @@ fn find_tag(tags: &[Tag], tag: Tag, hint: usize) -> Option<usize>
     ensures found { MatchOption result (HasTag tags.now tag → ⊥) (λ k. slice_get tags.now k ≡ Some tag) }
     ensures within { IfSome result (λ k. k < length tags.now) }
 {
+    // A wrong hint costs a search, and no proof.
     let mut low = 0;
     if hint < tags.len() {
         let there = item_at(tags, hint);
@@ -80,6 +81,7 @@ fn find_tag(tags: &[Tag], tag: Tag, hint: usize) -> Option<usize>
 fn mark(known: &mut [bool], place: usize)
     ensures { known.new ≡ slice_set known.old place true }
 {
+    // A mark only has to be true: what triggers a run without one is looked up later.
     if place < known.len() {
         known[place] = true;
     }

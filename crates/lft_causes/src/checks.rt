@@ -40,6 +40,7 @@ fn duplicate_name(
     first_member(alloc, Cause::DuplicateName, reactors, file, owns)
 }
 
+// Each cause is looked for once: what is found shows it.
 fn first_of(
     alloc: Global,
     reactors: &[&Reactor],

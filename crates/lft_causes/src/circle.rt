@@ -119,6 +119,7 @@ fn explore(
         Stage::New => {}
         _ => return Ok(Vec::new(alloc)),
     }
+    // A list, so that no depth of calls grows with the input.
     let mut path = Vec::new(alloc);
     stages[start] = Stage::Open;
     path.push(Visit {

@@ -69,6 +69,7 @@ fn examine_shares<W: Watch, R: Threads + Sync>(
     requires workers { (1 < workers) × (workers ≤ 64) }
     ensures { IfOk result (λ found. AreShares sliced.now slices.now bound workers found.items) }
 {
+    // Where no thread can be started it calls for one share after another, so no fault tells of threads.
     let Ok(found) = thread::map_indices(
         rt,
         alloc,
@@ -120,6 +121,7 @@ pub(crate) fn examine_shared<W: Watch, R: Threads + Sync>(
     requires workers { (1 < workers) × (workers ≤ 64) }
     ensures { IfOk result (LeastOf (BreachIn sliced.now slices.now bound 0 (length slices.now))) }
 {
+    // The least breach of all shares depends on no order of threads.
     let found = examine_shares(rt, alloc, sliced, ancestors, watch, slices, bound, workers)?;
     let least = least_found(found.as_slice())?;
     Ok(least)

@@ -96,6 +96,7 @@ impl Coming {
             Ok(()) => true,
             Err(QueueFault::NoMemory) => false,
             Err(QueueFault::Collision) => {
+                // Nothing is wrong yet: before that tag a request may stop the run, or another rule may be broken.
                 self.note(Some(tag));
                 true
             }

@@ -124,6 +124,7 @@ fn push_some(
     requires { IsRecorded tag }
     ensures { OnOk result (string_bytes text.new ≡ string_bytes text.old ++ hops_words program.now tag ports.now) }
 {
+    // Many inputs may stand behind one long way: to go back over all of it for each takes the product of both.
     if 20 < ports.len() {
         text.push_str("    ..\n")?;
         push_hops(text, program, tag, &ports[0..20])?;

@@ -8,6 +8,7 @@ use lft_words::push_number;
 use std::alloc::{AllocError, Global};
 
 /// Of a part so many lines are printed, where not all are asked for.
+// A run with thousands of triggers has thousands of facts.
 const MOST: usize = 60;
 
 /// Where the first so many lines of the bytes end.

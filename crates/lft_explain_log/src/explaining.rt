@@ -216,6 +216,8 @@ pub fn explain_log_plan<R: Read, W: Write, E: Write>(
     let Ok(mut before) = plan.copy(alloc) else {
         return Err(Fault::no_memory());
     };
+    // A pipe can't be opened again, so what is read is kept. It is read once more as a whole, so there is one
+    // way to facts.
     let mut kept = Kept::All(Vec::new(alloc));
     let ended = match follow_plan(alloc, plan, path, reader, following, &mut kept, out, errors) {
         Ok(ended) => ended,

@@ -97,6 +97,7 @@ pub fn find(alloc: Global, plan: &Plan, rows: &Rows, breach: Breach) -> Result<F
     ensures race { IfOk result (TellsRace plan.now rows.now breach) }
 {
     let rows = rows.as_slice();
+    // They are found anew: the checker keeps tables over all rows, and nothing that a reader could look up.
     let mut facts = of_breach(alloc, plan, rows, breach)?;
     add_race(alloc, plan, rows, breach, &mut facts)?;
     Ok(Facts::from_vec(facts))

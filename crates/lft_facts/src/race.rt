@@ -97,6 +97,8 @@ pub(crate) fn add_race(
     if breach.rule > 8 {
         return Ok(());
     }
+    // A reaction that starts too early may run again, which is rule 3, or the next tag begins too soon,
+    // which is rule 1. The early start stands some rows before.
     let race = race_before(alloc, plan, rows, breach)?;
     let Some(start) = race else {
         return Ok(());

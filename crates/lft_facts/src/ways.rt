@@ -63,6 +63,7 @@ pub(crate) fn ways(
     requires last { last < length graph.now.before }
     ensures { IfOk result (λ next. AreWays graph.now last next.items) }
 {
+    // By level, from the last one down, so that one pass is enough.
     let order = graph.by_level();
     let mut next = vec![in alloc; None; reactions]?;
     let mut left = order.len();

@@ -49,6 +49,7 @@ impl Program {
         requires { IsSound (record { ports = ports.items; actions = actions.items; timers = timers.items; reactions = reactions.items; names = names }) }
         ensures { result ≡ record { ports = ports.items; actions = actions.items; timers = timers.items; reactions = reactions.items; names = names } }
     {
+        // It is public, since another crate makes programs. It asks for sound parts, so none is tested again.
         Program {
             ports,
             actions,

@@ -34,6 +34,7 @@ impl BuildHasher for SeededHash {
 }
 
 /// Texts by number, in the order in which they came. None stands there twice.
+// One set, so that a text is found in one look-up and no text is kept twice.
 #[derive(Debug, Drop)]
 pub struct Texts {
     hash: SeededHash,

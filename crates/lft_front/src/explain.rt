@@ -75,6 +75,7 @@ pub(crate) fn write_reasons<W: Write>(
     ensures written { OnOk result (Writes (AreReasons all plan.now rows.now breach) (W.contents out.old) (W.contents out.new)) }
     ensures refused { IfErr result (WriteRefusal (AreReasons all plan.now rows.now breach) (W.contents out.old) (W.contents out.new)) }
 {
+    // The text is put together before it is written, so that a refused growth cuts no text.
     match reasons(alloc, plan, rows, breach, all) {
         Ok(text) => write_text(text.as_slice(), out),
         Err(_) => Err(Fault::no_memory()),
@@ -123,6 +124,8 @@ fn explain_rows<W: Write, R: Threads + Sync>(
         Ok(verdict) => verdict,
         Err(fault) => return Err(fault),
     };
+    // The line comes first: the facts of a large trace want more memory than the verdict, and the line isn't
+    // lost with them.
     match report(alloc, plan.program(), verdict, out) {
         Ok(()) => {}
         Err(fault) => return Err(fault),

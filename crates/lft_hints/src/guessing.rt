@@ -389,6 +389,8 @@ pub fn hint_of(
     ensures some { IfOk result (λ hint. IfSome hint (IsHint plan.now rows.now breach)) }
     ensures none { IfOk result (λ hint. IfNone hint ((other : TheHint) → IsHint plan.now rows.now breach other → ⊥)) }
 {
+    // A stop that is too late reads as a missing run, and times in microseconds as a run without a trigger.
+    // Who reads the verdict alone looks for a fault of the scheduler.
     let rows = rows.as_slice();
     match breach.rule {
         1 => of_late(alloc, plan, rows, breach),

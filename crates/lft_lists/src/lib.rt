@@ -13,5 +13,6 @@ pub fn item_at<T: Copy>(items: &[T], place: usize) -> T
     requires { place < length items.now }
     ensures { slice_get items.now place ≡ Some result }
 {
+    // Lemmas speak of `slice_get`. Of an index proofs see the item or some default.
     items[place]
 }

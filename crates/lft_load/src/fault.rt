@@ -69,6 +69,7 @@ impl fmt::Display for Part {
 
 /// What a fault's line tells beside its name: a byte counted from 0, a token counted from 1, a line
 /// of a table counted from 1, a tag, or some words, as a path.
+// A line or a byte takes no memory. Words are copied, and where that is refused the fault is `memory` 1.
 #[derive(Debug, Drop, PartialEq, Eq)]
 pub enum Detail {
     Nothing,

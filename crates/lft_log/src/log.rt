@@ -29,6 +29,8 @@ const LONGEST: usize = 1 << 20;
 const MOST: u64 = 1 << 62;
 
 /// What is kept of a log so far.
+// The order of the lines says up to which tag all external inputs are told. At a second pipe a reader
+// would wait for the next event while the runtime waits at the first.
 #[derive(Drop)]
 pub struct Log {
     follower: Follower,

@@ -21,6 +21,7 @@ use lft_tree::Ast;
 use std::alloc::Global;
 
 /// A program that is lowered: its core tree, under the names of the source, and what is said of it.
+// A tree and no text: names with brackets stand in tables and recorders as the runtime writes them.
 #[derive(Drop)]
 pub struct Lowering {
     pub tree: Ast,

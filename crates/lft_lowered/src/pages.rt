@@ -14,6 +14,8 @@ use lft_whole::{Token as WholeToken, TokenKind as WholeKind, Tokens, lex};
 use std::alloc::Global;
 
 /// The text of files with its tokens. A line feed stands behind each file, and a token for its end behind its tokens.
+// A part of the tree has one number for its token, and what tells of a refusal takes one text with its
+// tokens. Only the words of a place ask for files.
 #[derive(Drop)]
 pub(crate) struct Joined {
     pub(crate) text: Vec<u8>,

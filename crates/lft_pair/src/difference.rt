@@ -130,6 +130,8 @@ pub(crate) fn first_odd(
         mine: Vec::new(alloc),
         theirs: Vec::new(alloc),
     };
+    // Up to the first run that isn't in the other trace with an equal answer all is the same, so its history,
+    // its inputs and whether it is triggered are too. If there is none, the law of agreement gives the rest.
     let mut least = None;
     for place in 0..rows.len() {
         let row = row_at(rows, place);

@@ -34,6 +34,7 @@ pub enum Begin<L: Law, C: Code + Drop = BoxedCode> {
 }
 
 /// The state of a recording.
+// What a recording promises is the invariant: nothing else crosses a lock.
 #[derive(Drop)]
 pub struct Book<L: Law, C: Code + Drop = BoxedCode> {
     alloc: Global,
@@ -264,6 +265,8 @@ impl<L: Law, C: Code + Drop> Book<L, C> {
         if has_long_delay(steps) {
             return Err(self.stop(Stop::LimitTag));
         }
+        // All rows of an answer come with its end row. So the rows have the stop and the events of ended runs,
+        // and what may start can be asked of them.
         let Ok(added) = committed(self.alloc, worker, tag, reaction, steps) else {
             return Err(self.stop(Stop::NoMemory));
         };
@@ -300,6 +303,7 @@ impl<L: Law, C: Code + Drop> Book<L, C> {
         ensures same { result ≡ reason }
         ensures kept { self.new ≡ record self.old { reason = Some reason } }
     {
+        // Nothing else changes that contracts see, so the cause of the reason still holds of the book later.
         self.reason = Some(reason);
         reason
     }

@@ -71,6 +71,8 @@ fn work_all<L: Law + Send, C: Code + Drop + Send, R: Threads + Wait + Sync>(
     workers: u32,
     book: &Mutex<Book<L, C>>,
 ) -> bool {
+    // One for all: each commit, refusal and finish wakes everyone. No proof speaks of lost wake-ups, so reading
+    // has to show that none is lost.
     let bell = Condvar::new();
     let moved = &bell;
     thread::scope(thread::scope_env(), rt, |scope| {
@@ -177,6 +179,8 @@ pub fn record_run<L: Law + Send, C: Code + Drop + Send, R: Threads + Wait + Sync
     if !is_workers(workers) {
         return Err(unbegun(alloc, Stop::BadWorkers, plan, bodies));
     }
+    // The type of a book says that it has some plan and some limit, and can't say which. So both are compared
+    // at the end.
     let Ok(kept) = plan.copy(alloc) else {
         return Err(unbegun(alloc, Stop::NoMemory, plan, bodies));
     };

@@ -115,6 +115,8 @@ pub(crate) fn causes_of(alloc: Global, plan: &Plan, rows: &[Row]) -> Result<Vec<
 {
     let mut causes = of_rows(alloc, plan.program(), rows)?;
     add_events(plan, rows, &mut causes)?;
+    // It takes no memory. A write is one cause, however many ports it reaches: they are asked through their
+    // origin.
     causes.sort_unstable();
     Ok(causes)
 }

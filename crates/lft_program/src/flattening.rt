@@ -89,6 +89,8 @@ fn tables_of(alloc: Global, scopes: &Scopes) -> Result<Tables, Refusal>
     ensures first { IfErr result (λ f. f ≢ refusals.NoMemory → IsFirst (reactor_causes scopes.now) (cause_of f)) }
     ensures tells { IfErr result (Tells scopes.now) }
 {
+    // The causes are tested first, so to make the tables has no fault of its own. The price is that
+    // names are looked up twice.
     let contents = checked_contents(alloc, scopes)?;
     Ok(tables_with(alloc, scopes.ast(), contents)?)
 }

@@ -82,6 +82,7 @@ fn race_by_rows(
     requires left { HasUnfinished rows.now slice.tag slice.end left }
     ensures { (program : Parts) → AreAncestors program ancestors.now → IsFirstIn program rows.now slice.first slice.end result }
 {
+    // From the last row on, so that the set only grows.
     let mut unfinished = left;
     let mut race = None;
     let mut place = slice.end;

@@ -36,6 +36,7 @@ pub fn record_to<L: Law + Send, C: Code + Drop + Send, R: Threads + Wait + Sync,
     match record_run(rt, alloc, plan, bodies, workers, max_runs) {
         Ok(recorded) => write_rows(alloc, &recorded.plan, &recorded.rows, out),
         Err(stopped) => {
+            // Made first: where memory for its words is refused, nothing is written.
             let fault = match stop_fault(alloc, stopped.plan.program(), stopped.reason) {
                 Ok(fault) => fault,
                 Err(_) => return Err(Fault::no_memory()),

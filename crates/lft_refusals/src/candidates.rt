@@ -75,6 +75,8 @@ pub(crate) fn candidates(before: &Before<'_>) -> Result<Vec<Thing>, NoMemory>
     requires lexed { AreTokens before.now }
     ensures { IfOk result (λ found. All (CanStandBehind before.now) found.items) }
 {
+    // The parser is asked, some twenty times, so the grammar stands once. That is paid only where a text is
+    // refused.
     let mut found = name_or_words(before)?;
     find(before, &mut found, &OTHERS)?;
     Ok(found)

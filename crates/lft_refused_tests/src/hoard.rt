@@ -46,6 +46,8 @@ fn take_all(alloc: Global, blocks: &mut Blocks) {
 }
 
 /// All memory but some megabytes; all but a budget while it refuses.
+// Every call names the one allocator, so a test can't bring one of its own. Where `vm.overcommit_memory` is
+// 2 this takes the machine's limit for that moment.
 #[derive(Drop)]
 pub(crate) struct Hoard {
     most: Blocks,
@@ -65,6 +67,7 @@ impl Hoard {
 
     /// Takes what is left but for so many bytes, at most 64 KB: growths past them are refused.
     pub(crate) fn refuse(&mut self, alloc: Global, budget: usize) -> Result<(), NoMemory> {
+        // A budget counts bytes and not growths. `tools/refuse-each` refuses each N-th growth of the built program.
         let spare = Vec::<u8>::with_capacity(alloc, SPARE)?;
         take_all(alloc, &mut self.rest);
         drop(spare);

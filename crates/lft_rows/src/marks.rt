@@ -141,6 +141,7 @@ impl Marks {
         requires before { AreBefore program.now first self.old }
         ensures { AreMarks program.now rows.now first end self.new }
     {
+        // Older marks tell of rows before the first of these, so nothing is wiped.
         for place in first..end {
             self.pass(program, rows, place);
         }

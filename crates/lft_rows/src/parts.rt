@@ -106,6 +106,7 @@ pub fn first_breach_shared<R: Threads + Sync>(
     requires { RowsFit plan.now.program rows.now }
     ensures { IfOk result (FirstRow stop plan.now rows.now) }
 {
+    // So no law on the first breach of parts is needed. A broken trace costs the pass twice.
     if keep_parts(rt, alloc, plan, stop, rows, workers) {
         return Ok(None);
     }

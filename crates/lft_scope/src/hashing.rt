@@ -9,6 +9,8 @@ use lft_tree::Reference;
 use std::hash::{BuildHasher, DefaultHasher, FoldHasher, Hash, Hasher};
 
 /// Makes the hashers of some names, all in one state. What a map answers doesn't hang on it.
+// Under std's fixed seed chosen names cost their square. The answers of an ordered map would have to be
+// proved by the order of texts.
 #[derive(Clone, Copy)]
 pub struct NameHash {
     first: FoldHasher,
@@ -30,6 +32,8 @@ impl NameHash {
         ensures { result.first ≡ for_texts (texts names.now) }
     {
         let mut hasher = DefaultHasher::new();
+        // The end of each name is hashed too. Else all cuts of one row of letters shared a seed, and cuts that
+        // collide under it could be chosen.
         names.hash(&mut hasher);
         NameHash::after(&hasher)
     }

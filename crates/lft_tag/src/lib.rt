@@ -67,6 +67,7 @@ impl Shift {
     pub fn then(self, delay: u64) -> Option<Shift>
         ensures { MatchOption result (¬ HasRoom (join (self.time, self.steps) delay)) (λ s. HasRoom (join (self.time, self.steps) delay) × ((s.time, s.steps) ≡ join (self.time, self.steps) delay)) }
     {
+        // Not a sum: 5 ms and then 0 lead to microstep 1, and 0 and then 5 ms to microstep 0.
         if delay == 0 {
             if self.steps >= MAX_STEPS {
                 None

@@ -1,5 +1,7 @@
 //! The limits of tags, programs, traces and recordings.
 
+// Clauses say these figures. A proof fails where one of them says another one.
+
 /// The greatest time of a recorded tag and the greatest delay, in nanoseconds.
 pub const MAX_TIME: u64 = 1_000_000_000_000_000_000;
 /// The greatest microstep of a recorded tag.

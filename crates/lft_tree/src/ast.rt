@@ -10,5 +10,6 @@ use crate::tree::{Item, TokenRange};
 pub struct Ast {
     pub target: Option<TokenRange>,
     pub items: Vec<Item>,
+    // With dots in names two things could have one full name.
     pub ghost identifiers: { HasIdentifiers (file_view target items.items) } by { HasIdentifiers-prop (file_view target items.items) },
 }

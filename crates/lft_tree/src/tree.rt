@@ -15,6 +15,7 @@ pub enum TimeUnit {
 }
 
 /// A time as written: a count of units. Only 0 may stand without a unit.
+// No nanoseconds: 2^64 - 1 weeks overflow 64 bits, and the tree would need a fault of its own.
 #[derive(Clone, Copy, Debug, PartialEq, Eq)]
 pub struct Time {
     pub count: u64,

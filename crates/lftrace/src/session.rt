@@ -64,6 +64,7 @@ impl<'w, F: Files, W: Write> Session<'w, F, W> {
     /// written, the line of the fault comes all the same.
     fn tell(&mut self, told: Result<Option<String>, NoMemory>) {
         if let Ok(Some(told)) = told {
+            // On standard output: the line of a fault is fixed and stands on standard error, where scripts read it.
             let _ = self.out.write_all(told.as_bytes());
         }
     }

@@ -20,6 +20,8 @@ pub(crate) fn first_events(alloc: Global, plan: &Plan) -> Result<Queue, NoMemory
     let externals = plan.externals();
     let stop = externals.stop();
     let events = externals.events();
+    // All of them from the beginning: an input is then one look-up, and an external event collides like any
+    // other.
     let mut queue = Queue::new(alloc);
     for at in 0..events.len() {
         let event = item_at(events, at);

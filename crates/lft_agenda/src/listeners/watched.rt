@@ -49,6 +49,9 @@ fn first_delayed(alloc: Global, program: &Program) -> Result<Vec<Option<u32>>, N
     Ok(firsts)
 }
 
+// Two writes meet at some port only if they are of one time and the port is delayed. Then they meet at the
+// first delayed port of their origin too, and no later: so each collision is found.
+
 /// Which ports of a program are watched.
 #[derive(Drop)]
 pub(crate) struct Watched {

@@ -35,6 +35,7 @@ impl<L: Law> Answered<L> {
         requires { IfOk answer (λ d. L.holds ticket.reaction ticket.tag ticket.state ticket.reads d) }
         ensures { result ≡ (ticket, answer) }
     {
+        // Only bodies keep that their answers meet the law, so not even the book can make an answer up.
         Answered {
             ticket,
             answer,

@@ -83,6 +83,7 @@ impl<L: Law, C: Code + Drop> Body<L, C> {
         requires lawful { (tag : _) (state : _) (reads : _) (answer : _) → C.gives code tag state reads answer → IfOk answer (λ d. L.holds reaction tag state reads d) }
         ensures { result ≡ reaction }
     {
+        // That each answer meets the law is asked for here, so none is tested by it afterwards.
         Body {
             reaction,
             code,

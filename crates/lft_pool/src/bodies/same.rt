@@ -8,6 +8,7 @@ use std::marker::{Model, PhantomData};
 
 /// So many bodies of a reaction, one at least, of which each has this code. Contracts see the
 /// reaction and the count.
+// So 1,000,000 bodies with one code cost what one of them costs.
 #[derive(Drop)]
 pub(crate) struct SameBodies<L: Law, C: Code + Drop> {
     reaction: u32,
@@ -63,6 +64,7 @@ impl<L: Law, C: Code + Drop> SameBodies<L, C> {
         ensures body { result ≡ self.old.0 }
         ensures fewer { self.new ≡ (self.old.0, self.old.1 - 1) }
     {
+        // Of several the code can be had again, and that takes no memory: so this can't fail.
         let code = self.code.again().unwrap();
         self.count -= 1;
         Body::new(self.reaction, code)

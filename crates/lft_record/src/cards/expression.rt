@@ -139,6 +139,7 @@ fn read_term(program: &Program, reaction: u32, text: &[u8]) -> Option<Term>
     ensures some { IfSome result (IsTerm program.now reaction text.now) }
     ensures none { IfNone result ((term : Term) → IsTerm program.now reaction text.now term → ⊥) }
 {
+    // Before names, so that a text has one meaning whatever a program calls its inputs.
     match read_literal(text) {
         Some(term) => Some(term),
         None => match read_input(program, reaction, text) {

@@ -19,6 +19,7 @@ pub(crate) fn kept(time: Time) -> u64
 {
     match nanoseconds(time) {
         Some(all) => all,
+        // It is refused later: limits and cycles are answered before it.
         None => MAX_TIME + 1,
     }
 }

@@ -25,6 +25,7 @@ pub(crate) fn is_one_part(text: &[u8], workers: u32) -> bool
 
 /// The rows of a text without a quotation mark, those of each part in a list of its own.
 // Text and workers are divided in two, in the same proportion, until a part has one worker.
+// The parts stay lists: joined on the way back, half of a batch is copied twice while others wait.
 #[cycle(parts)]
 pub(crate) fn read_parts<R: Threads + Sync>(
     rt: &R,
