@@ -19,8 +19,12 @@ use lft_steps::{Row, is_start, row_at};
 use lft_tag::Tag;
 use std::alloc::Global;
 
-/// A reaction with more inputs is asked for what is present. One with fewer is asked for each of them.
+/// Where a reaction with more inputs runs, what is present is listed.
 const MANY: usize = 64;
+
+/// A run looks at what is listed alone, where its reaction has more than so many times as many inputs. A look at
+/// a name in the list costs more than one at the next input.
+const SHARE: usize = 8;
 
 /// The names that may be present at the tag at hand.
 #[derive(Drop)]
@@ -147,7 +151,7 @@ impl Presence {
         }
     }
 
-    /// Goes on to the rows of a tag. What is present is known there, if a reaction starts that has more inputs.
+    /// Goes on to the rows of a tag. What is present is known there, if a reaction starts that has far more inputs.
     pub(crate) fn find(
         &mut self,
         plan: &Plan,
@@ -171,7 +175,7 @@ impl Presence {
                     coming,
                     own,
                     tag,
-                    most,
+                    most / SHARE,
                 );
             }
         }
@@ -191,12 +195,12 @@ impl Presence {
         self.names.as_slice()
     }
 
-    /// Whether the names are known, and the reaction has many inputs.
+    /// Whether the names are known, and far fewer than the reaction's inputs.
     pub(crate) fn serves(&self, program: &Program, reaction: u32) -> bool
         requires { reaction < length program.now.reactions }
         ensures { IsTrue result → IsTrue self.now.is_known }
     {
-        self.is_known && inputs_of(program, reaction) > MANY
+        self.is_known && inputs_of(program, reaction) / SHARE > self.names.len()
     }
 
     /// How many inputs of the reaction are looked at in a run.
