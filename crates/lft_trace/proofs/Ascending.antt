@@ -23,7 +23,7 @@ not_before g h (inl a) (inr b) = let c = b.0 in omega arith
 not_before g h (inr a) (inl b) = let c = a.0 in omega arith
 not_before g h (inr a) (inr b) = let c = a.1 in let d = b.1 in omega arith
 
-not_itself : (g h : Tag) → Before g h → h ≡ g → ⊥
+pub not_itself : (g h : Tag) → Before g h → h ≡ g → ⊥
 not_itself g h (inl a) e = let t = times h g e in omega arith
 not_itself g h (inr a) e = let t = micros h g e in let c = a.1 in omega arith
 

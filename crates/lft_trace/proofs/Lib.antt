@@ -2,6 +2,7 @@ pub mod Ascending
 pub mod Digits
 pub mod EntriesDiffer
 pub mod EventFacts
+pub mod EventLists
 pub mod ExternalFacts
 pub mod ExternalTableFacts
 pub mod Fuel

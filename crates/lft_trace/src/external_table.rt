@@ -79,7 +79,7 @@ fn read_inputs(alloc: Global, program: &Program, text: &[u8]) -> Result<External
             Ok(entry) => entry,
             Err(fault) => return Err(fault),
         };
-        stop = match keep(entry, stop, &mut events, records.line) {
+        stop = match keep(alloc, entry, stop, &mut events, records.line) {
             Ok(stop) => stop,
             Err(fault) => return Err(fault),
         };
@@ -88,6 +88,7 @@ fn read_inputs(alloc: Global, program: &Program, text: &[u8]) -> Result<External
 
 // Keeps an entry beside those before it, and gives the stop so far.
 fn keep(
+    alloc: Global,
     entry: Entry,
     stop: Option<Tag>,
     events: &mut EventMap,
@@ -97,7 +98,7 @@ fn keep(
     ensures fault { IfErr result (λ e. is_told e ≡ true → Refuses entry stop events.old line e) }
 {
     match entry {
-        Entry::Happens(event) => match events.insert(event) {
+        Entry::Happens(event) => match events.insert(alloc, event) {
             Ok(true) => Ok(stop),
             Ok(false) => Err(TraceFault::DuplicateExternal(line)),
             Err(_) => Err(TraceFault::NoMemory),

@@ -26,6 +26,7 @@ pub(crate) struct TraceFields<'a> {
 
 impl<'a> TraceFields<'a> {
     /// The fields of a record, if there are eight.
+    #[inline(always)]
     pub(crate) fn of(fields: &'a ByteRecord) -> Option<TraceFields<'a>>
         ensures some { IfSome result (λ c. fields_of fields.now ≡ in_order (trace_fields c)) }
         ensures none { IfNone result (length (fields_of fields.now) ≢ 8) }
@@ -60,6 +61,7 @@ impl<'a> TraceFields<'a> {
     }
 
     /// Whether a field that must be empty isn't.
+    #[inline(always)]
     pub(crate) fn is_filled(&self, kind: RowKind) -> bool
         ensures { result ≡ is_filled kind (trace_fields self.now) }
     {

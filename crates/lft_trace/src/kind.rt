@@ -16,6 +16,7 @@ pub(crate) enum RowKind {
 }
 
 /// The event that a field names.
+#[inline(always)]
 pub(crate) fn read_kind(field: &[u8]) -> Option<RowKind>
     ensures some { IfSome result (λ kind. field.now ≡ word kind) }
     ensures none { IfNone result ((kind : RowKind) → field.now ≢ word kind) }

@@ -29,6 +29,7 @@ impl NextNames {
     }
 
     /// The name that a row of this event may have.
+    #[inline(always)]
     pub(crate) fn guess(self, program: &Program, reaction: u32, kind: RowKind) -> Option<Name>
         requires { reaction < length program.now.reactions }
     {
@@ -43,6 +44,7 @@ impl NextNames {
     }
 
     /// The places behind the name of this row.
+    #[inline(always)]
     pub(crate) fn after(self, program: &Program, row: Row) -> NextNames
         requires { row.reaction < length program.now.reactions }
     {

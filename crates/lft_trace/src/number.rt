@@ -13,6 +13,7 @@ const SHORT: usize = 19;
 const LEAST: u64 = 9_223_372_036_854_775_808;
 
 /// An unsigned number.
+#[inline(always)]
 pub fn read_number(field: &[u8], limit: u64) -> Option<u64>
     ensures value { result ≡ number limit field.now }
     ensures within { IfSome result (λ n. n ≤ limit) }
@@ -82,6 +83,7 @@ pub fn read_number_or_zero(field: &[u8], limit: u64) -> Option<u64>
 }
 
 /// A recorded tag.
+#[inline(always)]
 pub(crate) fn read_tag(time: &[u8], microstep: &[u8]) -> Option<Tag>
     ensures some { IfSome result (λ g. (number 1000000000000000000 time.now ≡ Some g.time) × (number 1000000000 microstep.now ≡ Some g.micro)) }
     ensures none { IfNone result ((is_some (number 1000000000000000000 time.now) && is_some (number 1000000000 microstep.now)) ≡ false) }

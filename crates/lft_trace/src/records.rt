@@ -62,6 +62,7 @@ impl<'a> Records<'a> {
     }
 
     /// Goes on to the next record, if there is one.
+    #[inline(always)]
     pub fn next(&mut self) -> Result<bool, Unread>
         requires { IsPlain self.old }
         ensures found { IfOk result (λ found. found ≡ true → IsNext self.old self.new) }
@@ -85,6 +86,7 @@ impl<'a> Records<'a> {
 }
 
 /// The field of a record at a place.
+#[inline(always)]
 pub fn field(fields: &ByteRecord, at: usize) -> &[u8]
     requires { at < length (fields_of fields.now) }
     ensures { result.now ≡ slice_index_or (fields_of fields.now) at [] }

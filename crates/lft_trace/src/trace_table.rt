@@ -128,6 +128,7 @@ struct RowNumbers {
 }
 
 // The numbers of a record, if all that its event has are numbers within their limits.
+#[inline(always)]
 fn read_numbers(kind: RowKind, fields: &TraceFields) -> Option<RowNumbers>
     ensures some { IfSome result (λ n. NumbersOf kind (trace_fields fields.now) n × (has_numbers kind (trace_fields fields.now) ≡ true)) }
     ensures none { IfNone result (has_numbers kind (trace_fields fields.now) ≡ false) }
@@ -156,6 +157,7 @@ fn read_numbers(kind: RowKind, fields: &TraceFields) -> Option<RowNumbers>
 }
 
 // The value that records of this event have.
+#[inline(always)]
 fn value_of(kind: RowKind, field: &[u8]) -> Option<Value>
     ensures some { IfSome result (λ v. has_name kind ≡ true → value field.now ≡ Some v) }
     ensures variant { is_some result ≡ (not (has_name kind) || is_some (value field.now)) }
@@ -168,6 +170,7 @@ fn value_of(kind: RowKind, field: &[u8]) -> Option<Value>
 }
 
 // The delay that records of this event have.
+#[inline(always)]
 fn delay_of(kind: RowKind, field: &[u8]) -> Option<u64>
     ensures some { IfSome result (λ d. has_delay kind ≡ true → number_or_zero 1000000000000000000 field.now ≡ Some d) }
     ensures variant { is_some result ≡ (not (has_delay kind) || is_some (number_or_zero 1000000000000000000 field.now)) }
@@ -181,6 +184,7 @@ fn delay_of(kind: RowKind, field: &[u8]) -> Option<u64>
 
 // The step of a record: what its name field names, with the value and the delay that were read.
 // The guessed name is tried first.
+#[inline(always)]
 fn read_step(
     program: &Program,
     kind: RowKind,
@@ -213,6 +217,7 @@ fn read_step(
 
 // The row of a record, or the first fault that it has. `last` is the reaction of the row before,
 // `next` where its names are looked for first.
+#[inline(always)]
 pub(crate) fn read_row(
     names: &ReactionNames,
     last: Option<u32>,
@@ -235,6 +240,7 @@ pub(crate) fn read_row(
 }
 
 // The row of a record of this event, or the first fault that it has beside its event.
+#[inline(always)]
 fn read_fields(
     names: &ReactionNames,
     kind: RowKind,

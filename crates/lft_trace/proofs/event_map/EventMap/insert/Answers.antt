@@ -1,44 +1,82 @@
-use Rattle.std.proofs.Common.{◌≡◌, ◌∙◌, Option, Some, None, true, false, map, List, ap, not}
-use Rattle.std.specs.BTreeMap.{insert_entry, is_at}
-use Rattle.std.specs.Map.{lookup}
-use Rattle.std.specs.Prelude.{is_some}
+use Rattle.std.proofs.Common.{rules, ◌≡◌, ◌∙◌, ◌<◌, ◌++◌, ◌∷◌, [], List, map, length, append-nil, append_assoc, ap, arith, refl, subst, sym}
+use Rattle.std.specs.List.Sorted.{IsPermutation}
+use Rattle.std.proofs.lemmas.List.Sorted.{IsPermutation-cons, IsPermutation-middle, IsPermutation-sym, IsPermutation-trans}
 use Rattle.lft_flat.specs.declared.parts.Value.{Value}
-use Rattle.lft_trace.specs.ExternalTables.{Clash, Has}
-use Rattle.lft_trace.specs.Keys.{event_at}
+use Rattle.lft_steps.specs.Inputs.{ComesBefore}
 use Rattle.lft_steps.specs.declared.externals.Event.{Event}
-use Rattle.lft_trace.proofs.EventFacts.{Key, apart, found, inserted, key_cmp}
+use Rattle.lft_trace.specs.ExternalTables.{Has}
+use Rattle.lft_trace.specs.Keys.{event_at}
+use Rattle.lft_trace.proofs.EventFacts.{Key}
+use Rattle.lft_trace.proofs.EventLists.{in_order_push, no_clash}
+use Rattle.lft_trace.proofs.Members.{has_permuted, has_permuted_back}
 use Rattle.lft_trace.proofs.event_map.EventMap.insert.Goals as goal
+use Rattle.lft_trace.proofs.event_map.EventMap.insert.Goals.{In_ok-values}
 
-there : (es : List (Key × Value)) (e : Event) (old : Option Value) → old ≡ lookup (is_at (key_cmp (e.tag.time, e.tag.micro, e.action))) es → is_some old ≡ true → (d : Event) × Has (map event_at es) d × Clash d e
-there es e None is h = absurd (cc (h))
-there es e (Some w) is h = found es e w (cc (is))
+no_entries : (es : List (Key × Value)) → length es ≡ 0 → map event_at es ≡ []
+no_entries [] none = refl
+no_entries (e ∷ es) none = absurd (omega arith)
 
-missing : (es : List (Key × Value)) (e : Event) (old : Option Value) → old ≡ lookup (is_at (key_cmp (e.tag.time, e.tag.micro, e.action))) es → is_some old ≡ false → lookup (is_at (key_cmp (e.tag.time, e.tag.micro, e.action))) es ≡ None
-missing es e None is h = cc (is)
-missing es e (Some w) is h = absurd (cc (h))
+-- where the map has no entries, the list has all events
+only_list : (list all : List Event) (es : List (Key × Value)) → list ++ map event_at es ≡ all → length es ≡ 0 → all ≡ list
+only_list list all es is none = sym is ∙ ap (λ (xs : List Event). list ++ xs) (no_entries es none) ∙ append-nil list
+
+pushed : (list rest : List Event) (event : Event) → IsPermutation (event ∷ (list ++ rest)) ((list ++ event ∷ []) ++ rest)
+pushed list rest event = IsPermutation-sym ((list ++ event ∷ []) ++ rest) (event ∷ (list ++ rest)) (rw append_assoc (IsPermutation-middle list event rest))
+
+pub returns-then-not-is_empty-clause-apart : goal.returns-then-not-is_empty-clause-apart
+returns-then-not-is_empty-clause-apart c = λ new d has clash.
+    let entries = c.self.inside.values.entries in
+    let some : 0 < length entries = search rules in
+    let none : c.self.inside.list.items ≡ [] = c.self.invariant.one some in
+    let is = sym c.self.view_is ∙ ap (λ (xs : List Event). xs ++ map event_at entries) none in
+    c.in_ok-new.ensures.apart new d (subst (λ (xs : List Event). Has xs d) is has) clash
+
+pub invariant_of-self-then-comes_last : goal.invariant_of-self-then-comes_last
+invariant_of-self-then-comes_last c =
+    let list = c.self.inside.list.items in
+    let items : c.push.new.self.items ≡ list ++ c.args.event ∷ [] = search rules in
+    let none : length c.self.inside.values.entries ≡ 0 = search rules in
+    let all = subst (λ (xs : List Event). (other : Event) → Has xs other → ComesBefore other c.args.event) c.as_slice.ensures.value (c.if-comes_last.ensures refl) in
+    record { order = rw items (in_order_push list c.args.event c.self.invariant.order all); one = λ some. absurd (omega arith) }
+
+pub returns-then-comes_last-clause-apart : goal.returns-then-comes_last-clause-apart
+returns-then-comes_last-clause-apart c = λ new d has clash.
+    let list = c.self.inside.list.items in
+    let none : length c.self.inside.values.entries ≡ 0 = search rules in
+    let all = subst (λ (xs : List Event). (other : Event) → Has xs other → ComesBefore other c.args.event) c.as_slice.ensures.value (c.if-comes_last.ensures refl) in
+    let is = only_list list c.args.self.now c.self.inside.values.entries c.self.view_is none in
+    no_clash d c.args.event (all d (subst (λ (xs : List Event). Has xs d) is has)) clash
+
+pub returns-then-comes_last-clause-added : goal.returns-then-comes_last-clause-added
+returns-then-comes_last-clause-added c = λ new.
+    let list = c.self.inside.list.items in
+    let rest = map event_at c.self.inside.values.entries in
+    let event = c.args.event in
+    let items : c.push.new.self.items ≡ list ++ event ∷ [] = search rules in
+    subst (λ (xs : List Event). IsPermutation (event ∷ xs) (c.push.new.self.items ++ rest)) c.self.view_is
+    (subst (λ (xs : List Event). IsPermutation (event ∷ (list ++ rest)) (xs ++ rest)) (sym items) (pushed list rest event))
+
+same : (c : In_ok-values) → IsPermutation c.args.self.now (map event_at c.in_ok-values.values.entries)
+same c =
+    let list = c.self.inside.list.items in
+    let moved = map event_at c.in_ok-values.values.entries in
+    let none : length c.self.inside.values.entries ≡ 0 = search rules in
+    let is = only_list list c.args.self.now c.self.inside.values.entries c.self.view_is none in
+    subst (λ (xs : List Event). IsPermutation xs moved) (c.as_slice-2.ensures.value ∙ sym is) c.in_ok-values.ensures
 
 pub returns-clause-there : goal.returns-clause-there
-returns-clause-there c = λ h.
-    let es = c.self.inside.values.entries in
-    let v : map event_at es ≡ c.args.self.now = c.self.view_is in
-    let is : c.in-Ok.old ≡ lookup (is_at (key_cmp (c.args.event.tag.time, c.args.event.tag.micro, c.args.event.action))) es = c.in-Ok.ensures.old in
-    let s : is_some c.in-Ok.old ≡ true = c.is_none.ensures ∙ ap not h in
-    rw (← v) (there es c.args.event c.in-Ok.old is s)
+returns-clause-there c = λ old.
+    let t = c.in_ok-new-2.ensures.there old in
+    (t.0, has_permuted_back c.args.self.now (map event_at c.in_ok-values.values.entries) t.0 (same (goal.at.returns-clause-there c).In_ok-values) t.1, t.2)
 
 pub returns-clause-apart : goal.returns-clause-apart
-returns-clause-apart c = λ h d has same.
-    let es = c.self.inside.values.entries in
-    let v : map event_at es ≡ c.args.self.now = c.self.view_is in
-    let is : c.in-Ok.old ≡ lookup (is_at (key_cmp (c.args.event.tag.time, c.args.event.tag.micro, c.args.event.action))) es = c.in-Ok.ensures.old in
-    let s : is_some c.in-Ok.old ≡ false = c.is_none.ensures ∙ ap not h in
-    apart es c.args.event d (missing es c.args.event c.in-Ok.old is s) (rw (← v) at has) same
+returns-clause-apart c = λ new d has clash.
+    c.in_ok-new-2.ensures.apart new d (has_permuted c.args.self.now (map event_at c.in_ok-values.values.entries) d (same (goal.at.returns-clause-apart c).In_ok-values) has) clash
 
 pub returns-clause-added : goal.returns-clause-added
-returns-clause-added c = λ h.
-    let es = c.self.inside.values.entries in
-    let k : Key = (c.args.event.tag.time, c.args.event.tag.micro, c.args.event.action) in
-    let v : map event_at es ≡ c.args.self.now = c.self.view_is in
-    let is : c.in-Ok.old ≡ lookup (is_at (key_cmp k)) es = c.in-Ok.ensures.old in
-    let s : is_some c.in-Ok.old ≡ false = c.is_none.ensures ∙ ap not h in
-    let n : c.insert.new.self.entries ≡ insert_entry key_cmp es k c.args.event.value = c.in-Ok.ensures.entries in
-    rw (n, ← v) (inserted es k c.args.event.value (missing es c.args.event c.in-Ok.old is s))
+returns-clause-added c = λ new.
+    let event = c.args.event in
+    let moved = map event_at c.in_ok-values.values.entries in
+    let all = map event_at c.put-2.new.values.entries in
+    let more = IsPermutation-trans (event ∷ c.args.self.now) (event ∷ moved) all (IsPermutation-cons event c.args.self.now moved (same (goal.at.returns-clause-added c).In_ok-values)) (c.in_ok-new-2.ensures.added new) in
+    subst (λ (xs : List Event). IsPermutation (event ∷ c.args.self.now) (xs ++ all)) (sym c.new.ensures.items) more
