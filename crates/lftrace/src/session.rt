@@ -150,6 +150,16 @@ impl<'w, F: Files, W: Write> Session<'w, F, W> {
 }
 
 impl<'w, F: Files + Threads + Sync, W: Write> Session<'w, F, W> {
+    /// The verdict on a trace, and the list of what it exercised. The list has many short lines, so it goes out by a
+    /// buffer.
+    fn listed(&mut self, plan: &Plan, trace: &[u8], workers: u32) -> Result<bool, Fault> {
+        let mut out = BufWriter::new(self.alloc, &mut *self.out).map_err(|_| Fault::no_memory())?;
+        let verdict = cover_plan(self.rt, self.alloc, plan, trace, workers, true, &mut out);
+        // What a failed write left in the buffer isn't written.
+        let _ = out.into_parts();
+        Ok(is_accepted(verdict?))
+    }
+
     /// The verdict on a trace, whose line is written with what stands behind it.
     fn verdict(
         &mut self,
@@ -161,13 +171,8 @@ impl<'w, F: Files + Threads + Sync, W: Write> Session<'w, F, W> {
         let (rt, alloc) = (self.rt, self.alloc);
         let verdict = match behind {
             Behind::Nothing => judge_plan(rt, alloc, plan, trace, workers, self.out)?,
-            Behind::Counts { list } => {
-                // A list has many short lines, and no buffer of its own.
-                let mut out = BufWriter::new(alloc, &mut *self.out).map_err(
-                    |_| Fault::no_memory(),
-                )?;
-                cover_plan(rt, alloc, plan, trace, workers, list, &mut out)?
-            }
+            Behind::Counts { list: true } => return self.listed(plan, trace, workers),
+            Behind::Counts { list } => cover_plan(rt, alloc, plan, trace, workers, list, self.out)?,
             Behind::Facts { all } => explain_plan(rt, alloc, plan, trace, workers, all, self.out)?,
         };
         Ok(is_accepted(verdict))
