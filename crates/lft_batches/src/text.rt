@@ -1,6 +1,6 @@
 //! Trace tables that are accepted from their texts, and what they exercise.
 
-ghost use Rattle.std.specs.Prelude.{◌≡◌, ◌++◌, ◌+◌, ◌≤◌, ℕ, List, Some, length, slice_get, take, IfOk, IfSome, IsTrue};
+ghost use Rattle.std.specs.Prelude.{◌≡◌, ◌++◌, ◌+◌, ◌≤◌, ℕ, List, Some, length, slice_get, take, IfOk, IfSome, IsTrue, OnSome};
 ghost use Rattle.lft_flat.specs.Parts.{Parts};
 ghost use Rattle.lft_flat.specs.Sound.{IsSound};
 ghost use Rattle.lft_steps.specs.Fits.{RowsFit};
@@ -227,26 +227,25 @@ pub(crate) fn add_batch(
 
 /// Goes over a trace table whose rows are legal so far, from before its first row. The text is read a batch
 /// at a time, and no row is kept once its tag is judged.
-fn go_over(alloc: Global, plan: &Plan, text: &[u8], front: Front) -> Option<Front>
-    requires stands { (body : List ℕ) → IsFront plan.now body front }
-    requires none { front.judged ≡ 0 }
-    ensures { IfSome result (IsWholeFront plan.now text.now) }
+fn go_over(alloc: Global, plan: &Plan, text: &[u8], front: &mut Front) -> Option<()>
+    requires stands { (body : List ℕ) → IsFront plan.now body front.old }
+    requires none { front.old.judged ≡ 0 }
+    ensures { OnSome result (IsWholeFront plan.now text.now front.new) }
 {
     let body = below_header(text)?;
     let names = reaction_names(alloc, plan)?;
     let bytes = batch_bytes(plan);
-    let mut front = front;
     let mut waiting = Vec::new(alloc);
     let mut rest = body;
     while !rest.is_empty() {
         let (batch, behind) = read_batch(alloc, &names, rest, bytes)?;
-        waiting = add_batch(&mut front, alloc, plan, body, waiting, batch.as_slice())?;
+        waiting = add_batch(front, alloc, plan, body, waiting, batch.as_slice())?;
         rest = behind;
     }
     if !front.judge(alloc, plan, body, waiting.as_slice()) {
         return None;
     }
-    Some(front)
+    Some(())
 }
 
 /// The counts of a trace table whose rows are legal. The text is read a batch at a time, and no row
@@ -259,10 +258,10 @@ pub fn accepts_text(alloc: Global, plan: &Plan, text: &[u8]) -> Option<Counts>
 {
     // Most traces are right, and to accept one takes no index and no first breach. The price: a trace of
     // which nothing is said costs what was looked at more.
-    let Ok(front) = Front::new(alloc, plan) else {
+    let Ok(mut front) = Front::new(alloc, plan) else {
         return None;
     };
-    let mut front = go_over(alloc, plan, text, front)?;
+    go_over(alloc, plan, text, &mut front)?;
     front.finish(plan)
 }
 
@@ -270,10 +269,10 @@ pub fn accepts_text(alloc: Global, plan: &Plan, text: &[u8]) -> Option<Counts>
 pub fn covers_text(alloc: Global, plan: &Plan, text: &[u8]) -> Option<(Counts, Cover)>
     ensures { IfSome result (λ p. (rows : List TheRow) × Table plan.now.program (records_of text.now) rows × IsAccepted plan.now rows p.0.runs p.0.tags × CoversRows plan.now.program rows (length rows) p.1) }
 {
-    let Ok(front) = Front::counting(alloc, plan) else {
+    let Ok(mut front) = Front::counting(alloc, plan) else {
         return None;
     };
-    let mut front = go_over(alloc, plan, text, front)?;
+    go_over(alloc, plan, text, &mut front)?;
     let counts = front.finish(plan)?;
     let cover = front.cover?;
     Some((counts, cover))

@@ -105,7 +105,7 @@ impl<'a> ReactionNames<'a> {
     fn find(&self, name: &[u8]) -> Option<u32>
         ensures { IfSome result (λ r. IsNamed self.now.names (Found.Reaction r) name.now) }
     {
-        if is_long(name) {
+        if self.numbers.is_empty() || is_long(name) {
             return None;
         }
         match self.numbers.get(place_of(self.numbers.len(), name)) {

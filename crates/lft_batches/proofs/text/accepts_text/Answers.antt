@@ -4,6 +4,6 @@ use Rattle.lft_batches.proofs.text.accepts_text.Goals as goal
 
 pub returns : goal.returns
 returns c =
-    let whole = c.in_ok-front.ensures in
-    let rows = judged_rows c.args.plan.now whole.body c.in_ok-front.front in
+    let whole = c.in_ok-go_over.ensures in
+    let rows = judged_rows c.args.plan.now whole.body c.go_over.new.front in
     IfSome_then c.finish.result c.finish.ensures.counts (λ counts accepted. (rows, whole.table, accepted rows whole.stands.stands))

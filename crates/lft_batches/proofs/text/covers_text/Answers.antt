@@ -10,8 +10,8 @@ use Rattle.lft_batches.proofs.text.covers_text.Goals as goal
 pub returns : goal.returns
 returns c =
     let program = c.args.plan.now.program in
-    let whole = c.in_ok-front.ensures in
-    let front = c.in_ok-front.front in
+    let whole = c.in_ok-go_over.ensures in
+    let front = c.go_over.new.front in
     let rows = judged_rows c.args.plan.now whole.body front in
     let all = rows_in program whole.body in
     let covers = subst (λ (o : Option Cover). IfSome o (CoversRows program all front.judged)) (sym c.finish.ensures.cover ∙ c.in_ok-cover.was) whole.stands.covers in

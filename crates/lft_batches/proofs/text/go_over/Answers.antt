@@ -10,7 +10,7 @@ use Rattle.lft_batches.proofs.text.go_over.Goals as goal
 
 pub loop-rest-init : goal.loop-rest-init
 loop-rest-init c =
-    let none = nothing_read c.args.plan.now c.in_ok-body.body.now c.args.front c.new-waiting.result.items c.requires.none c.new-waiting.ensures.items in
+    let none = nothing_read c.args.plan.now c.in_ok-body.body.now c.args.front.now c.new-waiting.result.items c.requires.none c.new-waiting.ensures.items in
     record { stands = c.requires.stands c.in_ok-body.body.now; fit = search rules; next = none.0; begins = none.1 }
 
 pub add_batch-requires-clause-open_fit : goal.add_batch-requires-clause-open_fit
