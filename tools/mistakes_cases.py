@@ -423,13 +423,13 @@ def great_lowerings():
     def lowered(name, wants, text):
         case(f"{name}, lowered", ["explain", "--lower", "whole.lf"], wants, files={"whole.lf": text})
 
-    def too_many(line, what):
-        return unlowered(f"21 TooMany whole.lf:{line}:1", f"The program has more than {what}. Write smaller widths.")
+    def too_many(place, what):
+        return unlowered(f"21 TooMany whole.lf:{place}", f"The program has more than {what}. Write smaller widths.")
 
-    lowered("a bank of 10^20", too_many(1, "10000 instances"), f"main reactor {{ b = new[{10 ** 20}] B() }} reactor B {{ }}\n")
-    lowered("a multiport of 10^20", too_many(2, "100000 ports"), f"reactor B {{ input[{10 ** 20}] x }}\nmain reactor {{ b = new B() }}\n")
-    lowered("banks in banks", too_many(21, "10000 instances"), "reactor B0 { }\n" + "".join(f"reactor B{at} {{ b = new[10] B{at - 1}() }}\n" for at in range(1, 20)) + "main reactor { b = new B19() }\n")
-    lowered("ten thousand settings", too_many(2, "100000 ports"), "reactor B(n: int = 0) { input[n] x }\n" + wide(9_990, "b{at} = new B(n = {at})"))
+    lowered("a bank of 10^20", too_many("1:16", "10000 instances"), f"main reactor {{ b = new[{10 ** 20}] B() }} reactor B {{ }}\n")
+    lowered("a multiport of 10^20", too_many("1:42", "100000 ports"), f"reactor B {{ input[{10 ** 20}] x }}\nmain reactor {{ b = new B() }}\n")
+    lowered("banks in banks", too_many("5:14", "10000 instances"), "reactor B0 { }\n" + "".join(f"reactor B{at} {{ b = new[10] B{at - 1}() }}\n" for at in range(1, 20)) + "main reactor { b = new B19() }\n")
+    lowered("ten thousand settings", too_many("450:3", "100000 ports"), "reactor B(n: int = 0) { input[n] x }\n" + wide(9_990, "b{at} = new B(n = {at})"))
     lowered("all to all of 100", {"status": 0, "has": ["port main.b[99].sink[99] origin=main.b[99].source after=0+0\n"]},
             "reactor B { input[100] sink  output source }\nmain reactor { b = new[100] B()  (b.source)+ -> b.sink }\n")
     bases = "reactor B0 { timer t0 }\n" + "".join(f"reactor B{at} extends B{at - 1} {{ timer t{at} }}\n" for at in range(1, 3_000))
@@ -480,6 +480,7 @@ def files():
     case("a trace that isn't there", ["judge", "blink.lf", "externals.csv", "nowhere.csv"], fault("read 1 Failed nowhere.csv"))
     case("external inputs that aren't there", ["judge", "blink.lf", "nowhere.csv", "nothing.csv"], fault("read 1 Failed nowhere.csv"))
     case("no file there at all", ["judge", "no.lf", "nowhere.csv", "nothing.csv"], fault("read 1 Failed no.lf"))
+    case("no file there, with format characters in its name", ["judge", "\u202etxt.\u202c\ufeff", "nowhere.csv", "nothing.csv"], fault("read 1 Failed \\u{202e}txt.\\u{202c}\\u{feff}"))
     case("no file there, with control characters in its name", ["judge", "a\x1b[31m\tb\r\n\x7f", "nowhere.csv", "nothing.csv"], fault("read 1 Failed a\\u{1b}[31m\\tb\\r\\n\\u{7f}"))
     case("a trace that isn't there, of a program with a fault", ["judge", "trace.csv", "externals.csv", "nowhere.csv"], fault("read 1 Failed nowhere.csv"))
     case("a program to show that isn't there", ["show", "no.lf"], fault("read 1 Failed no.lf"))

@@ -1,8 +1,9 @@
 -- Words of the lines that are printed.
-use Rattle.std.specs.Prelude.{ℕ, List, [], ◌∷◌, ◌++◌, if◌then◌else◌, slice_get, unwrap_or, chars, codes, decimal, flat_map}
+use Rattle.std.specs.Prelude.{ℕ, List, [], ◌∷◌, ◌++◌, ◌||◌, if◌then◌else◌, slice_get, unwrap_or, chars, codes, decimal, flat_map}
 use Rattle.std.specs.Char.{encode_utf8, is_control}
 use Rattle.std.specs.Char.Escape.{escape_default}
 use Rattle.lft_flat.specs.Parts.{Parts}
+use Rattle.lft_refusals.specs.Quotes.{is_format}
 
 -- a word with its number
 abbrev pub field : List ℕ → ℕ → List ℕ
@@ -21,10 +22,10 @@ abbrev pub names_words : Parts → List ℕ → List ℕ
 names_words program [] = []
 names_words program (r ∷ rs) = reaction_name program r ++ flat_map (spaced_name program) rs
 
--- a letter as it stands in one line: a control character by its escape
+-- a letter as it stands in one line: a control or format character by its escape
 abbrev pub in_line : ℕ → List ℕ
-in_line c = if is_control c then escape_default c else c ∷ []
+in_line c = if is_control c || is_format c then escape_default c else c ∷ []
 
--- a path in one line: each letter, a control character by its escape
+-- a path in one line: each letter, a control or format character by its escape
 abbrev pub one_line : List ℕ → List ℕ
 one_line path = flat_map (λ c. flat_map encode_utf8 (in_line c)) (chars path)

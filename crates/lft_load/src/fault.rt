@@ -14,6 +14,7 @@ use crate::words::push_names;
 use lft_flat::Program;
 use lft_graph::GraphFault;
 use lft_program::ProgramFault;
+use lft_refusals::words::is_format;
 use lft_syntax::{LexFault, SyntaxFault};
 use lft_tag::Tag;
 use lft_trace::TraceFault;
@@ -103,11 +104,11 @@ fn push_escape(line: &mut String, letter: char) -> Result<(), AllocError>
     Ok(())
 }
 
-/// Puts a letter of a path behind the line: a control character, as a line feed, by its escape.
+/// Puts a letter of a path behind the line: a control character, as a line feed, and a format character by its escape.
 fn push_letter(line: &mut String, letter: char) -> Result<(), AllocError>
     ensures { OnOk result (string_bytes line.new ≡ string_bytes line.old ++ flat_map encode_utf8 (in_line letter)) }
 {
-    if letter.is_control() {
+    if letter.is_control() || is_format(letter) {
         push_escape(line, letter)?;
     } else {
         line.push(letter)?;

@@ -1,7 +1,7 @@
 //! What helps where a whole program is refused at a name: which one was probably meant, and where the first of two stands.
 
 use crate::could::push_unit;
-use crate::names::{Declared, Kind, Names, Site};
+use crate::names::{Declared, Kind, MOST_COMPARED, Names, Site};
 use crate::pages::push_tokens;
 use lft_reasons::{Sentence, nearest, push_link, push_question, way_of_code};
 use lft_refusals::words::push_way;
@@ -10,9 +10,6 @@ use lft_tag::NoMemory;
 use lft_whole::{Instance, Member, TokenKind, Tokens, lex};
 use std::alloc::Global;
 use std::str::from_utf8;
-
-/// How many names are looked at for the instances that have a port.
-const MOST_NAMES: usize = 1 << 20;
 
 /// The names of one kind.
 fn names_of<'a>(
@@ -93,13 +90,15 @@ impl<'a> Hint<'a> {
     /// The instances that have a port of this name.
     fn with_port(self, declared: &[Declared<'a>], port: &str) -> Result<Vec<&'a str>, NoMemory> {
         let mut found = Vec::new(self.names.alloc);
-        let mut left = MOST_NAMES;
+        let mut left = MOST_COMPARED;
         for one in declared {
             if let Some(instance) = one.instance
                 && left > 0
             {
                 let inner = self.inside(one.file, instance)?;
-                left = left.saturating_sub(inner.len() + 1);
+                left = left
+                    .saturating_sub(inner.len())
+                    .saturating_sub(self.names.cost(one.file));
                 let has = inner.iter().any(|other| other.is(Kind::Port)
                     && other.name.text.as_str() == port);
                 if has {

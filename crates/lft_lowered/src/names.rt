@@ -1,15 +1,20 @@
 //! The names that files declare, of which one may have been meant.
 
+ghost use Rattle.std.specs.Prelude.{◌<◌};
+
 use lft_sources::{Place, SourceFile};
 use lft_tag::NoMemory;
 use lft_whole::{Import, Instance, Member, Name, Parameter, Reactor};
 use std::alloc::Global;
 
 /// Of a reactor with more bases the others aren't looked at.
-const MOST_BASES: usize = 100;
+const MOST_BASES: usize = 16;
 
 /// Where more reactors contain one another the others aren't looked at.
 const MOST_INNER: usize = 100;
+
+/// How many names may be compared in search of reactors.
+pub(crate) const MOST_COMPARED: usize = 1 << 20;
 
 /// What is declared, or asked for.
 #[derive(Clone, Copy, PartialEq, Eq)]
@@ -171,6 +176,16 @@ impl<'a> Names<'a> {
         found
     }
 
+    /// What it costs to find a reactor by its name in a file: one for each that is compared, and 1.
+    pub(crate) fn cost(self, file: usize) -> usize
+        ensures { 0 < result }
+    {
+        match self.files.get(file) {
+            Some(file) => file.tree.reactors.len().saturating_add(1),
+            None => 1,
+        }
+    }
+
     /// The number of the file that an import of this number names.
     fn target(self, file: usize, import: usize) -> Option<usize> {
         self.files.get(file)?.imports.get(import).copied()
@@ -200,7 +215,10 @@ impl<'a> Names<'a> {
 
     /// Puts the bases of a reactor that aren't in a list at its end.
     fn push_bases(self, found: &mut Vec<Site<'a>>, site: Site<'a>) -> Result<(), NoMemory> {
-        for base in &site.reactor.bases {
+        for place in 0..MOST_BASES {
+            let Some(base) = site.reactor.bases.get(place) else {
+                return Ok(());
+            };
             if let Some(next) = self.named(site.file, base.text.as_str())
                 && !found.iter().any(|other| other.is(next))
             {
@@ -230,9 +248,13 @@ impl<'a> Names<'a> {
         let Some(step) = steps.get(outer).copied() else {
             return Ok(());
         };
-        for declared in &self.declared(step.site)? {
-            if let Some(instance) = declared.instance
-                && let Some(site) = self.named(declared.file, instance.reactor.text.as_str())
+        let declared = self.declared(step.site)?;
+        for place in 0..MOST_COMPARED / self.cost(step.site.file) {
+            let Some(one) = declared.get(place).copied() else {
+                return Ok(());
+            };
+            if let Some(instance) = one.instance
+                && let Some(site) = self.named(one.file, instance.reactor.text.as_str())
                 && !steps.iter().any(|other| other.site.is(site))
             {
                 steps.push(Step { site, outer })?;

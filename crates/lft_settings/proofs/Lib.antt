@@ -3,6 +3,7 @@ mod Finding
 pub mod Keeping
 mod Marks
 mod Passing
+mod Reaching
 mod Refusing
 pub mod Spelling
 mod Standing

@@ -17,7 +17,7 @@ use Rattle.lft_shapes.specs.declared.shapes.Inherited.{Inherited}
 use Rattle.lft_shapes.specs.declared.shapes.Shape.{Shape}
 use Rattle.lft_settings.specs.declared.counts.Counts.{Counts}
 use Rattle.lft_settings.specs.Limits.{Limit, first_passed, limits}
-use Rattle.lft_settings.specs.Passed.{AreAtMost, AreTooMany, AreTotals, Counting, HasAtLeast, InnerHas, IsPassed, MemberHas, SettingHas, all_counts, both, counts_at, counts_in, counts_of, each, many_at, member_counts, members_of, nothing, pairs_at}
+use Rattle.lft_settings.specs.Passed.{AreAtMost, AreTooMany, AreTotals, Counting, HasAtLeast, InnerHas, MemberHas, SettingHas, all_counts, both, counts_at, counts_in, counts_of, each, many_at, member_counts, members_of, nothing, pairs_at, Passes}
 use Rattle.lft_settings.specs.Places.{HasPairs, IsMany, all_places, how_many, member_in, width_in}
 use Rattle.lft_settings.specs.Noted.{AreMade, AreSettings, GoesOn, IsNumberOf, Table}
 use Rattle.lft_settings.specs.Settings.{setting_in, valued}
@@ -103,7 +103,7 @@ counts_more shapes (suc d) e t =
 pub counts_more_right : (shapes : List Shape) (d e : ℕ) (t : Valued) → AreAtMost (counts_in shapes e t) (counts_in shapes (d + e) t)
 counts_more_right shapes d e t = let s : e + d ≡ d + e = omega arith in subst (λ k. AreAtMost (counts_in shapes e t) (counts_in shapes k t)) s (counts_more shapes e d t)
 
-counted : (shapes : List Shape) (d : ℕ) (t : Valued) (m : ℕ) (found : Inherited) (x : Member) → member_in shapes t m ≡ Some found → found.member.now ≡ x → counts_at shapes d (counts_in shapes d) t m ≡ member_counts shapes d (counts_in shapes d) t m x
+pub counted : (shapes : List Shape) (d : ℕ) (t : Valued) (m : ℕ) (found : Inherited) (x : Member) → member_in shapes t m ≡ Some found → found.member.now ≡ x → counts_at shapes d (counts_in shapes d) t m ≡ member_counts shapes d (counts_in shapes d) t m x
 counted shapes d t m found x at is = ap (λ o. unwrap_or (option_map (λ (y : Inherited). member_counts shapes d (counts_in shapes d) t m y.member.now) o) nothing) at ∙ ap (member_counts shapes d (counts_in shapes d) t m) is
 
 -- ---- limits
@@ -127,9 +127,25 @@ passed_in (x ∷ xs) (y ∷ ys) said u e = go (passed_in xs ys said u.3) (nat_lt
     go rest true q f = let w : x.why ≡ said = cc in let low = less x.most x.count q in let most = u.1 in let more = u.2 in (y, 0, refl, u.0 ∙ w, omega (arith, low, most, more))
     go rest false q f = let r = rest f in (r.0, suc r.1, r.2, r.3, r.4)
 
+all_under : (a b : Counts) → AreAtMost a b → IsUnder (limits a) (limits b)
+all_under a b p = (refl, refl, p.instances, (refl, refl, p.ports, (refl, refl, p.connections, (refl, refl, p.actions, (refl, refl, p.timers, (refl, refl, p.reactions, tt))))))
+
 -- what is passed by fewer is passed by more
-pub passed_limit : (a b : Counts) (said : Why) → AreAtMost a b → first_passed (limits a) ≡ Some said → (limit : Limit) × (which : ℕ) × (slice_get (limits b) which ≡ Some limit) × (limit.why ≡ said) × (limit.most < limit.count)
-passed_limit a b said p e = passed_in (limits a) (limits b) said (refl, refl, p.instances, (refl, refl, p.ports, (refl, refl, p.connections, (refl, refl, p.actions, (refl, refl, p.timers, (refl, refl, p.reactions, tt)))))) e
+pub passed_limit : (a b : Counts) (said : Why) → AreAtMost a b → first_passed (limits a) ≡ Some said → Passes b said
+passed_limit a b said p e =
+    let l = passed_in (limits a) (limits b) said (all_under a b p) e in
+    record { limit = l.0; which = l.1; is_limit = l.2; is_said = l.3; more = l.4 }
+
+pub passes_more : (a b : Counts) (said : Why) → AreAtMost a b → Passes a said → Passes b said
+passes_more a b said p x =
+    let l = in_list (limits a) (limits b) x.which (all_under a b p) x.is_limit in
+    record { limit = l.0; which = x.which; is_limit = l.1; is_said = subst (λ w. l.0.why ≡ w) x.is_said l.2; more = (let most = l.3 in let count = l.4 in let more = x.more in omega (arith, most, count, more)) }
+  where
+    in_list : (xs ys : List Limit) (which : ℕ) → IsUnder xs ys → slice_get xs which ≡ Some x.limit → (limit : Limit) × (slice_get ys which ≡ Some limit) × (limit.why ≡ x.limit.why) × (limit.most ≡ x.limit.most) × (x.limit.count ≤ limit.count)
+    in_list [] ys which u e = absurd (cc)
+    in_list (z ∷ xs) [] which u e = absurd u
+    in_list (z ∷ xs) (y ∷ ys) zero u e = let s : z ≡ x.limit = cc in (y, refl, u.0 ∙ ap (λ (l : Limit). l.why) s, u.1 ∙ ap (λ (l : Limit). l.most) s, (let c : z.count ≡ x.limit.count = ap (λ (l : Limit). l.count) s in let low = u.2 in omega (arith, c, low)))
+    in_list (z ∷ xs) (y ∷ ys) (suc which) u e = in_list xs ys which u.3 e
 
 -- ---- of one setting
 
@@ -222,15 +238,6 @@ total_written s totals setting c are low has k x at = elim (get_write_cases tota
       (r.0, subst (λ i. setting_in s.settings i ≡ Some r.0) (sym here.0) r.1, subst (HasAtLeast s.shapes r.0) here.1 (has r.0 r.1))
   | inr other ↦ are k x other.1
 ]
-
--- what is passed by the count of the main setting
-pub is_passed : (s : Table) (totals : List Counts) (c : Counts) (said : Why) → AreSettings s → AreTotals s totals → slice_get totals 0 ≡ Some c → first_passed (limits c) ≡ Some said → IsPassed s.shapes said
-is_passed s totals c said a are at e =
-    let r = are 0 c at in
-    let same : r.0 ≡ a.main.0 = same_some (setting_in s.settings 0) r.0 a.main.0 r.1 a.main.2 in
-    let has : HasAtLeast s.shapes a.main.0 c = subst (λ (v : Valued). HasAtLeast s.shapes v c) same r.2 in
-    let l = passed_limit c (counts_in s.shapes has.0 a.main.0) said has.1 e in
-    record { main = a.main.0; is_main = a.main.1; depth = has.0; limit = l.0; which = l.1; is_limit = l.2; is_said = l.3; more = l.4 }
 
 -- more settings are listed than there may be instances
 pub too_many : (s : Table) (used : List ℕ) (marks : List Bool) (done : ℕ) → AreSettings s → Using s used marks done → 10000 < length used → AreTooMany s.shapes

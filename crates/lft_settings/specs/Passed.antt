@@ -2,6 +2,7 @@
 use Rattle.std.specs.Prelude.{◌≡◌, ◌<◌, ◌≤◌, ◌⊎◌, ℕ, zero, suc, ◌+◌, ◌*◌, List, [], ◌∷◌, Option, Some, None, length, map, option_map, slice_get, unwrap_or}
 use Rattle.lft_lowering.specs.Channels.{below, joined}
 use Rattle.lft_sources.specs.declared.source.SourceFile.{SourceFile}
+use Rattle.lft_sources.specs.declared.stop.Refusal.{Refusal}
 use Rattle.lft_sources.specs.declared.stop.Stop.{Stop}
 use Rattle.lft_sources.specs.declared.stop.Stop.TheVariants as stop
 use Rattle.lft_sources.specs.declared.why.Why.{Why}
@@ -84,18 +85,50 @@ abbrev pub counts_in : List Shape → ℕ → Counting
 counts_in shapes zero t = nothing
 counts_in shapes (suc depth) t = both (record nothing { instances = 1 }) (all_counts (map (counts_at shapes depth (counts_in shapes depth) t) (below (members_of shapes t))))
 
+-- what one instance of a setting counts, with its members below the number
+abbrev pub counts_below : List Shape → ℕ → Valued → ℕ → Counts
+counts_below shapes depth t n = both (record nothing { instances = 1 }) (all_counts (map (counts_at shapes depth (counts_in shapes depth) t) (below n)))
+
 -- ---- refusals
 
--- down to some depth there is more of something than may be, and this is said of it
+-- there is more of something than may be, and this is said of it
+pub record Passes (c : Counts) (said : Why) : Type 0 where
+  pub limit : Limit
+  pub which : ℕ
+  pub is_limit : slice_get (limits c) which ≡ Some limit
+  pub is_said : limit.why ≡ said
+  pub more : limit.most < limit.count
+
+-- so it is of the main reactor, with all in it down to some depth
 pub record IsPassed (shapes : List Shape) (said : Why) : Type 0 where
   pub main : Valued
   pub is_main : main_setting shapes ≡ Some main
   pub depth : ℕ
-  pub limit : Limit
+  pub passes : Passes (counts_in shapes depth main) said
+
+-- the token of a member: that of its name, or its first one
+abbrev pub token_of : Member → ℕ
+token_of (member.Port port) = port.name.at
+token_of (member.Timer timer) = timer.name.at
+token_of (member.Action action) = action.name.at
+token_of (member.Instance instance) = instance.name.at
+token_of (member.Reaction reaction) = reaction.at
+token_of (member.Connection connection) = connection.at
+token_of (member.Foreign what at) = at
+
+-- the refusal is at a member of the setting: with it one instance has more of something than may be, down to some depth
+pub record PassesAt (shapes : List Shape) (t : Valued) (refusal : Refusal) : Type 0 where
   pub which : ℕ
-  pub is_limit : slice_get (limits (counts_in shapes depth main)) which ≡ Some limit
-  pub is_said : limit.why ≡ said
-  pub more : limit.most < limit.count
+  pub found : Inherited
+  pub is_found : member_in shapes t which ≡ Some found
+  pub place : refusal.place ≡ record { file = found.file; token = token_of found.member.now }
+  pub depth : ℕ
+  pub passes : Passes (counts_below shapes depth t (which + 1)) refusal.why
+
+-- the refusal is that more is counted in one instance of the setting than may be, at a member of it
+abbrev pub IsPassedIn : List Shape → Valued → Stop → Type 0
+IsPassedIn shapes t (stop.Refused refusal) = PassesAt shapes t refusal
+IsPassedIn shapes t stop.NoMemory = ⊥
 
 -- more settings are reached, each of them another one, than there may be instances
 pub record AreTooMany (shapes : List Shape) : Type 0 where
@@ -103,9 +136,9 @@ pub record AreTooMany (shapes : List Shape) : Type 0 where
   pub reached : (k : ℕ) → k ≤ 10000 → IsReached shapes (setting k)
   pub once : (i j : ℕ) → i ≤ 10000 → j ≤ 10000 → setting i ≡ setting j → i ≡ j
 
--- the refusal says one of these
+-- the refusal says one of these: the first at a member of a setting that is reached, with which it holds of that already
 abbrev pub SaysPassed : List Shape → Stop → Type 0
-SaysPassed shapes (stop.Refused refusal) = IsPassed shapes refusal.why ⊎ ((refusal.why ≡ why.TooManyInstances) × AreTooMany shapes)
+SaysPassed shapes (stop.Refused refusal) = (IsPassed shapes refusal.why × ((t : Valued) × IsReached shapes t × PassesAt shapes t refusal)) ⊎ ((refusal.why ≡ why.TooManyInstances) × AreTooMany shapes)
 SaysPassed shapes stop.NoMemory = Unit {0}
 
 -- the refusal is of a member of a setting: of its width, of the setting in it, or of the places that it joins
@@ -115,6 +148,10 @@ IsOfMember shapes t m s = IsOfWidth shapes t m s ⊎ HasCause shapes t m s ⊎ (
 -- the refusal is of one of its members, or of none
 abbrev pub IsOfSome : List Shape → Valued → Stop → Type 0
 IsOfSome shapes t s = IsTooMuch s ⊎ ((m : ℕ) × IsOfMember shapes t m s)
+
+-- so it is, or with a member too much is counted
+abbrev pub IsOfCounts : List Shape → Valued → Stop → Type 0
+IsOfCounts shapes t s = IsOfSome shapes t s ⊎ IsPassedIn shapes t s
 
 -- it is so of a setting that is reached
 abbrev pub IsOfReached : List Shape → Stop → Type 0
@@ -161,7 +198,7 @@ InnerHas shapes t m c = (depth : ℕ) × AreAtMost c (each (many_at shapes depth
 
 -- a setting by itself, with its members below the number
 abbrev pub SettingHas : List Shape → Valued → ℕ → Counts → Type 0
-SettingHas shapes t n c = (depth : ℕ) × AreAtMost c (both (record nothing { instances = 1 }) (all_counts (map (counts_at shapes depth (counts_in shapes depth) t) (below n))))
+SettingHas shapes t n c = (depth : ℕ) × AreAtMost c (counts_below shapes depth t n)
 
 -- so many at least are noted of each setting
 abbrev pub AreTotals : Table → List Counts → Type 0

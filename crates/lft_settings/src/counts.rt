@@ -1,10 +1,10 @@
 //! How many things a program has, counted before any of them is made.
 
-ghost use Rattle.std.specs.Prelude.{◌≡◌, ◌<◌, ◌≤◌, ◌⊎◌, ℕ, List, IfErr, IfOk, IfNone, IfSome, OnOk, Some, length, slice_get, true};
+ghost use Rattle.std.specs.Prelude.{◌≡◌, ◌+◌, ◌<◌, ◌≤◌, ◌⊎◌, ℕ, List, IfErr, IfOk, IfNone, IfSome, OnOk, Some, length, slice_get, true};
 ghost use Rattle.lft_shapes.specs.Walks.{Has};
 ghost use Rattle.lft_settings.specs.Limits.{limits, first_passed};
 ghost use Rattle.lft_settings.specs.Noted.{AreMade, AreSettings, GoesOn, table};
-ghost use Rattle.lft_settings.specs.Passed.{AreAtMost, AreReached, AreTotals, HasAtLeast, InnerHas, IsOfMember, IsOfProgram, IsOfReached, IsOfSome, MemberHas, both, each, members_of, nothing};
+ghost use Rattle.lft_settings.specs.Passed.{AreAtMost, AreReached, AreTotals, HasAtLeast, InnerHas, IsOfCounts, IsOfMember, IsOfProgram, IsOfSome, IsPassedIn, MemberHas, SettingHas, both, each, members_of, nothing, token_of};
 ghost use Rattle.lft_settings.specs.Places.{HasPairs};
 ghost use Rattle.lft_settings.specs.Refused.{IsOfPairs};
 ghost use Rattle.lft_settings.specs.Settings.{setting_at};
@@ -101,6 +101,21 @@ fn is_instance(member: &Member) -> bool
     ensures { result ≡ is_instance member.now }
 {
     matches!(member, Member::Instance(_))
+}
+
+/// The token of a member: that of its name, or its first one.
+fn token_of(member: &Member) -> usize
+    ensures { result ≡ token_of member.now }
+{
+    match member {
+        Member::Port(port) => port.name.at,
+        Member::Timer(timer) => timer.name.at,
+        Member::Action(action) => action.name.at,
+        Member::Instance(instance) => instance.name.at,
+        Member::Reaction(reaction) => reaction.at,
+        Member::Connection(connection) => connection.at,
+        Member::Foreign { at, .. } => *at,
+    }
 }
 
 /// Makes room for marks of so many numbers.
@@ -343,11 +358,27 @@ impl<'a> Settings<'a> {
         }
     }
 
+    /// Refuses counts that pass a limit, at the member of a setting with which they do.
+    fn refuse_passed(&self, setting: usize, number: usize, counts: Counts) -> Result<(), Stop>
+        ensures cause { IfErr result (λ stop. (t : Valued) → setting_at self.now setting ≡ Some t → SettingHas self.now.shapes.items t (number + 1) counts → IsPassedIn self.now.shapes.items t stop) }
+    {
+        let Some(why) = counts.passed() else {
+            return Ok(());
+        };
+        match self.inherited(Wanted {
+            setting,
+            member: number,
+        }) {
+            Some(inherited) => Err(Stop::at(why, inherited.file, token_of(inherited.member))),
+            None => Ok(()),
+        }
+    }
+
     /// What one instance of a setting counts, with all in it. That of the settings in it is known.
     fn count(&mut self, setting: usize, totals: &[Counts]) -> Result<Counts, Stop>
         ensures goes { OnOk result (GoesOn (table self.old) (table self.new)) }
         ensures counts { IfOk result (λ c. (t : Valued) → AreMade (table self.old) → setting_at self.old setting ≡ Some t → AreTotals (table self.old) totals.now → HasAtLeast self.old.shapes.items t c) }
-        ensures cause { IfErr result (λ stop. (t : Valued) → AreMade (table self.old) → setting_at self.old setting ≡ Some t → IsOfSome self.old.shapes.items t stop) }
+        ensures cause { IfErr result (λ stop. (t : Valued) → AreMade (table self.old) → setting_at self.old setting ≡ Some t → AreTotals (table self.old) totals.now → IsOfCounts self.old.shapes.items t stop) }
     {
         let mut counts = Counts {
             instances: 1,
@@ -356,6 +387,7 @@ impl<'a> Settings<'a> {
         for number in 0..self.members(setting) {
             let other = self.count_member(setting, number, totals)?;
             counts = counts.with(other, 1);
+            self.refuse_passed(setting, number, counts)?;
         }
         Ok(counts)
     }
@@ -390,11 +422,10 @@ impl<'a> Settings<'a> {
         Ok(places)
     }
 
-    /// What one instance of each setting counts, with all in it.
-    fn totals(&mut self, used: &[usize]) -> Result<Vec<Counts>, Stop>
+    /// Counts what one instance of each setting has, with all in it.
+    fn count_all(&mut self, used: &[usize]) -> Result<(), Stop>
         ensures goes { OnOk result (GoesOn (table self.old) (table self.new)) }
-        ensures counts { IfOk result (λ totals. AreMade (table self.old) → AreTotals (table self.new) totals.items) }
-        ensures cause { IfErr result (λ stop. AreMade (table self.old) → AreReached (table self.old) used.now → IsOfReached self.old.shapes.items stop) }
+        ensures cause { IfErr result (λ stop. AreMade (table self.old) → AreReached (table self.old) used.now → IsOfProgram self.old.shapes.items stop) }
     {
         let places = self.inner_first(used)?;
         let mut totals = vec![in self.alloc; Counts::none(); self.settings.len()]?;
@@ -405,7 +436,7 @@ impl<'a> Settings<'a> {
                 totals[setting] = counts;
             }
         }
-        Ok(totals)
+        Ok(())
     }
 
     /// The settings of all instances, as `used` has them. A program that passes a limit is refused.
@@ -415,13 +446,7 @@ impl<'a> Settings<'a> {
         ensures cause { IfErr result (λ stop. AreSettings (table self.old) → IsOfProgram self.old.shapes.items stop) }
     {
         let used = self.used()?;
-        let totals = self.totals(&used)?;
-        let Some(counts) = totals.first() else {
-            return Ok(used);
-        };
-        match counts.passed() {
-            Some(why) => Err(self.work.refused(why)),
-            None => Ok(used),
-        }
+        self.count_all(&used)?;
+        Ok(used)
     }
 }

@@ -1,4 +1,3 @@
-use Rattle.std.proofs.Common.{◌≡◌}
 use Rattle.lft_settings.specs.Finding.{is_open}
 use Rattle.lft_settings.proofs.Finding.{next_left, path_closed, path_left}
 use Rattle.lft_settings.proofs.path.Path.pop.Goals as goal

@@ -1,9 +1,7 @@
-use Rattle.std.proofs.Common.{◌≡◌, [], ℕ, List, Some, inl, sym, subst, ◌∙◌}
+use Rattle.std.proofs.Common.{◌≡◌, ℕ, List, Some, sym, subst}
 use Rattle.std.proofs.lemmas.Result.{err_from_is_err_and}
 use Rattle.lft_lists.proofs.Options.{found}
-use Rattle.lft_shapes.specs.declared.shapes.Shape.{Shape}
 use Rattle.lft_whole.specs.declared.tree.Term.{Term}
-use Rattle.lft_settings.specs.declared.path.Wanted.{Wanted}
 use Rattle.lft_settings.specs.Finding.{AddsOnly, AreNeeded, is_open}
 use Rattle.lft_settings.specs.Noted.{AreMade, GoesOn, table}
 use Rattle.lft_settings.specs.Places.{IsSum}

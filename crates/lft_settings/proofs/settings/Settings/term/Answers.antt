@@ -1,6 +1,5 @@
 use Rattle.std.proofs.Common.{◌≡◌, Some, IfErr, IfOk, IfSome, sym, subst}
 use Rattle.std.proofs.lemmas.Result.{on_ok_weaker}
-use Rattle.lft_sources.specs.declared.stop.Stop.{Stop}
 use Rattle.lft_whole.specs.declared.tree.Count.{Count}
 use Rattle.lft_settings.specs.Noted.{AreMade, table}
 use Rattle.lft_settings.specs.Places.{IsCount}

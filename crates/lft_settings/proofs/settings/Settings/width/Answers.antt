@@ -2,7 +2,6 @@ use Rattle.std.proofs.Common.{List, subst, sym, ◌∙◌}
 use Rattle.std.proofs.lemmas.Result.{err_from_is_err_and}
 use Rattle.lft_shapes.specs.declared.shapes.Shape.{Shape}
 use Rattle.lft_settings.specs.Finding.{IsFirst, IsPath}
-use Rattle.lft_settings.specs.Noted.{table}
 use Rattle.lft_settings.specs.Places.{IsWidth}
 use Rattle.lft_settings.specs.Refused.{IsOfWidth, Leads}
 use Rattle.lft_settings.proofs.Keeping.{goes_further, goes_nowhere}

@@ -1,6 +1,6 @@
 use Rattle.lft_settings.specs.Noted.{AreMade, GoesOn, table}
 use Rattle.lft_settings.specs.Passed.{AreTotals}
-use Rattle.lft_settings.proofs.settings.Settings.totals.Given as goal
+use Rattle.lft_settings.proofs.settings.Settings.count_all.Given as goal
 
 abbrev pub invariant-loop-place : goal.invariant-loop-place
 invariant-loop-place l = record {
