@@ -339,6 +339,7 @@ def pairs():
     case("three traces", ["pair", *USUAL, "trace.csv", "third.csv"], refused("error: unexpected argument 'third.csv' found\n"))
     case("`diff` as a command", ["diff", *USUAL, "trace.csv"], refused("error: unrecognized subcommand 'diff'\n"))
     case("two traces to judge", ["judge", *USUAL, "trace.csv"], refused("error: unexpected argument 'trace.csv' found\n"))
+    case("a word with control and format characters", ["judge", *USUAL, "a\x1b[31m\u202eb"], refused("error: unexpected argument 'a\ufffd[31m\\u{202e}b' found\n"))
     paired("no workers for two traces", refused("error: invalid value '0' for '--workers <N>': 0 is not in 1..=64\n"), more=["--workers", "0"])
     case("a second that isn't there", ["pair", *USUAL, "nowhere.csv"], fault("read 1 Failed nowhere.csv"))
     case("a second that isn't there, of a program with a fault", ["pair", "trace.csv", "externals.csv", "trace.csv", "nowhere.csv"], fault("read 1 Failed nowhere.csv"))

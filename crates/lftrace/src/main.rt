@@ -16,6 +16,8 @@ use lft_front::{
     Fault, Part, bundle_answer, explain_bundle_answer, finish, read_input, refusal_of_bundle,
 };
 use lft_record::record_plan;
+use lft_refusals::words::push_bytes;
+use lft_tag::NoMemory;
 use std::alloc::Global;
 use std::io::{BufWriter, IsTerminal, Read, Write};
 use std::process::ExitCode;
@@ -238,6 +240,25 @@ fn answer_of<R: Files + Threads + Sync, W: Write>(
     }
 }
 
+/// Why the command line is refused, in lines, as a text is quoted: its words may have control and format characters.
+fn refusal_words(alloc: Global, error: &clap::Error) -> Result<String, NoMemory> {
+    let text = format!(in alloc; "{error}")?;
+    let mut words = String::new(alloc);
+    for line in text.lines() {
+        push_bytes(alloc, &mut words, line.as_bytes())?;
+        words.push_str("\n")?;
+    }
+    Ok(words)
+}
+
+/// Says why the command line is refused.
+fn say_refused(rt: &HostRuntime, alloc: Global, error: &clap::Error) {
+    let _ = match refusal_words(alloc, error) {
+        Ok(words) => eprint!(rt; "{words}"),
+        Err(_) => error.print(rt),
+    };
+}
+
 fn main(rt: HostRuntime) -> ExitCode {
     let alloc = rt.alloc();
     let words: Vec<String> = match env::args(&rt) {
@@ -255,10 +276,13 @@ fn main(rt: HostRuntime) -> ExitCode {
     };
     let job = match read_words(alloc, words.as_slice()) {
         Ok(job) => job,
+        Err(error) if error.use_stderr() => {
+            say_refused(&rt, alloc, &error);
+            return ExitCode::from(2);
+        }
         Err(error) => {
             let printed = error.print(&rt);
-            let refused = error.use_stderr() || printed.is_err();
-            return ExitCode::from(if refused { 2 } else { 0 });
+            return ExitCode::from(if printed.is_err() { 2 } else { 0 });
         }
     };
     let mut out = io::writer(&rt);
