@@ -5,6 +5,5 @@ mod Named
 mod Names
 mod Needing
 mod Pairing
-mod Refusing
 mod Standing
 mod Turns

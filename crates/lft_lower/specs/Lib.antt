@@ -1,4 +1,3 @@
-pub mod Causes
 pub mod Lowered
 pub mod Needed
 pub mod Programs

@@ -1,25 +1,19 @@
 -- Why what is written isn't lowered.
-use Rattle.std.specs.Prelude.{◌≡◌, ◌<◌, ◌⊎◌, ◌==◌, ℕ, Bool, true, false, List, [], IsSomeAnd, Option, Some, None, slice_get}
+use Rattle.std.specs.Prelude.{◌≡◌, ◌<◌, ◌⊎◌, ℕ, Bool, true, false, List, IsSomeAnd, Option, None, slice_get}
 use Rattle.lft_scope.specs.Causes.{longest}
 use Rattle.lft_tree.specs.Tree.{nanoseconds}
 use Rattle.lft_sources.specs.declared.source.SourceFile.{SourceFile}
 use Rattle.lft_sources.specs.declared.stop.Refusal.{Refusal}
 use Rattle.lft_sources.specs.declared.why.Why.{Why}
 use Rattle.lft_sources.specs.declared.why.Why.TheVariants as why
-use Rattle.lft_shapes.specs.declared.shapes.Child.{Child}
 use Rattle.lft_shapes.specs.declared.shapes.Given.{Given}
 use Rattle.lft_shapes.specs.declared.shapes.InheritedParameter.{InheritedParameter}
 use Rattle.lft_shapes.specs.declared.shapes.Shape.{Shape}
-use Rattle.lft_shapes.specs.Refused.{why_of}
-use Rattle.lft_shapes.specs.Shapes.{child_at}
 use Rattle.lft_whole.specs.declared.tree.Action.{Action}
 use Rattle.lft_whole.specs.declared.tree.Connection.{Connection}
 use Rattle.lft_whole.specs.declared.tree.Effect.{Effect}
 use Rattle.lft_whole.specs.declared.tree.Effect.TheVariants as effects
 use Rattle.lft_whole.specs.declared.tree.Expression.{Expression}
-use Rattle.lft_whole.specs.declared.tree.Member.{Member}
-use Rattle.lft_whole.specs.declared.tree.Member.TheVariants as member
-use Rattle.lft_whole.specs.declared.tree.Reaction.{Reaction}
 use Rattle.lft_whole.specs.declared.tree.Timer.{Timer}
 use Rattle.lft_whole.specs.declared.tree.Trigger.{Trigger}
 use Rattle.lft_whole.specs.declared.tree.Trigger.TheVariants as triggers
@@ -27,10 +21,10 @@ use Rattle.lft_whole.specs.declared.tree.Value.{Value}
 use Rattle.lft_whole.specs.declared.tree.Value.TheVariants as value
 use Rattle.lft_settings.specs.declared.settings.Settings.{Settings}
 use Rattle.lft_settings.specs.Settings.{shape_at}
-use Rattle.lft_meanings.specs.Meanings.{Here, shape_inside}
-use Rattle.lft_meanings.specs.Refused.{IsAt, IsOfOne, IsOfReference, IsOfSome, IsPassed}
+use Rattle.lft_meanings.specs.Meanings.{Here}
+use Rattle.lft_meanings.specs.Refused.{IsAt, IsOfOne, IsOfReference}
 use Rattle.lft_lower.specs.Lowered.{is_forever, is_spaced}
-use Rattle.lft_lower.specs.Needed.{LacksGiven, is_timed}
+use Rattle.lft_lower.specs.Needed.{is_timed}
 use Rattle.lft_lower.specs.Programs.{decentralized_in}
 use Rattle.lft_lower.specs.Times.{named_by, time_in}
 
@@ -98,14 +92,6 @@ abbrev pub IsOfEffect : Here → ℕ → Effect → Refusal → Type 0
 IsOfEffect h file (effects.Mode at) refusal = IsAt file at refusal × (refusal.why ≡ why.Mode)
 IsOfEffect h file (effects.Reference r) refusal = IsOfReference h file r refusal
 
--- the refusal is of a reaction that has no trigger, or of one of its triggers
-abbrev pub AreOfTriggers : Here → ℕ → Reaction → Refusal → Type 0
-AreOfTriggers h file re r = ((re.triggers.items ≡ []) × IsAt file re.at r × (r.why ≡ why.NoTrigger)) ⊎ IsOfSome (IsOfTrigger h file) re.triggers.items r
-
--- the refusal is of the triggers, the uses or the effects of a reaction
-abbrev pub IsOfReaction : Here → ℕ → Reaction → Refusal → Type 0
-IsOfReaction h file re r = AreOfTriggers h file re r ⊎ IsOfOne h file re.uses.items r ⊎ IsOfSome (IsOfEffect h file) re.effects.items r
-
 -- ---- connections
 
 -- the refusal is of a reference on one of the sides
@@ -116,40 +102,6 @@ IsOfSides h file c r = IsOfOne h file c.sources.items r ⊎ IsOfOne h file c.des
 abbrev pub IsOfConnection : Here → ℕ → Connection → Refusal → Type 0
 IsOfConnection h file c r = ((c.is_physical ≡ true) × IsAt file c.arrow r × (r.why ≡ why.PhysicalConnection)) ⊎ IsOfTime h.shape file c.delay r ⊎ IsOfSides h file c r
 
--- ---- instances
-
--- the shape in the instance of this number and what the instance gives are such
-abbrev pub IsInside : Here → ℕ → (Shape → Child → Type 0) → Type 0
-IsInside h n Are = (inner : Shape) × (child : Child) × (shape_inside h n ≡ Some inner) × (child_at h.shape.children.items n ≡ Some child) × Are inner child
-
--- the refusal is of the instance at this token, which lacks a time; or of a time that it gives
-abbrev pub IsOfInstance : Here → ℕ → ℕ → ℕ → Refusal → Type 0
-IsOfInstance h file n at r = IsInside h n (λ inner child. (IsAt file at r × (r.why ≡ why.MissingTime) × LacksGiven inner child) ⊎ IsOfSome (IsOfGiven h.shape file inner) child.given.items r)
-
--- ---- members and reactors
-
--- the refusal is of the member of this number, by its kind
-abbrev pub IsOfMember : Here → ℕ → ℕ → Member → Refusal → Type 0
-IsOfMember h file n (member.Port port) r = ⊥
-IsOfMember h file n (member.Timer timer) r = IsOfTimer h.shape file timer r
-IsOfMember h file n (member.Action action) r = IsOfAction h.shape file action r
-IsOfMember h file n (member.Reaction reaction) r = IsOfReaction h file reaction r
-IsOfMember h file n (member.Instance instance) r = IsOfInstance h file n instance.name.at r
-IsOfMember h file n (member.Connection c) r = IsOfConnection h file c r
-IsOfMember h file n (member.Foreign what at) r = IsAt file at r × (r.why ≡ why_of what)
-
--- the refusal is of a member of the shape, in the setting
-abbrev pub IsOfMembers : Settings → ℕ → Shape → Refusal → Type 0
-IsOfMembers s setting shape r = (n : ℕ) × IsSomeAnd (slice_get shape.members.items n) (λ m. IsOfMember (record { settings = s; setting = setting; shape = shape }) m.file n m.member.now r)
-
--- the refusal is of a parameter or a member of the shape, in the setting; that of number 0 is the main one
-abbrev pub IsOfReactor : Settings → ℕ → Shape → Refusal → Type 0
-IsOfReactor s setting shape r = ((n : ℕ) × IsOfParameter (setting == 0) shape n r) ⊎ IsOfMembers s setting shape r
-
--- the refusal is of the reactor of the setting
-abbrev pub IsOfSetting : Settings → ℕ → Refusal → Type 0
-IsOfSetting s setting r = IsSomeAnd (shape_at s setting) (λ shape. IsOfReactor s setting shape r)
-
 -- ---- programs
 
 -- the refusal is of the word that the coordination is decentralized, in the first file
@@ -159,7 +111,3 @@ IsDecentralized files r = IsSomeAnd (decentralized_in files) (λ token. IsAt 0 t
 -- the refusal is of that word, of a program whose main reactor is federated
 abbrev pub IsOfFederation : List SourceFile → Settings → Refusal → Type 0
 IsOfFederation files s r = IsSomeAnd (shape_at s 0) (λ main. (main.class.reactor.now.is_federated ≡ true) × IsDecentralized files r)
-
--- the refusal is of the program of these files as a whole, or of the reactor of one of the settings that are used
-abbrev pub IsOfSettings : List SourceFile → Settings → List ℕ → Refusal → Type 0
-IsOfSettings files s used r = IsPassed s.work.main r ⊎ IsOfFederation files s r ⊎ IsOfSome (IsOfSetting s) used r

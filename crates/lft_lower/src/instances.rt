@@ -1,15 +1,15 @@
 //! What an instance becomes.
 
-ghost use Rattle.std.specs.Prelude.{◌≡◌, ◌<◌, ◌≤◌, ◌++◌, ◌⊎◌, [], ◌∷◌, Some, false, IfErr, IfOk, OnOk, flat_map, map, option_map, string_bytes, true, unwrap_or};
+ghost use Rattle.std.specs.Prelude.{◌≡◌, ◌<◌, ◌≤◌, ◌++◌, [], ◌∷◌, Some, false, IfErr, IfOk, OnOk, flat_map, map, option_map, string_bytes, true, unwrap_or};
 ghost use Rattle.std.specs.List.{All, cons_option};
 ghost use Rattle.lft_tree.specs.ItemView.{assignment_view, member_views};
 ghost use Rattle.lft_meanings.specs.Meanings.{here, token_in};
 ghost use Rattle.lft_meanings.specs.Names.{texts};
 ghost use Rattle.lft_meanings.specs.Places.{several};
-ghost use Rattle.lft_meanings.specs.Refused.{IfRefused, IsOfSome, IsPassed};
+ghost use Rattle.lft_meanings.specs.Refused.{IfRefused, IsPassed};
 ghost use Rattle.lft_lower.specs.Lowered.{Adds, AreGiven, AreInstances, IsGiven, given_times, instances, reactor_at, time_given};
 ghost use Rattle.lft_lower.specs.Needed.{is_needed, needed_given, needed_in};
-ghost use Rattle.lft_lower.specs.Refused.{IsOfGiven, IsOfInstance};
+ghost use Rattle.lft_lower.specs.Refused.{IsOfGiven};
 ghost use Rattle.lft_lower.specs.Standing.{AddsAt, given_token, given_tokens, instance_tokens, tokens_of_given};
 
 use crate::copies::copied_given;
@@ -119,7 +119,6 @@ fn given_times(
     ensures given { IfOk result (λ list. map assignment_view list.items ≡ given_times inner.now child.now) }
     ensures at { IfOk result (λ list. flat_map given_tokens list.items ≡ flat_map (given_token (token_in within.entry) inner.now) child.now.given.items) }
     ensures read { OnOk result (All (IsGiven within.entry.shape.now inner.now) child.now.given.items) }
-    ensures cause { IfErr result (IfRefused (IsOfSome (IsOfGiven within.entry.shape.now within.entry.file inner.now) child.now.given.items)) }
 {
     let mut list = Vec::new(alloc);
     for place in 0..child.given.len() {
@@ -134,7 +133,6 @@ fn given_times(
 fn checked(maker: Maker, within: Within, member: usize, at: usize) -> Result<Vec<Assignment>, Stop>
     ensures given { maker.entry.settings.now ≡ within.entry.settings.now → IfOk result (λ given. AreGiven (here within.entry) member (map assignment_view given.items)) }
     ensures at { IfOk result (λ given. flat_map given_tokens given.items ≡ tokens_of_given (token_in within.entry) (here within.entry) member) }
-    ensures cause { maker.entry.settings.now ≡ within.entry.settings.now → IfErr result (IfRefused (λ r. IsPassed within.entry.settings.now.work.main r ⊎ IsOfInstance (here within.entry) within.entry.file member at r)) }
 {
     let Some(child) = within.shape.child(member) else {
         return Err(within.settings.work.refused(Why::TooMuch));
@@ -217,7 +215,6 @@ pub(crate) fn push_instances(
 ) -> Result<(), Stop>
     ensures made { maker.entry.settings.now ≡ within.entry.settings.now → OnOk result (Adds list.old.items list.new.items (AreInstances (texts maker.entry.names.now) (here within.entry) member (string_bytes instance.now.name.text))) }
     ensures at { OnOk result (AddsAt list.old.items list.new.items (token_in within.entry instance.now.name.at) (All (λ tokens. tokens ≡ instance_tokens (token_in within.entry) (here within.entry) member instance.now))) }
-    ensures cause { maker.entry.settings.now ≡ within.entry.settings.now → IfErr result (IfRefused (λ r. IsPassed within.entry.settings.now.work.main r ⊎ IsOfInstance (here within.entry) within.entry.file member instance.now.name.at r)) }
 {
     let members = within.named(&instance.name, member);
     if members.count() == 0 {

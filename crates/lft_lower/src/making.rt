@@ -3,10 +3,9 @@
 ghost use Rattle.std.specs.Prelude.{◌≡◌, IfErr, IfOk, None, OnOk, true};
 ghost use Rattle.lft_sources.specs.declared.stop.Stop.TheVariants.{NoMemory};
 ghost use Rattle.lft_meanings.specs.Refused.{IfRefused};
-ghost use Rattle.lft_lower.specs.Causes.{HasCause};
 ghost use Rattle.lft_lower.specs.Programs.{IsCentralized, decentralized_in};
 ghost use Rattle.lft_lower.specs.Reactors.{IsLowering, IsProgram};
-ghost use Rattle.lft_lower.specs.Refused.{IsDecentralized, IsOfFederation, IsOfSettings};
+ghost use Rattle.lft_lower.specs.Refused.{IsDecentralized, IsOfFederation};
 
 use crate::instances::needed;
 use crate::maker::Maker;
@@ -131,7 +130,6 @@ fn lowered(
     used: &[usize],
 ) -> Result<Lowering, Stop>
     ensures made { IfOk result (λ lowering. IsProgram files.now settings.now used.now → IsLowering files.now lowering.tree) }
-    ensures cause { IfErr result (IfRefused (IsOfSettings files.now settings.now used.now)) }
 {
     let mut notes = notes(alloc, files, settings, used)?;
     let mut room = Room::new();
@@ -158,7 +156,6 @@ fn lowered(
 /// The core tree of the program that these files are.
 pub fn lower(alloc: Global, files: &[SourceFile]) -> Result<Lowering, Stop>
     ensures made { IfOk result (λ lowering. IsLowering files.now lowering.tree) }
-    ensures cause { IfErr result (HasCause files.now) }
 {
     let mut settings = Settings::of(alloc, files)?;
     let used = settings.counted()?;

@@ -8,9 +8,9 @@ ghost use Rattle.lft_tree.specs.Tree.{OnRef};
 ghost use Rattle.lft_shapes.specs.Shapes.{thing_named};
 ghost use Rattle.lft_meanings.specs.Meanings.{here, token_in};
 ghost use Rattle.lft_sources.specs.declared.stop.Stop.TheVariants.{NoMemory};
-ghost use Rattle.lft_meanings.specs.Refused.{IfRefused, IsOfSome, IsPassed};
+ghost use Rattle.lft_meanings.specs.Refused.{IfRefused, IsPassed};
 ghost use Rattle.lft_lower.specs.Lowered.{Adds, AreTriggers, IsAsleep, IsReaction, MeansAll, MeansEffect, MeansTrigger, all_triggers, asleep, effect_places, trigger_places};
-ghost use Rattle.lft_lower.specs.Refused.{AreOfTriggers, IsOfEffect, IsOfReaction, IsOfTrigger};
+ghost use Rattle.lft_lower.specs.Refused.{IsOfEffect, IsOfTrigger};
 ghost use Rattle.lft_meanings.specs.Standing.{ref_tokens};
 ghost use Rattle.lft_lower.specs.Standing.{AddsAt, all_trigger_tokens, reaction_tokens, tokens_of_effect, tokens_of_trigger, trigger_tokens};
 
@@ -89,7 +89,6 @@ fn triggers(
     ensures at { IfOk result (λ list. flat_map trigger_tokens list.items ≡ flat_map (tokens_of_trigger (token_in within.entry) (here within.entry)) reaction.now.triggers.items) }
     ensures some { OnOk result (reaction.now.triggers.items ≢ []) }
     ensures means { OnOk result (All (MeansTrigger (here within.entry)) reaction.now.triggers.items) }
-    ensures cause { IfErr result (IfRefused (λ r. IsPassed within.entry.settings.now.work.main r ⊎ AreOfTriggers (here within.entry) within.entry.file reaction.now r)) }
 {
     if reaction.triggers.is_empty() {
         return Err(Stop::at(Why::NoTrigger, within.file, reaction.at));
@@ -130,7 +129,6 @@ fn effects(
     ensures places { IfOk result (λ list. ref_views list.items ≡ flat_map (effect_places (here within.entry)) reaction.now.effects.items) }
     ensures at { IfOk result (λ list. ref_tokens list.items ≡ flat_map (tokens_of_effect (token_in within.entry) (here within.entry)) reaction.now.effects.items) }
     ensures means { OnOk result (All (MeansEffect (here within.entry)) reaction.now.effects.items) }
-    ensures cause { IfErr result (IfRefused (λ r. IsPassed within.entry.settings.now.work.main r ⊎ IsOfSome (IsOfEffect (here within.entry) within.entry.file) reaction.now.effects.items r)) }
 {
     let mut list = Vec::new(alloc);
     for place in 0..reaction.effects.len() {
@@ -201,7 +199,6 @@ fn some_triggers(
     ensures triggers { IfOk result (λ found. Adds list.old.items list.new.items (λ more. AreTriggers (here within.entry) reaction.now (option_map string_bytes never.old) more (option_map string_bytes never.new) (map trigger_view found.items))) }
     ensures tokens { IfOk result (λ found. flat_map trigger_tokens found.items ≡ all_trigger_tokens (token_in within.entry) (here within.entry) reaction.now) }
     ensures at { OnOk result (AddsAt list.old.items list.new.items (token_in within.entry reaction.now.at) (λ parts. flat_map (λ tokens. tokens) parts ≡ [])) }
-    ensures cause { IfErr result (IfRefused (λ r. IsPassed within.entry.settings.now.work.main r ⊎ AreOfTriggers (here within.entry) within.entry.file reaction.now r)) }
 {
     let mut triggers = triggers(alloc, room, within, reaction)?;
     let count = triggers.len();
@@ -231,7 +228,6 @@ pub(crate) fn push_reaction(
     ensures means { OnOk result (MeansAll (here within.entry) reaction.now) }
     ensures lowered { OnOk result (Adds list.old.items list.new.items (λ more. IsReaction (here within.entry) reaction.now (option_map string_bytes never.old) more (option_map string_bytes never.new))) }
     ensures at { OnOk result (AddsAt list.old.items list.new.items (token_in within.entry reaction.now.at) (λ parts. flat_map (λ tokens. tokens) parts ≡ reaction_tokens (token_in within.entry) (here within.entry) reaction.now)) }
-    ensures cause { IfErr result (IfRefused (λ r. IsPassed within.entry.settings.now.work.main r ⊎ IsOfReaction (here within.entry) within.entry.file reaction.now r)) }
 {
     let triggers = some_triggers(alloc, room, within, reaction, never, list)?;
     let uses = places(alloc, room, within, &reaction.uses)?;

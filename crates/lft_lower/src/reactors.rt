@@ -7,9 +7,9 @@ ghost use Rattle.lft_tree.specs.Tree.{ActionMember, TimerMember};
 ghost use Rattle.lft_meanings.specs.Meanings.{here, token_in};
 ghost use Rattle.lft_meanings.specs.Names.{texts};
 ghost use Rattle.lft_meanings.specs.Places.{several};
-ghost use Rattle.lft_meanings.specs.Refused.{IfRefused, IsOfSome, IsPassed};
+ghost use Rattle.lft_meanings.specs.Refused.{IfRefused, IsPassed};
 ghost use Rattle.lft_lower.specs.Lowered.{Adds, IsLowered, IsMeasured, IsPeriod, IsRead, action_tree, is_spaced, period_at, ports, timer_tree};
-ghost use Rattle.lft_lower.specs.Refused.{IsOfAction, IsOfDefault, IsOfMember, IsOfMembers, IsOfParameter, IsOfPeriod, IsOfReactor, IsOfSetting, IsOfTimer};
+ghost use Rattle.lft_lower.specs.Refused.{IsOfAction, IsOfDefault, IsOfParameter, IsOfPeriod, IsOfTimer};
 ghost use Rattle.lft_lower.specs.Reactors.{AreMembers, AreReactors, HasDefault, IsDefault, IsReactor, default_time, timed_parameter, timed_parameters};
 ghost use Rattle.lft_lowering.specs.Channels.{below};
 ghost use Rattle.lft_lower.specs.Standing.{AddsAt, AreAt, ArePartsAt, ArePlaced, IsPlaced, declared_at, head_at, parameter_token, period_tokens, time_tokens, written_tokens};
@@ -254,7 +254,6 @@ fn push_member(
 ) -> Result<(), Stop>
     ensures made { maker.entry.settings.now ≡ within.entry.settings.now → OnOk result (Adds list.old.items list.new.items (λ more. IsLowered (texts maker.entry.names.now) (here within.entry) number (option_map string_bytes never.old) more (option_map string_bytes never.new) member.now)) }
     ensures at { OnOk result (AddsAt list.old.items list.new.items (token_in within.entry (declared_at member.now)) (ArePartsAt (token_in within.entry) (here within.entry) number member.now)) }
-    ensures cause { maker.entry.settings.now ≡ within.entry.settings.now → IfErr result (IfRefused (λ r. IsPassed within.entry.settings.now.work.main r ⊎ IsOfMember (here within.entry) within.entry.file number member.now r)) }
 {
     let alloc = maker.alloc;
     match member {
@@ -318,7 +317,6 @@ fn members<'s, 'a>(
 ) -> Result<Vec<Member>, Stop>
     ensures made { IfOk result (λ list. AreMembers maker.entry.settings.now (texts maker.entry.names.now) setting shape.now (member_views list.items)) }
     ensures at { IfOk result (λ list. AreAt maker.entry.files.now (record { settings = maker.entry.settings.now; setting = setting; shape = shape.now }) shape.now.members.items list.items) }
-    ensures cause { IfErr result (IfRefused (λ r. IsPassed maker.entry.settings.now.work.main r ⊎ IsOfMembers maker.entry.settings.now setting shape.now r)) }
 {
     let mut list = Vec::new(maker.alloc);
     let mut never = None;
@@ -366,7 +364,6 @@ fn core_reactor<'s, 'a>(
 ) -> Result<Reactor, Stop>
     ensures made { IfOk result (λ made. IsReactor maker.entry.settings.now (texts maker.entry.names.now) setting shape.now (reactor_view made)) }
     ensures at { IfOk result (λ made. IsPlaced maker.entry.files.now maker.entry.settings.now setting shape.now made) }
-    ensures cause { IfErr result (IfRefused (λ r. IsPassed maker.entry.settings.now.work.main r ⊎ IsOfReactor maker.entry.settings.now setting shape.now r)) }
 {
     let is_main = setting == 0;
     let name = match maker.name(setting) {
@@ -393,7 +390,6 @@ pub(crate) fn reactors(
 ) -> Result<Vec<Item>, Stop>
     ensures made { IfOk result (λ items. AreReactors maker.entry.settings.now (texts maker.entry.names.now) settings.now (map item_view items.items)) }
     ensures at { IfOk result (λ items. ArePlaced maker.entry.files.now maker.entry.settings.now settings.now items.items) }
-    ensures cause { IfErr result (IfRefused (λ r. IsPassed maker.entry.settings.now.work.main r ⊎ IsOfSome (IsOfSetting maker.entry.settings.now) settings.now r)) }
 {
     let mut items = Vec::new(maker.alloc);
     for place in 0..settings.len() {

@@ -1,4 +1,4 @@
--- Why a program isn't lowered: what is said of it holds of its files.
+-- Why a program isn't lowered, and of which of its files.
 use Rattle.std.specs.Prelude.{◌≡◌, ◌⊎◌, ◌<◌, ℕ, IsSomeAnd, List, [], ◌∷◌, ◌++◌, None, length, slice_get, string_bytes}
 use Rattle.lft_sources.specs.declared.source.SourceFile.{SourceFile}
 use Rattle.lft_sources.specs.declared.stop.Place.{Place}
@@ -9,7 +9,6 @@ use Rattle.lft_sources.specs.declared.why.Why.TheVariants as why
 use Rattle.lft_imports.specs.Files.{IsImportOf, IsRefusedFor, RefusesNext, paths_of_files}
 use Rattle.lft_imports.specs.Paths.{normal}
 use Rattle.lft_imports.specs.declared.sources.Sources.{Sources}
-use Rattle.lft_lower.specs.Causes.{HasCause}
 use Rattle.lft_lower.specs.Reactors.{IsLowering}
 use Rattle.lft_scope.specs.Causes.{IsFirst, causes}
 use Rattle.lft_tree.specs.View.{tree_view}
@@ -45,11 +44,11 @@ IsOfLater files first r = ((first ≡ []) × IsOfImported files r) ⊎ IsOfImpor
 abbrev pub IsOfReading : List ℕ → List ℕ → List SourceFile → List ℕ → Refusal → Type 0
 IsOfReading path text files first r = ((first ≡ []) × IsOfFirst path text files r) ⊎ (BeginWith path text files × IsOfLater files first r)
 
--- The refusal is of the program of these files, and its cause holds; nothing is said first.
+-- The refusal is of the program of these files; nothing is said first.
 abbrev pub AreRefused : List SourceFile → List SourceFile → List ℕ → Refusal → Type 0
-AreRefused these files first r = (files ≡ these) × (first ≡ []) × HasCause files (stop.Refused r)
+AreRefused these files first r = (files ≡ these) × (first ≡ [])
 
--- The refusal is of a file as the program of this path and this text is read; or of all its files, and its cause holds.
+-- The refusal is of a file as the program of this path and this text is read; or of all its files.
 abbrev pub IsOfProgram : List ℕ → List ℕ → List SourceFile → List ℕ → Refusal → Type 0
 IsOfProgram path text files first r = IsOfReading path text files first r ⊎ (AreFilesOf path text files × AreRefused files files first r)
 

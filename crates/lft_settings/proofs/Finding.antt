@@ -10,10 +10,7 @@ use Rattle.std.proofs.lemmas.Cmp.{nat_cmp_total, tied_itself}
 use Rattle.std.proofs.lemmas.Map.Lookups.{exact_pairs, exact_unsigned}
 use Rattle.std.proofs.lemmas.Option.{slice_get_within}
 use Rattle.lft_lists.proofs.Places.{get_last, get_push, get_push_cases, same_some}
-use Rattle.lft_sources.specs.declared.stop.Stop.{Stop}
-use Rattle.lft_sources.specs.declared.stop.Stop.TheVariants.{Refused}
-use Rattle.lft_sources.specs.declared.why.Why.TheVariants.{WidthOfItself}
-use Rattle.lft_shapes.specs.Shapes.{is_at as at_token, width_of}
+use Rattle.lft_shapes.specs.Shapes.{width_of}
 use Rattle.lft_shapes.specs.declared.shapes.Inherited.{Inherited}
 use Rattle.lft_shapes.specs.declared.shapes.Shape.{Shape}
 use Rattle.lft_shapes.specs.declared.shapes.Thing.TheVariants as thing
@@ -27,7 +24,7 @@ use Rattle.lft_settings.specs.declared.settings.Setting.{Setting}
 use Rattle.lft_settings.specs.declared.settings.Settings.{Settings}
 use Rattle.lft_settings.specs.Finding.{AddsIf, AddsOnly, AreNeeded, AreNext, ArePath, IsFirst, IsOpenAt, LeadsTo, Needs, pair_cmp}
 use Rattle.lft_settings.specs.Noted.{GoesOn, IsMeaning, Table}
-use Rattle.lft_settings.specs.Refused.{HangsFar, HangsOn, IsCounted, IsCountedBy, IsCountedIn, IsOfCount, IsOfTerms, IsOfWidth, Leads}
+use Rattle.lft_settings.specs.Refused.{HangsOn, IsCounted, IsCountedBy, IsCountedIn, Leads}
 use Rattle.lft_settings.specs.Places.{member_in, written_width}
 use Rattle.lft_settings.specs.Settings.{setting_at, setting_in}
 use Rattle.lft_settings.specs.Widths.{member_at}
@@ -56,10 +53,6 @@ adds_further P Q R one two three p q first second w h = elim (second w h) [
 pub adds_term : (t0 t1 : Table) (new : List Setting) → GoesOn t0 t1 → Stays t1.settings new → (t : Valued) (terms : List Term) (i : ℕ) (term : Term) → slice_get terms i ≡ Some term → (one two three : List Wanted) → AddsOnly (IsCountedIn t0.shapes t terms) t1.settings one two → AddsOnly (IsCountedBy t1.shapes t term.count) new two three → AddsOnly (IsCountedIn t0.shapes t terms) new one three
 adds_term t0 t1 new goes stays t terms i term there one two three first second =
     adds_further _ _ _ one two three (λ w (u, at, is). (u, stays w.setting u at, is)) (λ w (u, at, by). (u, at, (i, term, there, subst (λ shapes. IsCountedBy shapes t term.count u w.member) goes.shapes by))) first second
-
--- a refusal of one of the terms
-pub of_term : (t0 t1 : Table) → GoesOn t0 t1 → (t : Valued) (file : ℕ) (terms : List Term) (i : ℕ) (term : Term) → slice_get terms i ≡ Some term → (s : Stop) → IsOfCount t1.shapes t file term.at term.count s → IsOfTerms t0.shapes t file terms s
-of_term t0 t1 goes t file terms i term there s of = (i, term, there, subst (λ shapes. IsOfCount shapes t file term.at term.count s) goes.shapes of)
 
 -- what a reference counts is what it means, and the instance that this is in
 pub adds_thing : (shapes : List Shape) (old new : List Setting) → Stays old new → (t : Valued) (setting : ℕ) → setting_in old setting ≡ Some t → (r : Reference) (meaning : Meaning) → IsMeaning shapes new t r meaning → (one two three : List Wanted) → AddsIf (λ w. (w.setting ≡ meaning.setting) × (meaning.thing ≡ thing.Member w.member)) one two → AddsIf (λ w. (w.setting ≡ setting) × (meaning.instance ≡ Some w.member)) two three → AddsOnly (IsCounted shapes t r) new one three
@@ -330,15 +323,3 @@ module _ (s : Settings) (w : Wanted) (found : Inherited) (width : Width) (there 
     where
       no_item : (list : List Wanted) (i : ℕ) (y : Wanted) → list ≡ [] → slice_get list i ≡ Some y → ⊥
       no_item list i y e f = let g : slice_get [] i ≡ Some y = subst (λ (l : List Wanted). slice_get l i ≡ Some y) e f in cc
-
-  -- a refusal of a term
-  pub of_its_terms : (t : Valued) (m : ℕ) → IsFirst s.shapes.items s.settings.items t m w → (stop : Stop) → ((u : Valued) → setting_at s w.setting ≡ Some u → IsOfTerms s.shapes.items u found.file width.terms.items stop) → IsOfWidth s.shapes.items t m stop
-  of_its_terms t m (u, at, way) stop of = inr (u, w.member, way, (found, width, member_is u at, wide, inl (of u at)))
-
-  -- or of the width, which hangs on itself
-  pub of_itself : (new : List Setting) → Stays s.settings.items new → (t : Valued) (m : ℕ) → IsFirst s.shapes.items s.settings.items t m w → LeadsTo s.shapes.items new w w → (stop : Stop) → stop ≡ Refused (record { why = WidthOfItself; place = record { file = found.file; token = at_token found.member.now } }) → IsOfWidth s.shapes.items t m stop
-  of_itself new stays t m (u, at, way) (v, one, (z, two, far)) stop is =
-      let here : setting_in new w.setting ≡ Some u = stays w.setting u at in
-      let a : v ≡ u = same_some (setting_in new w.setting) v u one here in
-      let b : z ≡ u = same_some (setting_in new w.setting) z u two here in
-      inr (u, w.member, way, (found, width, member_is u at, wide, inr (is, subst (λ (x : Valued). HangsFar s.shapes.items u w.member x w.member) b (subst (λ (x : Valued). HangsFar s.shapes.items x w.member z w.member) a far))))

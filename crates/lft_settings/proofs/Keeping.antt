@@ -16,7 +16,6 @@ use Rattle.std.proofs.lemmas.List.{map_push}
 use Rattle.std.proofs.lemmas.Option.{option_and_then_some, slice_get_within}
 use Rattle.lft_lists.proofs.Mapped.{mapped, mapped_from}
 use Rattle.lft_lists.proofs.Places.{get_last, get_push, get_push_cases, get_there, get_unwritten, get_write_cases, get_written, length_written, same_some}
-use Rattle.lft_whole.specs.declared.tree.Value.{Value}
 use Rattle.lft_shapes.specs.declared.shapes.Child.{Child}
 use Rattle.lft_shapes.specs.declared.shapes.Shape.{Shape}
 use Rattle.lft_shapes.specs.declared.scopes.Class.{Class}
@@ -26,7 +25,7 @@ use Rattle.lft_settings.specs.declared.settings.Setting.{Setting}
 use Rattle.lft_settings.specs.declared.settings.Settings.{Settings}
 use Rattle.lft_settings.specs.Noted.{Adds, AreMade, AreSettings, GoesOn, GoesOnIf, IsNoted, IsNumberOf, Known, Table, found_inside, noted_at, noted_for, only_inside, table}
 use Rattle.lft_settings.specs.Settings.{setting_in, valued}
-use Rattle.lft_settings.specs.Values.{IsUnsized, Valued, inside, main_setting, setting_of, value_written, values_inside, written_inside}
+use Rattle.lft_settings.specs.Values.{IsUnsized, Valued, inside, main_setting, setting_of, values_inside}
 use Rattle.lft_shapes.proofs.Rows.{map_written}
 use Rattle.lft_settings.proofs.Valuing.{alike, is_given}
 
@@ -339,12 +338,6 @@ module _ (shapes : List Shape) (settings : List Setting) (k m : ℕ) (x : Settin
 
   pub there_inside : (outer : Shape) (child : Child) (inner : Shape) → slice_get shapes x.shape ≡ Some outer → child_at outer.children.items m ≡ Some child → slice_get shapes child.shape ≡ Some inner → inside shapes t m ≡ Some (record { shape = child.shape; values = values_inside outer (map (λ v. Some v) x.values.items) child.given.items inner })
   there_inside outer child inner e f g = over ∙ ap (option_and_then (λ (o : Shape). option_and_then (setting_of shapes o (valued x).values) (child_at o.children.items m))) e ∙ ap (option_and_then (setting_of shapes outer (valued x).values)) f ∙ ap (option_map (λ (i : Shape). record { shape = child.shape; values = values_inside outer (valued x).values child.given.items i })) g
-
-  pub written_there : (outer : Shape) (child : Child) (inner : Shape) → slice_get shapes x.shape ≡ Some outer → child_at outer.children.items m ≡ Some child → slice_get shapes child.shape ≡ Some inner → (p : ℕ) → written_inside shapes t m p ≡ value_written child.given.items inner p
-  written_there outer child inner e f g p = ap (λ (v : Valued). written_inside shapes v m p) (sym (is_valued settings k x t is at)) ∙ ap (option_and_then (λ (o : Shape). option_and_then (given p) (child_at o.children.items m))) e ∙ ap (option_and_then (given p)) f ∙ ap (option_and_then (λ (i : Shape). value_written child.given.items i p)) g
-    where
-      given : ℕ → Child → Option Value
-      given p c = option_and_then (λ (i : Shape). value_written c.given.items i p) (slice_get shapes c.shape)
 
   pub is_inside : (outer : Shape) (child : Child) (inner : Shape) (vs : List ℤ) → slice_get shapes x.shape ≡ Some outer → child_at outer.children.items m ≡ Some child → slice_get shapes child.shape ≡ Some inner → map (λ v. Some v) vs ≡ values_inside outer (map (λ v. Some v) x.values.items) child.given.items inner → inside shapes t m ≡ Some (record { shape = child.shape; values = map (λ v. Some v) vs })
   is_inside outer child inner vs e f g values = there_inside outer child inner e f g ∙ ap (λ vs. Some (record { shape = child.shape; values = vs })) (sym values)

@@ -1,7 +1,6 @@
 -- Counts of a program's things, and limits that they pass.
-use Rattle.std.proofs.Common.{◌≡◌, ℕ, zero, suc, ◌+◌, ◌<◌, ◌≤◌, inl, inr, Bool, true, false, cond, List, [], ◌∷◌, ◌++◌, length, map, replicate, Option, Some, None, slice_get, slice_set, refl, sym, ap, subst, ◌∙◌, arith}
-use Rattle.std.specs.Prelude.{nat_lt, option_map, unwrap_or}
-use Rattle.std.specs.Option.{option_and_then}
+use Rattle.std.proofs.Common.{◌≡◌, ℕ, zero, suc, ◌+◌, ◌<◌, ◌≤◌, inl, inr, Bool, true, false, List, [], ◌∷◌, ◌++◌, length, map, replicate, Option, Some, None, slice_get, slice_set, refl, sym, ap, subst, ◌∙◌, arith}
+use Rattle.std.specs.Prelude.{option_map, unwrap_or}
 use Rattle.std.proofs.lemmas.Bool.Decides.{nat_tests}
 use Rattle.std.proofs.lemmas.List.FromFn.{map-range_with_len_more}
 use Rattle.std.proofs.lemmas.Option.{slice_get_within}
@@ -12,21 +11,17 @@ use Rattle.lft_whole.specs.declared.tree.Instance.{Instance}
 use Rattle.lft_whole.specs.declared.tree.Port.{Port}
 use Rattle.lft_whole.specs.declared.tree.Member.{Member}
 use Rattle.lft_whole.specs.declared.tree.Member.TheVariants as member
-use Rattle.lft_sources.specs.declared.why.Why.{Why}
 use Rattle.lft_shapes.specs.declared.shapes.Inherited.{Inherited}
 use Rattle.lft_shapes.specs.declared.shapes.Shape.{Shape}
 use Rattle.lft_settings.specs.declared.counts.Counts.{Counts}
-use Rattle.lft_settings.specs.Limits.{Limit, first_passed, limits}
-use Rattle.lft_settings.specs.Passed.{AreAtMost, AreTooMany, AreTotals, Counting, HasAtLeast, InnerHas, MemberHas, SettingHas, all_counts, both, counts_at, counts_in, counts_of, each, many_at, member_counts, members_of, nothing, pairs_at, Passes}
+use Rattle.lft_settings.specs.Passed.{AreAtMost, AreTotals, Counting, HasAtLeast, InnerHas, MemberHas, SettingHas, all_counts, both, counts_at, counts_in, counts_of, each, many_at, member_counts, members_of, nothing, pairs_at}
 use Rattle.lft_settings.specs.Places.{HasPairs, IsMany, all_places, how_many, member_in, width_in}
-use Rattle.lft_settings.specs.Noted.{AreMade, AreSettings, GoesOn, IsNumberOf, Table}
+use Rattle.lft_settings.specs.Noted.{AreMade, GoesOn, IsNumberOf, Table}
 use Rattle.lft_settings.specs.Settings.{setting_in, valued}
-use Rattle.lft_settings.specs.Used.{IsReached}
 use Rattle.lft_settings.specs.Values.{Valued, inside}
 use Rattle.lft_lists.proofs.Places.{get_same, get_there, get_write_cases, length_same, same_some}
 use Rattle.lft_settings.proofs.Counting.{all_deeper, all_deeper_right, how_many_deeper}
 use Rattle.lft_settings.proofs.Keeping.{setting_of_number}
-use Rattle.lft_settings.proofs.Using.{Using, one_number}
 
 -- ---- what is at most as much
 
@@ -105,47 +100,6 @@ counts_more_right shapes d e t = let s : e + d ≡ d + e = omega arith in subst 
 
 pub counted : (shapes : List Shape) (d : ℕ) (t : Valued) (m : ℕ) (found : Inherited) (x : Member) → member_in shapes t m ≡ Some found → found.member.now ≡ x → counts_at shapes d (counts_in shapes d) t m ≡ member_counts shapes d (counts_in shapes d) t m x
 counted shapes d t m found x at is = ap (λ o. unwrap_or (option_map (λ (y : Inherited). member_counts shapes d (counts_in shapes d) t m y.member.now) o) nothing) at ∙ ap (member_counts shapes d (counts_in shapes d) t m) is
-
--- ---- limits
-
-less : (a b : ℕ) → nat_lt a b ≡ true → a < b
-less a b e = grind (arith, nat_tests)
-
--- each limit of the one list stands in the other one, of as much at least
-abbrev IsUnder : List Limit → List Limit → Type 0
-IsUnder [] [] = Unit {0}
-IsUnder [] (y ∷ ys) = ⊥
-IsUnder (x ∷ xs) [] = ⊥
-IsUnder (x ∷ xs) (y ∷ ys) = (y.why ≡ x.why) × (y.most ≡ x.most) × (x.count ≤ y.count) × IsUnder xs ys
-
-passed_in : (xs ys : List Limit) (said : Why) → IsUnder xs ys → first_passed xs ≡ Some said → (limit : Limit) × (which : ℕ) × (slice_get ys which ≡ Some limit) × (limit.why ≡ said) × (limit.most < limit.count)
-passed_in [] ys said u e = absurd (cc)
-passed_in (x ∷ xs) [] said u e = absurd u
-passed_in (x ∷ xs) (y ∷ ys) said u e = go (passed_in xs ys said u.3) (nat_lt x.most x.count) refl e
-  where
-    go : (first_passed xs ≡ Some said → (limit : Limit) × (which : ℕ) × (slice_get ys which ≡ Some limit) × (limit.why ≡ said) × (limit.most < limit.count)) → (b : Bool) → nat_lt x.most x.count ≡ b → cond b (Some x.why) (first_passed xs) ≡ Some said → (limit : Limit) × (which : ℕ) × (slice_get (y ∷ ys) which ≡ Some limit) × (limit.why ≡ said) × (limit.most < limit.count)
-    go rest true q f = let w : x.why ≡ said = cc in let low = less x.most x.count q in let most = u.1 in let more = u.2 in (y, 0, refl, u.0 ∙ w, omega (arith, low, most, more))
-    go rest false q f = let r = rest f in (r.0, suc r.1, r.2, r.3, r.4)
-
-all_under : (a b : Counts) → AreAtMost a b → IsUnder (limits a) (limits b)
-all_under a b p = (refl, refl, p.instances, (refl, refl, p.ports, (refl, refl, p.connections, (refl, refl, p.actions, (refl, refl, p.timers, (refl, refl, p.reactions, tt))))))
-
--- what is passed by fewer is passed by more
-pub passed_limit : (a b : Counts) (said : Why) → AreAtMost a b → first_passed (limits a) ≡ Some said → Passes b said
-passed_limit a b said p e =
-    let l = passed_in (limits a) (limits b) said (all_under a b p) e in
-    record { limit = l.0; which = l.1; is_limit = l.2; is_said = l.3; more = l.4 }
-
-pub passes_more : (a b : Counts) (said : Why) → AreAtMost a b → Passes a said → Passes b said
-passes_more a b said p x =
-    let l = in_list (limits a) (limits b) x.which (all_under a b p) x.is_limit in
-    record { limit = l.0; which = x.which; is_limit = l.1; is_said = subst (λ w. l.0.why ≡ w) x.is_said l.2; more = (let most = l.3 in let count = l.4 in let more = x.more in omega (arith, most, count, more)) }
-  where
-    in_list : (xs ys : List Limit) (which : ℕ) → IsUnder xs ys → slice_get xs which ≡ Some x.limit → (limit : Limit) × (slice_get ys which ≡ Some limit) × (limit.why ≡ x.limit.why) × (limit.most ≡ x.limit.most) × (x.limit.count ≤ limit.count)
-    in_list [] ys which u e = absurd (cc)
-    in_list (z ∷ xs) [] which u e = absurd u
-    in_list (z ∷ xs) (y ∷ ys) zero u e = let s : z ≡ x.limit = cc in (y, refl, u.0 ∙ ap (λ (l : Limit). l.why) s, u.1 ∙ ap (λ (l : Limit). l.most) s, (let c : z.count ≡ x.limit.count = ap (λ (l : Limit). l.count) s in let low = u.2 in omega (arith, c, low)))
-    in_list (z ∷ xs) (y ∷ ys) (suc which) u e = in_list xs ys which u.3 e
 
 -- ---- of one setting
 
@@ -238,31 +192,6 @@ total_written s totals setting c are low has k x at = elim (get_write_cases tota
       (r.0, subst (λ i. setting_in s.settings i ≡ Some r.0) (sym here.0) r.1, subst (HasAtLeast s.shapes r.0) here.1 (has r.0 r.1))
   | inr other ↦ are k x other.1
 ]
-
--- more settings are listed than there may be instances
-pub too_many : (s : Table) (used : List ℕ) (marks : List Bool) (done : ℕ) → AreSettings s → Using s used marks done → 10000 < length used → AreTooMany s.shapes
-too_many s used marks done a u many = record {
-  setting = found;
-  reached = λ k low. let r = is k low in subst (IsReached s.shapes) (sym r.5) r.4;
-  once = λ i j low high same.
-      let x = is i low in
-      let y = is j high in
-      let equal : y.0 ≡ x.0 = sym y.5 ∙ sym same ∙ x.5 in
-      let number : x.1 ≡ y.1 = one_number s a.made x.1 y.1 x.0 x.3 (subst (λ (v : Valued). setting_in s.settings y.1 ≡ Some v) equal y.3) in
-      u.marked.once i j x.1 x.2 (subst (λ n. slice_get used j ≡ Some n) (sym number) y.2);
-}
-  where
-    found : ℕ → Valued
-    found k = unwrap_or (option_and_then (setting_in s.settings) (slice_get used k)) (record { shape = 0; values = [] })
-
-    at : (k : ℕ) → k ≤ 10000 → (n : ℕ) × (slice_get used k ≡ Some n)
-    at k low = get_there used k (omega arith)
-
-    is : (k : ℕ) → k ≤ 10000 → (t : Valued) × (n : ℕ) × (slice_get used k ≡ Some n) × (setting_in s.settings n ≡ Some t) × IsReached s.shapes t × (found k ≡ t)
-    is k low =
-        let n = at k low in
-        let r = u.reached n.0 (k, n.1) in
-        (r.0, n.0, n.1, r.1, r.2, ap (λ (o : Option ℕ). unwrap_or (option_and_then (setting_in s.settings) o) (record { shape = 0; values = [] })) n.1 ∙ ap (λ (o : Option Valued). unwrap_or o (record { shape = 0; values = [] })) r.1)
 
 pub inner_nothing : (shapes : List Shape) (t : Valued) (m : ℕ) (c : Counts) → c ≡ nothing → InnerHas shapes t m c
 inner_nothing shapes t m c is = (0, subst (λ (x : Counts). AreAtMost x (each (many_at shapes 0 t m) (counts_of (counts_in shapes 0) (inside shapes t m)))) (sym is) (nothing_most (each (many_at shapes 0 t m) (counts_of (counts_in shapes 0) (inside shapes t m)))))

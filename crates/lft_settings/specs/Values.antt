@@ -104,7 +104,3 @@ setting_of shapes outer values child = option_map (λ inner. record { shape = ch
 -- the setting of the instance that is the member of this number
 abbrev pub inside : List Shape → Valued → ℕ → Option Valued
 inside shapes t m = option_and_then (λ outer. option_and_then (setting_of shapes outer t.values) (child_at outer.children.items m)) (slice_get shapes t.shape)
-
--- what is written for the parameter of this number in it
-abbrev pub written_inside : List Shape → Valued → ℕ → ℕ → Option Value
-written_inside shapes t m p = option_and_then (λ outer. option_and_then (λ child. option_and_then (λ inner. value_written child.given.items inner p) (slice_get shapes child.shape)) (child_at outer.children.items m)) (slice_get shapes t.shape)

@@ -1,12 +1,11 @@
 //! How many things a program has, counted before any of them is made.
 
-ghost use Rattle.std.specs.Prelude.{◌≡◌, ◌+◌, ◌<◌, ◌≤◌, ◌⊎◌, ℕ, List, IfErr, IfOk, IfNone, IfSome, OnOk, Some, length, slice_get, true};
+ghost use Rattle.std.specs.Prelude.{◌≡◌, ◌<◌, ◌≤◌, ◌⊎◌, ℕ, List, IfOk, IfNone, IfSome, OnOk, Some, length, slice_get, true};
 ghost use Rattle.lft_shapes.specs.Walks.{Has};
 ghost use Rattle.lft_settings.specs.Limits.{limits, first_passed};
 ghost use Rattle.lft_settings.specs.Noted.{AreMade, AreSettings, GoesOn, table};
-ghost use Rattle.lft_settings.specs.Passed.{AreAtMost, AreReached, AreTotals, HasAtLeast, InnerHas, IsOfCounts, IsOfMember, IsOfProgram, IsOfSome, IsPassedIn, MemberHas, SettingHas, both, each, members_of, nothing, token_of};
+ghost use Rattle.lft_settings.specs.Passed.{AreAtMost, AreTotals, HasAtLeast, InnerHas, MemberHas, both, each, members_of, nothing};
 ghost use Rattle.lft_settings.specs.Places.{HasPairs};
-ghost use Rattle.lft_settings.specs.Refused.{IsOfPairs};
 ghost use Rattle.lft_settings.specs.Settings.{setting_at};
 ghost use Rattle.lft_settings.specs.Used.{AreMarked, AreUsed, HasInner, HasNumber, IsIn, IsNumberIn, Stay, is_instance, is_instance_in};
 ghost use Rattle.lft_settings.specs.Values.{Valued};
@@ -105,7 +104,6 @@ fn is_instance(member: &Member) -> bool
 
 /// The token of a member: that of its name, or its first one.
 fn token_of(member: &Member) -> usize
-    ensures { result ≡ token_of member.now }
 {
     match member {
         Member::Port(port) => port.name.at,
@@ -174,7 +172,6 @@ impl<'a> Settings<'a> {
     ) -> Result<u64, Stop>
         ensures goes { OnOk result (GoesOn (table self.old) (table self.new)) }
         ensures pairs { IfOk result (λ n. (t : Valued) → AreMade (table self.old) → setting_at self.old setting ≡ Some t → HasPairs self.old.shapes.items t connection.now n) }
-        ensures cause { IfErr result (λ stop. (t : Valued) → AreMade (table self.old) → setting_at self.old setting ≡ Some t → IsOfPairs self.old.shapes.items t file connection.now stop) }
     {
         let left = self.all_channels(setting, file, &connection.sources)?;
         let right = self.all_channels(setting, file, &connection.destinations)?;
@@ -208,7 +205,6 @@ impl<'a> Settings<'a> {
         ensures goes { OnOk result (GoesOn (table self.old) (table self.new)) }
         ensures some { IfOk result (λ inner. IfSome inner (λ k. (t : Valued) → AreMade (table self.old) → setting_at self.old setting ≡ Some t → IsNumberIn self.old.shapes.items self.new.settings.items t member k)) }
         ensures none { IfOk result (λ inner. IfNone inner ((t u : Valued) → AreMade (table self.old) → setting_at self.old setting ≡ Some t → IsIn self.old.shapes.items t member u → ⊥)) }
-        ensures cause { IfErr result (λ stop. (t : Valued) → AreMade (table self.old) → setting_at self.old setting ≡ Some t → IsOfMember self.old.shapes.items t member stop) }
     {
         if !self.has_instance(setting, member) {
             return Ok(None);
@@ -234,7 +230,6 @@ impl<'a> Settings<'a> {
         ensures stay { OnOk result (Stay used.old.items used.new.items) }
         ensures has { OnOk result ((t u : Valued) → AreMade (table self.old) → setting_at self.old setting ≡ Some t → AreMarked used.old.items is_used.old.items → IsIn self.old.shapes.items t member u → HasNumber (table self.new) used.new.items u) }
         ensures only { OnOk result ((t : Valued) → AreMade (table self.old) → setting_at self.old setting ≡ Some t → (k : ℕ) → Has used.new.items k → Has used.old.items k ⊎ IsNumberIn self.old.shapes.items self.new.settings.items t member k) }
-        ensures cause { IfErr result (λ stop. (t : Valued) → AreMade (table self.old) → setting_at self.old setting ≡ Some t → IsOfMember self.old.shapes.items t member stop) }
     {
         let Some(inner) = self.used_inside(setting, member)? else {
             return Ok(());
@@ -255,7 +250,6 @@ impl<'a> Settings<'a> {
         ensures stay { OnOk result (Stay used.old.items used.new.items) }
         ensures all { OnOk result ((t : Valued) → AreMade (table self.old) → setting_at self.old setting ≡ Some t → AreMarked used.old.items is_used.old.items → HasInner (table self.new) used.new.items t) }
         ensures only { OnOk result ((t : Valued) → AreMade (table self.old) → setting_at self.old setting ≡ Some t → (k : ℕ) → Has used.new.items k → Has used.old.items k ⊎ ((member : ℕ) × IsNumberIn self.old.shapes.items self.new.settings.items t member k)) }
-        ensures cause { IfErr result (λ stop. (t : Valued) → AreMade (table self.old) → setting_at self.old setting ≡ Some t → IsOfSome self.old.shapes.items t stop) }
     {
         for member in 0..self.members(setting) {
             self.push_inside(setting, member, used, is_used)?;
@@ -267,7 +261,6 @@ impl<'a> Settings<'a> {
     fn used(&mut self) -> Result<Vec<usize>, Stop>
         ensures goes { OnOk result (GoesOn (table self.old) (table self.new)) }
         ensures used { IfOk result (λ used. AreSettings (table self.old) → AreUsed (table self.new) used.items) }
-        ensures cause { IfErr result (λ stop. AreSettings (table self.old) → IsOfProgram self.old.shapes.items stop) }
     {
         let mut used = Vec::new(self.alloc);
         let mut is_used = Vec::new(self.alloc);
@@ -294,7 +287,6 @@ impl<'a> Settings<'a> {
     ) -> Result<Counts, Stop>
         ensures goes { OnOk result (GoesOn (table self.old) (table self.new)) }
         ensures counts { IfOk result (λ c. (t : Valued) → AreMade (table self.old) → setting_at self.old setting ≡ Some t → AreTotals (table self.old) totals.now → InnerHas self.old.shapes.items t member c) }
-        ensures cause { IfErr result (λ stop. (t : Valued) → AreMade (table self.old) → setting_at self.old setting ≡ Some t → IsOfMember self.old.shapes.items t member stop) }
     {
         let width = self.many(setting, Thing::Member(member))?;
         if width == 0 {
@@ -318,7 +310,6 @@ impl<'a> Settings<'a> {
     ) -> Result<Counts, Stop>
         ensures goes { OnOk result (GoesOn (table self.old) (table self.new)) }
         ensures counts { IfOk result (λ c. (t : Valued) → AreMade (table self.old) → setting_at self.old setting ≡ Some t → AreTotals (table self.old) totals.now → MemberHas self.old.shapes.items t number c) }
-        ensures cause { IfErr result (λ stop. (t : Valued) → AreMade (table self.old) → setting_at self.old setting ≡ Some t → IsOfMember self.old.shapes.items t number stop) }
     {
         let Some(inherited) = self.inherited(Wanted {
             setting,
@@ -360,7 +351,6 @@ impl<'a> Settings<'a> {
 
     /// Refuses counts that pass a limit, at the member of a setting with which they do.
     fn refuse_passed(&self, setting: usize, number: usize, counts: Counts) -> Result<(), Stop>
-        ensures cause { IfErr result (λ stop. (t : Valued) → setting_at self.now setting ≡ Some t → SettingHas self.now.shapes.items t (number + 1) counts → IsPassedIn self.now.shapes.items t stop) }
     {
         let Some(why) = counts.passed() else {
             return Ok(());
@@ -378,7 +368,6 @@ impl<'a> Settings<'a> {
     fn count(&mut self, setting: usize, totals: &[Counts]) -> Result<Counts, Stop>
         ensures goes { OnOk result (GoesOn (table self.old) (table self.new)) }
         ensures counts { IfOk result (λ c. (t : Valued) → AreMade (table self.old) → setting_at self.old setting ≡ Some t → AreTotals (table self.old) totals.now → HasAtLeast self.old.shapes.items t c) }
-        ensures cause { IfErr result (λ stop. (t : Valued) → AreMade (table self.old) → setting_at self.old setting ≡ Some t → AreTotals (table self.old) totals.now → IsOfCounts self.old.shapes.items t stop) }
     {
         let mut counts = Counts {
             instances: 1,
@@ -425,7 +414,6 @@ impl<'a> Settings<'a> {
     /// Counts what one instance of each setting has, with all in it.
     fn count_all(&mut self, used: &[usize]) -> Result<(), Stop>
         ensures goes { OnOk result (GoesOn (table self.old) (table self.new)) }
-        ensures cause { IfErr result (λ stop. AreMade (table self.old) → AreReached (table self.old) used.now → IsOfProgram self.old.shapes.items stop) }
     {
         let places = self.inner_first(used)?;
         let mut totals = vec![in self.alloc; Counts::none(); self.settings.len()]?;
@@ -443,7 +431,6 @@ impl<'a> Settings<'a> {
     pub fn counted(&mut self) -> Result<Vec<usize>, Stop>
         ensures goes { OnOk result (GoesOn (table self.old) (table self.new)) }
         ensures used { IfOk result (λ used. AreSettings (table self.old) → AreUsed (table self.new) used.items) }
-        ensures cause { IfErr result (λ stop. AreSettings (table self.old) → IsOfProgram self.old.shapes.items stop) }
     {
         let used = self.used()?;
         self.count_all(&used)?;

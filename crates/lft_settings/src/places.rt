@@ -1,10 +1,9 @@
 //! What references mean in a setting.
 
-ghost use Rattle.std.specs.Prelude.{◌≡◌, ◌≤◌, IfErr, IfOk, OnOk, option_and_then, option_map};
+ghost use Rattle.std.specs.Prelude.{◌≡◌, ◌≤◌, IfOk, OnOk, option_and_then, option_map};
 ghost use Rattle.lft_shapes.specs.Shapes.{thing_named};
 ghost use Rattle.lft_settings.specs.Noted.{AreMade, GoesOn, IsMeaning, table};
 ghost use Rattle.lft_settings.specs.Places.{AreMany, AreManyIn, HasPlaces, HavePlaces, port_named};
-ghost use Rattle.lft_settings.specs.Refused.{IsOfInstance, IsOfOne, IsOfPlaces, IsOfReference, IsOfThing};
 ghost use Rattle.lft_settings.specs.Settings.{setting_at, shape_at};
 ghost use Rattle.lft_settings.specs.Values.{Valued};
 ghost use Rattle.lft_settings.specs.Widths.{member_at};
@@ -70,7 +69,6 @@ impl<'a> Settings<'a> {
         ensures work { OnOk result (self.new.work.left ≤ self.old.work.left) }
         ensures goes { OnOk result (GoesOn (table self.old) (table self.new)) }
         ensures meaning { IfOk result (λ meaning. (t : Valued) → AreMade (table self.old) → setting_at self.old setting ≡ Some t → IsMeaning self.old.shapes.items self.new.settings.items t reference.now meaning) }
-        ensures cause { IfErr result (λ stop. (t : Valued) → AreMade (table self.old) → setting_at self.old setting ≡ Some t → IsOfReference self.old.shapes.items t file reference.now stop) }
     {
         let head = self.find(setting, reference.head.text.as_str());
         let at = reference.head.at;
@@ -104,7 +102,6 @@ impl<'a> Settings<'a> {
     pub(crate) fn many(&mut self, setting: usize, thing: Thing) -> Result<u64, Stop>
         ensures goes { OnOk result (GoesOn (table self.old) (table self.new)) }
         ensures many { IfOk result (λ n. (t : Valued) → AreMade (table self.old) → setting_at self.old setting ≡ Some t → AreMany self.old.shapes.items t thing n) }
-        ensures cause { IfErr result (λ stop. (t : Valued) → AreMade (table self.old) → setting_at self.old setting ≡ Some t → IsOfThing self.old.shapes.items t thing stop) }
     {
         let Thing::Member(member) = thing else {
             return Ok(1);
@@ -117,7 +114,6 @@ impl<'a> Settings<'a> {
     fn many_in(&mut self, setting: usize, instance: Option<usize>) -> Result<u64, Stop>
         ensures goes { OnOk result (GoesOn (table self.old) (table self.new)) }
         ensures many { IfOk result (λ n. (t : Valued) → AreMade (table self.old) → setting_at self.old setting ≡ Some t → AreManyIn self.old.shapes.items t instance n) }
-        ensures cause { IfErr result (λ stop. (t : Valued) → AreMade (table self.old) → setting_at self.old setting ≡ Some t → IsOfInstance self.old.shapes.items t instance stop) }
     {
         let Some(member) = instance else {
             return Ok(1);
@@ -134,7 +130,6 @@ impl<'a> Settings<'a> {
     ) -> Result<u64, Stop>
         ensures goes { OnOk result (GoesOn (table self.old) (table self.new)) }
         ensures places { IfOk result (λ n. (t : Valued) → AreMade (table self.old) → setting_at self.old setting ≡ Some t → HasPlaces self.old.shapes.items t reference.now n) }
-        ensures cause { IfErr result (λ stop. (t : Valued) → AreMade (table self.old) → setting_at self.old setting ≡ Some t → IsOfPlaces self.old.shapes.items t file reference.now stop) }
     {
         let meaning = self.meaning(setting, file, reference)?;
         let count = self.many(meaning.setting, meaning.thing)?;
@@ -151,7 +146,6 @@ impl<'a> Settings<'a> {
     ) -> Result<u64, Stop>
         ensures goes { OnOk result (GoesOn (table self.old) (table self.new)) }
         ensures places { IfOk result (λ n. (t : Valued) → AreMade (table self.old) → setting_at self.old setting ≡ Some t → HavePlaces self.old.shapes.items t references.now n) }
-        ensures cause { IfErr result (λ stop. (t : Valued) → AreMade (table self.old) → setting_at self.old setting ≡ Some t → IsOfOne self.old.shapes.items t file references.now stop) }
     {
         let mut all: u64 = 0;
         for reference in references {

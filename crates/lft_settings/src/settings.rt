@@ -4,8 +4,6 @@ ghost use Rattle.std.specs.Prelude.{◌≡◌, ◌≤◌, ◌<◌, ℕ, [], Some
 ghost use Rattle.lft_shapes.specs.Nestings.{IsNesting};
 ghost use Rattle.lft_shapes.specs.Refused.{IsTooMuch};
 ghost use Rattle.lft_settings.specs.Noted.{Adds, AreMade, AreSettings, GoesOn, GoesOnIf, IsNumberOf, found_inside, noted_for, table};
-ghost use Rattle.lft_settings.specs.Passed.{HasNoSettings, IsOfMain};
-ghost use Rattle.lft_settings.specs.Refused.{HasCause};
 ghost use Rattle.lft_settings.specs.Settings.{setting_at, shape_at};
 ghost use Rattle.lft_settings.specs.Values.{IsUnsized, Valued, inside};
 
@@ -55,7 +53,6 @@ impl<'a> Settings<'a> {
     pub fn of(alloc: Global, files: &'a [SourceFile]) -> Result<Settings<'a>, Stop>
         ensures shapes { IfOk result (λ s. (scopes : _) × (work : Work) × IsNesting files.now scopes (record { work = work; shapes = s.shapes; order = s.order })) }
         ensures settings { IfOk result (λ s. AreSettings (table s)) }
-        ensures cause { IfErr result (HasNoSettings files.now) }
     {
         let Nesting {
             work,
@@ -84,7 +81,6 @@ impl<'a> Settings<'a> {
     fn add_main(&mut self) -> Result<(), Stop>
         ensures main { OnOk result ((main : Shape) → slice_get self.old.shapes.items 0 ≡ Some main → self.old.settings.items ≡ [] → AreMade (table self.old) → AreSettings (table self.new)) }
         ensures rest { OnOk result ((self.new.shapes ≡ self.old.shapes) × (self.new.order ≡ self.old.order)) }
-        ensures cause { IfErr result (IsOfMain self.old.shapes.items) }
     {
         if let Some(shape) = self.shapes.first() {
             let values = main_values(self.alloc, shape)?;
@@ -187,7 +183,6 @@ impl<'a> Settings<'a> {
         ensures inside { IfOk result (λ found. (t : Valued) → setting_at self.old setting ≡ Some t → option_map (λ p. record { shape = p.0; values = map (λ v. Some v) p.1.items }) found ≡ inside self.old.shapes.items t member) }
         ensures there { IfOk result (λ found. IfSome found (λ p. p.0 < length self.old.shapes.items)) }
         ensures around { IfOk result (λ found. IfSome found (λ _. setting < length self.old.settings.items)) }
-        ensures cause { IfErr result (λ stop. (t : Valued) → setting_at self.old setting ≡ Some t → HasCause self.old.shapes.items t member stop) }
     {
         let Some(found) = self.settings.get(setting) else {
             return Ok(None);
@@ -246,7 +241,6 @@ impl<'a> Settings<'a> {
         ensures work { OnOk result (self.new.work.left ≤ self.old.work.left) }
         ensures goes { OnOk result (GoesOn (table self.old) (table self.new)) }
         ensures inside { IfOk result (λ inner. (t : Valued) → AreMade (table self.old) → setting_at self.old setting ≡ Some t → IsNumberOf self.new.settings.items (inside self.old.shapes.items t member) inner) }
-        ensures cause { IfErr result (λ stop. (t : Valued) → setting_at self.old setting ≡ Some t → HasCause self.old.shapes.items t member stop) }
     {
         if let Some(known) = self.known_inside(setting, member) {
             return Ok(Some(known));

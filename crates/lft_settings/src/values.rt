@@ -1,8 +1,8 @@
 //! The whole numbers that parameters are.
 
 ghost use Rattle.std.specs.Prelude.{◌≡◌, ◌<◌, ℕ, IfErr, IfOk, map, None, Some, option_map, replicate, slice_get, vec_len};
-ghost use Rattle.lft_settings.specs.Refused.{IsLacking, OneIsLacking, SaysNoNumber};
-ghost use Rattle.lft_settings.specs.Values.{chosen, default_at, default_written, given_to, literal, main_value, main_values, number_in, number_named, signed, value_inside, value_written, values_inside};
+ghost use Rattle.lft_settings.specs.Refused.{IsLacking, SaysNoNumber};
+ghost use Rattle.lft_settings.specs.Values.{default_at, default_written, given_to, literal, main_value, main_values, number_in, number_named, signed, value_inside, value_written, values_inside};
 
 use lft_shapes::{Child, Shape};
 use lft_sources::{Stop, Why};
@@ -108,7 +108,6 @@ fn main_value(main: &Shape, parameter: usize) -> Result<i64, Stop>
 /// The values of the parameters of the main reactor.
 pub(crate) fn main_values(alloc: Global, main: &Shape) -> Result<Vec<i64>, Stop>
     ensures found { IfOk result (λ values. map (λ v. Some v) values.items ≡ main_values main.now) }
-    ensures lacking { IfErr result (OneIsLacking (main_values main.now) (default_written main.now)) }
 {
     let mut values = Vec::new(alloc);
     for parameter in 0..main.parameters.len() {
@@ -174,7 +173,6 @@ pub(crate) fn inner_values(
     missing: Stop,
 ) -> Result<Vec<i64>, Stop>
     ensures found { IfOk result (λ values. map (λ v. Some v) values.items ≡ values_inside given.entry.outer.now (map (λ v. Some v) given.entry.values.now) given.entry.child.now.given.items inner.now) }
-    ensures lacking { IfErr result (λ stop. SaysNoNumber None missing → OneIsLacking (values_inside given.entry.outer.now (map (λ v. Some v) given.entry.values.now) given.entry.child.now.given.items inner.now) (value_written given.entry.child.now.given.items inner.now) stop) }
 {
     let count = inner.parameters.len();
     let table = given_values(alloc, given.child, count)?;

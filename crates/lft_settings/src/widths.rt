@@ -4,7 +4,7 @@ ghost use Rattle.std.specs.Prelude.{◌≡◌, ◌≤◌, ◌↔◌, ℕ, Some, 
 ghost use Rattle.lft_settings.specs.Finding.{AddsIf, AddsOnly, IsNext, IsPath};
 ghost use Rattle.lft_settings.specs.Noted.{AreMade, GoesOn, GoesOnIf, table};
 ghost use Rattle.lft_settings.specs.Places.{AreMany, AreManyIn, HasPlaces, HasWidth, IsCount, IsMany, IsSum, IsWidth, natural, parameter_in, plus, times};
-ghost use Rattle.lft_settings.specs.Refused.{IsCounted, IsCountedBy, IsCountedIn, IsOfCount, IsOfReference, IsOfTerms, IsOfWidth, IsOfWord};
+ghost use Rattle.lft_settings.specs.Refused.{IsCounted, IsCountedBy, IsCountedIn, IsOfWord};
 ghost use Rattle.lft_settings.specs.Settings.{setting_at};
 ghost use Rattle.lft_settings.specs.Values.{Valued};
 ghost use Rattle.lft_settings.specs.Widths.{member_at, width_at, found_width};
@@ -168,7 +168,6 @@ impl<'a> Settings<'a> {
         ensures goes { OnOk result (GoesOn (table self.old) (table self.new)) }
         ensures places { IfOk result (λ found. IfSome found (λ n. (t : Valued) → AreMade (table self.old) → setting_at self.old setting ≡ Some t → HasPlaces self.old.shapes.items t reference.now n)) }
         ensures needs { OnOk result ((t : Valued) → AreMade (table self.old) → setting_at self.old setting ≡ Some t → AddsOnly (IsCounted self.old.shapes.items t reference.now) self.new.settings.items needs.old.items needs.new.items) }
-        ensures cause { IfErr result (λ stop. (t : Valued) → AreMade (table self.old) → setting_at self.old setting ≡ Some t → IsOfReference self.old.shapes.items t file reference.now stop) }
     {
         let meaning = self.meaning(setting, file, reference)?;
         let count = self.need_thing(meaning.setting, meaning.thing, needs)?;
@@ -188,7 +187,6 @@ impl<'a> Settings<'a> {
         ensures goes { OnOk result (GoesOn (table self.old) (table self.new)) }
         ensures count { IfOk result (λ found. IfSome found (λ n. (t : Valued) → AreMade (table self.old) → setting_at self.old setting ≡ Some t → IsCount self.old.shapes.items t term.now.count n)) }
         ensures needs { OnOk result ((t : Valued) → AreMade (table self.old) → setting_at self.old setting ≡ Some t → AddsOnly (IsCountedBy self.old.shapes.items t term.now.count) self.new.settings.items needs.old.items needs.new.items) }
-        ensures cause { IfErr result (λ stop. (t : Valued) → AreMade (table self.old) → setting_at self.old setting ≡ Some t → IsOfCount self.old.shapes.items t file term.now.at term.now.count stop) }
     {
         match &term.count {
             Count::Number(count) => Ok(Some(*count)),
@@ -214,7 +212,6 @@ impl<'a> Settings<'a> {
         ensures goes { OnOk result (GoesOn (table self.old) (table self.new)) }
         ensures sum { IfOk result (λ all. IfSome all (λ n. (t : Valued) → AreMade (table self.old) → setting_at self.old setting ≡ Some t → IsSum self.old.shapes.items t terms.now n)) }
         ensures needs { OnOk result ((t : Valued) → AreMade (table self.old) → setting_at self.old setting ≡ Some t → AddsOnly (IsCountedIn self.old.shapes.items t terms.now) self.new.settings.items needs.old.items needs.new.items) }
-        ensures cause { IfErr result (λ stop. (t : Valued) → AreMade (table self.old) → setting_at self.old setting ≡ Some t → IsOfTerms self.old.shapes.items t file terms.now stop) }
     {
         let mut all = Some(0);
         for term in terms {
@@ -229,7 +226,6 @@ impl<'a> Settings<'a> {
         ensures work { OnOk result (self.new.work.left ≤ self.old.work.left) }
         ensures goes { OnOk result (GoesOn (table self.old) (table self.new)) }
         ensures path { OnOk result ((t : Valued) (m : ℕ) → AreMade (table self.old) → IsPath self.old.shapes.items self.old.settings.items t m path.old → IsNext self.old.shapes.items self.old.settings.items t m path.old wanted → IsPath self.old.shapes.items self.new.settings.items t m path.new) }
-        ensures cause { IfErr result (λ stop. (t : Valued) (m : ℕ) → AreMade (table self.old) → IsPath self.old.shapes.items self.old.settings.items t m path.old → IsNext self.old.shapes.items self.old.settings.items t m path.old wanted → IsOfWidth self.old.shapes.items t m stop) }
     {
         if self.known(wanted.setting, wanted.member).is_some() {
             return Ok(());
@@ -259,7 +255,6 @@ impl<'a> Settings<'a> {
         ensures found { IfOk result (λ width. IfSome width (λ count. found_width self.new setting member ≡ Some count)) }
         ensures goes { OnOk result (GoesOn (table self.old) (table self.new)) }
         ensures width { IfOk result (λ width. (t : Valued) → AreMade (table self.old) → setting_at self.old setting ≡ Some t → HasWidth self.old.shapes.items t member width) }
-        ensures cause { IfErr result (λ stop. (t : Valued) → AreMade (table self.old) → setting_at self.old setting ≡ Some t → IsOfWidth self.old.shapes.items t member stop) }
     {
         let first = Wanted { setting, member };
         if !self.is_wide(first) {

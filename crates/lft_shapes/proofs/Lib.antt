@@ -1,6 +1,4 @@
 mod Building
-mod Causing
-mod Circles
 pub mod Decided
 mod Giving
 mod Goings

@@ -12,8 +12,7 @@ use Rattle.lft_shapes.specs.declared.scopes.Class.{Class}
 use Rattle.lft_shapes.specs.declared.scopes.Meaning.{Meaning}
 use Rattle.lft_shapes.specs.declared.scopes.Scope.{Scope}
 use Rattle.lft_shapes.specs.declared.scopes.Scopes.{Scopes}
-use Rattle.lft_shapes.specs.Scopes.{in_scope, meaning_in, number_in, AreMeantScopes, AreNumbered, AreOwnScopes, EachMeans, HasImports, HasMeaning, IsExported, IsGiven, IsImport, IsMeant, IsMeantScope, IsOnce, IsOwn, IsOwnAt, IsScope, IsScopeOf, MeansAt}
-use Rattle.lft_shapes.specs.Unnamed.{ExportsNone, GivesNone}
+use Rattle.lft_shapes.specs.Scopes.{in_scope, meaning_in, number_in, AreMeantScopes, AreNumbered, AreOwnScopes, EachMeans, HasImports, HasMeaning, IsExported, IsGiven, IsImport, IsMeant, IsMeantScope, IsOnce, IsOwn, IsScope, IsScopeOf, MeansAt}
 use Rattle.lft_shapes.proofs.Naming.{place_is, place_least}
 use Rattle.lft_shapes.proofs.Numbering.{file_of}
 
@@ -137,14 +136,6 @@ own_means files own file q c are is =
     let count = are.count in
     let there = get_there own file (omega (arith, within, count)) in
     (there.0, there.1, (are.each file there.0 there.1).own q c is)
-
--- what a file doesn't give none of its reactors is
-pub exports_none : (files : List SourceFile) (own : List Scope) (other : ℕ) (q : List ℕ) → AreOwnScopes files own → ExportsNone own other q → GivesNone files other q
-exports_none files own other q are none c is =
-    let there = own_means files own other q c are is in
-    let scope = are.each other there.0 there.1 in
-    let one = means_one (IsOwnAt files other) there.0 q c.number scope.is there.2 in
-    (one.0, (found_in (IsOwnAt files other) there.0 q one.0 scope.is one.1).1.0, none there.0 one.0 there.1 one.1)
 
 -- what the imports of a file give, as they are written and read
 pub imports_of : (files : List SourceFile) (number : ℕ) (file : SourceFile) (now : List Meaning) → slice_get files number ≡ Some file → ((place other : ℕ) (what : Import) (which : ℕ) (name : ImportedName) → slice_get file.tree.imports.items place ≡ Some what → slice_get file.imports.items place ≡ Some other → slice_get what.names.items which ≡ Some name → IsGiven files other name now) → HasImports files number now

@@ -1,13 +1,10 @@
 -- The names of parameters and members.
-use Rattle.std.proofs.Common.{◌≡◌, ℕ, zero, suc, ◌<◌, ◌≤◌, inl, inr, Bool, true, false, List, [], ◌∷◌, ◌++◌, map, Option, Some, None, bytes_eq, option_map, length, slice_get, string_bytes, filter_map, refl, sym, ap, subst, ◌∙◌, arith}
-use Rattle.std.specs.Prelude.{flat_map, if◌then◌else◌, unwrap_or}
-use Rattle.std.specs.List.{cons_option}
+use Rattle.std.proofs.Common.{◌≡◌, ℕ, zero, suc, ◌≤◌, inl, inr, Bool, true, false, List, [], ◌∷◌, ◌++◌, map, Option, Some, bytes_eq, option_map, length, slice_get, string_bytes, refl, sym, ap, subst, ◌∙◌, arith}
+use Rattle.std.specs.Prelude.{if◌then◌else◌, unwrap_or}
 use Rattle.std.specs.Option.{option_and_then}
-use Rattle.std.proofs.lemmas.Bool.{cases_lt}
-use Rattle.std.proofs.lemmas.List.{map-append}
 use Rattle.std.proofs.lemmas.Option.{option_and_then_some}
 use Rattle.std.proofs.lemmas.Slice.Eq.{bytes_eq-Decides}
-use Rattle.lft_lists.proofs.Mapped.{mapped, mapped_from, option_map_some}
+use Rattle.lft_lists.proofs.Mapped.{option_map_some}
 use Rattle.lft_lists.proofs.Places.{get_last, get_push, get_push_cases, Some_same}
 use Rattle.lft_scope.specs.Places.{IsIndexOf, place, place_in}
 use Rattle.lft_scope.specs.declared.index.Index.{Index}
@@ -19,37 +16,9 @@ use Rattle.lft_shapes.specs.declared.shapes.InheritedParameter.{InheritedParamet
 use Rattle.lft_shapes.specs.declared.shapes.Named.{Named}
 use Rattle.lft_shapes.specs.declared.shapes.Thing.{Thing}
 use Rattle.lft_shapes.specs.declared.shapes.Thing.TheVariants as thing
-use Rattle.lft_shapes.specs.Built.{HasName, located, located_parameters}
+use Rattle.lft_shapes.specs.Built.{HasName}
 use Rattle.lft_shapes.specs.Naming.{EachNamed, HasNamed}
 use Rattle.lft_shapes.specs.Shapes.{name_of}
-use Rattle.lft_shapes.specs.Refused.{IsTwice, names_in, noted, noted_if, written}
-
--- the name of a parameter, as it is noted
-abbrev pub of_parameter : InheritedParameter → List ℕ × (ℕ × ℕ)
-of_parameter p = (string_bytes p.parameter.now.name.text, (p.file, p.parameter.now.name.at))
-
--- the name of a member, as it is noted, if it has one
-abbrev pub of_member : Inherited → List (List ℕ × (ℕ × ℕ))
-of_member m = noted_if m.file (name_of m.member.now)
-
-parameters_written : (ps : List InheritedParameter) → map of_parameter ps ≡ written (map (λ (p : ℕ × Parameter). (p.0, p.1.name)) (located_parameters ps))
-parameters_written [] = refl
-parameters_written (p ∷ ps) = ap (λ l. of_parameter p ∷ l) (parameters_written ps)
-
-member_written : (file : ℕ) (o : Option Name) (before : List (List ℕ × (ℕ × ℕ))) (names : List (ℕ × Name)) → before ≡ written names → noted_if file o ++ before ≡ written (cons_option (option_map (λ (n : Name). (file, n)) o) names)
-member_written file None before names e = e
-member_written file (Some n) before names e = ap (λ l. (string_bytes n.text, (file, n.at)) ∷ l) e
-
-members_written : (ms : List Inherited) → flat_map of_member ms ≡ written (filter_map (λ (m : ℕ × Member). option_map (λ (n : Name). (m.0, n)) (name_of m.1)) (located ms))
-members_written [] = refl
-members_written (m ∷ ms) = member_written m.file (name_of m.member.now) _ _ (members_written ms)
-
--- all names are noted
-pub all_written : (ps : List InheritedParameter) (ms : List Inherited) → map of_parameter ps ++ flat_map of_member ms ≡ written (names_in (located_parameters ps) (located ms))
-all_written ps ms =
-    let named = map (λ (p : ℕ × Parameter). (p.0, p.1.name)) (located_parameters ps) in
-    let members = filter_map (λ (m : ℕ × Member). option_map (λ (n : Name). (m.0, n)) (name_of m.1)) (located ms) in
-    ap (λ l. l ++ flat_map of_member ms) (parameters_written ps) ∙ ap (λ l. written named ++ l) (members_written ms) ∙ sym (map-append (λ (n : ℕ × Name). (string_bytes n.1.text, (n.0, n.1.at))) named members)
 
 module _ {X : Type 0} (name : X → List ℕ) (q : List ℕ) where
   place_step : (y : X) (ys : List X) (k : ℕ) (x : X) (b : Bool) → bytes_eq q (name y) ≡ b → (if b then Some 0 else option_map suc (place q (map name ys))) ≡ Some k → slice_get (y ∷ ys) k ≡ Some x → ((j : ℕ) → place q (map name ys) ≡ Some j → slice_get ys j ≡ Some x → q ≡ name x) → q ≡ name x
@@ -80,36 +49,6 @@ module _ {X : Type 0} (name : X → List ℕ) (q : List ℕ) where
   place_least [] k x at e = absurd (cc)
   place_least (y ∷ ys) zero x at e = here_step y ys (bytes_eq q (name y)) refl (let same : y ≡ x = Some_same y x at in e ∙ ap name (sym same))
   place_least (y ∷ ys) (suc k) x at e = least_step y ys (bytes_eq q (name y)) refl k x at (place_least ys k x at e)
-
--- where the first one of a name isn't the one that is asked for, it stands before
-pub first_one : {X : Type 0} (name : X → List ℕ) (xs : List X) (k : ℕ) (x : X) (o : Option ℕ) → slice_get xs k ≡ Some x → o ≡ place (name x) (map name xs) → (unwrap_or o k ≡ k → ⊥) → (j : ℕ) × (unwrap_or o k ≡ j) × (j < k) × ((z : X) × (slice_get xs j ≡ Some z) × (name x ≡ name z))
-first_one name xs k x o at is other =
-    let least = place_least name (name x) xs k x at refl in
-    let e : unwrap_or o k ≡ least.0 = ap (λ p. unwrap_or p k) (is ∙ least.1) in
-    (least.0, e, earlier least.0 k least.2 (λ s. other (e ∙ s)), least.3)
-  where
-    earlier : (i k : ℕ) → i ≤ k → (i ≡ k → ⊥) → i < k
-    earlier i k l d = elim (cases_lt i k) [ inl lt ↦ lt | inr ge ↦ absurd (d (omega (arith, l, ge))) ]
-
--- a name that stands before it too
-pub twice : (ns : List Named) (names : List (ℕ × Name)) (k : ℕ) (n : Named) (o : Option ℕ) → noted ns ≡ written names → slice_get ns k ≡ Some n → o ≡ place n.name.now (map (λ (m : Named). m.name.now) ns) → (unwrap_or o k ≡ k → ⊥) → IsTwice names (record { file = n.file; token = n.at })
-twice ns names k n o same at is other =
-    let first = first_one (λ (m : Named). m.name.now) ns k n o at is other in
-    let note : Named → List ℕ × (ℕ × ℕ) = λ m. (m.name.now, (m.file, m.at)) in
-    let write : ℕ × Name → List ℕ × (ℕ × ℕ) = λ m. (string_bytes m.1.text, (m.0, m.1.at)) in
-    let one = mapped_from write names first.0 (note first.3.0) (sym (ap (λ l. slice_get l first.0) same) ∙ mapped note ns first.0 first.3.0 first.3.1) in
-    let two = mapped_from write names k (note n) (sym (ap (λ l. slice_get l k) same) ∙ mapped note ns k n at) in
-    record {
-      one = first.0;
-      first = one.0;
-      is_first = one.1;
-      other = k;
-      second = two.0;
-      is_second = two.1;
-      later = first.2;
-      same = ap (λ (t : List ℕ × (ℕ × ℕ)). t.0) one.2 ∙ sym first.3.2 ∙ sym (ap (λ (t : List ℕ × (ℕ × ℕ)). t.0) two.2);
-      stands = ap (λ (t : List ℕ × (ℕ × ℕ)). record { file = t.1.0; token = t.1.1 }) (sym two.2);
-    }
 
 -- one more that is noted
 pub named_push : (ps : List InheritedParameter) (ms : List Inherited) (ns : List Named) (n : Named) → EachNamed ps ms ns → HasName ps ms n.name.now n.thing → EachNamed ps ms (ns ++ n ∷ [])

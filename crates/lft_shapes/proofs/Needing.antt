@@ -13,8 +13,8 @@ use Rattle.lft_shapes.specs.declared.scopes.Scopes.{Scopes}
 use Rattle.lft_shapes.specs.declared.shapes.Inherited.{Inherited}
 use Rattle.lft_shapes.specs.declared.shapes.InheritedParameter.{InheritedParameter}
 use Rattle.lft_shapes.specs.declared.shapes.Thing.TheVariants as thing
-use Rattle.lft_shapes.specs.Below.{HasParameter, IsBelow, base, inner, instance_at}
-use Rattle.lft_shapes.specs.Built.{Core, IsBuilt, instance_of, members_at, parameters_at}
+use Rattle.lft_shapes.specs.Below.{IsBelow, base, inner, instance_at}
+use Rattle.lft_shapes.specs.Built.{Core, IsBuilt, instance_of, members_at}
 use Rattle.lft_shapes.specs.Chains.{base_of}
 use Rattle.lft_shapes.specs.Needs.{HasMember}
 use Rattle.lft_shapes.specs.Walks.{Has, IsBehind, IsList, Reaches, Ways, further, itself, nothing, one}
@@ -53,23 +53,9 @@ reached_there scopes c f locate xs class which y is all reached at =
     let there = get_mem y (flat_map f is.chain) mem in
     (there.0, mapped_from locate xs there.0 y (ap (λ l. slice_get l there.0) all ∙ there.1))
 
--- a parameter that the reactor has is one of its shape
-pub parameter_of : (scopes : Scopes) (c : Core) (q : List ℕ) → IsBuilt scopes c → HasParameter scopes c.class.number q → (n : ℕ) × (c.things q ≡ Some (thing.Parameter n))
-parameter_of scopes c q is h =
-    let p = reached_there scopes c (parameters_at scopes) (λ (x : InheritedParameter). (x.file, x.parameter.now)) c.parameters h.class h.which h.parameter is is.has_parameters h.reached h.is_declared in
-    (p.0, (is.has_names q (thing.Parameter p.0)).1 (p.1.0, p.1.1, ap (λ (x : ℕ × Parameter). string_bytes x.1.name.text) p.1.2 ∙ h.has_name))
-
 -- so is a member
 pub member_of : (scopes : Scopes) (c : Core) (m : ℕ × Member) → IsBuilt scopes c → HasMember scopes c.class.number m → (k : ℕ) × ((x : Inherited) × (slice_get c.members k ≡ Some x) × ((x.file, x.member.now) ≡ m))
 member_of scopes c m is h = reached_there scopes c (members_at scopes) (λ (x : Inherited). (x.file, x.member.now)) c.members h.class h.which m is is.has_members h.reached h.is_there
-
--- and one of its shape is one that it has
-pub parameter_has : (scopes : Scopes) (c : Core) (q : List ℕ) (n : ℕ) → IsBuilt scopes c → c.things q ≡ Some (thing.Parameter n) → HasParameter scopes c.class.number q
-parameter_has scopes c q n is e =
-    let locate : InheritedParameter → ℕ × Parameter = λ x. (x.file, x.parameter.now) in
-    let p = (is.has_names q (thing.Parameter n)).0 e in
-    let from = listed_of (parameters_at scopes) is.chain n (locate p.0) (ap (λ l. slice_get l n) (sym is.has_parameters) ∙ mapped locate c.parameters n p.0 p.1) in
-    record { class = from.1.0; reached = is.extends.all.reached from.1.0 (from.0, from.1.1); which = from.1.2.0; parameter = locate p.0; is_declared = from.1.2.1; has_name = p.2 }
 
 -- a parameter has one name
 pub one_name : (scopes : Scopes) (c : Core) (p q : List ℕ) (n : ℕ) → IsBuilt scopes c → c.things p ≡ Some (thing.Parameter n) → c.things q ≡ Some (thing.Parameter n) → p ≡ q

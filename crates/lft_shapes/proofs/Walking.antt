@@ -271,17 +271,6 @@ entered_as next first listed done met more path now node leads s new pushed know
     further leads.2.0 (s.leads i (length leads.1.0) v leads.0 is at (omega (arith, within, long, same))) leads.2.1) in
     subst (Walking next first listed done more) (sym pushed) (entered next first listed done met more path node s new reached onto known kept only)
 
--- one that was met and isn't done is on the path: from it there is a way to the one that is gone over
-pub closed : (next : Ways) (first : ℕ) (listed : List ℕ) (done met : ℕ → Bool) (path : List Visit) (node : ℕ) → Walking next first listed done met path → met node ≡ true → done node ≡ false → (v : Visit) × ((front : List Visit) × (path ≡ front ++ v ∷ [])) × Reaches next node v.node
-closed next first listed done met path node s known left = of (s.met_is node known)
-  where
-    of : (done node ≡ true) ⊎ ((i : ℕ) × IsVisitAt path i node) → (v : Visit) × ((front : List Visit) × (path ≡ front ++ v ∷ [])) × Reaches next node v.node
-    of (inl d) = let e : false ≡ true = sym left ∙ d in absurd (cc)
-    of (inr on) =
-        let within = slice_get_within path on.0 on.1.0 on.1.1 in
-        let last = get_there path (length path - 1) (omega (arith, within)) in
-        (last.0, last_some path last.0 last.1, subst (λ n. Reaches next n last.0.node) on.1.2 (s.leads on.0 (length path - 1) on.1.0 last.0 on.1.1 last.1 (omega (arith, within))))
-
 -- what it leads to at one place is done
 pub one_passed : (next : Ways) (done : ℕ → Bool) (node from to base : ℕ) → next node from ≡ Some base → done base ≡ true → to ≤ from + 1 → (k r : ℕ) → from ≤ k → k < to → next node k ≡ Some r → done r ≡ true
 one_passed next done node from to base at is le k r low high there =
@@ -295,7 +284,3 @@ gap_passed next done node from member to inner at gap is le k r low high there =
   | inl l ↦ (let e : None ≡ Some r = sym (gap k low l) ∙ there in absurd (cc))
   | inr g ↦ one_passed next done node member to inner at is le k r g high there
 ]
-
--- the one that is gone over is reached
-pub top_reached : (next : Ways) (first : ℕ) (listed : List ℕ) (done met : ℕ → Bool) (path front : List Visit) (v : Visit) → path ≡ front ++ v ∷ [] → Walking next first listed done met path → Reaches next first v.node
-top_reached next first listed done met path front v e s = s.reached_path (length front) v (ap (λ l. slice_get l (length front)) e ∙ get_last front v)

@@ -10,5 +10,4 @@ pub mod Nestings
 pub mod Refused
 pub mod Scopes
 pub mod Shapes
-pub mod Unnamed
 pub mod Walks

@@ -13,7 +13,6 @@ use Rattle.lft_shapes.specs.declared.shapes.Child.{Child}
 use Rattle.lft_shapes.specs.declared.shapes.Inherited.{Inherited}
 use Rattle.lft_shapes.specs.declared.shapes.Shape.{Shape}
 use Rattle.lft_shapes.specs.declared.shapes.Thing.TheVariants as thing
-use Rattle.lft_shapes.specs.Below.{bank_index}
 use Rattle.lft_shapes.specs.Built.{AreNoted, cores, members_at}
 use Rattle.lft_shapes.specs.Chains.{base_of, extended}
 use Rattle.lft_shapes.specs.Circles.{NamesAt}
@@ -153,11 +152,3 @@ pub record IsReadyAt (scopes : Scopes) (first : ℕ) (shapes : List Shape) (s : 
   pub ready : IsReady scopes first shapes s
   pub is_shape : slice_get shapes s ≡ Some shape
   pub is_member : slice_get shape.members.items k ≡ Some m
-
--- the instance is a bank, and of its shape the parameter `bank_index` is marked
-pub record IsMarkedByIndex (inner : Shape) (instance : Instance) : Type 0 where
-  pub width : Width
-  pub is_bank : instance.width ≡ Some width
-  pub index : ℕ
-  pub is_index : IsParameter inner bank_index index
-  pub is_marked : IsMarked Widths inner index

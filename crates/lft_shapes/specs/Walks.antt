@@ -108,7 +108,3 @@ PassesDone from walk number = (v : Visit) × IsTop walk v × ((passed : List ℕ
 -- the one that is gone over leads to that node first
 abbrev pub LeadsFirst : (ℕ → ℕ → List ℕ) → Walk → ℕ → Type 0
 LeadsFirst from walk node = (v : Visit) × IsTop walk v × ((more : List ℕ) × (from v.node v.next ≡ node ∷ more))
-
--- from that node there is a way to the one that is gone over
-abbrev pub ClosesCircle : Ways → Walk → ℕ → Type 0
-ClosesCircle next walk node = (v : Visit) × IsTop walk v × Reaches next node v.node

@@ -1,10 +1,8 @@
 //! A reactor behind all that it extends.
 
-ghost use Rattle.std.specs.Prelude.{◌≡◌, ◌≤◌, ◌<◌, ℕ, Some, None, IfErr, IfOk, IfSome, OnOk, MatchOption, IsTrue, true, false};
-ghost use Rattle.lft_whole.specs.declared.tree.Name.{Name};
+ghost use Rattle.std.specs.Prelude.{◌≡◌, ◌≤◌, ◌<◌, ℕ, Some, None, IfOk, OnOk, MatchOption, IsTrue, true, false};
 ghost use Rattle.lft_shapes.specs.Chains.{IsChain, base_of, bases_from};
-ghost use Rattle.lft_shapes.specs.Refused.{HasCauseIn, NamesBase};
-ghost use Rattle.lft_shapes.specs.Walks.{IsOrdered, IsOver, IsWalk, Reaches};
+ghost use Rattle.lft_shapes.specs.Walks.{IsOrdered, IsOver, IsWalk};
 
 use crate::scopes::Scopes;
 use crate::walk::Walk;
@@ -28,9 +26,7 @@ fn base_at(
     number: usize,
 ) -> Result<Option<Base>, Stop>
     ensures base { IfOk result (λ o. MatchOption o ((k : ℕ) → number ≤ k → base_of scopes.now class k ≡ None) (λ base. base_of scopes.now class number ≡ Some base.class)) }
-    ensures place { IfOk result (λ o. IfSome o (λ base. (name : Name) × NamesBase scopes.now class number name (record { file = base.file; token = base.at }))) }
     ensures main { OnOk result (work.new.main ≡ work.old.main) }
-    ensures cause { IfErr result (λ stop. (first : ℕ) → Reaches (base_of scopes.now) first class → HasCauseIn scopes.now first stop) }
     ensures work { work.new.left ≤ work.old.left }
 {
     let Some(here) = scopes.class(class) else {
@@ -56,7 +52,6 @@ fn step(scopes: &Scopes, work: &mut Work, walk: &mut Walk) -> Result<bool, Stop>
     ensures order { OnOk result ((first : ℕ) → IsWalk (base_of scopes.now) first walk.old → IsOrdered (bases_from scopes.now) first walk.old → IsOrdered (bases_from scopes.now) first walk.new) }
     ensures over { IfOk result (λ more. more ≡ false → IsOver walk.new) }
     ensures main { OnOk result (work.new.main ≡ work.old.main) }
-    ensures cause { IfErr result (λ stop. (first : ℕ) → IsWalk (base_of scopes.now) first walk.old → HasCauseIn scopes.now first stop) }
     ensures work { IfOk result (λ more. IsTrue more → work.new.left < work.old.left) }
 {
     let Some(visit) = walk.top() else {
@@ -87,7 +82,6 @@ pub(crate) fn chain(
 ) -> Result<Vec<usize>, Stop>
     ensures list { IfOk result (λ v. IsChain scopes.now class v.items) }
     ensures main { OnOk result (work.new.main ≡ work.old.main) }
-    ensures cause { IfErr result (HasCauseIn scopes.now class) }
 {
     let mut walk = Walk::of(alloc, class)?;
     'visits: loop {

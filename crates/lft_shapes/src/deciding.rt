@@ -1,12 +1,10 @@
 //! Which parameters decide widths, and which are times.
 
-ghost use Rattle.std.specs.Prelude.{◌≡◌, ◌≢◌, ℕ, Some, IfErr, IfNone, IfOk, IfSome, OnOk, slice_get, true};
+ghost use Rattle.std.specs.Prelude.{◌≡◌, ◌≢◌, ℕ, Some, IfNone, IfOk, IfSome, OnOk, true};
 ghost use Rattle.lft_shapes.specs.declared.scopes.Scopes.{Scopes};
 ghost use Rattle.lft_shapes.specs.Built.{cores};
-ghost use Rattle.lft_shapes.specs.Causes.{SaysBelow};
-ghost use Rattle.lft_shapes.specs.Circles.{HasNoParameter};
 ghost use Rattle.lft_shapes.specs.Shapes.{tables};
-ghost use Rattle.lft_shapes.specs.Needs.{AreMarks, HasNeed, IsDecided, IsMarkedByIndex, IsParameterIn, IsPassed, IsPassedIn, IsReady, IsReadyAt, IsTimeIn, Marks, NamesParameter, Times, Widths};
+ghost use Rattle.lft_shapes.specs.Needs.{AreMarks, HasNeed, IsDecided, IsParameterIn, IsPassed, IsPassedIn, IsReady, IsTimeIn, Marks, NamesParameter, Times, Widths};
 
 use crate::shapes::{Inherited, Shape};
 use lft_sources::{Stop, Why};
@@ -50,9 +48,7 @@ fn mark_if(list: &mut Vec<bool>, parameter: usize, is_needed: bool)
 }
 
 /// Refuses a bank of a reactor with a width that needs the number in the bank.
-fn refuse_by_index(inner: &Shape, file: usize, instance: &Instance) -> Result<(), Stop>
-    ensures { IfErr result (λ stop. (stop ≡ Stop.Refused (record { why = Why.WidthByIndex; place = record { file = file; token = instance.now.name.at } })) × IsMarkedByIndex inner.now instance.now) }
-{
+fn refuse_by_index(inner: &Shape, file: usize, instance: &Instance) -> Result<(), Stop> {
     if instance.width.is_some()
         && let Some(index) = inner.parameter("bank_index")
         && inner.is_sized(index)
@@ -81,7 +77,6 @@ impl Needs {
     fn note_width(&mut self, shape: &Shape, file: usize, width: &Option<Width>) -> Result<(), Stop>
         ensures sized { OnOk result (Marks (NamesParameter shape.now width.now) self.old.sized.items self.new.sized.items) }
         ensures timed { self.new.timed ≡ self.old.timed }
-        ensures cause { IfErr result (HasNoParameter shape.now file width.now) }
     {
         let Some(width) = width else {
             return Ok(());
@@ -141,7 +136,6 @@ impl Needs {
     ) -> Result<(), Stop>
         ensures sized { OnOk result (Marks (HasNeed Widths shapes.now shape.now number (Member.Instance instance.now)) self.old.sized.items self.new.sized.items) }
         ensures timed { OnOk result (Marks (HasNeed Times shapes.now shape.now number (Member.Instance instance.now)) self.old.timed.items self.new.timed.items) }
-        ensures cause { IfErr result (λ stop. (scopes : Scopes) (first s : ℕ) → IsReadyAt scopes first shapes.now s shape.now number inherited.entry → inherited.entry.member.now ≡ Member.Instance instance.now → SaysBelow scopes first stop) }
     {
         self.note_width(shape, inherited.file, &instance.width)?;
         let Some(child) = shape.child(number) else {
@@ -165,7 +159,6 @@ impl Needs {
     ) -> Result<(), Stop>
         ensures sized { OnOk result (Marks (HasNeed Widths shapes.now shape.now number inherited.entry.member.now) self.old.sized.items self.new.sized.items) }
         ensures timed { OnOk result (Marks (HasNeed Times shapes.now shape.now number inherited.entry.member.now) self.old.timed.items self.new.timed.items) }
-        ensures cause { IfErr result (λ stop. (scopes : Scopes) (first s : ℕ) → IsReadyAt scopes first shapes.now s shape.now number inherited.entry → SaysBelow scopes first stop) }
     {
         match inherited.member {
             Member::Port(port) => self.note_width(shape, inherited.file, &port.width)?,
@@ -188,7 +181,6 @@ impl Needs {
 fn needs_of(alloc: Global, shapes: &[Shape], shape: &Shape) -> Result<Needs, Stop>
     ensures sized { IfOk result (λ needs. AreMarks Widths shapes.now shape.now needs.sized.items) }
     ensures timed { IfOk result (λ needs. AreMarks Times shapes.now shape.now needs.timed.items) }
-    ensures cause { IfErr result (λ stop. (scopes : Scopes) (first s : ℕ) → IsReady scopes first shapes.now s → slice_get shapes.now s ≡ Some shape.now → SaysBelow scopes first stop) }
 {
     let count = shape.parameters.len();
     let mut needs = Needs {
@@ -207,7 +199,6 @@ pub(crate) fn decide(alloc: Global, shapes: &mut Vec<Shape>, number: usize) -> R
     ensures cores { OnOk result (cores shapes.new.items ≡ cores shapes.old.items) }
     ensures decided { OnOk result ((scopes : Scopes) (first : ℕ) → IsReady scopes first shapes.old.items number → IsDecided scopes shapes.new.items number) }
     ensures kept { OnOk result ((scopes : Scopes) (s : ℕ) → s ≢ number → IsDecided scopes shapes.old.items s → IsDecided scopes shapes.new.items s) }
-    ensures cause { IfErr result (λ stop. (scopes : Scopes) (first : ℕ) → IsReady scopes first shapes.old.items number → SaysBelow scopes first stop) }
 {
     if number >= shapes.len() {
         return Ok(());

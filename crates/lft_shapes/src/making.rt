@@ -1,16 +1,14 @@
 //! The shapes of the main reactor and of all that it contains, each made when it is asked for first.
 
-ghost use Rattle.std.specs.Prelude.{◌≡◌, ◌<◌, ℕ, Some, OnOk, IfErr, IfNone, IfOk, IfSome, length, map, slice_get, string_bytes};
+ghost use Rattle.std.specs.Prelude.{◌≡◌, ◌<◌, ℕ, Some, OnOk, IfNone, IfOk, IfSome, length, map, slice_get, string_bytes};
 ghost use Rattle.lft_scope.specs.Tests.{texts};
 ghost use Rattle.lft_shapes.specs.declared.shapes.Inherited.{Inherited};
 ghost use Rattle.lft_shapes.specs.declared.shapes.Shape.{Shape};
-ghost use Rattle.lft_shapes.specs.Below.{Declares, IsBelow};
+ghost use Rattle.lft_shapes.specs.Below.{IsBelow};
 ghost use Rattle.lft_shapes.specs.Built.{AreGiven, AreNoted, Core, IsInside, IsNoted, cores, first_class, instance_of};
-ghost use Rattle.lft_shapes.specs.Causes.{SaysBelow};
 ghost use Rattle.lft_shapes.specs.Chains.{extended};
-ghost use Rattle.lft_shapes.specs.Circles.{GivesOnce, HasWrongGiven};
+ghost use Rattle.lft_shapes.specs.Circles.{GivesOnce};
 ghost use Rattle.lft_shapes.specs.Makings.{AddsShape, AreMade, AreShapes, GoesOn, HasChildren, IsNeeded, IsOfClass, KeepsBut, KeepsNoted, KnowsNone, KnowsOne, SetsOne};
-ghost use Rattle.lft_shapes.specs.Refused.{HasCauseIn};
 ghost use Rattle.lft_shapes.specs.Shapes.{tables, thing_named};
 
 use crate::scopes::{Class, Scopes};
@@ -53,7 +51,6 @@ fn given_of<'a>(
 ) -> Result<Vec<Given<'a>>, Stop>
     ensures once { OnOk result (GivesOnce instance.now.given.items) }
     ensures given { IfOk result (λ given. AreGiven (thing_named inner.now) instance.now.given.items given.items) }
-    ensures cause { IfErr result (HasWrongGiven inner.now file instance.now.given.items) }
 {
     let names = given_names(alloc, &instance.given)?;
     let index = Index::of(alloc, &names)?;
@@ -86,7 +83,6 @@ fn given_inside<'a>(
 ) -> Result<Vec<Given<'a>>, Stop>
     ensures once { OnOk result ((inner : Shape) → slice_get shapes.now shape ≡ Some inner → GivesOnce instance.now.given.items) }
     ensures given { IfOk result (λ given. (inner : Shape) → slice_get shapes.now shape ≡ Some inner → AreGiven (thing_named inner) instance.now.given.items given.items) }
-    ensures cause { IfErr result (λ stop. (inner : Shape) × (slice_get shapes.now shape ≡ Some inner) × HasWrongGiven inner file instance.now.given.items stop) }
 {
     let Some(inner) = shapes.get(shape) else {
         return Ok(Vec::new(alloc));
@@ -131,7 +127,6 @@ impl<'a> Making<'a> {
     /// Makes the shape of a reactor; its number.
     fn add_shape(&mut self, class: Class<'a>) -> Result<usize, Stop>
         ensures adds { IfOk result (AddsShape self.old self.new class.entry) }
-        ensures cause { IfErr result (HasCauseIn self.old.scopes class.entry.number) }
     {
         let number = self.shapes.len();
         let shape = Shape::of(self.alloc, &self.scopes, &mut self.work, class)?;
@@ -145,7 +140,6 @@ impl<'a> Making<'a> {
         ensures goes { OnOk result (GoesOn (λ first. IsBelow self.old.scopes first class.entry.number) self.old self.new) }
         ensures shape { IfOk result (λ shape. (first : ℕ) → IsBelow self.old.scopes first class.entry.number → AreMade self.old.scopes first self.old → IsOfClass (cores self.new.shapes.items) shape class.entry.number) }
         ensures noted { OnOk result (KeepsNoted self.old.shapes.items self.new.shapes.items) }
-        ensures cause { IfErr result (HasCauseIn self.old.scopes class.entry.number) }
     {
         if let Some(Some(known)) = self.known.get(class.number).copied() {
             return Ok(known);
@@ -161,7 +155,6 @@ impl<'a> Making<'a> {
         ensures once { OnOk result ((first : ℕ) → IsNeeded self.old.scopes file instance.now first → AreMade self.old.scopes first self.old → GivesOnce instance.now.given.items) }
         ensures given { IfOk result (λ child. (inner : Shape) → slice_get self.new.shapes.items child.shape ≡ Some inner → AreGiven (thing_named inner) instance.now.given.items child.given.items) }
         ensures noted { OnOk result (KeepsNoted self.old.shapes.items self.new.shapes.items) }
-        ensures cause { IfErr result (λ stop. (first r which : ℕ) → AreMade self.old.scopes first self.old → IsBelow self.old.scopes first r → Declares self.old.scopes r which file instance.now → SaysBelow self.old.scopes first stop) }
     {
         let Some(class) = self.scopes.get(file, instance.reactor.text.as_str()) else {
             return Err(Stop::at(Why::NoReactor, file, instance.reactor.at));
@@ -177,7 +170,6 @@ impl<'a> Making<'a> {
         ensures child { IfOk result (λ o. IfSome o (λ child. (first : ℕ) → AreMade self.old.scopes first self.old → IsInside self.old.scopes (cores self.new.shapes.items) shape number child)) }
         ensures noted { OnOk result (KeepsNoted self.old.shapes.items self.new.shapes.items) }
         ensures none { IfOk result (λ o. IfNone o ((c : Core) (m : Inherited) (n : ℕ) → slice_get (cores self.old.shapes.items) shape ≡ Some c → slice_get c.members number ≡ Some m → instance_of self.old.scopes (m.file, m.member.now) ≡ Some n → ⊥)) }
-        ensures cause { IfErr result (λ stop. (first : ℕ) → AreMade self.old.scopes first self.old → SaysBelow self.old.scopes first stop) }
     {
         let Some(found) = self.shapes.get(shape) else {
             return Ok(None);
@@ -197,7 +189,6 @@ impl<'a> Making<'a> {
         ensures goes { OnOk result (GoesOn (λ first. Unit {0}) self.old self.new) }
         ensures others { OnOk result (KeepsBut self.old.shapes.items self.new.shapes.items shape) }
         ensures noted { OnOk result ((c : Core) → slice_get (cores self.old.shapes.items) shape ≡ Some c → length c.members ≡ count → IsNoted self.old.scopes (tables self.new.shapes.items) shape c) }
-        ensures cause { IfErr result (λ stop. (first : ℕ) → AreMade self.old.scopes first self.old → SaysBelow self.old.scopes first stop) }
     {
         let mut children = Vec::new(self.alloc);
         for number in 0..count {
@@ -212,7 +203,6 @@ impl<'a> Making<'a> {
     fn fill_all(&mut self) -> Result<(), Stop>
         ensures goes { OnOk result (GoesOn (λ first. Unit {0}) self.old self.new) }
         ensures noted { OnOk result (AreNoted self.old.scopes (cores self.new.shapes.items) (tables self.new.shapes.items)) }
-        ensures cause { IfErr result (λ stop. (first : ℕ) → AreMade self.old.scopes first self.old → SaysBelow self.old.scopes first stop) }
     {
         for shape in 0..usize::MAX {
             let count = match self.shapes.get(shape) {
@@ -236,7 +226,6 @@ pub(crate) fn shapes_of<'a>(
     ensures first { IfOk result (λ made. first_class (cores made.1.items) ≡ Some main.entry) }
     ensures noted { IfOk result (λ made. AreNoted scopes.entry (cores made.1.items) (tables made.1.items)) }
     ensures main { IfOk result (λ made. made.0.main ≡ work.main) }
-    ensures cause { IfErr result (SaysBelow scopes.entry main.entry.number) }
 {
     let known = nothing(alloc, scopes.len())?;
     let shapes = Vec::new(alloc);

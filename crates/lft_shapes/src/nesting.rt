@@ -1,9 +1,8 @@
 //! All reactors below the main one, contained ones first.
 
-ghost use Rattle.std.specs.Prelude.{◌≡◌, ◌≤◌, ◌<◌, ℕ, Some, None, IfErr, IfOk, IfSome, IfNone, OnOk, IsTrue, true, false};
+ghost use Rattle.std.specs.Prelude.{◌≡◌, ◌≤◌, ◌<◌, ℕ, Some, None, IfOk, IfSome, IfNone, OnOk, IsTrue, true, false};
 ghost use Rattle.lft_shapes.specs.declared.scopes.Scopes.{Scopes};
-ghost use Rattle.lft_shapes.specs.Causes.{HasCause, last_token};
-ghost use Rattle.lft_shapes.specs.Circles.{HasCircle, SaysContains};
+ghost use Rattle.lft_shapes.specs.Causes.{last_token};
 ghost use Rattle.lft_shapes.specs.Nestings.{IsNesting};
 ghost use Rattle.lft_shapes.specs.Shapes.{inside, tables};
 ghost use Rattle.lft_shapes.specs.Walks.{IsWalk, IsList, IsOver};
@@ -44,9 +43,7 @@ fn next_child(shapes: &[Shape], visit: Visit) -> Option<(usize, usize)>
 }
 
 /// Why a shape may not be in the instance of this number, as it contains that.
-fn contains_itself(shapes: &[Shape], shape: usize, member: usize) -> Stop
-    ensures { SaysContains shapes.now shape member result }
-{
+fn contains_itself(shapes: &[Shape], shape: usize, member: usize) -> Stop {
     let Some(found) = shapes.get(shape) else {
         return Stop::NoMemory;
     };
@@ -61,7 +58,6 @@ fn step(shapes: &[Shape], work: &mut Work, walk: &mut Walk) -> Result<bool, Stop
     ensures walk { OnOk result ((first : ℕ) → IsWalk (inside (tables shapes.now)) first walk.old → IsWalk (inside (tables shapes.now)) first walk.new) }
     ensures over { IfOk result (λ more. more ≡ false → IsOver walk.new) }
     ensures main { OnOk result (work.new.main ≡ work.old.main) }
-    ensures cause { IfErr result (λ stop. (first : ℕ) → IsWalk (inside (tables shapes.now)) first walk.old → HasCircle shapes.now first stop) }
     ensures work { IfOk result (λ more. IsTrue more → work.new.left < work.old.left) }
 {
     let Some(visit) = walk.top() else {
@@ -86,7 +82,6 @@ fn step(shapes: &[Shape], work: &mut Work, walk: &mut Walk) -> Result<bool, Stop
 fn order_of(alloc: Global, shapes: &[Shape], work: &mut Work) -> Result<Vec<usize>, Stop>
     ensures order { IfOk result (λ order. IsList (inside (tables shapes.now)) 0 order.items) }
     ensures main { OnOk result (work.new.main ≡ work.old.main) }
-    ensures cause { IfErr result (HasCircle shapes.now 0) }
 {
     let mut walk = Walk::of(alloc, 0)?;
     'visits: loop {
@@ -111,7 +106,6 @@ impl<'a> Nesting<'a> {
     /// The reactors of the files that the main one of the first file contains.
     pub fn of(alloc: Global, files: &'a [SourceFile]) -> Result<Nesting<'a>, Stop>
         ensures nesting { IfOk result (λ nesting. (scopes : Scopes) × IsNesting files.now scopes nesting) }
-        ensures cause { IfErr result (HasCause files.now) }
     {
         let scopes = Scopes::of(alloc, files)?;
         let main = scopes.main(last_token(files))?;

@@ -1,14 +1,11 @@
 //! What the names of reactors mean in each file.
 
-ghost use Rattle.std.specs.Prelude.{◌≡◌, ◌≤◌, ◌<◌, ◌++◌, ℕ, List, [], Some, false, IfErr, IfNone, IfOk, IfSome, OnOk, map, slice_get};
+ghost use Rattle.std.specs.Prelude.{◌≡◌, ◌≤◌, ◌<◌, ◌++◌, ℕ, List, [], Some, false, IfNone, IfOk, IfSome, OnOk, map, slice_get};
 ghost use Rattle.lft_scope.specs.Tests.{texts};
 ghost use Rattle.lft_sources.specs.declared.source.SourceFile.{SourceFile};
 ghost use Rattle.lft_whole.specs.declared.tree.Import.{Import};
 ghost use Rattle.lft_whole.specs.declared.tree.ImportedName.{ImportedName};
-ghost use Rattle.lft_shapes.specs.Causes.{HasCause};
-ghost use Rattle.lft_shapes.specs.Refused.{HasNoOneMain};
-ghost use Rattle.lft_shapes.specs.Unnamed.{ExportsNone};
-ghost use Rattle.lft_shapes.specs.Scopes.{in_scope, meaning_in, class_at, name_in, EachMeans, HasImports, HasMeaning, HasOwn, IsGiven, IsMeantScope, IsOnce, IsOwnScope, IsScopeOf, IsScope, IsOf, AreNumbered, IsOwn, IsOwnAt, AreOwnScopes, IsImport, MeansAt, AreMeantScopes, IsMain, IsMainAt, AreScopes, placed, reactors_before, reactors_in, reactors_of};
+ghost use Rattle.lft_shapes.specs.Scopes.{in_scope, meaning_in, class_at, name_in, EachMeans, HasImports, HasMeaning, HasOwn, IsGiven, IsMeantScope, IsOnce, IsOwnScope, IsScopeOf, IsOf, AreNumbered, IsOwn, IsOwnAt, AreOwnScopes, IsImport, MeansAt, AreMeantScopes, IsMain, IsMainAt, AreScopes, placed, reactors_before, reactors_in, reactors_of};
 
 use lft_lists::item_at;
 use lft_scope::index::Index;
@@ -127,7 +124,6 @@ fn own_scope<'a>(
 /// The reactor that an import of this name from a file gives: no main one.
 fn exported<'a>(own: &[Scope<'a>], target: usize, name: &str) -> Option<Class<'a>>
     ensures some { IfSome result (λ class. (class.reactor.now.is_main ≡ false) × ((files : List SourceFile) → AreOwnScopes files own.now → IsOwn files target name.now class)) }
-    ensures none { IfNone result (ExportsNone own.now target name.now) }
 {
     let Some(scope) = own.get(target) else {
         return None;
@@ -149,7 +145,6 @@ fn push_names<'a>(
     ensures meant { OnOk result ((files : List SourceFile) → IsImport files number target import.now → AreOwnScopes files own.now → EachMeans (MeansAt files number) meanings.old.items → EachMeans (MeansAt files number) meanings.new.items) }
     ensures kept { OnOk result ((q : List ℕ) (n : ℕ) → HasMeaning meanings.old.items q n → HasMeaning meanings.new.items q n) }
     ensures all { OnOk result ((files : List SourceFile) → AreOwnScopes files own.now → (which : ℕ) (name : ImportedName) → slice_get import.now.names.items which ≡ Some name → IsGiven files target name meanings.new.items) }
-    ensures cause { IfErr result (λ stop. (files : List SourceFile) → IsImport files number target import.now → AreOwnScopes files own.now → HasCause files stop) }
 {
     for place in 0..import.names.len() {
         let imported = &import.names[place];
@@ -175,7 +170,6 @@ fn push_imports<'a>(
     ensures meant { OnOk result ((files : List SourceFile) → slice_get files number ≡ Some file.now → AreOwnScopes files own.now → EachMeans (MeansAt files number) meanings.old.items → EachMeans (MeansAt files number) meanings.new.items) }
     ensures kept { OnOk result ((q : List ℕ) (n : ℕ) → HasMeaning meanings.old.items q n → HasMeaning meanings.new.items q n) }
     ensures all { OnOk result ((files : List SourceFile) → slice_get files number ≡ Some file.now → AreOwnScopes files own.now → HasImports files number meanings.new.items) }
-    ensures cause { IfErr result (λ stop. (files : List SourceFile) → slice_get files number ≡ Some file.now → AreOwnScopes files own.now → HasCause files stop) }
 {
     let count = file.tree.imports.len().min(file.imports.len());
     for place in 0..count {
@@ -204,7 +198,6 @@ fn own_meanings<'a>(
 /// Refuses a name that means two reactors. One reactor may be imported twice.
 fn refuse_twice(scope: &Scope, number: usize) -> Result<(), Stop>
     ensures once { OnOk result (IsOnce scope.now) }
-    ensures cause { IfErr result (λ stop. (files : List SourceFile) → IsScope (MeansAt files number) scope.now → HasCause files stop) }
 {
     for place in 0..scope.meanings.len() {
         let meaning = item_at(&scope.meanings, place);
@@ -225,7 +218,6 @@ fn scope_of<'a>(
     file: &'a SourceFile,
 ) -> Result<Scope<'a>, Stop>
     ensures meant { IfOk result (λ scope. (files : List SourceFile) → slice_get files number ≡ Some file.now → AreOwnScopes files own.now → IsMeantScope files number scope) }
-    ensures cause { IfErr result (λ stop. (files : List SourceFile) → slice_get files number ≡ Some file.now → AreOwnScopes files own.now → HasCause files stop) }
 {
     let mut meanings = own_meanings(alloc, own, number)?;
     push_imports(&mut meanings, own, number, file)?;
@@ -259,7 +251,6 @@ fn all_scopes<'a>(
     own: &[Scope<'a>],
 ) -> Result<Vec<Scope<'a>>, Stop>
     ensures meant { IfOk result (λ scopes. AreOwnScopes files.now own.now → AreMeantScopes files.now scopes.items) }
-    ensures cause { IfErr result (λ stop. AreOwnScopes files.now own.now → HasCause files.now stop) }
 {
     let mut scopes = Vec::new(alloc);
     for number in 0..files.len() {
@@ -273,7 +264,6 @@ impl<'a> Scopes<'a> {
     /// The reactors of the files, and what their names mean.
     pub(crate) fn of(alloc: Global, files: &'a [SourceFile]) -> Result<Scopes<'a>, Stop>
         ensures scopes { IfOk result (AreScopes files.now) }
-        ensures cause { IfErr result (HasCause files.now) }
     {
         let mut classes = Vec::new(alloc);
         let own = own_scopes(alloc, files, &mut classes)?;
@@ -321,7 +311,6 @@ impl<'a> Scopes<'a> {
     /// The main reactor of the first file, which ends at the token.
     pub(crate) fn main(&self, end: usize) -> Result<Class<'a>, Stop>
         ensures main { IfOk result (IsMain self.now) }
-        ensures cause { IfErr result (HasNoOneMain self.now end) }
     {
         let Some((place, class)) = self.next_main(0) else {
             return Err(Stop::at(Why::NoMain, 0, end));

@@ -10,7 +10,7 @@ ghost use Rattle.lft_whole.specs.declared.tree.Port.{Port};
 ghost use Rattle.lft_shapes.specs.Shapes.{thing_named, child_at, name_of, width_of, is_at};
 ghost use Rattle.lft_shapes.specs.Built.{HasName, HasNoForeign, IsBuilt, core, located, located_parameters, members_of, members_at, parameters_of, parameters_at};
 ghost use Rattle.lft_shapes.specs.Naming.{EachNamed, HasNamed};
-ghost use Rattle.lft_shapes.specs.Refused.{HasCauseIn, IsTooMuch, SaysForeign, SaysTwice, names_in, noted, noted_if, why_of, written};
+ghost use Rattle.lft_shapes.specs.Refused.{IsTooMuch, why_of};
 
 use crate::chains::chain;
 use crate::scopes::{Class, Scopes};
@@ -276,7 +276,6 @@ fn push_named<'a>(
     number: usize,
     inherited: Inherited<'a>,
 ) -> Result<(), NoMemory>
-    ensures noted { OnOk result (noted named.new.items ≡ noted named.old.items ++ noted_if inherited.entry.file (name_of inherited.entry.member.now)) }
     ensures each { OnOk result ((ps : List InheritedParameter) (ms : List Inherited) → slice_get ms number ≡ Some inherited.entry → EachNamed ps ms named.old.items → EachNamed ps ms named.new.items) }
     ensures kept { OnOk result ((q : List ℕ) (t : Thing) → HasNamed named.old.items q t → HasNamed named.new.items q t) }
     ensures has { OnOk result ((q : List ℕ) → option_map (λ n. string_bytes n.text) (name_of inherited.entry.member.now) ≡ Some q → HasNamed named.new.items q (Thing.Member number)) }
@@ -299,7 +298,6 @@ fn all_named<'a>(
     parameters: &[InheritedParameter<'a>],
     members: &[Inherited<'a>],
 ) -> Result<Vec<Named<'a>>, NoMemory>
-    ensures noted { IfOk result (λ named. noted named.items ≡ written (names_in (located_parameters parameters.now) (located members.now))) }
     ensures each { IfOk result (λ named. EachNamed parameters.now members.now named.items) }
     ensures all { IfOk result (λ named. (q : List ℕ) (t : Thing) → HasName parameters.now members.now q t → HasNamed named.items q t) }
 {
@@ -344,7 +342,6 @@ impl<'a> Shape<'a> {
         ensures built { IfOk result (λ shape. IsBuilt scopes.now (core shape)) }
         ensures empty { IfOk result (λ shape. shape.children.items ≡ []) }
         ensures main { OnOk result (work.new.main ≡ work.old.main) }
-        ensures cause { IfErr result (HasCauseIn scopes.now class.entry.number) }
     {
         let chain = chain(alloc, scopes, work, class.number)?;
         let parts = parts_of(alloc, scopes, work, &chain)?;
@@ -430,7 +427,6 @@ impl<'a> Shape<'a> {
 /// Refuses two things of one name.
 fn refuse_twice(index: &Index, named: &[Named]) -> Result<(), Stop>
     ensures once { OnOk result (IsIndexOf index.now (map (λ n. n.name.now) named.now) → (k : ℕ) (n : Named) → slice_get named.now k ≡ Some n → place_in index.now n.name.now ≡ Some k) }
-    ensures cause { IfErr result (λ stop. IsIndexOf index.now (map (λ n. n.name.now) named.now) → (names : List (ℕ × Name)) → noted named.now ≡ written names → SaysTwice names stop) }
 {
     for place in 0..named.len() {
         let found = item_at(named, place);
@@ -444,7 +440,6 @@ fn refuse_twice(index: &Index, named: &[Named]) -> Result<(), Stop>
 /// Refuses what no core program has in its place.
 fn refuse_foreign(members: &[Inherited]) -> Result<(), Stop>
     ensures none { OnOk result (HasNoForeign members.now) }
-    ensures cause { IfErr result (SaysForeign (located members.now)) }
 {
     for inherited in members {
         if let Some((why, at)) = foreign(inherited.member) {

@@ -1,7 +1,7 @@
 //! A walk that lists all that is reached from a first one, each behind all that it leads to.
 
 ghost use Rattle.std.specs.Prelude.{◌≡◌, ℕ, List, [], ◌∷◌, Option, true, false, IfOk, IfSome, IfNone, OnOk};
-ghost use Rattle.lft_shapes.specs.Walks.{IsWalk, IsList, IsOrdered, IsTop, IsOver, EndsAt, LeadsFirst, LeadsNoFurther, LeadsTo, Lists, PassesDone, PassesTo, ClosesCircle, is_done};
+ghost use Rattle.lft_shapes.specs.Walks.{IsWalk, IsList, IsOrdered, IsTop, IsOver, EndsAt, LeadsFirst, LeadsNoFurther, LeadsTo, Lists, PassesDone, PassesTo, is_done};
 
 use std::alloc::{AllocError, Global};
 use std::collections::BTreeSet;
@@ -93,7 +93,6 @@ impl Walk {
     pub(crate) fn enter(&mut self, node: usize) -> Result<bool, AllocError>
         ensures new { IfOk result (λ is_new. is_new ≡ true → (next : ℕ → ℕ → Option ℕ) (first : ℕ) → LeadsTo next self.old node → IsWalk next first self.old → IsWalk next first self.new) }
         ensures order { IfOk result (λ is_new. is_new ≡ true → (next : ℕ → ℕ → Option ℕ) (from : ℕ → ℕ → List ℕ) (first : ℕ) → LeadsFirst from self.old node → IsWalk next first self.old → IsOrdered from first self.old → IsOrdered from first self.new) }
-        ensures circle { IfOk result (λ is_new. is_new ≡ false → is_done self.old node ≡ false → (next : ℕ → ℕ → Option ℕ) (first : ℕ) → IsWalk next first self.old → ClosesCircle next self.old node) }
     {
         let is_new = self.met.insert(node)?;
         if is_new {

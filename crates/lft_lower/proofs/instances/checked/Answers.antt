@@ -1,19 +1,15 @@
-use Rattle.std.proofs.Common.{◌≡◌, ◌⊎◌, ◌<◌, ◌≤◌, ℕ, List, [], inl, inr, Some, map, refl, slice_get, subst, sym, ap, ◌∙◌}
+use Rattle.std.proofs.Common.{◌≡◌, ◌≤◌, ℕ, List, [], Some, map, slice_get, subst, sym, ap, ◌∙◌}
 use Rattle.std.specs.Prelude.{option_map, unwrap_or}
 use Rattle.std.specs.Option.{option_and_then}
 use Rattle.std.proofs.lemmas.Option.{slice_get-map}
-use Rattle.std.proofs.lemmas.Result.{err_from_is_err_and}
 use Rattle.lft_shapes.specs.declared.shapes.Shape.{Shape}
 use Rattle.lft_settings.specs.declared.settings.Settings.{Settings}
 use Rattle.std.specs.List.{flat_map}
 use Rattle.lft_shapes.specs.declared.shapes.Child.{Child}
 use Rattle.lft_meanings.specs.Meanings.{here, shape_inside, token_in}
 use Rattle.lft_lower.specs.Standing.{given_token}
-use Rattle.lft_meanings.specs.Refused.{IsOfSome, IsPassed}
 use Rattle.lft_lower.specs.Needed.{needed_given, needed_in}
-use Rattle.lft_lower.specs.Refused.{IsOfGiven, IsOfInstance}
-use Rattle.lft_meanings.proofs.Refusing.{refused_too}
-use Rattle.lft_lower.proofs.Needing.{lacking, none_lacks}
+use Rattle.lft_lower.proofs.Needing.{none_lacks}
 use Rattle.lft_lower.proofs.instances.checked.Goals as goal
 
 -- so many parameters of the shape in an instance have to be given
@@ -44,21 +40,3 @@ returns-clause-at c =
     c.in_ok-given.ensures.at
     ∙ ap (λ o. unwrap_or (option_map (λ (s : Shape). flat_map (given_token number s) child.given.items) o) []) c.in-Some-inner_shape.ensures
     ∙ ap (λ o. unwrap_or (option_and_then (λ (ch : Child). option_map (λ (s : Shape). flat_map (given_token number s) ch.given.items) (shape_inside h c.args.member)) o) []) c.in-Some.ensures
-
-pub returns-then-not-gives_needed-clause-cause : goal.returns-then-not-gives_needed-clause-cause
-returns-then-not-gives_needed-clause-cause c same =
-    let child = c.in-Some.child.now in
-    let inner = c.in-Some-inner_shape.inner.now in
-    let now = c.args.within.settings.now in
-    let there : slice_get now.shapes.items child.shape ≡ Some inner = ap (option_and_then (λ ch. slice_get now.shapes.items ch.shape)) c.in-Some.ensures ∙ sym c.in-Some-inner_shape.ensures in
-    let is = is_count c.args.maker.settings.now now c.args.maker.needed.now child.shape c.needed_of-needed.result inner c.args.maker.counted same there c.needed_of-needed.ensures in
-    let few = subst (λ n. needed_given inner child < n) is (c.gives_needed.ensures.few c.if-not-gives_needed.true) in
-    rw c.at.ensures (inr (inner, child, sym c.in-Some-inner_shape.ensures, sym c.in-Some.ensures, inl (refl, refl, lacking inner child few)))
-
-pub returns-in_err-given-clause-cause : goal.returns-in_err-given-clause-cause
-returns-in_err-given-clause-cause c same =
-    let p = err_from_is_err_and c.from_residual.result c.from_residual.ensures.1 in
-    let child = c.in-Some.child.now in
-    let inner = c.in-Some-inner_shape.inner.now in
-    let w = c.args.within in
-    rw (p.1, p.2) (refused_too (IsOfSome (IsOfGiven w.shape.now w.file inner) child.given.items) (λ r. IsPassed w.settings.now.work.main r ⊎ IsOfInstance (here w) w.file c.args.member c.args.at r) c.in_err-given.field-0.0 (λ r q. inr (inner, child, sym c.in-Some-inner_shape.ensures, sym c.in-Some.ensures, inr q)) c.in_err-given.ensures.cause)

@@ -3,15 +3,12 @@ use Rattle.std.specs.List.{cons_option, flat_map}
 use Rattle.std.specs.Prelude.{option_map}
 use Rattle.std.proofs.lemmas.List.{take_all}
 use Rattle.std.proofs.lemmas.Option.{slice_get_read}
-use Rattle.std.proofs.lemmas.Result.{err_from_is_err_and}
 use Rattle.lft_lists.proofs.Picked.{kept_more}
 use Rattle.lft_tree.specs.View.{assignment_view}
 use Rattle.lft_lower.specs.Lowered.{IsGiven, time_given}
 use Rattle.lft_meanings.proofs.Growing.{all_done, all_next, flat_all, flat_grown}
 use Rattle.lft_meanings.specs.Meanings.{token_in}
 use Rattle.lft_lower.specs.Standing.{given_token, given_tokens}
-use Rattle.lft_lower.specs.Refused.{IsOfGiven}
-use Rattle.lft_meanings.proofs.Refusing.{of_some}
 use Rattle.lft_lower.proofs.instances.given_times.Goals as goal
 
 pub loop-place-preserved : goal.loop-place-preserved
@@ -38,13 +35,3 @@ returns-clause-read c = all_done (IsGiven c.args.within.shape.now c.args.inner.n
 
 pub returns-clause-at : goal.returns-clause-at
 returns-clause-at c = flat_all (given_token (token_in c.args.within) c.args.inner.now) c.args.child.now.given.items c.loop-place.place _ (omega (arith, c.len-place-end.ensures, c.loop-place-test.false)) c.loop-place.invariant.1
-
-pub returns-in_err-made-clause-cause : goal.returns-in_err-made-clause-cause
-returns-in_err-made-clause-cause c =
-    let p = err_from_is_err_and c.from_residual.result c.from_residual.ensures.1 in
-    let items = c.args.child.now.given.items in
-    let place = c.loop-place.place in
-    let item = c.index-given.result.now in
-    let test = c.loop-place-test.true in
-    let there : slice_get items place ≡ Some item = slice_get_read items (length items) place item refl (omega (arith, c.len-place-end.ensures)) c.index-given.ensures in
-    rw (p.1, p.2) (of_some (IsOfGiven c.args.within.shape.now c.args.within.file c.args.inner.now) items place item c.in_err-made.field-0.0 there c.in_err-made.ensures.cause)

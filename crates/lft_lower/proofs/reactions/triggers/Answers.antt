@@ -1,13 +1,9 @@
-use Rattle.std.proofs.Common.{◌≡◌, inr, Some, length, slice_get, refl, arith}
+use Rattle.std.proofs.Common.{◌≡◌, Some, length, slice_get, refl, arith}
 use Rattle.std.proofs.lemmas.Option.{slice_get_read}
-use Rattle.std.proofs.lemmas.Result.{err_from_is_err_and}
 use Rattle.lft_meanings.specs.Meanings.{here, token_in}
-use Rattle.lft_meanings.specs.Refused.{IsOfSome, IsPassed}
 use Rattle.lft_meanings.proofs.Growing.{all_done, all_next, flat_all, flat_grown}
 use Rattle.lft_lower.specs.Lowered.{MeansTrigger, trigger_places}
 use Rattle.lft_lower.specs.Standing.{tokens_of_trigger}
-use Rattle.lft_lower.specs.Refused.{AreOfTriggers, IsOfTrigger}
-use Rattle.lft_meanings.proofs.Refusing.{of_this, second_too}
 use Rattle.lft_lower.proofs.reactions.triggers.Goals as goal
 
 pub loop-place-preserved : goal.loop-place-preserved
@@ -31,15 +27,3 @@ returns-clause-places c = flat_all (trigger_places (here c.args.within)) (c.args
 
 pub returns-clause-at : goal.returns-clause-at
 returns-clause-at c = flat_all (tokens_of_trigger (token_in c.args.within) (here c.args.within)) (c.args.reaction.now.triggers.items) c.loop-place.place _ (omega (arith, c.len-place-end.ensures, c.loop-place-test.false)) c.loop-place.invariant.1
-
-pub returns-in_err-push_trigger-clause-cause : goal.returns-in_err-push_trigger-clause-cause
-returns-in_err-push_trigger-clause-cause c =
-    let p = err_from_is_err_and c.from_residual.result c.from_residual.ensures.1 in
-    let items = c.args.reaction.now.triggers.items in
-    let place = c.loop-place.place in
-    let item = c.index.result.now in
-    let test = c.loop-place-test.true in
-    let there : slice_get items place ≡ Some item = slice_get_read items (length items) place item refl (omega (arith, c.len-place-end.ensures)) c.index.ensures in
-    let w = c.args.within in
-    let main = IsPassed w.settings.now.work.main in
-    rw (p.1, p.2) (second_too main (IsOfSome (IsOfTrigger (here w) w.file) items) (AreOfTriggers (here w) w.file c.args.reaction.now) c.in_err-push_trigger.field-0.0 (λ r q. inr q) (of_this (IsOfTrigger (here w) w.file) main items place item c.in_err-push_trigger.field-0.0 there c.in_err-push_trigger.ensures.cause))

@@ -1,12 +1,9 @@
 use Rattle.std.proofs.Common.{◌≡◌, [], Some, None, length, slice_get, refl, subst, sym, arith}
 use Rattle.std.proofs.lemmas.List.{take_all}
 use Rattle.std.proofs.lemmas.Option.{slice_get_read}
-use Rattle.std.proofs.lemmas.Result.{err_from_is_err_and}
 use Rattle.lft_tree.specs.View.{member_views}
 use Rattle.lft_meanings.specs.Names.{texts}
-use Rattle.lft_meanings.specs.Refused.{IsPassed}
 use Rattle.lft_lower.specs.Lowered.{AreLowered, no_members}
-use Rattle.lft_lower.proofs.Refusing.{of_member}
 use Rattle.lft_lower.proofs.Turns.{lowered_all, lowered_next}
 use Rattle.lft_lower.specs.Standing.{AreAt, none_at}
 use Rattle.lft_lower.proofs.Standing.{at_next}
@@ -31,14 +28,3 @@ returns-clause-made c = lowered_all c.args.maker.settings.now (texts c.args.make
 
 pub returns-clause-at : goal.returns-clause-at
 returns-clause-at c = subst (λ ms. AreAt c.args.maker.files.now (record { settings = c.args.maker.settings.now; setting = c.args.setting; shape = c.args.shape.now }) ms c.loop-number.list.items) (take_all c.loop-number.number c.args.shape.now.members.items (omega (arith, c.len-number-end.ensures, c.loop-number-test.false))) c.loop-number.invariant.1
-
-pub returns-in_err-push_member-clause-cause : goal.returns-in_err-push_member-clause-cause
-returns-in_err-push_member-clause-cause c =
-    let p = err_from_is_err_and c.from_residual-in_err-push_member.result c.from_residual-in_err-push_member.ensures.1 in
-    let items = c.args.shape.now.members.items in
-    let number = c.loop-number.number in
-    let item = c.index-inherited.result.now in
-    let test = c.loop-number-test.true in
-    let there : slice_get items number ≡ Some item = slice_get_read items (length items) number item refl (omega (arith, c.len-number-end.ensures)) c.index-inherited.ensures in
-    let s = c.args.maker.settings.now in
-    rw (p.1, p.2) (of_member s c.args.setting c.args.shape.now (IsPassed s.work.main) number item c.in_err-push_member.field-0.0 there (c.in_err-push_member.ensures.cause refl))

@@ -1,16 +1,13 @@
 use Rattle.std.proofs.Common.{◌≡◌, ℕ, List, string_bytes, refl, subst, sym, ap}
 use Rattle.std.specs.Prelude.{option_map}
-use Rattle.std.proofs.lemmas.Result.{err_from_is_err_and}
 use Rattle.lft_whole.specs.declared.tree.Member.TheVariants as member
 use Rattle.lft_tree.specs.declared.tree.Member.{Member as Core}
 use Rattle.lft_whole.specs.declared.tree.Member.{Member}
 use Rattle.lft_meanings.specs.Meanings.{here, token_in}
 use Rattle.lft_meanings.specs.declared.places.Within.{Within}
 use Rattle.lft_meanings.specs.Names.{texts}
-use Rattle.lft_meanings.specs.Refused.{IsPassed}
 use Rattle.lft_lower.specs.Lowered.{ports}
 use Rattle.lft_lower.proofs.Adding.{lowered_as}
-use Rattle.lft_lower.proofs.Refusing.{of_kind}
 use Rattle.lft_lower.specs.Standing.{AddsAt, ArePartsAt, declared_at}
 use Rattle.lft_lower.proofs.Standing.{at_this}
 use Rattle.lft_lower.proofs.reactors.push_member.Goals as goal
@@ -50,31 +47,6 @@ returns-in_ok-push_connection-in-Connection-clause-made c same =
     let before = option_map string_bytes c.args.never.now in
     let made = c.in_ok-push_connection-in-Connection.ensures in
     lowered_as (texts c.args.maker.names.now) (here c.args.within) c.args.number before before c.args.list.now.items _ c.args.member.now (member.Connection c.in-Connection.connection) c.in-Connection.is (made.joined.0, (refl, made.logical, made.mean, made.read, made.joined.1), made.joined.2)
-
-pub returns-in_err-push_timer-in-Timer-clause-cause : goal.returns-in_err-push_timer-in-Timer-clause-cause
-returns-in_err-push_timer-in-Timer-clause-cause c same =
-    let p = err_from_is_err_and c.from_residual-in_err-push_timer-in-Timer.result c.from_residual-in_err-push_timer-in-Timer.ensures.1 in
-    rw (p.1, p.2) (of_kind (here c.args.within) c.args.within.file c.args.number c.args.member.now (member.Timer c.in-Timer.timer) (IsPassed c.args.within.settings.now.work.main) c.in_err-push_timer-in-Timer.field-0.0 c.in-Timer.is c.in_err-push_timer-in-Timer.ensures.cause)
-
-pub returns-in_err-push_action-in-Action-clause-cause : goal.returns-in_err-push_action-in-Action-clause-cause
-returns-in_err-push_action-in-Action-clause-cause c same =
-    let p = err_from_is_err_and c.from_residual-in_err-push_action-in-Action.result c.from_residual-in_err-push_action-in-Action.ensures.1 in
-    rw (p.1, p.2) (of_kind (here c.args.within) c.args.within.file c.args.number c.args.member.now (member.Action c.in-Action.action) (IsPassed c.args.within.settings.now.work.main) c.in_err-push_action-in-Action.field-0.0 c.in-Action.is c.in_err-push_action-in-Action.ensures.cause)
-
-pub returns-in_err-push_reaction-in-Reaction-clause-cause : goal.returns-in_err-push_reaction-in-Reaction-clause-cause
-returns-in_err-push_reaction-in-Reaction-clause-cause c same =
-    let p = err_from_is_err_and c.from_residual-in_err-push_reaction-in-Reaction.result c.from_residual-in_err-push_reaction-in-Reaction.ensures.1 in
-    rw (p.1, p.2) (of_kind (here c.args.within) c.args.within.file c.args.number c.args.member.now (member.Reaction c.in-Reaction.reaction) (IsPassed c.args.within.settings.now.work.main) c.in_err-push_reaction-in-Reaction.field-0.0 c.in-Reaction.is c.in_err-push_reaction-in-Reaction.ensures.cause)
-
-pub returns-in_err-push_instances-in-Instance-clause-cause : goal.returns-in_err-push_instances-in-Instance-clause-cause
-returns-in_err-push_instances-in-Instance-clause-cause c same =
-    let p = err_from_is_err_and c.from_residual-in_err-push_instances-in-Instance.result c.from_residual-in_err-push_instances-in-Instance.ensures.1 in
-    rw (p.1, p.2) (of_kind (here c.args.within) c.args.within.file c.args.number c.args.member.now (member.Instance c.in-Instance.instance) (IsPassed c.args.within.settings.now.work.main) c.in_err-push_instances-in-Instance.field-0.0 c.in-Instance.is (c.in_err-push_instances-in-Instance.ensures.cause same))
-
-pub returns-in_err-push_connection-in-Connection-clause-cause : goal.returns-in_err-push_connection-in-Connection-clause-cause
-returns-in_err-push_connection-in-Connection-clause-cause c same =
-    let p = err_from_is_err_and c.from_residual-in_err-push_connection-in-Connection.result c.from_residual-in_err-push_connection-in-Connection.ensures.1 in
-    rw (p.1, p.2) (of_kind (here c.args.within) c.args.within.file c.args.number c.args.member.now (member.Connection c.in-Connection.connection) (IsPassed c.args.within.settings.now.work.main) c.in_err-push_connection-in-Connection.field-0.0 c.in-Connection.is c.in_err-push_connection-in-Connection.ensures.cause)
 
 pub returns-in_ok-push_ports-in-Port-clause-at : goal.returns-in_ok-push_ports-in-Port-clause-at
 returns-in_ok-push_ports-in-Port-clause-at c = stands_as c.args.within c.args.number c.args.list.now.items _ c.args.member.now (member.Port c.in-Port.port) c.in-Port.is (at_this c.args.list.now.items _ _ _ _ c.token-at.ensures c.in_ok-push_ports-in-Port.ensures.at)

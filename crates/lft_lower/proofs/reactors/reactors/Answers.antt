@@ -1,10 +1,7 @@
 use Rattle.std.proofs.Common.{[], subst, sym, ap, ◌∙◌}
 use Rattle.std.proofs.lemmas.List.{map-append, take_all}
-use Rattle.std.proofs.lemmas.Result.{err_from_is_err_and}
 use Rattle.lft_tree.specs.ItemView.{item_view, item_views}
 use Rattle.lft_meanings.specs.Names.{texts}
-use Rattle.lft_meanings.specs.Refused.{IsPassed}
-use Rattle.lft_lower.proofs.Refusing.{of_reactor}
 use Rattle.lft_lower.specs.Reactors.{AreReactors, no_reactors}
 use Rattle.lft_lower.proofs.Turns.{reactors_next}
 use Rattle.lft_lower.specs.Standing.{ArePlaced, none_placed}
@@ -26,9 +23,3 @@ returns-clause-made c = subst (λ ks. AreReactors c.args.maker.settings.now (tex
 
 pub returns-clause-at : goal.returns-clause-at
 returns-clause-at c = subst (λ ks. ArePlaced c.args.maker.files.now c.args.maker.settings.now ks c.loop-place.items.items) (take_all c.loop-place.place c.args.settings.now c.loop-place-test.false) c.loop-place.invariant.1
-
-pub returns-in_err-core_reactor-clause-cause : goal.returns-in_err-core_reactor-clause-cause
-returns-in_err-core_reactor-clause-cause c =
-    let p = err_from_is_err_and c.from_residual.result c.from_residual.ensures.1 in
-    let s = c.args.maker.settings.now in
-    rw (p.1, p.2) (of_reactor s (IsPassed s.work.main) c.args.settings.now c.loop-place.place c.item_at-setting.result c.in-Some.shape.now c.in_err-core_reactor.field-0.0 c.item_at-setting.ensures (sym c.in-Some.ensures) c.in_err-core_reactor.ensures.cause)

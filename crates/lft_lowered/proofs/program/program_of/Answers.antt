@@ -1,5 +1,4 @@
-use Rattle.std.proofs.Common.{[], ap, inl, inr, refl, subst}
-use Rattle.lft_lower.specs.Causes.{HasCause}
+use Rattle.std.proofs.Common.{[], ap, inl, inr, refl}
 use Rattle.lft_program.specs.Refusals.{cause_of}
 use Rattle.lft_lowered.specs.Unlowered.{AreRefused}
 use Rattle.lft_lowered.specs.declared.told.Unlowered.{Unlowered}
@@ -10,7 +9,7 @@ use Rattle.lft_lowered.proofs.program.program_of.Goals as goal
 pub returns-in-Err-clause-refused : goal.returns-in-Err-clause-refused
 returns-in-Err-clause-refused c =
     let files = c.args.files.now in
-    inl (told_says (AreRefused files) files [] c.in-Err.stop c.unlowered_by.result (λ r e. (refl, refl, subst (HasCause files) e c.in-Err.ensures.cause)) c.unlowered_by.ensures)
+    inl (told_says (AreRefused files) files [] c.in-Err.stop c.unlowered_by.result (λ r e. (refl, refl)) c.unlowered_by.ensures)
 
 pub returns-then-is_no_memory-clause-refused : goal.returns-then-is_no_memory-clause-refused
 returns-then-is_no_memory-clause-refused c = inl (inl (ap (λ (u : Unlowered). u.told) c.from.ensures))

@@ -19,4 +19,4 @@ returns-clause-refused g c =
     let text = c.args.text.now in
     let files = c.files.result.now in
     let are = subst (λ (these : List SourceFile). AreFilesOf path text these) (sym c.files.ensures.files) c.in_ok-sources.ensures.files in
-    IfErr-weaker c.program_of.result _ _ (λ u is. ⊎_elim (λ said. inl (says_too (AreRefused files) (IsOfProgram path text) u (λ these first refusal is_one. inr (subst (λ (x : List SourceFile). AreFilesOf path text x) (sym is_one.0) are, (refl, is_one.1, is_one.2))) said)) (λ tree. inr (files, are, tree)) is) c.program_of.ensures.refused
+    IfErr-weaker c.program_of.result _ _ (λ u is. ⊎_elim (λ said. inl (says_too (AreRefused files) (IsOfProgram path text) u (λ these first refusal is_one. inr (subst (λ (x : List SourceFile). AreFilesOf path text x) (sym is_one.0) are, (refl, is_one.1))) said)) (λ tree. inr (files, are, tree)) is) c.program_of.ensures.refused

@@ -1,5 +1,4 @@
 use Rattle.std.proofs.Common.{refl, ◌∙◌}
-use Rattle.std.proofs.lemmas.Result.{err_from_is_err_and}
 use Rattle.lft_shapes.specs.Chains.{base_of, bases_from}
 use Rattle.lft_shapes.proofs.chains.chain.Goals as goal
 
@@ -17,11 +16,6 @@ returns-clause-list c =
       all = c.into_listed.ensures.list (base_of c.args.scopes.now) c.args.class over (c.in_ok-step.ensures.walk c.args.class before.walk);
       in_order = c.into_listed.ensures.order (bases_from c.args.scopes.now) c.args.class over (c.in_ok-step.ensures.order c.args.class before.walk before.order);
     }
-
-pub returns-in_err-step-clause-cause : goal.returns-in_err-step-clause-cause
-returns-in_err-step-clause-cause c =
-    let p = err_from_is_err_and c.from_residual-in_err-step.result c.from_residual-in_err-step.ensures.1 in
-    rw (p.1, p.2) (c.in_err-step.ensures.cause c.args.class c.visits.invariant.walk)
 
 pub returns-clause-main : goal.returns-clause-main
 returns-clause-main c = c.in_ok-step.ensures.main ∙ c.visits.invariant.main

@@ -1,6 +1,5 @@
 use Rattle.std.proofs.Common.{◌≡◌, ◌↔◌, ◌<◌, ℕ, Some, true, length, slice_get, refl, sym, subst, arith}
 use Rattle.std.proofs.lemmas.Option.{slice_get_read}
-use Rattle.std.proofs.lemmas.Result.{err_from_is_err_and}
 use Rattle.lft_lists.proofs.Places.{same_some}
 use Rattle.lft_shapes.specs.declared.shapes.Shape.{Shape}
 use Rattle.lft_shapes.specs.Built.{core}
@@ -40,11 +39,3 @@ returns-clause-kept c scopes s apart = decided_but scopes c.args.shapes.now.item
 
 pub returns-then-number-len-clause-decided : goal.returns-then-number-len-clause-decided
 returns-then-number-len-clause-decided c scopes first ready = decided_none scopes c.args.shapes.now.items c.args.number (λ within. omega arith)
-
-pub returns-in_err-sized-clause-cause : goal.returns-in_err-sized-clause-cause
-returns-in_err-sized-clause-cause c =
-    let p = err_from_is_err_and c.from_residual.result c.from_residual.ensures.1 in
-    let shapes = c.args.shapes.now.items in
-    let within : c.args.number < length shapes = omega arith in
-    let same = sym c.deref.ensures.value in
-    rw (p.1, p.2) (λ scopes first ready. c.in_err-sized.ensures.cause scopes first c.args.number (subst (λ l. IsReady scopes first l c.args.number) same ready) (subst (λ l. slice_get l c.args.number ≡ Some c.index.result.now) same (slice_get_read shapes (length shapes) c.args.number c.index.result.now refl within c.index.ensures)))

@@ -1,6 +1,5 @@
 use Rattle.std.proofs.Common.{◌<◌, length, refl, arith}
 use Rattle.std.proofs.lemmas.Option.{slice_get_read}
-use Rattle.std.proofs.lemmas.Result.{err_from_is_err_and}
 use Rattle.lft_shapes.specs.declared.shapes.Inherited.{Inherited}
 use Rattle.lft_shapes.specs.Needs.{HasNeed, Times, Widths}
 use Rattle.lft_shapes.proofs.Marking.{below_more}
@@ -20,14 +19,6 @@ loop-number-preserved c =
       sized = below_more (λ k (x : Inherited). HasNeed Widths shapes shape k x.member.now) members number m _ _ _ there c.loop-number.invariant.sized c.in_ok-note.ensures.sized;
       timed = below_more (λ k (x : Inherited). HasNeed Times shapes shape k x.member.now) members number m _ _ _ there c.loop-number.invariant.timed c.in_ok-note.ensures.timed;
     }
-
-pub returns-in_err-note-clause-cause : goal.returns-in_err-note-clause-cause
-returns-in_err-note-clause-cause c =
-    let p = err_from_is_err_and c.from_residual-in_err-note.result c.from_residual-in_err-note.ensures.1 in
-    let members = c.args.shape.now.members.items in
-    let number = c.loop-number.number in
-    let within : number < length members = omega arith in
-    rw (p.1, p.2) (λ scopes first s ready at. c.in_err-note.ensures.cause scopes first s (record { ready = ready; is_shape = at; is_member = slice_get_read members (length members) number c.index.result.now refl within c.index.ensures }))
 
 pub returns-clause-sized : goal.returns-clause-sized
 returns-clause-sized c = marked_all Widths c.args.shapes.now c.args.shape.now c.len-count.result c.loop-number.number _ _ (omega arith) (c.in_ok-vec.ensures.items_if_clones_equal (λ y e. e)) (omega arith) c.loop-number.invariant.sized

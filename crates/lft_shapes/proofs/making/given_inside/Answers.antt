@@ -1,5 +1,4 @@
 use Rattle.std.proofs.Common.{◌≡◌, Some, None, option_copied, slice_get, sym, ap, subst, ◌∙◌}
-use Rattle.std.proofs.lemmas.Result.{err_from_is_err_and}
 use Rattle.lft_lists.proofs.Places.{same_some}
 use Rattle.lft_scope.proofs.Placing.{lent}
 use Rattle.lft_shapes.specs.declared.shapes.Shape.{Shape}
@@ -24,9 +23,3 @@ pub returns-in_default-clause-once : goal.returns-in_default-clause-once
 returns-in_default-clause-once c inner at =
     let none : slice_get c.args.shapes.now c.args.shape ≡ None = sym (lent c.args.shapes.now c.args.shape c.get.result c.get.ensures.lookup) ∙ ap option_copied c.in_default.is in
     absurd (let e = sym none ∙ at in cc)
-
-pub returns-in_err-given-clause-cause : goal.returns-in_err-given-clause-cause
-returns-in_err-given-clause-cause c =
-    let p = err_from_is_err_and c.from_residual.result c.from_residual.ensures.1 in
-    let there : slice_get c.args.shapes.now c.args.shape ≡ Some c.in-Some.inner.now = sym (lent c.args.shapes.now c.args.shape c.get.result c.get.ensures.lookup) ∙ ap option_copied c.in-Some.is in
-    rw (p.1, p.2) (c.in-Some.inner.now, there, c.in_err-given.ensures.cause)

@@ -1,74 +1,18 @@
-use Rattle.std.proofs.Common.{◌≡◌, ◌≢◌, ◌+◌, ◌<◌, ℕ, List, Some, inl, inr, length, map, slice_get, string_bytes, refl, rules, sym, ap, subst, ◌∙◌, arith}
+use Rattle.std.proofs.Common.{◌≡◌, ◌+◌, ◌<◌, ℕ, List, Some, length, map, slice_get, string_bytes, refl, rules, sym, ap, ◌∙◌, arith}
 use Rattle.std.proofs.lemmas.List.{length_push}
 use Rattle.std.specs.Prelude.{unwrap_or}
 use Rattle.std.proofs.lemmas.List.Sorted.{IsNonDecreasingBy-from_sort_by_key}
 use Rattle.std.proofs.lemmas.Option.{slice_get_read, slice_get_within}
-use Rattle.lft_lists.proofs.Options.{lacking}
 use Rattle.lft_lists.proofs.Places.{Some_same}
 use Rattle.lft_scope.specs.Places.{place, place_in}
 use Rattle.lft_scope.specs.Tests.{texts}
 use Rattle.lft_whole.specs.declared.tree.Assignment.{Assignment}
 use Rattle.lft_shapes.specs.declared.shapes.Given.{Given}
-use Rattle.lft_shapes.specs.declared.shapes.Thing.TheVariants as thing
-use Rattle.lft_shapes.specs.Circles.{HasWrongGiven}
 use Rattle.lft_shapes.specs.Shapes.{thing_named}
 use Rattle.lft_shapes.proofs.Building.{below_one}
 use Rattle.lft_shapes.proofs.Giving.{given_moved, noted_more}
-use Rattle.lft_shapes.proofs.Naming.{first_one, once}
+use Rattle.lft_shapes.proofs.Naming.{once}
 use Rattle.lft_shapes.proofs.making.given_of.Goals as goal
-
-pub returns-in_default-clause-cause : goal.returns-in_default-clause-cause
-returns-in_default-clause-cause c =
-    let xs = c.args.instance.now.given.items in
-    let k = c.loop-place.place in
-    let a = c.index-assignment.result.now in
-    let within : k < length xs = omega arith in
-    let there : slice_get xs k ≡ Some a = slice_get_read xs (length xs) k a refl within c.index-assignment.ensures in
-    let none = lacking ((n : ℕ) → thing_named c.args.inner.now c.as_str-name.result.now ≢ Some (thing.Parameter n)) c.parameter.result c.parameter.ensures.none c.in_default.is in
-    subst (HasWrongGiven c.args.inner.now c.args.file xs) (sym c.at.ensures) (
-      refl,
-      inl (
-        refl,
-        record {
-          which = k;
-          assignment = a;
-          is_given = there;
-          stands = refl;
-          means_none = subst (λ q. (n : ℕ) → thing_named c.args.inner.now q ≢ Some (thing.Parameter n)) c.as_str-name.ensures.value none;
-        },
-      ),
-    )
-
-pub returns-then-unwrap_or-place-clause-cause : goal.returns-then-unwrap_or-place-clause-cause
-returns-then-unwrap_or-place-clause-cause c =
-    let xs = c.args.instance.now.given.items in
-    let k = c.loop-place.place in
-    let a = c.index-assignment.result.now in
-    let name : Assignment → List ℕ = λ x. string_bytes x.name.text in
-    let within : k < length xs = omega arith in
-    let there : slice_get xs k ≡ Some a = slice_get_read xs (length xs) k a refl within c.index-assignment.ensures in
-    let names : texts c.deref-2.result.now ≡ map name xs = ap texts c.deref-2.ensures.value ∙ c.in_ok-names.ensures ∙ ap (map name) c.deref.ensures.value in
-    let is : c.get.result ≡ place (name a) (map name xs) = c.get.ensures ∙ ap (place_in c.in_ok-index.index) c.as_str-name.ensures.value ∙ c.in_ok-index.ensures (name a) ∙ ap (place (name a)) names in
-    let one = c.unwrap_or.ensures in
-    let other = c.if-unwrap_or-place.true in
-    let first = first_one name xs k a c.get.result there is (λ e. absurd (first_of (omega (arith, e, one, other), cc))) in
-    subst (HasWrongGiven c.args.inner.now c.args.file xs) (sym c.at-then-unwrap_or-place.ensures) (
-      refl,
-      inr (
-        refl,
-        record {
-          one = first.0;
-          first = first.3.0;
-          is_first = first.3.1;
-          other = k;
-          second = a;
-          is_second = there;
-          later = first.2;
-          same = sym first.3.2;
-          stands = refl;
-        },
-      ),
-    )
 
 pub loop-place-preserved : goal.loop-place-preserved
 loop-place-preserved c =

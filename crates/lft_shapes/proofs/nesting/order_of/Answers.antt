@@ -1,5 +1,4 @@
 use Rattle.std.proofs.Common.{refl, ◌∙◌}
-use Rattle.std.proofs.lemmas.Result.{err_from_is_err_and}
 use Rattle.lft_shapes.specs.Shapes.{inside, tables}
 use Rattle.lft_shapes.proofs.nesting.order_of.Goals as goal
 
@@ -11,11 +10,6 @@ visits-init c = record { walk = c.in_ok-walk.ensures.walk (inside (tables c.args
 
 pub returns-clause-order : goal.returns-clause-order
 returns-clause-order c = c.into_listed.ensures.list (inside (tables c.args.shapes.now)) 0 (c.in_ok-step.ensures.over c.if-not-branch.true) (c.in_ok-step.ensures.walk 0 c.visits.invariant.walk)
-
-pub returns-in_err-step-clause-cause : goal.returns-in_err-step-clause-cause
-returns-in_err-step-clause-cause c =
-    let p = err_from_is_err_and c.from_residual-in_err-step.result c.from_residual-in_err-step.ensures.1 in
-    rw (p.1, p.2) (c.in_err-step.ensures.cause 0 c.visits.invariant.walk)
 
 pub returns-clause-main : goal.returns-clause-main
 returns-clause-main c = c.in_ok-step.ensures.main ∙ c.visits.invariant.main

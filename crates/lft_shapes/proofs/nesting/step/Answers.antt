@@ -1,11 +1,8 @@
-use Rattle.std.proofs.Common.{◌≡◌, ◌≤◌, ◌+◌, ℕ, None, arith, sym, subst, ◌∙◌}
+use Rattle.std.proofs.Common.{◌≡◌, ◌≤◌, ◌+◌, ℕ, None, arith, sym, ◌∙◌}
 use Rattle.lft_lists.proofs.Options.{lacking}
 use Rattle.lft_shapes.specs.Shapes.{inside, tables}
 use Rattle.lft_shapes.specs.Walks.{is_done}
-use Rattle.lft_shapes.specs.declared.walk.Visit.{Visit}
-use Rattle.lft_shapes.specs.Walks.{Reaches}
-use Rattle.lft_shapes.proofs.Circles.{circle}
-use Rattle.lft_shapes.proofs.Walking.{gap_passed, same_last, top_reached}
+use Rattle.lft_shapes.proofs.Walking.{gap_passed}
 use Rattle.lft_shapes.proofs.nesting.step.Goals as goal
 
 pub returns-in_default-next_child-clause-walk : goal.returns-in_default-next_child-clause-walk
@@ -27,12 +24,3 @@ returns-then-is_done-clause-walk c first s =
 
 pub returns-then-branch-clause-walk : goal.returns-then-branch-clause-walk
 returns-then-branch-clause-walk c first s = c.in_ok-enter.ensures.new c.if-branch.true (inside (tables c.args.shapes.now)) first (c.in-Some.visit, c.in-Some.ensures.some, (c.in-Some-next_child.member, c.in-Some-next_child.ensures.some.0)) s
-
-pub returns-clause-cause : goal.returns-clause-cause
-returns-clause-cause c first s =
-    let next = inside (tables c.args.shapes.now) in
-    let visit = c.in-Some.visit in
-    let inner = c.in-Some-next_child.inner in
-    let way = c.in_ok-enter.ensures.circle c.if-branch.false (sym c.is_done.ensures ∙ c.if-is_done.false) next first s in
-    let top : way.0 ≡ visit = same_last way.1.0 c.in-Some.ensures.some.0 way.0 visit (sym way.1.1 ∙ c.in-Some.ensures.some.1) in
-    circle c.args.shapes.now first visit.node c.in-Some-next_child.member inner _ (top_reached next first _ _ _ _ c.in-Some.ensures.some.0 visit c.in-Some.ensures.some.1 s) c.in-Some-next_child.ensures.some.0 (subst (λ (v : Visit). Reaches next inner v.node) top way.2) c.contains_itself.ensures

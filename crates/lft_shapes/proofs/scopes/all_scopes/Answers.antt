@@ -1,7 +1,6 @@
 use Rattle.std.proofs.Common.{◌≡◌, ◌+◌, length, Some, slice_get, refl, sym, ap, subst, ◌∙◌, arith}
 use Rattle.std.proofs.lemmas.List.{length_push}
 use Rattle.std.proofs.lemmas.Option.{slice_get_read}
-use Rattle.std.proofs.lemmas.Result.{err_from_is_err_and}
 use Rattle.lft_shapes.specs.Scopes.{IsMeantScope}
 use Rattle.lft_shapes.proofs.Meanings.{scopes_push}
 use Rattle.lft_shapes.proofs.scopes.all_scopes.Goals as goal
@@ -17,13 +16,5 @@ loop-number-preserved c =
       each = λ own. subst (λ ss. (t : _) (s : _) → slice_get ss t ≡ Some s → IsMeantScope files t s) (sym c.in_ok-push.ensures.items) (scopes_push (λ t s. IsMeantScope files t s) before n c.in_ok-scope.scope c.loop-number.invariant.count (c.loop-number.invariant.each own) (c.in_ok-scope.ensures.meant files at own));
     }
 
-pub returns-clause-meant : goal.returns-clause-meant
-returns-clause-meant c own = record { count = c.loop-number.invariant.count ∙ omega arith; each = c.loop-number.invariant.each own }
-
-pub returns-in_err-scope-clause-cause : goal.returns-in_err-scope-clause-cause
-returns-in_err-scope-clause-cause c =
-    let p = err_from_is_err_and c.from_residual.result c.from_residual.ensures.1 in
-    let files = c.args.files.now in
-    let n = c.loop-number.number in
-    let at : slice_get files n ≡ Some c.index-files-number.result = slice_get_read files (length files) n c.index-files-number.result refl c.loop-number-test.true c.index-files-number.is in
-    rw (p.1, p.2) (λ own. c.in_err-scope.ensures.cause files at own)
+pub returns : goal.returns
+returns c = record { meant = λ own. record { count = c.loop-number.invariant.count ∙ omega arith; each = c.loop-number.invariant.each own } }

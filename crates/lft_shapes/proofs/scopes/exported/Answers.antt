@@ -4,7 +4,7 @@ use Rattle.lft_shapes.specs.Scopes.{IsOwnAt}
 use Rattle.lft_shapes.proofs.Meanings.{found_in}
 use Rattle.lft_shapes.proofs.scopes.exported.Goals as goal
 
-pub returns-in-Some-get-clause-some : goal.returns-in-Some-get-clause-some
-returns-in-Some-get-clause-some c =
+pub returns-in-Some-get : goal.returns-in-Some-get
+returns-in-Some-get c =
     let at : slice_get c.args.own.now c.args.target ≡ Some c.in-Some.scope.now = sym (lent c.args.own.now c.args.target c.get.result c.get.ensures.lookup) ∙ ap option_copied c.in-Some.is in
-    (c.if-not-class.true, λ files all. (found_in (IsOwnAt files c.args.target) c.in-Some.scope.now c.args.name.now c.in-Some-get.class (all.each c.args.target c.in-Some.scope.now at).is (sym c.get-2.ensures ∙ c.in-Some-get.is)).1.0)
+    record { some = (c.if-not-class.true, λ files all. (found_in (IsOwnAt files c.args.target) c.in-Some.scope.now c.args.name.now c.in-Some-get.class (all.each c.args.target c.in-Some.scope.now at).is (sym c.get-2.ensures ∙ c.in-Some-get.is)).1.0) }

@@ -1,6 +1,5 @@
 use Rattle.std.proofs.Common.{◌≡◌, ◌<◌, ℕ, length, Some, slice_get, refl, subst, arith}
 use Rattle.std.proofs.lemmas.Option.{slice_get_read, slice_get_within}
-use Rattle.std.proofs.lemmas.Result.{err_from_is_err_and}
 use Rattle.lft_lists.proofs.Places.{same_some}
 use Rattle.lft_whole.specs.declared.tree.ImportedName.{ImportedName}
 use Rattle.lft_shapes.specs.Scopes.{IsGiven}
@@ -36,18 +35,3 @@ returns-clause-all c files at own = imports_of files c.args.number c.args.file.n
     let low = slice_get_within c.args.file.now.tree.imports.items place what written in
     let high = slice_get_within c.args.file.now.imports.items place other read in
     c.loop-place.invariant.all files own place what (omega (arith, low, high)) written other which name read among)
-
-pub returns-in_err-push_names-clause-cause : goal.returns-in_err-push_names-clause-cause
-returns-in_err-push_names-clause-cause c =
-    let p = err_from_is_err_and c.from_residual.result c.from_residual.ensures.1 in
-    let written = c.args.file.now.tree.imports.items in
-    let read = c.args.file.now.imports.items in
-    let low : c.loop-place.place < length written = omega arith in
-    let high : c.loop-place.place < length read = omega arith in
-    rw (p.1, p.2) (λ files at own. c.in_err-push_names.ensures.cause files (record {
-      here = c.args.file.now;
-      is_here = at;
-      place = c.loop-place.place;
-      is_written = slice_get_read written (length written) c.loop-place.place c.index-import.result.now refl low c.index-import.ensures;
-      is_read = slice_get_read read (length read) c.loop-place.place c.index.result.now refl high c.index.ensures;
-    }) own)

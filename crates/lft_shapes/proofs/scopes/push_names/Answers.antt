@@ -1,11 +1,8 @@
-use Rattle.std.proofs.Common.{inl, ◌≡◌, ◌<◌, ℕ, List, inr, length, Some, slice_get, string_bytes, refl, sym, subst, arith}
+use Rattle.std.proofs.Common.{◌≡◌, ◌<◌, ℕ, List, inr, length, Some, slice_get, string_bytes, refl, sym, subst, arith}
 use Rattle.std.proofs.lemmas.Option.{slice_get_read, slice_get_within}
-use Rattle.lft_lists.proofs.Options.{lacking}
-use Rattle.lft_shapes.specs.Causes.{HasCause}
-use Rattle.lft_shapes.specs.Unnamed.{ExportsNone, GivesNone}
 use Rattle.lft_shapes.specs.Scopes.{EachMeans, HasMeaning, IsGiven, IsOwn, MeansAt}
 use Rattle.lft_shapes.proofs.Building.{below_one}
-use Rattle.lft_shapes.proofs.Meanings.{exports_none, given_kept, has_last, has_push, means_push}
+use Rattle.lft_shapes.proofs.Meanings.{given_kept, has_last, has_push, means_push}
 use Rattle.lft_shapes.proofs.scopes.push_names.Goals as goal
 
 pub loop-place-preserved : goal.loop-place-preserved
@@ -41,20 +38,3 @@ pub returns-clause-all : goal.returns-clause-all
 returns-clause-all c files own which name at =
     let within = slice_get_within c.args.import.now.names.items which name at in
     c.loop-place.invariant.all files own which name (omega (arith, within)) at
-
-pub returns-in_default-clause-cause : goal.returns-in_default-clause-cause
-returns-in_default-clause-cause c files is own =
-    let items = c.args.import.now.names.items in
-    let imported = c.index-imported.result.now in
-    let within : c.loop-place.place < length items = omega arith in
-    let among : slice_get items c.loop-place.place ≡ Some imported = slice_get_read items (length items) c.loop-place.place imported refl within c.index-imported.ensures in
-    subst (HasCause files) (sym c.at.ensures) (inl (record {
-      other = c.args.target;
-      what = c.args.import.now;
-      is_import = is;
-      which = c.loop-place.place;
-      name = imported;
-      is_among = among;
-      stands = refl;
-      gives_none = subst (GivesNone files c.args.target) c.as_str.ensures.value (exports_none files c.args.own.now c.args.target c.as_str.result.now own (lacking (ExportsNone c.args.own.now c.args.target c.as_str.result.now) c.exported.result c.exported.ensures.none c.in_default.is));
-    }))

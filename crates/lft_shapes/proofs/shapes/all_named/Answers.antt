@@ -1,16 +1,13 @@
-use Rattle.std.proofs.Common.{◌≡◌, ◌++◌, ℕ, List, [], Some, get_or, map, option_map, slice_get, string_bytes, take, append-nil, append_assoc, sym, ap, subst, ◌∙◌, arith}
-use Rattle.std.specs.Prelude.{flat_map}
-use Rattle.std.proofs.lemmas.Grind.{common_steps}
-use Rattle.std.proofs.lemmas.Option.{get_or_from_slice_get, slice_get_within}
+use Rattle.std.proofs.Common.{◌≡◌, ℕ, List, Some, option_map, slice_get, string_bytes, sym, subst, arith}
+use Rattle.std.proofs.lemmas.Option.{slice_get_within}
 use Rattle.lft_whole.specs.declared.tree.Name.{Name}
 use Rattle.lft_shapes.specs.declared.shapes.Inherited.{Inherited}
 use Rattle.lft_shapes.specs.declared.shapes.InheritedParameter.{InheritedParameter}
 use Rattle.lft_shapes.specs.declared.shapes.Thing.TheVariants as thing
 use Rattle.lft_shapes.specs.Naming.{EachNamed, HasNamed}
-use Rattle.lft_shapes.specs.Refused.{noted}
 use Rattle.lft_shapes.specs.Shapes.{name_of}
-use Rattle.lft_shapes.proofs.Building.{below_one, flat_more, pushed}
-use Rattle.lft_shapes.proofs.Naming.{all_noted, all_written, has_named_last, has_named_push, named_push, of_member, of_parameter}
+use Rattle.lft_shapes.proofs.Building.{below_one, pushed}
+use Rattle.lft_shapes.proofs.Naming.{all_noted, has_named_last, has_named_push, named_push}
 use Rattle.lft_shapes.proofs.shapes.all_named.Goals as goal
 
 pub loop-number-preserved : goal.loop-number-preserved
@@ -21,12 +18,9 @@ loop-number-preserved c =
     let p = c.item_at-declared.result in
     let old = c.loop-number.named.items in
     let there : slice_get ps i ≡ Some p = c.item_at-declared.ensures in
-    let here : get_or ps i p ≡ p = get_or_from_slice_get ps i p p there in
-    let name : List ℕ → List ℕ × (ℕ × ℕ) = λ q. (q, (p.file, p.parameter.now.name.at)) in
     let items = c.in_ok-push.ensures.items in
     let P : ℕ → InheritedParameter → Type 0 = λ j d. HasNamed c.push.new.self.items (string_bytes d.parameter.now.name.text) (thing.Parameter j) in
     record {
-      noted = ap noted items ∙ pushed (λ n. (n.name.now, (n.file, n.at))) of_parameter [] old ps i _ p c.loop-number-test.true here (ap name c.as_str.ensures.value) c.loop-number.invariant.noted;
       each = subst (EachNamed ps ms) (sym items) (named_push ps ms old _ c.loop-number.invariant.each (p, there, sym c.as_str.ensures.value));
       parameters = below_one P ps i p there (λ j d l at. subst (λ ns. HasNamed ns (string_bytes d.parameter.now.name.text) (thing.Parameter j)) (sym items) (has_named_push old _ (string_bytes d.parameter.now.name.text) (thing.Parameter j) (c.loop-number.invariant.parameters j d l at))) (subst (λ q. HasNamed c.push.new.self.items q (thing.Parameter i)) c.as_str.ensures.value (subst (λ ns. HasNamed ns c.as_str.result.now (thing.Parameter i)) (sym items) (has_named_last old _)));
     }
@@ -34,9 +28,7 @@ loop-number-preserved c =
 pub loop-number-2-init : goal.loop-number-2-init
 loop-number-2-init c =
     let ps = c.args.parameters.now in
-    let whole : take c.loop-number.number ps ≡ ps = grind (arith, common_steps) in
     record {
-      noted = c.loop-number.invariant.noted ∙ ap (map of_parameter) whole ∙ sym (append-nil (map of_parameter ps));
       each = c.loop-number.invariant.each;
       parameters = λ j p at. (let within = slice_get_within ps j p at in c.loop-number.invariant.parameters j p (omega (arith, within)) at);
       members = λ j m lt at q is. absurd (omega (arith, lt));
@@ -49,23 +41,14 @@ loop-number-2-preserved c =
     let i = c.loop-number-2.number in
     let m = c.item_at-inherited.result in
     let there : slice_get ms i ≡ Some m = c.item_at-inherited.ensures in
-    let here : get_or ms i m ≡ m = get_or_from_slice_get ms i m m there in
     let pushed = c.in_ok-push_named.ensures in
     let inv = c.loop-number-2.invariant in
     let P : ℕ → Inherited → Type 0 = λ j d. (q : List ℕ) → option_map (λ (n : Name). string_bytes n.text) (name_of d.member.now) ≡ Some q → HasNamed c.push_named.new.named.items q (thing.Member j) in
     record {
-      noted = pushed.noted ∙ ap (λ l. l ++ of_member m) inv.noted ∙ append_assoc (map of_parameter ps) (flat_map of_member (take i ms)) (of_member m) ∙ ap (λ l. map of_parameter ps ++ l) (sym (flat_more of_member ms i m c.loop-number-2-test.true here));
       each = pushed.each ps ms there inv.each;
       parameters = λ j p at. pushed.kept (string_bytes p.parameter.now.name.text) (thing.Parameter j) (inv.parameters j p at);
       members = below_one P ms i m there (λ j d l at q is. pushed.kept q (thing.Member j) (inv.members j d l at q is)) pushed.has;
     }
-
-pub returns-clause-noted : goal.returns-clause-noted
-returns-clause-noted c =
-    let ps = c.args.parameters.now in
-    let ms = c.args.members.now in
-    let whole : take c.loop-number-2.number ms ≡ ms = grind (arith, common_steps) in
-    c.loop-number-2.invariant.noted ∙ ap (λ l. map of_parameter ps ++ flat_map of_member l) whole ∙ all_written ps ms
 
 pub returns-clause-all : goal.returns-clause-all
 returns-clause-all c =

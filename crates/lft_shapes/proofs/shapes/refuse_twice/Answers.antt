@@ -1,20 +1,11 @@
-use Rattle.std.proofs.Common.{◌≡◌, ℕ, refl, sym, ap, subst, ◌∙◌, arith}
+use Rattle.std.proofs.Common.{◌≡◌, ℕ, sym, ap, ◌∙◌, arith}
 use Rattle.std.specs.Prelude.{unwrap_or}
 use Rattle.std.proofs.lemmas.Option.{slice_get_within}
 use Rattle.lft_scope.specs.Places.{place_in}
 use Rattle.lft_shapes.specs.declared.shapes.Named.{Named}
-use Rattle.lft_shapes.specs.Refused.{SaysTwice}
 use Rattle.lft_shapes.proofs.Building.{below_one}
-use Rattle.lft_shapes.proofs.Naming.{once, twice}
+use Rattle.lft_shapes.proofs.Naming.{once}
 use Rattle.lft_shapes.proofs.shapes.refuse_twice.Goals as goal
-
-pub returns-then-unwrap_or-place-clause-cause : goal.returns-then-unwrap_or-place-clause-cause
-returns-then-unwrap_or-place-clause-cause c is names same =
-    let k = c.loop-place.place in
-    let n = c.item_at-found.result in
-    let first = c.unwrap_or.ensures in
-    let other = c.if-unwrap_or-place.true in
-    subst (SaysTwice names) (sym c.at.ensures) (refl, twice c.args.named.now names k n c.get.result same c.item_at-found.ensures (c.get.ensures ∙ is n.name.now) (λ e. absurd (first_of (omega (arith, e, first, other), cc))))
 
 pub loop-place-preserved : goal.loop-place-preserved
 loop-place-preserved c =
@@ -26,7 +17,7 @@ loop-place-preserved c =
     let e : unwrap_or c.get.result k ≡ k = omega (arith, first, same) in
     below_one P c.args.named.now k n c.item_at-found.ensures c.loop-place.invariant (ap (λ o. unwrap_or o k) (sym c.get.ensures) ∙ e)
 
-pub returns-clause-once : goal.returns-clause-once
-returns-clause-once c is k n at =
+pub returns : goal.returns
+returns c = record { once = λ is k n at.
     let within = slice_get_within c.args.named.now k n at in
-    once (λ (m : Named). m.name.now) c.args.named.now (place_in c.args.index.now n.name.now) k n at (is n.name.now) (c.loop-place.invariant k n (omega (arith, within)) at)
+    once (λ (m : Named). m.name.now) c.args.named.now (place_in c.args.index.now n.name.now) k n at (is n.name.now) (c.loop-place.invariant k n (omega (arith, within)) at) }

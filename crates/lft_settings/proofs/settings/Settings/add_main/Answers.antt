@@ -1,19 +1,11 @@
-use Rattle.std.proofs.Common.{◌≡◌, ◌<◌, inr, length, Some, sym, ap, ◌∙◌, slice_get}
+use Rattle.std.proofs.Common.{◌≡◌, ◌<◌, length, Some, sym, ap, ◌∙◌, slice_get}
 use Rattle.std.proofs.lemmas.Option.{slice_get_within}
-use Rattle.std.proofs.lemmas.Result.{err_from_is_err_and}
 use Rattle.std.specs.Global.{Global}
 use Rattle.std.specs.Prelude.{Vec, option_map}
 use Rattle.lft_shapes.specs.declared.shapes.Shape.{Shape}
 use Rattle.lft_settings.specs.Settings.{setting_in}
 use Rattle.lft_settings.specs.Values.{Valued, main_values}
 use Rattle.lft_settings.proofs.settings.Settings.add_main.Goals as goal
-
-pub returns-in_err-values-clause-cause : goal.returns-in_err-values-clause-cause
-returns-in_err-values-clause-cause c =
-    let p = err_from_is_err_and c.from_residual.result c.from_residual.ensures.1 in
-    let shape = c.in-Some.shape.now in
-    let there : slice_get c.args.self.now.shapes.items 0 ≡ Some shape = ap (λ (l : _). slice_get l 0) (sym c.deref.ensures.value) ∙ sym c.in-Some.ensures.value in
-    rw (p.1, p.2) (inr (shape, there, c.in_err-values.ensures.lacking))
 
 pub returns-in_ok-setting-clause-main : goal.returns-in_ok-setting-clause-main
 returns-in_ok-setting-clause-main c main at empty made =

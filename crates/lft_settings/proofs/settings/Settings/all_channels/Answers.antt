@@ -1,7 +1,4 @@
-use Rattle.std.proofs.lemmas.Option.{slice_get_read}
-use Rattle.lft_settings.proofs.Refusing.{of_one}
-use Rattle.std.proofs.lemmas.Result.{err_from_is_err_and}
-use Rattle.std.proofs.Common.{◌≡◌, ◌<◌, ◌+◌, ◌++◌, [], ◌∷◌, List, length, take, sym, subst, arith, Some, refl, slice_get}
+use Rattle.std.proofs.Common.{◌≡◌, ◌<◌, ◌+◌, ◌++◌, [], ◌∷◌, List, length, take, sym, subst, arith}
 use Rattle.std.proofs.lemmas.Grind.{common_steps}
 use Rattle.lft_lists.proofs.Picked.{take_one_more}
 use Rattle.lft_whole.specs.declared.tree.Reference.{Reference}
@@ -32,12 +29,3 @@ returns-clause-places c t made at =
     let rs = c.args.references.now in
     let whole : take c.loop-reference.reference-index rs ≡ rs = grind (arith, common_steps) in
     subst (λ (l : List Reference). HavePlaces c.args.self.now.shapes.items t l c.loop-reference.all) whole (c.loop-reference.invariant.places t made at)
-
-pub returns-in_err-places-clause-cause : goal.returns-in_err-places-clause-cause
-returns-in_err-places-clause-cause c =
-    let p = err_from_is_err_and c.from_residual.result c.from_residual.ensures.1 in
-    let rs = c.args.references.now in
-    let i = c.loop-reference.reference-index in
-    let there : slice_get rs i ≡ Some c.reference-item.result = slice_get_read rs (length rs) i c.reference-item.result refl (omega arith) c.reference-item.is in
-    let goes = c.loop-reference.invariant.goes in
-    rw (p.1, p.2) (λ t made at. of_one (table c.args.self.now) (table c.loop-reference.self) goes t c.args.file rs i c.reference-item.result c.in_err-places.field-0.0 there (c.in_err-places.ensures.cause t (goes.made made) (goes.stays c.args.setting t at)))

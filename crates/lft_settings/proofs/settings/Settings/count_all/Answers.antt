@@ -1,13 +1,8 @@
-use Rattle.std.proofs.Common.{◌≡◌, ◌<◌, List, Some, length, replicate, refl, sym, ap, subst, ◌∙◌, arith, slice_get, slice_set}
-use Rattle.std.proofs.lemmas.Option.{slice_get_read}
-use Rattle.std.proofs.lemmas.Result.{err_from_is_err_and}
+use Rattle.std.proofs.Common.{◌≡◌, ◌<◌, length, replicate, sym, ap, subst, ◌∙◌, arith, slice_set}
 use Rattle.lft_settings.specs.Noted.{AreMade, table}
-use Rattle.lft_settings.specs.Passed.{AreTotals, IsOfProgram}
-use Rattle.lft_settings.specs.Used.{IsReached}
-use Rattle.lft_shapes.specs.declared.shapes.Shape.{Shape}
+use Rattle.lft_settings.specs.Passed.{AreTotals}
 use Rattle.lft_settings.proofs.Keeping.{goes_further, goes_nowhere}
 use Rattle.lft_settings.proofs.Passing.{no_totals, total_written, totals_stay}
-use Rattle.lft_settings.proofs.Reaching.{of_counts}
 use Rattle.lft_settings.proofs.settings.Settings.count_all.Goals as goal
 use Rattle.lft_settings.proofs.settings.Settings.count_all.Goals.{then-setting-len, else-setting-len}
 
@@ -35,17 +30,3 @@ loop-place-preserved c =
       | else-setting-len w ↦ rw w.totals-is (λ made. totals_stay old new now.goes before (was.counts made))
     ] in
     record { goes = goes_further _ _ _ was.goes now.goes; counts = after }
-
-pub returns-in_err-counts-clause-cause : goal.returns-in_err-counts-clause-cause
-returns-in_err-counts-clause-cause c =
-    let p = err_from_is_err_and c.from_residual-in_err-counts.result c.from_residual-in_err-counts.ensures.1 in
-    let was = c.loop-place.invariant in
-    let places = c.in_ok-places.places.items in
-    let pair = c.index.result.now in
-    let here : slice_get places c.loop-place.place ≡ Some pair = slice_get_read places (length places) c.loop-place.place pair refl (omega arith) c.index.ensures in
-    rw (p.1, p.2) (λ made are.
-    let r = are pair.1 (c.in_ok-places.ensures c.loop-place.place pair here) in
-    let now = table c.loop-place.self in
-    let reached = subst (λ (shapes : List Shape). IsReached shapes r.0) (sym was.goes.shapes) r.2 in
-    let totals = subst (AreTotals now) (sym c.deref.ensures.value) (was.counts made) in
-    subst (λ (shapes : List Shape). IsOfProgram shapes c.in_err-counts.field-0.0) was.goes.shapes (of_counts now.shapes r.0 c.in_err-counts.field-0.0 reached (c.in_err-counts.ensures.cause r.0 (was.goes.made made) (was.goes.stays pair.1 r.0 r.1) totals)))

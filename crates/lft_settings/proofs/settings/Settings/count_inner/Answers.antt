@@ -1,24 +1,11 @@
 use Rattle.std.proofs.Common.{◌≡◌, Some, subst, rules, slice_get}
 use Rattle.std.proofs.lemmas.Option.{slice_get-get_or}
-use Rattle.std.proofs.lemmas.Result.{err_from_is_err_and}
 use Rattle.lft_settings.specs.declared.counts.Counts.{Counts}
 use Rattle.lft_settings.specs.Noted.{IsNumberOf, table}
 use Rattle.lft_settings.specs.Values.{inside}
 use Rattle.lft_settings.specs.Passed.{AreAtMost, both, each, nothing}
 use Rattle.lft_settings.proofs.Passing.{inner_counts, inner_nothing}
-use Rattle.lft_settings.proofs.Refusing.{of_its_width, of_setting}
 use Rattle.lft_settings.proofs.settings.Settings.count_inner.Goals as goal
-
-pub returns-in_err-width-clause-cause : goal.returns-in_err-width-clause-cause
-returns-in_err-width-clause-cause c =
-    let p = err_from_is_err_and c.from_residual.result c.from_residual.ensures.1 in
-    rw (p.1, p.2) (λ t made at. of_its_width c.args.self.now.shapes.items t c.args.member c.in_err-width.field-0.0 (c.in_err-width.ensures.cause t made at))
-
-pub returns-in_err-inner-clause-cause : goal.returns-in_err-inner-clause-cause
-returns-in_err-inner-clause-cause c =
-    let p = err_from_is_err_and c.from_residual-in_err-inner.result c.from_residual-in_err-inner.ensures.1 in
-    let goes = c.in_ok-width.ensures.goes in
-    rw (p.1, p.2) (λ t made at. of_setting (table c.args.self.now) (table c.many.new.self) goes t c.args.member c.in_err-inner.field-0.0 (c.in_err-inner.ensures.cause t (goes.stays c.args.setting t at)))
 
 pub returns-then-width-eq0-clause-counts : goal.returns-then-width-eq0-clause-counts
 returns-then-width-eq0-clause-counts c t made at are = inner_nothing c.args.self.now.shapes.items t c.args.member c.none.result c.none.ensures

@@ -1,30 +1,18 @@
-use Rattle.std.proofs.Common.{inr, sym, ap, subst, ◌∙◌}
-use Rattle.std.proofs.lemmas.Result.{err_from_is_err_and, IfOk-weaker}
+use Rattle.std.proofs.Common.{sym, ap, subst, ◌∙◌}
+use Rattle.std.proofs.lemmas.Result.{IfOk-weaker}
 use Rattle.lft_settings.specs.declared.counts.Counts.{Counts}
 use Rattle.lft_settings.specs.Passed.{MemberHas}
 use Rattle.lft_settings.proofs.Passing.{instance_has, member_nothing, pairs_have, plain_has, port_has}
-use Rattle.lft_settings.proofs.Refusing.{of_its_width}
 use Rattle.lft_settings.proofs.Standing.{member_there}
 use Rattle.lft_settings.proofs.settings.Settings.count_member.Goals as goal
 
 pub returns-in_default-clause-counts : goal.returns-in_default-clause-counts
 returns-in_default-clause-counts c t made at are = member_nothing c.args.self.now.shapes.items t c.args.number _ c.none.ensures
 
-pub returns-in_err-ports-in-Port-clause-cause : goal.returns-in_err-ports-in-Port-clause-cause
-returns-in_err-ports-in-Port-clause-cause c =
-    let p = err_from_is_err_and c.from_residual.result c.from_residual.ensures.1 in
-    rw (p.1, p.2) (λ t made at. of_its_width c.args.self.now.shapes.items t c.args.number c.in_err-ports-in-Port.field-0.0 (c.in_err-ports-in-Port.ensures.cause t made at))
-
 pub returns-in_ok-ports-in-Port-clause-counts : goal.returns-in_ok-ports-in-Port-clause-counts
 returns-in_ok-ports-in-Port-clause-counts c t made at are =
     let s = c.args.self.now in
     subst (λ (r : Counts). MemberHas s.shapes.items t c.args.number (record r { ports = c.in_ok-ports-in-Port.ports })) (sym c.none-in-Port.ensures) (port_has s.shapes.items t c.args.number c.in_ok-ports-in-Port.ports c.in-Some.inherited _ (sym (member_there s c.args.setting c.args.number t at) ∙ sym c.in-Some.ensures) c.in-Port.is (c.in_ok-ports-in-Port.ensures.many t made at))
-
-pub returns-in_err-connections-in-Connection-clause-cause : goal.returns-in_err-connections-in-Connection-clause-cause
-returns-in_err-connections-in-Connection-clause-cause c =
-    let p = err_from_is_err_and c.from_residual-in_err-connections-in-Connection.result c.from_residual-in_err-connections-in-Connection.ensures.1 in
-    let s = c.args.self.now in
-    rw (p.1, p.2) (λ t made at. inr (inr (c.in-Some.inherited, _, sym (member_there s c.args.setting c.args.number t at) ∙ sym c.in-Some.ensures, c.in-Connection.is, c.in_err-connections-in-Connection.ensures.cause t made at)))
 
 pub returns-in_ok-connections-in-Connection-clause-counts : goal.returns-in_ok-connections-in-Connection-clause-counts
 returns-in_ok-connections-in-Connection-clause-counts c t made at are =

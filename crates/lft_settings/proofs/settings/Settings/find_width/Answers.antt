@@ -1,25 +1,15 @@
 use Rattle.std.proofs.Common.{◌≡◌, ℕ, List, Some, sym, subst}
-use Rattle.std.proofs.lemmas.Result.{err_from_is_err_and}
 use Rattle.lft_lists.proofs.Options.{found}
 use Rattle.lft_whole.specs.declared.tree.Term.{Term}
 use Rattle.lft_settings.specs.Finding.{AddsOnly, AreNeeded, is_open}
 use Rattle.lft_settings.specs.Noted.{AreMade, GoesOn, table}
 use Rattle.lft_settings.specs.Places.{IsSum}
-use Rattle.lft_settings.specs.Refused.{IsCountedIn, IsOfTerms}
+use Rattle.lft_settings.specs.Refused.{IsCountedIn}
 use Rattle.lft_settings.specs.Settings.{setting_at}
 use Rattle.lft_settings.specs.Values.{Valued}
-use Rattle.lft_settings.proofs.Finding.{are_needed, next_stays, of_its_terms, of_itself, path_stays}
+use Rattle.lft_settings.proofs.Finding.{are_needed, next_stays, path_stays}
 use Rattle.lft_settings.proofs.Standing.{close_goes}
 use Rattle.lft_settings.proofs.settings.Settings.find_width.Goals as goal
-
-pub returns-in_err-all-clause-cause : goal.returns-in_err-all-clause-cause
-returns-in_err-all-clause-cause c =
-    let r = err_from_is_err_and c.from_residual.result c.from_residual.ensures.1 in
-    let s = c.args.self.now in
-    let i = c.in-Some.inherited in
-    let w = c.in-Some-width.width.now in
-    rw (r.1, r.2) (λ t m made p next.
-    of_its_terms s c.args.wanted i w (sym c.in-Some.ensures) (sym c.in-Some-width.ensures) t m next.first c.in_err-all.field-0.0 (λ u at. subst (λ (terms : List Term). IsOfTerms s.shapes.items u i.file terms c.in_err-all.field-0.0) c.deref.ensures.value (c.in_err-all.ensures.cause u made at)))
 
 goes_noted : (c : goal.After-drop-needs-in-Some-all) → GoesOn (table c.args.self.now) (table c.note_width.new.self)
 goes_noted c =
@@ -44,11 +34,3 @@ returns-then-branch-clause-path c t m made p next =
     let stays = c.in_ok-all.ensures.goes.stays in
     let needed = are_needed s c.args.wanted c.in-Some.inherited c.in-Some-width.width.now (sym c.in-Some.ensures) (sym c.in-Some-width.ensures) new stays t m next.first c.new-needs.result.items c.sum.new.needs.items c.new-needs.ensures.items (λ u at. subst (λ (terms : List Term). AddsOnly (IsCountedIn s.shapes.items u terms) new c.new-needs.result.items c.sum.new.needs.items) c.deref.ensures.value (c.in_ok-all.ensures.needs u made at)) in
     c.in_ok-open.ensures.new c.if-branch.true s.shapes.items new t m (subst (AreNeeded s.shapes.items new c.args.wanted) (sym c.deref-2.ensures.value) needed) (next_stays s.shapes.items s.settings.items new stays t m c.args.path.now.steps.items c.args.wanted next) (path_stays s.shapes.items s.settings.items new stays t m c.args.path.now.steps.items (is_open c.args.path.now) p)
-
-pub returns-clause-cause : goal.returns-clause-cause
-returns-clause-cause c t m made p next =
-    let s = c.args.self.now in
-    let new = c.sum.new.self.settings.items in
-    let stays = c.in_ok-all.ensures.goes.stays in
-    let round = c.in_ok-open.ensures.circle c.if-branch.false s.shapes.items new t m (next_stays s.shapes.items s.settings.items new stays t m c.args.path.now.steps.items c.args.wanted next) (path_stays s.shapes.items s.settings.items new stays t m c.args.path.now.steps.items (is_open c.args.path.now) p) in
-    of_itself s c.args.wanted c.in-Some.inherited c.in-Some-width.width.now (sym c.in-Some.ensures) (sym c.in-Some-width.ensures) new stays t m next.first round _ (cc)

@@ -1,4 +1,3 @@
-use Rattle.std.proofs.lemmas.Result.{err_from_is_err_and}
 use Rattle.std.proofs.Common.{sym, subst}
 use Rattle.std.specs.Prelude.{unwrap_or}
 use Rattle.lft_shapes.specs.declared.shapes.Thing.{Thing}
@@ -10,8 +9,3 @@ pub returns-clause-many : goal.returns-clause-many
 returns-clause-many c t made at =
     let shapes = c.args.self.now.shapes.items in
     subst (λ n. AreMany shapes t c.args.thing n) (sym c.unwrap_or.ensures) (subst (λ (x : Thing). AreMany shapes t x (unwrap_or c.in_ok-width.width 1)) (sym c.in-Member.is) (width_many shapes t c.in-Member.member c.in_ok-width.width (c.in_ok-width.ensures.width t made at)))
-
-pub returns-in_err-width-clause-cause : goal.returns-in_err-width-clause-cause
-returns-in_err-width-clause-cause c =
-    let p = err_from_is_err_and c.from_residual.result c.from_residual.ensures.1 in
-    rw (p.1, p.2) (λ t made at. (c.in-Member.member, c.in-Member.is, c.in_err-width.ensures.cause t made at))

@@ -1,6 +1,5 @@
-use Rattle.std.proofs.Common.{◌≡◌, inr, length, None, sym, ap, subst, ◌∙◌, arith}
+use Rattle.std.proofs.Common.{◌≡◌, length, None, sym, ap, subst, ◌∙◌, arith}
 use Rattle.std.proofs.lemmas.List.{length_push}
-use Rattle.std.proofs.lemmas.Result.{err_from_is_err_and}
 use Rattle.lft_lists.proofs.Places.{length_same}
 use Rattle.std.specs.Global.{Global}
 use Rattle.std.specs.Prelude.{Vec}
@@ -34,9 +33,3 @@ returns-clause-settings c =
     let long = c.loop.invariant.long in
     let only = ap length c.in_ok-only.ensures ∙ length_same c.len.result None in
     c.in_ok-add_main.ensures.main main.0 main.1 c.new-2.ensures.items (made_none (record { shapes = shapes.items; settings = c.new-2.result.items; known = c.loop.known.items; only = c.in_ok-only.only.items }) c.new-2.ensures.items (omega (arith, long, ok, equal)) (omega (arith, only, ok, equal)) c.loop.invariant.none (λ shape. ap (λ l. noted_at l shape) c.in_ok-only.ensures ∙ none_noted c.len.result shape))
-
-pub returns-in_err-add_main-clause-cause : goal.returns-in_err-add_main-clause-cause
-returns-in_err-add_main-clause-cause c =
-    let nesting = c.in_ok-work.ensures.nesting in
-    let p = err_from_is_err_and c.from_residual-in_err-add_main.result c.from_residual-in_err-add_main.ensures.1 in
-    rw (p.1, p.2) (inr (nesting.0, c.in_ok-work.field-0, nesting.1, c.in_err-add_main.ensures.cause))

@@ -1,6 +1,4 @@
-use Rattle.lft_settings.proofs.Refusing.{of_member}
-use Rattle.std.proofs.lemmas.Result.{err_from_is_err_and}
-use Rattle.std.proofs.Common.{List, inl, subst, arith, inr}
+use Rattle.std.proofs.Common.{List, inl, subst, arith}
 use Rattle.lft_shapes.specs.declared.shapes.Shape.{Shape}
 use Rattle.lft_settings.specs.Used.{IsIn}
 use Rattle.lft_settings.specs.Noted.{table}
@@ -35,9 +33,3 @@ returns-clause-all c t made at a m u is =
     let low = c.members-member-end.ensures.instances t m at here.instance in
     let end = c.loop-member-test.false in
     c.loop-member.invariant.all t made at a m u (omega (arith, low, end)) here
-
-pub returns-in_err-push_inside-clause-cause : goal.returns-in_err-push_inside-clause-cause
-returns-in_err-push_inside-clause-cause c =
-    let p = err_from_is_err_and c.from_residual.result c.from_residual.ensures.1 in
-    let goes = c.loop-member.invariant.goes in
-    rw (p.1, p.2) (λ t made at. inr (c.loop-member.member, of_member (table c.args.self.now) (table c.loop-member.self) goes t c.loop-member.member c.in_err-push_inside.field-0.0 (c.in_err-push_inside.ensures.cause t (goes.made made) (goes.stays c.args.setting t at))))

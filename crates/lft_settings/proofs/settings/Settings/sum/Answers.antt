@@ -1,7 +1,6 @@
 use Rattle.std.proofs.Common.{inl, ◌≡◌, ◌<◌, ◌+◌, ◌++◌, [], ◌∷◌, List, length, take, Some, refl, sym, subst, arith, slice_get}
 use Rattle.std.proofs.lemmas.Grind.{common_steps}
 use Rattle.std.proofs.lemmas.Option.{slice_get_read}
-use Rattle.std.proofs.lemmas.Result.{err_from_is_err_and}
 use Rattle.std.specs.Prelude.{IfSome}
 use Rattle.lft_lists.proofs.Picked.{take_one_more}
 use Rattle.lft_whole.specs.declared.tree.Term.{Term}
@@ -10,7 +9,7 @@ use Rattle.lft_settings.specs.Places.{IsSum, plus}
 use Rattle.lft_settings.specs.Settings.{setting_at}
 use Rattle.lft_settings.specs.Values.{Valued}
 use Rattle.lft_settings.proofs.Counting.{no_terms}
-use Rattle.lft_settings.proofs.Finding.{adds_term, of_term}
+use Rattle.lft_settings.proofs.Finding.{adds_term}
 use Rattle.lft_settings.proofs.Keeping.{goes_further, goes_nowhere}
 use Rattle.lft_settings.proofs.Standing.{terms_plus}
 use Rattle.lft_settings.proofs.settings.Settings.sum.Goals as goal
@@ -39,15 +38,6 @@ loop-term-preserved c =
       sum = subst (λ o. IfSome o (λ n. (t : Valued) → AreMade (table s) → setting_at s c.args.setting ≡ Some t → IsSum s.shapes.items t (take (i + 1) terms) n)) (sym c.plus-all.ensures) (subst (λ (l : List Term). IfSome (plus c.loop-term.all c.in_ok-count.count) (λ n. (t : Valued) → AreMade (table s) → setting_at s c.args.setting ≡ Some t → IsSum s.shapes.items t l n)) (sym more) (terms_plus (table s) (table c.loop-term.self) was.goes c.args.setting (take i terms) c.term-item.result c.loop-term.all c.in_ok-count.count was.sum now.count));
       needs = λ t made at. adds_term (table s) (table c.loop-term.self) c.term.new.self.settings.items was.goes (now.goes.stays) t terms i c.term-item.result there c.args.needs.now.items c.loop-term.needs.items c.term.new.needs.items (was.needs t made at) (now.needs t (was.goes.made made) (was.goes.stays c.args.setting t at));
     }
-
-pub returns-in_err-count-clause-cause : goal.returns-in_err-count-clause-cause
-returns-in_err-count-clause-cause c =
-    let p = err_from_is_err_and c.from_residual.result c.from_residual.ensures.1 in
-    let terms = c.args.terms.now in
-    let i = c.loop-term.term-index in
-    let there : slice_get terms i ≡ Some c.term-item.result = slice_get_read terms (length terms) i c.term-item.result refl (omega arith) c.term-item.is in
-    let goes = c.loop-term.invariant.goes in
-    rw (p.1, p.2) (λ t made at. of_term (table c.args.self.now) (table c.loop-term.self) goes t c.args.file terms i c.term-item.result there c.in_err-count.field-0.0 (c.in_err-count.ensures.cause t (goes.made made) (goes.stays c.args.setting t at)))
 
 pub returns-clause-sum : goal.returns-clause-sum
 returns-clause-sum c =

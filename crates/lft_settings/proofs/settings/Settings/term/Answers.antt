@@ -1,9 +1,8 @@
-use Rattle.std.proofs.Common.{◌≡◌, Some, IfErr, IfOk, IfSome, sym, subst}
+use Rattle.std.proofs.Common.{◌≡◌, Some, IfOk, IfSome, sym, subst}
 use Rattle.std.proofs.lemmas.Result.{on_ok_weaker}
 use Rattle.lft_whole.specs.declared.tree.Count.{Count}
 use Rattle.lft_settings.specs.Noted.{AreMade, table}
 use Rattle.lft_settings.specs.Places.{IsCount}
-use Rattle.lft_settings.specs.Refused.{IsOfCount}
 use Rattle.lft_settings.specs.Settings.{setting_at}
 use Rattle.lft_settings.specs.Values.{Valued}
 use Rattle.lft_settings.proofs.Finding.{adds_weaker}
@@ -16,8 +15,3 @@ returns-in-WidthOf-clause-count c =
 
 pub returns-in-WidthOf-clause-needs : goal.returns-in-WidthOf-clause-needs
 returns-in-WidthOf-clause-needs c = on_ok_weaker c.width_of.result (λ adds t made at. adds_weaker _ _ _ _ (λ w x. (x.0, x.1, (c.in-WidthOf.reference, c.in-WidthOf.is, x.2))) (adds t made at)) c.width_of.ensures.needs
-
-pub returns-in-WidthOf-clause-cause : goal.returns-in-WidthOf-clause-cause
-returns-in-WidthOf-clause-cause c =
-    let s = c.args.self.now in
-    subst (λ (x : Count). IfErr c.width_of.result (λ stop. (t : Valued) → AreMade (table s) → setting_at s c.args.setting ≡ Some t → IsOfCount s.shapes.items t c.args.file c.args.term.now.at x stop)) (sym c.in-WidthOf.is) c.width_of.ensures.cause

@@ -1,10 +1,4 @@
-use Rattle.lft_settings.specs.Passed.{AreTooMany}
-use Rattle.lft_settings.specs.Used.{IsReached}
-use Rattle.lft_shapes.specs.declared.shapes.Shape.{Shape}
-use Rattle.lft_settings.proofs.Passing.{too_many}
-use Rattle.lft_settings.proofs.Refusing.{of_reached}
-use Rattle.std.proofs.lemmas.Result.{err_from_is_err_and}
-use Rattle.std.proofs.Common.{◌≡◌, ◌+◌, ◌∷◌, ◌++◌, [], Bool, List, ℕ, Some, true, length, refl, sym, ap, subst, ◌∙◌, arith, slice_get, inl, inr}
+use Rattle.std.proofs.Common.{◌≡◌, ◌+◌, ◌∷◌, ◌++◌, [], Bool, List, ℕ, Some, true, length, refl, sym, ap, subst, ◌∙◌, arith, slice_get}
 use Rattle.std.proofs.lemmas.Option.{slice_get_read}
 use Rattle.lft_settings.specs.Noted.{table}
 use Rattle.lft_settings.proofs.Keeping.{goes_further, goes_nowhere, goes_settings}
@@ -39,28 +33,3 @@ places-preserved c =
 
 pub returns-clause-used : goal.returns-clause-used
 returns-clause-used c a = using_all (table c.places.self) c.places.used.items c.places.is_used.items c.places.place (goes_settings _ _ c.places.invariant.goes a) (c.places.invariant.using a) (omega arith)
-
-pub returns-in_err-push_inner-clause-cause : goal.returns-in_err-push_inner-clause-cause
-returns-in_err-push_inner-clause-cause c =
-    let p = err_from_is_err_and c.from_residual-in_err-push_inner.result c.from_residual-in_err-push_inner.ensures.1 in
-    let was = c.places.invariant in
-    let used = c.places.used.items in
-    let here : slice_get used c.places.place ≡ Some c.index-setting.result.now = slice_get_read used (length used) c.places.place c.index-setting.result.now refl (omega arith) c.index-setting.ensures in
-    rw (p.1, p.2) (λ a.
-    let u = was.using a in
-    let r = u.reached c.index-setting.result.now (c.places.place, here) in
-    inr (of_reached (table c.args.self.now) (table c.places.self) was.goes r.0 (subst (λ (shapes : List Shape). IsReached shapes r.0) was.goes.shapes r.2) c.in_err-push_inner.field-0.0 (c.in_err-push_inner.ensures.cause r.0 (was.goes.made a.made) r.1)))
-
-pub returns-then-len-gt-MAX_INSTANCES-clause-cause : goal.returns-then-len-gt-MAX_INSTANCES-clause-cause
-returns-then-len-gt-MAX_INSTANCES-clause-cause c a =
-    let was = c.places.invariant in
-    let now = c.in_ok-push_inner.ensures in
-    let used = c.places.used.items in
-    let new = c.push_inner.new.used.items in
-    let here : slice_get used c.places.place ≡ Some c.index-setting.result.now = slice_get_read used (length used) c.places.place c.index-setting.result.now refl (omega arith) c.index-setting.ensures in
-    let u = was.using a in
-    let made = was.goes.made a.made in
-    let more = using_more (table c.places.self) (table c.push_inner.new.self) used new c.places.is_used.items c.push_inner.new.is_used.items c.places.place c.index-setting.result.now now.goes u here (now.marked u.marked) now.stay (λ t at. now.all t made at u.marked) (λ t at. now.only t made at) in
-    let goes = goes_further _ _ _ was.goes now.goes in
-    let many = too_many (table c.push_inner.new.self) new c.push_inner.new.is_used.items (c.places.place + 1) (goes_settings _ _ goes a) more (let ok = c.push_inner.new.used.ok.0 in omega arith) in
-    rw c.refused.ensures (inl (inr (refl, subst (λ (shapes : List Shape). AreTooMany shapes) goes.shapes many)))

@@ -1,5 +1,3 @@
-use Rattle.lft_settings.proofs.Refusing.{of_its_width, of_setting}
-use Rattle.std.proofs.lemmas.Result.{err_from_is_err_and}
 use Rattle.std.proofs.Common.{sym, ◌∙◌, arith}
 use Rattle.lft_settings.specs.Noted.{table}
 use Rattle.lft_settings.proofs.Keeping.{goes_further}
@@ -20,14 +18,3 @@ returns-clause-some c = inside_some (table c.args.self.now) (table c.many.new.se
 
 pub returns-clause-none : goal.returns-clause-none
 returns-clause-none c = inside_none (table c.args.self.now) (table c.many.new.self) (table c.inside.new.self) c.in_ok-count.ensures.goes c.args.setting c.args.member c.in_ok-count.count c.in_ok-inner.inner (λ t at. sym (c.has_instance.ensures t at) ∙ c.if-not-has_instance.false) c.in_ok-count.ensures.many c.in_ok-inner.ensures.inside
-
-pub returns-in_err-count-clause-cause : goal.returns-in_err-count-clause-cause
-returns-in_err-count-clause-cause c =
-    let p = err_from_is_err_and c.from_residual.result c.from_residual.ensures.1 in
-    rw (p.1, p.2) (λ t made at. of_its_width c.args.self.now.shapes.items t c.args.member c.in_err-count.field-0.0 (c.in_err-count.ensures.cause t made at))
-
-pub returns-in_err-inner-clause-cause : goal.returns-in_err-inner-clause-cause
-returns-in_err-inner-clause-cause c =
-    let p = err_from_is_err_and c.from_residual-in_err-inner.result c.from_residual-in_err-inner.ensures.1 in
-    let goes = c.in_ok-count.ensures.goes in
-    rw (p.1, p.2) (λ t made at. of_setting (table c.args.self.now) (table c.many.new.self) goes t c.args.member c.in_err-inner.field-0.0 (c.in_err-inner.ensures.cause t (goes.stays c.args.setting t at)))

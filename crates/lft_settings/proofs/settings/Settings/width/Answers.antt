@@ -1,9 +1,8 @@
 use Rattle.std.proofs.Common.{List, subst, sym, ◌∙◌}
-use Rattle.std.proofs.lemmas.Result.{err_from_is_err_and}
 use Rattle.lft_shapes.specs.declared.shapes.Shape.{Shape}
 use Rattle.lft_settings.specs.Finding.{IsFirst, IsPath}
 use Rattle.lft_settings.specs.Places.{IsWidth}
-use Rattle.lft_settings.specs.Refused.{IsOfWidth, Leads}
+use Rattle.lft_settings.specs.Refused.{Leads}
 use Rattle.lft_settings.proofs.Keeping.{goes_further, goes_nowhere}
 use Rattle.lft_settings.proofs.Standing.{found_is_width, none_written}
 use Rattle.lft_settings.proofs.settings.Settings.width.Goals as goal
@@ -27,18 +26,6 @@ widths-preserved c =
           (c.pop-wanted.ensures.path s.shapes.items s.settings.items t c.args.member first (was.path t made at))
           (c.pop-wanted.ensures.next s.shapes.items s.settings.items t c.args.member first (was.path t made at)));
     }
-
-pub returns-in_err-find_width-clause-cause : goal.returns-in_err-find_width-clause-cause
-returns-in_err-find_width-clause-cause c =
-    let p = err_from_is_err_and c.from_residual-in_err-find_width.result c.from_residual-in_err-find_width.ensures.1 in
-    let was = c.widths.invariant in
-    let s = c.widths.self in
-    rw (p.1, p.2) (λ t made at.
-    let first : IsFirst s.shapes.items s.settings.items t c.args.member (record { setting = c.args.setting; member = c.args.member }) = (t, was.goes.stays c.args.setting t at, Leads.itself) in
-    subst (λ (shapes : List Shape). IsOfWidth shapes t c.args.member c.in_err-find_width.field-0.0) was.goes.shapes
-    (c.in_err-find_width.ensures.cause t c.args.member (was.goes.made made)
-    (c.pop-wanted.ensures.path s.shapes.items s.settings.items t c.args.member first (was.path t made at))
-    (c.pop-wanted.ensures.next s.shapes.items s.settings.items t c.args.member first (was.path t made at))))
 
 pub returns-in-Some-clause-width : goal.returns-in-Some-clause-width
 returns-in-Some-clause-width c t made at =

@@ -1,27 +1,11 @@
 use Rattle.std.proofs.Common.{◌≡◌, Some, None, option_map, option_copied, slice_get, sym, ap, subst, ◌∙◌}
-use Rattle.std.proofs.lemmas.Result.{err_from_is_err_and}
-use Rattle.lft_lists.proofs.Mapped.{mapped}
 use Rattle.lft_scope.proofs.Placing.{lent}
 use Rattle.lft_whole.specs.declared.tree.Member.TheVariants as member
-use Rattle.lft_shapes.specs.Built.{core}
-use Rattle.lft_shapes.specs.Causes.{SaysBelow}
 use Rattle.lft_shapes.specs.Needs.{HasNeed, IsPassedIn, Marks, NamesParameter, Times, Widths}
-use Rattle.lft_shapes.specs.Shapes.{child_at, width_of}
-use Rattle.lft_shapes.proofs.Causing.{index_is_below, width_is_below}
-use Rattle.lft_shapes.proofs.Decided.{child_inside}
+use Rattle.lft_shapes.specs.Shapes.{child_at}
 use Rattle.lft_shapes.proofs.Marking.{marks_as, marks_none, marks_on}
 use Rattle.lft_shapes.proofs.Passing.{inside_times, inside_widths, none_inside, outside_times, outside_widths}
 use Rattle.lft_shapes.proofs.deciding.Needs.note_instance.Goals as goal
-
-pub returns-in_err-note_width-clause-cause : goal.returns-in_err-note_width-clause-cause
-returns-in_err-note_width-clause-cause c =
-    let p = err_from_is_err_and c.from_residual.result c.from_residual.ensures.1 in
-    let shape = c.args.shape.now in
-    let m = c.args.inherited in
-    rw (p.1, p.2) (λ scopes first s at is.
-    let all = at.ready.are_shapes in
-    let core_at = mapped core c.args.shapes.now s shape at.is_shape in
-    width_is_below scopes first shape m c.args.number c.args.instance.now.width _ (all.below s (core shape) core_at) (all.built s (core shape) core_at) at.is_member (ap width_of is) c.in_err-note_width.ensures.cause)
 
 pub returns-in_default-clause-sized : goal.returns-in_default-clause-sized
 returns-in_default-clause-sized c =
@@ -51,21 +35,6 @@ returns-in_default-get-clause-timed c =
     let there : child_at shape.children.items k ≡ Some child = sym c.child.ensures ∙ ap (option_map (λ x. x.now)) c.in-Some.is in
     let lacks : slice_get shapes child.shape ≡ None = sym (lent shapes child.shape c.get.result c.get.ensures.lookup) ∙ ap option_copied c.in_default-get.is in
     subst (λ l. Marks (HasNeed Times shapes shape k (member.Instance instance)) l c.note_width.new.self.timed.items) (ap (λ v. v.items) c.note_width.ensures.timed) (marks_none (HasNeed Times shapes shape k (member.Instance instance)) c.note_width.new.self.timed.items (outside_times shapes shape k instance (none_inside shapes shape k child there lacks)))
-
-pub returns-in_err-refuse_by_index-clause-cause : goal.returns-in_err-refuse_by_index-clause-cause
-returns-in_err-refuse_by_index-clause-cause c =
-    let p = err_from_is_err_and c.from_residual-in_err-refuse_by_index.result c.from_residual-in_err-refuse_by_index.ensures.1 in
-    let shapes = c.args.shapes.now in
-    let shape = c.args.shape.now in
-    let k = c.args.number in
-    let child = c.in-Some.child.now in
-    let inner = c.in-Some-get.inner.now in
-    let h = c.in_err-refuse_by_index.ensures in
-    rw (p.1, p.2) (λ scopes first s at is.
-    let there : child_at shape.children.items k ≡ Some child = sym c.child.ensures ∙ ap (option_map (λ x. x.now)) c.in-Some.is in
-    let row = child_inside shapes s k shape child at.is_shape there in
-    let found : slice_get shapes child.shape ≡ Some inner = sym (lent shapes child.shape c.get.result c.get.ensures.lookup) ∙ ap option_copied c.in-Some-get.is in
-    subst (SaysBelow scopes first) (sym h.0) (index_is_below scopes first shapes s k shape c.args.inherited c.args.instance.now child.shape inner at is row found h.1))
 
 pub returns-clause-sized : goal.returns-clause-sized
 returns-clause-sized c =

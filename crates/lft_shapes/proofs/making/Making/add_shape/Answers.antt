@@ -4,11 +4,11 @@ use Rattle.lft_shapes.specs.Built.{core, cores}
 use Rattle.lft_shapes.specs.Shapes.{tables}
 use Rattle.lft_shapes.proofs.making.Making.add_shape.Goals as goal
 
-pub returns-clause-adds : goal.returns-clause-adds
-returns-clause-adds c =
+pub returns : goal.returns
+returns c =
     let old = c.args.self.now.shapes.items in
     let shape = c.in_ok-shape.shape in
-    record {
+    record { adds = record {
       scopes = refl;
       main = c.in_ok-shape.ensures.main;
       number_is = c.len-number.ensures ∙ c.args.self.now.shapes.ok.0;
@@ -18,4 +18,4 @@ returns-clause-adds c =
       built = c.in_ok-shape.ensures.built;
       knows = c.note.ensures;
       empty = ap tables c.in_ok-push.ensures.items ∙ map-append (λ s. s.children.items) old (shape ∷ []) ∙ ap (λ row. tables old ++ row ∷ []) c.in_ok-shape.ensures.empty;
-    }
+    } }

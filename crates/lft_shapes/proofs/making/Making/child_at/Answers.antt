@@ -1,5 +1,4 @@
 use Rattle.std.proofs.Common.{◌≡◌, ◌≢◌, Some, None, option_copied, slice_get, sym, ap, subst, ◌∙◌}
-use Rattle.std.proofs.lemmas.Result.{err_from_is_err_and}
 use Rattle.lft_lists.proofs.Mapped.{mapped, mapped_from}
 use Rattle.lft_lists.proofs.Options.{lacking}
 use Rattle.lft_lists.proofs.Places.{same_some}
@@ -11,7 +10,7 @@ use Rattle.lft_shapes.specs.Built.{AreGiven, Core, core, cores, instance_of}
 use Rattle.lft_shapes.specs.Circles.{GivesOnce}
 use Rattle.lft_shapes.specs.Makings.{IsNeeded}
 use Rattle.lft_shapes.proofs.Goings.{goes_weaker}
-use Rattle.lft_shapes.proofs.Needing.{below_inside, below_reached, declared, is_instance}
+use Rattle.lft_shapes.proofs.Needing.{below_inside, is_instance}
 use Rattle.lft_shapes.proofs.making.Making.child_at.Goals as goal
 
 pub returns-clause-goes : goal.returns-clause-goes
@@ -55,21 +54,6 @@ returns-clause-child c first all =
           let given = c.in_ok-child.ensures.given inner.0 inner.1 in
           subst (λ (x : Instance). GivesOnce x.given.items × AreGiven child.2.core.things x.given.items c.in_ok-child.child.given.items) i (c.in_ok-child.ensures.once first needed all, subst (λ (o : Core). AreGiven o.things c.in-Some-instance.instance.now.given.items c.in_ok-child.child.given.items) inner.2 given);
     }
-
-pub returns-in_err-child-clause-cause : goal.returns-in_err-child-clause-cause
-returns-in_err-child-clause-cause c =
-    let p = err_from_is_err_and c.from_residual.result c.from_residual.ensures.1 in
-    let scopes = c.args.self.now.scopes in
-    let shapes = c.args.self.now.shapes.items in
-    let shape = c.in-Some.found.now in
-    let m = c.in-Some-member.inherited in
-    let there : slice_get shapes c.args.shape ≡ Some shape = ap (λ l. slice_get l c.args.shape) (sym c.deref.ensures.value) ∙ sym (lent c.deref.result.now c.args.shape c.get.result c.get.ensures.lookup) ∙ ap option_copied c.in-Some.is in
-    let at : slice_get (cores shapes) c.args.shape ≡ Some (core shape) = mapped core shapes c.args.shape shape there in
-    let is_member : slice_get shape.members.items c.args.number ≡ Some m = sym c.member.ensures ∙ c.in-Some-member.is in
-    let is : m.member.now ≡ member.Instance c.in-Some-instance.instance.now = c.in-Some-instance.ensures.some in
-    rw (p.1, p.2) (λ first all.
-    let d = declared scopes (core shape) c.args.number m (all.shapes.built c.args.shape (core shape) at) is_member in
-    c.in_err-child.ensures.cause first d.class d.which all (below_reached scopes first shape.class.number (all.shapes.below c.args.shape (core shape) at) d.class d.reached) (d.is_there ∙ ap (λ x. Some (m.file, x)) is))
 
 pub returns-in_default-clause-none : goal.returns-in_default-clause-none
 returns-in_default-clause-none c d m n at has means =

@@ -1,13 +1,11 @@
 use Rattle.std.proofs.Common.{◌≡◌, ◌+◌, ℕ, length, Some, None, inl, inr, option_map, slice_get, refl, sym, ap, subst, ◌∙◌, arith}
 use Rattle.std.proofs.lemmas.List.{length-map, length_push}
 use Rattle.std.proofs.lemmas.Option.{slice_get_within}
-use Rattle.std.proofs.lemmas.Result.{err_from_is_err_and}
 use Rattle.lft_lists.proofs.Options.{found, lacking}
 use Rattle.lft_lists.proofs.Places.{get_push_cases}
 use Rattle.lft_shapes.specs.declared.shapes.Child.{Child}
 use Rattle.lft_shapes.specs.declared.shapes.Inherited.{Inherited}
 use Rattle.lft_shapes.specs.Built.{Core, IsInside, core, cores, instance_of}
-use Rattle.lft_shapes.specs.Causes.{SaysBelow}
 use Rattle.lft_shapes.specs.Makings.{AreMade}
 use Rattle.lft_shapes.specs.Shapes.{child_at}
 use Rattle.lft_shapes.proofs.Goings.{child_push, goes_nowhere, goes_further, inside_kept, noted_in, set_made}
@@ -53,13 +51,6 @@ returns-clause-goes c =
       made = λ first n all. set_made scopes first c.loop-number.self _ c.args.shape c.loop-number.children.items refl c.set_children.ensures.cores c.set_children.ensures.tables (before.goes.made first n all) (before.children first all);
       kept = λ i d at. ap (λ l. slice_get l i) c.set_children.ensures.cores ∙ before.goes.kept i d at;
     }
-
-pub returns-in_err-child-clause-cause : goal.returns-in_err-child-clause-cause
-returns-in_err-child-clause-cause c =
-    let p = err_from_is_err_and c.from_residual.result c.from_residual.ensures.1 in
-    let before = c.loop-number.invariant in
-    let old = c.loop-number.self in
-    rw (p.1, p.2) (λ first all. subst (λ s. SaysBelow s first c.in_err-child.field-0.0) before.goes.scopes (c.in_err-child.ensures.cause first (subst (λ s. AreMade s first old) (sym before.goes.scopes) (before.goes.made first tt all))))
 
 pub returns-clause-others : goal.returns-clause-others
 returns-clause-others c s k t apart e = c.set_children.ensures.others s k t apart (c.loop-number.invariant.noted s k t e)

@@ -1,10 +1,7 @@
 use Rattle.std.proofs.Common.{◌≡◌, Some, option_copied, slice_get, sym, ap, subst, ◌∙◌, arith}
-use Rattle.std.proofs.lemmas.Result.{err_from_is_err_and}
 use Rattle.lft_lists.proofs.Mapped.{mapped}
 use Rattle.lft_scope.proofs.Placing.{lent}
 use Rattle.lft_shapes.specs.Built.{IsNoted, core, cores}
-use Rattle.lft_shapes.specs.Causes.{SaysBelow}
-use Rattle.lft_shapes.specs.Makings.{AreMade}
 use Rattle.lft_shapes.specs.Shapes.{tables}
 use Rattle.lft_shapes.proofs.Goings.{goes_nowhere, goes_further, noted_all, noted_more}
 use Rattle.lft_shapes.proofs.making.Making.fill_all.Goals as goal
@@ -31,10 +28,3 @@ pub returns-in-None-clause-noted : goal.returns-in-None-clause-noted
 returns-in-None-clause-noted c =
     let old = c.loop-shape.self.shapes.items in
     noted_all c.args.self.now.scopes old c.loop-shape.shape (ap (λ l. slice_get l c.loop-shape.shape) (sym c.deref.ensures.value) ∙ sym (lent c.deref.result.now c.loop-shape.shape c.get.result c.get.ensures.lookup) ∙ ap option_copied c.in-None.is) c.loop-shape.invariant.noted
-
-pub returns-in_err-fill-clause-cause : goal.returns-in_err-fill-clause-cause
-returns-in_err-fill-clause-cause c =
-    let p = err_from_is_err_and c.from_residual.result c.from_residual.ensures.1 in
-    let before = c.loop-shape.invariant in
-    let old = c.loop-shape.self in
-    rw (p.1, p.2) (λ first all. subst (λ s. SaysBelow s first c.in_err-fill.field-0.0) before.goes.scopes (c.in_err-fill.ensures.cause first (subst (λ s. AreMade s first old) (sym before.goes.scopes) (before.goes.made first tt all))))

@@ -1,24 +1,22 @@
 use Rattle.std.proofs.Common.{◌≡◌, ◌<◌, Some, length, slice_get, refl, sym, ap, subst, ◌∙◌, arith}
 use Rattle.std.proofs.lemmas.Option.{slice_get_read, slice_get_within}
-use Rattle.std.proofs.lemmas.Result.{err_from_is_err_and}
 use Rattle.lft_shapes.specs.declared.work.Work.{Work}
 use Rattle.lft_shapes.specs.Built.{AreBuilt, AreInside, AreNoted, cores, first_class}
-use Rattle.lft_shapes.specs.Circles.{HasCircle}
 use Rattle.lft_shapes.specs.Shapes.{inside, tables}
 use Rattle.lft_shapes.specs.Walks.{IsBehind, IsList}
-use Rattle.lft_shapes.proofs.Causing.{circle_is_below, first_core, main_is_cause, main_has_cause}
 use Rattle.lft_shapes.proofs.Decided.{decided_next, ready_next}
 use Rattle.lft_shapes.proofs.nesting.Nesting.of.Goals as goal
 
-pub returns-clause-nesting : goal.returns-clause-nesting
-returns-clause-nesting c =
+pub returns : goal.returns
+returns c =
     let scopes = c.in_ok-scopes.scopes in
     let made = c.in_ok-made.ensures in
     let inv = c.loop-place.invariant in
     let shapes = c.in_ok-made.made.1.items in
     let now = c.loop-place.shapes.items in
     let order = c.in_ok-order.order.items in
-    let behind : IsBehind (inside (tables shapes)) order = subst (λ l. IsBehind (inside (tables l)) order) c.deref.ensures.value c.in_ok-order.ensures.order.behind in (
+    let behind : IsBehind (inside (tables shapes)) order = subst (λ l. IsBehind (inside (tables l)) order) c.deref.ensures.value c.in_ok-order.ensures.order.behind in
+    record { nesting = (
       scopes,
       record {
         scopes_are = c.in_ok-scopes.ensures.scopes;
@@ -32,23 +30,7 @@ returns-clause-nesting c =
         order = subst (λ rows. IsList (inside rows) 0 c.in_ok-order.order.items) (sym inv.rows) (subst (λ l. IsList (inside (tables l)) 0 c.in_ok-order.order.items) c.deref.ensures.value c.in_ok-order.ensures.order);
         decided = λ s h. inv.decided scopes c.in_ok-main.main.number made.shapes made.noted behind h.0 s (let within = slice_get_within order h.0 s h.1 in omega (arith, within)) h.1;
       },
-    )
-
-pub returns-in_err-main-clause-cause : goal.returns-in_err-main-clause-cause
-returns-in_err-main-clause-cause c =
-    let p = err_from_is_err_and c.from_residual-in_err-main.result c.from_residual-in_err-main.ensures.1 in
-    rw (p.1, p.2) (main_is_cause c.args.files.now c.in_ok-scopes.scopes c.last_token.result _ c.in_ok-scopes.ensures.scopes c.last_token.ensures c.in_err-main.ensures.cause)
-
-pub returns-in_err-made-clause-cause : goal.returns-in_err-made-clause-cause
-returns-in_err-made-clause-cause c =
-    let p = err_from_is_err_and c.from_residual-in_err-made.result c.from_residual-in_err-made.ensures.1 in
-    rw (p.1, p.2) (main_has_cause c.args.files.now c.in_ok-scopes.scopes c.in_ok-main.main _ c.in_ok-scopes.ensures.scopes c.in_ok-main.ensures.main c.in_err-made.ensures.cause)
-
-pub returns-in_err-order-clause-cause : goal.returns-in_err-order-clause-cause
-returns-in_err-order-clause-cause c =
-    let p = err_from_is_err_and c.from_residual-in_err-order.result c.from_residual-in_err-order.ensures.1 in
-    let first = first_core (cores c.in_ok-made.made.1.items) c.in_ok-main.main c.in_ok-made.ensures.first in
-    rw (p.1, p.2) (main_has_cause c.args.files.now c.in_ok-scopes.scopes c.in_ok-main.main _ c.in_ok-scopes.ensures.scopes c.in_ok-main.ensures.main (circle_is_below c.in_ok-scopes.scopes c.in_ok-main.main.number c.in_ok-made.made.1.items first.0 _ c.in_ok-made.ensures.shapes (subst (λ l. HasCircle l 0 c.in_err-order.field-0.0) c.deref.ensures.value c.in_err-order.ensures.cause) first.1))
+    ) }
 
 pub loop-place-init : goal.loop-place-init
 loop-place-init c = record { rows = refl; same = refl; decided = λ scopes first all noted behind j t lt at. absurd (omega (arith, lt)) }
@@ -73,22 +55,3 @@ loop-place-preserved c =
           decided_next scopes now c.decide.new.shapes.items order place node at before (done.decided scopes first ready) (done.kept scopes)
           );
     }
-
-pub returns-in_err-decide-clause-cause : goal.returns-in_err-decide-clause-cause
-returns-in_err-decide-clause-cause c =
-    let p = err_from_is_err_and c.from_residual-in_err-decide.result c.from_residual-in_err-decide.ensures.1 in
-    let scopes = c.in_ok-scopes.scopes in
-    let main = c.in_ok-main.main in
-    let inv = c.loop-place.invariant in
-    let made = c.in_ok-made.made.1.items in
-    let now = c.loop-place.shapes.items in
-    let order = c.in_ok-order.order.items in
-    let place = c.loop-place.place in
-    let node = c.index.result.now in
-    let within : place < length order = omega arith in
-    let at : slice_get order place ≡ Some node = slice_get_read order (length order) place node refl within c.index.ensures in
-    let all = c.in_ok-made.ensures.shapes in
-    let behind : IsBehind (inside (tables made)) order = subst (λ l. IsBehind (inside (tables l)) order) c.deref.ensures.value c.in_ok-order.ensures.order.behind in
-    let noted = c.in_ok-made.ensures.noted in
-    let ready = ready_next scopes main.number made now order place node all noted behind inv.rows inv.same at (inv.decided scopes main.number all noted behind) in
-    rw (p.1, p.2) (main_has_cause c.args.files.now scopes main _ c.in_ok-scopes.ensures.scopes c.in_ok-main.ensures.main (c.in_err-decide.ensures.cause scopes main.number ready))

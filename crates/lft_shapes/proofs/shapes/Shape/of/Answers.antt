@@ -1,40 +1,13 @@
-use Rattle.std.proofs.Common.{◌≡◌, ℕ, List, Some, slice_get, map, sym, ap, subst, ◌∙◌}
+use Rattle.std.proofs.Common.{◌≡◌, ℕ, List, Some, slice_get, map, ap, subst, ◌∙◌}
 use Rattle.std.specs.Prelude.{flat_map}
-use Rattle.std.proofs.lemmas.Result.{err_from_is_err_and}
 use Rattle.lft_scope.specs.Places.{IsIndexOf, place_in}
 use Rattle.lft_scope.specs.Tests.{texts}
 use Rattle.lft_shapes.specs.declared.shapes.Named.{Named}
 use Rattle.lft_shapes.specs.declared.shapes.Thing.{Thing}
 use Rattle.lft_shapes.specs.Naming.{EachNamed, HasNamed}
-use Rattle.lft_shapes.specs.Built.{HasName, HasNoForeign, located, located_parameters, members_at, parameters_at}
-use Rattle.lft_shapes.specs.Refused.{SaysForeign, names_along, names_in, noted, written}
+use Rattle.lft_shapes.specs.Built.{HasName, HasNoForeign, members_at, parameters_at}
 use Rattle.lft_shapes.proofs.Naming.{is_thing, thing_of}
-use Rattle.lft_shapes.proofs.Refusing.{foreign_is_cause, much_is_cause, twice_is_cause}
 use Rattle.lft_shapes.proofs.shapes.Shape.of.Goals as goal
-
-pub returns-in_err-parts-clause-cause : goal.returns-in_err-parts-clause-cause
-returns-in_err-parts-clause-cause c =
-    let p = err_from_is_err_and c.from_residual-in_err-parts.result c.from_residual-in_err-parts.ensures.1 in
-    rw (p.1, p.2) (much_is_cause c.args.scopes.now c.args.class.number _ c.in_err-parts.ensures.cause)
-
-pub returns-in_err-refuse_twice-clause-cause : goal.returns-in_err-refuse_twice-clause-cause
-returns-in_err-refuse_twice-clause-cause c =
-    let p = err_from_is_err_and c.from_residual-in_err-refuse_twice.result c.from_residual-in_err-refuse_twice.ensures.1 in
-    let scopes = c.args.scopes.now in
-    let chain = c.in_ok-chain.chain.items in
-    let parameters : located_parameters c.deref-2.result.now ≡ flat_map (parameters_at scopes) chain = ap located_parameters c.deref-2.ensures.value ∙ c.in_ok-parts.ensures.parameters ∙ ap (flat_map (parameters_at scopes)) c.deref.ensures.value in
-    let members : located c.deref-3.result.now ≡ flat_map (members_at scopes) chain = ap located c.deref-3.ensures.value ∙ c.in_ok-parts.ensures.members ∙ ap (flat_map (members_at scopes)) c.deref.ensures.value in
-    let names : texts c.deref-5.result.now ≡ map (λ n. n.name.now) c.deref-6.result.now = ap texts c.deref-5.ensures.value ∙ c.in_ok-names.ensures ∙ ap (map (λ n. n.name.now)) (c.deref-4.ensures.value ∙ sym c.deref-6.ensures.value) in
-    let notes : noted c.deref-6.result.now ≡ written (names_along scopes chain) = ap noted c.deref-6.ensures.value ∙ c.in_ok-named.ensures.noted ∙ ap (λ ps. written (names_in ps (located c.deref-3.result.now))) parameters ∙ ap (λ ms. written (names_in (flat_map (parameters_at scopes) chain) ms)) members in
-    rw (p.1, p.2) (twice_is_cause scopes c.args.class.number chain _ c.in_ok-chain.ensures.list (c.in_err-refuse_twice.ensures.cause (subst (IsIndexOf c.in_ok-index.index) names c.in_ok-index.ensures) (names_along scopes chain) notes))
-
-pub returns-in_err-refuse_foreign-clause-cause : goal.returns-in_err-refuse_foreign-clause-cause
-returns-in_err-refuse_foreign-clause-cause c =
-    let p = err_from_is_err_and c.from_residual-in_err-refuse_foreign.result c.from_residual-in_err-refuse_foreign.ensures.1 in
-    let scopes = c.args.scopes.now in
-    let chain = c.in_ok-chain.chain.items in
-    let members : located c.deref-7.result.now ≡ flat_map (members_at scopes) chain = ap located c.deref-7.ensures.value ∙ c.in_ok-parts.ensures.members ∙ ap (flat_map (members_at scopes)) c.deref.ensures.value in
-    rw (p.1, p.2) (foreign_is_cause scopes c.args.class.number chain _ c.in_ok-chain.ensures.list (subst (λ ms. SaysForeign ms c.in_err-refuse_foreign.field-0.0) members c.in_err-refuse_foreign.ensures.cause))
 
 pub returns-clause-built : goal.returns-clause-built
 returns-clause-built c =
