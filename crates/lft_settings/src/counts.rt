@@ -103,8 +103,7 @@ fn is_instance(member: &Member) -> bool
 }
 
 /// The token of a member: that of its name, or its first one.
-fn token_of(member: &Member) -> usize
-{
+fn token_of(member: &Member) -> usize {
     match member {
         Member::Port(port) => port.name.at,
         Member::Timer(timer) => timer.name.at,
@@ -350,8 +349,7 @@ impl<'a> Settings<'a> {
     }
 
     /// Refuses counts that pass a limit, at the member of a setting with which they do.
-    fn refuse_passed(&self, setting: usize, number: usize, counts: Counts) -> Result<(), Stop>
-    {
+    fn refuse_passed(&self, setting: usize, number: usize, counts: Counts) -> Result<(), Stop> {
         let Some(why) = counts.passed() else {
             return Ok(());
         };

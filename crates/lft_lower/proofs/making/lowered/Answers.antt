@@ -15,13 +15,15 @@ pub invariant_of-tree : goal.invariant_of-tree
 invariant_of-tree c = record { identifiers = has_identifiers c.args.settings.now _ c.args.used.now (file_view None c.in_ok-items.items.items) c.in_ok-items.ensures.made }
 
 pub returns : goal.returns
-returns c = record { made = λ program. record {
-  settings = c.args.settings.now;
-  used = c.args.used.now;
-  program = program;
-  centralized = c.in_ok-notes.ensures.known;
-  names = texts c.in_ok-names.names.items;
-  apart = c.in_ok-names.ensures.apart;
-  reactors = same_reactors _ _ _ _ _ c.deref-2.ensures.value c.in_ok-items.ensures.made;
-  placed = c.in_ok-items.ensures.at;
-} }
+returns c = record {
+  made = λ program. record {
+    settings = c.args.settings.now;
+    used = c.args.used.now;
+    program = program;
+    centralized = c.in_ok-notes.ensures.known;
+    names = texts c.in_ok-names.names.items;
+    apart = c.in_ok-names.ensures.apart;
+    reactors = same_reactors _ _ _ _ _ c.deref-2.ensures.value c.in_ok-items.ensures.made;
+    placed = c.in_ok-items.ensures.at;
+  };
+}

@@ -18,6 +18,8 @@ loop-place-preserved c =
     below_one P c.args.named.now k n c.item_at-found.ensures c.loop-place.invariant (ap (λ o. unwrap_or o k) (sym c.get.ensures) ∙ e)
 
 pub returns : goal.returns
-returns c = record { once = λ is k n at.
-    let within = slice_get_within c.args.named.now k n at in
-    once (λ (m : Named). m.name.now) c.args.named.now (place_in c.args.index.now n.name.now) k n at (is n.name.now) (c.loop-place.invariant k n (omega (arith, within)) at) }
+returns c = record {
+  once = λ is k n at.
+      let within = slice_get_within c.args.named.now k n at in
+      once (λ (m : Named). m.name.now) c.args.named.now (place_in c.args.index.now n.name.now) k n at (is n.name.now) (c.loop-place.invariant k n (omega (arith, within)) at);
+}

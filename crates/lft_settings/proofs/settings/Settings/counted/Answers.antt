@@ -8,4 +8,3 @@ returns-clause-goes c = goes_further _ _ _ c.in_ok-used.ensures.goes c.in_ok-cou
 
 pub returns-clause-used : goal.returns-clause-used
 returns-clause-used c a = used_goes (table c.used.new.self) (table c.count_all.new.self) c.in_ok-count_all.ensures.goes c.in_ok-used.used.items (c.in_ok-used.ensures.used a)
-

@@ -8,14 +8,16 @@ pub returns : goal.returns
 returns c =
     let old = c.args.self.now.shapes.items in
     let shape = c.in_ok-shape.shape in
-    record { adds = record {
-      scopes = refl;
-      main = c.in_ok-shape.ensures.main;
-      number_is = c.len-number.ensures ∙ c.args.self.now.shapes.ok.0;
-      fresh = core shape;
-      shapes = ap cores c.in_ok-push.ensures.items ∙ map-append core old (shape ∷ []);
-      is_of = c.in_ok-shape.ensures.class;
-      built = c.in_ok-shape.ensures.built;
-      knows = c.note.ensures;
-      empty = ap tables c.in_ok-push.ensures.items ∙ map-append (λ s. s.children.items) old (shape ∷ []) ∙ ap (λ row. tables old ++ row ∷ []) c.in_ok-shape.ensures.empty;
-    } }
+    record {
+      adds = record {
+        scopes = refl;
+        main = c.in_ok-shape.ensures.main;
+        number_is = c.len-number.ensures ∙ c.args.self.now.shapes.ok.0;
+        fresh = core shape;
+        shapes = ap cores c.in_ok-push.ensures.items ∙ map-append core old (shape ∷ []);
+        is_of = c.in_ok-shape.ensures.class;
+        built = c.in_ok-shape.ensures.built;
+        knows = c.note.ensures;
+        empty = ap tables c.in_ok-push.ensures.items ∙ map-append (λ s. s.children.items) old (shape ∷ []) ∙ ap (λ row. tables old ++ row ∷ []) c.in_ok-shape.ensures.empty;
+      };
+    }

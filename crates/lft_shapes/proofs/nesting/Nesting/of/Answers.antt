@@ -16,21 +16,23 @@ returns c =
     let now = c.loop-place.shapes.items in
     let order = c.in_ok-order.order.items in
     let behind : IsBehind (inside (tables shapes)) order = subst (λ l. IsBehind (inside (tables l)) order) c.deref.ensures.value c.in_ok-order.ensures.order.behind in
-    record { nesting = (
-      scopes,
-      record {
-        scopes_are = c.in_ok-scopes.ensures.scopes;
-        main = c.in_ok-main.main;
-        main_is = c.in_ok-main.ensures.main;
-        is_refused = c.in_ok-order.ensures.main ∙ made.main ∙ ap (λ (w : Work). w.main) c.of-first.ensures;
-        is_first = ap first_class inv.same ∙ made.first;
-        built = subst (AreBuilt scopes) (sym inv.same) made.shapes.built;
-        inside_are = subst (λ cs. AreInside scopes cs (tables now)) (sym inv.same) (subst (AreInside scopes (cores shapes)) (sym inv.rows) made.shapes.inside);
-        all_noted = subst (λ cs. AreNoted scopes cs (tables now)) (sym inv.same) (subst (AreNoted scopes (cores shapes)) (sym inv.rows) made.noted);
-        order = subst (λ rows. IsList (inside rows) 0 c.in_ok-order.order.items) (sym inv.rows) (subst (λ l. IsList (inside (tables l)) 0 c.in_ok-order.order.items) c.deref.ensures.value c.in_ok-order.ensures.order);
-        decided = λ s h. inv.decided scopes c.in_ok-main.main.number made.shapes made.noted behind h.0 s (let within = slice_get_within order h.0 s h.1 in omega (arith, within)) h.1;
-      },
-    ) }
+    record {
+      nesting = (
+        scopes,
+        record {
+          scopes_are = c.in_ok-scopes.ensures.scopes;
+          main = c.in_ok-main.main;
+          main_is = c.in_ok-main.ensures.main;
+          is_refused = c.in_ok-order.ensures.main ∙ made.main ∙ ap (λ (w : Work). w.main) c.of-first.ensures;
+          is_first = ap first_class inv.same ∙ made.first;
+          built = subst (AreBuilt scopes) (sym inv.same) made.shapes.built;
+          inside_are = subst (λ cs. AreInside scopes cs (tables now)) (sym inv.same) (subst (AreInside scopes (cores shapes)) (sym inv.rows) made.shapes.inside);
+          all_noted = subst (λ cs. AreNoted scopes cs (tables now)) (sym inv.same) (subst (AreNoted scopes (cores shapes)) (sym inv.rows) made.noted);
+          order = subst (λ rows. IsList (inside rows) 0 c.in_ok-order.order.items) (sym inv.rows) (subst (λ l. IsList (inside (tables l)) 0 c.in_ok-order.order.items) c.deref.ensures.value c.in_ok-order.ensures.order);
+          decided = λ s h. inv.decided scopes c.in_ok-main.main.number made.shapes made.noted behind h.0 s (let within = slice_get_within order h.0 s h.1 in omega (arith, within)) h.1;
+        },
+      );
+    }
 
 pub loop-place-init : goal.loop-place-init
 loop-place-init c = record { rows = refl; same = refl; decided = λ scopes first all noted behind j t lt at. absurd (omega (arith, lt)) }
