@@ -2,7 +2,6 @@ pub mod Counting
 mod Finding
 pub mod Keeping
 mod Marks
-mod Passing
 pub mod Spelling
 mod Standing
 mod Using

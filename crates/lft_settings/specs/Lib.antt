@@ -2,7 +2,6 @@ pub mod Finding
 pub mod Limits
 pub mod Names
 pub mod Noted
-pub mod Passed
 pub mod Places
 pub mod Refused
 pub mod Settings

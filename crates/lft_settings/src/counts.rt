@@ -4,7 +4,6 @@ ghost use Rattle.std.specs.Prelude.{◌≡◌, ◌<◌, ◌≤◌, ◌⊎◌, �
 ghost use Rattle.lft_shapes.specs.Walks.{Has};
 ghost use Rattle.lft_settings.specs.Limits.{limits, first_passed};
 ghost use Rattle.lft_settings.specs.Noted.{AreMade, AreSettings, GoesOn, table};
-ghost use Rattle.lft_settings.specs.Passed.{AreAtMost, AreTotals, HasAtLeast, InnerHas, MemberHas, both, each, members_of, nothing};
 ghost use Rattle.lft_settings.specs.Places.{HasPairs};
 ghost use Rattle.lft_settings.specs.Settings.{setting_at};
 ghost use Rattle.lft_settings.specs.Used.{AreMarked, AreUsed, HasInner, HasNumber, IsIn, IsNumberIn, Stay, is_instance, is_instance_in};
@@ -32,9 +31,7 @@ struct Counts {
 
 impl Counts {
     /// Nothing at all.
-    fn none() -> Counts
-        ensures { result ≡ nothing }
-    {
+    fn none() -> Counts {
         Counts {
             instances: 0,
             ports: 0,
@@ -46,9 +43,7 @@ impl Counts {
     }
 
     /// With so many times what the other counts.
-    fn with(self, other: Counts, times: u64) -> Counts
-        ensures { AreAtMost result (both self (each times other)) }
-    {
+    fn with(self, other: Counts, times: u64) -> Counts {
         let Counts {
             instances,
             ports,
@@ -180,8 +175,7 @@ impl<'a> Settings<'a> {
 
     /// How many members a setting has.
     fn members(&self, setting: usize) -> usize
-        ensures all { (t : Valued) → setting_at self.now setting ≡ Some t → result ≡ members_of self.now.shapes.items t }
-        ensures instances { (t : Valued) (m : ℕ) → setting_at self.now setting ≡ Some t → is_instance_in self.now.shapes.items t m ≡ true → m < result }
+        ensures { (t : Valued) (m : ℕ) → setting_at self.now setting ≡ Some t → is_instance_in self.now.shapes.items t m ≡ true → m < result }
     {
         let Some(shape) = self.shape_of(setting) else {
             return 0;
@@ -285,7 +279,6 @@ impl<'a> Settings<'a> {
         totals: &[Counts],
     ) -> Result<Counts, Stop>
         ensures goes { OnOk result (GoesOn (table self.old) (table self.new)) }
-        ensures counts { IfOk result (λ c. (t : Valued) → AreMade (table self.old) → setting_at self.old setting ≡ Some t → AreTotals (table self.old) totals.now → InnerHas self.old.shapes.items t member c) }
     {
         let width = self.many(setting, Thing::Member(member))?;
         if width == 0 {
@@ -308,7 +301,6 @@ impl<'a> Settings<'a> {
         totals: &[Counts],
     ) -> Result<Counts, Stop>
         ensures goes { OnOk result (GoesOn (table self.old) (table self.new)) }
-        ensures counts { IfOk result (λ c. (t : Valued) → AreMade (table self.old) → setting_at self.old setting ≡ Some t → AreTotals (table self.old) totals.now → MemberHas self.old.shapes.items t number c) }
     {
         let Some(inherited) = self.inherited(Wanted {
             setting,
@@ -365,7 +357,6 @@ impl<'a> Settings<'a> {
     /// What one instance of a setting counts, with all in it. That of the settings in it is known.
     fn count(&mut self, setting: usize, totals: &[Counts]) -> Result<Counts, Stop>
         ensures goes { OnOk result (GoesOn (table self.old) (table self.new)) }
-        ensures counts { IfOk result (λ c. (t : Valued) → AreMade (table self.old) → setting_at self.old setting ≡ Some t → AreTotals (table self.old) totals.now → HasAtLeast self.old.shapes.items t c) }
     {
         let mut counts = Counts {
             instances: 1,

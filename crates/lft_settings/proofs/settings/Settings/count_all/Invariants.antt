@@ -1,9 +1,5 @@
-use Rattle.lft_settings.specs.Noted.{AreMade, GoesOn, table}
-use Rattle.lft_settings.specs.Passed.{AreTotals}
+use Rattle.lft_settings.specs.Noted.{GoesOn, table}
 use Rattle.lft_settings.proofs.settings.Settings.count_all.Given as goal
 
 abbrev pub invariant-loop-place : goal.invariant-loop-place
-invariant-loop-place l = record {
-  goes : GoesOn (table l.fn.self) (table l.self);
-  counts : AreMade (table l.fn.self) → AreTotals (table l.self) l.totals.items;
-}
+invariant-loop-place l = record { goes : GoesOn (table l.fn.self) (table l.self) }

@@ -30,6 +30,6 @@ loop-member-preserved c =
 pub returns-clause-all : goal.returns-clause-all
 returns-clause-all c t made at a m u is =
     let here = subst (λ (shapes : List Shape). IsIn shapes t m u) c.loop-member.invariant.goes.shapes is in
-    let low = c.members-member-end.ensures.instances t m at here.instance in
+    let low = c.members-member-end.ensures t m at here.instance in
     let end = c.loop-member-test.false in
     c.loop-member.invariant.all t made at a m u (omega (arith, low, end)) here
