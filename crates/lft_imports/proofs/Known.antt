@@ -1,7 +1,6 @@
 -- Paths by number: what a path more, and a file more, bring.
 use Rattle.std.proofs.Common.{◌≡◌, ℕ, zero, suc, ◌+◌, ◌<◌, ◌≤◌, ◌⊎◌, inl, inr, true, false, List, [], ◌∷◌, ◌++◌, length, Option, Some, None, append_assoc, map, refl, sym, subst, ap, ◌∙◌, arith, string_bytes}
-use Rattle.std.specs.Prelude.{◌↔◌, IfSome, IsSomeAnd, slice_get}
-use Rattle.std.specs.Option.{option_and_then}
+use Rattle.std.specs.Prelude.{◌↔◌, IsSomeAnd, slice_get}
 use Rattle.std.specs.Map.{update}
 use Rattle.std.specs.Str.{bytes_eq}
 use Rattle.std.specs.Cmp.Lexicographic.{bytes_decides}
@@ -256,17 +255,6 @@ one_named files ws w e none zero one at =
     let same : w ≡ one = Some_same w one (sym (ap (λ (xs : List Wanted). slice_get xs 0) e) ∙ at) in
     subst (λ (x : Wanted). IsNamedBy files 0 (Path x) x.import) same (subst (IsNamedBy files 0 (Path w)) (sym none) refl)
 one_named files ws w e none (suc k) one at = let no : None ≡ Some one = sym (ap (λ (xs : List Wanted). slice_get xs (suc k)) e) ∙ at in absurd (cc)
-
--- the one that is wanted next
-pub named_next : (files : List SourceFile) (ws : List Wanted) (number : ℕ) (place : Option Place) → AreNamed files ws → place ≡ option_and_then (λ (w : Wanted). w.import) (slice_get ws number) → IfSome (slice_get (map Path ws) number) (λ path. IsNamedBy files number path place)
-named_next files ws number place h is = of (slice_get (map Path ws) number) refl
-  where
-    of : (o : Option (List ℕ)) → slice_get (map Path ws) number ≡ o → IfSome o (λ path. IsNamedBy files number path place)
-    of None e = tt
-    of (Some path) e =
-        let from = mapped_from Path ws number path e in
-        let same : place ≡ from.0.import = is ∙ ap (option_and_then (λ (w : Wanted). w.import)) from.1 in
-        subst (λ p. IsNamedBy files number p place) from.2 (subst (IsNamedBy files number (Path from.0)) (sym same) (h number from.0 from.1))
 
 -- what is asked for by the imports of a file
 pub adds_file : (a b : List Wanted) (files : List SourceFile) (f : SourceFile) (number : ℕ) (p : List ℕ) (imports : List Import) → number ≡ length files → string_bytes f.path ≡ p → f.tree.imports.items ≡ imports → Adds a (IsAskedBy number p imports) b → Adds a (IsAskedBy (length files) (string_bytes f.path) f.tree.imports.items) b

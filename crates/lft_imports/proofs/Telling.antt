@@ -5,7 +5,6 @@ use Rattle.std.proofs.lemmas.List.{take-append-le, take_all}
 use Rattle.std.proofs.lemmas.List.Sums.{sum_by-append}
 use Rattle.std.proofs.lemmas.Option.{slice_get_within}
 use Rattle.lft_lists.proofs.Places.{get_push_cases}
-use Rattle.lft_sources.specs.declared.source.Spot.{Spot}
 use Rattle.lft_sources.specs.declared.source.SourceFile.{SourceFile}
 use Rattle.lft_sources.specs.declared.stop.Stop.{Stop}
 use Rattle.lft_sources.specs.declared.stop.Stop.TheVariants as stop
@@ -15,10 +14,6 @@ use Rattle.lft_imports.specs.declared.reading.Text.{Text}
 use Rattle.lft_imports.specs.declared.sources.Sources.{Sources}
 use Rattle.lft_imports.specs.Files.{AreCounted, AreOfTexts, HasUnread, IsRefusalOf, IsRefusedFor, IsUnread, RefusesNext, next_path, tokens_of}
 use Rattle.lft_imports.specs.Reads.{HasNoTree, HasTree, IsRead, IsReadAs}
-
--- what is read of a text that has no tree
-pub read_refused : (t : List ℕ) (spots : List Spot) (token : ℕ) (why : Why) (read : Text) → HasNoTree t spots token why → read.spots.items ≡ spots → read.refused ≡ Some (record { why = why; token = token }) → IsRead t read
-read_refused t spots token why read none same refused = subst (IsReadAs t read.spots.items read.tree) (sym refused) (subst (λ v. HasNoTree t v token why) (sym same) none)
 
 -- a file has the tree that is read of its text
 pub tree_of : (t : List ℕ) (f : SourceFile) (read : Text) → f.spots ≡ read.spots → f.tree ≡ read.tree → IsRead t read → read.refused ≡ None → HasTree t f.spots.items f.tree

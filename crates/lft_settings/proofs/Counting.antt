@@ -10,7 +10,7 @@ use Rattle.lft_whole.specs.declared.tree.Width.{Width}
 use Rattle.lft_shapes.specs.declared.shapes.Shape.{Shape}
 use Rattle.lft_shapes.specs.declared.shapes.Thing.{Thing}
 use Rattle.lft_shapes.specs.declared.shapes.Thing.TheVariants as thing
-use Rattle.lft_settings.specs.Places.{AreMany, AreManyIn, HasPlaces, HavePlaces, IsCount, IsSum, IsWidth, Meant, Widths, all_places, capped, count_in, how_many, how_many_in, how_many_of, many, meaning_in, places_in, places_of, plus, sum_in, times, total, width_by, width_in, written_width}
+use Rattle.lft_settings.specs.Places.{AreMany, AreManyIn, HasPlaces, HavePlaces, IsCount, IsSum, IsWidth, Meant, Widths, capped, count_in, how_many, how_many_in, how_many_of, many, meaning_in, places_in, places_of, plus, sum_in, times, total, width_by, width_in, written_width}
 use Rattle.lft_settings.specs.Values.{Valued}
 
 -- ---- what is more is known of
@@ -78,15 +78,6 @@ deeper shapes (suc d) e t m n q =
 
 pub deeper_right : (shapes : List Shape) (d e : ℕ) (t : Valued) (m n : ℕ) → width_in shapes e t m ≡ Some n → width_in shapes (d + e) t m ≡ Some n
 deeper_right shapes d e t m n q = let s : e + d ≡ d + e = omega arith in subst (λ k. width_in shapes k t m ≡ Some n) s (deeper shapes e d t m n q)
-
-pub how_many_deeper : (shapes : List Shape) (d e : ℕ) (t : Valued) (m n : ℕ) → how_many shapes (width_in shapes d) t m ≡ Some n → how_many shapes (width_in shapes (d + e)) t m ≡ Some n
-how_many_deeper shapes d e t m n p = how_many_more shapes (width_in shapes d) (width_in shapes (d + e)) (deeper shapes d e) t m n p
-
-pub all_deeper : (shapes : List Shape) (d e : ℕ) (t : Valued) (rs : List Reference) (n : ℕ) → all_places shapes (width_in shapes d) t rs ≡ Some n → all_places shapes (width_in shapes (d + e)) t rs ≡ Some n
-all_deeper shapes d e t rs n p = total_more (places_in shapes (width_in shapes d) t) (places_in shapes (width_in shapes (d + e)) t) rs n (places_more shapes (width_in shapes d) (width_in shapes (d + e)) (deeper shapes d e) t) p
-
-pub all_deeper_right : (shapes : List Shape) (d e : ℕ) (t : Valued) (rs : List Reference) (n : ℕ) → all_places shapes (width_in shapes e) t rs ≡ Some n → all_places shapes (width_in shapes (d + e)) t rs ≡ Some n
-all_deeper_right shapes d e t rs n p = let s : e + d ≡ d + e = omega arith in subst (λ k. all_places shapes (width_in shapes k) t rs ≡ Some n) s (all_deeper shapes e d t rs n p)
 
 -- a member is so many at any greater depth too, so it is so many once
 pub one_count : (shapes : List Shape) (t : Valued) (m d e a b : ℕ) → how_many shapes (width_in shapes d) t m ≡ Some a → how_many shapes (width_in shapes e) t m ≡ Some b → a ≡ b

@@ -34,9 +34,6 @@ use Rattle.lft_settings.proofs.Standing.{member_there}
 
 -- ---- lists of those that are wanted
 
-pub adds_nothing : (P : Wanted → Type 0) (list : List Wanted) → AddsIf P list list
-adds_nothing P list w h = inl h
-
 pub adds_one : (list : List Wanted) (x : Wanted) → AddsIf (λ w. w ≡ x) list (list ++ x ∷ [])
 adds_one list x w (i, at) = elim (get_push_cases list x i w at) [ inl was ↦ inl (i, was) | inr last ↦ inr (sym last.1) ]
 

@@ -64,9 +64,6 @@ goes_if P one two three a b holds = record {
   made = λ m. b.made (holds m) (a.made m);
 }
 
-pub if_nothing : (P : Type 0) (t new : Table) → new ≡ t → GoesOnIf P t new
-if_nothing P t new e = subst (GoesOnIf P t) (sym e) (record { shapes = refl; stays = λ k u e. e; made = λ _ a. a })
-
 -- the settings stay those of a program
 pub goes_settings : (old new : Table) → GoesOn old new → AreSettings old → AreSettings new
 goes_settings old new g a = record {
@@ -319,9 +316,6 @@ found_is_inside s setting member k around a e at =
 -- the setting of a number, where one stands there
 pub is_valued : (settings : List Setting) (k : ℕ) (x : Setting) (t : Valued) → slice_get settings k ≡ Some x → setting_in settings k ≡ Some t → valued x ≡ t
 is_valued settings k x t is at = same_some (setting_in settings k) (valued x) t (setting_of_number settings k x is) at
-
-pub no_setting : (settings : List Setting) (k : ℕ) (t : Valued) → slice_get settings k ≡ None → setting_in settings k ≡ Some t → ⊥
-no_setting settings k t none at = let x = setting_from settings k t at in let e : slice_get settings k ≡ Some x.0 = x.1 in cc
 
 module _ (shapes : List Shape) (settings : List Setting) (k m : ℕ) (x : Setting) (t : Valued) (is : slice_get settings k ≡ Some x) (at : setting_in settings k ≡ Some t) where
   over : inside shapes t m ≡ option_and_then (λ (o : Shape). option_and_then (setting_of shapes o (valued x).values) (child_at o.children.items m)) (slice_get shapes x.shape)

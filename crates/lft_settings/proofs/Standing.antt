@@ -12,7 +12,6 @@ use Rattle.lft_shapes.specs.Shapes.{width_of}
 use Rattle.lft_shapes.specs.declared.shapes.Inherited.{Inherited}
 use Rattle.lft_shapes.specs.declared.shapes.Shape.{Shape}
 use Rattle.lft_shapes.specs.declared.shapes.Thing.{Thing}
-use Rattle.lft_shapes.specs.declared.shapes.Thing.TheVariants as thing
 use Rattle.lft_lists.proofs.Places.{same_some}
 use Rattle.lft_settings.specs.declared.places.Meaning.{Meaning}
 use Rattle.lft_settings.specs.declared.settings.Setting.{Setting}
@@ -69,18 +68,6 @@ pub width_many : (shapes : List Shape) (t : Valued) (m : ℕ) (width : Option �
 width_many shapes t m None none = (0, ap (many None) none)
 width_many shapes t m (Some n) (depth, e) = (depth, wide_many shapes t m n depth (written_width shapes t m) refl e)
 
-pub plain_many : (shapes : List Shape) (t : Valued) (m : ℕ) → written_width shapes t m ≡ None → IsMany shapes t m 1
-plain_many shapes t m none = width_many shapes t m None none
-
-pub parameter_many : (shapes : List Shape) (t : Valued) (p : ℕ) → AreMany shapes t (thing.Parameter p) 1
-parameter_many shapes t p = (0, refl)
-
-pub member_many : (shapes : List Shape) (t : Valued) (m n : ℕ) → IsMany shapes t m n → AreMany shapes t (thing.Member m) n
-member_many shapes t m n is = is
-
-pub none_many : (shapes : List Shape) (t : Valued) → AreManyIn shapes t None 1
-none_many shapes t = (0, refl)
-
 -- ---- where settings are made in between
 
 -- where a member stands, a setting does
@@ -122,10 +109,6 @@ pub width_then : (t0 t1 : Table) → GoesOn t0 t1 → (setting m n : ℕ) (w : W
 width_then t0 t1 goes setting m n w t at is made sum u there =
     let same : t ≡ u = same_some (setting_in t1.settings setting) t u (goes.stays setting t at) there in
     subst (λ (v : Valued). IsWidth t1.shapes v m n) same (subst (λ shapes. IsWidth shapes t m n) (sym goes.shapes) (sum_width t0.shapes t m w n is (sum made at)))
-
--- where what is noted is so anyway
-pub goes_always : (P : Type 0) → P → (old new : Table) → GoesOnIf P old new → GoesOn old new
-goes_always P p old new g = record { shapes = g.shapes; stays = g.stays; made = g.made p }
 
 -- ---- counts that may not be known yet
 

@@ -1,6 +1,6 @@
 -- Numbers of parameters, and what is in instances.
-use Rattle.std.proofs.Common.{◌≡◌, ℕ, zero, suc, ◌+◌, ◌-◌, ◌<◌, ◌≤◌, inl, inr, ℤ, replicate, Bool, true, false, ◌↔◌, List, [], ◌∷◌, ◌++◌, length, map, drop, get_or, Option, Some, None, option_map, slice_get, slice_set, unwrap_or, w64, to_z, of_z, refl, sym, ap, subst, ◌∙◌, arith}
-use Rattle.std.specs.Prelude.{FitsSigned, IsTrue, if◌then◌else◌}
+use Rattle.std.proofs.Common.{◌≡◌, ℕ, zero, suc, ◌+◌, ◌-◌, ◌<◌, ◌≤◌, inl, inr, ℤ, replicate, false, List, [], ◌∷◌, ◌++◌, length, map, drop, get_or, Option, Some, None, option_map, slice_get, slice_set, w64, to_z, of_z, refl, sym, ap, subst, ◌∙◌, arith}
+use Rattle.std.specs.Prelude.{FitsSigned, if◌then◌else◌}
 use Rattle.std.specs.Borrow.{Bor}
 use Rattle.std.specs.Option.{option_and_then}
 use Rattle.std.proofs.lemmas.List.{map_push}
@@ -20,15 +20,6 @@ use Rattle.lft_shapes.specs.declared.shapes.Shape.{Shape}
 use Rattle.lft_shapes.specs.Shapes.{child_at}
 use Rattle.lft_shapes.proofs.Rows.{map_alike}
 use Rattle.lft_settings.specs.Values.{IsUnsized, Valued, given_to, inside, is_sized, setting_of, value_inside, values_inside}
-
--- a test that is true where there is the mark
-pub sized_is : (r : Bool) (o : Option Bool) → (IsTrue r ↔ (o ≡ Some true)) → r ≡ unwrap_or o false
-sized_is true None i = let e : None ≡ Some true = i.0 refl in absurd (cc)
-sized_is true (Some true) i = refl
-sized_is true (Some false) i = let e : Some false ≡ Some true = i.0 refl in absurd (cc)
-sized_is false None i = refl
-sized_is false (Some true) i = let e : false ≡ true = i.1 refl in absurd (cc)
-sized_is false (Some false) i = refl
 
 -- what stands in a list, seen as found
 pub some_at : {X : Type 0} (xs : List X) (p : ℕ) → option_and_then (λ v. v) (slice_get (map (λ v. Some v) xs) p) ≡ slice_get xs p

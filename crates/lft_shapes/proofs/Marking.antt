@@ -68,10 +68,6 @@ marks_out list i out = record {
 abbrev pub AnyBelow : {X : Type 0} → (ℕ → X → ℕ → Type 0) → List X → ℕ → ℕ → Type 0
 AnyBelow {X = X} Q xs bound n = (i : ℕ) × ((x : X) × (i < bound) × (slice_get xs i ≡ Some x) × Q i x n)
 
--- before the first item
-pub below_none : {X : Type 0} (Q : ℕ → X → ℕ → Type 0) (xs : List X) (list : List Bool) → Marks (AnyBelow Q xs 0) list list
-below_none Q xs list = marks_none (AnyBelow Q xs 0) list (λ n is. (let within = is.1.1 in omega (arith, within)))
-
 -- one item more
 pub below_more : {X : Type 0} (Q : ℕ → X → ℕ → Type 0) (xs : List X) (i : ℕ) (x : X) (old now new : List Bool) → slice_get xs i ≡ Some x → Marks (AnyBelow Q xs i) old now → Marks (Q i x) now new → Marks (AnyBelow Q xs (i + 1)) old new
 below_more {X = X} Q xs i x old now new at a b = marks_on (AnyBelow Q xs i) (Q i x) (AnyBelow Q xs (i + 1)) old now new a b (λ n. (there n, back n))

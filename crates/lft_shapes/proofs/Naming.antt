@@ -8,9 +8,7 @@ use Rattle.lft_lists.proofs.Mapped.{option_map_some}
 use Rattle.lft_lists.proofs.Places.{get_last, get_push, get_push_cases, Some_same}
 use Rattle.lft_scope.specs.Places.{IsIndexOf, place, place_in}
 use Rattle.lft_scope.specs.declared.index.Index.{Index}
-use Rattle.lft_whole.specs.declared.tree.Member.{Member}
 use Rattle.lft_whole.specs.declared.tree.Name.{Name}
-use Rattle.lft_whole.specs.declared.tree.Parameter.{Parameter}
 use Rattle.lft_shapes.specs.declared.shapes.Inherited.{Inherited}
 use Rattle.lft_shapes.specs.declared.shapes.InheritedParameter.{InheritedParameter}
 use Rattle.lft_shapes.specs.declared.shapes.Named.{Named}

@@ -98,14 +98,6 @@ time_named shape m times n has = (
 pub among_none : (shape : Shape) (n : ℕ) → IsAmong shape [] n → ⊥
 among_none shape n h = let within = h.1.1 in omega (arith, within)
 
--- one
-pub among_one : (shape : Shape) (time : Option Expression) (n : ℕ) → IsTimeIn shape time n ↔ IsAmong shape (time ∷ []) n
-among_one shape time n = (λ h. (h.0, contains_at (time ∷ []) 0 (Some h.0) (ap Some h.1), h.2), λ g. (g.0, only (Some g.0) (at_contains (time ∷ []) (Some g.0) g.1), g.2))
-  where
-    only : (x : Option Expression) → (i : ℕ) × (slice_get (time ∷ []) i ≡ Some x) → time ≡ x
-    only x (zero, at) = cc
-    only x (suc i, at) = absurd (cc)
-
 -- two
 pub among_two : (shape : Shape) (one other : Option Expression) (n : ℕ) → (IsTimeIn shape one n ⊎ IsTimeIn shape other n) ↔ IsAmong shape (one ∷ other ∷ []) n
 among_two shape one other n = (there, back)
@@ -193,23 +185,12 @@ width_needed shapes shape k m width has none n =
     let b = named_alone Widths shapes shape k m n none in
     (λ h. b.0 (a.0 h), λ g. a.1 (b.1 g))
 
--- where it has none
-pub width_unneeded : (shapes : List Shape) (shape : Shape) (k : ℕ) (m : Member) → width_of m ≡ None → ((i : Instance) → m ≡ member.Instance i → ⊥) → (n : ℕ) → HasNeed Widths shapes shape k m n → ⊥
-width_unneeded shapes shape k m has none n g =
-    let h = (width_needed shapes shape k m None has none n).1 g in
-    let e = h.1 in
-    absurd (cc)
-
 -- by its times
 pub time_needed : (shapes : List Shape) (shape : Shape) (k : ℕ) (m : Member) (times : List (Option Expression)) → times_of m ≡ times → ((i : Instance) → m ≡ member.Instance i → ⊥) → (n : ℕ) → IsAmong shape times n ↔ HasNeed Times shapes shape k m n
 time_needed shapes shape k m times has none n =
     let a = time_named shape m times n has in
     let b = named_alone Times shapes shape k m n none in
     (λ h. b.0 (a.0 h), λ g. a.1 (b.1 g))
-
--- where it has none
-pub time_unneeded : (shapes : List Shape) (shape : Shape) (k : ℕ) (m : Member) → times_of m ≡ [] → ((i : Instance) → m ≡ member.Instance i → ⊥) → (n : ℕ) → HasNeed Times shapes shape k m n → ⊥
-time_unneeded shapes shape k m has none n g = among_none shape n ((time_needed shapes shape k m [] has none n).1 g)
 
 -- what is marked, where nothing was
 pub marked_all : (need : Need) (shapes : List Shape) (shape : Shape) (count bound : ℕ) (old new : List Bool) → count ≡ length shape.parameters.items → old ≡ replicate count false → length shape.members.items ≤ bound → Marks (AnyBelow (λ k (m : Inherited). HasNeed need shapes shape k m.member.now) shape.members.items bound) old new → AreMarks need shapes shape new

@@ -1,8 +1,7 @@
 -- What is in the instances of shapes.
-use Rattle.std.proofs.Common.{◌≡◌, ◌<◌, inl, inr, ℕ, zero, suc, List, [], ◌∷◌, length, get_or, map, Some, slice_get, slice_set, refl, sym, ap, ◌∙◌, arith}
+use Rattle.std.proofs.Common.{◌≡◌, ◌<◌, inl, inr, ℕ, zero, suc, List, [], ◌∷◌, length, get_or, map, Some, slice_get, slice_set, refl, sym, ap, ◌∙◌}
 use Rattle.std.proofs.lemmas.Option.{slice_get_read}
 use Rattle.lft_lists.proofs.Members.{Mem}
-use Rattle.lft_lists.proofs.Places.{length_written}
 
 -- maps that are the same for each of the items
 pub map_alike : {X Y : Type 0} (f g : X → Y) (xs : List X) → ((x : X) → Mem x xs → f x ≡ g x) → map f xs ≡ map g xs
@@ -18,9 +17,3 @@ map_written f (z ∷ zs) (suc i) x y at e = ap (λ ws. f z ∷ ws) (map_written 
 -- the same, where the code has read the item
 pub map_set : {X Y : Type 0} (f : X → Y) (xs : List X) (i : ℕ) (x y : X) → i < length xs → x ≡ get_or xs i x → f y ≡ f x → map f (slice_set xs i y) ≡ map f xs
 map_set f xs i x y within is e = map_written f xs i x y (slice_get_read xs (length xs) i x refl within is) e
-
-pub map_set_twice : {X Y : Type 0} (f : X → Y) (xs : List X) (i : ℕ) (x w y z : X) → i < length xs → x ≡ get_or xs i x → f y ≡ f x → w ≡ get_or (slice_set xs i y) i w → f z ≡ f w → map f (slice_set (slice_set xs i y) i z) ≡ map f xs
-map_set_twice f xs i x w y z within is e was d =
-    let long = length_written xs i y in
-    let still : i < length (slice_set xs i y) = omega (arith, long, within) in
-    map_set f (slice_set xs i y) i w z still was d ∙ map_set f xs i x y within is e

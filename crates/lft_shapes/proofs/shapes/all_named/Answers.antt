@@ -6,7 +6,7 @@ use Rattle.lft_shapes.specs.declared.shapes.InheritedParameter.{InheritedParamet
 use Rattle.lft_shapes.specs.declared.shapes.Thing.TheVariants as thing
 use Rattle.lft_shapes.specs.Naming.{EachNamed, HasNamed}
 use Rattle.lft_shapes.specs.Shapes.{name_of}
-use Rattle.lft_shapes.proofs.Building.{below_one, pushed}
+use Rattle.lft_shapes.proofs.Building.{below_one}
 use Rattle.lft_shapes.proofs.Naming.{all_noted, has_named_last, has_named_push, named_push}
 use Rattle.lft_shapes.proofs.shapes.all_named.Goals as goal
 
