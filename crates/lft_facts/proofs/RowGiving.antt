@@ -6,16 +6,12 @@ use Rattle.lft_tag.specs.declared.Tag.{Tag}
 use Rattle.lft_steps.specs.declared.row.Row.{Row}
 use Rattle.lft_model.specs.declared.breach.Breach.{Breach}
 use Rattle.lft_model.specs.Plans.{PlanParts}
-use Rattle.lft_model.specs.Breaches.{IsOpen, IsUndeclared, BreaksRow, RowBreach}
+use Rattle.lft_model.specs.Breaches.{IsUndeclared, BreaksRow, RowBreach}
 use Rattle.lft_facts.specs.declared.facts.Fact.{Fact}
 use Rattle.lft_facts.specs.declared.facts.Fact.TheVariants as fact
 use Rattle.lft_facts.specs.declared.facts.RowFact.{RowFact}
 use Rattle.lft_facts.specs.Facts.{IsFact, IsShown, IsRowFact, AreFacts, AreShown, IsRowOf}
-use Rattle.lft_races.specs.Runs.{IsOpenSince}
 use Rattle.lft_facts.specs.Enough.{GivesRow, ProvesRow, IsOwn, AreOwn, row_of}
-
-pub open_since : (t : List Row) (i w : ℕ) (g : Tag) (r : ℕ) (o : IsOpen t i w g r) → IsOpenSince t i w o.start
-open_since t i w g r o = record { tag = g; reaction = r; before = o.before; starts = o.starts; not_ended = o.not_ended }
 
 pub breaks_4 : (plan : PlanParts) (t : List Row) (i : ℕ) (row : Row) → BreaksRow plan t i row 4 → IsUndeclared plan.program t i row row.step
 breaks_4 plan t i row (inl x) = let e = x.0 in absurd (omega arith)

@@ -21,6 +21,7 @@ use Rattle.lft_model.specs.Presence.{stop, value_written, min_delay, Occurs, Tri
 use Rattle.lft_model.specs.Runs.{Ran, steps_of, read_of, inputs_of}
 use Rattle.lft_model.specs.Breaches.{IsOpen, IsUnended, EndsBefore, MayWrite, MaySchedule}
 use Rattle.lft_races.specs.Runs.{StartsAt, EndsAt, IsOpenSince}
+use Rattle.lft_races.specs.Across.{StartsTwice, ReadsAt}
 use Rattle.lft_races.specs.Races.{IsUnfinished}
 use Rattle.lft_facts.specs.Reasons.{IsReason}
 use Rattle.lft_facts.specs.declared.facts.Fact.{Fact}
@@ -162,14 +163,6 @@ pub record IsAfterStop (plan : PlanParts) (t : List Row) (i : ℕ) : Type 0 wher
   pub is_row : slice_get t i ≡ Some row
   pub after : Before (stop plan t) row.tag
 
--- the row at place i starts the run that the one at place j before it starts
-pub record StartsTwice (t : List Row) (i j : ℕ) : Type 0 where
-  pub row : Row
-  pub is_row : slice_get t i ≡ Some row
-  pub starts : row.step ≡ Start
-  pub first : StartsAt t row.tag row.reaction j
-  pub before : j < i
-
 -- the row at place i starts a run while its worker has one open that it started in the row at place j
 pub record StartsBusy (t : List Row) (i j : ℕ) : Type 0 where
   pub row : Row
@@ -192,10 +185,6 @@ pub record ReadsOther (program : Parts) (t : List Row) (i : ℕ) : Type 0 where
   pub is_row : slice_get t i ≡ Some row
   pub reads : row.step ≡ Read name value
   pub other : ¬ Contains (inputs_of program row.reaction) name
-
--- the row at place j reads n in the run of r at g
-abbrev pub ReadsAt : List Row → Tag → ℕ → Name → ℕ → Type 0
-ReadsAt t g r n j = (w : ℕ) × (v : Value) × (slice_get t j ≡ Some (record { worker = w; tag = g; reaction = r; step = Read n v }))
 
 -- the row at place i reads what the one at place j before it reads in the same run
 pub record ReadsTwice (t : List Row) (i j : ℕ) : Type 0 where

@@ -4,4 +4,3 @@ pub mod Enough
 pub mod Ways
 pub mod Causes
 pub mod Neighbours
-pub mod Across

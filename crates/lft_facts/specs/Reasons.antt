@@ -15,6 +15,7 @@ use Rattle.lft_model.specs.Plans.{PlanParts}
 use Rattle.lft_model.specs.Presence.{stop, asked, Occurs}
 use Rattle.lft_model.specs.Runs.{start_row, end_row, Ran, inputs_of, effects_of}
 use Rattle.lft_races.specs.Runs.{StartsAt, IsOpenSince}
+use Rattle.lft_races.specs.Across.{IsOpenAcross}
 use Rattle.lft_facts.specs.declared.facts.ThingKind.{ThingKind}
 use Rattle.lft_facts.specs.declared.facts.ThingKind.TheVariants as kind
 use Rattle.lft_facts.specs.declared.facts.Reason.{Reason}
@@ -141,19 +142,6 @@ pub record IsLastOfWorker (t : List Row) (i k : ℕ) : Type 0 where
   pub is_last : slice_get t k ≡ Some last
   pub of_worker : last.worker ≡ row.worker
   pub none_later : (j : ℕ) (later : Row) → k < j → slice_get t j ≡ Some later → later.worker ≢ row.worker
-
--- the row at place i is of an open run, which starts in the one at place j; the one at place k between the two is at a later tag than the run, and the first such row of all
-pub record IsOpenAcross (t : List Row) (i j k : ℕ) : Type 0 where
-  pub row : Row
-  pub later : Row
-  pub is_row : slice_get t i ≡ Some row
-  pub is_later : slice_get t k ≡ Some later
-  pub starts : StartsAt t row.tag row.reaction j
-  pub open_since : IsOpenSince t i row.worker j
-  pub behind : j < k
-  pub before : k < i
-  pub after : Before row.tag later.tag
-  pub first : (m : ℕ) (x : Row) → m < k → slice_get t m ≡ Some x → ¬ Before row.tag x.tag
 
 -- the row at place k behind the one at place i is at a later tag, and none between them is
 pub record IsFirstLater (t : List Row) (i k : ℕ) : Type 0 where

@@ -1,40 +1,14 @@
 //! Rules 1 and 5: a run that is open when a row at a later tag comes.
 
-ghost use Rattle.std.specs.Prelude.{◌≡◌, ◌↔◌, ◌+◌, ◌<◌, ◌≤◌, length, IsTrue, IfSome, IfNone};
+ghost use Rattle.std.specs.Prelude.{◌≡◌, ◌+◌, ◌<◌, ◌≤◌, length, IfSome};
 ghost use Rattle.lft_model.specs.declared.breach.Breach.{Breach as TheBreach};
 ghost use Rattle.lft_model.specs.Plans.{PlanParts};
-ghost use Rattle.lft_facts.specs.Across.{IsAcross};
-ghost use Rattle.lft_facts.specs.Reasons.{IsOpenAcross, IsReason};
+ghost use Rattle.lft_facts.specs.Reasons.{IsReason};
 ghost use Rattle.lft_facts.specs.Enough.{IsOwnReason};
 
 use crate::facts::Reason;
-use crate::ordering::{first_greater, own_start};
+use lft_races::open_across;
 use lft_steps::{Row, row_at};
-
-/// The row that starts the run of this one, and the first row of all at a later tag, where that run is open
-/// and the one stands before the other.
-fn open_across(rows: &[Row], row: u32) -> Option<(u32, u32)>
-    requires { row < length rows.now }
-    ensures some { IfSome result (λ found. IsOpenAcross rows.now row found.0 found.1) }
-    ensures none { IfNone result (¬ IsAcross rows.now row) }
-{
-    let own = row_at(rows, row as usize);
-    let later = first_greater(rows, row, own.tag)?;
-    let start = own_start(rows, row)?;
-    if start < later {
-        Some((start, later))
-    } else {
-        None
-    }
-}
-
-/// Whether the row is of a run that was open when the first row at a later tag came.
-pub fn is_open_across(rows: &[Row], row: u32) -> bool
-    requires { row < length rows.now }
-    ensures { IsTrue result ↔ IsAcross rows.now row }
-{
-    open_across(rows, row).is_some()
-}
 
 /// That the run of the row was open when the first row at a later tag came.
 pub(crate) fn across(rows: &[Row], row: u32) -> Option<Reason>

@@ -13,7 +13,6 @@ mod finding;
 mod firings;
 mod nearest;
 mod neighbours;
-mod ordering;
 mod passing;
 mod race;
 mod reads;
@@ -24,6 +23,5 @@ mod stopping;
 mod triggers;
 mod ways;
 
-pub use across::is_open_across;
 pub use facts::{Cause, Fact, Facts, Reason, RowFact, ThingKind};
 pub use finding::find;

@@ -13,11 +13,10 @@ ghost use Rattle.lft_facts.specs.Enough.{Adds, IsOwnReason, row_of};
 use crate::across::{across, later_tag};
 use crate::adding::add;
 use crate::facts::{Fact, Reason, RowFact, ThingKind};
-use crate::ordering::{first_start, is_end_at, is_open_since};
 use crate::stopping::stop_reason;
 use lft_flat::{Name, Program};
 use lft_model::Plan;
-use lft_races::is_start_at;
+use lft_races::{first_start, is_end_at, is_open_since, is_start_at};
 use lft_steps::{Row, Step, is_end, is_start, row_at};
 use lft_tag::NoMemory;
 

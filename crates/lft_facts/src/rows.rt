@@ -9,9 +9,9 @@ ghost use Rattle.lft_facts.specs.Facts.{IsRowFact, AreFacts};
 ghost use Rattle.lft_facts.specs.Enough.{GivesRow, ProvesRow, AreOwn, row_of};
 
 use crate::facts::{Fact, RowFact};
-use crate::ordering::{first_read, first_start, greater_row, open_start};
 use crate::row_reasons::add_row_reasons;
 use lft_model::{Breach, Plan};
+use lft_races::{first_read, first_start, greater_row, open_start};
 use lft_steps::{Row, Step, is_start, row_at};
 use lft_tag::NoMemory;
 use std::alloc::Global;

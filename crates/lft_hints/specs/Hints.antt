@@ -15,8 +15,7 @@ use Rattle.lft_model.specs.declared.breach.Breach.{Breach}
 use Rattle.lft_model.specs.Plans.{PlanParts}
 use Rattle.lft_model.specs.Presence.{stop, Triggered}
 use Rattle.lft_races.specs.Races.{IsRaceBefore}
-use Rattle.lft_facts.specs.Facts.{StartsTwice}
-use Rattle.lft_facts.specs.Across.{IsAcross}
+use Rattle.lft_races.specs.Across.{IsAcross, StartsTwice}
 use Rattle.lft_hints.specs.declared.hint.Hint.{Hint}
 use Rattle.lft_hints.specs.declared.hint.Hint.TheVariants as hint
 

@@ -14,12 +14,11 @@ use crate::hint::Hint;
 use crate::rows::{
     all_before, is_first_of_worker, is_passed, is_second, none_ends, none_reads, none_writes,
 };
-use lft_facts::is_open_across;
 use lft_flat::{Name, Trigger};
 use lft_lists::item_at;
 use lft_model::{Breach, Plan, trace_stop};
 use lft_presence::presence_of;
-use lft_races::race_before;
+use lft_races::{is_open_across, race_before};
 use lft_steps::{Row, Rows, Step, is_start, row_at};
 use lft_tag::{MAX_TIME, NoMemory, Tag};
 use std::alloc::Global;

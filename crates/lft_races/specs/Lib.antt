@@ -1,3 +1,4 @@
 pub mod Runs
 pub mod Races
 pub mod Noted
+pub mod Across

@@ -1,7 +1,7 @@
 use Rattle.std.proofs.Common.{◌≡◌, ◌+◌, ◌-◌, ℕ, List, subst, arith}
 use Rattle.lft_steps.specs.declared.row.Row.{Row}
 use Rattle.lft_model.specs.declared.breach.Breach.{Breach}
-use Rattle.lft_facts.specs.Across.{IsAcross}
+use Rattle.lft_races.specs.Across.{IsAcross}
 use Rattle.lft_hints.specs.Hints.{IsOfOpen}
 use Rattle.lft_hints.proofs.guessing.is_of_open.Goals as goal
 

@@ -7,11 +7,10 @@ ghost use Rattle.lft_steps.specs.declared.row.Row.{Row as TheRow};
 ghost use Rattle.lft_model.specs.Breaches.{IsLate, IsOpen, WasStarted, WasRead};
 ghost use Rattle.lft_model.specs.Runs.{end_row};
 ghost use Rattle.lft_races.specs.Runs.{StartsAt, IsOpenSince};
-ghost use Rattle.lft_facts.specs.Across.{OpensRun};
-ghost use Rattle.lft_facts.specs.Facts.{ReadsAt};
+ghost use Rattle.lft_races.specs.Across.{OpensRun, ReadsAt};
 
+use crate::runs::is_start_at;
 use lft_flat::Name;
-use lft_races::is_start_at;
 use lft_steps::{Row, Step, is_end, is_start, row_at};
 use lft_tag::Tag;
 
@@ -32,7 +31,7 @@ pub(crate) fn first_greater(rows: &[Row], place: u32, tag: Tag) -> Option<u32>
 }
 
 /// The place of the first row before this one that is at a greater tag.
-pub(crate) fn greater_row(rows: &[Row], place: u32, row: Row) -> u32
+pub fn greater_row(rows: &[Row], place: u32, row: Row) -> u32
     requires place { place < length rows.now }
     requires late { IsLate rows.now place row }
     ensures before { result < place }
@@ -45,7 +44,7 @@ pub(crate) fn greater_row(rows: &[Row], place: u32, row: Row) -> u32
 }
 
 /// The place of the first row before this one that starts the reaction's run at the tag.
-pub(crate) fn first_start(rows: &[Row], place: u32, tag: Tag, reaction: u32) -> Option<u32>
+pub fn first_start(rows: &[Row], place: u32, tag: Tag, reaction: u32) -> Option<u32>
     requires place { place < length rows.now }
     ensures before { IfSome result (λ j. j < place) }
     ensures some { IfSome result (λ j. StartsAt rows.now tag reaction j) }
@@ -60,7 +59,7 @@ pub(crate) fn first_start(rows: &[Row], place: u32, tag: Tag, reaction: u32) -> 
 }
 
 /// Whether the row at the place ends the worker's run of the reaction at the tag.
-pub(crate) fn is_end_at(rows: &[Row], worker: u32, tag: Tag, reaction: u32, place: u32) -> bool
+pub fn is_end_at(rows: &[Row], worker: u32, tag: Tag, reaction: u32, place: u32) -> bool
     requires { place < length rows.now }
     ensures { IsTrue result ↔ (slice_get rows.now place ≡ Some (end_row worker tag reaction)) }
 {
@@ -83,7 +82,7 @@ fn is_ended(rows: &[Row], start: u32, place: u32, worker: u32, tag: Tag, reactio
 }
 
 /// Whether the row at the first place starts a run of the worker that is open before the other.
-pub(crate) fn is_open_since(rows: &[Row], start: u32, place: u32, worker: u32) -> bool
+pub fn is_open_since(rows: &[Row], start: u32, place: u32, worker: u32) -> bool
     requires start { start < place }
     requires place { place < length rows.now }
     ensures { IsTrue result ↔ IsOpenSince rows.now place worker start }
@@ -95,7 +94,7 @@ pub(crate) fn is_open_since(rows: &[Row], start: u32, place: u32, worker: u32) -
 }
 
 /// The place of the first row that starts a run of the worker that is open before the place.
-pub(crate) fn open_start(rows: &[Row], place: u32, worker: u32) -> u32
+pub fn open_start(rows: &[Row], place: u32, worker: u32) -> u32
     requires place { place < length rows.now }
     requires open { (g : TheTag) × (r : ℕ) × IsOpen rows.now place worker g r }
     ensures { IsOpenSince rows.now place worker result }
@@ -149,13 +148,7 @@ fn is_read_at(rows: &[Row], tag: Tag, reaction: u32, name: Name, place: u32) -> 
 }
 
 /// The place of the first row before this one that reads the name in the reaction's run at the tag.
-pub(crate) fn first_read(
-    rows: &[Row],
-    place: u32,
-    tag: Tag,
-    reaction: u32,
-    name: Name,
-) -> Option<u32>
+pub fn first_read(rows: &[Row], place: u32, tag: Tag, reaction: u32, name: Name) -> Option<u32>
     requires place { place < length rows.now }
     ensures before { IfSome result (λ j. j < place) }
     ensures some { IfSome result (λ j. ReadsAt rows.now tag reaction name j) }

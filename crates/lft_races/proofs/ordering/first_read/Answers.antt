@@ -1,6 +1,6 @@
 use Rattle.std.proofs.Common.{◌≡◌, Bool, false, true, sym, ◌∙◌, arith, below_more}
-use Rattle.lft_facts.specs.Facts.{ReadsAt}
-use Rattle.lft_facts.proofs.ordering.first_read.Goals as goal
+use Rattle.lft_races.specs.Across.{ReadsAt}
+use Rattle.lft_races.proofs.ordering.first_read.Goals as goal
 
 pub loop-other-preserved : goal.loop-other-preserved
 loop-other-preserved c = below_more (λ k. ¬ ReadsAt c.args.rows.now c.args.tag c.args.reaction c.args.name k) c.loop-other.other c.loop-other.invariant (λ s. let z : ◌≡◌ {A = Bool} false true = sym c.if-is_read_at.false ∙ c.is_read_at.ensures.1 s in absurd (cc))

@@ -1,7 +1,7 @@
 use Rattle.std.proofs.Common.{◌≡◌, Bool, false, true, slice_get, sym, ap, ◌∙◌, arith}
 use native.Mathlib.Decide.{ℕ_discrete}
 use Rattle.std.proofs.lemmas.Bool.{false≢true}
-use Rattle.lft_facts.proofs.ordering.is_ended.Goals as goal
+use Rattle.lft_races.proofs.ordering.is_ended.Goals as goal
 
 pub loop-other-preserved : goal.loop-other-preserved
 loop-other-preserved c k l m e = go (ℕ_discrete k c.loop-other.other)

@@ -1,6 +1,6 @@
 use Rattle.std.proofs.Common.{ℕ, ◌<◌}
-use Rattle.lft_facts.specs.Across.{OpensRun}
-use Rattle.lft_facts.proofs.ordering.own_start.Given as goal
+use Rattle.lft_races.specs.Across.{OpensRun}
+use Rattle.lft_races.proofs.ordering.own_start.Given as goal
 
 abbrev pub invariant-loop-start : goal.invariant-loop-start
 invariant-loop-start l = (m : ℕ) → m < l.start → ¬ OpensRun l.rows l.place m

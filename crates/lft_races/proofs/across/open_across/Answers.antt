@@ -3,9 +3,8 @@ use native.Mathlib.Decide.{dec_lt}
 use Rattle.lft_lists.proofs.Places.{same_at}
 use Rattle.lft_tag.specs.Tags.{Before}
 use Rattle.lft_steps.specs.declared.row.Row.{Row}
-use Rattle.lft_facts.specs.Across.{IsAcross}
-use Rattle.lft_facts.specs.Reasons.{IsOpenAcross}
-use Rattle.lft_facts.proofs.across.open_across.Goals as goal
+use Rattle.lft_races.specs.Across.{IsAcross, IsOpenAcross}
+use Rattle.lft_races.proofs.across.open_across.Goals as goal
 
 -- where nothing is answered, or something is
 if_none : {X P : Type 0} (o : Option X) → P → IfNone o P
