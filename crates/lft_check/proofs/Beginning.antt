@@ -5,10 +5,10 @@ use Rattle.lft_tag.specs.declared.Tag.{Tag}
 use Rattle.lft_tag.specs.Tags.{Before, UpTo}
 use Rattle.lft_tag.proofs.Order.{order_cases, UpTo-trans, Before-weaken}
 use Rattle.lft_lists.proofs.Places.{same_at}
-use Rattle.lft_steps.specs.declared.row.Row.{Row}
+use Rattle.lft_ir.specs.declared.steps.row.Row.{Row}
 use Rattle.lft_model.proofs.Places.{slice_get_within}
 use Rattle.lft_rows.specs.declared.slices.Slice.{Slice}
-use Rattle.lft_by_tag.specs.Slices.{AreSlices}
+use Rattle.lft_check.specs.ByTag.Slices.{AreSlices}
 use Rattle.lft_check.specs.Verdicts.{IsBegin}
 
 pub not_before : (g low : Tag) → ¬ Before g low → UpTo low g

@@ -10,7 +10,7 @@ use Rattle.lft_model.specs.declared.breach.Breach.{Breach}
 use Rattle.lft_model.specs.Breaches.{TagOrder}
 use Rattle.lft_model.proofs.Places.{slice_get_within}
 use Rattle.lft_rows.specs.declared.slices.Slice.{Slice}
-use Rattle.lft_presence.specs.Traces.{TraceParts}
+use Rattle.lft_rows.specs.Presence.Traces.{TraceParts}
 use Rattle.lft_check.specs.Verdicts.{LeastOf, BreachIn}
 use Rattle.lft_check.specs.Least.{IsLesser}
 use Rattle.lft_check.specs.Shares.{share_start, IsLeastOfShare, AreShares, IsFound, AreOk}

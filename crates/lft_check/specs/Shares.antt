@@ -4,7 +4,7 @@ use Rattle.lft_tag.specs.declared.Tag.{Tag}
 use Rattle.lft_tag.specs.declared.NoMemory.{NoMemory}
 use Rattle.lft_model.specs.declared.breach.Breach.{Breach}
 use Rattle.lft_rows.specs.declared.slices.Slice.{Slice}
-use Rattle.lft_presence.specs.Traces.{TraceParts}
+use Rattle.lft_rows.specs.Presence.Traces.{TraceParts}
 use Rattle.lft_check.specs.Verdicts.{LeastOf, BreachIn}
 
 -- where the share of the k-th of so many workers begins

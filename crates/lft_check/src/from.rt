@@ -1,21 +1,21 @@
 //! The first breach from a tag on.
 
 ghost use Rattle.std.specs.Prelude.{◌≤◌, ◌<◌, List, length, IfOk, IfErr, IsTrue, ◌↔◌};
-ghost use Rattle.lft_steps.specs.declared.row.Row.{Row as TheRow};
-ghost use Rattle.lft_steps.specs.Fits.{RowsFit};
-ghost use Rattle.lft_presence.specs.Clashes.{IsClash};
-ghost use Rattle.lft_by_tag.specs.Slices.{AreSlices};
+ghost use Rattle.lft_ir.specs.declared.steps.row.Row.{Row as TheRow};
+ghost use Rattle.lft_ir.specs.Steps.Fits.{RowsFit};
+ghost use Rattle.lft_rows.specs.Presence.Clashes.{IsClash};
+ghost use Rattle.lft_check.specs.ByTag.Slices.{AreSlices};
 ghost use Rattle.lft_check.specs.Verdicts.{LeastOf, BreachFrom, IsBegin, IsFrom, IsFromFault};
 
+use crate::by_tag::{CutFault, Sliced, slice_rows};
 use crate::fault::FromFault;
 use crate::judging::{first_in, least_of};
 use crate::watch::NoWatch;
-use lft_by_tag::{CutFault, Sliced, slice_rows};
 use lft_graph::Ancestors;
+use lft_ir::steps::Rows;
 use lft_lists::item_at;
 use lft_model::{Breach, Plan};
 use lft_rows::Slice;
-use lft_steps::Rows;
 use lft_tag::{NoMemory, Tag};
 use std::alloc::Global;
 

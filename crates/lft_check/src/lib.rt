@@ -1,6 +1,7 @@
 #![tactic(auto)]
-//! The verdict on a trace.
+//! The verdict on a trace. In `by_tag` its rows by tag, with what they cause: what the judge asks.
 
+pub mod by_tag;
 mod examine;
 mod fault;
 mod from;

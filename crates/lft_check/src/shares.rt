@@ -1,15 +1,15 @@
 //! The tags of a trace, shared out among workers.
 
 ghost use Rattle.std.specs.Prelude.{◌≡◌, ℕ, ◌<◌, ◌≤◌, length, Some, Err, IfOk, IfErr, OnOk, slice_get};
-ghost use Rattle.lft_presence.specs.Clashes.{IsClash};
-ghost use Rattle.lft_by_tag.specs.Slices.{AreSlices};
+ghost use Rattle.lft_rows.specs.Presence.Clashes.{IsClash};
+ghost use Rattle.lft_check.specs.ByTag.Slices.{AreSlices};
 ghost use Rattle.lft_graph.specs.Sets.{AreAncestors};
 ghost use Rattle.lft_check.specs.Verdicts.{LeastOf, BreachIn};
 ghost use Rattle.lft_check.specs.Shares.{share_start, IsLeastOfShare, AreShares, IsFound, AreOk};
 
+use crate::by_tag::Sliced;
 use crate::judging::{first_in, lesser};
 use crate::watch::Watch;
-use lft_by_tag::Sliced;
 use lft_graph::Ancestors;
 use lft_lists::item_at;
 use lft_model::Breach;

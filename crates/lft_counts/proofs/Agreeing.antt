@@ -2,8 +2,8 @@
 use Rattle.std.proofs.Common.{◌≡◌, ℕ, ◌+◌, ◌<◌, ◌≤◌, ◌++◌, length, List, Option, Some, None, sym, ◌∙◌, arith, slice_get}
 use Rattle.lft_lists.proofs.Places.{get_left, get_there}
 use Rattle.lft_tag.specs.declared.Tag.{Tag}
-use Rattle.lft_flat.specs.Parts.{Parts}
-use Rattle.lft_steps.specs.declared.row.Row.{Row}
+use Rattle.lft_ir.specs.Parts.{Parts}
+use Rattle.lft_ir.specs.declared.steps.row.Row.{Row}
 use Rattle.lft_model.specs.Breaches.{IsOpen}
 use Rattle.lft_counts.specs.declared.orders.Last.{Last}
 use Rattle.lft_counts.specs.declared.orders.Orders.{Orders}

@@ -1,7 +1,7 @@
 -- Counts that aren't 0, and what they count.
 use Rattle.std.proofs.Common.{◌≡◌, ℕ, ◌<◌, List, length, sym, ap, ◌∙◌, subst, arith, Some, slice_get}
 use native.Mathlib.Decide.{dec_lt}
-use Rattle.lft_steps.specs.declared.row.Row.{Row}
+use Rattle.lft_ir.specs.declared.steps.row.Row.{Row}
 use Rattle.lft_counts.specs.declared.orders.Order.{Order}
 use Rattle.lft_counts.specs.declared.orders.Orders.{Orders}
 use Rattle.lft_counts.specs.Counts.{Count, none, more, same}

@@ -9,9 +9,9 @@ use Rattle.lft_counts.specs.declared.orders.Last.{Last}
 use Rattle.lft_counts.specs.declared.orders.Orders.{Orders}
 use Rattle.lft_counts.specs.Counts.{Count, none}
 use Rattle.lft_counts.specs.Orders.{IsLast, MeetsAt, ApartAt, Stands, unmet, orders_from, cleared}
-use Rattle.lft_flat.specs.Parts.{Parts}
+use Rattle.lft_ir.specs.Parts.{Parts}
 use Rattle.lft_graph.specs.Before.{IsBefore, IsDeclaredJustBefore, FeedsLast}
-use Rattle.lft_steps.specs.declared.row.Row.{Row}
+use Rattle.lft_ir.specs.declared.steps.row.Row.{Row}
 
 -- the orders of the reactions below r
 pub record Laying (n r : ℕ) (all : List Order) (begins : List ℕ) : Type 0 where

@@ -5,8 +5,8 @@ use native.Mathlib.Decide.{ℕ_discrete}
 use Rattle.lft_lists.proofs.Places.{get_write_cases, length_written, length_same}
 use Rattle.lft_tag.specs.declared.Tag.{Tag}
 use Rattle.lft_graph.specs.Sets.{Has}
-use Rattle.lft_steps.specs.declared.row.Row.{Row}
-use Rattle.lft_steps.specs.declared.row.Step.TheVariants.{Start, End}
+use Rattle.lft_ir.specs.declared.steps.row.Row.{Row}
+use Rattle.lft_ir.specs.declared.steps.row.Step.TheVariants.{Start, End}
 use Rattle.lft_model.specs.Runs.{start_row, end_row}
 use Rattle.lft_model.proofs.Places.{slice_get_within}
 use Rattle.lft_counts.specs.Counts.{Count, none, same, KeepsRows, StartsAt, Runs, MeetsRun, Widens}

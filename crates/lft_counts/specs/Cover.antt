@@ -1,8 +1,8 @@
 -- All counts of a trace, and whose orders they are.
 use Rattle.std.specs.Prelude.{◌≡◌, ℕ, List, map, length}
-use Rattle.lft_flat.specs.Parts.{Parts}
+use Rattle.lft_ir.specs.Parts.{Parts}
 use Rattle.lft_graph.specs.Graph.{GraphParts, IsGraphOf}
-use Rattle.lft_steps.specs.declared.row.Row.{Row}
+use Rattle.lft_ir.specs.declared.steps.row.Row.{Row}
 use Rattle.lft_counts.specs.declared.cover.Counting.{Counting}
 use Rattle.lft_counts.specs.declared.cover.Cover.{Cover}
 use Rattle.lft_counts.specs.Counts.{AreCounts, StartsAt, WritesAt}

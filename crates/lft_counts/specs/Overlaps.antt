@@ -1,7 +1,7 @@
 -- Which reactions have open runs together, and how many.
 use Rattle.std.specs.Prelude.{◌≡◌, ◌↔◌, ℕ, ◌+◌, ◌/◌, List, [], Some, length, slice_get, unwrap_or}
 use Rattle.lft_graph.specs.Sets.{Has}
-use Rattle.lft_steps.specs.declared.row.Row.{Row}
+use Rattle.lft_ir.specs.declared.steps.row.Row.{Row}
 use Rattle.lft_counts.specs.declared.overlaps.Overlaps.{Overlaps}
 use Rattle.lft_counts.specs.Counts.{Count, AreCounts, Runs, MeetsRun, Widens}
 

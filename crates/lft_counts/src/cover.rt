@@ -2,12 +2,12 @@
 
 ghost use Rattle.std.specs.Prelude.{◌≡◌, ◌+◌, ◌≤◌, ◌<◌, ℕ, List, Some, IfOk, OnOk, IfSome, IfNone, length, map, slice_get};
 ghost use Rattle.lft_graph.specs.Graph.{IsGraphOf};
-ghost use Rattle.lft_flat.specs.Parts.{Parts};
-ghost use Rattle.lft_flat.specs.declared.parts.Value.{Value};
-ghost use Rattle.lft_flat.specs.declared.parts.Name.TheVariants.{Port};
-ghost use Rattle.lft_steps.specs.Fits.{RowFits, RowsFit};
-ghost use Rattle.lft_steps.specs.declared.row.Row.{Row as TheRow};
-ghost use Rattle.lft_steps.specs.declared.row.Step.TheVariants.{Write};
+ghost use Rattle.lft_ir.specs.Parts.{Parts};
+ghost use Rattle.lft_ir.specs.declared.parts.Value.{Value};
+ghost use Rattle.lft_ir.specs.declared.parts.Name.TheVariants.{Port};
+ghost use Rattle.lft_ir.specs.Steps.Fits.{RowFits, RowsFit};
+ghost use Rattle.lft_ir.specs.declared.steps.row.Row.{Row as TheRow};
+ghost use Rattle.lft_ir.specs.declared.steps.row.Step.TheVariants.{Write};
 ghost use Rattle.lft_counts.specs.Counts.{Here, KeepsRows};
 ghost use Rattle.lft_counts.specs.Orders.{cleared};
 ghost use Rattle.lft_counts.specs.Cover.{IsCounting, IsCover, IsListed};
@@ -17,9 +17,9 @@ use crate::orders::Orders;
 use crate::overlaps::Overlaps;
 use crate::tally::Tally;
 use crate::workers::Workers;
-use lft_flat::{Name, Program};
 use lft_graph::Graph;
-use lft_steps::{Row, Step, is_start, row_at};
+use lft_ir::steps::{Row, Step, is_start, row_at};
+use lft_ir::{Name, Program};
 use lft_tag::NoMemory;
 use std::alloc::Global;
 

@@ -2,9 +2,9 @@
 
 ghost use Rattle.std.specs.Prelude.{◌≡◌, ◌<◌, length, IfOk, IfSome};
 
-use lft_flat::{Name, Program};
+use lft_ir::steps::{Row, Step};
+use lft_ir::{Name, Program};
 use lft_lists::item_at;
-use lft_steps::{Row, Step};
 use lft_tag::NoMemory;
 use std::alloc::Global;
 

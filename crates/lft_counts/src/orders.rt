@@ -2,15 +2,15 @@
 
 ghost use Rattle.lft_graph.specs.Graph.{IsGraphOf};
 ghost use Rattle.std.specs.Prelude.{IfOk, OnOk, None, replicate, map, ◌≡◌, ◌++◌, ◌+◌, ◌<◌, ℕ, List, Some, length, slice_get};
-ghost use Rattle.lft_steps.specs.declared.row.Row.{Row as TheRow};
+ghost use Rattle.lft_ir.specs.declared.steps.row.Row.{Row as TheRow};
 ghost use Rattle.lft_model.specs.Runs.{start_row};
 ghost use Rattle.lft_counts.specs.Counts.{Count, Here, KeepsRows};
 ghost use Rattle.lft_counts.specs.Orders.{IsApart, IsCounted, IsHeld, IsLast, Stands, cleared, orders_from, unmet};
 
-use lft_flat::Program;
 use lft_graph::Graph;
+use lft_ir::Program;
+use lft_ir::steps::{Row, is_start};
 use lft_lists::item_at;
-use lft_steps::{Row, is_start};
 use lft_tag::{NoMemory, Tag};
 use std::alloc::Global;
 

@@ -4,7 +4,7 @@
 
 ghost use Rattle.std.specs.Prelude.{◌≡◌, IfOk, length};
 
-use lft_flat::{Name, Program, Value};
+use lft_ir::{Name, Program, Value};
 use lft_load::{Fault, finish, load, write_text};
 use lft_model::Reads;
 use lft_pool::{Bodies, Body, Code, Done, Law, Steps, record_run};

@@ -1,9 +1,9 @@
 -- Why a row asks for the stop, what feeds a port, and what a reaction declares.
 use Rattle.std.proofs.Common.{◌≡◌, ℕ, ◌+◌, ◌<◌, List, [], length, ap, sym, unwrap_or, option_map, Option, Some, None, IfSome}
 use Rattle.lft_lists.proofs.Places.{get_there}
-use Rattle.lft_flat.specs.Parts.{Parts, inputs}
-use Rattle.lft_flat.specs.declared.parts.Reaction.{Reaction}
-use Rattle.lft_steps.specs.declared.row.Row.{Row}
+use Rattle.lft_ir.specs.Parts.{Parts, inputs}
+use Rattle.lft_ir.specs.declared.parts.Reaction.{Reaction}
+use Rattle.lft_ir.specs.declared.steps.row.Row.{Row}
 use Rattle.lft_model.specs.declared.breach.Breach.{Breach}
 use Rattle.lft_model.specs.Plans.{PlanParts}
 use Rattle.lft_model.specs.Runs.{inputs_of, effects_of}

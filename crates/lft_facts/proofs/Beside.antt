@@ -5,7 +5,7 @@ use Rattle.lft_tag.specs.declared.Tag.{Tag}
 use Rattle.lft_tag.specs.Tags.{Before, UpTo}
 use Rattle.lft_tag.proofs.Order.{UpTo-not, order_cases, split_up}
 use Rattle.lft_lists.proofs.Places.{Some_same}
-use Rattle.lft_steps.specs.declared.row.Row.{Row}
+use Rattle.lft_ir.specs.declared.steps.row.Row.{Row}
 use Rattle.lft_model.specs.Runs.{start_row, Ran}
 use Rattle.lft_model.proofs.Places.{slice_get_within}
 use Rattle.lft_races.specs.Runs.{StartsAt}

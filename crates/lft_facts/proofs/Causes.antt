@@ -8,18 +8,18 @@ use Rattle.lft_tag.specs.Tags.{Before, after}
 use Rattle.lft_tag.specs.Shifts.{shifted}
 use Rattle.lft_tag.proofs.Order.{Before-irrefl, same_tag_refl}
 use Rattle.lft_tag.proofs.Chains.{tag_of as tag_from}
-use Rattle.lft_flat.specs.Parts.{Parts}
-use Rattle.lft_flat.proofs.Origins.{origin_inside}
-use Rattle.lft_flat.specs.declared.parts.Port.{Port as PortOf}
-use Rattle.lft_flat.specs.declared.parts.Value.{Value}
-use Rattle.lft_flat.specs.declared.parts.Name.TheVariants.{Port, Action}
-use Rattle.lft_flat.specs.declared.parts.Timer.{Timer as TimerOf}
-use Rattle.lft_flat.specs.declared.parts.Trigger.{Trigger}
-use Rattle.lft_flat.specs.declared.parts.Trigger.TheVariants.{On, Timer}
-use Rattle.lft_steps.specs.declared.row.Row.{Row}
-use Rattle.lft_steps.specs.declared.row.Step.{Step}
-use Rattle.lft_steps.specs.declared.row.Step.TheVariants.{Start, Read, Write, Schedule, Stop, End}
-use Rattle.lft_steps.specs.Fits.{RowsFit}
+use Rattle.lft_ir.specs.Parts.{Parts}
+use Rattle.lft_ir.proofs.Origins.{origin_inside}
+use Rattle.lft_ir.specs.declared.parts.Port.{Port as PortOf}
+use Rattle.lft_ir.specs.declared.parts.Value.{Value}
+use Rattle.lft_ir.specs.declared.parts.Name.TheVariants.{Port, Action}
+use Rattle.lft_ir.specs.declared.parts.Timer.{Timer as TimerOf}
+use Rattle.lft_ir.specs.declared.parts.Trigger.{Trigger}
+use Rattle.lft_ir.specs.declared.parts.Trigger.TheVariants.{On, Timer}
+use Rattle.lft_ir.specs.declared.steps.row.Row.{Row}
+use Rattle.lft_ir.specs.declared.steps.row.Step.{Step}
+use Rattle.lft_ir.specs.declared.steps.row.Step.TheVariants.{Start, Read, Write, Schedule, Stop, End}
+use Rattle.lft_ir.specs.Steps.Fits.{RowsFit}
 use Rattle.lft_model.specs.Plans.{PlanParts}
 use Rattle.lft_model.specs.Presence.{value_written, value_scheduled, written, scheduled, given, min_delay, IsWrittenFrom, IsPresent, Fires, Occurs}
 use Rattle.lft_model.proofs.Places.{slice_get_within}
@@ -27,9 +27,9 @@ use Rattle.lft_model.proofs.ActionEvents.{at_row, at_event}
 use Rattle.lft_model.proofs.Firings.{time_of, again_fires}
 use Rattle.lft_model.proofs.Ended.{written_by, by_written, by_scheduled, scheduled_by}
 use Rattle.lft_model.proofs.Steps.{written_some, some_written, scheduled_some, some_scheduled}
-use Rattle.lft_presence.specs.declared.causes.Cause.{Cause as Event}
-use Rattle.lft_presence.specs.Causes.{tag_of, cause as cause_of, ComesUpTo, Leads, IsLastCause, IsCause, Carries, step_cause}
-use Rattle.lft_presence.proofs.Presences.{ChainOf, port_cause, action_cause, carrier, row_of, event_of, step_place, step_schedules, none_leads}
+use Rattle.lft_rows.specs.declared.presence.causes.Cause.{Cause as Event}
+use Rattle.lft_rows.specs.Presence.Causes.{tag_of, cause as cause_of, ComesUpTo, Leads, IsLastCause, IsCause, Carries, step_cause}
+use Rattle.lft_rows.proofs.PresenceLemmas.Presences.{ChainOf, port_cause, action_cause, carrier, row_of, event_of, step_place, step_schedules, none_leads}
 use Rattle.lft_facts.specs.declared.facts.Cause.{Cause}
 use Rattle.lft_facts.specs.declared.facts.Cause.TheVariants as cause
 use Rattle.lft_facts.specs.Facts.{IsCause as IsFactCause, IsWrittenIn, IsScheduledIn, IsGiven, FiresAfter}

@@ -3,16 +3,16 @@ use Rattle.std.proofs.Common.{◌≡◌, ◌⊎◌, inl, inr, ℕ, ◌<◌, ◌�
 use native.Mathlib.Decide.{ℕ_discrete, dec_lt}
 use Rattle.lft_lists.proofs.Places.{Some_same}
 use Rattle.lft_tag.specs.declared.Tag.{Tag}
-use Rattle.lft_flat.specs.Parts.{Parts}
+use Rattle.lft_ir.specs.Parts.{Parts}
 use Rattle.lft_graph.specs.Graph.{GraphParts, IsGraphOf}
 use Rattle.lft_graph.specs.Precedence.{Precedes}
-use Rattle.lft_steps.specs.declared.row.Row.{Row}
-use Rattle.lft_steps.specs.declared.row.Step.TheVariants.{Start, End}
+use Rattle.lft_ir.specs.declared.steps.row.Row.{Row}
+use Rattle.lft_ir.specs.declared.steps.row.Step.TheVariants.{Start, End}
 use Rattle.lft_model.specs.Plans.{PlanParts}
 use Rattle.lft_model.specs.Runs.{start_row, end_row}
 use Rattle.lft_model.proofs.Legality.{ended}
 use Rattle.lft_model.proofs.Places.{slice_get_take}
-use Rattle.lft_answers.specs.Answers.{KeepsRows}
+use Rattle.lft_rows.specs.Answers.Answers.{KeepsRows}
 use Rattle.lft_races.specs.Runs.{StartsAt, EndsAt}
 use Rattle.lft_races.specs.Races.{EndLater, NotEnded, IsUnfinished}
 use Rattle.lft_races.proofs.Standing.{unfinished_whole}

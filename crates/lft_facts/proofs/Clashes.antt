@@ -9,29 +9,29 @@ use Rattle.lft_tag.specs.declared.Tag.{Tag}
 use Rattle.lft_tag.specs.Tags.{Before, UpTo}
 use Rattle.lft_tag.specs.Shifts.{shifted}
 use Rattle.lft_tag.proofs.Order.{Before-irrefl, UpTo_antisym}
-use Rattle.lft_flat.specs.declared.parts.Port.{Port as PortOf}
-use Rattle.lft_flat.specs.declared.parts.Value.{Value}
-use Rattle.lft_flat.specs.declared.parts.Name.TheVariants.{Port, Action}
-use Rattle.lft_flat.proofs.Origins.{origin_unique}
-use Rattle.lft_steps.specs.declared.row.Row.{Row}
-use Rattle.lft_steps.specs.declared.row.Step.TheVariants.{Write}
-use Rattle.lft_steps.specs.Fits.{RowsFit}
+use Rattle.lft_ir.specs.declared.parts.Port.{Port as PortOf}
+use Rattle.lft_ir.specs.declared.parts.Value.{Value}
+use Rattle.lft_ir.specs.declared.parts.Name.TheVariants.{Port, Action}
+use Rattle.lft_ir.proofs.Origins.{origin_unique}
+use Rattle.lft_ir.specs.declared.steps.row.Row.{Row}
+use Rattle.lft_ir.specs.declared.steps.row.Step.TheVariants.{Write}
+use Rattle.lft_ir.specs.Steps.Fits.{RowsFit}
 use Rattle.lft_model.proofs.Blocks.{two_places}
 use Rattle.lft_model.specs.Plans.{PlanParts}
 use Rattle.lft_model.specs.Presence.{value_written, scheduled, given, min_delay, events_of, IsWrittenFrom, PortClash}
 use Rattle.lft_model.proofs.Steps.{some_written}
-use Rattle.lft_presence.specs.declared.causes.Cause.{Cause as Event}
-use Rattle.lft_presence.specs.Causes.{tag_of, ComesUpTo, AreCauses, Leads, IsLastCause, IsCause as IsEventCause}
-use Rattle.lft_presence.proofs.Presences.{ChainOf, port_cause_at, none_leads}
-use Rattle.lft_presence.proofs.Twice.{two_causes}
+use Rattle.lft_rows.specs.declared.presence.causes.Cause.{Cause as Event}
+use Rattle.lft_rows.specs.Presence.Causes.{tag_of, ComesUpTo, AreCauses, Leads, IsLastCause, IsCause as IsEventCause}
+use Rattle.lft_rows.proofs.PresenceLemmas.Presences.{ChainOf, port_cause_at, none_leads}
+use Rattle.lft_rows.proofs.PresenceLemmas.Twice.{two_causes}
 use Rattle.lft_facts.specs.declared.facts.Fact.{Fact}
 use Rattle.lft_facts.specs.declared.facts.Fact.TheVariants as fact
 use Rattle.lft_facts.specs.declared.facts.Cause.{Cause}
 use Rattle.lft_facts.specs.declared.facts.Cause.TheVariants as cause
 use Rattle.lft_facts.specs.Facts.{IsShown, AreShown, IsWrittenIn, event_of}
 use Rattle.lft_facts.specs.Enough.{Gives, GivesClash, IsOwn, AreOwn, AreOwnAt}
-use Rattle.lft_presence.specs.Lookups.{IsFirstCause}
-use Rattle.lft_presence.proofs.Lookups.{in_order}
+use Rattle.lft_rows.specs.Presence.Lookups.{IsFirstCause}
+use Rattle.lft_rows.proofs.PresenceLemmas.Lookups.{in_order}
 use Rattle.lft_facts.proofs.Causes.{written_from, scheduled_at, given_at, written_in}
 
 -- two rows that write the origin of one port last at their tags, and lead to one tag, are of two tags

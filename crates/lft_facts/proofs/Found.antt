@@ -2,12 +2,12 @@
 use Rattle.std.proofs.Common.{◌≡◌, ℕ, ◌+◌, ◌<◌, ◌≤◌, ◌⊎◌, inl, inr, List, refl, sym, ◌∙◌, subst, arith, Option, Some, None, unwrap_or}
 use Rattle.lft_tag.specs.Tags.{Before}
 use Rattle.lft_tag.proofs.Order.{Before-irrefl}
-use Rattle.lft_steps.specs.declared.row.Row.{Row}
+use Rattle.lft_ir.specs.declared.steps.row.Row.{Row}
 use Rattle.lft_model.specs.declared.breach.Breach.{Breach}
 use Rattle.lft_model.specs.Plans.{PlanParts}
 use Rattle.lft_model.specs.Presence.{Collision}
 use Rattle.lft_model.specs.Breaches.{BreaksRow, BreaksTag, BreaksAt, TagBreach, TagOrder, First}
-use Rattle.lft_answers.specs.Answers.{KeepsRows}
+use Rattle.lft_rows.specs.Answers.Answers.{KeepsRows}
 use Rattle.lft_facts.specs.declared.facts.Fact.{Fact}
 use Rattle.lft_facts.specs.Enough.{Gives, ProvesTag}
 

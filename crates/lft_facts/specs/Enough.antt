@@ -2,15 +2,15 @@
 use Rattle.std.specs.Prelude.{◌≡◌, ℕ, ◌+◌, ◌<◌, List, ◌∷◌, ◌++◌, take, Option, Some, MatchOption, slice_get, Contains, All}
 use Rattle.lft_tag.specs.declared.Tag.{Tag}
 use Rattle.lft_tag.specs.Tags.{UpTo}
-use Rattle.lft_flat.specs.Parts.{Parts}
-use Rattle.lft_flat.specs.declared.parts.Trigger.{Trigger}
+use Rattle.lft_ir.specs.Parts.{Parts}
+use Rattle.lft_ir.specs.declared.parts.Trigger.{Trigger}
 use Rattle.lft_graph.specs.Precedence.{Direct, Precedes}
-use Rattle.lft_steps.specs.declared.row.Row.{Row}
+use Rattle.lft_ir.specs.declared.steps.row.Row.{Row}
 use Rattle.lft_model.specs.declared.breach.Breach.{Breach}
 use Rattle.lft_model.specs.Plans.{PlanParts}
 use Rattle.lft_model.specs.Presence.{stop, Occurs, Collision}
 use Rattle.lft_model.specs.Breaches.{BreaksRow, BreaksAt, RowBreach, TagBreach}
-use Rattle.lft_answers.specs.Answers.{KeepsRows}
+use Rattle.lft_rows.specs.Answers.Answers.{KeepsRows}
 use Rattle.lft_races.specs.Races.{EndLater, IsFirstRace, StandBefore}
 use Rattle.lft_facts.specs.declared.facts.Fact.{Fact}
 use Rattle.lft_facts.specs.declared.facts.Fact.TheVariants as fact

@@ -2,14 +2,14 @@
 use Rattle.std.specs.Prelude.{◌≡◌, ◌≢◌, ℕ, ◌+◌, ◌<◌, Bool, true, false, List, length, Some, slice_get}
 use Rattle.lft_tag.specs.declared.Tag.{Tag}
 use Rattle.lft_tag.specs.Tags.{Before}
-use Rattle.lft_flat.specs.Parts.{Parts, inputs}
-use Rattle.lft_flat.specs.Origins.{Origin}
-use Rattle.lft_flat.specs.declared.parts.Action.{Action as ActionOf}
-use Rattle.lft_flat.specs.declared.parts.Name.{Name}
-use Rattle.lft_flat.specs.declared.parts.Name.TheVariants.{Port, Action}
-use Rattle.lft_flat.specs.declared.parts.Reaction.{Reaction}
-use Rattle.lft_flat.specs.declared.parts.Trigger.{Trigger}
-use Rattle.lft_steps.specs.declared.row.Row.{Row}
+use Rattle.lft_ir.specs.Parts.{Parts, inputs}
+use Rattle.lft_ir.specs.Origins.{Origin}
+use Rattle.lft_ir.specs.declared.parts.Action.{Action as ActionOf}
+use Rattle.lft_ir.specs.declared.parts.Name.{Name}
+use Rattle.lft_ir.specs.declared.parts.Name.TheVariants.{Port, Action}
+use Rattle.lft_ir.specs.declared.parts.Reaction.{Reaction}
+use Rattle.lft_ir.specs.declared.parts.Trigger.{Trigger}
+use Rattle.lft_ir.specs.declared.steps.row.Row.{Row}
 use Rattle.lft_graph.specs.Precedence.{Precedes}
 use Rattle.lft_model.specs.Plans.{PlanParts}
 use Rattle.lft_model.specs.Presence.{stop, asked, Occurs}

@@ -7,8 +7,8 @@ ghost use Rattle.lft_facts.specs.Reasons.{IsReason};
 ghost use Rattle.lft_facts.specs.Enough.{IsOwnReason};
 
 use crate::facts::Reason;
+use lft_ir::steps::{Row, row_at};
 use lft_races::open_across;
-use lft_steps::{Row, row_at};
 
 /// That the run of the row was open when the first row at a later tag came.
 pub(crate) fn across(rows: &[Row], row: u32) -> Option<Reason>

@@ -1,20 +1,20 @@
 //! Why a trigger or an input is present.
 
 ghost use Rattle.std.specs.Prelude.{◌≡◌, ◌<◌, ◌≤◌, ◌-◌, ℕ, length, IfSome, IfNone};
-ghost use Rattle.lft_flat.specs.Sound.{IsNameOf, IsTriggerOf as IsKnown};
-ghost use Rattle.lft_flat.specs.declared.parts.Name.TheVariants.{Port as ThePort, Action as TheAction};
-ghost use Rattle.lft_flat.specs.declared.parts.Trigger.TheVariants.{On as TheName};
-ghost use Rattle.lft_steps.specs.Fits.{RowsFit};
+ghost use Rattle.lft_ir.specs.Sound.{IsNameOf, IsTriggerOf as IsKnown};
+ghost use Rattle.lft_ir.specs.declared.parts.Name.TheVariants.{Port as ThePort, Action as TheAction};
+ghost use Rattle.lft_ir.specs.declared.parts.Trigger.TheVariants.{On as TheName};
+ghost use Rattle.lft_ir.specs.Steps.Fits.{RowsFit};
 ghost use Rattle.lft_model.specs.Presence.{stop as the_stop, IsPresent, Occurs};
-ghost use Rattle.lft_presence.specs.Causes.{AreCauses};
+ghost use Rattle.lft_rows.specs.Presence.Causes.{AreCauses};
 ghost use Rattle.lft_facts.specs.Facts.{IsCause, IsWrittenIn, FiresAfter};
 ghost use Rattle.lft_facts.specs.Enough.{GivesTrigger};
 
 use crate::facts::Cause;
-use lft_flat::{Name, Trigger};
+use lft_ir::steps::Row;
+use lft_ir::{Name, Trigger};
 use lft_model::{Plan, fires};
-use lft_presence::{Cause as EventCause, last_cause};
-use lft_steps::Row;
+use lft_rows::presence::{Cause as EventCause, last_cause};
 use lft_tag::{Shift, Tag};
 
 /// The place of the last row that gives the port an event at the tag.

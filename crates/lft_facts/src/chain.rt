@@ -6,7 +6,7 @@ ghost use Rattle.lft_graph.specs.Before.{IsDeclaredJustBefore, FeedsLast};
 ghost use Rattle.lft_facts.specs.Facts.{IsFact, AreFacts};
 ghost use Rattle.lft_facts.specs.Enough.{GivesDirect, GivesChain, IsOwn, AreOwn};
 ghost use Rattle.lft_facts.specs.Ways.{AreWays, IsMarked};
-ghost use Rattle.lft_steps.specs.declared.row.Row.{Row as TheRow};
+ghost use Rattle.lft_ir.specs.declared.steps.row.Row.{Row as TheRow};
 ghost use Rattle.lft_model.specs.declared.breach.Breach.{Breach as TheBreach};
 ghost use Rattle.std.specs.Prelude.{List};
 

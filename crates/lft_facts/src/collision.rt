@@ -1,17 +1,17 @@
 //! Rule 6: two causes of one event.
 
 ghost use Rattle.std.specs.Prelude.{◌≡◌, ◌≤◌, ◌<◌, None, length, IfOk, IfSome, IfNone};
-ghost use Rattle.lft_steps.specs.Fits.{RowsFit};
+ghost use Rattle.lft_ir.specs.Steps.Fits.{RowsFit};
 ghost use Rattle.lft_model.specs.Presence.{PortClash, Collision, events_of};
-ghost use Rattle.lft_presence.specs.Causes.{AreCauses};
+ghost use Rattle.lft_rows.specs.Presence.Causes.{AreCauses};
 ghost use Rattle.lft_facts.specs.Facts.{AreTwoCauses, AreFacts};
 ghost use Rattle.lft_facts.specs.Enough.{Gives, GivesClash, AreOwnAt};
 
 use crate::cause::of_action;
 use crate::facts::{Cause, Fact};
+use lft_ir::steps::Row;
 use lft_model::Plan;
-use lft_presence::{Cause as EventCause, cause_tag, first_cause, last_cause};
-use lft_steps::Row;
+use lft_rows::presence::{Cause as EventCause, cause_tag, first_cause, last_cause};
 use lft_tag::{NoMemory, Shift, Tag};
 use std::alloc::Global;
 

@@ -1,11 +1,11 @@
 //! Rule 9: a run that started before one that precedes it had ended.
 
 ghost use Rattle.std.specs.Prelude.{◌≡◌, ◌↔◌, ◌+◌, ◌<◌, ◌≤◌, ◌⊎◌, ℕ, Some, length, slice_get, IsTrue, IfOk};
-ghost use Rattle.lft_steps.specs.Fits.{RowsFit};
-ghost use Rattle.lft_steps.specs.declared.row.Row.{Row as TheRow};
+ghost use Rattle.lft_ir.specs.Steps.Fits.{RowsFit};
+ghost use Rattle.lft_ir.specs.declared.steps.row.Row.{Row as TheRow};
 ghost use Rattle.lft_model.specs.Breaches.{IsTooEarly};
 ghost use Rattle.lft_model.specs.Runs.{Ran};
-ghost use Rattle.lft_answers.specs.Answers.{KeepsRows};
+ghost use Rattle.lft_rows.specs.Answers.Answers.{KeepsRows};
 ghost use Rattle.lft_races.specs.Runs.{EndsAt};
 ghost use Rattle.lft_facts.specs.Facts.{AreFacts};
 ghost use Rattle.lft_facts.specs.Enough.{Gives, AreOwnAt};
@@ -15,9 +15,9 @@ use crate::chain::chain;
 use crate::facts::Fact;
 use crate::passing::add_passed_by;
 use crate::ways::{is_marked, steps, ways};
+use lft_ir::steps::{Row, is_end, row_at};
 use lft_model::Plan;
 use lft_races::{runs_at, start_of};
-use lft_steps::{Row, is_end, row_at};
 use lft_tag::{NoMemory, Tag};
 use std::alloc::Global;
 

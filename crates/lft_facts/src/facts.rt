@@ -1,6 +1,6 @@
 //! Facts about a trace.
 
-use lft_flat::{Name, Trigger, Value};
+use lft_ir::{Name, Trigger, Value};
 use lft_tag::Tag;
 use std::marker::Model;
 

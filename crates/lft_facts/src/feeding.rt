@@ -1,13 +1,13 @@
 //! Which port leads from one reaction to another at once.
 
 ghost use Rattle.std.specs.Prelude.{◌≡◌, ◌↔◌, ◌<◌, ℕ, Some, length, Contains, IfSome, IfNone, IsTrue};
-ghost use Rattle.lft_flat.specs.Sound.{IsNameOf};
-ghost use Rattle.lft_flat.specs.declared.parts.Name.TheVariants.{Port as ThePort};
+ghost use Rattle.lft_ir.specs.Sound.{IsNameOf};
+ghost use Rattle.lft_ir.specs.declared.parts.Name.TheVariants.{Port as ThePort};
 ghost use Rattle.lft_graph.specs.Precedence.{Feeds};
 ghost use Rattle.lft_facts.specs.Facts.{FeedsBy};
 ghost use Rattle.lft_facts.specs.Ways.{IsFed};
 
-use lft_flat::{Name, Program, Trigger};
+use lft_ir::{Name, Program, Trigger};
 use lft_lists::item_at;
 
 /// Whether the port is among the names.

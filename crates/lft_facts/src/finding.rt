@@ -1,7 +1,7 @@
 //! The facts that give a breach.
 
 ghost use Rattle.std.specs.Prelude.{◌≡◌, IfOk};
-ghost use Rattle.lft_steps.specs.Fits.{RowsFit};
+ghost use Rattle.lft_ir.specs.Steps.Fits.{RowsFit};
 ghost use Rattle.lft_model.specs.Breaches.{First};
 ghost use Rattle.lft_races.specs.Races.{FirstSoFar};
 ghost use Rattle.lft_facts.specs.Facts.{AreFacts};
@@ -15,9 +15,9 @@ use crate::reads::wrong_read;
 use crate::reasons::with_reasons;
 use crate::rows::of_row;
 use crate::triggers::{not_run, not_triggered};
+use lft_ir::steps::{Row, Rows};
 use lft_model::{Breach, Plan, trace_stop};
-use lft_presence::{Presence, presence_of};
-use lft_steps::{Row, Rows};
+use lft_rows::presence::{Presence, presence_of};
 use lft_tag::NoMemory;
 use std::alloc::Global;
 

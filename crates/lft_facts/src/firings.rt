@@ -1,8 +1,8 @@
 //! When a timer fires just before and just after a tag at which it does not.
 
 ghost use Rattle.std.specs.Prelude.{◌≡◌, ◌<◌, List, length, IfSome, OnOk};
-ghost use Rattle.lft_flat.specs.declared.parts.Trigger.TheVariants.{Timer as TheTimer};
-ghost use Rattle.lft_steps.specs.declared.row.Row.{Row as TheRow};
+ghost use Rattle.lft_ir.specs.declared.parts.Trigger.TheVariants.{Timer as TheTimer};
+ghost use Rattle.lft_ir.specs.declared.steps.row.Row.{Row as TheRow};
 ghost use Rattle.lft_model.specs.declared.breach.Breach.{Breach as TheBreach};
 ghost use Rattle.lft_model.specs.Plans.{PlanParts};
 ghost use Rattle.lft_model.specs.Presence.{Fires, Occurs};
@@ -12,9 +12,9 @@ ghost use Rattle.lft_facts.specs.Enough.{Adds, IsOwnReason};
 
 use crate::adding::add;
 use crate::facts::{Fact, Reason};
-use lft_flat::{Timer, Trigger};
+use lft_ir::steps::Row;
+use lft_ir::{Timer, Trigger};
 use lft_model::Plan;
-use lft_steps::Row;
 use lft_tag::{NoMemory, Tag};
 
 /// The last tag before this one at which the timer fires.

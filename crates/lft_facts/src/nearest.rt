@@ -1,17 +1,17 @@
 //! The nearest events of a port or an action.
 
 ghost use Rattle.std.specs.Prelude.{◌≡◌, IfSome};
-ghost use Rattle.lft_flat.specs.Sound.{IsNameOf};
-ghost use Rattle.lft_flat.specs.declared.parts.Trigger.TheVariants.{On as TheName};
-ghost use Rattle.lft_steps.specs.Fits.{RowsFit};
-ghost use Rattle.lft_presence.specs.Causes.{AreCauses};
+ghost use Rattle.lft_ir.specs.Sound.{IsNameOf};
+ghost use Rattle.lft_ir.specs.declared.parts.Trigger.TheVariants.{On as TheName};
+ghost use Rattle.lft_ir.specs.Steps.Fits.{RowsFit};
+ghost use Rattle.lft_rows.specs.Presence.Causes.{AreCauses};
 ghost use Rattle.lft_facts.specs.Reasons.{IsNearest};
 ghost use Rattle.lft_facts.specs.Causes.{StandsFor};
 
-use lft_flat::{Name, Program};
+use lft_ir::steps::Row;
+use lft_ir::{Name, Program};
 use lft_model::Plan;
-use lft_presence::{Cause as EventCause, cause_tag, first_after, last_before, moved};
-use lft_steps::Row;
+use lft_rows::presence::{Cause as EventCause, cause_tag, first_after, last_before, moved};
 use lft_tag::{Shift, Tag};
 
 /// The key of the port or action, and the shift that leads from the tags of its causes to those of

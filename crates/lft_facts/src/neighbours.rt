@@ -3,7 +3,7 @@
 ghost use Rattle.std.specs.Prelude.{◌≡◌, ◌+◌, ◌<◌, ◌≤◌, Some, length, IfSome, IfNone, OnOk};
 ghost use Rattle.lft_tag.specs.declared.Tag.{Tag as TheTag};
 ghost use Rattle.lft_tag.specs.Tags.{Before, UpTo};
-ghost use Rattle.lft_steps.specs.Fits.{RowsFit};
+ghost use Rattle.lft_ir.specs.Steps.Fits.{RowsFit};
 ghost use Rattle.lft_model.specs.declared.breach.Breach.{Breach as TheBreach};
 ghost use Rattle.lft_model.specs.Plans.{PlanParts};
 ghost use Rattle.lft_model.specs.Runs.{Ran};
@@ -12,9 +12,9 @@ ghost use Rattle.lft_facts.specs.Enough.{Adds};
 ghost use Rattle.lft_facts.specs.Neighbours.{IsNearestStart};
 
 use crate::facts::{Fact, Reason};
+use lft_ir::steps::{Row, row_at};
 use lft_model::{Plan, trace_stop};
 use lft_races::is_start_at;
-use lft_steps::{Row, row_at};
 use lft_tag::{NoMemory, Tag};
 
 /// The run that starts in the row at the place, where it is of the reaction, before the tag, and

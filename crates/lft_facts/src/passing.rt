@@ -1,7 +1,7 @@
 //! Rule 9: reactions on the way from one to another that have no run at the tag.
 
 ghost use Rattle.std.specs.Prelude.{◌≡◌, List, IfSome, OnOk};
-ghost use Rattle.lft_steps.specs.declared.row.Row.{Row as TheRow};
+ghost use Rattle.lft_ir.specs.declared.steps.row.Row.{Row as TheRow};
 ghost use Rattle.lft_model.specs.declared.breach.Breach.{Breach as TheBreach};
 ghost use Rattle.lft_model.specs.Plans.{PlanParts};
 ghost use Rattle.lft_graph.specs.Precedence.{Precedes};

@@ -1,7 +1,7 @@
 //! The first race before a breach of one of the rules 1 to 8.
 
 ghost use Rattle.std.specs.Prelude.{◌≡◌, ◌↔◌, ◌<◌, ◌≤◌, ℕ, Some, length, slice_get, take, IfOk, OnOk, true};
-ghost use Rattle.lft_steps.specs.Fits.{RowsFit};
+ghost use Rattle.lft_ir.specs.Steps.Fits.{RowsFit};
 ghost use Rattle.lft_model.specs.declared.breach.Breach.{Breach as TheBreach};
 ghost use Rattle.lft_races.specs.Races.{EndLater, FirstSoFar, IsRace, StandBefore};
 ghost use Rattle.lft_facts.specs.Facts.{AreFacts};
@@ -12,10 +12,10 @@ use crate::chain::chain;
 use crate::early::{late_end, least_end};
 use crate::facts::Fact;
 use crate::ways::{steps, ways};
+use lft_ir::steps::{Row, row_at};
 use lft_lists::item_at;
 use lft_model::{Breach, Plan};
 use lft_races::{race_before, rows_before, unfinished_at};
-use lft_steps::{Row, row_at};
 use lft_tag::NoMemory;
 use std::alloc::Global;
 

@@ -1,23 +1,23 @@
 //! Rule 10: a run that read something else than its inputs.
 
 ghost use Rattle.std.specs.Prelude.{◌≡◌, List, Option, Some, IfOk};
-ghost use Rattle.lft_flat.specs.declared.parts.Value.{Value as Carried};
-ghost use Rattle.lft_steps.specs.Fits.{RowsFit};
+ghost use Rattle.lft_ir.specs.declared.parts.Value.{Value as Carried};
+ghost use Rattle.lft_ir.specs.Steps.Fits.{RowsFit};
 ghost use Rattle.lft_model.specs.Presence.{Inputs, Collision};
 ghost use Rattle.lft_model.specs.Runs.{Ran, reads_at};
-ghost use Rattle.lft_answers.specs.Answers.{KeepsRows};
+ghost use Rattle.lft_rows.specs.Answers.Answers.{KeepsRows};
 ghost use Rattle.lft_facts.specs.Facts.{AreFacts};
 ghost use Rattle.lft_races.specs.Runs.{StartsAt};
 ghost use Rattle.lft_facts.specs.Enough.{Gives, AreOwnAt};
 
 use crate::facts::Fact;
-use lft_answers::reads_of_run;
-use lft_flat::Value;
+use lft_ir::Value;
+use lft_ir::steps::{Row, row_at};
 use lft_lists::item_at;
 use lft_model::{Plan, Reads};
-use lft_presence::Presence;
 use lft_races::start_of;
-use lft_steps::{Row, row_at};
+use lft_rows::answers::reads_of_run;
+use lft_rows::presence::Presence;
 use lft_tag::{NoMemory, Tag};
 use std::alloc::Global;
 

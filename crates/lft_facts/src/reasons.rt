@@ -2,12 +2,12 @@
 //! nearest to what is absent.
 
 ghost use Rattle.std.specs.Prelude.{◌≡◌, IfOk, IfSome, OnOk};
-ghost use Rattle.lft_flat.specs.Sound.{IsNameOf, IsTriggerOf as IsKnown};
-ghost use Rattle.lft_flat.specs.declared.parts.Trigger.TheVariants.{On as TheName};
-ghost use Rattle.lft_steps.specs.Fits.{RowsFit};
+ghost use Rattle.lft_ir.specs.Sound.{IsNameOf, IsTriggerOf as IsKnown};
+ghost use Rattle.lft_ir.specs.declared.parts.Trigger.TheVariants.{On as TheName};
+ghost use Rattle.lft_ir.specs.Steps.Fits.{RowsFit};
 ghost use Rattle.lft_model.specs.declared.breach.Breach.{Breach as TheBreach};
 ghost use Rattle.lft_model.specs.Presence.{Occurs};
-ghost use Rattle.lft_presence.specs.Causes.{AreCauses};
+ghost use Rattle.lft_rows.specs.Presence.Causes.{AreCauses};
 ghost use Rattle.lft_facts.specs.Facts.{IsFact, AreFacts};
 ghost use Rattle.lft_facts.specs.Reasons.{IsNearest, IsReason};
 ghost use Rattle.lft_facts.specs.Enough.{Adds, Extends, IsOwn, IsOwnReason, AreOwn};
@@ -19,11 +19,11 @@ use crate::firings::add_firings;
 use crate::nearest::{event_after, event_before};
 use crate::neighbours::{add_last_row, add_runs};
 use crate::stopping::stop_reason;
-use lft_flat::{Name, Trigger};
+use lft_ir::steps::Row;
+use lft_ir::{Name, Trigger};
 use lft_lists::item_at;
 use lft_model::Plan;
-use lft_presence::Cause as EventCause;
-use lft_steps::Row;
+use lft_rows::presence::Cause as EventCause;
 use lft_tag::{NoMemory, Tag};
 use std::alloc::Global;
 

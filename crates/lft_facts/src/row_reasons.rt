@@ -1,9 +1,9 @@
 //! Rules 2 to 5: what a reader of a wrong row asks next.
 
 ghost use Rattle.std.specs.Prelude.{◌≡◌, ◌+◌, ◌<◌, ◌≤◌, List, length, IfSome, OnOk};
-ghost use Rattle.lft_flat.specs.declared.parts.Name.TheVariants.{Action as TheAction};
-ghost use Rattle.lft_steps.specs.Fits.{RowsFit, StepFits};
-ghost use Rattle.lft_steps.specs.declared.row.Row.{Row as TheRow};
+ghost use Rattle.lft_ir.specs.declared.parts.Name.TheVariants.{Action as TheAction};
+ghost use Rattle.lft_ir.specs.Steps.Fits.{RowsFit, StepFits};
+ghost use Rattle.lft_ir.specs.declared.steps.row.Row.{Row as TheRow};
 ghost use Rattle.lft_model.specs.declared.breach.Breach.{Breach as TheBreach};
 ghost use Rattle.lft_model.specs.Plans.{PlanParts};
 ghost use Rattle.lft_facts.specs.Facts.{IsRowFact};
@@ -14,10 +14,10 @@ use crate::across::{across, later_tag};
 use crate::adding::add;
 use crate::facts::{Fact, Reason, RowFact, ThingKind};
 use crate::stopping::stop_reason;
-use lft_flat::{Name, Program};
+use lft_ir::steps::{Row, Step, is_end, is_start, row_at};
+use lft_ir::{Name, Program};
 use lft_model::Plan;
 use lft_races::{first_start, is_end_at, is_open_since, is_start_at};
-use lft_steps::{Row, Step, is_end, is_start, row_at};
 use lft_tag::NoMemory;
 
 /// The row before this one in which its worker ended that run.

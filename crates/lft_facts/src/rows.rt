@@ -1,8 +1,8 @@
 //! Rules 1 to 5: a row that breaks a rule.
 
 ghost use Rattle.std.specs.Prelude.{◌≡◌, Some, slice_get, IfOk};
-ghost use Rattle.lft_flat.specs.Parts.{Parts};
-ghost use Rattle.lft_steps.specs.Fits.{RowsFit};
+ghost use Rattle.lft_ir.specs.Parts.{Parts};
+ghost use Rattle.lft_ir.specs.Steps.Fits.{RowsFit};
 ghost use Rattle.lft_model.specs.Plans.{PlanParts};
 ghost use Rattle.lft_model.specs.Breaches.{BreaksRow, IsOutOfOrder, IsUndeclared, RowBreach};
 ghost use Rattle.lft_facts.specs.Facts.{IsRowFact, AreFacts};
@@ -10,9 +10,9 @@ ghost use Rattle.lft_facts.specs.Enough.{GivesRow, ProvesRow, AreOwn, row_of};
 
 use crate::facts::{Fact, RowFact};
 use crate::row_reasons::add_row_reasons;
+use lft_ir::steps::{Row, Step, is_start, row_at};
 use lft_model::{Breach, Plan};
 use lft_races::{first_read, first_start, greater_row, open_start};
-use lft_steps::{Row, Step, is_start, row_at};
 use lft_tag::NoMemory;
 use std::alloc::Global;
 

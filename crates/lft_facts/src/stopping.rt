@@ -1,14 +1,14 @@
 //! What makes the stop.
 
 ghost use Rattle.std.specs.Prelude.{◌≡◌, IfSome};
-ghost use Rattle.lft_steps.specs.Fits.{RowsFit};
+ghost use Rattle.lft_ir.specs.Steps.Fits.{RowsFit};
 ghost use Rattle.lft_model.specs.declared.breach.Breach.{Breach as TheBreach};
 ghost use Rattle.lft_facts.specs.Reasons.{IsReason};
 ghost use Rattle.lft_facts.specs.Enough.{IsOwnReason};
 
 use crate::facts::Reason;
+use lft_ir::steps::{Row, is_stop, row_at};
 use lft_model::{Plan, trace_stop};
-use lft_steps::{Row, is_stop, row_at};
 
 /// The stop, and what makes it: the external inputs, or else the first row that asks for it.
 pub(crate) fn stop_reason(plan: &Plan, rows: &[Row]) -> Option<Reason>

@@ -1,21 +1,21 @@
 //! Rules 7 and 8: a reaction that is triggered and has no run, and a run that isn't triggered.
 
 ghost use Rattle.std.specs.Prelude.{◌≡◌, ◌<◌, ◌≤◌, Some, length, IfOk};
-ghost use Rattle.lft_steps.specs.Fits.{RowsFit};
+ghost use Rattle.lft_ir.specs.Steps.Fits.{RowsFit};
 ghost use Rattle.lft_model.specs.Presence.{Triggered};
 ghost use Rattle.lft_model.specs.Runs.{Ran};
-ghost use Rattle.lft_presence.specs.Causes.{AreCauses};
+ghost use Rattle.lft_rows.specs.Presence.Causes.{AreCauses};
 ghost use Rattle.lft_facts.specs.Facts.{IsCause, AreFacts, IsTriggerOf};
 ghost use Rattle.lft_facts.specs.Enough.{Gives, GivesTrigger, AreOwnAt};
 
 use crate::cause::trigger_cause;
 use crate::facts::{Cause, Fact};
-use lft_flat::Trigger;
+use lft_ir::Trigger;
+use lft_ir::steps::Row;
 use lft_lists::item_at;
 use lft_model::{Plan, trace_stop};
-use lft_presence::Cause as EventCause;
 use lft_races::start_of;
-use lft_steps::Row;
+use lft_rows::presence::Cause as EventCause;
 use lft_tag::{NoMemory, Tag};
 use std::alloc::Global;
 

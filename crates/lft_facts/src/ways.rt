@@ -2,7 +2,7 @@
 
 ghost use Rattle.std.specs.Prelude.{◌≡◌, ◌↔◌, ◌<◌, Some, length, slice_get, IsTrue, IfOk};
 ghost use Rattle.lft_graph.specs.Graph.{IsGraphOf};
-ghost use Rattle.lft_flat.specs.Parts.{Parts};
+ghost use Rattle.lft_ir.specs.Parts.{Parts};
 ghost use Rattle.lft_facts.specs.Ways.{AreWays, AreSteps, IsMarked, IsMarking, AreThere, LeadsOn};
 
 use lft_graph::Graph;

@@ -2,7 +2,7 @@
 use Rattle.std.proofs.Common.{◌≡◌, ℕ, zero, suc, ◌+◌, ◌-◌, ◌<◌, ◌⊎◌, inl, inr, List, length, sym, ◌∙◌, subst, arith, Some, slice_get}
 use Rattle.std.proofs.lemmas.Option.{slice_get_within}
 use native.Mathlib.Decide.{dec_lt}
-use Rattle.lft_flat.specs.Parts.{Parts}
+use Rattle.lft_ir.specs.Parts.{Parts}
 use Rattle.lft_graph.specs.Precedence.{Direct, Precedes, HasNoLoop, IsLevelled}
 use Rattle.lft_graph.specs.Precedence.Precedes.{one, more}
 use Rattle.lft_graph.specs.Loops.{IsLoop}

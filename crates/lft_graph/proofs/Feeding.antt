@@ -5,17 +5,17 @@ use Rattle.std.proofs.lemmas.List.Elements.{Contains-push, Contains-push_cases, 
 use Rattle.std.proofs.lemmas.Bool.{cases_lt, cases_eq}
 use Rattle.lft_tag.specs.Shifts.{none, join_all}
 use Rattle.lft_tag.proofs.Chains.{undelayed}
-use Rattle.lft_flat.specs.Parts.{Parts, inputs}
-use Rattle.lft_flat.specs.Naming.{named}
-use Rattle.lft_flat.specs.Sound.{IsSound}
-use Rattle.lft_flat.specs.Origins.{Origin}
-use Rattle.lft_flat.proofs.Origins.{origin_unique, origin_inside}
-use Rattle.lft_flat.specs.declared.parts.Port.{Port as PortOf}
-use Rattle.lft_flat.specs.declared.parts.Reaction.{Reaction}
-use Rattle.lft_flat.specs.declared.parts.Name.{Name}
-use Rattle.lft_flat.specs.declared.parts.Name.TheVariants.{Port, Action}
-use Rattle.lft_flat.specs.declared.parts.Trigger.{Trigger}
-use Rattle.lft_flat.specs.declared.parts.Trigger.TheVariants.{Startup, Shutdown, Timer, On}
+use Rattle.lft_ir.specs.Parts.{Parts, inputs}
+use Rattle.lft_ir.specs.Naming.{named}
+use Rattle.lft_ir.specs.Sound.{IsSound}
+use Rattle.lft_ir.specs.Origins.{Origin}
+use Rattle.lft_ir.proofs.Origins.{origin_unique, origin_inside}
+use Rattle.lft_ir.specs.declared.parts.Port.{Port as PortOf}
+use Rattle.lft_ir.specs.declared.parts.Reaction.{Reaction}
+use Rattle.lft_ir.specs.declared.parts.Name.{Name}
+use Rattle.lft_ir.specs.declared.parts.Name.TheVariants.{Port, Action}
+use Rattle.lft_ir.specs.declared.parts.Trigger.{Trigger}
+use Rattle.lft_ir.specs.declared.parts.Trigger.TheVariants.{Startup, Shutdown, Timer, On}
 use Rattle.lft_graph.specs.Before.{Writes, IsLastWriter, Reaches, FeedsLast, IsDeclaredJustBefore, IsBefore}
 use Rattle.lft_graph.specs.Walks.{KnowsWriters, IsUndelayed, IsFeeder, NotesBelow, Covers, HasLists}
 use Rattle.lft_lists.proofs.Places.{contains_at, at_contains, get_push_cases}

@@ -1,6 +1,6 @@
 -- What contracts see of a graph, and what it says of its program.
 use Rattle.std.specs.Prelude.{◌≡◌, ◌↔◌, ℕ, ◌+◌, ◌<◌, ◌⊎◌, List, Some, slice_get, length, Contains}
-use Rattle.lft_flat.specs.Parts.{Parts}
+use Rattle.lft_ir.specs.Parts.{Parts}
 use Rattle.lft_graph.specs.Precedence.{Precedes}
 use Rattle.lft_graph.specs.Before.{IsBefore}
 

@@ -1,6 +1,6 @@
 -- Causality loops.
 use Rattle.std.specs.Prelude.{◌≡◌, ℕ, ◌+◌, ◌<◌, ◌≤◌, List, Some, slice_get, length}
-use Rattle.lft_flat.specs.Parts.{Parts}
+use Rattle.lft_ir.specs.Parts.{Parts}
 use Rattle.lft_graph.specs.Precedence.{Direct}
 
 -- there is a step from each to the next and from the last to the first, no number stands twice, and the least stands first

@@ -1,9 +1,9 @@
 -- How far lists are walked. The contracts of private functions alone need this file.
 use Rattle.std.specs.Prelude.{◌≡◌, ◌≢◌, ℕ, ◌+◌, ◌-◌, ◌<◌, ◌≤◌, ◌⊎◌, List, [], ◌∷◌, Option, Some, slice_get, length, Contains, nat_le, if◌then◌else◌}
-use Rattle.lft_flat.specs.Parts.{Parts}
-use Rattle.lft_flat.specs.Origins.{Origin}
-use Rattle.lft_flat.specs.declared.parts.Name.{Name}
-use Rattle.lft_flat.specs.declared.parts.Name.TheVariants.{Port, Action}
+use Rattle.lft_ir.specs.Parts.{Parts}
+use Rattle.lft_ir.specs.Origins.{Origin}
+use Rattle.lft_ir.specs.declared.parts.Name.{Name}
+use Rattle.lft_ir.specs.declared.parts.Name.TheVariants.{Port, Action}
 use Rattle.lft_graph.specs.Before.{Writes, IsLastWriter, Reaches, IsBefore}
 use Rattle.lft_graph.specs.declared.levels.LevelMark.{LevelMark}
 use Rattle.lft_graph.specs.declared.levels.LevelMark.TheVariants.{New, Open, Done}

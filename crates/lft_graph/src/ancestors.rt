@@ -6,7 +6,7 @@ ghost use Rattle.lft_graph.specs.Sets.{AreAncestors, HaveRoom, HasAll, IsUnion};
 
 use crate::graph::Graph;
 use crate::sets::Set;
-use lft_flat::Program;
+use lft_ir::Program;
 use lft_lists::item_at;
 use lft_tag::NoMemory;
 use std::alloc::Global;

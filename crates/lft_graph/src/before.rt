@@ -1,15 +1,15 @@
 //! The short list of what precedes a reaction directly.
 
 ghost use Rattle.std.specs.Prelude.{◌≡◌, ◌↔◌, ℕ, ◌<◌, length, slice_get, Some, IfOk, OnOk, Contains, AllPairs};
-ghost use Rattle.lft_flat.specs.Sound.{IsNameOf, IsSound};
-ghost use Rattle.lft_flat.specs.declared.parts.Trigger.TheVariants.{On};
-ghost use Rattle.lft_flat.specs.declared.parts.Name.{Name};
+ghost use Rattle.lft_ir.specs.Sound.{IsNameOf, IsSound};
+ghost use Rattle.lft_ir.specs.declared.parts.Trigger.TheVariants.{On};
+ghost use Rattle.lft_ir.specs.declared.parts.Name.{Name};
 ghost use Rattle.lft_graph.specs.Before.{Writes, IsLastWriter, IsBefore};
 ghost use Rattle.lft_graph.specs.Walks.{KnowsWriters, IsUndelayed, IsFeeder, NotesBelow, Covers, HasLists};
 
 use crate::members::Members;
 use crate::writers::last_writers;
-use lft_flat::{Name, Program, Trigger};
+use lft_ir::{Name, Program, Trigger};
 use lft_lists::item_at;
 use lft_tag::NoMemory;
 use std::alloc::Global;

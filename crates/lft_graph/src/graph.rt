@@ -10,7 +10,7 @@ use crate::fault::GraphFault;
 use crate::levels::levels;
 use crate::members::{Members, copy_members};
 use crate::order::by_level;
-use lft_flat::Program;
+use lft_ir::Program;
 use lft_tag::NoMemory;
 use std::alloc::Global;
 use std::marker::Model;

@@ -1,10 +1,10 @@
 //! The last declared writer of each port.
 
 ghost use Rattle.std.specs.Prelude.{◌≡◌, ℕ, ◌<◌, ◌⊎◌, length, slice_get, Some, IfOk, Contains};
-ghost use Rattle.lft_flat.specs.declared.parts.Name.TheVariants.{Port};
+ghost use Rattle.lft_ir.specs.declared.parts.Name.TheVariants.{Port};
 ghost use Rattle.lft_graph.specs.Walks.{KnowsWriters};
 
-use lft_flat::{Name, Program};
+use lft_ir::{Name, Program};
 use lft_lists::item_at;
 use lft_tag::NoMemory;
 use std::alloc::Global;

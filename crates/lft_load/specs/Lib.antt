@@ -4,3 +4,4 @@ pub mod Written
 pub mod Words
 pub mod Meaning
 pub mod Refusals
+pub mod Files

@@ -5,7 +5,7 @@ use Rattle.lft_syntax.specs.Lexes.{Lexes}
 use Rattle.lft_syntax.specs.View.{lexemes}
 use Rattle.lft_tree.specs.Tree.{FileTree}
 use Rattle.lft_syntax.specs.Grammar.{Spells}
-use Rattle.lft_flat.specs.Parts.{Parts}
+use Rattle.lft_ir.specs.Parts.{Parts}
 use Rattle.lft_program.specs.Flattening.{IsFlatOf}
 use Rattle.lft_graph.specs.Precedence.{HasNoLoop}
 use Rattle.lft_trace.specs.Records.{records_of}

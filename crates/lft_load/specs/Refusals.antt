@@ -11,14 +11,14 @@ use Rattle.lft_tree.specs.Tree.{FileTree}
 use Rattle.lft_syntax.specs.Grammar.{Spells}
 use Rattle.lft_program.specs.declared.fault.ProgramFault.{ProgramFault}
 use Rattle.lft_program.specs.declared.fault.ProgramFault.TheVariants as program
-use Rattle.lft_flat.specs.Parts.{Parts}
+use Rattle.lft_ir.specs.Parts.{Parts}
 use Rattle.lft_program.specs.Faults.{number_of as program_number}
-use Rattle.lft_scope.specs.Causes.{IsFirst, causes}
+use Rattle.lft_resolve.specs.Causes.{IsFirst, causes}
 use Rattle.lft_trace.specs.declared.fault.TraceFault.{TraceFault}
 use Rattle.lft_trace.specs.Faults.{is_told}
 use Rattle.lft_trace.specs.Records.{records_of}
 use Rattle.lft_trace.specs.ExternalTables.{ExternalTable, ExternalFails}
-use Rattle.lft_steps.specs.Inputs.{ExternalInputs}
+use Rattle.lft_ir.specs.Steps.Inputs.{ExternalInputs}
 use Rattle.lft_graph.specs.Loops.{IsLoop}
 use Rattle.lft_graph.specs.declared.fault.GraphFault.{GraphFault}
 use Rattle.lft_graph.specs.declared.fault.GraphFault.TheVariants as graph

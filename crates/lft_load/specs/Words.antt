@@ -2,8 +2,8 @@
 use Rattle.std.specs.Prelude.{ℕ, List, [], ◌∷◌, ◌++◌, ◌||◌, if◌then◌else◌, slice_get, unwrap_or, chars, codes, decimal, flat_map}
 use Rattle.std.specs.Char.{encode_utf8, is_control}
 use Rattle.std.specs.Char.Escape.{escape_default}
-use Rattle.lft_flat.specs.Parts.{Parts}
-use Rattle.lft_refusals.specs.Quotes.{is_format}
+use Rattle.lft_ir.specs.Parts.{Parts}
+use Rattle.lft_text_diagnostics.specs.Quotes.{is_format}
 
 -- a word with its number
 abbrev pub field : List ℕ → ℕ → List ℕ

@@ -11,12 +11,12 @@ ghost use Rattle.lft_load.specs.Words.{in_line, names_words, one_line};
 ghost use Rattle.lft_load.specs.declared.fault.Part.TheVariants as part;
 
 use crate::words::push_names;
-use lft_flat::Program;
 use lft_graph::GraphFault;
+use lft_ir::Program;
 use lft_program::ProgramFault;
-use lft_refusals::words::is_format;
 use lft_syntax::{LexFault, SyntaxFault};
 use lft_tag::Tag;
+use lft_text_diagnostics::words::is_format;
 use lft_trace::TraceFault;
 use std::alloc::{AllocError, Global};
 use std::fmt;

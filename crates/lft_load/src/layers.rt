@@ -4,7 +4,7 @@
 ghost use Rattle.std.specs.Prelude.{◌≡◌, true, IfOk, OnOk, IfErr};
 ghost use Rattle.lft_tree.specs.Tree.{FileTree};
 ghost use Rattle.lft_tree.specs.View.{tree_view};
-ghost use Rattle.lft_flat.specs.Parts.{Parts};
+ghost use Rattle.lft_ir.specs.Parts.{Parts};
 ghost use Rattle.lft_graph.specs.Graph.{IsGraphOf};
 ghost use Rattle.lft_graph.specs.Precedence.{HasNoLoop, IsLevelled};
 ghost use Rattle.lft_model.specs.Plans.{PlanParts};
@@ -12,8 +12,8 @@ ghost use Rattle.lft_load.specs.Meaning.{IsTreeOf, IsProgramOf, IsPlanOf, IsPlan
 ghost use Rattle.lft_load.specs.Refusals.{TreeRefusal, ProgramRefusal, GraphRefusal, PlanRefusal, LoadRefusal, is_of_text};
 
 use crate::fault::Fault;
-use lft_flat::Program;
 use lft_graph::Graph;
+use lft_ir::Program;
 use lft_model::Plan;
 use lft_program::flatten;
 use lft_syntax::{lex, parse};

@@ -1,7 +1,9 @@
 #![tactic(auto)]
-//! From texts to a plan: faults and their lines, and what is read and written around it.
+//! From texts to a plan: faults and their lines, and what is read and written around it. In `files` are files
+//! by their paths: their bytes, or why they can't be read or written.
 
 mod fault;
+pub mod files;
 mod input;
 mod layers;
 mod output;

@@ -4,7 +4,7 @@ ghost use Rattle.std.specs.Prelude.{◌≡◌, ◌++◌, ◌<◌, ℕ, OnOk, Som
 ghost use Rattle.lft_load.specs.Words.{field, names_words, reaction_name, spaced_name};
 
 use itoa::Buffer;
-use lft_flat::Program;
+use lft_ir::Program;
 use std::alloc::AllocError;
 
 /// Puts a word and a number at the end of a line.

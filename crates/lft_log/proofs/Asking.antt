@@ -8,7 +8,7 @@ use Rattle.lft_tag.specs.Tags.{Before, UpTo}
 use Rattle.lft_tag.proofs.Order.{Before-UpTo, Before-weaken, UpTo-not, UpTo-refl, order_cases}
 use Rattle.lft_lists.proofs.Picked.{take_next}
 use Rattle.lft_lists.proofs.Places.{get_append_cases, get_last, get_left, get_push_cases, same_at}
-use Rattle.lft_steps.specs.declared.row.Row.{Row}
+use Rattle.lft_ir.specs.declared.steps.row.Row.{Row}
 use Rattle.lft_model.proofs.Places.{slice_get_within}
 use Rattle.lft_log.specs.Told.{ComeTo, IsAskedOf, IsFirstFrom, IsPastEnd, IsWithin, KeepTo}
 use Rattle.lft_log.specs.declared.asked.Asked.{Asked}

@@ -3,8 +3,8 @@ use Rattle.std.proofs.Common.{◌≡◌, ◌+◌, ℕ, List, [], ◌∷◌, ◌+
 use Rattle.std.specs.List.{AllZip}
 use Rattle.std.proofs.lemmas.List.{append_assoc, append-nil}
 use Rattle.std.proofs.lemmas.List.Elements.{filter_map-append}
-use Rattle.lft_flat.specs.Parts.{Parts}
-use Rattle.lft_steps.specs.declared.row.Row.{Row as TheRow}
+use Rattle.lft_ir.specs.Parts.{Parts}
+use Rattle.lft_ir.specs.declared.steps.row.Row.{Row as TheRow}
 use Rattle.lft_trace.specs.LogTables.{IsLine, inputs_behind, row_of}
 use Rattle.lft_trace.specs.Traces.{IsRow}
 use Rattle.lft_trace.specs.declared.log_table.Line.{Line}

@@ -5,7 +5,7 @@ use Rattle.std.proofs.lemmas.Option.{get_or_from_slice_get, slice_get-get_or, sl
 use Rattle.std.proofs.Math.Seq.{drop-append_seam}
 use Rattle.std.proofs.lemmas.List.{append-nil, append_assoc, length-take-le}
 use Rattle.memchr.specs.Find.{IsLastByte, Nowhere, Passes, is_byte}
-use Rattle.lft_flat.proofs.Ranges.{slice_get-drop, slice_get-take}
+use Rattle.lft_ir.proofs.Ranges.{slice_get-drop, slice_get-take}
 use Rattle.lft_lists.proofs.Picked.{take_next}
 use Rattle.lft_trace.specs.Parts.{EndsLine}
 use Rattle.lft_log.specs.Logs.{AreLines, HasNoEnd, IsHead}

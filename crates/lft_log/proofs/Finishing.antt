@@ -5,14 +5,14 @@ use Rattle.std.specs.Global.{Vec}
 use Rattle.std.proofs.lemmas.List.{append_assoc}
 use Rattle.lft_tag.specs.declared.NoMemory.{NoMemory}
 use Rattle.lft_tag.specs.declared.Tag.{Tag}
-use Rattle.lft_steps.specs.declared.row.Row.{Row}
+use Rattle.lft_ir.specs.declared.steps.row.Row.{Row}
 use Rattle.lft_model.specs.Plans.{PlanParts}
-use Rattle.lft_follow.specs.declared.judged.Ending.{Ending}
-use Rattle.lft_follow.specs.declared.judged.Ending.TheVariants.{Accepted, Unbroken, Broken}
-use Rattle.lft_follow.specs.declared.judged.Unjudged.{Unjudged}
-use Rattle.lft_follow.specs.declared.open.OpenRun.{OpenRun}
-use Rattle.lft_follow.specs.Follows.{IsEnding, IsUnjudged}
-use Rattle.lft_follow.proofs.Following.{unjudged_so_far}
+use Rattle.lft_monitor.specs.declared.judged.Ending.{Ending}
+use Rattle.lft_monitor.specs.declared.judged.Ending.TheVariants.{Accepted, Unbroken, Broken}
+use Rattle.lft_monitor.specs.declared.judged.Unjudged.{Unjudged}
+use Rattle.lft_monitor.specs.declared.open.OpenRun.{OpenRun}
+use Rattle.lft_monitor.specs.Follows.{IsEnding, IsUnjudged}
+use Rattle.lft_monitor.proofs.Following.{unjudged_so_far}
 use Rattle.lft_log.specs.Logs.{AreLines, HasLast, HoldSoFar, IsHead, LastCounts, LastIsLeft, header_words, mark, rows}
 use Rattle.lft_log.specs.Told.{AreOpenIn, IsEnded, IsFinal, IsLog, IsLogOf, IsSoon, KeepTo, TellsOpen, TellsPlan}
 use Rattle.lft_log.specs.declared.log.Log.{Log}

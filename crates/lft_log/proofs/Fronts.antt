@@ -1,12 +1,12 @@
 -- What the first of whole lines tell.
 use Rattle.std.proofs.Common.{◌≡◌, ◌+◌, ◌-◌, ◌<◌, ◌≤◌, ◌∙◌, inl, inr, ℕ, zero, suc, List, [], ◌∷◌, None, Option, IfSome, length, take, drop, slice_range, refl, sym, ap, subst, arith}
 use Rattle.std.proofs.lemmas.List.{length-drop, length-take, take-take, take_all}
-use Rattle.lft_flat.specs.Parts.{Parts}
+use Rattle.lft_ir.specs.Parts.{Parts}
 use Rattle.lft_trace.specs.LogTables.{InputsFit, ReadsLines, StopsAt}
 use Rattle.lft_trace.specs.Parts.{EndsLine}
 use Rattle.lft_trace.specs.declared.log_table.LineFault.{LineFault}
 use Rattle.lft_trace.specs.declared.log_table.LogLines.{LogLines}
-use Rattle.lft_steps.specs.Fits.{RowsFit}
+use Rattle.lft_ir.specs.Steps.Fits.{RowsFit}
 use Rattle.lft_log.specs.Logs.{AreLines, ArePlain, BeginsOdd, IsFaultBehind, IsFront, inputs, records_below, rows}
 use Rattle.lft_log.specs.declared.fault.LogFault.{LogFault}
 use Rattle.lft_log.specs.declared.front.Front.{Front}

@@ -4,16 +4,16 @@ use Rattle.std.specs.Prelude.{MatchOption, is_some}
 use Rattle.std.proofs.lemmas.Bool.{false≢true}
 use Rattle.std.proofs.lemmas.List.{append_assoc, append-nil, drop-drop, length-take, take-append-drop}
 use Rattle.lft_lists.proofs.Places.{get_append_cases}
-use Rattle.lft_flat.specs.Parts.{Parts}
-use Rattle.lft_flat.proofs.Ranges.{slice_get-drop}
-use Rattle.lft_steps.specs.declared.row.Row.{Row}
-use Rattle.lft_steps.specs.Fits.{RowsFit}
-use Rattle.lft_steps.specs.Inputs.{InOrder}
+use Rattle.lft_ir.specs.Parts.{Parts}
+use Rattle.lft_ir.proofs.Ranges.{slice_get-drop}
+use Rattle.lft_ir.specs.declared.steps.row.Row.{Row}
+use Rattle.lft_ir.specs.Steps.Fits.{RowsFit}
+use Rattle.lft_ir.specs.Steps.Inputs.{InOrder}
 use Rattle.lft_trace.specs.LogTables.{inputs_behind}
 use Rattle.lft_trace.specs.declared.log_table.Line.{Line}
 use Rattle.lft_model.specs.Plans.{PlanParts}
 use Rattle.lft_model.proofs.Places.{slice_get_take}
-use Rattle.lft_follow.specs.Follows.{IsFollowerOf}
+use Rattle.lft_monitor.specs.Follows.{IsFollowerOf}
 use Rattle.lft_log.specs.Logs.{HasManyRows, IsFront, IsHead, rows}
 use Rattle.lft_log.specs.Told.{HasRead, IsReadOn, IsReadSoFar, IsTaken, TellsPlan}
 use Rattle.lft_log.specs.declared.front.Front.{Front}

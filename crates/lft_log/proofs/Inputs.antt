@@ -6,10 +6,10 @@ use Rattle.lft_lists.proofs.Places.{get_append_cases, get_last, get_left, get_ri
 use Rattle.lft_tag.specs.declared.Tag.{Tag}
 use Rattle.lft_tag.specs.Tags.{Before}
 use Rattle.lft_tag.proofs.Order.{order_cases}
-use Rattle.lft_flat.specs.Parts.{Parts}
-use Rattle.lft_steps.specs.declared.row.Row.{Row as TheRow}
+use Rattle.lft_ir.specs.Parts.{Parts}
+use Rattle.lft_ir.specs.declared.steps.row.Row.{Row as TheRow}
 use Rattle.lft_model.specs.Plans.{PlanParts}
-use Rattle.lft_follow.specs.Follows.{IsPassed}
+use Rattle.lft_monitor.specs.Follows.{IsPassed}
 use Rattle.lft_trace.specs.ExternalTables.{IsEntry}
 use Rattle.lft_trace.specs.LogTables.{EntryFits, InputsFit, inputs_behind}
 use Rattle.lft_trace.specs.declared.external_table.Entry.{Entry}

@@ -4,16 +4,16 @@ use Rattle.std.specs.Prelude.{MatchOption}
 use Rattle.std.proofs.lemmas.List.{append_assoc, append-nil, length-append, take-append-drop}
 use Rattle.std.proofs.lemmas.Bool.{false≢true}
 use Rattle.lft_tag.specs.declared.Tag.{Tag}
-use Rattle.lft_flat.specs.Parts.{Parts}
+use Rattle.lft_ir.specs.Parts.{Parts}
 use Rattle.lft_trace.specs.ExternalTables.{IsEntry}
 use Rattle.lft_trace.specs.LogTables.{IsNoLine, inputs_behind}
 use Rattle.lft_trace.specs.declared.external_table.Entry.TheVariants.{Happens}
 use Rattle.lft_trace.specs.declared.log_table.Line.{Line}
 use Rattle.lft_trace.specs.declared.log_table.LineFault.TheVariants as none
-use Rattle.lft_steps.specs.declared.row.Row.{Row}
+use Rattle.lft_ir.specs.declared.steps.row.Row.{Row}
 use Rattle.lft_model.specs.Plans.{PlanParts}
-use Rattle.lft_follow.specs.declared.follower.Follower.{Follower}
-use Rattle.lft_follow.specs.Follows.{IsFollowerOf, IsQuiet}
+use Rattle.lft_monitor.specs.declared.follower.Follower.{Follower}
+use Rattle.lft_monitor.specs.Follows.{IsFollowerOf, IsQuiet}
 use Rattle.lft_log.specs.declared.asked.Asked.{Asked}
 use Rattle.lft_log.specs.declared.fault.LogFault.{LogFault}
 use Rattle.lft_log.specs.declared.front.Front.{Front}

@@ -15,3 +15,5 @@ pub mod Finishing
 pub mod Plans
 pub mod Inputs
 pub mod Gathering
+pub mod FollowLemmas
+pub mod ExplainLemmas

@@ -4,11 +4,11 @@ use Rattle.std.specs.Prelude.{MatchOption}
 use Rattle.std.proofs.Math.Seq.{take-add}
 use Rattle.std.proofs.lemmas.List.{append-nil, append_assoc, take-append-drop}
 use Rattle.lft_tag.specs.declared.Tag.{Tag}
-use Rattle.lft_steps.specs.declared.row.Row.{Row}
+use Rattle.lft_ir.specs.declared.steps.row.Row.{Row}
 use Rattle.lft_model.specs.Plans.{PlanParts}
-use Rattle.lft_follow.specs.Follows.{HasManyAtLast, IsFollowerOf}
-use Rattle.lft_follow.specs.declared.follower.Follower.{Follower}
-use Rattle.lft_follow.proofs.Held.{not_many}
+use Rattle.lft_monitor.specs.Follows.{HasManyAtLast, IsFollowerOf}
+use Rattle.lft_monitor.specs.declared.follower.Follower.{Follower}
+use Rattle.lft_monitor.proofs.Held.{not_many}
 use Rattle.lft_log.specs.Told.{AreTooMany, IsFaultOfRows, IsSaid, IsSaidOfSome}
 use Rattle.lft_log.specs.declared.fault.LogFault.{LogFault}
 use Rattle.lft_log.specs.declared.told.Told.{Told}

@@ -6,7 +6,7 @@ use Rattle.std.proofs.lemmas.List.{append_assoc, length-take-le, take-append-dro
 use Rattle.std.proofs.lemmas.Option.{get_or_from_slice_get, slice_get-get_or, slice_get_within}
 use native.Mathlib.Decide.{dec_lt}
 use Rattle.memchr.specs.Find.{FindsNeedle, OccursAt}
-use Rattle.lft_flat.proofs.Ranges.{slice_get-drop, slice_get-take}
+use Rattle.lft_ir.proofs.Ranges.{slice_get-drop, slice_get-take}
 use Rattle.lft_lists.proofs.Picked.{take_next}
 use Rattle.lft_lists.proofs.Places.{get_append_cases, get_last, get_left}
 use Rattle.lft_trace.specs.Parts.{EndsLine}

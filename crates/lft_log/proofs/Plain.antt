@@ -6,7 +6,7 @@ use Rattle.std.proofs.Math.Seq.{get_or-append_seam}
 use Rattle.std.specs.Prelude.{◌==◌, if◌then◌else◌}
 use Rattle.std.proofs.lemmas.Bool.{eq-eqb, false≢true}
 use Rattle.std.proofs.lemmas.Option.{slice_get_within}
-use Rattle.lft_flat.proofs.Ranges.{slice_get-take}
+use Rattle.lft_ir.proofs.Ranges.{slice_get-take}
 use Rattle.lft_lists.proofs.Places.{get_append_cases, get_last, get_left, get_right, same_some}
 use native.Mathlib.Decide.{dec_lt}
 use Rattle.lft_log.proofs.Ends.{never_both, range_take}

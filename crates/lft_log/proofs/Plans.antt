@@ -7,11 +7,11 @@ use Rattle.std.proofs.lemmas.List.Elements.{filter_map-append}
 use Rattle.std.proofs.lemmas.List.Sorted.{IsPermutation-insert, IsPermutation-refl, IsPermutation-push_more}
 use Rattle.lft_tag.specs.declared.Tag.{Tag}
 use Rattle.lft_tag.specs.Tags.{earlier, earliest}
-use Rattle.lft_steps.specs.declared.externals.Event.{Event as EventOf}
-use Rattle.lft_steps.specs.Inputs.{InOrder}
+use Rattle.lft_ir.specs.declared.steps.externals.Event.{Event as EventOf}
+use Rattle.lft_ir.specs.Steps.Inputs.{InOrder}
 use Rattle.lft_model.specs.Plans.{PlanParts}
-use Rattle.lft_follow.specs.Follows.{HasOneMore, stopped_at}
-use Rattle.lft_follow.proofs.Sooner.{swapped}
+use Rattle.lft_monitor.specs.Follows.{HasOneMore, stopped_at}
+use Rattle.lft_monitor.proofs.Sooner.{swapped}
 use Rattle.lft_log.specs.Told.{HasTold}
 use Rattle.lft_trace.specs.ExternalTables.{event_of, stop_of}
 use Rattle.lft_trace.specs.declared.external_table.Entry.{Entry}

@@ -1,2 +1,4 @@
 pub mod Logs
 pub mod Told
+pub mod Follow
+pub mod Explain

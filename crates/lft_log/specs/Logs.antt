@@ -4,9 +4,9 @@ use Rattle.std.specs.List.{AllZip}
 use Rattle.csv.specs.Reading.{default_config, records}
 use Rattle.memchr.specs.Find.{OccursAt, is_byte, places}
 use Rattle.lft_tag.specs.declared.Tag.{Tag}
-use Rattle.lft_flat.specs.Parts.{Parts}
-use Rattle.lft_steps.specs.Fits.{RowsFit}
-use Rattle.lft_steps.specs.declared.row.Row.{Row as TheRow}
+use Rattle.lft_ir.specs.Parts.{Parts}
+use Rattle.lft_ir.specs.Steps.Fits.{RowsFit}
+use Rattle.lft_ir.specs.declared.steps.row.Row.{Row as TheRow}
 use Rattle.lft_trace.specs.LogTables.{InputsFit, IsLine, IsNoLine, inputs_behind, row_of}
 use Rattle.lft_trace.specs.Parts.{EndsLine, HasNoQuote}
 use Rattle.lft_trace.specs.Records.{records_of}
@@ -16,7 +16,7 @@ use Rattle.lft_trace.specs.declared.external_table.Entry.TheVariants.{Happens, S
 use Rattle.lft_trace.specs.declared.log_table.Line.{Line}
 use Rattle.lft_trace.specs.declared.log_table.Line.TheVariants.{Row, Input}
 use Rattle.lft_trace.specs.declared.log_table.LineFault.TheVariants as none
-use Rattle.lft_follow.specs.Follows.{IsPassed}
+use Rattle.lft_monitor.specs.Follows.{IsPassed}
 use Rattle.lft_log.specs.declared.fault.LogFault.{LogFault}
 use Rattle.lft_log.specs.declared.fault.LogFault.TheVariants.{NoRow, NoInput, NotPlain, NotPlainInput, SecondHeader}
 use Rattle.lft_log.specs.declared.front.Front.{Front}

@@ -2,21 +2,21 @@
 use Rattle.std.specs.Prelude.{◌≡◌, ◌↔◌, ◌⊎◌, ◌+◌, ◌^◌, ◌<◌, ◌≤◌, true, false, ℕ, Bool, List, [], ◌++◌, ◌∷◌, length, filter_map, Option, None, Some, MatchOption, slice_get, Result, IfOk}
 use Rattle.std.specs.Global.{Vec}
 use Rattle.std.specs.List.Sorted.{IsPermutation}
-use Rattle.lft_flat.specs.Parts.{Parts}
+use Rattle.lft_ir.specs.Parts.{Parts}
 use Rattle.lft_tag.specs.declared.NoMemory.{NoMemory as WantOfMemory}
 use Rattle.lft_tag.specs.declared.Tag.{Tag}
 use Rattle.lft_tag.specs.Tags.{Before, UpTo, earliest}
-use Rattle.lft_steps.specs.declared.externals.Event.{Event as EventOf}
-use Rattle.lft_steps.specs.declared.row.Row.{Row}
-use Rattle.lft_steps.specs.Fits.{RowsFit}
-use Rattle.lft_steps.specs.Inputs.{InOrder, IsTold}
+use Rattle.lft_ir.specs.declared.steps.externals.Event.{Event as EventOf}
+use Rattle.lft_ir.specs.declared.steps.row.Row.{Row}
+use Rattle.lft_ir.specs.Steps.Fits.{RowsFit}
+use Rattle.lft_ir.specs.Steps.Inputs.{InOrder, IsTold}
 use Rattle.lft_model.specs.Plans.{PlanParts}
 use Rattle.lft_model.specs.Breaches.{First}
 use Rattle.lft_rows.specs.Accepted.{IsAccepted}
-use Rattle.lft_follow.specs.declared.judged.Ending.TheVariants as ending
-use Rattle.lft_follow.specs.declared.open.OpenRun.{OpenRun}
-use Rattle.lft_follow.specs.OpenRuns.{AreOpenRuns}
-use Rattle.lft_follow.specs.Follows.{HasManyAtLast, HasManyLater, IsFollowerOf, IsSureSoFar, IsOddSoFar, IsClean, IsFirstUpToLast, IsJudged, IsPassed, IsQuiet, breach_of}
+use Rattle.lft_monitor.specs.declared.judged.Ending.TheVariants as ending
+use Rattle.lft_monitor.specs.declared.open.OpenRun.{OpenRun}
+use Rattle.lft_monitor.specs.OpenRuns.{AreOpenRuns}
+use Rattle.lft_monitor.specs.Follows.{HasManyAtLast, HasManyLater, IsFollowerOf, IsSureSoFar, IsOddSoFar, IsClean, IsFirstUpToLast, IsJudged, IsPassed, IsQuiet, breach_of}
 use Rattle.lft_trace.specs.ExternalTables.{IsEntry, event_of, stop_of}
 use Rattle.lft_trace.specs.LogTables.{IsNoLine}
 use Rattle.lft_trace.specs.declared.external_table.Entry.{Entry}

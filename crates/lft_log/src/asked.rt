@@ -2,10 +2,10 @@
 
 ghost use Rattle.std.specs.Prelude.{◌≡◌, ◌<◌, ◌++◌, ◌∷◌, List, [], length, take, drop, false, IfSome, IfNone, IsTrue, Some};
 ghost use Rattle.lft_tag.specs.Tags.{Before};
-ghost use Rattle.lft_steps.specs.declared.row.Row.{Row as TheRow};
+ghost use Rattle.lft_ir.specs.declared.steps.row.Row.{Row as TheRow};
 ghost use Rattle.lft_log.specs.Told.{AreAll, IsAskedOf, IsPastEnd, KeepTo};
 
-use lft_steps::{Row, row_at};
+use lft_ir::steps::{Row, row_at};
 use lft_tag::Tag;
 
 /// Rows are asked for up to the tag of the first row at or past some tag, or up to the end.

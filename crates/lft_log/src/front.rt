@@ -1,16 +1,16 @@
 //! What whole lines tell, up to one that tells nothing.
 
 ghost use Rattle.std.specs.Prelude.{◌≡◌, ◌≤◌, ◌^◌, ℕ, List, length, false, None, IfOk, IfSome};
-ghost use Rattle.lft_flat.specs.Parts.{Parts};
-ghost use Rattle.lft_steps.specs.Fits.{RowsFit};
+ghost use Rattle.lft_ir.specs.Parts.{Parts};
+ghost use Rattle.lft_ir.specs.Steps.Fits.{RowsFit};
 ghost use Rattle.lft_trace.specs.LogTables.{InputsFit, ReadsLines, StopsAt};
 ghost use Rattle.lft_trace.specs.Parts.{BeginsPlain, EndsLine};
 ghost use Rattle.lft_log.specs.Logs.{AreLines, BeginsOdd, BeginsWithLine, IsFaultBehind, IsFront, IsOddLine, records_below};
 
 use crate::fault::LogFault;
 use crate::lines::{first_line, has_words, is_input, plain_lines};
-use lft_flat::Program;
-use lft_steps::Row;
+use lft_ir::Program;
+use lft_ir::steps::Row;
 use lft_tag::NoMemory;
 use lft_trace::records::Unread;
 use lft_trace::{Among, LineFault, LogLines, read_log};

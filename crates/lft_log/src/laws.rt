@@ -2,7 +2,7 @@
 
 ghost use Rattle.lft_log.specs.Logs.{LogLaw};
 
-use lft_flat::Program;
+use lft_ir::Program;
 
 /// Without the records of external inputs the whole lines of a log are the trace table of the rows that
 /// are followed.

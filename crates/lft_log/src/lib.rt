@@ -1,8 +1,11 @@
 #![tactic(auto)]
 //! Logs: trace tables that come in pieces, with external inputs among their rows, judged while they come.
+//! `follow` is the way from a log's reader to printed lines, and `explain` says what explains its breach.
 
 mod asked;
+pub mod explain;
 mod fault;
+pub mod follow;
 mod front;
 mod laws;
 mod lines;

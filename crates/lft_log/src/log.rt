@@ -3,10 +3,10 @@
 ghost use Rattle.std.specs.Prelude.{◌≡◌, Bool, ◌⊎◌, ◌+◌, ◌++◌, ◌∷◌, ◌^◌, ◌≤◌, ℕ, List, [], Option, true, false, length, IfOk, IfErr, IfNone, IfSome, IsTrue, MatchOption};
 ghost use Rattle.lft_tag.specs.declared.Tag.{Tag as TheTag};
 ghost use Rattle.lft_trace.specs.Parts.{EndsLine};
-ghost use Rattle.lft_steps.specs.declared.row.Row.{Row as TheRow};
-ghost use Rattle.lft_steps.specs.Fits.{RowsFit};
+ghost use Rattle.lft_ir.specs.declared.steps.row.Row.{Row as TheRow};
+ghost use Rattle.lft_ir.specs.Steps.Fits.{RowsFit};
 ghost use Rattle.lft_model.specs.Plans.{PlanParts};
-ghost use Rattle.lft_follow.specs.Follows.{IsFollowerOf, IsJudged, IsQuiet};
+ghost use Rattle.lft_monitor.specs.Follows.{IsFollowerOf, IsJudged, IsQuiet};
 ghost use Rattle.lft_log.specs.Logs.{AreLines, BeginsLong, HasNoEnd, IsHead};
 ghost use Rattle.lft_log.specs.Told.{AreAll, AreOpenAtEnd, AreOpenIn, IsAskedOf, IsBegun, IsEnded, IsFaultAtEnd, IsFaultOf, IsFaultOfRows, IsFinal, IsLog, IsLogOf, IsSaid, IsSaidOfSome, IsSoon, KeepTo, TellsOpen};
 
@@ -16,9 +16,9 @@ use crate::front::read_front;
 use crate::lines::{before_end, below_header, is_whole, whole_lines};
 use crate::telling::tell_all;
 use crate::told::{Ended, Final, Told};
-use lft_follow::{Closing, Ending, Follower, OpenRun, Progress, Reach};
+use lft_ir::steps::Row;
 use lft_model::Plan;
-use lft_steps::Row;
+use lft_monitor::{Closing, Ending, Follower, OpenRun, Progress, Reach};
 use lft_tag::{MAX_ROWS, NoMemory, Tag};
 use std::alloc::Global;
 

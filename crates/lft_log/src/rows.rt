@@ -2,16 +2,16 @@
 
 ghost use Rattle.std.specs.Prelude.{◌≡◌, ◌++◌, ◌∷◌, ◌≤◌, ◌<◌, List, [], ℕ, true, length, drop, slice_range, IfOk, IfSome, OnOk, MatchOption};
 ghost use Rattle.lft_model.specs.Plans.{PlanParts};
-ghost use Rattle.lft_steps.specs.Fits.{RowsFit};
+ghost use Rattle.lft_ir.specs.Steps.Fits.{RowsFit};
 ghost use Rattle.lft_log.specs.Logs.{AreLines, HasManyRows};
 ghost use Rattle.lft_log.specs.Told.{HasRead, IsReadOn, IsReadSoFar, TellsPlan};
 
 use crate::front::read_front;
 use crate::lines::{below_header, is_whole, whole_lines};
 use crate::telling::tell_all;
-use lft_follow::{Follower, Progress};
+use lft_ir::steps::Row;
 use lft_model::Plan;
-use lft_steps::Row;
+use lft_monitor::{Follower, Progress};
 use lft_tag::{MAX_ROWS, NoMemory};
 use std::alloc::Global;
 

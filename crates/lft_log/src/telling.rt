@@ -2,10 +2,10 @@
 
 ghost use Rattle.std.specs.Prelude.{◌≡◌, ◌↔◌, ◌≤◌, ◌^◌, ◌++◌, ◌∷◌, ℕ, List, [], length, slice_range, IfOk, IfErr, OnErr, IsTrue};
 ghost use Rattle.lft_tag.specs.Tags.{IsRecorded};
-ghost use Rattle.lft_steps.specs.declared.row.Row.{Row as TheRow};
-ghost use Rattle.lft_steps.specs.Fits.{EventFits};
+ghost use Rattle.lft_ir.specs.declared.steps.row.Row.{Row as TheRow};
+ghost use Rattle.lft_ir.specs.Steps.Fits.{EventFits};
 ghost use Rattle.lft_model.specs.Plans.{PlanParts};
-ghost use Rattle.lft_follow.specs.Follows.{IsFollowerOf, IsPassed};
+ghost use Rattle.lft_monitor.specs.Follows.{IsFollowerOf, IsPassed};
 ghost use Rattle.lft_trace.specs.declared.external_table.Entry.{Entry as TheEntry};
 ghost use Rattle.lft_trace.specs.declared.log_table.Line.{Line as TheLine};
 ghost use Rattle.lft_trace.specs.LogTables.{EntryFits, InputsFit, inputs_behind};
@@ -14,9 +14,9 @@ ghost use Rattle.lft_log.specs.Told.{HasTold, IsBeforeLatest, IsInputFault, IsLa
 
 use crate::fault::LogFault;
 use crate::front::Front;
-use lft_follow::{Follower, Receipt};
+use lft_ir::steps::{Event, Row, row_at};
 use lft_model::Plan;
-use lft_steps::{Event, Row, row_at};
+use lft_monitor::{Follower, Receipt};
 use lft_tag::Tag;
 use lft_trace::Entry;
 

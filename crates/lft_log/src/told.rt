@@ -3,7 +3,7 @@
 ghost use Rattle.std.specs.Prelude.{◌≡◌};
 ghost use Rattle.lft_log.specs.declared.told.Final.TheVariants.{Soon};
 
-use lft_follow::{Ending, Found, OpenRun, Reach};
+use lft_monitor::{Ending, Found, OpenRun, Reach};
 use lft_tag::NoMemory;
 use std::alloc::Global;
 

@@ -7,11 +7,11 @@ use Rattle.lft_tree.specs.View.{member_view, member_views}
 use Rattle.lft_tree.specs.declared.tree.Member.{Member as Core}
 use Rattle.lft_whole.specs.declared.tree.Member.{Member}
 use Rattle.lft_whole.specs.declared.tree.Reaction.{Reaction}
-use Rattle.lft_lowering.specs.Lowered.{own}
-use Rattle.lft_meanings.specs.Meanings.{Here, named_in}
-use Rattle.lft_meanings.specs.Places.{Several, count_of}
+use Rattle.lft_elaborate.specs.Channels.Lowered.{own}
+use Rattle.lft_lower.specs.Meanings.Meanings.{Here, named_in}
+use Rattle.lft_lower.specs.Meanings.Places.{Several, count_of}
 use Rattle.lft_lower.specs.Lowered.{Adds, AreGiven, AreInstances, AreTriggers, IsAsleep, IsLowered, IsReaction, added, all_triggers, asleep, instances, known, no_instances, reaction_tree, reactor_at, runs, sleeps, some_instances}
-use Rattle.lft_shapes.specs.Shapes.{thing_named}
+use Rattle.lft_classes.specs.Shapes.{thing_named}
 
 -- none
 pub adds_none : (old : List Core) (Are : List MemberTree → Type 0) → Are [] → Adds old old Are

@@ -3,8 +3,8 @@ use Rattle.std.proofs.Common.{◌≡◌, ℕ, ◌+◌, ◌<◌, ◌≤◌, inl, 
 use Rattle.std.specs.Prelude.{IfSome}
 use Rattle.std.proofs.Math.Nat.{eq-or-lt_of_le}
 use Rattle.std.proofs.lemmas.Option.{slice_get_within}
-use Rattle.lft_shapes.specs.declared.shapes.InheritedParameter.{InheritedParameter}
-use Rattle.lft_shapes.specs.declared.shapes.Shape.{Shape}
+use Rattle.lft_classes.specs.declared.shapes.InheritedParameter.{InheritedParameter}
+use Rattle.lft_classes.specs.declared.shapes.Shape.{Shape}
 use Rattle.lft_lower.specs.Reactors.{HasDefault, IsDefault}
 
 -- the first of them have defaults

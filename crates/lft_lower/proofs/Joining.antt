@@ -4,11 +4,11 @@ use Rattle.std.specs.Prelude.{slice_get}
 use Rattle.std.proofs.Math.Nat.{eq-or-lt_of_le, mod-eq_of_lt}
 use Rattle.std.proofs.lemmas.List.{length_push, length-take, map-append, take_all}
 use Rattle.lft_lower.specs.Lowered.{AreConnected, AreEach, each_pair, whole}
-use Rattle.lft_meanings.proofs.Growing.{either}
+use Rattle.lft_lower.proofs.MeaningsLemmas.Growing.{either}
 use Rattle.lft_lists.proofs.Places.{get_last, get_push}
 use Rattle.lft_tree.specs.Tree.{TimeTree, RefTree, ConnectionTree, ConnectionMember, MemberTree}
-use Rattle.lft_lowering.specs.Channels.{joined, source}
-use Rattle.lft_lowering.specs.Lowered.{AreJoined, single}
+use Rattle.lft_elaborate.specs.Channels.Channels.{joined, source}
+use Rattle.lft_elaborate.specs.Channels.Lowered.{AreJoined, single}
 
 -- this connection joins the place of this number on the right
 abbrev pub Joins : List RefTree → List RefTree → Bool → Option TimeTree → List ConnectionTree → ℕ → Type 0

@@ -7,3 +7,4 @@ mod Needing
 mod Pairing
 mod Standing
 mod Turns
+pub mod MeaningsLemmas

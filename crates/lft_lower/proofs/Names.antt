@@ -9,12 +9,12 @@ use Rattle.lft_tree.specs.Tree.{AssignmentTree, ConnectionMember, FileTree, Inst
 use Rattle.lft_whole.specs.declared.tree.Member.{Member}
 use Rattle.lft_whole.specs.declared.tree.Member.TheVariants as member
 use Rattle.lft_whole.specs.declared.tree.Reaction.{Reaction}
-use Rattle.lft_shapes.specs.declared.shapes.Inherited.{Inherited}
-use Rattle.lft_settings.specs.declared.settings.Settings.{Settings}
-use Rattle.lft_settings.proofs.Spelling.{IsName-spelled}
-use Rattle.lft_lowering.specs.Channels.{below}
-use Rattle.lft_meanings.specs.Meanings.{Here, named_in}
-use Rattle.lft_meanings.specs.Places.{count_of, name_at, names_of}
+use Rattle.lft_classes.specs.declared.shapes.Inherited.{Inherited}
+use Rattle.lft_elaborate.specs.declared.settings.Settings.{Settings}
+use Rattle.lft_elaborate.proofs.Spelling.{IsName-spelled}
+use Rattle.lft_elaborate.specs.Channels.Channels.{below}
+use Rattle.lft_lower.specs.Meanings.Meanings.{Here, named_in}
+use Rattle.lft_lower.specs.Meanings.Places.{count_of, name_at, names_of}
 use Rattle.lft_lower.specs.Lowered.{AreConnected, AreInstances, AreLowered, AreTriggers, IsAsleep, IsLowered, IsReaction, added, each_pair, instances, known, more_members, no_instances, no_members, ports, runs, sleeps, some_instances, whole}
 use Rattle.lft_lower.specs.Reactors.{AreReactors, more_reactors, no_reactors}
 

@@ -5,11 +5,11 @@ use Rattle.std.specs.List.{range_with_len}
 use Rattle.std.proofs.lemmas.Bool.Decides.{eqb_tells, leb_tells}
 use Rattle.std.proofs.lemmas.List.Sums.{sum_by-cons}
 use Rattle.std.proofs.lemmas.Option.{slice_get_within}
-use Rattle.lft_shapes.specs.declared.shapes.Child.{Child}
-use Rattle.lft_shapes.specs.declared.shapes.Given.{Given}
-use Rattle.lft_shapes.specs.declared.shapes.InheritedParameter.{InheritedParameter}
-use Rattle.lft_shapes.specs.declared.shapes.Shape.{Shape}
-use Rattle.lft_settings.specs.Values.{given_to}
+use Rattle.lft_classes.specs.declared.shapes.Child.{Child}
+use Rattle.lft_classes.specs.declared.shapes.Given.{Given}
+use Rattle.lft_classes.specs.declared.shapes.InheritedParameter.{InheritedParameter}
+use Rattle.lft_classes.specs.declared.shapes.Shape.{Shape}
+use Rattle.lft_elaborate.specs.Values.{given_to}
 use Rattle.lft_lower.specs.Needed.{GivesNeeded, GivesOnce, is_bare, is_needed, is_timed, needed_given, needed_in}
 
 -- one, if it is so

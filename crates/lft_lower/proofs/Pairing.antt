@@ -6,7 +6,7 @@ use Rattle.std.proofs.lemmas.List.{get_or-take, length-take, take_all}
 use Rattle.std.proofs.lemmas.List.FromFn.{map-range_with_len_more}
 use Rattle.std.proofs.lemmas.Nat.{mod_below}
 use Rattle.std.proofs.lemmas.Option.{get_or_from_slice_get}
-use Rattle.lft_lowering.specs.Channels.{below, joined, source}
+use Rattle.lft_elaborate.specs.Channels.Channels.{below, joined, source}
 use Rattle.lft_lower.specs.Standing.{AreSidesAt, pair_tokens, pairs_tokens}
 use Rattle.lft_lower.proofs.Joining.{same_joined, same_source}
 

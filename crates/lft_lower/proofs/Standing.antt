@@ -9,13 +9,13 @@ use Rattle.lft_tree.specs.declared.tree.Item.{Item}
 use Rattle.lft_tree.specs.declared.tree.Item.TheVariants as items
 use Rattle.lft_tree.specs.declared.tree.Member.{Member as Core}
 use Rattle.lft_tree.specs.declared.tree.Reactor.{Reactor}
-use Rattle.lft_sources.specs.declared.source.SourceFile.{SourceFile}
-use Rattle.lft_shapes.specs.declared.shapes.Inherited.{Inherited}
-use Rattle.lft_shapes.specs.declared.shapes.Shape.{Shape}
-use Rattle.lft_settings.specs.Settings.{shape_at}
-use Rattle.lft_settings.specs.declared.settings.Settings.{Settings}
-use Rattle.lft_meanings.specs.Meanings.{Here}
-use Rattle.lft_meanings.proofs.Growing.{one_more}
+use Rattle.lft_whole.specs.declared.sources.source.SourceFile.{SourceFile}
+use Rattle.lft_classes.specs.declared.shapes.Inherited.{Inherited}
+use Rattle.lft_classes.specs.declared.shapes.Shape.{Shape}
+use Rattle.lft_elaborate.specs.Settings.{shape_at}
+use Rattle.lft_elaborate.specs.declared.settings.Settings.{Settings}
+use Rattle.lft_lower.specs.Meanings.Meanings.{Here}
+use Rattle.lft_lower.proofs.MeaningsLemmas.Growing.{one_more}
 use Rattle.lft_lower.specs.Standing.{AddsAt, AreAt, ArePartsAt, ArePlaced, IsPlaced, declared_at, more_at, more_placed, number_in, parts_at, stands_at}
 
 abbrev At : ℕ → Core → Type 0

@@ -4,14 +4,14 @@ use Rattle.std.specs.Prelude.{slice_get}
 use Rattle.std.proofs.lemmas.List.{length-take-le, take_all}
 use Rattle.std.proofs.lemmas.Option.{slice_get_within}
 use Rattle.lft_tree.specs.Tree.{ItemTree, MemberTree, ReactorTree, ReactorItem}
-use Rattle.lft_shapes.specs.declared.shapes.Inherited.{Inherited}
-use Rattle.lft_shapes.specs.declared.shapes.Shape.{Shape}
-use Rattle.lft_settings.specs.declared.settings.Settings.{Settings}
-use Rattle.lft_settings.specs.Settings.{shape_at}
-use Rattle.lft_meanings.specs.Meanings.{Here}
+use Rattle.lft_classes.specs.declared.shapes.Inherited.{Inherited}
+use Rattle.lft_classes.specs.declared.shapes.Shape.{Shape}
+use Rattle.lft_elaborate.specs.declared.settings.Settings.{Settings}
+use Rattle.lft_elaborate.specs.Settings.{shape_at}
+use Rattle.lft_lower.specs.Meanings.Meanings.{Here}
 use Rattle.lft_lower.specs.Lowered.{AreLowered, IsLowered, IsMeasured, more_members}
 use Rattle.lft_lower.specs.Reactors.{AreMembers, AreReactors, IsReactor, more_reactors}
-use Rattle.lft_meanings.proofs.Growing.{one_more}
+use Rattle.lft_lower.proofs.MeaningsLemmas.Growing.{one_more}
 
 -- one more member
 pub lowered_next : (names : List (Option (List ℕ))) (h : Here) (members : List Inherited) (n : ℕ) (x : Inherited) (done new list : List MemberTree) (before after : Option (List ℕ)) → slice_get members n ≡ Some x → AreLowered names h (take n members) done before → IsMeasured h n x.member.now → IsLowered names h n before new after x.member.now → list ≡ done ++ new → AreLowered names h (take (n + 1) members) list after

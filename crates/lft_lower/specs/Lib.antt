@@ -5,3 +5,4 @@ pub mod Reactors
 pub mod Refused
 pub mod Standing
 pub mod Times
+pub mod Meanings

@@ -19,17 +19,17 @@ use Rattle.lft_whole.specs.declared.tree.Trigger.{Trigger}
 use Rattle.lft_whole.specs.declared.tree.Trigger.TheVariants as triggers
 use Rattle.lft_whole.specs.declared.tree.Value.{Value}
 use Rattle.lft_whole.specs.declared.tree.Value.TheVariants as value
-use Rattle.lft_shapes.specs.declared.shapes.Child.{Child}
-use Rattle.lft_shapes.specs.declared.shapes.Given.{Given}
-use Rattle.lft_shapes.specs.declared.shapes.Inherited.{Inherited}
-use Rattle.lft_shapes.specs.declared.shapes.Shape.{Shape}
-use Rattle.lft_shapes.specs.Shapes.{child_at, thing_named, width_of}
-use Rattle.lft_lowering.specs.Lowered.{AreJoined, own}
-use Rattle.lft_settings.specs.Noted.{found_inside}
-pub use Rattle.lft_settings.specs.Values.{is_forever}
-use Rattle.lft_settings.specs.Widths.{found_width}
-use Rattle.lft_meanings.specs.Meanings.{Here, Means, all_places, named_in, places_in, shape_inside}
-use Rattle.lft_meanings.specs.Places.{Several, count_of, names_of}
+use Rattle.lft_classes.specs.declared.shapes.Child.{Child}
+use Rattle.lft_classes.specs.declared.shapes.Given.{Given}
+use Rattle.lft_classes.specs.declared.shapes.Inherited.{Inherited}
+use Rattle.lft_classes.specs.declared.shapes.Shape.{Shape}
+use Rattle.lft_classes.specs.Shapes.{child_at, thing_named, width_of}
+use Rattle.lft_elaborate.specs.Channels.Lowered.{AreJoined, own}
+use Rattle.lft_elaborate.specs.Noted.{found_inside}
+pub use Rattle.lft_elaborate.specs.Values.{is_forever}
+use Rattle.lft_elaborate.specs.Widths.{found_width}
+use Rattle.lft_lower.specs.Meanings.Meanings.{Here, Means, all_places, named_in, places_in, shape_inside}
+use Rattle.lft_lower.specs.Meanings.Places.{Several, count_of, names_of}
 use Rattle.lft_lower.specs.declared.connections.Sides.{Sides}
 use Rattle.lft_lower.specs.Needed.{GivesNeeded, is_timed}
 use Rattle.lft_lower.specs.Times.{IsTime, time_for}

@@ -6,17 +6,17 @@ use Rattle.lft_tree.specs.ItemView.{item_views}
 use Rattle.lft_tree.specs.declared.ast.Ast.{Ast}
 use Rattle.lft_tree.specs.declared.tree.Time.{Time}
 use Rattle.lft_whole.specs.declared.tree.Expression.{Expression}
-use Rattle.lft_sources.specs.declared.source.SourceFile.{SourceFile}
-use Rattle.lft_shapes.specs.Nestings.{IsNesting}
-use Rattle.lft_shapes.specs.declared.nesting.Nesting.{Nesting}
-use Rattle.lft_shapes.specs.declared.shapes.InheritedParameter.{InheritedParameter}
-use Rattle.lft_shapes.specs.declared.shapes.Shape.{Shape}
-use Rattle.lft_lowering.specs.Channels.{below}
-use Rattle.lft_settings.specs.declared.settings.Settings.{Settings}
-use Rattle.lft_settings.specs.Noted.{AreSettings, table}
-use Rattle.lft_settings.specs.Settings.{shape_at}
-use Rattle.lft_settings.specs.Used.{AreUsed}
-use Rattle.lft_meanings.specs.Names.{AreApart}
+use Rattle.lft_whole.specs.declared.sources.source.SourceFile.{SourceFile}
+use Rattle.lft_classes.specs.Nestings.{IsNesting}
+use Rattle.lft_classes.specs.declared.nesting.Nesting.{Nesting}
+use Rattle.lft_classes.specs.declared.shapes.InheritedParameter.{InheritedParameter}
+use Rattle.lft_classes.specs.declared.shapes.Shape.{Shape}
+use Rattle.lft_elaborate.specs.Channels.Channels.{below}
+use Rattle.lft_elaborate.specs.declared.settings.Settings.{Settings}
+use Rattle.lft_elaborate.specs.Noted.{AreSettings, table}
+use Rattle.lft_elaborate.specs.Settings.{shape_at}
+use Rattle.lft_elaborate.specs.Used.{AreUsed}
+use Rattle.lft_lower.specs.Meanings.Names.{AreApart}
 use Rattle.lft_lower.specs.Lowered.{AreLowered}
 use Rattle.lft_lower.specs.Needed.{is_timed}
 use Rattle.lft_lower.specs.Programs.{IsCentralized}

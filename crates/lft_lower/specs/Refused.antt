@@ -1,14 +1,14 @@
 -- Why what is written isn't lowered.
 use Rattle.std.specs.Prelude.{◌≡◌, ◌<◌, ◌⊎◌, ℕ, Bool, true, false, List, IsSomeAnd, Option, None, slice_get}
-use Rattle.lft_scope.specs.Causes.{longest}
+use Rattle.lft_resolve.specs.Causes.{longest}
 use Rattle.lft_tree.specs.Tree.{nanoseconds}
-use Rattle.lft_sources.specs.declared.source.SourceFile.{SourceFile}
-use Rattle.lft_sources.specs.declared.stop.Refusal.{Refusal}
-use Rattle.lft_sources.specs.declared.why.Why.{Why}
-use Rattle.lft_sources.specs.declared.why.Why.TheVariants as why
-use Rattle.lft_shapes.specs.declared.shapes.Given.{Given}
-use Rattle.lft_shapes.specs.declared.shapes.InheritedParameter.{InheritedParameter}
-use Rattle.lft_shapes.specs.declared.shapes.Shape.{Shape}
+use Rattle.lft_whole.specs.declared.sources.source.SourceFile.{SourceFile}
+use Rattle.lft_whole.specs.declared.sources.stop.Refusal.{Refusal}
+use Rattle.lft_whole.specs.declared.sources.why.Why.{Why}
+use Rattle.lft_whole.specs.declared.sources.why.Why.TheVariants as why
+use Rattle.lft_classes.specs.declared.shapes.Given.{Given}
+use Rattle.lft_classes.specs.declared.shapes.InheritedParameter.{InheritedParameter}
+use Rattle.lft_classes.specs.declared.shapes.Shape.{Shape}
 use Rattle.lft_whole.specs.declared.tree.Action.{Action}
 use Rattle.lft_whole.specs.declared.tree.Connection.{Connection}
 use Rattle.lft_whole.specs.declared.tree.Effect.{Effect}
@@ -19,10 +19,10 @@ use Rattle.lft_whole.specs.declared.tree.Trigger.{Trigger}
 use Rattle.lft_whole.specs.declared.tree.Trigger.TheVariants as triggers
 use Rattle.lft_whole.specs.declared.tree.Value.{Value}
 use Rattle.lft_whole.specs.declared.tree.Value.TheVariants as value
-use Rattle.lft_settings.specs.declared.settings.Settings.{Settings}
-use Rattle.lft_settings.specs.Settings.{shape_at}
-use Rattle.lft_meanings.specs.Meanings.{Here}
-use Rattle.lft_meanings.specs.Refused.{IsAt, IsOfOne, IsOfReference}
+use Rattle.lft_elaborate.specs.declared.settings.Settings.{Settings}
+use Rattle.lft_elaborate.specs.Settings.{shape_at}
+use Rattle.lft_lower.specs.Meanings.Meanings.{Here}
+use Rattle.lft_lower.specs.Meanings.Refused.{IsAt, IsOfOne, IsOfReference}
 use Rattle.lft_lower.specs.Lowered.{is_forever, is_spaced}
 use Rattle.lft_lower.specs.Needed.{is_timed}
 use Rattle.lft_lower.specs.Programs.{decentralized_in}

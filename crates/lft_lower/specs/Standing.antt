@@ -23,17 +23,17 @@ use Rattle.lft_whole.specs.declared.tree.Reaction.{Reaction}
 use Rattle.lft_whole.specs.declared.tree.Reactor.{Reactor}
 use Rattle.lft_whole.specs.declared.tree.Trigger.{Trigger}
 use Rattle.lft_whole.specs.declared.tree.Trigger.TheVariants as triggers
-use Rattle.lft_sources.specs.Tokens.{number_at}
-use Rattle.lft_sources.specs.declared.source.SourceFile.{SourceFile}
-use Rattle.lft_shapes.specs.Shapes.{child_at, is_at}
-use Rattle.lft_shapes.specs.declared.shapes.Given.{Given}
-use Rattle.lft_shapes.specs.declared.shapes.Inherited.{Inherited}
-use Rattle.lft_shapes.specs.declared.shapes.Shape.{Shape}
-use Rattle.lft_lowering.specs.Channels.{below, joined, source}
-use Rattle.lft_settings.specs.Settings.{shape_at}
-use Rattle.lft_settings.specs.declared.settings.Settings.{Settings}
-use Rattle.lft_meanings.specs.Meanings.{Here, shape_inside}
-use Rattle.lft_meanings.specs.Standing.{all_tokens, ref_tokens, tokens_of}
+use Rattle.lft_whole.specs.Sources.Tokens.{number_at}
+use Rattle.lft_whole.specs.declared.sources.source.SourceFile.{SourceFile}
+use Rattle.lft_classes.specs.Shapes.{child_at, is_at}
+use Rattle.lft_classes.specs.declared.shapes.Given.{Given}
+use Rattle.lft_classes.specs.declared.shapes.Inherited.{Inherited}
+use Rattle.lft_classes.specs.declared.shapes.Shape.{Shape}
+use Rattle.lft_elaborate.specs.Channels.Channels.{below, joined, source}
+use Rattle.lft_elaborate.specs.Settings.{shape_at}
+use Rattle.lft_elaborate.specs.declared.settings.Settings.{Settings}
+use Rattle.lft_lower.specs.Meanings.Meanings.{Here, shape_inside}
+use Rattle.lft_lower.specs.Meanings.Standing.{all_tokens, ref_tokens, tokens_of}
 use Rattle.lft_lower.specs.Lowered.{all_triggers, is_forever, time_given}
 use Rattle.lft_lower.specs.Needed.{is_timed}
 

@@ -1,14 +1,14 @@
 -- Times as they are written, and as names of parameters.
 use Rattle.std.specs.Prelude.{◌≡◌, ◌≤◌, zero, true, false, IsSomeAnd, Option, Some, None, option_map, slice_get, string_bytes}
 use Rattle.std.specs.Option.{option_and_then}
-use Rattle.lft_scope.specs.Causes.{longest}
+use Rattle.lft_resolve.specs.Causes.{longest}
 use Rattle.lft_tree.specs.Tree.{TimeTree, Written, Named, nanoseconds}
 use Rattle.lft_tree.specs.declared.tree.Time.{Time}
-use Rattle.lft_shapes.specs.declared.shapes.InheritedParameter.{InheritedParameter}
-use Rattle.lft_shapes.specs.declared.shapes.Shape.{Shape}
-use Rattle.lft_shapes.specs.declared.shapes.Thing.{Thing}
-use Rattle.lft_shapes.specs.declared.shapes.Thing.TheVariants as things
-use Rattle.lft_shapes.specs.Shapes.{thing_named}
+use Rattle.lft_classes.specs.declared.shapes.InheritedParameter.{InheritedParameter}
+use Rattle.lft_classes.specs.declared.shapes.Shape.{Shape}
+use Rattle.lft_classes.specs.declared.shapes.Thing.{Thing}
+use Rattle.lft_classes.specs.declared.shapes.Thing.TheVariants as things
+use Rattle.lft_classes.specs.Shapes.{thing_named}
 use Rattle.lft_whole.specs.declared.tree.Value.{Value}
 use Rattle.lft_whole.specs.declared.tree.Value.TheVariants as value
 

@@ -2,26 +2,26 @@
 
 ghost use Rattle.std.specs.Prelude.{◌≡◌, ◌⊎◌, ◌∷◌, IfErr, IfOk, IsTrue, OnOk, false, option_map, true};
 ghost use Rattle.lft_tree.specs.ItemView.{connection_view, ref_view, ref_views, time_view};
-ghost use Rattle.lft_lowering.specs.Lowered.{single};
-ghost use Rattle.lft_meanings.specs.Meanings.{all_places, here, token_in};
-ghost use Rattle.lft_sources.specs.declared.stop.Stop.TheVariants.{NoMemory};
-ghost use Rattle.lft_meanings.specs.Refused.{IfRefused, IsOfOne, IsPassed};
+ghost use Rattle.lft_elaborate.specs.Channels.Lowered.{single};
+ghost use Rattle.lft_lower.specs.Meanings.Meanings.{all_places, here, token_in};
+ghost use Rattle.lft_whole.specs.declared.sources.stop.Stop.TheVariants.{NoMemory};
+ghost use Rattle.lft_lower.specs.Meanings.Refused.{IfRefused, IsOfOne, IsPassed};
 ghost use Rattle.lft_lower.specs.Lowered.{Adds, AreConnected, AreEach, AreSides, IsRead, MeanSides, time_at};
 ghost use Rattle.lft_lower.specs.Refused.{IsOfConnection, IsOfSides};
-ghost use Rattle.lft_meanings.specs.Standing.{all_tokens, ref_tokens};
+ghost use Rattle.lft_lower.specs.Meanings.Standing.{all_tokens, ref_tokens};
 ghost use Rattle.lft_lower.specs.Standing.{AddsAt, AreSidesAt, pairs_tokens, parts_at, time_tokens, written_tokens};
 ghost use Rattle.lft_tree.specs.declared.tree.Member.TheVariants as kinds;
 
 use crate::copies::{copied_reference, copied_time};
+use crate::meanings::notes::Notes;
+use crate::meanings::places::{Within, count, meaning, some_places};
+use crate::meanings::room::Room;
 use crate::times::{bytes_of, maybe_time};
-use lft_lowering::{joined, source};
-use lft_meanings::notes::Notes;
-use lft_meanings::places::{Within, count, meaning, some_places};
-use lft_meanings::room::Room;
-use lft_shapes::Work;
-use lft_sources::{Stop, Why};
+use lft_classes::Work;
+use lft_elaborate::channels::{joined, source};
 use lft_tree::{Connection, Member, Reference, TimeExpression};
 use lft_whole::Connection as Written;
+use lft_whole::sources::{Stop, Why};
 use std::alloc::Global;
 
 /// How many places a connection has on each side.

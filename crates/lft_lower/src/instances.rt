@@ -3,10 +3,10 @@
 ghost use Rattle.std.specs.Prelude.{◌≡◌, ◌<◌, ◌≤◌, ◌++◌, [], ◌∷◌, Some, false, IfErr, IfOk, OnOk, flat_map, map, option_map, string_bytes, true, unwrap_or};
 ghost use Rattle.std.specs.List.{All, cons_option};
 ghost use Rattle.lft_tree.specs.ItemView.{assignment_view, member_views};
-ghost use Rattle.lft_meanings.specs.Meanings.{here, token_in};
-ghost use Rattle.lft_meanings.specs.Names.{texts};
-ghost use Rattle.lft_meanings.specs.Places.{several};
-ghost use Rattle.lft_meanings.specs.Refused.{IfRefused, IsPassed};
+ghost use Rattle.lft_lower.specs.Meanings.Meanings.{here, token_in};
+ghost use Rattle.lft_lower.specs.Meanings.Names.{texts};
+ghost use Rattle.lft_lower.specs.Meanings.Places.{several};
+ghost use Rattle.lft_lower.specs.Meanings.Refused.{IfRefused, IsPassed};
 ghost use Rattle.lft_lower.specs.Lowered.{Adds, AreGiven, AreInstances, IsGiven, given_times, instances, reactor_at, time_given};
 ghost use Rattle.lft_lower.specs.Needed.{is_needed, needed_given, needed_in};
 ghost use Rattle.lft_lower.specs.Refused.{IsOfGiven};
@@ -14,13 +14,13 @@ ghost use Rattle.lft_lower.specs.Standing.{AddsAt, given_token, given_tokens, in
 
 use crate::copies::copied_given;
 use crate::maker::Maker;
+use crate::meanings::places::{Wide, Within, counted};
+use crate::meanings::room::Room;
 use crate::times::{bytes_of, read_time};
-use lft_meanings::places::{Wide, Within, counted};
-use lft_meanings::room::Room;
-use lft_shapes::{Child, Given, Shape, Work};
-use lft_sources::{Stop, Why};
+use lft_classes::{Child, Given, Shape, Work};
 use lft_tree::{Assignment, Instance, Member};
 use lft_whole::Instance as Written;
+use lft_whole::sources::{Stop, Why};
 use std::alloc::{AllocError, Global};
 
 /// Whether each instance of a shape has to give the parameter of this number: it is a time without a default.

@@ -1,12 +1,12 @@
 //! What all reactors are made of.
 
 ghost use Rattle.std.specs.Prelude.{◌≡◌, None, map, option_map, slice_get, slice_index_or, unwrap_or};
-ghost use Rattle.lft_meanings.specs.Names.{texts};
-ghost use Rattle.lft_sources.specs.Tokens.{number_at};
+ghost use Rattle.lft_lower.specs.Meanings.Names.{texts};
+ghost use Rattle.lft_whole.specs.Sources.Tokens.{number_at};
 ghost use Rattle.lft_lower.specs.Needed.{needed_in};
 
-use lft_settings::Settings;
-use lft_sources::{Place, SourceFile, number_of};
+use lft_elaborate::Settings;
+use lft_whole::sources::{Place, SourceFile, number_of};
 use std::alloc::Global;
 
 /// What all reactors are made of: the settings, which are all known.

@@ -1,22 +1,22 @@
 //! The core tree of a whole program.
 
 ghost use Rattle.std.specs.Prelude.{◌≡◌, IfErr, IfOk, None, OnOk, true};
-ghost use Rattle.lft_sources.specs.declared.stop.Stop.TheVariants.{NoMemory};
-ghost use Rattle.lft_meanings.specs.Refused.{IfRefused};
+ghost use Rattle.lft_whole.specs.declared.sources.stop.Stop.TheVariants.{NoMemory};
+ghost use Rattle.lft_lower.specs.Meanings.Refused.{IfRefused};
 ghost use Rattle.lft_lower.specs.Programs.{IsCentralized, decentralized_in};
 ghost use Rattle.lft_lower.specs.Reactors.{IsLowering, IsProgram};
 ghost use Rattle.lft_lower.specs.Refused.{IsDecentralized, IsOfFederation};
 
 use crate::instances::needed;
 use crate::maker::Maker;
+use crate::meanings::naming::names;
+use crate::meanings::notes::Notes;
+use crate::meanings::room::Room;
 use crate::reactors::reactors;
-use lft_meanings::naming::names;
-use lft_meanings::notes::Notes;
-use lft_meanings::room::Room;
-use lft_settings::Settings;
-use lft_shapes::{InheritedParameter, Shape};
-use lft_sources::{SourceFile, Stop, Why};
+use lft_classes::{InheritedParameter, Shape};
+use lft_elaborate::Settings;
 use lft_tree::Ast;
+use lft_whole::sources::{SourceFile, Stop, Why};
 use std::alloc::Global;
 
 /// A program that is lowered: its core tree, under the names of the source, and what is said of it.

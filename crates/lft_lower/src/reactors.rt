@@ -4,28 +4,28 @@ ghost use Rattle.std.specs.Prelude.{◌≡◌, ◌++◌, ◌⊎◌, ℕ, [], ◌
 ghost use Rattle.std.specs.List.{cons_option};
 ghost use Rattle.lft_tree.specs.ItemView.{action_view, item_view, member_views, parameter_view, reactor_view, time_view, timer_view};
 ghost use Rattle.lft_tree.specs.Tree.{ActionMember, TimerMember};
-ghost use Rattle.lft_meanings.specs.Meanings.{here, token_in};
-ghost use Rattle.lft_meanings.specs.Names.{texts};
-ghost use Rattle.lft_meanings.specs.Places.{several};
-ghost use Rattle.lft_meanings.specs.Refused.{IfRefused, IsPassed};
+ghost use Rattle.lft_lower.specs.Meanings.Meanings.{here, token_in};
+ghost use Rattle.lft_lower.specs.Meanings.Names.{texts};
+ghost use Rattle.lft_lower.specs.Meanings.Places.{several};
+ghost use Rattle.lft_lower.specs.Meanings.Refused.{IfRefused, IsPassed};
 ghost use Rattle.lft_lower.specs.Lowered.{Adds, IsLowered, IsMeasured, IsPeriod, IsRead, action_tree, is_spaced, period_at, ports, timer_tree};
 ghost use Rattle.lft_lower.specs.Refused.{IsOfAction, IsOfDefault, IsOfParameter, IsOfPeriod, IsOfTimer};
 ghost use Rattle.lft_lower.specs.Reactors.{AreMembers, AreReactors, HasDefault, IsDefault, IsReactor, default_time, timed_parameter, timed_parameters};
-ghost use Rattle.lft_lowering.specs.Channels.{below};
+ghost use Rattle.lft_elaborate.specs.Channels.Channels.{below};
 ghost use Rattle.lft_lower.specs.Standing.{AddsAt, AreAt, ArePartsAt, ArePlaced, IsPlaced, declared_at, head_at, parameter_token, period_tokens, time_tokens, written_tokens};
 
 use crate::connections::push_connection;
 use crate::instances::push_instances;
 use crate::maker::Maker;
+use crate::meanings::notes::Notes;
+use crate::meanings::places::{Wide, Within, counted};
+use crate::meanings::room::Room;
 use crate::reactions::push_reaction;
 use crate::times::{is_forever, is_zero, maybe_time, read_time, written};
+use lft_classes::{Inherited, InheritedParameter, Shape, Work, why_of};
 use lft_lists::item_at;
-use lft_meanings::notes::Notes;
-use lft_meanings::places::{Wide, Within, counted};
-use lft_meanings::room::Room;
-use lft_shapes::{Inherited, InheritedParameter, Shape, Work, why_of};
-use lft_sources::{Stop, Why};
 use lft_tree::{Action, Item, Member, Parameter, Port, Reactor, Time, TimeExpression, Timer};
+use lft_whole::sources::{Stop, Why};
 use lft_whole::{
     Action as WrittenAction, Expression, Member as Written, Name, Reactor as WrittenReactor,
     Timer as WrittenTimer, Value,

@@ -2,18 +2,18 @@
 
 ghost use Rattle.std.specs.Prelude.{◌≡◌, Some, IfErr, IfOk, OnOk, not, option_map};
 ghost use Rattle.lft_tree.specs.ItemView.{time_view};
-ghost use Rattle.lft_meanings.specs.Refused.{IfRefused, IsAt};
+ghost use Rattle.lft_lower.specs.Meanings.Refused.{IfRefused, IsAt};
 ghost use Rattle.lft_lower.specs.Lowered.{IsRead, is_forever, is_some_time, time_at};
 ghost use Rattle.lft_lower.specs.Refused.{IsNoTime, IsNoWritten, IsOfTime};
-ghost use Rattle.lft_meanings.specs.Meanings.{token_in};
+ghost use Rattle.lft_lower.specs.Meanings.Meanings.{token_in};
 ghost use Rattle.lft_lower.specs.Standing.{time_token, time_tokens, written_tokens};
 ghost use Rattle.lft_lower.specs.Times.{IsTime, IsWritten, named_by, time_for, time_in};
 
-use lft_meanings::places::Within;
-use lft_scope::times::nanoseconds;
-use lft_shapes::{InheritedParameter, Shape, Thing};
-use lft_sources::{Stop, Why};
+use crate::meanings::places::Within;
+use lft_classes::{InheritedParameter, Shape, Thing};
+use lft_resolve::times::nanoseconds;
 use lft_tree::{Time, TimeExpression};
+use lft_whole::sources::{Stop, Why};
 use lft_whole::{Expression, Value};
 use std::alloc::Global;
 

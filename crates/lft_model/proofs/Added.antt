@@ -8,10 +8,10 @@ use Rattle.lft_tag.specs.Tags.{Before, UpTo}
 use Rattle.lft_tag.proofs.Order.{UpTo-not, Before-irrefl}
 use Rattle.lft_lists.proofs.Places.{get_left, get_append_cases}
 use Rattle.lft_lists.proofs.Mapped.{mapped_from}
-use Rattle.lft_flat.specs.declared.parts.Value.{Value}
-use Rattle.lft_steps.specs.declared.row.Row.{Row}
-use Rattle.lft_steps.specs.declared.row.Step.{Step}
-use Rattle.lft_steps.specs.declared.row.Step.TheVariants.{Start, Read, Write, Schedule, Stop, End}
+use Rattle.lft_ir.specs.declared.parts.Value.{Value}
+use Rattle.lft_ir.specs.declared.steps.row.Row.{Row}
+use Rattle.lft_ir.specs.declared.steps.row.Step.{Step}
+use Rattle.lft_ir.specs.declared.steps.row.Step.TheVariants.{Start, Read, Write, Schedule, Stop, End}
 use Rattle.lft_model.specs.Plans.{PlanParts, IsSoundPlan}
 use Rattle.lft_model.specs.Presence.{Inputs, stop}
 use Rattle.lft_model.specs.Runs.{Run, start_row, end_row, reads_at, ended_by, by_ends}

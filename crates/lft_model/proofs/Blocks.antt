@@ -5,14 +5,14 @@ use Rattle.lft_tag.specs.Tags.{same_tag}
 use Rattle.lft_lists.proofs.Members.{Mem, mem_get, get_mem, mem_right, mem_cases, mem_from_map, none_nil, filter_map-map, filter_map-flat_map}
 use Rattle.lft_lists.proofs.Places.{get_append_cases, get_left}
 use Rattle.lft_lists.proofs.Mapped.{mapped, mapped_from}
-use Rattle.lft_flat.specs.Parts.{Parts}
-use Rattle.lft_flat.specs.declared.parts.Value.{Value}
-use Rattle.lft_flat.specs.declared.parts.Name.{Name}
-use Rattle.lft_flat.specs.Naming.{same_name}
-use Rattle.lft_flat.proofs.Naming.{name_same, name_self}
-use Rattle.lft_steps.specs.declared.row.Row.{Row}
-use Rattle.lft_steps.specs.declared.row.Step.{Step}
-use Rattle.lft_steps.specs.declared.row.Step.TheVariants.{Start, Read, Write, Schedule, Stop, End}
+use Rattle.lft_ir.specs.Parts.{Parts}
+use Rattle.lft_ir.specs.declared.parts.Value.{Value}
+use Rattle.lft_ir.specs.declared.parts.Name.{Name}
+use Rattle.lft_ir.specs.Naming.{same_name}
+use Rattle.lft_ir.proofs.Naming.{name_same, name_self}
+use Rattle.lft_ir.specs.declared.steps.row.Row.{Row}
+use Rattle.lft_ir.specs.declared.steps.row.Step.{Step}
+use Rattle.lft_ir.specs.declared.steps.row.Step.TheVariants.{Start, Read, Write, Schedule, Stop, End}
 use Rattle.lft_model.specs.Runs.{Run, inputs_of, read_step, value_read, step_of, closing_steps, steps_of_run, rows_of_run, rows_of}
 use Rattle.lft_model.proofs.Steps.{both_true}
 use Rattle.lft_model.proofs.Counted.{NamesApart}

@@ -8,11 +8,11 @@ use Rattle.lft_tag.specs.Tags.{Before, UpTo, after}
 use Rattle.lft_tag.proofs.Order.{UpTo-not, UpTo-trans, UpTo-Before, Before-weaken, after_past}
 use Rattle.lft_lists.proofs.Members.{Mem, mem_get, mem_cases, mem_from_map, mem_from_filter, none_nil, last-append_nil}
 use Rattle.lft_lists.proofs.Places.{get_left, get_append_cases}
-use Rattle.lft_flat.specs.declared.parts.Value.{Value}
-use Rattle.lft_flat.specs.declared.parts.Name.{Name}
-use Rattle.lft_steps.specs.declared.row.Row.{Row}
-use Rattle.lft_steps.specs.declared.row.Step.{Step}
-use Rattle.lft_steps.specs.declared.row.Step.TheVariants.{Start, Read, Write, Schedule, Stop, End}
+use Rattle.lft_ir.specs.declared.parts.Value.{Value}
+use Rattle.lft_ir.specs.declared.parts.Name.{Name}
+use Rattle.lft_ir.specs.declared.steps.row.Row.{Row}
+use Rattle.lft_ir.specs.declared.steps.row.Step.{Step}
+use Rattle.lft_ir.specs.declared.steps.row.Step.TheVariants.{Start, Read, Write, Schedule, Stop, End}
 use Rattle.lft_model.specs.Plans.{PlanParts, IsSoundPlan}
 use Rattle.lft_model.specs.Presence.{Inputs, requests, stop}
 use Rattle.lft_model.specs.Runs.{Run, start_row, end_row, value_read, read_of, step_of, steps_of, inputs_of, reads_at, run_at, ended_by, by_ends}

@@ -4,24 +4,24 @@ use Rattle.std.specs.List.{last_or, AllZip}
 use Rattle.std.proofs.Math.Nat.{mul-le-mul_left}
 use Rattle.std.proofs.Math.IntN.{ℤ_discrete}
 use native.Mathlib.Decide.{ℕ_discrete}
-use Rattle.lft_flat.proofs.Origins.{origin_unique}
+use Rattle.lft_ir.proofs.Origins.{origin_unique}
 use Rattle.lft_tag.specs.declared.Tag.{Tag}
 use Rattle.lft_tag.specs.Tags.{after_all}
 use Rattle.lft_lists.proofs.Members.{mem_get, get_mem, last_mem, mem_from_filter, mem_contains, contains_mem}
-use Rattle.lft_flat.specs.Parts.{Parts, inputs}
-use Rattle.lft_flat.specs.Sound.{IsSound}
-use Rattle.lft_flat.specs.Origins.{Origin}
-use Rattle.lft_flat.specs.Origins.Origin.{itself, over}
-use Rattle.lft_flat.specs.declared.parts.Port.{Port as PortOf}
-use Rattle.lft_flat.specs.declared.parts.Timer.{Timer as TimerOf}
-use Rattle.lft_flat.specs.declared.parts.Reaction.{Reaction}
-use Rattle.lft_flat.specs.declared.parts.Value.{Value}
-use Rattle.lft_flat.specs.declared.parts.Value.TheVariants.{Bare, Int}
-use Rattle.lft_flat.specs.declared.parts.Name.{Name}
-use Rattle.lft_flat.specs.declared.parts.Name.TheVariants.{Port, Action}
-use Rattle.lft_flat.specs.declared.parts.Trigger.{Trigger}
-use Rattle.lft_flat.specs.declared.parts.Trigger.TheVariants.{Startup, Shutdown, Timer, On}
-use Rattle.lft_steps.specs.declared.row.Row.{Row}
+use Rattle.lft_ir.specs.Parts.{Parts, inputs}
+use Rattle.lft_ir.specs.Sound.{IsSound}
+use Rattle.lft_ir.specs.Origins.{Origin}
+use Rattle.lft_ir.specs.Origins.Origin.{itself, over}
+use Rattle.lft_ir.specs.declared.parts.Port.{Port as PortOf}
+use Rattle.lft_ir.specs.declared.parts.Timer.{Timer as TimerOf}
+use Rattle.lft_ir.specs.declared.parts.Reaction.{Reaction}
+use Rattle.lft_ir.specs.declared.parts.Value.{Value}
+use Rattle.lft_ir.specs.declared.parts.Value.TheVariants.{Bare, Int}
+use Rattle.lft_ir.specs.declared.parts.Name.{Name}
+use Rattle.lft_ir.specs.declared.parts.Name.TheVariants.{Port, Action}
+use Rattle.lft_ir.specs.declared.parts.Trigger.{Trigger}
+use Rattle.lft_ir.specs.declared.parts.Trigger.TheVariants.{Startup, Shutdown, Timer, On}
+use Rattle.lft_ir.specs.declared.steps.row.Row.{Row}
 use Rattle.lft_model.specs.Plans.{PlanParts}
 use Rattle.lft_model.specs.Presence.{written, Fires, events_of, Last, At, IsPresent, Triggered, Occurs, Shows, Inputs, stop}
 use Rattle.lft_model.specs.Runs.{Ran, start_row}

@@ -5,12 +5,12 @@ use Rattle.std.proofs.lemmas.List.{take_all}
 use Rattle.lft_tag.specs.declared.Tag.{Tag}
 use Rattle.lft_tag.specs.Tags.{UpTo, same_tag, after}
 use Rattle.lft_lists.proofs.Members.{Mem, mem_get, get_mem, mem_left, mem_right, mem_cases, mem_map, mem_from_map, mem_filter, mem_from_filter, mem_flat, mem_from_flat, last_mem, last_of_mem, mem_contains, contains_mem}
-use Rattle.lft_flat.specs.declared.parts.Value.{Value}
-use Rattle.lft_flat.specs.declared.parts.Name.{Name}
-use Rattle.lft_flat.specs.declared.parts.Name.TheVariants.{Port, Action}
-use Rattle.lft_steps.specs.declared.row.Row.{Row}
-use Rattle.lft_steps.specs.declared.row.Step.{Step}
-use Rattle.lft_steps.specs.declared.row.Step.TheVariants.{Start, Read, Write, Schedule, Stop, End}
+use Rattle.lft_ir.specs.declared.parts.Value.{Value}
+use Rattle.lft_ir.specs.declared.parts.Name.{Name}
+use Rattle.lft_ir.specs.declared.parts.Name.TheVariants.{Port, Action}
+use Rattle.lft_ir.specs.declared.steps.row.Row.{Row}
+use Rattle.lft_ir.specs.declared.steps.row.Step.{Step}
+use Rattle.lft_ir.specs.declared.steps.row.Step.TheVariants.{Start, Read, Write, Schedule, Stop, End}
 use Rattle.lft_model.specs.Plans.{PlanParts}
 use Rattle.lft_model.specs.Presence.{written, value_written, scheduled, value_scheduled, given, min_delay, events_of, Last, IsWrittenFrom, IsPresent, asked, requests, stop}
 use Rattle.lft_model.specs.Runs.{Run, end_row, steps_of, effects_of, reads_at, run_at, ended_by, by_ends, steps_of_run, rows_of_run, rows_of}

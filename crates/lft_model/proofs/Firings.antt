@@ -3,7 +3,7 @@ use Rattle.std.proofs.Common.{◌≡◌, ℕ, ◌+◌, ◌-◌, ◌*◌, ◌/◌
 use Rattle.std.proofs.lemmas.Nat.{div-add-mod', mod-mul-add}
 use Rattle.lft_tag.specs.declared.Tag.{Tag}
 use Rattle.lft_tag.proofs.Chains.{tag_of}
-use Rattle.lft_flat.specs.declared.parts.Timer.{Timer as TimerOf}
+use Rattle.lft_ir.specs.declared.parts.Timer.{Timer as TimerOf}
 use Rattle.lft_model.specs.Presence.{Fires}
 
 pub time_of : (g : Tag) (time : ℕ) → g ≡ record { time = time; micro = 0 } → (g.time ≡ time) × (g.micro ≡ 0)

@@ -7,16 +7,16 @@ use Rattle.lft_tag.specs.Tags.{Before, UpTo, after, after_all}
 use Rattle.lft_tag.proofs.Order.{order_cases, UpTo-refl, UpTo-trans, UpTo-Before, UpTo_antisym, Before-weaken, UpTo-not, Before-irrefl, after_past, after_some_past}
 use Rattle.lft_lists.proofs.Members.{Mem, mem_get, none_nil, mem_contains}
 use Rattle.lft_lists.proofs.Places.{get_left}
-use Rattle.lft_flat.specs.Parts.{Parts, inputs}
-use Rattle.lft_flat.specs.Origins.{Origin}
-use Rattle.lft_flat.specs.declared.parts.Reaction.{Reaction}
-use Rattle.lft_flat.specs.declared.parts.Value.{Value}
-use Rattle.lft_flat.specs.declared.parts.Name.{Name}
-use Rattle.lft_flat.specs.declared.parts.Name.TheVariants.{Port, Action}
-use Rattle.lft_flat.specs.declared.parts.Trigger.{Trigger}
-use Rattle.lft_flat.specs.declared.parts.Trigger.TheVariants.{Startup, Shutdown, Timer, On}
-use Rattle.lft_steps.specs.declared.row.Row.{Row}
-use Rattle.lft_steps.specs.declared.row.Step.TheVariants.{Start, Read, Write, Schedule, Stop, End}
+use Rattle.lft_ir.specs.Parts.{Parts, inputs}
+use Rattle.lft_ir.specs.Origins.{Origin}
+use Rattle.lft_ir.specs.declared.parts.Reaction.{Reaction}
+use Rattle.lft_ir.specs.declared.parts.Value.{Value}
+use Rattle.lft_ir.specs.declared.parts.Name.{Name}
+use Rattle.lft_ir.specs.declared.parts.Name.TheVariants.{Port, Action}
+use Rattle.lft_ir.specs.declared.parts.Trigger.{Trigger}
+use Rattle.lft_ir.specs.declared.parts.Trigger.TheVariants.{Startup, Shutdown, Timer, On}
+use Rattle.lft_ir.specs.declared.steps.row.Row.{Row}
+use Rattle.lft_ir.specs.declared.steps.row.Step.TheVariants.{Start, Read, Write, Schedule, Stop, End}
 use Rattle.lft_model.specs.Plans.{PlanParts, IsSoundPlan}
 use Rattle.lft_graph.specs.Precedence.{Precedes}
 use Rattle.lft_graph.specs.Precedence.Precedes.{one, more}

@@ -3,18 +3,18 @@ use Rattle.std.proofs.Common.{◌≡◌, ℕ, ◌+◌, ◌<◌, List, length, ta
 use Rattle.std.specs.List.{last_or}
 use Rattle.std.proofs.lemmas.List.{take_all}
 use native.Mathlib.Decide.{ℕ_discrete}
-use Rattle.lft_flat.proofs.Origins.{origin_unique}
+use Rattle.lft_ir.proofs.Origins.{origin_unique}
 use Rattle.lft_tag.specs.declared.Tag.{Tag}
 use Rattle.lft_tag.specs.Tags.{after_all, same_tag}
 use Rattle.lft_tag.specs.Shifts.{shifted}
 use Rattle.lft_tag.proofs.Chains.{shifted_chain}
 use Rattle.lft_lists.proofs.Members.{Mem, LastAt, mem_get, get_mem, mem_filter, mem_from_filter, last_mem, last_of_mem, last_at, last_by_place, last_more_none, last_more_some}
-use Rattle.lft_flat.specs.Parts.{Parts}
-use Rattle.lft_flat.specs.Origins.{Origin}
-use Rattle.lft_flat.specs.declared.parts.Port.{Port as PortOf}
-use Rattle.lft_flat.specs.declared.parts.Value.{Value}
-use Rattle.lft_flat.specs.declared.parts.Name.TheVariants.{Port}
-use Rattle.lft_steps.specs.declared.row.Row.{Row}
+use Rattle.lft_ir.specs.Parts.{Parts}
+use Rattle.lft_ir.specs.Origins.{Origin}
+use Rattle.lft_ir.specs.declared.parts.Port.{Port as PortOf}
+use Rattle.lft_ir.specs.declared.parts.Value.{Value}
+use Rattle.lft_ir.specs.declared.parts.Name.TheVariants.{Port}
+use Rattle.lft_ir.specs.declared.steps.row.Row.{Row}
 use Rattle.lft_model.specs.Plans.{PlanParts, IsSoundPlan}
 use Rattle.lft_model.specs.Presence.{value_written, written, IsWrittenFrom, At, IsPresent, PortClash}
 use Rattle.lft_model.proofs.Places.{slice_get_within}

@@ -8,10 +8,10 @@ use Rattle.std.proofs.lemmas.List.Edits.{get_or-insert_at, get_or-insert_below, 
 use Rattle.lft_tag.specs.declared.NoMemory.{NoMemory}
 use Rattle.lft_tag.specs.declared.Tag.{Tag}
 use Rattle.lft_tag.specs.Tags.{IsRecorded}
-use Rattle.lft_flat.specs.Parts.{Parts}
-use Rattle.lft_steps.specs.declared.externals.Event.{Event}
-use Rattle.lft_steps.specs.Inputs.{ExternalInputs, IsTold}
-use Rattle.lft_steps.specs.Fits.{EventFits, ExternalsFit}
+use Rattle.lft_ir.specs.Parts.{Parts}
+use Rattle.lft_ir.specs.declared.steps.externals.Event.{Event}
+use Rattle.lft_ir.specs.Steps.Inputs.{ExternalInputs, IsTold}
+use Rattle.lft_ir.specs.Steps.Fits.{EventFits, ExternalsFit}
 
 module _ {X : Type 0} (P : X → Type 0) (xs : List X) (i : ℕ) (y : X) (l : i ≤ length xs) (each : (k : ℕ) (x : X) → slice_get xs k ≡ Some x → P x) where
   of_old : (k : ℕ) (x : X) → k < length xs → get_or xs k x ≡ x → P x

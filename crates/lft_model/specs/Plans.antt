@@ -1,8 +1,8 @@
 -- What contracts see of a plan: the flat program and the external inputs.
-use Rattle.lft_flat.specs.Parts.{Parts}
-use Rattle.lft_flat.specs.Sound.{IsSound}
-use Rattle.lft_steps.specs.Inputs.{ExternalInputs, InOrder}
-use Rattle.lft_steps.specs.Fits.{ExternalsFit}
+use Rattle.lft_ir.specs.Parts.{Parts}
+use Rattle.lft_ir.specs.Sound.{IsSound}
+use Rattle.lft_ir.specs.Steps.Inputs.{ExternalInputs, InOrder}
+use Rattle.lft_ir.specs.Steps.Fits.{ExternalsFit}
 use Rattle.lft_graph.specs.Precedence.{IsLevelled}
 
 -- a program with the external inputs that it is given

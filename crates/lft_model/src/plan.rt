@@ -3,9 +3,9 @@
 ghost use Rattle.std.specs.Prelude.{◌≡◌, ◌↔◌, ◌≤◌, ◌<◌, ℕ, List, length, Err, IfOk, IfSome, IfNone, OnOk, OnErr, IsTrue};
 ghost use Rattle.std.specs.List.{insert};
 
-use lft_flat::Program;
 use lft_graph::{Graph, GraphFault};
-use lft_steps::{Event, Externals};
+use lft_ir::Program;
+use lft_ir::steps::{Event, Externals};
 use lft_tag::{NoMemory, Tag};
 use std::alloc::Global;
 use std::marker::Model;
@@ -33,8 +33,8 @@ impl Model for Plan {
 
 impl Plan {
     ghost use Rattle.lft_tag.specs.Tags.{IsRecorded};
-    ghost use Rattle.lft_steps.specs.Fits.{EventFits, ExternalsFit};
-    ghost use Rattle.lft_steps.specs.Inputs.{IsTold};
+    ghost use Rattle.lft_ir.specs.Steps.Fits.{EventFits, ExternalsFit};
+    ghost use Rattle.lft_ir.specs.Steps.Inputs.{IsTold};
     ghost use Rattle.lft_graph.specs.Graph.{IsGraphOf};
     ghost use Rattle.lft_graph.specs.Loops.{IsLoop};
     ghost use Rattle.lft_graph.specs.Precedence.{HasNoLoop, IsLevelled};

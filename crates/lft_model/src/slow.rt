@@ -1,9 +1,9 @@
 //! Presence, triggering, collisions and inputs, plainly over all rows: for tests and for readers.
 
 ghost use Rattle.std.specs.Prelude.{◌≡◌, ◌<◌, ◌↔◌, List, Option, length, IsTrue, IfSome, IfNone, IfOk};
-ghost use Rattle.lft_flat.specs.Sound.{IsNameOf, IsTriggerOf};
-ghost use Rattle.lft_flat.specs.declared.parts.Value.{Value as Carried};
-ghost use Rattle.lft_steps.specs.Fits.{RowsFit};
+ghost use Rattle.lft_ir.specs.Sound.{IsNameOf, IsTriggerOf};
+ghost use Rattle.lft_ir.specs.declared.parts.Value.{Value as Carried};
+ghost use Rattle.lft_ir.specs.Steps.Fits.{RowsFit};
 ghost use Rattle.lft_model.specs.Fitting.{EachFits};
 ghost use Rattle.lft_model.specs.Presence.{At, IsPresent, OccursUntil, Triggered, Collision, Inputs};
 
@@ -15,8 +15,8 @@ use crate::reads::Reads;
 use crate::stop::trace_stop;
 use crate::timers::fires;
 use actions::{action_clashes, action_value};
-use lft_flat::{Name, Trigger, Value};
-use lft_steps::{Row, Rows};
+use lft_ir::steps::{Row, Rows};
+use lft_ir::{Name, Trigger, Value};
 use lft_tag::{NoMemory, Tag};
 use ports::{port_clashes, port_value};
 use std::alloc::Global;

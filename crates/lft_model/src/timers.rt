@@ -3,7 +3,7 @@
 ghost use Rattle.std.specs.Prelude.{IsTrue, ◌↔◌};
 ghost use Rattle.lft_model.specs.Presence.{Fires};
 
-use lft_flat::Timer;
+use lft_ir::Timer;
 use lft_tag::Tag;
 
 /// Whether the timer fires at the tag.

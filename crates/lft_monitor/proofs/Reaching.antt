@@ -1,129 +1,125 @@
--- What is told of a log while it comes, over more bytes.
-use Rattle.std.proofs.Common.{◌≡◌, ◌<◌, ◌≤◌, ◌/◌, ◌*◌, ℕ, Bool, true, false, Result, Ok, Err, List, [], ◌∷◌, ◌++◌, inl, inr, Option, length, append-nil, refl, sym, ap, subst, arith}
-use Rattle.std.specs.Prelude.{flat_map}
-use Rattle.std.specs.Io.KnownBytes.{Appends}
-use Rattle.std.proofs.KnownBytes.{Appends-kept, Appends-nil, Appends-trans}
-use Rattle.std.proofs.Math.Nat.{le-div_iff_mul-le, le_refl}
-use Rattle.std.proofs.lemmas.Grind.{flat_map-append}
-use Rattle.std.proofs.lemmas.List.{take_all}
-use Rattle.std.proofs.lemmas.List.Elements.{All-append, All-cons, All-nil, All-weaker}
+-- How far rows reach, one row after another.
+use Rattle.std.proofs.Common.{◌≡◌, ℕ, ◌+◌, ◌<◌, ◌⊎◌, inl, inr, List, [], ◌∷◌, ◌++◌, length, take, length-append, refl, sym, ap, ◌∙◌, subst, arith, Option, Some, None, slice_get}
+use native.Mathlib.Decide.{dec_lt}
 use Rattle.lft_tag.specs.declared.Tag.{Tag}
-use Rattle.lft_trace.specs.declared.log_table.Line.{Line}
-use Rattle.lft_steps.specs.declared.row.Row.{Row}
-use Rattle.lft_model.specs.Plans.{PlanParts}
-use Rattle.lft_load.specs.Written.{AppendsFront}
-use Rattle.lft_load.specs.declared.fault.Fault.{Fault}
-use Rattle.lft_follow.specs.Follows.{IsFollowerOf, IsJudged}
-use Rattle.lft_follow.specs.declared.reach.Reach.{Reach}
-use Rattle.lft_front.specs.Explained.{WriteRefusal}
-use Rattle.lft_front.proofs.Behind.{front_both}
-use Rattle.lft_log.specs.Logs.{rows}
-use Rattle.lft_log.specs.Told.{IsLog}
-use Rattle.lft_log.specs.declared.log.Log.{Log}
-use Rattle.lft_log.proofs.Finishing.{tells_plan}
-use Rattle.lft_log.proofs.Holding.{hold_longer}
-use Rattle.lft_monitor.specs.Lines.{unbroken_words}
-use Rattle.lft_monitor.specs.Reaches.{IsReachOf, OfReaches, WritesOrFails}
+use Rattle.lft_tag.specs.Tags.{Before, UpTo}
+use Rattle.lft_tag.proofs.Order.{Before-trans, split_up}
+use Rattle.lft_lists.proofs.Places.{get_push, get_last, get_push_cases, same_at}
+use Rattle.lft_ir.specs.declared.steps.row.Row.{Row}
+use Rattle.lft_ir.specs.declared.steps.row.Step.TheVariants.{Start}
+use Rattle.lft_model.specs.Runs.{start_row, Ran}
+use Rattle.lft_model.proofs.Places.{slice_get_within, slice_get_take, slice_get_taken}
+use Rattle.lft_rows.specs.Slices.{AreTags, Rises}
+use Rattle.lft_rows.proofs.Counted.{count_start, count_inner}
+use Rattle.lft_rows.proofs.Steps.{row_eq}
+use Rattle.lft_monitor.specs.Reach.{IsLastOf, IsReach}
+use Rattle.lft_monitor.specs.declared.reach.Reach.{Reach}
 
--- no line is told
-pub none_told : (base : PlanParts) (bytes : List ℕ) (every : ℕ) (P : List ℕ → Type 0) → P [] → OfReaches base bytes every P
-none_told base bytes every P p = ([], All-nil (IsReachOf base bytes every), p)
+module _ (t : List Row) (n : ℕ) (row : Row) (at : slice_get t n ≡ Some row) where
+  ran_more : (g : Tag) (c : ℕ) → Ran (take n t) g c → Ran (take (n + 1) t) g c
+  ran_more g c x = let p = slice_get_take n t x.place (start_row x.worker g c) x.starts in let l : x.place < n = p.0 in record { place = x.place; worker = x.worker; starts = slice_get_taken (n + 1) t x.place (start_row x.worker g c) (omega arith) p.1 }
 
--- one is
-pub one_told : (base : PlanParts) (bytes : List ℕ) (every : ℕ) (r : Reach) (P : List ℕ → Type 0) → IsReachOf base bytes every r → P (unbroken_words r) → OfReaches base bytes every P
-one_told base bytes every r P is p = (r ∷ [], All-cons (IsReachOf base bytes every) r [] is (All-nil (IsReachOf base bytes every)), subst P (sym (append-nil (unbroken_words r))) p)
+  ran_cases : (g : Tag) (c : ℕ) → Ran (take (n + 1) t) g c → Ran (take n t) g c ⊎ ((w : ℕ) × (row ≡ start_row w g c))
+  ran_cases g c x = go (dec_lt x.place n)
+    where
+      p : (x.place < n + 1) × (slice_get t x.place ≡ Some (start_row x.worker g c))
+      p = slice_get_take (n + 1) t x.place (start_row x.worker g c) x.starts
 
--- nothing is written where nothing is told
-pub writes_none : {X : Type 0} (r : Result X Fault) (o : Option (List ℕ)) → WritesOrFails r o o []
-writes_none (Ok x) o = Appends-nil o
-writes_none (Err f) o = ((λ n. Appends-nil o), (0, Appends-nil o))
+      go : Dec (x.place < n) → Ran (take n t) g c ⊎ ((w : ℕ) × (row ≡ start_row w g c))
+      go (yes l) = inl (record { place = x.place; worker = x.worker; starts = slice_get_taken n t x.place (start_row x.worker g c) l p.1 })
+      go (no m) = let a : x.place < n + 1 = p.0 in inr (x.worker, same_at t n x.place row (start_row x.worker g c) at p.1 (omega arith))
 
--- a log that has rows has its header
-pub is_begun : (base plan : PlanParts) (until : Option Tag) (bytes : List ℕ) (log : Log) → IsLog base plan until bytes log → 0 < log.rows → log.is_begun ≡ true
-is_begun base plan until bytes log is some = go log.is_begun refl
-  where
-    go : (b : Bool) → log.is_begun ≡ b → log.is_begun ≡ true
-    go true e = e
-    go false e =
-        let none : length (rows is.kept.lines) ≡ 0 = ap (λ (l : List Line). length (rows l)) (is.kept.fresh e).1 in
-        let counted = is.kept.counted in
-        absurd (omega (arith, none, counted, some))
+  -- the tags stay as they are
+  tags_same : (gs : List Tag) → AreTags (take n t) gs → ((g : Tag) (c w : ℕ) → row ≡ start_row w g c → (k : ℕ) × (slice_get gs k ≡ Some g)) → AreTags (take (n + 1) t) gs
+  tags_same gs are own = record { ascending = are.ascending; ran = λ k g e. let x = are.ran k g e in (x.0, ran_more g x.0 x.1); each = λ g c x. go g c (ran_cases g c x) }
+    where
+      go : (g : Tag) (c : ℕ) → Ran (take n t) g c ⊎ ((w : ℕ) × (row ≡ start_row w g c)) → (k : ℕ) × (slice_get gs k ≡ Some g)
+      go g c (inl x) = are.each g c x
+      go g c (inr x) = own g c x.0 x.1
 
--- how far the rows of a log are judged
-pub reach_of : (base plan : PlanParts) (until : Option Tag) (bytes : List ℕ) (every : ℕ) (log : Log) (r : Reach) → IsLog base plan until bytes log → ((t : List Row) → IsFollowerOf plan t log.follower → IsJudged plan t r) → 0 < every → 0 < log.rows / every → IsReachOf base bytes every r
-reach_of base plan until bytes every log r is judged asked some = record {
-  plan = plan;
-  t = rows is.kept.lines;
-  others = [];
-  rest = log.rest.items;
-  tells = tells_plan base plan until bytes log.rest.items log.rest.items log is.kept (is.kept.begun (is_begun base plan until bytes log is (omega (arith, least, asked))));
-  judged = judged (rows is.kept.lines) is.kept.follower;
-  asked = asked;
-  many = many;
-}
-  where
-    least : 1 * every ≤ log.rows
-    least = (le-div_iff_mul-le asked).0 some
+  -- a row that starts no run
+  pub reach_inner : (r : Reach) → ¬ (row.step ≡ Start) → IsReach (take n t) r → IsReach (take (n + 1) t) r
+  reach_inner r not old = record {
+    runs_are = old.runs_are ∙ sym (count_inner t n row at not);
+    tags = old.tags;
+    tags_are = tags_same old.tags old.tags_are (λ g c w e. absurd (not (ap (λ (x : Row). x.step) e)));
+    many = old.many;
+    last = old.last;
+  }
 
-    many : every ≤ length (rows is.kept.lines)
-    many = let n = is.kept.counted in omega (arith, least, n)
+  at_end : (gs before : List Tag) (g : Tag) → gs ≡ before ++ g ∷ [] → slice_get gs (length before) ≡ Some g
+  at_end gs before g is = subst (λ (xs : List Tag). slice_get xs (length before) ≡ Some g) (sym is) (get_last before g)
 
--- of more bytes it is so still
-reach_longer : (base : PlanParts) (bytes more : List ℕ) (every : ℕ) (r : Reach) → IsReachOf base bytes every r → IsReachOf base (bytes ++ more) every r
-reach_longer base bytes more every r is = record {
-  plan = is.plan;
-  t = is.t;
-  others = is.others;
-  rest = is.rest ++ more;
-  tells = record {
-    lines = is.tells.lines;
-    held = hold_longer base.program bytes is.rest more is.tells.lines is.others is.tells.held;
-    rows_are = is.tells.rows_are;
-    timely = is.tells.timely;
-    told = is.tells.told;
-  };
-  judged = is.judged;
-  asked = is.asked;
-  many = is.many;
-}
+  -- one more run at the last tag
+  pub reach_same : (r new : Reach) → row.step ≡ Start → r.tag ≡ Some row.tag → IsReach (take n t) r → new.runs ≡ r.runs + 1 → new.tags ≡ r.tags → new.tag ≡ r.tag → IsReach (take (n + 1) t) new
+  reach_same r new start tag old runs many same = record {
+    runs_are = runs ∙ ap (λ k. k + 1) old.runs_are ∙ sym (count_start t n row at start);
+    tags = old.tags;
+    tags_are = tags_same old.tags old.tags_are (λ g c w e. let is : row.tag ≡ g = ap (λ (x : Row). x.tag) e in (length here.0, at_end old.tags here.0 g (here.1 ∙ ap (λ (k : Tag). here.0 ++ k ∷ []) is)));
+    many = many ∙ old.many;
+    last = subst (IsLastOf old.tags) (sym same) old.last;
+  }
+    where
+      here : (before : List Tag) × (old.tags ≡ before ++ row.tag ∷ [])
+      here = subst (IsLastOf old.tags) tag old.last
 
-pub longer : (base : PlanParts) (bytes more : List ℕ) (every : ℕ) (P : List ℕ → Type 0) → OfReaches base bytes every P → OfReaches base (bytes ++ more) every P
-longer base bytes more every P (rs, each, p) = (rs, All-weaker (IsReachOf base bytes every) (IsReachOf base (bytes ++ more) every) (λ r. reach_longer base bytes more every r) rs each, p)
+  module _ (rises : Rises t) where
+    before_row : (g : Tag) (c : ℕ) → Ran (take n t) g c → UpTo g row.tag
+    before_row g c x = let p = slice_get_take n t x.place (start_row x.worker g c) x.starts in rises x.place n (start_row x.worker g c) row p.0 p.1 at
 
--- some lines and then others
-writes_both : {X : Type 0} (r : Result X Fault) (old mid new : Option (List ℕ)) (a b : List ℕ) → Appends old mid a → WritesOrFails r mid new b → WritesOrFails r old new (a ++ b)
-writes_both (Ok x) old mid new a b first more = Appends-trans old mid new a b first more
-writes_both (Err f) old mid new a b first more =
-    let both = front_both (λ x. x ≡ b) (λ x. x ≡ a ++ b) a (λ x e. ap (λ y. a ++ y) e) old mid new first b refl more.1 in
-    ((λ n. Appends-trans old mid new a b first (more.0 n)), subst (AppendsFront old new) both.1 both.2)
+    below : (o : Option Tag) → ¬ (o ≡ Some row.tag) → (gs : List Tag) → AreTags (take n t) gs → IsLastOf gs o → (j : ℕ) (h : Tag) → slice_get gs j ≡ Some h → Before h row.tag
+    below None not gs are none j h e = let l : j < length gs = slice_get_within gs j h e in let z : length gs ≡ 0 = ap (λ (s : List Tag). length s) none in absurd (omega arith)
+    below (Some g) not gs are (before, is) j h e = go (get_push_cases before g j h (subst (λ (xs : List Tag). slice_get xs j ≡ Some h) is e))
+      where
+        last_at : slice_get gs (length before) ≡ Some g
+        last_at = at_end gs before g is
 
-pub told_both : {X : Type 0} (r : Result X Fault) (base : PlanParts) (bytes piece : List ℕ) (every : ℕ) (old mid new : Option (List ℕ)) → OfReaches base bytes every (Appends old mid) → OfReaches base (bytes ++ piece) every (WritesOrFails r mid new) → OfReaches base (bytes ++ piece) every (WritesOrFails r old new)
-told_both r base bytes piece every old mid new first (bs, more, q) =
-    let x = longer base bytes piece every (Appends old mid) first in (
-      x.0 ++ bs,
-      All-append (IsReachOf base (bytes ++ piece) every) x.0 bs x.1 more,
-      subst (WritesOrFails r old new) (sym (flat_map-append unbroken_words x.0 bs)) (writes_both r old mid new (flat_map unbroken_words x.0) (flat_map unbroken_words bs) x.2 q),
-    )
+        last_before : Before g row.tag
+        last_before = split (split_up g row.tag (let x = are.ran (length before) g last_at in before_row g x.0 x.1))
+          where
+            split : Before g row.tag ⊎ (g ≡ row.tag) → Before g row.tag
+            split (inl b) = b
+            split (inr q) = absurd (not (ap Some q))
 
--- nothing was written, and nothing was told
-pub none_written : {X : Type 0} (r : Result X Fault) (base : PlanParts) (bytes : List ℕ) (every : ℕ) (o : Option (List ℕ)) → OfReaches base bytes every (WritesOrFails r o o)
-none_written r base bytes every o = none_told base bytes every (WritesOrFails r o o) (writes_none r o)
+        go : (slice_get before j ≡ Some h) ⊎ ((j ≡ length before) × (g ≡ h)) → Before h row.tag
+        go (inl a) = Before-trans h g row.tag (are.ascending j (length before) h g (slice_get_within before j h a) e last_at) last_before
+        go (inr a) = subst (λ (k : Tag). Before k row.tag) a.1 last_before
 
--- what was written so far is all, whatever the answer
-pub told_all : {X : Type 0} (r : Result X Fault) (base : PlanParts) (bytes : List ℕ) (every : ℕ) (old new : Option (List ℕ)) → OfReaches base bytes every (Appends old new) → OfReaches base bytes every (WritesOrFails r old new)
-told_all (Ok x) base bytes every old new told = told
-told_all (Err f) base bytes every old new (rs, each, p) = (rs, each, ((λ n. p), all))
-  where
-    all : AppendsFront old new (flat_map unbroken_words rs)
-    all = (length (flat_map unbroken_words rs), subst (Appends old new) (sym (take_all (length (flat_map unbroken_words rs)) (flat_map unbroken_words rs) (le_refl _))) p)
+    -- one more run, at a tag that has none so far
+    pub reach_next : (r new : Reach) → row.step ≡ Start → ¬ (r.tag ≡ Some row.tag) → IsReach (take n t) r → new.runs ≡ r.runs + 1 → new.tags ≡ r.tags + 1 → new.tag ≡ Some row.tag → IsReach (take (n + 1) t) new
+    reach_next r new start other old runs many next = record {
+      runs_are = runs ∙ ap (λ k. k + 1) old.runs_are ∙ sym (count_start t n row at start);
+      tags = gs ++ row.tag ∷ [];
+      tags_are = record { ascending = ascending; ran = ran; each = λ g c x. each g c (ran_cases g c x) };
+      many = let a : length (gs ++ row.tag ∷ []) ≡ length gs + length (row.tag ∷ []) = length-append gs (row.tag ∷ []) in let b : length (row.tag ∷ []) ≡ 1 = refl in let c : r.tags ≡ length gs = old.many in let e : new.tags ≡ r.tags + 1 = many in omega arith;
+      last = subst (IsLastOf (gs ++ row.tag ∷ [])) (sym next) (gs, refl);
+    }
+      where
+        gs : List Tag
+        gs = old.tags
 
--- a line that wasn't written: nothing of it was, or a front
-pub told_cut : (X : Type 0) (base : PlanParts) (bytes : List ℕ) (every : ℕ) (r : Reach) (old new : Option (List ℕ)) (f : Fault) → IsReachOf base bytes every r → WriteRefusal (λ text. text ≡ unbroken_words r) old new f → OfReaches base bytes every (WritesOrFails {X = X} (Err f) old new)
-told_cut X base bytes every r old new f is (inl x) =
-    let none = Appends-kept old old new [] (Appends-nil old) x.2 in
-    none_told base bytes every (WritesOrFails {X = X} (Err f) old new) ((λ n. none), (0, none))
-told_cut X base bytes every r old new f is (inr (p, n, (text, e, front))) = one_told base bytes every r (WritesOrFails {X = X} (Err f) old new) is ((λ other. absurd (other p)), subst (AppendsFront old new) e front)
+        before : (j : ℕ) (h : Tag) → slice_get gs j ≡ Some h → Before h row.tag
+        before = below r.tag other gs old.tags_are old.last
 
--- what is more than some number isn't 0
-pub some_more : (a b : ℕ) → a < b → 0 < b
-some_more a b l = omega (arith, l)
+        ascending : (j k : ℕ) (h i : Tag) → j < k → slice_get (gs ++ row.tag ∷ []) j ≡ Some h → slice_get (gs ++ row.tag ∷ []) k ≡ Some i → Before h i
+        ascending j k h i l p q = go (get_push_cases gs row.tag j h p) (get_push_cases gs row.tag k i q)
+          where
+            go : (slice_get gs j ≡ Some h) ⊎ ((j ≡ length gs) × (row.tag ≡ h)) → (slice_get gs k ≡ Some i) ⊎ ((k ≡ length gs) × (row.tag ≡ i)) → Before h i
+            go (inl a) (inl b) = old.tags_are.ascending j k h i l a b
+            go (inl a) (inr b) = subst (λ (z : Tag). Before h z) b.1 (before j h a)
+            go (inr a) (inl b) = let x : k < length gs = slice_get_within gs k i b in let y : j ≡ length gs = a.0 in absurd (omega arith)
+            go (inr a) (inr b) = let x : k ≡ length gs = b.0 in let y : j ≡ length gs = a.0 in absurd (omega arith)
+
+        is : row ≡ start_row row.worker row.tag row.reaction
+        is = row_eq row Start start
+
+        ran : (k : ℕ) (h : Tag) → slice_get (gs ++ row.tag ∷ []) k ≡ Some h → (c : ℕ) × Ran (take (n + 1) t) h c
+        ran k h e = go (get_push_cases gs row.tag k h e)
+          where
+            go : (slice_get gs k ≡ Some h) ⊎ ((k ≡ length gs) × (row.tag ≡ h)) → (c : ℕ) × Ran (take (n + 1) t) h c
+            go (inl a) = let x = old.tags_are.ran k h a in (x.0, ran_more h x.0 x.1)
+            go (inr a) = subst (λ (z : Tag). (c : ℕ) × Ran (take (n + 1) t) z c) a.1 (row.reaction, record { place = n; worker = row.worker; starts = slice_get_taken (n + 1) t n (start_row row.worker row.tag row.reaction) (omega arith) (at ∙ ap Some is) })
+
+        each : (g : Tag) (c : ℕ) → Ran (take n t) g c ⊎ ((w : ℕ) × (row ≡ start_row w g c)) → (k : ℕ) × (slice_get (gs ++ row.tag ∷ []) k ≡ Some g)
+        each g c (inl x) = let k = old.tags_are.each g c x in (k.0, get_push gs row.tag k.0 g k.1)
+        each g c (inr x) = (length gs, get_last gs row.tag ∙ ap Some (ap (λ (y : Row). y.tag) x.1))

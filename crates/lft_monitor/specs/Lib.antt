@@ -1,5 +1,7 @@
-pub mod Lines
+pub mod Sure
+pub mod Timely
+pub mod Going
+pub mod Reach
 pub mod Kept
-pub mod Followed
-pub mod Refusals
-pub mod Reaches
+pub mod OpenRuns
+pub mod Follows

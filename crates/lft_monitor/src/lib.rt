@@ -1,10 +1,21 @@
 #![tactic(auto)]
-//! Traces that are followed while they are written: from readers to printed lines.
+//! What is sure of a trace before all of its rows are there.
 
-mod follow;
+mod follower;
+mod found;
+mod gone;
+mod judged;
 mod kept;
-mod line;
+mod laws;
+mod monitor;
+mod open;
+mod past;
+mod reach;
 
-pub use follow::{Following, drain, follow_log, follow_plan, read_until, status_of_log};
-pub use kept::Kept;
-pub use lft_log::{Ended, Final, Told};
+pub use follower::{Follower, Progress, Receipt};
+pub use found::Found;
+pub use judged::{Closing, Ending, Unjudged};
+pub use laws::{law_sure, law_timely};
+pub use monitor::{go_on, is_unbroken};
+pub use open::OpenRun;
+pub use reach::Reach;

@@ -9,10 +9,10 @@ use Rattle.std.proofs.lemmas.Map.Lookups.{exact_unsigned, exact_pairs}
 use Rattle.lft_lists.proofs.Picked.{kept_more}
 use Rattle.lft_lists.proofs.Places.{get_last}
 use Rattle.lft_tag.proofs.Comparing.{not_equal}
-use Rattle.lft_flat.specs.declared.parts.Name.TheVariants.{Port, Action}
-use Rattle.lft_steps.specs.declared.row.Step.{Step}
-use Rattle.lft_steps.specs.declared.row.Step.TheVariants.{Start, Read, Write, Schedule, Stop, End}
-use Rattle.lft_answers.proofs.Stepping.{last_stays, last_changes}
+use Rattle.lft_ir.specs.declared.parts.Name.TheVariants.{Port, Action}
+use Rattle.lft_ir.specs.declared.steps.row.Step.{Step}
+use Rattle.lft_ir.specs.declared.steps.row.Step.TheVariants.{Start, Read, Write, Schedule, Stop, End}
+use Rattle.lft_rows.proofs.AnswersLemmas.Stepping.{last_stays, last_changes}
 use Rattle.lft_pair.specs.Answering.{place_cmp}
 use Rattle.lft_pair.specs.declared.contrasting.contrasts.Placed.{Placed}
 use Rattle.lft_pair.specs.declared.contrasting.contrasts.LastWrite.{LastWrite}

@@ -17,12 +17,12 @@ use Rattle.lft_lists.proofs.Members.{Mem, mem_from_filter, get_mem}
 use Rattle.lft_lists.proofs.Picked.{kept_more, take_next}
 use Rattle.lft_lists.proofs.Places.{get_last}
 use Rattle.lft_tag.specs.declared.Tag.{Tag}
-use Rattle.lft_flat.specs.declared.parts.Name.{Name}
-use Rattle.lft_flat.specs.declared.parts.Name.TheVariants.{Port, Action}
-use Rattle.lft_flat.specs.declared.parts.Value.{Value}
-use Rattle.lft_steps.specs.declared.row.Row.{Row}
-use Rattle.lft_steps.specs.declared.row.Step.{Step}
-use Rattle.lft_steps.specs.declared.row.Step.TheVariants.{Start, Read, Write, Schedule, Stop, End}
+use Rattle.lft_ir.specs.declared.parts.Name.{Name}
+use Rattle.lft_ir.specs.declared.parts.Name.TheVariants.{Port, Action}
+use Rattle.lft_ir.specs.declared.parts.Value.{Value}
+use Rattle.lft_ir.specs.declared.steps.row.Row.{Row}
+use Rattle.lft_ir.specs.declared.steps.row.Step.{Step}
+use Rattle.lft_ir.specs.declared.steps.row.Step.TheVariants.{Start, Read, Write, Schedule, Stop, End}
 use Rattle.lft_model.specs.Plans.{PlanParts, IsSoundPlan}
 use Rattle.lft_model.specs.Presence.{value_written, value_scheduled}
 use Rattle.lft_model.specs.Runs.{Answer, outcome_of, request_of, effects_of, steps_of}
@@ -32,8 +32,8 @@ use Rattle.lft_model.proofs.Steps.{RowOf, step_mem, written_some, scheduled_some
 use Rattle.lft_model.proofs.Legality.{ordered}
 use Rattle.lft_model.proofs.Kept.{declared_write}
 use Rattle.lft_model.proofs.Reached.{declared_schedule}
-use Rattle.lft_answers.specs.Answers.{answer_of}
-use Rattle.lft_answers.proofs.Stepping.{last_stays, last_changes}
+use Rattle.lft_rows.specs.Answers.Answers.{answer_of}
+use Rattle.lft_rows.proofs.AnswersLemmas.Stepping.{last_stays, last_changes}
 use Rattle.lft_pair.specs.Answering.{writing, scheduling, last_to, SameWritten, SameScheduled, SameAnswers, AreWritten, AreScheduled, place_cmp}
 use Rattle.lft_pair.proofs.Maps.{map_get}
 use Rattle.lft_tag.proofs.Comparing.{not_equal}

@@ -1,7 +1,7 @@
 -- A count with one row more.
 use Rattle.std.proofs.Common.{◌≡◌, ℕ, ◌+◌, ◌≤◌, List, [], ◌∷◌, ◌++◌, length, take, take_all, add-one, sym, ap, ◌∙◌, subst, arith, Some, slice_get}
 use Rattle.lft_lists.proofs.Picked.{take_next}
-use Rattle.lft_steps.specs.declared.row.Row.{Row}
+use Rattle.lft_ir.specs.declared.steps.row.Row.{Row}
 use Rattle.lft_pair.specs.Counts.{Counts, no_row, one_more, passed}
 
 module _ (P : Row → Type 0) where

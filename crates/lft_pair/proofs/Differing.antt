@@ -3,8 +3,8 @@ use Rattle.std.proofs.Common.{◌≡◌, ℕ, zero, suc, ◌+◌, ◌<◌, ◌�
 use Rattle.std.proofs.lemmas.List.Elements.{All-nil, All-push, Contains-append_left, Contains-append_right}
 use native.Mathlib.Decide.{ℕ_discrete}
 use Rattle.lft_lists.proofs.Members.{mem_contains, contains_mem, mem_get, get_mem}
-use Rattle.lft_flat.specs.declared.parts.Name.{Name}
-use Rattle.lft_flat.specs.declared.parts.Name.TheVariants.{Port, Action}
+use Rattle.lft_ir.specs.declared.parts.Name.{Name}
+use Rattle.lft_ir.specs.declared.parts.Name.TheVariants.{Port, Action}
 use Rattle.lft_model.specs.Runs.Outcome.{Written, Scheduled}
 use Rattle.lft_model.proofs.Places.{slice_get_within}
 use Rattle.lft_pair.specs.declared.contrasting.contrasts.Placed.{Placed}

@@ -2,8 +2,8 @@
 use Rattle.std.proofs.Common.{◌≡◌, ℕ, zero, suc, ◌<◌, ◌⊎◌, inl, inr, List, length, refl, sym, ap, ◌∙◌, subst, arith, Option, Some, None, slice_get, Contains}
 use native.Mathlib.Decide.{dec_lt}
 use Rattle.lft_tag.specs.declared.Tag.{Tag}
-use Rattle.lft_flat.specs.Parts.{Parts}
-use Rattle.lft_steps.specs.declared.row.Row.{Row}
+use Rattle.lft_ir.specs.Parts.{Parts}
+use Rattle.lft_ir.specs.declared.steps.row.Row.{Row}
 use Rattle.lft_graph.specs.Precedence.{Direct, Precedes}
 use Rattle.lft_graph.specs.Precedence.Precedes.{one, more}
 use Rattle.lft_graph.specs.Graph.{GraphParts, IsGraphOf}

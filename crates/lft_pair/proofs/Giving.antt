@@ -3,11 +3,11 @@ use Rattle.std.proofs.Common.{◌≡◌, ◌≢◌, ℕ, zero, suc, ◌⊎◌, i
 use Rattle.std.proofs.lemmas.List.Elements.{All-contains}
 use Rattle.lft_lists.proofs.Members.{Mem, mem_contains, contains_mem}
 use Rattle.lft_tag.specs.declared.Tag.{Tag}
-use Rattle.lft_flat.specs.declared.parts.Name.{Name}
-use Rattle.lft_flat.specs.declared.parts.Name.TheVariants.{Port, Action}
-use Rattle.lft_flat.specs.declared.parts.Reaction.{Reaction}
-use Rattle.lft_steps.specs.declared.row.Row.{Row}
-use Rattle.lft_steps.specs.declared.row.Step.{Step}
+use Rattle.lft_ir.specs.declared.parts.Name.{Name}
+use Rattle.lft_ir.specs.declared.parts.Name.TheVariants.{Port, Action}
+use Rattle.lft_ir.specs.declared.parts.Reaction.{Reaction}
+use Rattle.lft_ir.specs.declared.steps.row.Row.{Row}
+use Rattle.lft_ir.specs.declared.steps.row.Step.{Step}
 use Rattle.lft_model.specs.Plans.{PlanParts}
 use Rattle.lft_model.specs.Runs.{Answer, Outcome, answer_at, effects_of, outcome_of, request_of, steps_of}
 use Rattle.lft_model.specs.Runs.Outcome.{Written, Scheduled}
@@ -23,7 +23,7 @@ use Rattle.lft_pair.proofs.Placing.{placed_are}
 use Rattle.lft_pair.proofs.Outcomes.{write_outcome, schedule_outcome, request_outcome}
 use Rattle.lft_pair.proofs.Added.{adds_keeps, adds_one, adds_holds, last_contained}
 use Rattle.lft_pair.specs.Enough.{Adds, TellsAll, TellsReads}
-use Rattle.lft_flat.specs.Parts.{Parts}
+use Rattle.lft_ir.specs.Parts.{Parts}
 use Rattle.lft_lists.proofs.Mapped.{map_same}
 
 event_at : (xs : List Scheduling) (k : ℕ) → event_of (slice_get xs k) ≡ slice_get (map event xs) k

@@ -5,10 +5,10 @@ use native.Mathlib.Decide.{dec_lt, ℕ_discrete}
 use Rattle.lft_tag.specs.declared.Tag.{Tag}
 use Rattle.lft_tag.specs.Tags.{Before, UpTo}
 use Rattle.lft_tag.proofs.Order.{Before-irrefl, Before-trans, Before-weaken, Before-UpTo, order_cases, UpTo-refl, UpTo-trans, UpTo-not, UpTo_antisym}
-use Rattle.lft_steps.specs.declared.row.Row.{Row}
-use Rattle.lft_steps.specs.declared.row.Step.{Step}
-use Rattle.lft_steps.specs.declared.row.Step.TheVariants.{Start}
-use Rattle.lft_steps.specs.Fits.{RowsFit}
+use Rattle.lft_ir.specs.declared.steps.row.Row.{Row}
+use Rattle.lft_ir.specs.declared.steps.row.Step.{Step}
+use Rattle.lft_ir.specs.declared.steps.row.Step.TheVariants.{Start}
+use Rattle.lft_ir.specs.Steps.Fits.{RowsFit}
 use Rattle.lft_graph.specs.Graph.{GraphParts, IsGraphOf}
 use Rattle.lft_lists.proofs.Places.{get_there}
 use Rattle.lft_model.specs.Plans.{PlanParts, IsSoundPlan}

@@ -5,10 +5,10 @@ use Rattle.lft_lists.proofs.Places.{Some_same}
 use Rattle.std.specs.List.{last_or, cons_option}
 use Rattle.lft_lists.proofs.Members.{filter_map-map}
 use Rattle.lft_lists.proofs.Picked.{map-filter_map}
-use Rattle.lft_flat.specs.declared.parts.Name.TheVariants.{Port, Action}
-use Rattle.lft_flat.specs.declared.parts.Value.{Value}
-use Rattle.lft_steps.specs.declared.row.Step.{Step}
-use Rattle.lft_steps.specs.declared.row.Step.TheVariants.{Start, Read, Write, Schedule, Stop, End}
+use Rattle.lft_ir.specs.declared.parts.Name.TheVariants.{Port, Action}
+use Rattle.lft_ir.specs.declared.parts.Value.{Value}
+use Rattle.lft_ir.specs.declared.steps.row.Step.{Step}
+use Rattle.lft_ir.specs.declared.steps.row.Step.TheVariants.{Start, Read, Write, Schedule, Stop, End}
 use Rattle.lft_model.specs.Presence.{value_written, value_scheduled}
 use Rattle.lft_model.specs.Runs.{outcome_of, request_of, is_stop}
 use Rattle.lft_model.specs.Runs.Outcome.{Written, Scheduled}

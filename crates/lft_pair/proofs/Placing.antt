@@ -5,8 +5,8 @@ use Rattle.std.proofs.lemmas.List.FromFn.{length-enumerate_from}
 use Rattle.lft_tag.specs.declared.Tag.{Tag}
 use Rattle.lft_lists.proofs.Picked.{kept_more}
 use Rattle.lft_lists.proofs.Mapped.{enumerate_at}
-use Rattle.lft_steps.specs.declared.row.Row.{Row}
-use Rattle.lft_steps.specs.declared.row.Step.{Step}
+use Rattle.lft_ir.specs.declared.steps.row.Row.{Row}
+use Rattle.lft_ir.specs.declared.steps.row.Step.{Step}
 use Rattle.lft_model.specs.Runs.{step_of, steps_of}
 use Rattle.lft_pair.specs.declared.contrasting.contrasts.Placed.{Placed}
 use Rattle.lft_pair.specs.Runs.{placed, placed_step, placed_steps}

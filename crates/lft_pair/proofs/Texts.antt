@@ -2,8 +2,8 @@
 use Rattle.std.proofs.Common.{◌≡◌, ℕ, ◌+◌, ◌≤◌, List, [], ◌∷◌, ◌++◌, length, max, take, take_all, add-one, append_assoc, sym, ap, ◌∙◌, refl, Some, slice_get, flat_map}
 use Rattle.lft_lists.proofs.Picked.{take_next}
 use Rattle.lft_tag.specs.declared.Tag.{Tag}
-use Rattle.lft_flat.specs.Parts.{Parts}
-use Rattle.lft_words.proofs.Steps.{flat_next}
+use Rattle.lft_ir.specs.Parts.{Parts}
+use Rattle.lft_ir.proofs.WordsLemmas.Steps.{flat_next}
 use Rattle.lft_pair.specs.declared.contrasting.contrasts.Contrast.{Contrast}
 use Rattle.lft_pair.specs.Told.{widest, contrast_words, heading_words, told_in}
 

@@ -2,7 +2,7 @@
 use Rattle.std.specs.Prelude.{◌≡◌, ℕ, List, length, Option, Some, None, slice_get, unwrap_or}
 use Rattle.std.specs.BTreeMap.{BTreeMap, get}
 use Rattle.std.specs.Ordering.{nat_cmp}
-use Rattle.lft_flat.specs.declared.parts.Value.{Value}
+use Rattle.lft_ir.specs.declared.parts.Value.{Value}
 use Rattle.lft_pair.specs.Answering.{writing as step_writing, scheduling as step_scheduling, place_cmp}
 use Rattle.lft_pair.specs.declared.contrasting.contrasts.Placed.{Placed}
 use Rattle.lft_pair.specs.declared.contrasting.contrasts.LastWrite.{LastWrite}

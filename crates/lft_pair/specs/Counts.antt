@@ -2,9 +2,9 @@
 use Rattle.std.specs.Prelude.{◌≡◌, ℕ, ◌+◌, ◌<◌, ◌⊎◌, List, [], ◌∷◌}
 use Rattle.lft_tag.specs.declared.Tag.{Tag}
 use Rattle.lft_tag.specs.Tags.{Before}
-use Rattle.lft_flat.specs.Parts.{Parts}
-use Rattle.lft_steps.specs.declared.row.Row.{Row}
-use Rattle.lft_steps.specs.declared.row.Step.TheVariants.{Start}
+use Rattle.lft_ir.specs.Parts.{Parts}
+use Rattle.lft_ir.specs.declared.steps.row.Row.{Row}
+use Rattle.lft_ir.specs.declared.steps.row.Step.TheVariants.{Start}
 use Rattle.lft_model.specs.Recorded.{instance_of}
 
 -- so many of the rows have a property

@@ -1,11 +1,11 @@
 -- What some contrasts give, and that none is left out.
 use Rattle.std.specs.Prelude.{◌≡◌, ◌≢◌, ℕ, ◌⊎◌, List, ◌++◌, map, Contains, Option, Some, slice_get}
 use Rattle.lft_tag.specs.declared.Tag.{Tag}
-use Rattle.lft_flat.specs.declared.parts.Name.{Name}
-use Rattle.lft_flat.specs.declared.parts.Name.TheVariants.{Port, Action}
-use Rattle.lft_flat.specs.declared.parts.Value.{Value}
-use Rattle.lft_steps.specs.declared.row.Row.{Row}
-use Rattle.lft_steps.specs.declared.row.Step.{Step}
+use Rattle.lft_ir.specs.declared.parts.Name.{Name}
+use Rattle.lft_ir.specs.declared.parts.Name.TheVariants.{Port, Action}
+use Rattle.lft_ir.specs.declared.parts.Value.{Value}
+use Rattle.lft_ir.specs.declared.steps.row.Row.{Row}
+use Rattle.lft_ir.specs.declared.steps.row.Step.{Step}
 use Rattle.lft_model.specs.Plans.{PlanParts}
 use Rattle.lft_model.specs.Runs.{inputs_of, effects_of, answer_at, outcome_of, request_of}
 use Rattle.lft_pair.specs.declared.contrasting.contrasts.Placed.{Placed}

@@ -1,7 +1,7 @@
 -- What shows the difference of two traces.
 use Rattle.std.specs.Prelude.{◌≡◌, ℕ, List}
 use Rattle.lft_tag.specs.declared.Tag.{Tag}
-use Rattle.lft_steps.specs.declared.row.Row.{Row}
+use Rattle.lft_ir.specs.declared.steps.row.Row.{Row}
 use Rattle.lft_model.specs.Plans.{PlanParts}
 use Rattle.lft_pair.specs.declared.contrasting.contrasts.Contrast.{Contrast}
 use Rattle.lft_pair.specs.Contrasts.{AreContrasts}

@@ -6,10 +6,10 @@ ghost use Rattle.std.specs.Bool.{Decides};
 ghost use Rattle.std.specs.Ordering.{nat_cmp};
 ghost use Rattle.lft_pair.specs.Answering.{SameAnswers, SameWritten, SameScheduled, AreWritten, AreScheduled, writing as the_writing, scheduling as the_scheduling};
 
-use lft_answers::requests_stop;
-use lft_flat::{Name, Value};
+use lft_ir::steps::Step;
+use lft_ir::{Name, Value};
 use lft_lists::item_at;
-use lft_steps::Step;
+use lft_rows::answers::requests_stop;
 use lft_tag::NoMemory;
 use std::alloc::Global;
 use std::collections::BTreeMap;

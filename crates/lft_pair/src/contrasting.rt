@@ -1,7 +1,7 @@
 //! Where two traces differ.
 
 ghost use Rattle.std.specs.Prelude.{IfOk, string_bytes};
-ghost use Rattle.lft_steps.specs.Fits.{RowsFit};
+ghost use Rattle.lft_ir.specs.Steps.Fits.{RowsFit};
 ghost use Rattle.lft_model.specs.Breaches.{Legal};
 ghost use Rattle.lft_pair.specs.Pairs.{IsDifference};
 ghost use Rattle.lft_pair.specs.Shown.{ShowsDifference};
@@ -19,8 +19,8 @@ mod telling;
 
 pub use contrasts::{Contrast, Contrasts, LastWrite, Scheduling};
 pub use finding::find;
+use lft_ir::steps::Rows;
 use lft_model::Plan;
-use lft_steps::Rows;
 use lft_tag::{NoMemory, Tag};
 use std::alloc::Global;
 pub use telling::tell;

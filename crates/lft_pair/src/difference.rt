@@ -4,19 +4,19 @@ ghost use Rattle.std.specs.Prelude.{◌≡◌, ◌↔◌, ◌<◌, ◌⊎◌, le
 ghost use Rattle.std.specs.Bool.{Decides};
 ghost use Rattle.lft_tag.specs.Tags.{Before};
 ghost use Rattle.lft_graph.specs.Graph.{GraphParts, IsGraphOf};
-ghost use Rattle.lft_steps.specs.Fits.{RowsFit};
-ghost use Rattle.lft_steps.specs.declared.row.Step.TheVariants.{Start};
+ghost use Rattle.lft_ir.specs.Steps.Fits.{RowsFit};
+ghost use Rattle.lft_ir.specs.declared.steps.row.Step.TheVariants.{Start};
 ghost use Rattle.lft_model.specs.Breaches.{Legal};
 ghost use Rattle.lft_pair.specs.Pairs.{ComesFirst, Agrees, FirstOdd};
 ghost use Rattle.lft_pair.specs.Places.{AreLastStarts, AreUpTo};
-ghost use Rattle.lft_flat.specs.Parts.{Parts};
+ghost use Rattle.lft_ir.specs.Parts.{Parts};
 
 use crate::answers::same_answers;
 use crate::starts::{LastStarts, no_starts};
-use lft_answers::read_steps;
 use lft_graph::Graph;
+use lft_ir::steps::{Row, Step, is_start, row_at};
 use lft_model::Plan;
-use lft_steps::{Row, Step, is_start, row_at};
+use lft_rows::answers::read_steps;
 use lft_tag::{NoMemory, Tag};
 use std::alloc::Global;
 

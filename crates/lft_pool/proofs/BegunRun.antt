@@ -7,14 +7,14 @@ use Rattle.lft_tag.specs.Tags.{UpTo, IsRecorded}
 use Rattle.lft_lists.proofs.Members.{Mem, mem_get}
 use Rattle.lft_lists.proofs.Places.{get_append_cases, get_left}
 use Rattle.lft_lists.proofs.Mapped.{mapped_from}
-use Rattle.lft_flat.specs.Parts.{inputs}
-use Rattle.lft_flat.specs.declared.parts.Value.{Value}
-use Rattle.lft_flat.specs.declared.parts.Name.{Name}
-use Rattle.lft_flat.specs.declared.parts.Reaction.{Reaction}
-use Rattle.lft_steps.specs.declared.row.Row.{Row}
-use Rattle.lft_steps.specs.declared.row.Step.{Step}
-use Rattle.lft_steps.specs.declared.row.Step.TheVariants.{Start, Read}
-use Rattle.lft_steps.specs.Fits.{RowsFit, RowFits, StepFits}
+use Rattle.lft_ir.specs.Parts.{inputs}
+use Rattle.lft_ir.specs.declared.parts.Value.{Value}
+use Rattle.lft_ir.specs.declared.parts.Name.{Name}
+use Rattle.lft_ir.specs.declared.parts.Reaction.{Reaction}
+use Rattle.lft_ir.specs.declared.steps.row.Row.{Row}
+use Rattle.lft_ir.specs.declared.steps.row.Step.{Step}
+use Rattle.lft_ir.specs.declared.steps.row.Step.TheVariants.{Start, Read}
+use Rattle.lft_ir.specs.Steps.Fits.{RowsFit, RowFits, StepFits}
 use Rattle.lft_model.specs.Plans.{PlanParts, IsSoundPlan}
 use Rattle.lft_model.specs.Presence.{stop, Inputs}
 use Rattle.lft_model.specs.Runs.{Run, Ran, end_row, read_step, steps_of, inputs_of, by_ends}
@@ -26,10 +26,10 @@ use Rattle.lft_model.proofs.RunSteps.{in_reads, mem_zip}
 use Rattle.lft_model.proofs.Begun.{begun_so_far, same_runs, steps_same}
 use Rattle.lft_model.proofs.Quiet.{pending_time}
 use Rattle.lft_pool.specs.declared.bodies.done.Done.{Done}
-use Rattle.lft_agenda.specs.Starts.{MayStart, IsBusy, started_row, started_count}
+use Rattle.lft_scheduler.specs.Starts.{MayStart, IsBusy, started_row, started_count}
 use Rattle.lft_pool.specs.Books.{law_of, IsRecording}
 use Rattle.lft_pool.proofs.Known.{ran_of_run}
-use Rattle.lft_flat.proofs.Naming.{input_known}
+use Rattle.lft_ir.proofs.Naming.{input_known}
 
 -- each instance hands its word on, and each run meets the law: as `Follows` says of the ended runs
 abbrev pub HandsOn : PlanParts → List (ℤ × ℤ) → List Run → Type 0

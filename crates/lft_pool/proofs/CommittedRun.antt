@@ -9,11 +9,11 @@ use Rattle.lft_tag.specs.Tags.{UpTo, IsRecorded}
 use Rattle.lft_lists.proofs.Members.{Mem, mem_get, mem_cases, mem_from_map, none_nil, last-append_some}
 use Rattle.lft_lists.proofs.Places.{get_append_cases, get_left}
 use Rattle.lft_lists.proofs.Mapped.{mapped_from}
-use Rattle.lft_flat.specs.declared.parts.Value.{Value}
-use Rattle.lft_steps.specs.declared.row.Row.{Row}
-use Rattle.lft_steps.specs.declared.row.Step.{Step}
-use Rattle.lft_steps.specs.declared.row.Step.TheVariants.{Start, Read, Write, Schedule, Stop, End}
-use Rattle.lft_steps.specs.Fits.{RowsFit, RowFits, StepFits}
+use Rattle.lft_ir.specs.declared.parts.Value.{Value}
+use Rattle.lft_ir.specs.declared.steps.row.Row.{Row}
+use Rattle.lft_ir.specs.declared.steps.row.Step.{Step}
+use Rattle.lft_ir.specs.declared.steps.row.Step.TheVariants.{Start, Read, Write, Schedule, Stop, End}
+use Rattle.lft_ir.specs.Steps.Fits.{RowsFit, RowFits, StepFits}
 use Rattle.lft_model.specs.Plans.{PlanParts, IsSoundPlan}
 use Rattle.lft_model.specs.Presence.{stop, Collision}
 use Rattle.lft_model.specs.Runs.{Run, start_row, end_row, step_of, steps_of, reads_at, run_at, by_ends}
@@ -30,9 +30,9 @@ use Rattle.lft_model.proofs.Reached.{all_stop}
 use Rattle.lft_model.proofs.Recording.{recorded_in_order}
 use Rattle.lft_model.proofs.Committed.{committed_kept, committed_runs, same_reads, committed_so_far, not_ended}
 use Rattle.lft_pool.specs.declared.bodies.done.Done.{Done}
-use Rattle.lft_agenda.specs.Starts.{started_row, started_count}
-use Rattle.lft_agenda.specs.Agendas.{MayEnd}
-use Rattle.lft_agenda.proofs.RunEnded.{quiet_more, ran_before}
+use Rattle.lft_scheduler.specs.Starts.{started_row, started_count}
+use Rattle.lft_scheduler.specs.Agendas.{MayEnd}
+use Rattle.lft_scheduler.proofs.RunEnded.{quiet_more, ran_before}
 use Rattle.lft_pool.specs.Books.{law_of, IsRecording}
 use Rattle.lft_pool.proofs.BegunRun.{HandsOn, MeetsLaw}
 

@@ -7,9 +7,9 @@ use Rattle.lft_pool.specs.declared.stop.Stop.TheVariants.{NoBody, Collision, Und
 use Rattle.lft_pool.specs.declared.bodies.ticket.Ticket.{Ticket}
 use Rattle.lft_pool.specs.Begun.{MatchBegin}
 use Rattle.lft_tag.specs.declared.Tag.{Tag}
-use Rattle.lft_flat.specs.declared.parts.Value.{Value}
+use Rattle.lft_ir.specs.declared.parts.Value.{Value}
 use Rattle.lft_pool.specs.declared.bodies.done.Done.{Done}
-use Rattle.lft_agenda.specs.Starts.{SomethingLeft, started_count}
+use Rattle.lft_scheduler.specs.Starts.{SomethingLeft, started_count}
 use Rattle.lft_pool.specs.Books.{BookParts, LacksBody}
 use Rattle.lft_pool.specs.Reasons.{StopHolds, ReasonHolds}
 use Rattle.lft_pool.specs.Reasons.StopHolds.{by_begin, by_commit}

@@ -1,8 +1,8 @@
 -- What is known of a recording's runs and of the names of its program.
 use Rattle.std.proofs.Common.{◌≡◌, ℕ, ◌<◌, ◌⊎◌, List, [], ◌∷◌, length, refl, ap, ◌∙◌, subst, arith, Option, Some, slice_get, ℤ}
 use Rattle.lft_tag.specs.declared.Tag.{Tag}
-use Rattle.lft_flat.specs.declared.parts.Value.{Value}
-use Rattle.lft_steps.specs.declared.row.Row.{Row}
+use Rattle.lft_ir.specs.declared.parts.Value.{Value}
+use Rattle.lft_ir.specs.declared.steps.row.Row.{Row}
 use Rattle.lft_model.specs.Plans.{PlanParts, IsSoundPlan}
 use Rattle.lft_model.specs.Runs.{Run, Ran, end_row, by_ends}
 use Rattle.lft_model.specs.Breaches.{Legal}
@@ -16,7 +16,7 @@ use Rattle.lft_model.proofs.Empty.{empty_so_far}
 use Rattle.lft_model.proofs.Finished.{AllEnded, finished_legal}
 use Rattle.lft_pool.specs.declared.bodies.done.Done.{Done}
 use Rattle.lft_pool.specs.Books.{IsRecording}
-use Rattle.lft_agenda.specs.Starts.{NothingLeft}
+use Rattle.lft_scheduler.specs.Starts.{NothingLeft}
 
 -- each ended run has rows
 pub ran_of_run : (plan : PlanParts) (t : List Row) → KeepsFour plan t → (k : ℕ) (u : Run) → slice_get (by_ends plan t) k ≡ Some u → Ran t u.tag u.reaction

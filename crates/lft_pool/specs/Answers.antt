@@ -2,16 +2,16 @@
 use Rattle.std.specs.Prelude.{◌≡◌, ℕ, ◌<◌, ◌++◌, ◌∷◌, [], List, length, Option, Some, None, Result, IsErr, IfOk}
 use Rattle.lft_tag.specs.declared.Tag.{Tag}
 use Rattle.lft_tag.specs.declared.NoMemory.{NoMemory as Refused}
-use Rattle.lft_flat.specs.declared.parts.Value.{Value}
-use Rattle.lft_steps.specs.declared.row.Row.{Row}
+use Rattle.lft_ir.specs.declared.parts.Value.{Value}
+use Rattle.lft_ir.specs.declared.steps.row.Row.{Row}
 use Rattle.lft_model.specs.Plans.{PlanParts}
 use Rattle.lft_model.specs.Presence.{Triggered, Inputs}
 use Rattle.lft_model.specs.Runs.{reads_at, by_ends}
 use Rattle.lft_model.specs.OneWorker.{rows}
 use Rattle.lft_model.specs.Breaches.{IsOpen}
 use Rattle.lft_model.specs.Recorded.{committed_rows}
-use Rattle.lft_agenda.specs.Answering.{MayAll, HasLongDelay}
-use Rattle.lft_agenda.specs.Collisions.{CollidesFirst, IsClean}
+use Rattle.lft_scheduler.specs.Answering.{MayAll, HasLongDelay}
+use Rattle.lft_scheduler.specs.Collisions.{CollidesFirst, IsClean}
 use Rattle.lft_pool.specs.declared.bodies.done.Done.{Done}
 use Rattle.lft_pool.specs.declared.bodies.ticket.Ticket.{Ticket}
 use Rattle.lft_pool.specs.declared.stop.Stop.{Stop}

@@ -7,7 +7,7 @@ use Rattle.lft_model.specs.Recorded.{begun_rows}
 use Rattle.lft_pool.specs.declared.book.Begin.{Begin}
 use Rattle.lft_pool.specs.declared.book.Begin.TheVariants.{Run, Wait, Finished}
 use Rattle.lft_pool.specs.declared.bodies.ticket.Ticket.{Ticket}
-use Rattle.lft_agenda.specs.Starts.{MayStartFirst}
+use Rattle.lft_scheduler.specs.Starts.{MayStartFirst}
 use Rattle.lft_pool.specs.Books.{BookParts, word_now}
 
 -- what holds of each of the three answers of `begin`

@@ -16,7 +16,7 @@ pub use answered::Answered;
 pub use body::{Body, BoxedCode, Code};
 pub use done::{Done, Steps};
 pub use law::{AnyAnswer, Law};
-use lft_flat::Program;
+use lft_ir::Program;
 use lft_tag::NoMemory;
 use std::alloc::Global;
 use std::marker::Model;

@@ -9,15 +9,15 @@ ghost use Rattle.lft_pool.specs.Reasons.{ReasonHolds, StopHolds};
 ghost use Rattle.lft_pool.specs.Begun.{MatchBegin, Started};
 ghost use Rattle.lft_pool.specs.Causes.{BeginCause, StartCause};
 ghost use Rattle.lft_pool.specs.Answers.{HasTicket, HasClash, KeepsOpenRuns, Committed, CommitCause, EndCause, RefusalCause};
-ghost use Rattle.lft_agenda.specs.Starts.{IsAnyOpen, IsBusy, MayStartFirst, NoneMayStart, NothingLeft, SomethingLeft, started_count};
+ghost use Rattle.lft_scheduler.specs.Starts.{IsAnyOpen, IsBusy, MayStartFirst, NoneMayStart, NothingLeft, SomethingLeft, started_count};
 
 use crate::bodies::{Answered, Bodies, Body, BoxedCode, Code, Done, Law, Ticket, ticket_of};
 use crate::states::States;
 use crate::stop::Stop;
 use crate::words::{is_same, no_words, set_word, word_at};
-use lft_agenda::{Agenda, NextRun, begun, committed, has_long_delay, may_make_all};
+use lft_ir::steps::Rows;
 use lft_model::Plan;
-use lft_steps::Rows;
+use lft_scheduler::{Agenda, NextRun, begun, committed, has_long_delay, may_make_all};
 use lft_tag::{MAX_ROWS, MAX_RUNS, NoMemory, Tag};
 use std::alloc::Global;
 use std::marker::Model;

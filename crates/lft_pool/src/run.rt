@@ -2,7 +2,7 @@
 
 ghost use Rattle.std.specs.Prelude.{◌≡◌, ◌≢◌, ◌↔◌, ◌⊎◌, ◌≤◌, [], length, IfOk, IfErr, IfNone, IfSome, true, false, Some, None, is_ok};
 ghost use Rattle.lft_model.specs.Breaches.{Legal};
-ghost use Rattle.lft_agenda.specs.Starts.{SomethingLeft, started_count};
+ghost use Rattle.lft_scheduler.specs.Starts.{SomethingLeft, started_count};
 ghost use Rattle.lft_pool.specs.Books.{IsRecording, LacksBody};
 ghost use Rattle.lft_pool.specs.Begun.{MatchBegin};
 ghost use Rattle.lft_model.specs.Workers.{IsWorkers};
@@ -12,8 +12,8 @@ use crate::bodies::{Bodies, BoxedCode, Code, Law};
 use crate::book::{Begin, Book, Closed, Stopped};
 use crate::states::States;
 use crate::stop::Stop;
+use lft_ir::steps::Rows;
 use lft_model::{Plan, is_workers};
-use lft_steps::Rows;
 use lft_tag::MAX_RUNS;
 use std::alloc::Global;
 use std::sync::{Condvar, Mutex, Wait};

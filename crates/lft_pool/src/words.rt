@@ -1,9 +1,9 @@
 //! The state words of instances.
 
 ghost use Rattle.std.specs.Prelude.{◌≡◌, ◌↔◌, ◌<◌, IsTrue, pos, length, Some, slice_get, slice_set, IfOk};
-ghost use Rattle.lft_flat.specs.declared.parts.Reaction.{Reaction as ReactionOf};
+ghost use Rattle.lft_ir.specs.declared.parts.Reaction.{Reaction as ReactionOf};
 
-use lft_flat::Program;
+use lft_ir::Program;
 use lft_tag::NoMemory;
 use std::alloc::Global;
 

@@ -4,15 +4,15 @@ use Rattle.std.proofs.lemmas.List.{length-map}
 use Rattle.lft_lists.proofs.Mapped.{mapped}
 use Rattle.lft_tree.specs.Tree.{FileTree, TimeTree, ConnectionTree, RefTree, reactors_of, ports_of, connections_of}
 use Rattle.lft_tag.specs.declared.Source.{Source}
-use Rattle.lft_instances.specs.declared.joins.Join.{Join}
-use Rattle.lft_instances.specs.declared.joins.Connections.{Connections}
-use Rattle.lft_instances.specs.declared.joins.Site.{Site}
-use Rattle.lft_instances.specs.declared.walk.Instance.{Instance}
-use Rattle.lft_instances.specs.Joins.{AreSources, Joins, JoinPorts, LeadApart, HasJoin}
-use Rattle.lft_instances.specs.Values.{clock_in}
-use Rattle.lft_scope.specs.Causes.{HasLongTime, IsLongTime}
-use Rattle.lft_scope.specs.Instances.{Inside, Thing, thing_at, Connects, stands_for, time_in}
-use Rattle.lft_scope.specs.Sheets.{IsJoin, Single, singles_of}
+use Rattle.lft_resolve.specs.declared.expansion.joins.Join.{Join}
+use Rattle.lft_resolve.specs.declared.expansion.joins.Connections.{Connections}
+use Rattle.lft_resolve.specs.declared.expansion.joins.Site.{Site}
+use Rattle.lft_resolve.specs.declared.expansion.walk.Instance.{Instance}
+use Rattle.lft_resolve.specs.Expansion.Joins.{AreSources, Joins, JoinPorts, LeadApart, HasJoin}
+use Rattle.lft_resolve.specs.Expansion.Values.{clock_in}
+use Rattle.lft_resolve.specs.Causes.{HasLongTime, IsLongTime}
+use Rattle.lft_resolve.specs.Instances.{Inside, Thing, thing_at, Connects, stands_for, time_in}
+use Rattle.lft_resolve.specs.Sheets.{IsJoin, Single, singles_of}
 use Rattle.lft_program.specs.Located.{Located, declared, ports_in}
 use Rattle.lft_program.specs.Nests.{IsNest}
 use Rattle.lft_program.specs.Tables.{AreTables, IsLawful}

@@ -2,10 +2,10 @@
 use Rattle.std.proofs.Common.{◌≡◌, ℕ, List, sym, ap, ◌∙◌, subst, Some, slice_get}
 use Rattle.std.specs.Option.{option_and_then}
 use Rattle.lft_tree.specs.Tree.{ReactorTree, InstanceTree, instances_of}
-use Rattle.lft_instances.specs.Contents.{contained}
-use Rattle.lft_instances.specs.declared.walk.Contents.{Contents}
-use Rattle.lft_scope.specs.Numbers.{AreContents, IsContents, IsNumberOf}
-use Rattle.lft_scope.proofs.Files.{AllZip-from}
+use Rattle.lft_resolve.specs.Expansion.Contents.{contained}
+use Rattle.lft_resolve.specs.declared.expansion.walk.Contents.{Contents}
+use Rattle.lft_resolve.specs.Numbers.{AreContents, IsContents, IsNumberOf}
+use Rattle.lft_resolve.proofs.Files.{AllZip-from}
 use Rattle.lft_program.proofs.Zipping.{then_some, zip_at}
 
 module _ (rs : List ReactorTree) (table : List Contents) (are : AreContents rs table) where

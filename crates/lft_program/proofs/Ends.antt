@@ -3,14 +3,14 @@ use Rattle.std.proofs.Common.{◌≡◌, ℕ, ◌+◌, List, [], ◌∷◌, ◌+
 use Rattle.std.specs.Option.{option_and_then}
 use Rattle.std.proofs.lemmas.Option.{slice_get_within}
 use Rattle.lft_tree.specs.Tree.{FileTree, ReactorTree, PortTree, InstanceTree, RefTree, reactors_of, ports_of, instances_of}
-use Rattle.lft_instances.specs.declared.joins.End.{End}
-use Rattle.lft_instances.specs.declared.joins.End.TheVariants.{Own, Inner}
-use Rattle.lft_instances.specs.Paths.{along}
-use Rattle.lft_instances.specs.Children.{child_of}
-use Rattle.lft_instances.specs.Joins.{port_at, port_of, Declares, IsPort}
-use Rattle.lft_instances.proofs.Orders.{along_kid}
-use Rattle.lft_scope.specs.Instances.{Inside, thing_at, stands_for, stands_inside, entered, main_instance, reactor_named, given_in}
-use Rattle.lft_scope.specs.Sheets.{IsEnd, IsInner}
+use Rattle.lft_resolve.specs.declared.expansion.joins.End.{End}
+use Rattle.lft_resolve.specs.declared.expansion.joins.End.TheVariants.{Own, Inner}
+use Rattle.lft_resolve.specs.Expansion.Paths.{along}
+use Rattle.lft_resolve.specs.Expansion.Children.{child_of}
+use Rattle.lft_resolve.specs.Expansion.Joins.{port_at, port_of, Declares, IsPort}
+use Rattle.lft_resolve.proofs.ExpansionLemmas.Orders.{along_kid}
+use Rattle.lft_resolve.specs.Instances.{Inside, thing_at, stands_for, stands_inside, entered, main_instance, reactor_named, given_in}
+use Rattle.lft_resolve.specs.Sheets.{IsEnd, IsInner}
 use Rattle.lft_program.specs.Located.{Located, ports_in}
 use Rattle.lft_program.specs.Nests.{IsNest}
 use Rattle.lft_program.specs.declared.nesting.nest.Nest.{Nest}

@@ -6,13 +6,13 @@ use Rattle.std.proofs.lemmas.Bool.{cases_lt}
 use Rattle.lft_lists.proofs.Places.{Some_same}
 use Rattle.lft_lists.proofs.Mapped.{mapped, mapped_from}
 use Rattle.lft_tree.specs.Tree.{FileTree, ReactorTree, ParameterTree, AssignmentTree, InstanceTree, TimeTree, Written, Named, nanoseconds, reactors_of, instances_of, timers_of, actions_of, connections_of}
-use Rattle.lft_instances.specs.Paths.{along}
-use Rattle.lft_scope.specs.Causes.{HasLongTime, IsLongTime, longest}
-use Rattle.lft_scope.specs.Instances.{Inside, is_called, value_of, time_in, given_or_default, given_in, entered, main_of, main_instance}
-use Rattle.lft_scope.specs.Kinds.{times_in, timer_times}
-use Rattle.lft_scope.proofs.Effects.{Any-flat}
-use Rattle.lft_scope.proofs.Somes.{Any-left, Any-right, Any-head}
-use Rattle.lft_scope.proofs.Twice.{Any-at}
+use Rattle.lft_resolve.specs.Expansion.Paths.{along}
+use Rattle.lft_resolve.specs.Causes.{HasLongTime, IsLongTime, longest}
+use Rattle.lft_resolve.specs.Instances.{Inside, is_called, value_of, time_in, given_or_default, given_in, entered, main_of, main_instance}
+use Rattle.lft_resolve.specs.Kinds.{times_in, timer_times}
+use Rattle.lft_resolve.proofs.Effects.{Any-flat}
+use Rattle.lft_resolve.proofs.Somes.{Any-left, Any-right, Any-head}
+use Rattle.lft_resolve.proofs.Twice.{Any-at}
 use Rattle.lft_program.specs.Located.{Located, AreLocated}
 use Rattle.lft_program.specs.Flattening.{time_or_zero}
 use Rattle.lft_program.proofs.Entering.{entered_by}

@@ -1,8 +1,8 @@
 -- A limit that is passed is the cause.
 use Rattle.std.proofs.Common.{◌≡◌, ℕ, ◌-◌, ◌≤◌, inl, inr, arith}
 use Rattle.lft_tree.specs.Tree.{FileTree}
-use Rattle.lft_instances.specs.Paths.{IsMoreThan}
-use Rattle.lft_scope.specs.Causes.{TooMany}
+use Rattle.lft_resolve.specs.Expansion.Paths.{IsMoreThan}
+use Rattle.lft_resolve.specs.Causes.{TooMany}
 use Rattle.lft_program.specs.Limits.{HasMoreThan, IsExcess, limit_of}
 use Rattle.lft_program.specs.declared.nesting.limits.Excess.{Excess}
 use Rattle.lft_program.specs.declared.nesting.limits.LimitedKind.{LimitedKind}

@@ -2,7 +2,7 @@
 use Rattle.std.proofs.Common.{◌≡◌, ◌≢◌, ℕ, List, [], ◌∷◌, ◌++◌, Any, inl, inr, Result, Ok, Err, IfErr, refl, sym, subst}
 use Rattle.std.specs.Result.{IsErrAnd}
 use Rattle.lft_tree.specs.Tree.{FileTree, reactors_of}
-use Rattle.lft_scope.specs.Causes.{IsFirst, NoneHolds, TooMany, HasLongTime, DelayTooLong, causes}
+use Rattle.lft_resolve.specs.Causes.{IsFirst, NoneHolds, TooMany, HasLongTime, DelayTooLong, causes}
 use Rattle.lft_program.specs.Links.{TellsOf, last_causes, number_of as link_number}
 use Rattle.lft_program.specs.declared.nesting.linking.LinkFault.{LinkFault}
 use Rattle.lft_program.specs.declared.nesting.linking.LinkFault.TheVariants as links

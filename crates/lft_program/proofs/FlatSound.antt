@@ -4,25 +4,25 @@ use Rattle.std.proofs.lemmas.List.{length-map}
 use Rattle.std.proofs.lemmas.Option.{slice_get_within}
 use Rattle.lft_lists.proofs.Places.{at_contains, Some_same}
 use Rattle.lft_tree.specs.Tree.{FileTree, PortTree, RefTree, TriggerTree, AtStartup, AtShutdown, OnRef, reactors_of, ports_of, actions_of, timers_of, reactions_of}
-use Rattle.lft_scope.proofs.Effects.{Any-flat, reads_once, effects_once}
-use Rattle.lft_scope.proofs.Somes.{Any-left, Any-right}
-use Rattle.lft_scope.specs.Causes.{HasLongTime, IsLongTime}
-use Rattle.lft_scope.specs.Instances.{stands_for, thing_at}
-use Rattle.lft_scope.specs.Kinds.{reads_of, ref_in, timer_times}
-use Rattle.lft_scope.specs.Sheets.{is_timer, without_timers}
+use Rattle.lft_resolve.proofs.Effects.{Any-flat, reads_once, effects_once}
+use Rattle.lft_resolve.proofs.Somes.{Any-left, Any-right}
+use Rattle.lft_resolve.specs.Causes.{HasLongTime, IsLongTime}
+use Rattle.lft_resolve.specs.Instances.{stands_for, thing_at}
+use Rattle.lft_resolve.specs.Kinds.{reads_of, ref_in, timer_times}
+use Rattle.lft_resolve.specs.Sheets.{is_timer, without_timers}
 use Rattle.lft_program.specs.Located.{Located, Declared, declared, ports_in, actions_in, timers_in}
 use Rattle.lft_program.specs.Tables.{IsLawful}
 use Rattle.lft_program.proofs.Placed.{declared_from, thing_from, path_once}
 use Rattle.lft_program.specs.Flattening.{Flat, IsPort, IsAction, IsTimer, IsReaction, IsName, IsTrigger, name_of_thing, name_of_reaction}
-use Rattle.lft_flat.specs.Names.{AreDistinct, AreWords}
-use Rattle.lft_flat.specs.Parts.{Parts, inputs}
-use Rattle.lft_flat.specs.Naming.{named}
-use Rattle.lft_flat.specs.Sound.{IsSound, HasOneWriter, HasDistinct, IsNameOf, IsTriggerOf, NamesParts, IsWithinLimits, HasTimes, IsWellNamed}
-use Rattle.lft_flat.specs.declared.parts.Name.{Name}
-use Rattle.lft_flat.specs.declared.parts.Name.TheVariants.{Port, Action}
-use Rattle.lft_flat.specs.declared.parts.Reaction.{Reaction}
-use Rattle.lft_flat.specs.declared.parts.Trigger.{Trigger}
-use Rattle.lft_flat.specs.declared.parts.Trigger.TheVariants.{Startup, Shutdown, Timer, On}
+use Rattle.lft_ir.specs.Names.{AreDistinct, AreWords}
+use Rattle.lft_ir.specs.Parts.{Parts, inputs}
+use Rattle.lft_ir.specs.Naming.{named}
+use Rattle.lft_ir.specs.Sound.{IsSound, HasOneWriter, HasDistinct, IsNameOf, IsTriggerOf, NamesParts, IsWithinLimits, HasTimes, IsWellNamed}
+use Rattle.lft_ir.specs.declared.parts.Name.{Name}
+use Rattle.lft_ir.specs.declared.parts.Name.TheVariants.{Port, Action}
+use Rattle.lft_ir.specs.declared.parts.Reaction.{Reaction}
+use Rattle.lft_ir.specs.declared.parts.Trigger.{Trigger}
+use Rattle.lft_ir.specs.declared.parts.Trigger.TheVariants.{Startup, Shutdown, Timer, On}
 use Rattle.lft_program.proofs.Entered.{IsUsual, all_usual, option_short, in_timers, in_actions}
 use Rattle.lft_program.proofs.OneWriter.{Writes, writes, same_path}
 use Rattle.lft_program.proofs.Ordered.{reaction_at, is_numbered, is_consecutive}

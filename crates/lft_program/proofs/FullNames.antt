@@ -7,16 +7,16 @@ use Rattle.std.proofs.lemmas.Grind.{common_steps}
 use Rattle.std.proofs.lemmas.List.{map-append, length-map}
 use Rattle.std.proofs.lemmas.Option.{slice_get_within, get_or_from_slice_get}
 use Rattle.lft_lists.proofs.Mapped.{mapped_from}
-use Rattle.lft_flat.specs.Names.{HasNoTwice}
+use Rattle.lft_ir.specs.Names.{HasNoTwice}
 use Rattle.lft_program.specs.Extended.{Ending, dotted, hashed, endings, extended, AreAfter}
 use Rattle.lft_tree.specs.Identifiers.{IsName}
 use Rattle.lft_program.specs.FullNames.{members, AreOfProgram, AreFew}
 use Rattle.lft_program.specs.declared.naming.OwnName.{OwnName}
 use Rattle.lft_program.specs.declared.naming.Placed.{Placed}
 use Rattle.lft_program.proofs.Distinct.{main, ArePaths, HasNoTwice-extended}
-use Rattle.lft_scope.proofs.Twice.{slice_get-front}
+use Rattle.lft_resolve.proofs.Twice.{slice_get-front}
 use Rattle.lft_program.proofs.Extending.{extended-append, length-extended, extended-keeps}
-use Rattle.lft_flat.proofs.Ranges.{slice_get-drop}
+use Rattle.lft_ir.proofs.Ranges.{slice_get-drop}
 use Rattle.lft_program.proofs.Separators.{IsEnding, HasNoSeparator-name, HasNoSeparator-decimal}
 
 module _ {X : Type 0} where

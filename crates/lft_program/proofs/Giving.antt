@@ -8,17 +8,17 @@ use Rattle.std.proofs.lemmas.Slice.Eq.{bytes_eq-Decides}
 use Rattle.lft_program.proofs.Delays.{kept_is}
 use Rattle.lft_lists.proofs.Mapped.{mapped, option_map_some}
 use Rattle.lft_tree.specs.Tree.{ReactorTree, ParameterTree, AssignmentTree, InstanceTree, TimeTree, Written, Named, nanoseconds, instances_of, ports_of, timers_of, actions_of, connections_of}
-use Rattle.lft_instances.specs.Values.{clock_in, value_in, values_in}
-use Rattle.lft_instances.specs.declared.settings.Clock.{Clock}
-use Rattle.lft_instances.specs.declared.settings.Clock.TheVariants.{Fixed, Parameter}
-use Rattle.lft_instances.specs.declared.settings.Given.{Given}
-use Rattle.lft_scope.specs.Causes.{DeclaresTwice, DuplicateName, HasLongTime, IsLongTime, IsTwice, NoneHolds, first_causes, longest}
-use Rattle.lft_scope.specs.Instances.{Inside, given_in, given_or_default, time_in, value_of}
-use Rattle.lft_scope.specs.Kinds.{timer_times}
-use Rattle.lft_scope.specs.Places.{place}
-use Rattle.lft_scope.specs.Sheets.{IsClock, IsGiven, kept}
-use Rattle.lft_scope.proofs.Somes.{Any-head, Any-left, Any-right, Any-tail}
-use Rattle.lft_scope.proofs.Twice.{Any-at, twice_left}
+use Rattle.lft_resolve.specs.Expansion.Values.{clock_in, value_in, values_in}
+use Rattle.lft_resolve.specs.declared.expansion.settings.Clock.{Clock}
+use Rattle.lft_resolve.specs.declared.expansion.settings.Clock.TheVariants.{Fixed, Parameter}
+use Rattle.lft_resolve.specs.declared.expansion.settings.Given.{Given}
+use Rattle.lft_resolve.specs.Causes.{DeclaresTwice, DuplicateName, HasLongTime, IsLongTime, IsTwice, NoneHolds, first_causes, longest}
+use Rattle.lft_resolve.specs.Instances.{Inside, given_in, given_or_default, time_in, value_of}
+use Rattle.lft_resolve.specs.Kinds.{timer_times}
+use Rattle.lft_resolve.specs.Places.{place}
+use Rattle.lft_resolve.specs.Sheets.{IsClock, IsGiven, kept}
+use Rattle.lft_resolve.proofs.Somes.{Any-head, Any-left, Any-right, Any-tail}
+use Rattle.lft_resolve.proofs.Twice.{Any-at, twice_left}
 use Rattle.lft_program.proofs.Counting.{flat_at}
 
 -- ---- places of names that stand once

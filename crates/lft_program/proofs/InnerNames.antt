@@ -6,10 +6,10 @@ use Rattle.std.proofs.lemmas.Option.{slice_get_within}
 use Rattle.lft_lists.proofs.Mapped.{mapped, mapped_from}
 use Rattle.lft_lists.proofs.Places.{get_there, Some_same}
 use Rattle.lft_tree.specs.Tree.{FileTree, ReactorTree, InstanceTree, reactors_of, instances_of}
-use Rattle.lft_instances.specs.Paths.{along}
-use Rattle.lft_instances.specs.declared.walk.Instance.{Instance}
-use Rattle.lft_instances.proofs.Orders.{before_itself}
-use Rattle.lft_scope.specs.Instances.{Inside, entered, given_in, main_instance, reactor_named}
+use Rattle.lft_resolve.specs.Expansion.Paths.{along}
+use Rattle.lft_resolve.specs.declared.expansion.walk.Instance.{Instance}
+use Rattle.lft_resolve.proofs.ExpansionLemmas.Orders.{before_itself}
+use Rattle.lft_resolve.specs.Instances.{Inside, entered, given_in, main_instance, reactor_named}
 use Rattle.lft_program.specs.Located.{Located}
 use Rattle.lft_program.specs.Nests.{IsInstanceOf, IsNest}
 use Rattle.lft_program.specs.declared.nesting.nest.Nest.{Nest}
@@ -22,7 +22,7 @@ use Rattle.lft_program.specs.declared.naming.OwnName.{OwnName}
 use Rattle.lft_program.specs.declared.own_names.MemberKind.TheVariants as kinds
 use Rattle.lft_program.proofs.KindNames.{instance_name_there}
 use Rattle.lft_program.proofs.NamesOnce.{instance_names}
-use Rattle.lft_flat.proofs.Ranges.{slice_get-drop}
+use Rattle.lft_ir.proofs.Ranges.{slice_get-drop}
 use Rattle.lft_program.proofs.Sites.{AreSites}
 
 -- ---- a path with one more step

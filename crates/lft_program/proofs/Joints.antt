@@ -4,17 +4,17 @@ use Rattle.std.specs.Option.{option_map_or}
 use Rattle.std.proofs.lemmas.Bool.{cases_lt}
 use Rattle.lft_lists.proofs.Places.{push_apart}
 use Rattle.lft_tree.specs.Tree.{FileTree, ReactorTree, PortTree, InstanceTree, RefTree, reactors_of, ports_of, instances_of}
-use Rattle.lft_instances.specs.declared.walk.Instance.{Instance}
-use Rattle.lft_instances.specs.declared.joins.End.{End}
-use Rattle.lft_instances.specs.declared.joins.End.TheVariants.{Own, Inner}
-use Rattle.lft_instances.specs.declared.joins.Join.{Join}
-use Rattle.lft_instances.specs.declared.joins.Connections.{Connections}
-use Rattle.lft_instances.specs.Joins.{HasJoin, JoinPorts, LeadApart}
-use Rattle.lft_scope.specs.Causes.{IsTwice}
-use Rattle.lft_scope.specs.Instances.{thing_at, reactor_named}
-use Rattle.lft_scope.specs.Kinds.{destinations_in}
-use Rattle.lft_scope.specs.Sheets.{IsConnections, IsEnd, IsJoin, Single, singles_of}
-use Rattle.lft_scope.proofs.Written.{own_written, inner_written}
+use Rattle.lft_resolve.specs.declared.expansion.walk.Instance.{Instance}
+use Rattle.lft_resolve.specs.declared.expansion.joins.End.{End}
+use Rattle.lft_resolve.specs.declared.expansion.joins.End.TheVariants.{Own, Inner}
+use Rattle.lft_resolve.specs.declared.expansion.joins.Join.{Join}
+use Rattle.lft_resolve.specs.declared.expansion.joins.Connections.{Connections}
+use Rattle.lft_resolve.specs.Expansion.Joins.{HasJoin, JoinPorts, LeadApart}
+use Rattle.lft_resolve.specs.Causes.{IsTwice}
+use Rattle.lft_resolve.specs.Instances.{thing_at, reactor_named}
+use Rattle.lft_resolve.specs.Kinds.{destinations_in}
+use Rattle.lft_resolve.specs.Sheets.{IsConnections, IsEnd, IsJoin, Single, singles_of}
+use Rattle.lft_resolve.proofs.Written.{own_written, inner_written}
 use Rattle.lft_program.specs.Located.{Located, ports_in}
 use Rattle.lft_program.specs.Nests.{IsNest}
 use Rattle.lft_program.specs.Tables.{AreTables, IsLawful}

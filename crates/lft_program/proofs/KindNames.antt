@@ -7,8 +7,8 @@ use Rattle.std.proofs.lemmas.Option.{slice_get_within}
 use Rattle.lft_lists.proofs.Places.{Some_same}
 use Rattle.lft_lists.proofs.Mapped.{mapped}
 use Rattle.lft_tree.specs.Tree.{ReactorTree, InstanceTree, instances_of, ports_of, actions_of, timers_of, instance_in, port_in, action_in, timer_in}
-use Rattle.lft_instances.specs.declared.numbering.Thing.{Thing}
-use Rattle.lft_instances.specs.declared.walk.Instance.{Instance}
+use Rattle.lft_resolve.specs.declared.expansion.numbering.Thing.{Thing}
+use Rattle.lft_resolve.specs.declared.expansion.walk.Instance.{Instance}
 use Rattle.lft_program.specs.Located.{Located, declared, Declared}
 use Rattle.lft_program.specs.Nests.{IsInstanceOf, IsNumbering, IsThingOf}
 use Rattle.lft_program.specs.declared.nesting.nest.Numbering.{Numbering}

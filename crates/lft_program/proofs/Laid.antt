@@ -12,8 +12,8 @@ use Rattle.lft_program.specs.declared.nesting.tables.Tables.{Tables}
 use Rattle.lft_program.proofs.Listing.{declared-length}
 use Rattle.lft_program.specs.Flattening.{Flat, IsPort, IsTimer, IsAction, IsReaction, names_of, name_of_path}
 use Rattle.lft_program.specs.OfTree.{AreOfTree}
-use Rattle.lft_flat.specs.Parts.{Parts}
-use Rattle.lft_flat.specs.Sound.{IsWithinLimits, KeepsOrigins}
+use Rattle.lft_ir.specs.Parts.{Parts}
+use Rattle.lft_ir.specs.Sound.{IsWithinLimits, KeepsOrigins}
 use Rattle.lft_program.proofs.Zips.{AllZip-length}
 
 module _ (tree : FileTree) (tables : Tables) (nest : Nest) (links : List Linked) (n : AreOfTree tree tables nest links) (program : Parts)

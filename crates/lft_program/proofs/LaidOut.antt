@@ -2,20 +2,20 @@
 use Rattle.std.proofs.Common.{◌≡◌, ℕ, List, [], ◌∷◌, ◌++◌, Option, Some, map, flat_map, length, slice_get, option_to_list, Any, inr, sym, ap, ◌∙◌}
 use Rattle.std.specs.Option.{option_and_then, unwrap_or}
 use Rattle.std.specs.List.{AllZip}
-use Rattle.lft_scope.proofs.Effects.{Any-flat}
+use Rattle.lft_resolve.proofs.Effects.{Any-flat}
 use Rattle.lft_lists.proofs.Mapped.{mapped}
 use Rattle.lft_tree.specs.Tree.{FileTree, ReactorTree, TimerTree, ActionTree, TimeTree, reactors_of, timers_of, actions_of, instances_of, connections_of}
-use Rattle.lft_instances.specs.Values.{clock_in}
-use Rattle.lft_instances.specs.declared.numbering.Thing.{Thing}
-use Rattle.lft_instances.specs.declared.settings.Clock.{Clock}
-use Rattle.lft_instances.specs.declared.walk.Instance.{Instance}
-use Rattle.lft_scope.specs.Causes.{IsLongTime, HasLongTime}
-use Rattle.lft_scope.specs.Kinds.{times_in, timer_times}
-use Rattle.lft_scope.specs.Sheets.{IsDeclarations, IsTimerSheet, IsActionSheet, IsClockOrZero}
-use Rattle.lft_scope.specs.declared.by_number.sheets.ActionSheet.{ActionSheet}
-use Rattle.lft_scope.specs.declared.by_number.sheets.Declarations.{Declarations}
-use Rattle.lft_scope.specs.declared.by_number.sheets.TimerSheet.{TimerSheet}
-use Rattle.lft_scope.proofs.Somes.{Any-left, Any-right}
+use Rattle.lft_resolve.specs.Expansion.Values.{clock_in}
+use Rattle.lft_resolve.specs.declared.expansion.numbering.Thing.{Thing}
+use Rattle.lft_resolve.specs.declared.expansion.settings.Clock.{Clock}
+use Rattle.lft_resolve.specs.declared.expansion.walk.Instance.{Instance}
+use Rattle.lft_resolve.specs.Causes.{IsLongTime, HasLongTime}
+use Rattle.lft_resolve.specs.Kinds.{times_in, timer_times}
+use Rattle.lft_resolve.specs.Sheets.{IsDeclarations, IsTimerSheet, IsActionSheet, IsClockOrZero}
+use Rattle.lft_resolve.specs.declared.by_number.sheets.ActionSheet.{ActionSheet}
+use Rattle.lft_resolve.specs.declared.by_number.sheets.Declarations.{Declarations}
+use Rattle.lft_resolve.specs.declared.by_number.sheets.TimerSheet.{TimerSheet}
+use Rattle.lft_resolve.proofs.Somes.{Any-left, Any-right}
 use Rattle.lft_program.specs.Located.{Located, Declared, declared}
 use Rattle.lft_program.specs.Nests.{IsInstanceOf, IsThingOf}
 use Rattle.lft_program.specs.declared.nesting.linking.Linked.{Linked}
@@ -26,12 +26,12 @@ use Rattle.lft_program.proofs.Zipping.{zip_at}
 use Rattle.lft_program.specs.Flattening.{IsTimer, IsAction, time_or_zero}
 use Rattle.lft_program.specs.Laying.{IsActionAt, IsTimerAt, action_at, clock_at, declarations_at, timer_at}
 use Rattle.lft_program.specs.OfTree.{AreOfTree}
-use Rattle.lft_flat.specs.declared.parts.Action.{Action as ActionOf}
-use Rattle.lft_flat.specs.declared.parts.Timer.{Timer as TimerOf}
+use Rattle.lft_ir.specs.declared.parts.Action.{Action as ActionOf}
+use Rattle.lft_ir.specs.declared.parts.Timer.{Timer as TimerOf}
 use Rattle.lft_program.proofs.Clocks.{clock_or_zero_is}
 use Rattle.lft_program.proofs.Making.{Made, made_zip}
 use Rattle.lft_program.proofs.Zips.{AllZip-from}
-use Rattle.lft_scope.proofs.Twice.{Any-at}
+use Rattle.lft_resolve.proofs.Twice.{Any-at}
 
 -- times of timers and actions are among those of their reactor
 long_first : (r : ReactorTree) → Any IsLongTime (flat_map timer_times (timers_of r) ++ flat_map (λ a. option_to_list a.min_delay) (actions_of r)) → Any IsLongTime (times_in r)

@@ -6,12 +6,12 @@ use Rattle.lft_lists.proofs.Places.{get_there}
 use Rattle.lft_tree.specs.Tree.{FileTree, reactors_of}
 use Rattle.lft_tag.specs.Shifts.{join_all, none}
 use Rattle.lft_tag.specs.declared.Shift.{Shift}
-use Rattle.lft_instances.specs.Sources.{Origin, itself, over, IsFolded, IsReached, AreReached}
+use Rattle.lft_resolve.specs.Expansion.Sources.{Origin, itself, over, IsFolded, IsReached, AreReached}
 use Rattle.lft_tag.specs.declared.Source.{Source}
-use Rattle.lft_instances.specs.declared.origins.Reached.{Reached}
-use Rattle.lft_instances.proofs.Folding.{time_sum}
-use Rattle.lft_scope.specs.Causes.{DelayTooLong, HasLongChain, HasLongTime}
-use Rattle.lft_scope.specs.Instances.{Thing, Chain, Connects, one as one_step, more as more_steps}
+use Rattle.lft_resolve.specs.declared.expansion.origins.Reached.{Reached}
+use Rattle.lft_resolve.proofs.ExpansionLemmas.Folding.{time_sum}
+use Rattle.lft_resolve.specs.Causes.{DelayTooLong, HasLongChain, HasLongTime}
+use Rattle.lft_resolve.specs.Instances.{Thing, Chain, Connects, one as one_step, more as more_steps}
 use Rattle.lft_program.specs.Linking.{IsTooLong}
 use Rattle.lft_program.proofs.Connected.{NoLongTime, TreeSources}
 

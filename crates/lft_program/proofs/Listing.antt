@@ -7,10 +7,10 @@ use Rattle.std.proofs.lemmas.List.{length-map}
 use Rattle.lft_lists.proofs.Mapped.{mapped, mapped_from}
 use Rattle.lft_lists.proofs.Places.{get_append_cases}
 use Rattle.lft_tree.specs.Tree.{FileTree, ReactorTree, reactors_of}
-use Rattle.lft_instances.specs.Listing.{AreListed}
-use Rattle.lft_instances.specs.Numbers.{count_of, things}
-use Rattle.lft_instances.specs.declared.numbering.Thing.{Thing}
-use Rattle.lft_instances.specs.declared.walk.Instance.{Instance}
+use Rattle.lft_resolve.specs.Expansion.Listing.{AreListed}
+use Rattle.lft_resolve.specs.Expansion.Numbers.{count_of, things}
+use Rattle.lft_resolve.specs.declared.expansion.numbering.Thing.{Thing}
+use Rattle.lft_resolve.specs.declared.expansion.walk.Instance.{Instance}
 use Rattle.lft_program.specs.Located.{Located, Declared, declared, declared_in}
 use Rattle.lft_program.specs.Nests.{IsInstanceOf, IsNest, IsNumbering, IsThingOf}
 use Rattle.lft_program.specs.declared.nesting.nest.Nest.{Nest}

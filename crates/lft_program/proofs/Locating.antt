@@ -6,17 +6,17 @@ use Rattle.std.proofs.lemmas.List.{length-map}
 use Rattle.lft_lists.proofs.Mapped.{mapped_from}
 use Rattle.lft_lists.proofs.Places.{get_there}
 use Rattle.lft_tree.specs.Tree.{FileTree, ReactorTree, reactors_of}
-use Rattle.lft_instances.specs.Contents.{IsWalk, contained}
-use Rattle.lft_instances.specs.Paths.{IsPreOrder, along}
-use Rattle.lft_instances.specs.Values.{HaveValues, LeadToValues, defaults_of, entered as entered_by_number}
-use Rattle.lft_instances.specs.declared.settings.Parameters.{Parameters}
-use Rattle.lft_instances.specs.declared.walk.Contents.{Contents}
-use Rattle.lft_instances.specs.declared.walk.Instance.{Instance}
-use Rattle.lft_instances.proofs.Simulation.{along_back, pre_order_back}
-use Rattle.lft_scope.specs.Causes.{HasLongTime, NoneHolds, first_causes}
-use Rattle.lft_scope.specs.Instances.{entered, main_instance, main_of}
-use Rattle.lft_scope.specs.Numbers.{AreContents}
-use Rattle.lft_scope.specs.Sheets.{AreParameters}
+use Rattle.lft_resolve.specs.Expansion.Contents.{IsWalk, contained}
+use Rattle.lft_resolve.specs.Expansion.Paths.{IsPreOrder, along}
+use Rattle.lft_resolve.specs.Expansion.Values.{HaveValues, LeadToValues, defaults_of, entered as entered_by_number}
+use Rattle.lft_resolve.specs.declared.expansion.settings.Parameters.{Parameters}
+use Rattle.lft_resolve.specs.declared.expansion.walk.Contents.{Contents}
+use Rattle.lft_resolve.specs.declared.expansion.walk.Instance.{Instance}
+use Rattle.lft_resolve.proofs.ExpansionLemmas.Simulation.{along_back, pre_order_back}
+use Rattle.lft_resolve.specs.Causes.{HasLongTime, NoneHolds, first_causes}
+use Rattle.lft_resolve.specs.Instances.{entered, main_instance, main_of}
+use Rattle.lft_resolve.specs.Numbers.{AreContents}
+use Rattle.lft_resolve.specs.Sheets.{AreParameters}
 use Rattle.lft_program.specs.Located.{AreLocated, Located}
 use Rattle.lft_program.specs.Nests.{IsInstanceOf}
 use Rattle.lft_program.proofs.Entering.{HasNumber, numbers_go_along}

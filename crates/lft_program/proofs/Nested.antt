@@ -4,12 +4,12 @@ use Rattle.std.proofs.lemmas.Bool.{cases_lt}
 use Rattle.lft_lists.proofs.Places.{push_apart}
 use Rattle.lft_lists.proofs.Mapped.{mapped, mapped_from}
 use Rattle.lft_tree.specs.Tree.{FileTree, reactors_of}
-use Rattle.lft_instances.specs.declared.walk.Instance.{Instance}
-use Rattle.lft_instances.specs.Paths.{along}
-use Rattle.lft_instances.specs.Children.{child_of, IsChild}
-use Rattle.lft_instances.specs.Contents.{IsAt}
-use Rattle.lft_instances.proofs.Orders.{before_itself}
-use Rattle.lft_scope.specs.Instances.{Inside, IsInside, entered, main_instance}
+use Rattle.lft_resolve.specs.declared.expansion.walk.Instance.{Instance}
+use Rattle.lft_resolve.specs.Expansion.Paths.{along}
+use Rattle.lft_resolve.specs.Expansion.Children.{child_of, IsChild}
+use Rattle.lft_resolve.specs.Expansion.Contents.{IsAt}
+use Rattle.lft_resolve.proofs.ExpansionLemmas.Orders.{before_itself}
+use Rattle.lft_resolve.specs.Instances.{Inside, IsInside, entered, main_instance}
 use Rattle.lft_program.specs.Located.{Located}
 use Rattle.lft_program.specs.Nests.{IsNest, IsInstanceOf}
 use Rattle.lft_program.specs.declared.nesting.nest.Nest.{Nest}

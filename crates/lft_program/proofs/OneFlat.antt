@@ -8,9 +8,9 @@ use Rattle.lft_program.specs.Located.{Located, AreLocated, Declared, declared}
 use Rattle.lft_program.specs.Tables.{IsLawful}
 use Rattle.lft_program.proofs.Listing.{declared_from}
 use Rattle.lft_program.specs.Flattening.{Flat, IsPort, IsAction, IsTimer, IsReaction, names_of}
-use Rattle.lft_flat.specs.Parts.{Parts}
-use Rattle.lft_flat.specs.Sound.{KeepsOrigins}
-use Rattle.lft_flat.specs.declared.parts.Port.{Port as PortOf}
+use Rattle.lft_ir.specs.Parts.{Parts}
+use Rattle.lft_ir.specs.Sound.{KeepsOrigins}
+use Rattle.lft_ir.specs.declared.parts.Port.{Port as PortOf}
 use Rattle.lft_program.proofs.OneInstances.{one_located}
 use Rattle.lft_program.proofs.OneName.{one_of_action, one_of_timer, one_of_reaction}
 use Rattle.lft_program.proofs.OneOrigin.{one_end}

@@ -2,9 +2,9 @@
 use Rattle.std.proofs.Common.{◌≡◌, ℕ, suc, Bool, true, false, cond, List, [], ◌∷◌, map, find, slice_get, Some, refl, sym, ap, subst, ◌∙◌}
 use Rattle.lft_lists.proofs.Places.{Some_same}
 use Rattle.lft_tree.specs.Tree.{FileTree, ReactorTree, reactors_of}
-use Rattle.lft_instances.specs.Paths.{along, IsPreOrder}
-use Rattle.lft_instances.proofs.Unique.{pre_order_unique}
-use Rattle.lft_scope.specs.Instances.{Inside, IsInside, is_called, entered, main_of, main_instance}
+use Rattle.lft_resolve.specs.Expansion.Paths.{along, IsPreOrder}
+use Rattle.lft_resolve.proofs.ExpansionLemmas.Unique.{pre_order_unique}
+use Rattle.lft_resolve.specs.Instances.{Inside, IsInside, is_called, entered, main_of, main_instance}
 use Rattle.lft_program.specs.Located.{Located, AreLocated}
 use Rattle.lft_program.proofs.Zipping.{then_some}
 use Rattle.lft_program.proofs.Entering.{entered_by}

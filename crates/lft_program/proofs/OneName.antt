@@ -2,18 +2,18 @@
 use Rattle.std.proofs.Common.{◌≡◌, ℕ, List, slice_get, Some, sym, ap, subst, ◌∙◌}
 use Rattle.lft_lists.proofs.Places.{Some_same}
 use Rattle.lft_tree.specs.Tree.{FileTree, RefTree, TriggerTree, ReactionTree, ActionTree, TimerTree, AtStartup, AtShutdown, OnRef}
-use Rattle.lft_scope.specs.Instances.{Thing, stands_for}
-use Rattle.lft_scope.specs.Sheets.{without_timers}
+use Rattle.lft_resolve.specs.Instances.{Thing, stands_for}
+use Rattle.lft_resolve.specs.Sheets.{without_timers}
 use Rattle.lft_program.specs.Located.{Located, AreLocated, Declared, timers_in}
 use Rattle.lft_program.specs.Tables.{IsLawful}
 use Rattle.lft_program.specs.Flattening.{Means, IsName, IsTrigger, IsAction, IsTimer, IsReaction}
-use Rattle.lft_flat.specs.declared.parts.Action.{Action as ActionOf}
-use Rattle.lft_flat.specs.declared.parts.Timer.{Timer as TimerOf}
-use Rattle.lft_flat.specs.declared.parts.Reaction.{Reaction}
-use Rattle.lft_flat.specs.declared.parts.Name.{Name}
-use Rattle.lft_flat.specs.declared.parts.Name.TheVariants.{Port, Action}
-use Rattle.lft_flat.specs.declared.parts.Trigger.{Trigger}
-use Rattle.lft_flat.specs.declared.parts.Trigger.TheVariants.{Startup, Shutdown, Timer, On}
+use Rattle.lft_ir.specs.declared.parts.Action.{Action as ActionOf}
+use Rattle.lft_ir.specs.declared.parts.Timer.{Timer as TimerOf}
+use Rattle.lft_ir.specs.declared.parts.Reaction.{Reaction}
+use Rattle.lft_ir.specs.declared.parts.Name.{Name}
+use Rattle.lft_ir.specs.declared.parts.Name.TheVariants.{Port, Action}
+use Rattle.lft_ir.specs.declared.parts.Trigger.{Trigger}
+use Rattle.lft_ir.specs.declared.parts.Trigger.TheVariants.{Startup, Shutdown, Timer, On}
 use Rattle.lft_program.proofs.OneThing.{one_port, one_action, one_timer, port_or_timer, port_or_action, timer_or_action}
 use Rattle.lft_program.proofs.Zips.{AllZip-one}
 

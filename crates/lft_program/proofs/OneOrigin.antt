@@ -6,10 +6,10 @@ use Rattle.lft_lists.proofs.Places.{Some_same}
 use Rattle.lft_lists.proofs.Mapped.{mapped}
 use Rattle.lft_tag.specs.Shifts.{join_all, none}
 use Rattle.lft_tag.specs.declared.Shift.{Shift}
-use Rattle.lft_flat.specs.Origins.{Origin, itself, over}
-use Rattle.lft_flat.specs.Parts.{Parts}
-use Rattle.lft_flat.specs.Sound.{KeepsOrigins}
-use Rattle.lft_flat.specs.declared.parts.Port.{Port as PortOf}
+use Rattle.lft_ir.specs.Origins.{Origin, itself, over}
+use Rattle.lft_ir.specs.Parts.{Parts}
+use Rattle.lft_ir.specs.Sound.{KeepsOrigins}
+use Rattle.lft_ir.specs.declared.parts.Port.{Port as PortOf}
 use Rattle.lft_tag.specs.declared.Source.{Source}
 
 -- a shift is known by its time and steps

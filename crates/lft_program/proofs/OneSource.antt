@@ -6,17 +6,17 @@ use Rattle.std.proofs.lemmas.List.Folds.{find_at}
 use Rattle.std.proofs.lemmas.Option.{slice_get_within}
 use Rattle.lft_lists.proofs.Places.{get_left, push_apart, Some_same}
 use Rattle.lft_tree.specs.Tree.{FileTree, PortTree, InstanceTree, ConnectionTree, RefTree, reactors_of, ports_of, instances_of, connections_of}
-use Rattle.lft_instances.specs.Paths.{along}
-use Rattle.lft_instances.proofs.Orders.{along_at}
-use Rattle.lft_scope.specs.Causes.{IsTwice, TwoSources, WritesTwice}
-use Rattle.lft_scope.specs.Instances.{Inside, IsInside, Thing, thing_at, stands_for, stands_inside, time_in, Connects, entered, main_instance, reactor_named}
-use Rattle.lft_scope.specs.Kinds.{destinations_in}
-use Rattle.lft_scope.specs.Places.{place}
-use Rattle.lft_scope.specs.Sheets.{IsInner, port_place}
-use Rattle.lft_scope.proofs.Effects.{port_found}
-use Rattle.lft_scope.proofs.Placing.{find-place}
-use Rattle.lft_scope.proofs.Twice.{Any-at}
-use Rattle.lft_scope.proofs.Written.{own_written, inner_written}
+use Rattle.lft_resolve.specs.Expansion.Paths.{along}
+use Rattle.lft_resolve.proofs.ExpansionLemmas.Orders.{along_at}
+use Rattle.lft_resolve.specs.Causes.{IsTwice, TwoSources, WritesTwice}
+use Rattle.lft_resolve.specs.Instances.{Inside, IsInside, Thing, thing_at, stands_for, stands_inside, time_in, Connects, entered, main_instance, reactor_named}
+use Rattle.lft_resolve.specs.Kinds.{destinations_in}
+use Rattle.lft_resolve.specs.Places.{place}
+use Rattle.lft_resolve.specs.Sheets.{IsInner, port_place}
+use Rattle.lft_resolve.proofs.Effects.{port_found}
+use Rattle.lft_resolve.proofs.Placing.{find-place}
+use Rattle.lft_resolve.proofs.Twice.{Any-at}
+use Rattle.lft_resolve.proofs.Written.{own_written, inner_written}
 use Rattle.lft_program.specs.Located.{Located, AreLocated, Declared, ports_in}
 use Rattle.lft_program.specs.Tables.{IsLawful}
 use Rattle.lft_program.proofs.Counting.{total, flat_at}

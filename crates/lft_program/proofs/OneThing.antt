@@ -8,10 +8,10 @@ use Rattle.lft_program.proofs.Placed.{path_once}
 use Rattle.lft_lists.proofs.Mapped.{mapped, mapped_from}
 use Rattle.lft_lists.proofs.Places.{get_left, Some_same}
 use Rattle.lft_tree.specs.Tree.{FileTree, ReactorTree, PortTree, TimerTree, ActionTree, reactors_of, ports_of, timers_of, actions_of}
-use Rattle.lft_scope.specs.Causes.{IsTwice}
-use Rattle.lft_scope.specs.Instances.{Thing, thing_at}
-use Rattle.lft_scope.specs.Kinds.{names_in}
-use Rattle.lft_scope.proofs.Effects.{names_once}
+use Rattle.lft_resolve.specs.Causes.{IsTwice}
+use Rattle.lft_resolve.specs.Instances.{Thing, thing_at}
+use Rattle.lft_resolve.specs.Kinds.{names_in}
+use Rattle.lft_resolve.proofs.Effects.{names_once}
 use Rattle.lft_program.specs.Located.{Located, AreLocated, Declared, declared, things, ports_in, actions_in, timers_in}
 use Rattle.lft_program.specs.Tables.{IsLawful}
 use Rattle.lft_program.proofs.Counting.{base}

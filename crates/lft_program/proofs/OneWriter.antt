@@ -5,11 +5,11 @@ use Rattle.std.specs.Str.{bytes_eq}
 use Rattle.lft_program.proofs.OneSource.{found_at}
 use Rattle.lft_lists.proofs.Places.{push_apart, Some_same}
 use Rattle.lft_tree.specs.Tree.{FileTree, ReactionTree, PortTree, RefTree, reactors_of, reactions_of, ports_of, instances_of}
-use Rattle.lft_instances.specs.Paths.{along}
-use Rattle.lft_instances.proofs.Orders.{along_at}
-use Rattle.lft_scope.proofs.Effects.{port_found, own_effect, inner_effect}
-use Rattle.lft_scope.specs.Causes.{HasLongTime}
-use Rattle.lft_scope.specs.Instances.{Inside, thing_at, stands_for, stands_inside, entered, main_instance, reactor_named}
+use Rattle.lft_resolve.specs.Expansion.Paths.{along}
+use Rattle.lft_resolve.proofs.ExpansionLemmas.Orders.{along_at}
+use Rattle.lft_resolve.proofs.Effects.{port_found, own_effect, inner_effect}
+use Rattle.lft_resolve.specs.Causes.{HasLongTime}
+use Rattle.lft_resolve.specs.Instances.{Inside, thing_at, stands_for, stands_inside, entered, main_instance, reactor_named}
 use Rattle.lft_program.specs.Located.{Located, AreLocated, Declared}
 use Rattle.lft_program.specs.Tables.{IsLawful}
 use Rattle.lft_program.proofs.Placed.{IsAt, inside_once}

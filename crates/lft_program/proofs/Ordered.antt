@@ -7,9 +7,9 @@ use Rattle.lft_program.specs.Located.{Declared, declared}
 use Rattle.lft_program.proofs.Counting.{base, declared_at}
 use Rattle.lft_program.proofs.Placed.{IsAt, declared_from}
 use Rattle.lft_program.specs.Flattening.{IsReaction, Flat}
-use Rattle.lft_flat.specs.Parts.{Parts}
-use Rattle.lft_flat.specs.Sound.{IsNumbered, IsConsecutive}
-use Rattle.lft_flat.specs.declared.parts.Reaction.{Reaction}
+use Rattle.lft_ir.specs.Parts.{Parts}
+use Rattle.lft_ir.specs.Sound.{IsNumbered, IsConsecutive}
+use Rattle.lft_ir.specs.declared.parts.Reaction.{Reaction}
 use Rattle.lft_program.proofs.Zips.{AllZip-from}
 
 -- the item that goes with an element

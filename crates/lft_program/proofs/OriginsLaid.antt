@@ -4,16 +4,16 @@ use Rattle.std.proofs.lemmas.Option.{slice_get_within}
 use Rattle.lft_lists.proofs.Mapped.{mapped_from}
 use Rattle.lft_lists.proofs.Places.{get_there}
 use Rattle.lft_tree.specs.Tree.{FileTree}
-use Rattle.lft_instances.specs.Sources.{Origin as OriginBefore, itself as itself_before, over as over_before}
-use Rattle.lft_instances.specs.declared.numbering.Thing.{Thing}
+use Rattle.lft_resolve.specs.Expansion.Sources.{Origin as OriginBefore, itself as itself_before, over as over_before}
+use Rattle.lft_resolve.specs.declared.expansion.numbering.Thing.{Thing}
 use Rattle.lft_program.specs.declared.nesting.linking.Linked.{Linked}
 use Rattle.lft_program.specs.declared.nesting.nest.Nest.{Nest}
 use Rattle.lft_program.specs.declared.nesting.tables.Tables.{Tables}
 use Rattle.lft_program.specs.OfTree.{AreOfTree}
-use Rattle.lft_flat.specs.Origins.{Origin, itself, over}
-use Rattle.lft_flat.specs.Parts.{Parts}
-use Rattle.lft_flat.specs.Sound.{KeepsOrigins}
-use Rattle.lft_flat.specs.declared.parts.Port.{Port as PortOf}
+use Rattle.lft_ir.specs.Origins.{Origin, itself, over}
+use Rattle.lft_ir.specs.Parts.{Parts}
+use Rattle.lft_ir.specs.Sound.{KeepsOrigins}
+use Rattle.lft_ir.specs.declared.parts.Port.{Port as PortOf}
 use Rattle.lft_program.proofs.Making.{Made}
 use Rattle.lft_program.proofs.PortsLaid.{IsLinkedPort}
 

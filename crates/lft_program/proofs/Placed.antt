@@ -4,9 +4,9 @@ use Rattle.std.proofs.lemmas.Bool.{cases_lt}
 use Rattle.lft_lists.proofs.Places.{Some_same}
 use Rattle.lft_lists.proofs.Mapped.{mapped, mapped_from}
 use Rattle.lft_tree.specs.Tree.{FileTree, ReactorTree}
-use Rattle.lft_instances.specs.Paths.{along, Before}
-use Rattle.lft_instances.proofs.Orders.{before_itself}
-use Rattle.lft_scope.specs.Instances.{Thing, thing_at, entered, main_instance}
+use Rattle.lft_resolve.specs.Expansion.Paths.{along, Before}
+use Rattle.lft_resolve.proofs.ExpansionLemmas.Orders.{before_itself}
+use Rattle.lft_resolve.specs.Instances.{Thing, thing_at, entered, main_instance}
 use Rattle.lft_program.specs.Located.{Located, AreLocated, Declared, declared, things}
 use Rattle.lft_program.proofs.Counting.{base}
 use Rattle.lft_program.proofs.Listing.{declared_from as stands}

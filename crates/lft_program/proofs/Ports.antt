@@ -8,10 +8,10 @@ use Rattle.std.proofs.lemmas.List.{length-map}
 use Rattle.lft_lists.proofs.Mapped.{mapped, mapped_from}
 use Rattle.lft_lists.proofs.Places.{get_there}
 use Rattle.lft_tree.specs.Tree.{FileTree, ReactorTree, reactors_of}
-use Rattle.lft_instances.specs.declared.walk.Instance.{Instance}
-use Rattle.lft_instances.specs.Joins.{port_at}
-use Rattle.lft_instances.specs.Numbers.{count_of, things as how_many}
-use Rattle.lft_scope.specs.Instances.{Thing, thing_at}
+use Rattle.lft_resolve.specs.declared.expansion.walk.Instance.{Instance}
+use Rattle.lft_resolve.specs.Expansion.Joins.{port_at}
+use Rattle.lft_resolve.specs.Expansion.Numbers.{count_of, things as how_many}
+use Rattle.lft_resolve.specs.Instances.{Thing, thing_at}
 use Rattle.lft_program.specs.Located.{Located, Declared, declared, declared_in, things}
 use Rattle.lft_program.specs.Nests.{IsNest, IsNumbering, IsInstanceOf}
 use Rattle.lft_program.specs.declared.nesting.nest.Nest.{Nest}

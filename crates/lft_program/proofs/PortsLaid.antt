@@ -5,9 +5,9 @@ use Rattle.std.specs.List.{AllZip}
 use Rattle.std.proofs.lemmas.List.{length-map}
 use Rattle.lft_lists.proofs.Mapped.{mapped}
 use Rattle.lft_tree.specs.Tree.{FileTree, PortTree, ports_of}
-use Rattle.lft_instances.specs.declared.numbering.Thing.{Thing}
-use Rattle.lft_scope.specs.Instances.{Thing as Spoken, thing_at}
-use Rattle.lft_scope.specs.Sheets.{IsDeclarations}
+use Rattle.lft_resolve.specs.declared.expansion.numbering.Thing.{Thing}
+use Rattle.lft_resolve.specs.Instances.{Thing as Spoken, thing_at}
+use Rattle.lft_resolve.specs.Sheets.{IsDeclarations}
 use Rattle.lft_program.specs.Links.{IsSource}
 use Rattle.lft_program.specs.Located.{Declared, declared, ports_in}
 use Rattle.lft_program.specs.Nests.{IsThingOf}
@@ -18,7 +18,7 @@ use Rattle.lft_program.proofs.Declared.{declared_from}
 use Rattle.lft_program.specs.Flattening.{IsPort}
 use Rattle.lft_program.specs.Laying.{IsPortAt, input_at}
 use Rattle.lft_program.specs.OfTree.{AreOfTree}
-use Rattle.lft_flat.specs.declared.parts.Port.{Port as PortOf}
+use Rattle.lft_ir.specs.declared.parts.Port.{Port as PortOf}
 use Rattle.lft_program.proofs.LaidOut.{row_there}
 use Rattle.lft_program.proofs.Making.{Made, made_zip}
 use Rattle.lft_program.proofs.Zips.{AllZip-from, AllZip-length}

@@ -6,11 +6,11 @@ use Rattle.lft_lists.proofs.Mapped.{mapped_from}
 use Rattle.lft_lists.proofs.Places.{get_there, get_push_cases}
 use Rattle.lft_tree.specs.Tree.{FileTree}
 use Rattle.lft_tag.specs.declared.Shift.{Shift}
-use Rattle.lft_instances.specs.Sources.{AreReached, Leads, Origin}
+use Rattle.lft_resolve.specs.Expansion.Sources.{AreReached, Leads, Origin}
 use Rattle.lft_tag.specs.declared.Source.{Source}
-use Rattle.lft_instances.specs.declared.origins.Reached.{Reached}
-use Rattle.lft_scope.specs.Causes.{DelayTooLong as HasLongDelay, IsFirst, NoneHolds}
-use Rattle.lft_scope.specs.Instances.{Thing, Connects}
+use Rattle.lft_resolve.specs.declared.expansion.origins.Reached.{Reached}
+use Rattle.lft_resolve.specs.Causes.{DelayTooLong as HasLongDelay, IsFirst, NoneHolds}
+use Rattle.lft_resolve.specs.Instances.{Thing, Connects}
 use Rattle.lft_program.specs.Linking.{IsLinked, IsTooLong, AreLinked}
 use Rattle.lft_program.specs.Links.{AreLinks, IsSource, last_causes}
 use Rattle.lft_program.specs.Located.{Located, ports_in}

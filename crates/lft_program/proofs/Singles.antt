@@ -6,9 +6,9 @@ use Rattle.std.proofs.lemmas.List.{map-append}
 use Rattle.std.proofs.lemmas.Slice.Eq.{bytes_eq-Decides}
 use Rattle.lft_lists.proofs.Mapped.{mapped, mapped_from, pair_at}
 use Rattle.lft_tree.specs.Tree.{ReactorTree, ConnectionTree, RefTree, TimeTree, connections_of}
-use Rattle.lft_scope.specs.Kinds.{destinations_in}
-use Rattle.lft_scope.specs.Places.{place}
-use Rattle.lft_scope.specs.Sheets.{Single, singles_in, singles_of}
+use Rattle.lft_resolve.specs.Kinds.{destinations_in}
+use Rattle.lft_resolve.specs.Places.{place}
+use Rattle.lft_resolve.specs.Sheets.{Single, singles_in, singles_of}
 use Rattle.lft_program.proofs.Counting.{total, flat_at}
 use Rattle.lft_program.proofs.Elements.{From, flat_back, pair_back}
 

@@ -4,7 +4,7 @@ use Rattle.std.proofs.lemmas.Bool.{cases_order}
 use Rattle.std.proofs.lemmas.Option.{slice_get_within, slice_get-get_or}
 use Rattle.lft_lists.proofs.Places.{Some_same}
 use Rattle.lft_tree.specs.Tree.{ReactorTree}
-use Rattle.lft_scope.specs.Causes.{IsTwice}
+use Rattle.lft_resolve.specs.Causes.{IsTwice}
 use Rattle.lft_program.specs.Located.{Located}
 use Rattle.lft_program.specs.declared.naming.OwnName.{OwnName}
 use Rattle.lft_program.proofs.FullNames.{part_at}

@@ -6,16 +6,16 @@ use Rattle.std.proofs.lemmas.Option.{slice_get_within}
 use Rattle.std.proofs.lemmas.List.{length-map}
 use Rattle.lft_tree.specs.Tree.{FileTree, ReactorTree, ReactionTree, RefTree, TriggerTree, AtStartup, AtShutdown, OnRef, reactors_of, ports_of, timers_of, actions_of, reactions_of}
 use Rattle.lft_lists.proofs.Mapped.{option_map_some}
-use Rattle.lft_instances.specs.Joins.{port_at}
-use Rattle.lft_instances.specs.declared.numbering.Thing.{Thing}
-use Rattle.lft_scope.specs.Instances.{Thing as Spoken, thing_at, stands_inside, stands_for}
-use Rattle.lft_scope.specs.Places.{place}
-use Rattle.lft_scope.specs.Sheets.{AreCues, IsCue, IsReactions, IsSpot, without_timers}
-use Rattle.lft_scope.specs.declared.by_number.sheets.Cue.{Cue}
-use Rattle.lft_scope.specs.declared.by_number.sheets.Cue.TheVariants as cues
-use Rattle.lft_scope.specs.declared.by_number.sheets.Cues.{Cues}
-use Rattle.lft_scope.specs.declared.by_number.sheets.Spot.{Spot}
-use Rattle.lft_scope.specs.declared.by_number.sheets.Spot.TheVariants as spots
+use Rattle.lft_resolve.specs.Expansion.Joins.{port_at}
+use Rattle.lft_resolve.specs.declared.expansion.numbering.Thing.{Thing}
+use Rattle.lft_resolve.specs.Instances.{Thing as Spoken, thing_at, stands_inside, stands_for}
+use Rattle.lft_resolve.specs.Places.{place}
+use Rattle.lft_resolve.specs.Sheets.{AreCues, IsCue, IsReactions, IsSpot, without_timers}
+use Rattle.lft_resolve.specs.declared.by_number.sheets.Cue.{Cue}
+use Rattle.lft_resolve.specs.declared.by_number.sheets.Cue.TheVariants as cues
+use Rattle.lft_resolve.specs.declared.by_number.sheets.Cues.{Cues}
+use Rattle.lft_resolve.specs.declared.by_number.sheets.Spot.{Spot}
+use Rattle.lft_resolve.specs.declared.by_number.sheets.Spot.TheVariants as spots
 use Rattle.lft_program.specs.Located.{Located, Declared, declared, things}
 use Rattle.lft_program.specs.Nests.{IsNumbering, IsThingOf}
 use Rattle.lft_program.specs.declared.nesting.linking.Linked.{Linked}
@@ -31,11 +31,11 @@ use Rattle.lft_program.proofs.Zipping.{zip_at}
 use Rattle.lft_program.specs.Flattening.{IsName, IsReaction, IsTrigger}
 use Rattle.lft_program.specs.Laying.{Each, HasCues, HasName, HasTrigger, IsReactionAt, cues_at, name_at, trigger_at}
 use Rattle.lft_program.specs.OfTree.{AreOfTree}
-use Rattle.lft_flat.specs.declared.parts.Name.{Name}
-use Rattle.lft_flat.specs.declared.parts.Name.TheVariants.{Port, Action}
-use Rattle.lft_flat.specs.declared.parts.Reaction.{Reaction}
-use Rattle.lft_flat.specs.declared.parts.Trigger.{Trigger}
-use Rattle.lft_flat.specs.declared.parts.Trigger.TheVariants.{Startup, Shutdown, Timer, On}
+use Rattle.lft_ir.specs.declared.parts.Name.{Name}
+use Rattle.lft_ir.specs.declared.parts.Name.TheVariants.{Port, Action}
+use Rattle.lft_ir.specs.declared.parts.Reaction.{Reaction}
+use Rattle.lft_ir.specs.declared.parts.Trigger.{Trigger}
+use Rattle.lft_ir.specs.declared.parts.Trigger.TheVariants.{Startup, Shutdown, Timer, On}
 use Rattle.lft_program.proofs.LaidOut.{row_there}
 use Rattle.lft_program.proofs.Making.{Made, made_zip}
 use Rattle.lft_program.proofs.Zips.{AllZip-from}

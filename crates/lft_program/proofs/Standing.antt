@@ -7,19 +7,19 @@ use Rattle.std.proofs.lemmas.Slice.Eq.{bytes_eq-Decides}
 use Rattle.lft_lists.proofs.Places.{push_apart, Some_same}
 use Rattle.lft_tree.specs.Tree.{ReactorTree, InstanceTree, RefTree, TriggerTree, AtStartup, AtShutdown, OnRef, instances_of}
 use Rattle.lft_lists.proofs.Members.{Mem}
-use Rattle.lft_instances.proofs.Unique.{pairs_from}
-use Rattle.lft_scope.specs.Causes.{IsTwice}
-use Rattle.lft_scope.specs.Instances.{Thing, thing_at, stands_for, stands_inside}
-use Rattle.lft_scope.specs.Kinds.{ref_in}
+use Rattle.lft_resolve.proofs.ExpansionLemmas.Unique.{pairs_from}
+use Rattle.lft_resolve.specs.Causes.{IsTwice}
+use Rattle.lft_resolve.specs.Instances.{Thing, thing_at, stands_for, stands_inside}
+use Rattle.lft_resolve.specs.Kinds.{ref_in}
 use Rattle.lft_program.specs.Located.{Located}
 use Rattle.lft_program.specs.Flattening.{IsName, IsTrigger, Means}
-use Rattle.lft_flat.specs.Naming.{named}
-use Rattle.lft_flat.specs.declared.parts.Name.{Name}
-use Rattle.lft_flat.specs.declared.parts.Name.TheVariants.{Port, Action}
-use Rattle.lft_flat.specs.declared.parts.Trigger.{Trigger}
-use Rattle.lft_flat.specs.declared.parts.Trigger.TheVariants.{Startup, Shutdown, Timer, On}
-use Rattle.lft_flat.proofs.Positions.{somewhere}
-use Rattle.lft_instances.proofs.Pairs.{Pairs, pairs_at}
+use Rattle.lft_ir.specs.Naming.{named}
+use Rattle.lft_ir.specs.declared.parts.Name.{Name}
+use Rattle.lft_ir.specs.declared.parts.Name.TheVariants.{Port, Action}
+use Rattle.lft_ir.specs.declared.parts.Trigger.{Trigger}
+use Rattle.lft_ir.specs.declared.parts.Trigger.TheVariants.{Startup, Shutdown, Timer, On}
+use Rattle.lft_ir.proofs.Positions.{somewhere}
+use Rattle.lft_resolve.proofs.ExpansionLemmas.Pairs.{Pairs, pairs_at}
 
 -- ---- lists of which one goes with some elements of the other, in order
 

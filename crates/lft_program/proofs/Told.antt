@@ -4,18 +4,18 @@ use Rattle.std.proofs.lemmas.Option.{slice_get_within}
 use Rattle.lft_lists.proofs.Places.{get_there, same_some, Some_same}
 use Rattle.lft_tree.specs.Tree.{FileTree}
 use Rattle.lft_tag.specs.declared.Source.{Source}
-use Rattle.lft_instances.specs.declared.joins.Connections.{Connections}
-use Rattle.lft_instances.specs.declared.joins.Site.{Site}
-use Rattle.lft_instances.specs.declared.joins.Sources.{Sources}
-use Rattle.lft_instances.specs.declared.origins.Reached.{Reached}
-use Rattle.lft_instances.specs.declared.walk.Instance.{Instance}
-use Rattle.lft_instances.specs.Joins.{AreSites, AreSources}
-use Rattle.lft_instances.specs.Sources.{AreReached, IsFolded, IsReached, Leads, Origin, itself, over}
-use Rattle.lft_instances.specs.Ways.{HaveSites, IsWayBack, LeadsBack}
-use Rattle.lft_instances.proofs.Settled.{leads_from}
-use Rattle.lft_instances.proofs.Backwards.{end_back, ring_back}
-use Rattle.lft_scope.specs.Causes.{longest}
-use Rattle.lft_scope.specs.Instances.{Thing}
+use Rattle.lft_resolve.specs.declared.expansion.joins.Connections.{Connections}
+use Rattle.lft_resolve.specs.declared.expansion.joins.Site.{Site}
+use Rattle.lft_resolve.specs.declared.expansion.joins.Sources.{Sources}
+use Rattle.lft_resolve.specs.declared.expansion.origins.Reached.{Reached}
+use Rattle.lft_resolve.specs.declared.expansion.walk.Instance.{Instance}
+use Rattle.lft_resolve.specs.Expansion.Joins.{AreSites, AreSources}
+use Rattle.lft_resolve.specs.Expansion.Sources.{AreReached, IsFolded, IsReached, Leads, Origin, itself, over}
+use Rattle.lft_resolve.specs.Expansion.Ways.{HaveSites, IsWayBack, LeadsBack}
+use Rattle.lft_resolve.proofs.ExpansionLemmas.Settled.{leads_from}
+use Rattle.lft_resolve.proofs.ExpansionLemmas.Backwards.{end_back, ring_back}
+use Rattle.lft_resolve.specs.Causes.{longest}
+use Rattle.lft_resolve.specs.Instances.{Thing}
 use Rattle.lft_program.specs.Linking.{IsTooLong}
 use Rattle.lft_program.specs.Located.{Located, ports_in}
 use Rattle.lft_program.specs.Nests.{IsNest}

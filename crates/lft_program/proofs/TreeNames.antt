@@ -8,8 +8,8 @@ use Rattle.lft_lists.proofs.Places.{Some_same}
 use Rattle.lft_lists.proofs.Mapped.{mapped, mapped_from}
 use Rattle.lft_tree.specs.Identifiers.{IsName, HasIdentifiers}
 use Rattle.lft_tree.specs.Tree.{FileTree, ReactorTree, reactors_of, ports_of, actions_of, timers_of, reactions_of}
-use Rattle.lft_scope.specs.Kinds.{names_in}
-use Rattle.lft_scope.specs.Causes.{IsTwice}
+use Rattle.lft_resolve.specs.Kinds.{names_in}
+use Rattle.lft_resolve.specs.Causes.{IsTwice}
 use Rattle.lft_program.specs.Located.{Located, declared, things}
 use Rattle.lft_program.specs.Nests.{IsNest}
 use Rattle.lft_program.specs.Tables.{IsLawful}
@@ -19,7 +19,7 @@ use Rattle.lft_program.proofs.Listing.{declared_from}
 use Rattle.lft_program.proofs.Zipping.{zip_at, zip_long, zip_of}
 use Rattle.lft_program.specs.Flattening.{name_of_path, name_of_thing, name_of_reaction, names_of}
 use Rattle.lft_program.specs.FullNames.{IsDotted, IsHashed, AreFullNames, AreNested, AreOfProgram, AreFew, members}
-use Rattle.lft_flat.specs.Names.{ThingNames}
+use Rattle.lft_ir.specs.Names.{ThingNames}
 use Rattle.lft_program.specs.TreeLists.{AreLists, IsPlacedAt, Says}
 use Rattle.lft_program.specs.declared.naming.OwnName.{OwnName}
 use Rattle.lft_program.specs.declared.naming.Placed.{Placed}
@@ -27,7 +27,7 @@ use Rattle.lft_program.specs.declared.tree_lists.Lists.{Lists}
 use Rattle.lft_program.proofs.InnerNames.{first, inner_at, inner_sites, long, long_inner, path_last}
 use Rattle.lft_program.proofs.KindNames.{reactor_at, sites, few_told, placed_within, placed_once, few_placed}
 use Rattle.lft_program.proofs.NamesOnce.{port_names, timer_names, action_names, instance_names, never_twice, ports_once, timers_once, actions_once, instances_once, ports_timers, ports_actions, ports_instances, timers_actions, timers_instances, actions_instances, ports_named, timers_named, actions_named, instances_named}
-use Rattle.lft_flat.proofs.Ranges.{slice_get-drop}
+use Rattle.lft_ir.proofs.Ranges.{slice_get-drop}
 use Rattle.lft_program.proofs.Sites.{Once, AreApart, AreSites, Each, all_of, pairs_of, each_append, once_append, apart_append, append_apart, once_of, apart_of, names_of_sites, within_sites}
 
 module _ (tree : FileTree) (tables : Tables) (nest : Nest) (is : IsNest tree tables nest)

@@ -1,15 +1,15 @@
 -- The nest of a tree, and the limits that it keeps.
 use Rattle.std.proofs.Common.{◌≡◌, ℕ, ◌-◌, ◌<◌, ◌≤◌, arith, inl, inr, List, length, refl, sym, ◌∙◌, subst, Result, Err, IsErrAnd, map}
 use Rattle.lft_tree.specs.Tree.{FileTree, ReactorTree, actions_of, ports_of, reactions_of, reactors_of, timers_of}
-use Rattle.lft_instances.specs.Children.{AreChildren}
-use Rattle.lft_instances.specs.Contents.{IsWalk, contained}
-use Rattle.lft_instances.specs.Numbers.{AreFirst, HasMoreThings, things}
-use Rattle.lft_instances.specs.Paths.{Exists, IsMoreThan}
-use Rattle.lft_instances.specs.Values.{HaveValues, LeadToValues}
-use Rattle.lft_instances.specs.declared.walk.Contents.{Contents}
-use Rattle.lft_instances.specs.declared.walk.Instance.{Instance}
-use Rattle.lft_instances.proofs.Things.{walk_more_things}
-use Rattle.lft_scope.specs.Causes.{IsDeclaredAt, TooMany, joins_of}
+use Rattle.lft_resolve.specs.Expansion.Children.{AreChildren}
+use Rattle.lft_resolve.specs.Expansion.Contents.{IsWalk, contained}
+use Rattle.lft_resolve.specs.Expansion.Numbers.{AreFirst, HasMoreThings, things}
+use Rattle.lft_resolve.specs.Expansion.Paths.{Exists, IsMoreThan}
+use Rattle.lft_resolve.specs.Expansion.Values.{HaveValues, LeadToValues}
+use Rattle.lft_resolve.specs.declared.expansion.walk.Contents.{Contents}
+use Rattle.lft_resolve.specs.declared.expansion.walk.Instance.{Instance}
+use Rattle.lft_resolve.proofs.ExpansionLemmas.Things.{walk_more_things}
+use Rattle.lft_resolve.specs.Causes.{IsDeclaredAt, TooMany, joins_of}
 use Rattle.lft_program.specs.Limits.{HasMoreThan, IsExcess, IsFull, IsPassed, limit_of}
 use Rattle.lft_program.specs.Nests.{IsNest, IsNumbering}
 use Rattle.lft_program.specs.Tables.{AreTables, IsLawful}

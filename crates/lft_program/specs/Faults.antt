@@ -1,7 +1,7 @@
 -- The numbers of faults, and the causes that are looked for before those of instances.
 use Rattle.std.specs.Prelude.{ℕ, List, ◌∷◌, ◌++◌}
 use Rattle.lft_tree.specs.Tree.{FileTree, reactors_of}
-use Rattle.lft_scope.specs.Causes.{RecursiveReactor, first_causes, later_causes}
+use Rattle.lft_resolve.specs.Causes.{RecursiveReactor, first_causes, later_causes}
 use Rattle.lft_program.specs.declared.fault.ProgramFault.{ProgramFault}
 use Rattle.lft_program.specs.declared.fault.ProgramFault.TheVariants as faults
 

@@ -3,22 +3,22 @@ use Rattle.std.specs.Prelude.{◌≡◌, ℕ, ◌+◌, List, [], ◌∷◌, ◌+
 use Rattle.std.specs.List.{AllZip}
 use Rattle.std.specs.Fmt.{decimal}
 use Rattle.lft_tree.specs.Tree.{FileTree, ReactorTree, PortTree, ActionTree, TimerTree, ReactionTree, TimeTree, RefTree, TriggerTree, AtStartup, AtShutdown, OnRef, instances_of, ports_of, actions_of, timers_of, reactions_of}
-use Rattle.lft_scope.specs.Causes.{NoneHolds, causes}
-use Rattle.lft_scope.specs.Instances.{Inside, time_in, entered, main_instance, Thing, thing_at, stands_for}
-use Rattle.lft_scope.specs.Sheets.{without_timers}
+use Rattle.lft_resolve.specs.Causes.{NoneHolds, causes}
+use Rattle.lft_resolve.specs.Instances.{Inside, time_in, entered, main_instance, Thing, thing_at, stands_for}
+use Rattle.lft_resolve.specs.Sheets.{without_timers}
 use Rattle.lft_program.specs.Links.{IsSource}
 use Rattle.lft_program.specs.Located.{Located, AreLocated, Declared, declared, ports_in, actions_in, timers_in}
-use Rattle.lft_flat.specs.Names.{ThingNames}
-use Rattle.lft_flat.specs.Parts.{Parts}
-use Rattle.lft_flat.specs.Sound.{KeepsOrigins}
-use Rattle.lft_flat.specs.declared.parts.Port.{Port as PortOf}
-use Rattle.lft_flat.specs.declared.parts.Action.{Action as ActionOf}
-use Rattle.lft_flat.specs.declared.parts.Timer.{Timer as TimerOf}
-use Rattle.lft_flat.specs.declared.parts.Reaction.{Reaction}
-use Rattle.lft_flat.specs.declared.parts.Name.{Name}
-use Rattle.lft_flat.specs.declared.parts.Name.TheVariants.{Port, Action}
-use Rattle.lft_flat.specs.declared.parts.Trigger.{Trigger}
-use Rattle.lft_flat.specs.declared.parts.Trigger.TheVariants.{Startup, Shutdown, Timer, On}
+use Rattle.lft_ir.specs.Names.{ThingNames}
+use Rattle.lft_ir.specs.Parts.{Parts}
+use Rattle.lft_ir.specs.Sound.{KeepsOrigins}
+use Rattle.lft_ir.specs.declared.parts.Port.{Port as PortOf}
+use Rattle.lft_ir.specs.declared.parts.Action.{Action as ActionOf}
+use Rattle.lft_ir.specs.declared.parts.Timer.{Timer as TimerOf}
+use Rattle.lft_ir.specs.declared.parts.Reaction.{Reaction}
+use Rattle.lft_ir.specs.declared.parts.Name.{Name}
+use Rattle.lft_ir.specs.declared.parts.Name.TheVariants.{Port, Action}
+use Rattle.lft_ir.specs.declared.parts.Trigger.{Trigger}
+use Rattle.lft_ir.specs.declared.parts.Trigger.TheVariants.{Startup, Shutdown, Timer, On}
 
 -- ---- times and names in an instance
 

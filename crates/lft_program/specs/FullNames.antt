@@ -3,7 +3,7 @@ use Rattle.std.specs.Prelude.{◌≡◌, ◌≢◌, ℕ, ◌+◌, ◌<◌, ◌�
 use Rattle.std.specs.Fmt.{decimal}
 use Rattle.std.specs.List.{AllZip}
 use Rattle.lft_tree.specs.Identifiers.{IsName}
-use Rattle.lft_flat.specs.Names.{ThingNames}
+use Rattle.lft_ir.specs.Names.{ThingNames}
 use Rattle.lft_program.specs.declared.naming.OwnName.{OwnName}
 use Rattle.lft_program.specs.declared.naming.Placed.{Placed}
 

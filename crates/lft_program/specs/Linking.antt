@@ -1,7 +1,7 @@
 -- What linking keeps of each port. The contracts of the crate's own functions alone need this file.
 use Rattle.std.specs.Prelude.{◌≡◌, ℕ, List, Option, Some, None, length, slice_get}
 use Rattle.lft_tag.specs.declared.Source.{Source}
-use Rattle.lft_instances.specs.declared.origins.Reached.{Reached}
+use Rattle.lft_resolve.specs.declared.expansion.origins.Reached.{Reached}
 use Rattle.lft_program.specs.declared.nesting.linking.Linked.{Linked}
 
 -- the port of this number has this source and origin, and these delays

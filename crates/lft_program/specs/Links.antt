@@ -2,11 +2,11 @@
 use Rattle.std.specs.Prelude.{◌≡◌, ℕ, List, [], ◌∷◌, Option, Some, None, map, length, slice_get}
 use Rattle.lft_tree.specs.Tree.{FileTree, reactors_of}
 use Rattle.lft_tag.specs.Shifts.{join_all, none}
-use Rattle.lft_instances.specs.Sources.{Origin}
+use Rattle.lft_resolve.specs.Expansion.Sources.{Origin}
 use Rattle.lft_tag.specs.declared.Source.{Source}
-use Rattle.lft_causes.specs.Witnesses.{Shows, cause_shown}
-use Rattle.lft_scope.specs.Causes.{ConnectionCycle as HasCycle, DelayTooLong as HasLongDelay}
-use Rattle.lft_scope.specs.Instances.{Thing, Connects}
+use Rattle.lft_validate.specs.Witnesses.{Shows, cause_shown}
+use Rattle.lft_resolve.specs.Causes.{ConnectionCycle as HasCycle, DelayTooLong as HasLongDelay}
+use Rattle.lft_resolve.specs.Instances.{Thing, Connects}
 use Rattle.lft_program.specs.Located.{Located, ports_in}
 use Rattle.lft_program.specs.Ways.{IsLongChain, IsRing}
 use Rattle.lft_program.specs.declared.nesting.linking.Linked.{Linked}

@@ -2,12 +2,12 @@
 use Rattle.std.specs.Prelude.{◌≡◌, ℕ, ◌≤◌, List, Any, map, length, slice_get, Some}
 use Rattle.std.specs.List.{AllZip}
 use Rattle.lft_tree.specs.Tree.{FileTree, ReactorTree, reactors_of, ports_of, timers_of, actions_of, reactions_of}
-use Rattle.lft_instances.specs.Children.{AreChildren}
-use Rattle.lft_instances.specs.Contents.{IsWalk}
-use Rattle.lft_instances.specs.Numbers.{AreFirst, things}
-use Rattle.lft_instances.specs.declared.numbering.Thing.{Thing}
-use Rattle.lft_instances.specs.declared.walk.Instance.{Instance}
-use Rattle.lft_scope.specs.Causes.{HasLongTime}
+use Rattle.lft_resolve.specs.Expansion.Children.{AreChildren}
+use Rattle.lft_resolve.specs.Expansion.Contents.{IsWalk}
+use Rattle.lft_resolve.specs.Expansion.Numbers.{AreFirst, things}
+use Rattle.lft_resolve.specs.declared.expansion.numbering.Thing.{Thing}
+use Rattle.lft_resolve.specs.declared.expansion.walk.Instance.{Instance}
+use Rattle.lft_resolve.specs.Causes.{HasLongTime}
 use Rattle.lft_program.specs.Located.{Located, AreLocated, Declared}
 use Rattle.lft_program.specs.declared.nesting.nest.Nest.{Nest}
 use Rattle.lft_program.specs.declared.nesting.nest.Numbering.{Numbering}

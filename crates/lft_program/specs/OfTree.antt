@@ -1,7 +1,7 @@
 -- What a tree's tables, nest and links are together. The contracts of the crate's own functions alone need this file.
 use Rattle.std.specs.Prelude.{List, Any}
 use Rattle.lft_tree.specs.Tree.{FileTree, reactors_of}
-use Rattle.lft_scope.specs.Causes.{HasLongTime}
+use Rattle.lft_resolve.specs.Causes.{HasLongTime}
 use Rattle.lft_program.specs.Links.{AreLinks}
 use Rattle.lft_program.specs.Nests.{IsNest}
 use Rattle.lft_program.specs.Tables.{AreTables, IsLawful}

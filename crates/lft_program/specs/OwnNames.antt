@@ -2,7 +2,7 @@
 use Rattle.std.specs.Prelude.{ℕ, List, Option, map, filter_map, option_map, Vec}
 use Rattle.std.specs.Borrow.{Bor}
 use Rattle.lft_tree.specs.Tree.{MemberTree, ReactorTree, action_in, instance_in, port_in, timer_in}
-use Rattle.lft_scope.specs.Tests.{texts}
+use Rattle.lft_resolve.specs.Tests.{texts}
 use Rattle.lft_program.specs.declared.own_names.MemberKind.{MemberKind}
 use Rattle.lft_program.specs.declared.own_names.MemberKind.TheVariants as kinds
 

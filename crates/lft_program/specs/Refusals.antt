@@ -1,7 +1,7 @@
 -- Why a tree has no flat program, with what shows it.
 use Rattle.std.specs.Prelude.{ℕ}
 use Rattle.lft_tree.specs.Tree.{FileTree, reactors_of}
-use Rattle.lft_causes.specs.Witnesses.{Shows, IsCircle, cause_shown}
+use Rattle.lft_validate.specs.Witnesses.{Shows, IsCircle, cause_shown}
 use Rattle.lft_program.specs.Limits.{IsExcess}
 use Rattle.lft_program.specs.Ways.{IsLongChain, IsRing}
 use Rattle.lft_program.specs.declared.nesting.nest.NestFault.{NestFault}

@@ -1,10 +1,10 @@
 -- The tables of a tree.
 use Rattle.std.specs.Prelude.{◌≡◌, slice_get, Some}
 use Rattle.lft_tree.specs.Tree.{FileTree, ReactorTree, reactors_of}
-use Rattle.lft_scope.specs.Causes.{NoneHolds, first_causes, later_causes}
-use Rattle.lft_scope.specs.Instances.{main_of}
-use Rattle.lft_scope.specs.Numbers.{AreContents}
-use Rattle.lft_scope.specs.Sheets.{AreParameters, AreConnections, AreDeclarations, AreReactions}
+use Rattle.lft_resolve.specs.Causes.{NoneHolds, first_causes, later_causes}
+use Rattle.lft_resolve.specs.Instances.{main_of}
+use Rattle.lft_resolve.specs.Numbers.{AreContents}
+use Rattle.lft_resolve.specs.Sheets.{AreParameters, AreConnections, AreDeclarations, AreReactions}
 use Rattle.lft_program.specs.declared.nesting.tables.Tables.{Tables}
 
 -- the tables are those of the tree's reactors, and the number is that of its main one

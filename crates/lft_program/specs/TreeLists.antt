@@ -3,8 +3,8 @@ use Rattle.std.specs.Prelude.{◌≡◌, ℕ, List, [], map, slice_get, unwrap_o
 use Rattle.std.specs.List.{AllZip}
 use Rattle.std.specs.Option.{option_and_then}
 use Rattle.lft_tree.specs.Tree.{FileTree, reactors_of, ports_of, actions_of, timers_of, reactions_of}
-use Rattle.lft_instances.specs.declared.numbering.Thing.{Thing}
-use Rattle.lft_instances.specs.declared.walk.Instance.{Instance}
+use Rattle.lft_resolve.specs.declared.expansion.numbering.Thing.{Thing}
+use Rattle.lft_resolve.specs.declared.expansion.walk.Instance.{Instance}
 use Rattle.lft_program.specs.Located.{Declared, declared}
 use Rattle.lft_program.specs.Nests.{IsNest}
 use Rattle.lft_program.specs.declared.nesting.nest.Nest.{Nest}

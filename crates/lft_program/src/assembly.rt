@@ -2,13 +2,13 @@
 
 ghost use Rattle.std.specs.Prelude.{◌≡◌, Any};
 ghost use Rattle.lft_tree.specs.Tree.{FileTree, reactors_of};
-ghost use Rattle.lft_scope.specs.Causes.{HasLongTime};
+ghost use Rattle.lft_resolve.specs.Causes.{HasLongTime};
 ghost use Rattle.lft_program.specs.Tables.{IsLawful};
 ghost use Rattle.lft_program.specs.Flattening.{Flat};
-ghost use Rattle.lft_flat.specs.Names.{AreDistinct, AreWords};
-ghost use Rattle.lft_flat.specs.Sound.{IsWithinLimits};
+ghost use Rattle.lft_ir.specs.Names.{AreDistinct, AreWords};
+ghost use Rattle.lft_ir.specs.Sound.{IsWithinLimits};
 
-use lft_flat::{Action, NameTable, Port, Program, Reaction, Timer};
+use lft_ir::{Action, NameTable, Port, Program, Reaction, Timer};
 
 /// The program of the parts of a tree of which no cause of refusal holds. It is a border of proofs:
 /// what `flatten` knows of the tree comes in, and what `from_parts` asks of parts goes out.

@@ -3,12 +3,12 @@
 ghost use Rattle.std.specs.Prelude.{◌≡◌, ◌≢◌, IfOk, IfErr, OnOk};
 ghost use Rattle.lft_tree.specs.Tree.{reactors_of};
 ghost use Rattle.lft_tree.specs.View.{tree_view};
-ghost use Rattle.lft_scope.specs.Causes.{IsFirst, NoneHolds, causes, first_causes, later_causes};
-ghost use Rattle.lft_scope.specs.Numbers.{AreContents};
+ghost use Rattle.lft_resolve.specs.Causes.{IsFirst, NoneHolds, causes, first_causes, later_causes};
+ghost use Rattle.lft_resolve.specs.Numbers.{AreContents};
 ghost use Rattle.lft_program.specs.Tables.{AreTables};
 ghost use Rattle.lft_program.specs.Faults.{number_of, reactor_causes};
 ghost use Rattle.lft_program.specs.Flattening.{Flat, IsFlatOf};
-ghost use Rattle.lft_flat.specs.Parts.{Parts};
+ghost use Rattle.lft_ir.specs.Parts.{Parts};
 ghost use Rattle.lft_program.specs.OfTree.{AreOfTree};
 ghost use Rattle.lft_program.specs.Refusals.{Tells, cause_of};
 ghost use Rattle.lft_program.specs.declared.fault.ProgramFault.TheVariants as faults;
@@ -20,15 +20,15 @@ use crate::laying;
 use crate::nesting::{Linked, Nest, Tables, links};
 use crate::refusal::Refusal;
 use crate::tree_names::tree_names;
-use lft_causes::{Scopes, check_first, check_later, circle_of};
-use lft_flat::Program;
-use lft_instances::Contents;
-use lft_scope::ReactorFault;
-use lft_scope::by_number::{
+use lft_ir::Program;
+use lft_resolve::ReactorFault;
+use lft_resolve::by_number::{
     connections, contents, declarations, main_number, parameters, reactions,
 };
+use lft_resolve::expansion::Contents;
 use lft_tag::NoMemory;
 use lft_tree::Ast;
+use lft_validate::{Scopes, check_first, check_later, circle_of};
 use std::alloc::Global;
 
 /// What each reactor of the file contains.

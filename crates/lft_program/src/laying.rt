@@ -8,18 +8,18 @@ ghost use Rattle.lft_program.specs.Located.{declared};
 ghost use Rattle.lft_program.specs.Flattening.{IsPort, IsTimer, IsAction, IsReaction};
 ghost use Rattle.lft_program.specs.Laying.{HasCues, IsActionAt, IsPortAt, IsReactionAt, IsTimerAt, action_at, cues_at, declarations_at, input_at, timer_at};
 ghost use Rattle.lft_program.specs.OfTree.{AreOfTree};
-ghost use Rattle.lft_flat.specs.Parts.{Parts};
-ghost use Rattle.lft_flat.specs.Sound.{KeepsOrigins};
-ghost use Rattle.lft_scope.specs.declared.by_number.sheets.ActionSheet.{ActionSheet};
-ghost use Rattle.lft_scope.specs.declared.by_number.sheets.Cues.{Cues as CuesOf};
-ghost use Rattle.lft_scope.specs.declared.by_number.sheets.Declarations.{Declarations as DeclarationsOf};
-ghost use Rattle.lft_scope.specs.declared.by_number.sheets.TimerSheet.{TimerSheet};
+ghost use Rattle.lft_ir.specs.Parts.{Parts};
+ghost use Rattle.lft_ir.specs.Sound.{KeepsOrigins};
+ghost use Rattle.lft_resolve.specs.declared.by_number.sheets.ActionSheet.{ActionSheet};
+ghost use Rattle.lft_resolve.specs.declared.by_number.sheets.Cues.{Cues as CuesOf};
+ghost use Rattle.lft_resolve.specs.declared.by_number.sheets.Declarations.{Declarations as DeclarationsOf};
+ghost use Rattle.lft_resolve.specs.declared.by_number.sheets.TimerSheet.{TimerSheet};
 
 use crate::nesting::{Linked, Nest, Tables};
 use crate::spots;
-use lft_flat::{Action, Port, Reaction, Timer};
-use lft_instances::Thing;
-use lft_scope::by_number::{Cues, Declarations};
+use lft_ir::{Action, Port, Reaction, Timer};
+use lft_resolve::by_number::{Cues, Declarations};
+use lft_resolve::expansion::Thing;
 use lft_tag::NoMemory;
 use std::alloc::Global;
 

@@ -16,7 +16,7 @@ mod tree_names;
 
 pub use fault::ProgramFault;
 pub use flattening::{flatten, flattened};
-pub use lft_flat::{
+pub use lft_ir::{
     Action, Found, Name, Names, Port, Program, Reaction, Source, Timer, Trigger, Triggers, Value,
 };
 pub use nesting::{Excess, LimitedKind, Way};

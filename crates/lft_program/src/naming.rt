@@ -3,9 +3,9 @@
 ghost use Rattle.std.specs.Prelude.{◌≡◌, ◌<◌, ◌∷◌, [], codes, map, length, string_bytes, IfOk, OnOk};
 ghost use Rattle.lft_program.specs.Extended.{dotted, hashed, endings, name_after, extended, AreAfter};
 ghost use Rattle.lft_program.specs.FullNames.{AreFullNames, AreOfProgram, AreFew};
-ghost use Rattle.lft_flat.specs.Names.{ThingNames, HasNoTwice, AreDistinct, AreWords};
+ghost use Rattle.lft_ir.specs.Names.{ThingNames, HasNoTwice, AreDistinct, AreWords};
 
-use lft_flat::{NameTable, Starts, Texts};
+use lft_ir::{NameTable, Starts, Texts};
 use lft_tag::NoMemory;
 use std::alloc::Global;
 use std::hash::{DefaultHasher, Hasher};

@@ -1,8 +1,8 @@
 //! Why a tree has no flat program, with what shows it.
 
 ghost use Rattle.std.specs.Prelude.{◌≡◌};
-ghost use Rattle.lft_causes.specs.Findings.{cause_of as cause_found};
-ghost use Rattle.lft_causes.specs.Witnesses.{cause_shown};
+ghost use Rattle.lft_validate.specs.Findings.{cause_of as cause_found};
+ghost use Rattle.lft_validate.specs.Witnesses.{cause_shown};
 ghost use Rattle.lft_program.specs.Faults.{number_of};
 ghost use Rattle.lft_program.specs.Refusals.{cause_of};
 ghost use Rattle.lft_program.specs.declared.fault.ProgramFault.TheVariants as faults;
@@ -10,7 +10,7 @@ ghost use Rattle.lft_program.specs.declared.refusal.Refusal.TheVariants as refus
 
 use crate::fault::ProgramFault;
 use crate::nesting::{Excess, LinkFault, NestFault, Way};
-use lft_causes::{Finding, Witness};
+use lft_validate::{Finding, Witness};
 
 /// Why a tree has no flat program, with what shows it.
 #[derive(Drop)]

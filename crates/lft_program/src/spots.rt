@@ -1,14 +1,14 @@
 //! What the names in a reaction stand for, by number. Places are made numbers here as `find_sources`
-//! of `lft_instances` makes them of connections, by the same definitions.
+//! of `lft_resolve::expansion` makes them of connections, by the same definitions.
 
 ghost use Rattle.std.specs.Prelude.{◌≡◌, Some, IfOk};
-ghost use Rattle.lft_instances.specs.Joins.{port_at, port_of};
+ghost use Rattle.lft_resolve.specs.Expansion.Joins.{port_at, port_of};
 ghost use Rattle.lft_program.specs.Laying.{AreNames, AreTriggers, Each, HasName, HasTrigger, IsFew, name_at, trigger_at};
 
 use crate::nesting::{Nest, Numbering};
-use lft_flat::{Name, Names, Trigger, Triggers};
-use lft_instances::End;
-use lft_scope::by_number::{Cue, Spot};
+use lft_ir::{Name, Names, Trigger, Triggers};
+use lft_resolve::by_number::{Cue, Spot};
+use lft_resolve::expansion::End;
 use lft_tag::NoMemory;
 use std::alloc::Global;
 

@@ -5,13 +5,13 @@ ghost use Rattle.lft_tree.specs.Tree.{FileTree, reactors_of};
 ghost use Rattle.lft_program.specs.Nests.{IsNest};
 ghost use Rattle.lft_program.specs.declared.nesting.tables.Tables.{Tables};
 ghost use Rattle.lft_program.specs.OwnNames.{name_lists, own_names};
-ghost use Rattle.lft_scope.specs.References.{reactor_trees};
+ghost use Rattle.lft_resolve.specs.References.{reactor_trees};
 ghost use Rattle.lft_program.specs.TreeLists.{AreLists, name_at, placed_at, seen};
 
 use crate::naming::{OwnName, Placed};
 use crate::nesting::Nest;
 use crate::own_names::{MemberKind, own_names};
-use lft_instances::{Instance, Thing};
+use lft_resolve::expansion::{Instance, Thing};
 use lft_tag::NoMemory;
 use lft_tree::Reactor;
 use std::alloc::Global;

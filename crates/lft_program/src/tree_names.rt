@@ -6,13 +6,13 @@ ghost use Rattle.lft_tree.specs.View.{tree_view};
 ghost use Rattle.lft_program.specs.Nests.{IsNest};
 ghost use Rattle.lft_program.specs.Tables.{AreTables, IsLawful};
 ghost use Rattle.lft_program.specs.Flattening.{names_of};
-ghost use Rattle.lft_flat.specs.Names.{AreDistinct, AreWords};
+ghost use Rattle.lft_ir.specs.Names.{AreDistinct, AreWords};
 
 use crate::naming::full_names;
 use crate::nesting::{Nest, Tables};
 use crate::tree_lists::Lists;
-use lft_flat::NameTable;
-use lft_scope::members::reactors;
+use lft_ir::NameTable;
+use lft_resolve::members::reactors;
 use lft_tag::NoMemory;
 use lft_tree::Ast;
 use std::alloc::Global;

@@ -11,9 +11,9 @@ use Rattle.std.specs.declared.cmp.Ordering.TheVariants.{Less, Equal}
 use Rattle.lft_tag.specs.declared.Tag.{Tag}
 use Rattle.lft_tag.specs.Tags.{Before, UpTo, is_before, same_tag}
 use Rattle.lft_tag.proofs.Order.{Before-UpTo, UpTo-Before, order_cases, same_tag_true}
-use Rattle.lft_flat.specs.Naming.{same_name}
-use Rattle.lft_flat.specs.declared.parts.Name.{Name}
-use Rattle.lft_flat.specs.declared.parts.Value.{Value}
+use Rattle.lft_ir.specs.Naming.{same_name}
+use Rattle.lft_ir.specs.declared.parts.Name.{Name}
+use Rattle.lft_ir.specs.declared.parts.Value.{Value}
 use Rattle.lft_lists.proofs.Places.{get_last, same_some}
 use Rattle.lft_queue.specs.Pending.{Pending, is_after, same_key, value_of}
 use Rattle.lft_queue.specs.Keys.{Key, tag_of, pending_at, key_cmp}

@@ -10,9 +10,9 @@ use Rattle.std.specs.Ordering.{is_eq, nat_cmp, bool_cmp, ordering_then}
 use Rattle.std.proofs.lemmas.Bool.Decides.{nat_tests}
 use Rattle.lft_tag.specs.declared.Tag.{Tag}
 use Rattle.lft_tag.specs.Tags.{UpTo}
-use Rattle.lft_flat.specs.declared.parts.Value.{Value}
-use Rattle.lft_flat.specs.declared.parts.Name.{Name}
-use Rattle.lft_flat.specs.declared.parts.Name.TheVariants.{Port, Action}
+use Rattle.lft_ir.specs.declared.parts.Value.{Value}
+use Rattle.lft_ir.specs.declared.parts.Name.{Name}
+use Rattle.lft_ir.specs.declared.parts.Name.TheVariants.{Port, Action}
 use Rattle.lft_queue.specs.Pending.{Pending, same_key, value_of, Becomes, IsMap}
 use Rattle.lft_queue.specs.Keys.{Key, key_of, tag_of, name_of, pending_at, key_cmp}
 use Rattle.lft_tag.proofs.Comparing.{less_nat, less_then, both_equal}

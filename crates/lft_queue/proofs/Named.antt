@@ -12,11 +12,11 @@ use Rattle.std.proofs.lemmas.List.Kept.{IsStrictlySortedBy-filter}
 use Rattle.lft_tag.specs.declared.Tag.{Tag}
 use Rattle.lft_tag.specs.Tags.{Before, UpTo, same_tag}
 use Rattle.lft_tag.proofs.Order.{Before-UpTo}
-use Rattle.lft_flat.specs.declared.parts.Value.{Value}
-use Rattle.lft_flat.specs.declared.parts.Name.{Name}
-use Rattle.lft_flat.specs.declared.parts.Name.TheVariants.{Port}
-use Rattle.lft_flat.specs.Naming.{same_name}
-use Rattle.lft_flat.proofs.Naming.{name_same, name_self}
+use Rattle.lft_ir.specs.declared.parts.Value.{Value}
+use Rattle.lft_ir.specs.declared.parts.Name.{Name}
+use Rattle.lft_ir.specs.declared.parts.Name.TheVariants.{Port}
+use Rattle.lft_ir.specs.Naming.{same_name}
+use Rattle.lft_ir.proofs.Naming.{name_same, name_self}
 use Rattle.lft_queue.specs.Pending.{Pending, value_of, is_at, names_at}
 use Rattle.lft_queue.specs.Keys.{Key, key_of, tag_of, pending_at, key_cmp, AreFrom}
 use Rattle.lft_queue.proofs.Entries.{follows, equal_up}

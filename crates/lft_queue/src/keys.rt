@@ -3,7 +3,7 @@
 ghost use Rattle.std.specs.Prelude.{◌≡◌, ◌↔◌};
 ghost use Rattle.lft_queue.specs.Keys.{key_of, tag_of, name_of};
 
-use lft_flat::Name;
+use lft_ir::Name;
 use lft_tag::Tag;
 
 /// Time, microstep, whether it is an action, and the number of the port or action: so keys are in

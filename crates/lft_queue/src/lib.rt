@@ -1,7 +1,7 @@
 #![tactic(auto)]
-//! Events that are to happen: a map from a tag and a port or action to the value of its event; and which
-//! ports reactions read, so that somebody waits for their events.
+//! Pending events by tag. In `coming` the events that are still to come, and what rows cause at later tags.
 
+pub mod coming;
 mod keys;
 mod names;
 mod queue;

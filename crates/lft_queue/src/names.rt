@@ -6,7 +6,7 @@ ghost use Rattle.lft_queue.specs.Pending.{names_at};
 ghost use Rattle.lft_queue.specs.Keys.{pending_at, AreFrom};
 
 use crate::keys::{Key, name_of_key, tag_of_key};
-use lft_flat::{Name, Value};
+use lft_ir::{Name, Value};
 use lft_tag::Tag;
 use std::collections::btree_map::Range;
 use std::marker::Model;
@@ -21,7 +21,7 @@ pub struct NamesAt<'a> {
 
 impl<'a> Model for NamesAt<'a> {
     ghost use Rattle.std.specs.Prelude.{List, map};
-    ghost use Rattle.lft_flat.specs.declared.parts.Name.{Name};
+    ghost use Rattle.lft_ir.specs.declared.parts.Name.{Name};
     ghost use Rattle.lft_queue.specs.Pending.{names_at};
     ghost use Rattle.lft_queue.specs.Keys.{pending_at, AreFrom};
 

@@ -2,14 +2,14 @@
 
 ghost use Rattle.std.specs.Prelude.{◌≡◌, ◌↔◌, ◌+◌, ◌-◌, ◌∷◌, [], List, length, map, filter, not, false, Some, None, IsSome, IfSome, IfNone, IfErr, OnOk, IsTrue, Contains, slice_get};
 ghost use Rattle.lft_tag.specs.Tags.{Before, UpTo};
-ghost use Rattle.lft_flat.specs.declared.parts.Name.{Name as NameOf};
-ghost use Rattle.lft_flat.specs.declared.parts.Value.{Value as Carried};
+ghost use Rattle.lft_ir.specs.declared.parts.Name.{Name as NameOf};
+ghost use Rattle.lft_ir.specs.declared.parts.Value.{Value as Carried};
 ghost use Rattle.lft_queue.specs.Pending.{Pending, value_of, Becomes, IsMap, is_at, is_after};
 ghost use Rattle.lft_queue.specs.Keys.{Key as KeyOf, tag_of, pending_at};
 
 use crate::keys::{Key, key, tag_of_key};
 use crate::names::NamesAt;
-use lft_flat::{Name, Value};
+use lft_ir::{Name, Value};
 use lft_tag::Tag;
 use std::alloc::Global;
 use std::collections::BTreeMap;

@@ -1,10 +1,10 @@
 //! Which ports reactions read.
 
 ghost use Rattle.std.specs.Prelude.{◌≡◌, ◌↔◌, ◌⊎◌, ◌<◌, ℕ, true, length, slice_get, Some, IfOk, Contains};
-ghost use Rattle.lft_flat.specs.declared.parts.Name.{Name as NameOf};
+ghost use Rattle.lft_ir.specs.declared.parts.Name.{Name as NameOf};
 ghost use Rattle.lft_queue.specs.Reading.{is_read, AreMarked};
 
-use lft_flat::{Name, Program};
+use lft_ir::{Name, Program};
 use lft_lists::item_at;
 use lft_tag::NoMemory;
 use std::alloc::Global;

@@ -5,8 +5,8 @@ use native.Mathlib.Decide.{ℕ_discrete, dec_lt}
 use Rattle.lft_lists.proofs.Places.{get_write_cases, get_unwritten, Some_same}
 use Rattle.lft_graph.specs.Sets.{Has}
 use Rattle.lft_tag.specs.declared.Tag.{Tag}
-use Rattle.lft_steps.specs.declared.row.Row.{Row}
-use Rattle.lft_steps.specs.declared.row.Step.TheVariants.{Start, End}
+use Rattle.lft_ir.specs.declared.steps.row.Row.{Row}
+use Rattle.lft_ir.specs.declared.steps.row.Step.TheVariants.{Start, End}
 use Rattle.lft_rows.specs.declared.slices.Slice.{Slice}
 use Rattle.lft_rows.specs.Slices.{IsSlice}
 use Rattle.lft_rows.proofs.Steps.{row_eq}

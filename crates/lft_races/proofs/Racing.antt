@@ -3,11 +3,11 @@ use Rattle.std.proofs.Common.{◌≡◌, ℕ, ◌+◌, ◌<◌, ◌≤◌, List,
 use native.Mathlib.Decide.{ℕ_discrete, dec_lt}
 use Rattle.lft_lists.proofs.Places.{Some_same}
 use Rattle.lft_tag.specs.declared.Tag.{Tag}
-use Rattle.lft_flat.specs.Parts.{Parts}
+use Rattle.lft_ir.specs.Parts.{Parts}
 use Rattle.lft_graph.specs.Precedence.{Precedes}
 use Rattle.lft_graph.specs.Sets.{Has, AreAncestors}
-use Rattle.lft_steps.specs.declared.row.Row.{Row}
-use Rattle.lft_steps.specs.declared.row.Step.TheVariants.{Start}
+use Rattle.lft_ir.specs.declared.steps.row.Row.{Row}
+use Rattle.lft_ir.specs.declared.steps.row.Step.TheVariants.{Start}
 use Rattle.lft_model.proofs.Places.{slice_get_within}
 use Rattle.lft_races.specs.Races.{IsUnfinished, IsRace, IsFirstRace}
 use Rattle.lft_races.specs.Noted.{HasUnfinished, IsFirstIn}

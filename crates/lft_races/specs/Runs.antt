@@ -1,7 +1,7 @@
 -- Where runs start, end and are open, and which reactions run at a tag.
 use Rattle.std.specs.Prelude.{◌≡◌, ◌↔◌, ℕ, ◌<◌, Bool, true, List, Some, slice_get}
 use Rattle.lft_tag.specs.declared.Tag.{Tag}
-use Rattle.lft_steps.specs.declared.row.Row.{Row}
+use Rattle.lft_ir.specs.declared.steps.row.Row.{Row}
 use Rattle.lft_model.specs.Runs.{Ran, start_row, end_row}
 
 -- the row at place p starts a run of r at g

@@ -4,7 +4,7 @@ ghost use Rattle.std.specs.Prelude.{◌↔◌, ◌<◌, length, IsTrue, IfSome, 
 ghost use Rattle.lft_races.specs.Across.{IsAcross, IsOpenAcross};
 
 use crate::ordering::{first_greater, own_start};
-use lft_steps::{Row, row_at};
+use lft_ir::steps::{Row, row_at};
 
 /// The row that starts the run of this one, and the first row of all at a later tag, where that run is open
 /// and the one stands before the other.

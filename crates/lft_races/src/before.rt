@@ -1,13 +1,13 @@
 //! The first race before a breach.
 
 ghost use Rattle.std.specs.Prelude.{◌≡◌, ◌≤◌, length, IfOk};
-ghost use Rattle.lft_steps.specs.Fits.{RowsFit};
+ghost use Rattle.lft_ir.specs.Steps.Fits.{RowsFit};
 ghost use Rattle.lft_model.specs.Plans.{PlanParts};
 ghost use Rattle.lft_races.specs.Races.{FirstSoFar, StandBefore, IsRaceBefore};
 
 use crate::finding::first_race;
+use lft_ir::steps::{Row, row_at};
 use lft_model::{Breach, Plan};
-use lft_steps::{Row, row_at};
 use lft_tag::NoMemory;
 use std::alloc::Global;
 

@@ -1,7 +1,7 @@
 //! The first race of rows whose tags never fall.
 
 ghost use Rattle.std.specs.Prelude.{◌≡◌, ◌↔◌, ◌+◌, ◌/◌, ◌<◌, ◌≤◌, length, IsTrue, IfOk};
-ghost use Rattle.lft_flat.specs.Parts.{Parts};
+ghost use Rattle.lft_ir.specs.Parts.{Parts};
 ghost use Rattle.lft_graph.specs.Sets.{AreAncestors};
 ghost use Rattle.lft_rows.specs.Slices.{IsSlice, Rises};
 ghost use Rattle.lft_races.specs.Races.{IsRace, IsFirstRace};
@@ -10,9 +10,9 @@ ghost use Rattle.lft_races.specs.Noted.{AreBelow, AreNoted, AreUpTo, EndRuns, Ha
 use crate::noting::{note_ends, open_runs, unfinish};
 use crate::slicing::slice_from;
 use lft_graph::{Ancestors, Set};
+use lft_ir::steps::{Row, is_start, row_at};
 use lft_model::Plan;
 use lft_rows::Slice;
-use lft_steps::{Row, is_start, row_at};
 use lft_tag::NoMemory;
 use std::alloc::Global;
 

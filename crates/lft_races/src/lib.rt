@@ -1,10 +1,12 @@
 #![tactic(auto)]
-//! Where runs start and end, and races: runs that start although one that precedes them at their tag
-//! hasn't ended.
+//! Where runs start and end, which row another one contradicts, and races: runs that start although one that
+//! precedes them at their tag hasn't ended. In `hints` guesses at what is behind a breach, such a race or
+//! another.
 
 mod across;
 mod before;
 mod finding;
+pub mod hints;
 mod noting;
 mod ordering;
 mod runs;

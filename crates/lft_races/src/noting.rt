@@ -5,9 +5,9 @@ ghost use Rattle.lft_rows.specs.Slices.{IsSlice};
 ghost use Rattle.lft_races.specs.Noted.{AreBelow, AreNoted, AreUpTo, EndRuns, HasOpen, HasUnfinished};
 
 use lft_graph::Set;
+use lft_ir::steps::{Row, is_end, is_start, row_at};
 use lft_lists::item_at;
 use lft_rows::Slice;
-use lft_steps::{Row, is_end, is_start, row_at};
 use lft_tag::NoMemory;
 use std::alloc::Global;
 

@@ -3,15 +3,15 @@
 ghost use Rattle.std.specs.Prelude.{◌≡◌, ◌↔◌, ◌<◌, ℕ, Some, length, slice_get, IsTrue, IfSome, IfNone};
 ghost use Rattle.lft_tag.specs.declared.Tag.{Tag as TheTag};
 ghost use Rattle.lft_tag.specs.Tags.{Before};
-ghost use Rattle.lft_steps.specs.declared.row.Row.{Row as TheRow};
+ghost use Rattle.lft_ir.specs.declared.steps.row.Row.{Row as TheRow};
 ghost use Rattle.lft_model.specs.Breaches.{IsLate, IsOpen, WasStarted, WasRead};
 ghost use Rattle.lft_model.specs.Runs.{end_row};
 ghost use Rattle.lft_races.specs.Runs.{StartsAt, IsOpenSince};
 ghost use Rattle.lft_races.specs.Across.{OpensRun, ReadsAt};
 
 use crate::runs::is_start_at;
-use lft_flat::Name;
-use lft_steps::{Row, Step, is_end, is_start, row_at};
+use lft_ir::Name;
+use lft_ir::steps::{Row, Step, is_end, is_start, row_at};
 use lft_tag::Tag;
 
 /// The place of the first row before this place that is at a greater tag.

@@ -4,8 +4,8 @@ ghost use Rattle.std.specs.Prelude.{◌≡◌, ◌<◌, length};
 ghost use Rattle.lft_rows.specs.Slices.{IsSlice, Rises};
 ghost use Rattle.lft_races.specs.Noted.{IsNew};
 
+use lft_ir::steps::{Row, row_at};
 use lft_rows::Slice;
-use lft_steps::{Row, row_at};
 
 /// The rows at the tag of the row at the place, the first of its tag.
 pub(crate) fn slice_from(rows: &[Row], first: usize) -> Slice

@@ -5,7 +5,7 @@ ghost use Rattle.lft_races.specs.Races.{AreUnfinished};
 ghost use Rattle.lft_races.specs.Noted.{AreBelow};
 
 use crate::runs::runs_at;
-use lft_steps::{Row, is_end, row_at};
+use lft_ir::steps::{Row, is_end, row_at};
 use lft_tag::{NoMemory, Tag};
 use std::alloc::Global;
 

@@ -7,8 +7,8 @@ use Rattle.std.proofs.lemmas.Bool.Decides.{nat_tests}
 use Rattle.std.proofs.lemmas.List.Elements.{filter_map-append}
 use Rattle.std.proofs.lemmas.Option.{slice_get-get_or, slice_get_within, get_or_from_slice_get}
 use Rattle.csv.specs.Records.{fields_of}
-use Rattle.lft_flat.specs.Parts.{Parts}
-use Rattle.lft_scope.proofs.Placing.{not_some}
+use Rattle.lft_ir.specs.Parts.{Parts}
+use Rattle.lft_resolve.proofs.Placing.{not_some}
 use Rattle.lft_record.specs.CardTables.{AreTold, CardsFail, FaultAt, IsAgain, IsCard, IsScript, card_tables, entries_of, entry_bodies, entry_of, entry_state, entry_step, header}
 use Rattle.lft_record.specs.Scripts.{Adds, blank, is_taken, with_entry}
 use Rattle.lft_record.specs.declared.cards.card.Card.{Card}

@@ -3,8 +3,8 @@ use Rattle.std.proofs.Common.{◌≡◌, ◌≢◌, ◌∙◌, inl, inr, ◌++�
 use Rattle.std.specs.Prelude.{option_to_list}
 use Rattle.std.proofs.lemmas.List.Elements.{filter_map-append}
 use Rattle.std.proofs.lemmas.Option.{slice_get-get_or, slice_get_within}
-use Rattle.lft_flat.specs.Parts.{Parts}
-use Rattle.lft_flat.specs.Sound.{IsSound}
+use Rattle.lft_ir.specs.Parts.{Parts}
+use Rattle.lft_ir.specs.Sound.{IsSound}
 use Rattle.lft_trace.proofs.TableFacts.{Texts, holds_no_fault, one_reading}
 use Rattle.lft_record.specs.CardTables.{AreTold, CardTable, CardsFail, FaultAt, IsCard, IsScript, card_tables, entries_of, entry_bodies, entry_of, entry_state}
 use Rattle.lft_record.specs.Scripts.{blank}

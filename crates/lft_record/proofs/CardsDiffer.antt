@@ -2,10 +2,10 @@
 use Rattle.std.proofs.Common.{◌≡◌, ◌≢◌, ◌∙◌, ◌⊎◌, inl, inr, ℕ, List, [], length, get_or, true, false, Some, refl, sym, ap, ◌&&◌, ◌||◌}
 use Rattle.std.specs.Prelude.{codes, if◌then◌else◌}
 use Rattle.std.specs.Str.{bytes_eq}
-use Rattle.lft_flat.specs.Names.{IsNamed}
-use Rattle.lft_flat.specs.Parts.{Parts}
-use Rattle.lft_flat.specs.Sound.{IsSound}
-use Rattle.lft_flat.specs.declared.found.Found.TheVariants as found
+use Rattle.lft_ir.specs.Names.{IsNamed}
+use Rattle.lft_ir.specs.Parts.{Parts}
+use Rattle.lft_ir.specs.Sound.{IsSound}
+use Rattle.lft_ir.specs.declared.found.Found.TheVariants as found
 use Rattle.lft_record.specs.CardTables.{CardFields, HasBadValue, IsCard, IsContent, IsOf, IsOfKind, IsUnknown, IsUnspelled, has_numbers, in_order, is_filled, word}
 use Rattle.lft_record.specs.declared.cards.card.Card.{Card}
 use Rattle.lft_record.specs.declared.cards.card.CardStep.TheVariants as step

@@ -4,11 +4,11 @@ use Rattle.std.specs.Prelude.{codes, slice_get, AllPairs}
 use Rattle.std.specs.List.{AllZip}
 use Rattle.std.proofs.lemmas.Bool.{cases_lt}
 use Rattle.std.proofs.lemmas.Option.{get_or_from_slice_get, slice_get_within}
-use Rattle.lft_flat.specs.Names.{AreDistinct}
-use Rattle.lft_flat.specs.Parts.{Parts, inputs}
-use Rattle.lft_flat.specs.Sound.{IsSound}
-use Rattle.lft_flat.specs.declared.parts.Name.{Name}
-use Rattle.lft_flat.specs.declared.parts.Value.TheVariants.{Int}
+use Rattle.lft_ir.specs.Names.{AreDistinct}
+use Rattle.lft_ir.specs.Parts.{Parts, inputs}
+use Rattle.lft_ir.specs.Sound.{IsSound}
+use Rattle.lft_ir.specs.declared.parts.Name.{Name}
+use Rattle.lft_ir.specs.declared.parts.Value.TheVariants.{Int}
 use Rattle.lft_trace.specs.Traces.{IsThing, thing}
 use Rattle.lft_trace.proofs.RowsDiffer.{same_thing}
 use Rattle.lft_lists.proofs.Zips.{same}

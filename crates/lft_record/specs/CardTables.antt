@@ -1,9 +1,9 @@
 -- Tables of cards: the scripts of their records, and their faults.
 use Rattle.std.specs.Prelude.{◌≡◌, ◌≢◌, ◌==◌, ◌⊎◌, ℕ, List, [], ◌∷◌, length, codes, slice_get, filter_map, option_to_list, cond, Bool, true, false, not, ◌&&◌, ◌||◌, is_some, Option, Some, None}
-use Rattle.lft_flat.specs.Names.{IsNamed}
-use Rattle.lft_flat.specs.Parts.{Parts}
-use Rattle.lft_flat.specs.declared.found.Found.TheVariants as found
-use Rattle.lft_flat.specs.declared.parts.Name.{Name}
+use Rattle.lft_ir.specs.Names.{IsNamed}
+use Rattle.lft_ir.specs.Parts.{Parts}
+use Rattle.lft_ir.specs.declared.found.Found.TheVariants as found
+use Rattle.lft_ir.specs.declared.parts.Name.{Name}
 use Rattle.lft_trace.specs.Numbers.{number, number_or_zero}
 use Rattle.lft_trace.specs.Tables.{Fails, Holds, TableKind}
 use Rattle.lft_trace.specs.Traces.{IsThing, is_empty}

@@ -3,11 +3,11 @@ use Rattle.std.specs.Prelude.{◌≡◌, ◌==◌, ℕ, ℤ, ◌+ℤ◌, pos, Li
 use Rattle.std.specs.List.{AllZip, slice_split}
 use Rattle.std.specs.Int.{int_wrap, w64}
 use Rattle.lft_tag.specs.declared.Tag.{Tag}
-use Rattle.lft_flat.specs.Parts.{Parts, inputs}
-use Rattle.lft_flat.specs.declared.parts.Name.{Name}
-use Rattle.lft_flat.specs.declared.parts.Reaction.{Reaction}
-use Rattle.lft_flat.specs.declared.parts.Value.{Value}
-use Rattle.lft_flat.specs.declared.parts.Value.TheVariants.{Bare, Int}
+use Rattle.lft_ir.specs.Parts.{Parts, inputs}
+use Rattle.lft_ir.specs.declared.parts.Name.{Name}
+use Rattle.lft_ir.specs.declared.parts.Reaction.{Reaction}
+use Rattle.lft_ir.specs.declared.parts.Value.{Value}
+use Rattle.lft_ir.specs.declared.parts.Value.TheVariants.{Bare, Int}
 use Rattle.lft_trace.specs.Numbers.{value}
 use Rattle.lft_trace.specs.Traces.{IsThing}
 use Rattle.lft_record.specs.declared.cards.expression.Term.{Term}

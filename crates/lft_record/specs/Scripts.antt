@@ -1,10 +1,10 @@
 -- Scripts by reaction: what cards add to them, and what they answer.
 use Rattle.std.specs.Prelude.{◌≡◌, ◌≢◌, ◌++◌, ◌∷◌, ℕ, ℤ, Bool, false, true, not, is_some, List, [], length, map, slice_get, option_and_then, option_map, unwrap_or, Option, Some, None}
 use Rattle.lft_tag.specs.declared.Tag.{Tag}
-use Rattle.lft_flat.specs.declared.parts.Value.{Value}
-use Rattle.lft_flat.specs.declared.parts.Value.TheVariants.{Bare, Int}
-use Rattle.lft_steps.specs.declared.row.Step.{Step}
-use Rattle.lft_steps.specs.declared.row.Step.TheVariants as row
+use Rattle.lft_ir.specs.declared.parts.Value.{Value}
+use Rattle.lft_ir.specs.declared.parts.Value.TheVariants.{Bare, Int}
+use Rattle.lft_ir.specs.declared.steps.row.Step.{Step}
+use Rattle.lft_ir.specs.declared.steps.row.Step.TheVariants as row
 use Rattle.lft_pool.specs.declared.bodies.done.Done.{Done}
 use Rattle.lft_record.specs.Expressions.{expression_value}
 use Rattle.lft_record.specs.declared.cards.card.Card.{Card}

@@ -1,8 +1,8 @@
 -- What the clauses of single steps see of a card's record: its fields by their names.
 use Rattle.std.specs.Prelude.{◌≡◌, ℕ, true, false}
-use Rattle.lft_flat.specs.Names.{IsNamed}
-use Rattle.lft_flat.specs.Parts.{Parts}
-use Rattle.lft_flat.specs.declared.found.Found.TheVariants as found
+use Rattle.lft_ir.specs.Names.{IsNamed}
+use Rattle.lft_ir.specs.Parts.{Parts}
+use Rattle.lft_ir.specs.declared.found.Found.TheVariants as found
 use Rattle.lft_record.specs.CardTables.{CardFields, HasBadValue, IsOfKind, IsUnknown, has_numbers, is_filled}
 use Rattle.lft_record.specs.declared.cards.card.Card.{Card}
 use Rattle.lft_record.specs.declared.cards.fault.CardFault.{CardFault}

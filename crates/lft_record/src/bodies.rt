@@ -4,7 +4,7 @@ ghost use Rattle.std.specs.Prelude.{◌≡◌, ◌<◌, ℕ, IfOk, length, min, 
 ghost use Rattle.lft_record.specs.Scripts.{bodies_at};
 
 use crate::cards::{Cards, card_answer};
-use lft_flat::Program;
+use lft_ir::Program;
 use lft_model::Reads;
 use lft_pool::{Bodies, Code, Done, Law};
 use lft_tag::{NoMemory, Tag};

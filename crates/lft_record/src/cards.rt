@@ -17,7 +17,7 @@ pub use card::{CardStep, CardSteps, CardValue};
 pub use card_table::read_cards;
 pub use expression::{Expression, Term};
 pub use fault::CardFault;
-use lft_flat::Program;
+use lft_ir::Program;
 use lft_tag::NoMemory;
 use std::alloc::Global;
 use std::marker::Model;

@@ -5,7 +5,7 @@ ghost use Rattle.lft_load.specs.declared.fault.Part.TheVariants as part;
 ghost use Rattle.lft_record.specs.Faults.{card_number, stop_number};
 
 use crate::cards::CardFault;
-use lft_flat::Program;
+use lft_ir::Program;
 use lft_load::{Detail, Fault, Part};
 use lft_pool::Stop;
 use std::alloc::{AllocError, Global};

@@ -1,14 +1,14 @@
 //! Recordings that are written as they end.
 
 ghost use Rattle.std.specs.Prelude.{◌≡◌, OnOk, IfErr, length};
-ghost use Rattle.lft_steps.specs.Fits.{RowsFit};
+ghost use Rattle.lft_ir.specs.Steps.Fits.{RowsFit};
 ghost use Rattle.lft_record.specs.Recordings.{IsRecorded, RecordRefusal, TableRefusal, Writes};
 
 use crate::fault::stop_fault;
+use lft_ir::steps::Rows;
 use lft_load::{Fault, write_text};
 use lft_model::Plan;
 use lft_pool::{Bodies, Code, Law, record_run};
-use lft_steps::Rows;
 use lft_trace::write_trace;
 use std::alloc::Global;
 use std::io::Write;

@@ -1,16 +1,16 @@
 //! Calls that tell of plans and traces and take no memory, while all memory is refused.
 
 ghost use Rattle.std.specs.Prelude.{◌≡◌, length};
-ghost use Rattle.lft_steps.specs.Fits.{RowsFit};
+ghost use Rattle.lft_ir.specs.Steps.Fits.{RowsFit};
 
 use crate::hoard::{Hoard, is_all_refused};
 use crate::texts::{EXTERNALS, PIPE, TRACE, plan_of};
-use lft_flat::{Found, Name, Program};
 use lft_graph::Graph;
+use lft_ir::steps::Rows;
+use lft_ir::{Found, Name, Program};
 use lft_model::laws::{law_agree, law_no_request, law_one_worker};
 use lft_model::{Plan, clash_slow, present_slow, triggered_slow};
 use lft_slices::{Cut, cut};
-use lft_steps::Rows;
 use lft_tag::{NoMemory, Tag};
 use lft_trace::read_trace;
 use std::alloc::Global;

@@ -2,9 +2,9 @@
 
 ghost use Rattle.std.specs.Prelude.{◌≡◌, OnOk, length};
 
+use lft_ir::steps::Step;
 use lft_model::Reads;
 use lft_pool::{AnyAnswer, Bodies, Body, Code, Done, Steps};
-use lft_steps::Step;
 use lft_tag::{NoMemory, Tag};
 use std::alloc::Global;
 

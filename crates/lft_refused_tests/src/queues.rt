@@ -2,7 +2,7 @@
 //! call succeeds.
 
 use crate::hoard::Hoard;
-use lft_flat::{Name, Value};
+use lft_ir::{Name, Value};
 use lft_queue::{Queue, QueueFault};
 use lft_tag::Tag;
 use std::alloc::Global;

@@ -1,8 +1,8 @@
 //! Calls on tags, faults, queues and bundles that take no memory, while all memory is refused.
 
 use crate::hoard::{Hoard, is_all_refused};
-use lft_flat::{Name, Value};
-use lft_front::split_bundle;
+use lft_driver::split_bundle;
+use lft_ir::{Name, Value};
 use lft_load::{Fault, finish};
 use lft_queue::Queue;
 use lft_tag::{Shift, Tag};

@@ -3,10 +3,10 @@ use Rattle.std.proofs.Common.{◌≡◌, ℕ, ◌+◌, ◌<◌, ◌≤◌, ◌�
 use Rattle.lft_tag.specs.declared.Tag.{Tag}
 use Rattle.lft_tag.proofs.Order.{UpTo-not}
 use Rattle.lft_lists.proofs.Places.{get_left, get_append_cases}
-use Rattle.lft_flat.specs.declared.parts.Name.{Name}
-use Rattle.lft_steps.specs.declared.row.Row.{Row}
-use Rattle.lft_steps.specs.declared.row.Step.{Step}
-use Rattle.lft_steps.specs.declared.row.Step.TheVariants.{Start, Read, Write, Schedule, Stop, End}
+use Rattle.lft_ir.specs.declared.parts.Name.{Name}
+use Rattle.lft_ir.specs.declared.steps.row.Row.{Row}
+use Rattle.lft_ir.specs.declared.steps.row.Step.{Step}
+use Rattle.lft_ir.specs.declared.steps.row.Step.TheVariants.{Start, Read, Write, Schedule, Stop, End}
 use Rattle.lft_model.specs.Plans.{PlanParts}
 use Rattle.lft_model.specs.Runs.{start_row, end_row}
 use Rattle.lft_model.specs.Breaches.{IsOpen, IsOutOfOrder, IsUndeclared, BreaksRowUntil}

@@ -9,3 +9,5 @@ pub mod Together
 pub mod Growing
 pub mod RunReads
 pub mod Counted
+pub mod PresenceLemmas
+pub mod AnswersLemmas

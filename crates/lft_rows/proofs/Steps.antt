@@ -5,15 +5,15 @@ use native.Mathlib.Decide.{ℕ_discrete}
 use Rattle.lft_tag.specs.declared.Tag.{Tag}
 use Rattle.lft_tag.specs.Tags.{same_tag}
 use Rattle.lft_tag.proofs.Order.{same_tag_refl, same_tag_true}
-use Rattle.lft_steps.specs.declared.row.Row.{Row}
-use Rattle.lft_steps.specs.declared.row.Step.{Step}
-use Rattle.lft_steps.specs.declared.row.Step.TheVariants.{Start, End}
+use Rattle.lft_ir.specs.declared.steps.row.Row.{Row}
+use Rattle.lft_ir.specs.declared.steps.row.Step.{Step}
+use Rattle.lft_ir.specs.declared.steps.row.Step.TheVariants.{Start, End}
 use Rattle.lft_model.specs.Runs.{start_row, end_row}
 use Rattle.lft_model.specs.Breaches.{IsOpen, IsOutOfOrder, WasStarted}
 use Rattle.lft_rows.specs.declared.open.OpenRuns.{OpenRuns}
 use Rattle.lft_rows.specs.Places.{place_of}
 use Rattle.lft_rows.specs.Passes.{OpenPlace, Holds, HasOpen}
-use Rattle.lft_presence.proofs.Lists.{not_true}
+use Rattle.lft_rows.proofs.PresenceLemmas.Lists.{not_true}
 use Rattle.lft_rows.proofs.Opens.{keeps_open, ends_open, open_kept, none_open, same_start}
 use Rattle.lft_model.proofs.OutOfOrder.{out_inner, inner_out}
 

@@ -5,11 +5,11 @@ use native.Mathlib.Decide.{ℕ_discrete}
 use Rattle.lft_tag.specs.Tags.{Before, UpTo}
 use Rattle.lft_tag.proofs.Order.{Before-irrefl, Before-trans, UpTo-Before, Before-UpTo, UpTo-refl, order_cases}
 use Rattle.lft_lists.proofs.Places.{get_left, get_right, get_append_cases, get_there}
-use Rattle.lft_flat.specs.Parts.{Parts}
-use Rattle.lft_steps.specs.declared.row.Row.{Row}
-use Rattle.lft_steps.specs.Fits.{RowsFit}
-use Rattle.lft_steps.specs.declared.row.Step.{Step}
-use Rattle.lft_steps.specs.declared.row.Step.TheVariants.{Start, Read, Write, Schedule, Stop, End}
+use Rattle.lft_ir.specs.Parts.{Parts}
+use Rattle.lft_ir.specs.declared.steps.row.Row.{Row}
+use Rattle.lft_ir.specs.Steps.Fits.{RowsFit}
+use Rattle.lft_ir.specs.declared.steps.row.Step.{Step}
+use Rattle.lft_ir.specs.declared.steps.row.Step.TheVariants.{Start, Read, Write, Schedule, Stop, End}
 use Rattle.lft_model.specs.Plans.{PlanParts}
 use Rattle.lft_model.specs.Runs.{start_row, end_row}
 use Rattle.lft_model.specs.Breaches.{IsOpen, IsLate, IsOutOfOrder, IsUndeclared, BreaksRowUntil}

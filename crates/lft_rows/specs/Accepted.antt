@@ -1,7 +1,7 @@
 -- What it is to accept a trace. Whoever accepts one says this: the acceptor, tag by tag, and the checker.
 use Rattle.std.specs.Prelude.{◌≡◌, ℕ, List, length}
 use Rattle.lft_tag.specs.declared.Tag.{Tag}
-use Rattle.lft_steps.specs.declared.row.Row.{Row}
+use Rattle.lft_ir.specs.declared.steps.row.Row.{Row}
 use Rattle.lft_model.specs.Plans.{PlanParts}
 use Rattle.lft_model.specs.Breaches.{Legal}
 use Rattle.lft_rows.specs.Slices.{runs_in, AreTags}

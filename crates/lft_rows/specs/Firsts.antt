@@ -1,7 +1,7 @@
 -- The first row that breaks one of the rules 1 to 5.
 use Rattle.std.specs.Prelude.{List, Option, MatchOption}
 use Rattle.lft_tag.specs.declared.Tag.{Tag}
-use Rattle.lft_steps.specs.declared.row.Row.{Row}
+use Rattle.lft_ir.specs.declared.steps.row.Row.{Row}
 use Rattle.lft_model.specs.declared.breach.Breach.{Breach}
 use Rattle.lft_model.specs.Plans.{PlanParts}
 use Rattle.lft_model.specs.Breaches.{RowBreachUntil, RowOrder}

@@ -8,3 +8,5 @@ pub mod Places
 pub mod Reads
 pub mod Seats
 pub mod Slices
+pub mod Presence
+pub mod Answers

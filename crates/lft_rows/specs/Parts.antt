@@ -1,7 +1,7 @@
 -- Rows in two parts.
 use Rattle.std.specs.Prelude.{◌≡◌, ℕ, ◌+◌, List, length, Some, slice_get}
 use Rattle.lft_tag.specs.Tags.{Before}
-use Rattle.lft_steps.specs.declared.row.Row.{Row}
+use Rattle.lft_ir.specs.declared.steps.row.Row.{Row}
 
 -- the last row of the first list is at an earlier tag than the first of the second
 abbrev pub RisesBetween : List Row → List Row → Type 0

@@ -1,9 +1,9 @@
 //! Rule 4: what a reaction declares, and what was read before.
 
 ghost use Rattle.std.specs.Prelude.{◌≡◌, ℕ, ◌+◌, ◌<◌, ◌≤◌, length, Some, IsTrue, ◌↔◌, slice_get};
-ghost use Rattle.lft_flat.specs.Sound.{IsNameOf};
-ghost use Rattle.lft_steps.specs.declared.row.Row.{Row as TheRow};
-ghost use Rattle.lft_steps.specs.Fits.{RowFits};
+ghost use Rattle.lft_ir.specs.Sound.{IsNameOf};
+ghost use Rattle.lft_ir.specs.declared.steps.row.Row.{Row as TheRow};
+ghost use Rattle.lft_ir.specs.Steps.Fits.{RowFits};
 ghost use Rattle.lft_model.specs.Breaches.{IsUndeclared, MayWrite, MaySchedule};
 ghost use Rattle.lft_rows.specs.Effects.{AreEffects};
 ghost use Rattle.lft_rows.specs.Marks.{AreMarks};
@@ -11,8 +11,8 @@ ghost use Rattle.lft_rows.specs.Passes.{RisesTo, IsBadRead};
 
 use crate::effects::Effects;
 use crate::marks::Marks;
-use lft_flat::{Name, Program};
-use lft_steps::{Row, Step, row_at};
+use lft_ir::steps::{Row, Step, row_at};
+use lft_ir::{Name, Program};
 use lft_tag::Tag;
 
 /// Whether the row's step names what its reaction didn't declare for it, or reads a name again.

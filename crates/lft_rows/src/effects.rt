@@ -1,11 +1,11 @@
 //! The effects of each reaction, to be looked up one by one.
 
 ghost use Rattle.std.specs.Prelude.{◌≡◌, ◌<◌, ◌↔◌, length, IsTrue, IfOk, Contains};
-ghost use Rattle.lft_flat.specs.declared.parts.Name.TheVariants.{Port, Action};
+ghost use Rattle.lft_ir.specs.declared.parts.Name.TheVariants.{Port, Action};
 ghost use Rattle.lft_model.specs.Runs.{effects_of};
 ghost use Rattle.lft_rows.specs.Effects.{AreSetsOf, AreEffects};
 
-use lft_flat::{Name, Program};
+use lft_ir::{Name, Program};
 use lft_lists::item_at;
 use lft_tag::NoMemory;
 use std::alloc::Global;

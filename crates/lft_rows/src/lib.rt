@@ -1,6 +1,8 @@
 #![tactic(auto)]
-//! The rules 1 to 5, which rows break one by one.
+//! What rows say. Here the rules 1 to 5, which rows break one by one; in `presence` the causes of events, and
+//! what they make present, trigger and collide at a tag; in `answers` what a run read and answered.
 
+pub mod answers;
 mod declared;
 mod effects;
 mod laws;
@@ -8,6 +10,7 @@ mod marks;
 mod open;
 mod parts;
 mod pass;
+pub mod presence;
 mod reads;
 mod seats;
 mod slices;

@@ -1,14 +1,14 @@
 //! Where each reaction read each of its inputs last.
 
 ghost use Rattle.std.specs.Prelude.{◌≡◌, ℕ, ◌+◌, ◌<◌, ◌≤◌, length, Some, IfOk, OnOk, MatchOption, slice_get};
-ghost use Rattle.lft_flat.specs.Parts.{Parts, inputs as the_inputs};
-ghost use Rattle.lft_flat.specs.declared.parts.Reaction.{Reaction as TheReaction};
-ghost use Rattle.lft_steps.specs.Fits.{RowsFit};
+ghost use Rattle.lft_ir.specs.Parts.{Parts, inputs as the_inputs};
+ghost use Rattle.lft_ir.specs.declared.parts.Reaction.{Reaction as TheReaction};
+ghost use Rattle.lft_ir.specs.Steps.Fits.{RowsFit};
 ghost use Rattle.lft_rows.specs.Marks.{width, HasSeat, AreNoneFrom, IsLaid, Mark, IsMarkedBy, AreMarks, AreBefore};
 
 use crate::seats::Inputs;
-use lft_flat::{Name, Names, Program};
-use lft_steps::{Row, Step, row_at};
+use lft_ir::steps::{Row, Step, row_at};
+use lft_ir::{Name, Names, Program};
 use lft_tag::NoMemory;
 use std::alloc::Global;
 

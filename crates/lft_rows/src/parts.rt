@@ -3,15 +3,15 @@
 ghost use Rattle.std.specs.Prelude.{◌≡◌, ℕ, ◌+◌, ◌<◌, ◌++◌, length, Some, None, IsTrue, IfSome, IfOk, slice_get};
 ghost use Rattle.std.specs.Thread.{IsSync};
 ghost use Rattle.lft_tag.specs.Tags.{Before};
-ghost use Rattle.lft_flat.specs.Parts.{Parts};
-ghost use Rattle.lft_steps.specs.declared.row.Row.{Row as TheRow};
-ghost use Rattle.lft_steps.specs.Fits.{RowsFit};
+ghost use Rattle.lft_ir.specs.Parts.{Parts};
+ghost use Rattle.lft_ir.specs.declared.steps.row.Row.{Row as TheRow};
+ghost use Rattle.lft_ir.specs.Steps.Fits.{RowsFit};
 ghost use Rattle.lft_rows.specs.Firsts.{FirstRow};
 ghost use Rattle.lft_rows.specs.Parts.{RisesBetween};
 
 use crate::pass::first_breach;
+use lft_ir::steps::{Row, row_at};
 use lft_model::{Breach, Plan};
-use lft_steps::{Row, row_at};
 use lft_tag::{NoMemory, Tag};
 use std::alloc::Global;
 use std::thread::{Threads, join};

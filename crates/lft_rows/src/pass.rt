@@ -3,8 +3,8 @@
 ghost use Rattle.std.specs.Prelude.{◌≡◌, ℕ, List, ◌+◌, ◌<◌, ◌≤◌, length, Some, IsTrue, ◌↔◌, IfOk, OnOk, slice_get};
 ghost use Rattle.lft_tag.specs.declared.Tag.{Tag as TheTag};
 ghost use Rattle.lft_tag.specs.Tags.{UpTo};
-ghost use Rattle.lft_steps.specs.declared.row.Row.{Row as TheRow};
-ghost use Rattle.lft_steps.specs.Fits.{RowsFit};
+ghost use Rattle.lft_ir.specs.declared.steps.row.Row.{Row as TheRow};
+ghost use Rattle.lft_ir.specs.Steps.Fits.{RowsFit};
 ghost use Rattle.lft_model.specs.Plans.{PlanParts};
 ghost use Rattle.lft_model.specs.Breaches.{IsOutOfOrder};
 ghost use Rattle.lft_rows.specs.Effects.{AreEffects};
@@ -17,9 +17,9 @@ use crate::declared::is_undeclared;
 use crate::effects::Effects;
 use crate::marks::Marks;
 use crate::open::{LastStarts, OpenRuns};
-use lft_flat::Program;
+use lft_ir::Program;
+use lft_ir::steps::{Row, Step, is_end, is_start, row_at};
 use lft_model::{Breach, Plan};
-use lft_steps::{Row, Step, is_end, is_start, row_at};
 use lft_tag::{NoMemory, Tag};
 use std::alloc::Global;
 

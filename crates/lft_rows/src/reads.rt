@@ -1,9 +1,9 @@
 //! What a run read of an input.
 
 ghost use Rattle.std.specs.Prelude.{◌≡◌, ◌<◌, Some, slice_get};
-ghost use Rattle.lft_flat.specs.declared.parts.Name.{Name as TheName};
-ghost use Rattle.lft_flat.specs.declared.parts.Reaction.{Reaction as TheReaction};
-ghost use Rattle.lft_steps.specs.Fits.{RowsFit};
+ghost use Rattle.lft_ir.specs.declared.parts.Name.{Name as TheName};
+ghost use Rattle.lft_ir.specs.declared.parts.Reaction.{Reaction as TheReaction};
+ghost use Rattle.lft_ir.specs.Steps.Fits.{RowsFit};
 ghost use Rattle.lft_model.specs.Runs.{read_of, steps_of};
 ghost use Rattle.lft_rows.specs.Marks.{AreMarks, HasSeat, width};
 ghost use Rattle.lft_rows.specs.Reads.{value_read as the_value_read};
@@ -11,8 +11,8 @@ ghost use Rattle.lft_rows.specs.Slices.{IsSlice};
 
 use crate::marks::Marks;
 use crate::slices::Slice;
-use lft_flat::{Program, Value};
-use lft_steps::{Row, Step, row_at};
+use lft_ir::steps::{Row, Step, row_at};
+use lft_ir::{Program, Value};
 
 /// The value that a step reads, if it reads one.
 fn value_read(step: &Step) -> Option<Value>

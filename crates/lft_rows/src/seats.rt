@@ -2,7 +2,7 @@
 
 ghost use Rattle.std.specs.Prelude.{◌≡◌, ℕ, Some, IfOk, MatchOption, slice_get};
 
-use lft_flat::{Name, Names};
+use lft_ir::{Name, Names};
 use lft_lists::item_at;
 use lft_tag::NoMemory;
 use std::alloc::Global;
@@ -20,7 +20,7 @@ pub(crate) struct Inputs {
 
 impl Model for Inputs {
     ghost use Rattle.std.specs.Prelude.{List};
-    ghost use Rattle.lft_flat.specs.declared.parts.Name.{Name};
+    ghost use Rattle.lft_ir.specs.declared.parts.Name.{Name};
     ghost use Rattle.lft_rows.specs.Seats.{AreSeats};
 
     ghost Value = { List Name };

@@ -9,27 +9,27 @@ use Rattle.lft_lists.proofs.Places.{Some_same}
 use Rattle.lft_tree.specs.Tree.{ConnectionTree, MemberTree, RefTree, ConnectionMember, PortMember, connection_in, connections_of}
 use Rattle.lft_tree.specs.View.{tree_view}
 use Rattle.lft_tree.specs.declared.ast.Ast.{Ast}
-use Rattle.lft_scope.specs.Causes.{NoneHolds, causes}
-use Rattle.lft_scope.specs.Instances.{Inside as CoreInside, Thing, stands_for, time_in as core_time_in}
+use Rattle.lft_resolve.specs.Causes.{NoneHolds, causes}
+use Rattle.lft_resolve.specs.Instances.{Inside as CoreInside, Thing, stands_for, time_in as core_time_in}
 use Rattle.lft_program.specs.Flattening.{time_or_zero}
-use Rattle.lft_sources.specs.declared.source.SourceFile.{SourceFile}
+use Rattle.lft_whole.specs.declared.sources.source.SourceFile.{SourceFile}
 use Rattle.lft_whole.specs.declared.tree.Connection.{Connection}
 use Rattle.lft_whole.specs.declared.tree.Expression.{Expression}
 use Rattle.lft_whole.specs.declared.tree.Member.{Member}
 use Rattle.lft_whole.specs.declared.tree.Member.TheVariants as member
-use Rattle.lft_lowering.specs.Lowered.{AreJoined}
-use Rattle.lft_shapes.specs.declared.shapes.Inherited.{Inherited}
-use Rattle.lft_meanings.specs.Meanings.{all_places, named_in}
-use Rattle.lft_meanings.specs.Places.{names_of}
+use Rattle.lft_elaborate.specs.Channels.Lowered.{AreJoined}
+use Rattle.lft_classes.specs.declared.shapes.Inherited.{Inherited}
+use Rattle.lft_lower.specs.Meanings.Meanings.{all_places, named_in}
+use Rattle.lft_lower.specs.Meanings.Places.{names_of}
 use Rattle.lft_lower.specs.Lowered.{AreConnected, IsLowered, IsRead, MeanSides, each_pair, time_at, whole}
 use Rattle.lft_lower.specs.Reactors.{IsLowering}
-use Rattle.lft_expanded.specs.Core.{core_links}
-use Rattle.lft_expanded.specs.Expanded.{Link}
-use Rattle.lft_expanded.specs.Instances.{Inside, Widths, time_in}
-use Rattle.lft_expanded.specs.Reactors.{members_of}
-use Rattle.lft_expanded.specs.Whole.{channels, link, links_at, links_of, pairs}
-use Rattle.lft_expanded.proofs.Flattened.{linked}
-use Rattle.lft_expanded.proofs.Links.{joined_links, whole_links}
+use Rattle.lft_same.specs.Expanded.Core.{core_links}
+use Rattle.lft_same.specs.Expanded.Expanded.{Link}
+use Rattle.lft_same.specs.Expanded.Instances.{Inside, Widths, time_in}
+use Rattle.lft_same.specs.Expanded.Reactors.{members_of}
+use Rattle.lft_same.specs.Expanded.Whole.{channels, link, links_at, links_of, pairs}
+use Rattle.lft_same.proofs.ExpandedLemmas.Flattened.{linked}
+use Rattle.lft_same.proofs.ExpandedLemmas.Links.{joined_links, whole_links}
 use Rattle.lft_same.proofs.Instances.{AreWidthsFound, StandsFor}
 use Rattle.lft_same.proofs.Inners.{names_alike}
 use Rattle.lft_same.proofs.Known.{delay_time, known_law}

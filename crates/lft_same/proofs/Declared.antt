@@ -10,29 +10,29 @@ use Rattle.lft_lists.proofs.Members.{Mem, mem_filter, mem_left, mem_right}
 use Rattle.lft_tree.specs.Tree.{ActionTree, MemberTree, PortTree, ReactionTree, TimeTree, TimerTree, TriggerTree, OnRef, PortMember, TimerMember, ActionMember, ReactionMember, action_in, actions_of, port_in, ports_of, timer_in, timers_of}
 use Rattle.lft_tree.specs.View.{tree_view}
 use Rattle.lft_tree.specs.declared.ast.Ast.{Ast}
-use Rattle.lft_scope.specs.Causes.{NoneHolds, causes}
-use Rattle.lft_scope.specs.Instances.{Inside as CoreInside}
-use Rattle.lft_scope.specs.Kinds.{timer_times, times_in}
+use Rattle.lft_resolve.specs.Causes.{NoneHolds, causes}
+use Rattle.lft_resolve.specs.Instances.{Inside as CoreInside}
+use Rattle.lft_resolve.specs.Kinds.{timer_times, times_in}
 use Rattle.lft_program.specs.Flattening.{time_or_zero}
-use Rattle.lft_sources.specs.declared.source.SourceFile.{SourceFile}
+use Rattle.lft_whole.specs.declared.sources.source.SourceFile.{SourceFile}
 use Rattle.lft_whole.specs.declared.tree.Member.{Member}
 use Rattle.lft_whole.specs.declared.tree.Member.TheVariants as member
-use Rattle.lft_lowering.specs.Channels.{below}
-use Rattle.lft_lowering.specs.Lowered.{own}
+use Rattle.lft_elaborate.specs.Channels.Channels.{below}
+use Rattle.lft_elaborate.specs.Channels.Lowered.{own}
 use Rattle.lft_whole.specs.declared.tree.Name.{Name}
-use Rattle.lft_shapes.specs.declared.shapes.Inherited.{Inherited}
-use Rattle.lft_shapes.specs.declared.shapes.Thing.TheVariants as thing
-use Rattle.lft_shapes.specs.Shapes.{name_of, thing_named, width_of}
-use Rattle.lft_settings.specs.Widths.{found_width}
-use Rattle.lft_meanings.specs.Meanings.{named_in}
-use Rattle.lft_meanings.specs.Places.{name_at, names_of}
+use Rattle.lft_classes.specs.declared.shapes.Inherited.{Inherited}
+use Rattle.lft_classes.specs.declared.shapes.Thing.TheVariants as thing
+use Rattle.lft_classes.specs.Shapes.{name_of, thing_named, width_of}
+use Rattle.lft_elaborate.specs.Widths.{found_width}
+use Rattle.lft_lower.specs.Meanings.Meanings.{named_in}
+use Rattle.lft_lower.specs.Meanings.Places.{name_at, names_of}
 use Rattle.lft_lower.specs.Lowered.{AreTriggers, IsAsleep, IsLowered, action_tree, added, asleep, known, period_at, reaction_tree, runs, sleeps, time_at, timer_tree}
 use Rattle.lft_lower.specs.Reactors.{IsLowering}
-use Rattle.lft_expanded.specs.Expanded.{Action, Port, Timer}
-use Rattle.lft_expanded.specs.Instances.{Inside, Widths, numbers, period_in, time_in, written}
-use Rattle.lft_expanded.specs.Reactors.{members_of}
-use Rattle.lft_expanded.specs.Whole.{actions_at, ports_at, timers_at}
-use Rattle.lft_expanded.proofs.Flattened.{map_twice}
+use Rattle.lft_same.specs.Expanded.Expanded.{Action, Port, Timer}
+use Rattle.lft_same.specs.Expanded.Instances.{Inside, Widths, numbers, period_in, time_in, written}
+use Rattle.lft_same.specs.Expanded.Reactors.{members_of}
+use Rattle.lft_same.specs.Expanded.Whole.{actions_at, ports_at, timers_at}
+use Rattle.lft_same.proofs.ExpandedLemmas.Flattened.{map_twice}
 use Rattle.lft_same.proofs.Instances.{AreWidthsFound, StandsFor}
 use Rattle.lft_same.specs.Times.{IsKnown}
 use Rattle.lft_same.proofs.Known.{action_time, known_law, listed, timer_time}

@@ -7,22 +7,22 @@ use Rattle.std.proofs.lemmas.List.Elements.{filter_map-append}
 use Rattle.lft_lists.proofs.Mapped.{mapped}
 use Rattle.lft_tree.specs.Tree.{InstanceTree, InstanceMember, MemberTree, PortMember, instance_in, instances_of}
 use Rattle.lft_tree.specs.declared.ast.Ast.{Ast}
-use Rattle.lft_scope.specs.Instances.{Inside as CoreInside}
-use Rattle.lft_sources.specs.declared.source.SourceFile.{SourceFile}
+use Rattle.lft_resolve.specs.Instances.{Inside as CoreInside}
+use Rattle.lft_whole.specs.declared.sources.source.SourceFile.{SourceFile}
 use Rattle.lft_whole.specs.declared.tree.Instance.{Instance}
 use Rattle.lft_whole.specs.declared.tree.Member.{Member}
 use Rattle.lft_whole.specs.declared.tree.Member.TheVariants as member
-use Rattle.lft_lowering.specs.Channels.{below}
-use Rattle.lft_shapes.specs.declared.shapes.Inherited.{Inherited}
-use Rattle.lft_shapes.specs.Shapes.{width_of}
-use Rattle.lft_settings.specs.Widths.{found_width}
-use Rattle.lft_meanings.specs.Meanings.{named_in}
-use Rattle.lft_meanings.specs.Places.{Several, name_at, names_of}
+use Rattle.lft_elaborate.specs.Channels.Channels.{below}
+use Rattle.lft_classes.specs.declared.shapes.Inherited.{Inherited}
+use Rattle.lft_classes.specs.Shapes.{width_of}
+use Rattle.lft_elaborate.specs.Widths.{found_width}
+use Rattle.lft_lower.specs.Meanings.Meanings.{named_in}
+use Rattle.lft_lower.specs.Meanings.Places.{Several, name_at, names_of}
 use Rattle.lft_lower.specs.Lowered.{AreGiven, AreInstances, IsLowered, instances, no_instances, reactor_at, some_instances, time_at}
 use Rattle.lft_lower.specs.Reactors.{IsLowering}
-use Rattle.lft_expanded.specs.Instances.{Inner, Inside, Widths, inners, inners_at, numbers, written}
-use Rattle.lft_expanded.specs.Reactors.{members_of}
-use Rattle.lft_expanded.proofs.Flattened.{map_twice}
+use Rattle.lft_same.specs.Expanded.Instances.{Inner, Inside, Widths, inners, inners_at, numbers, written}
+use Rattle.lft_same.specs.Expanded.Reactors.{members_of}
+use Rattle.lft_same.proofs.ExpandedLemmas.Flattened.{map_twice}
 use Rattle.lft_same.proofs.Instances.{AreWidthsFound, StandsFor}
 use Rattle.lft_same.proofs.Listed.{all_mapped, none_mapped, zipped_append, zipped_maps, zipped_same}
 use Rattle.lft_same.proofs.Lowered.{Appends, Becomes, of_connection, of_reaction}

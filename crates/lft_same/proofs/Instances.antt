@@ -3,16 +3,16 @@ use Rattle.std.specs.Prelude.{◌≡◌, ℕ, List, Some, Contains}
 use Rattle.lft_tree.specs.Tree.{reactors_of}
 use Rattle.lft_tree.specs.View.{tree_view}
 use Rattle.lft_tree.specs.declared.ast.Ast.{Ast}
-use Rattle.lft_scope.specs.Instances.{Inside as CoreInside}
-use Rattle.lft_sources.specs.declared.source.SourceFile.{SourceFile}
-use Rattle.lft_shapes.specs.Walks.{Has}
-use Rattle.lft_shapes.specs.declared.shapes.Shape.{Shape}
-use Rattle.lft_settings.specs.Settings.{setting_at, shape_at}
-use Rattle.lft_settings.specs.Values.{Valued}
-use Rattle.lft_settings.specs.Widths.{found_width}
+use Rattle.lft_resolve.specs.Instances.{Inside as CoreInside}
+use Rattle.lft_whole.specs.declared.sources.source.SourceFile.{SourceFile}
+use Rattle.lft_classes.specs.Walks.{Has}
+use Rattle.lft_classes.specs.declared.shapes.Shape.{Shape}
+use Rattle.lft_elaborate.specs.Settings.{setting_at, shape_at}
+use Rattle.lft_elaborate.specs.Values.{Valued}
+use Rattle.lft_elaborate.specs.Widths.{found_width}
 use Rattle.lft_lower.specs.Reactors.{IsLowering, IsReactor}
-use Rattle.lft_expanded.specs.Instances.{Inside, Widths}
-use Rattle.lft_fits.specs.Fits.{Fits}
+use Rattle.lft_same.specs.Expanded.Instances.{Inside, Widths}
+use Rattle.lft_same.specs.Fits.Fits.{Fits}
 use Rattle.lft_same.specs.Times.{HasTimes}
 
 -- where a setting that instances have fits an instance, that one has the widths that lowering found

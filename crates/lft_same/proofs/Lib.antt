@@ -21,3 +21,5 @@ pub mod Standing
 pub mod Timers
 pub mod Times
 pub mod Widths
+pub mod ExpandedLemmas
+pub mod FitsLemmas

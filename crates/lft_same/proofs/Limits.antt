@@ -4,16 +4,16 @@ use Rattle.std.specs.List.{range_with_len}
 use Rattle.std.specs.Option.{option_and_then}
 use Rattle.std.proofs.lemmas.List.{length-map}
 use Rattle.std.proofs.lemmas.List.FromFn.{length-range_with_len}
-use Rattle.lft_instances.specs.Paths.{IsMoreThan}
-use Rattle.lft_instances.proofs.Orders.{along_kid}
+use Rattle.lft_resolve.specs.Expansion.Paths.{IsMoreThan}
+use Rattle.lft_resolve.proofs.ExpansionLemmas.Orders.{along_kid}
 use Rattle.lft_lists.proofs.Mapped.{mapped_from}
 use Rattle.lft_lists.proofs.Places.{get_there, push_apart}
-use Rattle.lft_lowering.specs.Channels.{below}
+use Rattle.lft_elaborate.specs.Channels.Channels.{below}
 use Rattle.lft_tree.specs.Tree.{InstanceTree, ReactorTree, instances_of, ports_of, reactors_of}
 use Rattle.lft_tree.specs.View.{tree_view}
 use Rattle.lft_tree.specs.declared.ast.Ast.{Ast}
-use Rattle.lft_scope.specs.Causes.{IsDeclaredAt, NoneHolds, TooMany, causes}
-use Rattle.lft_scope.specs.Instances.{Inside, IsInside, entered, given_in, main_instance, reactor_named}
+use Rattle.lft_resolve.specs.Causes.{IsDeclaredAt, NoneHolds, TooMany, causes}
+use Rattle.lft_resolve.specs.Instances.{Inside, IsInside, entered, given_in, main_instance, reactor_named}
 use Rattle.lft_program.proofs.Limiting.{LeadsIn}
 use Rattle.lft_same.proofs.Reactors.{has_reactor}
 

@@ -11,11 +11,11 @@ use Rattle.lft_tree.specs.Tree.{ConnectionMember, ConnectionTree, InstanceMember
 use Rattle.lft_whole.specs.declared.tree.Member.{Member}
 use Rattle.lft_whole.specs.declared.tree.Member.TheVariants as member
 use Rattle.lft_whole.specs.declared.tree.Reaction.{Reaction}
-use Rattle.lft_shapes.specs.declared.shapes.Inherited.{Inherited}
-use Rattle.lft_shapes.specs.Built.{located}
-use Rattle.lft_shapes.specs.Shapes.{thing_named}
-use Rattle.lft_meanings.specs.Meanings.{Here, named_in}
-use Rattle.lft_meanings.specs.Places.{names_of}
+use Rattle.lft_classes.specs.declared.shapes.Inherited.{Inherited}
+use Rattle.lft_classes.specs.Built.{located}
+use Rattle.lft_classes.specs.Shapes.{thing_named}
+use Rattle.lft_lower.specs.Meanings.Meanings.{Here, named_in}
+use Rattle.lft_lower.specs.Meanings.Places.{names_of}
 use Rattle.lft_lower.specs.Lowered.{AreConnected, AreInstances, AreLowered, AreTriggers, IsAsleep, IsLowered, IsMeasured, IsReaction, added, asleep, each_pair, known, more_members, no_instances, no_members, reaction_tree, runs, sleeps, some_instances, whole}
 use Rattle.lft_same.proofs.Listed.{none_mapped}
 

@@ -4,19 +4,19 @@ use Rattle.std.specs.Prelude.{unwrap_or}
 use Rattle.std.specs.List.{enumerate_from}
 use Rattle.lft_tree.specs.Tree.{MemberTree}
 use Rattle.lft_tree.specs.declared.ast.Ast.{Ast}
-use Rattle.lft_scope.specs.Instances.{Inside as CoreInside}
-use Rattle.lft_sources.specs.declared.source.SourceFile.{SourceFile}
+use Rattle.lft_resolve.specs.Instances.{Inside as CoreInside}
+use Rattle.lft_whole.specs.declared.sources.source.SourceFile.{SourceFile}
 use Rattle.lft_whole.specs.declared.tree.Member.{Member}
-use Rattle.lft_lowering.specs.Channels.{below}
-use Rattle.lft_shapes.specs.declared.shapes.Inherited.{Inherited}
-use Rattle.lft_shapes.specs.Shapes.{width_of}
-use Rattle.lft_settings.specs.Widths.{found_width}
-use Rattle.lft_meanings.specs.Meanings.{Here}
+use Rattle.lft_elaborate.specs.Channels.Channels.{below}
+use Rattle.lft_classes.specs.declared.shapes.Inherited.{Inherited}
+use Rattle.lft_classes.specs.Shapes.{width_of}
+use Rattle.lft_elaborate.specs.Widths.{found_width}
+use Rattle.lft_lower.specs.Meanings.Meanings.{Here}
 use Rattle.lft_lower.specs.Lowered.{IsMeasured}
 use Rattle.lft_lower.specs.Reactors.{IsLowering}
-use Rattle.lft_expanded.specs.Instances.{Inside, Widths, numbers}
-use Rattle.lft_expanded.specs.Reactors.{members_of}
-use Rattle.lft_fits.specs.Fits.{IsShapeOf}
+use Rattle.lft_same.specs.Expanded.Instances.{Inside, Widths, numbers}
+use Rattle.lft_same.specs.Expanded.Reactors.{members_of}
+use Rattle.lft_same.specs.Fits.Fits.{IsShapeOf}
 use Rattle.lft_same.proofs.Instances.{AreWidthsFound, StandsFor}
 use Rattle.lft_same.proofs.Lowered.{Appends, Becomes, all_become}
 use Rattle.lft_same.proofs.Settings.{its_setting, numbers_are as numbers_found, of_class as class_found, same_shape as shape_found, unwritten as none_found}

@@ -1,7 +1,7 @@
 -- Two ways to step along the same paths.
 use Rattle.std.proofs.Common.{◌≡◌, ℕ, List, [], ◌∷◌, Option, Some, None, sym, subst}
 use Rattle.std.specs.Option.{option_and_then}
-use Rattle.lft_instances.specs.Paths.{along}
+use Rattle.lft_resolve.specs.Expansion.Paths.{along}
 
 -- there is nothing on either side, or something on both, that belongs together
 pub data Both {X Y : Type 0} (R : X → Y → Type 0) : Option X → Option Y → Type 0 where

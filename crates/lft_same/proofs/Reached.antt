@@ -6,36 +6,36 @@ use Rattle.std.proofs.lemmas.List.{length-map}
 use Rattle.std.proofs.lemmas.Option.{slice_get_within}
 use Rattle.std.proofs.lemmas.List.Elements.{filter_map-append}
 use Rattle.std.proofs.lemmas.List.FromFn.{length-range_with_len}
-use Rattle.lft_instances.proofs.Orders.{along_kid}
+use Rattle.lft_resolve.proofs.ExpansionLemmas.Orders.{along_kid}
 use Rattle.lft_lists.proofs.Mapped.{enumerate_at, mapped}
 use Rattle.lft_lists.proofs.Members.{Mem, get_mem, mem_cases, mem_filter, mem_get}
 use Rattle.lft_lists.proofs.Places.{same_some}
-use Rattle.lft_lowering.specs.Channels.{below}
+use Rattle.lft_elaborate.specs.Channels.Channels.{below}
 use Rattle.lft_tree.specs.Tree.{InstanceTree, InstanceMember, MemberTree, PortMember, PortTree, ReactorTree, instance_in, instances_of, port_in, ports_of, reactors_of}
 use Rattle.lft_tree.specs.View.{tree_view}
 use Rattle.lft_tree.specs.declared.ast.Ast.{Ast}
-use Rattle.lft_scope.specs.Causes.{NoneHolds, causes}
-use Rattle.lft_scope.specs.Instances.{Inside as CoreInside, IsInside, entered, given_in, main_instance, reactor_named}
+use Rattle.lft_resolve.specs.Causes.{NoneHolds, causes}
+use Rattle.lft_resolve.specs.Instances.{Inside as CoreInside, IsInside, entered, given_in, main_instance, reactor_named}
 use Rattle.lft_program.proofs.Zipping.{then_some}
-use Rattle.lft_sources.specs.declared.source.SourceFile.{SourceFile}
+use Rattle.lft_whole.specs.declared.sources.source.SourceFile.{SourceFile}
 use Rattle.lft_whole.specs.declared.tree.Instance.{Instance}
 use Rattle.lft_whole.specs.declared.tree.Member.{Member}
 use Rattle.lft_whole.specs.declared.tree.Member.TheVariants as member
 use Rattle.lft_whole.specs.declared.tree.Width.{Width}
-use Rattle.lft_shapes.specs.declared.shapes.Inherited.{Inherited}
-use Rattle.lft_shapes.specs.declared.shapes.Shape.{Shape}
-use Rattle.lft_shapes.specs.Built.{located}
-use Rattle.lft_shapes.specs.Shapes.{width_of}
-use Rattle.lft_settings.specs.Places.{IsMany, IsWidth, how_many, many, member_in, width_in, written_width}
-use Rattle.lft_settings.specs.Used.{IsIn, IsReached, is_instance, is_instance_in, main, within}
-use Rattle.lft_settings.specs.Values.{Valued, inside, main_setting}
-use Rattle.lft_settings.specs.Widths.{found_width}
-use Rattle.lft_settings.proofs.Counting.{one_count}
-use Rattle.lft_meanings.specs.Meanings.{Here, named_in}
-use Rattle.lft_meanings.specs.Places.{name_at, names_of}
+use Rattle.lft_classes.specs.declared.shapes.Inherited.{Inherited}
+use Rattle.lft_classes.specs.declared.shapes.Shape.{Shape}
+use Rattle.lft_classes.specs.Built.{located}
+use Rattle.lft_classes.specs.Shapes.{width_of}
+use Rattle.lft_elaborate.specs.Places.{IsMany, IsWidth, how_many, many, member_in, width_in, written_width}
+use Rattle.lft_elaborate.specs.Used.{IsIn, IsReached, is_instance, is_instance_in, main, within}
+use Rattle.lft_elaborate.specs.Values.{Valued, inside, main_setting}
+use Rattle.lft_elaborate.specs.Widths.{found_width}
+use Rattle.lft_elaborate.proofs.Counting.{one_count}
+use Rattle.lft_lower.specs.Meanings.Meanings.{Here, named_in}
+use Rattle.lft_lower.specs.Meanings.Places.{name_at, names_of}
 use Rattle.lft_lower.specs.Lowered.{AreInstances, IsLowered, instances, no_instances, reactor_at, some_instances}
 use Rattle.lft_lower.specs.Reactors.{IsLowering}
-use Rattle.lft_fits.specs.Widths.{small}
+use Rattle.lft_same.specs.Fits.Widths.{small}
 use Rattle.lft_same.proofs.Found.{found_is_width, shape_of_setting, width_written}
 use Rattle.lft_same.proofs.Limits.{few_instances, few_ports}
 use Rattle.lft_same.proofs.Listed.{all_mapped}

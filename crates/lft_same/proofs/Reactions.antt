@@ -9,10 +9,10 @@ use Rattle.lft_lists.proofs.Members.{Mem, filter_map-flat_map, mem_from_flat, me
 use Rattle.lft_tree.specs.Tree.{MemberTree, RefTree, TriggerTree, AtStartup as StartupTrigger, AtShutdown as ShutdownTrigger, OnRef, PortMember, ReactionMember, reaction_in, reactions_of}
 use Rattle.lft_tree.specs.View.{tree_view}
 use Rattle.lft_tree.specs.declared.ast.Ast.{Ast}
-use Rattle.lft_scope.specs.Causes.{NoneHolds, causes}
-use Rattle.lft_scope.specs.Instances.{Inside as CoreInside, Thing, stands_for, thing_at}
-use Rattle.lft_scope.specs.Sheets.{is_timer as is_core_timer, without_timers}
-use Rattle.lft_sources.specs.declared.source.SourceFile.{SourceFile}
+use Rattle.lft_resolve.specs.Causes.{NoneHolds, causes}
+use Rattle.lft_resolve.specs.Instances.{Inside as CoreInside, Thing, stands_for, thing_at}
+use Rattle.lft_resolve.specs.Sheets.{is_timer as is_core_timer, without_timers}
+use Rattle.lft_whole.specs.declared.sources.source.SourceFile.{SourceFile}
 use Rattle.lft_whole.specs.declared.tree.Effect.{Effect}
 use Rattle.lft_whole.specs.declared.tree.Effect.TheVariants as effect
 use Rattle.lft_whole.specs.declared.tree.Member.{Member}
@@ -21,19 +21,19 @@ use Rattle.lft_whole.specs.declared.tree.Reaction.{Reaction as WrittenReaction}
 use Rattle.lft_whole.specs.declared.tree.Reference.{Reference}
 use Rattle.lft_whole.specs.declared.tree.Trigger.{Trigger as WrittenTrigger}
 use Rattle.lft_whole.specs.declared.tree.Trigger.TheVariants as trigger
-use Rattle.lft_lowering.specs.Lowered.{own}
-use Rattle.lft_shapes.specs.declared.shapes.Inherited.{Inherited}
-use Rattle.lft_meanings.specs.Meanings.{Means, all_places, named_in, places_in}
-use Rattle.lft_meanings.specs.Places.{names_of}
+use Rattle.lft_elaborate.specs.Channels.Lowered.{own}
+use Rattle.lft_classes.specs.declared.shapes.Inherited.{Inherited}
+use Rattle.lft_lower.specs.Meanings.Meanings.{Means, all_places, named_in, places_in}
+use Rattle.lft_lower.specs.Meanings.Places.{names_of}
 use Rattle.lft_lower.specs.Lowered.{AreTriggers, IsAsleep, IsLowered, MeansAll, MeansEffect, MeansTrigger, added, all_triggers, asleep, effect_places, known, reaction_tree, runs, sleeps, time_at, trigger_places}
 use Rattle.lft_lower.specs.Reactors.{IsLowering}
-use Rattle.lft_expanded.specs.Core.{core_reaction, things_for, triggers_for}
-use Rattle.lft_expanded.specs.Expanded.{Reaction, Trigger, AtStartup, AtShutdown, OnThing}
-use Rattle.lft_expanded.specs.Instances.{Inside, Widths}
-use Rattle.lft_expanded.specs.Reactors.{members_of}
-use Rattle.lft_expanded.specs.Same.{awake_reaction, is_other}
-use Rattle.lft_expanded.specs.Whole.{channels, effects_in, reactions_at, triggers_in, uses_in}
-use Rattle.lft_fits.proofs.Shapes.{flat_alike, flat_mapped}
+use Rattle.lft_same.specs.Expanded.Core.{core_reaction, things_for, triggers_for}
+use Rattle.lft_same.specs.Expanded.Expanded.{Reaction, Trigger, AtStartup, AtShutdown, OnThing}
+use Rattle.lft_same.specs.Expanded.Instances.{Inside, Widths}
+use Rattle.lft_same.specs.Expanded.Reactors.{members_of}
+use Rattle.lft_same.specs.Expanded.Same.{awake_reaction, is_other}
+use Rattle.lft_same.specs.Expanded.Whole.{channels, effects_in, reactions_at, triggers_in, uses_in}
+use Rattle.lft_same.proofs.FitsLemmas.Shapes.{flat_alike, flat_mapped}
 use Rattle.lft_same.proofs.Instances.{AreWidthsFound, StandsFor}
 use Rattle.lft_same.proofs.Inners.{names_alike}
 use Rattle.lft_same.proofs.Kept.{all_pass, filter-flat_map, flat_kept, flat_map-flat_map, of_all}

@@ -11,24 +11,24 @@ use Rattle.lft_tree.specs.Tree.{InstanceTree, ItemTree, ReactorTree, ReactorItem
 use Rattle.lft_tree.specs.View.{tree_view}
 use Rattle.lft_tree.specs.ItemView.{item_views}
 use Rattle.lft_tree.specs.declared.ast.Ast.{Ast}
-use Rattle.lft_scope.specs.Causes.{LacksReactor, NoMain, NoneHolds, UnknownReactor, causes}
-use Rattle.lft_scope.specs.Instances.{is_called, main_of, reactor_named}
-use Rattle.lft_scope.proofs.Twice.{Any-at}
+use Rattle.lft_resolve.specs.Causes.{LacksReactor, NoMain, NoneHolds, UnknownReactor, causes}
+use Rattle.lft_resolve.specs.Instances.{is_called, main_of, reactor_named}
+use Rattle.lft_resolve.proofs.Twice.{Any-at}
 use Rattle.lft_program.proofs.Zipping.{then_some}
-use Rattle.lft_sources.specs.declared.source.SourceFile.{SourceFile}
-use Rattle.lft_shapes.specs.declared.shapes.Child.{Child}
-use Rattle.lft_shapes.specs.declared.shapes.Shape.{Shape}
-use Rattle.lft_shapes.specs.Shapes.{child_at}
-use Rattle.lft_shapes.specs.Walks.{Has}
-use Rattle.lft_settings.specs.declared.settings.Settings.{Settings}
-use Rattle.lft_settings.specs.Noted.{found_inside}
-use Rattle.lft_settings.specs.Settings.{setting_at, shape_at}
-use Rattle.lft_settings.specs.Values.{Valued, inside, main_setting, setting_of, values_inside}
-use Rattle.lft_settings.proofs.Keeping.{found_is_inside}
-use Rattle.lft_meanings.specs.Meanings.{shape_inside}
+use Rattle.lft_whole.specs.declared.sources.source.SourceFile.{SourceFile}
+use Rattle.lft_classes.specs.declared.shapes.Child.{Child}
+use Rattle.lft_classes.specs.declared.shapes.Shape.{Shape}
+use Rattle.lft_classes.specs.Shapes.{child_at}
+use Rattle.lft_classes.specs.Walks.{Has}
+use Rattle.lft_elaborate.specs.declared.settings.Settings.{Settings}
+use Rattle.lft_elaborate.specs.Noted.{found_inside}
+use Rattle.lft_elaborate.specs.Settings.{setting_at, shape_at}
+use Rattle.lft_elaborate.specs.Values.{Valued, inside, main_setting, setting_of, values_inside}
+use Rattle.lft_elaborate.proofs.Keeping.{found_is_inside}
+use Rattle.lft_lower.specs.Meanings.Meanings.{shape_inside}
 use Rattle.lft_lower.specs.Lowered.{reactor_at}
 use Rattle.lft_lower.specs.Reactors.{AreReactors, IsLowering, IsReactor, more_reactors, no_reactors}
-use Rattle.lft_fits.proofs.Giving.{find_some}
+use Rattle.lft_same.proofs.FitsLemmas.Giving.{find_some}
 
 -- a reactor is the core reactor of one of these settings
 record IsListed (s : Settings) (names : List (Option (List ℕ))) (settings : List ℕ) (r : ReactorTree) : Type 0 where

@@ -11,38 +11,38 @@ use Rattle.lft_program.proofs.Singles.{place_found}
 use Rattle.lft_program.proofs.Zipping.{then_some}
 use Rattle.lft_tree.specs.Tree.{ReactorTree, RefTree, instances_of}
 use Rattle.lft_tree.specs.declared.ast.Ast.{Ast}
-use Rattle.lft_scope.specs.Instances.{Thing, stands_for, thing_at}
-use Rattle.lft_scope.specs.Places.{place}
-use Rattle.lft_sources.specs.declared.source.SourceFile.{SourceFile}
+use Rattle.lft_resolve.specs.Instances.{Thing, stands_for, thing_at}
+use Rattle.lft_resolve.specs.Places.{place}
+use Rattle.lft_whole.specs.declared.sources.source.SourceFile.{SourceFile}
 use Rattle.lft_whole.specs.declared.tree.Instance.{Instance}
 use Rattle.lft_whole.specs.declared.tree.Member.{Member}
 use Rattle.lft_whole.specs.declared.tree.Member.TheVariants as member
 use Rattle.lft_whole.specs.declared.tree.Name.{Name}
 use Rattle.lft_whole.specs.declared.tree.Reference.{Reference}
-use Rattle.lft_lowering.specs.Channels.{below}
-use Rattle.lft_lowering.specs.Lowered.{inner, own}
-use Rattle.lft_shapes.specs.declared.shapes.Child.{Child}
-use Rattle.lft_shapes.specs.declared.shapes.Inherited.{Inherited}
-use Rattle.lft_shapes.specs.declared.shapes.InheritedParameter.{InheritedParameter}
-use Rattle.lft_shapes.specs.declared.shapes.Shape.{Shape}
-use Rattle.lft_shapes.specs.declared.shapes.Thing.{Thing as ShapeThing}
-use Rattle.lft_shapes.specs.declared.shapes.Thing.TheVariants as thing
-use Rattle.lft_shapes.specs.Shapes.{child_at, name_of, thing_named, width_of}
-use Rattle.lft_settings.specs.Names.{name_in}
-use Rattle.lft_settings.specs.Values.{Valued, inside, setting_of, values_inside}
-use Rattle.lft_settings.specs.Widths.{found_width}
-use Rattle.lft_meanings.specs.Meanings.{Here, Means, all_places, if_port, inner_width, member_in, places_in, port_in, port_number, port_of, sense_behind, sense_in, sense_named, shape_inside, thing_in}
-use Rattle.lft_meanings.specs.Places.{Inner, Own, Sense, Several, count_of, inner_places, name_at, names_of, own_places, places_of}
+use Rattle.lft_elaborate.specs.Channels.Channels.{below}
+use Rattle.lft_elaborate.specs.Channels.Lowered.{inner, own}
+use Rattle.lft_classes.specs.declared.shapes.Child.{Child}
+use Rattle.lft_classes.specs.declared.shapes.Inherited.{Inherited}
+use Rattle.lft_classes.specs.declared.shapes.InheritedParameter.{InheritedParameter}
+use Rattle.lft_classes.specs.declared.shapes.Shape.{Shape}
+use Rattle.lft_classes.specs.declared.shapes.Thing.{Thing as ShapeThing}
+use Rattle.lft_classes.specs.declared.shapes.Thing.TheVariants as thing
+use Rattle.lft_classes.specs.Shapes.{child_at, name_of, thing_named, width_of}
+use Rattle.lft_elaborate.specs.Names.{name_in}
+use Rattle.lft_elaborate.specs.Values.{Valued, inside, setting_of, values_inside}
+use Rattle.lft_elaborate.specs.Widths.{found_width}
+use Rattle.lft_lower.specs.Meanings.Meanings.{Here, Means, all_places, if_port, inner_width, member_in, places_in, port_in, port_number, port_of, sense_behind, sense_in, sense_named, shape_inside, thing_in}
+use Rattle.lft_lower.specs.Meanings.Places.{Inner, Own, Sense, Several, count_of, inner_places, name_at, names_of, own_places, places_of}
 use Rattle.lft_lower.specs.Reactors.{IsLowering}
-use Rattle.lft_expanded.specs.Core.{things_for}
-use Rattle.lft_expanded.specs.Instances.{Inner as InnerInstance, Inside, Widths, inners, inside_of, numbers, numbers_at, numbers_named, place_named, written}
-use Rattle.lft_expanded.specs.Reactors.{members_of}
-use Rattle.lft_expanded.specs.Whole.{channels, crossed, inner_thing, inside_named, new_in, things_named}
-use Rattle.lft_expanded.proofs.Crossed.{crossed_map, crossed_nil, places_crossed}
-use Rattle.lft_expanded.proofs.Flattened.{map_twice}
-use Rattle.lft_fits.proofs.Channels.{crossed_first, is_found}
-use Rattle.lft_fits.proofs.MemberNames.{member_found, member_lost}
-use Rattle.lft_fits.proofs.Shapes.{flat_alike}
+use Rattle.lft_same.specs.Expanded.Core.{things_for}
+use Rattle.lft_same.specs.Expanded.Instances.{Inner as InnerInstance, Inside, Widths, inners, inside_of, numbers, numbers_at, numbers_named, place_named, written}
+use Rattle.lft_same.specs.Expanded.Reactors.{members_of}
+use Rattle.lft_same.specs.Expanded.Whole.{channels, crossed, inner_thing, inside_named, new_in, things_named}
+use Rattle.lft_same.proofs.ExpandedLemmas.Crossed.{crossed_map, crossed_nil, places_crossed}
+use Rattle.lft_same.proofs.ExpandedLemmas.Flattened.{map_twice}
+use Rattle.lft_same.proofs.FitsLemmas.Channels.{crossed_first, is_found}
+use Rattle.lft_same.proofs.FitsLemmas.MemberNames.{member_found, member_lost}
+use Rattle.lft_same.proofs.FitsLemmas.Shapes.{flat_alike}
 use Rattle.lft_same.proofs.Instances.{AreWidthsFound}
 use Rattle.lft_same.proofs.Kept.{kept_or, of_all, some_or}
 use Rattle.lft_same.proofs.Settings.{HasSetting, IsFoundIn, found_in, here, nested, numbers_are, of_class, shape_there, member_of}

@@ -1,21 +1,21 @@
 -- A lowered program that isn't refused is the whole program.
 use Rattle.std.proofs.Common.{◌≡◌, ℕ, List, Option, Some, None, option_map, refl, sym, ap, subst, ◌∙◌}
 use Rattle.std.specs.Option.{option_and_then}
-use Rattle.lft_instances.specs.Paths.{along}
+use Rattle.lft_resolve.specs.Expansion.Paths.{along}
 use Rattle.lft_lists.proofs.Places.{Some_same}
 use Rattle.lft_tree.specs.Tree.{ReactorTree}
 use Rattle.lft_tree.specs.View.{tree_view}
 use Rattle.lft_tree.specs.declared.ast.Ast.{Ast}
-use Rattle.lft_scope.specs.Causes.{NoneHolds, causes}
-use Rattle.lft_scope.specs.Instances.{Inside as CoreInside, entered as core_entered, main_instance as core_main, main_of as core_main_of}
-use Rattle.lft_sources.specs.declared.source.SourceFile.{SourceFile}
+use Rattle.lft_resolve.specs.Causes.{NoneHolds, causes}
+use Rattle.lft_resolve.specs.Instances.{Inside as CoreInside, entered as core_entered, main_instance as core_main, main_of as core_main_of}
+use Rattle.lft_whole.specs.declared.sources.source.SourceFile.{SourceFile}
 use Rattle.lft_lower.specs.Reactors.{IsLowering}
-use Rattle.lft_expanded.specs.Core.{core_contents, expanded_tree}
-use Rattle.lft_expanded.specs.Expanded.{Contents}
-use Rattle.lft_expanded.specs.Instances.{Inside, Widths, entered, main_instance}
-use Rattle.lft_expanded.specs.Reactors.{Class, main_of}
-use Rattle.lft_expanded.specs.Same.{IsNever, IsSame, awake}
-use Rattle.lft_expanded.specs.Whole.{AreWidths, expanded_files, whole_contents}
+use Rattle.lft_same.specs.Expanded.Core.{core_contents, expanded_tree}
+use Rattle.lft_same.specs.Expanded.Expanded.{Contents}
+use Rattle.lft_same.specs.Expanded.Instances.{Inside, Widths, entered, main_instance}
+use Rattle.lft_same.specs.Expanded.Reactors.{Class, main_of}
+use Rattle.lft_same.specs.Expanded.Same.{IsNever, IsSame, awake}
+use Rattle.lft_same.specs.Expanded.Whole.{AreWidths, expanded_files, whole_contents}
 use Rattle.lft_same.proofs.Instances.{AreWidthsFound, StandsFor}
 use Rattle.lft_same.specs.Laws.{LoweredLaw}
 use Rattle.lft_same.proofs.Connections.{links_alike}

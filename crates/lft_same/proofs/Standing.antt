@@ -8,19 +8,19 @@ use Rattle.lft_lists.proofs.Members.{Mem, contains_mem, mem_get}
 use Rattle.lft_tree.specs.Tree.{AssignmentTree, InstanceTree, ReactorTree, instances_of, reactors_of}
 use Rattle.lft_tree.specs.View.{tree_view}
 use Rattle.lft_tree.specs.declared.ast.Ast.{Ast}
-use Rattle.lft_scope.specs.Causes.{NoneHolds, causes}
-use Rattle.lft_scope.specs.Instances.{Inside as CoreInside, entered as core_entered, given_in as core_given_in, main_instance as core_main, main_of as core_main_of, reactor_named}
+use Rattle.lft_resolve.specs.Causes.{NoneHolds, causes}
+use Rattle.lft_resolve.specs.Instances.{Inside as CoreInside, entered as core_entered, given_in as core_given_in, main_instance as core_main, main_of as core_main_of, reactor_named}
 use Rattle.lft_program.proofs.Ordered.{AllZip-to}
 use Rattle.lft_program.proofs.Zips.{AllZip-from}
-use Rattle.lft_sources.specs.declared.source.SourceFile.{SourceFile}
-use Rattle.lft_shapes.specs.declared.shapes.Shape.{Shape}
-use Rattle.lft_settings.specs.Values.{Valued, main_setting, main_values}
-use Rattle.lft_meanings.specs.Meanings.{shape_inside}
+use Rattle.lft_whole.specs.declared.sources.source.SourceFile.{SourceFile}
+use Rattle.lft_classes.specs.declared.shapes.Shape.{Shape}
+use Rattle.lft_elaborate.specs.Values.{Valued, main_setting, main_values}
+use Rattle.lft_lower.specs.Meanings.Meanings.{shape_inside}
 use Rattle.lft_lower.specs.Reactors.{AreShapes, IsLowering}
-use Rattle.lft_expanded.specs.Instances.{Inner, Inside, Widths, entered, inners, inside_of, main_instance}
-use Rattle.lft_expanded.specs.Reactors.{Class, main_of}
-use Rattle.lft_fits.specs.Fits.{Fits}
-use Rattle.lft_fits.proofs.Nested.{main_law}
+use Rattle.lft_same.specs.Expanded.Instances.{Inner, Inside, Widths, entered, inners, inside_of, main_instance}
+use Rattle.lft_same.specs.Expanded.Reactors.{Class, main_of}
+use Rattle.lft_same.specs.Fits.Fits.{Fits}
+use Rattle.lft_same.proofs.FitsLemmas.Nested.{main_law}
 use Rattle.lft_same.proofs.Instances.{AreWidthsFound, StandsFor}
 use Rattle.lft_same.specs.Times.{IsKnown}
 use Rattle.lft_same.proofs.Found.{shape_of_setting}

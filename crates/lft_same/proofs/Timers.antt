@@ -12,29 +12,29 @@ use Rattle.lft_lists.specs.Bytes.{is_word}
 use Rattle.lft_tree.specs.Identifiers.{IsIdentifier}
 use Rattle.lft_tree.specs.Tree.{MemberTree, RefTree, TimerTree, PortMember, TimerMember, timer_in, timers_of}
 use Rattle.lft_tree.specs.declared.ast.Ast.{Ast}
-use Rattle.lft_scope.specs.Instances.{Inside as CoreInside}
-use Rattle.lft_scope.specs.Sheets.{is_timer as is_core_timer, without_timers}
-use Rattle.lft_sources.specs.declared.source.SourceFile.{SourceFile}
+use Rattle.lft_resolve.specs.Instances.{Inside as CoreInside}
+use Rattle.lft_resolve.specs.Sheets.{is_timer as is_core_timer, without_timers}
+use Rattle.lft_whole.specs.declared.sources.source.SourceFile.{SourceFile}
 use Rattle.lft_whole.specs.declared.tree.Member.{Member}
 use Rattle.lft_whole.specs.declared.tree.Member.TheVariants as member
 use Rattle.lft_whole.specs.declared.tree.Name.{Name}
 use Rattle.lft_whole.specs.declared.tree.Reference.{Reference}
 use Rattle.lft_whole.specs.declared.tree.Timer.{Timer}
-use Rattle.lft_lowering.specs.Lowered.{inner, own}
-use Rattle.lft_shapes.specs.declared.shapes.Inherited.{Inherited}
-use Rattle.lft_shapes.specs.declared.shapes.Thing.{Thing as ShapeThing}
-use Rattle.lft_shapes.specs.declared.shapes.Thing.TheVariants as thing
-use Rattle.lft_shapes.specs.Shapes.{name_of, thing_named, width_of}
-use Rattle.lft_meanings.specs.Meanings.{Means, named_in, places_in, sense_named, thing_in}
-use Rattle.lft_meanings.specs.Places.{Own, names_of}
+use Rattle.lft_elaborate.specs.Channels.Lowered.{inner, own}
+use Rattle.lft_classes.specs.declared.shapes.Inherited.{Inherited}
+use Rattle.lft_classes.specs.declared.shapes.Thing.{Thing as ShapeThing}
+use Rattle.lft_classes.specs.declared.shapes.Thing.TheVariants as thing
+use Rattle.lft_classes.specs.Shapes.{name_of, thing_named, width_of}
+use Rattle.lft_lower.specs.Meanings.Meanings.{Means, named_in, places_in, sense_named, thing_in}
+use Rattle.lft_lower.specs.Meanings.Places.{Own, names_of}
 use Rattle.lft_lower.specs.Lowered.{IsLowered, time_at, timer_tree}
 use Rattle.lft_lower.specs.Reactors.{IsLowering}
-use Rattle.lft_expanded.specs.Core.{things_for}
-use Rattle.lft_expanded.specs.Instances.{Inside, Widths, numbers, numbers_named, written}
-use Rattle.lft_expanded.specs.Reactors.{members_of}
-use Rattle.lft_expanded.specs.Whole.{channels, crossed, is_timer, names_timer, uses_in}
-use Rattle.lft_fits.proofs.Giving.{find_none, find_some}
-use Rattle.lft_fits.proofs.MemberNames.{member_found, member_lost}
+use Rattle.lft_same.specs.Expanded.Core.{things_for}
+use Rattle.lft_same.specs.Expanded.Instances.{Inside, Widths, numbers, numbers_named, written}
+use Rattle.lft_same.specs.Expanded.Reactors.{members_of}
+use Rattle.lft_same.specs.Expanded.Whole.{channels, crossed, is_timer, names_timer, uses_in}
+use Rattle.lft_same.proofs.FitsLemmas.Giving.{find_none, find_some}
+use Rattle.lft_same.proofs.FitsLemmas.MemberNames.{member_found, member_lost}
 use Rattle.lft_same.proofs.Instances.{AreWidthsFound, StandsFor}
 use Rattle.lft_same.proofs.Inners.{names_alike}
 use Rattle.lft_same.proofs.Kept.{all_pass}

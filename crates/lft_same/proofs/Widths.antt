@@ -5,19 +5,19 @@ use Rattle.std.proofs.Math.Nat.{le-max_left, le-max_right}
 use Rattle.lft_lists.proofs.Places.{Some_same, get_there, same_at, same_some}
 use Rattle.lft_tree.specs.View.{tree_view}
 use Rattle.lft_tree.specs.declared.ast.Ast.{Ast}
-use Rattle.lft_scope.specs.Causes.{NoneHolds, causes}
-use Rattle.lft_sources.specs.declared.source.SourceFile.{SourceFile}
-use Rattle.lft_shapes.specs.declared.shapes.Shape.{Shape}
-use Rattle.lft_settings.specs.Places.{width_in}
-use Rattle.lft_settings.specs.Settings.{setting_at}
-use Rattle.lft_settings.specs.Used.{IsReached}
-use Rattle.lft_settings.specs.Values.{Valued, main_setting}
-use Rattle.lft_settings.specs.Widths.{found_width}
+use Rattle.lft_resolve.specs.Causes.{NoneHolds, causes}
+use Rattle.lft_whole.specs.declared.sources.source.SourceFile.{SourceFile}
+use Rattle.lft_classes.specs.declared.shapes.Shape.{Shape}
+use Rattle.lft_elaborate.specs.Places.{width_in}
+use Rattle.lft_elaborate.specs.Settings.{setting_at}
+use Rattle.lft_elaborate.specs.Used.{IsReached}
+use Rattle.lft_elaborate.specs.Values.{Valued, main_setting}
+use Rattle.lft_elaborate.specs.Widths.{found_width}
 use Rattle.lft_lower.specs.Reactors.{AreShapes, IsLowering}
-use Rattle.lft_expanded.specs.Instances.{Widths}
-use Rattle.lft_expanded.specs.Whole.{AreWidths}
-use Rattle.lft_fits.specs.Widths.{AreFound, AreThose, small}
-use Rattle.lft_fits.proofs.Found.{widths_law}
+use Rattle.lft_same.specs.Expanded.Instances.{Widths}
+use Rattle.lft_same.specs.Expanded.Whole.{AreWidths}
+use Rattle.lft_same.specs.Fits.Widths.{AreFound, AreThose, small}
+use Rattle.lft_same.proofs.FitsLemmas.Found.{widths_law}
 use Rattle.lft_same.proofs.Instances.{AreWidthsFound}
 use Rattle.lft_same.proofs.Reached.{HasInstance, found_at, found_small, found_written, reached_instance}
 

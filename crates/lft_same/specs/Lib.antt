@@ -1,2 +1,4 @@
 pub mod Laws
 pub mod Times
+pub mod Expanded
+pub mod Fits

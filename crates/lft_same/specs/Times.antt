@@ -2,9 +2,9 @@
 use Rattle.std.specs.Prelude.{◌≡◌, ℕ, List, Contains, map}
 use Rattle.std.specs.Option.{option_map_or}
 use Rattle.lft_tree.specs.Tree.{ParameterTree, TimeTree, Written, Named}
-use Rattle.lft_scope.specs.Instances.{Inside as CoreInside}
-use Rattle.lft_sources.specs.declared.source.SourceFile.{SourceFile}
-use Rattle.lft_expanded.specs.Instances.{Inside, time_of, value_named}
+use Rattle.lft_resolve.specs.Instances.{Inside as CoreInside}
+use Rattle.lft_whole.specs.declared.sources.source.SourceFile.{SourceFile}
+use Rattle.lft_same.specs.Expanded.Instances.{Inside, time_of, value_named}
 
 -- the time of the value that the parameter of this name has in an instance, or 0
 abbrev pub time_named : List SourceFile → Inside → List ℕ → ℕ

@@ -1,9 +1,13 @@
 #![tactic(auto)]
-//! The core tree of a program is the whole program. It has laws alone, and no code.
+//! The core tree of a program is the whole program. In `expanded` what a program means, written out, a whole
+//! one and a core one; in `fits` how its settings stand to its instances. It has laws alone, and no code.
+
+pub mod expanded;
+pub mod fits;
 
 ghost use Rattle.lft_same.specs.Laws.{InsideTimesLaw, KnownLaw, LoweredLaw, MainTimesLaw, PeriodLaw, TimeLaw};
 
-use lft_sources::SourceFile;
+use lft_whole::sources::SourceFile;
 
 /// Times of core instances are those of the language. It does no work.
 pub fn laws_of_times(files: &[SourceFile])

@@ -14,10 +14,10 @@ use native.Mathlib.Decide.{ℕ_discrete}
 use Rattle.lft_tag.specs.declared.Tag.{Tag}
 use Rattle.lft_tag.specs.Tags.{Before}
 use Rattle.lft_tag.proofs.Order.{Before-irrefl, Before-trans}
-use Rattle.lft_flat.proofs.Ranges.{range-get, range-within}
-use Rattle.lft_steps.specs.declared.row.Row.{Row}
-use Rattle.lft_steps.specs.declared.row.Step.{Step}
-use Rattle.lft_steps.specs.declared.row.Step.TheVariants.{Start, End}
+use Rattle.lft_ir.proofs.Ranges.{range-get, range-within}
+use Rattle.lft_ir.specs.declared.steps.row.Row.{Row}
+use Rattle.lft_ir.specs.declared.steps.row.Step.{Step}
+use Rattle.lft_ir.specs.declared.steps.row.Step.TheVariants.{Start, End}
 use Rattle.lft_lists.proofs.Places.{get_there, same_at, get_write_cases, get_written, get_unwritten, get_push, get_last, get_push_cases, length_written, get_append_cases, get_left}
 use Rattle.lft_lists.proofs.Members.{mem_get, get_mem, mem_contains, contains_mem}
 use Rattle.lft_model.specs.Plans.{PlanParts}
@@ -29,7 +29,7 @@ use Rattle.lft_model.proofs.Places.{slice_get_within}
 use Rattle.lft_rows.specs.declared.slices.Slice.{Slice}
 use Rattle.lft_slices.specs.declared.pieces.Piece.{Piece}
 use Rattle.lft_rows.specs.Slices.{IsSlice, AreTags}
-use Rattle.lft_by_tag.specs.Slices.{IsCuttable, AreSlices}
+use Rattle.lft_check.specs.ByTag.Slices.{IsCuttable, AreSlices}
 use Rattle.lft_slices.specs.declared.pieces.Pieces.{Pieces}
 use Rattle.lft_slices.specs.Pieces.{IsPiece, AreRuns, AreEndsTo, AreStartsTo, AreRunsIn, ArePiecesTo, ArePieces, IsTagAt}
 

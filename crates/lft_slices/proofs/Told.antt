@@ -1,17 +1,17 @@
 -- The run that a piece tells, by a plan and rows that are those of the cut.
 use Rattle.std.proofs.Common.{◌≡◌, ◌<◌, List, length, Some, slice_get, sym, ap, ◌∙◌, subst}
 use Rattle.lft_tag.specs.declared.Tag.{Tag}
-use Rattle.lft_steps.specs.declared.row.Row.{Row}
-use Rattle.lft_steps.specs.declared.row.Step.TheVariants.{Start}
-use Rattle.lft_steps.specs.Fits.{RowsFit}
+use Rattle.lft_ir.specs.declared.steps.row.Row.{Row}
+use Rattle.lft_ir.specs.declared.steps.row.Step.TheVariants.{Start}
+use Rattle.lft_ir.specs.Steps.Fits.{RowsFit}
 use Rattle.lft_model.specs.Plans.{PlanParts}
 use Rattle.lft_model.specs.Runs.{start_row, reads_at, answer_at}
 use Rattle.lft_model.proofs.Places.{slice_get_within}
-use Rattle.lft_answers.specs.Answers.{KeepsRows}
-use Rattle.lft_presence.specs.Traces.{TraceParts}
+use Rattle.lft_rows.specs.Answers.Answers.{KeepsRows}
+use Rattle.lft_rows.specs.Presence.Traces.{TraceParts}
 use Rattle.lft_slices.specs.declared.pieces.Piece.{Piece}
 use Rattle.lft_slices.specs.Pieces.{IsPiece}
-use Rattle.lft_by_tag.specs.Slices.{IsCuttable}
+use Rattle.lft_check.specs.ByTag.Slices.{IsCuttable}
 
 module _ (cut : TraceParts) (rows : List Row) (are_rows : rows ≡ cut.rows) where
   pub starts_within : (g : Tag) (x : Piece) → IsPiece cut.rows g x → x.start < length rows

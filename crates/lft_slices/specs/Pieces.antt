@@ -1,7 +1,7 @@
 -- The runs of a trace by tag.
 use Rattle.std.specs.Prelude.{◌≡◌, ℕ, ◌+◌, ◌<◌, ◌≤◌, List, length, Some, slice_get}
 use Rattle.lft_tag.specs.declared.Tag.{Tag}
-use Rattle.lft_steps.specs.declared.row.Row.{Row}
+use Rattle.lft_ir.specs.declared.steps.row.Row.{Row}
 use Rattle.lft_model.specs.Runs.{start_row, end_row, Ran}
 use Rattle.lft_rows.specs.declared.slices.Slice.{Slice}
 use Rattle.lft_rows.specs.Slices.{AreTags}

@@ -7,9 +7,9 @@ ghost use Rattle.lft_slices.specs.Pieces.{IsPiece};
 
 use crate::cuts::Cut;
 use crate::pieces::Piece;
-use lft_answers::{Answer, answer_of_run, reads_of_run};
+use lft_ir::steps::row_at;
 use lft_model::Reads;
-use lft_steps::row_at;
+use lft_rows::answers::{Answer, answer_of_run, reads_of_run};
 use lft_tag::NoMemory;
 use std::alloc::Global;
 

@@ -2,18 +2,18 @@
 
 ghost use Rattle.std.specs.Prelude.{◌≡◌, ◌<◌, List, Option, length, IfOk};
 ghost use Rattle.lft_tag.specs.declared.Tag.{Tag as TheTag};
-ghost use Rattle.lft_flat.specs.declared.parts.Value.{Value as Carried};
+ghost use Rattle.lft_ir.specs.declared.parts.Value.{Value as Carried};
 ghost use Rattle.lft_model.specs.Presence.{Collision, Inputs};
-ghost use Rattle.lft_presence.specs.Clashes.{IsClash};
-ghost use Rattle.lft_presence.specs.Traces.{AreDue};
+ghost use Rattle.lft_rows.specs.Presence.Clashes.{IsClash};
+ghost use Rattle.lft_rows.specs.Presence.Traces.{AreDue};
 ghost use Rattle.lft_rows.specs.Slices.{AreTags};
-ghost use Rattle.lft_by_tag.specs.Slices.{IsGap};
+ghost use Rattle.lft_check.specs.ByTag.Slices.{IsGap};
 ghost use Rattle.lft_slices.specs.Pieces.{IsTagAt, AreRuns};
 
 use crate::pieces::{Piece, Pieces};
-use lft_by_tag::Sliced;
+use lft_check::by_tag::Sliced;
 use lft_model::Reads;
-use lft_presence::Presence;
+use lft_rows::presence::Presence;
 use lft_tag::{NoMemory, Tag};
 use std::alloc::Global;
 use std::marker::Model;
@@ -28,7 +28,7 @@ pub struct Cut<'a> {
 }
 
 impl<'a> Model for Cut<'a> {
-    ghost use Rattle.lft_presence.specs.Traces.{TraceParts};
+    ghost use Rattle.lft_rows.specs.Presence.Traces.{TraceParts};
 
     ghost Value = { TraceParts };
 

@@ -8,6 +8,6 @@ mod pieces;
 
 pub use cuts::Cut;
 pub use cutting::cut;
-pub use lft_by_tag::{CutFault, Sliced};
+pub use lft_check::by_tag::{CutFault, Sliced};
 pub use lft_rows::Slice;
 pub use pieces::Piece;

@@ -3,12 +3,12 @@
 ghost use Rattle.std.specs.Prelude.{◌≡◌, ◌++◌, ◌∷◌, [], ◌+◌, ◌<◌, ◌≤◌, length, Some, slice_get, slice_range, OnOk, IfOk};
 ghost use Rattle.lft_model.specs.Plans.{PlanParts};
 ghost use Rattle.lft_rows.specs.Slices.{IsSlice};
-ghost use Rattle.lft_by_tag.specs.Slices.{IsCuttable, AreSlices};
+ghost use Rattle.lft_check.specs.ByTag.Slices.{IsCuttable, AreSlices};
 ghost use Rattle.lft_slices.specs.Pieces.{AreRuns, AreEndsTo, AreStartsTo, ArePieces};
 
+use lft_ir::steps::{Row, is_end, is_start, row_at};
 use lft_lists::item_at;
 use lft_rows::Slice;
-use lft_steps::{Row, is_end, is_start, row_at};
 use lft_tag::{NoMemory, Tag};
 use std::alloc::Global;
 

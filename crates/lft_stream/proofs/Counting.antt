@@ -5,11 +5,11 @@ use Rattle.std.proofs.lemmas.List.Sums.{sum_by-append}
 use Rattle.lft_tag.specs.declared.Tag.{Tag}
 use Rattle.lft_tag.specs.Tags.{Before}
 use Rattle.lft_lists.proofs.Places.{get_left, get_right, get_push, get_last, get_push_cases, get_append_cases}
-use Rattle.lft_steps.specs.declared.row.Row.{Row}
+use Rattle.lft_ir.specs.declared.steps.row.Row.{Row}
 use Rattle.lft_model.specs.Runs.{start_row, Ran}
 use Rattle.lft_model.proofs.Places.{slice_get_within}
 use Rattle.lft_rows.specs.Slices.{begins, runs_in, AreTags}
-use Rattle.lft_coming.specs.AtTag.{AreBefore, AreAt}
+use Rattle.lft_queue.specs.Coming.AtTag.{AreBefore, AreAt}
 use Rattle.lft_stream.specs.Counted.{IsCounted}
 
 -- a later tag with a run adds its runs, and one tag

@@ -8,16 +8,16 @@ use Rattle.lft_tag.specs.Tags.{Before, UpTo, after, after_all, earliest}
 use Rattle.lft_tag.proofs.Order.{UpTo-refl, UpTo-trans, UpTo_antisym, UpTo-Before, Before-UpTo, Before-weaken, order_cases, after_past, from_first}
 use Rattle.lft_lists.proofs.Members.{get_mem, contains_mem, mem_contains}
 use Rattle.lft_lists.proofs.Places.{get_there, get_right, get_append_cases}
-use Rattle.lft_flat.proofs.Ranges.{length-range}
-use Rattle.lft_flat.specs.Origins.{Origin}
-use Rattle.lft_flat.specs.Sound.{IsSound}
-use Rattle.lft_flat.specs.declared.parts.Value.{Value}
-use Rattle.lft_flat.specs.declared.parts.Name.{Name}
-use Rattle.lft_flat.specs.declared.parts.Name.TheVariants.{Port, Action}
-use Rattle.lft_flat.specs.declared.parts.Trigger.TheVariants.{On}
-use Rattle.lft_steps.specs.declared.externals.Event.{Event}
-use Rattle.lft_steps.specs.declared.row.Row.{Row}
-use Rattle.lft_steps.specs.declared.row.Step.{Step}
+use Rattle.lft_ir.proofs.Ranges.{length-range}
+use Rattle.lft_ir.specs.Origins.{Origin}
+use Rattle.lft_ir.specs.Sound.{IsSound}
+use Rattle.lft_ir.specs.declared.parts.Value.{Value}
+use Rattle.lft_ir.specs.declared.parts.Name.{Name}
+use Rattle.lft_ir.specs.declared.parts.Name.TheVariants.{Port, Action}
+use Rattle.lft_ir.specs.declared.parts.Trigger.TheVariants.{On}
+use Rattle.lft_ir.specs.declared.steps.externals.Event.{Event}
+use Rattle.lft_ir.specs.declared.steps.row.Row.{Row}
+use Rattle.lft_ir.specs.declared.steps.row.Step.{Step}
 use Rattle.lft_model.specs.Plans.{PlanParts}
 use Rattle.lft_model.specs.Presence.{requests, stop, given, written, Shows, Inputs, Triggered}
 use Rattle.lft_model.specs.Runs.{Ran, inputs_of, read_of, reads_at}
@@ -28,29 +28,29 @@ use Rattle.lft_rows.specs.Slices.{IsSlice, runs_in}
 use Rattle.lft_rows.specs.Accepted.{IsAccepted}
 use Rattle.lft_stream.specs.declared.stream.Stream.{Stream}
 use Rattle.lft_queue.specs.Reading.{is_read}
-use Rattle.lft_coming.specs.AtOnce.{is_undelayed, origin_of, HasEvents, IsAwaited, AreHeard}
-use Rattle.lft_coming.specs.Channels.{AreReadChannels, caused_by}
-use Rattle.lft_coming.specs.Unread.{AreUnread, AreFree}
-use Rattle.lft_coming.specs.Listeners.{list_of, AreListeners, AreStarted, IsUnheard}
-use Rattle.lft_coming.specs.AtTag.{AreBefore, AreAt}
+use Rattle.lft_queue.specs.Coming.AtOnce.{is_undelayed, origin_of, HasEvents, IsAwaited, AreHeard}
+use Rattle.lft_queue.specs.Coming.Channels.{AreReadChannels, caused_by}
+use Rattle.lft_queue.specs.Coming.Unread.{AreUnread, AreFree}
+use Rattle.lft_queue.specs.Coming.Listeners.{list_of, AreListeners, AreStarted, IsUnheard}
+use Rattle.lft_queue.specs.Coming.AtTag.{AreBefore, AreAt}
 use Rattle.lft_stream.specs.Settled.{IsRightBehind}
 use Rattle.lft_stream.specs.Owed.{MeetNowhere}
 use Rattle.lft_stream.specs.StartTags.{AreStartTags}
-use Rattle.lft_coming.specs.Listens.{Listens}
+use Rattle.lft_queue.specs.Coming.Listens.{Listens}
 use Rattle.lft_stream.specs.Dues.{AreDues, NoneOwed}
 use Rattle.lft_stream.specs.Kept.{KeepRules, IsLater, AreUpTo, IsOfRow, low_of, HaveCome, state_of, IsStreamOf, IsAtHand, IsJudged}
-use Rattle.lft_coming.specs.Lanes.{held, first_events, IsMetAt, LaneGoesOn}
-use Rattle.lft_coming.specs.Coming.{to_come, AreTaken, IsClear, IsNoLater, IsReached, AreOver, AreComing}
-use Rattle.lft_coming.specs.Shown.{IsInLane, last_write}
-use Rattle.lft_coming.specs.declared.coming.Coming.{Coming}
-use Rattle.lft_coming.specs.declared.listeners.Listeners.{Listeners}
+use Rattle.lft_queue.specs.Coming.Lanes.{held, first_events, IsMetAt, LaneGoesOn}
+use Rattle.lft_queue.specs.Coming.Coming.{to_come, AreTaken, IsClear, IsNoLater, IsReached, AreOver, AreComing}
+use Rattle.lft_queue.specs.Coming.Shown.{IsInLane, last_write}
+use Rattle.lft_queue.specs.declared.coming.coming.Coming.{Coming}
+use Rattle.lft_queue.specs.declared.coming.listeners.Listeners.{Listeners}
 use Rattle.lft_queue.specs.Pending.{value_of}
 use Rattle.lft_stream.specs.Streams.{IsStream, IsGrown}
-use Rattle.lft_coming.specs.Writes.{AreEarlier}
-use Rattle.lft_coming.proofs.AtOnce.{undelayed_way, delayed_way, origin_is, heard_there}
-use Rattle.lft_coming.proofs.Carrying.{carried_is, one_held, held_one, none_after, none_now, at_once_held}
-use Rattle.lft_coming.proofs.Writing.{earlier_on}
-use Rattle.lft_coming.proofs.Clearing.{clear_up}
+use Rattle.lft_queue.specs.Coming.Writes.{AreEarlier}
+use Rattle.lft_queue.proofs.ComingLemmas.AtOnce.{undelayed_way, delayed_way, origin_is, heard_there}
+use Rattle.lft_queue.proofs.ComingLemmas.Carrying.{carried_is, one_held, held_one, none_after, none_now, at_once_held}
+use Rattle.lft_queue.proofs.ComingLemmas.Writing.{earlier_on}
+use Rattle.lft_queue.proofs.ComingLemmas.Clearing.{clear_up}
 use Rattle.lft_stream.proofs.Before.{ran_whole}
 use Rattle.lft_stream.proofs.Lanes.{held_append, held_first}
 use Rattle.lft_stream.proofs.Lone.{unread_met, still_alone}
@@ -60,8 +60,8 @@ use Rattle.lft_model.proofs.Stops.{stop_append}
 use Rattle.lft_stream.proofs.Stopping.{stop_law}
 use Rattle.lft_stream.proofs.Ruling.{rows_law}
 use Rattle.lft_stream.proofs.Streaming.{stream_law, move_law}
-use Rattle.lft_coming.proofs.Scheduled.{none_at}
-use Rattle.lft_coming.proofs.ToCome.{only_queue, item_of, few_of}
+use Rattle.lft_queue.proofs.ComingLemmas.Scheduled.{none_at}
+use Rattle.lft_queue.proofs.ComingLemmas.ToCome.{only_queue, item_of, few_of}
 use Rattle.lft_stream.proofs.Showing.{shows_law}
 
 -- a port without a delay that triggers something is reached from its origin

@@ -7,22 +7,22 @@ use Rattle.lft_tag.specs.declared.Tag.{Tag}
 use Rattle.lft_tag.specs.Tags.{Before, UpTo, after, after_all, same_tag}
 use Rattle.lft_tag.proofs.Order.{order_cases, Before-UpTo, UpTo-Before, UpTo-trans, same_tag_true}
 use Rattle.lft_lists.proofs.Members.{Mem, get_mem, mem_left, mem_right, mem_cases, mem_contains, contains_mem, mem_filter, mem_from_filter, last_mem, filter_map-filter_map}
-use Rattle.lft_flat.specs.Origins.{Origin}
-use Rattle.lft_flat.proofs.Origins.{origin_unique}
-use Rattle.lft_flat.specs.declared.parts.Value.{Value}
-use Rattle.lft_flat.specs.declared.parts.Name.{Name}
-use Rattle.lft_flat.specs.declared.parts.Name.TheVariants.{Port, Action}
-use Rattle.lft_flat.specs.declared.parts.Trigger.TheVariants.{On}
-use Rattle.lft_steps.specs.declared.row.Row.{Row}
-use Rattle.lft_steps.specs.declared.externals.Event.{Event}
+use Rattle.lft_ir.specs.Origins.{Origin}
+use Rattle.lft_ir.proofs.Origins.{origin_unique}
+use Rattle.lft_ir.specs.declared.parts.Value.{Value}
+use Rattle.lft_ir.specs.declared.parts.Name.{Name}
+use Rattle.lft_ir.specs.declared.parts.Name.TheVariants.{Port, Action}
+use Rattle.lft_ir.specs.declared.parts.Trigger.TheVariants.{On}
+use Rattle.lft_ir.specs.declared.steps.row.Row.{Row}
+use Rattle.lft_ir.specs.declared.steps.externals.Event.{Event}
 use Rattle.lft_model.specs.Plans.{PlanParts}
 use Rattle.lft_model.specs.Presence.{stop, value_scheduled, scheduled, given, min_delay, events_of, written, Last, IsWrittenFrom, At, PortClash}
 use Rattle.std.proofs.NetLemmas.Options.{cond_some}
 use Rattle.lft_tag.proofs.Order.{same_tag_refl}
 use Rattle.lft_model.proofs.Ended.{written_by}
-use Rattle.lft_coming.specs.AtTag.{AreBefore, AreAt}
+use Rattle.lft_queue.specs.Coming.AtTag.{AreBefore, AreAt}
 use Rattle.lft_stream.specs.Owed.{IsMet, IsApart}
-use Rattle.lft_coming.specs.Lanes.{at_tag, held, coming, given_to, first_events, made, carried, IsDone, IsKept, IsLane, LaneGoesOn}
+use Rattle.lft_queue.specs.Coming.Lanes.{at_tag, held, coming, given_to, first_events, made, carried, IsDone, IsKept, IsLane, LaneGoesOn}
 use Rattle.lft_stream.proofs.Behind.{at_back, clash_back}
 use Rattle.lft_stream.proofs.Hand.{last_old, last_whole, last_now, last_then}
 use Rattle.lft_stream.proofs.Owing.{ran_grows}

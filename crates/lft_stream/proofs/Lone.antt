@@ -8,26 +8,26 @@ use Rattle.lft_tag.specs.Shifts.{shifted}
 use Rattle.lft_tag.proofs.Order.{UpTo-not}
 use Rattle.lft_tag.proofs.Chains.{shifted_chain}
 use Rattle.lft_lists.proofs.Members.{Mem, get_mem, mem_contains, contains_mem, mem_filter, mem_from_filter, mem_left, last_mem}
-use Rattle.lft_flat.specs.Naming.{named}
-use Rattle.lft_flat.specs.Origins.{Origin}
-use Rattle.lft_flat.specs.Parts.{inputs}
-use Rattle.lft_flat.specs.Sound.{IsSound}
-use Rattle.lft_flat.specs.declared.parts.Port.{Port as PortOf}
-use Rattle.lft_flat.specs.declared.parts.Value.{Value}
-use Rattle.lft_flat.specs.declared.parts.Name.TheVariants.{Port}
-use Rattle.lft_flat.specs.declared.parts.Trigger.TheVariants.{On}
-use Rattle.lft_flat.proofs.Origins.{origin_unique, port_of}
-use Rattle.lft_steps.specs.declared.row.Row.{Row}
+use Rattle.lft_ir.specs.Naming.{named}
+use Rattle.lft_ir.specs.Origins.{Origin}
+use Rattle.lft_ir.specs.Parts.{inputs}
+use Rattle.lft_ir.specs.Sound.{IsSound}
+use Rattle.lft_ir.specs.declared.parts.Port.{Port as PortOf}
+use Rattle.lft_ir.specs.declared.parts.Value.{Value}
+use Rattle.lft_ir.specs.declared.parts.Name.TheVariants.{Port}
+use Rattle.lft_ir.specs.declared.parts.Trigger.TheVariants.{On}
+use Rattle.lft_ir.proofs.Origins.{origin_unique, port_of}
+use Rattle.lft_ir.specs.declared.steps.row.Row.{Row}
 use Rattle.lft_model.specs.Plans.{PlanParts}
 use Rattle.lft_model.specs.Presence.{written, Last}
 use Rattle.lft_model.proofs.Ended.{written_by}
 use Rattle.lft_model.proofs.Steps.{written_some}
 use Rattle.lft_queue.specs.Reading.{is_read}
 use Rattle.lft_queue.proofs.Marking.{of_reads}
-use Rattle.lft_coming.specs.AtTag.{AreBefore}
-use Rattle.lft_coming.specs.Lanes.{held, carried, IsLane, IsMetAt}
-use Rattle.lft_coming.specs.Listens.{Listens}
-use Rattle.lft_coming.specs.Unread.{IsWrittenAt, AreFree}
+use Rattle.lft_queue.specs.Coming.AtTag.{AreBefore}
+use Rattle.lft_queue.specs.Coming.Lanes.{held, carried, IsLane, IsMetAt}
+use Rattle.lft_queue.specs.Coming.Listens.{Listens}
+use Rattle.lft_queue.specs.Coming.Unread.{IsWrittenAt, AreFree}
 use Rattle.lft_stream.proofs.Lanes.{held_append, held_mem, of_carried}
 
 -- who listens to a port reads it

@@ -5,18 +5,18 @@ use Rattle.std.proofs.lemmas.List.Elements.{Contains-append_left, Contains-push}
 use Rattle.lft_tag.specs.declared.Tag.{Tag}
 use Rattle.lft_lists.proofs.Members.{Mem, mem_get, get_mem, mem_from_filter, last_mem}
 use Rattle.lft_lists.proofs.Places.{contains_at, get_there, get_append_cases}
-use Rattle.lft_flat.specs.Naming.{named}
-use Rattle.lft_flat.specs.Origins.{Origin}
-use Rattle.lft_flat.specs.Parts.{inputs}
-use Rattle.lft_flat.specs.Sound.{IsNameOf, IsSound}
-use Rattle.lft_flat.specs.declared.parts.Name.{Name}
-use Rattle.lft_flat.specs.declared.parts.Name.TheVariants.{Port, Action}
-use Rattle.lft_flat.specs.declared.parts.Port.{Port as PortOf}
-use Rattle.lft_flat.specs.declared.parts.Reaction.{Reaction}
-use Rattle.lft_flat.specs.declared.parts.Value.{Value}
-use Rattle.lft_flat.proofs.Origins.{origin_inside}
-use Rattle.lft_steps.specs.declared.row.Row.{Row}
-use Rattle.lft_steps.specs.declared.row.Step.TheVariants.{Write}
+use Rattle.lft_ir.specs.Naming.{named}
+use Rattle.lft_ir.specs.Origins.{Origin}
+use Rattle.lft_ir.specs.Parts.{inputs}
+use Rattle.lft_ir.specs.Sound.{IsNameOf, IsSound}
+use Rattle.lft_ir.specs.declared.parts.Name.{Name}
+use Rattle.lft_ir.specs.declared.parts.Name.TheVariants.{Port, Action}
+use Rattle.lft_ir.specs.declared.parts.Port.{Port as PortOf}
+use Rattle.lft_ir.specs.declared.parts.Reaction.{Reaction}
+use Rattle.lft_ir.specs.declared.parts.Value.{Value}
+use Rattle.lft_ir.proofs.Origins.{origin_inside}
+use Rattle.lft_ir.specs.declared.steps.row.Row.{Row}
+use Rattle.lft_ir.specs.declared.steps.row.Step.TheVariants.{Write}
 use Rattle.lft_model.specs.Plans.{PlanParts}
 use Rattle.lft_model.specs.Presence.{written, Shows, Inputs}
 use Rattle.lft_model.specs.Runs.{read_of, steps_of, reads_at}
@@ -24,12 +24,12 @@ use Rattle.lft_model.proofs.Ended.{written_by}
 use Rattle.lft_model.proofs.Steps.{written_some}
 use Rattle.lft_queue.specs.Pending.{Pending, value_of}
 use Rattle.lft_rows.proofs.RunReads.{read_there}
-use Rattle.lft_coming.specs.AtOnce.{is_undelayed, HasEvents, IsAwaited}
-use Rattle.lft_coming.specs.Channels.{AreReadChannels}
-use Rattle.lft_coming.specs.Shown.{last_write}
-use Rattle.lft_coming.specs.declared.channels.Channels.{Channels}
-use Rattle.lft_coming.specs.declared.writes.Written.{Written}
-use Rattle.lft_coming.proofs.AtOnce.{way_at_once}
+use Rattle.lft_queue.specs.Coming.AtOnce.{is_undelayed, HasEvents, IsAwaited}
+use Rattle.lft_queue.specs.Coming.Channels.{AreReadChannels}
+use Rattle.lft_queue.specs.Coming.Shown.{last_write}
+use Rattle.lft_queue.specs.declared.coming.channels.Channels.{Channels}
+use Rattle.lft_queue.specs.declared.coming.writes.Written.{Written}
+use Rattle.lft_queue.proofs.ComingLemmas.AtOnce.{way_at_once}
 use Rattle.lft_stream.specs.Present.{AreShown, AreReadsShown}
 use Rattle.lft_stream.proofs.Present.{read_all}
 use Rattle.lft_stream.proofs.Showing.{shows_law}

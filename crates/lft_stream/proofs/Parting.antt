@@ -6,12 +6,12 @@ use Rattle.std.proofs.Math.Seq.{take-add}
 use Rattle.lft_tag.specs.declared.Tag.{Tag}
 use Rattle.lft_tag.specs.Tags.{Before, UpTo}
 use Rattle.lft_tag.proofs.Order.{order_cases}
-use Rattle.lft_flat.specs.Parts.{Parts}
-use Rattle.lft_flat.proofs.Ranges.{length-range, range-get, range-within, slice_get-drop}
-use Rattle.lft_steps.specs.declared.row.Row.{Row}
-use Rattle.lft_steps.specs.declared.row.Step.{Step}
-use Rattle.lft_steps.specs.declared.row.Step.TheVariants.{Start, Read, Write, Schedule, Stop, End}
-use Rattle.lft_steps.specs.Fits.{RowsFit}
+use Rattle.lft_ir.specs.Parts.{Parts}
+use Rattle.lft_ir.proofs.Ranges.{length-range, range-get, range-within, slice_get-drop}
+use Rattle.lft_ir.specs.declared.steps.row.Row.{Row}
+use Rattle.lft_ir.specs.declared.steps.row.Step.{Step}
+use Rattle.lft_ir.specs.declared.steps.row.Step.TheVariants.{Start, Read, Write, Schedule, Stop, End}
+use Rattle.lft_ir.specs.Steps.Fits.{RowsFit}
 use Rattle.lft_model.specs.Plans.{PlanParts}
 use Rattle.lft_model.specs.Runs.{start_row, end_row, step_of, steps_of, Ran}
 use Rattle.lft_model.proofs.Places.{slice_get_take}
@@ -21,7 +21,7 @@ use Rattle.lft_model.specs.Breaches.{IsOpen, IsOutOfOrder, IsUndeclared, BreaksR
 use Rattle.lft_rows.specs.Firsts.{FirstRow}
 use Rattle.lft_rows.specs.declared.slices.Slice.{Slice}
 use Rattle.lft_rows.specs.Slices.{IsSlice, Rises}
-use Rattle.lft_coming.specs.AtTag.{AreAt}
+use Rattle.lft_queue.specs.Coming.AtTag.{AreAt}
 
 -- tags don't fall where no row breaks a rule
 pub rises_from : (last : Tag) (plan : PlanParts) (t : List Row) → FirstRow last plan t None → Rises t

@@ -1,7 +1,7 @@
 -- The numbers that an acceptance tells.
 use Rattle.std.specs.Prelude.{◌≡◌, ℕ, List, length}
 use Rattle.lft_tag.specs.declared.Tag.{Tag}
-use Rattle.lft_steps.specs.declared.row.Row.{Row}
+use Rattle.lft_ir.specs.declared.steps.row.Row.{Row}
 use Rattle.lft_rows.specs.Slices.{runs_in, AreTags}
 
 -- how many runs the rows have, and how many different tags with a run

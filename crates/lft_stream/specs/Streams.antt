@@ -2,11 +2,11 @@
 use Rattle.std.specs.Prelude.{◌≡◌, ℕ, ◌+◌, List, ◌++◌}
 use Rattle.lft_tag.specs.declared.Tag.{Tag}
 use Rattle.lft_tag.specs.Tags.{Before, UpTo}
-use Rattle.lft_flat.specs.Origins.{Origin}
-use Rattle.lft_flat.specs.declared.parts.Value.{Value}
-use Rattle.lft_flat.specs.declared.parts.Name.{Name}
-use Rattle.lft_flat.specs.declared.parts.Name.TheVariants.{Port, Action}
-use Rattle.lft_steps.specs.declared.row.Row.{Row}
+use Rattle.lft_ir.specs.Origins.{Origin}
+use Rattle.lft_ir.specs.declared.parts.Value.{Value}
+use Rattle.lft_ir.specs.declared.parts.Name.{Name}
+use Rattle.lft_ir.specs.declared.parts.Name.TheVariants.{Port, Action}
+use Rattle.lft_ir.specs.declared.steps.row.Row.{Row}
 use Rattle.lft_model.specs.Plans.{PlanParts}
 use Rattle.lft_model.specs.Presence.{stop}
 use Rattle.lft_rows.specs.Slices.{runs_in}
@@ -14,7 +14,7 @@ use Rattle.lft_stream.specs.Settled.{IsSettled}
 use Rattle.lft_stream.specs.Counted.{IsCounted}
 use Rattle.lft_stream.specs.declared.due.Due.{Due}
 use Rattle.lft_stream.specs.Dues.{AreDues, NoneOwed}
-use Rattle.lft_coming.specs.Lanes.{first_events, made, carried, IsLane}
+use Rattle.lft_queue.specs.Coming.Lanes.{first_events, made, carried, IsLane}
 
 -- what is kept: of each name its lane and the tag up to which it is done with, when each trigger is due, and the numbers of runs and tags
 pub record State : Type 0 where

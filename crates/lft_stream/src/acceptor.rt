@@ -1,23 +1,23 @@
 //! Rows that are gone over part by part.
 
 ghost use Rattle.std.specs.Prelude.{◌≡◌, List, [], ◌++◌, IsTrue, IfOk, IfSome};
-ghost use Rattle.lft_steps.specs.declared.row.Row.{Row as TheRow};
-ghost use Rattle.lft_steps.specs.Fits.{RowsFit};
+ghost use Rattle.lft_ir.specs.declared.steps.row.Row.{Row as TheRow};
+ghost use Rattle.lft_ir.specs.Steps.Fits.{RowsFit};
 ghost use Rattle.lft_rows.specs.Accepted.{IsAccepted};
 ghost use Rattle.lft_stream.specs.Dues.{NoneDueBefore};
 ghost use Rattle.lft_tag.specs.declared.Tag.{Tag as TheTag};
 ghost use Rattle.lft_model.specs.Plans.{PlanParts};
 ghost use Rattle.lft_model.specs.Presence.{stop};
-ghost use Rattle.lft_coming.specs.AtTag.{AreBefore};
+ghost use Rattle.lft_queue.specs.Coming.AtTag.{AreBefore};
 ghost use Rattle.lft_stream.specs.Owed.{MeetNowhere};
 ghost use Rattle.lft_stream.specs.Kept.{IsAcceptorOf, KeepRules, stopped_stream};
 
 use crate::effort::Effort;
 use crate::order::Order;
 use crate::stream::{Counts, Stream};
+use lft_ir::steps::Row;
 use lft_model::Plan;
 use lft_rows::{Marks, Pass};
-use lft_steps::Row;
 use lft_tag::{NoMemory, Tag};
 use std::alloc::Global;
 

@@ -1,12 +1,12 @@
 //! How much is looked at before rows are given up.
 
 ghost use Rattle.std.specs.Prelude.{◌≡◌, length};
-ghost use Rattle.lft_steps.specs.Fits.{RowFits, RowsFit};
+ghost use Rattle.lft_ir.specs.Steps.Fits.{RowFits, RowsFit};
 
 use crate::presence::Presence;
-use lft_coming::{Channels, Listeners, written_port};
-use lft_flat::Program;
-use lft_steps::{Row, is_start, row_at};
+use lft_ir::Program;
+use lft_ir::steps::{Row, is_start, row_at};
+use lft_queue::coming::{Channels, Listeners, written_port};
 
 /// So many inputs, listeners and ports behind delays may be looked at for each row. Most programs need a few.
 /// One in whose runs hundreds are looked at is judged sooner with an index of what the rows cause.

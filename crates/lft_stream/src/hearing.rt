@@ -1,21 +1,21 @@
 //! Whether each reaction that a written port triggers has a run.
 
 ghost use Rattle.std.specs.Prelude.{◌≡◌, ℕ, List, length, IsSome, IsTrue, Contains};
-ghost use Rattle.lft_steps.specs.declared.row.Row.{Row as TheRow};
-ghost use Rattle.lft_steps.specs.Fits.{RowsFit};
+ghost use Rattle.lft_ir.specs.declared.steps.row.Row.{Row as TheRow};
+ghost use Rattle.lft_ir.specs.Steps.Fits.{RowsFit};
 ghost use Rattle.lft_model.specs.Runs.{Ran};
-ghost use Rattle.lft_coming.specs.AtOnce.{AreHeard};
-ghost use Rattle.lft_coming.specs.Listeners.{AreListeners, AreStarted};
+ghost use Rattle.lft_queue.specs.Coming.AtOnce.{AreHeard};
+ghost use Rattle.lft_queue.specs.Coming.Listeners.{AreListeners, AreStarted};
 ghost use Rattle.lft_queue.specs.Pending.{value_of};
-ghost use Rattle.lft_flat.specs.declared.parts.Name.{Name as TheName};
+ghost use Rattle.lft_ir.specs.declared.parts.Name.{Name as TheName};
 ghost use Rattle.lft_stream.specs.StartTags.{AreStartTags};
 
 use crate::start_tags::StartTags;
-use lft_coming::{Coming, Listeners, written_port};
-use lft_flat::Program;
+use lft_ir::Program;
+use lft_ir::steps::{Row, row_at};
 use lft_lists::item_at;
 use lft_model::Plan;
-use lft_steps::{Row, row_at};
+use lft_queue::coming::{Coming, Listeners, written_port};
 use lft_tag::Tag;
 
 /// Whether each of the reactions started last at the tag.

@@ -2,7 +2,7 @@
 
 ghost use Rattle.std.specs.Prelude.{ℕ, ◌≡◌, IsTrue, None, IfSome};
 ghost use Rattle.lft_tag.specs.declared.Tag.{Tag as TheTag};
-ghost use Rattle.lft_steps.specs.Fits.{RowsFit};
+ghost use Rattle.lft_ir.specs.Steps.Fits.{RowsFit};
 ghost use Rattle.lft_graph.specs.Sets.{AreAncestors};
 ghost use Rattle.lft_model.specs.Breaches.{IsTooEarly};
 ghost use Rattle.lft_model.specs.Runs.{Ran};
@@ -11,8 +11,8 @@ ghost use Rattle.lft_stream.specs.Ordered.{IsOrdered};
 
 use crate::ranks::is_ranked;
 use lft_graph::{Ancestors, Set};
+use lft_ir::steps::{Row, is_end, is_start, row_at};
 use lft_model::Plan;
-use lft_steps::{Row, is_end, is_start, row_at};
 use std::alloc::Global;
 use std::marker::Model;
 

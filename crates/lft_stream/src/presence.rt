@@ -1,21 +1,21 @@
 //! What may be present at the tag at hand, for reactions that have many inputs.
 
 ghost use Rattle.std.specs.Prelude.{◌≡◌, ◌<◌, ◌++◌, ◌∷◌, [], ℕ, List, length, Some, IsSome, IsTrue, Contains, slice_get};
-ghost use Rattle.lft_flat.specs.declared.parts.Name.{Name as TheName};
-ghost use Rattle.lft_flat.specs.declared.parts.Name.TheVariants.{Port as PortName};
-ghost use Rattle.lft_flat.specs.declared.parts.Value.{Value as TheValue};
-ghost use Rattle.lft_steps.specs.declared.row.Row.{Row as TheRow};
-ghost use Rattle.lft_steps.specs.declared.row.Step.TheVariants.{Write};
-ghost use Rattle.lft_steps.specs.Fits.{RowsFit};
+ghost use Rattle.lft_ir.specs.declared.parts.Name.{Name as TheName};
+ghost use Rattle.lft_ir.specs.declared.parts.Name.TheVariants.{Port as PortName};
+ghost use Rattle.lft_ir.specs.declared.parts.Value.{Value as TheValue};
+ghost use Rattle.lft_ir.specs.declared.steps.row.Row.{Row as TheRow};
+ghost use Rattle.lft_ir.specs.declared.steps.row.Step.TheVariants.{Write};
+ghost use Rattle.lft_ir.specs.Steps.Fits.{RowsFit};
 ghost use Rattle.lft_queue.specs.Pending.{value_of};
-ghost use Rattle.lft_coming.specs.Channels.{AreReadChannels};
+ghost use Rattle.lft_queue.specs.Coming.Channels.{AreReadChannels};
 ghost use Rattle.lft_stream.specs.Present.{AreAllPresent, IsKnown};
 
-use lft_coming::{Channels, Coming, written_port};
-use lft_flat::{Name, Program};
+use lft_ir::steps::{Row, is_start, row_at};
+use lft_ir::{Name, Program};
 use lft_lists::item_at;
 use lft_model::Plan;
-use lft_steps::{Row, is_start, row_at};
+use lft_queue::coming::{Channels, Coming, written_port};
 use lft_tag::Tag;
 use std::alloc::Global;
 

@@ -1,11 +1,11 @@
 //! Whether runs follow each other by the levels of their reactions.
 
 ghost use Rattle.std.specs.Prelude.{ℕ, ◌≡◌, IsTrue};
-ghost use Rattle.lft_steps.specs.Fits.{RowsFit};
+ghost use Rattle.lft_ir.specs.Steps.Fits.{RowsFit};
 ghost use Rattle.lft_stream.specs.Ordered.{IsOrdered};
 
+use lft_ir::steps::{Row, is_end, is_start, row_at};
 use lft_model::Plan;
-use lft_steps::{Row, is_end, is_start, row_at};
 
 /// Whether no run starts before the end of one of a lower level. Then none starts before the end of
 /// one that precedes it.

@@ -1,26 +1,26 @@
 //! What the runs at the tag at hand may read, and what they read.
 
 ghost use Rattle.std.specs.Prelude.{◌≡◌, ℕ, ◌<◌, ◌++◌, List, length, Some, IsSome, IsTrue, Contains, slice_get};
-ghost use Rattle.lft_steps.specs.declared.row.Row.{Row as TheRow};
-ghost use Rattle.lft_steps.specs.Fits.{RowsFit};
-ghost use Rattle.lft_flat.specs.Parts.{inputs};
-ghost use Rattle.lft_flat.specs.declared.parts.Name.{Name as TheName};
-ghost use Rattle.lft_flat.specs.declared.parts.Reaction.{Reaction as TheReaction};
+ghost use Rattle.lft_ir.specs.declared.steps.row.Row.{Row as TheRow};
+ghost use Rattle.lft_ir.specs.Steps.Fits.{RowsFit};
+ghost use Rattle.lft_ir.specs.Parts.{inputs};
+ghost use Rattle.lft_ir.specs.declared.parts.Name.{Name as TheName};
+ghost use Rattle.lft_ir.specs.declared.parts.Reaction.{Reaction as TheReaction};
 ghost use Rattle.lft_model.specs.Presence.{Shows, Inputs, Triggered};
 ghost use Rattle.lft_model.specs.Runs.{Ran, reads_at, read_of, steps_of};
 ghost use Rattle.lft_rows.specs.Marks.{AreMarks, IsLaid};
 ghost use Rattle.lft_rows.specs.Slices.{IsSlice};
-ghost use Rattle.lft_flat.specs.Sound.{IsNameOf};
-ghost use Rattle.lft_coming.specs.AtOnce.{IsAwaited};
+ghost use Rattle.lft_ir.specs.Sound.{IsNameOf};
+ghost use Rattle.lft_queue.specs.Coming.AtOnce.{IsAwaited};
 ghost use Rattle.lft_stream.specs.Present.{AreShown, IsKnown, AreReadsShown};
 
 use crate::presence::Presence;
-use lft_coming::{Coming, Writes, is_undelayed};
-use lft_flat::{Name, Value};
+use lft_ir::steps::{Row, Step, is_start, row_at};
+use lft_ir::{Name, Value};
 use lft_lists::item_at;
 use lft_model::Plan;
+use lft_queue::coming::{Coming, Writes, is_undelayed};
 use lft_rows::{Marks, Slice};
-use lft_steps::{Row, Step, is_start, row_at};
 use lft_tag::Tag;
 
 /// What may be read of the name, which some reaction reads, at the tag, of rows that are at the tag behind

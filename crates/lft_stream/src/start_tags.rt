@@ -1,16 +1,16 @@
 //! At which tag each reaction started last.
 
 ghost use Rattle.std.specs.Prelude.{◌≡◌, ℕ, List, [], ◌<◌, length, IfOk, IsTrue};
-ghost use Rattle.lft_steps.specs.declared.row.Row.{Row as TheRow};
-ghost use Rattle.lft_steps.specs.Fits.{RowsFit};
+ghost use Rattle.lft_ir.specs.declared.steps.row.Row.{Row as TheRow};
+ghost use Rattle.lft_ir.specs.Steps.Fits.{RowsFit};
 ghost use Rattle.lft_model.specs.Runs.{Ran};
 ghost use Rattle.lft_rows.specs.Slices.{IsSlice};
 ghost use Rattle.lft_stream.specs.StartTags.{AreStartTags};
 
-use lft_flat::Program;
+use lft_ir::Program;
+use lft_ir::steps::{Row, is_start, row_at};
 use lft_lists::item_at;
 use lft_rows::Slice;
-use lft_steps::{Row, is_start, row_at};
 use lft_tag::{NoMemory, Tag};
 use std::alloc::Global;
 use std::marker::Model;

@@ -1,8 +1,8 @@
 //! What is kept of the rows so far.
 
 ghost use Rattle.std.specs.Prelude.{◌≡◌, ℕ, List, [], ◌++◌, ◌+◌, ◌<◌, take, length, Some, None, IsTrue, IfOk, IfSome};
-ghost use Rattle.lft_steps.specs.declared.row.Row.{Row as TheRow};
-ghost use Rattle.lft_steps.specs.Fits.{RowsFit};
+ghost use Rattle.lft_ir.specs.declared.steps.row.Row.{Row as TheRow};
+ghost use Rattle.lft_ir.specs.Steps.Fits.{RowsFit};
 ghost use Rattle.lft_graph.specs.Sets.{AreAncestors};
 ghost use Rattle.lft_tag.specs.Tags.{UpTo, earlier, earliest};
 ghost use Rattle.lft_model.specs.Presence.{stop, requests, Triggered};
@@ -21,11 +21,11 @@ use crate::order::Order;
 use crate::presence::Presence;
 use crate::reads::{have_read, is_woken};
 use crate::start_tags::StartTags;
-use lft_coming::{Channels, Coming, Listeners, Unread, Writes, pass_on};
-use lft_flat::Program;
+use lft_ir::Program;
+use lft_ir::steps::{Row, is_start, is_stop, row_at};
 use lft_model::Plan;
+use lft_queue::coming::{Channels, Coming, Listeners, Unread, Writes, pass_on};
 use lft_rows::{Marks, Slice};
-use lft_steps::{Row, is_start, is_stop, row_at};
 use lft_tag::{NoMemory, Tag};
 use std::alloc::Global;
 

@@ -2,10 +2,10 @@
 
 ghost use Rattle.std.specs.Prelude.{◌≡◌, IfOk, OnOk, length};
 
-use lft_flat::{Name, Value};
+use lft_ir::steps::Step;
+use lft_ir::{Name, Value};
 use lft_model::{Plan, Reads};
 use lft_pool::{AnyAnswer, Bodies, Body, Code, Done, Steps};
-use lft_steps::Step;
 use lft_tag::{NoMemory, Tag};
 use std::alloc::Global;
 

@@ -5,10 +5,10 @@ ghost use Rattle.std.specs.Prelude.{◌≡◌};
 
 use crate::answers::{Answer, Prepared, PreparedBodies, PreparedBody, bodies_of, body, done};
 use crate::texts::{AT_ONCE, PIPE, TWO, is_accepted, is_table, plan};
-use lft_flat::{Name, Value};
+use lft_ir::steps::Step;
+use lft_ir::{Name, Value};
 use lft_model::{Plan, Reads};
 use lft_pool::{Answered, AnyAnswer, Begin, Book, Closed, PutFault, Stop, Ticket};
-use lft_steps::Step;
 use lft_tag::{NoMemory, Tag};
 use std::alloc::Global;
 use std::test::Fail;

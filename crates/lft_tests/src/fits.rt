@@ -1,8 +1,8 @@
 //! Rows and external inputs at each limit of what fits a program.
 
-use lft_flat::{Name, Program, Value};
+use lft_ir::steps::{Externals, Row, Rows, Step};
+use lft_ir::{Name, Program, Value};
 use lft_load::read_program;
-use lft_steps::{Externals, Row, Rows, Step};
 use lft_tag::{NoMemory, Tag};
 use lft_trace::read_externals;
 use std::alloc::Global;

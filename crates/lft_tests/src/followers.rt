@@ -1,13 +1,13 @@
 //! Rows that are followed as they come, in parts of different lengths.
 
 ghost use Rattle.std.specs.Prelude.{◌≡◌, ◌<◌, ◌≤◌, length, take, IfSome};
-ghost use Rattle.lft_steps.specs.Fits.{RowsFit};
-ghost use Rattle.lft_follow.specs.Follows.{IsFollowerOf};
+ghost use Rattle.lft_ir.specs.Steps.Fits.{RowsFit};
+ghost use Rattle.lft_monitor.specs.Follows.{IsFollowerOf};
 
 use crate::texts::{plan, rows};
-use lft_follow::{Ending, Follower, Found, Progress};
+use lft_ir::steps::Row;
 use lft_model::Plan;
-use lft_steps::Row;
+use lft_monitor::{Ending, Follower, Found, Progress};
 use lft_stream::Counts;
 use lft_tag::{NoMemory, Tag};
 use std::alloc::Global;

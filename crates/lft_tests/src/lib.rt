@@ -1,7 +1,8 @@
 #![tactic(auto)]
-//! The tests below the calls on texts that need code: tags; what fits a program; who is told of a
-//! tag, by a copy of a plan and by two workers at a time; rows that are followed as they come; queues, books driven by hand, and
-//! recordings. What is data is a case in the folder `cases`.
+//! The tests that need code: tags; what fits a program; who is told of a tag; rows that are followed as they
+//! come; queues, books driven by hand, and recordings. In `driver` the calls on texts: long texts and tables,
+//! many workers, readers and writers that are interrupted or fail. What is data is a case in the folder
+//! `cases`.
 
 #[cfg(test)]
 mod answers;
@@ -9,6 +10,7 @@ mod answers;
 mod books;
 #[cfg(test)]
 mod closures;
+pub mod driver;
 #[cfg(test)]
 mod fits;
 #[cfg(test)]

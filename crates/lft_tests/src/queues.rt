@@ -1,6 +1,6 @@
 //! A queue of pending events, call by call.
 
-use lft_flat::{Name, Value};
+use lft_ir::{Name, Value};
 use lft_queue::{Queue, QueueFault};
 use lft_tag::Tag;
 

@@ -3,9 +3,9 @@
 use crate::answers::{Answer, Prepared, schedule};
 use crate::recordings::{Ended, Texts, record_texts};
 use crate::texts::{AGAIN, AT_ONCE, TWO, is_table};
-use lft_flat::{Name, Value};
+use lft_ir::steps::Step;
+use lft_ir::{Name, Value};
 use lft_pool::Stop;
-use lft_steps::Step;
 use lft_tag::NoMemory;
 use std::alloc::Global;
 use std::sync::Wait;

@@ -1,12 +1,12 @@
 //! Programs and external inputs, their plans, and what is asked of rows.
 
 ghost use Rattle.std.specs.Prelude.{IfOk};
-ghost use Rattle.lft_steps.specs.Fits.{RowsFit};
+ghost use Rattle.lft_ir.specs.Steps.Fits.{RowsFit};
 
 use lft_check::{NoWatch, Verdict, judge_alone};
+use lft_ir::steps::Rows;
 use lft_load::load;
 use lft_model::Plan;
-use lft_steps::Rows;
 use lft_tag::NoMemory;
 use lft_trace::{read_trace, write_trace};
 use std::alloc::Global;

@@ -1,11 +1,11 @@
 //! Who is told which tag is examined, by one worker and by two.
 
-ghost use Rattle.lft_steps.specs.Fits.{RowsFit};
+ghost use Rattle.lft_ir.specs.Steps.Fits.{RowsFit};
 
 use crate::texts::{AGAIN, plan, rows};
 use lft_check::{CheckFault, Verdict, Watch, judge, judge_alone};
+use lft_ir::steps::Rows;
 use lft_model::Plan;
-use lft_steps::Rows;
 use lft_tag::{NoMemory, Tag};
 use std::alloc::Global;
 use std::sync::atomic::{AtomicBool, AtomicU64, Ordering};

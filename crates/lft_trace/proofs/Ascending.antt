@@ -4,8 +4,8 @@ use Rattle.std.proofs.lemmas.Option.{slice_get_within, get_or_from_slice_get}
 use Rattle.lft_tag.specs.declared.Tag.{Tag}
 use Rattle.lft_tag.specs.Tags.{Before}
 use Rattle.lft_trace.specs.ExternalTables.{Has}
-use Rattle.lft_steps.specs.Inputs.{InOrder}
-use Rattle.lft_steps.specs.declared.externals.Event.{Event}
+use Rattle.lft_ir.specs.Steps.Inputs.{InOrder}
+use Rattle.lft_ir.specs.declared.steps.externals.Event.{Event}
 use Rattle.lft_trace.proofs.EventFacts.{has_cons, has_head, has_none, has_tail}
 
 abbrev Follows : Event → Event → Type 0

@@ -10,13 +10,13 @@ use Rattle.std.specs.declared.cmp.Ordering.TheVariants.{Less, Equal, Greater}
 use Rattle.std.specs.Ordering.{is_eq, match_ordering, nat_cmp, ordering_then}
 use Rattle.std.proofs.lemmas.Bool.Decides.{nat_tests}
 use Rattle.std.proofs.lemmas.Map.Entries.{place_from_lookup}
-use Rattle.lft_flat.specs.declared.parts.Value.{Value}
+use Rattle.lft_ir.specs.declared.parts.Value.{Value}
 use Rattle.lft_trace.specs.ExternalTables.{Clash, Has}
 use Rattle.lft_tag.specs.declared.Tag.{Tag}
 use Rattle.lft_tag.specs.Tags.{Before}
-use Rattle.lft_steps.specs.Inputs.{InOrder}
+use Rattle.lft_ir.specs.Steps.Inputs.{InOrder}
 use Rattle.lft_trace.specs.Keys.{event_at}
-use Rattle.lft_steps.specs.declared.externals.Event.{Event}
+use Rattle.lft_ir.specs.declared.steps.externals.Event.{Event}
 use Rattle.lft_tag.proofs.Comparing.{less_nat, less_then, both_equal}
 use Rattle.std.proofs.lemmas.Map.Lookups.{exact_unsigned}
 use Rattle.std.specs.Cmp.{Equal-is}

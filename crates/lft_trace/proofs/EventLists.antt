@@ -9,8 +9,8 @@ use Rattle.std.proofs.lemmas.List.Sorted.{IsPermutation-push_more}
 use Rattle.std.proofs.lemmas.Option.{get_or_from_slice_get, slice_get-get_or, slice_get_within}
 use Rattle.lft_tag.proofs.Order.{Before-trans}
 use Rattle.lft_trace.specs.ExternalTables.{Clash, Has}
-use Rattle.lft_steps.specs.Inputs.{ComesBefore, InOrder}
-use Rattle.lft_steps.specs.declared.externals.Event.{Event}
+use Rattle.lft_ir.specs.Steps.Inputs.{ComesBefore, InOrder}
+use Rattle.lft_ir.specs.declared.steps.externals.Event.{Event}
 use Rattle.lft_trace.proofs.Ascending.{not_itself}
 use Rattle.lft_trace.proofs.Members.{has_permuted_back}
 

@@ -5,15 +5,15 @@ use Rattle.std.specs.List.Sorted.{IsPermutation}
 use Rattle.std.proofs.lemmas.List.Elements.{filter_map-append}
 use Rattle.std.proofs.lemmas.List.Sorted.{IsPermutation-push_more, IsPermutation-refl}
 use Rattle.csv.specs.Records.{fields_of}
-use Rattle.lft_flat.specs.Parts.{Parts}
+use Rattle.lft_ir.specs.Parts.{Parts}
 use Rattle.lft_tag.specs.declared.Tag.{Tag}
 use Rattle.lft_trace.specs.ExternalTables.{AreApart, ExternalFails, ExternalTable, FaultAt, IsEntry, event_of, external_tables, header, stop_of}
-use Rattle.lft_steps.specs.Inputs.{ExternalInputs, InOrder}
+use Rattle.lft_ir.specs.Steps.Inputs.{ExternalInputs, InOrder}
 use Rattle.lft_trace.specs.Records.{IsNext, IsPast, IsUnread, records_left, records_of}
 use Rattle.lft_trace.specs.SeenExternals.{Keeps, Refuses}
 use Rattle.lft_trace.specs.declared.external_table.Entry.{Entry}
 use Rattle.lft_trace.specs.declared.external_table.Entry.TheVariants.{Happens, Stops}
-use Rattle.lft_steps.specs.declared.externals.Event.{Event}
+use Rattle.lft_ir.specs.declared.steps.externals.Event.{Event}
 use Rattle.lft_trace.specs.declared.fault.TraceFault.{TraceFault}
 use Rattle.lft_trace.specs.declared.fault.TraceFault.TheVariants as fault
 use Rattle.lft_trace.specs.declared.records.Records.{Records}

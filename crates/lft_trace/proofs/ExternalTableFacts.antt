@@ -4,16 +4,16 @@ use Rattle.std.specs.List.Sorted.{IsPermutation}
 use Rattle.std.proofs.lemmas.List.Elements.{filter_map-append}
 use Rattle.std.proofs.lemmas.List.Sorted.{length_permutation}
 use Rattle.std.proofs.lemmas.Option.{slice_get_within}
-use Rattle.lft_flat.specs.Parts.{Parts}
-use Rattle.lft_flat.specs.Sound.{IsSound}
+use Rattle.lft_ir.specs.Parts.{Parts}
+use Rattle.lft_ir.specs.Sound.{IsSound}
 use Rattle.lft_tag.specs.declared.Tag.{Tag}
 use Rattle.lft_tag.specs.Tags.{IsRecorded}
 use Rattle.lft_trace.specs.ExternalTables.{ExternalFails, ExternalFields, ExternalTable, FaultAt, Has, IsEntry, IsOfKind, IsTag, event_of, external_tables, stop_of}
-use Rattle.lft_steps.specs.Fits.{EventFits, ExternalsFit}
-use Rattle.lft_steps.specs.Inputs.{ExternalInputs}
+use Rattle.lft_ir.specs.Steps.Fits.{EventFits, ExternalsFit}
+use Rattle.lft_ir.specs.Steps.Inputs.{ExternalInputs}
 use Rattle.lft_trace.specs.declared.external_table.Entry.{Entry}
 use Rattle.lft_trace.specs.declared.external_table.Entry.TheVariants.{Happens, Stops}
-use Rattle.lft_steps.specs.declared.externals.Event.{Event}
+use Rattle.lft_ir.specs.declared.steps.externals.Event.{Event}
 use Rattle.lft_trace.specs.declared.fault.TraceFault.{TraceFault}
 use Rattle.lft_trace.specs.declared.fault.TraceFault.TheVariants as fault
 use Rattle.lft_trace.specs.declared.kind.EntryKind.{EntryKind}

@@ -2,11 +2,11 @@
 use Rattle.std.proofs.Common.{◌≡◌, ◌∙◌, ◌++◌, ℕ, List, ap}
 use Rattle.std.specs.List.{filter_map}
 use Rattle.std.proofs.lemmas.List.Elements.{filter_map-append}
-use Rattle.lft_flat.specs.Parts.{Parts}
-use Rattle.lft_flat.specs.Sound.{IsSound}
+use Rattle.lft_ir.specs.Parts.{Parts}
+use Rattle.lft_ir.specs.Sound.{IsSound}
 use Rattle.lft_trace.specs.Records.{records_of}
 use Rattle.lft_trace.specs.Telling.{row_in, rows_in}
-use Rattle.lft_steps.specs.declared.row.Row.{Row}
+use Rattle.lft_ir.specs.declared.steps.row.Row.{Row}
 use Rattle.lft_trace.proofs.Telling.{records_are}
 use Rattle.lft_trace.specs.Parts.{BeginsWith}
 

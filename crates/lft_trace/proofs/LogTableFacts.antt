@@ -4,11 +4,11 @@ use Rattle.std.specs.List.{AllZip}
 use Rattle.std.proofs.lemmas.List.Elements.{All-cons, All-nil, filter_map-append}
 use Rattle.std.proofs.lemmas.Slice.Zip.{all_zipped_more}
 use Rattle.csv.specs.Records.{fields_of}
-use Rattle.lft_flat.specs.Parts.{Parts}
-use Rattle.lft_flat.specs.Sound.{IsSound}
+use Rattle.lft_ir.specs.Parts.{Parts}
+use Rattle.lft_ir.specs.Sound.{IsSound}
 use Rattle.lft_lists.proofs.Zips.{behind}
-use Rattle.lft_steps.specs.Fits.{RowsFit}
-use Rattle.lft_steps.specs.declared.row.Row.{Row as TheRow}
+use Rattle.lft_ir.specs.Steps.Fits.{RowsFit}
+use Rattle.lft_ir.specs.declared.steps.row.Row.{Row as TheRow}
 use Rattle.lft_trace.specs.ExternalTables.{FaultAt, IsEntry}
 use Rattle.lft_trace.specs.LogTables.{BeginsAsInput, EntryFits, InputsFit, IsLine, ReadsLines, inputs_behind, row_of}
 use Rattle.lft_trace.specs.Records.{IsNext, IsPlain, IsUnread, records_left, records_of}

@@ -5,7 +5,7 @@ use Rattle.std.specs.List.Sorted.{IsPermutation}
 use Rattle.std.proofs.lemmas.List.Sorted.{Contains-permutation, IsPermutation-sym}
 use Rattle.std.proofs.lemmas.Option.{slice_get-get_or, slice_get_within, get_or_from_slice_get}
 use Rattle.lft_trace.specs.ExternalTables.{AreApart, Clash, Has}
-use Rattle.lft_steps.specs.declared.externals.Event.{Event}
+use Rattle.lft_ir.specs.declared.steps.externals.Event.{Event}
 
 contains : (xs : List Event) (e : Event) → Has xs e → Contains xs e
 contains xs e h = (h.0, slice_get_within xs h.0 e h.1, get_or_from_slice_get xs h.0 e e h.1)

@@ -9,8 +9,8 @@ use Rattle.std.proofs.lemmas.Bool.Decides.{nat_tests}
 use Rattle.std.proofs.lemmas.Fmt.{decimal_is_IsNumeral}
 use Rattle.std.proofs.lemmas.Str.Parse.{digit_from_value}
 use Rattle.std.proofs.lemmas.Str.{digit_value_digit}
-use Rattle.lft_flat.specs.declared.parts.Value.{Value}
-use Rattle.lft_flat.specs.declared.parts.Value.TheVariants.{Bare, Int}
+use Rattle.lft_ir.specs.declared.parts.Value.{Value}
+use Rattle.lft_ir.specs.declared.parts.Value.TheVariants.{Bare, Int}
 use Rattle.lft_trace.specs.Numbers.{digits_after, number, number_or_zero, value}
 use Rattle.lft_trace.specs.SeenWriting.{IsWord}
 use Rattle.lft_trace.specs.Written.{delay_text, value_text}

@@ -3,12 +3,12 @@ use Rattle.std.proofs.Common.{◌≡◌, ℕ, suc, arith, List, [], ◌∷◌, l
 use Rattle.std.specs.Prelude.{◌==◌}
 use Rattle.std.proofs.lemmas.Bool.Decides.{nat_tests}
 use Rattle.std.proofs.lemmas.Bool.{or_parts}
-use Rattle.lft_flat.specs.Parts.{Parts}
+use Rattle.lft_ir.specs.Parts.{Parts}
 use Rattle.lft_trace.specs.declared.fault.TraceFault.{TraceFault}
 use Rattle.lft_trace.specs.declared.fault.TraceFault.TheVariants as fault
 use Rattle.lft_trace.specs.declared.kind.RowKind.{RowKind}
 use Rattle.lft_trace.specs.declared.kind.RowKind.TheVariants.{Start, Read, Write, Schedule, Stop, End}
-use Rattle.lft_steps.specs.declared.row.Step.{Step}
+use Rattle.lft_ir.specs.declared.steps.row.Step.{Step}
 use Rattle.lft_trace.specs.declared.trace_table.RowNumbers.{RowNumbers}
 use Rattle.lft_trace.specs.Seen.{FieldFault, NumbersOf, StepOf}
 use Rattle.lft_trace.specs.Traces.{FaultAt, IsStep, TraceFields, in_order, is_empty, is_filled, word}

@@ -15,18 +15,18 @@ use Rattle.std.specs.declared.alloc.Global.{Global}
 use Rattle.csv.specs.declared.parser.State.TheVariants as st
 use Rattle.csv.proofs.RoundTrip.{read-write}
 use Rattle.lft_tag.specs.declared.NoMemory.{NoMemory}
-use Rattle.lft_flat.specs.Parts.{Parts}
-use Rattle.lft_flat.specs.Sound.{IsNameOf, IsSound}
-use Rattle.lft_flat.specs.declared.parts.Name.{Name}
-use Rattle.lft_flat.specs.declared.parts.Name.TheVariants.{Port, Action}
-use Rattle.lft_steps.specs.Fits.{RowFits, RowsFit, StepFits}
+use Rattle.lft_ir.specs.Parts.{Parts}
+use Rattle.lft_ir.specs.Sound.{IsNameOf, IsSound}
+use Rattle.lft_ir.specs.declared.parts.Name.{Name}
+use Rattle.lft_ir.specs.declared.parts.Name.TheVariants.{Port, Action}
+use Rattle.lft_ir.specs.Steps.Fits.{RowFits, RowsFit, StepFits}
 use Rattle.lft_trace.specs.Records.{records_of}
 use Rattle.lft_trace.specs.Traces.{IsRow, IsStep, IsThing, Table, TraceFields, header, in_order, word}
 use Rattle.lft_trace.specs.SeenWriting.{AllHaveWords, HasWord, HasWords, HasWritten}
 use Rattle.lft_trace.specs.Written.{csv_text, event_of, name_text, row_fields, step_fields, written_records}
-use Rattle.lft_steps.specs.declared.row.Row.{Row}
-use Rattle.lft_steps.specs.declared.row.Step.{Step}
-use Rattle.lft_steps.specs.declared.row.Step.TheVariants.{Start, Read, Write, Schedule, Stop, End}
+use Rattle.lft_ir.specs.declared.steps.row.Row.{Row}
+use Rattle.lft_ir.specs.declared.steps.row.Step.{Step}
+use Rattle.lft_ir.specs.declared.steps.row.Step.TheVariants.{Start, Read, Write, Schedule, Stop, End}
 use Rattle.lft_trace.proofs.Fuel.{at-end, one-more}
 use Rattle.lft_trace.proofs.NumbersBack.{delay_back, number_back, value_back}
 

@@ -3,17 +3,17 @@ use Rattle.std.proofs.Common.{◌≡◌, ◌∙◌, ℕ, List, [], ◌∷◌, Op
 use Rattle.std.specs.List.{AllZip, filter_map}
 use Rattle.std.specs.Str.{bytes_eq}
 use Rattle.std.proofs.lemmas.Slice.Eq.{bytes_eq-Decides}
-use Rattle.lft_flat.specs.Names.{AreDistinct}
-use Rattle.lft_flat.specs.Parts.{Parts}
-use Rattle.lft_flat.specs.declared.found.Found.TheVariants as found
-use Rattle.lft_flat.specs.declared.parts.Name.{Name}
-use Rattle.lft_flat.specs.declared.parts.Name.TheVariants.{Port, Action}
-use Rattle.lft_flat.proofs.Positions.{nowhere, somewhere}
+use Rattle.lft_ir.specs.Names.{AreDistinct}
+use Rattle.lft_ir.specs.Parts.{Parts}
+use Rattle.lft_ir.specs.declared.found.Found.TheVariants as found
+use Rattle.lft_ir.specs.declared.parts.Name.{Name}
+use Rattle.lft_ir.specs.declared.parts.Name.TheVariants.{Port, Action}
+use Rattle.lft_ir.proofs.Positions.{nowhere, somewhere}
 use Rattle.lft_trace.specs.Traces.{IsRow, IsStep, IsThing, RowOf, TraceFields, word}
 use Rattle.lft_trace.specs.declared.kind.RowKind.{RowKind}
 use Rattle.lft_trace.specs.declared.kind.RowKind.TheVariants.{Start, Read, Write, Schedule, Stop, End}
-use Rattle.lft_steps.specs.declared.row.Row.{Row}
-use Rattle.lft_steps.specs.declared.row.Step.{Step}
+use Rattle.lft_ir.specs.declared.steps.row.Row.{Row}
+use Rattle.lft_ir.specs.declared.steps.row.Step.{Step}
 use Rattle.lft_trace.specs.Telling.{fields_in, kind_in, place_in, row_in, row_of, step_in, thing_in}
 
 -- a text that stands in a list once is found where it stands

@@ -5,20 +5,20 @@ use Rattle.std.specs.Char.{is_ascii_digit}
 use Rattle.std.specs.List.{list_all}
 use Rattle.std.proofs.lemmas.Bool.{leb-true}
 use Rattle.std.proofs.lemmas.Option.{slice_get_within}
-use Rattle.lft_flat.specs.Names.{IsNamed}
-use Rattle.lft_flat.specs.Parts.{Parts}
-use Rattle.lft_flat.specs.Sound.{IsNameOf, IsSound}
-use Rattle.lft_flat.specs.declared.found.Found.TheVariants as found
-use Rattle.lft_flat.specs.declared.parts.Name.{Name}
-use Rattle.lft_flat.specs.declared.parts.Name.TheVariants.{Port, Action}
-use Rattle.lft_steps.specs.Fits.{RowFits, RowsFit, StepFits}
+use Rattle.lft_ir.specs.Names.{IsNamed}
+use Rattle.lft_ir.specs.Parts.{Parts}
+use Rattle.lft_ir.specs.Sound.{IsNameOf, IsSound}
+use Rattle.lft_ir.specs.declared.found.Found.TheVariants as found
+use Rattle.lft_ir.specs.declared.parts.Name.{Name}
+use Rattle.lft_ir.specs.declared.parts.Name.TheVariants.{Port, Action}
+use Rattle.lft_ir.specs.Steps.Fits.{RowFits, RowsFit, StepFits}
 use Rattle.lft_trace.specs.Numbers.{digits_after, number, number_or_zero}
 use Rattle.lft_trace.specs.Traces.{IsRow, IsStep, IsThing, RowOf, Table, TraceFails, TraceFields, trace_tables}
 use Rattle.lft_trace.specs.declared.fault.TraceFault.{TraceFault}
 use Rattle.lft_trace.specs.declared.kind.RowKind.{RowKind}
 use Rattle.lft_trace.specs.declared.kind.RowKind.TheVariants.{Start, Read, Write, Schedule, Stop, End}
-use Rattle.lft_steps.specs.declared.row.Row.{Row}
-use Rattle.lft_steps.specs.declared.row.Step.{Step}
+use Rattle.lft_ir.specs.declared.steps.row.Row.{Row}
+use Rattle.lft_ir.specs.declared.steps.row.Step.{Step}
 use Rattle.lft_trace.proofs.RowsDiffer.{not_both, one_row}
 use Rattle.lft_trace.proofs.TableFacts.{Texts, holds_no_fault, one_reading}
 use Rattle.lft_lists.proofs.Zips.{behind}

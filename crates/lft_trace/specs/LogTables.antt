@@ -1,10 +1,10 @@
 -- Tables of rows with external inputs among them: the lines of their records, and why a record is none.
 use Rattle.std.specs.Prelude.{◌≡◌, ◌+◌, ◌<◌, ℕ, length, List, [], ◌∷◌, ◌++◌, filter_map, All, Option, Some, None}
 use Rattle.std.specs.List.{AllZip}
-use Rattle.lft_flat.specs.Parts.{Parts}
+use Rattle.lft_ir.specs.Parts.{Parts}
 use Rattle.lft_tag.specs.Tags.{IsRecorded}
-use Rattle.lft_steps.specs.Fits.{EventFits}
-use Rattle.lft_steps.specs.declared.row.Row.{Row as TheRow}
+use Rattle.lft_ir.specs.Steps.Fits.{EventFits}
+use Rattle.lft_ir.specs.declared.steps.row.Row.{Row as TheRow}
 use Rattle.lft_trace.specs.ExternalTables.{ExternalFields, IsEntry}
 use Rattle.lft_trace.specs.ExternalTables as external
 use Rattle.lft_trace.specs.Traces.{IsRow}

@@ -2,11 +2,11 @@
 use Rattle.std.specs.Prelude.{◌≡◌, ◌≢◌, Bool, ◌∷◌, ℕ, List, Option, Some, None, true, false}
 use Rattle.std.specs.List.Sorted.{IsPermutation}
 use Rattle.lft_tag.specs.declared.Tag.{Tag}
-use Rattle.lft_flat.specs.Parts.{Parts}
+use Rattle.lft_ir.specs.Parts.{Parts}
 use Rattle.lft_trace.specs.ExternalTables.{Clash, ExternalFields, Has, IsUnknown, has_numbers, is_filled}
 use Rattle.lft_trace.specs.declared.external_table.Entry.{Entry}
 use Rattle.lft_trace.specs.declared.external_table.Entry.TheVariants.{Happens, Stops}
-use Rattle.lft_steps.specs.declared.externals.Event.{Event}
+use Rattle.lft_ir.specs.declared.steps.externals.Event.{Event}
 use Rattle.lft_trace.specs.declared.fault.TraceFault.{TraceFault}
 use Rattle.lft_trace.specs.declared.fault.TraceFault.TheVariants as fault
 use Rattle.lft_trace.specs.declared.fields.ExternalFields.{ExternalFields as FieldsHeld}

@@ -3,17 +3,17 @@ use Rattle.std.specs.Prelude.{ℕ, List, [], ◌∷◌, ◌++◌, map, decimal, 
 use Rattle.std.specs.Fmt.{signed_decimal}
 use Rattle.std.specs.List.{concat, join_with_byte}
 use Rattle.csv.specs.Writing.{default_writer, row_text}
-use Rattle.lft_flat.specs.Parts.{Parts}
-use Rattle.lft_flat.specs.declared.parts.Name.{Name}
-use Rattle.lft_flat.specs.declared.parts.Name.TheVariants.{Port, Action}
-use Rattle.lft_flat.specs.declared.parts.Value.{Value}
-use Rattle.lft_flat.specs.declared.parts.Value.TheVariants.{Bare, Int}
+use Rattle.lft_ir.specs.Parts.{Parts}
+use Rattle.lft_ir.specs.declared.parts.Name.{Name}
+use Rattle.lft_ir.specs.declared.parts.Name.TheVariants.{Port, Action}
+use Rattle.lft_ir.specs.declared.parts.Value.{Value}
+use Rattle.lft_ir.specs.declared.parts.Value.TheVariants.{Bare, Int}
 use Rattle.lft_trace.specs.Traces.{header, word}
 use Rattle.lft_trace.specs.declared.kind.RowKind.{RowKind}
 use Rattle.lft_trace.specs.declared.kind.RowKind.TheVariants as kind
-use Rattle.lft_steps.specs.declared.row.Row.{Row}
-use Rattle.lft_steps.specs.declared.row.Step.{Step}
-use Rattle.lft_steps.specs.declared.row.Step.TheVariants.{Start, Read, Write, Schedule, Stop, End}
+use Rattle.lft_ir.specs.declared.steps.row.Row.{Row}
+use Rattle.lft_ir.specs.declared.steps.row.Step.{Step}
+use Rattle.lft_ir.specs.declared.steps.row.Step.TheVariants.{Start, Read, Write, Schedule, Stop, End}
 
 -- the event of a step
 abbrev pub event_of : Step → RowKind

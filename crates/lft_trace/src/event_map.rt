@@ -4,11 +4,11 @@ ghost use Rattle.std.specs.Prelude.{◌≡◌, ◌∷◌, ◌↔◌, [], map, tr
 ghost use Rattle.std.specs.List.Sorted.{IsPermutation};
 ghost use Rattle.lft_trace.specs.ExternalTables.{Clash, Has};
 ghost use Rattle.lft_trace.specs.Keys.{event_at};
-ghost use Rattle.lft_steps.specs.Inputs.{ComesBefore, InOrder};
-ghost use Rattle.lft_steps.specs.declared.externals.Event.{Event as TheEvent};
+ghost use Rattle.lft_ir.specs.Steps.Inputs.{ComesBefore, InOrder};
+ghost use Rattle.lft_ir.specs.declared.steps.externals.Event.{Event as TheEvent};
 
-use lft_flat::Value;
-use lft_steps::Event;
+use lft_ir::Value;
+use lft_ir::steps::Event;
 use lft_tag::{NoMemory, Tag};
 use std::alloc::Global;
 use std::collections::BTreeMap;
@@ -26,7 +26,7 @@ pub(crate) struct EventMap {
 
 impl Model for EventMap {
     ghost use Rattle.std.specs.Prelude.{List, ◌++◌, map};
-    ghost use Rattle.lft_steps.specs.declared.externals.Event.{Event};
+    ghost use Rattle.lft_ir.specs.declared.steps.externals.Event.{Event};
     ghost use Rattle.lft_trace.specs.Keys.{event_at, IsInOnePlace};
 
     ghost Value = { List Event };

@@ -4,8 +4,8 @@ ghost use Rattle.std.specs.Prelude.{◌≡◌, ◌≢◌, ◌+◌, ℕ, List, If
 ghost use Rattle.csv.specs.Records.{fields_of};
 ghost use Rattle.lft_trace.specs.ExternalTables.{ExternalTable, ExternalFails, FaultAt, IsEntry, IsOfKind, header};
 ghost use Rattle.lft_trace.specs.Faults.{is_told};
-ghost use Rattle.lft_steps.specs.Fits.{ExternalsFit};
-ghost use Rattle.lft_steps.specs.Inputs.{ExternalInputs, InOrder};
+ghost use Rattle.lft_ir.specs.Steps.Fits.{ExternalsFit};
+ghost use Rattle.lft_ir.specs.Steps.Inputs.{ExternalInputs, InOrder};
 ghost use Rattle.lft_trace.specs.Numbers.{value};
 ghost use Rattle.lft_trace.specs.Records.{records_of};
 ghost use Rattle.lft_trace.specs.SeenExternals.{FieldFault, Keeps, Refuses, external_fields};
@@ -18,8 +18,8 @@ use crate::names::read_physical;
 use crate::number::{read_tag, read_value};
 use crate::records::{LAST_LINE, Records, stopped};
 use csv::ByteRecord;
-use lft_flat::{Program, Value};
-use lft_steps::{Event, Externals};
+use lft_ir::steps::{Event, Externals};
+use lft_ir::{Program, Value};
 use lft_tag::Tag;
 use std::alloc::Global;
 

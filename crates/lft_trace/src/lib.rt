@@ -20,7 +20,7 @@ mod trace_writer;
 
 pub use external_table::{Entry, read_externals};
 pub use fault::TraceFault;
-pub use lft_steps::{Event, Externals, Row, Rows, Step, is_end, is_start, is_stop, row_at};
+pub use lft_ir::steps::{Event, Externals, Row, Rows, Step, is_end, is_start, is_stop, row_at};
 pub use log_table::{Among, Line, LineFault, LogLines, read_log};
 pub use reaction_names::ReactionNames;
 pub use reading::{below_header, first_lines, read_batch, read_lines, read_trace_shared};

@@ -2,7 +2,7 @@
 
 ghost use Rattle.std.specs.Prelude.{◌≡◌, ◌<◌, ◌≤◌, length, IfSome, IfOk, IfErr};
 ghost use Rattle.csv.specs.Records.{fields_of};
-ghost use Rattle.lft_steps.specs.Fits.{RowsFit};
+ghost use Rattle.lft_ir.specs.Steps.Fits.{RowsFit};
 ghost use Rattle.lft_trace.specs.LogTables.{InputsFit, IsLine, IsNoLine, IsWithin, ReadsLines};
 ghost use Rattle.lft_trace.specs.Records.{records_of};
 ghost use Rattle.lft_trace.specs.SeenExternals.{is_of_input};
@@ -14,8 +14,8 @@ use crate::reaction_names::ReactionNames;
 use crate::records::{Records, Unread};
 use crate::trace_table::read_row;
 use csv::ByteRecord;
-use lft_flat::Program;
-use lft_steps::Row;
+use lft_ir::Program;
+use lft_ir::steps::Row;
 use lft_tag::MAX_ROWS;
 use std::alloc::Global;
 

@@ -1,13 +1,13 @@
 //! What fields name in a program.
 
 ghost use Rattle.std.specs.Prelude.{◌≡◌, ◌≢◌, ◌<◌, ◌↔◌, ℕ, IfSome, IfNone, IsTrue, length};
-ghost use Rattle.lft_flat.specs.Names.{IsNamed};
+ghost use Rattle.lft_ir.specs.Names.{IsNamed};
 ghost use Rattle.lft_trace.specs.ExternalTables.{IsPhysical};
 ghost use Rattle.lft_trace.specs.Traces.{IsThing, thing};
 
 use crate::kind::RowKind;
 use crate::reaction_names::ReactionNames;
-use lft_flat::{Found, Name, Program};
+use lft_ir::{Found, Name, Program};
 
 /// The reaction of this name. The rows of one run stand together, so the name of the last row's
 /// reaction is tried before all others.

@@ -1,11 +1,11 @@
 //! Which name the next row of a run has, guessed.
 
 ghost use Rattle.std.specs.Prelude.{◌≡◌, ◌<◌, length, slice_get};
-ghost use Rattle.lft_flat.specs.Parts.{inputs};
+ghost use Rattle.lft_ir.specs.Parts.{inputs};
 
 use crate::kind::RowKind;
-use lft_flat::{Name, Program, Reaction};
-use lft_steps::{Row, Step};
+use lft_ir::steps::{Row, Step};
+use lft_ir::{Name, Program, Reaction};
 
 /// Among how many names the one that a row had is looked for.
 const AHEAD: usize = 4;

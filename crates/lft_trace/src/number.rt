@@ -3,7 +3,7 @@
 ghost use Rattle.std.specs.Prelude.{◌≡◌, ◌≤◌, neg_ℤ, pos, IfSome, IfNone, Some, is_some, length, ◌&&◌, false};
 ghost use Rattle.lft_trace.specs.Numbers.{number, number_or_zero, value};
 
-use lft_flat::Value;
+use lft_ir::Value;
 use lft_tag::{MAX_MICRO, MAX_TIME, Tag};
 
 /// The most digits that all fit a `u64`.

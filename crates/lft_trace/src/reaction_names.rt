@@ -1,13 +1,13 @@
 //! The names of reactions, close together.
 
 ghost use Rattle.std.specs.Prelude.{◌≡◌, IfOk, IfSome, IsTrue};
-ghost use Rattle.lft_flat.specs.Names.{IsNamed};
-ghost use Rattle.lft_flat.specs.Sound.{IsSound};
+ghost use Rattle.lft_ir.specs.Names.{IsNamed};
+ghost use Rattle.lft_ir.specs.Sound.{IsSound};
 ghost use Rattle.lft_trace.specs.ShortNames.{AreShort};
 
 use crate::kind::RowKind;
 use crate::short_name::{ShortName, is_long};
-use lft_flat::{Found, Program};
+use lft_ir::{Found, Program};
 use lft_tag::NoMemory;
 use std::alloc::Global;
 use std::hash::{FoldHasher, Hasher};
@@ -26,7 +26,7 @@ pub struct ReactionNames<'a> {
 }
 
 impl<'a> Model for ReactionNames<'a> {
-    ghost use Rattle.lft_flat.specs.Parts.{Parts};
+    ghost use Rattle.lft_ir.specs.Parts.{Parts};
 
     ghost Value = { Parts };
 

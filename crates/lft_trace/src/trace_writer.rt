@@ -1,9 +1,9 @@
 //! Writing traces as tables.
 
 ghost use Rattle.std.specs.Prelude.{◌≡◌, ◌++◌, ◌∷◌, [], ℕ, List, IfOk, OnOk, ◌<◌, slice_index_or};
-ghost use Rattle.lft_flat.specs.Parts.{Parts};
-ghost use Rattle.lft_flat.specs.Sound.{IsNameOf};
-ghost use Rattle.lft_steps.specs.Fits.{RowFits, RowsFit, StepFits};
+ghost use Rattle.lft_ir.specs.Parts.{Parts};
+ghost use Rattle.lft_ir.specs.Sound.{IsNameOf};
+ghost use Rattle.lft_ir.specs.Steps.Fits.{RowFits, RowsFit, StepFits};
 ghost use Rattle.lft_trace.specs.Records.{records_of};
 ghost use Rattle.lft_trace.specs.Traces.{Table, header, in_order, word};
 ghost use Rattle.lft_trace.specs.Seen.{trace_fields};
@@ -13,8 +13,8 @@ ghost use Rattle.lft_trace.specs.Written.{csv_text, delay_text, event_of, name_t
 use crate::fields::TraceFields;
 use csv::{Writer, WriterBuilder};
 use itoa::Buffer;
-use lft_flat::{Name, Program, Value};
-use lft_steps::{Row, Rows, Step, row_at};
+use lft_ir::steps::{Row, Rows, Step, row_at};
+use lft_ir::{Name, Program, Value};
 use lft_tag::NoMemory;
 use std::alloc::Global;
 

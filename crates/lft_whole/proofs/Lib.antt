@@ -6,3 +6,5 @@ pub mod CodeEnds
 pub mod Digits
 pub mod Cuts
 mod Samples
+pub mod PartsLemmas
+pub mod SourcesLemmas

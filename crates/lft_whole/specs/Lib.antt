@@ -3,3 +3,5 @@ pub mod Names
 pub mod Pieces
 pub mod Places
 pub mod Tokens
+pub mod Parts
+pub mod Sources

@@ -1,12 +1,16 @@
 #![tactic(auto)]
-//! Whole Lingua Franca texts: tokens, and the tree of what coordination needs.
+//! Whole Lingua Franca texts: tokens, and the tree of what coordination needs. In `parts` the small parts of
+//! a text of which members are made; in `sources` the files of a program as they are read, and why there is
+//! no core program of them.
 
 mod classes;
 mod fault;
 mod lexer;
 mod numbers;
+pub mod parts;
 mod piece;
 mod quotes;
+pub mod sources;
 mod token;
 mod tree;
 

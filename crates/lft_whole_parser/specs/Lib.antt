@@ -1,2 +1,3 @@
 pub mod Files
 pub mod Grammar
+pub mod Imports

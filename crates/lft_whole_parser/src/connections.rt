@@ -1,17 +1,17 @@
 //! Connections.
 
 ghost use Rattle.std.specs.Prelude.{◌≡◌, ◌<◌, ◌≤◌, true, IfOk, IfErr, map, option_map, Ok};
-ghost use Rattle.lft_whole_parts.specs.Parsing.{count, Within, Further, NotBefore, Refuses, source};
+ghost use Rattle.lft_whole.specs.Parts.Parsing.{count, Within, Further, NotBefore, Refuses, source};
 ghost use Rattle.lft_whole_parser.specs.Grammar as Grammar;
-ghost use Rattle.lft_whole_parts.specs.View.{Gives, at_next, reference_view, expression_view, connection_view};
+ghost use Rattle.lft_whole.specs.Parts.View.{Gives, at_next, reference_view, expression_view, connection_view};
 
-use lft_whole::{Connection, Expression, Reference, TreeFault};
-use lft_whole_parts::input::Input;
-use lft_whole_parts::references::{is_interleaved, references};
-use lft_whole_parts::tokens::{
+use lft_whole::parts::input::Input;
+use lft_whole::parts::references::{is_interleaved, references};
+use lft_whole::parts::tokens::{
     is_arrow, is_key, is_symbol, is_tilde_arrow, is_word, past_any, symbol,
 };
-use lft_whole_parts::values::expression;
+use lft_whole::parts::values::expression;
+use lft_whole::{Connection, Expression, Reference, TreeFault};
 
 /// Whether what stands here goes on with a connection that begins before it.
 fn goes_on(input: &Input, at: usize) -> bool

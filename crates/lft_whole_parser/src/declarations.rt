@@ -1,18 +1,18 @@
 //! Ports, timers, actions, and what is declared and has no part in the tree.
 
 ghost use Rattle.std.specs.Prelude.{◌≡◌, ◌<◌, ◌≤◌, true, IfOk, IfErr};
-ghost use Rattle.lft_whole_parts.specs.Parsing.{count, Within, Further, NotBefore, Refuses, source};
+ghost use Rattle.lft_whole.specs.Parts.Parsing.{count, Within, Further, NotBefore, Refuses, source};
 ghost use Rattle.lft_whole_parser.specs.Grammar as Grammar;
-ghost use Rattle.lft_whole_parts.specs.View.{Gives, at_next, port_view, timer_view, action_view};
+ghost use Rattle.lft_whole.specs.Parts.View.{Gives, at_next, port_view, timer_view, action_view};
 
+use lft_whole::parts::groups::group;
+use lft_whole::parts::input::Input;
+use lft_whole::parts::names::{name, skip_name};
+use lft_whole::parts::tokens::{code, is_key, key, past_key};
+use lft_whole::parts::types::typed;
+use lft_whole::parts::values::{initial, two_values};
+use lft_whole::parts::widths::width;
 use lft_whole::{Action, Port, Timer, TreeFault};
-use lft_whole_parts::groups::group;
-use lft_whole_parts::input::Input;
-use lft_whole_parts::names::{name, skip_name};
-use lft_whole_parts::tokens::{code, is_key, key, past_key};
-use lft_whole_parts::types::typed;
-use lft_whole_parts::values::{initial, two_values};
-use lft_whole_parts::widths::width;
 
 /// `input` or `output`: whether it is `input`.
 #[tactic(auto, unfolding(crate::specs::Grammar::direction))]

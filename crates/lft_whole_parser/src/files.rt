@@ -1,20 +1,20 @@
 //! Files.
 
 ghost use Rattle.std.specs.Prelude.{◌≡◌, ◌<◌, ◌≤◌, true, IfOk, IfErr, IfSome, ◌++◌, option_to_list, map, slice_get, Ok};
-ghost use Rattle.lft_whole_parts.specs.Parsing.{count, Within, Further, NotBefore, Refuses, source};
+ghost use Rattle.lft_whole.specs.Parts.Parsing.{count, Within, Further, NotBefore, Refuses, source};
 ghost use Rattle.lft_whole_parser.specs.Files as Files;
 ghost use Rattle.lft_whole.specs.declared.fault.TreeFault.TheVariants.{NoMemory};
-ghost use Rattle.lft_whole_parts.specs.View.{Gives, at_next, imported_view, import_view, file_view};
+ghost use Rattle.lft_whole.specs.Parts.View.{Gives, at_next, imported_view, import_view, file_view};
 
 use crate::declarations::{is_preamble, preamble};
 use crate::members::attributes;
 use crate::reactors::{is_reactor, reactor};
 use lft_tree::Time;
+use lft_whole::parts::groups::group_end;
+use lft_whole::parts::input::{Input, Seen};
+use lft_whole::parts::names::name;
+use lft_whole::parts::tokens::{is_key, is_symbol, is_text, is_there, key, peek, unit};
 use lft_whole::{File, Import, ImportedName, Name, Timeout, TreeFault};
-use lft_whole_parts::groups::group_end;
-use lft_whole_parts::input::{Input, Seen};
-use lft_whole_parts::names::name;
-use lft_whole_parts::tokens::{is_key, is_symbol, is_text, is_there, key, peek, unit};
 use std::alloc::Global;
 
 /// A name of another file's reactor, and what it is called here.

@@ -1,18 +1,18 @@
 //! Contained instances.
 
 ghost use Rattle.std.specs.Prelude.{◌≡◌, ◌<◌, ◌≤◌, true, IfOk, IfErr, map, Ok};
-ghost use Rattle.lft_whole_parts.specs.Parsing.{count, Within, Further, NotBefore, Refuses, source};
+ghost use Rattle.lft_whole.specs.Parts.Parsing.{count, Within, Further, NotBefore, Refuses, source};
 ghost use Rattle.lft_whole_parser.specs.Grammar as Grammar;
-ghost use Rattle.lft_whole_parts.specs.Language.{listed};
-ghost use Rattle.lft_whole_parts.specs.View.{Gives, at_next, assignment_view, instance_view};
+ghost use Rattle.lft_whole.specs.Parts.Language.{listed};
+ghost use Rattle.lft_whole.specs.Parts.View.{Gives, at_next, assignment_view, instance_view};
 
+use lft_whole::parts::groups::past_group;
+use lft_whole::parts::input::Input;
+use lft_whole::parts::names::name;
+use lft_whole::parts::tokens::{is_key, is_symbol, is_there, key, past_any, past_item, symbol};
+use lft_whole::parts::values::initial;
+use lft_whole::parts::widths::width;
 use lft_whole::{Assignment, Instance, TreeFault};
-use lft_whole_parts::groups::past_group;
-use lft_whole_parts::input::Input;
-use lft_whole_parts::names::name;
-use lft_whole_parts::tokens::{is_key, is_symbol, is_there, key, past_any, past_item, symbol};
-use lft_whole_parts::values::initial;
-use lft_whole_parts::widths::width;
 
 #[tactic(auto, unfolding(crate::specs::Grammar::assignment))]
 fn assignment(input: &Input, at: usize) -> Result<(Assignment, usize), TreeFault>

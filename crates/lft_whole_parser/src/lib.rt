@@ -1,23 +1,24 @@
 #![tactic(auto)]
-//! The parser of whole Lingua Franca texts: a function for each part, from the place of its first token to the part
-//! and the place behind it.
+//! The parser of whole Lingua Franca texts: a function for each part, from the place of its first token to
+//! the part and the place behind it. In `imports` the files of a program, each read once.
 
 ghost use Rattle.std.specs.Prelude.{IfErr};
 ghost use Rattle.lft_whole.specs.Tokens.{AreTokens};
 ghost use Rattle.lft_whole.specs.Places.{IsAmong};
 ghost use Rattle.lft_whole_parser.specs.Files.{reads};
-ghost use Rattle.lft_whole_parts.specs.View.{Gives, file_view};
+ghost use Rattle.lft_whole.specs.Parts.View.{Gives, file_view};
 
 mod connections;
 mod declarations;
 mod files;
+pub mod imports;
 mod instances;
 mod members;
 mod reactions;
 mod reactors;
 
+use lft_whole::parts::input::Input;
 use lft_whole::{File, Tokens, TreeFault};
-use lft_whole_parts::input::Input;
 use std::alloc::Global;
 
 /// The tree of a text, from the text and its tokens.

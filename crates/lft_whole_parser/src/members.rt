@@ -1,19 +1,19 @@
 //! The members of a reactor.
 
 ghost use Rattle.std.specs.Prelude.{◌≡◌, ◌<◌, ◌≤◌, true, IfOk, IfErr, map, option_map};
-ghost use Rattle.lft_whole_parts.specs.Parsing.{count, Within, Further, NotBefore, Refuses, source};
+ghost use Rattle.lft_whole.specs.Parts.Parsing.{count, Within, Further, NotBefore, Refuses, source};
 ghost use Rattle.lft_whole_parser.specs.Grammar as Grammar;
-ghost use Rattle.lft_whole_parts.specs.View.{Gives, at_next, member_view};
+ghost use Rattle.lft_whole.specs.Parts.View.{Gives, at_next, member_view};
 
 use crate::connections::{connection, is_connection};
 use crate::declarations::{action, is_preamble, method, port, preamble, state, timer};
 use crate::instances::instance;
 use crate::reactions::{reaction, watchdog};
+use lft_whole::parts::groups::{group, past_group};
+use lft_whole::parts::input::Input;
+use lft_whole::parts::names::skip_name;
+use lft_whole::parts::tokens::{is_key, is_symbol, is_word, key, past_key, symbol, word};
 use lft_whole::{Foreign, Member, TreeFault};
-use lft_whole_parts::groups::{group, past_group};
-use lft_whole_parts::input::Input;
-use lft_whole_parts::names::skip_name;
-use lft_whole_parts::tokens::{is_key, is_symbol, is_word, key, past_key, symbol, word};
 
 /// An attribute: whether it is `@enclave`.
 #[tactic(auto, unfolding(crate::specs::Grammar::attribute))]

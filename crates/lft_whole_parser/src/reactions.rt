@@ -1,20 +1,20 @@
 //! Reactions, mutations and watchdogs.
 
 ghost use Rattle.std.specs.Prelude.{◌≡◌, ◌<◌, ◌≤◌, true, IfOk, IfErr, map};
-ghost use Rattle.lft_whole_parts.specs.Parsing.{count, Within, Further, NotBefore, Refuses, source};
+ghost use Rattle.lft_whole.specs.Parts.Parsing.{count, Within, Further, NotBefore, Refuses, source};
 ghost use Rattle.lft_whole_parser.specs.Grammar as Grammar;
-ghost use Rattle.lft_whole_parts.specs.Language.{listed};
-ghost use Rattle.lft_whole_parts.specs.View.{Gives, at_next, trigger_view, reference_view, effect_view, reaction_view};
+ghost use Rattle.lft_whole.specs.Parts.Language.{listed};
+ghost use Rattle.lft_whole.specs.Parts.View.{Gives, at_next, trigger_view, reference_view, effect_view, reaction_view};
 
 use crate::declarations::is_preamble;
-use lft_whole::{Effect, Reaction, Reference, TreeFault, Trigger};
-use lft_whole_parts::groups::{group, past_group};
-use lft_whole_parts::input::Input;
-use lft_whole_parts::names::skip_name;
-use lft_whole_parts::references::{effects, reference, references};
-use lft_whole_parts::tokens::{
+use lft_whole::parts::groups::{group, past_group};
+use lft_whole::parts::input::Input;
+use lft_whole::parts::names::skip_name;
+use lft_whole::parts::references::{effects, reference, references};
+use lft_whole::parts::tokens::{
     code, is_arrow, is_key, is_symbol, is_word, key, past_code, past_item, symbol,
 };
+use lft_whole::{Effect, Reaction, Reference, TreeFault, Trigger};
 
 /// Whether this word stands here for itself, and not for a port of what it names.
 fn is_alone(input: &Input, at: usize, word: &[u8]) -> bool

@@ -1,21 +1,21 @@
 //! Reactors.
 
 ghost use Rattle.std.specs.Prelude.{◌≡◌, ◌<◌, ◌≤◌, true, IfOk, IfErr, Ok, ◌||◌, map, option_map};
-ghost use Rattle.lft_whole_parts.specs.Parsing.{count, Within, Further, NotBefore, Refuses, source};
+ghost use Rattle.lft_whole.specs.Parts.Parsing.{count, Within, Further, NotBefore, Refuses, source};
 ghost use Rattle.lft_whole_parser.specs.Grammar as Grammar;
-ghost use Rattle.lft_whole_parts.specs.Language as Language;
-ghost use Rattle.lft_whole_parts.specs.Language.{listed};
-ghost use Rattle.lft_whole_parts.specs.View.{Gives, at_next, expression_view, parameter_view, name_view, reactor_view};
+ghost use Rattle.lft_whole.specs.Parts.Language as Language;
+ghost use Rattle.lft_whole.specs.Parts.Language.{listed};
+ghost use Rattle.lft_whole.specs.Parts.View.{Gives, at_next, expression_view, parameter_view, name_view, reactor_view};
 
 use crate::instances::past_host;
 use crate::members::{attributes, body};
+use lft_whole::parts::groups::past_group;
+use lft_whole::parts::input::Input;
+use lft_whole::parts::names::name;
+use lft_whole::parts::tokens::{is_key, is_symbol, is_word, key, past_item};
+use lft_whole::parts::types::typed;
+use lft_whole::parts::values::initial;
 use lft_whole::{Expression, Name, Parameter, Reactor, TreeFault, Value};
-use lft_whole_parts::groups::past_group;
-use lft_whole_parts::input::Input;
-use lft_whole_parts::names::name;
-use lft_whole_parts::tokens::{is_key, is_symbol, is_word, key, past_item};
-use lft_whole_parts::types::typed;
-use lft_whole_parts::values::initial;
 
 /// Whether a value has a unit of time.
 fn has_unit(value: &Option<Expression>) -> bool

@@ -3,11 +3,11 @@
 use crate::session::Session;
 use crate::words::FollowWords;
 use crate::{await_text, end, say};
-use lft_explain_log::{Unexplained, explain_log_plan};
-use lft_files::{Failure, open_file, read_file};
-use lft_front::{Fault, Part};
+use lft_driver::{Fault, Part};
+use lft_load::files::{Failure, open_file, read_file};
+use lft_log::explain::{Unexplained, explain_log_plan};
+use lft_log::follow::{Final, Kept, drain, follow_plan, status_of_log};
 use lft_model::Plan;
-use lft_monitor::{Final, Kept, drain, follow_plan, status_of_log};
 use std::alloc::Global;
 use std::io::{Read, Write};
 use std::process::ExitCode;

@@ -11,13 +11,13 @@ use crate::session::{Session, is_known};
 use crate::words::{
     Behind, Job, JudgeWords, PairWords, Question, RecordWords, ShowWords, read_words,
 };
-use lft_files::{Failure, read_file};
-use lft_front::{
+use lft_driver::{
     Fault, Part, bundle_answer, explain_bundle_answer, finish, read_input, refusal_of_bundle,
 };
+use lft_load::files::{Failure, read_file};
 use lft_record::record_plan;
-use lft_refusals::words::push_bytes;
 use lft_tag::NoMemory;
+use lft_text_diagnostics::words::push_bytes;
 use std::alloc::Global;
 use std::io::{BufWriter, IsTerminal, Read, Write};
 use std::process::ExitCode;

@@ -2,17 +2,17 @@
 //! is told at the place where it is.
 
 use crate::words::{Behind, ProgramWords};
-use lft_covering::cover_plan;
-use lft_files::Failure;
-use lft_flat::Program;
-use lft_front::{
+use lft_coverage::driver::cover_plan;
+use lft_driver::{
     explain_pair_plan, explain_plan, is_accepted, is_same, judge_plan, pair_plan, refusal_of_graph,
     refusal_of_plan, refusal_of_program, refusal_of_trace, refusal_of_traces, show_program,
 };
+use lft_ir::Program;
+use lft_load::files::Failure;
 use lft_load::{Fault, Part, plan_of, read_program};
-use lft_lowered::{Whole, whole_program};
 use lft_model::Plan;
 use lft_tag::NoMemory;
+use lft_whole_driver::{Whole, whole_program};
 use std::alloc::Global;
 use std::io::{BufWriter, Write};
 use std::rt::Files;

@@ -5,7 +5,7 @@ use crate::help::{
 };
 use clap::error::ErrorKind;
 use clap::{Arg, ArgAction, ArgMatches, Command, Error};
-use lft_monitor::{Following, read_until};
+use lft_log::follow::{Following, read_until};
 use lft_tag::Tag;
 use std::alloc::Global;
 

@@ -1,15 +1,15 @@
 //! What rows schedule, and what the external inputs give, for an action.
 
 ghost use Rattle.std.specs.Prelude.{◌≡◌, ◌<◌, ◌≤◌, ◌↔◌, length, filter_map, IsTrue, IfSome, IfNone};
-ghost use Rattle.lft_flat.specs.declared.parts.Name.TheVariants.{Action as TheAction};
-ghost use Rattle.lft_steps.specs.Fits.{RowFits, RowsFit};
+ghost use Rattle.lft_ir.specs.declared.parts.Name.TheVariants.{Action as TheAction};
+ghost use Rattle.lft_ir.specs.Steps.Fits.{RowFits, RowsFit};
 ghost use Rattle.lft_model.specs.Fitting.{EachFits};
 ghost use Rattle.lft_model.specs.Presence.{At, IsPresent, events_of, given as the_given, min_delay, scheduled as the_scheduled};
 
 use crate::plan::Plan;
-use lft_flat::{Name, Value};
+use lft_ir::steps::{Event, Row, Step, row_at};
+use lft_ir::{Name, Value};
 use lft_lists::item_at;
-use lft_steps::{Event, Row, Step, row_at};
 use lft_tag::Tag;
 
 // The value that a row schedules for the action at the tag, if it does.

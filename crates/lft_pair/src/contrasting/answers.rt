@@ -7,9 +7,9 @@ ghost use Rattle.lft_pair.specs.Runs.{request_of as the_request_of, last_write a
 ghost use Rattle.lft_pair.specs.Answered.{writing as the_writing, scheduled as the_scheduled, AreWrites, AreSchedulings};
 
 use crate::contrasting::contrasts::{LastWrite, Placed, Scheduling};
-use lft_flat::Name;
+use lft_ir::Name;
+use lft_ir::steps::Step;
 use lft_lists::item_at;
-use lft_steps::Step;
 use lft_tag::NoMemory;
 use std::alloc::Global;
 use std::collections::BTreeMap;

@@ -4,8 +4,8 @@ ghost use Rattle.std.specs.Prelude.{◌≡◌, ◌++◌, IfOk, OnOk, string_byte
 ghost use Rattle.lft_pair.specs.Words.{place_words, effect_words, write_words, scheduling_words, request_words, first_words, second_words};
 
 use crate::contrasting::contrasts::{Contrast, LastWrite, Scheduling};
-use lft_flat::Program;
-use lft_words::{push_action, push_line, push_number, push_port, push_time, push_value};
+use lft_ir::Program;
+use lft_ir::words::{push_action, push_line, push_number, push_port, push_time, push_value};
 use std::alloc::{AllocError, Global};
 
 /// Puts how many schedulings stand before one at the end of the text, if there are any.

@@ -1,7 +1,7 @@
 //! What two runs of one reaction at one tag show beside one another.
 
-use lft_flat::{Name, Value};
-use lft_steps::Step;
+use lft_ir::steps::Step;
+use lft_ir::{Name, Value};
 use std::marker::Model;
 
 /// A step of a run, and the place of its row.

@@ -4,8 +4,8 @@ ghost use Rattle.std.specs.Prelude.{◌≡◌, ◌↔◌, ◌≤◌, IsTrue, len
 ghost use Rattle.lft_model.specs.Recorded.{instance_of as the_instance_of};
 ghost use Rattle.lft_pair.specs.Counts.{Counts, StartsBefore, StartsEarlier};
 
-use lft_flat::Program;
-use lft_steps::{Row, is_start, row_at};
+use lft_ir::Program;
+use lft_ir::steps::{Row, is_start, row_at};
 use lft_tag::Tag;
 
 /// The instance of the reaction; 0 for a number that is of no reaction.

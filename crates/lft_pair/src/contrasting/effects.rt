@@ -1,15 +1,15 @@
 //! For which effects two runs answered otherwise.
 
 ghost use Rattle.std.specs.Prelude.{◌≡◌, ◌↔◌, All, Contains, IsTrue, MatchOption, IfOk, slice_get, is_some};
-ghost use Rattle.lft_flat.specs.declared.parts.Name.{Name as TheName};
-ghost use Rattle.lft_flat.specs.declared.parts.Name.TheVariants.{Port, Action};
+ghost use Rattle.lft_ir.specs.declared.parts.Name.{Name as TheName};
+ghost use Rattle.lft_ir.specs.declared.parts.Name.TheVariants.{Port, Action};
 ghost use Rattle.lft_pair.specs.Runs.{last_write as the_last_write, schedulings as the_schedulings, first_request as the_first_request};
 ghost use Rattle.lft_pair.specs.Contrasts.{value_of as the_value_of, event_of as the_event_of, events};
 ghost use Rattle.lft_pair.specs.Enough.{HaveSameOutcome, TellsOf, TellsStop, IsToldOf, IsOfEffect};
 
 use crate::contrasting::answers::{Answered, first_request};
 use crate::contrasting::contrasts::{Contrast, LastWrite, Placed, Scheduling};
-use lft_flat::{Name, Value};
+use lft_ir::{Name, Value};
 use lft_lists::item_at;
 use lft_tag::NoMemory;
 use std::alloc::Global;

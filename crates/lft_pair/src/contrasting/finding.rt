@@ -1,7 +1,7 @@
 //! What two traces show beside one another where they differ.
 
 ghost use Rattle.std.specs.Prelude.{IfOk, OnOk};
-ghost use Rattle.lft_steps.specs.Fits.{RowsFit};
+ghost use Rattle.lft_ir.specs.Steps.Fits.{RowsFit};
 ghost use Rattle.lft_model.specs.Breaches.{Legal};
 ghost use Rattle.lft_pair.specs.Pairs.{IsDifference};
 ghost use Rattle.lft_pair.specs.Contrasts.{AreContrasts};
@@ -12,9 +12,9 @@ use crate::contrasting::counts::{count_before, count_earlier, instance_of};
 use crate::contrasting::effects::{effect_contrasts, stop_contrast};
 use crate::contrasting::reads::add_reads;
 use crate::contrasting::runs::placed_steps;
+use lft_ir::steps::{Row, Rows};
 use lft_model::Plan;
 use lft_races::start_of;
-use lft_steps::{Row, Rows};
 use lft_tag::{NoMemory, Tag};
 use std::alloc::Global;
 

@@ -1,17 +1,17 @@
 //! What two runs read.
 
 ghost use Rattle.std.specs.Prelude.{◌≡◌, IfOk, OnOk};
-ghost use Rattle.lft_steps.specs.Fits.{RowsFit};
+ghost use Rattle.lft_ir.specs.Steps.Fits.{RowsFit};
 ghost use Rattle.lft_model.specs.Runs.{reads_at};
-ghost use Rattle.lft_answers.specs.Answers.{KeepsRows};
+ghost use Rattle.lft_rows.specs.Answers.Answers.{KeepsRows};
 ghost use Rattle.lft_pair.specs.Enough.{Adds, TellsReads};
 ghost use Rattle.lft_races.specs.Runs.{StartsAt};
 
 use crate::contrasting::contrasts::Contrast;
-use lft_answers::reads_of_run;
+use lft_ir::steps::{Row, row_at};
 use lft_lists::item_at;
 use lft_model::{Plan, Reads};
-use lft_steps::{Row, row_at};
+use lft_rows::answers::reads_of_run;
 use lft_tag::{NoMemory, Tag};
 use std::alloc::Global;
 

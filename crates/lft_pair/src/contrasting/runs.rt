@@ -5,7 +5,7 @@ ghost use Rattle.lft_model.specs.Runs.{step_of as the_step_of};
 ghost use Rattle.lft_pair.specs.Runs.{placed_steps as the_placed_steps};
 
 use crate::contrasting::contrasts::Placed;
-use lft_steps::{Row, Step, row_at};
+use lft_ir::steps::{Row, Step, row_at};
 use lft_tag::{NoMemory, Tag};
 use std::alloc::Global;
 

@@ -6,9 +6,9 @@ ghost use Rattle.lft_pair.specs.Told.{widest, row_words};
 
 use crate::contrasting::cells::{effect_cell, first_cell, push_second};
 use crate::contrasting::contrasts::Contrast;
-use lft_flat::Program;
+use lft_ir::Program;
+use lft_ir::words::push_padded;
 use lft_lists::item_at;
-use lft_words::push_padded;
 use std::alloc::{AllocError, Global};
 
 /// How wide the first two columns are.

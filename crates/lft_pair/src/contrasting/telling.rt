@@ -6,12 +6,12 @@ ghost use Rattle.lft_pair.specs.Told.{starts_words, read_words, earlier_words, b
 
 use crate::contrasting::contrasts::{Contrast, Contrasts};
 use crate::contrasting::table::{Widths, push_row, widths_of};
-use lft_flat::{Name, Program, Value};
-use lft_lists::item_at;
-use lft_tag::Tag;
-use lft_words::{
+use lft_ir::words::{
     push_line, push_name, push_number, push_padded, push_reaction, push_tag, push_value,
 };
+use lft_ir::{Name, Program, Value};
+use lft_lists::item_at;
+use lft_tag::Tag;
 use std::alloc::{AllocError, Global};
 
 /// Puts where a run starts at the end of the text.

@@ -20,7 +20,7 @@ pub trait Code {
     ghost use Rattle.std.specs.Prelude.{◌≡◌, ℤ, List, Option, Result, IfSome, IsSome};
     ghost use Rattle.lft_tag.specs.declared.Tag.{Tag};
     ghost use Rattle.lft_tag.specs.declared.NoMemory.{NoMemory};
-    ghost use Rattle.lft_flat.specs.declared.parts.Value.{Value};
+    ghost use Rattle.lft_ir.specs.declared.parts.Value.{Value};
     ghost use Rattle.lft_pool.specs.declared.bodies.done.Done.{Done};
 
     /// It may be run on every tag, word and reads.

@@ -1,7 +1,7 @@
 //! What a body answers.
 
+use lft_ir::steps::Step;
 use lft_lists::List;
-use lft_steps::Step;
 
 /// Write, schedule and stop steps in order.
 pub type Steps = List<Step>;

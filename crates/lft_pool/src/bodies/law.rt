@@ -4,7 +4,7 @@
 pub trait Law {
     ghost use Rattle.std.specs.Prelude.{ℕ, ℤ, List, Option};
     ghost use Rattle.lft_tag.specs.declared.Tag.{Tag};
-    ghost use Rattle.lft_flat.specs.declared.parts.Value.{Value};
+    ghost use Rattle.lft_ir.specs.declared.parts.Value.{Value};
     ghost use Rattle.lft_pool.specs.declared.bodies.done.Done.{Done};
 
     ghost holds: { ℕ → Tag → ℤ → List (Option Value) → Done → Type 0 };

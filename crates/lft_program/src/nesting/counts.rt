@@ -2,8 +2,8 @@
 
 ghost use Rattle.std.specs.Prelude.{◌≡◌, IfOk, length, map};
 
-use lft_instances::Connections;
-use lft_scope::by_number::{Declarations, Reactions};
+use lft_resolve::by_number::{Declarations, Reactions};
+use lft_resolve::expansion::Connections;
 use lft_tag::NoMemory;
 use std::alloc::Global;
 

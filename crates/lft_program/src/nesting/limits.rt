@@ -1,11 +1,11 @@
 //! Limits on how many things a program has.
 
 ghost use Rattle.std.specs.Prelude.{◌≡◌, IfOk};
-ghost use Rattle.lft_instances.specs.Contents.{contained};
-ghost use Rattle.lft_instances.specs.Paths.{Exists, IsMoreThan};
+ghost use Rattle.lft_resolve.specs.Expansion.Contents.{contained};
+ghost use Rattle.lft_resolve.specs.Expansion.Paths.{Exists, IsMoreThan};
 ghost use Rattle.lft_program.specs.Limits.{IsFull, limit_of};
 
-use lft_instances::{Contents, count_instances};
+use lft_resolve::expansion::{Contents, count_instances};
 use lft_tag::{MAX_INSTANCES, MAX_REACTIONS, MAX_THINGS, NoMemory};
 use std::alloc::Global;
 

@@ -1,9 +1,9 @@
 //! The source and the origin of each port.
 
 ghost use Rattle.std.specs.Prelude.{◌≡◌, ◌≢◌, ℕ, ◌<◌, None, IfSome, IfOk, IfErr, OnOk, length};
-ghost use Rattle.lft_instances.specs.Sources.{AreInside};
-ghost use Rattle.lft_instances.specs.Ways.{HaveSites, IsWayBack};
-ghost use Rattle.lft_scope.specs.Causes.{IsFirst, NoneHolds};
+ghost use Rattle.lft_resolve.specs.Expansion.Sources.{AreInside};
+ghost use Rattle.lft_resolve.specs.Expansion.Ways.{HaveSites, IsWayBack};
+ghost use Rattle.lft_resolve.specs.Causes.{IsFirst, NoneHolds};
 ghost use Rattle.lft_program.specs.Linking.{AreLinked, IsLinked, IsTooLong};
 ghost use Rattle.lft_program.specs.Links.{AreLinks, TellsOf, last_causes, number_of};
 ghost use Rattle.lft_program.specs.Nests.{IsNest};
@@ -12,11 +12,11 @@ ghost use Rattle.lft_program.specs.declared.nesting.linking.LinkFault.TheVariant
 
 use crate::nesting::nest::Nest;
 use crate::nesting::tables::Tables;
-use lft_causes::{Scopes, Witness, check_times};
-use lft_instances::{
+use lft_resolve::expansion::{
     Instance, OriginFault, Reached, Site, Sources, find_origins, find_sources, way_back,
 };
 use lft_tag::{NoMemory, Shift, Source};
+use lft_validate::{Scopes, Witness, check_times};
 use std::alloc::{AllocFailed, Global};
 
 /// How a port is reached: the port before it with the delay of the connection from it in

@@ -2,11 +2,11 @@
 
 ghost use Rattle.std.specs.Prelude.{◌≡◌, ◌≤◌, ℕ, List, Err, IfOk, OnOk, length};
 ghost use Rattle.lft_tree.specs.Tree.{FileTree};
-ghost use Rattle.lft_instances.specs.Contents.{IsWalk, contained};
-ghost use Rattle.lft_instances.specs.Numbers.{AreFirst, HasMoreThings, things};
-ghost use Rattle.lft_instances.specs.Paths.{Exists, IsMoreThan};
-ghost use Rattle.lft_instances.specs.declared.walk.Contents.{Contents as TheContents};
-ghost use Rattle.lft_scope.specs.Causes.{TooMany};
+ghost use Rattle.lft_resolve.specs.Expansion.Contents.{IsWalk, contained};
+ghost use Rattle.lft_resolve.specs.Expansion.Numbers.{AreFirst, HasMoreThings, things};
+ghost use Rattle.lft_resolve.specs.Expansion.Paths.{Exists, IsMoreThan};
+ghost use Rattle.lft_resolve.specs.declared.expansion.walk.Contents.{Contents as TheContents};
+ghost use Rattle.lft_resolve.specs.Causes.{TooMany};
 ghost use Rattle.lft_program.specs.Limits.{IsExcess, IsFull, IsPassed, limit_of};
 ghost use Rattle.lft_program.specs.Nests.{IsNest};
 ghost use Rattle.lft_program.specs.Tables.{AreTables, IsLawful};
@@ -18,7 +18,7 @@ use crate::nesting::counts::{
 };
 use crate::nesting::limits::{Excess, LimitedKind, excess_of_instances};
 use crate::nesting::tables::Tables;
-use lft_instances::{
+use lft_resolve::expansion::{
     Children, Contents, Instance, Values, WalkFault, all_instances, count_things, first_numbers,
 };
 use std::alloc::Global;

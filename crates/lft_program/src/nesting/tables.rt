@@ -1,7 +1,7 @@
 //! The reactors of a file as tables.
 
-use lft_instances::{Connections, Contents, Parameters};
-use lft_scope::by_number::{Declarations, Reactions};
+use lft_resolve::by_number::{Declarations, Reactions};
+use lft_resolve::expansion::{Connections, Contents, Parameters};
 
 /// The reactors of a file as tables, by number, and the number of the main reactor. Reactors are
 /// numbered from 0 in the order of the file.

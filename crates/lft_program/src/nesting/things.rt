@@ -8,7 +8,7 @@ ghost use Rattle.lft_program.specs.Nests.{IsNest, IsThingOf};
 ghost use Rattle.lft_program.specs.declared.nesting.tables.Tables.{Tables};
 
 use crate::nesting::nest::Nest;
-use lft_instances::{Thing, list_things};
+use lft_resolve::expansion::{Thing, list_things};
 use lft_tag::NoMemory;
 use std::alloc::Global;
 

@@ -5,10 +5,10 @@ ghost use Rattle.lft_record.specs.Scripts.{card_done, content_value, script_done
 
 use crate::cards::card::{CardStep, CardValue};
 use crate::cards::{Cards, Script};
-use lft_flat::Value;
+use lft_ir::Value;
+use lft_ir::steps::Step;
 use lft_model::Reads;
 use lft_pool::{Done, Steps};
-use lft_steps::Step;
 use lft_tag::{NoMemory, Tag};
 use std::alloc::Global;
 

@@ -1,7 +1,7 @@
 //! What one card tells.
 
 use crate::cards::expression::Expression;
-use lft_flat::Name;
+use lft_ir::Name;
 use lft_lists::List;
 
 /// What a card writes or schedules: presence alone, or a number.

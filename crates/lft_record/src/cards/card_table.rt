@@ -16,7 +16,7 @@ use crate::cards::fault::CardFault;
 use crate::cards::fields::CardFields;
 use crate::cards::kind::{CardKind, read_card_kind};
 use csv::ByteRecord;
-use lft_flat::{Name, Program};
+use lft_ir::{Name, Program};
 use lft_tag::{MAX_TIME, NoMemory};
 use lft_trace::names::{read_reaction, read_thing};
 use lft_trace::number::{read_number, read_number_or_zero};

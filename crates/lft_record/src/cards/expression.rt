@@ -1,11 +1,11 @@
 //! Expressions: what they are, how they are read, and the numbers that they give.
 
 ghost use Rattle.std.specs.Prelude.{◌≡◌, ◌<◌, ℕ, pos, List, length, slice_get, unwrap_or, Some, None, IfOk, IfSome, IfNone};
-ghost use Rattle.lft_flat.specs.Parts.{inputs};
+ghost use Rattle.lft_ir.specs.Parts.{inputs};
 ghost use Rattle.std.specs.Int.{int_wrap, w64};
 ghost use Rattle.lft_record.specs.Expressions.{IsExpression, IsInput, IsLiteral, IsTerm, expression_value, input_value, term_value};
 
-use lft_flat::{Name, Program, Reaction, Trigger, Value};
+use lft_ir::{Name, Program, Reaction, Trigger, Value};
 use lft_model::Reads;
 use lft_tag::{NoMemory, Tag};
 use lft_trace::names::read_thing;

@@ -1,13 +1,13 @@
 //! The rows of a text without a header, read a batch at a time.
 
 ghost use Rattle.std.specs.Prelude.{◌<◌, ◌≤◌, length, IfSome, IsTrue};
-ghost use Rattle.lft_steps.specs.Fits.{RowsFit};
+ghost use Rattle.lft_ir.specs.Steps.Fits.{RowsFit};
 ghost use Rattle.lft_trace.specs.Parts.{BeginsWith, HoldsRows, IsCut, rows_of};
 
 use crate::reaction_names::ReactionNames;
 use crate::reading::lines::cut_behind;
 use crate::reading::workers::{read_parts, read_plain};
-use lft_steps::Row;
+use lft_ir::steps::Row;
 use lft_tag::MAX_ROWS;
 use std::alloc::Global;
 use std::thread::Threads;

@@ -7,7 +7,7 @@ ghost use Rattle.lft_trace.specs.Parts.{HoldsRows, rows_of};
 use crate::reaction_names::ReactionNames;
 use crate::reading::lines::cut_behind;
 use crate::reading::workers::read_parts;
-use lft_steps::Row;
+use lft_ir::steps::Row;
 use lft_tag::MAX_ROWS;
 use std::alloc::Global;
 use std::thread::{Threads, join};

@@ -2,7 +2,7 @@
 
 ghost use Rattle.std.specs.Prelude.{◌≡◌, List, IfSome, IfOk, IfErr, true};
 ghost use Rattle.lft_trace.specs.Faults.{is_told};
-ghost use Rattle.lft_steps.specs.Fits.{RowsFit};
+ghost use Rattle.lft_ir.specs.Steps.Fits.{RowsFit};
 ghost use Rattle.lft_trace.specs.Records.{records_of};
 ghost use Rattle.lft_trace.specs.Traces.{Table, TraceFails};
 
@@ -12,8 +12,8 @@ use crate::reading::batches::read_batches;
 use crate::reading::lines::below_header;
 use crate::reading::workers::is_one_part;
 use crate::trace_table::read_trace;
-use lft_flat::Program;
-use lft_steps::{Row, Rows};
+use lft_ir::Program;
+use lft_ir::steps::{Row, Rows};
 use std::alloc::Global;
 use std::thread::Threads;
 

@@ -7,7 +7,7 @@ ghost use Rattle.lft_trace.specs.Parts.{HoldsRows, rows_of};
 use crate::reaction_names::ReactionNames;
 use crate::reading::lines::cut_behind;
 use crate::trace_table::read_part;
-use lft_steps::Row;
+use lft_ir::steps::Row;
 use lft_tag::MAX_ROWS;
 use memchr::memchr;
 use std::alloc::Global;

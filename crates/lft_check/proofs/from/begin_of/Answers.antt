@@ -1,5 +1,5 @@
 use Rattle.std.proofs.Common.{length, refl, arith}
-use Rattle.lft_presence.proofs.Lists.{not_true}
+use Rattle.lft_rows.proofs.PresenceLemmas.Lists.{not_true}
 use Rattle.lft_check.proofs.Beginning.{begins_here, none_begins, one_below}
 use Rattle.lft_check.proofs.from.begin_of.Goals as goal
 

@@ -1,6 +1,6 @@
 use Rattle.std.proofs.Common.{◌≡◌, ℕ, ◌<◌, Some, slice_get}
 use Rattle.lft_tag.specs.Tags.{Before}
-use Rattle.lft_steps.specs.declared.row.Row.{Row}
+use Rattle.lft_ir.specs.declared.steps.row.Row.{Row}
 use Rattle.lft_facts.proofs.across.later_tag.Given as goal
 
 abbrev pub invariant-loop-place : goal.invariant-loop-place

@@ -1,6 +1,6 @@
 use Rattle.std.proofs.Common.{◌≡◌, Some, slice_get, subst}
-use Rattle.lft_flat.specs.Parts.{Parts}
-use Rattle.lft_presence.proofs.Presences.{chain_of}
+use Rattle.lft_ir.specs.Parts.{Parts}
+use Rattle.lft_rows.proofs.PresenceLemmas.Presences.{chain_of}
 use Rattle.lft_facts.proofs.Causes.{last_written, none_written}
 use Rattle.lft_facts.proofs.cause.writing_row.Goals as goal
 

@@ -1,6 +1,6 @@
 use Rattle.std.proofs.Common.{◌≡◌, length, refl, ap, arith, below_more}
 use Rattle.std.proofs.lemmas.Bool.{false≢true}
-use Rattle.lft_flat.specs.Parts.{Parts}
+use Rattle.lft_ir.specs.Parts.{Parts}
 use Rattle.lft_model.specs.Presence.{PortClash}
 use Rattle.lft_model.proofs.Clashing.{no_collision_found}
 use Rattle.lft_facts.proofs.collision.two_causes.Goals as goal

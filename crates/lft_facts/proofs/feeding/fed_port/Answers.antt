@@ -1,6 +1,6 @@
 use Rattle.std.proofs.Common.{◌≡◌, Bool, false, true, sym, ◌∙◌, subst, arith, Contains}
-use Rattle.lft_flat.specs.declared.parts.Name.{Name}
-use Rattle.lft_flat.specs.declared.parts.Name.TheVariants.{Port}
+use Rattle.lft_ir.specs.declared.parts.Name.{Name}
+use Rattle.lft_ir.specs.declared.parts.Name.TheVariants.{Port}
 use Rattle.lft_graph.proofs.Feeding.{no_delay, kept_origin}
 use Rattle.lft_facts.specs.Ways.{IsFed}
 use Rattle.lft_facts.proofs.feeding.fed_port.Goals as goal

@@ -1,5 +1,5 @@
 use Rattle.std.proofs.Common.{◌≡◌, ℕ, ◌<◌, Some, slice_get}
-use Rattle.lft_flat.specs.declared.parts.Name.TheVariants.{Port}
+use Rattle.lft_ir.specs.declared.parts.Name.TheVariants.{Port}
 use Rattle.lft_facts.proofs.feeding.has_port.Given as goal
 
 abbrev pub invariant-loop-place : goal.invariant-loop-place

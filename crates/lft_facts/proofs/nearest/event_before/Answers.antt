@@ -1,9 +1,9 @@
 use Rattle.std.proofs.Common.{◌≡◌, sym, ap, ◌∙◌, subst}
 use Rattle.lft_tag.specs.declared.Tag.{Tag}
 use Rattle.lft_tag.specs.Shifts.{shifted}
-use Rattle.lft_flat.specs.Parts.{Parts}
-use Rattle.lft_flat.specs.declared.parts.Trigger.TheVariants.{On}
-use Rattle.lft_presence.specs.Causes.{tag_of}
+use Rattle.lft_ir.specs.Parts.{Parts}
+use Rattle.lft_ir.specs.declared.parts.Trigger.TheVariants.{On}
+use Rattle.lft_rows.specs.Presence.Causes.{tag_of}
 use Rattle.lft_facts.specs.Reasons.{IsNearest}
 use Rattle.lft_facts.specs.Causes.{StandsFor}
 use Rattle.lft_facts.proofs.Near.{nearest_before}

@@ -1,5 +1,5 @@
 use Rattle.std.proofs.Common.{sym, subst, refl}
-use Rattle.lft_flat.specs.declared.parts.Name.{Name}
+use Rattle.lft_ir.specs.declared.parts.Name.{Name}
 use Rattle.lft_facts.specs.Causes.{StandsFor}
 use Rattle.lft_facts.proofs.nearest.key_of.Goals as goal
 

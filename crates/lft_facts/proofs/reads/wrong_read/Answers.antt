@@ -1,5 +1,5 @@
 use Rattle.std.proofs.Common.{sym, ◌∙◌, subst}
-use Rattle.lft_presence.specs.Traces.{TraceParts}
+use Rattle.lft_rows.specs.Presence.Traces.{TraceParts}
 use Rattle.lft_model.specs.Presence.{Inputs}
 use Rattle.lft_facts.proofs.reads.wrong_read.Goals as goal
 

@@ -1,7 +1,7 @@
 use Rattle.std.proofs.Common.{Option, IfSome, subst}
 use Rattle.std.proofs.lemmas.Result.{on_ok_weaker}
 use Rattle.lft_tag.specs.declared.Tag.{Tag}
-use Rattle.lft_flat.specs.declared.parts.Trigger.TheVariants.{On}
+use Rattle.lft_ir.specs.declared.parts.Trigger.TheVariants.{On}
 use Rattle.lft_facts.specs.declared.facts.Fact.TheVariants as fact
 use Rattle.lft_facts.specs.declared.facts.Reason.TheVariants as reason
 use Rattle.lft_facts.specs.Reasons.{IsNearest}

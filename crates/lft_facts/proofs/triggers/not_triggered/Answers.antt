@@ -1,5 +1,5 @@
 use Rattle.std.proofs.Common.{◌≡◌, Some, length, refl, slice_get, subst, arith, rules}
-use Rattle.lft_flat.specs.Parts.{Parts}
+use Rattle.lft_ir.specs.Parts.{Parts}
 use Rattle.lft_facts.proofs.Untriggered.{untold_begin, untold_more, untold_gives}
 use Rattle.lft_facts.proofs.triggers.not_triggered.Goals as goal
 

@@ -1,5 +1,5 @@
 use Rattle.std.proofs.Common.{◌≡◌, ℕ, ◌<◌, Some, slice_get}
-use Rattle.lft_flat.specs.declared.parts.Trigger.{Trigger}
+use Rattle.lft_ir.specs.declared.parts.Trigger.{Trigger}
 use Rattle.lft_model.specs.Presence.{Occurs}
 use Rattle.lft_facts.proofs.triggers.present_trigger.Given as goal
 

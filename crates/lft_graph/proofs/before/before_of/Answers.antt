@@ -1,7 +1,7 @@
 use Rattle.std.proofs.Common.{◌≡◌, subst, length, Some, slice_get, arith, List, Contains}
-use Rattle.lft_flat.specs.declared.parts.Name.{Name}
-use Rattle.lft_flat.specs.declared.parts.Trigger.{Trigger}
-use Rattle.lft_flat.specs.declared.parts.Trigger.TheVariants.{On}
+use Rattle.lft_ir.specs.declared.parts.Name.{Name}
+use Rattle.lft_ir.specs.declared.parts.Trigger.{Trigger}
+use Rattle.lft_ir.specs.declared.parts.Trigger.TheVariants.{On}
 use Rattle.lft_graph.specs.Walks.{NotesBelow}
 use Rattle.lft_graph.proofs.Feeding.{Begins, begins_none, begins_one, is_before, is_covered}
 use Rattle.lft_graph.proofs.before.before_of.Goals as goal

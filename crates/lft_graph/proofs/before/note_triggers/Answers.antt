@@ -1,6 +1,6 @@
 use Rattle.std.proofs.Common.{◌≡◌, ℕ, ◌+◌, ◌∙◌, ◌∷◌, [], ◌++◌, ap, subst, length, Some, slice_get, arith}
-use Rattle.lft_flat.specs.declared.parts.Name.{Name}
-use Rattle.lft_flat.specs.declared.parts.Trigger.TheVariants.{On}
+use Rattle.lft_ir.specs.declared.parts.Name.{Name}
+use Rattle.lft_ir.specs.declared.parts.Trigger.TheVariants.{On}
 use Rattle.lft_graph.specs.Before.{Writes, IsLastWriter}
 use Rattle.lft_graph.specs.Walks.{NotesBelow, IsUndelayed, IsFeeder}
 use Rattle.lft_graph.proofs.Feeding.{notes_feeder, notes_none}

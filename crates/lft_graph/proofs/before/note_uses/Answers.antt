@@ -1,5 +1,5 @@
 use Rattle.std.proofs.Common.{◌≡◌, ℕ, ◌+◌, ◌∷◌, [], ◌++◌, subst, length, Some, slice_get, arith}
-use Rattle.lft_flat.specs.declared.parts.Name.{Name}
+use Rattle.lft_ir.specs.declared.parts.Name.{Name}
 use Rattle.lft_graph.specs.Walks.{NotesBelow, IsUndelayed}
 use Rattle.lft_graph.proofs.Feeding.{notes_feeder, notes_none}
 use Rattle.lft_graph.proofs.before.note_uses.Goals as goal

@@ -1,6 +1,6 @@
 use Rattle.std.proofs.Common.{◌≡◌, ℕ, ◌+◌, ◌∙◌, ap, Some, slice_get, arith, slice_set}
 use Rattle.std.proofs.lemmas.Option.{slice_get_within}
-use Rattle.lft_flat.specs.declared.parts.Name.TheVariants.{Port}
+use Rattle.lft_ir.specs.declared.parts.Name.TheVariants.{Port}
 use Rattle.lft_lists.proofs.Places.{contains_at, at_contains}
 use Rattle.lft_graph.proofs.Writing.{Noted, noted_port, noted_other}
 use Rattle.lft_graph.proofs.writers.note_effects.Goals as goal

@@ -1,8 +1,8 @@
 use Rattle.std.proofs.Common.{◌≡◌, ◌∙◌, ◌++◌, List, take, drop, slice_range, ap, subst, sym}
 use Rattle.std.proofs.lemmas.List.{append_assoc, take-append-drop}
 use Rattle.std.proofs.lemmas.Result.{IfOk-weaker}
-use Rattle.lft_steps.specs.declared.row.Row.{Row}
-use Rattle.lft_follow.specs.Follows.{IsFollowerOf, IsQuiet}
+use Rattle.lft_ir.specs.declared.steps.row.Row.{Row}
+use Rattle.lft_monitor.specs.Follows.{IsFollowerOf, IsQuiet}
 use Rattle.lft_log.proofs.Asking.{kept_before}
 use Rattle.lft_log.proofs.Ends.{range_take}
 use Rattle.lft_log.proofs.Many.{first_all, fault_more}

@@ -1,5 +1,5 @@
 use Rattle.std.proofs.Common.{inl, inr, refl}
-use Rattle.lft_follow.proofs.Following.{odd_so_far}
+use Rattle.lft_monitor.proofs.Following.{odd_so_far}
 use Rattle.lft_log.proofs.Many.{too_many}
 use Rattle.lft_log.proofs.log.add_few.Goals as goal
 

@@ -1,5 +1,5 @@
 use Rattle.std.proofs.Common.{inr}
-use Rattle.lft_follow.proofs.Following.{unjudged_so_far}
+use Rattle.lft_monitor.proofs.Following.{unjudged_so_far}
 use Rattle.lft_log.proofs.log.close.Goals as goal
 
 pub returns-in-Ok-Unbroken : goal.returns-in-Ok-Unbroken

@@ -1,8 +1,8 @@
 use Rattle.std.proofs.Common.{◌≡◌, List, drop}
-use Rattle.lft_steps.specs.declared.row.Row.{Row}
+use Rattle.lft_ir.specs.declared.steps.row.Row.{Row}
 use Rattle.lft_trace.specs.LogTables.{inputs_behind}
 use Rattle.lft_trace.specs.declared.log_table.Line.{Line}
-use Rattle.lft_follow.specs.Follows.{IsFollowerOf}
+use Rattle.lft_monitor.specs.Follows.{IsFollowerOf}
 use Rattle.lft_log.specs.Logs.{rows}
 use Rattle.lft_log.proofs.Inputs.{IsGone}
 use Rattle.lft_log.proofs.telling.tell_all.Given as goal

@@ -1,6 +1,6 @@
 use Rattle.std.proofs.Common.{sym, subst}
 use Rattle.lft_trace.specs.declared.external_table.Entry.TheVariants.{Stops}
-use Rattle.lft_follow.specs.Follows.{IsPassed}
+use Rattle.lft_monitor.specs.Follows.{IsPassed}
 use Rattle.lft_log.proofs.Plans.{told_stop}
 use Rattle.lft_log.proofs.Inputs.{passed_left}
 use Rattle.lft_log.proofs.telling.tell_stop.Goals as goal

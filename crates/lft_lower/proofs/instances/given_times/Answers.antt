@@ -6,8 +6,8 @@ use Rattle.std.proofs.lemmas.Option.{slice_get_read}
 use Rattle.lft_lists.proofs.Picked.{kept_more}
 use Rattle.lft_tree.specs.View.{assignment_view}
 use Rattle.lft_lower.specs.Lowered.{IsGiven, time_given}
-use Rattle.lft_meanings.proofs.Growing.{all_done, all_next, flat_all, flat_grown}
-use Rattle.lft_meanings.specs.Meanings.{token_in}
+use Rattle.lft_lower.proofs.MeaningsLemmas.Growing.{all_done, all_next, flat_all, flat_grown}
+use Rattle.lft_lower.specs.Meanings.Meanings.{token_in}
 use Rattle.lft_lower.specs.Standing.{given_token, given_tokens}
 use Rattle.lft_lower.proofs.instances.given_times.Goals as goal
 

@@ -5,7 +5,7 @@ use Rattle.lft_lower.specs.Standing.{given_tokens}
 use Rattle.std.proofs.lemmas.List.Elements.{All-nil, All-push}
 use Rattle.lft_tree.specs.Tree.{AssignmentTree, MemberTree, InstanceMember}
 use Rattle.lft_tree.specs.View.{assignment_view, member_view, member_views}
-use Rattle.lft_meanings.specs.Places.{count_of, name_at, several}
+use Rattle.lft_lower.specs.Meanings.Places.{count_of, name_at, several}
 use Rattle.lft_lower.proofs.Named.{named_all, named_grown}
 use Rattle.lft_lower.proofs.Standing.{AreThese, at_more, at_none}
 use Rattle.lft_lower.proofs.instances.push_each.Goals as goal

@@ -2,7 +2,7 @@ use Rattle.std.proofs.Common.{◌≡◌, ◌∷◌, ◌++◌, map, take}
 use Rattle.std.specs.List.{All, flat_map}
 use Rattle.lft_tree.specs.Tree.{InstanceMember}
 use Rattle.lft_tree.specs.View.{assignment_view, member_views}
-use Rattle.lft_meanings.specs.Places.{names_of, several}
+use Rattle.lft_lower.specs.Meanings.Places.{names_of, several}
 use Rattle.lft_lower.specs.Standing.{AddsAt, given_tokens}
 use Rattle.lft_lower.proofs.instances.push_each.Given as goal
 

@@ -2,9 +2,9 @@ use Rattle.std.proofs.Common.{◌≡◌, ◌∷◌, ◌++◌, map, string_bytes,
 use Rattle.std.specs.List.{All, flat_map}
 use Rattle.std.proofs.lemmas.List.Elements.{All-nil, All-weaker}
 use Rattle.lft_tree.specs.View.{assignment_view, member_views}
-use Rattle.lft_meanings.specs.Meanings.{here, token_in}
-use Rattle.lft_meanings.specs.Names.{texts}
-use Rattle.lft_meanings.specs.Places.{count_of, several}
+use Rattle.lft_lower.specs.Meanings.Meanings.{here, token_in}
+use Rattle.lft_lower.specs.Meanings.Names.{texts}
+use Rattle.lft_lower.specs.Meanings.Places.{count_of, several}
 use Rattle.lft_lower.specs.Lowered.{instances}
 use Rattle.lft_lower.proofs.Adding.{instances_none, instances_some}
 use Rattle.lft_lower.specs.Standing.{given_tokens, instance_tokens}

@@ -2,8 +2,8 @@ use Rattle.std.proofs.Common.{◌≡◌, ℕ, List, Option, None, subst}
 use Rattle.std.specs.Prelude.{String}
 use Rattle.lft_tree.specs.Tree.{ItemTree}
 use Rattle.lft_tree.specs.View.{file_view}
-use Rattle.lft_settings.specs.declared.settings.Settings.{Settings}
-use Rattle.lft_meanings.specs.Names.{texts}
+use Rattle.lft_elaborate.specs.declared.settings.Settings.{Settings}
+use Rattle.lft_lower.specs.Meanings.Names.{texts}
 use Rattle.lft_lower.specs.Reactors.{AreReactors}
 use Rattle.lft_lower.proofs.Names.{has_identifiers}
 use Rattle.lft_lower.proofs.making.lowered.Goals as goal

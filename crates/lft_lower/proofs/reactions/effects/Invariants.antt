@@ -1,8 +1,8 @@
 use Rattle.std.proofs.Common.{◌≡◌, take}
 use Rattle.std.specs.List.{All, flat_map}
 use Rattle.lft_tree.specs.View.{ref_views}
-use Rattle.lft_meanings.specs.Meanings.{here, token_in}
-use Rattle.lft_meanings.specs.Standing.{ref_tokens}
+use Rattle.lft_lower.specs.Meanings.Meanings.{here, token_in}
+use Rattle.lft_lower.specs.Meanings.Standing.{ref_tokens}
 use Rattle.lft_lower.specs.Standing.{tokens_of_effect}
 use Rattle.lft_lower.specs.Lowered.{MeansEffect, effect_places}
 use Rattle.lft_lower.proofs.reactions.effects.Given as goal

@@ -1,7 +1,7 @@
 use Rattle.std.proofs.Common.{◌≡◌, ◌++◌, map, subst, ap, ◌∙◌}
 use Rattle.std.specs.List.{All, flat_map}
-use Rattle.lft_meanings.specs.Meanings.{Means, all_places, here, token_in}
-use Rattle.lft_meanings.specs.Standing.{all_tokens, ref_tokens}
+use Rattle.lft_lower.specs.Meanings.Meanings.{Means, all_places, here, token_in}
+use Rattle.lft_lower.specs.Meanings.Standing.{all_tokens, ref_tokens}
 use Rattle.lft_tree.specs.Tree.{ReactionMember}
 use Rattle.lft_tree.specs.View.{ref_views, trigger_view}
 use Rattle.lft_lower.specs.Lowered.{effect_places}

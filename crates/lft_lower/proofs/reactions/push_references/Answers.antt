@@ -7,7 +7,7 @@ use Rattle.std.proofs.lemmas.Grind.{flat_map-append}
 use Rattle.lft_tree.specs.declared.tree.Reference.{Reference}
 use Rattle.lft_tree.specs.Tree.{OnRef}
 use Rattle.lft_tree.specs.View.{ref_view, ref_views, trigger_view}
-use Rattle.lft_meanings.specs.Standing.{ref_tokens}
+use Rattle.lft_lower.specs.Meanings.Standing.{ref_tokens}
 use Rattle.lft_lower.specs.Standing.{trigger_tokens}
 use Rattle.lft_lower.proofs.reactions.push_references.Goals as goal
 

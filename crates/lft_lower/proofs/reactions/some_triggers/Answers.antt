@@ -6,8 +6,8 @@ use Rattle.std.proofs.lemmas.List.{length-map, map-append}
 use Rattle.lft_tree.specs.Tree.{TriggerTree, OnRef}
 use Rattle.lft_tree.specs.View.{trigger_view}
 use Rattle.lft_tree.specs.declared.tree.Trigger.{Trigger}
-use Rattle.lft_lowering.specs.Lowered.{own}
-use Rattle.lft_meanings.specs.Meanings.{here, token_in}
+use Rattle.lft_elaborate.specs.Channels.Lowered.{own}
+use Rattle.lft_lower.specs.Meanings.Meanings.{here, token_in}
 use Rattle.lft_lower.specs.Lowered.{all_triggers}
 use Rattle.lft_lower.proofs.Adding.{triggers_run, triggers_sleep}
 use Rattle.lft_lower.specs.Standing.{or_at, tokens_of_trigger, trigger_tokens}

@@ -6,7 +6,7 @@ use Rattle.std.proofs.lemmas.List.FromFn.{get_or-range_with_len, length-range_wi
 use Rattle.std.proofs.lemmas.Option.{slice_get-get_or}
 use Rattle.lft_lists.proofs.Picked.{kept_more}
 use Rattle.lft_tree.specs.View.{parameter_view}
-use Rattle.lft_lowering.specs.Channels.{below}
+use Rattle.lft_elaborate.specs.Channels.Channels.{below}
 use Rattle.lft_lower.specs.Reactors.{timed_parameter}
 use Rattle.lft_tree.specs.declared.tree.Parameter.{Parameter}
 use Rattle.lft_lower.specs.Standing.{parameter_token}

@@ -1,6 +1,6 @@
 use Rattle.std.proofs.Common.{◌≡◌, filter_map, length, map, take}
 use Rattle.lft_tree.specs.View.{parameter_view}
-use Rattle.lft_lowering.specs.Channels.{below}
+use Rattle.lft_elaborate.specs.Channels.Channels.{below}
 use Rattle.lft_lower.specs.Reactors.{timed_parameter}
 use Rattle.lft_tree.specs.declared.tree.Parameter.{Parameter}
 use Rattle.lft_lower.specs.Standing.{parameter_token}

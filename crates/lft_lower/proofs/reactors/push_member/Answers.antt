@@ -3,9 +3,9 @@ use Rattle.std.specs.Prelude.{option_map}
 use Rattle.lft_whole.specs.declared.tree.Member.TheVariants as member
 use Rattle.lft_tree.specs.declared.tree.Member.{Member as Core}
 use Rattle.lft_whole.specs.declared.tree.Member.{Member}
-use Rattle.lft_meanings.specs.Meanings.{here, token_in}
-use Rattle.lft_meanings.specs.declared.places.Within.{Within}
-use Rattle.lft_meanings.specs.Names.{texts}
+use Rattle.lft_lower.specs.Meanings.Meanings.{here, token_in}
+use Rattle.lft_lower.specs.declared.meanings.places.Within.{Within}
+use Rattle.lft_lower.specs.Meanings.Names.{texts}
 use Rattle.lft_lower.specs.Lowered.{ports}
 use Rattle.lft_lower.proofs.Adding.{lowered_as}
 use Rattle.lft_lower.specs.Standing.{AddsAt, ArePartsAt, declared_at}

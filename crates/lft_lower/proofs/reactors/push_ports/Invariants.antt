@@ -1,7 +1,7 @@
 use Rattle.std.proofs.Common.{◌≡◌, ◌++◌, map, take}
 use Rattle.lft_tree.specs.Tree.{PortMember}
 use Rattle.lft_tree.specs.View.{member_views}
-use Rattle.lft_meanings.specs.Places.{names_of, several}
+use Rattle.lft_lower.specs.Meanings.Places.{names_of, several}
 use Rattle.lft_lower.specs.Standing.{AddsAt}
 use Rattle.lft_lower.proofs.reactors.push_ports.Given as goal
 

@@ -1,7 +1,7 @@
 use Rattle.std.proofs.Common.{[], subst, sym, ap, ◌∙◌}
 use Rattle.std.proofs.lemmas.List.{map-append, take_all}
 use Rattle.lft_tree.specs.ItemView.{item_view, item_views}
-use Rattle.lft_meanings.specs.Names.{texts}
+use Rattle.lft_lower.specs.Meanings.Names.{texts}
 use Rattle.lft_lower.specs.Reactors.{AreReactors, no_reactors}
 use Rattle.lft_lower.proofs.Turns.{reactors_next}
 use Rattle.lft_lower.specs.Standing.{ArePlaced, none_placed}

@@ -1,11 +1,11 @@
 use Rattle.std.proofs.Common.{◌≡◌, ◌+◌, ◌++◌, List, Option, Some, take, filter_map, get_or, slice_get, sym, ap, ◌∙◌, subst, arith}
 use Rattle.std.specs.List.{AllZip}
 use Rattle.std.proofs.lemmas.Option.{slice_get-get_or}
-use Rattle.lft_flat.specs.Naming.{named}
-use Rattle.lft_flat.specs.Sound.{IsTriggerOf}
-use Rattle.lft_flat.specs.declared.parts.Value.{Value}
-use Rattle.lft_flat.specs.declared.parts.Name.TheVariants.{Port}
-use Rattle.lft_flat.specs.declared.parts.Trigger.TheVariants.{Startup}
+use Rattle.lft_ir.specs.Naming.{named}
+use Rattle.lft_ir.specs.Sound.{IsTriggerOf}
+use Rattle.lft_ir.specs.declared.parts.Value.{Value}
+use Rattle.lft_ir.specs.declared.parts.Name.TheVariants.{Port}
+use Rattle.lft_ir.specs.declared.parts.Trigger.TheVariants.{Startup}
 use Rattle.lft_model.specs.Presence.{Shows, Inputs}
 use Rattle.lft_model.proofs.Agree.{one_inputs}
 use Rattle.lft_model.proofs.ReadsMade.{found_shown, read_trigger, read_nothing, read_use, all_read}

@@ -1,5 +1,5 @@
 use Rattle.std.proofs.Common.{ℕ, ◌<◌, get_or}
-use Rattle.lft_flat.specs.declared.parts.Trigger.TheVariants.{Startup}
+use Rattle.lft_ir.specs.declared.parts.Trigger.TheVariants.{Startup}
 use Rattle.lft_model.specs.Presence.{OccursUntil}
 use Rattle.lft_model.proofs.slow.triggered_slow.Given as goal
 

@@ -1,5 +1,5 @@
 use Rattle.std.proofs.Common.{◌≡◌, ℕ, ◌≤◌, List, length, take, sym, ap, ◌∙◌, arith, Some, None, slice_get}
-use Rattle.lft_flat.specs.declared.parts.Value.{Value}
+use Rattle.lft_ir.specs.declared.parts.Value.{Value}
 use Rattle.lft_model.specs.Presence.{value_scheduled}
 use Rattle.lft_pair.specs.Answering.{scheduling}
 use Rattle.lft_pair.proofs.Answering.{scheduled_for, scheduled_none, scheduled_put, count_put, few}

@@ -1,6 +1,6 @@
 use Rattle.std.proofs.Common.{◌≡◌, ◌+◌, ℕ, Option, Some, length, sym, ap, ◌∙◌, subst, refl, arith, false, true}
 use Rattle.lft_tag.specs.declared.Tag.{Tag}
-use Rattle.lft_flat.specs.Parts.{Parts}
+use Rattle.lft_ir.specs.Parts.{Parts}
 use Rattle.lft_pair.specs.declared.difference.Kept.{Kept}
 use Rattle.lft_pair.proofs.Odd.{Compared, compared_begin, compared_on, compared_run, odd_stays, odd_agrees, odd_more, odd_over, odd_end, known_level}
 use Rattle.lft_pair.proofs.difference.first_odd.Goals as goal

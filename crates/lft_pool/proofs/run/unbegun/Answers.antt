@@ -1,5 +1,5 @@
 use Rattle.std.proofs.Common.{◌≡◌, ◌∙◌, [], ℤ, List, sym, subst}
-use Rattle.lft_steps.specs.declared.row.Row.{Row}
+use Rattle.lft_ir.specs.declared.steps.row.Row.{Row}
 use Rattle.lft_pool.specs.Books.{IsRecording}
 use Rattle.lft_pool.proofs.Known.{empty_recording}
 use Rattle.lft_pool.proofs.run.unbegun.Goals as goal

@@ -1,6 +1,6 @@
 use Rattle.std.proofs.Common.{subst, sym}
 use Rattle.lft_tree.specs.View.{tree_view}
-use Rattle.lft_scope.specs.Causes.{IsFirst, causes}
+use Rattle.lft_resolve.specs.Causes.{IsFirst, causes}
 use Rattle.lft_program.proofs.flattening.flatten.Goals as goal
 
 pub returns-in-Err-clause-first : goal.returns-in-Err-clause-first

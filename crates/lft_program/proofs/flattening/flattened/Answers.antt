@@ -1,7 +1,7 @@
 use Rattle.std.proofs.Common.{◌≡◌, ◌≢◌, List, subst, sym}
 use Rattle.lft_tree.specs.Tree.{FileTree, reactors_of}
 use Rattle.lft_tree.specs.View.{tree_view}
-use Rattle.lft_scope.specs.Causes.{IsFirst, NoneHolds, causes}
+use Rattle.lft_resolve.specs.Causes.{IsFirst, NoneHolds, causes}
 use Rattle.lft_program.specs.Links.{AreLinks, TellsOf, last_causes, number_of as link_number}
 use Rattle.lft_program.specs.Faults.{reactor_causes}
 use Rattle.lft_program.specs.Nests.{IsNest}

@@ -1,7 +1,7 @@
 use Rattle.std.proofs.Common.{◌≢◌, subst, sym}
 use Rattle.lft_tree.specs.Tree.{reactors_of}
-use Rattle.lft_scope.specs.Causes.{IsFirst, NoneHolds, first_causes, later_causes}
-use Rattle.lft_scope.specs.Numbers.{AreContents}
+use Rattle.lft_resolve.specs.Causes.{IsFirst, NoneHolds, first_causes, later_causes}
+use Rattle.lft_resolve.specs.Numbers.{AreContents}
 use Rattle.lft_program.specs.Faults.{reactor_causes}
 use Rattle.lft_program.specs.Refusals.{Tells, cause_of}
 use Rattle.lft_program.specs.Tables.{AreTables}

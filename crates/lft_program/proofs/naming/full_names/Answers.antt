@@ -1,6 +1,6 @@
 use Rattle.std.proofs.Common.{sym, subst}
 use Rattle.lft_program.specs.FullNames.{AreFullNames}
-use Rattle.lft_flat.specs.Names.{AreWords}
+use Rattle.lft_ir.specs.Names.{AreWords}
 use Rattle.lft_program.proofs.NamedParts.{are_starts, full}
 use Rattle.lft_program.proofs.OneNaming.{one_naming}
 use Rattle.lft_program.proofs.Words.{AreWords-names_from}

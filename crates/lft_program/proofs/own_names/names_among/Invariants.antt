@@ -1,6 +1,6 @@
 use Rattle.std.proofs.Common.{◌≡◌, filter_map, take}
 use Rattle.lft_tree.specs.View.{member_views}
-use Rattle.lft_scope.specs.Tests.{texts}
+use Rattle.lft_resolve.specs.Tests.{texts}
 use Rattle.lft_program.specs.OwnNames.{name_in}
 use Rattle.lft_program.proofs.own_names.names_among.Given as goal
 

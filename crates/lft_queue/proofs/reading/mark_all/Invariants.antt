@@ -1,5 +1,5 @@
 use Rattle.std.proofs.Common.{◌≡◌, ◌↔◌, ◌⊎◌, ℕ, Some, true, length, slice_get, take, Contains}
-use Rattle.lft_flat.specs.declared.parts.Name.TheVariants.{Port}
+use Rattle.lft_ir.specs.declared.parts.Name.TheVariants.{Port}
 use Rattle.lft_queue.proofs.reading.mark_all.Given as goal
 
 abbrev pub invariant-names : goal.invariant-names

@@ -2,7 +2,7 @@ use Rattle.std.proofs.Common.{◌≡◌, ◌<◌, ℕ, refl, subst, arith, Optio
 use native.Mathlib.Decide.{dec_lt}
 use Rattle.lft_lists.proofs.Places.{same_at}
 use Rattle.lft_tag.specs.Tags.{Before}
-use Rattle.lft_steps.specs.declared.row.Row.{Row}
+use Rattle.lft_ir.specs.declared.steps.row.Row.{Row}
 use Rattle.lft_races.specs.Across.{IsAcross, IsOpenAcross}
 use Rattle.lft_races.proofs.across.open_across.Goals as goal
 

@@ -1,6 +1,6 @@
 use Rattle.std.proofs.Common.{◌≡◌, ℕ, ◌<◌, Some, slice_get}
 use Rattle.lft_tag.specs.Tags.{Before}
-use Rattle.lft_steps.specs.declared.row.Row.{Row}
+use Rattle.lft_ir.specs.declared.steps.row.Row.{Row}
 use Rattle.lft_races.proofs.ordering.first_greater.Given as goal
 
 abbrev pub invariant-loop-other : goal.invariant-loop-other

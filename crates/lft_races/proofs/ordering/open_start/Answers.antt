@@ -1,6 +1,6 @@
 use Rattle.std.proofs.Common.{◌≡◌, ℕ, List, Bool, false, true, sym, ◌∙◌, arith, below_more}
 use Rattle.lft_tag.specs.declared.Tag.{Tag}
-use Rattle.lft_steps.specs.declared.row.Row.{Row}
+use Rattle.lft_ir.specs.declared.steps.row.Row.{Row}
 use Rattle.lft_model.specs.Breaches.{IsOpen}
 use Rattle.lft_races.specs.Runs.{IsOpenSince}
 use Rattle.lft_races.proofs.ordering.open_start.Goals as goal

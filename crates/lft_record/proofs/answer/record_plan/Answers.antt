@@ -1,5 +1,5 @@
 use Rattle.std.proofs.Common.{◌≡◌, true, subst}
-use Rattle.lft_flat.specs.Parts.{Parts}
+use Rattle.lft_ir.specs.Parts.{Parts}
 use Rattle.lft_trace.specs.Records.{records_of}
 use Rattle.lft_record.specs.CardTables.{CardTable, CardsFail}
 use Rattle.lft_record.specs.CardFaults.{is_told}

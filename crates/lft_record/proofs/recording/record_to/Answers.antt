@@ -1,5 +1,5 @@
 use Rattle.std.proofs.Common.{rules, ℕ, List, Option, Result, Ok, Err, OnOk, IfErr}
-use Rattle.lft_steps.specs.declared.row.Row.{Row}
+use Rattle.lft_ir.specs.declared.steps.row.Row.{Row}
 use Rattle.lft_model.specs.Plans.{PlanParts}
 use Rattle.lft_pool.specs.declared.stop.Stop.{Stop}
 use Rattle.lft_load.specs.declared.fault.Fault.{Fault}

@@ -1,5 +1,5 @@
 use Rattle.std.proofs.Common.{IsTrue, subst, sym}
-use Rattle.lft_steps.specs.declared.row.Step.{Step}
+use Rattle.lft_ir.specs.declared.steps.row.Step.{Step}
 use Rattle.lft_model.specs.Breaches.{IsUndeclared}
 use Rattle.lft_rows.proofs.Declares.{at_write, at_schedule}
 use Rattle.lft_rows.proofs.declared.is_undeclared.Goals as goal

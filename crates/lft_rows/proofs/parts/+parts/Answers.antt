@@ -1,5 +1,5 @@
 use Rattle.std.proofs.Common.{rules, List, None, sym, subst}
-use Rattle.lft_steps.specs.declared.row.Row.{Row}
+use Rattle.lft_ir.specs.declared.steps.row.Row.{Row}
 use Rattle.lft_rows.specs.Firsts.{FirstRow}
 use Rattle.lft_rows.proofs.Together.{earlier_of, together}
 use Rattle.lft_rows.proofs.parts.+parts.Goals as goal

@@ -1,7 +1,7 @@
 use Rattle.std.proofs.Common.{◌≡◌, ◌++◌, sym, subst, ap, ◌∙◌, List, drop}
 use Rattle.std.proofs.lemmas.List.{take-append-drop}
-use Rattle.lft_steps.specs.declared.row.Row.{Row}
-use Rattle.lft_steps.specs.Fits.{RowsFit}
+use Rattle.lft_ir.specs.declared.steps.row.Row.{Row}
+use Rattle.lft_ir.specs.Steps.Fits.{RowsFit}
 use Rattle.lft_rows.proofs.Together.{first_fits, second_fits}
 use Rattle.lft_rows.proofs.parts.cut_from.Goals as goal
 use Rattle.lft_rows.proofs.parts.cut_from.Goals.{After-split_at}

@@ -1,6 +1,6 @@
 use Rattle.std.proofs.Common.{refl}
 use Rattle.lft_rows.proofs.Steps.{close_then, close_else}
-use Rattle.lft_presence.proofs.Lists.{not_true}
+use Rattle.lft_rows.proofs.PresenceLemmas.Lists.{not_true}
 use Rattle.lft_rows.proofs.pass.close.Goals as goal
 use Rattle.lft_rows.proofs.pass.close.Goals.{else-is_end-via-then-is_end+else-has_open, else-is_end-via-else-is_end}
 

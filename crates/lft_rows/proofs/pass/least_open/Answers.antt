@@ -1,5 +1,5 @@
 use Rattle.std.proofs.Common.{◌∙◌, ap, subst, length, Some}
-use Rattle.lft_steps.specs.declared.row.Step.TheVariants.{Start}
+use Rattle.lft_ir.specs.declared.steps.row.Step.TheVariants.{Start}
 use Rattle.lft_rows.specs.Passes.{OpenPlace}
 use Rattle.lft_rows.proofs.Steps.{row_eq}
 use Rattle.lft_rows.proofs.pass.least_open.Goals as goal

@@ -1,5 +1,5 @@
 use Rattle.std.proofs.Common.{◌≡◌, ◌+◌, List, refl, sym, ap, ◌∙◌, subst, arith}
-use Rattle.lft_presence.proofs.Lists.{not_true}
+use Rattle.lft_rows.proofs.PresenceLemmas.Lists.{not_true}
 use Rattle.lft_slices.specs.declared.pieces.Piece.{Piece}
 use Rattle.lft_slices.specs.Pieces.{AreStartsTo}
 use Rattle.lft_slices.proofs.Piecing.{starts_begin, starts_stay, starts_more}

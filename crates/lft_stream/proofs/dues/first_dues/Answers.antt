@@ -1,7 +1,7 @@
 use Rattle.std.proofs.Common.{◌≡◌, ◌+◌, List, [], ◌∷◌, ◌++◌, sym, ap, ◌∙◌, subst, arith, Some, None, filter_map, take}
 use Rattle.std.proofs.lemmas.List.{take_all, append-nil}
 use Rattle.lft_lists.proofs.Picked.{kept_more}
-use Rattle.lft_flat.specs.declared.parts.Trigger.{Trigger}
+use Rattle.lft_ir.specs.declared.parts.Trigger.{Trigger}
 use Rattle.lft_stream.specs.declared.due.Due.{Due}
 use Rattle.lft_stream.specs.Dues.{timed, AreDue}
 use Rattle.lft_stream.proofs.Owing.{due_push}

@@ -1,6 +1,6 @@
 use Rattle.std.proofs.Common.{◌≡◌, ◌⊎◌, inl, inr, ◌++◌, ◌∷◌, [], List, Contains, refl, sym, subst, rules}
 use Rattle.lft_lists.proofs.Members.{Mem, contains_mem}
-use Rattle.lft_flat.specs.declared.parts.Name.{Name}
+use Rattle.lft_ir.specs.declared.parts.Name.{Name}
 use Rattle.lft_stream.proofs.Meeting.{still_listed, now_listed, first_done}
 use Rattle.lft_stream.proofs.presence.add_waiting.Goals as goal
 

@@ -1,6 +1,6 @@
 use Rattle.std.proofs.Common.{◌⊎◌, Contains}
 use Rattle.lft_lists.proofs.Members.{Mem}
-use Rattle.lft_flat.specs.declared.parts.Name.{Name}
+use Rattle.lft_ir.specs.declared.parts.Name.{Name}
 use Rattle.lft_stream.proofs.presence.add_waiting.Given as goal
 
 -- each name is listed, or it is still to come

@@ -1,5 +1,5 @@
 use Rattle.std.proofs.Common.{refl}
-use Rattle.lft_flat.specs.declared.parts.Name.TheVariants.{Port}
+use Rattle.lft_ir.specs.declared.parts.Name.TheVariants.{Port}
 use Rattle.lft_stream.proofs.Meeting.{present_or_absent}
 use Rattle.lft_stream.proofs.presence.list_present.Goals as goal
 

@@ -1,17 +1,17 @@
 use Rattle.std.proofs.Common.{◌≡◌, ◌++◌, inl, inr, ℕ, true, Option, Some, None, MatchOption, slice_get, refl, ap, sym, subst, ◌∙◌, arith}
 use Rattle.std.specs.Option.{is_some}
 use Rattle.std.proofs.lemmas.Bool.{cases_eq}
-use Rattle.lft_flat.specs.Parts.{Parts, inputs}
-use Rattle.lft_flat.specs.declared.parts.Name.{Name}
-use Rattle.lft_flat.specs.declared.parts.Value.{Value}
-use Rattle.lft_flat.proofs.Naming.{input_known}
+use Rattle.lft_ir.specs.Parts.{Parts, inputs}
+use Rattle.lft_ir.specs.declared.parts.Name.{Name}
+use Rattle.lft_ir.specs.declared.parts.Value.{Value}
+use Rattle.lft_ir.proofs.Naming.{input_known}
 use Rattle.lft_lists.proofs.Members.{Mem, mem_get}
 use Rattle.lft_lists.proofs.Places.{same_at}
-use Rattle.lft_steps.specs.declared.row.Row.{Row}
-use Rattle.lft_steps.specs.declared.row.Step.TheVariants.{Read}
+use Rattle.lft_ir.specs.declared.steps.row.Row.{Row}
+use Rattle.lft_ir.specs.declared.steps.row.Step.TheVariants.{Read}
 use Rattle.lft_model.specs.Presence.{Shows}
 use Rattle.lft_rows.specs.Marks.{HasSeat}
-use Rattle.lft_coming.proofs.AtOnce.{input_awaited}
+use Rattle.lft_queue.proofs.ComingLemmas.AtOnce.{input_awaited}
 use Rattle.lft_stream.proofs.reads.are_reads_shown.Goals as goal
 use Rattle.lft_stream.proofs.reads.are_reads_shown.Goals.{in-Read+else-is_none+else-not-are_same, in_default}
 

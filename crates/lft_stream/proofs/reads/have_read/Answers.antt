@@ -1,7 +1,7 @@
 use Rattle.std.proofs.Common.{◌≡◌, ◌++◌, ℕ, inl, inr, refl, sym, ap, subst, arith}
 use Rattle.std.proofs.lemmas.Bool.{cases_eq, false≢true}
 use Rattle.lft_lists.proofs.Places.{same_at}
-use Rattle.lft_steps.specs.declared.row.Row.{Row}
+use Rattle.lft_ir.specs.declared.steps.row.Row.{Row}
 use Rattle.lft_model.specs.Presence.{Inputs}
 use Rattle.lft_model.specs.Runs.{start_row, reads_at}
 use Rattle.lft_stream.proofs.reads.have_read.Goals as goal

@@ -1,5 +1,5 @@
 use Rattle.std.proofs.Common.{◌≡◌, ℕ, ◌<◌, ◌≤◌, ◌++◌, List, Some, slice_get}
-use Rattle.lft_steps.specs.declared.row.Row.{Row}
+use Rattle.lft_ir.specs.declared.steps.row.Row.{Row}
 use Rattle.lft_model.specs.Presence.{Triggered}
 use Rattle.lft_model.specs.Runs.{start_row}
 use Rattle.lft_stream.specs.Dues.{AreDues, AreDuesAt}

@@ -2,10 +2,10 @@ use Rattle.std.proofs.Common.{◌≡◌, ◌∙◌, Option, Some, None, true, fa
 use Rattle.std.specs.BTreeMap.{insert_entry, is_at}
 use Rattle.std.specs.Map.{lookup}
 use Rattle.std.specs.Prelude.{is_some}
-use Rattle.lft_flat.specs.declared.parts.Value.{Value}
+use Rattle.lft_ir.specs.declared.parts.Value.{Value}
 use Rattle.lft_trace.specs.ExternalTables.{Clash, Has}
 use Rattle.lft_trace.specs.Keys.{event_at}
-use Rattle.lft_steps.specs.declared.externals.Event.{Event}
+use Rattle.lft_ir.specs.declared.steps.externals.Event.{Event}
 use Rattle.lft_trace.proofs.EventFacts.{Key, apart, found, inserted, key_cmp}
 use Rattle.lft_trace.proofs.event_map.put.Goals as goal
 

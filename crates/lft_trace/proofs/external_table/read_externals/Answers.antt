@@ -1,9 +1,9 @@
 use Rattle.std.proofs.Common.{◌≡◌, Result, Ok, Err, IfOk, IfErr, true}
-use Rattle.lft_flat.specs.Parts.{Parts}
-use Rattle.lft_flat.specs.Sound.{IsSound}
+use Rattle.lft_ir.specs.Parts.{Parts}
+use Rattle.lft_ir.specs.Sound.{IsSound}
 use Rattle.lft_trace.specs.Faults.{is_told}
-use Rattle.lft_steps.specs.Fits.{ExternalsFit}
-use Rattle.lft_steps.specs.Inputs.{ExternalInputs}
+use Rattle.lft_ir.specs.Steps.Fits.{ExternalsFit}
+use Rattle.lft_ir.specs.Steps.Inputs.{ExternalInputs}
 use Rattle.lft_trace.specs.Records.{records_of}
 use Rattle.lft_trace.specs.ExternalTables.{ExternalFails, ExternalTable}
 use Rattle.lft_trace.specs.declared.fault.TraceFault.{TraceFault}

@@ -1,12 +1,12 @@
 use Rattle.std.proofs.Common.{rules, ◌≡◌, [], List, Option, Some, None, Result, Ok, Err, IfOk, IfErr, true}
 use Rattle.csv.specs.Records.{fields_of}
-use Rattle.lft_flat.specs.Parts.{Parts}
+use Rattle.lft_ir.specs.Parts.{Parts}
 use Rattle.lft_tag.specs.declared.Tag.{Tag}
 use Rattle.lft_trace.specs.Faults.{is_told}
-use Rattle.lft_steps.specs.Inputs.{ExternalInputs, InOrder}
+use Rattle.lft_ir.specs.Steps.Inputs.{ExternalInputs, InOrder}
 use Rattle.lft_trace.specs.Records.{IsNext, records_left, records_of}
 use Rattle.lft_trace.specs.ExternalTables.{ExternalFails, ExternalTable, header}
-use Rattle.lft_steps.specs.declared.externals.Event.{Event}
+use Rattle.lft_ir.specs.declared.steps.externals.Event.{Event}
 use Rattle.lft_trace.specs.declared.fault.TraceFault.{TraceFault}
 use Rattle.lft_trace.specs.declared.fault.TraceFault.TheVariants as fault
 use Rattle.lft_trace.specs.declared.records.Records.{Records}

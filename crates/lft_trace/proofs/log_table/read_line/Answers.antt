@@ -1,6 +1,6 @@
 use Rattle.std.proofs.Common.{rules, ◌≡◌, [], true, false, subst}
 use Rattle.csv.specs.Records.{fields_of}
-use Rattle.lft_flat.specs.Parts.{Parts}
+use Rattle.lft_ir.specs.Parts.{Parts}
 use Rattle.lft_trace.specs.ExternalTables.{FaultAt}
 use Rattle.lft_trace.specs.SeenExternals.{is_of_input}
 use Rattle.lft_trace.proofs.LogTableFacts.{begins, begins_not}

@@ -1,5 +1,5 @@
 use Rattle.std.proofs.Common.{subst}
-use Rattle.lft_flat.specs.Parts.{Parts}
+use Rattle.lft_ir.specs.Parts.{Parts}
 use Rattle.lft_trace.specs.LogTables.{ReadsLines}
 use Rattle.lft_trace.specs.Records.{records_of}
 use Rattle.lft_trace.proofs.LogTableFacts.{inputs_fit, rows_fit}

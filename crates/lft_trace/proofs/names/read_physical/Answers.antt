@@ -1,8 +1,8 @@
 use Rattle.std.proofs.Common.{rules, ◌≡◌, ◌∙◌, ℕ, List, Some, true, false, sym, slice_get}
-use Rattle.lft_flat.specs.Names.{AreDistinct, IsNamed}
-use Rattle.lft_flat.specs.Parts.{Parts}
-use Rattle.lft_flat.specs.declared.found.Found.TheVariants as found
-use Rattle.lft_flat.specs.declared.parts.Action.{Action as ActionOf}
+use Rattle.lft_ir.specs.Names.{AreDistinct, IsNamed}
+use Rattle.lft_ir.specs.Parts.{Parts}
+use Rattle.lft_ir.specs.declared.found.Found.TheVariants as found
+use Rattle.lft_ir.specs.declared.parts.Action.{Action as ActionOf}
 use Rattle.lft_trace.specs.ExternalTables.{IsPhysical}
 use Rattle.lft_trace.proofs.names.read_physical.Goals as goal
 

@@ -1,5 +1,5 @@
 use Rattle.std.proofs.Common.{rules, ◌≡◌, false, subst}
-use Rattle.lft_flat.specs.Parts.{Parts}
+use Rattle.lft_ir.specs.Parts.{Parts}
 use Rattle.lft_trace.specs.Traces.{is_filled}
 use Rattle.lft_trace.specs.Seen.{NumbersOf, StepOf, trace_fields}
 use Rattle.lft_trace.proofs.RowFacts.{step_is}

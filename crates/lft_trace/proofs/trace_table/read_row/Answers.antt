@@ -1,9 +1,9 @@
 use Rattle.std.proofs.Common.{rules, ◌≡◌, IfErr, Ok, Err, Result, List, ℕ}
 use Rattle.csv.specs.Records.{fields_of}
-use Rattle.lft_flat.specs.Parts.{Parts}
+use Rattle.lft_ir.specs.Parts.{Parts}
 use Rattle.lft_trace.specs.declared.fault.TraceFault.{TraceFault}
 use Rattle.lft_trace.specs.declared.kind.RowKind.{RowKind}
-use Rattle.lft_steps.specs.declared.row.Row.{Row}
+use Rattle.lft_ir.specs.declared.steps.row.Row.{Row}
 use Rattle.lft_trace.specs.Traces.{FaultAt, TraceFields, in_order, word}
 use Rattle.lft_trace.specs.Seen.{FieldFault, trace_fields}
 use Rattle.lft_trace.proofs.RowFacts.{fault_is}

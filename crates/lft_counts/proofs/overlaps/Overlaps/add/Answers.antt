@@ -1,5 +1,5 @@
 use Rattle.std.proofs.Common.{length, ◌≡◌, refl, false, true}
-use Rattle.lft_steps.specs.declared.row.Step.TheVariants.{Start, End}
+use Rattle.lft_ir.specs.declared.steps.row.Step.TheVariants.{Start, End}
 use Rattle.lft_counts.proofs.Overlapping.{open_same, met_same, widths_same, no_start}
 use Rattle.lft_counts.proofs.overlaps.Overlaps.add.Goals as goal
 

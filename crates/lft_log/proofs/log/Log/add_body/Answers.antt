@@ -1,9 +1,9 @@
 use Rattle.std.proofs.Common.{◌++◌, [], inr, List, Option, slice_range, refl, sym, ap, subst, ◌∙◌, arith}
 use Rattle.lft_tag.specs.declared.Tag.{Tag}
-use Rattle.lft_flat.specs.Parts.{Parts}
-use Rattle.lft_steps.specs.declared.row.Row.{Row}
-use Rattle.lft_steps.specs.Fits.{RowsFit}
-use Rattle.lft_follow.specs.Follows.{IsFollowerOf}
+use Rattle.lft_ir.specs.Parts.{Parts}
+use Rattle.lft_ir.specs.declared.steps.row.Row.{Row}
+use Rattle.lft_ir.specs.Steps.Fits.{RowsFit}
+use Rattle.lft_monitor.specs.Follows.{IsFollowerOf}
 use Rattle.lft_log.specs.Logs.{IsFront, rows}
 use Rattle.lft_log.specs.Told.{IsAskedOf, IsFaultOfRows, IsSaid, KeepTo}
 use Rattle.lft_log.proofs.Gathering.{fit_first}

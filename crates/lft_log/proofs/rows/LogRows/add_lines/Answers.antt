@@ -1,8 +1,8 @@
 use Rattle.std.proofs.Common.{◌-◌, ◌≤◌, ◌++◌, ◌∙◌, List, length, slice_range, sym, ap, subst, arith, ◌≡◌, ◌+◌, ◌<◌, ℕ, [], drop, refl}
-use Rattle.lft_flat.specs.Parts.{Parts}
-use Rattle.lft_steps.specs.declared.row.Row.{Row}
-use Rattle.lft_steps.specs.Fits.{RowsFit}
-use Rattle.lft_follow.specs.Follows.{IsFollowerOf}
+use Rattle.lft_ir.specs.Parts.{Parts}
+use Rattle.lft_ir.specs.declared.steps.row.Row.{Row}
+use Rattle.lft_ir.specs.Steps.Fits.{RowsFit}
+use Rattle.lft_monitor.specs.Follows.{IsFollowerOf}
 use Rattle.lft_log.specs.Logs.{IsFront}
 use Rattle.lft_log.proofs.Gathering.{all_read, fit_first, none_is, rows_fit, rows_read, cut_rows, has_read}
 use Rattle.lft_log.proofs.rows.LogRows.add_lines.Goals as goal

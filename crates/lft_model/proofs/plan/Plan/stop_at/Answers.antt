@@ -1,5 +1,5 @@
 use Rattle.std.proofs.Common.{◌≡◌, ap}
-use Rattle.lft_steps.specs.Inputs.{ExternalInputs}
+use Rattle.lft_ir.specs.Steps.Inputs.{ExternalInputs}
 use Rattle.lft_model.specs.Plans.{PlanParts}
 use Rattle.lft_model.proofs.plan.Plan.stop_at.Goals as goal
 use Rattle.lft_model.proofs.Told.{stop_fits}

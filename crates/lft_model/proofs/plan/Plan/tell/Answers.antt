@@ -1,6 +1,6 @@
 use Rattle.std.proofs.Common.{◌≡◌, ◌<◌, length, ap}
-use Rattle.lft_steps.specs.Fits.{EventFits}
-use Rattle.lft_steps.specs.Inputs.{ExternalInputs}
+use Rattle.lft_ir.specs.Steps.Fits.{EventFits}
+use Rattle.lft_ir.specs.Steps.Inputs.{ExternalInputs}
 use Rattle.lft_model.specs.Plans.{PlanParts}
 use Rattle.lft_model.proofs.plan.Plan.tell.Goals as goal
 use Rattle.lft_model.proofs.Told.{tell_fits}

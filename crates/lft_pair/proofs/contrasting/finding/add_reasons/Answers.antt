@@ -1,5 +1,5 @@
 use Rattle.std.proofs.Common.{inl, sym, ap, ◌∙◌, subst}
-use Rattle.lft_flat.specs.Parts.{Parts}
+use Rattle.lft_ir.specs.Parts.{Parts}
 use Rattle.lft_model.specs.Recorded.{instance_of}
 use Rattle.lft_pair.specs.declared.contrasting.contrasts.Contrast.TheVariants as contrast
 use Rattle.lft_pair.specs.Counts.{Counts, StartsEarlier}

@@ -1,5 +1,5 @@
 use Rattle.std.proofs.Common.{◌≡◌, Some, slice_get, ◌∙◌, subst, arith}
-use Rattle.lft_flat.specs.Parts.{Parts}
+use Rattle.lft_ir.specs.Parts.{Parts}
 use Rattle.lft_pair.proofs.Added.{read_none, read_long, read_more, read_end}
 use Rattle.lft_pair.proofs.contrasting.reads.add_reads.Goals as goal
 

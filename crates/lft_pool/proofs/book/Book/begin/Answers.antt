@@ -1,11 +1,11 @@
 use Rattle.std.proofs.Common.{◌≡◌, inl, inr, sym, subst, Option, None, rules}
 use Rattle.lft_model.specs.Breaches.{Legal}
-use Rattle.lft_agenda.specs.declared.found.NextRun.{NextRun}
-use Rattle.lft_agenda.specs.Agendas.{IsAgenda, MayFind, Finds}
-use Rattle.lft_agenda.proofs.Awaiting.{busy_left}
+use Rattle.lft_scheduler.specs.declared.found.NextRun.{NextRun}
+use Rattle.lft_scheduler.specs.Agendas.{IsAgenda, MayFind, Finds}
+use Rattle.lft_scheduler.proofs.Awaiting.{busy_left}
 use Rattle.lft_pool.specs.declared.stop.Stop.{Stop}
 use Rattle.lft_pool.specs.Books.{BookParts, AgendaHolds}
-use Rattle.lft_agenda.specs.Starts.{MayStartFirst, NoneMayStart, NothingLeft, SomethingLeft, IsBusy, IsAnyOpen}
+use Rattle.lft_scheduler.specs.Starts.{MayStartFirst, NoneMayStart, NothingLeft, SomethingLeft, IsBusy, IsAnyOpen}
 use Rattle.lft_pool.specs.Causes.{BeginCause, StartCause}
 use Rattle.lft_pool.proofs.Known.{nothing_left_legal}
 use Rattle.lft_pool.proofs.Refusals.{if_err}

@@ -1,11 +1,11 @@
 use Rattle.std.proofs.Common.{◌≡◌, ◌∙◌, ◌<◌, ◌≤◌, ◌++◌, ◌∷◌, [], ℕ, ℤ, List, Option, Some, None, length, take, slice_get, slice_set, refl, sym, ap, subst, rules, unwrap_or, option_map, cond, ◌==◌}
 use Rattle.std.proofs.Math.Seq.{take-append_seam}
 use Rattle.lft_lists.proofs.Members.{mem_get}
-use Rattle.lft_steps.specs.declared.row.Row.{Row}
-use Rattle.lft_steps.specs.declared.row.Step.{Step}
-use Rattle.lft_agenda.specs.Agendas.{IsAgenda, EndsWith}
-use Rattle.lft_flat.specs.declared.parts.Value.{Value}
-use Rattle.lft_flat.specs.declared.parts.Reaction.{Reaction}
+use Rattle.lft_ir.specs.declared.steps.row.Row.{Row}
+use Rattle.lft_ir.specs.declared.steps.row.Step.{Step}
+use Rattle.lft_scheduler.specs.Agendas.{IsAgenda, EndsWith}
+use Rattle.lft_ir.specs.declared.parts.Value.{Value}
+use Rattle.lft_ir.specs.declared.parts.Reaction.{Reaction}
 use Rattle.lft_model.specs.Runs.{by_ends, reads_at}
 use Rattle.lft_model.specs.Recorded.{committed_rows, instance_of, word_after}
 use Rattle.lft_model.proofs.Places.{slice_get_within}
@@ -13,8 +13,8 @@ use Rattle.lft_pool.specs.declared.stop.Stop.{Stop}
 use Rattle.lft_pool.specs.declared.stop.Stop.TheVariants.{NoMemory, UndeclaredEffect, LimitTag}
 use Rattle.lft_pool.specs.Books.{BookParts, IsRecording, IsKept, AgendaHolds}
 use Rattle.lft_pool.specs.Reasons.{StopHolds, ReasonHolds}
-use Rattle.lft_agenda.specs.Answering.{MayAll, HasLongDelay}
-use Rattle.lft_agenda.specs.Collisions.{IsClean}
+use Rattle.lft_scheduler.specs.Answering.{MayAll, HasLongDelay}
+use Rattle.lft_scheduler.specs.Collisions.{IsClean}
 use Rattle.lft_pool.specs.Answers.{HasTicket, HasClash, KeepsOpenRuns, RefusalCause, EndCause, Committed, with_answer}
 use Rattle.lft_pool.proofs.Refusals.{memory_holds, before_it, holds_by_end, end_cause, may_mem, short_mem, answer_fits, set_words, ends_clash, ends_clean}
 use Rattle.lft_pool.proofs.Finishing.{if_some}

@@ -2,10 +2,10 @@ use Rattle.std.proofs.Common.{◌≡◌, ℕ, length, ⊎_elim, ap, arith, subst
 use Rattle.std.proofs.lemmas.Option.{slice_get_within}
 use Rattle.std.specs.Prelude.{Err}
 use Rattle.lft_tree.specs.Tree.{reactors_of}
-use Rattle.lft_instances.proofs.Settled.{leads_from}
-use Rattle.lft_scope.specs.Causes.{IsFirst}
-use Rattle.lft_causes.specs.Witnesses.{time_causes}
-use Rattle.lft_causes.proofs.Sound.{first_shown, none_shown}
+use Rattle.lft_resolve.proofs.ExpansionLemmas.Settled.{leads_from}
+use Rattle.lft_resolve.specs.Causes.{IsFirst}
+use Rattle.lft_validate.specs.Witnesses.{time_causes}
+use Rattle.lft_validate.proofs.Sound.{first_shown, none_shown}
 use Rattle.lft_program.specs.Linking.{AreLinked, IsTooLong}
 use Rattle.lft_program.specs.Links.{last_causes}
 use Rattle.lft_program.proofs.Connected.{ports_read, apart_read, sources_read}

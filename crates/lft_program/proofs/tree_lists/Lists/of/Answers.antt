@@ -3,7 +3,7 @@ use Rattle.lft_tree.specs.Tree.{reactors_of, ports_of, actions_of, timers_of, re
 use Rattle.lft_program.specs.OwnNames.{name_lists, own_names}
 use Rattle.lft_program.specs.TreeLists.{name_at, placed_at}
 use Rattle.lft_program.specs.declared.own_names.MemberKind.TheVariants as kinds
-use Rattle.lft_scope.specs.References.{reactor_trees}
+use Rattle.lft_resolve.specs.References.{reactor_trees}
 use Rattle.lft_program.proofs.KindNames.{told_as, placed_told, own_ports, own_actions, own_timers}
 use Rattle.lft_program.proofs.tree_lists.Lists.of.Goals as goal
 

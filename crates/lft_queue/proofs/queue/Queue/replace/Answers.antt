@@ -3,7 +3,7 @@ use Rattle.std.specs.Prelude.{Result, OnOk, OnErr}
 use Rattle.std.specs.declared.result.Result.TheVariants.{Ok, Err}
 use Rattle.std.specs.BTreeMap.{is_at}
 use Rattle.std.specs.Map.{lookup}
-use Rattle.lft_flat.specs.declared.parts.Value.{Value}
+use Rattle.lft_ir.specs.declared.parts.Value.{Value}
 use Rattle.lft_queue.specs.Pending.{Pending, value_of, Becomes}
 use Rattle.lft_queue.specs.Keys.{Key, key_of, pending_at, key_cmp}
 use Rattle.lft_queue.proofs.Entries.{value_found, becomes}

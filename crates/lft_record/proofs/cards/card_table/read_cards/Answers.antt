@@ -1,6 +1,6 @@
 use Rattle.std.proofs.Common.{◌≡◌, List, Result, Ok, Err, IfOk, IfErr, true}
-use Rattle.lft_flat.specs.Parts.{Parts}
-use Rattle.lft_flat.specs.Sound.{IsSound}
+use Rattle.lft_ir.specs.Parts.{Parts}
+use Rattle.lft_ir.specs.Sound.{IsSound}
 use Rattle.lft_trace.specs.Records.{records_of}
 use Rattle.lft_record.specs.CardTables.{CardTable, CardsFail}
 use Rattle.lft_record.specs.CardFaults.{is_told}

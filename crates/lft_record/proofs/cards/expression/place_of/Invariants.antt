@@ -1,5 +1,5 @@
 use Rattle.std.proofs.Common.{◌≡◌, ◌≤◌, ◌<◌, ℕ, length, take, filter_map, Some, slice_get}
-use Rattle.lft_flat.specs.Naming.{named}
+use Rattle.lft_ir.specs.Naming.{named}
 use Rattle.lft_record.proofs.cards.expression.place_of.Given as goal
 
 abbrev pub invariant-loop-at : goal.invariant-loop-at

@@ -1,6 +1,6 @@
 use Rattle.std.proofs.Common.{◌≡◌, ◌∙◌, length, sym, Some, slice_get}
 use Rattle.std.proofs.lemmas.Option.{slice_get_read}
-use Rattle.lft_flat.specs.declared.parts.Name.TheVariants.{Action}
+use Rattle.lft_ir.specs.declared.parts.Name.TheVariants.{Action}
 use Rattle.lft_model.specs.Runs.{effects_of}
 use Rattle.lft_rows.proofs.Declares.{any_contains}
 use Rattle.lft_rows.proofs.effects.Effects.schedules.Goals as goal

@@ -1,6 +1,6 @@
 use Rattle.std.proofs.Common.{length, ◌<◌, ◌∙◌, arith}
 use Rattle.std.proofs.lemmas.Option.{get_or_from_slice_get}
-use Rattle.lft_flat.specs.Parts.{inputs}
+use Rattle.lft_ir.specs.Parts.{inputs}
 use Rattle.lft_lists.proofs.Places.{get_there}
 use Rattle.lft_model.proofs.Places.{slice_get_within}
 use Rattle.lft_rows.proofs.marks.Marks.known.Goals as goal

@@ -1,5 +1,5 @@
 use Rattle.std.proofs.Common.{subst, arith}
-use Rattle.lft_flat.specs.Parts.{Parts}
+use Rattle.lft_ir.specs.Parts.{Parts}
 use Rattle.lft_rows.specs.Passes.{IsKnown}
 use Rattle.lft_rows.proofs.pass.Pass.begin.Goals as goal
 

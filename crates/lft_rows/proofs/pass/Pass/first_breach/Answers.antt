@@ -1,5 +1,5 @@
 use Rattle.std.proofs.Common.{subst}
-use Rattle.lft_flat.specs.Parts.{Parts}
+use Rattle.lft_ir.specs.Parts.{Parts}
 use Rattle.lft_rows.specs.Passes.{IsKnown}
 use Rattle.lft_model.proofs.Places.{slice_get_within}
 use Rattle.lft_rows.proofs.Whole.{unended_first, early_first, none_first}

@@ -1,6 +1,6 @@
 use Rattle.std.proofs.Common.{subst}
-use Rattle.lft_presence.specs.Traces.{TraceParts}
-use Rattle.lft_by_tag.specs.Slices.{IsGap}
+use Rattle.lft_rows.specs.Presence.Traces.{TraceParts}
+use Rattle.lft_check.specs.ByTag.Slices.{IsGap}
 use Rattle.lft_slices.proofs.cuts.Cut.gap.Goals as goal
 
 pub returns : goal.returns

@@ -1,7 +1,7 @@
 use Rattle.std.proofs.Common.{◌≡◌, List, Option, IfOk, subst}
-use Rattle.lft_flat.specs.declared.parts.Value.{Value}
+use Rattle.lft_ir.specs.declared.parts.Value.{Value}
 use Rattle.lft_model.specs.Presence.{Inputs}
-use Rattle.lft_presence.specs.Traces.{TraceParts}
+use Rattle.lft_rows.specs.Presence.Traces.{TraceParts}
 use Rattle.lft_slices.proofs.cuts.Cut.inputs.Goals as goal
 
 pub returns-clause-only : goal.returns-clause-only

@@ -1,5 +1,5 @@
 use Rattle.std.proofs.Common.{subst}
-use Rattle.lft_presence.specs.Traces.{TraceParts}
+use Rattle.lft_rows.specs.Presence.Traces.{TraceParts}
 use Rattle.lft_slices.specs.Pieces.{ArePieces}
 use Rattle.lft_slices.proofs.Piecing.{tag_there, range_there, runs_there}
 use Rattle.lft_slices.proofs.cuts.Cut.slice.Goals as goal

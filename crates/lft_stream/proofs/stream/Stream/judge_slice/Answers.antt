@@ -1,6 +1,6 @@
 use Rattle.std.proofs.Common.{◌++◌, refl, slice_range, subst, sym}
-use Rattle.lft_flat.specs.Parts.{Parts}
-use Rattle.lft_coming.specs.Writes.{AreWrites}
+use Rattle.lft_ir.specs.Parts.{Parts}
+use Rattle.lft_queue.specs.Coming.Writes.{AreWrites}
 use Rattle.lft_stream.specs.Dues.{AreDuesAt}
 use Rattle.lft_stream.specs.Present.{AreShown}
 use Rattle.lft_stream.specs.StartTags.{AreStartTags}

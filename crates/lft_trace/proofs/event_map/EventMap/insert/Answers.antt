@@ -1,9 +1,9 @@
 use Rattle.std.proofs.Common.{rules, ◌≡◌, ◌∙◌, ◌<◌, ◌++◌, ◌∷◌, [], List, map, length, append-nil, append_assoc, ap, arith, refl, subst, sym}
 use Rattle.std.specs.List.Sorted.{IsPermutation}
 use Rattle.std.proofs.lemmas.List.Sorted.{IsPermutation-cons, IsPermutation-middle, IsPermutation-sym, IsPermutation-trans}
-use Rattle.lft_flat.specs.declared.parts.Value.{Value}
-use Rattle.lft_steps.specs.Inputs.{ComesBefore}
-use Rattle.lft_steps.specs.declared.externals.Event.{Event}
+use Rattle.lft_ir.specs.declared.parts.Value.{Value}
+use Rattle.lft_ir.specs.Steps.Inputs.{ComesBefore}
+use Rattle.lft_ir.specs.declared.steps.externals.Event.{Event}
 use Rattle.lft_trace.specs.ExternalTables.{Has}
 use Rattle.lft_trace.specs.Keys.{event_at}
 use Rattle.lft_trace.proofs.EventFacts.{Key}

@@ -1,6 +1,0 @@
-use Rattle.std.proofs.Common.{take}
-use Rattle.lft_agenda.specs.Filling.{HaveLeaders}
-use Rattle.lft_agenda.proofs.listeners.leading.leaders.Given as goal
-
-abbrev pub invariant-triggers : goal.invariant-triggers
-invariant-triggers l = HaveLeaders l.program (take l.place l.triggers) l.leaders

@@ -1,5 +1,0 @@
-use Rattle.lft_agenda.specs.Filling.{AreListed}
-use Rattle.lft_agenda.proofs.listeners.reactions_by_trigger.Given as goal
-
-abbrev pub invariant-reactions : goal.invariant-reactions
-invariant-reactions l = AreListed l.program l.number l.lists

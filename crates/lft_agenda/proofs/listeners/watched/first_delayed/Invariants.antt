@@ -1,5 +1,0 @@
-use Rattle.lft_agenda.specs.Filling.{AreFirst}
-use Rattle.lft_agenda.proofs.listeners.watched.first_delayed.Given as goal
-
-abbrev pub invariant-ports : goal.invariant-ports
-invariant-ports l = AreFirst l.program l.number l.firsts.items

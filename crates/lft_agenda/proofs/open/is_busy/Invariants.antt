@@ -1,6 +1,0 @@
-use Rattle.std.proofs.Common.{◌≡◌, ℕ, ◌<◌, Some, slice_get}
-use Rattle.lft_agenda.specs.declared.open.OpenRun.{OpenRun}
-use Rattle.lft_agenda.proofs.open.is_busy.Given as goal
-
-abbrev pub invariant-loop-at : goal.invariant-loop-at
-invariant-loop-at l = (k : ℕ) (o : OpenRun) → k < l.at → slice_get l.runs k ≡ Some o → o.worker ≡ l.worker → ⊥

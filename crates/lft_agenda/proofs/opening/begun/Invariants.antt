@@ -1,8 +1,0 @@
-use Rattle.std.proofs.Common.{◌≡◌, ◌∷◌, take, map, filter_map, zip}
-use Rattle.lft_steps.specs.declared.row.Step.TheVariants.{Start}
-use Rattle.lft_model.specs.Runs.{read_step}
-use Rattle.lft_model.specs.Recorded.{run_row}
-use Rattle.lft_agenda.proofs.opening.begun.Given as goal
-
-abbrev pub invariant-loop-at : goal.invariant-loop-at
-invariant-loop-at l = l.rows.items ≡ map (run_row l.worker l.tag l.reaction) (Start ∷ filter_map read_step (zip (take l.at l.names) l.shown))

@@ -1,6 +1,0 @@
-use Rattle.std.proofs.Common.{◌≡◌, ℕ}
-use Rattle.lft_agenda.specs.Telling.{IsTold, OfFirst}
-use Rattle.lft_agenda.proofs.telling.tell_of.Given as goal
-
-abbrev pub invariant-loop-at : goal.invariant-loop-at
-invariant-loop-at l = IsTold (OfFirst (λ (x k : ℕ). k ≡ x) l.reactions l.at) l.fn.turn l.turn

@@ -1,9 +1,0 @@
-use Rattle.std.proofs.Common.{[]}
-use Rattle.lft_agenda.specs.Seats.{IsMoving, KeepsPhases, uncounted}
-use Rattle.lft_agenda.proofs.turn.moving.settle.Given as goal
-
-abbrev pub invariant-walk : goal.invariant-walk
-invariant-walk l = IsMoving l.up l.after l.seats l.frees l.stack l.left [] × KeepsPhases l.fn.seats l.seats
-
-abbrev pub decreases-walk : goal.decreases-walk
-decreases-walk l = uncounted l.up l.seats

@@ -1,6 +1,0 @@
-use Rattle.std.proofs.Common.{◌≡◌, drop}
-use Rattle.lft_agenda.specs.Seats.{IsMoving, KeepsPhases, uncounted}
-use Rattle.lft_agenda.proofs.turn.moving.tell.Given as goal
-
-abbrev pub invariant-members : goal.invariant-members
-invariant-members l = IsMoving l.up l.after l.seats l.frees l.stack l.left (drop l.place l.list) × (uncounted l.up l.seats ≡ uncounted l.up l.fn.seats) × KeepsPhases l.fn.seats l.seats

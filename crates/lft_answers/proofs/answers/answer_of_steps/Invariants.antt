@@ -1,7 +1,0 @@
-use Rattle.std.proofs.Common.{◌≡◌, take, map}
-use Rattle.lft_model.specs.Runs.{outcome_of}
-use Rattle.lft_answers.specs.Answers.{as_outcome}
-use Rattle.lft_answers.proofs.answers.answer_of_steps.Given as goal
-
-abbrev pub invariant-loop-place : goal.invariant-loop-place
-invariant-loop-place l = map as_outcome l.outcomes.items ≡ map (outcome_of l.steps) (take l.place l.effects)

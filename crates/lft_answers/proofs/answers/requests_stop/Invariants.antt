@@ -1,5 +1,0 @@
-use Rattle.lft_answers.proofs.Stepping.{NoStopTo}
-use Rattle.lft_answers.proofs.answers.requests_stop.Given as goal
-
-abbrev pub invariant-loop-place : goal.invariant-loop-place
-invariant-loop-place l = NoStopTo l.steps l.place

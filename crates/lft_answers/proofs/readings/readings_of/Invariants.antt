@@ -1,6 +1,0 @@
-use Rattle.std.proofs.Common.{take}
-use Rattle.lft_answers.specs.Readings.{AreReadBy}
-use Rattle.lft_answers.proofs.readings.readings_of.Given as goal
-
-abbrev pub invariant-loop-place : goal.invariant-loop-place
-invariant-loop-place l = AreReadBy (take l.place l.steps) l.readings

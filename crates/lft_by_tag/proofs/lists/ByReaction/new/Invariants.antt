@@ -1,5 +1,0 @@
-use Rattle.std.proofs.Common.{◌≡◌, ℕ, [], length, Some, slice_get}
-use Rattle.lft_by_tag.proofs.lists.ByReaction.new.Given as goal
-
-abbrev pub invariant-loop : goal.invariant-loop
-invariant-loop g l = (length l.rows.items ≡ l.counter) × ((r : ℕ) (x : _) → slice_get l.rows.items r ≡ Some x → x.items ≡ [])

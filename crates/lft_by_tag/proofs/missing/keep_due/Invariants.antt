@@ -1,5 +1,0 @@
-use Rattle.lft_by_tag.specs.Indexes.{AreDue, AreMarkedTo}
-use Rattle.lft_by_tag.proofs.missing.keep_due.Given as goal
-
-abbrev pub invariant-loop-number : goal.invariant-loop-number
-invariant-loop-number l = record { due : AreDue l.presence l.due; marked : AreMarkedTo l.places l.known l.number l.fn.due l.due }

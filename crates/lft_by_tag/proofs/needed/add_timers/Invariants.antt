@@ -1,6 +1,0 @@
-use Rattle.lft_by_tag.specs.Needed.{AreAdded}
-use Rattle.lft_by_tag.proofs.Needing.{IsLast}
-use Rattle.lft_by_tag.proofs.needed.add_timers.Given as goal
-
-abbrev pub invariant-loop-place : goal.invariant-loop-place
-invariant-loop-place l = record { added : AreAdded l.beats l.place l.initial.needed.items l.needed.items; last : IsLast l.beats l.needed.items l.last }

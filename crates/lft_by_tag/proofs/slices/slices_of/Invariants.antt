@@ -1,5 +1,0 @@
-use Rattle.lft_by_tag.proofs.ByTag.{AreSlicesTo}
-use Rattle.lft_by_tag.proofs.slices.slices_of.Given as goal
-
-abbrev pub invariant-loop-place : goal.invariant-loop-place
-invariant-loop-place l = AreSlicesTo l.rows l.first l.place l.slices.items

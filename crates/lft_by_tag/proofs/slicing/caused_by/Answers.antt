@@ -1,7 +1,0 @@
-use Rattle.std.proofs.Common.{refl}
-use Rattle.lft_by_tag.proofs.Begun.{due_over, none_in}
-use Rattle.lft_by_tag.proofs.Missed.{missing_all}
-use Rattle.lft_by_tag.proofs.slicing.caused_by.Goals as goal
-
-pub returns : goal.returns
-returns c = (refl, record { missing_is = missing_all c.args.presence c.in_ok-missing.missing c.in_ok-missing.ensures.missing; are_due = due_over c.args.presence c.first_missing.new.due c.in_ok-due.due.items c.in_ok-due.due.len (none_in _ c.in_ok-due.due.items (c.in_ok-due.ensures.items_if_clones_equal (λ y e. e))) c.in_ok-missing.ensures.due; runs_are = c.requires.started.runs_are })

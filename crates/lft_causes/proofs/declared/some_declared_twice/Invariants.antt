@@ -1,8 +1,0 @@
-use Rattle.std.proofs.Common.{Any, take}
-use Rattle.lft_scope.specs.Causes.{IsTwice}
-use Rattle.lft_scope.specs.Kinds.{names_in}
-use Rattle.lft_scope.specs.References.{reactor_trees}
-use Rattle.lft_causes.proofs.declared.some_declared_twice.Given as goal
-
-abbrev pub invariant-loop-reactor : goal.invariant-loop-reactor
-invariant-loop-reactor l = Any (λ r. IsTwice (names_in r)) (reactor_trees (take l.reactor l.reactors)) → ⊥

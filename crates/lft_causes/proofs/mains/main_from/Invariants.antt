@@ -1,7 +1,0 @@
-use Rattle.std.proofs.Common.{ℕ, ◌<◌, ◌≤◌}
-use Rattle.lft_scope.specs.References.{reactor_trees}
-use Rattle.lft_causes.specs.Witnesses.{IsMainAt}
-use Rattle.lft_causes.proofs.mains.main_from.Given as goal
-
-abbrev pub invariant-loop-place : goal.invariant-loop-place
-invariant-loop-place l = (k : ℕ) → l.start ≤ k → k < l.place → IsMainAt (reactor_trees l.reactors) k → ⊥

@@ -1,9 +1,0 @@
-use Rattle.std.proofs.Common.{List, Any, take}
-use Rattle.lft_tree.specs.Tree.{ReactorTree}
-use Rattle.lft_scope.specs.Causes.{IsMisplaced}
-use Rattle.lft_scope.specs.References.{ref_trees}
-use Rattle.lft_scope.specs.Tables.{IsFile, IsOwn}
-use Rattle.lft_causes.proofs.misplaced.first_wrong.Given as goal
-
-abbrev pub invariant-loop-name : goal.invariant-loop-name
-invariant-loop-name l = (rs : List ReactorTree) (r : ReactorTree) → IsFile rs l.file → IsOwn r l.own → Any (λ ref. IsMisplaced rs r (l.role, ref)) (ref_trees (take l.name l.names)) → ⊥

@@ -1,9 +1,0 @@
-use Rattle.std.proofs.Common.{Any, take}
-use Rattle.lft_tree.specs.Tree.{ReactorTree}
-use Rattle.lft_scope.specs.Causes.{IsMisplacedTime}
-use Rattle.lft_scope.specs.Tables.{IsOwn}
-use Rattle.lft_causes.specs.Members.{time_trees}
-use Rattle.lft_causes.proofs.misplaced.first_wrong_time.Given as goal
-
-abbrev pub invariant-loop-time : goal.invariant-loop-time
-invariant-loop-time l = (r : ReactorTree) → IsOwn r l.own → Any (IsMisplacedTime r) (time_trees (take l.time l.times)) → ⊥

@@ -1,9 +1,0 @@
-use Rattle.std.proofs.Common.{take}
-use Rattle.lft_causes.specs.Seen.{has_seen}
-use Rattle.lft_scope.specs.Causes.{IsTwice}
-use Rattle.lft_scope.specs.References.{ref_trees}
-use Rattle.lft_scope.specs.Tests.{IsTestOf}
-use Rattle.lft_causes.proofs.twice.first_named_twice.Given as goal
-
-abbrev pub invariant-loop-place : goal.invariant-loop-place
-invariant-loop-place l = IsTestOf (has_seen l.seen) (ref_trees (take l.place l.names)) × (IsTwice (ref_trees (take l.place l.names)) → ⊥)

@@ -1,0 +1,10 @@
+use Rattle.std.proofs.Common.{ℕ}
+use Rattle.lft_tag.specs.declared.Tag.{Tag}
+use Rattle.lft_tag.specs.Tags.{UpTo}
+use Rattle.lft_check.specs.ByTag.Indexes.{AreDue}
+use Rattle.lft_check.specs.ByTag.Slices.{IsMissing}
+use Rattle.lft_check.proofs.ByTagLemmas.Missed.{FirstBelow}
+use Rattle.lft_check.proofs.by_tag.missing.first_missing.Given as goal
+
+abbrev pub invariant-loop-reaction : goal.invariant-loop-reaction
+invariant-loop-reaction l = record { due : AreDue l.presence l.due; first : FirstBelow (λ (r : ℕ) (g : Tag). IsMissing l.presence r g × UpTo l.low g) l.reaction l.first }

@@ -1,0 +1,7 @@
+use Rattle.std.proofs.Common.{subst}
+use Rattle.lft_rows.specs.Presence.Clashes.{IsClash}
+use Rattle.lft_rows.specs.Presence.Traces.{TraceParts}
+use Rattle.lft_check.proofs.by_tag.sliced.Sliced.clash.Goals as goal
+
+pub returns : goal.returns
+returns c = subst (λ (z : TraceParts). IsClash z c.clash.result) c.presence.ensures c.clash.ensures

@@ -1,0 +1,13 @@
+use Rattle.std.proofs.Common.{◌≡◌, ◌≤◌, ◌<◌, ◌/◌, ℕ, Some, slice_get}
+use Rattle.lft_ir.specs.declared.parts.Name.{Name}
+use Rattle.lft_ir.specs.declared.parts.Reaction.{Reaction}
+use Rattle.lft_rows.specs.Marks.{HasSeat}
+use Rattle.lft_check.specs.ByTag.Reads.{IsMissed}
+use Rattle.lft_check.specs.ByTag.Walks.{HasWalked}
+use Rattle.lft_check.proofs.by_tag.sliced.Sliced.misses_input.Given as goal
+
+abbrev pub invariant-loop-block : goal.invariant-loop-block
+invariant-loop-block l = record {
+  walked : HasWalked l.self l.slice l.walk;
+  none : (x : Reaction) (n : Name) (k : ℕ) → slice_get l.self.plan.program.reactions l.reaction ≡ Some x → HasSeat x n k → k / 64 < l.block → ¬ IsMissed l.self.plan l.self.rows l.slice.tag l.reaction n;
+}

@@ -1,0 +1,121 @@
+-- The numbers of reactors among those of all files.
+use Rattle.std.proofs.Common.{◌≡◌, ℕ, zero, suc, ◌+◌, ◌<◌, ◌≤◌, inl, inr, List, [], ◌∷◌, ◌++◌, length, map, take, append-nil, Some, slice_get, refl, sym, ap, subst, ◌∙◌, arith}
+use Rattle.std.specs.Prelude.{flat_map}
+use Rattle.std.specs.List.{enumerate_from}
+use Rattle.std.proofs.lemmas.Grind.{common_steps, flat_map-append}
+use Rattle.std.proofs.lemmas.List.{length-append, length-map}
+use Rattle.std.proofs.lemmas.List.FromFn.{length-enumerate_from}
+use Rattle.std.proofs.lemmas.Option.{get_or_from_slice_get, slice_get_within}
+use Rattle.lft_lists.proofs.Mapped.{enumerate_at, mapped, mapped_from}
+use Rattle.lft_lists.proofs.Members.{get_mem, mem_from_flat, mem_from_map, mem_get}
+use Rattle.lft_lists.proofs.Picked.{take_one_more}
+use Rattle.lft_lists.proofs.Places.{get_append_cases, get_left, get_right, same_at, Some_same}
+use Rattle.lft_whole.specs.declared.sources.source.SourceFile.{SourceFile}
+use Rattle.lft_whole.specs.declared.tree.Reactor.{Reactor}
+use Rattle.lft_classes.specs.declared.scopes.Class.{Class}
+use Rattle.lft_classes.specs.Scopes.{IsOf, placed, reactors_before, reactors_in, reactors_of}
+
+-- an item of the part of one stands behind the parts of those before it
+pub flat_at : {X Y : Type 0} (f : X → List Y) (xs : List X) (n : ℕ) (x : X) (j : ℕ) (y : Y) → slice_get xs n ≡ Some x → slice_get (f x) j ≡ Some y → slice_get (flat_map f xs) (length (flat_map f (take n xs)) + j) ≡ Some y
+flat_at f [] n x j y at is = absurd (cc)
+flat_at f (z ∷ zs) zero x j y at is =
+    let e : 0 + j ≡ j = omega arith in
+    ap (slice_get (f z ++ flat_map f zs)) e ∙ get_left (f z) (flat_map f zs) j y (subst (λ w. slice_get (f w) j ≡ Some y) (sym (Some_same z x at)) is)
+flat_at f (z ∷ zs) (suc n) x j y at is =
+    let long = length-append (f z) (flat_map f (take n zs)) in
+    let e : length (f z ++ flat_map f (take n zs)) + j ≡ length (f z) + (length (flat_map f (take n zs)) + j) = omega (arith, long) in
+    ap (slice_get (f z ++ flat_map f zs)) e ∙ get_right (f z) (flat_map f zs) (length (flat_map f (take n zs)) + j) ∙ flat_at f zs n x j y at is
+
+-- what is numbered is an item with its place
+enumerated : {X : Type 0} (i : ℕ) (xs : List X) (n : ℕ) (p : ℕ × X) → slice_get (enumerate_from i xs) n ≡ Some p → (p.0 ≡ i + n) × (slice_get xs n ≡ Some p.1)
+enumerated i [] n p at = absurd (cc)
+enumerated i (x ∷ xs) zero p at = let e = Some_same (i, x) p at in (sym (ap (λ (q : ℕ × _). q.0) e) ∙ omega arith, ap (λ (q : ℕ × _). Some q.1) e)
+enumerated i (x ∷ xs) (suc n) p at = let rest = enumerated (i + 1) xs n p at in let e = rest.0 in (omega (arith, e), rest.1)
+
+-- a reactor that is numbered stands in its file
+pub file_of : (files : List SourceFile) (k f : ℕ) (r : Reactor) → slice_get (reactors_in files) k ≡ Some (f, r) → (file : SourceFile) × (slice_get files f ≡ Some file) × ((j : ℕ) × (slice_get file.tree.reactors.items j ≡ Some r))
+file_of files k f r at =
+    let all = enumerate_from 0 files in
+    let from = mem_from_flat reactors_of all (f, r) (mem_get (reactors_in files) k (f, r) at) in
+    let x = from.0 in
+    let there = get_mem x all from.1 in
+    let numbered = enumerated 0 files there.0 x there.1 in
+    let pair : Reactor → ℕ × Reactor = λ s. (x.0, s) in
+    let one = mem_from_map pair x.1.tree.reactors.items (f, r) from.2 in
+    let same : there.0 ≡ f = (let e = numbered.0 in let d : x.0 ≡ f = ap (λ (q : ℕ × Reactor). q.0) one.2 in omega (arith, e, d)) in
+    let item = get_mem one.0 x.1.tree.reactors.items one.1 in
+    (x.1, subst (λ n. slice_get files n ≡ Some x.1) same numbered.1, (item.0, item.1 ∙ ap (λ (q : ℕ × Reactor). Some q.1) one.2))
+
+-- and behind those of the files before
+pub at_file : (files : List SourceFile) (n : ℕ) (file : SourceFile) (j : ℕ) (r : Reactor) → slice_get files n ≡ Some file → slice_get file.tree.reactors.items j ≡ Some r → slice_get (reactors_in files) (length (reactors_before files n) + j) ≡ Some (n, r)
+at_file files n file j r at is =
+    let pair : Reactor → ℕ × Reactor = λ s. (n, s) in
+    flat_at reactors_of (enumerate_from 0 files) n (n, file) j (n, r) (enumerate_at 0 files n file at ∙ ap (λ k. Some (k, file)) (omega arith)) (mapped pair file.tree.reactors.items j r is)
+
+-- how many reactors there are with the first ones of a file
+pub counted : (n : ℕ) (items : List Reactor) (old classes : List Class) (j : ℕ) → placed classes ≡ placed old ++ map (λ s. (n, s)) (take j items) → j < length items → length classes ≡ length old + j
+counted n items old classes j now within =
+    let pair : Reactor → ℕ × Reactor = λ s. (n, s) in
+    let part = take j items in
+    let locate : Class → ℕ × Reactor = λ c. (c.file, c.reactor.now) in
+    let one = length-map classes locate in
+    let two = ap length now in
+    let three = length-append (placed old) (map pair part) in
+    let four = length-map part pair in
+    let five = length-map old locate in
+    let six : length part ≡ j = grind (arith, common_steps) in
+    omega (arith, one, two, three, four, five, six)
+
+-- the number of the one that comes next
+pub next_stands : (files : List SourceFile) (n : ℕ) (file : SourceFile) (old classes : List Class) (j number : ℕ) (r : Reactor) → slice_get files n ≡ Some file → placed old ≡ reactors_before files n → placed classes ≡ placed old ++ map (λ s. (n, s)) (take j file.tree.reactors.items) → j < length file.tree.reactors.items → slice_get file.tree.reactors.items j ≡ Some r → number ≡ length classes → slice_get (reactors_in files) number ≡ Some (n, r)
+next_stands files n file old classes j number r at before now within is e =
+    let locate : Class → ℕ × Reactor = λ c. (c.file, c.reactor.now) in
+    let one = counted n file.tree.reactors.items old classes j now within in
+    let two = length-map old locate in
+    let three = ap length before in
+    let there : number ≡ length (reactors_before files n) + j = omega (arith, e, one, two, three) in
+    ap (slice_get (reactors_in files)) there ∙ at_file files n file j r at is
+
+-- one file more
+pub before_more : (files : List SourceFile) (n : ℕ) (file : SourceFile) → slice_get files n ≡ Some file → reactors_before files (n + 1) ≡ reactors_before files n ++ reactors_of (n, file)
+before_more files n file at =
+    let all = enumerate_from 0 files in
+    let there : slice_get all n ≡ Some (n, file) = enumerate_at 0 files n file at ∙ ap (λ k. Some (k, file)) (omega arith) in
+    let more : take (n + 1) all ≡ take n all ++ (n, file) ∷ [] = take_one_more all n (n, file) (slice_get_within all n (n, file) there) (get_or_from_slice_get all n (n, file) (n, file) there) in
+    ap (flat_map reactors_of) more ∙ flat_map-append reactors_of (take n all) ((n, file) ∷ []) ∙ ap (λ l. reactors_before files n ++ l) (append-nil (reactors_of (n, file)))
+
+-- what stands in all parts stands in one of them, behind those before it
+flat_from : {X Y : Type 0} (f : X → List Y) (xs : List X) (k : ℕ) (y : Y) → slice_get (flat_map f xs) k ≡ Some y → (i : ℕ) × ((x : X) × (slice_get xs i ≡ Some x) × ((j : ℕ) × (slice_get (f x) j ≡ Some y) × (k ≡ length (flat_map f (take i xs)) + j)))
+flat_from f [] k y at = absurd (cc)
+flat_from f (x ∷ xs) k y at = elim (get_append_cases (f x) (flat_map f xs) k y at) [
+  | inl here ↦ (0, (x, refl, (k, here, omega arith)))
+  | inr on ↦ (
+      let rest = flat_from f xs on.0 y on.2 in
+      let long = length-append (f x) (flat_map f (take rest.0 xs)) in
+      let one = on.1 in
+      let two = rest.1.2.2 in
+      let e : k ≡ length (f x ++ flat_map f (take rest.0 xs)) + rest.1.2.0 = omega (arith, long, one, two) in
+      (suc rest.0, (rest.1.0, rest.1.1, (rest.1.2.0, rest.1.2.1, e)))
+      )
+]
+
+-- a reactor of this file is one of those that stand there, and has its number behind those of the files before
+pub own_item : (files : List SourceFile) (n : ℕ) (file : SourceFile) (c : Class) → slice_get files n ≡ Some file → IsOf files c → c.file ≡ n → (j : ℕ) × (slice_get file.tree.reactors.items j ≡ Some c.reactor.now) × (c.number ≡ length (reactors_before files n) + j)
+own_item files n file c at is e =
+    let all = enumerate_from 0 files in
+    let from = flat_from reactors_of all c.number (c.file, c.reactor.now) is in
+    let x = from.1.0 in
+    let numbered = enumerated 0 files from.0 x from.1.1 in
+    let pair : Reactor → ℕ × Reactor = λ s. (x.0, s) in
+    let one = mapped_from pair x.1.tree.reactors.items from.1.2.0 (c.file, c.reactor.now) from.1.2.1 in
+    let there : from.0 ≡ n = (let i = numbered.0 in let d : x.0 ≡ c.file = ap (λ (q : ℕ × Reactor). q.0) one.2 in omega (arith, i, d, e)) in
+    let same : x.1 ≡ file = same_at files from.0 n x.1 file numbered.1 at there in
+    let item : slice_get x.1.tree.reactors.items from.1.2.0 ≡ Some c.reactor.now = one.1 ∙ ap (λ (q : ℕ × Reactor). Some q.1) one.2 in
+    (from.1.2.0, subst (λ f. slice_get f.tree.reactors.items from.1.2.0 ≡ Some c.reactor.now) same item, subst (λ i. c.number ≡ length (flat_map reactors_of (take i all)) + from.1.2.0) there from.1.2.2)
+
+-- before the end stand all
+pub before_all : (files : List SourceFile) (n : ℕ) → length files ≤ n → reactors_before files n ≡ reactors_in files
+before_all files n long = ap (flat_map reactors_of) (whole (length-enumerate_from 0 files))
+  where
+    whole : length (enumerate_from 0 files) ≡ length files → take n (enumerate_from 0 files) ≡ enumerate_from 0 files
+    whole same = grind (arith, common_steps, long, same)

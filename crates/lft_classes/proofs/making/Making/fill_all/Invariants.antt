@@ -1,0 +1,11 @@
+use Rattle.std.proofs.Common.{◌≡◌, ◌<◌, ℕ, Some, slice_get}
+use Rattle.lft_classes.specs.Built.{Core, IsNoted, cores}
+use Rattle.lft_classes.specs.Makings.{GoesOn}
+use Rattle.lft_classes.specs.Shapes.{tables}
+use Rattle.lft_classes.proofs.making.Making.fill_all.Given as goal
+
+abbrev pub invariant-loop-shape : goal.invariant-loop-shape
+invariant-loop-shape l = record {
+  goes : GoesOn (λ first. Unit {0}) l.initial.self l.self;
+  noted : (s : ℕ) (c : Core) → s < l.shape → slice_get (cores l.self.shapes.items) s ≡ Some c → IsNoted l.initial.self.scopes (tables l.self.shapes.items) s c;
+}

@@ -1,0 +1,5 @@
+use Rattle.lft_classes.specs.Makings.{KnowsNone}
+use Rattle.lft_classes.proofs.making.nothing.Given as goal
+
+abbrev pub invariant-loop : goal.invariant-loop
+invariant-loop l = KnowsNone l.list.items

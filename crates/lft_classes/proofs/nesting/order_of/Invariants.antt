@@ -1,0 +1,10 @@
+use Rattle.std.proofs.Common.{◌≡◌}
+use Rattle.lft_classes.specs.Shapes.{inside, tables}
+use Rattle.lft_classes.specs.Walks.{IsWalk}
+use Rattle.lft_classes.proofs.nesting.order_of.Given as goal
+
+abbrev pub invariant-visits : goal.invariant-visits
+invariant-visits l = record { walk : IsWalk (inside (tables l.shapes)) 0 l.walk; main : l.work.main ≡ l.initial.work.main }
+
+abbrev pub decreases-visits : goal.decreases-visits
+decreases-visits l = l.work.left

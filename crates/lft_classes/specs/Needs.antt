@@ -1,0 +1,154 @@
+-- Which parameters reactors need: for their widths, and for their times.
+use Rattle.std.specs.Prelude.{◌≡◌, ◌↔◌, ◌⊎◌, ℕ, Bool, true, Contains, List, [], ◌∷◌, Option, Some, String, length, slice_get, string_bytes}
+use Rattle.std.specs.Global.{Global}
+use Rattle.lft_whole.specs.declared.tree.Assignment.{Assignment}
+use Rattle.lft_whole.specs.declared.tree.Expression.{Expression}
+use Rattle.lft_whole.specs.declared.tree.Instance.{Instance}
+use Rattle.lft_whole.specs.declared.tree.Member.{Member}
+use Rattle.lft_whole.specs.declared.tree.Member.TheVariants as member
+use Rattle.lft_whole.specs.declared.tree.Value.TheVariants as value
+use Rattle.lft_whole.specs.declared.tree.Width.{Width}
+use Rattle.lft_classes.specs.declared.scopes.Scopes.{Scopes}
+use Rattle.lft_classes.specs.declared.shapes.Child.{Child}
+use Rattle.lft_classes.specs.declared.shapes.Inherited.{Inherited}
+use Rattle.lft_classes.specs.declared.shapes.Shape.{Shape}
+use Rattle.lft_classes.specs.declared.shapes.Thing.TheVariants as thing
+use Rattle.lft_classes.specs.Built.{AreNoted, cores, members_at}
+use Rattle.lft_classes.specs.Chains.{base_of, extended}
+use Rattle.lft_classes.specs.Circles.{NamesAt}
+use Rattle.lft_classes.specs.Makings.{AreShapes}
+use Rattle.lft_classes.specs.Shapes.{child_at, inside, tables, thing_named, width_of}
+use Rattle.lft_classes.specs.Walks.{Reaches}
+
+-- what a parameter is needed for
+pub data Need : Type 0 where
+  Widths : Need
+  Times : Need
+
+-- the reactor has the member of the file, its own one or one of a reactor that it extends
+pub record HasMember (scopes : Scopes) (r : ℕ) (m : ℕ × Member) : Type 0 where
+  pub class : ℕ
+  pub reached : Reaches (base_of scopes) r class
+  pub which : ℕ
+  pub is_there : slice_get (members_at scopes class) which ≡ Some m
+
+-- a term of the width is this name
+abbrev pub Names : Width → List ℕ → Type 0
+Names width q = (token : ℕ) × NamesAt width q token
+
+-- the expression is this name
+pub record IsWord (expression : Expression) (q : List ℕ) : Type 0 where
+  pub word : String Global
+  pub is_word : expression.value ≡ value.Word word
+  pub is_name : string_bytes word ≡ q
+
+-- what stands in a member where a time does
+abbrev pub times_of : Member → List (Option Expression)
+times_of (member.Timer timer) = timer.offset ∷ timer.period ∷ []
+times_of (member.Action action) = action.min_delay ∷ []
+times_of (member.Connection connection) = connection.delay ∷ []
+times_of _ = []
+
+-- a term of the member's width is this name, or one of its times is
+abbrev pub NamedFor : Need → Member → List ℕ → Type 0
+NamedFor Widths m q = (width : Width) × (width_of m ≡ Some width) × Names width q
+NamedFor Times m q = (time : Expression) × Contains (times_of m) (Some time) × IsWord time q
+
+-- the instance gives to the first name the second one
+pub record Gives (instance : Instance) (p q : List ℕ) : Type 0 where
+  pub which : ℕ
+  pub assignment : Assignment
+  pub is_given : slice_get instance.given.items which ≡ Some assignment
+  pub has_name : string_bytes assignment.name.text ≡ p
+  pub is_word : IsWord assignment.value q
+
+-- The reactor needs the parameter of this name: a member names it, or an instance gives it to one that the instance's reactor needs.
+pub data NeedsName (scopes : Scopes) (need : Need) : ℕ → List ℕ → Type 0 where
+  by_member : {r : ℕ} {q : List ℕ} (m : ℕ × Member) → HasMember scopes r m → NamedFor need m.1 q → NeedsName scopes need r q
+  by_instance : {r inner : ℕ} {p q : List ℕ} (file : ℕ) (instance : Instance) → HasMember scopes r (file, member.Instance instance) → extended scopes file instance.reactor ≡ Some inner → Gives instance p q → NeedsName scopes need inner p → NeedsName scopes need r q
+
+-- the name is that of the parameter of this number
+abbrev pub IsParameter : Shape → List ℕ → ℕ → Type 0
+IsParameter shape q n = thing_named shape q ≡ Some (thing.Parameter n)
+
+-- the shape's reactor needs the parameter of this number
+abbrev pub NeedsNumber : Scopes → Need → Shape → ℕ → Type 0
+NeedsNumber scopes need shape n = (q : List ℕ) × IsParameter shape q n × NeedsName scopes need shape.class.number q
+
+-- for each parameter whether it is marked as needed
+abbrev pub marks : Need → Shape → List Bool
+marks Widths shape = shape.sized.items
+marks Times shape = shape.timed.items
+
+-- the parameter of this number is
+abbrev pub IsMarked : Need → Shape → ℕ → Type 0
+IsMarked need shape n = slice_get (marks need shape) n ≡ Some true
+
+-- in the shape of this number those parameters are marked that its reactor needs, and no others
+abbrev pub IsDecided : Scopes → List Shape → ℕ → Type 0
+IsDecided scopes shapes s = (shape : Shape) → slice_get shapes s ≡ Some shape → (need : Need) (n : ℕ) → IsMarked need shape n ↔ NeedsNumber scopes need shape n
+
+-- ---- for the crate's own contracts
+
+-- such numbers are marked more, and no others
+pub record Marks (P : ℕ → Type 0) (old new : List Bool) : Type 0 where
+  pub count : length new ≡ length old
+  pub each : (n : ℕ) → slice_get new n ≡ Some true → (slice_get old n ≡ Some true) ⊎ P n
+  pub kept : (n : ℕ) → slice_get old n ≡ Some true → slice_get new n ≡ Some true
+  pub all : (n : ℕ) (was : Bool) → slice_get old n ≡ Some was → P n → slice_get new n ≡ Some true
+
+-- a width names the parameter of this number
+abbrev pub NamesParameter : Shape → Option Width → ℕ → Type 0
+NamesParameter shape width n = (w : Width) × (width ≡ Some w) × ((q : List ℕ) × Names w q × IsParameter shape q n)
+
+-- an expression is the parameter of this number
+abbrev pub IsParameterIn : Shape → Expression → ℕ → Type 0
+IsParameterIn shape expression n = (q : List ℕ) × IsWord expression q × IsParameter shape q n
+
+-- a time is the parameter of this number
+abbrev pub IsTimeIn : Shape → Option Expression → ℕ → Type 0
+IsTimeIn shape time n = (e : Expression) × (time ≡ Some e) × IsParameterIn shape e n
+
+-- the parameter of this number is given to one of the inner shape that is marked
+abbrev pub IsPassed : Need → Shape → Shape → Assignment → ℕ → Type 0
+IsPassed need shape inner assignment n = (p : ℕ) × IsParameter inner (string_bytes assignment.name.text) p × IsMarked need inner p × IsParameterIn shape assignment.value n
+
+-- so it is by one of these
+abbrev pub IsPassedIn : Need → Shape → Shape → List Assignment → ℕ → Type 0
+IsPassedIn need shape inner given n = (which : ℕ) × ((assignment : Assignment) × (slice_get given which ≡ Some assignment) × IsPassed need shape inner assignment n)
+
+-- the member of the one number is an instance, and gives the parameter of the other to one that is marked in it
+pub record PassesOn (need : Need) (shapes : List Shape) (shape : Shape) (k : ℕ) (m : Member) (n : ℕ) : Type 0 where
+  pub instance : Instance
+  pub is_instance : m ≡ member.Instance instance
+  pub child : Child
+  pub is_child : child_at shape.children.items k ≡ Some child
+  pub inner : Shape
+  pub is_inner : slice_get shapes child.shape ≡ Some inner
+  pub is_passed : IsPassedIn need shape inner instance.given.items n
+
+-- the member of the one number names the parameter of the other
+abbrev pub NamesNumber : Need → Shape → Member → ℕ → Type 0
+NamesNumber need shape m n = (q : List ℕ) × IsParameter shape q n × NamedFor need m q
+
+-- so it does, or passes it on
+abbrev pub HasNeed : Need → List Shape → Shape → ℕ → Member → ℕ → Type 0
+HasNeed need shapes shape k m n = NamesNumber need shape m n ⊎ PassesOn need shapes shape k m n
+
+-- those parameters of the shape are marked that one of its members needs, and no others
+pub record AreMarks (need : Need) (shapes : List Shape) (shape : Shape) (list : List Bool) : Type 0 where
+  pub count : length list ≡ length shape.parameters.items
+  pub each : (n : ℕ) → slice_get list n ≡ Some true → (k : ℕ) × ((m : Inherited) × (slice_get shape.members.items k ≡ Some m) × HasNeed need shapes shape k m.member.now n)
+  pub all : (n k : ℕ) (m : Inherited) (was : Bool) → slice_get list n ≡ Some was → slice_get shape.members.items k ≡ Some m → HasNeed need shapes shape k m.member.now n → slice_get list n ≡ Some true
+
+-- the shapes are of reactors below the first one, and those inside the one of this number are decided
+pub record IsReady (scopes : Scopes) (first : ℕ) (shapes : List Shape) (s : ℕ) : Type 0 where
+  pub are_shapes : AreShapes scopes first (cores shapes) (tables shapes)
+  pub all_noted : AreNoted scopes (cores shapes) (tables shapes)
+  pub inner : (k t : ℕ) → inside (tables shapes) s k ≡ Some t → IsDecided scopes shapes t
+
+-- so it is of this shape of that number, which has the member
+pub record IsReadyAt (scopes : Scopes) (first : ℕ) (shapes : List Shape) (s : ℕ) (shape : Shape) (k : ℕ) (m : Inherited) : Type 0 where
+  pub ready : IsReady scopes first shapes s
+  pub is_shape : slice_get shapes s ≡ Some shape
+  pub is_member : slice_get shape.members.items k ≡ Some m

@@ -1,0 +1,93 @@
+//! A reactor behind all that it extends.
+
+ghost use Rattle.std.specs.Prelude.{◌≡◌, ◌≤◌, ◌<◌, ℕ, Some, None, IfOk, OnOk, MatchOption, IsTrue, true, false};
+ghost use Rattle.lft_classes.specs.Chains.{IsChain, base_of, bases_from};
+ghost use Rattle.lft_classes.specs.Walks.{IsOrdered, IsOver, IsWalk};
+
+use crate::scopes::Scopes;
+use crate::walk::Walk;
+use crate::work::Work;
+use lft_whole::sources::{Stop, Why};
+use std::alloc::Global;
+
+/// A base of a reactor, by number, and where its name stands.
+#[derive(Clone, Copy)]
+struct Base {
+    class: usize,
+    file: usize,
+    at: usize,
+}
+
+/// The base of this number of a reactor.
+fn base_at(
+    scopes: &Scopes,
+    work: &mut Work,
+    class: usize,
+    number: usize,
+) -> Result<Option<Base>, Stop>
+    ensures base { IfOk result (λ o. MatchOption o ((k : ℕ) → number ≤ k → base_of scopes.now class k ≡ None) (λ base. base_of scopes.now class number ≡ Some base.class)) }
+    ensures main { OnOk result (work.new.main ≡ work.old.main) }
+    ensures work { work.new.left ≤ work.old.left }
+{
+    let Some(here) = scopes.class(class) else {
+        return Ok(None);
+    };
+    let Some(base) = here.reactor.bases.get(number) else {
+        return Ok(None);
+    };
+    work.spend(base.text.len() as u64)?;
+    match scopes.get(here.file, base.text.as_str()) {
+        Some(found) => Ok(Some(Base {
+            class: found.number,
+            file: here.file,
+            at: base.at,
+        })),
+        None => Err(Stop::at(Why::NoReactor, here.file, base.at)),
+    }
+}
+
+/// Goes on with the bases of the reactor that is gone over; whether there was one.
+fn step(scopes: &Scopes, work: &mut Work, walk: &mut Walk) -> Result<bool, Stop>
+    ensures walk { OnOk result ((first : ℕ) → IsWalk (base_of scopes.now) first walk.old → IsWalk (base_of scopes.now) first walk.new) }
+    ensures order { OnOk result ((first : ℕ) → IsWalk (base_of scopes.now) first walk.old → IsOrdered (bases_from scopes.now) first walk.old → IsOrdered (bases_from scopes.now) first walk.new) }
+    ensures over { IfOk result (λ more. more ≡ false → IsOver walk.new) }
+    ensures main { OnOk result (work.new.main ≡ work.old.main) }
+    ensures work { IfOk result (λ more. IsTrue more → work.new.left < work.old.left) }
+{
+    let Some(visit) = walk.top() else {
+        return Ok(false);
+    };
+    work.spend(1)?;
+    let Some(base) = base_at(scopes, work, visit.node, visit.next)? else {
+        walk.end()?;
+        return Ok(true);
+    };
+    if walk.is_done(base.class) {
+        walk.pass(visit.next.saturating_add(1))?;
+        return Ok(true);
+    }
+    if walk.enter(base.class)? {
+        return Ok(true);
+    }
+    Err(Stop::at(Why::ExtendsItself, base.file, base.at))
+}
+
+/// The reactor behind all that it extends at any depth, each once, a base of a base before it, and a first base
+/// before a second.
+pub(crate) fn chain(
+    alloc: Global,
+    scopes: &Scopes,
+    work: &mut Work,
+    class: usize,
+) -> Result<Vec<usize>, Stop>
+    ensures list { IfOk result (λ v. IsChain scopes.now class v.items) }
+    ensures main { OnOk result (work.new.main ≡ work.old.main) }
+{
+    let mut walk = Walk::of(alloc, class)?;
+    'visits: loop {
+        if !step(scopes, work, &mut walk)? {
+            break;
+        }
+    }
+    Ok(walk.into_listed())
+}

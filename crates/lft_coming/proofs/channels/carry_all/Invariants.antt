@@ -1,6 +1,0 @@
-use Rattle.std.proofs.Common.{◌≡◌}
-use Rattle.lft_coming.specs.Channels.{AreCarriedClear}
-use Rattle.lft_coming.proofs.channels.carry_all.Given as goal
-
-abbrev pub invariant-loop-place : goal.invariant-loop-place
-invariant-loop-place l = record { next : l.coming.next ≡ l.fn.coming.next; carried : AreCarriedClear l.program l.rows l.fn.tag l.last l.place l.fn.coming l.coming l.writes }

@@ -1,9 +1,0 @@
-use Rattle.std.proofs.Common.{◌⊎◌}
-use Rattle.lft_lists.proofs.Members.{Mem}
-use Rattle.lft_flat.specs.declared.parts.Name.{Name}
-use Rattle.lft_coming.specs.Listeners.{IsUnheard}
-use Rattle.lft_coming.proofs.coming.Coming.are_unheard.Given as goal
-
--- each name triggers nothing, or is still to come
-abbrev pub invariant-loop-name : goal.invariant-loop-name
-invariant-loop-name l = (n : Name) → Mem n l.initial.name-iterator → IsUnheard l.listeners n ⊎ Mem n l.name-iterator

@@ -1,5 +1,0 @@
-mod Taking
-mod Listed
-mod Tests
-mod Once
-mod Together

@@ -1,9 +1,0 @@
-use Rattle.std.proofs.Common.{◌*◌, take, flat_map}
-use Rattle.std.specs.List.{enumerate_from}
-use Rattle.lft_counts.specs.Overlaps.{met_by}
-use Rattle.lft_cover.specs.Facts.{has, pair_words}
-use Rattle.lft_cover.specs.Taking.{TookMore}
-use Rattle.lft_cover.proofs.listing.put_met.Given as goal
-
-abbrev pub invariant-loop-word : goal.invariant-loop-word
-invariant-loop-word g l = TookMore (g.W.Write.contents l.fn.out) l.fn.whole (g.W.Write.contents l.out) l.whole (flat_map (λ d. pair_words l.program (has (met_by l.overlaps l.then) d.0) d.0 l.then) (take (l.word * 64) (enumerate_from 0 l.program.reactions)))

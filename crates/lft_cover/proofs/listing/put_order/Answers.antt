@@ -1,5 +1,0 @@
-use Rattle.lft_cover.proofs.Taking.{took_both}
-use Rattle.lft_cover.proofs.listing.put_order.Goals as goal
-
-pub returns : goal.returns
-returns g c = took_both (took_both (took_both (took_both (took_both (took_both (took_both (took_both c.put-whole.ensures c.put_reaction-whole.ensures) c.put-whole-2.ensures) c.put_reaction-whole-2.ensures) c.put-whole-3.ensures) c.put_number-whole.ensures) c.put-whole-4.ensures) c.put_number-whole-2.ensures) c.put.ensures

@@ -1,8 +1,0 @@
-use Rattle.std.proofs.Common.{take, flat_map}
-use Rattle.std.specs.List.{enumerate_from}
-use Rattle.lft_cover.specs.Facts.{run_line}
-use Rattle.lft_cover.specs.Taking.{TookMore}
-use Rattle.lft_cover.proofs.listing.put_runs.Given as goal
-
-abbrev pub invariant-loop-number : goal.invariant-loop-number
-invariant-loop-number g l = TookMore (g.W.Write.contents l.fn.out) l.fn.whole (g.W.Write.contents l.out) l.whole (flat_map (run_line l.program) (take l.number (enumerate_from 0 l.counts)))

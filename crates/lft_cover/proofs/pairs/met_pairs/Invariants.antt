@@ -1,7 +1,0 @@
-use Rattle.std.proofs.Common.{length}
-use Rattle.lft_cover.specs.Pairs.{IsCountedWith}
-use Rattle.lft_cover.proofs.Once.{Rows}
-use Rattle.lft_cover.proofs.pairs.met_pairs.Given as goal
-
-abbrev pub invariant-loop-reaction : goal.invariant-loop-reaction
-invariant-loop-reaction l = Rows (IsCountedWith l.overlaps) (length l.program.reactions) l.reaction l.many

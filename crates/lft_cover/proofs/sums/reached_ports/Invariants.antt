@@ -1,6 +1,0 @@
-use Rattle.lft_counts.specs.Counts.{Count}
-use Rattle.lft_cover.specs.Sums.{IsReached}
-use Rattle.lft_cover.proofs.sums.reached_ports.Given as goal
-
-abbrev pub invariant-loop-number : goal.invariant-loop-number
-invariant-loop-number l = Count (IsReached l.program l.writes) l.number l.many

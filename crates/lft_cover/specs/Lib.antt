@@ -1,4 +1,0 @@
-pub mod Facts
-pub mod Pairs
-pub mod Sums
-pub mod Taking

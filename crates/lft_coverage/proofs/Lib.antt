@@ -1,0 +1,6 @@
+mod Taking
+mod Listed
+mod Tests
+mod Once
+mod Together
+pub mod DriverLemmas

@@ -1,0 +1,89 @@
+-- A verdict on a trace table with what an accepted one exercised, and what was written of both.
+use Rattle.std.specs.Prelude.{◌≡◌, ◌++◌, ℕ, Bool, true, false, List, [], Option, length}
+use Rattle.std.specs.Io.KnownBytes.{Appends}
+use Rattle.lft_ir.specs.declared.steps.row.Row.{Row}
+use Rattle.lft_trace.specs.declared.fault.TraceFault.{TraceFault}
+use Rattle.lft_trace.specs.Faults.{is_told}
+use Rattle.lft_trace.specs.Records.{records_of}
+use Rattle.lft_trace.specs.Traces.{Table, TraceFails}
+use Rattle.lft_model.specs.Breaches.{First}
+use Rattle.lft_model.specs.Plans.{PlanParts}
+use Rattle.lft_rows.specs.Accepted.{IsAccepted}
+use Rattle.lft_check.specs.declared.verdict.Verdict.{Verdict}
+use Rattle.lft_check.specs.declared.verdict.Verdict.TheVariants as verdict
+use Rattle.lft_check.specs.Verdicts.{IsVerdict}
+use Rattle.lft_counts.specs.Cover.{CoversRows}
+use Rattle.lft_counts.specs.declared.cover.Cover.{Cover}
+use Rattle.lft_coverage.specs.Facts.{fact_lines}
+use Rattle.lft_coverage.specs.Sums.{TellsSums}
+use Rattle.lft_load.specs.Faults.{table_number}
+use Rattle.lft_load.specs.Meaning.{IsOnly, IsPlanOf}
+use Rattle.lft_load.specs.Refusals.{LoadRefusal}
+use Rattle.lft_load.specs.Written.{AppendsFront}
+use Rattle.lft_load.specs.declared.fault.Fault.{Fault}
+use Rattle.lft_load.specs.declared.fault.Part.TheVariants as part
+use Rattle.lft_driver.specs.Judged.{AcceptedRuns}
+use Rattle.lft_driver.specs.Lines.{HasReaction, line_of}
+use Rattle.lft_driver.specs.Meaning.{HasTable}
+use Rattle.lft_driver.specs.Refusals.{CheckRefusal}
+use Rattle.lft_coverage.specs.declared.driver.covered.Covered.{Covered}
+use Rattle.lft_coverage.specs.declared.driver.covered.Covered.TheVariants.{Accepted, Broken}
+
+-- the verdict alone
+abbrev pub verdict_in : Covered → Verdict
+verdict_in (Accepted runs tags cover) = verdict.Accepted runs tags
+verdict_in (Broken b) = verdict.Broken b
+
+-- the verdict is right for the rows, and the counts of an accepted trace are those of all its rows
+abbrev pub IsCovered : PlanParts → List Row → Covered → Type 0
+IsCovered plan rows (Accepted runs tags cover) = IsAccepted plan rows runs tags × CoversRows plan.program rows (length rows) cover
+IsCovered plan rows (Broken b) = First plan rows b × HasReaction plan.program b.reaction
+
+-- the same of the rows of a trace table
+abbrev pub IsCoveredTable : PlanParts → List ℕ → Covered → Type 0
+IsCoveredTable plan trace covered = (rows : List Row) × HasTable plan.program trace rows × IsCovered plan rows covered
+
+-- what stands behind the line of an accepted trace: with `--list` the facts of the counts of all rows, else a text that begins with their sums
+abbrev pub IsTold : Bool → PlanParts → List Row → List ℕ → Type 0
+IsTold true plan rows text = (cover : Cover) × CoversRows plan.program rows (length rows) cover × (text ≡ fact_lines plan.program cover)
+IsTold false plan rows text = (cover : Cover) × CoversRows plan.program rows (length rows) cover × TellsSums plan.program cover text
+
+-- what stands behind the line of a verdict: nothing behind a broken rule
+abbrev pub IsBehind : Bool → PlanParts → List Row → Verdict → List ℕ → Type 0
+IsBehind list plan rows (verdict.Accepted runs tags) text = IsTold list plan rows text
+IsBehind list plan rows (verdict.Broken b) text = text ≡ []
+
+-- the line of a verdict, and behind it what is right for all rows that it is of
+abbrev pub IsCoverText : Bool → PlanParts → Covered → List ℕ → Type 0
+IsCoverText list plan covered text = (rows : List Row) → IsCovered plan rows covered → (behind : List ℕ) × (text ≡ line_of plan.program (verdict_in covered) ++ behind) × IsBehind list plan rows (verdict_in covered) behind
+
+-- the verdict on the rows of the trace table; its line was written, and behind it what an accepted trace exercised
+pub record IsJudgedCoverUnder (list : Bool) (plan : PlanParts) (trace : List ℕ) (old new : Option (List ℕ)) (v : Verdict) : Type 0 where
+  pub rows : List Row
+  pub has_table : HasTable plan.program trace rows
+  pub right : IsVerdict plan rows v
+  pub one_worker : AcceptedRuns plan rows v
+  pub behind : List ℕ
+  pub told : IsBehind list plan rows v behind
+  pub written : Appends old new (line_of plan.program v ++ behind)
+
+-- the same under the one plan of the first two texts
+pub record IsJudgedCover (list : Bool) (program externals trace : List ℕ) (old new : Option (List ℕ)) (v : Verdict) : Type 0 where
+  pub plan : PlanParts
+  pub is_plan : IsOnly (IsPlanOf program externals) plan
+  pub judged : IsJudgedCoverUnder list plan trace old new v
+
+-- the trace is no table of the plan's program
+abbrev pub IsUnread : PlanParts → List ℕ → Fault → Type 0
+IsUnread plan trace f = (e : TraceFault) × (f.part ≡ part.Trace) × (f.number ≡ table_number e) × (is_told e ≡ true → TraceFails plan.program (records_of trace) e × ((rows : List Row) → Table plan.program (records_of trace) rows → ⊥))
+
+-- a text gets no verdict under a plan: it is no trace table, there is none by so many workers, or the writer failed and took a front of what is right
+pub data CoverRefusalUnder (list : Bool) (plan : PlanParts) (trace : List ℕ) (workers : ℕ) (old new : Option (List ℕ)) (f : Fault) : Type 0 where
+  by_trace : IsUnread plan trace f → CoverRefusalUnder list plan trace workers old new f
+  by_check : CheckRefusal workers f → CoverRefusalUnder list plan trace workers old new f
+  by_writer : (rows : List Row) (v : Verdict) (behind : List ℕ) → f.part ≡ part.Write → f.number ≡ 1 → HasTable plan.program trace rows → IsVerdict plan rows v → IsBehind list plan rows v behind → AppendsFront old new (line_of plan.program v ++ behind) → CoverRefusalUnder list plan trace workers old new f
+
+-- the three texts get no verdict: the first two have no plan, or the third gets none under it
+pub data CoverRefusal (list : Bool) (program externals trace : List ℕ) (workers : ℕ) (old new : Option (List ℕ)) (f : Fault) : Type 0 where
+  by_load : LoadRefusal program externals f → CoverRefusal list program externals trace workers old new f
+  by_plan : (plan : PlanParts) → IsOnly (IsPlanOf program externals) plan → CoverRefusalUnder list plan trace workers old new f → CoverRefusal list program externals trace workers old new f

@@ -1,0 +1,79 @@
+-- The verdict's reaction, and faults that tell nothing of the texts.
+use Rattle.std.proofs.Common.{◌≡◌, ℕ, ◌<◌, inl, inr, List, length, Option, Some, None, true, sym, subst}
+use Rattle.lft_ir.specs.declared.steps.row.Row.{Row}
+use Rattle.lft_ir.specs.Steps.Fits.{RowsFit}
+use Rattle.lft_trace.specs.Records.{records_of}
+use Rattle.lft_trace.specs.Traces.{Table}
+use Rattle.lft_model.specs.declared.breach.Breach.{Breach}
+use Rattle.lft_model.specs.Plans.{PlanParts}
+use Rattle.lft_model.specs.Presence.{Triggered}
+use Rattle.lft_model.specs.Runs.{Ran}
+use Rattle.lft_model.specs.Breaches.{First, RowBreach, BreaksAt, BreaksTag}
+use Rattle.lft_model.proofs.Places.{slice_get_within}
+use Rattle.lft_check.specs.declared.verdict.Verdict.{Verdict}
+use Rattle.lft_check.specs.declared.verdict.Verdict.TheVariants.{Accepted, Broken}
+use Rattle.lft_check.specs.Verdicts.{IsVerdict}
+use Rattle.lft_model.specs.OneWorker.{LegalRunsAreOneWorker, LegalRunsKeepPrecedence}
+use Rattle.lft_driver.specs.Judged.{AcceptedRuns}
+use Rattle.lft_driver.specs.Lines.{HasReaction}
+use Rattle.lft_load.specs.Meaning.{IsPlanOf, IsOnly}
+use Rattle.lft_load.proofs.Loading.{memory_untold}
+use Rattle.lft_driver.specs.Meaning.{Mean}
+use Rattle.lft_load.specs.Refusals.{is_of_text}
+use Rattle.lft_driver.specs.Refusals.{CheckRefusal, IsRefusedGrowth}
+use Rattle.lft_driver.specs.Refusals.CheckRefusal.{by_workers, by_growth}
+use Rattle.lft_load.specs.declared.fault.Fault.{Fault}
+use Rattle.lft_load.specs.declared.fault.Part.{Part}
+use Rattle.lft_load.specs.declared.fault.Part.TheVariants as part
+
+-- the reaction of a breach is one of the program
+module _ (plan : PlanParts) (rows : List Row) (fit : RowsFit plan.program rows) where
+  of_run : (r : ℕ) (g : _) → Ran rows g r → r < length plan.program.reactions
+  of_run r g ran = (fit.each ran.place _ ran.starts).reaction
+
+  of_triggered : (r : ℕ) (g : _) → Triggered plan rows g r → r < length plan.program.reactions
+  of_triggered r g t = slice_get_within plan.program.reactions r t.reaction t.is_reaction
+
+  of_tag : (g : _) (r k : ℕ) → BreaksTag plan rows g r k → r < length plan.program.reactions
+  of_tag g r k (inl x) = of_triggered r g x.1
+  of_tag g r k (inr (inl x)) = of_run r g x.1
+  of_tag g r k (inr (inr (inl x))) = of_run r g x.1
+  of_tag g r k (inr (inr (inr x))) = of_run r g x.1
+
+  of_breach : (o : Option ℕ) (g : _) (k : ℕ) → BreaksAt plan rows g o k → HasReaction plan.program o
+  of_breach None g k x = tt
+  of_breach (Some r) g k x = of_tag g r k x
+
+  of_row : (b : Breach) → RowBreach plan rows b → HasReaction plan.program b.reaction
+  of_row b x = subst (λ o. HasReaction plan.program o) (sym x.reaction_is) (fit.each x.place x.row x.is_row).reaction
+
+  of_first : (b : Breach) → First plan rows b → HasReaction plan.program b.reaction
+  of_first b (inl x) = of_row b x.0
+  of_first b (inr x) = of_breach b.reaction b.tag b.rule x.1.breaks
+
+  pub has_reaction : (v : Verdict) → IsVerdict plan rows v → (b : Breach) → v ≡ Broken b → HasReaction plan.program b.reaction
+  has_reaction v is b e = of_first b (subst (λ x. IsVerdict plan rows x) e is)
+
+-- what is accepted is an execution by one worker
+pub accepted_runs : (plan : PlanParts) (rows : List Row) → LegalRunsAreOneWorker plan → LegalRunsKeepPrecedence plan → (v : Verdict) → IsVerdict plan rows v → AcceptedRuns plan rows v
+accepted_runs plan rows runs order (Accepted n m) x = (runs rows x.legal, order rows x.legal)
+accepted_runs plan rows runs order (Broken b) x = tt
+
+pub check_untold : (p : Part) (n : ℕ) → p ≡ part.Check → is_of_text p n ≡ true → ⊥
+check_untold p n e t = let f : is_of_text part.Check n ≡ true = subst (λ k. is_of_text k n ≡ true) e t in cc f
+
+pub write_untold : (p : Part) (n : ℕ) → p ≡ part.Write → is_of_text p n ≡ true → ⊥
+write_untold p n e t = let f : is_of_text part.Write n ≡ true = subst (λ k. is_of_text k n ≡ true) e t in cc f
+
+-- where rows get no verdict, the fault tells nothing of the texts
+pub growth_untold : (f : Fault) → IsRefusedGrowth f → is_of_text f.part f.number ≡ true → ⊥
+growth_untold f (inl x) t = check_untold f.part f.number x.0 t
+growth_untold f (inr x) t = memory_untold f.part f.number x.0 t
+
+pub refusal_untold : (workers : ℕ) (f : Fault) → CheckRefusal workers f → is_of_text f.part f.number ≡ true → ⊥
+refusal_untold workers f (by_workers p n x) t = check_untold f.part f.number p t
+refusal_untold workers f (by_growth x w) t = growth_untold f x t
+
+-- the rows of three texts are those of its one plan
+pub rows_of_plan : (program externals trace : List ℕ) (plan : PlanParts) → IsOnly (IsPlanOf program externals) plan → (other : PlanParts) (rows : List Row) → Mean program externals trace other rows → Table plan.program (records_of trace) rows
+rows_of_plan program externals trace plan only other rows x = subst (λ p. Table p.program (records_of trace) rows) (only.only other x.is_plan) x.is_trace

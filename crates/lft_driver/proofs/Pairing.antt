@@ -1,0 +1,35 @@
+-- What two traces show names a reaction of the program, and faults that tell nothing of the texts.
+use Rattle.std.proofs.Common.{◌≡◌, ◌⊎◌, inl, inr, ℕ, List, Option, true, refl, subst}
+use Rattle.lft_ir.specs.declared.steps.row.Row.{Row}
+use Rattle.lft_ir.specs.Steps.Fits.{RowsFit}
+use Rattle.lft_trace.specs.Records.{records_of}
+use Rattle.lft_trace.specs.Traces.{Table}
+use Rattle.lft_model.specs.Plans.{PlanParts}
+use Rattle.lft_check.specs.declared.verdict.Verdict.TheVariants.{Broken}
+use Rattle.lft_load.specs.Meaning.{IsOnly, IsPlanOf}
+use Rattle.lft_driver.specs.Meaning.{IsNoTrace}
+use Rattle.lft_driver.specs.Pairs.{IsPairing, MeanBoth, NamesReaction}
+use Rattle.lft_driver.specs.PairRefusals.{PairingRefusal}
+use Rattle.lft_driver.specs.PairRefusals.PairingRefusal.{by_check, by_writer}
+use Rattle.lft_load.specs.Refusals.{is_of_text}
+use Rattle.lft_load.specs.declared.fault.Fault.{Fault}
+use Rattle.lft_driver.specs.declared.paired.Paired.{Paired}
+use Rattle.lft_driver.specs.declared.paired.Paired.TheVariants.{First, Second, Same, Differ}
+use Rattle.lft_driver.proofs.Judging.{has_reaction, refusal_untold, rows_of_plan, write_untold}
+
+-- the reaction that is named is one of the program
+pub names_reaction : (plan : PlanParts) (rows others : List Row) → RowsFit plan.program rows → RowsFit plan.program others → (said : Paired) → IsPairing plan rows others said → NamesReaction plan.program said
+names_reaction plan rows others fit fits (First b) x = has_reaction plan rows fit (Broken b) x b refl
+names_reaction plan rows others fit fits (Second b) x = has_reaction plan others fits (Broken b) x.2 b refl
+names_reaction plan rows others fit fits (Same runs tags) x = tt
+names_reaction plan rows others fit fits (Differ g r) x = let ran = x.1.is_pair.first_ran in (fit.each ran.place _ ran.starts).reaction
+
+-- where a plan and two traces get no comparison, the fault tells nothing of the texts
+pub pairing_untold : (plan : PlanParts) (rows others : List Row) (workers : ℕ) (old new : Option (List ℕ)) (f : Fault) → PairingRefusal plan rows others workers old new f → is_of_text f.part f.number ≡ true → ⊥
+pairing_untold plan rows others workers old new f (by_check x) t = refusal_untold workers f x t
+pairing_untold plan rows others workers old new f (by_writer s p n x z) t = write_untold f.part f.number p t
+
+-- where one of two texts is no trace table under the one plan of two others, the four have no meaning
+pub none_of_both : (program externals first second : List ℕ) (plan : PlanParts) → IsOnly (IsPlanOf program externals) plan → IsNoTrace plan.program first ⊎ IsNoTrace plan.program second → (other : PlanParts) (one two : List Row) → ¬ MeanBoth program externals first second other one two
+none_of_both program externals first second plan only (inl h) other one two x = h one (rows_of_plan program externals first plan only other one x.is_first)
+none_of_both program externals first second plan only (inr h) other one two x = h two (subst (λ (p : PlanParts). Table p.program (records_of second) two) (only.only other x.is_first.is_plan) x.is_second)

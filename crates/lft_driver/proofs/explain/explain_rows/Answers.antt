@@ -1,0 +1,23 @@
+use Rattle.std.proofs.Common.{inl, sym, subst}
+use Rattle.lft_ir.specs.Parts.{Parts}
+use Rattle.lft_driver.specs.Lines.{HasReaction}
+use Rattle.lft_driver.specs.Explained.ExplainingRefusal.{by_check}
+use Rattle.std.proofs.KnownBytes.{Keeps-refl}
+use Rattle.lft_driver.proofs.Judging.{has_reaction}
+use Rattle.lft_driver.proofs.Explaining.{line_refused, all_written, rest_refused}
+use Rattle.lft_driver.proofs.explain.explain_rows.Goals as goal
+
+pub report-requires : goal.report-requires
+report-requires g c = λ b e. subst (λ (p : Parts). HasReaction p b.reaction) (sym c.program.ensures.value) (has_reaction c.args.plan.now c.args.rows.now c.requires.fit c.in-Ok.verdict c.in-Ok.ensures.verdict b e)
+
+pub returns-in-Err-clause-refused : goal.returns-in-Err-clause-refused
+returns-in-Err-clause-refused g c = by_check c.in-Err.ensures.fault (inl (Keeps-refl (g.W.Write.contents c.args.out.now)))
+
+pub returns-in-Err-report-clause-refused : goal.returns-in-Err-report-clause-refused
+returns-in-Err-report-clause-refused g c = line_refused c.args.all c.args.plan.now c.args.rows.now c.args.workers c.program.result.now c.program.ensures.value c.in-Ok.verdict c.in-Ok.ensures.verdict c.in-Ok.ensures.workers (g.W.Write.contents c.args.out.now) (g.W.Write.contents c.report.new.out) (g.W.Write.contents c.report.new.out) c.in-Err-report.fault c.in-Err-report.ensures.front c.in-Err-report.ensures.kept
+
+pub returns-in-Ok-write_behind-clause-written : goal.returns-in-Ok-write_behind-clause-written
+returns-in-Ok-write_behind-clause-written g c = all_written c.args.all c.args.plan.now c.args.rows.now c.args.workers c.program.result.now c.program.ensures.value c.in-Ok.verdict c.in-Ok.ensures.verdict c.in-Ok.ensures.workers (g.W.Write.contents c.args.out.now) (g.W.Write.contents c.report.new.out) (g.W.Write.contents c.write_behind.new.out) c.in-Ok-report.ensures.written c.in-Ok-write_behind.ensures.written
+
+pub returns-in-Err-write_behind-clause-refused : goal.returns-in-Err-write_behind-clause-refused
+returns-in-Err-write_behind-clause-refused g c = rest_refused c.args.all c.args.plan.now c.args.rows.now c.args.workers c.program.result.now c.program.ensures.value c.in-Ok.verdict c.in-Ok.ensures.verdict c.in-Ok.ensures.workers (g.W.Write.contents c.args.out.now) (g.W.Write.contents c.report.new.out) (g.W.Write.contents c.write_behind.new.out) c.in-Ok-report.ensures.written c.in-Err-write_behind.fault c.in-Err-write_behind.ensures.refused

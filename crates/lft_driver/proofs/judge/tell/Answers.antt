@@ -1,0 +1,48 @@
+use Rattle.std.proofs.Common.{inl, inr, sym, subst}
+use Rattle.std.specs.Io.KnownBytes.{Appends}
+use Rattle.lft_ir.specs.Parts.{Parts}
+use Rattle.lft_trace.specs.Records.{records_of}
+use Rattle.lft_trace.proofs.TraceFacts.{one_table, table_fits}
+use Rattle.lft_load.specs.Written.{AppendsFront}
+use Rattle.lft_driver.specs.Lines.{HasReaction, line_of}
+use Rattle.lft_driver.specs.Meaning.{HasTable}
+use Rattle.lft_driver.specs.Refusals.CheckRefusal.{by_growth}
+use Rattle.lft_driver.specs.Refusals.JudgingRefusal.{by_check, by_writer}
+use Rattle.lft_driver.specs.Refusals.JudgeRefusalUnder.{by_judging}
+use Rattle.lft_driver.proofs.Judging.{accepted_runs, growth_untold, has_reaction, write_untold}
+use Rattle.lft_driver.proofs.judge.tell.Goals as goal
+
+pub report-requires : goal.report-requires
+report-requires g c = λ b e.
+    let plan = c.args.plan.now in
+    let right = c.requires.1 in
+    let fit = table_fits plan.program (records_of c.requires.0) right.0 c.program.ensures.sound.sound right.1 in
+    subst (λ (p : Parts). HasReaction p b.reaction) (sym c.program.ensures.value) (has_reaction plan right.0 fit c.args.verdict right.2 b e)
+
+pub returns-in-Ok-clause-judged : goal.returns-in-Ok-clause-judged
+returns-in-Ok-clause-judged g c = λ trace right.
+    let plan = c.args.plan.now in
+    let verdict = c.args.verdict in
+    record {
+      rows = right.0;
+      has_table = record { is = right.1; only = λ other h. one_table plan.program (records_of trace) right.0 other c.program.ensures.sound.sound right.1 h };
+      right = right.2;
+      one_worker = accepted_runs plan right.0 c.law_one_worker.ensures.runs c.law_one_worker.ensures.precedence verdict right.2;
+      written = subst (λ (p : Parts). Appends (g.W.Write.contents c.args.out.now) (g.W.Write.contents c.report.new.out) (line_of p verdict)) c.program.ensures.value c.in-Ok.ensures.written;
+    }
+
+pub returns-in-Err-clause-refused : goal.returns-in-Err-clause-refused
+returns-in-Err-clause-refused g c = λ trace workers right lawful.
+    let plan = c.args.plan.now in
+    let verdict = c.args.verdict in
+    let has : HasTable plan.program trace right.0 = record { is = right.1; only = λ other h. one_table plan.program (records_of trace) right.0 other c.program.ensures.sound.sound right.1 h } in
+    by_judging right.0 has (elim c.in-Err.ensures.front [
+      | inl x ↦ by_check (by_growth x lawful)
+      | inr x ↦ by_writer verdict x.0 x.1 right.2 (subst (λ (p : Parts). AppendsFront (g.W.Write.contents c.args.out.now) (g.W.Write.contents c.report.new.out) (line_of p verdict)) c.program.ensures.value x.2)
+    ])
+
+pub returns-in-Err-clause-none : goal.returns-in-Err-clause-none
+returns-in-Err-clause-none g c = λ t. elim c.in-Err.ensures.front [
+  | inl x ↦ growth_untold c.in-Err.fault x t
+  | inr x ↦ write_untold c.in-Err.fault.part c.in-Err.fault.number x.0 t
+]

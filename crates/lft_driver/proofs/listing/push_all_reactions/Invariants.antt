@@ -1,0 +1,7 @@
+use Rattle.std.proofs.Common.{◌≡◌, ◌++◌, take, flat_map, string_bytes}
+use Rattle.std.specs.List.{enumerate_from}
+use Rattle.lft_driver.specs.Shown.{reaction_lines}
+use Rattle.lft_driver.proofs.listing.push_all_reactions.Given as goal
+
+abbrev pub invariant-loop-number : goal.invariant-loop-number
+invariant-loop-number l = string_bytes l.text ≡ string_bytes l.fn.text ++ flat_map (reaction_lines l.program l.graph) (take l.number (enumerate_from 0 l.program.reactions))

@@ -1,0 +1,19 @@
+use Rattle.std.proofs.Common.{rules, ◌≡◌, true, string_bytes}
+use Rattle.lft_trace.specs.Faults.{is_told}
+use Rattle.lft_trace.specs.Records.{records_of}
+use Rattle.lft_trace.specs.Traces.{TraceFails}
+use Rattle.lft_driver.proofs.Telling.{named}
+use Rattle.lft_driver.proofs.refused.refusal_of_trace.Goals as goal
+
+pub returns-clause-no_trace : goal.returns-clause-no_trace
+returns-clause-no_trace c =
+    let is : is_told c.in-Err.fault ≡ true = search rules in
+    (c.in-Err.ensures.fault is).1
+
+pub returns-clause-tells : goal.returns-clause-tells
+returns-clause-tells c =
+    let e = c.in-Err.fault in
+    let is : is_told e ≡ true = search rules in
+    let fails : TraceFails c.args.program.now (records_of c.args.trace.now) e = (c.in-Err.ensures.fault is).0 in
+    let heads = c.in_ok-words.ensures.told fails in
+    record { fault = e; fails = fails; heads = heads; field = λ n q. named c.args.word.now e n (string_bytes c.in_ok-words.words) _ q heads (c.in_ok-words.ensures.field n q) }

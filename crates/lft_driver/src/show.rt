@@ -1,0 +1,175 @@
+//! What is shown of a program: its ports and precedence, or all of it.
+
+ghost use Rattle.std.specs.Prelude.{◌≡◌, ◌≢◌, ◌++◌, ◌<◌, ℕ, Some, IfOk, IfErr, OnOk, flat_map, length, slice_get, string_bytes, true};
+ghost use Rattle.std.specs.List.{enumerate_from};
+ghost use Rattle.std.specs.Io.KnownBytes.{Keeps};
+ghost use Rattle.lft_ir.specs.Parts.{Parts};
+ghost use Rattle.lft_ir.specs.declared.parts.Port.{Port as PortOf};
+ghost use Rattle.lft_ir.specs.declared.parts.Reaction.{Reaction};
+ghost use Rattle.lft_graph.specs.Graph.{IsGraphOf};
+ghost use Rattle.lft_graph.specs.Precedence.{HasNoLoop};
+ghost use Rattle.lft_load.specs.Meaning.{IsProgramOf};
+ghost use Rattle.lft_load.specs.Refusals.{is_of_text};
+ghost use Rattle.lft_driver.specs.Refusals.{ShowProgramRefusal, ShowRefusal};
+ghost use Rattle.lft_driver.specs.Shown.{IsShown, IsShownProgram, before_words, lines_of, port_lines, port_words, reaction_line, reaction_words, show_words};
+ghost use Rattle.lft_load.specs.declared.fault.Part.TheVariants as part;
+
+use crate::listing::all_lines;
+use lft_graph::Graph;
+use lft_ir::Program;
+use lft_load::{Fault, graph_of, push_field, push_name, push_names, read_program, write_text};
+use std::alloc::{AllocError, Global};
+use std::io::Write;
+
+/// Puts the line of a port at the end of a text.
+fn push_port(text: &mut String, program: &Program, number: u32) -> Result<(), AllocError>
+    requires { number < length program.now.ports }
+    ensures { OnOk result ((port : PortOf) → slice_get program.now.ports number ≡ Some port → string_bytes text.new ≡ string_bytes text.old ++ port_words program.now (number, port)) }
+{
+    let port = program.port(number);
+    text.push_str("port ")?;
+    text.push_str(program.name_of_port(number))?;
+    text.push_str(" origin=")?;
+    text.push_str(program.name_of_port(port.origin))?;
+    push_field(text, " after=", port.shift.time)?;
+    push_field(text, "+", u64::from(port.shift.steps))?;
+    text.push_str("\n")?;
+    Ok(())
+}
+
+/// Puts the reactions just before one at the end of a line.
+fn push_before(text: &mut String, program: &Program, before: &[u32]) -> Result<(), AllocError>
+    requires { (i r : ℕ) → slice_get before.now i ≡ Some r → r < length program.now.reactions }
+    ensures { OnOk result (string_bytes text.new ≡ string_bytes text.old ++ before_words program.now before.now) }
+{
+    if before.is_empty() {
+        text.push_str("-")?;
+    } else {
+        push_names(text, program, before)?;
+    }
+    Ok(())
+}
+
+/// Puts the line of a reaction of this level at the end of a text.
+fn push_reaction(
+    text: &mut String,
+    program: &Program,
+    number: u32,
+    level: u32,
+    before: &[u32],
+) -> Result<(), AllocError>
+    requires reaction { number < length program.now.reactions }
+    requires before { (i r : ℕ) → slice_get before.now i ≡ Some r → r < length program.now.reactions }
+    ensures { OnOk result (string_bytes text.new ≡ string_bytes text.old ++ reaction_words program.now number level before.now) }
+{
+    text.push_str("reaction ")?;
+    push_name(text, program, number)?;
+    push_field(text, " level=", u64::from(level))?;
+    text.push_str(" before=")?;
+    push_before(text, program, before)?;
+    text.push_str("\n")?;
+    Ok(())
+}
+
+/// Puts the line of a reaction at the end of a text, by the graph: level and list are asked for here,
+/// so that what is written above speaks of them alone.
+pub(crate) fn push_line(
+    text: &mut String,
+    program: &Program,
+    graph: &Graph,
+    number: u32,
+) -> Result<(), AllocError>
+    requires reaction { number < length program.now.reactions }
+    requires graph { IsGraphOf program.now graph.now }
+    ensures { OnOk result ((x : Reaction) → string_bytes text.new ≡ string_bytes text.old ++ reaction_line program.now graph.now (number, x)) }
+{
+    push_reaction(
+        text,
+        program,
+        number,
+        graph.level(number),
+        graph.before(number),
+    )
+}
+
+/// Puts the lines of all ports at the end of a text.
+pub(crate) fn push_ports(text: &mut String, program: &Program) -> Result<(), AllocError>
+    ensures { OnOk result (string_bytes text.new ≡ string_bytes text.old ++ port_lines program.now) }
+{
+    for number in 0..program.ports() {
+        push_port(text, program, number as u32)?;
+    }
+    Ok(())
+}
+
+/// Puts the lines of all reactions at the end of a text.
+fn push_reactions(text: &mut String, program: &Program, graph: &Graph) -> Result<(), AllocError>
+    requires { IsGraphOf program.now graph.now }
+    ensures { OnOk result (string_bytes text.new ≡ string_bytes text.old ++ flat_map (reaction_line program.now graph.now) (enumerate_from 0 program.now.reactions)) }
+{
+    for number in 0..program.reactions() {
+        push_line(text, program, graph, number as u32)?;
+    }
+    Ok(())
+}
+
+/// The lines of all ports and then of all reactions.
+fn show_lines(alloc: Global, program: &Program, graph: &Graph) -> Result<String, AllocError>
+    requires { IsGraphOf program.now graph.now }
+    ensures { IfOk result (λ text. string_bytes text ≡ show_words program.now graph.now) }
+{
+    let mut text = String::new(alloc);
+    push_ports(&mut text, program)?;
+    push_reactions(&mut text, program, graph)?;
+    Ok(text)
+}
+
+/// The lines of a program: all of them, or those of ports and reactions.
+fn lines(alloc: Global, program: &Program, graph: &Graph, all: bool) -> Result<String, AllocError>
+    requires { IsGraphOf program.now graph.now }
+    ensures { IfOk result (λ text. string_bytes text ≡ lines_of all program.now graph.now) }
+{
+    if all {
+        all_lines(alloc, program, graph)
+    } else {
+        show_lines(alloc, program, graph)
+    }
+}
+
+/// Writes the lines of a program, as `show_text` does. With `all` those of its instances, actions and
+/// timers stand among them, and below the line of a reaction those of its triggers, uses and effects.
+pub fn show_program<W: Write>(
+    alloc: Global,
+    program: &Program,
+    all: bool,
+    out: &mut W,
+) -> Result<(), Fault>
+    ensures shown { OnOk result (IsShownProgram all program.now (W.contents out.old) (W.contents out.new)) }
+    ensures refused { IfErr result (ShowProgramRefusal all program.now (W.contents out.old) (W.contents out.new)) }
+    ensures none { IfErr result (λ f. is_of_text f.part f.number ≡ true → HasNoLoop program.now → ⊥) }
+    ensures kept { IfErr result (λ f. f.part ≢ part.Write → Keeps (W.contents out.old) (W.contents out.new)) }
+{
+    let graph = match graph_of(alloc, program) {
+        Ok(graph) => graph,
+        Err(fault) => return Err(fault),
+    };
+    match lines(alloc, program, &graph, all) {
+        Ok(text) => write_text(text.as_bytes(), out),
+        Err(_) => Err(Fault::no_memory()),
+    }
+}
+
+/// Writes a line for each port of a program, with its origin and its delays, and then a line for
+/// each reaction, with its level and the reactions just before it. The fault is that of the first
+/// layer that refuses, in the order lex, syntax, program, graph, write.
+pub fn show_text<W: Write>(alloc: Global, program: &[u8], out: &mut W) -> Result<(), Fault>
+    ensures shown { OnOk result (IsShown program.now (W.contents out.old) (W.contents out.new)) }
+    ensures refused { IfErr result (ShowRefusal program.now (W.contents out.old) (W.contents out.new)) }
+    ensures none { IfErr result (λ f. is_of_text f.part f.number ≡ true → (parts : Parts) → IsProgramOf program.now parts → HasNoLoop parts → ⊥) }
+    ensures kept { IfErr result (λ f. f.part ≢ part.Write → Keeps (W.contents out.old) (W.contents out.new)) }
+{
+    match read_program(alloc, program) {
+        Ok(flat) => show_program(alloc, &flat, false, out),
+        Err(fault) => Err(fault),
+    }
+}

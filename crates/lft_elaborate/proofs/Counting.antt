@@ -1,0 +1,139 @@
+-- Counts of things, widths and places.
+use Rattle.std.proofs.Common.{◌≡◌, ℕ, zero, suc, ◌+◌, ◌-◌, ◌*◌, ◌^◌, List, [], ◌∷◌, ◌++◌, map, min, Option, Some, None, refl, sym, ap, subst, ◌∙◌, arith}
+use Rattle.std.specs.Option.{option_and_then}
+use Rattle.std.proofs.lemmas.List.{map_push}
+use Rattle.lft_whole.specs.declared.tree.Count.{Count}
+use Rattle.lft_whole.specs.declared.tree.Count.TheVariants as count
+use Rattle.lft_whole.specs.declared.tree.Reference.{Reference}
+use Rattle.lft_whole.specs.declared.tree.Term.{Term}
+use Rattle.lft_whole.specs.declared.tree.Width.{Width}
+use Rattle.lft_classes.specs.declared.shapes.Shape.{Shape}
+use Rattle.lft_classes.specs.declared.shapes.Thing.{Thing}
+use Rattle.lft_classes.specs.declared.shapes.Thing.TheVariants as thing
+use Rattle.lft_elaborate.specs.Places.{AreMany, AreManyIn, HasPlaces, HavePlaces, IsCount, IsSum, IsWidth, Meant, Widths, capped, count_in, how_many, how_many_in, how_many_of, many, meaning_in, places_in, places_of, plus, sum_in, times, total, width_by, width_in, written_width}
+use Rattle.lft_elaborate.specs.Values.{Valued}
+
+-- ---- what is more is known of
+
+-- what is found by f is found by g too
+and_then_more : {X Y : Type 0} (f g : X → Option Y) (o : Option X) (y : Y) → ((x : X) → f x ≡ Some y → g x ≡ Some y) → option_and_then f o ≡ Some y → option_and_then g o ≡ Some y
+and_then_more f g None y h e = absurd (cc)
+and_then_more f g (Some x) y h e = h x e
+
+many_more : (a b : Option ℕ) (w : Option Width) (n : ℕ) → (a ≡ Some n → b ≡ Some n) → many a w ≡ Some n → many b w ≡ Some n
+many_more a b None n h e = e
+many_more a b (Some w) n h e = h e
+
+times_more : (a b c d : Option ℕ) (n : ℕ) → ((k : ℕ) → a ≡ Some k → c ≡ Some k) → ((k : ℕ) → b ≡ Some k → d ≡ Some k) → times a b ≡ Some n → times c d ≡ Some n
+times_more None b c d n h i e = absurd (cc)
+times_more (Some x) None c d n h i e = absurd (cc)
+times_more (Some x) (Some y) c d n h i e = ap (λ o. times o d) (h x refl) ∙ ap (times (Some x)) (i y refl) ∙ e
+
+plus_more : (a b c d : Option ℕ) (n : ℕ) → ((k : ℕ) → a ≡ Some k → c ≡ Some k) → ((k : ℕ) → b ≡ Some k → d ≡ Some k) → plus a b ≡ Some n → plus c d ≡ Some n
+plus_more None b c d n h i e = absurd (cc)
+plus_more (Some x) None c d n h i e = absurd (cc)
+plus_more (Some x) (Some y) c d n h i e = ap (λ o. plus o d) (h x refl) ∙ ap (plus (Some x)) (i y refl) ∙ e
+
+total_more : {X : Type 0} (f g : X → Option ℕ) (xs : List X) (n : ℕ) → ((x : X) (k : ℕ) → f x ≡ Some k → g x ≡ Some k) → total (map f xs) ≡ Some n → total (map g xs) ≡ Some n
+total_more f g [] n h e = e
+total_more f g (x ∷ xs) n h e = plus_more (f x) (total (map f xs)) (g x) (total (map g xs)) n (h x) (λ k q. total_more f g xs k h q) e
+
+module _ (shapes : List Shape) (f g : Widths) (h : (t : Valued) (m n : ℕ) → f t m ≡ Some n → g t m ≡ Some n) where
+  how_many_more : (t : Valued) (m n : ℕ) → how_many shapes f t m ≡ Some n → how_many shapes g t m ≡ Some n
+  how_many_more t m n e = many_more (f t m) (g t m) (written_width shapes t m) n (h t m n) e
+
+  how_many_of_more : (t : Valued) (x : Thing) (n : ℕ) → how_many_of shapes f t x ≡ Some n → how_many_of shapes g t x ≡ Some n
+  how_many_of_more t (thing.Parameter p) n e = e
+  how_many_of_more t (thing.Member m) n e = how_many_more t m n e
+
+  how_many_in_more : (t : Valued) (o : Option ℕ) (n : ℕ) → how_many_in shapes f t o ≡ Some n → how_many_in shapes g t o ≡ Some n
+  how_many_in_more t None n e = e
+  how_many_in_more t (Some m) n e = how_many_more t m n e
+
+  places_of_more : (t : Valued) (meant : Meant) (n : ℕ) → places_of shapes f t meant ≡ Some n → places_of shapes g t meant ≡ Some n
+  places_of_more t meant n e = times_more (how_many_of shapes f meant.setting meant.thing) (how_many_in shapes f t meant.instance) (how_many_of shapes g meant.setting meant.thing) (how_many_in shapes g t meant.instance) n (how_many_of_more meant.setting meant.thing) (how_many_in_more t meant.instance) e
+
+  places_more : (t : Valued) (r : Reference) (n : ℕ) → places_in shapes f t r ≡ Some n → places_in shapes g t r ≡ Some n
+  places_more t r n e = and_then_more (places_of shapes f t) (places_of shapes g t) (meaning_in shapes t r) n (λ meant. places_of_more t meant n) e
+
+  count_more : (t : Valued) (c : Count) (n : ℕ) → count_in shapes f t c ≡ Some n → count_in shapes g t c ≡ Some n
+  count_more t (count.Number k) n e = e
+  count_more t (count.Word w) n e = e
+  count_more t (count.WidthOf r) n e = places_more t r n e
+  count_more t count.Code n e = absurd (cc)
+  count_more t count.Open n e = absurd (cc)
+
+  sum_more : (t : Valued) (terms : List Term) (n : ℕ) → sum_in shapes f t terms ≡ Some n → sum_in shapes g t terms ≡ Some n
+  sum_more t terms n e = total_more (λ (term : Term). count_in shapes f t term.count) (λ (term : Term). count_in shapes g t term.count) terms n (λ term. count_more t term.count) e
+
+  width_by_more : (t : Valued) (m n : ℕ) → width_by shapes f t m ≡ Some n → width_by shapes g t m ≡ Some n
+  width_by_more t m n e = and_then_more (λ (w : Width). sum_in shapes f t w.terms.items) (λ (w : Width). sum_in shapes g t w.terms.items) (written_width shapes t m) n (λ w. sum_more t w.terms.items n) e
+
+-- a width is found at any greater depth too
+pub deeper : (shapes : List Shape) (d e : ℕ) (t : Valued) (m n : ℕ) → width_in shapes d t m ≡ Some n → width_in shapes (d + e) t m ≡ Some n
+deeper shapes zero e t m n q = absurd (cc)
+deeper shapes (suc d) e t m n q =
+    let s : suc d + e ≡ suc (d + e) = omega arith in
+    subst (λ k. width_in shapes k t m ≡ Some n) (sym s) (width_by_more shapes (width_in shapes d) (width_in shapes (d + e)) (deeper shapes d e) t m n q)
+
+pub deeper_right : (shapes : List Shape) (d e : ℕ) (t : Valued) (m n : ℕ) → width_in shapes e t m ≡ Some n → width_in shapes (d + e) t m ≡ Some n
+deeper_right shapes d e t m n q = let s : e + d ≡ d + e = omega arith in subst (λ k. width_in shapes k t m ≡ Some n) s (deeper shapes e d t m n q)
+
+-- a member is so many at any greater depth too, so it is so many once
+pub one_count : (shapes : List Shape) (t : Valued) (m d e a b : ℕ) → how_many shapes (width_in shapes d) t m ≡ Some a → how_many shapes (width_in shapes e) t m ≡ Some b → a ≡ b
+one_count shapes t m d e a b p q =
+    let x : how_many shapes (width_in shapes (d + e)) t m ≡ Some a = how_many_more shapes (width_in shapes d) (width_in shapes (d + e)) (deeper shapes d e) t m a p in
+    let y : how_many shapes (width_in shapes (d + e)) t m ≡ Some b = how_many_more shapes (width_in shapes e) (width_in shapes (d + e)) (deeper_right shapes d e) t m b q in
+    cc
+
+-- ---- sums
+
+capped_assoc : (most b c n : ℕ) → min (b + min (c + n) most) most ≡ min (min (b + c) most + n) most
+capped_assoc most b c n = omega arith
+
+plus_none : (a : Option ℕ) (n : ℕ) → plus a None ≡ Some n → ⊥
+plus_none None n e = cc
+plus_none (Some x) n e = cc
+
+-- a count more at the end
+pub total_push : (xs : List (Option ℕ)) (a n : ℕ) → total xs ≡ Some a → total (xs ++ Some n ∷ []) ≡ Some (capped (a + n))
+total_push [] a n e = let z : 0 ≡ a = cc in let s : n + 0 ≡ a + n = omega arith in ap (λ k. Some (capped k)) s
+total_push (None ∷ xs) a n e = absurd (cc)
+total_push (Some b ∷ xs) a n e = go (λ c q. total_push xs c n q) (total xs) refl e
+  where
+    go : ((c : ℕ) → total xs ≡ Some c → total (xs ++ Some n ∷ []) ≡ Some (capped (c + n))) → (o : Option ℕ) → total xs ≡ o → plus (Some b) o ≡ Some a → plus (Some b) (total (xs ++ Some n ∷ [])) ≡ Some (capped (a + n))
+    go more None q p = absurd (plus_none (Some b) a p)
+    go more (Some c) q p =
+        let is : capped (b + c) ≡ a = cc in
+        ap (plus (Some b)) (more c q) ∙ ap Some (capped_assoc (2 ^ 64 - 1) b c n) ∙ ap (λ k. Some (capped (k + n))) is
+
+-- ---- places, terms and widths
+
+pub places_join : (shapes : List Shape) (t : Valued) (r : Reference) (meant : Meant) (n k : ℕ) → meaning_in shapes t r ≡ Some meant → AreMany shapes meant.setting meant.thing n → AreManyIn shapes t meant.instance k → HasPlaces shapes t r (capped (n * k))
+places_join shapes t r meant n k is (d, p) (e, q) =
+    let x : how_many_of shapes (width_in shapes (d + e)) meant.setting meant.thing ≡ Some n = how_many_of_more shapes (width_in shapes d) (width_in shapes (d + e)) (deeper shapes d e) meant.setting meant.thing n p in
+    let y : how_many_in shapes (width_in shapes (d + e)) t meant.instance ≡ Some k = how_many_in_more shapes (width_in shapes e) (width_in shapes (d + e)) (deeper_right shapes d e) t meant.instance k q in
+    (d + e, ap (option_and_then (places_of shapes (width_in shapes (d + e)) t)) is ∙ ap (λ o. times o (how_many_in shapes (width_in shapes (d + e)) t meant.instance)) x ∙ ap (times (Some n)) y)
+
+pub no_places : (shapes : List Shape) (t : Valued) → HavePlaces shapes t [] 0
+no_places shapes t = (0, refl)
+
+pub places_push : (shapes : List Shape) (t : Valued) (rs : List Reference) (r : Reference) (a n : ℕ) → HavePlaces shapes t rs a → HasPlaces shapes t r n → HavePlaces shapes t (rs ++ r ∷ []) (capped (a + n))
+places_push shapes t rs r a n (d, p) (e, q) =
+    let f : Reference → Option ℕ = places_in shapes (width_in shapes (d + e)) t in
+    let x : total (map f rs) ≡ Some a = total_more (places_in shapes (width_in shapes d) t) f rs a (places_more shapes (width_in shapes d) (width_in shapes (d + e)) (deeper shapes d e) t) p in
+    let y : f r ≡ Some n = places_more shapes (width_in shapes e) (width_in shapes (d + e)) (deeper_right shapes d e) t r n q in
+    (d + e, ap total (map_push f rs r) ∙ ap (λ o. total (map f rs ++ o ∷ [])) y ∙ total_push (map f rs) a n x)
+
+pub no_terms : (shapes : List Shape) (t : Valued) → IsSum shapes t [] 0
+no_terms shapes t = (0, refl)
+
+pub terms_push : (shapes : List Shape) (t : Valued) (terms : List Term) (term : Term) (a n : ℕ) → IsSum shapes t terms a → IsCount shapes t term.count n → IsSum shapes t (terms ++ term ∷ []) (capped (a + n))
+terms_push shapes t terms term a n (d, p) (e, q) =
+    let f : Term → Option ℕ = λ x. count_in shapes (width_in shapes (d + e)) t x.count in
+    let x : total (map f terms) ≡ Some a = sum_more shapes (width_in shapes d) (width_in shapes (d + e)) (deeper shapes d e) t terms a p in
+    let y : f term ≡ Some n = count_more shapes (width_in shapes e) (width_in shapes (d + e)) (deeper_right shapes d e) t term.count n q in
+    (d + e, ap total (map_push f terms term) ∙ ap (λ o. total (map f terms ++ o ∷ [])) y ∙ total_push (map f terms) a n x)
+
+pub sum_width : (shapes : List Shape) (t : Valued) (m : ℕ) (w : Width) (n : ℕ) → written_width shapes t m ≡ Some w → IsSum shapes t w.terms.items n → IsWidth shapes t m n
+sum_width shapes t m w n is (d, e) = (suc d, ap (option_and_then (λ (v : Width). sum_in shapes (width_in shapes d) t v.terms.items)) is ∙ e)

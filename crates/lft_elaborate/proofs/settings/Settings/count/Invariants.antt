@@ -1,0 +1,5 @@
+use Rattle.lft_elaborate.specs.Noted.{GoesOn, table}
+use Rattle.lft_elaborate.proofs.settings.Settings.count.Given as goal
+
+abbrev pub invariant-loop-number : goal.invariant-loop-number
+invariant-loop-number l = record { goes : GoesOn (table l.fn.self) (table l.self) }

@@ -1,0 +1,15 @@
+use Rattle.std.proofs.Common.{◌≡◌, Some}
+use Rattle.lft_elaborate.specs.Finding.{IsPath}
+use Rattle.lft_elaborate.specs.Noted.{AreMade, GoesOn, table}
+use Rattle.lft_elaborate.specs.Settings.{setting_at}
+use Rattle.lft_elaborate.specs.Values.{Valued}
+use Rattle.lft_elaborate.proofs.settings.Settings.width.Given as goal
+
+abbrev pub invariant-widths : goal.invariant-widths
+invariant-widths l = record {
+  goes : GoesOn (table l.fn.self) (table l.self);
+  path : (t : Valued) → AreMade (table l.fn.self) → setting_at l.fn.self l.fn.setting ≡ Some t → IsPath l.self.shapes.items l.self.settings.items t l.fn.member l.path;
+}
+
+abbrev pub decreases-widths : goal.decreases-widths
+decreases-widths l = l.self.work.left

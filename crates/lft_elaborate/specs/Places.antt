@@ -1,0 +1,211 @@
+-- What references mean, how many places they have, and how wide members are, told by the shapes alone.
+use Rattle.std.specs.Prelude.{◌≡◌, ℕ, zero, suc, ◌+◌, ◌*◌, ◌-◌, ◌^◌, ℤ, pos, negsuc, min, List, [], ◌∷◌, map, Option, Some, None, option_map, slice_get, string_bytes}
+use Rattle.std.specs.Option.{option_and_then}
+use Rattle.lft_elaborate.specs.Channels.Channels.{joined}
+use Rattle.lft_whole.specs.declared.tree.Connection.{Connection}
+use Rattle.lft_whole.specs.declared.tree.Count.{Count}
+use Rattle.lft_whole.specs.declared.tree.Count.TheVariants as count
+use Rattle.lft_whole.specs.declared.tree.Member.{Member}
+use Rattle.lft_whole.specs.declared.tree.Member.TheVariants as member
+use Rattle.lft_whole.specs.declared.tree.Name.{Name}
+use Rattle.lft_whole.specs.declared.tree.Reference.{Reference}
+use Rattle.lft_whole.specs.declared.tree.Term.{Term}
+use Rattle.lft_whole.specs.declared.tree.Width.{Width}
+use Rattle.lft_classes.specs.declared.shapes.Inherited.{Inherited}
+use Rattle.lft_classes.specs.declared.shapes.Shape.{Shape}
+use Rattle.lft_classes.specs.declared.shapes.Thing.{Thing}
+use Rattle.lft_classes.specs.declared.shapes.Thing.TheVariants as thing
+use Rattle.lft_classes.specs.Shapes.{thing_named, width_of}
+use Rattle.lft_elaborate.specs.Values.{Valued, inside, number_named}
+
+-- ---- members and references
+
+-- the member of this number
+abbrev pub member_in : List Shape → Valued → ℕ → Option Inherited
+member_in shapes t m = option_and_then (λ shape. slice_get shape.members.items m) (slice_get shapes t.shape)
+
+-- the width that is written at it, if it has one
+abbrev pub written_width : List Shape → Valued → ℕ → Option Width
+written_width shapes t m = option_and_then (λ found. width_of found.member.now) (member_in shapes t m)
+
+-- what a name is
+abbrev pub thing_in : List Shape → Valued → List ℕ → Option Thing
+thing_in shapes t q = option_and_then (λ shape. thing_named shape q) (slice_get shapes t.shape)
+
+-- the number of a member
+abbrev pub as_member : Thing → Option ℕ
+as_member (thing.Parameter p) = None
+as_member (thing.Member m) = Some m
+
+-- a number of a member that is a port
+abbrev pub as_port : ℕ → Member → Option ℕ
+as_port m (member.Port port) = Some m
+as_port m _ = None
+
+-- the member of this name
+abbrev pub member_named : List Shape → Valued → List ℕ → Option ℕ
+member_named shapes t q = option_and_then as_member (thing_in shapes t q)
+
+-- the port of this name
+abbrev pub port_named : List Shape → Valued → List ℕ → Option ℕ
+port_named shapes t q = option_and_then (λ m. option_and_then (λ found. as_port m found.member.now) (member_in shapes t m)) (member_named shapes t q)
+
+-- what a reference means: a thing of a setting, and the instance that it is in, if it is a port of one
+pub record Meant : Type 0 where
+  pub instance : Option ℕ
+  pub setting : Valued
+  pub thing : Thing
+
+-- a thing of the reactor itself
+abbrev pub own_thing : Valued → Thing → Meant
+own_thing t thing = record { instance = None; setting = t; thing = thing }
+
+-- a port of an instance
+abbrev pub port_inside : List Shape → Valued → List ℕ → ℕ → Option Meant
+port_inside shapes t q instance = option_and_then (λ u. option_map (λ m. record { instance = Some instance; setting = u; thing = thing.Member m }) (port_named shapes u q)) (inside shapes t instance)
+
+-- what a name means, or a name and that of a port
+abbrev pub meaning_of : List Shape → Valued → List ℕ → Option Name → Option Meant
+meaning_of shapes t head None = option_map (own_thing t) (thing_in shapes t head)
+meaning_of shapes t head (Some port) = option_and_then (port_inside shapes t (string_bytes port.text)) (member_named shapes t head)
+
+-- what a reference means
+abbrev pub meaning_in : List Shape → Valued → Reference → Option Meant
+meaning_in shapes t r = meaning_of shapes t (string_bytes r.head.text) r.port
+
+-- ---- counts
+
+-- a count of 2^64 or more is 2^64 - 1
+abbrev pub capped : ℕ → ℕ
+capped n = min n (2 ^ 64 - 1)
+
+-- two counts together
+abbrev pub plus : Option ℕ → Option ℕ → Option ℕ
+plus None b = None
+plus (Some a) None = None
+plus (Some a) (Some b) = Some (capped (a + b))
+
+-- so many for each of so many
+abbrev pub times : Option ℕ → Option ℕ → Option ℕ
+times None b = None
+times (Some a) None = None
+times (Some a) (Some b) = Some (capped (a * b))
+
+-- all counts together
+abbrev pub total : List (Option ℕ) → Option ℕ
+total [] = Some 0
+total (x ∷ xs) = plus x (total xs)
+
+-- widths of members, as far as they are known
+abbrev pub Widths : Type 0
+Widths = Valued → ℕ → Option ℕ
+
+-- how many things one is that has the width, if one is written
+abbrev pub many : Option ℕ → Option Width → Option ℕ
+many width None = Some 1
+many width (Some written) = width
+
+-- how many a member is
+abbrev pub how_many : List Shape → Widths → Valued → ℕ → Option ℕ
+how_many shapes widths t m = many (widths t m) (written_width shapes t m)
+
+-- how many a thing is
+abbrev pub how_many_of : List Shape → Widths → Valued → Thing → Option ℕ
+how_many_of shapes widths t (thing.Parameter p) = Some 1
+how_many_of shapes widths t (thing.Member m) = how_many shapes widths t m
+
+-- how many an instance is, if there is one
+abbrev pub how_many_in : List Shape → Widths → Valued → Option ℕ → Option ℕ
+how_many_in shapes widths t None = Some 1
+how_many_in shapes widths t (Some m) = how_many shapes widths t m
+
+-- how many places there are of what a reference means
+abbrev pub places_of : List Shape → Widths → Valued → Meant → Option ℕ
+places_of shapes widths t meant = times (how_many_of shapes widths meant.setting meant.thing) (how_many_in shapes widths t meant.instance)
+
+-- how many places a reference has
+abbrev pub places_in : List Shape → Widths → Valued → Reference → Option ℕ
+places_in shapes widths t r = option_and_then (places_of shapes widths t) (meaning_in shapes t r)
+
+-- how many references have together
+abbrev pub all_places : List Shape → Widths → Valued → List Reference → Option ℕ
+all_places shapes widths t rs = total (map (places_in shapes widths t) rs)
+
+-- ---- widths
+
+-- a number below 0 is no width
+abbrev pub natural : ℤ → Option ℕ
+natural (pos n) = Some n
+natural (negsuc n) = None
+
+-- the number of a parameter
+abbrev pub parameter_in : List Shape → Valued → List ℕ → Option ℤ
+parameter_in shapes t q = option_and_then (λ shape. number_named shape t.values q) (slice_get shapes t.shape)
+
+-- the count that a term is: a number, that of a parameter, or how many places a reference has
+abbrev pub count_in : List Shape → Widths → Valued → Count → Option ℕ
+count_in shapes widths t (count.Number n) = Some n
+count_in shapes widths t (count.Word word) = option_and_then natural (parameter_in shapes t (string_bytes word))
+count_in shapes widths t (count.WidthOf reference) = places_in shapes widths t reference
+count_in shapes widths t count.Code = None
+count_in shapes widths t count.Open = None
+
+-- what terms are together
+abbrev pub sum_in : List Shape → Widths → Valued → List Term → Option ℕ
+sum_in shapes widths t terms = total (map (λ term. count_in shapes widths t term.count) terms)
+
+-- the width of a member, where those that it hangs on are known
+abbrev pub width_by : List Shape → Widths → Valued → ℕ → Option ℕ
+width_by shapes widths t m = option_and_then (λ w. sum_in shapes widths t w.terms.items) (written_width shapes t m)
+
+-- the width of a member, where those that it hangs on go at most so deep
+abbrev pub width_in : List Shape → ℕ → Widths
+width_in shapes zero t m = None
+width_in shapes (suc depth) t m = width_by shapes (width_in shapes depth) t m
+
+-- the width of a member is the sum of its terms
+abbrev pub IsWidth : List Shape → Valued → ℕ → ℕ → Type 0
+IsWidth shapes t m n = (depth : ℕ) × (width_in shapes depth t m ≡ Some n)
+
+-- the member has that width, or none where none is written
+abbrev pub HasWidth : List Shape → Valued → ℕ → Option ℕ → Type 0
+HasWidth shapes t m None = written_width shapes t m ≡ None
+HasWidth shapes t m (Some n) = IsWidth shapes t m n
+
+-- the member is so many
+abbrev pub IsMany : List Shape → Valued → ℕ → ℕ → Type 0
+IsMany shapes t m n = (depth : ℕ) × (how_many shapes (width_in shapes depth) t m ≡ Some n)
+
+-- the reference has so many places
+abbrev pub HasPlaces : List Shape → Valued → Reference → ℕ → Type 0
+HasPlaces shapes t r n = (depth : ℕ) × (places_in shapes (width_in shapes depth) t r ≡ Some n)
+
+-- the references have so many together
+abbrev pub HavePlaces : List Shape → Valued → List Reference → ℕ → Type 0
+HavePlaces shapes t rs n = (depth : ℕ) × (all_places shapes (width_in shapes depth) t rs ≡ Some n)
+
+-- the connection joins so many pairs
+pub record HasPairs (shapes : List Shape) (t : Valued) (c : Connection) (n : ℕ) : Type 0 where
+  pub left : ℕ
+  pub right : ℕ
+  pub sources : HavePlaces shapes t c.sources.items left
+  pub destinations : HavePlaces shapes t c.destinations.items right
+  pub pairs : n ≡ joined left right c.is_broadcast
+
+-- ---- for the crate's own contracts
+
+-- the thing is so many
+abbrev pub AreMany : List Shape → Valued → Thing → ℕ → Type 0
+AreMany shapes t thing n = (depth : ℕ) × (how_many_of shapes (width_in shapes depth) t thing ≡ Some n)
+
+-- the instance is so many, if there is one
+abbrev pub AreManyIn : List Shape → Valued → Option ℕ → ℕ → Type 0
+AreManyIn shapes t instance n = (depth : ℕ) × (how_many_in shapes (width_in shapes depth) t instance ≡ Some n)
+
+-- the term is so many
+abbrev pub IsCount : List Shape → Valued → Count → ℕ → Type 0
+IsCount shapes t c n = (depth : ℕ) × (count_in shapes (width_in shapes depth) t c ≡ Some n)
+
+-- the terms are so many together
+abbrev pub IsSum : List Shape → Valued → List Term → ℕ → Type 0
+IsSum shapes t terms n = (depth : ℕ) × (sum_in shapes (width_in shapes depth) t terms ≡ Some n)

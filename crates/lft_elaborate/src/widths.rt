@@ -1,0 +1,273 @@
+//! Widths of ports and banks in a setting.
+
+ghost use Rattle.std.specs.Prelude.{◌≡◌, ◌≤◌, ◌↔◌, ℕ, Some, IfErr, IfOk, IfSome, IsSome, OnOk, is_some, option_and_then};
+ghost use Rattle.lft_elaborate.specs.Finding.{AddsIf, AddsOnly, IsNext, IsPath};
+ghost use Rattle.lft_elaborate.specs.Noted.{AreMade, GoesOn, GoesOnIf, table};
+ghost use Rattle.lft_elaborate.specs.Places.{AreMany, AreManyIn, HasPlaces, HasWidth, IsCount, IsMany, IsSum, IsWidth, natural, parameter_in, plus, times};
+ghost use Rattle.lft_elaborate.specs.Refused.{IsCounted, IsCountedBy, IsCountedIn, IsOfWord};
+ghost use Rattle.lft_elaborate.specs.Settings.{setting_at};
+ghost use Rattle.lft_elaborate.specs.Values.{Valued};
+ghost use Rattle.lft_elaborate.specs.Widths.{member_at, width_at, found_width};
+
+use crate::path::{Path, Wanted};
+use crate::settings::{Settings, note};
+use crate::values::number_named;
+use lft_classes::{Inherited, Thing};
+use lft_whole::sources::{Stop, Why};
+use lft_whole::{Count, Reference, Term};
+use std::alloc::AllocError;
+
+/// Two counts together, if both are known.
+fn plus(one: Option<u64>, other: Option<u64>) -> Option<u64>
+    ensures { result ≡ plus one other }
+{
+    Some(one?.saturating_add(other?))
+}
+
+/// So many for each of so many, if both are known.
+fn times(one: Option<u64>, other: Option<u64>) -> Option<u64>
+    ensures { result ≡ times one other }
+{
+    Some(one?.saturating_mul(other?))
+}
+
+impl<'a> Settings<'a> {
+    /// The member of a setting, with its file.
+    pub(crate) fn inherited(&self, wanted: Wanted) -> Option<Inherited<'a>>
+        ensures { result ≡ member_at self.now wanted.setting wanted.member }
+    {
+        match self.shape_of(wanted.setting) {
+            Some(shape) => shape.member(wanted.member),
+            None => None,
+        }
+    }
+
+    /// Whether a member has a width.
+    fn is_wide(&self, wanted: Wanted) -> bool
+        ensures { result ≡ is_some (width_at self.now wanted.setting wanted.member) }
+    {
+        match self.inherited(wanted) {
+            Some(inherited) => inherited.width().is_some(),
+            None => false,
+        }
+    }
+
+    /// The width of the member of this number in a setting, if it has one and that was found before.
+    pub fn known(&self, setting: usize, member: usize) -> Option<u64>
+        ensures { result ≡ found_width self.now setting member }
+    {
+        match self.settings.get(setting) {
+            Some(found) => match found.widths.get(member) {
+                Some(width) => *width,
+                None => None,
+            },
+            None => None,
+        }
+    }
+
+    /// Notes a width.
+    fn note_width(&mut self, wanted: Wanted, width: u64)
+        ensures work { self.new.work ≡ self.old.work }
+        ensures goes { GoesOnIf ((t : Valued) → setting_at self.old wanted.setting ≡ Some t → IsWidth self.old.shapes.items t wanted.member width) (table self.old) (table self.new) }
+    {
+        if wanted.setting < self.settings.len() {
+            note(
+                &mut self.settings[wanted.setting].widths,
+                wanted.member,
+                width,
+            );
+        }
+    }
+
+    /// The number of the parameter of this name in a setting.
+    fn number_in(&self, setting: usize, word: &str) -> Option<i64>
+        ensures { (t : Valued) → setting_at self.now setting ≡ Some t → result ≡ parameter_in self.now.shapes.items t word.now }
+    {
+        let found = self.settings.get(setting)?;
+        let shape = self.shapes.get(found.shape)?;
+        number_named(shape, found.values.as_slice(), word)
+    }
+
+    /// The number of the parameter of this name, which is no width where it is below 0.
+    fn parameter_width(
+        &self,
+        setting: usize,
+        file: usize,
+        word: &str,
+        at: usize,
+    ) -> Result<u64, Stop>
+        ensures number { IfOk result (λ n. (t : Valued) → setting_at self.now setting ≡ Some t → option_and_then natural (parameter_in self.now.shapes.items t word.now) ≡ Some n) }
+        ensures cause { IfErr result (λ stop. (t : Valued) → setting_at self.now setting ≡ Some t → IsOfWord self.now.shapes.items t file at word.now stop) }
+    {
+        let Some(value) = self.number_in(setting, word) else {
+            return Err(Stop::at(Why::UnknownParameter, file, at));
+        };
+        if value < 0 {
+            Err(Stop::at(Why::NegativeWidth, file, at))
+        } else {
+            Ok(value as u64)
+        }
+    }
+
+    /// How many a member is, on which a width hangs: 1 if it has no width. One that isn't known is put behind a list.
+    fn need(&self, needed: Wanted, needs: &mut Vec<Wanted>) -> Result<Option<u64>, AllocError>
+        ensures many { IfOk result (λ found. IfSome found (λ n. (t : Valued) → AreMade (table self.now) → setting_at self.now needed.setting ≡ Some t → IsMany self.now.shapes.items t needed.member n)) }
+        ensures needs { OnOk result (AddsIf (λ w. w ≡ needed) needs.old.items needs.new.items) }
+    {
+        if !self.is_wide(needed) {
+            return Ok(Some(1));
+        }
+        if let Some(width) = self.known(needed.setting, needed.member) {
+            return Ok(Some(width));
+        }
+        needs.push(needed)?;
+        Ok(None)
+    }
+
+    /// The same of a thing of a setting.
+    fn need_thing(
+        &self,
+        setting: usize,
+        thing: Thing,
+        needs: &mut Vec<Wanted>,
+    ) -> Result<Option<u64>, AllocError>
+        ensures many { IfOk result (λ found. IfSome found (λ n. (t : Valued) → AreMade (table self.now) → setting_at self.now setting ≡ Some t → AreMany self.now.shapes.items t thing n)) }
+        ensures needs { OnOk result (AddsIf (λ w. (w.setting ≡ setting) × (thing ≡ Thing.Member w.member)) needs.old.items needs.new.items) }
+    {
+        match thing {
+            Thing::Member(member) => self.need(Wanted { setting, member }, needs),
+            Thing::Parameter(_) => Ok(Some(1)),
+        }
+    }
+
+    /// The same of an instance of a setting, if there is one.
+    fn need_instance(
+        &self,
+        setting: usize,
+        instance: Option<usize>,
+        needs: &mut Vec<Wanted>,
+    ) -> Result<Option<u64>, AllocError>
+        ensures many { IfOk result (λ found. IfSome found (λ n. (t : Valued) → AreMade (table self.now) → setting_at self.now setting ≡ Some t → AreManyIn self.now.shapes.items t instance n)) }
+        ensures needs { OnOk result (AddsIf (λ w. (w.setting ≡ setting) × (instance ≡ Some w.member)) needs.old.items needs.new.items) }
+    {
+        match instance {
+            Some(member) => self.need(Wanted { setting, member }, needs),
+            None => Ok(Some(1)),
+        }
+    }
+
+    /// How many places a reference in a width has, if the widths that it takes are known.
+    fn width_of(
+        &mut self,
+        setting: usize,
+        file: usize,
+        reference: &Reference,
+        needs: &mut Vec<Wanted>,
+    ) -> Result<Option<u64>, Stop>
+        ensures work { OnOk result (self.new.work.left ≤ self.old.work.left) }
+        ensures goes { OnOk result (GoesOn (table self.old) (table self.new)) }
+        ensures places { IfOk result (λ found. IfSome found (λ n. (t : Valued) → AreMade (table self.old) → setting_at self.old setting ≡ Some t → HasPlaces self.old.shapes.items t reference.now n)) }
+        ensures needs { OnOk result ((t : Valued) → AreMade (table self.old) → setting_at self.old setting ≡ Some t → AddsOnly (IsCounted self.old.shapes.items t reference.now) self.new.settings.items needs.old.items needs.new.items) }
+    {
+        let meaning = self.meaning(setting, file, reference)?;
+        let count = self.need_thing(meaning.setting, meaning.thing, needs)?;
+        let members = self.need_instance(setting, meaning.instance, needs)?;
+        Ok(times(count, members))
+    }
+
+    /// The number that a term of a width is, if the widths that it takes are known.
+    fn term(
+        &mut self,
+        setting: usize,
+        file: usize,
+        term: &Term,
+        needs: &mut Vec<Wanted>,
+    ) -> Result<Option<u64>, Stop>
+        ensures work { OnOk result (self.new.work.left ≤ self.old.work.left) }
+        ensures goes { OnOk result (GoesOn (table self.old) (table self.new)) }
+        ensures count { IfOk result (λ found. IfSome found (λ n. (t : Valued) → AreMade (table self.old) → setting_at self.old setting ≡ Some t → IsCount self.old.shapes.items t term.now.count n)) }
+        ensures needs { OnOk result ((t : Valued) → AreMade (table self.old) → setting_at self.old setting ≡ Some t → AddsOnly (IsCountedBy self.old.shapes.items t term.now.count) self.new.settings.items needs.old.items needs.new.items) }
+    {
+        match &term.count {
+            Count::Number(count) => Ok(Some(*count)),
+            Count::Word(word) => {
+                let count = self.parameter_width(setting, file, word.as_str(), term.at)?;
+                Ok(Some(count))
+            }
+            Count::WidthOf(reference) => self.width_of(setting, file, reference, needs),
+            Count::Code => Err(Stop::at(Why::WidthByCode, file, term.at)),
+            Count::Open => Err(Stop::at(Why::OpenWidth, file, term.at)),
+        }
+    }
+
+    /// The terms of a width together, if all of them are known. What else they hang on is put behind a list.
+    fn sum(
+        &mut self,
+        setting: usize,
+        file: usize,
+        terms: &[Term],
+        needs: &mut Vec<Wanted>,
+    ) -> Result<Option<u64>, Stop>
+        ensures work { OnOk result (self.new.work.left ≤ self.old.work.left) }
+        ensures goes { OnOk result (GoesOn (table self.old) (table self.new)) }
+        ensures sum { IfOk result (λ all. IfSome all (λ n. (t : Valued) → AreMade (table self.old) → setting_at self.old setting ≡ Some t → IsSum self.old.shapes.items t terms.now n)) }
+        ensures needs { OnOk result ((t : Valued) → AreMade (table self.old) → setting_at self.old setting ≡ Some t → AddsOnly (IsCountedIn self.old.shapes.items t terms.now) self.new.settings.items needs.old.items needs.new.items) }
+    {
+        let mut all = Some(0);
+        for term in terms {
+            let count = self.term(setting, file, term, needs)?;
+            all = plus(all, count);
+        }
+        Ok(all)
+    }
+
+    /// Finds a width, if it isn't known and all that it hangs on is. Else that is wanted before it.
+    fn find_width(&mut self, wanted: Wanted, path: &mut Path) -> Result<(), Stop>
+        ensures work { OnOk result (self.new.work.left ≤ self.old.work.left) }
+        ensures goes { OnOk result (GoesOn (table self.old) (table self.new)) }
+        ensures path { OnOk result ((t : Valued) (m : ℕ) → AreMade (table self.old) → IsPath self.old.shapes.items self.old.settings.items t m path.old → IsNext self.old.shapes.items self.old.settings.items t m path.old wanted → IsPath self.old.shapes.items self.new.settings.items t m path.new) }
+    {
+        if self.known(wanted.setting, wanted.member).is_some() {
+            return Ok(());
+        }
+        let Some(inherited) = self.inherited(wanted) else {
+            return Ok(());
+        };
+        let Some(width) = inherited.width() else {
+            return Ok(());
+        };
+        let mut needs = Vec::new(self.alloc);
+        let all = self.sum(wanted.setting, inherited.file, &width.terms, &mut needs)?;
+        if let Some(width) = all {
+            self.note_width(wanted, width);
+            return Ok(());
+        }
+        if path.open(wanted, &needs)? {
+            Ok(())
+        } else {
+            Err(Stop::at(Why::WidthOfItself, inherited.file, inherited.at()))
+        }
+    }
+
+    /// The width of the member of this number in a setting; None for a plain one.
+    pub fn width(&mut self, setting: usize, member: usize) -> Result<Option<u64>, Stop>
+        ensures plain { IfOk result (λ width. IsSome width ↔ IsSome (width_at self.old setting member)) }
+        ensures found { IfOk result (λ width. IfSome width (λ count. found_width self.new setting member ≡ Some count)) }
+        ensures goes { OnOk result (GoesOn (table self.old) (table self.new)) }
+        ensures width { IfOk result (λ width. (t : Valued) → AreMade (table self.old) → setting_at self.old setting ≡ Some t → HasWidth self.old.shapes.items t member width) }
+    {
+        let first = Wanted { setting, member };
+        if !self.is_wide(first) {
+            return Ok(None);
+        }
+        let mut path = Path::of(self.alloc);
+        'widths: loop {
+            if let Some(width) = self.known(setting, member) {
+                return Ok(Some(width));
+            }
+            self.work.spend(1)?;
+            let wanted = path.pop(first);
+            self.find_width(wanted, &mut path)?;
+        }
+    }
+}

@@ -1,3 +1,0 @@
-pub mod Back
-pub mod Texts
-pub mod Lines

@@ -1,6 +1,0 @@
-use Rattle.std.proofs.Common.{◌≡◌, [], ◌++◌, take, string_bytes, flat_map}
-use Rattle.lft_explain.specs.Reads.{read_line}
-use Rattle.lft_explain.proofs.reads.lines.Given as goal
-
-abbrev pub invariant-loop-place : goal.invariant-loop-place
-invariant-loop-place l = string_bytes l.text ≡ [] ++ flat_map (read_line l.program l.widths) (take l.place l.facts)

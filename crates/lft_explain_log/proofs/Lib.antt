@@ -1,4 +1,0 @@
-mod Cutting
-mod Early
-mod Listing
-mod Writing

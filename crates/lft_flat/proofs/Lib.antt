@@ -1,5 +1,0 @@
-pub mod Decimals
-pub mod Positions
-pub mod Ranges
-pub mod Origins
-pub mod Naming

@@ -1,6 +1,0 @@
-pub mod Names
-pub mod Naming
-pub mod Origins
-pub mod Parts
-pub mod Places
-pub mod Sound

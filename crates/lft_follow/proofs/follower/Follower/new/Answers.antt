@@ -1,5 +1,0 @@
-use Rattle.lft_follow.proofs.Following.{new_follower}
-use Rattle.lft_follow.proofs.follower.Follower.new.Goals as goal
-
-pub returns : goal.returns
-returns c = new_follower c.args.plan.now _ c.in_ok-new.ensures c.in_ok-new-2.ensures c.new-3.ensures.items

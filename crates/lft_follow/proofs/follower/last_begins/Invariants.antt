@@ -1,6 +1,0 @@
-use Rattle.std.proofs.Common.{◌-◌}
-use Rattle.lft_follow.specs.Follows.{AreLast}
-use Rattle.lft_follow.proofs.follower.last_begins.Given as goal
-
-abbrev pub invariant-loop-passed : goal.invariant-loop-passed
-invariant-loop-passed l = AreLast l.rows l.end (l.end - l.passed)

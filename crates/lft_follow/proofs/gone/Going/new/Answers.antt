@@ -1,7 +1,0 @@
-use Rattle.std.proofs.Common.{[], refl, ap, ◌∙◌}
-use Rattle.lft_steps.specs.Inputs.{ExternalInputs}
-use Rattle.lft_follow.proofs.Passing.{begun}
-use Rattle.lft_follow.proofs.gone.Going.new.Goals as goal
-
-pub returns : goal.returns
-returns c = λ rows. begun c.args.plan.now [] rows _ (c.stop.ensures ∙ ap (λ (e : ExternalInputs). e.stop) c.externals.ensures.value) refl refl c.in_ok-begin.ensures

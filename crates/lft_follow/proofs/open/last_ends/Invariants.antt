@@ -1,6 +1,0 @@
-use Rattle.std.proofs.Common.{◌≡◌, length}
-use Rattle.lft_follow.specs.OpenRuns.{EndBefore}
-use Rattle.lft_follow.proofs.open.last_ends.Given as goal
-
-abbrev pub invariant-loop-place : goal.invariant-loop-place
-invariant-loop-place l = (length l.last.items ≡ l.reactions) × EndBefore l.rows l.place l.last.items

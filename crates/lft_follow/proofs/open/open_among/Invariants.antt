@@ -1,5 +1,0 @@
-use Rattle.lft_follow.proofs.Opened.{AreOpenTo}
-use Rattle.lft_follow.proofs.open.open_among.Given as goal
-
-abbrev pub invariant-loop-place : goal.invariant-loop-place
-invariant-loop-place l = AreOpenTo l.before l.rows l.place l.runs.items

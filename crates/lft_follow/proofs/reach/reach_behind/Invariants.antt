@@ -1,8 +1,0 @@
-use Rattle.std.proofs.Common.{◌+◌, ◌++◌, List, length, take}
-use Rattle.lft_steps.specs.declared.row.Row.{Row}
-use Rattle.lft_rows.specs.Slices.{Rises}
-use Rattle.lft_follow.specs.Reach.{IsReach}
-use Rattle.lft_follow.proofs.reach.reach_behind.Given as goal
-
-abbrev pub invariant-loop-place : goal.invariant-loop-place
-invariant-loop-place l = (done : List Row) → Rises (done ++ l.rows) → IsReach done l.fn.reach → IsReach (take (length done + l.place) (done ++ l.rows)) l.reach

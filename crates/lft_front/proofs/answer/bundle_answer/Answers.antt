@@ -1,5 +1,0 @@
-use Rattle.lft_front.specs.Refusals.BundleRefusal.{by_judging}
-use Rattle.lft_front.proofs.answer.bundle_answer.Goals as goal
-
-pub returns-in-Err-clause-refused : goal.returns-in-Err-clause-refused
-returns-in-Err-clause-refused g c = by_judging c.in-Some.bundle.program.now c.in-Some.bundle.externals.now c.in-Some.bundle.trace.now c.in-Some.ensures.some c.in-Err.ensures.refused

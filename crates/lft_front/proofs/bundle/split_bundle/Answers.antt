@@ -1,5 +1,0 @@
-use Rattle.lft_front.proofs.Missing.{no_bundle}
-use Rattle.lft_front.proofs.bundle.split_bundle.Goals as goal
-
-pub returns-in-Err-clause-none : goal.returns-in-Err-clause-none
-returns-in-Err-clause-none c = no_bundle c.args.text.now c.in-Err.field-0 c.in-Err.ensures.missing

@@ -1,7 +1,0 @@
-use Rattle.std.proofs.Common.{◌≡◌, ℕ, ◌<◌, Some, slice_get}
-use Rattle.lft_flat.specs.declared.parts.Name.TheVariants.{Port}
-use Rattle.lft_flat.specs.declared.parts.Trigger.TheVariants.{On}
-use Rattle.lft_hints.proofs.guessing.has_port.Given as goal
-
-abbrev pub invariant-loop-place : goal.invariant-loop-place
-invariant-loop-place l = (i p : ℕ) → i < l.place → slice_get l.triggers i ≡ Some (On (Port p)) → ⊥

@@ -1,4 +1,0 @@
-use Rattle.lft_hints.proofs.guessing.of_other_rules.Goals as goal
-
-pub returns-in-5-clause-some : goal.returns-in-5-clause-some
-returns-in-5-clause-some c = c.of_unended.ensures.some c.args.plan.now

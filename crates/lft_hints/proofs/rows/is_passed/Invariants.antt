@@ -1,7 +1,0 @@
-use Rattle.std.proofs.Common.{◌≡◌, ℕ, ◌<◌, Some, slice_get}
-use Rattle.lft_tag.specs.Tags.{Before}
-use Rattle.lft_steps.specs.declared.row.Row.{Row}
-use Rattle.lft_hints.proofs.rows.is_passed.Given as goal
-
-abbrev pub invariant-loop-place : goal.invariant-loop-place
-invariant-loop-place l = (i : ℕ) (row : Row) → i < l.place → slice_get l.rows i ≡ Some row → ¬ Before l.tag row.tag

@@ -1,6 +1,0 @@
-use Rattle.std.proofs.Common.{◌≡◌, map, take, string_bytes}
-use Rattle.lft_imports.specs.Paths.{joined}
-use Rattle.lft_imports.proofs.paths.joined.Given as goal
-
-abbrev pub invariant-loop-place : goal.invariant-loop-place
-invariant-loop-place l = string_bytes l.path ≡ joined l.fn.from_root (take l.place (map (λ x. x.now) l.folders))

@@ -1,6 +1,0 @@
-use Rattle.std.proofs.Common.{map}
-use Rattle.lft_instances.proofs.Siblings.{Filled}
-use Rattle.lft_instances.proofs.nesting.Children.of.Given as goal
-
-abbrev pub invariant-instances : goal.invariant-instances
-invariant-instances l = Filled l.instances (map (λ row. row.items) l.rows.items) l.number

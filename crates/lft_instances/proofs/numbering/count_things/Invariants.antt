@@ -1,6 +1,0 @@
-use Rattle.std.proofs.Common.{◌≡◌, min, take}
-use Rattle.lft_instances.specs.Numbers.{things}
-use Rattle.lft_instances.proofs.numbering.count_things.Given as goal
-
-abbrev pub invariant-instances : goal.invariant-instances
-invariant-instances l = l.total ≡ min (things l.counts (take l.number l.instances)) 18446744073709551615

@@ -1,6 +1,0 @@
-use Rattle.std.proofs.Common.{◌≤◌}
-use Rattle.lft_instances.proofs.Things.{Numbering}
-use Rattle.lft_instances.proofs.numbering.first_numbers.Given as goal
-
-abbrev pub invariant-instances : goal.invariant-instances
-invariant-instances l = Numbering l.counts l.instances l.firsts.items l.number l.total × (l.total ≤ l.limit)

@@ -1,8 +1,0 @@
-use Rattle.lft_instances.proofs.Listing.{Listing}
-use Rattle.lft_instances.proofs.numbering.list_things.Given as goal
-
-abbrev pub invariant-instances : goal.invariant-instances
-invariant-instances l = Listing l.counts l.instances l.number 0 l.all.items
-
-abbrev pub invariant-things : goal.invariant-things
-invariant-things l = Listing l.counts l.instances l.number l.place l.all.items

@@ -1,6 +1,0 @@
-use Rattle.std.proofs.Common.{map}
-use Rattle.lft_instances.proofs.Entering.{Valued}
-use Rattle.lft_instances.proofs.settings.Values.of.Given as goal
-
-abbrev pub invariant-instances : goal.invariant-instances
-invariant-instances l = Valued l.table l.instances (map (λ row. row.items) l.rows.items) l.number

@@ -1,0 +1,139 @@
+//! Files by their paths: their bytes, or why they can't be read or written.
+
+ghost use Rattle.std.specs.Prelude.{◌≤◌, ◌^◌, ◌⊎◌, IfErr, IfOk, length};
+ghost use Rattle.lft_load.specs.Faults.{IsFaultOfPath};
+ghost use Rattle.lft_load.specs.declared.fault.Part.TheVariants as part;
+
+use crate::{Fault, Part, read_input};
+use std::alloc::Global;
+use std::fs;
+use std::fs::File;
+use std::io::ErrorKind;
+use std::rt::Files;
+
+/// What is said of a folder in the place of a file.
+const FOLDER: &str = "that is a folder";
+
+/// Why a command has no answer: its fault, and where a file can't be read, the cause in words, if it is
+/// known.
+#[derive(Drop)]
+pub struct Failure {
+    pub fault: Fault,
+    pub cause: Option<&'static str>,
+}
+
+impl From<Fault> for Failure {
+    ghost use Rattle.std.specs.Prelude.{◌≡◌, None};
+
+    ghost from_gives = { λ fault e. e ≡ record { fault = fault; cause = None } };
+
+    fn from(fault: Fault) -> Failure {
+        Failure { fault, cause: None }
+    }
+}
+
+/// Why the file at a path can't be opened.
+fn cause_of(path: &str, kind: ErrorKind) -> Option<&'static str> {
+    match kind {
+        ErrorKind::NotFound if path == "-" => Some("standard input is /dev/stdin"),
+        ErrorKind::NotFound => Some("there is no such file"),
+        ErrorKind::NotADirectory => Some("a part of the path is a file, and no folder"),
+        ErrorKind::PermissionDenied => Some("there is no permission to read it"),
+        _ => None,
+    }
+}
+
+/// Whether a folder is at a path.
+fn is_folder<F: Files>(rt: &F, path: &str) -> bool {
+    match fs::metadata(rt, path) {
+        Ok(found) => found.is_dir(),
+        Err(_) => false,
+    }
+}
+
+/// The failure of a file at a path that can't be read.
+fn unread(alloc: Global, path: &str, cause: Option<&'static str>) -> Failure
+    ensures { IsFaultOfPath result.fault part.Read 1 path.now }
+{
+    Failure {
+        fault: Fault::of_path(alloc, Part::Read, 1, "Failed", path),
+        cause,
+    }
+}
+
+/// The failure of a file at a path that has more bytes than it may.
+fn too_large(alloc: Global, path: &str) -> Failure
+    ensures { IsFaultOfPath result.fault part.Read 2 path.now }
+{
+    Failure {
+        fault: Fault::of_path(alloc, Part::Read, 2, "TooLarge", path),
+        cause: None,
+    }
+}
+
+/// The file at a path, to be read.
+pub fn open_file<F: Files>(rt: &F, alloc: Global, path: &str) -> Result<F::File, Failure>
+    ensures { IfErr result (λ failure. IsFaultOfPath failure.fault part.Read 1 path.now) }
+{
+    match File::open(rt, path) {
+        Ok(file) => Ok(file),
+        Err(error) => Err(unread(alloc, path, cause_of(path, error.kind()))),
+    }
+}
+
+/// The bytes of the file at a path.
+pub fn read_file<F: Files>(rt: &F, alloc: Global, path: &str) -> Result<Vec<u8>, Failure>
+    ensures limit { IfOk result (λ bytes. length bytes.items ≤ 2 ^ 30) }
+    ensures refused { IfErr result (λ failure. IsFaultOfPath failure.fault part.Read 1 path.now ⊎ IsFaultOfPath failure.fault part.Read 2 path.now) }
+{
+    let mut file = open_file(rt, alloc, path)?;
+    match read_input(alloc, path, &mut file) {
+        Ok(bytes) => Ok(bytes),
+        Err(fault) => Err(Failure {
+            fault,
+            cause: is_folder(rt, path).then_some(FOLDER),
+        }),
+    }
+}
+
+/// The bytes of an ordinary file at a path, of which there may be so many. What is no ordinary file isn't opened: a
+/// pipe would be waited for, and a device may have no end.
+pub fn read_ordinary<F: Files>(
+    rt: &F,
+    alloc: Global,
+    path: &str,
+    most: u64,
+) -> Result<Vec<u8>, Failure>
+    ensures limit { IfOk result (λ bytes. length bytes.items ≤ most) }
+    ensures refused { IfErr result (λ failure. IsFaultOfPath failure.fault part.Read 1 path.now ⊎ IsFaultOfPath failure.fault part.Read 2 path.now) }
+{
+    let found = match fs::metadata(rt, path) {
+        Ok(found) => found,
+        Err(error) => return Err(unread(alloc, path, cause_of(path, error.kind()))),
+    };
+    if found.is_dir() {
+        return Err(unread(alloc, path, Some(FOLDER)));
+    }
+    if !found.is_file() {
+        return Err(unread(alloc, path, Some("that is no ordinary file")));
+    }
+    if found.len() > most {
+        return Err(too_large(alloc, path));
+    }
+    let bytes = read_file(rt, alloc, path)?;
+    // more may stand there by now
+    if bytes.len() as u64 > most {
+        return Err(too_large(alloc, path));
+    }
+    Ok(bytes)
+}
+
+/// An empty file at a path, to be written. What stood in a file there is lost.
+pub fn create_file<F: Files>(rt: &F, alloc: Global, path: &str) -> Result<F::File, Fault>
+    ensures { IfErr result (λ fault. IsFaultOfPath fault part.Write 1 path.now) }
+{
+    match File::create(rt, path) {
+        Ok(file) => Ok(file),
+        Err(_) => Err(Fault::of_path(alloc, Part::Write, 1, "Failed", path)),
+    }
+}

@@ -1,0 +1,4 @@
+pub mod Cutting
+pub mod Early
+pub mod Listing
+pub mod Writing

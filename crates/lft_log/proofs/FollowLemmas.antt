@@ -1,0 +1,6 @@
+pub mod Reading
+pub mod Telling
+pub mod Words
+pub mod Reaching
+pub mod Refusing
+pub mod Keeping

@@ -1,0 +1,24 @@
+use Rattle.std.proofs.Common.{Err, inl, inr}
+use Rattle.std.proofs.KnownBytes.{Keeps-refl}
+use Rattle.std.proofs.lemmas.Result.{IfErr-weaker, IfOk-weaker}
+use Rattle.lft_log.proofs.FollowLemmas.Reaching.{writes_none}
+use Rattle.lft_log.specs.declared.explain.explaining.Explained.{Explained}
+use Rattle.lft_log.proofs.explain.explaining.explain_log.Goals as goal
+
+pub returns-in-Ok-clause-explained : goal.returns-in-Ok-clause-explained
+returns-in-Ok-clause-explained g c = IfOk-weaker c.explain_log_plan.result _ _ (λ e h. record { it = c.in-Ok.plan; is_only = c.in-Ok.ensures.plan; said = h }) c.explain_log_plan.ensures.explained
+
+pub returns-in-Ok-clause-refused : goal.returns-in-Ok-clause-refused
+returns-in-Ok-clause-refused g c = IfErr-weaker c.explain_log_plan.result _ _ (λ f h. inr (record { it = c.in-Ok.plan; is_only = c.in-Ok.ensures.plan; said = h })) c.explain_log_plan.ensures.refused
+
+pub returns-in-Ok-clause-every : goal.returns-in-Ok-clause-every
+returns-in-Ok-clause-every g c = inr (record { it = c.in-Ok.plan; is_only = c.in-Ok.ensures.plan; said = c.explain_log_plan.ensures.every })
+
+pub returns-in-Err-clause-refused : goal.returns-in-Err-clause-refused
+returns-in-Err-clause-refused g c = inl (c.in-Err.ensures.refused, Keeps-refl (g.W.Write.contents c.args.out.now))
+
+pub returns-in-Err-clause-kept : goal.returns-in-Err-clause-kept
+returns-in-Err-clause-kept g c = λ other. Keeps-refl (g.W.Write.contents c.args.out.now)
+
+pub returns-in-Err-clause-every : goal.returns-in-Err-clause-every
+returns-in-Err-clause-every g c = inl (writes_none {X = Explained} (Err c.in-Err.fault) (g.E.Write.contents c.args.errors.now))

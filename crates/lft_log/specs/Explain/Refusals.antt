@@ -1,0 +1,23 @@
+-- Why a log isn't explained: it isn't followed, or the writer fails behind the line of what is told.
+use Rattle.std.specs.Prelude.{◌≡◌, ◌⊎◌, ℕ, Bool, List, ◌++◌, take, Option}
+use Rattle.std.specs.Io.KnownBytes.{Appends, Keeps}
+use Rattle.lft_tag.specs.declared.Tag.{Tag}
+use Rattle.lft_model.specs.Plans.{PlanParts}
+use Rattle.lft_load.specs.Meaning.{IsPlanOf, OfOnly}
+use Rattle.lft_load.specs.Refusals.{LoadRefusal}
+use Rattle.lft_load.specs.declared.fault.Fault.{Fault}
+use Rattle.lft_load.specs.declared.fault.Part.TheVariants as part
+use Rattle.lft_log.specs.declared.told.Final.{Final}
+use Rattle.lft_log.specs.Follow.Followed.{IsRead}
+use Rattle.lft_log.specs.Follow.Lines.{line_of_log}
+use Rattle.lft_log.specs.Follow.Refusals.{FollowRefusalUnder}
+use Rattle.lft_log.specs.Explain.Explained.{IsToStand}
+
+-- a log isn't explained under a plan: it isn't followed; or the writer took the line of what is told, and failed on what stands behind it
+pub data ExplainLogRefusalUnder (plan : PlanParts) (path : List ℕ) (until : Option Tag) (whole all : Bool) (old new out_old out_new : Option (List ℕ)) (f : Fault) : Type 0 where
+  by_log : FollowRefusalUnder plan path until whole old new out_old out_new f → ExplainLogRefusalUnder plan path until whole all old new out_old out_new f
+  by_writer_behind : (log : List ℕ) (told : Final) (rest : List ℕ) (n : ℕ) → f.part ≡ part.Write → f.number ≡ 1 → IsRead plan until whole log old new told → IsToStand all plan log told rest → Appends out_old out_new (line_of_log plan.program told ++ take n rest) → ExplainLogRefusalUnder plan path until whole all old new out_old out_new f
+
+-- a log isn't explained: the two texts have no plan, and nothing was written, or it isn't explained under theirs
+abbrev pub ExplainLogRefusal : List ℕ → List ℕ → List ℕ → Option Tag → Bool → Bool → Option (List ℕ) → Option (List ℕ) → Option (List ℕ) → Option (List ℕ) → Fault → Type 0
+ExplainLogRefusal program externals path until whole all old new out_old out_new f = (LoadRefusal program externals f × Keeps out_old out_new) ⊎ OfOnly (IsPlanOf program externals) (λ plan. ExplainLogRefusalUnder plan path until whole all old new out_old out_new f)

@@ -1,0 +1,6 @@
+use Rattle.lft_lower.specs.Meanings.Names.{texts}
+use Rattle.lft_lower.proofs.MeaningsLemmas.Apart.{AreNone}
+use Rattle.lft_lower.proofs.meanings.naming.CoreNames.of.Given as goal
+
+abbrev pub invariant-loop : goal.invariant-loop
+invariant-loop l = AreNone (texts l.found.items)

@@ -1,0 +1,11 @@
+use Rattle.std.proofs.Common.{◌++◌, codes, decimal, string_bytes}
+use Rattle.lft_ir.proofs.WordsLemmas.Steps.{also}
+use Rattle.lft_lower.proofs.meanings.notes.push_divide.Goals as goal
+
+pub returns : goal.returns
+returns c =
+    let line = string_bytes c.args.line.now in
+    let second = string_bytes c.push_counted-2.new.text in
+    let left = codes "the width on the left, " ++ decimal c.args.left in
+    let right = codes ", doesn't divide the width on the right, " ++ decimal c.args.right in
+    also line second (string_bytes c.push_str.new.self) (left ++ right) (codes ".") (also line (string_bytes c.push_counted.new.text) second left right c.in_ok-push_counted.ensures c.in_ok-push_counted-2.ensures) c.in_ok-push_str.ensures.bytes

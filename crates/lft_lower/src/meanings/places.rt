@@ -1,0 +1,497 @@
+//! What references become: a reference for each place.
+
+ghost use Rattle.std.specs.Prelude.{◌≡◌, ◌+◌, ◌*◌, ◌++◌, ◌⊎◌, Bool, Some, IfErr, IfOk, OnOk, is_some, length, option_map, string_bytes, take};
+ghost use Rattle.std.specs.List.{All};
+ghost use Rattle.lft_classes.specs.declared.shapes.Thing.TheVariants as things;
+ghost use Rattle.lft_tree.specs.View.{ref_view, ref_views};
+ghost use Rattle.lft_elaborate.specs.Names.{spelled};
+ghost use Rattle.lft_lower.specs.Meanings.Meanings.{Means, all_places, here, inner_width, member_in, named_in, parameter_in, places_in, port_in, port_sense, sense_in, shape_inside, thing_in, token_in};
+ghost use Rattle.lft_lower.specs.Meanings.Places.{count_of, inner_places, name_at, own_places, places_of, sense, several, up_to, is_wide};
+ghost use Rattle.lft_lower.specs.Meanings.Refused.{IfRefused, IsAt, IsNoPort, IsOfOne, IsOfReference, IsPassed};
+ghost use Rattle.lft_lower.specs.Meanings.Standing.{AddsAt, all_tokens, ref_tokens, tokens_of};
+
+use crate::meanings::room::Room;
+use lft_classes::{Shape, Thing, Work};
+use lft_elaborate::channels::place_at;
+use lft_elaborate::{Numbered, Settings, name_of};
+use lft_tree::Reference;
+use lft_whole::sources::{Place, SourceFile, Stop, Why, number_of};
+use lft_whole::{Member, Name, Reference as Written};
+use std::alloc::Global;
+
+/// A thing of a setting, with its width, if it has one.
+#[derive(Clone, Copy)]
+pub struct Wide<'a> {
+    name: &'a str,
+    width: Option<u64>,
+}
+
+impl<'a> Wide<'a> {
+    /// How many it is.
+    pub fn count(self) -> usize
+        ensures { result ≡ count_of (several self.entry) }
+    {
+        self.width.unwrap_or(1) as usize
+    }
+
+    /// The one of this number.
+    pub fn at(self, number: usize) -> Numbered<'a>
+        ensures { spelled result ≡ name_at (several self.entry) number }
+    {
+        Numbered {
+            name: self.name,
+            number: match self.width {
+                Some(_) => Some(number as u64),
+                None => None,
+            },
+        }
+    }
+
+    /// Whether it has a width.
+    fn is_wide(self) -> bool
+        ensures { result ≡ is_some self.entry.width }
+    {
+        self.width.is_some()
+    }
+}
+
+/// Where references are looked up: a setting, by its number, its shape, and the file in which they stand. The
+/// widths of all that is used are known.
+#[derive(Clone, Copy)]
+pub struct Within<'s, 'a> {
+    pub files: &'s [SourceFile],
+    pub settings: &'s Settings<'a>,
+    pub setting: usize,
+    pub shape: &'s Shape<'a>,
+    pub file: usize,
+}
+
+/// The member of this number of a shape, with its width.
+fn wide_member<'a>(shape: &Shape<'a>, number: usize, width: Option<u64>) -> Wide<'a>
+    ensures { several result ≡ member_in shape.now number width }
+{
+    let name = match shape.member(number) {
+        Some(inherited) => name_of(inherited.member),
+        None => "",
+    };
+    Wide { name, width }
+}
+
+/// The parameter of this number of a shape.
+fn parameter<'a>(shape: &Shape<'a>, number: usize) -> Wide<'a>
+    ensures { several result ≡ parameter_in shape.now number }
+{
+    let name = match shape.parameters.get(number) {
+        Some(found) => found.parameter.name.text.as_str(),
+        None => "",
+    };
+    Wide { name, width: None }
+}
+
+/// The port of this name in a shape, by its number.
+fn port(shape: &Shape, name: &str) -> Option<usize>
+    ensures { result ≡ port_in shape.now name.now }
+{
+    match shape.find(name) {
+        Some(Thing::Member(number)) => match shape.member(number) {
+            Some(inherited) => match inherited.member {
+                Member::Port(_) => Some(number),
+                _ => None,
+            },
+            None => None,
+        },
+        _ => None,
+    }
+}
+
+impl<'s, 'a> Within<'s, 'a> {
+    /// The number of a token of the file among those of all files.
+    pub fn token(self, token: usize) -> usize
+        ensures { result ≡ token_in self.entry token }
+    {
+        let file = self.file;
+        number_of(self.files, Place { file, token })
+    }
+
+    /// The member of this number, which has this name.
+    pub fn named<'n>(self, name: &'n Name, number: usize) -> Wide<'n>
+        ensures { several result ≡ named_in (here self.entry) (string_bytes name.now.text) number }
+    {
+        Wide {
+            name: name.text.as_str(),
+            width: self.settings.known(self.setting, number),
+        }
+    }
+
+    /// The member of this number.
+    fn member(self, number: usize) -> Wide<'a>
+        ensures { several result ≡ thing_in (here self.entry) (things.Member number) }
+    {
+        let width = self.settings.known(self.setting, number);
+        wide_member(self.shape, number, width)
+    }
+
+    /// A thing of the reactor.
+    fn thing(self, thing: Thing) -> Wide<'a>
+        ensures { several result ≡ thing_in (here self.entry) thing }
+    {
+        match thing {
+            Thing::Parameter(number) => parameter(self.shape, number),
+            Thing::Member(number) => self.member(number),
+        }
+    }
+
+    /// The width of a port of an instance, both by their numbers.
+    fn inner_width(self, instance: usize, port: usize) -> Option<u64>
+        ensures { result ≡ inner_width (here self.entry) instance port }
+    {
+        match self.settings.known_inside(self.setting, instance) {
+            Some(inner) => self.settings.known(inner, port),
+            None => None,
+        }
+    }
+
+    /// The shape of the reactor of the instance of this number.
+    pub fn inner_shape(self, instance: usize) -> Option<&'s Shape<'a>>
+        ensures { option_map (λ shape. shape.now) result ≡ shape_inside (here self.entry) instance }
+    {
+        match self.shape.child(instance) {
+            Some(child) => self.settings.shapes.get(child.shape),
+            None => None,
+        }
+    }
+}
+
+/// What a reference means: a thing of the reactor itself, or of an instance or a bank a port.
+#[derive(Clone, Copy)]
+pub enum Meant<'a> {
+    Own(Wide<'a>),
+    Inner(Wide<'a>, Wide<'a>),
+}
+
+/// The sum of two counts. One that can't be counted is refused.
+fn sum(work: &Work, left: usize, right: usize) -> Result<usize, Stop>
+    ensures sum { IfOk result (λ sum. sum ≡ left + right) }
+    ensures cause { IfErr result (IfRefused (IsPassed work.now.main)) }
+{
+    match left.checked_add(right) {
+        Some(sum) => Ok(sum),
+        None => Err(work.refused(Why::TooMuch)),
+    }
+}
+
+/// The product of two counts. One that can't be counted is refused.
+fn product(work: &Work, left: usize, right: usize) -> Result<usize, Stop>
+    ensures product { IfOk result (λ product. product ≡ left * right) }
+    ensures cause { IfErr result (IfRefused (IsPassed work.now.main)) }
+{
+    match left.checked_mul(right) {
+        Some(product) => Ok(product),
+        None => Err(work.refused(Why::TooMuch)),
+    }
+}
+
+impl Meant<'_> {
+    /// How many places it has. More than can be counted are refused.
+    fn count(self, work: &Work) -> Result<usize, Stop>
+        ensures cause { IfErr result (IfRefused (IsPassed work.now.main)) }
+        ensures count { IfOk result (λ count. (interleaved : Bool) → count ≡ length (places_of interleaved (sense self.entry))) }
+    {
+        match self {
+            Meant::Own(thing) => Ok(thing.count()),
+            Meant::Inner(members, ports) => {
+                let count = product(work, members.count(), ports.count())?;
+                Ok(count)
+            }
+        }
+    }
+
+    /// Whether there is a width in it.
+    pub fn is_wide(self) -> bool
+        ensures { result ≡ is_wide (sense self.entry) }
+    {
+        match self {
+            Meant::Own(thing) => thing.is_wide(),
+            Meant::Inner(members, ports) => members.is_wide() || ports.is_wide(),
+        }
+    }
+}
+
+/// What a port of the instance of this number means.
+fn inner<'a>(
+    within: Within<'_, 'a>,
+    instance: usize,
+    reference: &Written,
+    name: &Name,
+) -> Result<Meant<'a>, Stop>
+    ensures sense { IfOk result (λ meant. port_sense (here within.entry) instance (string_bytes name.now.text) ≡ Some (sense meant)) }
+    ensures cause { IfErr result (IfRefused (λ r. IsAt within.entry.file reference.now.head.at r × IsNoPort (shape_inside (here within.entry) instance) (string_bytes name.now.text) r.why)) }
+{
+    let at = reference.head.at;
+    let Some(shape) = within.inner_shape(instance) else {
+        return Err(Stop::at(Why::UnknownInstance, within.file, at));
+    };
+    let Some(port) = port(shape, name.text.as_str()) else {
+        return Err(Stop::at(Why::UnknownPort, within.file, at));
+    };
+    let width = within.inner_width(instance, port);
+    Ok(Meant::Inner(within.member(instance), wide_member(shape, port, width)))
+}
+
+/// What a reference means in a setting.
+pub fn meaning<'a>(within: Within<'_, 'a>, reference: &Written) -> Result<Meant<'a>, Stop>
+    ensures sense { IfOk result (λ meant. sense_in (here within.entry) reference.now ≡ Some (sense meant)) }
+    ensures cause { IfErr result (IfRefused (IsOfReference (here within.entry) within.entry.file reference.now)) }
+{
+    let at = reference.head.at;
+    let head = within.shape.find(reference.head.text.as_str());
+    match &reference.port {
+        None => match head {
+            Some(thing) => Ok(Meant::Own(within.thing(thing))),
+            None => Err(Stop::at(Why::UnknownName, within.file, at)),
+        },
+        Some(name) => match head {
+            Some(Thing::Member(instance)) => inner(within, instance, reference, name),
+            _ => Err(Stop::at(Why::UnknownInstance, within.file, at)),
+        },
+    }
+}
+
+/// The text of a name, which is counted.
+pub fn counted(alloc: Global, room: &mut Room, work: &Work, name: Numbered) -> Result<String, Stop>
+    ensures text { IfOk result (λ text. string_bytes text ≡ spelled name.entry) }
+    ensures cause { IfErr result (IfRefused (IsPassed work.now.main)) }
+{
+    let text = name.spelled(alloc)?;
+    room.spend(text.len(), work)?;
+    Ok(text)
+}
+
+/// The same of a name, if there is one.
+fn counted_if(
+    alloc: Global,
+    room: &mut Room,
+    work: &Work,
+    name: Option<Numbered>,
+) -> Result<Option<String>, Stop>
+    ensures text { IfOk result (λ text. option_map (λ t. string_bytes t) text ≡ option_map spelled name.entry) }
+    ensures cause { IfErr result (IfRefused (IsPassed work.now.main)) }
+{
+    match name {
+        Some(name) => Ok(Some(counted(alloc, room, work, name)?)),
+        None => Ok(None),
+    }
+}
+
+/// A core reference to a thing, or to a port of an instance. It stands at a token of all files.
+fn made(
+    alloc: Global,
+    room: &mut Room,
+    work: &Work,
+    at: usize,
+    head: Numbered,
+    port: Option<Numbered>,
+) -> Result<Reference, Stop>
+    ensures made { IfOk result (λ made. ref_view made ≡ record { head = spelled head.entry; port = option_map spelled port.entry }) }
+    ensures at { IfOk result (λ made. made.at ≡ at) }
+    ensures cause { IfErr result (IfRefused (IsPassed work.now.main)) }
+{
+    let head = counted(alloc, room, work, head)?;
+    let port = counted_if(alloc, room, work, port)?;
+    Ok(Reference { head, port, at })
+}
+
+/// Puts the places of a thing of the reactor itself at the end of a list, until that has `most`.
+fn push_own(
+    alloc: Global,
+    room: &mut Room,
+    work: &Work,
+    at: usize,
+    thing: Wide,
+    most: usize,
+    list: &mut Vec<Reference>,
+) -> Result<(), Stop>
+    ensures places { OnOk result (ref_views list.new.items ≡ up_to most (ref_views list.old.items) (own_places (several thing.entry))) }
+    ensures at { OnOk result (AddsAt list.old.items list.new.items at) }
+    ensures cause { IfErr result (IfRefused (IsPassed work.now.main)) }
+{
+    let count = thing.count();
+    for place in 0..count {
+        if list.len() >= most {
+            return Ok(());
+        }
+        let reference = made(alloc, room, work, at, thing.at(place), None)?;
+        list.push(reference)?;
+    }
+    Ok(())
+}
+
+/// Puts the places of a port of an instance or a bank at the end of a list, until that has `most`.
+fn push_inner(
+    alloc: Global,
+    room: &mut Room,
+    work: &Work,
+    at: usize,
+    members: Wide,
+    channels: Wide,
+    is_interleaved: bool,
+    most: usize,
+    list: &mut Vec<Reference>,
+) -> Result<(), Stop>
+    ensures places { OnOk result (ref_views list.new.items ≡ up_to most (ref_views list.old.items) (inner_places (several members.entry) (several channels.entry) is_interleaved)) }
+    ensures at { OnOk result (AddsAt list.old.items list.new.items at) }
+    ensures cause { IfErr result (IfRefused (IsPassed work.now.main)) }
+{
+    let rows = members.count();
+    let width = channels.count();
+    let all = rows.saturating_mul(width);
+    for place in 0..all {
+        if list.len() >= most {
+            return Ok(());
+        }
+        let spot = place_at(rows, width, is_interleaved, place);
+        let head = members.at(spot.0);
+        let port = channels.at(spot.1);
+        let reference = made(alloc, room, work, at, head, Some(port))?;
+        list.push(reference)?;
+    }
+    Ok(())
+}
+
+/// How many places references have together.
+pub fn count(within: Within, references: &[Written]) -> Result<usize, Stop>
+    ensures count { IfOk result (λ count. count ≡ length (all_places (here within.entry) references.now)) }
+    ensures means { OnOk result (All (Means (here within.entry)) references.now) }
+    ensures cause { IfErr result (IfRefused (λ r. IsPassed within.entry.settings.now.work.main r ⊎ IsOfOne (here within.entry) within.entry.file references.now r)) }
+{
+    let work = &within.settings.work;
+    let mut all: usize = 0;
+    for place in 0..references.len() {
+        let meant = meaning(within, &references[place])?;
+        let count = meant.count(work)?;
+        all = sum(work, all, count)?;
+    }
+    Ok(all)
+}
+
+/// Puts the places of what is meant at the end of a list, until that has `most`.
+fn push_meant(
+    alloc: Global,
+    room: &mut Room,
+    work: &Work,
+    at: usize,
+    meant: Meant,
+    is_interleaved: bool,
+    most: usize,
+    list: &mut Vec<Reference>,
+) -> Result<(), Stop>
+    ensures places { OnOk result (ref_views list.new.items ≡ up_to most (ref_views list.old.items) (places_of is_interleaved (sense meant.entry))) }
+    ensures at { OnOk result (AddsAt list.old.items list.new.items at) }
+    ensures cause { IfErr result (IfRefused (IsPassed work.now.main)) }
+{
+    match meant {
+        Meant::Own(thing) => push_own(alloc, room, work, at, thing, most, list),
+        Meant::Inner(members, ports) => {
+            push_inner(
+                alloc,
+                room,
+                work,
+                at,
+                members,
+                ports,
+                is_interleaved,
+                most,
+                list,
+            )
+        }
+    }
+}
+
+/// Puts the places of a reference at the end of a list, until that has `most`.
+fn push_some(
+    alloc: Global,
+    room: &mut Room,
+    within: Within,
+    reference: &Written,
+    most: usize,
+    list: &mut Vec<Reference>,
+) -> Result<(), Stop>
+    ensures places { OnOk result (ref_views list.new.items ≡ up_to most (ref_views list.old.items) (places_in (here within.entry) reference.now)) }
+    ensures tokens { OnOk result (ref_tokens list.new.items ≡ up_to most (ref_tokens list.old.items) (tokens_of (token_in within.entry) (here within.entry) reference.now)) }
+    ensures cause { IfErr result (IfRefused (λ r. IsPassed within.entry.settings.now.work.main r ⊎ IsOfReference (here within.entry) within.entry.file reference.now r)) }
+{
+    let meant = meaning(within, reference)?;
+    let is_interleaved = reference.is_interleaved;
+    push_meant(
+        alloc,
+        room,
+        &within.settings.work,
+        within.token(reference.head.at),
+        meant,
+        is_interleaved,
+        most,
+        list,
+    )?;
+    Ok(())
+}
+
+/// The places of references one after another, as many as there are up to `most`.
+pub fn some_places(
+    alloc: Global,
+    room: &mut Room,
+    within: Within,
+    references: &[Written],
+    most: usize,
+) -> Result<Vec<Reference>, Stop>
+    ensures places { IfOk result (λ list. ref_views list.items ≡ take most (all_places (here within.entry) references.now)) }
+    ensures tokens { IfOk result (λ list. ref_tokens list.items ≡ take most (all_tokens (token_in within.entry) (here within.entry) references.now)) }
+    ensures cause { IfErr result (IfRefused (λ r. IsPassed within.entry.settings.now.work.main r ⊎ IsOfOne (here within.entry) within.entry.file references.now r)) }
+{
+    let mut list = Vec::new(alloc);
+    for place in 0..references.len() {
+        push_some(alloc, room, within, &references[place], most, &mut list)?;
+    }
+    Ok(list)
+}
+
+/// Puts all places of a reference at the end of a list.
+pub fn push_places(
+    alloc: Global,
+    room: &mut Room,
+    within: Within,
+    reference: &Written,
+    list: &mut Vec<Reference>,
+) -> Result<(), Stop>
+    ensures places { OnOk result (ref_views list.new.items ≡ ref_views list.old.items ++ places_in (here within.entry) reference.now) }
+    ensures tokens { OnOk result (ref_tokens list.new.items ≡ ref_tokens list.old.items ++ tokens_of (token_in within.entry) (here within.entry) reference.now) }
+    ensures means { OnOk result (Means (here within.entry) reference.now) }
+    ensures cause { IfErr result (IfRefused (λ r. IsPassed within.entry.settings.now.work.main r ⊎ IsOfReference (here within.entry) within.entry.file reference.now r)) }
+{
+    let meant = meaning(within, reference)?;
+    let work = &within.settings.work;
+    let is_interleaved = reference.is_interleaved;
+    let count = meant.count(work)?;
+    let most = sum(work, list.len(), count)?;
+    let at = within.token(reference.head.at);
+    push_meant(alloc, room, work, at, meant, is_interleaved, most, list)?;
+    Ok(())
+}
+
+/// All places of references, one after another.
+pub fn places(
+    alloc: Global,
+    room: &mut Room,
+    within: Within,
+    references: &[Written],
+) -> Result<Vec<Reference>, Stop>
+    ensures places { IfOk result (λ list. ref_views list.items ≡ all_places (here within.entry) references.now) }
+    ensures tokens { IfOk result (λ list. ref_tokens list.items ≡ all_tokens (token_in within.entry) (here within.entry) references.now) }
+    ensures means { OnOk result (All (Means (here within.entry)) references.now) }
+    ensures cause { IfErr result (IfRefused (λ r. IsPassed within.entry.settings.now.work.main r ⊎ IsOfOne (here within.entry) within.entry.file references.now r)) }
+{
+    let mut list = Vec::new(alloc);
+    for place in 0..references.len() {
+        push_places(alloc, room, within, &references[place], &mut list)?;
+    }
+    Ok(list)
+}

@@ -1,6 +1,0 @@
-use Rattle.std.proofs.Common.{map, take, ◌≡◌, ◌++◌}
-use Rattle.lft_lowered.specs.Pages.{moved}
-use Rattle.lft_lowered.proofs.pages.push_tokens.Given as goal
-
-abbrev pub invariant-loop-at : goal.invariant-loop-at
-invariant-loop-at l = l.list.items ≡ l.fn.list.items ++ map (moved l.start) (take l.at l.tokens)

@@ -1,0 +1,6 @@
+use Rattle.std.proofs.Common.{◌-◌}
+use Rattle.lft_monitor.specs.Follows.{AreLast}
+use Rattle.lft_monitor.proofs.follower.last_begins.Given as goal
+
+abbrev pub invariant-loop-passed : goal.invariant-loop-passed
+invariant-loop-passed l = AreLast l.rows l.end (l.end - l.passed)

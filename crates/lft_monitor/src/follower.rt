@@ -1,0 +1,339 @@
+//! Rows that are judged while they come.
+
+ghost use Rattle.std.specs.Prelude.{◌≡◌, ◌↔◌, ◌<◌, ◌≤◌, ◌^◌, ℕ, List, [], ◌++◌, length, Some, true, false, IfErr, IfOk, OnErr, IsTrue, MatchOption, slice_get, slice_range};
+ghost use Rattle.lft_tag.specs.declared.Tag.{Tag as TheTag};
+ghost use Rattle.lft_tag.specs.Tags.{Before, IsRecorded};
+ghost use Rattle.lft_ir.specs.declared.steps.row.Row.{Row as TheRow};
+ghost use Rattle.lft_ir.specs.Steps.Fits.{EventFits, RowsFit};
+ghost use Rattle.lft_model.specs.Plans.{PlanParts};
+ghost use Rattle.lft_rows.specs.Slices.{Rises};
+ghost use Rattle.lft_queue.specs.Coming.AtTag.{AreAt};
+ghost use Rattle.lft_stream.specs.Kept.{KeepRules};
+ghost use Rattle.lft_monitor.specs.Follows.{AreDone, IsAtHand, IsHeld, IsFollowerOf, IsHalt, IsPassed, HasManyLater, IsReceipt, stopped_at, IsProgress, IsClosing, IsEnding, IsJudged, IsJudgedOf, IsTurn, IsUnjudged, BeginsLast, done_of};
+ghost use Rattle.lft_monitor.specs.OpenRuns.{AreOpenRuns};
+ghost use Rattle.lft_monitor.specs.declared.follower.Follower.{Follower as TheFollower};
+
+use crate::found::{Found, found_at, found_of};
+use crate::gone::{Going, Halt};
+use crate::judged::{Closing, Ending, Judged, Unjudged};
+use crate::open::{OpenRun, open_among};
+use crate::reach::Reach;
+use lft_ir::steps::{Event, Row, row_at};
+use lft_model::Plan;
+use lft_stream::earlier_of;
+use lft_tag::{MAX_ROWS, NoMemory, Tag};
+use std::alloc::Global;
+
+/// What rows show that come behind others.
+#[derive(Clone, Copy, PartialEq, Eq, Debug, Drop)]
+pub enum Progress {
+    /// More rows may come.
+    GoesOn,
+    /// Nothing is to be judged behind it.
+    Broken(Found),
+    /// The rows that are judged break no rule. Of the next ones, up to the line, too much is to be kept or
+    /// looked at, or memory is refused.
+    Odd(Reach, u64),
+    /// The rows at the last tag and these are more than a table may have, or more came than are counted.
+    TooMany,
+}
+
+/// What became of an external event that was told.
+#[derive(Clone, Copy, PartialEq, Eq, Debug, Drop)]
+pub enum Receipt {
+    /// It stands in the plan now.
+    Taken,
+    /// A row at a later tag came before.
+    Late,
+    /// An event of its action stands at its tag already.
+    Again,
+    /// There are as many events as a table may have.
+    TooMany,
+    /// More than 65,536 events are at later tags. The event would have to be put before all of these.
+    ManyLater,
+}
+
+/// More rows aren't counted.
+const MOST: u64 = 1 << 62;
+
+/// So many events may be moved for one that is told before them. Without a bound events that are told in
+/// falling order would cost the square of their number.
+const MOST_LATER: usize = 65_536;
+
+/// What is kept of rows so far: those of the last tag, and of those before what causes something later.
+#[derive(Drop)]
+pub struct Follower {
+    judged: Judged,
+    going: Going,
+    /// The rows at the last tag.
+    rows: Vec<Row>,
+}
+
+/// Where the rows begin that are at the tag of the last one before the end.
+fn last_begins(rows: &[Row], end: usize) -> usize
+    requires { end ≤ length rows.now }
+    ensures { BeginsLast rows.now end result }
+{
+    if end == 0 {
+        return 0;
+    }
+    let tag = row_at(rows, end - 1).tag;
+    for passed in 1..end {
+        if !row_at(rows, end - 1 - passed).tag.is_same(tag) {
+            return end - passed;
+        }
+    }
+    0
+}
+
+/// Judges the rows before the place, at which the first row of a later tag stands. It is what is told,
+/// where they may break a rule. They are known to break none of the rules 1 to 5.
+fn judge_before(
+    alloc: Global,
+    plan: &Plan,
+    judged: &mut Judged,
+    rows: &[Row],
+    begin: usize,
+) -> Result<Option<Progress>, NoMemory>
+    requires few { judged.old.count ≤ 2 ^ 62 }
+    requires fit { RowsFit plan.now.program rows.now }
+    requires begin { begin < length rows.now }
+    requires kept { KeepRules plan.now (slice_range rows.now 0 begin) }
+    requires stands { (done : List TheRow) × IsJudgedOf plan.now done judged.old }
+    ensures { IfOk result (λ o. (done : List TheRow) → IsJudgedOf plan.now done judged.old → MatchOption o (IsJudgedOf plan.now (done ++ slice_range rows.now 0 begin) judged.new) (λ told. (t more : List TheRow) (end : ℕ) (follower : TheFollower) → IsTurn plan.now t more done rows.now judged.old.reach begin end → IsProgress plan.now t more follower told)) }
+{
+    let is_clean = judged.judge(alloc, plan, &rows[0..begin], true)?;
+    if is_clean {
+        return Ok(None);
+    }
+    let high = row_at(rows, begin).tag;
+    match judged.past.first_breach(alloc, plan, &rows[0..begin], high) {
+        Some(breach) => Ok(Some(Progress::Broken(found_of(breach)))),
+        None => {
+            let line = judged.count + begin as u64 + 1;
+            Ok(Some(Progress::Odd(judged.reach, line)))
+        }
+    }
+}
+
+/// Whether the event that has `MOST_LATER` others behind it is at a later tag.
+fn has_many_later(events: &[Event], tag: Tag) -> bool
+    ensures { IsTrue result → HasManyLater events.now tag }
+{
+    events.len() > MOST_LATER && tag.is_before(events[events.len() - 1 - MOST_LATER].tag)
+}
+
+/// Whether rows that rise are all at one tag.
+fn are_at_one(rows: &[Row]) -> bool
+    requires { Rises rows.now }
+    ensures { IsTrue result → (g : TheTag) × AreAt rows.now g }
+{
+    if rows.is_empty() {
+        return true;
+    }
+    let last = row_at(rows, rows.len() - 1).tag;
+    row_at(rows, 0).tag.is_same(last)
+}
+
+impl Follower {
+    /// Before the first row.
+    pub fn new(alloc: Global, plan: &Plan) -> Result<Follower, NoMemory>
+        ensures { IfOk result (IsFollowerOf plan.now []) }
+    {
+        Ok(Follower {
+            judged: Judged::new(alloc, plan)?,
+            going: Going::new(alloc, plan)?,
+            rows: Vec::new(alloc),
+        })
+    }
+
+    /// How far the rows are judged.
+    // The plan is passed for what the contract says of it.
+    pub fn reach(&self, plan: &Plan) -> Reach
+        ensures { (t : List TheRow) → IsFollowerOf plan.now t self.now → IsJudged plan.now t result }
+    {
+        let _ = plan;
+        self.judged.reach
+    }
+
+    /// How many rows it holds. They are those at the last tag.
+    pub fn held(&self) -> usize
+        ensures { result ≡ length self.now.rows.items }
+    {
+        self.rows.as_slice().len()
+    }
+
+    /// Judges the rows at hand but those at the last tag, all of which are gone over.
+    fn go_on(&mut self, alloc: Global, plan: &Plan) -> Result<Progress, NoMemory>
+        requires few { self.old.judged.count ≤ 2 ^ 62 }
+        requires hand { (t : List TheRow) × IsAtHand plan.now t self.old }
+        requires gone { self.old.going.passed ≡ length self.old.rows.items }
+        ensures { IfOk result (λ p. (t more : List TheRow) → IsAtHand plan.now (t ++ more) self.old → AreDone plan.now t (done_of (t ++ more) self.old) self.old.judged.reach → IsProgress plan.now t more self.new p) }
+    {
+        let rows = self.rows.as_slice();
+        // Asked first: rows of one tag that come one by one are not all gone over each time.
+        if are_at_one(rows) {
+            return Ok(Progress::GoesOn);
+        }
+        let begin = last_begins(rows, rows.len());
+        if begin == 0 {
+            return Ok(Progress::GoesOn);
+        }
+        if let Some(told) = judge_before(alloc, plan, &mut self.judged, rows, begin)? {
+            return Ok(told);
+        }
+        let rows = self.rows.as_slice();
+        let Ok(last) = Vec::from_slice(alloc, &rows[begin..rows.len()]) else {
+            return Err(NoMemory);
+        };
+        self.rows = last;
+        self.going.begin(alloc, plan, self.judged.past.stop)?;
+        Ok(Progress::GoesOn)
+    }
+
+    /// What is told where the row at the place breaks the rule and the end is that of the rows gone over.
+    fn tell(
+        &mut self,
+        alloc: Global,
+        plan: &Plan,
+        place: usize,
+        end: usize,
+        rule: u8,
+    ) -> Result<Progress, NoMemory>
+        requires few { self.old.judged.count ≤ 2 ^ 62 }
+        requires place { (place < length self.old.rows.items) × (end < length self.old.rows.items) }
+        requires halt { (t : List TheRow) × IsHeld plan.now t self.old × IsHalt plan.now (done_of t self.old) self.old.rows.items place end rule }
+        ensures { IfOk result (λ p. (t more : List TheRow) → IsHeld plan.now (t ++ more) self.old → AreDone plan.now t (done_of (t ++ more) self.old) self.old.judged.reach → IsHalt plan.now (done_of (t ++ more) self.old) self.old.rows.items place end rule → IsProgress plan.now t more self.new p) }
+    {
+        let rows = self.rows.as_slice();
+        let found = found_at(rows, place, self.judged.count, rule);
+        let begin = last_begins(rows, end);
+        match judge_before(alloc, plan, &mut self.judged, rows, begin)? {
+            Some(told) => Ok(told),
+            None => Ok(Progress::Broken(found)),
+        }
+    }
+
+    /// Goes on past more rows. A tag is judged once a row at a later one is there.
+    pub fn add(&mut self, alloc: Global, plan: &Plan, more: &[Row]) -> Result<Progress, NoMemory>
+        requires fit { RowsFit plan.now.program more.now }
+        requires stands { (t : List TheRow) × IsFollowerOf plan.now t self.old }
+        ensures { IfOk result (λ p. (t : List TheRow) → IsFollowerOf plan.now t self.old → IsProgress plan.now t more.now self.new p) }
+    {
+        let Ok(()) = self.rows.extend_from_slice(more) else {
+            return Err(NoMemory);
+        };
+        if self.rows.as_slice().len() > MAX_ROWS || self.judged.count > MOST {
+            return Ok(Progress::TooMany);
+        }
+        match self.going.go_over(plan, self.rows.as_slice())? {
+            Halt::AtEnd => self.go_on(alloc, plan),
+            Halt::AtRow(place, rule) => self.tell(alloc, plan, place, place, rule),
+            Halt::AtLater(start, place) => self.tell(alloc, plan, start, place, 5),
+        }
+    }
+
+    /// Whether a row at a later tag came.
+    fn is_past(&self, tag: Tag) -> bool
+        ensures past { IsTrue result → (x : TheRow) × (slice_get self.now.rows.items 0 ≡ Some x) × Before tag x.tag }
+        ensures not { result ≡ false → (x : TheRow) → slice_get self.now.rows.items 0 ≡ Some x → ¬ Before tag x.tag }
+    {
+        let rows = self.rows.as_slice();
+        !rows.is_empty() && tag.is_before(row_at(rows, 0).tag)
+    }
+
+    /// Puts an external event at its place in the plan that the rows are judged by. Of those that aren't
+    /// taken, a late one is told first, then too many. An event at the last row's tag isn't late.
+    pub fn add_event(&self, plan: &mut Plan, event: Event) -> Result<Receipt, NoMemory>
+        requires fit { EventFits plan.old.program event }
+        ensures receipt { IfOk result (IsReceipt plan.old plan.new event) }
+        ensures err { OnErr result (plan.new ≡ plan.old) }
+        ensures late { IfOk result (λ receipt. (t : List TheRow) → IsFollowerOf plan.old t self.now → (receipt ≡ Receipt.Late) ↔ IsPassed t event.tag) }
+        ensures stands { (t : List TheRow) → IsFollowerOf plan.old t self.now → IsFollowerOf plan.new t self.now }
+    {
+        if self.is_past(event.tag) {
+            return Ok(Receipt::Late);
+        }
+        if plan.externals().events().len() >= MAX_ROWS {
+            return Ok(Receipt::TooMany);
+        }
+        if has_many_later(plan.externals().events(), event.tag) {
+            return Ok(Receipt::ManyLater);
+        }
+        match plan.tell(event)? {
+            Some(_) => {
+                // Asked for what every plan keeps: its external events stand in order.
+                plan.keeps();
+                Ok(Receipt::Taken)
+            }
+            None => Ok(Receipt::Again),
+        }
+    }
+
+    /// Makes the tag the stop of the plan that the rows are judged by, where it is earlier than the plan's
+    /// own. It is false where a row at a later tag came: then all stays as it was. A stop at the last row's
+    /// tag isn't late.
+    pub fn stop_at(&mut self, plan: &mut Plan, stop: Tag) -> bool
+        requires { IsRecorded stop }
+        ensures stopped { IsTrue result → plan.new ≡ stopped_at plan.old stop }
+        ensures stays { result ≡ false → (plan.new ≡ plan.old) × (self.new ≡ self.old) }
+        ensures late { (t : List TheRow) → IsFollowerOf plan.old t self.old → (result ≡ false) ↔ IsPassed t stop }
+        ensures stands { (t : List TheRow) → IsFollowerOf plan.old t self.old → IsFollowerOf plan.new t self.new }
+    {
+        if self.is_past(stop) {
+            return false;
+        }
+        plan.stop_at(earlier_of(stop, plan.externals().stop()));
+        self.judged.stop_at(stop);
+        self.going.stop_at(stop);
+        true
+    }
+
+    /// What is told where the rows can't be judged to their end.
+    fn unjudged(&self) -> Unjudged
+        requires { (plan : PlanParts) × (t : List TheRow) × IsFollowerOf plan t self.now }
+        ensures { (plan : PlanParts) (t : List TheRow) → IsFollowerOf plan t self.now → IsUnjudged plan t result }
+    {
+        Unjudged {
+            reach: self.judged.reach,
+            line: self.judged.count + self.rows.as_slice().len() as u64 + 1,
+        }
+    }
+
+    /// What the rows show where all at their last tag are there. The last tag is judged too, and nothing behind
+    /// it.
+    pub fn close(&mut self, alloc: Global, plan: &Plan) -> Result<Closing, Unjudged>
+        requires { (t : List TheRow) × IsFollowerOf plan.now t self.old }
+        ensures closed { IfOk result (λ closing. (t : List TheRow) → IsFollowerOf plan.now t self.old → IsClosing plan.now t closing) }
+        ensures unjudged { IfErr result (λ left. (t : List TheRow) → IsFollowerOf plan.now t self.old → IsUnjudged plan.now t left) }
+    {
+        if self.judged.count > MOST {
+            return Err(self.unjudged());
+        }
+        let rows = self.rows.as_slice();
+        self.judged.close(alloc, plan, rows)
+    }
+
+    /// The runs that have no end so far. They are at the last tag.
+    pub fn open_runs(&self, alloc: Global, plan: &Plan) -> Result<Vec<OpenRun>, NoMemory>
+        requires { (t : List TheRow) × IsFollowerOf plan.now t self.now }
+        ensures { IfOk result (λ runs. (t : List TheRow) → IsFollowerOf plan.now t self.now → AreOpenRuns 0 t runs.items) }
+    {
+        let reactions = plan.program().reactions();
+        open_among(alloc, self.rows.as_slice(), self.judged.count, reactions)
+    }
+
+    /// What the rows show where no more come. The last tag is judged too, where all of its runs are there.
+    /// With `whole` no row is missing.
+    pub fn finish(&mut self, alloc: Global, plan: &Plan, whole: bool) -> Result<Ending, Unjudged>
+        requires { (t : List TheRow) × IsFollowerOf plan.now t self.old }
+        ensures ended { IfOk result (λ ending. (t : List TheRow) → IsFollowerOf plan.now t self.old → IsEnding plan.now whole t ending) }
+        ensures unjudged { IfErr result (λ left. (t : List TheRow) → IsFollowerOf plan.now t self.old → IsUnjudged plan.now t left) }
+    {
+        if self.judged.count > MOST {
+            return Err(self.unjudged());
+        }
+        let rows = self.rows.as_slice();
+        self.judged.finish(alloc, plan, rows, whole)
+    }
+}

@@ -1,0 +1,80 @@
+//! Rows that come one after another, of which nothing is broken so far.
+
+ghost use Rattle.std.specs.Prelude.{◌≡◌, ◌<◌, ◌-◌, List, ◌++◌, length, Some, IsTrue, slice_get};
+ghost use Rattle.lft_tag.specs.Tags.{UpTo, after};
+ghost use Rattle.lft_ir.specs.declared.steps.row.Row.{Row as TheRow};
+ghost use Rattle.lft_ir.specs.Steps.Fits.{RowsFit};
+ghost use Rattle.lft_stream.specs.Kept.{IsAcceptorOf, KeepRules, low_of};
+ghost use Rattle.lft_monitor.specs.Sure.{IsUnbroken};
+
+use lft_ir::steps::{Row, row_at};
+use lft_model::Plan;
+use lft_stream::Acceptor;
+use lft_tag::Tag;
+use std::alloc::Global;
+
+/// Whether nothing is broken so far, of tags before this one. It is false too where that isn't known.
+// The plan is passed for what the contract says of it.
+pub fn is_unbroken(acceptor: &Acceptor, plan: &Plan, low: Tag) -> bool
+    ensures { IsTrue result → (rows : List TheRow) → IsAcceptorOf plan.now rows acceptor.now → UpTo low (low_of acceptor.now.stream.tag) → IsUnbroken plan.now rows low }
+{
+    let _ = plan;
+    acceptor.is_timely(low)
+}
+
+/// Goes on past more rows, of whole tags. Where it is true nothing is broken up to the tag of the last row,
+/// whatever rows come at later tags. Where it is false the rows may break a rule, or too much is to be
+/// looked at, or memory is refused.
+pub fn go_on(acceptor: &mut Acceptor, alloc: Global, plan: &Plan, rows: &[Row]) -> bool
+    requires fit { RowsFit plan.now.program rows.now }
+    requires some { 0 < length rows.now }
+    requires stands { (done : List TheRow) × IsAcceptorOf plan.now done acceptor.old }
+    ensures stands { IsTrue result → (done : List TheRow) → IsAcceptorOf plan.now done acceptor.old → IsAcceptorOf plan.now (done ++ rows.now) acceptor.new }
+    ensures unbroken { IsTrue result → (done : List TheRow) → IsAcceptorOf plan.now done acceptor.old → (x : TheRow) → slice_get rows.now (length rows.now - 1) ≡ Some x → IsUnbroken plan.now (done ++ rows.now) (after x.tag 0) }
+{
+    let last = row_at(rows, rows.len() - 1);
+    let low = last.tag.after(0, 0);
+    if !acceptor.add(alloc, plan, rows) {
+        return false;
+    }
+    acceptor.is_timely(low)
+}
+
+/// The same of rows that are known to break none of the rules 1 to 5.
+pub(crate) fn go_on_kept(acceptor: &mut Acceptor, plan: &Plan, rows: &[Row]) -> bool
+    requires fit { RowsFit plan.now.program rows.now }
+    requires some { 0 < length rows.now }
+    requires kept { KeepRules plan.now rows.now }
+    requires stands { (done : List TheRow) × IsAcceptorOf plan.now done acceptor.old }
+    ensures stands { IsTrue result → (done : List TheRow) → IsAcceptorOf plan.now done acceptor.old → IsAcceptorOf plan.now (done ++ rows.now) acceptor.new }
+    ensures unbroken { IsTrue result → (done : List TheRow) → IsAcceptorOf plan.now done acceptor.old → (x : TheRow) → slice_get rows.now (length rows.now - 1) ≡ Some x → IsUnbroken plan.now (done ++ rows.now) (after x.tag 0) }
+{
+    let last = row_at(rows, rows.len() - 1);
+    let low = last.tag.after(0, 0);
+    if !acceptor.add_kept(plan, rows) {
+        return false;
+    }
+    acceptor.is_timely(low)
+}
+
+/// The same. With `is_kept` the rows are known to break none of the rules 1 to 5, and aren't asked for these.
+pub(crate) fn go_on_as(
+    acceptor: &mut Acceptor,
+    alloc: Global,
+    plan: &Plan,
+    rows: &[Row],
+    is_kept: bool,
+) -> bool
+    requires fit { RowsFit plan.now.program rows.now }
+    requires some { 0 < length rows.now }
+    requires kept { IsTrue is_kept → KeepRules plan.now rows.now }
+    requires stands { (done : List TheRow) × IsAcceptorOf plan.now done acceptor.old }
+    ensures stands { IsTrue result → (done : List TheRow) → IsAcceptorOf plan.now done acceptor.old → IsAcceptorOf plan.now (done ++ rows.now) acceptor.new }
+    ensures unbroken { IsTrue result → (done : List TheRow) → IsAcceptorOf plan.now done acceptor.old → (x : TheRow) → slice_get rows.now (length rows.now - 1) ≡ Some x → IsUnbroken plan.now (done ++ rows.now) (after x.tag 0) }
+{
+    if is_kept {
+        go_on_kept(acceptor, plan, rows)
+    } else {
+        go_on(acceptor, alloc, plan, rows)
+    }
+}

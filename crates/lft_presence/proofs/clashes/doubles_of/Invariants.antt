@@ -1,5 +1,0 @@
-use Rattle.lft_presence.specs.Clashes.{AreDoubles}
-use Rattle.lft_presence.proofs.clashes.doubles_of.Given as goal
-
-abbrev pub invariant-loop-port : goal.invariant-loop-port
-invariant-loop-port l = AreDoubles l.causes l.port l.doubles.items

@@ -1,9 +1,0 @@
-use Rattle.std.proofs.Common.{◌-◌, length}
-use Rattle.lft_presence.proofs.Paired.{IsScanned}
-use Rattle.lft_presence.proofs.pairs.first_pair.Given as goal
-
-abbrev pub invariant-loop-place : goal.invariant-loop-place
-invariant-loop-place l = IsScanned l.causes l.ports l.name l.place
-
-abbrev pub decreases-loop-place : goal.decreases-loop-place
-decreases-loop-place l = length l.causes - l.place

@@ -1,0 +1,73 @@
+-- What is told of a program that has a tree and is refused.
+use Rattle.std.specs.Prelude.{◌≡◌, ℕ, ◌⊎◌, List, [], ◌++◌, Option, Some, None, codes, map}
+use Rattle.lft_tree.specs.View.{file_view, reactor_view}
+use Rattle.lft_tree.specs.declared.tree.Item.{Item}
+use Rattle.lft_tree.specs.declared.tree.Reactor.{Reactor}
+use Rattle.lft_tree.specs.declared.tree.TokenRange.{TokenRange}
+use Rattle.lft_syntax.specs.declared.token.Token.{Token}
+use Rattle.lft_syntax.specs.Lexes.{Lexes}
+use Rattle.lft_syntax.specs.Placed.{FileStands}
+use Rattle.lft_syntax.specs.Grammar.{Spells}
+use Rattle.lft_syntax.specs.View.{lexemes}
+use Rattle.lft_resolve.specs.Causes.{IsFirst, causes}
+use Rattle.lft_text_diagnostics.specs.Pages.{SaysSpot}
+use Rattle.lft_text_diagnostics.specs.declared.pages.Page.{Page}
+use Rattle.lft_text_diagnostics.specs.declared.spots.Spot.{Spot}
+use Rattle.lft_validate.specs.Witnesses.{Shows, cause_shown}
+use Rattle.lft_validate.specs.declared.witness.Witness.{Witness}
+use Rattle.lft_program.specs.declared.refusal.Refusal.{Refusal}
+use Rattle.lft_program.specs.declared.refusal.Refusal.TheVariants as refusals
+use Rattle.lft_program_diagnostics.specs.Sentences.{cause_told, said, words_in}
+use Rattle.lft_program_diagnostics.specs.declared.sentence.Sentence.{Sentence}
+use Rattle.lft_program_diagnostics.specs.Spots.{reactors_among, witness_spot}
+
+-- the words begin with where the bytes stand, and then with this sentence
+pub record BeginsAt (t : List ℕ) (files : List Page) (spot : Option Spot) (sentence words : List ℕ) : Type 0 where
+  pub start : List ℕ
+  pub rest : List ℕ
+  pub whole : words ≡ start ++ sentence ++ codes ".\n" ++ rest
+  pub place : SaysSpot t files spot start
+
+-- a witness of these reactors shows the cause, and stands at these bytes
+pub record HasWitnessAt (tokens : List Token) (reactors : List Reactor) (cause : ℕ) (spot : Option Spot) : Type 0 where
+  pub witness : Witness
+  pub shows : Shows (map reactor_view reactors) witness
+  pub shows_cause : cause_shown witness ≡ cause
+  pub at : spot ≡ witness_spot tokens reactors witness
+
+-- the witness that a refusal has, if it has one
+abbrev pub witness_in : Refusal → Option Witness
+witness_in (refusals.Shown w) = Some w
+witness_in (refusals.Recursive places) = None
+witness_in (refusals.TooMany excess) = None
+witness_in (refusals.ConnectionCycle way) = None
+witness_in (refusals.LongChain way) = None
+witness_in refusals.NoMemory = None
+
+-- reactors that contain one another, connections that form a loop, delays that only together are too long, too many things: several places show the cause together
+abbrev pub IsOfWhole : ℕ → Type 0
+IsOfWhole cause = (cause ≡ 5) ⊎ (cause ≡ 10) ⊎ (cause ≡ 14) ⊎ (cause ≡ 15)
+
+-- the bytes are those of a witness, unless several places show the cause together
+abbrev pub IsShownAt : List Token → List Reactor → ℕ → Option Spot → Type 0
+IsShownAt tokens reactors cause spot = HasWitnessAt tokens reactors cause spot ⊎ IsOfWhole cause
+
+-- the words begin with where the cause is shown in these parts, and a sentence that tells it
+pub record IsToldIn (t : List ℕ) (tokens : List Token) (files : List Page) (parts : List Item) (cause : ℕ) (words : List ℕ) : Type 0 where
+  pub spot : Option Spot
+  pub shown : IsShownAt tokens (reactors_among parts) cause spot
+  pub sentence : Sentence
+  pub tells : cause_told sentence ≡ cause
+  pub names : List (List ℕ)
+  pub begins : BeginsAt t files spot (said (words_in sentence) names) words
+
+-- the tokens of the text spell a tree, of which each part stands where it says; of the causes of refusal the one with that number is the first that holds of it; and the words tell it
+pub record IsToldOf (t : List ℕ) (cause : ℕ) (words : List ℕ) : Type 0 where
+  pub tokens : List Token
+  pub lexed : Lexes t tokens
+  pub target : Option TokenRange
+  pub parts : List Item
+  pub spelled : Spells (file_view target parts) (lexemes t tokens)
+  pub stand : FileStands (lexemes t tokens) target parts
+  pub first : IsFirst (causes (file_view target parts)) cause
+  pub told : IsToldIn t tokens [] parts cause words

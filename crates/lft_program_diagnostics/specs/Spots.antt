@@ -1,0 +1,150 @@
+-- The bytes of a text at which what a witness shows stands.
+use Rattle.std.specs.Prelude.{ℕ, List, [], ◌++◌, Option, Some, None, map, filter_map, option_to_list, option_and_then, option_map, slice_get}
+use Rattle.std.specs.Borrow.{Bor}
+use Rattle.lft_tree.specs.declared.tree.TimeExpression.{TimeExpression}
+use Rattle.lft_tree.specs.declared.tree.Reference.{Reference}
+use Rattle.lft_tree.specs.declared.tree.Trigger.{Trigger}
+use Rattle.lft_tree.specs.declared.tree.Trigger.TheVariants as triggers
+use Rattle.lft_tree.specs.declared.tree.Assignment.{Assignment}
+use Rattle.lft_tree.specs.declared.tree.Member.{Member}
+use Rattle.lft_tree.specs.declared.tree.Member.TheVariants as members
+use Rattle.lft_tree.specs.declared.tree.Reactor.{Reactor}
+use Rattle.lft_tree.specs.declared.tree.Item.{Item}
+use Rattle.lft_tree.specs.declared.tree.Item.TheVariants as items
+use Rattle.lft_syntax.specs.Placed.{token_of}
+use Rattle.lft_syntax.specs.declared.token.Token.{Token}
+use Rattle.lft_resolve.specs.declared.kinds.Role.{Role}
+use Rattle.lft_resolve.specs.declared.kinds.Role.TheVariants.{Read, Effect, Source, Destination}
+use Rattle.lft_text_diagnostics.specs.Spots.{last_of_head, last_of_name, last_of_time, span}
+use Rattle.lft_text_diagnostics.specs.declared.spots.Spot.{Spot}
+use Rattle.lft_validate.specs.declared.finding.Finding.{Finding}
+use Rattle.lft_validate.specs.declared.finding.Finding.TheVariants as finding
+use Rattle.lft_validate.specs.declared.witness.Witness.{Witness}
+use Rattle.lft_validate.specs.declared.witness.Witness.TheVariants as witness
+
+-- what stands behind the references
+abbrev pub behind : {X : Type 0} → List (Bor X) → List X
+behind = map (λ x. x.now)
+
+-- the reactor that an item is, if it is one
+abbrev pub reactor_of : Item → Option Reactor
+reactor_of (items.Reactor x) = Some x
+reactor_of (items.Preamble x) = None
+
+-- the reactors of a file, in order
+abbrev pub reactors_among : List Item → List Reactor
+reactors_among = filter_map reactor_of
+
+-- the name of a trigger, if it has one
+abbrev pub name_among : Trigger → Option Reference
+name_among (triggers.Reference x) = Some x
+name_among _ = None
+
+-- the names of a member that have the role, in order
+abbrev pub names_in : Role → Member → List Reference
+names_in Read (members.Reaction x) = filter_map name_among x.triggers.items ++ x.uses.items
+names_in Effect (members.Reaction x) = x.effects.items
+names_in Source (members.Connection x) = x.sources.items
+names_in Destination (members.Connection x) = x.destinations.items
+names_in _ _ = []
+
+-- the times of a member, in order
+abbrev pub times_in : Member → List TimeExpression
+times_in (members.Timer x) = option_to_list x.offset ++ option_to_list x.period
+times_in (members.Action x) = option_to_list x.min_delay
+times_in (members.Instance x) = map (λ a. a.value) x.given.items
+times_in (members.Connection x) = option_to_list x.delay
+times_in _ = []
+
+-- the values that a member gives to parameters, in order
+abbrev pub given_in : Member → List Assignment
+given_in (members.Instance x) = x.given.items
+given_in _ = []
+
+-- the token of the name that a member declares, if it declares one
+abbrev pub declared_at : Member → Option ℕ
+declared_at (members.Port x) = Some x.at
+declared_at (members.Timer x) = Some x.at
+declared_at (members.Action x) = Some x.at
+declared_at (members.Instance x) = Some x.at
+declared_at _ = None
+
+-- the tokens of the names that a reactor declares, parameters first
+abbrev pub declared_in : Reactor → List ℕ
+declared_in r = map (λ p. p.at) r.parameters.items ++ filter_map declared_at r.members.items
+
+-- the token that tells a whole member: the reactor that an instance is of, the arrow of a connection, the word `reaction`
+abbrev pub member_at : Member → Option ℕ
+member_at (members.Instance x) = Some x.reactor_at
+member_at (members.Connection x) = Some x.arrow
+member_at (members.Reaction x) = Some x.at
+member_at _ = None
+
+-- the bytes of a token
+abbrev pub token_spot : List Token → ℕ → Option Spot
+token_spot tokens at = span tokens at at
+
+-- the bytes of a name
+abbrev pub name_spot : List Token → Reference → Option Spot
+name_spot tokens x = span tokens x.at (last_of_name x)
+
+-- the bytes of a time
+abbrev pub time_spot : List Token → TimeExpression → Option Spot
+time_spot tokens x = span tokens (token_of x) (last_of_time x)
+
+-- the bytes of a reactor's name, or of `main reactor` where it has none
+abbrev pub head_spot : List Token → Reactor → Option Spot
+head_spot tokens r = span tokens r.at (last_of_head r)
+
+-- the token of a reactor's name, if it has one
+abbrev pub named_at : Reactor → Option ℕ
+named_at r = option_map (λ name. r.at) r.name
+
+-- the bytes of the name with that role and place in a member
+abbrev pub named_spot : List Token → Member → Role → ℕ → Option Spot
+named_spot tokens m role n = option_and_then (name_spot tokens) (slice_get (names_in role m) n)
+
+-- the bytes of the time with that place in a member
+abbrev pub timed_spot : List Token → Member → ℕ → Option Spot
+timed_spot tokens m n = option_and_then (time_spot tokens) (slice_get (times_in m) n)
+
+-- the bytes of the parameter's name in the value with that place in a member
+abbrev pub given_spot : List Token → Member → ℕ → Option Spot
+given_spot tokens m n = option_and_then (λ a. token_spot tokens a.at) (slice_get (given_in m) n)
+
+-- where what is found in a member stands: of two that are one the second
+abbrev pub finding_spot : List Token → Member → Finding → Option Spot
+finding_spot tokens m (finding.GivenTwice first second) = given_spot tokens m second
+finding_spot tokens m finding.UnknownReactor = option_and_then (token_spot tokens) (member_at m)
+finding_spot tokens m (finding.UnknownName role n) = named_spot tokens m role n
+finding_spot tokens m (finding.UnknownTime n) = timed_spot tokens m n
+finding_spot tokens m (finding.UnknownParameter n) = given_spot tokens m n
+finding_spot tokens m (finding.WrongPlace role n kind) = named_spot tokens m role n
+finding_spot tokens m (finding.WrongTime n kind) = timed_spot tokens m n
+finding_spot tokens m finding.MainHasPort = option_and_then (token_spot tokens) (declared_at m)
+finding_spot tokens m finding.WidthMismatch = option_and_then (token_spot tokens) (member_at m)
+finding_spot tokens m finding.NoTrigger = option_and_then (token_spot tokens) (member_at m)
+finding_spot tokens m (finding.NamedTwice role first second) = named_spot tokens m role second
+finding_spot tokens m (finding.LongTime n) = timed_spot tokens m n
+
+-- the member with that place in the reactor with that place
+abbrev pub member_of : List Reactor → ℕ → ℕ → Option Member
+member_of reactors r m = option_and_then (λ x. slice_get x.members.items m) (slice_get reactors r)
+
+-- the token of the parameter with that place in the reactor with that place
+abbrev pub parameter_at : List Reactor → ℕ → ℕ → Option ℕ
+parameter_at reactors r p = option_and_then (λ x. option_map (λ y. y.at) (slice_get x.parameters.items p)) (slice_get reactors r)
+
+-- the token of what the reactor with that place declares with that number
+abbrev pub declaration_at : List Reactor → ℕ → ℕ → Option ℕ
+declaration_at reactors r n = option_and_then (λ x. slice_get (declared_in x) n) (slice_get reactors r)
+
+-- where what the witness shows of these reactors stands: of two that are one, or that write one port, the second
+abbrev pub witness_spot : List Token → List Reactor → Witness → Option Spot
+witness_spot tokens reactors witness.NoMain = None
+witness_spot tokens reactors (witness.TwoMains first second) = option_and_then (head_spot tokens) (slice_get reactors second)
+witness_spot tokens reactors (witness.SameReactors first second) = option_and_then (token_spot tokens) (slice_get (filter_map named_at reactors) second)
+witness_spot tokens reactors (witness.DeclaredTwice r first second) = option_and_then (token_spot tokens) (declaration_at reactors r second)
+witness_spot tokens reactors (witness.Member r m f) = option_and_then (λ x. finding_spot tokens x f) (member_of reactors r m)
+witness_spot tokens reactors (witness.TwoSources r first second) = option_and_then (λ x. named_spot tokens x second.role second.name) (member_of reactors r second.member)
+witness_spot tokens reactors (witness.LongDefault r p) = option_and_then (token_spot tokens) (parameter_at reactors r p)

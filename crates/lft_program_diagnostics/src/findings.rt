@@ -1,0 +1,169 @@
+//! What is said of a finding in one member of a reactor.
+
+ghost use Rattle.std.specs.Prelude.{IfOk, IfSome};
+ghost use Rattle.lft_validate.specs.Findings.{cause_of};
+ghost use Rattle.lft_program_diagnostics.specs.Sentences.{IsOf};
+
+use crate::reason::Reason;
+use crate::refused::{Refused, Site};
+use crate::sentence::Sentence;
+use crate::spots::{name_at, time_at};
+use crate::unknown::instance_of;
+use crate::words::{kind_words, list_words, name_words, reactor_words, role_way, role_words};
+use itoa::Buffer;
+use lft_resolve::kinds::{Kind, Role};
+use lft_tag::NoMemory;
+use lft_tree::{Member, TimeExpression};
+use lft_validate::{Finding, declared_name};
+
+impl<'a> Refused<'a> {
+    /// What the name is, and why it may not stand there.
+    fn not_there(
+        &self,
+        site: Site<'a>,
+        name: String,
+        kind: Kind,
+        why: &'static str,
+    ) -> Result<Reason, NoMemory>
+        ensures { IfOk result (IsOf 7) }
+    {
+        let owner = reactor_words(self.alloc, site.reactor)?;
+        let names = [owner.as_str(), name.as_str(), kind_words(kind), why];
+        Ok(Reason::of(self.alloc, Sentence::WrongPlace, &names)?)
+    }
+
+    /// A name may not stand there.
+    fn wrong_place(
+        &self,
+        site: Site<'a>,
+        role: Role,
+        place: usize,
+        kind: Kind,
+    ) -> Result<Option<Reason>, NoMemory>
+        ensures { IfOk result (λ found. IfSome found (IsOf 7)) }
+    {
+        let Some(name) = name_at(site.member, role, place) else {
+            return Ok(None);
+        };
+        let name = name_words(self.alloc, name)?;
+        let reason = self.not_there(site, name, kind, role_words(role))?;
+        Ok(Some(reason.way(role_way(role))?))
+    }
+
+    /// A time names what is no parameter.
+    fn wrong_time(
+        &self,
+        site: Site<'a>,
+        place: usize,
+        kind: Kind,
+    ) -> Result<Option<Reason>, NoMemory>
+        ensures { IfOk result (λ found. IfSome found (IsOf 7)) }
+    {
+        let Some(TimeExpression::Parameter { name, .. }) = time_at(site.member, place) else {
+            return Ok(None);
+        };
+        let reason = self.not_there(site, name.clone()?, kind, "no time")?;
+        let way = "A time is a number with a unit, or a parameter of the reactor.";
+        Ok(Some(reason.way(way)?))
+    }
+
+    /// The main reactor has a port.
+    fn main_port(&self, site: Site<'a>) -> Result<Option<Reason>, NoMemory>
+        ensures { IfOk result (λ found. IfSome found (IsOf 8)) }
+    {
+        let Some(name) = declared_name(site.member) else {
+            return Ok(None);
+        };
+        Ok(Some(Reason::of(self.alloc, Sentence::MainPort, &[name])?))
+    }
+
+    /// The two lists of a connection differ in length.
+    fn widths(&self, site: Site<'a>) -> Result<Option<Reason>, NoMemory>
+        ensures { IfOk result (λ found. IfSome found (IsOf 11)) }
+    {
+        let Member::Connection(connection) = site.member else {
+            return Ok(None);
+        };
+        let owner = reactor_words(self.alloc, site.reactor)?;
+        let (mut from, mut to) = (Buffer::new(), Buffer::new());
+        let from = from.format(connection.sources.len() as u64);
+        let to = to.format(connection.destinations.len() as u64);
+        let names = [owner.as_str(), from, to];
+        Ok(Some(Reason::of(self.alloc, Sentence::Widths, &names)?))
+    }
+
+    /// A reaction has no trigger.
+    fn no_trigger(&self, site: Site<'a>) -> Result<Option<Reason>, NoMemory>
+        ensures { IfOk result (λ found. IfSome found (IsOf 12)) }
+    {
+        let owner = reactor_words(self.alloc, site.reactor)?;
+        let names = [owner.as_str()];
+        Ok(Some(Reason::of(self.alloc, Sentence::NoTrigger, &names)?))
+    }
+
+    /// A name stands twice in one role of a reaction.
+    fn named_twice(
+        &self,
+        site: Site<'a>,
+        role: Role,
+        second: usize,
+    ) -> Result<Option<Reason>, NoMemory>
+        ensures { IfOk result (λ found. IfSome found (IsOf 13)) }
+    {
+        let Some(name) = name_at(site.member, role, second) else {
+            return Ok(None);
+        };
+        let owner = reactor_words(self.alloc, site.reactor)?;
+        let name = name_words(self.alloc, name)?;
+        let names = [owner.as_str(), name.as_str(), list_words(role)];
+        Ok(Some(Reason::of(self.alloc, Sentence::NamedTwice, &names)?))
+    }
+
+    /// An instance gives a parameter two values.
+    fn given_twice(&self, site: Site<'a>, second: usize) -> Result<Option<Reason>, NoMemory>
+        ensures { IfOk result (λ found. IfSome found (IsOf 3)) }
+    {
+        let Some(instance) = instance_of(site.member) else {
+            return Ok(None);
+        };
+        if second >= instance.given.len() {
+            return Ok(None);
+        }
+        let name = instance.given[second].name.as_str();
+        let names = [instance.name.as_str(), name];
+        Ok(Some(Reason::of(self.alloc, Sentence::GivenTwice, &names)?))
+    }
+
+    /// A time is too long.
+    fn long_time(&self, site: Site<'a>) -> Result<Option<Reason>, NoMemory>
+        ensures { IfOk result (λ found. IfSome found (IsOf 14)) }
+    {
+        let owner = reactor_words(self.alloc, site.reactor)?;
+        let names = [owner.as_str()];
+        Ok(Some(Reason::of(self.alloc, Sentence::LongTime, &names)?))
+    }
+
+    /// What is said of the finding.
+    pub(crate) fn of_finding(
+        &self,
+        site: Site<'a>,
+        finding: Finding,
+    ) -> Result<Option<Reason>, NoMemory>
+        ensures { IfOk result (λ found. IfSome found (IsOf (cause_of finding))) }
+    {
+        match finding {
+            Finding::GivenTwice { second, .. } => self.given_twice(site, second),
+            Finding::UnknownReactor => self.unknown_reactor(site),
+            Finding::UnknownName { role, name } => self.unknown_name(site, role, name),
+            Finding::UnknownTime { time } => self.unknown_time(site, time),
+            Finding::UnknownParameter { value } => self.unknown_parameter(site, value),
+            Finding::WrongPlace { role, name, kind } => self.wrong_place(site, role, name, kind),
+            Finding::WrongTime { time, kind } => self.wrong_time(site, time, kind),
+            Finding::MainHasPort => self.main_port(site),
+            Finding::WidthMismatch => self.widths(site),
+            Finding::NoTrigger => self.no_trigger(site),
+            Finding::NamedTwice { role, second, .. } => self.named_twice(site, role, second),
+            Finding::LongTime { .. } => self.long_time(site),
+        }
+    }
+}

@@ -1,0 +1,93 @@
+//! Why a program is refused: a sentence, the places that it speaks of, and what to write.
+
+ghost use Rattle.std.specs.Prelude.{◌≡◌, IfOk};
+
+use crate::near::{push_link, push_question};
+use crate::sentence::Sentence;
+use lft_tag::NoMemory;
+use lft_text_diagnostics::Spot;
+use std::alloc::Global;
+
+/// Why a program is refused.
+#[derive(Drop)]
+pub(crate) struct Reason {
+    /// What is wrong.
+    pub sentence: Sentence,
+    /// The names in the sentence, in order.
+    pub names: Vec<String>,
+    /// Where that is.
+    pub at: Option<Spot>,
+    /// What stands there twice, or is written from there too.
+    pub before: Option<Spot>,
+    /// What to write, a sentence a line.
+    pub ways: String,
+}
+
+impl Reason {
+    /// The sentence with these names.
+    pub(crate) fn of(alloc: Global, sentence: Sentence, names: &[&str]) -> Result<Reason, NoMemory>
+        ensures { IfOk result (λ r. r.sentence ≡ sentence) }
+    {
+        let mut owned = Vec::new(alloc);
+        for name in names {
+            let mut copy = String::new(alloc);
+            copy.push_str(*name)?;
+            owned.push(copy)?;
+        }
+        Ok(Reason {
+            sentence,
+            names: owned,
+            at: None,
+            before: None,
+            ways: String::new(alloc),
+        })
+    }
+
+    /// The same with that place.
+    pub(crate) fn at(self, spot: Option<Spot>) -> Reason
+        ensures at { result.at ≡ spot }
+        ensures sentence { result.sentence ≡ self.sentence }
+    {
+        Reason { at: spot, ..self }
+    }
+
+    /// The same with that place before.
+    pub(crate) fn before(self, spot: Option<Spot>) -> Reason
+        ensures at { result.at ≡ self.at }
+        ensures sentence { result.sentence ≡ self.sentence }
+    {
+        Reason {
+            before: spot,
+            ..self
+        }
+    }
+
+    /// The same with what to write.
+    pub(crate) fn way(self, words: &str) -> Result<Reason, NoMemory>
+        ensures { IfOk result (λ r. r.sentence ≡ self.sentence) }
+    {
+        let mut reason = self;
+        reason.ways.push_str("  ")?;
+        reason.ways.push_str(words)?;
+        reason.ways.push_str("\n")?;
+        Ok(reason)
+    }
+
+    /// The same with the question whether a name was meant, or a port of an instance.
+    pub(crate) fn ask(self, head: &str, port: Option<&str>) -> Result<Reason, NoMemory>
+        ensures { IfOk result (λ r. r.sentence ≡ self.sentence) }
+    {
+        let mut reason = self;
+        push_question(&mut reason.ways, head, port)?;
+        Ok(reason)
+    }
+
+    /// The same with what one reactor contains.
+    pub(crate) fn link(self, outer: &str, inner: &str) -> Result<Reason, NoMemory>
+        ensures { IfOk result (λ r. r.sentence ≡ self.sentence) }
+    {
+        let mut reason = self;
+        push_link(&mut reason.ways, outer, inner)?;
+        Ok(reason)
+    }
+}

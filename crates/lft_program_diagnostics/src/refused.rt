@@ -1,0 +1,89 @@
+//! A program that has a tree and is refused.
+
+use lft_syntax::Token;
+use lft_tree::{Member, Reactor};
+use lft_validate::declared_name;
+use std::alloc::Global;
+
+/// A program that has a tree, with its reactors in the order of the file.
+#[derive(Clone, Copy)]
+pub(crate) struct Refused<'a> {
+    pub alloc: Global,
+    pub text: &'a [u8],
+    pub tokens: &'a [Token],
+    pub reactors: &'a [&'a Reactor],
+}
+
+/// A member of a reactor.
+#[derive(Clone, Copy)]
+pub(crate) struct Site<'a> {
+    pub reactor: &'a Reactor,
+    pub member: &'a Member,
+}
+
+impl<'a> Refused<'a> {
+    /// The reactor with that place in the file.
+    pub(crate) fn reactor(&self, place: usize) -> Option<&'a Reactor> {
+        if place < self.reactors.len() {
+            Some(self.reactors[place])
+        } else {
+            None
+        }
+    }
+
+    /// The first reactor of that name.
+    pub(crate) fn named(&self, name: &str) -> Option<&'a Reactor> {
+        for reactor in self.reactors {
+            if let Some(other) = &reactor.name {
+                if other.as_str() == name {
+                    return Some(*reactor);
+                }
+            }
+        }
+        None
+    }
+
+    /// The name of the reactor with that number among those that have one.
+    pub(crate) fn name_of_named(&self, number: usize) -> Option<&'a str> {
+        let mut before: usize = 0;
+        for reactor in self.reactors {
+            if let Some(name) = &reactor.name {
+                if before == number {
+                    return Some(name.as_str());
+                }
+                before = before.saturating_add(1);
+            }
+        }
+        None
+    }
+
+    /// The member with that place in the reactor with that place.
+    pub(crate) fn site(&self, reactor: usize, member: usize) -> Option<Site<'a>> {
+        let owner = self.reactor(reactor)?;
+        if member >= owner.members.len() {
+            return None;
+        }
+        Some(Site {
+            reactor: owner,
+            member: &owner.members[member],
+        })
+    }
+
+    /// The name of what a reactor declares with that number, parameters first.
+    pub(crate) fn declaration(&self, place: usize, number: usize) -> Option<&'a str> {
+        let reactor = self.reactor(place)?;
+        if number < reactor.parameters.len() {
+            return Some(reactor.parameters[number].name.as_str());
+        }
+        let mut before = reactor.parameters.len();
+        for member in &reactor.members {
+            if let Some(name) = declared_name(member) {
+                if before == number {
+                    return Some(name);
+                }
+                before = before.saturating_add(1);
+            }
+        }
+        None
+    }
+}

@@ -1,0 +1,193 @@
+//! What is said of names that are nothing.
+
+ghost use Rattle.std.specs.Prelude.{◌≡◌, IfOk, IfSome, codes};
+ghost use Rattle.lft_text_diagnostics.specs.Codes.{HasCodeWith};
+ghost use Rattle.lft_program_diagnostics.specs.Sentences.{IsOf};
+
+use crate::reason::Reason;
+use crate::refused::{Refused, Site};
+use crate::sentence::Sentence;
+use crate::spots::{name_at, time_at};
+use crate::words::reactor_words;
+use lft_resolve::kinds::Role;
+use lft_syntax::Token;
+use lft_tag::NoMemory;
+use lft_text_diagnostics::has_code_with;
+use lft_tree::{Instance, Member, TimeExpression};
+
+/// The instance that the member is, if it is one.
+pub(crate) fn instance_of(member: &Member) -> Option<&Instance> {
+    match member {
+        Member::Instance(instance) => Some(instance),
+        _ => None,
+    }
+}
+
+/// What helps where code reaches too far, so that a reactor is in it.
+pub fn way_of_code(text: &[u8], tokens: &[Token]) -> Option<&'static str>
+    ensures { IfSome result (λ _. HasCodeWith text.now tokens.now (codes "reaction")) }
+{
+    if has_code_with(text, tokens, b"reaction") {
+        Some("Some code has the word `reaction`: is the `=}` before that missing?")
+    } else {
+        None
+    }
+}
+
+/// The reason with a question, where some name was probably meant.
+fn meant(reason: Reason, near: Option<&str>) -> Result<Reason, NoMemory>
+    ensures { IfOk result (λ r. r.sentence ≡ reason.sentence) }
+{
+    match near {
+        Some(name) => reason.ask(name, None),
+        None => Ok(reason),
+    }
+}
+
+impl<'a> Refused<'a> {
+    /// An instance is of a reactor that isn't there.
+    pub(crate) fn unknown_reactor(&self, site: Site<'a>) -> Result<Option<Reason>, NoMemory>
+        ensures { IfOk result (λ found. IfSome found (IsOf 4)) }
+    {
+        let Some(instance) = instance_of(site.member) else {
+            return Ok(None);
+        };
+        let wanted = instance.reactor.as_str();
+        let owner = reactor_words(self.alloc, site.reactor)?;
+        let names = [owner.as_str(), wanted];
+        let reason = Reason::of(self.alloc, Sentence::UnknownReactor, &names)?;
+        let reason = meant(reason, self.near_reactor(wanted)?)?;
+        match way_of_code(self.text, self.tokens) {
+            Some(way) => Ok(Some(reason.way(way)?)),
+            None => Ok(Some(reason)),
+        }
+    }
+
+    /// A name without a port is nothing.
+    fn unknown_plain(&self, site: Site<'a>, wanted: &str) -> Result<Reason, NoMemory>
+        ensures { IfOk result (IsOf 6) }
+    {
+        let owner = reactor_words(self.alloc, site.reactor)?;
+        let names = [owner.as_str(), wanted];
+        let reason = Reason::of(self.alloc, Sentence::UnknownName, &names)?;
+        let reason = meant(reason, self.near_declared(site.reactor, wanted)?)?;
+        match self.with_that_port(site.reactor, wanted)? {
+            Some(instance) => Ok(reason.ask(instance, Some(wanted))?),
+            None => Ok(reason),
+        }
+    }
+
+    /// An instance is nothing whose port is named.
+    fn unknown_instance(&self, site: Site<'a>, head: &str, port: &str) -> Result<Reason, NoMemory>
+        ensures { IfOk result (IsOf 6) }
+    {
+        let owner = reactor_words(self.alloc, site.reactor)?;
+        let names = [owner.as_str(), head];
+        let reason = Reason::of(self.alloc, Sentence::UnknownInstance, &names)?;
+        match self.near_instance(site.reactor, head, port)? {
+            Some(near) => Ok(reason.ask(near, Some(port))?),
+            None => Ok(reason),
+        }
+    }
+
+    /// A port of an instance is nothing.
+    fn unknown_port(
+        &self,
+        site: Site<'a>,
+        instance: &Instance,
+        port: &str,
+    ) -> Result<Reason, NoMemory>
+        ensures { IfOk result (IsOf 6) }
+    {
+        let owner = reactor_words(self.alloc, site.reactor)?;
+        let (head, inner) = (instance.name.as_str(), instance.reactor.as_str());
+        let names = [owner.as_str(), head, inner, port];
+        let reason = Reason::of(self.alloc, Sentence::UnknownPort, &names)?;
+        let Some(reactor) = self.named(inner) else {
+            return Ok(reason);
+        };
+        match self.near_port(reactor, port)? {
+            Some(near) => Ok(reason.ask(head, Some(near))?),
+            None => Ok(reason),
+        }
+    }
+
+    /// The instance of that name in the reactor of the site.
+    fn instance(&self, site: Site<'a>, wanted: &str) -> Option<&'a Instance> {
+        for member in &site.reactor.members {
+            if let Member::Instance(instance) = member {
+                if instance.name.as_str() == wanted {
+                    return Some(instance);
+                }
+            }
+        }
+        None
+    }
+
+    /// A name is nothing.
+    pub(crate) fn unknown_name(
+        &self,
+        site: Site<'a>,
+        role: Role,
+        place: usize,
+    ) -> Result<Option<Reason>, NoMemory>
+        ensures { IfOk result (λ found. IfSome found (IsOf 6)) }
+    {
+        let Some(name) = name_at(site.member, role, place) else {
+            return Ok(None);
+        };
+        let head = name.head.as_str();
+        let Some(port) = &name.port else {
+            return Ok(Some(self.unknown_plain(site, head)?));
+        };
+        match self.instance(site, head) {
+            Some(instance) => Ok(Some(self.unknown_port(site, instance, port.as_str())?)),
+            None => Ok(Some(self.unknown_instance(site, head, port.as_str())?)),
+        }
+    }
+
+    /// A time names nothing.
+    pub(crate) fn unknown_time(
+        &self,
+        site: Site<'a>,
+        place: usize,
+    ) -> Result<Option<Reason>, NoMemory>
+        ensures { IfOk result (λ found. IfSome found (IsOf 6)) }
+    {
+        let Some(TimeExpression::Parameter { name, .. }) = time_at(site.member, place) else {
+            return Ok(None);
+        };
+        let wanted = name.as_str();
+        let owner = reactor_words(self.alloc, site.reactor)?;
+        let names = [owner.as_str(), wanted];
+        let reason = Reason::of(self.alloc, Sentence::UnknownName, &names)?;
+        let reason = meant(reason, self.near_parameter(site.reactor, wanted)?)?;
+        let way = "A time is a number with a unit, or a parameter of the reactor.";
+        Ok(Some(reason.way(way)?))
+    }
+
+    /// A value is for what isn't a parameter.
+    pub(crate) fn unknown_parameter(
+        &self,
+        site: Site<'a>,
+        value: usize,
+    ) -> Result<Option<Reason>, NoMemory>
+        ensures { IfOk result (λ found. IfSome found (IsOf 6)) }
+    {
+        let Some(instance) = instance_of(site.member) else {
+            return Ok(None);
+        };
+        if value >= instance.given.len() {
+            return Ok(None);
+        }
+        let given = &instance.given[value];
+        let (wanted, inner) = (given.name.as_str(), instance.reactor.as_str());
+        let owner = reactor_words(self.alloc, site.reactor)?;
+        let names = [owner.as_str(), inner, wanted];
+        let reason = Reason::of(self.alloc, Sentence::UnknownParameter, &names)?;
+        match self.named(inner) {
+            Some(reactor) => Ok(Some(meant(reason, self.near_parameter(reactor, wanted)?)?)),
+            None => Ok(Some(reason)),
+        }
+    }
+}

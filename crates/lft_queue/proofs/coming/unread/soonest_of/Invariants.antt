@@ -1,0 +1,5 @@
+use Rattle.lft_queue.specs.Coming.Unread.{AreSoonest}
+use Rattle.lft_queue.proofs.coming.unread.soonest_of.Given as goal
+
+abbrev pub invariant-ports : goal.invariant-ports
+invariant-ports l = AreSoonest l.program l.number l.soonest.items

@@ -1,3 +1,0 @@
-mod Placed
-mod Joined
-mod Lines

@@ -1,6 +1,0 @@
-use Rattle.std.proofs.Common.{◌≡◌, [], take, fold}
-use Rattle.lft_quotes.specs.Picked.{inserted}
-use Rattle.lft_quotes.proofs.picking.in_order.Given as goal
-
-abbrev pub invariant-loop-place : goal.invariant-loop-place
-invariant-loop-place l = l.quotes.items ≡ fold inserted [] (take l.place l.named)

@@ -1,6 +1,0 @@
-use Rattle.std.proofs.Common.{◌≡◌, take, flat_map}
-use Rattle.lft_quotes.specs.Marks.{names}
-use Rattle.lft_quotes.proofs.picking.named.Given as goal
-
-abbrev pub invariant-loop-place : goal.invariant-loop-place
-invariant-loop-place l = l.quotes.items ≡ flat_map names (take l.place l.facts)

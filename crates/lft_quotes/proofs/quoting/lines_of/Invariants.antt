@@ -1,6 +1,0 @@
-use Rattle.std.proofs.Common.{◌≡◌, ◌++◌, drop, None, string_bytes}
-use Rattle.lft_quotes.specs.Quoted.{lines}
-use Rattle.lft_quotes.proofs.quoting.lines_of.Given as goal
-
-abbrev pub invariant-loop-place : goal.invariant-loop-place
-invariant-loop-place l = string_bytes l.text ++ lines l.program l.rows l.widths l.before (drop l.place l.quotes) ≡ lines l.program l.rows l.widths None l.quotes

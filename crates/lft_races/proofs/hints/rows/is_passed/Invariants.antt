@@ -1,0 +1,7 @@
+use Rattle.std.proofs.Common.{◌≡◌, ℕ, ◌<◌, Some, slice_get}
+use Rattle.lft_tag.specs.Tags.{Before}
+use Rattle.lft_ir.specs.declared.steps.row.Row.{Row}
+use Rattle.lft_races.proofs.hints.rows.is_passed.Given as goal
+
+abbrev pub invariant-loop-place : goal.invariant-loop-place
+invariant-loop-place l = (i : ℕ) (row : Row) → i < l.place → slice_get l.rows i ≡ Some row → ¬ Before l.tag row.tag

@@ -1,6 +1,0 @@
-use Rattle.std.proofs.Common.{◌≡◌, drop, find}
-use Rattle.lft_reasons.specs.Loops.{is_fed}
-use Rattle.lft_reasons.proofs.loops.first_fed.Given as goal
-
-abbrev pub invariant-loop-place : goal.invariant-loop-place
-invariant-loop-place l = find (is_fed l.program l.effects) (drop l.place l.names) ≡ find (is_fed l.program l.effects) l.names

@@ -1,6 +1,0 @@
-use Rattle.std.proofs.Common.{◌≡◌, [], ◌++◌, drop, filter_map, slice_get}
-use Rattle.lft_reasons.specs.Spots.{behind, named_at}
-use Rattle.lft_reasons.proofs.spots.named_with.Given as goal
-
-abbrev pub invariant-loop-reactor : goal.invariant-loop-reactor
-invariant-loop-reactor l = slice_get (filter_map named_at (behind l.reactors)) l.number ≡ slice_get (filter_map named_at (behind (drop l.reactor-index l.reactors)) ++ []) l.left

@@ -1,6 +1,0 @@
-use Rattle.std.proofs.Common.{◌≡◌, take}
-use Rattle.lft_reasons.specs.Spots.{behind, reactors_among}
-use Rattle.lft_reasons.proofs.spots.reactors_among.Given as goal
-
-abbrev pub invariant-loop-item : goal.invariant-loop-item
-invariant-loop-item l = behind l.found.items ≡ reactors_among (take l.item-index l.items)

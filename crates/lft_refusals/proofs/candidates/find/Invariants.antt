@@ -1,6 +1,0 @@
-use Rattle.std.specs.List.{All}
-use Rattle.lft_refusals.specs.Trying.{CanStandBehind}
-use Rattle.lft_refusals.proofs.candidates.find.Given as goal
-
-abbrev pub invariant-loop-at : goal.invariant-loop-at
-invariant-loop-at l = All (CanStandBehind l.before) l.found.items

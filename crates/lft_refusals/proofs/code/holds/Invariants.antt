@@ -1,5 +1,0 @@
-use Rattle.std.proofs.Common.{◌≡◌, ℕ, ◌<◌, ◌+◌, length, slice_range}
-use Rattle.lft_refusals.proofs.code.holds.Given as goal
-
-abbrev pub invariant-loop-start : goal.invariant-loop-start
-invariant-loop-start l = (place : ℕ) → place < l.start → slice_range l.text place (place + length l.bytes) ≡ l.bytes → ⊥

@@ -1,0 +1,4 @@
+pub mod Back
+pub mod Texts
+pub mod Lines
+pub mod QuotesLemmas

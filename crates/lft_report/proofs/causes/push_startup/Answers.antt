@@ -1,0 +1,5 @@
+use Rattle.std.proofs.Common.{append_assoc}
+use Rattle.lft_report.proofs.causes.push_startup.Goals as goal
+
+pub returns : goal.returns
+returns c = rw (c.in_ok-push_str-2.ensures.bytes, c.in_ok-push_tag.ensures, c.in_ok-push_str.ensures.bytes) (simp append_assoc)

@@ -1,0 +1,14 @@
+pub mod Orders
+pub mod Ways
+pub mod Hops
+pub mod Causes
+pub mod Rows
+pub mod Runs
+pub mod Sentences
+pub mod Neighbours
+pub mod Reasons
+pub mod Reads
+pub mod Shortened
+pub mod Told
+pub mod Explained
+pub mod Quotes

@@ -1,0 +1,24 @@
+#![tactic(auto)]
+//! Why a trace breaks a rule, as text: facts that a reader can believe one by one. In `quotes` the rows that
+//! facts name, with their lines and what each of them is to the facts.
+
+mod causes;
+mod explaining;
+mod hops;
+mod laws;
+mod neighbours;
+mod orders;
+pub mod quotes;
+mod reads;
+mod reasons;
+mod rows;
+mod runs;
+mod sentences;
+mod shortening;
+mod telling;
+mod ways;
+
+pub use explaining::explain;
+pub use laws::law_race;
+pub use shortening::push_shown;
+pub use telling::tell;

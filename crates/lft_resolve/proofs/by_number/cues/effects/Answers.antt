@@ -1,0 +1,23 @@
+use Rattle.std.proofs.Common.{take, sym}
+use Rattle.std.proofs.lemmas.Result.{err_from_is_err_and}
+use Rattle.lft_tree.specs.View.{ref_view, ref_views}
+use Rattle.lft_resolve.specs.Directories.{IsLost, is_spot}
+use Rattle.lft_resolve.specs.Sheets.{IsSpot}
+use Rattle.lft_resolve.specs.declared.kinds.Role.TheVariants.{Effect}
+use Rattle.lft_resolve.proofs.Files.{AllZip-last}
+use Rattle.lft_resolve.proofs.Lost.{lost, effect_spot}
+use Rattle.lft_resolve.proofs.Somes.{some_here}
+use Rattle.lft_resolve.proofs.Twice.{map_last}
+use Rattle.lft_resolve.proofs.by_number.cues.effects.Goals as goal
+
+pub returns-in_err-spot-clause-lost : goal.returns-in_err-spot-clause-lost
+returns-in_err-spot-clause-lost c =
+    let p = err_from_is_err_and c.from_residual.result c.from_residual.ensures.1 in
+    rw (p.1, p.2)
+    (λ other rs r at. some_here ref_view (λ ref. IsLost rs r (Effect, ref)) c.args.references.now c.loop-reference.reference-index c.reference-item.result c.loop-reference-test.true (sym c.reference-item.is)
+    (lost is_spot rs r Effect (ref_view c.reference-item.result) effect_spot (c.in_err-spot.ensures.lost other rs r at)))
+
+pub loop-reference-preserved : goal.loop-reference-preserved
+loop-reference-preserved c rs r at =
+    rw (c.in_ok-push.ensures.items, map_last ref_view c.args.references.now c.loop-reference.reference-index c.reference-item.result c.loop-reference-test.true (sym c.reference-item.is))
+    (AllZip-last (IsSpot rs r) (ref_views (take c.loop-reference.reference-index c.args.references.now)) c.loop-reference.spots.items (ref_view c.reference-item.result) _ (c.loop-reference.invariant rs r at) (c.in_ok-spot.ensures.ok rs r at))

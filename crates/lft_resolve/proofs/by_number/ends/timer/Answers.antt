@@ -1,0 +1,8 @@
+use Rattle.std.proofs.Common.{option_map, string_bytes, ap, ◌∙◌}
+use Rattle.lft_tree.specs.View.{ref_view}
+use Rattle.lft_resolve.specs.Sheets.{timer_place}
+use Rattle.lft_resolve.proofs.Lost.{timer_there}
+use Rattle.lft_resolve.proofs.by_number.ends.timer.Goals as goal
+
+pub returns-in-None : goal.returns-in-None
+returns-in-None c rs r at = timer_there r (ref_view c.args.reference.now) c.timer.result (ap (option_map string_bytes) c.in-None.is) (c.timer.ensures rs r at ∙ ap (timer_place r) c.as_str.ensures.value)

@@ -1,0 +1,11 @@
+use Rattle.std.proofs.Common.{◌≡◌, None, string_bytes, sym, ap, subst, ◌∙◌}
+use Rattle.lft_tree.specs.View.{time_view}
+use Rattle.lft_resolve.specs.Directories.{IsLostTime}
+use Rattle.lft_resolve.specs.Sheets.{parameter_place}
+use Rattle.lft_resolve.proofs.Lost.{lost_time}
+use Rattle.lft_resolve.proofs.by_number.joins.clock.Goals as goal
+
+pub returns-in-None-clause-lost : goal.returns-in-None-clause-lost
+returns-in-None-clause-lost c other rs r at =
+    let none : parameter_place r (string_bytes c.in-Parameter.name) ≡ None = ap (parameter_place r) (sym c.as_str.ensures.value) ∙ sym (c.in-None.ensures rs r at) in
+    subst (λ t. IsLostTime r (time_view t)) (sym c.in-Parameter.is) (lost_time r (string_bytes c.in-Parameter.name) none)

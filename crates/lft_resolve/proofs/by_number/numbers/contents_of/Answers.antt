@@ -1,0 +1,26 @@
+use Rattle.std.proofs.Common.{◌≡◌, Some, None, Any, map, filter_map, take, string_bytes, refl, sym, ap, subst, ◌∙◌}
+use Rattle.lft_tree.specs.View.{instance_view, member_view, reactor_view}
+use Rattle.lft_tree.specs.Tree.{instances_of, instance_in}
+use Rattle.lft_resolve.specs.Instances.{reactor_named}
+use Rattle.lft_resolve.specs.Numbers.{IsNumberOf}
+use Rattle.lft_resolve.specs.References.{instance_trees}
+use Rattle.lft_resolve.proofs.Files.{AllZip-last}
+use Rattle.lft_resolve.proofs.Somes.{some_here}
+use Rattle.lft_resolve.proofs.Twice.{map_last}
+use Rattle.lft_resolve.proofs.by_number.numbers.contents_of.Goals as goal
+
+pub loop-instance-preserved : goal.loop-instance-preserved
+loop-instance-preserved c rs is =
+    let there = c.in-Some.ensures rs is in
+    let named : reactor_named rs (string_bytes c.instance-item.result.now.reactor) ≡ Some there.0 = ap (reactor_named rs) (sym c.as_str.ensures.value) ∙ there.1 in
+    rw (c.in_ok-push-in-Some.ensures.items, map_last (λ x. instance_view x.now) c.deref-instance-items.result.now c.loop-instance.instance-index c.instance-item.result c.loop-instance-test.true (sym c.instance-item.is))
+    (AllZip-last (IsNumberOf rs) (instance_trees (take c.loop-instance.instance-index c.deref-instance-items.result.now)) c.loop-instance.instances.items (instance_view c.instance-item.result.now) c.in-Some.number (c.loop-instance.invariant rs is) (there.0, named, there.2))
+
+pub returns-in-None-clause-unknown : goal.returns-in-None-clause-unknown
+returns-in-None-clause-unknown c other = (
+  refl,
+  λ rs is. (
+      let none : reactor_named rs (string_bytes c.instance-item.result.now.reactor) ≡ None = ap (reactor_named rs) (sym c.as_str.ensures.value) ∙ c.in-None.ensures rs is in
+      let all : instance_trees c.deref-instance-items.result.now ≡ instances_of (reactor_view c.args.reactor.now) = ap instance_trees c.deref-instance-items.ensures.value ∙ c.in_ok-declared.ensures ∙ ap (λ ms. filter_map instance_in (map member_view ms)) c.deref.ensures.value in
+      subst (Any (λ i. reactor_named rs i.reactor ≡ None)) all (some_here (λ x. instance_view x.now) (λ i. reactor_named rs i.reactor ≡ None) c.deref-instance-items.result.now c.loop-instance.instance-index c.instance-item.result c.loop-instance-test.true (sym c.instance-item.is) none)),
+)

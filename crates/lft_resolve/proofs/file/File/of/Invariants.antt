@@ -1,0 +1,8 @@
+use Rattle.std.proofs.Common.{take}
+use Rattle.std.specs.List.{AllZip}
+use Rattle.lft_resolve.specs.References.{reactor_trees}
+use Rattle.lft_resolve.specs.Tables.{IsOutside, with_name}
+use Rattle.lft_resolve.proofs.file.File.of.Given as goal
+
+abbrev pub invariant-loop-reactor : goal.invariant-loop-reactor
+invariant-loop-reactor l = AllZip IsOutside (with_name (reactor_trees (take l.reactor-index l.reactors))) l.outsides.items

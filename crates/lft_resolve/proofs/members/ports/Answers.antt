@@ -1,0 +1,15 @@
+use Rattle.std.proofs.Common.{◌<◌, length, ap, sym, ◌∙◌, arith}
+use Rattle.std.specs.Option.{option_map}
+use Rattle.lft_tree.specs.Tree.{port_in}
+use Rattle.lft_tree.specs.View.{member_view, port_view}
+use Rattle.lft_lists.proofs.Picked.{picked_some, picked_none}
+use Rattle.lft_resolve.proofs.members.ports.Goals as goal
+use Rattle.lft_resolve.proofs.members.ports.Goals.{in-Some+in_ok-push-in-Some, in-None}
+
+pub loop-member-preserved : goal.loop-member-preserved
+loop-member-preserved c =
+    let within : c.loop-member.member-index < length c.args.members.now = omega arith in
+    elim c.match-as_port.branch [
+      | in-Some+in_ok-push-in-Some w ↦ rw (w.found-is, w.in_ok-push-in-Some.ensures.items) (picked_some port_in member_view (λ x. port_view x.now) c.args.members.now c.loop-member.member-index c.member-item.result within (sym c.member-item.is) c.loop-member.found.items c.loop-member.invariant _ (sym c.as_port.ensures ∙ ap (option_map (λ x. port_view x.now)) w.in-Some.is))
+      | in-None w ↦ rw w.found-is (picked_none port_in member_view (λ x. port_view x.now) c.args.members.now c.loop-member.member-index c.member-item.result within (sym c.member-item.is) c.loop-member.found.items c.loop-member.invariant (sym c.as_port.ensures ∙ ap (option_map (λ x. port_view x.now)) w.in-None.is))
+    ]

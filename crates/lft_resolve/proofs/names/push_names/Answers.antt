@@ -1,0 +1,15 @@
+use Rattle.std.proofs.Common.{◌<◌, length, ap, sym, ◌∙◌, arith}
+use Rattle.std.specs.Option.{option_map}
+use Rattle.lft_tree.specs.View.{member_view}
+use Rattle.lft_resolve.specs.Tests.{name_in, texts}
+use Rattle.lft_lists.proofs.Picked.{behind_some, behind_none}
+use Rattle.lft_resolve.proofs.names.push_names.Goals as goal
+use Rattle.lft_resolve.proofs.names.push_names.Goals.{in-Some+in_ok-push-in-Some, in-None}
+
+pub loop-member-preserved : goal.loop-member-preserved
+loop-member-preserved c =
+    let within : c.loop-member.member-index < length c.args.members.now = omega arith in
+    elim c.match-name_of.branch [
+      | in-Some+in_ok-push-in-Some w ↦ rw (w.names-is, w.in_ok-push-in-Some.ensures.items) (behind_some (name_in c.args.kind) member_view (λ t. t.now) (texts c.args.names.now.items) c.args.members.now c.loop-member.member-index c.member-item.result within (sym c.member-item.is) c.loop-member.names.items c.loop-member.invariant _ (sym c.name_of.ensures ∙ ap (option_map (λ t. t.now)) w.in-Some.is))
+      | in-None w ↦ rw w.names-is (behind_none (name_in c.args.kind) member_view (λ t. t.now) (texts c.args.names.now.items) c.args.members.now c.loop-member.member-index c.member-item.result within (sym c.member-item.is) c.loop-member.names.items c.loop-member.invariant (sym c.name_of.ensures ∙ ap (option_map (λ t. t.now)) w.in-None.is))
+    ]

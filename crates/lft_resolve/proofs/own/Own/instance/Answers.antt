@@ -1,0 +1,20 @@
+use Rattle.std.proofs.Common.{◌≡◌, map, slice_get, option_map, Some, None, sym, ap, ◌∙◌}
+use Rattle.std.specs.Option.{option_and_then}
+use Rattle.std.proofs.lemmas.Option.{slice_get-map}
+use Rattle.lft_tree.specs.Tree.{instances_of}
+use Rattle.lft_tree.specs.View.{instance_view}
+use Rattle.lft_resolve.specs.Places.{place}
+use Rattle.lft_resolve.specs.References.{instance_trees}
+use Rattle.lft_resolve.proofs.Placing.{find-place, lent}
+use Rattle.lft_resolve.proofs.own.Own.instance.Goals as goal
+
+pub returns-in-Some : goal.returns-in-Some
+returns-in-Some c r is =
+    let at : place c.args.name.now (map (λ x. x.name) (instances_of r)) ≡ Some c.in-Some.place = sym (is.contained c.args.name.now) ∙ sym c.get.ensures ∙ c.in-Some.is in
+    let instances : instance_trees c.deref.result.now ≡ instances_of r = ap instance_trees c.deref.ensures.value ∙ is.instances in
+    ap (option_map (λ i. instance_view i.now)) (c.copied.ensures ∙ lent c.deref.result.now c.in-Some.place c.get-in-Some.result c.get-in-Some.ensures.lookup) ∙ sym (slice_get-map (λ i. instance_view i.now) c.deref.result.now c.in-Some.place) ∙ ap (λ l. slice_get l c.in-Some.place) instances ∙ sym (find-place (λ x. x.name) c.args.name.now (instances_of r) ∙ ap (option_and_then (slice_get (instances_of r))) at)
+
+pub returns-in-None : goal.returns-in-None
+returns-in-None c r is =
+    let at : place c.args.name.now (map (λ x. x.name) (instances_of r)) ≡ None = sym (is.contained c.args.name.now) ∙ sym c.get.ensures ∙ c.in-None.is in
+    sym (find-place (λ x. x.name) c.args.name.now (instances_of r) ∙ ap (option_and_then (slice_get (instances_of r))) at)

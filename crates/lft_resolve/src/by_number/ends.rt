@@ -1,0 +1,99 @@
+//! What the names in a reactor stand for, by place.
+
+ghost use Rattle.std.specs.Prelude.{◌≡◌, ◌≢◌, List, None, false, IfOk, IfErr, MatchOption};
+ghost use Rattle.lft_tree.specs.Tree.{ReactorTree};
+ghost use Rattle.lft_tree.specs.View.{ref_view};
+ghost use Rattle.lft_resolve.specs.Directories.{IsAt, IsTimerAt, Lacks, inner_ref, is_port, is_spot};
+ghost use Rattle.lft_resolve.specs.Kinds.{inner_kind};
+ghost use Rattle.lft_resolve.specs.Sheets.{IsEnd, IsSpot, is_timer};
+ghost use Rattle.lft_resolve.specs.declared.fault.ReactorFault.TheVariants as faults;
+
+use crate::ReactorFault;
+use crate::by_number::directory::Directory;
+use crate::by_number::sheets::Spot;
+use crate::expansion::End;
+use lft_tag::NoMemory;
+use lft_tree::Reference;
+
+/// A place in 32 bits. No list that can be held is longer.
+pub(crate) fn narrow(place: usize) -> Result<u32, NoMemory>
+    ensures { IfOk result (λ n. n ≡ place) }
+{
+    if place > u32::MAX as usize {
+        return Err(NoMemory);
+    }
+    Ok(place as u32)
+}
+
+/// The port of a contained instance that a name with a point stands for.
+fn inner_end(
+    directory: &Directory,
+    number: usize,
+    head: &str,
+    name: &str,
+) -> Result<End, ReactorFault>
+    ensures ok { IfOk result (λ end. (rs : List ReactorTree) (r : ReactorTree) → IsAt rs directory.now number r → IsEnd rs r (inner_ref head.now name.now) end) }
+    ensures lost { IfErr result (λ f. f ≢ faults.NoMemory → (rs : List ReactorTree) (r : ReactorTree) → IsAt rs directory.now number r → inner_kind rs r head.now name.now ≡ None) }
+{
+    match directory.inner(number, head, name) {
+        Some((instance, port)) => Ok(End::Inner {
+            instance,
+            port: narrow(port)?,
+        }),
+        None => Err(ReactorFault::UnknownName),
+    }
+}
+
+/// The port that a name in the reactor of this number stands for.
+pub(crate) fn end(
+    directory: &Directory,
+    number: usize,
+    reference: &Reference,
+) -> Result<End, ReactorFault>
+    ensures ok { IfOk result (λ end. (rs : List ReactorTree) (r : ReactorTree) → IsAt rs directory.now number r → IsEnd rs r (ref_view reference.now) end) }
+    ensures lost { IfErr result (λ f. f ≢ faults.NoMemory → (rs : List ReactorTree) (r : ReactorTree) → IsAt rs directory.now number r → Lacks is_port rs r (ref_view reference.now)) }
+{
+    match &reference.port {
+        None => match directory.port(number, reference.head.as_str()) {
+            Some(port) => Ok(End::Own(narrow(port)?)),
+            None => Err(ReactorFault::UnknownName),
+        },
+        Some(name) => inner_end(directory, number, reference.head.as_str(), name.as_str()),
+    }
+}
+
+/// The port or action that a name in the reactor of this number stands for.
+pub(crate) fn spot(
+    directory: &Directory,
+    number: usize,
+    reference: &Reference,
+) -> Result<Spot, ReactorFault>
+    ensures ok { IfOk result (λ spot. (rs : List ReactorTree) (r : ReactorTree) → IsAt rs directory.now number r → IsSpot rs r (ref_view reference.now) spot) }
+    ensures lost { IfErr result (λ f. f ≢ faults.NoMemory → (rs : List ReactorTree) (r : ReactorTree) → IsAt rs directory.now number r → Lacks is_spot rs r (ref_view reference.now)) }
+{
+    match &reference.port {
+        None => match directory.port(number, reference.head.as_str()) {
+            Some(port) => Ok(Spot::Port(End::Own(narrow(port)?))),
+            None => match directory.action(number, reference.head.as_str()) {
+                Some(action) => Ok(Spot::Action(narrow(action)?)),
+                None => Err(ReactorFault::UnknownName),
+            },
+        },
+        Some(name) => {
+            match inner_end(directory, number, reference.head.as_str(), name.as_str()) {
+                Ok(end) => Ok(Spot::Port(end)),
+                Err(fault) => Err(fault),
+            }
+        }
+    }
+}
+
+/// The place of the timer that a name in the reactor of this number stands for, if it is one.
+pub(crate) fn timer(directory: &Directory, number: usize, reference: &Reference) -> Option<usize>
+    ensures { (rs : List ReactorTree) (r : ReactorTree) → IsAt rs directory.now number r → MatchOption result (is_timer r (ref_view reference.now).head (ref_view reference.now).port ≡ false) (IsTimerAt r (ref_view reference.now)) }
+{
+    match &reference.port {
+        None => directory.timer(number, reference.head.as_str()),
+        Some(_) => None,
+    }
+}

@@ -1,0 +1,402 @@
+-- Widths that are found are those of the instances.
+use Rattle.std.proofs.Common.{◌≡◌, ℕ, zero, suc, ◌+◌, ◌*◌, ◌<◌, ◌≤◌, min, ℤ, pos, Bool, true, false, List, [], ◌∷◌, length, map, Option, Some, None, option_map, slice_get, refl, sym, ap, subst, ◌∙◌, arith}
+use Rattle.std.specs.Prelude.{◌^◌, ◌-◌, neg_ℤ, string_bytes, unwrap_or}
+use Rattle.std.specs.Option.{option_and_then, option_map_or}
+use Rattle.std.proofs.lemmas.List.{length-map}
+use Rattle.std.proofs.lemmas.List.FromFn.{length-range_with_len}
+use Rattle.std.specs.List.{enumerate_from}
+use Rattle.lft_resolve.specs.Expansion.Paths.{along}
+use Rattle.lft_lists.proofs.Mapped.{mapped, mapped_from, option_map_some}
+use Rattle.lft_lists.proofs.Members.{Mem, get_mem, mem_from_flat, mem_from_map, mem_get}
+use Rattle.lft_program.proofs.Listing.{enumerate_from_at}
+use Rattle.lft_lists.proofs.Places.{Some_same}
+use Rattle.lft_whole.specs.declared.sources.source.SourceFile.{SourceFile}
+use Rattle.lft_whole.specs.declared.tree.Count.{Count}
+use Rattle.lft_whole.specs.declared.tree.Count.TheVariants as count
+use Rattle.lft_whole.specs.declared.tree.Instance.{Instance}
+use Rattle.lft_whole.specs.declared.tree.Member.{Member}
+use Rattle.lft_whole.specs.declared.tree.Member.TheVariants as member
+use Rattle.lft_whole.specs.declared.tree.Name.{Name}
+use Rattle.lft_whole.specs.declared.tree.Reference.{Reference}
+use Rattle.lft_whole.specs.declared.tree.Term.{Term}
+use Rattle.lft_whole.specs.declared.tree.Value.{Value}
+use Rattle.lft_whole.specs.declared.tree.Value.TheVariants as value
+use Rattle.lft_whole.specs.declared.tree.Width.{Width}
+use Rattle.lft_elaborate.specs.Channels.Channels.{below}
+use Rattle.lft_classes.specs.declared.shapes.Inherited.{Inherited}
+use Rattle.lft_classes.specs.declared.shapes.Shape.{Shape}
+use Rattle.lft_classes.specs.declared.shapes.Thing.{Thing}
+use Rattle.lft_classes.specs.declared.shapes.Thing.TheVariants as thing
+use Rattle.lft_classes.specs.Shapes.{name_of, thing_named, width_of}
+use Rattle.lft_elaborate.specs.Used.{IsReached, is_instance, is_instance_in, within}
+use Rattle.lft_elaborate.specs.Places.{IsMany, Meant, as_member, as_port, capped, count_in as settings_count, how_many, how_many_of, many, meaning_of, member_in, member_named, natural, own_thing, parameter_in, places_in, places_of, plus, port_inside, port_named, sum_in, thing_in, times, width_in, written_width}
+use Rattle.lft_elaborate.specs.Values.{Valued, inside, literal, number_named}
+use Rattle.lft_program.proofs.Zipping.{then_some}
+use Rattle.lft_same.specs.Expanded.Instances.{Inner, Inside, Widths, entered, inners, inners_at, inside_of, main_instance, number_of, numbers, numbers_at, numbers_named, place_named, written}
+use Rattle.lft_same.specs.Expanded.Reactors.{Class, main_of, members_of}
+use Rattle.lft_same.specs.Expanded.Whole.{AreWidths, channels, count_in, things_named, total}
+use Rattle.lft_same.specs.Fits.Fits.{Fits}
+use Rattle.lft_same.specs.Fits.Widths.{AreFound, small}
+use Rattle.lft_same.proofs.FitsLemmas.Channels.{channels_length}
+use Rattle.lft_same.proofs.FitsLemmas.Fitting.{number_fits}
+use Rattle.lft_same.proofs.FitsLemmas.MemberNames.{member_found, member_lost}
+
+-- ---- small numbers
+
+uncapped : (n : ℕ) → capped n < small → capped n ≡ n
+uncapped n l = omega (arith, l)
+
+uncut : (c : ℕ) → min c (2 ^ 62) < small → min c (2 ^ 62) ≡ c
+uncut c l = omega (arith, l)
+
+-- a number that is written is that of the value
+pub number_is : (v : Value) (z : ℤ) (k : ℕ) → literal v ≡ Some z → natural z ≡ Some k → k < small → option_and_then natural (number_of v) ≡ Some k
+number_is (value.Number true c None) z k e f l = below_zero c (min c (2 ^ 62)) refl (ap natural (Some_same (neg_ℤ (pos (min c (2 ^ 62)))) z e) ∙ f)
+  where
+    below_zero : (c m : ℕ) → m ≡ min c (2 ^ 62) → natural (neg_ℤ (pos m)) ≡ Some k → natural (neg_ℤ (pos c)) ≡ Some k
+    below_zero zero m is g = let z : m ≡ 0 = omega (arith, is) in ap (λ n. natural (neg_ℤ (pos n))) (sym z) ∙ g
+    below_zero (suc c) zero is g = absurd (omega (arith, is))
+    below_zero (suc c) (suc m) is g = absurd (cc)
+number_is (value.Number false c None) z k e f l =
+    let g : Some (min c (2 ^ 62)) ≡ Some k = ap natural (Some_same (pos (min c (2 ^ 62))) z e) ∙ f in
+    let h : min c (2 ^ 62) ≡ k = Some_same (min c (2 ^ 62)) k g in
+    ap Some (sym (uncut c (omega (arith, h, l))) ∙ h)
+number_is (value.Number negative c (Some unit)) z k e f l = absurd (none negative e)
+  where
+    none : (b : Bool) → literal (value.Number b c (Some unit)) ≡ Some z → ⊥
+    none true g = cc
+    none false g = cc
+number_is (value.Word q) z k e f l = absurd (cc)
+number_is value.Code z k e f l = absurd (cc)
+number_is value.Other z k e f l = absurd (cc)
+
+times_some : (a b : Option ℕ) (n : ℕ) → times a b ≡ Some n → (i : ℕ) × (j : ℕ) × (a ≡ Some i) × (b ≡ Some j) × (capped (i * j) ≡ n)
+times_some None b n e = absurd (cc)
+times_some (Some i) None n e = absurd (cc)
+times_some (Some i) (Some j) n e = (i, j, refl, refl, Some_same (capped (i * j)) n e)
+
+plus_some : (a b : Option ℕ) (n : ℕ) → plus a b ≡ Some n → (i : ℕ) × (j : ℕ) × (a ≡ Some i) × (b ≡ Some j) × (capped (i + j) ≡ n)
+plus_some None b n e = absurd (cc)
+plus_some (Some i) None n e = absurd (cc)
+plus_some (Some i) (Some j) n e = (i, j, refl, refl, Some_same (capped (i + j)) n e)
+
+-- so many for each of so many
+product : (i j n a b : ℕ) → capped (i * j) ≡ n → n < small → (i < small → a ≡ i) → (j < small → b ≡ j) → b * a ≡ n
+product zero j n a b e l f g =
+    let h : a ≡ 0 = f (omega arith) in
+    let z : b * a ≡ 0 = ap (λ k. b * k) h ∙ omega arith in
+    let t : 0 * j ≡ 0 = omega arith in
+    z ∙ ap capped (sym t) ∙ e
+product (suc i) zero n a b e l f g =
+    let h : b ≡ 0 = g (omega arith) in
+    let z : b * a ≡ 0 = ap (λ k. k * a) h ∙ omega arith in
+    let t : suc i * 0 ≡ 0 = omega arith in
+    z ∙ ap capped (sym t) ∙ e
+product (suc i) (suc j) n a b e l f g =
+    let u : capped (suc i * suc j) ≡ suc i * suc j = uncapped (suc i * suc j) (omega (arith, e, l)) in
+    let p : suc i * suc j ≡ n = sym u ∙ e in
+    let x : suc i ≤ suc i * suc j = more i j in
+    let y : suc j ≤ suc i * suc j = more' i j in
+    let h : a ≡ suc i = f (omega (arith, x, p, l)) in
+    let k : b ≡ suc j = g (omega (arith, y, p, l)) in
+    ap (λ v. b * v) h ∙ ap (λ v. v * suc i) k ∙ turn i j ∙ p
+  where
+    more : (i j : ℕ) → suc i ≤ suc i * suc j
+    more i j = grind arith
+
+    more' : (i j : ℕ) → suc j ≤ suc i * suc j
+    more' i j = grind arith
+
+    turn : (i j : ℕ) → suc j * suc i ≡ suc i * suc j
+    turn i j = grind arith
+
+-- ---- widths that hang on those that are known
+
+-- a setting and an instance that it fits have the same in the same members
+pub record AreNested (files : List SourceFile) (shapes : List Shape) : Type 0 where
+  pub instance : (t u : Valued) (x : Inside) (m : ℕ) → Fits files shapes t x → inside shapes t m ≡ Some u → (file : ℕ) × (i : Instance) × (slice_get (members_of files x.class) m ≡ Some (file, member.Instance i))
+  pub exists : (t : Valued) (x y : Inside) (m file : ℕ) (i : Instance) → Fits files shapes t x → slice_get (members_of files x.class) m ≡ Some (file, member.Instance i) → inside_of files x (file, i) ≡ Some y → (u : Valued) × (inside shapes t m ≡ Some u)
+  pub inside_fits : (t u : Valued) (x : Inside) (m file : ℕ) (i : Instance) → Fits files shapes t x → slice_get (members_of files x.class) m ≡ Some (file, member.Instance i) → inside shapes t m ≡ Some u → (y : Inside) × (inside_of files x (file, i) ≡ Some y) × Fits files shapes u y
+
+module _ (files : List SourceFile) (shapes : List Shape) (t : Valued) (x : Inside) (fits : Fits files shapes t x) where
+  -- a member of the setting's shape is one of the instance's reactor
+  pub member_is : (m : ℕ) (i : Inherited) → slice_get fits.shape.members.items m ≡ Some i → slice_get (members_of files x.class) m ≡ Some (i.file, i.member.now)
+  member_is m i at = ap (λ l. slice_get l m) (sym fits.of_class.members) ∙ mapped (λ (i : Inherited). (i.file, i.member.now)) fits.shape.members.items m i at
+
+  pub width_is_written : (m : ℕ) (i : Inherited) → slice_get fits.shape.members.items m ≡ Some i → written_width shapes t m ≡ width_of i.member.now
+  width_is_written m i at = ap (λ o. option_and_then (λ (found : Inherited). width_of found.member.now) (option_and_then (λ (s : Shape). slice_get s.members.items m) o)) fits.is_shape ∙ ap (option_and_then (λ (found : Inherited). width_of found.member.now)) at
+
+  pub thing_is : (q : List ℕ) → thing_in shapes t q ≡ thing_named fits.shape q
+  thing_is q = ap (option_and_then (λ (s : Shape). thing_named s q)) fits.is_shape
+
+  -- what has a name that is a member's
+  pub named_member : (q : List ℕ) (m : ℕ) → thing_named fits.shape q ≡ Some (thing.Member m) → (i : Inherited) × (slice_get fits.shape.members.items m ≡ Some i)
+  named_member q m e = let h = (fits.of_class.names q (thing.Member m)).0 e in (h.0, h.1)
+
+module _ (files : List SourceFile) (shapes : List Shape) (nested : AreNested files shapes) (depth : ℕ) (w : Widths) (known : (t : Valued) (x : Inside) → Fits files shapes t x → (m n : ℕ) → width_in shapes depth t m ≡ Some n → n < small → w x m ≡ n) where
+  -- as many as a member is
+  numbers_long : (t : Valued) (x : Inside) → Fits files shapes t x → (m n : ℕ) (o : Option Width) → many (width_in shapes depth t m) o ≡ Some n → n < small → length (numbers o (w x m)) ≡ n
+  numbers_long t x fits m n None e l = Some_same 1 n e
+  numbers_long t x fits m n (Some width) e l = length-map (below (w x m)) Some ∙ length-range_with_len 0 (w x m) ∙ known t x fits m n e l
+
+  member_long : (t : Valued) (x : Inside) (fits : Fits files shapes t x) (m n : ℕ) (i : Inherited) → slice_get fits.shape.members.items m ≡ Some i → how_many shapes (width_in shapes depth) t m ≡ Some n → n < small → length (numbers (width_of i.member.now) (w x m)) ≡ n
+  member_long t x fits m n i at e l = numbers_long t x fits m n (width_of i.member.now) (ap (many (width_in shapes depth t m)) (sym (width_is_written files shapes t x fits m i at)) ∙ e) l
+
+  named_long : (t : Valued) (x : Inside) (fits : Fits files shapes t x) (q : List ℕ) (m n : ℕ) → thing_named fits.shape q ≡ Some (thing.Member m) → how_many shapes (width_in shapes depth) t m ≡ Some n → n < small → length (numbers_named files w x q) ≡ n
+  named_long t x fits q m n is e l =
+      let i = named_member files shapes t x fits q m is in
+      ap (λ o. length (option_map_or (numbers_at files w x) o (None ∷ []))) (member_found files fits.shape x fits.of_class q m is)
+      ∙ ap (λ o. length (option_map_or (λ (y : ℕ × Member). numbers (width_of y.1) (w x m)) o (None ∷ []))) (member_is files shapes t x fits m i.0 i.1)
+      ∙ member_long t x fits m n i.0 i.1 e l
+
+  -- a thing of the reactor itself
+  own_long : (t : Valued) (x : Inside) (fits : Fits files shapes t x) (q : List ℕ) (th : Thing) (n : ℕ) → thing_named fits.shape q ≡ Some th → how_many_of shapes (width_in shapes depth) t th ≡ Some n → n < small → length (numbers_named files w x q) ≡ n
+  own_long t x fits q (thing.Member m) n is e l = named_long t x fits q m n is e l
+  own_long t x fits q (thing.Parameter p) n is e l = ap (λ o. length (option_map_or (numbers_at files w x) o (None ∷ []))) (member_lost files fits.shape x fits.of_class q none) ∙ Some_same 1 n e
+    where
+      none : (m : ℕ) → thing_named fits.shape q ≡ Some (thing.Member m) → ⊥
+      none m f = let s : Some (thing.Parameter p) ≡ Some (thing.Member m) = sym is ∙ f in absurd (cc)
+
+  places_long : (t : Valued) (x : Inside) (fits : Fits files shapes t x) (path : List ℕ) (interleaved : Bool) (q : List ℕ) (port : Option Name) (n : ℕ) → option_and_then (places_of shapes (width_in shapes depth) t) (meaning_of shapes t q port) ≡ Some n → n < small → length (things_named files w path x interleaved q (option_map (λ (p : Name). string_bytes p.text) port)) ≡ n
+  places_long t x fits path interleaved q None n e l =
+      let meant = then_some (places_of shapes (width_in shapes depth) t) (option_map (own_thing t) (thing_in shapes t q)) n e in
+      let th = option_map_some (own_thing t) (thing_in shapes t q) meant.0 meant.1 in
+      let f : times (how_many_of shapes (width_in shapes depth) t th.0) (Some 1) ≡ Some n = ap (places_of shapes (width_in shapes depth) t) th.2 ∙ meant.2 in
+      let p = times_some (how_many_of shapes (width_in shapes depth) t th.0) (Some 1) n f in
+      let one : 1 ≡ p.1 = Some_same 1 p.1 p.3 in
+      let all : p.0 ≡ n = whole p.0 p.1 n one p.4 l in
+      length-map (numbers_named files w x q) _ ∙ own_long t x fits q th.0 n (sym (thing_is files shapes t x fits q) ∙ th.1) (p.2 ∙ ap Some all) l
+    where
+      whole : (i j n : ℕ) → 1 ≡ j → capped (i * j) ≡ n → n < small → i ≡ n
+      whole i j n one e l =
+          let s : capped (i * 1) ≡ n = ap (λ k. capped (i * k)) one ∙ e in
+          let m : i * 1 ≡ i = omega arith in
+          let r : capped i ≡ n = ap capped (sym m) ∙ s in
+          omega (arith, r, l)
+  places_long t x fits path interleaved q (Some port) n e l = go k.0 (k.1, k.2)
+    where
+      b : List ℕ
+      b = string_bytes port.text
+
+      meant : (m : Meant) × (option_and_then (port_inside shapes t (string_bytes port.text)) (member_named shapes t q) ≡ Some m) × (places_of shapes (width_in shapes depth) t m ≡ Some n)
+      meant = then_some (places_of shapes (width_in shapes depth) t) (meaning_of shapes t q (Some port)) n e
+
+      inst : (k : ℕ) × (member_named shapes t q ≡ Some k) × (port_inside shapes t (string_bytes port.text) k ≡ Some meant.0)
+      inst = then_some (port_inside shapes t (string_bytes port.text)) (member_named shapes t q) meant.0 meant.1
+
+      k : (th : Thing) × (thing_in shapes t q ≡ Some th) × (as_member th ≡ Some inst.0)
+      k = then_some as_member (thing_in shapes t q) inst.0 inst.1
+
+      found : Valued → ℕ → Meant
+      found u m = record { instance = Some inst.0; setting = u; thing = thing.Member m }
+
+      u : (u : Valued) × (inside shapes t inst.0 ≡ Some u) × (option_map (found u) (port_named shapes u (string_bytes port.text)) ≡ Some meant.0)
+      u = then_some (λ u. option_map (found u) (port_named shapes u (string_bytes port.text))) (inside shapes t inst.0) meant.0 inst.2
+
+      m : (m : ℕ) × (port_named shapes u.0 (string_bytes port.text) ≡ Some m) × (found u.0 m ≡ meant.0)
+      m = option_map_some (found u.0) (port_named shapes u.0 (string_bytes port.text)) meant.0 u.2
+
+      -- the port is the member of its name
+      named : (m' : ℕ) × (member_named shapes u.0 (string_bytes port.text) ≡ Some m') × (option_and_then (λ (i : Inherited). as_port m' i.member.now) (member_in shapes u.0 m') ≡ Some m.0)
+      named = then_some (λ m'. option_and_then (λ (i : Inherited). as_port m' i.member.now) (member_in shapes u.0 m')) (member_named shapes u.0 (string_bytes port.text)) m.0 m.1
+
+      same : named.0 ≡ m.0
+      same = let i = then_some (λ (i : Inherited). as_port named.0 i.member.now) (member_in shapes u.0 named.0) m.0 named.2 in of_port i.0.member.now i.2
+        where
+          of_port : (y : Member) → as_port named.0 y ≡ Some m.0 → named.0 ≡ m.0
+          of_port (member.Port p) f = Some_same named.0 m.0 f
+          of_port (member.Timer p) f = absurd (cc)
+          of_port (member.Action p) f = absurd (cc)
+          of_port (member.Reaction p) f = absurd (cc)
+          of_port (member.Instance p) f = absurd (cc)
+          of_port (member.Connection p) f = absurd (cc)
+          of_port (member.Foreign what at) f = absurd (cc)
+
+      at : (file : ℕ) × (i : Instance) × (slice_get (members_of files x.class) inst.0 ≡ Some (file, member.Instance i))
+      at = nested.instance t u.0 x inst.0 fits u.1
+
+      y : (y : Inside) × (inside_of files x (at.0, at.1) ≡ Some y) × Fits files shapes u.0 y
+      y = nested.inside_fits t u.0 x inst.0 at.0 at.1 fits at.2 u.1
+
+      both : (i : ℕ) × (j : ℕ) × (how_many shapes (width_in shapes depth) u.0 m.0 ≡ Some i) × (how_many shapes (width_in shapes depth) t inst.0 ≡ Some j) × (capped (i * j) ≡ n)
+      both = times_some (how_many shapes (width_in shapes depth) u.0 m.0) (how_many shapes (width_in shapes depth) t inst.0) n (ap (places_of shapes (width_in shapes depth) t) m.2 ∙ meant.2)
+
+      go : (th : Thing) → (thing_in shapes t q ≡ Some th) × (as_member th ≡ Some inst.0) → length (things_named files w path x interleaved q (Some (string_bytes port.text))) ≡ n
+      go (thing.Parameter p) (is, f) = absurd (cc)
+      go (thing.Member h) (is, f) =
+          let hs : h ≡ inst.0 = Some_same h inst.0 f in
+          let own : thing_named fits.shape q ≡ Some (thing.Member inst.0) = sym (thing_is files shapes t x fits q) ∙ is ∙ ap (λ z. Some (thing.Member z)) hs in
+          let i = named_member files shapes t x fits q inst.0 own in
+          let r : Some (i.0.file, i.0.member.now) ≡ Some (at.0, member.Instance at.1) = sym (member_is files shapes t x fits inst.0 i.0 i.1) ∙ at.2 in
+          let s : (i.0.file, i.0.member.now) ≡ (at.0, member.Instance at.1) = Some_same (i.0.file, i.0.member.now) (at.0, member.Instance at.1) r in
+          let is_inst : i.0.member.now ≡ member.Instance at.1 = ap (λ (p : ℕ × Member). p.1) s in
+          let has : option_map (λ (z : Name). string_bytes z.text) (name_of i.0.member.now) ≡ Some q = (let g = (fits.of_class.names q (thing.Member inst.0)).0 own in let e' : g.0 ≡ i.0 = Some_same g.0 i.0 (sym g.1 ∙ i.1) in ap (λ (z : Inherited). option_map (λ (z : Name). string_bytes z.text) (name_of z.member.now)) (sym e') ∙ g.2) in
+          let called : string_bytes at.1.name.text ≡ q = Some_same (string_bytes at.1.name.text) q (ap (λ (z : Member). option_map (λ (z : Name). string_bytes z.text) (name_of z)) (sym is_inst) ∙ has) in
+          let place : place_named files x (string_bytes at.1.name.text) ≡ Some inst.0 = ap (place_named files x) called ∙ member_found files fits.shape x fits.of_class q inst.0 own in
+          let long : length (things_named files w path x interleaved (string_bytes at.1.name.text) (Some (string_bytes port.text))) ≡ length (numbers at.1.width (w x inst.0)) * length (numbers_named files w y.0 (string_bytes port.text)) = channels_length files w x inst.0 at.0 at.1 at.2 place path (string_bytes port.text) interleaved y.0 y.1 in
+          ap (λ z. length (things_named files w path x interleaved z (Some (string_bytes port.text)))) (sym called)
+          ∙ long
+          ∙ product both.0 both.1 n (length (numbers_named files w y.0 (string_bytes port.text))) (length (numbers at.1.width (w x inst.0))) both.4 l (ports_long (th_of named.1)) (λ small_j. ap (λ (z : Member). length (numbers (width_of z) (w x inst.0))) (sym is_inst) ∙ member_long t x fits inst.0 both.1 i.0 i.1 both.3 small_j)
+        where
+          th_of : member_named shapes u.0 (string_bytes port.text) ≡ Some named.0 → (th : Thing) × (thing_in shapes u.0 (string_bytes port.text) ≡ Some th) × (as_member th ≡ Some named.0)
+          th_of f = then_some as_member (thing_in shapes u.0 (string_bytes port.text)) named.0 f
+
+          ports_long : (th : Thing) × (thing_in shapes u.0 (string_bytes port.text) ≡ Some th) × (as_member th ≡ Some named.0) → both.0 < small → length (numbers_named files w y.0 (string_bytes port.text)) ≡ both.0
+          ports_long (thing.Parameter p, is, f) l = absurd (cc)
+          ports_long (thing.Member h, is, f) l =
+              let hs : h ≡ m.0 = Some_same h named.0 f ∙ same in
+              named_long u.0 y.0 y.2 (string_bytes port.text) m.0 both.0 (sym (thing_is files shapes u.0 y.0 y.2 (string_bytes port.text)) ∙ is ∙ ap (λ z. Some (thing.Member z)) hs) both.2 l
+
+  -- a reference has as many channels as places
+  pub channels_long : (t : Valued) (x : Inside) (fits : Fits files shapes t x) (path : List ℕ) (r : Reference) (n : ℕ) → places_in shapes (width_in shapes depth) t r ≡ Some n → n < small → length (channels files w path x r) ≡ n
+  channels_long t x fits path r n e l = places_long t x fits path r.is_interleaved (string_bytes r.head.text) r.port n e l
+
+  count_is : (t : Valued) (x : Inside) (fits : Fits files shapes t x) (c : Count) (n : ℕ) → settings_count shapes (width_in shapes depth) t c ≡ Some n → n < small → count_in files w x c ≡ Some n
+  count_is t x fits (count.Number k) n e l = e
+  count_is t x fits (count.Word q) n e l =
+      let z = then_some natural (parameter_in shapes t (string_bytes q)) n e in
+      let named : number_named fits.shape t.values (string_bytes q) ≡ Some z.0 = sym (ap (option_and_then (λ (s : Shape). number_named s t.values (string_bytes q))) fits.is_shape) ∙ z.1 in
+      let v = number_fits files shapes t x fits (value.Word q) z.0 named in
+      ap (λ o. option_and_then natural (option_and_then number_of o)) v.1 ∙ number_is v.0 z.0 n v.2 z.2 l
+  count_is t x fits (count.WidthOf r) n e l = ap Some (channels_long t x fits [] r n e l)
+  count_is t x fits count.Code n e l = absurd (cc)
+  count_is t x fits count.Open n e l = absurd (cc)
+
+  -- the terms of a width have their sum
+  pub sum_is : (t : Valued) (x : Inside) (fits : Fits files shapes t x) (terms : List Term) (n : ℕ) → sum_in shapes (width_in shapes depth) t terms ≡ Some n → n < small → total (map (λ (z : Term). count_in files w x z.count) terms) ≡ Some n
+  sum_is t x fits [] n e l = e
+  sum_is t x fits (z ∷ zs) n e l =
+      let p = plus_some (settings_count shapes (width_in shapes depth) t z.count) (sum_in shapes (width_in shapes depth) t zs) n e in
+      let u : capped (p.0 + p.1) ≡ p.0 + p.1 = uncapped (p.0 + p.1) (let f = p.4 in omega (arith, f, l)) in
+      let s : p.0 + p.1 ≡ n = sym u ∙ p.4 in
+      let a : count_in files w x z.count ≡ Some p.0 = count_is t x fits z.count p.0 p.2 (omega (arith, s, l)) in
+      let b : total (map (λ (z : Term). count_in files w x z.count) zs) ≡ Some p.1 = sum_is t x fits zs p.1 p.3 (omega (arith, s, l)) in
+      ap (λ o. option_and_then (λ a. option_map (λ b. a + b) (total (map (λ (z : Term). count_in files w x z.count) zs))) o) a
+      ∙ ap (option_map (λ b. p.0 + b)) b
+      ∙ ap Some s
+
+-- ---- the widths of a program
+
+-- the sum of the terms at a member, where the widths that these hang on are so
+abbrev pub next_width : List SourceFile → Widths → Inside → ℕ → ℕ
+next_width files w x m = unwrap_or (option_and_then (λ (y : ℕ × Member). option_and_then (λ (width : Width). total (map (λ (z : Term). count_in files w x z.count) width.terms.items)) (width_of y.1)) (slice_get (members_of files x.class) m)) 0
+
+-- the widths that are found in so many steps
+abbrev pub widths_to : List SourceFile → ℕ → Widths
+widths_to files zero x m = 0
+widths_to files (suc d) x m = next_width files (widths_to files d) x m
+
+module _ (files : List SourceFile) (shapes : List Shape) (nested : AreNested files shapes) where
+  -- a width that is written stands at a member
+  written_at : (t : Valued) (x : Inside) (fits : Fits files shapes t x) (m : ℕ) (width : Width) → written_width shapes t m ≡ Some width → (i : Inherited) × (slice_get fits.shape.members.items m ≡ Some i) × (width_of i.member.now ≡ Some width)
+  written_at t x fits m width e =
+      let i = then_some (λ (found : Inherited). width_of found.member.now) (member_in shapes t m) width e in
+      (i.0, sym (ap (option_and_then (λ (s : Shape). slice_get s.members.items m)) fits.is_shape) ∙ i.1, i.2)
+
+  pub width_is : (d e : ℕ) → d ≤ e → (t : Valued) (x : Inside) → Fits files shapes t x → (m n : ℕ) → width_in shapes d t m ≡ Some n → n < small → widths_to files e x m ≡ n
+  width_is zero e le t x fits m n is l = absurd (cc)
+  width_is (suc d) zero le t x fits m n is l = absurd (omega (arith, le))
+  width_is (suc d) (suc e) le t x fits m n is l =
+      let width = then_some (λ (v : Width). sum_in shapes (width_in shapes d) t v.terms.items) (written_width shapes t m) n is in
+      let i = written_at t x fits m width.0 width.1 in
+      let s = sum_is files shapes nested d (widths_to files e) (width_is d e (omega (arith, le))) t x fits width.0.terms.items n width.2 l in
+      ap (λ o. unwrap_or (option_and_then (λ (y : ℕ × Member). option_and_then (λ (v : Width). total (map (λ (z : Term). count_in files (widths_to files e) x z.count) v.terms.items)) (width_of y.1)) o) 0) (member_is files shapes t x fits m i.0 i.1)
+      ∙ ap (λ o. unwrap_or (option_and_then (λ (v : Width). total (map (λ (z : Term). count_in files (widths_to files e) x z.count) v.terms.items)) o) 0) i.2
+      ∙ ap (λ o. unwrap_or o 0) s
+
+  module _ (depth : ℕ) (found : AreFound shapes depth) where
+    is_one : (b : ℕ) → b ≡ 1 → 0 < b
+    is_one b e = omega (arith, e)
+
+    -- what is in an instance has a setting that is reached
+    pub step_fits : (t : Valued) (x y : Inside) (k : ℕ) → IsReached shapes t → Fits files shapes t x → entered files (widths_to files depth) x k ≡ Some y → (u : Valued) × IsReached shapes u × Fits files shapes u y
+    step_fits t x y k reached fits e = go inner.0 j.1 inner.2 from.2
+      where
+        inner : (i : Inner) × (slice_get (inners files (widths_to files depth) x) k ≡ Some i) × (inside_of files x i.new ≡ Some y)
+        inner = then_some (λ (i : Inner). inside_of files x i.new) (slice_get (inners files (widths_to files depth) x) k) y e
+
+        from : (p : ℕ × (ℕ × Member)) × Mem p (enumerate_from 0 (members_of files x.class)) × Mem inner.0 (inners_at (widths_to files depth) x p)
+        from = mem_from_flat (inners_at (widths_to files depth) x) (enumerate_from 0 (members_of files x.class)) inner.0 (mem_get (inners files (widths_to files depth) x) k inner.0 inner.1)
+
+        j : (n : ℕ) × (slice_get (members_of files x.class) from.0.0 ≡ Some from.0.1)
+        j = let g = get_mem from.0 (enumerate_from 0 (members_of files x.class)) from.1 in let h = enumerate_from_at 0 (members_of files x.class) g.0 from.0 g.1 in let n : from.0.0 ≡ g.0 = (let a = h.0 in omega (arith, a)) in (g.0, ap (slice_get (members_of files x.class)) n ∙ h.1)
+
+        go : (i : Inner) → slice_get (members_of files x.class) from.0.0 ≡ Some from.0.1 → inside_of files x i.new ≡ Some y → Mem i (inners_at (widths_to files depth) x from.0) → (u : Valued) × IsReached shapes u × Fits files shapes u y
+        go i at new m = by from.0.0 from.0.1.0 from.0.1.1 at m
+          where
+            by : (m file : ℕ) (mem : Member) → slice_get (members_of files x.class) m ≡ Some (file, mem) → Mem i (inners_at (widths_to files depth) x (m, (file, mem))) → (u : Valued) × IsReached shapes u × Fits files shapes u y
+            by m file (member.Port p) at k = absurd k
+            by m file (member.Timer p) at k = absurd k
+            by m file (member.Action p) at k = absurd k
+            by m file (member.Reaction p) at k = absurd k
+            by m file (member.Connection p) at k = absurd k
+            by m file (member.Foreign what p) at k = absurd k
+            by m file (member.Instance p) at k =
+                let n = mem_from_map (λ (n : Option ℕ). named n) (numbers p.width (widths_to files depth x m)) i k in
+                let is_y : inside_of files x (file, p) ≡ Some y = ap (λ (z : Inner). inside_of files x z.new) n.2 ∙ new in
+                let u = nested.exists t x y m file p fits at is_y in
+                let f = nested.inside_fits t u.0 x m file p fits at u.1 in
+                let same : f.0 ≡ y = Some_same f.0 y (sym f.1 ∙ is_y) in
+                let many = is_many p.width refl n.0 n.1 in
+                (u.0, within m reached (record { instance = is_inst; is_inside = u.1; count = many.0; many = many.1; some = many.2 }), subst (Fits files shapes u.0) same f.2)
+              where
+                named : Option ℕ → Inner
+                named n = record { name = written (string_bytes p.name.text) n; new = (file, p) }
+
+                own : (i : Inherited) × (slice_get fits.shape.members.items m ≡ Some i) × (◌≡◌ {A = ℕ × Member} (i.file, i.member.now) (file, member.Instance p))
+                own = mapped_from (λ (i : Inherited). (i.file, i.member.now)) fits.shape.members.items m (file, member.Instance p) (ap (λ l. slice_get l m) fits.of_class.members ∙ at)
+
+                here : member_in shapes t m ≡ Some own.0
+                here = ap (option_and_then (λ (s : Shape). slice_get s.members.items m)) fits.is_shape ∙ own.1
+
+                is_inst : is_instance_in shapes t m ≡ true
+                is_inst = ap (λ o. unwrap_or (option_map (λ (i : Inherited). is_instance i.member.now) o) false) here ∙ ap (λ (q : ℕ × Member). is_instance q.1) own.2
+
+                wide : written_width shapes t m ≡ p.width
+                wide = ap (option_and_then (λ (i : Inherited). width_of i.member.now)) here ∙ ap (λ (q : ℕ × Member). width_of q.1) own.2
+
+                is_many : (o : Option Width) → p.width ≡ o → (n : Option ℕ) → Mem n (numbers p.width (widths_to files depth x m)) → (count : ℕ) × IsMany shapes t m count × (0 < count)
+                is_many None q n k = (1, (0, ap (many (width_in shapes 0 t m)) (wide ∙ q)), is_one 1 refl)
+                is_many (Some v) q n k =
+                    let h = found t m v reached (wide ∙ q) in
+                    let e : widths_to files depth x m ≡ h.1 = width_is h.0 depth h.2 t x fits m h.1 h.3 h.4 in
+                    let c = mem_from_map Some (below (widths_to files depth x m)) n (subst (λ o. Mem n (numbers o (widths_to files depth x m))) q k) in
+                    (h.1, (h.0, ap (many (width_in shapes h.0 t m)) (wide ∙ q) ∙ h.3), some (widths_to files depth x m) h.1 c.0 e c.1)
+                  where
+                    some : (a b c : ℕ) → a ≡ b → Mem c (below a) → 0 < b
+                    some zero b c e k = absurd k
+                    some (suc a) b c e k = omega (arith, e)
+
+    -- so has each instance
+    pub path_fits : (path : List ℕ) (t : Valued) (x y : Inside) → IsReached shapes t → Fits files shapes t x → along (entered files (widths_to files depth)) x path ≡ Some y → (u : Valued) × IsReached shapes u × Fits files shapes u y
+    path_fits [] t x y reached fits e = (t, reached, subst (Fits files shapes t) (Some_same x y e) fits)
+    path_fits (k ∷ path) t x y reached fits e =
+        let z = then_some (λ z. along (entered files (widths_to files depth)) z path) (entered files (widths_to files depth) x k) y e in
+        let u = step_fits t x z.0 k reached fits z.1 in
+        path_fits path u.0 z.0 y u.1 u.2 z.2
+
+    -- the widths are the sums of their terms
+    pub are_widths : (t : Valued) (c : Class) → main_of files ≡ Some c → IsReached shapes t → Fits files shapes t (main_instance files c) → AreWidths files (widths_to files depth)
+    are_widths t c is_main reached fits path x k m width inside at wide =
+        let same : c ≡ inside.0 = Some_same c inside.0 (sym is_main ∙ inside.1) in
+        let u = path_fits path t (main_instance files c) x reached fits (ap (λ d. along (entered files (widths_to files depth)) (main_instance files d) path) same ∙ inside.2) in
+        of u.0 u.1 u.2
+      where
+        of : (u : Valued) → IsReached shapes u → Fits files shapes u x → total (map (λ z. count_in files (widths_to files depth) x z.count) width.terms.items) ≡ Some (widths_to files depth x k)
+        of u reached fits = steps h.0 h.2 h.3
+          where
+            own : (i : Inherited) × (slice_get fits.shape.members.items k ≡ Some i) × (◌≡◌ {A = ℕ × Member} (i.file, i.member.now) m)
+            own = mapped_from (λ (i : Inherited). (i.file, i.member.now)) fits.shape.members.items k m (ap (λ l. slice_get l k) fits.of_class.members ∙ at)
+
+            written : written_width shapes u k ≡ Some width
+            written = width_is_written files shapes u x fits k own.0 own.1 ∙ ap (λ (q : ℕ × Member). width_of q.1) own.2 ∙ wide
+
+            h : (d : ℕ) × (n : ℕ) × (d ≤ depth) × (width_in shapes d u k ≡ Some n) × (n < small)
+            h = found u k width reached written
+
+            steps : (d : ℕ) → d ≤ depth → width_in shapes d u k ≡ Some h.1 → total (map (λ z. count_in files (widths_to files depth) x z.count) width.terms.items) ≡ Some (widths_to files depth x k)
+            steps zero le e = absurd (cc)
+            steps (suc d) le e =
+                let s : sum_in shapes (width_in shapes d) u width.terms.items ≡ Some h.1 = sym (ap (option_and_then (λ (v : Width). sum_in shapes (width_in shapes d) u v.terms.items)) written) ∙ e in
+                sum_is files shapes nested d (widths_to files depth) (width_is d depth (omega (arith, le))) u x fits width.terms.items h.1 s h.4
+                ∙ ap Some (sym (width_is (suc d) depth le u x fits k h.1 e h.4))

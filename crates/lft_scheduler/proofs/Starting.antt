@@ -1,0 +1,29 @@
+-- Seats where no reaction is triggered.
+use Rattle.std.proofs.Common.{◌≡◌, ℕ, zero, suc, List, [], ◌∷◌, length, refl, sym, ap, ◌∙◌, arith, Some, replicate}
+use Rattle.std.proofs.lemmas.Option.{slice_get_within}
+use mathlib.Core.Bool.{false}
+use Rattle.lft_lists.proofs.Places.{get_there, get_same, length_same}
+use Rattle.lft_scheduler.specs.declared.turn.phase.Phase.TheVariants.{Idle}
+use Rattle.lft_scheduler.specs.declared.turn.seats.Seat.{Seat}
+use Rattle.lft_scheduler.specs.Seats.{busy, free, load, IsAtRest, phases_of}
+
+abbrev pub idle_seat : Seat
+idle_seat = record { phase = Idle; waits = 0; counted = false }
+
+load_idle : (n : ℕ) (after : List (List ℕ)) (r : ℕ) → load (replicate n idle_seat) after r ≡ 0
+load_idle zero after r = refl
+load_idle (suc n) [] r = refl
+load_idle (suc n) (l ∷ ls) r = let h = load_idle n ls r in omega arith
+
+pub phases_idle : (n : ℕ) → phases_of (replicate n idle_seat) ≡ replicate n Idle
+phases_idle zero = refl
+phases_idle (suc n) = ap (λ l. Idle ∷ l) (phases_idle n)
+
+pub idle_rest : (n : ℕ) (after : List (List ℕ)) → length after ≡ n → IsAtRest after (replicate n idle_seat) (replicate n false)
+idle_rest n after l = record {
+  as_long = length_same n idle_seat ∙ sym l;
+  flags_as_long = length_same n false ∙ sym l;
+  waits = λ r s e. ap (λ (x : Seat). x.waits) (get_same n r idle_seat s e) ∙ sym (load_idle n after r);
+  counted = λ r s e. (let q = get_same n r idle_seat s e in ap busy q ∙ ap (λ (x : Seat). x.counted) (sym q));
+  frees = λ r s e. (let i = slice_get_within (replicate n idle_seat) r s e in let m = length_same n idle_seat in let k = length_same n false in let g = get_there (replicate n false) r (omega arith) in g.1 ∙ ap Some (get_same n r false g.0 g.1 ∙ ap free (sym (get_same n r idle_seat s e))));
+}

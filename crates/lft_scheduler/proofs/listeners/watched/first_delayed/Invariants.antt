@@ -1,0 +1,5 @@
+use Rattle.lft_scheduler.specs.Filling.{AreFirst}
+use Rattle.lft_scheduler.proofs.listeners.watched.first_delayed.Given as goal
+
+abbrev pub invariant-ports : goal.invariant-ports
+invariant-ports l = AreFirst l.program l.number l.firsts.items

@@ -1,0 +1,5 @@
+use Rattle.lft_scheduler.specs.Seats.{IsMirrored}
+use Rattle.lft_scheduler.proofs.turn.mirror.mirror.Given as goal
+
+abbrev pub invariant-reactions : goal.invariant-reactions
+invariant-reactions l = IsMirrored l.graph.before l.reaction l.after.items

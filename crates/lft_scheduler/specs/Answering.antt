@@ -1,0 +1,23 @@
+-- What steps an answer may have.
+use Rattle.std.specs.Prelude.{◌≡◌, ℕ, ◌<◌, List, Some, slice_get}
+use Rattle.lft_ir.specs.declared.steps.row.Step.{Step}
+use Rattle.lft_ir.specs.declared.steps.row.Step.TheVariants.{Start, Read, Write, Schedule, Stop, End}
+use Rattle.lft_model.specs.Plans.{PlanParts}
+use Rattle.lft_model.specs.Recorded.{MayAnswer}
+
+-- the reaction may make all the steps
+abbrev pub MayAll : PlanParts → ℕ → List Step → Type 0
+MayAll plan r steps = (k : ℕ) (s : Step) → slice_get steps k ≡ Some s → MayAnswer plan r s
+
+-- the step schedules with an extra delay past 10^18
+abbrev pub IsLong : Step → Type 0
+IsLong (Schedule n v d) = 1000000000000000000 < d
+IsLong (Write n v) = ⊥
+IsLong (Read n v) = ⊥
+IsLong Start = ⊥
+IsLong Stop = ⊥
+IsLong End = ⊥
+
+-- one of the steps schedules with an extra delay past 10^18
+abbrev pub HasLongDelay : List Step → Type 0
+HasLongDelay steps = (k : ℕ) × (s : Step) × (slice_get steps k ≡ Some s) × IsLong s

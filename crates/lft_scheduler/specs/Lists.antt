@@ -1,0 +1,43 @@
+-- Lists by number and by trigger. The contracts of private functions alone need this file.
+use Rattle.std.specs.Prelude.{◌≡◌, ◌↔◌, ◌⊎◌, ◌<◌, ℕ, List, [], Contains, slice_get, length, unwrap_or}
+use Rattle.lft_ir.specs.declared.parts.Name.TheVariants.{Port, Action}
+use Rattle.lft_ir.specs.declared.parts.Trigger.{Trigger}
+use Rattle.lft_ir.specs.declared.parts.Trigger.TheVariants.{Startup, Shutdown, Timer, On}
+
+-- the list of a number, empty past the last one
+abbrev pub list_at : List (List ℕ) → ℕ → List ℕ
+list_at lists n = unwrap_or (slice_get lists n) []
+
+-- a list for each trigger, by its number
+pub record TriggerLists : Type 0 where
+  pub startup : List ℕ
+  pub shutdown : List ℕ
+  pub timers : List (List ℕ)
+  pub ports : List (List ℕ)
+  pub actions : List (List ℕ)
+
+-- the list of a trigger
+abbrev pub list_of : TriggerLists → Trigger → List ℕ
+list_of lists Startup = lists.startup
+list_of lists Shutdown = lists.shutdown
+list_of lists (Timer t) = list_at lists.timers t
+list_of lists (On (Port p)) = list_at lists.ports p
+list_of lists (On (Action a)) = list_at lists.actions a
+
+-- there is a list for the trigger
+abbrev pub HasList : TriggerLists → Trigger → Type 0
+HasList lists Startup = Unit {0}
+HasList lists Shutdown = Unit {0}
+HasList lists (Timer t) = t < length lists.timers
+HasList lists (On (Port p)) = p < length lists.ports
+HasList lists (On (Action a)) = a < length lists.actions
+
+-- one trigger has a reaction more
+pub record IsPushed (trigger : Trigger) (reaction : ℕ) (old new : TriggerLists) : Type 0 where
+  pub room : (t : Trigger) → HasList old t → HasList new t
+  pub each : (t : Trigger) (r : ℕ) → Contains (list_of new t) r ↔ (Contains (list_of old t) r ⊎ ((t ≡ trigger) × (r ≡ reaction)))
+
+-- some triggers have a reaction more
+pub record ArePushed (triggers : List Trigger) (reaction : ℕ) (old new : TriggerLists) : Type 0 where
+  pub room : (t : Trigger) → HasList old t → HasList new t
+  pub each : (t : Trigger) (r : ℕ) → Contains (list_of new t) r ↔ (Contains (list_of old t) r ⊎ (Contains triggers t × (r ≡ reaction)))

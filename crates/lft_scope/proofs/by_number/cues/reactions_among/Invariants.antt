@@ -1,8 +1,0 @@
-use Rattle.std.proofs.Common.{take}
-use Rattle.std.specs.List.{AllZip}
-use Rattle.lft_scope.specs.References.{reactor_trees}
-use Rattle.lft_scope.specs.Sheets.{IsReactions}
-use Rattle.lft_scope.proofs.by_number.cues.reactions_among.Given as goal
-
-abbrev pub invariant-loop-number : goal.invariant-loop-number
-invariant-loop-number l = AllZip (IsReactions (reactor_trees l.reactors)) (reactor_trees (take l.number l.reactors)) l.table.items

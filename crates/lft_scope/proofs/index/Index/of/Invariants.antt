@@ -1,7 +1,0 @@
-use Rattle.std.proofs.Common.{take}
-use Rattle.lft_scope.specs.Places.{IsIndexOf}
-use Rattle.lft_scope.specs.Tests.{texts}
-use Rattle.lft_scope.proofs.index.Index.of.Given as goal
-
-abbrev pub invariant-loop-place : goal.invariant-loop-place
-invariant-loop-place l = IsIndexOf l.index (texts (take l.place l.names))

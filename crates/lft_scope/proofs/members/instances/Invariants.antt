@@ -1,8 +1,0 @@
-use Rattle.std.proofs.Common.{◌≡◌, filter_map, take}
-use Rattle.lft_tree.specs.Tree.{instance_in}
-use Rattle.lft_tree.specs.View.{member_views}
-use Rattle.lft_scope.specs.References.{instance_trees}
-use Rattle.lft_scope.proofs.members.instances.Given as goal
-
-abbrev pub invariant-loop-member : goal.invariant-loop-member
-invariant-loop-member l = instance_trees l.found.items ≡ filter_map instance_in (member_views (take l.member-index l.members))

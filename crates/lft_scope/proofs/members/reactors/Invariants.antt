@@ -1,8 +1,0 @@
-use Rattle.std.proofs.Common.{◌≡◌, filter_map, take}
-use Rattle.lft_tree.specs.Tree.{reactor_in}
-use Rattle.lft_tree.specs.View.{item_views}
-use Rattle.lft_scope.specs.References.{reactor_trees}
-use Rattle.lft_scope.proofs.members.reactors.Given as goal
-
-abbrev pub invariant-loop-item : goal.invariant-loop-item
-invariant-loop-item l = reactor_trees l.found.items ≡ filter_map reactor_in (item_views (take l.item-index l.items))

@@ -1,5 +1,0 @@
-use Rattle.lft_settings.specs.Noted.{GoesOn, table}
-use Rattle.lft_settings.proofs.settings.Settings.count.Given as goal
-
-abbrev pub invariant-loop-number : goal.invariant-loop-number
-invariant-loop-number l = record { goes : GoesOn (table l.fn.self) (table l.self) }

@@ -1,5 +1,0 @@
-use Rattle.lft_settings.specs.Noted.{GoesOn, table}
-use Rattle.lft_settings.proofs.settings.Settings.count_all.Given as goal
-
-abbrev pub invariant-loop-place : goal.invariant-loop-place
-invariant-loop-place l = record { goes : GoesOn (table l.fn.self) (table l.self) }

@@ -1,9 +1,0 @@
-use Rattle.lft_shapes.specs.Needs.{IsPassed, Marks, Times, Widths}
-use Rattle.lft_shapes.proofs.Marking.{AnyBelow}
-use Rattle.lft_shapes.proofs.deciding.Needs.note_given.Given as goal
-
-abbrev pub invariant-loop-assignment : goal.invariant-loop-assignment
-invariant-loop-assignment l = record {
-  sized : Marks (AnyBelow (λ i a. IsPassed Widths l.shape l.inner a) l.given l.assignment-index) l.initial.self.sized.items l.self.sized.items;
-  timed : Marks (AnyBelow (λ i a. IsPassed Times l.shape l.inner a) l.given l.assignment-index) l.initial.self.timed.items l.self.timed.items;
-}

@@ -1,6 +1,0 @@
-use Rattle.std.proofs.Common.{◌≡◌, map, string_bytes, take}
-use Rattle.lft_scope.specs.Tests.{texts}
-use Rattle.lft_shapes.proofs.making.given_names.Given as goal
-
-abbrev pub invariant-loop-assignment : goal.invariant-loop-assignment
-invariant-loop-assignment l = texts l.names.items ≡ map (λ a. string_bytes a.name.text) (take l.assignment-index l.given)

@@ -1,5 +1,0 @@
-use Rattle.lft_shapes.specs.Makings.{KnowsNone}
-use Rattle.lft_shapes.proofs.making.nothing.Given as goal
-
-abbrev pub invariant-loop : goal.invariant-loop
-invariant-loop l = KnowsNone l.list.items

@@ -1,7 +1,0 @@
-use Rattle.std.proofs.Common.{◌<◌}
-use Rattle.lft_sources.specs.declared.stop.Place.{Place}
-use Rattle.lft_sources.specs.Tokens.{StandsAt}
-use Rattle.lft_sources.proofs.source.place_of.Given as goal
-
-abbrev pub invariant-loop-file : goal.invariant-loop-file
-invariant-loop-file l = (place : Place) → place.file < l.file → StandsAt l.files l.number place → ⊥

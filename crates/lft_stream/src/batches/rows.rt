@@ -1,0 +1,78 @@
+//! Rows that are accepted, part by part.
+
+ghost use Rattle.std.specs.Prelude.{◌≡◌, ◌<◌, ◌≤◌, List, length, take, IfSome, IsTrue};
+ghost use Rattle.lft_ir.specs.declared.steps.row.Row.{Row as TheRow};
+ghost use Rattle.lft_ir.specs.Steps.Fits.{RowsFit};
+ghost use Rattle.lft_rows.specs.Accepted.{IsAccepted};
+ghost use Rattle.lft_stream.specs.Kept.{IsAcceptorOf};
+
+use crate::{Acceptor, Counts};
+use lft_ir::steps::{Row, Rows, row_at};
+use lft_model::Plan;
+use std::alloc::Global;
+
+/// At least so many rows are taken together. More wouldn't stay near the processor.
+const TOGETHER: usize = 32_768;
+
+/// For each reaction so many, so that what is looked up of a reaction stays near too.
+const FOR_EACH_REACTION: usize = 8;
+
+/// How many rows of a program are to be taken together.
+pub(crate) fn rows_together(plan: &Plan) -> usize
+    ensures { 0 < result }
+{
+    TOGETHER.max(plan.program().reactions().saturating_mul(FOR_EACH_REACTION))
+}
+
+/// Where the rows end that are taken together from the first on: behind a whole tag.
+fn end_of_part(rows: &[Row], first: usize, together: usize) -> usize
+    requires first { first < length rows.now }
+    requires some { 0 < together }
+    ensures { (first < result) × (result ≤ length rows.now) }
+{
+    let mut end = rows.len().min(first.saturating_add(together));
+    while end < rows.len() && row_at(rows, end).tag.is_same(row_at(rows, end - 1).tag) {
+        end += 1;
+    }
+    end
+}
+
+/// Goes on past the rows from the first on up to the end.
+fn add_part(
+    acceptor: &mut Acceptor,
+    alloc: Global,
+    plan: &Plan,
+    rows: &[Row],
+    first: usize,
+    end: usize,
+) -> bool
+    requires fit { RowsFit plan.now.program rows.now }
+    requires range { (first ≤ end) × (end ≤ length rows.now) }
+    requires stands { IsAcceptorOf plan.now (take first rows.now) acceptor.old }
+    ensures { IsTrue result → IsAcceptorOf plan.now (take end rows.now) acceptor.new }
+{
+    acceptor.add(alloc, plan, &rows[first..end])
+}
+
+/// The counts of rows that are legal. None says nothing of them: they may break a rule, or memory may be
+/// refused, or too much is to be looked at.
+// Where rows are given up, only those before and the part with them were looked at.
+pub fn accepts_rows(alloc: Global, plan: &Plan, rows: &Rows) -> Option<Counts>
+    requires { RowsFit plan.now.program rows.now }
+    ensures { IfSome result (λ c. IsAccepted plan.now rows.now c.runs c.tags) }
+{
+    let rows = rows.as_slice();
+    let Ok(mut acceptor) = Acceptor::new(alloc, plan) else {
+        return None;
+    };
+    let together = rows_together(plan);
+    let mut first = 0;
+    while first < rows.len() {
+        let end = end_of_part(rows, first, together);
+        if !add_part(&mut acceptor, alloc, plan, rows, first, end) {
+            return None;
+        }
+        first = end;
+    }
+    acceptor.finish(plan)
+}

@@ -1,0 +1,130 @@
+//! Trace tables that are accepted from their texts by several workers: while one judges a batch of
+//! rows, the others read the next.
+
+ghost use Rattle.std.specs.Prelude.{◌≡◌, ◌++◌, List, IfSome};
+ghost use Rattle.std.specs.Thread.{IsSync};
+ghost use Rattle.lft_ir.specs.Steps.Fits.{RowsFit};
+ghost use Rattle.lft_trace.specs.Records.{records_of};
+ghost use Rattle.lft_trace.specs.Traces.{Table};
+ghost use Rattle.lft_ir.specs.declared.steps.row.Row.{Row as TheRow};
+ghost use Rattle.lft_rows.specs.Accepted.{IsAccepted};
+ghost use Rattle.lft_trace.specs.Parts.{HoldsRows, rows_of};
+ghost use Rattle.lft_stream.specs.Batches.Fronts.{IsFront, IsNextBehind, judged_rows};
+
+use crate::Counts;
+use crate::batches::text::{Front, add_batch, batch_bytes, reaction_names};
+use lft_ir::steps::Row;
+use lft_model::Plan;
+use lft_trace::{ReactionNames, below_header, first_lines, read_lines};
+use std::alloc::Global;
+use std::thread::{Threads, join};
+
+/// The bytes of a batch for each worker that reads: some milliseconds, beside which a thread costs little.
+const SHARE: usize = 1 << 20;
+
+/// Goes on past the parts of a batch. The rows at its last tag are given back, as `add_batch` does.
+fn add_parts(
+    front: Front,
+    alloc: Global,
+    plan: &Plan,
+    body: &[u8],
+    waiting: Vec<Row>,
+    parts: Vec<Vec<Row>>,
+) -> Option<(Front, Vec<Row>)>
+    requires waiting_fit { RowsFit plan.now.program waiting.items }
+    requires parts_fit { RowsFit plan.now.program (rows_of parts.items) }
+    requires stands { IsFront plan.now body.now front }
+    requires next { IsNextBehind plan.now body.now front (waiting.items ++ rows_of parts.items) }
+    ensures stands { IfSome result (λ p. IsFront plan.now body.now p.0) }
+    ensures fit { IfSome result (λ p. RowsFit plan.now.program p.1.items) }
+    ensures rows { IfSome result (λ p. judged_rows plan.now body.now p.0 ++ p.1.items ≡ judged_rows plan.now body.now front ++ (waiting.items ++ rows_of parts.items)) }
+{
+    let mut front = front;
+    let mut waiting = waiting;
+    for place in 0..parts.len() {
+        waiting = add_batch(
+            &mut front,
+            alloc,
+            plan,
+            body,
+            waiting,
+            parts[place].as_slice(),
+        )?;
+    }
+    Some((front, waiting))
+}
+
+/// Goes on past the parts of a batch, while the next lines are read by so many workers.
+fn go_beside<R: Threads + Sync>(
+    rt: &R,
+    alloc: Global,
+    plan: &Plan,
+    names: &ReactionNames,
+    body: &[u8],
+    front: Front,
+    waiting: Vec<Row>,
+    parts: Vec<Vec<Row>>,
+    lines: &[u8],
+    workers: u32,
+) -> Option<((Front, Vec<Row>), Vec<Vec<Row>>)>
+    requires waiting_fit { RowsFit plan.now.program waiting.items }
+    requires parts_fit { RowsFit plan.now.program (rows_of parts.items) }
+    requires stands { IsFront plan.now body.now front }
+    requires next { IsNextBehind plan.now body.now front (waiting.items ++ rows_of parts.items) }
+    ensures stands { IfSome result (λ p. IsFront plan.now body.now p.0.0) }
+    ensures fit { IfSome result (λ p. RowsFit plan.now.program p.0.1.items) }
+    ensures rows { IfSome result (λ p. judged_rows plan.now body.now p.0.0 ++ p.0.1.items ≡ judged_rows plan.now body.now front ++ (waiting.items ++ rows_of parts.items)) }
+    ensures read { IfSome result (λ p. HoldsRows names.now lines.now (rows_of p.1.items)) }
+    ensures read_fit { IfSome result (λ p. RowsFit names.now (rows_of p.1.items)) }
+{
+    let judging = move || -> Option<(Front, Vec<Row>)>
+        requires { RowsFit plan.now.program waiting.items × RowsFit plan.now.program (rows_of parts.items) × IsFront plan.now body.now front × IsNextBehind plan.now body.now front (waiting.items ++ rows_of parts.items) }
+        ensures { IfSome result (λ p. IsFront plan.entry.now body.entry.now p.0 × RowsFit plan.entry.now.program p.1.items × (judged_rows plan.entry.now body.entry.now p.0 ++ p.1.items ≡ judged_rows plan.entry.now body.entry.now front ++ (waiting.items ++ rows_of parts.items))) }
+    { add_parts(front, alloc, plan, body, waiting, parts) };
+    let reading = move || -> Option<Vec<Vec<Row>>>
+        requires { IsSync R.row }
+        ensures { IfSome result (λ parts. HoldsRows names.entry.now lines.entry.now (rows_of parts.items) × RowsFit names.entry.now (rows_of parts.items)) }
+    { read_lines(rt, alloc, names, lines, workers) };
+    let (gone, read) = join(rt, judging, reading);
+    Some((gone?, read?))
+}
+
+/// What `accepts_text` does, by so many workers: one judges, and the others read. With one worker or
+/// none they take turns. Beside what is kept, the rows of two batches are held.
+pub fn accepts_text_shared<R: Threads + Sync>(
+    rt: &R,
+    alloc: Global,
+    plan: &Plan,
+    text: &[u8],
+    workers: u32,
+) -> Option<Counts>
+    ensures { IfSome result (λ c. (rows : List TheRow) × Table plan.now.program (records_of text.now) rows × IsAccepted plan.now rows c.runs c.tags) }
+{
+    // Tags are judged one after another, since each needs what those before it leave behind. So reading
+    // alone is shared out.
+    let body = below_header(text)?;
+    let Ok(mut front) = Front::new(alloc, plan) else {
+        return None;
+    };
+    let names = reaction_names(alloc, plan)?;
+    let readers = workers.saturating_sub(1).max(1);
+    let bytes = batch_bytes(plan).max(SHARE * readers as usize);
+    let mut waiting = Vec::new(alloc);
+    let mut parts = Vec::new(alloc);
+    let mut rest = body;
+    while !rest.is_empty() {
+        let (lines, behind) = first_lines(rest, bytes);
+        let ((gone, left), read) = go_beside(
+            rt, alloc, plan, &names, body, front, waiting, parts, lines, readers,
+        )?;
+        front = gone;
+        waiting = left;
+        parts = read;
+        rest = behind;
+    }
+    let (mut front, waiting) = add_parts(front, alloc, plan, body, waiting, parts)?;
+    if !front.judge(alloc, plan, body, waiting.as_slice()) {
+        return None;
+    }
+    front.finish(plan)
+}

@@ -1,2 +1,0 @@
-mod Drops
-mod Failing

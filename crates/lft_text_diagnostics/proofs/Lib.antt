@@ -1,0 +1,2 @@
+pub mod Helping
+pub mod TablesLemmas

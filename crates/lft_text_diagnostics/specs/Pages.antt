@@ -1,0 +1,75 @@
+-- Where a byte of a program's text stands: in one of its files, or in the text as a whole.
+use Rattle.std.specs.Prelude.{◌≡◌, ◌⊎◌, ◌≤◌, ◌-◌, ◌++◌, ℕ, List, [], Option, Some, None, Contains, codes, decimal, length, min, slice_get, slice_range, string_bytes}
+use Rattle.std.specs.List.{All}
+use Rattle.lft_text_diagnostics.specs.Places.{IsPlace}
+use Rattle.lft_text_diagnostics.specs.Quotes.{marked_line, place_words}
+use Rattle.lft_text_diagnostics.specs.declared.pages.Page.{Page}
+use Rattle.lft_text_diagnostics.specs.declared.place.Place.{Place}
+use Rattle.lft_text_diagnostics.specs.declared.spots.Spot.{Spot}
+
+-- The byte stands in the file, or at its end.
+abbrev pub HasByte : ℕ → Page → Type 0
+HasByte at page = (page.start ≤ at) × (at ≤ page.end)
+
+-- No file has the byte.
+abbrev pub HasNone : List Page → ℕ → Type 0
+HasNone files at = (i : ℕ) (page : Page) → slice_get files i ≡ Some page → HasByte at page → ⊥
+
+-- Each file is a part of the text.
+abbrev pub ArePages : List ℕ → List Page → Type 0
+ArePages t = All (λ page. (page.start ≤ page.end) × (page.end ≤ length t))
+
+-- `FILE:LINE:COLUMN: `
+abbrev pub page_words : Page → Place → List ℕ
+page_words page place = string_bytes page.path ++ codes ":" ++ decimal place.line ++ codes ":" ++ decimal place.column ++ codes ": "
+
+-- The words are a file that has the byte, and its line and column there.
+pub record SaysFile (t : List ℕ) (files : List Page) (at : ℕ) (words : List ℕ) : Type 0 where
+  pub page : Page
+  pub is_file : Contains files page
+  pub has : HasByte at page
+  pub place : Place
+  pub is_place : IsPlace (slice_range t page.start page.end) (at - page.start) place
+  pub whole : words ≡ page_words page place
+
+-- No file has the byte, and the words are its line and column.
+pub record SaysLine (t : List ℕ) (files : List Page) (at : ℕ) (words : List ℕ) : Type 0 where
+  pub none : HasNone files at
+  pub place : Place
+  pub is_place : IsPlace t at place
+  pub whole : words ≡ place_words place
+
+-- The words are where the byte stands: in a file that has it, or else in the text.
+abbrev pub SaysByte : List ℕ → List Page → ℕ → List ℕ → Type 0
+SaysByte t files at words = SaysFile t files at words ⊎ SaysLine t files at words
+
+-- The words are where the first of the bytes stands, if the text has it; without bytes they are of the program as a whole.
+abbrev pub SaysSpot : List ℕ → List Page → Option Spot → List ℕ → Type 0
+SaysSpot t files None words = words ≡ codes "Program: "
+SaysSpot t files (Some spot) words = spot.start ≤ length t → SaysByte t files spot.start words
+
+-- The words are the line of the byte at start, and below it a mark up to end.
+pub record MarksLine (t : List ℕ) (start end : ℕ) (words : List ℕ) : Type 0 where
+  pub place : Place
+  pub is_place : IsPlace t start place
+  pub whole : words ≡ marked_line t place start end
+
+-- The words mark the bytes in a file that has the first of them, and no further than it ends.
+pub record MarksFile (t : List ℕ) (files : List Page) (spot : Spot) (words : List ℕ) : Type 0 where
+  pub page : Page
+  pub is_file : Contains files page
+  pub has : HasByte spot.start page
+  pub marks : MarksLine (slice_range t page.start page.end) (spot.start - page.start) (min spot.end page.end - page.start) words
+
+-- The words mark the bytes, in a file that has the first of them, or else in the text.
+abbrev pub MarksBytes : List ℕ → List Page → Spot → List ℕ → Type 0
+MarksBytes t files spot words = MarksFile t files spot words ⊎ (HasNone files spot.start × MarksLine t spot.start spot.end words)
+
+-- The text has the bytes.
+abbrev pub HasBytes : List ℕ → Spot → Type 0
+HasBytes t spot = (spot.start ≤ spot.end) × (spot.end ≤ length t)
+
+-- The words mark the bytes, if there are some and the text has them; else there are no words.
+abbrev pub MarksSpot : List ℕ → List Page → Option Spot → List ℕ → Type 0
+MarksSpot t files None words = words ≡ []
+MarksSpot t files (Some spot) words = (HasBytes t spot × MarksBytes t files spot words) ⊎ ((HasBytes t spot → ⊥) × (words ≡ []))

@@ -1,0 +1,54 @@
+-- Why a program's text has no tree.
+use Rattle.std.specs.Prelude.{◌≡◌, ◌⊎◌, ℕ, ◌+◌, ◌-◌, ◌++◌, ◌<◌, ◌≤◌, List, codes, length, take, slice_get, Some}
+use Rattle.std.specs.Str.Iter.{HasSubslice}
+use Rattle.lft_tree.specs.Tree.{FileTree}
+use Rattle.lft_syntax.specs.declared.token.Token.{Token}
+use Rattle.lft_syntax.specs.Lexes.{Lexes, LexFails, IsRefusedAt}
+use Rattle.lft_syntax.specs.Lexeme.{Lexeme}
+use Rattle.lft_syntax.specs.Grammar.{Spells}
+use Rattle.lft_syntax.specs.View.{lexemes}
+use Rattle.lft_text_diagnostics.specs.declared.refusal.Why.{Why}
+use Rattle.lft_text_diagnostics.specs.declared.refusal.Why.TheVariants.{Lex, Token as AtToken, End}
+use Rattle.lft_text_diagnostics.specs.declared.refusal.Refusal.{Refusal}
+
+-- These are the tokens of the text, and no tree begins with so many of them.
+pub record HasNoTree (t : List ℕ) (tokens : List Token) (number : ℕ) : Type 0 where
+  pub lexes : Lexes t tokens
+  pub none : (others : List Lexeme) (tree : FileTree) → take number others ≡ take number (lexemes t tokens) → Spells tree others → ⊥
+
+-- It has more bytes than a program's text may have.
+abbrev pub IsLong : List ℕ → Type 0
+IsLong t = 1048576 < length t
+
+-- What is said of the bytes from start up to end: the text is cut into tokens up to there and no further; or they are the token with that number, and no tree begins with so many; or the text ends there, before its tree does.
+abbrev pub Tells : List ℕ → ℕ → ℕ → Why → Type 0
+Tells t start end (Lex fault) = IsRefusedAt t start × LexFails t fault × (end ≡ start + 1)
+Tells t start end (AtToken number kind) = (tokens : List Token) × HasNoTree t tokens number × (slice_get tokens (number - 1) ≡ Some (record { kind = kind; start = start; end = end }))
+Tells t start end (End number) = (tokens : List Token) × HasNoTree t tokens number × (length tokens < number) × (start ≡ length t) × (end ≡ length t)
+
+-- It tells why the text has no tree.
+abbrev pub IsRefusal : List ℕ → Refusal → Type 0
+IsRefusal t refusal = Tells t refusal.start refusal.end refusal.why
+
+-- The text begins with these bytes.
+abbrev pub BeginsWith : List ℕ → List ℕ → Type 0
+BeginsWith bytes t = (rest : List ℕ) × (t ≡ bytes ++ rest)
+
+-- The text begins with the header of a trace, of external inputs, or of cards.
+abbrev pub BeginsTable : List ℕ → Type 0
+BeginsTable t =
+    BeginsWith (codes "event,worker,time,microstep,reaction,name,value,delay") t
+    ⊎ BeginsWith (codes "kind,time,microstep,name,value") t
+    ⊎ BeginsWith (codes "kind,reaction,name,delay,value") t
+
+-- The token that begins at the byte k shows that the text has no tree.
+abbrev pub IsRefusedWith : List ℕ → ℕ → Type 0
+IsRefusedWith t k = (tokens : List Token) × (number : ℕ) × (token : Token) × HasNoTree t tokens number × (slice_get tokens (number - 1) ≡ Some token) × (token.start ≡ k)
+
+-- The text is refused from i to j: it is cut into tokens up to j and no further, or a token that begins there shows that it has no tree.
+abbrev pub IsRefusedFrom : List ℕ → ℕ → ℕ → Type 0
+IsRefusedFrom t i j = IsRefusedAt t j ⊎ ((k : ℕ) × (i ≤ k) × (k ≤ j) × IsRefusedWith t k)
+
+-- The words may help where a text is refused from i to j: it begins as a table, or is refused there as a core text. They don't tell that a core text leaves something out.
+abbrev pub MayHelp : List ℕ → ℕ → ℕ → List ℕ → Type 0
+MayHelp t i j words = (BeginsTable t ⊎ IsRefusedFrom t i j) × (HasSubslice words (codes "left out") → ⊥)

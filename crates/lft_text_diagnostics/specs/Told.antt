@@ -1,0 +1,65 @@
+-- What is told of a program's text that has no tree.
+use Rattle.std.specs.Prelude.{◌≡◌, ℕ, ◌⊎◌, ◌++◌, List, codes, decimal, if◌then◌else◌, length, nat_lt, slice_range}
+use Rattle.lft_syntax.specs.declared.fault.LexFault.{LexFault}
+use Rattle.lft_syntax.specs.declared.fault.LexFault.TheVariants as fault
+use Rattle.lft_syntax.specs.declared.token.TokenKind.{TokenKind}
+use Rattle.lft_syntax.specs.declared.token.TokenKind.TheVariants as kind
+use Rattle.lft_text_diagnostics.specs.Candidates.{CanStandAt, IsWholeHelp}
+use Rattle.lft_text_diagnostics.specs.Places.{IsPlace}
+use Rattle.lft_text_diagnostics.specs.Quotes.{marked_line, place_words, quoted}
+use Rattle.lft_text_diagnostics.specs.Refusals.{IsLong, IsRefusal}
+use Rattle.lft_text_diagnostics.specs.declared.place.Place.{Place}
+use Rattle.lft_text_diagnostics.specs.declared.refusal.Refusal.{Refusal}
+use Rattle.lft_text_diagnostics.specs.declared.refusal.Why.{Why}
+use Rattle.lft_text_diagnostics.specs.declared.refusal.Why.TheVariants.{Lex, Token, End}
+
+-- What is said of a place from which on a text has no tokens.
+abbrev pub fault_words : LexFault → List ℕ
+fault_words (fault.BadChar byte) = codes "no token begins so."
+fault_words fault.OpenComment = codes "this comment is never closed."
+fault_words fault.OpenCode = codes "this code is never closed."
+fault_words fault.OpenString = codes "this string is never closed."
+fault_words (fault.NumberTooLarge start) = codes "this number is too large."
+fault_words fault.TooLong = codes "the text is too long."
+fault_words fault.NoMemory = codes "memory was refused."
+
+-- How bytes of a token are named: as they are quoted, or by `this`, where there are more than 40.
+abbrev pub spelled : List ℕ → List ℕ
+spelled bytes = if nat_lt 40 (length bytes) then codes "this" else codes "`" ++ quoted bytes ++ codes "`"
+
+-- How a token is named: by its bytes, but for code and strings.
+abbrev pub token_words : TokenKind → List ℕ → List ℕ
+token_words kind.Code bytes = codes "this code"
+token_words kind.Text bytes = codes "this string"
+token_words kind.Name bytes = spelled bytes
+token_words (kind.Number n) bytes = spelled bytes
+token_words kind.Arrow bytes = spelled bytes
+token_words (kind.Symbol sign) bytes = spelled bytes
+
+-- What is wrong at some bytes.
+abbrev pub why_words : Why → List ℕ → List ℕ
+why_words (Lex e) bytes = fault_words e
+why_words (Token number k) bytes = token_words k bytes ++ codes " can't stand here."
+why_words (End number) bytes = codes "the text ends too soon."
+
+-- What is wrong where a text is refused, in a line.
+abbrev pub sentence : List ℕ → Refusal → List ℕ
+sentence t r = why_words r.why (slice_range t r.start r.end) ++ codes "\n"
+
+-- The words are the line and the column of the refusal, what is wrong there, the line with a mark, and the help.
+pub record SaysAt (t : List ℕ) (r : Refusal) (help words : List ℕ) : Type 0 where
+  pub place : Place
+  pub is_place : IsPlace t r.start place
+  pub whole : words ≡ place_words place ++ sentence t r ++ marked_line t place r.start r.end ++ help
+
+-- The words begin with the place of the refusal and what is wrong there. What they list behind the marked line as what could stand there can.
+abbrev pub IsToldAt : List ℕ → Refusal → List ℕ → Type 0
+IsToldAt t r words = (help : List ℕ) × IsWholeHelp (CanStandAt t r.why) help × SaysAt t r help words
+
+-- What is told of a text with so many bytes, which are too many.
+abbrev pub long_words : ℕ → List ℕ
+long_words n = codes "Program: the text has " ++ decimal n ++ codes " bytes, and may have " ++ decimal 1048576 ++ codes ".\n"
+
+-- The words tell why the text has no tree: of a long one how long it is, of another one where it is refused.
+abbrev pub TellsProgram : List ℕ → List ℕ → Type 0
+TellsProgram t words = (IsLong t × (words ≡ long_words (length t))) ⊎ ((r : Refusal) × IsRefusal t r × IsToldAt t r words)

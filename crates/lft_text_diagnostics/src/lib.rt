@@ -1,0 +1,27 @@
+#![tactic(auto)]
+//! Why a program's text has no tree, for people: where in it, the line with a mark, what could stand there,
+//! and what to write in place of what the language has and `lftrace` leaves out. `words` and `headers` serve
+//! who tells of other texts. In `tables` why a table is refused.
+
+mod before;
+mod candidates;
+mod code;
+pub mod headers;
+mod left_out;
+mod pages;
+mod place;
+mod program_text;
+mod quoting;
+mod refusal;
+mod spots;
+pub mod tables;
+mod thing;
+mod ways;
+pub mod words;
+
+pub use code::has_code_with;
+pub use pages::{Page, place_words, push_marked};
+pub use place::{Place, place_of};
+pub use program_text::{tell_no_tokens, tell_no_tree, way_at};
+pub use quoting::{push_line, push_place};
+pub use spots::{Spot, name_spot, reactor_spot, time_spot, token_spot};

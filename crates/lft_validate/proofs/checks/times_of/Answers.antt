@@ -1,0 +1,22 @@
+use Rattle.std.proofs.Common.{Any, inl, ⊎_elim}
+use Rattle.lft_resolve.specs.References.{reactor_trees}
+use Rattle.lft_resolve.specs.Causes.{HasLongTime}
+use Rattle.lft_validate.specs.Shown.{SomeShows}
+use Rattle.lft_validate.specs.Witnesses.{time_causes}
+use Rattle.lft_validate.specs.declared.members.Cause.TheVariants as cause
+use Rattle.lft_validate.proofs.Causes.{long}
+use Rattle.lft_validate.proofs.Sound.{last_asked, shown_by}
+use Rattle.lft_validate.proofs.checks.times_of.Goals as goal
+
+pub returns-in-Some : goal.returns-in-Some
+returns-in-Some c =
+    let rs = reactor_trees c.args.reactors.now in
+    let w = shown_by rs 14 c.long_default.result c.in-Some.found c.long_default.ensures.shows c.long_default.ensures.cause c.in-Some.is in
+    (w.0, inl (w.1, w.2))
+
+pub returns : goal.returns
+returns c =
+    let rs = reactor_trees c.args.reactors.now in
+    last_asked rs 14 (SomeShows rs cause.DelayTooLong → ⊥) (time_causes rs) c.first_member.result c.first_member.ensures.shows c.first_member.ensures.cause c.first_member.ensures.none
+    (λ w shown. inl (shown.1, shown.2))
+    (λ none. (λ a. ⊎_elim (λ d. c.in_default.ensures.none d) (λ m. none m) (long rs a), tt))

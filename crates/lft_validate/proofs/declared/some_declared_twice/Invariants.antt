@@ -1,0 +1,8 @@
+use Rattle.std.proofs.Common.{Any, take}
+use Rattle.lft_resolve.specs.Causes.{IsTwice}
+use Rattle.lft_resolve.specs.Kinds.{names_in}
+use Rattle.lft_resolve.specs.References.{reactor_trees}
+use Rattle.lft_validate.proofs.declared.some_declared_twice.Given as goal
+
+abbrev pub invariant-loop-reactor : goal.invariant-loop-reactor
+invariant-loop-reactor l = Any (λ r. IsTwice (names_in r)) (reactor_trees (take l.reactor l.reactors)) → ⊥

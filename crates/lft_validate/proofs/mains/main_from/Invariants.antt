@@ -1,0 +1,7 @@
+use Rattle.std.proofs.Common.{ℕ, ◌<◌, ◌≤◌}
+use Rattle.lft_resolve.specs.References.{reactor_trees}
+use Rattle.lft_validate.specs.Witnesses.{IsMainAt}
+use Rattle.lft_validate.proofs.mains.main_from.Given as goal
+
+abbrev pub invariant-loop-place : goal.invariant-loop-place
+invariant-loop-place l = (k : ℕ) → l.start ≤ k → k < l.place → IsMainAt (reactor_trees l.reactors) k → ⊥

@@ -1,0 +1,11 @@
+use Rattle.std.proofs.Common.{sym}
+use Rattle.lft_tree.specs.View.{time_view}
+use Rattle.lft_resolve.specs.Causes.{IsMisplacedTime}
+use Rattle.lft_resolve.proofs.Somes.{none_more, none_done}
+use Rattle.lft_validate.proofs.misplaced.first_wrong_time.Goals as goal
+
+pub loop-time-preserved : goal.loop-time-preserved
+loop-time-preserved c r own = none_more (λ t. time_view t.now) (IsMisplacedTime r) c.args.times.now c.loop-time.time c.index-times-time.result c.loop-time-test.true (sym c.index-times-time.is) (c.loop-time.invariant r own) (c.in_default.ensures.none r own)
+
+pub returns-clause-none : goal.returns-clause-none
+returns-clause-none c r own = none_done (λ t. time_view t.now) (IsMisplacedTime r) c.args.times.now c.loop-time.time c.loop-time-test.false (c.loop-time.invariant r own)

@@ -1,0 +1,9 @@
+use Rattle.std.proofs.Common.{Any, map, take}
+use Rattle.lft_tree.specs.Tree.{ReactorTree}
+use Rattle.lft_tree.specs.View.{assignment_view}
+use Rattle.lft_resolve.specs.Causes.{LacksParameter}
+use Rattle.lft_resolve.specs.Tables.{IsOutside}
+use Rattle.lft_validate.proofs.unknown.first_for_none.Given as goal
+
+abbrev pub invariant-loop-value : goal.invariant-loop-value
+invariant-loop-value l = (r : ReactorTree) → IsOutside r l.outside → Any (LacksParameter r) (map assignment_view (take l.value l.given)) → ⊥

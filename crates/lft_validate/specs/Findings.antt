@@ -1,0 +1,81 @@
+-- What each finding says of a member of a reactor.
+use Rattle.std.specs.Prelude.{◌≡◌, ◌≢◌, ℕ, ◌<◌, List, [], length, Some, None, true, false, slice_get, map, IsSome, IsSomeAnd}
+use Rattle.lft_tree.specs.Tree.{ReactorTree, MemberTree, InstanceTree, RefTree, TimeTree, Named, port_in, instance_in, reaction_in, connection_in}
+use Rattle.lft_resolve.specs.Instances.{reactor_named}
+use Rattle.lft_resolve.specs.Kinds.{kind_of, own_kind, may_stand}
+use Rattle.lft_resolve.specs.Causes.{IsUnknownTime, LacksParameter, IsLongTime}
+use Rattle.lft_resolve.specs.declared.kinds.Kind.{Kind}
+use Rattle.lft_resolve.specs.declared.kinds.Kind.TheVariants.{OwnParameter}
+use Rattle.lft_resolve.specs.declared.kinds.Role.{Role}
+use Rattle.lft_validate.specs.Members.{names_of, times_of, given_of}
+use Rattle.lft_validate.specs.declared.members.Cause.{Cause}
+use Rattle.lft_validate.specs.declared.members.Cause.TheVariants as cause
+use Rattle.lft_validate.specs.declared.finding.Finding.{Finding}
+use Rattle.lft_validate.specs.declared.finding.Finding.TheVariants as finding
+
+-- the list has one thing at two places, the first before the second
+abbrev pub IsTwiceAt : {X : Type 0} → List X → ℕ → ℕ → Type 0
+IsTwiceAt {X} xs i j = (x : X) × (i < j) × (slice_get xs i ≡ Some x) × (slice_get xs j ≡ Some x)
+
+-- the instance is of a reactor that isn't among these
+abbrev pub IsOfNone : List ReactorTree → InstanceTree → Type 0
+IsOfNone reactors i = reactor_named reactors i.reactor ≡ None
+
+-- the name is nothing in the reactor
+abbrev pub IsNothing : List ReactorTree → ReactorTree → RefTree → Type 0
+IsNothing reactors r ref = kind_of reactors r ref ≡ None
+
+-- the value with that place is for what isn't a parameter of the new reactor
+abbrev pub IsForNone : List ReactorTree → ℕ → InstanceTree → Type 0
+IsForNone reactors n i = (inner : ReactorTree) × (reactor_named reactors i.reactor ≡ Some inner) × IsSomeAnd (slice_get i.given n) (LacksParameter inner)
+
+-- the name is something of this kind, which may not have the role
+abbrev pub IsWrong : List ReactorTree → ReactorTree → Role → Kind → RefTree → Type 0
+IsWrong reactors r role kind ref = (kind_of reactors r ref ≡ Some kind) × (may_stand role kind ≡ false)
+
+-- the time names something of this kind, which is no parameter
+abbrev pub IsWrongTime : ReactorTree → Kind → TimeTree → Type 0
+IsWrongTime r kind (Named name) = (own_kind r name ≡ Some kind) × (kind ≢ OwnParameter)
+IsWrongTime r kind _ = ⊥
+
+-- what the finding says of a member of the reactor, in a file with these reactors
+abbrev pub IsFinding : List ReactorTree → ReactorTree → MemberTree → Finding → Type 0
+IsFinding reactors r m (finding.GivenTwice first second) = IsTwiceAt (map (λ a. a.name) (given_of m)) first second
+IsFinding reactors r m finding.UnknownReactor = IsSomeAnd (instance_in m) (IsOfNone reactors)
+IsFinding reactors r m (finding.UnknownName role n) = IsSomeAnd (slice_get (names_of role m) n) (IsNothing reactors r)
+IsFinding reactors r m (finding.UnknownTime n) = IsSomeAnd (slice_get (times_of m) n) (IsUnknownTime r)
+IsFinding reactors r m (finding.UnknownParameter n) = IsSomeAnd (instance_in m) (IsForNone reactors n)
+IsFinding reactors r m (finding.WrongPlace role n kind) = IsSomeAnd (slice_get (names_of role m) n) (IsWrong reactors r role kind)
+IsFinding reactors r m (finding.WrongTime n kind) = IsSomeAnd (slice_get (times_of m) n) (IsWrongTime r kind)
+IsFinding reactors r m finding.MainHasPort = (r.is_main ≡ true) × IsSome (port_in m)
+IsFinding reactors r m finding.WidthMismatch = IsSomeAnd (connection_in m) (λ c. length c.sources ≢ length c.destinations)
+IsFinding reactors r m finding.NoTrigger = IsSomeAnd (reaction_in m) (λ x. x.triggers ≡ [])
+IsFinding reactors r m (finding.NamedTwice role first second) = IsSome (reaction_in m) × IsTwiceAt (names_of role m) first second
+IsFinding reactors r m (finding.LongTime n) = IsSomeAnd (slice_get (times_of m) n) IsLongTime
+
+-- the number of the cause that a finding shows
+abbrev pub cause_of : Finding → ℕ
+cause_of (finding.GivenTwice first second) = 3
+cause_of finding.UnknownReactor = 4
+cause_of (finding.UnknownName role n) = 6
+cause_of (finding.UnknownTime n) = 6
+cause_of (finding.UnknownParameter n) = 6
+cause_of (finding.WrongPlace role n kind) = 7
+cause_of (finding.WrongTime n kind) = 7
+cause_of finding.MainHasPort = 8
+cause_of finding.WidthMismatch = 11
+cause_of finding.NoTrigger = 12
+cause_of (finding.NamedTwice role first second) = 13
+cause_of (finding.LongTime n) = 14
+
+-- the number of a cause that one member can show
+abbrev pub number_of : Cause → ℕ
+number_of cause.DuplicateName = 3
+number_of cause.UnknownReactor = 4
+number_of cause.UnknownName = 6
+number_of cause.WrongPlace = 7
+number_of cause.MainHasPorts = 8
+number_of cause.WidthMismatch = 11
+number_of cause.NoTrigger = 12
+number_of cause.DuplicateInput = 13
+number_of cause.DelayTooLong = 14

@@ -1,0 +1,19 @@
+-- The tables of the names of a file's reactors. The contracts of the crate's own functions alone need this file.
+use Rattle.std.specs.Prelude.{◌≡◌, List}
+use Rattle.std.specs.Borrow.{Bor}
+use Rattle.std.specs.List.{AllZip}
+use Rattle.lft_tree.specs.Tree.{FileTree, ReactorTree, reactors_of}
+use Rattle.lft_tree.specs.declared.tree.Reactor.{Reactor}
+use Rattle.lft_resolve.specs.References.{reactor_trees}
+use Rattle.lft_resolve.specs.Tables.{IsFile, IsOwn}
+use Rattle.lft_resolve.specs.declared.file.File.{File}
+use Rattle.lft_resolve.specs.declared.own.Own.{Own}
+
+-- the tables are those of the reactors, one for the file and one for each
+abbrev pub AreNames : List ReactorTree → File → List Own → Type 0
+AreNames rs file owns = IsFile rs file × AllZip IsOwn rs owns
+
+-- the reactors are those of the tree, and the tables theirs
+pub record AreScopes (tree : FileTree) (items : List (Bor Reactor)) (file : File) (owns : List Own) : Type 0 where
+  pub reactors : reactor_trees items ≡ reactors_of tree
+  pub names : AreNames (reactors_of tree) file owns

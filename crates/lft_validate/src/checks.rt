@@ -1,0 +1,135 @@
+//! The first cause of refusal, in the order of the answers, with what shows it.
+
+ghost use Rattle.std.specs.Prelude.{◌≡◌, IfOk, IfSome, IfNone};
+ghost use Rattle.lft_tree.specs.Tree.{reactors_of};
+ghost use Rattle.lft_resolve.specs.Causes.{DuplicateName, first_causes, later_causes};
+ghost use Rattle.lft_resolve.specs.References.{reactor_trees};
+ghost use Rattle.lft_validate.specs.Scopes.{AreNames};
+ghost use Rattle.lft_validate.specs.Witnesses.{IsFirstShown, Shows, cause_shown, time_causes};
+
+use crate::declared::{same_reactors, some_declared_twice};
+use crate::mains::{long_default, no_main, two_mains};
+use crate::members::{Cause, first_member};
+use crate::scopes::Scopes;
+use crate::sources::two_sources;
+use crate::witness::Witness;
+use lft_resolve::file::File;
+use lft_resolve::own::Own;
+use lft_tag::NoMemory;
+use lft_tree::Reactor;
+use std::alloc::Global;
+
+/// Two reactors of one name, two things of one name, or two values for one parameter.
+fn duplicate_name(
+    alloc: Global,
+    reactors: &[&Reactor],
+    file: &File,
+    owns: &[Own],
+) -> Result<Option<Witness>, NoMemory>
+    requires { AreNames (reactor_trees reactors.now) file.now owns.now }
+    ensures shows { IfOk result (λ found. IfSome found (Shows (reactor_trees reactors.now))) }
+    ensures cause { IfOk result (λ found. IfSome found (λ w. cause_shown w ≡ 3)) }
+    ensures none { IfOk result (λ found. IfNone found (¬ DuplicateName (reactor_trees reactors.now))) }
+{
+    if let Some(found) = same_reactors(alloc, reactors)? {
+        return Ok(Some(found));
+    }
+    if let Some(found) = some_declared_twice(alloc, reactors)? {
+        return Ok(Some(found));
+    }
+    first_member(alloc, Cause::DuplicateName, reactors, file, owns)
+}
+
+// Each cause is looked for once: what is found shows it.
+fn first_of(
+    alloc: Global,
+    reactors: &[&Reactor],
+    file: &File,
+    owns: &[Own],
+) -> Result<Option<Witness>, NoMemory>
+    requires { AreNames (reactor_trees reactors.now) file.now owns.now }
+    ensures { IfOk result (IsFirstShown (reactor_trees reactors.now) (first_causes (reactor_trees reactors.now))) }
+{
+    if let Some(found) = no_main(reactors) {
+        return Ok(Some(found));
+    }
+    if let Some(found) = two_mains(reactors) {
+        return Ok(Some(found));
+    }
+    if let Some(found) = duplicate_name(alloc, reactors, file, owns)? {
+        return Ok(Some(found));
+    }
+    first_member(alloc, Cause::UnknownReactor, reactors, file, owns)
+}
+
+/// Looks for a main reactor, for a second one, for a name that is declared twice, and for a `new` of a
+/// reactor that isn't there, in this order. The names of all reactors are looked at, also of those of
+/// which there is no instance.
+pub fn check_first(alloc: Global, scopes: &Scopes) -> Result<Option<Witness>, NoMemory>
+    ensures { IfOk result (IsFirstShown (reactors_of scopes.now) (first_causes (reactors_of scopes.now))) }
+{
+    first_of(alloc, scopes.reactors(), scopes.file(), scopes.owns())
+}
+
+fn later_of(
+    alloc: Global,
+    reactors: &[&Reactor],
+    file: &File,
+    owns: &[Own],
+) -> Result<Option<Witness>, NoMemory>
+    requires { AreNames (reactor_trees reactors.now) file.now owns.now }
+    ensures { IfOk result (IsFirstShown (reactor_trees reactors.now) (later_causes (reactor_trees reactors.now))) }
+{
+    if let Some(found) = first_member(alloc, Cause::UnknownName, reactors, file, owns)? {
+        return Ok(Some(found));
+    }
+    if let Some(found) = first_member(alloc, Cause::WrongPlace, reactors, file, owns)? {
+        return Ok(Some(found));
+    }
+    if let Some(found) = first_member(alloc, Cause::MainHasPorts, reactors, file, owns)? {
+        return Ok(Some(found));
+    }
+    if let Some(found) = two_sources(alloc, reactors)? {
+        return Ok(Some(found));
+    }
+    if let Some(found) = first_member(alloc, Cause::WidthMismatch, reactors, file, owns)? {
+        return Ok(Some(found));
+    }
+    if let Some(found) = first_member(alloc, Cause::NoTrigger, reactors, file, owns)? {
+        return Ok(Some(found));
+    }
+    first_member(alloc, Cause::DuplicateInput, reactors, file, owns)
+}
+
+/// Looks in each reactor of the file for a name that is nothing, for one that may not stand in its place,
+/// and then for how its ports, connections and reactions are written, in the order of the causes. A reactor
+/// that isn't in the file declares no ports and no parameters, and of several reactors of one name the
+/// first counts; `check_first` finds both.
+pub fn check_later(alloc: Global, scopes: &Scopes) -> Result<Option<Witness>, NoMemory>
+    ensures { IfOk result (IsFirstShown (reactors_of scopes.now) (later_causes (reactors_of scopes.now))) }
+{
+    later_of(alloc, scopes.reactors(), scopes.file(), scopes.owns())
+}
+
+fn times_of(
+    alloc: Global,
+    reactors: &[&Reactor],
+    file: &File,
+    owns: &[Own],
+) -> Result<Option<Witness>, NoMemory>
+    requires { AreNames (reactor_trees reactors.now) file.now owns.now }
+    ensures { IfOk result (IsFirstShown (reactor_trees reactors.now) (time_causes (reactor_trees reactors.now))) }
+{
+    if let Some(found) = long_default(reactors) {
+        return Ok(Some(found));
+    }
+    first_member(alloc, Cause::DelayTooLong, reactors, file, owns)
+}
+
+/// Looks for a time in some reactor that is past 10^18 nanoseconds: a default of a parameter, or any other
+/// time that is written. A named time is as long as its parameter.
+pub fn check_times(alloc: Global, scopes: &Scopes) -> Result<Option<Witness>, NoMemory>
+    ensures { IfOk result (IsFirstShown (reactors_of scopes.now) (time_causes (reactors_of scopes.now))) }
+{
+    times_of(alloc, scopes.reactors(), scopes.file(), scopes.owns())
+}

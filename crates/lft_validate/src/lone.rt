@@ -1,0 +1,125 @@
+//! What one member shows without the names around it.
+
+ghost use Rattle.std.specs.Prelude.{◌≡◌, ◌↔◌, List, None, Any, IfOk, IfSome, IfNone, IsTrue, IsSomeAnd, slice_get};
+ghost use Rattle.lft_tree.specs.Tree.{ReactorTree};
+ghost use Rattle.lft_tree.specs.View.{member_view, reactor_view, time_view};
+ghost use Rattle.lft_resolve.specs.Causes.{IsLongTime};
+ghost use Rattle.lft_resolve.specs.Tables.{IsFile};
+ghost use Rattle.lft_validate.specs.Members.{time_trees};
+ghost use Rattle.lft_validate.specs.Findings.{IsFinding, cause_of};
+ghost use Rattle.lft_validate.specs.Shown.{ShowsCause};
+ghost use Rattle.lft_validate.specs.declared.members.Cause.TheVariants as causes;
+
+use crate::finding::Finding;
+use crate::names::times_of;
+use lft_resolve::file::File;
+use lft_resolve::times::nanoseconds;
+use lft_tag::NoMemory;
+use lft_tree::{Member, Reactor, TimeExpression};
+use std::alloc::Global;
+
+/// Whether the member is an instance of a reactor that isn't in the file.
+pub(crate) fn unknown_reactor(file: &File, member: &Member) -> Option<Finding>
+    ensures some { (rs : List ReactorTree) (r : ReactorTree) → IsFile rs file.now → IfSome result (IsFinding rs r (member_view member.now)) }
+    ensures cause { IfSome result (λ f. cause_of f ≡ 4) }
+    ensures none { (rs : List ReactorTree) (r : ReactorTree) → IsFile rs file.now → IfNone result (¬ ShowsCause rs r (member_view member.now) causes.UnknownReactor) }
+{
+    match member {
+        Member::Instance(instance) => match file.reactor(instance.reactor.as_str()) {
+            Some(_) => None,
+            None => Some(Finding::UnknownReactor),
+        },
+        Member::Port(_) | Member::Timer(_) | Member::Action(_) | Member::State(_) => None,
+        Member::Preamble(_) | Member::Reaction(_) | Member::Connection(_) => None,
+    }
+}
+
+/// Whether the member is a port of a main reactor.
+pub(crate) fn main_port(reactor: &Reactor, member: &Member) -> Option<Finding>
+    ensures some { (rs : List ReactorTree) → IfSome result (IsFinding rs (reactor_view reactor.now) (member_view member.now)) }
+    ensures cause { IfSome result (λ f. cause_of f ≡ 8) }
+    ensures none { (rs : List ReactorTree) → IfNone result (¬ ShowsCause rs (reactor_view reactor.now) (member_view member.now) causes.MainHasPorts) }
+{
+    if !reactor.is_main {
+        return None;
+    }
+    match member {
+        Member::Port(_) => Some(Finding::MainHasPort),
+        Member::Timer(_) | Member::Action(_) | Member::State(_) | Member::Preamble(_) => None,
+        Member::Instance(_) | Member::Reaction(_) | Member::Connection(_) => None,
+    }
+}
+
+/// Whether the member is a connection whose two lists differ in length.
+pub(crate) fn width(member: &Member) -> Option<Finding>
+    ensures some { (rs : List ReactorTree) (r : ReactorTree) → IfSome result (IsFinding rs r (member_view member.now)) }
+    ensures cause { IfSome result (λ f. cause_of f ≡ 11) }
+    ensures none { (rs : List ReactorTree) (r : ReactorTree) → IfNone result (¬ ShowsCause rs r (member_view member.now) causes.WidthMismatch) }
+{
+    match member {
+        Member::Connection(connection) => {
+            if connection.sources.len() != connection.destinations.len() {
+                Some(Finding::WidthMismatch)
+            } else {
+                None
+            }
+        }
+        Member::Port(_) | Member::Timer(_) | Member::Action(_) | Member::State(_) => None,
+        Member::Preamble(_) | Member::Instance(_) | Member::Reaction(_) => None,
+    }
+}
+
+/// Whether the member is a reaction without a trigger.
+pub(crate) fn no_trigger(member: &Member) -> Option<Finding>
+    ensures some { (rs : List ReactorTree) (r : ReactorTree) → IfSome result (IsFinding rs r (member_view member.now)) }
+    ensures cause { IfSome result (λ f. cause_of f ≡ 12) }
+    ensures none { (rs : List ReactorTree) (r : ReactorTree) → IfNone result (¬ ShowsCause rs r (member_view member.now) causes.NoTrigger) }
+{
+    match member {
+        Member::Reaction(reaction) => {
+            if reaction.triggers.is_empty() {
+                Some(Finding::NoTrigger)
+            } else {
+                None
+            }
+        }
+        Member::Port(_) | Member::Timer(_) | Member::Action(_) | Member::State(_) => None,
+        Member::Preamble(_) | Member::Instance(_) | Member::Connection(_) => None,
+    }
+}
+
+/// Whether the time is written and past the greatest.
+fn is_long(time: &TimeExpression) -> bool
+    ensures { IsTrue result ↔ IsLongTime (time_view time.now) }
+{
+    match time {
+        TimeExpression::Written { time: written, .. } => nanoseconds(*written).is_none(),
+        TimeExpression::Parameter { .. } => false,
+    }
+}
+
+/// The first of the times that is past the greatest.
+fn first_long(times: &[&TimeExpression]) -> Option<usize>
+    ensures some { IfSome result (λ n. IsSomeAnd (slice_get (time_trees times.now) n) IsLongTime) }
+    ensures none { IfNone result (¬ Any IsLongTime (time_trees times.now)) }
+{
+    for time in 0..times.len() {
+        if is_long(times[time]) {
+            return Some(time);
+        }
+    }
+    None
+}
+
+/// The first time of the member that is past the greatest.
+pub(crate) fn long_time(alloc: Global, member: &Member) -> Result<Option<Finding>, NoMemory>
+    ensures some { IfOk result (λ found. (rs : List ReactorTree) (r : ReactorTree) → IfSome found (IsFinding rs r (member_view member.now))) }
+    ensures cause { IfOk result (λ found. IfSome found (λ f. cause_of f ≡ 14)) }
+    ensures none { IfOk result (λ found. (rs : List ReactorTree) (r : ReactorTree) → IfNone found (¬ ShowsCause rs r (member_view member.now) causes.DelayTooLong)) }
+{
+    let times = times_of(alloc, member)?;
+    match first_long(&times) {
+        Some(time) => Ok(Some(Finding::LongTime { time })),
+        None => Ok(None),
+    }
+}

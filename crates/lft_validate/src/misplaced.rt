@@ -1,0 +1,136 @@
+//! Names that may not stand where they do, in one member.
+
+ghost use Rattle.std.specs.Prelude.{◌≡◌, List, Any, IfOk, IfSome, IfNone, IsSomeAnd, slice_get};
+ghost use Rattle.lft_tree.specs.Tree.{ReactorTree};
+ghost use Rattle.lft_tree.specs.View.{member_view, ref_view, time_view};
+ghost use Rattle.lft_resolve.specs.Causes.{IsMisplaced, IsMisplacedTime};
+ghost use Rattle.lft_resolve.specs.References.{ref_trees};
+ghost use Rattle.lft_resolve.specs.Tables.{IsFile, IsOwn};
+ghost use Rattle.lft_validate.specs.Members.{names_of, time_trees};
+ghost use Rattle.lft_validate.specs.Findings.{IsFinding, IsWrong, IsWrongTime, cause_of};
+ghost use Rattle.lft_validate.specs.Shown.{ShowsMisplaced, SomeName};
+
+use crate::finding::{Finding, ROLES};
+use crate::names::{names_of, times_of};
+use lft_resolve::file::{File, kind_of};
+use lft_resolve::kinds::{Kind, Role, may_stand};
+use lft_resolve::own::Own;
+use lft_tag::NoMemory;
+use lft_tree::{Member, Reference, TimeExpression};
+use std::alloc::Global;
+
+/// What the name is, if it may not have that role.
+fn wrong_kind(file: &File, own: &Own, role: Role, name: &Reference) -> Option<Kind>
+    ensures some { (rs : List ReactorTree) (r : ReactorTree) → IsFile rs file.now → IsOwn r own.now → IfSome result (λ kind. IsWrong rs r role kind (ref_view name.now)) }
+    ensures none { (rs : List ReactorTree) (r : ReactorTree) → IsFile rs file.now → IsOwn r own.now → IfNone result (¬ IsMisplaced rs r (role, ref_view name.now)) }
+{
+    let kind = kind_of(file, own, name)?;
+    if may_stand(role, kind) {
+        None
+    } else {
+        Some(kind)
+    }
+}
+
+/// The first of the names that may not have that role, and what it is.
+fn first_wrong(file: &File, own: &Own, role: Role, names: &[&Reference]) -> Option<(usize, Kind)>
+    ensures some { (rs : List ReactorTree) (r : ReactorTree) → IsFile rs file.now → IsOwn r own.now → IfSome result (λ p. IsSomeAnd (slice_get (ref_trees names.now) p.0) (IsWrong rs r role p.1)) }
+    ensures none { (rs : List ReactorTree) (r : ReactorTree) → IsFile rs file.now → IsOwn r own.now → IfNone result (¬ Any (λ ref. IsMisplaced rs r (role, ref)) (ref_trees names.now)) }
+{
+    for name in 0..names.len() {
+        if let Some(kind) = wrong_kind(file, own, role, names[name]) {
+            return Some((name, kind));
+        }
+    }
+    None
+}
+
+/// The first of the member's names in that role that may not have it.
+fn misplaced_in_role(
+    alloc: Global,
+    file: &File,
+    own: &Own,
+    member: &Member,
+    role: Role,
+) -> Result<Option<Finding>, NoMemory>
+    ensures some { IfOk result (λ found. (rs : List ReactorTree) (r : ReactorTree) → IsFile rs file.now → IsOwn r own.now → IfSome found (IsFinding rs r (member_view member.now))) }
+    ensures cause { IfOk result (λ found. IfSome found (λ f. cause_of f ≡ 7)) }
+    ensures none { IfOk result (λ found. (rs : List ReactorTree) (r : ReactorTree) → IsFile rs file.now → IsOwn r own.now → IfNone found (¬ Any (λ ref. IsMisplaced rs r (role, ref)) (names_of role (member_view member.now)))) }
+{
+    let names = names_of(alloc, member, role)?;
+    match first_wrong(file, own, role, &names) {
+        Some((name, kind)) => Ok(Some(Finding::WrongPlace { role, name, kind })),
+        None => Ok(None),
+    }
+}
+
+/// The first of the member's names that may not stand where it does.
+fn misplaced_name(
+    alloc: Global,
+    file: &File,
+    own: &Own,
+    member: &Member,
+) -> Result<Option<Finding>, NoMemory>
+    ensures some { IfOk result (λ found. (rs : List ReactorTree) (r : ReactorTree) → IsFile rs file.now → IsOwn r own.now → IfSome found (IsFinding rs r (member_view member.now))) }
+    ensures cause { IfOk result (λ found. IfSome found (λ f. cause_of f ≡ 7)) }
+    ensures none { IfOk result (λ found. (rs : List ReactorTree) (r : ReactorTree) → IsFile rs file.now → IsOwn r own.now → IfNone found (¬ SomeName (IsMisplaced rs r) (member_view member.now))) }
+{
+    for role in ROLES {
+        if let Some(found) = misplaced_in_role(alloc, file, own, member, role)? {
+            return Ok(Some(found));
+        }
+    }
+    Ok(None)
+}
+
+/// What the time names, if that is no parameter.
+fn wrong_time_kind(own: &Own, time: &TimeExpression) -> Option<Kind>
+    ensures some { (r : ReactorTree) → IsOwn r own.now → IfSome result (λ kind. IsWrongTime r kind (time_view time.now)) }
+    ensures none { (r : ReactorTree) → IsOwn r own.now → IfNone result (¬ IsMisplacedTime r (time_view time.now)) }
+{
+    match time {
+        TimeExpression::Written { .. } => None,
+        TimeExpression::Parameter { name, .. } => {
+            let kind = own.kind(name.as_str())?;
+            if kind == Kind::OwnParameter {
+                None
+            } else {
+                Some(kind)
+            }
+        }
+    }
+}
+
+/// The first of the times that names no parameter, and what it names.
+fn first_wrong_time(own: &Own, times: &[&TimeExpression]) -> Option<(usize, Kind)>
+    ensures some { (r : ReactorTree) → IsOwn r own.now → IfSome result (λ p. IsSomeAnd (slice_get (time_trees times.now) p.0) (IsWrongTime r p.1)) }
+    ensures none { (r : ReactorTree) → IsOwn r own.now → IfNone result (¬ Any (IsMisplacedTime r) (time_trees times.now)) }
+{
+    for time in 0..times.len() {
+        if let Some(kind) = wrong_time_kind(own, times[time]) {
+            return Some((time, kind));
+        }
+    }
+    None
+}
+
+/// The first of the member's names and times that may not stand where it does.
+pub(crate) fn misplaced(
+    alloc: Global,
+    file: &File,
+    own: &Own,
+    member: &Member,
+) -> Result<Option<Finding>, NoMemory>
+    ensures some { IfOk result (λ found. (rs : List ReactorTree) (r : ReactorTree) → IsFile rs file.now → IsOwn r own.now → IfSome found (IsFinding rs r (member_view member.now))) }
+    ensures cause { IfOk result (λ found. IfSome found (λ f. cause_of f ≡ 7)) }
+    ensures none { IfOk result (λ found. (rs : List ReactorTree) (r : ReactorTree) → IsFile rs file.now → IsOwn r own.now → IfNone found (¬ ShowsMisplaced rs r (member_view member.now))) }
+{
+    if let Some(found) = misplaced_name(alloc, file, own, member)? {
+        return Ok(Some(found));
+    }
+    let times = times_of(alloc, member)?;
+    match first_wrong_time(own, &times) {
+        Some((time, kind)) => Ok(Some(Finding::WrongTime { time, kind })),
+        None => Ok(None),
+    }
+}

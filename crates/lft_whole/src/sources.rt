@@ -1,0 +1,11 @@
+//! The files of a program as they are read, and why there is no program of them.
+
+mod shown;
+mod source;
+mod stop;
+mod why;
+
+pub use shown::{push_place, shown_path};
+pub use source::{SourceFile, Spot, number_of, place_of};
+pub use stop::{Place, Refusal, Stop};
+pub use why::Why;

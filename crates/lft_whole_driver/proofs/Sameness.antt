@@ -1,0 +1,16 @@
+-- Where files are lowered to a tree, the flat program of the tree is that of the whole program.
+use Rattle.std.proofs.Common.{List}
+use Rattle.lft_ir.specs.Parts.{Parts}
+use Rattle.lft_lower.specs.Reactors.{IsLowering}
+use Rattle.lft_program.specs.Flattening.{IsFlatOf}
+use Rattle.lft_whole.specs.declared.sources.source.SourceFile.{SourceFile}
+use Rattle.lft_tree.specs.View.{tree_view}
+use Rattle.lft_tree.specs.declared.ast.Ast.{Ast}
+use Rattle.lft_same.specs.Expanded.Core.{expanded_tree}
+use Rattle.lft_same.proofs.ExpandedLemmas.Only.{only_flat}
+use Rattle.lft_same.proofs.ExpandedLemmas.Sameness.{core_law}
+use Rattle.lft_same.proofs.Same.{lowered_law}
+use Rattle.lft_whole_driver.specs.Lowered.{IsOfFiles}
+
+pub the_program : (files : List SourceFile) (tree : Ast) → IsLowering files tree → (p : Parts) → IsFlatOf (tree_view tree) p → IsOfFiles files p
+the_program files tree made p is = (expanded_tree (tree_view tree), lowered_law files tree made is.none, record { is = core_law (tree_view tree) p is.flat; only = λ q other. only_flat (tree_view tree) p q is other })

@@ -1,0 +1,24 @@
+-- What could stand in place of a token.
+use Rattle.std.specs.Prelude.{◌≡◌, ◌<◌, ◌++◌, ◌∷◌, ℕ, List, [], Result, Ok, Err}
+use Rattle.lft_whole.specs.Pieces.{tokens_of}
+use Rattle.lft_whole.specs.declared.fault.TreeFault.{TreeFault}
+use Rattle.lft_whole.specs.declared.fault.TreeFault.TheVariants as faults
+use Rattle.lft_whole.specs.declared.token.Token.{Token}
+use Rattle.lft_whole.specs.Parts.Tree.{FileTree}
+use Rattle.lft_whole_parser.specs.Files.{reads}
+use Rattle.lft_whole_driver.specs.declared.could.Thing.{Thing}
+
+-- What is read has a tree, or is refused behind the token of this number.
+abbrev pub GoesPast : ℕ → Result FileTree TreeFault → Type 0
+GoesPast token (Ok tree) = Unit {0}
+GoesPast token (Err (faults.Unexpected at)) = token < at
+GoesPast token (Err (faults.Package at)) = token < at
+GoesPast token (Err faults.NoMemory) = ⊥
+
+-- The text is read further than that token.
+abbrev pub IsReadPast : List ℕ → ℕ → Type 0
+IsReadPast t token = (tokens : List Token) × (tokens_of t ≡ Ok tokens) × GoesPast token (reads t tokens)
+
+-- With the thing behind it, and a blank between, the front of a text is read further than its last token, which is the thing's.
+abbrev pub CanStand : List ℕ → ℕ → Thing → Type 0
+CanStand front token thing = IsReadPast ((front ++ 32 ∷ []) ++ thing.spelling.now) token

@@ -1,0 +1,40 @@
+-- What the files of a program are, and which program they are.
+use Rattle.std.specs.Prelude.{◌≡◌, ℕ, IsSomeAnd, List, Some, slice_get}
+use Rattle.lft_ir.specs.Parts.{Parts}
+use Rattle.lft_whole_parser.specs.Imports.Files.{AreOfTexts, AreReached, EachOnce, IsFileOf, IsWhole, paths_of_files}
+use Rattle.lft_whole_parser.specs.Imports.Paths.{normal}
+use Rattle.lft_load.specs.Meaning.{IsOnly}
+use Rattle.lft_same.specs.Expanded.Expanded.{Expanded}
+use Rattle.lft_same.specs.Expanded.Flat.{IsFlat}
+use Rattle.lft_same.specs.Expanded.Same.{IsSame}
+use Rattle.lft_whole.specs.declared.sources.source.SourceFile.{SourceFile}
+
+-- The first of the files has this path, and is read from this text.
+abbrev pub BeginWith : List ℕ → List ℕ → List SourceFile → Type 0
+BeginWith path text files = IsSomeAnd (slice_get files 0) (IsFileOf (normal path) text)
+
+-- The files have the trees of texts. Imports of them lead to each of the paths from the first, and each stands there once.
+pub record LeadTo (files : List SourceFile) (paths : List (List ℕ)) : Type 0 where
+  pub trees : AreOfTexts files
+  pub reached : AreReached files paths
+  pub once : EachOnce paths
+
+-- The first of the files has this path, and is read from this text; imports of them lead to each, and each import of them names one of them.
+pub record AreFilesOf (path text : List ℕ) (files : List SourceFile) : Type 0 where
+  pub first : BeginWith path text files
+  pub lead : LeadTo files (paths_of_files files)
+  pub whole : IsWhole files
+
+-- The program is the one flat program of the whole program of these files, written out.
+abbrev pub IsOfFiles : List SourceFile → Parts → Type 0
+IsOfFiles files program = (expanded : Expanded) × IsSame files expanded × IsOnly (IsFlat expanded) program
+
+-- So it is of the files of this path and this text.
+abbrev pub IsProgramOf : List ℕ → List ℕ → Parts → Type 0
+IsProgramOf path text program = (files : List SourceFile) × AreFilesOf path text files × IsOfFiles files program
+
+-- ---- for the crate's own contracts
+
+-- The first file stays.
+abbrev pub BeginsAs : List SourceFile → List SourceFile → Type 0
+BeginsAs old new = (file : SourceFile) → slice_get old 0 ≡ Some file → slice_get new 0 ≡ Some file

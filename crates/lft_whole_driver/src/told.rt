@@ -1,0 +1,368 @@
+//! Why a program isn't lowered, in words.
+
+ghost use Rattle.std.specs.Prelude.{◌≡◌, ◌-◌, IfOk, Some, slice_get, string_bytes};
+ghost use Rattle.lft_whole_parser.specs.Imports.Files.{AreOfTexts};
+ghost use Rattle.lft_load.specs.declared.fault.Detail.TheVariants as detail;
+ghost use Rattle.lft_load.specs.declared.fault.Part.TheVariants as part;
+ghost use Rattle.lft_program.specs.Refusals.{Tells, cause_of};
+ghost use Rattle.lft_whole.specs.Sources.Causes.{names, number_of};
+ghost use Rattle.lft_tree.specs.View.{tree_view};
+ghost use Rattle.lft_whole_driver.specs.Told.{IsSentence, IsTold, IsToldTree, IsUnexpected, TellsAt, TellsRefusal, TellsTree, where_words as words_where};
+
+use crate::could::push_could;
+use crate::hints::Hint;
+use crate::names::Names;
+use crate::pages::join_files;
+use lft_load::files::Failure;
+use lft_load::{Detail, Fault, Part};
+use lft_program::Refusal as ProgramRefusal;
+use lft_program_diagnostics::tell_refusal_in;
+use lft_tag::NoMemory;
+use lft_text_diagnostics::words::{push_bytes, push_way};
+use lft_text_diagnostics::{Spot, push_marked, way_at};
+use lft_tree::Ast;
+use lft_whole::sources::{Place, Refusal, SourceFile, Stop, Why, push_place};
+use lft_whole::{TextFault, lex};
+use std::alloc::{AllocError, Global};
+
+/// A token of more bytes isn't quoted.
+const LONGEST_TOKEN: usize = 40;
+
+/// Why a program isn't lowered: its fault, and what is told of it for people. Where a file can't be read, or memory
+/// is refused, nothing is told.
+#[derive(Drop)]
+pub struct Unlowered {
+    pub failure: Failure,
+    pub told: Option<String>,
+}
+
+impl From<Failure> for Unlowered {
+    ghost use Rattle.std.specs.Prelude.{◌≡◌, None};
+
+    ghost from_gives = { λ failure e. e ≡ record { failure = failure; told = None } };
+
+    fn from(failure: Failure) -> Unlowered {
+        Unlowered {
+            failure,
+            told: None,
+        }
+    }
+}
+
+impl From<Fault> for Unlowered {
+    ghost use Rattle.std.specs.Prelude.{◌≡◌, None};
+
+    ghost from_gives = { λ fault e. e ≡ record { failure = record { fault = fault; cause = None }; told = None } };
+
+    fn from(fault: Fault) -> Unlowered {
+        Unlowered::from(Failure::from(fault))
+    }
+}
+
+impl From<AllocError> for Unlowered {
+    ghost use Rattle.std.specs.Prelude.{◌≡◌, None};
+
+    ghost from_gives = { λ _ e. e.told ≡ None };
+
+    fn from(_error: AllocError) -> Unlowered {
+        Unlowered::from(Fault::no_memory())
+    }
+}
+
+impl From<NoMemory> for Unlowered {
+    ghost use Rattle.std.specs.Prelude.{◌≡◌, None};
+
+    ghost from_gives = { λ _ e. e.told ≡ None };
+
+    fn from(_error: NoMemory) -> Unlowered {
+        Unlowered::from(Fault::no_memory())
+    }
+}
+
+/// Where a token of one of the files is, as `FILE:LINE:COLUMN`.
+fn where_words(alloc: Global, files: &[SourceFile], place: Place) -> Result<String, NoMemory>
+    ensures { IfOk result (λ words. string_bytes words ≡ words_where files.now place) }
+{
+    let mut text = String::new(alloc);
+    if let Some(file) = files.get(place.file) {
+        push_place(alloc, &mut text, file, place.token)?;
+    }
+    Ok(text)
+}
+
+/// The fault of a refusal at a place in words.
+fn fault_of(refusal: Refusal, words: String) -> Fault
+    ensures part { result.part ≡ part.Lower }
+    ensures number { result.number ≡ number_of refusal.why }
+    ensures name { slice_get names (number_of refusal.why - 1) ≡ Some result.name.now }
+    ensures detail { result.detail ≡ detail.Words words }
+{
+    let (number, name) = refusal.why.cause();
+    Fault {
+        part: Part::Lower,
+        number,
+        name,
+        detail: Detail::Words(words),
+    }
+}
+
+/// The bytes of a token of a file, or its end. Of a text without tokens the byte that shows it.
+fn spot_in(alloc: Global, file: &SourceFile, token: usize) -> Result<Spot, NoMemory> {
+    let end = file.text.len();
+    match lex(alloc, &file.text) {
+        Ok(tokens) => match tokens.as_slice().get(token) {
+            Some(token) => Ok(Spot {
+                start: token.start,
+                end: token.end,
+            }),
+            None => Ok(Spot { start: end, end }),
+        },
+        Err(TextFault::BadText(at)) => Ok(Spot {
+            start: at,
+            end: end.min(at.saturating_add(1)),
+        }),
+        Err(TextFault::NoMemory) => Err(NoMemory),
+    }
+}
+
+/// What a token is called: code and strings are told as such, and so are those of more bytes than are quoted.
+fn token_words(alloc: Global, bytes: &[u8]) -> Result<String, NoMemory> {
+    let mut out = String::new(alloc);
+    if bytes.starts_with(b"{=") {
+        out.push_str("this code")?;
+    } else if bytes.starts_with(b"\"") || bytes.starts_with(b"'") {
+        out.push_str("this string")?;
+    } else if bytes.len() > LONGEST_TOKEN {
+        out.push_str("this")?;
+    } else {
+        out.push_str("`")?;
+        push_bytes(alloc, &mut out, bytes)?;
+        out.push_str("`")?;
+    }
+    Ok(out)
+}
+
+/// What is said of a token that can't stand where it is.
+fn standing_words(alloc: Global, bytes: &[u8]) -> Result<String, NoMemory>
+    ensures { IfOk result (λ words. IsUnexpected (string_bytes words)) }
+{
+    let mut out = token_words(alloc, bytes)?;
+    out.push_str(" can't stand here.")?;
+    Ok(out)
+}
+
+/// What is said of a text that ends before its tree does.
+fn ending_words(alloc: Global) -> Result<String, NoMemory>
+    ensures { IfOk result (λ words. IsUnexpected (string_bytes words)) }
+{
+    let mut out = String::new(alloc);
+    out.push_str("the text ends too soon.")?;
+    Ok(out)
+}
+
+/// What is said of a token that can't stand where it is, or of a text that ends there.
+fn unexpected_words(alloc: Global, file: &SourceFile, token: usize) -> Result<String, NoMemory>
+    ensures { IfOk result (λ words. IsUnexpected (string_bytes words)) }
+{
+    let spot = spot_in(alloc, file, token)?;
+    let bytes = file.text.get(spot.start..spot.end).unwrap_or(b"");
+    if bytes.is_empty() {
+        ending_words(alloc)
+    } else {
+        standing_words(alloc, bytes)
+    }
+}
+
+/// What is said of a refusal: of a token that can't stand where it is its bytes, else the sentence of the cause.
+/// Something may be said first.
+fn sentence(
+    alloc: Global,
+    files: &[SourceFile],
+    refusal: Refusal,
+    first: &str,
+) -> Result<String, NoMemory>
+    ensures { IfOk result (λ words. IsSentence first.now refusal.why (string_bytes words)) }
+{
+    if refusal.why == Why::Unexpected
+        && let Some(file) = files.get(refusal.place.file)
+    {
+        return unexpected_words(alloc, file, refusal.place.token);
+    }
+    let mut out = String::new(alloc);
+    out.push_str(first)?;
+    out.push_str(refusal.why.words())?;
+    Ok(out)
+}
+
+/// Puts the line of a token behind the text, with a mark at it.
+fn push_line(
+    alloc: Global,
+    out: &mut String,
+    files: &[SourceFile],
+    place: Place,
+) -> Result<(), NoMemory> {
+    let Some(file) = files.get(place.file) else {
+        return Ok(());
+    };
+    let spot = spot_in(alloc, file, place.token)?;
+    push_marked(alloc, out, &file.text, &[], Some(spot))
+}
+
+/// Puts the line of the first of two behind the text, and where that is, if it is in another file.
+fn push_first(
+    alloc: Global,
+    out: &mut String,
+    files: &[SourceFile],
+    second: Place,
+    first: Place,
+) -> Result<(), NoMemory> {
+    if first.file != second.file {
+        let place = where_words(alloc, files, first)?;
+        out.push_str(place.as_str())?;
+        out.push_str(":\n")?;
+    }
+    push_line(alloc, out, files, first)
+}
+
+/// Puts what helps where a text isn't of the grammar behind the text.
+fn push_help(
+    alloc: Global,
+    out: &mut String,
+    file: &SourceFile,
+    refusal: Refusal,
+) -> Result<(), NoMemory> {
+    let token = refusal.place.token;
+    let spot = spot_in(alloc, file, token)?;
+    if refusal.why == Why::Unexpected {
+        push_could(alloc, out, &file.text, spot.start, token)?;
+    }
+    let before = spot_in(alloc, file, token.saturating_sub(1))?;
+    push_way(out, way_at(alloc, &file.text, before.start, spot.start)?)
+}
+
+/// The line of a refusal with a mark, and what helps. Of two things of which the second is refused both lines.
+fn rest_of(alloc: Global, files: &[SourceFile], refusal: Refusal) -> Result<String, NoMemory> {
+    let mut out = String::new(alloc);
+    let Some(file) = files.get(refusal.place.file) else {
+        return Ok(out);
+    };
+    if matches!(refusal.why, Why::Unexpected | Why::NotText) {
+        push_line(alloc, &mut out, files, refusal.place)?;
+        push_help(alloc, &mut out, file, refusal)?;
+        return Ok(out);
+    }
+    let Ok(tokens) = lex(alloc, &file.text) else {
+        return Err(NoMemory);
+    };
+    let hint = Hint {
+        names: Names { alloc, files },
+        file,
+        tokens: &tokens,
+        place: refusal.place,
+    };
+    if let Some(first) = hint.before(refusal.why)? {
+        push_first(alloc, &mut out, files, refusal.place, first)?;
+    }
+    push_line(alloc, &mut out, files, refusal.place)?;
+    hint.push(&mut out, refusal.why)?;
+    Ok(out)
+}
+
+/// What is told of a refusal at a place in words, in lines that end with a line feed.
+fn told_of(
+    alloc: Global,
+    files: &[SourceFile],
+    refusal: Refusal,
+    first: &str,
+    place: &str,
+) -> Result<String, NoMemory>
+    ensures { IfOk result (λ words. TellsAt place.now first.now refusal.why (string_bytes words)) }
+{
+    let sentence = sentence(alloc, files, refusal, first)?;
+    let rest = rest_of(alloc, files, refusal)?;
+    let mut out = String::new(alloc);
+    out.push_str(place)?;
+    out.push_str(": ")?;
+    out.push_str(sentence.as_str())?;
+    out.push_str("\n")?;
+    out.push_str(rest.as_str())?;
+    Ok(out)
+}
+
+/// A refusal with its fault, and what is told of it.
+fn refused(
+    alloc: Global,
+    files: &[SourceFile],
+    refusal: Refusal,
+    first: &str,
+) -> Result<Unlowered, NoMemory>
+    ensures { IfOk result (TellsRefusal files.now first.now refusal) }
+{
+    let place = where_words(alloc, files, refusal.place)?;
+    let told = told_of(alloc, files, refusal, first, place.as_str())?;
+    Ok(Unlowered {
+        failure: Failure::from(fault_of(refusal, place)),
+        told: Some(told),
+    })
+}
+
+/// Why a program of these files isn't lowered. Of a refusal something may be said first.
+pub(crate) fn unlowered_by(
+    alloc: Global,
+    files: &[SourceFile],
+    stop: Stop,
+    first: &str,
+) -> Unlowered
+    ensures { IsTold files.now first.now stop result }
+{
+    match stop {
+        Stop::NoMemory => Unlowered::from(Fault::no_memory()),
+        Stop::Refused(refusal) => match refused(alloc, files, refusal, first) {
+            Ok(unlowered) => unlowered,
+            Err(error) => Unlowered::from(error),
+        },
+    }
+}
+
+/// What is told of a tree of these files that has no flat program.
+fn told_of_tree(
+    alloc: Global,
+    files: &[SourceFile],
+    ast: &Ast,
+    refusal: &ProgramRefusal,
+) -> Result<String, NoMemory>
+    requires files { AreOfTexts files.now }
+    requires tells { Tells (tree_view ast.now) refusal.now }
+    ensures { IfOk result (λ words. IsToldTree files.now ast.now.items.items (cause_of refusal.now) (string_bytes words)) }
+{
+    let joined = join_files(alloc, files)?;
+    tell_refusal_in(
+        alloc,
+        &joined.text,
+        &joined.tokens,
+        &joined.pages,
+        ast,
+        refusal,
+    )
+}
+
+/// Why a tree of these files has no flat program.
+pub(crate) fn unlowered_tree(
+    alloc: Global,
+    files: &[SourceFile],
+    ast: &Ast,
+    refusal: &ProgramRefusal,
+) -> Unlowered
+    requires files { AreOfTexts files.now }
+    requires tells { Tells (tree_view ast.now) refusal.now }
+    ensures { TellsTree files.now ast.now.items.items (cause_of refusal.now) result }
+{
+    let failure = Failure::from(Fault::program(refusal.fault()));
+    match told_of_tree(alloc, files, ast, refusal) {
+        Ok(told) => Unlowered {
+            failure,
+            told: Some(told),
+        },
+        Err(error) => Unlowered::from(error),
+    }
+}

@@ -1,0 +1,52 @@
+-- What is read of a text: its tree, or why it has none.
+use Rattle.std.specs.Prelude.{◌≡◌, ℕ, List, Option, Some, None, IfErr, IsSomeAnd, Result, Ok, Err, slice_get}
+use Rattle.lft_whole.specs.Pieces.{tokens_of}
+use Rattle.lft_whole.specs.Places.{IsAmong}
+use Rattle.lft_whole.specs.declared.fault.TextFault.TheVariants.{BadText}
+use Rattle.lft_whole.specs.declared.fault.TreeFault.{TreeFault}
+use Rattle.lft_whole.specs.declared.fault.TreeFault.TheVariants as faults
+use Rattle.lft_whole.specs.declared.token.Token.{Token}
+use Rattle.lft_whole.specs.declared.tree.File.{File}
+use Rattle.lft_whole.specs.Parts.Tree.{FileTree}
+use Rattle.lft_whole.specs.Parts.View.{file_view}
+use Rattle.lft_whole_parser.specs.Files.{reads}
+use Rattle.lft_whole.specs.declared.sources.source.Spot.{Spot}
+use Rattle.lft_whole.specs.declared.sources.why.Why.{Why}
+use Rattle.lft_whole.specs.declared.sources.why.Why.TheVariants as why
+use Rattle.lft_whole_parser.specs.declared.imports.reading.Refused.{Refused}
+use Rattle.lft_whole_parser.specs.declared.imports.reading.Text.{Text}
+use Rattle.lft_whole_parser.specs.Imports.Places.{AreSpots, IsSpot}
+
+-- The text is cut into tokens, which have these spots, and the grammar reads this from them: a tree, or a fault at one of them or at their end.
+pub record ReadsAs (t : List ℕ) (spots : List Spot) (read : Result FileTree TreeFault) : Type 0 where
+  pub tokens : List Token
+  pub cut : tokens_of t ≡ Ok tokens
+  pub are_spots : AreSpots t tokens spots
+  pub is_read : reads t tokens ≡ read
+  pub among : IfErr read (IsAmong tokens)
+
+-- The text reads as this tree, and its tokens have these spots.
+abbrev pub HasTree : List ℕ → List Spot → File → Type 0
+HasTree t spots tree = ReadsAs t spots (Ok (file_view tree))
+
+-- A byte of the text begins no token, and stands at this spot.
+abbrev pub IsNotCut : List ℕ → Spot → Type 0
+IsNotCut t spot = (at : ℕ) × (tokens_of t ≡ Err (BadText at)) × IsSpot t at spot
+
+-- The text has no tree: a byte begins no token, a token can't stand where it does, or it is the `<` of a package.
+abbrev pub HasNoTree : List ℕ → List Spot → ℕ → Why → Type 0
+HasNoTree t spots token why.NotText = IsSomeAnd (slice_get spots token) (IsNotCut t)
+HasNoTree t spots token why.Unexpected = ReadsAs t spots (Err (faults.Unexpected token))
+HasNoTree t spots token why.Package = ReadsAs t spots (Err (faults.Package token))
+HasNoTree t spots token _ = ⊥
+
+-- ---- for the crate's own contracts
+
+-- The text has this tree, if it isn't refused; else it has none.
+abbrev pub IsReadAs : List ℕ → List Spot → File → Option Refused → Type 0
+IsReadAs t spots tree None = HasTree t spots tree
+IsReadAs t spots tree (Some refused) = HasNoTree t spots refused.token refused.why
+
+-- This is read of the text.
+abbrev pub IsRead : List ℕ → Text → Type 0
+IsRead t read = IsReadAs t read.spots.items read.tree read.refused

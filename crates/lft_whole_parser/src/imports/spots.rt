@@ -1,0 +1,86 @@
+//! Where the tokens of a text stand, by line and column.
+
+ghost use Rattle.std.specs.Prelude.{◌≡◌, ◌+◌, ◌<◌, ◌≤◌, IfOk, length};
+ghost use Rattle.lft_whole_parser.specs.Imports.Places.{AreSpots, IsSpot};
+ghost use Rattle.lft_text_diagnostics.specs.Places.{begins_letter as is_begin};
+ghost use Rattle.lft_whole.specs.Tokens.{AreTokens};
+
+use lft_whole::Token;
+use lft_whole::sources::Spot;
+use std::alloc::{AllocError, Global};
+
+/// Whether a letter of UTF-8 begins with the byte.
+fn begins_letter(byte: u8) -> bool
+    ensures { result ≡ is_begin byte }
+{
+    !(128 <= byte && byte <= 191)
+}
+
+/// The spot of the first byte.
+fn first(text: &[u8]) -> Spot
+    ensures { IsSpot text.now 0 result }
+{
+    Spot { line: 1, column: 1 }
+}
+
+/// The spot behind a byte.
+fn after(text: &[u8], at: usize, spot: Spot) -> Spot
+    requires inside { at < length text.now }
+    requires spot { IsSpot text.now at spot }
+    ensures { IsSpot text.now (at + 1) result }
+{
+    let byte = text[at];
+    if byte == b'\n' {
+        return Spot {
+            line: spot.line + 1,
+            column: 1,
+        };
+    }
+    if begins_letter(byte) {
+        return Spot {
+            line: spot.line,
+            column: spot.column + 1,
+        };
+    }
+    spot
+}
+
+/// The spot of a byte further on.
+pub(crate) fn spot_at(text: &[u8], from: usize, spot: Spot, to: usize) -> Spot
+    requires order { from ≤ to }
+    requires inside { to ≤ length text.now }
+    requires spot { IsSpot text.now from spot }
+    ensures { IsSpot text.now to result }
+{
+    let mut here = spot;
+    for at in from..to {
+        here = after(text, at, here);
+    }
+    here
+}
+
+/// Where each token of a text begins, and last where the text ends.
+pub(crate) fn spots(alloc: Global, text: &[u8], tokens: &[Token]) -> Result<Vec<Spot>, AllocError>
+    requires { AreTokens text.now tokens.now }
+    ensures { IfOk result (λ spots. AreSpots text.now tokens.now spots.items) }
+{
+    let mut spots = Vec::new(alloc);
+    let mut spot = first(text);
+    let mut from = 0;
+    for place in 0..tokens.len() {
+        let start = tokens[place].start;
+        spot = spot_at(text, from, spot, start);
+        from = start;
+        spots.push(spot)?;
+    }
+    spots.push(spot_at(text, from, spot, text.len()))?;
+    Ok(spots)
+}
+
+/// Where a byte of a text stands.
+pub(crate) fn spot_of(text: &[u8], at: usize) -> Spot
+    requires { at ≤ length text.now }
+    ensures { IsSpot text.now at result }
+{
+    spot_at(text, 0, first(text), at)
+}

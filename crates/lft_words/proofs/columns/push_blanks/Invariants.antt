@@ -1,5 +1,0 @@
-use Rattle.std.proofs.Common.{◌≡◌, ◌++◌, replicate, string_bytes}
-use Rattle.lft_words.proofs.columns.push_blanks.Given as goal
-
-abbrev pub invariant-loop-blank : goal.invariant-loop-blank
-invariant-loop-blank l = string_bytes l.text ≡ string_bytes l.fn.text ++ replicate l._blank 32
