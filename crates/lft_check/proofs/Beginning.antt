@@ -1,15 +1,12 @@
 -- Where the slices from a tag on begin.
 use Rattle.std.proofs.Common.{◌≡◌, ℕ, ◌+◌, ◌<◌, ◌≤◌, ◌⊎◌, inl, inr, List, length, subst, arith, Some, slice_get}
 use native.Mathlib.Decide.{dec_lt}
-use Rattle.lft_tag.specs.declared.Tag.{Tag}
-use Rattle.lft_tag.specs.Tags.{Before, UpTo}
-use Rattle.lft_tag.proofs.Order.{order_cases, UpTo-trans, Before-weaken}
+use Rattle.lft_tag.{specs.{declared.Tag.Tag, Tags.{Before, UpTo}}, proofs.Order.{order_cases, UpTo-trans, Before-weaken}}
 use Rattle.lft_lists.proofs.Places.{same_at}
 use Rattle.lft_ir.specs.declared.steps.row.Row.{Row}
 use Rattle.lft_model.proofs.Places.{slice_get_within}
 use Rattle.lft_rows.specs.declared.slices.Slice.{Slice}
-use Rattle.lft_check.specs.ByTag.Slices.{AreSlices}
-use Rattle.lft_check.specs.Verdicts.{IsBegin}
+use Rattle.lft_check.specs.{ByTag.Slices.AreSlices, Verdicts.IsBegin}
 
 pub not_before : (g low : Tag) → ¬ Before g low → UpTo low g
 not_before g low n = go (order_cases g low)

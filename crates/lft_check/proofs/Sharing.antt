@@ -1,19 +1,11 @@
 -- What several workers find together is what one finds.
 use Rattle.std.proofs.Common.{◌≡◌, ℕ, zero, suc, ◌+◌, ◌/◌, ◌<◌, ◌≤◌, ◌⊎◌, inl, inr, List, length, refl, sym, ap, ◌∙◌, subst, arith, Option, Some, None, Result, Ok, IfOk, slice_get}
-use Rattle.std.proofs.Math.Nat.{zero-mul, zero-div, mul-div_cancel_left}
-use Rattle.std.proofs.lemmas.Option.{get_or_from_slice_get}
-use Rattle.std.proofs.lemmas.Bool.{cases_lt}
+use Rattle.std.proofs.{Math.Nat.{zero-mul, zero-div, mul-div_cancel_left}, lemmas.{Option.get_or_from_slice_get, Bool.cases_lt}}
 use native.Mathlib.Decide.{ℕ_discrete}
-use Rattle.lft_tag.specs.declared.Tag.{Tag}
-use Rattle.lft_tag.specs.declared.NoMemory.{NoMemory}
-use Rattle.lft_model.specs.declared.breach.Breach.{Breach}
-use Rattle.lft_model.specs.Breaches.{TagOrder}
-use Rattle.lft_model.proofs.Places.{slice_get_within}
-use Rattle.lft_rows.specs.declared.slices.Slice.{Slice}
-use Rattle.lft_rows.specs.Presence.Traces.{TraceParts}
-use Rattle.lft_check.specs.Verdicts.{LeastOf, BreachIn}
-use Rattle.lft_check.specs.Least.{IsLesser}
-use Rattle.lft_check.specs.Shares.{share_start, IsLeastOfShare, AreShares, IsFound, AreOk}
+use Rattle.lft_tag.specs.declared.{Tag.Tag, NoMemory.NoMemory}
+use Rattle.lft_model.{specs.{declared.breach.Breach.Breach, Breaches.TagOrder}, proofs.Places.slice_get_within}
+use Rattle.lft_rows.specs.{declared.slices.Slice.Slice, Presence.Traces.TraceParts}
+use Rattle.lft_check.specs.{Verdicts.{LeastOf, BreachIn}, Least.IsLesser, Shares.{share_start, IsLeastOfShare, AreShares, IsFound, AreOk}}
 use Rattle.lft_check.proofs.Whole.{Under, under_first, under_second, pick, least_under, order_trans}
 
 -- each place below the start of the k-th share is in the share of one of the first k workers

@@ -1,10 +1,8 @@
 -- The tags of a trace, shared out among workers. This serves the proof of the verdict alone.
 use Rattle.std.specs.Prelude.{◌≡◌, ℕ, ◌+◌, ◌*◌, ◌/◌, ◌<◌, List, length, Option, Some, Result, Ok, IfOk, slice_get, slice_index_or}
-use Rattle.lft_tag.specs.declared.Tag.{Tag}
-use Rattle.lft_tag.specs.declared.NoMemory.{NoMemory}
+use Rattle.lft_tag.specs.declared.{Tag.Tag, NoMemory.NoMemory}
 use Rattle.lft_model.specs.declared.breach.Breach.{Breach}
-use Rattle.lft_rows.specs.declared.slices.Slice.{Slice}
-use Rattle.lft_rows.specs.Presence.Traces.{TraceParts}
+use Rattle.lft_rows.specs.{declared.slices.Slice.Slice, Presence.Traces.TraceParts}
 use Rattle.lft_check.specs.Verdicts.{LeastOf, BreachIn}
 
 -- where the share of the k-th of so many workers begins

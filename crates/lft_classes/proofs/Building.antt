@@ -1,9 +1,7 @@
 -- Lists that are made one item after another.
 use Rattle.std.proofs.Common.{◌≡◌, ℕ, ◌+◌, ◌<◌, List, [], ◌∷◌, ◌++◌, length, take, map, get_or, append-nil, append_assoc, Some, inl, inr, slice_get, sym, ap, subst, ◌∙◌, arith}
 use Rattle.std.specs.Prelude.{flat_map}
-use Rattle.std.proofs.lemmas.Bool.{cases_lt}
-use Rattle.std.proofs.lemmas.List.{take_more, map-append}
-use Rattle.std.proofs.lemmas.Grind.{flat_map-append}
+use Rattle.std.proofs.lemmas.{Bool.cases_lt, List.{take_more, map-append}, Grind.flat_map-append}
 use Rattle.lft_lists.proofs.Places.{same_at}
 
 -- an item more behind others, of which the image is that of the next one

@@ -1,28 +1,16 @@
 -- Which parameters reactors need.
 use Rattle.std.proofs.Common.{◌≡◌, ◌≢◌, ◌↔◌, ◌⊎◌, ◌<◌, ◌+◌, ℕ, Bool, true, inl, inr, List, Option, Some, Vec, length, option_map, slice_get, slice_set, string_bytes, refl, sym, ap, subst, ◌∙◌, arith}
-use Rattle.std.specs.Global.{Global}
-use Rattle.std.specs.Option.{option_and_then}
-use Rattle.std.proofs.lemmas.Bool.{cases_eq}
-use Rattle.std.proofs.lemmas.Option.{slice_get_within}
+use Rattle.std.{specs.{Global.Global, Option.option_and_then}, proofs.lemmas.{Bool.cases_eq, Option.slice_get_within}}
 use Rattle.lft_lists.proofs.Mapped.{mapped, mapped_from}
 use Rattle.lft_lists.proofs.Places.{Some_same, contains_at, get_push, get_push_cases, get_there, get_unwritten, get_write_cases, same_some}
-use Rattle.lft_whole.specs.declared.tree.Instance.{Instance}
-use Rattle.lft_whole.specs.declared.tree.Member.{Member}
-use Rattle.lft_whole.specs.declared.tree.Member.TheVariants as member
-use Rattle.lft_classes.specs.declared.scopes.Scopes.{Scopes}
-use Rattle.lft_classes.specs.declared.shapes.Child.{Child}
-use Rattle.lft_classes.specs.declared.shapes.Inherited.{Inherited}
-use Rattle.lft_classes.specs.declared.shapes.Shape.{Shape}
-use Rattle.lft_classes.specs.declared.shapes.Thing.TheVariants as thing
-use Rattle.lft_classes.specs.Built.{AreNoted, Core, IsBuilt, core, cores, instance_of}
-use Rattle.lft_classes.specs.Chains.{extended}
-use Rattle.lft_classes.specs.Makings.{AreShapes}
+use Rattle.lft_whole.specs.declared.tree.{Instance.Instance, Member.Member}
+use Rattle.lft_classes.specs.declared.{scopes.Scopes.Scopes, shapes.{Child.Child, Inherited.Inherited, Shape.Shape}}
+use Rattle.lft_classes.specs.{Built.{AreNoted, Core, IsBuilt, core, cores, instance_of}, Chains.extended, Makings.AreShapes}
 use Rattle.lft_classes.specs.Needs.{AreMarks, Gives, HasMember, HasNeed, IsDecided, IsMarked, IsParameter, IsReady, IsReadyAt, NamedFor, Need, NeedsName, NeedsNumber, PassesOn, Times, Widths, by_instance, by_member}
-use Rattle.lft_classes.specs.Shapes.{child_at, inside, tables}
-use Rattle.lft_classes.specs.Walks.{IsBehind, Ways, nothing, one}
-use Rattle.lft_classes.proofs.Building.{below_one}
-use Rattle.lft_classes.proofs.Goings.{noted_child}
-use Rattle.lft_classes.proofs.Needing.{declared, member_of, one_name}
+use Rattle.lft_classes.specs.{Shapes.{child_at, inside, tables}, Walks.{IsBehind, Ways, nothing, one}}
+use Rattle.lft_classes.proofs.{Building.below_one, Goings.noted_child, Needing.{declared, member_of, one_name}}
+use Rattle.lft_whole.specs.declared.tree.Member.TheVariants as member
+use Rattle.lft_classes.specs.declared.shapes.Thing.TheVariants as thing
 
 -- the shape that is noted in a member is that of its reactor
 pub inner_means : (scopes : Scopes) (first : ℕ) (shapes : List Shape) (s k : ℕ) (shape : Shape) (m : Inherited) (t : ℕ) (inner : Shape) → AreShapes scopes first (cores shapes) (tables shapes) → slice_get shapes s ≡ Some shape → slice_get shape.members.items k ≡ Some m → inside (tables shapes) s k ≡ Some t → slice_get shapes t ≡ Some inner → instance_of scopes (m.file, m.member.now) ≡ Some inner.class.number

@@ -2,14 +2,11 @@
 use Rattle.std.proofs.Common.{◌≡◌, ℕ, inl, inr, List, [], ◌∷◌, ◌++◌, Some, Contains, length, get_or, slice_get, sym, ap, subst, ◌∙◌, arith}
 use Rattle.std.specs.Prelude.{All, Option}
 use Rattle.std.specs.List.Sorted.{IsNonDecreasingBy, IsPermutation}
-use Rattle.std.proofs.lemmas.List.Elements.{All-contains}
-use Rattle.std.proofs.lemmas.List.Sorted.{All-permutation, Contains-permutation, length_permutation}
+use Rattle.std.proofs.lemmas.List.{Elements.All-contains, Sorted.{All-permutation, Contains-permutation, length_permutation}}
 use Rattle.std.proofs.lemmas.Option.{slice_get-get_or, slice_get_within}
 use Rattle.lft_lists.proofs.Places.{at_contains, contains_at, get_push_cases, get_there, same_at}
 use Rattle.lft_whole.specs.declared.tree.Assignment.{Assignment}
-use Rattle.lft_classes.specs.declared.shapes.Given.{Given}
-use Rattle.lft_classes.specs.declared.shapes.Thing.{Thing}
-use Rattle.lft_classes.specs.Built.{AreGiven, IsOf}
+use Rattle.lft_classes.specs.{declared.shapes.{Given.Given, Thing.Thing}, Built.{AreGiven, IsOf}}
 
 -- one value more that is noted, behind those for what is written before it
 pub noted_more : (things : List ℕ → Option Thing) (written : List Assignment) (given new : List Given) (y : Given) → new ≡ given ++ y ∷ [] → (a : Assignment) → slice_get written (length given) ≡ Some a → IsOf things a y → ((k : ℕ) (b : Assignment) (g : Given) → slice_get written k ≡ Some b → slice_get given k ≡ Some g → IsOf things b g) → (k : ℕ) (b : Assignment) (g : Given) → slice_get written k ≡ Some b → slice_get new k ≡ Some g → IsOf things b g

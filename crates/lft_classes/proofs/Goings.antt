@@ -1,17 +1,9 @@
 -- What stays where shapes are made.
 use Rattle.std.proofs.Common.{◌≡◌, ◌⊎◌, ◌+◌, ◌<◌, ◌≤◌, ℕ, inl, inr, List, [], ◌∷◌, ◌++◌, Option, Some, None, length, option_map, slice_get, slice_set, refl, sym, ap, subst, ◌∙◌, arith}
-use Rattle.std.specs.Option.{option_and_then}
-use Rattle.std.proofs.lemmas.List.{length-map}
-use Rattle.std.proofs.lemmas.Bool.{cases_lt}
-use Rattle.std.proofs.lemmas.Option.{option_and_then_some, slice_get_within}
+use Rattle.std.{specs.Option.option_and_then, proofs.lemmas.{List.length-map, Bool.cases_lt, Option.{option_and_then_some, slice_get_within}}}
 use Rattle.lft_lists.proofs.Mapped.{mapped, mapped_from, option_map_some}
 use Rattle.lft_lists.proofs.Places.{get_last, get_left, get_push, get_there, get_unwritten, get_written, get_push_cases, get_write_cases, same_some}
-use Rattle.lft_classes.specs.declared.making.Making.{Making}
-use Rattle.lft_classes.specs.declared.scopes.Class.{Class}
-use Rattle.lft_classes.specs.declared.scopes.Scopes.{Scopes}
-use Rattle.lft_classes.specs.declared.shapes.Child.{Child}
-use Rattle.lft_classes.specs.declared.shapes.Shape.{Shape}
-use Rattle.lft_classes.specs.Below.{IsBelow, itself}
+use Rattle.lft_classes.specs.{declared.{making.Making.Making, scopes.{Class.Class, Scopes.Scopes}, shapes.{Child.Child, Shape.Shape}}, Below.{IsBelow, itself}}
 use Rattle.lft_classes.specs.Built.{Core, IsBuilt, AreBuilt, AreInside, AreNoted, IsInside, IsNoted, core, cores, first_class}
 use Rattle.lft_classes.specs.Makings.{AddsShape, AreMade, AreShapes, GoesOn, HasChildren, IsOfClass, KeepsBut, KeepsNoted, SetsOne}
 use Rattle.lft_classes.specs.Shapes.{child_at, child_in, inside, tables}

@@ -1,15 +1,9 @@
 -- In which order a walk lists, and the bases of a reactor.
 use Rattle.std.proofs.Common.{◌≡◌, ℕ, zero, suc, ◌≤◌, ◌⊎◌, inl, inr, Bool, true, List, [], ◌∷◌, ◌++◌, Option, Some, None, drop, filter_map, reverse, slice_get, refl, sym, ap, subst, ◌∙◌, arith}
-use Rattle.std.specs.List.{cons_option}
-use Rattle.std.specs.Option.{option_and_then}
-use Rattle.std.proofs.lemmas.List.{reverse-append}
+use Rattle.std.{specs.{List.cons_option, Option.option_and_then}, proofs.lemmas.List.reverse-append}
 use Rattle.lft_lists.proofs.Places.{get_last, get_push_cases}
-use Rattle.lft_classes.specs.declared.scopes.Class.{Class}
-use Rattle.lft_classes.specs.declared.scopes.Scopes.{Scopes}
-use Rattle.lft_classes.specs.declared.walk.Visit.{Visit}
-use Rattle.lft_classes.specs.Chains.{base_in, base_of, bases_from, bases_in, extended}
-use Rattle.lft_classes.specs.Scopes.{class_at}
-use Rattle.lft_classes.specs.Walks.{EndsIn, Has, Lists, again, new, no_more}
+use Rattle.lft_classes.specs.{declared.{scopes.{Class.Class, Scopes.Scopes}, walk.Visit.Visit}, Chains.{base_in, base_of, bases_from, bases_in, extended}}
+use Rattle.lft_classes.specs.{Scopes.class_at, Walks.{EndsIn, Has, Lists, again, new, no_more}}
 use Rattle.lft_classes.proofs.Walking.{same_last}
 
 -- one that stands already adds nothing

@@ -1,7 +1,6 @@
 -- What is marked in lists.
 use Rattle.std.proofs.Common.{◌≡◌, ◌↔◌, ◌⊎◌, ◌<◌, ◌≤◌, ◌+◌, ℕ, Bool, true, inl, inr, List, Some, length, slice_get, slice_set, refl, sym, subst, ◌∙◌, arith}
-use Rattle.std.proofs.lemmas.Bool.{cases_eq}
-use Rattle.std.proofs.lemmas.Option.{slice_get_within}
+use Rattle.std.proofs.lemmas.{Bool.cases_eq, Option.slice_get_within}
 use Rattle.lft_lists.proofs.Places.{get_there, get_unwritten, get_write_cases, get_written, length_written, same_at}
 use Rattle.lft_classes.specs.Needs.{Marks}
 

@@ -1,22 +1,13 @@
 -- The names of parameters and members.
 use Rattle.std.proofs.Common.{◌≡◌, ℕ, zero, suc, ◌≤◌, inl, inr, Bool, true, false, List, [], ◌∷◌, ◌++◌, map, Option, Some, bytes_eq, option_map, length, slice_get, string_bytes, refl, sym, ap, subst, ◌∙◌, arith}
 use Rattle.std.specs.Prelude.{if◌then◌else◌, unwrap_or}
-use Rattle.std.specs.Option.{option_and_then}
-use Rattle.std.proofs.lemmas.Option.{option_and_then_some}
-use Rattle.std.proofs.lemmas.Slice.Eq.{bytes_eq-Decides}
-use Rattle.lft_lists.proofs.Mapped.{option_map_some}
-use Rattle.lft_lists.proofs.Places.{get_last, get_push, get_push_cases, Some_same}
-use Rattle.lft_resolve.specs.Places.{IsIndexOf, place, place_in}
-use Rattle.lft_resolve.specs.declared.index.Index.{Index}
+use Rattle.std.{specs.Option.option_and_then, proofs.lemmas.{Option.option_and_then_some, Slice.Eq.bytes_eq-Decides}}
+use Rattle.lft_lists.proofs.{Mapped.option_map_some, Places.{get_last, get_push, get_push_cases, Some_same}}
+use Rattle.lft_resolve.specs.{Places.{IsIndexOf, place, place_in}, declared.index.Index.Index}
 use Rattle.lft_whole.specs.declared.tree.Name.{Name}
-use Rattle.lft_classes.specs.declared.shapes.Inherited.{Inherited}
-use Rattle.lft_classes.specs.declared.shapes.InheritedParameter.{InheritedParameter}
-use Rattle.lft_classes.specs.declared.shapes.Named.{Named}
-use Rattle.lft_classes.specs.declared.shapes.Thing.{Thing}
+use Rattle.lft_classes.specs.{declared.shapes.{Inherited.Inherited, InheritedParameter.InheritedParameter, Named.Named, Thing.Thing}, Built.HasName}
+use Rattle.lft_classes.specs.{Naming.{EachNamed, HasNamed}, Shapes.name_of}
 use Rattle.lft_classes.specs.declared.shapes.Thing.TheVariants as thing
-use Rattle.lft_classes.specs.Built.{HasName}
-use Rattle.lft_classes.specs.Naming.{EachNamed, HasNamed}
-use Rattle.lft_classes.specs.Shapes.{name_of}
 
 module _ {X : Type 0} (name : X → List ℕ) (q : List ℕ) where
   place_step : (y : X) (ys : List X) (k : ℕ) (x : X) (b : Bool) → bytes_eq q (name y) ≡ b → (if b then Some 0 else option_map suc (place q (map name ys))) ≡ Some k → slice_get (y ∷ ys) k ≡ Some x → ((j : ℕ) → place q (map name ys) ≡ Some j → slice_get ys j ≡ Some x → q ≡ name x) → q ≡ name x

@@ -2,22 +2,14 @@
 use Rattle.std.proofs.Common.{◌≡◌, ℕ, inl, inr, List, Some, map, slice_get, string_bytes, refl, sym, ap, ◌∙◌}
 use Rattle.std.specs.Prelude.{flat_map}
 use Rattle.std.specs.Option.{option_and_then}
-use Rattle.lft_lists.proofs.Mapped.{mapped, mapped_from}
-use Rattle.lft_lists.proofs.Members.{get_mem, mem_flat, mem_get}
-use Rattle.lft_lists.proofs.Places.{get_push, get_push_cases, same_some}
-use Rattle.lft_whole.specs.declared.tree.Instance.{Instance}
-use Rattle.lft_whole.specs.declared.tree.Member.{Member}
-use Rattle.lft_whole.specs.declared.tree.Member.TheVariants as member
-use Rattle.lft_classes.specs.declared.scopes.Scopes.{Scopes}
-use Rattle.lft_classes.specs.declared.shapes.Inherited.{Inherited}
-use Rattle.lft_classes.specs.declared.shapes.InheritedParameter.{InheritedParameter}
-use Rattle.lft_classes.specs.declared.shapes.Thing.TheVariants as thing
-use Rattle.lft_classes.specs.Below.{IsBelow, base, inner, instance_at}
-use Rattle.lft_classes.specs.Built.{Core, IsBuilt, instance_of, members_at}
-use Rattle.lft_classes.specs.Chains.{base_of}
-use Rattle.lft_classes.specs.Needs.{HasMember}
+use Rattle.lft_lists.proofs.{Mapped.{mapped, mapped_from}, Members.{get_mem, mem_flat, mem_get}, Places.{get_push, get_push_cases, same_some}}
+use Rattle.lft_whole.specs.declared.tree.{Instance.Instance, Member.Member}
+use Rattle.lft_classes.specs.declared.{scopes.Scopes.Scopes, shapes.{Inherited.Inherited, InheritedParameter.InheritedParameter}}
+use Rattle.lft_classes.specs.{Below.{IsBelow, base, inner, instance_at}, Built.{Core, IsBuilt, instance_of, members_at}, Chains.base_of, Needs.HasMember}
 use Rattle.lft_classes.specs.Walks.{Has, IsBehind, IsList, Reaches, Ways, further, itself, nothing, one}
 use Rattle.lft_classes.proofs.Refusing.{listed_of}
+use Rattle.lft_whole.specs.declared.tree.Member.TheVariants as member
+use Rattle.lft_classes.specs.declared.shapes.Thing.TheVariants as thing
 
 -- a list has what those in it lead to
 pub closed_under : (next : Ways) (list : List ℕ) → IsBehind next list → (x k r : ℕ) → Has list x → next x k ≡ Some r → Has list r

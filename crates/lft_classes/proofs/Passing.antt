@@ -1,25 +1,16 @@
 -- What a member of a shape needs.
 use Rattle.std.proofs.Common.{◌≡◌, ◌↔◌, ◌⊎◌, ◌≤◌, ℕ, zero, suc, Bool, true, false, inl, inr, Contains, List, [], ◌∷◌, Option, Some, None, String, length, replicate, slice_get, string_bytes, refl, sym, ap, subst, ◌∙◌, arith}
-use Rattle.std.specs.Global.{Global}
-use Rattle.std.proofs.lemmas.Option.{slice_get_within}
+use Rattle.std.{specs.Global.Global, proofs.lemmas.Option.slice_get_within}
 use Rattle.lft_lists.proofs.Places.{at_contains, contains_at, get_same, get_there, length_same, same_some}
-use Rattle.lft_whole.specs.declared.tree.Assignment.{Assignment}
-use Rattle.lft_whole.specs.declared.tree.Count.TheVariants as count
-use Rattle.lft_whole.specs.declared.tree.Expression.{Expression}
-use Rattle.lft_whole.specs.declared.tree.Instance.{Instance}
-use Rattle.lft_whole.specs.declared.tree.Member.{Member}
-use Rattle.lft_whole.specs.declared.tree.Member.TheVariants as member
-use Rattle.lft_whole.specs.declared.tree.Term.{Term}
-use Rattle.lft_whole.specs.declared.tree.Value.TheVariants as value
-use Rattle.lft_whole.specs.declared.tree.Width.{Width}
-use Rattle.lft_classes.specs.declared.shapes.Child.{Child}
-use Rattle.lft_classes.specs.declared.shapes.Inherited.{Inherited}
-use Rattle.lft_classes.specs.declared.shapes.Shape.{Shape}
-use Rattle.lft_classes.specs.declared.shapes.Thing.TheVariants as thing
-use Rattle.lft_classes.specs.Circles.{NamesAt}
+use Rattle.lft_whole.specs.declared.tree.{Assignment.Assignment, Expression.Expression, Instance.Instance, Member.Member, Term.Term, Width.Width}
+use Rattle.lft_classes.specs.{declared.shapes.{Child.Child, Inherited.Inherited, Shape.Shape}, Circles.NamesAt}
 use Rattle.lft_classes.specs.Needs.{AreMarks, HasNeed, IsMarked, IsParameter, IsParameterIn, IsPassed, IsPassedIn, IsTimeIn, IsWord, Marks, NamesNumber, NamesParameter, Need, PassesOn, Times, Widths, times_of}
 use Rattle.lft_classes.specs.Shapes.{child_at, width_of}
 use Rattle.lft_classes.proofs.Marking.{AnyBelow}
+use Rattle.lft_whole.specs.declared.tree.Count.TheVariants as count
+use Rattle.lft_whole.specs.declared.tree.Member.TheVariants as member
+use Rattle.lft_whole.specs.declared.tree.Value.TheVariants as value
+use Rattle.lft_classes.specs.declared.shapes.Thing.TheVariants as thing
 
 -- a name is that of one parameter
 pub one_number : (shape : Shape) (q : List ℕ) (m n : ℕ) → IsParameter shape q m → IsParameter shape q n → m ≡ n

@@ -1,11 +1,7 @@
 -- A set of numbers with one more.
 use Rattle.std.proofs.Common.{◌≡◌, ℕ, ◌⊎◌, inl, inr, Bool, true, false, not, [], refl, sym, ap, subst, ◌∙◌}
-use Rattle.std.specs.List.{list_any}
-use Rattle.std.specs.BTreeSet.{BTreeSet, contains, Updates}
-use Rattle.std.specs.BTreeMap.{is_at}
-use Rattle.std.specs.Ordering.{nat_cmp}
-use Rattle.std.proofs.lemmas.Bool.{cases_eq}
-use Rattle.std.proofs.lemmas.Map.Lookups.{exact_unsigned}
+use Rattle.std.specs.{List.list_any, BTreeSet.{BTreeSet, contains, Updates}, BTreeMap.is_at, Ordering.nat_cmp}
+use Rattle.std.proofs.lemmas.{Bool.cases_eq, Map.Lookups.exact_unsigned}
 use Rattle.lft_tag.proofs.Comparing.{not_equal}
 
 apart : (k q : ℕ) → (q ≡ k → ⊥) → is_at (nat_cmp k) q ≡ false

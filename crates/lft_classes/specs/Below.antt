@@ -1,9 +1,7 @@
 -- The reactors that the main one needs.
 use Rattle.std.specs.Prelude.{◌≡◌, ℕ, Option, Some, slice_get}
 use Rattle.std.specs.Option.{option_and_then}
-use Rattle.lft_classes.specs.declared.scopes.Scopes.{Scopes}
-use Rattle.lft_classes.specs.Built.{instance_of, members_at}
-use Rattle.lft_classes.specs.Chains.{base_of}
+use Rattle.lft_classes.specs.{declared.scopes.Scopes.Scopes, Built.{instance_of, members_at}, Chains.base_of}
 
 -- the number of the reactor of which the member of this number is an instance, among those that a reactor declares
 abbrev pub instance_at : Scopes → ℕ → ℕ → Option ℕ

@@ -1,26 +1,12 @@
 -- What reactors inherit.
 use Rattle.std.specs.Prelude.{◌≡◌, ◌≢◌, ◌↔◌, ℕ, List, [], Option, Some, None, Contains, length, map, flat_map, option_map, slice_get, string_bytes}
 use Rattle.std.specs.List.Sorted.{IsNonDecreasingBy}
-use Rattle.lft_whole.specs.declared.tree.Assignment.{Assignment}
-use Rattle.lft_whole.specs.declared.tree.Foreign.{Foreign}
-use Rattle.lft_whole.specs.declared.tree.Instance.{Instance}
-use Rattle.lft_whole.specs.declared.tree.Member.{Member}
+use Rattle.lft_whole.specs.declared.tree.{Assignment.Assignment, Foreign.Foreign, Instance.Instance, Member.Member, Name.Name, Parameter.Parameter}
+use Rattle.lft_classes.specs.declared.scopes.{Class.Class, Scopes.Scopes}
+use Rattle.lft_classes.specs.declared.shapes.{Child.Child, Given.Given, Inherited.Inherited, InheritedParameter.InheritedParameter, Shape.Shape, Thing.Thing}
+use Rattle.lft_classes.specs.{Chains.{IsChain, extended}, Circles.GivesOnce, Scopes.class_at, Shapes.{child_in, inside, name_of, thing_named}}
 use Rattle.lft_whole.specs.declared.tree.Member.TheVariants as member
-use Rattle.lft_whole.specs.declared.tree.Name.{Name}
-use Rattle.lft_whole.specs.declared.tree.Parameter.{Parameter}
-use Rattle.lft_classes.specs.declared.scopes.Class.{Class}
-use Rattle.lft_classes.specs.declared.scopes.Scopes.{Scopes}
-use Rattle.lft_classes.specs.declared.shapes.Child.{Child}
-use Rattle.lft_classes.specs.declared.shapes.Given.{Given}
-use Rattle.lft_classes.specs.declared.shapes.Inherited.{Inherited}
-use Rattle.lft_classes.specs.declared.shapes.InheritedParameter.{InheritedParameter}
-use Rattle.lft_classes.specs.declared.shapes.Shape.{Shape}
-use Rattle.lft_classes.specs.declared.shapes.Thing.{Thing}
 use Rattle.lft_classes.specs.declared.shapes.Thing.TheVariants as thing
-use Rattle.lft_classes.specs.Chains.{IsChain, extended}
-use Rattle.lft_classes.specs.Circles.{GivesOnce}
-use Rattle.lft_classes.specs.Scopes.{class_at}
-use Rattle.lft_classes.specs.Shapes.{child_in, inside, name_of, thing_named}
 
 -- members with the numbers of their files
 abbrev pub located : List Inherited → List (ℕ × Member)

@@ -2,10 +2,7 @@
 use Rattle.std.specs.Prelude.{ℕ, List, [], ◌∷◌, Option, Some, None, drop, filter_map, option_map, slice_get, string_bytes}
 use Rattle.std.specs.Option.{option_and_then}
 use Rattle.lft_whole.specs.declared.tree.Name.{Name}
-use Rattle.lft_classes.specs.declared.scopes.Class.{Class}
-use Rattle.lft_classes.specs.declared.scopes.Scopes.{Scopes}
-use Rattle.lft_classes.specs.Scopes.{meaning_in, class_at}
-use Rattle.lft_classes.specs.Walks.{IsList, Lists}
+use Rattle.lft_classes.specs.{declared.scopes.{Class.Class, Scopes.Scopes}, Scopes.{meaning_in, class_at}, Walks.{IsList, Lists}}
 
 -- the number of the reactor that a name behind `extends` means in the file
 abbrev pub extended : Scopes → ℕ → Name → Option ℕ

@@ -1,10 +1,8 @@
 -- What is given once, and what widths name.
 use Rattle.std.specs.Prelude.{◌≡◌, ◌<◌, ℕ, List, Some, String, slice_get, string_bytes}
 use Rattle.std.specs.Global.{Global}
-use Rattle.lft_whole.specs.declared.tree.Assignment.{Assignment}
+use Rattle.lft_whole.specs.declared.tree.{Assignment.Assignment, Term.Term, Width.Width}
 use Rattle.lft_whole.specs.declared.tree.Count.TheVariants as count
-use Rattle.lft_whole.specs.declared.tree.Term.{Term}
-use Rattle.lft_whole.specs.declared.tree.Width.{Width}
 
 -- a term of the width, at the token, is this name
 pub record NamesAt (width : Width) (name : List ℕ) (token : ℕ) : Type 0 where

@@ -1,15 +1,8 @@
 -- How shapes are made one after another. The contracts of the crate's own functions alone need this file.
 use Rattle.std.specs.Prelude.{◌≡◌, ◌≢◌, ◌⊎◌, ℕ, List, [], ◌∷◌, ◌++◌, Option, Some, length, option_map, slice_get}
 use Rattle.lft_whole.specs.declared.tree.Instance.{Instance}
-use Rattle.lft_classes.specs.declared.making.Making.{Making}
-use Rattle.lft_classes.specs.declared.scopes.Class.{Class}
-use Rattle.lft_classes.specs.declared.scopes.Scopes.{Scopes}
-use Rattle.lft_classes.specs.declared.shapes.Child.{Child}
-use Rattle.lft_classes.specs.declared.shapes.Shape.{Shape}
-use Rattle.lft_classes.specs.Below.{IsBelow}
-use Rattle.lft_classes.specs.Built.{Core, IsBuilt, AreBuilt, AreInside, cores}
-use Rattle.lft_classes.specs.Chains.{extended}
-use Rattle.lft_classes.specs.Shapes.{child_at, child_in, inside, tables}
+use Rattle.lft_classes.specs.{declared.{making.Making.Making, scopes.{Class.Class, Scopes.Scopes}, shapes.{Child.Child, Shape.Shape}}, Below.IsBelow}
+use Rattle.lft_classes.specs.{Built.{Core, IsBuilt, AreBuilt, AreInside, cores}, Chains.extended, Shapes.{child_at, child_in, inside, tables}}
 
 -- the one of this number is of the reactor of that number
 pub record IsOfClass (cs : List Core) (s r : ℕ) : Type 0 where

@@ -1,10 +1,6 @@
 -- How names are noted. The contracts of the crate's own functions alone need this file.
 use Rattle.std.specs.Prelude.{◌≡◌, ℕ, List, Some, slice_get}
-use Rattle.lft_classes.specs.declared.shapes.Inherited.{Inherited}
-use Rattle.lft_classes.specs.declared.shapes.InheritedParameter.{InheritedParameter}
-use Rattle.lft_classes.specs.declared.shapes.Named.{Named}
-use Rattle.lft_classes.specs.declared.shapes.Thing.{Thing}
-use Rattle.lft_classes.specs.Built.{HasName}
+use Rattle.lft_classes.specs.{declared.shapes.{Inherited.Inherited, InheritedParameter.InheritedParameter, Named.Named, Thing.Thing}, Built.HasName}
 
 -- each of these is noted as what has the name
 abbrev pub EachNamed : List InheritedParameter → List Inherited → List Named → Type 0

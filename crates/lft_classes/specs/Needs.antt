@@ -1,24 +1,13 @@
 -- Which parameters reactors need: for their widths, and for their times.
 use Rattle.std.specs.Prelude.{◌≡◌, ◌↔◌, ◌⊎◌, ℕ, Bool, true, Contains, List, [], ◌∷◌, Option, Some, String, length, slice_get, string_bytes}
 use Rattle.std.specs.Global.{Global}
-use Rattle.lft_whole.specs.declared.tree.Assignment.{Assignment}
-use Rattle.lft_whole.specs.declared.tree.Expression.{Expression}
-use Rattle.lft_whole.specs.declared.tree.Instance.{Instance}
-use Rattle.lft_whole.specs.declared.tree.Member.{Member}
+use Rattle.lft_whole.specs.declared.tree.{Assignment.Assignment, Expression.Expression, Instance.Instance, Member.Member, Width.Width}
+use Rattle.lft_classes.specs.{declared.{scopes.Scopes.Scopes, shapes.{Child.Child, Inherited.Inherited, Shape.Shape}}, Built.{AreNoted, cores, members_at}}
+use Rattle.lft_classes.specs.{Chains.{base_of, extended}, Circles.NamesAt, Makings.AreShapes, Shapes.{child_at, inside, tables, thing_named, width_of}}
+use Rattle.lft_classes.specs.Walks.{Reaches}
 use Rattle.lft_whole.specs.declared.tree.Member.TheVariants as member
 use Rattle.lft_whole.specs.declared.tree.Value.TheVariants as value
-use Rattle.lft_whole.specs.declared.tree.Width.{Width}
-use Rattle.lft_classes.specs.declared.scopes.Scopes.{Scopes}
-use Rattle.lft_classes.specs.declared.shapes.Child.{Child}
-use Rattle.lft_classes.specs.declared.shapes.Inherited.{Inherited}
-use Rattle.lft_classes.specs.declared.shapes.Shape.{Shape}
 use Rattle.lft_classes.specs.declared.shapes.Thing.TheVariants as thing
-use Rattle.lft_classes.specs.Built.{AreNoted, cores, members_at}
-use Rattle.lft_classes.specs.Chains.{base_of, extended}
-use Rattle.lft_classes.specs.Circles.{NamesAt}
-use Rattle.lft_classes.specs.Makings.{AreShapes}
-use Rattle.lft_classes.specs.Shapes.{child_at, inside, tables, thing_named, width_of}
-use Rattle.lft_classes.specs.Walks.{Reaches}
 
 -- what a parameter is needed for
 pub data Need : Type 0 where

@@ -1,14 +1,9 @@
 -- The reactors below the main one.
 use Rattle.std.specs.Prelude.{◌≡◌, ℕ, List, Some}
 use Rattle.lft_whole.specs.declared.sources.source.SourceFile.{SourceFile}
-use Rattle.lft_classes.specs.declared.nesting.Nesting.{Nesting}
-use Rattle.lft_classes.specs.declared.scopes.Class.{Class}
-use Rattle.lft_classes.specs.declared.scopes.Scopes.{Scopes}
-use Rattle.lft_classes.specs.Built.{AreBuilt, AreInside, AreNoted, cores, first_class}
-use Rattle.lft_classes.specs.Needs.{IsDecided}
-use Rattle.lft_classes.specs.Scopes.{IsMain, AreScopes, begins_at}
-use Rattle.lft_classes.specs.Shapes.{inside, tables}
-use Rattle.lft_classes.specs.Walks.{Has, IsList}
+use Rattle.lft_classes.specs.declared.{nesting.Nesting.Nesting, scopes.{Class.Class, Scopes.Scopes}}
+use Rattle.lft_classes.specs.{Built.{AreBuilt, AreInside, AreNoted, cores, first_class}, Needs.IsDecided, Scopes.{IsMain, AreScopes, begins_at}}
+use Rattle.lft_classes.specs.{Shapes.{inside, tables}, Walks.{Has, IsList}}
 
 -- Names of reactors mean what they may. The first shape is of the main reactor of the first file, which has no other one. A program that is refused as a whole is refused where this one begins. Each shape has what its reactor and all that this extends declare. In an instance, and there alone, the shape of its reactor is noted. The order has the first shape and those that are noted in it at any depth, each once, behind those that are noted in it: so none contains itself. In each of these the parameters are marked that its widths and its times need, and no others.
 pub record IsNesting (files : List SourceFile) (scopes : Scopes) (n : Nesting) : Type 0 where

@@ -1,10 +1,8 @@
 -- Why there are no reactors below the main one.
 use Rattle.std.specs.Prelude.{◌≡◌}
-use Rattle.lft_whole.specs.declared.tree.Foreign.{Foreign}
+use Rattle.lft_whole.specs.declared.{tree.Foreign.Foreign, sources.{stop.Stop.Stop, why.Why.Why}}
 use Rattle.lft_whole.specs.declared.tree.Foreign.TheVariants as foreign
-use Rattle.lft_whole.specs.declared.sources.stop.Stop.{Stop}
 use Rattle.lft_whole.specs.declared.sources.stop.Stop.TheVariants as stop
-use Rattle.lft_whole.specs.declared.sources.why.Why.{Why}
 use Rattle.lft_whole.specs.declared.sources.why.Why.TheVariants as why
 
 -- what is said of a member that no core program has

@@ -1,17 +1,9 @@
 -- What the names of reactors mean in each file.
 use Rattle.std.specs.Prelude.{◌≡◌, ℕ, ◌⊎◌, true, false, List, Option, Some, flat_map, length, map, option_map, slice_get, string_bytes, take}
-use Rattle.std.specs.List.{enumerate_from}
-use Rattle.std.specs.Option.{option_and_then}
+use Rattle.std.specs.{List.enumerate_from, Option.option_and_then}
 use Rattle.lft_resolve.specs.Places.{place_in, IsIndexOf}
-use Rattle.lft_whole.specs.declared.tree.Import.{Import}
-use Rattle.lft_whole.specs.declared.tree.ImportedName.{ImportedName}
-use Rattle.lft_whole.specs.declared.tree.Reactor.{Reactor}
-use Rattle.lft_whole.specs.declared.sources.source.SourceFile.{SourceFile}
-use Rattle.lft_whole.specs.declared.sources.stop.Place.{Place}
-use Rattle.lft_classes.specs.declared.scopes.Class.{Class}
-use Rattle.lft_classes.specs.declared.scopes.Meaning.{Meaning}
-use Rattle.lft_classes.specs.declared.scopes.Scope.{Scope}
-use Rattle.lft_classes.specs.declared.scopes.Scopes.{Scopes}
+use Rattle.lft_whole.specs.declared.{tree.{Import.Import, ImportedName.ImportedName, Reactor.Reactor}, sources.{source.SourceFile.SourceFile, stop.Place.Place}}
+use Rattle.lft_classes.specs.declared.scopes.{Class.Class, Meaning.Meaning, Scope.Scope, Scopes.Scopes}
 
 -- the reactor that the name means in the scope
 abbrev pub in_scope : Scope → List ℕ → Option Class

@@ -2,13 +2,9 @@
 use Rattle.std.specs.Prelude.{ℕ, List, Option, Some, None, map, option_map, slice_get}
 use Rattle.std.specs.Option.{option_and_then}
 use Rattle.lft_resolve.specs.Places.{place_in}
-use Rattle.lft_whole.specs.declared.tree.Member.{Member}
+use Rattle.lft_whole.specs.declared.tree.{Member.Member, Name.Name, Width.Width}
+use Rattle.lft_classes.specs.declared.shapes.{Child.Child, Shape.Shape, Thing.Thing}
 use Rattle.lft_whole.specs.declared.tree.Member.TheVariants as member
-use Rattle.lft_whole.specs.declared.tree.Name.{Name}
-use Rattle.lft_whole.specs.declared.tree.Width.{Width}
-use Rattle.lft_classes.specs.declared.shapes.Child.{Child}
-use Rattle.lft_classes.specs.declared.shapes.Shape.{Shape}
-use Rattle.lft_classes.specs.declared.shapes.Thing.{Thing}
 
 -- the width of a port or an instance, if it has one
 abbrev pub width_of : Member → Option Width

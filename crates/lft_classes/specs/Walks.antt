@@ -1,9 +1,7 @@
 -- Lists of all that is reached from a first one, and walks that make them.
 use Rattle.std.specs.Prelude.{◌≡◌, ℕ, ◌<◌, ◌≤◌, ◌⊎◌, Bool, true, List, [], ◌∷◌, ◌++◌, Option, Some, None, reverse, slice_get}
-use Rattle.std.specs.BTreeSet.{contains}
-use Rattle.std.specs.Ordering.{nat_cmp}
-use Rattle.lft_classes.specs.declared.walk.Visit.{Visit}
-use Rattle.lft_classes.specs.declared.walk.Walk.{Walk}
+use Rattle.std.specs.{BTreeSet.contains, Ordering.nat_cmp}
+use Rattle.lft_classes.specs.declared.walk.{Visit.Visit, Walk.Walk}
 
 -- what each one leads to, by number
 abbrev pub Ways : Type 0

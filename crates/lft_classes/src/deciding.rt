@@ -1,9 +1,7 @@
 //! Which parameters decide widths, and which are times.
 
 ghost use Rattle.std.specs.Prelude.{◌≡◌, ◌≢◌, ℕ, Some, IfNone, IfOk, IfSome, OnOk, true};
-ghost use Rattle.lft_classes.specs.declared.scopes.Scopes.{Scopes};
-ghost use Rattle.lft_classes.specs.Built.{cores};
-ghost use Rattle.lft_classes.specs.Shapes.{tables};
+ghost use Rattle.lft_classes.specs.{declared.scopes.Scopes.Scopes, Built.cores, Shapes.tables};
 ghost use Rattle.lft_classes.specs.Needs.{AreMarks, HasNeed, IsDecided, IsParameterIn, IsPassed, IsPassedIn, IsReady, IsTimeIn, Marks, NamesParameter, Times, Widths};
 
 use crate::shapes::{Inherited, Shape};

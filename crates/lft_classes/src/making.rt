@@ -2,12 +2,8 @@
 
 ghost use Rattle.std.specs.Prelude.{◌≡◌, ◌<◌, ℕ, Some, OnOk, IfNone, IfOk, IfSome, length, map, slice_get, string_bytes};
 ghost use Rattle.lft_resolve.specs.Tests.{texts};
-ghost use Rattle.lft_classes.specs.declared.shapes.Inherited.{Inherited};
-ghost use Rattle.lft_classes.specs.declared.shapes.Shape.{Shape};
-ghost use Rattle.lft_classes.specs.Below.{IsBelow};
-ghost use Rattle.lft_classes.specs.Built.{AreGiven, AreNoted, Core, IsInside, IsNoted, cores, first_class, instance_of};
-ghost use Rattle.lft_classes.specs.Chains.{extended};
-ghost use Rattle.lft_classes.specs.Circles.{GivesOnce};
+ghost use Rattle.lft_classes.specs.{declared.shapes.{Inherited.Inherited, Shape.Shape}, Below.IsBelow};
+ghost use Rattle.lft_classes.specs.{Built.{AreGiven, AreNoted, Core, IsInside, IsNoted, cores, first_class, instance_of}, Chains.extended, Circles.GivesOnce};
 ghost use Rattle.lft_classes.specs.Makings.{AddsShape, AreMade, AreShapes, GoesOn, HasChildren, IsNeeded, IsOfClass, KeepsBut, KeepsNoted, KnowsNone, KnowsOne, SetsOne};
 ghost use Rattle.lft_classes.specs.Shapes.{tables, thing_named};
 

@@ -1,10 +1,7 @@
 //! All reactors below the main one, contained ones first.
 
 ghost use Rattle.std.specs.Prelude.{◌≡◌, ◌≤◌, ◌<◌, ℕ, Some, None, IfOk, IfSome, IfNone, OnOk, IsTrue, true, false};
-ghost use Rattle.lft_classes.specs.declared.scopes.Scopes.{Scopes};
-ghost use Rattle.lft_classes.specs.Causes.{last_token};
-ghost use Rattle.lft_classes.specs.Nestings.{IsNesting};
-ghost use Rattle.lft_classes.specs.Shapes.{inside, tables};
+ghost use Rattle.lft_classes.specs.{declared.scopes.Scopes.Scopes, Causes.last_token, Nestings.IsNesting, Shapes.{inside, tables}};
 ghost use Rattle.lft_classes.specs.Walks.{IsWalk, IsList, IsOver};
 
 use crate::deciding::decide;

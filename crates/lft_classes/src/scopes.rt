@@ -2,9 +2,7 @@
 
 ghost use Rattle.std.specs.Prelude.{◌≡◌, ◌≤◌, ◌<◌, ◌++◌, ℕ, List, [], Some, false, IfNone, IfOk, IfSome, OnOk, map, slice_get};
 ghost use Rattle.lft_resolve.specs.Tests.{texts};
-ghost use Rattle.lft_whole.specs.declared.sources.source.SourceFile.{SourceFile};
-ghost use Rattle.lft_whole.specs.declared.tree.Import.{Import};
-ghost use Rattle.lft_whole.specs.declared.tree.ImportedName.{ImportedName};
+ghost use Rattle.lft_whole.specs.declared.{sources.source.SourceFile.SourceFile, tree.{Import.Import, ImportedName.ImportedName}};
 ghost use Rattle.lft_classes.specs.Scopes.{in_scope, meaning_in, class_at, name_in, EachMeans, HasImports, HasMeaning, HasOwn, IsGiven, IsMeantScope, IsOnce, IsOwnScope, IsScopeOf, IsOf, AreNumbered, IsOwn, IsOwnAt, AreOwnScopes, IsImport, MeansAt, AreMeantScopes, IsMain, IsMainAt, AreScopes, placed, reactors_before, reactors_in, reactors_of};
 
 use lft_lists::item_at;

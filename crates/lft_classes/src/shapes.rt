@@ -1,16 +1,11 @@
 //! A reactor with the members of its bases before its own, and what its names are.
 
 ghost use Rattle.std.specs.Prelude.{◌≡◌, ◌≢◌, ◌++◌, ◌↔◌, ℕ, List, [], Some, IfErr, IfOk, IfSome, IfNone, OnOk, IsTrue, flat_map, map, slice_get, option_map, string_bytes, true};
-ghost use Rattle.lft_resolve.specs.Places.{IsIndexOf, place_in};
-ghost use Rattle.lft_resolve.specs.Tests.{texts};
-ghost use Rattle.lft_whole.specs.declared.tree.Foreign.{Foreign};
-ghost use Rattle.lft_whole.specs.declared.tree.Instance.{Instance};
-ghost use Rattle.lft_whole.specs.declared.tree.Name.{Name};
-ghost use Rattle.lft_whole.specs.declared.tree.Port.{Port};
+ghost use Rattle.lft_resolve.specs.{Places.{IsIndexOf, place_in}, Tests.texts};
+ghost use Rattle.lft_whole.specs.declared.tree.{Foreign.Foreign, Instance.Instance, Name.Name, Port.Port};
 ghost use Rattle.lft_classes.specs.Shapes.{thing_named, child_at, name_of, width_of, is_at};
 ghost use Rattle.lft_classes.specs.Built.{HasName, HasNoForeign, IsBuilt, core, located, located_parameters, members_of, members_at, parameters_of, parameters_at};
-ghost use Rattle.lft_classes.specs.Naming.{EachNamed, HasNamed};
-ghost use Rattle.lft_classes.specs.Refused.{IsTooMuch, why_of};
+ghost use Rattle.lft_classes.specs.{Naming.{EachNamed, HasNamed}, Refused.{IsTooMuch, why_of}};
 
 use crate::chains::chain;
 use crate::scopes::{Class, Scopes};

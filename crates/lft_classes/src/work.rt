@@ -1,8 +1,7 @@
 //! How much is listed at most.
 
 ghost use Rattle.std.specs.Prelude.{◌≡◌, ◌+◌, ◌<◌, OnOk, OnErr, IfErr};
-ghost use Rattle.lft_whole.specs.declared.sources.stop.Stop.TheVariants.{Refused};
-ghost use Rattle.lft_whole.specs.declared.sources.why.Why.TheVariants.{TooMuch};
+ghost use Rattle.lft_whole.specs.declared.sources.{stop.Stop.TheVariants.Refused, why.Why.TheVariants.TooMuch};
 
 use lft_whole::sources::{Place, Refusal, Stop, Why};
 

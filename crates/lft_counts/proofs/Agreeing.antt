@@ -2,18 +2,11 @@
 use Rattle.std.proofs.Common.{◌≡◌, ℕ, ◌+◌, ◌<◌, ◌≤◌, ◌++◌, length, List, Option, Some, None, sym, ◌∙◌, arith, slice_get}
 use Rattle.lft_lists.proofs.Places.{get_left, get_there}
 use Rattle.lft_tag.specs.declared.Tag.{Tag}
-use Rattle.lft_ir.specs.Parts.{Parts}
-use Rattle.lft_ir.specs.declared.steps.row.Row.{Row}
+use Rattle.lft_ir.specs.{Parts.Parts, declared.steps.row.Row.Row}
 use Rattle.lft_model.specs.Breaches.{IsOpen}
-use Rattle.lft_counts.specs.declared.orders.Last.{Last}
-use Rattle.lft_counts.specs.declared.orders.Orders.{Orders}
-use Rattle.lft_counts.specs.declared.overlaps.Overlaps.{Overlaps}
-use Rattle.lft_counts.specs.declared.cover.Counting.{Counting}
-use Rattle.lft_counts.specs.declared.cover.Cover.{Cover}
-use Rattle.lft_counts.specs.Counts.{StartsAt, StartsBy, WritesAt, Runs, MeetsRun, Widens}
-use Rattle.lft_counts.specs.Orders.{MeetsAt, ApartAt, IsLast, NoStart, Stands}
-use Rattle.lft_counts.specs.Overlaps.{Overlap}
-use Rattle.lft_counts.specs.Cover.{CoversRows, IsCounting, IsCover}
+use Rattle.lft_counts.specs.declared.{orders.{Last.Last, Orders.Orders}, overlaps.Overlaps.Overlaps, cover.{Counting.Counting, Cover.Cover}}
+use Rattle.lft_counts.specs.{Counts.{StartsAt, StartsBy, WritesAt, Runs, MeetsRun, Widens}, Orders.{MeetsAt, ApartAt, IsLast, NoStart, Stands}}
+use Rattle.lft_counts.specs.{Overlaps.Overlap, Cover.{CoversRows, IsCounting, IsCover}}
 use Rattle.lft_counts.proofs.Numbers.{count_same}
 
 -- two traces have the same rows before a place

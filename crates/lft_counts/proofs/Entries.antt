@@ -1,10 +1,7 @@
 -- Entries of a map, one of which gets a value.
 use Rattle.std.proofs.Common.{ℕ, List, [], ◌∷◌}
-use Rattle.std.specs.BTreeMap.{insert_entry}
-use Rattle.std.specs.List.{AllByRecursion}
-use Rattle.std.specs.Ordering.{nat_cmp, match_ordering}
-use Rattle.std.specs.declared.cmp.Ordering.{Ordering}
-use Rattle.std.specs.declared.cmp.Ordering.TheVariants.{Less, Equal, Greater}
+use Rattle.std.specs.{BTreeMap.insert_entry, List.AllByRecursion, Ordering.{nat_cmp, match_ordering}}
+use Rattle.std.specs.declared.cmp.Ordering.{Ordering, TheVariants.{Less, Equal, Greater}}
 
 -- what holds of the new value holds of all, where it held of the others
 pub all_inserted : (P : ℕ × ℕ → Type 0) (k v : ℕ) → ((q : ℕ) → P (q, v)) → (es : List (ℕ × ℕ)) → AllByRecursion P es → AllByRecursion P (insert_entry nat_cmp es k v)

@@ -4,15 +4,9 @@ use Rattle.std.proofs.lemmas.List.{map-set}
 use native.Mathlib.Decide.{ℕ_discrete, dec_lt}
 use Rattle.lft_lists.proofs.Places.{get_write_cases}
 use Rattle.lft_tag.specs.declared.Tag.{Tag}
-use Rattle.lft_ir.specs.declared.steps.row.Row.{Row}
-use Rattle.lft_ir.specs.declared.steps.row.Step.TheVariants.{Start, End}
-use Rattle.lft_model.specs.Runs.{start_row, end_row}
-use Rattle.lft_model.proofs.Places.{slice_get_within}
-use Rattle.lft_model.proofs.Ended.{row_is}
-use Rattle.lft_counts.specs.declared.orders.Last.{Last}
-use Rattle.lft_counts.specs.declared.orders.Order.{Order}
-use Rattle.lft_counts.specs.declared.orders.Orders.{Orders}
-use Rattle.lft_counts.specs.Counts.{same}
+use Rattle.lft_ir.specs.declared.steps.row.{Row.Row, Step.TheVariants.{Start, End}}
+use Rattle.lft_model.{specs.Runs.{start_row, end_row}, proofs.{Places.slice_get_within, Ended.row_is}}
+use Rattle.lft_counts.specs.{declared.orders.{Last.Last, Order.Order, Orders.Orders}, Counts.same}
 use Rattle.lft_counts.specs.Orders.{NoStart, IsLast, IsCounted, IsLaidOut, Stands, cleared}
 use Rattle.lft_counts.proofs.Numbers.{count_within}
 

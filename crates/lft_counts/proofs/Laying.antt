@@ -1,17 +1,12 @@
 -- Orders laid out, one reaction after another.
 use Rattle.std.proofs.Common.{◌≡◌, ℕ, zero, suc, map, take, ◌+◌, ◌<◌, ◌≤◌, ◌⊎◌, inl, inr, List, [], ◌∷◌, ◌++◌, length, length-append, Option, Some, None, replicate, sym, ap, ◌∙◌, subst, arith, slice_get, append-nil, append_assoc, add-one, refl}
 use native.Mathlib.Decide.{dec_lt}
-use Rattle.lft_lists.proofs.Mapped.{mapped_from}
-use Rattle.lft_lists.proofs.Places.{get_left, get_push_cases, get_append_cases, get_there, contains_at, get_same, length_same}
+use Rattle.lft_lists.proofs.{Mapped.mapped_from, Places.{get_left, get_push_cases, get_append_cases, get_there, contains_at, get_same, length_same}}
 use Rattle.lft_model.proofs.Places.{slice_get_within}
-use Rattle.lft_counts.specs.declared.orders.Order.{Order}
-use Rattle.lft_counts.specs.declared.orders.Last.{Last}
-use Rattle.lft_counts.specs.declared.orders.Orders.{Orders}
-use Rattle.lft_counts.specs.Counts.{Count, none}
+use Rattle.lft_counts.specs.{declared.orders.{Order.Order, Last.Last, Orders.Orders}, Counts.{Count, none}}
 use Rattle.lft_counts.specs.Orders.{IsLast, MeetsAt, ApartAt, Stands, unmet, orders_from, cleared}
-use Rattle.lft_ir.specs.Parts.{Parts}
+use Rattle.lft_ir.specs.{Parts.Parts, declared.steps.row.Row.Row}
 use Rattle.lft_graph.specs.Before.{IsBefore, IsDeclaredJustBefore, FeedsLast}
-use Rattle.lft_ir.specs.declared.steps.row.Row.{Row}
 
 -- the orders of the reactions below r
 pub record Laying (n r : ℕ) (all : List Order) (begins : List ℕ) : Type 0 where

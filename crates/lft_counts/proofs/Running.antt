@@ -2,13 +2,9 @@
 use Rattle.std.proofs.Common.{◌≡◌, ◌≢◌, ℕ, ◌+◌, ◌<◌, ◌≤◌, ◌⊎◌, inl, inr, List, sym, ap, ◌∙◌, subst, arith, Some, slice_get}
 use Rattle.std.specs.Prelude.{◌↔◌}
 use native.Mathlib.Decide.{ℕ_discrete, dec_lt}
-use Rattle.lft_tag.specs.declared.Tag.{Tag}
-use Rattle.lft_tag.proofs.Order.{UpTo_antisym}
-use Rattle.lft_ir.specs.declared.steps.row.Row.{Row}
-use Rattle.lft_ir.specs.declared.steps.row.Step.TheVariants.{Start, End}
-use Rattle.lft_model.specs.Breaches.{IsOpen}
-use Rattle.lft_model.specs.Runs.{start_row, end_row}
-use Rattle.lft_model.proofs.Legality.{KeepsFour, four, rising, one_start, one_starter, opened, ended}
+use Rattle.lft_tag.{specs.declared.Tag.Tag, proofs.Order.UpTo_antisym}
+use Rattle.lft_ir.specs.declared.steps.row.{Row.Row, Step.TheVariants.{Start, End}}
+use Rattle.lft_model.{specs.{Breaches.IsOpen, Runs.{start_row, end_row}}, proofs.Legality.{KeepsFour, four, rising, one_start, one_starter, opened, ended}}
 use Rattle.lft_counts.specs.Counts.{KeepsRows, Runs}
 
 start_no_end : (w v : ℕ) (g h : Tag) (r a : ℕ) → Some (start_row w g r) ≡ Some (end_row v h a) → ⊥

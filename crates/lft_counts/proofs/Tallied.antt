@@ -2,22 +2,12 @@
 use Rattle.std.proofs.Common.{◌≡◌, ℕ, ◌+◌, ◌<◌, ◌==◌, Bool, true, false, cond, List, length, replicate, refl, sym, ap, ◌∙◌, subst, Some, slice_get, slice_set, eqb-true, eq-eqb}
 use Rattle.lft_lists.proofs.Places.{length_written, length_same}
 use Rattle.lft_tag.specs.declared.Tag.{Tag}
-use Rattle.lft_ir.specs.Parts.{Parts}
-use Rattle.lft_ir.specs.declared.parts.Value.{Value}
-use Rattle.lft_ir.specs.declared.parts.Name.TheVariants.{Port}
-use Rattle.lft_ir.specs.declared.steps.row.Row.{Row}
-use Rattle.lft_ir.specs.declared.steps.row.Step.{Step}
-use Rattle.lft_ir.specs.declared.steps.row.Step.TheVariants.{Start, Write}
+use Rattle.lft_ir.specs.{Parts.Parts, declared.{parts.{Value.Value, Name.TheVariants.Port}, steps.row.{Row.Row, Step.{Step, TheVariants.{Start, Write}}}}}
 use Rattle.lft_ir.specs.Steps.Fits.{RowFits, StepFits}
-use Rattle.lft_model.specs.Runs.{start_row}
-use Rattle.lft_model.proofs.Places.{slice_get_within}
-use Rattle.lft_counts.specs.declared.cover.Counting.{Counting}
-use Rattle.lft_counts.specs.declared.workers.Workers.{Workers}
-use Rattle.lft_counts.specs.Counts.{Count, none, more, same, StartsAt, StartsBy, WritesAt}
-use Rattle.lft_counts.specs.Cover.{IsCounting}
-use Rattle.lft_counts.specs.Workers.{runs_by, AllRun, AreByWorker}
-use Rattle.lft_counts.proofs.Numbers.{counts_none, counts_more, counts_same}
-use Rattle.lft_counts.proofs.Going.{started}
+use Rattle.lft_model.{specs.Runs.start_row, proofs.Places.slice_get_within}
+use Rattle.lft_counts.specs.{declared.{cover.Counting.Counting, workers.Workers.Workers}, Counts.{Count, none, more, same, StartsAt, StartsBy, WritesAt}}
+use Rattle.lft_counts.specs.{Cover.IsCounting, Workers.{runs_by, AllRun, AreByWorker}}
+use Rattle.lft_counts.proofs.{Numbers.{counts_none, counts_more, counts_same}, Going.started}
 
 -- before the first row
 pub none_counted : (program : Parts) (t : List Row) (counting : Counting) → counting.runs ≡ replicate (length program.reactions) 0 → counting.writes ≡ replicate (length program.ports) 0 → ((w : ℕ) → runs_by counting.workers w ≡ 0) → AllRun counting.workers → IsCounting program t 0 counting

@@ -1,14 +1,9 @@
 -- All counts of a trace, and whose orders they are.
 use Rattle.std.specs.Prelude.{◌≡◌, ℕ, List, map, length}
-use Rattle.lft_ir.specs.Parts.{Parts}
+use Rattle.lft_ir.specs.{Parts.Parts, declared.steps.row.Row.Row}
 use Rattle.lft_graph.specs.Graph.{GraphParts, IsGraphOf}
-use Rattle.lft_ir.specs.declared.steps.row.Row.{Row}
-use Rattle.lft_counts.specs.declared.cover.Counting.{Counting}
-use Rattle.lft_counts.specs.declared.cover.Cover.{Cover}
-use Rattle.lft_counts.specs.Counts.{AreCounts, StartsAt, WritesAt}
-use Rattle.lft_counts.specs.Orders.{Stands, orders_from, cleared}
-use Rattle.lft_counts.specs.Overlaps.{Overlap}
-use Rattle.lft_counts.specs.Workers.{AllRun, AreByWorker}
+use Rattle.lft_counts.specs.{declared.cover.{Counting.Counting, Cover.Cover}, Counts.{AreCounts, StartsAt, WritesAt}, Orders.{Stands, orders_from, cleared}}
+use Rattle.lft_counts.specs.{Overlaps.Overlap, Workers.{AllRun, AreByWorker}}
 
 -- the counts of reactions, ports and workers are those of the rows before place i
 pub record IsCounting (program : Parts) (t : List Row) (i : ℕ) (counting : Counting) : Type 0 where

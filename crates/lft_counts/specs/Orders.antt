@@ -2,12 +2,8 @@
 use Rattle.std.specs.Prelude.{◌≡◌, ◌≢◌, ℕ, ◌+◌, ◌<◌, ◌≤◌, List, [], ◌∷◌, ◌++◌, map, Option, Some, None, length, slice_get}
 use Rattle.lft_tag.specs.declared.Tag.{Tag}
 use Rattle.lft_ir.specs.declared.steps.row.Row.{Row}
-use Rattle.lft_model.specs.Breaches.{WasStarted}
-use Rattle.lft_model.specs.Runs.{start_row}
-use Rattle.lft_counts.specs.declared.orders.Last.{Last}
-use Rattle.lft_counts.specs.declared.orders.Order.{Order}
-use Rattle.lft_counts.specs.declared.orders.Orders.{Orders}
-use Rattle.lft_counts.specs.Counts.{Count}
+use Rattle.lft_model.specs.{Breaches.WasStarted, Runs.start_row}
+use Rattle.lft_counts.specs.{declared.orders.{Last.Last, Order.Order, Orders.Orders}, Counts.Count}
 
 -- the row at place i starts a run of r at a tag at which a has started before
 pub record MeetsAt (t : List Row) (a r i : ℕ) : Type 0 where

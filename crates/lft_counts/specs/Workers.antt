@@ -1,11 +1,9 @@
 -- How many runs each worker starts.
 use Rattle.std.specs.Prelude.{ℕ, ◌<◌, List, unwrap_or}
-use Rattle.std.specs.List.{AllByRecursion}
-use Rattle.std.specs.BTreeMap as map
-use Rattle.std.specs.Ordering.{nat_cmp}
+use Rattle.std.specs.{List.AllByRecursion, Ordering.nat_cmp}
 use Rattle.lft_ir.specs.declared.steps.row.Row.{Row}
-use Rattle.lft_counts.specs.declared.workers.Workers.{Workers}
-use Rattle.lft_counts.specs.Counts.{Count, StartsBy}
+use Rattle.lft_counts.specs.{declared.workers.Workers.Workers, Counts.{Count, StartsBy}}
+use Rattle.std.specs.BTreeMap as map
 
 -- how many runs of a worker are kept: none where the map has no number
 abbrev pub runs_by : Workers → ℕ → ℕ

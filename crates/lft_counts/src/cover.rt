@@ -2,15 +2,9 @@
 
 ghost use Rattle.std.specs.Prelude.{◌≡◌, ◌+◌, ◌≤◌, ◌<◌, ℕ, List, Some, IfOk, OnOk, IfSome, IfNone, length, map, slice_get};
 ghost use Rattle.lft_graph.specs.Graph.{IsGraphOf};
-ghost use Rattle.lft_ir.specs.Parts.{Parts};
-ghost use Rattle.lft_ir.specs.declared.parts.Value.{Value};
-ghost use Rattle.lft_ir.specs.declared.parts.Name.TheVariants.{Port};
+ghost use Rattle.lft_ir.specs.{Parts.Parts, declared.{parts.{Value.Value, Name.TheVariants.Port}, steps.row.{Row.Row as TheRow, Step.TheVariants.Write}}};
 ghost use Rattle.lft_ir.specs.Steps.Fits.{RowFits, RowsFit};
-ghost use Rattle.lft_ir.specs.declared.steps.row.Row.{Row as TheRow};
-ghost use Rattle.lft_ir.specs.declared.steps.row.Step.TheVariants.{Write};
-ghost use Rattle.lft_counts.specs.Counts.{Here, KeepsRows};
-ghost use Rattle.lft_counts.specs.Orders.{cleared};
-ghost use Rattle.lft_counts.specs.Cover.{IsCounting, IsCover, IsListed};
+ghost use Rattle.lft_counts.specs.{Counts.{Here, KeepsRows}, Orders.cleared, Cover.{IsCounting, IsCover, IsListed}};
 
 use crate::inputs::{Inputs, add_row, all_inputs};
 use crate::orders::Orders;

@@ -1,7 +1,6 @@
 -- Pairs of numbers, each counted with one of the two.
 use Rattle.std.proofs.Common.{◌≡◌, ℕ, zero, suc, ◌+◌, ◌*◌, ◌<◌, ◌≤◌, ◌⊎◌, inl, inr, refl, sym, subst, arith}
-use Rattle.lft_counts.specs.Counts.{Count, none, more, same}
-use Rattle.lft_counts.proofs.Numbers.{count_within, count_same}
+use Rattle.lft_counts.{specs.Counts.{Count, none, more, same}, proofs.Numbers.{count_within, count_same}}
 use Rattle.lft_coverage.specs.Pairs.{CountPairs, no_pairs, and_of}
 
 -- the last place, and the count of those before it

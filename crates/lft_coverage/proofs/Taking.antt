@@ -1,8 +1,6 @@
 -- What a writer takes of a text that it gets piece by piece.
 use Rattle.std.proofs.Common.{IsTrue, ◌≡◌, ℕ, zero, suc, ◌+◌, Bool, true, false, List, [], ◌∷◌, ◌++◌, length, take, Option, refl, sym, ap, ◌∙◌, subst, arith, append_assoc, append-nil, drop, ◌-◌, ◌≤◌}
-use Rattle.std.proofs.Math.Seq.{take-add, take-append-add}
-use Rattle.std.proofs.lemmas.List.{take_all, length-drop}
-use Rattle.std.proofs.KnownBytes.{Appends-kept, Appends-nil, Appends-trans}
+use Rattle.std.proofs.{Math.Seq.{take-add, take-append-add}, lemmas.List.{take_all, length-drop}, KnownBytes.{Appends-kept, Appends-nil, Appends-trans}}
 use Rattle.std.specs.Io.KnownBytes.{Appends, Keeps}
 use Rattle.lft_coverage.specs.Taking.{Took, TookMore}
 

@@ -1,14 +1,11 @@
 -- Whether reactions met, as a test.
 use Rattle.std.proofs.Common.{◌≡◌, ◌<◌, ◌≤◌, ◌+◌, ◌/◌, ◌%◌, ◌++◌, ℕ, zero, suc, Bool, true, false, List, [], ◌∷◌, length, flat_map, take, refl, sym, ap, ◌∙◌, arith, eq-eqb}
 use Rattle.std.specs.Prelude.{◌↔◌, IsTrue, unwrap_or, slice_index}
-use Rattle.std.specs.List.{enumerate_from}
-use Rattle.std.specs.Int.{bit_at}
-use Rattle.std.proofs.lemmas.Bool.{ne_eqb}
+use Rattle.std.{specs.{List.enumerate_from, Int.bit_at}, proofs.lemmas.Bool.ne_eqb}
 use Rattle.lft_lists.proofs.Places.{get_there}
 use Rattle.lft_ir.specs.Parts.{Parts}
 use Rattle.lft_graph.specs.Sets.{Has}
-use Rattle.lft_counts.specs.declared.overlaps.Overlaps.{Overlaps}
-use Rattle.lft_counts.specs.Overlaps.{met_by}
+use Rattle.lft_counts.specs.{declared.overlaps.Overlaps.Overlaps, Overlaps.met_by}
 use Rattle.lft_coverage.specs.Facts.{has, pair_words, HasSets}
 
 -- what is asked of a set is the test

@@ -6,11 +6,8 @@ use native.Mathlib.Decide.{ℕ_discrete}
 use Rattle.lft_lists.proofs.Places.{get_there}
 use Rattle.lft_graph.specs.Sets.{Has}
 use Rattle.lft_ir.specs.declared.steps.row.Row.{Row}
-use Rattle.lft_counts.specs.declared.overlaps.Overlaps.{Overlaps}
-use Rattle.lft_counts.specs.Counts.{MeetsRun}
-use Rattle.lft_counts.specs.Overlaps.{Overlap, met_by}
-use Rattle.lft_coverage.specs.Pairs.{AreTogether, CountPairs, HaveMet, IsCountedWith}
-use Rattle.lft_coverage.proofs.Once.{Rows, once, pairs_same}
+use Rattle.lft_counts.specs.{declared.overlaps.Overlaps.Overlaps, Counts.MeetsRun, Overlaps.{Overlap, met_by}}
+use Rattle.lft_coverage.{specs.Pairs.{AreTogether, CountPairs, HaveMet, IsCountedWith}, proofs.Once.{Rows, once, pairs_same}}
 
 module _ (overlaps : Overlaps) where
   -- no reaction is counted with itself

@@ -1,14 +1,8 @@
 -- The facts of `--list`, one a line.
 use Rattle.std.specs.Prelude.{◌≡◌, ℕ, ◌+◌, ◌/◌, ◌%◌, ◌==◌, Some, length, Bool, false, List, [], ◌++◌, slice_get, unwrap_or, option_map, codes, decimal, nat_eq, if◌then◌else◌, flat_map, slice_index}
-use Rattle.std.specs.List.{enumerate_from}
-use Rattle.std.specs.Int.{bit_at}
-use Rattle.lft_ir.specs.Parts.{Parts}
-use Rattle.lft_ir.specs.Words.Words.{port_words, reaction_words}
-use Rattle.lft_counts.specs.declared.orders.Order.{Order}
-use Rattle.lft_counts.specs.declared.cover.Cover.{Cover}
-use Rattle.lft_counts.specs.declared.overlaps.Overlaps.{Overlaps}
-use Rattle.lft_counts.specs.Overlaps.{met_by}
-use Rattle.lft_counts.specs.Workers.{by_number}
+use Rattle.std.specs.{List.enumerate_from, Int.bit_at}
+use Rattle.lft_ir.specs.{Parts.Parts, Words.Words.{port_words, reaction_words}}
+use Rattle.lft_counts.specs.{declared.{orders.Order.Order, cover.Cover.Cover, overlaps.Overlaps.Overlaps}, Overlaps.met_by, Workers.by_number}
 
 -- `reaction X runs=N`: a reaction's number, and how many runs it has
 abbrev pub run_line : Parts → ℕ × ℕ → List ℕ

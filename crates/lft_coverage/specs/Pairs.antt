@@ -2,9 +2,7 @@
 use Rattle.std.specs.Prelude.{ℕ, ◌+◌, ◌<◌, ◌⊎◌, List}
 use Rattle.lft_graph.specs.Sets.{Has}
 use Rattle.lft_ir.specs.declared.steps.row.Row.{Row}
-use Rattle.lft_counts.specs.declared.overlaps.Overlaps.{Overlaps}
-use Rattle.lft_counts.specs.Counts.{Count, MeetsRun}
-use Rattle.lft_counts.specs.Overlaps.{met_by}
+use Rattle.lft_counts.specs.{declared.overlaps.Overlaps.Overlaps, Counts.{Count, MeetsRun}, Overlaps.met_by}
 
 -- n is the number of the pairs a < b of numbers below k of which P a b holds: those of each b are counted behind those of the lesser ones
 pub data CountPairs (P : ℕ → ℕ → Type 0) : ℕ → ℕ → Type 0 where

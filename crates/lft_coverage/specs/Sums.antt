@@ -1,11 +1,7 @@
 -- The line of sums that people read first.
 use Rattle.std.specs.Prelude.{◌≡◌, ◌≢◌, ℕ, List, ◌++◌, length, slice_get, unwrap_or, option_map, codes, decimal}
-use Rattle.lft_ir.specs.Parts.{Parts}
-use Rattle.lft_ir.specs.declared.steps.row.Row.{Row}
-use Rattle.lft_counts.specs.declared.cover.Cover.{Cover}
-use Rattle.lft_counts.specs.Counts.{Count, IsOver}
-use Rattle.lft_counts.specs.Orders.{Stands, IsApart}
-use Rattle.lft_counts.specs.Overlaps.{Overlap}
+use Rattle.lft_ir.specs.{Parts.Parts, declared.steps.row.Row.Row}
+use Rattle.lft_counts.specs.{declared.cover.Cover.Cover, Counts.{Count, IsOver}, Orders.{Stands, IsApart}, Overlaps.Overlap}
 use Rattle.lft_coverage.specs.Pairs.{AreTogether, CountPairs}
 
 -- a word, a count, a word between, and the number that it is of

@@ -3,12 +3,8 @@
 ghost use Rattle.std.specs.Prelude.{◌≡◌, ◌<◌, ◌↔◌, ℕ, List, IfOk, IsTrue, length};
 ghost use Rattle.lft_ir.specs.declared.steps.row.Row.{Row as TheRow};
 ghost use Rattle.lft_graph.specs.Graph.{IsGraphOf};
-ghost use Rattle.lft_counts.specs.Counts.{Count, IsOver};
-ghost use Rattle.lft_counts.specs.Orders.{IsApart, Stands};
-ghost use Rattle.lft_counts.specs.Overlaps.{Overlap};
-ghost use Rattle.lft_coverage.specs.Facts.{HasSets};
-ghost use Rattle.lft_coverage.specs.Pairs.{AreTogether, CountPairs};
-ghost use Rattle.lft_coverage.specs.Sums.{IsFed, IsReached, origin_of};
+ghost use Rattle.lft_counts.specs.{Counts.{Count, IsOver}, Orders.{IsApart, Stands}, Overlaps.Overlap};
+ghost use Rattle.lft_coverage.specs.{Facts.HasSets, Pairs.{AreTogether, CountPairs}, Sums.{IsFed, IsReached, origin_of}};
 
 use crate::closure::ordered_pairs;
 use crate::pairs::met_pairs;

@@ -1,24 +1,14 @@
 -- Faults of explaining, which tell nothing of the texts.
 use Rattle.std.proofs.Common.{◌≡◌, ◌≢◌, ◌⊎◌, inl, inr, ℕ, Bool, IfErr, Result, Ok, Err, List, ◌++◌, Option, true, refl, subst}
-use Rattle.std.specs.Io.KnownBytes.{Appends, Keeps}
-use Rattle.lft_ir.specs.declared.steps.row.Row.{Row}
-use Rattle.lft_model.specs.Plans.{PlanParts}
-use Rattle.lft_model.specs.Workers.{IsWorkers}
-use Rattle.lft_ir.specs.Parts.{Parts}
-use Rattle.lft_check.specs.declared.verdict.Verdict.{Verdict}
-use Rattle.lft_check.specs.Verdicts.{IsVerdict}
-use Rattle.lft_load.specs.Refusals.{is_of_text}
-use Rattle.lft_load.specs.Written.{AppendsFront}
-use Rattle.lft_load.specs.declared.fault.Fault.{Fault}
+use Rattle.std.{specs.Io.KnownBytes.{Appends, Keeps}, proofs.KnownBytes.Appends-kept}
+use Rattle.lft_ir.specs.{declared.steps.row.Row.Row, Parts.Parts}
+use Rattle.lft_model.specs.{Plans.PlanParts, Workers.IsWorkers}
+use Rattle.lft_check.specs.{declared.verdict.Verdict.Verdict, Verdicts.IsVerdict}
+use Rattle.lft_load.specs.{Refusals.is_of_text, Written.AppendsFront, declared.fault.Fault.Fault}
+use Rattle.lft_driver.specs.{Refusals.{IsRefusedGrowth, CheckRefusal.by_growth}, Lines.line_of}
+use Rattle.lft_driver.specs.Explained.{StandsBehind, IsExplanation, Writes, WriteRefusal, ExplainingRefusal, ExplainingRefusal.{by_check, by_line, by_writer}}
+use Rattle.lft_driver.proofs.{Judging.{refusal_untold, write_untold}, Behind.{writes_both, front_both, growth_kept}}
 use Rattle.lft_load.specs.declared.fault.Part.TheVariants as part
-use Rattle.lft_driver.specs.Refusals.{IsRefusedGrowth}
-use Rattle.lft_driver.specs.Refusals.CheckRefusal.{by_growth}
-use Rattle.lft_driver.specs.Lines.{line_of}
-use Rattle.lft_driver.specs.Explained.{StandsBehind, IsExplanation, Writes, WriteRefusal, ExplainingRefusal}
-use Rattle.lft_driver.specs.Explained.ExplainingRefusal.{by_check, by_line, by_writer}
-use Rattle.lft_driver.proofs.Judging.{refusal_untold, write_untold}
-use Rattle.std.proofs.KnownBytes.{Appends-kept}
-use Rattle.lft_driver.proofs.Behind.{writes_both, front_both, growth_kept}
 
 module _ (all : Bool) (plan : PlanParts) (rows : List Row) (workers : ℕ) (program : Parts) (same : program ≡ plan.program) (verdict : Verdict) (right : IsVerdict plan rows verdict) (lawful : IsWorkers workers) (old mid new : Option (List ℕ)) where
   -- the writer failed on the line, or there was no memory for it

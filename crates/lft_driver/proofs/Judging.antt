@@ -1,29 +1,14 @@
 -- The verdict's reaction, and faults that tell nothing of the texts.
 use Rattle.std.proofs.Common.{◌≡◌, ℕ, ◌<◌, inl, inr, List, length, Option, Some, None, true, sym, subst}
-use Rattle.lft_ir.specs.declared.steps.row.Row.{Row}
-use Rattle.lft_ir.specs.Steps.Fits.{RowsFit}
-use Rattle.lft_trace.specs.Records.{records_of}
-use Rattle.lft_trace.specs.Traces.{Table}
-use Rattle.lft_model.specs.declared.breach.Breach.{Breach}
-use Rattle.lft_model.specs.Plans.{PlanParts}
-use Rattle.lft_model.specs.Presence.{Triggered}
-use Rattle.lft_model.specs.Runs.{Ran}
-use Rattle.lft_model.specs.Breaches.{First, RowBreach, BreaksAt, BreaksTag}
-use Rattle.lft_model.proofs.Places.{slice_get_within}
-use Rattle.lft_check.specs.declared.verdict.Verdict.{Verdict}
-use Rattle.lft_check.specs.declared.verdict.Verdict.TheVariants.{Accepted, Broken}
-use Rattle.lft_check.specs.Verdicts.{IsVerdict}
+use Rattle.lft_ir.specs.{declared.steps.row.Row.Row, Steps.Fits.RowsFit}
+use Rattle.lft_trace.specs.{Records.records_of, Traces.Table}
+use Rattle.lft_model.specs.{declared.breach.Breach.Breach, Plans.PlanParts, Presence.Triggered, Runs.Ran, Breaches.{First, RowBreach, BreaksAt, BreaksTag}}
 use Rattle.lft_model.specs.OneWorker.{LegalRunsAreOneWorker, LegalRunsKeepPrecedence}
-use Rattle.lft_driver.specs.Judged.{AcceptedRuns}
-use Rattle.lft_driver.specs.Lines.{HasReaction}
-use Rattle.lft_load.specs.Meaning.{IsPlanOf, IsOnly}
-use Rattle.lft_load.proofs.Loading.{memory_untold}
-use Rattle.lft_driver.specs.Meaning.{Mean}
-use Rattle.lft_load.specs.Refusals.{is_of_text}
-use Rattle.lft_driver.specs.Refusals.{CheckRefusal, IsRefusedGrowth}
-use Rattle.lft_driver.specs.Refusals.CheckRefusal.{by_workers, by_growth}
-use Rattle.lft_load.specs.declared.fault.Fault.{Fault}
-use Rattle.lft_load.specs.declared.fault.Part.{Part}
+use Rattle.lft_model.proofs.Places.{slice_get_within}
+use Rattle.lft_check.specs.{declared.verdict.Verdict.{Verdict, TheVariants.{Accepted, Broken}}, Verdicts.IsVerdict}
+use Rattle.lft_driver.specs.{Judged.AcceptedRuns, Lines.HasReaction, Meaning.Mean}
+use Rattle.lft_driver.specs.Refusals.{CheckRefusal, IsRefusedGrowth, CheckRefusal.{by_workers, by_growth}}
+use Rattle.lft_load.{specs.{Meaning.{IsPlanOf, IsOnly}, Refusals.is_of_text, declared.fault.{Fault.Fault, Part.Part}}, proofs.Loading.memory_untold}
 use Rattle.lft_load.specs.declared.fault.Part.TheVariants as part
 
 -- the reaction of a breach is one of the program

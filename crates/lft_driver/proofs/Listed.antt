@@ -1,14 +1,9 @@
 -- Texts that grow by a line for each thing of a program, and what a graph's lists hold.
 use Rattle.std.proofs.Common.{◌≡◌, ℕ, ◌+◌, ◌<◌, ◌≤◌, ◌⊎◌, inl, inr, List, ◌++◌, length, take, flat_map, ap, ◌∙◌, arith, Some, slice_get}
-use Rattle.std.specs.List.{enumerate_from}
-use Rattle.std.proofs.lemmas.Option.{slice_get_within}
-use Rattle.std.proofs.lemmas.List.FromFn.{length-enumerate_from}
-use Rattle.lft_lists.proofs.Mapped.{enumerate_at}
-use Rattle.lft_lists.proofs.Places.{contains_at, get_there}
-use Rattle.lft_ir.proofs.WordsLemmas.Steps.{said_all, said_more}
-use Rattle.lft_ir.specs.Parts.{Parts}
-use Rattle.lft_graph.specs.Graph.{GraphParts, IsGraphOf}
-use Rattle.lft_graph.specs.Before.{IsDeclaredJustBefore, FeedsLast}
+use Rattle.std.{specs.List.enumerate_from, proofs.lemmas.{Option.slice_get_within, List.FromFn.length-enumerate_from}}
+use Rattle.lft_lists.proofs.{Mapped.enumerate_at, Places.{contains_at, get_there}}
+use Rattle.lft_ir.{proofs.WordsLemmas.Steps.{said_all, said_more}, specs.Parts.Parts}
+use Rattle.lft_graph.specs.{Graph.{GraphParts, IsGraphOf}, Before.{IsDeclaredJustBefore, FeedsLast}}
 
 placed_first : {X : Type 0} (xs : List X) (n : ℕ) (x : X) → slice_get xs n ≡ Some x → slice_get (enumerate_from 0 xs) n ≡ Some (n, x)
 placed_first xs n x e = let j : 0 + n ≡ n = omega arith in enumerate_at 0 xs n x e ∙ ap (λ w. Some (w, x)) j

@@ -1,11 +1,8 @@
 -- A text that lacks a marker is no bundle.
 use Rattle.std.proofs.Common.{◌≡◌, List, ℕ, ◌++◌, length, drop, refl, sym, ap, ◌∙◌, subst, codes}
 use Rattle.std.proofs.lemmas.List.{drop_at}
-use Rattle.lft_driver.specs.Bundles.{IsBundle, IsCut}
-use Rattle.lft_driver.specs.Markers.{IsMissing}
-use Rattle.lft_driver.specs.declared.bundle.Marker.{Marker}
+use Rattle.lft_driver.{specs.{Bundles.{IsBundle, IsCut}, Markers.IsMissing, declared.bundle.Marker.Marker}, proofs.Texts.cut_once}
 use Rattle.lft_driver.specs.declared.bundle.Marker.TheVariants as markers
-use Rattle.lft_driver.proofs.Texts.{cut_once}
 
 -- what follows the first line is one text
 after_first : (text rest others : List ℕ) → text ≡ codes "--- program\n" ++ rest → text ≡ codes "--- program\n" ++ others → others ≡ rest

@@ -1,25 +1,15 @@
 -- Faults of explaining two traces, which tell nothing of the texts.
 use Rattle.std.proofs.Common.{◌≡◌, ◌≢◌, ◌⊎◌, ◌++◌, inl, inr, ℕ, Bool, IfErr, Result, Ok, Err, List, Option, true, refl, subst}
-use Rattle.std.specs.Io.KnownBytes.{Appends, Keeps}
-use Rattle.lft_ir.specs.Parts.{Parts}
-use Rattle.lft_ir.specs.declared.steps.row.Row.{Row}
-use Rattle.lft_model.specs.Plans.{PlanParts}
-use Rattle.lft_model.specs.Workers.{IsWorkers}
-use Rattle.lft_load.specs.Refusals.{is_of_text}
-use Rattle.lft_load.specs.Written.{AppendsFront}
-use Rattle.lft_load.specs.declared.fault.Fault.{Fault}
-use Rattle.lft_load.specs.declared.fault.Part.TheVariants as part
-use Rattle.lft_driver.specs.Lines.{line_of_pair}
-use Rattle.lft_driver.specs.Refusals.{IsRefusedGrowth}
-use Rattle.lft_driver.specs.Refusals.CheckRefusal.{by_growth}
-use Rattle.lft_driver.specs.declared.paired.Paired.{Paired}
+use Rattle.std.{specs.Io.KnownBytes.{Appends, Keeps}, proofs.KnownBytes.Appends-kept}
+use Rattle.lft_ir.specs.{Parts.Parts, declared.steps.row.Row.Row}
+use Rattle.lft_model.specs.{Plans.PlanParts, Workers.IsWorkers}
+use Rattle.lft_load.specs.{Refusals.is_of_text, Written.AppendsFront, declared.fault.Fault.Fault}
+use Rattle.lft_driver.specs.{Lines.line_of_pair, Refusals.{IsRefusedGrowth, CheckRefusal.by_growth}, declared.paired.Paired.Paired}
 use Rattle.lft_driver.specs.Explained.{Writes, WriteRefusal}
-use Rattle.lft_driver.specs.PairExplained.{StandsBehind, IsPairExplanation, PairExplainingRefusal}
-use Rattle.lft_driver.specs.PairExplained.PairExplainingRefusal.{by_check, by_line, by_writer}
+use Rattle.lft_driver.specs.PairExplained.{StandsBehind, IsPairExplanation, PairExplainingRefusal, PairExplainingRefusal.{by_check, by_line, by_writer}}
 use Rattle.lft_driver.specs.Pairs.{IsPairing}
-use Rattle.lft_driver.proofs.Judging.{refusal_untold, write_untold}
-use Rattle.std.proofs.KnownBytes.{Appends-kept}
-use Rattle.lft_driver.proofs.Behind.{writes_both, front_both, growth_kept}
+use Rattle.lft_driver.proofs.{Judging.{refusal_untold, write_untold}, Behind.{writes_both, front_both, growth_kept}}
+use Rattle.lft_load.specs.declared.fault.Part.TheVariants as part
 
 module _ (all : Bool) (plan : PlanParts) (rows others : List Row) (workers : ℕ) (program : Parts) (same : program ≡ plan.program) (said : Paired) (right : IsPairing plan rows others said) (lawful : IsWorkers workers) (old mid new : Option (List ℕ)) where
   -- the writer failed on the line, or there was no memory for it

@@ -1,20 +1,12 @@
 -- What two traces show names a reaction of the program, and faults that tell nothing of the texts.
 use Rattle.std.proofs.Common.{◌≡◌, ◌⊎◌, inl, inr, ℕ, List, Option, true, refl, subst}
-use Rattle.lft_ir.specs.declared.steps.row.Row.{Row}
-use Rattle.lft_ir.specs.Steps.Fits.{RowsFit}
-use Rattle.lft_trace.specs.Records.{records_of}
-use Rattle.lft_trace.specs.Traces.{Table}
+use Rattle.lft_ir.specs.{declared.steps.row.Row.Row, Steps.Fits.RowsFit}
+use Rattle.lft_trace.specs.{Records.records_of, Traces.Table}
 use Rattle.lft_model.specs.Plans.{PlanParts}
 use Rattle.lft_check.specs.declared.verdict.Verdict.TheVariants.{Broken}
-use Rattle.lft_load.specs.Meaning.{IsOnly, IsPlanOf}
-use Rattle.lft_driver.specs.Meaning.{IsNoTrace}
-use Rattle.lft_driver.specs.Pairs.{IsPairing, MeanBoth, NamesReaction}
-use Rattle.lft_driver.specs.PairRefusals.{PairingRefusal}
-use Rattle.lft_driver.specs.PairRefusals.PairingRefusal.{by_check, by_writer}
-use Rattle.lft_load.specs.Refusals.{is_of_text}
-use Rattle.lft_load.specs.declared.fault.Fault.{Fault}
-use Rattle.lft_driver.specs.declared.paired.Paired.{Paired}
-use Rattle.lft_driver.specs.declared.paired.Paired.TheVariants.{First, Second, Same, Differ}
+use Rattle.lft_load.specs.{Meaning.{IsOnly, IsPlanOf}, Refusals.is_of_text, declared.fault.Fault.Fault}
+use Rattle.lft_driver.specs.{Meaning.IsNoTrace, Pairs.{IsPairing, MeanBoth, NamesReaction}, PairRefusals.{PairingRefusal, PairingRefusal.{by_check, by_writer}}}
+use Rattle.lft_driver.specs.declared.paired.Paired.{Paired, TheVariants.{First, Second, Same, Differ}}
 use Rattle.lft_driver.proofs.Judging.{has_reaction, refusal_untold, rows_of_plan, write_untold}
 
 -- the reaction that is named is one of the program

@@ -1,21 +1,15 @@
 -- A program's text that is refused has no program.
 use Rattle.std.proofs.Common.{◌≡◌, ◌≢◌, ℕ, ◌≤◌, List, length, refl, sym, ◌∙◌, subst, arith}
-use Rattle.lft_syntax.specs.declared.token.Token.{Token}
-use Rattle.lft_syntax.specs.declared.fault.LexFault.{LexFault}
-use Rattle.lft_syntax.specs.declared.fault.LexFault.TheVariants as lex
-use Rattle.lft_syntax.specs.Grammar.{Spells}
-use Rattle.lft_syntax.specs.Lexes.{Lexes, LexFails}
-use Rattle.lft_syntax.specs.View.{lexemes}
+use Rattle.lft_syntax.specs.{declared.{token.Token.Token, fault.LexFault.LexFault}, Grammar.Spells, Lexes.{Lexes, LexFails}, View.lexemes}
 use Rattle.lft_syntax.proofs.Once.{cut_once}
-use Rattle.lft_tree.specs.Tree.{FileTree}
-use Rattle.lft_tree.specs.View.{file_view}
+use Rattle.lft_tree.specs.{Tree.FileTree, View.file_view}
 use Rattle.lft_resolve.specs.Causes.{IsFirst, causes}
 use Rattle.lft_program.proofs.Firsts.{first_holds}
-use Rattle.lft_load.specs.Meaning.{IsOnly, IsTreeOf}
-use Rattle.lft_load.proofs.Loading.{one_tree}
+use Rattle.lft_load.{specs.Meaning.{IsOnly, IsTreeOf}, proofs.Loading.one_tree}
 use Rattle.lft_text_diagnostics.specs.Refusals.{HasNoTree}
 use Rattle.lft_program_diagnostics.specs.Reasons.{IsToldOf}
 use Rattle.lft_driver.specs.Told.{HasNoProgram}
+use Rattle.lft_syntax.specs.declared.fault.LexFault.TheVariants as lex
 
 -- for it has no tokens, or too many bytes
 pub no_tokens : (t : List ℕ) (e : LexFault) → LexFails t e → e ≢ lex.NoMemory → HasNoProgram t

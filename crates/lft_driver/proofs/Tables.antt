@@ -1,18 +1,10 @@
 -- What a reader of trace tables says of a text holds under a plan of the same program.
 use Rattle.std.proofs.Common.{◌≡◌, ℕ, List, true, sym, subst}
-use Rattle.lft_ir.specs.Parts.{Parts}
-use Rattle.lft_ir.specs.declared.steps.row.Row.{Row}
-use Rattle.lft_trace.specs.Faults.{is_told}
-use Rattle.lft_trace.specs.Records.{records_of}
-use Rattle.lft_trace.specs.Traces.{Table, TraceFails}
-use Rattle.lft_trace.specs.declared.fault.TraceFault.{TraceFault}
-use Rattle.lft_load.specs.Faults.{table_number}
-use Rattle.lft_load.specs.Refusals.{is_of_text}
-use Rattle.lft_load.specs.declared.fault.Fault.{Fault}
+use Rattle.lft_ir.specs.{Parts.Parts, declared.steps.row.Row.Row}
+use Rattle.lft_trace.specs.{Faults.is_told, Records.records_of, Traces.{Table, TraceFails}, declared.fault.TraceFault.TraceFault}
+use Rattle.lft_load.{specs.{Faults.table_number, Refusals.is_of_text, declared.fault.Fault.Fault}, proofs.Loading.{trace_told, told_at}}
+use Rattle.lft_driver.specs.{Meaning.{HasTable, IsNoTrace}, Refusals.TraceRefusal}
 use Rattle.lft_load.specs.declared.fault.Part.TheVariants as part
-use Rattle.lft_load.proofs.Loading.{trace_told, told_at}
-use Rattle.lft_driver.specs.Meaning.{HasTable, IsNoTrace}
-use Rattle.lft_driver.specs.Refusals.{TraceRefusal}
 
 module _ (trace : List ℕ) (p program : Parts) (same : p ≡ program) where
   pub has_table : (rows : List Row) → Table p (records_of trace) rows → ((other : List Row) → Table p (records_of trace) other → other ≡ rows) → HasTable program trace rows

@@ -1,18 +1,12 @@
 -- What is told of texts is told of such as have no meaning.
 use Rattle.std.proofs.Common.{◌≡◌, ◌≢◌, ℕ, ◌⊎◌, List, [], ◌∷◌, ◌++◌, inl, inr, refl, sym, ◌∙◌, subst, Option, Some, None, IfNone, IfSome, Result, Ok, Err, IfOk}
 use Rattle.lft_ir.specs.Parts.{Parts}
-use Rattle.lft_trace.specs.Records.{records_of}
-use Rattle.lft_trace.specs.Traces.{Table}
-use Rattle.lft_graph.specs.Precedence.{HasNoLoop}
-use Rattle.lft_graph.specs.Loops.{IsLoop}
-use Rattle.lft_graph.proofs.Cycles.{is_cycle}
-use Rattle.lft_load.specs.Meaning.{IsProgramOf, IsOnly}
-use Rattle.lft_load.proofs.Loading.{under}
-use Rattle.lft_trace.specs.declared.fault.TraceFault.{TraceFault}
-use Rattle.lft_trace.specs.declared.fault.TraceFault.TheVariants as fault
+use Rattle.lft_trace.specs.{Records.records_of, Traces.Table, declared.fault.TraceFault.TraceFault}
+use Rattle.lft_graph.{specs.{Precedence.HasNoLoop, Loops.IsLoop}, proofs.Cycles.is_cycle}
+use Rattle.lft_load.{specs.Meaning.{IsProgramOf, IsOnly}, proofs.Loading.under}
 use Rattle.lft_text_diagnostics.specs.Tables.Tables.{Begins, field_line, heading, line_words}
-use Rattle.lft_driver.specs.Meaning.{IsNoTrace, IsTrace, Mean}
-use Rattle.lft_driver.specs.Told.{HasNoOrder, HaveMeaning, HaveNoMeaning, IsNoTable, IsPlanned, IsUnplanned, TellsLoop}
+use Rattle.lft_driver.specs.{Meaning.{IsNoTrace, IsTrace, Mean}, Told.{HasNoOrder, HaveMeaning, HaveNoMeaning, IsNoTable, IsPlanned, IsUnplanned, TellsLoop}}
+use Rattle.lft_trace.specs.declared.fault.TraceFault.TheVariants as fault
 
 -- what holds where something is told holds of what is told
 pub some_so : {X : Type 0} (o : Option X) (x : X) (P : Type 0) → o ≡ Some x → IfSome o (λ _. P) → P

@@ -2,25 +2,13 @@
 use Rattle.std.specs.Prelude.{◌≡◌, ◌↔◌, ◌⊎◌, ℕ, Bool, IsTrue, List, [], ◌++◌, Option, codes}
 use Rattle.std.specs.Io.KnownBytes.{Appends, Keeps}
 use Rattle.lft_ir.specs.declared.steps.row.Row.{Row}
-use Rattle.lft_model.specs.declared.breach.Breach.{Breach}
-use Rattle.lft_model.specs.Plans.{PlanParts}
-use Rattle.lft_check.specs.declared.verdict.Verdict.{Verdict}
-use Rattle.lft_check.specs.declared.verdict.Verdict.TheVariants.{Accepted, Broken}
-use Rattle.lft_check.specs.Verdicts.{IsVerdict}
+use Rattle.lft_model.specs.{declared.breach.Breach.Breach, Plans.PlanParts}
+use Rattle.lft_check.specs.{declared.verdict.Verdict.{Verdict, TheVariants.{Accepted, Broken}}, Verdicts.IsVerdict}
 use Rattle.lft_report.specs.Explained.{Explains}
-use Rattle.lft_races.specs.declared.hints.hint.Hint.{Hint}
-use Rattle.lft_races.specs.Hints.Hints.{IsHint}
-use Rattle.lft_races.specs.Hints.Words.{hint_words}
-use Rattle.lft_load.specs.Meaning.{IsPlanOf, OfOnly}
-use Rattle.lft_load.specs.Refusals.{LoadRefusal}
-use Rattle.lft_load.specs.Written.{AppendsFront}
-use Rattle.lft_load.specs.declared.fault.Fault.{Fault}
+use Rattle.lft_races.specs.{declared.hints.hint.Hint.Hint, Hints.{Hints.IsHint, Words.hint_words}}
+use Rattle.lft_load.specs.{Meaning.{IsPlanOf, OfOnly}, Refusals.LoadRefusal, Written.AppendsFront, declared.fault.Fault.Fault}
+use Rattle.lft_driver.specs.{Bundles.IsBundle, Judged.{Accepts, AcceptedRuns}, Lines.line_of, Meaning.HasTable, Refusals.{CheckRefusal, TraceRefusal}}
 use Rattle.lft_load.specs.declared.fault.Part.TheVariants as part
-use Rattle.lft_driver.specs.Bundles.{IsBundle}
-use Rattle.lft_driver.specs.Judged.{Accepts, AcceptedRuns}
-use Rattle.lft_driver.specs.Lines.{line_of}
-use Rattle.lft_driver.specs.Meaning.{HasTable}
-use Rattle.lft_driver.specs.Refusals.{CheckRefusal, TraceRefusal}
 
 -- the line of a hint that holds of the breach
 abbrev pub IsGuess : PlanParts → List Row → Breach → List ℕ → Type 0

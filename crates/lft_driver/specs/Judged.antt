@@ -2,16 +2,10 @@
 use Rattle.std.specs.Prelude.{◌↔◌, ℕ, Bool, IsTrue, List, Option}
 use Rattle.std.specs.Io.KnownBytes.{Appends}
 use Rattle.lft_ir.specs.declared.steps.row.Row.{Row}
-use Rattle.lft_model.specs.Plans.{PlanParts}
-use Rattle.lft_model.specs.Runs.{by_ends}
-use Rattle.lft_model.specs.OneWorker.{OneWorker, InOrderOfPrecedence}
-use Rattle.lft_check.specs.declared.verdict.Verdict.{Verdict}
-use Rattle.lft_check.specs.declared.verdict.Verdict.TheVariants.{Accepted, Broken}
-use Rattle.lft_check.specs.Verdicts.{IsVerdict}
+use Rattle.lft_model.specs.{Plans.PlanParts, Runs.by_ends, OneWorker.{OneWorker, InOrderOfPrecedence}}
+use Rattle.lft_check.specs.{declared.verdict.Verdict.{Verdict, TheVariants.{Accepted, Broken}}, Verdicts.IsVerdict}
 use Rattle.lft_load.specs.Meaning.{IsPlanOf, OfOnly}
-use Rattle.lft_driver.specs.Bundles.{IsBundle}
-use Rattle.lft_driver.specs.Lines.{line_of}
-use Rattle.lft_driver.specs.Meaning.{HasTable}
+use Rattle.lft_driver.specs.{Bundles.IsBundle, Lines.line_of, Meaning.HasTable}
 
 -- the trace breaks no rule
 abbrev pub Accepts : Verdict → Type 0

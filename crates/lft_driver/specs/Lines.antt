@@ -2,8 +2,7 @@
 use Rattle.std.specs.Prelude.{ℕ, ◌<◌, List, [], ◌++◌, Option, Some, None, length, codes, nat_eq, if◌then◌else◌}
 use Rattle.lft_ir.specs.Parts.{Parts}
 use Rattle.lft_model.specs.declared.breach.Breach.{Breach}
-use Rattle.lft_check.specs.declared.verdict.Verdict.{Verdict}
-use Rattle.lft_check.specs.declared.verdict.Verdict.TheVariants.{Accepted, Broken}
+use Rattle.lft_check.specs.declared.verdict.Verdict.{Verdict, TheVariants.{Accepted, Broken}}
 use Rattle.lft_tag.specs.declared.Tag.{Tag}
 use Rattle.lft_load.specs.Words.{field, reaction_name}
 use Rattle.lft_driver.specs.declared.paired.Paired.{Paired}

@@ -1,7 +1,6 @@
 -- Which marker a text lacks that is no bundle.
 use Rattle.std.specs.Prelude.{◌≡◌, ◌≢◌, ℕ, List, ◌++◌, codes}
-use Rattle.lft_driver.specs.Bundles.{IsCut}
-use Rattle.lft_driver.specs.declared.bundle.Marker.{Marker}
+use Rattle.lft_driver.specs.{Bundles.IsCut, declared.bundle.Marker.Marker}
 use Rattle.lft_driver.specs.declared.bundle.Marker.TheVariants as markers
 
 -- none of the lines of the text is the marker

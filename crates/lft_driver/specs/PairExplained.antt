@@ -4,20 +4,13 @@ use Rattle.std.specs.Io.KnownBytes.{Appends, Keeps}
 use Rattle.lft_tag.specs.declared.Tag.{Tag}
 use Rattle.lft_ir.specs.declared.steps.row.Row.{Row}
 use Rattle.lft_model.specs.Plans.{PlanParts}
-use Rattle.lft_driver.specs.Explained.{AreReasons, Writes}
+use Rattle.lft_driver.specs.{Explained.{AreReasons, Writes}, declared.paired.Paired.Paired, Lines.line_of_pair, PairRefusals.TracesRefusal}
+use Rattle.lft_driver.specs.{Pairs.{HaveTables, IsPairing, SaysSame}, Refusals.CheckRefusal}
 use Rattle.lft_report.specs.Shortened.{shown}
 use Rattle.lft_pair.specs.Shown.{ShowsDifference}
-use Rattle.lft_load.specs.Meaning.{IsPlanOf, OfOnly}
-use Rattle.lft_load.specs.Refusals.{LoadRefusal}
-use Rattle.lft_load.specs.Written.{AppendsFront}
-use Rattle.lft_load.specs.declared.fault.Fault.{Fault}
+use Rattle.lft_load.specs.{Meaning.{IsPlanOf, OfOnly}, Refusals.LoadRefusal, Written.AppendsFront, declared.fault.Fault.Fault}
 use Rattle.lft_load.specs.declared.fault.Part.TheVariants as part
-use Rattle.lft_driver.specs.declared.paired.Paired.{Paired}
 use Rattle.lft_driver.specs.declared.paired.Paired.TheVariants as paired
-use Rattle.lft_driver.specs.Lines.{line_of_pair}
-use Rattle.lft_driver.specs.PairRefusals.{TracesRefusal}
-use Rattle.lft_driver.specs.Pairs.{HaveTables, IsPairing, SaysSame}
-use Rattle.lft_driver.specs.Refusals.{CheckRefusal}
 
 -- an empty line and what shows a difference: all of it, or the first 60 lines and how many others there are
 abbrev pub AreAnswers : Bool → PlanParts → List Row → List Row → Tag → ℕ → List ℕ → Type 0

@@ -1,18 +1,11 @@
 -- Why two traces, from texts, get no comparison: the fault of the first layer that refuses.
 use Rattle.std.specs.Prelude.{◌≡◌, ◌⊎◌, ℕ, List, Option}
-use Rattle.lft_ir.specs.Parts.{Parts}
-use Rattle.lft_ir.specs.declared.steps.row.Row.{Row}
+use Rattle.lft_ir.specs.{Parts.Parts, declared.steps.row.Row.Row}
 use Rattle.lft_model.specs.Plans.{PlanParts}
-use Rattle.lft_load.specs.Meaning.{IsPlanOf, OfOnly}
-use Rattle.lft_load.specs.Refusals.{LoadRefusal}
-use Rattle.lft_load.specs.Written.{AppendsFront}
-use Rattle.lft_load.specs.declared.fault.Fault.{Fault}
-use Rattle.lft_load.specs.declared.fault.Part.TheVariants as part
-use Rattle.lft_driver.specs.Lines.{line_of_pair}
-use Rattle.lft_driver.specs.Meaning.{HasTable}
-use Rattle.lft_driver.specs.Pairs.{HaveTables, IsPairing}
-use Rattle.lft_driver.specs.Refusals.{CheckRefusal, TraceRefusal}
+use Rattle.lft_load.specs.{Meaning.{IsPlanOf, OfOnly}, Refusals.LoadRefusal, Written.AppendsFront, declared.fault.Fault.Fault}
+use Rattle.lft_driver.specs.{Lines.line_of_pair, Meaning.HasTable, Pairs.{HaveTables, IsPairing}, Refusals.{CheckRefusal, TraceRefusal}}
 use Rattle.lft_driver.specs.declared.paired.Paired.{Paired}
+use Rattle.lft_load.specs.declared.fault.Part.TheVariants as part
 
 -- the first text is no trace table of the program, or the first is one and the second isn't
 abbrev pub TracesRefusal : Parts → List ℕ → List ℕ → Fault → Type 0

@@ -1,22 +1,15 @@
 -- What is said of two traces, from texts, and what was written of it.
 use Rattle.std.specs.Prelude.{◌↔◌, ℕ, ◌<◌, Bool, IsTrue, List, Option, length}
 use Rattle.std.specs.Io.KnownBytes.{Appends}
-use Rattle.lft_ir.specs.Parts.{Parts}
-use Rattle.lft_ir.specs.declared.steps.row.Row.{Row}
-use Rattle.lft_trace.specs.Records.{records_of}
-use Rattle.lft_trace.specs.Traces.{Table}
-use Rattle.lft_model.specs.Plans.{PlanParts}
-use Rattle.lft_model.specs.Runs.{by_ends}
-use Rattle.lft_model.specs.Breaches.{Legal, First}
-use Rattle.lft_model.specs.OneWorker.{OneWorker, InOrderOfPrecedence}
+use Rattle.lft_ir.specs.{Parts.Parts, declared.steps.row.Row.Row}
+use Rattle.lft_trace.specs.{Records.records_of, Traces.Table}
+use Rattle.lft_model.specs.{Plans.PlanParts, Runs.by_ends, Breaches.{Legal, First}, OneWorker.{OneWorker, InOrderOfPrecedence}}
 use Rattle.lft_rows.specs.Accepted.{IsAccepted}
-use Rattle.lft_pair.specs.declared.comparison.Pair.TheVariants as pair
 use Rattle.lft_pair.specs.Pairs.{IsComparison}
 use Rattle.lft_load.specs.Meaning.{IsPlanOf, OfOnly}
-use Rattle.lft_driver.specs.declared.paired.Paired.{Paired}
+use Rattle.lft_driver.specs.{declared.paired.Paired.Paired, Lines.{HasReaction, line_of_pair}, Meaning.{HasTable, Mean}}
+use Rattle.lft_pair.specs.declared.comparison.Pair.TheVariants as pair
 use Rattle.lft_driver.specs.declared.paired.Paired.TheVariants as paired
-use Rattle.lft_driver.specs.Lines.{HasReaction, line_of_pair}
-use Rattle.lft_driver.specs.Meaning.{HasTable, Mean}
 
 -- the runs, in order of their ends, are an execution by one worker, and no run started before every run that precedes it at its tag had ended
 abbrev pub IsExecution : PlanParts → List Row → Type 0

@@ -1,26 +1,14 @@
 -- Why texts get no plan and no verdict: the fault of the first layer that refuses.
 use Rattle.std.specs.Prelude.{◌≡◌, ℕ, ◌⊎◌, Bool, List, Option, true, false}
-use Rattle.lft_ir.specs.Parts.{Parts}
-use Rattle.lft_trace.specs.declared.fault.TraceFault.{TraceFault}
-use Rattle.lft_ir.specs.declared.steps.row.Row.{Row}
-use Rattle.lft_trace.specs.Faults.{is_told}
-use Rattle.lft_trace.specs.Records.{records_of}
-use Rattle.lft_trace.specs.Traces.{TraceFails}
-use Rattle.lft_model.specs.Plans.{PlanParts}
-use Rattle.lft_load.specs.Faults.{table_number}
-use Rattle.lft_check.specs.declared.verdict.Verdict.{Verdict}
-use Rattle.lft_model.specs.Workers.{IsWorkers}
-use Rattle.lft_check.specs.Verdicts.{IsVerdict}
-use Rattle.lft_driver.specs.Bundles.{IsBundle}
-use Rattle.lft_driver.specs.Lines.{line_of}
-use Rattle.lft_load.specs.Meaning.{IsProgramOf, IsPlanOf, OfOnly}
-use Rattle.lft_driver.specs.Meaning.{HasTable}
-use Rattle.lft_graph.specs.Graph.{GraphParts, IsGraphOf}
-use Rattle.lft_driver.specs.Shown.{lines_of}
-use Rattle.lft_load.specs.Written.{AppendsFront}
-use Rattle.lft_load.specs.declared.fault.Fault.{Fault}
-use Rattle.lft_load.specs.declared.fault.Part.TheVariants as part
+use Rattle.lft_ir.specs.{Parts.Parts, declared.steps.row.Row.Row}
+use Rattle.lft_trace.specs.{declared.fault.TraceFault.TraceFault, Faults.is_told, Records.records_of, Traces.TraceFails}
+use Rattle.lft_model.specs.{Plans.PlanParts, Workers.IsWorkers}
+use Rattle.lft_load.specs.{Faults.table_number, Meaning.{IsProgramOf, IsPlanOf, OfOnly}, Written.AppendsFront, declared.fault.Fault.Fault}
 use Rattle.lft_load.specs.Refusals.{LoadRefusal, ProgramRefusal, GraphRefusal}
+use Rattle.lft_check.specs.{declared.verdict.Verdict.Verdict, Verdicts.IsVerdict}
+use Rattle.lft_driver.specs.{Bundles.IsBundle, Lines.line_of, Meaning.HasTable, Shown.lines_of}
+use Rattle.lft_graph.specs.Graph.{GraphParts, IsGraphOf}
+use Rattle.lft_load.specs.declared.fault.Part.TheVariants as part
 
 -- a growth of the checker or of `lftrace` itself was refused
 abbrev pub IsRefusedGrowth : Fault → Type 0

@@ -1,20 +1,12 @@
 -- A program as it is shown: ports and precedence, or all of it, one thing a line.
 use Rattle.std.specs.Prelude.{ℕ, Bool, true, false, List, [], ◌∷◌, ◌++◌, Option, slice_get, unwrap_or, get_or, codes, flat_map, if◌then◌else◌}
-use Rattle.std.specs.List.{enumerate_from}
-use Rattle.std.specs.Io.KnownBytes.{Appends}
+use Rattle.std.specs.{List.enumerate_from, Io.KnownBytes.Appends}
 use Rattle.lft_ir.specs.Parts.{Parts}
-use Rattle.lft_ir.specs.declared.parts.Port.{Port as PortOf}
-use Rattle.lft_ir.specs.declared.parts.Action.{Action as ActionOf}
-use Rattle.lft_ir.specs.declared.parts.Timer.{Timer as TimerOf}
-use Rattle.lft_ir.specs.declared.parts.Reaction.{Reaction}
-use Rattle.lft_ir.specs.declared.parts.Name.{Name}
-use Rattle.lft_ir.specs.declared.parts.Name.TheVariants.{Port, Action}
-use Rattle.lft_ir.specs.declared.parts.Trigger.{Trigger}
-use Rattle.lft_ir.specs.declared.parts.Trigger.TheVariants.{Startup, Shutdown, Timer, On}
-use Rattle.lft_graph.specs.Graph.{GraphParts, IsGraphOf}
+use Rattle.lft_ir.specs.declared.parts.{Port.Port as PortOf, Action.Action as ActionOf, Timer.Timer as TimerOf, Reaction.Reaction}
+use Rattle.lft_ir.specs.declared.parts.{Name.{Name, TheVariants.{Port, Action}}, Trigger.{Trigger, TheVariants.{Startup, Shutdown, Timer, On}}}
 use Rattle.lft_ir.specs.Words.Words.{action_words, name_words, timer_words}
-use Rattle.lft_load.specs.Words.{field, names_words, reaction_name}
-use Rattle.lft_load.specs.Meaning.{IsProgramOf, OfOnly}
+use Rattle.lft_graph.specs.Graph.{GraphParts, IsGraphOf}
+use Rattle.lft_load.specs.{Words.{field, names_words, reaction_name}, Meaning.{IsProgramOf, OfOnly}}
 
 -- the name of a port
 abbrev pub port_name : Parts → ℕ → List ℕ

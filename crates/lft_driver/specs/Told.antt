@@ -1,26 +1,14 @@
 -- Texts of which a refusal is told.
 use Rattle.std.specs.Prelude.{◌≡◌, ℕ, ◌⊎◌, List, ◌++◌, Some, codes, string_bytes}
-use Rattle.lft_ir.specs.declared.steps.row.Row.{Row}
-use Rattle.lft_ir.specs.Parts.{Parts}
-use Rattle.lft_graph.specs.Loops.{IsLoop}
-use Rattle.lft_graph.specs.Precedence.{HasNoLoop}
-use Rattle.lft_ir.specs.Steps.Inputs.{ExternalInputs}
-use Rattle.lft_trace.specs.ExternalTables.{ExternalTable, ExternalFails}
-use Rattle.lft_trace.specs.Records.{records_of}
-use Rattle.lft_trace.specs.Traces.{TraceFails}
-use Rattle.lft_trace.specs.declared.fault.TraceFault.{TraceFault}
+use Rattle.lft_ir.specs.{declared.steps.row.Row.Row, Parts.Parts, Steps.Inputs.ExternalInputs}
+use Rattle.lft_graph.specs.{Loops.IsLoop, Precedence.HasNoLoop}
+use Rattle.lft_trace.specs.{ExternalTables.{ExternalTable, ExternalFails}, Records.records_of, Traces.TraceFails, declared.fault.TraceFault.TraceFault}
 use Rattle.lft_model.specs.Plans.{PlanParts}
 use Rattle.lft_load.specs.Meaning.{IsOnly, IsPlanOf, IsPlanUnder, IsProgramOf, OfOnly}
-use Rattle.lft_text_diagnostics.specs.Told.{TellsProgram}
-use Rattle.lft_program_diagnostics.specs.Reasons.{IsToldOf}
-use Rattle.lft_text_diagnostics.specs.Tables.Tables.{Begins, IsWrong, IsWrongThere, NamesField, field_line, heading}
-use Rattle.lft_program_diagnostics.specs.Loops.{loop_words}
-use Rattle.lft_driver.specs.Bundles.{IsBundle}
-use Rattle.lft_driver.specs.Markers.{IsMissing}
-use Rattle.lft_driver.specs.Meaning.{IsTrace, Mean}
-use Rattle.lft_driver.specs.declared.bundle.Marker.{Marker}
+use Rattle.lft_text_diagnostics.specs.{Told.TellsProgram, Tables.Tables.{Begins, IsWrong, IsWrongThere, NamesField, field_line, heading}}
+use Rattle.lft_program_diagnostics.specs.{Reasons.IsToldOf, Loops.loop_words}
+use Rattle.lft_driver.specs.{Bundles.IsBundle, Markers.IsMissing, Meaning.{IsTrace, Mean}, declared.{bundle.Marker.Marker, refused.Start.Start}}
 use Rattle.lft_driver.specs.declared.bundle.Marker.TheVariants as markers
-use Rattle.lft_driver.specs.declared.refused.Start.{Start}
 use Rattle.lft_driver.specs.declared.refused.Start.TheVariants as start
 
 -- the text is a table of external inputs of the program

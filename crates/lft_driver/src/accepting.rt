@@ -2,8 +2,7 @@
 
 ghost use Rattle.std.specs.Prelude.{◌≡◌, IfSome};
 ghost use Rattle.lft_ir.specs.Steps.Fits.{RowsFit};
-ghost use Rattle.lft_check.specs.declared.verdict.Verdict.TheVariants.{Accepted};
-ghost use Rattle.lft_check.specs.Verdicts.{IsVerdict};
+ghost use Rattle.lft_check.specs.{declared.verdict.Verdict.TheVariants.Accepted, Verdicts.IsVerdict};
 
 use lft_check::Verdict;
 use lft_ir::steps::Rows;

@@ -2,15 +2,12 @@
 
 ghost use Rattle.std.specs.Prelude.{◌≡◌, ◌≢◌, true, IfOk, IfErr, List};
 ghost use Rattle.std.specs.Io.KnownBytes.{Keeps};
-ghost use Rattle.lft_ir.specs.Steps.Fits.{RowsFit};
-ghost use Rattle.lft_ir.specs.declared.steps.row.Row.{Row};
+ghost use Rattle.lft_ir.specs.{Steps.Fits.RowsFit, declared.steps.row.Row.Row};
 ghost use Rattle.lft_model.specs.Plans.{PlanParts};
 ghost use Rattle.lft_check.specs.Verdicts.{IsVerdict};
-ghost use Rattle.lft_driver.specs.Accepting.{IsRight, IsUnjudged};
-ghost use Rattle.lft_driver.specs.Meaning.{IsNoTrace, Mean};
-ghost use Rattle.lft_driver.specs.Judged.{IsJudged, IsJudgedUnder};
-ghost use Rattle.lft_load.specs.Refusals.{is_of_text};
+ghost use Rattle.lft_driver.specs.{Accepting.{IsRight, IsUnjudged}, Meaning.{IsNoTrace, Mean}, Judged.{IsJudged, IsJudgedUnder}};
 ghost use Rattle.lft_driver.specs.Refusals.{IsRefusedGrowth, JudgeRefusal, JudgeRefusalUnder};
+ghost use Rattle.lft_load.specs.Refusals.{is_of_text};
 ghost use Rattle.lft_load.specs.declared.fault.Part.TheVariants as part;
 
 use crate::accepting::{accepted, accepted_by, is_odd};

@@ -2,11 +2,9 @@
 
 ghost use Rattle.std.specs.Prelude.{◌≢◌, ◌↔◌, IsTrue, IfOk, IfErr};
 ghost use Rattle.std.specs.Io.KnownBytes.{Keeps};
-ghost use Rattle.lft_load.specs.declared.fault.Part.TheVariants as part;
-ghost use Rattle.lft_driver.specs.Explained.{ExplainBundleRefusal, IsExplainedBundle};
-ghost use Rattle.lft_driver.specs.Judged.{Accepts, IsBundleAccepted};
-ghost use Rattle.lft_driver.specs.Pairs.{SaysSame};
+ghost use Rattle.lft_driver.specs.{Explained.{ExplainBundleRefusal, IsExplainedBundle}, Judged.{Accepts, IsBundleAccepted}, Pairs.SaysSame};
 ghost use Rattle.lft_driver.specs.Refusals.{BundleRefusal};
+ghost use Rattle.lft_load.specs.declared.fault.Part.TheVariants as part;
 
 use crate::alone::judge_texts_alone;
 use crate::bundle::split_bundle;

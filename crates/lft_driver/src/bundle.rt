@@ -1,8 +1,7 @@
 //! The three texts of a bundle.
 
 ghost use Rattle.std.specs.Prelude.{◌≡◌, ◌≢◌, ◌<◌, ◌↔◌, ◌++◌, ℕ, IsTrue, IfErr, IfOk, IfSome, IfNone, List, length, take, drop, codes};
-ghost use Rattle.lft_driver.specs.Bundles.{BeginsLine, IsBundle, IsCut, IsLine};
-ghost use Rattle.lft_driver.specs.Markers.{IsMissing};
+ghost use Rattle.lft_driver.specs.{Bundles.{BeginsLine, IsBundle, IsCut, IsLine}, Markers.IsMissing};
 
 const PROGRAM: &[u8] = b"--- program\n";
 

@@ -2,14 +2,11 @@
 
 ghost use Rattle.std.specs.Prelude.{◌≡◌, ◌≢◌, true, OnOk, IfOk, IfErr, List, string_bytes};
 ghost use Rattle.std.specs.Io.KnownBytes.{Keeps};
-ghost use Rattle.lft_ir.specs.Steps.Fits.{RowsFit};
-ghost use Rattle.lft_ir.specs.declared.steps.row.Row.{Row};
-ghost use Rattle.lft_model.specs.Plans.{PlanParts};
-ghost use Rattle.lft_model.specs.Workers.{IsWorkers};
+ghost use Rattle.lft_ir.specs.{Steps.Fits.RowsFit, declared.steps.row.Row.Row};
+ghost use Rattle.lft_model.specs.{Plans.PlanParts, Workers.IsWorkers};
 ghost use Rattle.lft_races.specs.Races.{FirstSoFar};
 ghost use Rattle.lft_check.specs.Verdicts.{IsVerdict};
-ghost use Rattle.lft_driver.specs.Meaning.{IsNoTrace, Mean};
-ghost use Rattle.lft_driver.specs.Judged.{AcceptedRuns};
+ghost use Rattle.lft_driver.specs.{Meaning.{IsNoTrace, Mean}, Judged.AcceptedRuns};
 ghost use Rattle.lft_driver.specs.Explained.{Guesses, AreReasons, StandsBehind, IsExplanation, Writes, WriteRefusal, IsExplained, IsExplainedUnder, ExplainingRefusal, ExplainRefusal, ExplainRefusalUnder};
 ghost use Rattle.lft_load.specs.Refusals.{is_of_text};
 ghost use Rattle.lft_load.specs.declared.fault.Part.TheVariants as part;

@@ -2,13 +2,9 @@
 
 ghost use Rattle.std.specs.Prelude.{◌≡◌, ◌≢◌, ◌⊎◌, true, OnOk, IfOk, IfErr, List};
 ghost use Rattle.std.specs.Io.KnownBytes.{Keeps};
-ghost use Rattle.lft_ir.specs.Steps.Fits.{RowsFit};
-ghost use Rattle.lft_ir.specs.declared.steps.row.Row.{Row};
-ghost use Rattle.lft_model.specs.Plans.{PlanParts};
-ghost use Rattle.lft_model.specs.Workers.{IsWorkers};
-ghost use Rattle.lft_driver.specs.Meaning.{IsNoTrace};
-ghost use Rattle.lft_driver.specs.Pairs.{IsPairing, MeanBoth};
-ghost use Rattle.lft_driver.specs.declared.paired.Paired.TheVariants.{Differ as TheyDiffer};
+ghost use Rattle.lft_ir.specs.{Steps.Fits.RowsFit, declared.steps.row.Row.Row};
+ghost use Rattle.lft_model.specs.{Plans.PlanParts, Workers.IsWorkers};
+ghost use Rattle.lft_driver.specs.{Meaning.IsNoTrace, Pairs.{IsPairing, MeanBoth}, declared.paired.Paired.TheVariants.Differ as TheyDiffer};
 ghost use Rattle.lft_driver.specs.Explained.{Writes, WriteRefusal};
 ghost use Rattle.lft_driver.specs.PairExplained.{AreAnswers, StandsBehind, IsPairExplanation, IsPairExplained, IsPairExplainedUnder, PairExplainingRefusal, PairExplainRefusal, PairExplainRefusalUnder};
 ghost use Rattle.lft_load.specs.Refusals.{is_of_text};

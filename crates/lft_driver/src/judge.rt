@@ -2,20 +2,13 @@
 
 ghost use Rattle.std.specs.Prelude.{◌≡◌, ◌≢◌, ◌⊎◌, ℕ, true, OnOk, IfOk, IfErr, IfSome, List};
 ghost use Rattle.std.specs.Io.KnownBytes.{Appends, Keeps};
-ghost use Rattle.lft_ir.specs.Steps.Fits.{RowsFit};
-ghost use Rattle.lft_ir.specs.declared.steps.row.Row.{Row};
-ghost use Rattle.lft_model.specs.Plans.{PlanParts};
-ghost use Rattle.lft_model.specs.declared.breach.Breach.{Breach};
-ghost use Rattle.lft_check.specs.declared.verdict.Verdict.TheVariants.{Accepted, Broken};
-ghost use Rattle.lft_model.specs.Workers.{IsWorkers};
-ghost use Rattle.lft_check.specs.Verdicts.{IsVerdict};
-ghost use Rattle.lft_driver.specs.Lines.{line_of, HasReaction};
-ghost use Rattle.lft_driver.specs.Accepting.{IsRight, IsUnjudged};
-ghost use Rattle.lft_driver.specs.Meaning.{HasTable, IsNoTrace, Mean};
+ghost use Rattle.lft_ir.specs.{Steps.Fits.RowsFit, declared.steps.row.Row.Row};
+ghost use Rattle.lft_model.specs.{Plans.PlanParts, declared.breach.Breach.Breach, Workers.IsWorkers};
+ghost use Rattle.lft_check.specs.{declared.verdict.Verdict.TheVariants.{Accepted, Broken}, Verdicts.IsVerdict};
+ghost use Rattle.lft_driver.specs.{Lines.{line_of, HasReaction}, Accepting.{IsRight, IsUnjudged}, Meaning.{HasTable, IsNoTrace, Mean}};
 ghost use Rattle.lft_driver.specs.Judged.{AcceptedRuns, IsJudged, IsJudgedUnder};
-ghost use Rattle.lft_load.specs.Refusals.{is_of_text};
 ghost use Rattle.lft_driver.specs.Refusals.{CheckRefusal, IsRefusedGrowth, JudgeRefusal, JudgeRefusalUnder, TraceRefusal};
-ghost use Rattle.lft_load.specs.Written.{AppendsFront};
+ghost use Rattle.lft_load.specs.{Refusals.is_of_text, Written.AppendsFront};
 ghost use Rattle.lft_load.specs.declared.fault.Part.TheVariants as part;
 
 use crate::accepting::{accepted, accepted_by, is_odd};

@@ -2,9 +2,7 @@
 
 ghost use Rattle.std.specs.Prelude.{◌≡◌, ◌++◌, ◌<◌, ℕ, Some, IfOk, OnOk, flat_map, length, slice_get, string_bytes};
 ghost use Rattle.std.specs.List.{enumerate_from};
-ghost use Rattle.lft_ir.specs.declared.parts.Action.{Action as ActionOf};
-ghost use Rattle.lft_ir.specs.declared.parts.Reaction.{Reaction as ReactionOf};
-ghost use Rattle.lft_ir.specs.declared.parts.Timer.{Timer as TimerOf};
+ghost use Rattle.lft_ir.specs.declared.parts.{Action.Action as ActionOf, Reaction.Reaction as ReactionOf, Timer.Timer as TimerOf};
 ghost use Rattle.lft_graph.specs.Graph.{IsGraphOf};
 ghost use Rattle.lft_driver.specs.Shown.{action_line, all_words, effect_line, effect_word, instance_line, kind_words, link_words, reaction_lines, timer_line, trigger_line, trigger_name, use_line};
 

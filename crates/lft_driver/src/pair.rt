@@ -2,18 +2,13 @@
 
 ghost use Rattle.std.specs.Prelude.{◌≡◌, ◌≢◌, ◌⊎◌, true, OnOk, IfOk, IfErr, List};
 ghost use Rattle.std.specs.Io.KnownBytes.{Appends, Keeps};
-ghost use Rattle.lft_ir.specs.Steps.Fits.{RowsFit};
-ghost use Rattle.lft_ir.specs.declared.steps.row.Row.{Row};
-ghost use Rattle.lft_model.specs.Plans.{PlanParts};
-ghost use Rattle.lft_model.specs.Workers.{IsWorkers};
+ghost use Rattle.lft_ir.specs.{Steps.Fits.RowsFit, declared.steps.row.Row.Row};
+ghost use Rattle.lft_model.specs.{Plans.PlanParts, Workers.IsWorkers};
 ghost use Rattle.lft_rows.specs.Accepted.{IsAccepted};
-ghost use Rattle.lft_driver.specs.Lines.{line_of_pair};
-ghost use Rattle.lft_driver.specs.Meaning.{IsNoTrace};
+ghost use Rattle.lft_driver.specs.{Lines.line_of_pair, Meaning.IsNoTrace};
 ghost use Rattle.lft_driver.specs.Pairs.{AreAccepted, HaveTables, IsExecution, IsPaired, IsPairedUnder, IsPairing, MeanBoth, NamesReaction};
-ghost use Rattle.lft_driver.specs.PairRefusals.{PairRefusal, PairRefusalUnder, PairingRefusal, TracesRefusal};
-ghost use Rattle.lft_load.specs.Refusals.{is_of_text};
-ghost use Rattle.lft_driver.specs.Refusals.{CheckRefusal, IsRefusedGrowth};
-ghost use Rattle.lft_load.specs.Written.{AppendsFront};
+ghost use Rattle.lft_driver.specs.{PairRefusals.{PairRefusal, PairRefusalUnder, PairingRefusal, TracesRefusal}, Refusals.{CheckRefusal, IsRefusedGrowth}};
+ghost use Rattle.lft_load.specs.{Refusals.is_of_text, Written.AppendsFront};
 ghost use Rattle.lft_load.specs.declared.fault.Part.TheVariants as part;
 
 use crate::judge::{read_table, verdict_of};

@@ -1,15 +1,10 @@
 //! What is shown of a program: its ports and precedence, or all of it.
 
 ghost use Rattle.std.specs.Prelude.{◌≡◌, ◌≢◌, ◌++◌, ◌<◌, ℕ, Some, IfOk, IfErr, OnOk, flat_map, length, slice_get, string_bytes, true};
-ghost use Rattle.std.specs.List.{enumerate_from};
-ghost use Rattle.std.specs.Io.KnownBytes.{Keeps};
-ghost use Rattle.lft_ir.specs.Parts.{Parts};
-ghost use Rattle.lft_ir.specs.declared.parts.Port.{Port as PortOf};
-ghost use Rattle.lft_ir.specs.declared.parts.Reaction.{Reaction};
-ghost use Rattle.lft_graph.specs.Graph.{IsGraphOf};
-ghost use Rattle.lft_graph.specs.Precedence.{HasNoLoop};
-ghost use Rattle.lft_load.specs.Meaning.{IsProgramOf};
-ghost use Rattle.lft_load.specs.Refusals.{is_of_text};
+ghost use Rattle.std.specs.{List.enumerate_from, Io.KnownBytes.Keeps};
+ghost use Rattle.lft_ir.specs.{Parts.Parts, declared.parts.{Port.Port as PortOf, Reaction.Reaction}};
+ghost use Rattle.lft_graph.specs.{Graph.IsGraphOf, Precedence.HasNoLoop};
+ghost use Rattle.lft_load.specs.{Meaning.IsProgramOf, Refusals.is_of_text};
 ghost use Rattle.lft_driver.specs.Refusals.{ShowProgramRefusal, ShowRefusal};
 ghost use Rattle.lft_driver.specs.Shown.{IsShown, IsShownProgram, before_words, lines_of, port_lines, port_words, reaction_line, reaction_words, show_words};
 ghost use Rattle.lft_load.specs.declared.fault.Part.TheVariants as part;

@@ -1,17 +1,12 @@
 -- Counts of things, widths and places.
 use Rattle.std.proofs.Common.{◌≡◌, ℕ, zero, suc, ◌+◌, ◌-◌, ◌*◌, ◌^◌, List, [], ◌∷◌, ◌++◌, map, min, Option, Some, None, refl, sym, ap, subst, ◌∙◌, arith}
-use Rattle.std.specs.Option.{option_and_then}
-use Rattle.std.proofs.lemmas.List.{map_push}
-use Rattle.lft_whole.specs.declared.tree.Count.{Count}
-use Rattle.lft_whole.specs.declared.tree.Count.TheVariants as count
-use Rattle.lft_whole.specs.declared.tree.Reference.{Reference}
-use Rattle.lft_whole.specs.declared.tree.Term.{Term}
-use Rattle.lft_whole.specs.declared.tree.Width.{Width}
-use Rattle.lft_classes.specs.declared.shapes.Shape.{Shape}
-use Rattle.lft_classes.specs.declared.shapes.Thing.{Thing}
-use Rattle.lft_classes.specs.declared.shapes.Thing.TheVariants as thing
+use Rattle.std.{specs.Option.option_and_then, proofs.lemmas.List.map_push}
+use Rattle.lft_whole.specs.declared.tree.{Count.Count, Reference.Reference, Term.Term, Width.Width}
+use Rattle.lft_classes.specs.declared.shapes.{Shape.Shape, Thing.Thing}
 use Rattle.lft_elaborate.specs.Places.{AreMany, AreManyIn, HasPlaces, HavePlaces, IsCount, IsSum, IsWidth, Meant, Widths, capped, count_in, how_many, how_many_in, how_many_of, many, meaning_in, places_in, places_of, plus, sum_in, times, total, width_by, width_in, written_width}
 use Rattle.lft_elaborate.specs.Values.{Valued}
+use Rattle.lft_whole.specs.declared.tree.Count.TheVariants as count
+use Rattle.lft_classes.specs.declared.shapes.Thing.TheVariants as thing
 
 -- ---- what is more is known of
 

@@ -1,36 +1,17 @@
 -- Widths that are being found, one for another.
 use Rattle.std.proofs.Common.{◌≡◌, ◌≢◌, ℕ, ◌<◌, ◌⊎◌, inl, inr, Bool, true, false, cond, List, [], ◌∷◌, ◌++◌, length, Some, slice_get, refl, sym, ap, subst, ◌∙◌, arith}
-use Rattle.std.specs.BTreeMap.{is_at}
-use Rattle.std.specs.BTreeSet.{BTreeSet, UpdatesBy, contains}
-use Rattle.std.specs.Option.{option_and_then}
-use Rattle.std.specs.Ordering.{is_eq, nat_cmp, ordering_then}
-use Rattle.std.specs.declared.cmp.Ordering.{Ordering}
-use Rattle.std.specs.declared.cmp.Ordering.TheVariants.{Less, Equal, Greater}
-use Rattle.std.proofs.lemmas.Cmp.{nat_cmp_total, tied_itself}
-use Rattle.std.proofs.lemmas.Map.Lookups.{exact_pairs, exact_unsigned}
-use Rattle.std.proofs.lemmas.Option.{slice_get_within}
+use Rattle.std.specs.{BTreeMap.is_at, BTreeSet.{BTreeSet, UpdatesBy, contains}, Option.option_and_then, Ordering.{is_eq, nat_cmp, ordering_then}}
+use Rattle.std.specs.declared.cmp.Ordering.{Ordering, TheVariants.{Less, Equal, Greater}}
+use Rattle.std.proofs.lemmas.{Cmp.{nat_cmp_total, tied_itself}, Map.Lookups.{exact_pairs, exact_unsigned}, Option.slice_get_within}
 use Rattle.lft_lists.proofs.Places.{get_last, get_push, get_push_cases, same_some}
-use Rattle.lft_classes.specs.Shapes.{width_of}
-use Rattle.lft_classes.specs.declared.shapes.Inherited.{Inherited}
-use Rattle.lft_classes.specs.declared.shapes.Shape.{Shape}
-use Rattle.lft_classes.specs.declared.shapes.Thing.TheVariants as thing
-use Rattle.lft_whole.specs.declared.tree.Reference.{Reference}
-use Rattle.lft_whole.specs.declared.tree.Term.{Term}
-use Rattle.lft_whole.specs.declared.tree.Width.{Width}
-use Rattle.lft_elaborate.specs.declared.places.Meaning.{Meaning}
-use Rattle.lft_elaborate.specs.declared.path.Step.{Step}
-use Rattle.lft_elaborate.specs.declared.path.Wanted.{Wanted}
-use Rattle.lft_elaborate.specs.declared.settings.Setting.{Setting}
-use Rattle.lft_elaborate.specs.declared.settings.Settings.{Settings}
+use Rattle.lft_classes.specs.{Shapes.width_of, declared.shapes.{Inherited.Inherited, Shape.Shape}}
+use Rattle.lft_whole.specs.declared.tree.{Reference.Reference, Term.Term, Width.Width}
+use Rattle.lft_elaborate.specs.declared.{places.Meaning.Meaning, path.{Step.Step, Wanted.Wanted}, settings.{Setting.Setting, Settings.Settings}}
 use Rattle.lft_elaborate.specs.Finding.{AddsIf, AddsOnly, AreNeeded, AreNext, ArePath, IsFirst, IsOpenAt, LeadsTo, Needs, pair_cmp}
-use Rattle.lft_elaborate.specs.Noted.{GoesOn, IsMeaning, Table}
-use Rattle.lft_elaborate.specs.Refused.{HangsOn, IsCounted, IsCountedBy, IsCountedIn, Leads}
-use Rattle.lft_elaborate.specs.Places.{member_in, written_width}
-use Rattle.lft_elaborate.specs.Settings.{setting_at, setting_in}
-use Rattle.lft_elaborate.specs.Widths.{member_at}
-use Rattle.lft_elaborate.specs.Values.{Valued}
-use Rattle.lft_elaborate.proofs.Keeping.{Stays}
-use Rattle.lft_elaborate.proofs.Standing.{member_there}
+use Rattle.lft_elaborate.specs.{Noted.{GoesOn, IsMeaning, Table}, Refused.{HangsOn, IsCounted, IsCountedBy, IsCountedIn, Leads}}
+use Rattle.lft_elaborate.specs.{Places.{member_in, written_width}, Settings.{setting_at, setting_in}, Widths.member_at, Values.Valued}
+use Rattle.lft_elaborate.proofs.{Keeping.Stays, Standing.member_there}
+use Rattle.lft_classes.specs.declared.shapes.Thing.TheVariants as thing
 
 -- ---- lists of those that are wanted
 

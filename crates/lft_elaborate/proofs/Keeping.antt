@@ -1,32 +1,17 @@
 -- What stays where settings are made and noted.
 use Rattle.std.proofs.Common.{◌≡◌, ◌≢◌, ℕ, zero, suc, ◌<◌, ℤ, ◌⊎◌, inl, inr, Bool, true, false, cond, List, [], ◌∷◌, ◌++◌, length, map, replicate, Option, Some, None, slice_get, slice_set, refl, sym, ap, subst, ◌∙◌, arith}
 use Rattle.std.specs.Prelude.{Vec, option_map}
-use Rattle.std.specs.Global.{Global}
-use Rattle.std.specs.BTreeMap.{BTreeMap, get_by, is_at}
-use Rattle.std.specs.Map.{lookup}
-use Rattle.std.specs.Cmp.Lexicographic.{slice_cmp}
-use Rattle.std.specs.FinMap.{int_cmp-IsAntisymmetric, slice_cmp-IsAntisymmetric}
-use Rattle.std.specs.Option.{option_and_then, option_or}
-use Rattle.std.specs.Ordering.{int_cmp, is_eq}
-use Rattle.std.specs.declared.cmp.Ordering.{Ordering}
-use Rattle.std.specs.declared.cmp.Ordering.TheVariants.{Less, Equal, Greater}
-use Rattle.std.proofs.lemmas.Bool.{cases_eq}
-use Rattle.std.proofs.lemmas.Cmp.{int_cmp_total, lists_total, tied_itself}
-use Rattle.std.proofs.lemmas.List.{map_push}
-use Rattle.std.proofs.lemmas.Option.{option_and_then_some, slice_get_within}
+use Rattle.std.specs.{Global.Global, BTreeMap.{BTreeMap, get_by, is_at}, Map.lookup, Cmp.Lexicographic.slice_cmp}
+use Rattle.std.specs.{FinMap.{int_cmp-IsAntisymmetric, slice_cmp-IsAntisymmetric}, Option.{option_and_then, option_or}, Ordering.{int_cmp, is_eq}}
+use Rattle.std.specs.declared.cmp.Ordering.{Ordering, TheVariants.{Less, Equal, Greater}}
+use Rattle.std.proofs.lemmas.{Bool.cases_eq, Cmp.{int_cmp_total, lists_total, tied_itself}, List.map_push, Option.{option_and_then_some, slice_get_within}}
 use Rattle.lft_lists.proofs.Mapped.{mapped, mapped_from}
 use Rattle.lft_lists.proofs.Places.{get_last, get_push, get_push_cases, get_there, get_unwritten, get_write_cases, get_written, length_written, same_some}
-use Rattle.lft_classes.specs.declared.shapes.Child.{Child}
-use Rattle.lft_classes.specs.declared.shapes.Shape.{Shape}
-use Rattle.lft_classes.specs.declared.scopes.Class.{Class}
-use Rattle.lft_classes.specs.Built.{cores, first_class}
-use Rattle.lft_classes.specs.Shapes.{child_at}
-use Rattle.lft_elaborate.specs.declared.settings.Setting.{Setting}
-use Rattle.lft_elaborate.specs.declared.settings.Settings.{Settings}
-use Rattle.lft_elaborate.specs.Noted.{Adds, AreMade, AreSettings, GoesOn, GoesOnIf, IsNoted, IsNumberOf, Known, Table, found_inside, noted_at, noted_for, only_inside, table}
-use Rattle.lft_elaborate.specs.Settings.{setting_in, valued}
-use Rattle.lft_elaborate.specs.Values.{IsUnsized, Valued, inside, main_setting, setting_of, values_inside}
+use Rattle.lft_classes.specs.{declared.{shapes.{Child.Child, Shape.Shape}, scopes.Class.Class}, Built.{cores, first_class}, Shapes.child_at}
 use Rattle.lft_classes.proofs.Rows.{map_written}
+use Rattle.lft_elaborate.specs.declared.settings.{Setting.Setting, Settings.Settings}
+use Rattle.lft_elaborate.specs.Noted.{Adds, AreMade, AreSettings, GoesOn, GoesOnIf, IsNoted, IsNumberOf, Known, Table, found_inside, noted_at, noted_for, only_inside, table}
+use Rattle.lft_elaborate.specs.{Settings.{setting_in, valued}, Values.{IsUnsized, Valued, inside, main_setting, setting_of, values_inside}}
 use Rattle.lft_elaborate.proofs.Valuing.{alike, is_given}
 
 -- ---- what stays

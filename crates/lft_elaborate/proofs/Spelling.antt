@@ -2,12 +2,9 @@
 use Rattle.std.proofs.Common.{◌≡◌, ℕ, zero, suc, ◌+◌, ◌/◌, ◌%◌, ◌<◌, ◌==◌, Bool, true, false, List, [], ◌∷◌, ◌++◌, Option, Some, None, All, cond, refl, sym, subst, arith}
 use Rattle.std.specs.Prelude.{nat_lt}
 use Rattle.std.specs.Fmt.{decimal, digit_glyph, digits, digits_onto}
-use Rattle.std.proofs.lemmas.Bool.{cond-true}
-use Rattle.std.proofs.lemmas.Bool.Decides.{nat_tests}
-use Rattle.std.proofs.lemmas.List.Elements.{All-nil, All-cons, All-append}
+use Rattle.std.proofs.lemmas.{Bool.{cond-true, Decides.nat_tests}, List.Elements.{All-nil, All-cons, All-append}}
 use Rattle.lft_lists.specs.Bytes.{is_part}
-use Rattle.lft_tree.specs.Identifiers.{IsIdentifier, IsName}
-use Rattle.lft_tree.proofs.Names.{IsName-identifier}
+use Rattle.lft_tree.{specs.Identifiers.{IsIdentifier, IsName}, proofs.Names.IsName-identifier}
 use Rattle.lft_elaborate.specs.Names.{tail}
 
 abbrev IsPart : ℕ → Type 0

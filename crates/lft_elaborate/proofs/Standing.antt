@@ -2,27 +2,14 @@
 use Rattle.std.proofs.Common.{◌≡◌, ℕ, zero, suc, ◌*◌, List, [], ◌∷◌, ◌++◌, Option, Some, None, slice_get, refl, sym, ap, subst, ◌∙◌}
 use Rattle.std.specs.Prelude.{IfSome, is_some, false, unwrap_or}
 use Rattle.std.specs.Option.{option_and_then}
-use Rattle.lft_elaborate.specs.Channels.Channels.{joined}
-use Rattle.lft_whole.specs.declared.tree.Connection.{Connection}
-use Rattle.lft_whole.specs.declared.tree.Count.{Count}
-use Rattle.lft_whole.specs.declared.tree.Reference.{Reference}
-use Rattle.lft_whole.specs.declared.tree.Term.{Term}
-use Rattle.lft_whole.specs.declared.tree.Width.{Width}
-use Rattle.lft_classes.specs.Shapes.{width_of}
-use Rattle.lft_classes.specs.declared.shapes.Inherited.{Inherited}
-use Rattle.lft_classes.specs.declared.shapes.Shape.{Shape}
-use Rattle.lft_classes.specs.declared.shapes.Thing.{Thing}
-use Rattle.lft_lists.proofs.Places.{same_some}
-use Rattle.lft_elaborate.specs.declared.places.Meaning.{Meaning}
-use Rattle.lft_elaborate.specs.declared.settings.Setting.{Setting}
-use Rattle.lft_elaborate.specs.declared.settings.Settings.{Settings}
+use Rattle.lft_elaborate.specs.{Channels.Channels.joined, declared.{places.Meaning.Meaning, settings.{Setting.Setting, Settings.Settings}}}
 use Rattle.lft_elaborate.specs.Noted.{AreMade, GoesOn, GoesOnIf, IsMeaning, Table, noted_at, table}
 use Rattle.lft_elaborate.specs.Places.{AreMany, AreManyIn, HasPlaces, HasWidth, HavePlaces, IsCount, IsMany, IsSum, IsWidth, HasPairs, capped, many, member_in, plus, sum_in, times, width_in, written_width}
-use Rattle.lft_elaborate.specs.Settings.{setting_at, setting_in, shape_at, valued}
-use Rattle.lft_elaborate.specs.Values.{Valued}
-use Rattle.lft_elaborate.specs.Widths.{found_width, member_at, width_at}
-use Rattle.lft_elaborate.proofs.Counting.{places_join, sum_width, terms_push}
-use Rattle.lft_elaborate.proofs.Keeping.{goes_if, setting_from, setting_of_number}
+use Rattle.lft_elaborate.specs.{Settings.{setting_at, setting_in, shape_at, valued}, Values.Valued, Widths.{found_width, member_at, width_at}}
+use Rattle.lft_elaborate.proofs.{Counting.{places_join, sum_width, terms_push}, Keeping.{goes_if, setting_from, setting_of_number}}
+use Rattle.lft_whole.specs.declared.tree.{Connection.Connection, Count.Count, Reference.Reference, Term.Term, Width.Width}
+use Rattle.lft_classes.specs.{Shapes.width_of, declared.shapes.{Inherited.Inherited, Shape.Shape, Thing.Thing}}
+use Rattle.lft_lists.proofs.Places.{same_some}
 
 -- ---- by number and by what it is
 

@@ -1,27 +1,16 @@
 -- The settings that are reached.
 use Rattle.std.proofs.Common.{◌≡◌, ℕ, zero, suc, ◌+◌, ◌<◌, ◌≤◌, ◌⊎◌, inl, inr, Bool, true, false, List, [], ◌∷◌, length, map, Option, Some, None, slice_get, refl, sym, ap, subst, ◌∙◌, arith}
 use Rattle.std.specs.Prelude.{IfNone, IfSome, option_map, unwrap_or}
-use Rattle.std.specs.Option.{option_and_then}
-use Rattle.std.proofs.lemmas.Bool.{cases_lt}
-use Rattle.std.proofs.lemmas.Option.{slice_get_within}
+use Rattle.std.{specs.Option.option_and_then, proofs.lemmas.{Bool.cases_lt, Option.slice_get_within}}
 use Rattle.lft_lists.proofs.Places.{Some_same, get_there, same_some}
-use Rattle.lft_classes.specs.declared.shapes.Shape.{Shape}
-use Rattle.lft_classes.specs.declared.shapes.Thing.TheVariants as thing
-use Rattle.lft_classes.specs.Walks.{Has}
-use Rattle.lft_elaborate.specs.Places.{AreMany, member_in}
-use Rattle.lft_whole.specs.declared.tree.Member.{Member}
-use Rattle.lft_classes.specs.declared.shapes.Inherited.{Inherited}
-use Rattle.lft_elaborate.specs.Widths.{member_at}
-use Rattle.lft_elaborate.proofs.Standing.{member_there, shape_there}
-use Rattle.lft_elaborate.specs.declared.settings.Settings.{Settings}
-use Rattle.lft_elaborate.specs.declared.settings.Setting.{Setting}
-use Rattle.lft_elaborate.specs.Noted.{AreMade, AreSettings, GoesOn, IsNumberOf, Table, noted_for}
-use Rattle.lft_elaborate.specs.Settings.{setting_at, setting_in, shape_at, valued}
+use Rattle.lft_classes.{specs.{declared.shapes.{Shape.Shape, Inherited.Inherited}, Walks.Has}, proofs.Walking.some_of}
+use Rattle.lft_elaborate.specs.{Places.{AreMany, member_in}, Widths.member_at, declared.settings.{Settings.Settings, Setting.Setting}}
+use Rattle.lft_elaborate.specs.{Noted.{AreMade, AreSettings, GoesOn, IsNumberOf, Table, noted_for}, Settings.{setting_at, setting_in, shape_at, valued}}
 use Rattle.lft_elaborate.specs.Used.{AreMarked, AreUsed, HasInner, IsIn, IsNumberIn, IsReached, HasNumber, main, within, Stay, is_instance, is_instance_in, is_marked}
 use Rattle.lft_elaborate.specs.Values.{Valued, inside, main_setting}
-use Rattle.lft_elaborate.proofs.Counting.{one_count}
-use Rattle.lft_elaborate.proofs.Keeping.{setting_from}
-use Rattle.lft_classes.proofs.Walking.{some_of}
+use Rattle.lft_elaborate.proofs.{Standing.{member_there, shape_there}, Counting.one_count, Keeping.setting_from}
+use Rattle.lft_whole.specs.declared.tree.Member.{Member}
+use Rattle.lft_classes.specs.declared.shapes.Thing.TheVariants as thing
 
 -- how far the list of those that are reached has come: what is in the first ones stands in it
 pub record Using (s : Table) (used : List ℕ) (marks : List Bool) (done : ℕ) : Type 0 where

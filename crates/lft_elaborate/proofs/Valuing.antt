@@ -1,25 +1,14 @@
 -- Numbers of parameters, and what is in instances.
 use Rattle.std.proofs.Common.{◌≡◌, ℕ, zero, suc, ◌+◌, ◌-◌, ◌<◌, ◌≤◌, inl, inr, ℤ, replicate, false, List, [], ◌∷◌, ◌++◌, length, map, drop, get_or, Option, Some, None, option_map, slice_get, slice_set, w64, to_z, of_z, refl, sym, ap, subst, ◌∙◌, arith}
 use Rattle.std.specs.Prelude.{FitsSigned, if◌then◌else◌}
-use Rattle.std.specs.Borrow.{Bor}
-use Rattle.std.specs.Option.{option_and_then}
-use Rattle.std.proofs.lemmas.List.{map_push}
-use Rattle.std.proofs.lemmas.List.FromFn.{map-range_with_len_more}
-use Rattle.std.proofs.Math.Seq.{drop-cons, drop-length}
-use Rattle.std.proofs.lemmas.Bool.Decides.{eqb_tells}
-use Rattle.std.proofs.lemmas.Int.{to_z-of_z}
+use Rattle.std.specs.{Borrow.Bor, Option.option_and_then}
+use Rattle.std.proofs.lemmas.{List.{map_push, FromFn.map-range_with_len_more}, Bool.Decides.eqb_tells, Int.to_z-of_z}
 use Rattle.std.proofs.lemmas.Option.{option_and_then_some, slice_get-map}
-use Rattle.lft_lists.proofs.Mapped.{mapped_at, option_map_some}
-use Rattle.lft_lists.proofs.Places.{Some_same, get_unwritten, get_written, same_some}
-use Rattle.lft_elaborate.specs.Channels.Channels.{below}
-use Rattle.lft_whole.specs.declared.tree.Expression.{Expression}
-use Rattle.lft_whole.specs.declared.tree.Value.{Value}
-use Rattle.lft_classes.specs.declared.shapes.Child.{Child}
-use Rattle.lft_classes.specs.declared.shapes.Given.{Given}
-use Rattle.lft_classes.specs.declared.shapes.Shape.{Shape}
-use Rattle.lft_classes.specs.Shapes.{child_at}
-use Rattle.lft_classes.proofs.Rows.{map_alike}
-use Rattle.lft_elaborate.specs.Values.{IsUnsized, Valued, given_to, inside, is_sized, setting_of, value_inside, values_inside}
+use Rattle.std.proofs.Math.Seq.{drop-cons, drop-length}
+use Rattle.lft_lists.proofs.{Mapped.{mapped_at, option_map_some}, Places.{Some_same, get_unwritten, get_written, same_some}}
+use Rattle.lft_elaborate.specs.{Channels.Channels.below, Values.{IsUnsized, Valued, given_to, inside, is_sized, setting_of, value_inside, values_inside}}
+use Rattle.lft_whole.specs.declared.tree.{Expression.Expression, Value.Value}
+use Rattle.lft_classes.{specs.{declared.shapes.{Child.Child, Given.Given, Shape.Shape}, Shapes.child_at}, proofs.Rows.map_alike}
 
 -- what stands in a list, seen as found
 pub some_at : {X : Type 0} (xs : List X) (p : ℕ) → option_and_then (λ v. v) (slice_get (map (λ v. Some v) xs) p) ≡ slice_get xs p

@@ -1,16 +1,9 @@
 -- The widths that are being found, by the numbers of settings.
 use Rattle.std.specs.Prelude.{◌≡◌, ◌<◌, ◌⊎◌, ℕ, Bool, true, List, Some, slice_get}
-use Rattle.std.specs.BTreeSet.{contains}
-use Rattle.std.specs.Ordering.{nat_cmp, ordering_then}
-use Rattle.std.specs.declared.cmp.Ordering.{Ordering}
+use Rattle.std.specs.{BTreeSet.contains, Ordering.{nat_cmp, ordering_then}, declared.cmp.Ordering.Ordering}
 use Rattle.lft_classes.specs.declared.shapes.Shape.{Shape}
-use Rattle.lft_elaborate.specs.declared.path.Path.{Path}
-use Rattle.lft_elaborate.specs.declared.path.Step.{Step}
-use Rattle.lft_elaborate.specs.declared.path.Wanted.{Wanted}
-use Rattle.lft_elaborate.specs.declared.settings.Setting.{Setting}
-use Rattle.lft_elaborate.specs.Refused.{HangsFar, HangsOn, Leads}
-use Rattle.lft_elaborate.specs.Settings.{setting_in}
-use Rattle.lft_elaborate.specs.Values.{Valued}
+use Rattle.lft_elaborate.specs.{declared.{path.{Path.Path, Step.Step, Wanted.Wanted}, settings.Setting.Setting}, Refused.{HangsFar, HangsOn, Leads}}
+use Rattle.lft_elaborate.specs.{Settings.setting_in, Values.Valued}
 
 -- the setting that a member is wanted of
 abbrev pub IsOf : List Setting → Wanted → Valued → Type 0

@@ -1,8 +1,8 @@
 -- How the things that a name stands for are written.
 use Rattle.std.specs.Prelude.{ℕ, List, [], ◌++◌, Option, Some, None, codes, decimal, string_bytes}
 use Rattle.lft_whole.specs.declared.tree.Member.{Member}
-use Rattle.lft_whole.specs.declared.tree.Member.TheVariants as member
 use Rattle.lft_elaborate.specs.declared.names.Numbered.{Numbered}
+use Rattle.lft_whole.specs.declared.tree.Member.TheVariants as member
 
 -- the number, if there is one, stands in brackets
 abbrev pub tail : Option ℕ → List ℕ

@@ -1,19 +1,10 @@
 -- What is noted of the settings that were made.
 use Rattle.std.specs.Prelude.{◌≡◌, ℕ, ℤ, List, [], ◌∷◌, ◌++◌, length, map, Option, Some, None, slice_get, Vec}
-use Rattle.std.specs.Global.{Global}
-use Rattle.std.specs.BTreeMap.{BTreeMap, get_by}
-use Rattle.std.specs.Cmp.Lexicographic.{slice_cmp}
-use Rattle.std.specs.Option.{option_and_then, option_or}
-use Rattle.std.specs.Ordering.{int_cmp}
+use Rattle.std.specs.{Global.Global, BTreeMap.{BTreeMap, get_by}, Cmp.Lexicographic.slice_cmp, Option.{option_and_then, option_or}, Ordering.int_cmp}
 use Rattle.lft_whole.specs.declared.tree.Reference.{Reference}
-use Rattle.lft_classes.specs.declared.shapes.Shape.{Shape}
-use Rattle.lft_classes.specs.Shapes.{child_at}
-use Rattle.lft_elaborate.specs.declared.places.Meaning.{Meaning}
-use Rattle.lft_elaborate.specs.declared.settings.Setting.{Setting}
-use Rattle.lft_elaborate.specs.declared.settings.Settings.{Settings}
-use Rattle.lft_elaborate.specs.Places.{IsWidth, meaning_in}
-use Rattle.lft_elaborate.specs.Settings.{setting_in, valued}
-use Rattle.lft_elaborate.specs.Values.{Valued, inside, main_setting}
+use Rattle.lft_classes.specs.{declared.shapes.Shape.Shape, Shapes.child_at}
+use Rattle.lft_elaborate.specs.{declared.{places.Meaning.Meaning, settings.{Setting.Setting, Settings.Settings}}, Places.{IsWidth, meaning_in}}
+use Rattle.lft_elaborate.specs.{Settings.{setting_in, valued}, Values.{Valued, inside, main_setting}}
 
 -- what is noted at this place, if anything is
 abbrev pub noted_at : List (Option ℕ) → ℕ → Option ℕ

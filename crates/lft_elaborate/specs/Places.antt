@@ -1,22 +1,12 @@
 -- What references mean, how many places they have, and how wide members are, told by the shapes alone.
 use Rattle.std.specs.Prelude.{◌≡◌, ℕ, zero, suc, ◌+◌, ◌*◌, ◌-◌, ◌^◌, ℤ, pos, negsuc, min, List, [], ◌∷◌, map, Option, Some, None, option_map, slice_get, string_bytes}
 use Rattle.std.specs.Option.{option_and_then}
-use Rattle.lft_elaborate.specs.Channels.Channels.{joined}
-use Rattle.lft_whole.specs.declared.tree.Connection.{Connection}
-use Rattle.lft_whole.specs.declared.tree.Count.{Count}
+use Rattle.lft_elaborate.specs.{Channels.Channels.joined, Values.{Valued, inside, number_named}}
+use Rattle.lft_whole.specs.declared.tree.{Connection.Connection, Count.Count, Member.Member, Name.Name, Reference.Reference, Term.Term, Width.Width}
+use Rattle.lft_classes.specs.{declared.shapes.{Inherited.Inherited, Shape.Shape, Thing.Thing}, Shapes.{thing_named, width_of}}
 use Rattle.lft_whole.specs.declared.tree.Count.TheVariants as count
-use Rattle.lft_whole.specs.declared.tree.Member.{Member}
 use Rattle.lft_whole.specs.declared.tree.Member.TheVariants as member
-use Rattle.lft_whole.specs.declared.tree.Name.{Name}
-use Rattle.lft_whole.specs.declared.tree.Reference.{Reference}
-use Rattle.lft_whole.specs.declared.tree.Term.{Term}
-use Rattle.lft_whole.specs.declared.tree.Width.{Width}
-use Rattle.lft_classes.specs.declared.shapes.Inherited.{Inherited}
-use Rattle.lft_classes.specs.declared.shapes.Shape.{Shape}
-use Rattle.lft_classes.specs.declared.shapes.Thing.{Thing}
 use Rattle.lft_classes.specs.declared.shapes.Thing.TheVariants as thing
-use Rattle.lft_classes.specs.Shapes.{thing_named, width_of}
-use Rattle.lft_elaborate.specs.Values.{Valued, inside, number_named}
 
 -- ---- members and references
 

@@ -1,19 +1,12 @@
 -- Why there is no setting in an instance, or no width of a member.
 use Rattle.std.specs.Prelude.{◌≡◌, ◌⊎◌, ℕ, ℤ, List, IsSomeAnd, Option, Some, None, slice_get}
-use Rattle.lft_whole.specs.declared.sources.stop.Stop.{Stop}
-use Rattle.lft_whole.specs.declared.sources.stop.Stop.TheVariants as stop
-use Rattle.lft_whole.specs.declared.sources.why.Why.{Why}
-use Rattle.lft_whole.specs.declared.sources.why.Why.TheVariants as why
+use Rattle.lft_whole.specs.declared.{sources.{stop.Stop.Stop, why.Why.Why}, tree.{Count.Count, Reference.Reference, Term.Term, Value.Value, Width.Width}}
 use Rattle.lft_classes.specs.declared.shapes.Shape.{Shape}
+use Rattle.lft_elaborate.specs.{Places.{Meant, meaning_in, natural, parameter_in, written_width}, Values.Valued}
+use Rattle.lft_whole.specs.declared.sources.stop.Stop.TheVariants as stop
+use Rattle.lft_whole.specs.declared.sources.why.Why.TheVariants as why
 use Rattle.lft_classes.specs.declared.shapes.Thing.TheVariants as things
-use Rattle.lft_whole.specs.declared.tree.Count.{Count}
 use Rattle.lft_whole.specs.declared.tree.Count.TheVariants as count
-use Rattle.lft_whole.specs.declared.tree.Reference.{Reference}
-use Rattle.lft_whole.specs.declared.tree.Term.{Term}
-use Rattle.lft_whole.specs.declared.tree.Value.{Value}
-use Rattle.lft_whole.specs.declared.tree.Width.{Width}
-use Rattle.lft_elaborate.specs.Places.{Meant, meaning_in, natural, parameter_in, written_width}
-use Rattle.lft_elaborate.specs.Values.{Valued}
 
 -- nothing is written for a number, or what is written is no whole number
 abbrev pub IsNoNumber : Option Value → Why → Type 0

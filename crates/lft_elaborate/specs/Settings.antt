@@ -2,9 +2,7 @@
 use Rattle.std.specs.Prelude.{ℕ, List, Option, Some, map, slice_get}
 use Rattle.std.specs.Option.{option_and_then}
 use Rattle.lft_classes.specs.declared.shapes.Shape.{Shape}
-use Rattle.lft_elaborate.specs.declared.settings.Setting.{Setting}
-use Rattle.lft_elaborate.specs.declared.settings.Settings.{Settings}
-use Rattle.lft_elaborate.specs.Values.{Valued}
+use Rattle.lft_elaborate.specs.{declared.settings.{Setting.Setting, Settings.Settings}, Values.Valued}
 
 -- the shape of the setting of this number
 abbrev pub shape_at : Settings → ℕ → Option Shape

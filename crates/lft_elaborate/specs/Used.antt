@@ -1,14 +1,10 @@
 -- The settings that the instances of a program have.
 use Rattle.std.specs.Prelude.{◌≡◌, ℕ, ◌<◌, Bool, true, false, List, Some, option_map, slice_get, unwrap_or}
 use Rattle.lft_whole.specs.declared.tree.Member.{Member}
-use Rattle.lft_whole.specs.declared.tree.Member.TheVariants as member
-use Rattle.lft_classes.specs.declared.shapes.Shape.{Shape}
-use Rattle.lft_classes.specs.Walks.{Has}
-use Rattle.lft_elaborate.specs.declared.settings.Setting.{Setting}
-use Rattle.lft_elaborate.specs.Noted.{Table}
-use Rattle.lft_elaborate.specs.Places.{IsMany, member_in}
-use Rattle.lft_elaborate.specs.Settings.{setting_in}
+use Rattle.lft_classes.specs.{declared.shapes.Shape.Shape, Walks.Has}
+use Rattle.lft_elaborate.specs.{declared.settings.Setting.Setting, Noted.Table, Places.{IsMany, member_in}, Settings.setting_in}
 use Rattle.lft_elaborate.specs.Values.{Valued, inside, main_setting}
+use Rattle.lft_whole.specs.declared.tree.Member.TheVariants as member
 
 -- a member is an instance
 abbrev pub is_instance : Member → Bool

@@ -3,13 +3,9 @@ use Rattle.std.specs.Prelude.{◌≡◌, ℕ, ◌^◌, ℤ, pos, neg_ℤ, min, B
 use Rattle.std.specs.Option.{option_and_then, option_or}
 use Rattle.lft_elaborate.specs.Channels.Channels.{below}
 use Rattle.lft_whole.specs.declared.tree.Value.{Value}
+use Rattle.lft_classes.specs.{declared.shapes.{Child.Child, Given.Given, Shape.Shape, Thing.Thing}, Shapes.{child_at, thing_named}}
 use Rattle.lft_whole.specs.declared.tree.Value.TheVariants as value
-use Rattle.lft_classes.specs.declared.shapes.Child.{Child}
-use Rattle.lft_classes.specs.declared.shapes.Given.{Given}
-use Rattle.lft_classes.specs.declared.shapes.Shape.{Shape}
-use Rattle.lft_classes.specs.declared.shapes.Thing.{Thing}
 use Rattle.lft_classes.specs.declared.shapes.Thing.TheVariants as thing
-use Rattle.lft_classes.specs.Shapes.{child_at, thing_named}
 
 -- a shape, by its number, and for each of its parameters its number, if it has one
 pub record Valued : Type 0 where

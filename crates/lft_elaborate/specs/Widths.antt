@@ -2,10 +2,8 @@
 use Rattle.std.specs.Prelude.{ℕ, Option, slice_get}
 use Rattle.std.specs.Option.{option_and_then}
 use Rattle.lft_whole.specs.declared.tree.Width.{Width}
-use Rattle.lft_classes.specs.declared.shapes.Inherited.{Inherited}
-use Rattle.lft_classes.specs.Shapes.{width_of}
-use Rattle.lft_elaborate.specs.declared.settings.Settings.{Settings}
-use Rattle.lft_elaborate.specs.Settings.{shape_at}
+use Rattle.lft_classes.specs.{declared.shapes.Inherited.Inherited, Shapes.width_of}
+use Rattle.lft_elaborate.specs.{declared.settings.Settings.Settings, Settings.shape_at}
 
 -- the member of this number in the setting of that number
 abbrev pub member_at : Settings → ℕ → ℕ → Option Inherited

@@ -2,12 +2,8 @@
 
 ghost use Rattle.std.specs.Prelude.{◌≡◌, ◌<◌, ◌≤◌, ◌⊎◌, ℕ, List, IfOk, IfNone, IfSome, OnOk, Some, length, slice_get, true};
 ghost use Rattle.lft_classes.specs.Walks.{Has};
-ghost use Rattle.lft_elaborate.specs.Limits.{limits, first_passed};
-ghost use Rattle.lft_elaborate.specs.Noted.{AreMade, AreSettings, GoesOn, table};
-ghost use Rattle.lft_elaborate.specs.Places.{HasPairs};
-ghost use Rattle.lft_elaborate.specs.Settings.{setting_at};
-ghost use Rattle.lft_elaborate.specs.Used.{AreMarked, AreUsed, HasInner, HasNumber, IsIn, IsNumberIn, Stay, is_instance, is_instance_in};
-ghost use Rattle.lft_elaborate.specs.Values.{Valued};
+ghost use Rattle.lft_elaborate.specs.{Limits.{limits, first_passed}, Noted.{AreMade, AreSettings, GoesOn, table}, Places.HasPairs, Settings.setting_at};
+ghost use Rattle.lft_elaborate.specs.{Used.{AreMarked, AreUsed, HasInner, HasNumber, IsIn, IsNumberIn, Stay, is_instance, is_instance_in}, Values.Valued};
 
 use crate::channels::joined;
 use crate::path::Wanted;

@@ -2,11 +2,8 @@
 
 ghost use Rattle.std.specs.Prelude.{◌≡◌, ◌≤◌, IfOk, OnOk, option_and_then, option_map};
 ghost use Rattle.lft_classes.specs.Shapes.{thing_named};
-ghost use Rattle.lft_elaborate.specs.Noted.{AreMade, GoesOn, IsMeaning, table};
-ghost use Rattle.lft_elaborate.specs.Places.{AreMany, AreManyIn, HasPlaces, HavePlaces, port_named};
-ghost use Rattle.lft_elaborate.specs.Settings.{setting_at, shape_at};
-ghost use Rattle.lft_elaborate.specs.Values.{Valued};
-ghost use Rattle.lft_elaborate.specs.Widths.{member_at};
+ghost use Rattle.lft_elaborate.specs.{Noted.{AreMade, GoesOn, IsMeaning, table}, Places.{AreMany, AreManyIn, HasPlaces, HavePlaces, port_named}};
+ghost use Rattle.lft_elaborate.specs.{Settings.{setting_at, shape_at}, Values.Valued, Widths.member_at};
 
 use crate::settings::Settings;
 use lft_classes::Thing;

@@ -1,12 +1,9 @@
 //! Widths of ports and banks in a setting.
 
 ghost use Rattle.std.specs.Prelude.{◌≡◌, ◌≤◌, ◌↔◌, ℕ, Some, IfErr, IfOk, IfSome, IsSome, OnOk, is_some, option_and_then};
-ghost use Rattle.lft_elaborate.specs.Finding.{AddsIf, AddsOnly, IsNext, IsPath};
-ghost use Rattle.lft_elaborate.specs.Noted.{AreMade, GoesOn, GoesOnIf, table};
+ghost use Rattle.lft_elaborate.specs.{Finding.{AddsIf, AddsOnly, IsNext, IsPath}, Noted.{AreMade, GoesOn, GoesOnIf, table}};
 ghost use Rattle.lft_elaborate.specs.Places.{AreMany, AreManyIn, HasPlaces, HasWidth, IsCount, IsMany, IsSum, IsWidth, natural, parameter_in, plus, times};
-ghost use Rattle.lft_elaborate.specs.Refused.{IsCounted, IsCountedBy, IsCountedIn, IsOfWord};
-ghost use Rattle.lft_elaborate.specs.Settings.{setting_at};
-ghost use Rattle.lft_elaborate.specs.Values.{Valued};
+ghost use Rattle.lft_elaborate.specs.{Refused.{IsCounted, IsCountedBy, IsCountedIn, IsOfWord}, Settings.setting_at, Values.Valued};
 ghost use Rattle.lft_elaborate.specs.Widths.{member_at, width_at, found_width};
 
 use crate::path::{Path, Wanted};

@@ -3,21 +3,12 @@ use Rattle.std.proofs.Common.{◌≡◌, ◌⊎◌, inl, inr, ℕ, Contains, fil
 use Rattle.std.proofs.lemmas.List.Elements.{All-nil, All-cons, All-push, All-append, All-weaker, All-contains, All-contains_itself, Contains-append_cases, Contains-append_left, Contains-append_right}
 use native.Mathlib.Decide.{ℕ_discrete}
 use Rattle.lft_lists.proofs.Places.{contains_at, at_contains, same_at}
-use Rattle.lft_model.proofs.Places.{slice_get_within}
+use Rattle.lft_model.{proofs.Places.slice_get_within, specs.{declared.breach.Breach.Breach, Plans.PlanParts}}
 use Rattle.lft_tag.specs.declared.Tag.{Tag}
-use Rattle.lft_ir.specs.Parts.{inputs}
-use Rattle.lft_ir.specs.Naming.{named}
-use Rattle.lft_ir.specs.Sound.{IsSound, IsNameOf, IsTriggerOf}
-use Rattle.lft_ir.specs.declared.parts.Name.{Name}
-use Rattle.lft_ir.specs.declared.parts.Value.{Value}
-use Rattle.lft_ir.specs.declared.parts.Trigger.{Trigger}
-use Rattle.lft_ir.specs.declared.parts.Trigger.TheVariants.{On}
+use Rattle.lft_ir.specs.{Parts.inputs, Naming.named, Sound.{IsSound, IsNameOf, IsTriggerOf}}
+use Rattle.lft_ir.specs.declared.{parts.{Name.Name, Value.Value, Trigger.{Trigger, TheVariants.On}}, steps.row.Row.Row}
 use Rattle.lft_graph.proofs.Feeding.{to_trigger}
-use Rattle.lft_ir.specs.declared.steps.row.Row.{Row}
-use Rattle.lft_model.specs.declared.breach.Breach.{Breach}
-use Rattle.lft_model.specs.Plans.{PlanParts}
-use Rattle.lft_facts.specs.declared.facts.Fact.{Fact}
-use Rattle.lft_facts.specs.Facts.{IsFact, IsShown, AreFacts, AreShown, IsRead, IsUntriggered}
+use Rattle.lft_facts.specs.{declared.facts.Fact.Fact, Facts.{IsFact, IsShown, AreFacts, AreShown, IsRead, IsUntriggered}}
 use Rattle.lft_facts.specs.Enough.{Adds, Extends, Gives, ProvesTag, ProvesRow, IsOwn, AreOwn}
 use Rattle.lft_facts.proofs.Lists.{all_left}
 

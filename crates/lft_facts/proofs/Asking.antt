@@ -1,15 +1,9 @@
 -- Why a row asks for the stop, what feeds a port, and what a reaction declares.
 use Rattle.std.proofs.Common.{◌≡◌, ℕ, ◌+◌, ◌<◌, List, [], length, ap, sym, unwrap_or, option_map, Option, Some, None, IfSome}
 use Rattle.lft_lists.proofs.Places.{get_there}
-use Rattle.lft_ir.specs.Parts.{Parts, inputs}
-use Rattle.lft_ir.specs.declared.parts.Reaction.{Reaction}
-use Rattle.lft_ir.specs.declared.steps.row.Row.{Row}
-use Rattle.lft_model.specs.declared.breach.Breach.{Breach}
-use Rattle.lft_model.specs.Plans.{PlanParts}
-use Rattle.lft_model.specs.Runs.{inputs_of, effects_of}
-use Rattle.lft_facts.specs.declared.facts.Reason.{Reason}
-use Rattle.lft_facts.specs.Enough.{IsOwnReason}
-use Rattle.lft_facts.specs.Reasons.{IsReason, HasInputs, HasEffects}
+use Rattle.lft_ir.specs.{Parts.{Parts, inputs}, declared.{parts.Reaction.Reaction, steps.row.Row.Row}}
+use Rattle.lft_model.specs.{declared.breach.Breach.Breach, Plans.PlanParts, Runs.{inputs_of, effects_of}}
+use Rattle.lft_facts.specs.{declared.facts.Reason.Reason, Enough.IsOwnReason, Reasons.{IsReason, HasInputs, HasEffects}}
 
 -- a reason on a program is one on each plan of it
 pub of_program : (o : Option Reason) (program : Parts) (plan : PlanParts) (t : List Row) → plan.program ≡ program → IfSome o (λ c. (p : PlanParts) (u : List Row) → p.program ≡ program → IsReason p u c) → IfSome o (IsReason plan t)

@@ -1,16 +1,12 @@
 -- The runs of a reaction that are nearest to a tag.
 use Rattle.std.proofs.Common.{◌≡◌, ◌⊎◌, inl, inr, ℕ, ◌+◌, ◌<◌, ◌≤◌, List, length, sym, ap, ◌∙◌, subst, arith, Option, Some, None, slice_get, IfSome, IfNone}
 use native.Mathlib.Decide.{ℕ_discrete}
-use Rattle.lft_tag.specs.declared.Tag.{Tag}
-use Rattle.lft_tag.specs.Tags.{Before, UpTo}
-use Rattle.lft_tag.proofs.Order.{UpTo-not, order_cases, split_up}
+use Rattle.lft_tag.{specs.{declared.Tag.Tag, Tags.{Before, UpTo}}, proofs.Order.{UpTo-not, order_cases, split_up}}
 use Rattle.lft_lists.proofs.Places.{Some_same}
 use Rattle.lft_ir.specs.declared.steps.row.Row.{Row}
-use Rattle.lft_model.specs.Runs.{start_row, Ran}
-use Rattle.lft_model.proofs.Places.{slice_get_within}
+use Rattle.lft_model.{specs.Runs.{start_row, Ran}, proofs.Places.slice_get_within}
 use Rattle.lft_races.specs.Runs.{StartsAt}
-use Rattle.lft_facts.specs.Reasons.{IsRunBefore, IsRunAfter}
-use Rattle.lft_facts.specs.Neighbours.{IsNearestStart}
+use Rattle.lft_facts.specs.{Reasons.{IsRunBefore, IsRunAfter}, Neighbours.IsNearestStart}
 
 module _ (Kind : Tag → Type 0) (UpToIt : Tag → Tag → Type 0) (t : List Row) (r i : ℕ) (row : Row) (is : slice_get t i ≡ Some row) where
   pub tag_here : (k : Tag) → StartsAt t k r i → k ≡ row.tag

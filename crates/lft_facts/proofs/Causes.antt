@@ -1,39 +1,23 @@
 -- What rows give a port or an action at a tag, and that it is present there.
 use Rattle.std.proofs.Common.{◌≡◌, ℕ, ◌+◌, ◌-◌, ◌*◌, ◌/◌, ◌%◌, ◌<◌, ◌≤◌, ◌⊎◌, inl, inr, List, length, refl, sym, ap, ◌∙◌, subst, arith, Option, Some, None, slice_get}
-use Rattle.std.proofs.lemmas.Bool.{eq-eqb, cases_lt}
-use Rattle.std.proofs.lemmas.Nat.{div-add-mod'}
+use Rattle.std.proofs.lemmas.{Bool.{eq-eqb, cases_lt}, Nat.div-add-mod'}
 use Rattle.lft_lists.proofs.Members.{last_by_place}
-use Rattle.lft_tag.specs.declared.Tag.{Tag}
-use Rattle.lft_tag.specs.Tags.{Before, after}
-use Rattle.lft_tag.specs.Shifts.{shifted}
-use Rattle.lft_tag.proofs.Order.{Before-irrefl, same_tag_refl}
-use Rattle.lft_tag.proofs.Chains.{tag_of as tag_from}
+use Rattle.lft_tag.{specs.{declared.Tag.Tag, Tags.{Before, after}, Shifts.shifted}, proofs.{Order.{Before-irrefl, same_tag_refl}, Chains.tag_of as tag_from}}
 use Rattle.lft_ir.specs.Parts.{Parts}
-use Rattle.lft_ir.proofs.Origins.{origin_inside}
-use Rattle.lft_ir.specs.declared.parts.Port.{Port as PortOf}
-use Rattle.lft_ir.specs.declared.parts.Value.{Value}
-use Rattle.lft_ir.specs.declared.parts.Name.TheVariants.{Port, Action}
-use Rattle.lft_ir.specs.declared.parts.Timer.{Timer as TimerOf}
-use Rattle.lft_ir.specs.declared.parts.Trigger.{Trigger}
-use Rattle.lft_ir.specs.declared.parts.Trigger.TheVariants.{On, Timer}
-use Rattle.lft_ir.specs.declared.steps.row.Row.{Row}
-use Rattle.lft_ir.specs.declared.steps.row.Step.{Step}
-use Rattle.lft_ir.specs.declared.steps.row.Step.TheVariants.{Start, Read, Write, Schedule, Stop, End}
+use Rattle.lft_ir.specs.declared.parts.{Port.Port as PortOf, Value.Value, Name.TheVariants.{Port, Action}, Timer.Timer as TimerOf}
+use Rattle.lft_ir.specs.declared.parts.Trigger.{Trigger, TheVariants.{On, Timer}}
+use Rattle.lft_ir.specs.declared.steps.row.{Row.Row, Step.{Step, TheVariants.{Start, Read, Write, Schedule, Stop, End}}}
 use Rattle.lft_ir.specs.Steps.Fits.{RowsFit}
+use Rattle.lft_ir.proofs.Origins.{origin_inside}
 use Rattle.lft_model.specs.Plans.{PlanParts}
 use Rattle.lft_model.specs.Presence.{value_written, value_scheduled, written, scheduled, given, min_delay, IsWrittenFrom, IsPresent, Fires, Occurs}
-use Rattle.lft_model.proofs.Places.{slice_get_within}
-use Rattle.lft_model.proofs.ActionEvents.{at_row, at_event}
-use Rattle.lft_model.proofs.Firings.{time_of, again_fires}
-use Rattle.lft_model.proofs.Ended.{written_by, by_written, by_scheduled, scheduled_by}
-use Rattle.lft_model.proofs.Steps.{written_some, some_written, scheduled_some, some_scheduled}
+use Rattle.lft_model.proofs.{Places.slice_get_within, ActionEvents.{at_row, at_event}, Firings.{time_of, again_fires}}
+use Rattle.lft_model.proofs.{Ended.{written_by, by_written, by_scheduled, scheduled_by}, Steps.{written_some, some_written, scheduled_some, some_scheduled}}
 use Rattle.lft_rows.specs.declared.presence.causes.Cause.{Cause as Event}
 use Rattle.lft_rows.specs.Presence.Causes.{tag_of, cause as cause_of, ComesUpTo, Leads, IsLastCause, IsCause, Carries, step_cause}
 use Rattle.lft_rows.proofs.PresenceLemmas.Presences.{ChainOf, port_cause, action_cause, carrier, row_of, event_of, step_place, step_schedules, none_leads}
-use Rattle.lft_facts.specs.declared.facts.Cause.{Cause}
+use Rattle.lft_facts.specs.{declared.facts.Cause.Cause, Facts.{IsCause as IsFactCause, IsWrittenIn, IsScheduledIn, IsGiven, FiresAfter}, Enough.GivesTrigger}
 use Rattle.lft_facts.specs.declared.facts.Cause.TheVariants as cause
-use Rattle.lft_facts.specs.Facts.{IsCause as IsFactCause, IsWrittenIn, IsScheduledIn, IsGiven, FiresAfter}
-use Rattle.lft_facts.specs.Enough.{GivesTrigger}
 
 -- the row is the last that writes the origin at its tag, so the port has an event from there
 pub written_from : (plan : PlanParts) (t : List Row) (g : Tag) (p i : ℕ) (w : IsWrittenIn plan t g p i) → IsWrittenFrom plan t g p w.row.tag w.value

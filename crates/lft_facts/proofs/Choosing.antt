@@ -3,22 +3,12 @@ use Rattle.std.proofs.Common.{◌≡◌, ◌⊎◌, inl, inr, ℕ, ◌<◌, ◌�
 use native.Mathlib.Decide.{ℕ_discrete, dec_lt}
 use Rattle.lft_lists.proofs.Places.{Some_same}
 use Rattle.lft_tag.specs.declared.Tag.{Tag}
-use Rattle.lft_ir.specs.Parts.{Parts}
-use Rattle.lft_graph.specs.Graph.{GraphParts, IsGraphOf}
-use Rattle.lft_graph.specs.Precedence.{Precedes}
-use Rattle.lft_ir.specs.declared.steps.row.Row.{Row}
-use Rattle.lft_ir.specs.declared.steps.row.Step.TheVariants.{Start, End}
-use Rattle.lft_model.specs.Plans.{PlanParts}
-use Rattle.lft_model.specs.Runs.{start_row, end_row}
-use Rattle.lft_model.proofs.Legality.{ended}
-use Rattle.lft_model.proofs.Places.{slice_get_take}
+use Rattle.lft_ir.specs.{Parts.Parts, declared.steps.row.{Row.Row, Step.TheVariants.{Start, End}}}
+use Rattle.lft_graph.specs.{Graph.{GraphParts, IsGraphOf}, Precedence.Precedes}
+use Rattle.lft_model.{specs.{Plans.PlanParts, Runs.{start_row, end_row}}, proofs.{Legality.ended, Places.slice_get_take}}
 use Rattle.lft_rows.specs.Answers.Answers.{KeepsRows}
-use Rattle.lft_races.specs.Runs.{StartsAt, EndsAt}
-use Rattle.lft_races.specs.Races.{EndLater, NotEnded, IsUnfinished}
-use Rattle.lft_races.proofs.Standing.{unfinished_whole}
-use Rattle.lft_facts.specs.Facts.{IsJustBefore, IsChosen}
-use Rattle.lft_facts.specs.Ways.{IsMarked, InList}
-use Rattle.lft_facts.proofs.Upstream.{direct_of, in_list}
+use Rattle.lft_races.{specs.{Runs.{StartsAt, EndsAt}, Races.{EndLater, NotEnded, IsUnfinished}}, proofs.Standing.unfinished_whole}
+use Rattle.lft_facts.{specs.{Facts.{IsJustBefore, IsChosen}, Ways.{IsMarked, InList}}, proofs.Upstream.{direct_of, in_list}}
 
 -- what hasn't ended before a start ends behind it, if it ends
 pub end_after : (t : List Row) (g h : Tag) (a r start e : ℕ) → StartsAt t h r start → NotEnded t g a start → EndsAt t g a e → start < e

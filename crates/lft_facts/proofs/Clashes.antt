@@ -1,38 +1,22 @@
 -- Rule 6: two causes of one event.
 use Rattle.std.proofs.Common.{◌≡◌, ◌≢◌, ℕ, zero, suc, ◌+◌, ◌-◌, ◌<◌, ◌≤◌, ◌⊎◌, inl, inr, List, [], ◌∷◌, length, length-append, refl, sym, ap, ◌∙◌, subst, arith, Option, Some, None, slice_get, filter_map}
 use native.Mathlib.Decide.{dec_lt}
-use Rattle.std.specs.List.{cons_option}
-use Rattle.std.proofs.lemmas.Bool.{cases_lt}
-use Rattle.std.proofs.lemmas.List.Elements.{All-head, All-cons, All-nil}
+use Rattle.std.{specs.List.cons_option, proofs.lemmas.{Bool.cases_lt, List.Elements.{All-head, All-cons, All-nil}}}
 use Rattle.lft_lists.proofs.Places.{same_at}
-use Rattle.lft_tag.specs.declared.Tag.{Tag}
-use Rattle.lft_tag.specs.Tags.{Before, UpTo}
-use Rattle.lft_tag.specs.Shifts.{shifted}
-use Rattle.lft_tag.proofs.Order.{Before-irrefl, UpTo_antisym}
-use Rattle.lft_ir.specs.declared.parts.Port.{Port as PortOf}
-use Rattle.lft_ir.specs.declared.parts.Value.{Value}
-use Rattle.lft_ir.specs.declared.parts.Name.TheVariants.{Port, Action}
-use Rattle.lft_ir.proofs.Origins.{origin_unique}
-use Rattle.lft_ir.specs.declared.steps.row.Row.{Row}
-use Rattle.lft_ir.specs.declared.steps.row.Step.TheVariants.{Write}
+use Rattle.lft_tag.{specs.{declared.Tag.Tag, Tags.{Before, UpTo}, Shifts.shifted}, proofs.Order.{Before-irrefl, UpTo_antisym}}
+use Rattle.lft_ir.specs.declared.{parts.{Port.Port as PortOf, Value.Value, Name.TheVariants.{Port, Action}}, steps.row.{Row.Row, Step.TheVariants.Write}}
 use Rattle.lft_ir.specs.Steps.Fits.{RowsFit}
-use Rattle.lft_model.proofs.Blocks.{two_places}
-use Rattle.lft_model.specs.Plans.{PlanParts}
-use Rattle.lft_model.specs.Presence.{value_written, scheduled, given, min_delay, events_of, IsWrittenFrom, PortClash}
-use Rattle.lft_model.proofs.Steps.{some_written}
+use Rattle.lft_ir.proofs.Origins.{origin_unique}
+use Rattle.lft_model.proofs.{Blocks.two_places, Steps.some_written}
+use Rattle.lft_model.specs.{Plans.PlanParts, Presence.{value_written, scheduled, given, min_delay, events_of, IsWrittenFrom, PortClash}}
 use Rattle.lft_rows.specs.declared.presence.causes.Cause.{Cause as Event}
-use Rattle.lft_rows.specs.Presence.Causes.{tag_of, ComesUpTo, AreCauses, Leads, IsLastCause, IsCause as IsEventCause}
-use Rattle.lft_rows.proofs.PresenceLemmas.Presences.{ChainOf, port_cause_at, none_leads}
-use Rattle.lft_rows.proofs.PresenceLemmas.Twice.{two_causes}
-use Rattle.lft_facts.specs.declared.facts.Fact.{Fact}
-use Rattle.lft_facts.specs.declared.facts.Fact.TheVariants as fact
-use Rattle.lft_facts.specs.declared.facts.Cause.{Cause}
-use Rattle.lft_facts.specs.declared.facts.Cause.TheVariants as cause
-use Rattle.lft_facts.specs.Facts.{IsShown, AreShown, IsWrittenIn, event_of}
+use Rattle.lft_rows.specs.Presence.{Causes.{tag_of, ComesUpTo, AreCauses, Leads, IsLastCause, IsCause as IsEventCause}, Lookups.IsFirstCause}
+use Rattle.lft_rows.proofs.PresenceLemmas.{Presences.{ChainOf, port_cause_at, none_leads}, Twice.two_causes, Lookups.in_order}
+use Rattle.lft_facts.specs.{declared.facts.{Fact.Fact, Cause.Cause}, Facts.{IsShown, AreShown, IsWrittenIn, event_of}}
 use Rattle.lft_facts.specs.Enough.{Gives, GivesClash, IsOwn, AreOwn, AreOwnAt}
-use Rattle.lft_rows.specs.Presence.Lookups.{IsFirstCause}
-use Rattle.lft_rows.proofs.PresenceLemmas.Lookups.{in_order}
 use Rattle.lft_facts.proofs.Causes.{written_from, scheduled_at, given_at, written_in}
+use Rattle.lft_facts.specs.declared.facts.Fact.TheVariants as fact
+use Rattle.lft_facts.specs.declared.facts.Cause.TheVariants as cause
 
 -- two rows that write the origin of one port last at their tags, and lead to one tag, are of two tags
 pub two_written : (g : Tag) (p i j : ℕ) → i ≢ j → GivesClash (cause.Written g p i) (cause.Written g p j) g

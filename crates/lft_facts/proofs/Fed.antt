@@ -3,19 +3,10 @@ use Rattle.std.proofs.Common.{◌≡◌, ℕ, ◌<◌, ◌⊎◌, inl, inr, List
 use Rattle.std.proofs.lemmas.List.Elements.{Contains-append_left, Contains-append_right, Contains-append_cases}
 use Rattle.lft_lists.proofs.Places.{contains_at, at_contains}
 use Rattle.lft_model.proofs.Places.{slice_get_within}
-use Rattle.lft_ir.specs.Parts.{Parts, inputs}
-use Rattle.lft_ir.specs.Naming.{named}
-use Rattle.lft_ir.specs.Sound.{IsSound, IsNameOf, IsTriggerOf as IsKnown}
-use Rattle.lft_ir.specs.declared.parts.Reaction.{Reaction}
-use Rattle.lft_ir.specs.declared.parts.Name.{Name}
-use Rattle.lft_ir.specs.declared.parts.Name.TheVariants.{Port}
-use Rattle.lft_ir.specs.declared.parts.Trigger.{Trigger}
-use Rattle.lft_ir.specs.declared.parts.Trigger.TheVariants.{On}
-use Rattle.lft_graph.specs.Precedence.{Feeds}
-use Rattle.lft_graph.proofs.Feeding.{from_trigger, to_trigger}
-use Rattle.lft_facts.specs.Facts.{FeedsBy, IsTriggerOf}
-use Rattle.lft_facts.specs.Ways.{IsFed}
-use Rattle.lft_facts.proofs.Giving.{same_reaction}
+use Rattle.lft_ir.specs.{Parts.{Parts, inputs}, Naming.named, Sound.{IsSound, IsNameOf, IsTriggerOf as IsKnown}}
+use Rattle.lft_ir.specs.declared.parts.{Reaction.Reaction, Name.{Name, TheVariants.Port}, Trigger.{Trigger, TheVariants.On}}
+use Rattle.lft_graph.{specs.Precedence.Feeds, proofs.Feeding.{from_trigger, to_trigger}}
+use Rattle.lft_facts.{specs.{Facts.{FeedsBy, IsTriggerOf}, Ways.IsFed}, proofs.Giving.same_reaction}
 
 -- a reaction that may write and one that may read
 module _ (program : Parts) (sound : IsSound program) (a b : ℕ) (writer reader : Reaction) (is_writer : slice_get program.reactions a ≡ Some writer) (is_reader : slice_get program.reactions b ≡ Some reader) (effects : List Name) (are_effects : effects ≡ writer.effects) where

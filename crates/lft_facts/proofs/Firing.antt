@@ -1,21 +1,12 @@
 -- When a timer fires just before and just after a tag.
 use Rattle.std.proofs.Common.{◌≡◌, ℕ, ◌+◌, ◌-◌, ◌*◌, ◌<◌, ◌≤◌, ◌⊎◌, inl, inr, List, refl, sym, ap, ◌∙◌, subst, arith, Option, Some, None, IfSome, slice_get}
-use Rattle.std.proofs.lemmas.Bool.{cases_lt}
-use Rattle.std.proofs.lemmas.Nat.{mul-le}
+use Rattle.std.proofs.lemmas.{Bool.cases_lt, Nat.mul-le}
 use native.Mathlib.Decide.{ℕ_discrete}
 use Rattle.lft_lists.proofs.Places.{same_at}
-use Rattle.lft_tag.specs.declared.Tag.{Tag}
-use Rattle.lft_tag.specs.Tags.{Before}
-use Rattle.lft_tag.proofs.Order.{Before-irrefl, Before-trans}
-use Rattle.lft_tag.proofs.Chains.{tag_of}
-use Rattle.lft_ir.specs.Parts.{Parts}
-use Rattle.lft_ir.specs.declared.parts.Timer.{Timer as TimerOf}
-use Rattle.lft_ir.specs.declared.parts.Trigger.TheVariants.{Timer}
-use Rattle.lft_ir.specs.declared.steps.row.Row.{Row}
-use Rattle.lft_model.specs.Plans.{PlanParts}
-use Rattle.lft_model.specs.Presence.{Fires, Occurs}
-use Rattle.lft_facts.specs.Reasons.{IsNearest}
-use Rattle.lft_facts.specs.Neighbours.{IsFiringBefore, IsFiringAfter}
+use Rattle.lft_tag.{specs.{declared.Tag.Tag, Tags.Before}, proofs.{Order.{Before-irrefl, Before-trans}, Chains.tag_of}}
+use Rattle.lft_ir.specs.{Parts.Parts, declared.{parts.{Timer.Timer as TimerOf, Trigger.TheVariants.Timer}, steps.row.Row.Row}}
+use Rattle.lft_model.specs.{Plans.PlanParts, Presence.{Fires, Occurs}}
+use Rattle.lft_facts.specs.{Reasons.IsNearest, Neighbours.{IsFiringBefore, IsFiringAfter}}
 
 -- which time is the earlier, of tags of the microstep 0
 earlier_time : (s u : ℕ) → Before (record { time = s; micro = 0 }) (record { time = u; micro = 0 }) → s < u

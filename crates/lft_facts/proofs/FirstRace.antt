@@ -5,24 +5,14 @@ use Rattle.std.proofs.lemmas.List.Elements.{All-cons}
 use native.Mathlib.Decide.{ℕ_discrete}
 use Rattle.lft_lists.proofs.Places.{get_push, get_last, get_push_cases, Some_same}
 use Rattle.lft_tag.specs.declared.Tag.{Tag}
-use Rattle.lft_ir.specs.declared.steps.row.Row.{Row}
-use Rattle.lft_model.specs.declared.breach.Breach.{Breach}
-use Rattle.lft_model.specs.Plans.{PlanParts}
-use Rattle.lft_ir.specs.Parts.{Parts}
+use Rattle.lft_ir.specs.{declared.steps.row.Row.Row, Parts.Parts}
+use Rattle.lft_model.{specs.{declared.breach.Breach.Breach, Plans.PlanParts}, proofs.Places.{slice_get_within, slice_get_take}}
 use Rattle.lft_graph.specs.Precedence.{Precedes}
-use Rattle.lft_model.proofs.Places.{slice_get_within, slice_get_take}
-use Rattle.lft_races.specs.Runs.{StartsAt, EndsAt}
-use Rattle.lft_races.specs.Races.{IsUnfinished, IsRace, StandBefore, EndLater}
-use Rattle.lft_races.proofs.Ending.{starts_here}
-use Rattle.lft_races.proofs.Standing.{end_behind}
-use Rattle.lft_facts.specs.declared.facts.Fact.{Fact}
+use Rattle.lft_races.{specs.{Runs.{StartsAt, EndsAt}, Races.{IsUnfinished, IsRace, StandBefore, EndLater}}, proofs.{Ending.starts_here, Standing.end_behind}}
+use Rattle.lft_facts.specs.{declared.facts.Fact.Fact, Facts.{IsChosen, IsFact, AreFacts, AreShown, IsShown}}
+use Rattle.lft_facts.specs.{Enough.{Adds, AreOwn, IsOwn, IsBefore, GivesChain, EndWithRace, Proves, ProvesTag}, Ways.{IsMarked, EndsMarked}}
+use Rattle.lft_facts.proofs.{Lists.all_left, Giving.all_shown, Added.adds_row}
 use Rattle.lft_facts.specs.declared.facts.Fact.TheVariants as fact
-use Rattle.lft_facts.specs.Facts.{IsChosen, IsFact, AreFacts, AreShown, IsShown}
-use Rattle.lft_facts.specs.Enough.{Adds, AreOwn, IsOwn, IsBefore, GivesChain, EndWithRace, Proves, ProvesTag}
-use Rattle.lft_facts.specs.Ways.{IsMarked, EndsMarked}
-use Rattle.lft_facts.proofs.Lists.{all_left}
-use Rattle.lft_facts.proofs.Giving.{all_shown}
-use Rattle.lft_facts.proofs.Added.{adds_row}
 
 -- the marks of some reactions alone, up to a place
 pub record AreOnly (marks : List (Option ℕ)) (these : List Bool) (i : ℕ) (left : List (Option ℕ)) : Type 0 where

@@ -4,27 +4,18 @@ use native.Mathlib.Decide.{ℕ_discrete, dec_lt}
 use Rattle.std.proofs.lemmas.List.Elements.{All-head, All-tail, All-cons, All-contains, All-weaker, All-nil}
 use Rattle.lft_lists.proofs.Places.{get_there, same_at, at_contains}
 use Rattle.lft_tag.specs.declared.Tag.{Tag}
-use Rattle.lft_ir.specs.declared.parts.Trigger.{Trigger}
-use Rattle.lft_ir.specs.declared.parts.Reaction.{Reaction}
-use Rattle.lft_ir.specs.declared.steps.row.Row.{Row}
-use Rattle.lft_ir.specs.declared.steps.row.Step.TheVariants.{Start, End}
+use Rattle.lft_ir.specs.declared.{parts.{Trigger.Trigger, Reaction.Reaction}, steps.row.{Row.Row, Step.TheVariants.{Start, End}}}
 use Rattle.lft_graph.specs.Precedence.{Precedes}
-use Rattle.lft_model.specs.declared.breach.Breach.{Breach}
-use Rattle.lft_model.specs.Plans.{PlanParts}
-use Rattle.lft_model.specs.Presence.{Triggered, Occurs}
-use Rattle.lft_model.specs.Runs.{Ran, start_row, end_row}
+use Rattle.lft_model.specs.{declared.breach.Breach.Breach, Plans.PlanParts, Presence.{Triggered, Occurs}, Runs.{Ran, start_row, end_row}}
 use Rattle.lft_model.specs.Breaches.{EndsBefore, IsTooEarly}
-use Rattle.lft_model.proofs.Places.{slice_get_within}
-use Rattle.lft_model.proofs.Legality.{four, ran_at, one_start, one_end, ended}
+use Rattle.lft_model.proofs.{Places.slice_get_within, Legality.{four, ran_at, one_start, one_end, ended}}
 use Rattle.lft_rows.specs.Answers.Answers.{KeepsRows}
-use Rattle.lft_facts.specs.declared.facts.Fact.{Fact}
-use Rattle.lft_facts.specs.declared.facts.Cause.{Cause}
-use Rattle.lft_facts.specs.declared.facts.Fact.TheVariants as fact
+use Rattle.lft_facts.specs.declared.facts.{Fact.Fact, Cause.Cause}
 use Rattle.lft_facts.specs.Facts.{IsChosen, IsFact, IsShown, IsCause, AreFacts, AreShown, StartsBefore, IsTriggerOf, HasTriggers, IsUntriggered}
-use Rattle.lft_races.specs.Runs.{StartsAt, EndsAt}
-use Rattle.lft_facts.specs.Enough.{Gives, GivesChain, GivesTrigger, IsOwn, AreOwn, AreOwnAt}
-use Rattle.lft_facts.specs.Ways.{IsMarked, EndsMarked}
+use Rattle.lft_facts.specs.{Enough.{Gives, GivesChain, GivesTrigger, IsOwn, AreOwn, AreOwnAt}, Ways.{IsMarked, EndsMarked}}
 use Rattle.lft_facts.proofs.Lists.{all_right}
+use Rattle.lft_races.specs.Runs.{StartsAt, EndsAt}
+use Rattle.lft_facts.specs.declared.facts.Fact.TheVariants as fact
 
 -- a start row of r at g makes a run
 pub ran_there : (t : List Row) (g : Tag) (r p : ℕ) → StartsAt t g r p → Ran t g r

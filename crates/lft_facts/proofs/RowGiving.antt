@@ -4,14 +4,10 @@ use Rattle.std.proofs.lemmas.List.Elements.{All-head, All-tail, All-cons, All-ni
 use Rattle.lft_lists.proofs.Places.{same_at}
 use Rattle.lft_tag.specs.declared.Tag.{Tag}
 use Rattle.lft_ir.specs.declared.steps.row.Row.{Row}
-use Rattle.lft_model.specs.declared.breach.Breach.{Breach}
-use Rattle.lft_model.specs.Plans.{PlanParts}
-use Rattle.lft_model.specs.Breaches.{IsUndeclared, BreaksRow, RowBreach}
-use Rattle.lft_facts.specs.declared.facts.Fact.{Fact}
-use Rattle.lft_facts.specs.declared.facts.Fact.TheVariants as fact
-use Rattle.lft_facts.specs.declared.facts.RowFact.{RowFact}
-use Rattle.lft_facts.specs.Facts.{IsFact, IsShown, IsRowFact, AreFacts, AreShown, IsRowOf}
+use Rattle.lft_model.specs.{declared.breach.Breach.Breach, Plans.PlanParts, Breaches.{IsUndeclared, BreaksRow, RowBreach}}
+use Rattle.lft_facts.specs.{declared.facts.{Fact.Fact, RowFact.RowFact}, Facts.{IsFact, IsShown, IsRowFact, AreFacts, AreShown, IsRowOf}}
 use Rattle.lft_facts.specs.Enough.{GivesRow, ProvesRow, IsOwn, AreOwn, row_of}
+use Rattle.lft_facts.specs.declared.facts.Fact.TheVariants as fact
 
 pub breaks_4 : (plan : PlanParts) (t : List Row) (i : ℕ) (row : Row) → BreaksRow plan t i row 4 → IsUndeclared plan.program t i row row.step
 breaks_4 plan t i row (inl x) = let e = x.0 in absurd (omega arith)

@@ -4,18 +4,11 @@ use native.Mathlib.Decide.{ℕ_discrete}
 use Rattle.std.proofs.lemmas.List.Elements.{All-push, All-cons, All-nil, Contains-append_left, Contains-push}
 use Rattle.lft_lists.proofs.Places.{same_at, contains_at}
 use Rattle.lft_tag.specs.declared.Tag.{Tag}
-use Rattle.lft_ir.specs.declared.parts.Reaction.{Reaction}
-use Rattle.lft_ir.specs.declared.parts.Trigger.{Trigger}
-use Rattle.lft_ir.specs.declared.steps.row.Row.{Row}
-use Rattle.lft_model.specs.Plans.{PlanParts}
-use Rattle.lft_model.specs.Presence.{Triggered}
-use Rattle.lft_model.proofs.Places.{slice_get_within}
-use Rattle.lft_facts.specs.declared.facts.Fact.{Fact}
-use Rattle.lft_facts.specs.declared.facts.Fact.TheVariants as fact
-use Rattle.lft_facts.specs.Facts.{IsFact, AreFacts}
+use Rattle.lft_ir.specs.declared.{parts.{Reaction.Reaction, Trigger.Trigger}, steps.row.Row.Row}
+use Rattle.lft_model.{specs.{Plans.PlanParts, Presence.Triggered}, proofs.Places.slice_get_within}
+use Rattle.lft_facts.{specs.{declared.facts.Fact.Fact, Facts.{IsFact, AreFacts}, Enough.{Gives, IsOwn, AreOwnAt}}, proofs.Giving.not_triggered_gives}
 use Rattle.lft_races.specs.Runs.{StartsAt}
-use Rattle.lft_facts.specs.Enough.{Gives, IsOwn, AreOwnAt}
-use Rattle.lft_facts.proofs.Giving.{not_triggered_gives}
+use Rattle.lft_facts.specs.declared.facts.Fact.TheVariants as fact
 
 -- the facts of rule 8, with the triggers at the places below one
 pub record Untold (plan : PlanParts) (t : List Row) (g : Tag) (r start : ℕ) (triggers : List Trigger) (place : ℕ) (facts : List Fact) : Type 0 where

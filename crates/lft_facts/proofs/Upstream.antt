@@ -1,22 +1,13 @@
 -- Ways along the short lists of a graph, found from the greatest level down.
 use Rattle.std.proofs.Common.{◌≡◌, ◌≢◌, ℕ, zero, suc, ◌+◌, ◌-◌, ◌<◌, ◌≤◌, ◌⊎◌, inl, inr, List, [], ◌∷◌, ◌++◌, length, replicate, take, refl, sym, ap, ◌∙◌, subst, arith, Option, Some, None, slice_get, slice_set, slice_index_or, Contains}
 use native.Mathlib.Decide.{ℕ_discrete}
-use Rattle.std.proofs.lemmas.List.Elements.{All-push}
-use Rattle.std.proofs.lemmas.Option.{get_or_from_slice_get}
+use Rattle.std.proofs.lemmas.{List.Elements.All-push, Option.get_or_from_slice_get}
 use Rattle.lft_lists.proofs.Places.{get_there, get_same, length_same, same_at, get_write_cases, get_written, get_unwritten, length_written, contains_at, at_contains}
-use Rattle.lft_ir.specs.Parts.{Parts}
-use Rattle.lft_ir.specs.declared.steps.row.Row.{Row}
-use Rattle.lft_graph.specs.Before.{IsDeclaredJustBefore, FeedsLast}
-use Rattle.lft_graph.specs.Graph.{GraphParts, IsGraphOf}
-use Rattle.lft_graph.specs.Precedence.{Precedes, Direct}
-use Rattle.lft_graph.specs.Precedence.Precedes.{one, more}
+use Rattle.lft_ir.specs.{Parts.Parts, declared.steps.row.Row.Row}
+use Rattle.lft_graph.specs.{Before.{IsDeclaredJustBefore, FeedsLast}, Graph.{GraphParts, IsGraphOf}, Precedence.{Precedes, Direct, Precedes.{one, more}}}
 use Rattle.lft_graph.proofs.Chains.{snoc}
-use Rattle.lft_model.specs.declared.breach.Breach.{Breach}
-use Rattle.lft_model.specs.Plans.{PlanParts}
-use Rattle.lft_model.proofs.Places.{slice_get_within, slice_get_take, slice_get_taken}
-use Rattle.lft_facts.specs.declared.facts.Fact.{Fact}
-use Rattle.lft_facts.specs.Facts.{AreFacts, IsFact, IsShown}
-use Rattle.lft_facts.specs.Enough.{GivesDirect, GivesChain, IsOwn, AreOwn}
+use Rattle.lft_model.{specs.{declared.breach.Breach.Breach, Plans.PlanParts}, proofs.Places.{slice_get_within, slice_get_take, slice_get_taken}}
+use Rattle.lft_facts.specs.{declared.facts.Fact.Fact, Facts.{AreFacts, IsFact, IsShown}, Enough.{GivesDirect, GivesChain, IsOwn, AreOwn}}
 use Rattle.lft_facts.specs.Ways.{IsMarked, IsMarking, AreThere, InList, LeadsOn, AreWays, AreSteps}
 use Rattle.lft_facts.proofs.Lists.{all_left, all_last}
 

@@ -1,28 +1,15 @@
 -- Rule 10.
 use Rattle.std.proofs.Common.{◌≡◌, ℕ, zero, suc, ◌+◌, ◌<◌, ◌≤◌, inr, List, [], ◌∷◌, ◌++◌, length, map, refl, sym, ap, ◌∙◌, subst, arith, Option, Some, slice_get, slice_set, Contains, option_map, unwrap_or}
 use native.Mathlib.Decide.{ℕ_discrete}
-use Rattle.std.specs.List.{AllZip}
-use Rattle.std.proofs.lemmas.List.Elements.{All-push, All-contains, All-cons, All-nil, Contains-append_left, Contains-push}
-use Rattle.lft_lists.proofs.Places.{get_there, same_at, get_written, same_items}
-use Rattle.lft_lists.proofs.Mapped.{mapped}
+use Rattle.std.{specs.List.AllZip, proofs.lemmas.List.{length-map, Elements.{All-push, All-contains, All-cons, All-nil, Contains-append_left, Contains-push}}}
+use Rattle.lft_lists.proofs.{Places.{get_there, same_at, get_written, same_items}, Mapped.mapped, Zips.long}
 use Rattle.lft_tag.specs.declared.Tag.{Tag}
-use Rattle.lft_ir.specs.Parts.{inputs}
-use Rattle.lft_ir.specs.declared.parts.Name.{Name}
-use Rattle.lft_ir.specs.declared.parts.Reaction.{Reaction}
-use Rattle.lft_ir.specs.declared.parts.Value.{Value}
-use Rattle.lft_ir.specs.declared.steps.row.Row.{Row}
-use Rattle.lft_lists.proofs.Zips.{long}
-use Rattle.lft_model.specs.Plans.{PlanParts}
-use Rattle.lft_model.specs.Presence.{Shows, Inputs}
-use Rattle.lft_model.specs.Runs.{inputs_of, reads_at, read_of, steps_of}
-use Rattle.lft_model.proofs.Places.{slice_get_within}
-use Rattle.lft_facts.specs.declared.facts.Fact.{Fact}
-use Rattle.lft_facts.specs.declared.facts.Fact.TheVariants as fact
-use Rattle.lft_facts.specs.Facts.{IsFact, IsShown, AreFacts, IsRead}
-use Rattle.lft_races.specs.Runs.{StartsAt}
-use Rattle.lft_facts.specs.Enough.{Gives, IsOwn, AreOwnAt}
+use Rattle.lft_ir.specs.{Parts.inputs, declared.{parts.{Name.Name, Reaction.Reaction, Value.Value}, steps.row.Row.Row}}
+use Rattle.lft_model.{specs.{Plans.PlanParts, Presence.{Shows, Inputs}, Runs.{inputs_of, reads_at, read_of, steps_of}}, proofs.Places.slice_get_within}
+use Rattle.lft_facts.specs.{declared.facts.Fact.Fact, Facts.{IsFact, IsShown, AreFacts, IsRead}, Enough.{Gives, IsOwn, AreOwnAt}}
 use Rattle.lft_facts.proofs.Giving.{ran_there, same_reaction}
-use Rattle.std.proofs.lemmas.List.{length-map}
+use Rattle.lft_races.specs.Runs.{StartsAt}
+use Rattle.lft_facts.specs.declared.facts.Fact.TheVariants as fact
 
 -- two lists side by side, at a place
 zip_at : {A B : Type 0} (R : A → B → Type 0) (xs : List A) (ys : List B) (k : ℕ) (x : A) (y : B) → AllZip R xs ys → slice_get xs k ≡ Some x → slice_get ys k ≡ Some y → R x y

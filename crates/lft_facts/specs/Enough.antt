@@ -1,25 +1,17 @@
 -- What some facts give, of whatever plan and rows show them.
 use Rattle.std.specs.Prelude.{◌≡◌, ℕ, ◌+◌, ◌<◌, List, ◌∷◌, ◌++◌, take, Option, Some, MatchOption, slice_get, Contains, All}
-use Rattle.lft_tag.specs.declared.Tag.{Tag}
-use Rattle.lft_tag.specs.Tags.{UpTo}
-use Rattle.lft_ir.specs.Parts.{Parts}
-use Rattle.lft_ir.specs.declared.parts.Trigger.{Trigger}
+use Rattle.lft_tag.specs.{declared.Tag.Tag, Tags.UpTo}
+use Rattle.lft_ir.specs.{Parts.Parts, declared.{parts.Trigger.Trigger, steps.row.Row.Row}}
 use Rattle.lft_graph.specs.Precedence.{Direct, Precedes}
-use Rattle.lft_ir.specs.declared.steps.row.Row.{Row}
-use Rattle.lft_model.specs.declared.breach.Breach.{Breach}
-use Rattle.lft_model.specs.Plans.{PlanParts}
-use Rattle.lft_model.specs.Presence.{stop, Occurs, Collision}
+use Rattle.lft_model.specs.{declared.breach.Breach.Breach, Plans.PlanParts, Presence.{stop, Occurs, Collision}}
 use Rattle.lft_model.specs.Breaches.{BreaksRow, BreaksAt, RowBreach, TagBreach}
 use Rattle.lft_rows.specs.Answers.Answers.{KeepsRows}
 use Rattle.lft_races.specs.Races.{EndLater, IsFirstRace, StandBefore}
-use Rattle.lft_facts.specs.declared.facts.Fact.{Fact}
-use Rattle.lft_facts.specs.declared.facts.Fact.TheVariants as fact
-use Rattle.lft_facts.specs.declared.facts.Cause.{Cause}
-use Rattle.lft_facts.specs.declared.facts.Reason.{Reason}
-use Rattle.lft_facts.specs.declared.facts.Reason.TheVariants as reason
-use Rattle.lft_facts.specs.declared.facts.RowFact.{RowFact}
-use Rattle.lft_facts.specs.declared.facts.RowFact.TheVariants as row_fact
+use Rattle.lft_facts.specs.declared.facts.{Fact.Fact, Cause.Cause, Reason.Reason, RowFact.RowFact}
 use Rattle.lft_facts.specs.Facts.{IsChosen, IsShown, IsCause, IsRowFact, AreFacts, AreShown}
+use Rattle.lft_facts.specs.declared.facts.Fact.TheVariants as fact
+use Rattle.lft_facts.specs.declared.facts.Reason.TheVariants as reason
+use Rattle.lft_facts.specs.declared.facts.RowFact.TheVariants as row_fact
 
 -- of whatever plan and rows show the facts: where no row breaks one of the rules 1 to 5, the rule is broken at g
 abbrev pub Gives : List Fact → Tag → Option ℕ → ℕ → Type 0

@@ -1,34 +1,16 @@
 -- What each fact says.
 use Rattle.std.specs.Prelude.{◌≡◌, ◌≢◌, ◌↔◌, ℕ, ◌+◌, ◌*◌, ◌<◌, ◌≤◌, ◌⊎◌, List, [], length, Option, Some, None, slice_get, Contains, All}
-use Rattle.lft_tag.specs.declared.Tag.{Tag}
-use Rattle.lft_tag.specs.Tags.{Before, after, after_all}
-use Rattle.lft_ir.specs.Parts.{Parts, inputs}
-use Rattle.lft_ir.specs.Origins.{Origin}
-use Rattle.lft_ir.specs.declared.parts.Name.{Name}
-use Rattle.lft_ir.specs.declared.parts.Name.TheVariants.{Port, Action}
-use Rattle.lft_ir.specs.declared.parts.Value.{Value}
-use Rattle.lft_ir.specs.declared.parts.Reaction.{Reaction}
-use Rattle.lft_ir.specs.declared.parts.Timer.{Timer as TimerOf}
-use Rattle.lft_ir.specs.declared.parts.Trigger.{Trigger}
-use Rattle.lft_graph.specs.Before.{IsDeclaredJustBefore, FeedsLast}
-use Rattle.lft_graph.specs.Precedence.{IsDeclaredFirst, Precedes}
-use Rattle.lft_ir.specs.declared.steps.row.Row.{Row}
-use Rattle.lft_ir.specs.declared.steps.row.Step.{Step}
-use Rattle.lft_ir.specs.declared.steps.row.Step.TheVariants.{Start, Read, Write, Schedule, Stop, End}
-use Rattle.lft_ir.specs.declared.steps.externals.Event.{Event}
-use Rattle.lft_model.specs.Plans.{PlanParts}
-use Rattle.lft_model.specs.Presence.{stop, value_written, min_delay, Occurs, Triggered, Shows}
-use Rattle.lft_model.specs.Runs.{Ran, steps_of, read_of, inputs_of}
+use Rattle.lft_tag.specs.{declared.Tag.Tag, Tags.{Before, after, after_all}}
+use Rattle.lft_ir.specs.{Parts.{Parts, inputs}, Origins.Origin}
+use Rattle.lft_ir.specs.declared.parts.{Name.{Name, TheVariants.{Port, Action}}, Value.Value, Reaction.Reaction, Timer.Timer as TimerOf, Trigger.Trigger}
+use Rattle.lft_ir.specs.declared.steps.{row.{Row.Row, Step.{Step, TheVariants.{Start, Read, Write, Schedule, Stop, End}}}, externals.Event.Event}
+use Rattle.lft_graph.specs.{Before.{IsDeclaredJustBefore, FeedsLast}, Precedence.{IsDeclaredFirst, Precedes}}
+use Rattle.lft_model.specs.{Plans.PlanParts, Presence.{stop, value_written, min_delay, Occurs, Triggered, Shows}, Runs.{Ran, steps_of, read_of, inputs_of}}
 use Rattle.lft_model.specs.Breaches.{IsOpen, IsUnended, EndsBefore, MayWrite, MaySchedule}
-use Rattle.lft_races.specs.Runs.{StartsAt, EndsAt, IsOpenSince}
-use Rattle.lft_races.specs.Across.{StartsTwice, ReadsAt}
-use Rattle.lft_races.specs.Races.{IsUnfinished}
-use Rattle.lft_facts.specs.Reasons.{IsReason}
-use Rattle.lft_facts.specs.declared.facts.Fact.{Fact}
+use Rattle.lft_races.specs.{Runs.{StartsAt, EndsAt, IsOpenSince}, Across.{StartsTwice, ReadsAt}, Races.IsUnfinished}
+use Rattle.lft_facts.specs.{Reasons.IsReason, declared.facts.{Fact.Fact, Cause.Cause, RowFact.RowFact}}
 use Rattle.lft_facts.specs.declared.facts.Fact.TheVariants as fact
-use Rattle.lft_facts.specs.declared.facts.Cause.{Cause}
 use Rattle.lft_facts.specs.declared.facts.Cause.TheVariants as cause
-use Rattle.lft_facts.specs.declared.facts.RowFact.{RowFact}
 use Rattle.lft_facts.specs.declared.facts.RowFact.TheVariants as row_fact
 
 -- r starts at g in one row, and a ends at g in a later row

@@ -1,9 +1,7 @@
 -- Runs and firings that are nearest to a tag. The contracts of private functions alone need this file.
 use Rattle.std.specs.Prelude.{ℕ, ◌<◌, List, Option, MatchOption}
-use Rattle.lft_tag.specs.declared.Tag.{Tag}
-use Rattle.lft_tag.specs.Tags.{Before}
-use Rattle.lft_ir.specs.declared.parts.Timer.{Timer as TimerOf}
-use Rattle.lft_ir.specs.declared.steps.row.Row.{Row}
+use Rattle.lft_tag.specs.{declared.Tag.Tag, Tags.Before}
+use Rattle.lft_ir.specs.declared.{parts.Timer.Timer as TimerOf, steps.row.Row.Row}
 use Rattle.lft_model.specs.Presence.{Fires}
 use Rattle.lft_races.specs.Runs.{StartsAt}
 

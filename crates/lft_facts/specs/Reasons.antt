@@ -1,24 +1,14 @@
 -- What a reader asks next: statements beside those that are enough for a breach.
 use Rattle.std.specs.Prelude.{◌≡◌, ◌≢◌, ℕ, ◌+◌, ◌<◌, Bool, true, false, List, length, Some, slice_get}
-use Rattle.lft_tag.specs.declared.Tag.{Tag}
-use Rattle.lft_tag.specs.Tags.{Before}
-use Rattle.lft_ir.specs.Parts.{Parts, inputs}
-use Rattle.lft_ir.specs.Origins.{Origin}
-use Rattle.lft_ir.specs.declared.parts.Action.{Action as ActionOf}
-use Rattle.lft_ir.specs.declared.parts.Name.{Name}
-use Rattle.lft_ir.specs.declared.parts.Name.TheVariants.{Port, Action}
-use Rattle.lft_ir.specs.declared.parts.Reaction.{Reaction}
-use Rattle.lft_ir.specs.declared.parts.Trigger.{Trigger}
+use Rattle.lft_tag.specs.{declared.Tag.Tag, Tags.Before}
+use Rattle.lft_ir.specs.{Parts.{Parts, inputs}, Origins.Origin}
+use Rattle.lft_ir.specs.declared.parts.{Action.Action as ActionOf, Name.{Name, TheVariants.{Port, Action}}, Reaction.Reaction, Trigger.Trigger}
 use Rattle.lft_ir.specs.declared.steps.row.Row.{Row}
 use Rattle.lft_graph.specs.Precedence.{Precedes}
-use Rattle.lft_model.specs.Plans.{PlanParts}
-use Rattle.lft_model.specs.Presence.{stop, asked, Occurs}
-use Rattle.lft_model.specs.Runs.{start_row, end_row, Ran, inputs_of, effects_of}
-use Rattle.lft_races.specs.Runs.{StartsAt, IsOpenSince}
-use Rattle.lft_races.specs.Across.{IsOpenAcross}
-use Rattle.lft_facts.specs.declared.facts.ThingKind.{ThingKind}
+use Rattle.lft_model.specs.{Plans.PlanParts, Presence.{stop, asked, Occurs}, Runs.{start_row, end_row, Ran, inputs_of, effects_of}}
+use Rattle.lft_races.specs.{Runs.{StartsAt, IsOpenSince}, Across.IsOpenAcross}
+use Rattle.lft_facts.specs.declared.facts.{ThingKind.ThingKind, Reason.Reason}
 use Rattle.lft_facts.specs.declared.facts.ThingKind.TheVariants as kind
-use Rattle.lft_facts.specs.declared.facts.Reason.{Reason}
 use Rattle.lft_facts.specs.declared.facts.Reason.TheVariants as reason
 
 -- x is present at h, which isn't g, and nowhere between the two

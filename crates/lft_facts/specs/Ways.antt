@@ -1,11 +1,7 @@
 -- Ways along the short lists of a graph. The contracts of private functions alone need this file.
 use Rattle.std.specs.Prelude.{◌≡◌, ◌↔◌, ℕ, ◌<◌, ◌≤◌, ◌⊎◌, MatchOption, List, [], length, Option, Some, slice_get, slice_index_or, Contains}
 use Rattle.lft_tag.specs.declared.Tag.{Tag}
-use Rattle.lft_ir.specs.Parts.{Parts}
-use Rattle.lft_ir.specs.Origins.{Origin}
-use Rattle.lft_ir.specs.declared.parts.Name.{Name}
-use Rattle.lft_ir.specs.declared.parts.Name.TheVariants.{Port, Action}
-use Rattle.lft_ir.specs.declared.steps.row.Row.{Row}
+use Rattle.lft_ir.specs.{Parts.Parts, Origins.Origin, declared.{parts.Name.{Name, TheVariants.{Port, Action}}, steps.row.Row.Row}}
 use Rattle.lft_graph.specs.Graph.{GraphParts}
 use Rattle.lft_races.specs.Runs.{EndsAt}
 

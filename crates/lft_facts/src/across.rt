@@ -1,10 +1,8 @@
 //! Rules 1 and 5: a run that is open when a row at a later tag comes.
 
 ghost use Rattle.std.specs.Prelude.{◌≡◌, ◌+◌, ◌<◌, ◌≤◌, length, IfSome};
-ghost use Rattle.lft_model.specs.declared.breach.Breach.{Breach as TheBreach};
-ghost use Rattle.lft_model.specs.Plans.{PlanParts};
-ghost use Rattle.lft_facts.specs.Reasons.{IsReason};
-ghost use Rattle.lft_facts.specs.Enough.{IsOwnReason};
+ghost use Rattle.lft_model.specs.{declared.breach.Breach.Breach as TheBreach, Plans.PlanParts};
+ghost use Rattle.lft_facts.specs.{Reasons.IsReason, Enough.IsOwnReason};
 
 use crate::facts::Reason;
 use lft_ir::steps::{Row, row_at};

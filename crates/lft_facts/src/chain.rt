@@ -1,14 +1,11 @@
 //! The steps by which one reaction precedes another.
 
 ghost use Rattle.std.specs.Prelude.{◌≡◌, ◌<◌, ◌⊎◌, ℕ, Some, length, IfOk};
-ghost use Rattle.lft_graph.specs.Graph.{IsGraphOf};
-ghost use Rattle.lft_graph.specs.Before.{IsDeclaredJustBefore, FeedsLast};
-ghost use Rattle.lft_facts.specs.Facts.{IsFact, AreFacts};
-ghost use Rattle.lft_facts.specs.Enough.{GivesDirect, GivesChain, IsOwn, AreOwn};
-ghost use Rattle.lft_facts.specs.Ways.{AreWays, IsMarked};
+ghost use Rattle.std.specs.Prelude.{List};
+ghost use Rattle.lft_graph.specs.{Graph.IsGraphOf, Before.{IsDeclaredJustBefore, FeedsLast}};
+ghost use Rattle.lft_facts.specs.{Facts.{IsFact, AreFacts}, Enough.{GivesDirect, GivesChain, IsOwn, AreOwn}, Ways.{AreWays, IsMarked}};
 ghost use Rattle.lft_ir.specs.declared.steps.row.Row.{Row as TheRow};
 ghost use Rattle.lft_model.specs.declared.breach.Breach.{Breach as TheBreach};
-ghost use Rattle.std.specs.Prelude.{List};
 
 use crate::facts::Fact;
 use crate::feeding::feeding_port;

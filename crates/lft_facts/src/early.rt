@@ -1,15 +1,11 @@
 //! Rule 9: a run that started before one that precedes it had ended.
 
 ghost use Rattle.std.specs.Prelude.{◌≡◌, ◌↔◌, ◌+◌, ◌<◌, ◌≤◌, ◌⊎◌, ℕ, Some, length, slice_get, IsTrue, IfOk};
-ghost use Rattle.lft_ir.specs.Steps.Fits.{RowsFit};
-ghost use Rattle.lft_ir.specs.declared.steps.row.Row.{Row as TheRow};
-ghost use Rattle.lft_model.specs.Breaches.{IsTooEarly};
-ghost use Rattle.lft_model.specs.Runs.{Ran};
+ghost use Rattle.lft_ir.specs.{Steps.Fits.RowsFit, declared.steps.row.Row.Row as TheRow};
+ghost use Rattle.lft_model.specs.{Breaches.IsTooEarly, Runs.Ran};
 ghost use Rattle.lft_rows.specs.Answers.Answers.{KeepsRows};
 ghost use Rattle.lft_races.specs.Runs.{EndsAt};
-ghost use Rattle.lft_facts.specs.Facts.{AreFacts};
-ghost use Rattle.lft_facts.specs.Enough.{Gives, AreOwnAt};
-ghost use Rattle.lft_facts.specs.Ways.{IsMarked, EndsMarked, IsLeastEnd, IsLeastOfAll};
+ghost use Rattle.lft_facts.specs.{Facts.AreFacts, Enough.{Gives, AreOwnAt}, Ways.{IsMarked, EndsMarked, IsLeastEnd, IsLeastOfAll}};
 
 use crate::chain::chain;
 use crate::facts::Fact;

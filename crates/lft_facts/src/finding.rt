@@ -4,8 +4,7 @@ ghost use Rattle.std.specs.Prelude.{◌≡◌, IfOk};
 ghost use Rattle.lft_ir.specs.Steps.Fits.{RowsFit};
 ghost use Rattle.lft_model.specs.Breaches.{First};
 ghost use Rattle.lft_races.specs.Races.{FirstSoFar};
-ghost use Rattle.lft_facts.specs.Facts.{AreFacts};
-ghost use Rattle.lft_facts.specs.Enough.{Proves, ProvesTag, AreOwn, TellsRace};
+ghost use Rattle.lft_facts.specs.{Facts.AreFacts, Enough.{Proves, ProvesTag, AreOwn, TellsRace}};
 
 use crate::collision::collision;
 use crate::early::too_early;

@@ -1,14 +1,9 @@
 //! When a timer fires just before and just after a tag at which it does not.
 
 ghost use Rattle.std.specs.Prelude.{◌≡◌, ◌<◌, List, length, IfSome, OnOk};
-ghost use Rattle.lft_ir.specs.declared.parts.Trigger.TheVariants.{Timer as TheTimer};
-ghost use Rattle.lft_ir.specs.declared.steps.row.Row.{Row as TheRow};
-ghost use Rattle.lft_model.specs.declared.breach.Breach.{Breach as TheBreach};
-ghost use Rattle.lft_model.specs.Plans.{PlanParts};
-ghost use Rattle.lft_model.specs.Presence.{Fires, Occurs};
-ghost use Rattle.lft_facts.specs.Reasons.{IsNearest, IsReason};
-ghost use Rattle.lft_facts.specs.Neighbours.{IsFiringBefore, IsFiringAfter};
-ghost use Rattle.lft_facts.specs.Enough.{Adds, IsOwnReason};
+ghost use Rattle.lft_ir.specs.declared.{parts.Trigger.TheVariants.Timer as TheTimer, steps.row.Row.Row as TheRow};
+ghost use Rattle.lft_model.specs.{declared.breach.Breach.Breach as TheBreach, Plans.PlanParts, Presence.{Fires, Occurs}};
+ghost use Rattle.lft_facts.specs.{Reasons.{IsNearest, IsReason}, Neighbours.{IsFiringBefore, IsFiringAfter}, Enough.{Adds, IsOwnReason}};
 
 use crate::adding::add;
 use crate::facts::{Fact, Reason};

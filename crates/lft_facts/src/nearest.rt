@@ -1,12 +1,9 @@
 //! The nearest events of a port or an action.
 
 ghost use Rattle.std.specs.Prelude.{◌≡◌, IfSome};
-ghost use Rattle.lft_ir.specs.Sound.{IsNameOf};
-ghost use Rattle.lft_ir.specs.declared.parts.Trigger.TheVariants.{On as TheName};
-ghost use Rattle.lft_ir.specs.Steps.Fits.{RowsFit};
+ghost use Rattle.lft_ir.specs.{Sound.IsNameOf, declared.parts.Trigger.TheVariants.On as TheName, Steps.Fits.RowsFit};
 ghost use Rattle.lft_rows.specs.Presence.Causes.{AreCauses};
-ghost use Rattle.lft_facts.specs.Reasons.{IsNearest};
-ghost use Rattle.lft_facts.specs.Causes.{StandsFor};
+ghost use Rattle.lft_facts.specs.{Reasons.IsNearest, Causes.StandsFor};
 
 use lft_ir::steps::Row;
 use lft_ir::{Name, Program};

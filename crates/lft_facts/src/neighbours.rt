@@ -1,15 +1,10 @@
 //! The runs of a reaction just before and just after a tag at which it has none.
 
 ghost use Rattle.std.specs.Prelude.{◌≡◌, ◌+◌, ◌<◌, ◌≤◌, Some, length, IfSome, IfNone, OnOk};
-ghost use Rattle.lft_tag.specs.declared.Tag.{Tag as TheTag};
-ghost use Rattle.lft_tag.specs.Tags.{Before, UpTo};
+ghost use Rattle.lft_tag.specs.{declared.Tag.Tag as TheTag, Tags.{Before, UpTo}};
 ghost use Rattle.lft_ir.specs.Steps.Fits.{RowsFit};
-ghost use Rattle.lft_model.specs.declared.breach.Breach.{Breach as TheBreach};
-ghost use Rattle.lft_model.specs.Plans.{PlanParts};
-ghost use Rattle.lft_model.specs.Runs.{Ran};
-ghost use Rattle.lft_facts.specs.Reasons.{IsRunBefore, IsRunAfter};
-ghost use Rattle.lft_facts.specs.Enough.{Adds};
-ghost use Rattle.lft_facts.specs.Neighbours.{IsNearestStart};
+ghost use Rattle.lft_model.specs.{declared.breach.Breach.Breach as TheBreach, Plans.PlanParts, Runs.Ran};
+ghost use Rattle.lft_facts.specs.{Reasons.{IsRunBefore, IsRunAfter}, Enough.Adds, Neighbours.IsNearestStart};
 
 use crate::facts::{Fact, Reason};
 use lft_ir::steps::{Row, row_at};

@@ -1,14 +1,11 @@
 //! Rule 10: a run that read something else than its inputs.
 
 ghost use Rattle.std.specs.Prelude.{◌≡◌, List, Option, Some, IfOk};
-ghost use Rattle.lft_ir.specs.declared.parts.Value.{Value as Carried};
-ghost use Rattle.lft_ir.specs.Steps.Fits.{RowsFit};
-ghost use Rattle.lft_model.specs.Presence.{Inputs, Collision};
-ghost use Rattle.lft_model.specs.Runs.{Ran, reads_at};
+ghost use Rattle.lft_ir.specs.{declared.parts.Value.Value as Carried, Steps.Fits.RowsFit};
+ghost use Rattle.lft_model.specs.{Presence.{Inputs, Collision}, Runs.{Ran, reads_at}};
 ghost use Rattle.lft_rows.specs.Answers.Answers.{KeepsRows};
-ghost use Rattle.lft_facts.specs.Facts.{AreFacts};
+ghost use Rattle.lft_facts.specs.{Facts.AreFacts, Enough.{Gives, AreOwnAt}};
 ghost use Rattle.lft_races.specs.Runs.{StartsAt};
-ghost use Rattle.lft_facts.specs.Enough.{Gives, AreOwnAt};
 
 use crate::facts::Fact;
 use lft_ir::Value;

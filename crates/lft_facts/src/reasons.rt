@@ -2,15 +2,10 @@
 //! nearest to what is absent.
 
 ghost use Rattle.std.specs.Prelude.{◌≡◌, IfOk, IfSome, OnOk};
-ghost use Rattle.lft_ir.specs.Sound.{IsNameOf, IsTriggerOf as IsKnown};
-ghost use Rattle.lft_ir.specs.declared.parts.Trigger.TheVariants.{On as TheName};
-ghost use Rattle.lft_ir.specs.Steps.Fits.{RowsFit};
-ghost use Rattle.lft_model.specs.declared.breach.Breach.{Breach as TheBreach};
-ghost use Rattle.lft_model.specs.Presence.{Occurs};
+ghost use Rattle.lft_ir.specs.{Sound.{IsNameOf, IsTriggerOf as IsKnown}, declared.parts.Trigger.TheVariants.On as TheName, Steps.Fits.RowsFit};
+ghost use Rattle.lft_model.specs.{declared.breach.Breach.Breach as TheBreach, Presence.Occurs};
 ghost use Rattle.lft_rows.specs.Presence.Causes.{AreCauses};
-ghost use Rattle.lft_facts.specs.Facts.{IsFact, AreFacts};
-ghost use Rattle.lft_facts.specs.Reasons.{IsNearest, IsReason};
-ghost use Rattle.lft_facts.specs.Enough.{Adds, Extends, IsOwn, IsOwnReason, AreOwn};
+ghost use Rattle.lft_facts.specs.{Facts.{IsFact, AreFacts}, Reasons.{IsNearest, IsReason}, Enough.{Adds, Extends, IsOwn, IsOwnReason, AreOwn}};
 
 use crate::adding::add;
 use crate::cause::name_cause;

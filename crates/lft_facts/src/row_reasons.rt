@@ -1,14 +1,9 @@
 //! Rules 2 to 5: what a reader of a wrong row asks next.
 
 ghost use Rattle.std.specs.Prelude.{◌≡◌, ◌+◌, ◌<◌, ◌≤◌, List, length, IfSome, OnOk};
-ghost use Rattle.lft_ir.specs.declared.parts.Name.TheVariants.{Action as TheAction};
-ghost use Rattle.lft_ir.specs.Steps.Fits.{RowsFit, StepFits};
-ghost use Rattle.lft_ir.specs.declared.steps.row.Row.{Row as TheRow};
-ghost use Rattle.lft_model.specs.declared.breach.Breach.{Breach as TheBreach};
-ghost use Rattle.lft_model.specs.Plans.{PlanParts};
-ghost use Rattle.lft_facts.specs.Facts.{IsRowFact};
-ghost use Rattle.lft_facts.specs.Reasons.{IsReason, IsOfKind};
-ghost use Rattle.lft_facts.specs.Enough.{Adds, IsOwnReason, row_of};
+ghost use Rattle.lft_ir.specs.{declared.{parts.Name.TheVariants.Action as TheAction, steps.row.Row.Row as TheRow}, Steps.Fits.{RowsFit, StepFits}};
+ghost use Rattle.lft_model.specs.{declared.breach.Breach.Breach as TheBreach, Plans.PlanParts};
+ghost use Rattle.lft_facts.specs.{Facts.IsRowFact, Reasons.{IsReason, IsOfKind}, Enough.{Adds, IsOwnReason, row_of}};
 
 use crate::across::{across, later_tag};
 use crate::adding::add;

@@ -1,12 +1,9 @@
 //! Rules 1 to 5: a row that breaks a rule.
 
 ghost use Rattle.std.specs.Prelude.{◌≡◌, Some, slice_get, IfOk};
-ghost use Rattle.lft_ir.specs.Parts.{Parts};
-ghost use Rattle.lft_ir.specs.Steps.Fits.{RowsFit};
-ghost use Rattle.lft_model.specs.Plans.{PlanParts};
-ghost use Rattle.lft_model.specs.Breaches.{BreaksRow, IsOutOfOrder, IsUndeclared, RowBreach};
-ghost use Rattle.lft_facts.specs.Facts.{IsRowFact, AreFacts};
-ghost use Rattle.lft_facts.specs.Enough.{GivesRow, ProvesRow, AreOwn, row_of};
+ghost use Rattle.lft_ir.specs.{Parts.Parts, Steps.Fits.RowsFit};
+ghost use Rattle.lft_model.specs.{Plans.PlanParts, Breaches.{BreaksRow, IsOutOfOrder, IsUndeclared, RowBreach}};
+ghost use Rattle.lft_facts.specs.{Facts.{IsRowFact, AreFacts}, Enough.{GivesRow, ProvesRow, AreOwn, row_of}};
 
 use crate::facts::{Fact, RowFact};
 use crate::row_reasons::add_row_reasons;

@@ -3,8 +3,7 @@
 ghost use Rattle.std.specs.Prelude.{◌≡◌, IfSome};
 ghost use Rattle.lft_ir.specs.Steps.Fits.{RowsFit};
 ghost use Rattle.lft_model.specs.declared.breach.Breach.{Breach as TheBreach};
-ghost use Rattle.lft_facts.specs.Reasons.{IsReason};
-ghost use Rattle.lft_facts.specs.Enough.{IsOwnReason};
+ghost use Rattle.lft_facts.specs.{Reasons.IsReason, Enough.IsOwnReason};
 
 use crate::facts::Reason;
 use lft_ir::steps::{Row, is_stop, row_at};

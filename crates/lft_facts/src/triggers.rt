@@ -2,11 +2,9 @@
 
 ghost use Rattle.std.specs.Prelude.{◌≡◌, ◌<◌, ◌≤◌, Some, length, IfOk};
 ghost use Rattle.lft_ir.specs.Steps.Fits.{RowsFit};
-ghost use Rattle.lft_model.specs.Presence.{Triggered};
-ghost use Rattle.lft_model.specs.Runs.{Ran};
+ghost use Rattle.lft_model.specs.{Presence.Triggered, Runs.Ran};
 ghost use Rattle.lft_rows.specs.Presence.Causes.{AreCauses};
-ghost use Rattle.lft_facts.specs.Facts.{IsCause, AreFacts, IsTriggerOf};
-ghost use Rattle.lft_facts.specs.Enough.{Gives, GivesTrigger, AreOwnAt};
+ghost use Rattle.lft_facts.specs.{Facts.{IsCause, AreFacts, IsTriggerOf}, Enough.{Gives, GivesTrigger, AreOwnAt}};
 
 use crate::cause::trigger_cause;
 use crate::facts::{Cause, Fact};

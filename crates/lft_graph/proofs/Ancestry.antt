@@ -1,15 +1,12 @@
 -- What precedes each reaction, along the levels.
 use Rattle.std.proofs.Common.{◌≡◌, ◌≢◌, ℕ, zero, suc, ◌+◌, ◌/◌, ◌<◌, ◌≤◌, ◌⊎◌, inl, inr, List, length, refl, sym, ap, ◌∙◌, subst, arith, Some, slice_get, slice_set, Contains}
 use Rattle.std.specs.Prelude.{◌↔◌}
-use Rattle.std.proofs.lemmas.Bool.{cases_lt}
+use Rattle.std.proofs.lemmas.{Bool.cases_lt, Option.slice_get_within}
 use native.Mathlib.Decide.{ℕ_discrete}
 use Rattle.lft_ir.specs.Parts.{Parts}
-use Rattle.lft_graph.specs.Precedence.{Precedes}
-use Rattle.lft_graph.specs.Graph.{GraphParts, IsGraphOf}
-use Rattle.lft_lists.proofs.Places.{contains_at, at_contains, get_there, same_at, get_write_cases, length_written}
-use Rattle.std.proofs.lemmas.Option.{slice_get_within}
-use Rattle.lft_graph.specs.Sets.{Has, AreAncestors, HaveRoom, IsUnder, IsUnion}
+use Rattle.lft_graph.specs.{Precedence.Precedes, Graph.{GraphParts, IsGraphOf}, Sets.{Has, AreAncestors, HaveRoom, IsUnder, IsUnion}}
 use Rattle.lft_graph.proofs.Cycles.{from_there}
+use Rattle.lft_lists.proofs.Places.{contains_at, at_contains, get_there, same_at, get_write_cases, length_written}
 
 pub precedes_known : (program : Parts) (a b : ℕ) → Precedes program a b → a < length program.reactions
 precedes_known program a b (Precedes.one d) = from_there program _ _ d

@@ -1,16 +1,10 @@
 -- Chains along the short lists are chains of direct steps.
 use Rattle.std.proofs.Common.{◌≡◌, ℕ, zero, suc, ◌+◌, ◌<◌, ◌≤◌, ◌⊎◌, inl, inr, List, length, sym, ◌∙◌, subst, arith, Some, slice_get, Contains, get_or}
-use Rattle.std.proofs.lemmas.Option.{slice_get_within, slice_get-get_or}
-use Rattle.std.proofs.lemmas.Bool.{cases_lt}
-use Rattle.lft_ir.specs.Parts.{Parts}
-use Rattle.lft_ir.specs.Sound.{IsSound}
-use Rattle.lft_ir.specs.declared.parts.Reaction.{Reaction}
-use Rattle.lft_graph.specs.Precedence.{Direct, IsDeclaredFirst, Feeds, Precedes, IsLevelled}
-use Rattle.lft_graph.specs.Precedence.Precedes.{one, more}
-use Rattle.lft_graph.specs.Before.{IsDeclaredJustBefore, FeedsLast, Writes}
-use Rattle.lft_graph.specs.Graph.{AreLevels, AreByLevel, GraphParts, HasChains, IsGraphOf}
-use Rattle.lft_graph.specs.Loops.{IsLoopOf, IsLoop}
-use Rattle.lft_graph.specs.Walks.{HasLists, AreInside, IsStep}
+use Rattle.std.proofs.lemmas.{Option.{slice_get_within, slice_get-get_or}, Bool.cases_lt}
+use Rattle.lft_ir.specs.{Parts.Parts, Sound.IsSound, declared.parts.Reaction.Reaction}
+use Rattle.lft_graph.specs.Precedence.{Direct, IsDeclaredFirst, Feeds, Precedes, IsLevelled, Precedes.{one, more}}
+use Rattle.lft_graph.specs.{Before.{IsDeclaredJustBefore, FeedsLast, Writes}, Graph.{AreLevels, AreByLevel, GraphParts, HasChains, IsGraphOf}}
+use Rattle.lft_graph.specs.{Loops.{IsLoopOf, IsLoop}, Walks.{HasLists, AreInside, IsStep}}
 use Rattle.lft_lists.proofs.Places.{contains_at, get_there}
 
 pub snoc : (program : Parts) (a b c : ℕ) → Precedes program a b → Direct program b c → Precedes program a c

@@ -3,10 +3,7 @@ use Rattle.std.proofs.Common.{◌≡◌, ℕ, zero, suc, ◌+◌, ◌-◌, ◌<�
 use Rattle.std.proofs.lemmas.Option.{slice_get_within}
 use native.Mathlib.Decide.{dec_lt}
 use Rattle.lft_ir.specs.Parts.{Parts}
-use Rattle.lft_graph.specs.Precedence.{Direct, Precedes, HasNoLoop, IsLevelled}
-use Rattle.lft_graph.specs.Precedence.Precedes.{one, more}
-use Rattle.lft_graph.specs.Loops.{IsLoop}
-use Rattle.lft_graph.proofs.Chains.{snoc}
+use Rattle.lft_graph.{specs.{Precedence.{Direct, Precedes, HasNoLoop, IsLevelled, Precedes.{one, more}}, Loops.IsLoop}, proofs.Chains.snoc}
 use Rattle.lft_lists.proofs.Places.{get_there}
 
 -- what precedes is a reaction

@@ -3,19 +3,11 @@ use Rattle.std.proofs.Common.{◌≡◌, ℕ, zero, suc, ◌+◌, ◌-◌, ◌<�
 use Rattle.std.proofs.lemmas.Option.{slice_get_within}
 use Rattle.std.proofs.lemmas.List.Elements.{Contains-push, Contains-push_cases, Contains-append_left, Contains-append_right, Contains-append_cases}
 use Rattle.std.proofs.lemmas.Bool.{cases_lt, cases_eq}
-use Rattle.lft_tag.specs.Shifts.{none, join_all}
-use Rattle.lft_tag.proofs.Chains.{undelayed}
-use Rattle.lft_ir.specs.Parts.{Parts, inputs}
-use Rattle.lft_ir.specs.Naming.{named}
-use Rattle.lft_ir.specs.Sound.{IsSound}
-use Rattle.lft_ir.specs.Origins.{Origin}
+use Rattle.lft_tag.{specs.Shifts.{none, join_all}, proofs.Chains.undelayed}
+use Rattle.lft_ir.specs.{Parts.{Parts, inputs}, Naming.named, Sound.IsSound, Origins.Origin}
+use Rattle.lft_ir.specs.declared.parts.{Port.Port as PortOf, Reaction.Reaction, Name.{Name, TheVariants.{Port, Action}}}
+use Rattle.lft_ir.specs.declared.parts.Trigger.{Trigger, TheVariants.{Startup, Shutdown, Timer, On}}
 use Rattle.lft_ir.proofs.Origins.{origin_unique, origin_inside}
-use Rattle.lft_ir.specs.declared.parts.Port.{Port as PortOf}
-use Rattle.lft_ir.specs.declared.parts.Reaction.{Reaction}
-use Rattle.lft_ir.specs.declared.parts.Name.{Name}
-use Rattle.lft_ir.specs.declared.parts.Name.TheVariants.{Port, Action}
-use Rattle.lft_ir.specs.declared.parts.Trigger.{Trigger}
-use Rattle.lft_ir.specs.declared.parts.Trigger.TheVariants.{Startup, Shutdown, Timer, On}
 use Rattle.lft_graph.specs.Before.{Writes, IsLastWriter, Reaches, FeedsLast, IsDeclaredJustBefore, IsBefore}
 use Rattle.lft_graph.specs.Walks.{KnowsWriters, IsUndelayed, IsFeeder, NotesBelow, Covers, HasLists}
 use Rattle.lft_lists.proofs.Places.{contains_at, at_contains, get_push_cases}

@@ -1,15 +1,10 @@
 -- What a walk from a reaction back along the lists keeps.
 use Rattle.std.proofs.Common.{◌≡◌, ◌≢◌, ℕ, zero, suc, ◌+◌, ◌<◌, ◌⊎◌, inl, inr, List, [], ◌∷◌, ◌++◌, length, refl, sym, ap, ◌∙◌, subst, arith, Option, Some, slice_get, slice_set, Contains, length-append}
-use Rattle.std.proofs.lemmas.Option.{slice_get_within}
-use Rattle.std.proofs.lemmas.Bool.{cases_eq}
-use Rattle.lft_graph.specs.declared.levels.LevelMark.{LevelMark}
-use Rattle.lft_graph.specs.declared.levels.LevelMark.TheVariants.{New, Open, Done}
-use Rattle.lft_graph.specs.declared.levels.LevelStep.TheVariants.{Level, Looped, First}
-use Rattle.lft_graph.specs.Loops.{IsLoopOf}
-use Rattle.lft_graph.specs.Walks.{IsStep, AreDone, IsLevelOf, IsSettled, NoneOpen, KeepsLooked, IsNext, IsCut, tally, done_weight}
+use Rattle.std.proofs.lemmas.{Option.slice_get_within, Bool.cases_eq}
+use Rattle.lft_graph.specs.declared.levels.{LevelMark.{LevelMark, TheVariants.{New, Open, Done}}, LevelStep.TheVariants.{Level, Looped, First}}
+use Rattle.lft_graph.specs.{Loops.IsLoopOf, Walks.{IsStep, AreDone, IsLevelOf, IsSettled, NoneOpen, KeepsLooked, IsNext, IsCut, tally, done_weight}}
+use Rattle.lft_graph.proofs.{Turning.cut_loop, Walking.{tally_written, KeepsDone, keeps_done, done_kept, level_kept}}
 use Rattle.lft_lists.proofs.Places.{contains_at, at_contains, get_written, get_unwritten, get_write_cases, length_written, get_push, get_last, get_push_cases}
-use Rattle.lft_graph.proofs.Turning.{cut_loop}
-use Rattle.lft_graph.proofs.Walking.{tally_written, KeepsDone, keeps_done, done_kept, level_kept}
 
 module _ (before : List (List ℕ)) where
   -- marks that are right, apart from what is open

@@ -1,12 +1,8 @@
 -- The last writers so far.
 use Rattle.std.proofs.Common.{◌≡◌, ℕ, ◌+◌, ◌<◌, ◌≤◌, ◌⊎◌, inl, inr, List, length, sym, ap, ◌∙◌, subst, arith, Option, Some, slice_get, slice_set, Contains}
 use Rattle.std.proofs.lemmas.Bool.{cases_lt, cases_eq}
-use Rattle.lft_ir.specs.Parts.{Parts}
-use Rattle.lft_ir.specs.declared.parts.Reaction.{Reaction}
-use Rattle.lft_ir.specs.declared.parts.Name.{Name}
-use Rattle.lft_ir.specs.declared.parts.Name.TheVariants.{Port}
-use Rattle.lft_graph.specs.Before.{Writes}
-use Rattle.lft_graph.specs.Walks.{KnowsWriters}
+use Rattle.lft_ir.specs.{Parts.Parts, declared.parts.{Reaction.Reaction, Name.{Name, TheVariants.Port}}}
+use Rattle.lft_graph.specs.{Before.Writes, Walks.KnowsWriters}
 use Rattle.lft_lists.proofs.Places.{contains_at, get_written, get_unwritten, length_written}
 
 -- the effects at the places below one are noted

@@ -1,9 +1,6 @@
 -- The short list of what precedes a reaction directly.
 use Rattle.std.specs.Prelude.{◌≡◌, ◌↔◌, ℕ, ◌+◌, ◌<◌, ◌≤◌, ◌⊎◌, List, [], Some, slice_get, Contains, AllPairs}
-use Rattle.lft_ir.specs.Parts.{Parts, inputs}
-use Rattle.lft_ir.specs.Origins.{Origin}
-use Rattle.lft_ir.specs.declared.parts.Reaction.{Reaction}
-use Rattle.lft_ir.specs.declared.parts.Name.TheVariants.{Port}
+use Rattle.lft_ir.specs.{Parts.{Parts, inputs}, Origins.Origin, declared.parts.{Reaction.Reaction, Name.TheVariants.Port}}
 
 -- a is declared just before r, in the same instance
 pub record IsDeclaredJustBefore (program : Parts) (a r : ℕ) : Type 0 where

@@ -1,8 +1,7 @@
 -- What contracts see of a graph, and what it says of its program.
 use Rattle.std.specs.Prelude.{◌≡◌, ◌↔◌, ℕ, ◌+◌, ◌<◌, ◌⊎◌, List, Some, slice_get, length, Contains}
 use Rattle.lft_ir.specs.Parts.{Parts}
-use Rattle.lft_graph.specs.Precedence.{Precedes}
-use Rattle.lft_graph.specs.Before.{IsBefore}
+use Rattle.lft_graph.specs.{Precedence.Precedes, Before.IsBefore}
 
 -- for each reaction its short list and its level, and all reactions in the order of their levels
 pub record GraphParts : Type 0 where

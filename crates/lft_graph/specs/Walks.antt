@@ -1,14 +1,8 @@
 -- How far lists are walked. The contracts of private functions alone need this file.
 use Rattle.std.specs.Prelude.{◌≡◌, ◌≢◌, ℕ, ◌+◌, ◌-◌, ◌<◌, ◌≤◌, ◌⊎◌, List, [], ◌∷◌, Option, Some, slice_get, length, Contains, nat_le, if◌then◌else◌}
-use Rattle.lft_ir.specs.Parts.{Parts}
-use Rattle.lft_ir.specs.Origins.{Origin}
-use Rattle.lft_ir.specs.declared.parts.Name.{Name}
-use Rattle.lft_ir.specs.declared.parts.Name.TheVariants.{Port, Action}
+use Rattle.lft_ir.specs.{Parts.Parts, Origins.Origin, declared.parts.Name.{Name, TheVariants.{Port, Action}}}
 use Rattle.lft_graph.specs.Before.{Writes, IsLastWriter, Reaches, IsBefore}
-use Rattle.lft_graph.specs.declared.levels.LevelMark.{LevelMark}
-use Rattle.lft_graph.specs.declared.levels.LevelMark.TheVariants.{New, Open, Done}
-use Rattle.lft_graph.specs.declared.levels.LevelStep.{LevelStep}
-use Rattle.lft_graph.specs.declared.levels.LevelStep.TheVariants.{Level, Looped, First}
+use Rattle.lft_graph.specs.declared.levels.{LevelMark.{LevelMark, TheVariants.{New, Open, Done}}, LevelStep.{LevelStep, TheVariants.{Level, Looped, First}}}
 
 -- for each port the last writer among the reactions below a number
 pub record KnowsWriters (program : Parts) (below : ℕ) (writers : List (Option ℕ)) : Type 0 where

@@ -1,11 +1,8 @@
 //! The short list of what precedes a reaction directly.
 
 ghost use Rattle.std.specs.Prelude.{◌≡◌, ◌↔◌, ℕ, ◌<◌, length, slice_get, Some, IfOk, OnOk, Contains, AllPairs};
-ghost use Rattle.lft_ir.specs.Sound.{IsNameOf, IsSound};
-ghost use Rattle.lft_ir.specs.declared.parts.Trigger.TheVariants.{On};
-ghost use Rattle.lft_ir.specs.declared.parts.Name.{Name};
-ghost use Rattle.lft_graph.specs.Before.{Writes, IsLastWriter, IsBefore};
-ghost use Rattle.lft_graph.specs.Walks.{KnowsWriters, IsUndelayed, IsFeeder, NotesBelow, Covers, HasLists};
+ghost use Rattle.lft_ir.specs.{Sound.{IsNameOf, IsSound}, declared.parts.{Trigger.TheVariants.On, Name.Name}};
+ghost use Rattle.lft_graph.specs.{Before.{Writes, IsLastWriter, IsBefore}, Walks.{KnowsWriters, IsUndelayed, IsFeeder, NotesBelow, Covers, HasLists}};
 
 use crate::members::Members;
 use crate::writers::last_writers;

@@ -1,9 +1,7 @@
 //! The graph of a program.
 
 ghost use Rattle.std.specs.Prelude.{◌≡◌, ℕ, List, ◌<◌, length, slice_get, Some, Err, IfOk, OnOk};
-ghost use Rattle.lft_graph.specs.Precedence.{HasNoLoop, IsLevelled};
-ghost use Rattle.lft_graph.specs.Graph.{IsGraphOf};
-ghost use Rattle.lft_graph.specs.Loops.{IsLoop};
+ghost use Rattle.lft_graph.specs.{Precedence.{HasNoLoop, IsLevelled}, Graph.IsGraphOf, Loops.IsLoop};
 
 use crate::before::all_before;
 use crate::fault::GraphFault;

@@ -1,9 +1,6 @@
 -- A number, as it is written, is of bytes that may stand in names.
 use Rattle.std.proofs.Common.{ℕ, ◌+◌, ◌%◌, ◌<◌, ◌^◌, [], All, arith}
-use Rattle.std.specs.Fmt.{decimal}
-use Rattle.std.proofs.lemmas.Bool.Decides.{nat_tests}
-use Rattle.std.proofs.lemmas.Fmt.{decimal_by_steps}
-use Rattle.std.proofs.lemmas.List.Elements.{All-nil, All-cons, All-push}
+use Rattle.std.{specs.Fmt.decimal, proofs.lemmas.{Bool.Decides.nat_tests, Fmt.decimal_by_steps, List.Elements.{All-nil, All-cons, All-push}}}
 use Rattle.lft_ir.specs.Names.{IsNameByte}
 
 -- a digit by its value

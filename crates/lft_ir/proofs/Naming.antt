@@ -1,14 +1,10 @@
 -- Which triggers name a port or an action.
 use Rattle.std.proofs.Common.{◌≡◌, refl, ap, Some, None, ◌⊎◌, inl, inr, ℕ, true, eqb-true, eq-eqb, slice_get, filter_map, subst}
 use Rattle.lft_ir.specs.Naming.{named, same_name}
-use Rattle.lft_ir.specs.declared.parts.Name.{Name}
-use Rattle.lft_ir.specs.declared.parts.Name.TheVariants.{Port, Action}
-use Rattle.lft_ir.specs.declared.parts.Trigger.{Trigger}
-use Rattle.lft_ir.specs.declared.parts.Trigger.TheVariants.{Startup, Shutdown, Timer, On}
-use Rattle.lft_lists.proofs.Members.{Mem, mem_cases, mem_from_filter, mem_contains}
-use Rattle.lft_ir.specs.Parts.{Parts, inputs}
-use Rattle.lft_ir.specs.Sound.{IsSound, IsNameOf, IsTriggerOf}
+use Rattle.lft_ir.specs.declared.parts.{Name.{Name, TheVariants.{Port, Action}}, Trigger.{Trigger, TheVariants.{Startup, Shutdown, Timer, On}}}
 use Rattle.lft_ir.specs.declared.parts.Reaction.{Reaction}
+use Rattle.lft_ir.specs.{Parts.{Parts, inputs}, Sound.{IsSound, IsNameOf, IsTriggerOf}}
+use Rattle.lft_lists.proofs.Members.{Mem, mem_cases, mem_from_filter, mem_contains}
 
 -- a trigger that is no port and no action names none
 pub named_none : (x : Trigger) → ((n : Name) → ¬ (x ≡ On n)) → named x ≡ None

@@ -1,11 +1,8 @@
 -- Origins of ports.
 use Rattle.std.proofs.Common.{◌≡◌, ℕ, ◌<◌, List, ◌++◌, length, refl, sym, ap, ◌∙◌, subst, Some, None, slice_get, option_to_list}
 use Rattle.std.proofs.lemmas.Option.{slice_get_within}
-use Rattle.lft_ir.specs.Parts.{Parts}
-use Rattle.lft_ir.specs.Origins.{Origin}
-use Rattle.lft_ir.specs.Origins.Origin.{itself, over}
+use Rattle.lft_ir.specs.{Parts.Parts, Origins.{Origin, Origin.{itself, over}}, declared.parts.Port.Port as PortOf}
 use Rattle.lft_tag.specs.declared.Source.{Source}
-use Rattle.lft_ir.specs.declared.parts.Port.{Port as PortOf}
 
 -- a port has one origin and one list of delays
 pub origin_unique : {program : Parts} {p o q : ℕ} {ds es : List ℕ} → Origin program p o ds → Origin program p q es → (o ≡ q) × (ds ≡ es)

@@ -1,20 +1,11 @@
 -- What a search by position, or by any place, says of a list, and the texts of a list of strings.
 use Rattle.std.proofs.Common.{◌≡◌, ℕ, ◌<◌, ◌≤◌, zero, suc, Bool, true, false, List, [], ◌∷◌, ◌++◌, map, length, slice_get, position, Some, None, refl, sym, ap, subst, ◌∙◌, true≢false, arith, string_bytes, get_or, String, ◌⊎◌, inl, inr, ⊎_elim, if◌then◌else◌}
-use Rattle.std.specs.List.{position_or_len, list_any}
-use Rattle.std.specs.Str.{bytes_eq, IsUtf8}
-use Rattle.std.specs.String.{string_eq}
-use Rattle.std.proofs.lemmas.Grind.{common_steps}
-use Rattle.std.proofs.lemmas.List.{map-append}
-use Rattle.std.proofs.lemmas.List.Folds.{Any-from_list_any, list_any_at}
-use Rattle.std.proofs.lemmas.List.Quantifiers.{position-Some}
-use Rattle.std.proofs.lemmas.List.Sums.{fails_before_first}
-use Rattle.std.proofs.lemmas.Option.{slice_get_within, get_or_from_slice_get, slice_get-get_or}
-use Rattle.std.proofs.lemmas.Slice.Eq.{bytes_eq-Decides}
-use Rattle.std.proofs.lemmas.Str.{IsUtf8-string_bytes}
+use Rattle.std.specs.{List.{position_or_len, list_any}, Str.{bytes_eq, IsUtf8}, String.string_eq}
+use Rattle.std.proofs.lemmas.{Grind.common_steps, List.{map-append, Folds.{Any-from_list_any, list_any_at}, Quantifiers.position-Some, Sums.fails_before_first}}
+use Rattle.std.proofs.lemmas.{Option.{slice_get_within, get_or_from_slice_get, slice_get-get_or}, Slice.Eq.bytes_eq-Decides, Str.IsUtf8-string_bytes}
 use Rattle.indexmap.specs.IndexSet.{insert_key}
 use Rattle.lft_lists.proofs.Mapped.{mapped, mapped_from}
-use Rattle.lft_ir.specs.Names.{HasNoTwice}
-use Rattle.lft_ir.specs.Places.{AreUtf8}
+use Rattle.lft_ir.specs.{Names.HasNoTwice, Places.AreUtf8}
 
 module _ {X : Type 0} (p : X → Bool) where
   -- a search that found nothing passes nowhere

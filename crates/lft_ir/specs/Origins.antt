@@ -1,7 +1,6 @@
 -- Chains of connections.
 use Rattle.std.specs.Prelude.{◌≡◌, ℕ, List, [], ◌++◌, Some, None, slice_get, option_to_list}
-use Rattle.lft_ir.specs.Parts.{Parts}
-use Rattle.lft_ir.specs.declared.parts.Port.{Port as PortOf}
+use Rattle.lft_ir.specs.{Parts.Parts, declared.parts.Port.Port as PortOf}
 use Rattle.lft_tag.specs.declared.Source.{Source}
 
 -- the chain of connections into port p, walked backwards, ends at port o; the delays are those of the chain from o on

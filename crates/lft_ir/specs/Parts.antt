@@ -1,12 +1,7 @@
 -- What contracts see of a program: its parts as lists, each part known by its place.
 use Rattle.std.specs.Prelude.{List, ◌++◌, filter_map}
-use Rattle.lft_ir.specs.declared.parts.Port.{Port as PortOf}
-use Rattle.lft_ir.specs.declared.parts.Action.{Action as ActionOf}
-use Rattle.lft_ir.specs.declared.parts.Timer.{Timer as TimerOf}
-use Rattle.lft_ir.specs.declared.parts.Reaction.{Reaction}
-use Rattle.lft_ir.specs.declared.parts.Name.{Name}
-use Rattle.lft_ir.specs.Names.{ThingNames}
-use Rattle.lft_ir.specs.Naming.{named}
+use Rattle.lft_ir.specs.declared.parts.{Port.Port as PortOf, Action.Action as ActionOf, Timer.Timer as TimerOf, Reaction.Reaction, Name.Name}
+use Rattle.lft_ir.specs.{Names.ThingNames, Naming.named}
 
 -- a flat program: what its instances declare, by instance and then by declaration, and the names
 pub record Parts : Type 0 where

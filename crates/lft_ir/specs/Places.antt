@@ -1,10 +1,8 @@
 -- The names of a program's things as parts of one list. The name table's invariants alone need this file.
 use Rattle.std.specs.Prelude.{◌≡◌, ℕ, ◌-◌, ◌^◌, ◌<◌, ◌≤◌, List, Some, slice_get, slice_range, length, nat_lt, if◌then◌else◌}
 use Rattle.std.specs.Str.{IsUtf8}
-use Rattle.lft_ir.specs.Names.{ThingNames}
-use Rattle.lft_ir.specs.declared.found.Found.{Found}
+use Rattle.lft_ir.specs.{Names.ThingNames, declared.{found.Found.Found, names.Starts.Starts}}
 use Rattle.lft_ir.specs.declared.found.Found.TheVariants as found
-use Rattle.lft_ir.specs.declared.names.Starts.{Starts}
 
 -- each text of the list is UTF-8
 abbrev pub AreUtf8 : List (List ℕ) → Type 0

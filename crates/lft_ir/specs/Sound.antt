@@ -1,16 +1,8 @@
 -- What holds of the parts of every program.
 use Rattle.std.specs.Prelude.{◌≡◌, ℕ, ◌+◌, ◌<◌, ◌≤◌, List, slice_get, length, Some, Contains, AllPairs, ◌≢◌}
-use Rattle.lft_ir.specs.Parts.{Parts, inputs}
-use Rattle.lft_ir.specs.Names.{AreDistinct, AreWords}
-use Rattle.lft_ir.specs.Origins.{Origin}
-use Rattle.lft_ir.specs.declared.parts.Port.{Port as PortOf}
-use Rattle.lft_ir.specs.declared.parts.Action.{Action as ActionOf}
-use Rattle.lft_ir.specs.declared.parts.Timer.{Timer as TimerOf}
-use Rattle.lft_ir.specs.declared.parts.Reaction.{Reaction}
-use Rattle.lft_ir.specs.declared.parts.Name.{Name}
-use Rattle.lft_ir.specs.declared.parts.Name.TheVariants.{Port, Action}
-use Rattle.lft_ir.specs.declared.parts.Trigger.{Trigger}
-use Rattle.lft_ir.specs.declared.parts.Trigger.TheVariants.{Startup, Shutdown, Timer, On}
+use Rattle.lft_ir.specs.{Parts.{Parts, inputs}, Names.{AreDistinct, AreWords}, Origins.Origin}
+use Rattle.lft_ir.specs.declared.parts.{Port.Port as PortOf, Action.Action as ActionOf, Timer.Timer as TimerOf, Reaction.Reaction}
+use Rattle.lft_ir.specs.declared.parts.{Name.{Name, TheVariants.{Port, Action}}, Trigger.{Trigger, TheVariants.{Startup, Shutdown, Timer, On}}}
 use Rattle.lft_tag.specs.Shifts.{join_all, none}
 
 -- the origin and the shift kept with a port are those of its chain of connections

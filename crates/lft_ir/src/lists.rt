@@ -35,8 +35,7 @@ pub struct Triggers {
 
 impl Model for Triggers {
     ghost use Rattle.std.specs.Prelude.{◌≡◌, List, filter_map};
-    ghost use Rattle.lft_ir.specs.declared.parts.Trigger.{Trigger};
-    ghost use Rattle.lft_ir.specs.Naming.{named};
+    ghost use Rattle.lft_ir.specs.{declared.parts.Trigger.Trigger, Naming.named};
 
     ghost Value = { List Trigger };
 

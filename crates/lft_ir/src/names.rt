@@ -59,8 +59,7 @@ pub struct NameTable {
 
 impl Model for NameTable {
     ghost use Rattle.std.specs.Prelude.{length};
-    ghost use Rattle.lft_ir.specs.Names.{ThingNames, HasNoTwice};
-    ghost use Rattle.lft_ir.specs.Places.{names_from, AreStarts, AreUtf8};
+    ghost use Rattle.lft_ir.specs.{Names.{ThingNames, HasNoTwice}, Places.{names_from, AreStarts, AreUtf8}};
 
     ghost Value = { ThingNames };
 
@@ -70,9 +69,7 @@ impl Model for NameTable {
 }
 
 impl NameTable {
-    ghost use Rattle.lft_ir.specs.Names.{IsNamed, AreDistinct};
-    ghost use Rattle.lft_ir.specs.Places.{names_from, AreStarts};
-    ghost use Rattle.lft_ir.specs.declared.found.Found.{Found};
+    ghost use Rattle.lft_ir.specs.{Names.{IsNamed, AreDistinct}, Places.{names_from, AreStarts}, declared.found.Found.Found};
 
     /// The table of these names, of which each kind begins where `starts` says.
     pub fn new(texts: Texts, starts: Starts) -> NameTable

@@ -34,9 +34,7 @@ impl Model for Program {
 }
 
 impl Program {
-    ghost use Rattle.lft_ir.specs.Names.{IsNamed};
-    ghost use Rattle.lft_ir.specs.Sound.{IsSound};
-    ghost use Rattle.lft_ir.specs.declared.found.Found.{Found};
+    ghost use Rattle.lft_ir.specs.{Names.IsNamed, Sound.IsSound, declared.found.Found.Found};
 
     /// The program of the given parts.
     pub fn from_parts(

@@ -1,9 +1,6 @@
 -- Loops that pick what they want from a list, and loops that make one item of each.
 use Rattle.std.proofs.Common.{◌≡◌, ℕ, zero, suc, ◌+◌, ◌<◌, List, [], ◌∷◌, ◌++◌, map, filter_map, take, length, get_or, slice_get, Option, Some, None, append-nil, append_assoc, option_map, add-one, refl, sym, ap, ◌∙◌, arith}
-use Rattle.std.specs.List.{cons_option}
-use Rattle.std.proofs.lemmas.Grind.{common_steps}
-use Rattle.std.proofs.lemmas.List.{map-append}
-use Rattle.std.proofs.lemmas.List.Elements.{filter_map-append}
+use Rattle.std.{specs.List.cons_option, proofs.lemmas.{Grind.common_steps, List.{map-append, Elements.filter_map-append}}}
 
 -- one more item of a list
 pub take_next : {X : Type 0} (xs : List X) (k : ℕ) (u : X) → slice_get xs k ≡ Some u → take (suc k) xs ≡ take k xs ++ u ∷ []

@@ -1,18 +1,14 @@
 -- The number of a fault in its part.
 use Rattle.std.specs.Prelude.{◌≡◌, ◌⊎◌, ℕ, List, Option, Some, None, string_bytes}
-use Rattle.lft_syntax.specs.declared.fault.LexFault.{LexFault}
-use Rattle.lft_syntax.specs.declared.fault.LexFault.TheVariants as lex
-use Rattle.lft_syntax.specs.declared.fault.SyntaxFault.{SyntaxFault}
-use Rattle.lft_syntax.specs.declared.fault.SyntaxFault.TheVariants as syntax
+use Rattle.lft_syntax.specs.declared.fault.{LexFault.LexFault, SyntaxFault.SyntaxFault}
 use Rattle.lft_graph.specs.declared.fault.GraphFault.{GraphFault}
-use Rattle.lft_graph.specs.declared.fault.GraphFault.TheVariants as graph
 use Rattle.lft_trace.specs.declared.fault.TraceFault.{TraceFault}
+use Rattle.lft_load.specs.{Words.one_line, declared.fault.{Detail.Detail, Fault.Fault, Part.Part}}
+use Rattle.lft_syntax.specs.declared.fault.LexFault.TheVariants as lex
+use Rattle.lft_syntax.specs.declared.fault.SyntaxFault.TheVariants as syntax
+use Rattle.lft_graph.specs.declared.fault.GraphFault.TheVariants as graph
 use Rattle.lft_trace.specs.declared.fault.TraceFault.TheVariants as table
-use Rattle.lft_load.specs.Words.{one_line}
-use Rattle.lft_load.specs.declared.fault.Detail.{Detail}
 use Rattle.lft_load.specs.declared.fault.Detail.TheVariants as detail
-use Rattle.lft_load.specs.declared.fault.Fault.{Fault}
-use Rattle.lft_load.specs.declared.fault.Part.{Part}
 use Rattle.lft_load.specs.declared.fault.Part.TheVariants as part
 
 -- the number of a fault of a text that has no tokens

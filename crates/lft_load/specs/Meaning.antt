@@ -1,15 +1,11 @@
 -- What the texts of a program and of its external inputs mean.
 use Rattle.std.specs.Prelude.{◌≡◌, ℕ, ◌≤◌, List, length}
-use Rattle.lft_syntax.specs.declared.token.Token.{Token}
-use Rattle.lft_syntax.specs.Lexes.{Lexes}
-use Rattle.lft_syntax.specs.View.{lexemes}
+use Rattle.lft_syntax.specs.{declared.token.Token.Token, Lexes.Lexes, View.lexemes, Grammar.Spells}
 use Rattle.lft_tree.specs.Tree.{FileTree}
-use Rattle.lft_syntax.specs.Grammar.{Spells}
 use Rattle.lft_ir.specs.Parts.{Parts}
 use Rattle.lft_program.specs.Flattening.{IsFlatOf}
 use Rattle.lft_graph.specs.Precedence.{HasNoLoop}
-use Rattle.lft_trace.specs.Records.{records_of}
-use Rattle.lft_trace.specs.ExternalTables.{ExternalTable}
+use Rattle.lft_trace.specs.{Records.records_of, ExternalTables.ExternalTable}
 use Rattle.lft_model.specs.Plans.{PlanParts}
 
 -- x is the one thing of this kind

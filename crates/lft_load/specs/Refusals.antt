@@ -1,31 +1,18 @@
 -- Why two texts get no plan: the fault of the first layer that refuses.
 use Rattle.std.specs.Prelude.{◌≡◌, ◌≢◌, ℕ, ◌+◌, ◌≤◌, ◌<◌, List, length, take, Bool, true, false, not, ◌&&◌, nat_eq}
-use Rattle.lft_syntax.specs.declared.token.Token.{Token}
-use Rattle.lft_syntax.specs.declared.fault.LexFault.{LexFault}
-use Rattle.lft_syntax.specs.declared.fault.SyntaxFault.{SyntaxFault}
-use Rattle.lft_syntax.specs.declared.fault.SyntaxFault.TheVariants as syntax
-use Rattle.lft_syntax.specs.Lexes.{Lexes, LexFails}
-use Rattle.lft_syntax.specs.Lexeme.{Lexeme}
-use Rattle.lft_syntax.specs.View.{lexemes}
+use Rattle.lft_syntax.specs.{declared.{token.Token.Token, fault.{LexFault.LexFault, SyntaxFault.SyntaxFault}}, Lexes.{Lexes, LexFails}, Lexeme.Lexeme}
+use Rattle.lft_syntax.specs.{View.lexemes, Grammar.Spells}
 use Rattle.lft_tree.specs.Tree.{FileTree}
-use Rattle.lft_syntax.specs.Grammar.{Spells}
-use Rattle.lft_program.specs.declared.fault.ProgramFault.{ProgramFault}
-use Rattle.lft_program.specs.declared.fault.ProgramFault.TheVariants as program
-use Rattle.lft_ir.specs.Parts.{Parts}
-use Rattle.lft_program.specs.Faults.{number_of as program_number}
+use Rattle.lft_program.specs.{declared.fault.ProgramFault.ProgramFault, Faults.number_of as program_number}
+use Rattle.lft_ir.specs.{Parts.Parts, Steps.Inputs.ExternalInputs}
 use Rattle.lft_resolve.specs.Causes.{IsFirst, causes}
-use Rattle.lft_trace.specs.declared.fault.TraceFault.{TraceFault}
-use Rattle.lft_trace.specs.Faults.{is_told}
-use Rattle.lft_trace.specs.Records.{records_of}
-use Rattle.lft_trace.specs.ExternalTables.{ExternalTable, ExternalFails}
-use Rattle.lft_ir.specs.Steps.Inputs.{ExternalInputs}
-use Rattle.lft_graph.specs.Loops.{IsLoop}
-use Rattle.lft_graph.specs.declared.fault.GraphFault.{GraphFault}
+use Rattle.lft_trace.specs.{declared.fault.TraceFault.TraceFault, Faults.is_told, Records.records_of, ExternalTables.{ExternalTable, ExternalFails}}
+use Rattle.lft_graph.specs.{Loops.IsLoop, declared.fault.GraphFault.GraphFault}
+use Rattle.lft_load.specs.{Faults.{lex_number, syntax_number, graph_number, table_number, IsFault}, Meaning.{IsTreeOf, IsProgramOf}}
+use Rattle.lft_load.specs.declared.fault.{Fault.Fault, Part.Part}
+use Rattle.lft_syntax.specs.declared.fault.SyntaxFault.TheVariants as syntax
+use Rattle.lft_program.specs.declared.fault.ProgramFault.TheVariants as program
 use Rattle.lft_graph.specs.declared.fault.GraphFault.TheVariants as graph
-use Rattle.lft_load.specs.Faults.{lex_number, syntax_number, graph_number, table_number, IsFault}
-use Rattle.lft_load.specs.Meaning.{IsTreeOf, IsProgramOf}
-use Rattle.lft_load.specs.declared.fault.Fault.{Fault}
-use Rattle.lft_load.specs.declared.fault.Part.{Part}
 use Rattle.lft_load.specs.declared.fault.Part.TheVariants as part
 
 -- a fault of this part and number is one of a program's text, of external inputs or of a trace, but for want of memory and records that can't be read

@@ -1,7 +1,6 @@
 -- Words of the lines that are printed.
 use Rattle.std.specs.Prelude.{ℕ, List, [], ◌∷◌, ◌++◌, ◌||◌, if◌then◌else◌, slice_get, unwrap_or, chars, codes, decimal, flat_map}
-use Rattle.std.specs.Char.{encode_utf8, is_control}
-use Rattle.std.specs.Char.Escape.{escape_default}
+use Rattle.std.specs.Char.{encode_utf8, is_control, Escape.escape_default}
 use Rattle.lft_ir.specs.Parts.{Parts}
 use Rattle.lft_text_diagnostics.specs.Quotes.{is_format}
 

@@ -1,10 +1,8 @@
 //! Faults, and the line that each prints.
 
 ghost use Rattle.std.specs.Prelude.{◌≡◌, ◌<◌, ◌++◌, ℕ, List, Some, IfOk, OnOk, flat_map, length, slice_get, string_bytes};
-ghost use Rattle.std.specs.Char.{encode_utf8};
-ghost use Rattle.std.specs.Char.Escape.{escape_default};
-ghost use Rattle.lft_graph.specs.Loops.{IsLoop};
-ghost use Rattle.lft_graph.specs.declared.fault.GraphFault.TheVariants.{CausalityLoop};
+ghost use Rattle.std.specs.Char.{encode_utf8, Escape.escape_default};
+ghost use Rattle.lft_graph.specs.{Loops.IsLoop, declared.fault.GraphFault.TheVariants.CausalityLoop};
 ghost use Rattle.lft_program.specs.Faults.{number_of as program_number};
 ghost use Rattle.lft_load.specs.Faults.{lex_number, syntax_number, graph_number, table_number, IsFault, IsFaultOfPath};
 ghost use Rattle.lft_load.specs.Words.{in_line, names_words, one_line};

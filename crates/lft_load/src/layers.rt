@@ -2,11 +2,9 @@
 //! them.
 
 ghost use Rattle.std.specs.Prelude.{◌≡◌, true, IfOk, OnOk, IfErr};
-ghost use Rattle.lft_tree.specs.Tree.{FileTree};
-ghost use Rattle.lft_tree.specs.View.{tree_view};
+ghost use Rattle.lft_tree.specs.{Tree.FileTree, View.tree_view};
 ghost use Rattle.lft_ir.specs.Parts.{Parts};
-ghost use Rattle.lft_graph.specs.Graph.{IsGraphOf};
-ghost use Rattle.lft_graph.specs.Precedence.{HasNoLoop, IsLevelled};
+ghost use Rattle.lft_graph.specs.{Graph.IsGraphOf, Precedence.{HasNoLoop, IsLevelled}};
 ghost use Rattle.lft_model.specs.Plans.{PlanParts};
 ghost use Rattle.lft_load.specs.Meaning.{IsTreeOf, IsProgramOf, IsPlanOf, IsPlanUnder, IsOnly};
 ghost use Rattle.lft_load.specs.Refusals.{TreeRefusal, ProgramRefusal, GraphRefusal, PlanRefusal, LoadRefusal, is_of_text};

@@ -2,8 +2,7 @@
 
 ghost use Rattle.std.specs.Prelude.{◌≡◌, OnOk, OnErr, IfErr};
 ghost use Rattle.std.specs.Io.KnownBytes.{Appends};
-ghost use Rattle.lft_load.specs.Written.{AppendsFront};
-ghost use Rattle.lft_load.specs.declared.fault.Part.TheVariants.{Write as WritePart};
+ghost use Rattle.lft_load.specs.{Written.AppendsFront, declared.fault.Part.TheVariants.Write as WritePart};
 
 use crate::fault::{Fault, Part};
 use std::io::{ErrorKind, Write};

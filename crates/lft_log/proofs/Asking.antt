@@ -3,15 +3,11 @@ use Rattle.std.proofs.Common.{◌≡◌, ◌+◌, ◌++◌, ◌∙◌, ◌<◌, 
 use Rattle.std.specs.Prelude.{MatchOption}
 use Rattle.std.proofs.lemmas.List.{append_assoc}
 use native.Mathlib.Decide.{dec_lt}
-use Rattle.lft_tag.specs.declared.Tag.{Tag}
-use Rattle.lft_tag.specs.Tags.{Before, UpTo}
-use Rattle.lft_tag.proofs.Order.{Before-UpTo, Before-weaken, UpTo-not, UpTo-refl, order_cases}
-use Rattle.lft_lists.proofs.Picked.{take_next}
-use Rattle.lft_lists.proofs.Places.{get_append_cases, get_last, get_left, get_push_cases, same_at}
+use Rattle.lft_tag.{specs.{declared.Tag.Tag, Tags.{Before, UpTo}}, proofs.Order.{Before-UpTo, Before-weaken, UpTo-not, UpTo-refl, order_cases}}
+use Rattle.lft_lists.proofs.{Picked.take_next, Places.{get_append_cases, get_last, get_left, get_push_cases, same_at}}
 use Rattle.lft_ir.specs.declared.steps.row.Row.{Row}
 use Rattle.lft_model.proofs.Places.{slice_get_within}
-use Rattle.lft_log.specs.Told.{ComeTo, IsAskedOf, IsFirstFrom, IsPastEnd, IsWithin, KeepTo}
-use Rattle.lft_log.specs.declared.asked.Asked.{Asked}
+use Rattle.lft_log.specs.{Told.{ComeTo, IsAskedOf, IsFirstFrom, IsPastEnd, IsWithin, KeepTo}, declared.asked.Asked.Asked}
 
 -- each row is before the tag
 abbrev pub AreBefore : List Row → Tag → Type 0

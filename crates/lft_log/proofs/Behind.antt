@@ -1,14 +1,8 @@
 -- Lines of a log behind lines.
 use Rattle.std.proofs.Common.{◌≡◌, ◌+◌, ℕ, List, [], ◌∷◌, ◌++◌, length, refl, sym, ap, subst, arith}
-use Rattle.std.specs.List.{AllZip}
-use Rattle.std.proofs.lemmas.List.{append_assoc, append-nil}
-use Rattle.std.proofs.lemmas.List.Elements.{filter_map-append}
-use Rattle.lft_ir.specs.Parts.{Parts}
-use Rattle.lft_ir.specs.declared.steps.row.Row.{Row as TheRow}
-use Rattle.lft_trace.specs.LogTables.{IsLine, inputs_behind, row_of}
-use Rattle.lft_trace.specs.Traces.{IsRow}
-use Rattle.lft_trace.specs.declared.log_table.Line.{Line}
-use Rattle.lft_trace.specs.declared.log_table.Line.TheVariants.{Row, Input}
+use Rattle.std.{specs.List.AllZip, proofs.lemmas.List.{append_assoc, append-nil, Elements.filter_map-append}}
+use Rattle.lft_ir.specs.{Parts.Parts, declared.steps.row.Row.Row as TheRow}
+use Rattle.lft_trace.specs.{LogTables.{IsLine, inputs_behind, row_of}, Traces.IsRow, declared.log_table.Line.{Line, TheVariants.{Row, Input}}}
 use Rattle.lft_log.specs.Logs.{AreTimely, entry_of, inputs, row_records, rows}
 
 pub rows_both : (xs ys : List Line) → rows (xs ++ ys) ≡ rows xs ++ rows ys

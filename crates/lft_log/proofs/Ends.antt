@@ -1,9 +1,8 @@
 -- Where lines end.
 use Rattle.std.proofs.Common.{◌≡◌, ◌≢◌, ◌+◌, ◌-◌, ◌<◌, ◌≤◌, inl, inr, ℕ, zero, suc, Bool, true, false, List, [], ◌∷◌, ◌++◌, Some, None, length, take, drop, slice_get, slice_index, slice_range, refl, sym, ap, subst, ◌∙◌, arith, add-one}
-use Rattle.std.proofs.lemmas.Bool.{eq-eqb, eqb-true}
-use Rattle.std.proofs.lemmas.Option.{get_or_from_slice_get, slice_get-get_or, slice_get_within}
-use Rattle.std.proofs.Math.Seq.{drop-append_seam}
+use Rattle.std.proofs.lemmas.{Bool.{eq-eqb, eqb-true}, Option.{get_or_from_slice_get, slice_get-get_or, slice_get_within}}
 use Rattle.std.proofs.lemmas.List.{append-nil, append_assoc, length-take-le}
+use Rattle.std.proofs.Math.Seq.{drop-append_seam}
 use Rattle.memchr.specs.Find.{IsLastByte, Nowhere, Passes, is_byte}
 use Rattle.lft_ir.proofs.Ranges.{slice_get-drop, slice_get-take}
 use Rattle.lft_lists.proofs.Picked.{take_next}

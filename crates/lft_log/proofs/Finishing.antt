@@ -1,26 +1,18 @@
 -- What is told at the end, where no half line is left.
 use Rattle.std.proofs.Common.{◌≡◌, ◌∙◌, ◌∷◌, ◌++◌, inl, inr, ℕ, Bool, true, false, List, [], Option, None, Some, append-nil, refl, subst, sym}
 use Rattle.std.specs.Prelude.{Err, IfOk, Ok, Result}
-use Rattle.std.specs.Global.{Vec}
-use Rattle.std.proofs.lemmas.List.{append_assoc}
-use Rattle.lft_tag.specs.declared.NoMemory.{NoMemory}
-use Rattle.lft_tag.specs.declared.Tag.{Tag}
+use Rattle.std.{specs.Global.Vec, proofs.lemmas.List.append_assoc}
+use Rattle.lft_tag.specs.declared.{NoMemory.NoMemory, Tag.Tag}
 use Rattle.lft_ir.specs.declared.steps.row.Row.{Row}
 use Rattle.lft_model.specs.Plans.{PlanParts}
-use Rattle.lft_monitor.specs.declared.judged.Ending.{Ending}
-use Rattle.lft_monitor.specs.declared.judged.Ending.TheVariants.{Accepted, Unbroken, Broken}
-use Rattle.lft_monitor.specs.declared.judged.Unjudged.{Unjudged}
+use Rattle.lft_monitor.specs.declared.judged.{Ending.{Ending, TheVariants.{Accepted, Unbroken, Broken}}, Unjudged.Unjudged}
 use Rattle.lft_monitor.specs.declared.open.OpenRun.{OpenRun}
 use Rattle.lft_monitor.specs.Follows.{IsEnding, IsUnjudged}
 use Rattle.lft_monitor.proofs.Following.{unjudged_so_far}
 use Rattle.lft_log.specs.Logs.{AreLines, HasLast, HoldSoFar, IsHead, LastCounts, LastIsLeft, header_words, mark, rows}
 use Rattle.lft_log.specs.Told.{AreOpenIn, IsEnded, IsFinal, IsLog, IsLogOf, IsSoon, KeepTo, TellsOpen, TellsPlan}
-use Rattle.lft_log.specs.declared.log.Log.{Log}
-use Rattle.lft_log.specs.declared.told.Final.{Final}
-use Rattle.lft_log.specs.declared.told.Final.TheVariants.{AtEnd, Soon}
-use Rattle.lft_log.specs.declared.told.Told.TheVariants.{Odd}
-use Rattle.lft_log.proofs.Asking.{asked_within}
-use Rattle.lft_log.proofs.Ends.{lines_both}
+use Rattle.lft_log.specs.declared.{log.Log.Log, told.{Final.{Final, TheVariants.{AtEnd, Soon}}, Told.TheVariants.Odd}}
+use Rattle.lft_log.proofs.{Asking.asked_within, Ends.lines_both}
 
 -- a header is a line
 head_lines : (head : List ℕ) → IsHead head → AreLines head

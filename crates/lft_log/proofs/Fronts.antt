@@ -1,17 +1,11 @@
 -- What the first of whole lines tell.
 use Rattle.std.proofs.Common.{◌≡◌, ◌+◌, ◌-◌, ◌<◌, ◌≤◌, ◌∙◌, inl, inr, ℕ, zero, suc, List, [], ◌∷◌, None, Option, IfSome, length, take, drop, slice_range, refl, sym, ap, subst, arith}
 use Rattle.std.proofs.lemmas.List.{length-drop, length-take, take-take, take_all}
-use Rattle.lft_ir.specs.Parts.{Parts}
-use Rattle.lft_trace.specs.LogTables.{InputsFit, ReadsLines, StopsAt}
-use Rattle.lft_trace.specs.Parts.{EndsLine}
-use Rattle.lft_trace.specs.declared.log_table.LineFault.{LineFault}
-use Rattle.lft_trace.specs.declared.log_table.LogLines.{LogLines}
-use Rattle.lft_ir.specs.Steps.Fits.{RowsFit}
+use Rattle.lft_ir.specs.{Parts.Parts, Steps.Fits.RowsFit}
+use Rattle.lft_trace.specs.{LogTables.{InputsFit, ReadsLines, StopsAt}, Parts.EndsLine, declared.log_table.{LineFault.LineFault, LogLines.LogLines}}
 use Rattle.lft_log.specs.Logs.{AreLines, ArePlain, BeginsOdd, IsFaultBehind, IsFront, inputs, records_below, rows}
-use Rattle.lft_log.specs.declared.fault.LogFault.{LogFault}
-use Rattle.lft_log.specs.declared.front.Front.{Front}
-use Rattle.lft_log.proofs.Ends.{lines_left, range_take}
-use Rattle.lft_log.proofs.Behind.{length_inputs}
+use Rattle.lft_log.specs.declared.{fault.LogFault.LogFault, front.Front.Front}
+use Rattle.lft_log.proofs.{Ends.{lines_left, range_take}, Behind.length_inputs}
 
 pub rest_from : (text : List ℕ) (n : ℕ) → slice_range text n (length text) ≡ drop n text
 rest_from text n = let l : length (drop n text) ≤ length text - n = omega (arith, length-drop n text) in take_all (length text - n) (drop n text) l

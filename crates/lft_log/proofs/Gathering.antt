@@ -1,29 +1,15 @@
 -- Rows of a log that are read, over more lines.
 use Rattle.std.proofs.Common.{◌≡◌, ◌+◌, ◌-◌, ◌<◌, ◌≤◌, ◌∙◌, ⊎_elim, ℕ, Bool, true, false, List, [], ◌∷◌, ◌++◌, Option, Some, None, length, take, drop, slice_range, refl, sym, ap, subst, arith, length-append}
 use Rattle.std.specs.Prelude.{MatchOption, is_some}
-use Rattle.std.proofs.lemmas.Bool.{false≢true}
-use Rattle.std.proofs.lemmas.List.{append_assoc, append-nil, drop-drop, length-take, take-append-drop}
+use Rattle.std.proofs.lemmas.{Bool.false≢true, List.{append_assoc, append-nil, drop-drop, length-take, take-append-drop}}
 use Rattle.lft_lists.proofs.Places.{get_append_cases}
-use Rattle.lft_ir.specs.Parts.{Parts}
-use Rattle.lft_ir.proofs.Ranges.{slice_get-drop}
-use Rattle.lft_ir.specs.declared.steps.row.Row.{Row}
-use Rattle.lft_ir.specs.Steps.Fits.{RowsFit}
-use Rattle.lft_ir.specs.Steps.Inputs.{InOrder}
-use Rattle.lft_trace.specs.LogTables.{inputs_behind}
-use Rattle.lft_trace.specs.declared.log_table.Line.{Line}
-use Rattle.lft_model.specs.Plans.{PlanParts}
-use Rattle.lft_model.proofs.Places.{slice_get_take}
+use Rattle.lft_ir.{specs.{Parts.Parts, declared.steps.row.Row.Row, Steps.{Fits.RowsFit, Inputs.InOrder}}, proofs.Ranges.slice_get-drop}
+use Rattle.lft_trace.specs.{LogTables.inputs_behind, declared.log_table.Line.Line}
+use Rattle.lft_model.{specs.Plans.PlanParts, proofs.Places.slice_get_take}
 use Rattle.lft_monitor.specs.Follows.{IsFollowerOf}
-use Rattle.lft_log.specs.Logs.{HasManyRows, IsFront, IsHead, rows}
-use Rattle.lft_log.specs.Told.{HasRead, IsReadOn, IsReadSoFar, IsTaken, TellsPlan}
-use Rattle.lft_log.specs.declared.front.Front.{Front}
-use Rattle.lft_log.specs.declared.rows.LogRows.{LogRows}
-use Rattle.lft_log.specs.declared.telling.Taken.{Taken}
-use Rattle.lft_log.proofs.Behind.{rows_both}
-use Rattle.lft_log.proofs.Fronts.{rest_from}
-use Rattle.lft_log.proofs.Holding.{header_there, hold_front}
-use Rattle.lft_log.proofs.Taking.{grown_tells, tells_all}
-use Rattle.lft_log.proofs.Plans.{told_none}
+use Rattle.lft_log.specs.{Logs.{HasManyRows, IsFront, IsHead, rows}, Told.{HasRead, IsReadOn, IsReadSoFar, IsTaken, TellsPlan}}
+use Rattle.lft_log.specs.declared.{front.Front.Front, rows.LogRows.LogRows, telling.Taken.Taken}
+use Rattle.lft_log.proofs.{Behind.rows_both, Fronts.rest_from, Holding.{header_there, hold_front}, Taking.{grown_tells, tells_all}, Plans.told_none}
 
 -- a part of what is left, and what is left behind it
 pub split_at : (text behind : List ℕ) (a b : ℕ) → a ≤ b → slice_range text a b ++ (drop b text ++ behind) ≡ drop a text ++ behind

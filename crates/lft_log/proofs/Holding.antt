@@ -1,18 +1,10 @@
 -- What the bytes of a log hold, over more bytes and over more lines.
 use Rattle.std.proofs.Common.{◌≡◌, ◌∙◌, ℕ, inl, List, [], ◌∷◌, ◌++◌, drop, take, refl, sym, ap}
-use Rattle.std.specs.List.{AllZip}
-use Rattle.std.proofs.lemmas.List.{append_assoc, append-nil, take-append-drop}
+use Rattle.std.{specs.List.AllZip, proofs.lemmas.List.{append_assoc, append-nil, take-append-drop}}
 use Rattle.lft_ir.specs.Parts.{Parts}
-use Rattle.lft_trace.specs.LogTables.{IsLine}
-use Rattle.lft_trace.specs.Traces.{header}
-use Rattle.lft_trace.specs.declared.log_table.Line.{Line}
-use Rattle.lft_trace.proofs.Together.{zipped}
-use Rattle.lft_log.specs.Logs.{HoldSoFar, IsFront, IsHead, LogLaw, records_below, row_records}
-use Rattle.lft_log.specs.declared.front.Front.{Front}
-use Rattle.lft_log.proofs.Below.{below_head, lines_joined, no_bytes}
-use Rattle.lft_log.proofs.Ends.{lines_both}
-use Rattle.lft_log.proofs.Plain.{no_lines, plain_both}
-use Rattle.lft_log.proofs.Behind.{rows_each, zip_cut}
+use Rattle.lft_trace.{specs.{LogTables.IsLine, Traces.header, declared.log_table.Line.Line}, proofs.Together.zipped}
+use Rattle.lft_log.specs.{Logs.{HoldSoFar, IsFront, IsHead, LogLaw, records_below, row_records}, declared.front.Front.Front}
+use Rattle.lft_log.proofs.{Below.{below_head, lines_joined, no_bytes}, Ends.lines_both, Plain.{no_lines, plain_both}, Behind.{rows_each, zip_cut}}
 
 -- the header came
 pub header_there : (program : Parts) (bytes lines head body : List ℕ) → bytes ≡ lines → lines ≡ head ++ body → IsHead head → HoldSoFar program bytes [] [] body

@@ -1,27 +1,15 @@
 -- External inputs told before the rows among which they stand are judged.
 use Rattle.std.proofs.Common.{◌≡◌, ◌∙◌, ◌+◌, ◌-◌, ◌<◌, ◌≤◌, ◌⊎◌, ⊎_elim, inl, inr, ℕ, zero, suc, List, [], ◌∷◌, ◌++◌, Option, Some, None, length, take, drop, get_or, slice_range, refl, sym, ap, subst, arith, add-one, length-append}
-use Rattle.std.proofs.Math.Seq.{drop-append_seam, drop-cons, take-append_seam}
-use Rattle.std.proofs.lemmas.List.{append_assoc, append-nil}
+use Rattle.std.proofs.{Math.Seq.{drop-append_seam, drop-cons, take-append_seam}, lemmas.List.{append_assoc, append-nil}}
 use Rattle.lft_lists.proofs.Places.{get_append_cases, get_last, get_left, get_right}
-use Rattle.lft_tag.specs.declared.Tag.{Tag}
-use Rattle.lft_tag.specs.Tags.{Before}
-use Rattle.lft_tag.proofs.Order.{order_cases}
-use Rattle.lft_ir.specs.Parts.{Parts}
-use Rattle.lft_ir.specs.declared.steps.row.Row.{Row as TheRow}
+use Rattle.lft_tag.{specs.{declared.Tag.Tag, Tags.Before}, proofs.Order.order_cases}
+use Rattle.lft_ir.specs.{Parts.Parts, declared.steps.row.Row.Row as TheRow}
 use Rattle.lft_model.specs.Plans.{PlanParts}
 use Rattle.lft_monitor.specs.Follows.{IsPassed}
-use Rattle.lft_trace.specs.ExternalTables.{IsEntry}
-use Rattle.lft_trace.specs.LogTables.{EntryFits, InputsFit, inputs_behind}
-use Rattle.lft_trace.specs.declared.external_table.Entry.{Entry}
-use Rattle.lft_trace.specs.declared.log_table.Among.{Among}
-use Rattle.lft_trace.specs.declared.log_table.Line.{Line}
-use Rattle.lft_trace.specs.declared.log_table.Line.TheVariants.{Row, Input}
-use Rattle.lft_log.specs.declared.fault.LogFault.{LogFault}
-use Rattle.lft_log.specs.declared.fault.LogFault.TheVariants.{LateInput}
-use Rattle.lft_log.specs.declared.front.Front.{Front}
-use Rattle.lft_log.specs.declared.telling.Taken.{Taken}
-use Rattle.lft_log.specs.Logs.{AreTimely, inputs, rows, tag_of}
-use Rattle.lft_log.specs.Told.{HasTold, IsBeforeLatest, IsFaultOf, IsInputFault, IsLatest, IsTaken, StandsBehind}
+use Rattle.lft_trace.specs.{ExternalTables.IsEntry, LogTables.{EntryFits, InputsFit, inputs_behind}}
+use Rattle.lft_trace.specs.declared.{external_table.Entry.Entry, log_table.{Among.Among, Line.{Line, TheVariants.{Row, Input}}}}
+use Rattle.lft_log.specs.declared.{fault.LogFault.{LogFault, TheVariants.LateInput}, front.Front.Front, telling.Taken.Taken}
+use Rattle.lft_log.specs.{Logs.{AreTimely, inputs, rows, tag_of}, Told.{HasTold, IsBeforeLatest, IsFaultOf, IsInputFault, IsLatest, IsTaken, StandsBehind}}
 use Rattle.lft_log.proofs.Behind.{inputs_both, length_inputs, rows_both, timely_both}
 
 -- ---- rows that pass a tag

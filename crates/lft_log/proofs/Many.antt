@@ -1,17 +1,12 @@
 -- Rows that are too many.
 use Rattle.std.proofs.Common.{◌≡◌, ◌+◌, ◌-◌, ◌^◌, ◌<◌, ◌≤◌, ◌∙◌, ◌⊎◌, inl, inr, ℕ, List, [], ◌∷◌, ◌++◌, Option, None, Some, length, take, drop, slice_range, refl, sym, ap, subst, arith, length-append}
 use Rattle.std.specs.Prelude.{MatchOption}
-use Rattle.std.proofs.Math.Seq.{take-add}
-use Rattle.std.proofs.lemmas.List.{append-nil, append_assoc, take-append-drop}
+use Rattle.std.proofs.{Math.Seq.take-add, lemmas.List.{append-nil, append_assoc, take-append-drop}}
 use Rattle.lft_tag.specs.declared.Tag.{Tag}
 use Rattle.lft_ir.specs.declared.steps.row.Row.{Row}
 use Rattle.lft_model.specs.Plans.{PlanParts}
-use Rattle.lft_monitor.specs.Follows.{HasManyAtLast, IsFollowerOf}
-use Rattle.lft_monitor.specs.declared.follower.Follower.{Follower}
-use Rattle.lft_monitor.proofs.Held.{not_many}
-use Rattle.lft_log.specs.Told.{AreTooMany, IsFaultOfRows, IsSaid, IsSaidOfSome}
-use Rattle.lft_log.specs.declared.fault.LogFault.{LogFault}
-use Rattle.lft_log.specs.declared.told.Told.{Told}
+use Rattle.lft_monitor.{specs.{Follows.{HasManyAtLast, IsFollowerOf}, declared.follower.Follower.Follower}, proofs.Held.not_many}
+use Rattle.lft_log.specs.{Told.{AreTooMany, IsFaultOfRows, IsSaid, IsSaidOfSome}, declared.{fault.LogFault.LogFault, told.Told.Told}}
 
 many_longer : (t u : List Row) → AreTooMany t → AreTooMany (t ++ u)
 many_longer t u (inl (before, row, more, e, many)) = inl (before, row, more ++ u, ap (λ (x : List Row). x ++ u) e ∙ append_assoc before (row ∷ more) u, many)

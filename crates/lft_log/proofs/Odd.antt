@@ -1,19 +1,16 @@
 -- The first line that isn't plain.
 use Rattle.std.proofs.Common.{◌≡◌, ◌+◌, ◌-◌, ◌<◌, ◌≤◌, ◌∙◌, ◌⊎◌, inl, inr, ℕ, zero, suc, Bool, true, false, List, [], ◌∷◌, ◌++◌, Option, None, Some, length, min, take, drop, slice_get, slice_index, slice_range, refl, sym, ap, subst, arith, add-one, length-append}
 use Rattle.std.specs.Prelude.{◌==◌, ◌↔◌, IsTrue, is_some}
-use Rattle.std.proofs.lemmas.Bool.{eq-eqb, eqb-true, false≢true}
-use Rattle.std.proofs.lemmas.List.{append_assoc, length-take-le, take-append-drop}
+use Rattle.std.proofs.lemmas.{Bool.{eq-eqb, eqb-true, false≢true}, List.{append_assoc, length-take-le, take-append-drop}}
 use Rattle.std.proofs.lemmas.Option.{get_or_from_slice_get, slice_get-get_or, slice_get_within}
 use native.Mathlib.Decide.{dec_lt}
 use Rattle.memchr.specs.Find.{FindsNeedle, OccursAt}
 use Rattle.lft_ir.proofs.Ranges.{slice_get-drop, slice_get-take}
-use Rattle.lft_lists.proofs.Picked.{take_next}
-use Rattle.lft_lists.proofs.Places.{get_append_cases, get_last, get_left}
+use Rattle.lft_lists.proofs.{Picked.take_next, Places.{get_append_cases, get_last, get_left}}
 use Rattle.lft_trace.specs.Parts.{EndsLine}
 use Rattle.lft_log.specs.Logs.{ArePlain, BeginsLong, BeginsOdd, BeginsWithLine, HasNoEnd, IsHead, IsLoneReturn, IsOddLine, IsOneLine, HasWords, header_words}
 use Rattle.lft_log.specs.declared.fault.LogFault.{LogFault}
-use Rattle.lft_log.proofs.Ends.{never_both, range_take}
-use Rattle.lft_log.proofs.Plain.{words_line}
+use Rattle.lft_log.proofs.{Ends.{never_both, range_take}, Plain.words_line}
 
 -- up to the first end there is one line
 pub one_line : (lines : List ℕ) (n : ℕ) → EndsLine lines → n ≤ length lines → HasNoEnd (take n lines) → (n < length lines → slice_get lines n ≡ Some 10) → (n < length lines) × IsOneLine (take (n + 1) lines)

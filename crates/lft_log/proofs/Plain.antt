@@ -1,17 +1,13 @@
 -- Which lines are plain.
 use Rattle.std.proofs.Common.{◌≡◌, ◌≢◌, ◌+◌, ◌-◌, ◌<◌, ◌≤◌, ◌∙◌, ◌⊎◌, inl, inr, ℕ, zero, suc, Bool, true, false, List, [], ◌∷◌, ◌++◌, Some, length, take, drop, slice_range, get_or, slice_get, refl, sym, ap, subst, arith, length-append}
-use Rattle.std.proofs.lemmas.List.{get_or-append-add, get_or-take, length-take, length-take-le, take-take}
-use Rattle.std.proofs.Math.ListN.{get_or-append}
-use Rattle.std.proofs.Math.Seq.{get_or-append_seam}
 use Rattle.std.specs.Prelude.{◌==◌, if◌then◌else◌}
-use Rattle.std.proofs.lemmas.Bool.{eq-eqb, false≢true}
-use Rattle.std.proofs.lemmas.Option.{slice_get_within}
+use Rattle.std.proofs.lemmas.{List.{get_or-append-add, get_or-take, length-take, length-take-le, take-take}, Bool.{eq-eqb, false≢true}, Option.slice_get_within}
+use Rattle.std.proofs.Math.{ListN.get_or-append, Seq.get_or-append_seam}
 use Rattle.lft_ir.proofs.Ranges.{slice_get-take}
 use Rattle.lft_lists.proofs.Places.{get_append_cases, get_last, get_left, get_right, same_some}
 use native.Mathlib.Decide.{dec_lt}
-use Rattle.lft_log.proofs.Ends.{never_both, range_take}
+use Rattle.lft_log.{proofs.Ends.{never_both, range_take}, specs.Logs.{AreLines, ArePlain, ReturnsEnd, header_words}}
 use Rattle.memchr.specs.Find.{OccursAt}
-use Rattle.lft_log.specs.Logs.{AreLines, ArePlain, ReturnsEnd, header_words}
 
 -- whole lines of a front
 pub front_up : (text : List ℕ) (n odd : ℕ) → n ≤ length (slice_range text 0 odd) → n ≤ odd

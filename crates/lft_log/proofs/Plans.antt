@@ -1,21 +1,14 @@
 -- The plan of a log, with one more external input.
 use Rattle.std.proofs.Common.{◌≡◌, ◌∙◌, List, [], ◌∷◌, ◌++◌, filter_map, refl, sym, ap, subst}
-use Rattle.std.specs.List.{insert}
-use Rattle.std.specs.List.Sorted.{IsPermutation}
-use Rattle.std.proofs.lemmas.List.{append_assoc, append-nil}
-use Rattle.std.proofs.lemmas.List.Elements.{filter_map-append}
+use Rattle.std.specs.List.{insert, Sorted.IsPermutation}
+use Rattle.std.proofs.lemmas.List.{append_assoc, append-nil, Elements.filter_map-append}
 use Rattle.std.proofs.lemmas.List.Sorted.{IsPermutation-insert, IsPermutation-refl, IsPermutation-push_more}
-use Rattle.lft_tag.specs.declared.Tag.{Tag}
-use Rattle.lft_tag.specs.Tags.{earlier, earliest}
-use Rattle.lft_ir.specs.declared.steps.externals.Event.{Event as EventOf}
-use Rattle.lft_ir.specs.Steps.Inputs.{InOrder}
+use Rattle.lft_tag.specs.{declared.Tag.Tag, Tags.{earlier, earliest}}
+use Rattle.lft_ir.specs.{declared.steps.externals.Event.Event as EventOf, Steps.Inputs.InOrder}
 use Rattle.lft_model.specs.Plans.{PlanParts}
-use Rattle.lft_monitor.specs.Follows.{HasOneMore, stopped_at}
-use Rattle.lft_monitor.proofs.Sooner.{swapped}
+use Rattle.lft_monitor.{specs.Follows.{HasOneMore, stopped_at}, proofs.Sooner.swapped}
 use Rattle.lft_log.specs.Told.{HasTold}
-use Rattle.lft_trace.specs.ExternalTables.{event_of, stop_of}
-use Rattle.lft_trace.specs.declared.external_table.Entry.{Entry}
-use Rattle.lft_trace.specs.declared.external_table.Entry.TheVariants.{Happens, Stops}
+use Rattle.lft_trace.specs.{ExternalTables.{event_of, stop_of}, declared.external_table.Entry.{Entry, TheVariants.{Happens, Stops}}}
 
 -- the earliest with one tag more
 earliest_push : (g : Tag) (hs : List Tag) (k : Tag) → earlier k (earliest g hs) ≡ earliest g (hs ++ k ∷ [])

@@ -1,27 +1,15 @@
 -- The first lines of a front are taken: they stand behind those of the log so far.
 use Rattle.std.proofs.Common.{◌≡◌, ◌+◌, ◌∙◌, ℕ, List, [], ◌∷◌, ◌++◌, ◌⊎◌, inl, inr, None, Some, length, take, drop, slice_range, refl, sym, ap, subst, arith}
-use Rattle.std.specs.List.{AllZip}
-use Rattle.std.proofs.Math.Seq.{take-append_seam}
-use Rattle.std.proofs.lemmas.List.{append-nil, append_assoc, length-append}
-use Rattle.lft_ir.specs.Parts.{Parts}
-use Rattle.lft_trace.specs.ExternalTables.{IsEntry}
-use Rattle.lft_trace.specs.LogTables.{IsLine}
-use Rattle.lft_trace.specs.declared.external_table.Entry.{Entry}
-use Rattle.lft_trace.specs.declared.log_table.Line.{Line}
-use Rattle.lft_trace.specs.declared.log_table.Line.TheVariants.{Input}
-use Rattle.lft_ir.specs.declared.steps.row.Row.{Row}
+use Rattle.std.{specs.List.AllZip, proofs.{Math.Seq.take-append_seam, lemmas.List.{append-nil, append_assoc, length-append}}}
+use Rattle.lft_ir.specs.{Parts.Parts, declared.steps.row.Row.Row}
+use Rattle.lft_trace.specs.{ExternalTables.IsEntry, LogTables.IsLine, declared.{external_table.Entry.Entry, log_table.Line.{Line, TheVariants.Input}}}
 use Rattle.lft_model.specs.Plans.{PlanParts}
 use Rattle.lft_log.specs.declared.fault.LogFault.{LogFault}
 use Rattle.lft_log.specs.declared.fault.LogFault.TheVariants.{NoHeader, NoRow, NotPlain, SecondHeader, LongLine, TooManyRows, NoInput, NotPlainInput, LateInput, InputAgain, ManyLater, TooManyInputs, NoMemory}
-use Rattle.lft_log.specs.declared.front.Front.{Front}
-use Rattle.lft_log.specs.declared.telling.Taken.{Taken}
+use Rattle.lft_log.specs.declared.{front.Front.Front, telling.Taken.Taken}
 use Rattle.lft_log.specs.Logs.{AreTimely, BeginsWithLine, HoldSoFar, IsFaultBehind, IsFront, IsOddLine, inputs, rows}
 use Rattle.lft_log.specs.Told.{AreTooMany, HasTold, IsFaultOf, IsFaultOfRows, IsOddBehind, IsRefused, IsTaken, StandsBehind, TellsPlan}
-use Rattle.lft_log.proofs.Ends.{range_take}
-use Rattle.lft_log.proofs.Fronts.{all_dropped}
-use Rattle.lft_log.proofs.Holding.{hold_cut, hold_front}
-use Rattle.lft_log.proofs.Odd.{line_longer}
-use Rattle.lft_log.proofs.Behind.{inputs_both, rows_both, timely_both}
+use Rattle.lft_log.proofs.{Ends.range_take, Fronts.all_dropped, Holding.{hold_cut, hold_front}, Odd.line_longer, Behind.{inputs_both, rows_both, timely_both}}
 
 -- no records tell no lines
 pub zip_none : {A B : Type 0} (R : A → B → Type 0) (fs : List A) (xs : List B) → xs ≡ [] → AllZip R fs xs → fs ≡ []

@@ -4,22 +4,13 @@ use Rattle.std.specs.List.{AllZip}
 use Rattle.csv.specs.Reading.{default_config, records}
 use Rattle.memchr.specs.Find.{OccursAt, is_byte, places}
 use Rattle.lft_tag.specs.declared.Tag.{Tag}
-use Rattle.lft_ir.specs.Parts.{Parts}
-use Rattle.lft_ir.specs.Steps.Fits.{RowsFit}
-use Rattle.lft_ir.specs.declared.steps.row.Row.{Row as TheRow}
-use Rattle.lft_trace.specs.LogTables.{InputsFit, IsLine, IsNoLine, inputs_behind, row_of}
-use Rattle.lft_trace.specs.Parts.{EndsLine, HasNoQuote}
-use Rattle.lft_trace.specs.Records.{records_of}
+use Rattle.lft_ir.specs.{Parts.Parts, Steps.Fits.RowsFit, declared.steps.row.Row.Row as TheRow}
+use Rattle.lft_trace.specs.{LogTables.{InputsFit, IsLine, IsNoLine, inputs_behind, row_of}, Parts.{EndsLine, HasNoQuote}, Records.records_of}
 use Rattle.lft_trace.specs.Traces.{Table, header}
-use Rattle.lft_trace.specs.declared.external_table.Entry.{Entry}
-use Rattle.lft_trace.specs.declared.external_table.Entry.TheVariants.{Happens, Stops}
-use Rattle.lft_trace.specs.declared.log_table.Line.{Line}
-use Rattle.lft_trace.specs.declared.log_table.Line.TheVariants.{Row, Input}
-use Rattle.lft_trace.specs.declared.log_table.LineFault.TheVariants as none
+use Rattle.lft_trace.specs.declared.{external_table.Entry.{Entry, TheVariants.{Happens, Stops}}, log_table.Line.{Line, TheVariants.{Row, Input}}}
 use Rattle.lft_monitor.specs.Follows.{IsPassed}
-use Rattle.lft_log.specs.declared.fault.LogFault.{LogFault}
-use Rattle.lft_log.specs.declared.fault.LogFault.TheVariants.{NoRow, NoInput, NotPlain, NotPlainInput, SecondHeader}
-use Rattle.lft_log.specs.declared.front.Front.{Front}
+use Rattle.lft_log.specs.declared.{fault.LogFault.{LogFault, TheVariants.{NoRow, NoInput, NotPlain, NotPlainInput, SecondHeader}}, front.Front.Front}
+use Rattle.lft_trace.specs.declared.log_table.LineFault.TheVariants as none
 
 -- the words of the header
 abbrev pub header_words : List ℕ

@@ -1,41 +1,22 @@
 -- What is told of a log.
 use Rattle.std.specs.Prelude.{◌≡◌, ◌↔◌, ◌⊎◌, ◌+◌, ◌^◌, ◌<◌, ◌≤◌, true, false, ℕ, Bool, List, [], ◌++◌, ◌∷◌, length, filter_map, Option, None, Some, MatchOption, slice_get, Result, IfOk}
-use Rattle.std.specs.Global.{Vec}
-use Rattle.std.specs.List.Sorted.{IsPermutation}
-use Rattle.lft_ir.specs.Parts.{Parts}
-use Rattle.lft_tag.specs.declared.NoMemory.{NoMemory as WantOfMemory}
-use Rattle.lft_tag.specs.declared.Tag.{Tag}
-use Rattle.lft_tag.specs.Tags.{Before, UpTo, earliest}
-use Rattle.lft_ir.specs.declared.steps.externals.Event.{Event as EventOf}
-use Rattle.lft_ir.specs.declared.steps.row.Row.{Row}
-use Rattle.lft_ir.specs.Steps.Fits.{RowsFit}
-use Rattle.lft_ir.specs.Steps.Inputs.{InOrder, IsTold}
-use Rattle.lft_model.specs.Plans.{PlanParts}
-use Rattle.lft_model.specs.Breaches.{First}
+use Rattle.std.specs.{Global.Vec, List.Sorted.IsPermutation}
+use Rattle.lft_ir.specs.{Parts.Parts, declared.steps.{externals.Event.Event as EventOf, row.Row.Row}, Steps.{Fits.RowsFit, Inputs.{InOrder, IsTold}}}
+use Rattle.lft_tag.specs.{declared.{NoMemory.NoMemory as WantOfMemory, Tag.Tag}, Tags.{Before, UpTo, earliest}}
+use Rattle.lft_model.specs.{Plans.PlanParts, Breaches.First}
 use Rattle.lft_rows.specs.Accepted.{IsAccepted}
-use Rattle.lft_monitor.specs.declared.judged.Ending.TheVariants as ending
-use Rattle.lft_monitor.specs.declared.open.OpenRun.{OpenRun}
-use Rattle.lft_monitor.specs.OpenRuns.{AreOpenRuns}
+use Rattle.lft_monitor.specs.{declared.open.OpenRun.OpenRun, OpenRuns.AreOpenRuns}
 use Rattle.lft_monitor.specs.Follows.{HasManyAtLast, HasManyLater, IsFollowerOf, IsSureSoFar, IsOddSoFar, IsClean, IsFirstUpToLast, IsJudged, IsPassed, IsQuiet, breach_of}
-use Rattle.lft_trace.specs.ExternalTables.{IsEntry, event_of, stop_of}
-use Rattle.lft_trace.specs.LogTables.{IsNoLine}
-use Rattle.lft_trace.specs.declared.external_table.Entry.{Entry}
-use Rattle.lft_trace.specs.declared.external_table.Entry.TheVariants.{Happens}
-use Rattle.lft_trace.specs.declared.log_table.Line.{Line}
-use Rattle.lft_trace.specs.declared.log_table.LineFault.TheVariants as none
-use Rattle.lft_trace.specs.declared.log_table.Line.TheVariants.{Input}
+use Rattle.lft_trace.specs.{ExternalTables.{IsEntry, event_of, stop_of}, LogTables.IsNoLine}
+use Rattle.lft_trace.specs.declared.{external_table.Entry.{Entry, TheVariants.Happens}, log_table.Line.{Line, TheVariants.Input}}
 use Rattle.lft_log.specs.Logs.{AreTimely, BeginsLong, BeginsWithLine, BeginsWithRecord, HasNoEnd, HoldSoFar, IsHead, IsOddLine, LastCounts, LastIsLeft, inputs, rows, tag_of, HasManyRows}
 use Rattle.lft_log.specs.declared.asked.Asked.{Asked}
 use Rattle.lft_log.specs.declared.fault.LogFault.{LogFault}
 use Rattle.lft_log.specs.declared.fault.LogFault.TheVariants.{NoHeader, NoRow, NoInput, LateInput, InputAgain, ManyLater, LongLine, TooManyRows, TooManyInputs, NoMemory}
-use Rattle.lft_log.specs.declared.front.Front.{Front}
-use Rattle.lft_log.specs.declared.log.Log.{Log}
-use Rattle.lft_log.specs.declared.rows.LogRows.{LogRows}
-use Rattle.lft_log.specs.declared.telling.Taken.{Taken}
-use Rattle.lft_log.specs.declared.told.Told.{Told}
-use Rattle.lft_log.specs.declared.told.Told.TheVariants.{Broken, Odd, Reached}
-use Rattle.lft_log.specs.declared.told.Final.{Final}
-use Rattle.lft_log.specs.declared.told.Final.TheVariants.{Soon, AtEnd}
+use Rattle.lft_log.specs.declared.{front.Front.Front, log.Log.Log, rows.LogRows.LogRows, telling.Taken.Taken}
+use Rattle.lft_log.specs.declared.told.{Told.{Told, TheVariants.{Broken, Odd, Reached}}, Final.{Final, TheVariants.{Soon, AtEnd}}}
+use Rattle.lft_monitor.specs.declared.judged.Ending.TheVariants as ending
+use Rattle.lft_trace.specs.declared.log_table.LineFault.TheVariants as none
 
 -- the plan of a log: its events are those given before and those of the log, and its stop is the least of them
 pub record HasTold (base : PlanParts) (inputs : List Entry) (plan : PlanParts) : Type 0 where

@@ -1,10 +1,8 @@
 //! What whole lines tell, up to one that tells nothing.
 
 ghost use Rattle.std.specs.Prelude.{◌≡◌, ◌≤◌, ◌^◌, ℕ, List, length, false, None, IfOk, IfSome};
-ghost use Rattle.lft_ir.specs.Parts.{Parts};
-ghost use Rattle.lft_ir.specs.Steps.Fits.{RowsFit};
-ghost use Rattle.lft_trace.specs.LogTables.{InputsFit, ReadsLines, StopsAt};
-ghost use Rattle.lft_trace.specs.Parts.{BeginsPlain, EndsLine};
+ghost use Rattle.lft_ir.specs.{Parts.Parts, Steps.Fits.RowsFit};
+ghost use Rattle.lft_trace.specs.{LogTables.{InputsFit, ReadsLines, StopsAt}, Parts.{BeginsPlain, EndsLine}};
 ghost use Rattle.lft_log.specs.Logs.{AreLines, BeginsOdd, BeginsWithLine, IsFaultBehind, IsFront, IsOddLine, records_below};
 
 use crate::fault::LogFault;

@@ -1,15 +1,11 @@
 -- Members that stand behind those that there were.
 use Rattle.std.proofs.Common.{◌≡◌, ◌≢◌, ℕ, List, [], ◌∷◌, ◌++◌, Option, Some, None, sym, subst, ◌∙◌, ap, append_assoc}
 use Rattle.std.proofs.lemmas.List.{append-nil, map-append}
-use Rattle.lft_tree.specs.Identifiers.{IsName}
-use Rattle.lft_tree.specs.Tree.{TriggerTree, OnRef, AssignmentTree, MemberTree, ReactionMember}
-use Rattle.lft_tree.specs.View.{member_view, member_views}
+use Rattle.lft_tree.specs.{Identifiers.IsName, Tree.{TriggerTree, OnRef, AssignmentTree, MemberTree, ReactionMember}, View.{member_view, member_views}}
 use Rattle.lft_tree.specs.declared.tree.Member.{Member as Core}
-use Rattle.lft_whole.specs.declared.tree.Member.{Member}
-use Rattle.lft_whole.specs.declared.tree.Reaction.{Reaction}
+use Rattle.lft_whole.specs.declared.tree.{Member.Member, Reaction.Reaction}
 use Rattle.lft_elaborate.specs.Channels.Lowered.{own}
-use Rattle.lft_lower.specs.Meanings.Meanings.{Here, named_in}
-use Rattle.lft_lower.specs.Meanings.Places.{Several, count_of}
+use Rattle.lft_lower.specs.Meanings.{Meanings.{Here, named_in}, Places.{Several, count_of}}
 use Rattle.lft_lower.specs.Lowered.{Adds, AreGiven, AreInstances, AreTriggers, IsAsleep, IsLowered, IsReaction, added, all_triggers, asleep, instances, known, no_instances, reaction_tree, reactor_at, runs, sleeps, some_instances}
 use Rattle.lft_classes.specs.Shapes.{thing_named}
 

@@ -1,10 +1,8 @@
 -- Parameters from which times are read, one after another.
 use Rattle.std.proofs.Common.{◌≡◌, ℕ, ◌+◌, ◌<◌, ◌≤◌, inl, inr, Bool, true, Option, Some, None, length, slice_get, refl, subst, sym, arith}
 use Rattle.std.specs.Prelude.{IfSome}
-use Rattle.std.proofs.Math.Nat.{eq-or-lt_of_le}
-use Rattle.std.proofs.lemmas.Option.{slice_get_within}
-use Rattle.lft_classes.specs.declared.shapes.InheritedParameter.{InheritedParameter}
-use Rattle.lft_classes.specs.declared.shapes.Shape.{Shape}
+use Rattle.std.proofs.{Math.Nat.eq-or-lt_of_le, lemmas.Option.slice_get_within}
+use Rattle.lft_classes.specs.declared.shapes.{InheritedParameter.InheritedParameter, Shape.Shape}
 use Rattle.lft_lower.specs.Reactors.{HasDefault, IsDefault}
 
 -- the first of them have defaults

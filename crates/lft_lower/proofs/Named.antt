@@ -1,12 +1,10 @@
 -- Lists of what is made of names, which grow in a loop.
 use Rattle.std.proofs.Common.{◌≡◌, ℕ, ◌+◌, ◌<◌, ◌≤◌, List, [], ◌∷◌, ◌++◌, Some, map, take, length, sym, ◌∙◌, ap, arith, zero-add}
 use Rattle.std.specs.Prelude.{slice_get}
-use Rattle.std.proofs.lemmas.List.FromFn.{length-map-range_with_len}
-use Rattle.std.proofs.lemmas.List.{length-map, map-append, take_all}
+use Rattle.std.proofs.lemmas.List.{length-map, map-append, take_all, FromFn.length-map-range_with_len}
 use Rattle.lft_lists.proofs.Mapped.{mapped}
-use Rattle.lft_elaborate.proofs.ChannelsLemmas.Grids.{row_at}
+use Rattle.lft_elaborate.{proofs.ChannelsLemmas.Grids.row_at, specs.Channels.Channels.below}
 use Rattle.lft_lower.proofs.MeaningsLemmas.Cuts.{cut_more}
-use Rattle.lft_elaborate.specs.Channels.Channels.{below}
 
 -- what is made of the name of this number
 named_at : {X : Type 0} (f : List ℕ → X) (name : ℕ → List ℕ) (n k : ℕ) → k < n → slice_get (map f (map name (below n))) k ≡ Some (f (name k))

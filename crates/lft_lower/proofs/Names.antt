@@ -1,22 +1,17 @@
 -- The names that a core tree declares.
 use Rattle.std.proofs.Common.{ℕ, Bool, List, [], ◌∷◌, Option, Some, None, filter_map, map, sym, subst}
 use Rattle.std.specs.Prelude.{IfSome, option_map}
-use Rattle.std.specs.List.{All, cons_option}
-use Rattle.std.proofs.lemmas.List.Elements.{All-append, All-cons, All-head, All-map, All-nil, All-tail, All-weaker}
+use Rattle.std.{specs.List.{All, cons_option}, proofs.lemmas.List.Elements.{All-append, All-cons, All-head, All-map, All-nil, All-tail, All-weaker}}
 use Rattle.lft_tree.specs.Identifiers.{HasIdentifiers, IsIdentifier, IsName, declared_names}
-use Rattle.lft_tree.proofs.Names.{IsName-identifier}
 use Rattle.lft_tree.specs.Tree.{AssignmentTree, ConnectionMember, FileTree, InstanceMember, ItemTree, MemberTree, PortMember, ReactorTree, RefTree, TimeTree, TriggerTree, action_in, instance_in, port_in, reactor_in, timer_in}
-use Rattle.lft_whole.specs.declared.tree.Member.{Member}
-use Rattle.lft_whole.specs.declared.tree.Member.TheVariants as member
-use Rattle.lft_whole.specs.declared.tree.Reaction.{Reaction}
+use Rattle.lft_tree.proofs.Names.{IsName-identifier}
+use Rattle.lft_whole.specs.declared.tree.{Member.Member, Reaction.Reaction}
 use Rattle.lft_classes.specs.declared.shapes.Inherited.{Inherited}
-use Rattle.lft_elaborate.specs.declared.settings.Settings.{Settings}
-use Rattle.lft_elaborate.proofs.Spelling.{IsName-spelled}
-use Rattle.lft_elaborate.specs.Channels.Channels.{below}
-use Rattle.lft_lower.specs.Meanings.Meanings.{Here, named_in}
-use Rattle.lft_lower.specs.Meanings.Places.{count_of, name_at, names_of}
+use Rattle.lft_elaborate.{specs.{declared.settings.Settings.Settings, Channels.Channels.below}, proofs.Spelling.IsName-spelled}
+use Rattle.lft_lower.specs.Meanings.{Meanings.{Here, named_in}, Places.{count_of, name_at, names_of}}
 use Rattle.lft_lower.specs.Lowered.{AreConnected, AreInstances, AreLowered, AreTriggers, IsAsleep, IsLowered, IsReaction, added, each_pair, instances, known, more_members, no_instances, no_members, ports, runs, sleeps, some_instances, whole}
 use Rattle.lft_lower.specs.Reactors.{AreReactors, more_reactors, no_reactors}
+use Rattle.lft_whole.specs.declared.tree.Member.TheVariants as member
 
 -- of each kind of thing that the member declares the name is one
 abbrev pub IsNamed : MemberTree → Type 0

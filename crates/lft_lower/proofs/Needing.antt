@@ -1,14 +1,8 @@
 -- Times that an instance has to give and doesn't.
 use Rattle.std.proofs.Common.{◌≡◌, ◌≢◌, inl, inr, ℕ, zero, suc, ◌+◌, ◌<◌, ◌≤◌, ◌&&◌, Bool, true, false, cond, leb, List, [], ◌∷◌, Option, Some, None, length, slice_get, refl, subst, sym, ap, ◌∙◌, arith}
 use Rattle.std.specs.Prelude.{count_by, if◌then◌else◌, option_map, unwrap_or}
-use Rattle.std.specs.List.{range_with_len}
-use Rattle.std.proofs.lemmas.Bool.Decides.{eqb_tells, leb_tells}
-use Rattle.std.proofs.lemmas.List.Sums.{sum_by-cons}
-use Rattle.std.proofs.lemmas.Option.{slice_get_within}
-use Rattle.lft_classes.specs.declared.shapes.Child.{Child}
-use Rattle.lft_classes.specs.declared.shapes.Given.{Given}
-use Rattle.lft_classes.specs.declared.shapes.InheritedParameter.{InheritedParameter}
-use Rattle.lft_classes.specs.declared.shapes.Shape.{Shape}
+use Rattle.std.{specs.List.range_with_len, proofs.lemmas.{Bool.Decides.{eqb_tells, leb_tells}, List.Sums.sum_by-cons, Option.slice_get_within}}
+use Rattle.lft_classes.specs.declared.shapes.{Child.Child, Given.Given, InheritedParameter.InheritedParameter, Shape.Shape}
 use Rattle.lft_elaborate.specs.Values.{given_to}
 use Rattle.lft_lower.specs.Needed.{GivesNeeded, GivesOnce, is_bare, is_needed, is_timed, needed_given, needed_in}
 

@@ -1,22 +1,16 @@
 -- Members and parts that stand at a token.
 use Rattle.std.proofs.Common.{◌≡◌, ℕ, ◌+◌, ◌≤◌, List, [], ◌∷◌, ◌++◌, Some, length, map, take, sym, subst, ◌∙◌, ap, append_assoc, arith}
 use Rattle.std.specs.Prelude.{flat_map, slice_get}
-use Rattle.std.proofs.lemmas.Grind.{flat_map-append}
-use Rattle.std.proofs.lemmas.List.{append-nil, length-take-le, map-append}
-use Rattle.std.proofs.lemmas.List.Elements.{All-append, All-cons, All-nil}
+use Rattle.std.proofs.lemmas.{Grind.flat_map-append, List.{append-nil, length-take-le, map-append, Elements.{All-append, All-cons, All-nil}}}
 use Rattle.std.proofs.lemmas.Option.{slice_get_within}
-use Rattle.lft_tree.specs.declared.tree.Item.{Item}
-use Rattle.lft_tree.specs.declared.tree.Item.TheVariants as items
-use Rattle.lft_tree.specs.declared.tree.Member.{Member as Core}
-use Rattle.lft_tree.specs.declared.tree.Reactor.{Reactor}
+use Rattle.lft_tree.specs.declared.tree.{Item.Item, Member.Member as Core, Reactor.Reactor}
 use Rattle.lft_whole.specs.declared.sources.source.SourceFile.{SourceFile}
-use Rattle.lft_classes.specs.declared.shapes.Inherited.{Inherited}
-use Rattle.lft_classes.specs.declared.shapes.Shape.{Shape}
-use Rattle.lft_elaborate.specs.Settings.{shape_at}
-use Rattle.lft_elaborate.specs.declared.settings.Settings.{Settings}
+use Rattle.lft_classes.specs.declared.shapes.{Inherited.Inherited, Shape.Shape}
+use Rattle.lft_elaborate.specs.{Settings.shape_at, declared.settings.Settings.Settings}
 use Rattle.lft_lower.specs.Meanings.Meanings.{Here}
-use Rattle.lft_lower.proofs.MeaningsLemmas.Growing.{one_more}
 use Rattle.lft_lower.specs.Standing.{AddsAt, AreAt, ArePartsAt, ArePlaced, IsPlaced, declared_at, more_at, more_placed, number_in, parts_at, stands_at}
+use Rattle.lft_lower.proofs.MeaningsLemmas.Growing.{one_more}
+use Rattle.lft_tree.specs.declared.tree.Item.TheVariants as items
 
 abbrev At : ℕ → Core → Type 0
 At at m = stands_at m ≡ at

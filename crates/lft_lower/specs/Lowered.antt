@@ -1,38 +1,21 @@
 -- What the members of a reactor become in a setting.
 use Rattle.std.specs.Prelude.{◌≡◌, ◌≢◌, ◌&&◌, ℕ, zero, Bool, true, false, not, is_some, List, [], ◌∷◌, ◌++◌, Option, Some, None, filter_map, flat_map, if◌then◌else◌, length, map, option_map, slice_get, slice_index_or, string_bytes, unwrap_or}
-use Rattle.std.specs.List.{All}
-use Rattle.std.specs.Option.{option_and_then}
+use Rattle.std.specs.{List.All, Option.option_and_then}
 use Rattle.lft_tree.specs.Identifiers.{IsName}
 use Rattle.lft_tree.specs.Tree.{TimeTree, RefTree, TimerTree, ActionTree, TriggerTree, AtStartup, AtShutdown, OnRef, ReactionTree, AssignmentTree, ConnectionTree, MemberTree, PortMember, TimerMember, ActionMember, ReactionMember, InstanceMember, ConnectionMember}
-use Rattle.lft_tree.specs.View.{member_views}
-use Rattle.lft_tree.specs.declared.tree.Member.{Member as Core}
-use Rattle.lft_whole.specs.declared.tree.Action.{Action}
-use Rattle.lft_whole.specs.declared.tree.Connection.{Connection}
-use Rattle.lft_whole.specs.declared.tree.Effect.{Effect}
+use Rattle.lft_tree.specs.{View.member_views, declared.tree.Member.Member as Core}
+use Rattle.lft_whole.specs.declared.tree.{Action.Action, Connection.Connection, Effect.Effect, Expression.Expression, Member.Member, Reaction.Reaction}
+use Rattle.lft_whole.specs.declared.tree.{Timer.Timer, Trigger.Trigger, Value.Value}
+use Rattle.lft_classes.specs.{declared.shapes.{Child.Child, Given.Given, Inherited.Inherited, Shape.Shape}, Shapes.{child_at, thing_named, width_of}}
+use Rattle.lft_elaborate.specs.{Channels.Lowered.{AreJoined, own}, Noted.found_inside}
 use Rattle.lft_whole.specs.declared.tree.Effect.TheVariants as effects
-use Rattle.lft_whole.specs.declared.tree.Expression.{Expression}
-use Rattle.lft_whole.specs.declared.tree.Member.{Member}
 use Rattle.lft_whole.specs.declared.tree.Member.TheVariants as member
-use Rattle.lft_whole.specs.declared.tree.Reaction.{Reaction}
-use Rattle.lft_whole.specs.declared.tree.Timer.{Timer}
-use Rattle.lft_whole.specs.declared.tree.Trigger.{Trigger}
 use Rattle.lft_whole.specs.declared.tree.Trigger.TheVariants as triggers
-use Rattle.lft_whole.specs.declared.tree.Value.{Value}
 use Rattle.lft_whole.specs.declared.tree.Value.TheVariants as value
-use Rattle.lft_classes.specs.declared.shapes.Child.{Child}
-use Rattle.lft_classes.specs.declared.shapes.Given.{Given}
-use Rattle.lft_classes.specs.declared.shapes.Inherited.{Inherited}
-use Rattle.lft_classes.specs.declared.shapes.Shape.{Shape}
-use Rattle.lft_classes.specs.Shapes.{child_at, thing_named, width_of}
-use Rattle.lft_elaborate.specs.Channels.Lowered.{AreJoined, own}
-use Rattle.lft_elaborate.specs.Noted.{found_inside}
 pub use Rattle.lft_elaborate.specs.Values.{is_forever}
 use Rattle.lft_elaborate.specs.Widths.{found_width}
-use Rattle.lft_lower.specs.Meanings.Meanings.{Here, Means, all_places, named_in, places_in, shape_inside}
-use Rattle.lft_lower.specs.Meanings.Places.{Several, count_of, names_of}
-use Rattle.lft_lower.specs.declared.connections.Sides.{Sides}
-use Rattle.lft_lower.specs.Needed.{GivesNeeded, is_timed}
-use Rattle.lft_lower.specs.Times.{IsTime, time_for}
+use Rattle.lft_lower.specs.Meanings.{Meanings.{Here, Means, all_places, named_in, places_in, shape_inside}, Places.{Several, count_of, names_of}}
+use Rattle.lft_lower.specs.{declared.connections.Sides.Sides, Needed.{GivesNeeded, is_timed}, Times.{IsTime, time_for}}
 
 -- ---- times, timers and actions
 

@@ -1,11 +1,7 @@
 -- The times that each instance of a reactor has to give.
 use Rattle.std.specs.Prelude.{◌≡◌, ◌&&◌, ℕ, Bool, true, false, not, is_some, List, [], ◌∷◌, None, count_by, length, option_map, slice_get, unwrap_or}
-use Rattle.lft_elaborate.specs.Channels.Channels.{below}
-use Rattle.lft_elaborate.specs.Values.{given_to}
-use Rattle.lft_classes.specs.declared.shapes.Child.{Child}
-use Rattle.lft_classes.specs.declared.shapes.Given.{Given}
-use Rattle.lft_classes.specs.declared.shapes.InheritedParameter.{InheritedParameter}
-use Rattle.lft_classes.specs.declared.shapes.Shape.{Shape}
+use Rattle.lft_elaborate.specs.{Channels.Channels.below, Values.given_to}
+use Rattle.lft_classes.specs.declared.shapes.{Child.Child, Given.Given, InheritedParameter.InheritedParameter, Shape.Shape}
 
 -- whether a time is read from the parameter of this number
 abbrev pub is_timed : Shape → ℕ → Bool

@@ -1,8 +1,7 @@
 -- What a program says of itself.
 use Rattle.std.specs.Prelude.{◌≡◌, ℕ, true, IfSome, List, [], ◌∷◌, Option, None}
 use Rattle.lft_whole.specs.declared.sources.source.SourceFile.{SourceFile}
-use Rattle.lft_elaborate.specs.declared.settings.Settings.{Settings}
-use Rattle.lft_elaborate.specs.Settings.{shape_at}
+use Rattle.lft_elaborate.specs.{declared.settings.Settings.Settings, Settings.shape_at}
 
 -- where the first file says that the coordination is decentralized
 abbrev pub decentralized_in : List SourceFile → Option ℕ

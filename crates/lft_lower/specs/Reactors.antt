@@ -1,26 +1,11 @@
 -- The core reactors of settings.
 use Rattle.std.specs.Prelude.{◌≡◌, ◌↔◌, ℕ, Bool, true, false, IfSome, IsTrue, List, [], ◌∷◌, ◌++◌, Option, Some, None, filter_map, if◌then◌else◌, length, option_map, slice_get, slice_index_or, string_bytes}
 use Rattle.std.specs.Option.{option_and_then}
-use Rattle.lft_tree.specs.Tree.{ItemTree, MemberTree, ParameterTree, ReactorTree, ReactorItem}
-use Rattle.lft_tree.specs.ItemView.{item_views}
-use Rattle.lft_tree.specs.declared.ast.Ast.{Ast}
-use Rattle.lft_tree.specs.declared.tree.Time.{Time}
-use Rattle.lft_whole.specs.declared.tree.Expression.{Expression}
-use Rattle.lft_whole.specs.declared.sources.source.SourceFile.{SourceFile}
-use Rattle.lft_classes.specs.Nestings.{IsNesting}
-use Rattle.lft_classes.specs.declared.nesting.Nesting.{Nesting}
-use Rattle.lft_classes.specs.declared.shapes.InheritedParameter.{InheritedParameter}
-use Rattle.lft_classes.specs.declared.shapes.Shape.{Shape}
-use Rattle.lft_elaborate.specs.Channels.Channels.{below}
-use Rattle.lft_elaborate.specs.declared.settings.Settings.{Settings}
-use Rattle.lft_elaborate.specs.Noted.{AreSettings, table}
-use Rattle.lft_elaborate.specs.Settings.{shape_at}
-use Rattle.lft_elaborate.specs.Used.{AreUsed}
-use Rattle.lft_lower.specs.Meanings.Names.{AreApart}
-use Rattle.lft_lower.specs.Lowered.{AreLowered}
-use Rattle.lft_lower.specs.Needed.{is_timed}
-use Rattle.lft_lower.specs.Programs.{IsCentralized}
-use Rattle.lft_lower.specs.Standing.{ArePlaced}
+use Rattle.lft_tree.specs.{Tree.{ItemTree, MemberTree, ParameterTree, ReactorTree, ReactorItem}, ItemView.item_views, declared.{ast.Ast.Ast, tree.Time.Time}}
+use Rattle.lft_whole.specs.declared.{tree.Expression.Expression, sources.source.SourceFile.SourceFile}
+use Rattle.lft_classes.specs.{Nestings.IsNesting, declared.{nesting.Nesting.Nesting, shapes.{InheritedParameter.InheritedParameter, Shape.Shape}}}
+use Rattle.lft_elaborate.specs.{Channels.Channels.below, declared.settings.Settings.Settings, Noted.{AreSettings, table}, Settings.shape_at, Used.AreUsed}
+use Rattle.lft_lower.specs.{Meanings.Names.AreApart, Lowered.AreLowered, Needed.is_timed, Programs.IsCentralized, Standing.ArePlaced}
 use Rattle.lft_lower.specs.Times.{IsWritten, time_in}
 
 -- the time of a default; where none is written, each instance gives one, and this one is never read

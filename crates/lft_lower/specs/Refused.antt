@@ -2,31 +2,16 @@
 use Rattle.std.specs.Prelude.{◌≡◌, ◌<◌, ◌⊎◌, ℕ, Bool, true, false, List, IsSomeAnd, Option, None, slice_get}
 use Rattle.lft_resolve.specs.Causes.{longest}
 use Rattle.lft_tree.specs.Tree.{nanoseconds}
-use Rattle.lft_whole.specs.declared.sources.source.SourceFile.{SourceFile}
-use Rattle.lft_whole.specs.declared.sources.stop.Refusal.{Refusal}
-use Rattle.lft_whole.specs.declared.sources.why.Why.{Why}
+use Rattle.lft_whole.specs.declared.sources.{source.SourceFile.SourceFile, stop.Refusal.Refusal, why.Why.Why}
+use Rattle.lft_whole.specs.declared.tree.{Action.Action, Connection.Connection, Effect.Effect, Expression.Expression, Timer.Timer, Trigger.Trigger, Value.Value}
+use Rattle.lft_classes.specs.declared.shapes.{Given.Given, InheritedParameter.InheritedParameter, Shape.Shape}
+use Rattle.lft_elaborate.specs.{declared.settings.Settings.Settings, Settings.shape_at}
+use Rattle.lft_lower.specs.{Meanings.{Meanings.Here, Refused.{IsAt, IsOfOne, IsOfReference}}, Lowered.{is_forever, is_spaced}, Needed.is_timed}
+use Rattle.lft_lower.specs.{Programs.decentralized_in, Times.{named_by, time_in}}
 use Rattle.lft_whole.specs.declared.sources.why.Why.TheVariants as why
-use Rattle.lft_classes.specs.declared.shapes.Given.{Given}
-use Rattle.lft_classes.specs.declared.shapes.InheritedParameter.{InheritedParameter}
-use Rattle.lft_classes.specs.declared.shapes.Shape.{Shape}
-use Rattle.lft_whole.specs.declared.tree.Action.{Action}
-use Rattle.lft_whole.specs.declared.tree.Connection.{Connection}
-use Rattle.lft_whole.specs.declared.tree.Effect.{Effect}
 use Rattle.lft_whole.specs.declared.tree.Effect.TheVariants as effects
-use Rattle.lft_whole.specs.declared.tree.Expression.{Expression}
-use Rattle.lft_whole.specs.declared.tree.Timer.{Timer}
-use Rattle.lft_whole.specs.declared.tree.Trigger.{Trigger}
 use Rattle.lft_whole.specs.declared.tree.Trigger.TheVariants as triggers
-use Rattle.lft_whole.specs.declared.tree.Value.{Value}
 use Rattle.lft_whole.specs.declared.tree.Value.TheVariants as value
-use Rattle.lft_elaborate.specs.declared.settings.Settings.{Settings}
-use Rattle.lft_elaborate.specs.Settings.{shape_at}
-use Rattle.lft_lower.specs.Meanings.Meanings.{Here}
-use Rattle.lft_lower.specs.Meanings.Refused.{IsAt, IsOfOne, IsOfReference}
-use Rattle.lft_lower.specs.Lowered.{is_forever, is_spaced}
-use Rattle.lft_lower.specs.Needed.{is_timed}
-use Rattle.lft_lower.specs.Programs.{decentralized_in}
-use Rattle.lft_lower.specs.Times.{named_by, time_in}
 
 -- ---- times
 

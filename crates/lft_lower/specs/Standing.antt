@@ -1,41 +1,24 @@
 -- At which tokens of all files core reactors, their members and the parts of these stand.
 use Rattle.std.specs.Prelude.{◌≡◌, ◌⊎◌, ℕ, Bool, List, [], ◌∷◌, ◌++◌, Option, Some, None, filter_map, flat_map, if◌then◌else◌, length, map, option_map, slice_get, slice_index, unwrap_or}
-use Rattle.std.specs.List.{All}
-use Rattle.std.specs.Option.{option_and_then}
+use Rattle.std.specs.{List.All, Option.option_and_then}
 use Rattle.lft_tree.specs.Tree.{TriggerTree}
-use Rattle.lft_tree.specs.declared.tree.Assignment.{Assignment}
-use Rattle.lft_tree.specs.declared.tree.Item.{Item}
-use Rattle.lft_tree.specs.declared.tree.Item.TheVariants as items
-use Rattle.lft_tree.specs.declared.tree.Member.{Member as Core}
-use Rattle.lft_tree.specs.declared.tree.Member.TheVariants as kinds
-use Rattle.lft_tree.specs.declared.tree.Reactor.{Reactor as CoreReactor}
-use Rattle.lft_tree.specs.declared.tree.TimeExpression.{TimeExpression}
-use Rattle.lft_tree.specs.declared.tree.TimeExpression.TheVariants as times
+use Rattle.lft_tree.specs.declared.tree.{Assignment.Assignment, Item.Item, Member.Member as Core, Reactor.Reactor as CoreReactor, TimeExpression.TimeExpression}
 use Rattle.lft_tree.specs.declared.tree.Trigger.{Trigger as CoreTrigger}
-use Rattle.lft_tree.specs.declared.tree.Trigger.TheVariants as core_triggers
-use Rattle.lft_whole.specs.declared.tree.Effect.{Effect}
-use Rattle.lft_whole.specs.declared.tree.Effect.TheVariants as effects
-use Rattle.lft_whole.specs.declared.tree.Expression.{Expression}
-use Rattle.lft_whole.specs.declared.tree.Instance.{Instance}
-use Rattle.lft_whole.specs.declared.tree.Member.{Member}
-use Rattle.lft_whole.specs.declared.tree.Member.TheVariants as member
-use Rattle.lft_whole.specs.declared.tree.Reaction.{Reaction}
-use Rattle.lft_whole.specs.declared.tree.Reactor.{Reactor}
+use Rattle.lft_whole.specs.declared.tree.{Effect.Effect, Expression.Expression, Instance.Instance, Member.Member, Reaction.Reaction, Reactor.Reactor}
 use Rattle.lft_whole.specs.declared.tree.Trigger.{Trigger}
-use Rattle.lft_whole.specs.declared.tree.Trigger.TheVariants as triggers
-use Rattle.lft_whole.specs.Sources.Tokens.{number_at}
 use Rattle.lft_whole.specs.declared.sources.source.SourceFile.{SourceFile}
-use Rattle.lft_classes.specs.Shapes.{child_at, is_at}
-use Rattle.lft_classes.specs.declared.shapes.Given.{Given}
-use Rattle.lft_classes.specs.declared.shapes.Inherited.{Inherited}
-use Rattle.lft_classes.specs.declared.shapes.Shape.{Shape}
-use Rattle.lft_elaborate.specs.Channels.Channels.{below, joined, source}
-use Rattle.lft_elaborate.specs.Settings.{shape_at}
-use Rattle.lft_elaborate.specs.declared.settings.Settings.{Settings}
-use Rattle.lft_lower.specs.Meanings.Meanings.{Here, shape_inside}
-use Rattle.lft_lower.specs.Meanings.Standing.{all_tokens, ref_tokens, tokens_of}
-use Rattle.lft_lower.specs.Lowered.{all_triggers, is_forever, time_given}
-use Rattle.lft_lower.specs.Needed.{is_timed}
+use Rattle.lft_whole.specs.Sources.Tokens.{number_at}
+use Rattle.lft_classes.specs.{Shapes.{child_at, is_at}, declared.shapes.{Given.Given, Inherited.Inherited, Shape.Shape}}
+use Rattle.lft_elaborate.specs.{Channels.Channels.{below, joined, source}, Settings.shape_at, declared.settings.Settings.Settings}
+use Rattle.lft_lower.specs.Meanings.{Meanings.{Here, shape_inside}, Standing.{all_tokens, ref_tokens, tokens_of}}
+use Rattle.lft_lower.specs.{Lowered.{all_triggers, is_forever, time_given}, Needed.is_timed}
+use Rattle.lft_tree.specs.declared.tree.Item.TheVariants as items
+use Rattle.lft_tree.specs.declared.tree.Member.TheVariants as kinds
+use Rattle.lft_tree.specs.declared.tree.TimeExpression.TheVariants as times
+use Rattle.lft_tree.specs.declared.tree.Trigger.TheVariants as core_triggers
+use Rattle.lft_whole.specs.declared.tree.Effect.TheVariants as effects
+use Rattle.lft_whole.specs.declared.tree.Member.TheVariants as member
+use Rattle.lft_whole.specs.declared.tree.Trigger.TheVariants as triggers
 
 -- ---- core members
 

@@ -2,14 +2,10 @@
 use Rattle.std.specs.Prelude.{◌≡◌, ◌≤◌, zero, true, false, IsSomeAnd, Option, Some, None, option_map, slice_get, string_bytes}
 use Rattle.std.specs.Option.{option_and_then}
 use Rattle.lft_resolve.specs.Causes.{longest}
-use Rattle.lft_tree.specs.Tree.{TimeTree, Written, Named, nanoseconds}
-use Rattle.lft_tree.specs.declared.tree.Time.{Time}
-use Rattle.lft_classes.specs.declared.shapes.InheritedParameter.{InheritedParameter}
-use Rattle.lft_classes.specs.declared.shapes.Shape.{Shape}
-use Rattle.lft_classes.specs.declared.shapes.Thing.{Thing}
-use Rattle.lft_classes.specs.declared.shapes.Thing.TheVariants as things
-use Rattle.lft_classes.specs.Shapes.{thing_named}
+use Rattle.lft_tree.specs.{Tree.{TimeTree, Written, Named, nanoseconds}, declared.tree.Time.Time}
+use Rattle.lft_classes.specs.{declared.shapes.{InheritedParameter.InheritedParameter, Shape.Shape, Thing.Thing}, Shapes.thing_named}
 use Rattle.lft_whole.specs.declared.tree.Value.{Value}
+use Rattle.lft_classes.specs.declared.shapes.Thing.TheVariants as things
 use Rattle.lft_whole.specs.declared.tree.Value.TheVariants as value
 
 -- the time that a value writes out: a whole number with a unit, or 0

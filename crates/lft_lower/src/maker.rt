@@ -1,9 +1,8 @@
 //! What all reactors are made of.
 
 ghost use Rattle.std.specs.Prelude.{◌≡◌, None, map, option_map, slice_get, slice_index_or, unwrap_or};
-ghost use Rattle.lft_lower.specs.Meanings.Names.{texts};
+ghost use Rattle.lft_lower.specs.{Meanings.Names.texts, Needed.needed_in};
 ghost use Rattle.lft_whole.specs.Sources.Tokens.{number_at};
-ghost use Rattle.lft_lower.specs.Needed.{needed_in};
 
 use lft_elaborate::Settings;
 use lft_whole::sources::{Place, SourceFile, number_of};

@@ -2,9 +2,7 @@
 
 ghost use Rattle.std.specs.Prelude.{◌≡◌, IfErr, IfOk, None, OnOk, true};
 ghost use Rattle.lft_whole.specs.declared.sources.stop.Stop.TheVariants.{NoMemory};
-ghost use Rattle.lft_lower.specs.Meanings.Refused.{IfRefused};
-ghost use Rattle.lft_lower.specs.Programs.{IsCentralized, decentralized_in};
-ghost use Rattle.lft_lower.specs.Reactors.{IsLowering, IsProgram};
+ghost use Rattle.lft_lower.specs.{Meanings.Refused.IfRefused, Programs.{IsCentralized, decentralized_in}, Reactors.{IsLowering, IsProgram}};
 ghost use Rattle.lft_lower.specs.Refused.{IsDecentralized, IsOfFederation};
 
 use crate::instances::needed;

@@ -2,17 +2,13 @@
 
 ghost use Rattle.std.specs.Prelude.{◌≡◌, ◌≢◌, ◌++◌, ◌⊎◌, [], ◌∷◌, None, Some, IfErr, IfOk, OnOk, flat_map, map, option_map, string_bytes};
 ghost use Rattle.std.specs.List.{All};
-ghost use Rattle.lft_tree.specs.Identifiers.{IsName};
-ghost use Rattle.lft_tree.specs.ItemView.{member_views, ref_views, trigger_view};
-ghost use Rattle.lft_tree.specs.Tree.{OnRef};
+ghost use Rattle.lft_tree.specs.{Identifiers.IsName, ItemView.{member_views, ref_views, trigger_view}, Tree.OnRef};
 ghost use Rattle.lft_classes.specs.Shapes.{thing_named};
-ghost use Rattle.lft_lower.specs.Meanings.Meanings.{here, token_in};
-ghost use Rattle.lft_whole.specs.declared.sources.stop.Stop.TheVariants.{NoMemory};
-ghost use Rattle.lft_lower.specs.Meanings.Refused.{IfRefused, IsPassed};
+ghost use Rattle.lft_lower.specs.Meanings.{Meanings.{here, token_in}, Refused.{IfRefused, IsPassed}, Standing.ref_tokens};
 ghost use Rattle.lft_lower.specs.Lowered.{Adds, AreTriggers, IsAsleep, IsReaction, MeansAll, MeansEffect, MeansTrigger, all_triggers, asleep, effect_places, trigger_places};
 ghost use Rattle.lft_lower.specs.Refused.{IsOfEffect, IsOfTrigger};
-ghost use Rattle.lft_lower.specs.Meanings.Standing.{ref_tokens};
 ghost use Rattle.lft_lower.specs.Standing.{AddsAt, all_trigger_tokens, reaction_tokens, tokens_of_effect, tokens_of_trigger, trigger_tokens};
+ghost use Rattle.lft_whole.specs.declared.sources.stop.Stop.TheVariants.{NoMemory};
 
 use crate::meanings::places::{Within, places, push_places};
 use crate::meanings::room::Room;

@@ -2,14 +2,9 @@
 use Rattle.std.proofs.Common.{◌≡◌, ℕ, suc, ◌+◌, ◌≤◌, List, [], ◌∷◌, ◌++◌, length, length-append, take, refl, sym, ap, ◌∙◌, arith, true, false, Option, Some, None, IfSome, slice_get, filter_map, is_some}
 use Rattle.std.specs.List.{cons_option}
 use Rattle.lft_tag.specs.declared.Tag.{Tag}
-use Rattle.lft_lists.proofs.Picked.{kept_more}
-use Rattle.lft_lists.proofs.Members.{mem_get, mem_filter, mem_contains, mem_left, mem_right}
-use Rattle.lft_ir.specs.declared.parts.Value.{Value}
-use Rattle.lft_ir.specs.declared.parts.Name.TheVariants.{Action}
-use Rattle.lft_ir.specs.declared.steps.row.Row.{Row}
-use Rattle.lft_ir.specs.declared.steps.externals.Event.{Event}
-use Rattle.lft_model.specs.Plans.{PlanParts}
-use Rattle.lft_model.specs.Presence.{At, events_of, given, min_delay, scheduled}
+use Rattle.lft_lists.proofs.{Picked.kept_more, Members.{mem_get, mem_filter, mem_contains, mem_left, mem_right}}
+use Rattle.lft_ir.specs.declared.{parts.{Value.Value, Name.TheVariants.Action}, steps.{row.Row.Row, externals.Event.Event}}
+use Rattle.lft_model.specs.{Plans.PlanParts, Presence.{At, events_of, given, min_delay, scheduled}}
 
 -- a filter keeps at most as many items as there are
 pub length-filter_map : {X Y : Type 0} (h : X → Option Y) (xs : List X) → length (filter_map h xs) ≤ length xs

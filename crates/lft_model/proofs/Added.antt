@@ -1,26 +1,13 @@
 -- A recording to which rows are added: what has to be shown of these rows alone.
 use Rattle.std.proofs.Common.{◌≡◌, ℕ, zero, suc, ◌+◌, ◌<◌, ◌⊎◌, inl, inr, List, [], ◌∷◌, ◌++◌, length, take, map, sym, ap, ◌∙◌, subst, arith, Option, Some, slice_get, filter_map}
-use Rattle.std.proofs.Math.Seq.{take-append_seam}
-use Rattle.std.proofs.lemmas.List.{take-append-le}
-use Rattle.std.proofs.lemmas.List.Elements.{filter_map-append}
-use Rattle.lft_tag.specs.declared.Tag.{Tag}
-use Rattle.lft_tag.specs.Tags.{Before, UpTo}
-use Rattle.lft_tag.proofs.Order.{UpTo-not, Before-irrefl}
-use Rattle.lft_lists.proofs.Places.{get_left, get_append_cases}
-use Rattle.lft_lists.proofs.Mapped.{mapped_from}
-use Rattle.lft_ir.specs.declared.parts.Value.{Value}
-use Rattle.lft_ir.specs.declared.steps.row.Row.{Row}
-use Rattle.lft_ir.specs.declared.steps.row.Step.{Step}
-use Rattle.lft_ir.specs.declared.steps.row.Step.TheVariants.{Start, Read, Write, Schedule, Stop, End}
-use Rattle.lft_model.specs.Plans.{PlanParts, IsSoundPlan}
-use Rattle.lft_model.specs.Presence.{Inputs, stop}
-use Rattle.lft_model.specs.Runs.{Run, start_row, end_row, reads_at, ended_by, by_ends}
-use Rattle.lft_model.specs.Breaches.{IsOpen, IsLate, IsOutOfOrder, IsUndeclared, BreaksRow}
-use Rattle.lft_model.specs.OneWorker.{IsPending, Ready, Next, Path, NoClash, rows}
+use Rattle.std.proofs.{Math.Seq.take-append_seam, lemmas.List.{take-append-le, Elements.filter_map-append}}
+use Rattle.lft_tag.{specs.{declared.Tag.Tag, Tags.{Before, UpTo}}, proofs.Order.{UpTo-not, Before-irrefl}}
+use Rattle.lft_lists.proofs.{Places.{get_left, get_append_cases}, Mapped.mapped_from}
+use Rattle.lft_ir.specs.declared.{parts.Value.Value, steps.row.{Row.Row, Step.{Step, TheVariants.{Start, Read, Write, Schedule, Stop, End}}}}
+use Rattle.lft_model.specs.{Plans.{PlanParts, IsSoundPlan}, Presence.{Inputs, stop}, Runs.{Run, start_row, end_row, reads_at, ended_by, by_ends}}
+use Rattle.lft_model.specs.{Breaches.{IsOpen, IsLate, IsOutOfOrder, IsUndeclared, BreaksRow}, OneWorker.{IsPending, Ready, Next, Path, NoClash, rows}}
 use Rattle.lft_model.specs.Recorded.{SoFar, run_row}
-use Rattle.lft_model.proofs.Places.{slice_get_within, slice_get_taken}
-use Rattle.lft_model.proofs.Legality.{KeepsFour, keeps_four}
-use Rattle.lft_model.proofs.Ended.{ended_before}
+use Rattle.lft_model.proofs.{Places.{slice_get_within, slice_get_taken}, Legality.{KeepsFour, keeps_four}, Ended.ended_before}
 use Rattle.lft_model.proofs.Recording.{by_ends_taken, rows_up_to}
 
 -- a path and one more next run

@@ -3,38 +3,24 @@ use Rattle.std.proofs.Common.{◌≡◌, ℕ, zero, suc, ◌+◌, ◌<◌, ◌�
 use Rattle.std.specs.List.{last_or, AllZip}
 use native.Mathlib.Decide.{ℕ_discrete, dec_lt}
 use Rattle.lft_ir.proofs.Origins.{origin_unique}
-use Rattle.lft_tag.specs.declared.Tag.{Tag}
-use Rattle.lft_tag.specs.Tags.{Before, UpTo, after, after_all}
+use Rattle.lft_ir.specs.{Parts.inputs, Origins.Origin}
+use Rattle.lft_ir.specs.declared.parts.{Reaction.Reaction, Value.Value, Name.{Name, TheVariants.{Port, Action}}}
+use Rattle.lft_ir.specs.declared.parts.Trigger.{Trigger, TheVariants.{Startup, Shutdown, Timer, On}}
+use Rattle.lft_ir.specs.declared.steps.row.{Row.Row, Step.{Step, TheVariants.{Schedule, Stop}}}
+use Rattle.lft_tag.specs.{declared.Tag.Tag, Tags.{Before, UpTo, after, after_all}}
 use Rattle.lft_tag.proofs.Order.{order_cases, UpTo-refl, UpTo-trans, UpTo_antisym, Before-UpTo, Before-weaken, UpTo-not, after_past, after_some_past}
 use Rattle.lft_lists.proofs.Members.{Mem, mem_get, get_mem, mem_left, mem_right, mem_cases, mem_filter, mem_from_filter, last_of_mem, LastAt, last_at, nil_of_none, mem_contains, contains_mem}
-use Rattle.lft_ir.specs.Parts.{inputs}
-use Rattle.lft_ir.specs.Origins.{Origin}
-use Rattle.lft_ir.specs.declared.parts.Reaction.{Reaction}
-use Rattle.lft_ir.specs.declared.parts.Value.{Value}
-use Rattle.lft_ir.specs.declared.parts.Name.{Name}
-use Rattle.lft_ir.specs.declared.parts.Name.TheVariants.{Port, Action}
-use Rattle.lft_ir.specs.declared.parts.Trigger.{Trigger}
-use Rattle.lft_ir.specs.declared.parts.Trigger.TheVariants.{Startup, Shutdown, Timer, On}
-use Rattle.lft_ir.specs.declared.steps.row.Row.{Row}
-use Rattle.lft_ir.specs.declared.steps.row.Step.{Step}
-use Rattle.lft_ir.specs.declared.steps.row.Step.TheVariants.{Schedule, Stop}
+use Rattle.lft_lists.proofs.Mapped.{map_same}
 use Rattle.lft_model.specs.Plans.{PlanParts, IsSoundPlan}
-use Rattle.lft_graph.specs.Precedence.{Precedes}
-use Rattle.lft_graph.specs.Precedence.Precedes.{one, more}
 use Rattle.lft_model.specs.Presence.{written, value_written, scheduled, value_scheduled, given, min_delay, events_of, Last, IsWrittenFrom, At, Triggered, Occurs, Shows, Inputs, requests, stop, Collision}
 use Rattle.lft_model.specs.Runs.{Answer, answer_at, request_of, read_of, Ran, steps_of, outcome_of, inputs_of, effects_of, reads_at}
-use Rattle.lft_model.specs.Recorded.{SameHistory, SameRuns, AnswerAlike}
-use Rattle.lft_model.specs.Breaches.{Legal, EndsBefore}
-use Rattle.lft_model.proofs.Places.{tag_discrete}
-use Rattle.lft_model.proofs.Stops.{ask, asker, stop_external, stop_asked, stop_cases}
-use Rattle.lft_model.proofs.Steps.{RowOf, step_mem, request_mem, mem_request, mem_step, scheduled_some}
-use Rattle.lft_model.proofs.Ended.{scheduled_by, by_scheduled, Schedules}
+use Rattle.lft_model.specs.{Recorded.{SameHistory, SameRuns, AnswerAlike}, Breaches.{Legal, EndsBefore}}
+use Rattle.lft_model.proofs.{Places.tag_discrete, Stops.{ask, asker, stop_external, stop_asked, stop_cases}}
+use Rattle.lft_model.proofs.{Steps.{RowOf, step_mem, request_mem, mem_request, mem_step, scheduled_some}, Ended.{scheduled_by, by_scheduled, Schedules}}
 use Rattle.lft_model.proofs.Legality.{KeepsFour, four, ordered, ran_at, Inside, one_start, one_end, in_order_of_precedence, ran_in_time, no_collision}
 use Rattle.lft_model.proofs.Kept.{effect_of, before_direct, write_row, WriteRow, writer_effect, writer_inside, own_last, others_before}
-use Rattle.lft_model.proofs.Reached.{declared_schedule, input_of_trigger}
-use Rattle.lft_model.proofs.Decided.{dec_ran}
-use Rattle.lft_model.proofs.Law.{runs_if_triggered, triggered_if_ran, reads_inputs}
-use Rattle.lft_lists.proofs.Mapped.{map_same}
+use Rattle.lft_model.proofs.{Reached.{declared_schedule, input_of_trigger}, Decided.dec_ran, Law.{runs_if_triggered, triggered_if_ran, reads_inputs}}
+use Rattle.lft_graph.specs.Precedence.{Precedes, Precedes.{one, more}}
 
 -- r ran at h in both traces or in neither, and answered the same
 pub record SameRun (plan : PlanParts) (t s : List Row) (h : Tag) (a : ℕ) : Type 0 where

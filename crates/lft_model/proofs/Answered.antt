@@ -3,21 +3,10 @@ use Rattle.std.proofs.Common.{◌≡◌, ℕ, ◌⊎◌, inl, inr, List, [], ◌
 use Rattle.std.specs.List.{AllZip}
 use Rattle.lft_tag.specs.declared.Tag.{Tag}
 use Rattle.lft_lists.proofs.Members.{Mem, mem_from_filter, mem_contains, contains_mem}
-use Rattle.lft_ir.specs.declared.parts.Value.{Value}
-use Rattle.lft_ir.specs.declared.parts.Name.{Name}
-use Rattle.lft_ir.specs.declared.parts.Name.TheVariants.{Port, Action}
-use Rattle.lft_ir.specs.declared.steps.row.Row.{Row}
-use Rattle.lft_ir.specs.declared.steps.row.Step.{Step}
-use Rattle.lft_ir.specs.declared.steps.row.Step.TheVariants.{Schedule}
-use Rattle.lft_model.specs.Plans.{PlanParts}
-use Rattle.lft_model.specs.Presence.{value_scheduled}
-use Rattle.lft_model.specs.Runs.{steps_of, outcome_of, effects_of, answer_at}
-use Rattle.lft_model.specs.Breaches.{IsUndeclared, MaySchedule}
+use Rattle.lft_ir.specs.declared.{parts.{Value.Value, Name.{Name, TheVariants.{Port, Action}}}, steps.row.{Row.Row, Step.{Step, TheVariants.Schedule}}}
+use Rattle.lft_model.specs.{Plans.PlanParts, Presence.value_scheduled, Runs.{steps_of, outcome_of, effects_of, answer_at}, Breaches.{IsUndeclared, MaySchedule}}
 use Rattle.lft_model.specs.OneWorker.{MayHave}
-use Rattle.lft_model.proofs.Places.{stable, dec_map, dec_both}
-use Rattle.lft_model.proofs.Legality.{KeepsFour, keeps_four}
-use Rattle.lft_model.proofs.Steps.{RowOf, step_mem, scheduled_some}
-use Rattle.lft_model.proofs.Kept.{dec_mem}
+use Rattle.lft_model.proofs.{Places.{stable, dec_map, dec_both}, Legality.{KeepsFour, keeps_four}, Steps.{RowOf, step_mem, scheduled_some}, Kept.dec_mem}
 use Rattle.lft_model.proofs.Decided.{dec_item}
 
 module _ (plan : PlanParts) (t : List Row) (well : KeepsFour plan t) where

@@ -1,37 +1,18 @@
 -- A run that is begun: its start row and its read rows keep a recording so far.
 use Rattle.std.proofs.Common.{◌≡◌, ℕ, zero, suc, ◌+◌, ◌<◌, ◌≤◌, ◌⊎◌, inl, inr, List, [], ◌∷◌, ◌++◌, append-nil, length, take, map, refl, sym, ap, ◌∙◌, subst, arith, Option, Some, None, slice_get, filter_map, option_map, unwrap_or, zip, Contains, true, false, ◌==◌, eq-eqb}
-use Rattle.std.specs.List.{last_or, AllZip}
-use Rattle.std.proofs.Math.Seq.{take-append_seam}
-use Rattle.std.proofs.lemmas.List.Elements.{filter_map-append}
-use Rattle.lft_tag.specs.declared.Tag.{Tag}
-use Rattle.lft_tag.specs.Tags.{Before, UpTo}
-use Rattle.lft_tag.proofs.Order.{UpTo-not}
-use Rattle.lft_lists.proofs.Members.{Mem, mem_get, get_mem, mem_contains, none_nil}
-use Rattle.lft_lists.proofs.Places.{get_left, get_append_cases}
+use Rattle.std.{specs.List.{last_or, AllZip}, proofs.{Math.Seq.take-append_seam, lemmas.List.Elements.filter_map-append}}
+use Rattle.lft_tag.{specs.{declared.Tag.Tag, Tags.{Before, UpTo}}, proofs.Order.UpTo-not}
+use Rattle.lft_lists.proofs.{Members.{Mem, mem_get, get_mem, mem_contains, none_nil}, Places.{get_left, get_append_cases}}
 use Rattle.lft_ir.specs.Parts.{inputs}
-use Rattle.lft_ir.specs.declared.parts.Reaction.{Reaction}
-use Rattle.lft_ir.specs.declared.parts.Value.{Value}
-use Rattle.lft_ir.specs.declared.parts.Name.{Name}
-use Rattle.lft_ir.specs.declared.parts.Name.TheVariants.{Port, Action}
-use Rattle.lft_ir.specs.declared.steps.row.Row.{Row}
-use Rattle.lft_ir.specs.declared.steps.row.Step.{Step}
-use Rattle.lft_ir.specs.declared.steps.row.Step.TheVariants.{Start, Read, Write, Schedule, Stop, End}
-use Rattle.lft_model.specs.Plans.{PlanParts, IsSoundPlan}
-use Rattle.lft_model.specs.Presence.{Inputs, Shows, requests, stop}
+use Rattle.lft_ir.specs.declared.parts.{Reaction.Reaction, Value.Value, Name.{Name, TheVariants.{Port, Action}}}
+use Rattle.lft_ir.specs.declared.steps.row.{Row.Row, Step.{Step, TheVariants.{Start, Read, Write, Schedule, Stop, End}}}
+use Rattle.lft_model.specs.{Plans.{PlanParts, IsSoundPlan}, Presence.{Inputs, Shows, requests, stop}}
 use Rattle.lft_model.specs.Runs.{Run, Ran, start_row, end_row, read_step, value_read, read_of, step_of, steps_of, inputs_of, reads_at, ended_by, by_ends}
-use Rattle.lft_model.specs.Breaches.{IsOpen, IsOutOfOrder, IsUndeclared, WasRead, BreaksRow}
-use Rattle.lft_model.specs.OneWorker.{Ready, Path, NoClash, rows}
+use Rattle.lft_model.specs.{Breaches.{IsOpen, IsOutOfOrder, IsUndeclared, WasRead, BreaksRow}, OneWorker.{Ready, Path, NoClash, rows}}
 use Rattle.lft_model.specs.Recorded.{SoFar, run_row, begun_rows}
-use Rattle.lft_model.proofs.Places.{slice_get_within}
-use Rattle.lft_model.proofs.Stops.{asker, stop_added}
-use Rattle.lft_model.proofs.Legality.{KeepsFour, in_time, ran_at}
-use Rattle.lft_model.proofs.Steps.{step_row, row_step}
-use Rattle.lft_model.proofs.RunSteps.{ReadOf, in_reads, mem_zip}
-use Rattle.lft_model.proofs.Agree.{no_steps}
-use Rattle.lft_model.proofs.Grown.{added_none}
-use Rattle.lft_model.proofs.Blocks.{put_right, two_places, reads_one}
-use Rattle.lft_model.proofs.RowsLegal.{told, last_option, inputs_apart}
-use Rattle.lft_model.proofs.Added.{keeps_added, by_ends_added, so_far_added, AddedRow, added_row, added_in_time}
+use Rattle.lft_model.proofs.{Places.slice_get_within, Stops.{asker, stop_added}, Legality.{KeepsFour, in_time, ran_at}, Steps.{step_row, row_step}}
+use Rattle.lft_model.proofs.{RunSteps.{ReadOf, in_reads, mem_zip}, Agree.no_steps, Grown.added_none, Blocks.{put_right, two_places, reads_one}}
+use Rattle.lft_model.proofs.{RowsLegal.{told, last_option, inputs_apart}, Added.{keeps_added, by_ends_added, so_far_added, AddedRow, added_row, added_in_time}}
 
 -- a start or a read
 abbrev pub IsOpening : Step → Type 0

@@ -1,24 +1,16 @@
 -- The rows of some runs by place: each run has a block of them, from its start row to its end row.
 use Rattle.std.proofs.Common.{◌≡◌, ℕ, zero, suc, ◌+◌, ◌<◌, ◌≤◌, ◌⊎◌, inl, inr, List, [], ◌∷◌, ◌++◌, length, length-append, take, refl, sym, ap, ◌∙◌, subst, arith, Option, Some, None, Bool, true, false, cond, ◌&&◌, ◌==◌, eq-eqb, eqb-true, slice_get, filter_map, flat_map, option_to_list, zip}
-use Rattle.std.specs.List.{cons_option}
-use Rattle.lft_tag.specs.Tags.{same_tag}
+use Rattle.std.{specs.List.cons_option, proofs.lemmas.List.length-map}
+use Rattle.lft_tag.{specs.Tags.same_tag, proofs.Order.{same_tag_refl, same_tag_true}}
 use Rattle.lft_lists.proofs.Members.{Mem, mem_get, get_mem, mem_right, mem_cases, mem_from_map, none_nil, filter_map-map, filter_map-flat_map}
-use Rattle.lft_lists.proofs.Places.{get_append_cases, get_left}
-use Rattle.lft_lists.proofs.Mapped.{mapped, mapped_from}
+use Rattle.lft_lists.proofs.{Places.{get_append_cases, get_left}, Mapped.{mapped, mapped_from}}
 use Rattle.lft_ir.specs.Parts.{Parts}
-use Rattle.lft_ir.specs.declared.parts.Value.{Value}
-use Rattle.lft_ir.specs.declared.parts.Name.{Name}
+use Rattle.lft_ir.specs.declared.{parts.{Value.Value, Name.Name}, steps.row.{Row.Row, Step.{Step, TheVariants.{Start, Read, Write, Schedule, Stop, End}}}}
 use Rattle.lft_ir.specs.Naming.{same_name}
 use Rattle.lft_ir.proofs.Naming.{name_same, name_self}
-use Rattle.lft_ir.specs.declared.steps.row.Row.{Row}
-use Rattle.lft_ir.specs.declared.steps.row.Step.{Step}
-use Rattle.lft_ir.specs.declared.steps.row.Step.TheVariants.{Start, Read, Write, Schedule, Stop, End}
 use Rattle.lft_model.specs.Runs.{Run, inputs_of, read_step, value_read, step_of, closing_steps, steps_of_run, rows_of_run, rows_of}
-use Rattle.lft_model.proofs.Steps.{both_true}
-use Rattle.lft_model.proofs.Counted.{NamesApart}
+use Rattle.lft_model.proofs.{Steps.both_true, Counted.NamesApart}
 use Rattle.lft_model.proofs.RunSteps.{read_part, write_part, schedule_part, in_reads, in_writes, in_schedules, row_with, mem_zip}
-use Rattle.lft_tag.proofs.Order.{same_tag_refl, same_tag_true}
-use Rattle.std.proofs.lemmas.List.{length-map}
 
 -- lists by place
 pub put_right : {X : Type 0} (xs ys : List X) (j : ℕ) (x : X) (i : ℕ) → i ≡ length xs + j → slice_get ys j ≡ Some x → slice_get (xs ++ ys) i ≡ Some x

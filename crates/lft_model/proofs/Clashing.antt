@@ -1,25 +1,15 @@
 -- Where no port and no action of the program has two causes, nothing has.
 use Rattle.std.proofs.Common.{◌≡◌, ℕ, ◌<◌, ◌≤◌, ◌⊎◌, inl, inr, List, [], ◌∷◌, length, sym, subst, arith, refl, Some, filter_map, true, false, IsTrue, ◌↔◌, ◌&&◌, ◌==◌, eqb-true}
-use Rattle.std.proofs.lemmas.Bool.{false≢true}
-use Rattle.lft_tag.specs.declared.Tag.{Tag}
-use Rattle.lft_tag.specs.Tags.{same_tag}
+use Rattle.std.proofs.{lemmas.Bool.false≢true, NetLemmas.Options.cond_some}
+use Rattle.lft_tag.specs.{declared.Tag.Tag, Tags.same_tag}
 use Rattle.lft_lists.proofs.Members.{Mem, get_mem, mem_cases, mem_from_filter}
 use Rattle.lft_ir.proofs.Origins.{origin_within}
 use Rattle.lft_ir.specs.Parts.{Parts}
-use Rattle.lft_ir.specs.declared.parts.Value.{Value}
-use Rattle.lft_ir.specs.declared.parts.Name.{Name}
-use Rattle.lft_ir.specs.declared.parts.Name.TheVariants.{Port, Action}
-use Rattle.lft_ir.specs.declared.steps.row.Row.{Row}
-use Rattle.lft_ir.specs.declared.steps.row.Step.{Step}
-use Rattle.lft_ir.specs.declared.steps.row.Step.TheVariants.{Schedule}
-use Rattle.lft_ir.specs.declared.steps.externals.Event.{Event}
+use Rattle.lft_ir.specs.declared.parts.{Value.Value, Name.{Name, TheVariants.{Port, Action}}}
+use Rattle.lft_ir.specs.declared.steps.{row.{Row.Row, Step.{Step, TheVariants.Schedule}}, externals.Event.Event}
 use Rattle.lft_ir.specs.Steps.Fits.{ExternalsFit, StepFits}
-use Rattle.lft_model.specs.Fitting.{EachFits}
-use Rattle.lft_model.specs.Plans.{PlanParts}
-use Rattle.lft_model.specs.Presence.{scheduled, given, min_delay, events_of, PortClash, ClashesAt, Collision}
-use Rattle.lft_model.proofs.Steps.{both_true, scheduled_some}
-use Rattle.lft_model.proofs.Ended.{Schedules, scheduled_by}
-use Rattle.std.proofs.NetLemmas.Options.{cond_some}
+use Rattle.lft_model.specs.{Fitting.EachFits, Plans.PlanParts, Presence.{scheduled, given, min_delay, events_of, PortClash, ClashesAt, Collision}}
+use Rattle.lft_model.proofs.{Steps.{both_true, scheduled_some}, Ended.{Schedules, scheduled_by}}
 
 -- a step of the program that schedules an action names one of the program's
 step_within : (program : Parts) (s : Step) (a extra : ℕ) (v : Value) → StepFits program s → s ≡ Schedule (Action a) v extra → a < length program.actions

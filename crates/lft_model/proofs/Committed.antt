@@ -1,32 +1,16 @@
 -- A run that is committed: its step rows and its end row keep a recording so far.
 use Rattle.std.proofs.Common.{◌≡◌, ℕ, zero, suc, ◌+◌, ◌<◌, ◌≤◌, ◌⊎◌, inl, inr, List, [], ◌∷◌, ◌++◌, length, take, map, refl, sym, ap, ◌∙◌, subst, arith, Option, Some, None, slice_get, filter_map}
-use Rattle.std.specs.List.{last_or}
-use Rattle.std.proofs.lemmas.List.Elements.{filter_map-append}
+use Rattle.std.{specs.List.last_or, proofs.lemmas.List.Elements.filter_map-append}
 use native.Mathlib.Decide.{ℕ_discrete, dec_lt}
-use Rattle.lft_tag.specs.declared.Tag.{Tag}
-use Rattle.lft_tag.specs.Tags.{Before, UpTo, after}
-use Rattle.lft_tag.proofs.Order.{UpTo-not, UpTo-trans, UpTo-Before, Before-weaken, after_past}
-use Rattle.lft_lists.proofs.Members.{Mem, mem_get, mem_cases, mem_from_map, mem_from_filter, none_nil, last-append_nil}
-use Rattle.lft_lists.proofs.Places.{get_left, get_append_cases}
-use Rattle.lft_ir.specs.declared.parts.Value.{Value}
-use Rattle.lft_ir.specs.declared.parts.Name.{Name}
-use Rattle.lft_ir.specs.declared.steps.row.Row.{Row}
-use Rattle.lft_ir.specs.declared.steps.row.Step.{Step}
-use Rattle.lft_ir.specs.declared.steps.row.Step.TheVariants.{Start, Read, Write, Schedule, Stop, End}
-use Rattle.lft_model.specs.Plans.{PlanParts, IsSoundPlan}
-use Rattle.lft_model.specs.Presence.{Inputs, requests, stop}
+use Rattle.lft_tag.{specs.{declared.Tag.Tag, Tags.{Before, UpTo, after}}, proofs.Order.{UpTo-not, UpTo-trans, UpTo-Before, Before-weaken, after_past}}
+use Rattle.lft_lists.proofs.{Members.{Mem, mem_get, mem_cases, mem_from_map, mem_from_filter, none_nil, last-append_nil}, Places.{get_left, get_append_cases}}
+use Rattle.lft_ir.specs.declared.{parts.{Value.Value, Name.Name}, steps.row.{Row.Row, Step.{Step, TheVariants.{Start, Read, Write, Schedule, Stop, End}}}}
+use Rattle.lft_model.specs.{Plans.{PlanParts, IsSoundPlan}, Presence.{Inputs, requests, stop}}
 use Rattle.lft_model.specs.Runs.{Run, start_row, end_row, value_read, read_of, step_of, steps_of, inputs_of, reads_at, run_at, ended_by, by_ends}
-use Rattle.lft_model.specs.Breaches.{IsOpen, IsOutOfOrder, IsUndeclared, BreaksRow}
-use Rattle.lft_model.specs.OneWorker.{Ready, Next, Path, NoClash, rows}
+use Rattle.lft_model.specs.{Breaches.{IsOpen, IsOutOfOrder, IsUndeclared, BreaksRow}, OneWorker.{Ready, Next, Path, NoClash, rows}}
 use Rattle.lft_model.specs.Recorded.{SoFar, MayAnswer, run_row, committed_rows}
-use Rattle.lft_model.proofs.Places.{slice_get_within}
-use Rattle.lft_model.proofs.Stops.{asker, stop_added}
-use Rattle.lft_model.proofs.Legality.{KeepsFour, in_time, opened, one_starter}
-use Rattle.lft_model.proofs.Steps.{step_row}
-use Rattle.lft_model.proofs.Ended.{all_ended, stop_down}
-use Rattle.lft_model.proofs.Law.{EndRow}
-use Rattle.lft_model.proofs.Answered.{answers_well}
-use Rattle.lft_model.proofs.Recording.{rows_up_to, open_ready_now, none_after_end}
+use Rattle.lft_model.proofs.{Places.slice_get_within, Stops.{asker, stop_added}, Legality.{KeepsFour, in_time, opened, one_starter}, Steps.step_row}
+use Rattle.lft_model.proofs.{Ended.{all_ended, stop_down}, Law.EndRow, Answered.answers_well, Recording.{rows_up_to, open_ready_now, none_after_end}}
 use Rattle.lft_model.proofs.Added.{keeps_added, by_ends_added, so_far_added, path_added, AddedRow, added_row, added_in_time}
 
 -- the open run of r at g by worker w, with steps that r may make

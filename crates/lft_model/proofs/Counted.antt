@@ -1,22 +1,14 @@
 -- The ended runs schedule no more events than the trace does: each row belongs to one run.
 use Rattle.std.proofs.Common.{◌≡◌, ◌≢◌, ℕ, zero, suc, ◌+◌, ◌<◌, ◌≤◌, ◌⊎◌, inl, inr, List, [], ◌∷◌, ◌++◌, length, length-append, map, refl, sym, ap, ◌∙◌, subst, arith, Bool, true, false, cond, ◌&&◌, ◌==◌, eqb-true, eq-eqb, ne_eqb, Option, Some, None, slice_get, filter_map, flat_map, option_and_then, AllPairs, get_or}
-use Rattle.std.specs.List.{cons_option, zip}
-use Rattle.std.proofs.lemmas.List.Elements.{filter_map-append}
+use Rattle.std.{specs.List.{cons_option, zip}, proofs.lemmas.List.Elements.filter_map-append}
 use native.Mathlib.Decide.{ℕ_discrete}
-use Rattle.lft_tag.specs.declared.Tag.{Tag}
-use Rattle.lft_tag.specs.Tags.{same_tag, after}
+use Rattle.lft_tag.{specs.{declared.Tag.Tag, Tags.{same_tag, after}}, proofs.Order.{same_tag_refl, same_tag_true}}
 use Rattle.lft_lists.proofs.Members.{Mem, mem_get, get_mem, mem_from_filter, none_nil, zip-map, filter_map-flat_map, filter_map-map, filter_map-filter_map}
-use Rattle.lft_ir.specs.declared.parts.Value.{Value}
-use Rattle.lft_ir.specs.declared.parts.Name.{Name}
-use Rattle.lft_ir.specs.declared.parts.Name.TheVariants.{Port, Action}
-use Rattle.lft_ir.specs.declared.steps.row.Row.{Row}
-use Rattle.lft_ir.specs.declared.steps.row.Step.{Step}
-use Rattle.lft_ir.specs.declared.steps.row.Step.TheVariants.{Start, Read, Write, Schedule, Stop, End}
-use Rattle.lft_model.specs.Plans.{PlanParts}
-use Rattle.lft_model.specs.Presence.{scheduled, value_scheduled}
+use Rattle.lft_ir.specs.declared.parts.{Value.Value, Name.{Name, TheVariants.{Port, Action}}}
+use Rattle.lft_ir.specs.declared.steps.row.{Row.Row, Step.{Step, TheVariants.{Start, Read, Write, Schedule, Stop, End}}}
+use Rattle.lft_model.specs.{Plans.PlanParts, Presence.{scheduled, value_scheduled}}
 use Rattle.lft_model.specs.Runs.{Run, Outcome, inputs_of, effects_of, reads_at, run_at, ended_by, by_ends, rows_of_run, rows_of, read_step, write_step, step_of, steps_of, outcome_of, schedule_steps, closing_steps, request_of}
 use Rattle.lft_model.proofs.Steps.{in_reads, in_writes, both_true, some_scheduled}
-use Rattle.lft_tag.proofs.Order.{same_tag_refl, same_tag_true}
 
 abbrev pub Key : Type 0
 Key = Tag × ℕ

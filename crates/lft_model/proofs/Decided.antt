@@ -1,32 +1,17 @@
 -- What is present at a tag can be decided, and so can what is triggered and read there.
 use Rattle.std.proofs.Common.{◌≡◌, ℕ, suc, ◌+◌, ◌*◌, ◌<◌, ◌≤◌, List, [], ◌∷◌, length, refl, sym, ap, ◌∙◌, subst, arith, Option, Some, None, slice_get, filter_map}
-use Rattle.std.specs.List.{last_or, AllZip}
-use Rattle.std.proofs.Math.Nat.{mul-le-mul_left}
-use Rattle.std.proofs.Math.IntN.{ℤ_discrete}
+use Rattle.std.{specs.List.{last_or, AllZip}, proofs.Math.{Nat.mul-le-mul_left, IntN.ℤ_discrete}}
 use native.Mathlib.Decide.{ℕ_discrete}
 use Rattle.lft_ir.proofs.Origins.{origin_unique}
-use Rattle.lft_tag.specs.declared.Tag.{Tag}
-use Rattle.lft_tag.specs.Tags.{after_all}
-use Rattle.lft_lists.proofs.Members.{mem_get, get_mem, last_mem, mem_from_filter, mem_contains, contains_mem}
-use Rattle.lft_ir.specs.Parts.{Parts, inputs}
-use Rattle.lft_ir.specs.Sound.{IsSound}
-use Rattle.lft_ir.specs.Origins.{Origin}
-use Rattle.lft_ir.specs.Origins.Origin.{itself, over}
-use Rattle.lft_ir.specs.declared.parts.Port.{Port as PortOf}
-use Rattle.lft_ir.specs.declared.parts.Timer.{Timer as TimerOf}
-use Rattle.lft_ir.specs.declared.parts.Reaction.{Reaction}
-use Rattle.lft_ir.specs.declared.parts.Value.{Value}
-use Rattle.lft_ir.specs.declared.parts.Value.TheVariants.{Bare, Int}
-use Rattle.lft_ir.specs.declared.parts.Name.{Name}
-use Rattle.lft_ir.specs.declared.parts.Name.TheVariants.{Port, Action}
-use Rattle.lft_ir.specs.declared.parts.Trigger.{Trigger}
-use Rattle.lft_ir.specs.declared.parts.Trigger.TheVariants.{Startup, Shutdown, Timer, On}
+use Rattle.lft_ir.specs.{Parts.{Parts, inputs}, Sound.IsSound, Origins.{Origin, Origin.{itself, over}}}
+use Rattle.lft_ir.specs.declared.parts.{Port.Port as PortOf, Timer.Timer as TimerOf, Reaction.Reaction, Value.{Value, TheVariants.{Bare, Int}}}
+use Rattle.lft_ir.specs.declared.parts.{Name.{Name, TheVariants.{Port, Action}}, Trigger.{Trigger, TheVariants.{Startup, Shutdown, Timer, On}}}
 use Rattle.lft_ir.specs.declared.steps.row.Row.{Row}
-use Rattle.lft_model.specs.Plans.{PlanParts}
-use Rattle.lft_model.specs.Presence.{written, Fires, events_of, Last, At, IsPresent, Triggered, Occurs, Shows, Inputs, stop}
+use Rattle.lft_tag.specs.{declared.Tag.Tag, Tags.after_all}
+use Rattle.lft_lists.proofs.Members.{mem_get, get_mem, last_mem, mem_from_filter, mem_contains, contains_mem}
+use Rattle.lft_model.specs.{Plans.PlanParts, Presence.{written, Fires, events_of, Last, At, IsPresent, Triggered, Occurs, Shows, Inputs, stop}}
 use Rattle.lft_model.specs.Runs.{Ran, start_row}
-use Rattle.lft_model.proofs.Places.{dec_map, dec_both, dec_not, dec_below, tag_discrete, slice_get_within, dec_row, dec_start}
-use Rattle.lft_model.proofs.Ended.{written_by}
+use Rattle.lft_model.proofs.{Places.{dec_map, dec_both, dec_not, dec_below, tag_discrete, slice_get_within, dec_row, dec_start}, Ended.written_by}
 
 pub value_discrete : (v w : Value) → Dec (v ≡ w)
 value_discrete Bare Bare = yes refl

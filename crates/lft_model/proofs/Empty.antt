@@ -1,20 +1,11 @@
 -- No rows are a recording so far.
 use Rattle.std.proofs.Common.{◌≡◌, ℕ, suc, ◌<◌, ◌≤◌, ◌⊎◌, inl, inr, List, [], ◌∷◌, length, refl, sym, subst, arith, Option, Some, None, ◌&&◌, ◌==◌, eqb-true, slice_get, filter_map, get_or}
-use Rattle.std.specs.List.{cons_option}
-use Rattle.lft_tag.specs.declared.Tag.{Tag}
-use Rattle.lft_tag.specs.Tags.{Before, same_tag}
-use Rattle.lft_tag.proofs.Order.{Before-irrefl, same_tag_true}
+use Rattle.std.{specs.List.cons_option, proofs.NetLemmas.Options.cond_some}
+use Rattle.lft_tag.{specs.{declared.Tag.Tag, Tags.{Before, same_tag}}, proofs.Order.{Before-irrefl, same_tag_true}}
 use Rattle.lft_lists.proofs.Members.{Mem, get_mem, mem_from_filter}
-use Rattle.lft_ir.specs.declared.parts.Value.{Value}
-use Rattle.lft_ir.specs.declared.parts.Name.{Name}
-use Rattle.lft_ir.specs.declared.parts.Name.TheVariants.{Port, Action}
-use Rattle.lft_ir.specs.declared.steps.externals.Event.{Event}
-use Rattle.lft_model.specs.Plans.{PlanParts, IsSoundPlan}
-use Rattle.lft_model.specs.Presence.{given, Collision, ClashesAt}
-use Rattle.lft_model.specs.Recorded.{SoFar}
-use Rattle.lft_model.proofs.Steps.{both_true}
-use Rattle.lft_model.proofs.Counted.{get_or_get}
-use Rattle.std.proofs.NetLemmas.Options.{cond_some}
+use Rattle.lft_ir.specs.declared.{parts.{Value.Value, Name.{Name, TheVariants.{Port, Action}}}, steps.externals.Event.Event}
+use Rattle.lft_model.specs.{Plans.{PlanParts, IsSoundPlan}, Presence.{given, Collision, ClashesAt}, Recorded.SoFar}
+use Rattle.lft_model.proofs.{Steps.both_true, Counted.get_or_get}
 
 -- two places of a list at which a filter keeps the items
 record TwoKept {X Y : Type 0} (f : X → Option Y) (xs : List X) : Type 0 where

@@ -1,24 +1,16 @@
 -- The rows of the runs that ended before a place of a trace, beside the trace itself.
 use Rattle.std.proofs.Common.{◌≡◌, ℕ, ◌+◌, ◌<◌, ◌⊎◌, inl, inr, List, length, take, refl, sym, ap, ◌∙◌, subst, arith, Option, Some, None, Bool, true, false, cond, slice_get, filter_map, option_and_then}
-use Rattle.std.specs.List.{last_or}
-use Rattle.std.proofs.lemmas.List.{take_all}
-use Rattle.lft_tag.specs.declared.Tag.{Tag}
-use Rattle.lft_tag.specs.Tags.{UpTo, same_tag, after}
+use Rattle.std.{specs.List.last_or, proofs.lemmas.List.take_all}
+use Rattle.lft_tag.{specs.{declared.Tag.Tag, Tags.{UpTo, same_tag, after}}, proofs.Order.{same_tag_refl, same_tag_true}}
 use Rattle.lft_lists.proofs.Members.{Mem, mem_get, get_mem, mem_left, mem_right, mem_cases, mem_map, mem_from_map, mem_filter, mem_from_filter, mem_flat, mem_from_flat, last_mem, last_of_mem, mem_contains, contains_mem}
-use Rattle.lft_ir.specs.declared.parts.Value.{Value}
-use Rattle.lft_ir.specs.declared.parts.Name.{Name}
-use Rattle.lft_ir.specs.declared.parts.Name.TheVariants.{Port, Action}
-use Rattle.lft_ir.specs.declared.steps.row.Row.{Row}
-use Rattle.lft_ir.specs.declared.steps.row.Step.{Step}
-use Rattle.lft_ir.specs.declared.steps.row.Step.TheVariants.{Start, Read, Write, Schedule, Stop, End}
+use Rattle.lft_ir.specs.declared.parts.{Value.Value, Name.{Name, TheVariants.{Port, Action}}}
+use Rattle.lft_ir.specs.declared.steps.row.{Row.Row, Step.{Step, TheVariants.{Start, Read, Write, Schedule, Stop, End}}}
 use Rattle.lft_model.specs.Plans.{PlanParts}
 use Rattle.lft_model.specs.Presence.{written, value_written, scheduled, value_scheduled, given, min_delay, events_of, Last, IsWrittenFrom, IsPresent, asked, requests, stop}
 use Rattle.lft_model.specs.Runs.{Run, end_row, steps_of, effects_of, reads_at, run_at, ended_by, by_ends, steps_of_run, rows_of_run, rows_of}
-use Rattle.lft_model.proofs.Places.{slice_get_take, slice_get_taken}
-use Rattle.lft_model.proofs.Stops.{ask, asked_some, stop_more}
+use Rattle.lft_model.proofs.{Places.{slice_get_take, slice_get_taken}, Stops.{ask, asked_some, stop_more}}
 use Rattle.lft_model.proofs.Steps.{OwnStep, own_step, RowOf, step_mem, written_some, some_written, scheduled_some}
 use Rattle.lft_model.proofs.Steps.OwnStep.{starts, reads, writes, schedules, stops, ends}
-use Rattle.lft_tag.proofs.Order.{same_tag_refl, same_tag_true}
 
 -- the runs of t that ended before place i
 abbrev pub ended_before : PlanParts → List Row → ℕ → List Run

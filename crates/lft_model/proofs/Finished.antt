@@ -2,34 +2,21 @@
 use Rattle.std.proofs.Common.{◌≡◌, ℕ, ◌+◌, ◌<◌, ◌≤◌, ◌⊎◌, inl, inr, List, [], ◌∷◌, ◌++◌, length, length-append, refl, sym, ap, ◌∙◌, subst, arith, Option, Some, None, slice_get, filter_map, Bool, true, false, cond, ◌==◌, eqb-true}
 use Rattle.std.specs.List.{AllZip}
 use Rattle.lft_ir.proofs.Origins.{origin_unique}
-use Rattle.lft_tag.specs.declared.Tag.{Tag}
-use Rattle.lft_tag.specs.Tags.{UpTo, same_tag}
-use Rattle.lft_lists.proofs.Members.{Mem, mem_get, get_mem, mem_left, mem_right, mem_cases, mem_filter, mem_from_filter, last_at, none_nil, mem_contains, contains_mem}
 use Rattle.lft_ir.specs.Parts.{inputs}
-use Rattle.lft_ir.specs.declared.parts.Value.{Value}
-use Rattle.lft_ir.specs.declared.parts.Name.{Name}
-use Rattle.lft_ir.specs.declared.parts.Name.TheVariants.{Port, Action}
-use Rattle.lft_ir.specs.declared.parts.Trigger.{Trigger}
-use Rattle.lft_ir.specs.declared.parts.Trigger.TheVariants.{Startup, Shutdown, Timer, On}
-use Rattle.lft_ir.specs.declared.steps.row.Row.{Row}
-use Rattle.lft_ir.specs.declared.steps.row.Step.{Step}
-use Rattle.lft_ir.specs.declared.steps.row.Step.TheVariants.{Start, Schedule, End}
+use Rattle.lft_ir.specs.declared.parts.{Value.Value, Name.{Name, TheVariants.{Port, Action}}, Trigger.{Trigger, TheVariants.{Startup, Shutdown, Timer, On}}}
+use Rattle.lft_ir.specs.declared.steps.row.{Row.Row, Step.{Step, TheVariants.{Start, Schedule, End}}}
+use Rattle.lft_tag.specs.{declared.Tag.Tag, Tags.{UpTo, same_tag}}
+use Rattle.lft_lists.proofs.Members.{Mem, mem_get, get_mem, mem_left, mem_right, mem_cases, mem_filter, mem_from_filter, last_at, none_nil, mem_contains, contains_mem}
 use Rattle.lft_model.specs.Plans.{PlanParts, IsSoundPlan}
 use Rattle.lft_model.specs.Presence.{written, scheduled, value_scheduled, given, min_delay, events_of, Last, IsWrittenFrom, At, Triggered, Occurs, Shows, Inputs, stop, Collision, ClashesAt}
 use Rattle.lft_model.specs.Runs.{Run, Ran, start_row, end_row, steps_of, effects_of, reads_at, run_at, ended_by, by_ends, rows_of_run, rows_of}
-use Rattle.lft_model.specs.Breaches.{BreaksRow, BreaksTag, BreaksAt, IsUnended, IsTooEarly, Legal}
-use Rattle.lft_model.specs.OneWorker.{HasRun, IsPending, rows}
-use Rattle.lft_model.specs.Recorded.{SoFar}
-use Rattle.lft_model.proofs.Places.{slice_get_within, filter_map_get}
-use Rattle.lft_model.specs.Recorded.{IsAnswer}
-use Rattle.lft_model.proofs.Legality.{KeepsRows, IsOrdered, Inside, told_all, ran_at}
+use Rattle.lft_model.specs.{Breaches.{BreaksRow, BreaksTag, BreaksAt, IsUnended, IsTooEarly, Legal}, OneWorker.{HasRun, IsPending, rows}}
+use Rattle.lft_model.specs.Recorded.{SoFar, IsAnswer}
+use Rattle.lft_model.proofs.{Places.{slice_get_within, filter_map_get}, Legality.{KeepsRows, IsOrdered, Inside, told_all, ran_at}}
 use Rattle.lft_model.proofs.Steps.{own_schedule, mem_step, scheduled_some, some_scheduled, both_true}
 use Rattle.lft_model.proofs.Ended.{ended_before, all_ended, ended_some, row_own, scheduled_by, by_scheduled, Schedules, written_down, events_down, row_is}
-use Rattle.lft_model.proofs.Kept.{dec_mem, writer_inside, last_kept}
-use Rattle.lft_model.proofs.Reached.{declared_schedule, all_stop}
-use Rattle.lft_model.proofs.Counted.{only, of_run, count, end_key, run_cover, rows_cover}
-use Rattle.lft_model.proofs.Law.{end_of_run, run_of_end}
-use Rattle.lft_model.proofs.Paths.{triggered_kept, inputs_kept}
+use Rattle.lft_model.proofs.{Kept.{dec_mem, writer_inside, last_kept}, Reached.{declared_schedule, all_stop}}
+use Rattle.lft_model.proofs.{Counted.{only, of_run, count, end_key, run_cover, rows_cover}, Law.{end_of_run, run_of_end}, Paths.{triggered_kept, inputs_kept}}
 use Rattle.lft_model.proofs.Recording.{recorded_in_order}
 
 -- where all runs have ended, the ended runs show what the trace shows

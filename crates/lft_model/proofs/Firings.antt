@@ -1,8 +1,7 @@
 -- Whether a timer fires at a tag.
 use Rattle.std.proofs.Common.{◌≡◌, ℕ, ◌+◌, ◌-◌, ◌*◌, ◌/◌, ◌%◌, ◌<◌, ◌≤◌, refl, ap, ◌∙◌, subst, arith}
 use Rattle.std.proofs.lemmas.Nat.{div-add-mod', mod-mul-add}
-use Rattle.lft_tag.specs.declared.Tag.{Tag}
-use Rattle.lft_tag.proofs.Chains.{tag_of}
+use Rattle.lft_tag.{specs.declared.Tag.Tag, proofs.Chains.tag_of}
 use Rattle.lft_ir.specs.declared.parts.Timer.{Timer as TimerOf}
 use Rattle.lft_model.specs.Presence.{Fires}
 

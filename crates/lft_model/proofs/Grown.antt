@@ -1,36 +1,20 @@
 -- What further runs leave as it was: what is present, triggered and read at a tag, where no further run is earlier or precedes the reaction there.
 use Rattle.std.proofs.Common.{◌≡◌, ℕ, zero, suc, ◌+◌, ◌⊎◌, inl, inr, List, [], ◌∷◌, ◌++◌, refl, sym, ap, ◌∙◌, subst, Option, Some, None, slice_get, filter_map, Contains}
-use Rattle.std.specs.List.{last_or, cons_option, AllZip}
-use Rattle.std.proofs.lemmas.Grind.{flat_map-append}
-use Rattle.lft_tag.specs.declared.Tag.{Tag}
-use Rattle.lft_tag.specs.Tags.{Before, UpTo, after, after_all}
+use Rattle.std.{specs.List.{last_or, cons_option, AllZip}, proofs.lemmas.Grind.flat_map-append}
+use Rattle.lft_tag.specs.{declared.Tag.Tag, Tags.{Before, UpTo, after, after_all}}
 use Rattle.lft_tag.proofs.Order.{order_cases, UpTo-refl, UpTo-trans, UpTo-Before, UpTo_antisym, Before-weaken, UpTo-not, Before-irrefl, after_past, after_some_past}
-use Rattle.lft_lists.proofs.Members.{Mem, mem_get, none_nil, mem_contains}
-use Rattle.lft_lists.proofs.Places.{get_left}
-use Rattle.lft_ir.specs.Parts.{Parts, inputs}
-use Rattle.lft_ir.specs.Origins.{Origin}
-use Rattle.lft_ir.specs.declared.parts.Reaction.{Reaction}
-use Rattle.lft_ir.specs.declared.parts.Value.{Value}
-use Rattle.lft_ir.specs.declared.parts.Name.{Name}
-use Rattle.lft_ir.specs.declared.parts.Name.TheVariants.{Port, Action}
-use Rattle.lft_ir.specs.declared.parts.Trigger.{Trigger}
-use Rattle.lft_ir.specs.declared.parts.Trigger.TheVariants.{Startup, Shutdown, Timer, On}
-use Rattle.lft_ir.specs.declared.steps.row.Row.{Row}
-use Rattle.lft_ir.specs.declared.steps.row.Step.TheVariants.{Start, Read, Write, Schedule, Stop, End}
+use Rattle.lft_lists.proofs.{Members.{Mem, mem_get, none_nil, mem_contains}, Places.get_left}
+use Rattle.lft_ir.specs.{Parts.{Parts, inputs}, Origins.Origin}
+use Rattle.lft_ir.specs.declared.parts.{Reaction.Reaction, Value.Value, Name.{Name, TheVariants.{Port, Action}}}
+use Rattle.lft_ir.specs.declared.parts.Trigger.{Trigger, TheVariants.{Startup, Shutdown, Timer, On}}
+use Rattle.lft_ir.specs.declared.steps.row.{Row.Row, Step.TheVariants.{Start, Read, Write, Schedule, Stop, End}}
 use Rattle.lft_model.specs.Plans.{PlanParts, IsSoundPlan}
-use Rattle.lft_graph.specs.Precedence.{Precedes}
-use Rattle.lft_graph.specs.Precedence.Precedes.{one, more}
 use Rattle.lft_model.specs.Presence.{written, scheduled, given, min_delay, events_of, At, Triggered, Occurs, Shows, Inputs, requests, stop}
-use Rattle.lft_model.specs.Runs.{Run, effects_of, rows_of_run, rows_of}
-use Rattle.lft_model.specs.Runs.Outcome.{Written}
-use Rattle.lft_model.specs.OneWorker.{HasRun, IsPending, Ready, rows}
-use Rattle.lft_model.proofs.Stops.{asker, stop_append, stop_added}
-use Rattle.lft_model.proofs.Steps.{written_some}
-use Rattle.lft_model.proofs.Ended.{written_by, scheduled_by, Schedules}
-use Rattle.lft_model.proofs.Kept.{effect_of}
+use Rattle.lft_model.specs.{Runs.{Run, effects_of, rows_of_run, rows_of, Outcome.Written}, OneWorker.{HasRun, IsPending, Ready, rows}}
+use Rattle.lft_model.proofs.{Stops.{asker, stop_append, stop_added}, Steps.written_some, Ended.{written_by, scheduled_by, Schedules}, Kept.effect_of}
 use Rattle.lft_model.proofs.Reached.{input_of_trigger}
-use Rattle.lft_model.proofs.RunSteps.{StepOf, step_of_run, RowOfRun, in_rows, mem_zip}
-use Rattle.lft_model.proofs.RunSteps.StepOf.{starts, reads, writes, schedules, stops, ends}
+use Rattle.lft_model.proofs.RunSteps.{StepOf, step_of_run, RowOfRun, in_rows, mem_zip, StepOf.{starts, reads, writes, schedules, stops, ends}}
+use Rattle.lft_graph.specs.Precedence.{Precedes, Precedes.{one, more}}
 
 pub precedes_trans : {program : Parts} {a b c : ℕ} → Precedes program a b → Precedes program b c → Precedes program a c
 precedes_trans (one d) q = more d q

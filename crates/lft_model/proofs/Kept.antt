@@ -4,26 +4,17 @@ use Rattle.std.specs.List.{last_or}
 use native.Mathlib.Decide.{ℕ_discrete, dec_lt}
 use Rattle.lft_tag.specs.declared.Tag.{Tag}
 use Rattle.lft_lists.proofs.Members.{Mem, mem_map, mem_from_map, mem_filter, mem_from_filter, last_same, LastAt, last_by_place, last_flat, filter_map-flat_map, filter_map-filter_map, flat_map-filter_map, of_option, nil_of_none, mem_contains, contains_mem}
-use Rattle.lft_ir.specs.Parts.{Parts}
-use Rattle.lft_ir.specs.Sound.{IsSound}
-use Rattle.lft_ir.specs.declared.parts.Reaction.{Reaction}
-use Rattle.lft_ir.specs.declared.parts.Value.{Value}
-use Rattle.lft_ir.specs.declared.parts.Name.{Name}
-use Rattle.lft_ir.specs.declared.parts.Name.TheVariants.{Port, Action}
-use Rattle.lft_ir.specs.declared.steps.row.Row.{Row}
-use Rattle.lft_ir.specs.declared.steps.row.Step.{Step}
-use Rattle.lft_ir.specs.declared.steps.row.Step.TheVariants.{Start, Read, Write, Schedule, Stop, End}
-use Rattle.lft_model.specs.Plans.{PlanParts}
-use Rattle.lft_graph.specs.Precedence.{Direct}
-use Rattle.lft_graph.specs.Precedence.Precedes.{one}
-use Rattle.lft_model.specs.Presence.{written, value_written, Last}
+use Rattle.lft_ir.specs.{Parts.Parts, Sound.IsSound}
+use Rattle.lft_ir.specs.declared.parts.{Reaction.Reaction, Value.Value, Name.{Name, TheVariants.{Port, Action}}}
+use Rattle.lft_ir.specs.declared.steps.row.{Row.Row, Step.{Step, TheVariants.{Start, Read, Write, Schedule, Stop, End}}}
+use Rattle.lft_model.specs.{Plans.PlanParts, Presence.{written, value_written, Last}}
 use Rattle.lft_model.specs.Runs.{Run, Ran, end_row, step_of, steps_of, effects_of, reads_at, run_at, ended_by, steps_of_run, rows_of_run, rows_of}
-use Rattle.lft_model.specs.Breaches.{EndsBefore, IsUndeclared}
+use Rattle.lft_model.specs.{Breaches.{EndsBefore, IsUndeclared}, Recorded.IsAnswer}
 use Rattle.lft_model.proofs.Places.{stable, dec_map, slice_get_take, slice_get_taken}
 use Rattle.lft_model.proofs.Steps.{own_step, own_write, RowOf, step_row, row_step, written_some, some_written}
 use Rattle.lft_model.proofs.Ended.{ended_before, row_is, wrote_step, row_of_write, written_by, by_written}
-use Rattle.lft_model.specs.Recorded.{IsAnswer}
 use Rattle.lft_model.proofs.Legality.{IsOrdered, Inside, one_start, one_end, keeps_four}
+use Rattle.lft_graph.specs.Precedence.{Direct, Precedes.one}
 
 pub name_discrete : (m n : Name) → Dec (m ≡ n)
 name_discrete (Port p) (Port q) = dec_map (λ e. ap Port e) (λ e. cc) (ℕ_discrete p q)

@@ -1,29 +1,20 @@
 -- A legal trace is an execution by one worker in order of its ends.
 use Rattle.std.proofs.Common.{◌≡◌, ℕ, zero, suc, ◌+◌, ◌<◌, ◌≤◌, ◌⊎◌, inl, inr, List, [], ◌∷◌, ◌++◌, length, length-append, take, refl, sym, ap, ◌∙◌, subst, arith, Option, Some, None, slice_get, filter_map, option_map, unwrap_or}
 use Rattle.std.specs.List.{cons_option}
-use Rattle.lft_tag.specs.declared.Tag.{Tag}
-use Rattle.lft_tag.specs.Tags.{Before, UpTo}
-use Rattle.lft_tag.proofs.Order.{order_cases, UpTo-trans, UpTo-refl, Before-weaken}
+use Rattle.lft_tag.{specs.{declared.Tag.Tag, Tags.{Before, UpTo}}, proofs.Order.{order_cases, UpTo-trans, UpTo-refl, Before-weaken}}
 use Rattle.lft_lists.proofs.Members.{Mem, mem_get, get_mem, mem_filter, mem_from_filter}
-use Rattle.lft_ir.specs.declared.parts.Reaction.{Reaction}
-use Rattle.lft_ir.specs.declared.parts.Name.{Name}
-use Rattle.lft_ir.specs.declared.parts.Name.TheVariants.{Port, Action}
-use Rattle.lft_ir.specs.declared.steps.row.Row.{Row}
-use Rattle.lft_ir.specs.declared.steps.row.Step.{Step}
-use Rattle.lft_ir.specs.declared.steps.row.Step.TheVariants.{Start, Read, Write, Schedule, Stop, End}
-use Rattle.lft_model.specs.Plans.{PlanParts, IsSoundPlan}
-use Rattle.lft_graph.specs.Precedence.{Precedes}
-use Rattle.lft_model.specs.Presence.{stop, scheduled, given, min_delay, Triggered, Inputs, Collision, ClashesAt}
-use Rattle.lft_model.specs.Runs.{Run, Ran, end_row, effects_of, reads_at, run_at, ended_by, by_ends, rows_of}
-use Rattle.lft_model.specs.Breaches.{Legal}
+use Rattle.lft_ir.specs.declared.parts.{Reaction.Reaction, Name.{Name, TheVariants.{Port, Action}}}
+use Rattle.lft_ir.specs.declared.steps.row.{Row.Row, Step.{Step, TheVariants.{Start, Read, Write, Schedule, Stop, End}}}
+use Rattle.lft_model.specs.{Plans.{PlanParts, IsSoundPlan}, Presence.{stop, scheduled, given, min_delay, Triggered, Inputs, Collision, ClashesAt}}
+use Rattle.lft_model.specs.{Runs.{Run, Ran, end_row, effects_of, reads_at, run_at, ended_by, by_ends, rows_of}, Breaches.Legal}
 use Rattle.lft_model.specs.OneWorker.{HasRun, IsPending, Ready, Next, Path, NoClash, OneWorker, rows}
 use Rattle.lft_model.proofs.Places.{slice_get_within, stable, slice_get_take, slice_get_taken, From, filter_map_get}
 use Rattle.lft_model.proofs.Ended.{ended_before, all_ended, ended_some, row_is, written_down, stop_down}
 use Rattle.lft_model.proofs.Legality.{KeepsFour, four, ordered, opened, ended, one_end, keeps_at, ran_in_time, no_collision}
 use Rattle.lft_model.proofs.Reached.{triggered_down, triggered_up, all_stop, inputs_up, preceding_ended, earlier_ended}
-use Rattle.lft_model.proofs.Counted.{Key, NamesApart, names_apart, end_key, OneKey, rows_bound}
-use Rattle.lft_model.proofs.Answered.{answers_well}
+use Rattle.lft_model.proofs.{Counted.{Key, NamesApart, names_apart, end_key, OneKey, rows_bound}, Answered.answers_well}
 use Rattle.lft_model.proofs.Decided.{dec_ran, dec_triggered, dec_inputs}
+use Rattle.lft_graph.specs.Precedence.{Precedes}
 
 take_more : {X Y : Type 0} (h : X → Option Y) (xs : List X) (i : ℕ) (x : X) (y : Y) → slice_get xs i ≡ Some x → h x ≡ Some y → filter_map h (take (suc i) xs) ≡ filter_map h (take i xs) ++ y ∷ []
 take_more h [] i x y e p = absurd (cc)

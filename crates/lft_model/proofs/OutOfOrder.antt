@@ -1,8 +1,6 @@
 -- Rule 3 at a row that is no start row: its run isn't open.
 use Rattle.std.proofs.Common.{◌≡◌, ℕ, List, refl}
-use Rattle.lft_ir.specs.declared.steps.row.Row.{Row}
-use Rattle.lft_ir.specs.declared.steps.row.Step.{Step}
-use Rattle.lft_ir.specs.declared.steps.row.Step.TheVariants.{Start, Read, Write, Schedule, Stop, End}
+use Rattle.lft_ir.specs.declared.steps.row.{Row.Row, Step.{Step, TheVariants.{Start, Read, Write, Schedule, Stop, End}}}
 use Rattle.lft_model.specs.Breaches.{IsOpen, IsOutOfOrder}
 
 pub out_inner : (t : List Row) (i : ℕ) (row : Row) (s : Step) → ¬ (s ≡ Start) → ¬ IsOpen t i row.worker row.tag row.reaction → IsOutOfOrder t i row s

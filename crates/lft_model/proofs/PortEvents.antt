@@ -1,26 +1,13 @@
 -- What rows give a port at a tag: the last of them is its event, and two from different tags clash.
 use Rattle.std.proofs.Common.{◌≡◌, ℕ, ◌+◌, ◌<◌, List, length, take, refl, sym, ap, ◌∙◌, subst, arith, Option, Some, None, Bool, true, false, cond, is_some, IfSome, IfNone, slice_get, filter_map}
-use Rattle.std.specs.List.{last_or}
-use Rattle.std.proofs.lemmas.List.{take_all}
+use Rattle.std.{specs.List.last_or, proofs.lemmas.List.take_all}
 use native.Mathlib.Decide.{ℕ_discrete}
 use Rattle.lft_ir.proofs.Origins.{origin_unique}
-use Rattle.lft_tag.specs.declared.Tag.{Tag}
-use Rattle.lft_tag.specs.Tags.{after_all, same_tag}
-use Rattle.lft_tag.specs.Shifts.{shifted}
-use Rattle.lft_tag.proofs.Chains.{shifted_chain}
+use Rattle.lft_ir.specs.{Parts.Parts, Origins.Origin, declared.{parts.{Port.Port as PortOf, Value.Value, Name.TheVariants.Port}, steps.row.Row.Row}}
+use Rattle.lft_tag.{specs.{declared.Tag.Tag, Tags.{after_all, same_tag}, Shifts.shifted}, proofs.{Chains.shifted_chain, Order.{same_tag_refl, same_tag_true}}}
 use Rattle.lft_lists.proofs.Members.{Mem, LastAt, mem_get, get_mem, mem_filter, mem_from_filter, last_mem, last_of_mem, last_at, last_by_place, last_more_none, last_more_some}
-use Rattle.lft_ir.specs.Parts.{Parts}
-use Rattle.lft_ir.specs.Origins.{Origin}
-use Rattle.lft_ir.specs.declared.parts.Port.{Port as PortOf}
-use Rattle.lft_ir.specs.declared.parts.Value.{Value}
-use Rattle.lft_ir.specs.declared.parts.Name.TheVariants.{Port}
-use Rattle.lft_ir.specs.declared.steps.row.Row.{Row}
-use Rattle.lft_model.specs.Plans.{PlanParts, IsSoundPlan}
-use Rattle.lft_model.specs.Presence.{value_written, written, IsWrittenFrom, At, IsPresent, PortClash}
-use Rattle.lft_model.proofs.Places.{slice_get_within}
-use Rattle.lft_model.proofs.Counted.{get_or_get}
-use Rattle.lft_model.proofs.Ended.{written_by, by_written}
-use Rattle.lft_tag.proofs.Order.{same_tag_refl, same_tag_true}
+use Rattle.lft_model.specs.{Plans.{PlanParts, IsSoundPlan}, Presence.{value_written, written, IsWrittenFrom, At, IsPresent, PortClash}}
+use Rattle.lft_model.proofs.{Places.slice_get_within, Counted.get_or_get, Ended.{written_by, by_written}}
 
 -- the value that a row gives the port at tag g
 abbrev pub arriving : Tag → PortOf → Row → Option Value

@@ -1,25 +1,13 @@
 -- A recording so far whose open runs have only their starts and reads: its ended runs show what its rows show.
 use Rattle.std.proofs.Common.{◌≡◌, ℕ, List, [], ◌∷◌, length, sym, ap, ◌∙◌, subst, Option, Some, None, slice_get}
 use Rattle.std.specs.List.{AllZip}
-use Rattle.lft_tag.specs.declared.Tag.{Tag}
-use Rattle.lft_tag.specs.Tags.{UpTo}
+use Rattle.lft_tag.specs.{declared.Tag.Tag, Tags.UpTo}
 use Rattle.lft_ir.specs.Parts.{inputs}
-use Rattle.lft_ir.specs.declared.parts.Value.{Value}
-use Rattle.lft_ir.specs.declared.parts.Name.{Name}
-use Rattle.lft_ir.specs.declared.steps.row.Row.{Row}
-use Rattle.lft_ir.specs.declared.steps.row.Step.{Step}
-use Rattle.lft_ir.specs.declared.steps.row.Step.TheVariants.{Start, Read, Write, Schedule, Stop, End}
-use Rattle.lft_model.specs.Plans.{PlanParts, IsSoundPlan}
-use Rattle.lft_model.specs.Presence.{stop, Triggered, Shows, Inputs}
-use Rattle.lft_model.specs.Runs.{Run, by_ends, rows_of}
-use Rattle.lft_model.specs.OneWorker.{HasRun, IsPending, rows}
-use Rattle.lft_model.specs.Recorded.{SoFar, IsAnswer, OnlyEndedAnswer}
-use Rattle.lft_model.proofs.Legality.{IsInner, IsOrdered, Inside, opened}
-use Rattle.lft_model.proofs.Ended.{ended_before, all_ended}
-use Rattle.lft_model.proofs.Law.{EndRow, end_of_run, run_of_end}
-use Rattle.lft_model.proofs.Reached.{all_stop}
-use Rattle.lft_model.proofs.Recording.{recorded_in_order}
-use Rattle.lft_model.proofs.Finished.{at_own, own_at, triggered_own, own_triggered}
+use Rattle.lft_ir.specs.declared.{parts.{Value.Value, Name.Name}, steps.row.{Row.Row, Step.{Step, TheVariants.{Start, Read, Write, Schedule, Stop, End}}}}
+use Rattle.lft_model.specs.{Plans.{PlanParts, IsSoundPlan}, Presence.{stop, Triggered, Shows, Inputs}, Runs.{Run, by_ends, rows_of}}
+use Rattle.lft_model.specs.{OneWorker.{HasRun, IsPending, rows}, Recorded.{SoFar, IsAnswer, OnlyEndedAnswer}}
+use Rattle.lft_model.proofs.{Legality.{IsInner, IsOrdered, Inside, opened}, Ended.{ended_before, all_ended}, Law.{EndRow, end_of_run, run_of_end}}
+use Rattle.lft_model.proofs.{Reached.all_stop, Recording.recorded_in_order, Finished.{at_own, own_at, triggered_own, own_triggered}}
 
 module _ (plan : PlanParts) (good : IsSoundPlan plan) (t : List Row) (so_far : SoFar plan t) (quiet : OnlyEndedAnswer t) where
   told : (i : ℕ) (x : Row) → slice_get t i ≡ Some x → IsAnswer x.step → Inside t i x.tag x.reaction

@@ -2,35 +2,23 @@
 use Rattle.std.proofs.Common.{◌≡◌, ℕ, ◌+◌, ◌<◌, ◌⊎◌, inl, inr, List, [], ◌∷◌, length, refl, sym, ap, ◌∙◌, subst, arith, lit<, Option, Some, None, slice_get, filter_map, Contains}
 use Rattle.std.specs.List.{AllZip}
 use native.Mathlib.Decide.{ℕ_discrete, dec_lt}
-use Rattle.lft_tag.specs.declared.Tag.{Tag}
-use Rattle.lft_tag.specs.Tags.{Before, UpTo, after, after_all}
+use Rattle.lft_tag.specs.{declared.Tag.Tag, Tags.{Before, UpTo, after, after_all}}
 use Rattle.lft_tag.proofs.Order.{UpTo_antisym, UpTo-not, Before-irrefl, after_past, after_some_past}
 use Rattle.lft_lists.proofs.Members.{Mem, get_mem, mem_left, mem_right, mem_cases, mem_filter, mem_from_filter, LastAt, last_at, mem_contains, contains_mem}
-use Rattle.lft_ir.specs.Parts.{inputs}
-use Rattle.lft_ir.specs.Naming.{named}
-use Rattle.lft_ir.specs.Origins.{Origin}
-use Rattle.lft_ir.specs.declared.parts.Reaction.{Reaction}
-use Rattle.lft_ir.specs.declared.parts.Value.{Value}
-use Rattle.lft_ir.specs.declared.parts.Name.{Name}
-use Rattle.lft_ir.specs.declared.parts.Name.TheVariants.{Port, Action}
-use Rattle.lft_ir.specs.declared.parts.Trigger.{Trigger}
-use Rattle.lft_ir.specs.declared.parts.Trigger.TheVariants.{Startup, Shutdown, Timer, On}
-use Rattle.lft_ir.specs.declared.steps.row.Row.{Row}
-use Rattle.lft_ir.specs.declared.steps.row.Step.{Step}
-use Rattle.lft_ir.specs.declared.steps.row.Step.TheVariants.{Schedule, Stop}
+use Rattle.lft_ir.specs.{Parts.inputs, Naming.named, Origins.Origin}
+use Rattle.lft_ir.specs.declared.parts.{Reaction.Reaction, Value.Value, Name.{Name, TheVariants.{Port, Action}}}
+use Rattle.lft_ir.specs.declared.parts.Trigger.{Trigger, TheVariants.{Startup, Shutdown, Timer, On}}
+use Rattle.lft_ir.specs.declared.steps.row.{Row.Row, Step.{Step, TheVariants.{Schedule, Stop}}}
 use Rattle.lft_model.specs.Plans.{PlanParts, IsSoundPlan}
-use Rattle.lft_graph.specs.Precedence.{Precedes}
-use Rattle.lft_graph.specs.Precedence.Precedes.{one}
 use Rattle.lft_model.specs.Presence.{written, scheduled, value_scheduled, given, min_delay, events_of, IsWrittenFrom, At, Triggered, Occurs, Shows, Inputs, asked, requests, stop}
-use Rattle.lft_model.specs.Runs.{Ran, start_row, end_row, steps_of, effects_of, reads_at, rows_of}
-use Rattle.lft_model.specs.Breaches.{EndsBefore, IsUndeclared, MaySchedule}
-use Rattle.lft_model.proofs.Places.{stable, slice_get_within}
-use Rattle.lft_model.proofs.Stops.{asker, stop_external, stop_asked, stop_cases}
+use Rattle.lft_model.specs.{Runs.{Ran, start_row, end_row, steps_of, effects_of, reads_at, rows_of}, Breaches.{EndsBefore, IsUndeclared, MaySchedule}}
+use Rattle.lft_model.specs.Recorded.{IsAnswer}
+use Rattle.lft_model.proofs.{Places.{stable, slice_get_within}, Stops.{asker, stop_external, stop_asked, stop_cases}}
 use Rattle.lft_model.proofs.Steps.{own_schedule, own_stop, mem_step, scheduled_some, some_scheduled}
 use Rattle.lft_model.proofs.Ended.{ended_before, row_own, scheduled_by, by_scheduled, Schedules, present_down, stop_down}
-use Rattle.lft_model.specs.Recorded.{IsAnswer}
 use Rattle.lft_model.proofs.Legality.{IsOrdered, rising, opened, Inside, one_start, one_end, keeps_four}
 use Rattle.lft_model.proofs.Kept.{dec_mem, effect_of, writer_effect, writer_inside, last_kept}
+use Rattle.lft_graph.specs.Precedence.{Precedes, Precedes.one}
 
 -- a trigger that is a port or an action is an input
 pub input_of_trigger : (x : Reaction) (n : Name) → Contains x.triggers (On n) → Contains (inputs x) n

@@ -1,20 +1,12 @@
 -- What a reaction reads, made one input after another.
 use Rattle.std.proofs.Common.{◌≡◌, ℕ, ◌+◌, List, [], ◌∷◌, ◌++◌, length, take, take_all, filter_map, append_assoc, append-nil, add-one, refl, sym, ap, ◌∙◌, subst, Option, Some, None, IfSome, IfNone, ◌≤◌, slice_get}
-use Rattle.std.specs.List.{AllZip}
+use Rattle.std.{specs.List.AllZip, proofs.lemmas.Slice.Zip.all_zipped_more}
 use Rattle.lft_tag.specs.declared.Tag.{Tag}
 use Rattle.lft_ir.proofs.Naming.{named_none}
-use Rattle.lft_ir.specs.Parts.{Parts}
-use Rattle.lft_ir.specs.Naming.{named}
-use Rattle.lft_ir.specs.declared.parts.Reaction.{Reaction}
-use Rattle.lft_ir.specs.declared.parts.Value.{Value}
-use Rattle.lft_ir.specs.declared.parts.Name.{Name}
-use Rattle.lft_ir.specs.declared.parts.Trigger.{Trigger}
-use Rattle.lft_ir.specs.declared.parts.Trigger.TheVariants.{On}
-use Rattle.lft_ir.specs.declared.steps.row.Row.{Row}
-use Rattle.lft_model.specs.Plans.{PlanParts}
-use Rattle.lft_model.specs.Presence.{At, IsPresent, Shows, Inputs}
+use Rattle.lft_ir.specs.{Parts.Parts, Naming.named}
+use Rattle.lft_ir.specs.declared.{parts.{Reaction.Reaction, Value.Value, Name.Name, Trigger.{Trigger, TheVariants.On}}, steps.row.Row.Row}
+use Rattle.lft_model.specs.{Plans.PlanParts, Presence.{At, IsPresent, Shows, Inputs}}
 use Rattle.lft_lists.proofs.Picked.{kept_more, take_next}
-use Rattle.std.proofs.lemmas.Slice.Zip.{all_zipped_more}
 
 -- one more element of a list
 taken : {X : Type 0} (xs : List X) (i : ℕ) (x : X) → slice_get xs i ≡ Some x → take (i + 1) xs ≡ take i xs ++ x ∷ []

@@ -2,33 +2,21 @@
 use Rattle.std.proofs.Common.{◌≡◌, ℕ, ◌+◌, ◌<◌, ◌≤◌, ◌⊎◌, inl, inr, List, [], ◌∷◌, length, take, map, refl, sym, ap, ◌∙◌, subst, arith, Option, Some, None, slice_get, filter_map, option_map, option_to_list, zip, unwrap_or, ◌==◌, eq-eqb, true}
 use Rattle.std.specs.List.{last_or, AllZip}
 use native.Mathlib.Decide.{dec_lt}
-use Rattle.lft_tag.specs.declared.Tag.{Tag}
-use Rattle.lft_tag.specs.Tags.{Before, UpTo}
-use Rattle.lft_tag.proofs.Order.{UpTo-refl, UpTo-not}
+use Rattle.lft_tag.{specs.{declared.Tag.Tag, Tags.{Before, UpTo}}, proofs.Order.{UpTo-refl, UpTo-not}}
 use Rattle.lft_lists.proofs.Members.{Mem, mem_get, mem_contains}
 use Rattle.lft_ir.specs.Parts.{inputs}
-use Rattle.lft_ir.specs.declared.parts.Reaction.{Reaction}
-use Rattle.lft_ir.specs.declared.parts.Value.{Value}
-use Rattle.lft_ir.specs.declared.parts.Name.{Name}
-use Rattle.lft_ir.specs.declared.parts.Name.TheVariants.{Port, Action}
-use Rattle.lft_ir.specs.declared.steps.row.Row.{Row}
-use Rattle.lft_ir.specs.declared.steps.row.Step.{Step}
-use Rattle.lft_ir.specs.declared.steps.row.Step.TheVariants.{Start, Read, Write, Schedule, Stop, End}
-use Rattle.lft_model.specs.declared.breach.Breach.{Breach}
-use Rattle.lft_model.specs.Plans.{PlanParts, IsSoundPlan}
-use Rattle.lft_graph.specs.Precedence.{Precedes}
-use Rattle.lft_model.specs.Presence.{stop, Triggered, Inputs, Shows}
+use Rattle.lft_ir.specs.declared.parts.{Reaction.Reaction, Value.Value, Name.{Name, TheVariants.{Port, Action}}}
+use Rattle.lft_ir.specs.declared.steps.row.{Row.Row, Step.{Step, TheVariants.{Start, Read, Write, Schedule, Stop, End}}}
+use Rattle.lft_model.specs.{declared.breach.Breach.Breach, Plans.{PlanParts, IsSoundPlan}, Presence.{stop, Triggered, Inputs, Shows}}
 use Rattle.lft_model.specs.Runs.{Run, Outcome, Ran, start_row, end_row, value_read, read_of, steps_of, inputs_of, effects_of, reads_at, steps_of_run, rows_of}
 use Rattle.lft_model.specs.Runs.Outcome.{Written, Scheduled}
 use Rattle.lft_model.specs.Breaches.{IsOpen, IsLate, WasStarted, IsOutOfOrder, WasRead, MayWrite, MaySchedule, IsUndeclared, IsUnended, BreaksRow, RowBreach, BreaksTag, BreaksAt, TagBreach, IsTooEarly, Legal}
 use Rattle.lft_model.specs.OneWorker.{HasRun, MayHave, Path, OneWorker, rows}
-use Rattle.lft_model.proofs.Places.{slice_get_within}
-use Rattle.lft_model.proofs.Counted.{NamesApart, names_apart}
-use Rattle.lft_model.proofs.RunSteps.{StepOf, step_of_run, mem_zip}
-use Rattle.lft_model.proofs.RunSteps.StepOf.{starts, reads, writes, schedules, stops, ends}
-use Rattle.lft_model.proofs.Agree.{acyclic}
+use Rattle.lft_model.proofs.{Places.slice_get_within, Counted.{NamesApart, names_apart}}
+use Rattle.lft_model.proofs.{RunSteps.{StepOf, step_of_run, mem_zip, StepOf.{starts, reads, writes, schedules, stops, ends}}, Agree.acyclic}
 use Rattle.lft_model.proofs.Paths.{rises, one_each, none_later, run_in_time, triggered_kept, inputs_kept}
 use Rattle.lft_model.proofs.Blocks.{Placed, placed, put_row, blocks, start_first, end_last, has_end, reads_shown, steps_alone, two_places}
+use Rattle.lft_graph.specs.Precedence.{Precedes}
 
 zip_related : {X Y : Type 0} (R : X → Y → Type 0) (xs : List X) (ys : List Y) (x : X) (y : Y) → AllZip R xs ys → Mem (x, y) (zip xs ys) → R x y
 zip_related R [] ys x y a m = absurd m

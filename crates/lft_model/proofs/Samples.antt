@@ -1,26 +1,13 @@
 -- The definitions on small programs and traces.
 use Rattle.std.proofs.Common.{◌≡◌, ℕ, zero, suc, ◌<◌, inl, inr, List, [], ◌∷◌, refl, ap, arith, true, false, Some, None, slice_get, pos, lit≤, lit<}
-use Rattle.lft_tag.specs.declared.Tag.{Tag}
-use Rattle.lft_tag.specs.declared.Shift.{Shift}
-use Rattle.lft_ir.specs.Names.{ThingNames}
-use Rattle.lft_ir.specs.Origins.{Origin}
-use Rattle.lft_tag.specs.Tags.{after_all}
-use Rattle.lft_ir.specs.Origins.Origin.{itself, over}
-use Rattle.lft_ir.specs.declared.parts.Port.{Port as PortOf}
-use Rattle.lft_ir.specs.declared.parts.Reaction.{Reaction}
-use Rattle.lft_ir.specs.declared.parts.Value.TheVariants.{Bare, Int}
-use Rattle.lft_ir.specs.declared.parts.Name.TheVariants.{Port, Action}
+use Rattle.lft_tag.specs.{declared.{Tag.Tag, Shift.Shift}, Tags.after_all}
+use Rattle.lft_ir.specs.{Names.ThingNames, Origins.{Origin, Origin.{itself, over}}}
+use Rattle.lft_ir.specs.declared.parts.{Port.Port as PortOf, Reaction.Reaction, Value.TheVariants.{Bare, Int}, Name.TheVariants.{Port, Action}}
 use Rattle.lft_ir.specs.declared.parts.Trigger.TheVariants.{Startup, Shutdown, Timer, On}
-use Rattle.lft_ir.specs.declared.steps.row.Row.{Row}
-use Rattle.lft_ir.specs.declared.steps.row.Step.{Step}
-use Rattle.lft_ir.specs.declared.steps.row.Step.TheVariants.{Start, Read, Write, Schedule, Stop, End}
-use Rattle.lft_model.specs.Plans.{PlanParts}
-use Rattle.lft_graph.specs.Precedence.{Precedes}
-use Rattle.lft_graph.specs.Precedence.Precedes.{one}
-use Rattle.lft_model.specs.Presence.{stop, Last, Triggered, Inputs, Collision, events_of}
-use Rattle.lft_model.specs.Runs.{by_ends, reads_at}
-use Rattle.lft_model.specs.Runs.Outcome.{Written}
+use Rattle.lft_ir.specs.declared.steps.row.{Row.Row, Step.{Step, TheVariants.{Start, Read, Write, Schedule, Stop, End}}}
+use Rattle.lft_model.specs.{Plans.PlanParts, Presence.{stop, Last, Triggered, Inputs, Collision, events_of}, Runs.{by_ends, reads_at, Outcome.Written}}
 use Rattle.lft_model.specs.Breaches.{TagBreach}
+use Rattle.lft_graph.specs.Precedence.{Precedes, Precedes.one}
 
 abbrev g00 : Tag
 g00 = record { time = 0; micro = 0 }

@@ -1,21 +1,14 @@
 -- The steps of a run in a trace, and in the rows of the run alone.
 use Rattle.std.proofs.Common.{◌≡◌, ℕ, ◌⊎◌, inl, inr, List, [], ◌∷◌, ◌++◌, map, refl, sym, ap, ◌∙◌, subst, Option, Some, None, Bool, true, false, ◌&&◌, ◌==◌, eqb-true, eq-eqb, slice_get, filter_map, flat_map, option_map, zip}
-use Rattle.std.specs.List.{last_or}
-use Rattle.lft_tag.specs.declared.Tag.{Tag}
-use Rattle.lft_tag.specs.Tags.{same_tag}
+use Rattle.std.{specs.List.last_or, proofs.NetLemmas.Options.cond_some}
+use Rattle.lft_tag.{specs.{declared.Tag.Tag, Tags.same_tag}, proofs.Order.{same_tag_refl, same_tag_true}}
 use Rattle.lft_lists.proofs.Members.{Mem, mem_get, get_mem, mem_left, mem_right, mem_cases, mem_map, mem_from_map, mem_filter, mem_from_filter, mem_flat, mem_from_flat, zip-map}
 use Rattle.lft_lists.proofs.Mapped.{option_map_some}
 use Rattle.lft_ir.specs.Parts.{Parts}
-use Rattle.lft_ir.specs.declared.parts.Value.{Value}
-use Rattle.lft_ir.specs.declared.parts.Name.{Name}
-use Rattle.lft_ir.specs.declared.parts.Name.TheVariants.{Port, Action}
-use Rattle.lft_ir.specs.declared.steps.row.Row.{Row}
-use Rattle.lft_ir.specs.declared.steps.row.Step.{Step}
-use Rattle.lft_ir.specs.declared.steps.row.Step.TheVariants.{Start, Read, Write, Schedule, Stop, End}
+use Rattle.lft_ir.specs.declared.parts.{Value.Value, Name.{Name, TheVariants.{Port, Action}}}
+use Rattle.lft_ir.specs.declared.steps.row.{Row.Row, Step.{Step, TheVariants.{Start, Read, Write, Schedule, Stop, End}}}
 use Rattle.lft_model.specs.Presence.{value_written, value_scheduled}
 use Rattle.lft_model.specs.Runs.{Run, Outcome, step_of, steps_of, outcome_of, inputs_of, effects_of, read_step, write_step, schedule_steps, write_step_of, schedule_steps_of, closing_steps, request_of, steps_of_run}
-use Rattle.std.proofs.NetLemmas.Options.{cond_some}
-use Rattle.lft_tag.proofs.Order.{same_tag_refl, same_tag_true}
 
 pub both_true : (a b : Bool) → a && b ≡ true → (a ≡ true) × (b ≡ true)
 both_true true b e = (refl, e)

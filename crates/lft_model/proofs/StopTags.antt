@@ -1,15 +1,10 @@
 -- The stop of a trace, from what was asked for by the rows so far.
 use Rattle.std.proofs.Common.{◌≡◌, ℕ, ◌+◌, ◌<◌, ◌⊎◌, inl, inr, List, length, sym, ◌∙◌, subst, arith, Some, slice_get}
-use Rattle.lft_tag.specs.declared.Tag.{Tag}
-use Rattle.lft_tag.specs.Tags.{UpTo, after}
-use Rattle.lft_tag.proofs.Order.{UpTo_antisym}
+use Rattle.lft_tag.{specs.{declared.Tag.Tag, Tags.{UpTo, after}}, proofs.Order.UpTo_antisym}
 use Rattle.lft_lists.proofs.Members.{Mem, mem_get, get_mem}
-use Rattle.lft_ir.specs.declared.steps.row.Row.{Row}
-use Rattle.lft_ir.specs.declared.steps.row.Step.TheVariants.{Stop}
-use Rattle.lft_model.specs.Plans.{PlanParts}
-use Rattle.lft_model.specs.Presence.{stop, requests}
-use Rattle.lft_model.proofs.Places.{slice_get_within}
-use Rattle.lft_model.proofs.Stops.{ask, asker, stop_external, stop_asked, stop_cases}
+use Rattle.lft_ir.specs.declared.steps.row.{Row.Row, Step.TheVariants.Stop}
+use Rattle.lft_model.specs.{Plans.PlanParts, Presence.{stop, requests}}
+use Rattle.lft_model.proofs.{Places.slice_get_within, Stops.{ask, asker, stop_external, stop_asked, stop_cases}}
 
 -- the stop row at a place asks for the tag
 pub record AsksFor (t : List Row) (j : ℕ) (row : Row) : Type 0 where

@@ -1,16 +1,10 @@
 -- The stop tag of some rows: the external one, or the least that a stop row asks for.
 use Rattle.std.proofs.Common.{◌≡◌, ◌≢◌, ◌⊎◌, inl, inr, List, [], ◌∷◌, ◌++◌, refl, sym, ap, ◌∙◌, subst, Some, Contains}
 use Rattle.std.proofs.lemmas.List.Elements.{filter_map-append}
-use Rattle.lft_tag.specs.declared.Tag.{Tag}
-use Rattle.lft_tag.specs.Tags.{UpTo, after, earlier, earliest}
-use Rattle.lft_tag.proofs.Order.{UpTo-refl, UpTo-trans, UpTo_antisym, earlier_cases}
+use Rattle.lft_tag.{specs.{declared.Tag.Tag, Tags.{UpTo, after, earlier, earliest}}, proofs.Order.{UpTo-refl, UpTo-trans, UpTo_antisym, earlier_cases}}
 use Rattle.lft_lists.proofs.Members.{Mem, mem_left, mem_cases, mem_filter, mem_from_filter, nil_of_none, mem_contains}
-use Rattle.lft_ir.specs.declared.steps.row.Row.{Row}
-use Rattle.lft_ir.specs.declared.steps.row.Step.{Step}
-use Rattle.lft_ir.specs.declared.steps.row.Step.TheVariants.{Start, Read, Write, Schedule, Stop, End}
-use Rattle.lft_model.specs.Plans.{PlanParts}
-use Rattle.lft_model.specs.Presence.{asked, requests, stop}
-use Rattle.lft_model.specs.Breaches.{LegalUntil, FirstUntil, NoRequestLaw}
+use Rattle.lft_ir.specs.declared.steps.row.{Row.Row, Step.{Step, TheVariants.{Start, Read, Write, Schedule, Stop, End}}}
+use Rattle.lft_model.specs.{Plans.PlanParts, Presence.{asked, requests, stop}, Breaches.{LegalUntil, FirstUntil, NoRequestLaw}}
 
 earliest_first : (g : Tag) (hs : List Tag) → UpTo (earliest g hs) g
 earliest_first g [] = UpTo-refl g

@@ -1,17 +1,11 @@
 -- External inputs into which one more event was put, or which stop at another tag.
 use Rattle.std.proofs.Common.{◌≡◌, ◌∙◌, ℕ, ◌+◌, ◌-◌, ◌<◌, ◌≤◌, List, length, slice_get, Option, Some, None, Result, Ok, Err, IfOk, IfSome, IfNone, OnErr, sym, ap, subst, arith, ⊎_elim}
 use Rattle.std.specs.List.{insert}
-use lib.ListN.{get_or}
-use Rattle.std.proofs.lemmas.Bool.{cases_lt}
-use Rattle.std.proofs.lemmas.Option.{slice_get-get_or, slice_get_within, get_or_from_slice_get}
+use Rattle.std.proofs.lemmas.{Bool.cases_lt, Option.{slice_get-get_or, slice_get_within, get_or_from_slice_get}}
 use Rattle.std.proofs.lemmas.List.Edits.{get_or-insert_at, get_or-insert_below, get_or-insert_above, length-insert}
-use Rattle.lft_tag.specs.declared.NoMemory.{NoMemory}
-use Rattle.lft_tag.specs.declared.Tag.{Tag}
-use Rattle.lft_tag.specs.Tags.{IsRecorded}
-use Rattle.lft_ir.specs.Parts.{Parts}
-use Rattle.lft_ir.specs.declared.steps.externals.Event.{Event}
-use Rattle.lft_ir.specs.Steps.Inputs.{ExternalInputs, IsTold}
-use Rattle.lft_ir.specs.Steps.Fits.{EventFits, ExternalsFit}
+use lib.ListN.{get_or}
+use Rattle.lft_tag.specs.{declared.{NoMemory.NoMemory, Tag.Tag}, Tags.IsRecorded}
+use Rattle.lft_ir.specs.{Parts.Parts, declared.steps.externals.Event.Event, Steps.{Inputs.{ExternalInputs, IsTold}, Fits.{EventFits, ExternalsFit}}}
 
 module _ {X : Type 0} (P : X → Type 0) (xs : List X) (i : ℕ) (y : X) (l : i ≤ length xs) (each : (k : ℕ) (x : X) → slice_get xs k ≡ Some x → P x) where
   of_old : (k : ℕ) (x : X) → k < length xs → get_or xs k x ≡ x → P x

@@ -1,19 +1,11 @@
 -- Whether a reaction is triggered, by its list of triggers.
 use Rattle.std.proofs.Common.{◌≡◌, ◌↔◌, ℕ, ◌<◌, List, length, refl, sym, ap, ◌∙◌, subst, Some, slice_get, get_or, Contains, IsTrue, false, true}
-use Rattle.std.proofs.lemmas.Bool.{false≢true}
-use Rattle.std.proofs.lemmas.List.Elements.{Contains-get_or}
-use Rattle.std.proofs.lemmas.Option.{get_or_from_slice_get}
+use Rattle.std.proofs.lemmas.{Bool.false≢true, List.Elements.Contains-get_or, Option.get_or_from_slice_get}
 use Rattle.lft_tag.specs.declared.Tag.{Tag}
 use Rattle.lft_lists.proofs.Members.{get_mem, contains_mem}
-use Rattle.lft_ir.specs.Parts.{Parts}
-use Rattle.lft_ir.specs.Sound.{IsSound, IsTriggerOf, IsNameOf}
-use Rattle.lft_ir.specs.declared.parts.Reaction.{Reaction}
-use Rattle.lft_ir.specs.declared.parts.Name.{Name}
-use Rattle.lft_ir.specs.declared.parts.Trigger.{Trigger}
-use Rattle.lft_ir.specs.declared.steps.row.Row.{Row}
-use Rattle.lft_model.specs.Plans.{PlanParts}
-use Rattle.lft_model.specs.Presence.{stop, OccursUntil, TriggeredUntil, Triggered}
-use Rattle.lft_model.proofs.Places.{slice_get_within}
+use Rattle.lft_ir.specs.{Parts.Parts, Sound.{IsSound, IsTriggerOf, IsNameOf}}
+use Rattle.lft_ir.specs.declared.{parts.{Reaction.Reaction, Name.Name, Trigger.Trigger}, steps.row.Row.Row}
+use Rattle.lft_model.{specs.{Plans.PlanParts, Presence.{stop, OccursUntil, TriggeredUntil, Triggered}}, proofs.Places.slice_get_within}
 
 -- the triggers and uses of a reaction are of its program
 module _ (program own : Parts) (same : program ≡ own) (sound : IsSound program) (r : ℕ) (x : Reaction) (is_reaction : slice_get program.reactions r ≡ Some x) where

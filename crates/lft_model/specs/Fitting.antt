@@ -1,8 +1,6 @@
 -- Rows that are of a program, however many there are.
 use Rattle.std.specs.Prelude.{◌≡◌, ℕ, List, Some, slice_get}
-use Rattle.lft_ir.specs.Parts.{Parts}
-use Rattle.lft_ir.specs.declared.steps.row.Row.{Row}
-use Rattle.lft_ir.specs.Steps.Fits.{RowFits}
+use Rattle.lft_ir.specs.{Parts.Parts, declared.steps.row.Row.Row, Steps.Fits.RowFits}
 
 -- each row is of the program and recorded
 abbrev pub EachFits : Parts → List Row → Type 0

@@ -1,16 +1,11 @@
 -- The machine with one worker: its whole state is the list of the runs so far.
 use Rattle.std.specs.Prelude.{◌≡◌, ℕ, List, [], ◌∷◌, ◌++◌, Some, slice_get, take, ◌⊎◌}
 use Rattle.std.specs.List.{AllZip}
-use Rattle.lft_tag.specs.declared.Tag.{Tag}
-use Rattle.lft_tag.specs.Tags.{UpTo}
-use Rattle.lft_ir.specs.declared.parts.Name.{Name}
-use Rattle.lft_ir.specs.declared.steps.row.Row.{Row}
-use Rattle.lft_model.specs.Plans.{PlanParts}
+use Rattle.lft_tag.specs.{declared.Tag.Tag, Tags.UpTo}
+use Rattle.lft_ir.specs.declared.{parts.Name.Name, steps.row.Row.Row}
+use Rattle.lft_model.specs.{Plans.PlanParts, Presence.{stop, Triggered, Inputs, Collision}}
+use Rattle.lft_model.specs.{Runs.{Run, Outcome, Ran, rows_of, effects_of, by_ends, Outcome.{Written, Scheduled}}, Breaches.{Legal, EndsBefore, MaySchedule}}
 use Rattle.lft_graph.specs.Precedence.{Precedes}
-use Rattle.lft_model.specs.Presence.{stop, Triggered, Inputs, Collision}
-use Rattle.lft_model.specs.Runs.{Run, Outcome, Ran, rows_of, effects_of, by_ends}
-use Rattle.lft_model.specs.Runs.Outcome.{Written, Scheduled}
-use Rattle.lft_model.specs.Breaches.{Legal, EndsBefore, MaySchedule}
 
 -- what holds of runs is what holds of their rows
 abbrev pub rows : PlanParts → List Run → List Row

@@ -1,8 +1,5 @@
 -- What contracts see of a plan: the flat program and the external inputs.
-use Rattle.lft_ir.specs.Parts.{Parts}
-use Rattle.lft_ir.specs.Sound.{IsSound}
-use Rattle.lft_ir.specs.Steps.Inputs.{ExternalInputs, InOrder}
-use Rattle.lft_ir.specs.Steps.Fits.{ExternalsFit}
+use Rattle.lft_ir.specs.{Parts.Parts, Sound.IsSound, Steps.{Inputs.{ExternalInputs, InOrder}, Fits.ExternalsFit}}
 use Rattle.lft_graph.specs.Precedence.{IsLevelled}
 
 -- a program with the external inputs that it is given

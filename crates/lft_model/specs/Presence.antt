@@ -1,22 +1,11 @@
 -- What is present at a tag, by the rows of a trace and the external inputs.
 use Rattle.std.specs.Prelude.{◌≡◌, ◌≢◌, ℕ, ◌+◌, ◌*◌, ◌≤◌, cond, ◌&&◌, ◌==◌, List, ◌++◌, length, Option, Some, None, slice_get, Contains, filter_map, option_map, option_and_then, unwrap_or}
 use Rattle.std.specs.List.{last_or, AllZip}
-use Rattle.lft_tag.specs.declared.Tag.{Tag}
-use Rattle.lft_tag.specs.Tags.{after, after_all, same_tag, earliest}
-use Rattle.lft_ir.specs.Parts.{Parts, inputs}
-use Rattle.lft_ir.specs.Naming.{is_port, is_action}
-use Rattle.lft_ir.specs.Origins.{Origin}
-use Rattle.lft_ir.specs.declared.parts.Value.{Value}
-use Rattle.lft_ir.specs.declared.parts.Name.{Name}
-use Rattle.lft_ir.specs.declared.parts.Name.TheVariants.{Port, Action}
-use Rattle.lft_ir.specs.declared.parts.Trigger.{Trigger}
-use Rattle.lft_ir.specs.declared.parts.Trigger.TheVariants.{Startup, Shutdown, Timer, On}
-use Rattle.lft_ir.specs.declared.parts.Timer.{Timer as TimerOf}
-use Rattle.lft_ir.specs.declared.parts.Reaction.{Reaction}
-use Rattle.lft_ir.specs.declared.steps.row.Row.{Row}
-use Rattle.lft_ir.specs.declared.steps.externals.Event.{Event}
-use Rattle.lft_ir.specs.declared.steps.row.Step.{Step}
-use Rattle.lft_ir.specs.declared.steps.row.Step.TheVariants.{Start, Read, Write, Schedule, Stop, End}
+use Rattle.lft_tag.specs.{declared.Tag.Tag, Tags.{after, after_all, same_tag, earliest}}
+use Rattle.lft_ir.specs.{Parts.{Parts, inputs}, Naming.{is_port, is_action}, Origins.Origin}
+use Rattle.lft_ir.specs.declared.parts.{Value.Value, Name.{Name, TheVariants.{Port, Action}}, Trigger.{Trigger, TheVariants.{Startup, Shutdown, Timer, On}}}
+use Rattle.lft_ir.specs.declared.parts.{Timer.Timer as TimerOf, Reaction.Reaction}
+use Rattle.lft_ir.specs.declared.steps.{row.{Row.Row, Step.{Step, TheVariants.{Start, Read, Write, Schedule, Stop, End}}}, externals.Event.Event}
 use Rattle.lft_model.specs.Plans.{PlanParts}
 
 -- the value that a step writes to port p

@@ -2,19 +2,12 @@
 use Rattle.std.specs.Prelude.{◌≡◌, ℕ, ◌<◌, ◌⊎◌, ◌==◌, cond, List, [], ◌∷◌, ◌++◌, length, Option, Some, None, ℤ, pos, slice_get, take, filter_map, map, zip, unwrap_or, option_map}
 use Rattle.std.specs.List.{last_or}
 use Rattle.lft_ir.specs.Parts.{Parts}
-use Rattle.lft_tag.specs.declared.Tag.{Tag}
-use Rattle.lft_tag.specs.Tags.{Before}
-use Rattle.lft_ir.specs.declared.parts.Reaction.{Reaction}
-use Rattle.lft_ir.specs.declared.parts.Value.{Value}
-use Rattle.lft_ir.specs.declared.steps.row.Row.{Row}
-use Rattle.lft_ir.specs.declared.steps.row.Step.{Step}
-use Rattle.lft_ir.specs.declared.steps.row.Step.TheVariants.{Start, Read, Write, Schedule, Stop, End}
-use Rattle.lft_model.specs.declared.breach.Breach.{Breach}
-use Rattle.lft_model.specs.Plans.{PlanParts}
-use Rattle.lft_model.specs.Presence.{Inputs}
+use Rattle.lft_ir.specs.declared.parts.{Reaction.Reaction, Value.Value}
+use Rattle.lft_ir.specs.declared.steps.row.{Row.Row, Step.{Step, TheVariants.{Start, Read, Write, Schedule, Stop, End}}}
+use Rattle.lft_tag.specs.{declared.Tag.Tag, Tags.Before}
+use Rattle.lft_model.specs.{declared.breach.Breach.Breach, Plans.PlanParts, Presence.Inputs}
 use Rattle.lft_model.specs.Runs.{Run, start_row, end_row, Ran, by_ends, inputs_of, read_step, steps_of, reads_at, answer_at}
-use Rattle.lft_model.specs.Breaches.{MayWrite, MaySchedule, RowBreach, Legal}
-use Rattle.lft_model.specs.OneWorker.{Path, NoClash, Ready, rows}
+use Rattle.lft_model.specs.{Breaches.{MayWrite, MaySchedule, RowBreach, Legal}, OneWorker.{Path, NoClash, Ready, rows}}
 
 -- a run of a reaction's instance before (g, r), by tag and then by reaction number
 pub record IsEarlier (plan : PlanParts) (t : List Row) (g : Tag) (r : ℕ) (h : Tag) (a : ℕ) : Type 0 where

@@ -33,11 +33,8 @@ impl Model for Plan {
 
 impl Plan {
     ghost use Rattle.lft_tag.specs.Tags.{IsRecorded};
-    ghost use Rattle.lft_ir.specs.Steps.Fits.{EventFits, ExternalsFit};
-    ghost use Rattle.lft_ir.specs.Steps.Inputs.{IsTold};
-    ghost use Rattle.lft_graph.specs.Graph.{IsGraphOf};
-    ghost use Rattle.lft_graph.specs.Loops.{IsLoop};
-    ghost use Rattle.lft_graph.specs.Precedence.{HasNoLoop, IsLevelled};
+    ghost use Rattle.lft_ir.specs.Steps.{Fits.{EventFits, ExternalsFit}, Inputs.IsTold};
+    ghost use Rattle.lft_graph.specs.{Graph.IsGraphOf, Loops.IsLoop, Precedence.{HasNoLoop, IsLevelled}};
     ghost use Rattle.lft_model.specs.Plans.{IsSoundPlan};
 
     /// The plan of a program and of external inputs that fit it. Both are dropped on a refusal.

@@ -1,11 +1,8 @@
 //! Presence, triggering, collisions and inputs, plainly over all rows: for tests and for readers.
 
 ghost use Rattle.std.specs.Prelude.{◌≡◌, ◌<◌, ◌↔◌, List, Option, length, IsTrue, IfSome, IfNone, IfOk};
-ghost use Rattle.lft_ir.specs.Sound.{IsNameOf, IsTriggerOf};
-ghost use Rattle.lft_ir.specs.declared.parts.Value.{Value as Carried};
-ghost use Rattle.lft_ir.specs.Steps.Fits.{RowsFit};
-ghost use Rattle.lft_model.specs.Fitting.{EachFits};
-ghost use Rattle.lft_model.specs.Presence.{At, IsPresent, OccursUntil, Triggered, Collision, Inputs};
+ghost use Rattle.lft_ir.specs.{Sound.{IsNameOf, IsTriggerOf}, declared.parts.Value.Value as Carried, Steps.Fits.RowsFit};
+ghost use Rattle.lft_model.specs.{Fitting.EachFits, Presence.{At, IsPresent, OccursUntil, Triggered, Collision, Inputs}};
 
 mod actions;
 mod ports;

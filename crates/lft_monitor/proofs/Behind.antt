@@ -1,21 +1,13 @@
 -- What is kept of rows that are judged, with more rows behind them.
 use Rattle.std.proofs.Common.{◌≡◌, ℕ, ◌+◌, ◌-◌, ◌<◌, ◌≤◌, ◌⊎◌, inl, inr, List, [], ◌++◌, length, length-append, sym, ap, ◌∙◌, subst, arith, Some, slice_get}
 use native.Mathlib.Decide.{dec_lt}
-use Rattle.lft_tag.specs.declared.Tag.{Tag}
-use Rattle.lft_tag.specs.Tags.{Before, UpTo, after}
-use Rattle.lft_tag.proofs.Order.{UpTo-Before, UpTo-refl, after_past, from_first, order_cases}
+use Rattle.lft_tag.{specs.{declared.Tag.Tag, Tags.{Before, UpTo, after}}, proofs.Order.{UpTo-Before, UpTo-refl, after_past, from_first, order_cases}}
 use Rattle.lft_lists.proofs.Places.{get_append_cases, get_left, get_right, same_at}
-use Rattle.lft_ir.specs.declared.steps.row.Row.{Row}
-use Rattle.lft_ir.specs.Steps.Fits.{RowFits, RowsFit}
-use Rattle.lft_model.specs.Plans.{PlanParts}
-use Rattle.lft_model.specs.Presence.{stop}
-use Rattle.lft_model.proofs.Places.{slice_get_within}
+use Rattle.lft_ir.specs.{declared.steps.row.Row.Row, Steps.Fits.{RowFits, RowsFit}}
+use Rattle.lft_model.{specs.{Plans.PlanParts, Presence.stop}, proofs.Places.slice_get_within}
 use Rattle.lft_rows.specs.Slices.{Rises}
 use Rattle.lft_queue.specs.Coming.AtTag.{AreBefore}
-use Rattle.lft_monitor.specs.Sure.{IsUnbroken}
-use Rattle.lft_monitor.specs.Kept.{AreWays, IsKept, IsPast}
-use Rattle.lft_monitor.specs.declared.kept.Ways.{Ways}
-use Rattle.lft_monitor.specs.declared.past.Past.{Past}
+use Rattle.lft_monitor.specs.{Sure.IsUnbroken, Kept.{AreWays, IsKept, IsPast}, declared.{kept.Ways.Ways, past.Past.Past}}
 use Rattle.lft_monitor.proofs.Keeping.{AreLate, time_up, kept_both, kept_fit, kept_later, kept_more, kept_self, kept_through}
 
 -- the tag behind another is the first one behind it

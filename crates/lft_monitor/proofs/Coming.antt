@@ -1,30 +1,18 @@
 -- What is kept shows that nothing is broken before the tag that it has come to.
 use Rattle.std.proofs.Common.{◌≡◌, ℕ, ◌<◌, inl, inr, List, refl, sym, ap, ◌∙◌, subst, arith, Option, Some, None, slice_get, filter_map}
 use native.Mathlib.Decide.{dec_lt}
-use Rattle.lft_tag.specs.declared.Tag.{Tag}
-use Rattle.lft_tag.specs.Tags.{Before, UpTo}
-use Rattle.lft_tag.proofs.Order.{Before-UpTo, UpTo-Before}
+use Rattle.lft_tag.{specs.{declared.Tag.Tag, Tags.{Before, UpTo}}, proofs.Order.{Before-UpTo, UpTo-Before}}
 use Rattle.lft_lists.proofs.Places.{get_there, at_contains, contains_at, same_some}
-use Rattle.lft_ir.specs.declared.parts.Name.{Name}
-use Rattle.lft_ir.specs.declared.parts.Name.TheVariants.{Port, Action}
-use Rattle.lft_ir.specs.declared.parts.Reaction.{Reaction}
-use Rattle.lft_ir.specs.declared.parts.Trigger.{Trigger}
-use Rattle.lft_ir.specs.declared.parts.Trigger.TheVariants.{Startup, Shutdown, Timer, On}
-use Rattle.lft_ir.specs.declared.parts.Timer.{Timer as TimerOf}
+use Rattle.lft_ir.specs.declared.parts.{Name.{Name, TheVariants.{Port, Action}}, Reaction.Reaction}
+use Rattle.lft_ir.specs.declared.parts.{Trigger.{Trigger, TheVariants.{Startup, Shutdown, Timer, On}}, Timer.Timer as TimerOf}
 use Rattle.lft_ir.specs.declared.steps.row.Row.{Row}
-use Rattle.lft_model.specs.Plans.{PlanParts}
-use Rattle.lft_model.specs.Presence.{stop, Fires, Occurs, Triggered, ClashesAt}
-use Rattle.lft_model.specs.Runs.{Ran}
-use Rattle.lft_model.specs.Breaches.{BreaksTagUntil, BreaksAtUntil}
+use Rattle.lft_model.specs.{Plans.PlanParts, Presence.{stop, Fires, Occurs, Triggered, ClashesAt}, Runs.Ran, Breaches.{BreaksTagUntil, BreaksAtUntil}}
 use Rattle.lft_model.proofs.Places.{slice_get_within}
-use Rattle.lft_stream.specs.declared.due.Due.{Due}
-use Rattle.lft_stream.specs.declared.due.Due.TheVariants.{AtTag, AtStop, Never}
-use Rattle.lft_queue.specs.Coming.Listens.{Listens}
-use Rattle.lft_stream.specs.Dues.{firing, IsNextFiring, IsDue, timed, AreDue, IsDueBefore}
+use Rattle.lft_stream.specs.{declared.due.Due.{Due, TheVariants.{AtTag, AtStop, Never}}, Dues.{firing, IsNextFiring, IsDue, timed, AreDue, IsDueBefore}}
 use Rattle.lft_stream.specs.Streams.{State, IsStream}
 use Rattle.lft_stream.proofs.Owing.{due_occurs, firing_up, timed_there, timed_from}
-use Rattle.lft_monitor.specs.Sure.{IsUnbroken}
-use Rattle.lft_monitor.specs.Timely.{HasComeTo, TimelyLaw, OverdueLaw}
+use Rattle.lft_queue.specs.Coming.Listens.{Listens}
+use Rattle.lft_monitor.specs.{Sure.IsUnbroken, Timely.{HasComeTo, TimelyLaw, OverdueLaw}}
 
 -- a timer that isn't due before low is met before it
 firing_met : (t : List Row) (r : ℕ) (timer : TimerOf) (due : Due) (last low h : Tag) → IsNextFiring t r timer due → ¬ IsDueBefore last low due → Before h low → Fires timer h → Ran t h r

@@ -1,34 +1,16 @@
 -- Rows before a tag that cause nothing from there on may be dropped.
 use Rattle.std.proofs.Common.{◌≡◌, ◌↔◌, ℕ, ◌≤◌, ◌⊎◌, inl, inr, true, false, refl, List, [], ◌∷◌, ◌++◌, length, sym, ap, ◌∙◌, subst, Option, Some, None, filter_map, Contains}
-use Rattle.std.specs.List.{last_or, AllZip}
-use Rattle.std.proofs.lemmas.Bool.{false≢true}
-use Rattle.std.proofs.lemmas.List.Elements.{filter_map-append}
-use Rattle.lft_tag.specs.declared.Tag.{Tag}
-use Rattle.lft_tag.specs.Tags.{Before, UpTo, after_all}
-use Rattle.lft_tag.proofs.Order.{Before-UpTo}
+use Rattle.std.{specs.List.{last_or, AllZip}, proofs.lemmas.{Bool.false≢true, List.Elements.filter_map-append}}
+use Rattle.lft_tag.{specs.{declared.Tag.Tag, Tags.{Before, UpTo, after_all}}, proofs.Order.Before-UpTo}
 use Rattle.lft_lists.proofs.Members.{Mem, get_mem, contains_mem, mem_left, mem_filter}
-use Rattle.lft_ir.specs.Naming.{named}
-use Rattle.lft_ir.specs.Origins.{Origin}
-use Rattle.lft_ir.specs.Parts.{inputs}
-use Rattle.lft_ir.specs.declared.parts.Value.{Value}
-use Rattle.lft_ir.specs.declared.parts.Name.{Name}
-use Rattle.lft_ir.specs.declared.parts.Name.TheVariants.{Port, Action}
-use Rattle.lft_ir.specs.declared.parts.Trigger.{Trigger}
-use Rattle.lft_ir.specs.declared.parts.Trigger.TheVariants.{Startup, Shutdown, Timer, On}
-use Rattle.lft_queue.specs.Reading.{is_read}
+use Rattle.lft_ir.specs.{Naming.named, Origins.Origin, Parts.inputs}
+use Rattle.lft_ir.specs.declared.parts.{Value.Value, Name.{Name, TheVariants.{Port, Action}}, Trigger.{Trigger, TheVariants.{Startup, Shutdown, Timer, On}}}
 use Rattle.lft_ir.specs.declared.steps.row.Row.{Row}
-use Rattle.lft_model.specs.declared.breach.Breach.{Breach}
-use Rattle.lft_model.specs.Breaches.{TagBreachUntil}
-use Rattle.lft_model.specs.Plans.{PlanParts}
+use Rattle.lft_queue.{specs.{Reading.is_read, Coming.{AtOnce.IsAwaited, AtTag.AreBefore}}, proofs.ComingLemmas.AtOnce.input_awaited}
+use Rattle.lft_model.specs.{declared.breach.Breach.Breach, Breaches.TagBreachUntil, Plans.PlanParts}
 use Rattle.lft_model.specs.Presence.{written, scheduled, given, min_delay, events_of, IsWrittenFrom, At, Shows, Inputs, OccursUntil, TriggeredUntil, PortClash, ClashesAt, Collision}
 use Rattle.lft_model.specs.Runs.{reads_at}
-use Rattle.lft_queue.specs.Coming.AtOnce.{IsAwaited}
-use Rattle.lft_queue.specs.Coming.AtTag.{AreBefore}
-use Rattle.lft_queue.proofs.ComingLemmas.AtOnce.{input_awaited}
-use Rattle.lft_monitor.specs.Sure.{CauseSame, DroppedLaw}
-use Rattle.lft_monitor.specs.Kept.{GoesUnheard, CauseAlike}
-use Rattle.lft_monitor.proofs.Keeping.{AreLate, own_clash}
-use Rattle.lft_monitor.proofs.Same.{SameAt, same_breach}
+use Rattle.lft_monitor.{specs.{Sure.{CauseSame, DroppedLaw}, Kept.{GoesUnheard, CauseAlike}}, proofs.{Keeping.{AreLate, own_clash}, Same.{SameAt, same_breach}}}
 use Rattle.lft_stream.proofs.Before.{ran_second, ran_whole, too_early_second, too_early_whole, reads_second}
 
 -- two lists of rows, with the same rows behind them, cause the same at a tag; but where no reaction reads that matters only if two writes meet there

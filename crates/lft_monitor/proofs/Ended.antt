@@ -1,31 +1,17 @@
 -- Rows at hand behind rows that are done, where no more come: the first breach of all.
 use Rattle.std.proofs.Common.{◌≡◌, ℕ, ◌+◌, ◌^◌, ◌<◌, ◌≤◌, ◌⊎◌, inl, inr, List, [], ◌++◌, length, refl, sym, ap, ◌∙◌, subst, arith, Some, None, slice_get}
 use Rattle.std.proofs.lemmas.List.{append-nil}
-use Rattle.lft_tag.specs.declared.Tag.{Tag}
-use Rattle.lft_tag.specs.Tags.{Before, UpTo}
-use Rattle.lft_tag.proofs.Order.{Before-UpTo, UpTo-refl, order_cases}
-use Rattle.lft_lists.proofs.Members.{get_mem}
-use Rattle.lft_lists.proofs.Places.{get_append_cases, get_right, get_there}
+use Rattle.lft_tag.{specs.{declared.Tag.Tag, Tags.{Before, UpTo}}, proofs.Order.{Before-UpTo, UpTo-refl, order_cases}}
+use Rattle.lft_lists.proofs.{Members.get_mem, Places.{get_append_cases, get_right, get_there}}
 use Rattle.lft_ir.specs.declared.steps.row.Row.{Row}
-use Rattle.lft_model.specs.declared.breach.Breach.{Breach}
-use Rattle.lft_model.specs.Plans.{PlanParts}
-use Rattle.lft_model.specs.Presence.{stop}
+use Rattle.lft_model.specs.{declared.breach.Breach.Breach, Plans.PlanParts, Presence.stop}
 use Rattle.lft_model.specs.Breaches.{BreaksRowUntil, RowBreach, TagBreach, TagOrder, RowOrder, First}
 use Rattle.lft_model.proofs.Places.{slice_get_within}
-use Rattle.lft_rows.specs.Firsts.{FirstRow}
-use Rattle.lft_rows.specs.Parts.{AreEarlier}
-use Rattle.lft_rows.proofs.Together.{together}
-use Rattle.lft_stream.proofs.Behind.{in_time_added}
-use Rattle.lft_stream.proofs.Settling.{rows_in_time, rows_until}
-use Rattle.lft_monitor.specs.Sure.{IsFirstBefore}
-use Rattle.lft_monitor.specs.declared.follower.Follower.{Follower}
-use Rattle.lft_monitor.specs.declared.judged.Judged.{Judged}
-use Rattle.lft_monitor.specs.declared.past.Past.{Past}
-use Rattle.lft_monitor.specs.Kept.{IsPast}
+use Rattle.lft_rows.{specs.{Firsts.FirstRow, Parts.AreEarlier}, proofs.Together.together}
+use Rattle.lft_stream.proofs.{Behind.in_time_added, Settling.{rows_in_time, rows_until}}
+use Rattle.lft_monitor.specs.{Sure.IsFirstBefore, declared.{follower.Follower.Follower, judged.Judged.Judged, past.Past.Past}, Kept.IsPast}
 use Rattle.lft_monitor.specs.Follows.{AreJudged, done_of, IsFollowerOf, IsJudged, IsJudgedOf, KeepsRows}
-use Rattle.lft_monitor.proofs.Following.{judged_so_far}
-use Rattle.lft_monitor.proofs.Hand.{breaks_own, breaks_whole, unended_whole}
-use Rattle.lft_monitor.proofs.Rows.{breaks_back}
+use Rattle.lft_monitor.proofs.{Following.judged_so_far, Hand.{breaks_own, breaks_whole, unended_whole}, Rows.breaks_back}
 
 module _ (plan : PlanParts) (d v : List Row) (settled : FirstRow (stop plan d) plan d None) (earlier : AreEarlier d v) where
   abbrev pub all : List Row

@@ -1,27 +1,15 @@
 -- The first rule that is broken behind rows of which some are kept.
 use Rattle.std.proofs.Common.{◌≡◌, ◌↔◌, ℕ, ◌+◌, ◌-◌, ◌<◌, ◌≤◌, ◌⊎◌, inl, inr, List, ◌++◌, length, take, length-append, sym, ap, ◌∙◌, subst, arith, Some, slice_get, slice_range}
-use Rattle.std.proofs.Math.Seq.{take-append-add}
-use Rattle.std.proofs.lemmas.List.{append_assoc}
-use Rattle.lft_tag.specs.declared.Tag.{Tag}
-use Rattle.lft_tag.specs.Tags.{Before, UpTo}
-use Rattle.lft_tag.proofs.Order.{UpTo-refl, order_cases}
-use Rattle.lft_ir.proofs.Ranges.{range-get, range-within}
+use Rattle.std.proofs.{Math.Seq.take-append-add, lemmas.List.append_assoc}
+use Rattle.lft_tag.{specs.{declared.Tag.Tag, Tags.{Before, UpTo}}, proofs.Order.{UpTo-refl, order_cases}}
+use Rattle.lft_ir.{proofs.Ranges.{range-get, range-within}, specs.declared.steps.row.Row.Row}
 use Rattle.lft_lists.proofs.Places.{get_right, get_there}
-use Rattle.lft_ir.specs.declared.steps.row.Row.{Row}
-use Rattle.lft_model.specs.declared.breach.Breach.{Breach}
-use Rattle.lft_model.specs.Plans.{PlanParts}
-use Rattle.lft_model.specs.Presence.{stop}
-use Rattle.lft_model.specs.Breaches.{TagBreach, TagBreachUntil, TagOrder}
+use Rattle.lft_model.specs.{declared.breach.Breach.Breach, Plans.PlanParts, Presence.stop, Breaches.{TagBreach, TagBreachUntil, TagOrder}}
 use Rattle.lft_model.proofs.Stops.{stop_append}
 use Rattle.lft_check.specs.Verdicts.{LeastOf, BreachFrom}
 use Rattle.lft_stream.proofs.Parting.{up_to_second}
-use Rattle.lft_monitor.specs.Sure.{AreFrom, IsFirstBefore}
-use Rattle.lft_monitor.specs.Kept.{IsPast}
-use Rattle.lft_monitor.specs.declared.past.Past.{Past}
-use Rattle.lft_monitor.specs.Follows.{BeginsLast, IsFirstBehind, KeepsButLast}
-use Rattle.lft_monitor.proofs.Dropped.{dropped_alike}
-use Rattle.lft_monitor.proofs.Finished.{finished_law}
-use Rattle.lft_monitor.proofs.Keeping.{alike_nearer, from_late, kept_before, kept_stop}
+use Rattle.lft_monitor.specs.{Sure.{AreFrom, IsFirstBefore}, Kept.IsPast, declared.past.Past.Past, Follows.{BeginsLast, IsFirstBehind, KeepsButLast}}
+use Rattle.lft_monitor.proofs.{Dropped.dropped_alike, Finished.finished_law, Keeping.{alike_nearer, from_late, kept_before, kept_stop}}
 
 module _ (plan : PlanParts) (d u v : List Row) (p : Past) (is : IsPast plan d p) (high : Tag) (from : AreFrom u p.low) (later : AreFrom v high) where
   abbrev kept : List Row

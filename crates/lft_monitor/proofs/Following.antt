@@ -1,35 +1,19 @@
 -- What a follower holds, over more rows and over rows that are judged.
 use Rattle.std.proofs.Common.{◌≡◌, ℕ, ◌+◌, ◌-◌, ◌∷◌, ◌<◌, ◌≤◌, ◌⊎◌, inl, inr, List, [], ◌++◌, length, take, length-append, refl, sym, ap, ◌∙◌, subst, arith, Some, None, slice_get, slice_range}
-use Rattle.std.proofs.Math.Seq.{take-append_seam, take-length}
+use Rattle.std.proofs.{Math.Seq.{take-append_seam, take-length}, lemmas.List.{append_assoc, append-nil, take-append-le}}
 use native.Mathlib.Decide.{dec_lt}
-use Rattle.std.proofs.lemmas.List.{append_assoc, append-nil, take-append-le}
-use Rattle.lft_tag.specs.declared.Tag.{Tag}
-use Rattle.lft_tag.specs.Tags.{Before, UpTo}
-use Rattle.lft_tag.proofs.Order.{UpTo-Before, UpTo-refl, UpTo_antisym, order_cases, split_up}
-use Rattle.lft_ir.proofs.Ranges.{length-range, range-get}
+use Rattle.lft_tag.{specs.{declared.Tag.Tag, Tags.{Before, UpTo}}, proofs.Order.{UpTo-Before, UpTo-refl, UpTo_antisym, order_cases, split_up}}
+use Rattle.lft_ir.{proofs.Ranges.{length-range, range-get}, specs.{declared.steps.row.Row.Row, Steps.Fits.{RowFits, RowsFit}}}
 use Rattle.lft_lists.proofs.Places.{get_append_cases, get_right, get_there, same_at}
-use Rattle.lft_ir.specs.declared.steps.row.Row.{Row}
-use Rattle.lft_ir.specs.Steps.Fits.{RowFits, RowsFit}
-use Rattle.lft_model.specs.declared.breach.Breach.{Breach}
-use Rattle.lft_model.specs.Plans.{PlanParts}
-use Rattle.lft_model.specs.Presence.{stop}
-use Rattle.lft_model.proofs.Places.{slice_get_within, slice_get_take}
-use Rattle.lft_rows.specs.Firsts.{FirstRow}
-use Rattle.lft_rows.specs.Slices.{Rises}
-use Rattle.lft_rows.specs.Passes.{HasPassed, KeepsEarly}
+use Rattle.lft_model.{specs.{declared.breach.Breach.Breach, Plans.PlanParts, Presence.stop}, proofs.Places.{slice_get_within, slice_get_take}}
+use Rattle.lft_rows.specs.{Firsts.FirstRow, Slices.Rises, Passes.{HasPassed, KeepsEarly}}
 use Rattle.lft_queue.specs.Coming.AtTag.{AreAt, AreBefore}
 use Rattle.lft_stream.proofs.Parting.{range_fits}
-use Rattle.lft_monitor.specs.declared.gone.Going.{Going}
-use Rattle.lft_monitor.specs.declared.follower.Follower.{Follower}
-use Rattle.lft_monitor.specs.declared.gone.Halt.TheVariants.{AtEnd, AtRow, AtLater}
+use Rattle.lft_monitor.specs.declared.{gone.{Going.Going, Halt.TheVariants.{AtEnd, AtRow, AtLater}}, follower.Follower.Follower}
+use Rattle.lft_monitor.specs.declared.{judged.{Judged.Judged, Unjudged.Unjudged}, reach.Reach.Reach}
 use Rattle.lft_monitor.specs.Going.{AreEnded, AreOpen, IsGoing, IsGoneTo, IsFirstBad, IsLost, HasGone}
-use Rattle.lft_monitor.specs.declared.judged.Judged.{Judged}
-use Rattle.lft_monitor.specs.declared.judged.Unjudged.{Unjudged}
-use Rattle.lft_monitor.specs.declared.reach.Reach.{Reach}
 use Rattle.lft_monitor.specs.Follows.{done_of, AreDone, IsAtHand, IsClean, IsCleanTo, IsFollowerOf, IsHalt, IsHeld, IsJudged, IsJudgedOf, IsOdd, IsOddSoFar, IsQuiet, IsSureBehind, IsSureSoFar, IsTurn, IsUnjudged, BeginsLast}
-use Rattle.lft_monitor.proofs.Judging.{accepted_rise, all_at, parted, rest_at}
-use Rattle.lft_monitor.proofs.Over.{apart, keeps_but_last, quiet}
-use Rattle.lft_monitor.proofs.Telling.{IsOf, bad_is_sure, lost_is_sure}
+use Rattle.lft_monitor.proofs.{Judging.{accepted_rise, all_at, parted, rest_at}, Over.{apart, keeps_but_last, quiet}, Telling.{IsOf, bad_is_sure, lost_is_sure}}
 
 -- what is gone over is gone over still when more rows come behind
 pub going_more : (plan : PlanParts) (done rows more : List Row) (g : Going) → IsGoing plan done rows g → IsGoing plan done (rows ++ more) g

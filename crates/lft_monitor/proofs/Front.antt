@@ -2,21 +2,12 @@
 use Rattle.std.proofs.Common.{◌≡◌, ℕ, ◌+◌, ◌-◌, ◌<◌, ◌≤◌, inl, inr, List, ◌++◌, length, take, sym, ap, ◌∙◌, subst, arith, Some, slice_get, slice_range}
 use native.Mathlib.Decide.{dec_lt}
 use Rattle.lft_tag.proofs.Order.{Before-irrefl}
-use Rattle.lft_ir.proofs.Ranges.{range-get, range-within}
+use Rattle.lft_ir.{proofs.Ranges.{range-get, range-within}, specs.declared.steps.row.Row.Row}
 use Rattle.lft_lists.proofs.Places.{get_there}
-use Rattle.lft_ir.specs.declared.steps.row.Row.{Row}
-use Rattle.lft_model.specs.declared.breach.Breach.{Breach}
-use Rattle.lft_model.specs.Plans.{PlanParts}
-use Rattle.lft_model.specs.Presence.{stop}
-use Rattle.lft_model.specs.Runs.{end_row}
-use Rattle.lft_model.specs.Breaches.{IsUnended, BreaksRowUntil, RowBreachUntil}
+use Rattle.lft_model.specs.{declared.breach.Breach.Breach, Plans.PlanParts, Presence.stop, Runs.end_row, Breaches.{IsUnended, BreaksRowUntil, RowBreachUntil}}
 use Rattle.lft_model.proofs.Places.{slice_get_take, slice_get_taken}
-use Rattle.lft_stream.specs.Kept.{KeepRules}
-use Rattle.lft_stream.proofs.Parting.{up_to_second}
-use Rattle.lft_monitor.specs.Follows.{BeginsLast}
-use Rattle.lft_monitor.specs.Going.{IsGoneTo}
-use Rattle.lft_monitor.proofs.Over.{apart}
-use Rattle.lft_monitor.proofs.Rows.{breaks_added}
+use Rattle.lft_stream.{specs.Kept.KeepRules, proofs.Parting.up_to_second}
+use Rattle.lft_monitor.{specs.{Follows.BeginsLast, Going.IsGoneTo}, proofs.{Over.apart, Rows.breaks_added}}
 
 module _ (plan : PlanParts) (done rows : List Row) (i : ℕ) (gone : IsGoneTo plan done rows i) (begin : ℕ) (begins : BeginsLast rows i begin) where
   abbrev first : List Row

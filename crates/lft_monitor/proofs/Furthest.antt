@@ -1,24 +1,13 @@
 -- How far writes of a port are carried.
 use Rattle.std.proofs.Common.{◌≡◌, ℕ, ◌+◌, ◌<◌, ◌≤◌, ◌⊎◌, inl, inr, Bool, true, false, cond, refl, List, length, sym, ap, ◌∙◌, subst, arith, Some, slice_get, slice_set}
 use native.Mathlib.Decide.{ℕ_discrete}
-use Rattle.lft_tag.specs.declared.Tag.{Tag}
-use Rattle.lft_tag.specs.declared.Shift.{Shift}
-use Rattle.lft_tag.specs.Tags.{Before, UpTo, after_all}
-use Rattle.lft_tag.specs.Shifts.{Folded, join_all, none, shifted}
-use Rattle.lft_tag.proofs.Order.{UpTo-Before}
-use Rattle.lft_tag.proofs.Chains.{shifted_chain}
-use Rattle.lft_ir.specs.Parts.{Parts}
-use Rattle.lft_ir.specs.Sound.{IsSound}
-use Rattle.lft_ir.specs.Origins.{Origin}
-use Rattle.lft_ir.specs.declared.parts.Port.{Port}
-use Rattle.lft_ir.proofs.Origins.{origin_unique, origin_within}
+use Rattle.lft_tag.specs.{declared.{Tag.Tag, Shift.Shift}, Tags.{Before, UpTo, after_all}, Shifts.{Folded, join_all, none, shifted}}
+use Rattle.lft_tag.proofs.{Order.UpTo-Before, Chains.shifted_chain}
+use Rattle.lft_ir.{specs.{Parts.Parts, Sound.IsSound, Origins.Origin, declared.parts.Port.Port}, proofs.Origins.{origin_unique, origin_within}}
 use Rattle.lft_lists.proofs.Places.{get_there, get_written, get_unwritten, same_at, same_some}
 use Rattle.lft_model.proofs.Places.{slice_get_within}
-use Rattle.lft_queue.specs.Reading.{is_read}
-use Rattle.lft_queue.specs.Coming.Unread.{GoesAsFar}
-use Rattle.lft_queue.proofs.ComingLemmas.Ways.{moved_up, far_trans}
-use Rattle.lft_monitor.specs.Kept.{AreFurthest, AreWays}
-use Rattle.lft_monitor.specs.declared.kept.Ways.{Ways}
+use Rattle.lft_queue.{specs.{Reading.is_read, Coming.Unread.GoesAsFar}, proofs.ComingLemmas.Ways.{moved_up, far_trans}}
+use Rattle.lft_monitor.specs.{Kept.{AreFurthest, AreWays}, declared.kept.Ways.Ways}
 
 -- a port is marked
 abbrev pub IsMarked : List Bool → ℕ → Type 0

@@ -1,46 +1,26 @@
 -- What is kept of rows is right still once an external event is told that is behind those that are judged.
 use Rattle.std.proofs.Common.{◌≡◌, ℕ, ◌+◌, ◌<◌, ◌≤◌, ◌⊎◌, inl, inr, List, [], ◌∷◌, ◌++◌, length, length-append, drop, refl, sym, ap, ◌∙◌, subst, arith, Option, Some, None, slice_get, filter_map, Contains, option_to_list}
 use Rattle.std.specs.List.{cons_option, insert}
-use lib.ListN.{get_or}
-use native.Mathlib.Decide.{dec_lt}
 use Rattle.std.proofs.lemmas.Option.{slice_get-get_or, get_or_from_slice_get}
 use Rattle.std.proofs.lemmas.List.Edits.{get_or-insert_at, get_or-insert_below, get_or-insert_above, length-insert}
-use Rattle.lft_tag.specs.declared.Tag.{Tag}
-use Rattle.lft_tag.specs.Tags.{Before, UpTo, after}
+use lib.ListN.{get_or}
+use native.Mathlib.Decide.{dec_lt}
+use Rattle.lft_tag.specs.{declared.Tag.Tag, Tags.{Before, UpTo, after}}
 use Rattle.lft_tag.proofs.Order.{UpTo-refl, UpTo-not, UpTo-Before, Before-UpTo, Before-weaken, after_past, from_first}
 use Rattle.lft_lists.proofs.Members.{Mem, mem_get, get_mem, contains_mem, mem_contains, mem_left, mem_right, mem_cases}
-use Rattle.lft_ir.specs.Origins.{Origin}
-use Rattle.lft_ir.specs.Parts.{Parts}
-use Rattle.lft_ir.specs.declared.parts.Value.{Value}
-use Rattle.lft_ir.specs.declared.parts.Name.{Name}
-use Rattle.lft_ir.specs.declared.parts.Name.TheVariants.{Port, Action}
-use Rattle.lft_ir.specs.declared.parts.Trigger.TheVariants.{On}
+use Rattle.lft_ir.specs.{Origins.Origin, Parts.Parts}
+use Rattle.lft_ir.specs.declared.parts.{Value.Value, Name.{Name, TheVariants.{Port, Action}}, Trigger.TheVariants.On}
+use Rattle.lft_ir.specs.declared.steps.{externals.Event.Event, row.Row.Row}
 use Rattle.lft_ir.specs.Steps.Inputs.{ExternalInputs, ComesBefore, InOrder}
-use Rattle.lft_ir.specs.declared.steps.externals.Event.{Event}
-use Rattle.lft_ir.specs.declared.steps.row.Row.{Row}
-use Rattle.lft_model.specs.Plans.{PlanParts}
-use Rattle.lft_model.specs.Presence.{stop, scheduled, given, min_delay, IsWrittenFrom}
-use Rattle.lft_model.specs.Runs.{Ran, start_row}
+use Rattle.lft_model.specs.{Plans.PlanParts, Presence.{stop, scheduled, given, min_delay, IsWrittenFrom}, Runs.{Ran, start_row}}
 use Rattle.lft_model.proofs.Places.{slice_get_within}
-use Rattle.lft_queue.specs.Coming.AtTag.{AreBefore}
-use Rattle.lft_queue.specs.Coming.Coming.{AreComing}
-use Rattle.lft_queue.specs.Coming.Lanes.{held, given_to, IsDone, IsKept, IsLane}
-use Rattle.lft_stream.specs.declared.acceptor.Acceptor.{Acceptor}
-use Rattle.lft_stream.specs.declared.stream.Stream.{Stream}
-use Rattle.lft_stream.specs.Settled.{IsRightRun}
+use Rattle.lft_queue.specs.Coming.{AtTag.AreBefore, Coming.AreComing, Lanes.{held, given_to, IsDone, IsKept, IsLane}}
+use Rattle.lft_stream.specs.{declared.{acceptor.Acceptor.Acceptor, stream.Stream.Stream}, Settled.IsRightRun}
 use Rattle.lft_stream.specs.Kept.{AreUpTo, HaveCome, IsLater, IsOfRow, low_of, IsStreamOf, IsAcceptorOf}
-use Rattle.lft_monitor.specs.Sure.{IsUnbroken, with_inputs, GiveSame}
-use Rattle.lft_monitor.specs.Kept.{IsPast}
-use Rattle.lft_monitor.specs.Going.{IsGoing}
-use Rattle.lft_monitor.specs.Follows.{IsJudgedOf, IsFollowerOf, done_of}
-use Rattle.lft_monitor.specs.declared.past.Past.{Past}
-use Rattle.lft_monitor.specs.declared.gone.Going.{Going}
-use Rattle.lft_monitor.specs.declared.judged.Judged.{Judged}
-use Rattle.lft_monitor.specs.declared.follower.Follower.{Follower}
-use Rattle.lft_monitor.proofs.Behind.{after_least}
-use Rattle.lft_monitor.proofs.Later.{later_law, same_alike, at_alike, clash_alike}
-use Rattle.lft_monitor.proofs.OtherInputs.{row_other, listens_back, listeners_other, dues_other, right_other, kept_other}
-use Rattle.lft_monitor.proofs.Passed.{reach_up, done_before}
+use Rattle.lft_monitor.specs.{Sure.{IsUnbroken, with_inputs, GiveSame}, Kept.IsPast, Going.IsGoing, Follows.{IsJudgedOf, IsFollowerOf, done_of}}
+use Rattle.lft_monitor.specs.declared.{past.Past.Past, gone.Going.Going, judged.Judged.Judged, follower.Follower.Follower}
+use Rattle.lft_monitor.proofs.{Behind.after_least, Later.{later_law, same_alike, at_alike, clash_alike}}
+use Rattle.lft_monitor.proofs.{OtherInputs.{row_other, listens_back, listeners_other, dues_other, right_other, kept_other}, Passed.{reach_up, done_before}}
 use Rattle.lft_monitor.proofs.OneMore.{front_put, held_given, alone_given, given_more, given_before}
 
 later_up : (o : Option Tag) (g : Tag) → IsLater o g → UpTo (low_of o) g

@@ -1,16 +1,11 @@
 -- From what an acceptor keeps to what is sure of its rows.
 use Rattle.std.proofs.Common.{◌≡◌, ℕ, ◌+◌, ◌<◌, inl, inr, List, [], ◌++◌, length, ap, ◌∙◌, subst, arith, Option, Some, None, slice_get}
-use Rattle.lft_tag.specs.declared.Tag.{Tag}
-use Rattle.lft_tag.specs.Tags.{UpTo, after}
+use Rattle.lft_tag.specs.{declared.Tag.Tag, Tags.{UpTo, after}}
 use Rattle.lft_lists.proofs.Places.{get_right}
-use Rattle.lft_model.proofs.Places.{slice_get_within}
+use Rattle.lft_model.{proofs.Places.slice_get_within, specs.Plans.PlanParts}
 use Rattle.lft_ir.specs.declared.steps.row.Row.{Row}
-use Rattle.lft_model.specs.Plans.{PlanParts}
-use Rattle.lft_stream.specs.declared.stream.Stream.{Stream}
-use Rattle.lft_stream.specs.Dues.{NoneDueBefore}
-use Rattle.lft_stream.specs.Kept.{AreUpTo, low_of, state_of, IsStreamOf}
-use Rattle.lft_monitor.specs.Sure.{IsUnbroken}
-use Rattle.lft_monitor.proofs.Coming.{timely_law}
+use Rattle.lft_stream.specs.{declared.stream.Stream.Stream, Dues.NoneDueBefore, Kept.{AreUpTo, low_of, state_of, IsStreamOf}}
+use Rattle.lft_monitor.{specs.Sure.IsUnbroken, proofs.Coming.timely_law}
 
 pub shown : (plan : PlanParts) (t : List Row) (low : Tag) (s : Stream) → IsStreamOf plan t s → UpTo low (low_of s.tag) → NoneDueBefore s.stop low s.dues → IsUnbroken plan t low
 shown plan t low s stands up none = timely_law plan t low (state_of stands.lanes (low_of s.tag) s) stands.state (record { lows = λ n. up; dues = subst (λ (k : Tag). NoneDueBefore k low s.dues) stands.stop_is none })

@@ -1,18 +1,11 @@
 -- Rows at hand behind rows that are done: what breaks a rule of rows there breaks it in the whole, and the other way round.
 use Rattle.std.proofs.Common.{◌≡◌, ℕ, ◌+◌, ◌<◌, ◌⊎◌, inl, inr, List, ◌++◌, length, refl, ◌∙◌, subst, arith, Some, None, slice_get}
-use Rattle.lft_tag.specs.declared.Tag.{Tag}
-use Rattle.lft_tag.specs.Tags.{Before, UpTo}
-use Rattle.lft_tag.proofs.Order.{Before-irrefl, Before-trans, UpTo-Before}
+use Rattle.lft_tag.{specs.{declared.Tag.Tag, Tags.{Before, UpTo}}, proofs.Order.{Before-irrefl, Before-trans, UpTo-Before}}
 use Rattle.lft_lists.proofs.Places.{get_left, get_right, get_append_cases}
-use Rattle.lft_ir.specs.declared.steps.row.Row.{Row}
-use Rattle.lft_ir.specs.declared.steps.row.Step.{Step}
-use Rattle.lft_ir.specs.declared.steps.row.Step.TheVariants.{Start, Read, Write, Schedule, Stop, End}
-use Rattle.lft_model.specs.Plans.{PlanParts}
-use Rattle.lft_model.specs.Runs.{start_row, end_row}
-use Rattle.lft_model.specs.Breaches.{IsLate, IsOpen, IsOutOfOrder, IsUndeclared, IsUnended, BreaksRowUntil}
+use Rattle.lft_ir.specs.declared.steps.row.{Row.Row, Step.{Step, TheVariants.{Start, Read, Write, Schedule, Stop, End}}}
+use Rattle.lft_model.specs.{Plans.PlanParts, Runs.{start_row, end_row}, Breaches.{IsLate, IsOpen, IsOutOfOrder, IsUndeclared, IsUnended, BreaksRowUntil}}
 use Rattle.lft_model.proofs.Places.{slice_get_within}
-use Rattle.lft_rows.specs.Firsts.{FirstRow}
-use Rattle.lft_rows.specs.Parts.{AreEarlier}
+use Rattle.lft_rows.specs.{Firsts.FirstRow, Parts.AreEarlier}
 
 -- a run of rows at hand without an end has none in the whole
 pub unended_whole : (d v : List Row) (j : ℕ) (x : Row) → IsUnended v j x → IsUnended (d ++ v) (length d + j) x

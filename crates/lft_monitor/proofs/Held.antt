@@ -1,15 +1,12 @@
 -- How many rows are at the last tag.
 use Rattle.std.proofs.Common.{◌≡◌, ◌∙◌, ◌+◌, ◌-◌, ◌<◌, ◌≤◌, ℕ, List, [], ◌∷◌, ◌++◌, Some, length, length-append, slice_get, refl, sym, ap, subst, arith}
 use native.Mathlib.Decide.{dec_lt}
-use Rattle.lft_tag.specs.declared.Tag.{Tag}
-use Rattle.lft_tag.specs.Tags.{Before}
-use Rattle.lft_tag.proofs.Order.{Before-irrefl}
+use Rattle.lft_tag.{specs.{declared.Tag.Tag, Tags.Before}, proofs.Order.Before-irrefl}
 use Rattle.lft_lists.proofs.Places.{get_left, get_right, get_there}
 use Rattle.lft_ir.specs.declared.steps.row.Row.{Row}
 use Rattle.lft_model.specs.Plans.{PlanParts}
 use Rattle.lft_queue.specs.Coming.AtTag.{AreAt}
-use Rattle.lft_monitor.specs.Follows.{HasManyAtLast, IsFollowerOf, IsHeld, done_of}
-use Rattle.lft_monitor.specs.declared.follower.Follower.{Follower}
+use Rattle.lft_monitor.specs.{Follows.{HasManyAtLast, IsFollowerOf, IsHeld, done_of}, declared.follower.Follower.Follower}
 
 module _ (plan : PlanParts) (t : List Row) (f : Follower) (is : IsFollowerOf plan t f) where
   abbrev h : IsHeld plan t f

@@ -1,28 +1,15 @@
 -- Rows whose tags are finished are judged behind others.
 use Rattle.std.proofs.Common.{◌≡◌, ℕ, ◌+◌, ◌-◌, ◌^◌, ◌<◌, ◌≤◌, ◌⊎◌, inl, inr, List, [], ◌∷◌, ◌++◌, length, length-append, refl, sym, ap, ◌∙◌, subst, arith, Option, Some, None, slice_get, slice_range}
-use Rattle.std.proofs.Math.Seq.{take-length}
-use Rattle.std.proofs.lemmas.List.{append_assoc, append-nil}
+use Rattle.std.proofs.{Math.Seq.take-length, lemmas.List.{append_assoc, append-nil}}
 use native.Mathlib.Decide.{dec_lt}
-use Rattle.lft_tag.specs.declared.Tag.{Tag}
-use Rattle.lft_tag.specs.Tags.{Before, UpTo, after}
-use Rattle.lft_tag.proofs.Order.{UpTo-refl, Before-UpTo, from_first}
+use Rattle.lft_tag.{specs.{declared.Tag.Tag, Tags.{Before, UpTo, after}}, proofs.Order.{UpTo-refl, Before-UpTo, from_first}}
 use Rattle.lft_lists.proofs.Places.{get_last, get_right, get_there, same_at}
-use Rattle.lft_ir.proofs.Ranges.{range-get, range-within}
-use Rattle.lft_ir.specs.declared.steps.row.Row.{Row}
-use Rattle.lft_model.specs.Plans.{PlanParts}
-use Rattle.lft_model.specs.Presence.{stop}
-use Rattle.lft_model.specs.Runs.{start_row, Ran}
-use Rattle.lft_model.proofs.Places.{slice_get_within}
+use Rattle.lft_ir.{proofs.Ranges.{range-get, range-within}, specs.declared.steps.row.Row.Row}
+use Rattle.lft_model.{specs.{Plans.PlanParts, Presence.stop, Runs.{start_row, Ran}}, proofs.Places.slice_get_within}
 use Rattle.lft_rows.specs.Slices.{Rises}
 use Rattle.lft_queue.specs.Coming.AtTag.{AreAt}
-use Rattle.lft_stream.specs.declared.acceptor.Acceptor.{Acceptor}
-use Rattle.lft_stream.specs.Kept.{IsAcceptorOf, low_of}
-use Rattle.lft_stream.proofs.Parting.{rises_from, up_to_second}
-use Rattle.lft_monitor.specs.Sure.{IsUnbroken}
-use Rattle.lft_monitor.specs.Reach.{IsLastOf, IsReach}
-use Rattle.lft_monitor.specs.declared.reach.Reach.{Reach}
-use Rattle.lft_monitor.specs.declared.judged.Judged.{Judged}
-use Rattle.lft_monitor.specs.Kept.{IsPast}
+use Rattle.lft_stream.{specs.{declared.acceptor.Acceptor.Acceptor, Kept.{IsAcceptorOf, low_of}}, proofs.Parting.{rises_from, up_to_second}}
+use Rattle.lft_monitor.specs.{Sure.IsUnbroken, Reach.{IsLastOf, IsReach}, declared.{reach.Reach.Reach, judged.Judged.Judged}, Kept.IsPast}
 use Rattle.lft_monitor.specs.Follows.{IsJudgedOf, AreLast, BeginsLast}
 use Rattle.lft_monitor.proofs.Going.{next_up}
 

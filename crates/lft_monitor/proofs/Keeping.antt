@@ -1,35 +1,18 @@
 -- Rows that are kept for what they cause later.
 use Rattle.std.proofs.Common.{◌≡◌, ◌≢◌, ℕ, zero, suc, ◌+◌, ◌<◌, ◌≤◌, ◌⊎◌, inl, inr, List, [], ◌∷◌, ◌++◌, append-nil, length, take, refl, sym, ap, ◌∙◌, subst, arith, Bool, true, false, cond, IsTrue, Option, Some, None, slice_get, slice_set, filter_map, Contains}
-use Rattle.std.specs.List.{cons_option}
-use Rattle.std.specs.Option.{option_and_then}
-use Rattle.std.proofs.lemmas.List.Elements.{filter_map-append}
-use Rattle.std.proofs.lemmas.Option.{get_or_from_slice_get}
+use Rattle.std.{specs.{List.cons_option, Option.option_and_then}, proofs.lemmas.{List.Elements.filter_map-append, Option.get_or_from_slice_get}}
 use native.Mathlib.Decide.{ℕ_discrete}
-use Rattle.lft_tag.specs.declared.Tag.{Tag}
-use Rattle.lft_tag.specs.Tags.{Before, UpTo, after, after_all, same_tag, earliest}
-use Rattle.lft_tag.proofs.Order.{UpTo-trans, UpTo-not}
+use Rattle.lft_tag.{specs.{declared.Tag.Tag, Tags.{Before, UpTo, after, after_all, same_tag, earliest}}, proofs.Order.{UpTo-trans, UpTo-not}}
 use Rattle.lft_lists.proofs.Members.{Mem, mem_cases, mem_left, mem_right, contains_mem, mem_contains, get_mem, mem_filter, mem_from_filter, last_mem, last_of_mem}
-use Rattle.lft_lists.proofs.Picked.{take_one_more}
-use Rattle.lft_lists.proofs.Places.{at_contains, contains_at, get_unwritten, get_write_cases, length_written, same_at}
-use Rattle.lft_ir.specs.Origins.{Origin}
-use Rattle.lft_ir.specs.declared.parts.Value.{Value}
+use Rattle.lft_lists.proofs.{Picked.take_one_more, Places.{at_contains, contains_at, get_unwritten, get_write_cases, length_written, same_at}}
+use Rattle.lft_ir.specs.{Origins.Origin, declared.{parts.{Value.Value, Name.TheVariants.Port}, steps.row.{Row.Row, Step.{Step, TheVariants.Write}}}}
 use Rattle.lft_ir.proofs.Origins.{origin_unique}
-use Rattle.lft_ir.specs.declared.parts.Name.TheVariants.{Port}
-use Rattle.lft_ir.specs.declared.steps.row.Row.{Row}
-use Rattle.lft_ir.specs.declared.steps.row.Step.{Step}
-use Rattle.lft_ir.specs.declared.steps.row.Step.TheVariants.{Write}
-use Rattle.lft_model.specs.Fitting.{EachFits}
-use Rattle.lft_model.specs.Plans.{PlanParts}
+use Rattle.lft_model.specs.{Fitting.EachFits, Plans.PlanParts}
 use Rattle.lft_model.specs.Presence.{asked, scheduled, stop, value_written, value_scheduled, written, min_delay, Last, IsWrittenFrom, PortClash}
-use Rattle.lft_model.proofs.Ended.{written_by}
-use Rattle.lft_model.proofs.Places.{slice_get_within}
-use Rattle.lft_model.proofs.Steps.{written_some}
-use Rattle.lft_model.proofs.Stops.{stop_append}
-use Rattle.lft_queue.specs.Coming.AtTag.{AreBefore}
+use Rattle.lft_model.proofs.{Ended.written_by, Places.slice_get_within, Steps.written_some, Stops.stop_append}
+use Rattle.lft_queue.specs.{Coming.AtTag.AreBefore, Reading.is_read}
 use Rattle.lft_stream.specs.Owed.{MeetNowhere}
-use Rattle.lft_queue.specs.Reading.{is_read}
-use Rattle.lft_monitor.specs.Sure.{AreFrom}
-use Rattle.lft_monitor.specs.Kept.{GoesUnheard, CauseAlike, IsIdle, IsKept}
+use Rattle.lft_monitor.specs.{Sure.AreFrom, Kept.{GoesUnheard, CauseAlike, IsIdle, IsKept}}
 
 -- what two lists pick of theirs, one behind the other
 over : {X : Type 0} (f : Row → Option X) (d e u v : List Row) → filter_map f d ≡ filter_map f e → filter_map f u ≡ filter_map f v → filter_map f (d ++ u) ≡ filter_map f (e ++ v)

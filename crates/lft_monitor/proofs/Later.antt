@@ -1,23 +1,15 @@
 -- External inputs that come later change nothing before their tags.
 use Rattle.std.proofs.Common.{◌≡◌, ℕ, ◌≤◌, ◌⊎◌, inl, inr, List, [], ◌∷◌, ◌++◌, length, sym, ap, ◌∙◌, subst, Option, Some, None, filter_map, Contains}
 use Rattle.std.specs.List.{AllZip}
-use Rattle.lft_tag.specs.declared.Tag.{Tag}
-use Rattle.lft_tag.specs.Tags.{Before, UpTo}
-use Rattle.lft_tag.proofs.Order.{Before-irrefl, Before-UpTo, Before-weaken}
+use Rattle.lft_tag.{specs.{declared.Tag.Tag, Tags.{Before, UpTo}}, proofs.Order.{Before-irrefl, Before-UpTo, Before-weaken}}
 use Rattle.lft_ir.specs.Parts.{inputs}
-use Rattle.lft_ir.specs.declared.parts.Value.{Value}
-use Rattle.lft_ir.specs.declared.parts.Name.{Name}
-use Rattle.lft_ir.specs.declared.parts.Name.TheVariants.{Port, Action}
-use Rattle.lft_ir.specs.declared.parts.Trigger.{Trigger}
-use Rattle.lft_ir.specs.declared.parts.Trigger.TheVariants.{Startup, Shutdown, Timer, On}
-use Rattle.lft_ir.specs.Steps.Inputs.{ExternalInputs}
+use Rattle.lft_ir.specs.declared.parts.{Value.Value, Name.{Name, TheVariants.{Port, Action}}, Trigger.{Trigger, TheVariants.{Startup, Shutdown, Timer, On}}}
 use Rattle.lft_ir.specs.declared.steps.row.Row.{Row}
+use Rattle.lft_ir.specs.Steps.Inputs.{ExternalInputs}
 use Rattle.lft_model.specs.Plans.{PlanParts}
 use Rattle.lft_model.specs.Presence.{scheduled, given, min_delay, events_of, IsWrittenFrom, At, Shows, Inputs, OccursUntil, Triggered, ClashesAt, Collision, stop}
-use Rattle.lft_model.specs.Runs.{reads_at}
-use Rattle.lft_model.specs.Breaches.{IsTooEarly, TagBreach}
-use Rattle.lft_monitor.specs.Sure.{with_inputs, LaterInputsLaw}
-use Rattle.lft_monitor.proofs.Same.{SameAt, same_breach}
+use Rattle.lft_model.specs.{Runs.reads_at, Breaches.{IsTooEarly, TagBreach}}
+use Rattle.lft_monitor.{specs.Sure.{with_inputs, LaterInputsLaw}, proofs.Same.{SameAt, same_breach}}
 
 -- what one list of external inputs has at g the other has too, of two plans with one program
 module _ (plan : PlanParts) (one other : ExternalInputs) (t : List Row) (g : Tag) (alike : (a : ℕ) → filter_map (given g a) one.events ≡ filter_map (given g a) other.events) where

@@ -1,18 +1,13 @@
 -- What external inputs give once one more event stands among them.
 use Rattle.std.proofs.Common.{◌≡◌, ℕ, zero, suc, ◌+◌, ◌<◌, ◌≤◌, inl, inr, ◌==◌, ◌&&◌, Bool, true, false, cond, List, [], ◌∷◌, ◌++◌, length, drop, refl, sym, ap, ◌∙◌, subst, arith, Option, Some, None, slice_get, filter_map, option_to_list}
 use Rattle.std.specs.List.{cons_option, insert}
+use Rattle.std.proofs.lemmas.Option.{slice_get_within, get_or_from_slice_get}
+use Rattle.std.proofs.lemmas.{List.Edits.{get_or-insert_at, get_or-insert_below, get_or-insert_above, length-insert}, Bool.eqb-true}
 use lib.ListN.{get_or}
 use native.Mathlib.Decide.{dec_lt}
-use Rattle.std.proofs.lemmas.Option.{slice_get_within, get_or_from_slice_get}
-use Rattle.std.proofs.lemmas.List.Edits.{get_or-insert_at, get_or-insert_below, get_or-insert_above, length-insert}
-use Rattle.std.proofs.lemmas.Bool.{eqb-true}
-use Rattle.lft_tag.specs.declared.Tag.{Tag}
-use Rattle.lft_tag.specs.Tags.{Before, same_tag}
-use Rattle.lft_tag.proofs.Order.{Before-irrefl, same_tag_true}
+use Rattle.lft_tag.{specs.{declared.Tag.Tag, Tags.{Before, same_tag}}, proofs.Order.{Before-irrefl, same_tag_true}}
 use Rattle.lft_lists.proofs.Members.{none_nil}
-use Rattle.lft_ir.specs.declared.parts.Value.{Value}
-use Rattle.lft_ir.specs.Steps.Inputs.{ComesBefore, InOrder}
-use Rattle.lft_ir.specs.declared.steps.externals.Event.{Event}
+use Rattle.lft_ir.specs.{declared.{parts.Value.Value, steps.externals.Event.Event}, Steps.Inputs.{ComesBefore, InOrder}}
 use Rattle.lft_model.specs.Presence.{given}
 use Rattle.lft_queue.specs.Coming.Lanes.{held, given_to}
 

@@ -1,23 +1,15 @@
 -- Runs without an end among rows that are gone through.
 use Rattle.std.proofs.Common.{◌≡◌, ℕ, ◌+◌, ◌<◌, ◌≤◌, ◌⊎◌, inl, inr, Bool, true, false, List, [], ◌∷◌, ◌++◌, length, refl, sym, ap, ◌∙◌, subst, arith, Some, slice_get}
 use Rattle.std.specs.Prelude.{◌↔◌, IsTrue, min}
-use Rattle.std.proofs.Math.Bool.{not}
-use Rattle.std.proofs.Math.Nat.{le-min}
+use Rattle.std.proofs.Math.{Bool.not, Nat.le-min}
 use native.Mathlib.Decide.{dec_lt}
 use Rattle.lft_lists.proofs.Places.{get_append_cases, get_last, get_left, get_push, get_push_cases, get_right, same_at}
-use Rattle.lft_ir.specs.declared.steps.row.Row.{Row}
-use Rattle.lft_model.specs.Plans.{PlanParts}
-use Rattle.lft_model.specs.Presence.{stop}
-use Rattle.lft_ir.specs.declared.steps.row.Step.TheVariants.{Start}
-use Rattle.lft_model.specs.Runs.{end_row}
-use Rattle.lft_model.specs.Breaches.{IsUnended}
-use Rattle.lft_model.proofs.Places.{slice_get_within}
+use Rattle.lft_ir.specs.declared.steps.row.{Row.Row, Step.TheVariants.Start}
+use Rattle.lft_model.{specs.{Plans.PlanParts, Presence.stop, Runs.end_row, Breaches.IsUnended}, proofs.Places.slice_get_within}
 use Rattle.lft_monitor.specs.declared.follower.Follower.{Follower}
 use Rattle.lft_monitor.specs.declared.open.OpenRun.{OpenRun}
-use Rattle.lft_monitor.specs.Follows.{IsFollowerOf}
-use Rattle.lft_monitor.specs.OpenRuns.{AreOpenRuns, EndBefore, IsOpenRun, run_in}
-use Rattle.lft_monitor.proofs.Ended.{at_end}
-use Rattle.lft_monitor.proofs.Hand.{ended, unended_whole}
+use Rattle.lft_monitor.specs.{Follows.IsFollowerOf, OpenRuns.{AreOpenRuns, EndBefore, IsOpenRun, run_in}}
+use Rattle.lft_monitor.proofs.{Ended.at_end, Hand.{ended, unended_whole}}
 
 -- whether the row starts a run without an end, where its end is looked for up to the last of its reaction
 module _ (t : List Row) (place past : ℕ) (last : List ℕ) (row : Row) (starts : row.step ≡ Start) (before : EndBefore t (length t) last) (at : slice_get last row.reaction ≡ Some past) where

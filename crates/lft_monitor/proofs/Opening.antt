@@ -1,14 +1,9 @@
 -- How many runs are open, one row after another.
 use Rattle.std.proofs.Common.{◌≡◌, ℕ, suc, ◌+◌, ◌-◌, ◌<◌, ◌≤◌, ◌⊎◌, inl, inr, List, [], ◌∷◌, length, take, refl, sym, ap, ◌∙◌, arith, Option, Some, None, Contains, slice_get}
 use native.Mathlib.Decide.{dec_lt}
-use Rattle.lft_lists.proofs.Members.{Mem, contains_mem, mem_contains}
-use Rattle.lft_lists.proofs.Places.{same_at}
-use Rattle.lft_ir.specs.declared.steps.row.Row.{Row}
-use Rattle.lft_ir.specs.declared.steps.row.Step.{Step}
-use Rattle.lft_ir.specs.declared.steps.row.Step.TheVariants.{Start, Read, Write, Schedule, Stop, End}
-use Rattle.lft_model.specs.Runs.{start_row, end_row}
-use Rattle.lft_model.specs.Breaches.{IsOpen, IsUnended}
-use Rattle.lft_model.proofs.Places.{slice_get_take, slice_get_taken}
+use Rattle.lft_lists.proofs.{Members.{Mem, contains_mem, mem_contains}, Places.same_at}
+use Rattle.lft_ir.specs.declared.steps.row.{Row.Row, Step.{Step, TheVariants.{Start, Read, Write, Schedule, Stop, End}}}
+use Rattle.lft_model.{specs.{Runs.{start_row, end_row}, Breaches.{IsOpen, IsUnended}}, proofs.Places.{slice_get_take, slice_get_taken}}
 use Rattle.lft_rows.specs.Passes.{IsOnlyOpen, OpenPlace, Unended}
 use Rattle.lft_monitor.specs.Going.{AreOpen, opened}
 

@@ -1,28 +1,13 @@
 -- What stays right of rows with other external inputs.
 use Rattle.std.proofs.Common.{◌≡◌, ℕ, ◌⊎◌, inl, inr, List, Some, slice_get, filter_map}
-use Rattle.lft_tag.specs.declared.Tag.{Tag}
-use Rattle.lft_tag.specs.Tags.{Before, UpTo, after_all}
-use Rattle.lft_tag.proofs.Order.{UpTo-trans}
-use Rattle.lft_ir.specs.declared.parts.Value.{Value}
-use Rattle.lft_ir.specs.declared.parts.Trigger.{Trigger}
-use Rattle.lft_ir.specs.declared.parts.Trigger.TheVariants.{Startup, Shutdown, Timer, On}
+use Rattle.lft_tag.{specs.{declared.Tag.Tag, Tags.{Before, UpTo, after_all}}, proofs.Order.UpTo-trans}
+use Rattle.lft_ir.specs.declared.{parts.{Value.Value, Trigger.{Trigger, TheVariants.{Startup, Shutdown, Timer, On}}}, steps.row.Row.Row}
 use Rattle.lft_ir.specs.Steps.Inputs.{ExternalInputs}
-use Rattle.lft_ir.specs.declared.steps.row.Row.{Row}
-use Rattle.lft_model.specs.declared.breach.Breach.{Breach}
-use Rattle.lft_model.specs.Plans.{PlanParts}
-use Rattle.lft_model.specs.Presence.{stop, written, IsWrittenFrom, PortClash}
-use Rattle.lft_model.specs.Runs.{Ran}
+use Rattle.lft_model.specs.{declared.breach.Breach.Breach, Plans.PlanParts, Presence.{stop, written, IsWrittenFrom, PortClash}, Runs.Ran}
 use Rattle.lft_model.specs.Breaches.{BreaksRowUntil, RowBreachUntil}
-use Rattle.lft_queue.specs.Coming.Listens.{Listens}
-use Rattle.lft_queue.specs.Coming.Listeners.{AreListeners}
-use Rattle.lft_queue.specs.declared.coming.listeners.Listeners.{Listeners}
-use Rattle.lft_stream.specs.declared.due.Due.{Due}
-use Rattle.lft_stream.specs.declared.due.Due.TheVariants.{AtTag, AtStop, Never}
-use Rattle.lft_stream.specs.Dues.{IsDue, AreDues}
-use Rattle.lft_stream.specs.Settled.{IsRightRun}
-use Rattle.lft_monitor.specs.Sure.{with_inputs}
-use Rattle.lft_monitor.specs.Kept.{GoesUnheard, IsKept}
-use Rattle.lft_monitor.proofs.Same.{SameAt}
+use Rattle.lft_queue.specs.{Coming.{Listens.Listens, Listeners.AreListeners}, declared.coming.listeners.Listeners.Listeners}
+use Rattle.lft_stream.specs.{declared.due.Due.{Due, TheVariants.{AtTag, AtStop, Never}}, Dues.{IsDue, AreDues}, Settled.IsRightRun}
+use Rattle.lft_monitor.{specs.{Sure.with_inputs, Kept.{GoesUnheard, IsKept}}, proofs.Same.SameAt}
 
 module _ (plan : PlanParts) (inputs : ExternalInputs) where
   abbrev other : PlanParts

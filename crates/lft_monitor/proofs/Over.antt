@@ -2,31 +2,17 @@
 use Rattle.std.proofs.Common.{◌≡◌, ℕ, ◌+◌, ◌-◌, ◌<◌, ◌≤◌, ◌⊎◌, inl, inr, List, [], ◌∷◌, ◌++◌, append-nil, length, take, refl, sym, ap, ◌∙◌, subst, arith, Some, None, slice_get, slice_range}
 use Rattle.std.proofs.lemmas.List.{append_assoc, length-take-le}
 use native.Mathlib.Decide.{dec_lt}
-use Rattle.lft_tag.specs.declared.Tag.{Tag}
-use Rattle.lft_tag.specs.Tags.{Before, UpTo}
+use Rattle.lft_tag.specs.{declared.Tag.Tag, Tags.{Before, UpTo}}
 use Rattle.lft_tag.proofs.Order.{Before-irrefl, Before-trans, Before-UpTo, Before-weaken, UpTo-Before, UpTo-refl, UpTo-not, UpTo_antisym, order_cases, split_up}
-use Rattle.lft_ir.proofs.Ranges.{range-get, range-within}
+use Rattle.lft_ir.{proofs.Ranges.{range-get, range-within}, specs.declared.steps.row.Row.Row}
 use Rattle.lft_lists.proofs.Places.{get_append_cases, get_there, same_at}
-use Rattle.lft_ir.specs.declared.steps.row.Row.{Row}
-use Rattle.lft_model.specs.declared.breach.Breach.{Breach}
-use Rattle.lft_model.specs.Plans.{PlanParts}
-use Rattle.lft_model.specs.Presence.{stop}
-use Rattle.lft_model.specs.Breaches.{IsUnended, BreaksRowUntil, RowBreach, TagBreach, RowOrder}
+use Rattle.lft_model.specs.{declared.breach.Breach.Breach, Plans.PlanParts, Presence.stop, Breaches.{IsUnended, BreaksRowUntil, RowBreach, TagBreach, RowOrder}}
 use Rattle.lft_model.proofs.Places.{slice_get_within, slice_get_take, slice_get_taken}
-use Rattle.lft_rows.specs.Firsts.{FirstRow}
-use Rattle.lft_rows.specs.Parts.{AreEarlier}
-use Rattle.lft_rows.specs.Passes.{FirstUnended, KeepsEarly}
+use Rattle.lft_rows.specs.{Firsts.FirstRow, Parts.AreEarlier, Passes.{FirstUnended, KeepsEarly}}
 use Rattle.lft_queue.specs.Coming.AtTag.{AreBefore}
-use Rattle.lft_stream.proofs.Parting.{up_to_second}
-use Rattle.lft_stream.proofs.Settling.{rows_until}
-use Rattle.lft_monitor.specs.Sure.{AreFrom}
-use Rattle.lft_monitor.specs.Going.{IsGoneTo}
-use Rattle.lft_monitor.specs.Kept.{IsPast}
-use Rattle.lft_monitor.specs.declared.past.Past.{Past}
-use Rattle.lft_monitor.specs.Follows.{BeginsLast, IsQuiet, KeepsButLast}
-use Rattle.lft_monitor.proofs.Finished.{finished_law}
-use Rattle.lft_monitor.proofs.Hand.{breaks_own}
-use Rattle.lft_monitor.proofs.Rows.{breaks_back}
+use Rattle.lft_stream.proofs.{Parting.up_to_second, Settling.rows_until}
+use Rattle.lft_monitor.specs.{Sure.AreFrom, Going.IsGoneTo, Kept.IsPast, declared.past.Past.Past, Follows.{BeginsLast, IsQuiet, KeepsButLast}}
+use Rattle.lft_monitor.proofs.{Finished.finished_law, Hand.breaks_own, Rows.breaks_back}
 
 module _ (plan : PlanParts) (done rows : List Row) (i : ℕ) (gone : IsGoneTo plan done rows i) where
   abbrev pub over : List Row

@@ -1,18 +1,12 @@
 -- Tags that no row is past.
 use Rattle.std.proofs.Common.{◌≡◌, ℕ, ◌+◌, ◌⊎◌, inl, inr, List, [], ◌∷◌, length, refl, sym, ap, ◌∙◌, subst, Option, Some, None, slice_get, ⊎_elim}
-use Rattle.lft_tag.specs.declared.Tag.{Tag}
-use Rattle.lft_tag.specs.Tags.{Before, UpTo}
-use Rattle.lft_tag.proofs.Order.{Before-irrefl, Before-trans, Before-UpTo, UpTo-not, from_first, order_cases}
+use Rattle.lft_tag.{specs.{declared.Tag.Tag, Tags.{Before, UpTo}}, proofs.Order.{Before-irrefl, Before-trans, Before-UpTo, UpTo-not, from_first, order_cases}}
 use Rattle.lft_lists.proofs.Places.{get_right, get_last, get_append_cases}
 use Rattle.lft_ir.specs.declared.steps.row.Row.{Row}
-use Rattle.lft_model.specs.Plans.{PlanParts}
-use Rattle.lft_model.specs.Runs.{Ran, start_row}
+use Rattle.lft_model.specs.{Plans.PlanParts, Runs.{Ran, start_row}}
 use Rattle.lft_queue.specs.Coming.AtTag.{AreAt, AreBefore}
 use Rattle.lft_stream.specs.Kept.{low_of}
-use Rattle.lft_monitor.specs.Reach.{IsLastOf, IsReach}
-use Rattle.lft_monitor.specs.Follows.{IsFollowerOf, IsPassed, done_of}
-use Rattle.lft_monitor.specs.declared.reach.Reach.{Reach}
-use Rattle.lft_monitor.specs.declared.follower.Follower.{Follower}
+use Rattle.lft_monitor.specs.{Reach.{IsLastOf, IsReach}, Follows.{IsFollowerOf, IsPassed, done_of}, declared.{reach.Reach.Reach, follower.Follower.Follower}}
 use Rattle.lft_monitor.proofs.Behind.{after_least}
 
 -- the last tag with a run is before all that is behind the rows

@@ -1,31 +1,18 @@
 -- One row after another is gone over, at hand behind rows that are done.
 use Rattle.std.proofs.Common.{◌≡◌, ℕ, ◌+◌, ◌-◌, ◌<◌, ◌≤◌, ◌⊎◌, inl, inr, List, [], ◌∷◌, ◌++◌, length, take, refl, sym, ap, ◌∙◌, subst, arith, Option, Some, None, MatchOption, slice_get, slice_range}
-use Rattle.std.proofs.lemmas.List.{append-nil, length-take-le}
-use Rattle.std.proofs.lemmas.Option.{get_or_from_slice_get}
+use Rattle.std.proofs.lemmas.{List.{append-nil, length-take-le}, Option.get_or_from_slice_get}
 use native.Mathlib.Decide.{dec_lt}
-use Rattle.lft_tag.specs.declared.Tag.{Tag}
-use Rattle.lft_tag.specs.Tags.{Before, UpTo, after}
+use Rattle.lft_tag.specs.{declared.Tag.Tag, Tags.{Before, UpTo, after}}
 use Rattle.lft_tag.proofs.Order.{Before-irrefl, Before-UpTo, UpTo-Before, UpTo-refl, UpTo-trans, Before-weaken, after_past, order_cases}
-use Rattle.lft_lists.proofs.Members.{Mem}
-use Rattle.lft_lists.proofs.Places.{get_there, same_at}
-use Rattle.lft_lists.proofs.Picked.{take_one_more}
-use Rattle.lft_ir.specs.declared.steps.row.Row.{Row}
-use Rattle.lft_ir.specs.declared.steps.row.Step.{Step}
-use Rattle.lft_ir.specs.declared.steps.row.Step.TheVariants.{End}
-use Rattle.lft_model.specs.Breaches.{IsOpen, IsOutOfOrder, IsUnended}
-use Rattle.lft_model.specs.Plans.{PlanParts}
-use Rattle.lft_model.specs.Presence.{stop, requests}
-use Rattle.lft_model.proofs.Places.{slice_get_within, slice_get_take, slice_get_taken}
-use Rattle.lft_model.proofs.Stops.{asker, stop_added}
-use Rattle.lft_rows.specs.Passes.{KeepsEarly, EarlyRule, FirstUnended, HasPassed, HasGoneOn, IsPass}
-use Rattle.lft_rows.specs.Places.{place_of}
-use Rattle.lft_rows.specs.declared.pass.Pass.{Pass}
+use Rattle.lft_lists.proofs.{Members.Mem, Places.{get_there, same_at}, Picked.take_one_more}
+use Rattle.lft_ir.specs.declared.steps.row.{Row.Row, Step.{Step, TheVariants.End}}
+use Rattle.lft_model.specs.{Breaches.{IsOpen, IsOutOfOrder, IsUnended}, Plans.PlanParts, Presence.{stop, requests}}
+use Rattle.lft_model.proofs.{Places.{slice_get_within, slice_get_take, slice_get_taken}, Stops.{asker, stop_added}}
+use Rattle.lft_rows.specs.{Passes.{KeepsEarly, EarlyRule, FirstUnended, HasPassed, HasGoneOn, IsPass}, Places.place_of, declared.pass.Pass.Pass}
 use Rattle.lft_rows.proofs.Growing.{grown_law, nearer_law}
 use Rattle.lft_stream.proofs.Parting.{up_to_second}
-use Rattle.lft_monitor.specs.declared.gone.Going.{Going}
-use Rattle.lft_monitor.specs.Going.{AreEnded, AreOpen, HasEnded, IsGoing, IsGoneTo, IsFirstBad, IsLost, opened}
-use Rattle.lft_monitor.proofs.Opening.{next_open, opened_few, unended_front}
-use Rattle.lft_monitor.proofs.Stops.{stop_row}
+use Rattle.lft_monitor.specs.{declared.gone.Going.Going, Going.{AreEnded, AreOpen, HasEnded, IsGoing, IsGoneTo, IsFirstBad, IsLost, opened}}
+use Rattle.lft_monitor.proofs.{Opening.{next_open, opened_few, unended_front}, Stops.stop_row}
 
 -- what a pass goes by is of the program
 pub is_pass : (plan : PlanParts) (done rows : List Row) (g : Going) → IsGoing plan done rows g → IsPass plan.program g.pass

@@ -1,19 +1,12 @@
 -- How far rows reach, one row after another.
 use Rattle.std.proofs.Common.{◌≡◌, ℕ, ◌+◌, ◌<◌, ◌⊎◌, inl, inr, List, [], ◌∷◌, ◌++◌, length, take, length-append, refl, sym, ap, ◌∙◌, subst, arith, Option, Some, None, slice_get}
 use native.Mathlib.Decide.{dec_lt}
-use Rattle.lft_tag.specs.declared.Tag.{Tag}
-use Rattle.lft_tag.specs.Tags.{Before, UpTo}
-use Rattle.lft_tag.proofs.Order.{Before-trans, split_up}
+use Rattle.lft_tag.{specs.{declared.Tag.Tag, Tags.{Before, UpTo}}, proofs.Order.{Before-trans, split_up}}
 use Rattle.lft_lists.proofs.Places.{get_push, get_last, get_push_cases, same_at}
-use Rattle.lft_ir.specs.declared.steps.row.Row.{Row}
-use Rattle.lft_ir.specs.declared.steps.row.Step.TheVariants.{Start}
-use Rattle.lft_model.specs.Runs.{start_row, Ran}
-use Rattle.lft_model.proofs.Places.{slice_get_within, slice_get_take, slice_get_taken}
-use Rattle.lft_rows.specs.Slices.{AreTags, Rises}
-use Rattle.lft_rows.proofs.Counted.{count_start, count_inner}
-use Rattle.lft_rows.proofs.Steps.{row_eq}
-use Rattle.lft_monitor.specs.Reach.{IsLastOf, IsReach}
-use Rattle.lft_monitor.specs.declared.reach.Reach.{Reach}
+use Rattle.lft_ir.specs.declared.steps.row.{Row.Row, Step.TheVariants.Start}
+use Rattle.lft_model.{specs.Runs.{start_row, Ran}, proofs.Places.{slice_get_within, slice_get_take, slice_get_taken}}
+use Rattle.lft_rows.{specs.Slices.{AreTags, Rises}, proofs.{Counted.{count_start, count_inner}, Steps.row_eq}}
+use Rattle.lft_monitor.specs.{Reach.{IsLastOf, IsReach}, declared.reach.Reach.Reach}
 
 module _ (t : List Row) (n : ℕ) (row : Row) (at : slice_get t n ≡ Some row) where
   ran_more : (g : Tag) (c : ℕ) → Ran (take n t) g c → Ran (take (n + 1) t) g c

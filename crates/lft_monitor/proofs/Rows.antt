@@ -1,16 +1,10 @@
 -- Rows that break one of the rules 1 to 4 break it still, whatever comes behind them.
 use Rattle.std.proofs.Common.{◌≡◌, ℕ, ◌+◌, ◌<◌, ◌≤◌, ◌⊎◌, inl, inr, List, ◌++◌, length, arith, Some, slice_get}
 use Rattle.std.proofs.lemmas.Option.{slice_get_within}
-use Rattle.lft_tag.specs.declared.Tag.{Tag}
-use Rattle.lft_tag.proofs.Order.{UpTo-Before}
+use Rattle.lft_tag.{specs.declared.Tag.Tag, proofs.Order.UpTo-Before}
 use Rattle.lft_lists.proofs.Places.{get_left, get_append_cases}
-use Rattle.lft_ir.specs.declared.steps.row.Row.{Row}
-use Rattle.lft_ir.specs.declared.steps.row.Step.{Step}
-use Rattle.lft_ir.specs.declared.steps.row.Step.TheVariants.{Start, Read, Write, Schedule, Stop, End}
-use Rattle.lft_model.specs.Plans.{PlanParts}
-use Rattle.lft_model.specs.Presence.{stop}
-use Rattle.lft_model.specs.Runs.{start_row, end_row}
-use Rattle.lft_model.specs.Breaches.{IsOpen, IsOutOfOrder, IsUndeclared, BreaksRowUntil}
+use Rattle.lft_ir.specs.declared.steps.row.{Row.Row, Step.{Step, TheVariants.{Start, Read, Write, Schedule, Stop, End}}}
+use Rattle.lft_model.specs.{Plans.PlanParts, Presence.stop, Runs.{start_row, end_row}, Breaches.{IsOpen, IsOutOfOrder, IsUndeclared, BreaksRowUntil}}
 use Rattle.lft_model.proofs.Stops.{stop_append}
 use Rattle.lft_monitor.specs.Sure.{RowLaw}
 

@@ -1,12 +1,8 @@
 -- Two traces of which the rules 6 to 10 ask the same at a tag.
 use Rattle.std.proofs.Common.{ℕ, inl, inr, List, Option, Some, None}
-use Rattle.lft_tag.specs.declared.Tag.{Tag}
-use Rattle.lft_tag.specs.Tags.{UpTo}
+use Rattle.lft_tag.specs.{declared.Tag.Tag, Tags.UpTo}
 use Rattle.lft_ir.specs.declared.steps.row.Row.{Row}
-use Rattle.lft_model.specs.declared.breach.Breach.{Breach}
-use Rattle.lft_model.specs.Plans.{PlanParts}
-use Rattle.lft_model.specs.Presence.{TriggeredUntil, Inputs, Collision}
-use Rattle.lft_model.specs.Runs.{Ran, reads_at}
+use Rattle.lft_model.specs.{declared.breach.Breach.Breach, Plans.PlanParts, Presence.{TriggeredUntil, Inputs, Collision}, Runs.{Ran, reads_at}}
 use Rattle.lft_model.specs.Breaches.{IsTooEarly, BreaksTagUntil, BreaksAtUntil, TagBreachUntil}
 
 -- what the rules 6 to 10 ask of one trace at a tag, where one stop is the last, holds of another, with its plan and its stop

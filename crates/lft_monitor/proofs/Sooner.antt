@@ -1,36 +1,17 @@
 -- What is kept of rows is right still once the plan stops sooner, at a tag that no row is past.
 use Rattle.std.proofs.Common.{◌≡◌, ℕ, ◌<◌, ◌⊎◌, inl, inr, List, [], ◌∷◌, ◌++◌, take, refl, sym, ap, ◌∙◌, subst, arith, Some, slice_get, ⊎_elim}
-use Rattle.lft_tag.specs.declared.Tag.{Tag}
-use Rattle.lft_tag.specs.Tags.{Before, UpTo, earlier, earliest}
+use Rattle.lft_tag.specs.{declared.Tag.Tag, Tags.{Before, UpTo, earlier, earliest}}
 use Rattle.lft_tag.proofs.Order.{Before-weaken, UpTo-refl, UpTo-trans, UpTo-not, UpTo_antisym, earlier_cases, order_cases}
-use Rattle.lft_ir.specs.declared.parts.Value.{Value}
-use Rattle.lft_ir.specs.declared.parts.Name.{Name}
-use Rattle.lft_ir.specs.declared.parts.Name.TheVariants.{Port, Action}
-use Rattle.lft_ir.specs.declared.parts.Trigger.TheVariants.{On}
+use Rattle.lft_ir.specs.declared.{parts.{Value.Value, Name.{Name, TheVariants.{Port, Action}}, Trigger.TheVariants.On}, steps.row.Row.Row}
 use Rattle.lft_ir.specs.Steps.Inputs.{ExternalInputs}
-use Rattle.lft_ir.specs.declared.steps.row.Row.{Row}
-use Rattle.lft_model.specs.Plans.{PlanParts}
-use Rattle.lft_model.specs.Presence.{stop, requests, At, ClashesAt}
-use Rattle.lft_model.specs.Runs.{Ran, start_row}
-use Rattle.lft_model.specs.Breaches.{BreaksRowUntil}
+use Rattle.lft_model.specs.{Plans.PlanParts, Presence.{stop, requests, At, ClashesAt}, Runs.{Ran, start_row}, Breaches.BreaksRowUntil}
 use Rattle.lft_model.proofs.Places.{slice_get_take}
-use Rattle.lft_rows.specs.Passes.{HasPassed}
-use Rattle.lft_rows.proofs.Growing.{nearer_law}
-use Rattle.lft_queue.specs.Coming.AtTag.{AreBefore}
-use Rattle.lft_queue.specs.Coming.Lanes.{IsLane}
-use Rattle.lft_stream.specs.declared.stream.Stream.{Stream}
-use Rattle.lft_stream.specs.Settled.{IsRightRun}
-use Rattle.lft_stream.specs.Kept.{low_of, stopped_stream, IsStreamOf}
-use Rattle.lft_monitor.specs.Sure.{IsUnbroken, GiveSame}
-use Rattle.lft_monitor.specs.Kept.{IsPast}
-use Rattle.lft_monitor.specs.Going.{IsGoing}
-use Rattle.lft_monitor.specs.Follows.{IsJudgedOf, IsFollowerOf, done_of, stopped_at, stopped_judged}
-use Rattle.lft_monitor.specs.declared.past.Past.{Past}
-use Rattle.lft_monitor.specs.declared.gone.Going.{Going}
-use Rattle.lft_monitor.specs.declared.judged.Judged.{Judged}
-use Rattle.lft_monitor.specs.declared.follower.Follower.{Follower}
-use Rattle.lft_monitor.proofs.Same.{SameAt}
-use Rattle.lft_monitor.proofs.Later.{later_law, same_alike, same_time, same_stop, turned_stop, at_alike, clash_alike}
+use Rattle.lft_rows.{specs.Passes.HasPassed, proofs.Growing.nearer_law}
+use Rattle.lft_queue.specs.Coming.{AtTag.AreBefore, Lanes.IsLane}
+use Rattle.lft_stream.specs.{declared.stream.Stream.Stream, Settled.IsRightRun, Kept.{low_of, stopped_stream, IsStreamOf}}
+use Rattle.lft_monitor.specs.{Sure.{IsUnbroken, GiveSame}, Kept.IsPast, Going.IsGoing, Follows.{IsJudgedOf, IsFollowerOf, done_of, stopped_at, stopped_judged}}
+use Rattle.lft_monitor.specs.declared.{past.Past.Past, gone.Going.Going, judged.Judged.Judged, follower.Follower.Follower}
+use Rattle.lft_monitor.proofs.{Same.SameAt, Later.{later_law, same_alike, same_time, same_stop, turned_stop, at_alike, clash_alike}}
 use Rattle.lft_monitor.proofs.Passed.{reach_up, hand_up, done_before}
 use Rattle.lft_monitor.proofs.OtherInputs.{row_other, listens_back, listeners_other, dues_other, right_other, kept_other}
 

@@ -1,18 +1,10 @@
 -- What is sure stays sure, whatever rows come at later tags.
 use Rattle.std.proofs.Common.{◌≡◌, ℕ, ◌+◌, ◌<◌, ◌≤◌, ◌⊎◌, inl, inr, List, ◌++◌, length, subst, arith, Some, slice_get}
-use Rattle.lft_tag.specs.declared.Tag.{Tag}
-use Rattle.lft_tag.specs.Tags.{Before, UpTo}
-use Rattle.lft_tag.proofs.Order.{Before-UpTo, UpTo-not}
+use Rattle.lft_tag.{specs.{declared.Tag.Tag, Tags.{Before, UpTo}}, proofs.Order.{Before-UpTo, UpTo-not}}
 use Rattle.lft_lists.proofs.Places.{get_left, get_append_cases}
 use Rattle.lft_ir.specs.declared.steps.row.Row.{Row}
-use Rattle.lft_model.specs.declared.breach.Breach.{Breach}
-use Rattle.lft_model.specs.Plans.{PlanParts}
-use Rattle.lft_model.specs.Presence.{stop}
-use Rattle.lft_model.specs.Runs.{end_row}
-use Rattle.lft_model.specs.Breaches.{IsUnended, BreaksRowUntil, RowBreach}
-use Rattle.lft_monitor.specs.Sure.{AreFrom, SureLaw}
-use Rattle.lft_monitor.proofs.Rows.{row_law}
-use Rattle.lft_monitor.proofs.Finished.{finished_law}
+use Rattle.lft_model.specs.{declared.breach.Breach.Breach, Plans.PlanParts, Presence.stop, Runs.end_row, Breaches.{IsUnended, BreaksRowUntil, RowBreach}}
+use Rattle.lft_monitor.{specs.Sure.{AreFrom, SureLaw}, proofs.{Rows.row_law, Finished.finished_law}}
 
 module _ (d u : List Row) (low : Tag) (from : AreFrom u low) where
   -- a run at a finished tag gets no end row any more

@@ -1,18 +1,11 @@
 -- The stop, one row after another.
 use Rattle.std.proofs.Common.{◌≡◌, ℕ, ◌+◌, ◌⊎◌, inl, inr, List, [], ◌∷◌, ◌++◌, take, refl, sym, ap, ◌∙◌, subst, Some, slice_get}
-use Rattle.std.proofs.lemmas.List.{append_assoc}
-use Rattle.std.proofs.lemmas.Option.{get_or_from_slice_get}
-use Rattle.lft_tag.specs.declared.Tag.{Tag}
-use Rattle.lft_tag.specs.Tags.{Before, UpTo, after}
-use Rattle.lft_tag.proofs.Order.{UpTo-refl, UpTo_antisym, Before-weaken, order_cases}
-use Rattle.lft_lists.proofs.Members.{Mem, mem_right}
-use Rattle.lft_lists.proofs.Picked.{take_one_more}
-use Rattle.lft_ir.specs.declared.steps.row.Row.{Row}
-use Rattle.lft_ir.specs.declared.steps.row.Step.TheVariants.{Stop}
-use Rattle.lft_model.specs.Plans.{PlanParts}
-use Rattle.lft_model.specs.Presence.{stop, requests}
-use Rattle.lft_model.proofs.Places.{slice_get_within}
-use Rattle.lft_model.proofs.Stops.{ask, asker, stop_append, stop_added, stop_asked}
+use Rattle.std.proofs.lemmas.{List.append_assoc, Option.get_or_from_slice_get}
+use Rattle.lft_tag.{specs.{declared.Tag.Tag, Tags.{Before, UpTo, after}}, proofs.Order.{UpTo-refl, UpTo_antisym, Before-weaken, order_cases}}
+use Rattle.lft_lists.proofs.{Members.{Mem, mem_right}, Picked.take_one_more}
+use Rattle.lft_ir.specs.declared.steps.row.{Row.Row, Step.TheVariants.Stop}
+use Rattle.lft_model.specs.{Plans.PlanParts, Presence.{stop, requests}}
+use Rattle.lft_model.proofs.{Places.slice_get_within, Stops.{ask, asker, stop_append, stop_added, stop_asked}}
 
 module _ (plan : PlanParts) (t : List Row) (row : Row) (last : Tag) (is : last ≡ stop plan t) where
   abbrev more : List Row

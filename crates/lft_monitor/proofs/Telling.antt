@@ -1,33 +1,19 @@
 -- What is found at hand is sure of the whole.
 use Rattle.std.proofs.Common.{◌≡◌, ℕ, ◌+◌, ◌-◌, ◌<◌, ◌≤◌, ◌⊎◌, inl, inr, List, [], ◌∷◌, ◌++◌, length, take, refl, sym, ap, ◌∙◌, subst, arith, Some, None, slice_get, length-append}
-use Rattle.std.proofs.Math.Seq.{take-append-add}
-use Rattle.std.proofs.lemmas.List.{append_assoc}
-use Rattle.std.proofs.lemmas.Option.{get_or_from_slice_get}
+use Rattle.std.proofs.{Math.Seq.take-append-add, lemmas.{List.append_assoc, Option.get_or_from_slice_get}}
 use native.Mathlib.Decide.{dec_lt}
-use Rattle.lft_tag.specs.declared.Tag.{Tag}
-use Rattle.lft_tag.specs.Tags.{Before, UpTo, after}
-use Rattle.lft_tag.proofs.Order.{Before-irrefl, Before-trans, Before-UpTo, after_past, order_cases}
-use Rattle.lft_lists.proofs.Members.{Mem, get_mem, mem_cases}
-use Rattle.lft_lists.proofs.Places.{get_left, get_right, get_append_cases, get_there, same_at, same_some}
+use Rattle.lft_tag.{specs.{declared.Tag.Tag, Tags.{Before, UpTo, after}}, proofs.Order.{Before-irrefl, Before-trans, Before-UpTo, after_past, order_cases}}
+use Rattle.lft_lists.proofs.{Members.{Mem, get_mem, mem_cases}, Places.{get_left, get_right, get_append_cases, get_there, same_at, same_some}}
 use Rattle.lft_lists.proofs.Picked.{take_one_more}
-use Rattle.lft_ir.specs.declared.steps.row.Row.{Row}
-use Rattle.lft_ir.specs.declared.steps.row.Step.TheVariants.{Stop}
-use Rattle.lft_model.specs.declared.breach.Breach.{Breach}
-use Rattle.lft_model.specs.Plans.{PlanParts}
-use Rattle.lft_model.specs.Presence.{stop, requests}
-use Rattle.lft_model.specs.Runs.{end_row}
+use Rattle.lft_ir.specs.declared.steps.row.{Row.Row, Step.TheVariants.Stop}
+use Rattle.lft_model.specs.{declared.breach.Breach.Breach, Plans.PlanParts, Presence.{stop, requests}, Runs.end_row}
 use Rattle.lft_model.specs.Breaches.{IsUnended, RowBreach, BreaksRowUntil}
-use Rattle.lft_model.proofs.Places.{slice_get_within, slice_get_take, slice_get_taken}
-use Rattle.lft_model.proofs.Stops.{asker, stop_added, stop_append}
-use Rattle.lft_rows.specs.Firsts.{FirstRow}
-use Rattle.lft_rows.specs.Parts.{AreEarlier}
+use Rattle.lft_model.proofs.{Places.{slice_get_within, slice_get_take, slice_get_taken}, Stops.{asker, stop_added, stop_append}}
+use Rattle.lft_rows.specs.{Firsts.FirstRow, Parts.AreEarlier}
 use Rattle.lft_queue.specs.Coming.AtTag.{AreBefore}
-use Rattle.lft_stream.proofs.Behind.{in_time_added}
-use Rattle.lft_stream.proofs.Settling.{rows_in_time, rows_until}
-use Rattle.lft_monitor.specs.Follows.{IsQuiet, IsSureBehind}
-use Rattle.lft_monitor.specs.Going.{IsFirstBad, IsLost}
-use Rattle.lft_monitor.proofs.Hand.{breaks_own, breaks_whole, ended}
-use Rattle.lft_monitor.proofs.Over.{earlier, first_open}
+use Rattle.lft_stream.proofs.{Behind.in_time_added, Settling.{rows_in_time, rows_until}}
+use Rattle.lft_monitor.specs.{Follows.{IsQuiet, IsSureBehind}, Going.{IsFirstBad, IsLost}}
+use Rattle.lft_monitor.proofs.{Hand.{breaks_own, breaks_whole, ended}, Over.{earlier, first_open}}
 
 -- what a breach says of a row
 abbrev pub IsOf : Breach → Row → Type 0

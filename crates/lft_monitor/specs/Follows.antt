@@ -1,36 +1,18 @@
 -- What is kept of rows that are judged while they come, and what is told of them.
 use Rattle.std.specs.Prelude.{◌≡◌, ℕ, Bool, true, false, ◌+◌, ◌-◌, ◌^◌, ◌≤◌, ◌<◌, ◌⊎◌, List, [], ◌++◌, length, take, None, Some, slice_get}
 use Rattle.std.specs.List.{insert}
-use Rattle.lft_tag.specs.declared.Tag.{Tag}
-use Rattle.lft_tag.specs.Tags.{Before, UpTo, earlier}
-use Rattle.lft_ir.specs.declared.steps.externals.Event.{Event}
-use Rattle.lft_ir.specs.declared.steps.row.Row.{Row}
-use Rattle.lft_ir.specs.Steps.Fits.{RowsFit}
-use Rattle.lft_ir.specs.Steps.Inputs.{IsTold}
-use Rattle.lft_model.specs.declared.breach.Breach.{Breach}
-use Rattle.lft_model.specs.Plans.{PlanParts}
-use Rattle.lft_model.specs.Presence.{stop}
-use Rattle.lft_model.specs.Breaches.{RowBreach, RowOrder, TagBreach, First}
-use Rattle.lft_rows.specs.Accepted.{IsAccepted}
-use Rattle.lft_rows.specs.Firsts.{FirstRow}
+use Rattle.lft_tag.specs.{declared.Tag.Tag, Tags.{Before, UpTo, earlier}}
+use Rattle.lft_ir.specs.{declared.steps.{externals.Event.Event, row.Row.Row}, Steps.{Fits.RowsFit, Inputs.IsTold}}
+use Rattle.lft_model.specs.{declared.breach.Breach.Breach, Plans.PlanParts, Presence.stop, Breaches.{RowBreach, RowOrder, TagBreach, First}}
+use Rattle.lft_rows.specs.{Accepted.IsAccepted, Firsts.FirstRow}
 use Rattle.lft_queue.specs.Coming.AtTag.{AreAt, AreBefore}
 use Rattle.lft_stream.specs.Kept.{IsAcceptorOf, low_of, stopped_stream}
-use Rattle.lft_monitor.specs.Sure.{IsUnbroken, IsFirstBefore, with_inputs}
-use Rattle.lft_monitor.specs.Kept.{IsPast}
-use Rattle.lft_monitor.specs.Going.{IsFirstBad, IsGoing, IsGoneTo, IsLost}
-use Rattle.lft_monitor.specs.Reach.{IsReach}
-use Rattle.lft_monitor.specs.declared.reach.Reach.{Reach}
-use Rattle.lft_monitor.specs.declared.judged.Judged.{Judged}
-use Rattle.lft_monitor.specs.declared.judged.Closing.{Closing}
-use Rattle.lft_monitor.specs.declared.judged.Closing.TheVariants as closing
-use Rattle.lft_monitor.specs.declared.judged.Ending.{Ending}
-use Rattle.lft_monitor.specs.declared.judged.Ending.TheVariants as ending
-use Rattle.lft_monitor.specs.declared.judged.Unjudged.{Unjudged}
-use Rattle.lft_monitor.specs.declared.follower.Follower.{Follower}
+use Rattle.lft_monitor.specs.{Sure.{IsUnbroken, IsFirstBefore, with_inputs}, Kept.IsPast, Going.{IsFirstBad, IsGoing, IsGoneTo, IsLost}, Reach.IsReach}
+use Rattle.lft_monitor.specs.declared.{reach.Reach.Reach, judged.{Judged.Judged, Closing.Closing, Ending.Ending, Unjudged.Unjudged}}
+use Rattle.lft_monitor.specs.declared.follower.{Follower.Follower, Progress.{Progress, TheVariants.{GoesOn, Broken, Odd, TooMany}}, Receipt.Receipt}
 use Rattle.lft_monitor.specs.declared.found.Found.{Found}
-use Rattle.lft_monitor.specs.declared.follower.Progress.{Progress}
-use Rattle.lft_monitor.specs.declared.follower.Progress.TheVariants.{GoesOn, Broken, Odd, TooMany}
-use Rattle.lft_monitor.specs.declared.follower.Receipt.{Receipt}
+use Rattle.lft_monitor.specs.declared.judged.Closing.TheVariants as closing
+use Rattle.lft_monitor.specs.declared.judged.Ending.TheVariants as ending
 use Rattle.lft_monitor.specs.declared.follower.Receipt.TheVariants as receipt
 
 -- the rows reach so far, and no rule is broken in them before the tag behind their last

@@ -1,17 +1,10 @@
 -- What is known of rows at hand that are gone over row by row. This serves the follower's proof alone.
 use Rattle.std.specs.Prelude.{◌≡◌, ℕ, ◌+◌, ◌-◌, ◌≤◌, List, ◌++◌, length, take, Some, Contains, slice_get}
-use Rattle.lft_tag.specs.declared.Tag.{Tag}
-use Rattle.lft_tag.specs.Tags.{Before}
-use Rattle.lft_ir.specs.declared.steps.row.Row.{Row}
-use Rattle.lft_ir.specs.declared.steps.row.Step.{Step}
-use Rattle.lft_ir.specs.declared.steps.row.Step.TheVariants.{Start, Read, Write, Schedule, Stop, End}
-use Rattle.lft_model.specs.Plans.{PlanParts}
-use Rattle.lft_model.specs.Presence.{stop}
-use Rattle.lft_model.specs.Breaches.{IsUnended}
+use Rattle.lft_tag.specs.{declared.Tag.Tag, Tags.Before}
+use Rattle.lft_ir.specs.declared.steps.row.{Row.Row, Step.{Step, TheVariants.{Start, Read, Write, Schedule, Stop, End}}}
+use Rattle.lft_model.specs.{Plans.PlanParts, Presence.stop, Breaches.IsUnended}
 use Rattle.lft_rows.specs.Passes.{KeepsEarly, EarlyRule, FirstUnended, HasPassed}
-use Rattle.lft_monitor.specs.declared.gone.Going.{Going}
-use Rattle.lft_monitor.specs.declared.gone.Halt.{Halt}
-use Rattle.lft_monitor.specs.declared.gone.Halt.TheVariants.{AtEnd, AtRow, AtLater}
+use Rattle.lft_monitor.specs.declared.gone.{Going.Going, Halt.{Halt, TheVariants.{AtEnd, AtRow, AtLater}}}
 
 -- each run of the rows that starts before the tag has its end among them
 abbrev pub AreEnded : List Row → Tag → Type 0

@@ -1,21 +1,10 @@
 -- What is kept of rows that are judged, so that what is broken behind them can be named.
 use Rattle.std.specs.Prelude.{◌≡◌, ℕ, ◌<◌, ◌≤◌, ◌⊎◌, Bool, List, length, Some, None, true, false, slice_get, filter_map, Contains}
-use Rattle.lft_tag.specs.declared.Tag.{Tag}
-use Rattle.lft_tag.specs.Tags.{UpTo, after_all}
-use Rattle.lft_tag.specs.declared.Shift.{Shift}
-use Rattle.lft_ir.specs.Parts.{Parts}
-use Rattle.lft_ir.specs.Origins.{Origin}
-use Rattle.lft_ir.specs.declared.parts.Port.{Port}
-use Rattle.lft_ir.specs.declared.steps.row.Row.{Row}
-use Rattle.lft_model.specs.Plans.{PlanParts}
-use Rattle.lft_model.specs.Presence.{asked, requests, scheduled, written, min_delay, stop, PortClash}
-use Rattle.lft_model.specs.Fitting.{EachFits}
-use Rattle.lft_queue.specs.Coming.AtTag.{AreBefore}
-use Rattle.lft_queue.specs.Coming.Unread.{GoesAsFar}
-use Rattle.lft_queue.specs.Reading.{is_read}
-use Rattle.lft_monitor.specs.Sure.{IsUnbroken}
-use Rattle.lft_monitor.specs.declared.kept.Ways.{Ways}
-use Rattle.lft_monitor.specs.declared.past.Past.{Past}
+use Rattle.lft_tag.specs.{declared.{Tag.Tag, Shift.Shift}, Tags.{UpTo, after_all}}
+use Rattle.lft_ir.specs.{Parts.Parts, Origins.Origin, declared.{parts.Port.Port, steps.row.Row.Row}}
+use Rattle.lft_model.specs.{Plans.PlanParts, Presence.{asked, requests, scheduled, written, min_delay, stop, PortClash}, Fitting.EachFits}
+use Rattle.lft_queue.specs.{Coming.{AtTag.AreBefore, Unread.GoesAsFar}, Reading.is_read}
+use Rattle.lft_monitor.specs.{Sure.IsUnbroken, declared.{kept.Ways.Ways, past.Past.Past}}
 
 -- there is a way for each port, and the way of a port that passes the test is no further than that at the place of its origin
 pub record AreFurthest (program : Parts) (Passes : ℕ → Type 0) (furthest : List Shift) : Type 0 where

@@ -1,7 +1,6 @@
 -- Runs without an end among the rows so far.
 use Rattle.std.specs.Prelude.{◌≡◌, ℕ, ◌+◌, ◌<◌, List, Some, slice_get}
-use Rattle.lft_ir.specs.declared.steps.row.Row.{Row}
-use Rattle.lft_ir.specs.declared.steps.row.Step.TheVariants.{End}
+use Rattle.lft_ir.specs.declared.steps.row.{Row.Row, Step.TheVariants.End}
 use Rattle.lft_model.specs.Breaches.{IsUnended}
 use Rattle.lft_monitor.specs.declared.open.OpenRun.{OpenRun}
 

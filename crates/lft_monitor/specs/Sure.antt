@@ -1,13 +1,8 @@
 -- What is sure of rows before all of them are there.
 use Rattle.std.specs.Prelude.{◌≡◌, ◌↔◌, ℕ, ◌≤◌, ◌⊎◌, List, ◌++◌, Some, slice_get, filter_map}
-use Rattle.lft_tag.specs.declared.Tag.{Tag}
-use Rattle.lft_tag.specs.Tags.{Before, UpTo, after, after_all}
-use Rattle.lft_ir.specs.Origins.{Origin}
-use Rattle.lft_ir.specs.Steps.Inputs.{ExternalInputs}
-use Rattle.lft_ir.specs.declared.steps.row.Row.{Row}
-use Rattle.lft_model.specs.declared.breach.Breach.{Breach}
-use Rattle.lft_model.specs.Plans.{PlanParts}
-use Rattle.lft_model.specs.Presence.{stop, written, scheduled, given, min_delay}
+use Rattle.lft_tag.specs.{declared.Tag.Tag, Tags.{Before, UpTo, after, after_all}}
+use Rattle.lft_ir.specs.{Origins.Origin, Steps.Inputs.ExternalInputs, declared.steps.row.Row.Row}
+use Rattle.lft_model.specs.{declared.breach.Breach.Breach, Plans.PlanParts, Presence.{stop, written, scheduled, given, min_delay}}
 use Rattle.lft_model.specs.Breaches.{RowBreach, TagBreach, TagBreachUntil, TagOrder, First, Legal}
 use Rattle.lft_queue.specs.Coming.AtTag.{AreBefore}
 

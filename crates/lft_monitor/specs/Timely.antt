@@ -1,18 +1,9 @@
 -- What is kept of finished tags, and when it shows that nothing is broken so far.
 use Rattle.std.specs.Prelude.{◌≡◌, ℕ, List, Some, slice_get}
-use Rattle.lft_tag.specs.declared.Tag.{Tag}
-use Rattle.lft_tag.specs.Tags.{UpTo}
-use Rattle.lft_ir.specs.declared.parts.Name.{Name}
-use Rattle.lft_ir.specs.declared.steps.row.Row.{Row}
-use Rattle.lft_model.specs.declared.breach.Breach.{Breach}
-use Rattle.lft_model.specs.Plans.{PlanParts}
-use Rattle.lft_model.specs.Presence.{stop}
-use Rattle.lft_model.specs.Runs.{Ran}
-use Rattle.lft_model.specs.Breaches.{TagBreach}
-use Rattle.lft_stream.specs.declared.due.Due.{Due}
-use Rattle.lft_stream.specs.declared.due.Due.TheVariants.{AtTag}
-use Rattle.lft_stream.specs.Dues.{AreDues, NoneDueBefore}
-use Rattle.lft_stream.specs.Streams.{State, IsStream}
+use Rattle.lft_tag.specs.{declared.Tag.Tag, Tags.UpTo}
+use Rattle.lft_ir.specs.declared.{parts.Name.Name, steps.row.Row.Row}
+use Rattle.lft_model.specs.{declared.breach.Breach.Breach, Plans.PlanParts, Presence.stop, Runs.Ran, Breaches.TagBreach}
+use Rattle.lft_stream.specs.{declared.due.Due.{Due, TheVariants.AtTag}, Dues.{AreDues, NoneDueBefore}, Streams.{State, IsStream}}
 use Rattle.lft_monitor.specs.Sure.{IsUnbroken}
 
 -- the state has come to low: each name is done with before it, and nothing is due before it

@@ -2,11 +2,8 @@
 
 ghost use Rattle.std.specs.Prelude.{◌≡◌, ◌+◌, ◌-◌, ◌<◌, ◌≤◌, ◌↔◌, List, ◌++◌, ◌∷◌, [], length, IfOk, IsTrue, Some, OnOk, MatchOption, slice_get};
 ghost use Rattle.lft_tag.specs.Tags.{Before, IsRecorded, earlier};
-ghost use Rattle.lft_ir.specs.Parts.{Parts};
-ghost use Rattle.lft_ir.specs.declared.steps.row.Row.{Row as TheRow};
-ghost use Rattle.lft_ir.specs.Steps.Fits.{RowsFit};
-ghost use Rattle.lft_model.specs.Plans.{PlanParts};
-ghost use Rattle.lft_model.specs.Presence.{stop as stop_of};
+ghost use Rattle.lft_ir.specs.{Parts.Parts, declared.steps.row.Row.Row as TheRow, Steps.Fits.RowsFit};
+ghost use Rattle.lft_model.specs.{Plans.PlanParts, Presence.stop as stop_of};
 ghost use Rattle.lft_monitor.specs.Going.{IsGoing, IsFirstBad, IsLost, HasEnded, HasGone, opened};
 
 use lft_ir::steps::{Row, is_end, is_start, is_stop, row_at};

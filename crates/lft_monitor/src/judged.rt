@@ -1,8 +1,7 @@
 //! Rows whose tags are finished, and how far they are judged.
 
 ghost use Rattle.std.specs.Prelude.{◌≡◌, ◌<◌, ◌≤◌, ◌^◌, List, [], ◌++◌, length, false, IfErr, IfOk, IfSome, IsTrue};
-ghost use Rattle.lft_ir.specs.declared.steps.row.Row.{Row as TheRow};
-ghost use Rattle.lft_ir.specs.Steps.Fits.{RowsFit};
+ghost use Rattle.lft_ir.specs.{declared.steps.row.Row.Row as TheRow, Steps.Fits.RowsFit};
 ghost use Rattle.lft_model.specs.Breaches.{First};
 ghost use Rattle.lft_rows.specs.Parts.{AreEarlier};
 ghost use Rattle.lft_stream.specs.Kept.{KeepRules};

@@ -1,16 +1,10 @@
 //! Rows that are kept once their tags are finished: those of runs that cause something later.
 
 ghost use Rattle.std.specs.Prelude.{◌≡◌, ◌<◌, ◌⊎◌, ℕ, List, length, Some, cond, slice_get, IfOk, IsTrue, true, false};
-ghost use Rattle.lft_tag.specs.declared.Tag.{Tag as TheTag};
-ghost use Rattle.lft_tag.specs.declared.Shift.{Shift as TheShift};
-ghost use Rattle.lft_tag.specs.Shifts.{shifted};
-ghost use Rattle.lft_tag.specs.Tags.{IsRecorded, Before, after_all};
-ghost use Rattle.lft_ir.specs.Origins.{Origin};
-ghost use Rattle.lft_ir.specs.declared.steps.row.Row.{Row as TheRow};
-ghost use Rattle.lft_ir.specs.Steps.Fits.{RowFits};
+ghost use Rattle.lft_tag.specs.{declared.{Tag.Tag as TheTag, Shift.Shift as TheShift}, Shifts.shifted, Tags.{IsRecorded, Before, after_all}};
+ghost use Rattle.lft_ir.specs.{Origins.Origin, declared.steps.row.Row.Row as TheRow, Steps.Fits.RowFits};
 ghost use Rattle.lft_model.specs.Fitting.{EachFits};
-ghost use Rattle.lft_queue.specs.Coming.Unread.{GoesAsFar};
-ghost use Rattle.lft_queue.specs.Reading.{is_read};
+ghost use Rattle.lft_queue.specs.{Coming.Unread.GoesAsFar, Reading.is_read};
 ghost use Rattle.lft_stream.specs.Owed.{MeetNowhere};
 ghost use Rattle.lft_monitor.specs.Kept.{AreFurthest, AreWays, IsIdle, AreMarked, IsKept};
 

@@ -2,15 +2,11 @@
 
 ghost use Rattle.std.specs.Prelude.{◌≡◌, ◌-◌, ◌<◌, ◌≤◌, List, [], ◌++◌, length, Some, IfOk, IfSome, OnOk, IsTrue, slice_get};
 ghost use Rattle.lft_tag.specs.Tags.{after};
-ghost use Rattle.lft_ir.specs.declared.steps.row.Row.{Row as TheRow};
-ghost use Rattle.lft_ir.specs.Steps.Fits.{RowsFit};
-ghost use Rattle.lft_model.specs.Presence.{stop};
-ghost use Rattle.lft_model.specs.Breaches.{First};
+ghost use Rattle.lft_ir.specs.{declared.steps.row.Row.Row as TheRow, Steps.Fits.RowsFit};
+ghost use Rattle.lft_model.specs.{Presence.stop, Breaches.First};
 ghost use Rattle.lft_stream.specs.Owed.{MeetNowhere};
 ghost use Rattle.lft_rows.specs.Slices.{Rises};
-ghost use Rattle.lft_monitor.specs.Sure.{AreFrom, IsUnbroken, IsFirstBefore};
-ghost use Rattle.lft_monitor.specs.Kept.{IsPast};
-ghost use Rattle.lft_monitor.specs.Follows.{KeepsRows, breach_of};
+ghost use Rattle.lft_monitor.specs.{Sure.{AreFrom, IsUnbroken, IsFirstBefore}, Kept.IsPast, Follows.{KeepsRows, breach_of}};
 
 use crate::found::{Found, found_of};
 use crate::gone::stop_over;

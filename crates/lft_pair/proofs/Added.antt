@@ -1,22 +1,13 @@
 -- Contrasts that are put behind others.
 use Rattle.std.proofs.Common.{◌≡◌, ℕ, ◌+◌, ◌<◌, ◌≤◌, List, [], ◌∷◌, ◌++◌, Contains, append-nil, append_assoc, length, map, sym, ap, ◌∙◌, refl, subst, arith, Option, Some, slice_get, option_map, unwrap_or}
-use Rattle.std.proofs.lemmas.List.{length-map}
-use Rattle.std.proofs.lemmas.List.Elements.{All-nil, All-cons, All-append, Contains-append_left, Contains-append_right}
+use Rattle.std.proofs.lemmas.List.{length-map, Elements.{All-nil, All-cons, All-append, Contains-append_left, Contains-append_right}}
 use native.Mathlib.Decide.{ℕ_discrete}
 use Rattle.lft_lists.proofs.Mapped.{mapped}
 use Rattle.lft_tag.specs.declared.Tag.{Tag}
-use Rattle.lft_ir.specs.Parts.{inputs}
-use Rattle.lft_ir.specs.declared.parts.Name.{Name}
-use Rattle.lft_ir.specs.declared.parts.Reaction.{Reaction}
-use Rattle.lft_ir.specs.declared.parts.Value.{Value}
-use Rattle.lft_ir.specs.declared.steps.row.Row.{Row}
-use Rattle.lft_model.specs.Plans.{PlanParts}
-use Rattle.lft_model.proofs.Places.{slice_get_within}
-use Rattle.lft_model.specs.Runs.{inputs_of, reads_at, read_of, steps_of}
-use Rattle.lft_pair.specs.declared.contrasting.contrasts.Contrast.{Contrast}
+use Rattle.lft_ir.specs.{Parts.inputs, declared.{parts.{Name.Name, Reaction.Reaction, Value.Value}, steps.row.Row.Row}}
+use Rattle.lft_model.{specs.{Plans.PlanParts, Runs.{inputs_of, reads_at, read_of, steps_of}}, proofs.Places.slice_get_within}
+use Rattle.lft_pair.specs.{declared.contrasting.contrasts.Contrast.Contrast, Contrasts.{IsContrast, AreContrasts, IsRead}, Enough.{Adds, TellsReads}}
 use Rattle.lft_pair.specs.declared.contrasting.contrasts.Contrast.TheVariants as contrast
-use Rattle.lft_pair.specs.Contrasts.{IsContrast, AreContrasts, IsRead}
-use Rattle.lft_pair.specs.Enough.{Adds, TellsReads}
 
 module _ (plan : PlanParts) (t s : List Row) (g : Tag) (r : ℕ) where
   pub adds_none : (told : List Contrast) → Adds plan t s g r told told

@@ -1,24 +1,13 @@
 -- What a run answered for each port and each action, one row after another.
 use Rattle.std.proofs.Common.{◌≡◌, ℕ, zero, suc, ◌+◌, ◌==◌, ◌⊎◌, inl, inr, List, [], ◌∷◌, ◌++◌, length, take, append-nil, refl, sym, ap, ◌∙◌, arith, Option, Some, None, slice_get, Bool, true, false, cond, option_map, unwrap_or, eq-eqb}
-use Rattle.std.specs.Cmp.{nat_cmp_is}
-use Rattle.std.specs.Ordering.{is_eq, nat_cmp, ordering_then}
-use Rattle.std.specs.declared.cmp.Ordering.{Ordering}
-use Rattle.std.specs.declared.cmp.Ordering.TheVariants.{Equal}
-use Rattle.std.proofs.lemmas.Bool.{cases_eq, eqb-true, false_from_ne_true}
-use Rattle.std.proofs.lemmas.Map.Lookups.{exact_unsigned, exact_pairs}
-use Rattle.lft_lists.proofs.Picked.{kept_more}
-use Rattle.lft_lists.proofs.Places.{get_last}
+use Rattle.std.specs.{Cmp.nat_cmp_is, Ordering.{is_eq, nat_cmp, ordering_then}, declared.cmp.Ordering.{Ordering, TheVariants.Equal}}
+use Rattle.std.proofs.lemmas.{Bool.{cases_eq, eqb-true, false_from_ne_true}, Map.Lookups.{exact_unsigned, exact_pairs}}
+use Rattle.lft_lists.proofs.{Picked.kept_more, Places.get_last}
 use Rattle.lft_tag.proofs.Comparing.{not_equal}
-use Rattle.lft_ir.specs.declared.parts.Name.TheVariants.{Port, Action}
-use Rattle.lft_ir.specs.declared.steps.row.Step.{Step}
-use Rattle.lft_ir.specs.declared.steps.row.Step.TheVariants.{Start, Read, Write, Schedule, Stop, End}
+use Rattle.lft_ir.specs.declared.{parts.Name.TheVariants.{Port, Action}, steps.row.Step.{Step, TheVariants.{Start, Read, Write, Schedule, Stop, End}}}
 use Rattle.lft_rows.proofs.AnswersLemmas.Stepping.{last_stays, last_changes}
-use Rattle.lft_pair.specs.Answering.{place_cmp}
-use Rattle.lft_pair.specs.declared.contrasting.contrasts.Placed.{Placed}
-use Rattle.lft_pair.specs.declared.contrasting.contrasts.LastWrite.{LastWrite}
-use Rattle.lft_pair.specs.declared.contrasting.contrasts.Scheduling.{Scheduling}
-use Rattle.lft_pair.specs.Runs.{write, write_of, last_write, scheduling, scheduling_of, schedulings}
-use Rattle.lft_pair.specs.Answered.{writing, scheduled}
+use Rattle.lft_pair.specs.{Answering.place_cmp, declared.contrasting.contrasts.{Placed.Placed, LastWrite.LastWrite, Scheduling.Scheduling}}
+use Rattle.lft_pair.specs.{Runs.{write, write_of, last_write, scheduling, scheduling_of, schedulings}, Answered.{writing, scheduled}}
 
 -- what is found for one number, by the number that it stands under
 abbrev under : {Y : Type 0} → ℕ → Option (ℕ × Y) → Option Y

@@ -1,42 +1,19 @@
 -- What the steps of a run answer, one step after another; and that runs of legal rows answer for their effects alone.
 use Rattle.std.proofs.Common.{◌≡◌, ℕ, zero, suc, ◌+◌, ◌≤◌, ◌==◌, ◌⊎◌, inl, inr, List, [], ◌∷◌, ◌++◌, length, map, take, add-one, append-nil, refl, sym, ap, ap₂, ◌∙◌, subst, arith, Option, Some, None, slice_get, filter_map, Bool, true, false, cond, ◌&&◌, unwrap_or, eq-eqb}
-use Rattle.std.specs.BTreeMap.{BTreeMap, is_at}
-use Rattle.std.specs.Cmp.Lexicographic.{pointwise}
-use Rattle.std.specs.Bool.{Decides}
-use Rattle.std.specs.Cmp.{IsTotalOrder, nat_cmp_is}
-use Rattle.std.specs.List.{last_or, cons_option}
-use Rattle.std.specs.Map.{lookup}
-use Rattle.std.specs.Ordering.{is_eq, nat_cmp, ordering_then}
-use Rattle.std.specs.declared.cmp.Ordering.{Ordering}
-use Rattle.std.specs.declared.cmp.Ordering.TheVariants.{Equal}
-use Rattle.std.proofs.lemmas.Bool.{cases_eq, eqb-true, false_from_ne_true}
-use Rattle.std.proofs.lemmas.Bool.Decides.{Decides-eqb, Decides-and, Decides-like}
-use Rattle.std.proofs.lemmas.Cmp.{nat_cmp_total, then_total, on_total}
-use Rattle.std.proofs.lemmas.Map.Lookups.{btree_map_from_get, btree_map_eq-Decides, exact_unsigned, exact_pairs}
-use Rattle.lft_lists.proofs.Members.{Mem, mem_from_filter, get_mem}
-use Rattle.lft_lists.proofs.Picked.{kept_more, take_next}
-use Rattle.lft_lists.proofs.Places.{get_last}
-use Rattle.lft_tag.specs.declared.Tag.{Tag}
-use Rattle.lft_ir.specs.declared.parts.Name.{Name}
-use Rattle.lft_ir.specs.declared.parts.Name.TheVariants.{Port, Action}
-use Rattle.lft_ir.specs.declared.parts.Value.{Value}
-use Rattle.lft_ir.specs.declared.steps.row.Row.{Row}
-use Rattle.lft_ir.specs.declared.steps.row.Step.{Step}
-use Rattle.lft_ir.specs.declared.steps.row.Step.TheVariants.{Start, Read, Write, Schedule, Stop, End}
-use Rattle.lft_model.specs.Plans.{PlanParts, IsSoundPlan}
-use Rattle.lft_model.specs.Presence.{value_written, value_scheduled}
-use Rattle.lft_model.specs.Runs.{Answer, outcome_of, request_of, effects_of, steps_of}
-use Rattle.lft_model.specs.Runs.Outcome.{Written, Scheduled}
-use Rattle.lft_model.specs.Breaches.{Legal}
-use Rattle.lft_model.proofs.Steps.{RowOf, step_mem, written_some, scheduled_some}
-use Rattle.lft_model.proofs.Legality.{ordered}
-use Rattle.lft_model.proofs.Kept.{declared_write}
-use Rattle.lft_model.proofs.Reached.{declared_schedule}
-use Rattle.lft_rows.specs.Answers.Answers.{answer_of}
-use Rattle.lft_rows.proofs.AnswersLemmas.Stepping.{last_stays, last_changes}
+use Rattle.std.specs.{BTreeMap.{BTreeMap, is_at}, Cmp.{IsTotalOrder, nat_cmp_is, Lexicographic.pointwise}, Bool.Decides, List.{last_or, cons_option}}
+use Rattle.std.specs.{Map.lookup, Ordering.{is_eq, nat_cmp, ordering_then}, declared.cmp.Ordering.{Ordering, TheVariants.Equal}}
+use Rattle.std.proofs.lemmas.Bool.{cases_eq, eqb-true, false_from_ne_true, Decides.{Decides-eqb, Decides-and, Decides-like}}
+use Rattle.std.proofs.lemmas.{Cmp.{nat_cmp_total, then_total, on_total}, Map.Lookups.{btree_map_from_get, btree_map_eq-Decides, exact_unsigned, exact_pairs}}
+use Rattle.lft_lists.proofs.{Members.{Mem, mem_from_filter, get_mem}, Picked.{kept_more, take_next}, Places.get_last}
+use Rattle.lft_tag.{specs.declared.Tag.Tag, proofs.Comparing.not_equal}
+use Rattle.lft_ir.specs.declared.parts.{Name.{Name, TheVariants.{Port, Action}}, Value.Value}
+use Rattle.lft_ir.specs.declared.steps.row.{Row.Row, Step.{Step, TheVariants.{Start, Read, Write, Schedule, Stop, End}}}
+use Rattle.lft_model.specs.{Plans.{PlanParts, IsSoundPlan}, Presence.{value_written, value_scheduled}}
+use Rattle.lft_model.specs.{Runs.{Answer, outcome_of, request_of, effects_of, steps_of, Outcome.{Written, Scheduled}}, Breaches.Legal}
+use Rattle.lft_model.proofs.{Steps.{RowOf, step_mem, written_some, scheduled_some}, Legality.ordered, Kept.declared_write, Reached.declared_schedule}
+use Rattle.lft_rows.{specs.Answers.Answers.answer_of, proofs.AnswersLemmas.Stepping.{last_stays, last_changes}}
 use Rattle.lft_pair.specs.Answering.{writing, scheduling, last_to, SameWritten, SameScheduled, SameAnswers, AreWritten, AreScheduled, place_cmp}
 use Rattle.lft_pair.proofs.Maps.{map_get}
-use Rattle.lft_tag.proofs.Comparing.{not_equal}
 
 -- what a step writes to a port, by the port and the value that it names
 abbrev written_as : ℕ → Option (ℕ × Value) → Option Value

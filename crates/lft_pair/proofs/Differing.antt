@@ -3,16 +3,10 @@ use Rattle.std.proofs.Common.{◌≡◌, ℕ, zero, suc, ◌+◌, ◌<◌, ◌�
 use Rattle.std.proofs.lemmas.List.Elements.{All-nil, All-push, Contains-append_left, Contains-append_right}
 use native.Mathlib.Decide.{ℕ_discrete}
 use Rattle.lft_lists.proofs.Members.{mem_contains, contains_mem, mem_get, get_mem}
-use Rattle.lft_ir.specs.declared.parts.Name.{Name}
-use Rattle.lft_ir.specs.declared.parts.Name.TheVariants.{Port, Action}
-use Rattle.lft_model.specs.Runs.Outcome.{Written, Scheduled}
-use Rattle.lft_model.proofs.Places.{slice_get_within}
-use Rattle.lft_pair.specs.declared.contrasting.contrasts.Placed.{Placed}
-use Rattle.lft_pair.specs.declared.contrasting.contrasts.Scheduling.{Scheduling}
-use Rattle.lft_pair.specs.declared.contrasting.contrasts.Contrast.{Contrast}
-use Rattle.lft_pair.specs.Runs.{last_write, schedulings}
-use Rattle.lft_pair.specs.Contrasts.{value_of, event, event_of, events}
-use Rattle.lft_pair.specs.Enough.{HaveSameOutcome, TellsOf, IsToldOf, IsOfEffect}
+use Rattle.lft_ir.specs.declared.parts.Name.{Name, TheVariants.{Port, Action}}
+use Rattle.lft_model.{specs.Runs.Outcome.{Written, Scheduled}, proofs.Places.slice_get_within}
+use Rattle.lft_pair.specs.{declared.contrasting.contrasts.{Placed.Placed, Scheduling.Scheduling, Contrast.Contrast}, Runs.{last_write, schedulings}}
+use Rattle.lft_pair.specs.{Contrasts.{value_of, event, event_of, events}, Enough.{HaveSameOutcome, TellsOf, IsToldOf, IsOfEffect}}
 use Rattle.lft_pair.proofs.Outcomes.{write_outcome, schedule_outcome}
 
 -- lists with the same events at each place have the same events

@@ -2,21 +2,13 @@
 use Rattle.std.proofs.Common.{◌≡◌, ℕ, zero, suc, ◌<◌, ◌⊎◌, inl, inr, List, length, refl, sym, ap, ◌∙◌, subst, arith, Option, Some, None, slice_get, Contains}
 use native.Mathlib.Decide.{dec_lt}
 use Rattle.lft_tag.specs.declared.Tag.{Tag}
-use Rattle.lft_ir.specs.Parts.{Parts}
-use Rattle.lft_ir.specs.declared.steps.row.Row.{Row}
-use Rattle.lft_graph.specs.Precedence.{Direct, Precedes}
-use Rattle.lft_graph.specs.Precedence.Precedes.{one, more}
-use Rattle.lft_graph.specs.Graph.{GraphParts, IsGraphOf}
+use Rattle.lft_ir.specs.{Parts.Parts, declared.steps.row.Row.Row}
+use Rattle.lft_graph.specs.{Precedence.{Direct, Precedes, Precedes.{one, more}}, Graph.{GraphParts, IsGraphOf}}
 use Rattle.lft_lists.proofs.Places.{get_there}
-use Rattle.lft_model.specs.Plans.{PlanParts, IsSoundPlan}
-use Rattle.lft_model.specs.Runs.{Ran}
-use Rattle.lft_model.specs.Recorded.{SameRuns}
-use Rattle.lft_model.specs.Breaches.{Legal}
-use Rattle.lft_model.proofs.Places.{slice_get_within}
-use Rattle.lft_model.proofs.Decided.{dec_ran}
+use Rattle.lft_model.specs.{Plans.{PlanParts, IsSoundPlan}, Runs.Ran, Recorded.SameRuns, Breaches.Legal}
+use Rattle.lft_model.proofs.{Places.slice_get_within, Decided.dec_ran}
 use Rattle.lft_model.proofs.Agree.{SameRun, swap, IsBefore, SameBefore, ran_same, history_same, reads_same, agree, values_same, absent_same}
-use Rattle.lft_pair.specs.declared.comparison.Pair.TheVariants.{Same, Differ}
-use Rattle.lft_pair.specs.Pairs.{ComesFirst, IsDifference, IsComparison, Agrees, IsFirstOdd, FirstOdd}
+use Rattle.lft_pair.specs.{declared.comparison.Pair.TheVariants.{Same, Differ}, Pairs.{ComesFirst, IsDifference, IsComparison, Agrees, IsFirstOdd, FirstOdd}}
 use Rattle.lft_pair.proofs.Odd.{first_trans}
 
 -- what is so of a run where it is so of all that comes before it, is so of every run

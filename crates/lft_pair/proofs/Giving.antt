@@ -1,30 +1,16 @@
 -- What contrasts give.
 use Rattle.std.proofs.Common.{◌≡◌, ◌≢◌, ℕ, zero, suc, ◌⊎◌, inl, inr, List, [], ◌∷◌, ◌++◌, All, Contains, map, sym, ap, ◌∙◌, refl, subst, Option, Some, is_some, slice_get, option_map, unwrap_or}
 use Rattle.std.proofs.lemmas.List.Elements.{All-contains}
-use Rattle.lft_lists.proofs.Members.{Mem, mem_contains, contains_mem}
+use Rattle.lft_lists.proofs.{Members.{Mem, mem_contains, contains_mem}, Mapped.map_same}
 use Rattle.lft_tag.specs.declared.Tag.{Tag}
-use Rattle.lft_ir.specs.declared.parts.Name.{Name}
-use Rattle.lft_ir.specs.declared.parts.Name.TheVariants.{Port, Action}
-use Rattle.lft_ir.specs.declared.parts.Reaction.{Reaction}
-use Rattle.lft_ir.specs.declared.steps.row.Row.{Row}
-use Rattle.lft_ir.specs.declared.steps.row.Step.{Step}
-use Rattle.lft_model.specs.Plans.{PlanParts}
-use Rattle.lft_model.specs.Runs.{Answer, Outcome, answer_at, effects_of, outcome_of, request_of, steps_of}
-use Rattle.lft_model.specs.Runs.Outcome.{Written, Scheduled}
-use Rattle.lft_pair.specs.declared.contrasting.contrasts.Placed.{Placed}
-use Rattle.lft_pair.specs.declared.contrasting.contrasts.LastWrite.{LastWrite}
-use Rattle.lft_pair.specs.declared.contrasting.contrasts.Scheduling.{Scheduling}
-use Rattle.lft_pair.specs.declared.contrasting.contrasts.Contrast.{Contrast}
-use Rattle.lft_pair.specs.declared.contrasting.contrasts.Contrast.TheVariants as contrast
-use Rattle.lft_pair.specs.Runs.{placed_steps, last_write, schedulings, first_request}
-use Rattle.lft_pair.specs.Contrasts.{IsContrast, AreContrasts, value_of, event, event_of}
-use Rattle.lft_pair.specs.Enough.{GiveOther, HaveSameOutcome, TellsOf, TellsStop, IsToldOf, IsStopTold, IsOfEffect, TellsAnswers, steps}
-use Rattle.lft_pair.proofs.Placing.{placed_are}
-use Rattle.lft_pair.proofs.Outcomes.{write_outcome, schedule_outcome, request_outcome}
+use Rattle.lft_ir.specs.{declared.{parts.{Name.{Name, TheVariants.{Port, Action}}, Reaction.Reaction}, steps.row.{Row.Row, Step.Step}}, Parts.Parts}
+use Rattle.lft_model.specs.{Plans.PlanParts, Runs.{Answer, Outcome, answer_at, effects_of, outcome_of, request_of, steps_of, Outcome.{Written, Scheduled}}}
+use Rattle.lft_pair.specs.declared.contrasting.contrasts.{Placed.Placed, LastWrite.LastWrite, Scheduling.Scheduling, Contrast.Contrast}
+use Rattle.lft_pair.specs.{Runs.{placed_steps, last_write, schedulings, first_request}, Contrasts.{IsContrast, AreContrasts, value_of, event, event_of}}
+use Rattle.lft_pair.specs.Enough.{GiveOther, HaveSameOutcome, TellsOf, TellsStop, IsToldOf, IsStopTold, IsOfEffect, TellsAnswers, steps, Adds, TellsAll, TellsReads}
+use Rattle.lft_pair.proofs.{Placing.placed_are, Outcomes.{write_outcome, schedule_outcome, request_outcome}}
 use Rattle.lft_pair.proofs.Added.{adds_keeps, adds_one, adds_holds, last_contained}
-use Rattle.lft_pair.specs.Enough.{Adds, TellsAll, TellsReads}
-use Rattle.lft_ir.specs.Parts.{Parts}
-use Rattle.lft_lists.proofs.Mapped.{map_same}
+use Rattle.lft_pair.specs.declared.contrasting.contrasts.Contrast.TheVariants as contrast
 
 event_at : (xs : List Scheduling) (k : ℕ) → event_of (slice_get xs k) ≡ slice_get (map event xs) k
 event_at [] k = refl

@@ -1,18 +1,10 @@
 -- The last starts of the rows before a place, one row after another.
 use Rattle.std.proofs.Common.{◌≡◌, ℕ, ◌+◌, ◌<◌, ◌≤◌, ◌≢◌, ◌⊎◌, inl, inr, List, length, length-set, refl, sym, ap, ◌∙◌, subst, arith, Some, slice_get, slice_set, Bool, true, false}
 use native.Mathlib.Decide.{ℕ_discrete, dec_lt}
-use Rattle.lft_tag.specs.declared.Tag.{Tag}
-use Rattle.lft_tag.specs.Tags.{Before, UpTo}
-use Rattle.lft_tag.proofs.Order.{Before-irrefl, Before-UpTo, UpTo_antisym, order_cases}
-use Rattle.lft_ir.specs.declared.steps.row.Row.{Row}
-use Rattle.lft_ir.specs.declared.steps.row.Step.TheVariants.{Start}
+use Rattle.lft_tag.{specs.{declared.Tag.Tag, Tags.{Before, UpTo}}, proofs.Order.{Before-irrefl, Before-UpTo, UpTo_antisym, order_cases}}
+use Rattle.lft_ir.specs.declared.steps.row.{Row.Row, Step.TheVariants.Start}
 use Rattle.lft_lists.proofs.Places.{get_write_cases}
-use Rattle.lft_model.specs.Plans.{PlanParts}
-use Rattle.lft_model.specs.Breaches.{Legal}
-use Rattle.lft_model.specs.Runs.{start_row, Ran}
-use Rattle.lft_model.proofs.Legality.{four, rising}
-use Rattle.lft_model.proofs.Places.{slice_get_within}
-use Rattle.lft_model.proofs.Ended.{row_is}
+use Rattle.lft_model.{specs.{Plans.PlanParts, Breaches.Legal, Runs.{start_row, Ran}}, proofs.{Legality.{four, rising}, Places.slice_get_within, Ended.row_is}}
 use Rattle.lft_pair.specs.Places.{StartsAt, IsLastStart, AreLastStarts, AreUpTo, AreAfter}
 
 -- a row starts a run exactly where it is its start row

@@ -2,26 +2,15 @@
 use Rattle.std.proofs.Common.{◌≡◌, ℕ, ◌+◌, ◌<◌, ◌≤◌, ◌⊎◌, inl, inr, List, length, refl, sym, ap, ◌∙◌, subst, arith, Option, Some, None, MatchOption, IsSomeAnd, slice_get, Bool}
 use Rattle.std.specs.Bool.{Decides}
 use native.Mathlib.Decide.{dec_lt, ℕ_discrete}
-use Rattle.lft_tag.specs.declared.Tag.{Tag}
-use Rattle.lft_tag.specs.Tags.{Before, UpTo}
+use Rattle.lft_tag.specs.{declared.Tag.Tag, Tags.{Before, UpTo}}
 use Rattle.lft_tag.proofs.Order.{Before-irrefl, Before-trans, Before-weaken, Before-UpTo, order_cases, UpTo-refl, UpTo-trans, UpTo-not, UpTo_antisym}
-use Rattle.lft_ir.specs.declared.steps.row.Row.{Row}
-use Rattle.lft_ir.specs.declared.steps.row.Step.{Step}
-use Rattle.lft_ir.specs.declared.steps.row.Step.TheVariants.{Start}
-use Rattle.lft_ir.specs.Steps.Fits.{RowsFit}
+use Rattle.lft_ir.specs.{declared.steps.row.{Row.Row, Step.{Step, TheVariants.Start}}, Steps.Fits.RowsFit}
 use Rattle.lft_graph.specs.Graph.{GraphParts, IsGraphOf}
 use Rattle.lft_lists.proofs.Places.{get_there}
-use Rattle.lft_model.specs.Plans.{PlanParts, IsSoundPlan}
-use Rattle.lft_model.specs.Breaches.{Legal}
-use Rattle.lft_model.specs.Runs.{Ran, start_row, steps_of, effects_of}
-use Rattle.lft_model.proofs.Legality.{four, rising}
-use Rattle.lft_model.proofs.Places.{slice_get_within}
-use Rattle.lft_model.proofs.Ended.{row_is}
-use Rattle.lft_pair.specs.Answering.{SameAnswers}
-use Rattle.lft_pair.specs.Places.{StartsAt, AreLastStarts, AreUpTo}
-use Rattle.lft_pair.specs.Pairs.{ComesFirst, Agrees, FirstOdd}
-use Rattle.lft_pair.proofs.Kept.{start_is}
-use Rattle.lft_pair.proofs.Answering.{same_effects, same_from_effects}
+use Rattle.lft_model.specs.{Plans.{PlanParts, IsSoundPlan}, Breaches.Legal, Runs.{Ran, start_row, steps_of, effects_of}}
+use Rattle.lft_model.proofs.{Legality.{four, rising}, Places.slice_get_within, Ended.row_is}
+use Rattle.lft_pair.specs.{Answering.SameAnswers, Places.{StartsAt, AreLastStarts, AreUpTo}, Pairs.{ComesFirst, Agrees, FirstOdd}}
+use Rattle.lft_pair.proofs.{Kept.start_is, Answering.{same_effects, same_from_effects}}
 
 -- the order of runs
 module _ (levels : List ℕ) where

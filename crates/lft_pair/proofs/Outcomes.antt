@@ -1,23 +1,13 @@
 -- What a run answered, by its steps with their places.
 use Rattle.std.proofs.Common.{◌≡◌, ℕ, zero, suc, ◌≤◌, ◌||◌, List, [], ◌∷◌, length, take, map, filter_map, sym, ap, ◌∙◌, refl, Option, Some, None, option_map, is_some, slice_get}
-use Rattle.std.proofs.lemmas.List.{take_all}
-use Rattle.lft_lists.proofs.Places.{Some_same}
-use Rattle.std.specs.List.{last_or, cons_option}
-use Rattle.lft_lists.proofs.Members.{filter_map-map}
-use Rattle.lft_lists.proofs.Picked.{map-filter_map}
-use Rattle.lft_ir.specs.declared.parts.Name.TheVariants.{Port, Action}
-use Rattle.lft_ir.specs.declared.parts.Value.{Value}
-use Rattle.lft_ir.specs.declared.steps.row.Step.{Step}
-use Rattle.lft_ir.specs.declared.steps.row.Step.TheVariants.{Start, Read, Write, Schedule, Stop, End}
-use Rattle.lft_model.specs.Presence.{value_written, value_scheduled}
-use Rattle.lft_model.specs.Runs.{outcome_of, request_of, is_stop}
-use Rattle.lft_model.specs.Runs.Outcome.{Written, Scheduled}
-use Rattle.lft_pair.specs.declared.contrasting.contrasts.Placed.{Placed}
-use Rattle.lft_pair.specs.declared.contrasting.contrasts.LastWrite.{LastWrite}
-use Rattle.lft_pair.specs.declared.contrasting.contrasts.Scheduling.{Scheduling}
+use Rattle.std.{proofs.lemmas.List.take_all, specs.List.{last_or, cons_option}}
+use Rattle.lft_lists.proofs.{Places.Some_same, Members.filter_map-map, Picked.map-filter_map}
+use Rattle.lft_ir.specs.declared.parts.{Name.TheVariants.{Port, Action}, Value.Value}
+use Rattle.lft_ir.specs.declared.steps.row.Step.{Step, TheVariants.{Start, Read, Write, Schedule, Stop, End}}
+use Rattle.lft_model.specs.{Presence.{value_written, value_scheduled}, Runs.{outcome_of, request_of, is_stop, Outcome.{Written, Scheduled}}}
+use Rattle.lft_pair.specs.declared.contrasting.contrasts.{Placed.Placed, LastWrite.LastWrite, Scheduling.Scheduling}
 use Rattle.lft_pair.specs.Runs.{write, write_of, last_write, scheduling, scheduling_of, schedulings, request_at, request_of as placed_request, first_request}
-use Rattle.lft_pair.specs.Contrasts.{value_of}
-use Rattle.lft_pair.specs.Enough.{steps}
+use Rattle.lft_pair.specs.{Contrasts.value_of, Enough.steps}
 
 same_filter : {X Y : Type 0} (f h : X → Option Y) (xs : List X) → ((x : X) → f x ≡ h x) → filter_map f xs ≡ filter_map h xs
 same_filter f h [] e = refl

@@ -1,16 +1,11 @@
 -- The steps of a run, one row after another.
 use Rattle.std.proofs.Common.{◌≡◌, ℕ, ◌+◌, ◌≤◌, List, [], ◌∷◌, ◌++◌, length, take, take_all, map, filter_map, sym, ap, ◌∙◌, refl, arith, Option, Some, None, slice_get, option_map}
-use Rattle.std.specs.List.{enumerate_from, cons_option}
-use Rattle.std.proofs.lemmas.List.FromFn.{length-enumerate_from}
+use Rattle.std.{specs.List.{enumerate_from, cons_option}, proofs.lemmas.List.FromFn.length-enumerate_from}
 use Rattle.lft_tag.specs.declared.Tag.{Tag}
-use Rattle.lft_lists.proofs.Picked.{kept_more}
-use Rattle.lft_lists.proofs.Mapped.{enumerate_at}
-use Rattle.lft_ir.specs.declared.steps.row.Row.{Row}
-use Rattle.lft_ir.specs.declared.steps.row.Step.{Step}
+use Rattle.lft_lists.proofs.{Picked.kept_more, Mapped.enumerate_at}
+use Rattle.lft_ir.specs.declared.steps.row.{Row.Row, Step.Step}
 use Rattle.lft_model.specs.Runs.{step_of, steps_of}
-use Rattle.lft_pair.specs.declared.contrasting.contrasts.Placed.{Placed}
-use Rattle.lft_pair.specs.Runs.{placed, placed_step, placed_steps}
-use Rattle.lft_pair.specs.Enough.{steps}
+use Rattle.lft_pair.specs.{declared.contrasting.contrasts.Placed.Placed, Runs.{placed, placed_step, placed_steps}, Enough.steps}
 
 numbered : (t : List Row) (i : ℕ) (row : Row) → slice_get t i ≡ Some row → slice_get (enumerate_from 0 t) i ≡ Some (i, row)
 numbered t i row e = let z : 0 + i ≡ i = omega arith in enumerate_at 0 t i row e ∙ ap (λ w. Some (w, row)) z

@@ -2,10 +2,8 @@
 use Rattle.std.proofs.Common.{◌≡◌, ℕ, ◌+◌, ◌≤◌, List, [], ◌∷◌, ◌++◌, length, max, take, take_all, add-one, append_assoc, sym, ap, ◌∙◌, refl, Some, slice_get, flat_map}
 use Rattle.lft_lists.proofs.Picked.{take_next}
 use Rattle.lft_tag.specs.declared.Tag.{Tag}
-use Rattle.lft_ir.specs.Parts.{Parts}
-use Rattle.lft_ir.proofs.WordsLemmas.Steps.{flat_next}
-use Rattle.lft_pair.specs.declared.contrasting.contrasts.Contrast.{Contrast}
-use Rattle.lft_pair.specs.Told.{widest, contrast_words, heading_words, told_in}
+use Rattle.lft_ir.{specs.Parts.Parts, proofs.WordsLemmas.Steps.flat_next}
+use Rattle.lft_pair.specs.{declared.contrasting.contrasts.Contrast.Contrast, Told.{widest, contrast_words, heading_words, told_in}}
 
 -- the greatest length with one contrast more
 widest_behind : (words : Contrast → List ℕ) (least : ℕ) (cs : List Contrast) (c : Contrast) → widest words least (cs ++ c ∷ []) ≡ max (widest words least cs) (length (words c))

@@ -1,12 +1,9 @@
 -- What a run answered for each port and each action, as it is kept. This serves the look-up of answers alone.
 use Rattle.std.specs.Prelude.{◌≡◌, ℕ, List, length, Option, Some, None, slice_get, unwrap_or}
-use Rattle.std.specs.BTreeMap.{BTreeMap, get}
-use Rattle.std.specs.Ordering.{nat_cmp}
+use Rattle.std.specs.{BTreeMap.{BTreeMap, get}, Ordering.nat_cmp}
 use Rattle.lft_ir.specs.declared.parts.Value.{Value}
 use Rattle.lft_pair.specs.Answering.{writing as step_writing, scheduling as step_scheduling, place_cmp}
-use Rattle.lft_pair.specs.declared.contrasting.contrasts.Placed.{Placed}
-use Rattle.lft_pair.specs.declared.contrasting.contrasts.LastWrite.{LastWrite}
-use Rattle.lft_pair.specs.declared.contrasting.contrasts.Scheduling.{Scheduling}
+use Rattle.lft_pair.specs.declared.contrasting.contrasts.{Placed.Placed, LastWrite.LastWrite, Scheduling.Scheduling}
 use Rattle.lft_pair.specs.Runs.{write, last_write, scheduling, schedulings}
 
 abbrev pub writing_at : ℕ → Option (ℕ × Value) → Option (ℕ × LastWrite)

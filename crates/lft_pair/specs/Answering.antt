@@ -1,16 +1,9 @@
 -- What the steps of a run answer for each port and each action. This serves the comparison of answers alone.
 use Rattle.std.specs.Prelude.{◌≡◌, ℕ, List, Option, Some, None, filter_map, slice_get}
-use Rattle.std.specs.BTreeMap.{BTreeMap, IsOrdered, get}
-use Rattle.std.specs.List.{last_or}
-use Rattle.std.specs.Ordering.{nat_cmp, ordering_then}
-use Rattle.std.specs.declared.cmp.Ordering.{Ordering}
-use Rattle.lft_ir.specs.declared.parts.Name.{Name}
-use Rattle.lft_ir.specs.declared.parts.Name.TheVariants.{Port, Action}
-use Rattle.lft_ir.specs.declared.parts.Value.{Value}
-use Rattle.lft_ir.specs.declared.steps.row.Step.{Step}
-use Rattle.lft_ir.specs.declared.steps.row.Step.TheVariants.{Start, Read, Write, Schedule, Stop, End}
-use Rattle.lft_model.specs.Presence.{value_written, value_scheduled}
-use Rattle.lft_model.specs.Runs.{request_of}
+use Rattle.std.specs.{BTreeMap.{BTreeMap, IsOrdered, get}, List.last_or, Ordering.{nat_cmp, ordering_then}, declared.cmp.Ordering.Ordering}
+use Rattle.lft_ir.specs.declared.parts.{Name.{Name, TheVariants.{Port, Action}}, Value.Value}
+use Rattle.lft_ir.specs.declared.steps.row.Step.{Step, TheVariants.{Start, Read, Write, Schedule, Stop, End}}
+use Rattle.lft_model.specs.{Presence.{value_written, value_scheduled}, Runs.request_of}
 
 -- the port that a step writes, with the value
 abbrev pub writing_to : Name → Value → Option (ℕ × Value)

@@ -1,23 +1,12 @@
 -- What two runs of r at g show beside one another, the one of the trace t, the other of s.
 use Rattle.std.specs.Prelude.{◌≡◌, ◌≢◌, ℕ, List, All, Contains, Option, Some, option_map, slice_get, is_some, map}
-use Rattle.lft_tag.specs.declared.Tag.{Tag}
-use Rattle.lft_tag.specs.Tags.{Before}
-use Rattle.lft_ir.specs.declared.parts.Name.{Name}
-use Rattle.lft_ir.specs.declared.parts.Name.TheVariants.{Port, Action}
-use Rattle.lft_ir.specs.declared.parts.Value.{Value}
-use Rattle.lft_ir.specs.declared.steps.row.Row.{Row}
-use Rattle.lft_model.specs.Plans.{PlanParts}
-use Rattle.lft_model.specs.Runs.{inputs_of, effects_of, read_of, steps_of}
-use Rattle.lft_model.specs.Recorded.{SameHistory, instance_of}
-use Rattle.lft_pair.specs.Pairs.{IsSameRun}
-use Rattle.lft_pair.specs.declared.contrasting.contrasts.Placed.{Placed}
-use Rattle.lft_pair.specs.declared.contrasting.contrasts.LastWrite.{LastWrite}
-use Rattle.lft_pair.specs.declared.contrasting.contrasts.Scheduling.{Scheduling}
-use Rattle.lft_pair.specs.declared.contrasting.contrasts.Contrast.{Contrast}
-use Rattle.lft_pair.specs.declared.contrasting.contrasts.Contrast.TheVariants as contrast
-use Rattle.lft_pair.specs.Runs.{placed_steps, last_write, schedulings, first_request}
+use Rattle.lft_tag.specs.{declared.Tag.Tag, Tags.Before}
+use Rattle.lft_ir.specs.declared.{parts.{Name.{Name, TheVariants.{Port, Action}}, Value.Value}, steps.row.Row.Row}
+use Rattle.lft_model.specs.{Plans.PlanParts, Runs.{inputs_of, effects_of, read_of, steps_of}, Recorded.{SameHistory, instance_of}}
+use Rattle.lft_pair.specs.{Pairs.IsSameRun, declared.contrasting.contrasts.{Placed.Placed, LastWrite.LastWrite, Scheduling.Scheduling, Contrast.Contrast}}
+use Rattle.lft_pair.specs.{Runs.{placed_steps, last_write, schedulings, first_request}, Counts.{Counts, StartsBefore, StartsEarlier}}
 use Rattle.lft_races.specs.Runs.{StartsAt}
-use Rattle.lft_pair.specs.Counts.{Counts, StartsBefore, StartsEarlier}
+use Rattle.lft_pair.specs.declared.contrasting.contrasts.Contrast.TheVariants as contrast
 
 -- what counts of a write: its value
 abbrev pub value_of : Option LastWrite → Option Value

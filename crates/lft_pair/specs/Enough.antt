@@ -1,20 +1,11 @@
 -- What some contrasts give, and that none is left out.
 use Rattle.std.specs.Prelude.{◌≡◌, ◌≢◌, ℕ, ◌⊎◌, List, ◌++◌, map, Contains, Option, Some, slice_get}
 use Rattle.lft_tag.specs.declared.Tag.{Tag}
-use Rattle.lft_ir.specs.declared.parts.Name.{Name}
-use Rattle.lft_ir.specs.declared.parts.Name.TheVariants.{Port, Action}
-use Rattle.lft_ir.specs.declared.parts.Value.{Value}
-use Rattle.lft_ir.specs.declared.steps.row.Row.{Row}
-use Rattle.lft_ir.specs.declared.steps.row.Step.{Step}
-use Rattle.lft_model.specs.Plans.{PlanParts}
-use Rattle.lft_model.specs.Runs.{inputs_of, effects_of, answer_at, outcome_of, request_of}
-use Rattle.lft_pair.specs.declared.contrasting.contrasts.Placed.{Placed}
-use Rattle.lft_pair.specs.declared.contrasting.contrasts.LastWrite.{LastWrite}
-use Rattle.lft_pair.specs.declared.contrasting.contrasts.Scheduling.{Scheduling}
-use Rattle.lft_pair.specs.declared.contrasting.contrasts.Contrast.{Contrast}
-use Rattle.lft_pair.specs.declared.contrasting.contrasts.Contrast.TheVariants as contrast
-use Rattle.lft_pair.specs.Runs.{placed_steps}
+use Rattle.lft_ir.specs.declared.{parts.{Name.{Name, TheVariants.{Port, Action}}, Value.Value}, steps.row.{Row.Row, Step.Step}}
+use Rattle.lft_model.specs.{Plans.PlanParts, Runs.{inputs_of, effects_of, answer_at, outcome_of, request_of}}
+use Rattle.lft_pair.specs.{declared.contrasting.contrasts.{Placed.Placed, LastWrite.LastWrite, Scheduling.Scheduling, Contrast.Contrast}, Runs.placed_steps}
 use Rattle.lft_pair.specs.Contrasts.{AreContrasts, IsWritten, IsScheduled, IsRequested}
+use Rattle.lft_pair.specs.declared.contrasting.contrasts.Contrast.TheVariants as contrast
 
 -- of whatever plan and traces they hold, r answers otherwise at g
 abbrev pub GiveOther : List Contrast → Tag → ℕ → Type 0

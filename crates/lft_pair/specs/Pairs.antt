@@ -1,17 +1,10 @@
 -- The comparison of two legal traces of one plan.
 use Rattle.std.specs.Prelude.{◌≡◌, ◌≢◌, ℕ, ◌<◌, ◌⊎◌, ◌↔◌, List, Option, Some, MatchOption, slice_get}
-use Rattle.lft_tag.specs.declared.Tag.{Tag}
-use Rattle.lft_tag.specs.Tags.{Before}
-use Rattle.lft_ir.specs.declared.parts.Name.{Name}
-use Rattle.lft_ir.specs.declared.parts.Value.{Value}
-use Rattle.lft_ir.specs.declared.steps.row.Row.{Row}
+use Rattle.lft_tag.specs.{declared.Tag.Tag, Tags.Before}
+use Rattle.lft_ir.specs.declared.{parts.{Name.Name, Value.Value}, steps.row.Row.Row}
 use Rattle.lft_graph.specs.Graph.{GraphParts, IsGraphOf}
-use Rattle.lft_model.specs.Plans.{PlanParts}
-use Rattle.lft_model.specs.Presence.{At}
-use Rattle.lft_model.specs.Runs.{Ran, reads_at, answer_at}
-use Rattle.lft_model.specs.Recorded.{SameHistory, SameRuns}
-use Rattle.lft_pair.specs.declared.comparison.Pair.{Pair}
-use Rattle.lft_pair.specs.declared.comparison.Pair.TheVariants.{Same, Differ}
+use Rattle.lft_model.specs.{Plans.PlanParts, Presence.At, Runs.{Ran, reads_at, answer_at}, Recorded.{SameHistory, SameRuns}}
+use Rattle.lft_pair.specs.declared.comparison.Pair.{Pair, TheVariants.{Same, Differ}}
 
 -- (h, a) comes before (g, r): by tag, then by level, then by reaction number
 abbrev pub ComesFirst : List ℕ → Tag → ℕ → Tag → ℕ → Type 0

@@ -2,15 +2,9 @@
 use Rattle.std.specs.Prelude.{◌≡◌, ℕ, List, Option, Some, None, filter_map, slice_get, option_map}
 use Rattle.std.specs.List.{enumerate_from, last_or}
 use Rattle.lft_tag.specs.declared.Tag.{Tag}
-use Rattle.lft_ir.specs.declared.parts.Value.{Value}
-use Rattle.lft_ir.specs.declared.steps.row.Row.{Row}
-use Rattle.lft_ir.specs.declared.steps.row.Step.{Step}
-use Rattle.lft_ir.specs.declared.steps.row.Step.TheVariants.{Start, Read, Write, Schedule, Stop, End}
-use Rattle.lft_model.specs.Presence.{value_written, value_scheduled}
-use Rattle.lft_model.specs.Runs.{step_of}
-use Rattle.lft_pair.specs.declared.contrasting.contrasts.Placed.{Placed}
-use Rattle.lft_pair.specs.declared.contrasting.contrasts.LastWrite.{LastWrite}
-use Rattle.lft_pair.specs.declared.contrasting.contrasts.Scheduling.{Scheduling}
+use Rattle.lft_ir.specs.declared.{parts.Value.Value, steps.row.{Row.Row, Step.{Step, TheVariants.{Start, Read, Write, Schedule, Stop, End}}}}
+use Rattle.lft_model.specs.{Presence.{value_written, value_scheduled}, Runs.step_of}
+use Rattle.lft_pair.specs.declared.contrasting.contrasts.{Placed.Placed, LastWrite.LastWrite, Scheduling.Scheduling}
 
 abbrev pub placed : ℕ → Step → Placed
 placed i s = record { row = i; step = s }

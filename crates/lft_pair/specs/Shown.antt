@@ -3,10 +3,7 @@ use Rattle.std.specs.Prelude.{◌≡◌, ℕ, List}
 use Rattle.lft_tag.specs.declared.Tag.{Tag}
 use Rattle.lft_ir.specs.declared.steps.row.Row.{Row}
 use Rattle.lft_model.specs.Plans.{PlanParts}
-use Rattle.lft_pair.specs.declared.contrasting.contrasts.Contrast.{Contrast}
-use Rattle.lft_pair.specs.Contrasts.{AreContrasts}
-use Rattle.lft_pair.specs.Enough.{GiveOther, TellsAll}
-use Rattle.lft_pair.specs.Told.{told}
+use Rattle.lft_pair.specs.{declared.contrasting.contrasts.Contrast.Contrast, Contrasts.AreContrasts, Enough.{GiveOther, TellsAll}, Told.told}
 
 -- the text tells contrasts that hold of the runs of r at g in the two traces, that give the unequal answer of r at g, and of which none is left out
 pub record ShowsDifference (plan : PlanParts) (t s : List Row) (g : Tag) (r : ℕ) (text : List ℕ) : Type 0 where

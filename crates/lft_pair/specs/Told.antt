@@ -1,15 +1,10 @@
 -- The text of contrasts.
 use Rattle.std.specs.Prelude.{ℕ, List, [], ◌∷◌, ◌++◌, Option, length, max, flat_map, codes, decimal}
 use Rattle.lft_tag.specs.declared.Tag.{Tag}
-use Rattle.lft_ir.specs.Parts.{Parts}
-use Rattle.lft_ir.specs.declared.parts.Name.{Name}
-use Rattle.lft_ir.specs.declared.parts.Value.{Value}
-use Rattle.lft_ir.specs.Words.Words.{tag_words, value_words, reaction_words, name_words}
-use Rattle.lft_ir.specs.Words.Columns.{padded}
-use Rattle.lft_ir.specs.Words.Lines.{line_words}
-use Rattle.lft_pair.specs.declared.contrasting.contrasts.Contrast.{Contrast}
+use Rattle.lft_ir.specs.{Parts.Parts, declared.parts.{Name.Name, Value.Value}}
+use Rattle.lft_ir.specs.Words.{Words.{tag_words, value_words, reaction_words, name_words}, Columns.padded, Lines.line_words}
+use Rattle.lft_pair.specs.{declared.contrasting.contrasts.Contrast.Contrast, Words.{instance_words, effect_words, first_words, second_words}}
 use Rattle.lft_pair.specs.declared.contrasting.contrasts.Contrast.TheVariants as contrast
-use Rattle.lft_pair.specs.Words.{instance_words, effect_words, first_words, second_words}
 
 -- the greatest length of some words of contrasts, and at least so many
 abbrev pub widest : (Contrast → List ℕ) → ℕ → List Contrast → ℕ

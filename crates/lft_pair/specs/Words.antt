@@ -1,11 +1,7 @@
 -- The words of a contrast: which effect it tells of, and what was answered for it.
 use Rattle.std.specs.Prelude.{ℕ, List, [], ◌++◌, Option, Some, None, slice_get, unwrap_or, codes, decimal, nat_eq, if◌then◌else◌}
-use Rattle.lft_ir.specs.Parts.{Parts}
-use Rattle.lft_ir.specs.Words.Words.{time_words, value_words, port_words, action_words}
-use Rattle.lft_ir.specs.Words.Lines.{line_words}
-use Rattle.lft_pair.specs.declared.contrasting.contrasts.LastWrite.{LastWrite}
-use Rattle.lft_pair.specs.declared.contrasting.contrasts.Scheduling.{Scheduling}
-use Rattle.lft_pair.specs.declared.contrasting.contrasts.Contrast.{Contrast}
+use Rattle.lft_ir.specs.{Parts.Parts, Words.{Words.{time_words, value_words, port_words, action_words}, Lines.line_words}}
+use Rattle.lft_pair.specs.declared.contrasting.contrasts.{LastWrite.LastWrite, Scheduling.Scheduling, Contrast.Contrast}
 use Rattle.lft_pair.specs.declared.contrasting.contrasts.Contrast.TheVariants as contrast
 
 -- the name of an instance

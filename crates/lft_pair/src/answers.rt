@@ -1,9 +1,7 @@
 //! Whether two runs answered alike, by their steps.
 
 ghost use Rattle.std.specs.Prelude.{◌≡◌, IsTrue, IfOk, unwrap_or};
-ghost use Rattle.std.specs.BTreeMap.{get};
-ghost use Rattle.std.specs.Bool.{Decides};
-ghost use Rattle.std.specs.Ordering.{nat_cmp};
+ghost use Rattle.std.specs.{BTreeMap.get, Bool.Decides, Ordering.nat_cmp};
 ghost use Rattle.lft_pair.specs.Answering.{SameAnswers, SameWritten, SameScheduled, AreWritten, AreScheduled, writing as the_writing, scheduling as the_scheduling};
 
 use lft_ir::steps::Step;

@@ -3,8 +3,7 @@
 ghost use Rattle.std.specs.Prelude.{IfOk, string_bytes};
 ghost use Rattle.lft_ir.specs.Steps.Fits.{RowsFit};
 ghost use Rattle.lft_model.specs.Breaches.{Legal};
-ghost use Rattle.lft_pair.specs.Pairs.{IsDifference};
-ghost use Rattle.lft_pair.specs.Shown.{ShowsDifference};
+ghost use Rattle.lft_pair.specs.{Pairs.IsDifference, Shown.ShowsDifference};
 
 mod answers;
 mod cells;

@@ -1,12 +1,8 @@
 //! Where the runs of a trace start, as its rows are read one tag after another.
 
 ghost use Rattle.std.specs.Prelude.{◌≡◌, ◌↔◌, ◌<◌, length, List, IsTrue, MatchOption, IfOk};
-ghost use Rattle.lft_ir.specs.Parts.{Parts};
-ghost use Rattle.lft_ir.specs.declared.steps.row.Row.{Row as TheRow};
-ghost use Rattle.lft_ir.specs.Steps.Fits.{RowsFit};
-ghost use Rattle.lft_model.specs.Plans.{PlanParts};
-ghost use Rattle.lft_model.specs.Breaches.{Legal};
-ghost use Rattle.lft_model.specs.Runs.{Ran};
+ghost use Rattle.lft_ir.specs.{Parts.Parts, declared.steps.row.Row.Row as TheRow, Steps.Fits.RowsFit};
+ghost use Rattle.lft_model.specs.{Plans.PlanParts, Breaches.Legal, Runs.Ran};
 ghost use Rattle.lft_pair.specs.Places.{StartsAt, AreLastStarts, AreUpTo, AreAfter};
 
 use lft_ir::steps::{Row, is_start, row_at};

@@ -1,35 +1,18 @@
 -- What a book keeps when a run is begun.
 use Rattle.std.proofs.Common.{◌≡◌, ℕ, ℤ, ◌+◌, ◌<◌, ◌≤◌, ◌⊎◌, inl, inr, List, [], ◌∷◌, ◌++◌, length, length-append, take, map, refl, sym, ap, ◌∙◌, subst, Option, Some, None, slice_get, filter_map, zip, false, option_map, unwrap_or}
-use Rattle.std.specs.List.{cons_option}
-use Rattle.std.proofs.lemmas.List.Elements.{filter_map-append}
-use Rattle.lft_tag.specs.declared.Tag.{Tag}
-use Rattle.lft_tag.specs.Tags.{UpTo, IsRecorded}
-use Rattle.lft_lists.proofs.Members.{Mem, mem_get}
-use Rattle.lft_lists.proofs.Places.{get_append_cases, get_left}
-use Rattle.lft_lists.proofs.Mapped.{mapped_from}
+use Rattle.std.{specs.List.cons_option, proofs.lemmas.List.Elements.filter_map-append}
+use Rattle.lft_tag.specs.{declared.Tag.Tag, Tags.{UpTo, IsRecorded}}
+use Rattle.lft_lists.proofs.{Members.{Mem, mem_get}, Places.{get_append_cases, get_left}, Mapped.mapped_from}
 use Rattle.lft_ir.specs.Parts.{inputs}
-use Rattle.lft_ir.specs.declared.parts.Value.{Value}
-use Rattle.lft_ir.specs.declared.parts.Name.{Name}
-use Rattle.lft_ir.specs.declared.parts.Reaction.{Reaction}
-use Rattle.lft_ir.specs.declared.steps.row.Row.{Row}
-use Rattle.lft_ir.specs.declared.steps.row.Step.{Step}
-use Rattle.lft_ir.specs.declared.steps.row.Step.TheVariants.{Start, Read}
+use Rattle.lft_ir.specs.declared.{parts.{Value.Value, Name.Name, Reaction.Reaction}, steps.row.{Row.Row, Step.{Step, TheVariants.{Start, Read}}}}
 use Rattle.lft_ir.specs.Steps.Fits.{RowsFit, RowFits, StepFits}
-use Rattle.lft_model.specs.Plans.{PlanParts, IsSoundPlan}
-use Rattle.lft_model.specs.Presence.{stop, Inputs}
-use Rattle.lft_model.specs.Runs.{Run, Ran, end_row, read_step, steps_of, inputs_of, by_ends}
-use Rattle.lft_model.specs.Breaches.{IsOpen}
-use Rattle.lft_model.specs.OneWorker.{rows}
-use Rattle.lft_model.specs.Recorded.{SoFar, Follows, IsAnswer, OnlyEndedAnswer, run_row, begun_rows, answered, answered_steps, instance_of, word_after}
-use Rattle.lft_model.proofs.Places.{slice_get_within}
-use Rattle.lft_model.proofs.RunSteps.{in_reads, mem_zip}
-use Rattle.lft_model.proofs.Begun.{begun_so_far, same_runs, steps_same}
-use Rattle.lft_model.proofs.Quiet.{pending_time}
-use Rattle.lft_pool.specs.declared.bodies.done.Done.{Done}
-use Rattle.lft_scheduler.specs.Starts.{MayStart, IsBusy, started_row, started_count}
-use Rattle.lft_pool.specs.Books.{law_of, IsRecording}
-use Rattle.lft_pool.proofs.Known.{ran_of_run}
 use Rattle.lft_ir.proofs.Naming.{input_known}
+use Rattle.lft_model.specs.{Plans.{PlanParts, IsSoundPlan}, Presence.{stop, Inputs}, Runs.{Run, Ran, end_row, read_step, steps_of, inputs_of, by_ends}}
+use Rattle.lft_model.specs.{Breaches.IsOpen, OneWorker.rows}
+use Rattle.lft_model.specs.Recorded.{SoFar, Follows, IsAnswer, OnlyEndedAnswer, run_row, begun_rows, answered, answered_steps, instance_of, word_after}
+use Rattle.lft_model.proofs.{Places.slice_get_within, RunSteps.{in_reads, mem_zip}, Begun.{begun_so_far, same_runs, steps_same}, Quiet.pending_time}
+use Rattle.lft_pool.{specs.{declared.bodies.done.Done.Done, Books.{law_of, IsRecording}}, proofs.Known.ran_of_run}
+use Rattle.lft_scheduler.specs.Starts.{MayStart, IsBusy, started_row, started_count}
 
 -- each instance hands its word on, and each run meets the law: as `Follows` says of the ended runs
 abbrev pub HandsOn : PlanParts → List (ℤ × ℤ) → List Run → Type 0

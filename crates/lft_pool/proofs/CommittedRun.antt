@@ -1,40 +1,20 @@
 -- What a book keeps when a run is committed.
 use Rattle.std.proofs.Common.{◌≡◌, ℕ, ℤ, zero, suc, ◌+◌, ◌<◌, ◌≤◌, ◌⊎◌, inl, inr, List, [], ◌∷◌, ◌++◌, append-nil, length, length-append, take, map, refl, sym, ap, ◌∙◌, subst, arith, Option, Some, None, slice_get, filter_map, zip, cond, ◌==◌, unwrap_or, Bool, true, false, pos}
-use Rattle.std.specs.List.{last_or, cons_option}
-use Rattle.std.proofs.Math.Seq.{take-append_seam}
-use Rattle.std.proofs.lemmas.List.{take-append-le}
-use Rattle.std.proofs.lemmas.List.Elements.{filter_map-append}
-use Rattle.lft_tag.specs.declared.Tag.{Tag}
-use Rattle.lft_tag.specs.Tags.{UpTo, IsRecorded}
-use Rattle.lft_lists.proofs.Members.{Mem, mem_get, mem_cases, mem_from_map, none_nil, last-append_some}
-use Rattle.lft_lists.proofs.Places.{get_append_cases, get_left}
+use Rattle.std.{specs.List.{last_or, cons_option}, proofs.{Math.Seq.take-append_seam, lemmas.List.{take-append-le, Elements.filter_map-append}}}
+use Rattle.lft_tag.specs.{declared.Tag.Tag, Tags.{UpTo, IsRecorded}}
+use Rattle.lft_lists.proofs.{Members.{Mem, mem_get, mem_cases, mem_from_map, none_nil, last-append_some}, Places.{get_append_cases, get_left}}
 use Rattle.lft_lists.proofs.Mapped.{mapped_from}
-use Rattle.lft_ir.specs.declared.parts.Value.{Value}
-use Rattle.lft_ir.specs.declared.steps.row.Row.{Row}
-use Rattle.lft_ir.specs.declared.steps.row.Step.{Step}
-use Rattle.lft_ir.specs.declared.steps.row.Step.TheVariants.{Start, Read, Write, Schedule, Stop, End}
+use Rattle.lft_ir.specs.declared.{parts.Value.Value, steps.row.{Row.Row, Step.{Step, TheVariants.{Start, Read, Write, Schedule, Stop, End}}}}
 use Rattle.lft_ir.specs.Steps.Fits.{RowsFit, RowFits, StepFits}
-use Rattle.lft_model.specs.Plans.{PlanParts, IsSoundPlan}
-use Rattle.lft_model.specs.Presence.{stop, Collision}
-use Rattle.lft_model.specs.Runs.{Run, start_row, end_row, step_of, steps_of, reads_at, run_at, by_ends}
-use Rattle.lft_model.specs.Breaches.{IsOpen}
+use Rattle.lft_model.specs.{Plans.{PlanParts, IsSoundPlan}, Presence.{stop, Collision}}
+use Rattle.lft_model.specs.{Runs.{Run, start_row, end_row, step_of, steps_of, reads_at, run_at, by_ends}, Breaches.IsOpen}
 use Rattle.lft_model.specs.OneWorker.{HasRun, NoClash, InOrderOfPrecedence}
 use Rattle.lft_model.specs.Recorded.{Follows, IsAnswer, OnlyEndedAnswer, MayAnswer, run_row, committed_rows, answered, answered_steps, instance_of, word_left, word_after}
-use Rattle.lft_model.proofs.Places.{slice_get_within}
-use Rattle.lft_model.proofs.Legality.{IsOrdered, IsInner, Inside, KeepsFour, opened}
-use Rattle.lft_model.proofs.Steps.{step_row, row_step, RowOf, step_mem}
-use Rattle.lft_model.proofs.Ended.{all_ended}
-use Rattle.lft_model.proofs.Grown.{added_none}
-use Rattle.lft_model.proofs.Law.{EndRow, end_of_run, collision_down}
-use Rattle.lft_model.proofs.Reached.{all_stop}
-use Rattle.lft_model.proofs.Recording.{recorded_in_order}
+use Rattle.lft_model.proofs.{Places.slice_get_within, Legality.{IsOrdered, IsInner, Inside, KeepsFour, opened}, Steps.{step_row, row_step, RowOf, step_mem}}
+use Rattle.lft_model.proofs.{Ended.all_ended, Grown.added_none, Law.{EndRow, end_of_run, collision_down}, Reached.all_stop, Recording.recorded_in_order}
 use Rattle.lft_model.proofs.Committed.{committed_kept, committed_runs, same_reads, committed_so_far, not_ended}
-use Rattle.lft_pool.specs.declared.bodies.done.Done.{Done}
-use Rattle.lft_scheduler.specs.Starts.{started_row, started_count}
-use Rattle.lft_scheduler.specs.Agendas.{MayEnd}
-use Rattle.lft_scheduler.proofs.RunEnded.{quiet_more, ran_before}
-use Rattle.lft_pool.specs.Books.{law_of, IsRecording}
-use Rattle.lft_pool.proofs.BegunRun.{HandsOn, MeetsLaw}
+use Rattle.lft_pool.{specs.{declared.bodies.done.Done.Done, Books.{law_of, IsRecording}}, proofs.BegunRun.{HandsOn, MeetsLaw}}
+use Rattle.lft_scheduler.{specs.{Starts.{started_row, started_count}, Agendas.MayEnd}, proofs.RunEnded.{quiet_more, ran_before}}
 
 -- one item more on both sides of two lists of one length
 zip_both : {X Y : Type 0} (xs : List X) (x : X) (ys : List Y) (y : Y) → length ys ≡ length xs → zip (xs ++ x ∷ []) (ys ++ y ∷ []) ≡ zip xs ys ++ (x, y) ∷ []

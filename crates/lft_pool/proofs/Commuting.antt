@@ -1,20 +1,12 @@
 -- A committed run leaves the other open runs what they were: triggered, with their inputs.
 use Rattle.std.proofs.Common.{◌≡◌, ℕ, List, [], ◌∷◌, ◌++◌, sym, ap, ◌∙◌, subst, Some}
-use Rattle.lft_tag.specs.declared.Tag.{Tag}
-use Rattle.lft_tag.proofs.Order.{UpTo_antisym}
+use Rattle.lft_tag.{specs.declared.Tag.Tag, proofs.Order.UpTo_antisym}
 use Rattle.lft_lists.proofs.Members.{Mem, get_mem}
-use Rattle.lft_ir.specs.declared.steps.row.Row.{Row}
-use Rattle.lft_ir.specs.declared.steps.row.Step.{Step}
-use Rattle.lft_model.specs.Plans.{PlanParts, IsSoundPlan}
-use Rattle.lft_model.specs.Presence.{Triggered, Inputs}
-use Rattle.lft_model.specs.Runs.{Run, run_at, start_row, by_ends}
-use Rattle.lft_model.specs.OneWorker.{Ready, rows}
+use Rattle.lft_ir.specs.declared.steps.row.{Row.Row, Step.Step}
+use Rattle.lft_model.specs.{Plans.{PlanParts, IsSoundPlan}, Presence.{Triggered, Inputs}, Runs.{Run, run_at, start_row, by_ends}, OneWorker.{Ready, rows}}
 use Rattle.lft_model.specs.Recorded.{MayAnswer, committed_rows}
-use Rattle.lft_model.proofs.Legality.{one_starter}
-use Rattle.lft_model.proofs.Grown.{open_triggered, open_inputs}
-use Rattle.lft_model.proofs.Committed.{now, committed_runs}
-use Rattle.lft_scheduler.specs.Agendas.{MayEnd}
-use Rattle.lft_scheduler.proofs.RunsOpen.{committed_cases}
+use Rattle.lft_model.proofs.{Legality.one_starter, Grown.{open_triggered, open_inputs}, Committed.{now, committed_runs}}
+use Rattle.lft_scheduler.{specs.Agendas.MayEnd, proofs.RunsOpen.committed_cases}
 use Rattle.lft_pool.specs.Answers.{KeepsOpenRuns}
 
 pub keeps_open_runs : (plan : PlanParts) (good : IsSoundPlan plan) (t : List Row) (w : ℕ) (g : Tag) (r : ℕ) (steps : List Step) → MayEnd plan t w g r steps → KeepsOpenRuns plan t (t ++ committed_rows w g r steps)

@@ -1,19 +1,14 @@
 -- What a last answer of a book says.
 use Rattle.std.proofs.Common.{◌≡◌, ◌≢◌, ◌⊎◌, ◌<◌, ◌≤◌, inl, inr, ℕ, ℤ, List, Result, Ok, Err, IfOk, IfErr, is_ok, Bool, true, false, subst, sym, ap, Option, Some, None, IfSome, ◌∙◌, refl}
-use Rattle.lft_pool.specs.declared.book.Begin.{Begin}
-use Rattle.lft_pool.specs.declared.book.Begin.TheVariants.{Run, Wait, Finished}
+use Rattle.lft_pool.specs.declared.book.Begin.{Begin, TheVariants.{Run, Wait, Finished}}
 use Rattle.lft_pool.specs.declared.stop.Stop.{Stop}
 use Rattle.lft_pool.specs.declared.stop.Stop.TheVariants.{NoBody, Collision, UndeclaredEffect, TooManyRuns, Stranger, BodyNoMemory, NoMemory, NoWorker, PlanChanged, BadWorkers, TooManyRows, LimitTag}
-use Rattle.lft_pool.specs.declared.bodies.ticket.Ticket.{Ticket}
-use Rattle.lft_pool.specs.Begun.{MatchBegin}
+use Rattle.lft_pool.specs.declared.bodies.{ticket.Ticket.Ticket, done.Done.Done}
+use Rattle.lft_pool.specs.{Begun.MatchBegin, Books.{BookParts, LacksBody}, Reasons.{StopHolds, ReasonHolds, StopHolds.{by_begin, by_commit}}}
+use Rattle.lft_pool.specs.Endings.{IsUnfinished, ReasonIs, WhyStopped}
 use Rattle.lft_tag.specs.declared.Tag.{Tag}
 use Rattle.lft_ir.specs.declared.parts.Value.{Value}
-use Rattle.lft_pool.specs.declared.bodies.done.Done.{Done}
 use Rattle.lft_scheduler.specs.Starts.{SomethingLeft, started_count}
-use Rattle.lft_pool.specs.Books.{BookParts, LacksBody}
-use Rattle.lft_pool.specs.Reasons.{StopHolds, ReasonHolds}
-use Rattle.lft_pool.specs.Reasons.StopHolds.{by_begin, by_commit}
-use Rattle.lft_pool.specs.Endings.{IsUnfinished, ReasonIs, WhyStopped}
 
 -- an answer that is neither a run nor a wait nor a refusal says what a finished one says
 pub finished_says : {L C : Type 0} (last : Result (Begin L C) Stop) (run : Ticket → ℕ → Type 0) (wait P : Type 0) → IfOk last (λ b. MatchBegin b (λ _ _. ⊥) ⊥ (Unit {0})) → is_ok last ≡ true → IfOk last (λ b. MatchBegin b run wait P) → P

@@ -1,21 +1,11 @@
 -- What is known of a recording's runs and of the names of its program.
 use Rattle.std.proofs.Common.{◌≡◌, ℕ, ◌<◌, ◌⊎◌, List, [], ◌∷◌, length, refl, ap, ◌∙◌, subst, arith, Option, Some, slice_get, ℤ}
 use Rattle.lft_tag.specs.declared.Tag.{Tag}
-use Rattle.lft_ir.specs.declared.parts.Value.{Value}
-use Rattle.lft_ir.specs.declared.steps.row.Row.{Row}
-use Rattle.lft_model.specs.Plans.{PlanParts, IsSoundPlan}
-use Rattle.lft_model.specs.Runs.{Run, Ran, end_row, by_ends}
-use Rattle.lft_model.specs.Breaches.{Legal}
-use Rattle.lft_model.specs.OneWorker.{HasRun}
-use Rattle.lft_model.specs.Recorded.{SoFar}
-use Rattle.lft_model.proofs.Legality.{KeepsFour, opened, one_start, one_starter, ran_at}
-use Rattle.lft_model.proofs.Ended.{all_ended}
-use Rattle.lft_model.proofs.Law.{EndRow, end_of_run}
-use Rattle.lft_model.proofs.Recording.{dec_end_row, open_ready_now}
-use Rattle.lft_model.proofs.Empty.{empty_so_far}
-use Rattle.lft_model.proofs.Finished.{AllEnded, finished_legal}
-use Rattle.lft_pool.specs.declared.bodies.done.Done.{Done}
-use Rattle.lft_pool.specs.Books.{IsRecording}
+use Rattle.lft_ir.specs.declared.{parts.Value.Value, steps.row.Row.Row}
+use Rattle.lft_model.specs.{Plans.{PlanParts, IsSoundPlan}, Runs.{Run, Ran, end_row, by_ends}, Breaches.Legal, OneWorker.HasRun, Recorded.SoFar}
+use Rattle.lft_model.proofs.{Legality.{KeepsFour, opened, one_start, one_starter, ran_at}, Ended.all_ended, Law.{EndRow, end_of_run}}
+use Rattle.lft_model.proofs.{Recording.{dec_end_row, open_ready_now}, Empty.empty_so_far, Finished.{AllEnded, finished_legal}}
+use Rattle.lft_pool.specs.{declared.bodies.done.Done.Done, Books.IsRecording}
 use Rattle.lft_scheduler.specs.Starts.{NothingLeft}
 
 -- each ended run has rows

@@ -2,30 +2,18 @@
 use Rattle.std.proofs.Common.{◌≡◌, inl, inr, ℕ, ℤ, ◌<◌, zero, suc, List, [], ◌∷◌, ◌++◌, length, refl, sym, ap, ◌∙◌, subst, arith, Option, Some, None, slice_get, slice_set, cond, ◌==◌, Bool, false, Ok, Err, Result, IsErr, IfErr, Contains, unwrap_or, option_map, rules}
 use Rattle.std.proofs.lemmas.Bool.Decides.{nat_tests}
 use Rattle.lft_ir.specs.Sound.{IsSound}
-use Rattle.lft_ir.specs.declared.parts.Name.{Name}
-use Rattle.lft_ir.specs.declared.parts.Name.TheVariants.{Port, Action}
-use Rattle.lft_ir.specs.declared.parts.Reaction.{Reaction}
-use Rattle.lft_ir.specs.declared.steps.row.Row.{Row}
-use Rattle.lft_ir.specs.declared.steps.row.Step.{Step}
-use Rattle.lft_ir.specs.declared.steps.row.Step.TheVariants.{Start, Read, Write, Schedule, Stop as StopStep, End}
+use Rattle.lft_ir.specs.declared.parts.{Name.{Name, TheVariants.{Port, Action}}, Reaction.Reaction, Value.Value}
+use Rattle.lft_ir.specs.declared.steps.row.{Row.Row, Step.{Step, TheVariants.{Start, Read, Write, Schedule, Stop as StopStep, End}}}
 use Rattle.lft_ir.specs.Steps.Fits.{StepFits}
-use Rattle.lft_model.specs.Plans.{PlanParts}
+use Rattle.lft_model.specs.{Plans.PlanParts, Recorded.{MayAnswer, SoFar, committed_rows}}
 use Rattle.lft_tag.specs.declared.Tag.{Tag}
 use Rattle.lft_lists.proofs.Members.{Mem, get_mem}
-use Rattle.lft_model.specs.Recorded.{MayAnswer, SoFar, committed_rows}
-use Rattle.lft_scheduler.specs.Agendas.{AgendaParts, IsAgenda, EndsWith}
-use Rattle.lft_scheduler.specs.Collisions.{IsClean}
-use Rattle.lft_pool.specs.declared.bodies.done.Done.{Done}
-use Rattle.lft_pool.specs.declared.bodies.ticket.Ticket.{Ticket}
+use Rattle.lft_scheduler.specs.{Agendas.{AgendaParts, IsAgenda, EndsWith}, Collisions.IsClean, Starts.{IsBusy, MayStartFirst}}
+use Rattle.lft_scheduler.specs.Answering.{MayAll, IsLong, HasLongDelay}
+use Rattle.lft_pool.specs.declared.bodies.{done.Done.Done, ticket.Ticket.Ticket}
 use Rattle.lft_pool.specs.declared.stop.Stop.{Stop}
 use Rattle.lft_pool.specs.declared.stop.Stop.TheVariants.{NoBody, Collision, UndeclaredEffect, TooManyRuns, Stranger, BodyNoMemory, NoMemory, NoWorker, PlanChanged, BadWorkers, TooManyRows, LimitTag}
-use Rattle.lft_pool.specs.Books.{BookParts}
-use Rattle.lft_pool.specs.Causes.{StartCause}
-use Rattle.lft_pool.specs.Reasons.{StopHolds}
-use Rattle.lft_pool.specs.Reasons.StopHolds.{by_begin, by_commit}
-use Rattle.lft_scheduler.specs.Starts.{IsBusy, MayStartFirst}
-use Rattle.lft_ir.specs.declared.parts.Value.{Value}
-use Rattle.lft_scheduler.specs.Answering.{MayAll, IsLong, HasLongDelay}
+use Rattle.lft_pool.specs.{Books.BookParts, Causes.StartCause, Reasons.{StopHolds, StopHolds.{by_begin, by_commit}}}
 use Rattle.lft_pool.specs.Answers.{HasTicket, HasClash, with_answer, RefusalCause, EndCause, CommitCause}
 
 -- steps that may be made without a long delay, and rows that are refused

@@ -1,19 +1,10 @@
 -- What `commit` is given and does, and why it refuses.
 use Rattle.std.specs.Prelude.{◌≡◌, ℕ, ◌<◌, ◌++◌, ◌∷◌, [], List, length, Option, Some, None, Result, IsErr, IfOk}
-use Rattle.lft_tag.specs.declared.Tag.{Tag}
-use Rattle.lft_tag.specs.declared.NoMemory.{NoMemory as Refused}
-use Rattle.lft_ir.specs.declared.parts.Value.{Value}
-use Rattle.lft_ir.specs.declared.steps.row.Row.{Row}
-use Rattle.lft_model.specs.Plans.{PlanParts}
-use Rattle.lft_model.specs.Presence.{Triggered, Inputs}
-use Rattle.lft_model.specs.Runs.{reads_at, by_ends}
-use Rattle.lft_model.specs.OneWorker.{rows}
-use Rattle.lft_model.specs.Breaches.{IsOpen}
-use Rattle.lft_model.specs.Recorded.{committed_rows}
-use Rattle.lft_scheduler.specs.Answering.{MayAll, HasLongDelay}
-use Rattle.lft_scheduler.specs.Collisions.{CollidesFirst, IsClean}
-use Rattle.lft_pool.specs.declared.bodies.done.Done.{Done}
-use Rattle.lft_pool.specs.declared.bodies.ticket.Ticket.{Ticket}
+use Rattle.lft_tag.specs.declared.{Tag.Tag, NoMemory.NoMemory as Refused}
+use Rattle.lft_ir.specs.declared.{parts.Value.Value, steps.row.Row.Row}
+use Rattle.lft_model.specs.{Plans.PlanParts, Presence.{Triggered, Inputs}, Runs.{reads_at, by_ends}, OneWorker.rows, Breaches.IsOpen, Recorded.committed_rows}
+use Rattle.lft_scheduler.specs.{Answering.{MayAll, HasLongDelay}, Collisions.{CollidesFirst, IsClean}}
+use Rattle.lft_pool.specs.declared.bodies.{done.Done.Done, ticket.Ticket.Ticket}
 use Rattle.lft_pool.specs.declared.stop.Stop.{Stop}
 use Rattle.lft_pool.specs.declared.stop.Stop.TheVariants.{NoBody, Collision, UndeclaredEffect, TooManyRuns, Stranger, BodyNoMemory, NoMemory, NoWorker, PlanChanged, BadWorkers, TooManyRows, LimitTag}
 use Rattle.lft_pool.specs.Books.{BookParts, word_now}

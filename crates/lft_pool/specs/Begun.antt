@@ -1,14 +1,8 @@
 -- What `begin` answers and does.
 use Rattle.std.specs.Prelude.{◌≡◌, ℕ, ◌<◌, ◌-◌, ◌++◌, slice_index, slice_set}
-use Rattle.lft_model.specs.Presence.{Inputs}
-use Rattle.lft_model.specs.Runs.{by_ends}
-use Rattle.lft_model.specs.OneWorker.{rows as rows_of_runs}
-use Rattle.lft_model.specs.Recorded.{begun_rows}
-use Rattle.lft_pool.specs.declared.book.Begin.{Begin}
-use Rattle.lft_pool.specs.declared.book.Begin.TheVariants.{Run, Wait, Finished}
-use Rattle.lft_pool.specs.declared.bodies.ticket.Ticket.{Ticket}
+use Rattle.lft_model.specs.{Presence.Inputs, Runs.by_ends, OneWorker.rows as rows_of_runs, Recorded.begun_rows}
+use Rattle.lft_pool.specs.{declared.{book.Begin.{Begin, TheVariants.{Run, Wait, Finished}}, bodies.ticket.Ticket.Ticket}, Books.{BookParts, word_now}}
 use Rattle.lft_scheduler.specs.Starts.{MayStartFirst}
-use Rattle.lft_pool.specs.Books.{BookParts, word_now}
 
 -- what holds of each of the three answers of `begin`
 abbrev pub MatchBegin : {L C : Type 0} → Begin L C → (Ticket → ℕ → Type 0) → Type 0 → Type 0 → Type 0

@@ -1,17 +1,10 @@
 -- What contracts see of a book, and what holds of every book.
 use Rattle.std.specs.Prelude.{◌≡◌, ◌≤◌, ℕ, ℤ, List, length, Option, Some, None, slice_get, slice_index}
 use Rattle.lft_tag.specs.declared.Tag.{Tag}
-use Rattle.lft_ir.specs.declared.parts.Value.{Value}
-use Rattle.lft_ir.specs.declared.parts.Reaction.{Reaction}
-use Rattle.lft_ir.specs.declared.steps.row.Row.{Row}
-use Rattle.lft_ir.specs.Steps.Fits.{RowsFit}
-use Rattle.lft_model.specs.Plans.{PlanParts}
-use Rattle.lft_model.specs.Runs.{by_ends}
-use Rattle.lft_model.specs.Recorded.{SoFar, Follows, BodyLaw, OnlyEndedAnswer, instance_of, word_after}
-use Rattle.lft_pool.specs.declared.bodies.done.Done.{Done}
-use Rattle.lft_pool.specs.declared.stop.Stop.{Stop}
-use Rattle.lft_scheduler.specs.Starts.{MayStart, started_count}
-use Rattle.lft_scheduler.specs.Agendas.{AgendaParts, IsAgenda}
+use Rattle.lft_ir.specs.{declared.{parts.{Value.Value, Reaction.Reaction}, steps.row.Row.Row}, Steps.Fits.RowsFit}
+use Rattle.lft_model.specs.{Plans.PlanParts, Runs.by_ends, Recorded.{SoFar, Follows, BodyLaw, OnlyEndedAnswer, instance_of, word_after}}
+use Rattle.lft_pool.specs.declared.{bodies.done.Done.Done, stop.Stop.Stop}
+use Rattle.lft_scheduler.specs.{Starts.{MayStart, started_count}, Agendas.{AgendaParts, IsAgenda}}
 
 -- plan, rows, words before and after each ended run, how many bodies each reaction has left, greatest number of runs, why it stopped
 pub record BookParts : Type 0 where

@@ -1,12 +1,8 @@
 -- Why `begin` refuses.
 use Rattle.std.specs.Prelude.{◌≡◌, ℕ, ◌<◌, ◌≤◌, ◌⊎◌, ◌++◌, List, Option, length, slice_index}
-use Rattle.lft_tag.specs.declared.Tag.{Tag}
-use Rattle.lft_tag.specs.Tags.{IsRecorded}
+use Rattle.lft_tag.specs.{declared.Tag.Tag, Tags.IsRecorded}
 use Rattle.lft_ir.specs.declared.parts.Value.{Value}
-use Rattle.lft_model.specs.Presence.{Inputs}
-use Rattle.lft_model.specs.Runs.{by_ends}
-use Rattle.lft_model.specs.OneWorker.{rows as rows_of_runs}
-use Rattle.lft_model.specs.Recorded.{begun_rows}
+use Rattle.lft_model.specs.{Presence.Inputs, Runs.by_ends, OneWorker.rows as rows_of_runs, Recorded.begun_rows}
 use Rattle.lft_scheduler.specs.Starts.{IsBusy, MayStartFirst, started_count}
 use Rattle.lft_pool.specs.declared.stop.Stop.{Stop}
 use Rattle.lft_pool.specs.declared.stop.Stop.TheVariants.{NoBody, Collision, UndeclaredEffect, TooManyRuns, Stranger, BodyNoMemory, NoMemory, NoWorker, PlanChanged, BadWorkers, TooManyRows, LimitTag}

@@ -2,15 +2,11 @@
 use Rattle.std.specs.Prelude.{◌≡◌, ◌⊎◌, ℕ, ℤ, ◌<◌, ◌≤◌, List, Option, Bool, true, false, Result, Err, IfOk, is_ok}
 use Rattle.lft_tag.specs.declared.Tag.{Tag}
 use Rattle.lft_ir.specs.declared.parts.Value.{Value}
-use Rattle.lft_pool.specs.declared.bodies.done.Done.{Done}
-use Rattle.lft_scheduler.specs.Starts.{SomethingLeft, started_count}
-use Rattle.lft_pool.specs.declared.book.Begin.{Begin}
+use Rattle.lft_pool.specs.declared.{bodies.done.Done.Done, book.Begin.Begin}
 use Rattle.lft_pool.specs.declared.stop.Stop.{Stop}
 use Rattle.lft_pool.specs.declared.stop.Stop.TheVariants.{NoBody, Collision, UndeclaredEffect, TooManyRuns, Stranger, BodyNoMemory, NoMemory, NoWorker, PlanChanged, BadWorkers, TooManyRows, LimitTag}
-use Rattle.lft_pool.specs.Begun.{MatchBegin}
-use Rattle.lft_pool.specs.Books.{BookParts}
-use Rattle.lft_pool.specs.Causes.{HasAllRuns}
-use Rattle.lft_pool.specs.Reasons.{StopHolds}
+use Rattle.lft_pool.specs.{Begun.MatchBegin, Books.BookParts, Causes.HasAllRuns, Reasons.StopHolds}
+use Rattle.lft_scheduler.specs.Starts.{SomethingLeft, started_count}
 
 -- the last answer of a book is that something is left to run
 abbrev pub IsUnfinished : {L C : Type 0} → Result (Begin L C) Stop → Type 0

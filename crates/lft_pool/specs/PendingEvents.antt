@@ -1,12 +1,8 @@
 -- The events that are pending in a recording.
 use Rattle.std.specs.Prelude.{◌≡◌, ◌↔◌, ℕ, List, Some, slice_get}
-use Rattle.lft_tag.specs.declared.Tag.{Tag}
-use Rattle.lft_tag.specs.Tags.{UpTo}
-use Rattle.lft_ir.specs.declared.parts.Value.{Value}
-use Rattle.lft_ir.specs.declared.parts.Name.{Name}
-use Rattle.lft_ir.specs.declared.steps.row.Row.{Row}
-use Rattle.lft_model.specs.Plans.{PlanParts}
-use Rattle.lft_model.specs.Presence.{At, stop}
+use Rattle.lft_tag.specs.{declared.Tag.Tag, Tags.UpTo}
+use Rattle.lft_ir.specs.declared.{parts.{Value.Value, Name.Name}, steps.row.Row.Row}
+use Rattle.lft_model.specs.{Plans.PlanParts, Presence.{At, stop}}
 use Rattle.lft_pool.specs.Books.{BookParts}
 
 -- an event is pending: by the rows so far and the external inputs the port or action has the value at the tag, no row is after that tag, and the stop isn't before it

@@ -1,14 +1,8 @@
 -- Why a book stopped.
 use Rattle.std.specs.Prelude.{ℕ, ℤ, List, Option, Some, None, Result, IfOk}
-use Rattle.lft_tag.specs.declared.Tag.{Tag}
-use Rattle.lft_tag.specs.declared.NoMemory.{NoMemory as Refused}
+use Rattle.lft_tag.specs.declared.{Tag.Tag, NoMemory.NoMemory as Refused}
 use Rattle.lft_ir.specs.declared.parts.Value.{Value}
-use Rattle.lft_pool.specs.declared.bodies.done.Done.{Done}
-use Rattle.lft_pool.specs.declared.bodies.ticket.Ticket.{Ticket}
-use Rattle.lft_pool.specs.declared.stop.Stop.{Stop}
-use Rattle.lft_pool.specs.Books.{BookParts}
-use Rattle.lft_pool.specs.Causes.{BeginCause}
-use Rattle.lft_pool.specs.Answers.{CommitCause}
+use Rattle.lft_pool.specs.{declared.{bodies.{done.Done.Done, ticket.Ticket.Ticket}, stop.Stop.Stop}, Books.BookParts, Causes.BeginCause, Answers.CommitCause}
 
 -- the book refuses some worker a run for this reason, or some answer; and where the answer isn't want of memory, it meets the law
 pub data StopHolds (law : ℕ → Tag → ℤ → List (Option Value) → Done → Type 0) (b : BookParts) (s : Stop) : Type 0 where

@@ -1,14 +1,9 @@
 //! The book: the state of a recording, changed by `begin` and `commit` alone.
 
 ghost use Rattle.std.specs.Prelude.{◌≡◌, ◌<◌, ◌+◌, ◌-◌, [], length, Some, None, Err, IfOk, IfErr, IfSome, IfNone, OnOk, IsOk, IsTrue, ◌↔◌, ◌≤◌, ◌⊎◌};
-ghost use Rattle.lft_model.specs.Plans.{PlanParts};
-ghost use Rattle.lft_model.specs.Breaches.{Legal};
-ghost use Rattle.lft_pool.specs.Books.{BookParts, IsRecording};
-ghost use Rattle.lft_pool.specs.PendingEvents.{SamePending};
-ghost use Rattle.lft_pool.specs.Reasons.{ReasonHolds, StopHolds};
-ghost use Rattle.lft_pool.specs.Begun.{MatchBegin, Started};
-ghost use Rattle.lft_pool.specs.Causes.{BeginCause, StartCause};
-ghost use Rattle.lft_pool.specs.Answers.{HasTicket, HasClash, KeepsOpenRuns, Committed, CommitCause, EndCause, RefusalCause};
+ghost use Rattle.lft_model.specs.{Plans.PlanParts, Breaches.Legal};
+ghost use Rattle.lft_pool.specs.{Books.{BookParts, IsRecording}, PendingEvents.SamePending, Reasons.{ReasonHolds, StopHolds}, Begun.{MatchBegin, Started}};
+ghost use Rattle.lft_pool.specs.{Causes.{BeginCause, StartCause}, Answers.{HasTicket, HasClash, KeepsOpenRuns, Committed, CommitCause, EndCause, RefusalCause}};
 ghost use Rattle.lft_scheduler.specs.Starts.{IsAnyOpen, IsBusy, MayStartFirst, NoneMayStart, NothingLeft, SomethingLeft, started_count};
 
 use crate::bodies::{Answered, Bodies, Body, BoxedCode, Code, Done, Law, Ticket, ticket_of};
@@ -51,8 +46,7 @@ pub struct Book<L: Law, C: Code + Drop = BoxedCode> {
 
 impl<L: Law, C: Code + Drop> Model for Book<L, C> {
     ghost use Rattle.std.specs.Prelude.{None};
-    ghost use Rattle.lft_pool.specs.Books.{BookParts, IsRecording, IsKept, AgendaHolds};
-    ghost use Rattle.lft_pool.specs.Reasons.{ReasonHolds};
+    ghost use Rattle.lft_pool.specs.{Books.{BookParts, IsRecording, IsKept, AgendaHolds}, Reasons.ReasonHolds};
 
     ghost Value = { BookParts };
 

@@ -1,7 +1,6 @@
 -- What is read from tables by number.
 use Rattle.std.proofs.Common.{◌≡◌, ℕ, ◌<◌, List, Option, Some, slice_get, get_or, length, sym, ap, ◌∙◌}
-use Rattle.std.specs.Option.{option_and_then}
-use Rattle.std.proofs.lemmas.Option.{get_or_from_slice_get, slice_get-get_or, slice_get_within}
+use Rattle.std.{specs.Option.option_and_then, proofs.lemmas.Option.{get_or_from_slice_get, slice_get-get_or, slice_get_within}}
 
 pub then_at : {X Y : Type 0} (f : X → Option Y) (o : Option X) (x : X) (y : Y) → option_and_then f o ≡ Some y → o ≡ Some x → f x ≡ Some y
 then_at f o x y e is = sym (ap (option_and_then f) is) ∙ e

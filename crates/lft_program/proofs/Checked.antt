@@ -1,13 +1,11 @@
 -- What holds of each reactor of a tree of which no cause holds that is looked for in each alone.
 use Rattle.std.proofs.Common.{◌≡◌, ◌≢◌, ℕ, ◌+◌, ◌<◌, ◌≤◌, ◌⊎◌, inl, inr, List, ◌++◌, length, sym, ap, ◌∙◌, arith, Some, slice_get, map}
 use Rattle.std.proofs.lemmas.Bool.{cases_lt, cases_eq}
-use Rattle.lft_resolve.proofs.Effects.{no_duplicate}
-use Rattle.lft_lists.proofs.Mapped.{mapped}
-use Rattle.lft_lists.proofs.Places.{get_right, get_left}
-use Rattle.lft_tree.specs.Tree.{FileTree, ReactorTree, PortTree, ConnectionTree, reactors_of, connections_of, ports_of, timers_of, actions_of, instances_of}
+use Rattle.lft_resolve.proofs.{Effects.no_duplicate, Twice.Any-at}
 use Rattle.lft_resolve.specs.Causes.{IsTwice, NoneHolds, DuplicateName, DeclaresTwice, UnknownName, WrongPlace, TwoSources, WritesTwice, WidthMismatch, DiffersInWidth, later_causes}
 use Rattle.lft_resolve.specs.Kinds.{names_in, destinations_in}
-use Rattle.lft_resolve.proofs.Twice.{Any-at}
+use Rattle.lft_lists.proofs.{Mapped.mapped, Places.{get_right, get_left}}
+use Rattle.lft_tree.specs.Tree.{FileTree, ReactorTree, PortTree, ConnectionTree, reactors_of, connections_of, ports_of, timers_of, actions_of, instances_of}
 use Rattle.lft_program.specs.Tables.{IsLawful}
 
 pub later_parts : (rs : List ReactorTree) → NoneHolds (later_causes rs) → (UnknownName rs → ⊥) × (WrongPlace rs → ⊥) × (TwoSources rs → ⊥) × (WidthMismatch rs → ⊥)

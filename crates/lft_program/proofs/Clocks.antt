@@ -1,14 +1,9 @@
 -- A clock read in an instance is the time that it was made of.
 use Rattle.std.proofs.Common.{◌≡◌, [], Option, Some, None, option_to_list, Any, ap}
-use Rattle.lft_program.proofs.Giving.{time_is}
+use Rattle.lft_program.{proofs.Giving.time_is, specs.Flattening.time_or_zero}
 use Rattle.lft_tree.specs.Tree.{TimeTree}
-use Rattle.lft_resolve.specs.Expansion.Values.{clock_in}
-use Rattle.lft_resolve.specs.declared.expansion.settings.Clock.{Clock}
+use Rattle.lft_resolve.specs.{Expansion.Values.clock_in, declared.expansion.settings.Clock.Clock, Causes.IsLongTime, Instances.Inside, Sheets.IsClockOrZero}
 use Rattle.lft_resolve.proofs.Somes.{Any-head}
-use Rattle.lft_resolve.specs.Causes.{IsLongTime}
-use Rattle.lft_resolve.specs.Instances.{Inside}
-use Rattle.lft_resolve.specs.Sheets.{IsClockOrZero}
-use Rattle.lft_program.specs.Flattening.{time_or_zero}
 
 -- the value at the place of a name is the value of the name
 

@@ -4,28 +4,13 @@ use Rattle.std.proofs.lemmas.List.{length-map}
 use Rattle.lft_lists.proofs.Mapped.{mapped}
 use Rattle.lft_tree.specs.Tree.{FileTree, TimeTree, ConnectionTree, RefTree, reactors_of, ports_of, connections_of}
 use Rattle.lft_tag.specs.declared.Source.{Source}
-use Rattle.lft_resolve.specs.declared.expansion.joins.Join.{Join}
-use Rattle.lft_resolve.specs.declared.expansion.joins.Connections.{Connections}
-use Rattle.lft_resolve.specs.declared.expansion.joins.Site.{Site}
-use Rattle.lft_resolve.specs.declared.expansion.walk.Instance.{Instance}
-use Rattle.lft_resolve.specs.Expansion.Joins.{AreSources, Joins, JoinPorts, LeadApart, HasJoin}
-use Rattle.lft_resolve.specs.Expansion.Values.{clock_in}
-use Rattle.lft_resolve.specs.Causes.{HasLongTime, IsLongTime}
-use Rattle.lft_resolve.specs.Instances.{Inside, Thing, thing_at, Connects, stands_for, time_in}
-use Rattle.lft_resolve.specs.Sheets.{IsJoin, Single, singles_of}
-use Rattle.lft_program.specs.Located.{Located, declared, ports_in}
-use Rattle.lft_program.specs.Nests.{IsNest}
-use Rattle.lft_program.specs.Tables.{AreTables, IsLawful}
-use Rattle.lft_program.specs.Ways.{IsJoined}
-use Rattle.lft_program.specs.declared.nesting.nest.Nest.{Nest}
-use Rattle.lft_program.specs.declared.nesting.tables.Tables.{Tables}
-use Rattle.lft_program.proofs.Checked.{ports_once}
-use Rattle.lft_program.proofs.Counting.{base}
-use Rattle.lft_program.proofs.Delays.{delay_is, long_delay}
-use Rattle.lft_program.proofs.Ends.{Standing, standing, place_at}
-use Rattle.lft_program.proofs.Joints.{Joint, joint, has_join, join_ports, lead_apart}
-use Rattle.lft_program.proofs.Nested.{instance_of, inside_of, number_of}
-use Rattle.lft_program.proofs.Ports.{as_many, distinct}
+use Rattle.lft_resolve.specs.declared.expansion.{joins.{Join.Join, Connections.Connections, Site.Site}, walk.Instance.Instance}
+use Rattle.lft_resolve.specs.{Expansion.{Joins.{AreSources, Joins, JoinPorts, LeadApart, HasJoin}, Values.clock_in}, Causes.{HasLongTime, IsLongTime}}
+use Rattle.lft_resolve.specs.{Instances.{Inside, Thing, thing_at, Connects, stands_for, time_in}, Sheets.{IsJoin, Single, singles_of}}
+use Rattle.lft_program.specs.{Located.{Located, declared, ports_in}, Nests.IsNest, Tables.{AreTables, IsLawful}, Ways.IsJoined}
+use Rattle.lft_program.specs.declared.nesting.{nest.Nest.Nest, tables.Tables.Tables}
+use Rattle.lft_program.proofs.{Checked.ports_once, Counting.base, Delays.{delay_is, long_delay}, Ends.{Standing, standing, place_at}}
+use Rattle.lft_program.proofs.{Joints.{Joint, joint, has_join, join_ports, lead_apart}, Nested.{instance_of, inside_of, number_of}, Ports.{as_many, distinct}}
 use Rattle.lft_program.proofs.Singles.{IsOf, single_back, single_forth}
 
 -- no reactor has a time past the greatest

@@ -1,8 +1,7 @@
 -- The number of a declaration: those of the instances before it, and its place.
 use Rattle.std.proofs.Common.{◌≡◌, ℕ, zero, suc, ◌+◌, List, [], ◌∷◌, ◌++◌, length, sym, ap, ◌∙◌, subst, arith, Some, slice_get, flat_map}
 use Rattle.std.specs.List.{enumerate_from}
-use Rattle.lft_lists.proofs.Mapped.{mapped, enumerate_at}
-use Rattle.lft_lists.proofs.Places.{get_right, get_left}
+use Rattle.lft_lists.proofs.{Mapped.{mapped, enumerate_at}, Places.{get_right, get_left}}
 use Rattle.lft_tree.specs.Tree.{ReactorTree}
 use Rattle.lft_program.specs.Located.{Located, Declared, declared, declared_in}
 

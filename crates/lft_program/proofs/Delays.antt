@@ -1,18 +1,11 @@
 -- Delays as clocks, against the times that they are in the tree.
 use Rattle.std.proofs.Common.{◌≡◌, ℕ, suc, ◌+◌, ◌<◌, inl, inr, Bool, true, false, cond, List, [], ◌∷◌, ◌++◌, refl, sym, ap, ◌∙◌, subst, Option, Some, None, option_map, option_to_list, slice_get, map, flat_map, unwrap_or, bytes_eq, Any}
 use Rattle.std.proofs.lemmas.Bool.{cases_lt, le-ltb}
-use Rattle.lft_resolve.proofs.Effects.{Any-flat}
-use Rattle.lft_tree.specs.Tree.{FileTree, ReactorTree, ParameterTree, ConnectionTree, TimeTree, Written, Named, nanoseconds, reactors_of, connections_of, timers_of, actions_of, instances_of}
-use Rattle.lft_resolve.specs.declared.expansion.settings.Clock.{Clock}
-use Rattle.lft_resolve.specs.declared.expansion.settings.Clock.TheVariants.{Fixed, Parameter}
-use Rattle.lft_resolve.specs.Expansion.Values.{clock_in}
-use Rattle.lft_resolve.specs.Causes.{HasLongTime, IsLongTime, longest}
-use Rattle.lft_resolve.specs.Instances.{Inside, time_in, value_of}
-use Rattle.lft_resolve.specs.Kinds.{times_in, timer_times}
-use Rattle.lft_resolve.specs.Places.{place}
+use Rattle.lft_resolve.proofs.{Effects.Any-flat, Somes.Any-right, Twice.Any-at}
+use Rattle.lft_resolve.specs.{declared.expansion.settings.Clock.{Clock, TheVariants.{Fixed, Parameter}}, Expansion.Values.clock_in}
+use Rattle.lft_resolve.specs.{Causes.{HasLongTime, IsLongTime, longest}, Instances.{Inside, time_in, value_of}, Kinds.{times_in, timer_times}, Places.place}
 use Rattle.lft_resolve.specs.Sheets.{IsClock, IsDelay, kept}
-use Rattle.lft_resolve.proofs.Somes.{Any-right}
-use Rattle.lft_resolve.proofs.Twice.{Any-at}
+use Rattle.lft_tree.specs.Tree.{FileTree, ReactorTree, ParameterTree, ConnectionTree, TimeTree, Written, Named, nanoseconds, reactors_of, connections_of, timers_of, actions_of, instances_of}
 
 pub kept_is : (t : ℕ) → (longest < t → ⊥) → kept t ≡ t
 kept_is t short = elim (cases_lt longest t) [ inl l ↦ absurd (short l) | inr g ↦ ap (λ b. cond b (longest + 1) t) (le-ltb longest t g) ]

@@ -1,21 +1,13 @@
 -- What each instance of a tree is: an instance of a reactor of the file, whose parameters have no value past the greatest time.
 use Rattle.std.proofs.Common.{◌≡◌, ℕ, suc, ◌<◌, ◌≤◌, inl, inr, ⊎_elim, Bool, true, false, cond, List, [], ◌∷◌, ◌++◌, map, flat_map, find, slice_get, Option, Some, None, option_to_list, Any, refl, subst, arith}
-use Rattle.std.specs.Option.{option_and_then}
-use Rattle.std.specs.Str.{bytes_eq}
-use Rattle.std.proofs.lemmas.Bool.{cases_lt}
-use Rattle.lft_lists.proofs.Places.{Some_same}
-use Rattle.lft_lists.proofs.Mapped.{mapped, mapped_from}
+use Rattle.std.{specs.{Option.option_and_then, Str.bytes_eq}, proofs.lemmas.Bool.cases_lt}
+use Rattle.lft_lists.proofs.{Places.Some_same, Mapped.{mapped, mapped_from}}
 use Rattle.lft_tree.specs.Tree.{FileTree, ReactorTree, ParameterTree, AssignmentTree, InstanceTree, TimeTree, Written, Named, nanoseconds, reactors_of, instances_of, timers_of, actions_of, connections_of}
-use Rattle.lft_resolve.specs.Expansion.Paths.{along}
-use Rattle.lft_resolve.specs.Causes.{HasLongTime, IsLongTime, longest}
+use Rattle.lft_resolve.specs.{Expansion.Paths.along, Causes.{HasLongTime, IsLongTime, longest}}
 use Rattle.lft_resolve.specs.Instances.{Inside, is_called, value_of, time_in, given_or_default, given_in, entered, main_of, main_instance}
 use Rattle.lft_resolve.specs.Kinds.{times_in, timer_times}
-use Rattle.lft_resolve.proofs.Effects.{Any-flat}
-use Rattle.lft_resolve.proofs.Somes.{Any-left, Any-right, Any-head}
-use Rattle.lft_resolve.proofs.Twice.{Any-at}
-use Rattle.lft_program.specs.Located.{Located, AreLocated}
-use Rattle.lft_program.specs.Flattening.{time_or_zero}
-use Rattle.lft_program.proofs.Entering.{entered_by}
+use Rattle.lft_resolve.proofs.{Effects.Any-flat, Somes.{Any-left, Any-right, Any-head}, Twice.Any-at}
+use Rattle.lft_program.{specs.{Located.{Located, AreLocated}, Flattening.time_or_zero}, proofs.Entering.entered_by}
 
 -- what is found stands in the list, and passes
 find_in : {X : Type 0} (p : X → Bool) (xs : List X) (x : X) → find p xs ≡ Some x → (k : ℕ) × (slice_get xs k ≡ Some x) × (p x ≡ true)

@@ -1,12 +1,10 @@
 -- A limit that is passed is the cause.
 use Rattle.std.proofs.Common.{◌≡◌, ℕ, ◌-◌, ◌≤◌, inl, inr, arith}
 use Rattle.lft_tree.specs.Tree.{FileTree}
-use Rattle.lft_resolve.specs.Expansion.Paths.{IsMoreThan}
-use Rattle.lft_resolve.specs.Causes.{TooMany}
+use Rattle.lft_resolve.specs.{Expansion.Paths.IsMoreThan, Causes.TooMany}
 use Rattle.lft_program.specs.Limits.{HasMoreThan, IsExcess, limit_of}
 use Rattle.lft_program.specs.declared.nesting.limits.Excess.{Excess}
-use Rattle.lft_program.specs.declared.nesting.limits.LimitedKind.{LimitedKind}
-use Rattle.lft_program.specs.declared.nesting.limits.LimitedKind.TheVariants.{Instances, Reactions, Ports, Connections, Actions, Timers}
+use Rattle.lft_program.specs.declared.nesting.limits.LimitedKind.{LimitedKind, TheVariants.{Instances, Reactions, Ports, Connections, Actions, Timers}}
 
 -- more than a number is more than a smaller one
 fewer : {X : Type 0} {P : X → Type 0} (n m : ℕ) → m ≤ n → IsMoreThan P n → IsMoreThan P m

@@ -4,17 +4,12 @@ use Rattle.std.specs.Result.{IsErrAnd}
 use Rattle.lft_tree.specs.Tree.{FileTree, reactors_of}
 use Rattle.lft_resolve.specs.Causes.{IsFirst, NoneHolds, TooMany, HasLongTime, DelayTooLong, causes}
 use Rattle.lft_program.specs.Links.{TellsOf, last_causes, number_of as link_number}
-use Rattle.lft_program.specs.declared.nesting.linking.LinkFault.{LinkFault}
+use Rattle.lft_program.specs.{declared.nesting.{linking.LinkFault.LinkFault, limits.Excess.Excess, nest.NestFault.NestFault}, Tables.IsLawful}
+use Rattle.lft_program.specs.{Faults.reactor_causes, Refusals.{Tells, cause_of, of_links, of_nest}, Limits.IsExcess}
+use Rattle.lft_program.proofs.Excesses.{excess_is_cause}
 use Rattle.lft_program.specs.declared.nesting.linking.LinkFault.TheVariants as links
-use Rattle.lft_program.specs.Tables.{IsLawful}
-use Rattle.lft_program.specs.Faults.{reactor_causes}
-use Rattle.lft_program.specs.Refusals.{Tells, cause_of, of_links, of_nest}
-use Rattle.lft_program.specs.Limits.{IsExcess}
-use Rattle.lft_program.specs.declared.nesting.limits.Excess.{Excess}
-use Rattle.lft_program.specs.declared.nesting.nest.NestFault.{NestFault}
 use Rattle.lft_program.specs.declared.nesting.nest.NestFault.TheVariants as nests
 use Rattle.lft_program.specs.declared.refusal.Refusal.TheVariants as refusals
-use Rattle.lft_program.proofs.Excesses.{excess_is_cause}
 
 pub IsFirst-left : (xs ys : List (ℕ × Type 0)) (n : ℕ) → IsFirst xs n → IsFirst (xs ++ ys) n
 IsFirst-left [] ys n f = absurd f

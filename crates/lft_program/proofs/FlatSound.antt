@@ -1,33 +1,21 @@
 -- The flat program of a lawful tree is sound.
 use Rattle.std.proofs.Common.{◌≡◌, ℕ, ◌<◌, ◌≤◌, filter_map, length, not, slice_get, Some, Any, Contains, option_to_list, sym, ap, subst, ◌∙◌}
-use Rattle.std.proofs.lemmas.List.{length-map}
-use Rattle.std.proofs.lemmas.Option.{slice_get_within}
+use Rattle.std.proofs.lemmas.{List.length-map, Option.slice_get_within}
 use Rattle.lft_lists.proofs.Places.{at_contains, Some_same}
 use Rattle.lft_tree.specs.Tree.{FileTree, PortTree, RefTree, TriggerTree, AtStartup, AtShutdown, OnRef, reactors_of, ports_of, actions_of, timers_of, reactions_of}
-use Rattle.lft_resolve.proofs.Effects.{Any-flat, reads_once, effects_once}
-use Rattle.lft_resolve.proofs.Somes.{Any-left, Any-right}
-use Rattle.lft_resolve.specs.Causes.{HasLongTime, IsLongTime}
-use Rattle.lft_resolve.specs.Instances.{stands_for, thing_at}
-use Rattle.lft_resolve.specs.Kinds.{reads_of, ref_in, timer_times}
+use Rattle.lft_resolve.proofs.{Effects.{Any-flat, reads_once, effects_once}, Somes.{Any-left, Any-right}}
+use Rattle.lft_resolve.specs.{Causes.{HasLongTime, IsLongTime}, Instances.{stands_for, thing_at}, Kinds.{reads_of, ref_in, timer_times}}
 use Rattle.lft_resolve.specs.Sheets.{is_timer, without_timers}
-use Rattle.lft_program.specs.Located.{Located, Declared, declared, ports_in, actions_in, timers_in}
-use Rattle.lft_program.specs.Tables.{IsLawful}
-use Rattle.lft_program.proofs.Placed.{declared_from, thing_from, path_once}
+use Rattle.lft_program.specs.{Located.{Located, Declared, declared, ports_in, actions_in, timers_in}, Tables.IsLawful}
 use Rattle.lft_program.specs.Flattening.{Flat, IsPort, IsAction, IsTimer, IsReaction, IsName, IsTrigger, name_of_thing, name_of_reaction}
-use Rattle.lft_ir.specs.Names.{AreDistinct, AreWords}
-use Rattle.lft_ir.specs.Parts.{Parts, inputs}
-use Rattle.lft_ir.specs.Naming.{named}
-use Rattle.lft_ir.specs.Sound.{IsSound, HasOneWriter, HasDistinct, IsNameOf, IsTriggerOf, NamesParts, IsWithinLimits, HasTimes, IsWellNamed}
-use Rattle.lft_ir.specs.declared.parts.Name.{Name}
-use Rattle.lft_ir.specs.declared.parts.Name.TheVariants.{Port, Action}
-use Rattle.lft_ir.specs.declared.parts.Reaction.{Reaction}
-use Rattle.lft_ir.specs.declared.parts.Trigger.{Trigger}
-use Rattle.lft_ir.specs.declared.parts.Trigger.TheVariants.{Startup, Shutdown, Timer, On}
-use Rattle.lft_program.proofs.Entered.{IsUsual, all_usual, option_short, in_timers, in_actions}
-use Rattle.lft_program.proofs.OneWriter.{Writes, writes, same_path}
-use Rattle.lft_program.proofs.Ordered.{reaction_at, is_numbered, is_consecutive}
+use Rattle.lft_program.proofs.{Placed.{declared_from, thing_from, path_once}, Entered.{IsUsual, all_usual, option_short, in_timers, in_actions}}
+use Rattle.lft_program.proofs.{OneWriter.{Writes, writes, same_path}, Ordered.{reaction_at, is_numbered, is_consecutive}}
 use Rattle.lft_program.proofs.Standing.{Some_of, all_of, some_kept, some_append, some_distinct, once_apart, apart_pairs, name_once, trigger_names}
 use Rattle.lft_program.proofs.Zips.{AllZip-from, AllZip-length}
+use Rattle.lft_ir.specs.{Names.{AreDistinct, AreWords}, Parts.{Parts, inputs}, Naming.named}
+use Rattle.lft_ir.specs.Sound.{IsSound, HasOneWriter, HasDistinct, IsNameOf, IsTriggerOf, NamesParts, IsWithinLimits, HasTimes, IsWellNamed}
+use Rattle.lft_ir.specs.declared.parts.{Name.{Name, TheVariants.{Port, Action}}, Reaction.Reaction}
+use Rattle.lft_ir.specs.declared.parts.Trigger.{Trigger, TheVariants.{Startup, Shutdown, Timer, On}}
 
 module _ (tree : FileTree) (program : Parts) (flat : Flat tree program) where
   -- ---- what is named is there

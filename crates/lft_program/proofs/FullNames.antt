@@ -1,23 +1,16 @@
 -- The full names of a program's things: none stands twice in the list of all, and what the list has at each place.
 use Rattle.std.proofs.Common.{◌≡◌, ℕ, ◌+◌, ◌-◌, ◌<◌, ◌^◌, zero, suc, List, [], ◌∷◌, ◌++◌, map, take, drop, length, get_or, slice_get, Some, All, AllPairs, codes, refl, sym, ap, subst, ◌∙◌, arith, ◌⊎◌, ⊎_elim, inl, inr, length-append, length-drop, append_assoc, append-nil, zero-add}
 use Rattle.std.specs.Fmt.{decimal}
-use Rattle.std.proofs.lemmas.Bool.{cases_order}
-use Rattle.std.proofs.lemmas.Fmt.{decimal_injective}
-use Rattle.std.proofs.lemmas.Grind.{common_steps}
-use Rattle.std.proofs.lemmas.List.{map-append, length-map}
+use Rattle.std.proofs.lemmas.{Bool.cases_order, Fmt.decimal_injective, Grind.common_steps, List.{map-append, length-map}}
 use Rattle.std.proofs.lemmas.Option.{slice_get_within, get_or_from_slice_get}
 use Rattle.lft_lists.proofs.Mapped.{mapped_from}
-use Rattle.lft_ir.specs.Names.{HasNoTwice}
-use Rattle.lft_program.specs.Extended.{Ending, dotted, hashed, endings, extended, AreAfter}
-use Rattle.lft_tree.specs.Identifiers.{IsName}
-use Rattle.lft_program.specs.FullNames.{members, AreOfProgram, AreFew}
-use Rattle.lft_program.specs.declared.naming.OwnName.{OwnName}
-use Rattle.lft_program.specs.declared.naming.Placed.{Placed}
-use Rattle.lft_program.proofs.Distinct.{main, ArePaths, HasNoTwice-extended}
-use Rattle.lft_resolve.proofs.Twice.{slice_get-front}
-use Rattle.lft_program.proofs.Extending.{extended-append, length-extended, extended-keeps}
-use Rattle.lft_ir.proofs.Ranges.{slice_get-drop}
+use Rattle.lft_ir.{specs.Names.HasNoTwice, proofs.Ranges.slice_get-drop}
+use Rattle.lft_program.specs.{Extended.{Ending, dotted, hashed, endings, extended, AreAfter}, FullNames.{members, AreOfProgram, AreFew}}
+use Rattle.lft_program.specs.declared.naming.{OwnName.OwnName, Placed.Placed}
+use Rattle.lft_program.proofs.{Distinct.{main, ArePaths, HasNoTwice-extended}, Extending.{extended-append, length-extended, extended-keeps}}
 use Rattle.lft_program.proofs.Separators.{IsEnding, HasNoSeparator-name, HasNoSeparator-decimal}
+use Rattle.lft_tree.specs.Identifiers.{IsName}
+use Rattle.lft_resolve.proofs.Twice.{slice_get-front}
 
 module _ {X : Type 0} where
   -- an element of two lists in a row

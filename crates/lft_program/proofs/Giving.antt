@@ -1,25 +1,15 @@
 -- What parameters are given, by name in the tree and by place in the tables.
 use Rattle.std.proofs.Common.{◌≡◌, ℕ, zero, suc, ◌+◌, ◌<◌, ◌≤◌, ◌⊎◌, inl, inr, Bool, true, false, cond, eqb, List, [], ◌∷◌, ◌++◌, Any, refl, sym, ap, ◌∙◌, subst, arith, Some, slice_get, find, map, flat_map, option_map, option_to_list, unwrap_or, bytes_eq}
-use Rattle.std.specs.List.{AllZip, enumerate_from}
-use Rattle.std.specs.Option.{option_map_or}
-use Rattle.std.proofs.lemmas.Bool.{cases_lt}
-use Rattle.std.proofs.lemmas.Bool.Decides.{eqb_tells}
-use Rattle.std.proofs.lemmas.Slice.Eq.{bytes_eq-Decides}
-use Rattle.lft_program.proofs.Delays.{kept_is}
+use Rattle.std.{specs.{List.{AllZip, enumerate_from}, Option.option_map_or}, proofs.lemmas.{Bool.{cases_lt, Decides.eqb_tells}, Slice.Eq.bytes_eq-Decides}}
+use Rattle.lft_program.proofs.{Delays.kept_is, Counting.flat_at}
 use Rattle.lft_lists.proofs.Mapped.{mapped, option_map_some}
 use Rattle.lft_tree.specs.Tree.{ReactorTree, ParameterTree, AssignmentTree, InstanceTree, TimeTree, Written, Named, nanoseconds, instances_of, ports_of, timers_of, actions_of, connections_of}
 use Rattle.lft_resolve.specs.Expansion.Values.{clock_in, value_in, values_in}
-use Rattle.lft_resolve.specs.declared.expansion.settings.Clock.{Clock}
-use Rattle.lft_resolve.specs.declared.expansion.settings.Clock.TheVariants.{Fixed, Parameter}
-use Rattle.lft_resolve.specs.declared.expansion.settings.Given.{Given}
+use Rattle.lft_resolve.specs.declared.expansion.settings.{Clock.{Clock, TheVariants.{Fixed, Parameter}}, Given.Given}
 use Rattle.lft_resolve.specs.Causes.{DeclaresTwice, DuplicateName, HasLongTime, IsLongTime, IsTwice, NoneHolds, first_causes, longest}
-use Rattle.lft_resolve.specs.Instances.{Inside, given_in, given_or_default, time_in, value_of}
-use Rattle.lft_resolve.specs.Kinds.{timer_times}
-use Rattle.lft_resolve.specs.Places.{place}
+use Rattle.lft_resolve.specs.{Instances.{Inside, given_in, given_or_default, time_in, value_of}, Kinds.timer_times, Places.place}
 use Rattle.lft_resolve.specs.Sheets.{IsClock, IsGiven, kept}
-use Rattle.lft_resolve.proofs.Somes.{Any-head, Any-left, Any-right, Any-tail}
-use Rattle.lft_resolve.proofs.Twice.{Any-at, twice_left}
-use Rattle.lft_program.proofs.Counting.{flat_at}
+use Rattle.lft_resolve.proofs.{Somes.{Any-head, Any-left, Any-right, Any-tail}, Twice.{Any-at, twice_left}}
 
 -- ---- places of names that stand once
 

@@ -1,29 +1,16 @@
 -- The instances that others contain: where they stand, and what they are called.
 use Rattle.std.proofs.Common.{◌≡◌, ℕ, ◌+◌, ◌<◌, List, [], ◌∷◌, ◌++◌, map, flat_map, drop, length, slice_get, Some, None, Option, option_map, option_to_list, codes, ⊎_elim, refl, sym, ap, subst, ◌∙◌, arith, append_assoc, append-nil}
-use Rattle.std.proofs.lemmas.Bool.{cases_order}
-use Rattle.std.proofs.lemmas.List.{length-map}
-use Rattle.std.proofs.lemmas.Option.{slice_get_within}
-use Rattle.lft_lists.proofs.Mapped.{mapped, mapped_from}
-use Rattle.lft_lists.proofs.Places.{get_there, Some_same}
+use Rattle.std.proofs.lemmas.{Bool.cases_order, List.length-map, Option.slice_get_within}
+use Rattle.lft_lists.proofs.{Mapped.{mapped, mapped_from}, Places.{get_there, Some_same}}
 use Rattle.lft_tree.specs.Tree.{FileTree, ReactorTree, InstanceTree, reactors_of, instances_of}
-use Rattle.lft_resolve.specs.Expansion.Paths.{along}
-use Rattle.lft_resolve.specs.declared.expansion.walk.Instance.{Instance}
-use Rattle.lft_resolve.proofs.ExpansionLemmas.Orders.{before_itself}
+use Rattle.lft_resolve.specs.{Expansion.Paths.along, declared.expansion.walk.Instance.Instance}
 use Rattle.lft_resolve.specs.Instances.{Inside, entered, given_in, main_instance, reactor_named}
-use Rattle.lft_program.specs.Located.{Located}
-use Rattle.lft_program.specs.Nests.{IsInstanceOf, IsNest}
-use Rattle.lft_program.specs.declared.nesting.nest.Nest.{Nest}
-use Rattle.lft_program.specs.declared.nesting.tables.Tables.{Tables}
-use Rattle.lft_program.proofs.Zipping.{then_some, zip_at, zip_back, zip_long}
-use Rattle.lft_program.specs.Flattening.{name_of_path, name_under}
-use Rattle.lft_program.specs.OwnNames.{own_names}
-use Rattle.lft_program.specs.TreeLists.{name_at, seen}
-use Rattle.lft_program.specs.declared.naming.OwnName.{OwnName}
-use Rattle.lft_program.specs.declared.own_names.MemberKind.TheVariants as kinds
-use Rattle.lft_program.proofs.KindNames.{instance_name_there}
-use Rattle.lft_program.proofs.NamesOnce.{instance_names}
+use Rattle.lft_resolve.proofs.ExpansionLemmas.Orders.{before_itself}
+use Rattle.lft_program.specs.{Located.Located, Nests.{IsInstanceOf, IsNest}, declared.{nesting.{nest.Nest.Nest, tables.Tables.Tables}, naming.OwnName.OwnName}}
+use Rattle.lft_program.specs.{Flattening.{name_of_path, name_under}, OwnNames.own_names, TreeLists.{name_at, seen}}
+use Rattle.lft_program.proofs.{Zipping.{then_some, zip_at, zip_back, zip_long}, KindNames.instance_name_there, NamesOnce.instance_names, Sites.AreSites}
 use Rattle.lft_ir.proofs.Ranges.{slice_get-drop}
-use Rattle.lft_program.proofs.Sites.{AreSites}
+use Rattle.lft_program.specs.declared.own_names.MemberKind.TheVariants as kinds
 
 -- ---- a path with one more step
 

@@ -1,31 +1,15 @@
 -- The joins of instances: both ends of each are ports, and no two lead into one.
 use Rattle.std.proofs.Common.{◌≡◌, ℕ, ◌+◌, ◌<◌, ◌≤◌, ◌⊎◌, inl, inr, Bool, true, false, List, [], ◌∷◌, ◌++◌, refl, sym, ap, ◌∙◌, subst, arith, Some, slice_get}
-use Rattle.std.specs.Option.{option_map_or}
-use Rattle.std.proofs.lemmas.Bool.{cases_lt}
+use Rattle.std.{specs.Option.option_map_or, proofs.lemmas.Bool.cases_lt}
 use Rattle.lft_lists.proofs.Places.{push_apart}
 use Rattle.lft_tree.specs.Tree.{FileTree, ReactorTree, PortTree, InstanceTree, RefTree, reactors_of, ports_of, instances_of}
-use Rattle.lft_resolve.specs.declared.expansion.walk.Instance.{Instance}
-use Rattle.lft_resolve.specs.declared.expansion.joins.End.{End}
-use Rattle.lft_resolve.specs.declared.expansion.joins.End.TheVariants.{Own, Inner}
-use Rattle.lft_resolve.specs.declared.expansion.joins.Join.{Join}
-use Rattle.lft_resolve.specs.declared.expansion.joins.Connections.{Connections}
-use Rattle.lft_resolve.specs.Expansion.Joins.{HasJoin, JoinPorts, LeadApart}
-use Rattle.lft_resolve.specs.Causes.{IsTwice}
-use Rattle.lft_resolve.specs.Instances.{thing_at, reactor_named}
-use Rattle.lft_resolve.specs.Kinds.{destinations_in}
+use Rattle.lft_resolve.specs.declared.expansion.{walk.Instance.Instance, joins.{End.{End, TheVariants.{Own, Inner}}, Join.Join, Connections.Connections}}
+use Rattle.lft_resolve.specs.{Expansion.Joins.{HasJoin, JoinPorts, LeadApart}, Causes.IsTwice, Instances.{thing_at, reactor_named}, Kinds.destinations_in}
 use Rattle.lft_resolve.specs.Sheets.{IsConnections, IsEnd, IsJoin, Single, singles_of}
 use Rattle.lft_resolve.proofs.Written.{own_written, inner_written}
-use Rattle.lft_program.specs.Located.{Located, ports_in}
-use Rattle.lft_program.specs.Nests.{IsNest}
-use Rattle.lft_program.specs.Tables.{AreTables, IsLawful}
-use Rattle.lft_program.specs.declared.nesting.nest.Nest.{Nest}
-use Rattle.lft_program.specs.declared.nesting.tables.Tables.{Tables}
-use Rattle.lft_program.proofs.Checked.{later_parts, ports_once, even, destinations_once}
-use Rattle.lft_program.proofs.Counting.{base}
-use Rattle.lft_program.proofs.Ends.{Standing, standing, steps_to, place_at, holder}
-use Rattle.lft_program.proofs.Zipping.{zip_at, zip_back}
-use Rattle.lft_program.proofs.Nested.{located_of, instance_of, one_number}
-use Rattle.lft_program.proofs.Singles.{IsOf, single_back, to_at, place_forth}
+use Rattle.lft_program.specs.{Located.{Located, ports_in}, Nests.IsNest, Tables.{AreTables, IsLawful}, declared.nesting.{nest.Nest.Nest, tables.Tables.Tables}}
+use Rattle.lft_program.proofs.{Checked.{later_parts, ports_once, even, destinations_once}, Counting.base, Ends.{Standing, standing, steps_to, place_at, holder}}
+use Rattle.lft_program.proofs.{Zipping.{zip_at, zip_back}, Nested.{located_of, instance_of, one_number}, Singles.{IsOf, single_back, to_at, place_forth}}
 
 -- whether an end as a destination is an input
 abbrev pub goes_in : End → Bool

@@ -1,27 +1,14 @@
 -- The lists of what instances declare, as the naming takes them.
 use Rattle.std.proofs.Common.{◌≡◌, ℕ, ◌+◌, ◌<◌, ◌≤◌, List, [], map, length, slice_get, Some, sym, ap, ◌∙◌, arith}
-use Rattle.std.specs.List.{AllZip}
-use Rattle.std.specs.Option.{option_and_then, unwrap_or}
-use Rattle.std.proofs.lemmas.List.{length-map}
-use Rattle.std.proofs.lemmas.Option.{slice_get_within}
-use Rattle.lft_lists.proofs.Places.{Some_same}
-use Rattle.lft_lists.proofs.Mapped.{mapped}
+use Rattle.std.{specs.{List.AllZip, Option.{option_and_then, unwrap_or}}, proofs.lemmas.{List.length-map, Option.slice_get_within}}
+use Rattle.lft_lists.proofs.{Places.Some_same, Mapped.mapped, Picked.map-filter_map}
 use Rattle.lft_tree.specs.Tree.{ReactorTree, InstanceTree, instances_of, ports_of, actions_of, timers_of, instance_in, port_in, action_in, timer_in}
-use Rattle.lft_resolve.specs.declared.expansion.numbering.Thing.{Thing}
-use Rattle.lft_resolve.specs.declared.expansion.walk.Instance.{Instance}
-use Rattle.lft_program.specs.Located.{Located, declared, Declared}
-use Rattle.lft_program.specs.Nests.{IsInstanceOf, IsNumbering, IsThingOf}
-use Rattle.lft_program.specs.declared.nesting.nest.Numbering.{Numbering}
-use Rattle.lft_program.proofs.Counting.{base}
-use Rattle.lft_program.proofs.Listing.{declared_from, declared-length}
-use Rattle.lft_program.proofs.Zipping.{zip_at, zip_back, zip_long, zip_of}
-use Rattle.lft_program.specs.OwnNames.{own_names}
+use Rattle.lft_resolve.specs.declared.expansion.{numbering.Thing.Thing, walk.Instance.Instance}
+use Rattle.lft_program.specs.{Located.{Located, declared, Declared}, Nests.{IsInstanceOf, IsNumbering, IsThingOf}}
+use Rattle.lft_program.specs.{declared.{nesting.nest.Numbering.Numbering, naming.{OwnName.OwnName, Placed.Placed}}, OwnNames.own_names}
 use Rattle.lft_program.specs.TreeLists.{name_at, placed_at, seen, Says, IsPlacedAt}
-use Rattle.lft_program.specs.declared.naming.OwnName.{OwnName}
-use Rattle.lft_program.specs.declared.naming.Placed.{Placed}
+use Rattle.lft_program.proofs.{Counting.base, Listing.{declared_from, declared-length}, Zipping.{zip_at, zip_back, zip_long, zip_of}, Sites.AreSites}
 use Rattle.lft_program.specs.declared.own_names.MemberKind.TheVariants as kinds
-use Rattle.lft_lists.proofs.Picked.{map-filter_map}
-use Rattle.lft_program.proofs.Sites.{AreSites}
 
 -- the names of a kind are those of the members
 pub own_ports : (r : ReactorTree) → own_names kinds.Port r ≡ map (λ x. x.name) (ports_of r)

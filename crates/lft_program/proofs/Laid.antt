@@ -1,20 +1,12 @@
 -- The parts that were made of a tree's tables, nest and links are those of its flat program, and within the limits.
 use Rattle.std.proofs.Common.{◌≡◌, ◌≤◌, ℕ, List, length, ap, ◌∙◌, arith}
-use Rattle.std.specs.List.{AllZip}
-use Rattle.std.proofs.lemmas.List.{length-map}
+use Rattle.std.{specs.List.AllZip, proofs.lemmas.List.length-map}
 use Rattle.lft_tree.specs.Tree.{FileTree, ReactorTree, reactors_of, ports_of, timers_of, actions_of, reactions_of}
-use Rattle.lft_program.specs.Located.{declared}
-use Rattle.lft_program.specs.Nests.{IsInstanceOf, IsNumbering}
-use Rattle.lft_program.specs.declared.nesting.linking.Linked.{Linked}
-use Rattle.lft_program.specs.declared.nesting.nest.Nest.{Nest}
-use Rattle.lft_program.specs.declared.nesting.nest.Numbering.{Numbering}
-use Rattle.lft_program.specs.declared.nesting.tables.Tables.{Tables}
-use Rattle.lft_program.proofs.Listing.{declared-length}
-use Rattle.lft_program.specs.Flattening.{Flat, IsPort, IsTimer, IsAction, IsReaction, names_of, name_of_path}
-use Rattle.lft_program.specs.OfTree.{AreOfTree}
-use Rattle.lft_ir.specs.Parts.{Parts}
-use Rattle.lft_ir.specs.Sound.{IsWithinLimits, KeepsOrigins}
-use Rattle.lft_program.proofs.Zips.{AllZip-length}
+use Rattle.lft_program.specs.{Located.declared, Nests.{IsInstanceOf, IsNumbering}}
+use Rattle.lft_program.specs.declared.nesting.{linking.Linked.Linked, nest.{Nest.Nest, Numbering.Numbering}, tables.Tables.Tables}
+use Rattle.lft_program.specs.{Flattening.{Flat, IsPort, IsTimer, IsAction, IsReaction, names_of, name_of_path}, OfTree.AreOfTree}
+use Rattle.lft_program.proofs.{Listing.declared-length, Zips.AllZip-length}
+use Rattle.lft_ir.specs.{Parts.Parts, Sound.{IsWithinLimits, KeepsOrigins}}
 
 module _ (tree : FileTree) (tables : Tables) (nest : Nest) (links : List Linked) (n : AreOfTree tree tables nest links) (program : Parts)
     (origins : KeepsOrigins program)

@@ -1,37 +1,19 @@
 -- What the tables and the nest of a tree have for a declaration of it.
 use Rattle.std.proofs.Common.{◌≡◌, ℕ, List, [], ◌∷◌, ◌++◌, Option, Some, map, flat_map, length, slice_get, option_to_list, Any, inr, sym, ap, ◌∙◌}
-use Rattle.std.specs.Option.{option_and_then, unwrap_or}
-use Rattle.std.specs.List.{AllZip}
-use Rattle.lft_resolve.proofs.Effects.{Any-flat}
+use Rattle.std.specs.{Option.{option_and_then, unwrap_or}, List.AllZip}
+use Rattle.lft_resolve.proofs.{Effects.Any-flat, Somes.{Any-left, Any-right}, Twice.Any-at}
+use Rattle.lft_resolve.specs.Expansion.Values.{clock_in}
+use Rattle.lft_resolve.specs.declared.expansion.{numbering.Thing.Thing, settings.Clock.Clock, walk.Instance.Instance}
+use Rattle.lft_resolve.specs.declared.by_number.sheets.{ActionSheet.ActionSheet, Declarations.Declarations, TimerSheet.TimerSheet}
+use Rattle.lft_resolve.specs.{Causes.{IsLongTime, HasLongTime}, Kinds.{times_in, timer_times}}
+use Rattle.lft_resolve.specs.Sheets.{IsDeclarations, IsTimerSheet, IsActionSheet, IsClockOrZero}
 use Rattle.lft_lists.proofs.Mapped.{mapped}
 use Rattle.lft_tree.specs.Tree.{FileTree, ReactorTree, TimerTree, ActionTree, TimeTree, reactors_of, timers_of, actions_of, instances_of, connections_of}
-use Rattle.lft_resolve.specs.Expansion.Values.{clock_in}
-use Rattle.lft_resolve.specs.declared.expansion.numbering.Thing.{Thing}
-use Rattle.lft_resolve.specs.declared.expansion.settings.Clock.{Clock}
-use Rattle.lft_resolve.specs.declared.expansion.walk.Instance.{Instance}
-use Rattle.lft_resolve.specs.Causes.{IsLongTime, HasLongTime}
-use Rattle.lft_resolve.specs.Kinds.{times_in, timer_times}
-use Rattle.lft_resolve.specs.Sheets.{IsDeclarations, IsTimerSheet, IsActionSheet, IsClockOrZero}
-use Rattle.lft_resolve.specs.declared.by_number.sheets.ActionSheet.{ActionSheet}
-use Rattle.lft_resolve.specs.declared.by_number.sheets.Declarations.{Declarations}
-use Rattle.lft_resolve.specs.declared.by_number.sheets.TimerSheet.{TimerSheet}
-use Rattle.lft_resolve.proofs.Somes.{Any-left, Any-right}
-use Rattle.lft_program.specs.Located.{Located, Declared, declared}
-use Rattle.lft_program.specs.Nests.{IsInstanceOf, IsThingOf}
-use Rattle.lft_program.specs.declared.nesting.linking.Linked.{Linked}
-use Rattle.lft_program.specs.declared.nesting.nest.Nest.{Nest}
-use Rattle.lft_program.specs.declared.nesting.tables.Tables.{Tables}
-use Rattle.lft_program.proofs.Declared.{declared_from}
-use Rattle.lft_program.proofs.Zipping.{zip_at}
-use Rattle.lft_program.specs.Flattening.{IsTimer, IsAction, time_or_zero}
-use Rattle.lft_program.specs.Laying.{IsActionAt, IsTimerAt, action_at, clock_at, declarations_at, timer_at}
-use Rattle.lft_program.specs.OfTree.{AreOfTree}
-use Rattle.lft_ir.specs.declared.parts.Action.{Action as ActionOf}
-use Rattle.lft_ir.specs.declared.parts.Timer.{Timer as TimerOf}
-use Rattle.lft_program.proofs.Clocks.{clock_or_zero_is}
-use Rattle.lft_program.proofs.Making.{Made, made_zip}
-use Rattle.lft_program.proofs.Zips.{AllZip-from}
-use Rattle.lft_resolve.proofs.Twice.{Any-at}
+use Rattle.lft_program.specs.{Located.{Located, Declared, declared}, Nests.{IsInstanceOf, IsThingOf}}
+use Rattle.lft_program.specs.{declared.nesting.{linking.Linked.Linked, nest.Nest.Nest, tables.Tables.Tables}, Flattening.{IsTimer, IsAction, time_or_zero}}
+use Rattle.lft_program.specs.{Laying.{IsActionAt, IsTimerAt, action_at, clock_at, declarations_at, timer_at}, OfTree.AreOfTree}
+use Rattle.lft_program.proofs.{Declared.declared_from, Zipping.zip_at, Clocks.clock_or_zero_is, Making.{Made, made_zip}, Zips.AllZip-from}
+use Rattle.lft_ir.specs.declared.parts.{Action.Action as ActionOf, Timer.Timer as TimerOf}
 
 -- times of timers and actions are among those of their reactor
 long_first : (r : ReactorTree) → Any IsLongTime (flat_map timer_times (timers_of r) ++ flat_map (λ a. option_to_list a.min_delay) (actions_of r)) → Any IsLongTime (times_in r)

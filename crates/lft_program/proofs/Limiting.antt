@@ -3,16 +3,11 @@ use Rattle.std.proofs.Common.{◌≡◌, ℕ, List, length, sym, ◌∙◌, subs
 use Rattle.std.proofs.lemmas.Option.{slice_get_within}
 use Rattle.lft_lists.proofs.Places.{get_there}
 use Rattle.lft_tree.specs.Tree.{FileTree, ReactorTree, reactors_of}
-use Rattle.lft_resolve.specs.Expansion.Contents.{contained}
-use Rattle.lft_resolve.specs.Expansion.Numbers.{HasMoreThings, IsThing}
-use Rattle.lft_resolve.specs.Expansion.Paths.{Exists, IsMoreThan, along}
-use Rattle.lft_resolve.specs.declared.expansion.walk.Contents.{Contents}
-use Rattle.lft_resolve.proofs.ExpansionLemmas.Simulation.{along_back, along_forth}
-use Rattle.lft_resolve.specs.Causes.{IsDeclaredAt}
-use Rattle.lft_resolve.specs.Instances.{Inside, IsInside, entered, main_instance, main_of}
+use Rattle.lft_resolve.specs.Expansion.{Contents.contained, Numbers.{HasMoreThings, IsThing}, Paths.{Exists, IsMoreThan, along}}
+use Rattle.lft_resolve.specs.{declared.expansion.walk.Contents.Contents, Causes.IsDeclaredAt, Instances.{Inside, IsInside, entered, main_instance, main_of}}
 use Rattle.lft_resolve.specs.Numbers.{AreContents}
-use Rattle.lft_program.proofs.Entering.{HasNumber, numbers_go_along}
-use Rattle.lft_program.proofs.Listing.{count_is}
+use Rattle.lft_resolve.proofs.ExpansionLemmas.Simulation.{along_back, along_forth}
+use Rattle.lft_program.proofs.{Entering.{HasNumber, numbers_go_along}, Listing.count_is}
 
 -- what holds of what is so holds of as many
 pub more_so : {X : Type 0} (P Q : X → Type 0) (limit : ℕ) → ((x : X) → P x → Q x) → IsMoreThan P limit → IsMoreThan Q limit

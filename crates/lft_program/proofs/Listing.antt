@@ -1,23 +1,12 @@
 -- The list of the things of one kind has the declarations of the instances in order.
 use Rattle.std.proofs.Common.{◌≡◌, ℕ, zero, suc, ◌+◌, ◌<◌, ◌⊎◌, inl, inr, List, [], ◌∷◌, length, length-append, refl, sym, ap, ◌∙◌, subst, arith, Some, Result, Ok, Err, IfOk, slice_get, take, map, flat_map, unwrap_or}
-use Rattle.std.specs.List.{AllZip, enumerate_from}
-use Rattle.std.proofs.lemmas.Option.{slice_get_within}
-use Rattle.std.proofs.lemmas.List.FromFn.{length-enumerate_from}
-use Rattle.std.proofs.lemmas.List.{length-map}
-use Rattle.lft_lists.proofs.Mapped.{mapped, mapped_from}
-use Rattle.lft_lists.proofs.Places.{get_append_cases}
+use Rattle.std.{specs.List.{AllZip, enumerate_from}, proofs.lemmas.{Option.slice_get_within, List.{length-map, FromFn.length-enumerate_from}}}
+use Rattle.lft_lists.proofs.{Mapped.{mapped, mapped_from}, Places.get_append_cases}
 use Rattle.lft_tree.specs.Tree.{FileTree, ReactorTree, reactors_of}
-use Rattle.lft_resolve.specs.Expansion.Listing.{AreListed}
-use Rattle.lft_resolve.specs.Expansion.Numbers.{count_of, things}
-use Rattle.lft_resolve.specs.declared.expansion.numbering.Thing.{Thing}
-use Rattle.lft_resolve.specs.declared.expansion.walk.Instance.{Instance}
-use Rattle.lft_program.specs.Located.{Located, Declared, declared, declared_in}
-use Rattle.lft_program.specs.Nests.{IsInstanceOf, IsNest, IsNumbering, IsThingOf}
-use Rattle.lft_program.specs.declared.nesting.nest.Nest.{Nest}
-use Rattle.lft_program.specs.declared.nesting.nest.Numbering.{Numbering}
-use Rattle.lft_program.specs.declared.nesting.tables.Tables.{Tables}
-use Rattle.lft_program.proofs.Counting.{base, total}
-use Rattle.lft_program.proofs.Zipping.{zip_at, zip_of}
+use Rattle.lft_resolve.specs.{Expansion.{Listing.AreListed, Numbers.{count_of, things}}, declared.expansion.{numbering.Thing.Thing, walk.Instance.Instance}}
+use Rattle.lft_program.specs.{Located.{Located, Declared, declared, declared_in}, Nests.{IsInstanceOf, IsNest, IsNumbering, IsThingOf}}
+use Rattle.lft_program.specs.declared.nesting.{nest.{Nest.Nest, Numbering.Numbering}, tables.Tables.Tables}
+use Rattle.lft_program.proofs.{Counting.{base, total}, Zipping.{zip_at, zip_of}}
 
 -- ---- where a declaration stands
 

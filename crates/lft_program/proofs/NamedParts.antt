@@ -1,21 +1,13 @@
 -- The list of all names, cut where the kinds begin, has the full name of each thing.
 use Rattle.std.proofs.Common.{◌≡◌, ℕ, ◌+◌, ◌-◌, ◌<◌, ◌≤◌, suc, List, [], ◌∷◌, ◌++◌, map, drop, length, slice_get, slice_range, Some, codes, refl, sym, ap, subst, ◌∙◌, arith, length-append, length-drop, append_assoc, append-nil, zero-add}
-use Rattle.std.specs.Fmt.{decimal}
-use Rattle.std.specs.List.{AllZip}
-use Rattle.std.proofs.lemmas.List.{length-map}
-use Rattle.lft_lists.proofs.Places.{Some_same}
-use Rattle.lft_lists.proofs.Mapped.{mapped}
-use Rattle.lft_ir.specs.Places.{names_from, AreStarts}
-use Rattle.lft_program.specs.Extended.{Ending, dotted, hashed, endings, extended}
-use Rattle.lft_program.specs.FullNames.{IsDotted, IsHashed, AreFullNames, AreOfProgram, AreFew}
-use Rattle.lft_program.specs.declared.naming.OwnName.{OwnName}
-use Rattle.lft_program.specs.declared.naming.Placed.{Placed}
-use Rattle.lft_ir.specs.declared.names.Starts.{Starts}
-use Rattle.lft_program.proofs.Distinct.{main, ArePaths}
-use Rattle.lft_resolve.proofs.Twice.{slice_get-front}
-use Rattle.lft_program.proofs.Extending.{StandsAt, length-extended, extended-keeps, extended-at}
+use Rattle.std.{specs.{Fmt.decimal, List.AllZip}, proofs.lemmas.List.length-map}
+use Rattle.lft_lists.proofs.{Places.Some_same, Mapped.mapped}
+use Rattle.lft_ir.{specs.{Places.{names_from, AreStarts}, declared.names.Starts.Starts}, proofs.Ranges.{slice_get-drop, range-get, range-within, length-range}}
+use Rattle.lft_program.specs.{Extended.{Ending, dotted, hashed, endings, extended}, FullNames.{IsDotted, IsHashed, AreFullNames, AreOfProgram, AreFew}}
+use Rattle.lft_program.specs.declared.naming.{OwnName.OwnName, Placed.Placed}
+use Rattle.lft_program.proofs.{Distinct.{main, ArePaths}, Extending.{StandsAt, length-extended, extended-keeps, extended-at}}
 use Rattle.lft_program.proofs.FullNames.{later_at, all_at, are_paths, before_member, parts, parts2, parts3, parts4}
-use Rattle.lft_ir.proofs.Ranges.{slice_get-drop, range-get, range-within, length-range}
+use Rattle.lft_resolve.proofs.Twice.{slice_get-front}
 
 AllZip-from_at : {X Y : Type 0} (R : X → Y → Type 0) (xs : List X) (ys : List Y) → length ys ≡ length xs → ((k : ℕ) (x : X) (y : Y) → slice_get xs k ≡ Some x → slice_get ys k ≡ Some y → R x y) → AllZip R xs ys
 AllZip-from_at R [] [] long each = tt

@@ -1,21 +1,13 @@
 -- The instances of a nest: what each is in the tree, and the number of each path.
 use Rattle.std.proofs.Common.{◌≡◌, ℕ, ◌<◌, ◌≤◌, ◌⊎◌, inl, inr, List, [], ◌∷◌, ◌++◌, sym, ap, ◌∙◌, subst, arith, Some, slice_get, map}
 use Rattle.std.proofs.lemmas.Bool.{cases_lt}
-use Rattle.lft_lists.proofs.Places.{push_apart}
-use Rattle.lft_lists.proofs.Mapped.{mapped, mapped_from}
+use Rattle.lft_lists.proofs.{Places.push_apart, Mapped.{mapped, mapped_from}}
 use Rattle.lft_tree.specs.Tree.{FileTree, reactors_of}
-use Rattle.lft_resolve.specs.declared.expansion.walk.Instance.{Instance}
-use Rattle.lft_resolve.specs.Expansion.Paths.{along}
-use Rattle.lft_resolve.specs.Expansion.Children.{child_of, IsChild}
-use Rattle.lft_resolve.specs.Expansion.Contents.{IsAt}
-use Rattle.lft_resolve.proofs.ExpansionLemmas.Orders.{before_itself}
+use Rattle.lft_resolve.specs.{declared.expansion.walk.Instance.Instance, Expansion.{Paths.along, Children.{child_of, IsChild}, Contents.IsAt}}
 use Rattle.lft_resolve.specs.Instances.{Inside, IsInside, entered, main_instance}
-use Rattle.lft_program.specs.Located.{Located}
-use Rattle.lft_program.specs.Nests.{IsNest, IsInstanceOf}
-use Rattle.lft_program.specs.declared.nesting.nest.Nest.{Nest}
-use Rattle.lft_program.specs.declared.nesting.tables.Tables.{Tables}
-use Rattle.lft_program.proofs.Elements.{some_step}
-use Rattle.lft_program.proofs.Zipping.{zip_at, zip_back}
+use Rattle.lft_resolve.proofs.ExpansionLemmas.Orders.{before_itself}
+use Rattle.lft_program.specs.{Located.Located, Nests.{IsNest, IsInstanceOf}, declared.nesting.{nest.Nest.Nest, tables.Tables.Tables}}
+use Rattle.lft_program.proofs.{Elements.some_step, Zipping.{zip_at, zip_back}}
 
 module _ (tree : FileTree) (tables : Tables) (nest : Nest) (n : IsNest tree tables nest) where
   -- the instance of a number in the tree, and back

@@ -1,21 +1,13 @@
 -- A tree has one flat program.
 use Rattle.std.proofs.Common.{◌≡◌, ℕ, suc, List, [], ◌∷◌, map, slice_get, Some, refl, sym, ap, subst, ◌∙◌}
 use Rattle.std.specs.List.{AllZip}
-use Rattle.lft_lists.proofs.Picked.{map-same}
-use Rattle.lft_lists.proofs.Places.{Some_same}
+use Rattle.lft_lists.proofs.{Picked.map-same, Places.Some_same}
 use Rattle.lft_tree.specs.Tree.{FileTree, PortTree, ports_of, actions_of, timers_of, reactions_of}
-use Rattle.lft_program.specs.Located.{Located, AreLocated, Declared, declared}
-use Rattle.lft_program.specs.Tables.{IsLawful}
-use Rattle.lft_program.proofs.Listing.{declared_from}
+use Rattle.lft_program.specs.{Located.{Located, AreLocated, Declared, declared}, Tables.IsLawful}
 use Rattle.lft_program.specs.Flattening.{Flat, IsPort, IsAction, IsTimer, IsReaction, names_of}
-use Rattle.lft_ir.specs.Parts.{Parts}
-use Rattle.lft_ir.specs.Sound.{KeepsOrigins}
-use Rattle.lft_ir.specs.declared.parts.Port.{Port as PortOf}
-use Rattle.lft_program.proofs.OneInstances.{one_located}
-use Rattle.lft_program.proofs.OneName.{one_of_action, one_of_timer, one_of_reaction}
-use Rattle.lft_program.proofs.OneOrigin.{one_end}
-use Rattle.lft_program.proofs.OneSource.{one_source}
-use Rattle.lft_program.proofs.Zips.{AllZip-one}
+use Rattle.lft_program.proofs.{Listing.declared_from, OneInstances.one_located, OneName.{one_of_action, one_of_timer, one_of_reaction}, OneOrigin.one_end}
+use Rattle.lft_program.proofs.{OneSource.one_source, Zips.AllZip-one}
+use Rattle.lft_ir.specs.{Parts.Parts, Sound.KeepsOrigins, declared.parts.Port.Port as PortOf}
 
 -- lists that go with one list, where what is wanted of the items of an element is one
 module _ {A B C : Type 0} (R : A → B → Type 0) (f : B → C) where

@@ -2,12 +2,9 @@
 use Rattle.std.proofs.Common.{◌≡◌, ℕ, suc, Bool, true, false, cond, List, [], ◌∷◌, map, find, slice_get, Some, refl, sym, ap, subst, ◌∙◌}
 use Rattle.lft_lists.proofs.Places.{Some_same}
 use Rattle.lft_tree.specs.Tree.{FileTree, ReactorTree, reactors_of}
-use Rattle.lft_resolve.specs.Expansion.Paths.{along, IsPreOrder}
+use Rattle.lft_resolve.specs.{Expansion.Paths.{along, IsPreOrder}, Instances.{Inside, IsInside, is_called, entered, main_of, main_instance}}
 use Rattle.lft_resolve.proofs.ExpansionLemmas.Unique.{pre_order_unique}
-use Rattle.lft_resolve.specs.Instances.{Inside, IsInside, is_called, entered, main_of, main_instance}
-use Rattle.lft_program.specs.Located.{Located, AreLocated}
-use Rattle.lft_program.proofs.Zipping.{then_some}
-use Rattle.lft_program.proofs.Entering.{entered_by}
+use Rattle.lft_program.{specs.Located.{Located, AreLocated}, proofs.{Zipping.then_some, Entering.entered_by}}
 
 -- what is found stands in the list
 found_in : {X : Type 0} (p : X → Bool) (xs : List X) (x : X) → find p xs ≡ Some x → (k : ℕ) × (slice_get xs k ≡ Some x)

@@ -2,20 +2,12 @@
 use Rattle.std.proofs.Common.{◌≡◌, ℕ, List, slice_get, Some, sym, ap, subst, ◌∙◌}
 use Rattle.lft_lists.proofs.Places.{Some_same}
 use Rattle.lft_tree.specs.Tree.{FileTree, RefTree, TriggerTree, ReactionTree, ActionTree, TimerTree, AtStartup, AtShutdown, OnRef}
-use Rattle.lft_resolve.specs.Instances.{Thing, stands_for}
-use Rattle.lft_resolve.specs.Sheets.{without_timers}
-use Rattle.lft_program.specs.Located.{Located, AreLocated, Declared, timers_in}
-use Rattle.lft_program.specs.Tables.{IsLawful}
+use Rattle.lft_resolve.specs.{Instances.{Thing, stands_for}, Sheets.without_timers}
+use Rattle.lft_program.specs.{Located.{Located, AreLocated, Declared, timers_in}, Tables.IsLawful}
 use Rattle.lft_program.specs.Flattening.{Means, IsName, IsTrigger, IsAction, IsTimer, IsReaction}
-use Rattle.lft_ir.specs.declared.parts.Action.{Action as ActionOf}
-use Rattle.lft_ir.specs.declared.parts.Timer.{Timer as TimerOf}
-use Rattle.lft_ir.specs.declared.parts.Reaction.{Reaction}
-use Rattle.lft_ir.specs.declared.parts.Name.{Name}
-use Rattle.lft_ir.specs.declared.parts.Name.TheVariants.{Port, Action}
-use Rattle.lft_ir.specs.declared.parts.Trigger.{Trigger}
-use Rattle.lft_ir.specs.declared.parts.Trigger.TheVariants.{Startup, Shutdown, Timer, On}
-use Rattle.lft_program.proofs.OneThing.{one_port, one_action, one_timer, port_or_timer, port_or_action, timer_or_action}
-use Rattle.lft_program.proofs.Zips.{AllZip-one}
+use Rattle.lft_program.proofs.{OneThing.{one_port, one_action, one_timer, port_or_timer, port_or_action, timer_or_action}, Zips.AllZip-one}
+use Rattle.lft_ir.specs.declared.parts.{Action.Action as ActionOf, Timer.Timer as TimerOf, Reaction.Reaction, Name.{Name, TheVariants.{Port, Action}}}
+use Rattle.lft_ir.specs.declared.parts.Trigger.{Trigger, TheVariants.{Startup, Shutdown, Timer, On}}
 
 pub one_of_action : (d : Declared ActionTree) (x y : ActionOf) → IsAction d x → IsAction d y → x ≡ y
 one_of_action d x y a b =

@@ -1,14 +1,9 @@
 -- The things of a program have full names in one way only.
 use Rattle.std.proofs.Common.{◌≡◌, ℕ, ◌+◌, ◌<◌, zero, suc, List, ◌∷◌, ◌++◌, drop, slice_get, Some, codes, sym, ap, subst, ◌∙◌, arith, length-drop}
-use Rattle.std.specs.Fmt.{decimal}
-use Rattle.std.specs.List.{AllZip}
-use Rattle.std.proofs.lemmas.Option.{slice_get_within}
+use Rattle.std.{specs.{Fmt.decimal, List.AllZip}, proofs.lemmas.Option.slice_get_within}
 use Rattle.lft_lists.proofs.Places.{Some_same, same_items}
-use Rattle.lft_ir.specs.Names.{ThingNames}
-use Rattle.lft_program.specs.FullNames.{IsDotted, IsHashed, AreFullNames, AreNested}
-use Rattle.lft_program.specs.declared.naming.OwnName.{OwnName}
-use Rattle.lft_program.specs.declared.naming.Placed.{Placed}
-use Rattle.lft_ir.proofs.Ranges.{slice_get-drop}
+use Rattle.lft_ir.{specs.Names.ThingNames, proofs.Ranges.slice_get-drop}
+use Rattle.lft_program.specs.{FullNames.{IsDotted, IsHashed, AreFullNames, AreNested}, declared.naming.{OwnName.OwnName, Placed.Placed}}
 use Rattle.lft_program.proofs.Zips.{AllZip-length, AllZip-from, AllZip-one}
 
 -- a name as it is made from a container's

@@ -1,16 +1,9 @@
 -- Ports with the same sources have the same origins and shifts.
 use Rattle.std.proofs.Common.{◌≡◌, ◌≤◌, ℕ, List, ◌++◌, map, slice_get, Some, None, option_to_list, refl, sym, ap, subst, ◌∙◌}
-use Rattle.std.proofs.Math.Bridge.{le_prop}
-use Rattle.std.proofs.Math.Path.{to_path_p}
-use Rattle.lft_lists.proofs.Places.{Some_same}
-use Rattle.lft_lists.proofs.Mapped.{mapped}
-use Rattle.lft_tag.specs.Shifts.{join_all, none}
-use Rattle.lft_tag.specs.declared.Shift.{Shift}
-use Rattle.lft_ir.specs.Origins.{Origin, itself, over}
-use Rattle.lft_ir.specs.Parts.{Parts}
-use Rattle.lft_ir.specs.Sound.{KeepsOrigins}
-use Rattle.lft_ir.specs.declared.parts.Port.{Port as PortOf}
-use Rattle.lft_tag.specs.declared.Source.{Source}
+use Rattle.std.proofs.Math.{Bridge.le_prop, Path.to_path_p}
+use Rattle.lft_lists.proofs.{Places.Some_same, Mapped.mapped}
+use Rattle.lft_tag.specs.{Shifts.{join_all, none}, declared.{Shift.Shift, Source.Source}}
+use Rattle.lft_ir.specs.{Origins.{Origin, itself, over}, Parts.Parts, Sound.KeepsOrigins, declared.parts.Port.Port as PortOf}
 
 -- a shift is known by its time and steps
 same_shift : (s t : Shift) → s.time ≡ t.time → s.steps ≡ t.steps → s ≡ t

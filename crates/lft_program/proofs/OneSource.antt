@@ -1,33 +1,16 @@
 -- A port is the destination of one connection at most.
 use Rattle.std.proofs.Common.{◌≡◌, ℕ, zero, suc, ◌+◌, ◌⊎◌, inl, inr, Bool, true, false, List, [], ◌∷◌, ◌++◌, map, flat_map, find, position, length, slice_get, Option, Some, None, option_map, bytes_eq, refl, sym, ap, subst, ◌∙◌, arith}
-use Rattle.std.specs.List.{position_or_len}
-use Rattle.std.proofs.lemmas.Grind.{common_steps}
-use Rattle.std.proofs.lemmas.List.Folds.{find_at}
-use Rattle.std.proofs.lemmas.Option.{slice_get_within}
+use Rattle.std.{specs.List.position_or_len, proofs.lemmas.{Grind.common_steps, List.Folds.find_at, Option.slice_get_within}}
 use Rattle.lft_lists.proofs.Places.{get_left, push_apart, Some_same}
 use Rattle.lft_tree.specs.Tree.{FileTree, PortTree, InstanceTree, ConnectionTree, RefTree, reactors_of, ports_of, instances_of, connections_of}
-use Rattle.lft_resolve.specs.Expansion.Paths.{along}
-use Rattle.lft_resolve.proofs.ExpansionLemmas.Orders.{along_at}
-use Rattle.lft_resolve.specs.Causes.{IsTwice, TwoSources, WritesTwice}
+use Rattle.lft_resolve.specs.{Expansion.Paths.along, Causes.{IsTwice, TwoSources, WritesTwice}}
 use Rattle.lft_resolve.specs.Instances.{Inside, IsInside, Thing, thing_at, stands_for, stands_inside, time_in, Connects, entered, main_instance, reactor_named}
-use Rattle.lft_resolve.specs.Kinds.{destinations_in}
-use Rattle.lft_resolve.specs.Places.{place}
-use Rattle.lft_resolve.specs.Sheets.{IsInner, port_place}
-use Rattle.lft_resolve.proofs.Effects.{port_found}
-use Rattle.lft_resolve.proofs.Placing.{find-place}
-use Rattle.lft_resolve.proofs.Twice.{Any-at}
-use Rattle.lft_resolve.proofs.Written.{own_written, inner_written}
-use Rattle.lft_program.specs.Located.{Located, AreLocated, Declared, ports_in}
-use Rattle.lft_program.specs.Tables.{IsLawful}
-use Rattle.lft_program.proofs.Counting.{total, flat_at}
-use Rattle.lft_program.proofs.Listing.{Stands}
-use Rattle.lft_program.proofs.Zipping.{then_some}
-use Rattle.lft_program.specs.Links.{IsSource}
+use Rattle.lft_resolve.specs.{Kinds.destinations_in, Places.place, Sheets.{IsInner, port_place}}
+use Rattle.lft_resolve.proofs.{ExpansionLemmas.Orders.along_at, Effects.port_found, Placing.find-place, Twice.Any-at, Written.{own_written, inner_written}}
+use Rattle.lft_program.specs.{Located.{Located, AreLocated, Declared, ports_in}, Tables.IsLawful, Links.IsSource}
+use Rattle.lft_program.proofs.{Counting.{total, flat_at}, Listing.Stands, Zipping.then_some, OneInstances.{InFile, in_file, one_inside, inside_at}}
+use Rattle.lft_program.proofs.{OneThing.{once_at, right_at, one_port}, Standing.{StandsInner, stands_inner, stands_once}, Entering.entered_by}
 use Rattle.lft_tag.specs.declared.Source.{Source}
-use Rattle.lft_program.proofs.OneInstances.{InFile, in_file, one_inside, inside_at}
-use Rattle.lft_program.proofs.OneThing.{once_at, right_at, one_port}
-use Rattle.lft_program.proofs.Standing.{StandsInner, stands_inner, stands_once}
-use Rattle.lft_program.proofs.Entering.{entered_by}
 
 -- ---- lists
 

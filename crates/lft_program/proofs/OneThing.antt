@@ -1,22 +1,12 @@
 -- A thing that instances declare has one number and is of one kind.
 use Rattle.std.proofs.Common.{◌≡◌, ℕ, suc, ◌+◌, ⊎_elim, List, [], ◌∷◌, ◌++◌, map, length, slice_get, Some, sym, ap, subst, ◌∙◌, arith, length-append}
-use Rattle.std.proofs.lemmas.Bool.{cases_lt}
-use Rattle.std.proofs.lemmas.List.{length-map}
-use Rattle.std.proofs.lemmas.Option.{slice_get_within}
-use Rattle.lft_program.proofs.NamesOnce.{port_names, timer_names, action_names, instance_names}
-use Rattle.lft_program.proofs.Placed.{path_once}
-use Rattle.lft_lists.proofs.Mapped.{mapped, mapped_from}
-use Rattle.lft_lists.proofs.Places.{get_left, Some_same}
+use Rattle.std.proofs.lemmas.{Bool.cases_lt, List.length-map, Option.slice_get_within}
+use Rattle.lft_program.proofs.{NamesOnce.{port_names, timer_names, action_names, instance_names}, Placed.path_once, Counting.base}
+use Rattle.lft_program.proofs.{Listing.{Stands, declared_from}, OneInstances.{in_file, inside_at}}
+use Rattle.lft_program.specs.{Located.{Located, AreLocated, Declared, declared, things, ports_in, actions_in, timers_in}, Tables.IsLawful}
+use Rattle.lft_lists.proofs.{Mapped.{mapped, mapped_from}, Places.{get_left, Some_same}}
 use Rattle.lft_tree.specs.Tree.{FileTree, ReactorTree, PortTree, TimerTree, ActionTree, reactors_of, ports_of, timers_of, actions_of}
-use Rattle.lft_resolve.specs.Causes.{IsTwice}
-use Rattle.lft_resolve.specs.Instances.{Thing, thing_at}
-use Rattle.lft_resolve.specs.Kinds.{names_in}
-use Rattle.lft_resolve.proofs.Effects.{names_once}
-use Rattle.lft_program.specs.Located.{Located, AreLocated, Declared, declared, things, ports_in, actions_in, timers_in}
-use Rattle.lft_program.specs.Tables.{IsLawful}
-use Rattle.lft_program.proofs.Counting.{base}
-use Rattle.lft_program.proofs.Listing.{Stands, declared_from}
-use Rattle.lft_program.proofs.OneInstances.{in_file, inside_at}
+use Rattle.lft_resolve.{specs.{Causes.IsTwice, Instances.{Thing, thing_at}, Kinds.names_in}, proofs.Effects.names_once}
 
 pub once_at : {X : Type 0} (xs : List X) (x : X) (i j : ℕ) → (IsTwice xs → ⊥) → slice_get xs i ≡ Some x → slice_get xs j ≡ Some x → i ≡ j
 once_at xs x i j once a b = ⊎_elim

@@ -1,21 +1,14 @@
 -- The reactions that write one port are of one instance: an output is written where it is declared, an input where the instance is made.
 use Rattle.std.proofs.Common.{◌≡◌, ℕ, List, [], ◌∷◌, ◌++◌, find, slice_get, Bool, true, false, Option, Some, None, Any, ◌⊎◌, inl, inr, refl, sym, ap, ◌∙◌}
-use Rattle.std.specs.Option.{option_and_then}
-use Rattle.std.specs.Str.{bytes_eq}
-use Rattle.lft_program.proofs.OneSource.{found_at}
+use Rattle.std.specs.{Option.option_and_then, Str.bytes_eq}
+use Rattle.lft_program.proofs.{OneSource.found_at, Placed.{IsAt, inside_once}, Entered.{IsUsual, all_usual}, Standing.{StandsInner, stands_inner}}
+use Rattle.lft_program.proofs.Entering.{entered_by}
+use Rattle.lft_program.specs.{Located.{Located, AreLocated, Declared}, Tables.IsLawful}
 use Rattle.lft_lists.proofs.Places.{push_apart, Some_same}
 use Rattle.lft_tree.specs.Tree.{FileTree, ReactionTree, PortTree, RefTree, reactors_of, reactions_of, ports_of, instances_of}
-use Rattle.lft_resolve.specs.Expansion.Paths.{along}
-use Rattle.lft_resolve.proofs.ExpansionLemmas.Orders.{along_at}
-use Rattle.lft_resolve.proofs.Effects.{port_found, own_effect, inner_effect}
-use Rattle.lft_resolve.specs.Causes.{HasLongTime}
+use Rattle.lft_resolve.specs.{Expansion.Paths.along, Causes.HasLongTime}
 use Rattle.lft_resolve.specs.Instances.{Inside, thing_at, stands_for, stands_inside, entered, main_instance, reactor_named}
-use Rattle.lft_program.specs.Located.{Located, AreLocated, Declared}
-use Rattle.lft_program.specs.Tables.{IsLawful}
-use Rattle.lft_program.proofs.Placed.{IsAt, inside_once}
-use Rattle.lft_program.proofs.Entered.{IsUsual, all_usual}
-use Rattle.lft_program.proofs.Standing.{StandsInner, stands_inner}
-use Rattle.lft_program.proofs.Entering.{entered_by}
+use Rattle.lft_resolve.proofs.{ExpansionLemmas.Orders.along_at, Effects.{port_found, own_effect, inner_effect}}
 
 -- how a reaction may write a port: an output of its own instance, or an input of an instance that this contains
 abbrev pub Writes : Declared ReactionTree → Declared PortTree → Type 0

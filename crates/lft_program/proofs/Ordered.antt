@@ -1,16 +1,10 @@
 -- The reactions of an instance stand in the order of their declaration, one right after another.
 use Rattle.std.proofs.Common.{◌≡◌, ℕ, zero, suc, ◌+◌, ◌-◌, ◌<◌, List, [], ◌∷◌, length, get_or, slice_get, Some, refl, sym, ap, subst, ◌∙◌, arith}
-use Rattle.std.specs.List.{AllZip}
-use Rattle.std.proofs.lemmas.Option.{slice_get_within, slice_get-get_or}
+use Rattle.std.{specs.List.AllZip, proofs.lemmas.Option.{slice_get_within, slice_get-get_or}}
 use Rattle.lft_tree.specs.Tree.{FileTree, ReactionTree, reactions_of}
-use Rattle.lft_program.specs.Located.{Declared, declared}
-use Rattle.lft_program.proofs.Counting.{base, declared_at}
-use Rattle.lft_program.proofs.Placed.{IsAt, declared_from}
-use Rattle.lft_program.specs.Flattening.{IsReaction, Flat}
-use Rattle.lft_ir.specs.Parts.{Parts}
-use Rattle.lft_ir.specs.Sound.{IsNumbered, IsConsecutive}
-use Rattle.lft_ir.specs.declared.parts.Reaction.{Reaction}
-use Rattle.lft_program.proofs.Zips.{AllZip-from}
+use Rattle.lft_program.specs.{Located.{Declared, declared}, Flattening.{IsReaction, Flat}}
+use Rattle.lft_program.proofs.{Counting.{base, declared_at}, Placed.{IsAt, declared_from}, Zips.AllZip-from}
+use Rattle.lft_ir.specs.{Parts.Parts, Sound.{IsNumbered, IsConsecutive}, declared.parts.Reaction.Reaction}
 
 -- the item that goes with an element
 pub AllZip-to : {A B : Type 0} (R : A → B → Type 0) (xs : List A) (ys : List B) → AllZip R xs ys → (k : ℕ) (x : A) → slice_get xs k ≡ Some x → (y : B) × (slice_get ys k ≡ Some y) × R x y

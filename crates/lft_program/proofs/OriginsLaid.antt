@@ -1,21 +1,13 @@
 -- The chains of connections of a tree's links are those of the ports made of them.
 use Rattle.std.proofs.Common.{◌≡◌, ◌<◌, ℕ, List, Some, None, map, length, slice_get, sym, subst, ap, ◌∙◌}
 use Rattle.std.proofs.lemmas.Option.{slice_get_within}
-use Rattle.lft_lists.proofs.Mapped.{mapped_from}
-use Rattle.lft_lists.proofs.Places.{get_there}
+use Rattle.lft_lists.proofs.{Mapped.mapped_from, Places.get_there}
 use Rattle.lft_tree.specs.Tree.{FileTree}
 use Rattle.lft_resolve.specs.Expansion.Sources.{Origin as OriginBefore, itself as itself_before, over as over_before}
 use Rattle.lft_resolve.specs.declared.expansion.numbering.Thing.{Thing}
-use Rattle.lft_program.specs.declared.nesting.linking.Linked.{Linked}
-use Rattle.lft_program.specs.declared.nesting.nest.Nest.{Nest}
-use Rattle.lft_program.specs.declared.nesting.tables.Tables.{Tables}
-use Rattle.lft_program.specs.OfTree.{AreOfTree}
-use Rattle.lft_ir.specs.Origins.{Origin, itself, over}
-use Rattle.lft_ir.specs.Parts.{Parts}
-use Rattle.lft_ir.specs.Sound.{KeepsOrigins}
-use Rattle.lft_ir.specs.declared.parts.Port.{Port as PortOf}
-use Rattle.lft_program.proofs.Making.{Made}
-use Rattle.lft_program.proofs.PortsLaid.{IsLinkedPort}
+use Rattle.lft_program.specs.{declared.nesting.{linking.Linked.Linked, nest.Nest.Nest, tables.Tables.Tables}, OfTree.AreOfTree}
+use Rattle.lft_program.proofs.{Making.Made, PortsLaid.IsLinkedPort}
+use Rattle.lft_ir.specs.{Origins.{Origin, itself, over}, Parts.Parts, Sound.KeepsOrigins, declared.parts.Port.Port as PortOf}
 
 -- each link has a port of its number with its source
 abbrev pub HaveSources : List Linked → Parts → Type 0

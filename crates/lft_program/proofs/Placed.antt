@@ -1,15 +1,11 @@
 -- What stands at a number: the declaration, with the number of its instance and its place there.
 use Rattle.std.proofs.Common.{◌≡◌, ℕ, ◌+◌, ⊎_elim, List, sym, ap, ◌∙◌, subst, arith, Some, slice_get, map}
 use Rattle.std.proofs.lemmas.Bool.{cases_lt}
-use Rattle.lft_lists.proofs.Places.{Some_same}
-use Rattle.lft_lists.proofs.Mapped.{mapped, mapped_from}
+use Rattle.lft_lists.proofs.{Places.Some_same, Mapped.{mapped, mapped_from}}
 use Rattle.lft_tree.specs.Tree.{FileTree, ReactorTree}
-use Rattle.lft_resolve.specs.Expansion.Paths.{along, Before}
+use Rattle.lft_resolve.specs.{Expansion.Paths.{along, Before}, Instances.{Thing, thing_at, entered, main_instance}}
 use Rattle.lft_resolve.proofs.ExpansionLemmas.Orders.{before_itself}
-use Rattle.lft_resolve.specs.Instances.{Thing, thing_at, entered, main_instance}
-use Rattle.lft_program.specs.Located.{Located, AreLocated, Declared, declared, things}
-use Rattle.lft_program.proofs.Counting.{base}
-use Rattle.lft_program.proofs.Listing.{declared_from as stands}
+use Rattle.lft_program.{specs.Located.{Located, AreLocated, Declared, declared, things}, proofs.{Counting.base, Listing.declared_from as stands}}
 
 -- the declaration at a number is one of the instance, at its place
 pub record IsAt {X : Type 0} (kind : ReactorTree → List X) (instances : List Located) (n : ℕ) (d : Declared X) : Type 0 where

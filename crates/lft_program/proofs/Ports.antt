@@ -1,25 +1,14 @@
 -- The number of a port, or of another thing that instances declare under names, against the path of its instance and its place there.
 use Rattle.std.proofs.Common.{◌≡◌, ℕ, zero, suc, ◌+◌, List, [], ◌∷◌, length, length-append, refl, sym, ap, ◌∙◌, subst, arith, Some, slice_get, map, flat_map, take, unwrap_or}
-use Rattle.std.specs.List.{AllZip, enumerate_from}
-use Rattle.std.specs.Option.{option_map}
-use Rattle.std.proofs.lemmas.Option.{slice_get_within}
-use Rattle.std.proofs.lemmas.List.FromFn.{length-enumerate_from}
-use Rattle.std.proofs.lemmas.List.{length-map}
-use Rattle.lft_lists.proofs.Mapped.{mapped, mapped_from}
-use Rattle.lft_lists.proofs.Places.{get_there}
+use Rattle.std.specs.{List.{AllZip, enumerate_from}, Option.option_map}
+use Rattle.std.proofs.lemmas.{Option.slice_get_within, List.{length-map, FromFn.length-enumerate_from}}
+use Rattle.lft_lists.proofs.{Mapped.{mapped, mapped_from}, Places.get_there}
 use Rattle.lft_tree.specs.Tree.{FileTree, ReactorTree, reactors_of}
-use Rattle.lft_resolve.specs.declared.expansion.walk.Instance.{Instance}
-use Rattle.lft_resolve.specs.Expansion.Joins.{port_at}
-use Rattle.lft_resolve.specs.Expansion.Numbers.{count_of, things as how_many}
+use Rattle.lft_resolve.specs.{declared.expansion.walk.Instance.Instance, Expansion.{Joins.port_at, Numbers.{count_of, things as how_many}}}
 use Rattle.lft_resolve.specs.Instances.{Thing, thing_at}
-use Rattle.lft_program.specs.Located.{Located, Declared, declared, declared_in, things}
-use Rattle.lft_program.specs.Nests.{IsNest, IsNumbering, IsInstanceOf}
-use Rattle.lft_program.specs.declared.nesting.nest.Nest.{Nest}
-use Rattle.lft_program.specs.declared.nesting.nest.Numbering.{Numbering}
-use Rattle.lft_program.specs.declared.nesting.tables.Tables.{Tables}
-use Rattle.lft_program.proofs.Counting.{total, base, declared_at}
-use Rattle.lft_program.proofs.Elements.{From, flat_back, enumerate_back}
-use Rattle.lft_program.proofs.Nested.{one_number, instance_of}
+use Rattle.lft_program.specs.{Located.{Located, Declared, declared, declared_in, things}, Nests.{IsNest, IsNumbering, IsInstanceOf}}
+use Rattle.lft_program.specs.declared.nesting.{nest.{Nest.Nest, Numbering.Numbering}, tables.Tables.Tables}
+use Rattle.lft_program.proofs.{Counting.{total, base, declared_at}, Elements.{From, flat_back, enumerate_back}, Nested.{one_number, instance_of}}
 
 -- how many each instance declares
 module _ {X : Type 0} (kind : ReactorTree → List X) (rs : List ReactorTree) (counts : List ℕ) (is_counts : counts ≡ map (λ r. length (kind r)) rs) where

@@ -1,27 +1,14 @@
 -- What the tables and the links of a tree have for a port of it.
 use Rattle.std.proofs.Common.{◌≡◌, ◌<◌, ℕ, Bool, List, Some, length, slice_get, sym, subst, ap, ◌∙◌}
-use Rattle.std.specs.Option.{option_and_then}
-use Rattle.std.specs.List.{AllZip}
-use Rattle.std.proofs.lemmas.List.{length-map}
+use Rattle.std.{specs.{Option.option_and_then, List.AllZip}, proofs.lemmas.List.length-map}
 use Rattle.lft_lists.proofs.Mapped.{mapped}
 use Rattle.lft_tree.specs.Tree.{FileTree, PortTree, ports_of}
-use Rattle.lft_resolve.specs.declared.expansion.numbering.Thing.{Thing}
-use Rattle.lft_resolve.specs.Instances.{Thing as Spoken, thing_at}
-use Rattle.lft_resolve.specs.Sheets.{IsDeclarations}
-use Rattle.lft_program.specs.Links.{IsSource}
-use Rattle.lft_program.specs.Located.{Declared, declared, ports_in}
-use Rattle.lft_program.specs.Nests.{IsThingOf}
-use Rattle.lft_program.specs.declared.nesting.linking.Linked.{Linked}
-use Rattle.lft_program.specs.declared.nesting.nest.Nest.{Nest}
-use Rattle.lft_program.specs.declared.nesting.tables.Tables.{Tables}
-use Rattle.lft_program.proofs.Declared.{declared_from}
-use Rattle.lft_program.specs.Flattening.{IsPort}
-use Rattle.lft_program.specs.Laying.{IsPortAt, input_at}
+use Rattle.lft_resolve.specs.{declared.expansion.numbering.Thing.Thing, Instances.{Thing as Spoken, thing_at}, Sheets.IsDeclarations}
+use Rattle.lft_program.specs.{Links.IsSource, Located.{Declared, declared, ports_in}, Nests.IsThingOf}
+use Rattle.lft_program.specs.{declared.nesting.{linking.Linked.Linked, nest.Nest.Nest, tables.Tables.Tables}, Flattening.IsPort, Laying.{IsPortAt, input_at}}
 use Rattle.lft_program.specs.OfTree.{AreOfTree}
+use Rattle.lft_program.proofs.{Declared.declared_from, LaidOut.row_there, Making.{Made, made_zip}, Zips.{AllZip-from, AllZip-length}}
 use Rattle.lft_ir.specs.declared.parts.Port.{Port as PortOf}
-use Rattle.lft_program.proofs.LaidOut.{row_there}
-use Rattle.lft_program.proofs.Making.{Made, made_zip}
-use Rattle.lft_program.proofs.Zips.{AllZip-from, AllZip-length}
 
 -- the port is the one of its number's link
 abbrev pub IsLinkedPort : Tables → Nest → List Linked → ℕ → Thing → PortOf → Type 0

@@ -1,23 +1,14 @@
 -- How ports are linked, against the tree.
 use Rattle.std.proofs.Common.{◌≡◌, ℕ, suc, ◌+◌, ◌<◌, ◌≤◌, inl, inr, List, [], ◌∷◌, ◌++◌, length, length-append, refl, sym, ap, ◌∙◌, subst, arith, Option, Some, None, slice_get, map}
-use Rattle.std.proofs.lemmas.Option.{slice_get_within}
-use Rattle.std.proofs.lemmas.List.{length-map}
-use Rattle.lft_lists.proofs.Mapped.{mapped_from}
-use Rattle.lft_lists.proofs.Places.{get_there, get_push_cases}
+use Rattle.std.proofs.lemmas.{Option.slice_get_within, List.length-map}
+use Rattle.lft_lists.proofs.{Mapped.mapped_from, Places.{get_there, get_push_cases}}
 use Rattle.lft_tree.specs.Tree.{FileTree}
-use Rattle.lft_tag.specs.declared.Shift.{Shift}
-use Rattle.lft_resolve.specs.Expansion.Sources.{AreReached, Leads, Origin}
-use Rattle.lft_tag.specs.declared.Source.{Source}
-use Rattle.lft_resolve.specs.declared.expansion.origins.Reached.{Reached}
-use Rattle.lft_resolve.specs.Causes.{DelayTooLong as HasLongDelay, IsFirst, NoneHolds}
-use Rattle.lft_resolve.specs.Instances.{Thing, Connects}
-use Rattle.lft_program.specs.Linking.{IsLinked, IsTooLong, AreLinked}
-use Rattle.lft_program.specs.Links.{AreLinks, IsSource, last_causes}
-use Rattle.lft_program.specs.Located.{Located, ports_in}
+use Rattle.lft_tag.specs.declared.{Shift.Shift, Source.Source}
+use Rattle.lft_resolve.specs.{Expansion.Sources.{AreReached, Leads, Origin}, declared.expansion.origins.Reached.Reached}
+use Rattle.lft_resolve.specs.{Causes.{DelayTooLong as HasLongDelay, IsFirst, NoneHolds}, Instances.{Thing, Connects}}
+use Rattle.lft_program.specs.{Linking.{IsLinked, IsTooLong, AreLinked}, Links.{AreLinks, IsSource, last_causes}, Located.{Located, ports_in}}
 use Rattle.lft_program.specs.declared.nesting.linking.Linked.{Linked}
-use Rattle.lft_program.proofs.Connected.{NoLongTime, TreeSources}
-use Rattle.lft_program.proofs.Cycles.{cycle_is_cause, no_cycle_no_cause}
-use Rattle.lft_program.proofs.Lengths.{long_is_cause, no_long_no_cause}
+use Rattle.lft_program.proofs.{Connected.{NoLongTime, TreeSources}, Cycles.{cycle_is_cause, no_cycle_no_cause}, Lengths.{long_is_cause, no_long_no_cause}}
 
 -- the ports so far are linked
 pub record Linking (sources : List (Option Source)) (reached : List Reached) (number : ℕ) (links : List Linked) : Type 0 where

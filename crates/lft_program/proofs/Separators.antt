@@ -1,7 +1,6 @@
 -- The last dot or `#` of a full name parts the name of the instance from what follows.
 use Rattle.std.proofs.Common.{◌≡◌, ℕ, ◌+◌, ◌%◌, ◌<◌, ◌^◌, suc, true, List, [], ◌∷◌, ◌++◌, All, codes, refl, sym, ap, subst, ◌∙◌, true≢false, arith, ◌⊎◌, inl, inr}
-use Rattle.std.specs.Fmt.{decimal}
-use Rattle.std.proofs.lemmas.Fmt.{decimal_by_steps}
+use Rattle.std.{specs.Fmt.decimal, proofs.lemmas.Fmt.decimal_by_steps}
 use Rattle.lft_lists.specs.Bytes.{is_letter, is_part}
 use Rattle.lft_tree.specs.Identifiers.{IsName}
 

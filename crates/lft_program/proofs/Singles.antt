@@ -1,16 +1,10 @@
 -- Single connections against the connections that they are of, and places of names.
 use Rattle.std.proofs.Common.{◌≡◌, ℕ, suc, ◌+◌, Bool, true, false, cond, not, List, [], ◌∷◌, ◌++◌, length, refl, sym, ap, ◌∙◌, subst, arith, Option, Some, None, option_map, slice_get, map, flat_map, position, bytes_eq, nat_lt, inl, inr}
-use Rattle.std.specs.List.{zip, prefix_len}
-use Rattle.std.proofs.lemmas.Bool.{cases_lt, lt-ltb, le-ltb}
-use Rattle.std.proofs.lemmas.List.{map-append}
-use Rattle.std.proofs.lemmas.Slice.Eq.{bytes_eq-Decides}
+use Rattle.std.{specs.List.{zip, prefix_len}, proofs.lemmas.{Bool.{cases_lt, lt-ltb, le-ltb}, List.map-append, Slice.Eq.bytes_eq-Decides}}
 use Rattle.lft_lists.proofs.Mapped.{mapped, mapped_from, pair_at}
 use Rattle.lft_tree.specs.Tree.{ReactorTree, ConnectionTree, RefTree, TimeTree, connections_of}
-use Rattle.lft_resolve.specs.Kinds.{destinations_in}
-use Rattle.lft_resolve.specs.Places.{place}
-use Rattle.lft_resolve.specs.Sheets.{Single, singles_in, singles_of}
-use Rattle.lft_program.proofs.Counting.{total, flat_at}
-use Rattle.lft_program.proofs.Elements.{From, flat_back, pair_back}
+use Rattle.lft_resolve.specs.{Kinds.destinations_in, Places.place, Sheets.{Single, singles_in, singles_of}}
+use Rattle.lft_program.proofs.{Counting.{total, flat_at}, Elements.{From, flat_back, pair_back}}
 
 -- the connection that a single one is of
 pub record IsOf (r : ReactorTree) (s : Single) : Type 0 where

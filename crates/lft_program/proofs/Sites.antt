@@ -1,13 +1,10 @@
 -- Things that instances declare, each with the place of its name among those of its reactor.
 use Rattle.std.proofs.Common.{◌≡◌, ℕ, ◌+◌, ◌<◌, List, ◌++◌, length, slice_get, get_or, Some, All, AllPairs, ⊎_elim, sym, ap, ◌∙◌, arith}
-use Rattle.std.proofs.lemmas.Bool.{cases_order}
-use Rattle.std.proofs.lemmas.Option.{slice_get_within, slice_get-get_or}
+use Rattle.std.proofs.lemmas.{Bool.cases_order, Option.{slice_get_within, slice_get-get_or}}
 use Rattle.lft_lists.proofs.Places.{Some_same}
 use Rattle.lft_tree.specs.Tree.{ReactorTree}
 use Rattle.lft_resolve.specs.Causes.{IsTwice}
-use Rattle.lft_program.specs.Located.{Located}
-use Rattle.lft_program.specs.declared.naming.OwnName.{OwnName}
-use Rattle.lft_program.proofs.FullNames.{part_at}
+use Rattle.lft_program.{specs.{Located.Located, declared.naming.OwnName.OwnName}, proofs.FullNames.part_at}
 
 -- ---- names that an instance has once
 

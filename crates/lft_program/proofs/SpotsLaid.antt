@@ -1,44 +1,21 @@
 -- What the names in the reactions of a tree are by number.
 use Rattle.std.proofs.Common.{◌≡◌, ℕ, ◌≤◌, List, [], ◌∷◌, ◌+◌, Some, None, map, length, slice_get, sym, ap, subst, ◌∙◌, arith}
-use Rattle.std.specs.Option.{option_map, option_and_then}
-use Rattle.std.specs.List.{AllZip}
-use Rattle.std.proofs.lemmas.Option.{slice_get_within}
-use Rattle.std.proofs.lemmas.List.{length-map}
+use Rattle.std.{specs.{Option.{option_map, option_and_then}, List.AllZip}, proofs.lemmas.{Option.slice_get_within, List.length-map}}
 use Rattle.lft_tree.specs.Tree.{FileTree, ReactorTree, ReactionTree, RefTree, TriggerTree, AtStartup, AtShutdown, OnRef, reactors_of, ports_of, timers_of, actions_of, reactions_of}
 use Rattle.lft_lists.proofs.Mapped.{option_map_some}
-use Rattle.lft_resolve.specs.Expansion.Joins.{port_at}
-use Rattle.lft_resolve.specs.declared.expansion.numbering.Thing.{Thing}
-use Rattle.lft_resolve.specs.Instances.{Thing as Spoken, thing_at, stands_inside, stands_for}
-use Rattle.lft_resolve.specs.Places.{place}
+use Rattle.lft_resolve.specs.{Expansion.Joins.port_at, declared.{expansion.numbering.Thing.Thing, by_number.sheets.{Cue.Cue, Cues.Cues, Spot.Spot}}}
+use Rattle.lft_resolve.specs.{Instances.{Thing as Spoken, thing_at, stands_inside, stands_for}, Places.place}
 use Rattle.lft_resolve.specs.Sheets.{AreCues, IsCue, IsReactions, IsSpot, without_timers}
-use Rattle.lft_resolve.specs.declared.by_number.sheets.Cue.{Cue}
-use Rattle.lft_resolve.specs.declared.by_number.sheets.Cue.TheVariants as cues
-use Rattle.lft_resolve.specs.declared.by_number.sheets.Cues.{Cues}
-use Rattle.lft_resolve.specs.declared.by_number.sheets.Spot.{Spot}
-use Rattle.lft_resolve.specs.declared.by_number.sheets.Spot.TheVariants as spots
-use Rattle.lft_program.specs.Located.{Located, Declared, declared, things}
-use Rattle.lft_program.specs.Nests.{IsNumbering, IsThingOf}
-use Rattle.lft_program.specs.declared.nesting.linking.Linked.{Linked}
-use Rattle.lft_program.specs.declared.nesting.nest.Nest.{Nest}
-use Rattle.lft_program.specs.declared.nesting.nest.Numbering.{Numbering}
-use Rattle.lft_program.specs.declared.nesting.tables.Tables.{Tables}
-use Rattle.lft_program.proofs.Counting.{base}
-use Rattle.lft_program.proofs.Declared.{declared_from}
-use Rattle.lft_program.proofs.Ends.{place_at, standing}
-use Rattle.lft_program.proofs.Ports.{as_many, number_at, thing_forth}
-use Rattle.lft_program.proofs.Singles.{place_forth}
-use Rattle.lft_program.proofs.Zipping.{zip_at}
+use Rattle.lft_program.specs.{Located.{Located, Declared, declared, things}, Nests.{IsNumbering, IsThingOf}}
+use Rattle.lft_program.specs.declared.nesting.{linking.Linked.Linked, nest.{Nest.Nest, Numbering.Numbering}, tables.Tables.Tables}
 use Rattle.lft_program.specs.Flattening.{IsName, IsReaction, IsTrigger}
-use Rattle.lft_program.specs.Laying.{Each, HasCues, HasName, HasTrigger, IsReactionAt, cues_at, name_at, trigger_at}
-use Rattle.lft_program.specs.OfTree.{AreOfTree}
-use Rattle.lft_ir.specs.declared.parts.Name.{Name}
-use Rattle.lft_ir.specs.declared.parts.Name.TheVariants.{Port, Action}
-use Rattle.lft_ir.specs.declared.parts.Reaction.{Reaction}
-use Rattle.lft_ir.specs.declared.parts.Trigger.{Trigger}
-use Rattle.lft_ir.specs.declared.parts.Trigger.TheVariants.{Startup, Shutdown, Timer, On}
-use Rattle.lft_program.proofs.LaidOut.{row_there}
-use Rattle.lft_program.proofs.Making.{Made, made_zip}
-use Rattle.lft_program.proofs.Zips.{AllZip-from}
+use Rattle.lft_program.specs.{Laying.{Each, HasCues, HasName, HasTrigger, IsReactionAt, cues_at, name_at, trigger_at}, OfTree.AreOfTree}
+use Rattle.lft_program.proofs.{Counting.base, Declared.declared_from, Ends.{place_at, standing}, Ports.{as_many, number_at, thing_forth}, Singles.place_forth}
+use Rattle.lft_program.proofs.{Zipping.zip_at, LaidOut.row_there, Making.{Made, made_zip}, Zips.AllZip-from}
+use Rattle.lft_ir.specs.declared.parts.{Name.{Name, TheVariants.{Port, Action}}, Reaction.Reaction}
+use Rattle.lft_ir.specs.declared.parts.Trigger.{Trigger, TheVariants.{Startup, Shutdown, Timer, On}}
+use Rattle.lft_resolve.specs.declared.by_number.sheets.Cue.TheVariants as cues
+use Rattle.lft_resolve.specs.declared.by_number.sheets.Spot.TheVariants as spots
 
 zip_along : {A B C : Type 0} (R : A → B → Type 0) (S : B → C → Type 0) (T : A → C → Type 0) → ((x : A) (y : B) (z : C) → R x y → S y z → T x z) → (xs : List A) (ys : List B) (zs : List C) → AllZip R xs ys → AllZip S ys zs → AllZip T xs zs
 zip_along R S T both [] [] [] r s = tt

@@ -1,25 +1,13 @@
 -- No thing stands twice among what a reaction reads, or among what it writes.
 use Rattle.std.proofs.Common.{◌≡◌, ◌≢◌, ℕ, ◌+◌, ◌⊎◌, inl, inr, Bool, true, false, cond, List, [], ◌∷◌, ◌++◌, filter, filter_map, position, length, get_or, slice_get, Option, Some, None, option_map, AllPairs, refl, sym, ap, subst, ◌∙◌, arith, length-append}
-use Rattle.std.specs.List.{AllZip}
-use Rattle.std.specs.Str.{bytes_eq}
-use Rattle.std.proofs.lemmas.Option.{slice_get-get_or}
-use Rattle.std.proofs.lemmas.Slice.Eq.{bytes_eq-Decides}
-use Rattle.lft_lists.proofs.Places.{push_apart, Some_same}
+use Rattle.std.{specs.{List.AllZip, Str.bytes_eq}, proofs.lemmas.{Option.slice_get-get_or, Slice.Eq.bytes_eq-Decides}}
+use Rattle.lft_lists.proofs.{Places.{push_apart, Some_same}, Members.Mem}
 use Rattle.lft_tree.specs.Tree.{ReactorTree, InstanceTree, RefTree, TriggerTree, AtStartup, AtShutdown, OnRef, instances_of}
-use Rattle.lft_lists.proofs.Members.{Mem}
-use Rattle.lft_resolve.proofs.ExpansionLemmas.Unique.{pairs_from}
-use Rattle.lft_resolve.specs.Causes.{IsTwice}
-use Rattle.lft_resolve.specs.Instances.{Thing, thing_at, stands_for, stands_inside}
-use Rattle.lft_resolve.specs.Kinds.{ref_in}
-use Rattle.lft_program.specs.Located.{Located}
-use Rattle.lft_program.specs.Flattening.{IsName, IsTrigger, Means}
-use Rattle.lft_ir.specs.Naming.{named}
-use Rattle.lft_ir.specs.declared.parts.Name.{Name}
-use Rattle.lft_ir.specs.declared.parts.Name.TheVariants.{Port, Action}
-use Rattle.lft_ir.specs.declared.parts.Trigger.{Trigger}
-use Rattle.lft_ir.specs.declared.parts.Trigger.TheVariants.{Startup, Shutdown, Timer, On}
+use Rattle.lft_resolve.proofs.ExpansionLemmas.{Unique.pairs_from, Pairs.{Pairs, pairs_at}}
+use Rattle.lft_resolve.specs.{Causes.IsTwice, Instances.{Thing, thing_at, stands_for, stands_inside}, Kinds.ref_in}
+use Rattle.lft_program.specs.{Located.Located, Flattening.{IsName, IsTrigger, Means}}
+use Rattle.lft_ir.specs.{Naming.named, declared.parts.{Name.{Name, TheVariants.{Port, Action}}, Trigger.{Trigger, TheVariants.{Startup, Shutdown, Timer, On}}}}
 use Rattle.lft_ir.proofs.Positions.{somewhere}
-use Rattle.lft_resolve.proofs.ExpansionLemmas.Pairs.{Pairs, pairs_at}
 
 -- ---- lists of which one goes with some elements of the other, in order
 

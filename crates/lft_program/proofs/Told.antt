@@ -4,28 +4,14 @@ use Rattle.std.proofs.lemmas.Option.{slice_get_within}
 use Rattle.lft_lists.proofs.Places.{get_there, same_some, Some_same}
 use Rattle.lft_tree.specs.Tree.{FileTree}
 use Rattle.lft_tag.specs.declared.Source.{Source}
-use Rattle.lft_resolve.specs.declared.expansion.joins.Connections.{Connections}
-use Rattle.lft_resolve.specs.declared.expansion.joins.Site.{Site}
-use Rattle.lft_resolve.specs.declared.expansion.joins.Sources.{Sources}
-use Rattle.lft_resolve.specs.declared.expansion.origins.Reached.{Reached}
-use Rattle.lft_resolve.specs.declared.expansion.walk.Instance.{Instance}
-use Rattle.lft_resolve.specs.Expansion.Joins.{AreSites, AreSources}
-use Rattle.lft_resolve.specs.Expansion.Sources.{AreReached, IsFolded, IsReached, Leads, Origin, itself, over}
+use Rattle.lft_resolve.specs.declared.expansion.{joins.{Connections.Connections, Site.Site, Sources.Sources}, origins.Reached.Reached, walk.Instance.Instance}
+use Rattle.lft_resolve.specs.Expansion.{Joins.{AreSites, AreSources}, Sources.{AreReached, IsFolded, IsReached, Leads, Origin, itself, over}}
 use Rattle.lft_resolve.specs.Expansion.Ways.{HaveSites, IsWayBack, LeadsBack}
-use Rattle.lft_resolve.proofs.ExpansionLemmas.Settled.{leads_from}
-use Rattle.lft_resolve.proofs.ExpansionLemmas.Backwards.{end_back, ring_back}
-use Rattle.lft_resolve.specs.Causes.{longest}
-use Rattle.lft_resolve.specs.Instances.{Thing}
-use Rattle.lft_program.specs.Linking.{IsTooLong}
-use Rattle.lft_program.specs.Located.{Located, ports_in}
-use Rattle.lft_program.specs.Nests.{IsNest}
-use Rattle.lft_program.specs.Tables.{AreTables, IsLawful}
-use Rattle.lft_program.specs.Ways.{IsJoined, IsLongChain, IsRing, LeadBack}
-use Rattle.lft_program.specs.declared.nesting.linking.Way.{Way}
-use Rattle.lft_program.specs.declared.nesting.nest.Nest.{Nest}
-use Rattle.lft_program.specs.declared.nesting.tables.Tables.{Tables}
-use Rattle.lft_program.proofs.Connected.{NoLongTime, TreeSources, joined_by, tree_sources}
-use Rattle.lft_program.proofs.Lengths.{last_of}
+use Rattle.lft_resolve.specs.{Causes.longest, Instances.Thing}
+use Rattle.lft_resolve.proofs.ExpansionLemmas.{Settled.leads_from, Backwards.{end_back, ring_back}}
+use Rattle.lft_program.specs.{Linking.IsTooLong, Located.{Located, ports_in}, Nests.IsNest, Tables.{AreTables, IsLawful}}
+use Rattle.lft_program.specs.{Ways.{IsJoined, IsLongChain, IsRing, LeadBack}, declared.nesting.{linking.Way.Way, nest.Nest.Nest, tables.Tables.Tables}}
+use Rattle.lft_program.proofs.{Connected.{NoLongTime, TreeSources, joined_by, tree_sources}, Lengths.last_of}
 
 -- nothing delays what no join leads into
 no_delays : (sources : List (Option Source)) (p o : ℕ) (all : List ℕ) → Origin sources p o all → slice_get sources p ≡ Some None → [] ≡ all

@@ -1,34 +1,19 @@
 -- The things of a tree's instances are those of one program, and their full names are those of the tree.
 use Rattle.std.proofs.Common.{◌≡◌, ◌≢◌, ℕ, ◌+◌, ◌<◌, List, ◌++◌, map, drop, length, slice_get, Some, Result, Ok, Err, IfOk, codes, refl, sym, ap, subst, ◌∙◌, arith, length-drop, append-nil}
-use Rattle.std.specs.Fmt.{decimal}
-use Rattle.std.specs.List.{AllZip}
-use Rattle.std.proofs.lemmas.List.{length-map}
-use Rattle.std.proofs.lemmas.Option.{slice_get_within}
-use Rattle.lft_lists.proofs.Places.{Some_same}
-use Rattle.lft_lists.proofs.Mapped.{mapped, mapped_from}
-use Rattle.lft_tree.specs.Identifiers.{IsName, HasIdentifiers}
-use Rattle.lft_tree.specs.Tree.{FileTree, ReactorTree, reactors_of, ports_of, actions_of, timers_of, reactions_of}
-use Rattle.lft_resolve.specs.Kinds.{names_in}
-use Rattle.lft_resolve.specs.Causes.{IsTwice}
-use Rattle.lft_program.specs.Located.{Located, declared, things}
-use Rattle.lft_program.specs.Nests.{IsNest}
-use Rattle.lft_program.specs.Tables.{IsLawful}
-use Rattle.lft_program.specs.declared.nesting.nest.Nest.{Nest}
-use Rattle.lft_program.specs.declared.nesting.tables.Tables.{Tables}
-use Rattle.lft_program.proofs.Listing.{declared_from}
-use Rattle.lft_program.proofs.Zipping.{zip_at, zip_long, zip_of}
+use Rattle.std.{specs.{Fmt.decimal, List.AllZip}, proofs.lemmas.{List.length-map, Option.slice_get_within}}
+use Rattle.lft_lists.proofs.{Places.Some_same, Mapped.{mapped, mapped_from}}
+use Rattle.lft_tree.specs.{Identifiers.{IsName, HasIdentifiers}, Tree.{FileTree, ReactorTree, reactors_of, ports_of, actions_of, timers_of, reactions_of}}
+use Rattle.lft_resolve.specs.{Kinds.names_in, Causes.IsTwice}
+use Rattle.lft_program.specs.{Located.{Located, declared, things}, Nests.IsNest, Tables.IsLawful}
+use Rattle.lft_program.specs.declared.{nesting.{nest.Nest.Nest, tables.Tables.Tables}, naming.{OwnName.OwnName, Placed.Placed}, tree_lists.Lists.Lists}
 use Rattle.lft_program.specs.Flattening.{name_of_path, name_of_thing, name_of_reaction, names_of}
-use Rattle.lft_program.specs.FullNames.{IsDotted, IsHashed, AreFullNames, AreNested, AreOfProgram, AreFew, members}
-use Rattle.lft_ir.specs.Names.{ThingNames}
-use Rattle.lft_program.specs.TreeLists.{AreLists, IsPlacedAt, Says}
-use Rattle.lft_program.specs.declared.naming.OwnName.{OwnName}
-use Rattle.lft_program.specs.declared.naming.Placed.{Placed}
-use Rattle.lft_program.specs.declared.tree_lists.Lists.{Lists}
+use Rattle.lft_program.specs.{FullNames.{IsDotted, IsHashed, AreFullNames, AreNested, AreOfProgram, AreFew, members}, TreeLists.{AreLists, IsPlacedAt, Says}}
+use Rattle.lft_program.proofs.{Listing.declared_from, Zipping.{zip_at, zip_long, zip_of}}
 use Rattle.lft_program.proofs.InnerNames.{first, inner_at, inner_sites, long, long_inner, path_last}
 use Rattle.lft_program.proofs.KindNames.{reactor_at, sites, few_told, placed_within, placed_once, few_placed}
 use Rattle.lft_program.proofs.NamesOnce.{port_names, timer_names, action_names, instance_names, never_twice, ports_once, timers_once, actions_once, instances_once, ports_timers, ports_actions, ports_instances, timers_actions, timers_instances, actions_instances, ports_named, timers_named, actions_named, instances_named}
-use Rattle.lft_ir.proofs.Ranges.{slice_get-drop}
 use Rattle.lft_program.proofs.Sites.{Once, AreApart, AreSites, Each, all_of, pairs_of, each_append, once_append, apart_append, append_apart, once_of, apart_of, names_of_sites, within_sites}
+use Rattle.lft_ir.{specs.Names.ThingNames, proofs.Ranges.slice_get-drop}
 
 module _ (tree : FileTree) (tables : Tables) (nest : Nest) (is : IsNest tree tables nest)
     (lists : Lists) (are : AreLists tree tables nest is lists) where

@@ -1,24 +1,13 @@
 -- The nest of a tree, and the limits that it keeps.
 use Rattle.std.proofs.Common.{◌≡◌, ℕ, ◌-◌, ◌<◌, ◌≤◌, arith, inl, inr, List, length, refl, sym, ◌∙◌, subst, Result, Err, IsErrAnd, map}
 use Rattle.lft_tree.specs.Tree.{FileTree, ReactorTree, actions_of, ports_of, reactions_of, reactors_of, timers_of}
-use Rattle.lft_resolve.specs.Expansion.Children.{AreChildren}
-use Rattle.lft_resolve.specs.Expansion.Contents.{IsWalk, contained}
-use Rattle.lft_resolve.specs.Expansion.Numbers.{AreFirst, HasMoreThings, things}
-use Rattle.lft_resolve.specs.Expansion.Paths.{Exists, IsMoreThan}
-use Rattle.lft_resolve.specs.Expansion.Values.{HaveValues, LeadToValues}
-use Rattle.lft_resolve.specs.declared.expansion.walk.Contents.{Contents}
-use Rattle.lft_resolve.specs.declared.expansion.walk.Instance.{Instance}
+use Rattle.lft_resolve.specs.Expansion.{Children.AreChildren, Contents.{IsWalk, contained}, Numbers.{AreFirst, HasMoreThings, things}}
+use Rattle.lft_resolve.specs.Expansion.{Paths.{Exists, IsMoreThan}, Values.{HaveValues, LeadToValues}}
+use Rattle.lft_resolve.specs.{declared.expansion.walk.{Contents.Contents, Instance.Instance}, Causes.{IsDeclaredAt, TooMany, joins_of}}
 use Rattle.lft_resolve.proofs.ExpansionLemmas.Things.{walk_more_things}
-use Rattle.lft_resolve.specs.Causes.{IsDeclaredAt, TooMany, joins_of}
-use Rattle.lft_program.specs.Limits.{HasMoreThan, IsExcess, IsFull, IsPassed, limit_of}
-use Rattle.lft_program.specs.Nests.{IsNest, IsNumbering}
-use Rattle.lft_program.specs.Tables.{AreTables, IsLawful}
-use Rattle.lft_program.specs.declared.nesting.limits.Excess.{Excess}
-use Rattle.lft_program.specs.declared.nesting.limits.LimitedKind.{LimitedKind}
-use Rattle.lft_program.specs.declared.nesting.limits.LimitedKind.TheVariants.{Reactions, Ports, Connections, Actions, Timers}
-use Rattle.lft_program.specs.declared.nesting.nest.Nest.{Nest}
-use Rattle.lft_program.specs.declared.nesting.nest.Numbering.{Numbering}
-use Rattle.lft_program.specs.declared.nesting.tables.Tables.{Tables}
+use Rattle.lft_program.specs.{Limits.{HasMoreThan, IsExcess, IsFull, IsPassed, limit_of}, Nests.{IsNest, IsNumbering}, Tables.{AreTables, IsLawful}}
+use Rattle.lft_program.specs.declared.nesting.limits.{Excess.Excess, LimitedKind.{LimitedKind, TheVariants.{Reactions, Ports, Connections, Actions, Timers}}}
+use Rattle.lft_program.specs.declared.nesting.{nest.{Nest.Nest, Numbering.Numbering}, tables.Tables.Tables}
 use Rattle.lft_program.proofs.Counted.{actions_counted, joins_counted, ports_counted, reactions_counted, timers_counted}
 use Rattle.lft_program.proofs.Limiting.{more_declared, more_instances, more_numbers, more_things}
 use Rattle.lft_program.proofs.Locating.{all_located, are_instances, are_located, are_values, located_paths}

@@ -4,17 +4,11 @@ use Rattle.std.specs.Fmt.{decimal}
 use Rattle.std.proofs.lemmas.List.Elements.{All-nil, All-cons, All-head, All-tail, All-append, All-push, All-map, All-weaker, All-from_recursion}
 use Rattle.lft_lists.specs.Bytes.{is_part}
 use Rattle.lft_tree.specs.Identifiers.{IsName}
-use Rattle.lft_program.specs.Extended.{Ending, dotted, hashed, endings, name_after, extended}
-use Rattle.lft_program.specs.FullNames.{members, AreOfProgram, AreFew}
-use Rattle.lft_ir.specs.Names.{IsNameByte, AreWords}
-use Rattle.lft_ir.specs.Places.{AreStarts, names_from}
-use Rattle.lft_program.specs.declared.naming.OwnName.{OwnName}
-use Rattle.lft_program.specs.declared.naming.Placed.{Placed}
-use Rattle.lft_ir.specs.declared.names.Starts.{Starts}
-use Rattle.lft_program.proofs.Distinct.{main}
-use Rattle.lft_program.proofs.FullNames.{all_at}
-use Rattle.lft_ir.proofs.Ranges.{each_named}
-use Rattle.lft_ir.proofs.Decimals.{All-decimal}
+use Rattle.lft_program.specs.{Extended.{Ending, dotted, hashed, endings, name_after, extended}, FullNames.{members, AreOfProgram, AreFew}}
+use Rattle.lft_program.specs.declared.naming.{OwnName.OwnName, Placed.Placed}
+use Rattle.lft_program.proofs.{Distinct.main, FullNames.all_at}
+use Rattle.lft_ir.specs.{Names.{IsNameByte, AreWords}, Places.{AreStarts, names_from}, declared.names.Starts.Starts}
+use Rattle.lft_ir.proofs.{Ranges.each_named, Decimals.All-decimal}
 
 -- what names are of may stand in a full name
 part_fits : (b : ℕ) → is_part b ≡ true → IsNameByte b

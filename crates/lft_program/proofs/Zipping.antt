@@ -1,7 +1,6 @@
 -- Two lists place by place, and lists of what is there.
 use Rattle.std.proofs.Common.{◌≡◌, ℕ, zero, suc, List, [], ◌∷◌, map, length, refl, ap, subst, arith, Option, Some, None, slice_get}
-use Rattle.std.specs.List.{AllZip}
-use Rattle.std.specs.Option.{option_and_then}
+use Rattle.std.specs.{List.AllZip, Option.option_and_then}
 
 module _ {A B : Type 0} (R : A → B → Type 0) where
   -- the item that an element goes with

@@ -1,8 +1,6 @@
 -- Loops that make one item of each element of a list.
 use Rattle.std.proofs.Common.{◌≡◌, ℕ, ◌+◌, ◌<◌, zero, suc, List, [], ◌∷◌, ◌++◌, map, take, drop, length, get_or, slice_get, Some, refl, ap, subst, ◌∙◌, arith}
-use Rattle.std.specs.List.{AllZip}
-use Rattle.std.proofs.lemmas.Grind.{common_steps}
-use Rattle.std.proofs.lemmas.List.{map-append}
+use Rattle.std.{specs.List.AllZip, proofs.lemmas.{Grind.common_steps, List.map-append}}
 use Rattle.lft_lists.proofs.Picked.{take_one_more}
 
 module _ {A B : Type 0} (R : A → B → Type 0) where

@@ -1,9 +1,7 @@
 -- Names that are put one after another, each made from one before it. The contracts of the crate's own functions alone need this file.
 use Rattle.std.specs.Prelude.{◌≡◌, ℕ, ◌+◌, ◌<◌, List, [], ◌∷◌, ◌++◌, map, slice_get, slice_index_or, Some, codes}
 use Rattle.std.specs.Fmt.{decimal}
-use Rattle.lft_program.specs.FullNames.{members}
-use Rattle.lft_program.specs.declared.naming.OwnName.{OwnName}
-use Rattle.lft_program.specs.declared.naming.Placed.{Placed}
+use Rattle.lft_program.specs.{FullNames.members, declared.naming.{OwnName.OwnName, Placed.Placed}}
 
 -- the number of an instance, and what a name has after that of the instance
 abbrev pub Ending : Type 0

@@ -1,24 +1,13 @@
 -- What the flat program of a tree is.
 use Rattle.std.specs.Prelude.{◌≡◌, ℕ, ◌+◌, List, [], ◌∷◌, ◌++◌, Option, Some, None, map, slice_get, option_to_list, flat_map, codes}
-use Rattle.std.specs.List.{AllZip}
-use Rattle.std.specs.Fmt.{decimal}
+use Rattle.std.specs.{List.AllZip, Fmt.decimal}
 use Rattle.lft_tree.specs.Tree.{FileTree, ReactorTree, PortTree, ActionTree, TimerTree, ReactionTree, TimeTree, RefTree, TriggerTree, AtStartup, AtShutdown, OnRef, instances_of, ports_of, actions_of, timers_of, reactions_of}
-use Rattle.lft_resolve.specs.Causes.{NoneHolds, causes}
-use Rattle.lft_resolve.specs.Instances.{Inside, time_in, entered, main_instance, Thing, thing_at, stands_for}
+use Rattle.lft_resolve.specs.{Causes.{NoneHolds, causes}, Instances.{Inside, time_in, entered, main_instance, Thing, thing_at, stands_for}}
 use Rattle.lft_resolve.specs.Sheets.{without_timers}
-use Rattle.lft_program.specs.Links.{IsSource}
-use Rattle.lft_program.specs.Located.{Located, AreLocated, Declared, declared, ports_in, actions_in, timers_in}
-use Rattle.lft_ir.specs.Names.{ThingNames}
-use Rattle.lft_ir.specs.Parts.{Parts}
-use Rattle.lft_ir.specs.Sound.{KeepsOrigins}
-use Rattle.lft_ir.specs.declared.parts.Port.{Port as PortOf}
-use Rattle.lft_ir.specs.declared.parts.Action.{Action as ActionOf}
-use Rattle.lft_ir.specs.declared.parts.Timer.{Timer as TimerOf}
-use Rattle.lft_ir.specs.declared.parts.Reaction.{Reaction}
-use Rattle.lft_ir.specs.declared.parts.Name.{Name}
-use Rattle.lft_ir.specs.declared.parts.Name.TheVariants.{Port, Action}
-use Rattle.lft_ir.specs.declared.parts.Trigger.{Trigger}
-use Rattle.lft_ir.specs.declared.parts.Trigger.TheVariants.{Startup, Shutdown, Timer, On}
+use Rattle.lft_program.specs.{Links.IsSource, Located.{Located, AreLocated, Declared, declared, ports_in, actions_in, timers_in}}
+use Rattle.lft_ir.specs.{Names.ThingNames, Parts.Parts, Sound.KeepsOrigins}
+use Rattle.lft_ir.specs.declared.parts.{Port.Port as PortOf, Action.Action as ActionOf, Timer.Timer as TimerOf, Reaction.Reaction}
+use Rattle.lft_ir.specs.declared.parts.{Name.{Name, TheVariants.{Port, Action}}, Trigger.{Trigger, TheVariants.{Startup, Shutdown, Timer, On}}}
 
 -- ---- times and names in an instance
 

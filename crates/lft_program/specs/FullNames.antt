@@ -1,11 +1,9 @@
 -- The names of all things of a flat program, from what its instances declare.
 use Rattle.std.specs.Prelude.{◌≡◌, ◌≢◌, ℕ, ◌+◌, ◌<◌, ◌≤◌, List, ◌++◌, drop, length, slice_get, Some, codes, All, AllPairs}
-use Rattle.std.specs.Fmt.{decimal}
-use Rattle.std.specs.List.{AllZip}
+use Rattle.std.specs.{Fmt.decimal, List.AllZip}
 use Rattle.lft_tree.specs.Identifiers.{IsName}
 use Rattle.lft_ir.specs.Names.{ThingNames}
-use Rattle.lft_program.specs.declared.naming.OwnName.{OwnName}
-use Rattle.lft_program.specs.declared.naming.Placed.{Placed}
+use Rattle.lft_program.specs.declared.naming.{OwnName.OwnName, Placed.Placed}
 
 -- the name of the instance that declares the thing, a dot and the thing's own name
 abbrev pub IsDotted : List (List ℕ) → OwnName → List ℕ → Type 0

@@ -1,29 +1,15 @@
 -- Parts by number, as they are read from the tables, the nest and the links. The contracts of the crate's own functions alone need this file.
 use Rattle.std.specs.Prelude.{◌≡◌, ℕ, ◌≤◌, Bool, List, [], Option, Some, slice_get, unwrap_or, option_map, option_and_then}
 use Rattle.std.specs.List.{AllZip}
-use Rattle.lft_resolve.specs.Expansion.Joins.{port_at, port_of}
-use Rattle.lft_resolve.specs.Expansion.Values.{clock_in}
-use Rattle.lft_resolve.specs.declared.expansion.numbering.Thing.{Thing}
-use Rattle.lft_resolve.specs.declared.expansion.settings.Clock.{Clock}
-use Rattle.lft_resolve.specs.declared.by_number.sheets.ActionSheet.{ActionSheet}
-use Rattle.lft_resolve.specs.declared.by_number.sheets.Cue.{Cue}
-use Rattle.lft_resolve.specs.declared.by_number.sheets.Cue.TheVariants as cues
-use Rattle.lft_resolve.specs.declared.by_number.sheets.Cues.{Cues}
-use Rattle.lft_resolve.specs.declared.by_number.sheets.Declarations.{Declarations}
-use Rattle.lft_resolve.specs.declared.by_number.sheets.Spot.{Spot}
-use Rattle.lft_resolve.specs.declared.by_number.sheets.Spot.TheVariants as spots
+use Rattle.lft_resolve.specs.Expansion.{Joins.{port_at, port_of}, Values.clock_in}
+use Rattle.lft_resolve.specs.declared.expansion.{numbering.Thing.Thing, settings.Clock.Clock}
+use Rattle.lft_resolve.specs.declared.by_number.sheets.{ActionSheet.ActionSheet, Cue.Cue, Cues.Cues, Declarations.Declarations, Spot.Spot}
 use Rattle.lft_resolve.specs.declared.by_number.sheets.TimerSheet.{TimerSheet}
-use Rattle.lft_program.specs.declared.nesting.linking.Linked.{Linked}
-use Rattle.lft_program.specs.declared.nesting.nest.Nest.{Nest}
-use Rattle.lft_program.specs.declared.nesting.tables.Tables.{Tables}
-use Rattle.lft_ir.specs.declared.parts.Action.{Action as ActionOf}
-use Rattle.lft_ir.specs.declared.parts.Name.{Name}
-use Rattle.lft_ir.specs.declared.parts.Name.TheVariants.{Port, Action}
-use Rattle.lft_ir.specs.declared.parts.Port.{Port as PortOf}
-use Rattle.lft_ir.specs.declared.parts.Reaction.{Reaction}
-use Rattle.lft_ir.specs.declared.parts.Timer.{Timer as TimerOf}
-use Rattle.lft_ir.specs.declared.parts.Trigger.{Trigger}
-use Rattle.lft_ir.specs.declared.parts.Trigger.TheVariants.{Startup, Shutdown, Timer, On}
+use Rattle.lft_program.specs.declared.nesting.{linking.Linked.Linked, nest.Nest.Nest, tables.Tables.Tables}
+use Rattle.lft_ir.specs.declared.parts.{Action.Action as ActionOf, Name.{Name, TheVariants.{Port, Action}}, Port.Port as PortOf, Reaction.Reaction}
+use Rattle.lft_ir.specs.declared.parts.{Timer.Timer as TimerOf, Trigger.{Trigger, TheVariants.{Startup, Shutdown, Timer, On}}}
+use Rattle.lft_resolve.specs.declared.by_number.sheets.Cue.TheVariants as cues
+use Rattle.lft_resolve.specs.declared.by_number.sheets.Spot.TheVariants as spots
 
 -- ---- what each instance declares
 

@@ -1,13 +1,9 @@
 -- What a program may have only so many of.
 use Rattle.std.specs.Prelude.{◌≡◌, ℕ, ◌-◌, ◌<◌, ◌≤◌, List, true, false}
 use Rattle.lft_tree.specs.Tree.{FileTree, actions_of, ports_of, reactions_of, timers_of}
-use Rattle.lft_resolve.specs.Expansion.Contents.{contained}
-use Rattle.lft_resolve.specs.Expansion.Paths.{Exists, IsMoreThan}
-use Rattle.lft_resolve.specs.declared.expansion.walk.Contents.{Contents}
-use Rattle.lft_resolve.specs.Causes.{IsDeclaredAt, joins_of}
-use Rattle.lft_resolve.specs.Instances.{Inside, IsInside}
-use Rattle.lft_program.specs.declared.nesting.limits.LimitedKind.{LimitedKind}
-use Rattle.lft_program.specs.declared.nesting.limits.LimitedKind.TheVariants.{Instances, Reactions, Ports, Connections, Actions, Timers}
+use Rattle.lft_resolve.specs.{Expansion.{Contents.contained, Paths.{Exists, IsMoreThan}}, declared.expansion.walk.Contents.Contents}
+use Rattle.lft_resolve.specs.{Causes.{IsDeclaredAt, joins_of}, Instances.{Inside, IsInside}}
+use Rattle.lft_program.specs.declared.nesting.limits.LimitedKind.{LimitedKind, TheVariants.{Instances, Reactions, Ports, Connections, Actions, Timers}}
 use Rattle.lft_program.specs.declared.nesting.limits.Excess.{Excess}
 
 -- how many of a kind a program may have

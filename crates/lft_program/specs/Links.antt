@@ -1,17 +1,11 @@
 -- How ports are reached.
 use Rattle.std.specs.Prelude.{◌≡◌, ℕ, List, [], ◌∷◌, Option, Some, None, map, length, slice_get}
 use Rattle.lft_tree.specs.Tree.{FileTree, reactors_of}
-use Rattle.lft_tag.specs.Shifts.{join_all, none}
-use Rattle.lft_resolve.specs.Expansion.Sources.{Origin}
-use Rattle.lft_tag.specs.declared.Source.{Source}
+use Rattle.lft_tag.specs.{Shifts.{join_all, none}, declared.Source.Source}
+use Rattle.lft_resolve.specs.{Expansion.Sources.Origin, Causes.{ConnectionCycle as HasCycle, DelayTooLong as HasLongDelay}, Instances.{Thing, Connects}}
 use Rattle.lft_validate.specs.Witnesses.{Shows, cause_shown}
-use Rattle.lft_resolve.specs.Causes.{ConnectionCycle as HasCycle, DelayTooLong as HasLongDelay}
-use Rattle.lft_resolve.specs.Instances.{Thing, Connects}
-use Rattle.lft_program.specs.Located.{Located, ports_in}
-use Rattle.lft_program.specs.Ways.{IsLongChain, IsRing}
-use Rattle.lft_program.specs.declared.nesting.linking.Linked.{Linked}
-use Rattle.lft_program.specs.declared.nesting.linking.LinkFault.{LinkFault}
-use Rattle.lft_program.specs.declared.nesting.linking.LinkFault.TheVariants.{ConnectionCycle, LongTime, LongChain, NoMemory}
+use Rattle.lft_program.specs.{Located.{Located, ports_in}, Ways.{IsLongChain, IsRing}}
+use Rattle.lft_program.specs.declared.nesting.linking.{Linked.Linked, LinkFault.{LinkFault, TheVariants.{ConnectionCycle, LongTime, LongChain, NoMemory}}}
 
 -- the source of a port, where ports have these numbers: what a connection joins to it, with its delay, or none where no connection leads into it
 abbrev pub IsSource : FileTree → List Thing → Thing → Option Source → Type 0

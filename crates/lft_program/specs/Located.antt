@@ -2,8 +2,7 @@
 use Rattle.std.specs.Prelude.{◌≡◌, ℕ, List, map, flat_map, slice_get, Some}
 use Rattle.std.specs.List.{enumerate_from}
 use Rattle.lft_tree.specs.Tree.{FileTree, ReactorTree, ports_of, actions_of, timers_of}
-use Rattle.lft_resolve.specs.Expansion.Paths.{along, IsPreOrder}
-use Rattle.lft_resolve.specs.Instances.{Inside, main_of, entered, main_instance, Thing, thing_at}
+use Rattle.lft_resolve.specs.{Expansion.Paths.{along, IsPreOrder}, Instances.{Inside, main_of, entered, main_instance, Thing, thing_at}}
 
 -- an instance with its path
 pub record Located : Type 0 where

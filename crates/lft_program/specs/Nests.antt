@@ -2,16 +2,9 @@
 use Rattle.std.specs.Prelude.{◌≡◌, ℕ, ◌≤◌, List, Any, map, length, slice_get, Some}
 use Rattle.std.specs.List.{AllZip}
 use Rattle.lft_tree.specs.Tree.{FileTree, ReactorTree, reactors_of, ports_of, timers_of, actions_of, reactions_of}
-use Rattle.lft_resolve.specs.Expansion.Children.{AreChildren}
-use Rattle.lft_resolve.specs.Expansion.Contents.{IsWalk}
-use Rattle.lft_resolve.specs.Expansion.Numbers.{AreFirst, things}
-use Rattle.lft_resolve.specs.declared.expansion.numbering.Thing.{Thing}
-use Rattle.lft_resolve.specs.declared.expansion.walk.Instance.{Instance}
-use Rattle.lft_resolve.specs.Causes.{HasLongTime}
-use Rattle.lft_program.specs.Located.{Located, AreLocated, Declared}
-use Rattle.lft_program.specs.declared.nesting.nest.Nest.{Nest}
-use Rattle.lft_program.specs.declared.nesting.nest.Numbering.{Numbering}
-use Rattle.lft_program.specs.declared.nesting.tables.Tables.{Tables}
+use Rattle.lft_resolve.specs.Expansion.{Children.AreChildren, Contents.IsWalk, Numbers.{AreFirst, things}}
+use Rattle.lft_resolve.specs.{declared.expansion.{numbering.Thing.Thing, walk.Instance.Instance}, Causes.HasLongTime}
+use Rattle.lft_program.specs.{Located.{Located, AreLocated, Declared}, declared.nesting.{nest.{Nest.Nest, Numbering.Numbering}, tables.Tables.Tables}}
 
 -- the instance's reactor, by number
 abbrev pub IsInstanceOf : List ReactorTree → Located → Instance → Type 0

@@ -2,12 +2,8 @@
 use Rattle.std.specs.Prelude.{List, Any}
 use Rattle.lft_tree.specs.Tree.{FileTree, reactors_of}
 use Rattle.lft_resolve.specs.Causes.{HasLongTime}
-use Rattle.lft_program.specs.Links.{AreLinks}
-use Rattle.lft_program.specs.Nests.{IsNest}
-use Rattle.lft_program.specs.Tables.{AreTables, IsLawful}
-use Rattle.lft_program.specs.declared.nesting.linking.Linked.{Linked}
-use Rattle.lft_program.specs.declared.nesting.nest.Nest.{Nest}
-use Rattle.lft_program.specs.declared.nesting.tables.Tables.{Tables}
+use Rattle.lft_program.specs.{Links.AreLinks, Nests.IsNest, Tables.{AreTables, IsLawful}}
+use Rattle.lft_program.specs.declared.nesting.{linking.Linked.Linked, nest.Nest.Nest, tables.Tables.Tables}
 
 -- the tables, the nest and the links are those of the tree, of which no cause of refusal in one reactor holds and no time is too long
 pub record AreOfTree (tree : FileTree) (tables : Tables) (nest : Nest) (links : List Linked) : Type 0 where

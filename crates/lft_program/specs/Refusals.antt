@@ -2,13 +2,10 @@
 use Rattle.std.specs.Prelude.{ℕ}
 use Rattle.lft_tree.specs.Tree.{FileTree, reactors_of}
 use Rattle.lft_validate.specs.Witnesses.{Shows, IsCircle, cause_shown}
-use Rattle.lft_program.specs.Limits.{IsExcess}
-use Rattle.lft_program.specs.Ways.{IsLongChain, IsRing}
-use Rattle.lft_program.specs.declared.nesting.nest.NestFault.{NestFault}
+use Rattle.lft_program.specs.{Limits.IsExcess, Ways.{IsLongChain, IsRing}}
+use Rattle.lft_program.specs.declared.{nesting.{nest.NestFault.NestFault, linking.LinkFault.LinkFault}, refusal.Refusal.Refusal}
 use Rattle.lft_program.specs.declared.nesting.nest.NestFault.TheVariants as nests
-use Rattle.lft_program.specs.declared.nesting.linking.LinkFault.{LinkFault}
 use Rattle.lft_program.specs.declared.nesting.linking.LinkFault.TheVariants as links
-use Rattle.lft_program.specs.declared.refusal.Refusal.{Refusal}
 use Rattle.lft_program.specs.declared.refusal.Refusal.TheVariants as refusals
 
 -- the number of the cause for which a tree is refused; want of memory has 16

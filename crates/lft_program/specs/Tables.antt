@@ -1,9 +1,7 @@
 -- The tables of a tree.
 use Rattle.std.specs.Prelude.{◌≡◌, slice_get, Some}
 use Rattle.lft_tree.specs.Tree.{FileTree, ReactorTree, reactors_of}
-use Rattle.lft_resolve.specs.Causes.{NoneHolds, first_causes, later_causes}
-use Rattle.lft_resolve.specs.Instances.{main_of}
-use Rattle.lft_resolve.specs.Numbers.{AreContents}
+use Rattle.lft_resolve.specs.{Causes.{NoneHolds, first_causes, later_causes}, Instances.main_of, Numbers.AreContents}
 use Rattle.lft_resolve.specs.Sheets.{AreParameters, AreConnections, AreDeclarations, AreReactions}
 use Rattle.lft_program.specs.declared.nesting.tables.Tables.{Tables}
 

@@ -1,19 +1,12 @@
 -- The lists of what the instances of a nest declare. The contracts of the crate's own functions alone need this file.
 use Rattle.std.specs.Prelude.{◌≡◌, ℕ, List, [], map, slice_get, unwrap_or}
-use Rattle.std.specs.List.{AllZip}
-use Rattle.std.specs.Option.{option_and_then}
+use Rattle.std.specs.{List.AllZip, Option.option_and_then}
 use Rattle.lft_tree.specs.Tree.{FileTree, reactors_of, ports_of, actions_of, timers_of, reactions_of}
-use Rattle.lft_resolve.specs.declared.expansion.numbering.Thing.{Thing}
-use Rattle.lft_resolve.specs.declared.expansion.walk.Instance.{Instance}
-use Rattle.lft_program.specs.Located.{Declared, declared}
-use Rattle.lft_program.specs.Nests.{IsNest}
-use Rattle.lft_program.specs.declared.nesting.nest.Nest.{Nest}
-use Rattle.lft_program.specs.declared.nesting.tables.Tables.{Tables}
+use Rattle.lft_resolve.specs.declared.expansion.{numbering.Thing.Thing, walk.Instance.Instance}
+use Rattle.lft_program.specs.{Located.{Declared, declared}, Nests.IsNest}
+use Rattle.lft_program.specs.declared.{nesting.{nest.Nest.Nest, tables.Tables.Tables}, naming.{OwnName.OwnName, Placed.Placed}, tree_lists.Lists.Lists}
 use Rattle.lft_program.specs.OwnNames.{own_names}
-use Rattle.lft_program.specs.declared.naming.OwnName.{OwnName}
-use Rattle.lft_program.specs.declared.naming.Placed.{Placed}
 use Rattle.lft_program.specs.declared.own_names.MemberKind.TheVariants as kinds
-use Rattle.lft_program.specs.declared.tree_lists.Lists.{Lists}
 
 -- the name at a place of the reactor of an instance, where each reactor has a list of names; an empty one where there is none
 abbrev pub name_at : List (List (List ℕ)) → List Instance → ℕ → ℕ → List ℕ

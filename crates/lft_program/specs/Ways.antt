@@ -1,11 +1,8 @@
 -- Connections that form a loop or a chain, as a refusal tells them.
 use Rattle.std.specs.Prelude.{◌≡◌, ◌≢◌, ℕ, ◌<◌, List, [], ◌∷◌, ◌++◌, Option, Some, slice_get, sum, option_map, option_to_list}
 use Rattle.lft_tree.specs.Tree.{FileTree, reactors_of}
-use Rattle.lft_resolve.specs.declared.expansion.joins.Site.{Site}
-use Rattle.lft_resolve.specs.declared.expansion.walk.Instance.{Instance}
-use Rattle.lft_resolve.specs.Causes.{longest}
-use Rattle.lft_resolve.specs.Instances.{Inside, IsInside, Thing, stands_for, time_in}
-use Rattle.lft_resolve.specs.Sheets.{Single, singles_of}
+use Rattle.lft_resolve.specs.{declared.expansion.{joins.Site.Site, walk.Instance.Instance}, Causes.longest}
+use Rattle.lft_resolve.specs.{Instances.{Inside, IsInside, Thing, stands_for, time_in}, Sheets.{Single, singles_of}}
 use Rattle.lft_program.specs.declared.nesting.linking.Way.{Way}
 
 -- the single connection at the site leads from one thing to the other, and has this delay in its instance

@@ -1,16 +1,11 @@
 //! From the tree of a program text to the flat program.
 
 ghost use Rattle.std.specs.Prelude.{◌≡◌, ◌≢◌, IfOk, IfErr, OnOk};
-ghost use Rattle.lft_tree.specs.Tree.{reactors_of};
-ghost use Rattle.lft_tree.specs.View.{tree_view};
-ghost use Rattle.lft_resolve.specs.Causes.{IsFirst, NoneHolds, causes, first_causes, later_causes};
-ghost use Rattle.lft_resolve.specs.Numbers.{AreContents};
-ghost use Rattle.lft_program.specs.Tables.{AreTables};
-ghost use Rattle.lft_program.specs.Faults.{number_of, reactor_causes};
-ghost use Rattle.lft_program.specs.Flattening.{Flat, IsFlatOf};
-ghost use Rattle.lft_ir.specs.Parts.{Parts};
-ghost use Rattle.lft_program.specs.OfTree.{AreOfTree};
+ghost use Rattle.lft_tree.specs.{Tree.reactors_of, View.tree_view};
+ghost use Rattle.lft_resolve.specs.{Causes.{IsFirst, NoneHolds, causes, first_causes, later_causes}, Numbers.AreContents};
+ghost use Rattle.lft_program.specs.{Tables.AreTables, Faults.{number_of, reactor_causes}, Flattening.{Flat, IsFlatOf}, OfTree.AreOfTree};
 ghost use Rattle.lft_program.specs.Refusals.{Tells, cause_of};
+ghost use Rattle.lft_ir.specs.Parts.{Parts};
 ghost use Rattle.lft_program.specs.declared.fault.ProgramFault.TheVariants as faults;
 ghost use Rattle.lft_program.specs.declared.refusal.Refusal.TheVariants as refusals;
 

@@ -4,15 +4,11 @@
 ghost use Rattle.std.specs.Prelude.{◌≡◌, Bool, Some, IfOk};
 ghost use Rattle.std.specs.List.{AllZip};
 ghost use Rattle.lft_tree.specs.Tree.{FileTree, ports_of, timers_of, actions_of, reactions_of};
-ghost use Rattle.lft_program.specs.Located.{declared};
-ghost use Rattle.lft_program.specs.Flattening.{IsPort, IsTimer, IsAction, IsReaction};
+ghost use Rattle.lft_program.specs.{Located.declared, Flattening.{IsPort, IsTimer, IsAction, IsReaction}};
 ghost use Rattle.lft_program.specs.Laying.{HasCues, IsActionAt, IsPortAt, IsReactionAt, IsTimerAt, action_at, cues_at, declarations_at, input_at, timer_at};
 ghost use Rattle.lft_program.specs.OfTree.{AreOfTree};
-ghost use Rattle.lft_ir.specs.Parts.{Parts};
-ghost use Rattle.lft_ir.specs.Sound.{KeepsOrigins};
-ghost use Rattle.lft_resolve.specs.declared.by_number.sheets.ActionSheet.{ActionSheet};
-ghost use Rattle.lft_resolve.specs.declared.by_number.sheets.Cues.{Cues as CuesOf};
-ghost use Rattle.lft_resolve.specs.declared.by_number.sheets.Declarations.{Declarations as DeclarationsOf};
+ghost use Rattle.lft_ir.specs.{Parts.Parts, Sound.KeepsOrigins};
+ghost use Rattle.lft_resolve.specs.declared.by_number.sheets.{ActionSheet.ActionSheet, Cues.Cues as CuesOf, Declarations.Declarations as DeclarationsOf};
 ghost use Rattle.lft_resolve.specs.declared.by_number.sheets.TimerSheet.{TimerSheet};
 
 use crate::nesting::{Linked, Nest, Tables};

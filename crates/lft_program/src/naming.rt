@@ -1,8 +1,7 @@
 //! The full names of a program's things.
 
 ghost use Rattle.std.specs.Prelude.{◌≡◌, ◌<◌, ◌∷◌, [], codes, map, length, string_bytes, IfOk, OnOk};
-ghost use Rattle.lft_program.specs.Extended.{dotted, hashed, endings, name_after, extended, AreAfter};
-ghost use Rattle.lft_program.specs.FullNames.{AreFullNames, AreOfProgram, AreFew};
+ghost use Rattle.lft_program.specs.{Extended.{dotted, hashed, endings, name_after, extended, AreAfter}, FullNames.{AreFullNames, AreOfProgram, AreFew}};
 ghost use Rattle.lft_ir.specs.Names.{ThingNames, HasNoTwice, AreDistinct, AreWords};
 
 use lft_ir::{NameTable, Starts, Texts};

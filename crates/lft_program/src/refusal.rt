@@ -1,10 +1,8 @@
 //! Why a tree has no flat program, with what shows it.
 
 ghost use Rattle.std.specs.Prelude.{◌≡◌};
-ghost use Rattle.lft_validate.specs.Findings.{cause_of as cause_found};
-ghost use Rattle.lft_validate.specs.Witnesses.{cause_shown};
-ghost use Rattle.lft_program.specs.Faults.{number_of};
-ghost use Rattle.lft_program.specs.Refusals.{cause_of};
+ghost use Rattle.lft_validate.specs.{Findings.cause_of as cause_found, Witnesses.cause_shown};
+ghost use Rattle.lft_program.specs.{Faults.number_of, Refusals.cause_of};
 ghost use Rattle.lft_program.specs.declared.fault.ProgramFault.TheVariants as faults;
 ghost use Rattle.lft_program.specs.declared.refusal.Refusal.TheVariants as refusals;
 

@@ -1,11 +1,8 @@
 //! The full names of what a tree's instances declare.
 
 ghost use Rattle.std.specs.Prelude.{◌≡◌, IfOk};
-ghost use Rattle.lft_tree.specs.Identifiers.{HasIdentifiers};
-ghost use Rattle.lft_tree.specs.View.{tree_view};
-ghost use Rattle.lft_program.specs.Nests.{IsNest};
-ghost use Rattle.lft_program.specs.Tables.{AreTables, IsLawful};
-ghost use Rattle.lft_program.specs.Flattening.{names_of};
+ghost use Rattle.lft_tree.specs.{Identifiers.HasIdentifiers, View.tree_view};
+ghost use Rattle.lft_program.specs.{Nests.IsNest, Tables.{AreTables, IsLawful}, Flattening.names_of};
 ghost use Rattle.lft_ir.specs.Names.{AreDistinct, AreWords};
 
 use crate::naming::full_names;

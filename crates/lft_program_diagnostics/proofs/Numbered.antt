@@ -1,13 +1,8 @@
 -- The single connections of a reactor, counted member by member.
 use Rattle.std.proofs.Common.{◌≡◌, ℕ, ◌+◌, ◌<◌, List, [], ◌++◌, append-nil, length, length-append, min, drop, take, flat_map, filter_map, refl, sym, ap, ◌∙◌, subst, Option, Some, None, slice_get}
 use Rattle.std.specs.List.{cons_option, zip}
-use Rattle.std.proofs.lemmas.Grind.{flat_map-append}
-use Rattle.std.proofs.lemmas.List.{length-map, take-append-drop}
-use Rattle.std.proofs.lemmas.List.Elements.{filter_map-append}
-use Rattle.std.proofs.lemmas.Slice.Zip.{length-zip}
-use Rattle.lft_lists.proofs.Mapped.{mapped, pair_at}
-use Rattle.lft_lists.proofs.Picked.{kept_more}
-use Rattle.lft_lists.proofs.Places.{get_left, get_right, get_there}
+use Rattle.std.proofs.lemmas.{Grind.flat_map-append, List.{length-map, take-append-drop, Elements.filter_map-append}, Slice.Zip.length-zip}
+use Rattle.lft_lists.proofs.{Mapped.{mapped, pair_at}, Picked.kept_more, Places.{get_left, get_right, get_there}}
 use Rattle.lft_tree.specs.Tree.{ConnectionTree, MemberTree, RefTree, connection_in}
 use Rattle.lft_resolve.specs.Sheets.{Single, singles_in}
 use Rattle.lft_program_diagnostics.specs.Singles.{StandsAt}

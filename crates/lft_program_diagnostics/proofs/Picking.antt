@@ -1,8 +1,6 @@
 -- Loops that pick what they want from a list.
 use Rattle.std.proofs.Common.{◌≡◌, ℕ, ◌+◌, ◌<◌, ◌≤◌, List, [], ◌∷◌, ◌++◌, map, filter_map, take, drop, length, get_or, slice_get, Option, Some, None, append-nil, sym, ap, ◌∙◌, arith}
-use Rattle.std.specs.List.{cons_option}
-use Rattle.std.proofs.lemmas.List.{map-append, drop_all}
-use Rattle.std.proofs.lemmas.List.Elements.{filter_map-append}
+use Rattle.std.{specs.List.cons_option, proofs.lemmas.List.{map-append, drop_all, Elements.filter_map-append}}
 use Rattle.lft_lists.proofs.Picked.{take_one_more}
 
 module _ {X Y : Type 0} (h : X → Option Y) (xs : List X) (i : ℕ) (x : X) (l : i < length xs) (is : get_or xs i x ≡ x) where

@@ -1,21 +1,14 @@
 -- What is told of a cause stands where a witness of it does, if a place of the text shows it by itself.
 use Rattle.std.proofs.Common.{◌≡◌, ◌≢◌, ℕ, List, [], ◌∷◌, map, inl, inr, refl, sym, ap, ◌∙◌, subst, Option, Some, None}
 use Rattle.std.specs.Borrow.{Bor}
-use Rattle.lft_tree.specs.Tree.{FileTree, reactors_of}
-use Rattle.lft_tree.specs.View.{file_view, reactor_view}
-use Rattle.lft_tree.specs.declared.tree.Item.{Item}
-use Rattle.lft_tree.specs.declared.tree.Item.TheVariants as items
-use Rattle.lft_tree.specs.declared.tree.Reactor.{Reactor}
-use Rattle.lft_tree.specs.declared.tree.TokenRange.{TokenRange}
+use Rattle.lft_tree.specs.{Tree.{FileTree, reactors_of}, View.{file_view, reactor_view}, declared.tree.{Item.Item, Reactor.Reactor, TokenRange.TokenRange}}
 use Rattle.lft_syntax.specs.declared.token.Token.{Token}
 use Rattle.lft_text_diagnostics.specs.declared.spots.Spot.{Spot}
-use Rattle.lft_validate.specs.Witnesses.{Shows, cause_shown}
-use Rattle.lft_validate.specs.declared.witness.Witness.{Witness}
-use Rattle.lft_program.specs.Refusals.{Tells, cause_of}
-use Rattle.lft_program.specs.declared.refusal.Refusal.{Refusal}
+use Rattle.lft_validate.specs.{Witnesses.{Shows, cause_shown}, declared.witness.Witness.Witness}
+use Rattle.lft_program.specs.{Refusals.{Tells, cause_of}, declared.refusal.Refusal.Refusal}
+use Rattle.lft_program_diagnostics.specs.{Spots.{behind, reactors_among, witness_spot}, Reasons.{IsOfWhole, IsShownAt, witness_in}}
+use Rattle.lft_tree.specs.declared.tree.Item.TheVariants as items
 use Rattle.lft_program.specs.declared.refusal.Refusal.TheVariants as refusals
-use Rattle.lft_program_diagnostics.specs.Spots.{behind, reactors_among, witness_spot}
-use Rattle.lft_program_diagnostics.specs.Reasons.{IsOfWhole, IsShownAt, witness_in}
 
 -- the trees of the reactors of a file
 pub trees_among : (target : Option TokenRange) (parts : List Item) → reactors_of (file_view target parts) ≡ map reactor_view (reactors_among parts)

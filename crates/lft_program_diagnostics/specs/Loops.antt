@@ -1,12 +1,7 @@
 -- The text of reactions that wait for one another.
 use Rattle.std.specs.Prelude.{ℕ, ◌==◌, ◌&&◌, Bool, false, List, ◌++◌, Option, Some, None, codes, drop, take, find, zip, flat_map, slice_get, option_and_then}
-use Rattle.std.specs.List.{list_any}
-use Rattle.std.specs.Option.{option_map_or}
-use Rattle.lft_ir.specs.Parts.{Parts, inputs}
-use Rattle.lft_ir.specs.declared.parts.Name.{Name}
-use Rattle.lft_ir.specs.declared.parts.Name.TheVariants.{Port, Action}
-use Rattle.lft_ir.specs.declared.parts.Port.{Port as PortOf}
-use Rattle.lft_ir.specs.declared.parts.Reaction.{Reaction}
+use Rattle.std.specs.{List.list_any, Option.option_map_or}
+use Rattle.lft_ir.specs.{Parts.{Parts, inputs}, declared.parts.{Name.{Name, TheVariants.{Port, Action}}, Port.Port as PortOf, Reaction.Reaction}}
 use Rattle.lft_ir.specs.Words.Words.{reaction_words, name_words}
 
 -- the name is of that port

@@ -1,25 +1,13 @@
 -- What is told of a program that has a tree and is refused.
 use Rattle.std.specs.Prelude.{◌≡◌, ℕ, ◌⊎◌, List, [], ◌++◌, Option, Some, None, codes, map}
-use Rattle.lft_tree.specs.View.{file_view, reactor_view}
-use Rattle.lft_tree.specs.declared.tree.Item.{Item}
-use Rattle.lft_tree.specs.declared.tree.Reactor.{Reactor}
-use Rattle.lft_tree.specs.declared.tree.TokenRange.{TokenRange}
-use Rattle.lft_syntax.specs.declared.token.Token.{Token}
-use Rattle.lft_syntax.specs.Lexes.{Lexes}
-use Rattle.lft_syntax.specs.Placed.{FileStands}
-use Rattle.lft_syntax.specs.Grammar.{Spells}
-use Rattle.lft_syntax.specs.View.{lexemes}
+use Rattle.lft_tree.specs.{View.{file_view, reactor_view}, declared.tree.{Item.Item, Reactor.Reactor, TokenRange.TokenRange}}
+use Rattle.lft_syntax.specs.{declared.token.Token.Token, Lexes.Lexes, Placed.FileStands, Grammar.Spells, View.lexemes}
 use Rattle.lft_resolve.specs.Causes.{IsFirst, causes}
-use Rattle.lft_text_diagnostics.specs.Pages.{SaysSpot}
-use Rattle.lft_text_diagnostics.specs.declared.pages.Page.{Page}
-use Rattle.lft_text_diagnostics.specs.declared.spots.Spot.{Spot}
-use Rattle.lft_validate.specs.Witnesses.{Shows, cause_shown}
-use Rattle.lft_validate.specs.declared.witness.Witness.{Witness}
+use Rattle.lft_text_diagnostics.specs.{Pages.SaysSpot, declared.{pages.Page.Page, spots.Spot.Spot}}
+use Rattle.lft_validate.specs.{Witnesses.{Shows, cause_shown}, declared.witness.Witness.Witness}
 use Rattle.lft_program.specs.declared.refusal.Refusal.{Refusal}
+use Rattle.lft_program_diagnostics.specs.{Sentences.{cause_told, said, words_in}, declared.sentence.Sentence.Sentence, Spots.{reactors_among, witness_spot}}
 use Rattle.lft_program.specs.declared.refusal.Refusal.TheVariants as refusals
-use Rattle.lft_program_diagnostics.specs.Sentences.{cause_told, said, words_in}
-use Rattle.lft_program_diagnostics.specs.declared.sentence.Sentence.{Sentence}
-use Rattle.lft_program_diagnostics.specs.Spots.{reactors_among, witness_spot}
 
 -- the words begin with where the bytes stand, and then with this sentence
 pub record BeginsAt (t : List ℕ) (files : List Page) (spot : Option Spot) (sentence words : List ℕ) : Type 0 where

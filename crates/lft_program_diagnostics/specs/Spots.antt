@@ -1,25 +1,16 @@
 -- The bytes of a text at which what a witness shows stands.
 use Rattle.std.specs.Prelude.{ℕ, List, [], ◌++◌, Option, Some, None, map, filter_map, option_to_list, option_and_then, option_map, slice_get}
 use Rattle.std.specs.Borrow.{Bor}
-use Rattle.lft_tree.specs.declared.tree.TimeExpression.{TimeExpression}
-use Rattle.lft_tree.specs.declared.tree.Reference.{Reference}
-use Rattle.lft_tree.specs.declared.tree.Trigger.{Trigger}
+use Rattle.lft_tree.specs.declared.tree.{TimeExpression.TimeExpression, Reference.Reference, Trigger.Trigger, Assignment.Assignment, Member.Member}
+use Rattle.lft_tree.specs.declared.tree.{Reactor.Reactor, Item.Item}
+use Rattle.lft_syntax.specs.{Placed.token_of, declared.token.Token.Token}
+use Rattle.lft_resolve.specs.declared.kinds.Role.{Role, TheVariants.{Read, Effect, Source, Destination}}
+use Rattle.lft_text_diagnostics.specs.{Spots.{last_of_head, last_of_name, last_of_time, span}, declared.spots.Spot.Spot}
+use Rattle.lft_validate.specs.declared.{finding.Finding.Finding, witness.Witness.Witness}
 use Rattle.lft_tree.specs.declared.tree.Trigger.TheVariants as triggers
-use Rattle.lft_tree.specs.declared.tree.Assignment.{Assignment}
-use Rattle.lft_tree.specs.declared.tree.Member.{Member}
 use Rattle.lft_tree.specs.declared.tree.Member.TheVariants as members
-use Rattle.lft_tree.specs.declared.tree.Reactor.{Reactor}
-use Rattle.lft_tree.specs.declared.tree.Item.{Item}
 use Rattle.lft_tree.specs.declared.tree.Item.TheVariants as items
-use Rattle.lft_syntax.specs.Placed.{token_of}
-use Rattle.lft_syntax.specs.declared.token.Token.{Token}
-use Rattle.lft_resolve.specs.declared.kinds.Role.{Role}
-use Rattle.lft_resolve.specs.declared.kinds.Role.TheVariants.{Read, Effect, Source, Destination}
-use Rattle.lft_text_diagnostics.specs.Spots.{last_of_head, last_of_name, last_of_time, span}
-use Rattle.lft_text_diagnostics.specs.declared.spots.Spot.{Spot}
-use Rattle.lft_validate.specs.declared.finding.Finding.{Finding}
 use Rattle.lft_validate.specs.declared.finding.Finding.TheVariants as finding
-use Rattle.lft_validate.specs.declared.witness.Witness.{Witness}
 use Rattle.lft_validate.specs.declared.witness.Witness.TheVariants as witness
 
 -- what stands behind the references

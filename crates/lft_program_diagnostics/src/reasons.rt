@@ -1,8 +1,7 @@
 //! What is said of a witness, and of a refusal that has none.
 
 ghost use Rattle.std.specs.Prelude.{IfOk, IfSome};
-ghost use Rattle.lft_validate.specs.Findings.{cause_of as cause_found};
-ghost use Rattle.lft_validate.specs.Witnesses.{cause_shown};
+ghost use Rattle.lft_validate.specs.{Findings.cause_of as cause_found, Witnesses.cause_shown};
 ghost use Rattle.lft_program.specs.Refusals.{cause_of};
 ghost use Rattle.lft_program_diagnostics.specs.Sentences.{IsOf};
 

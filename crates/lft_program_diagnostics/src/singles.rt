@@ -1,8 +1,7 @@
 //! Where the single connections of a reactor stand.
 
 ghost use Rattle.std.specs.Prelude.{◌≡◌, ◌≤◌, Some, IfSome, IfNone, length, option_map, slice_get};
-ghost use Rattle.lft_tree.specs.Tree.{connection_in};
-ghost use Rattle.lft_tree.specs.View.{connection_view, member_view, reactor_view};
+ghost use Rattle.lft_tree.specs.{Tree.connection_in, View.{connection_view, member_view, reactor_view}};
 ghost use Rattle.lft_resolve.specs.Sheets.{Single, singles_of};
 ghost use Rattle.lft_program_diagnostics.specs.Singles.{StandsAt};
 

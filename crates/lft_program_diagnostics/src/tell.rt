@@ -2,19 +2,14 @@
 
 ghost use Rattle.std.specs.Prelude.{◌≡◌, ◌≢◌, IfOk, IfSome, IfNone, IsErr, string_bytes};
 ghost use Rattle.lft_tree.specs.View.{tree_view};
-ghost use Rattle.lft_syntax.specs.Grammar.{Spells};
-ghost use Rattle.lft_syntax.specs.Lexes.{Lexes};
-ghost use Rattle.lft_syntax.specs.Placed.{FileStands};
-ghost use Rattle.lft_syntax.specs.View.{lexemes};
+ghost use Rattle.lft_syntax.specs.{Grammar.Spells, Lexes.Lexes, Placed.FileStands, View.lexemes};
 ghost use Rattle.lft_resolve.specs.Causes.{IsFirst, causes};
 ghost use Rattle.lft_validate.specs.Witnesses.{cause_shown};
-ghost use Rattle.lft_program.specs.Faults.{number_of};
-ghost use Rattle.lft_program.specs.Refusals.{Tells, cause_of};
-ghost use Rattle.lft_program.specs.declared.refusal.Refusal.TheVariants as refusals;
+ghost use Rattle.lft_program.specs.{Faults.number_of, Refusals.{Tells, cause_of}};
 ghost use Rattle.lft_text_diagnostics.specs.Pages.{ArePages};
-ghost use Rattle.lft_program_diagnostics.specs.Reasons.{BeginsAt, IsShownAt, IsToldIn, IsToldOf, witness_in};
-ghost use Rattle.lft_program_diagnostics.specs.Sentences.{IsOf, cause_told, sentence_of};
+ghost use Rattle.lft_program_diagnostics.specs.{Reasons.{BeginsAt, IsShownAt, IsToldIn, IsToldOf, witness_in}, Sentences.{IsOf, cause_told, sentence_of}};
 ghost use Rattle.lft_program_diagnostics.specs.Spots.{behind, reactors_among as the_reactors_among, witness_spot};
+ghost use Rattle.lft_program.specs.declared.refusal.Refusal.TheVariants as refusals;
 
 use crate::reason::Reason;
 use crate::refused::Refused;

@@ -1,24 +1,13 @@
 -- The events after a tag, and those that aren't.
 use Rattle.std.proofs.Common.{◌≡◌, ◌∙◌, ℕ, ◌+◌, ◌-◌, ◌≤◌, ◌⊎◌, inl, inr, List, [], ◌∷◌, ◌++◌, length, length-append, map, Option, Some, None, IfSome, IfNone, arith, slice_get, refl, sym, ap, subst, Bool, true, false, not, cond, ◌&&◌, All}
-use Rattle.std.specs.Cmp.{nat_cmp_is}
-use Rattle.std.specs.Ordering.{is_lt, nat_cmp}
-use Rattle.std.proofs.lemmas.Bool.{false≢true}
-use Rattle.std.proofs.lemmas.List.Elements.{All-tail, All-head}
-use Rattle.std.specs.List.{AllByRecursion, filter}
-use Rattle.std.specs.List.Sorted.{IsStrictlySortedBy}
-use Rattle.std.specs.Map.{keys_of}
+use Rattle.std.specs.{Cmp.nat_cmp_is, Ordering.{is_lt, nat_cmp}, List.{AllByRecursion, filter, Sorted.IsStrictlySortedBy}, Map.keys_of}
 use Rattle.std.specs.declared.cmp.Ordering.TheVariants.{Less, Equal}
-use Rattle.lft_tag.specs.declared.Tag.{Tag}
-use Rattle.lft_tag.specs.Tags.{Before, UpTo, is_before, same_tag}
-use Rattle.lft_tag.proofs.Order.{Before-UpTo, UpTo-Before, order_cases, same_tag_true}
-use Rattle.lft_ir.specs.Naming.{same_name}
-use Rattle.lft_ir.specs.declared.parts.Name.{Name}
-use Rattle.lft_ir.specs.declared.parts.Value.{Value}
+use Rattle.std.proofs.lemmas.{Bool.false≢true, List.Elements.{All-tail, All-head}}
+use Rattle.lft_tag.{specs.{declared.Tag.Tag, Tags.{Before, UpTo, is_before, same_tag}}, proofs.Order.{Before-UpTo, UpTo-Before, order_cases, same_tag_true}}
+use Rattle.lft_ir.specs.{Naming.same_name, declared.parts.{Name.Name, Value.Value}}
 use Rattle.lft_lists.proofs.Places.{get_last, same_some}
-use Rattle.lft_queue.specs.Pending.{Pending, is_after, same_key, value_of}
-use Rattle.lft_queue.specs.Keys.{Key, tag_of, pending_at, key_cmp}
-use Rattle.lft_queue.proofs.Entries.{follows}
-use Rattle.lft_queue.proofs.Tests.{test_before, not_before}
+use Rattle.lft_queue.specs.{Pending.{Pending, is_after, same_key, value_of}, Keys.{Key, tag_of, pending_at, key_cmp}}
+use Rattle.lft_queue.proofs.{Entries.follows, Tests.{test_before, not_before}}
 
 -- where the first is after it, all stay
 pub all_kept : (g : Tag) (es : List (Key × Value)) (k : Key) (v : Value) → slice_get es 0 ≡ Some (k, v) → IsStrictlySortedBy key_cmp (keys_of es) → Before g (tag_of k) → map pending_at es ≡ filter (λ x. is_after g x) (map pending_at es)

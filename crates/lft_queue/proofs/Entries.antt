@@ -1,22 +1,11 @@
 -- The entries of an ordered map, as a map from tag and name to value.
 use Rattle.std.proofs.Common.{◌≡◌, ◌∙◌, ◌⊎◌, inl, inr, ◌<◌, ℕ, zero, suc, List, [], ◌∷◌, length, map, get_or, Option, Some, slice_get, refl, sym, ap, subst, arith, Bool, true, false, cond, ◌&&◌, ◌==◌, Contains}
-use Rattle.std.specs.List.{AllByRecursion, filter}
-use Rattle.std.specs.List.Sorted.{IsStrictlySortedBy}
-use Rattle.std.specs.BTreeMap.{is_at}
-use Rattle.std.specs.Map.{keys_of, lookup}
-use Rattle.std.specs.declared.cmp.Ordering.{Ordering}
-use Rattle.std.specs.declared.cmp.Ordering.TheVariants.{Less, Equal, Greater}
-use Rattle.std.specs.Ordering.{is_eq, nat_cmp, bool_cmp, ordering_then}
-use Rattle.std.proofs.lemmas.Bool.Decides.{nat_tests}
-use Rattle.lft_tag.specs.declared.Tag.{Tag}
-use Rattle.lft_tag.specs.Tags.{UpTo}
-use Rattle.lft_ir.specs.declared.parts.Value.{Value}
-use Rattle.lft_ir.specs.declared.parts.Name.{Name}
-use Rattle.lft_ir.specs.declared.parts.Name.TheVariants.{Port, Action}
-use Rattle.lft_queue.specs.Pending.{Pending, same_key, value_of, Becomes, IsMap}
-use Rattle.lft_queue.specs.Keys.{Key, key_of, tag_of, name_of, pending_at, key_cmp}
-use Rattle.lft_tag.proofs.Comparing.{less_nat, less_then, both_equal}
-use Rattle.std.proofs.lemmas.Map.Lookups.{exact_unsigned}
+use Rattle.std.specs.{List.{AllByRecursion, filter, Sorted.IsStrictlySortedBy}, BTreeMap.is_at, Map.{keys_of, lookup}}
+use Rattle.std.specs.{declared.cmp.Ordering.{Ordering, TheVariants.{Less, Equal, Greater}}, Ordering.{is_eq, nat_cmp, bool_cmp, ordering_then}}
+use Rattle.std.proofs.lemmas.{Bool.Decides.nat_tests, Map.Lookups.exact_unsigned}
+use Rattle.lft_tag.{specs.{declared.Tag.Tag, Tags.UpTo}, proofs.Comparing.{less_nat, less_then, both_equal}}
+use Rattle.lft_ir.specs.declared.parts.{Value.Value, Name.{Name, TheVariants.{Port, Action}}}
+use Rattle.lft_queue.specs.{Pending.{Pending, same_key, value_of, Becomes, IsMap}, Keys.{Key, key_of, tag_of, name_of, pending_at, key_cmp}}
 
 eq_nat : (a b : ℕ) → is_eq (nat_cmp a b) ≡ (a == b)
 eq_nat a b = grind (arith, nat_tests)

@@ -1,22 +1,12 @@
 -- The ports that reactions read, marked one after another.
 use Rattle.std.proofs.Common.{◌≡◌, ◌≢◌, ◌↔◌, ◌⊎◌, inl, inr, ◌<◌, ◌+◌, eqb-true, eq-eqb, ℕ, List, [], ◌∷◌, ◌++◌, length, take, replicate, filter_map, refl, sym, ap, ◌∙◌, subst, arith, Some, slice_get, slice_set, Contains, Bool, true, false}
 use Rattle.std.specs.List.{list_any}
-use Rattle.std.proofs.lemmas.Bool.{cases_eq, false≢true}
-use Rattle.std.proofs.lemmas.List.Elements.{Contains-append_left, Contains-push, Contains-push_cases}
-use Rattle.std.proofs.lemmas.List.Folds.{Any-from_list_any}
-use Rattle.std.proofs.lemmas.Map.Keys.{any_passes_from_place}
-use Rattle.std.proofs.lemmas.Option.{slice_get_within, slice_get-get_or, get_or_from_slice_get}
-use Rattle.lft_ir.specs.Parts.{Parts, inputs}
-use Rattle.lft_ir.specs.Naming.{named, is_port}
-use Rattle.lft_ir.specs.Sound.{IsSound}
-use Rattle.lft_ir.specs.declared.parts.Name.{Name}
-use Rattle.lft_ir.specs.declared.parts.Name.TheVariants.{Port, Action}
-use Rattle.lft_ir.specs.declared.parts.Reaction.{Reaction}
-use Rattle.lft_ir.specs.declared.parts.Trigger.{Trigger}
-use Rattle.lft_ir.specs.declared.parts.Trigger.TheVariants.{On}
+use Rattle.std.proofs.lemmas.{Bool.{cases_eq, false≢true}, List.{Elements.{Contains-append_left, Contains-push, Contains-push_cases}, Folds.Any-from_list_any}}
+use Rattle.std.proofs.lemmas.{Map.Keys.any_passes_from_place, Option.{slice_get_within, slice_get-get_or, get_or_from_slice_get}}
+use Rattle.lft_ir.specs.{Parts.{Parts, inputs}, Naming.{named, is_port}, Sound.IsSound}
+use Rattle.lft_ir.specs.declared.parts.{Name.{Name, TheVariants.{Port, Action}}, Reaction.Reaction, Trigger.{Trigger, TheVariants.On}}
 use Rattle.lft_ir.proofs.Naming.{named_on}
-use Rattle.lft_lists.proofs.Members.{Mem, mem_cases, mem_left, mem_right, mem_contains, contains_mem, mem_from_filter}
-use Rattle.lft_lists.proofs.Picked.{take_one_more}
+use Rattle.lft_lists.proofs.{Members.{Mem, mem_cases, mem_left, mem_right, mem_contains, contains_mem, mem_from_filter}, Picked.take_one_more}
 use Rattle.lft_lists.proofs.Places.{get_there, at_contains, get_same, length_same, get_written, get_unwritten, get_write_cases, same_at}
 use Rattle.lft_queue.specs.Reading.{Reads, is_read, AreMarked}
 

@@ -1,26 +1,12 @@
 -- The names that have an event at a tag.
 use Rattle.std.proofs.Common.{◌≡◌, ◌↔◌, ◌∙◌, ◌⊎◌, inl, inr, ◌<◌, ℕ, zero, suc, List, [], ◌∷◌, length, map, get_or, Some, IsSome, refl, sym, ap, subst, arith, Bool, true, false, cond, ◌&&◌, ◌==◌, eqb-true, Contains}
-use Rattle.std.specs.List.{AllByRecursion, filter}
-use Rattle.std.specs.List.Sorted.{IsStrictlySortedBy}
-use Rattle.std.specs.Map.{keys_of}
-use Rattle.std.specs.declared.cmp.Ordering.{Ordering}
-use Rattle.std.specs.declared.cmp.Ordering.TheVariants.{Less, Equal, Greater}
-use Rattle.std.specs.Ordering.{is_le, nat_cmp, bool_cmp, ordering_then}
-use Rattle.std.proofs.lemmas.Bool.{false≢true}
-use Rattle.std.proofs.lemmas.Bool.Decides.{nat_tests}
-use Rattle.std.proofs.lemmas.List.Kept.{IsStrictlySortedBy-filter}
-use Rattle.lft_tag.specs.declared.Tag.{Tag}
-use Rattle.lft_tag.specs.Tags.{Before, UpTo, same_tag}
-use Rattle.lft_tag.proofs.Order.{Before-UpTo}
-use Rattle.lft_ir.specs.declared.parts.Value.{Value}
-use Rattle.lft_ir.specs.declared.parts.Name.{Name}
-use Rattle.lft_ir.specs.declared.parts.Name.TheVariants.{Port}
-use Rattle.lft_ir.specs.Naming.{same_name}
-use Rattle.lft_ir.proofs.Naming.{name_same, name_self}
-use Rattle.lft_queue.specs.Pending.{Pending, value_of, is_at, names_at}
-use Rattle.lft_queue.specs.Keys.{Key, key_of, tag_of, pending_at, key_cmp, AreFrom}
-use Rattle.lft_queue.proofs.Entries.{follows, equal_up}
-use Rattle.lft_queue.proofs.Tests.{tag_apart, past}
+use Rattle.std.specs.{List.{AllByRecursion, filter, Sorted.IsStrictlySortedBy}, Map.keys_of}
+use Rattle.std.specs.{declared.cmp.Ordering.{Ordering, TheVariants.{Less, Equal, Greater}}, Ordering.{is_le, nat_cmp, bool_cmp, ordering_then}}
+use Rattle.std.proofs.lemmas.{Bool.{false≢true, Decides.nat_tests}, List.Kept.IsStrictlySortedBy-filter}
+use Rattle.lft_tag.{specs.{declared.Tag.Tag, Tags.{Before, UpTo, same_tag}}, proofs.Order.Before-UpTo}
+use Rattle.lft_ir.{specs.{declared.parts.{Value.Value, Name.{Name, TheVariants.Port}}, Naming.same_name}, proofs.Naming.{name_same, name_self}}
+use Rattle.lft_queue.specs.{Pending.{Pending, value_of, is_at, names_at}, Keys.{Key, key_of, tag_of, pending_at, key_cmp, AreFrom}}
+use Rattle.lft_queue.proofs.{Entries.{follows, equal_up}, Tests.{tag_apart, past}}
 
 contains_first : {X : Type 0} (x : X) (xs : List X) → Contains (x ∷ xs) x
 contains_first x xs = (0, omega arith, refl)

@@ -1,12 +1,8 @@
 -- The tests of names and tags.
 use Rattle.std.proofs.Common.{◌≡◌, ℕ, zero, suc, ◌+◌, ◌⊎◌, inl, inr, ◌<◌, refl, ap, arith, Bool, true, false, ◌&&◌, ◌||◌, ◌==◌, ltb, eqb-true, eq-eqb, ne_eqb}
-use Rattle.std.proofs.lemmas.Bool.Decides.{nat_tests}
-use Rattle.std.proofs.lemmas.Bool.{ltb-true}
-use Rattle.lft_tag.specs.declared.Tag.{Tag}
-use Rattle.lft_tag.specs.Tags.{Before, UpTo, same_tag, is_before}
-use Rattle.lft_tag.specs.Shifts.{Folded, shifted}
-use Rattle.lft_tag.proofs.Order.{order_cases, UpTo_antisym}
-use Rattle.lft_tag.proofs.Chains.{tag_of}
+use Rattle.std.proofs.lemmas.Bool.{ltb-true, Decides.nat_tests}
+use Rattle.lft_tag.specs.{declared.Tag.Tag, Tags.{Before, UpTo, same_tag, is_before}, Shifts.{Folded, shifted}}
+use Rattle.lft_tag.proofs.{Order.{order_cases, UpTo_antisym}, Chains.tag_of}
 
 -- a tag is none of the later ones
 pub tag_apart : (g h : Tag) → Before g h → same_tag g h ≡ false

@@ -1,11 +1,8 @@
 -- What contracts see of a queue: the events that are to happen, as a map from tag and name to value.
 use Rattle.std.specs.Prelude.{◌≡◌, Bool, false, cond, ◌&&◌, List, [], ◌∷◌, map, filter, Option, Some, None}
 use Rattle.std.specs.List.{AllPairs}
-use Rattle.lft_tag.specs.declared.Tag.{Tag}
-use Rattle.lft_tag.specs.Tags.{same_tag, is_before}
-use Rattle.lft_ir.specs.declared.parts.Value.{Value}
-use Rattle.lft_ir.specs.Naming.{same_name}
-use Rattle.lft_ir.specs.declared.parts.Name.{Name}
+use Rattle.lft_tag.specs.{declared.Tag.Tag, Tags.{same_tag, is_before}}
+use Rattle.lft_ir.specs.{declared.parts.{Value.Value, Name.Name}, Naming.same_name}
 
 -- an event that is to happen
 pub record Pending : Type 0 where

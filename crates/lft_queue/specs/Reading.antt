@@ -1,10 +1,7 @@
 -- Which ports reactions read.
 use Rattle.std.specs.Prelude.{◌≡◌, ◌↔◌, ◌<◌, ℕ, Bool, true, List, Some, Contains, length, slice_get}
 use Rattle.std.specs.List.{list_any}
-use Rattle.lft_ir.specs.Parts.{Parts, inputs}
-use Rattle.lft_ir.specs.Naming.{is_port}
-use Rattle.lft_ir.specs.declared.parts.Name.TheVariants.{Port}
-use Rattle.lft_ir.specs.declared.parts.Reaction.{Reaction}
+use Rattle.lft_ir.specs.{Parts.{Parts, inputs}, Naming.is_port, declared.parts.{Name.TheVariants.Port, Reaction.Reaction}}
 
 -- reaction r reads port p: it is a trigger or a use
 abbrev pub Reads : Parts → ℕ → ℕ → Type 0

@@ -5,14 +5,10 @@ use native.Mathlib.Decide.{ℕ_discrete, dec_lt}
 use Rattle.lft_lists.proofs.Places.{get_write_cases, get_unwritten, Some_same}
 use Rattle.lft_graph.specs.Sets.{Has}
 use Rattle.lft_tag.specs.declared.Tag.{Tag}
-use Rattle.lft_ir.specs.declared.steps.row.Row.{Row}
-use Rattle.lft_ir.specs.declared.steps.row.Step.TheVariants.{Start, End}
-use Rattle.lft_rows.specs.declared.slices.Slice.{Slice}
-use Rattle.lft_rows.specs.Slices.{IsSlice}
-use Rattle.lft_rows.proofs.Steps.{row_eq}
+use Rattle.lft_ir.specs.declared.steps.row.{Row.Row, Step.TheVariants.{Start, End}}
+use Rattle.lft_rows.{specs.{declared.slices.Slice.Slice, Slices.IsSlice}, proofs.Steps.row_eq}
 use Rattle.lft_model.specs.Runs.{start_row, end_row}
-use Rattle.lft_races.specs.Runs.{StartsAt, EndsAt, HaveRun}
-use Rattle.lft_races.specs.Races.{NotEnded, IsUnfinished, AreUnfinished}
+use Rattle.lft_races.specs.{Runs.{StartsAt, EndsAt, HaveRun}, Races.{NotEnded, IsUnfinished, AreUnfinished}}
 use Rattle.lft_races.specs.Noted.{EndRuns, AreUpTo, IsNoted, AreNoted, HasUnfinished, HasOpen}
 
 -- a row of a step and a tag

@@ -4,8 +4,7 @@ use native.Mathlib.Decide.{ℕ_discrete}
 use Rattle.lft_lists.proofs.Places.{get_same, get_write_cases, get_written, get_unwritten, Some_same}
 use Rattle.lft_tag.specs.declared.Tag.{Tag}
 use Rattle.lft_ir.specs.declared.steps.row.Row.{Row}
-use Rattle.lft_model.specs.Runs.{start_row}
-use Rattle.lft_model.proofs.Places.{slice_get_within}
+use Rattle.lft_model.{specs.Runs.start_row, proofs.Places.slice_get_within}
 use Rattle.lft_races.specs.Runs.{StartsAt, HaveRunBefore, HaveRun}
 
 pub run_none : (t : List Row) (g : Tag) (n : ℕ) (ran : List Bool) → ran ≡ replicate n false → HaveRunBefore t g 0 ran

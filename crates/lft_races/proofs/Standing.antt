@@ -2,22 +2,13 @@
 use Rattle.std.proofs.Common.{◌≡◌, ℕ, ◌+◌, ◌<◌, ◌≤◌, ◌⊎◌, inl, inr, List, length, take, refl, sym, ap, ◌∙◌, subst, arith, Option, Some, None, slice_get}
 use native.Mathlib.Decide.{ℕ_discrete, dec_lt}
 use Rattle.lft_lists.proofs.Places.{same_at, get_there, Some_same}
-use Rattle.lft_tag.specs.declared.Tag.{Tag}
-use Rattle.lft_tag.specs.Tags.{Before, UpTo}
-use Rattle.lft_tag.proofs.Order.{order_cases, UpTo-not, Before-UpTo}
-use Rattle.lft_ir.specs.Parts.{Parts}
-use Rattle.lft_ir.specs.declared.steps.row.Row.{Row}
-use Rattle.lft_ir.specs.declared.steps.row.Step.TheVariants.{Start, End}
-use Rattle.lft_model.specs.declared.breach.Breach.{Breach}
-use Rattle.lft_model.specs.Plans.{PlanParts}
-use Rattle.lft_model.specs.Runs.{start_row, end_row}
-use Rattle.lft_model.specs.Breaches.{IsOpen, BreaksRow, BreaksAt, RowBreach, First}
+use Rattle.lft_tag.{specs.{declared.Tag.Tag, Tags.{Before, UpTo}}, proofs.Order.{order_cases, UpTo-not, Before-UpTo}}
+use Rattle.lft_ir.specs.{Parts.Parts, declared.steps.row.{Row.Row, Step.TheVariants.{Start, End}}}
+use Rattle.lft_model.specs.{declared.breach.Breach.Breach, Plans.PlanParts, Runs.{start_row, end_row}, Breaches.{IsOpen, BreaksRow, BreaksAt, RowBreach, First}}
 use Rattle.lft_model.proofs.Places.{stable, dec_both, dec_below, dec_end_at, slice_get_within, slice_get_take, slice_get_taken}
 use Rattle.lft_model.proofs.Legality.{KeepsRows, four, rising, dec_open}
 use Rattle.lft_rows.specs.Slices.{Rises}
-use Rattle.lft_races.specs.Runs.{EndsAt}
-use Rattle.lft_races.specs.Races.{FirstSoFar, NotEnded, IsUnfinished, IsRace, StandBefore, IsRaceBefore, EndLater}
-use Rattle.lft_races.specs.Noted.{EndRuns}
+use Rattle.lft_races.specs.{Runs.EndsAt, Races.{FirstSoFar, NotEnded, IsUnfinished, IsRace, StandBefore, IsRaceBefore, EndLater}, Noted.EndRuns}
 
 -- a breach of no row is the first of all
 pub first_of_tag : (plan : PlanParts) (t : List Row) (b : Breach) → FirstSoFar plan t b → b.row ≡ 0 → First plan t b

@@ -1,13 +1,11 @@
 -- What is known of the rows of a tag while they are gone through. The contracts of private functions alone need this file.
 use Rattle.std.specs.Prelude.{◌≡◌, ◌↔◌, ℕ, ◌+◌, ◌<◌, ◌≤◌, ◌⊎◌, List, Option, MatchOption, Some, slice_get}
 use Rattle.lft_tag.specs.declared.Tag.{Tag}
-use Rattle.lft_ir.specs.Parts.{Parts}
+use Rattle.lft_ir.specs.{Parts.Parts, declared.steps.row.Row.Row}
 use Rattle.lft_graph.specs.Sets.{Has}
-use Rattle.lft_ir.specs.declared.steps.row.Row.{Row}
 use Rattle.lft_rows.specs.declared.slices.Slice.{Slice}
 use Rattle.lft_model.specs.Runs.{Ran}
-use Rattle.lft_races.specs.Runs.{StartsAt, EndsAt}
-use Rattle.lft_races.specs.Races.{NotEnded, IsUnfinished, IsRace}
+use Rattle.lft_races.specs.{Runs.{StartsAt, EndsAt}, Races.{NotEnded, IsUnfinished, IsRace}}
 
 -- no row from place n on is at the tag of one before it
 abbrev pub IsNew : List Row → ℕ → Type 0

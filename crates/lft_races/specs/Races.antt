@@ -1,15 +1,9 @@
 -- Races: runs that start although one that precedes them at their tag hasn't ended.
 use Rattle.std.specs.Prelude.{◌≡◌, ◌↔◌, ℕ, ◌+◌, ◌<◌, ◌≤◌, ◌⊎◌, Bool, true, List, length, take, Option, Some, MatchOption, slice_get}
-use Rattle.lft_tag.specs.declared.Tag.{Tag}
-use Rattle.lft_tag.specs.Tags.{UpTo}
-use Rattle.lft_ir.specs.Parts.{Parts}
+use Rattle.lft_tag.specs.{declared.Tag.Tag, Tags.UpTo}
+use Rattle.lft_ir.specs.{Parts.Parts, declared.steps.row.{Row.Row, Step.TheVariants.Start}}
 use Rattle.lft_graph.specs.Precedence.{Precedes}
-use Rattle.lft_ir.specs.declared.steps.row.Row.{Row}
-use Rattle.lft_ir.specs.declared.steps.row.Step.TheVariants.{Start}
-use Rattle.lft_model.specs.declared.breach.Breach.{Breach}
-use Rattle.lft_model.specs.Plans.{PlanParts}
-use Rattle.lft_model.specs.Breaches.{First, RowBreach, RowOrder}
-use Rattle.lft_model.specs.Runs.{Ran}
+use Rattle.lft_model.specs.{declared.breach.Breach.Breach, Plans.PlanParts, Breaches.{First, RowBreach, RowOrder}, Runs.Ran}
 use Rattle.lft_races.specs.Runs.{StartsAt, EndsAt}
 
 -- the first row that breaks one of the rules 1 to 4, whichever runs have no end

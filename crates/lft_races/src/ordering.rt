@@ -1,13 +1,10 @@
 //! Rules 1, 3 and 4: which row before it a row contradicts.
 
 ghost use Rattle.std.specs.Prelude.{◌≡◌, ◌↔◌, ◌<◌, ℕ, Some, length, slice_get, IsTrue, IfSome, IfNone};
-ghost use Rattle.lft_tag.specs.declared.Tag.{Tag as TheTag};
-ghost use Rattle.lft_tag.specs.Tags.{Before};
+ghost use Rattle.lft_tag.specs.{declared.Tag.Tag as TheTag, Tags.Before};
 ghost use Rattle.lft_ir.specs.declared.steps.row.Row.{Row as TheRow};
-ghost use Rattle.lft_model.specs.Breaches.{IsLate, IsOpen, WasStarted, WasRead};
-ghost use Rattle.lft_model.specs.Runs.{end_row};
-ghost use Rattle.lft_races.specs.Runs.{StartsAt, IsOpenSince};
-ghost use Rattle.lft_races.specs.Across.{OpensRun, ReadsAt};
+ghost use Rattle.lft_model.specs.{Breaches.{IsLate, IsOpen, WasStarted, WasRead}, Runs.end_row};
+ghost use Rattle.lft_races.specs.{Runs.{StartsAt, IsOpenSince}, Across.{OpensRun, ReadsAt}};
 
 use crate::runs::is_start_at;
 use lft_ir::Name;

@@ -2,26 +2,19 @@
 use Rattle.std.proofs.Common.{◌≡◌, ◌≢◌, ◌∙◌, inl, inr, ◌<◌, ◌==◌, ◌++◌, ℕ, List, [], ◌∷◌, length, Option, Some, None, Bool, true, false, filter_map, get_or, slice_get, refl, sym, ap, arith, append-nil}
 use Rattle.std.specs.Prelude.{not, is_some, option_to_list}
 use Rattle.std.specs.List.{All}
-use Rattle.std.proofs.lemmas.Bool.{cases_Bool}
-use Rattle.std.proofs.lemmas.Bool.Decides.{nat_tests}
-use Rattle.std.proofs.lemmas.List.Elements.{filter_map-append}
+use Rattle.std.proofs.lemmas.{Bool.{cases_Bool, Decides.nat_tests}, List.Elements.filter_map-append}
 use Rattle.std.proofs.lemmas.Option.{slice_get-get_or, slice_get_within, get_or_from_slice_get}
 use Rattle.csv.specs.Records.{fields_of}
 use Rattle.lft_ir.specs.Parts.{Parts}
 use Rattle.lft_resolve.proofs.Placing.{not_some}
 use Rattle.lft_record.specs.CardTables.{AreTold, CardsFail, FaultAt, IsAgain, IsCard, IsScript, card_tables, entries_of, entry_bodies, entry_of, entry_state, entry_step, header}
 use Rattle.lft_record.specs.Scripts.{Adds, blank, is_taken, with_entry}
-use Rattle.lft_record.specs.declared.cards.card.Card.{Card}
-use Rattle.lft_record.specs.declared.cards.card.CardStep.{CardStep}
-use Rattle.lft_record.specs.declared.cards.card.CardEntry.{CardEntry}
-use Rattle.lft_record.specs.declared.cards.card.CardEntry.TheVariants as entry
-use Rattle.lft_record.specs.declared.cards.Script.{Script}
-use Rattle.lft_record.specs.declared.cards.expression.Term.{Term}
+use Rattle.lft_record.specs.declared.cards.{card.{Card.Card, CardStep.CardStep, CardEntry.CardEntry}, Script.Script, expression.Term.Term}
 use Rattle.lft_record.specs.declared.cards.fault.CardFault.{CardFault}
-use Rattle.lft_record.specs.declared.cards.fault.CardFault.TheVariants as fault
-use Rattle.lft_trace.specs.Records.{IsNext, IsUnread, records_of}
-use Rattle.lft_trace.specs.declared.records.Records.{Records}
+use Rattle.lft_trace.specs.{Records.{IsNext, IsUnread, records_of}, declared.records.Records.Records}
 use Rattle.lft_trace.proofs.TableFacts.{Read, Texts, bad as bad_record, one_more as read_more, start as first}
+use Rattle.lft_record.specs.declared.cards.card.CardEntry.TheVariants as entry
+use Rattle.lft_record.specs.declared.cards.fault.CardFault.TheVariants as fault
 
 -- what is read up to a line: the header and the records of some cards, and the scripts that they tell
 pub record Gathered (program : Parts) (records : Texts) (scripts : List Script) (r : Records) : Type 0 where

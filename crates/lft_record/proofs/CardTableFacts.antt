@@ -1,20 +1,13 @@
 -- Records have one table of cards, or a fault.
 use Rattle.std.proofs.Common.{◌≡◌, ◌≢◌, ◌∙◌, inl, inr, ◌++◌, ℕ, zero, suc, List, [], ◌∷◌, length, Option, Some, None, filter_map, get_or, slice_get, refl, sym, ap, arith}
 use Rattle.std.specs.Prelude.{option_to_list}
-use Rattle.std.proofs.lemmas.List.Elements.{filter_map-append}
-use Rattle.std.proofs.lemmas.Option.{slice_get-get_or, slice_get_within}
-use Rattle.lft_ir.specs.Parts.{Parts}
-use Rattle.lft_ir.specs.Sound.{IsSound}
+use Rattle.std.proofs.lemmas.{List.Elements.filter_map-append, Option.{slice_get-get_or, slice_get_within}}
+use Rattle.lft_ir.specs.{Parts.Parts, Sound.IsSound}
 use Rattle.lft_trace.proofs.TableFacts.{Texts, holds_no_fault, one_reading}
 use Rattle.lft_record.specs.CardTables.{AreTold, CardTable, CardsFail, FaultAt, IsCard, IsScript, card_tables, entries_of, entry_bodies, entry_of, entry_state}
-use Rattle.lft_record.specs.Scripts.{blank}
-use Rattle.lft_record.specs.declared.cards.card.Card.{Card}
-use Rattle.lft_record.specs.declared.cards.card.CardEntry.{CardEntry}
-use Rattle.lft_record.specs.declared.cards.Script.{Script}
-use Rattle.lft_record.specs.declared.cards.fault.CardFault.{CardFault}
+use Rattle.lft_record.specs.{Scripts.blank, declared.cards.{card.{Card.Card, CardEntry.CardEntry}, Script.Script, fault.CardFault.CardFault}}
+use Rattle.lft_record.proofs.{CardFacts.is_own, CardsDiffer.{count_there, empty_there, kind_there, name_there, number_there, one_card, value_there}}
 use Rattle.lft_record.specs.declared.cards.fault.CardFault.TheVariants as fault
-use Rattle.lft_record.proofs.CardFacts.{is_own}
-use Rattle.lft_record.proofs.CardsDiffer.{count_there, empty_there, kind_there, name_there, number_there, one_card, value_there}
 
 one_item : {X : Type 0} (a b : Option X) → option_to_list a ≡ option_to_list b → a ≡ b
 one_item None None h = refl

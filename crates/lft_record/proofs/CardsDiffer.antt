@@ -2,20 +2,15 @@
 use Rattle.std.proofs.Common.{◌≡◌, ◌≢◌, ◌∙◌, ◌⊎◌, inl, inr, ℕ, List, [], length, get_or, true, false, Some, refl, sym, ap, ◌&&◌, ◌||◌}
 use Rattle.std.specs.Prelude.{codes, if◌then◌else◌}
 use Rattle.std.specs.Str.{bytes_eq}
-use Rattle.lft_ir.specs.Names.{IsNamed}
-use Rattle.lft_ir.specs.Parts.{Parts}
-use Rattle.lft_ir.specs.Sound.{IsSound}
-use Rattle.lft_ir.specs.declared.found.Found.TheVariants as found
+use Rattle.lft_ir.specs.{Names.IsNamed, Parts.Parts, Sound.IsSound}
 use Rattle.lft_record.specs.CardTables.{CardFields, HasBadValue, IsCard, IsContent, IsOf, IsOfKind, IsUnknown, IsUnspelled, has_numbers, in_order, is_filled, word}
-use Rattle.lft_record.specs.declared.cards.card.Card.{Card}
-use Rattle.lft_record.specs.declared.cards.card.CardStep.TheVariants as step
-use Rattle.lft_record.specs.declared.cards.card.CardValue.{CardValue}
-use Rattle.lft_record.specs.declared.cards.card.CardValue.TheVariants as content
-use Rattle.lft_record.specs.declared.cards.card.CardEntry.{CardEntry}
-use Rattle.lft_record.specs.declared.cards.card.CardEntry.TheVariants as entry
-use Rattle.lft_record.specs.declared.cards.kind.CardKind.{CardKind}
-use Rattle.lft_record.specs.declared.cards.kind.CardKind.TheVariants as kind
+use Rattle.lft_record.specs.declared.cards.{card.{Card.Card, CardValue.CardValue, CardEntry.CardEntry}, kind.CardKind.CardKind}
 use Rattle.lft_record.proofs.TermsDiffer.{one_expression, one_thing}
+use Rattle.lft_ir.specs.declared.found.Found.TheVariants as found
+use Rattle.lft_record.specs.declared.cards.card.CardStep.TheVariants as step
+use Rattle.lft_record.specs.declared.cards.card.CardValue.TheVariants as content
+use Rattle.lft_record.specs.declared.cards.card.CardEntry.TheVariants as entry
+use Rattle.lft_record.specs.declared.cards.kind.CardKind.TheVariants as kind
 
 -- the fields by their places
 abbrev of_list : List (List ℕ) → CardFields

@@ -1,15 +1,9 @@
 -- Where a name stands among the inputs of a reaction.
 use Rattle.std.proofs.Common.{◌≡◌, ◌≢◌, ◌∙◌, ◌⊎◌, inl, inr, ◌+◌, ◌<◌, ◌≤◌, ℕ, zero, suc, List, [], ◌∷◌, ◌++◌, length, take, filter_map, Some, None, slice_get, refl, sym, subst, arith, append-nil, length-append}
 use Rattle.lft_lists.proofs.Picked.{kept_more}
-use Rattle.std.proofs.lemmas.Bool.{cases_lt}
-use Rattle.std.proofs.lemmas.List.{take_all}
-use Rattle.std.proofs.lemmas.Option.{slice_get_within}
-use Rattle.lft_ir.specs.Parts.{inputs}
-use Rattle.lft_ir.specs.Naming.{named}
-use Rattle.lft_ir.specs.declared.parts.Name.{Name}
-use Rattle.lft_ir.specs.declared.parts.Reaction.{Reaction}
-use Rattle.lft_ir.specs.declared.parts.Trigger.{Trigger}
-use Rattle.lft_ir.specs.declared.parts.Trigger.TheVariants.{Startup, Shutdown, Timer, On}
+use Rattle.std.proofs.lemmas.{Bool.cases_lt, List.take_all, Option.slice_get_within}
+use Rattle.lft_ir.specs.{Parts.inputs, Naming.named}
+use Rattle.lft_ir.specs.declared.parts.{Name.Name, Reaction.Reaction, Trigger.{Trigger, TheVariants.{Startup, Shutdown, Timer, On}}}
 
 -- a name that a trigger names stands behind those that the triggers before it name
 pub at_trigger : (xs : List Trigger) (us : List Name) (at : ℕ) (n : Name) → slice_get xs at ≡ Some (On n) → slice_get (filter_map named xs ++ us) (length (filter_map named (take at xs))) ≡ Some n

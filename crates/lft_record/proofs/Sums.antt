@@ -1,14 +1,11 @@
 -- Sums that wrap on the way are the sum that wraps at the end.
 use Rattle.std.proofs.Common.{◌≡◌, ◌∙◌, ◌+◌, ◌%◌, ◌<◌, ◌^◌, add-one, FitsSigned, ℕ, ℤ, pos, List, [], ◌∷◌, ◌++◌, map, take, Some, slice_get, sym, ap}
 use Rattle.std.specs.Prelude.{◌+ℤ◌}
-use Rattle.std.proofs.Math.IntN.{+ℤ_assoc, +ℤ_comm}
-use Rattle.std.proofs.Math.Nat.{mod-eq_of_lt}
-use Rattle.std.proofs.lemmas.List.{map-append}
+use Rattle.std.proofs.Math.{IntN.{+ℤ_assoc, +ℤ_comm}, Nat.mod-eq_of_lt}
+use Rattle.std.proofs.lemmas.{List.map-append, Int.{int_wrap-add_left, int_wrap-add_right, wrapping_add_onto}}
 use Rattle.std.specs.Int.{int_wrap, cast_signed, cast_unsigned, w64}
-use Rattle.std.proofs.lemmas.Int.{int_wrap-add_left, int_wrap-add_right, wrapping_add_onto}
 use Rattle.lft_lists.proofs.Picked.{take_next}
-use Rattle.lft_record.specs.Expressions.{total}
-use Rattle.lft_record.specs.declared.cards.expression.Term.{Term}
+use Rattle.lft_record.specs.{Expressions.total, declared.cards.expression.Term.Term}
 
 pub wrap_natural : (n : ℕ) → n < 2 ^ 64 → int_wrap w64 (pos n) ≡ cast_signed w64 n
 unfolding int_wrap

@@ -1,19 +1,11 @@
 -- A text spells one term, and one expression.
 use Rattle.std.proofs.Common.{◌≡◌, ◌≢◌, ◌∙◌, ◌⊎◌, inl, inr, ◌<◌, ℕ, zero, suc, List, [], ◌∷◌, length, Some, get_or, refl, sym, ap, arith}
 use Rattle.std.specs.Prelude.{codes, slice_get, AllPairs}
-use Rattle.std.specs.List.{AllZip}
-use Rattle.std.proofs.lemmas.Bool.{cases_lt}
-use Rattle.std.proofs.lemmas.Option.{get_or_from_slice_get, slice_get_within}
-use Rattle.lft_ir.specs.Names.{AreDistinct}
-use Rattle.lft_ir.specs.Parts.{Parts, inputs}
-use Rattle.lft_ir.specs.Sound.{IsSound}
-use Rattle.lft_ir.specs.declared.parts.Name.{Name}
-use Rattle.lft_ir.specs.declared.parts.Value.TheVariants.{Int}
-use Rattle.lft_trace.specs.Traces.{IsThing, thing}
-use Rattle.lft_trace.proofs.RowsDiffer.{same_thing}
+use Rattle.std.{specs.List.AllZip, proofs.lemmas.{Bool.cases_lt, Option.{get_or_from_slice_get, slice_get_within}}}
+use Rattle.lft_ir.specs.{Names.AreDistinct, Parts.{Parts, inputs}, Sound.IsSound, declared.parts.{Name.Name, Value.TheVariants.Int}}
+use Rattle.lft_trace.{specs.Traces.{IsThing, thing}, proofs.RowsDiffer.same_thing}
 use Rattle.lft_lists.proofs.Zips.{same}
-use Rattle.lft_record.specs.Expressions.{IsExpression, IsInput, IsLiteral, IsTerm}
-use Rattle.lft_record.specs.declared.cards.expression.Term.{Term}
+use Rattle.lft_record.specs.{Expressions.{IsExpression, IsInput, IsLiteral, IsTerm}, declared.cards.expression.Term.Term}
 use Rattle.lft_record.specs.declared.cards.expression.Term.TheVariants as term
 
 pub one_thing : (program : Parts) (text : List ℕ) (m n : Name) → AreDistinct program.names → IsThing program text m → IsThing program text n → m ≡ n

@@ -3,17 +3,10 @@ use Rattle.std.specs.Prelude.{◌≡◌, ◌⊎◌, ℕ, List, Option, true}
 use Rattle.std.specs.Io.KnownBytes.{Keeps}
 use Rattle.lft_trace.specs.Records.{records_of}
 use Rattle.lft_model.specs.Plans.{PlanParts}
-use Rattle.lft_record.specs.CardTables.{CardTable, CardsFail}
-use Rattle.lft_record.specs.CardFaults.{is_told}
-use Rattle.lft_record.specs.declared.cards.Script.{Script}
-use Rattle.lft_record.specs.declared.cards.fault.CardFault.{CardFault}
-use Rattle.lft_load.specs.Meaning.{IsPlanOf, OfOnly}
-use Rattle.lft_load.specs.Refusals.{LoadRefusal}
-use Rattle.lft_load.specs.declared.fault.Fault.{Fault}
+use Rattle.lft_record.specs.{CardTables.{CardTable, CardsFail}, CardFaults.is_told, declared.cards.{Script.Script, fault.CardFault.CardFault}}
+use Rattle.lft_record.specs.{Faults.card_number, Recordings.{IsRecorded, RecordRefusal}, Scripts.card_law}
+use Rattle.lft_load.specs.{Meaning.{IsPlanOf, OfOnly}, Refusals.LoadRefusal, declared.fault.Fault.Fault}
 use Rattle.lft_load.specs.declared.fault.Part.TheVariants as part
-use Rattle.lft_record.specs.Faults.{card_number}
-use Rattle.lft_record.specs.Recordings.{IsRecorded, RecordRefusal}
-use Rattle.lft_record.specs.Scripts.{card_law}
 
 -- the plan was recorded to its stop, and each ended run answered what the cards say
 pub record IsAnswerUnder (plan : PlanParts) (cards : List ℕ) (workers max_runs : ℕ) (old new : Option (List ℕ)) : Type 0 where

@@ -1,25 +1,15 @@
 -- Tables of cards: the scripts of their records, and their faults.
 use Rattle.std.specs.Prelude.{◌≡◌, ◌≢◌, ◌==◌, ◌⊎◌, ℕ, List, [], ◌∷◌, length, codes, slice_get, filter_map, option_to_list, cond, Bool, true, false, not, ◌&&◌, ◌||◌, is_some, Option, Some, None}
-use Rattle.lft_ir.specs.Names.{IsNamed}
-use Rattle.lft_ir.specs.Parts.{Parts}
-use Rattle.lft_ir.specs.declared.found.Found.TheVariants as found
-use Rattle.lft_ir.specs.declared.parts.Name.{Name}
-use Rattle.lft_trace.specs.Numbers.{number, number_or_zero}
-use Rattle.lft_trace.specs.Tables.{Fails, Holds, TableKind}
-use Rattle.lft_trace.specs.Traces.{IsThing, is_empty}
+use Rattle.lft_ir.specs.{Names.IsNamed, Parts.Parts, declared.parts.Name.Name}
+use Rattle.lft_trace.specs.{Numbers.{number, number_or_zero}, Tables.{Fails, Holds, TableKind}, Traces.{IsThing, is_empty}}
 use Rattle.lft_record.specs.Expressions.{IsExpression}
-use Rattle.lft_record.specs.declared.cards.card.Card.{Card}
-use Rattle.lft_record.specs.declared.cards.card.CardStep.{CardStep}
+use Rattle.lft_record.specs.declared.cards.{card.{Card.Card, CardStep.CardStep, CardValue.CardValue, CardEntry.CardEntry}, Script.Script, expression.Term.Term}
+use Rattle.lft_record.specs.declared.cards.{fault.CardFault.CardFault, kind.CardKind.CardKind}
+use Rattle.lft_ir.specs.declared.found.Found.TheVariants as found
 use Rattle.lft_record.specs.declared.cards.card.CardStep.TheVariants as step
-use Rattle.lft_record.specs.declared.cards.card.CardValue.{CardValue}
 use Rattle.lft_record.specs.declared.cards.card.CardValue.TheVariants as content
-use Rattle.lft_record.specs.declared.cards.card.CardEntry.{CardEntry}
 use Rattle.lft_record.specs.declared.cards.card.CardEntry.TheVariants as entry
-use Rattle.lft_record.specs.declared.cards.Script.{Script}
-use Rattle.lft_record.specs.declared.cards.expression.Term.{Term}
-use Rattle.lft_record.specs.declared.cards.fault.CardFault.{CardFault}
 use Rattle.lft_record.specs.declared.cards.fault.CardFault.TheVariants as fault
-use Rattle.lft_record.specs.declared.cards.kind.CardKind.{CardKind}
 use Rattle.lft_record.specs.declared.cards.kind.CardKind.TheVariants as kind
 
 -- the fields of a record of a table of cards

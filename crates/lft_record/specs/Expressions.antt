@@ -1,15 +1,9 @@
 -- Expressions of cards: the texts that spell them, and the numbers that they give.
 use Rattle.std.specs.Prelude.{◌≡◌, ◌==◌, ℕ, ℤ, ◌+ℤ◌, pos, List, [], ◌∷◌, codes, map, slice_get, unwrap_or, Option, Some, None}
-use Rattle.std.specs.List.{AllZip, slice_split}
-use Rattle.std.specs.Int.{int_wrap, w64}
+use Rattle.std.specs.{List.{AllZip, slice_split}, Int.{int_wrap, w64}}
 use Rattle.lft_tag.specs.declared.Tag.{Tag}
-use Rattle.lft_ir.specs.Parts.{Parts, inputs}
-use Rattle.lft_ir.specs.declared.parts.Name.{Name}
-use Rattle.lft_ir.specs.declared.parts.Reaction.{Reaction}
-use Rattle.lft_ir.specs.declared.parts.Value.{Value}
-use Rattle.lft_ir.specs.declared.parts.Value.TheVariants.{Bare, Int}
-use Rattle.lft_trace.specs.Numbers.{value}
-use Rattle.lft_trace.specs.Traces.{IsThing}
+use Rattle.lft_ir.specs.{Parts.{Parts, inputs}, declared.parts.{Name.Name, Reaction.Reaction, Value.{Value, TheVariants.{Bare, Int}}}}
+use Rattle.lft_trace.specs.{Numbers.value, Traces.IsThing}
 use Rattle.lft_record.specs.declared.cards.expression.Term.{Term}
 use Rattle.lft_record.specs.declared.cards.expression.Term.TheVariants as term
 

@@ -1,8 +1,8 @@
 -- The numbers of the faults of cards and of recordings.
 use Rattle.std.specs.Prelude.{ℕ}
 use Rattle.lft_record.specs.declared.cards.fault.CardFault.{CardFault}
-use Rattle.lft_record.specs.declared.cards.fault.CardFault.TheVariants as card
 use Rattle.lft_pool.specs.declared.stop.Stop.{Stop}
+use Rattle.lft_record.specs.declared.cards.fault.CardFault.TheVariants as card
 use Rattle.lft_pool.specs.declared.stop.Stop.TheVariants as stop
 
 -- the number of a fault of a table of cards

@@ -2,25 +2,15 @@
 use Rattle.std.specs.Prelude.{◌≡◌, ◌≢◌, ◌≤◌, ◌⊎◌, ℕ, ℤ, List, [], Option, None}
 use Rattle.std.specs.Io.KnownBytes.{Appends, Keeps}
 use Rattle.lft_tag.specs.declared.Tag.{Tag}
-use Rattle.lft_ir.specs.Parts.{Parts}
-use Rattle.lft_ir.specs.declared.parts.Value.{Value}
-use Rattle.lft_trace.specs.Records.{records_of}
-use Rattle.lft_trace.specs.Traces.{Table}
-use Rattle.lft_trace.specs.Written.{table_text}
-use Rattle.lft_ir.specs.declared.steps.row.Row.{Row}
-use Rattle.lft_model.specs.Breaches.{Legal}
-use Rattle.lft_model.specs.Plans.{PlanParts}
-use Rattle.lft_model.specs.Workers.{IsWorkers}
-use Rattle.lft_pool.specs.declared.bodies.done.Done.{Done}
+use Rattle.lft_ir.specs.{Parts.Parts, declared.{parts.Value.Value, steps.row.Row.Row}}
+use Rattle.lft_trace.specs.{Records.records_of, Traces.Table, Written.table_text}
+use Rattle.lft_model.specs.{Breaches.Legal, Plans.PlanParts, Workers.IsWorkers}
+use Rattle.lft_pool.specs.{declared.{bodies.done.Done.Done, stop.Stop.Stop}, Books.{IsRecording, LacksBody}, Endings.WhyStopped}
 use Rattle.lft_scheduler.specs.Starts.{SomethingLeft, started_count}
-use Rattle.lft_pool.specs.Books.{IsRecording, LacksBody}
-use Rattle.lft_pool.specs.Endings.{WhyStopped}
-use Rattle.lft_pool.specs.declared.stop.Stop.{Stop}
-use Rattle.lft_pool.specs.declared.stop.Stop.TheVariants as stop
-use Rattle.lft_load.specs.Written.{AppendsFront}
-use Rattle.lft_load.specs.declared.fault.Fault.{Fault}
-use Rattle.lft_load.specs.declared.fault.Part.TheVariants as part
+use Rattle.lft_load.specs.{Written.AppendsFront, declared.fault.Fault.Fault}
 use Rattle.lft_record.specs.Faults.{stop_number}
+use Rattle.lft_pool.specs.declared.stop.Stop.TheVariants as stop
+use Rattle.lft_load.specs.declared.fault.Part.TheVariants as part
 
 -- a relation over the answers of bodies
 abbrev pub AnswerLaw : Type 1

@@ -1,20 +1,14 @@
 -- Scripts by reaction: what cards add to them, and what they answer.
 use Rattle.std.specs.Prelude.{◌≡◌, ◌≢◌, ◌++◌, ◌∷◌, ℕ, ℤ, Bool, false, true, not, is_some, List, [], length, map, slice_get, option_and_then, option_map, unwrap_or, Option, Some, None}
 use Rattle.lft_tag.specs.declared.Tag.{Tag}
-use Rattle.lft_ir.specs.declared.parts.Value.{Value}
-use Rattle.lft_ir.specs.declared.parts.Value.TheVariants.{Bare, Int}
-use Rattle.lft_ir.specs.declared.steps.row.Step.{Step}
-use Rattle.lft_ir.specs.declared.steps.row.Step.TheVariants as row
+use Rattle.lft_ir.specs.declared.{parts.Value.{Value, TheVariants.{Bare, Int}}, steps.row.Step.Step}
 use Rattle.lft_pool.specs.declared.bodies.done.Done.{Done}
 use Rattle.lft_record.specs.Expressions.{expression_value}
-use Rattle.lft_record.specs.declared.cards.card.Card.{Card}
-use Rattle.lft_record.specs.declared.cards.card.CardStep.{CardStep}
+use Rattle.lft_record.specs.declared.cards.{card.{Card.Card, CardStep.CardStep, CardValue.CardValue, CardEntry.CardEntry}, Script.Script}
+use Rattle.lft_ir.specs.declared.steps.row.Step.TheVariants as row
 use Rattle.lft_record.specs.declared.cards.card.CardStep.TheVariants as step
-use Rattle.lft_record.specs.declared.cards.card.CardValue.{CardValue}
 use Rattle.lft_record.specs.declared.cards.card.CardValue.TheVariants as content
-use Rattle.lft_record.specs.declared.cards.card.CardEntry.{CardEntry}
 use Rattle.lft_record.specs.declared.cards.card.CardEntry.TheVariants as entry
-use Rattle.lft_record.specs.declared.cards.Script.{Script}
 
 -- a script of a reaction without cards
 abbrev pub blank : Script

@@ -1,14 +1,10 @@
 -- What the clauses of single steps see of a card's record: its fields by their names.
 use Rattle.std.specs.Prelude.{◌≡◌, ℕ, true, false}
-use Rattle.lft_ir.specs.Names.{IsNamed}
-use Rattle.lft_ir.specs.Parts.{Parts}
-use Rattle.lft_ir.specs.declared.found.Found.TheVariants as found
+use Rattle.lft_ir.specs.{Names.IsNamed, Parts.Parts}
 use Rattle.lft_record.specs.CardTables.{CardFields, HasBadValue, IsOfKind, IsUnknown, has_numbers, is_filled}
-use Rattle.lft_record.specs.declared.cards.card.Card.{Card}
-use Rattle.lft_record.specs.declared.cards.fault.CardFault.{CardFault}
+use Rattle.lft_record.specs.declared.cards.{card.Card.Card, fault.CardFault.CardFault, fields.CardFields.CardFields as FieldsHeld, kind.CardKind.CardKind}
+use Rattle.lft_ir.specs.declared.found.Found.TheVariants as found
 use Rattle.lft_record.specs.declared.cards.fault.CardFault.TheVariants as fault
-use Rattle.lft_record.specs.declared.cards.fields.CardFields.{CardFields as FieldsHeld}
-use Rattle.lft_record.specs.declared.cards.kind.CardKind.{CardKind}
 
 -- the fields of a record, by their names
 abbrev pub card_fields : FieldsHeld → CardFields

@@ -1,8 +1,7 @@
 //! From texts to a recording.
 
 ghost use Rattle.std.specs.Prelude.{◌≡◌, IfOk, IfErr, OnOk, true};
-ghost use Rattle.lft_record.specs.Answers.{AnswerRefusal, AnswerRefusalUnder, IsAnswer, IsAnswerUnder};
-ghost use Rattle.lft_record.specs.Recordings.{IsRecorded, RecordRefusal};
+ghost use Rattle.lft_record.specs.{Answers.{AnswerRefusal, AnswerRefusalUnder, IsAnswer, IsAnswerUnder}, Recordings.{IsRecorded, RecordRefusal}};
 ghost use Rattle.lft_record.specs.Scripts.{card_law};
 
 use crate::bodies::{FollowsCards, Scripted, card_bodies};

@@ -1,8 +1,8 @@
 //! What the faults of cards and of recordings print.
 
 ghost use Rattle.std.specs.Prelude.{◌≡◌, IfOk};
-ghost use Rattle.lft_load.specs.declared.fault.Part.TheVariants as part;
 ghost use Rattle.lft_record.specs.Faults.{card_number, stop_number};
+ghost use Rattle.lft_load.specs.declared.fault.Part.TheVariants as part;
 
 use crate::cards::CardFault;
 use lft_ir::Program;

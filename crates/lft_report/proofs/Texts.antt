@@ -1,12 +1,8 @@
 -- Pieces of a text, and its parts.
 use Rattle.std.proofs.Common.{◌≡◌, ℕ, Bool, List, ◌++◌, append_assoc, ap, ◌∙◌}
-use Rattle.lft_ir.specs.Parts.{Parts}
+use Rattle.lft_ir.specs.{Parts.Parts, declared.steps.row.Row.Row}
 use Rattle.lft_facts.specs.declared.facts.Fact.{Fact}
-use Rattle.lft_ir.specs.declared.steps.row.Row.{Row}
-use Rattle.lft_report.specs.Quotes.Quoted.{quoted}
-use Rattle.lft_report.specs.Sentences.{sentence}
-use Rattle.lft_report.specs.Reads.{table}
-use Rattle.lft_report.specs.Told.{details, part, told}
+use Rattle.lft_report.specs.{Quotes.Quoted.quoted, Sentences.sentence, Reads.table, Told.{details, part, told}}
 
 -- five pieces behind a text
 pub five : (s0 s1 s2 s3 s4 s5 a b c d e : List ℕ) → s1 ≡ s0 ++ a → s2 ≡ s1 ++ b → s3 ≡ s2 ++ c → s4 ≡ s3 ++ d → s5 ≡ s4 ++ e → s5 ≡ s0 ++ (a ++ b ++ c ++ d ++ e)

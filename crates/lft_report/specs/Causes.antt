@@ -1,15 +1,11 @@
 -- The text of why something is present.
 use Rattle.std.specs.Prelude.{ℕ, List, ◌++◌, slice_get, unwrap_or, option_map, codes, decimal}
 use Rattle.lft_tag.specs.declared.Tag.{Tag}
-use Rattle.lft_ir.specs.Parts.{Parts}
-use Rattle.lft_ir.specs.declared.steps.row.Row.{Row}
+use Rattle.lft_ir.specs.{Parts.Parts, declared.steps.row.Row.Row}
+use Rattle.lft_ir.specs.Words.{Words.{time_words, tag_words, port_words, action_words, timer_words}, Lines.{line_words, tag_at, value_at}}
 use Rattle.lft_facts.specs.declared.facts.Cause.{Cause}
+use Rattle.lft_report.specs.{Orders.origin_of, Ways.delays_words, Hops.way_at}
 use Rattle.lft_facts.specs.declared.facts.Cause.TheVariants as cause
-use Rattle.lft_ir.specs.Words.Words.{time_words, tag_words, port_words, action_words, timer_words}
-use Rattle.lft_ir.specs.Words.Lines.{line_words, tag_at, value_at}
-use Rattle.lft_report.specs.Orders.{origin_of}
-use Rattle.lft_report.specs.Ways.{delays_words}
-use Rattle.lft_report.specs.Hops.{way_at}
 
 -- `startup is present at (0, 0).`
 abbrev pub startup_words : Tag → List ℕ

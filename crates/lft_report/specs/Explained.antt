@@ -1,13 +1,9 @@
 -- What explains a breach.
 use Rattle.std.specs.Prelude.{◌≡◌, ℕ, Bool, List}
 use Rattle.lft_ir.specs.declared.steps.row.Row.{Row}
-use Rattle.lft_model.specs.declared.breach.Breach.{Breach}
-use Rattle.lft_model.specs.Breaches.{First}
-use Rattle.lft_model.specs.Plans.{PlanParts}
+use Rattle.lft_model.specs.{declared.breach.Breach.Breach, Breaches.First, Plans.PlanParts}
 use Rattle.lft_races.specs.Races.{EndLater, StandBefore}
-use Rattle.lft_facts.specs.declared.facts.Fact.{Fact}
-use Rattle.lft_facts.specs.Facts.{AreFacts}
-use Rattle.lft_facts.specs.Enough.{Proves, AreOwn, TellsRace}
+use Rattle.lft_facts.specs.{declared.facts.Fact.Fact, Facts.AreFacts, Enough.{Proves, AreOwn, TellsRace}}
 use Rattle.lft_report.specs.Told.{told}
 
 -- the text tells facts that are true of the plan and the rows, they are enough for the breach, and those whose words leave out a tag, a run or a row are of its own; a race before it is told. They are enough where all is told: else of each part the first 60 lines are, and how many others there are

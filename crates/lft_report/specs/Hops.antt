@@ -1,11 +1,7 @@
 -- The text of the way of an event: the last connections from the origin of a port to the port.
 use Rattle.std.specs.Prelude.{ℕ, zero, suc, List, [], ◌∷◌, ◌++◌, Option, length, take, slice_get, unwrap_or, option_map, option_and_then, codes, nat_lt, if◌then◌else◌}
-use Rattle.lft_tag.specs.declared.Tag.{Tag}
-use Rattle.lft_tag.specs.Shifts.{shifted}
-use Rattle.lft_ir.specs.Parts.{Parts}
-use Rattle.lft_ir.specs.declared.parts.Port.{Port as PortOf}
-use Rattle.lft_ir.specs.declared.steps.row.Row.{Row}
-use Rattle.lft_ir.specs.Words.Words.{tag_words, port_words}
+use Rattle.lft_tag.specs.{declared.Tag.Tag, Shifts.shifted}
+use Rattle.lft_ir.specs.{Parts.Parts, declared.{parts.Port.Port as PortOf, steps.row.Row.Row}, Words.Words.{tag_words, port_words}}
 use Rattle.lft_report.specs.Ways.{delay_into, arrow_words}
 
 -- the port from which the connection into a port comes, if there is one

@@ -1,9 +1,7 @@
 -- The text of runs beside a missing one, and of where the trace ends.
 use Rattle.std.specs.Prelude.{ℕ, List, ◌++◌, codes}
 use Rattle.lft_tag.specs.declared.Tag.{Tag}
-use Rattle.lft_ir.specs.Parts.{Parts}
-use Rattle.lft_ir.specs.Words.Words.{tag_words, reaction_words}
-use Rattle.lft_ir.specs.Words.Lines.{line_words}
+use Rattle.lft_ir.specs.{Parts.Parts, Words.{Words.{tag_words, reaction_words}, Lines.line_words}}
 
 -- `X has no run in the trace.`
 abbrev pub never_words : Parts → ℕ → List ℕ

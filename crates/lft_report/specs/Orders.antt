@@ -1,9 +1,7 @@
 -- The text of which reaction precedes which.
 use Rattle.std.specs.Prelude.{ℕ, List, ◌++◌, slice_get, unwrap_or, option_map, codes}
 use Rattle.lft_tag.specs.declared.Tag.{Tag}
-use Rattle.lft_ir.specs.Parts.{Parts}
-use Rattle.lft_ir.specs.Words.Words.{tag_words, port_words, reaction_words}
-use Rattle.lft_ir.specs.Words.Lines.{line_words}
+use Rattle.lft_ir.specs.{Parts.Parts, Words.{Words.{tag_words, port_words, reaction_words}, Lines.line_words}}
 
 -- the origin of a port
 abbrev pub origin_of : Parts → ℕ → ℕ

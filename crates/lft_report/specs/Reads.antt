@@ -1,11 +1,9 @@
 -- The table of what a run read of its inputs, and what is present.
 use Rattle.std.specs.Prelude.{ℕ, zero, suc, Bool, true, false, not, max, List, [], ◌∷◌, ◌++◌, length, codes, decimal, bytes_eq, fold, flat_map, if◌then◌else◌}
-use Rattle.lft_ir.specs.Parts.{Parts}
+use Rattle.lft_ir.specs.{Parts.Parts, Words.{Words.{value_words, name_words}, Columns.padded}}
 use Rattle.lft_facts.specs.declared.facts.Fact.{Fact}
-use Rattle.lft_facts.specs.declared.facts.Fact.TheVariants as fact
-use Rattle.lft_ir.specs.Words.Words.{value_words, name_words}
-use Rattle.lft_ir.specs.Words.Columns.{padded}
 use Rattle.lft_report.specs.declared.reads.Widths.{Widths}
+use Rattle.lft_facts.specs.declared.facts.Fact.TheVariants as fact
 
 -- the fact alone, or nothing
 abbrev pub kept : Bool → Fact → List Fact

@@ -1,20 +1,14 @@
 -- The text of what a reader asks next.
 use Rattle.std.specs.Prelude.{ℕ, List, [], ◌∷◌, ◌++◌, flat_map, codes}
 use Rattle.lft_tag.specs.declared.Tag.{Tag}
-use Rattle.lft_ir.specs.Parts.{Parts}
-use Rattle.lft_ir.specs.declared.parts.Name.{Name}
-use Rattle.lft_ir.specs.declared.steps.row.Row.{Row}
+use Rattle.lft_ir.specs.{Parts.Parts, declared.{parts.Name.Name, steps.row.Row.Row}}
+use Rattle.lft_ir.specs.Words.{Words.{tag_words, port_words, reaction_words, name_words}, Lines.{line_words, capital_line_words, tag_at, worker_at}}
 use Rattle.lft_model.specs.Runs.{inputs_of, effects_of}
-use Rattle.lft_facts.specs.declared.facts.ThingKind.{ThingKind}
-use Rattle.lft_facts.specs.declared.facts.ThingKind.TheVariants as kind
-use Rattle.lft_facts.specs.declared.facts.Reason.{Reason}
-use Rattle.lft_facts.specs.declared.facts.Reason.TheVariants as reason
-use Rattle.lft_ir.specs.Words.Words.{tag_words, port_words, reaction_words, name_words}
-use Rattle.lft_ir.specs.Words.Lines.{line_words, capital_line_words, tag_at, worker_at}
-use Rattle.lft_report.specs.Rows.{run_words}
-use Rattle.lft_report.specs.Neighbours.{never_words, run_before_words, run_after_words, last_row_words}
-use Rattle.lft_report.specs.Orders.{passed_by_words}
+use Rattle.lft_facts.specs.declared.facts.{ThingKind.ThingKind, Reason.Reason}
+use Rattle.lft_report.specs.{Rows.run_words, Neighbours.{never_words, run_before_words, run_after_words, last_row_words}, Orders.passed_by_words}
 use Rattle.lft_report.specs.Ways.{nearest_words}
+use Rattle.lft_facts.specs.declared.facts.ThingKind.TheVariants as kind
+use Rattle.lft_facts.specs.declared.facts.Reason.TheVariants as reason
 
 -- `The stop is G, as the external inputs say.`
 abbrev pub given_stop_words : Tag → List ℕ

@@ -1,12 +1,9 @@
 -- What is wrong with a row, in a sentence.
 use Rattle.std.specs.Prelude.{ℕ, ◌+◌, List, [], ◌++◌, length, slice_get, option_map, unwrap_or, codes, decimal}
-use Rattle.lft_ir.specs.Parts.{Parts}
-use Rattle.lft_ir.specs.declared.steps.row.Row.{Row}
-use Rattle.lft_ir.specs.declared.steps.row.Step.{Step}
-use Rattle.lft_ir.specs.declared.steps.row.Step.TheVariants.{Start, Read, Write, Schedule, Stop, End}
+use Rattle.lft_ir.specs.{Parts.Parts, declared.steps.row.{Row.Row, Step.{Step, TheVariants.{Start, Read, Write, Schedule, Stop, End}}}}
+use Rattle.lft_ir.specs.Words.Lines.{line_words, capital_line_words, tag_at, reaction_at, worker_at, name_at}
 use Rattle.lft_facts.specs.declared.facts.RowFact.{RowFact}
 use Rattle.lft_facts.specs.declared.facts.RowFact.TheVariants as row_fact
-use Rattle.lft_ir.specs.Words.Lines.{line_words, capital_line_words, tag_at, reaction_at, worker_at, name_at}
 
 -- `Line L is at G`
 abbrev pub line_is_words : List Row → ℕ → List ℕ

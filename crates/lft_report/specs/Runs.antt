@@ -1,11 +1,8 @@
 -- The text of runs, of triggers and of what was read.
 use Rattle.std.specs.Prelude.{ℕ, List, ◌++◌, codes, decimal}
 use Rattle.lft_tag.specs.declared.Tag.{Tag}
-use Rattle.lft_ir.specs.Parts.{Parts}
-use Rattle.lft_ir.specs.declared.parts.Trigger.{Trigger}
-use Rattle.lft_ir.specs.declared.parts.Trigger.TheVariants.{Startup, Shutdown, Timer, On}
-use Rattle.lft_ir.specs.Words.Words.{tag_words, timer_words, reaction_words, name_words, trigger_words}
-use Rattle.lft_ir.specs.Words.Lines.{line_words}
+use Rattle.lft_ir.specs.{Parts.Parts, declared.parts.Trigger.{Trigger, TheVariants.{Startup, Shutdown, Timer, On}}}
+use Rattle.lft_ir.specs.Words.{Words.{tag_words, timer_words, reaction_words, name_words, trigger_words}, Lines.line_words}
 
 -- `X is triggered at G and has no run there.`
 abbrev pub no_run_words : Parts → Tag → ℕ → List ℕ

@@ -1,16 +1,11 @@
 -- What is wrong, in a sentence.
 use Rattle.std.specs.Prelude.{ℕ, List, [], ◌++◌, flat_map, codes}
 use Rattle.lft_tag.specs.declared.Tag.{Tag}
-use Rattle.lft_ir.specs.Parts.{Parts}
-use Rattle.lft_ir.specs.declared.steps.row.Row.{Row}
-use Rattle.lft_facts.specs.declared.facts.Cause.{Cause}
+use Rattle.lft_ir.specs.{Parts.Parts, declared.steps.row.Row.Row, Words.Words.{tag_words, port_words, action_words}}
+use Rattle.lft_facts.specs.declared.facts.{Cause.Cause, Fact.Fact}
+use Rattle.lft_report.specs.{Rows.row_words, Runs.{no_run_words, runs_words}, Orders.early_race_words}
 use Rattle.lft_facts.specs.declared.facts.Cause.TheVariants as cause
-use Rattle.lft_facts.specs.declared.facts.Fact.{Fact}
 use Rattle.lft_facts.specs.declared.facts.Fact.TheVariants as fact
-use Rattle.lft_ir.specs.Words.Words.{tag_words, port_words, action_words}
-use Rattle.lft_report.specs.Rows.{row_words}
-use Rattle.lft_report.specs.Runs.{no_run_words, runs_words}
-use Rattle.lft_report.specs.Orders.{early_race_words}
 
 -- ` has more than one event at G, which is outside the profile.`
 abbrev pub more_words : Tag → List ℕ

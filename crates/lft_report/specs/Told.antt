@@ -1,17 +1,10 @@
 -- The text of facts.
 use Rattle.std.specs.Prelude.{ℕ, Bool, List, [], ◌∷◌, ◌++◌, flat_map}
-use Rattle.lft_ir.specs.Parts.{Parts}
-use Rattle.lft_ir.specs.declared.steps.row.Row.{Row}
+use Rattle.lft_ir.specs.{Parts.Parts, declared.steps.row.Row.Row}
 use Rattle.lft_facts.specs.declared.facts.Fact.{Fact}
+use Rattle.lft_report.specs.{Quotes.Quoted.quoted, Causes.cause_words, Reasons.reason_words, Reads.table, Runs.{trigger_of_words, count_words, absent_words}}
+use Rattle.lft_report.specs.{Orders.{race_words, precedes_words, declared_words, feeds_words}, Sentences.sentence, Shortened.shown}
 use Rattle.lft_facts.specs.declared.facts.Fact.TheVariants as fact
-use Rattle.lft_report.specs.Quotes.Quoted.{quoted}
-use Rattle.lft_report.specs.Causes.{cause_words}
-use Rattle.lft_report.specs.Reasons.{reason_words}
-use Rattle.lft_report.specs.Reads.{table}
-use Rattle.lft_report.specs.Runs.{trigger_of_words, count_words, absent_words}
-use Rattle.lft_report.specs.Orders.{race_words, precedes_words, declared_words, feeds_words}
-use Rattle.lft_report.specs.Sentences.{sentence}
-use Rattle.lft_report.specs.Shortened.{shown}
 
 -- what a fact says beside what is wrong
 abbrev pub fact_words : Parts → List Row → Fact → List ℕ

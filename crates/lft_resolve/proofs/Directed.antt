@@ -1,16 +1,10 @@
 -- The tables of a reactor by its number, and what its names stand for.
 use Rattle.std.proofs.Common.{◌≡◌, ℕ, zero, suc, Bool, true, false, cond, List, [], ◌∷◌, map, slice_get, find, Option, Some, None, option_map, IsSomeAnd, MatchOption, Bor, bytes_eq, refl, sym, ap, subst, ◌∙◌}
-use Rattle.std.specs.List.{AllZip}
-use Rattle.std.specs.Option.{option_and_then}
+use Rattle.std.specs.{List.AllZip, Option.option_and_then}
 use Rattle.lft_tree.specs.Tree.{ReactorTree, InstanceTree, instances_of, ports_of}
-use Rattle.lft_resolve.specs.Directories.{inner_ref}
-use Rattle.lft_resolve.specs.Instances.{reactor_named}
-use Rattle.lft_resolve.specs.Kinds.{inner_kind}
-use Rattle.lft_resolve.specs.Numbers.{IsNumberOf}
-use Rattle.lft_resolve.specs.Places.{place}
+use Rattle.lft_resolve.specs.{Directories.inner_ref, Instances.reactor_named, Kinds.inner_kind, Numbers.IsNumberOf, Places.place}
 use Rattle.lft_resolve.specs.Sheets.{IsInner, instance_place, port_place}
-use Rattle.lft_resolve.proofs.Files.{AllZip-past, inner_nowhere}
-use Rattle.lft_resolve.proofs.Placing.{find-place, place_found}
+use Rattle.lft_resolve.proofs.{Files.{AllZip-past, inner_nowhere}, Placing.{find-place, place_found}}
 
 module _ {A B : Type 0} (R : A → B → Type 0) where
   -- the item that an element goes with

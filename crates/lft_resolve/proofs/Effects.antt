@@ -1,19 +1,13 @@
 -- What holds in each reactor of a lawful file: no name is declared twice, none stands twice in a reaction, and each port that is an effect may be one.
 use Rattle.std.proofs.Common.{◌≡◌, ℕ, zero, suc, ◌<◌, inl, inr, ⊎_elim, Bool, true, false, cond, List, [], ◌∷◌, ◌++◌, map, flat_map, find, slice_get, Option, Some, None, option_map, Any, bytes_eq, refl, sym, ap, subst, ◌∙◌, arith}
-use Rattle.std.specs.Option.{option_and_then}
-use Rattle.std.proofs.lemmas.Bool.{cases_lt}
-use Rattle.std.proofs.lemmas.Slice.Eq.{bytes_eq-Decides}
+use Rattle.std.{specs.Option.option_and_then, proofs.lemmas.{Bool.cases_lt, Slice.Eq.bytes_eq-Decides}}
 use Rattle.lft_lists.proofs.Mapped.{mapped}
 use Rattle.lft_tree.specs.Tree.{ReactorTree, ReactionTree, InstanceTree, ParameterTree, RefTree, PortTree, ports_of, timers_of, actions_of, instances_of, reactions_of, connections_of}
 use Rattle.lft_resolve.specs.Causes.{IsTwice, NoneHolds, DuplicateName, DeclaresTwice, WrongPlace, Misplaces, IsMisplaced, DuplicateInput, RepeatsName, NamesTwice, first_causes, later_causes}
 use Rattle.lft_resolve.specs.Instances.{reactor_named}
 use Rattle.lft_resolve.specs.Kinds.{kind_of, kind_inside, inner_kind, own_port, inner_port, or_else, may_stand, refs_in, names_in, reads_of, reaction_refs, connection_refs, in_role}
-use Rattle.lft_resolve.specs.declared.kinds.Kind.{Kind}
-use Rattle.lft_resolve.specs.declared.kinds.Kind.TheVariants.{OwnParameter, OwnTimer, OwnAction, OwnInstance}
-use Rattle.lft_resolve.specs.declared.kinds.Role.{Role}
-use Rattle.lft_resolve.specs.declared.kinds.Role.TheVariants.{Read, Effect}
-use Rattle.lft_resolve.proofs.Somes.{Any-left, Any-right}
-use Rattle.lft_resolve.proofs.Twice.{Any-at, twice_left}
+use Rattle.lft_resolve.specs.declared.kinds.{Kind.{Kind, TheVariants.{OwnParameter, OwnTimer, OwnAction, OwnInstance}}, Role.{Role, TheVariants.{Read, Effect}}}
+use Rattle.lft_resolve.proofs.{Somes.{Any-left, Any-right}, Twice.{Any-at, twice_left}}
 
 -- what one of a list gives is among what all give
 pub Any-flat : {X Y : Type 0} (P : Y → Type 0) (f : X → List Y) (xs : List X) (k : ℕ) (x : X) → slice_get xs k ≡ Some x → Any P (f x) → Any P (flat_map f xs)

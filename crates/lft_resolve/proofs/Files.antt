@@ -1,14 +1,9 @@
 -- The reactors of a file that have a name, and what names are.
 use Rattle.std.proofs.Common.{◌≡◌, ℕ, zero, suc, Bool, true, false, cond, List, [], ◌∷◌, ◌++◌, slice_get, find, is_some, Option, Some, None, option_map, MatchOption, Bor, String, string_bytes, bytes_eq, refl, sym, ap, subst, ◌∙◌}
-use Rattle.std.specs.List.{AllZip, cons_option}
-use Rattle.std.specs.Option.{option_and_then}
+use Rattle.std.specs.{List.{AllZip, cons_option}, Option.option_and_then}
 use Rattle.lft_tree.specs.Tree.{ReactorTree, InstanceTree, instances_of, ports_of}
-use Rattle.lft_resolve.specs.Instances.{is_called, reactor_named}
-use Rattle.lft_resolve.specs.Kinds.{inner_kind, inner_port}
-use Rattle.lft_resolve.specs.Places.{place}
-use Rattle.lft_resolve.specs.Tables.{IsOutside, with_name}
-use Rattle.lft_resolve.specs.declared.file.Outside.{Outside}
-use Rattle.lft_resolve.specs.declared.kinds.Kind.{Kind}
+use Rattle.lft_resolve.specs.{Instances.{is_called, reactor_named}, Kinds.{inner_kind, inner_port}, Places.place, Tables.{IsOutside, with_name}}
+use Rattle.lft_resolve.specs.declared.{file.Outside.Outside, kinds.Kind.Kind}
 use Rattle.lft_resolve.proofs.NamedReactors.{named}
 
 -- the reactor of a name is the one at the name's place

@@ -1,14 +1,9 @@
 -- Loops that make an item of each element that passes a test, and names that are lost in reactions.
 use Rattle.std.proofs.Common.{◌≡◌, ℕ, ◌+◌, ◌<◌, Bool, true, false, cond, List, [], ◌∷◌, ◌++◌, map, flat_map, filter, take, length, get_or, Any, inl, append-nil, sym, ap, subst, ◌∙◌}
-use Rattle.std.specs.List.{AllZip}
-use Rattle.std.proofs.lemmas.List.Elements.{filter-append}
-use Rattle.lft_resolve.proofs.Lacking.{Any-flat_map}
+use Rattle.std.{specs.List.AllZip, proofs.lemmas.List.Elements.filter-append}
+use Rattle.lft_resolve.proofs.{Lacking.Any-flat_map, Files.AllZip-last, Somes.Any-left, Twice.map_last}
+use Rattle.lft_resolve.specs.{Directories.{HasLost, IsLost}, Kinds.{connection_refs, reaction_refs}}
 use Rattle.lft_tree.specs.Tree.{ReactorTree, connections_of, reactions_of}
-use Rattle.lft_resolve.specs.Directories.{HasLost, IsLost}
-use Rattle.lft_resolve.specs.Kinds.{connection_refs, reaction_refs}
-use Rattle.lft_resolve.proofs.Files.{AllZip-last}
-use Rattle.lft_resolve.proofs.Somes.{Any-left}
-use Rattle.lft_resolve.proofs.Twice.{map_last}
 
 -- one more element, that passes or not
 module _ {A B C : Type 0} (test : B → Bool) (v : A → B) (R : B → C → Type 0) (xs : List A) (i : ℕ) (x : A) (lt : i < length xs) (is : get_or xs i x ≡ x) (ys : List C) (all : AllZip R (filter test (map v (take i xs))) ys) where

@@ -1,15 +1,10 @@
 -- What connections join, as lists of joins grow, and where names are lost among them.
 use Rattle.std.proofs.Common.{◌≡◌, ℕ, ◌+◌, ◌<◌, zero, suc, min, List, [], ◌∷◌, ◌++◌, map, flat_map, take, length, get_or, Option, None, Any, ◌⊎◌, inl, inr, ⊎_elim, append_assoc, option_to_list, refl, sym, ap, subst, ◌∙◌, arith}
 use Rattle.std.specs.List.{AllZip, zip}
-use Rattle.lft_resolve.proofs.Lacking.{Any-flat_map}
+use Rattle.lft_resolve.proofs.{Lacking.Any-flat_map, Files.AllZip-last, Somes.{Any-nil, Any-head, Any-tail, Any-cases, Any-right, some_here}}
+use Rattle.lft_resolve.specs.{Causes.{IsMisplaced, IsMisplacedTime, IsUnknownTime, UnknownName, WrongPlace}, Directories.{HasLost, IsLost, IsLostTime, LosesIn}}
+use Rattle.lft_resolve.specs.{Kinds.{connection_refs, in_role, kind_of, reaction_refs, refs_in, timer_times, times_in}, Sheets.Single, declared.kinds.Role.Role}
 use Rattle.lft_tree.specs.Tree.{ReactorTree, ConnectionTree, RefTree, TimeTree, actions_of, connections_of, instances_of, reactions_of, timers_of}
-use Rattle.lft_resolve.specs.Causes.{IsMisplaced, IsMisplacedTime, IsUnknownTime, UnknownName, WrongPlace}
-use Rattle.lft_resolve.specs.Directories.{HasLost, IsLost, IsLostTime, LosesIn}
-use Rattle.lft_resolve.specs.Kinds.{connection_refs, in_role, kind_of, reaction_refs, refs_in, timer_times, times_in}
-use Rattle.lft_resolve.specs.Sheets.{Single}
-use Rattle.lft_resolve.specs.declared.kinds.Role.{Role}
-use Rattle.lft_resolve.proofs.Files.{AllZip-last}
-use Rattle.lft_resolve.proofs.Somes.{Any-nil, Any-head, Any-tail, Any-cases, Any-right, some_here}
 
 -- the single connections of two lists of names, seen by view
 module _ {A : Type 0} (view : A → RefTree) (delay : Option TimeTree) where

@@ -2,10 +2,8 @@
 use Rattle.std.proofs.Common.{◌≡◌, ℕ, List, [], ◌++◌, map, slice_get, append_assoc, append-nil, sym, ap, ◌∙◌}
 use Rattle.std.specs.Option.{option_and_then}
 use Rattle.lft_tree.specs.Tree.{ReactorTree, ports_of, timers_of, actions_of, instances_of}
-use Rattle.lft_resolve.specs.Kinds.{or_else, own_kind, own_port, kinds_in, names_in}
-use Rattle.lft_resolve.specs.Places.{place}
-use Rattle.lft_resolve.specs.declared.kinds.Kind.{Kind}
-use Rattle.lft_resolve.specs.declared.kinds.Kind.TheVariants.{OwnParameter, OwnTimer, OwnAction, OwnInstance}
+use Rattle.lft_resolve.specs.{Kinds.{or_else, own_kind, own_port, kinds_in, names_in}, Places.place}
+use Rattle.lft_resolve.specs.declared.kinds.Kind.{Kind, TheVariants.{OwnParameter, OwnTimer, OwnAction, OwnInstance}}
 use Rattle.lft_resolve.proofs.Placing.{find-places, or_else-none}
 
 five : {X : Type 0} (a b c d e : List X) → a ++ b ++ c ++ d ++ e ≡ a ++ (b ++ (c ++ (d ++ (e ++ []))))

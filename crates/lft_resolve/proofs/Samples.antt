@@ -1,10 +1,8 @@
 -- Facts about a small tree: parameters given at `new`, what names are and stand for, and a cause.
 use Rattle.std.proofs.Common.{◌≡◌, ℕ, zero, suc, length, inl, ap, sym, ◌∙◌, arith, List, [], ◌∷◌, refl, true, false, Some, None, map, option_map, codes}
 use Rattle.lft_tree.specs.Tree.{FileTree, ReactorTree, RefTree, Written, Named, PortMember, TimerMember, ReactionMember, InstanceMember, ConnectionMember, OnRef, ReactorItem, reactors_of}
-use Rattle.lft_tree.specs.declared.tree.Time.{Time}
-use Rattle.lft_tree.specs.declared.tree.TimeUnit.TheVariants.{Millisecond}
-use Rattle.lft_resolve.specs.Expansion.Paths.{along}
-use Rattle.lft_resolve.specs.Instances.{main_instance, main_of, entered, stands_for, thing_at, time_in}
+use Rattle.lft_tree.specs.declared.tree.{Time.Time, TimeUnit.TheVariants.Millisecond}
+use Rattle.lft_resolve.specs.{Expansion.Paths.along, Instances.{main_instance, main_of, entered, stands_for, thing_at, time_in}}
 use Rattle.lft_resolve.specs.Kinds.{kind_of, may_stand, own_kind, refs_in, times_in, names_in}
 use Rattle.lft_resolve.specs.declared.kinds.Kind.TheVariants.{OwnParameter, OwnTimer, InnerOutput, OwnOutput, OwnInstance}
 use Rattle.lft_resolve.specs.declared.kinds.Role.TheVariants.{Read, Source, Destination}

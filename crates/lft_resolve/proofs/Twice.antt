@@ -1,8 +1,6 @@
 -- What stands twice in a list, and loops that note each element and stop at one that was met.
 use Rattle.std.proofs.Common.{◌≡◌, ℕ, ◌+◌, ◌<◌, ◌≤◌, zero, suc, List, [], ◌∷◌, ◌++◌, map, take, length, get_or, slice_get, Some, Any, ◌⊎◌, inl, inr, ⊎_elim, refl, sym, ap, subst, ◌∙◌, arith}
-use Rattle.std.proofs.lemmas.Grind.{common_steps}
-use Rattle.std.proofs.lemmas.List.{map-append}
-use Rattle.std.proofs.lemmas.Option.{slice_get_within, get_or_from_slice_get, slice_get-get_or}
+use Rattle.std.proofs.lemmas.{Grind.common_steps, List.map-append, Option.{slice_get_within, get_or_from_slice_get, slice_get-get_or}}
 use Rattle.lft_resolve.specs.Causes.{IsTwice}
 
 module _ {X : Type 0} where

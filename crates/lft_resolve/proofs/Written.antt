@@ -1,20 +1,14 @@
 -- What a destination of a connection is, where no name is nothing and none stands in a wrong place.
 use Rattle.std.proofs.Common.{◌≡◌, ℕ, Bool, true, false, List, refl, sym, ap, ◌∙◌, subst, Option, Some, None, slice_get, flat_map, find, bytes_eq, Any, inl}
 use Rattle.std.specs.Option.{option_map, option_and_then}
-use Rattle.lft_resolve.proofs.Effects.{Any-flat}
-use Rattle.lft_lists.proofs.Mapped.{mapped}
-use Rattle.lft_tree.specs.Tree.{ReactorTree, ParameterTree, PortTree, InstanceTree, ConnectionTree, RefTree, connections_of, reactions_of, ports_of, timers_of, actions_of, instances_of}
-use Rattle.lft_resolve.specs.Causes.{UnknownName, NamesNothing, WrongPlace, Misplaces, IsMisplaced}
-use Rattle.lft_resolve.specs.Instances.{reactor_named}
+use Rattle.lft_resolve.proofs.{Effects.Any-flat, Placing.place_found, Somes.Any-right, Twice.Any-at}
+use Rattle.lft_resolve.specs.{Causes.{UnknownName, NamesNothing, WrongPlace, Misplaces, IsMisplaced}, Instances.reactor_named}
 use Rattle.lft_resolve.specs.Kinds.{inner_kind, own_port, inner_port, or_else, kind_of, kind_inside, refs_in, in_role, may_stand, reaction_refs, connection_refs}
 use Rattle.lft_resolve.specs.Sheets.{IsInner, port_place}
-use Rattle.lft_resolve.specs.declared.kinds.Kind.{Kind}
-use Rattle.lft_resolve.specs.declared.kinds.Kind.TheVariants.{OwnParameter, OwnTimer, OwnAction, OwnInstance}
-use Rattle.lft_resolve.specs.declared.kinds.Role.{Role}
-use Rattle.lft_resolve.specs.declared.kinds.Role.TheVariants.{Source, Destination}
-use Rattle.lft_resolve.proofs.Placing.{place_found}
-use Rattle.lft_resolve.proofs.Somes.{Any-right}
-use Rattle.lft_resolve.proofs.Twice.{Any-at}
+use Rattle.lft_resolve.specs.declared.kinds.Kind.{Kind, TheVariants.{OwnParameter, OwnTimer, OwnAction, OwnInstance}}
+use Rattle.lft_resolve.specs.declared.kinds.Role.{Role, TheVariants.{Source, Destination}}
+use Rattle.lft_lists.proofs.Mapped.{mapped}
+use Rattle.lft_tree.specs.Tree.{ReactorTree, ParameterTree, PortTree, InstanceTree, ConnectionTree, RefTree, connections_of, reactions_of, ports_of, timers_of, actions_of, instances_of}
 
 -- an own name that may be a destination is an output
 own_output : (a : Option ParameterTree) (b : Bool) (rest : Option Kind) (kind : Kind) → or_else (option_map (λ x. OwnParameter) a) (or_else (Some (own_port b)) rest) ≡ Some kind → may_stand Destination kind ≡ true → b ≡ false

@@ -1,11 +1,8 @@
 -- The causes for which a tree is refused, and their order. Each is looked for in every reactor of the file, but for the cycle, the sum of delays and the limits, which are of instances.
 use Rattle.std.specs.Prelude.{◌≡◌, ◌≢◌, ℕ, ◌<◌, ◌⊎◌, false, List, [], ◌∷◌, ◌++◌, Some, None, map, filter, filter_map, flat_map, find, slice_get, length, sum, Any, Contains, bytes_eq}
 use Rattle.lft_tree.specs.Tree.{FileTree, ReactorTree, ReactionTree, InstanceTree, AssignmentTree, TimeTree, Written, Named, RefTree, nanoseconds, reactors_of, instances_of, connections_of, ports_of, actions_of, timers_of, reactions_of}
-use Rattle.lft_resolve.specs.Expansion.Paths.{IsMoreThan}
-use Rattle.lft_resolve.specs.Instances.{Inside, reactor_named, IsInside, Thing, Chain}
-use Rattle.lft_resolve.specs.declared.kinds.Kind.{Kind}
-use Rattle.lft_resolve.specs.declared.kinds.Kind.TheVariants.{OwnParameter}
-use Rattle.lft_resolve.specs.declared.kinds.Role.{Role}
+use Rattle.lft_resolve.specs.{Expansion.Paths.IsMoreThan, Instances.{Inside, reactor_named, IsInside, Thing, Chain}}
+use Rattle.lft_resolve.specs.declared.kinds.{Kind.{Kind, TheVariants.OwnParameter}, Role.Role}
 use Rattle.lft_resolve.specs.Kinds.{own_kind, kind_of, may_stand, reads_of, refs_in, times_in, names_in, destinations_in, effects_in}
 
 -- something stands twice in the list

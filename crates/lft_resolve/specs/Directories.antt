@@ -2,13 +2,9 @@
 use Rattle.std.specs.Prelude.{◌≡◌, ℕ, Bool, true, false, List, Some, None, Any, ◌⊎◌, map, option_to_list, slice_get}
 use Rattle.std.specs.List.{AllZip}
 use Rattle.lft_tree.specs.Tree.{ReactorTree, RefTree, ConnectionTree, TimeTree, ports_of, timers_of, actions_of, instances_of}
-use Rattle.lft_resolve.specs.Causes.{IsMisplaced, IsMisplacedTime, IsUnknownTime}
-use Rattle.lft_resolve.specs.Kinds.{connection_refs, kind_of, refs_in, times_in}
-use Rattle.lft_resolve.specs.Numbers.{AreContents}
-use Rattle.lft_resolve.specs.Places.{IsIndexOf}
-use Rattle.lft_resolve.specs.Sheets.{is_timer, timer_place}
-use Rattle.lft_resolve.specs.declared.by_number.directory.Directory.{Directory}
-use Rattle.lft_resolve.specs.declared.by_number.directory.NamesByKind.{NamesByKind}
+use Rattle.lft_resolve.specs.{Causes.{IsMisplaced, IsMisplacedTime, IsUnknownTime}, Kinds.{connection_refs, kind_of, refs_in, times_in}, Numbers.AreContents}
+use Rattle.lft_resolve.specs.{Places.IsIndexOf, Sheets.{is_timer, timer_place}}
+use Rattle.lft_resolve.specs.declared.by_number.directory.{Directory.Directory, NamesByKind.NamesByKind}
 use Rattle.lft_resolve.specs.declared.kinds.Kind.{Kind}
 use Rattle.lft_resolve.specs.declared.kinds.Kind.TheVariants.{OwnParameter, OwnInput, OwnOutput, OwnTimer, OwnAction, OwnInstance, InnerInput, InnerOutput}
 use Rattle.lft_resolve.specs.declared.kinds.Role.{Role}

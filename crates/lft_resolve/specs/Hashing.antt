@@ -1,12 +1,9 @@
 -- Where the hashers of names begin: at a seed that is a hash of all the names.
 use Rattle.std.specs.Prelude.{ℕ, List, ◌++◌}
-use Rattle.std.specs.List.{flat_map, fold}
-use Rattle.std.specs.Hash.{HashWrites, str, option, slice, u64}
+use Rattle.std.specs.{List.{flat_map, fold}, Hash.{HashWrites, str, option, slice, u64}, declared.hash.{DefaultHasher.DefaultHasher, FoldHasher.FoldHasher}}
+use Rattle.lft_tree.specs.Tree.{RefTree}
 use Rattle.std.specs.Hash.DefaultHasher as sip
 use Rattle.std.specs.Hash.FoldHasher as folding
-use Rattle.std.specs.declared.hash.DefaultHasher.{DefaultHasher}
-use Rattle.std.specs.declared.hash.FoldHasher.{FoldHasher}
-use Rattle.lft_tree.specs.Tree.{RefTree}
 
 -- the hasher that begins with the SipHash of all that was written to the other one
 abbrev pub seeded_by : DefaultHasher → FoldHasher

@@ -4,8 +4,7 @@ use Rattle.lft_tree.specs.Tree.{ReactorTree, ReactionTree, ConnectionTree, Timer
 use Rattle.lft_resolve.specs.Instances.{reactor_named}
 use Rattle.lft_resolve.specs.declared.kinds.Kind.{Kind}
 use Rattle.lft_resolve.specs.declared.kinds.Kind.TheVariants.{OwnParameter, OwnInput, OwnOutput, OwnTimer, OwnAction, OwnInstance, InnerInput, InnerOutput}
-use Rattle.lft_resolve.specs.declared.kinds.Role.{Role}
-use Rattle.lft_resolve.specs.declared.kinds.Role.TheVariants.{Read, Effect, Source, Destination}
+use Rattle.lft_resolve.specs.declared.kinds.Role.{Role, TheVariants.{Read, Effect, Source, Destination}}
 
 -- an own port, by whether it is an input
 abbrev pub own_port : Bool → Kind

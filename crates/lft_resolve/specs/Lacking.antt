@@ -1,14 +1,8 @@
 -- Names that have no place. The contracts of the crate's own functions alone need this file.
 use Rattle.std.specs.Prelude.{◌≡◌, ℕ, List, Option, None, Any}
 use Rattle.lft_tree.specs.Tree.{ReactorTree, InstanceTree, AssignmentTree, TimeTree, Written, Named}
-use Rattle.lft_resolve.specs.Causes.{GivesUnknown}
-use Rattle.lft_resolve.specs.Instances.{reactor_named}
-use Rattle.lft_resolve.specs.Kinds.{times_in}
-use Rattle.lft_resolve.specs.Places.{place_in}
-use Rattle.lft_resolve.specs.Sheets.{parameter_place}
-use Rattle.lft_resolve.specs.Tables.{IsFile}
-use Rattle.lft_resolve.specs.declared.file.File.{File}
-use Rattle.lft_resolve.specs.declared.index.Index.{Index}
+use Rattle.lft_resolve.specs.{Causes.GivesUnknown, Instances.reactor_named, Kinds.times_in, Places.place_in, Sheets.parameter_place, Tables.IsFile}
+use Rattle.lft_resolve.specs.declared.{file.File.File, index.Index.Index}
 
 -- the name of the time has none of these places
 abbrev pub LacksPlace : (List ℕ → Option ℕ) → TimeTree → Type 0

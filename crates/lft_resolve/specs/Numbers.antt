@@ -2,10 +2,7 @@
 use Rattle.std.specs.Prelude.{◌≡◌, ℕ, ◌+◌, List, [], ◌∷◌, Some, slice_get, filter_map, is_some, if◌then◌else◌}
 use Rattle.std.specs.List.{AllZip}
 use Rattle.lft_tree.specs.Tree.{ReactorTree, InstanceTree, instances_of}
-use Rattle.lft_resolve.specs.declared.expansion.walk.Contents.{Contents}
-use Rattle.lft_resolve.specs.Instances.{reactor_named}
-use Rattle.lft_resolve.specs.declared.by_number.numbers.Numbers.{Numbers}
-use Rattle.lft_resolve.specs.Places.{IsIndexOf}
+use Rattle.lft_resolve.specs.{declared.{expansion.walk.Contents.Contents, by_number.numbers.Numbers.Numbers}, Instances.reactor_named, Places.IsIndexOf}
 
 -- the instance is one of the reactor of this number
 abbrev pub IsNumberOf : List ReactorTree → InstanceTree → ℕ → Type 0

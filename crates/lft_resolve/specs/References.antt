@@ -3,14 +3,8 @@ use Rattle.std.specs.Prelude.{List, map}
 use Rattle.std.specs.Borrow.{Bor}
 use Rattle.lft_tree.specs.Tree.{ReactorTree, RefTree, ConnectionTree, ReactionTree, InstanceTree, TimerTree, ActionTree, PortTree}
 use Rattle.lft_tree.specs.View.{reactor_view, ref_view, connection_view, reaction_view, instance_view, timer_view, action_view, port_view}
-use Rattle.lft_tree.specs.declared.tree.Reactor.{Reactor}
-use Rattle.lft_tree.specs.declared.tree.Reference.{Reference}
-use Rattle.lft_tree.specs.declared.tree.Connection.{Connection}
-use Rattle.lft_tree.specs.declared.tree.Reaction.{Reaction}
-use Rattle.lft_tree.specs.declared.tree.Instance.{Instance}
-use Rattle.lft_tree.specs.declared.tree.Timer.{Timer}
-use Rattle.lft_tree.specs.declared.tree.Action.{Action}
-use Rattle.lft_tree.specs.declared.tree.Port.{Port}
+use Rattle.lft_tree.specs.declared.tree.{Reactor.Reactor, Reference.Reference, Connection.Connection, Reaction.Reaction, Instance.Instance, Timer.Timer}
+use Rattle.lft_tree.specs.declared.tree.{Action.Action, Port.Port}
 
 -- the reactors behind the references, as trees
 abbrev pub reactor_trees : List (Bor Reactor) → List ReactorTree

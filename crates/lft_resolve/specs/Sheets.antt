@@ -2,26 +2,13 @@
 use Rattle.std.specs.Prelude.{◌≡◌, ℕ, ◌+◌, not, Bool, false, List, Option, Some, None, map, filter, flat_map, find, is_some, slice_get, bytes_eq, nat_lt, if◌then◌else◌}
 use Rattle.std.specs.List.{AllZip, zip}
 use Rattle.lft_tree.specs.Tree.{ReactorTree, ActionTree, TimerTree, ReactionTree, ConnectionTree, InstanceTree, AssignmentTree, TimeTree, Written, Named, RefTree, TriggerTree, AtStartup, AtShutdown, OnRef, nanoseconds, instances_of, connections_of, ports_of, actions_of, timers_of, reactions_of}
-use Rattle.lft_resolve.specs.declared.expansion.settings.Clock.{Clock}
-use Rattle.lft_resolve.specs.declared.expansion.settings.Clock.TheVariants.{Fixed, Parameter}
-use Rattle.lft_resolve.specs.declared.expansion.settings.Given.{Given}
-use Rattle.lft_resolve.specs.declared.expansion.settings.Parameters.{Parameters}
-use Rattle.lft_resolve.specs.declared.expansion.joins.End.{End}
-use Rattle.lft_resolve.specs.declared.expansion.joins.End.TheVariants.{Own, Inner}
-use Rattle.lft_resolve.specs.declared.expansion.joins.Join.{Join}
-use Rattle.lft_resolve.specs.declared.expansion.joins.Connections.{Connections}
-use Rattle.lft_resolve.specs.Causes.{longest}
-use Rattle.lft_resolve.specs.Instances.{reactor_named}
-use Rattle.lft_resolve.specs.Places.{place}
-use Rattle.lft_resolve.specs.declared.by_number.sheets.Spot.{Spot}
-use Rattle.lft_resolve.specs.declared.by_number.sheets.Spot.TheVariants as spots
-use Rattle.lft_resolve.specs.declared.by_number.sheets.Cue.{Cue}
-use Rattle.lft_resolve.specs.declared.by_number.sheets.Cue.TheVariants as cues
-use Rattle.lft_resolve.specs.declared.by_number.sheets.Cues.{Cues}
-use Rattle.lft_resolve.specs.declared.by_number.sheets.Reactions.{Reactions}
-use Rattle.lft_resolve.specs.declared.by_number.sheets.TimerSheet.{TimerSheet}
-use Rattle.lft_resolve.specs.declared.by_number.sheets.ActionSheet.{ActionSheet}
+use Rattle.lft_resolve.specs.declared.expansion.settings.{Clock.{Clock, TheVariants.{Fixed, Parameter}}, Given.Given, Parameters.Parameters}
+use Rattle.lft_resolve.specs.declared.expansion.joins.{End.{End, TheVariants.{Own, Inner}}, Join.Join, Connections.Connections}
+use Rattle.lft_resolve.specs.declared.by_number.sheets.{Spot.Spot, Cue.Cue, Cues.Cues, Reactions.Reactions, TimerSheet.TimerSheet, ActionSheet.ActionSheet}
 use Rattle.lft_resolve.specs.declared.by_number.sheets.Declarations.{Declarations}
+use Rattle.lft_resolve.specs.{Causes.longest, Instances.reactor_named, Places.place}
+use Rattle.lft_resolve.specs.declared.by_number.sheets.Spot.TheVariants as spots
+use Rattle.lft_resolve.specs.declared.by_number.sheets.Cue.TheVariants as cues
 
 -- ---- times
 

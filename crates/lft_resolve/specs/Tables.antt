@@ -2,16 +2,9 @@
 use Rattle.std.specs.Prelude.{◌≡◌, List, Option, map, filter, filter_map, is_some, option_map}
 use Rattle.std.specs.List.{AllZip}
 use Rattle.lft_tree.specs.Tree.{ReactorTree, MemberTree, instances_of, ports_of, port_in, timer_in, action_in, instance_in}
-use Rattle.lft_resolve.specs.Kinds.{kinds_in, names_in, own_port}
-use Rattle.lft_resolve.specs.Places.{IsIndexOf}
-use Rattle.lft_resolve.specs.References.{instance_trees, port_trees}
-use Rattle.lft_resolve.specs.declared.kinds.Kind.{Kind}
-use Rattle.lft_resolve.specs.declared.kinds.Kind.TheVariants.{OwnTimer, OwnAction, OwnInstance}
-use Rattle.lft_resolve.specs.declared.names.Declared.{Declared}
-use Rattle.lft_resolve.specs.declared.names.Declared.TheVariants.{Port, Timer, Action, Instance}
-use Rattle.lft_resolve.specs.declared.own.Own.{Own}
-use Rattle.lft_resolve.specs.declared.file.Outside.{Outside}
-use Rattle.lft_resolve.specs.declared.file.File.{File}
+use Rattle.lft_resolve.specs.{Kinds.{kinds_in, names_in, own_port}, Places.IsIndexOf, References.{instance_trees, port_trees}}
+use Rattle.lft_resolve.specs.declared.kinds.Kind.{Kind, TheVariants.{OwnTimer, OwnAction, OwnInstance}}
+use Rattle.lft_resolve.specs.declared.{names.Declared.{Declared, TheVariants.{Port, Timer, Action, Instance}}, own.Own.Own, file.{Outside.Outside, File.File}}
 
 -- what a member of the kind is
 abbrev pub kind_in : Declared → MemberTree → Option Kind

@@ -1,10 +1,8 @@
 -- Tests of being in a list, and names by kind.
 use Rattle.std.specs.Prelude.{◌≡◌, ℕ, Bool, true, List, Option, map, option_map, Any, bytes_eq}
-use Rattle.std.specs.Borrow.{Bor}
-use Rattle.std.specs.HashSet.{HashSet, contains_by}
+use Rattle.std.specs.{Borrow.Bor, HashSet.{HashSet, contains_by}}
 use Rattle.lft_tree.specs.Tree.{MemberTree, ReactorTree, port_in, timer_in, action_in, instance_in, ports_of, timers_of, actions_of, instances_of}
-use Rattle.lft_resolve.specs.declared.names.Declared.{Declared}
-use Rattle.lft_resolve.specs.declared.names.Declared.TheVariants.{Port, Timer, Action, Instance}
+use Rattle.lft_resolve.specs.declared.names.Declared.{Declared, TheVariants.{Port, Timer, Action, Instance}}
 
 -- what passes the test is what stands in the list
 pub record IsTestOf {X : Type 0} (test : X → Bool) (xs : List X) : Type 0 where

@@ -1,12 +1,8 @@
 //! What the reactors of a file show to those that contain them, and what names are.
 
 ghost use Rattle.std.specs.Prelude.{◌≡◌, List, IfOk, MatchOption, Some, None, find, is_some, option_map, bytes_eq};
-ghost use Rattle.lft_tree.specs.Tree.{ReactorTree, ports_of};
-ghost use Rattle.lft_tree.specs.View.{reactor_view, ref_view};
-ghost use Rattle.lft_resolve.specs.Instances.{reactor_named};
-ghost use Rattle.lft_resolve.specs.Kinds.{inner_port, kind_of};
-ghost use Rattle.lft_resolve.specs.References.{reactor_trees};
-ghost use Rattle.lft_resolve.specs.Tables.{IsFile, IsOutside, IsOwn};
+ghost use Rattle.lft_tree.specs.{Tree.{ReactorTree, ports_of}, View.{reactor_view, ref_view}};
+ghost use Rattle.lft_resolve.specs.{Instances.reactor_named, Kinds.{inner_port, kind_of}, References.reactor_trees, Tables.{IsFile, IsOutside, IsOwn}};
 
 use crate::index::Index;
 use crate::kinds::Kind;

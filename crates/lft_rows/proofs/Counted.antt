@@ -1,10 +1,7 @@
 -- The number of start rows, one row after another.
 use Rattle.std.proofs.Common.{◌≡◌, ℕ, ◌+◌, List, take, refl, ap, ◌∙◌, Some, slice_get, false}
-use Rattle.std.proofs.lemmas.List.Sums.{count_by_more_yes, count_by_more_no}
-use Rattle.std.proofs.lemmas.Option.{get_or_from_slice_get}
-use Rattle.lft_ir.specs.declared.steps.row.Row.{Row}
-use Rattle.lft_ir.specs.declared.steps.row.Step.{Step}
-use Rattle.lft_ir.specs.declared.steps.row.Step.TheVariants.{Start, Read, Write, Schedule, Stop, End}
+use Rattle.std.proofs.lemmas.{List.Sums.{count_by_more_yes, count_by_more_no}, Option.get_or_from_slice_get}
+use Rattle.lft_ir.specs.declared.steps.row.{Row.Row, Step.{Step, TheVariants.{Start, Read, Write, Schedule, Stop, End}}}
 use Rattle.lft_model.proofs.Places.{slice_get_within}
 use Rattle.lft_rows.specs.Slices.{begins, runs_in}
 

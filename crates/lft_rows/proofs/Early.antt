@@ -1,12 +1,9 @@
 -- The least of the rules 1 to 4.
 use Rattle.std.proofs.Common.{◌≡◌, ℕ, ◌+◌, ◌<◌, ◌⊎◌, inl, inr, List, refl, sym, ap, ◌∙◌, subst, arith, Option, Some, None, slice_get}
 use native.Mathlib.Decide.{ℕ_discrete}
-use Rattle.lft_tag.specs.declared.Tag.{Tag}
-use Rattle.lft_tag.specs.Tags.{Before, UpTo}
-use Rattle.lft_tag.proofs.Order.{UpTo-refl, UpTo-trans}
+use Rattle.lft_tag.{specs.{declared.Tag.Tag, Tags.{Before, UpTo}}, proofs.Order.{UpTo-refl, UpTo-trans}}
 use Rattle.lft_ir.specs.declared.steps.row.Row.{Row}
-use Rattle.lft_model.specs.Runs.{start_row}
-use Rattle.lft_model.specs.Breaches.{IsLate}
+use Rattle.lft_model.specs.{Runs.start_row, Breaches.IsLate}
 use Rattle.lft_rows.specs.Passes.{IsLatest, LastStart}
 
 -- rule 1 by the latest tag

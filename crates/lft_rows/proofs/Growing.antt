@@ -1,18 +1,10 @@
 -- What a pass knows of some rows when more come behind them, or the stop comes nearer.
 use Rattle.std.proofs.Common.{◌≡◌, ℕ, ◌+◌, ◌<◌, ◌≤◌, ◌⊎◌, inl, inr, List, ◌++◌, length, arith, Option, Some, None, slice_get}
-use Rattle.lft_tag.specs.declared.Tag.{Tag}
-use Rattle.lft_tag.proofs.Order.{UpTo-not}
+use Rattle.lft_tag.{specs.declared.Tag.Tag, proofs.Order.UpTo-not}
 use Rattle.lft_lists.proofs.Places.{get_left, get_append_cases}
-use Rattle.lft_ir.specs.declared.parts.Name.{Name}
-use Rattle.lft_ir.specs.declared.steps.row.Row.{Row}
-use Rattle.lft_ir.specs.declared.steps.row.Step.{Step}
-use Rattle.lft_ir.specs.declared.steps.row.Step.TheVariants.{Start, Read, Write, Schedule, Stop, End}
-use Rattle.lft_model.specs.Plans.{PlanParts}
-use Rattle.lft_model.specs.Runs.{start_row, end_row}
-use Rattle.lft_model.specs.Breaches.{IsOpen, IsOutOfOrder, IsUndeclared, BreaksRowUntil}
-use Rattle.lft_rows.specs.Marks.{IsMark, NoneReads}
-use Rattle.lft_rows.specs.Passes.{Unended, OpenPlace, IsLatest, LastStart, GrownLaw, NearerLaw}
-use Rattle.lft_rows.specs.Places.{place_of, last_of}
+use Rattle.lft_ir.specs.declared.{parts.Name.Name, steps.row.{Row.Row, Step.{Step, TheVariants.{Start, Read, Write, Schedule, Stop, End}}}}
+use Rattle.lft_model.specs.{Plans.PlanParts, Runs.{start_row, end_row}, Breaches.{IsOpen, IsOutOfOrder, IsUndeclared, BreaksRowUntil}}
+use Rattle.lft_rows.specs.{Marks.{IsMark, NoneReads}, Passes.{Unended, OpenPlace, IsLatest, LastStart, GrownLaw, NearerLaw}, Places.{place_of, last_of}}
 
 module _ (t u : List Row) (i : ℕ) (inside : i ≤ length t) where
   -- a row before the place is one of the first part

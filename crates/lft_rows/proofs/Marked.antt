@@ -2,17 +2,11 @@
 use Rattle.std.proofs.Common.{◌≡◌, ◌≢◌, ℕ, zero, suc, ◌+◌, ◌<◌, ◌≤◌, ◌⊎◌, inl, inr, List, [], ◌∷◌, ◌++◌, length, length-append, refl, sym, ap, ◌∙◌, subst, arith, Some, slice_get, slice_set, Contains}
 use Rattle.std.proofs.lemmas.Bool.{cases_lt}
 use native.Mathlib.Decide.{ℕ_discrete}
-use Rattle.lft_ir.specs.Parts.{Parts, inputs}
-use Rattle.lft_ir.specs.Sound.{IsSound}
-use Rattle.lft_ir.specs.declared.parts.Name.{Name}
-use Rattle.lft_ir.specs.declared.parts.Reaction.{Reaction}
-use Rattle.lft_ir.specs.declared.parts.Value.{Value}
-use Rattle.lft_ir.specs.declared.steps.row.Row.{Row}
-use Rattle.lft_ir.specs.declared.steps.row.Step.TheVariants.{Read}
+use Rattle.lft_ir.specs.{Parts.{Parts, inputs}, Sound.IsSound}
+use Rattle.lft_ir.specs.declared.{parts.{Name.Name, Reaction.Reaction, Value.Value}, steps.row.{Row.Row, Step.TheVariants.Read}}
 use Rattle.lft_lists.proofs.Places.{at_contains, contains_at, get_there, get_write_cases, get_push, get_last, length_written, same_some, get_push_cases}
 use Rattle.lft_lists.proofs.Members.{mem_get}
-use Rattle.lft_model.proofs.Counted.{NamesApart, names_apart}
-use Rattle.lft_model.proofs.Places.{slice_get_within}
+use Rattle.lft_model.proofs.{Counted.{NamesApart, names_apart}, Places.slice_get_within}
 use Rattle.lft_rows.specs.declared.marks.Marks.{Marks}
 use Rattle.lft_rows.specs.Marks.{width, HasSeat, AreLaid, IsLaid, Mark, IsMarkedBy, AreNoneFrom, ReadsFor, NoneReads, IsMark, AreBefore, AreMarks}
 

@@ -2,20 +2,10 @@
 use Rattle.std.proofs.Common.{◌≡◌, ℕ, ◌+◌, ◌<◌, ◌≤◌, ◌⊎◌, inl, inr, List, [], refl, sym, ap, ◌∙◌, subst, arith, Option, Some, slice_get, Contains, option_map, unwrap_or}
 use Rattle.std.proofs.lemmas.Bool.{cases_lt}
 use native.Mathlib.Decide.{ℕ_discrete}
-use Rattle.lft_tag.specs.declared.Tag.{Tag}
-use Rattle.lft_tag.specs.Tags.{Before, UpTo}
-use Rattle.lft_tag.proofs.Order.{UpTo-trans, UpTo_antisym, order_cases}
-use Rattle.lft_ir.specs.Parts.{Parts, inputs}
-use Rattle.lft_ir.specs.declared.parts.Name.{Name}
-use Rattle.lft_ir.specs.declared.parts.Reaction.{Reaction}
-use Rattle.lft_ir.specs.declared.steps.row.Row.{Row}
-use Rattle.lft_ir.specs.declared.steps.row.Step.TheVariants.{Read}
-use Rattle.lft_model.specs.Plans.{PlanParts}
-use Rattle.lft_model.specs.Runs.{inputs_of}
-use Rattle.lft_model.specs.Breaches.{WasRead}
-use Rattle.lft_model.proofs.Ended.{row_is}
-use Rattle.lft_rows.specs.Marks.{HasSeat, ReadsFor, IsMark}
-use Rattle.lft_rows.specs.Passes.{KeepsEarly, IsLatest, RisesTo, IsBadRead}
+use Rattle.lft_tag.{specs.{declared.Tag.Tag, Tags.{Before, UpTo}}, proofs.Order.{UpTo-trans, UpTo_antisym, order_cases}}
+use Rattle.lft_ir.specs.{Parts.{Parts, inputs}, declared.{parts.{Name.Name, Reaction.Reaction}, steps.row.{Row.Row, Step.TheVariants.Read}}}
+use Rattle.lft_model.{specs.{Plans.PlanParts, Runs.inputs_of, Breaches.WasRead}, proofs.Ended.row_is}
+use Rattle.lft_rows.specs.{Marks.{HasSeat, ReadsFor, IsMark}, Passes.{KeepsEarly, IsLatest, RisesTo, IsBadRead}}
 use Rattle.lft_rows.proofs.Marked.{seat_input, input_seat, same_here}
 
 -- the rows before a place at which no rule is broken rise, also to a tag that isn't before the latest

@@ -1,27 +1,14 @@
 -- What a run read, by the mark of an input.
 use Rattle.std.proofs.Common.{◌≡◌, ℕ, ◌+◌, ◌<◌, ◌≤◌, ◌⊎◌, inl, inr, List, [], ◌∷◌, refl, sym, ap, ◌∙◌, subst, arith, lit<, cond, Option, Some, None, slice_get, filter_map, option_and_then}
-use Rattle.std.specs.List.{last_or}
+use Rattle.std.{specs.List.last_or, proofs.NetLemmas.Options.cond_some}
 use Rattle.lft_tag.specs.declared.Tag.{Tag}
 use Rattle.lft_lists.proofs.Members.{filter_map-filter_map, Mem, get_mem, mem_from_filter, last_by_place, none_nil}
-use Rattle.lft_ir.specs.declared.parts.Value.{Value}
-use Rattle.lft_ir.specs.declared.parts.Name.{Name}
+use Rattle.lft_ir.specs.declared.{parts.{Value.Value, Name.Name}, steps.row.{Row.Row, Step.{Step, TheVariants.{Start, Read, Write, Schedule, Stop, End}}}}
 use Rattle.lft_ir.specs.Naming.{same_name}
 use Rattle.lft_ir.proofs.Naming.{name_same, name_self}
-use Rattle.lft_ir.specs.declared.steps.row.Row.{Row}
-use Rattle.lft_ir.specs.declared.steps.row.Step.{Step}
-use Rattle.lft_ir.specs.declared.steps.row.Step.TheVariants.{Start, Read, Write, Schedule, Stop, End}
-use Rattle.lft_model.specs.Runs.{read_of, steps_of, step_of, value_read as read_by}
-use Rattle.lft_model.specs.Plans.{PlanParts}
-use Rattle.lft_model.specs.Breaches.{WasRead, IsUndeclared}
-use Rattle.lft_model.proofs.Legality.{KeepsFour, keeps_four}
-use Rattle.lft_rows.proofs.Steps.{row_eq}
-use Rattle.lft_model.proofs.Steps.{step_row, row_step}
-use Rattle.lft_rows.specs.declared.slices.Slice.{Slice}
-use Rattle.lft_rows.specs.Slices.{IsSlice}
-use Rattle.lft_rows.specs.Marks.{ReadsFor, IsMark}
-use Rattle.lft_rows.specs.Reads.{value_read}
-use Rattle.lft_rows.proofs.Marked.{same_here}
-use Rattle.std.proofs.NetLemmas.Options.{cond_some}
+use Rattle.lft_model.specs.{Runs.{read_of, steps_of, step_of, value_read as read_by}, Plans.PlanParts, Breaches.{WasRead, IsUndeclared}}
+use Rattle.lft_model.proofs.{Legality.{KeepsFour, keeps_four}, Steps.{step_row, row_step}}
+use Rattle.lft_rows.{proofs.{Steps.row_eq, Marked.same_here}, specs.{declared.slices.Slice.Slice, Slices.IsSlice, Marks.{ReadsFor, IsMark}, Reads.value_read}}
 
 -- what a row of the run of r at g reads of a name
 abbrev pub read_in : Tag → ℕ → Name → Row → Option Value

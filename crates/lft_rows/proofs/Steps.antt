@@ -2,20 +2,11 @@
 use Rattle.std.proofs.Common.{◌≡◌, ℕ, ◌+◌, ◌≤◌, ◌⊎◌, inr, is_some, List, refl, sym, ap, ◌∙◌, subst, Option, Some, None, slice_get, cond, true, false, Bool, ◌==◌, ne_eqb, not}
 use Rattle.std.proofs.lemmas.Bool.{eq-eqb, false≢true}
 use native.Mathlib.Decide.{ℕ_discrete}
-use Rattle.lft_tag.specs.declared.Tag.{Tag}
-use Rattle.lft_tag.specs.Tags.{same_tag}
-use Rattle.lft_tag.proofs.Order.{same_tag_refl, same_tag_true}
-use Rattle.lft_ir.specs.declared.steps.row.Row.{Row}
-use Rattle.lft_ir.specs.declared.steps.row.Step.{Step}
-use Rattle.lft_ir.specs.declared.steps.row.Step.TheVariants.{Start, End}
-use Rattle.lft_model.specs.Runs.{start_row, end_row}
-use Rattle.lft_model.specs.Breaches.{IsOpen, IsOutOfOrder, WasStarted}
-use Rattle.lft_rows.specs.declared.open.OpenRuns.{OpenRuns}
-use Rattle.lft_rows.specs.Places.{place_of}
-use Rattle.lft_rows.specs.Passes.{OpenPlace, Holds, HasOpen}
-use Rattle.lft_rows.proofs.PresenceLemmas.Lists.{not_true}
-use Rattle.lft_rows.proofs.Opens.{keeps_open, ends_open, open_kept, none_open, same_start}
-use Rattle.lft_model.proofs.OutOfOrder.{out_inner, inner_out}
+use Rattle.lft_tag.{specs.{declared.Tag.Tag, Tags.same_tag}, proofs.Order.{same_tag_refl, same_tag_true}}
+use Rattle.lft_ir.specs.declared.steps.row.{Row.Row, Step.{Step, TheVariants.{Start, End}}}
+use Rattle.lft_model.{specs.{Runs.{start_row, end_row}, Breaches.{IsOpen, IsOutOfOrder, WasStarted}}, proofs.OutOfOrder.{out_inner, inner_out}}
+use Rattle.lft_rows.specs.{declared.open.OpenRuns.OpenRuns, Places.place_of, Passes.{OpenPlace, Holds, HasOpen}}
+use Rattle.lft_rows.proofs.{PresenceLemmas.Lists.not_true, Opens.{keeps_open, ends_open, open_kept, none_open, same_start}}
 
 pub at_kept : (t : List Row) (p i w : ℕ) (o : Option ℕ) (s : ℕ) → OpenPlace t p i w o → o ≡ Some s → OpenPlace t p i w (Some s)
 at_kept t p i w o s h e = subst (λ z. OpenPlace t p i w z) e h

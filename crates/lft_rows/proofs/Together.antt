@@ -1,21 +1,12 @@
 -- Rows in two parts, where those of the first are at earlier tags than those of the second: no row breaks a rule where none does in its part.
 use Rattle.std.proofs.Common.{◌≡◌, ℕ, ◌+◌, ◌-◌, ◌<◌, ◌≤◌, ◌⊎◌, inl, inr, List, ◌++◌, length, length-append, refl, sym, ap, ◌∙◌, subst, arith, Some, None, slice_get}
-use Rattle.lft_tag.specs.declared.Tag.{Tag}
+use Rattle.lft_tag.{specs.{declared.Tag.Tag, Tags.{Before, UpTo}}, proofs.Order.{Before-irrefl, Before-trans, UpTo-Before, Before-UpTo, UpTo-refl, order_cases}}
 use native.Mathlib.Decide.{ℕ_discrete}
-use Rattle.lft_tag.specs.Tags.{Before, UpTo}
-use Rattle.lft_tag.proofs.Order.{Before-irrefl, Before-trans, UpTo-Before, Before-UpTo, UpTo-refl, order_cases}
 use Rattle.lft_lists.proofs.Places.{get_left, get_right, get_append_cases, get_there}
-use Rattle.lft_ir.specs.Parts.{Parts}
-use Rattle.lft_ir.specs.declared.steps.row.Row.{Row}
-use Rattle.lft_ir.specs.Steps.Fits.{RowsFit}
-use Rattle.lft_ir.specs.declared.steps.row.Step.{Step}
-use Rattle.lft_ir.specs.declared.steps.row.Step.TheVariants.{Start, Read, Write, Schedule, Stop, End}
-use Rattle.lft_model.specs.Plans.{PlanParts}
-use Rattle.lft_model.specs.Runs.{start_row, end_row}
-use Rattle.lft_model.specs.Breaches.{IsOpen, IsLate, IsOutOfOrder, IsUndeclared, BreaksRowUntil}
+use Rattle.lft_ir.specs.{Parts.Parts, declared.steps.row.{Row.Row, Step.{Step, TheVariants.{Start, Read, Write, Schedule, Stop, End}}}, Steps.Fits.RowsFit}
+use Rattle.lft_model.specs.{Plans.PlanParts, Runs.{start_row, end_row}, Breaches.{IsOpen, IsLate, IsOutOfOrder, IsUndeclared, BreaksRowUntil}}
 use Rattle.lft_model.proofs.Places.{slice_get_within}
-use Rattle.lft_rows.specs.Firsts.{FirstRow}
-use Rattle.lft_rows.specs.Parts.{RisesBetween, AreEarlier}
+use Rattle.lft_rows.specs.{Firsts.FirstRow, Parts.{RisesBetween, AreEarlier}}
 
 by_row : (last : Tag) (plan : PlanParts) (t : List Row) → FirstRow last plan t None → (i : ℕ) (row : Row) (k : ℕ) → slice_get t i ≡ Some row → ¬ BreaksRowUntil last plan t i row k
 by_row last plan t kept i row k e b = kept (record { rule = k; tag = row.tag; reaction = Some row.reaction; row = i + 2 }) (record { place = i; row = row; is_row = e; breaks = b; tag_is = refl; reaction_is = refl; row_is = refl })

@@ -2,28 +2,16 @@
 use Rattle.std.proofs.Common.{◌≡◌, ℕ, ◌+◌, ◌<◌, ◌⊎◌, inl, inr, List, length, refl, sym, ap, ◌∙◌, subst, arith, Option, Some, None, slice_get, cond, ◌==◌, ne_eqb}
 use Rattle.std.proofs.lemmas.Bool.{eq-eqb}
 use native.Mathlib.Decide.{ℕ_discrete, dec_lt}
-use Rattle.lft_tag.specs.declared.Tag.{Tag}
-use Rattle.lft_tag.specs.Tags.{Before, UpTo}
-use Rattle.lft_tag.proofs.Order.{order_cases}
-use Rattle.lft_ir.specs.Parts.{Parts}
-use Rattle.lft_ir.specs.declared.steps.row.Row.{Row}
-use Rattle.lft_ir.specs.declared.steps.row.Step.TheVariants.{Start}
-use Rattle.lft_model.specs.declared.breach.Breach.{Breach}
-use Rattle.lft_model.specs.Plans.{PlanParts}
-use Rattle.lft_model.specs.Runs.{start_row}
-use Rattle.lft_model.specs.Breaches.{IsUnended, BreaksRowUntil, RowBreachUntil, RowOrder}
+use Rattle.lft_tag.{specs.{declared.Tag.Tag, Tags.{Before, UpTo}}, proofs.Order.order_cases}
+use Rattle.lft_ir.specs.{Parts.Parts, declared.steps.row.{Row.Row, Step.TheVariants.Start}}
+use Rattle.lft_model.specs.{declared.breach.Breach.Breach, Plans.PlanParts, Runs.start_row, Breaches.{IsUnended, BreaksRowUntil, RowBreachUntil, RowOrder}}
 use Rattle.lft_model.proofs.Places.{slice_get_within}
 use Rattle.lft_rows.specs.declared.marks.Marks.{Marks}
-use Rattle.lft_rows.specs.declared.open.OpenRuns.{OpenRuns}
-use Rattle.lft_rows.specs.declared.open.LastStarts.{LastStarts}
+use Rattle.lft_rows.specs.declared.open.{OpenRuns.OpenRuns, LastStarts.LastStarts}
 use Rattle.lft_rows.specs.declared.pass.Known.{Known}
-use Rattle.lft_rows.specs.Marks.{AreMarks}
-use Rattle.lft_rows.specs.Places.{place_of, last_of}
-use Rattle.lft_rows.specs.Firsts.{IsFirstOfRows}
+use Rattle.lft_rows.specs.{Marks.AreMarks, Places.{place_of, last_of}, Firsts.IsFirstOfRows}
 use Rattle.lft_rows.specs.Passes.{OpenPlace, Holds, IsKnown, LastStart, KeepsEarly, FirstUnended}
-use Rattle.lft_rows.proofs.Opens.{weaken, starts_none, starts_one}
-use Rattle.lft_rows.proofs.Early.{late_of, latest_more, start_more, start_same}
-use Rattle.lft_rows.proofs.Steps.{row_eq, out_start}
+use Rattle.lft_rows.proofs.{Opens.{weaken, starts_none, starts_one}, Early.{late_of, latest_more, start_more, start_same}, Steps.{row_eq, out_start}}
 
 module _ (stop : Tag) (plan : PlanParts) (t : List Row) (i : ℕ) (row : Row) (is_row : slice_get t i ≡ Some row) (kept : KeepsEarly stop plan t (i + 1)) (program : Parts) (known : Known) (h : IsKnown program t i known) (marks : Marks) (marked : AreMarks program t 0 (i + 1) marks) where
   start_parts : (w : ℕ) (g : Tag) (r : ℕ) → slice_get t i ≡ Some (start_row w g r) → (row.step ≡ Start) × (row.worker ≡ w) × (row.reaction ≡ r)

@@ -2,8 +2,7 @@
 use Rattle.std.specs.Prelude.{◌≡◌, ℕ, List, length}
 use Rattle.lft_tag.specs.declared.Tag.{Tag}
 use Rattle.lft_ir.specs.declared.steps.row.Row.{Row}
-use Rattle.lft_model.specs.Plans.{PlanParts}
-use Rattle.lft_model.specs.Breaches.{Legal}
+use Rattle.lft_model.specs.{Plans.PlanParts, Breaches.Legal}
 use Rattle.lft_rows.specs.Slices.{runs_in, AreTags}
 
 -- accepted: the trace is legal, with the number of its runs and of the different tags that have a run

@@ -1,15 +1,9 @@
 -- The effects of each reaction, as sets of numbers. This serves the proof of rule 4.
 use Rattle.std.specs.Prelude.{◌≡◌, ℕ, List, length, Some, slice_get}
-use Rattle.std.specs.BTreeSet.{contains}
-use Rattle.std.specs.List.{list_any}
-use Rattle.std.specs.Ordering.{nat_cmp}
-use Rattle.lft_ir.specs.Parts.{Parts}
-use Rattle.lft_ir.specs.declared.parts.Name.{Name}
-use Rattle.lft_ir.specs.declared.parts.Name.TheVariants.{Port, Action}
-use Rattle.lft_ir.specs.Naming.{same_name}
+use Rattle.std.specs.{BTreeSet.contains, List.list_any, Ordering.nat_cmp}
+use Rattle.lft_ir.specs.{Parts.Parts, declared.parts.Name.{Name, TheVariants.{Port, Action}}, Naming.same_name}
 use Rattle.lft_model.specs.Runs.{effects_of}
-use Rattle.lft_rows.specs.declared.effects.EffectSets.{EffectSets}
-use Rattle.lft_rows.specs.declared.effects.Effects.{Effects}
+use Rattle.lft_rows.specs.declared.effects.{EffectSets.EffectSets, Effects.Effects}
 
 -- the one set has the ports among the names, the other the actions
 pub record AreSetsOf (names : List Name) (sets : EffectSets) : Type 0 where

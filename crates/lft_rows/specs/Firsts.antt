@@ -2,9 +2,7 @@
 use Rattle.std.specs.Prelude.{List, Option, MatchOption}
 use Rattle.lft_tag.specs.declared.Tag.{Tag}
 use Rattle.lft_ir.specs.declared.steps.row.Row.{Row}
-use Rattle.lft_model.specs.declared.breach.Breach.{Breach}
-use Rattle.lft_model.specs.Plans.{PlanParts}
-use Rattle.lft_model.specs.Breaches.{RowBreachUntil, RowOrder}
+use Rattle.lft_model.specs.{declared.breach.Breach.Breach, Plans.PlanParts, Breaches.{RowBreachUntil, RowOrder}}
 
 -- of the row breaches b is the first, where the stop tag is last
 pub record IsFirstOfRows (last : Tag) (plan : PlanParts) (t : List Row) (b : Breach) : Type 0 where

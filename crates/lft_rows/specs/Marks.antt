@@ -1,11 +1,6 @@
 -- Where each reaction read each of its inputs last. This serves the proofs of the rules 4 and 10.
 use Rattle.std.specs.Prelude.{◌≡◌, ℕ, ◌+◌, ◌<◌, ◌≤◌, ◌⊎◌, List, length, Some, slice_get, slice_set}
-use Rattle.lft_ir.specs.Parts.{Parts, inputs}
-use Rattle.lft_ir.specs.declared.parts.Value.{Value}
-use Rattle.lft_ir.specs.declared.parts.Name.{Name}
-use Rattle.lft_ir.specs.declared.parts.Reaction.{Reaction}
-use Rattle.lft_ir.specs.declared.steps.row.Row.{Row}
-use Rattle.lft_ir.specs.declared.steps.row.Step.TheVariants.{Read}
+use Rattle.lft_ir.specs.{Parts.{Parts, inputs}, declared.{parts.{Value.Value, Name.Name, Reaction.Reaction}, steps.row.{Row.Row, Step.TheVariants.Read}}}
 use Rattle.lft_rows.specs.declared.marks.Marks.{Marks}
 
 -- how many seats a reaction has: one for each input

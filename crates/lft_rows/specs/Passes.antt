@@ -1,20 +1,11 @@
 -- What a pass over the rows knows after some of them. This serves the proof of the pass alone.
 use Rattle.std.specs.Prelude.{◌≡◌, ℕ, ◌<◌, ◌≤◌, ◌⊎◌, List, ◌++◌, length, Option, Some, MatchOption, slice_get, Contains}
-use Rattle.lft_tag.specs.declared.Tag.{Tag}
-use Rattle.lft_tag.specs.Tags.{UpTo}
-use Rattle.lft_ir.specs.Parts.{Parts}
-use Rattle.lft_ir.specs.declared.parts.Name.{Name}
-use Rattle.lft_ir.specs.declared.steps.row.Row.{Row}
-use Rattle.lft_model.specs.Plans.{PlanParts}
-use Rattle.lft_model.specs.Runs.{start_row, end_row, inputs_of}
-use Rattle.lft_model.specs.Breaches.{BreaksRowUntil, IsUnended, WasRead}
+use Rattle.lft_tag.specs.{declared.Tag.Tag, Tags.UpTo}
+use Rattle.lft_ir.specs.{Parts.Parts, declared.{parts.Name.Name, steps.row.Row.Row}}
+use Rattle.lft_model.specs.{Plans.PlanParts, Runs.{start_row, end_row, inputs_of}, Breaches.{BreaksRowUntil, IsUnended, WasRead}}
 use Rattle.lft_rows.specs.declared.open.OpenRuns.{OpenRuns}
-use Rattle.lft_rows.specs.declared.pass.Known.{Known}
-use Rattle.lft_rows.specs.declared.pass.Early.{Early}
-use Rattle.lft_rows.specs.declared.pass.Pass.{Pass}
-use Rattle.lft_rows.specs.Effects.{AreEffects}
-use Rattle.lft_rows.specs.Marks.{AreMarks, IsLaid}
-use Rattle.lft_rows.specs.Places.{place_of, last_of}
+use Rattle.lft_rows.specs.declared.pass.{Known.Known, Early.Early, Pass.Pass}
+use Rattle.lft_rows.specs.{Effects.AreEffects, Marks.{AreMarks, IsLaid}, Places.{place_of, last_of}}
 
 -- the row at place j starts a run of r at g by worker w, which has no end row from there up to place i
 pub record Unended (t : List Row) (i j w : ℕ) (g : Tag) (r : ℕ) : Type 0 where

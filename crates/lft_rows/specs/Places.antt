@@ -1,11 +1,9 @@
 -- What the small tables of the pass hold, as functions of their keys.
 use Rattle.std.specs.Prelude.{ℕ, Option, None, slice_get, unwrap_or}
-use Rattle.std.specs.BTreeMap as map
 use Rattle.std.specs.Ordering.{nat_cmp}
 use Rattle.lft_tag.specs.declared.Tag.{Tag}
-use Rattle.lft_rows.specs.declared.open.FarRuns.{FarRuns}
-use Rattle.lft_rows.specs.declared.open.OpenRuns.{OpenRuns}
-use Rattle.lft_rows.specs.declared.open.LastStarts.{LastStarts}
+use Rattle.lft_rows.specs.declared.open.{FarRuns.FarRuns, OpenRuns.OpenRuns, LastStarts.LastStarts}
+use Rattle.std.specs.BTreeMap as map
 
 -- the place of the start row of a worker's open run, by the map
 abbrev pub far_place_of : FarRuns → ℕ → Option ℕ

@@ -1,8 +1,6 @@
 -- What a row reads.
 use Rattle.std.specs.Prelude.{Option, Some, None}
-use Rattle.lft_ir.specs.declared.parts.Value.{Value}
-use Rattle.lft_ir.specs.declared.steps.row.Step.{Step}
-use Rattle.lft_ir.specs.declared.steps.row.Step.TheVariants.{Start, Read, Write, Schedule, Stop, End}
+use Rattle.lft_ir.specs.declared.{parts.Value.Value, steps.row.Step.{Step, TheVariants.{Start, Read, Write, Schedule, Stop, End}}}
 
 -- the value that a step reads
 abbrev pub value_read : Step → Option Value

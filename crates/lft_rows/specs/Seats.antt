@@ -1,9 +1,7 @@
 -- Where each input of a reaction stands, by its number. This serves the look-up of inputs alone.
 use Rattle.std.specs.Prelude.{◌≡◌, ℕ, ◌<◌, List, length, Option, Some, MatchOption, slice_get}
-use Rattle.std.specs.BTreeMap.{BTreeMap, get}
-use Rattle.std.specs.Ordering.{nat_cmp}
-use Rattle.lft_ir.specs.declared.parts.Name.{Name}
-use Rattle.lft_ir.specs.declared.parts.Name.TheVariants.{Port, Action}
+use Rattle.std.specs.{BTreeMap.{BTreeMap, get}, Ordering.nat_cmp}
+use Rattle.lft_ir.specs.declared.parts.Name.{Name, TheVariants.{Port, Action}}
 
 -- a place of n among the first i names, if it is one of them
 abbrev pub PlaceTo : ℕ → List Name → Name → Option ℕ → Type 0

@@ -1,13 +1,9 @@
 //! Rule 4: what a reaction declares, and what was read before.
 
 ghost use Rattle.std.specs.Prelude.{◌≡◌, ℕ, ◌+◌, ◌<◌, ◌≤◌, length, Some, IsTrue, ◌↔◌, slice_get};
-ghost use Rattle.lft_ir.specs.Sound.{IsNameOf};
-ghost use Rattle.lft_ir.specs.declared.steps.row.Row.{Row as TheRow};
-ghost use Rattle.lft_ir.specs.Steps.Fits.{RowFits};
+ghost use Rattle.lft_ir.specs.{Sound.IsNameOf, declared.steps.row.Row.Row as TheRow, Steps.Fits.RowFits};
 ghost use Rattle.lft_model.specs.Breaches.{IsUndeclared, MayWrite, MaySchedule};
-ghost use Rattle.lft_rows.specs.Effects.{AreEffects};
-ghost use Rattle.lft_rows.specs.Marks.{AreMarks};
-ghost use Rattle.lft_rows.specs.Passes.{RisesTo, IsBadRead};
+ghost use Rattle.lft_rows.specs.{Effects.AreEffects, Marks.AreMarks, Passes.{RisesTo, IsBadRead}};
 
 use crate::effects::Effects;
 use crate::marks::Marks;

@@ -1,9 +1,7 @@
 //! Where each reaction read each of its inputs last.
 
 ghost use Rattle.std.specs.Prelude.{◌≡◌, ℕ, ◌+◌, ◌<◌, ◌≤◌, length, Some, IfOk, OnOk, MatchOption, slice_get};
-ghost use Rattle.lft_ir.specs.Parts.{Parts, inputs as the_inputs};
-ghost use Rattle.lft_ir.specs.declared.parts.Reaction.{Reaction as TheReaction};
-ghost use Rattle.lft_ir.specs.Steps.Fits.{RowsFit};
+ghost use Rattle.lft_ir.specs.{Parts.{Parts, inputs as the_inputs}, declared.parts.Reaction.Reaction as TheReaction, Steps.Fits.RowsFit};
 ghost use Rattle.lft_rows.specs.Marks.{width, HasSeat, AreNoneFrom, IsLaid, Mark, IsMarkedBy, AreMarks, AreBefore};
 
 use crate::seats::Inputs;

@@ -3,11 +3,8 @@
 ghost use Rattle.std.specs.Prelude.{◌≡◌, ℕ, ◌+◌, ◌<◌, ◌++◌, length, Some, None, IsTrue, IfSome, IfOk, slice_get};
 ghost use Rattle.std.specs.Thread.{IsSync};
 ghost use Rattle.lft_tag.specs.Tags.{Before};
-ghost use Rattle.lft_ir.specs.Parts.{Parts};
-ghost use Rattle.lft_ir.specs.declared.steps.row.Row.{Row as TheRow};
-ghost use Rattle.lft_ir.specs.Steps.Fits.{RowsFit};
-ghost use Rattle.lft_rows.specs.Firsts.{FirstRow};
-ghost use Rattle.lft_rows.specs.Parts.{RisesBetween};
+ghost use Rattle.lft_ir.specs.{Parts.Parts, declared.steps.row.Row.Row as TheRow, Steps.Fits.RowsFit};
+ghost use Rattle.lft_rows.specs.{Firsts.FirstRow, Parts.RisesBetween};
 
 use crate::pass::first_breach;
 use lft_ir::steps::{Row, row_at};

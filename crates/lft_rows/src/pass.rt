@@ -1,16 +1,10 @@
 //! The pass over the rows for the rules 1 to 5.
 
 ghost use Rattle.std.specs.Prelude.{◌≡◌, ℕ, List, ◌+◌, ◌<◌, ◌≤◌, length, Some, IsTrue, ◌↔◌, IfOk, OnOk, slice_get};
-ghost use Rattle.lft_tag.specs.declared.Tag.{Tag as TheTag};
-ghost use Rattle.lft_tag.specs.Tags.{UpTo};
-ghost use Rattle.lft_ir.specs.declared.steps.row.Row.{Row as TheRow};
-ghost use Rattle.lft_ir.specs.Steps.Fits.{RowsFit};
-ghost use Rattle.lft_model.specs.Plans.{PlanParts};
-ghost use Rattle.lft_model.specs.Breaches.{IsOutOfOrder};
-ghost use Rattle.lft_rows.specs.Effects.{AreEffects};
-ghost use Rattle.lft_rows.specs.Firsts.{FirstRow};
-ghost use Rattle.lft_rows.specs.Marks.{IsLaid};
-ghost use Rattle.lft_rows.specs.Places.{last_of};
+ghost use Rattle.lft_tag.specs.{declared.Tag.Tag as TheTag, Tags.UpTo};
+ghost use Rattle.lft_ir.specs.{declared.steps.row.Row.Row as TheRow, Steps.Fits.RowsFit};
+ghost use Rattle.lft_model.specs.{Plans.PlanParts, Breaches.IsOutOfOrder};
+ghost use Rattle.lft_rows.specs.{Effects.AreEffects, Firsts.FirstRow, Marks.IsLaid, Places.last_of};
 ghost use Rattle.lft_rows.specs.Passes.{IsLatest, LastStart, Holds, HasOpen, IsKnown, FirstUnended, KeepsEarly, EarlyRule, IsEarly, IsPass, HasPassed, HasGoneOn};
 
 use crate::declared::is_undeclared;

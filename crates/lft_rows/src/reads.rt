@@ -1,13 +1,9 @@
 //! What a run read of an input.
 
 ghost use Rattle.std.specs.Prelude.{◌≡◌, ◌<◌, Some, slice_get};
-ghost use Rattle.lft_ir.specs.declared.parts.Name.{Name as TheName};
-ghost use Rattle.lft_ir.specs.declared.parts.Reaction.{Reaction as TheReaction};
-ghost use Rattle.lft_ir.specs.Steps.Fits.{RowsFit};
+ghost use Rattle.lft_ir.specs.{declared.parts.{Name.Name as TheName, Reaction.Reaction as TheReaction}, Steps.Fits.RowsFit};
 ghost use Rattle.lft_model.specs.Runs.{read_of, steps_of};
-ghost use Rattle.lft_rows.specs.Marks.{AreMarks, HasSeat, width};
-ghost use Rattle.lft_rows.specs.Reads.{value_read as the_value_read};
-ghost use Rattle.lft_rows.specs.Slices.{IsSlice};
+ghost use Rattle.lft_rows.specs.{Marks.{AreMarks, HasSeat, width}, Reads.value_read as the_value_read, Slices.IsSlice};
 
 use crate::marks::Marks;
 use crate::slices::Slice;

@@ -1,44 +1,24 @@
 -- The links of a core instance are those of the instance that it stands for.
 use Rattle.std.proofs.Common.{◌≡◌, ℕ, inl, List, [], ◌∷◌, ◌++◌, map, flat_map, filter_map, Option, Some, None, option_map, refl, sym, ap, subst, ◌∙◌, arith, append-nil}
 use Rattle.std.specs.Prelude.{string_bytes}
-use Rattle.std.proofs.lemmas.Grind.{flat_map-append}
-use Rattle.std.proofs.lemmas.List.{map-id}
-use Rattle.std.proofs.lemmas.List.Elements.{filter_map-append}
-use Rattle.lft_lists.proofs.Members.{Mem, mem_filter, mem_map}
-use Rattle.lft_lists.proofs.Places.{Some_same}
-use Rattle.lft_tree.specs.Tree.{ConnectionTree, MemberTree, RefTree, ConnectionMember, PortMember, connection_in, connections_of}
-use Rattle.lft_tree.specs.View.{tree_view}
+use Rattle.std.proofs.lemmas.{Grind.flat_map-append, List.{map-id, Elements.filter_map-append}}
+use Rattle.lft_lists.proofs.{Members.{Mem, mem_filter, mem_map}, Places.Some_same}
+use Rattle.lft_tree.specs.{Tree.{ConnectionTree, MemberTree, RefTree, ConnectionMember, PortMember, connection_in, connections_of}, View.tree_view}
 use Rattle.lft_tree.specs.declared.ast.Ast.{Ast}
-use Rattle.lft_resolve.specs.Causes.{NoneHolds, causes}
-use Rattle.lft_resolve.specs.Instances.{Inside as CoreInside, Thing, stands_for, time_in as core_time_in}
+use Rattle.lft_resolve.specs.{Causes.{NoneHolds, causes}, Instances.{Inside as CoreInside, Thing, stands_for, time_in as core_time_in}}
 use Rattle.lft_program.specs.Flattening.{time_or_zero}
-use Rattle.lft_whole.specs.declared.sources.source.SourceFile.{SourceFile}
-use Rattle.lft_whole.specs.declared.tree.Connection.{Connection}
-use Rattle.lft_whole.specs.declared.tree.Expression.{Expression}
-use Rattle.lft_whole.specs.declared.tree.Member.{Member}
-use Rattle.lft_whole.specs.declared.tree.Member.TheVariants as member
+use Rattle.lft_whole.specs.declared.{sources.source.SourceFile.SourceFile, tree.{Connection.Connection, Expression.Expression, Member.Member}}
 use Rattle.lft_elaborate.specs.Channels.Lowered.{AreJoined}
 use Rattle.lft_classes.specs.declared.shapes.Inherited.{Inherited}
-use Rattle.lft_lower.specs.Meanings.Meanings.{all_places, named_in}
-use Rattle.lft_lower.specs.Meanings.Places.{names_of}
-use Rattle.lft_lower.specs.Lowered.{AreConnected, IsLowered, IsRead, MeanSides, each_pair, time_at, whole}
-use Rattle.lft_lower.specs.Reactors.{IsLowering}
-use Rattle.lft_same.specs.Expanded.Core.{core_links}
-use Rattle.lft_same.specs.Expanded.Expanded.{Link}
-use Rattle.lft_same.specs.Expanded.Instances.{Inside, Widths, time_in}
-use Rattle.lft_same.specs.Expanded.Reactors.{members_of}
+use Rattle.lft_lower.specs.Meanings.{Meanings.{all_places, named_in}, Places.names_of}
+use Rattle.lft_lower.specs.{Lowered.{AreConnected, IsLowered, IsRead, MeanSides, each_pair, time_at, whole}, Reactors.IsLowering}
+use Rattle.lft_same.specs.Expanded.{Core.core_links, Expanded.Link, Instances.{Inside, Widths, time_in}, Reactors.members_of}
 use Rattle.lft_same.specs.Expanded.Whole.{channels, link, links_at, links_of, pairs}
-use Rattle.lft_same.proofs.ExpandedLemmas.Flattened.{linked}
-use Rattle.lft_same.proofs.ExpandedLemmas.Links.{joined_links, whole_links}
-use Rattle.lft_same.proofs.Instances.{AreWidthsFound, StandsFor}
-use Rattle.lft_same.proofs.Inners.{names_alike}
-use Rattle.lft_same.proofs.Known.{delay_time, known_law}
-use Rattle.lft_same.proofs.Listed.{all_mapped, none_mapped, unnumbered}
-use Rattle.lft_same.proofs.Lowered.{Appends, Becomes, of_instance, of_reaction}
-use Rattle.lft_same.proofs.Members.{here, members_alike, never_of}
-use Rattle.lft_same.proofs.References.{all_things, each_stands, thing_for}
-use Rattle.lft_same.proofs.Settings.{its_setting}
+use Rattle.lft_same.proofs.{ExpandedLemmas.{Flattened.linked, Links.{joined_links, whole_links}}, Instances.{AreWidthsFound, StandsFor}, Inners.names_alike}
+use Rattle.lft_same.proofs.{Known.{delay_time, known_law}, Listed.{all_mapped, none_mapped, unnumbered}, Lowered.{Appends, Becomes, of_instance, of_reaction}}
+use Rattle.lft_same.proofs.{Members.{here, members_alike, never_of}, References.{all_things, each_stands, thing_for}, Settings.its_setting}
 use Rattle.lft_same.proofs.Times.{becomes, time_law}
+use Rattle.lft_whole.specs.declared.tree.Member.TheVariants as member
 
 map_nil : {X Y : Type 0} (f : X → Y) (xs : List X) → [] ≡ map f xs → xs ≡ []
 map_nil f [] e = refl

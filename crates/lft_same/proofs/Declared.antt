@@ -2,44 +2,26 @@
 use Rattle.std.proofs.Common.{◌≡◌, ℕ, Bool, true, false, inl, List, [], ◌∷◌, ◌++◌, map, flat_map, filter_map, Option, Some, None, Contains, option_map, option_to_list, refl, sym, ap, subst, ◌∙◌, append-nil}
 use Rattle.std.specs.Prelude.{bytes_eq, filter, if◌then◌else◌, not, string_bytes, unwrap_or}
 use Rattle.std.specs.List.{enumerate_from}
-use Rattle.std.proofs.lemmas.Grind.{flat_map-append}
-use Rattle.std.proofs.lemmas.List.{map-append}
-use Rattle.std.proofs.lemmas.List.Elements.{filter-append, filter_map-append}
-use Rattle.std.proofs.lemmas.Slice.Eq.{bytes_eq-Decides}
+use Rattle.std.proofs.lemmas.{Grind.flat_map-append, List.{map-append, Elements.{filter-append, filter_map-append}}, Slice.Eq.bytes_eq-Decides}
 use Rattle.lft_lists.proofs.Members.{Mem, mem_filter, mem_left, mem_right}
 use Rattle.lft_tree.specs.Tree.{ActionTree, MemberTree, PortTree, ReactionTree, TimeTree, TimerTree, TriggerTree, OnRef, PortMember, TimerMember, ActionMember, ReactionMember, action_in, actions_of, port_in, ports_of, timer_in, timers_of}
-use Rattle.lft_tree.specs.View.{tree_view}
-use Rattle.lft_tree.specs.declared.ast.Ast.{Ast}
-use Rattle.lft_resolve.specs.Causes.{NoneHolds, causes}
-use Rattle.lft_resolve.specs.Instances.{Inside as CoreInside}
-use Rattle.lft_resolve.specs.Kinds.{timer_times, times_in}
+use Rattle.lft_tree.specs.{View.tree_view, declared.ast.Ast.Ast}
+use Rattle.lft_resolve.specs.{Causes.{NoneHolds, causes}, Instances.Inside as CoreInside, Kinds.{timer_times, times_in}}
 use Rattle.lft_program.specs.Flattening.{time_or_zero}
-use Rattle.lft_whole.specs.declared.sources.source.SourceFile.{SourceFile}
-use Rattle.lft_whole.specs.declared.tree.Member.{Member}
-use Rattle.lft_whole.specs.declared.tree.Member.TheVariants as member
-use Rattle.lft_elaborate.specs.Channels.Channels.{below}
-use Rattle.lft_elaborate.specs.Channels.Lowered.{own}
-use Rattle.lft_whole.specs.declared.tree.Name.{Name}
-use Rattle.lft_classes.specs.declared.shapes.Inherited.{Inherited}
-use Rattle.lft_classes.specs.declared.shapes.Thing.TheVariants as thing
-use Rattle.lft_classes.specs.Shapes.{name_of, thing_named, width_of}
-use Rattle.lft_elaborate.specs.Widths.{found_width}
-use Rattle.lft_lower.specs.Meanings.Meanings.{named_in}
-use Rattle.lft_lower.specs.Meanings.Places.{name_at, names_of}
+use Rattle.lft_whole.specs.declared.{sources.source.SourceFile.SourceFile, tree.{Member.Member, Name.Name}}
+use Rattle.lft_elaborate.specs.{Channels.{Channels.below, Lowered.own}, Widths.found_width}
+use Rattle.lft_classes.specs.{declared.shapes.Inherited.Inherited, Shapes.{name_of, thing_named, width_of}}
+use Rattle.lft_lower.specs.Meanings.{Meanings.named_in, Places.{name_at, names_of}}
 use Rattle.lft_lower.specs.Lowered.{AreTriggers, IsAsleep, IsLowered, action_tree, added, asleep, known, period_at, reaction_tree, runs, sleeps, time_at, timer_tree}
 use Rattle.lft_lower.specs.Reactors.{IsLowering}
-use Rattle.lft_same.specs.Expanded.Expanded.{Action, Port, Timer}
-use Rattle.lft_same.specs.Expanded.Instances.{Inside, Widths, numbers, period_in, time_in, written}
-use Rattle.lft_same.specs.Expanded.Reactors.{members_of}
+use Rattle.lft_same.specs.Expanded.{Expanded.{Action, Port, Timer}, Instances.{Inside, Widths, numbers, period_in, time_in, written}, Reactors.members_of}
 use Rattle.lft_same.specs.Expanded.Whole.{actions_at, ports_at, timers_at}
-use Rattle.lft_same.proofs.ExpandedLemmas.Flattened.{map_twice}
-use Rattle.lft_same.proofs.Instances.{AreWidthsFound, StandsFor}
 use Rattle.lft_same.specs.Times.{IsKnown}
-use Rattle.lft_same.proofs.Known.{action_time, known_law, listed, timer_time}
-use Rattle.lft_same.proofs.Listed.{all_mapped, none_mapped, unnumbered}
-use Rattle.lft_same.proofs.Lowered.{Appends, Becomes, never_added, of_connection, of_instance, of_reaction}
-use Rattle.lft_same.proofs.Members.{here, members_alike, never_of, numbers_are, of_class}
-use Rattle.lft_same.proofs.Times.{period_law, time_law}
+use Rattle.lft_same.proofs.{ExpandedLemmas.Flattened.map_twice, Instances.{AreWidthsFound, StandsFor}, Known.{action_time, known_law, listed, timer_time}}
+use Rattle.lft_same.proofs.{Listed.{all_mapped, none_mapped, unnumbered}, Lowered.{Appends, Becomes, never_added, of_connection, of_instance, of_reaction}}
+use Rattle.lft_same.proofs.{Members.{here, members_alike, never_of, numbers_are, of_class}, Times.{period_law, time_law}}
+use Rattle.lft_whole.specs.declared.tree.Member.TheVariants as member
+use Rattle.lft_classes.specs.declared.shapes.Thing.TheVariants as thing
 
 -- ---- lists by kind
 

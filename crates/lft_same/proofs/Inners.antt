@@ -1,32 +1,20 @@
 -- The instances in a core instance are those in the instance that it stands for.
 use Rattle.std.proofs.Common.{◌≡◌, ℕ, List, [], ◌∷◌, ◌++◌, map, flat_map, filter_map, Option, Some, option_map, slice_get, refl, sym, ap, subst, ◌∙◌, append-nil}
 use Rattle.std.specs.Prelude.{string_bytes, unwrap_or}
-use Rattle.std.specs.List.{AllZip}
-use Rattle.std.proofs.lemmas.Grind.{flat_map-append}
-use Rattle.std.proofs.lemmas.List.Elements.{filter_map-append}
+use Rattle.std.{specs.List.AllZip, proofs.lemmas.{Grind.flat_map-append, List.Elements.filter_map-append}}
 use Rattle.lft_lists.proofs.Mapped.{mapped}
-use Rattle.lft_tree.specs.Tree.{InstanceTree, InstanceMember, MemberTree, PortMember, instance_in, instances_of}
-use Rattle.lft_tree.specs.declared.ast.Ast.{Ast}
+use Rattle.lft_tree.specs.{Tree.{InstanceTree, InstanceMember, MemberTree, PortMember, instance_in, instances_of}, declared.ast.Ast.Ast}
 use Rattle.lft_resolve.specs.Instances.{Inside as CoreInside}
-use Rattle.lft_whole.specs.declared.sources.source.SourceFile.{SourceFile}
-use Rattle.lft_whole.specs.declared.tree.Instance.{Instance}
-use Rattle.lft_whole.specs.declared.tree.Member.{Member}
-use Rattle.lft_whole.specs.declared.tree.Member.TheVariants as member
-use Rattle.lft_elaborate.specs.Channels.Channels.{below}
-use Rattle.lft_classes.specs.declared.shapes.Inherited.{Inherited}
-use Rattle.lft_classes.specs.Shapes.{width_of}
-use Rattle.lft_elaborate.specs.Widths.{found_width}
-use Rattle.lft_lower.specs.Meanings.Meanings.{named_in}
-use Rattle.lft_lower.specs.Meanings.Places.{Several, name_at, names_of}
-use Rattle.lft_lower.specs.Lowered.{AreGiven, AreInstances, IsLowered, instances, no_instances, reactor_at, some_instances, time_at}
-use Rattle.lft_lower.specs.Reactors.{IsLowering}
-use Rattle.lft_same.specs.Expanded.Instances.{Inner, Inside, Widths, inners, inners_at, numbers, written}
-use Rattle.lft_same.specs.Expanded.Reactors.{members_of}
-use Rattle.lft_same.proofs.ExpandedLemmas.Flattened.{map_twice}
-use Rattle.lft_same.proofs.Instances.{AreWidthsFound, StandsFor}
-use Rattle.lft_same.proofs.Listed.{all_mapped, none_mapped, zipped_append, zipped_maps, zipped_same}
-use Rattle.lft_same.proofs.Lowered.{Appends, Becomes, of_connection, of_reaction}
+use Rattle.lft_whole.specs.declared.{sources.source.SourceFile.SourceFile, tree.{Instance.Instance, Member.Member}}
+use Rattle.lft_elaborate.specs.{Channels.Channels.below, Widths.found_width}
+use Rattle.lft_classes.specs.{declared.shapes.Inherited.Inherited, Shapes.width_of}
+use Rattle.lft_lower.specs.Meanings.{Meanings.named_in, Places.{Several, name_at, names_of}}
+use Rattle.lft_lower.specs.{Lowered.{AreGiven, AreInstances, IsLowered, instances, no_instances, reactor_at, some_instances, time_at}, Reactors.IsLowering}
+use Rattle.lft_same.specs.Expanded.{Instances.{Inner, Inside, Widths, inners, inners_at, numbers, written}, Reactors.members_of}
+use Rattle.lft_same.proofs.{ExpandedLemmas.Flattened.map_twice, Instances.{AreWidthsFound, StandsFor}}
+use Rattle.lft_same.proofs.{Listed.{all_mapped, none_mapped, zipped_append, zipped_maps, zipped_same}, Lowered.{Appends, Becomes, of_connection, of_reaction}}
 use Rattle.lft_same.proofs.Members.{here, members_alike, never_of, numbers_are, of_class}
+use Rattle.lft_whole.specs.declared.tree.Member.TheVariants as member
 
 module _ (files : List SourceFile) (tree : Ast) (low : IsLowering files tree) (x : Inside) (core : CoreInside) (s : StandsFor files tree low x core) where
   -- an instance in the core instance and one in the instance are of the same member

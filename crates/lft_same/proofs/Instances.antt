@@ -1,19 +1,12 @@
 -- Core instances that stand for instances.
 use Rattle.std.specs.Prelude.{◌≡◌, ℕ, List, Some, Contains}
-use Rattle.lft_tree.specs.Tree.{reactors_of}
-use Rattle.lft_tree.specs.View.{tree_view}
-use Rattle.lft_tree.specs.declared.ast.Ast.{Ast}
+use Rattle.lft_tree.specs.{Tree.reactors_of, View.tree_view, declared.ast.Ast.Ast}
 use Rattle.lft_resolve.specs.Instances.{Inside as CoreInside}
 use Rattle.lft_whole.specs.declared.sources.source.SourceFile.{SourceFile}
-use Rattle.lft_classes.specs.Walks.{Has}
-use Rattle.lft_classes.specs.declared.shapes.Shape.{Shape}
-use Rattle.lft_elaborate.specs.Settings.{setting_at, shape_at}
-use Rattle.lft_elaborate.specs.Values.{Valued}
-use Rattle.lft_elaborate.specs.Widths.{found_width}
+use Rattle.lft_classes.specs.{Walks.Has, declared.shapes.Shape.Shape}
+use Rattle.lft_elaborate.specs.{Settings.{setting_at, shape_at}, Values.Valued, Widths.found_width}
 use Rattle.lft_lower.specs.Reactors.{IsLowering, IsReactor}
-use Rattle.lft_same.specs.Expanded.Instances.{Inside, Widths}
-use Rattle.lft_same.specs.Fits.Fits.{Fits}
-use Rattle.lft_same.specs.Times.{HasTimes}
+use Rattle.lft_same.specs.{Expanded.Instances.{Inside, Widths}, Fits.Fits.Fits, Times.HasTimes}
 
 -- where a setting that instances have fits an instance, that one has the widths that lowering found
 abbrev pub AreWidthsFound : (files : List SourceFile) (tree : Ast) → IsLowering files tree → Widths → Type 0

@@ -1,9 +1,7 @@
 -- Lists that are filtered, and lists of lists.
 use Rattle.std.proofs.Common.{◌≡◌, inl, inr, All, Bool, true, List, [], ◌∷◌, ◌++◌, map, flat_map, filter_map, Option, Some, None, option_to_list, refl, ap, ◌∙◌}
 use Rattle.std.specs.Prelude.{filter, if◌then◌else◌, unwrap_or}
-use Rattle.std.specs.List.{cons_option}
-use Rattle.std.proofs.lemmas.Grind.{flat_map-append}
-use Rattle.std.proofs.lemmas.List.Elements.{filter-append}
+use Rattle.std.{specs.List.cons_option, proofs.lemmas.{Grind.flat_map-append, List.Elements.filter-append}}
 use Rattle.lft_lists.proofs.Members.{Mem, get_mem}
 use Rattle.lft_program.proofs.FullNames.{all_at}
 

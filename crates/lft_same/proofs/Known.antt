@@ -1,13 +1,10 @@
 -- Where a tree isn't refused, each time in it is written out or names a parameter.
 use Rattle.std.proofs.Common.{◌≡◌, ℕ, ◌⊎◌, inl, inr, List, ◌++◌, Option, Some, None, Contains, flat_map, map, option_to_list, slice_get, refl, sym, subst}
-use Rattle.lft_lists.proofs.Members.{Mem, mem_contains, mem_flat, mem_left, mem_map, mem_right}
-use Rattle.lft_lists.proofs.Places.{at_contains, contains_at}
+use Rattle.lft_lists.proofs.{Members.{Mem, mem_contains, mem_flat, mem_left, mem_map, mem_right}, Places.{at_contains, contains_at}}
 use Rattle.lft_tree.specs.Tree.{ActionTree, AssignmentTree, ConnectionTree, FileTree, InstanceTree, ReactorTree, TimeTree, TimerTree, Written, Named, actions_of, connections_of, instances_of, reactors_of, timers_of}
 use Rattle.lft_resolve.specs.Causes.{IsMisplacedTime, IsUnknownTime, Misplaces, NamesNothing, NoneHolds, UnknownName, WrongPlace, causes}
-use Rattle.lft_resolve.specs.Kinds.{timer_times, times_in}
-use Rattle.lft_resolve.specs.Sheets.{parameter_place}
-use Rattle.lft_resolve.proofs.Lost.{lost_time}
-use Rattle.lft_resolve.proofs.Twice.{Any-at}
+use Rattle.lft_resolve.specs.{Kinds.{timer_times, times_in}, Sheets.parameter_place}
+use Rattle.lft_resolve.proofs.{Lost.lost_time, Twice.Any-at}
 use Rattle.lft_program.proofs.Giving.{place_is}
 use Rattle.lft_same.specs.Times.{IsKnown}
 

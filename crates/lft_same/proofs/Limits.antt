@@ -1,19 +1,12 @@
 -- An instance of a tree that isn't refused has few ports, and few instances in it.
 use Rattle.std.proofs.Common.{◌≡◌, inl, inr, ℕ, zero, suc, ◌+◌, ◌<◌, ◌≤◌, List, [], ◌∷◌, ◌++◌, length, map, Some, Contains, option_map, slice_get, sym, ap, ◌∙◌, arith, subst}
-use Rattle.std.specs.List.{range_with_len}
-use Rattle.std.specs.Option.{option_and_then}
-use Rattle.std.proofs.lemmas.List.{length-map}
-use Rattle.std.proofs.lemmas.List.FromFn.{length-range_with_len}
-use Rattle.lft_resolve.specs.Expansion.Paths.{IsMoreThan}
-use Rattle.lft_resolve.proofs.ExpansionLemmas.Orders.{along_kid}
-use Rattle.lft_lists.proofs.Mapped.{mapped_from}
-use Rattle.lft_lists.proofs.Places.{get_there, push_apart}
-use Rattle.lft_elaborate.specs.Channels.Channels.{below}
-use Rattle.lft_tree.specs.Tree.{InstanceTree, ReactorTree, instances_of, ports_of, reactors_of}
-use Rattle.lft_tree.specs.View.{tree_view}
-use Rattle.lft_tree.specs.declared.ast.Ast.{Ast}
-use Rattle.lft_resolve.specs.Causes.{IsDeclaredAt, NoneHolds, TooMany, causes}
+use Rattle.std.{specs.{List.range_with_len, Option.option_and_then}, proofs.lemmas.List.{length-map, FromFn.length-range_with_len}}
+use Rattle.lft_resolve.specs.{Expansion.Paths.IsMoreThan, Causes.{IsDeclaredAt, NoneHolds, TooMany, causes}}
 use Rattle.lft_resolve.specs.Instances.{Inside, IsInside, entered, given_in, main_instance, reactor_named}
+use Rattle.lft_resolve.proofs.ExpansionLemmas.Orders.{along_kid}
+use Rattle.lft_lists.proofs.{Mapped.mapped_from, Places.{get_there, push_apart}}
+use Rattle.lft_elaborate.specs.Channels.Channels.{below}
+use Rattle.lft_tree.specs.{Tree.{InstanceTree, ReactorTree, instances_of, ports_of, reactors_of}, View.tree_view, declared.ast.Ast.Ast}
 use Rattle.lft_program.proofs.Limiting.{LeadsIn}
 use Rattle.lft_same.proofs.Reactors.{has_reactor}
 

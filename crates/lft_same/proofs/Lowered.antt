@@ -1,23 +1,16 @@
 -- What holds of what each member of a shape becomes holds of what all become.
 use Rattle.std.proofs.Common.{◌≡◌, ℕ, suc, ◌+◌, inl, inr, ⊎_elim, Bool, List, [], ◌∷◌, ◌++◌, length, filter_map, Option, Some, None, slice_get, refl, sym, ap, subst, ◌∙◌, arith}
-use Rattle.std.specs.List.{cons_option, enumerate_from}
-use Rattle.std.proofs.lemmas.List.{length-map, map-append}
-use Rattle.std.proofs.lemmas.List.Elements.{filter_map-append}
-use Rattle.lft_lists.proofs.Mapped.{enumerate_at, mapped}
-use Rattle.lft_lists.proofs.Members.{Mem, mem_cases, mem_get, mem_left, mem_right}
+use Rattle.std.{specs.List.{cons_option, enumerate_from}, proofs.lemmas.List.{length-map, map-append, Elements.filter_map-append}}
+use Rattle.lft_lists.proofs.{Mapped.{enumerate_at, mapped}, Members.{Mem, mem_cases, mem_get, mem_left, mem_right}}
 use Rattle.lft_lists.proofs.Places.{Some_same, get_last, get_push, same_some}
 use Rattle.lft_tree.specs.Identifiers.{IsName}
 use Rattle.lft_tree.specs.Tree.{ConnectionMember, ConnectionTree, InstanceMember, InstanceTree, MemberTree, ReactionMember, RefTree, TimeTree, TriggerTree}
-use Rattle.lft_whole.specs.declared.tree.Member.{Member}
-use Rattle.lft_whole.specs.declared.tree.Member.TheVariants as member
-use Rattle.lft_whole.specs.declared.tree.Reaction.{Reaction}
-use Rattle.lft_classes.specs.declared.shapes.Inherited.{Inherited}
-use Rattle.lft_classes.specs.Built.{located}
-use Rattle.lft_classes.specs.Shapes.{thing_named}
-use Rattle.lft_lower.specs.Meanings.Meanings.{Here, named_in}
-use Rattle.lft_lower.specs.Meanings.Places.{names_of}
+use Rattle.lft_whole.specs.declared.tree.{Member.Member, Reaction.Reaction}
+use Rattle.lft_classes.specs.{declared.shapes.Inherited.Inherited, Built.located, Shapes.thing_named}
+use Rattle.lft_lower.specs.Meanings.{Meanings.{Here, named_in}, Places.names_of}
 use Rattle.lft_lower.specs.Lowered.{AreConnected, AreInstances, AreLowered, AreTriggers, IsAsleep, IsLowered, IsMeasured, IsReaction, added, asleep, each_pair, known, more_members, no_instances, no_members, reaction_tree, runs, sleeps, some_instances, whole}
 use Rattle.lft_same.proofs.Listed.{none_mapped}
+use Rattle.lft_whole.specs.declared.tree.Member.TheVariants as member
 
 -- what holds of no items, and of two lists one behind the other where it holds of each
 pub record Appends {X Y : Type 0} (R : List X → List Y → Type 0) : Type 0 where

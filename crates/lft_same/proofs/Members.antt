@@ -2,23 +2,14 @@
 use Rattle.std.proofs.Common.{◌≡◌, ℕ, None, List, [], ◌∷◌, map, Option, Some, option_map, slice_get, subst}
 use Rattle.std.specs.Prelude.{unwrap_or}
 use Rattle.std.specs.List.{enumerate_from}
-use Rattle.lft_tree.specs.Tree.{MemberTree}
-use Rattle.lft_tree.specs.declared.ast.Ast.{Ast}
+use Rattle.lft_tree.specs.{Tree.MemberTree, declared.ast.Ast.Ast}
 use Rattle.lft_resolve.specs.Instances.{Inside as CoreInside}
-use Rattle.lft_whole.specs.declared.sources.source.SourceFile.{SourceFile}
-use Rattle.lft_whole.specs.declared.tree.Member.{Member}
-use Rattle.lft_elaborate.specs.Channels.Channels.{below}
-use Rattle.lft_classes.specs.declared.shapes.Inherited.{Inherited}
-use Rattle.lft_classes.specs.Shapes.{width_of}
-use Rattle.lft_elaborate.specs.Widths.{found_width}
-use Rattle.lft_lower.specs.Meanings.Meanings.{Here}
-use Rattle.lft_lower.specs.Lowered.{IsMeasured}
-use Rattle.lft_lower.specs.Reactors.{IsLowering}
-use Rattle.lft_same.specs.Expanded.Instances.{Inside, Widths, numbers}
-use Rattle.lft_same.specs.Expanded.Reactors.{members_of}
-use Rattle.lft_same.specs.Fits.Fits.{IsShapeOf}
-use Rattle.lft_same.proofs.Instances.{AreWidthsFound, StandsFor}
-use Rattle.lft_same.proofs.Lowered.{Appends, Becomes, all_become}
+use Rattle.lft_whole.specs.declared.{sources.source.SourceFile.SourceFile, tree.Member.Member}
+use Rattle.lft_elaborate.specs.{Channels.Channels.below, Widths.found_width}
+use Rattle.lft_classes.specs.{declared.shapes.Inherited.Inherited, Shapes.width_of}
+use Rattle.lft_lower.specs.{Meanings.Meanings.Here, Lowered.IsMeasured, Reactors.IsLowering}
+use Rattle.lft_same.specs.{Expanded.{Instances.{Inside, Widths, numbers}, Reactors.members_of}, Fits.Fits.IsShapeOf}
+use Rattle.lft_same.proofs.{Instances.{AreWidthsFound, StandsFor}, Lowered.{Appends, Becomes, all_become}}
 use Rattle.lft_same.proofs.Settings.{its_setting, numbers_are as numbers_found, of_class as class_found, same_shape as shape_found, unwritten as none_found}
 
 module _ (files : List SourceFile) (tree : Ast) (low : IsLowering files tree) (x : Inside) (core : CoreInside) (s : StandsFor files tree low x core) where

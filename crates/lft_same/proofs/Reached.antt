@@ -2,45 +2,24 @@
 use Rattle.std.proofs.Common.{◌≡◌, ℕ, zero, suc, ◌+◌, ◌<◌, ◌≤◌, inl, inr, ⊎_elim, true, false, List, [], ◌∷◌, ◌++◌, length, length-append, filter_map, map, Option, Some, None, option_map, slice_get, refl, sym, ap, subst, ◌∙◌, arith}
 use Rattle.std.specs.Prelude.{is_some, string_bytes, unwrap_or}
 use Rattle.std.specs.Option.{option_and_then}
-use Rattle.std.proofs.lemmas.List.{length-map}
-use Rattle.std.proofs.lemmas.Option.{slice_get_within}
-use Rattle.std.proofs.lemmas.List.Elements.{filter_map-append}
-use Rattle.std.proofs.lemmas.List.FromFn.{length-range_with_len}
+use Rattle.std.proofs.lemmas.{List.{length-map, Elements.filter_map-append, FromFn.length-range_with_len}, Option.slice_get_within}
 use Rattle.lft_resolve.proofs.ExpansionLemmas.Orders.{along_kid}
-use Rattle.lft_lists.proofs.Mapped.{enumerate_at, mapped}
-use Rattle.lft_lists.proofs.Members.{Mem, get_mem, mem_cases, mem_filter, mem_get}
-use Rattle.lft_lists.proofs.Places.{same_some}
-use Rattle.lft_elaborate.specs.Channels.Channels.{below}
-use Rattle.lft_tree.specs.Tree.{InstanceTree, InstanceMember, MemberTree, PortMember, PortTree, ReactorTree, instance_in, instances_of, port_in, ports_of, reactors_of}
-use Rattle.lft_tree.specs.View.{tree_view}
-use Rattle.lft_tree.specs.declared.ast.Ast.{Ast}
-use Rattle.lft_resolve.specs.Causes.{NoneHolds, causes}
-use Rattle.lft_resolve.specs.Instances.{Inside as CoreInside, IsInside, entered, given_in, main_instance, reactor_named}
-use Rattle.lft_program.proofs.Zipping.{then_some}
-use Rattle.lft_whole.specs.declared.sources.source.SourceFile.{SourceFile}
-use Rattle.lft_whole.specs.declared.tree.Instance.{Instance}
-use Rattle.lft_whole.specs.declared.tree.Member.{Member}
-use Rattle.lft_whole.specs.declared.tree.Member.TheVariants as member
-use Rattle.lft_whole.specs.declared.tree.Width.{Width}
-use Rattle.lft_classes.specs.declared.shapes.Inherited.{Inherited}
-use Rattle.lft_classes.specs.declared.shapes.Shape.{Shape}
-use Rattle.lft_classes.specs.Built.{located}
-use Rattle.lft_classes.specs.Shapes.{width_of}
-use Rattle.lft_elaborate.specs.Places.{IsMany, IsWidth, how_many, many, member_in, width_in, written_width}
-use Rattle.lft_elaborate.specs.Used.{IsIn, IsReached, is_instance, is_instance_in, main, within}
-use Rattle.lft_elaborate.specs.Values.{Valued, inside, main_setting}
-use Rattle.lft_elaborate.specs.Widths.{found_width}
+use Rattle.lft_resolve.specs.{Causes.{NoneHolds, causes}, Instances.{Inside as CoreInside, IsInside, entered, given_in, main_instance, reactor_named}}
+use Rattle.lft_lists.proofs.{Mapped.{enumerate_at, mapped}, Members.{Mem, get_mem, mem_cases, mem_filter, mem_get}, Places.same_some}
+use Rattle.lft_elaborate.specs.{Channels.Channels.below, Places.{IsMany, IsWidth, how_many, many, member_in, width_in, written_width}}
+use Rattle.lft_elaborate.specs.{Used.{IsIn, IsReached, is_instance, is_instance_in, main, within}, Values.{Valued, inside, main_setting}, Widths.found_width}
 use Rattle.lft_elaborate.proofs.Counting.{one_count}
-use Rattle.lft_lower.specs.Meanings.Meanings.{Here, named_in}
-use Rattle.lft_lower.specs.Meanings.Places.{name_at, names_of}
-use Rattle.lft_lower.specs.Lowered.{AreInstances, IsLowered, instances, no_instances, reactor_at, some_instances}
-use Rattle.lft_lower.specs.Reactors.{IsLowering}
+use Rattle.lft_tree.specs.Tree.{InstanceTree, InstanceMember, MemberTree, PortMember, PortTree, ReactorTree, instance_in, instances_of, port_in, ports_of, reactors_of}
+use Rattle.lft_tree.specs.{View.tree_view, declared.ast.Ast.Ast}
+use Rattle.lft_program.proofs.Zipping.{then_some}
+use Rattle.lft_whole.specs.declared.{sources.source.SourceFile.SourceFile, tree.{Instance.Instance, Member.Member, Width.Width}}
+use Rattle.lft_classes.specs.{declared.shapes.{Inherited.Inherited, Shape.Shape}, Built.located, Shapes.width_of}
+use Rattle.lft_lower.specs.Meanings.{Meanings.{Here, named_in}, Places.{name_at, names_of}}
+use Rattle.lft_lower.specs.{Lowered.{AreInstances, IsLowered, instances, no_instances, reactor_at, some_instances}, Reactors.IsLowering}
 use Rattle.lft_same.specs.Fits.Widths.{small}
-use Rattle.lft_same.proofs.Found.{found_is_width, shape_of_setting, width_written}
-use Rattle.lft_same.proofs.Limits.{few_instances, few_ports}
-use Rattle.lft_same.proofs.Listed.{all_mapped}
-use Rattle.lft_same.proofs.Lowered.{Appends, Becomes, all_become, made_at, numbered}
-use Rattle.lft_same.proofs.Reactors.{IsCore, has_main, has_reactor, main_found, reactor_found}
+use Rattle.lft_same.proofs.{Found.{found_is_width, shape_of_setting, width_written}, Limits.{few_instances, few_ports}, Listed.all_mapped}
+use Rattle.lft_same.proofs.{Lowered.{Appends, Becomes, all_become, made_at, numbered}, Reactors.{IsCore, has_main, has_reactor, main_found, reactor_found}}
+use Rattle.lft_whole.specs.declared.tree.Member.TheVariants as member
 
 -- how many ports and instances there are among members
 abbrev size : List MemberTree → ℕ

@@ -1,49 +1,30 @@
 -- The reactions of a core instance are those of the instance that it stands for, but for what sleeps.
 use Rattle.std.proofs.Common.{◌≡◌, ℕ, inl, inr, All, Bool, true, false, List, [], ◌∷◌, ◌++◌, map, flat_map, filter_map, Option, Some, None, option_to_list, refl, sym, ap, subst, ◌∙◌}
 use Rattle.std.specs.Prelude.{bytes_eq, filter, if◌then◌else◌, not, string_bytes, ◌&&◌}
-use Rattle.std.proofs.lemmas.Grind.{flat_map-append}
-use Rattle.std.proofs.lemmas.List.{map-append}
-use Rattle.std.proofs.lemmas.List.Elements.{filter_map-append}
-use Rattle.std.proofs.lemmas.Slice.Eq.{bytes_eq-Decides}
+use Rattle.std.proofs.lemmas.{Grind.flat_map-append, List.{map-append, Elements.filter_map-append}, Slice.Eq.bytes_eq-Decides}
 use Rattle.lft_lists.proofs.Members.{Mem, filter_map-flat_map, mem_from_flat, mem_from_map}
 use Rattle.lft_tree.specs.Tree.{MemberTree, RefTree, TriggerTree, AtStartup as StartupTrigger, AtShutdown as ShutdownTrigger, OnRef, PortMember, ReactionMember, reaction_in, reactions_of}
-use Rattle.lft_tree.specs.View.{tree_view}
-use Rattle.lft_tree.specs.declared.ast.Ast.{Ast}
-use Rattle.lft_resolve.specs.Causes.{NoneHolds, causes}
-use Rattle.lft_resolve.specs.Instances.{Inside as CoreInside, Thing, stands_for, thing_at}
+use Rattle.lft_tree.specs.{View.tree_view, declared.ast.Ast.Ast}
+use Rattle.lft_resolve.specs.{Causes.{NoneHolds, causes}, Instances.{Inside as CoreInside, Thing, stands_for, thing_at}}
 use Rattle.lft_resolve.specs.Sheets.{is_timer as is_core_timer, without_timers}
 use Rattle.lft_whole.specs.declared.sources.source.SourceFile.{SourceFile}
-use Rattle.lft_whole.specs.declared.tree.Effect.{Effect}
-use Rattle.lft_whole.specs.declared.tree.Effect.TheVariants as effect
-use Rattle.lft_whole.specs.declared.tree.Member.{Member}
-use Rattle.lft_whole.specs.declared.tree.Member.TheVariants as member
-use Rattle.lft_whole.specs.declared.tree.Reaction.{Reaction as WrittenReaction}
-use Rattle.lft_whole.specs.declared.tree.Reference.{Reference}
+use Rattle.lft_whole.specs.declared.tree.{Effect.Effect, Member.Member, Reaction.Reaction as WrittenReaction, Reference.Reference}
 use Rattle.lft_whole.specs.declared.tree.Trigger.{Trigger as WrittenTrigger}
-use Rattle.lft_whole.specs.declared.tree.Trigger.TheVariants as trigger
 use Rattle.lft_elaborate.specs.Channels.Lowered.{own}
 use Rattle.lft_classes.specs.declared.shapes.Inherited.{Inherited}
-use Rattle.lft_lower.specs.Meanings.Meanings.{Means, all_places, named_in, places_in}
-use Rattle.lft_lower.specs.Meanings.Places.{names_of}
+use Rattle.lft_lower.specs.Meanings.{Meanings.{Means, all_places, named_in, places_in}, Places.names_of}
 use Rattle.lft_lower.specs.Lowered.{AreTriggers, IsAsleep, IsLowered, MeansAll, MeansEffect, MeansTrigger, added, all_triggers, asleep, effect_places, known, reaction_tree, runs, sleeps, time_at, trigger_places}
 use Rattle.lft_lower.specs.Reactors.{IsLowering}
-use Rattle.lft_same.specs.Expanded.Core.{core_reaction, things_for, triggers_for}
-use Rattle.lft_same.specs.Expanded.Expanded.{Reaction, Trigger, AtStartup, AtShutdown, OnThing}
-use Rattle.lft_same.specs.Expanded.Instances.{Inside, Widths}
-use Rattle.lft_same.specs.Expanded.Reactors.{members_of}
-use Rattle.lft_same.specs.Expanded.Same.{awake_reaction, is_other}
+use Rattle.lft_same.specs.Expanded.{Core.{core_reaction, things_for, triggers_for}, Expanded.{Reaction, Trigger, AtStartup, AtShutdown, OnThing}}
+use Rattle.lft_same.specs.Expanded.{Instances.{Inside, Widths}, Reactors.members_of, Same.{awake_reaction, is_other}}
 use Rattle.lft_same.specs.Expanded.Whole.{channels, effects_in, reactions_at, triggers_in, uses_in}
-use Rattle.lft_same.proofs.FitsLemmas.Shapes.{flat_alike, flat_mapped}
-use Rattle.lft_same.proofs.Instances.{AreWidthsFound, StandsFor}
-use Rattle.lft_same.proofs.Inners.{names_alike}
-use Rattle.lft_same.proofs.Kept.{all_pass, filter-flat_map, flat_kept, flat_map-flat_map, of_all}
-use Rattle.lft_same.proofs.Listed.{none_mapped, unnumbered}
-use Rattle.lft_same.proofs.Lowered.{Appends, Becomes, of_connection, of_instance}
-use Rattle.lft_same.proofs.Members.{here, members_alike, never_of}
-use Rattle.lft_same.proofs.References.{places_channels}
-use Rattle.lft_same.proofs.Settings.{its_setting}
-use Rattle.lft_same.proofs.Sleeping.{never_meant, own_thing}
-use Rattle.lft_same.proofs.Timers.{use_alike}
+use Rattle.lft_same.proofs.{FitsLemmas.Shapes.{flat_alike, flat_mapped}, Instances.{AreWidthsFound, StandsFor}, Inners.names_alike}
+use Rattle.lft_same.proofs.{Kept.{all_pass, filter-flat_map, flat_kept, flat_map-flat_map, of_all}, Listed.{none_mapped, unnumbered}}
+use Rattle.lft_same.proofs.{Lowered.{Appends, Becomes, of_connection, of_instance}, Members.{here, members_alike, never_of}, References.places_channels}
+use Rattle.lft_same.proofs.{Settings.its_setting, Sleeping.{never_meant, own_thing}, Timers.use_alike}
+use Rattle.lft_whole.specs.declared.tree.Effect.TheVariants as effect
+use Rattle.lft_whole.specs.declared.tree.Member.TheVariants as member
+use Rattle.lft_whole.specs.declared.tree.Trigger.TheVariants as trigger
 
 -- triggers without the action without events, if there is one
 abbrev awake_triggers : List ℕ → Option (List ℕ) → List Trigger → List Trigger

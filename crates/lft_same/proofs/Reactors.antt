@@ -1,33 +1,19 @@
 -- The core reactors of a tree, and what `new` finds of them.
 use Rattle.std.proofs.Common.{◌≡◌, ℕ, ◌⊎◌, inl, inr, Bool, true, false, List, [], ◌∷◌, ◌++◌, length, filter_map, Option, Some, None, Contains, slice_get, refl, sym, ap, subst, ◌∙◌}
 use Rattle.std.specs.Prelude.{filter, find, if◌then◌else◌, slice_index_or}
-use Rattle.std.specs.Option.{option_and_then}
-use Rattle.std.proofs.lemmas.List.Elements.{filter_map-append}
-use Rattle.std.proofs.lemmas.Slice.Eq.{bytes_eq-Decides}
-use Rattle.lft_lists.proofs.Mapped.{option_map_some}
-use Rattle.lft_lists.proofs.Members.{Mem, mem_cases, mem_contains}
-use Rattle.lft_lists.proofs.Places.{at_contains, get_last, get_push}
-use Rattle.lft_tree.specs.Tree.{InstanceTree, ItemTree, ReactorTree, ReactorItem, instances_of, reactor_in, reactors_of}
-use Rattle.lft_tree.specs.View.{tree_view}
-use Rattle.lft_tree.specs.ItemView.{item_views}
+use Rattle.std.{specs.Option.option_and_then, proofs.lemmas.{List.Elements.filter_map-append, Slice.Eq.bytes_eq-Decides}}
+use Rattle.lft_lists.proofs.{Mapped.option_map_some, Members.{Mem, mem_cases, mem_contains}, Places.{at_contains, get_last, get_push}}
+use Rattle.lft_tree.specs.{Tree.{InstanceTree, ItemTree, ReactorTree, ReactorItem, instances_of, reactor_in, reactors_of}, View.tree_view, ItemView.item_views}
 use Rattle.lft_tree.specs.declared.ast.Ast.{Ast}
-use Rattle.lft_resolve.specs.Causes.{LacksReactor, NoMain, NoneHolds, UnknownReactor, causes}
-use Rattle.lft_resolve.specs.Instances.{is_called, main_of, reactor_named}
+use Rattle.lft_resolve.specs.{Causes.{LacksReactor, NoMain, NoneHolds, UnknownReactor, causes}, Instances.{is_called, main_of, reactor_named}}
 use Rattle.lft_resolve.proofs.Twice.{Any-at}
 use Rattle.lft_program.proofs.Zipping.{then_some}
 use Rattle.lft_whole.specs.declared.sources.source.SourceFile.{SourceFile}
-use Rattle.lft_classes.specs.declared.shapes.Child.{Child}
-use Rattle.lft_classes.specs.declared.shapes.Shape.{Shape}
-use Rattle.lft_classes.specs.Shapes.{child_at}
-use Rattle.lft_classes.specs.Walks.{Has}
-use Rattle.lft_elaborate.specs.declared.settings.Settings.{Settings}
-use Rattle.lft_elaborate.specs.Noted.{found_inside}
-use Rattle.lft_elaborate.specs.Settings.{setting_at, shape_at}
+use Rattle.lft_classes.specs.{declared.shapes.{Child.Child, Shape.Shape}, Shapes.child_at, Walks.Has}
+use Rattle.lft_elaborate.specs.{declared.settings.Settings.Settings, Noted.found_inside, Settings.{setting_at, shape_at}}
 use Rattle.lft_elaborate.specs.Values.{Valued, inside, main_setting, setting_of, values_inside}
 use Rattle.lft_elaborate.proofs.Keeping.{found_is_inside}
-use Rattle.lft_lower.specs.Meanings.Meanings.{shape_inside}
-use Rattle.lft_lower.specs.Lowered.{reactor_at}
-use Rattle.lft_lower.specs.Reactors.{AreReactors, IsLowering, IsReactor, more_reactors, no_reactors}
+use Rattle.lft_lower.specs.{Meanings.Meanings.shape_inside, Lowered.reactor_at, Reactors.{AreReactors, IsLowering, IsReactor, more_reactors, no_reactors}}
 use Rattle.lft_same.proofs.FitsLemmas.Giving.{find_some}
 
 -- a reactor is the core reactor of one of these settings

@@ -1,51 +1,29 @@
 -- The places of a reference in a core reactor stand for the channels of the reference, in order.
 use Rattle.std.proofs.Common.{◌≡◌, ℕ, zero, suc, All, Bool, false, true, List, [], ◌∷◌, ◌++◌, map, flat_map, filter_map, Option, Some, None, option_map, option_to_list, slice_get, refl, sym, ap, subst, ◌∙◌}
 use Rattle.std.specs.Prelude.{bytes_eq, is_some, string_bytes, unwrap_or}
-use Rattle.std.specs.List.{position}
-use Rattle.std.specs.Option.{option_and_then, option_map_or}
-use Rattle.std.proofs.lemmas.List.{append-nil}
-use Rattle.lft_lists.proofs.Mapped.{mapped, option_map_some}
-use Rattle.lft_lists.proofs.Members.{Mem, filter_map-flat_map, filter_map-map, mem_from_flat, mem_from_map}
+use Rattle.std.{specs.{List.position, Option.{option_and_then, option_map_or}}, proofs.lemmas.List.append-nil}
+use Rattle.lft_lists.proofs.{Mapped.{mapped, option_map_some}, Members.{Mem, filter_map-flat_map, filter_map-map, mem_from_flat, mem_from_map}}
 use Rattle.lft_lists.proofs.Places.{Some_same}
-use Rattle.lft_program.proofs.Singles.{place_found}
-use Rattle.lft_program.proofs.Zipping.{then_some}
-use Rattle.lft_tree.specs.Tree.{ReactorTree, RefTree, instances_of}
-use Rattle.lft_tree.specs.declared.ast.Ast.{Ast}
-use Rattle.lft_resolve.specs.Instances.{Thing, stands_for, thing_at}
-use Rattle.lft_resolve.specs.Places.{place}
-use Rattle.lft_whole.specs.declared.sources.source.SourceFile.{SourceFile}
-use Rattle.lft_whole.specs.declared.tree.Instance.{Instance}
-use Rattle.lft_whole.specs.declared.tree.Member.{Member}
-use Rattle.lft_whole.specs.declared.tree.Member.TheVariants as member
-use Rattle.lft_whole.specs.declared.tree.Name.{Name}
-use Rattle.lft_whole.specs.declared.tree.Reference.{Reference}
-use Rattle.lft_elaborate.specs.Channels.Channels.{below}
-use Rattle.lft_elaborate.specs.Channels.Lowered.{inner, own}
-use Rattle.lft_classes.specs.declared.shapes.Child.{Child}
-use Rattle.lft_classes.specs.declared.shapes.Inherited.{Inherited}
-use Rattle.lft_classes.specs.declared.shapes.InheritedParameter.{InheritedParameter}
-use Rattle.lft_classes.specs.declared.shapes.Shape.{Shape}
-use Rattle.lft_classes.specs.declared.shapes.Thing.{Thing as ShapeThing}
-use Rattle.lft_classes.specs.declared.shapes.Thing.TheVariants as thing
-use Rattle.lft_classes.specs.Shapes.{child_at, name_of, thing_named, width_of}
-use Rattle.lft_elaborate.specs.Names.{name_in}
-use Rattle.lft_elaborate.specs.Values.{Valued, inside, setting_of, values_inside}
+use Rattle.lft_program.proofs.{Singles.place_found, Zipping.then_some}
+use Rattle.lft_tree.specs.{Tree.{ReactorTree, RefTree, instances_of}, declared.ast.Ast.Ast}
+use Rattle.lft_resolve.specs.{Instances.{Thing, stands_for, thing_at}, Places.place}
+use Rattle.lft_whole.specs.declared.{sources.source.SourceFile.SourceFile, tree.{Instance.Instance, Member.Member, Name.Name, Reference.Reference}}
+use Rattle.lft_elaborate.specs.{Channels.{Channels.below, Lowered.{inner, own}}, Names.name_in, Values.{Valued, inside, setting_of, values_inside}}
 use Rattle.lft_elaborate.specs.Widths.{found_width}
+use Rattle.lft_classes.specs.declared.shapes.{Child.Child, Inherited.Inherited, InheritedParameter.InheritedParameter, Shape.Shape, Thing.Thing as ShapeThing}
+use Rattle.lft_classes.specs.Shapes.{child_at, name_of, thing_named, width_of}
 use Rattle.lft_lower.specs.Meanings.Meanings.{Here, Means, all_places, if_port, inner_width, member_in, places_in, port_in, port_number, port_of, sense_behind, sense_in, sense_named, shape_inside, thing_in}
 use Rattle.lft_lower.specs.Meanings.Places.{Inner, Own, Sense, Several, count_of, inner_places, name_at, names_of, own_places, places_of}
 use Rattle.lft_lower.specs.Reactors.{IsLowering}
 use Rattle.lft_same.specs.Expanded.Core.{things_for}
 use Rattle.lft_same.specs.Expanded.Instances.{Inner as InnerInstance, Inside, Widths, inners, inside_of, numbers, numbers_at, numbers_named, place_named, written}
-use Rattle.lft_same.specs.Expanded.Reactors.{members_of}
-use Rattle.lft_same.specs.Expanded.Whole.{channels, crossed, inner_thing, inside_named, new_in, things_named}
-use Rattle.lft_same.proofs.ExpandedLemmas.Crossed.{crossed_map, crossed_nil, places_crossed}
-use Rattle.lft_same.proofs.ExpandedLemmas.Flattened.{map_twice}
-use Rattle.lft_same.proofs.FitsLemmas.Channels.{crossed_first, is_found}
-use Rattle.lft_same.proofs.FitsLemmas.MemberNames.{member_found, member_lost}
-use Rattle.lft_same.proofs.FitsLemmas.Shapes.{flat_alike}
-use Rattle.lft_same.proofs.Instances.{AreWidthsFound}
-use Rattle.lft_same.proofs.Kept.{kept_or, of_all, some_or}
+use Rattle.lft_same.specs.Expanded.{Reactors.members_of, Whole.{channels, crossed, inner_thing, inside_named, new_in, things_named}}
+use Rattle.lft_same.proofs.ExpandedLemmas.{Crossed.{crossed_map, crossed_nil, places_crossed}, Flattened.map_twice}
+use Rattle.lft_same.proofs.FitsLemmas.{Channels.{crossed_first, is_found}, MemberNames.{member_found, member_lost}, Shapes.flat_alike}
+use Rattle.lft_same.proofs.{Instances.AreWidthsFound, Kept.{kept_or, of_all, some_or}}
 use Rattle.lft_same.proofs.Settings.{HasSetting, IsFoundIn, found_in, here, nested, numbers_are, of_class, shape_there, member_of}
+use Rattle.lft_whole.specs.declared.tree.Member.TheVariants as member
+use Rattle.lft_classes.specs.declared.shapes.Thing.TheVariants as thing
 
 -- ---- names in the core
 

@@ -1,33 +1,18 @@
 -- A lowered program that isn't refused is the whole program.
 use Rattle.std.proofs.Common.{◌≡◌, ℕ, List, Option, Some, None, option_map, refl, sym, ap, subst, ◌∙◌}
 use Rattle.std.specs.Option.{option_and_then}
-use Rattle.lft_resolve.specs.Expansion.Paths.{along}
-use Rattle.lft_lists.proofs.Places.{Some_same}
-use Rattle.lft_tree.specs.Tree.{ReactorTree}
-use Rattle.lft_tree.specs.View.{tree_view}
-use Rattle.lft_tree.specs.declared.ast.Ast.{Ast}
-use Rattle.lft_resolve.specs.Causes.{NoneHolds, causes}
+use Rattle.lft_resolve.specs.{Expansion.Paths.along, Causes.{NoneHolds, causes}}
 use Rattle.lft_resolve.specs.Instances.{Inside as CoreInside, entered as core_entered, main_instance as core_main, main_of as core_main_of}
+use Rattle.lft_lists.proofs.Places.{Some_same}
+use Rattle.lft_tree.specs.{Tree.ReactorTree, View.tree_view, declared.ast.Ast.Ast}
 use Rattle.lft_whole.specs.declared.sources.source.SourceFile.{SourceFile}
 use Rattle.lft_lower.specs.Reactors.{IsLowering}
-use Rattle.lft_same.specs.Expanded.Core.{core_contents, expanded_tree}
-use Rattle.lft_same.specs.Expanded.Expanded.{Contents}
-use Rattle.lft_same.specs.Expanded.Instances.{Inside, Widths, entered, main_instance}
-use Rattle.lft_same.specs.Expanded.Reactors.{Class, main_of}
-use Rattle.lft_same.specs.Expanded.Same.{IsNever, IsSame, awake}
-use Rattle.lft_same.specs.Expanded.Whole.{AreWidths, expanded_files, whole_contents}
-use Rattle.lft_same.proofs.Instances.{AreWidthsFound, StandsFor}
+use Rattle.lft_same.specs.Expanded.{Core.{core_contents, expanded_tree}, Expanded.Contents, Instances.{Inside, Widths, entered, main_instance}}
+use Rattle.lft_same.specs.Expanded.{Reactors.{Class, main_of}, Same.{IsNever, IsSame, awake}, Whole.{AreWidths, expanded_files, whole_contents}}
 use Rattle.lft_same.specs.Laws.{LoweredLaw}
-use Rattle.lft_same.proofs.Connections.{links_alike}
-use Rattle.lft_same.proofs.Declared.{actions_alike, awake_actions, ports_alike, timers_alike}
-use Rattle.lft_same.proofs.Inners.{names_alike}
-use Rattle.lft_same.proofs.Members.{never_of}
-use Rattle.lft_same.proofs.Paths.{Both, both, neither, together}
-use Rattle.lft_same.proofs.Reactions.{awake_reactions, reactions_alike}
-use Rattle.lft_same.proofs.Reactors.{has_main}
-use Rattle.lft_same.proofs.Sleeping.{is_never}
-use Rattle.lft_same.proofs.Widths.{has_widths}
-use Rattle.lft_same.proofs.Standing.{main_stands, step_stands}
+use Rattle.lft_same.proofs.{Instances.{AreWidthsFound, StandsFor}, Connections.links_alike, Declared.{actions_alike, awake_actions, ports_alike, timers_alike}}
+use Rattle.lft_same.proofs.{Inners.names_alike, Members.never_of, Paths.{Both, both, neither, together}, Reactions.{awake_reactions, reactions_alike}}
+use Rattle.lft_same.proofs.{Reactors.has_main, Sleeping.is_never, Widths.has_widths, Standing.{main_stands, step_stands}}
 
 -- what has the same parts is the same
 awoken : (path : List ℕ) (never : Option (List ℕ)) (c d : Contents) → c.instances ≡ d.instances → c.ports ≡ d.ports → awake_actions never c.actions ≡ d.actions → c.timers ≡ d.timers → awake_reactions path never c.reactions ≡ d.reactions → c.links ≡ d.links → awake path never c ≡ d

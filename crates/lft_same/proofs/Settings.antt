@@ -2,43 +2,23 @@
 use Rattle.std.proofs.Common.{◌≡◌, ℕ, zero, suc, ◌<◌, inl, inr, true, false, List, [], ◌∷◌, map, Option, Some, None, option_map, slice_get, refl, sym, ap, subst, ◌∙◌, arith}
 use Rattle.std.specs.Prelude.{is_some, slice_index_or, string_bytes, unwrap_or}
 use Rattle.std.specs.Option.{option_and_then}
-use Rattle.lft_lists.proofs.Mapped.{mapped_from}
-use Rattle.lft_lists.proofs.Places.{Some_same, get_push_cases, same_some}
+use Rattle.lft_lists.proofs.{Mapped.mapped_from, Places.{Some_same, get_push_cases, same_some}}
 use Rattle.lft_program.proofs.Zipping.{then_some}
-use Rattle.lft_tree.specs.Tree.{ItemTree, MemberTree, ReactorTree}
-use Rattle.lft_tree.specs.ItemView.{item_views}
-use Rattle.lft_tree.specs.declared.ast.Ast.{Ast}
+use Rattle.lft_tree.specs.{Tree.{ItemTree, MemberTree, ReactorTree}, ItemView.item_views, declared.ast.Ast.Ast}
 use Rattle.lft_resolve.specs.Instances.{Inside as CoreInside}
-use Rattle.lft_whole.specs.declared.sources.source.SourceFile.{SourceFile}
-use Rattle.lft_whole.specs.declared.tree.Instance.{Instance}
-use Rattle.lft_whole.specs.declared.tree.Member.{Member}
-use Rattle.lft_whole.specs.declared.tree.Member.TheVariants as member
-use Rattle.lft_whole.specs.declared.tree.Width.{Width}
-use Rattle.lft_elaborate.specs.Channels.Channels.{below}
-use Rattle.lft_classes.specs.declared.shapes.Inherited.{Inherited}
-use Rattle.lft_classes.specs.declared.shapes.Shape.{Shape}
-use Rattle.lft_classes.specs.Shapes.{width_of}
-use Rattle.lft_classes.specs.Walks.{Has}
-use Rattle.lft_elaborate.specs.declared.settings.Setting.{Setting}
-use Rattle.lft_elaborate.specs.declared.settings.Settings.{Settings}
-use Rattle.lft_elaborate.specs.Noted.{found_inside, noted_for}
-use Rattle.lft_elaborate.specs.Places.{IsMany, IsWidth, many, width_in, written_width}
-use Rattle.lft_elaborate.specs.Settings.{setting_at, shape_at, valued}
-use Rattle.lft_elaborate.specs.Used.{IsReached, is_instance, is_instance_in, within}
-use Rattle.lft_elaborate.specs.Values.{Valued, inside}
-use Rattle.lft_elaborate.specs.Widths.{found_width}
+use Rattle.lft_whole.specs.declared.{sources.source.SourceFile.SourceFile, tree.{Instance.Instance, Member.Member, Width.Width}}
+use Rattle.lft_elaborate.specs.{Channels.Channels.below, declared.settings.{Setting.Setting, Settings.Settings}, Noted.{found_inside, noted_for}}
+use Rattle.lft_elaborate.specs.{Places.{IsMany, IsWidth, many, width_in, written_width}, Settings.{setting_at, shape_at, valued}}
+use Rattle.lft_elaborate.specs.{Used.{IsReached, is_instance, is_instance_in, within}, Values.{Valued, inside}, Widths.found_width}
 use Rattle.lft_elaborate.proofs.Keeping.{found_is_inside}
-use Rattle.lft_lower.specs.Meanings.Meanings.{Here}
-use Rattle.lft_lower.specs.Lowered.{AreInstances, IsLowered, no_instances, some_instances}
+use Rattle.lft_classes.specs.{declared.shapes.{Inherited.Inherited, Shape.Shape}, Shapes.width_of, Walks.Has}
+use Rattle.lft_lower.specs.{Meanings.Meanings.Here, Lowered.{AreInstances, IsLowered, no_instances, some_instances}}
 use Rattle.lft_lower.specs.Reactors.{AreReactors, IsLowering, IsReactor, more_reactors, no_reactors}
-use Rattle.lft_same.specs.Expanded.Instances.{Inside, Widths, inside_of, numbers}
-use Rattle.lft_same.specs.Expanded.Reactors.{members_of}
-use Rattle.lft_same.specs.Fits.Fits.{Fits, IsShapeOf}
-use Rattle.lft_same.proofs.FitsLemmas.Nested.{exists_law, inside_law, instance_law}
-use Rattle.lft_same.proofs.FitsLemmas.Widths.{AreNested, width_is_written}
-use Rattle.lft_same.proofs.Instances.{AreWidthsFound, StandsFor}
-use Rattle.lft_same.proofs.Lowered.{Becomes, made_at as member_made}
+use Rattle.lft_same.specs.{Expanded.{Instances.{Inside, Widths, inside_of, numbers}, Reactors.members_of}, Fits.Fits.{Fits, IsShapeOf}}
+use Rattle.lft_same.proofs.FitsLemmas.{Nested.{exists_law, inside_law, instance_law}, Widths.{AreNested, width_is_written}}
+use Rattle.lft_same.proofs.{Instances.{AreWidthsFound, StandsFor}, Lowered.{Becomes, made_at as member_made}}
 use Rattle.lft_same.proofs.Found.{found_is_width, shape_of_setting, width_written}
+use Rattle.lft_whole.specs.declared.tree.Member.TheVariants as member
 
 -- the core reactor of a setting among those of all
 reactor_among : (s : Settings) (names : List (Option (List ℕ))) (used : List ℕ) (items : List ItemTree) → AreReactors s names used items → (i k : ℕ) → slice_get used i ≡ Some k → (shape : Shape) × (r : ReactorTree) × (shape_at s k ≡ Some shape) × IsReactor s names k shape r

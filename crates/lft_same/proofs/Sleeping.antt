@@ -1,51 +1,32 @@
 -- Nothing names the action without events that lowering adds, but the reactions that sleep.
 use Rattle.std.proofs.Common.{◌≡◌, ℕ, ◌+◌, ◌<◌, inl, inr, ⊎_elim, Bool, false, List, [], ◌∷◌, ◌++◌, length, length-append, map, filter_map, Option, Some, None, Contains, option_map, slice_get, refl, sym, ap, subst, ◌∙◌, arith, append-nil}
 use Rattle.std.specs.Prelude.{bytes_eq, position, string_bytes, unwrap_or}
-use Rattle.std.specs.Option.{option_and_then}
-use Rattle.std.proofs.lemmas.Option.{slice_get_within}
-use Rattle.std.proofs.lemmas.List.Elements.{filter_map-append}
+use Rattle.std.{specs.Option.option_and_then, proofs.lemmas.{Option.slice_get_within, List.Elements.filter_map-append}}
 use Rattle.lft_lists.proofs.Mapped.{option_map_some}
 use Rattle.lft_lists.proofs.Members.{Mem, contains_mem, get_mem, mem_cases, mem_contains, mem_filter, mem_from_filter, mem_from_flat, mem_from_map, mem_left, mem_map, mem_right}
 use Rattle.lft_lists.proofs.Places.{Some_same, at_contains, get_left, get_right}
-use Rattle.lft_elaborate.specs.Channels.Channels.{below, places}
-use Rattle.lft_elaborate.specs.Channels.Lowered.{inner, own}
+use Rattle.lft_elaborate.specs.{Channels.{Channels.{below, places}, Lowered.{inner, own}}, Names.name_in, Widths.found_width}
 use Rattle.lft_tree.specs.Tree.{ActionTree, TriggerTree, InstanceTree, InstanceMember, MemberTree, PortTree, PortMember, ReactionTree, ReactorTree, RefTree, action_in, actions_of, instance_in, instances_of, port_in, ports_of, reaction_in, reactions_of, reactors_of, timers_of}
-use Rattle.lft_tree.specs.View.{tree_view}
-use Rattle.lft_tree.specs.declared.ast.Ast.{Ast}
+use Rattle.lft_tree.specs.{View.tree_view, declared.ast.Ast.Ast}
 use Rattle.lft_resolve.specs.Causes.{DeclaresTwice, DuplicateName, IsTwice, NoneHolds, causes}
-use Rattle.lft_resolve.specs.Instances.{Inside as CoreInside, Thing, stands_for, stands_inside, thing_at}
-use Rattle.lft_resolve.specs.Kinds.{names_in}
+use Rattle.lft_resolve.specs.{Instances.{Inside as CoreInside, Thing, stands_for, stands_inside, thing_at}, Kinds.names_in}
 use Rattle.lft_resolve.proofs.Twice.{Any-at, twice_left}
 use Rattle.lft_program.specs.Flattening.{time_or_zero}
 use Rattle.lft_whole.specs.declared.sources.source.SourceFile.{SourceFile}
-use Rattle.lft_whole.specs.declared.tree.Effect.{Effect}
-use Rattle.lft_whole.specs.declared.tree.Effect.TheVariants as effect
-use Rattle.lft_whole.specs.declared.tree.Member.{Member}
-use Rattle.lft_whole.specs.declared.tree.Member.TheVariants as member
-use Rattle.lft_whole.specs.declared.tree.Name.{Name}
-use Rattle.lft_whole.specs.declared.tree.Reaction.{Reaction as WrittenReaction}
-use Rattle.lft_whole.specs.declared.tree.Reference.{Reference}
-use Rattle.lft_classes.specs.declared.shapes.Inherited.{Inherited}
-use Rattle.lft_classes.specs.declared.shapes.InheritedParameter.{InheritedParameter}
-use Rattle.lft_classes.specs.declared.shapes.Shape.{Shape}
-use Rattle.lft_classes.specs.declared.shapes.Thing.{Thing as ShapeThing}
-use Rattle.lft_classes.specs.declared.shapes.Thing.TheVariants as thing
+use Rattle.lft_whole.specs.declared.tree.{Effect.Effect, Member.Member, Name.Name, Reaction.Reaction as WrittenReaction, Reference.Reference}
+use Rattle.lft_classes.specs.declared.shapes.{Inherited.Inherited, InheritedParameter.InheritedParameter, Shape.Shape, Thing.Thing as ShapeThing}
 use Rattle.lft_classes.specs.Shapes.{name_of, thing_named, width_of}
-use Rattle.lft_elaborate.specs.Names.{name_in}
-use Rattle.lft_elaborate.specs.Widths.{found_width}
 use Rattle.lft_lower.specs.Meanings.Meanings.{inner_width, member_in, named_in, places_in, port_in as port_number_in, port_of, sense_behind, sense_named, shape_inside, thing_in}
 use Rattle.lft_lower.specs.Meanings.Places.{Inner, Own, Sense, Several, count_of, name_at, names_of, places_of}
 use Rattle.lft_lower.specs.Lowered.{AreInstances, IsLowered, IsReaction, asleep, effect_places, no_instances, reaction_tree, some_instances, time_at}
 use Rattle.lft_lower.specs.Reactors.{IsLowering}
-use Rattle.lft_same.specs.Expanded.Core.{core_contents, core_reaction}
-use Rattle.lft_same.specs.Expanded.Expanded.{Action, Reaction}
-use Rattle.lft_same.specs.Expanded.Instances.{Inside}
-use Rattle.lft_same.specs.Expanded.Same.{IsNever, IsUnscheduled}
-use Rattle.lft_same.proofs.Instances.{StandsFor}
-use Rattle.lft_same.proofs.Listed.{none_mapped}
+use Rattle.lft_same.specs.Expanded.{Core.{core_contents, core_reaction}, Expanded.{Action, Reaction}, Instances.Inside, Same.{IsNever, IsUnscheduled}}
+use Rattle.lft_same.proofs.{Instances.StandsFor, Listed.none_mapped}
 use Rattle.lft_same.proofs.Lowered.{Appends, Becomes, IsAdded, all_become, made_at, never_added, of_connection, of_instance, of_reaction}
-use Rattle.lft_same.proofs.Members.{here, never_of, of_class, unwritten}
-use Rattle.lft_same.proofs.References.{named as member_named}
+use Rattle.lft_same.proofs.{Members.{here, never_of, of_class, unwritten}, References.named as member_named}
+use Rattle.lft_whole.specs.declared.tree.Effect.TheVariants as effect
+use Rattle.lft_whole.specs.declared.tree.Member.TheVariants as member
+use Rattle.lft_classes.specs.declared.shapes.Thing.TheVariants as thing
 
 -- what stands in two lists stands twice in both together
 both_twice : {X : Type 0} (x : X) (xs ys : List X) → Mem x xs → Mem x ys → IsTwice (xs ++ ys)

@@ -1,36 +1,20 @@
 -- A step of a core instance leads where one of the instance leads for which it stands.
 use Rattle.std.proofs.Common.{◌≡◌, ℕ, List, map, Option, Some, None, Contains, option_map, slice_get, refl, sym, ap, subst, ◌∙◌}
-use Rattle.std.specs.List.{AllZip}
-use Rattle.std.specs.Option.{option_and_then}
-use Rattle.lft_lists.proofs.Mapped.{option_map_some}
-use Rattle.lft_lists.proofs.Places.{same_some}
-use Rattle.lft_lists.proofs.Members.{Mem, contains_mem, mem_get}
-use Rattle.lft_tree.specs.Tree.{AssignmentTree, InstanceTree, ReactorTree, instances_of, reactors_of}
-use Rattle.lft_tree.specs.View.{tree_view}
-use Rattle.lft_tree.specs.declared.ast.Ast.{Ast}
+use Rattle.std.specs.{List.AllZip, Option.option_and_then}
+use Rattle.lft_lists.proofs.{Mapped.option_map_some, Places.same_some, Members.{Mem, contains_mem, mem_get}}
+use Rattle.lft_tree.specs.{Tree.{AssignmentTree, InstanceTree, ReactorTree, instances_of, reactors_of}, View.tree_view, declared.ast.Ast.Ast}
 use Rattle.lft_resolve.specs.Causes.{NoneHolds, causes}
 use Rattle.lft_resolve.specs.Instances.{Inside as CoreInside, entered as core_entered, given_in as core_given_in, main_instance as core_main, main_of as core_main_of, reactor_named}
-use Rattle.lft_program.proofs.Ordered.{AllZip-to}
-use Rattle.lft_program.proofs.Zips.{AllZip-from}
+use Rattle.lft_program.proofs.{Ordered.AllZip-to, Zips.AllZip-from}
 use Rattle.lft_whole.specs.declared.sources.source.SourceFile.{SourceFile}
 use Rattle.lft_classes.specs.declared.shapes.Shape.{Shape}
 use Rattle.lft_elaborate.specs.Values.{Valued, main_setting, main_values}
-use Rattle.lft_lower.specs.Meanings.Meanings.{shape_inside}
-use Rattle.lft_lower.specs.Reactors.{AreShapes, IsLowering}
-use Rattle.lft_same.specs.Expanded.Instances.{Inner, Inside, Widths, entered, inners, inside_of, main_instance}
-use Rattle.lft_same.specs.Expanded.Reactors.{Class, main_of}
-use Rattle.lft_same.specs.Fits.Fits.{Fits}
-use Rattle.lft_same.proofs.FitsLemmas.Nested.{main_law}
-use Rattle.lft_same.proofs.Instances.{AreWidthsFound, StandsFor}
+use Rattle.lft_lower.specs.{Meanings.Meanings.shape_inside, Reactors.{AreShapes, IsLowering}}
+use Rattle.lft_same.specs.{Expanded.{Instances.{Inner, Inside, Widths, entered, inners, inside_of, main_instance}, Reactors.{Class, main_of}}, Fits.Fits.Fits}
 use Rattle.lft_same.specs.Times.{IsKnown}
-use Rattle.lft_same.proofs.Found.{shape_of_setting}
-use Rattle.lft_same.proofs.Inners.{IsInner, instances_alike}
-use Rattle.lft_same.proofs.Known.{given_time, known_law}
-use Rattle.lft_same.proofs.Members.{here}
-use Rattle.lft_same.proofs.Paths.{Both, both_at, neither}
-use Rattle.lft_same.proofs.Reactors.{has_reactor, main_found, reactor_found, shape_is_inside}
-use Rattle.lft_same.proofs.Settings.{nested}
-use Rattle.lft_same.proofs.Times.{inside_times, main_times}
+use Rattle.lft_same.proofs.{FitsLemmas.Nested.main_law, Instances.{AreWidthsFound, StandsFor}, Found.shape_of_setting, Inners.{IsInner, instances_alike}}
+use Rattle.lft_same.proofs.{Known.{given_time, known_law}, Members.here, Paths.{Both, both_at, neither}}
+use Rattle.lft_same.proofs.{Reactors.{has_reactor, main_found, reactor_found, shape_is_inside}, Settings.nested, Times.{inside_times, main_times}}
 
 -- the law of the main setting, of the shapes of a program
 main_fits_at : (files : List SourceFile) (shapes : List Shape) → AreShapes files shapes → (t : Valued) → main_setting shapes ≡ Some t → (c : Class) × (main_of files ≡ Some c) × Fits files shapes t (main_instance files c)

@@ -1,48 +1,23 @@
 -- What a core reaction uses stands for what the reaction uses; a timer is no input in both.
 use Rattle.std.proofs.Common.{◌≡◌, ℕ, suc, ◌+◌, arith, length, length-append, inl, ⊎_elim, Bool, true, false, List, [], ◌∷◌, ◌++◌, map, filter_map, Option, Some, None, option_map, slice_get, refl, sym, ap, subst, ◌∙◌, append-nil}
 use Rattle.std.specs.Prelude.{bytes_eq, decimal, find, if◌then◌else◌, is_some, not, string_bytes}
-use Rattle.std.specs.Option.{option_and_then, option_map_or}
-use Rattle.std.proofs.lemmas.List.{get_or_at}
-use Rattle.std.proofs.lemmas.List.Elements.{filter_map-append}
-use Rattle.std.proofs.lemmas.Slice.Eq.{bytes_eq-Decides}
-use Rattle.lft_lists.proofs.Mapped.{mapped, option_map_some}
-use Rattle.lft_lists.proofs.Members.{Mem, mem_cases, mem_filter, mem_from_map}
-use Rattle.lft_lists.proofs.Places.{Some_same}
-use Rattle.lft_lists.specs.Bytes.{is_word}
-use Rattle.lft_tree.specs.Identifiers.{IsIdentifier}
-use Rattle.lft_tree.specs.Tree.{MemberTree, RefTree, TimerTree, PortMember, TimerMember, timer_in, timers_of}
-use Rattle.lft_tree.specs.declared.ast.Ast.{Ast}
-use Rattle.lft_resolve.specs.Instances.{Inside as CoreInside}
-use Rattle.lft_resolve.specs.Sheets.{is_timer as is_core_timer, without_timers}
-use Rattle.lft_whole.specs.declared.sources.source.SourceFile.{SourceFile}
-use Rattle.lft_whole.specs.declared.tree.Member.{Member}
-use Rattle.lft_whole.specs.declared.tree.Member.TheVariants as member
-use Rattle.lft_whole.specs.declared.tree.Name.{Name}
-use Rattle.lft_whole.specs.declared.tree.Reference.{Reference}
-use Rattle.lft_whole.specs.declared.tree.Timer.{Timer}
+use Rattle.std.{specs.Option.{option_and_then, option_map_or}, proofs.lemmas.{List.{get_or_at, Elements.filter_map-append}, Slice.Eq.bytes_eq-Decides}}
+use Rattle.lft_lists.{proofs.{Mapped.{mapped, option_map_some}, Members.{Mem, mem_cases, mem_filter, mem_from_map}, Places.Some_same}, specs.Bytes.is_word}
+use Rattle.lft_tree.specs.{Identifiers.IsIdentifier, Tree.{MemberTree, RefTree, TimerTree, PortMember, TimerMember, timer_in, timers_of}, declared.ast.Ast.Ast}
+use Rattle.lft_resolve.specs.{Instances.Inside as CoreInside, Sheets.{is_timer as is_core_timer, without_timers}}
+use Rattle.lft_whole.specs.declared.{sources.source.SourceFile.SourceFile, tree.{Member.Member, Name.Name, Reference.Reference, Timer.Timer}}
 use Rattle.lft_elaborate.specs.Channels.Lowered.{inner, own}
-use Rattle.lft_classes.specs.declared.shapes.Inherited.{Inherited}
-use Rattle.lft_classes.specs.declared.shapes.Thing.{Thing as ShapeThing}
-use Rattle.lft_classes.specs.declared.shapes.Thing.TheVariants as thing
-use Rattle.lft_classes.specs.Shapes.{name_of, thing_named, width_of}
-use Rattle.lft_lower.specs.Meanings.Meanings.{Means, named_in, places_in, sense_named, thing_in}
-use Rattle.lft_lower.specs.Meanings.Places.{Own, names_of}
-use Rattle.lft_lower.specs.Lowered.{IsLowered, time_at, timer_tree}
-use Rattle.lft_lower.specs.Reactors.{IsLowering}
-use Rattle.lft_same.specs.Expanded.Core.{things_for}
-use Rattle.lft_same.specs.Expanded.Instances.{Inside, Widths, numbers, numbers_named, written}
-use Rattle.lft_same.specs.Expanded.Reactors.{members_of}
+use Rattle.lft_classes.specs.{declared.shapes.{Inherited.Inherited, Thing.Thing as ShapeThing}, Shapes.{name_of, thing_named, width_of}}
+use Rattle.lft_lower.specs.Meanings.{Meanings.{Means, named_in, places_in, sense_named, thing_in}, Places.{Own, names_of}}
+use Rattle.lft_lower.specs.{Lowered.{IsLowered, time_at, timer_tree}, Reactors.IsLowering}
+use Rattle.lft_same.specs.Expanded.{Core.things_for, Instances.{Inside, Widths, numbers, numbers_named, written}, Reactors.members_of}
 use Rattle.lft_same.specs.Expanded.Whole.{channels, crossed, is_timer, names_timer, uses_in}
-use Rattle.lft_same.proofs.FitsLemmas.Giving.{find_none, find_some}
-use Rattle.lft_same.proofs.FitsLemmas.MemberNames.{member_found, member_lost}
-use Rattle.lft_same.proofs.Instances.{AreWidthsFound, StandsFor}
-use Rattle.lft_same.proofs.Inners.{names_alike}
-use Rattle.lft_same.proofs.Kept.{all_pass}
-use Rattle.lft_same.proofs.Listed.{none_mapped}
-use Rattle.lft_same.proofs.Lowered.{Appends, Becomes, all_become, made_at, of_connection, of_instance, of_reaction}
-use Rattle.lft_same.proofs.Members.{here, never_of, of_class}
-use Rattle.lft_same.proofs.References.{inner_numbers, numbers_there, places_channels, places_refs, refs_named, sense_of}
-use Rattle.lft_same.proofs.Settings.{its_setting}
+use Rattle.lft_same.proofs.{FitsLemmas.{Giving.{find_none, find_some}, MemberNames.{member_found, member_lost}}, Instances.{AreWidthsFound, StandsFor}}
+use Rattle.lft_same.proofs.{Inners.names_alike, Kept.all_pass, Listed.none_mapped}
+use Rattle.lft_same.proofs.{Lowered.{Appends, Becomes, all_become, made_at, of_connection, of_instance, of_reaction}, Members.{here, never_of, of_class}}
+use Rattle.lft_same.proofs.{References.{inner_numbers, numbers_there, places_channels, places_refs, refs_named, sense_of}, Settings.its_setting}
+use Rattle.lft_whole.specs.declared.tree.Member.TheVariants as member
+use Rattle.lft_classes.specs.declared.shapes.Thing.TheVariants as thing
 
 -- a name with a number is no identifier
 bracketed : (q rest : List ℕ) → IsIdentifier (q ++ 91 ∷ rest) → ⊥

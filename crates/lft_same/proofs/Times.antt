@@ -1,49 +1,27 @@
 -- Core instances have the times of the instances that they stand for.
 use Rattle.std.proofs.Common.{◌≡◌, ℕ, zero, suc, eqb, ◌⊎◌, inl, inr, Bool, true, false, List, [], ◌∷◌, length, map, Option, Some, None, Contains, IsSomeAnd, ◌≤◌, filter_map, option_map, slice_get, refl, sym, ap, subst, ◌∙◌}
 use Rattle.std.specs.Prelude.{bytes_eq, find, if◌then◌else◌, is_some, string_bytes}
-use Rattle.std.specs.List.{cons_option}
-use Rattle.std.specs.Option.{option_and_then, option_map_or}
-use Rattle.std.proofs.lemmas.Bool.Decides.{eqb_tells}
-use Rattle.std.proofs.lemmas.Slice.Eq.{bytes_eq-Decides}
-use Rattle.lft_lists.proofs.Mapped.{mapped, option_map_some}
-use Rattle.lft_lists.proofs.Members.{Mem, contains_mem, get_mem, mem_contains, mem_from_filter}
+use Rattle.std.{specs.{List.cons_option, Option.{option_and_then, option_map_or}}, proofs.lemmas.{Bool.Decides.eqb_tells, Slice.Eq.bytes_eq-Decides}}
+use Rattle.lft_lists.proofs.{Mapped.{mapped, option_map_some}, Members.{Mem, contains_mem, get_mem, mem_contains, mem_from_filter}}
 use Rattle.lft_lists.proofs.Places.{Some_same, same_some}
-use Rattle.lft_tree.specs.Tree.{AssignmentTree, ParameterTree, ReactorTree, TimeTree, Written, Named, nanoseconds}
-use Rattle.lft_tree.specs.declared.tree.Time.{Time}
+use Rattle.lft_tree.specs.{Tree.{AssignmentTree, ParameterTree, ReactorTree, TimeTree, Written, Named, nanoseconds}, declared.tree.Time.Time}
 use Rattle.lft_resolve.specs.Causes.{longest}
 use Rattle.lft_resolve.specs.Instances.{Inside as CoreInside, given_in as core_given_in, given_or_default as core_given_or_default, main_instance as core_main, time_in as core_time_in, value_of}
-use Rattle.lft_program.proofs.FullNames.{all_at}
-use Rattle.lft_program.proofs.Zipping.{then_some}
-use Rattle.lft_program.specs.Flattening.{time_or_zero}
-use Rattle.lft_whole.specs.declared.sources.source.SourceFile.{SourceFile}
-use Rattle.lft_whole.specs.declared.tree.Assignment.{Assignment}
-use Rattle.lft_whole.specs.declared.tree.Expression.{Expression}
-use Rattle.lft_whole.specs.declared.tree.Instance.{Instance}
-use Rattle.lft_whole.specs.declared.tree.Member.TheVariants as member
-use Rattle.lft_whole.specs.declared.tree.Value.{Value}
-use Rattle.lft_whole.specs.declared.tree.Value.TheVariants as value
-use Rattle.lft_classes.specs.declared.shapes.Child.{Child}
-use Rattle.lft_classes.specs.declared.shapes.Given.{Given}
-use Rattle.lft_classes.specs.declared.shapes.InheritedParameter.{InheritedParameter}
-use Rattle.lft_classes.specs.declared.shapes.Shape.{Shape}
-use Rattle.lft_classes.specs.declared.shapes.Thing.TheVariants as thing
-use Rattle.lft_classes.specs.Shapes.{child_at, thing_named}
-use Rattle.lft_elaborate.specs.Values.{Valued, given_to, inside, main_setting, main_values}
+use Rattle.lft_program.{proofs.{FullNames.all_at, Zipping.then_some}, specs.Flattening.time_or_zero}
+use Rattle.lft_whole.specs.declared.{sources.source.SourceFile.SourceFile, tree.{Assignment.Assignment, Expression.Expression, Instance.Instance, Value.Value}}
+use Rattle.lft_classes.specs.{declared.shapes.{Child.Child, Given.Given, InheritedParameter.InheritedParameter, Shape.Shape}, Shapes.{child_at, thing_named}}
+use Rattle.lft_classes.proofs.Rows.{map_alike}
+use Rattle.lft_elaborate.specs.{Values.{Valued, given_to, inside, main_setting, main_values}, Channels.Channels.below}
 use Rattle.lft_lower.specs.Meanings.Meanings.{Here, shape_inside}
-use Rattle.lft_elaborate.specs.Channels.Channels.{below}
-use Rattle.lft_lower.specs.Lowered.{AreGiven, IsGiven, IsPeriod, IsRead, assigned, given_times, is_forever, period_at, time_at, time_given}
-use Rattle.lft_lower.specs.Needed.{is_timed}
-use Rattle.lft_lower.specs.Reactors.{AreShapes, default_time, parameter_tree, timed_parameter, timed_parameters}
-use Rattle.lft_lower.specs.Times.{IsTime, time_for, time_in}
+use Rattle.lft_lower.specs.{Lowered.{AreGiven, IsGiven, IsPeriod, IsRead, assigned, given_times, is_forever, period_at, time_at, time_given}, Needed.is_timed}
+use Rattle.lft_lower.specs.{Reactors.{AreShapes, default_time, parameter_tree, timed_parameter, timed_parameters}, Times.{IsTime, time_for, time_in}}
 use Rattle.lft_same.specs.Expanded.Instances.{Inside, default_of, given_in, given_or_default, inside_of, main_instance, period_in, read_in, time_of, value_named, time_in as whole_time_in}
 use Rattle.lft_same.specs.Expanded.Reactors.{Class, class_named, is_named, main_of, members_of, parameters_of}
-use Rattle.lft_same.specs.Fits.Fits.{Fits, IsShapeOf}
-use Rattle.lft_same.proofs.FitsLemmas.Fitting.{parameter_is}
-use Rattle.lft_same.proofs.FitsLemmas.Giving.{IsGivenBy, find_some}
-use Rattle.lft_same.proofs.FitsLemmas.MemberNames.{value_found}
-use Rattle.lft_same.proofs.FitsLemmas.Nested.{given_law, main_law}
-use Rattle.lft_classes.proofs.Rows.{map_alike}
-use Rattle.lft_same.specs.Times.{HasTimes, IsKnown, time_named}
+use Rattle.lft_same.specs.{Fits.Fits.{Fits, IsShapeOf}, Times.{HasTimes, IsKnown, time_named}}
+use Rattle.lft_same.proofs.FitsLemmas.{Fitting.parameter_is, Giving.{IsGivenBy, find_some}, MemberNames.value_found, Nested.{given_law, main_law}}
+use Rattle.lft_whole.specs.declared.tree.Member.TheVariants as member
+use Rattle.lft_whole.specs.declared.tree.Value.TheVariants as value
+use Rattle.lft_classes.specs.declared.shapes.Thing.TheVariants as thing
 
 -- ---- reading
 

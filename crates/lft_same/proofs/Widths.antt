@@ -1,24 +1,15 @@
 -- A lowered program that isn't refused has widths, and they are those that lowering found.
 use Rattle.std.proofs.Common.{◌≡◌, ℕ, zero, suc, ◌<◌, ◌≤◌, max, ◌⊎◌, inl, inr, List, length, Option, Some, None, slice_get, refl, sym, ap, subst, ◌∙◌, arith, eq-or-lt_of_le}
-use Rattle.std.proofs.lemmas.Option.{slice_get_within}
-use Rattle.std.proofs.Math.Nat.{le-max_left, le-max_right}
+use Rattle.std.proofs.{lemmas.Option.slice_get_within, Math.Nat.{le-max_left, le-max_right}}
 use Rattle.lft_lists.proofs.Places.{Some_same, get_there, same_at, same_some}
-use Rattle.lft_tree.specs.View.{tree_view}
-use Rattle.lft_tree.specs.declared.ast.Ast.{Ast}
+use Rattle.lft_tree.specs.{View.tree_view, declared.ast.Ast.Ast}
 use Rattle.lft_resolve.specs.Causes.{NoneHolds, causes}
 use Rattle.lft_whole.specs.declared.sources.source.SourceFile.{SourceFile}
 use Rattle.lft_classes.specs.declared.shapes.Shape.{Shape}
-use Rattle.lft_elaborate.specs.Places.{width_in}
-use Rattle.lft_elaborate.specs.Settings.{setting_at}
-use Rattle.lft_elaborate.specs.Used.{IsReached}
-use Rattle.lft_elaborate.specs.Values.{Valued, main_setting}
-use Rattle.lft_elaborate.specs.Widths.{found_width}
+use Rattle.lft_elaborate.specs.{Places.width_in, Settings.setting_at, Used.IsReached, Values.{Valued, main_setting}, Widths.found_width}
 use Rattle.lft_lower.specs.Reactors.{AreShapes, IsLowering}
-use Rattle.lft_same.specs.Expanded.Instances.{Widths}
-use Rattle.lft_same.specs.Expanded.Whole.{AreWidths}
-use Rattle.lft_same.specs.Fits.Widths.{AreFound, AreThose, small}
-use Rattle.lft_same.proofs.FitsLemmas.Found.{widths_law}
-use Rattle.lft_same.proofs.Instances.{AreWidthsFound}
+use Rattle.lft_same.specs.{Expanded.{Instances.Widths, Whole.AreWidths}, Fits.Widths.{AreFound, AreThose, small}}
+use Rattle.lft_same.proofs.{FitsLemmas.Found.widths_law, Instances.AreWidthsFound}
 use Rattle.lft_same.proofs.Reached.{HasInstance, found_at, found_small, found_written, reached_instance}
 
 -- what holds of each at some depth, and at each greater one, holds of all at one depth

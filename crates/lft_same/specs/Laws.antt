@@ -1,26 +1,17 @@
 -- How core instances stand to instances, and a core tree to the whole program.
 use Rattle.std.specs.Prelude.{◌≡◌, ℕ, List, Some, Contains, map, slice_get}
-use Rattle.lft_tree.specs.Tree.{AssignmentTree, FileTree, ReactorTree, TimeTree, reactors_of}
-use Rattle.lft_tree.specs.View.{tree_view}
-use Rattle.lft_tree.specs.declared.ast.Ast.{Ast}
-use Rattle.lft_resolve.specs.Causes.{NoneHolds, causes}
-use Rattle.lft_resolve.specs.Instances.{Inside as CoreInside, given_in, main_instance as core_main}
-use Rattle.lft_resolve.specs.Kinds.{times_in}
+use Rattle.lft_tree.specs.{Tree.{AssignmentTree, FileTree, ReactorTree, TimeTree, reactors_of}, View.tree_view, declared.ast.Ast.Ast}
+use Rattle.lft_resolve.specs.{Causes.{NoneHolds, causes}, Instances.{Inside as CoreInside, given_in, main_instance as core_main}, Kinds.times_in}
 use Rattle.lft_program.specs.Flattening.{time_or_zero}
-use Rattle.lft_whole.specs.declared.sources.source.SourceFile.{SourceFile}
-use Rattle.lft_whole.specs.declared.tree.Instance.{Instance}
-use Rattle.lft_whole.specs.declared.tree.Member.TheVariants as member
+use Rattle.lft_whole.specs.declared.{sources.source.SourceFile.SourceFile, tree.Instance.Instance}
 use Rattle.lft_classes.specs.declared.shapes.Shape.{Shape}
 use Rattle.lft_elaborate.specs.Values.{Valued, inside}
-use Rattle.lft_lower.specs.Meanings.Meanings.{Here, shape_inside}
-use Rattle.lft_lower.specs.Lowered.{AreGiven, IsPeriod, IsRead, period_at, time_at}
+use Rattle.lft_lower.specs.{Meanings.Meanings.{Here, shape_inside}, Lowered.{AreGiven, IsPeriod, IsRead, period_at, time_at}}
 use Rattle.lft_lower.specs.Reactors.{AreShapes, IsLowering, timed_parameters}
-use Rattle.lft_same.specs.Expanded.Instances.{Inside, inside_of, main_instance, period_in, time_in}
-use Rattle.lft_same.specs.Expanded.Reactors.{Class, main_of, members_of}
-use Rattle.lft_same.specs.Expanded.Core.{expanded_tree}
+use Rattle.lft_same.specs.Expanded.{Instances.{Inside, inside_of, main_instance, period_in, time_in}, Reactors.{Class, main_of, members_of}, Core.expanded_tree}
 use Rattle.lft_same.specs.Expanded.Same.{IsSame}
-use Rattle.lft_same.specs.Fits.Fits.{Fits}
-use Rattle.lft_same.specs.Times.{HasTimes, IsKnown}
+use Rattle.lft_same.specs.{Fits.Fits.Fits, Times.{HasTimes, IsKnown}}
+use Rattle.lft_whole.specs.declared.tree.Member.TheVariants as member
 
 -- The core instance of the main reactor has the times of the main instance.
 abbrev pub MainTimesLaw : List SourceFile → Type 0

@@ -1,19 +1,10 @@
 -- Lists by origin on the way to those of a program.
 use Rattle.std.proofs.Common.{◌≡◌, ◌⊎◌, inl, inr, ◌<◌, ◌≤◌, ◌+◌, ℕ, List, [], ◌∷◌, ◌++◌, length, sym, ap, ◌∙◌, subst, arith, Some, slice_get, slice_set, slice_index_or, Contains, AllPairs}
-use Rattle.std.proofs.lemmas.Bool.{cases_eq}
-use Rattle.std.proofs.lemmas.Option.{slice_get_within}
-use Rattle.std.proofs.lemmas.List.Elements.{Contains-get_or}
-use Rattle.std.proofs.lemmas.List.Quantifiers.{all_pairs_push}
-use Rattle.lft_ir.specs.Parts.{Parts}
-use Rattle.lft_ir.specs.Sound.{IsSound}
-use Rattle.lft_ir.specs.declared.parts.Port.{Port as PortOf}
-use Rattle.lft_ir.proofs.Origins.{origin_inside}
+use Rattle.std.proofs.lemmas.{Bool.cases_eq, Option.slice_get_within, List.{Elements.Contains-get_or, Quantifiers.all_pairs_push}}
+use Rattle.lft_ir.{specs.{Parts.Parts, Sound.IsSound, declared.parts.Port.Port as PortOf}, proofs.Origins.origin_inside}
 use Rattle.lft_lists.proofs.Places.{length_written, same_at}
-use Rattle.lft_scheduler.specs.Listeners.{IsArrival, IsWatched, AreArrivals}
-use Rattle.lft_scheduler.specs.Lists.{list_at}
-use Rattle.lft_scheduler.specs.Filling.{AreArriving}
-use Rattle.lft_scheduler.proofs.Pushing.{list_pushed, same_pushed, at_unwritten}
-use Rattle.lft_scheduler.proofs.Filling.{empty_contained}
+use Rattle.lft_scheduler.specs.{Listeners.{IsArrival, IsWatched, AreArrivals}, Lists.list_at, Filling.AreArriving}
+use Rattle.lft_scheduler.proofs.{Pushing.{list_pushed, same_pushed, at_unwritten}, Filling.empty_contained}
 
 -- no port yet
 pub arriving_start : (program : Parts) (lists : List (List ℕ)) → length lists ≡ length program.ports → ((n : ℕ) → list_at lists n ≡ []) → AreArriving program 0 lists

@@ -2,15 +2,9 @@
 use Rattle.std.proofs.Common.{ℕ, ◌<◌, List, [], length}
 use Rattle.lft_tag.specs.declared.Tag.{Tag}
 use Rattle.lft_ir.specs.declared.steps.row.Row.{Row}
-use Rattle.lft_model.specs.Plans.{PlanParts, IsSoundPlan}
-use Rattle.lft_model.specs.Presence.{Triggered}
-use Rattle.lft_model.specs.Runs.{Ran, start_row, by_ends}
-use Rattle.lft_model.specs.Breaches.{IsOpen}
-use Rattle.lft_model.specs.OneWorker.{IsPending}
+use Rattle.lft_model.specs.{Plans.{PlanParts, IsSoundPlan}, Presence.Triggered, Runs.{Ran, start_row, by_ends}, Breaches.IsOpen, OneWorker.IsPending}
 use Rattle.lft_model.specs.Recorded.{SoFar, OnlyEndedAnswer}
-use Rattle.lft_model.proofs.Places.{slice_get_within}
-use Rattle.lft_model.proofs.Committed.{now}
-use Rattle.lft_model.proofs.Quiet.{pending_triggered, pending_open}
+use Rattle.lft_model.proofs.{Places.slice_get_within, Committed.now, Quiet.{pending_triggered, pending_open}}
 use Rattle.lft_scheduler.specs.Starts.{IsBusy, IsAnyOpen, SomethingLeft}
 
 module _ (plan : PlanParts) (good : IsSoundPlan plan) (t : List Row) (so_far : SoFar plan t) (quiet : OnlyEndedAnswer t) where

@@ -5,18 +5,10 @@ use Rattle.lft_ir.specs.declared.steps.row.Row.{Row}
 use Rattle.lft_queue.specs.Pending.{Pending}
 use Rattle.lft_graph.specs.Graph.{IsGraphOf}
 use Rattle.lft_lists.proofs.Places.{get_same, length_same}
-use Rattle.lft_scheduler.specs.declared.turn.phase.Phase.{Phase}
-use Rattle.lft_scheduler.specs.declared.turn.phase.Phase.TheVariants.{Idle}
-use Rattle.lft_scheduler.specs.Turns.{TurnParts}
-use Rattle.lft_model.specs.Plans.{PlanParts, IsSoundPlan}
-use Rattle.lft_model.specs.Recorded.{OnlyEndedAnswer}
-use Rattle.lft_model.proofs.Empty.{empty_so_far}
-use Rattle.lft_scheduler.specs.Events.{HasEvents}
-use Rattle.lft_scheduler.specs.Starts.{IsAnyOpen}
-use Rattle.lft_scheduler.specs.OpenRuns.{AreOpen}
-use Rattle.lft_scheduler.specs.Telling.{IsTold, TriggeredByQueue}
-use Rattle.lft_scheduler.specs.Agendas.{IsReached, MayAdvance}
+use Rattle.lft_scheduler.specs.{declared.turn.phase.Phase.{Phase, TheVariants.Idle}, Turns.TurnParts, Events.HasEvents, Starts.IsAnyOpen, OpenRuns.AreOpen}
+use Rattle.lft_scheduler.specs.{Telling.{IsTold, TriggeredByQueue}, Agendas.{IsReached, MayAdvance}}
 use Rattle.lft_scheduler.proofs.NextTags.{told_turn}
+use Rattle.lft_model.{specs.{Plans.{PlanParts, IsSoundPlan}, Recorded.OnlyEndedAnswer}, proofs.Empty.empty_so_far}
 
 -- no row is there
 no_row : (i : ℕ) (x : Row) → slice_get [] i ≡ Some x → ⊥

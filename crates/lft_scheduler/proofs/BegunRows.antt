@@ -1,13 +1,9 @@
 -- The rows of a run that is begun, as they are pushed.
 use Rattle.std.proofs.Common.{◌≡◌, ℕ, zero, suc, ◌+◌, ◌<◌, List, [], ◌∷◌, ◌++◌, add-one, length, take, map, sym, ap, ◌∙◌, arith, Option, Some, slice_get, filter_map, zip, get_or}
-use Rattle.std.proofs.lemmas.List.{map-append}
-use Rattle.std.proofs.lemmas.List.Elements.{filter_map-append}
+use Rattle.std.proofs.lemmas.List.{map-append, Elements.filter_map-append}
 use Rattle.lft_tag.specs.declared.Tag.{Tag}
-use Rattle.lft_ir.specs.declared.parts.Value.{Value}
-use Rattle.lft_ir.specs.declared.parts.Name.{Name}
-use Rattle.lft_ir.specs.declared.steps.row.Step.TheVariants.{Start}
-use Rattle.lft_model.specs.Runs.{read_step}
-use Rattle.lft_model.specs.Recorded.{run_row}
+use Rattle.lft_ir.specs.declared.{parts.{Value.Value, Name.Name}, steps.row.Step.TheVariants.Start}
+use Rattle.lft_model.specs.{Runs.read_step, Recorded.run_row}
 
 -- one item more on both sides
 zip_more : {X Y : Type 0} (xs : List X) (i : ℕ) (x : X) (ys : List Y) (d : Y) → slice_get xs i ≡ Some x → i < length ys → zip (take (suc i) xs) ys ≡ zip (take i xs) ys ++ (x, get_or ys i d) ∷ []

@@ -2,13 +2,9 @@
 use Rattle.std.proofs.Common.{◌≡◌, ◌≢◌, ℕ, zero, suc, ◌+◌, ◌<◌, ◌≤◌, ◌⊎◌, inl, inr, List, length, refl, subst, arith, Some, slice_get, Contains}
 use Rattle.std.proofs.lemmas.Option.{slice_get_within}
 use Rattle.lft_ir.specs.Parts.{Parts}
-use Rattle.lft_graph.specs.Precedence.{Precedes}
-use Rattle.lft_graph.specs.Before.{IsDeclaredJustBefore, FeedsLast}
-use Rattle.lft_graph.specs.Graph.{GraphParts, IsGraphOf}
+use Rattle.lft_graph.specs.{Precedence.Precedes, Before.{IsDeclaredJustBefore, FeedsLast}, Graph.{GraphParts, IsGraphOf}}
 use Rattle.lft_lists.proofs.Places.{get_there}
-use Rattle.lft_scheduler.specs.declared.turn.phase.Phase.{Phase}
-use Rattle.lft_scheduler.specs.declared.turn.phase.Phase.TheVariants.{Waiting, Open}
-use Rattle.lft_scheduler.specs.Turns.{IsPending, IsReady, IsLeastReady}
+use Rattle.lft_scheduler.specs.{declared.turn.phase.Phase.{Phase, TheVariants.{Waiting, Open}}, Turns.{IsPending, IsReady, IsLeastReady}}
 use Rattle.lft_scheduler.proofs.Blocked.{IsBusy, IsFree, SpreadsAlong}
 
 module _ (program : Parts) (graph : GraphParts) (is : IsGraphOf program graph) where

@@ -1,19 +1,11 @@
 -- A collision at a port is one at the first delayed port of its origin, no later.
 use Rattle.std.proofs.Common.{◌≡◌, ℕ, zero, suc, ◌<◌, inl, inr, List, length, refl, sym, ◌∙◌, subst, arith, Option, Some, None, slice_get}
-use Rattle.lft_tag.specs.declared.Tag.{Tag}
-use Rattle.lft_tag.specs.Tags.{UpTo}
-use Rattle.lft_tag.specs.Shifts.{Folded, shifted}
-use Rattle.lft_tag.proofs.Order.{UpTo-Before}
-use Rattle.lft_tag.proofs.Chains.{shifted_same}
-use Rattle.lft_ir.specs.declared.parts.Port.{Port as PortOf}
-use Rattle.lft_ir.specs.declared.steps.row.Row.{Row}
+use Rattle.lft_tag.{specs.{declared.Tag.Tag, Tags.UpTo, Shifts.{Folded, shifted}}, proofs.{Order.UpTo-Before, Chains.shifted_same}}
+use Rattle.lft_ir.specs.declared.{parts.Port.Port as PortOf, steps.row.Row.Row}
 use Rattle.lft_queue.proofs.Tests.{together}
-use Rattle.lft_scheduler.specs.Listeners.{IsArrival, IsWatched, arrival, IsFirstDelayed}
-use Rattle.lft_scheduler.proofs.Watching.{delayed_first}
-use Rattle.lft_model.specs.Plans.{PlanParts, IsSoundPlan}
-use Rattle.lft_model.specs.Presence.{Last, PortClash}
-use Rattle.lft_scheduler.specs.Events.{IsEarlier}
-use Rattle.lft_scheduler.proofs.Written.{from_written, to_written}
+use Rattle.lft_scheduler.specs.{Listeners.{IsArrival, IsWatched, arrival, IsFirstDelayed}, Events.IsEarlier}
+use Rattle.lft_scheduler.proofs.{Watching.delayed_first, Written.{from_written, to_written}}
+use Rattle.lft_model.specs.{Plans.{PlanParts, IsSoundPlan}, Presence.{Last, PortClash}}
 
 -- what is no later than an earlier tag is earlier
 pub earlier_up : (clash : Option Tag) (g h : Tag) → UpTo g h → IsEarlier clash h → IsEarlier clash g

@@ -1,42 +1,21 @@
 -- The agenda once a run has been begun or ended.
 use Rattle.std.proofs.Common.{◌≡◌, ℕ, ◌+◌, ◌<◌, ◌⊎◌, inl, inr, List, [], ◌∷◌, ◌++◌, length, refl, sym, ◌∙◌, subst, Option, Some, None, not, slice_get, slice_set}
 use Rattle.std.specs.List.{filter}
-use Rattle.lft_tag.specs.declared.Tag.{Tag}
-use Rattle.lft_tag.specs.Tags.{UpTo}
-use Rattle.lft_tag.proofs.Order.{UpTo-refl, UpTo-trans, UpTo_antisym, Before-weaken}
-use Rattle.lft_lists.proofs.Members.{Mem, get_mem, mem_get}
-use Rattle.lft_lists.proofs.Places.{get_append_cases, get_left}
-use Rattle.lft_ir.specs.declared.parts.Value.{Value}
-use Rattle.lft_ir.specs.declared.steps.row.Row.{Row}
-use Rattle.lft_ir.specs.declared.steps.row.Step.{Step}
+use Rattle.lft_tag.{specs.{declared.Tag.Tag, Tags.UpTo}, proofs.Order.{UpTo-refl, UpTo-trans, UpTo_antisym, Before-weaken}}
+use Rattle.lft_lists.proofs.{Members.{Mem, get_mem, mem_get}, Places.{get_append_cases, get_left}}
+use Rattle.lft_ir.specs.declared.{parts.Value.Value, steps.row.{Row.Row, Step.Step}}
 use Rattle.lft_queue.specs.Pending.{Pending}
 use Rattle.lft_scheduler.specs.declared.turn.phase.Phase.TheVariants.{Idle, Waiting, Open}
-use Rattle.lft_scheduler.specs.Turns.{TurnParts}
-use Rattle.lft_model.specs.Plans.{PlanParts, IsSoundPlan}
-use Rattle.lft_model.specs.Presence.{stop}
-use Rattle.lft_model.specs.Runs.{Run, start_row, by_ends}
-use Rattle.lft_model.specs.Breaches.{IsOpen}
-use Rattle.lft_model.specs.OneWorker.{IsPending, Ready}
-use Rattle.lft_model.specs.Recorded.{SoFar, MayAnswer, begun_rows, committed_rows}
-use Rattle.lft_model.proofs.Places.{slice_get_within}
-use Rattle.lft_model.proofs.Stops.{stop_append}
-use Rattle.lft_model.proofs.Quiet.{pending_time}
-use Rattle.lft_model.proofs.Recording.{rows_up_to}
-use Rattle.lft_model.proofs.Begun.{same_stop, same_runs}
-use Rattle.lft_model.proofs.Committed.{now, up_to, its_time}
-use Rattle.lft_scheduler.specs.Events.{HasEvents}
-use Rattle.lft_scheduler.proofs.Keeping.{narrowed, begun_inert}
-use Rattle.lft_scheduler.specs.Starts.{IsAnyOpen}
 use Rattle.lft_scheduler.specs.declared.open.OpenRun.{OpenRun}
-use Rattle.lft_scheduler.specs.OpenRuns.{AreOpen, is_run}
-use Rattle.lft_scheduler.specs.Waits.{IsLeastTag, IsTurnOf}
+use Rattle.lft_scheduler.specs.{Turns.TurnParts, Events.HasEvents, Starts.IsAnyOpen, OpenRuns.{AreOpen, is_run}, Waits.{IsLeastTag, IsTurnOf}}
 use Rattle.lft_scheduler.specs.Telling.{IsTold, TriggeredByWrites}
 use Rattle.lft_scheduler.specs.Agendas.{AgendaParts, IsOf, IsAgenda, IsCurrent, IsReached, MayAdvance, MayBegin, MayEnd, EndsWith}
-use Rattle.lft_scheduler.proofs.Awaiting.{open_pending}
-use Rattle.lft_scheduler.proofs.Told.{waits_to, opens_to, at_least, some_run, no_run}
-use Rattle.lft_scheduler.proofs.RunsOpen.{opened_at, begun_open, committed_open}
-use Rattle.lft_scheduler.proofs.RunEnded.{its_row, quiet_more}
-use Rattle.lft_scheduler.proofs.Turned.{begun_turn, ended_turn}
+use Rattle.lft_scheduler.proofs.{Keeping.{narrowed, begun_inert}, Awaiting.open_pending, Told.{waits_to, opens_to, at_least, some_run, no_run}}
+use Rattle.lft_scheduler.proofs.{RunsOpen.{opened_at, begun_open, committed_open}, RunEnded.{its_row, quiet_more}, Turned.{begun_turn, ended_turn}}
+use Rattle.lft_model.specs.{Plans.{PlanParts, IsSoundPlan}, Presence.stop, Runs.{Run, start_row, by_ends}, Breaches.IsOpen, OneWorker.{IsPending, Ready}}
+use Rattle.lft_model.specs.Recorded.{SoFar, MayAnswer, begun_rows, committed_rows}
+use Rattle.lft_model.proofs.{Places.slice_get_within, Stops.stop_append, Quiet.pending_time, Recording.rows_up_to, Begun.{same_stop, same_runs}}
+use Rattle.lft_model.proofs.Committed.{now, up_to, its_time}
 
 module _ (plan : PlanParts) (good : IsSoundPlan plan) (t : List Row) (w : ℕ) (g : Tag) (r : ℕ) (shown : List (Option Value)) (b : MayBegin plan t w g r shown) (a : AgendaParts) (is : IsAgenda plan t a) where
   early : UpTo g (stop plan t)

@@ -1,34 +1,18 @@
 -- The events in the queue, when a row is fed to it.
 use Rattle.std.proofs.Common.{◌≡◌, ◌≢◌, ◌↔◌, ℕ, ◌+◌, ◌<◌, List, [], ◌∷◌, ◌++◌, refl, sym, ap, ◌∙◌, subst, arith, Option, Some, None, IsSome, Bool, true, false, cond, ◌||◌, nat_eq, eqb-true, slice_get, Contains, AllPairs, length, take, length-take}
-use Rattle.std.specs.Cmp.{nat_eq_equiv}
-use Rattle.std.specs.List.{list_any}
-use Rattle.std.proofs.lemmas.Bool.Decides.{nat_tests}
-use Rattle.std.proofs.lemmas.List.{get_or-take}
-use Rattle.std.proofs.lemmas.List.Elements.{Contains-push}
-use Rattle.std.proofs.lemmas.List.Folds.{list_any-append}
-use Rattle.std.proofs.lemmas.Option.{slice_get_within, get_or_from_slice_get}
-use Rattle.std.proofs.lemmas.Map.Views.{list_any-from_Contains, Contains-from_any}
-use Rattle.lft_tag.specs.declared.Tag.{Tag}
-use Rattle.lft_tag.specs.Tags.{Before, same_tag}
-use Rattle.lft_tag.specs.Shifts.{shifted}
-use Rattle.lft_ir.specs.declared.parts.Port.{Port as PortOf}
-use Rattle.lft_ir.specs.declared.parts.Value.{Value}
-use Rattle.lft_ir.specs.declared.parts.Name.{Name}
-use Rattle.lft_ir.specs.declared.parts.Name.TheVariants.{Port, Action}
+use Rattle.std.specs.{Cmp.nat_eq_equiv, List.list_any}
+use Rattle.std.proofs.lemmas.{Bool.Decides.nat_tests, List.{get_or-take, Elements.Contains-push, Folds.list_any-append}}
+use Rattle.std.proofs.lemmas.{Option.{slice_get_within, get_or_from_slice_get}, Map.Views.{list_any-from_Contains, Contains-from_any}}
+use Rattle.lft_tag.{specs.{declared.Tag.Tag, Tags.{Before, same_tag}, Shifts.shifted}, proofs.Order.same_tag_refl}
+use Rattle.lft_ir.specs.declared.parts.{Port.Port as PortOf, Value.Value, Name.{Name, TheVariants.{Port, Action}}}
+use Rattle.lft_ir.specs.declared.steps.row.{Row.Row, Step.TheVariants.Write}
 use Rattle.lft_ir.specs.Naming.{same_name}
 use Rattle.lft_ir.proofs.Naming.{name_self}
-use Rattle.lft_ir.specs.declared.steps.row.Row.{Row}
-use Rattle.lft_ir.specs.declared.steps.row.Step.TheVariants.{Write}
 use Rattle.lft_lists.proofs.Picked.{take_one_more}
 use Rattle.lft_queue.specs.Pending.{Pending, value_of, same_key, Becomes}
-use Rattle.lft_model.specs.Plans.{PlanParts, IsSoundPlan}
-use Rattle.lft_model.specs.Presence.{Last, IsWrittenFrom, At, PortClash, ClashesAt}
-use Rattle.lft_model.proofs.Places.{tag_discrete}
-use Rattle.lft_scheduler.specs.Listeners.{IsWatched}
-use Rattle.lft_scheduler.specs.Events.{IsWanted, IsPut, seen_by, IsFedTo, WasWritten}
-use Rattle.lft_scheduler.proofs.Heard.{heard}
-use Rattle.lft_scheduler.proofs.Written.{shifts_on, from_written, to_written, elsewhere_at, elsewhere_clash, more_clash, one_event, two_events}
-use Rattle.lft_tag.proofs.Order.{same_tag_refl}
+use Rattle.lft_model.{specs.{Plans.{PlanParts, IsSoundPlan}, Presence.{Last, IsWrittenFrom, At, PortClash, ClashesAt}}, proofs.Places.tag_discrete}
+use Rattle.lft_scheduler.specs.{Listeners.IsWatched, Events.{IsWanted, IsPut, seen_by, IsFedTo, WasWritten}}
+use Rattle.lft_scheduler.proofs.{Heard.heard, Written.{shifts_on, from_written, to_written, elsewhere_at, elsewhere_clash, more_clash, one_event, two_events}}
 
 -- the ports of a list that have heard so far, and the next one
 pub taken_more : (ports : List ℕ) (i p : ℕ) → slice_get ports i ≡ Some p → take (i + 1) ports ≡ take i ports ++ p ∷ []

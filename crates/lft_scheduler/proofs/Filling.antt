@@ -1,16 +1,10 @@
 -- Lists by trigger on the way to those of a program.
 use Rattle.std.proofs.Common.{◌≡◌, ◌↔◌, ◌⊎◌, inl, inr, ◌<◌, ◌+◌, ℕ, List, [], ◌∷◌, ◌++◌, length, take, sym, subst, arith, Some, slice_get, Contains}
-use Rattle.std.proofs.lemmas.Bool.{cases_eq}
-use Rattle.std.proofs.lemmas.Option.{slice_get_within, get_or_from_slice_get}
-use Rattle.lft_ir.specs.Parts.{Parts}
-use Rattle.lft_ir.specs.Sound.{IsTriggerOf}
-use Rattle.lft_ir.specs.declared.parts.Reaction.{Reaction}
-use Rattle.lft_ir.specs.declared.parts.Trigger.{Trigger}
-use Rattle.lft_lists.proofs.Picked.{take_one_more}
-use Rattle.lft_lists.proofs.Places.{same_at}
+use Rattle.std.proofs.lemmas.{Bool.cases_eq, Option.{slice_get_within, get_or_from_slice_get}}
+use Rattle.lft_ir.specs.{Parts.Parts, Sound.IsTriggerOf, declared.parts.{Reaction.Reaction, Trigger.Trigger}}
+use Rattle.lft_lists.proofs.{Picked.take_one_more, Places.same_at}
 use Rattle.lft_queue.proofs.Marking.{contains_pushed, none_contained}
-use Rattle.lft_scheduler.specs.Listeners.{IsListener, IsLive, ListenerParts, AreListeners}
-use Rattle.lft_scheduler.specs.Lists.{TriggerLists, list_of, HasList, IsPushed, ArePushed}
+use Rattle.lft_scheduler.specs.{Listeners.{IsListener, IsLive, ListenerParts, AreListeners}, Lists.{TriggerLists, list_of, HasList, IsPushed, ArePushed}}
 use Rattle.lft_scheduler.specs.Filling.{AreListed}
 
 pub empty_contained : {X : Type 0} (xs : List X) (x : X) → xs ≡ [] → Contains xs x → ⊥

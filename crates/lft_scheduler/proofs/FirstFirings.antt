@@ -1,30 +1,16 @@
 -- The first firings of timers after a tag, and from a later one on.
 use Rattle.std.proofs.Common.{◌≡◌, ◌↔◌, ℕ, ◌+◌, ◌<◌, ◌≤◌, ◌⊎◌, inl, inr, List, [], ◌∷◌, ◌++◌, length, map, refl, sym, subst, arith, false, Option, Some, None, IfSome, IfNone, slice_get, Contains}
 use native.Mathlib.Decide.{dec_lt}
-use Rattle.std.specs.List.{AllByRecursion}
-use Rattle.std.specs.List.Sorted.{IsPermutation}
-use Rattle.std.specs.Ordering.{is_lt, nat_cmp, ordering_then}
-use Rattle.std.specs.BinaryHeap.{IsUpperBound}
-use Rattle.std.specs.declared.cmp.Ordering.{Ordering}
-use Rattle.std.specs.declared.cmp.Ordering.TheVariants.{Less, Equal, Greater}
-use Rattle.std.specs.declared.cmp.Reverse.{Reverse}
-use Rattle.std.proofs.lemmas.List.Sorted.{Contains-permutation, IsPermutation-sym}
-use Rattle.std.proofs.lemmas.Map.Keys.{ge_from_not_lt}
-use Rattle.lft_tag.specs.declared.Tag.{Tag}
-use Rattle.lft_tag.specs.Tags.{Before, UpTo}
-use Rattle.lft_tag.proofs.Order.{Before-UpTo, Before-weaken, UpTo-Before, UpTo-trans, order_cases}
-use Rattle.lft_ir.specs.Parts.{Parts}
-use Rattle.lft_ir.specs.declared.parts.Timer.{Timer as TimerOf}
-use Rattle.lft_ir.specs.declared.parts.Trigger.TheVariants.{Timer}
+use Rattle.std.specs.{List.{AllByRecursion, Sorted.IsPermutation}, Ordering.{is_lt, nat_cmp, ordering_then}, BinaryHeap.IsUpperBound}
+use Rattle.std.specs.declared.cmp.{Ordering.{Ordering, TheVariants.{Less, Equal, Greater}}, Reverse.Reverse}
+use Rattle.std.proofs.lemmas.{List.Sorted.{Contains-permutation, IsPermutation-sym}, Map.Keys.ge_from_not_lt}
+use Rattle.lft_tag.{specs.{declared.Tag.Tag, Tags.{Before, UpTo}}, proofs.Order.{Before-UpTo, Before-weaken, UpTo-Before, UpTo-trans, order_cases}}
+use Rattle.lft_ir.specs.{Parts.Parts, declared.parts.{Timer.Timer as TimerOf, Trigger.TheVariants.Timer}}
 use Rattle.lft_lists.proofs.Members.{Mem, mem_contains, contains_mem, mem_map, mem_from_map, mem_left, mem_right, mem_cases}
 use Rattle.lft_lists.proofs.Places.{same_some, same_at, at_contains}
-use Rattle.lft_model.proofs.Places.{slice_get_within}
+use Rattle.lft_model.{proofs.Places.slice_get_within, specs.Presence.Fires}
 use Rattle.lft_queue.specs.Pending.{Pending}
-use Rattle.lft_model.specs.Presence.{Fires}
-use Rattle.lft_scheduler.specs.Listeners.{IsLive}
-use Rattle.lft_scheduler.specs.declared.firings.Firing.{Firing}
-use Rattle.lft_scheduler.specs.Waits.{IsBetween, IsCovered}
-use Rattle.lft_scheduler.specs.Telling.{FiresAt, TriggeredByQueue}
+use Rattle.lft_scheduler.specs.{Listeners.IsLive, declared.firings.Firing.Firing, Waits.{IsBetween, IsCovered}, Telling.{FiresAt, TriggeredByQueue}}
 use Rattle.lft_scheduler.specs.Firings.{tag_of_firing, sooner_first, IsFirstOf, AreFirst}
 use Rattle.lft_scheduler.proofs.NextTags.{covered_after}
 

@@ -1,35 +1,18 @@
 -- The events of the external inputs in the queue.
 use Rattle.std.proofs.Common.{◌≡◌, ◌↔◌, ℕ, ◌+◌, ◌<◌, ◌≤◌, ◌⊎◌, inl, inr, List, [], ◌∷◌, length, refl, sym, ap, ◌∙◌, subst, arith, Option, Some, None, IsSome, Bool, true, false, cond, ◌&&◌, ◌==◌, eq-eqb, eqb-true, slice_get, slice_index_or, filter_map, map, Contains}
-use Rattle.std.specs.List.{AllZip}
-use Rattle.std.proofs.lemmas.Bool.{false≢true}
+use Rattle.std.{specs.List.AllZip, proofs.{lemmas.Bool.false≢true, NetLemmas.Options.cond_some}}
 use native.Mathlib.Decide.{dec_lt}
-use Rattle.lft_tag.specs.declared.Tag.{Tag}
-use Rattle.lft_tag.specs.Tags.{Before, UpTo, same_tag}
-use Rattle.lft_tag.proofs.Order.{Before-irrefl, UpTo-not, order_cases, same_tag_refl, same_tag_true}
+use Rattle.lft_tag.{specs.{declared.Tag.Tag, Tags.{Before, UpTo, same_tag}}, proofs.Order.{Before-irrefl, UpTo-not, order_cases, same_tag_refl, same_tag_true}}
 use Rattle.lft_ir.specs.Parts.{Parts, inputs}
-use Rattle.lft_ir.specs.declared.parts.Trigger.TheVariants.{On}
-use Rattle.lft_lists.proofs.Members.{Mem, mem_get, get_mem, mem_filter, mem_from_filter, mem_contains, contains_mem}
-use Rattle.lft_ir.specs.declared.parts.Reaction.{Reaction}
-use Rattle.lft_ir.specs.declared.parts.Value.{Value}
-use Rattle.lft_ir.specs.declared.parts.Name.{Name}
-use Rattle.lft_ir.specs.declared.parts.Name.TheVariants.{Port, Action}
-use Rattle.lft_ir.specs.Naming.{same_name}
+use Rattle.lft_ir.specs.declared.parts.{Trigger.TheVariants.On, Reaction.Reaction, Value.Value, Name.{Name, TheVariants.{Port, Action}}}
+use Rattle.lft_ir.specs.declared.steps.{row.Row.Row, externals.Event.Event}
+use Rattle.lft_ir.specs.{Naming.same_name, Steps.Inputs.InOrder}
 use Rattle.lft_ir.proofs.Naming.{name_same, name_self}
-use Rattle.lft_ir.specs.declared.steps.row.Row.{Row}
-use Rattle.lft_ir.specs.declared.steps.externals.Event.{Event}
-use Rattle.lft_ir.specs.Steps.Inputs.{InOrder}
+use Rattle.lft_lists.proofs.Members.{Mem, mem_get, get_mem, mem_filter, mem_from_filter, mem_contains, contains_mem}
 use Rattle.lft_queue.specs.Pending.{Pending, value_of, same_key, Becomes}
-use Rattle.lft_model.specs.Plans.{PlanParts, IsSoundPlan}
-use Rattle.lft_model.specs.Presence.{given, At, Shows, Inputs}
-use Rattle.lft_model.proofs.Places.{slice_get_within}
-use Rattle.lft_model.proofs.Counted.{get_or_get}
-use Rattle.lft_model.proofs.Steps.{both_true}
-use Rattle.lft_model.proofs.Reached.{input_of_trigger}
-use Rattle.lft_model.proofs.Empty.{empty_so_far}
-use Rattle.lft_scheduler.specs.Listeners.{IsListener}
-use Rattle.lft_scheduler.specs.Events.{IsWatchedName, HasEvents}
-use Rattle.lft_scheduler.proofs.Fed.{none_there, some_there}
-use Rattle.std.proofs.NetLemmas.Options.{cond_some}
+use Rattle.lft_model.specs.{Plans.{PlanParts, IsSoundPlan}, Presence.{given, At, Shows, Inputs}}
+use Rattle.lft_model.proofs.{Places.slice_get_within, Counted.get_or_get, Steps.both_true, Reached.input_of_trigger, Empty.empty_so_far}
+use Rattle.lft_scheduler.{specs.{Listeners.IsListener, Events.{IsWatchedName, HasEvents}}, proofs.Fed.{none_there, some_there}}
 
 -- one of the first i events is of the action at the tag, with the value
 pub record IsGiven (events : List Event) (i : ℕ) (h : Tag) (n : Name) (v : Value) : Type 0 where

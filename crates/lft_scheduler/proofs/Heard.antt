@@ -1,17 +1,9 @@
 -- One event more in the queue: what it has then.
 use Rattle.std.proofs.Common.{◌≡◌, ◌↔◌, inl, inr, List, refl, sym, ap, ◌∙◌, subst, Option, Some, None, IsSome, Bool, true, false, cond, ◌&&◌}
-use Rattle.lft_tag.specs.declared.Tag.{Tag}
-use Rattle.lft_tag.specs.Tags.{Before, UpTo, same_tag}
-use Rattle.lft_tag.proofs.Order.{Before-trans, Before-irrefl, same_tag_refl, same_tag_true}
-use Rattle.lft_ir.specs.declared.parts.Value.{Value}
-use Rattle.lft_ir.specs.declared.parts.Name.{Name}
-use Rattle.lft_ir.specs.Naming.{same_name}
-use Rattle.lft_ir.proofs.Naming.{name_same, name_self}
-use Rattle.lft_ir.specs.declared.steps.row.Row.{Row}
+use Rattle.lft_tag.{specs.{declared.Tag.Tag, Tags.{Before, UpTo, same_tag}}, proofs.Order.{Before-trans, Before-irrefl, same_tag_refl, same_tag_true}}
+use Rattle.lft_ir.{specs.{declared.{parts.{Value.Value, Name.Name}, steps.row.Row.Row}, Naming.same_name}, proofs.Naming.{name_same, name_self}}
 use Rattle.lft_queue.specs.Pending.{Pending, value_of, same_key}
-use Rattle.lft_model.specs.Plans.{PlanParts}
-use Rattle.lft_model.specs.Presence.{At, ClashesAt}
-use Rattle.lft_model.proofs.Steps.{both_true}
+use Rattle.lft_model.{specs.{Plans.PlanParts, Presence.{At, ClashesAt}}, proofs.Steps.both_true}
 use Rattle.lft_scheduler.specs.Events.{IsEarlier, IsWanted, IsPut, IsWatchedName, HasEventsOf}
 
 pub iff_trans : {A B C : Type 0} → A ↔ B → B ↔ C → A ↔ C

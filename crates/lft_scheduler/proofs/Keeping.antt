@@ -1,22 +1,12 @@
 -- The events in the queue from a later tag on, up to an earlier one, and after rows that make none.
 use Rattle.std.proofs.Common.{◌≡◌, ℕ, inl, inr, List, [], ◌∷◌, ◌++◌, append-nil, map, filter_map, zip, refl, sym, ap, ◌∙◌, subst, Option, None}
-use Rattle.lft_tag.specs.declared.Tag.{Tag}
-use Rattle.lft_tag.specs.Tags.{UpTo}
-use Rattle.lft_tag.proofs.Order.{UpTo-trans}
+use Rattle.lft_tag.{specs.{declared.Tag.Tag, Tags.UpTo}, proofs.Order.UpTo-trans}
 use Rattle.lft_lists.proofs.Members.{Mem}
-use Rattle.lft_ir.specs.declared.parts.Value.{Value}
-use Rattle.lft_ir.specs.declared.parts.Name.{Name}
-use Rattle.lft_ir.specs.declared.parts.Name.TheVariants.{Port, Action}
-use Rattle.lft_ir.specs.declared.steps.row.Row.{Row}
-use Rattle.lft_ir.specs.declared.steps.row.Step.{Step}
-use Rattle.lft_ir.specs.declared.steps.row.Step.TheVariants.{Start, Read, Write, Schedule}
+use Rattle.lft_ir.specs.declared.parts.{Value.Value, Name.{Name, TheVariants.{Port, Action}}}
+use Rattle.lft_ir.specs.declared.steps.row.{Row.Row, Step.{Step, TheVariants.{Start, Read, Write, Schedule}}}
 use Rattle.lft_queue.specs.Pending.{Pending}
-use Rattle.lft_model.specs.Plans.{PlanParts}
-use Rattle.lft_model.specs.Runs.{inputs_of, read_step}
-use Rattle.lft_model.specs.Recorded.{run_row, begun_rows}
-use Rattle.lft_model.proofs.Steps.{in_reads}
-use Rattle.lft_scheduler.specs.Events.{HasEvents}
-use Rattle.lft_scheduler.proofs.Steps.{inert}
+use Rattle.lft_model.{specs.{Plans.PlanParts, Runs.{inputs_of, read_step}, Recorded.{run_row, begun_rows}}, proofs.Steps.in_reads}
+use Rattle.lft_scheduler.{specs.Events.HasEvents, proofs.Steps.inert}
 
 -- from a later tag on, up to an earlier one
 pub narrowed : (plan : PlanParts) (t : List Row) (from later last sooner : Tag) (q : List Pending) → UpTo from later → UpTo sooner last → HasEvents plan t from last None q → HasEvents plan t later sooner None q

@@ -1,25 +1,13 @@
 -- The leaders of the beats of timers: of the first triggers of a list, and of one more.
 use Rattle.std.proofs.Common.{◌≡◌, ◌≢◌, ◌↔◌, ◌⊎◌, inl, inr, ◌<◌, ◌≤◌, ◌+◌, ℕ, List, [], ◌∷◌, ◌++◌, length, take, replicate, refl, sym, ap, ap₂, ◌∙◌, subst, arith, Option, Some, None, IfSome, slice_get, slice_set, Contains, Bool, true, false, cond, eqb, eqb-true, eq-eqb}
-use Rattle.std.specs.BTreeMap.{BTreeMap, get}
-use Rattle.std.specs.Ordering.{is_eq, nat_cmp, ordering_then}
-use Rattle.std.specs.Option.{option_eq}
-use Rattle.std.specs.Cmp.{nat_cmp_is}
-use Rattle.std.specs.declared.cmp.Ordering.{Ordering}
-use Rattle.std.specs.declared.cmp.Ordering.TheVariants.{Equal}
-use Rattle.std.proofs.lemmas.Bool.{cases_eq}
-use Rattle.std.proofs.lemmas.List.{take_all}
-use Rattle.std.proofs.lemmas.Option.{slice_get_within, get_or_from_slice_get}
-use Rattle.std.proofs.lemmas.Map.Lookups.{exact_unsigned, exact_pairs}
+use Rattle.std.specs.{BTreeMap.{BTreeMap, get}, Ordering.{is_eq, nat_cmp, ordering_then}, Option.option_eq, Cmp.nat_cmp_is}
+use Rattle.std.specs.declared.cmp.Ordering.{Ordering, TheVariants.Equal}
+use Rattle.std.proofs.lemmas.{Bool.cases_eq, List.take_all, Option.{slice_get_within, get_or_from_slice_get}, Map.Lookups.{exact_unsigned, exact_pairs}}
 use native.Mathlib.Decide.{dec_lt}
-use Rattle.lft_ir.specs.Parts.{Parts}
-use Rattle.lft_ir.specs.declared.parts.Reaction.{Reaction}
-use Rattle.lft_ir.specs.declared.parts.Timer.{Timer as TimerOf}
-use Rattle.lft_ir.specs.declared.parts.Trigger.{Trigger}
-use Rattle.lft_ir.specs.declared.parts.Trigger.TheVariants.{Timer}
+use Rattle.lft_ir.specs.{Parts.Parts, declared.parts.{Reaction.Reaction, Timer.Timer as TimerOf, Trigger.{Trigger, TheVariants.Timer}}}
 use Rattle.lft_lists.proofs.Picked.{take_one_more}
 use Rattle.lft_lists.proofs.Places.{get_same, length_same, get_written, get_unwritten, get_write_cases, length_written, same_at, same_some}
-use Rattle.lft_scheduler.specs.Listeners.{beat, IsLeader, IsLive}
-use Rattle.lft_scheduler.specs.Filling.{beat_cmp, StartsBefore, HaveLeaders, AreLeading}
+use Rattle.lft_scheduler.specs.{Listeners.{beat, IsLeader, IsLive}, Filling.{beat_cmp, StartsBefore, HaveLeaders, AreLeading}}
 use Rattle.lft_queue.proofs.Marking.{contains_pushed, none_contained}
 use Rattle.lft_tag.proofs.Comparing.{not_equal}
 

@@ -1,17 +1,11 @@
 -- Where a timer fires, so does the one that leads it: of the timers of one beat the first has all their firings.
 use Rattle.std.proofs.Common.{◌≡◌, ℕ, suc, ◌+◌, ◌-◌, ◌*◌, ◌/◌, ◌%◌, ◌<◌, ◌≤◌, ◌⊎◌, inl, inr, sym, ap, ◌∙◌, arith}
-use Rattle.std.proofs.lemmas.Bool.{cases_eq}
-use Rattle.std.proofs.lemmas.Nat.{div-add-mod'}
+use Rattle.std.proofs.{lemmas.{Bool.cases_eq, Nat.div-add-mod'}, Math.Nat.{mod-zero, mod-lt, mul-le-mul_right, suc-mul, add-mul}}
 use native.Mathlib.Decide.{dec_lt}
-use Rattle.std.proofs.Math.Nat.{mod-zero, mod-lt, mul-le-mul_right, suc-mul, add-mul}
 use Rattle.lft_tag.specs.declared.Tag.{Tag}
-use Rattle.lft_ir.specs.Parts.{Parts}
-use Rattle.lft_ir.specs.declared.parts.Timer.{Timer as TimerOf}
-use Rattle.lft_ir.specs.declared.parts.Trigger.TheVariants.{Timer}
+use Rattle.lft_ir.specs.{Parts.Parts, declared.parts.{Timer.Timer as TimerOf, Trigger.TheVariants.Timer}}
 use Rattle.lft_model.specs.Presence.{Fires}
-use Rattle.lft_scheduler.specs.Listeners.{beat, IsListener, IsLive}
-use Rattle.lft_scheduler.proofs.Led.{led}
-use Rattle.lft_scheduler.specs.Telling.{FiresAt}
+use Rattle.lft_scheduler.{specs.{Listeners.{beat, IsListener, IsLive}, Telling.FiresAt}, proofs.Led.led}
 
 -- the later of two offsets that go as far past whole periods is whole periods after the other
 periods_after : (first offset period : ℕ) → 0 < period → first % period ≡ offset % period → first ≤ offset → (j : ℕ) × (offset ≡ first + j * period)

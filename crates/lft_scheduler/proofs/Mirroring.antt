@@ -1,7 +1,6 @@
 -- The short lists turned round.
 use Rattle.std.proofs.Common.{◌≡◌, ◌≢◌, ℕ, suc, ◌+◌, ◌<◌, ◌≤◌, ◌⊎◌, inl, inr, List, [], ◌∷◌, ◌++◌, length, sym, ap, ◌∙◌, subst, arith, Some, slice_get, slice_set, slice_index_or, drop, AllPairs}
-use Rattle.std.proofs.lemmas.Option.{slice_get_within, slice_get-get_or}
-use Rattle.std.proofs.lemmas.Bool.{cases_eq, cases_lt, cases_order}
+use Rattle.std.proofs.lemmas.{Option.{slice_get_within, slice_get-get_or}, Bool.{cases_eq, cases_lt, cases_order}}
 use Rattle.lft_ir.specs.Parts.{Parts}
 use Rattle.lft_graph.specs.Graph.{GraphParts, IsGraphOf}
 use Rattle.lft_lists.proofs.Places.{get_there, get_write_cases, length_written, same_at}

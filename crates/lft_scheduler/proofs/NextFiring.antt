@@ -1,14 +1,10 @@
 -- The first firing of a timer after a tag.
 use Rattle.std.proofs.Common.{◌≡◌, ℕ, suc, ◌+◌, ◌-◌, ◌*◌, ◌/◌, ◌%◌, ◌<◌, ◌≤◌, inl, inr, refl, ◌∙◌, arith}
-use Rattle.std.proofs.lemmas.Nat.{div-add-mod'}
+use Rattle.std.proofs.{lemmas.Nat.div-add-mod', Math.Nat.{mod-lt, mul-le-mul_right, suc-mul}}
 use native.Mathlib.Decide.{dec_lt}
-use Rattle.std.proofs.Math.Nat.{mod-lt, mul-le-mul_right, suc-mul}
-use Rattle.lft_tag.specs.declared.Tag.{Tag}
-use Rattle.lft_tag.specs.Tags.{Before, UpTo}
-use Rattle.lft_tag.proofs.Chains.{tag_of}
+use Rattle.lft_tag.{specs.{declared.Tag.Tag, Tags.{Before, UpTo}}, proofs.Chains.tag_of}
 use Rattle.lft_ir.specs.declared.parts.Timer.{Timer as TimerOf}
-use Rattle.lft_model.specs.Presence.{Fires}
-use Rattle.lft_model.proofs.Firings.{firing, time_of}
+use Rattle.lft_model.{specs.Presence.Fires, proofs.Firings.{firing, time_of}}
 use Rattle.lft_scheduler.specs.Firings.{IsFirstFiring}
 
 -- after a tag is at a later time, since it fires at microstep 0

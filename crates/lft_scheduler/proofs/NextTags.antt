@@ -1,42 +1,20 @@
 -- What is triggered at a tag by the queue, and what the agenda is at the next tag.
 use Rattle.std.proofs.Common.{◌≡◌, ◌↔◌, ℕ, suc, ◌+◌, ◌-◌, ◌*◌, ◌<◌, ◌⊎◌, inl, inr, List, [], ◌∷◌, length, refl, sym, ap, ◌∙◌, subst, arith, Option, Some, None, is_some, slice_get, Bool, true, false, cond, Contains}
 use Rattle.std.specs.List.{filter}
-use Rattle.lft_tag.specs.declared.Tag.{Tag}
-use Rattle.lft_tag.specs.Tags.{Before, UpTo, same_tag}
+use Rattle.lft_tag.specs.{declared.Tag.Tag, Tags.{Before, UpTo, same_tag}}
 use Rattle.lft_tag.proofs.Order.{Before-irrefl, Before-UpTo, Before-weaken, UpTo-refl, UpTo-trans, UpTo_antisym, order_cases, UpTo-Before, same_tag_true}
-use Rattle.lft_ir.specs.declared.parts.Name.{Name}
-use Rattle.lft_ir.specs.declared.parts.Value.{Value}
-use Rattle.lft_ir.specs.declared.parts.Trigger.{Trigger}
-use Rattle.lft_ir.specs.declared.parts.Trigger.TheVariants.{Startup, Shutdown, Timer, On}
+use Rattle.lft_ir.specs.declared.{parts.{Name.Name, Value.Value, Trigger.{Trigger, TheVariants.{Startup, Shutdown, Timer, On}}}, steps.row.Row.Row}
 use Rattle.lft_ir.specs.Naming.{same_name}
-use Rattle.lft_ir.specs.declared.steps.row.Row.{Row}
-use Rattle.lft_queue.specs.Pending.{Pending, value_of, same_key, is_after}
-use Rattle.lft_queue.proofs.Dropping.{later_value}
-use Rattle.lft_queue.proofs.Tests.{before_test}
-use Rattle.lft_scheduler.specs.declared.turn.phase.Phase.{Phase}
-use Rattle.lft_scheduler.specs.declared.turn.phase.Phase.TheVariants.{Idle, Waiting, Open}
-use Rattle.lft_scheduler.specs.Turns.{TurnParts, NonePending}
+use Rattle.lft_queue.{specs.Pending.{Pending, value_of, same_key, is_after}, proofs.{Dropping.later_value, Tests.before_test}}
+use Rattle.lft_scheduler.specs.{declared.turn.phase.Phase.{Phase, TheVariants.{Idle, Waiting, Open}}, Turns.{TurnParts, NonePending}}
+use Rattle.lft_scheduler.specs.{Events.{IsWatchedName, HasEvents}, Listeners.IsListener, Starts.SomethingLeft, Waits.{IsBetween, IsCovered, PhaseIs, IsTurnOf}}
+use Rattle.lft_scheduler.specs.{Telling.{IsTold, OccursBy, TriggeredByQueue}, Agendas.{MayAdvance, IsReached, IsCurrent}}
+use Rattle.lft_scheduler.proofs.{Given.listened_watched, Fed.some_there, RunsOpen.filter_mem, Told.{pending_back, none_waits, all_idle}}
 use Rattle.lft_graph.specs.Graph.{GraphParts, IsGraphOf}
-use Rattle.lft_model.specs.Plans.{PlanParts, IsSoundPlan}
-use Rattle.lft_model.specs.Presence.{stop, At, Occurs, Triggered}
-use Rattle.lft_model.specs.Runs.{Ran, start_row, end_row, by_ends}
-use Rattle.lft_model.specs.OneWorker.{IsPending}
-use Rattle.lft_model.specs.Recorded.{SoFar, OnlyEndedAnswer}
-use Rattle.lft_lists.proofs.Places.{get_there}
-use Rattle.lft_lists.proofs.Members.{contains_mem}
-use Rattle.lft_model.proofs.Places.{slice_get_within}
-use Rattle.lft_model.proofs.Steps.{both_true}
-use Rattle.lft_model.proofs.Quiet.{pending_now, pending_time, pending_triggered}
-use Rattle.lft_scheduler.specs.Events.{IsWatchedName, HasEvents}
-use Rattle.lft_scheduler.proofs.Given.{listened_watched}
-use Rattle.lft_scheduler.specs.Listeners.{IsListener}
-use Rattle.lft_scheduler.proofs.Fed.{some_there}
-use Rattle.lft_scheduler.specs.Starts.{SomethingLeft}
-use Rattle.lft_scheduler.specs.Waits.{IsBetween, IsCovered, PhaseIs, IsTurnOf}
-use Rattle.lft_scheduler.specs.Telling.{IsTold, OccursBy, TriggeredByQueue}
-use Rattle.lft_scheduler.specs.Agendas.{MayAdvance, IsReached, IsCurrent}
-use Rattle.lft_scheduler.proofs.RunsOpen.{filter_mem}
-use Rattle.lft_scheduler.proofs.Told.{pending_back, none_waits, all_idle}
+use Rattle.lft_model.specs.{Plans.{PlanParts, IsSoundPlan}, Presence.{stop, At, Occurs, Triggered}, Runs.{Ran, start_row, end_row, by_ends}}
+use Rattle.lft_model.specs.{OneWorker.IsPending, Recorded.{SoFar, OnlyEndedAnswer}}
+use Rattle.lft_model.proofs.{Places.slice_get_within, Steps.both_true, Quiet.{pending_now, pending_time, pending_triggered}}
+use Rattle.lft_lists.proofs.{Places.get_there, Members.contains_mem}
 
 -- no tag is before (0, 0)
 pub none_before_first : (g h : Tag) → h ≡ record { time = 0; micro = 0 } → ¬ Before g h

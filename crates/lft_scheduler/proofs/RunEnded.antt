@@ -1,48 +1,23 @@
 -- The rows once a run has ended: who has run, what is triggered at its tag, and what is pending there.
 use Rattle.std.proofs.Common.{◌≡◌, ℕ, zero, suc, ◌+◌, ◌<◌, ◌⊎◌, inl, inr, List, [], ◌∷◌, ◌++◌, length, map, refl, sym, ap, ◌∙◌, subst, arith, Some, slice_get, filter_map, Contains}
 use Rattle.std.proofs.lemmas.List.Elements.{filter_map-append}
-use Rattle.lft_tag.specs.declared.Tag.{Tag}
-use Rattle.lft_tag.specs.Tags.{Before, UpTo, after_all}
-use Rattle.lft_tag.specs.Shifts.{shifted}
-use Rattle.lft_tag.proofs.Order.{UpTo-trans, UpTo_antisym, Before-irrefl, after_past, after_some_past}
-use Rattle.lft_tag.proofs.Chains.{shifted_chain}
+use Rattle.lft_tag.specs.{declared.Tag.Tag, Tags.{Before, UpTo, after_all}, Shifts.shifted}
+use Rattle.lft_tag.proofs.{Order.{UpTo-trans, UpTo_antisym, Before-irrefl, after_past, after_some_past}, Chains.shifted_chain}
 use Rattle.lft_lists.proofs.Members.{Mem, mem_get, get_mem, mem_cases, mem_left, mem_right, mem_map, mem_from_map, mem_filter, mem_from_filter, mem_contains, contains_mem, last_of_mem, last_mem}
 use Rattle.lft_lists.proofs.Places.{get_append_cases, get_left}
 use Rattle.lft_ir.specs.Origins.{Origin}
+use Rattle.lft_ir.specs.declared.parts.{Port.Port as PortOf, Value.Value, Name.{Name, TheVariants.{Port, Action}}}
+use Rattle.lft_ir.specs.declared.parts.Trigger.{Trigger, TheVariants.{Startup, Shutdown, Timer, On}}
+use Rattle.lft_ir.specs.declared.steps.row.{Row.Row, Step.{Step, TheVariants.{Start, Read, Write, Schedule, Stop, End}}}
 use Rattle.lft_ir.proofs.Origins.{origin_unique, port_of}
-use Rattle.lft_ir.specs.declared.parts.Port.{Port as PortOf}
-use Rattle.lft_ir.specs.declared.parts.Value.{Value}
-use Rattle.lft_ir.specs.declared.parts.Name.{Name}
-use Rattle.lft_ir.specs.declared.parts.Name.TheVariants.{Port, Action}
-use Rattle.lft_ir.specs.declared.parts.Trigger.{Trigger}
-use Rattle.lft_ir.specs.declared.parts.Trigger.TheVariants.{Startup, Shutdown, Timer, On}
-use Rattle.lft_ir.specs.declared.steps.row.Row.{Row}
-use Rattle.lft_ir.specs.declared.steps.row.Step.{Step}
-use Rattle.lft_ir.specs.declared.steps.row.Step.TheVariants.{Start, Read, Write, Schedule, Stop, End}
-use Rattle.lft_graph.specs.Precedence.{Precedes}
-use Rattle.lft_graph.specs.Precedence.Precedes.{one}
-use Rattle.lft_model.specs.Plans.{PlanParts, IsSoundPlan}
-use Rattle.lft_model.specs.Presence.{stop, written, scheduled, given, min_delay, events_of, Last, At, Occurs, Triggered}
-use Rattle.lft_model.specs.Runs.{Ran, start_row, end_row, effects_of, by_ends}
-use Rattle.lft_model.specs.OneWorker.{IsPending}
+use Rattle.lft_graph.specs.Precedence.{Precedes, Precedes.one}
+use Rattle.lft_model.specs.{Plans.{PlanParts, IsSoundPlan}, Presence.{stop, written, scheduled, given, min_delay, events_of, Last, At, Occurs, Triggered}}
+use Rattle.lft_model.specs.{Runs.{Ran, start_row, end_row, effects_of, by_ends}, OneWorker.IsPending}
 use Rattle.lft_model.specs.Recorded.{SoFar, IsAnswer, OnlyEndedAnswer, MayAnswer, run_row, committed_rows}
-use Rattle.lft_model.proofs.Places.{slice_get_within}
-use Rattle.lft_model.proofs.Stops.{stop_append}
-use Rattle.lft_model.proofs.Steps.{written_some, some_written}
-use Rattle.lft_model.proofs.Ended.{written_by, by_written, scheduled_by}
-use Rattle.lft_model.proofs.Law.{EndRow}
-use Rattle.lft_model.proofs.Legality.{ran_at}
-use Rattle.lft_model.proofs.Kept.{effect_of}
-use Rattle.lft_model.proofs.Reached.{input_of_trigger}
-use Rattle.lft_model.proofs.Blocks.{put_right}
-use Rattle.lft_model.proofs.Added.{added_row}
-use Rattle.lft_model.proofs.Committed.{not_ended, its_time, new_stop}
-use Rattle.lft_model.proofs.Recording.{precedes_ended}
-use Rattle.lft_model.proofs.Quiet.{pending_now, pending_triggered, pending_open}
-use Rattle.lft_scheduler.proofs.Written.{from_written, to_written}
-use Rattle.lft_scheduler.specs.Listeners.{IsListener}
-use Rattle.lft_scheduler.specs.Telling.{ArrivesAtOnce, TriggeredByWrites}
-use Rattle.lft_scheduler.specs.Agendas.{MayEnd}
+use Rattle.lft_model.proofs.{Places.slice_get_within, Stops.stop_append, Steps.{written_some, some_written}, Ended.{written_by, by_written, scheduled_by}}
+use Rattle.lft_model.proofs.{Law.EndRow, Legality.ran_at, Kept.effect_of, Reached.input_of_trigger, Blocks.put_right, Added.added_row}
+use Rattle.lft_model.proofs.{Committed.{not_ended, its_time, new_stop}, Recording.precedes_ended, Quiet.{pending_now, pending_triggered, pending_open}}
+use Rattle.lft_scheduler.{proofs.Written.{from_written, to_written}, specs.{Listeners.IsListener, Telling.{ArrivesAtOnce, TriggeredByWrites}, Agendas.MayEnd}}
 
 -- delays that lead from a tag to itself are none
 undelayed : (g : Tag) (ds : List ℕ) → after_all g ds ≡ g → ds ≡ []

@@ -1,33 +1,15 @@
 -- The open runs when a run is begun and when one is ended.
 use Rattle.std.proofs.Common.{◌≡◌, ◌↔◌, ℕ, zero, suc, ◌+◌, ◌<◌, ◌⊎◌, inl, inr, List, [], ◌∷◌, ◌++◌, length, map, refl, sym, ap, ◌∙◌, subst, arith, Option, Some, slice_get, filter_map, zip, Bool, true, false, not, cond, ◌&&◌, ◌==◌, eqb-true, eq-eqb, IsTrue}
-use Rattle.std.specs.List.{filter}
-use Rattle.std.proofs.lemmas.Bool.{false≢true}
+use Rattle.std.{specs.List.filter, proofs.lemmas.Bool.false≢true}
 use native.Mathlib.Decide.{dec_lt}
-use Rattle.lft_tag.specs.declared.Tag.{Tag}
-use Rattle.lft_tag.specs.Tags.{UpTo, same_tag}
-use Rattle.lft_lists.proofs.Members.{Mem, mem_get, get_mem, mem_cases}
-use Rattle.lft_lists.proofs.Places.{get_append_cases, get_left}
-use Rattle.lft_ir.specs.declared.parts.Value.{Value}
-use Rattle.lft_ir.specs.declared.steps.row.Row.{Row}
-use Rattle.lft_ir.specs.declared.steps.row.Step.{Step}
-use Rattle.lft_ir.specs.declared.steps.row.Step.TheVariants.{Start, Read, End}
-use Rattle.lft_model.specs.Plans.{PlanParts, IsSoundPlan}
-use Rattle.lft_model.specs.Presence.{stop}
-use Rattle.lft_model.specs.Runs.{Ran, start_row, end_row, read_step, read_of, inputs_of, reads_at}
-use Rattle.lft_model.specs.Breaches.{IsOpen}
-use Rattle.lft_model.specs.Recorded.{run_row, begun_rows, committed_rows, MayAnswer}
-use Rattle.lft_model.proofs.Places.{slice_get_within}
-use Rattle.lft_model.proofs.Steps.{both_true, in_reads}
-use Rattle.lft_model.proofs.Blocks.{put_right}
-use Rattle.lft_model.proofs.Added.{added_row}
-use Rattle.lft_model.proofs.Begun.{steps_same, own_reads}
-use Rattle.lft_model.proofs.Committed.{same_reads}
-use Rattle.lft_model.proofs.Quiet.{pending_time}
-use Rattle.lft_scheduler.specs.Starts.{IsBusy}
-use Rattle.lft_scheduler.specs.declared.open.OpenRun.{OpenRun}
-use Rattle.lft_scheduler.specs.OpenRuns.{AreOpen, HasReads, is_run}
-use Rattle.lft_scheduler.specs.Agendas.{MayBegin, MayEnd}
-use Rattle.lft_tag.proofs.Order.{same_tag_refl, same_tag_true}
+use Rattle.lft_tag.{specs.{declared.Tag.Tag, Tags.{UpTo, same_tag}}, proofs.Order.{same_tag_refl, same_tag_true}}
+use Rattle.lft_lists.proofs.{Members.{Mem, mem_get, get_mem, mem_cases}, Places.{get_append_cases, get_left}}
+use Rattle.lft_ir.specs.declared.{parts.Value.Value, steps.row.{Row.Row, Step.{Step, TheVariants.{Start, Read, End}}}}
+use Rattle.lft_model.specs.{Plans.{PlanParts, IsSoundPlan}, Presence.stop, Runs.{Ran, start_row, end_row, read_step, read_of, inputs_of, reads_at}}
+use Rattle.lft_model.specs.{Breaches.IsOpen, Recorded.{run_row, begun_rows, committed_rows, MayAnswer}}
+use Rattle.lft_model.proofs.{Places.slice_get_within, Steps.{both_true, in_reads}, Blocks.put_right, Added.added_row, Begun.{steps_same, own_reads}}
+use Rattle.lft_model.proofs.{Committed.same_reads, Quiet.pending_time}
+use Rattle.lft_scheduler.specs.{Starts.IsBusy, declared.open.OpenRun.OpenRun, OpenRuns.{AreOpen, HasReads, is_run}, Agendas.{MayBegin, MayEnd}}
 
 -- what a filter keeps
 pub filter_mem : {X : Type 0} (p : X → Bool) (xs : List X) (x : X) → Mem x (filter p xs) → Mem x xs × (p x ≡ true)

@@ -1,38 +1,22 @@
 -- The events in the queue, when a step of a run is fed to it.
 use Rattle.std.proofs.Common.{◌≡◌, ◌↔◌, ℕ, zero, suc, ◌+◌, ◌<◌, ◌≤◌, ◌⊎◌, inl, inr, List, [], ◌∷◌, ◌++◌, length, length-append, map, take, refl, sym, ap, ◌∙◌, subst, arith, Option, Some, None, IsSome, is_some, IsTrue, Bool, true, false, cond, nat_eq, ◌==◌, slice_get, filter_map, Contains, eq-eqb}
-use Rattle.std.specs.Cmp.{nat_eq_equiv}
-use Rattle.std.specs.List.{cons_option, last_or, list_any}
-use Rattle.std.proofs.lemmas.Bool.{false≢true, cases_eq}
-use Rattle.std.proofs.lemmas.List.Elements.{filter_map-append}
-use Rattle.std.proofs.lemmas.Map.Views.{list_any-from_Contains}
-use Rattle.lft_tag.specs.declared.Tag.{Tag}
-use Rattle.lft_tag.specs.Tags.{Before, UpTo, after}
-use Rattle.lft_tag.proofs.Order.{UpTo-refl, UpTo-trans, Before-weaken, after_past}
-use Rattle.lft_lists.proofs.Places.{same_some}
-use Rattle.lft_lists.proofs.Members.{Mem, mem_contains, contains_mem, nil_of_none, mem_left, mem_right}
-use Rattle.lft_ir.proofs.Origins.{port_of}
-use Rattle.lft_ir.specs.declared.parts.Port.{Port as PortOf}
-use Rattle.lft_ir.specs.declared.parts.Value.{Value}
-use Rattle.lft_ir.specs.declared.parts.Name.{Name}
-use Rattle.lft_ir.specs.declared.parts.Name.TheVariants.{Port, Action}
+use Rattle.std.specs.{Cmp.nat_eq_equiv, List.{cons_option, last_or, list_any}}
+use Rattle.std.proofs.lemmas.{Bool.{false≢true, cases_eq}, List.Elements.filter_map-append, Map.Views.list_any-from_Contains}
+use Rattle.lft_tag.{specs.{declared.Tag.Tag, Tags.{Before, UpTo, after}}, proofs.Order.{UpTo-refl, UpTo-trans, Before-weaken, after_past}}
+use Rattle.lft_lists.proofs.{Places.same_some, Members.{Mem, mem_contains, contains_mem, nil_of_none, mem_left, mem_right}}
+use Rattle.lft_ir.proofs.{Origins.port_of, Naming.name_self}
+use Rattle.lft_ir.specs.declared.parts.{Port.Port as PortOf, Value.Value, Name.{Name, TheVariants.{Port, Action}}}
+use Rattle.lft_ir.specs.declared.steps.row.{Row.Row, Step.{Step, TheVariants.{Write, Schedule, End}}}
 use Rattle.lft_ir.specs.Naming.{same_name}
-use Rattle.lft_ir.proofs.Naming.{name_self}
-use Rattle.lft_ir.specs.declared.steps.row.Row.{Row}
-use Rattle.lft_ir.specs.declared.steps.row.Step.{Step}
-use Rattle.lft_ir.specs.declared.steps.row.Step.TheVariants.{Write, Schedule, End}
 use Rattle.lft_queue.specs.Pending.{Pending, value_of}
 use Rattle.lft_scheduler.specs.Listeners.{IsArrival, IsWatched}
+use Rattle.lft_scheduler.specs.Events.{IsEarlier, IsWanted, IsPut, IsWatchedName, HasEvents, HasEventsOf, seen_by, IsFedTo, WasWritten, KnowsAgain}
+use Rattle.lft_scheduler.proofs.{Heard.{heard, unheard, iff_trans, iff_sym}, Written.{origin_at, its_origin, unheard_at, unheard_clash, more_clash}}
+use Rattle.lft_scheduler.proofs.{Carried.{carried, earlier_up}, Fed.{none_there, some_there, among_new}}
 use Rattle.lft_model.specs.Plans.{PlanParts, IsSoundPlan}
 use Rattle.lft_model.specs.Presence.{written, value_scheduled, scheduled, given, min_delay, events_of, Last, IsWrittenFrom, At, PortClash, ClashesAt}
 use Rattle.lft_model.specs.Recorded.{run_row, committed_rows}
-use Rattle.lft_model.proofs.Steps.{written_some, scheduled_some, some_scheduled}
-use Rattle.lft_model.proofs.Ended.{written_by, scheduled_by, by_scheduled}
-use Rattle.lft_model.proofs.Grown.{added_none}
-use Rattle.lft_scheduler.specs.Events.{IsEarlier, IsWanted, IsPut, IsWatchedName, HasEvents, HasEventsOf, seen_by, IsFedTo, WasWritten, KnowsAgain}
-use Rattle.lft_scheduler.proofs.Heard.{heard, unheard, iff_trans, iff_sym}
-use Rattle.lft_scheduler.proofs.Written.{origin_at, its_origin, unheard_at, unheard_clash, more_clash}
-use Rattle.lft_scheduler.proofs.Carried.{carried, earlier_up}
-use Rattle.lft_scheduler.proofs.Fed.{none_there, some_there, among_new}
+use Rattle.lft_model.proofs.{Steps.{written_some, scheduled_some, some_scheduled}, Ended.{written_by, scheduled_by, by_scheduled}, Grown.added_none}
 
 -- a row that schedules nothing for an action
 pub none_scheduled : (plan : PlanParts) (t : List Row) (x : Row) (k : Tag) (a : ℕ) → scheduled k a (min_delay plan.program a) x ≡ None → events_of plan (t ++ x ∷ []) k a ≡ events_of plan t k a

@@ -1,15 +1,9 @@
 -- The stop of the rows once a run has ended.
 use Rattle.std.proofs.Common.{◌≡◌, ℕ, ◌⊎◌, inl, inr, List, [], ◌∷◌, ◌++◌, refl, sym, ap, ◌∙◌, subst, Some}
-use Rattle.lft_tag.specs.declared.Tag.{Tag}
-use Rattle.lft_tag.specs.Tags.{Before, UpTo, after}
-use Rattle.lft_tag.proofs.Order.{UpTo-not, UpTo_antisym, order_cases}
+use Rattle.lft_tag.{specs.{declared.Tag.Tag, Tags.{Before, UpTo, after}}, proofs.Order.{UpTo-not, UpTo_antisym, order_cases}}
 use Rattle.lft_lists.proofs.Members.{Mem, mem_get, get_mem, mem_cases, mem_left, mem_right, mem_map, mem_from_map}
-use Rattle.lft_ir.specs.declared.steps.row.Row.{Row}
-use Rattle.lft_ir.specs.declared.steps.row.Step.{Step}
-use Rattle.lft_ir.specs.declared.steps.row.Step.TheVariants.{Stop, End}
-use Rattle.lft_model.specs.Plans.{PlanParts}
-use Rattle.lft_model.specs.Presence.{requests, stop}
-use Rattle.lft_model.specs.Recorded.{run_row, committed_rows}
+use Rattle.lft_ir.specs.declared.steps.row.{Row.Row, Step.{Step, TheVariants.{Stop, End}}}
+use Rattle.lft_model.specs.{Plans.PlanParts, Presence.{requests, stop}, Recorded.{run_row, committed_rows}}
 use Rattle.lft_model.proofs.Stops.{ask, asker, stop_asked, stop_append, stop_added}
 use Rattle.lft_scheduler.specs.Agendas.{AsksStop}
 

@@ -1,23 +1,14 @@
 -- Firings are taken one by one, and the first ones after the tag come in their place.
 use Rattle.std.proofs.Common.{◌≡◌, ℕ, ◌<◌, ◌⊎◌, inl, inr, List, [], ◌∷◌, Bool, cond, refl, sym, ap, ◌∙◌, subst, arith, Contains}
-use Rattle.std.specs.List.Sorted.{IsPermutation}
-use Rattle.std.proofs.lemmas.List.Sorted.{Contains-permutation, IsPermutation-sym, sum_by_popped, sum_by_pushed}
-use Rattle.lft_tag.specs.declared.Tag.{Tag}
-use Rattle.lft_tag.specs.Tags.{Before, UpTo, is_before}
-use Rattle.lft_tag.proofs.Order.{Before-weaken, UpTo-refl, UpTo_antisym, UpTo-not}
-use Rattle.lft_ir.specs.Parts.{Parts}
-use Rattle.lft_ir.specs.declared.parts.Trigger.TheVariants.{Timer}
+use Rattle.std.{specs.List.Sorted.IsPermutation, proofs.lemmas.List.Sorted.{Contains-permutation, IsPermutation-sym, sum_by_popped, sum_by_pushed}}
+use Rattle.lft_tag.{specs.{declared.Tag.Tag, Tags.{Before, UpTo, is_before}}, proofs.Order.{Before-weaken, UpTo-refl, UpTo_antisym, UpTo-not}}
+use Rattle.lft_ir.specs.{Parts.Parts, declared.parts.Trigger.TheVariants.Timer}
 use Rattle.lft_lists.proofs.Members.{Mem, mem_contains, contains_mem}
 use Rattle.lft_model.specs.Presence.{Fires}
-use Rattle.lft_scheduler.specs.Listeners.{IsListener, IsLive}
-use Rattle.lft_queue.proofs.Tests.{test_before, not_before}
-use Rattle.lft_scheduler.specs.Turns.{TurnParts}
-use Rattle.lft_scheduler.specs.declared.firings.Firing.{Firing}
-use Rattle.lft_scheduler.specs.Telling.{IsTold, FiresAt}
+use Rattle.lft_scheduler.specs.{Listeners.{IsListener, IsLive}, Turns.TurnParts, declared.firings.Firing.Firing, Telling.{IsTold, FiresAt}}
 use Rattle.lft_scheduler.specs.Firings.{tag_of_firing, IsFirstOf, AreFirst, IsMoved, how_many_until}
-use Rattle.lft_scheduler.proofs.ToldTurns.{told_none, told_as, told_more}
-use Rattle.lft_scheduler.proofs.LedFirings.{live_fires}
-use Rattle.lft_scheduler.proofs.FirstFirings.{first_up_to, first_after}
+use Rattle.lft_scheduler.proofs.{ToldTurns.{told_none, told_as, told_more}, LedFirings.live_fires, FirstFirings.{first_up_to, first_after}}
+use Rattle.lft_queue.proofs.Tests.{test_before, not_before}
 
 -- what was taken out was there
 pub was : (f : Firing) (old rest : List Firing) → IsPermutation old (f ∷ rest) → Contains old f

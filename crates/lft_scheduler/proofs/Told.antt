@@ -1,23 +1,15 @@
 -- What the turn of a tag says of the reactions there; of the least tag it says what may start next.
 use Rattle.std.proofs.Common.{◌≡◌, ℕ, ◌<◌, inl, inr, List, length, refl, subst, arith, Some, slice_get}
-use Rattle.lft_tag.specs.declared.Tag.{Tag}
-use Rattle.lft_tag.proofs.Order.{UpTo_antisym}
+use Rattle.lft_tag.{specs.declared.Tag.Tag, proofs.Order.UpTo_antisym}
 use Rattle.lft_ir.specs.declared.steps.row.Row.{Row}
 use Rattle.lft_lists.proofs.Places.{get_there}
 use Rattle.lft_model.proofs.Places.{slice_get_within}
-use Rattle.lft_scheduler.specs.declared.turn.phase.Phase.{Phase}
-use Rattle.lft_scheduler.specs.declared.turn.phase.Phase.TheVariants.{Idle, Waiting, Open}
-use Rattle.lft_scheduler.specs.Turns.{TurnParts, IsReady, IsLeastReady, NoneOpen, NonePending}
-use Rattle.lft_scheduler.specs.Turns.{IsPending as IsBusyThere}
-use Rattle.lft_model.specs.Plans.{PlanParts, IsSoundPlan}
-use Rattle.lft_model.specs.Runs.{Ran, by_ends}
-use Rattle.lft_model.specs.OneWorker.{IsPending}
-use Rattle.lft_model.specs.Recorded.{SoFar, OnlyEndedAnswer}
-use Rattle.lft_scheduler.specs.Starts.{MayStart, MayStartFirst, NoneMayStart, NothingLeft, IsAnyOpen}
+use Rattle.lft_model.specs.{Plans.{PlanParts, IsSoundPlan}, Runs.{Ran, by_ends}, OneWorker.IsPending, Recorded.{SoFar, OnlyEndedAnswer}}
+use Rattle.lft_scheduler.specs.declared.turn.phase.Phase.{Phase, TheVariants.{Idle, Waiting, Open}}
 use Rattle.lft_scheduler.specs.declared.open.OpenRun.{OpenRun}
-use Rattle.lft_scheduler.specs.OpenRuns.{AreOpen}
-use Rattle.lft_scheduler.specs.Waits.{Awaits, IsLeastTag, PhaseIs, IsTurnOf}
-use Rattle.lft_scheduler.specs.Agendas.{AgendaParts, IsAgenda, MayFind}
+use Rattle.lft_scheduler.specs.Turns.{TurnParts, IsReady, IsLeastReady, NoneOpen, NonePending, IsPending as IsBusyThere}
+use Rattle.lft_scheduler.specs.{Starts.{MayStart, MayStartFirst, NoneMayStart, NothingLeft, IsAnyOpen}, OpenRuns.AreOpen}
+use Rattle.lft_scheduler.specs.{Waits.{Awaits, IsLeastTag, PhaseIs, IsTurnOf}, Agendas.{AgendaParts, IsAgenda, MayFind}}
 use Rattle.lft_scheduler.proofs.Awaiting.{pending_within, ran_open, any_left}
 
 -- the runs that are kept are all that are open

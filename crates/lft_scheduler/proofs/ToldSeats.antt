@@ -2,12 +2,9 @@
 use Rattle.std.proofs.Common.{◌≡◌, ◌≢◌, ℕ, zero, suc, ◌+◌, ◌<◌, ◌⊎◌, inl, inr, List, [], ◌∷◌, length, refl, sym, ap, ◌∙◌, arith, Some, slice_get, slice_set, drop, map}
 use Rattle.std.proofs.lemmas.Bool.{true≢false, false≢true, cases_Bool}
 use mathlib.Core.Bool.{Bool, true, false, not}
-use Rattle.lft_scheduler.specs.declared.turn.phase.Phase.{Phase}
-use Rattle.lft_scheduler.specs.declared.turn.phase.Phase.TheVariants.{Idle, Waiting, Open}
-use Rattle.lft_scheduler.specs.declared.turn.seats.Seat.{Seat}
+use Rattle.lft_scheduler.specs.declared.turn.{phase.Phase.{Phase, TheVariants.{Idle, Waiting, Open}}, seats.Seat.Seat}
 use Rattle.lft_scheduler.specs.Seats.{busy_at, busy, free, times, hit, load, gain, loss, differ, uncounted, AreOnce, IsMoving, IsPushed}
-use Rattle.lft_scheduler.proofs.Adding.{hit_same, hit_apart, times_drop, load_small, tally_written}
-use Rattle.lft_scheduler.proofs.WrittenSeats.{room_to_turn, written_moves}
+use Rattle.lft_scheduler.proofs.{Adding.{hit_same, hit_apart, times_drop, load_small, tally_written}, WrittenSeats.{room_to_turn, written_moves}}
 
 pub busy_waits : (p : Phase) (n : ℕ) → 0 < n → busy_at p n ≡ true
 busy_waits Idle zero l = absurd (omega arith)

@@ -2,18 +2,12 @@
 use Rattle.std.proofs.Common.{◌≡◌, ◌≢◌, ◌↔◌, ℕ, zero, suc, ◌+◌, ◌<◌, ◌≤◌, ◌⊎◌, inl, inr, List, [], ◌∷◌, length, drop, refl, sym, ap, ◌∙◌, subst, arith, Some, IsSome, slice_get, slice_set, Bool, IsTrue}
 use native.Mathlib.Decide.{dec_lt}
 use Rattle.lft_tag.specs.declared.Tag.{Tag}
-use Rattle.lft_ir.specs.Parts.{Parts}
-use Rattle.lft_ir.specs.declared.parts.Name.{Name}
-use Rattle.lft_ir.specs.declared.parts.Trigger.{Trigger}
-use Rattle.lft_ir.specs.declared.parts.Trigger.TheVariants.{Startup, Shutdown, Timer, On}
+use Rattle.lft_ir.specs.{Parts.Parts, declared.parts.{Name.Name, Trigger.{Trigger, TheVariants.{Startup, Shutdown, Timer, On}}}}
 use Rattle.lft_queue.specs.Pending.{Pending, value_of}
-use Rattle.lft_scheduler.specs.Listeners.{IsListener, IsLive}
+use Rattle.lft_scheduler.specs.{Listeners.{IsListener, IsLive}, declared.turn.phase.Phase.{Phase, TheVariants.{Idle, Waiting, Open}}}
+use Rattle.lft_scheduler.specs.{Turns.{TurnParts, IsPending}, Telling.{IsTold, FiresAt, OccursBy, TriggeredByQueue, OfFirst}}
 use Rattle.lft_lists.proofs.Places.{get_there, get_written, get_unwritten, length_written, get_write_cases, same_at}
 use Rattle.lft_model.proofs.Places.{slice_get_within}
-use Rattle.lft_scheduler.specs.declared.turn.phase.Phase.{Phase}
-use Rattle.lft_scheduler.specs.declared.turn.phase.Phase.TheVariants.{Idle, Waiting, Open}
-use Rattle.lft_scheduler.specs.Turns.{TurnParts, IsPending}
-use Rattle.lft_scheduler.specs.Telling.{IsTold, FiresAt, OccursBy, TriggeredByQueue, OfFirst}
 
 -- where the property holds of none, nothing changes
 pub told_none : (P : ℕ → Type 0) (a : TurnParts) → ((r : ℕ) → ¬ P r) → IsTold P a a

@@ -1,25 +1,15 @@
 -- The turn of a tag once a run there has been begun or ended.
 use Rattle.std.proofs.Common.{◌≡◌, ◌≢◌, ℕ, ◌+◌, ◌<◌, ◌⊎◌, inl, inr, List, ◌++◌, length, refl, sym, ap, ◌∙◌, subst, arith, Option, Some, slice_get, slice_set}
 use Rattle.lft_tag.specs.declared.Tag.{Tag}
-use Rattle.lft_ir.specs.declared.parts.Value.{Value}
-use Rattle.lft_ir.specs.declared.steps.row.Row.{Row}
-use Rattle.lft_ir.specs.declared.steps.row.Step.{Step}
+use Rattle.lft_ir.specs.declared.{parts.Value.Value, steps.row.{Row.Row, Step.Step}}
 use Rattle.lft_graph.specs.Graph.{GraphParts, IsGraphOf}
 use Rattle.lft_lists.proofs.Places.{get_there, get_write_cases, length_written, get_append_cases, get_left}
-use Rattle.lft_scheduler.specs.declared.turn.phase.Phase.{Phase}
-use Rattle.lft_scheduler.specs.declared.turn.phase.Phase.TheVariants.{Idle, Waiting, Open}
-use Rattle.lft_scheduler.specs.Turns.{TurnParts}
-use Rattle.lft_model.specs.Plans.{PlanParts, IsSoundPlan}
-use Rattle.lft_model.specs.Runs.{Run, Ran, start_row, by_ends}
-use Rattle.lft_model.specs.OneWorker.{IsPending}
-use Rattle.lft_model.specs.Recorded.{SoFar, begun_steps, begun_rows, committed_rows}
-use Rattle.lft_model.proofs.Places.{slice_get_within}
-use Rattle.lft_model.proofs.Blocks.{put_right}
-use Rattle.lft_model.proofs.Added.{added_row}
-use Rattle.lft_scheduler.specs.Waits.{PhaseIs, IsTurnOf}
-use Rattle.lft_scheduler.specs.Telling.{IsTold, TriggeredByWrites}
-use Rattle.lft_scheduler.specs.Agendas.{MayEnd}
+use Rattle.lft_scheduler.specs.{declared.turn.phase.Phase.{Phase, TheVariants.{Idle, Waiting, Open}}, Turns.TurnParts, Waits.{PhaseIs, IsTurnOf}}
+use Rattle.lft_scheduler.specs.{Telling.{IsTold, TriggeredByWrites}, Agendas.MayEnd}
 use Rattle.lft_scheduler.proofs.RunEnded.{ran_before, ran_on, no_more, called_waits, pending_on, pending_cases}
+use Rattle.lft_model.specs.{Plans.{PlanParts, IsSoundPlan}, Runs.{Run, Ran, start_row, by_ends}, OneWorker.IsPending}
+use Rattle.lft_model.specs.Recorded.{SoFar, begun_steps, begun_rows, committed_rows}
+use Rattle.lft_model.proofs.{Places.slice_get_within, Blocks.put_right, Added.added_row}
 
 -- a run of r at g has been begun, and the ended runs are as they were
 module _ (plan : PlanParts) (t : List Row) (w : ℕ) (g : Tag) (r : ℕ) (shown : List (Option Value)) (same : by_ends plan (t ++ begun_rows plan w g r shown) ≡ by_ends plan t) (pending : IsPending plan (by_ends plan t) g r) (old new : TurnParts) (is : IsTurnOf plan t g old) where

@@ -1,16 +1,11 @@
 -- The watched ports of a program: those that its reactions read, and the first delayed ones.
 use Rattle.std.proofs.Common.{◌≡◌, ◌≢◌, ◌↔◌, ◌⊎◌, inl, inr, ◌<◌, ◌≤◌, ◌+◌, ℕ, zero, suc, List, length, replicate, refl, sym, ap, ◌∙◌, subst, arith, Option, Some, None, IfSome, slice_get, slice_set, true, false}
-use Rattle.std.proofs.lemmas.Bool.{cases_eq}
-use Rattle.std.proofs.lemmas.Option.{slice_get_within}
+use Rattle.std.proofs.lemmas.{Bool.cases_eq, Option.slice_get_within}
 use native.Mathlib.Decide.{dec_lt}
-use Rattle.lft_tag.specs.Tags.{Before, UpTo}
-use Rattle.lft_tag.proofs.Order.{Before-irrefl, Before-UpTo, Before-weaken, UpTo-refl, UpTo_antisym, order_cases}
-use Rattle.lft_ir.specs.Parts.{Parts}
-use Rattle.lft_ir.specs.Sound.{IsSound}
-use Rattle.lft_ir.specs.declared.parts.Port.{Port as PortOf}
+use Rattle.lft_tag.{specs.Tags.{Before, UpTo}, proofs.Order.{Before-irrefl, Before-UpTo, Before-weaken, UpTo-refl, UpTo_antisym, order_cases}}
+use Rattle.lft_ir.specs.{Parts.Parts, Sound.IsSound, declared.parts.Port.Port as PortOf}
 use Rattle.lft_lists.proofs.Places.{get_there, get_same, length_same, get_write_cases, length_written, same_at, same_some}
-use Rattle.lft_scheduler.specs.Listeners.{arrival, IsDelayed, IsFirstDelayed, IsWatched}
-use Rattle.lft_scheduler.specs.Filling.{Precedes, IsFirst, AreFirst, WatchedParts, AreWatched}
+use Rattle.lft_scheduler.specs.{Listeners.{arrival, IsDelayed, IsFirstDelayed, IsWatched}, Filling.{Precedes, IsFirst, AreFirst, WatchedParts, AreWatched}}
 
 -- one port more is looked at
 module _ (program : Parts) (n : ℕ) (port : PortOf) (here : slice_get program.ports n ≡ Some port) where

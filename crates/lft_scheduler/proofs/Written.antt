@@ -1,30 +1,15 @@
 -- What a port has when its origin is written once more.
 use Rattle.std.proofs.Common.{◌≡◌, ◌↔◌, ℕ, zero, suc, ◌+◌, ◌⊎◌, inl, inr, List, [], ◌∷◌, ◌++◌, refl, sym, ap, ◌∙◌, subst, arith, Option, Some, None, slice_get, filter_map}
-use Rattle.std.specs.List.{last_or, cons_option}
-use Rattle.std.proofs.lemmas.List.Elements.{filter_map-append}
-use Rattle.lft_tag.specs.declared.Tag.{Tag}
-use Rattle.lft_tag.specs.Tags.{Before, UpTo, after_all}
-use Rattle.lft_tag.specs.Shifts.{Folded, shifted}
-use Rattle.lft_tag.proofs.Order.{order_cases, UpTo_antisym, after_all_past}
-use Rattle.lft_tag.proofs.Chains.{shifted_chain, tag_of}
+use Rattle.std.{specs.List.{last_or, cons_option}, proofs.lemmas.List.Elements.filter_map-append}
+use Rattle.lft_tag.specs.{declared.Tag.Tag, Tags.{Before, UpTo, after_all}, Shifts.{Folded, shifted}}
+use Rattle.lft_tag.proofs.{Order.{order_cases, UpTo_antisym, after_all_past}, Chains.{shifted_chain, tag_of}}
 use Rattle.lft_lists.proofs.Members.{Mem, last-append_some}
-use Rattle.lft_ir.specs.Parts.{Parts}
-use Rattle.lft_ir.specs.Origins.{Origin}
-use Rattle.lft_ir.specs.Origins.Origin.{itself, over}
-use Rattle.lft_ir.specs.declared.parts.Port.{Port as PortOf}
-use Rattle.lft_ir.specs.declared.parts.Value.{Value}
-use Rattle.lft_ir.specs.declared.parts.Name.TheVariants.{Port}
-use Rattle.lft_ir.specs.declared.steps.row.Row.{Row}
-use Rattle.lft_ir.specs.declared.steps.row.Step.{Step}
-use Rattle.lft_ir.specs.declared.steps.row.Step.TheVariants.{Write}
-use Rattle.lft_scheduler.specs.Listeners.{IsArrival}
-use Rattle.lft_model.specs.Plans.{PlanParts, IsSoundPlan}
-use Rattle.lft_model.specs.Presence.{value_written, written, Last, IsWrittenFrom, At, PortClash, ClashesAt}
-use Rattle.lft_model.proofs.Places.{tag_discrete}
-use Rattle.lft_model.proofs.Steps.{written_some, some_written}
-use Rattle.lft_model.proofs.Ended.{written_by, by_written}
+use Rattle.lft_ir.specs.{Parts.Parts, Origins.{Origin, Origin.{itself, over}}}
+use Rattle.lft_ir.specs.declared.{parts.{Port.Port as PortOf, Value.Value, Name.TheVariants.Port}, steps.row.{Row.Row, Step.{Step, TheVariants.Write}}}
 use Rattle.lft_ir.proofs.Origins.{origin_unique, port_of}
-use Rattle.lft_model.proofs.Grown.{added_none}
+use Rattle.lft_scheduler.specs.Listeners.{IsArrival}
+use Rattle.lft_model.specs.{Plans.{PlanParts, IsSoundPlan}, Presence.{value_written, written, Last, IsWrittenFrom, At, PortClash, ClashesAt}}
+use Rattle.lft_model.proofs.{Places.tag_discrete, Steps.{written_some, some_written}, Ended.{written_by, by_written}, Grown.added_none}
 
 -- the origin of a port is its own origin
 pub own_origin : {program : Parts} {p o : ℕ} {ds : List ℕ} → Origin program p o ds → Origin program o o []

@@ -1,7 +1,6 @@
 -- What one write keeps on the way to rest.
 use Rattle.std.proofs.Common.{◌≡◌, ◌≢◌, ℕ, ◌+◌, ◌<◌, ◌⊎◌, inl, inr, List, [], length, refl, sym, ap, ◌∙◌, subst, arith, Some, slice_get, slice_set}
-use Rattle.std.proofs.lemmas.Option.{slice_get_within}
-use Rattle.std.proofs.lemmas.Bool.{cases_eq}
+use Rattle.std.proofs.lemmas.{Option.slice_get_within, Bool.cases_eq}
 use mathlib.Core.Bool.{Bool, not}
 use Rattle.lft_lists.proofs.Places.{get_written, get_unwritten, get_write_cases, length_written, same_at}
 use Rattle.lft_scheduler.specs.declared.turn.seats.Seat.{Seat}

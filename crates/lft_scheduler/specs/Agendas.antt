@@ -1,32 +1,16 @@
 -- What is kept beside the rows of a recording, and what it is of them.
 use Rattle.std.specs.Prelude.{◌≡◌, ℕ, ◌≤◌, ◌++◌, List, Option, Some, None, length, slice_get}
-use Rattle.lft_tag.specs.declared.Tag.{Tag}
-use Rattle.lft_tag.specs.Tags.{Before, UpTo}
-use Rattle.lft_ir.specs.Parts.{Parts}
-use Rattle.lft_ir.specs.declared.parts.Value.{Value}
-use Rattle.lft_ir.specs.declared.steps.row.Row.{Row}
-use Rattle.lft_ir.specs.declared.steps.row.Step.{Step}
-use Rattle.lft_ir.specs.declared.steps.row.Step.TheVariants.{Stop}
+use Rattle.lft_tag.specs.{declared.Tag.Tag, Tags.{Before, UpTo}}
+use Rattle.lft_ir.specs.{Parts.Parts, declared.{parts.Value.Value, steps.row.{Row.Row, Step.{Step, TheVariants.Stop}}}}
 use Rattle.lft_queue.specs.Pending.{Pending}
-use Rattle.lft_scheduler.specs.Turns.{TurnParts}
-use Rattle.lft_scheduler.specs.Listeners.{ListenerParts, AreListeners, AreArrivals}
-use Rattle.lft_model.specs.Plans.{PlanParts, IsSoundPlan}
-use Rattle.lft_model.specs.Presence.{Inputs, stop}
-use Rattle.lft_model.specs.Runs.{by_ends}
-use Rattle.lft_model.specs.Breaches.{IsOpen}
-use Rattle.lft_model.specs.OneWorker.{IsPending, rows as rows_of_runs}
-use Rattle.lft_model.specs.Recorded.{SoFar, OnlyEndedAnswer, committed_rows}
-use Rattle.lft_scheduler.specs.Answering.{MayAll}
-use Rattle.lft_scheduler.specs.Collisions.{CollidesFirst, IsClean}
-use Rattle.lft_scheduler.specs.Starts.{MayStart, MayStartFirst, NoneMayStart, NothingLeft, SomethingLeft, IsAnyOpen, IsBusy}
-use Rattle.lft_scheduler.specs.Events.{HasEvents}
-use Rattle.lft_scheduler.specs.declared.found.NextRun.{NextRun}
-use Rattle.lft_scheduler.specs.declared.found.NextRun.TheVariants.{Ready, Blocked, Nothing}
+use Rattle.lft_scheduler.specs.{Turns.TurnParts, Listeners.{ListenerParts, AreListeners, AreArrivals}, Answering.MayAll, Collisions.{CollidesFirst, IsClean}}
+use Rattle.lft_scheduler.specs.{Starts.{MayStart, MayStartFirst, NoneMayStart, NothingLeft, SomethingLeft, IsAnyOpen, IsBusy}, Events.HasEvents}
+use Rattle.lft_scheduler.specs.declared.found.NextRun.{NextRun, TheVariants.{Ready, Blocked, Nothing}}
 use Rattle.lft_scheduler.specs.declared.open.OpenRun.{OpenRun}
-use Rattle.lft_scheduler.specs.OpenRuns.{AreOpen}
-use Rattle.lft_scheduler.specs.Waits.{IsLeastTag, IsTurnOf}
 use Rattle.lft_scheduler.specs.declared.firings.Firing.{Firing}
-use Rattle.lft_scheduler.specs.Firings.{AreFirst}
+use Rattle.lft_scheduler.specs.{OpenRuns.AreOpen, Waits.{IsLeastTag, IsTurnOf}, Firings.AreFirst}
+use Rattle.lft_model.specs.{Plans.{PlanParts, IsSoundPlan}, Presence.{Inputs, stop}, Runs.by_ends, Breaches.IsOpen, OneWorker.{IsPending, rows as rows_of_runs}}
+use Rattle.lft_model.specs.Recorded.{SoFar, OnlyEndedAnswer, committed_rows}
 
 -- the open runs, the watched events from a tag on up to the stop, the next firings of timers, how far each reaction is at that tag, that tag, the stop, and the program's tables
 pub record AgendaParts : Type 0 where

@@ -1,9 +1,7 @@
 -- What steps an answer may have.
 use Rattle.std.specs.Prelude.{◌≡◌, ℕ, ◌<◌, List, Some, slice_get}
-use Rattle.lft_ir.specs.declared.steps.row.Step.{Step}
-use Rattle.lft_ir.specs.declared.steps.row.Step.TheVariants.{Start, Read, Write, Schedule, Stop, End}
-use Rattle.lft_model.specs.Plans.{PlanParts}
-use Rattle.lft_model.specs.Recorded.{MayAnswer}
+use Rattle.lft_ir.specs.declared.steps.row.Step.{Step, TheVariants.{Start, Read, Write, Schedule, Stop, End}}
+use Rattle.lft_model.specs.{Plans.PlanParts, Recorded.MayAnswer}
 
 -- the reaction may make all the steps
 abbrev pub MayAll : PlanParts → ℕ → List Step → Type 0

@@ -1,10 +1,8 @@
 -- Collisions up to a stop.
 use Rattle.std.specs.Prelude.{List}
-use Rattle.lft_tag.specs.declared.Tag.{Tag}
-use Rattle.lft_tag.specs.Tags.{Before, UpTo}
+use Rattle.lft_tag.specs.{declared.Tag.Tag, Tags.{Before, UpTo}}
 use Rattle.lft_ir.specs.declared.steps.row.Row.{Row}
-use Rattle.lft_model.specs.Plans.{PlanParts}
-use Rattle.lft_model.specs.Presence.{stop, Collision}
+use Rattle.lft_model.specs.{Plans.PlanParts, Presence.{stop, Collision}}
 
 -- g is the least tag up to the stop at which two causes give one port or action an event
 pub record CollidesFirst (plan : PlanParts) (t : List Row) (g : Tag) : Type 0 where

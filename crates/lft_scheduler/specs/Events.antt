@@ -1,18 +1,11 @@
 -- The events that rows make from a tag on, as a queue of them.
 use Rattle.std.specs.Prelude.{◌≡◌, ◌↔◌, ◌⊎◌, ℕ, Bool, cond, nat_eq, List, [], ◌∷◌, ◌++◌, Option, Some, None, IsSome, IsTrue, slice_get}
 use Rattle.std.specs.List.{list_any}
-use Rattle.lft_tag.specs.declared.Tag.{Tag}
-use Rattle.lft_tag.specs.Tags.{Before, UpTo}
-use Rattle.lft_ir.specs.Parts.{Parts}
-use Rattle.lft_ir.specs.declared.parts.Port.{Port as PortOf}
-use Rattle.lft_ir.specs.declared.parts.Value.{Value}
-use Rattle.lft_ir.specs.declared.parts.Name.{Name}
-use Rattle.lft_ir.specs.declared.parts.Name.TheVariants.{Port, Action}
-use Rattle.lft_ir.specs.declared.steps.row.Row.{Row}
+use Rattle.lft_tag.specs.{declared.Tag.Tag, Tags.{Before, UpTo}}
+use Rattle.lft_ir.specs.{Parts.Parts, declared.{parts.{Port.Port as PortOf, Value.Value, Name.{Name, TheVariants.{Port, Action}}}, steps.row.Row.Row}}
 use Rattle.lft_scheduler.specs.Listeners.{IsWatched}
 use Rattle.lft_queue.specs.Pending.{Pending, value_of, Becomes}
-use Rattle.lft_model.specs.Plans.{PlanParts}
-use Rattle.lft_model.specs.Presence.{At, ClashesAt, Last}
+use Rattle.lft_model.specs.{Plans.PlanParts, Presence.{At, ClashesAt, Last}}
 
 -- h is earlier than the tag that was found, if one was
 abbrev pub IsEarlier : Option Tag → Tag → Type 0

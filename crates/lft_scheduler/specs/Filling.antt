@@ -1,16 +1,9 @@
 -- How far lists by trigger and by origin are filled. The contracts of private functions alone need this file.
 use Rattle.std.specs.Prelude.{◌≡◌, ◌↔◌, ◌⊎◌, ◌<◌, ℕ, Bool, true, List, Option, Some, None, Contains, AllPairs, length, slice_get}
-use Rattle.std.specs.BTreeMap.{BTreeMap, get}
-use Rattle.std.specs.Ordering.{nat_cmp, ordering_then}
-use Rattle.std.specs.declared.cmp.Ordering.{Ordering}
+use Rattle.std.specs.{BTreeMap.{BTreeMap, get}, Ordering.{nat_cmp, ordering_then}, declared.cmp.Ordering.Ordering}
 use Rattle.lft_tag.specs.Tags.{Before}
-use Rattle.lft_ir.specs.Parts.{Parts}
-use Rattle.lft_ir.specs.Sound.{IsTriggerOf}
-use Rattle.lft_ir.specs.declared.parts.Port.{Port as PortOf}
-use Rattle.lft_ir.specs.declared.parts.Reaction.{Reaction}
-use Rattle.lft_ir.specs.declared.parts.Timer.{Timer as TimerOf}
-use Rattle.lft_ir.specs.declared.parts.Trigger.{Trigger}
-use Rattle.lft_ir.specs.declared.parts.Trigger.TheVariants.{Timer}
+use Rattle.lft_ir.specs.{Parts.Parts, Sound.IsTriggerOf}
+use Rattle.lft_ir.specs.declared.parts.{Port.Port as PortOf, Reaction.Reaction, Timer.Timer as TimerOf, Trigger.{Trigger, TheVariants.Timer}}
 use Rattle.lft_queue.specs.Reading.{AreMarked}
 use Rattle.lft_scheduler.specs.Listeners.{beat, IsLeader, IsListener, IsArrival, IsWatched, arrival, IsDelayed, IsFirstDelayed}
 use Rattle.lft_scheduler.specs.Lists.{TriggerLists, list_at, list_of, HasList}

@@ -1,17 +1,10 @@
 -- The next firings of the live timers.
 use Rattle.std.specs.Prelude.{◌≡◌, ◌⊎◌, ℕ, ◌<◌, cond, List, Some, Contains, slice_get}
-use Rattle.std.specs.List.{sum_by}
-use Rattle.std.specs.declared.cmp.Ordering.{Ordering}
-use Rattle.std.specs.declared.cmp.Reverse.{Reverse}
-use Rattle.std.specs.Ordering.{nat_cmp, ordering_then}
-use Rattle.lft_tag.specs.declared.Tag.{Tag}
-use Rattle.lft_tag.specs.Tags.{Before, UpTo, is_before}
-use Rattle.lft_ir.specs.Parts.{Parts}
-use Rattle.lft_ir.specs.declared.parts.Timer.{Timer as TimerOf}
+use Rattle.std.specs.{List.sum_by, declared.cmp.{Ordering.Ordering, Reverse.Reverse}, Ordering.{nat_cmp, ordering_then}}
+use Rattle.lft_tag.specs.{declared.Tag.Tag, Tags.{Before, UpTo, is_before}}
+use Rattle.lft_ir.specs.{Parts.Parts, declared.parts.Timer.Timer as TimerOf}
 use Rattle.lft_model.specs.Presence.{Fires}
-use Rattle.lft_scheduler.specs.Listeners.{IsLive}
-use Rattle.lft_scheduler.specs.declared.firings.Firing.{Firing}
-use Rattle.lft_scheduler.specs.Telling.{FiresAt}
+use Rattle.lft_scheduler.specs.{Listeners.IsLive, declared.firings.Firing.Firing, Telling.FiresAt}
 
 -- the tag of a firing
 abbrev pub tag_of_firing : Firing → Tag

@@ -1,13 +1,7 @@
 -- Who listens to a trigger, and where a write arrives.
 use Rattle.std.specs.Prelude.{◌≡◌, ◌≢◌, ◌↔◌, ◌⊎◌, ◌<◌, ◌≤◌, ◌%◌, ℕ, List, Some, Contains, AllPairs, slice_get, length}
-use Rattle.lft_tag.specs.declared.Tag.{Tag}
-use Rattle.lft_tag.specs.Tags.{UpTo}
-use Rattle.lft_ir.specs.Parts.{Parts}
-use Rattle.lft_ir.specs.declared.parts.Port.{Port as PortOf}
-use Rattle.lft_ir.specs.declared.parts.Reaction.{Reaction}
-use Rattle.lft_ir.specs.declared.parts.Timer.{Timer as TimerOf}
-use Rattle.lft_ir.specs.declared.parts.Trigger.{Trigger}
-use Rattle.lft_ir.specs.declared.parts.Trigger.TheVariants.{Timer}
+use Rattle.lft_tag.specs.{declared.Tag.Tag, Tags.UpTo}
+use Rattle.lft_ir.specs.{Parts.Parts, declared.parts.{Port.Port as PortOf, Reaction.Reaction, Timer.Timer as TimerOf, Trigger.{Trigger, TheVariants.Timer}}}
 use Rattle.lft_queue.specs.Reading.{Reads}
 use Rattle.lft_scheduler.specs.Lists.{TriggerLists, list_at, list_of}
 

@@ -1,8 +1,6 @@
 -- Lists by number and by trigger. The contracts of private functions alone need this file.
 use Rattle.std.specs.Prelude.{◌≡◌, ◌↔◌, ◌⊎◌, ◌<◌, ℕ, List, [], Contains, slice_get, length, unwrap_or}
-use Rattle.lft_ir.specs.declared.parts.Name.TheVariants.{Port, Action}
-use Rattle.lft_ir.specs.declared.parts.Trigger.{Trigger}
-use Rattle.lft_ir.specs.declared.parts.Trigger.TheVariants.{Startup, Shutdown, Timer, On}
+use Rattle.lft_ir.specs.declared.parts.{Name.TheVariants.{Port, Action}, Trigger.{Trigger, TheVariants.{Startup, Shutdown, Timer, On}}}
 
 -- the list of a number, empty past the last one
 abbrev pub list_at : List (List ℕ) → ℕ → List ℕ

@@ -1,12 +1,8 @@
 -- The open runs of a recording, as a list of their workers, tags, reactions and reads.
 use Rattle.std.specs.Prelude.{◌≡◌, ℕ, Bool, ◌&&◌, ◌==◌, List, Option, Some, length, slice_get}
-use Rattle.lft_tag.specs.declared.Tag.{Tag}
-use Rattle.lft_tag.specs.Tags.{same_tag}
-use Rattle.lft_ir.specs.declared.parts.Value.{Value}
-use Rattle.lft_ir.specs.declared.steps.row.Row.{Row}
-use Rattle.lft_model.specs.Plans.{PlanParts}
-use Rattle.lft_model.specs.Runs.{reads_at}
-use Rattle.lft_model.specs.Breaches.{IsOpen}
+use Rattle.lft_tag.specs.{declared.Tag.Tag, Tags.same_tag}
+use Rattle.lft_ir.specs.declared.{parts.Value.Value, steps.row.Row.Row}
+use Rattle.lft_model.specs.{Plans.PlanParts, Runs.reads_at, Breaches.IsOpen}
 use Rattle.lft_scheduler.specs.declared.open.OpenRun.{OpenRun}
 
 -- the test of a run being that of r at g by worker w

@@ -1,9 +1,6 @@
 -- What is kept for each reaction, and what is told on. The contracts of private functions alone need this file.
 use Rattle.std.specs.Prelude.{◌≡◌, ◌≢◌, ◌⊎◌, ℕ, zero, suc, ◌+◌, ◌*◌, ◌<◌, ◌≤◌, List, [], ◌∷◌, Bool, true, false, not, Some, slice_get, slice_set, length, map}
-use Rattle.lft_scheduler.specs.declared.turn.phase.Phase.{Phase}
-use Rattle.lft_scheduler.specs.declared.turn.phase.Phase.TheVariants.{Idle, Waiting, Open}
-use Rattle.lft_scheduler.specs.declared.turn.seats.Seat.{Seat}
-use Rattle.lft_scheduler.specs.Turns.{HasProgram}
+use Rattle.lft_scheduler.specs.{declared.turn.{phase.Phase.{Phase, TheVariants.{Idle, Waiting, Open}}, seats.Seat.Seat}, Turns.HasProgram}
 use Rattle.lft_graph.specs.Graph.{GraphParts}
 
 -- a reaction as far as this, with so many busy ones before it, is busy

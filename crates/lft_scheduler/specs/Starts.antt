@@ -1,13 +1,8 @@
 -- What may start next in a recording so far, and what is open.
 use Rattle.std.specs.Prelude.{ℕ, ◌≤◌, List, length, Option, Some, None, filter_map}
 use Rattle.lft_tag.specs.declared.Tag.{Tag}
-use Rattle.lft_ir.specs.declared.steps.row.Row.{Row}
-use Rattle.lft_ir.specs.declared.steps.row.Step.{Step}
-use Rattle.lft_ir.specs.declared.steps.row.Step.TheVariants.{Start, Read, Write, Schedule, Stop, End}
-use Rattle.lft_model.specs.Plans.{PlanParts}
-use Rattle.lft_model.specs.Runs.{Ran, by_ends}
-use Rattle.lft_model.specs.Breaches.{IsOpen}
-use Rattle.lft_model.specs.OneWorker.{IsPending, Ready}
+use Rattle.lft_ir.specs.declared.steps.row.{Row.Row, Step.{Step, TheVariants.{Start, Read, Write, Schedule, Stop, End}}}
+use Rattle.lft_model.specs.{Plans.PlanParts, Runs.{Ran, by_ends}, Breaches.IsOpen, OneWorker.{IsPending, Ready}}
 
 -- r may start at g: it is ready after the ended runs, and has no run there
 pub record MayStart (plan : PlanParts) (t : List Row) (g : Tag) (r : ℕ) : Type 0 where

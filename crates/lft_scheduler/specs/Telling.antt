@@ -1,21 +1,13 @@
 -- Reactions are told that they are triggered.
 use Rattle.std.specs.Prelude.{◌≡◌, ◌≢◌, ◌⊎◌, ℕ, ◌<◌, List, Some, IsSome, slice_get, length}
-use Rattle.lft_tag.specs.declared.Tag.{Tag}
-use Rattle.lft_tag.specs.Shifts.{shifted}
+use Rattle.lft_tag.specs.{declared.Tag.Tag, Shifts.shifted}
 use Rattle.lft_ir.specs.Parts.{Parts}
-use Rattle.lft_ir.specs.declared.parts.Port.{Port as PortOf}
-use Rattle.lft_ir.specs.declared.parts.Timer.{Timer as TimerOf}
-use Rattle.lft_ir.specs.declared.parts.Name.TheVariants.{Port, Action}
-use Rattle.lft_ir.specs.declared.parts.Trigger.{Trigger}
-use Rattle.lft_ir.specs.declared.parts.Trigger.TheVariants.{Startup, Shutdown, Timer, On}
-use Rattle.lft_ir.specs.declared.steps.row.Step.{Step}
-use Rattle.lft_ir.specs.declared.steps.row.Step.TheVariants.{Start, Read, Write, Schedule, Stop, End}
+use Rattle.lft_ir.specs.declared.parts.{Port.Port as PortOf, Timer.Timer as TimerOf, Name.TheVariants.{Port, Action}}
+use Rattle.lft_ir.specs.declared.parts.Trigger.{Trigger, TheVariants.{Startup, Shutdown, Timer, On}}
+use Rattle.lft_ir.specs.declared.steps.row.Step.{Step, TheVariants.{Start, Read, Write, Schedule, Stop, End}}
 use Rattle.lft_queue.specs.Pending.{Pending, value_of}
 use Rattle.lft_model.specs.Presence.{Fires}
-use Rattle.lft_scheduler.specs.Listeners.{IsListener}
-use Rattle.lft_scheduler.specs.declared.turn.phase.Phase.{Phase}
-use Rattle.lft_scheduler.specs.declared.turn.phase.Phase.TheVariants.{Idle, Waiting}
-use Rattle.lft_scheduler.specs.Turns.{TurnParts}
+use Rattle.lft_scheduler.specs.{Listeners.IsListener, declared.turn.phase.Phase.{Phase, TheVariants.{Idle, Waiting}}, Turns.TurnParts}
 
 -- the idle reactions with a property wait now, and all else is as it was
 pub record IsTold (P : ℕ → Type 0) (old new : TurnParts) : Type 0 where

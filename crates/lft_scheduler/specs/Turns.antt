@@ -1,11 +1,8 @@
 -- What contracts see of a turn, and which reactions are ready in it.
 use Rattle.std.specs.Prelude.{◌≡◌, ◌≢◌, ◌⊎◌, ℕ, ◌≤◌, List, Some, slice_get}
-use Rattle.lft_ir.specs.Parts.{Parts}
-use Rattle.lft_ir.specs.Sound.{IsSound}
-use Rattle.lft_graph.specs.Precedence.{Precedes}
-use Rattle.lft_graph.specs.Graph.{GraphParts, IsGraphOf}
-use Rattle.lft_scheduler.specs.declared.turn.phase.Phase.{Phase}
-use Rattle.lft_scheduler.specs.declared.turn.phase.Phase.TheVariants.{Waiting, Open}
+use Rattle.lft_ir.specs.{Parts.Parts, Sound.IsSound}
+use Rattle.lft_graph.specs.{Precedence.Precedes, Graph.{GraphParts, IsGraphOf}}
+use Rattle.lft_scheduler.specs.declared.turn.phase.Phase.{Phase, TheVariants.{Waiting, Open}}
 
 -- the graph of the program, and how far each reaction is at the tag
 pub record TurnParts : Type 0 where

@@ -1,15 +1,10 @@
 -- The least tag at which a reaction is pending, and how far each reaction is there.
 use Rattle.std.specs.Prelude.{◌≡◌, ℕ, List, Option, Some, slice_get, length}
-use Rattle.lft_tag.specs.declared.Tag.{Tag}
-use Rattle.lft_tag.specs.Tags.{Before, UpTo}
+use Rattle.lft_tag.specs.{declared.Tag.Tag, Tags.{Before, UpTo}}
 use Rattle.lft_ir.specs.declared.steps.row.Row.{Row}
 use Rattle.lft_graph.specs.Graph.{IsGraphOf}
-use Rattle.lft_scheduler.specs.declared.turn.phase.Phase.{Phase}
-use Rattle.lft_scheduler.specs.declared.turn.phase.Phase.TheVariants.{Idle, Waiting, Open}
-use Rattle.lft_scheduler.specs.Turns.{TurnParts}
-use Rattle.lft_model.specs.Plans.{PlanParts}
-use Rattle.lft_model.specs.Runs.{Ran, by_ends}
-use Rattle.lft_model.specs.OneWorker.{IsPending}
+use Rattle.lft_scheduler.specs.{declared.turn.phase.Phase.{Phase, TheVariants.{Idle, Waiting, Open}}, Turns.TurnParts}
+use Rattle.lft_model.specs.{Plans.PlanParts, Runs.{Ran, by_ends}, OneWorker.IsPending}
 
 -- some reaction is pending at the tag
 abbrev pub Awaits : PlanParts → List Row → Tag → Type 0

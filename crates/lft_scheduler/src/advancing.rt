@@ -1,15 +1,10 @@
 //! On to the next tag at which a reaction is triggered.
 
 ghost use Rattle.std.specs.Prelude.{◌≡◌, ◌≤◌, ◌<◌, length, Some, IfSome, List, Contains};
-ghost use Rattle.lft_tag.specs.declared.Tag.{Tag as TagOf};
-ghost use Rattle.lft_tag.specs.Tags.{Before, UpTo};
-ghost use Rattle.lft_ir.specs.Parts.{Parts};
-ghost use Rattle.lft_ir.specs.declared.steps.row.Row.{Row as RowOf};
+ghost use Rattle.lft_tag.specs.{declared.Tag.Tag as TagOf, Tags.{Before, UpTo}};
+ghost use Rattle.lft_ir.specs.{Parts.Parts, declared.steps.row.Row.Row as RowOf};
 ghost use Rattle.lft_queue.specs.Pending.{Pending};
-ghost use Rattle.lft_scheduler.specs.Listeners.{AreListeners};
-ghost use Rattle.lft_scheduler.specs.Waits.{IsBetween, IsCovered};
-ghost use Rattle.lft_scheduler.specs.Telling.{TriggeredByQueue};
-ghost use Rattle.lft_scheduler.specs.Firings.{AreFirst};
+ghost use Rattle.lft_scheduler.specs.{Listeners.AreListeners, Waits.{IsBetween, IsCovered}, Telling.TriggeredByQueue, Firings.AreFirst};
 ghost use Rattle.lft_scheduler.specs.Agendas.{MayAdvance, IsReached, IsCurrent};
 
 use crate::firings::Firings;

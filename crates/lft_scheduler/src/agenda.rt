@@ -2,15 +2,9 @@
 
 ghost use Rattle.std.specs.Prelude.{◌≡◌, ◌<◌, ◌↔◌, ◌++◌, ℕ, List, [], length, slice_get, Some, IsTrue, IfOk, OnOk, OnErr};
 ghost use Rattle.lft_tag.specs.Tags.{IsRecorded};
-ghost use Rattle.lft_model.specs.Plans.{PlanParts, IsSoundPlan};
-ghost use Rattle.lft_model.specs.Presence.{Inputs};
-ghost use Rattle.lft_model.specs.Recorded.{SoFar, OnlyEndedAnswer, begun_rows};
-ghost use Rattle.lft_ir.specs.declared.steps.row.Row.{Row as RowOf};
-ghost use Rattle.lft_ir.specs.declared.steps.row.Step.{Step as StepOf};
-ghost use Rattle.lft_ir.specs.Steps.Fits.{StepFits};
-ghost use Rattle.lft_scheduler.specs.Starts.{IsBusy, MayStart};
-ghost use Rattle.lft_scheduler.specs.Agendas.{IsAgenda, IsOf, MayFind, Finds, MayBegin, MayEnd, EndsWith};
-ghost use Rattle.lft_scheduler.specs.OpenRuns.{HasReads};
+ghost use Rattle.lft_model.specs.{Plans.{PlanParts, IsSoundPlan}, Presence.Inputs, Recorded.{SoFar, OnlyEndedAnswer, begun_rows}};
+ghost use Rattle.lft_ir.specs.{declared.steps.row.{Row.Row as RowOf, Step.Step as StepOf}, Steps.Fits.StepFits};
+ghost use Rattle.lft_scheduler.specs.{Starts.{IsBusy, MayStart}, Agendas.{IsAgenda, IsOf, MayFind, Finds, MayBegin, MayEnd, EndsWith}, OpenRuns.HasReads};
 
 use crate::advancing::advance;
 use crate::events::{feed, first_events, read_inputs};

@@ -1,11 +1,8 @@
 //! The listeners of a program.
 
 ghost use Rattle.std.specs.Prelude.{◌↔◌, ℕ, length, Contains, IfOk, OnOk};
-ghost use Rattle.lft_ir.specs.Parts.{Parts};
-ghost use Rattle.lft_ir.specs.declared.parts.Trigger.{Trigger as TriggerOf};
-ghost use Rattle.lft_scheduler.specs.Listeners.{IsListener, IsLive, AreListeners};
-ghost use Rattle.lft_scheduler.specs.Lists.{HasList, ArePushed};
-ghost use Rattle.lft_scheduler.specs.Filling.{AreListed};
+ghost use Rattle.lft_ir.specs.{Parts.Parts, declared.parts.Trigger.Trigger as TriggerOf};
+ghost use Rattle.lft_scheduler.specs.{Listeners.{IsListener, IsLive, AreListeners}, Lists.{HasList, ArePushed}, Filling.AreListed};
 
 mod arrivals;
 mod by_trigger;

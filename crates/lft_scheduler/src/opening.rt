@@ -1,8 +1,7 @@
 //! The rows of a run that is begun.
 
 ghost use Rattle.std.specs.Prelude.{◌≡◌, ◌<◌, ◌++◌, ◌∷◌, [], length, map, filter_map, IfOk, OnOk};
-ghost use Rattle.lft_model.specs.Recorded.{begun_rows, run_row};
-ghost use Rattle.lft_model.specs.Runs.{inputs_of, read_step};
+ghost use Rattle.lft_model.specs.{Recorded.{begun_rows, run_row}, Runs.{inputs_of, read_step}};
 
 use lft_ir::steps::{Row, Step};
 use lft_ir::{Name, Value};

@@ -3,10 +3,8 @@
 ghost use Rattle.std.specs.Prelude.{◌≡◌, ◌≤◌, length, IsSome, IsTrue};
 ghost use Rattle.lft_tag.specs.Tags.{Before, UpTo};
 ghost use Rattle.lft_ir.specs.declared.parts.Name.{Name as NameOf};
-ghost use Rattle.lft_scheduler.specs.Listeners.{IsListener, AreListeners};
+ghost use Rattle.lft_scheduler.specs.{Listeners.{IsListener, AreListeners}, Telling.{IsTold, FiresAt, TriggeredByQueue}, Firings.AreFirst};
 ghost use Rattle.lft_queue.specs.Pending.{value_of};
-ghost use Rattle.lft_scheduler.specs.Telling.{IsTold, FiresAt, TriggeredByQueue};
-ghost use Rattle.lft_scheduler.specs.Firings.{AreFirst};
 
 use crate::firings::Firings;
 use crate::listeners::Listeners;

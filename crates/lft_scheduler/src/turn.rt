@@ -44,8 +44,7 @@ pub(crate) struct Turn {
 }
 
 impl Model for Turn {
-    ghost use Rattle.lft_scheduler.specs.Turns.{TurnParts};
-    ghost use Rattle.lft_scheduler.specs.Seats.{IsKept, phases_of};
+    ghost use Rattle.lft_scheduler.specs.{Turns.TurnParts, Seats.{IsKept, phases_of}};
 
     ghost Value = { TurnParts };
 

@@ -1,37 +1,20 @@
 -- The runs at each tag, one row and one slice after another.
 use Rattle.std.proofs.Common.{◌≡◌, ◌≢◌, ℕ, zero, suc, ◌+◌, ◌-◌, ◌<◌, ◌≤◌, ◌⊎◌, inl, inr, List, [], ◌∷◌, ◌++◌, length, length-append, refl, sym, ap, ◌∙◌, subst, arith, Some, slice_get, slice_set, slice_range, false, slice_index_or}
-use Rattle.std.specs.List.{swap}
-use Rattle.std.specs.List.Sorted.{IsPermutation, IsSorted}
-use Rattle.std.specs.Ordering.{nat_cmp, ordering_then, is_lt}
-use Rattle.std.specs.Cmp.{IsTotalOrder}
+use Rattle.std.specs.{List.{swap, Sorted.{IsPermutation, IsSorted}}, Ordering.{nat_cmp, ordering_then, is_lt}, Cmp.IsTotalOrder}
 use Rattle.std.proofs.lemmas.Cmp.{nat_cmp_total, then_total, on_total}
-use Rattle.std.proofs.lemmas.List.Sorted.{IsPermutation-sym, IsPermutation-keeps, Contains-permutation, sorted_far, ranks_by}
-use Rattle.std.proofs.lemmas.List.Edits.{swap_is}
-use Rattle.std.proofs.lemmas.Bool.{cases_lt}
-use Rattle.std.proofs.lemmas.Bool.Decides.{nat_tests}
-use Rattle.std.proofs.lemmas.Option.{get_or_from_slice_get, slice_get-get_or}
+use Rattle.std.proofs.lemmas.List.{Sorted.{IsPermutation-sym, IsPermutation-keeps, Contains-permutation, sorted_far, ranks_by}, Edits.swap_is}
+use Rattle.std.proofs.lemmas.{Bool.{cases_lt, Decides.nat_tests}, Option.{get_or_from_slice_get, slice_get-get_or}}
 use native.Mathlib.Decide.{ℕ_discrete}
-use Rattle.lft_tag.specs.declared.Tag.{Tag}
-use Rattle.lft_tag.specs.Tags.{Before}
-use Rattle.lft_tag.proofs.Order.{Before-irrefl, Before-trans}
-use Rattle.lft_ir.proofs.Ranges.{range-get, range-within}
-use Rattle.lft_ir.specs.declared.steps.row.Row.{Row}
-use Rattle.lft_ir.specs.declared.steps.row.Step.{Step}
-use Rattle.lft_ir.specs.declared.steps.row.Step.TheVariants.{Start, End}
+use Rattle.lft_tag.{specs.{declared.Tag.Tag, Tags.Before}, proofs.Order.{Before-irrefl, Before-trans}}
+use Rattle.lft_ir.{proofs.Ranges.{range-get, range-within}, specs.declared.steps.row.{Row.Row, Step.{Step, TheVariants.{Start, End}}}}
 use Rattle.lft_lists.proofs.Places.{get_there, same_at, get_write_cases, get_written, get_unwritten, get_push, get_last, get_push_cases, length_written, get_append_cases, get_left}
 use Rattle.lft_lists.proofs.Members.{mem_get, get_mem, mem_contains, contains_mem}
-use Rattle.lft_model.specs.Plans.{PlanParts}
-use Rattle.lft_model.specs.Runs.{start_row, end_row, Ran}
-use Rattle.lft_model.proofs.Blocks.{put_right}
-use Rattle.lft_model.proofs.Ended.{row_is}
-use Rattle.lft_model.proofs.Legality.{four, one_start, one_end, ended, ran_at}
-use Rattle.lft_model.proofs.Places.{slice_get_within}
-use Rattle.lft_rows.specs.declared.slices.Slice.{Slice}
-use Rattle.lft_slices.specs.declared.pieces.Piece.{Piece}
-use Rattle.lft_rows.specs.Slices.{IsSlice, AreTags}
-use Rattle.lft_check.specs.ByTag.Slices.{IsCuttable, AreSlices}
-use Rattle.lft_slices.specs.declared.pieces.Pieces.{Pieces}
+use Rattle.lft_model.specs.{Plans.PlanParts, Runs.{start_row, end_row, Ran}}
+use Rattle.lft_model.proofs.{Blocks.put_right, Ended.row_is, Legality.{four, one_start, one_end, ended, ran_at}, Places.slice_get_within}
+use Rattle.lft_rows.specs.{declared.slices.Slice.Slice, Slices.{IsSlice, AreTags}}
+use Rattle.lft_slices.specs.declared.pieces.{Piece.Piece, Pieces.Pieces}
 use Rattle.lft_slices.specs.Pieces.{IsPiece, AreRuns, AreEndsTo, AreStartsTo, AreRunsIn, ArePiecesTo, ArePieces, IsTagAt}
+use Rattle.lft_check.specs.ByTag.Slices.{IsCuttable, AreSlices}
 
 -- no two pieces of the list are of one reaction
 abbrev AreApart : List Piece → Type 0

@@ -1,16 +1,10 @@
 -- The run that a piece tells, by a plan and rows that are those of the cut.
 use Rattle.std.proofs.Common.{◌≡◌, ◌<◌, List, length, Some, slice_get, sym, ap, ◌∙◌, subst}
 use Rattle.lft_tag.specs.declared.Tag.{Tag}
-use Rattle.lft_ir.specs.declared.steps.row.Row.{Row}
-use Rattle.lft_ir.specs.declared.steps.row.Step.TheVariants.{Start}
-use Rattle.lft_ir.specs.Steps.Fits.{RowsFit}
-use Rattle.lft_model.specs.Plans.{PlanParts}
-use Rattle.lft_model.specs.Runs.{start_row, reads_at, answer_at}
-use Rattle.lft_model.proofs.Places.{slice_get_within}
-use Rattle.lft_rows.specs.Answers.Answers.{KeepsRows}
-use Rattle.lft_rows.specs.Presence.Traces.{TraceParts}
-use Rattle.lft_slices.specs.declared.pieces.Piece.{Piece}
-use Rattle.lft_slices.specs.Pieces.{IsPiece}
+use Rattle.lft_ir.specs.{declared.steps.row.{Row.Row, Step.TheVariants.Start}, Steps.Fits.RowsFit}
+use Rattle.lft_model.{specs.{Plans.PlanParts, Runs.{start_row, reads_at, answer_at}}, proofs.Places.slice_get_within}
+use Rattle.lft_rows.specs.{Answers.Answers.KeepsRows, Presence.Traces.TraceParts}
+use Rattle.lft_slices.specs.{declared.pieces.Piece.Piece, Pieces.IsPiece}
 use Rattle.lft_check.specs.ByTag.Slices.{IsCuttable}
 
 module _ (cut : TraceParts) (rows : List Row) (are_rows : rows ≡ cut.rows) where

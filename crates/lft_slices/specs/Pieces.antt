@@ -3,10 +3,8 @@ use Rattle.std.specs.Prelude.{◌≡◌, ℕ, ◌+◌, ◌<◌, ◌≤◌, List,
 use Rattle.lft_tag.specs.declared.Tag.{Tag}
 use Rattle.lft_ir.specs.declared.steps.row.Row.{Row}
 use Rattle.lft_model.specs.Runs.{start_row, end_row, Ran}
-use Rattle.lft_rows.specs.declared.slices.Slice.{Slice}
-use Rattle.lft_rows.specs.Slices.{AreTags}
-use Rattle.lft_slices.specs.declared.pieces.Piece.{Piece}
-use Rattle.lft_slices.specs.declared.pieces.Pieces.{Pieces}
+use Rattle.lft_rows.specs.{declared.slices.Slice.Slice, Slices.AreTags}
+use Rattle.lft_slices.specs.declared.pieces.{Piece.Piece, Pieces.Pieces}
 
 -- the piece tells the places of the start row and of the end row of its reaction's run at g
 pub record IsPiece (t : List Row) (g : Tag) (x : Piece) : Type 0 where

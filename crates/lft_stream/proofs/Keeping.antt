@@ -1,68 +1,34 @@
 -- What is kept stays right over the rows of a tag, and accepts in the end.
 use Rattle.std.proofs.Common.{◌≡◌, ℕ, ◌+◌, ◌<◌, ◌≤◌, ◌⊎◌, inl, inr, Bool, true, false, List, [], ◌∷◌, ◌++◌, ◌-◌, append_assoc, take, map, length, refl, sym, ap, ◌∙◌, subst, arith, Option, Some, None, IsSome, slice_get, filter_map, option_map, option_to_list, Contains}
-use Rattle.std.specs.List.{last_or}
-use Rattle.std.proofs.lemmas.List.{append-nil}
+use Rattle.std.{specs.List.last_or, proofs.lemmas.List.append-nil}
 use native.Mathlib.Decide.{dec_lt}
-use Rattle.lft_tag.specs.declared.Tag.{Tag}
-use Rattle.lft_tag.specs.Tags.{Before, UpTo, after, after_all, earliest}
+use Rattle.lft_tag.specs.{declared.Tag.Tag, Tags.{Before, UpTo, after, after_all, earliest}}
 use Rattle.lft_tag.proofs.Order.{UpTo-refl, UpTo-trans, UpTo_antisym, UpTo-Before, Before-UpTo, Before-weaken, order_cases, after_past, from_first}
-use Rattle.lft_lists.proofs.Members.{get_mem, contains_mem, mem_contains}
-use Rattle.lft_lists.proofs.Places.{get_there, get_right, get_append_cases}
+use Rattle.lft_lists.proofs.{Members.{get_mem, contains_mem, mem_contains}, Places.{get_there, get_right, get_append_cases}}
 use Rattle.lft_ir.proofs.Ranges.{length-range}
-use Rattle.lft_ir.specs.Origins.{Origin}
-use Rattle.lft_ir.specs.Sound.{IsSound}
-use Rattle.lft_ir.specs.declared.parts.Value.{Value}
-use Rattle.lft_ir.specs.declared.parts.Name.{Name}
-use Rattle.lft_ir.specs.declared.parts.Name.TheVariants.{Port, Action}
-use Rattle.lft_ir.specs.declared.parts.Trigger.TheVariants.{On}
-use Rattle.lft_ir.specs.declared.steps.externals.Event.{Event}
-use Rattle.lft_ir.specs.declared.steps.row.Row.{Row}
-use Rattle.lft_ir.specs.declared.steps.row.Step.{Step}
-use Rattle.lft_model.specs.Plans.{PlanParts}
-use Rattle.lft_model.specs.Presence.{requests, stop, given, written, Shows, Inputs, Triggered}
-use Rattle.lft_model.specs.Runs.{Ran, inputs_of, read_of, reads_at}
+use Rattle.lft_ir.specs.{Origins.Origin, Sound.IsSound}
+use Rattle.lft_ir.specs.declared.parts.{Value.Value, Name.{Name, TheVariants.{Port, Action}}, Trigger.TheVariants.On}
+use Rattle.lft_ir.specs.declared.steps.{externals.Event.Event, row.{Row.Row, Step.Step}}
+use Rattle.lft_model.specs.{Plans.PlanParts, Presence.{requests, stop, given, written, Shows, Inputs, Triggered}, Runs.{Ran, inputs_of, read_of, reads_at}}
 use Rattle.lft_model.specs.Breaches.{IsTooEarly}
-use Rattle.lft_rows.specs.Firsts.{FirstRow}
-use Rattle.lft_rows.specs.declared.slices.Slice.{Slice}
-use Rattle.lft_rows.specs.Slices.{IsSlice, runs_in}
-use Rattle.lft_rows.specs.Accepted.{IsAccepted}
-use Rattle.lft_stream.specs.declared.stream.Stream.{Stream}
-use Rattle.lft_queue.specs.Reading.{is_read}
-use Rattle.lft_queue.specs.Coming.AtOnce.{is_undelayed, origin_of, HasEvents, IsAwaited, AreHeard}
-use Rattle.lft_queue.specs.Coming.Channels.{AreReadChannels, caused_by}
-use Rattle.lft_queue.specs.Coming.Unread.{AreUnread, AreFree}
-use Rattle.lft_queue.specs.Coming.Listeners.{list_of, AreListeners, AreStarted, IsUnheard}
-use Rattle.lft_queue.specs.Coming.AtTag.{AreBefore, AreAt}
-use Rattle.lft_stream.specs.Settled.{IsRightBehind}
-use Rattle.lft_stream.specs.Owed.{MeetNowhere}
-use Rattle.lft_stream.specs.StartTags.{AreStartTags}
-use Rattle.lft_queue.specs.Coming.Listens.{Listens}
-use Rattle.lft_stream.specs.Dues.{AreDues, NoneOwed}
-use Rattle.lft_stream.specs.Kept.{KeepRules, IsLater, AreUpTo, IsOfRow, low_of, HaveCome, state_of, IsStreamOf, IsAtHand, IsJudged}
-use Rattle.lft_queue.specs.Coming.Lanes.{held, first_events, IsMetAt, LaneGoesOn}
-use Rattle.lft_queue.specs.Coming.Coming.{to_come, AreTaken, IsClear, IsNoLater, IsReached, AreOver, AreComing}
-use Rattle.lft_queue.specs.Coming.Shown.{IsInLane, last_write}
-use Rattle.lft_queue.specs.declared.coming.coming.Coming.{Coming}
-use Rattle.lft_queue.specs.declared.coming.listeners.Listeners.{Listeners}
-use Rattle.lft_queue.specs.Pending.{value_of}
-use Rattle.lft_stream.specs.Streams.{IsStream, IsGrown}
-use Rattle.lft_queue.specs.Coming.Writes.{AreEarlier}
-use Rattle.lft_queue.proofs.ComingLemmas.AtOnce.{undelayed_way, delayed_way, origin_is, heard_there}
-use Rattle.lft_queue.proofs.ComingLemmas.Carrying.{carried_is, one_held, held_one, none_after, none_now, at_once_held}
-use Rattle.lft_queue.proofs.ComingLemmas.Writing.{earlier_on}
-use Rattle.lft_queue.proofs.ComingLemmas.Clearing.{clear_up}
-use Rattle.lft_stream.proofs.Before.{ran_whole}
-use Rattle.lft_stream.proofs.Lanes.{held_append, held_first}
-use Rattle.lft_stream.proofs.Lone.{unread_met, still_alone}
-use Rattle.lft_stream.proofs.Owing.{due_law, ran_grows}
-use Rattle.lft_stream.proofs.Parting.{rows_of, are_at, ran_part, ran_of, steps_part, up_to_end, part_kept}
 use Rattle.lft_model.proofs.Stops.{stop_append}
-use Rattle.lft_stream.proofs.Stopping.{stop_law}
-use Rattle.lft_stream.proofs.Ruling.{rows_law}
-use Rattle.lft_stream.proofs.Streaming.{stream_law, move_law}
-use Rattle.lft_queue.proofs.ComingLemmas.Scheduled.{none_at}
-use Rattle.lft_queue.proofs.ComingLemmas.ToCome.{only_queue, item_of, few_of}
-use Rattle.lft_stream.proofs.Showing.{shows_law}
+use Rattle.lft_rows.specs.{Firsts.FirstRow, declared.slices.Slice.Slice, Slices.{IsSlice, runs_in}, Accepted.IsAccepted}
+use Rattle.lft_stream.specs.{declared.stream.Stream.Stream, Settled.IsRightBehind, Owed.MeetNowhere, StartTags.AreStartTags, Dues.{AreDues, NoneOwed}}
+use Rattle.lft_stream.specs.Kept.{KeepRules, IsLater, AreUpTo, IsOfRow, low_of, HaveCome, state_of, IsStreamOf, IsAtHand, IsJudged}
+use Rattle.lft_stream.specs.Streams.{IsStream, IsGrown}
+use Rattle.lft_stream.proofs.{Before.ran_whole, Lanes.{held_append, held_first}, Lone.{unread_met, still_alone}, Owing.{due_law, ran_grows}}
+use Rattle.lft_stream.proofs.{Parting.{rows_of, are_at, ran_part, ran_of, steps_part, up_to_end, part_kept}, Stopping.stop_law, Ruling.rows_law}
+use Rattle.lft_stream.proofs.{Streaming.{stream_law, move_law}, Showing.shows_law}
+use Rattle.lft_queue.specs.Reading.{is_read}
+use Rattle.lft_queue.specs.Coming.{AtOnce.{is_undelayed, origin_of, HasEvents, IsAwaited, AreHeard}, Channels.{AreReadChannels, caused_by}}
+use Rattle.lft_queue.specs.Coming.{Unread.{AreUnread, AreFree}, Listeners.{list_of, AreListeners, AreStarted, IsUnheard}, AtTag.{AreBefore, AreAt}}
+use Rattle.lft_queue.specs.Coming.{Listens.Listens, Lanes.{held, first_events, IsMetAt, LaneGoesOn}}
+use Rattle.lft_queue.specs.Coming.{Coming.{to_come, AreTaken, IsClear, IsNoLater, IsReached, AreOver, AreComing}, Shown.{IsInLane, last_write}}
+use Rattle.lft_queue.specs.Coming.Writes.{AreEarlier}
+use Rattle.lft_queue.specs.{declared.coming.{coming.Coming.Coming, listeners.Listeners.Listeners}, Pending.value_of}
+use Rattle.lft_queue.proofs.ComingLemmas.AtOnce.{undelayed_way, delayed_way, origin_is, heard_there}
+use Rattle.lft_queue.proofs.ComingLemmas.{Carrying.{carried_is, one_held, held_one, none_after, none_now, at_once_held}, Writing.earlier_on, Clearing.clear_up}
+use Rattle.lft_queue.proofs.ComingLemmas.{Scheduled.none_at, ToCome.{only_queue, item_of, few_of}}
 
 -- a port without a delay that triggers something is reached from its origin
 listened_way : (plan : PlanParts) → IsSound plan.program → (p r : ℕ) → Listens plan r (On (Port p)) → is_undelayed plan.program p ≡ true → Origin plan.program p (origin_of plan.program p) []

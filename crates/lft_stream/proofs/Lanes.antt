@@ -1,31 +1,19 @@
 -- The lanes: events that are still to be met.
 use Rattle.std.proofs.Common.{◌≡◌, ℕ, zero, suc, ◌+◌, ◌<◌, ◌≤◌, ◌⊎◌, inl, inr, ◌==◌, ◌&&◌, Bool, true, false, cond, List, [], ◌∷◌, ◌++◌, length, length-append, refl, sym, ap, ◌∙◌, subst, arith, Option, Some, None, slice_get, filter_map, option_map, Contains, option_to_list}
-use Rattle.std.specs.List.{last_or}
-use Rattle.std.specs.Option.{option_and_then, option_to_list}
-use Rattle.std.proofs.lemmas.List.Elements.{filter_map-append}
-use Rattle.lft_tag.specs.declared.Tag.{Tag}
-use Rattle.lft_tag.specs.Tags.{Before, UpTo, after, after_all, same_tag}
-use Rattle.lft_tag.proofs.Order.{order_cases, Before-UpTo, UpTo-Before, UpTo-trans, same_tag_true}
+use Rattle.std.{specs.{List.last_or, Option.{option_and_then, option_to_list}}, proofs.{lemmas.List.Elements.filter_map-append, NetLemmas.Options.cond_some}}
+use Rattle.lft_tag.specs.{declared.Tag.Tag, Tags.{Before, UpTo, after, after_all, same_tag}}
+use Rattle.lft_tag.proofs.Order.{order_cases, Before-UpTo, UpTo-Before, UpTo-trans, same_tag_true, same_tag_refl}
 use Rattle.lft_lists.proofs.Members.{Mem, get_mem, mem_left, mem_right, mem_cases, mem_contains, contains_mem, mem_filter, mem_from_filter, last_mem, filter_map-filter_map}
 use Rattle.lft_ir.specs.Origins.{Origin}
+use Rattle.lft_ir.specs.declared.parts.{Value.Value, Name.{Name, TheVariants.{Port, Action}}, Trigger.TheVariants.On}
+use Rattle.lft_ir.specs.declared.steps.{row.Row.Row, externals.Event.Event}
 use Rattle.lft_ir.proofs.Origins.{origin_unique}
-use Rattle.lft_ir.specs.declared.parts.Value.{Value}
-use Rattle.lft_ir.specs.declared.parts.Name.{Name}
-use Rattle.lft_ir.specs.declared.parts.Name.TheVariants.{Port, Action}
-use Rattle.lft_ir.specs.declared.parts.Trigger.TheVariants.{On}
-use Rattle.lft_ir.specs.declared.steps.row.Row.{Row}
-use Rattle.lft_ir.specs.declared.steps.externals.Event.{Event}
 use Rattle.lft_model.specs.Plans.{PlanParts}
 use Rattle.lft_model.specs.Presence.{stop, value_scheduled, scheduled, given, min_delay, events_of, written, Last, IsWrittenFrom, At, PortClash}
-use Rattle.std.proofs.NetLemmas.Options.{cond_some}
-use Rattle.lft_tag.proofs.Order.{same_tag_refl}
 use Rattle.lft_model.proofs.Ended.{written_by}
 use Rattle.lft_queue.specs.Coming.AtTag.{AreBefore, AreAt}
-use Rattle.lft_stream.specs.Owed.{IsMet, IsApart}
 use Rattle.lft_queue.specs.Coming.Lanes.{at_tag, held, coming, given_to, first_events, made, carried, IsDone, IsKept, IsLane, LaneGoesOn}
-use Rattle.lft_stream.proofs.Behind.{at_back, clash_back}
-use Rattle.lft_stream.proofs.Hand.{last_old, last_whole, last_now, last_then}
-use Rattle.lft_stream.proofs.Owing.{ran_grows}
+use Rattle.lft_stream.{specs.Owed.{IsMet, IsApart}, proofs.{Behind.{at_back, clash_back}, Hand.{last_old, last_whole, last_now, last_then}, Owing.ran_grows}}
 
 -- how a lane goes: it begins with the external inputs; more rows put their events behind; it goes on to a later tag where what it had before that is met; and where it is done with up to the stop, its name is met and apart
 pub record LaneLaw (plan : PlanParts) : Type 0 where

@@ -1,33 +1,14 @@
 -- The events of ports that no reaction reads: nobody waits for them, and each is alone at its tag.
 use Rattle.std.proofs.Common.{◌≡◌, ℕ, ◌<◌, inl, true, false, List, [], ◌∷◌, ◌++◌, length, refl, sym, ap, ◌∙◌, subst, Some, slice_get, filter_map}
-use Rattle.std.proofs.lemmas.Bool.{false≢true}
-use Rattle.std.proofs.lemmas.List.{append-nil}
-use Rattle.lft_tag.specs.declared.Tag.{Tag}
-use Rattle.lft_tag.specs.Tags.{Before, UpTo, after_all}
-use Rattle.lft_tag.specs.Shifts.{shifted}
-use Rattle.lft_tag.proofs.Order.{UpTo-not}
-use Rattle.lft_tag.proofs.Chains.{shifted_chain}
+use Rattle.std.proofs.lemmas.{Bool.false≢true, List.append-nil}
+use Rattle.lft_tag.{specs.{declared.Tag.Tag, Tags.{Before, UpTo, after_all}, Shifts.shifted}, proofs.{Order.UpTo-not, Chains.shifted_chain}}
 use Rattle.lft_lists.proofs.Members.{Mem, get_mem, mem_contains, contains_mem, mem_filter, mem_from_filter, mem_left, last_mem}
-use Rattle.lft_ir.specs.Naming.{named}
-use Rattle.lft_ir.specs.Origins.{Origin}
-use Rattle.lft_ir.specs.Parts.{inputs}
-use Rattle.lft_ir.specs.Sound.{IsSound}
-use Rattle.lft_ir.specs.declared.parts.Port.{Port as PortOf}
-use Rattle.lft_ir.specs.declared.parts.Value.{Value}
-use Rattle.lft_ir.specs.declared.parts.Name.TheVariants.{Port}
-use Rattle.lft_ir.specs.declared.parts.Trigger.TheVariants.{On}
+use Rattle.lft_ir.specs.{Naming.named, Origins.Origin, Parts.inputs, Sound.IsSound}
+use Rattle.lft_ir.specs.declared.{parts.{Port.Port as PortOf, Value.Value, Name.TheVariants.Port, Trigger.TheVariants.On}, steps.row.Row.Row}
 use Rattle.lft_ir.proofs.Origins.{origin_unique, port_of}
-use Rattle.lft_ir.specs.declared.steps.row.Row.{Row}
-use Rattle.lft_model.specs.Plans.{PlanParts}
-use Rattle.lft_model.specs.Presence.{written, Last}
-use Rattle.lft_model.proofs.Ended.{written_by}
-use Rattle.lft_model.proofs.Steps.{written_some}
-use Rattle.lft_queue.specs.Reading.{is_read}
+use Rattle.lft_model.{specs.{Plans.PlanParts, Presence.{written, Last}}, proofs.{Ended.written_by, Steps.written_some}}
+use Rattle.lft_queue.specs.{Reading.is_read, Coming.{AtTag.AreBefore, Lanes.{held, carried, IsLane, IsMetAt}, Listens.Listens, Unread.{IsWrittenAt, AreFree}}}
 use Rattle.lft_queue.proofs.Marking.{of_reads}
-use Rattle.lft_queue.specs.Coming.AtTag.{AreBefore}
-use Rattle.lft_queue.specs.Coming.Lanes.{held, carried, IsLane, IsMetAt}
-use Rattle.lft_queue.specs.Coming.Listens.{Listens}
-use Rattle.lft_queue.specs.Coming.Unread.{IsWrittenAt, AreFree}
 use Rattle.lft_stream.proofs.Lanes.{held_append, held_mem, of_carried}
 
 -- who listens to a port reads it

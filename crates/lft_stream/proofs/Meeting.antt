@@ -1,38 +1,19 @@
 -- What is known of the names that may be present, and of the runs that are asked for these alone.
 use Rattle.std.proofs.Common.{◌≡◌, ◌<◌, ◌+◌, ℕ, ◌⊎◌, inl, inr, true, false, Bool, List, length, ◌∷◌, ◌++◌, [], refl, sym, subst, arith, Option, Some, None, slice_get, filter_map, Contains}
-use Rattle.std.specs.Option.{IsSome}
-use Rattle.std.proofs.lemmas.List.Elements.{Contains-append_left, Contains-push}
+use Rattle.std.{specs.Option.IsSome, proofs.lemmas.List.Elements.{Contains-append_left, Contains-push}}
 use Rattle.lft_tag.specs.declared.Tag.{Tag}
-use Rattle.lft_lists.proofs.Members.{Mem, mem_get, get_mem, mem_from_filter, last_mem}
-use Rattle.lft_lists.proofs.Places.{contains_at, get_there, get_append_cases}
-use Rattle.lft_ir.specs.Naming.{named}
-use Rattle.lft_ir.specs.Origins.{Origin}
-use Rattle.lft_ir.specs.Parts.{inputs}
-use Rattle.lft_ir.specs.Sound.{IsNameOf, IsSound}
-use Rattle.lft_ir.specs.declared.parts.Name.{Name}
-use Rattle.lft_ir.specs.declared.parts.Name.TheVariants.{Port, Action}
-use Rattle.lft_ir.specs.declared.parts.Port.{Port as PortOf}
-use Rattle.lft_ir.specs.declared.parts.Reaction.{Reaction}
-use Rattle.lft_ir.specs.declared.parts.Value.{Value}
+use Rattle.lft_lists.proofs.{Members.{Mem, mem_get, get_mem, mem_from_filter, last_mem}, Places.{contains_at, get_there, get_append_cases}}
+use Rattle.lft_ir.specs.{Naming.named, Origins.Origin, Parts.inputs, Sound.{IsNameOf, IsSound}}
+use Rattle.lft_ir.specs.declared.parts.{Name.{Name, TheVariants.{Port, Action}}, Port.Port as PortOf, Reaction.Reaction, Value.Value}
+use Rattle.lft_ir.specs.declared.steps.row.{Row.Row, Step.TheVariants.Write}
 use Rattle.lft_ir.proofs.Origins.{origin_inside}
-use Rattle.lft_ir.specs.declared.steps.row.Row.{Row}
-use Rattle.lft_ir.specs.declared.steps.row.Step.TheVariants.{Write}
-use Rattle.lft_model.specs.Plans.{PlanParts}
-use Rattle.lft_model.specs.Presence.{written, Shows, Inputs}
-use Rattle.lft_model.specs.Runs.{read_of, steps_of, reads_at}
-use Rattle.lft_model.proofs.Ended.{written_by}
-use Rattle.lft_model.proofs.Steps.{written_some}
-use Rattle.lft_queue.specs.Pending.{Pending, value_of}
-use Rattle.lft_rows.proofs.RunReads.{read_there}
-use Rattle.lft_queue.specs.Coming.AtOnce.{is_undelayed, HasEvents, IsAwaited}
-use Rattle.lft_queue.specs.Coming.Channels.{AreReadChannels}
-use Rattle.lft_queue.specs.Coming.Shown.{last_write}
-use Rattle.lft_queue.specs.declared.coming.channels.Channels.{Channels}
-use Rattle.lft_queue.specs.declared.coming.writes.Written.{Written}
+use Rattle.lft_model.specs.{Plans.PlanParts, Presence.{written, Shows, Inputs}, Runs.{read_of, steps_of, reads_at}}
+use Rattle.lft_model.proofs.{Ended.written_by, Steps.written_some}
+use Rattle.lft_queue.specs.{Pending.{Pending, value_of}, Coming.{AtOnce.{is_undelayed, HasEvents, IsAwaited}, Channels.AreReadChannels, Shown.last_write}}
+use Rattle.lft_queue.specs.declared.coming.{channels.Channels.Channels, writes.Written.Written}
 use Rattle.lft_queue.proofs.ComingLemmas.AtOnce.{way_at_once}
-use Rattle.lft_stream.specs.Present.{AreShown, AreReadsShown}
-use Rattle.lft_stream.proofs.Present.{read_all}
-use Rattle.lft_stream.proofs.Showing.{shows_law}
+use Rattle.lft_rows.proofs.RunReads.{read_there}
+use Rattle.lft_stream.{specs.Present.{AreShown, AreReadsShown}, proofs.{Present.read_all, Showing.shows_law}}
 
 -- all that is present is listed, where what the rows reach without a delay and what waits at the tag is
 module _ (plan : PlanParts) (sound : IsSound plan.program) (channels : Channels) (are : AreReadChannels plan.program channels) (u : List Row) (g : Tag) (queue : List Pending) (names : List Name) (reached : (i o p : ℕ) (x : Row) (v : Value) (list : List ℕ) → slice_get u i ≡ Some x → x.step ≡ Write (Port o) v → slice_get channels.at_once o ≡ Some list → Contains list p → Contains names (Port p)) (waiting : (n : Name) → IsSome (value_of g n queue) → Contains names n) (d : List Row) (writes : List (Option Written)) (shown : AreShown plan d u g writes queue) where

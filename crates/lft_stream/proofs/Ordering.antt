@@ -2,11 +2,8 @@
 use Rattle.std.proofs.Common.{◌≡◌, ℕ, ◌+◌, ◌<◌, inr, List, refl, sym, ap, ◌∙◌, arith, Some, None, slice_get}
 use native.Mathlib.Decide.{ℕ_discrete, dec_lt}
 use Rattle.lft_tag.specs.declared.Tag.{Tag}
-use Rattle.lft_ir.specs.declared.steps.row.Row.{Row}
-use Rattle.lft_ir.specs.declared.steps.row.Step.TheVariants.{Start, End}
-use Rattle.lft_model.specs.Plans.{PlanParts}
-use Rattle.lft_model.specs.Runs.{start_row, end_row, Ran}
-use Rattle.lft_model.specs.Breaches.{IsTooEarly}
+use Rattle.lft_ir.specs.declared.steps.row.{Row.Row, Step.TheVariants.{Start, End}}
+use Rattle.lft_model.specs.{Plans.PlanParts, Runs.{start_row, end_row, Ran}, Breaches.IsTooEarly}
 use Rattle.lft_rows.specs.Firsts.{FirstRow}
 use Rattle.lft_stream.specs.Ordered.{IsOrdered}
 

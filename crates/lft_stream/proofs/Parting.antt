@@ -1,26 +1,13 @@
 -- Rows cut where the tag changes: where no row of the whole breaks one of the rules 1 to 5, none of a slice does.
 use Rattle.std.proofs.Common.{◌≡◌, ℕ, ◌+◌, ◌-◌, ◌<◌, ◌≤◌, ◌⊎◌, inl, inr, List, ◌++◌, length, take, drop, refl, sym, ap, ◌∙◌, subst, arith, Option, Some, None, slice_get, slice_range, filter_map}
-use Rattle.std.proofs.lemmas.List.{append-nil, take-append-drop}
-use Rattle.std.proofs.lemmas.List.Elements.{filter_map-append}
-use Rattle.std.proofs.Math.Seq.{take-add}
-use Rattle.lft_tag.specs.declared.Tag.{Tag}
-use Rattle.lft_tag.specs.Tags.{Before, UpTo}
-use Rattle.lft_tag.proofs.Order.{order_cases}
-use Rattle.lft_ir.specs.Parts.{Parts}
+use Rattle.std.proofs.{lemmas.List.{append-nil, take-append-drop, Elements.filter_map-append}, Math.Seq.take-add}
+use Rattle.lft_tag.{specs.{declared.Tag.Tag, Tags.{Before, UpTo}}, proofs.Order.order_cases}
+use Rattle.lft_ir.specs.{Parts.Parts, declared.steps.row.{Row.Row, Step.{Step, TheVariants.{Start, Read, Write, Schedule, Stop, End}}}, Steps.Fits.RowsFit}
 use Rattle.lft_ir.proofs.Ranges.{length-range, range-get, range-within, slice_get-drop}
-use Rattle.lft_ir.specs.declared.steps.row.Row.{Row}
-use Rattle.lft_ir.specs.declared.steps.row.Step.{Step}
-use Rattle.lft_ir.specs.declared.steps.row.Step.TheVariants.{Start, Read, Write, Schedule, Stop, End}
-use Rattle.lft_ir.specs.Steps.Fits.{RowsFit}
-use Rattle.lft_model.specs.Plans.{PlanParts}
-use Rattle.lft_model.specs.Runs.{start_row, end_row, step_of, steps_of, Ran}
-use Rattle.lft_model.proofs.Places.{slice_get_take}
-use Rattle.lft_model.proofs.Steps.{step_row}
+use Rattle.lft_model.specs.{Plans.PlanParts, Runs.{start_row, end_row, step_of, steps_of, Ran}, Breaches.{IsOpen, IsOutOfOrder, IsUndeclared, BreaksRowUntil}}
+use Rattle.lft_model.proofs.{Places.slice_get_take, Steps.step_row}
 use Rattle.lft_lists.proofs.Members.{none_nil}
-use Rattle.lft_model.specs.Breaches.{IsOpen, IsOutOfOrder, IsUndeclared, BreaksRowUntil}
-use Rattle.lft_rows.specs.Firsts.{FirstRow}
-use Rattle.lft_rows.specs.declared.slices.Slice.{Slice}
-use Rattle.lft_rows.specs.Slices.{IsSlice, Rises}
+use Rattle.lft_rows.specs.{Firsts.FirstRow, declared.slices.Slice.Slice, Slices.{IsSlice, Rises}}
 use Rattle.lft_queue.specs.Coming.AtTag.{AreAt}
 
 -- tags don't fall where no row breaks a rule

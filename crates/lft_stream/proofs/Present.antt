@@ -1,20 +1,12 @@
 -- What was written last at the tag at hand, and what a run read there.
 use Rattle.std.proofs.Common.{◌≡◌, ℕ, inl, inr, List, [], ◌∷◌, refl, sym, ap, subst, map, Option, Some, None, true, slice_get, Contains, unwrap_or, option_map, filter_map}
-use Rattle.std.specs.List.{AllZip}
-use Rattle.std.specs.Option.{is_some}
+use Rattle.std.specs.{List.AllZip, Option.is_some}
 use Rattle.lft_tag.specs.declared.Tag.{Tag}
 use Rattle.lft_lists.proofs.Members.{Mem, get_mem, mem_contains, mem_from_filter}
-use Rattle.lft_ir.specs.Naming.{named}
-use Rattle.lft_ir.specs.Parts.{inputs}
-use Rattle.lft_ir.specs.declared.parts.Value.{Value}
-use Rattle.lft_ir.specs.declared.parts.Name.{Name}
-use Rattle.lft_ir.specs.declared.parts.Reaction.{Reaction}
-use Rattle.lft_ir.specs.declared.parts.Trigger.{Trigger}
-use Rattle.lft_ir.specs.declared.parts.Trigger.TheVariants.{Startup, Shutdown, Timer, On}
+use Rattle.lft_ir.specs.{Naming.named, Parts.inputs}
+use Rattle.lft_ir.specs.declared.parts.{Value.Value, Name.Name, Reaction.Reaction, Trigger.{Trigger, TheVariants.{Startup, Shutdown, Timer, On}}}
 use Rattle.lft_ir.specs.declared.steps.row.Row.{Row}
-use Rattle.lft_model.specs.Plans.{PlanParts}
-use Rattle.lft_model.specs.Presence.{Shows, Inputs, Triggered}
-use Rattle.lft_model.specs.Runs.{steps_of, inputs_of, read_of, reads_at}
+use Rattle.lft_model.specs.{Plans.PlanParts, Presence.{Shows, Inputs, Triggered}, Runs.{steps_of, inputs_of, read_of, reads_at}}
 
 -- a trigger that names something is that name's
 names_it : (n : Name) (x : Trigger) → named x ≡ Some n → x ≡ On n

@@ -2,14 +2,8 @@
 use Rattle.std.proofs.Common.{◌≡◌, ℕ, ◌+◌, ◌<◌, ◌≤◌, List, length, refl, arith, get_or, Some, slice_get}
 use Rattle.std.proofs.lemmas.Option.{slice_get_within, get_or_from_slice_get}
 use Rattle.lft_tag.specs.declared.Tag.{Tag}
-use Rattle.lft_ir.specs.Parts.{Parts}
-use Rattle.lft_graph.specs.Graph.{GraphParts, IsGraphOf}
-use Rattle.lft_graph.specs.Precedence.{Precedes}
-use Rattle.lft_graph.specs.Sets.{Has}
-use Rattle.lft_graph.proofs.Ancestry.{level_there, lower, precedes_known}
-use Rattle.lft_ir.specs.declared.steps.row.Row.{Row}
-use Rattle.lft_ir.specs.declared.steps.row.Step.TheVariants.{Start, End}
-use Rattle.lft_ir.specs.Steps.Fits.{RowsFit}
+use Rattle.lft_ir.specs.{Parts.Parts, declared.steps.row.{Row.Row, Step.TheVariants.{Start, End}}, Steps.Fits.RowsFit}
+use Rattle.lft_graph.{specs.{Graph.{GraphParts, IsGraphOf}, Precedence.Precedes, Sets.Has}, proofs.Ancestry.{level_there, lower, precedes_known}}
 use Rattle.lft_model.specs.Runs.{start_row, end_row}
 use Rattle.lft_stream.specs.Ordered.{IsOrdered}
 

@@ -1,30 +1,15 @@
 -- The judge's whole state: it begins right, stays right over the rows of a later tag, and accepts what is legal.
 use Rattle.std.proofs.Common.{◌≡◌, ℕ, ◌+◌, ◌<◌, List, [], ◌++◌, refl, sym, subst, arith, Some, slice_get}
-use Rattle.lft_tag.specs.declared.Tag.{Tag}
-use Rattle.lft_tag.specs.Tags.{UpTo}
+use Rattle.lft_tag.specs.{declared.Tag.Tag, Tags.UpTo}
 use Rattle.lft_ir.specs.Origins.{Origin}
-use Rattle.lft_ir.specs.declared.parts.Value.{Value}
-use Rattle.lft_ir.specs.declared.parts.Name.{Name}
-use Rattle.lft_ir.specs.declared.parts.Name.TheVariants.{Port, Action}
-use Rattle.lft_ir.specs.declared.parts.Trigger.{Trigger}
-use Rattle.lft_ir.specs.declared.parts.Trigger.TheVariants.{Startup, Shutdown, Timer, On}
+use Rattle.lft_ir.specs.declared.parts.{Value.Value, Name.{Name, TheVariants.{Port, Action}}, Trigger.{Trigger, TheVariants.{Startup, Shutdown, Timer, On}}}
 use Rattle.lft_ir.specs.declared.steps.row.Row.{Row}
-use Rattle.lft_model.specs.Plans.{PlanParts}
-use Rattle.lft_model.specs.Runs.{start_row, Ran}
-use Rattle.lft_model.proofs.Places.{slice_get_within}
-use Rattle.lft_rows.specs.Accepted.{IsAccepted}
-use Rattle.lft_rows.specs.Slices.{runs_in}
-use Rattle.lft_stream.specs.Settled.{IsRightBehind}
-use Rattle.lft_stream.specs.Counted.{IsCounted}
-use Rattle.lft_stream.specs.declared.due.Due.{Due}
-use Rattle.lft_stream.specs.Owed.{IsMet, IsApart}
-use Rattle.lft_stream.specs.Dues.{AreDues, timed}
-use Rattle.lft_queue.specs.Coming.Lanes.{made, carried, IsLane, LaneGoesOn}
+use Rattle.lft_model.{specs.{Plans.PlanParts, Runs.{start_row, Ran}}, proofs.Places.slice_get_within}
+use Rattle.lft_rows.specs.{Accepted.IsAccepted, Slices.runs_in}
+use Rattle.lft_stream.specs.{Settled.IsRightBehind, Counted.IsCounted, declared.due.Due.Due, Owed.{IsMet, IsApart}, Dues.{AreDues, timed}}
 use Rattle.lft_stream.specs.Streams.{State, first_state, IsStream, IsEnded, IsGrown}
-use Rattle.lft_stream.proofs.Settling.{step_law, legal_of}
-use Rattle.lft_stream.proofs.Counting.{count_law}
-use Rattle.lft_stream.proofs.Owing.{parts_law, due_law}
-use Rattle.lft_stream.proofs.Lanes.{LaneLaw, lane_law}
+use Rattle.lft_stream.proofs.{Settling.{step_law, legal_of}, Counting.count_law, Owing.{parts_law, due_law}, Lanes.{LaneLaw, lane_law}}
+use Rattle.lft_queue.specs.Coming.Lanes.{made, carried, IsLane, LaneGoesOn}
 
 -- the whole: the first state is right for no rows; the rows of one later tag, right behind those so far, lead to a right state; and with a right state that has nothing left the rows are accepted, with its counts
 pub record StreamLaw (plan : PlanParts) : Type 0 where

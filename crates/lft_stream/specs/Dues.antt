@@ -1,17 +1,10 @@
 -- When triggers that wait for no event are due: at the tags where their reactions have no run yet.
 use Rattle.std.specs.Prelude.{◌≡◌, ℕ, ◌+◌, ◌*◌, ◌<◌, List, length, filter_map, Option, Some, None, slice_get, Contains}
-use Rattle.lft_tag.specs.declared.Tag.{Tag}
-use Rattle.lft_tag.specs.Tags.{Before, UpTo}
-use Rattle.lft_ir.specs.declared.parts.Reaction.{Reaction}
-use Rattle.lft_ir.specs.declared.parts.Trigger.{Trigger}
-use Rattle.lft_ir.specs.declared.parts.Trigger.TheVariants.{Startup, Shutdown, Timer, On}
-use Rattle.lft_ir.specs.declared.parts.Timer.{Timer as TimerOf}
+use Rattle.lft_tag.specs.{declared.Tag.Tag, Tags.{Before, UpTo}}
+use Rattle.lft_ir.specs.declared.parts.{Reaction.Reaction, Trigger.{Trigger, TheVariants.{Startup, Shutdown, Timer, On}}, Timer.Timer as TimerOf}
 use Rattle.lft_ir.specs.declared.steps.row.Row.{Row}
-use Rattle.lft_model.specs.Plans.{PlanParts}
-use Rattle.lft_model.specs.Presence.{stop, Occurs}
-use Rattle.lft_model.specs.Runs.{Ran}
-use Rattle.lft_stream.specs.declared.due.Due.{Due}
-use Rattle.lft_stream.specs.declared.due.Due.TheVariants.{AtTag, AtStop, Never}
+use Rattle.lft_model.specs.{Plans.PlanParts, Presence.{stop, Occurs}, Runs.Ran}
+use Rattle.lft_stream.specs.declared.due.Due.{Due, TheVariants.{AtTag, AtStop, Never}}
 
 -- the k-th firing of a timer, counted from 0; where the period is 0 the first alone is one
 abbrev pub firing : TimerOf → ℕ → Tag

@@ -1,35 +1,14 @@
 -- What is kept of rows at finished tags, and what is asked of the next ones.
 use Rattle.std.specs.Prelude.{◌≡◌, true, false, ℕ, ◌<◌, ◌≤◌, List, [], ◌++◌, length, Option, Some, None, IsSome, MatchOption, IfSome, slice_get, slice_range}
-use Rattle.lft_tag.specs.declared.Tag.{Tag}
-use Rattle.lft_tag.specs.Tags.{Before, UpTo, after, earlier}
-use Rattle.lft_ir.specs.declared.parts.Value.{Value}
-use Rattle.lft_ir.specs.declared.parts.Name.{Name}
-use Rattle.lft_ir.specs.declared.parts.Name.TheVariants.{Port}
-use Rattle.lft_ir.specs.declared.steps.externals.Event.{Event}
-use Rattle.lft_ir.specs.declared.steps.row.Row.{Row}
-use Rattle.lft_model.specs.Plans.{PlanParts}
-use Rattle.lft_model.specs.Presence.{stop, Triggered, Inputs, Shows}
-use Rattle.lft_model.specs.Runs.{Ran, reads_at}
+use Rattle.lft_tag.specs.{declared.Tag.Tag, Tags.{Before, UpTo, after, earlier}}
+use Rattle.lft_ir.specs.declared.{parts.{Value.Value, Name.{Name, TheVariants.Port}}, steps.{externals.Event.Event, row.Row.Row}}
+use Rattle.lft_model.specs.{Plans.PlanParts, Presence.{stop, Triggered, Inputs, Shows}, Runs.{Ran, reads_at}}
 use Rattle.lft_graph.specs.Sets.{AreAncestors}
-use Rattle.lft_rows.specs.Firsts.{FirstRow}
-use Rattle.lft_rows.specs.Marks.{IsLaid}
-use Rattle.lft_rows.specs.Passes.{IsPass}
-use Rattle.lft_rows.specs.declared.slices.Slice.{Slice}
-use Rattle.lft_stream.specs.declared.acceptor.Acceptor.{Acceptor}
-use Rattle.lft_stream.specs.declared.stream.Stream.{Stream}
-use Rattle.lft_queue.specs.Coming.AtOnce.{is_undelayed, HasEvents, IsAwaited, AreHeard}
-use Rattle.lft_queue.specs.Coming.Channels.{AreReadChannels}
-use Rattle.lft_queue.specs.Coming.Unread.{AreUnread}
-use Rattle.lft_queue.specs.Coming.Lanes.{held}
-use Rattle.lft_queue.specs.Coming.Listeners.{AreListeners, AreStarted}
-use Rattle.lft_queue.specs.Coming.Coming.{AreComing, AreTaken, IsClear}
-use Rattle.lft_queue.specs.Pending.{value_of}
-use Rattle.lft_queue.specs.Reading.{is_read}
-use Rattle.lft_stream.specs.Dues.{AreDues}
-use Rattle.lft_queue.specs.Coming.AtTag.{AreBefore}
-use Rattle.lft_stream.specs.StartTags.{AreStartTags}
-use Rattle.lft_stream.specs.Streams.{State, IsStream}
-use Rattle.lft_queue.specs.Coming.Writes.{AreWrites, AreEarlier}
+use Rattle.lft_rows.specs.{Firsts.FirstRow, Marks.IsLaid, Passes.IsPass, declared.slices.Slice.Slice}
+use Rattle.lft_stream.specs.{declared.{acceptor.Acceptor.Acceptor, stream.Stream.Stream}, Dues.AreDues, StartTags.AreStartTags, Streams.{State, IsStream}}
+use Rattle.lft_queue.specs.Coming.{AtOnce.{is_undelayed, HasEvents, IsAwaited, AreHeard}, Channels.AreReadChannels, Unread.AreUnread, Lanes.held}
+use Rattle.lft_queue.specs.Coming.{Listeners.{AreListeners, AreStarted}, Coming.{AreComing, AreTaken, IsClear}, AtTag.AreBefore, Writes.{AreWrites, AreEarlier}}
+use Rattle.lft_queue.specs.{Pending.value_of, Reading.is_read}
 
 -- no row breaks one of the rules 1 to 5, with some stop
 abbrev pub KeepRules : PlanParts → List Row → Type 0

@@ -1,18 +1,10 @@
 -- What may be read at the tag at hand, by what is kept.
 use Rattle.std.specs.Prelude.{◌≡◌, ◌⊎◌, ℕ, true, List, ◌++◌, Option, Some, None, Contains, slice_get}
 use Rattle.lft_tag.specs.declared.Tag.{Tag}
-use Rattle.lft_ir.specs.Sound.{IsNameOf}
-use Rattle.lft_ir.specs.declared.parts.Name.{Name}
-use Rattle.lft_ir.specs.declared.parts.Value.{Value}
-use Rattle.lft_ir.specs.declared.steps.row.Row.{Row}
-use Rattle.lft_ir.specs.declared.steps.row.Step.TheVariants.{Read}
-use Rattle.lft_model.specs.Plans.{PlanParts}
-use Rattle.lft_model.specs.Presence.{Shows}
-use Rattle.lft_queue.specs.Pending.{Pending, value_of}
-use Rattle.lft_queue.specs.declared.coming.writes.Written.{Written}
-use Rattle.lft_queue.specs.Coming.AtOnce.{HasEvents, IsAwaited}
-use Rattle.lft_queue.specs.Coming.AtTag.{AreBefore, AreAt}
-use Rattle.lft_queue.specs.Coming.Writes.{AreWrites}
+use Rattle.lft_ir.specs.{Sound.IsNameOf, declared.{parts.{Name.Name, Value.Value}, steps.row.{Row.Row, Step.TheVariants.Read}}}
+use Rattle.lft_model.specs.{Plans.PlanParts, Presence.Shows}
+use Rattle.lft_queue.specs.{Pending.{Pending, value_of}, declared.coming.writes.Written.Written}
+use Rattle.lft_queue.specs.Coming.{AtOnce.{HasEvents, IsAwaited}, AtTag.{AreBefore, AreAt}, Writes.AreWrites}
 use Rattle.lft_stream.specs.declared.presence.Presence.{Presence}
 
 -- of the rows u at g behind rows d, the last writes are kept, and the queue has what each name with events that somebody waits for shows at g

@@ -1,19 +1,10 @@
 -- The judge's whole state, and when it may accept.
 use Rattle.std.specs.Prelude.{◌≡◌, ℕ, ◌+◌, List, ◌++◌}
-use Rattle.lft_tag.specs.declared.Tag.{Tag}
-use Rattle.lft_tag.specs.Tags.{Before, UpTo}
-use Rattle.lft_ir.specs.Origins.{Origin}
-use Rattle.lft_ir.specs.declared.parts.Value.{Value}
-use Rattle.lft_ir.specs.declared.parts.Name.{Name}
-use Rattle.lft_ir.specs.declared.parts.Name.TheVariants.{Port, Action}
-use Rattle.lft_ir.specs.declared.steps.row.Row.{Row}
-use Rattle.lft_model.specs.Plans.{PlanParts}
-use Rattle.lft_model.specs.Presence.{stop}
+use Rattle.lft_tag.specs.{declared.Tag.Tag, Tags.{Before, UpTo}}
+use Rattle.lft_ir.specs.{Origins.Origin, declared.{parts.{Value.Value, Name.{Name, TheVariants.{Port, Action}}}, steps.row.Row.Row}}
+use Rattle.lft_model.specs.{Plans.PlanParts, Presence.stop}
 use Rattle.lft_rows.specs.Slices.{runs_in}
-use Rattle.lft_stream.specs.Settled.{IsSettled}
-use Rattle.lft_stream.specs.Counted.{IsCounted}
-use Rattle.lft_stream.specs.declared.due.Due.{Due}
-use Rattle.lft_stream.specs.Dues.{AreDues, NoneOwed}
+use Rattle.lft_stream.specs.{Settled.IsSettled, Counted.IsCounted, declared.due.Due.Due, Dues.{AreDues, NoneOwed}}
 use Rattle.lft_queue.specs.Coming.Lanes.{first_events, made, carried, IsLane}
 
 -- what is kept: of each name its lane and the tag up to which it is done with, when each trigger is due, and the numbers of runs and tags

@@ -1,16 +1,12 @@
 //! Rows that are gone over part by part.
 
 ghost use Rattle.std.specs.Prelude.{◌≡◌, List, [], ◌++◌, IsTrue, IfOk, IfSome};
-ghost use Rattle.lft_ir.specs.declared.steps.row.Row.{Row as TheRow};
-ghost use Rattle.lft_ir.specs.Steps.Fits.{RowsFit};
+ghost use Rattle.lft_ir.specs.{declared.steps.row.Row.Row as TheRow, Steps.Fits.RowsFit};
 ghost use Rattle.lft_rows.specs.Accepted.{IsAccepted};
-ghost use Rattle.lft_stream.specs.Dues.{NoneDueBefore};
+ghost use Rattle.lft_stream.specs.{Dues.NoneDueBefore, Owed.MeetNowhere, Kept.{IsAcceptorOf, KeepRules, stopped_stream}};
 ghost use Rattle.lft_tag.specs.declared.Tag.{Tag as TheTag};
-ghost use Rattle.lft_model.specs.Plans.{PlanParts};
-ghost use Rattle.lft_model.specs.Presence.{stop};
+ghost use Rattle.lft_model.specs.{Plans.PlanParts, Presence.stop};
 ghost use Rattle.lft_queue.specs.Coming.AtTag.{AreBefore};
-ghost use Rattle.lft_stream.specs.Owed.{MeetNowhere};
-ghost use Rattle.lft_stream.specs.Kept.{IsAcceptorOf, KeepRules, stopped_stream};
 
 use crate::effort::Effort;
 use crate::order::Order;

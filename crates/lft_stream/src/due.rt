@@ -2,12 +2,8 @@
 
 ghost use Rattle.std.specs.Prelude.{◌≡◌, ◌↔◌, ℕ, List, [], IfSome, IsTrue};
 ghost use Rattle.lft_tag.specs.declared.Tag.{Tag as TheTag};
-ghost use Rattle.lft_ir.specs.Sound.{IsTriggerOf};
-ghost use Rattle.lft_ir.specs.declared.parts.Trigger.{Trigger as TheTrigger};
-ghost use Rattle.lft_ir.specs.declared.steps.row.Row.{Row as TheRow};
-ghost use Rattle.lft_model.specs.Plans.{PlanParts};
-ghost use Rattle.lft_model.specs.Presence.{stop};
-ghost use Rattle.lft_model.specs.Runs.{Ran};
+ghost use Rattle.lft_ir.specs.{Sound.IsTriggerOf, declared.{parts.Trigger.Trigger as TheTrigger, steps.row.Row.Row as TheRow}};
+ghost use Rattle.lft_model.specs.{Plans.PlanParts, Presence.stop, Runs.Ran};
 ghost use Rattle.lft_stream.specs.Dues.{IsDue, IsDueAt, IsOwed, IsDueBefore};
 
 use lft_ir::Trigger;

@@ -1,13 +1,9 @@
 //! Whether each reaction that a written port triggers has a run.
 
 ghost use Rattle.std.specs.Prelude.{◌≡◌, ℕ, List, length, IsSome, IsTrue, Contains};
-ghost use Rattle.lft_ir.specs.declared.steps.row.Row.{Row as TheRow};
-ghost use Rattle.lft_ir.specs.Steps.Fits.{RowsFit};
+ghost use Rattle.lft_ir.specs.{declared.{steps.row.Row.Row as TheRow, parts.Name.Name as TheName}, Steps.Fits.RowsFit};
 ghost use Rattle.lft_model.specs.Runs.{Ran};
-ghost use Rattle.lft_queue.specs.Coming.AtOnce.{AreHeard};
-ghost use Rattle.lft_queue.specs.Coming.Listeners.{AreListeners, AreStarted};
-ghost use Rattle.lft_queue.specs.Pending.{value_of};
-ghost use Rattle.lft_ir.specs.declared.parts.Name.{Name as TheName};
+ghost use Rattle.lft_queue.specs.{Coming.{AtOnce.AreHeard, Listeners.{AreListeners, AreStarted}}, Pending.value_of};
 ghost use Rattle.lft_stream.specs.StartTags.{AreStartTags};
 
 use crate::start_tags::StartTags;

@@ -4,8 +4,7 @@ ghost use Rattle.std.specs.Prelude.{ℕ, ◌≡◌, IsTrue, None, IfSome};
 ghost use Rattle.lft_tag.specs.declared.Tag.{Tag as TheTag};
 ghost use Rattle.lft_ir.specs.Steps.Fits.{RowsFit};
 ghost use Rattle.lft_graph.specs.Sets.{AreAncestors};
-ghost use Rattle.lft_model.specs.Breaches.{IsTooEarly};
-ghost use Rattle.lft_model.specs.Runs.{Ran};
+ghost use Rattle.lft_model.specs.{Breaches.IsTooEarly, Runs.Ran};
 ghost use Rattle.lft_rows.specs.Firsts.{FirstRow};
 ghost use Rattle.lft_stream.specs.Ordered.{IsOrdered};
 

@@ -1,14 +1,10 @@
 //! What may be present at the tag at hand, for reactions that have many inputs.
 
 ghost use Rattle.std.specs.Prelude.{◌≡◌, ◌<◌, ◌++◌, ◌∷◌, [], ℕ, List, length, Some, IsSome, IsTrue, Contains, slice_get};
-ghost use Rattle.lft_ir.specs.declared.parts.Name.{Name as TheName};
-ghost use Rattle.lft_ir.specs.declared.parts.Name.TheVariants.{Port as PortName};
-ghost use Rattle.lft_ir.specs.declared.parts.Value.{Value as TheValue};
-ghost use Rattle.lft_ir.specs.declared.steps.row.Row.{Row as TheRow};
-ghost use Rattle.lft_ir.specs.declared.steps.row.Step.TheVariants.{Write};
+ghost use Rattle.lft_ir.specs.declared.parts.{Name.{Name as TheName, TheVariants.Port as PortName}, Value.Value as TheValue};
+ghost use Rattle.lft_ir.specs.declared.steps.row.{Row.Row as TheRow, Step.TheVariants.Write};
 ghost use Rattle.lft_ir.specs.Steps.Fits.{RowsFit};
-ghost use Rattle.lft_queue.specs.Pending.{value_of};
-ghost use Rattle.lft_queue.specs.Coming.Channels.{AreReadChannels};
+ghost use Rattle.lft_queue.specs.{Pending.value_of, Coming.Channels.AreReadChannels};
 ghost use Rattle.lft_stream.specs.Present.{AreAllPresent, IsKnown};
 
 use lft_ir::steps::{Row, is_start, row_at};

@@ -1,16 +1,10 @@
 //! What the runs at the tag at hand may read, and what they read.
 
 ghost use Rattle.std.specs.Prelude.{◌≡◌, ℕ, ◌<◌, ◌++◌, List, length, Some, IsSome, IsTrue, Contains, slice_get};
-ghost use Rattle.lft_ir.specs.declared.steps.row.Row.{Row as TheRow};
-ghost use Rattle.lft_ir.specs.Steps.Fits.{RowsFit};
-ghost use Rattle.lft_ir.specs.Parts.{inputs};
-ghost use Rattle.lft_ir.specs.declared.parts.Name.{Name as TheName};
-ghost use Rattle.lft_ir.specs.declared.parts.Reaction.{Reaction as TheReaction};
-ghost use Rattle.lft_model.specs.Presence.{Shows, Inputs, Triggered};
-ghost use Rattle.lft_model.specs.Runs.{Ran, reads_at, read_of, steps_of};
-ghost use Rattle.lft_rows.specs.Marks.{AreMarks, IsLaid};
-ghost use Rattle.lft_rows.specs.Slices.{IsSlice};
-ghost use Rattle.lft_ir.specs.Sound.{IsNameOf};
+ghost use Rattle.lft_ir.specs.{declared.{steps.row.Row.Row as TheRow, parts.{Name.Name as TheName, Reaction.Reaction as TheReaction}}, Steps.Fits.RowsFit};
+ghost use Rattle.lft_ir.specs.{Parts.inputs, Sound.IsNameOf};
+ghost use Rattle.lft_model.specs.{Presence.{Shows, Inputs, Triggered}, Runs.{Ran, reads_at, read_of, steps_of}};
+ghost use Rattle.lft_rows.specs.{Marks.{AreMarks, IsLaid}, Slices.IsSlice};
 ghost use Rattle.lft_queue.specs.Coming.AtOnce.{IsAwaited};
 ghost use Rattle.lft_stream.specs.Present.{AreShown, IsKnown, AreReadsShown};
 

@@ -1,18 +1,13 @@
 //! What is kept of the rows so far.
 
 ghost use Rattle.std.specs.Prelude.{◌≡◌, ℕ, List, [], ◌++◌, ◌+◌, ◌<◌, take, length, Some, None, IsTrue, IfOk, IfSome};
-ghost use Rattle.lft_ir.specs.declared.steps.row.Row.{Row as TheRow};
-ghost use Rattle.lft_ir.specs.Steps.Fits.{RowsFit};
+ghost use Rattle.lft_ir.specs.{declared.steps.row.Row.Row as TheRow, Steps.Fits.RowsFit};
 ghost use Rattle.lft_graph.specs.Sets.{AreAncestors};
 ghost use Rattle.lft_tag.specs.Tags.{UpTo, earlier, earliest};
-ghost use Rattle.lft_model.specs.Presence.{stop, requests, Triggered};
-ghost use Rattle.lft_model.specs.Runs.{Ran};
-ghost use Rattle.lft_rows.specs.Marks.{AreMarks, AreBefore as HaveMarksTo, IsLaid};
-ghost use Rattle.lft_rows.specs.Slices.{IsSlice, Rises, runs_in};
-ghost use Rattle.lft_rows.specs.Accepted.{IsAccepted};
+ghost use Rattle.lft_model.specs.{Presence.{stop, requests, Triggered}, Runs.Ran};
+ghost use Rattle.lft_rows.specs.{Marks.{AreMarks, AreBefore as HaveMarksTo, IsLaid}, Slices.{IsSlice, Rises, runs_in}, Accepted.IsAccepted};
 ghost use Rattle.lft_stream.specs.Dues.{AreDues, AreDuesAt, NoneDueBefore};
-ghost use Rattle.lft_stream.specs.Kept.{KeepRules, IsLater, stopped_stream, IsStreamOf, RisesAt, IsAtHand, IsJudged};
-ghost use Rattle.lft_stream.specs.Present.{AreShown};
+ghost use Rattle.lft_stream.specs.{Kept.{KeepRules, IsLater, stopped_stream, IsStreamOf, RisesAt, IsAtHand, IsJudged}, Present.AreShown};
 
 use crate::dues::Dues;
 use crate::effort::Effort;

@@ -1,9 +1,7 @@
 -- A reading is right for a spelling: rules for the words that grammars are written in.
 use Rattle.std.proofs.Common.{◌≡◌, ℕ, zero, suc, ◌+◌, ◌<◌, ◌≤◌, Bool, true, false, cond, List, [], ◌∷◌, length, Option, Some, None, Result, Ok, Err, refl, sym, ap, subst, ◌∙◌, arith, inl, inr}
 use Rattle.std.specs.Prelude.{slice_get}
-use Rattle.std.proofs.lemmas.Option.{slice_get_within}
-use Rattle.std.proofs.lemmas.Bool.{eqb-true, eq-eqb}
-use Rattle.std.proofs.lemmas.Slice.Eq.{bytes_eq-Decides}
+use Rattle.std.proofs.lemmas.{Option.slice_get_within, Bool.{eqb-true, eq-eqb}, Slice.Eq.bytes_eq-Decides}
 use Rattle.lft_syntax.proofs.Options.{some, some_is}
 use Rattle.lft_syntax.proofs.Begun.{Agree, fewer, Begun, Regular, begun_first, begun_second, both_regular, token_regular, begun_as, as_regular, optional_regular, begun_there, many_regular, begun_item, begun_more, begun_left, begun_right, or_regular, begun_range, range_regular}
 use Rattle.lft_syntax.specs.Lexeme.{Lexeme, Code, Text, Letters, Number, Arrow, Symbol, same}

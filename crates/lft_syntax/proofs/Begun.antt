@@ -1,8 +1,7 @@
 -- What begins a spelling can be ended: rules for the words that grammars are written in.
 use Rattle.std.proofs.Common.{◌≡◌, ℕ, zero, suc, ◌+◌, ◌<◌, ◌≤◌, List, [], ◌∷◌, ◌++◌, length, take, Option, Some, None, refl, subst, ◌∙◌, arith, inl, inr}
 use Rattle.std.specs.Prelude.{slice_get}
-use Rattle.lft_syntax.specs.Lexeme.{Lexeme}
-use Rattle.lft_syntax.specs.Language.{Spelling, token, ◌&◌, ◌or◌, optional, many, range}
+use Rattle.lft_syntax.specs.{Lexeme.Lexeme, Language.{Spelling, token, ◌&◌, ◌or◌, optional, many, range}}
 
 -- the first k tokens are the same
 abbrev pub Agree : ℕ → List Lexeme → List Lexeme → Type 0

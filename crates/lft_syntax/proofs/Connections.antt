@@ -1,16 +1,13 @@
 -- Connections.
 use Rattle.std.proofs.Common.{◌≡◌, ℕ, ◌+◌, true, false, List, Option, Some, refl}
 use Rattle.std.specs.Prelude.{slice_get, codes}
-use Rattle.lft_syntax.specs.Lexeme.{Lexeme, Letters, Arrow, Symbol, is, is_name, is_reserved, closes_at}
-use Rattle.lft_syntax.specs.Language.{one, ◌>>◌, optional}
-use Rattle.lft_tree.specs.Tree.{TimeTree}
-use Rattle.lft_syntax.specs.Grammar.{key, ptime, refs, connection, connection_of}
-use Rattle.lft_syntax.specs.Reading.{after_at, connection_at}
+use Rattle.lft_syntax.specs.{Lexeme.{Lexeme, Letters, Arrow, Symbol, is, is_name, is_reserved, closes_at}, Language.{one, ◌>>◌, optional}}
+use Rattle.lft_syntax.specs.{Grammar.{key, ptime, refs, connection, connection_of}, Reading.{after_at, connection_at}}
 use Rattle.lft_syntax.proofs.Algebra.{near, Right, Any, Starts, starts_one}
 use Rattle.lft_syntax.proofs.Rules.{and, and_if, skip, before_if, making, this_one, perhaps_to, leads_optional, starts_skip, starts_and, starts_before, starts_made, same_follow}
-use Rattle.lft_syntax.proofs.Lookahead.{far, past_name, Ends, far_looks, ends_word}
-use Rattle.lft_syntax.proofs.Times.{right_pdelay}
+use Rattle.lft_syntax.proofs.{Lookahead.{far, past_name, Ends, far_looks, ends_word}, Times.right_pdelay}
 use Rattle.lft_syntax.proofs.References.{RefsEnd, right_refs, right_refs_first, starts_refs, ends_refs, leads_refs}
+use Rattle.lft_tree.specs.Tree.{TimeTree}
 
 after_ends_nothing : (q : Option Lexeme) → closes_at (Some (Letters (codes "after"))) q ≡ false
 unfolding is_reserved

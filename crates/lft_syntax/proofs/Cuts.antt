@@ -1,14 +1,11 @@
 -- A cutting that grows by pieces at its end.
 use Rattle.std.proofs.Common.{◌≡◌, ℕ, List, [], ◌∷◌, ◌++◌, ◌≤◌, length, Option, Some, None, refl, subst, append_assoc}
 use Rattle.std.proofs.lemmas.List.{append-nil}
-use Rattle.lft_syntax.specs.declared.token.Token.{Token}
-use Rattle.lft_syntax.specs.declared.token.TokenKind.{TokenKind}
-use Rattle.lft_syntax.specs.declared.form.Form.{Form}
-use Rattle.lft_syntax.specs.declared.form.Form.TheVariants.{StarComment, Code, Text, Digits}
+use Rattle.lft_syntax.specs.declared.{token.{Token.Token, TokenKind.TokenKind}, form.Form.{Form, TheVariants.{StarComment, Code, Text, Digits}}}
 use Rattle.lft_syntax.specs.declared.fault.LexFault.{LexFault}
-use Rattle.lft_syntax.specs.declared.fault.LexFault.TheVariants as faults
 use Rattle.lft_syntax.specs.Lexes.{Piece, Cut, done, piece, Lexes, IsFault, FaultAt, Faults, IsRefusedAt, LexFails}
 use Rattle.lft_syntax.proofs.Once.{cut_once, fault_or_cut, fault_once}
+use Rattle.lft_syntax.specs.declared.fault.LexFault.TheVariants as faults
 
 -- the text up to i is cut into these tokens, whatever follows
 pub record Front (t : List ℕ) (i : ℕ) (tokens : List Token) : Type 0 where

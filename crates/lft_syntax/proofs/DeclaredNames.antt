@@ -4,16 +4,14 @@ use Rattle.std.specs.Prelude.{slice_get, map, codes, IfSome}
 use Rattle.std.specs.List.{All, cons_option, filter_map}
 use Rattle.std.proofs.lemmas.List.Elements.{All-nil, All-cons, All-head, All-tail, All-append, All-map, All-get_or}
 use Rattle.std.proofs.lemmas.Option.{slice_get_within, get_or_from_slice_get}
-use Rattle.lft_syntax.specs.declared.token.Token.{Token}
-use Rattle.lft_tree.specs.Identifiers.{IsName, declared_names, HasIdentifiers}
-use Rattle.lft_tree.proofs.Names.{IsName-identifier}
-use Rattle.lft_syntax.specs.Language.{Spelling, look, ◌&◌, ◌>>◌, ◌<<◌, ◌or◌, optional, many, made, ignored}
-use Rattle.lft_syntax.specs.Lexeme.{Lexeme, Code, Text, Letters, Number, Arrow, Symbol, is_reserved, name_in}
-use Rattle.lft_syntax.specs.Lexes.{Lexes}
+use Rattle.lft_syntax.specs.{declared.token.Token.Token, Language.{Spelling, look, ◌&◌, ◌>>◌, ◌<<◌, ◌or◌, optional, many, made, ignored}}
+use Rattle.lft_syntax.specs.{Lexeme.{Lexeme, Code, Text, Letters, Number, Arrow, Symbol, is_reserved, name_in}, Lexes.Lexes}
 use Rattle.lft_syntax.specs.Grammar.{Spells, key, symbol, name, typed, input_of, output_of, timer_of, action_of, instance_of, reactor_of, main_of, file_of, port, timer, action, state, preamble, reaction, instance, connection, member, body, reactor, file}
-use Rattle.lft_tree.specs.Tree.{TimeTree, MemberTree, PortMember, TimerMember, ActionMember, StateMember, PreambleMember, ReactionMember, InstanceMember, ConnectionMember, ReactorTree, ItemTree, PreambleItem, ReactorItem, FileTree, port_in, timer_in, action_in, instance_in, reactor_in}
 use Rattle.lft_syntax.specs.View.{lexemes}
 use Rattle.lft_syntax.proofs.Identifiers.{IsWord, words_of_text}
+use Rattle.lft_tree.specs.Identifiers.{IsName, declared_names, HasIdentifiers}
+use Rattle.lft_tree.specs.Tree.{TimeTree, MemberTree, PortMember, TimerMember, ActionMember, StateMember, PreambleMember, ReactionMember, InstanceMember, ConnectionMember, ReactorTree, ItemTree, PreambleItem, ReactorItem, FileTree, port_in, timer_in, action_in, instance_in, reactor_in}
+use Rattle.lft_tree.proofs.Names.{IsName-identifier}
 
 -- what of the tokens spells a value, spells one that P holds of
 pub record Keeps {A : Type 0} (ws : List Lexeme) (S : Spelling A) (P : A → Type 0) : Type 0 where

@@ -1,18 +1,12 @@
 -- Each name among the tokens of a text is an identifier.
 use Rattle.std.proofs.Common.{◌≡◌, ℕ, suc, ◌+◌, ◌-◌, ◌<◌, ◌≤◌, true, List, [], ◌∷◌, length, get_or, drop, refl, ap, ◌∙◌, arith, length-take, length-drop}
 use Rattle.std.specs.Prelude.{slice_index, slice_range}
-use Rattle.std.specs.List.{All}
-use Rattle.std.proofs.lemmas.List.{get_or-take, get_or-drop}
-use Rattle.std.proofs.lemmas.List.Elements.{All-from_get_or, All-map, All-weaker}
-use Rattle.lft_syntax.specs.declared.token.Token.{Token}
-use Rattle.lft_syntax.specs.declared.token.TokenKind.{TokenKind}
-use Rattle.lft_syntax.specs.declared.token.TokenKind.TheVariants as kinds
+use Rattle.std.{specs.List.All, proofs.lemmas.List.{get_or-take, get_or-drop, Elements.{All-from_get_or, All-map, All-weaker}}}
+use Rattle.lft_syntax.specs.{declared.token.{Token.Token, TokenKind.TokenKind}, Lexeme.{Lexeme, Letters}, Lexes.Lexes, View.{lexeme_from, lexeme_of, lexemes}}
+use Rattle.lft_syntax.proofs.TokenFacts.{InText, cut_tokens}
 use Rattle.lft_lists.specs.Bytes.{is_letter, is_word}
 use Rattle.lft_tree.specs.Identifiers.{IsIdentifier}
-use Rattle.lft_syntax.specs.Lexeme.{Lexeme, Letters}
-use Rattle.lft_syntax.specs.Lexes.{Lexes}
-use Rattle.lft_syntax.specs.View.{lexeme_from, lexeme_of, lexemes}
-use Rattle.lft_syntax.proofs.TokenFacts.{InText, cut_tokens}
+use Rattle.lft_syntax.specs.declared.token.TokenKind.TheVariants as kinds
 
 -- if it is a name or a reserved word, it is an identifier
 abbrev pub IsWord : Lexeme → Type 0

@@ -1,8 +1,7 @@
 -- Lists with commas, and what stands in parentheses.
 use Rattle.std.proofs.Common.{◌≡◌, ℕ, suc, ◌+◌, ◌≤◌, Bool, true, false, List, [], ◌∷◌, Some, Result, Ok, Err, refl, arith}
 use Rattle.std.specs.Prelude.{slice_get}
-use Rattle.lft_syntax.specs.Lexeme.{Lexeme, Symbol, is}
-use Rattle.lft_syntax.specs.Language.{Spelling, ◌>>◌, optional, many, made}
+use Rattle.lft_syntax.specs.{Lexeme.{Lexeme, Symbol, is}, Language.{Spelling, ◌>>◌, optional, many, made}}
 use Rattle.lft_syntax.specs.Grammar.{symbol, with_first, or_empty, listed, enclosed}
 use Rattle.lft_syntax.specs.Reading.{Reading, ◌>>=◌, repeated, with_front, after_comma, listed_at, is_open, enclosed_at, apply}
 use Rattle.lft_syntax.proofs.Algebra.{Follow, Horizon, near, Right, Any, Test, Starts, starts_one, loosen, same_reading}

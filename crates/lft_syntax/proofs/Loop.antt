@@ -1,15 +1,11 @@
 -- A loop that reads one value after the other.
 use Rattle.std.proofs.Common.{◌≡◌, ℕ, zero, suc, ◌+◌, ◌≤◌, ◌<◌, true, false, List, [], ◌∷◌, ◌++◌, length, None, Result, Ok, Err, refl, sym, ap, subst, ◌∙◌, append_assoc, arith, inl, inr}
 use Rattle.std.specs.Prelude.{slice_get}
-use Rattle.std.proofs.lemmas.List.{append-nil}
-use Rattle.std.proofs.lemmas.Option.{slice_get_cases}
-use Rattle.lft_syntax.specs.declared.parse_error.ParseError.{ParseError}
-use Rattle.lft_syntax.specs.declared.parse_error.ParseError.TheVariants as errors
-use Rattle.lft_syntax.specs.Lexeme.{Lexeme, is_there}
-use Rattle.lft_syntax.specs.Language.{Spelling}
-use Rattle.lft_syntax.specs.View.{Fails, at_next}
+use Rattle.std.proofs.lemmas.{List.append-nil, Option.slice_get_cases}
+use Rattle.lft_syntax.specs.{declared.parse_error.ParseError.ParseError, Lexeme.{Lexeme, is_there}, Language.Spelling, View.{Fails, at_next}}
 use Rattle.lft_syntax.specs.Reading.{Reading, ◌>>=◌, many_at, repeated, with_front, ignoring_at}
 use Rattle.lft_syntax.proofs.Algebra.{Follow, Horizon, Right, Known, Outcome, Test}
+use Rattle.lft_syntax.specs.declared.parse_error.ParseError.TheVariants as errors
 
 -- where a test is passed that nothing past the end passes, a token stands
 pub inside : (go : Test) → go None ≡ false → (ws : List Lexeme) (at : ℕ) → go (slice_get ws at) ≡ true → at ≤ length ws

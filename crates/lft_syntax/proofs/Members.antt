@@ -3,7 +3,6 @@ use Rattle.std.proofs.Common.{◌≡◌, ℕ, ◌+◌, ◌≤◌, Bool, true, fa
 use Rattle.std.specs.Prelude.{slice_get, codes}
 use Rattle.lft_syntax.specs.Lexeme.{Lexeme, Code, Text, Letters, Number, Arrow, Symbol, is, is_name, is_word_of, is_follower, is_reserved, is_one_of, port_keys, action_keys, preamble_keys, member_keys, closes_at, negated}
 use Rattle.lft_syntax.specs.Language.{Spelling, one, ◌&◌, ◌>>◌, ◌<<◌, ◌or◌, optional, many, made}
-use Rattle.lft_tree.specs.Tree.{RefTree, MemberTree, PortMember, TimerMember, ActionMember, StateMember, PreambleMember, ReactionMember, InstanceMember, ConnectionMember}
 use Rattle.lft_syntax.specs.Grammar.{key, symbol, name, ptime, ref, refs, listed, enclosed, assign, port, timer, action, state, preamble, reaction, instance, connection, member, or_empty, instance_of, connection_of}
 use Rattle.lft_syntax.specs.Reading.{Reading, apply, choice, choice_next, instance_at, connection_at, member_at, is_inside, members_at}
 use Rattle.lft_syntax.proofs.Algebra.{Follow, near, Right, Test, Starts, StartsNext, right_choice, right_choice_next, starts_one, loosen}
@@ -11,9 +10,9 @@ use Rattle.lft_syntax.proofs.Rules.{making, Here, here, starts_skip, starts_made
 use Rattle.lft_syntax.proofs.Lookahead.{far, past_name, Ends, AllOf, Reserved, far_looks, far_near, far_past, past_looks, past_two, no_symbol, bracket_ends, named, no_key, no_word, key_no_name, word_no_name}
 use Rattle.lft_syntax.proofs.Types.{ends_type}
 use Rattle.lft_syntax.proofs.Declarations.{starts_input, starts_output, right_port, starts_timer, right_timer, starts_action, right_action, starts_state, right_state, starts_preamble, right_preamble}
-use Rattle.lft_syntax.proofs.Reactions.{starts_reaction, right_reaction}
-use Rattle.lft_syntax.proofs.Instances.{starts_instance, right_instance}
+use Rattle.lft_syntax.proofs.{Reactions.{starts_reaction, right_reaction}, Instances.{starts_instance, right_instance}}
 use Rattle.lft_syntax.proofs.Connections.{starts_connection, right_connection}
+use Rattle.lft_tree.specs.Tree.{RefTree, MemberTree, PortMember, TimerMember, ActionMember, StateMember, PreambleMember, ReactionMember, InstanceMember, ConnectionMember}
 
 -- ---- the token after a name
 

@@ -1,7 +1,6 @@
 -- The number that digits write.
 use Rattle.std.proofs.Common.{◌≡◌, ℕ, suc, ◌+◌, ◌-◌, ◌*◌, ◌^◌, ◌<◌, ◌≤◌, List, [], ◌∷◌, length, get_or, take, drop, sym, ap, ◌∙◌, arith, add-one}
-use Rattle.std.specs.List.{fold, slice_range}
-use Rattle.std.proofs.Math.Seq.{drop-cons}
+use Rattle.std.{specs.List.{fold, slice_range}, proofs.Math.Seq.drop-cons}
 
 -- the number that these digits write after the number n
 abbrev pub value_from : ℕ → List ℕ → ℕ

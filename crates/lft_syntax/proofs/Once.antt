@@ -1,18 +1,15 @@
 -- A text is cut in one way.
 use Rattle.std.proofs.Common.{◌≡◌, ℕ, ◌+◌, ◌<◌, ◌≤◌, ◌^◌, ◌≢◌, Bool, true, false, List, length, Option, Some, refl, sym, ap, subst, ◌∙◌, arith, inl, inr}
 use Rattle.std.specs.Prelude.{slice_get, ◌⊎◌}
-use Rattle.std.proofs.lemmas.Option.{slice_get_within}
-use Rattle.std.proofs.lemmas.Bool.{cases_order}
+use Rattle.std.proofs.lemmas.{Option.slice_get_within, Bool.cases_order}
 use Rattle.lft_syntax.proofs.Options.{some}
-use Rattle.lft_syntax.specs.declared.token.Token.{Token}
-use Rattle.lft_syntax.specs.declared.token.TokenKind.{TokenKind}
-use Rattle.lft_syntax.specs.declared.token.TokenKind.TheVariants as kinds
-use Rattle.lft_syntax.specs.declared.form.Form.{Form}
-use Rattle.lft_syntax.specs.declared.form.Form.TheVariants.{Space, LineComment, StarComment, Code, Text, Name, Digits, Arrow, Symbol, Unknown}
+use Rattle.lft_syntax.specs.declared.token.{Token.Token, TokenKind.TokenKind}
+use Rattle.lft_syntax.specs.declared.form.Form.{Form, TheVariants.{Space, LineComment, StarComment, Code, Text, Name, Digits, Arrow, Symbol, Unknown}}
 use Rattle.lft_syntax.specs.declared.fault.LexFault.{LexFault}
-use Rattle.lft_syntax.specs.declared.fault.LexFault.TheVariants as faults
-use Rattle.lft_lists.specs.Bytes.{is_in_line, is_word, is_digit, is_byte}
 use Rattle.lft_syntax.specs.Lexes.{Run, PastPair, Quoted, ends, escaped, plain, value, form_of, Reads, with_token, Piece, Cut, done, piece, Lexes, IsFault, FaultAt, Faults}
+use Rattle.lft_lists.specs.Bytes.{is_in_line, is_word, is_digit, is_byte}
+use Rattle.lft_syntax.specs.declared.token.TokenKind.TheVariants as kinds
+use Rattle.lft_syntax.specs.declared.fault.LexFault.TheVariants as faults
 
 three_from : (a b : ℕ) → (a ≡ b) ⊎ ((a < b) ⊎ (b < a)) → (a < b) ⊎ ((a ≡ b) ⊎ (b < a))
 three_from a b (inl e) = inr (inl e)

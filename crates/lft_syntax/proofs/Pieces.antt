@@ -1,14 +1,12 @@
 -- How far a piece reaches.
 use Rattle.std.proofs.Common.{◌≡◌, ℕ, ◌+◌, ◌<◌, ◌≤◌, Bool, true, false, List, length, Option, Some, None, if◌then◌else◌, refl, sym, ap, ◌∙◌, arith, inl, inr}
 use Rattle.std.specs.Prelude.{slice_get, slice_index, nat_eq, ◌&&◌, ◌||◌}
-use Rattle.std.proofs.lemmas.Option.{slice_get_within, slice_get-get_or}
-use Rattle.std.proofs.lemmas.Bool.{and_parts, eqb-true}
+use Rattle.std.proofs.lemmas.{Option.{slice_get_within, slice_get-get_or}, Bool.{and_parts, eqb-true}}
 use Rattle.lft_syntax.specs.declared.token.TokenKind.{TokenKind}
-use Rattle.lft_syntax.specs.declared.form.Form.{Form}
-use Rattle.lft_syntax.specs.declared.form.Form.TheVariants.{Space, LineComment, StarComment, Code, Text, Name, Digits, Arrow, Symbol, Unknown}
-use Rattle.lft_lists.specs.Bytes.{within, is_space, is_in_line, is_letter, is_digit, is_word, is_byte}
-use Rattle.lft_syntax.proofs.Once.{three_ways}
+use Rattle.lft_syntax.specs.declared.form.Form.{Form, TheVariants.{Space, LineComment, StarComment, Code, Text, Name, Digits, Arrow, Symbol, Unknown}}
 use Rattle.lft_syntax.specs.Lexes.{Run, Quoted, ends, escaped, plain, form_of, Reads, Piece}
+use Rattle.lft_syntax.proofs.Once.{three_ways}
+use Rattle.lft_lists.specs.Bytes.{within, is_space, is_in_line, is_letter, is_digit, is_word, is_byte}
 
 -- what is known of the first two bytes of a form
 abbrev pub Begins : ℕ → Option ℕ → Form → Type 0

@@ -2,8 +2,7 @@
 use Rattle.std.proofs.Common.{◌≡◌, ℕ, ◌+◌, ◌<◌, ◌≤◌, ◌≢◌, List, length, get_or, Option, Some, refl, ap, ◌∙◌, arith}
 use Rattle.std.specs.Prelude.{slice_get}
 use Rattle.std.proofs.lemmas.Option.{slice_get_within, slice_get-get_or}
-use Rattle.lft_syntax.specs.Lexes.{Quoted, ends, escaped, plain}
-use Rattle.lft_syntax.proofs.Once.{at_slash, at_plain}
+use Rattle.lft_syntax.{specs.Lexes.{Quoted, ends, escaped, plain}, proofs.Once.{at_slash, at_plain}}
 
 abbrev some : ℕ → Option ℕ
 some x = Some x

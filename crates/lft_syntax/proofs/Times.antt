@@ -1,20 +1,16 @@
 -- Times, and names in their places.
 use Rattle.std.proofs.Common.{◌≡◌, ℕ, ◌+◌, ◌≤◌, Bool, true, false, List, length, Option, Some, None, Ok, Err, refl, sym, ap, subst, ◌∙◌, arith, cond, eqb, inl, inr}
 use Rattle.std.specs.Prelude.{slice_get, codes}
-use Rattle.std.proofs.lemmas.Bool.{eqb-true, eq-eqb}
-use Rattle.std.proofs.lemmas.Option.{slice_get_within}
-use Rattle.lft_syntax.proofs.Options.{some, some_is}
-use Rattle.lft_tree.specs.declared.tree.TimeUnit.{TimeUnit}
-use Rattle.lft_tree.specs.declared.tree.TimeUnit.TheVariants as units
-use Rattle.lft_syntax.specs.Lexeme.{Lexeme, Code, Text, Letters, Number, Arrow, Symbol, is_number, is_name, is_follower, same, name_in, number_in, unit_in, unit_of}
-use Rattle.lft_syntax.specs.Language.{look, this, one, ◌&◌, made}
-use Rattle.lft_tree.specs.Tree.{Written, Named}
-use Rattle.lft_syntax.specs.Grammar.{name, number, unit, time, ptime, counted, zero_time}
-use Rattle.lft_syntax.specs.Reading.{◌>>=◌, seen_at, token_at, time_from, time_at, delay_at, ptime_at, pdelay_at, is_open}
-use Rattle.lft_syntax.proofs.Begun.{Agree, Regular, begun_second, both_regular, begun_as, as_regular, begun_left, or_regular}
+use Rattle.std.proofs.lemmas.{Bool.{eqb-true, eq-eqb}, Option.slice_get_within}
+use Rattle.lft_syntax.proofs.{Options.{some, some_is}, Begun.{Agree, Regular, begun_second, both_regular, begun_as, as_regular, begun_left, or_regular}}
 use Rattle.lft_syntax.proofs.Algebra.{Follow, Horizon, near, Known, Refused, Outcome, Right, Any, Starts, right_token, starts_token, starts_one, same-true, pair}
 use Rattle.lft_syntax.proofs.Rules.{near_looks, making, this_one, Here, starts_and, starts_made, starts_or, starts_by, choose, ended, right_name, right_number}
 use Rattle.lft_syntax.proofs.Lookahead.{far, Ends, far_looks, far_two, ends_unit, ends_follower, starts_name, named}
+use Rattle.lft_syntax.specs.Lexeme.{Lexeme, Code, Text, Letters, Number, Arrow, Symbol, is_number, is_name, is_follower, same, name_in, number_in, unit_in, unit_of}
+use Rattle.lft_syntax.specs.{Language.{look, this, one, ◌&◌, made}, Grammar.{name, number, unit, time, ptime, counted, zero_time}}
+use Rattle.lft_syntax.specs.Reading.{◌>>=◌, seen_at, token_at, time_from, time_at, delay_at, ptime_at, pdelay_at, is_open}
+use Rattle.lft_tree.specs.{declared.tree.TimeUnit.TimeUnit, Tree.{Written, Named}}
+use Rattle.lft_tree.specs.declared.tree.TimeUnit.TheVariants as units
 
 -- no unit stands there
 abbrev pub NoUnit : Follow

@@ -2,19 +2,14 @@
 use Rattle.std.proofs.Common.{◌≡◌, ℕ, ◌+◌, ◌-◌, ◌<◌, ◌≤◌, true, List, length, get_or, drop, Some, None, IsAscii, sym, ap, subst, ◌∙◌, arith, length-take, length-drop}
 use Rattle.std.specs.Prelude.{slice_get, slice_index, slice_range}
 use Rattle.std.specs.List.{All}
-use Rattle.std.proofs.lemmas.List.{get_or-take, get_or-drop}
-use Rattle.std.proofs.lemmas.List.Elements.{All-nil, All-cons, All-get_or}
-use Rattle.std.proofs.lemmas.Option.{slice_get_within, get_or_from_slice_get}
-use Rattle.std.proofs.lemmas.Str.Ascii.{IsAscii-from_reads}
-use Rattle.std.proofs.lemmas.Bool.Decides.{nat_tests}
-use Rattle.lft_syntax.specs.declared.token.Token.{Token}
-use Rattle.lft_syntax.specs.declared.token.TokenKind.{TokenKind}
-use Rattle.lft_syntax.specs.declared.token.TokenKind.TheVariants as kinds
-use Rattle.lft_syntax.specs.declared.form.Form.{Form}
-use Rattle.lft_syntax.specs.declared.form.Form.TheVariants.{Space, LineComment, StarComment, Code, Text, Name, Digits, Arrow, Symbol, Unknown}
-use Rattle.lft_lists.specs.Bytes.{is_letter, is_word}
+use Rattle.std.proofs.lemmas.{List.{get_or-take, get_or-drop, Elements.{All-nil, All-cons, All-get_or}}, Option.{slice_get_within, get_or_from_slice_get}}
+use Rattle.std.proofs.lemmas.{Str.Ascii.IsAscii-from_reads, Bool.Decides.nat_tests}
+use Rattle.lft_syntax.specs.declared.token.{Token.Token, TokenKind.TokenKind}
+use Rattle.lft_syntax.specs.declared.form.Form.{Form, TheVariants.{Space, LineComment, StarComment, Code, Text, Name, Digits, Arrow, Symbol, Unknown}}
 use Rattle.lft_syntax.specs.Lexes.{Run, form_of, Reads, Piece, Cut, done, piece, Lexes}
 use Rattle.lft_syntax.proofs.Pieces.{Begins, begins, read_there, piece_further, piece_within}
+use Rattle.lft_lists.specs.Bytes.{is_letter, is_word}
+use Rattle.lft_syntax.specs.declared.token.TokenKind.TheVariants as kinds
 
 -- a token lies in the text and isn't empty, and a name begins with a letter or underscore and has letters, digits and underscores alone
 pub record InText (t : List ℕ) (k : Token) : Type 0 where

@@ -4,11 +4,10 @@
 -- the two: what begins a member with a name has =, . or , or -> as its second token, and none of
 -- these stands after a unit or a suffix.
 use Rattle.std.specs.Prelude.{ℕ, List, [], ◌∷◌, ◌++◌, codes, length, Bool, true, false, Option, Some, None}
-use Rattle.lft_tree.specs.declared.tree.Time.{Time}
-use Rattle.lft_tree.specs.declared.tree.TimeUnit.{TimeUnit}
+use Rattle.lft_tree.specs.declared.tree.{Time.Time, TimeUnit.TimeUnit}
+use Rattle.lft_tree.specs.Tree.{Range, TimeTree, Written, Named, RefTree, ParameterTree, PortTree, TimerTree, ActionTree, TriggerTree, AtStartup, AtShutdown, OnRef, ReactionTree, AssignmentTree, InstanceTree, ConnectionTree, MemberTree, PortMember, TimerMember, ActionMember, StateMember, PreambleMember, ReactionMember, InstanceMember, ConnectionMember, ReactorTree, ItemTree, PreambleItem, ReactorItem, FileTree}
 use Rattle.lft_syntax.specs.Lexeme.{Lexeme, Code, Text, Letters, Number, Arrow, Symbol, name_in, number_in, unit_in}
 use Rattle.lft_syntax.specs.Language.{Spelling, token, one, ◌&◌, ◌>>◌, ◌<<◌, ◌or◌, optional, many, made, ignored, range, group}
-use Rattle.lft_tree.specs.Tree.{Range, TimeTree, Written, Named, RefTree, ParameterTree, PortTree, TimerTree, ActionTree, TriggerTree, AtStartup, AtShutdown, OnRef, ReactionTree, AssignmentTree, InstanceTree, ConnectionTree, MemberTree, PortMember, TimerMember, ActionMember, StateMember, PreambleMember, ReactionMember, InstanceMember, ConnectionMember, ReactorTree, ItemTree, PreambleItem, ReactorItem, FileTree}
 
 -- ---- tokens: a reserved word, a sign by its byte, a name, a number, a unit of time
 

@@ -1,9 +1,6 @@
 -- For the parser's own contracts. No public contract names these.
 use Rattle.std.specs.Prelude.{◌≡◌, ℕ, ◌+◌, ◌≤◌, List, [], ◌∷◌, codes, Option, Some, None, Result, Ok, Err}
-use Rattle.lft_syntax.specs.declared.input.Input.{Input}
-use Rattle.lft_syntax.specs.declared.parse_error.ParseError.{ParseError}
-use Rattle.lft_syntax.specs.Lexeme.{Lexeme}
-use Rattle.lft_syntax.specs.View.{lexemes, Fails}
+use Rattle.lft_syntax.specs.{declared.{input.Input.Input, parse_error.ParseError.ParseError}, Lexeme.Lexeme, View.{lexemes, Fails}}
 
 -- the tokens, as the grammar sees them
 abbrev pub words : Input → List Lexeme

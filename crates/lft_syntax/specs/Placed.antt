@@ -1,28 +1,14 @@
 -- Where the parts of a program's tree stand among the tokens of its text, which are counted from 0.
 use Rattle.std.specs.Prelude.{◌≡◌, ℕ, ◌+◌, List, [], ◌∷◌, codes, length, slice_get, string_bytes, option_map, Option, Some, None, IfSome, Bool, true, false, if◌then◌else◌}
-use Rattle.lft_tree.specs.declared.tree.TimeUnit.{TimeUnit}
-use Rattle.lft_tree.specs.declared.tree.TokenRange.{TokenRange}
-use Rattle.lft_tree.specs.declared.tree.TimeExpression.{TimeExpression}
-use Rattle.lft_tree.specs.declared.tree.TimeExpression.TheVariants as times
-use Rattle.lft_tree.specs.declared.tree.Reference.{Reference}
-use Rattle.lft_tree.specs.declared.tree.Parameter.{Parameter}
-use Rattle.lft_tree.specs.declared.tree.Port.{Port}
-use Rattle.lft_tree.specs.declared.tree.Timer.{Timer}
-use Rattle.lft_tree.specs.declared.tree.Action.{Action}
-use Rattle.lft_tree.specs.declared.tree.Trigger.{Trigger}
-use Rattle.lft_tree.specs.declared.tree.Trigger.TheVariants as triggers
-use Rattle.lft_tree.specs.declared.tree.Reaction.{Reaction}
-use Rattle.lft_tree.specs.declared.tree.Assignment.{Assignment}
-use Rattle.lft_tree.specs.declared.tree.Instance.{Instance}
-use Rattle.lft_tree.specs.declared.tree.Connection.{Connection}
-use Rattle.lft_tree.specs.declared.tree.Member.{Member}
-use Rattle.lft_tree.specs.declared.tree.Member.TheVariants as members
-use Rattle.lft_tree.specs.declared.tree.Reactor.{Reactor}
-use Rattle.lft_tree.specs.declared.tree.Item.{Item}
-use Rattle.lft_tree.specs.declared.tree.Item.TheVariants as items
+use Rattle.lft_tree.specs.declared.tree.{TimeUnit.TimeUnit, TokenRange.TokenRange, TimeExpression.TimeExpression, Reference.Reference, Parameter.Parameter}
+use Rattle.lft_tree.specs.declared.tree.{Port.Port, Timer.Timer, Action.Action, Trigger.Trigger, Reaction.Reaction, Assignment.Assignment, Instance.Instance}
+use Rattle.lft_tree.specs.declared.tree.{Connection.Connection, Member.Member, Reactor.Reactor, Item.Item}
 use Rattle.lft_tree.specs.View.{range_view, member_view}
-use Rattle.lft_syntax.specs.Lexeme.{Lexeme, Letters, Arrow, Symbol, is, is_name}
-use Rattle.lft_syntax.specs.Language.{many}
+use Rattle.lft_syntax.specs.{Lexeme.{Lexeme, Letters, Arrow, Symbol, is, is_name}, Language.many}
+use Rattle.lft_tree.specs.declared.tree.TimeExpression.TheVariants as times
+use Rattle.lft_tree.specs.declared.tree.Trigger.TheVariants as triggers
+use Rattle.lft_tree.specs.declared.tree.Member.TheVariants as members
+use Rattle.lft_tree.specs.declared.tree.Item.TheVariants as items
 use Rattle.lft_syntax.specs.Grammar as Grammar
 
 -- ---- how many tokens a part has

@@ -1,8 +1,7 @@
 -- What the parser sees of a token.
 use Rattle.std.specs.Prelude.{Option, Some, None, IsAscii}
-use Rattle.lft_syntax.specs.declared.input.Seen.{Seen}
+use Rattle.lft_syntax.specs.{declared.input.Seen.Seen, Lexeme.{Lexeme, Code, Text, Letters, Number, Arrow, Symbol}}
 use Rattle.lft_syntax.specs.declared.input.Seen.TheVariants as seen
-use Rattle.lft_syntax.specs.Lexeme.{Lexeme, Code, Text, Letters, Number, Arrow, Symbol}
 
 -- the token as the grammar has it: its kind, its letters or number or sign
 abbrev pub seen_as : Seen → Lexeme

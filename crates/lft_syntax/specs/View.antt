@@ -1,11 +1,9 @@
 -- What contracts see of the tokens of a text.
 use Rattle.std.specs.Prelude.{◌≡◌, ℕ, List, map, slice_range, Result, Ok, Err}
-use Rattle.lft_syntax.specs.declared.parse_error.ParseError.{ParseError}
-use Rattle.lft_syntax.specs.declared.parse_error.ParseError.TheVariants as errors
-use Rattle.lft_syntax.specs.declared.token.Token.{Token}
-use Rattle.lft_syntax.specs.declared.token.TokenKind.{TokenKind}
-use Rattle.lft_syntax.specs.declared.token.TokenKind.TheVariants as kinds
+use Rattle.lft_syntax.specs.declared.{parse_error.ParseError.ParseError, token.{Token.Token, TokenKind.TokenKind}}
 use Rattle.lft_syntax.specs.Lexeme.{Lexeme, Code, Text, Letters, Number, Arrow, Symbol}
+use Rattle.lft_syntax.specs.declared.parse_error.ParseError.TheVariants as errors
+use Rattle.lft_syntax.specs.declared.token.TokenKind.TheVariants as kinds
 
 abbrev pub lexeme_from : TokenKind → List ℕ → Lexeme
 lexeme_from kinds.Code bytes = Code

@@ -1,8 +1,7 @@
 //! The tokens of a text, one at a time.
 
 ghost use Rattle.std.specs.Prelude.{◌≡◌, ℕ, ◌≤◌, length, slice_get, slice_range, IsAscii, Some};
-ghost use Rattle.lft_syntax.specs.declared.token.Token.{Token};
-ghost use Rattle.lft_syntax.specs.declared.token.TokenKind.TheVariants.{Name};
+ghost use Rattle.lft_syntax.specs.declared.token.{Token.Token, TokenKind.TheVariants.Name};
 
 use crate::token::Token;
 use std::alloc::Global;

@@ -1,9 +1,7 @@
 //! The tokens of a text.
 
 ghost use Rattle.std.specs.Prelude.{◌≡◌, ◌<◌, ◌≤◌, ◌⊎◌, List, length, IfOk, IfErr, IfSome, IfNone, OnOk, Err};
-ghost use Rattle.lft_syntax.specs.declared.token.Token.{Token};
-ghost use Rattle.lft_syntax.specs.declared.fault.LexFault.TheVariants.{TooLong};
-ghost use Rattle.lft_syntax.specs.Lexes.{Lexes, LexFails, IsRefusedAt};
+ghost use Rattle.lft_syntax.specs.{declared.{token.Token.Token, fault.LexFault.TheVariants.TooLong}, Lexes.{Lexes, LexFails, IsRefusedAt}};
 
 use crate::fault::LexFault;
 use crate::piece::piece;

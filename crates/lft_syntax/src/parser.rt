@@ -1,16 +1,10 @@
 //! The parser: a function for each production, from a place to a value and the place after it.
 
 ghost use Rattle.std.specs.Prelude.{◌≡◌, ℕ, ◌<◌, ◌≤◌, ◌+◌, List, length, take, IfOk, Err, IsAscii, true, false};
+ghost use Rattle.lft_tree.specs.{Identifiers.HasIdentifiers, Tree.FileTree, View.tree_view};
+ghost use Rattle.lft_syntax.specs.{Lexes.Lexes, Lexeme.Lexeme, Grammar.{Spells, BeginsTree, CanFollow}, Seen.{seen_as, letters_ascii}};
+ghost use Rattle.lft_syntax.specs.{View.{lexemes, lexeme_from}, Placed.FileStands};
 ghost use Rattle.lft_syntax.specs.declared.fault.SyntaxFault as SyntaxFault;
-ghost use Rattle.lft_tree.specs.Identifiers.{HasIdentifiers};
-ghost use Rattle.lft_syntax.specs.Lexes.{Lexes};
-ghost use Rattle.lft_syntax.specs.Lexeme.{Lexeme};
-ghost use Rattle.lft_tree.specs.Tree.{FileTree};
-ghost use Rattle.lft_syntax.specs.Grammar.{Spells, BeginsTree, CanFollow};
-ghost use Rattle.lft_syntax.specs.Seen.{seen_as, letters_ascii};
-ghost use Rattle.lft_syntax.specs.View.{lexemes, lexeme_from};
-ghost use Rattle.lft_syntax.specs.Placed.{FileStands};
-ghost use Rattle.lft_tree.specs.View.{tree_view};
 
 mod declarations;
 mod file;

@@ -1,8 +1,6 @@
 -- What a comparison says of the numbers that it compared.
 use Rattle.std.proofs.Common.{◌≡◌, ◌⊎◌, inl, inr, ◌<◌, ℕ, refl, arith, false}
-use Rattle.std.specs.declared.cmp.Ordering.{Ordering}
-use Rattle.std.specs.declared.cmp.Ordering.TheVariants.{Less, Equal, Greater}
-use Rattle.std.specs.Ordering.{is_eq, nat_cmp, ordering_then}
+use Rattle.std.specs.{declared.cmp.Ordering.{Ordering, TheVariants.{Less, Equal, Greater}}, Ordering.{is_eq, nat_cmp, ordering_then}}
 use Rattle.std.proofs.lemmas.Bool.Decides.{nat_tests}
 
 pub less_nat : (a b : ℕ) → nat_cmp a b ≡ Less → a < b

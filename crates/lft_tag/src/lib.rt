@@ -90,8 +90,7 @@ impl Shift {
 
 impl Tag {
     ghost use Rattle.std.specs.Prelude.{SomeIff};
-    ghost use Rattle.lft_tag.specs.Tags.{Before, IsRecorded, after, after_all};
-    ghost use Rattle.lft_tag.specs.Shifts.{join_all, none, shifted};
+    ghost use Rattle.lft_tag.specs.{Tags.{Before, IsRecorded, after, after_all}, Shifts.{join_all, none, shifted}};
 
     /// The recorded tag of this time and microstep; None exactly past a limit of recorded tags.
     pub fn new(time: u64, micro: u32) -> Option<Tag>

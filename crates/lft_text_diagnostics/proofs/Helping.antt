@@ -1,15 +1,10 @@
 -- What is told behind the marked line.
 use Rattle.std.proofs.Common.{◌≡◌, ℕ, ◌≤◌, Bool, true, false, List, [], ◌++◌, append-nil, length, Option, None, refl, sym, ap, subst, ◌∙◌, arith, cond, inl}
 use Rattle.std.specs.Prelude.{nat_lt}
-use Rattle.std.specs.List.{All}
-use Rattle.std.proofs.lemmas.Bool.Decides.{nat_tests}
-use Rattle.std.proofs.lemmas.List.Elements.{All-nil, All-weaker}
+use Rattle.std.{specs.List.All, proofs.lemmas.{Bool.Decides.nat_tests, List.Elements.{All-nil, All-weaker}}}
 use Rattle.lft_ir.proofs.WordsLemmas.Steps.{also}
-use Rattle.lft_text_diagnostics.specs.Candidates.{CanStandAt, IsHelp, IsLeftOut, IsWholeHelp, could_words, few}
-use Rattle.lft_text_diagnostics.specs.Quotes.{way_words}
-use Rattle.lft_text_diagnostics.specs.Told.{IsToldAt, SaysAt}
-use Rattle.lft_text_diagnostics.specs.declared.refusal.Refusal.{Refusal}
-use Rattle.lft_text_diagnostics.specs.declared.thing.Thing.{Thing}
+use Rattle.lft_text_diagnostics.specs.{Candidates.{CanStandAt, IsHelp, IsLeftOut, IsWholeHelp, could_words, few}, Quotes.way_words, Told.{IsToldAt, SaysAt}}
+use Rattle.lft_text_diagnostics.specs.declared.{refusal.Refusal.Refusal, thing.Thing.Thing}
 
 -- ---- few things
 

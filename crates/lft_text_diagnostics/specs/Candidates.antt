@@ -1,15 +1,8 @@
 -- What can stand where a program's text is refused, and how it is listed.
 use Rattle.std.specs.Prelude.{◌≡◌, ℕ, ◌-◌, ◌⊎◌, List, [], ◌∷◌, ◌++◌, Option, codes, flat_map, if◌then◌else◌, length, nat_lt, take}
 use Rattle.std.specs.List.{All}
-use Rattle.lft_syntax.specs.declared.token.Token.{Token}
-use Rattle.lft_syntax.specs.Lexes.{Lexes}
-use Rattle.lft_syntax.specs.Lexeme.{Lexeme, Code, Letters, Number, Arrow, Symbol}
-use Rattle.lft_syntax.specs.Grammar.{CanFollow}
-use Rattle.lft_syntax.specs.View.{lexemes}
-use Rattle.lft_text_diagnostics.specs.Quotes.{way_words}
-use Rattle.lft_text_diagnostics.specs.declared.refusal.Why.{Why}
-use Rattle.lft_text_diagnostics.specs.declared.refusal.Why.TheVariants.{Lex, Token as AtToken, End}
-use Rattle.lft_text_diagnostics.specs.declared.thing.Thing.{Thing}
+use Rattle.lft_syntax.specs.{declared.token.Token.Token, Lexes.Lexes, Lexeme.{Lexeme, Code, Letters, Number, Arrow, Symbol}, Grammar.CanFollow, View.lexemes}
+use Rattle.lft_text_diagnostics.specs.{Quotes.way_words, declared.{refusal.Why.{Why, TheVariants.{Lex, Token as AtToken, End}}, thing.Thing.Thing}}
 use Rattle.lft_text_diagnostics.specs.declared.thing.Thing.TheVariants as thing
 
 -- What a thing is called.

@@ -1,7 +1,6 @@
 -- What stands in the code of a program's text.
 use Rattle.std.specs.Prelude.{◌≡◌, ℕ, ◌+◌, ◌<◌, ◌≤◌, List, IsSomeAnd, length, slice_get, slice_range}
-use Rattle.lft_syntax.specs.declared.token.Token.{Token}
-use Rattle.lft_syntax.specs.declared.token.TokenKind.TheVariants.{Code}
+use Rattle.lft_syntax.specs.declared.token.{Token.Token, TokenKind.TheVariants.Code}
 
 -- The word stands somewhere in these bytes.
 abbrev pub StandsIn : List ℕ → List ℕ → Type 0

@@ -1,11 +1,7 @@
 -- Where a byte of a program's text stands: in one of its files, or in the text as a whole.
 use Rattle.std.specs.Prelude.{◌≡◌, ◌⊎◌, ◌≤◌, ◌-◌, ◌++◌, ℕ, List, [], Option, Some, None, Contains, codes, decimal, length, min, slice_get, slice_range, string_bytes}
 use Rattle.std.specs.List.{All}
-use Rattle.lft_text_diagnostics.specs.Places.{IsPlace}
-use Rattle.lft_text_diagnostics.specs.Quotes.{marked_line, place_words}
-use Rattle.lft_text_diagnostics.specs.declared.pages.Page.{Page}
-use Rattle.lft_text_diagnostics.specs.declared.place.Place.{Place}
-use Rattle.lft_text_diagnostics.specs.declared.spots.Spot.{Spot}
+use Rattle.lft_text_diagnostics.specs.{Places.IsPlace, Quotes.{marked_line, place_words}, declared.{pages.Page.Page, place.Place.Place, spots.Spot.Spot}}
 
 -- The byte stands in the file, or at its end.
 abbrev pub HasByte : ℕ → Page → Type 0

@@ -1,12 +1,8 @@
 -- The words of a place of a text, and of the line that is quoted with a mark below it.
 use Rattle.std.specs.Prelude.{ℕ, Bool, ◌-◌, ◌==◌, ◌&&◌, not, if◌then◌else◌, nat_lt, nat_le, ◌||◌, List, [], ◌∷◌, ◌++◌, Option, Some, None, length, take, slice_range, count_by, flat_map, replicate, min, max, chars, codes, decimal}
-use Rattle.std.specs.Char.{is_control, is_ascii_whitespace, encode_utf8}
-use Rattle.std.specs.Char.Escape.{escape_unicode}
-use Rattle.std.specs.List.{suffix_len}
-use Rattle.std.specs.Str.Lossy.{utf8_lossy}
+use Rattle.std.specs.{Char.{is_control, is_ascii_whitespace, encode_utf8, Escape.escape_unicode}, List.suffix_len, Str.Lossy.utf8_lossy}
 use Rattle.lft_ir.specs.Words.Columns.{blanks}
-use Rattle.lft_text_diagnostics.specs.Places.{begins_letter}
-use Rattle.lft_text_diagnostics.specs.declared.place.Place.{Place}
+use Rattle.lft_text_diagnostics.specs.{Places.begins_letter, declared.place.Place.Place}
 
 -- A format character: U+200B to U+200F, U+2028 to U+202E, U+2060 to U+206F, U+FEFF, or from U+E0000 on.
 abbrev pub is_format : ℕ → Bool

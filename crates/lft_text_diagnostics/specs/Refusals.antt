@@ -2,14 +2,8 @@
 use Rattle.std.specs.Prelude.{◌≡◌, ◌⊎◌, ℕ, ◌+◌, ◌-◌, ◌++◌, ◌<◌, ◌≤◌, List, codes, length, take, slice_get, Some}
 use Rattle.std.specs.Str.Iter.{HasSubslice}
 use Rattle.lft_tree.specs.Tree.{FileTree}
-use Rattle.lft_syntax.specs.declared.token.Token.{Token}
-use Rattle.lft_syntax.specs.Lexes.{Lexes, LexFails, IsRefusedAt}
-use Rattle.lft_syntax.specs.Lexeme.{Lexeme}
-use Rattle.lft_syntax.specs.Grammar.{Spells}
-use Rattle.lft_syntax.specs.View.{lexemes}
-use Rattle.lft_text_diagnostics.specs.declared.refusal.Why.{Why}
-use Rattle.lft_text_diagnostics.specs.declared.refusal.Why.TheVariants.{Lex, Token as AtToken, End}
-use Rattle.lft_text_diagnostics.specs.declared.refusal.Refusal.{Refusal}
+use Rattle.lft_syntax.specs.{declared.token.Token.Token, Lexes.{Lexes, LexFails, IsRefusedAt}, Lexeme.Lexeme, Grammar.Spells, View.lexemes}
+use Rattle.lft_text_diagnostics.specs.declared.refusal.{Why.{Why, TheVariants.{Lex, Token as AtToken, End}}, Refusal.Refusal}
 
 -- These are the tokens of the text, and no tree begins with so many of them.
 pub record HasNoTree (t : List ℕ) (tokens : List Token) (number : ℕ) : Type 0 where

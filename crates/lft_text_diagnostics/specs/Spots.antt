@@ -1,11 +1,9 @@
 -- The bytes of a text at which a part of its tree stands.
 use Rattle.std.specs.Prelude.{ℕ, ◌+◌, List, Option, Some, None, slice_get}
-use Rattle.lft_tree.specs.declared.tree.Reactor.{Reactor}
-use Rattle.lft_tree.specs.declared.tree.Reference.{Reference}
-use Rattle.lft_tree.specs.declared.tree.TimeExpression.{TimeExpression}
-use Rattle.lft_tree.specs.declared.tree.TimeExpression.TheVariants as times
+use Rattle.lft_tree.specs.declared.tree.{Reactor.Reactor, Reference.Reference, TimeExpression.TimeExpression}
 use Rattle.lft_syntax.specs.declared.token.Token.{Token}
 use Rattle.lft_text_diagnostics.specs.declared.spots.Spot.{Spot}
+use Rattle.lft_tree.specs.declared.tree.TimeExpression.TheVariants as times
 
 -- The bytes from the start of the one token up to the end of the other, if both are there.
 abbrev pub span_of : Option Token → Option Token → Option Spot

@@ -1,17 +1,11 @@
 -- What is told of a program's text that has no tree.
 use Rattle.std.specs.Prelude.{◌≡◌, ℕ, ◌⊎◌, ◌++◌, List, codes, decimal, if◌then◌else◌, length, nat_lt, slice_range}
-use Rattle.lft_syntax.specs.declared.fault.LexFault.{LexFault}
-use Rattle.lft_syntax.specs.declared.fault.LexFault.TheVariants as fault
-use Rattle.lft_syntax.specs.declared.token.TokenKind.{TokenKind}
-use Rattle.lft_syntax.specs.declared.token.TokenKind.TheVariants as kind
-use Rattle.lft_text_diagnostics.specs.Candidates.{CanStandAt, IsWholeHelp}
-use Rattle.lft_text_diagnostics.specs.Places.{IsPlace}
-use Rattle.lft_text_diagnostics.specs.Quotes.{marked_line, place_words, quoted}
+use Rattle.lft_syntax.specs.declared.{fault.LexFault.LexFault, token.TokenKind.TokenKind}
+use Rattle.lft_text_diagnostics.specs.{Candidates.{CanStandAt, IsWholeHelp}, Places.IsPlace, Quotes.{marked_line, place_words, quoted}}
 use Rattle.lft_text_diagnostics.specs.Refusals.{IsLong, IsRefusal}
-use Rattle.lft_text_diagnostics.specs.declared.place.Place.{Place}
-use Rattle.lft_text_diagnostics.specs.declared.refusal.Refusal.{Refusal}
-use Rattle.lft_text_diagnostics.specs.declared.refusal.Why.{Why}
-use Rattle.lft_text_diagnostics.specs.declared.refusal.Why.TheVariants.{Lex, Token, End}
+use Rattle.lft_text_diagnostics.specs.declared.{place.Place.Place, refusal.{Refusal.Refusal, Why.{Why, TheVariants.{Lex, Token, End}}}}
+use Rattle.lft_syntax.specs.declared.fault.LexFault.TheVariants as fault
+use Rattle.lft_syntax.specs.declared.token.TokenKind.TheVariants as kind
 
 -- What is said of a place from which on a text has no tokens.
 abbrev pub fault_words : LexFault → List ℕ

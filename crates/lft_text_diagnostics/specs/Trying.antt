@@ -1,9 +1,7 @@
 -- For the crate's own contracts: what stands before a token that is refused.
 use Rattle.std.specs.Prelude.{◌≤◌, length}
 use Rattle.lft_syntax.specs.Lexes.{Lexes}
-use Rattle.lft_text_diagnostics.specs.Candidates.{CanStand}
-use Rattle.lft_text_diagnostics.specs.declared.before.Before.{Before}
-use Rattle.lft_text_diagnostics.specs.declared.thing.Thing.{Thing}
+use Rattle.lft_text_diagnostics.specs.{Candidates.CanStand, declared.{before.Before.Before, thing.Thing.Thing}}
 
 -- They are the tokens of the text, and it has as many as are counted.
 abbrev pub AreTokens : Before → Type 0

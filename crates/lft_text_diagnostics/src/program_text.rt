@@ -1,10 +1,8 @@
 //! Why a program's text is refused, for people.
 
 ghost use Rattle.std.specs.Prelude.{◌≡◌, ◌≢◌, ℕ, ◌+◌, ◌<◌, ◌≤◌, ◌++◌, List, flat_map, length, string_bytes, IfOk, IfSome, OnOk};
-ghost use Rattle.lft_syntax.specs.declared.fault.LexFault.TheVariants.{NoMemory as LexNoMemory};
-ghost use Rattle.lft_syntax.specs.Lexes.{LexFails, Lexes};
-ghost use Rattle.lft_text_diagnostics.specs.Candidates.{IsHelp, IsWholeHelp, could_words, few, other_words};
-ghost use Rattle.lft_text_diagnostics.specs.Refusals.{HasNoTree, IsRefusedFrom, MayHelp};
+ghost use Rattle.lft_syntax.specs.{declared.fault.LexFault.TheVariants.NoMemory as LexNoMemory, Lexes.{LexFails, Lexes}};
+ghost use Rattle.lft_text_diagnostics.specs.{Candidates.{IsHelp, IsWholeHelp, could_words, few, other_words}, Refusals.{HasNoTree, IsRefusedFrom, MayHelp}};
 ghost use Rattle.lft_text_diagnostics.specs.Trying.{AreTokens, CanStandBehind};
 ghost use Rattle.lft_text_diagnostics.specs.Told.{SaysAt, TellsProgram, fault_words, long_words as words_of_long, sentence, spelled, token_words};
 

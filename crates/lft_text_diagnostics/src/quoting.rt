@@ -1,8 +1,7 @@
 //! A place of a program's text for people: its line and column, and the line with a mark.
 
 ghost use Rattle.std.specs.Prelude.{◌≡◌, ◌≤◌, ◌++◌, OnOk, length, min, string_bytes};
-ghost use Rattle.lft_text_diagnostics.specs.Places.{IsPlace};
-ghost use Rattle.lft_text_diagnostics.specs.Quotes.{blank_margin, blanks_below, margin, marked_line, marks, place_words, quoted, trimmed};
+ghost use Rattle.lft_text_diagnostics.specs.{Places.IsPlace, Quotes.{blank_margin, blanks_below, margin, marked_line, marks, place_words, quoted, trimmed}};
 
 use crate::place::Place;
 use crate::words::{

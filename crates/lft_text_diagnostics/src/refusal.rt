@@ -1,11 +1,8 @@
 //! Why a program's text has no tree, and where it is refused.
 
 ghost use Rattle.std.specs.Prelude.{◌≢◌, ◌-◌, ◌<◌, ◌≤◌, length, IfSome, IfNone};
-ghost use Rattle.lft_syntax.specs.declared.fault.LexFault.TheVariants.{NoMemory as LexNoMemory};
-ghost use Rattle.lft_syntax.specs.Lexes.{LexFails};
-ghost use Rattle.lft_text_diagnostics.specs.Candidates.{CanStand, CanStandAt};
-ghost use Rattle.lft_text_diagnostics.specs.Refusals.{HasNoTree, IsLong, IsRefusal};
-ghost use Rattle.lft_text_diagnostics.specs.declared.thing.Thing.{Thing};
+ghost use Rattle.lft_syntax.specs.{declared.fault.LexFault.TheVariants.NoMemory as LexNoMemory, Lexes.LexFails};
+ghost use Rattle.lft_text_diagnostics.specs.{Candidates.{CanStand, CanStandAt}, Refusals.{HasNoTree, IsLong, IsRefusal}, declared.thing.Thing.Thing};
 
 use lft_syntax::{LexFault, TokenKind, Tokens, refused_at};
 

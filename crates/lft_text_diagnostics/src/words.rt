@@ -1,8 +1,7 @@
 //! Pieces of the text that tells of a refusal.
 
 ghost use Rattle.std.specs.Prelude.{◌≡◌, ◌++◌, IfOk, OnOk, flat_map, option_map, string_bytes};
-ghost use Rattle.std.specs.Char.{encode_utf8};
-ghost use Rattle.std.specs.Char.Escape.{escape_unicode};
+ghost use Rattle.std.specs.Char.{encode_utf8, Escape.escape_unicode};
 ghost use Rattle.lft_text_diagnostics.specs.Quotes.{blank_below, blank_margin, blanks_below, is_format as is_of_format, margin, marks, quoted, shown, way_words};
 
 use crate::place::{begins_letter, letters};

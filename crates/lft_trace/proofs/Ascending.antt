@@ -1,12 +1,9 @@
 -- Ascending lists of events with the same members are one.
 use Rattle.std.proofs.Common.{◌≡◌, ◌∙◌, ◌⊎◌, inl, inr, ◌<◌, suc, List, [], ◌∷◌, length, get_or, refl, sym, ap, subst, arith}
 use Rattle.std.proofs.lemmas.Option.{slice_get_within, get_or_from_slice_get}
-use Rattle.lft_tag.specs.declared.Tag.{Tag}
-use Rattle.lft_tag.specs.Tags.{Before}
-use Rattle.lft_trace.specs.ExternalTables.{Has}
-use Rattle.lft_ir.specs.Steps.Inputs.{InOrder}
-use Rattle.lft_ir.specs.declared.steps.externals.Event.{Event}
-use Rattle.lft_trace.proofs.EventFacts.{has_cons, has_head, has_none, has_tail}
+use Rattle.lft_tag.specs.{declared.Tag.Tag, Tags.Before}
+use Rattle.lft_trace.{specs.ExternalTables.Has, proofs.EventFacts.{has_cons, has_head, has_none, has_tail}}
+use Rattle.lft_ir.specs.{Steps.Inputs.InOrder, declared.steps.externals.Event.Event}
 
 abbrev Follows : Event → Event → Type 0
 Follows x y = Before x.tag y.tag ⊎ ((x.tag ≡ y.tag) × (x.action < y.action))

@@ -1,16 +1,9 @@
 -- A text whose first lines are read, and what stands behind them.
 use Rattle.std.proofs.Common.{◌≡◌, ◌++◌, ◌∙◌, inl, inr, ℕ, List, [], refl, sym, ap, subst}
-use Rattle.std.specs.List.{AllZip}
-use Rattle.std.proofs.lemmas.List.{append_assoc, append-nil}
-use Rattle.csv.specs.Machine.{next_record}
-use Rattle.csv.specs.Reading.{records_from, strip_bom}
-use Rattle.lft_ir.specs.Parts.{Parts}
-use Rattle.lft_trace.specs.Records.{records_of}
-use Rattle.lft_trace.specs.Traces.{IsRow}
-use Rattle.lft_ir.specs.declared.steps.row.Row.{Row}
-use Rattle.lft_trace.specs.Parts.{BeginsWith, HoldsRows, IsCut}
-use Rattle.lft_trace.proofs.Cutting.{records_cut}
-use Rattle.lft_trace.proofs.Together.{zipped}
+use Rattle.std.{specs.List.AllZip, proofs.lemmas.List.{append_assoc, append-nil}}
+use Rattle.csv.specs.{Machine.next_record, Reading.{records_from, strip_bom}}
+use Rattle.lft_ir.specs.{Parts.Parts, declared.steps.row.Row.Row}
+use Rattle.lft_trace.{specs.{Records.records_of, Traces.IsRow, Parts.{BeginsWith, HoldsRows, IsCut}}, proofs.{Cutting.records_cut, Together.zipped}}
 
 -- a text without bytes has no record
 pub no_record : records_of [] ≡ []

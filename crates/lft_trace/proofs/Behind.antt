@@ -1,10 +1,8 @@
 -- A text whose batches are read one after another.
 use Rattle.std.proofs.Common.{◌≡◌, ◌++◌, ℕ, List}
 use Rattle.std.proofs.lemmas.List.{append_assoc}
-use Rattle.lft_ir.specs.Parts.{Parts}
-use Rattle.lft_ir.specs.declared.steps.row.Row.{Row}
-use Rattle.lft_trace.specs.Parts.{EndsLine, BeginsPlain, HoldsRows}
-use Rattle.lft_trace.proofs.Together.{holds_both}
+use Rattle.lft_ir.specs.{Parts.Parts, declared.steps.row.Row.Row}
+use Rattle.lft_trace.{specs.Parts.{EndsLine, BeginsPlain, HoldsRows}, proofs.Together.holds_both}
 
 -- the text holds these rows and behind them those of its rest, whichever they are
 abbrev pub GoesOn : Parts → List ℕ → List Row → List ℕ → Type 0

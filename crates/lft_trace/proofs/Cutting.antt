@@ -2,15 +2,11 @@
 use Rattle.std.proofs.Common.{◌≡◌, ◌≢◌, ◌∙◌, ◌∷◌, ◌++◌, [], ℕ, List, Some, Bool, true, false, refl, sym, ap, subst, arith, zero, suc, inl, inr}
 use Rattle.std.specs.Prelude.{◌==◌, ◌||◌, if◌then◌else◌, slice_get}
 use Rattle.std.proofs.lemmas.Bool.{cases_Bool, false≢true}
-use Rattle.csv.specs.Machine.{after_end, step, in_field, start_field, start_record}
-use Rattle.csv.specs.Reading.{default_config, records, strip_bom, is_bom}
-use Rattle.csv.specs.declared.parser.State.{State}
+use Rattle.csv.specs.{Machine.{after_end, step, in_field, start_field, start_record}, Reading.{default_config, records, strip_bom, is_bom}}
+use Rattle.csv.specs.declared.parser.{State.State, Action.Action}
+use Rattle.lft_trace.{specs.{Records.records_of, Parts.{HasNoQuote, EndsLine, BeginsPlain}}, proofs.Joining.{LeadsToStart, records_joined}}
 use Rattle.csv.specs.declared.parser.State.TheVariants as st
-use Rattle.csv.specs.declared.parser.Action.{Action}
 use Rattle.csv.specs.declared.parser.Action.TheVariants as act
-use Rattle.lft_trace.specs.Records.{records_of}
-use Rattle.lft_trace.specs.Parts.{HasNoQuote, EndsLine, BeginsPlain}
-use Rattle.lft_trace.proofs.Joining.{LeadsToStart, records_joined}
 
 -- the states that bytes without a quotation mark lead to
 abbrev is_plain : State → Bool

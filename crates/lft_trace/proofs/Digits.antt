@@ -1,13 +1,8 @@
 -- Reading a number digit by digit.
 use Rattle.std.proofs.Common.{◌≡◌, ℕ, suc, ◌+◌, ◌-◌, ◌*◌, ◌^◌, ◌<◌, ◌≤◌, List, [], ◌∷◌, length, get_or, drop, Bool, true, false, Option, Some, None, refl, arith, rules, add-one, nat_le}
 use Rattle.std.specs.Prelude.{◌&&◌, if◌then◌else◌}
-use Rattle.std.specs.Char.{is_ascii_digit}
-use Rattle.std.specs.List.{list_all}
-use Rattle.std.proofs.Math.Nat.{pow-le-pow_right, pow-suc}
-use Rattle.std.proofs.Math.Seq.{drop-cons}
-use Rattle.std.proofs.Math.ListN.{drop_of_length-le}
-use Rattle.std.proofs.lemmas.Bool.{lt-leb}
-use Rattle.std.proofs.lemmas.Bool.Decides.{nat_tests}
+use Rattle.std.specs.{Char.is_ascii_digit, List.list_all}
+use Rattle.std.proofs.{Math.{Nat.{pow-le-pow_right, pow-suc}, Seq.drop-cons, ListN.drop_of_length-le}, lemmas.Bool.{lt-leb, Decides.nat_tests}}
 use Rattle.lft_trace.specs.Numbers.{digits_after, number}
 
 -- what the digits that are left make of the number so far

@@ -2,15 +2,11 @@
 use Rattle.std.proofs.Common.{◌≡◌, ◌≢◌, ◌∙◌, ℕ, List, [], length, get_or, true, false, Some, refl, sym, ap}
 use Rattle.std.specs.Prelude.{codes, if◌then◌else◌}
 use Rattle.std.specs.Str.{bytes_eq}
-use Rattle.lft_ir.specs.Names.{AreDistinct}
-use Rattle.lft_ir.specs.Parts.{Parts}
-use Rattle.lft_ir.specs.declared.found.Found.TheVariants as found
+use Rattle.lft_ir.specs.{Names.AreDistinct, Parts.Parts, declared.steps.externals.Event.Event}
 use Rattle.lft_tag.specs.declared.Tag.{Tag}
 use Rattle.lft_trace.specs.ExternalTables.{ExternalFields, IsEntry, IsOf, IsOfKind, IsPhysical, IsTag, IsUnknown, has_numbers, in_order, is_filled, word}
-use Rattle.lft_trace.specs.declared.external_table.Entry.{Entry}
-use Rattle.lft_trace.specs.declared.external_table.Entry.TheVariants.{Happens, Stops}
-use Rattle.lft_ir.specs.declared.steps.externals.Event.{Event}
-use Rattle.lft_trace.specs.declared.kind.EntryKind.{EntryKind}
+use Rattle.lft_trace.specs.declared.{external_table.Entry.{Entry, TheVariants.{Happens, Stops}}, kind.EntryKind.EntryKind}
+use Rattle.lft_ir.specs.declared.found.Found.TheVariants as found
 use Rattle.lft_trace.specs.declared.kind.EntryKind.TheVariants as kind
 
 -- the fields by their places

@@ -1,25 +1,13 @@
 -- Entries of a map of events: what an insertion adds, and their order.
 use Rattle.std.proofs.Common.{◌≡◌, ◌∙◌, ◌⊎◌, inl, inr, ◌<◌, ℕ, zero, suc, List, [], ◌∷◌, length, map, get_or, Option, Some, None, slice_get, refl, sym, ap, subst, arith, cond}
-use Rattle.std.specs.BTreeMap.{insert_entry, is_at}
-use Rattle.std.specs.List.{AllByRecursion}
-use Rattle.std.specs.List.Sorted.{IsPermutation, IsStrictlySortedBy}
-use Rattle.std.proofs.lemmas.List.Sorted.{IsPermutation-cons, IsPermutation-middle, IsPermutation-refl, IsPermutation-sym, IsPermutation-trans}
-use Rattle.std.specs.Map.{keys_of, lookup}
-use Rattle.std.specs.declared.cmp.Ordering.{Ordering}
-use Rattle.std.specs.declared.cmp.Ordering.TheVariants.{Less, Equal, Greater}
-use Rattle.std.specs.Ordering.{is_eq, match_ordering, nat_cmp, ordering_then}
-use Rattle.std.proofs.lemmas.Bool.Decides.{nat_tests}
-use Rattle.std.proofs.lemmas.Map.Entries.{place_from_lookup}
-use Rattle.lft_ir.specs.declared.parts.Value.{Value}
-use Rattle.lft_trace.specs.ExternalTables.{Clash, Has}
-use Rattle.lft_tag.specs.declared.Tag.{Tag}
-use Rattle.lft_tag.specs.Tags.{Before}
-use Rattle.lft_ir.specs.Steps.Inputs.{InOrder}
-use Rattle.lft_trace.specs.Keys.{event_at}
-use Rattle.lft_ir.specs.declared.steps.externals.Event.{Event}
-use Rattle.lft_tag.proofs.Comparing.{less_nat, less_then, both_equal}
-use Rattle.std.proofs.lemmas.Map.Lookups.{exact_unsigned}
+use Rattle.std.specs.{BTreeMap.{insert_entry, is_at}, List.{AllByRecursion, Sorted.{IsPermutation, IsStrictlySortedBy}}, Map.{keys_of, lookup}}
+use Rattle.std.specs.{declared.cmp.Ordering.{Ordering, TheVariants.{Less, Equal, Greater}}, Ordering.{is_eq, match_ordering, nat_cmp, ordering_then}}
 use Rattle.std.specs.Cmp.{Equal-is}
+use Rattle.std.proofs.lemmas.List.Sorted.{IsPermutation-cons, IsPermutation-middle, IsPermutation-refl, IsPermutation-sym, IsPermutation-trans}
+use Rattle.std.proofs.lemmas.{Bool.Decides.nat_tests, Map.{Entries.place_from_lookup, Lookups.exact_unsigned}}
+use Rattle.lft_ir.specs.{declared.{parts.Value.Value, steps.externals.Event.Event}, Steps.Inputs.InOrder}
+use Rattle.lft_trace.specs.{ExternalTables.{Clash, Has}, Keys.event_at}
+use Rattle.lft_tag.{specs.{declared.Tag.Tag, Tags.Before}, proofs.Comparing.{less_nat, less_then, both_equal}}
 
 abbrev pub Key : Type 0
 Key = ℕ × ℕ × ℕ

@@ -1,18 +1,12 @@
 -- Events that come in order.
 use Rattle.std.proofs.Common.{◌≡◌, ◌∙◌, ℕ, ◌+◌, ◌-◌, ◌<◌, ◌≤◌, inl, inr, List, [], ◌∷◌, ◌++◌, length, get_or, slice_get, take, Bool, true, false, Some, refl, sym, ap, subst, arith, ⊎_elim}
-use Rattle.std.proofs.Math.ListN.{get_or-append}
-use Rattle.std.proofs.Math.Seq.{get_or-append_seam}
-use Rattle.std.proofs.lemmas.Bool.{cases_lt}
-use Rattle.std.proofs.lemmas.List.{get_or-take, get_or_default, length-append, length-take-le, take_more}
-use Rattle.std.specs.List.Sorted.{IsPermutation}
-use Rattle.std.proofs.lemmas.List.Sorted.{IsPermutation-push_more}
+use Rattle.std.proofs.Math.{ListN.get_or-append, Seq.get_or-append_seam}
+use Rattle.std.proofs.lemmas.{Bool.cases_lt, List.{get_or-take, get_or_default, length-append, length-take-le, take_more, Sorted.IsPermutation-push_more}}
 use Rattle.std.proofs.lemmas.Option.{get_or_from_slice_get, slice_get-get_or, slice_get_within}
+use Rattle.std.specs.List.Sorted.{IsPermutation}
 use Rattle.lft_tag.proofs.Order.{Before-trans}
-use Rattle.lft_trace.specs.ExternalTables.{Clash, Has}
-use Rattle.lft_ir.specs.Steps.Inputs.{ComesBefore, InOrder}
-use Rattle.lft_ir.specs.declared.steps.externals.Event.{Event}
-use Rattle.lft_trace.proofs.Ascending.{not_itself}
-use Rattle.lft_trace.proofs.Members.{has_permuted_back}
+use Rattle.lft_trace.{specs.ExternalTables.{Clash, Has}, proofs.{Ascending.not_itself, Members.has_permuted_back}}
+use Rattle.lft_ir.specs.{Steps.Inputs.{ComesBefore, InOrder}, declared.steps.externals.Event.Event}
 
 -- events of one action at one tag come in no order
 pub no_clash : (x y : Event) → ComesBefore x y → Clash x y → ⊥

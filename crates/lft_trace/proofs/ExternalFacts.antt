@@ -1,24 +1,16 @@
 -- What one more record does to a table of external inputs.
 use Rattle.std.proofs.Common.{◌≡◌, ◌∙◌, inl, inr, ◌≤◌, ◌++◌, ℕ, List, [], ◌∷◌, length, Option, Some, None, filter_map, refl, sym, ap, subst, arith, append-nil}
 use Rattle.std.specs.Prelude.{option_to_list}
-use Rattle.std.specs.List.Sorted.{IsPermutation}
-use Rattle.std.proofs.lemmas.List.Elements.{filter_map-append}
-use Rattle.std.proofs.lemmas.List.Sorted.{IsPermutation-push_more, IsPermutation-refl}
+use Rattle.std.{specs.List.Sorted.IsPermutation, proofs.lemmas.List.{Elements.filter_map-append, Sorted.{IsPermutation-push_more, IsPermutation-refl}}}
 use Rattle.csv.specs.Records.{fields_of}
-use Rattle.lft_ir.specs.Parts.{Parts}
+use Rattle.lft_ir.specs.{Parts.Parts, Steps.Inputs.{ExternalInputs, InOrder}, declared.steps.externals.Event.Event}
 use Rattle.lft_tag.specs.declared.Tag.{Tag}
 use Rattle.lft_trace.specs.ExternalTables.{AreApart, ExternalFails, ExternalTable, FaultAt, IsEntry, event_of, external_tables, header, stop_of}
-use Rattle.lft_ir.specs.Steps.Inputs.{ExternalInputs, InOrder}
-use Rattle.lft_trace.specs.Records.{IsNext, IsPast, IsUnread, records_left, records_of}
-use Rattle.lft_trace.specs.SeenExternals.{Keeps, Refuses}
-use Rattle.lft_trace.specs.declared.external_table.Entry.{Entry}
-use Rattle.lft_trace.specs.declared.external_table.Entry.TheVariants.{Happens, Stops}
-use Rattle.lft_ir.specs.declared.steps.externals.Event.{Event}
-use Rattle.lft_trace.specs.declared.fault.TraceFault.{TraceFault}
-use Rattle.lft_trace.specs.declared.fault.TraceFault.TheVariants as fault
-use Rattle.lft_trace.specs.declared.records.Records.{Records}
+use Rattle.lft_trace.specs.{Records.{IsNext, IsPast, IsUnread, records_left, records_of}, SeenExternals.{Keeps, Refuses}}
+use Rattle.lft_trace.specs.declared.{external_table.Entry.{Entry, TheVariants.{Happens, Stops}}, fault.TraceFault.TraceFault, records.Records.Records}
 use Rattle.lft_trace.proofs.Members.{apart_pushed, has_permuted, has_permuted_back}
 use Rattle.lft_trace.proofs.TableFacts.{Read, Texts, bad as bad_record, ended as all_read, one_more as read_more, past as past_last, start as first}
+use Rattle.lft_trace.specs.declared.fault.TraceFault.TheVariants as fault
 
 -- what is read up to a line: the header and the records of some entries, their stop, if any, and their events
 pub record Gathered (program : Parts) (records : Texts) (stop : Option Tag) (events : List Event) (r : Records) : Type 0 where

@@ -1,29 +1,15 @@
 -- Records have one table of external inputs, or a fault, and what a table holds fits its program.
 use Rattle.std.proofs.Common.{◌≡◌, ◌≢◌, ◌∙◌, inl, inr, ◌<◌, ◌≤◌, ◌++◌, ℕ, zero, suc, List, [], ◌∷◌, length, filter_map, Some, slice_get, refl, sym, ap, subst, arith}
-use Rattle.std.specs.List.Sorted.{IsPermutation}
-use Rattle.std.proofs.lemmas.List.Elements.{filter_map-append}
-use Rattle.std.proofs.lemmas.List.Sorted.{length_permutation}
-use Rattle.std.proofs.lemmas.Option.{slice_get_within}
-use Rattle.lft_ir.specs.Parts.{Parts}
-use Rattle.lft_ir.specs.Sound.{IsSound}
-use Rattle.lft_tag.specs.declared.Tag.{Tag}
-use Rattle.lft_tag.specs.Tags.{IsRecorded}
+use Rattle.std.{specs.List.Sorted.IsPermutation, proofs.lemmas.{List.{Elements.filter_map-append, Sorted.length_permutation}, Option.slice_get_within}}
+use Rattle.lft_ir.specs.{Parts.Parts, Sound.IsSound, Steps.{Fits.{EventFits, ExternalsFit}, Inputs.ExternalInputs}, declared.steps.externals.Event.Event}
+use Rattle.lft_tag.specs.{declared.Tag.Tag, Tags.IsRecorded}
 use Rattle.lft_trace.specs.ExternalTables.{ExternalFails, ExternalFields, ExternalTable, FaultAt, Has, IsEntry, IsOfKind, IsTag, event_of, external_tables, stop_of}
-use Rattle.lft_ir.specs.Steps.Fits.{EventFits, ExternalsFit}
-use Rattle.lft_ir.specs.Steps.Inputs.{ExternalInputs}
-use Rattle.lft_trace.specs.declared.external_table.Entry.{Entry}
-use Rattle.lft_trace.specs.declared.external_table.Entry.TheVariants.{Happens, Stops}
-use Rattle.lft_ir.specs.declared.steps.externals.Event.{Event}
-use Rattle.lft_trace.specs.declared.fault.TraceFault.{TraceFault}
-use Rattle.lft_trace.specs.declared.fault.TraceFault.TheVariants as fault
-use Rattle.lft_trace.specs.declared.kind.EntryKind.{EntryKind}
-use Rattle.lft_trace.specs.declared.kind.EntryKind.TheVariants as kind
-use Rattle.lft_trace.proofs.Ascending.{same_events}
-use Rattle.lft_trace.proofs.EntriesDiffer.{count_there, empty_there, kind_there, name_there, number_there, one_entry}
-use Rattle.lft_trace.proofs.Members.{at_front, at_middle, has_permuted, has_permuted_back}
-use Rattle.lft_trace.proofs.TableFacts.{Texts, holds_no_fault, one_reading}
-use Rattle.lft_trace.proofs.TraceFacts.{within}
+use Rattle.lft_trace.specs.declared.{external_table.Entry.{Entry, TheVariants.{Happens, Stops}}, fault.TraceFault.TraceFault, kind.EntryKind.EntryKind}
+use Rattle.lft_trace.proofs.{Ascending.same_events, EntriesDiffer.{count_there, empty_there, kind_there, name_there, number_there, one_entry}}
+use Rattle.lft_trace.proofs.{Members.{at_front, at_middle, has_permuted, has_permuted_back}, TableFacts.{Texts, holds_no_fault, one_reading}, TraceFacts.within}
 use Rattle.lft_lists.proofs.Zips.{behind}
+use Rattle.lft_trace.specs.declared.fault.TraceFault.TheVariants as fault
+use Rattle.lft_trace.specs.declared.kind.EntryKind.TheVariants as kind
 
 same_inputs : (a b : ExternalInputs) → a.stop ≡ b.stop → a.events ≡ b.events → a ≡ b
 same_inputs a b s e = λ i. record { stop = s i; events = e i }

@@ -4,13 +4,10 @@ use Rattle.std.specs.Prelude.{⊤}
 use Rattle.std.proofs.lemmas.Bool.{cases_Bool}
 use Rattle.csv.specs.Machine.{Read, next_record, step, is_end, fields_after, field_after, ends_at_end}
 use Rattle.csv.specs.Reading.{Reached, ReadRecord, Ready, default_config, records_from, records_next}
-use Rattle.csv.specs.declared.parser.Config.{Config}
-use Rattle.csv.specs.declared.parser.State.{State}
-use Rattle.csv.specs.declared.parser.State.TheVariants as st
-use Rattle.csv.specs.declared.reader.Reader.{Reader}
+use Rattle.csv.specs.declared.{parser.{Config.Config, State.State}, reader.Reader.Reader}
 use Rattle.csv.proofs.ReadFacts.{rows-more, rows-end}
-use Rattle.lft_trace.specs.Records.{IsPlain, records_left}
-use Rattle.lft_trace.specs.declared.records.Records.{Records}
+use Rattle.lft_trace.specs.{Records.{IsPlain, records_left}, declared.records.Records.Records}
+use Rattle.csv.specs.declared.parser.State.TheVariants as st
 
 -- a record takes a byte, or is the last one
 abbrev pub Shorter : List ℕ → Option Read → Type 0

@@ -3,12 +3,10 @@ use Rattle.std.proofs.Common.{◌≡◌, ◌∙◌, ◌+◌, ◌<◌, ◌∷◌,
 use Rattle.std.specs.Prelude.{◌==◌, ◌||◌, if◌then◌else◌}
 use Rattle.std.proofs.lemmas.Bool.{cases_Bool, false≢true}
 use Rattle.csv.specs.Machine.{Read, next_record, after_end, step, in_field, start_field, start_record, is_end, fields_after, field_after}
-use Rattle.csv.specs.Reading.{default_config, records, records_from}
-use Rattle.csv.specs.declared.parser.State.{State}
-use Rattle.csv.specs.declared.parser.State.TheVariants as st
-use Rattle.csv.specs.declared.parser.Action.{Action}
-use Rattle.csv.specs.declared.parser.Action.TheVariants as act
+use Rattle.csv.specs.{Reading.{default_config, records, records_from}, declared.parser.{State.State, Action.Action}}
 use Rattle.lft_trace.proofs.Fuel.{one-more, no-more, at-end, Shorter, next-shorter}
+use Rattle.csv.specs.declared.parser.State.TheVariants as st
+use Rattle.csv.specs.declared.parser.Action.TheVariants as act
 
 -- from the state, the bytes lead to where a record begins
 unfoldable pub LeadsToStart : State → List ℕ → Type 0

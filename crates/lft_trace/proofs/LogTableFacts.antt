@@ -1,32 +1,15 @@
 -- What one more record does to rows with external inputs among them, and that what is read fits its program.
 use Rattle.std.proofs.Common.{◌≡◌, ◌∙◌, ◌+◌, ◌≤◌, ◌++◌, ℕ, zero, suc, List, [], ◌∷◌, length, filter_map, Some, true, false, slice_get, refl, sym, ap, arith, append_assoc, append-nil, length-append}
-use Rattle.std.specs.List.{AllZip}
-use Rattle.std.proofs.lemmas.List.Elements.{All-cons, All-nil, filter_map-append}
-use Rattle.std.proofs.lemmas.Slice.Zip.{all_zipped_more}
+use Rattle.std.{specs.List.AllZip, proofs.lemmas.{List.Elements.{All-cons, All-nil, filter_map-append}, Slice.Zip.all_zipped_more}}
 use Rattle.csv.specs.Records.{fields_of}
-use Rattle.lft_ir.specs.Parts.{Parts}
-use Rattle.lft_ir.specs.Sound.{IsSound}
+use Rattle.lft_ir.specs.{Parts.Parts, Sound.IsSound, Steps.Fits.RowsFit, declared.steps.row.Row.Row as TheRow}
 use Rattle.lft_lists.proofs.Zips.{behind}
-use Rattle.lft_ir.specs.Steps.Fits.{RowsFit}
-use Rattle.lft_ir.specs.declared.steps.row.Row.{Row as TheRow}
-use Rattle.lft_trace.specs.ExternalTables.{FaultAt, IsEntry}
-use Rattle.lft_trace.specs.LogTables.{BeginsAsInput, EntryFits, InputsFit, IsLine, ReadsLines, inputs_behind, row_of}
-use Rattle.lft_trace.specs.Records.{IsNext, IsPlain, IsUnread, records_left, records_of}
-use Rattle.lft_trace.specs.SeenExternals.{is_of_input}
-use Rattle.lft_trace.specs.Traces.{IsRow}
-use Rattle.lft_trace.specs.declared.external_table.Entry.{Entry}
-use Rattle.lft_trace.specs.declared.external_table.Entry.TheVariants.{Happens, Stops}
-use Rattle.lft_trace.specs.declared.fault.TraceFault.{TraceFault}
+use Rattle.lft_trace.specs.{ExternalTables.{FaultAt, IsEntry}, LogTables.{BeginsAsInput, EntryFits, InputsFit, IsLine, ReadsLines, inputs_behind, row_of}}
+use Rattle.lft_trace.specs.{Records.{IsNext, IsPlain, IsUnread, records_left, records_of}, SeenExternals.is_of_input, Traces.IsRow}
+use Rattle.lft_trace.specs.declared.{external_table.Entry.{Entry, TheVariants.{Happens, Stops}}, fault.TraceFault.TraceFault}
+use Rattle.lft_trace.specs.declared.{log_table.{Among.Among, Line.{Line, TheVariants.{Row, Input}}, LogLines.LogLines}, records.Records.Records}
+use Rattle.lft_trace.proofs.{EntriesDiffer.same_fields, ExternalTableFacts.{event_fits, stop_fits}, TableFacts.Texts, TraceFacts.row_fits}
 use Rattle.lft_trace.specs.declared.fault.TraceFault.TheVariants as fault
-use Rattle.lft_trace.specs.declared.log_table.Among.{Among}
-use Rattle.lft_trace.specs.declared.log_table.Line.{Line}
-use Rattle.lft_trace.specs.declared.log_table.Line.TheVariants.{Row, Input}
-use Rattle.lft_trace.specs.declared.log_table.LogLines.{LogLines}
-use Rattle.lft_trace.specs.declared.records.Records.{Records}
-use Rattle.lft_trace.proofs.EntriesDiffer.{same_fields}
-use Rattle.lft_trace.proofs.ExternalTableFacts.{event_fits, stop_fits}
-use Rattle.lft_trace.proofs.TableFacts.{Texts}
-use Rattle.lft_trace.proofs.TraceFacts.{row_fits}
 
 -- ---- one record
 

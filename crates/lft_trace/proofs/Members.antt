@@ -1,9 +1,7 @@
 -- Events of a list, by their places.
 use Rattle.std.proofs.Common.{◌≡◌, ◌∙◌, ◌⊎◌, inl, inr, ◌++◌, ℕ, zero, suc, List, [], ◌∷◌, length, Some, slice_get, refl, sym, ap, arith}
-use Rattle.std.specs.List.{Contains}
-use Rattle.std.specs.List.Sorted.{IsPermutation}
-use Rattle.std.proofs.lemmas.List.Sorted.{Contains-permutation, IsPermutation-sym}
-use Rattle.std.proofs.lemmas.Option.{slice_get-get_or, slice_get_within, get_or_from_slice_get}
+use Rattle.std.specs.List.{Contains, Sorted.IsPermutation}
+use Rattle.std.proofs.lemmas.{List.Sorted.{Contains-permutation, IsPermutation-sym}, Option.{slice_get-get_or, slice_get_within, get_or_from_slice_get}}
 use Rattle.lft_trace.specs.ExternalTables.{AreApart, Clash, Has}
 use Rattle.lft_ir.specs.declared.steps.externals.Event.{Event}
 

@@ -1,19 +1,10 @@
 -- A number that was written is read as itself.
 use Rattle.std.proofs.Common.{◌≡◌, ◌∙◌, ℕ, zero, suc, ◌+◌, ◌-◌, ◌*◌, ◌^◌, ◌<◌, ◌≤◌, List, [], ◌∷◌, length, true, false, Some, refl, ap, arith, rules, nat_le, decimal, pos, negsuc}
 use Rattle.std.specs.Prelude.{◌==◌}
-use Rattle.std.specs.Char.{digit_value, is_ascii_digit}
-use Rattle.std.specs.List.{list_all}
-use Rattle.std.specs.Str.Parse.{AllDigits, digits_value, digits_value_after}
-use Rattle.std.proofs.lemmas.Bool.{ne_eqb}
-use Rattle.std.proofs.lemmas.Bool.Decides.{nat_tests}
-use Rattle.std.proofs.lemmas.Fmt.{decimal_is_IsNumeral}
-use Rattle.std.proofs.lemmas.Str.Parse.{digit_from_value}
-use Rattle.std.proofs.lemmas.Str.{digit_value_digit}
-use Rattle.lft_ir.specs.declared.parts.Value.{Value}
-use Rattle.lft_ir.specs.declared.parts.Value.TheVariants.{Bare, Int}
-use Rattle.lft_trace.specs.Numbers.{digits_after, number, number_or_zero, value}
-use Rattle.lft_trace.specs.SeenWriting.{IsWord}
-use Rattle.lft_trace.specs.Written.{delay_text, value_text}
+use Rattle.std.specs.{Char.{digit_value, is_ascii_digit}, List.list_all, Str.Parse.{AllDigits, digits_value, digits_value_after}}
+use Rattle.std.proofs.lemmas.{Bool.{ne_eqb, Decides.nat_tests}, Fmt.decimal_is_IsNumeral, Str.{digit_value_digit, Parse.digit_from_value}}
+use Rattle.lft_ir.specs.declared.parts.Value.{Value, TheVariants.{Bare, Int}}
+use Rattle.lft_trace.specs.{Numbers.{digits_after, number, number_or_zero, value}, SeenWriting.IsWord, Written.{delay_text, value_text}}
 
 -- digits of std are digits here, and write the same number
 all_digits : (ds : List ℕ) → AllDigits 10 ds → list_all is_ascii_digit ds ≡ true

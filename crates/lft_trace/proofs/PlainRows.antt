@@ -1,31 +1,18 @@
 -- No name has a byte that csv quotes, so each record is written as its fields with commas between them.
 use Rattle.std.proofs.Common.{◌≡◌, ◌≢◌, ◌∙◌, subst, ℕ, zero, suc, ◌^◌, ◌<◌, ◌≤◌, ◌++◌, List, [], ◌∷◌, map, Some, refl, ap, arith, slice_get, slice_index_or, decimal, false, pos, negsuc, All, codes, Vec, Result, Ok, Err, IfOk, OnOk}
 use Rattle.std.specs.Prelude.{⊤}
-use Rattle.std.specs.List.{concat, join_with_byte, list_any}
-use Rattle.std.specs.declared.alloc.Global.{Global}
-use Rattle.std.proofs.lemmas.Bool.{ne_eqb}
-use Rattle.std.proofs.lemmas.List.{append-nil}
-use Rattle.std.proofs.lemmas.List.Elements.{All-weaker}
-use Rattle.std.proofs.lemmas.List.Folds.{list_any_none}
-use Rattle.std.proofs.lemmas.Option.{slice_get-get_or}
+use Rattle.std.specs.{List.{concat, join_with_byte, list_any}, declared.alloc.Global.Global}
+use Rattle.std.proofs.lemmas.{Bool.ne_eqb, List.{append-nil, Elements.All-weaker, Folds.list_any_none}, Option.slice_get-get_or}
 use Rattle.csv.specs.Writing.{default_writer, field_text, fields_text, is_blank, needs_byte, row_text}
 use Rattle.lft_tag.specs.declared.NoMemory.{NoMemory}
-use Rattle.lft_ir.specs.Names.{IsNamed, IsNameByte}
-use Rattle.lft_ir.specs.Parts.{Parts}
-use Rattle.lft_ir.specs.Sound.{IsNameOf, IsSound}
-use Rattle.lft_ir.specs.declared.found.Found.TheVariants as found
-use Rattle.lft_ir.specs.declared.parts.Name.{Name}
-use Rattle.lft_ir.specs.declared.parts.Name.TheVariants.{Port, Action}
-use Rattle.lft_ir.specs.declared.parts.Value.{Value}
-use Rattle.lft_ir.specs.declared.parts.Value.TheVariants.{Bare, Int}
-use Rattle.lft_ir.proofs.Decimals.{All-decimal}
+use Rattle.lft_ir.specs.{Names.{IsNamed, IsNameByte}, Parts.Parts, Sound.{IsNameOf, IsSound}}
+use Rattle.lft_ir.specs.declared.parts.{Name.{Name, TheVariants.{Port, Action}}, Value.{Value, TheVariants.{Bare, Int}}}
+use Rattle.lft_ir.specs.declared.steps.row.{Row.Row, Step.{Step, TheVariants.{Start, Read, Write, Schedule, Stop, End}}}
 use Rattle.lft_ir.specs.Steps.Fits.{RowFits, RowsFit, StepFits}
-use Rattle.lft_trace.specs.Traces.{header, word}
-use Rattle.lft_trace.specs.SeenWriting.{AllHaveWords, HasWord, HasWords, IsWord}
+use Rattle.lft_ir.proofs.Decimals.{All-decimal}
+use Rattle.lft_trace.specs.{Traces.{header, word}, SeenWriting.{AllHaveWords, HasWord, HasWords, IsWord}}
 use Rattle.lft_trace.specs.Written.{csv_text, delay_text, event_of, line, name_text, row_fields, step_fields, table_text, value_text, written_records}
-use Rattle.lft_ir.specs.declared.steps.row.Row.{Row}
-use Rattle.lft_ir.specs.declared.steps.row.Step.{Step}
-use Rattle.lft_ir.specs.declared.steps.row.Step.TheVariants.{Start, Read, Write, Schedule, Stop, End}
+use Rattle.lft_ir.specs.declared.found.Found.TheVariants as found
 
 -- csv writes the field as it is
 abbrev IsPlain : List ℕ → Type 0

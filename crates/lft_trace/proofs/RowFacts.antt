@@ -1,17 +1,12 @@
 -- What the fields of a record of a trace table tell.
 use Rattle.std.proofs.Common.{◌≡◌, ℕ, suc, arith, List, [], ◌∷◌, length, true, false, not, ◌||◌, refl}
 use Rattle.std.specs.Prelude.{◌==◌}
-use Rattle.std.proofs.lemmas.Bool.Decides.{nat_tests}
-use Rattle.std.proofs.lemmas.Bool.{or_parts}
-use Rattle.lft_ir.specs.Parts.{Parts}
-use Rattle.lft_trace.specs.declared.fault.TraceFault.{TraceFault}
-use Rattle.lft_trace.specs.declared.fault.TraceFault.TheVariants as fault
-use Rattle.lft_trace.specs.declared.kind.RowKind.{RowKind}
-use Rattle.lft_trace.specs.declared.kind.RowKind.TheVariants.{Start, Read, Write, Schedule, Stop, End}
-use Rattle.lft_ir.specs.declared.steps.row.Step.{Step}
+use Rattle.std.proofs.lemmas.Bool.{or_parts, Decides.nat_tests}
+use Rattle.lft_ir.specs.{Parts.Parts, declared.steps.row.Step.Step}
+use Rattle.lft_trace.specs.declared.{fault.TraceFault.TraceFault, kind.RowKind.{RowKind, TheVariants.{Start, Read, Write, Schedule, Stop, End}}}
 use Rattle.lft_trace.specs.declared.trace_table.RowNumbers.{RowNumbers}
-use Rattle.lft_trace.specs.Seen.{FieldFault, NumbersOf, StepOf}
-use Rattle.lft_trace.specs.Traces.{FaultAt, IsStep, TraceFields, in_order, is_empty, is_filled, word}
+use Rattle.lft_trace.specs.{Seen.{FieldFault, NumbersOf, StepOf}, Traces.{FaultAt, IsStep, TraceFields, in_order, is_empty, is_filled, word}}
+use Rattle.lft_trace.specs.declared.fault.TraceFault.TheVariants as fault
 
 not_none : (n : ℕ) → (suc n == 0) ≡ false
 not_none n = grind (arith, nat_tests)

@@ -1,34 +1,23 @@
 -- The records of a written table are those of its rows.
 use Rattle.std.proofs.Common.{◌≡◌, ◌∙◌, ℕ, suc, ◌+◌, ◌<◌, ◌++◌, List, [], ◌∷◌, length, map, Some, None, refl, sym, subst, inl, inr, take, get_or, ap, arith, slice_get, slice_index_or, decimal, Option, Vec, false, ◌≢◌, Result, Ok, Err, OnOk, IfOk}
-use Rattle.std.specs.List.{AllZip, concat}
-use Rattle.std.proofs.lemmas.Bool.{cases_lt}
-use Rattle.std.proofs.lemmas.Option.{get_or_from_slice_get, slice_get-get_or, slice_get_within}
-use Rattle.std.proofs.lemmas.List.{append-nil, map-append, take_more}
-use Rattle.std.proofs.lemmas.List.Folds.{concat-append}
+use Rattle.std.specs.{List.{AllZip, concat}, Io.KnownBytes.Appends, declared.alloc.Global.Global}
+use Rattle.std.proofs.lemmas.{Bool.cases_lt, Option.{get_or_from_slice_get, slice_get-get_or, slice_get_within}}
+use Rattle.std.proofs.lemmas.List.{append-nil, map-append, take_more, Folds.concat-append}
 use Rattle.csv.specs.Reading.{default_config, records_from, strip_bom}
 use Rattle.csv.specs.Writing.{default_writer, escaped, fields_text, fields_written, has_written, is_blank, read_back, row_text, text_written, writer_setup}
-use Rattle.csv.specs.declared.writer.QuoteStyle.TheVariants as style
-use Rattle.csv.specs.declared.writer.Writer.{Writer}
-use Rattle.csv.specs.declared.writer.WriterBuilder.{WriterBuilder}
-use Rattle.std.specs.Io.KnownBytes.{Appends}
-use Rattle.std.specs.declared.alloc.Global.{Global}
-use Rattle.csv.specs.declared.parser.State.TheVariants as st
+use Rattle.csv.specs.declared.writer.{Writer.Writer, WriterBuilder.WriterBuilder}
 use Rattle.csv.proofs.RoundTrip.{read-write}
 use Rattle.lft_tag.specs.declared.NoMemory.{NoMemory}
-use Rattle.lft_ir.specs.Parts.{Parts}
-use Rattle.lft_ir.specs.Sound.{IsNameOf, IsSound}
-use Rattle.lft_ir.specs.declared.parts.Name.{Name}
-use Rattle.lft_ir.specs.declared.parts.Name.TheVariants.{Port, Action}
+use Rattle.lft_ir.specs.{Parts.Parts, Sound.{IsNameOf, IsSound}}
+use Rattle.lft_ir.specs.declared.parts.Name.{Name, TheVariants.{Port, Action}}
+use Rattle.lft_ir.specs.declared.steps.row.{Row.Row, Step.{Step, TheVariants.{Start, Read, Write, Schedule, Stop, End}}}
 use Rattle.lft_ir.specs.Steps.Fits.{RowFits, RowsFit, StepFits}
-use Rattle.lft_trace.specs.Records.{records_of}
-use Rattle.lft_trace.specs.Traces.{IsRow, IsStep, IsThing, Table, TraceFields, header, in_order, word}
+use Rattle.lft_trace.specs.{Records.records_of, Traces.{IsRow, IsStep, IsThing, Table, TraceFields, header, in_order, word}}
 use Rattle.lft_trace.specs.SeenWriting.{AllHaveWords, HasWord, HasWords, HasWritten}
 use Rattle.lft_trace.specs.Written.{csv_text, event_of, name_text, row_fields, step_fields, written_records}
-use Rattle.lft_ir.specs.declared.steps.row.Row.{Row}
-use Rattle.lft_ir.specs.declared.steps.row.Step.{Step}
-use Rattle.lft_ir.specs.declared.steps.row.Step.TheVariants.{Start, Read, Write, Schedule, Stop, End}
-use Rattle.lft_trace.proofs.Fuel.{at-end, one-more}
-use Rattle.lft_trace.proofs.NumbersBack.{delay_back, number_back, value_back}
+use Rattle.lft_trace.proofs.{Fuel.{at-end, one-more}, NumbersBack.{delay_back, number_back, value_back}}
+use Rattle.csv.specs.declared.writer.QuoteStyle.TheVariants as style
+use Rattle.csv.specs.declared.parser.State.TheVariants as st
 
 abbrev Texts : Type 0
 Texts = List (List (List ℕ))

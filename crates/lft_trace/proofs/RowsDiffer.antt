@@ -2,18 +2,11 @@
 use Rattle.std.proofs.Common.{◌≡◌, ◌∙◌, inl, inr, ℕ, List, [], length, get_or, true, false, refl, sym, ap}
 use Rattle.std.specs.Prelude.{codes, if◌then◌else◌}
 use Rattle.std.specs.Str.{bytes_eq}
-use Rattle.lft_ir.specs.Names.{AreDistinct, IsNamed}
-use Rattle.lft_ir.specs.Parts.{Parts}
-use Rattle.lft_ir.specs.declared.found.Found.TheVariants as found
-use Rattle.lft_ir.specs.declared.parts.Name.{Name}
-use Rattle.lft_ir.specs.declared.parts.Name.TheVariants.{Port, Action}
-use Rattle.lft_trace.specs.declared.fault.TraceFault.{TraceFault}
-use Rattle.lft_trace.specs.declared.fault.TraceFault.TheVariants as fault
-use Rattle.lft_trace.specs.declared.kind.RowKind.{RowKind}
-use Rattle.lft_trace.specs.declared.kind.RowKind.TheVariants.{Start, Read, Write, Schedule, Stop, End}
-use Rattle.lft_ir.specs.declared.steps.row.Row.{Row}
-use Rattle.lft_ir.specs.declared.steps.row.Step.{Step}
+use Rattle.lft_ir.specs.{Names.{AreDistinct, IsNamed}, Parts.Parts, declared.{parts.Name.{Name, TheVariants.{Port, Action}}, steps.row.{Row.Row, Step.Step}}}
+use Rattle.lft_trace.specs.declared.{fault.TraceFault.TraceFault, kind.RowKind.{RowKind, TheVariants.{Start, Read, Write, Schedule, Stop, End}}}
 use Rattle.lft_trace.specs.Traces.{FaultAt, IsRow, IsStep, IsUnknown, RowOf, TraceFields, has_numbers, in_order, is_filled, thing, word}
+use Rattle.lft_ir.specs.declared.found.Found.TheVariants as found
+use Rattle.lft_trace.specs.declared.fault.TraceFault.TheVariants as fault
 
 -- the fields by their places
 abbrev of_list : List (List ℕ) → TraceFields

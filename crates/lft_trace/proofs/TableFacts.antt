@@ -3,8 +3,7 @@ use Rattle.std.proofs.Common.{◌≡◌, ◌∙◌, inl, inr, ◌+◌, ◌-◌, 
 use Rattle.std.proofs.lemmas.Slice.Zip.{all_zipped_more}
 use Rattle.csv.specs.Records.{fields_of}
 use Rattle.lft_trace.specs.Records.{IsNext, IsPast, IsPlain, IsUnread, records_left, records_of}
-use Rattle.lft_trace.specs.Tables.{Begins, FailsAt, Fails, HasTooMany, Holds, TableKind}
-use Rattle.lft_trace.specs.declared.records.Records.{Records}
+use Rattle.lft_trace.specs.{Tables.{Begins, FailsAt, Fails, HasTooMany, Holds, TableKind}, declared.records.Records.Records}
 use Rattle.lft_lists.proofs.Zips.{Parted, long, parted, same, same_rest}
 
 abbrev pub Texts : Type 0

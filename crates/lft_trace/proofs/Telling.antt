@@ -1,20 +1,12 @@
 -- Of a sound program, a record that is a row's tells that row.
 use Rattle.std.proofs.Common.{◌≡◌, ◌∙◌, ℕ, List, [], ◌∷◌, Option, Some, None, refl, sym, ap, true≢false, slice_get, option_and_then}
-use Rattle.std.specs.List.{AllZip, filter_map}
-use Rattle.std.specs.Str.{bytes_eq}
-use Rattle.std.proofs.lemmas.Slice.Eq.{bytes_eq-Decides}
-use Rattle.lft_ir.specs.Names.{AreDistinct}
-use Rattle.lft_ir.specs.Parts.{Parts}
-use Rattle.lft_ir.specs.declared.found.Found.TheVariants as found
-use Rattle.lft_ir.specs.declared.parts.Name.{Name}
-use Rattle.lft_ir.specs.declared.parts.Name.TheVariants.{Port, Action}
+use Rattle.std.{specs.{List.{AllZip, filter_map}, Str.bytes_eq}, proofs.lemmas.Slice.Eq.bytes_eq-Decides}
+use Rattle.lft_ir.specs.{Names.AreDistinct, Parts.Parts, declared.{parts.Name.{Name, TheVariants.{Port, Action}}, steps.row.{Row.Row, Step.Step}}}
 use Rattle.lft_ir.proofs.Positions.{nowhere, somewhere}
 use Rattle.lft_trace.specs.Traces.{IsRow, IsStep, IsThing, RowOf, TraceFields, word}
-use Rattle.lft_trace.specs.declared.kind.RowKind.{RowKind}
-use Rattle.lft_trace.specs.declared.kind.RowKind.TheVariants.{Start, Read, Write, Schedule, Stop, End}
-use Rattle.lft_ir.specs.declared.steps.row.Row.{Row}
-use Rattle.lft_ir.specs.declared.steps.row.Step.{Step}
+use Rattle.lft_trace.specs.declared.kind.RowKind.{RowKind, TheVariants.{Start, Read, Write, Schedule, Stop, End}}
 use Rattle.lft_trace.specs.Telling.{fields_in, kind_in, place_in, row_in, row_of, step_in, thing_in}
+use Rattle.lft_ir.specs.declared.found.Found.TheVariants as found
 
 -- a text that stands in a list once is found where it stands
 place_is : (names : List (List ℕ)) (i : ℕ) (text : List ℕ) → ((j : ℕ) → slice_get names j ≡ Some text → j ≡ i) → slice_get names i ≡ Some text → place_in names text ≡ Some i

@@ -1,16 +1,10 @@
 -- The rows of a text are those of its parts, one part after another.
 use Rattle.std.proofs.Common.{◌≡◌, ◌∙◌, ◌++◌, ◌∷◌, ℕ, zero, suc, List, [], Option, Some, IfSome, Bool, true, false, refl, sym, ap, subst, codes}
 use Rattle.std.specs.Prelude.{◌==◌, ◌&&◌, not}
-use Rattle.std.specs.List.{AllZip, list_all}
-use Rattle.std.proofs.lemmas.Bool.{false≢true}
-use Rattle.csv.specs.Machine.{next_record}
-use Rattle.csv.specs.Reading.{records_from, strip_bom}
-use Rattle.lft_ir.specs.Parts.{Parts}
-use Rattle.lft_trace.specs.Records.{records_of}
-use Rattle.lft_trace.specs.Traces.{IsRow, header}
-use Rattle.lft_ir.specs.declared.steps.row.Row.{Row}
-use Rattle.lft_trace.specs.Parts.{HasNoQuote, EndsLine, BeginsPlain, HoldsRows}
-use Rattle.lft_trace.proofs.Cutting.{records_cut}
+use Rattle.std.{specs.List.{AllZip, list_all}, proofs.lemmas.Bool.false≢true}
+use Rattle.csv.specs.{Machine.next_record, Reading.{records_from, strip_bom}}
+use Rattle.lft_ir.specs.{Parts.Parts, declared.steps.row.Row.Row}
+use Rattle.lft_trace.{specs.{Records.records_of, Traces.{IsRow, header}, Parts.{HasNoQuote, EndsLine, BeginsPlain, HoldsRows}}, proofs.Cutting.records_cut}
 
 no_quote_in_both : (a b : List ℕ) → HasNoQuote a → HasNoQuote b → HasNoQuote (a ++ b)
 no_quote_in_both [] b x y i = y i

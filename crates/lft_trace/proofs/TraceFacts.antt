@@ -1,27 +1,15 @@
 -- Records have one trace table, or a fault, and what a table holds fits its program.
 use Rattle.std.proofs.Common.{◌≡◌, ◌<◌, ◌≤◌, length, ℕ, List, [], ◌∷◌, Some, None, refl, arith, Bool, true, false, nat_le}
 use Rattle.std.specs.Prelude.{if◌then◌else◌, ◌&&◌}
-use Rattle.std.specs.Char.{is_ascii_digit}
-use Rattle.std.specs.List.{list_all}
-use Rattle.std.proofs.lemmas.Bool.{leb-true}
-use Rattle.std.proofs.lemmas.Option.{slice_get_within}
-use Rattle.lft_ir.specs.Names.{IsNamed}
-use Rattle.lft_ir.specs.Parts.{Parts}
-use Rattle.lft_ir.specs.Sound.{IsNameOf, IsSound}
-use Rattle.lft_ir.specs.declared.found.Found.TheVariants as found
-use Rattle.lft_ir.specs.declared.parts.Name.{Name}
-use Rattle.lft_ir.specs.declared.parts.Name.TheVariants.{Port, Action}
-use Rattle.lft_ir.specs.Steps.Fits.{RowFits, RowsFit, StepFits}
+use Rattle.std.{specs.{Char.is_ascii_digit, List.list_all}, proofs.lemmas.{Bool.leb-true, Option.slice_get_within}}
+use Rattle.lft_ir.specs.{Names.IsNamed, Parts.Parts, Sound.{IsNameOf, IsSound}}
+use Rattle.lft_ir.specs.{declared.{parts.Name.{Name, TheVariants.{Port, Action}}, steps.row.{Row.Row, Step.Step}}, Steps.Fits.{RowFits, RowsFit, StepFits}}
 use Rattle.lft_trace.specs.Numbers.{digits_after, number, number_or_zero}
 use Rattle.lft_trace.specs.Traces.{IsRow, IsStep, IsThing, RowOf, Table, TraceFails, TraceFields, trace_tables}
-use Rattle.lft_trace.specs.declared.fault.TraceFault.{TraceFault}
-use Rattle.lft_trace.specs.declared.kind.RowKind.{RowKind}
-use Rattle.lft_trace.specs.declared.kind.RowKind.TheVariants.{Start, Read, Write, Schedule, Stop, End}
-use Rattle.lft_ir.specs.declared.steps.row.Row.{Row}
-use Rattle.lft_ir.specs.declared.steps.row.Step.{Step}
-use Rattle.lft_trace.proofs.RowsDiffer.{not_both, one_row}
-use Rattle.lft_trace.proofs.TableFacts.{Texts, holds_no_fault, one_reading}
+use Rattle.lft_trace.specs.declared.{fault.TraceFault.TraceFault, kind.RowKind.{RowKind, TheVariants.{Start, Read, Write, Schedule, Stop, End}}}
+use Rattle.lft_trace.proofs.{RowsDiffer.{not_both, one_row}, TableFacts.{Texts, holds_no_fault, one_reading}}
 use Rattle.lft_lists.proofs.Zips.{behind}
+use Rattle.lft_ir.specs.declared.found.Found.TheVariants as found
 
 pub one_table : (program : Parts) (records : Texts) (rows other : List Row) → IsSound program → Table program records rows → Table program records other → other ≡ rows
 one_table program records rows other sound t u = one_reading (trace_tables program) records (λ f a b x y. one_row program f a b sound.well_named.distinct x y) other rows u t

@@ -3,12 +3,9 @@ use Rattle.std.proofs.Common.{◌≡◌, [], ◌∷◌, List, ℕ, refl, pos, ne
 use Rattle.std.specs.Fmt.{digits}
 use Rattle.csv.specs.Writing.{fields_text, is_blank, escaped}
 use Rattle.lft_ir.specs.Parts.{Parts}
-use Rattle.lft_ir.specs.declared.parts.Name.TheVariants.{Port, Action}
-use Rattle.lft_ir.specs.declared.parts.Value.TheVariants.{Bare, Int}
+use Rattle.lft_ir.specs.declared.parts.{Name.TheVariants.{Port, Action}, Value.TheVariants.{Bare, Int}}
+use Rattle.lft_ir.specs.declared.steps.row.{Row.Row, Step.{Step, TheVariants.{Start, Read, Write, Schedule, Stop, End}}}
 use Rattle.lft_trace.specs.Written.{csv_text, line, row_fields, table_text, written_records}
-use Rattle.lft_ir.specs.declared.steps.row.Row.{Row}
-use Rattle.lft_ir.specs.declared.steps.row.Step.{Step}
-use Rattle.lft_ir.specs.declared.steps.row.Step.TheVariants.{Start, Read, Write, Schedule, Stop, End}
 
 abbrev program : Parts
 program = record {

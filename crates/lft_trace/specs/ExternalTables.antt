@@ -1,21 +1,13 @@
 -- Tables of external inputs: the events and the stop of their records, and their faults.
 use Rattle.std.specs.Prelude.{◌≡◌, ◌≢◌, ◌≤◌, ◌⊎◌, ℕ, List, [], ◌∷◌, length, codes, slice_get, filter_map, Bool, true, false, not, ◌&&◌, ◌||◌, is_some, Option, Some, None}
 use Rattle.std.specs.List.Sorted.{IsPermutation}
-use Rattle.lft_ir.specs.Names.{IsNamed}
-use Rattle.lft_ir.specs.Parts.{Parts}
-use Rattle.lft_ir.specs.declared.found.Found.TheVariants as found
-use Rattle.lft_ir.specs.declared.parts.Action.{Action as ActionOf}
-use Rattle.lft_tag.specs.declared.Tag.{Tag}
+use Rattle.lft_ir.specs.{Names.IsNamed, Parts.Parts, declared.{parts.Action.Action as ActionOf, steps.externals.Event.Event}}
 use Rattle.lft_ir.specs.Steps.Inputs.{ExternalInputs, InOrder}
-use Rattle.lft_trace.specs.Numbers.{number, value}
-use Rattle.lft_trace.specs.Tables.{Fails, Holds, TableKind}
-use Rattle.lft_trace.specs.Traces.{is_empty}
-use Rattle.lft_trace.specs.declared.external_table.Entry.{Entry}
-use Rattle.lft_trace.specs.declared.external_table.Entry.TheVariants.{Happens, Stops}
-use Rattle.lft_ir.specs.declared.steps.externals.Event.{Event}
-use Rattle.lft_trace.specs.declared.fault.TraceFault.{TraceFault}
+use Rattle.lft_tag.specs.declared.Tag.{Tag}
+use Rattle.lft_trace.specs.{Numbers.{number, value}, Tables.{Fails, Holds, TableKind}, Traces.is_empty}
+use Rattle.lft_trace.specs.declared.{external_table.Entry.{Entry, TheVariants.{Happens, Stops}}, fault.TraceFault.TraceFault, kind.EntryKind.EntryKind}
+use Rattle.lft_ir.specs.declared.found.Found.TheVariants as found
 use Rattle.lft_trace.specs.declared.fault.TraceFault.TheVariants as fault
-use Rattle.lft_trace.specs.declared.kind.EntryKind.{EntryKind}
 use Rattle.lft_trace.specs.declared.kind.EntryKind.TheVariants as kind
 
 -- the fields of a record of a table of external inputs

@@ -1,8 +1,6 @@
 -- External events as entries of a map.
 use Rattle.std.specs.Prelude.{◌≡◌, ◌<◌, ℕ, List, [], length}
-use Rattle.lft_ir.specs.declared.parts.Value.{Value}
-use Rattle.lft_ir.specs.Steps.Inputs.{InOrder}
-use Rattle.lft_ir.specs.declared.steps.externals.Event.{Event}
+use Rattle.lft_ir.specs.{declared.{parts.Value.Value, steps.externals.Event.Event}, Steps.Inputs.InOrder}
 
 -- the event of an entry: time, microstep and action, and the value
 abbrev pub event_at : (ℕ × ℕ × ℕ) × Value → Event

@@ -1,23 +1,14 @@
 -- Tables of rows with external inputs among them: the lines of their records, and why a record is none.
 use Rattle.std.specs.Prelude.{◌≡◌, ◌+◌, ◌<◌, ℕ, length, List, [], ◌∷◌, ◌++◌, filter_map, All, Option, Some, None}
 use Rattle.std.specs.List.{AllZip}
-use Rattle.lft_ir.specs.Parts.{Parts}
+use Rattle.lft_ir.specs.{Parts.Parts, Steps.Fits.EventFits, declared.steps.row.Row.Row as TheRow}
 use Rattle.lft_tag.specs.Tags.{IsRecorded}
-use Rattle.lft_ir.specs.Steps.Fits.{EventFits}
-use Rattle.lft_ir.specs.declared.steps.row.Row.{Row as TheRow}
-use Rattle.lft_trace.specs.ExternalTables.{ExternalFields, IsEntry}
-use Rattle.lft_trace.specs.ExternalTables as external
-use Rattle.lft_trace.specs.Traces.{IsRow}
-use Rattle.lft_trace.specs.Traces as trace
-use Rattle.lft_trace.specs.declared.external_table.Entry.{Entry}
-use Rattle.lft_trace.specs.declared.external_table.Entry.TheVariants.{Happens, Stops}
-use Rattle.lft_trace.specs.declared.kind.EntryKind.{EntryKind}
-use Rattle.lft_trace.specs.declared.log_table.Among.{Among}
-use Rattle.lft_trace.specs.declared.log_table.Line.{Line}
-use Rattle.lft_trace.specs.declared.log_table.Line.TheVariants.{Row, Input}
-use Rattle.lft_trace.specs.declared.log_table.LineFault.{LineFault}
-use Rattle.lft_trace.specs.declared.log_table.LineFault.TheVariants.{NoRow, NoInput}
+use Rattle.lft_trace.specs.{ExternalTables.{ExternalFields, IsEntry}, Traces.IsRow}
+use Rattle.lft_trace.specs.declared.{external_table.Entry.{Entry, TheVariants.{Happens, Stops}}, kind.EntryKind.EntryKind}
+use Rattle.lft_trace.specs.declared.log_table.{Among.Among, Line.{Line, TheVariants.{Row, Input}}, LineFault.{LineFault, TheVariants.{NoRow, NoInput}}}
 use Rattle.lft_trace.specs.declared.log_table.LogLines.{LogLines}
+use Rattle.lft_trace.specs.ExternalTables as external
+use Rattle.lft_trace.specs.Traces as trace
 
 -- the row or the external input of a record
 abbrev pub IsLine : Parts → List (List ℕ) → Line → Type 0

@@ -1,9 +1,7 @@
 -- The numbers that fields write.
 use Rattle.std.specs.Prelude.{ℕ, ◌+◌, ◌-◌, ◌*◌, List, [], ◌∷◌, if◌then◌else◌, ◌==◌, ◌&&◌, nat_le, Option, Some, None, option_map, pos, neg_ℤ}
-use Rattle.std.specs.Char.{is_ascii_digit}
-use Rattle.std.specs.List.{list_all}
-use Rattle.lft_ir.specs.declared.parts.Value.{Value}
-use Rattle.lft_ir.specs.declared.parts.Value.TheVariants.{Bare, Int}
+use Rattle.std.specs.{Char.is_ascii_digit, List.list_all}
+use Rattle.lft_ir.specs.declared.parts.Value.{Value, TheVariants.{Bare, Int}}
 
 -- the number that more digits write after a number
 abbrev pub digits_after : ℕ → List ℕ → ℕ

@@ -1,11 +1,8 @@
 -- Texts that can be cut: at the end of a line, where no quote stands before.
 use Rattle.std.specs.Prelude.{◌≡◌, ◌≢◌, ◌⊎◌, ℕ, List, [], ◌∷◌, ◌++◌, Some, Vec, slice_get}
-use Rattle.std.specs.List.{AllZip, flat_map}
-use Rattle.std.specs.declared.alloc.Global.{Global}
-use Rattle.lft_ir.specs.Parts.{Parts}
-use Rattle.lft_trace.specs.Records.{records_of}
-use Rattle.lft_trace.specs.Traces.{IsRow}
-use Rattle.lft_ir.specs.declared.steps.row.Row.{Row}
+use Rattle.std.specs.{List.{AllZip, flat_map}, declared.alloc.Global.Global}
+use Rattle.lft_ir.specs.{Parts.Parts, declared.steps.row.Row.Row}
+use Rattle.lft_trace.specs.{Records.records_of, Traces.IsRow}
 
 -- no byte is a quotation mark
 abbrev pub HasNoQuote : List ℕ → Type 0

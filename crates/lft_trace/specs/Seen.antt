@@ -1,18 +1,11 @@
 -- What the clauses of single steps see: the fields of a record by their names, and its numbers.
 use Rattle.std.specs.Prelude.{◌≡◌, ℕ, List, Some, true, false}
-use Rattle.lft_trace.specs.Numbers.{number, number_or_zero, value}
-use Rattle.lft_ir.specs.Parts.{Parts}
-use Rattle.lft_ir.specs.declared.parts.Name.{Name}
-use Rattle.lft_ir.specs.declared.parts.Value.{Value}
-use Rattle.lft_trace.specs.Traces.{TraceFields, IsThing, IsUnknown, has_name, has_delay, has_numbers, is_filled}
-use Rattle.lft_trace.specs.declared.fault.TraceFault.{TraceFault}
+use Rattle.lft_trace.specs.{Numbers.{number, number_or_zero, value}, Traces.{TraceFields, IsThing, IsUnknown, has_name, has_delay, has_numbers, is_filled}}
+use Rattle.lft_trace.specs.declared.{fault.TraceFault.TraceFault, fields.TraceFields.TraceFields as FieldsHeld}
+use Rattle.lft_trace.specs.declared.{kind.RowKind.{RowKind, TheVariants.{Start, Read, Write, Schedule, Stop, End}}, trace_table.RowNumbers.RowNumbers}
+use Rattle.lft_ir.specs.{Parts.Parts, declared.{parts.{Name.Name, Value.Value}, steps.row.Step.Step}}
 use Rattle.lft_trace.specs.declared.fault.TraceFault.TheVariants as fault
-use Rattle.lft_trace.specs.declared.fields.TraceFields.{TraceFields as FieldsHeld}
-use Rattle.lft_trace.specs.declared.kind.RowKind.{RowKind}
-use Rattle.lft_trace.specs.declared.kind.RowKind.TheVariants.{Start, Read, Write, Schedule, Stop, End}
-use Rattle.lft_ir.specs.declared.steps.row.Step.{Step}
 use Rattle.lft_ir.specs.declared.steps.row.Step.TheVariants as step
-use Rattle.lft_trace.specs.declared.trace_table.RowNumbers.{RowNumbers}
 
 abbrev pub trace_fields : FieldsHeld → TraceFields
 trace_fields c = record { event = c.event.now; worker = c.worker.now; time = c.time.now; microstep = c.microstep.now; reaction = c.reaction.now; name = c.name.now; value = c.value.now; delay = c.delay.now }

@@ -2,15 +2,11 @@
 use Rattle.std.specs.Prelude.{◌≡◌, ◌≢◌, Bool, ◌∷◌, ℕ, List, Option, Some, None, true, false}
 use Rattle.std.specs.List.Sorted.{IsPermutation}
 use Rattle.lft_tag.specs.declared.Tag.{Tag}
-use Rattle.lft_ir.specs.Parts.{Parts}
+use Rattle.lft_ir.specs.{Parts.Parts, declared.steps.externals.Event.Event}
 use Rattle.lft_trace.specs.ExternalTables.{Clash, ExternalFields, Has, IsUnknown, has_numbers, is_filled}
-use Rattle.lft_trace.specs.declared.external_table.Entry.{Entry}
-use Rattle.lft_trace.specs.declared.external_table.Entry.TheVariants.{Happens, Stops}
-use Rattle.lft_ir.specs.declared.steps.externals.Event.{Event}
-use Rattle.lft_trace.specs.declared.fault.TraceFault.{TraceFault}
+use Rattle.lft_trace.specs.declared.{external_table.Entry.{Entry, TheVariants.{Happens, Stops}}, fault.TraceFault.TraceFault}
+use Rattle.lft_trace.specs.declared.{fields.ExternalFields.ExternalFields as FieldsHeld, kind.EntryKind.EntryKind}
 use Rattle.lft_trace.specs.declared.fault.TraceFault.TheVariants as fault
-use Rattle.lft_trace.specs.declared.fields.ExternalFields.{ExternalFields as FieldsHeld}
-use Rattle.lft_trace.specs.declared.kind.EntryKind.{EntryKind}
 
 abbrev pub external_fields : FieldsHeld → ExternalFields
 external_fields c = record { kind = c.kind.now; time = c.time.now; microstep = c.microstep.now; name = c.name.now; value = c.value.now }

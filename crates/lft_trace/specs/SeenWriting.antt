@@ -1,15 +1,10 @@
 -- What the clauses of single steps see of the writing of rows: the writer, and the sizes of numbers.
 use Rattle.std.specs.Prelude.{◌≡◌, ℕ, ◌<◌, ◌≤◌, ◌^◌, List, Vec, Some, false, slice_get}
-use Rattle.std.specs.declared.alloc.Global.{Global}
-use Rattle.std.specs.Int.Signed.{mag}
-use Rattle.csv.specs.Writing.{default_writer, fields_written, has_written, text_written, writer_setup}
-use Rattle.csv.specs.declared.writer.Writer.{Writer}
-use Rattle.lft_ir.specs.declared.parts.Value.{Value}
-use Rattle.lft_ir.specs.declared.parts.Value.TheVariants.{Bare, Int}
+use Rattle.std.specs.{declared.alloc.Global.Global, Int.Signed.mag}
+use Rattle.csv.specs.{Writing.{default_writer, fields_written, has_written, text_written, writer_setup}, declared.writer.Writer.Writer}
+use Rattle.lft_ir.specs.declared.parts.Value.{Value, TheVariants.{Bare, Int}}
+use Rattle.lft_ir.specs.declared.steps.row.{Row.Row, Step.{Step, TheVariants.{Start, Read, Write, Schedule, Stop, End}}}
 use Rattle.lft_trace.specs.Written.{csv_text}
-use Rattle.lft_ir.specs.declared.steps.row.Row.{Row}
-use Rattle.lft_ir.specs.declared.steps.row.Step.{Step}
-use Rattle.lft_ir.specs.declared.steps.row.Step.TheVariants.{Start, Read, Write, Schedule, Stop, End}
 
 -- the writer has written these records, as csv's defaults say, and stands between two records
 abbrev pub HasWritten : Writer (Vec ℕ Global) → List (List (List ℕ)) → Type 0

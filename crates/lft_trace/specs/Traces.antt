@@ -1,20 +1,11 @@
 -- Trace tables: the rows of their records, and their faults.
 use Rattle.std.specs.Prelude.{◌≡◌, ◌≢◌, ◌⊎◌, ℕ, List, [], ◌∷◌, length, codes, Bool, true, false, not, ◌&&◌, ◌||◌, is_some, ◌==◌, Some}
-use Rattle.lft_ir.specs.Names.{IsNamed}
-use Rattle.lft_ir.specs.Parts.{Parts}
-use Rattle.lft_ir.specs.declared.found.Found.{Found}
+use Rattle.lft_ir.specs.{Names.IsNamed, Parts.Parts}
+use Rattle.lft_ir.specs.declared.{found.Found.Found, parts.{Name.{Name, TheVariants.{Port, Action}}, Value.Value}, steps.row.{Row.Row, Step.Step}}
+use Rattle.lft_trace.specs.{Numbers.{number, number_or_zero, value}, Tables.{Fails, Holds, TableKind}}
+use Rattle.lft_trace.specs.declared.{fault.TraceFault.TraceFault, kind.RowKind.{RowKind, TheVariants.{Start, Read, Write, Schedule, Stop, End}}}
 use Rattle.lft_ir.specs.declared.found.Found.TheVariants as found
-use Rattle.lft_ir.specs.declared.parts.Name.{Name}
-use Rattle.lft_ir.specs.declared.parts.Name.TheVariants.{Port, Action}
-use Rattle.lft_ir.specs.declared.parts.Value.{Value}
-use Rattle.lft_trace.specs.Numbers.{number, number_or_zero, value}
-use Rattle.lft_trace.specs.Tables.{Fails, Holds, TableKind}
-use Rattle.lft_trace.specs.declared.fault.TraceFault.{TraceFault}
 use Rattle.lft_trace.specs.declared.fault.TraceFault.TheVariants as fault
-use Rattle.lft_trace.specs.declared.kind.RowKind.{RowKind}
-use Rattle.lft_trace.specs.declared.kind.RowKind.TheVariants.{Start, Read, Write, Schedule, Stop, End}
-use Rattle.lft_ir.specs.declared.steps.row.Row.{Row}
-use Rattle.lft_ir.specs.declared.steps.row.Step.{Step}
 use Rattle.lft_ir.specs.declared.steps.row.Step.TheVariants as step
 
 -- the fields of a record of a trace table

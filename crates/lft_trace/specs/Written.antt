@@ -1,19 +1,12 @@
 -- The text of a trace table as it is written.
 use Rattle.std.specs.Prelude.{ℕ, List, [], ◌∷◌, ◌++◌, map, decimal, slice_index_or, if◌then◌else◌, ◌==◌}
-use Rattle.std.specs.Fmt.{signed_decimal}
-use Rattle.std.specs.List.{concat, join_with_byte}
+use Rattle.std.specs.{Fmt.signed_decimal, List.{concat, join_with_byte}}
 use Rattle.csv.specs.Writing.{default_writer, row_text}
 use Rattle.lft_ir.specs.Parts.{Parts}
-use Rattle.lft_ir.specs.declared.parts.Name.{Name}
-use Rattle.lft_ir.specs.declared.parts.Name.TheVariants.{Port, Action}
-use Rattle.lft_ir.specs.declared.parts.Value.{Value}
-use Rattle.lft_ir.specs.declared.parts.Value.TheVariants.{Bare, Int}
-use Rattle.lft_trace.specs.Traces.{header, word}
-use Rattle.lft_trace.specs.declared.kind.RowKind.{RowKind}
+use Rattle.lft_ir.specs.declared.parts.{Name.{Name, TheVariants.{Port, Action}}, Value.{Value, TheVariants.{Bare, Int}}}
+use Rattle.lft_ir.specs.declared.steps.row.{Row.Row, Step.{Step, TheVariants.{Start, Read, Write, Schedule, Stop, End}}}
+use Rattle.lft_trace.specs.{Traces.{header, word}, declared.kind.RowKind.RowKind}
 use Rattle.lft_trace.specs.declared.kind.RowKind.TheVariants as kind
-use Rattle.lft_ir.specs.declared.steps.row.Row.{Row}
-use Rattle.lft_ir.specs.declared.steps.row.Step.{Step}
-use Rattle.lft_ir.specs.declared.steps.row.Step.TheVariants.{Start, Read, Write, Schedule, Stop, End}
 
 -- the event of a step
 abbrev pub event_of : Step → RowKind

@@ -2,10 +2,8 @@
 
 ghost use Rattle.std.specs.Prelude.{◌≡◌, ◌∷◌, ◌↔◌, [], map, true, false, IfOk, IsTrue};
 ghost use Rattle.std.specs.List.Sorted.{IsPermutation};
-ghost use Rattle.lft_trace.specs.ExternalTables.{Clash, Has};
-ghost use Rattle.lft_trace.specs.Keys.{event_at};
-ghost use Rattle.lft_ir.specs.Steps.Inputs.{ComesBefore, InOrder};
-ghost use Rattle.lft_ir.specs.declared.steps.externals.Event.{Event as TheEvent};
+ghost use Rattle.lft_trace.specs.{ExternalTables.{Clash, Has}, Keys.event_at};
+ghost use Rattle.lft_ir.specs.{Steps.Inputs.{ComesBefore, InOrder}, declared.steps.externals.Event.Event as TheEvent};
 
 use lft_ir::Value;
 use lft_ir::steps::Event;

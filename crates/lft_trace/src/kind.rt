@@ -1,8 +1,7 @@
 //! The events of a trace table, and the kinds of external inputs.
 
 ghost use Rattle.std.specs.Prelude.{◌≡◌, ◌≢◌, IfSome, IfNone};
-ghost use Rattle.lft_trace.specs.ExternalTables.{word as entry_word};
-ghost use Rattle.lft_trace.specs.Traces.{word, has_name, has_delay};
+ghost use Rattle.lft_trace.specs.{ExternalTables.word as entry_word, Traces.{word, has_name, has_delay}};
 
 /// The event of a record.
 #[derive(Clone, Copy, PartialEq, Eq, Drop)]

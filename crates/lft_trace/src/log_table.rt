@@ -3,9 +3,7 @@
 ghost use Rattle.std.specs.Prelude.{◌≡◌, ◌<◌, ◌≤◌, length, IfSome, IfOk, IfErr};
 ghost use Rattle.csv.specs.Records.{fields_of};
 ghost use Rattle.lft_ir.specs.Steps.Fits.{RowsFit};
-ghost use Rattle.lft_trace.specs.LogTables.{InputsFit, IsLine, IsNoLine, IsWithin, ReadsLines};
-ghost use Rattle.lft_trace.specs.Records.{records_of};
-ghost use Rattle.lft_trace.specs.SeenExternals.{is_of_input};
+ghost use Rattle.lft_trace.specs.{LogTables.{InputsFit, IsLine, IsNoLine, IsWithin, ReadsLines}, Records.records_of, SeenExternals.is_of_input};
 
 use crate::external_table::{Entry, read_entry};
 use crate::fault::TraceFault;

@@ -2,8 +2,7 @@
 
 ghost use Rattle.std.specs.Prelude.{◌≡◌, ◌≢◌, ◌<◌, ◌↔◌, ℕ, IfSome, IfNone, IsTrue, length};
 ghost use Rattle.lft_ir.specs.Names.{IsNamed};
-ghost use Rattle.lft_trace.specs.ExternalTables.{IsPhysical};
-ghost use Rattle.lft_trace.specs.Traces.{IsThing, thing};
+ghost use Rattle.lft_trace.specs.{ExternalTables.IsPhysical, Traces.{IsThing, thing}};
 
 use crate::kind::RowKind;
 use crate::reaction_names::ReactionNames;

@@ -1,8 +1,7 @@
 //! The names of reactions, close together.
 
 ghost use Rattle.std.specs.Prelude.{◌≡◌, IfOk, IfSome, IsTrue};
-ghost use Rattle.lft_ir.specs.Names.{IsNamed};
-ghost use Rattle.lft_ir.specs.Sound.{IsSound};
+ghost use Rattle.lft_ir.specs.{Names.IsNamed, Sound.IsSound};
 ghost use Rattle.lft_trace.specs.ShortNames.{AreShort};
 
 use crate::kind::RowKind;

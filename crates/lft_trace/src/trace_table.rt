@@ -3,12 +3,10 @@
 ghost use Rattle.std.specs.Prelude.{◌≡◌, ◌≢◌, ◌+◌, ◌<◌, ℕ, List, length, IfSome, IfNone, IfOk, IfErr, IsTrue, ◌↔◌, true, false, is_some, not, ◌||◌, Some};
 ghost use Rattle.std.specs.List.{AllZip};
 ghost use Rattle.csv.specs.Records.{fields_of};
-ghost use Rattle.lft_trace.specs.Numbers.{number_or_zero, value};
-ghost use Rattle.lft_trace.specs.Faults.{is_told};
-ghost use Rattle.lft_ir.specs.Steps.Fits.{RowsFit};
-ghost use Rattle.lft_trace.specs.Records.{records_of};
+ghost use Rattle.lft_trace.specs.{Numbers.{number_or_zero, value}, Faults.is_told, Records.records_of};
 ghost use Rattle.lft_trace.specs.Traces.{Table, TraceFails, header, FaultAt, IsRow, IsThing, RowOf, has_delay, has_name, has_numbers, word};
 ghost use Rattle.lft_trace.specs.Seen.{FieldFault, NumbersOf, StepOf, trace_fields};
+ghost use Rattle.lft_ir.specs.Steps.Fits.{RowsFit};
 
 use crate::fault::TraceFault;
 use crate::fields::TraceFields;

@@ -1,9 +1,7 @@
 -- An identifier is a name, and so is one with a number in brackets.
 use Rattle.std.proofs.Common.{◌≡◌, ℕ, ◌+◌, ◌%◌, ◌<◌, ◌^◌, true, List, [], ◌∷◌, ◌++◌, All, refl, arith}
 use Rattle.std.specs.Fmt.{decimal}
-use Rattle.std.proofs.lemmas.Bool.Decides.{nat_tests}
-use Rattle.std.proofs.lemmas.Fmt.{decimal_by_steps}
-use Rattle.std.proofs.lemmas.List.Elements.{All-nil, All-cons, All-push, All-append, All-weaker}
+use Rattle.std.proofs.lemmas.{Bool.Decides.nat_tests, Fmt.decimal_by_steps, List.Elements.{All-nil, All-cons, All-push, All-append, All-weaker}}
 use Rattle.lft_lists.specs.Bytes.{is_word, is_part}
 use Rattle.lft_tree.specs.Identifiers.{IsIdentifier, IsName}
 

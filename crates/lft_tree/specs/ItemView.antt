@@ -1,25 +1,13 @@
 -- What contracts see of the parts of a tree.
 use Rattle.std.specs.Prelude.{List, map, string_bytes, option_map, Option}
-use Rattle.lft_tree.specs.declared.tree.TokenRange.{TokenRange}
-use Rattle.lft_tree.specs.declared.tree.TimeExpression.{TimeExpression}
-use Rattle.lft_tree.specs.declared.tree.TimeExpression.TheVariants as times
-use Rattle.lft_tree.specs.declared.tree.Reference.{Reference}
-use Rattle.lft_tree.specs.declared.tree.Parameter.{Parameter}
-use Rattle.lft_tree.specs.declared.tree.Port.{Port}
-use Rattle.lft_tree.specs.declared.tree.Timer.{Timer}
-use Rattle.lft_tree.specs.declared.tree.Action.{Action}
-use Rattle.lft_tree.specs.declared.tree.Trigger.{Trigger}
-use Rattle.lft_tree.specs.declared.tree.Trigger.TheVariants as triggers
-use Rattle.lft_tree.specs.declared.tree.Reaction.{Reaction}
-use Rattle.lft_tree.specs.declared.tree.Assignment.{Assignment}
-use Rattle.lft_tree.specs.declared.tree.Instance.{Instance}
-use Rattle.lft_tree.specs.declared.tree.Connection.{Connection}
-use Rattle.lft_tree.specs.declared.tree.Member.{Member}
-use Rattle.lft_tree.specs.declared.tree.Member.TheVariants as members
-use Rattle.lft_tree.specs.declared.tree.Reactor.{Reactor}
-use Rattle.lft_tree.specs.declared.tree.Item.{Item}
-use Rattle.lft_tree.specs.declared.tree.Item.TheVariants as items
+use Rattle.lft_tree.specs.declared.tree.{TokenRange.TokenRange, TimeExpression.TimeExpression, Reference.Reference, Parameter.Parameter, Port.Port, Timer.Timer}
+use Rattle.lft_tree.specs.declared.tree.{Action.Action, Trigger.Trigger, Reaction.Reaction, Assignment.Assignment, Instance.Instance, Connection.Connection}
+use Rattle.lft_tree.specs.declared.tree.{Member.Member, Reactor.Reactor, Item.Item}
 use Rattle.lft_tree.specs.Tree.{Range, TimeTree, Written, Named, RefTree, ParameterTree, PortTree, TimerTree, ActionTree, TriggerTree, AtStartup, AtShutdown, OnRef, ReactionTree, AssignmentTree, InstanceTree, ConnectionTree, MemberTree, PortMember, TimerMember, ActionMember, StateMember, PreambleMember, ReactionMember, InstanceMember, ConnectionMember, ReactorTree, ItemTree, PreambleItem, ReactorItem, FileTree}
+use Rattle.lft_tree.specs.declared.tree.TimeExpression.TheVariants as times
+use Rattle.lft_tree.specs.declared.tree.Trigger.TheVariants as triggers
+use Rattle.lft_tree.specs.declared.tree.Member.TheVariants as members
+use Rattle.lft_tree.specs.declared.tree.Item.TheVariants as items
 
 abbrev pub range_view : TokenRange → Range
 range_view r = (r.start, r.end)

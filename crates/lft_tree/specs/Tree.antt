@@ -1,7 +1,6 @@
 -- The tree of a program text, as contracts see it: names are lists of bytes, opaque parts are ranges of tokens.
 use Rattle.std.specs.Prelude.{ℕ, ◌*◌, Bool, List, Option, Some, None, filter_map}
-use Rattle.lft_tree.specs.declared.tree.Time.{Time}
-use Rattle.lft_tree.specs.declared.tree.TimeUnit.{TimeUnit}
+use Rattle.lft_tree.specs.declared.tree.{Time.Time, TimeUnit.TimeUnit}
 use Rattle.lft_tree.specs.declared.tree.TimeUnit.TheVariants as units
 
 -- the tokens from the first number up to, without, the second

@@ -1,7 +1,6 @@
 //! The tree of a program text.
 
-ghost use Rattle.lft_tree.specs.Identifiers.{HasIdentifiers, HasIdentifiers-prop};
-ghost use Rattle.lft_tree.specs.ItemView.{file_view};
+ghost use Rattle.lft_tree.specs.{Identifiers.{HasIdentifiers, HasIdentifiers-prop}, ItemView.file_view};
 
 use crate::tree::{Item, TokenRange};
 

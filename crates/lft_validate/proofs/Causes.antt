@@ -1,15 +1,11 @@
 -- Where a cause of refusal holds, some member of some reactor shows it.
 use Rattle.std.proofs.Common.{◌≡◌, ◌≢◌, ◌<◌, true, List, [], ◌∷◌, ◌++◌, map, flat_map, filter_map, option_to_list, Option, Some, None, Any, IsSome, IsSomeAnd, ◌⊎◌, inl, inr, ⊎_elim, length, refl}
 use Rattle.lft_tree.specs.Tree.{ReactorTree, MemberTree, TimerMember, ActionMember, ReactionMember, InstanceMember, ConnectionMember, RefTree, TimeTree, PortTree, nanoseconds, port_in, timer_in, action_in, reaction_in, instance_in, connection_in, ports_of, timers_of, actions_of, reactions_of, instances_of, connections_of}
-use Rattle.lft_resolve.specs.Instances.{reactor_named}
-use Rattle.lft_resolve.specs.Kinds.{kind_of, reads_of, reaction_refs, connection_refs, refs_in, timer_times, times_in, in_role}
+use Rattle.lft_resolve.specs.{Instances.reactor_named, Kinds.{kind_of, reads_of, reaction_refs, connection_refs, refs_in, timer_times, times_in, in_role}}
 use Rattle.lft_resolve.specs.Causes.{GivesTwice, GivesUnknown, LacksReactor, IsUnknownTime, IsMisplaced, IsMisplacedTime, NamesTwice, NamesNothing, Misplaces, IsLongTime, HasLongTime, UnknownReactor, UnknownName, WrongPlace, MainHasPorts, WidthMismatch, NoTrigger, DuplicateInput, DiffersInWidth, LacksTrigger, RepeatsName, SomeGivesTwice, longest}
-use Rattle.lft_resolve.specs.declared.kinds.Role.{Role}
-use Rattle.lft_resolve.specs.declared.kinds.Role.TheVariants.{Read, Effect, Source, Destination}
-use Rattle.lft_resolve.proofs.Somes.{Any-nil, Any-head, Any-tail, Any-cases, Any-append_cases, Any-weaker, unpicked, unkept, some_of}
-use Rattle.lft_resolve.proofs.Lacking.{Any-either}
-use Rattle.lft_validate.specs.Members.{times_of}
-use Rattle.lft_validate.specs.Shown.{SomeName, SomeShows, ShowsCause, ShowsUnknown, ShowsMisplaced}
+use Rattle.lft_resolve.specs.declared.kinds.Role.{Role, TheVariants.{Read, Effect, Source, Destination}}
+use Rattle.lft_resolve.proofs.{Somes.{Any-nil, Any-head, Any-tail, Any-cases, Any-append_cases, Any-weaker, unpicked, unkept, some_of}, Lacking.Any-either}
+use Rattle.lft_validate.specs.{Members.times_of, Shown.{SomeName, SomeShows, ShowsCause, ShowsUnknown, ShowsMisplaced}}
 use Rattle.lft_validate.specs.declared.members.Cause.TheVariants as cause
 
 -- ---- lists

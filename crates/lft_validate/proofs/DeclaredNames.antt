@@ -2,8 +2,7 @@
 use Rattle.std.proofs.Common.{◌≡◌, ℕ, zero, suc, ◌+◌, ◌<◌, ◌≤◌, Bool, true, false, cond, List, [], ◌∷◌, ◌++◌, map, filter_map, slice_get, Some, bytes_eq, refl, sym, ap, subst, arith}
 use Rattle.std.proofs.lemmas.Slice.Eq.{bytes_eq-Decides}
 use Rattle.lft_tree.specs.Tree.{ReactorTree, MemberTree, PortMember, TimerMember, ActionMember, StateMember, PreambleMember, ReactionMember, InstanceMember, ConnectionMember, port_in, timer_in, action_in, instance_in}
-use Rattle.lft_resolve.specs.Causes.{IsTwice}
-use Rattle.lft_resolve.specs.Kinds.{names_in}
+use Rattle.lft_resolve.specs.{Causes.IsTwice, Kinds.names_in}
 use Rattle.lft_validate.specs.Members.{declared_name, declarations}
 
 -- how often the name stands in the list

@@ -6,25 +6,17 @@ use Rattle.lft_tree.specs.Tree.{ReactorTree, MemberTree, PortMember, TimerMember
 use Rattle.lft_resolve.specs.Instances.{reactor_named}
 use Rattle.lft_resolve.specs.Kinds.{kind_of, reads_of, reaction_refs, connection_refs, refs_in, in_role, timer_times, times_in, destinations_in, effects_in}
 use Rattle.lft_resolve.specs.Causes.{IsTwice, GivesTwice, SomeGivesTwice, DeclaresTwice, DuplicateName, TwoMains, NoMain, mains, UnknownReactor, LacksReactor, UnknownName, NamesNothing, GivesUnknown, LacksParameter, IsUnknownTime, SomeGivesUnknown, WrongPlace, Misplaces, IsMisplaced, IsMisplacedTime, MainHasPorts, TwoSources, WritesTwice, WidthMismatch, DiffersInWidth, NoTrigger, LacksTrigger, DuplicateInput, NamesTwice, RepeatsName, IsLongTime, HasLongTime, longest, IsFirst, NoneHolds, first_causes, later_causes}
-use Rattle.lft_resolve.specs.declared.kinds.Kind.{Kind}
-use Rattle.lft_resolve.specs.declared.kinds.Role.{Role}
-use Rattle.lft_resolve.specs.declared.kinds.Role.TheVariants.{Read, Effect, Source, Destination}
+use Rattle.lft_resolve.specs.declared.kinds.{Kind.Kind, Role.{Role, TheVariants.{Read, Effect, Source, Destination}}}
 use Rattle.lft_resolve.proofs.Somes.{Any-nil, Any-head, Any-tail, Any-cases, Any-left, Any-right, Any-weaker, Any-Contains, Contains-Any, picked, kept, something}
-use Rattle.lft_resolve.proofs.Lacking.{Any-either, Any-flat_map, Any-map}
-use Rattle.lft_resolve.proofs.Twice.{Any-at}
+use Rattle.lft_resolve.proofs.{Lacking.{Any-either, Any-flat_map, Any-map}, Twice.Any-at}
 use Rattle.lft_lists.proofs.Places.{get_left, get_right}
 use Rattle.lft_validate.specs.Members.{names_of, times_of, given_of, declarations}
-use Rattle.lft_validate.specs.Findings.{IsTwiceAt, IsOfNone, IsNothing, IsForNone, IsWrong, IsWrongTime, cause_of}
-use Rattle.lft_validate.specs.Shown.{all_names}
+use Rattle.lft_validate.specs.{Findings.{IsTwiceAt, IsOfNone, IsNothing, IsForNone, IsWrong, IsWrongTime, cause_of}, Shown.all_names}
 use Rattle.lft_validate.specs.Witnesses.{HasFinding, IsNamedAt, IsEarlier, IsWriting, IsWrittenTwice, IsMainAt, IsFirstShown, Shows, cause_shown, time_causes}
-use Rattle.lft_validate.specs.declared.finding.Finding.{Finding}
+use Rattle.lft_validate.specs.declared.{finding.Finding.Finding, witness.{Naming.Naming, Witness.Witness}}
+use Rattle.lft_validate.proofs.{DeclaredNames.named_twice, Standing.{all_destinations, all_effects}, TwoMains.both_main}
 use Rattle.lft_validate.specs.declared.finding.Finding.TheVariants as finding
-use Rattle.lft_validate.specs.declared.witness.Naming.{Naming}
-use Rattle.lft_validate.specs.declared.witness.Witness.{Witness}
 use Rattle.lft_validate.specs.declared.witness.Witness.TheVariants as witness
-use Rattle.lft_validate.proofs.DeclaredNames.{named_twice}
-use Rattle.lft_validate.proofs.Standing.{all_destinations, all_effects}
-use Rattle.lft_validate.proofs.TwoMains.{both_main}
 
 -- ---- lists
 

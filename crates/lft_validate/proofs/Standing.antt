@@ -2,14 +2,9 @@
 use Rattle.std.proofs.Common.{◌≡◌, ℕ, zero, suc, ◌+◌, ◌<◌, ◌≤◌, List, [], ◌∷◌, ◌++◌, flat_map, filter_map, take, length, slice_get, Some, IsSomeAnd, inl, inr, zero-add, length-append, refl, sym, ap, subst, ◌∙◌, arith}
 use Rattle.std.proofs.lemmas.Bool.{cases_lt}
 use Rattle.lft_tree.specs.Tree.{ReactorTree, MemberTree, RefTree, PortMember, TimerMember, ActionMember, StateMember, PreambleMember, ReactionMember, InstanceMember, ConnectionMember, connection_in, reaction_in}
-use Rattle.lft_resolve.specs.Kinds.{destinations_in, effects_in}
-use Rattle.lft_resolve.specs.declared.kinds.Role.{Role}
-use Rattle.lft_resolve.specs.declared.kinds.Role.TheVariants.{Effect, Destination}
+use Rattle.lft_resolve.specs.{Kinds.{destinations_in, effects_in}, declared.kinds.Role.{Role, TheVariants.{Effect, Destination}}}
 use Rattle.lft_resolve.proofs.Twice.{slice_get-front}
-use Rattle.lft_validate.specs.Findings.{IsTwiceAt}
-use Rattle.lft_validate.specs.Members.{names_of}
-use Rattle.lft_validate.specs.Shown.{all_names}
-use Rattle.lft_validate.specs.Witnesses.{IsEarlier, IsPlaceOf, IsNamedAt, IsSharedAt, IsWrittenTwice}
+use Rattle.lft_validate.specs.{Findings.IsTwiceAt, Members.names_of, Shown.all_names, Witnesses.{IsEarlier, IsPlaceOf, IsNamedAt, IsSharedAt, IsWrittenTwice}}
 use Rattle.lft_validate.specs.declared.witness.Naming.{Naming}
 
 module _ {X : Type 0} where

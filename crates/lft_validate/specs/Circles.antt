@@ -1,10 +1,7 @@
 -- How far the search for a circle has come. The contracts of the crate's own functions alone need this file.
 use Rattle.std.specs.Prelude.{◌≡◌, ◌≢◌, ℕ, ◌+◌, ◌<◌, ◌≤◌, List, Option, Some, length, slice_get}
-use Rattle.lft_resolve.specs.Expansion.Contents.{contained}
-use Rattle.lft_resolve.specs.declared.expansion.walk.Contents.{Contents}
-use Rattle.lft_validate.specs.declared.circle.Stage.{Stage}
-use Rattle.lft_validate.specs.declared.circle.Stage.TheVariants.{New, Open, Done}
-use Rattle.lft_validate.specs.declared.circle.Visit.{Visit}
+use Rattle.lft_resolve.specs.{Expansion.Contents.contained, declared.expansion.walk.Contents.Contents}
+use Rattle.lft_validate.specs.declared.circle.{Stage.{Stage, TheVariants.{New, Open, Done}}, Visit.Visit}
 
 -- reactor a has an instance of reactor b
 abbrev pub Holds : List Contents → ℕ → ℕ → Type 0

@@ -1,16 +1,10 @@
 -- What each finding says of a member of a reactor.
 use Rattle.std.specs.Prelude.{◌≡◌, ◌≢◌, ℕ, ◌<◌, List, [], length, Some, None, true, false, slice_get, map, IsSome, IsSomeAnd}
 use Rattle.lft_tree.specs.Tree.{ReactorTree, MemberTree, InstanceTree, RefTree, TimeTree, Named, port_in, instance_in, reaction_in, connection_in}
-use Rattle.lft_resolve.specs.Instances.{reactor_named}
-use Rattle.lft_resolve.specs.Kinds.{kind_of, own_kind, may_stand}
-use Rattle.lft_resolve.specs.Causes.{IsUnknownTime, LacksParameter, IsLongTime}
-use Rattle.lft_resolve.specs.declared.kinds.Kind.{Kind}
-use Rattle.lft_resolve.specs.declared.kinds.Kind.TheVariants.{OwnParameter}
-use Rattle.lft_resolve.specs.declared.kinds.Role.{Role}
-use Rattle.lft_validate.specs.Members.{names_of, times_of, given_of}
-use Rattle.lft_validate.specs.declared.members.Cause.{Cause}
+use Rattle.lft_resolve.specs.{Instances.reactor_named, Kinds.{kind_of, own_kind, may_stand}, Causes.{IsUnknownTime, LacksParameter, IsLongTime}}
+use Rattle.lft_resolve.specs.declared.kinds.{Kind.{Kind, TheVariants.OwnParameter}, Role.Role}
+use Rattle.lft_validate.specs.{Members.{names_of, times_of, given_of}, declared.{members.Cause.Cause, finding.Finding.Finding}}
 use Rattle.lft_validate.specs.declared.members.Cause.TheVariants as cause
-use Rattle.lft_validate.specs.declared.finding.Finding.{Finding}
 use Rattle.lft_validate.specs.declared.finding.Finding.TheVariants as finding
 
 -- the list has one thing at two places, the first before the second

@@ -2,11 +2,8 @@
 use Rattle.std.specs.Prelude.{ℕ, List, [], ◌++◌, Option, Some, None, map, filter_map, option_to_list}
 use Rattle.std.specs.Borrow.{Bor}
 use Rattle.lft_tree.specs.Tree.{ReactorTree, MemberTree, PortMember, TimerMember, ActionMember, ReactionMember, InstanceMember, ConnectionMember, RefTree, TimeTree, AssignmentTree}
-use Rattle.lft_tree.specs.View.{time_view}
-use Rattle.lft_tree.specs.declared.tree.TimeExpression.{TimeExpression}
-use Rattle.lft_resolve.specs.Kinds.{reads_of, timer_times}
-use Rattle.lft_resolve.specs.declared.kinds.Role.{Role}
-use Rattle.lft_resolve.specs.declared.kinds.Role.TheVariants.{Read, Effect, Source, Destination}
+use Rattle.lft_tree.specs.{View.time_view, declared.tree.TimeExpression.TimeExpression}
+use Rattle.lft_resolve.specs.{Kinds.{reads_of, timer_times}, declared.kinds.Role.{Role, TheVariants.{Read, Effect, Source, Destination}}}
 
 -- the names of the member that have the role, in order
 abbrev pub names_of : Role → MemberTree → List RefTree

@@ -1,13 +1,8 @@
 -- The tables of the names of a file's reactors. The contracts of the crate's own functions alone need this file.
 use Rattle.std.specs.Prelude.{◌≡◌, List}
-use Rattle.std.specs.Borrow.{Bor}
-use Rattle.std.specs.List.{AllZip}
-use Rattle.lft_tree.specs.Tree.{FileTree, ReactorTree, reactors_of}
-use Rattle.lft_tree.specs.declared.tree.Reactor.{Reactor}
-use Rattle.lft_resolve.specs.References.{reactor_trees}
-use Rattle.lft_resolve.specs.Tables.{IsFile, IsOwn}
-use Rattle.lft_resolve.specs.declared.file.File.{File}
-use Rattle.lft_resolve.specs.declared.own.Own.{Own}
+use Rattle.std.specs.{Borrow.Bor, List.AllZip}
+use Rattle.lft_tree.specs.{Tree.{FileTree, ReactorTree, reactors_of}, declared.tree.Reactor.Reactor}
+use Rattle.lft_resolve.specs.{References.reactor_trees, Tables.{IsFile, IsOwn}, declared.{file.File.File, own.Own.Own}}
 
 -- the tables are those of the reactors, one for the file and one for each
 abbrev pub AreNames : List ReactorTree → File → List Own → Type 0

@@ -1,12 +1,10 @@
 -- What one member of a reactor shows of a cause, in the words of the causes.
 use Rattle.std.specs.Prelude.{◌≡◌, ◌≢◌, ◌⊎◌, ℕ, List, [], ◌∷◌, ◌++◌, None, true, length, flat_map, Any, IsSome, IsSomeAnd}
 use Rattle.lft_tree.specs.Tree.{ReactorTree, MemberTree, RefTree, port_in, instance_in, reaction_in, connection_in}
-use Rattle.lft_resolve.specs.Instances.{reactor_named}
-use Rattle.lft_resolve.specs.Kinds.{kind_of}
+use Rattle.lft_resolve.specs.{Instances.reactor_named, Kinds.kind_of}
 use Rattle.lft_resolve.specs.Causes.{GivesTwice, GivesUnknown, IsUnknownTime, IsMisplaced, IsMisplacedTime, NamesTwice, IsLongTime, HasLongTime, TwoMains, DuplicateName, UnknownReactor, later_causes}
 use Rattle.lft_resolve.specs.declared.kinds.Role.{Role}
-use Rattle.lft_validate.specs.Members.{names_of, times_of}
-use Rattle.lft_validate.specs.declared.members.Cause.{Cause}
+use Rattle.lft_validate.specs.{Members.{names_of, times_of}, declared.members.Cause.Cause}
 use Rattle.lft_validate.specs.declared.members.Cause.TheVariants as cause
 
 -- some name of the member has this, with its role

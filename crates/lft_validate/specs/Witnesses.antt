@@ -1,14 +1,9 @@
 -- What each witness shows of the reactors of a file.
 use Rattle.std.specs.Prelude.{◌≡◌, ℕ, ◌+◌, ◌<◌, ◌⊎◌, List, [], ◌∷◌, Option, Some, None, true, length, slice_get, filter_map, flat_map, take, Any, IsSomeAnd}
 use Rattle.lft_tree.specs.Tree.{ReactorTree, MemberTree, RefTree, nanoseconds}
-use Rattle.lft_resolve.specs.Causes.{HasLongTime, Holds, IsFirst, NoMain, NoneHolds, longest}
-use Rattle.lft_resolve.specs.declared.kinds.Role.{Role}
-use Rattle.lft_resolve.specs.declared.kinds.Role.TheVariants.{Effect, Destination}
-use Rattle.lft_validate.specs.Members.{names_of, declarations}
-use Rattle.lft_validate.specs.Findings.{IsFinding, IsTwiceAt, cause_of}
-use Rattle.lft_validate.specs.declared.finding.Finding.{Finding}
-use Rattle.lft_validate.specs.declared.witness.Naming.{Naming}
-use Rattle.lft_validate.specs.declared.witness.Witness.{Witness}
+use Rattle.lft_resolve.specs.{Causes.{HasLongTime, Holds, IsFirst, NoMain, NoneHolds, longest}, declared.kinds.Role.{Role, TheVariants.{Effect, Destination}}}
+use Rattle.lft_validate.specs.{Members.{names_of, declarations}, Findings.{IsFinding, IsTwiceAt, cause_of}}
+use Rattle.lft_validate.specs.declared.{finding.Finding.Finding, witness.{Naming.Naming, Witness.Witness}}
 use Rattle.lft_validate.specs.declared.witness.Witness.TheVariants as witness
 
 -- the finding is true of the reactor's member at that place

@@ -2,13 +2,8 @@
 
 ghost use Rattle.std.specs.Prelude.{◌≡◌, ◌++◌, Any, IfOk, OnOk, IfSome, IfNone, filter_map, option_map};
 ghost use Rattle.lft_tree.specs.View.{member_view, member_views, reactor_view};
-ghost use Rattle.lft_resolve.specs.Causes.{IsTwice};
-ghost use Rattle.lft_resolve.specs.Kinds.{names_in};
-ghost use Rattle.lft_resolve.specs.References.{reactor_trees};
-ghost use Rattle.lft_resolve.specs.Tests.{texts};
-ghost use Rattle.lft_validate.specs.Findings.{IsTwiceAt};
-ghost use Rattle.lft_validate.specs.Members.{declared_name, declarations};
-ghost use Rattle.lft_validate.specs.Witnesses.{Shows, cause_shown};
+ghost use Rattle.lft_resolve.specs.{Causes.IsTwice, Kinds.names_in, References.reactor_trees, Tests.texts};
+ghost use Rattle.lft_validate.specs.{Findings.IsTwiceAt, Members.{declared_name, declarations}, Witnesses.{Shows, cause_shown}};
 
 use crate::twice::first_twice;
 use crate::witness::Witness;

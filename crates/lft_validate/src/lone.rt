@@ -1,13 +1,9 @@
 //! What one member shows without the names around it.
 
 ghost use Rattle.std.specs.Prelude.{◌≡◌, ◌↔◌, List, None, Any, IfOk, IfSome, IfNone, IsTrue, IsSomeAnd, slice_get};
-ghost use Rattle.lft_tree.specs.Tree.{ReactorTree};
-ghost use Rattle.lft_tree.specs.View.{member_view, reactor_view, time_view};
-ghost use Rattle.lft_resolve.specs.Causes.{IsLongTime};
-ghost use Rattle.lft_resolve.specs.Tables.{IsFile};
-ghost use Rattle.lft_validate.specs.Members.{time_trees};
-ghost use Rattle.lft_validate.specs.Findings.{IsFinding, cause_of};
-ghost use Rattle.lft_validate.specs.Shown.{ShowsCause};
+ghost use Rattle.lft_tree.specs.{Tree.ReactorTree, View.{member_view, reactor_view, time_view}};
+ghost use Rattle.lft_resolve.specs.{Causes.IsLongTime, Tables.IsFile};
+ghost use Rattle.lft_validate.specs.{Members.time_trees, Findings.{IsFinding, cause_of}, Shown.ShowsCause};
 ghost use Rattle.lft_validate.specs.declared.members.Cause.TheVariants as causes;
 
 use crate::finding::Finding;

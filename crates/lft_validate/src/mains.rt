@@ -1,10 +1,8 @@
 //! Main reactors, and parameters with long defaults.
 
 ghost use Rattle.std.specs.Prelude.{◌≡◌, ◌<◌, ◌≤◌, ℕ, Some, Any, IfSome, IfNone, IsSomeAnd, length, map, slice_get};
-ghost use Rattle.lft_tree.specs.Tree.{nanoseconds};
-ghost use Rattle.lft_tree.specs.View.{parameter_view};
-ghost use Rattle.lft_resolve.specs.Causes.{NoMain, TwoMains, longest};
-ghost use Rattle.lft_resolve.specs.References.{reactor_trees};
+ghost use Rattle.lft_tree.specs.{Tree.nanoseconds, View.parameter_view};
+ghost use Rattle.lft_resolve.specs.{Causes.{NoMain, TwoMains, longest}, References.reactor_trees};
 ghost use Rattle.lft_validate.specs.Witnesses.{IsMainAt, Shows, cause_shown};
 
 use crate::witness::Witness;

@@ -1,13 +1,9 @@
 //! The first member of a file that shows a cause.
 
 ghost use Rattle.std.specs.Prelude.{◌≡◌, ◌<◌, List, Any, IfOk, IfSome, IfNone, length, slice_get, IsSomeAnd};
-ghost use Rattle.lft_tree.specs.Tree.{ReactorTree};
-ghost use Rattle.lft_tree.specs.View.{member_view, reactor_view};
-ghost use Rattle.lft_resolve.specs.References.{reactor_trees};
-ghost use Rattle.lft_resolve.specs.Tables.{IsFile, IsOwn};
-ghost use Rattle.lft_validate.specs.Findings.{IsFinding, cause_of, number_of};
-ghost use Rattle.lft_validate.specs.Scopes.{AreNames};
-ghost use Rattle.lft_validate.specs.Shown.{ShowsCause, SomeShows};
+ghost use Rattle.lft_tree.specs.{Tree.ReactorTree, View.{member_view, reactor_view}};
+ghost use Rattle.lft_resolve.specs.{References.reactor_trees, Tables.{IsFile, IsOwn}};
+ghost use Rattle.lft_validate.specs.{Findings.{IsFinding, cause_of, number_of}, Scopes.AreNames, Shown.{ShowsCause, SomeShows}};
 ghost use Rattle.lft_validate.specs.Witnesses.{HasFinding, Shows, cause_shown};
 
 use crate::finding::Finding;

@@ -2,10 +2,8 @@
 
 ghost use Rattle.std.specs.Prelude.{◌≡◌, IfOk};
 ghost use Rattle.std.specs.List.{AllZip};
-ghost use Rattle.lft_tree.specs.Tree.{reactors_of};
-ghost use Rattle.lft_tree.specs.View.{tree_view};
-ghost use Rattle.lft_resolve.specs.References.{reactor_trees};
-ghost use Rattle.lft_resolve.specs.Tables.{IsFile, IsOwn};
+ghost use Rattle.lft_tree.specs.{Tree.reactors_of, View.tree_view};
+ghost use Rattle.lft_resolve.specs.{References.reactor_trees, Tables.{IsFile, IsOwn}};
 
 use lft_resolve::file::File;
 use lft_resolve::members;
@@ -25,8 +23,7 @@ pub struct Scopes<'a> {
 }
 
 impl<'a> Model for Scopes<'a> {
-    ghost use Rattle.lft_tree.specs.Tree.{FileTree};
-    ghost use Rattle.lft_tree.specs.View.{tree_view};
+    ghost use Rattle.lft_tree.specs.{Tree.FileTree, View.tree_view};
     ghost use Rattle.lft_validate.specs.Scopes.{AreScopes};
 
     ghost Value = { FileTree };

@@ -1,8 +1,7 @@
 //! Names that were met.
 
 ghost use Rattle.std.specs.Prelude.{◌≡◌, cond, not, true, false, IfOk, OnOk};
-ghost use Rattle.lft_tree.specs.Tree.{RefTree};
-ghost use Rattle.lft_tree.specs.View.{ref_view};
+ghost use Rattle.lft_tree.specs.{Tree.RefTree, View.ref_view};
 ghost use Rattle.lft_validate.specs.Seen.{has_seen, same_ref};
 
 use lft_resolve::hashing::NameHash;

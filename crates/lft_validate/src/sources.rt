@@ -2,14 +2,9 @@
 
 ghost use Rattle.std.specs.Prelude.{◌≡◌, ◌+◌, ◌≤◌, ◌⊎◌, Any, Contains, IfOk, IfSome, IfNone, IsSomeAnd, length};
 ghost use Rattle.lft_tree.specs.View.{reactor_view};
-ghost use Rattle.lft_validate.specs.Seen.{has_seen};
-ghost use Rattle.lft_resolve.specs.Causes.{TwoSources, WritesTwice};
-ghost use Rattle.lft_resolve.specs.References.{reactor_trees, ref_trees};
-ghost use Rattle.lft_resolve.specs.Tests.{IsTestOf};
+ghost use Rattle.lft_validate.specs.{Seen.has_seen, Findings.IsTwiceAt, Shown.all_names, Witnesses.{IsPlaceOf, IsSharedAt, IsWrittenTwice, Shows, cause_shown}};
+ghost use Rattle.lft_resolve.specs.{Causes.{TwoSources, WritesTwice}, References.{reactor_trees, ref_trees}, Tests.IsTestOf};
 ghost use Rattle.lft_resolve.specs.declared.kinds.Role.TheVariants as roles;
-ghost use Rattle.lft_validate.specs.Findings.{IsTwiceAt};
-ghost use Rattle.lft_validate.specs.Shown.{all_names};
-ghost use Rattle.lft_validate.specs.Witnesses.{IsPlaceOf, IsSharedAt, IsWrittenTwice, Shows, cause_shown};
 
 use crate::names::names_of;
 use crate::seen::SeenNames;

@@ -3,13 +3,9 @@
 //! A set has the names that were met. Where a name stood before is looked for only once it was met.
 
 ghost use Rattle.std.specs.Prelude.{◌≡◌, ◌<◌, ◌↔◌, ℕ, List, Some, Any, IfOk, IfSome, IfNone, IsSome, IsSomeAnd, IsTrue, length, map, slice_get, take};
-ghost use Rattle.lft_tree.specs.Tree.{ReactorTree, RefTree, instance_in, reaction_in};
-ghost use Rattle.lft_tree.specs.View.{assignment_view, member_view, ref_view};
-ghost use Rattle.lft_resolve.specs.Causes.{GivesTwice, IsTwice, NamesTwice};
-ghost use Rattle.lft_resolve.specs.References.{ref_trees};
-ghost use Rattle.lft_resolve.specs.Tests.{texts};
-ghost use Rattle.lft_validate.specs.Members.{given_of, names_of};
-ghost use Rattle.lft_validate.specs.Findings.{IsFinding, IsTwiceAt, cause_of};
+ghost use Rattle.lft_tree.specs.{Tree.{ReactorTree, RefTree, instance_in, reaction_in}, View.{assignment_view, member_view, ref_view}};
+ghost use Rattle.lft_resolve.specs.{Causes.{GivesTwice, IsTwice, NamesTwice}, References.ref_trees, Tests.texts};
+ghost use Rattle.lft_validate.specs.{Members.{given_of, names_of}, Findings.{IsFinding, IsTwiceAt, cause_of}};
 
 use crate::finding::Finding;
 use crate::names::names_of;

@@ -1,13 +1,9 @@
 //! Names that are nothing, in one member.
 
 ghost use Rattle.std.specs.Prelude.{◌≡◌, ◌↔◌, List, None, Any, IfOk, IfSome, IfNone, IsTrue, IsSomeAnd, map, slice_get};
-ghost use Rattle.lft_tree.specs.Tree.{ReactorTree, instance_in};
-ghost use Rattle.lft_tree.specs.View.{assignment_view, instance_view, member_view, time_view};
-ghost use Rattle.lft_resolve.specs.Causes.{GivesUnknown, IsUnknownTime, LacksParameter};
-ghost use Rattle.lft_resolve.specs.References.{ref_trees};
-ghost use Rattle.lft_resolve.specs.Tables.{IsFile, IsOutside, IsOwn};
-ghost use Rattle.lft_validate.specs.Members.{names_of, time_trees, times_of};
-ghost use Rattle.lft_validate.specs.Findings.{IsFinding, IsForNone, IsNothing, cause_of};
+ghost use Rattle.lft_tree.specs.{Tree.{ReactorTree, instance_in}, View.{assignment_view, instance_view, member_view, time_view}};
+ghost use Rattle.lft_resolve.specs.{Causes.{GivesUnknown, IsUnknownTime, LacksParameter}, References.ref_trees, Tables.{IsFile, IsOutside, IsOwn}};
+ghost use Rattle.lft_validate.specs.{Members.{names_of, time_trees, times_of}, Findings.{IsFinding, IsForNone, IsNothing, cause_of}};
 ghost use Rattle.lft_validate.specs.Shown.{ShowsUnknown, SomeName};
 
 use crate::finding::{Finding, ROLES};

@@ -1,12 +1,9 @@
 -- Tokens between two places.
 use Rattle.std.proofs.Common.{◌≡◌, ℕ, ◌<◌, ◌≤◌, List, [], ◌∷◌, ◌++◌, length, Bor, Some, subst, sym, ap, ◌∙◌, arith}
 use Rattle.std.specs.Prelude.{slice_get}
-use Rattle.std.specs.List.{All}
-use Rattle.std.specs.Slice.{IsItemAt}
-use Rattle.std.proofs.lemmas.List.Elements.{All-nil, All-cons, All-get_or}
-use Rattle.std.proofs.lemmas.Option.{slice_get_within, get_or_from_slice_get, slice_get-get_or}
-use Rattle.lft_whole.specs.declared.token.Token.{Token}
-use Rattle.lft_whole.specs.Tokens.{IsToken, StandBetween, AreTokens, EachIsToken}
+use Rattle.std.specs.{List.All, Slice.IsItemAt}
+use Rattle.std.proofs.lemmas.{List.Elements.{All-nil, All-cons, All-get_or}, Option.{slice_get_within, get_or_from_slice_get, slice_get-get_or}}
+use Rattle.lft_whole.specs.{declared.token.Token.Token, Tokens.{IsToken, StandBetween, AreTokens, EachIsToken}}
 
 -- white space and remarks stand behind them
 pub between_blank : (text : List ℕ) (i : ℕ) (tokens : List Token) (j k : ℕ) → j ≤ k → StandBetween text i tokens j → StandBetween text i tokens k

@@ -2,14 +2,10 @@
 use Rattle.std.proofs.Common.{◌≡◌, ℕ, suc, ◌+◌, ◌-◌, ◌<◌, ◌≤◌, true, false, List, [], ◌∷◌, length, get_or, drop, IsAscii, ◌⊎◌, inl, inr, refl, sym, subst, ap, ◌∙◌, arith, length-take, length-drop}
 use Rattle.std.specs.Prelude.{slice_index, slice_range}
 use Rattle.std.specs.List.{All}
-use Rattle.std.proofs.lemmas.List.{get_or-take, get_or-drop}
-use Rattle.std.proofs.lemmas.List.Elements.{All-cons, All-from_get_or, All-get_or, All-weaker}
-use Rattle.std.proofs.lemmas.Str.Ascii.{IsAscii-from_reads}
-use Rattle.std.proofs.lemmas.Bool.{cases_lt}
-use Rattle.std.proofs.lemmas.Bool.Decides.{nat_tests}
+use Rattle.std.proofs.lemmas.{List.{get_or-take, get_or-drop, Elements.{All-cons, All-from_get_or, All-get_or, All-weaker}}, Str.Ascii.IsAscii-from_reads}
+use Rattle.std.proofs.lemmas.Bool.{cases_lt, Decides.nat_tests}
 use Rattle.lft_lists.specs.Bytes.{is_letter, is_word}
-use Rattle.lft_syntax.proofs.TokenFacts.{word_ascii}
-use Rattle.lft_syntax.specs.Lexes.{Run}
+use Rattle.lft_syntax.{proofs.TokenFacts.word_ascii, specs.Lexes.Run}
 use Rattle.lft_tree.specs.Identifiers.{IsIdentifier}
 
 identifier_from : (xs : List ℕ) → 0 < length xs → is_letter (get_or xs 0 0) ≡ true → ((k : ℕ) → k < length xs → is_word (get_or xs k 0) ≡ true) → IsIdentifier xs

@@ -1,9 +1,7 @@
 -- Searches for a place, and runs of bytes.
 use Rattle.std.proofs.Common.{◌≡◌, ℕ, zero, suc, ◌+◌, ◌-◌, ◌<◌, ◌≤◌, Bool, true, false, List, ◌∷◌, length, Option, Some, None, inl, inr, if◌then◌else◌, refl, sym, ap, subst, ◌∙◌, arith}
 use Rattle.std.specs.Prelude.{slice_get, slice_index, not}
-use Rattle.std.specs.Option.{option_map}
-use Rattle.std.proofs.lemmas.Bool.{cases_lt}
-use Rattle.std.proofs.lemmas.Option.{slice_get-get_or, slice_get_past}
+use Rattle.std.{specs.Option.option_map, proofs.lemmas.{Bool.cases_lt, Option.{slice_get-get_or, slice_get_past}}}
 use Rattle.lft_syntax.specs.Lexes.{Run}
 use Rattle.lft_whole.specs.Pieces.{is_of, sees, stands, first, first_in, place_or, run_end, past}
 

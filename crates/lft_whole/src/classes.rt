@@ -4,8 +4,7 @@ ghost use Rattle.std.specs.Prelude.{◌≡◌, ◌+◌, ◌<◌, ◌≤◌, [], 
 ghost use Rattle.lft_lists.specs.Bytes.{within, is_in_line, is_digit, is_letter, is_word};
 ghost use Rattle.lft_syntax.specs.Lexes.{Run};
 ghost use Rattle.lft_tree.specs.Identifiers.{IsIdentifier};
-ghost use Rattle.lft_whole.specs.Forms.{is_gap, is_hexadecimal};
-ghost use Rattle.lft_whole.specs.Pieces.{sees, stands, run_end};
+ghost use Rattle.lft_whole.specs.{Forms.{is_gap, is_hexadecimal}, Pieces.{sees, stands, run_end}};
 
 use lft_syntax::{digits_end, is_digit, is_letter, line_end, word_end};
 

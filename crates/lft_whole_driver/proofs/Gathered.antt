@@ -1,19 +1,15 @@
 -- The files of a program, as they are read.
 use Rattle.std.proofs.Common.{◌≡◌, ◌<◌, ℕ, inl, inr, List, [], ◌∷◌, ◌++◌, Some, None, length, refl, subst, sym, ap, ◌∙◌, arith, string_bytes}
 use Rattle.std.specs.Prelude.{IfSome, IsSomeAnd, slice_get}
-use Rattle.std.proofs.lemmas.List.{length-map}
-use Rattle.std.proofs.lemmas.Option.{slice_get_within}
+use Rattle.std.proofs.lemmas.{List.length-map, Option.slice_get_within}
 use Rattle.lft_lists.proofs.Places.{get_push, get_push_cases, get_there, Some_same}
-use Rattle.lft_whole.specs.declared.sources.source.SourceFile.{SourceFile}
-use Rattle.lft_whole.specs.declared.sources.stop.Place.{Place}
-use Rattle.lft_whole.specs.declared.sources.stop.Refusal.{Refusal}
-use Rattle.lft_whole.specs.declared.sources.stop.Stop.TheVariants as stop
+use Rattle.lft_whole.specs.declared.sources.{source.SourceFile.SourceFile, stop.{Place.Place, Refusal.Refusal}}
 use Rattle.lft_whole_parser.specs.Imports.Files.{AreSources, HasOneMore, IsFileOf, IsImportOf, IsNamedBy, IsRefusedFor, RefusesNext, next_path, paths_of, paths_of_files}
 use Rattle.lft_whole_parser.specs.Imports.Paths.{normal}
 use Rattle.lft_whole_parser.specs.declared.imports.sources.Sources.{Sources}
 use Rattle.lft_whole_parser.proofs.ImportsLemmas.Known.{all_whole, path_at, read_more}
-use Rattle.lft_whole_driver.specs.Lowered.{AreFilesOf, BeginWith, BeginsAs, LeadTo}
-use Rattle.lft_whole_driver.specs.Unlowered.{IsAt, IsOfFirst, IsOfImported, IsOfUnread}
+use Rattle.lft_whole_driver.specs.{Lowered.{AreFilesOf, BeginWith, BeginsAs, LeadTo}, Unlowered.{IsAt, IsOfFirst, IsOfImported, IsOfUnread}}
+use Rattle.lft_whole.specs.declared.sources.stop.Stop.TheVariants as stop
 
 module _ (path text : List ℕ) (s0 : Sources) (none : s0.files.items ≡ []) (paths : paths_of s0.asked ≡ normal path ∷ []) where
   wanted : next_path s0 ≡ Some (normal path)

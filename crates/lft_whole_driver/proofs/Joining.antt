@@ -1,22 +1,14 @@
 -- Files as one text.
 use Rattle.std.proofs.Common.{◌≡◌, ℕ, ◌+◌, ◌≤◌, ◌<◌, List, [], ◌∷◌, ◌++◌, Ok, Some, length, map, take, get_or, slice_get, sym, ap, subst, ◌∙◌, add-one, arith, string_bytes}
-use Rattle.std.specs.List.{All}
-use Rattle.std.proofs.lemmas.List.{append_assoc, length-append}
-use Rattle.std.proofs.lemmas.List.Elements.{All-append, All-cons, All-nil}
-use Rattle.std.proofs.lemmas.Option.{slice_get-get_or}
+use Rattle.std.{specs.List.All, proofs.lemmas.{List.{append_assoc, length-append, Elements.{All-append, All-cons, All-nil}}, Option.slice_get-get_or}}
 use Rattle.lft_lists.proofs.Picked.{take_next}
-use Rattle.lft_text_diagnostics.specs.Pages.{ArePages}
-use Rattle.lft_text_diagnostics.specs.declared.pages.Page.{Page}
-use Rattle.lft_whole.specs.Sources.Shown.{shown_path}
-use Rattle.lft_whole.specs.declared.sources.source.SourceFile.{SourceFile}
-use Rattle.lft_syntax.specs.declared.token.Token.{Token}
+use Rattle.lft_text_diagnostics.specs.{Pages.ArePages, declared.pages.Page.Page}
+use Rattle.lft_whole.specs.{Sources.Shown.shown_path, declared.sources.source.SourceFile.SourceFile, Pieces.tokens_of, Tokens.{AreTokens, IsToken}}
 use Rattle.lft_whole.proofs.Between.{each_token}
-use Rattle.lft_whole.specs.Pieces.{tokens_of}
-use Rattle.lft_whole.specs.Tokens.{AreTokens, IsToken}
-use Rattle.lft_whole.specs.declared.token.Token as whole
-use Rattle.lft_whole_driver.specs.Pages.{AreJoined, Join, JoinsFile, cut, end_at, end_of, file_tokens, is_page, moved}
-use Rattle.lft_whole_driver.specs.Pages.Join.{no_files, file_more}
+use Rattle.lft_syntax.specs.declared.token.Token.{Token}
+use Rattle.lft_whole_driver.specs.Pages.{AreJoined, Join, JoinsFile, cut, end_at, end_of, file_tokens, is_page, moved, Join.{no_files, file_more}}
 use Rattle.lft_whole_driver.specs.declared.pages.Joined.{Joined}
+use Rattle.lft_whole.specs.declared.token.Token as whole
 
 -- a token of a text
 pub token_at : (t : List ℕ) (tokens these : List whole.Token) (at : ℕ) (d : whole.Token) → AreTokens t tokens → these ≡ tokens → at < length these → IsToken t (get_or these at d)

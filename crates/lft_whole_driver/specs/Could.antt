@@ -1,12 +1,9 @@
 -- What could stand in place of a token.
 use Rattle.std.specs.Prelude.{◌≡◌, ◌<◌, ◌++◌, ◌∷◌, ℕ, List, [], Result, Ok, Err}
-use Rattle.lft_whole.specs.Pieces.{tokens_of}
-use Rattle.lft_whole.specs.declared.fault.TreeFault.{TreeFault}
-use Rattle.lft_whole.specs.declared.fault.TreeFault.TheVariants as faults
-use Rattle.lft_whole.specs.declared.token.Token.{Token}
-use Rattle.lft_whole.specs.Parts.Tree.{FileTree}
+use Rattle.lft_whole.specs.{Pieces.tokens_of, declared.{fault.TreeFault.TreeFault, token.Token.Token}, Parts.Tree.FileTree}
 use Rattle.lft_whole_parser.specs.Files.{reads}
 use Rattle.lft_whole_driver.specs.declared.could.Thing.{Thing}
+use Rattle.lft_whole.specs.declared.fault.TreeFault.TheVariants as faults
 
 -- What is read has a tree, or is refused behind the token of this number.
 abbrev pub GoesPast : ℕ → Result FileTree TreeFault → Type 0

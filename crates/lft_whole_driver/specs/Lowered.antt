@@ -1,12 +1,9 @@
 -- What the files of a program are, and which program they are.
 use Rattle.std.specs.Prelude.{◌≡◌, ℕ, IsSomeAnd, List, Some, slice_get}
 use Rattle.lft_ir.specs.Parts.{Parts}
-use Rattle.lft_whole_parser.specs.Imports.Files.{AreOfTexts, AreReached, EachOnce, IsFileOf, IsWhole, paths_of_files}
-use Rattle.lft_whole_parser.specs.Imports.Paths.{normal}
+use Rattle.lft_whole_parser.specs.Imports.{Files.{AreOfTexts, AreReached, EachOnce, IsFileOf, IsWhole, paths_of_files}, Paths.normal}
 use Rattle.lft_load.specs.Meaning.{IsOnly}
-use Rattle.lft_same.specs.Expanded.Expanded.{Expanded}
-use Rattle.lft_same.specs.Expanded.Flat.{IsFlat}
-use Rattle.lft_same.specs.Expanded.Same.{IsSame}
+use Rattle.lft_same.specs.Expanded.{Expanded.Expanded, Flat.IsFlat, Same.IsSame}
 use Rattle.lft_whole.specs.declared.sources.source.SourceFile.{SourceFile}
 
 -- The first of the files has this path, and is read from this text.

@@ -1,17 +1,13 @@
 -- The files of a program as one text.
 use Rattle.std.specs.Prelude.{◌≡◌, ◌+◌, ◌++◌, ℕ, List, [], ◌∷◌, Result, Ok, Err, length, map, string_bytes}
 use Rattle.lft_text_diagnostics.specs.declared.pages.Page.{Page}
-use Rattle.lft_whole.specs.Sources.Shown.{shown_path}
-use Rattle.lft_whole.specs.declared.sources.source.SourceFile.{SourceFile}
-use Rattle.lft_syntax.specs.declared.token.Token.{Token}
-use Rattle.lft_syntax.specs.declared.token.TokenKind.{TokenKind}
+use Rattle.lft_whole.specs.{Sources.Shown.shown_path, declared.{sources.source.SourceFile.SourceFile, fault.TextFault.TextFault}, Pieces.tokens_of}
+use Rattle.lft_syntax.specs.declared.token.{Token.Token, TokenKind.TokenKind}
+use Rattle.lft_whole_driver.specs.declared.pages.Joined.{Joined}
 use Rattle.lft_syntax.specs.declared.token.TokenKind.TheVariants as kinds
-use Rattle.lft_whole.specs.Pieces.{tokens_of}
-use Rattle.lft_whole.specs.declared.fault.TextFault.{TextFault}
 use Rattle.lft_whole.specs.declared.token.Token as whole
 use Rattle.lft_whole.specs.declared.token.TokenKind as whole_kind
 use Rattle.lft_whole.specs.declared.token.TokenKind.TheVariants as whole_kinds
-use Rattle.lft_whole_driver.specs.declared.pages.Joined.{Joined}
 
 -- Code is code, and any other token is as a name.
 abbrev pub kind_in : whole_kind.TokenKind → TokenKind

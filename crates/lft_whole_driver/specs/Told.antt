@@ -1,22 +1,14 @@
 -- What is told of a program that isn't lowered.
 use Rattle.std.specs.Prelude.{◌≡◌, ◌⊎◌, ◌++◌, ◌-◌, ℕ, IfSome, List, [], Some, None, codes, option_map, slice_get, string_bytes, unwrap_or}
-use Rattle.lft_load.specs.Faults.{words_of}
-use Rattle.lft_load.specs.declared.fault.Fault.{Fault}
-use Rattle.lft_load.specs.declared.fault.Part.TheVariants as part
+use Rattle.lft_load.specs.{Faults.words_of, declared.fault.Fault.Fault}
 use Rattle.lft_program_diagnostics.specs.Reasons.{IsToldIn}
-use Rattle.lft_whole.specs.Sources.Causes.{names, number_of, sentence_of}
-use Rattle.lft_whole.specs.Sources.Shown.{place_words}
-use Rattle.lft_whole.specs.declared.sources.source.SourceFile.{SourceFile}
-use Rattle.lft_whole.specs.declared.sources.stop.Place.{Place}
-use Rattle.lft_whole.specs.declared.sources.stop.Refusal.{Refusal}
-use Rattle.lft_whole.specs.declared.sources.stop.Stop.{Stop}
-use Rattle.lft_whole.specs.declared.sources.stop.Stop.TheVariants as stop
-use Rattle.lft_whole.specs.declared.sources.why.Why.{Why}
-use Rattle.lft_whole.specs.declared.sources.why.Why.TheVariants.{Unexpected}
+use Rattle.lft_whole.specs.Sources.{Causes.{names, number_of, sentence_of}, Shown.place_words}
+use Rattle.lft_whole.specs.declared.sources.{source.SourceFile.SourceFile, stop.{Place.Place, Refusal.Refusal, Stop.Stop}}
+use Rattle.lft_whole.specs.declared.sources.why.Why.{Why, TheVariants.Unexpected}
 use Rattle.lft_tree.specs.declared.tree.Item.{Item}
-use Rattle.lft_whole_driver.specs.Pages.{AreJoined}
-use Rattle.lft_whole_driver.specs.declared.pages.Joined.{Joined}
-use Rattle.lft_whole_driver.specs.declared.told.Unlowered.{Unlowered}
+use Rattle.lft_whole_driver.specs.{Pages.AreJoined, declared.{pages.Joined.Joined, told.Unlowered.Unlowered}}
+use Rattle.lft_load.specs.declared.fault.Part.TheVariants as part
+use Rattle.lft_whole.specs.declared.sources.stop.Stop.TheVariants as stop
 
 -- Where a token of one of the files stands: `FILE:LINE:COLUMN`.
 abbrev pub where_words : List SourceFile → Place → List ℕ

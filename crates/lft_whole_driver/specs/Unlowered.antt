@@ -1,21 +1,14 @@
 -- Why a program isn't lowered, and of which of its files.
 use Rattle.std.specs.Prelude.{◌≡◌, ◌⊎◌, ◌<◌, ℕ, IsSomeAnd, List, [], ◌∷◌, ◌++◌, None, length, slice_get, string_bytes}
-use Rattle.lft_whole.specs.declared.sources.source.SourceFile.{SourceFile}
-use Rattle.lft_whole.specs.declared.sources.stop.Place.{Place}
-use Rattle.lft_whole.specs.declared.sources.stop.Refusal.{Refusal}
-use Rattle.lft_whole.specs.declared.sources.stop.Stop.TheVariants as stop
-use Rattle.lft_whole.specs.declared.sources.why.Why.{Why}
-use Rattle.lft_whole.specs.declared.sources.why.Why.TheVariants as why
-use Rattle.lft_whole_parser.specs.Imports.Files.{IsImportOf, IsRefusedFor, RefusesNext, paths_of_files}
-use Rattle.lft_whole_parser.specs.Imports.Paths.{normal}
+use Rattle.lft_whole.specs.declared.sources.{source.SourceFile.SourceFile, stop.{Place.Place, Refusal.Refusal}, why.Why.Why}
+use Rattle.lft_whole_parser.specs.Imports.{Files.{IsImportOf, IsRefusedFor, RefusesNext, paths_of_files}, Paths.normal}
 use Rattle.lft_whole_parser.specs.declared.imports.sources.Sources.{Sources}
 use Rattle.lft_lower.specs.Reactors.{IsLowering}
 use Rattle.lft_resolve.specs.Causes.{IsFirst, causes}
-use Rattle.lft_tree.specs.View.{tree_view}
-use Rattle.lft_tree.specs.declared.ast.Ast.{Ast}
-use Rattle.lft_whole_driver.specs.Lowered.{AreFilesOf, BeginWith, BeginsAs, LeadTo}
-use Rattle.lft_whole_driver.specs.Told.{TellsRefusal, TellsTree}
-use Rattle.lft_whole_driver.specs.declared.told.Unlowered.{Unlowered}
+use Rattle.lft_tree.specs.{View.tree_view, declared.ast.Ast.Ast}
+use Rattle.lft_whole_driver.specs.{Lowered.{AreFilesOf, BeginWith, BeginsAs, LeadTo}, Told.{TellsRefusal, TellsTree}, declared.told.Unlowered.Unlowered}
+use Rattle.lft_whole.specs.declared.sources.stop.Stop.TheVariants as stop
+use Rattle.lft_whole.specs.declared.sources.why.Why.TheVariants as why
 
 -- the refusal is of the first file, which has this path, and is refused for this text
 abbrev pub IsOfFirst : List ℕ → List ℕ → List SourceFile → Refusal → Type 0

@@ -2,8 +2,7 @@
 
 ghost use Rattle.std.specs.Prelude.{◌≡◌, ◌+◌, ◌≤◌, ◌<◌, ◌^◌, IfOk, OnOk, length};
 ghost use Rattle.lft_whole.specs.Tokens.{AreTokens};
-ghost use Rattle.lft_whole_parser.specs.Imports.Files.{AreOfTexts};
-ghost use Rattle.lft_whole_parser.specs.Imports.Reads.{HasTree};
+ghost use Rattle.lft_whole_parser.specs.Imports.{Files.AreOfTexts, Reads.HasTree};
 ghost use Rattle.lft_whole_driver.specs.Pages.{AreJoined, JoinsFile, JoinsTokens, kind_in, moved as moved_token};
 
 use lft_syntax::{Token, TokenKind};

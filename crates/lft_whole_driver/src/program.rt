@@ -1,10 +1,9 @@
 //! The flat program of a whole one, in names of the source.
 
 ghost use Rattle.std.specs.Prelude.{◌≡◌, ◌≢◌, IfErr, IfOk, false};
-ghost use Rattle.lft_program.specs.declared.refusal.Refusal.TheVariants as refusals;
 ghost use Rattle.lft_whole_parser.specs.Imports.Files.{AreOfTexts};
-ghost use Rattle.lft_whole_driver.specs.Lowered.{IsOfFiles, IsProgramOf};
-ghost use Rattle.lft_whole_driver.specs.Unlowered.{IsUnloweredFrom, IsUnloweredOf};
+ghost use Rattle.lft_whole_driver.specs.{Lowered.{IsOfFiles, IsProgramOf}, Unlowered.{IsUnloweredFrom, IsUnloweredOf}};
+ghost use Rattle.lft_program.specs.declared.refusal.Refusal.TheVariants as refusals;
 
 use crate::reading::read_sources;
 use crate::told::{Unlowered, unlowered_by, unlowered_tree};

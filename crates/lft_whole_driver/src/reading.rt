@@ -2,8 +2,7 @@
 
 ghost use Rattle.std.specs.Prelude.{◌≡◌, ◌<◌, IfErr, IfOk, None, OnOk, Some, length};
 ghost use Rattle.lft_whole_parser.specs.Imports.Files.{AreSources, HasOneMore, next_path};
-ghost use Rattle.lft_whole_driver.specs.Lowered.{AreFilesOf, BeginsAs};
-ghost use Rattle.lft_whole_driver.specs.Unlowered.{IsAt, IsOfNext, IsOfReading, IsOfRest, IsOfUnread, Says};
+ghost use Rattle.lft_whole_driver.specs.{Lowered.{AreFilesOf, BeginsAs}, Unlowered.{IsAt, IsOfNext, IsOfReading, IsOfRest, IsOfUnread, Says}};
 
 use crate::told::{Unlowered, unlowered_by};
 use lft_load::files::{Failure, read_ordinary};

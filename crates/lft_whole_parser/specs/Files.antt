@@ -1,14 +1,10 @@
 -- The grammar of a file: its target, imports and reactors.
 use Rattle.std.specs.Prelude.{ℕ, zero, suc, ◌+◌, ◌-◌, List, [], ◌∷◌, ◌++◌, codes, length, slice_get, slice_range, nat_lt, filter_map, find, Option, Some, None, Result, Ok, Err, Bool, ◌&&◌, if◌then◌else◌}
 use Rattle.lft_tree.specs.declared.tree.TimeUnit.{TimeUnit}
-use Rattle.lft_whole.specs.declared.token.Token.{Token}
-use Rattle.lft_whole.specs.declared.fault.TreeFault.{TreeFault}
-use Rattle.lft_whole.specs.declared.fault.TreeFault.TheVariants.{Unexpected, Package}
-use Rattle.lft_whole.specs.declared.tree.Timeout.{Timeout}
+use Rattle.lft_whole.specs.declared.{token.Token.Token, fault.TreeFault.{TreeFault, TheVariants.{Unexpected, Package}}, tree.Timeout.Timeout}
 use Rattle.lft_whole.specs.Parts.Lexeme.{Source, see, unit_in, number_in, is_there, is_text}
 use Rattle.lft_whole.specs.Parts.Language.{Reader, ◌>>=◌, on, sign, word, this, key, ◌&◌, ◌>>◌, ◌<<◌, ◌then◌, nothing, made, choice, repeat, separated, opened}
-use Rattle.lft_whole.specs.Parts.Tree.{NameTree, ReactorTree, ImportedTree, ImportTree, FileTree}
-use Rattle.lft_whole.specs.Parts.Parts.{name}
+use Rattle.lft_whole.specs.Parts.{Tree.{NameTree, ReactorTree, ImportedTree, ImportTree, FileTree}, Parts.name}
 use Rattle.lft_whole_parser.specs.Grammar.{on_preamble, preamble, attributes, on_reactor, reactor, unexpected}
 
 -- a name of another file, and its name here

@@ -1,13 +1,12 @@
 -- The grammar of whole texts: each production, and the part of the tree that it reads. A comment above one
 -- has it as grammars are written: [ ] may be left out, { } is read over and over, | has what is tried in order.
 use Rattle.std.specs.Prelude.{ℕ, ◌+◌, ◌-◌, List, [], ◌∷◌, ◌++◌, codes, slice_get, Option, Some, None, Ok, Err, Bool, true, false, ◌||◌, ◌==◌}
-use Rattle.lft_whole.specs.declared.token.Token.{Token}
-use Rattle.lft_whole.specs.declared.fault.TreeFault.TheVariants.{Unexpected}
-use Rattle.lft_whole.specs.declared.tree.Foreign.TheVariants as foreigns
+use Rattle.lft_whole.specs.declared.{token.Token.Token, fault.TreeFault.TheVariants.Unexpected}
 use Rattle.lft_whole.specs.Parts.Lexeme.{is_there, is_word, is_code, is_arrow, is_tilde_arrow}
 use Rattle.lft_whole.specs.Parts.Language.{Reader, ◌>>=◌, Test, on, sign, word, next, ◌and◌, ◌or◌, isnt, one, symbol, key, this, flag, ◌&◌, ◌>>◌, ◌<<◌, ◌then◌, nothing, made, made_at, ignored, needed, choice, optional, passed, repeat, passing, separated, closed, group, past_group}
 use Rattle.lft_whole.specs.Parts.Parts.{on_arrow, name, typed, expression, initial, two_values, on_interleaved, reference, references, effects, width}
 use Rattle.lft_whole.specs.Parts.Tree.{NameTree, ReferenceTree, ValueTree, NumberValue, ExpressionTree, TermTree, ParameterTree, PortTree, TimerTree, ActionTree, TriggerTree, AtStartup, AtShutdown, AtReset, OnReference, EffectTree, ReactionTree, AssignmentTree, InstanceTree, ConnectionTree, MemberTree, PortMember, TimerMember, ActionMember, ReactionMember, InstanceMember, ConnectionMember, ForeignMember, ReactorTree}
+use Rattle.lft_whole.specs.declared.tree.Foreign.TheVariants as foreigns
 
 -- ---- ports, timers, actions
 

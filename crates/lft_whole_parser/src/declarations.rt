@@ -2,8 +2,8 @@
 
 ghost use Rattle.std.specs.Prelude.{◌≡◌, ◌<◌, ◌≤◌, true, IfOk, IfErr};
 ghost use Rattle.lft_whole.specs.Parts.Parsing.{count, Within, Further, NotBefore, Refuses, source};
-ghost use Rattle.lft_whole_parser.specs.Grammar as Grammar;
 ghost use Rattle.lft_whole.specs.Parts.View.{Gives, at_next, port_view, timer_view, action_view};
+ghost use Rattle.lft_whole_parser.specs.Grammar as Grammar;
 
 use lft_whole::parts::groups::group;
 use lft_whole::parts::input::Input;

@@ -3,10 +3,8 @@
 //! the part and the place behind it. In `imports` the files of a program, each read once.
 
 ghost use Rattle.std.specs.Prelude.{IfErr};
-ghost use Rattle.lft_whole.specs.Tokens.{AreTokens};
-ghost use Rattle.lft_whole.specs.Places.{IsAmong};
+ghost use Rattle.lft_whole.specs.{Tokens.AreTokens, Places.IsAmong, Parts.View.{Gives, file_view}};
 ghost use Rattle.lft_whole_parser.specs.Files.{reads};
-ghost use Rattle.lft_whole.specs.Parts.View.{Gives, file_view};
 
 mod connections;
 mod declarations;

@@ -1,9 +1,8 @@
 //! The members of a reactor.
 
 ghost use Rattle.std.specs.Prelude.{◌≡◌, ◌<◌, ◌≤◌, true, IfOk, IfErr, map, option_map};
-ghost use Rattle.lft_whole.specs.Parts.Parsing.{count, Within, Further, NotBefore, Refuses, source};
+ghost use Rattle.lft_whole.specs.Parts.{Parsing.{count, Within, Further, NotBefore, Refuses, source}, View.{Gives, at_next, member_view}};
 ghost use Rattle.lft_whole_parser.specs.Grammar as Grammar;
-ghost use Rattle.lft_whole.specs.Parts.View.{Gives, at_next, member_view};
 
 use crate::connections::{connection, is_connection};
 use crate::declarations::{action, is_preamble, method, port, preamble, state, timer};

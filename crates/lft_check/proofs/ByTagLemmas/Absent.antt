@@ -1,35 +1,17 @@
 -- Up to when names are absent, by their causes.
 use Rattle.std.proofs.Common.{◌≡◌, ◌≢◌, ℕ, ◌+◌, ◌*◌, ◌/◌, ◌%◌, ◌<◌, ◌≤◌, ◌⊎◌, inl, inr, List, length, sym, ap, ◌∙◌, subst, arith, true, false, Option, Some, None, slice_get, slice_set}
-use Rattle.std.proofs.lemmas.Bool.{cases_eq, cases_lt}
-use Rattle.std.proofs.lemmas.Nat.{div-add-mod'}
-use Rattle.std.proofs.Math.Nat.{mod-lt}
-use Rattle.lft_tag.specs.declared.Tag.{Tag}
-use Rattle.lft_tag.specs.Tags.{Before, UpTo}
-use Rattle.lft_tag.specs.Shifts.{Folded, shifted}
+use Rattle.std.proofs.{lemmas.{Bool.{cases_eq, cases_lt}, Nat.div-add-mod'}, Math.Nat.mod-lt}
+use Rattle.lft_tag.specs.{declared.Tag.Tag, Tags.{Before, UpTo}, Shifts.{Folded, shifted}}
 use Rattle.lft_tag.proofs.Order.{Before-UpTo, Before-weaken, UpTo-not, UpTo-trans, UpTo_antisym, Before-trans, order_cases}
-use Rattle.lft_ir.specs.Sound.{IsSound}
-use Rattle.lft_ir.specs.declared.parts.Name.{Name}
-use Rattle.lft_ir.specs.declared.parts.Reaction.{Reaction}
-use Rattle.lft_ir.specs.declared.steps.row.Row.{Row}
-use Rattle.lft_ir.specs.Steps.Fits.{RowsFit}
+use Rattle.lft_ir.specs.{Sound.IsSound, declared.{parts.{Name.Name, Reaction.Reaction}, steps.row.Row.Row}, Steps.Fits.RowsFit}
 use Rattle.lft_lists.proofs.Places.{get_write_cases, length_written, same_at, get_there}
-use Rattle.lft_model.specs.Plans.{PlanParts}
-use Rattle.lft_model.specs.Presence.{IsPresent}
-use Rattle.lft_model.proofs.Places.{slice_get_within}
-use Rattle.lft_rows.specs.Marks.{HasSeat}
-use Rattle.lft_rows.specs.declared.presence.causes.Cause.{Cause}
-use Rattle.lft_rows.specs.Presence.Causes.{tag_of, IsCause, AreCauses, Leads, LiesBelow, IsPosition}
-use Rattle.lft_rows.specs.Presence.Traces.{TraceParts, IsSooner}
-use Rattle.lft_rows.proofs.PresenceLemmas.Presences.{IsKey, present_cause}
-use Rattle.lft_rows.proofs.PresenceLemmas.Skips.{leads_up, names_up}
-use Rattle.lft_check.specs.declared.by_tag.absences.Absences.{Absences}
-use Rattle.lft_rows.specs.declared.slices.Slice.{Slice}
-use Rattle.lft_check.specs.ByTag.Absences.{IsEarlier, IsAbsentUntil, AreAbsences, AreAbsentUntil, IsUnknown}
-use Rattle.lft_rows.specs.Slices.{IsSlice}
-use Rattle.lft_check.specs.ByTag.Slices.{IsCuttable}
-use Rattle.lft_check.specs.declared.by_tag.walk.Walk.{Walk}
+use Rattle.lft_model.{specs.{Plans.PlanParts, Presence.IsPresent}, proofs.Places.slice_get_within}
+use Rattle.lft_rows.specs.{Marks.HasSeat, declared.{presence.causes.Cause.Cause, slices.Slice.Slice}}
+use Rattle.lft_rows.specs.{Presence.{Causes.{tag_of, IsCause, AreCauses, Leads, LiesBelow, IsPosition}, Traces.{TraceParts, IsSooner}}, Slices.IsSlice}
+use Rattle.lft_rows.proofs.{PresenceLemmas.{Presences.{IsKey, present_cause}, Skips.{leads_up, names_up}}, Marked.before_on}
+use Rattle.lft_check.specs.declared.by_tag.{absences.Absences.Absences, walk.Walk.Walk}
+use Rattle.lft_check.specs.ByTag.{Absences.{IsEarlier, IsAbsentUntil, AreAbsences, AreAbsentUntil, IsUnknown}, Slices.IsCuttable}
 use Rattle.lft_check.specs.ByTag.Walks.{IsPast, IsBefore, HasWalked}
-use Rattle.lft_rows.proofs.Marked.{before_on}
 use Rattle.lft_check.proofs.ByTagLemmas.Indexed.{rises_of}
 
 -- no tag is before the first one

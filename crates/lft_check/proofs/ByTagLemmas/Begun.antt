@@ -1,25 +1,14 @@
 -- The runs of each reaction, one row after another.
 use Rattle.std.proofs.Common.{◌≡◌, ℕ, ◌+◌, ◌<◌, ◌⊎◌, inl, inr, List, [], ◌∷◌, ◌++◌, length, length-append, take, drop, replicate, refl, sym, ap, ◌∙◌, subst, arith, Bool, true, false, Option, Some, slice_get, slice_set}
 use native.Mathlib.Decide.{ℕ_discrete}
-use Rattle.lft_tag.specs.declared.Tag.{Tag}
-use Rattle.lft_tag.specs.Tags.{Before, UpTo}
-use Rattle.lft_tag.proofs.Order.{order_cases, UpTo_antisym, UpTo-not, from_first}
-use Rattle.lft_ir.specs.declared.steps.row.Row.{Row}
-use Rattle.lft_ir.specs.declared.steps.row.Step.TheVariants.{Start}
+use Rattle.lft_tag.{specs.{declared.Tag.Tag, Tags.{Before, UpTo}}, proofs.Order.{order_cases, UpTo_antisym, UpTo-not, from_first}}
+use Rattle.lft_ir.{specs.declared.steps.row.{Row.Row, Step.TheVariants.Start}, proofs.Ranges.slice_get-drop}
 use Rattle.lft_lists.proofs.Places.{get_there, same_at, get_write_cases, get_written, get_unwritten, get_push, get_last, get_push_cases, length_written, get_same, get_append_cases}
-use Rattle.lft_model.specs.Plans.{PlanParts}
-use Rattle.lft_model.specs.Presence.{Triggered}
-use Rattle.lft_model.specs.Runs.{start_row, Ran}
-use Rattle.lft_model.proofs.Ended.{row_is}
-use Rattle.lft_model.proofs.Legality.{four, rising, one_start}
-use Rattle.lft_model.proofs.Places.{slice_get_within, slice_get_take}
-use Rattle.lft_ir.proofs.Ranges.{slice_get-drop}
-use Rattle.lft_rows.specs.Presence.Traces.{TraceParts, LeastTag}
-use Rattle.lft_rows.proofs.PresenceLemmas.Leasts.{least_as}
+use Rattle.lft_model.specs.{Plans.PlanParts, Presence.Triggered, Runs.{start_row, Ran}}
+use Rattle.lft_model.proofs.{Ended.row_is, Legality.{four, rising, one_start}, Places.{slice_get_within, slice_get_take}}
+use Rattle.lft_rows.{specs.{Presence.Traces.{TraceParts, LeastTag}, Slices.AreTags}, proofs.PresenceLemmas.Leasts.least_as}
 use Rattle.lft_check.specs.declared.by_tag.started.Started.{Started}
-use Rattle.lft_rows.specs.Slices.{AreTags}
-use Rattle.lft_check.specs.ByTag.Slices.{IsCuttable, IsMissing, IsVacant}
-use Rattle.lft_check.specs.ByTag.Least.{HasTag, IsPassed, AreTriggered, Lacks}
+use Rattle.lft_check.specs.ByTag.{Slices.{IsCuttable, IsMissing, IsVacant}, Least.{HasTag, IsPassed, AreTriggered, Lacks}}
 use Rattle.lft_check.specs.ByTag.Indexes.{AreStartsOf, HasRunsTo, HasRuns, AreDue, AreMarkedTo}
 
 pub starts_begin : (t : List Row) (n : ℕ) (tags : List (List Tag)) (places : List (List ℕ)) → length tags ≡ n → length places ≡ n → ((r : ℕ) (gs : List Tag) → slice_get tags r ≡ Some gs → gs ≡ []) → ((r : ℕ) (ps : List ℕ) → slice_get places r ≡ Some ps → ps ≡ []) → HasRunsTo t 0 n tags places

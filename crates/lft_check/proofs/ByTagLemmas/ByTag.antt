@@ -1,15 +1,11 @@
 -- The slices of the rows, one row after another.
 use Rattle.std.proofs.Common.{◌≡◌, ℕ, ◌+◌, ◌<◌, ◌≤◌, ◌⊎◌, inl, inr, List, [], ◌∷◌, ◌++◌, length, refl, sym, ap, ◌∙◌, subst, arith, Some, slice_get}
 use native.Mathlib.Decide.{ℕ_discrete, dec_lt}
-use Rattle.lft_tag.specs.declared.Tag.{Tag}
-use Rattle.lft_tag.specs.Tags.{Before, UpTo}
-use Rattle.lft_tag.proofs.Order.{Before-irrefl, Before-UpTo, UpTo_antisym, order_cases}
+use Rattle.lft_tag.{specs.{declared.Tag.Tag, Tags.{Before, UpTo}}, proofs.Order.{Before-irrefl, Before-UpTo, UpTo_antisym, order_cases}}
 use Rattle.lft_lists.proofs.Places.{get_there, get_left, get_last, get_push_cases}
-use Rattle.lft_rows.proofs.PresenceLemmas.Presences.{same_row}
+use Rattle.lft_rows.{proofs.PresenceLemmas.Presences.same_row, specs.{declared.slices.Slice.Slice, Slices.{Rises, IsSlice}}}
 use Rattle.lft_ir.specs.declared.steps.row.Row.{Row}
 use Rattle.lft_model.proofs.Places.{slice_get_within, tag_discrete}
-use Rattle.lft_rows.specs.declared.slices.Slice.{Slice}
-use Rattle.lft_rows.specs.Slices.{Rises, IsSlice}
 use Rattle.lft_check.specs.ByTag.Slices.{AreSlices}
 
 -- no row of the tag stands at the place

@@ -1,17 +1,12 @@
 -- The firings of a timer, one after another.
 use Rattle.std.proofs.Common.{◌≡◌, ℕ, ◌+◌, ◌*◌, ◌<◌, ◌≤◌, ◌-◌, ◌/◌, ◌%◌, inl, inr, List, refl, sym, ap, ◌∙◌, subst, arith, Some, None}
-use Rattle.std.proofs.lemmas.Nat.{mod_below, mul-le}
-use Rattle.std.proofs.Math.Nat.{div-add-mod, div-mul-le_self, zero-mul}
+use Rattle.std.proofs.{lemmas.Nat.{mod_below, mul-le}, Math.Nat.{div-add-mod, div-mul-le_self, zero-mul}}
 use native.Mathlib.Decide.{ℕ_discrete, dec_lt}
-use Rattle.lft_tag.specs.declared.Tag.{Tag}
-use Rattle.lft_tag.specs.Tags.{Before, UpTo}
-use Rattle.lft_tag.proofs.Chains.{tag_of}
-use Rattle.lft_tag.proofs.Order.{UpTo-not, UpTo-trans}
+use Rattle.lft_tag.{specs.{declared.Tag.Tag, Tags.{Before, UpTo}}, proofs.{Chains.tag_of, Order.{UpTo-not, UpTo-trans}}}
 use Rattle.lft_ir.specs.declared.parts.Timer.{Timer as TimerOf}
-use Rattle.lft_model.specs.Presence.{stop, Fires}
+use Rattle.lft_model.{specs.Presence.{stop, Fires}, proofs.Firings.{firing, time_of}}
 use Rattle.lft_rows.specs.Presence.Traces.{TraceParts, LeastTag}
 use Rattle.lft_check.specs.ByTag.Least.{HasTag, IsPassed, IsFirstFiring, IsFirstTime, LacksFiring}
-use Rattle.lft_model.proofs.Firings.{firing, time_of}
 
 -- the firings before this time are each there
 pub record WalkedTo (cut : TraceParts) (timer : TimerOf) (low : Tag) (tags : List Tag) (time : ℕ) : Type 0 where

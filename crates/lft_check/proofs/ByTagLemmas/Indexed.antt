@@ -1,12 +1,8 @@
 -- What sliced rows keep is right for their plan and rows.
 use Rattle.std.proofs.Common.{List, None}
-use Rattle.lft_ir.specs.declared.steps.row.Row.{Row}
-use Rattle.lft_ir.specs.Steps.Fits.{RowsFit}
-use Rattle.lft_model.specs.Plans.{PlanParts, IsSoundPlan}
-use Rattle.lft_model.proofs.Legality.{four, rising}
-use Rattle.lft_model.specs.Presence.{stop}
-use Rattle.lft_rows.specs.Firsts.{FirstRow}
-use Rattle.lft_rows.specs.Slices.{Rises}
+use Rattle.lft_ir.specs.{declared.steps.row.Row.Row, Steps.Fits.RowsFit}
+use Rattle.lft_model.{specs.{Plans.{PlanParts, IsSoundPlan}, Presence.stop}, proofs.Legality.{four, rising}}
+use Rattle.lft_rows.specs.{Firsts.FirstRow, Slices.Rises}
 use Rattle.lft_check.specs.ByTag.Slices.{IsCuttable}
 
 pub rises_of : (plan : PlanParts) (t : List Row) → FirstRow (stop plan t) plan t None → Rises t

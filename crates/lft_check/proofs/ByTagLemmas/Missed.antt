@@ -1,25 +1,15 @@
 -- The least missed tag: over triggers, then over reactions.
 use Rattle.std.proofs.Common.{◌≡◌, ℕ, ◌+◌, ◌*◌, ◌<◌, ◌≤◌, ◌⊎◌, inl, inr, List, length, refl, sym, ap, ◌∙◌, subst, arith, Option, Some, None, slice_get, Contains, MatchOption}
 use native.Mathlib.Decide.{ℕ_discrete}
-use Rattle.lft_tag.specs.declared.Tag.{Tag}
-use Rattle.lft_tag.specs.Tags.{Before}
-use Rattle.lft_tag.proofs.Order.{from_first, UpTo-trans, Before-weaken, Before-UpTo, split_up}
-use Rattle.lft_ir.specs.Parts.{Parts}
-use Rattle.lft_ir.specs.Sound.{IsSound, IsTriggerOf}
-use Rattle.lft_ir.specs.declared.parts.Trigger.{Trigger}
-use Rattle.lft_ir.specs.declared.parts.Trigger.TheVariants.{Startup, Shutdown, Timer, On}
-use Rattle.lft_ir.specs.declared.parts.Timer.{Timer as TimerOf}
-use Rattle.lft_ir.specs.declared.parts.Name.{Name}
-use Rattle.lft_ir.specs.declared.parts.Reaction.{Reaction}
-use Rattle.lft_model.specs.Presence.{stop, Occurs, Triggered}
+use Rattle.lft_tag.{specs.{declared.Tag.Tag, Tags.Before}, proofs.Order.{from_first, UpTo-trans, Before-weaken, Before-UpTo, split_up}}
+use Rattle.lft_ir.specs.{Parts.Parts, Sound.{IsSound, IsTriggerOf}}
+use Rattle.lft_ir.specs.declared.parts.{Trigger.{Trigger, TheVariants.{Startup, Shutdown, Timer, On}}, Timer.Timer as TimerOf, Name.Name, Reaction.Reaction}
+use Rattle.lft_model.{specs.Presence.{stop, Occurs, Triggered}, proofs.Places.slice_get_within}
 use Rattle.lft_lists.proofs.Places.{at_contains}
-use Rattle.lft_model.proofs.Places.{slice_get_within}
-use Rattle.lft_rows.specs.Presence.Traces.{TraceParts, LeastTag, IsSooner}
-use Rattle.lft_check.specs.ByTag.Slices.{LeastPair, IsFirstMissing, IsFirstMissingFrom}
-use Rattle.lft_rows.proofs.PresenceLemmas.Leasts.{least_as, least_of_both, trigger_of, triggered_by}
-use Rattle.lft_check.specs.ByTag.Needed.{AreNeededOf}
-use Rattle.lft_check.proofs.ByTagLemmas.Needing.{stands_occurs}
+use Rattle.lft_rows.{specs.Presence.Traces.{TraceParts, LeastTag, IsSooner}, proofs.PresenceLemmas.Leasts.{least_as, least_of_both, trigger_of, triggered_by}}
+use Rattle.lft_check.specs.ByTag.{Slices.{LeastPair, IsFirstMissing, IsFirstMissingFrom}, Needed.AreNeededOf}
 use Rattle.lft_check.specs.ByTag.Least.{IsFirstOf, LacksAt, LacksFiring, LacksTrigger, Lacks}
+use Rattle.lft_check.proofs.ByTagLemmas.Needing.{stands_occurs}
 
 -- one of the triggers before place k is lacked at g
 pub record LacksBefore (cut : TraceParts) (xs : List Trigger) (k : ℕ) (low : Tag) (tags : List Tag) (g : Tag) : Type 0 where

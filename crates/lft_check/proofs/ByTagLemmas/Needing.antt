@@ -1,22 +1,13 @@
 -- Triggers that stand for the others of a reaction.
 use Rattle.std.proofs.Common.{◌≡◌, ℕ, ◌+◌, ◌-◌, ◌*◌, ◌/◌, ◌%◌, ◌<◌, ◌≤◌, ◌⊎◌, inl, inr, List, ◌∷◌, [], ◌++◌, length, refl, sym, ap, ◌∙◌, subst, arith, Option, Some, slice_get}
-use Rattle.std.specs.List.Sorted.{IsPermutation}
-use Rattle.std.proofs.lemmas.List.Sorted.{IsPermutation-sym, Contains-permutation}
-use Rattle.std.proofs.lemmas.Nat.{div-add-mod', mod-mul-add}
+use Rattle.std.{specs.List.Sorted.IsPermutation, proofs.lemmas.{List.Sorted.{IsPermutation-sym, Contains-permutation}, Nat.{div-add-mod', mod-mul-add}}}
 use native.Mathlib.Decide.{ℕ_discrete}
-use Rattle.lft_tag.specs.declared.Tag.{Tag}
-use Rattle.lft_tag.proofs.Chains.{tag_of}
-use Rattle.lft_ir.specs.Parts.{Parts}
-use Rattle.lft_ir.specs.declared.parts.Timer.{Timer as TimerOf}
-use Rattle.lft_ir.specs.declared.parts.Trigger.{Trigger}
-use Rattle.lft_ir.specs.declared.parts.Trigger.TheVariants.{Timer}
+use Rattle.lft_tag.{specs.declared.Tag.Tag, proofs.Chains.tag_of}
+use Rattle.lft_ir.specs.{Parts.Parts, declared.parts.{Timer.Timer as TimerOf, Trigger.{Trigger, TheVariants.Timer}}}
 use Rattle.lft_lists.proofs.Places.{contains_at, at_contains, get_push, get_last, get_push_cases, same_some, same_at}
-use Rattle.lft_model.specs.Presence.{Fires, Occurs}
-use Rattle.lft_model.proofs.Firings.{firing, time_of}
-use Rattle.lft_model.proofs.Places.{slice_get_within}
+use Rattle.lft_model.{specs.Presence.{Fires, Occurs}, proofs.{Firings.{firing, time_of}, Places.slice_get_within}}
 use Rattle.lft_rows.specs.Presence.Traces.{TraceParts}
-use Rattle.lft_check.specs.declared.by_tag.needed.Beat.{Beat}
-use Rattle.lft_check.specs.ByTag.Needed.{Covers, StandsFor, AreNeeded, IsMultiple, IsBeatOf, InStep, IsMade, AreAdded}
+use Rattle.lft_check.specs.{declared.by_tag.needed.Beat.Beat, ByTag.Needed.{Covers, StandsFor, AreNeeded, IsMultiple, IsBeatOf, InStep, IsMade, AreAdded}}
 
 -- what stands for a trigger is present wherever that one is
 pub stands_occurs : (cut : TraceParts) (g : Tag) (y x : Trigger) → StandsFor cut.plan.program y x → Occurs cut.plan cut.rows g x → Occurs cut.plan cut.rows g y

@@ -1,22 +1,15 @@
 -- Whether a run read its inputs, one after another.
 use Rattle.std.proofs.Common.{◌≡◌, ℕ, ◌+◌, ◌<◌, ◌≤◌, ◌⊎◌, inl, inr, List, [], ◌∷◌, length, refl, sym, ap, ◌∙◌, subst, arith, Bool, true, false, ◌↔◌, Option, Some, None, IfSome, IfNone, slice_get, filter_map, map, unwrap_or, option_map, not}
 use Rattle.std.specs.List.{last_or, AllZip}
-use Rattle.lft_ir.proofs.Origins.{origin_unique}
+use Rattle.lft_ir.proofs.{Origins.origin_unique, Naming.input_known}
+use Rattle.lft_ir.specs.{Parts.{Parts, inputs}, Sound.{IsSound, IsNameOf}}
+use Rattle.lft_ir.specs.declared.parts.{Value.Value, Name.{Name, TheVariants.{Port, Action}}, Reaction.Reaction}
+use Rattle.lft_ir.specs.declared.steps.row.{Row.Row, Step.TheVariants.{Start, Read}}
 use Rattle.lft_tag.specs.declared.Tag.{Tag}
-use Rattle.lft_ir.specs.Parts.{Parts, inputs}
-use Rattle.lft_ir.specs.Sound.{IsSound, IsNameOf}
-use Rattle.lft_ir.specs.declared.parts.Value.{Value}
-use Rattle.lft_ir.specs.declared.parts.Name.{Name}
-use Rattle.lft_ir.specs.declared.parts.Name.TheVariants.{Port, Action}
-use Rattle.lft_ir.specs.declared.parts.Reaction.{Reaction}
-use Rattle.lft_ir.specs.declared.steps.row.Row.{Row}
-use Rattle.lft_model.specs.Plans.{PlanParts}
-use Rattle.lft_model.specs.Presence.{At, IsPresent, Shows, Inputs, Collision, written, events_of}
+use Rattle.lft_model.specs.{Plans.PlanParts, Presence.{At, IsPresent, Shows, Inputs, Collision, written, events_of}}
 use Rattle.lft_model.specs.Runs.{read_of, steps_of, inputs_of, reads_at}
-use Rattle.lft_lists.proofs.Members.{Mem, mem_get, get_mem, contains_mem}
-use Rattle.lft_ir.proofs.Naming.{input_known}
 use Rattle.lft_model.proofs.Places.{tag_discrete}
-use Rattle.lft_ir.specs.declared.steps.row.Step.TheVariants.{Start, Read}
+use Rattle.lft_lists.proofs.Members.{Mem, mem_get, get_mem, contains_mem}
 use Rattle.lft_check.specs.ByTag.Reads.{IsRight, MissesInput, TellsWrongRead}
 
 -- without a collision a name shows one thing

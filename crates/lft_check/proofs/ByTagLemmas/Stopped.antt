@@ -1,16 +1,10 @@
 -- The stop of rows in two parts: the earlier of the stops of the parts.
 use Rattle.std.proofs.Common.{◌≡◌, ℕ, ◌+◌, ◌⊎◌, inl, inr, List, ◌++◌, length, take, drop, sym, ap, ◌∙◌, subst, slice_get}
 use Rattle.std.proofs.lemmas.List.{take-append-drop}
-use Rattle.lft_tag.specs.declared.Tag.{Tag}
-use Rattle.lft_tag.specs.Tags.{UpTo}
-use Rattle.lft_tag.proofs.Order.{UpTo-trans, UpTo_antisym}
-use Rattle.lft_lists.proofs.Members.{Mem, mem_right}
-use Rattle.lft_lists.proofs.Places.{get_left, get_right}
-use Rattle.lft_ir.specs.Parts.{Parts}
-use Rattle.lft_ir.specs.declared.steps.row.Row.{Row}
-use Rattle.lft_model.specs.Plans.{PlanParts}
-use Rattle.lft_model.specs.Fitting.{EachFits}
-use Rattle.lft_model.specs.Presence.{requests, stop}
+use Rattle.lft_tag.{specs.{declared.Tag.Tag, Tags.UpTo}, proofs.Order.{UpTo-trans, UpTo_antisym}}
+use Rattle.lft_lists.proofs.{Members.{Mem, mem_right}, Places.{get_left, get_right}}
+use Rattle.lft_ir.specs.{Parts.Parts, declared.steps.row.Row.Row}
+use Rattle.lft_model.specs.{Plans.PlanParts, Fitting.EachFits, Presence.{requests, stop}}
 use Rattle.lft_model.proofs.Stops.{ask, asker, stop_append, stop_more, stop_asked, stop_added}
 
 -- what rows of the second part ask for, rows of the whole ask for

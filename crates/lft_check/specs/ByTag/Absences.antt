@@ -1,14 +1,9 @@
 -- Up to when inputs are absent. This serves the look-up of what runs read alone.
 use Rattle.std.specs.Prelude.{◌≡◌, ℕ, ◌/◌, ◌<◌, ◌≤◌, List, Option, Some, None, length, slice_get}
-use Rattle.lft_tag.specs.declared.Tag.{Tag}
-use Rattle.lft_tag.specs.Tags.{Before, UpTo}
-use Rattle.lft_ir.specs.declared.parts.Name.{Name}
-use Rattle.lft_ir.specs.declared.parts.Reaction.{Reaction}
-use Rattle.lft_ir.specs.declared.steps.row.Row.{Row}
-use Rattle.lft_model.specs.Plans.{PlanParts}
-use Rattle.lft_model.specs.Presence.{IsPresent}
-use Rattle.lft_rows.specs.Marks.{HasSeat}
-use Rattle.lft_rows.specs.Presence.Traces.{TraceParts}
+use Rattle.lft_tag.specs.{declared.Tag.Tag, Tags.{Before, UpTo}}
+use Rattle.lft_ir.specs.declared.{parts.{Name.Name, Reaction.Reaction}, steps.row.Row.Row}
+use Rattle.lft_model.specs.{Plans.PlanParts, Presence.IsPresent}
+use Rattle.lft_rows.specs.{Marks.HasSeat, Presence.Traces.TraceParts}
 use Rattle.lft_check.specs.declared.by_tag.absences.Absences.{Absences}
 
 -- h is before the other tag, if there is one

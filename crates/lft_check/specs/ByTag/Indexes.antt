@@ -1,16 +1,10 @@
 -- What sliced rows keep beside the plan and the rows. This serves the making of sliced rows alone.
 use Rattle.std.specs.Prelude.{◌≡◌, ℕ, ◌<◌, Bool, true, List, length, Option, Some, slice_get}
-use Rattle.lft_tag.specs.declared.Tag.{Tag}
-use Rattle.lft_tag.specs.Tags.{Before}
+use Rattle.lft_tag.specs.{declared.Tag.Tag, Tags.Before}
 use Rattle.lft_ir.specs.declared.steps.row.Row.{Row}
-use Rattle.lft_model.specs.Presence.{Triggered}
-use Rattle.lft_model.specs.Runs.{start_row}
-use Rattle.lft_rows.specs.Presence.Traces.{TraceParts}
-use Rattle.lft_rows.specs.declared.slices.Slice.{Slice}
-use Rattle.lft_check.specs.declared.by_tag.started.Started.{Started}
-use Rattle.lft_check.specs.declared.by_tag.slicing.Caused.{Caused}
-use Rattle.lft_rows.specs.Slices.{runs_in}
-use Rattle.lft_check.specs.ByTag.Slices.{IsCuttable, AreSlices, IsFirstMissing}
+use Rattle.lft_model.specs.{Presence.Triggered, Runs.start_row}
+use Rattle.lft_rows.specs.{Presence.Traces.TraceParts, declared.slices.Slice.Slice, Slices.runs_in}
+use Rattle.lft_check.specs.{declared.by_tag.{started.Started.Started, slicing.Caused.Caused}, ByTag.Slices.{IsCuttable, AreSlices, IsFirstMissing}}
 
 -- the tags of the starts of r before place i, ascending, and their places
 pub record AreStartsOf (t : List Row) (i r : ℕ) (tags : List Tag) (places : List ℕ) : Type 0 where

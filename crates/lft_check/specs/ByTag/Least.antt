@@ -1,14 +1,9 @@
 -- What the steps of the search for the first missing run answer, and of that for the first tag without any run. This serves the proofs of these searches alone.
 use Rattle.std.specs.Prelude.{◌≡◌, ℕ, ◌+◌, ◌*◌, ◌<◌, ◌≤◌, ◌⊎◌, Bool, true, List, Option, Some, None, slice_get}
-use Rattle.lft_tag.specs.declared.Tag.{Tag}
-use Rattle.lft_tag.specs.Tags.{Before, UpTo}
-use Rattle.lft_ir.specs.declared.parts.Timer.{Timer as TimerOf}
-use Rattle.lft_ir.specs.declared.parts.Trigger.{Trigger}
+use Rattle.lft_tag.specs.{declared.Tag.Tag, Tags.{Before, UpTo}, Shifts.Folded}
+use Rattle.lft_ir.specs.declared.parts.{Timer.Timer as TimerOf, Trigger.Trigger}
 use Rattle.lft_model.specs.Presence.{stop, Fires, Occurs, Triggered}
-use Rattle.lft_tag.specs.Shifts.{Folded}
-use Rattle.lft_rows.specs.declared.presence.causes.Cause.{Cause}
-use Rattle.lft_rows.specs.Presence.Causes.{IsCause, Leads}
-use Rattle.lft_rows.specs.Presence.Traces.{TraceParts}
+use Rattle.lft_rows.specs.{declared.presence.causes.Cause.Cause, Presence.{Causes.{IsCause, Leads}, Traces.TraceParts}}
 
 -- the pair with the earlier tag of a pair and of a tag with a reaction, of those that are; at one tag the pair
 abbrev pub IsFirstOf : Option (Tag × ℕ) → Option Tag → ℕ → Option (Tag × ℕ) → Type 0

@@ -1,11 +1,7 @@
 -- Which triggers of a reaction tell where one of all is present. This serves the search for missing runs alone.
 use Rattle.std.specs.Prelude.{◌≡◌, ℕ, ◌+◌, ◌*◌, ◌<◌, ◌⊎◌, List, Some, slice_get}
 use Rattle.lft_tag.specs.declared.Tag.{Tag}
-use Rattle.lft_ir.specs.Parts.{Parts}
-use Rattle.lft_ir.specs.declared.parts.Timer.{Timer as TimerOf}
-use Rattle.lft_ir.specs.declared.parts.Reaction.{Reaction}
-use Rattle.lft_ir.specs.declared.parts.Trigger.{Trigger}
-use Rattle.lft_ir.specs.declared.parts.Trigger.TheVariants.{Timer}
+use Rattle.lft_ir.specs.{Parts.Parts, declared.parts.{Timer.Timer as TimerOf, Reaction.Reaction, Trigger.{Trigger, TheVariants.Timer}}}
 use Rattle.lft_model.specs.Presence.{Fires}
 use Rattle.lft_check.specs.declared.by_tag.needed.Beat.{Beat}
 

@@ -1,15 +1,8 @@
 -- What a run read, beside what is present.
 use Rattle.std.specs.Prelude.{◌≡◌, ◌⊎◌, ℕ, List, Some, None, slice_get}
 use Rattle.lft_tag.specs.declared.Tag.{Tag}
-use Rattle.lft_ir.specs.declared.parts.Value.{Value}
-use Rattle.lft_ir.specs.declared.parts.Name.{Name}
-use Rattle.lft_ir.specs.Parts.{inputs}
-use Rattle.lft_ir.specs.declared.parts.Reaction.{Reaction}
-use Rattle.lft_ir.specs.declared.steps.row.Row.{Row}
-use Rattle.lft_ir.specs.declared.steps.row.Step.TheVariants.{Start, Read}
-use Rattle.lft_model.specs.Plans.{PlanParts}
-use Rattle.lft_model.specs.Presence.{Shows, IsPresent, At}
-use Rattle.lft_model.specs.Runs.{read_of, steps_of}
+use Rattle.lft_ir.specs.{declared.{parts.{Value.Value, Name.Name, Reaction.Reaction}, steps.row.{Row.Row, Step.TheVariants.{Start, Read}}}, Parts.inputs}
+use Rattle.lft_model.specs.{Plans.PlanParts, Presence.{Shows, IsPresent, At}, Runs.{read_of, steps_of}}
 
 -- the run of r at g read of the name what is present there
 abbrev pub IsRight : PlanParts → List Row → Tag → ℕ → Name → Type 0

@@ -1,20 +1,10 @@
 -- What sliced rows and a cut tell: the rows at each tag, the first missing run, and the first tag without any run.
 use Rattle.std.specs.Prelude.{◌≡◌, ℕ, ◌<◌, ◌≤◌, ◌⊎◌, List, Option, Some, MatchOption, slice_get}
-use Rattle.lft_tag.specs.declared.Tag.{Tag}
-use Rattle.lft_tag.specs.Tags.{Before, UpTo}
-use Rattle.lft_model.specs.Plans.{PlanParts, IsSoundPlan}
-use Rattle.lft_ir.specs.declared.steps.row.Row.{Row}
-use Rattle.lft_ir.specs.Steps.Fits.{RowsFit}
-use Rattle.lft_model.specs.declared.breach.Breach.{Breach}
-use Rattle.lft_model.specs.Presence.{stop, Triggered}
-use Rattle.lft_model.specs.Runs.{Ran}
-use Rattle.lft_model.specs.Breaches.{RowBreach}
-use Rattle.lft_rows.specs.Firsts.{IsFirstOfRows}
-use Rattle.lft_rows.specs.declared.slices.Slice.{Slice}
-use Rattle.lft_rows.specs.Slices.{IsSlice}
-use Rattle.lft_rows.specs.Presence.Traces.{TraceParts}
-use Rattle.lft_check.specs.declared.by_tag.fault.CutFault.{CutFault}
-use Rattle.lft_check.specs.declared.by_tag.fault.CutFault.TheVariants.{Broken, NoMemory}
+use Rattle.lft_tag.specs.{declared.Tag.Tag, Tags.{Before, UpTo}}
+use Rattle.lft_model.specs.{Plans.{PlanParts, IsSoundPlan}, declared.breach.Breach.Breach, Presence.{stop, Triggered}, Runs.Ran, Breaches.RowBreach}
+use Rattle.lft_ir.specs.{declared.steps.row.Row.Row, Steps.Fits.RowsFit}
+use Rattle.lft_rows.specs.{Firsts.IsFirstOfRows, declared.slices.Slice.Slice, Slices.IsSlice, Presence.Traces.TraceParts}
+use Rattle.lft_check.specs.declared.by_tag.fault.CutFault.{CutFault, TheVariants.{Broken, NoMemory}}
 
 -- rows can't be sliced where one of them breaks one of the rules 1 to 5, or where a growth was refused
 abbrev pub IsCutFault : PlanParts → List Row → CutFault → Type 0

@@ -1,13 +1,9 @@
 -- How far a walk over the tags of sliced rows has come.
 use Rattle.std.specs.Prelude.{◌≡◌, ◌<◌, ℕ, List, Some, slice_get}
-use Rattle.lft_tag.specs.declared.Tag.{Tag}
-use Rattle.lft_tag.specs.Tags.{Before}
+use Rattle.lft_tag.specs.{declared.Tag.Tag, Tags.Before}
 use Rattle.lft_ir.specs.declared.steps.row.Row.{Row}
-use Rattle.lft_rows.specs.declared.slices.Slice.{Slice}
-use Rattle.lft_check.specs.declared.by_tag.walk.Walk.{Walk}
-use Rattle.lft_check.specs.ByTag.Absences.{AreAbsences}
-use Rattle.lft_rows.specs.Marks.{AreBefore, AreMarks}
-use Rattle.lft_rows.specs.Presence.Traces.{TraceParts}
+use Rattle.lft_rows.specs.{declared.slices.Slice.Slice, Marks.{AreBefore, AreMarks}, Presence.Traces.TraceParts}
+use Rattle.lft_check.specs.{declared.by_tag.walk.Walk.Walk, ByTag.Absences.AreAbsences}
 
 -- the tag is past all rows before place i
 abbrev pub IsPast : List Row → ℕ → Tag → Type 0

@@ -2,19 +2,11 @@
 //! in which something happened, and not by the inputs.
 
 ghost use Rattle.std.specs.Prelude.{◌≡◌, ◌↔◌, ◌≤◌, ◌<◌, ◌/◌, ℕ, Option, ◌⊎◌, ◌+◌, length, Some, IfOk, IsTrue, slice_get, slice_set};
-ghost use Rattle.lft_tag.specs.declared.Tag.{Tag as TheTag};
-ghost use Rattle.lft_tag.specs.Tags.{UpTo};
-ghost use Rattle.lft_rows.specs.declared.presence.causes.Cause.{Cause as TheCause};
-ghost use Rattle.lft_rows.specs.Presence.Causes.{IsCause, Leads};
-ghost use Rattle.lft_ir.specs.Parts.{inputs};
-ghost use Rattle.lft_ir.specs.Sound.{IsNameOf};
-ghost use Rattle.lft_ir.specs.declared.parts.Name.{Name as TheName};
-ghost use Rattle.lft_ir.specs.declared.parts.Reaction.{Reaction as TheReaction};
+ghost use Rattle.lft_tag.specs.{declared.Tag.Tag as TheTag, Tags.UpTo};
+ghost use Rattle.lft_rows.specs.{declared.presence.causes.Cause.Cause as TheCause, Presence.Causes.{IsCause, Leads}, Marks.HasSeat, Slices.IsSlice};
+ghost use Rattle.lft_ir.specs.{Parts.inputs, Sound.IsNameOf, declared.parts.{Name.Name as TheName, Reaction.Reaction as TheReaction}};
 ghost use Rattle.lft_model.specs.Presence.{IsPresent};
-ghost use Rattle.lft_rows.specs.Marks.{HasSeat};
-ghost use Rattle.lft_check.specs.ByTag.Absences.{IsAbsentUntil, AreAbsentUntil, IsUnknown, IsEarlier};
-ghost use Rattle.lft_rows.specs.Slices.{IsSlice};
-ghost use Rattle.lft_check.specs.ByTag.Walks.{HasWalked};
+ghost use Rattle.lft_check.specs.ByTag.{Absences.{IsAbsentUntil, AreAbsentUntil, IsUnknown, IsEarlier}, Walks.HasWalked};
 
 use crate::by_tag::sliced::Sliced;
 use crate::by_tag::walk::Walk;

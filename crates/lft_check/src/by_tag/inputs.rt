@@ -1,16 +1,11 @@
 //! Whether runs read what is present.
 
 ghost use Rattle.std.specs.Prelude.{◌≡◌, ◌<◌, ◌≤◌, ◌↔◌, ℕ, false, Some, length, IsTrue, slice_get};
-ghost use Rattle.lft_ir.specs.Parts.{inputs};
-ghost use Rattle.lft_ir.specs.Sound.{IsNameOf};
-ghost use Rattle.lft_ir.specs.declared.parts.Name.{Name as TheName};
-ghost use Rattle.lft_ir.specs.declared.parts.Reaction.{Reaction as TheReaction};
-ghost use Rattle.lft_ir.specs.declared.steps.row.Row.{Row as TheRow};
+ghost use Rattle.lft_ir.specs.{Parts.inputs, Sound.IsNameOf};
+ghost use Rattle.lft_ir.specs.declared.{parts.{Name.Name as TheName, Reaction.Reaction as TheReaction}, steps.row.Row.Row as TheRow};
 ghost use Rattle.lft_model.specs.Presence.{Collision};
-ghost use Rattle.lft_rows.specs.Marks.{HasSeat};
-ghost use Rattle.lft_check.specs.ByTag.Reads.{IsMissed, MissesInput, TellsWrongRead};
-ghost use Rattle.lft_rows.specs.Slices.{IsSlice};
-ghost use Rattle.lft_check.specs.ByTag.Walks.{HasWalked};
+ghost use Rattle.lft_rows.specs.{Marks.HasSeat, Slices.IsSlice};
+ghost use Rattle.lft_check.specs.ByTag.{Reads.{IsMissed, MissesInput, TellsWrongRead}, Walks.HasWalked};
 
 use crate::by_tag::absences::{BLOCK, end_of};
 use crate::by_tag::sliced::Sliced;

@@ -1,16 +1,11 @@
 //! The first missing run, found from what makes reactions run and not from the tags.
 
 ghost use Rattle.std.specs.Prelude.{◌≡◌, ℕ, ◌<◌, ◌≤◌, length, true, Some, MatchOption, IfSome, IfOk, OnOk, slice_get, slice_set};
-ghost use Rattle.lft_tag.specs.declared.Tag.{Tag as TheTag};
-ghost use Rattle.lft_tag.specs.Tags.{Before};
-ghost use Rattle.lft_ir.specs.Sound.{IsNameOf, IsTriggerOf};
-ghost use Rattle.lft_ir.specs.declared.parts.Trigger.TheVariants.{On};
+ghost use Rattle.lft_tag.specs.{declared.Tag.Tag as TheTag, Tags.Before};
+ghost use Rattle.lft_ir.specs.{Sound.{IsNameOf, IsTriggerOf}, declared.parts.Trigger.TheVariants.On};
 ghost use Rattle.lft_model.specs.Presence.{Fires, IsPresent, Occurs, Triggered};
-ghost use Rattle.lft_rows.specs.Presence.Causes.{IsCause, Leads};
-ghost use Rattle.lft_rows.specs.Presence.Traces.{LeastTag};
-ghost use Rattle.lft_check.specs.ByTag.Needed.{AreNeededOf};
-ghost use Rattle.lft_check.specs.ByTag.Indexes.{AreStartsOf, HasRuns, AreDue, AreMarkedTo};
-ghost use Rattle.lft_check.specs.ByTag.Slices.{IsCuttable, IsFirstMissingFrom};
+ghost use Rattle.lft_rows.specs.Presence.{Causes.{IsCause, Leads}, Traces.LeastTag};
+ghost use Rattle.lft_check.specs.ByTag.{Needed.AreNeededOf, Indexes.{AreStartsOf, HasRuns, AreDue, AreMarkedTo}, Slices.{IsCuttable, IsFirstMissingFrom}};
 ghost use Rattle.lft_check.specs.ByTag.Least.{AreUp, HasTag, IsFirstFiring, IsFirstTime, AreTriggered, IsFirstOf, LacksAt, LacksFiring, LacksCause, LacksTrigger, Lacks};
 
 use crate::by_tag::needed::needed_of;

@@ -3,8 +3,7 @@
 ghost use Rattle.std.specs.Prelude.{◌≡◌, ◌⊎◌};
 ghost use Rattle.std.specs.Thread.{IsSync};
 ghost use Rattle.lft_tag.specs.Tags.{UpTo};
-ghost use Rattle.lft_model.specs.Fitting.{EachFits};
-ghost use Rattle.lft_model.specs.Presence.{stop as the_stop};
+ghost use Rattle.lft_model.specs.{Fitting.EachFits, Presence.stop as the_stop};
 
 use lft_ir::steps::Row;
 use lft_model::{Plan, trace_stop};

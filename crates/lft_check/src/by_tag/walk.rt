@@ -1,11 +1,9 @@
 //! A walk over the tags of sliced rows, in order: what the runs at a tag read.
 
 ghost use Rattle.std.specs.Prelude.{◌≡◌, ◌<◌, IfOk, Some, slice_get};
-ghost use Rattle.lft_ir.specs.declared.parts.Reaction.{Reaction as TheReaction};
-ghost use Rattle.lft_ir.specs.declared.parts.Name.{Name as TheName};
+ghost use Rattle.lft_ir.specs.declared.parts.{Reaction.Reaction as TheReaction, Name.Name as TheName};
 ghost use Rattle.lft_model.specs.Runs.{read_of, steps_of};
-ghost use Rattle.lft_rows.specs.Marks.{HasSeat, width};
-ghost use Rattle.lft_rows.specs.Slices.{IsSlice};
+ghost use Rattle.lft_rows.specs.{Marks.{HasSeat, width}, Slices.IsSlice};
 ghost use Rattle.lft_check.specs.ByTag.Walks.{IsBefore, HasWalked};
 
 use crate::by_tag::absences::{Absences, absences_of};

@@ -1,35 +1,21 @@
 -- What is answered of a trace table is right under its plan.
 use Rattle.std.proofs.Common.{◌≡◌, ◌≢◌, ◌⊎◌, ◌++◌, inl, inr, ℕ, Bool, true, false, List, [], IfErr, IfOk, OnOk, Option, Result, Ok, Err, refl, sym, ap, ◌∙◌, subst, append-nil, length}
 use Rattle.std.specs.Io.KnownBytes.{Appends, Keeps}
-use Rattle.lft_ir.specs.Parts.{Parts}
-use Rattle.lft_ir.specs.declared.steps.row.Row.{Row}
-use Rattle.lft_trace.specs.Records.{records_of}
-use Rattle.lft_trace.specs.Traces.{Table}
-use Rattle.lft_model.specs.Plans.{PlanParts}
-use Rattle.lft_model.specs.declared.breach.Breach.{Breach}
-use Rattle.lft_model.specs.OneWorker.{LegalRunsAreOneWorker, LegalRunsKeepPrecedence}
-use Rattle.lft_model.specs.Workers.{IsWorkers}
+use Rattle.lft_ir.specs.{Parts.Parts, declared.steps.row.Row.Row}
+use Rattle.lft_trace.specs.{Records.records_of, Traces.Table}
+use Rattle.lft_model.specs.{Plans.PlanParts, declared.breach.Breach.Breach, OneWorker.{LegalRunsAreOneWorker, LegalRunsKeepPrecedence}, Workers.IsWorkers}
 use Rattle.lft_check.specs.Verdicts.{IsVerdict}
-use Rattle.lft_check.specs.declared.verdict.Verdict.TheVariants as verdict
-use Rattle.lft_counts.specs.Cover.{CoversRows}
-use Rattle.lft_counts.specs.declared.cover.Cover.{Cover}
-use Rattle.lft_coverage.specs.Facts.{HasCounts, fact_lines}
-use Rattle.lft_coverage.specs.Sums.{TellsSums}
-use Rattle.lft_load.specs.Faults.{table_number}
-use Rattle.lft_load.specs.Refusals.{is_of_text}
-use Rattle.lft_load.specs.Written.{AppendsFront}
-use Rattle.lft_load.specs.declared.fault.Fault.{Fault}
-use Rattle.lft_load.specs.declared.fault.Part.TheVariants as part
-use Rattle.lft_load.proofs.Loading.{memory_untold, told_at, trace_told}
-use Rattle.lft_driver.specs.Explained.{WriteRefusal, Writes}
-use Rattle.lft_driver.specs.Lines.{line_of}
-use Rattle.lft_driver.specs.Refusals.{CheckRefusal}
-use Rattle.lft_driver.specs.Refusals.CheckRefusal.{by_growth}
-use Rattle.lft_driver.proofs.Judging.{accepted_runs, refusal_untold, write_untold}
+use Rattle.lft_counts.specs.{Cover.CoversRows, declared.cover.Cover.Cover}
+use Rattle.lft_coverage.specs.{Facts.{HasCounts, fact_lines}, Sums.TellsSums}
 use Rattle.lft_coverage.specs.Driver.Covered.{CoverRefusalUnder, IsCovered, IsCoveredTable, IsBehind, IsCoverText, IsJudgedCoverUnder, IsTold, IsUnread, verdict_in}
 use Rattle.lft_coverage.specs.Driver.Covered.CoverRefusalUnder.{by_check, by_trace, by_writer}
-use Rattle.lft_coverage.specs.declared.driver.covered.Covered.{Covered}
-use Rattle.lft_coverage.specs.declared.driver.covered.Covered.TheVariants.{Accepted, Broken}
+use Rattle.lft_coverage.specs.declared.driver.covered.Covered.{Covered, TheVariants.{Accepted, Broken}}
+use Rattle.lft_load.specs.{Faults.table_number, Refusals.is_of_text, Written.AppendsFront, declared.fault.Fault.Fault}
+use Rattle.lft_load.proofs.Loading.{memory_untold, told_at, trace_told}
+use Rattle.lft_driver.specs.{Explained.{WriteRefusal, Writes}, Lines.line_of, Refusals.{CheckRefusal, CheckRefusal.by_growth}}
+use Rattle.lft_driver.proofs.Judging.{accepted_runs, refusal_untold, write_untold}
+use Rattle.lft_check.specs.declared.verdict.Verdict.TheVariants as verdict
+use Rattle.lft_load.specs.declared.fault.Part.TheVariants as part
 
 -- what was written of one kind is of another
 pub written_as : {T E : Type 0} {P Q : List ℕ → Type 0} (old new : Option (List ℕ)) (r : Result T E) → OnOk r (Writes P old new) → ((text : List ℕ) → P text → Q text) → OnOk r (Writes Q old new)

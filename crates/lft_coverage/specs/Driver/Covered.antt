@@ -2,32 +2,16 @@
 use Rattle.std.specs.Prelude.{◌≡◌, ◌++◌, ℕ, Bool, true, false, List, [], Option, length}
 use Rattle.std.specs.Io.KnownBytes.{Appends}
 use Rattle.lft_ir.specs.declared.steps.row.Row.{Row}
-use Rattle.lft_trace.specs.declared.fault.TraceFault.{TraceFault}
-use Rattle.lft_trace.specs.Faults.{is_told}
-use Rattle.lft_trace.specs.Records.{records_of}
-use Rattle.lft_trace.specs.Traces.{Table, TraceFails}
-use Rattle.lft_model.specs.Breaches.{First}
-use Rattle.lft_model.specs.Plans.{PlanParts}
+use Rattle.lft_trace.specs.{declared.fault.TraceFault.TraceFault, Faults.is_told, Records.records_of, Traces.{Table, TraceFails}}
+use Rattle.lft_model.specs.{Breaches.First, Plans.PlanParts}
 use Rattle.lft_rows.specs.Accepted.{IsAccepted}
-use Rattle.lft_check.specs.declared.verdict.Verdict.{Verdict}
+use Rattle.lft_check.specs.{declared.verdict.Verdict.Verdict, Verdicts.IsVerdict}
+use Rattle.lft_counts.specs.{Cover.CoversRows, declared.cover.Cover.Cover}
+use Rattle.lft_coverage.specs.{Facts.fact_lines, Sums.TellsSums, declared.driver.covered.Covered.{Covered, TheVariants.{Accepted, Broken}}}
+use Rattle.lft_load.specs.{Faults.table_number, Meaning.{IsOnly, IsPlanOf}, Refusals.LoadRefusal, Written.AppendsFront, declared.fault.Fault.Fault}
+use Rattle.lft_driver.specs.{Judged.AcceptedRuns, Lines.{HasReaction, line_of}, Meaning.HasTable, Refusals.CheckRefusal}
 use Rattle.lft_check.specs.declared.verdict.Verdict.TheVariants as verdict
-use Rattle.lft_check.specs.Verdicts.{IsVerdict}
-use Rattle.lft_counts.specs.Cover.{CoversRows}
-use Rattle.lft_counts.specs.declared.cover.Cover.{Cover}
-use Rattle.lft_coverage.specs.Facts.{fact_lines}
-use Rattle.lft_coverage.specs.Sums.{TellsSums}
-use Rattle.lft_load.specs.Faults.{table_number}
-use Rattle.lft_load.specs.Meaning.{IsOnly, IsPlanOf}
-use Rattle.lft_load.specs.Refusals.{LoadRefusal}
-use Rattle.lft_load.specs.Written.{AppendsFront}
-use Rattle.lft_load.specs.declared.fault.Fault.{Fault}
 use Rattle.lft_load.specs.declared.fault.Part.TheVariants as part
-use Rattle.lft_driver.specs.Judged.{AcceptedRuns}
-use Rattle.lft_driver.specs.Lines.{HasReaction, line_of}
-use Rattle.lft_driver.specs.Meaning.{HasTable}
-use Rattle.lft_driver.specs.Refusals.{CheckRefusal}
-use Rattle.lft_coverage.specs.declared.driver.covered.Covered.{Covered}
-use Rattle.lft_coverage.specs.declared.driver.covered.Covered.TheVariants.{Accepted, Broken}
 
 -- the verdict alone
 abbrev pub verdict_in : Covered → Verdict

@@ -1,12 +1,9 @@
 //! The verdict on a trace table, and what it exercises where it is accepted.
 
 ghost use Rattle.std.specs.Prelude.{◌≡◌, ◌⊎◌, IfOk, IfErr, OnOk, List, length};
-ghost use Rattle.lft_ir.specs.Parts.{Parts};
-ghost use Rattle.lft_ir.specs.Steps.Fits.{RowsFit};
-ghost use Rattle.lft_ir.specs.declared.steps.row.Row.{Row as TheRow};
+ghost use Rattle.lft_ir.specs.{Parts.Parts, Steps.Fits.RowsFit, declared.steps.row.Row.Row as TheRow};
 ghost use Rattle.lft_model.specs.Workers.{IsWorkers};
-ghost use Rattle.lft_counts.specs.Counts.{KeepsRows};
-ghost use Rattle.lft_counts.specs.Cover.{CoversRows};
+ghost use Rattle.lft_counts.specs.{Counts.KeepsRows, Cover.CoversRows};
 ghost use Rattle.lft_driver.specs.Refusals.{CheckRefusal};
 ghost use Rattle.lft_coverage.specs.Driver.Covered.{IsCovered, IsCoveredTable, IsUnread, verdict_in};
 

@@ -3,17 +3,13 @@
 ghost use Rattle.std.specs.Prelude.{◌≡◌, ◌≢◌, ◌++◌, ℕ, true, List, IfErr, IfOk, OnOk, length, string_bytes};
 ghost use Rattle.std.specs.Io.KnownBytes.{Keeps};
 ghost use Rattle.lft_ir.specs.declared.steps.row.Row.{Row as TheRow};
-ghost use Rattle.lft_trace.specs.Records.{records_of};
-ghost use Rattle.lft_trace.specs.Traces.{Table};
-ghost use Rattle.lft_model.specs.Plans.{PlanParts};
-ghost use Rattle.lft_model.specs.Workers.{IsWorkers};
-ghost use Rattle.lft_coverage.specs.Facts.{HasCounts, fact_lines};
-ghost use Rattle.lft_coverage.specs.Sums.{TellsSums};
-ghost use Rattle.lft_load.specs.Refusals.{is_of_text};
-ghost use Rattle.lft_load.specs.declared.fault.Part.TheVariants as part;
-ghost use Rattle.lft_driver.specs.Explained.{WriteRefusal, Writes};
-ghost use Rattle.lft_driver.specs.Meaning.{Mean};
+ghost use Rattle.lft_trace.specs.{Records.records_of, Traces.Table};
+ghost use Rattle.lft_model.specs.{Plans.PlanParts, Workers.IsWorkers};
+ghost use Rattle.lft_coverage.specs.{Facts.{HasCounts, fact_lines}, Sums.TellsSums};
 ghost use Rattle.lft_coverage.specs.Driver.Covered.{CoverRefusal, CoverRefusalUnder, IsCoverText, IsCovered, IsJudgedCover, IsJudgedCoverUnder, verdict_in};
+ghost use Rattle.lft_load.specs.Refusals.{is_of_text};
+ghost use Rattle.lft_driver.specs.{Explained.{WriteRefusal, Writes}, Meaning.Mean};
+ghost use Rattle.lft_load.specs.declared.fault.Part.TheVariants as part;
 
 use crate::driver::covered::{Covered, cover_table};
 use crate::{push_told, write_facts};

@@ -2,16 +2,11 @@
 use Rattle.std.proofs.Common.{◌≡◌, ◌∙◌, ℕ, ◌+◌, ◌-◌, ◌<◌, ◌≤◌, ◌⊎◌, inl, inr, List, Bool, true, false, if◌then◌else◌, length, slice_get, Some, refl, sym, ap, subst, arith, ⊎_elim}
 use Rattle.std.specs.Prelude.{AllPairs}
 use Rattle.std.specs.List.{insert}
-use lib.ListN.{get_or}
-use Rattle.std.proofs.lemmas.Bool.{cases_lt}
-use Rattle.std.proofs.lemmas.List.{get_or_default}
+use Rattle.std.proofs.lemmas.{Bool.cases_lt, List.{get_or_default, Edits.{get_or-insert_at, get_or-insert_below, get_or-insert_above, length-insert}}}
 use Rattle.std.proofs.lemmas.Option.{slice_get-get_or}
-use Rattle.std.proofs.lemmas.List.Edits.{get_or-insert_at, get_or-insert_below, get_or-insert_above, length-insert}
-use Rattle.lft_tag.specs.declared.Tag.{Tag}
-use Rattle.lft_tag.specs.Tags.{Before, UpTo}
-use Rattle.lft_tag.proofs.Order.{Before-trans, order_cases, split_up}
-use Rattle.lft_ir.specs.declared.steps.externals.Event.{Event}
-use Rattle.lft_ir.specs.Steps.Inputs.{ComesBefore, InOrder, IsTold, BelongsAt}
+use lib.ListN.{get_or}
+use Rattle.lft_tag.{specs.{declared.Tag.Tag, Tags.{Before, UpTo}}, proofs.Order.{Before-trans, order_cases, split_up}}
+use Rattle.lft_ir.specs.{declared.steps.externals.Event.Event, Steps.Inputs.{ComesBefore, InOrder, IsTold, BelongsAt}}
 
 pub comes_before-trans : (x y z : Event) → ComesBefore x y → ComesBefore y z → ComesBefore x z
 comes_before-trans x y z (inl a) (inl b) = inl (Before-trans x.tag y.tag z.tag a b)

@@ -1,7 +1,6 @@
 -- What contracts see of external inputs.
 use Rattle.std.specs.Prelude.{◌≡◌, ℕ, ◌<◌, ◌≤◌, ◌⊎◌, List, length, AllPairs, Some, slice_get, slice_index_or}
-use Rattle.lft_tag.specs.declared.Tag.{Tag}
-use Rattle.lft_tag.specs.Tags.{Before}
+use Rattle.lft_tag.specs.{declared.Tag.Tag, Tags.Before}
 use Rattle.lft_ir.specs.declared.steps.externals.Event.{Event}
 
 -- the stop tag and the events of physical actions, which the world gives and the trace doesn't

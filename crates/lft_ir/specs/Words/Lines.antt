@@ -1,10 +1,6 @@
 -- Words of rows: their line, and what stands in them.
 use Rattle.std.specs.Prelude.{ℕ, ◌+◌, List, [], ◌++◌, Option, Some, None, slice_get, unwrap_or, option_map, codes, decimal}
-use Rattle.lft_ir.specs.Parts.{Parts}
-use Rattle.lft_ir.specs.declared.parts.Value.{Value}
-use Rattle.lft_ir.specs.declared.steps.row.Row.{Row}
-use Rattle.lft_ir.specs.declared.steps.row.Step.{Step}
-use Rattle.lft_ir.specs.declared.steps.row.Step.TheVariants.{Start, Read, Write, Schedule, Stop, End}
+use Rattle.lft_ir.specs.{Parts.Parts, declared.{parts.Value.Value, steps.row.{Row.Row, Step.{Step, TheVariants.{Start, Read, Write, Schedule, Stop, End}}}}}
 use Rattle.lft_ir.specs.Words.Words.{tag_words, value_words, reaction_words, name_words}
 
 -- the line of the table in which the row at a place stands: line 1 is the header

@@ -40,8 +40,7 @@ impl Model for Externals {
 }
 
 impl Externals {
-    ghost use Rattle.lft_ir.specs.Steps.Fits.{ExternalsFit};
-    ghost use Rattle.lft_ir.specs.Steps.Inputs.{InOrder, IsTold};
+    ghost use Rattle.lft_ir.specs.Steps.{Fits.ExternalsFit, Inputs.{InOrder, IsTold}};
 
     /// The external inputs of a stop tag and of events in their order. It takes no memory.
     pub fn from_parts(stop: Tag, events: Vec<Event>) -> Externals

@@ -1,9 +1,8 @@
 //! Rows and external inputs that are of a program and within the limits of a table.
 
 ghost use Rattle.std.specs.Prelude.{◌≡◌, ◌↔◌, IsTrue};
-ghost use Rattle.lft_ir.specs.Sound.{IsNameOf};
+ghost use Rattle.lft_ir.specs.{Sound.IsNameOf, Steps.Fits.{EventFits, RowFits, StepFits}};
 ghost use Rattle.lft_tag.specs.Tags.{IsRecorded};
-ghost use Rattle.lft_ir.specs.Steps.Fits.{EventFits, RowFits, StepFits};
 
 use crate::steps::externals::Event;
 use crate::steps::row::{Row, Step};

@@ -3,8 +3,7 @@ use Rattle.std.proofs.Common.{◌≡◌, ℕ, ◌+◌, ◌<◌, ◌≤◌, inr, 
 use Rattle.lft_tag.specs.Tags.{Before}
 use Rattle.lft_ir.specs.declared.steps.row.Row.{Row}
 use Rattle.lft_model.specs.declared.breach.Breach.{Breach}
-use Rattle.lft_log.specs.Explain.Cuts.{IsCutBehind}
-use Rattle.lft_log.specs.Explain.Explained.{IsCutUpTo}
+use Rattle.lft_log.specs.Explain.{Cuts.IsCutBehind, Explained.IsCutUpTo}
 
 -- from the row of the breach up to a place none is at a later tag
 pub record NoneLater (t : List Row) (b : Breach) (place : ℕ) : Type 0 where

@@ -1,40 +1,25 @@
 -- What is written of what is told.
 use Rattle.std.proofs.Common.{◌≡◌, ◌<◌, ◌^◌, ◌∙◌, inl, inr, ℕ, Bool, true, false, List, [], ◌∷◌, ◌++◌, length, take, ◌⊎◌, Option, Some, None, refl, sym, ap, subst}
 use Rattle.std.specs.Prelude.{IfOk, Result}
-use Rattle.std.specs.Io.KnownBytes.{Appends}
-use Rattle.std.specs.Global.{Vec}
-use Rattle.std.proofs.KnownBytes.{Appends-nil, Appends-trans}
-use Rattle.lft_tag.specs.declared.NoMemory.{NoMemory}
-use Rattle.lft_tag.specs.declared.Tag.{Tag}
-use Rattle.lft_ir.specs.Parts.{Parts}
-use Rattle.lft_ir.specs.Sound.{IsSound}
+use Rattle.std.{specs.{Io.KnownBytes.Appends, Global.Vec}, proofs.KnownBytes.{Appends-nil, Appends-trans}}
+use Rattle.lft_tag.specs.declared.{NoMemory.NoMemory, Tag.Tag}
+use Rattle.lft_ir.specs.{Parts.Parts, Sound.IsSound}
 use Rattle.lft_model.specs.Plans.{PlanParts}
-use Rattle.lft_load.specs.Written.{AppendsFront}
-use Rattle.lft_load.specs.declared.fault.Fault.{Fault}
-use Rattle.lft_load.specs.declared.fault.Part.TheVariants as part
+use Rattle.lft_load.specs.{Written.AppendsFront, declared.fault.Fault.Fault}
 use Rattle.lft_monitor.specs.Follows.{breach_of}
 use Rattle.lft_monitor.specs.declared.found.Found.{Found}
-use Rattle.lft_monitor.specs.declared.judged.Ending.TheVariants as ending
 use Rattle.lft_monitor.specs.declared.open.OpenRun.{OpenRun}
-use Rattle.lft_log.specs.Logs.{HasManyRows}
-use Rattle.lft_log.specs.Told.{AreOpenAtEnd, AreOpenIn, TellsOpen}
-use Rattle.lft_log.specs.declared.told.Ended.{Ended}
-use Rattle.lft_log.specs.declared.told.Told.TheVariants.{Broken, Odd, Reached}
-use Rattle.lft_log.specs.declared.told.Final.{Final}
-use Rattle.lft_log.specs.declared.told.Final.TheVariants.{Soon, AtEnd}
-use Rattle.lft_driver.proofs.Behind.{writes_both}
-use Rattle.lft_log.specs.Follow.Lines.{line_of_log}
-use Rattle.lft_log.specs.Follow.Followed.{IsFollowedUnder}
-use Rattle.lft_log.specs.Follow.Kept.{IsKeptOn}
-use Rattle.lft_log.specs.declared.follow.kept.Kept.{Kept}
-use Rattle.lft_log.specs.declared.follow.kept.Kept.TheVariants.{All, Nothing, TooLong}
-use Rattle.lft_log.proofs.FollowLemmas.Keeping.{many_longer}
-use Rattle.lft_log.proofs.FollowLemmas.Telling.{of_log}
-use Rattle.lft_log.specs.declared.explain.explaining.Unexplained.{Unexplained}
+use Rattle.lft_log.specs.{Logs.HasManyRows, Told.{AreOpenAtEnd, AreOpenIn, TellsOpen}}
+use Rattle.lft_log.specs.declared.told.{Ended.Ended, Told.TheVariants.{Broken, Odd, Reached}, Final.{Final, TheVariants.{Soon, AtEnd}}}
+use Rattle.lft_log.specs.declared.{follow.kept.Kept.{Kept, TheVariants.{All, Nothing, TooLong}}, explain.explaining.Unexplained.Unexplained}
+use Rattle.lft_log.specs.Follow.{Lines.line_of_log, Followed.IsFollowedUnder, Kept.IsKeptOn}
 use Rattle.lft_log.specs.Explain.Listed.{AreOf}
 use Rattle.lft_log.specs.Explain.Explained.{ExplainsCut, IsBehindLine, IsExplainedUnder, IsLack, IsListOf, IsLongKept, IsReasonOf, IsTextBehind, IsTextOf, IsToStand, IsTooLong}
-use Rattle.lft_log.specs.Explain.Refusals.{ExplainLogRefusalUnder}
-use Rattle.lft_log.specs.Explain.Refusals.ExplainLogRefusalUnder.{by_writer_behind}
+use Rattle.lft_log.specs.Explain.Refusals.{ExplainLogRefusalUnder, ExplainLogRefusalUnder.by_writer_behind}
+use Rattle.lft_log.proofs.FollowLemmas.{Keeping.many_longer, Telling.of_log}
+use Rattle.lft_driver.proofs.Behind.{writes_both}
+use Rattle.lft_load.specs.declared.fault.Part.TheVariants as part
+use Rattle.lft_monitor.specs.declared.judged.Ending.TheVariants as ending
 
 abbrev items_of : Kept → List ℕ
 items_of (All v) = v.items

@@ -4,14 +4,9 @@ use Rattle.std.specs.Global.{Vec}
 use Rattle.lft_tag.specs.declared.Tag.{Tag}
 use Rattle.lft_ir.specs.Parts.{Parts}
 use Rattle.lft_model.specs.Plans.{PlanParts}
-use Rattle.lft_log.specs.Logs.{HasManyRows}
-use Rattle.lft_log.specs.Told.{IsLog}
-use Rattle.lft_log.specs.declared.log.Log.{Log}
-use Rattle.lft_log.proofs.Holding.{hold_longer}
+use Rattle.lft_log.specs.{Logs.HasManyRows, Told.IsLog, declared.{log.Log.Log, follow.kept.Kept.{Kept, TheVariants.{All, Nothing, TooLong}}}}
 use Rattle.lft_log.specs.Follow.Kept.{IsKeptOn}
-use Rattle.lft_log.specs.declared.follow.kept.Kept.{Kept}
-use Rattle.lft_log.specs.declared.follow.kept.Kept.TheVariants.{All, Nothing, TooLong}
-use Rattle.lft_log.proofs.FollowLemmas.Reaching.{is_begun}
+use Rattle.lft_log.proofs.{Holding.hold_longer, FollowLemmas.Reaching.is_begun}
 
 abbrev items_of : Kept → List ℕ
 items_of (All v) = v.items

@@ -2,28 +2,17 @@
 use Rattle.std.proofs.Common.{◌≡◌, ◌<◌, ◌≤◌, ◌/◌, ◌*◌, ℕ, Bool, true, false, Result, Ok, Err, List, [], ◌∷◌, ◌++◌, inl, inr, Option, length, append-nil, refl, sym, ap, subst, arith}
 use Rattle.std.specs.Prelude.{flat_map}
 use Rattle.std.specs.Io.KnownBytes.{Appends}
-use Rattle.std.proofs.KnownBytes.{Appends-kept, Appends-nil, Appends-trans}
-use Rattle.std.proofs.Math.Nat.{le-div_iff_mul-le, le_refl}
-use Rattle.std.proofs.lemmas.Grind.{flat_map-append}
-use Rattle.std.proofs.lemmas.List.{take_all}
-use Rattle.std.proofs.lemmas.List.Elements.{All-append, All-cons, All-nil, All-weaker}
+use Rattle.std.proofs.{KnownBytes.{Appends-kept, Appends-nil, Appends-trans}, Math.Nat.{le-div_iff_mul-le, le_refl}}
+use Rattle.std.proofs.lemmas.{Grind.flat_map-append, List.{take_all, Elements.{All-append, All-cons, All-nil, All-weaker}}}
 use Rattle.lft_tag.specs.declared.Tag.{Tag}
 use Rattle.lft_trace.specs.declared.log_table.Line.{Line}
 use Rattle.lft_ir.specs.declared.steps.row.Row.{Row}
 use Rattle.lft_model.specs.Plans.{PlanParts}
-use Rattle.lft_load.specs.Written.{AppendsFront}
-use Rattle.lft_load.specs.declared.fault.Fault.{Fault}
-use Rattle.lft_monitor.specs.Follows.{IsFollowerOf, IsJudged}
-use Rattle.lft_monitor.specs.declared.reach.Reach.{Reach}
-use Rattle.lft_driver.specs.Explained.{WriteRefusal}
-use Rattle.lft_driver.proofs.Behind.{front_both}
-use Rattle.lft_log.specs.Logs.{rows}
-use Rattle.lft_log.specs.Told.{IsLog}
-use Rattle.lft_log.specs.declared.log.Log.{Log}
-use Rattle.lft_log.proofs.Finishing.{tells_plan}
-use Rattle.lft_log.proofs.Holding.{hold_longer}
-use Rattle.lft_log.specs.Follow.Lines.{unbroken_words}
-use Rattle.lft_log.specs.Follow.Reaches.{IsReachOf, OfReaches, WritesOrFails}
+use Rattle.lft_load.specs.{Written.AppendsFront, declared.fault.Fault.Fault}
+use Rattle.lft_monitor.specs.{Follows.{IsFollowerOf, IsJudged}, declared.reach.Reach.Reach}
+use Rattle.lft_driver.{specs.Explained.WriteRefusal, proofs.Behind.front_both}
+use Rattle.lft_log.specs.{Logs.rows, Told.IsLog, declared.log.Log.Log, Follow.{Lines.unbroken_words, Reaches.{IsReachOf, OfReaches, WritesOrFails}}}
+use Rattle.lft_log.proofs.{Finishing.tells_plan, Holding.hold_longer}
 
 -- no line is told
 pub none_told : (base : PlanParts) (bytes : List ℕ) (every : ℕ) (P : List ℕ → Type 0) → P [] → OfReaches base bytes every P

@@ -1,10 +1,8 @@
 -- What a reader gave, a read further on.
 use Rattle.std.proofs.Common.{◌≡◌, ℕ, List, [], Option, append-nil, subst, take}
-use Rattle.std.specs.Io.KnownBytes.{Consumes}
-use Rattle.std.proofs.KnownBytes.{Consumes-trans}
+use Rattle.std.{specs.Io.KnownBytes.Consumes, proofs.KnownBytes.Consumes-trans}
 use Rattle.lft_monitor.specs.declared.judged.Ending.{Ending}
-use Rattle.lft_log.specs.declared.told.Told.{Told}
-use Rattle.lft_log.specs.declared.told.Final.TheVariants.{Soon, AtEnd}
+use Rattle.lft_log.specs.declared.told.{Told.Told, Final.TheVariants.{Soon, AtEnd}}
 
 -- a read that gives nothing
 pub none_more : (a b c : Option (List ℕ)) (bytes chunk : List ℕ) (n : ℕ) → Consumes a b bytes → n ≡ 0 → Consumes b c (take n chunk) → Consumes a c bytes

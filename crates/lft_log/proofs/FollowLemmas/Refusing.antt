@@ -3,16 +3,12 @@ use Rattle.std.proofs.Common.{◌≡◌, ◌≢◌, inl, inr, ℕ, Bool, List, O
 use Rattle.std.specs.Io.KnownBytes.{Keeps}
 use Rattle.lft_tag.specs.declared.Tag.{Tag}
 use Rattle.lft_model.specs.Plans.{PlanParts}
-use Rattle.lft_load.specs.Written.{AppendsFront}
-use Rattle.lft_load.specs.declared.fault.Fault.{Fault}
-use Rattle.lft_load.specs.declared.fault.Part.TheVariants as part
+use Rattle.lft_load.specs.{Written.AppendsFront, declared.fault.Fault.Fault}
 use Rattle.lft_driver.specs.Explained.{WriteRefusal}
 use Rattle.lft_log.specs.declared.told.Final.{Final}
-use Rattle.lft_log.specs.Follow.Followed.{IsRead}
-use Rattle.lft_log.specs.Follow.Lines.{line_of_log}
-use Rattle.lft_log.specs.Follow.Refusals.{FollowRefusalUnder, IsOutside}
-use Rattle.lft_log.specs.Follow.Refusals.FollowRefusalUnder.{by_reading, by_writer}
-use Rattle.lft_log.specs.Follow.Refusals.ReadRefusal.{by_outside}
+use Rattle.lft_log.specs.Follow.{Followed.IsRead, Lines.line_of_log}
+use Rattle.lft_log.specs.Follow.Refusals.{FollowRefusalUnder, IsOutside, FollowRefusalUnder.{by_reading, by_writer}, ReadRefusal.by_outside}
+use Rattle.lft_load.specs.declared.fault.Part.TheVariants as part
 
 -- a text that wasn't written
 pub outside : (P : List ℕ → Type 0) (old new : Option (List ℕ)) (f : Fault) → WriteRefusal P old new f → IsOutside f

@@ -1,29 +1,17 @@
 -- The reaction of a breach that is told.
 use Rattle.std.proofs.Common.{◌≡◌, ◌<◌, ◌⊎◌, inl, inr, ℕ, Bool, List, [], ◌∷◌, ◌++◌, Option, Some, None, length, take, sym, subst, slice_get}
-use Rattle.std.specs.List.{AllZip}
-use Rattle.std.proofs.lemmas.Option.{slice_get_within}
+use Rattle.std.{specs.List.AllZip, proofs.lemmas.Option.slice_get_within}
 use Rattle.lft_tag.specs.declared.Tag.{Tag}
-use Rattle.lft_lists.proofs.Places.{get_left}
-use Rattle.lft_lists.proofs.Zips.{behind}
-use Rattle.lft_ir.specs.Parts.{Parts}
-use Rattle.lft_ir.specs.Sound.{IsSound}
+use Rattle.lft_lists.proofs.{Places.get_left, Zips.behind}
+use Rattle.lft_ir.specs.{Parts.Parts, Sound.IsSound, declared.steps.row.Row.Row}
 use Rattle.lft_trace.specs.Traces.{IsRow}
-use Rattle.lft_ir.specs.declared.steps.row.Row.{Row}
-use Rattle.lft_model.specs.declared.breach.Breach.{Breach}
-use Rattle.lft_model.specs.Plans.{PlanParts}
-use Rattle.lft_model.specs.Breaches.{BreaksAt, First}
-use Rattle.lft_model.proofs.Places.{slice_get_take}
+use Rattle.lft_model.{specs.{declared.breach.Breach.Breach, Plans.PlanParts, Breaches.{BreaksAt, First}}, proofs.Places.slice_get_take}
 use Rattle.lft_driver.specs.Lines.{HasReaction}
-use Rattle.lft_monitor.specs.declared.found.Found.{Found}
-use Rattle.lft_monitor.specs.declared.judged.Ending.TheVariants as ending
-use Rattle.lft_monitor.specs.Follows.{IsSureBehind, IsFirstBehind, breach_of}
-use Rattle.lft_log.specs.Logs.{row_records}
-use Rattle.lft_log.specs.Told.{IsEnded, IsFinal, IsSaid, IsSoon, TellsPlan}
+use Rattle.lft_monitor.specs.{declared.found.Found.Found, Follows.{IsSureBehind, IsFirstBehind, breach_of}}
+use Rattle.lft_log.specs.{Logs.row_records, Told.{IsEnded, IsFinal, IsSaid, IsSoon, TellsPlan}}
+use Rattle.lft_log.specs.{declared.told.{Told.TheVariants.{Broken, Odd, Reached}, Final.{Final, TheVariants.{Soon, AtEnd}}}, Follow.Lines.HasFound}
 use Rattle.lft_log.proofs.Behind.{rows_each}
-use Rattle.lft_log.specs.declared.told.Told.TheVariants.{Broken, Odd, Reached}
-use Rattle.lft_log.specs.declared.told.Final.{Final}
-use Rattle.lft_log.specs.declared.told.Final.TheVariants.{Soon, AtEnd}
-use Rattle.lft_log.specs.Follow.Lines.{HasFound}
+use Rattle.lft_monitor.specs.declared.judged.Ending.TheVariants as ending
 
 -- the reaction of a row of a record is one of the program
 of_row : (program : Parts) (records : List (List (List ℕ))) (t : List Row) (i : ℕ) (x : Row) → IsSound program → AllZip (IsRow program) records t → slice_get t i ≡ Some x → x.reaction < length program.reactions

@@ -1,10 +1,6 @@
 -- Words of a tag.
 use Rattle.std.proofs.Common.{◌≡◌, ◌≢◌, ◌+◌, ◌-◌, ◌∙◌, ◌<◌, ◌≤◌, ℕ, zero, suc, Bool, true, false, ◌&&◌, if◌then◌else◌, nat_le, List, [], ◌∷◌, ◌++◌, Some, None, length, take, drop, slice_range, slice_get, slice_index, refl, sym, ap, subst, arith, rules, add-one}
-use Rattle.std.specs.Char.{is_ascii_digit}
-use Rattle.std.specs.List.{list_all}
-use Rattle.std.proofs.lemmas.Bool.{eqb-true}
-use Rattle.std.proofs.lemmas.List.{length-append, length-drop, take_all}
-use Rattle.std.proofs.lemmas.Option.{slice_get-get_or}
+use Rattle.std.{specs.{Char.is_ascii_digit, List.list_all}, proofs.lemmas.{Bool.eqb-true, List.{length-append, length-drop, take_all}, Option.slice_get-get_or}}
 use Rattle.lft_trace.specs.Numbers.{digits_after, number}
 use Rattle.memchr.specs.Find.{IsFirstByte, is_byte}
 

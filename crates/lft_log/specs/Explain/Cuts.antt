@@ -2,9 +2,7 @@
 use Rattle.std.specs.Prelude.{◌≡◌, ◌≢◌, ℕ, ◌+◌, ◌<◌, ◌≤◌, List, length, take, Option, Some, MatchOption, slice_get}
 use Rattle.lft_tag.specs.Tags.{Before}
 use Rattle.lft_ir.specs.declared.steps.row.Row.{Row}
-use Rattle.lft_model.specs.declared.breach.Breach.{Breach}
-use Rattle.lft_model.specs.Plans.{PlanParts}
-use Rattle.lft_model.specs.Breaches.{RowBreach}
+use Rattle.lft_model.specs.{declared.breach.Breach.Breach, Plans.PlanParts, Breaches.RowBreach}
 use Rattle.lft_races.specs.Races.{FirstEarly}
 
 -- the row at place m is at a tag after that of the breach, and none from that of the breach up to it is

@@ -1,35 +1,21 @@
 -- What is told of a log, with what explains it.
 use Rattle.std.specs.Prelude.{◌≡◌, ◌⊎◌, ◌<◌, ◌^◌, ℕ, Bool, true, false, List, [], ◌∷◌, ◌++◌, length, take, Option, Result, Ok, MatchOption}
 use Rattle.std.specs.Global.{Vec}
-use Rattle.lft_tag.specs.declared.NoMemory.{NoMemory as TheNoMemory}
-use Rattle.lft_tag.specs.declared.Tag.{Tag}
-use Rattle.lft_ir.specs.Parts.{Parts}
-use Rattle.lft_ir.specs.declared.steps.row.Row.{Row}
-use Rattle.lft_model.specs.declared.breach.Breach.{Breach}
-use Rattle.lft_model.specs.Plans.{PlanParts}
+use Rattle.lft_tag.specs.declared.{NoMemory.NoMemory as TheNoMemory, Tag.Tag}
+use Rattle.lft_ir.specs.{Parts.Parts, declared.steps.row.Row.Row}
+use Rattle.lft_model.specs.{declared.breach.Breach.Breach, Plans.PlanParts}
 use Rattle.lft_load.specs.Meaning.{IsPlanOf, OfOnly}
 use Rattle.lft_races.specs.Races.{FirstSoFar}
-use Rattle.lft_log.specs.Explain.Cuts.{IsCutBehind}
-use Rattle.lft_log.specs.Explain.Listed.{runs_words}
-use Rattle.lft_log.specs.Explain.Reasons.{AreReasonsSoFar}
+use Rattle.lft_log.specs.{Explain.{Cuts.IsCutBehind, Listed.runs_words, Reasons.AreReasonsSoFar}, Logs.HasManyRows, Told.{AreOpenAtEnd, TellsPlan}}
+use Rattle.lft_log.specs.declared.{told.{Ended.Ended, Told.TheVariants.Broken, Final.{Final, TheVariants.{Soon, AtEnd}}}, follow.kept.Kept.Kept}
+use Rattle.lft_log.specs.declared.explain.explaining.{Explained.Explained, Unexplained.{Unexplained, TheVariants.{NoMemory, TooLong}}}
+use Rattle.lft_log.specs.Follow.{Lines.line_of_log, Followed.IsRead}
 use Rattle.lft_monitor.specs.Follows.{breach_of}
 use Rattle.lft_monitor.specs.declared.found.Found.{Found}
-use Rattle.lft_monitor.specs.declared.judged.Ending.TheVariants as ending
 use Rattle.lft_monitor.specs.declared.open.OpenRun.{OpenRun}
-use Rattle.lft_log.specs.Logs.{HasManyRows}
-use Rattle.lft_log.specs.Told.{AreOpenAtEnd, TellsPlan}
-use Rattle.lft_log.specs.declared.told.Ended.{Ended}
-use Rattle.lft_log.specs.declared.told.Told.TheVariants.{Broken}
-use Rattle.lft_log.specs.declared.told.Final.{Final}
-use Rattle.lft_log.specs.declared.told.Final.TheVariants.{Soon, AtEnd}
 use Rattle.lft_driver.specs.Explained.{Writes}
-use Rattle.lft_log.specs.Follow.Lines.{line_of_log}
-use Rattle.lft_log.specs.Follow.Followed.{IsRead}
-use Rattle.lft_log.specs.declared.follow.kept.Kept.{Kept}
+use Rattle.lft_monitor.specs.declared.judged.Ending.TheVariants as ending
 use Rattle.lft_log.specs.declared.follow.kept.Kept.TheVariants as keeps
-use Rattle.lft_log.specs.declared.explain.explaining.Explained.{Explained}
-use Rattle.lft_log.specs.declared.explain.explaining.Unexplained.{Unexplained}
-use Rattle.lft_log.specs.declared.explain.explaining.Unexplained.TheVariants.{NoMemory, TooLong}
 
 -- of a breach, at the end or before it, the text is what explains it, where rows are missing it lists runs, else it is empty
 abbrev pub IsTextOf : (Bool → Found → List ℕ → Type 0) → (List ℕ → Type 0) → Final → List ℕ → Type 0

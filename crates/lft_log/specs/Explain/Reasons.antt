@@ -1,14 +1,11 @@
 -- What explains a breach of the first rows of a trace.
 use Rattle.std.specs.Prelude.{◌≡◌, ◌⊎◌, ℕ, ◌+◌, Bool, true, false, List, [], ◌++◌, length, codes}
 use Rattle.lft_ir.specs.declared.steps.row.Row.{Row}
-use Rattle.lft_model.specs.declared.breach.Breach.{Breach}
-use Rattle.lft_model.specs.Plans.{PlanParts}
+use Rattle.lft_model.specs.{declared.breach.Breach.Breach, Plans.PlanParts}
 use Rattle.lft_load.specs.Words.{field}
 use Rattle.lft_report.specs.Explained.{Explains}
-use Rattle.lft_races.specs.declared.hints.hint.Hint.{Hint}
+use Rattle.lft_races.specs.{declared.hints.hint.Hint.Hint, Hints.{Hints.IsHint, Words.hint_words}}
 use Rattle.lft_races.specs.declared.hints.hint.Hint.TheVariants as hint
-use Rattle.lft_races.specs.Hints.Hints.{IsHint}
-use Rattle.lft_races.specs.Hints.Words.{hint_words}
 
 -- the hint takes the last row for the end of the execution
 abbrev pub is_of_end : Hint → Bool

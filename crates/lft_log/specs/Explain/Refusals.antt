@@ -3,15 +3,9 @@ use Rattle.std.specs.Prelude.{◌≡◌, ◌⊎◌, ℕ, Bool, List, ◌++◌, t
 use Rattle.std.specs.Io.KnownBytes.{Appends, Keeps}
 use Rattle.lft_tag.specs.declared.Tag.{Tag}
 use Rattle.lft_model.specs.Plans.{PlanParts}
-use Rattle.lft_load.specs.Meaning.{IsPlanOf, OfOnly}
-use Rattle.lft_load.specs.Refusals.{LoadRefusal}
-use Rattle.lft_load.specs.declared.fault.Fault.{Fault}
+use Rattle.lft_load.specs.{Meaning.{IsPlanOf, OfOnly}, Refusals.LoadRefusal, declared.fault.Fault.Fault}
+use Rattle.lft_log.specs.{declared.told.Final.Final, Follow.{Followed.IsRead, Lines.line_of_log, Refusals.FollowRefusalUnder}, Explain.Explained.IsToStand}
 use Rattle.lft_load.specs.declared.fault.Part.TheVariants as part
-use Rattle.lft_log.specs.declared.told.Final.{Final}
-use Rattle.lft_log.specs.Follow.Followed.{IsRead}
-use Rattle.lft_log.specs.Follow.Lines.{line_of_log}
-use Rattle.lft_log.specs.Follow.Refusals.{FollowRefusalUnder}
-use Rattle.lft_log.specs.Explain.Explained.{IsToStand}
 
 -- a log isn't explained under a plan: it isn't followed; or the writer took the line of what is told, and failed on what stands behind it
 pub data ExplainLogRefusalUnder (plan : PlanParts) (path : List ℕ) (until : Option Tag) (whole all : Bool) (old new out_old out_new : Option (List ℕ)) (f : Fault) : Type 0 where

@@ -6,14 +6,8 @@ use Rattle.lft_trace.specs.Numbers.{number}
 use Rattle.lft_model.specs.Plans.{PlanParts}
 use Rattle.lft_load.specs.Meaning.{IsPlanOf, OfOnly}
 use Rattle.lft_monitor.specs.declared.judged.Ending.{Ending}
-use Rattle.lft_log.specs.Logs.{HasManyRows}
-use Rattle.lft_log.specs.Told.{IsEnded, TellsOpen}
-use Rattle.lft_log.specs.declared.told.Ended.{Ended}
-use Rattle.lft_log.specs.declared.told.Final.{Final}
-use Rattle.lft_log.specs.declared.told.Final.TheVariants.{AtEnd}
-use Rattle.lft_log.specs.Follow.Kept.{IsKeptOn}
-use Rattle.lft_log.specs.Follow.Lines.{line_of_log}
-use Rattle.lft_log.specs.declared.follow.kept.Kept.{Kept}
+use Rattle.lft_log.specs.{Logs.HasManyRows, Told.{IsEnded, TellsOpen}, declared.{told.{Ended.Ended, Final.{Final, TheVariants.AtEnd}}, follow.kept.Kept.Kept}}
+use Rattle.lft_log.specs.Follow.{Kept.IsKeptOn, Lines.line_of_log}
 
 -- the words are a tag's time and microstep, a comma between them
 abbrev pub until_words : List ℕ → Tag → Type 0

@@ -1,8 +1,7 @@
 -- What is kept of a log that is read.
 use Rattle.std.specs.Prelude.{◌≡◌, ◌⊎◌, ◌<◌, ◌^◌, ℕ, List, ◌++◌, length}
 use Rattle.std.specs.Global.{Vec}
-use Rattle.lft_log.specs.declared.follow.kept.Kept.{Kept}
-use Rattle.lft_log.specs.declared.follow.kept.Kept.TheVariants.{All, Nothing, TooLong}
+use Rattle.lft_log.specs.declared.follow.kept.Kept.{Kept, TheVariants.{All, Nothing, TooLong}}
 
 -- what is kept is all that was kept and these bytes behind it; or too much came, 2^30 bytes or so many rows; or it is nothing
 abbrev pub IsKeptOn : Type 0 → Kept → Kept → List ℕ → Type 0

@@ -3,13 +3,10 @@ use Rattle.std.specs.Prelude.{ℕ, List, [], ◌++◌, Option, Some, None, codes
 use Rattle.lft_tag.specs.declared.Tag.{Tag}
 use Rattle.lft_ir.specs.Parts.{Parts}
 use Rattle.lft_load.specs.Words.{field}
-use Rattle.lft_monitor.specs.Follows.{breach_of}
-use Rattle.lft_monitor.specs.declared.reach.Reach.{Reach}
-use Rattle.lft_monitor.specs.declared.judged.Ending.TheVariants as ending
+use Rattle.lft_monitor.specs.{Follows.breach_of, declared.reach.Reach.Reach}
 use Rattle.lft_driver.specs.Lines.{HasReaction, accepted_words, breach_words}
-use Rattle.lft_log.specs.declared.told.Told.TheVariants.{Broken, Odd, Reached}
-use Rattle.lft_log.specs.declared.told.Final.{Final}
-use Rattle.lft_log.specs.declared.told.Final.TheVariants.{Soon, AtEnd}
+use Rattle.lft_log.specs.declared.told.{Told.TheVariants.{Broken, Odd, Reached}, Final.{Final, TheVariants.{Soon, AtEnd}}}
+use Rattle.lft_monitor.specs.declared.judged.Ending.TheVariants as ending
 
 -- a tag
 abbrev pub tag_words : Tag → List ℕ

@@ -1,17 +1,12 @@
 -- What is told of a log while it comes: how far its rows are judged.
 use Rattle.std.specs.Prelude.{◌≢◌, ◌<◌, ◌≤◌, ℕ, ◌⊎◌, List, [], length, flat_map, Option, Result, MatchResult}
-use Rattle.std.specs.List.{All}
-use Rattle.std.specs.Io.KnownBytes.{Appends, Consumes}
+use Rattle.std.specs.{List.All, Io.KnownBytes.{Appends, Consumes}}
 use Rattle.lft_ir.specs.declared.steps.row.Row.{Row}
 use Rattle.lft_model.specs.Plans.{PlanParts}
-use Rattle.lft_load.specs.Meaning.{IsPlanOf, OfOnly}
-use Rattle.lft_load.specs.Written.{AppendsFront}
-use Rattle.lft_load.specs.declared.fault.Fault.{Fault}
+use Rattle.lft_load.specs.{Meaning.{IsPlanOf, OfOnly}, Written.AppendsFront, declared.fault.Fault.Fault}
+use Rattle.lft_monitor.specs.{Follows.IsJudged, declared.reach.Reach.Reach}
+use Rattle.lft_log.specs.{Told.TellsPlan, Follow.Lines.unbroken_words}
 use Rattle.lft_load.specs.declared.fault.Part.TheVariants as part
-use Rattle.lft_monitor.specs.Follows.{IsJudged}
-use Rattle.lft_monitor.specs.declared.reach.Reach.{Reach}
-use Rattle.lft_log.specs.Told.{TellsPlan}
-use Rattle.lft_log.specs.Follow.Lines.{unbroken_words}
 
 -- so far the first rows of the bytes are judged, for the plan that they tell; they are `every` rows at least, which isn't 0
 pub record IsReachOf (base : PlanParts) (bytes : List ℕ) (every : ℕ) (r : Reach) : Type 0 where

@@ -3,22 +3,12 @@ use Rattle.std.specs.Prelude.{◌≡◌, ◌⊎◌, ℕ, Bool, List, Option, Som
 use Rattle.std.specs.Io.KnownBytes.{Consumes, IsAtEnd, Keeps}
 use Rattle.lft_tag.specs.declared.Tag.{Tag}
 use Rattle.lft_model.specs.Plans.{PlanParts}
-use Rattle.lft_load.specs.Faults.{IsFaultOfPath, table_number, words_of}
-use Rattle.lft_load.specs.Meaning.{IsPlanOf, OfOnly}
-use Rattle.lft_load.specs.Refusals.{LoadRefusal}
-use Rattle.lft_load.specs.Words.{field}
-use Rattle.lft_load.specs.Written.{AppendsFront}
-use Rattle.lft_load.specs.declared.fault.Detail.{Detail}
+use Rattle.lft_load.specs.{Faults.{IsFaultOfPath, table_number, words_of}, Meaning.{IsPlanOf, OfOnly}, Refusals.LoadRefusal, Words.field, Written.AppendsFront}
+use Rattle.lft_load.specs.declared.fault.{Detail.Detail, Fault.Fault, Part.Part}
+use Rattle.lft_log.specs.{Told.{IsFaultAtEnd, IsFaultOf}, declared.{fault.LogFault.LogFault, told.Final.Final}, Follow.{Followed.IsRead, Lines.line_of_log}}
 use Rattle.lft_load.specs.declared.fault.Detail.TheVariants as detail
-use Rattle.lft_load.specs.declared.fault.Fault.{Fault}
-use Rattle.lft_load.specs.declared.fault.Part.{Part}
 use Rattle.lft_load.specs.declared.fault.Part.TheVariants as part
-use Rattle.lft_log.specs.Told.{IsFaultAtEnd, IsFaultOf}
-use Rattle.lft_log.specs.declared.fault.LogFault.{LogFault}
 use Rattle.lft_log.specs.declared.fault.LogFault.TheVariants as log
-use Rattle.lft_log.specs.declared.told.Final.{Final}
-use Rattle.lft_log.specs.Follow.Followed.{IsRead}
-use Rattle.lft_log.specs.Follow.Lines.{line_of_log}
 
 -- the detail tells the line, if there is one
 abbrev pub TellsLine : Option ℕ → Detail → Type 0

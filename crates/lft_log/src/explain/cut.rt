@@ -1,8 +1,7 @@
 //! The rows behind which a breach is sure.
 
 ghost use Rattle.std.specs.Prelude.{◌<◌, ℕ, IfOk, IfSome, MatchOption};
-ghost use Rattle.lft_ir.specs.Parts.{Parts};
-ghost use Rattle.lft_ir.specs.Steps.Fits.{RowsFit};
+ghost use Rattle.lft_ir.specs.{Parts.Parts, Steps.Fits.RowsFit};
 ghost use Rattle.lft_log.specs.Explain.Cuts.{IsCutBehind, IsCutOf, IsEndBehind};
 
 use lft_ir::steps::{Row, Rows, row_at};

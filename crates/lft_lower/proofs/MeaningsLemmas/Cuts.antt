@@ -2,13 +2,9 @@
 use Rattle.std.proofs.Common.{◌≡◌, ℕ, zero, suc, ◌+◌, ◌*◌, ◌≤◌, inl, inr, min, max, Bool, true, false, List, [], ◌∷◌, ◌++◌, Some, map, take, length, sym, ◌∙◌, ap, arith, append_assoc, length-append}
 use Rattle.std.specs.Prelude.{slice_get}
 use Rattle.std.specs.List.{flat_map, range_with_len}
-use Rattle.std.proofs.Math.Nat.{eq-or-lt_of_le}
-use Rattle.std.proofs.Math.Seq.{take-append-add, take-suc}
-use Rattle.std.proofs.lemmas.List.{length-map, take_all}
-use Rattle.std.proofs.lemmas.List.FromFn.{length-map-range_with_len}
-use Rattle.std.proofs.lemmas.Option.{slice_get_within, get_or_from_slice_get}
-use Rattle.lft_elaborate.specs.Channels.Channels.{Place, places}
-use Rattle.lft_elaborate.specs.Channels.Lowered.{inner, own}
+use Rattle.std.proofs.Math.{Nat.eq-or-lt_of_le, Seq.{take-append-add, take-suc}}
+use Rattle.std.proofs.lemmas.{List.{length-map, take_all, FromFn.length-map-range_with_len}, Option.{slice_get_within, get_or_from_slice_get}}
+use Rattle.lft_elaborate.specs.Channels.{Channels.{Place, places}, Lowered.{inner, own}}
 use Rattle.lft_lower.specs.Meanings.Places.{Several, count_of, inner_places, name_at, own_places}
 
 -- one more

@@ -2,9 +2,7 @@
 use Rattle.std.proofs.Common.{◌≡◌, ℕ, ◌+◌, Bool, List, [], Some, take, length, sym, ◌∙◌, ap, arith, length-append}
 use Rattle.std.specs.Prelude.{option_map, slice_get, unwrap_or}
 use Rattle.lft_whole.specs.declared.tree.Reference.{Reference}
-use Rattle.lft_lower.specs.Meanings.Meanings.{Here, all_places, places_in, sense_in}
-use Rattle.lft_lower.specs.Meanings.Places.{Sense, places_of}
-use Rattle.lft_lower.proofs.MeaningsLemmas.Growing.{flat_next}
+use Rattle.lft_lower.{specs.Meanings.{Meanings.{Here, all_places, places_in, sense_in}, Places.{Sense, places_of}}, proofs.MeaningsLemmas.Growing.flat_next}
 
 -- the places of a reference are those of what it means
 pub its_places : (h : Here) (r : Reference) (x : Sense) → sense_in h r ≡ Some x → places_in h r ≡ places_of r.is_interleaved x

@@ -1,10 +1,9 @@
 -- Refusals of one kind and of another.
 use Rattle.std.proofs.Common.{◌≡◌, ◌⊎◌, inl, inr, ⊎_elim, ℕ, List, Option, Some, slice_get}
 use Rattle.std.specs.Prelude.{IsSomeAnd}
-use Rattle.lft_whole.specs.declared.sources.stop.Refusal.{Refusal}
-use Rattle.lft_whole.specs.declared.sources.stop.Stop.{Stop}
-use Rattle.lft_whole.specs.declared.sources.stop.Stop.TheVariants as stop
+use Rattle.lft_whole.specs.declared.sources.stop.{Refusal.Refusal, Stop.Stop}
 use Rattle.lft_lower.specs.Meanings.Refused.{IfRefused, IsOfSome}
+use Rattle.lft_whole.specs.declared.sources.stop.Stop.TheVariants as stop
 
 -- a refusal of the one kind is of the other
 pub refused_too : (P Q : Refusal → Type 0) (s : Stop) → ((r : Refusal) → P r → Q r) → IfRefused P s → IfRefused Q s

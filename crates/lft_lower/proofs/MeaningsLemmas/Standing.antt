@@ -4,13 +4,9 @@ use Rattle.std.proofs.Math.Seq.{take-append-add}
 use Rattle.std.proofs.lemmas.List.{append-nil, append_cancel_left, length-map, map-append, take-map}
 use Rattle.std.proofs.lemmas.List.Elements.{All-append, All-cons, All-head, All-nil, All-tail}
 use Rattle.std.specs.List.{All}
-use Rattle.lft_tree.specs.Tree.{RefTree}
-use Rattle.lft_tree.specs.View.{ref_view, ref_views}
-use Rattle.lft_tree.specs.declared.tree.Reference.{Reference as Core}
+use Rattle.lft_tree.specs.{Tree.RefTree, View.{ref_view, ref_views}, declared.tree.Reference.Reference as Core}
 use Rattle.lft_whole.specs.declared.tree.Reference.{Reference}
-use Rattle.lft_lower.specs.Meanings.Meanings.{Here, all_places, places_in}
-use Rattle.lft_lower.specs.Meanings.Places.{up_to}
-use Rattle.lft_lower.specs.Meanings.Standing.{AddsAt, all_tokens, ref_tokens, tokens_of}
+use Rattle.lft_lower.specs.Meanings.{Meanings.{Here, all_places, places_in}, Places.up_to, Standing.{AddsAt, all_tokens, ref_tokens, tokens_of}}
 
 abbrev At : ℕ → Core → Type 0
 At at r = r.at ≡ at

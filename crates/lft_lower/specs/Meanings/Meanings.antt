@@ -2,20 +2,12 @@
 use Rattle.std.specs.Prelude.{◌≡◌, ℕ, true, is_some, List, [], Option, Some, None, flat_map, option_map, slice_get, string_bytes, unwrap_or}
 use Rattle.std.specs.Option.{option_and_then}
 use Rattle.lft_tree.specs.Tree.{RefTree}
-use Rattle.lft_whole.specs.declared.tree.Member.{Member}
+use Rattle.lft_whole.specs.{declared.tree.{Member.Member, Reference.Reference}, Sources.Tokens.number_at}
+use Rattle.lft_classes.specs.{declared.shapes.{Shape.Shape, Thing.Thing}, Shapes.{child_at, thing_named}}
+use Rattle.lft_elaborate.specs.{declared.settings.Settings.Settings, Names.name_in, Noted.found_inside, Widths.found_width}
+use Rattle.lft_lower.specs.{Meanings.Places.{Several, Sense, Own, Inner, places_of}, declared.meanings.places.Within.Within}
 use Rattle.lft_whole.specs.declared.tree.Member.TheVariants as member
-use Rattle.lft_whole.specs.declared.tree.Reference.{Reference}
-use Rattle.lft_whole.specs.Sources.Tokens.{number_at}
-use Rattle.lft_classes.specs.declared.shapes.Shape.{Shape}
-use Rattle.lft_classes.specs.declared.shapes.Thing.{Thing}
 use Rattle.lft_classes.specs.declared.shapes.Thing.TheVariants as things
-use Rattle.lft_classes.specs.Shapes.{child_at, thing_named}
-use Rattle.lft_elaborate.specs.declared.settings.Settings.{Settings}
-use Rattle.lft_elaborate.specs.Names.{name_in}
-use Rattle.lft_elaborate.specs.Noted.{found_inside}
-use Rattle.lft_elaborate.specs.Widths.{found_width}
-use Rattle.lft_lower.specs.Meanings.Places.{Several, Sense, Own, Inner, places_of}
-use Rattle.lft_lower.specs.declared.meanings.places.Within.{Within}
 
 -- a setting of a program, by its number, and its shape
 pub record Here : Type 0 where

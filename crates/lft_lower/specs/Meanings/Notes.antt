@@ -1,8 +1,7 @@
 -- The words of notes on a program, and what it is to say one.
 use Rattle.std.specs.Prelude.{◌≡◌, ◌⊎◌, ℕ, List, [], ◌∷◌, ◌++◌, Option, Some, None, bytes_eq, codes, cond, decimal, false, map, slice_get, string_bytes, true}
 use Rattle.std.specs.BTreeSet.{contains_text}
-use Rattle.lft_whole.specs.declared.sources.source.SourceFile.{SourceFile}
-use Rattle.lft_whole.specs.Sources.Shown.{place_words}
+use Rattle.lft_whole.specs.{declared.sources.source.SourceFile.SourceFile, Sources.Shown.place_words}
 use Rattle.lft_lower.specs.declared.meanings.notes.Notes.{Notes}
 
 -- where a token of a file stands, if there is the file

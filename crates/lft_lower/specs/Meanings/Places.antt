@@ -1,11 +1,8 @@
 -- Which references a thing of the source becomes.
 use Rattle.std.specs.Prelude.{◌||◌, ℕ, max, Bool, is_some, List, ◌++◌, Option, option_map, unwrap_or, length, map, take}
 use Rattle.lft_tree.specs.Tree.{RefTree}
-use Rattle.lft_elaborate.specs.Channels.Channels.{below, places}
-use Rattle.lft_elaborate.specs.Channels.Lowered.{own, inner}
-use Rattle.lft_elaborate.specs.Names.{tail}
-use Rattle.lft_lower.specs.declared.meanings.places.Wide.{Wide}
-use Rattle.lft_lower.specs.declared.meanings.places.Meant.{Meant}
+use Rattle.lft_elaborate.specs.{Channels.{Channels.{below, places}, Lowered.{own, inner}}, Names.tail}
+use Rattle.lft_lower.specs.declared.meanings.places.{Wide.Wide, Meant.Meant}
 use Rattle.lft_lower.specs.declared.meanings.places.Meant.TheVariants as meant
 
 -- a name that may stand for several, and the width, if it has one

@@ -1,18 +1,12 @@
 -- Why what is written means nothing, and why nothing more is made.
 use Rattle.std.specs.Prelude.{◌≡◌, ℕ, List, IsSomeAnd, Option, Some, None, option_map, slice_get, string_bytes}
 use Rattle.std.specs.Option.{option_and_then}
-use Rattle.lft_whole.specs.declared.sources.stop.Place.{Place}
-use Rattle.lft_whole.specs.declared.sources.stop.Refusal.{Refusal}
-use Rattle.lft_whole.specs.declared.sources.stop.Stop.{Stop}
-use Rattle.lft_whole.specs.declared.sources.stop.Stop.TheVariants as stop
-use Rattle.lft_whole.specs.declared.sources.why.Why.{Why}
-use Rattle.lft_whole.specs.declared.sources.why.Why.TheVariants as why
-use Rattle.lft_classes.specs.declared.shapes.Shape.{Shape}
-use Rattle.lft_classes.specs.declared.shapes.Thing.{Thing}
-use Rattle.lft_classes.specs.declared.shapes.Thing.TheVariants as things
-use Rattle.lft_classes.specs.Shapes.{thing_named}
-use Rattle.lft_whole.specs.declared.tree.Reference.{Reference}
+use Rattle.lft_whole.specs.declared.{sources.{stop.{Place.Place, Refusal.Refusal, Stop.Stop}, why.Why.Why}, tree.Reference.Reference}
+use Rattle.lft_classes.specs.{declared.shapes.{Shape.Shape, Thing.Thing}, Shapes.thing_named}
 use Rattle.lft_lower.specs.Meanings.Meanings.{Here, port_in, shape_inside}
+use Rattle.lft_whole.specs.declared.sources.stop.Stop.TheVariants as stop
+use Rattle.lft_whole.specs.declared.sources.why.Why.TheVariants as why
+use Rattle.lft_classes.specs.declared.shapes.Thing.TheVariants as things
 
 -- if memory didn't run out, the refusal is such a one
 abbrev pub IfRefused : (Refusal → Type 0) → Stop → Type 0

@@ -1,8 +1,7 @@
 //! How much may be made still.
 
 ghost use Rattle.std.specs.Prelude.{◌≡◌, ◌+◌, ◌≤◌, IfErr, OnErr, OnOk};
-ghost use Rattle.lft_whole.specs.declared.sources.stop.Stop.TheVariants.{Refused};
-ghost use Rattle.lft_whole.specs.declared.sources.why.Why.TheVariants.{TooMuch};
+ghost use Rattle.lft_whole.specs.declared.sources.{stop.Stop.TheVariants.Refused, why.Why.TheVariants.TooMuch};
 
 use lft_classes::Work;
 use lft_whole::sources::{Stop, Why};

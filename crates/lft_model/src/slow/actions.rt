@@ -1,10 +1,8 @@
 //! What rows schedule, and what the external inputs give, for an action.
 
 ghost use Rattle.std.specs.Prelude.{◌≡◌, ◌<◌, ◌≤◌, ◌↔◌, length, filter_map, IsTrue, IfSome, IfNone};
-ghost use Rattle.lft_ir.specs.declared.parts.Name.TheVariants.{Action as TheAction};
-ghost use Rattle.lft_ir.specs.Steps.Fits.{RowFits, RowsFit};
-ghost use Rattle.lft_model.specs.Fitting.{EachFits};
-ghost use Rattle.lft_model.specs.Presence.{At, IsPresent, events_of, given as the_given, min_delay, scheduled as the_scheduled};
+ghost use Rattle.lft_ir.specs.{declared.parts.Name.TheVariants.Action as TheAction, Steps.Fits.{RowFits, RowsFit}};
+ghost use Rattle.lft_model.specs.{Fitting.EachFits, Presence.{At, IsPresent, events_of, given as the_given, min_delay, scheduled as the_scheduled}};
 
 use crate::plan::Plan;
 use lft_ir::steps::{Event, Row, Step, row_at};

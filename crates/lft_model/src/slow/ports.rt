@@ -1,12 +1,9 @@
 //! What rows write to the origin of a port.
 
 ghost use Rattle.std.specs.Prelude.{◌≡◌, ◌<◌, ◌↔◌, length, IsTrue, IfSome, IfNone, cond, None};
-ghost use Rattle.lft_ir.specs.declared.parts.Name.TheVariants.{Port as ThePort};
-ghost use Rattle.lft_tag.specs.Tags.{IsRecorded, same_tag};
-ghost use Rattle.lft_tag.specs.Shifts.{shifted};
-ghost use Rattle.lft_ir.specs.Steps.Fits.{RowsFit};
-ghost use Rattle.lft_model.specs.Fitting.{EachFits};
-ghost use Rattle.lft_model.specs.Presence.{At, IsPresent, PortClash, value_written as the_value_written};
+ghost use Rattle.lft_ir.specs.{declared.parts.Name.TheVariants.Port as ThePort, Steps.Fits.RowsFit};
+ghost use Rattle.lft_tag.specs.{Tags.{IsRecorded, same_tag}, Shifts.shifted};
+ghost use Rattle.lft_model.specs.{Fitting.EachFits, Presence.{At, IsPresent, PortClash, value_written as the_value_written}};
 
 use crate::plan::Plan;
 use lft_ir::steps::{Row, Step, row_at};

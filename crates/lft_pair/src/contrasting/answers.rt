@@ -1,8 +1,7 @@
 //! What a run answered for its effects, and in which rows.
 
 ghost use Rattle.std.specs.Prelude.{◌≡◌, IfOk, length, slice_get, unwrap_or};
-ghost use Rattle.std.specs.BTreeMap.{get};
-ghost use Rattle.std.specs.Ordering.{nat_cmp};
+ghost use Rattle.std.specs.{BTreeMap.get, Ordering.nat_cmp};
 ghost use Rattle.lft_pair.specs.Runs.{request_of as the_request_of, last_write as the_last_write, schedulings as the_schedulings, first_request as the_first_request};
 ghost use Rattle.lft_pair.specs.Answered.{writing as the_writing, scheduled as the_scheduled, AreWrites, AreSchedulings};
 
@@ -104,8 +103,7 @@ pub(crate) struct Answered<'a> {
 
 impl<'a> Model for Answered<'a> {
     ghost use Rattle.std.specs.Prelude.{List};
-    ghost use Rattle.lft_pair.specs.declared.contrasting.contrasts.Placed.{Placed};
-    ghost use Rattle.lft_pair.specs.Answered.{AreAnswers};
+    ghost use Rattle.lft_pair.specs.{declared.contrasting.contrasts.Placed.Placed, Answered.AreAnswers};
 
     ghost Value = { List Placed };
 

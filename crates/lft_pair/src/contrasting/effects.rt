@@ -1,8 +1,7 @@
 //! For which effects two runs answered otherwise.
 
 ghost use Rattle.std.specs.Prelude.{◌≡◌, ◌↔◌, All, Contains, IsTrue, MatchOption, IfOk, slice_get, is_some};
-ghost use Rattle.lft_ir.specs.declared.parts.Name.{Name as TheName};
-ghost use Rattle.lft_ir.specs.declared.parts.Name.TheVariants.{Port, Action};
+ghost use Rattle.lft_ir.specs.declared.parts.Name.{Name as TheName, TheVariants.{Port, Action}};
 ghost use Rattle.lft_pair.specs.Runs.{last_write as the_last_write, schedulings as the_schedulings, first_request as the_first_request};
 ghost use Rattle.lft_pair.specs.Contrasts.{value_of as the_value_of, event_of as the_event_of, events};
 ghost use Rattle.lft_pair.specs.Enough.{HaveSameOutcome, TellsOf, TellsStop, IsToldOf, IsOfEffect};

@@ -1,8 +1,7 @@
 //! Both answers in columns.
 
 ghost use Rattle.std.specs.Prelude.{◌≡◌, ◌++◌, length, max, IfOk, OnOk, string_bytes};
-ghost use Rattle.lft_pair.specs.Words.{effect_words, first_words};
-ghost use Rattle.lft_pair.specs.Told.{widest, row_words};
+ghost use Rattle.lft_pair.specs.{Words.{effect_words, first_words}, Told.{widest, row_words}};
 
 use crate::contrasting::cells::{effect_cell, first_cell, push_second};
 use crate::contrasting::contrasts::Contrast;

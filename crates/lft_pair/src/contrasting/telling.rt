@@ -1,8 +1,7 @@
 //! The text of contrasts.
 
 ghost use Rattle.std.specs.Prelude.{◌≡◌, ◌++◌, IfOk, OnOk, string_bytes};
-ghost use Rattle.lft_pair.specs.Words.{instance_words};
-ghost use Rattle.lft_pair.specs.Told.{starts_words, read_words, earlier_words, before_words, contrast_words, heading_words, told};
+ghost use Rattle.lft_pair.specs.{Words.instance_words, Told.{starts_words, read_words, earlier_words, before_words, contrast_words, heading_words, told}};
 
 use crate::contrasting::contrasts::{Contrast, Contrasts};
 use crate::contrasting::table::{Widths, push_row, widths_of};

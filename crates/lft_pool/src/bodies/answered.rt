@@ -19,8 +19,7 @@ pub struct Answered<L: Law> {
 impl<L: Law> Model for Answered<L> {
     ghost use Rattle.std.specs.Prelude.{IfOk, Result};
     ghost use Rattle.lft_tag.specs.declared.NoMemory.{NoMemory};
-    ghost use Rattle.lft_pool.specs.declared.bodies.ticket.Ticket.{Ticket};
-    ghost use Rattle.lft_pool.specs.declared.bodies.done.Done.{Done};
+    ghost use Rattle.lft_pool.specs.declared.bodies.{ticket.Ticket.Ticket, done.Done.Done};
 
     ghost Value = { Ticket × Result Done NoMemory };
 

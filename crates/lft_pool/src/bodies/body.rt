@@ -18,8 +18,7 @@ pub type BoxedCode = Box<dyn FnOnce(Tag, i64, Reads) -> Result<Done, NoMemory> +
 /// fact on a law can't stand beside a `dyn` value.
 pub trait Code {
     ghost use Rattle.std.specs.Prelude.{◌≡◌, ℤ, List, Option, Result, IfSome, IsSome};
-    ghost use Rattle.lft_tag.specs.declared.Tag.{Tag};
-    ghost use Rattle.lft_tag.specs.declared.NoMemory.{NoMemory};
+    ghost use Rattle.lft_tag.specs.declared.{Tag.Tag, NoMemory.NoMemory};
     ghost use Rattle.lft_ir.specs.declared.parts.Value.{Value};
     ghost use Rattle.lft_pool.specs.declared.bodies.done.Done.{Done};
 

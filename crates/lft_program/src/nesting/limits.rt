@@ -1,8 +1,7 @@
 //! Limits on how many things a program has.
 
 ghost use Rattle.std.specs.Prelude.{◌≡◌, IfOk};
-ghost use Rattle.lft_resolve.specs.Expansion.Contents.{contained};
-ghost use Rattle.lft_resolve.specs.Expansion.Paths.{Exists, IsMoreThan};
+ghost use Rattle.lft_resolve.specs.Expansion.{Contents.contained, Paths.{Exists, IsMoreThan}};
 ghost use Rattle.lft_program.specs.Limits.{IsFull, limit_of};
 
 use lft_resolve::expansion::{Contents, count_instances};

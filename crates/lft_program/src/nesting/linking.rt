@@ -1,12 +1,8 @@
 //! The source and the origin of each port.
 
 ghost use Rattle.std.specs.Prelude.{◌≡◌, ◌≢◌, ℕ, ◌<◌, None, IfSome, IfOk, IfErr, OnOk, length};
-ghost use Rattle.lft_resolve.specs.Expansion.Sources.{AreInside};
-ghost use Rattle.lft_resolve.specs.Expansion.Ways.{HaveSites, IsWayBack};
-ghost use Rattle.lft_resolve.specs.Causes.{IsFirst, NoneHolds};
-ghost use Rattle.lft_program.specs.Linking.{AreLinked, IsLinked, IsTooLong};
-ghost use Rattle.lft_program.specs.Links.{AreLinks, TellsOf, last_causes, number_of};
-ghost use Rattle.lft_program.specs.Nests.{IsNest};
+ghost use Rattle.lft_resolve.specs.{Expansion.{Sources.AreInside, Ways.{HaveSites, IsWayBack}}, Causes.{IsFirst, NoneHolds}};
+ghost use Rattle.lft_program.specs.{Linking.{AreLinked, IsLinked, IsTooLong}, Links.{AreLinks, TellsOf, last_causes, number_of}, Nests.IsNest};
 ghost use Rattle.lft_program.specs.Tables.{AreTables, IsLawful};
 ghost use Rattle.lft_program.specs.declared.nesting.linking.LinkFault.TheVariants as faults;
 

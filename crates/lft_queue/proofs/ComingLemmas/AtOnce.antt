@@ -1,28 +1,17 @@
 -- Ports that are reached without a delay, those behind one, and the reactions that they trigger.
 use Rattle.std.proofs.Common.{◌≡◌, ◌≢◌, ℕ, ◌<◌, ◌⊎◌, inl, inr, ◌==◌, ◌&&◌, eqb-true, eq-eqb, Bool, true, false, cond, List, [], ◌∷◌, ◌++◌, length, refl, sym, ap, ◌∙◌, subst, arith, Option, Some, None, slice_get, slice_set, filter_map, option_map, unwrap_or, Contains}
-use Rattle.std.proofs.lemmas.Bool.{false≢true}
-use Rattle.std.proofs.lemmas.Option.{slice_get_within}
-use Rattle.lft_tag.specs.Shifts.{join_all, none}
-use Rattle.lft_tag.proofs.Chains.{undelayed}
+use Rattle.std.proofs.lemmas.{Bool.false≢true, Option.slice_get_within}
+use Rattle.lft_tag.{specs.Shifts.{join_all, none}, proofs.Chains.undelayed}
 use Rattle.lft_lists.proofs.Members.{Mem, get_mem, mem_left, mem_right, mem_contains, contains_mem, mem_filter}
 use Rattle.lft_lists.proofs.Places.{get_there, same_at, same_some, get_write_cases, length_written}
-use Rattle.lft_ir.specs.Naming.{named}
-use Rattle.lft_ir.specs.Origins.{Origin}
-use Rattle.lft_ir.specs.Parts.{Parts, inputs}
-use Rattle.lft_ir.specs.Sound.{IsSound}
-use Rattle.lft_ir.specs.declared.parts.Name.{Name}
-use Rattle.lft_ir.specs.declared.parts.Name.TheVariants.{Port, Action}
-use Rattle.lft_ir.specs.declared.parts.Port.{Port as PortOf}
-use Rattle.lft_ir.specs.declared.parts.Reaction.{Reaction}
-use Rattle.lft_ir.specs.declared.parts.Trigger.TheVariants.{On}
+use Rattle.lft_ir.specs.{Naming.named, Origins.Origin, Parts.{Parts, inputs}, Sound.IsSound}
+use Rattle.lft_ir.specs.declared.parts.{Name.{Name, TheVariants.{Port, Action}}, Port.Port as PortOf, Reaction.Reaction, Trigger.TheVariants.On}
 use Rattle.lft_ir.proofs.Origins.{origin_unique, port_of}
-use Rattle.lft_model.specs.Plans.{PlanParts}
-use Rattle.lft_model.proofs.Steps.{both_true}
+use Rattle.lft_model.{specs.Plans.PlanParts, proofs.Steps.both_true}
 use Rattle.lft_queue.proofs.Marking.{of_reads}
 use Rattle.lft_queue.specs.Coming.AtOnce.{is_undelayed, origin_of, HasEvents, IsAwaited, HaveGrown}
+use Rattle.lft_queue.specs.Coming.{Listeners.{list_of, heard_at, BothGrow, IsListed, AreListeners}, Listens.Listens}
 use Rattle.lft_queue.specs.declared.coming.listeners.Listeners.{Listeners}
-use Rattle.lft_queue.specs.Coming.Listeners.{list_of, heard_at, BothGrow, IsListed, AreListeners}
-use Rattle.lft_queue.specs.Coming.Listens.{Listens}
 
 -- what the test asks of a port
 pub test_of : (program : Parts) (p : ℕ) (port : PortOf) → slice_get program.ports p ≡ Some port → is_undelayed program p ≡ ((port.shift.time == 0) && (port.shift.steps == 0))

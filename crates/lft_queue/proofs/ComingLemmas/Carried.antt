@@ -1,18 +1,10 @@
 -- What a write carries to the ports behind delays.
 use Rattle.std.proofs.Common.{◌≡◌, ℕ, ◌+◌, List, [], ◌∷◌, ◌++◌, take, refl, sym, ap, ◌∙◌, Option, Some, None, Bool, true, false, cond, ◌&&◌, slice_get, filter_map, option_map, unwrap_or, append_assoc}
-use Rattle.std.specs.List.{cons_option}
-use Rattle.std.proofs.lemmas.List.{append-nil}
-use Rattle.lft_tag.specs.declared.Tag.{Tag}
-use Rattle.lft_tag.specs.Shifts.{shifted}
+use Rattle.std.{specs.List.cons_option, proofs.lemmas.List.append-nil}
+use Rattle.lft_tag.specs.{declared.Tag.Tag, Shifts.shifted}
 use Rattle.lft_lists.proofs.Picked.{kept_more}
-use Rattle.lft_ir.specs.Parts.{Parts}
-use Rattle.lft_ir.specs.declared.parts.Port.{Port as PortOf}
-use Rattle.lft_ir.specs.declared.parts.Value.{Value}
-use Rattle.lft_ir.specs.declared.parts.Name.{Name}
-use Rattle.lft_ir.specs.declared.parts.Name.TheVariants.{Port}
-use Rattle.lft_queue.specs.Pending.{same_key}
-use Rattle.lft_queue.specs.Coming.Coming.{put_at}
-use Rattle.lft_queue.specs.Coming.Channels.{is_behind, arrives_at, arrival}
+use Rattle.lft_ir.specs.{Parts.Parts, declared.parts.{Port.Port as PortOf, Value.Value, Name.{Name, TheVariants.Port}}}
+use Rattle.lft_queue.specs.{Pending.same_key, Coming.{Coming.put_at, Channels.{is_behind, arrives_at, arrival}}}
 
 module _ (program : Parts) (o : ℕ) (g : Tag) (v : Value) (targets : List ℕ) (i p : ℕ) (is : slice_get targets i ≡ Some p) (h : Tag) (n : Name) (old mid new : List Value) (so_far : mid ≡ old ++ filter_map (arrival program o g v h n) (take i targets)) where
   -- the values so far with that of one more port

@@ -1,46 +1,23 @@
 -- What the last writes of a tag carry to ports behind delays.
 use Rattle.std.proofs.Common.{◌≡◌, ◌≢◌, ℕ, ◌+◌, ◌<◌, ◌⊎◌, inl, inr, ◌==◌, ◌&&◌, eqb-true, eq-eqb, not, Bool, true, false, cond, List, [], ◌∷◌, ◌++◌, length, length-append, refl, sym, ap, ◌∙◌, subst, arith, Option, Some, None, slice_get, slice_set, filter_map, option_map, unwrap_or, option_to_list, Contains}
-use Rattle.std.specs.List.{cons_option}
-use Rattle.std.proofs.NetLemmas.Options.{cond_some}
-use Rattle.std.proofs.lemmas.Bool.{cases_eq, false≢true}
-use Rattle.std.proofs.lemmas.Option.{none-some}
-use Rattle.std.proofs.lemmas.List.{append-nil}
-use Rattle.lft_tag.specs.declared.Tag.{Tag}
-use Rattle.lft_tag.specs.Tags.{Before, UpTo, after_all, same_tag}
-use Rattle.lft_tag.specs.Shifts.{shifted}
-use Rattle.lft_tag.proofs.Chains.{shifted_chain}
-use Rattle.lft_tag.proofs.Order.{Before-irrefl, after_some_past, same_tag_refl, same_tag_true}
+use Rattle.std.{specs.List.cons_option, proofs.{NetLemmas.Options.cond_some, lemmas.{Bool.{cases_eq, false≢true}, Option.none-some, List.append-nil}}}
+use Rattle.lft_tag.specs.{declared.Tag.Tag, Tags.{Before, UpTo, after_all, same_tag}, Shifts.shifted}
+use Rattle.lft_tag.proofs.{Chains.shifted_chain, Order.{Before-irrefl, after_some_past, same_tag_refl, same_tag_true}}
 use Rattle.lft_lists.proofs.Members.{Mem, mem_get, get_mem, mem_filter, mem_from_filter, contains_mem, nil_of_none, last_mem, last_of_mem}
 use Rattle.lft_lists.proofs.Places.{same_at, get_written, get_unwritten, get_write_cases, length_written}
-use Rattle.lft_ir.specs.Origins.{Origin}
-use Rattle.lft_ir.specs.Parts.{Parts}
-use Rattle.lft_ir.specs.Sound.{IsSound}
-use Rattle.lft_ir.specs.declared.parts.Name.{Name}
-use Rattle.lft_ir.specs.declared.parts.Name.TheVariants.{Port, Action}
-use Rattle.lft_ir.specs.declared.parts.Port.{Port as PortOf}
-use Rattle.lft_ir.specs.declared.parts.Value.{Value}
-use Rattle.lft_ir.proofs.Origins.{origin_unique, port_of}
-use Rattle.lft_ir.proofs.Naming.{name_same}
+use Rattle.lft_ir.specs.{Origins.Origin, Parts.Parts, Sound.IsSound}
+use Rattle.lft_ir.specs.declared.parts.{Name.{Name, TheVariants.{Port, Action}}, Port.Port as PortOf, Value.Value}
+use Rattle.lft_ir.specs.declared.steps.{externals.Event.Event, row.{Row.Row, Step.{Step, TheVariants.Write}}}
 use Rattle.lft_ir.specs.Naming.{same_name}
-use Rattle.lft_ir.specs.declared.steps.externals.Event.{Event}
-use Rattle.lft_ir.specs.declared.steps.row.Row.{Row}
-use Rattle.lft_ir.specs.declared.steps.row.Step.{Step}
-use Rattle.lft_ir.specs.declared.steps.row.Step.TheVariants.{Write}
+use Rattle.lft_ir.proofs.{Origins.{origin_unique, port_of}, Naming.name_same}
 use Rattle.lft_model.specs.Presence.{value_written, written}
-use Rattle.lft_model.proofs.Ended.{written_by, by_written}
-use Rattle.lft_model.proofs.Places.{slice_get_within}
-use Rattle.lft_model.proofs.Steps.{both_true, written_some, some_written}
+use Rattle.lft_model.proofs.{Ended.{written_by, by_written}, Places.slice_get_within, Steps.{both_true, written_some, some_written}}
 use Rattle.lft_queue.specs.Pending.{value_of}
 use Rattle.lft_queue.specs.Coming.AtOnce.{is_undelayed, origin_of, Passes}
 use Rattle.lft_queue.specs.Coming.Channels.{is_behind, arrives_at, arrival, AreChannelsTo, carried_to, carried_by, IsCarried, IsUncarried, AreCarried}
-use Rattle.lft_queue.specs.Coming.Coming.{to_come}
-use Rattle.lft_queue.specs.declared.coming.coming.Coming.{Coming}
-use Rattle.lft_queue.specs.declared.coming.writes.Written.{Written}
-use Rattle.lft_queue.specs.Coming.Lanes.{held, carried}
-use Rattle.lft_queue.specs.Coming.Shown.{last_write}
-use Rattle.lft_queue.specs.Coming.Writes.{value_at}
-use Rattle.lft_queue.proofs.ComingLemmas.AtOnce.{test_of, origin_is, port_behind, delayed_way}
-use Rattle.lft_queue.proofs.ComingLemmas.ToCome.{few_of}
+use Rattle.lft_queue.specs.Coming.{Coming.to_come, Lanes.{held, carried}, Shown.last_write, Writes.value_at}
+use Rattle.lft_queue.specs.declared.coming.{coming.Coming.Coming, writes.Written.Written}
+use Rattle.lft_queue.proofs.ComingLemmas.{AtOnce.{test_of, origin_is, port_behind, delayed_way}, ToCome.few_of}
 
 -- a write arrives at a port where the port's delays lead, and at once where there is none
 pub arrives_way : (program : Parts) → IsSound program → (g : Tag) (p o : ℕ) (ds : List ℕ) → Origin program p o ds → arrives_at program g p ≡ after_all g ds

@@ -2,18 +2,12 @@
 use Rattle.std.proofs.Common.{◌≡◌, ◌≢◌, ℕ, ◌+◌, ◌<◌, ◌⊎◌, inl, inr, List, length, refl, sym, ◌∙◌, subst, arith, Option, Some, None, slice_get, slice_set}
 use Rattle.std.proofs.lemmas.Option.{none-some}
 use Rattle.lft_lists.proofs.Places.{get_write_cases, length_written}
-use Rattle.lft_ir.specs.Parts.{Parts}
-use Rattle.lft_ir.specs.declared.steps.row.Row.{Row}
-use Rattle.lft_tag.specs.declared.Tag.{Tag}
-use Rattle.lft_tag.specs.Tags.{UpTo, after}
-use Rattle.lft_tag.proofs.Order.{UpTo-Before, after_past}
+use Rattle.lft_ir.specs.{Parts.Parts, declared.steps.row.Row.Row}
+use Rattle.lft_tag.{specs.{declared.Tag.Tag, Tags.{UpTo, after}}, proofs.Order.{UpTo-Before, after_past}}
 use Rattle.lft_queue.specs.Reading.{is_read}
-use Rattle.lft_queue.specs.Coming.AtOnce.{origin_of}
-use Rattle.lft_queue.specs.Coming.Channels.{AreCarried, AreCarriedClear}
-use Rattle.lft_queue.specs.Coming.Coming.{IsClear, IsNoLater}
+use Rattle.lft_queue.specs.Coming.{AtOnce.origin_of, Channels.{AreCarried, AreCarriedClear}, Coming.{IsClear, IsNoLater}}
 use Rattle.lft_queue.specs.Coming.Writes.{AreWrites, AreEarlier, AreFewer}
-use Rattle.lft_queue.specs.declared.coming.coming.Coming.{Coming}
-use Rattle.lft_queue.specs.declared.coming.writes.Written.{Written}
+use Rattle.lft_queue.specs.declared.coming.{coming.Coming.Coming, writes.Written.Written}
 
 -- a tag up to a clear one is clear
 pub clear_up : (clash : Option Tag) (k h : Tag) → UpTo k h → IsClear clash h → IsClear clash k

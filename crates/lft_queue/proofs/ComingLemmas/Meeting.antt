@@ -1,29 +1,16 @@
 -- Writes that meet at ports that no reaction reads.
 use Rattle.std.proofs.Common.{◌≡◌, ◌≢◌, ◌⊎◌, inl, inr, ◌<◌, ◌+◌, ℕ, Bool, true, false, List, [], ◌∷◌, ◌++◌, length, replicate, refl, sym, ap, ◌∙◌, subst, arith, Option, Some, None, MatchOption, slice_get, slice_set}
-use Rattle.std.proofs.lemmas.Bool.{cases_eq, false≢true}
-use Rattle.std.proofs.lemmas.Option.{none-some}
-use Rattle.lft_tag.specs.declared.Tag.{Tag}
-use Rattle.lft_tag.specs.Tags.{Before, UpTo}
-use Rattle.lft_tag.specs.Shifts.{shifted}
-use Rattle.lft_tag.specs.declared.Shift.{Shift}
+use Rattle.std.proofs.lemmas.{Bool.{cases_eq, false≢true}, Option.none-some}
+use Rattle.lft_tag.specs.{declared.{Tag.Tag, Shift.Shift}, Tags.{Before, UpTo}, Shifts.shifted}
 use Rattle.lft_tag.proofs.Order.{Before-irrefl, Before-UpTo, UpTo-refl, split_up}
 use Rattle.lft_lists.proofs.Places.{get_there, get_same, length_same, get_push, get_last, get_push_cases, get_left, get_append_cases, get_write_cases, length_written, same_at}
 use Rattle.lft_ir.specs.Parts.{Parts}
-use Rattle.lft_ir.specs.declared.parts.Port.{Port as PortOf}
-use Rattle.lft_ir.specs.declared.parts.Value.{Value}
-use Rattle.lft_ir.specs.declared.parts.Name.TheVariants.{Port}
-use Rattle.lft_ir.specs.declared.steps.row.Row.{Row}
-use Rattle.lft_ir.specs.declared.steps.row.Step.{Step}
-use Rattle.lft_ir.specs.declared.steps.row.Step.TheVariants.{Write}
+use Rattle.lft_ir.specs.declared.{parts.{Port.Port as PortOf, Value.Value, Name.TheVariants.Port}, steps.row.{Row.Row, Step.{Step, TheVariants.Write}}}
 use Rattle.lft_ir.specs.Steps.Fits.{StepFits, RowsFit}
-use Rattle.lft_model.specs.Presence.{value_written}
-use Rattle.lft_model.proofs.Places.{slice_get_within}
-use Rattle.lft_model.proofs.Steps.{some_written}
+use Rattle.lft_model.{specs.Presence.value_written, proofs.{Places.slice_get_within, Steps.some_written}}
 use Rattle.lft_queue.specs.Reading.{is_read}
-use Rattle.lft_queue.proofs.Tests.{together}
-use Rattle.lft_queue.specs.Coming.AtTag.{AreBefore, AreAt}
-use Rattle.lft_queue.proofs.ComingLemmas.Ways.{moved_up, far_trans}
-use Rattle.lft_queue.specs.Coming.Unread.{GoesAsFar, UnreadParts, AreSoonest, IsWrittenAt, IsLastTag, AreUnread, IsFree, AreFree}
+use Rattle.lft_queue.specs.Coming.{AtTag.{AreBefore, AreAt}, Unread.{GoesAsFar, UnreadParts, AreSoonest, IsWrittenAt, IsLastTag, AreUnread, IsFree, AreFree}}
+use Rattle.lft_queue.proofs.{Tests.together, ComingLemmas.Ways.{moved_up, far_trans}}
 
 -- how soon a write arrives, port by port
 pub soonest_first : (program : Parts) (n : ℕ) (soonest : List (Option Shift)) → soonest ≡ replicate n None → n ≡ length program.ports → AreSoonest program 0 soonest

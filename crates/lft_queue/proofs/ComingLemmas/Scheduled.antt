@@ -1,21 +1,11 @@
 -- The events that rows schedule.
 use Rattle.std.proofs.Common.{◌≡◌, ℕ, ◌+◌, List, [], ◌∷◌, ◌++◌, take, refl, sym, ap, ◌∙◌, subst, add-one, Option, Some, None, false, slice_get, filter_map, option_map}
 use Rattle.std.proofs.lemmas.List.Elements.{filter_map-append}
-use Rattle.lft_tag.specs.declared.Tag.{Tag}
-use Rattle.lft_tag.specs.Tags.{UpTo, same_tag, after}
-use Rattle.lft_tag.proofs.Order.{after_past, UpTo-Before}
-use Rattle.lft_lists.proofs.Members.{mem_get, get_mem, mem_from_filter, none_nil}
-use Rattle.lft_lists.proofs.Picked.{take_next}
-use Rattle.lft_queue.proofs.Tests.{tag_apart}
-use Rattle.lft_ir.specs.declared.parts.Value.{Value}
-use Rattle.lft_ir.specs.declared.parts.Name.{Name}
-use Rattle.lft_ir.specs.declared.parts.Name.TheVariants.{Port, Action}
-use Rattle.lft_ir.specs.declared.steps.row.Row.{Row}
-use Rattle.lft_model.specs.Plans.{PlanParts}
-use Rattle.lft_model.specs.Presence.{value_scheduled, min_delay}
-use Rattle.lft_queue.specs.Coming.Coming.{scheduled_by}
-use Rattle.lft_queue.specs.Coming.Lanes.{held, at_tag, coming, made}
-use Rattle.lft_queue.specs.Coming.AtTag.{AreAt}
+use Rattle.lft_tag.{specs.{declared.Tag.Tag, Tags.{UpTo, same_tag, after}}, proofs.Order.{after_past, UpTo-Before}}
+use Rattle.lft_lists.proofs.{Members.{mem_get, get_mem, mem_from_filter, none_nil}, Picked.take_next}
+use Rattle.lft_queue.{proofs.Tests.tag_apart, specs.Coming.{Coming.scheduled_by, Lanes.{held, at_tag, coming, made}, AtTag.AreAt}}
+use Rattle.lft_ir.specs.declared.{parts.{Value.Value, Name.{Name, TheVariants.{Port, Action}}}, steps.row.Row.Row}
+use Rattle.lft_model.specs.{Plans.PlanParts, Presence.{value_scheduled, min_delay}}
 
 -- what one more row schedules stands behind
 pub held_more : (plan : PlanParts) (rows : List Row) (i : ℕ) (x : Row) (n : Name) (h : Tag) → slice_get rows i ≡ Some x → held (scheduled_by plan (take i rows) n) h ++ held (scheduled_by plan (x ∷ []) n) h ≡ held (scheduled_by plan (take (i + 1) rows) n) h

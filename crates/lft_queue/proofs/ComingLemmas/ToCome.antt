@@ -1,35 +1,19 @@
 -- The events to come.
 use Rattle.std.proofs.Common.{◌≡◌, ℕ, suc, ◌+◌, ◌<◌, ◌⊎◌, inl, inr, List, [], ◌∷◌, ◌++◌, drop, length, refl, sym, ap, ◌∙◌, subst, arith, Option, Some, None, Bool, true, false, cond, ◌&&◌, ◌==◌, eqb-true, eq-eqb, ne_eqb, ⊎_elim, slice_get, slice_index_or, filter_map, option_to_list, Contains}
 use Rattle.std.specs.List.{filter, cons_option}
-use Rattle.std.proofs.lemmas.Bool.{false≢true}
-use Rattle.std.proofs.lemmas.List.{append-nil}
-use Rattle.std.proofs.lemmas.Option.{none-some, get_or_from_slice_get}
-use Rattle.std.proofs.lemmas.List.Sums.{length-filter, count_by-le-length}
+use Rattle.std.proofs.lemmas.{Bool.false≢true, List.{append-nil, Sums.{length-filter, count_by-le-length}}, Option.{none-some, get_or_from_slice_get}}
 use Rattle.std.proofs.Math.Seq.{drop-cons}
 use native.Mathlib.Decide.{dec_lt}
-use Rattle.lft_lists.proofs.Places.{same_at}
-use Rattle.lft_tag.specs.declared.Tag.{Tag}
-use Rattle.lft_tag.specs.Tags.{Before, UpTo, same_tag}
+use Rattle.lft_lists.proofs.{Places.same_at, Members.{Mem, contains_mem, none_nil}}
+use Rattle.lft_tag.specs.{declared.Tag.Tag, Tags.{Before, UpTo, same_tag}}
 use Rattle.lft_tag.proofs.Order.{order_cases, UpTo-refl, Before-weaken, UpTo-Before, Before-UpTo, Before-trans, Before-irrefl, same_tag_refl, split_up, UpTo-not, same_tag_true}
-use Rattle.lft_lists.proofs.Members.{Mem, contains_mem, none_nil}
-use Rattle.lft_ir.proofs.Ranges.{slice_get-drop}
-use Rattle.lft_ir.specs.declared.parts.Value.{Value}
-use Rattle.lft_ir.specs.declared.parts.Name.{Name}
-use Rattle.lft_ir.specs.declared.parts.Name.TheVariants.{Port, Action}
-use Rattle.lft_ir.proofs.Naming.{name_same}
-use Rattle.lft_ir.specs.Naming.{same_name}
-use Rattle.lft_ir.specs.declared.steps.externals.Event.{Event}
+use Rattle.lft_ir.proofs.{Ranges.slice_get-drop, Naming.name_same}
+use Rattle.lft_ir.specs.{declared.{parts.{Value.Value, Name.{Name, TheVariants.{Port, Action}}}, steps.externals.Event.Event}, Naming.same_name}
 use Rattle.lft_ir.specs.Steps.Inputs.{InOrder}
-use Rattle.lft_model.specs.Presence.{given}
-use Rattle.lft_model.proofs.Steps.{both_true}
-use Rattle.lft_model.proofs.Places.{slice_get_within}
-use Rattle.lft_queue.specs.Pending.{Pending, value_of, same_key, is_after, Becomes}
-use Rattle.lft_queue.proofs.Dropping.{later_value}
-use Rattle.lft_queue.proofs.Tests.{not_before, tag_apart}
-use Rattle.lft_queue.specs.declared.coming.coming.Coming.{Coming}
-use Rattle.lft_queue.specs.declared.coming.listeners.Listeners.{Listeners}
-use Rattle.lft_queue.specs.Coming.Coming.{given_from, to_come, put_at, AreBrought, AreTaken, IsClear, ArePassed, IsReached, AreOver}
-use Rattle.lft_queue.specs.Coming.Listeners.{IsUnheard}
+use Rattle.lft_model.{specs.Presence.given, proofs.{Steps.both_true, Places.slice_get_within}}
+use Rattle.lft_queue.specs.{Pending.{Pending, value_of, same_key, is_after, Becomes}, declared.coming.{coming.Coming.Coming, listeners.Listeners.Listeners}}
+use Rattle.lft_queue.specs.Coming.{Coming.{given_from, to_come, put_at, AreBrought, AreTaken, IsClear, ArePassed, IsReached, AreOver}, Listeners.IsUnheard}
+use Rattle.lft_queue.proofs.{Dropping.later_value, Tests.{not_before, tag_apart}}
 
 -- an event of the queue is one at its tag
 pub value_there : (h : Tag) (n : Name) (v : Value) (q : List Pending) → value_of h n q ≡ Some v → (e : Pending) × Mem e q × (e.tag ≡ h)

@@ -1,9 +1,6 @@
 -- Ways, and where they lead from a tag.
 use Rattle.std.proofs.Common.{◌≡◌, ℕ, zero, suc, ◌<◌, ◌≤◌, ◌⊎◌, inl, inr, refl, ◌∙◌, arith}
-use Rattle.lft_tag.specs.declared.Tag.{Tag}
-use Rattle.lft_tag.specs.declared.Shift.{Shift}
-use Rattle.lft_tag.specs.Tags.{UpTo}
-use Rattle.lft_tag.specs.Shifts.{moved}
+use Rattle.lft_tag.specs.{declared.{Tag.Tag, Shift.Shift}, Tags.UpTo, Shifts.moved}
 use Rattle.lft_queue.specs.Coming.Unread.{GoesAsFar}
 
 pub moved_up : (g : Tag) (a b c d : ℕ) → (a < c) ⊎ ((a ≡ c) × (b ≤ d)) → UpTo (moved g a b) (moved g c d)

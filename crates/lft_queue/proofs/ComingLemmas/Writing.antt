@@ -1,22 +1,12 @@
 -- The last writes of ports, over the rows of a tag.
 use Rattle.std.proofs.Common.{◌≡◌, ◌≢◌, ℕ, ◌<◌, ◌⊎◌, inl, inr, Bool, true, false, ◌==◌, cond, eqb-true, eq-eqb, List, [], ◌∷◌, ◌++◌, length, refl, sym, ap, ◌∙◌, subst, Option, Some, None, slice_get, slice_set, filter_map}
-use Rattle.std.specs.List.{last_or}
-use Rattle.std.proofs.lemmas.List.Elements.{filter_map-append}
-use Rattle.lft_tag.specs.declared.Tag.{Tag}
-use Rattle.lft_tag.specs.Tags.{Before, UpTo, same_tag}
+use Rattle.std.{specs.List.last_or, proofs.lemmas.List.Elements.filter_map-append}
+use Rattle.lft_tag.specs.{declared.Tag.Tag, Tags.{Before, UpTo, same_tag}}
 use Rattle.lft_tag.proofs.Order.{Before-irrefl, Before-weaken, Before-UpTo, UpTo-refl, same_tag_refl, same_tag_true}
-use Rattle.lft_lists.proofs.Members.{last-append_nil, last-append_some}
-use Rattle.lft_lists.proofs.Places.{get_write_cases, length_written}
-use Rattle.lft_ir.specs.Parts.{Parts}
-use Rattle.lft_ir.specs.declared.parts.Value.{Value}
-use Rattle.lft_ir.specs.declared.parts.Name.TheVariants.{Port}
-use Rattle.lft_ir.specs.declared.steps.row.Row.{Row}
-use Rattle.lft_ir.specs.declared.steps.row.Step.{Step}
-use Rattle.lft_ir.specs.declared.steps.row.Step.TheVariants.{Write}
-use Rattle.lft_model.specs.Presence.{value_written, written}
-use Rattle.lft_model.proofs.Ended.{by_written}
-use Rattle.lft_queue.specs.declared.coming.writes.Written.{Written}
-use Rattle.lft_queue.specs.Coming.Writes.{value_at, AreWrites, AreEarlier}
+use Rattle.lft_lists.proofs.{Members.{last-append_nil, last-append_some}, Places.{get_write_cases, length_written}}
+use Rattle.lft_ir.specs.{Parts.Parts, declared.{parts.{Value.Value, Name.TheVariants.Port}, steps.row.{Row.Row, Step.{Step, TheVariants.Write}}}}
+use Rattle.lft_model.{specs.Presence.{value_written, written}, proofs.Ended.by_written}
+use Rattle.lft_queue.specs.{declared.coming.writes.Written.Written, Coming.Writes.{value_at, AreWrites, AreEarlier}}
 
 -- what is of earlier tags than one is so of a later one, and says nothing of its rows
 pub earlier_on : (program : Parts) (g h : Tag) (writes : List (Option Written)) → UpTo g h → AreEarlier program g writes → AreEarlier program h writes

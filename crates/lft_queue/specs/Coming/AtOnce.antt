@@ -1,18 +1,10 @@
 -- Ports that are reached without a delay, and those behind one.
 use Rattle.std.specs.Prelude.{◌≡◌, ℕ, ◌==◌, ◌&&◌, Bool, true, false, List, [], length, Some, slice_get, Contains, unwrap_or, option_map}
 use Rattle.lft_tag.specs.declared.Tag.{Tag}
-use Rattle.lft_ir.specs.Parts.{Parts}
-use Rattle.lft_ir.specs.Origins.{Origin}
-use Rattle.lft_ir.specs.declared.parts.Value.{Value}
-use Rattle.lft_ir.specs.declared.parts.Name.{Name}
-use Rattle.lft_ir.specs.declared.parts.Name.TheVariants.{Port, Action}
-use Rattle.lft_ir.specs.declared.parts.Trigger.TheVariants.{On}
-use Rattle.lft_ir.specs.declared.steps.row.Row.{Row}
-use Rattle.lft_model.specs.Plans.{PlanParts}
-use Rattle.lft_model.specs.Presence.{Last}
-use Rattle.lft_model.specs.Runs.{Ran}
-use Rattle.lft_queue.specs.Reading.{is_read}
-use Rattle.lft_queue.specs.Coming.Listens.{Listens}
+use Rattle.lft_ir.specs.{Parts.Parts, Origins.Origin}
+use Rattle.lft_ir.specs.declared.{parts.{Value.Value, Name.{Name, TheVariants.{Port, Action}}, Trigger.TheVariants.On}, steps.row.Row.Row}
+use Rattle.lft_model.specs.{Plans.PlanParts, Presence.Last, Runs.Ran}
+use Rattle.lft_queue.specs.{Reading.is_read, Coming.Listens.Listens}
 
 -- the test of a port that lies behind no delay
 abbrev pub is_undelayed : Parts → ℕ → Bool

@@ -1,7 +1,6 @@
 -- Rows at a tag, and rows before it.
 use Rattle.std.specs.Prelude.{◌≡◌, ℕ, List, Some, slice_get}
-use Rattle.lft_tag.specs.declared.Tag.{Tag}
-use Rattle.lft_tag.specs.Tags.{Before}
+use Rattle.lft_tag.specs.{declared.Tag.Tag, Tags.Before}
 use Rattle.lft_ir.specs.declared.steps.row.Row.{Row}
 
 -- each row is at an earlier tag than g

@@ -1,27 +1,14 @@
 -- The ports behind delays, and the events that writes carry to them.
 use Rattle.std.specs.Prelude.{◌≡◌, ◌≢◌, ℕ, ◌<◌, ◌⊎◌, Bool, true, false, not, cond, ◌&&◌, ◌==◌, List, [], ◌++◌, length, Option, Some, None, slice_get, Contains, unwrap_or, option_map, option_to_list}
-use Rattle.lft_tag.specs.declared.Tag.{Tag}
-use Rattle.lft_tag.specs.Tags.{Before, UpTo}
-use Rattle.lft_tag.specs.Shifts.{shifted}
+use Rattle.lft_tag.specs.{declared.Tag.Tag, Tags.{Before, UpTo}, Shifts.shifted}
 use Rattle.lft_ir.specs.Parts.{Parts}
-use Rattle.lft_ir.specs.declared.parts.Port.{Port as PortOf}
-use Rattle.lft_ir.specs.declared.parts.Name.{Name}
-use Rattle.lft_ir.specs.declared.parts.Name.TheVariants.{Port, Action}
-use Rattle.lft_ir.specs.declared.parts.Value.{Value}
-use Rattle.lft_ir.specs.declared.steps.row.Row.{Row}
-use Rattle.lft_ir.specs.declared.steps.row.Step.TheVariants.{Write}
-use Rattle.lft_ir.specs.declared.steps.externals.Event.{Event}
+use Rattle.lft_ir.specs.declared.parts.{Port.Port as PortOf, Name.{Name, TheVariants.{Port, Action}}, Value.Value}
+use Rattle.lft_ir.specs.declared.steps.{row.{Row.Row, Step.TheVariants.Write}, externals.Event.Event}
 use Rattle.lft_model.specs.Plans.{PlanParts}
-use Rattle.lft_queue.specs.Pending.{same_key}
-use Rattle.lft_queue.specs.Reading.{is_read}
-use Rattle.lft_queue.specs.Coming.AtOnce.{is_undelayed, origin_of}
-use Rattle.lft_queue.specs.Coming.Coming.{to_come, IsClear, IsNoLater}
-use Rattle.lft_queue.specs.declared.coming.channels.Channels.{Channels}
-use Rattle.lft_queue.specs.declared.coming.coming.Coming.{Coming}
-use Rattle.lft_queue.specs.declared.coming.writes.Written.{Written}
-use Rattle.lft_queue.specs.Coming.Lanes.{held, made}
-use Rattle.lft_queue.specs.Coming.Shown.{last_write}
+use Rattle.lft_queue.specs.{Pending.same_key, Reading.is_read}
+use Rattle.lft_queue.specs.Coming.{AtOnce.{is_undelayed, origin_of}, Coming.{to_come, IsClear, IsNoLater}, Lanes.{held, made}, Shown.last_write}
 use Rattle.lft_queue.specs.Coming.Writes.{value_at}
+use Rattle.lft_queue.specs.declared.coming.{channels.Channels.Channels, coming.Coming.Coming, writes.Written.Written}
 
 -- the test of a port that lies behind a delay of origin o
 abbrev pub is_behind : Parts → ℕ → ℕ → Bool

@@ -1,20 +1,10 @@
 -- The events to come: those in a queue, and the external ones from a place on.
 use Rattle.std.specs.Prelude.{◌≡◌, ℕ, ◌<◌, ◌≤◌, cond, List, [], ◌∷◌, ◌++◌, drop, length, Option, Some, MatchOption, slice_get, filter_map, option_to_list, Contains}
-use Rattle.lft_tag.specs.declared.Tag.{Tag}
-use Rattle.lft_tag.specs.Tags.{Before, UpTo}
-use Rattle.lft_ir.specs.declared.parts.Value.{Value}
-use Rattle.lft_ir.specs.declared.parts.Name.{Name}
-use Rattle.lft_ir.specs.declared.parts.Name.TheVariants.{Port, Action}
-use Rattle.lft_ir.specs.declared.steps.externals.Event.{Event}
-use Rattle.lft_ir.specs.declared.steps.row.Row.{Row}
-use Rattle.lft_model.specs.Plans.{PlanParts}
-use Rattle.lft_model.specs.Presence.{given}
-use Rattle.lft_queue.specs.Pending.{Pending, value_of, same_key}
-use Rattle.lft_queue.specs.declared.coming.coming.Coming.{Coming}
-use Rattle.lft_queue.specs.Coming.AtOnce.{IsAwaited}
-use Rattle.lft_queue.specs.Coming.Lanes.{held, made}
-use Rattle.lft_queue.specs.declared.coming.listeners.Listeners.{Listeners}
-use Rattle.lft_queue.specs.Coming.Listeners.{IsUnheard}
+use Rattle.lft_tag.specs.{declared.Tag.Tag, Tags.{Before, UpTo}}
+use Rattle.lft_ir.specs.declared.{parts.{Value.Value, Name.{Name, TheVariants.{Port, Action}}}, steps.{externals.Event.Event, row.Row.Row}}
+use Rattle.lft_model.specs.{Plans.PlanParts, Presence.given}
+use Rattle.lft_queue.specs.{Pending.{Pending, value_of, same_key}, declared.coming.{coming.Coming.Coming, listeners.Listeners.Listeners}}
+use Rattle.lft_queue.specs.Coming.{AtOnce.IsAwaited, Lanes.{held, made}, Listeners.IsUnheard}
 
 -- the values that the external events from the place on give a name at h
 abbrev pub given_from : List Event → ℕ → Tag → Name → List Value

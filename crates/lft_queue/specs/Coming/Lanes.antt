@@ -1,17 +1,10 @@
 -- The events of a port or an action that are still to be met: a lane of tags and values.
 use Rattle.std.specs.Prelude.{◌≡◌, ℕ, ◌+◌, ◌<◌, ◌≤◌, ◌==◌, cond, List, [], length, Option, Some, None, Contains, filter_map, option_map, option_to_list}
 use Rattle.std.specs.List.{last_or}
-use Rattle.lft_tag.specs.declared.Tag.{Tag}
-use Rattle.lft_tag.specs.Tags.{Before, UpTo, same_tag, after, after_all}
-use Rattle.lft_ir.specs.declared.parts.Value.{Value}
-use Rattle.lft_ir.specs.declared.parts.Name.{Name}
-use Rattle.lft_ir.specs.declared.parts.Name.TheVariants.{Port, Action}
-use Rattle.lft_ir.specs.declared.parts.Trigger.TheVariants.{On}
-use Rattle.lft_ir.specs.declared.steps.row.Row.{Row}
-use Rattle.lft_ir.specs.declared.steps.externals.Event.{Event}
-use Rattle.lft_model.specs.Plans.{PlanParts}
-use Rattle.lft_model.specs.Presence.{value_scheduled, min_delay, written, At, ClashesAt}
-use Rattle.lft_model.specs.Runs.{Ran}
+use Rattle.lft_tag.specs.{declared.Tag.Tag, Tags.{Before, UpTo, same_tag, after, after_all}}
+use Rattle.lft_ir.specs.declared.parts.{Value.Value, Name.{Name, TheVariants.{Port, Action}}, Trigger.TheVariants.On}
+use Rattle.lft_ir.specs.declared.steps.{row.Row.Row, externals.Event.Event}
+use Rattle.lft_model.specs.{Plans.PlanParts, Presence.{value_scheduled, min_delay, written, At, ClashesAt}, Runs.Ran}
 use Rattle.lft_queue.specs.Coming.Listens.{Listens}
 
 -- the value of an event at h

@@ -1,16 +1,9 @@
 -- Which reactions each port and each action triggers.
 use Rattle.std.specs.Prelude.{◌≡◌, ℕ, ◌<◌, cond, List, [], length, Option, Some, slice_get, Contains}
-use Rattle.lft_ir.specs.Parts.{Parts}
-use Rattle.lft_ir.specs.declared.parts.Name.{Name}
-use Rattle.lft_ir.specs.declared.parts.Name.TheVariants.{Port, Action}
-use Rattle.lft_ir.specs.declared.parts.Trigger.TheVariants.{On}
+use Rattle.lft_ir.specs.{Parts.Parts, declared.{parts.{Name.{Name, TheVariants.{Port, Action}}, Trigger.TheVariants.On}, steps.row.Row.Row}}
 use Rattle.lft_tag.specs.declared.Tag.{Tag}
-use Rattle.lft_ir.specs.declared.steps.row.Row.{Row}
-use Rattle.lft_model.specs.Plans.{PlanParts}
-use Rattle.lft_model.specs.Runs.{Ran}
-use Rattle.lft_queue.specs.declared.coming.listeners.Listeners.{Listeners}
-use Rattle.lft_queue.specs.Coming.AtOnce.{is_undelayed, origin_of, HaveGrown}
-use Rattle.lft_queue.specs.Coming.Listens.{Listens}
+use Rattle.lft_model.specs.{Plans.PlanParts, Runs.Ran}
+use Rattle.lft_queue.specs.{declared.coming.listeners.Listeners.Listeners, Coming.{AtOnce.{is_undelayed, origin_of, HaveGrown}, Listens.Listens}}
 
 -- the list of a name, if there is one
 abbrev pub list_of : Listeners → Name → Option (List ℕ)

@@ -1,7 +1,6 @@
 -- Who listens to a trigger.
 use Rattle.std.specs.Prelude.{◌≡◌, ℕ, Some, slice_get, Contains}
-use Rattle.lft_ir.specs.declared.parts.Reaction.{Reaction}
-use Rattle.lft_ir.specs.declared.parts.Trigger.{Trigger}
+use Rattle.lft_ir.specs.declared.parts.{Reaction.Reaction, Trigger.Trigger}
 use Rattle.lft_model.specs.Plans.{PlanParts}
 
 -- x is a trigger of reaction r

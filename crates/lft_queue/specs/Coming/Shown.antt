@@ -2,8 +2,7 @@
 use Rattle.std.specs.Prelude.{◌≡◌, ℕ, List, [], Option, None, MatchOption, Contains, filter_map}
 use Rattle.std.specs.List.{last_or}
 use Rattle.lft_tag.specs.declared.Tag.{Tag}
-use Rattle.lft_ir.specs.declared.parts.Value.{Value}
-use Rattle.lft_ir.specs.declared.steps.row.Row.{Row}
+use Rattle.lft_ir.specs.declared.{parts.Value.Value, steps.row.Row.Row}
 use Rattle.lft_model.specs.Presence.{written}
 use Rattle.lft_queue.specs.Coming.Lanes.{held}
 

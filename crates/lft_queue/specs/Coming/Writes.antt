@@ -1,12 +1,8 @@
 -- What was written last to each port.
 use Rattle.std.specs.Prelude.{◌≡◌, ℕ, cond, List, length, Option, Some, None, slice_get}
-use Rattle.lft_tag.specs.declared.Tag.{Tag}
-use Rattle.lft_tag.specs.Tags.{Before, UpTo, same_tag}
-use Rattle.lft_ir.specs.Parts.{Parts}
-use Rattle.lft_ir.specs.declared.parts.Value.{Value}
-use Rattle.lft_ir.specs.declared.steps.row.Row.{Row}
-use Rattle.lft_queue.specs.Coming.Shown.{last_write}
-use Rattle.lft_queue.specs.declared.coming.writes.Written.{Written}
+use Rattle.lft_tag.specs.{declared.Tag.Tag, Tags.{Before, UpTo, same_tag}}
+use Rattle.lft_ir.specs.{Parts.Parts, declared.{parts.Value.Value, steps.row.Row.Row}}
+use Rattle.lft_queue.specs.{Coming.Shown.last_write, declared.coming.writes.Written.Written}
 
 -- the value of a write that is at the tag
 abbrev pub value_at : Tag → Option Written → Option Value

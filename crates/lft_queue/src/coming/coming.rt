@@ -1,10 +1,8 @@
 //! The events to come.
 
 ghost use Rattle.std.specs.Prelude.{◌≡◌, ◌↔◌, ◌⊎◌, ◌++◌, [], List, Some, None, IsSome, IsTrue, OnOk, IfErr, Contains};
-ghost use Rattle.lft_tag.specs.declared.Tag.{Tag as TheTag};
-ghost use Rattle.lft_tag.specs.Tags.{Before, UpTo};
-ghost use Rattle.lft_ir.specs.declared.parts.Name.{Name as TheName};
-ghost use Rattle.lft_ir.specs.declared.steps.externals.Event.{Event as TheEvent};
+ghost use Rattle.lft_tag.specs.{declared.Tag.Tag as TheTag, Tags.{Before, UpTo}};
+ghost use Rattle.lft_ir.specs.declared.{parts.Name.Name as TheName, steps.externals.Event.Event as TheEvent};
 ghost use Rattle.lft_queue.specs.Pending.{value_of, Becomes};
 ghost use Rattle.lft_queue.specs.Coming.Coming.{put_at, to_come, AreBrought, AreTaken, ArePassed, IsReached, AreOver, IsClear, IsNoLater};
 ghost use Rattle.lft_queue.specs.Coming.Listeners.{IsUnheard};

@@ -1,17 +1,10 @@
 //! The events that rows cause at later tags.
 
 ghost use Rattle.std.specs.Prelude.{◌≡◌, ◌++◌, [], ◌∷◌, List, IsTrue};
-ghost use Rattle.lft_tag.specs.declared.Tag.{Tag as TheTag};
-ghost use Rattle.lft_ir.specs.declared.parts.Name.{Name as TheName};
-ghost use Rattle.lft_ir.specs.declared.steps.externals.Event.{Event as TheEvent};
-ghost use Rattle.lft_ir.specs.Steps.Fits.{RowFits, RowsFit};
-ghost use Rattle.lft_tag.specs.Tags.{Before, UpTo, after};
-ghost use Rattle.lft_queue.specs.Coming.Channels.{AreReadChannels, caused_by};
-ghost use Rattle.lft_queue.specs.Coming.AtOnce.{IsAwaited};
-ghost use Rattle.lft_queue.specs.Coming.Coming.{to_come, scheduled_by, IsClear, IsNoLater};
-ghost use Rattle.lft_queue.specs.Coming.Lanes.{held};
-ghost use Rattle.lft_queue.specs.Coming.AtTag.{AreAt};
-ghost use Rattle.lft_queue.specs.Coming.Writes.{AreWrites, AreEarlier};
+ghost use Rattle.lft_tag.specs.{declared.Tag.Tag as TheTag, Tags.{Before, UpTo, after}};
+ghost use Rattle.lft_ir.specs.{declared.{parts.Name.Name as TheName, steps.externals.Event.Event as TheEvent}, Steps.Fits.{RowFits, RowsFit}};
+ghost use Rattle.lft_queue.specs.Coming.{Channels.{AreReadChannels, caused_by}, AtOnce.IsAwaited, Coming.{to_come, scheduled_by, IsClear, IsNoLater}};
+ghost use Rattle.lft_queue.specs.Coming.{Lanes.held, AtTag.AreAt, Writes.{AreWrites, AreEarlier}};
 
 use crate::coming::channels::{Channels, carry_all};
 use crate::coming::coming::Coming;

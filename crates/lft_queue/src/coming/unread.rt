@@ -1,18 +1,11 @@
 //! Ports behind delays that no reaction reads.
 
 ghost use Rattle.std.specs.Prelude.{◌≡◌, ◌≢◌, ◌⊎◌, ◌<◌, ◌∷◌, ◌++◌, [], ℕ, true, false, List, Option, length, Some, None, IfOk, IfSome, slice_get};
-ghost use Rattle.lft_tag.specs.declared.Tag.{Tag as TheTag};
-ghost use Rattle.lft_tag.specs.declared.Shift.{Shift as TheShift};
-ghost use Rattle.lft_tag.specs.Shifts.{shifted};
-ghost use Rattle.lft_tag.specs.Tags.{Before, UpTo, IsRecorded};
-ghost use Rattle.lft_ir.specs.declared.parts.Name.TheVariants.{Port as PortName};
-ghost use Rattle.lft_ir.specs.declared.parts.Value.{Value as TheValue};
-ghost use Rattle.lft_ir.specs.declared.steps.row.Row.{Row as TheRow};
-ghost use Rattle.lft_ir.specs.declared.steps.row.Step.TheVariants.{Write};
+ghost use Rattle.lft_tag.specs.{declared.{Tag.Tag as TheTag, Shift.Shift as TheShift}, Shifts.shifted, Tags.{Before, UpTo, IsRecorded}};
+ghost use Rattle.lft_ir.specs.declared.parts.{Name.TheVariants.Port as PortName, Value.Value as TheValue};
+ghost use Rattle.lft_ir.specs.declared.steps.row.{Row.Row as TheRow, Step.TheVariants.Write};
 ghost use Rattle.lft_ir.specs.Steps.Fits.{RowFits, RowsFit};
-ghost use Rattle.lft_queue.specs.Coming.AtTag.{AreBefore, AreAt};
-ghost use Rattle.lft_queue.specs.Coming.Coming.{IsClear};
-ghost use Rattle.lft_queue.specs.Coming.Unread.{GoesAsFar, AreSoonest, IsWrittenAt, AreUnread, IsFree, AreFree};
+ghost use Rattle.lft_queue.specs.Coming.{AtTag.{AreBefore, AreAt}, Coming.IsClear, Unread.{GoesAsFar, AreSoonest, IsWrittenAt, AreUnread, IsFree, AreFree}};
 
 use crate::coming::coming::earlier_of;
 use crate::coming::writes::written_port;

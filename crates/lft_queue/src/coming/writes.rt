@@ -2,14 +2,9 @@
 
 ghost use Rattle.std.specs.Prelude.{◌≡◌, ℕ, List, Option, [], ◌∷◌, ◌++◌, ◌<◌, length, Some, None, IfOk, MatchOption, slice_get, slice_set};
 ghost use Rattle.lft_tag.specs.declared.Tag.{Tag as TheTag};
-ghost use Rattle.lft_ir.specs.declared.parts.Name.TheVariants.{Port};
-ghost use Rattle.lft_ir.specs.declared.steps.row.Step.TheVariants.{Write};
+ghost use Rattle.lft_ir.specs.{declared.{parts.Name.TheVariants.Port, steps.row.{Step.TheVariants.Write, Row.Row as TheRow}}, Steps.Fits.{RowFits, RowsFit}};
 ghost use Rattle.lft_model.specs.Presence.{value_written};
-ghost use Rattle.lft_ir.specs.declared.steps.row.Row.{Row as TheRow};
-ghost use Rattle.lft_ir.specs.Steps.Fits.{RowFits, RowsFit};
-ghost use Rattle.lft_queue.specs.Coming.AtTag.{AreAt};
-ghost use Rattle.lft_queue.specs.declared.coming.writes.Written.{Written as TheWritten};
-ghost use Rattle.lft_queue.specs.Coming.Writes.{value_at, AreWrites, AreEarlier};
+ghost use Rattle.lft_queue.specs.{Coming.{AtTag.AreAt, Writes.{value_at, AreWrites, AreEarlier}}, declared.coming.writes.Written.Written as TheWritten};
 
 use lft_ir::steps::{Row, Step, row_at};
 use lft_ir::{Name, Program, Value};

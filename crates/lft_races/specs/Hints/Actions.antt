@@ -1,11 +1,7 @@
 -- The actions among the triggers of a reaction, by their numbers. This serves the look-up of actions alone.
 use Rattle.std.specs.Prelude.{◌≡◌, ℕ, ◌<◌, List, Some, MatchOption, slice_get}
-use Rattle.std.specs.BTreeMap.{BTreeMap, get}
-use Rattle.std.specs.Ordering.{nat_cmp}
-use Rattle.lft_ir.specs.Parts.{Parts}
-use Rattle.lft_ir.specs.declared.parts.Name.TheVariants.{Action}
-use Rattle.lft_ir.specs.declared.parts.Trigger.{Trigger}
-use Rattle.lft_ir.specs.declared.parts.Trigger.TheVariants.{On}
+use Rattle.std.specs.{BTreeMap.{BTreeMap, get}, Ordering.nat_cmp}
+use Rattle.lft_ir.specs.{Parts.Parts, declared.parts.{Name.TheVariants.Action, Trigger.{Trigger, TheVariants.On}}}
 use Rattle.lft_races.specs.Hints.Hints.{HasTrigger}
 
 -- a place of each action that is among the first i triggers

@@ -1,22 +1,11 @@
 -- What each hint says of a plan, the rows of a trace and a breach. A guess is no statement, and stands in the words alone.
 use Rattle.std.specs.Prelude.{◌≡◌, ◌≢◌, ℕ, ◌+◌, ◌*◌, ◌<◌, ◌≤◌, ◌⊎◌, List, length, Some, slice_get, Contains}
-use Rattle.lft_tag.specs.declared.Tag.{Tag}
-use Rattle.lft_tag.specs.Tags.{Before}
+use Rattle.lft_tag.specs.{declared.Tag.Tag, Tags.Before}
 use Rattle.lft_ir.specs.Parts.{Parts}
-use Rattle.lft_ir.specs.declared.parts.Name.{Name}
-use Rattle.lft_ir.specs.declared.parts.Name.TheVariants.{Port, Action}
-use Rattle.lft_ir.specs.declared.parts.Reaction.{Reaction}
-use Rattle.lft_ir.specs.declared.parts.Trigger.{Trigger}
-use Rattle.lft_ir.specs.declared.parts.Trigger.TheVariants.{Shutdown, On}
-use Rattle.lft_ir.specs.declared.parts.Value.{Value}
-use Rattle.lft_ir.specs.declared.steps.row.Row.{Row}
-use Rattle.lft_ir.specs.declared.steps.row.Step.TheVariants.{Start, End, Read, Write, Schedule}
-use Rattle.lft_model.specs.declared.breach.Breach.{Breach}
-use Rattle.lft_model.specs.Plans.{PlanParts}
-use Rattle.lft_model.specs.Presence.{stop, Triggered}
-use Rattle.lft_races.specs.Races.{IsRaceBefore}
-use Rattle.lft_races.specs.Across.{IsAcross, StartsTwice}
-use Rattle.lft_races.specs.declared.hints.hint.Hint.{Hint}
+use Rattle.lft_ir.specs.declared.parts.{Name.{Name, TheVariants.{Port, Action}}, Reaction.Reaction, Trigger.{Trigger, TheVariants.{Shutdown, On}}, Value.Value}
+use Rattle.lft_ir.specs.declared.steps.row.{Row.Row, Step.TheVariants.{Start, End, Read, Write, Schedule}}
+use Rattle.lft_model.specs.{declared.breach.Breach.Breach, Plans.PlanParts, Presence.{stop, Triggered}}
+use Rattle.lft_races.specs.{Races.IsRaceBefore, Across.{IsAcross, StartsTwice}, declared.hints.hint.Hint.Hint}
 use Rattle.lft_races.specs.declared.hints.hint.Hint.TheVariants as hint
 
 -- no row before the one at place i is of its worker

@@ -1,12 +1,9 @@
 //! Which hint a breach has.
 
 ghost use Rattle.std.specs.Prelude.{◌≡◌, ◌≢◌, ◌↔◌, ◌+◌, ◌<◌, ◌≤◌, ◌⊎◌, ℕ, length, IsTrue, IfSome, IfNone, IfOk};
-ghost use Rattle.lft_ir.specs.declared.parts.Trigger.TheVariants.{Shutdown};
-ghost use Rattle.lft_ir.specs.Steps.Fits.{RowsFit};
-ghost use Rattle.lft_model.specs.Plans.{PlanParts};
-ghost use Rattle.lft_model.specs.Presence.{stop, Triggered};
-ghost use Rattle.lft_races.specs.Races.{FirstSoFar};
-ghost use Rattle.lft_races.specs.declared.hints.hint.Hint.{Hint as TheHint};
+ghost use Rattle.lft_ir.specs.{declared.parts.Trigger.TheVariants.Shutdown, Steps.Fits.RowsFit};
+ghost use Rattle.lft_model.specs.{Plans.PlanParts, Presence.{stop, Triggered}};
+ghost use Rattle.lft_races.specs.{Races.FirstSoFar, declared.hints.hint.Hint.Hint as TheHint};
 ghost use Rattle.lft_races.specs.Hints.Actions.{AreActions};
 ghost use Rattle.lft_races.specs.Hints.Hints.{HasPort, HasRace, HasTrigger, HasWholeDelay, IsHint, IsLateByRecorder, IsOfOpen, IsOfStart, IsSmallStop, IsThousandfold, IsUntriggeredHint, SchedulesWhole};
 

@@ -1,8 +1,7 @@
 //! Hints, and their words.
 
 ghost use Rattle.std.specs.Prelude.{◌≡◌, IfOk, string_bytes};
-ghost use Rattle.lft_races.specs.Hints.Words.{hint_words};
-ghost use Rattle.lft_races.specs.declared.hints.hint.Hint.TheVariants.{WholeDelay};
+ghost use Rattle.lft_races.specs.{Hints.Words.hint_words, declared.hints.hint.Hint.TheVariants.WholeDelay};
 
 use itoa::Buffer;
 use std::alloc::{AllocError, Global};

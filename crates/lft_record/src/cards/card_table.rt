@@ -3,11 +3,8 @@
 ghost use Rattle.std.specs.Prelude.{◌≡◌, ◌≢◌, ◌↔◌, ◌<◌, ℕ, List, length, IfOk, IfErr, IfSome, IfNone, IsTrue, true, false};
 ghost use Rattle.csv.specs.Records.{fields_of};
 ghost use Rattle.lft_trace.specs.Records.{records_of};
-ghost use Rattle.lft_record.specs.CardTables.{CardTable, CardsFail, FaultAt, IsCard, IsContent, header};
-ghost use Rattle.lft_record.specs.CardFaults.{is_told};
-ghost use Rattle.lft_record.specs.Seen.{FieldFault, IsCardOf, card_fields};
-ghost use Rattle.lft_record.specs.declared.cards.card.Card.{Card as TheCard};
-ghost use Rattle.lft_record.specs.declared.cards.Script.{Script};
+ghost use Rattle.lft_record.specs.{CardTables.{CardTable, CardsFail, FaultAt, IsCard, IsContent, header}, CardFaults.is_told};
+ghost use Rattle.lft_record.specs.{Seen.{FieldFault, IsCardOf, card_fields}, declared.cards.{card.Card.Card as TheCard, Script.Script}};
 
 use crate::cards::Cards;
 use crate::cards::card::{Card, CardEntry, CardStep, CardValue};

@@ -1,13 +1,9 @@
 -- The text of a row, piece by piece.
 use Rattle.std.proofs.Common.{◌≡◌, List, [], ◌∷◌, ◌++◌, ℕ, ap, ◌∙◌, refl, decimal, slice_index_or}
 use Rattle.std.specs.List.{join_with_byte}
-use Rattle.lft_ir.specs.Parts.{Parts}
-use Rattle.lft_ir.specs.declared.steps.row.Row.{Row}
-use Rattle.lft_ir.specs.declared.steps.row.Step.{Step}
-use Rattle.lft_ir.specs.declared.steps.row.Step.TheVariants.{Start, Read, Write, Schedule, Stop, End}
-use Rattle.lft_trace.specs.Traces.{word}
-use Rattle.lft_trace.specs.Written.{event_of, step_fields, row_fields}
+use Rattle.lft_ir.specs.{Parts.Parts, declared.steps.row.{Row.Row, Step.{Step, TheVariants.{Start, Read, Write, Schedule, Stop, End}}}}
 use Rattle.lft_ir.proofs.WordsLemmas.Steps.{also}
+use Rattle.lft_trace.specs.{Traces.word, Written.{event_of, step_fields, row_fields}}
 
 -- a field before those of a step
 step_joined : (program : Parts) (x : List ℕ) (s : Step) → join_with_byte 44 (x ∷ step_fields program s) ≡ x ++ (44 ∷ join_with_byte 44 (step_fields program s))

@@ -1,12 +1,8 @@
 -- The lines of quotes, one after another.
 use Rattle.std.proofs.Common.{◌≡◌, ℕ, suc, ◌+◌, ◌≤◌, List, ◌++◌, length, drop, add-one, append-nil, append_assoc, sym, ap, ◌∙◌, Option, Some, slice_get}
 use Rattle.std.proofs.lemmas.List.{drop_all}
-use Rattle.lft_ir.specs.Parts.{Parts}
-use Rattle.lft_ir.specs.declared.steps.row.Row.{Row}
-use Rattle.lft_report.specs.declared.quotes.marks.Quote.{Quote}
-use Rattle.lft_report.specs.declared.quotes.quoting.Widths.{Widths}
-use Rattle.lft_report.specs.Quotes.Quoted.{quote_words, gap_words, lines}
-use Rattle.lft_ir.proofs.WordsLemmas.Steps.{drop_next}
+use Rattle.lft_ir.{specs.{Parts.Parts, declared.steps.row.Row.Row}, proofs.WordsLemmas.Steps.drop_next}
+use Rattle.lft_report.specs.{declared.quotes.{marks.Quote.Quote, quoting.Widths.Widths}, Quotes.Quoted.{quote_words, gap_words, lines}}
 
 -- two pieces behind a text, before what is left
 pub pieces : (s0 s1 s2 a b rest : List ℕ) → s1 ≡ s0 ++ a → s2 ≡ s1 ++ b → s2 ++ rest ≡ s0 ++ (a ++ b ++ rest)

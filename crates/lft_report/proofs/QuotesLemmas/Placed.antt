@@ -2,8 +2,7 @@
 use Rattle.std.proofs.Common.{◌≡◌, ℕ, suc, ◌+◌, ◌<◌, ◌≤◌, List, [], ◌∷◌, ◌++◌, take, drop, take-append-drop, add-one, append_assoc, sym, ap, ◌∙◌, arith, Some, slice_get}
 use Rattle.std.proofs.lemmas.Bool.Decides.{nat_tests}
 use Rattle.lft_lists.proofs.Picked.{take_next}
-use Rattle.lft_report.specs.declared.quotes.marks.Quote.{Quote}
-use Rattle.lft_report.specs.Quotes.Picked.{inserted}
+use Rattle.lft_report.specs.{declared.quotes.marks.Quote.Quote, Quotes.Picked.inserted}
 use Rattle.lft_ir.proofs.WordsLemmas.Steps.{drop_next}
 
 pub inserted_before : (q x : Quote) (xs : List Quote) → q.row < x.row → inserted (x ∷ xs) q ≡ q ∷ x ∷ xs

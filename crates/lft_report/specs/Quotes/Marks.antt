@@ -1,16 +1,12 @@
 -- Which rows facts name, and what each is to them.
 use Rattle.std.specs.Prelude.{ℕ, List, [], ◌∷◌, ◌++◌, codes}
-use Rattle.lft_facts.specs.declared.facts.Cause.{Cause}
+use Rattle.lft_facts.specs.declared.facts.{Cause.Cause, Reason.Reason, Fact.Fact, RowFact.RowFact}
+use Rattle.lft_report.specs.declared.quotes.marks.{RowMark.RowMark, Quote.Quote}
 use Rattle.lft_facts.specs.declared.facts.Cause.TheVariants as cause
-use Rattle.lft_facts.specs.declared.facts.Reason.{Reason}
 use Rattle.lft_facts.specs.declared.facts.Reason.TheVariants as reason
-use Rattle.lft_facts.specs.declared.facts.Fact.{Fact}
 use Rattle.lft_facts.specs.declared.facts.Fact.TheVariants as fact
-use Rattle.lft_facts.specs.declared.facts.RowFact.{RowFact}
 use Rattle.lft_facts.specs.declared.facts.RowFact.TheVariants as row_fact
-use Rattle.lft_report.specs.declared.quotes.marks.RowMark.{RowMark}
 use Rattle.lft_report.specs.declared.quotes.marks.RowMark.TheVariants as mark
-use Rattle.lft_report.specs.declared.quotes.marks.Quote.{Quote}
 
 -- the row at a place, with a mark
 abbrev pub marked : ℕ → RowMark → List Quote

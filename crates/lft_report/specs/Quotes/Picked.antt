@@ -1,8 +1,7 @@
 -- The rows that facts name, in order.
 use Rattle.std.specs.Prelude.{ℕ, List, [], ◌∷◌, nat_lt, nat_eq, if◌then◌else◌, fold, flat_map}
 use Rattle.lft_facts.specs.declared.facts.Fact.{Fact}
-use Rattle.lft_report.specs.declared.quotes.marks.Quote.{Quote}
-use Rattle.lft_report.specs.Quotes.Marks.{names}
+use Rattle.lft_report.specs.{declared.quotes.marks.Quote.Quote, Quotes.Marks.names}
 
 -- a row in its place among others that ascend; of two quotes of one row the earlier stays
 abbrev pub inserted : List Quote → Quote → List Quote

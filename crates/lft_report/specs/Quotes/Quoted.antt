@@ -1,16 +1,10 @@
 -- The text of quoted rows.
 use Rattle.std.specs.Prelude.{ℕ, ◌+◌, max, List, [], ◌∷◌, ◌++◌, Bool, false, length, Option, Some, None, slice_get, option_map, unwrap_or, nat_lt, nat_le, if◌then◌else◌, fold, codes, decimal}
 use Rattle.std.specs.List.{join_with_byte}
-use Rattle.lft_ir.specs.Parts.{Parts}
-use Rattle.lft_ir.specs.declared.steps.row.Row.{Row}
+use Rattle.lft_ir.specs.{Parts.Parts, declared.steps.row.Row.Row, Words.Columns.{blanks, fill, padded}}
 use Rattle.lft_trace.specs.Written.{row_fields}
 use Rattle.lft_facts.specs.declared.facts.Fact.{Fact}
-use Rattle.lft_ir.specs.Words.Columns.{blanks, fill, padded}
-use Rattle.lft_report.specs.declared.quotes.marks.RowMark.{RowMark}
-use Rattle.lft_report.specs.declared.quotes.marks.Quote.{Quote}
-use Rattle.lft_report.specs.declared.quotes.quoting.Widths.{Widths}
-use Rattle.lft_report.specs.Quotes.Marks.{mark_words}
-use Rattle.lft_report.specs.Quotes.Picked.{quotes_of}
+use Rattle.lft_report.specs.{declared.quotes.{marks.{RowMark.RowMark, Quote.Quote}, quoting.Widths.Widths}, Quotes.{Marks.mark_words, Picked.quotes_of}}
 
 -- the text of the row at a place, as a trace table has it
 abbrev pub row_text : Parts → List Row → ℕ → List ℕ

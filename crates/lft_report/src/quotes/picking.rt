@@ -1,9 +1,7 @@
 //! The rows that facts name, in order.
 
 ghost use Rattle.std.specs.Prelude.{◌≡◌, ◌++◌, ◌<◌, ◌≤◌, length, take, drop, slice_get, Some, IfOk, OnOk, [], fold, flat_map};
-ghost use Rattle.lft_report.specs.declared.quotes.marks.Quote.{Quote as TheQuote};
-ghost use Rattle.lft_report.specs.Quotes.Marks.{names};
-ghost use Rattle.lft_report.specs.Quotes.Picked.{inserted, quotes_of};
+ghost use Rattle.lft_report.specs.{declared.quotes.marks.Quote.Quote as TheQuote, Quotes.{Marks.names, Picked.{inserted, quotes_of}}};
 
 use crate::quotes::marks::{Quote, push_named};
 use lft_facts::Fact;

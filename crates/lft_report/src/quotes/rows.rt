@@ -2,10 +2,8 @@
 
 ghost use Rattle.std.specs.Prelude.{◌≡◌, ◌<◌, ◌++◌, ◌∷◌, [], length, slice_index_or, IfOk, OnOk, decimal, string_bytes};
 ghost use Rattle.std.specs.List.{join_with_byte};
-ghost use Rattle.lft_ir.specs.Sound.{IsNameOf};
-ghost use Rattle.lft_ir.specs.Steps.Fits.{RowFits, RowsFit, StepFits};
-ghost use Rattle.lft_trace.specs.Traces.{word};
-ghost use Rattle.lft_trace.specs.Written.{event_of, name_text, value_text, delay_text, step_fields, row_fields};
+ghost use Rattle.lft_ir.specs.{Sound.IsNameOf, Steps.Fits.{RowFits, RowsFit, StepFits}};
+ghost use Rattle.lft_trace.specs.{Traces.word, Written.{event_of, name_text, value_text, delay_text, step_fields, row_fields}};
 ghost use Rattle.lft_report.specs.Quotes.Quoted.{row_text as the_row_text};
 
 use itoa::Buffer;

@@ -1,20 +1,10 @@
 -- What parameters are given, from the last on.
 use Rattle.std.proofs.Common.{◌≡◌, ◌≢◌, ℕ, zero, suc, ◌+◌, ◌<◌, ◌≤◌, ◌⊎◌, inl, inr, true, false, eqb, cond, List, [], ◌∷◌, ◌++◌, length, refl, sym, ap, ◌∙◌, subst, arith, Option, Some, None, slice_get, slice_set, drop, find, length-append}
-use Rattle.std.specs.List.{enumerate_from}
-use Rattle.std.specs.Option.{option_map_or, option_map, option_and_then}
-use Rattle.std.proofs.lemmas.Bool.{cases_lt}
-use Rattle.std.proofs.lemmas.Bool.Decides.{eqb_tells}
-use Rattle.std.proofs.lemmas.Option.{slice_get_within}
-use Rattle.std.proofs.lemmas.List.FromFn.{length-enumerate_from}
-use Rattle.std.proofs.lemmas.List.{length-map}
-use Rattle.lft_lists.proofs.Mapped.{mapped, enumerate_at}
-use Rattle.lft_lists.proofs.Places.{get_there, get_written, get_unwritten, length_written, get_push_cases, same_some}
-use Rattle.lft_resolve.specs.declared.expansion.walk.Contents.{Contents}
-use Rattle.lft_resolve.specs.declared.expansion.walk.Instance.{Instance}
-use Rattle.lft_resolve.specs.Expansion.Paths.{along}
-use Rattle.lft_resolve.specs.Expansion.Contents.{contained, IsAt}
-use Rattle.lft_resolve.specs.declared.expansion.settings.Given.{Given}
-use Rattle.lft_resolve.specs.declared.expansion.settings.Parameters.{Parameters}
+use Rattle.std.specs.{List.enumerate_from, Option.{option_map_or, option_map, option_and_then}}
+use Rattle.std.proofs.lemmas.{Bool.{cases_lt, Decides.eqb_tells}, Option.slice_get_within, List.{length-map, FromFn.length-enumerate_from}}
+use Rattle.lft_lists.proofs.{Mapped.{mapped, enumerate_at}, Places.{get_there, get_written, get_unwritten, length_written, get_push_cases, same_some}}
+use Rattle.lft_resolve.specs.declared.expansion.{walk.{Contents.Contents, Instance.Instance}, settings.{Given.Given, Parameters.Parameters}}
+use Rattle.lft_resolve.specs.Expansion.{Paths.along, Contents.{contained, IsAt}}
 use Rattle.lft_resolve.specs.Expansion.Values.{clock_in, value_in, values_in, defaults_of, given_by, entered, HaveValues, LeadToValues}
 use Rattle.lft_resolve.proofs.ExpansionLemmas.Orders.{along_at, along_kid}
 

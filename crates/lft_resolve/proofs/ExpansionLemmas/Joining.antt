@@ -1,21 +1,13 @@
 -- The sources of ports so far, in a pass over the joins of each instance.
 use Rattle.std.proofs.Common.{◌≡◌, ◌≢◌, ℕ, ◌+◌, ◌<◌, ◌≤◌, ◌⊎◌, inl, inr, List, [], length, sym, ap, ◌∙◌, subst, arith, Option, Some, slice_get, slice_set, unwrap_or}
-use Rattle.std.specs.Option.{option_map, option_and_then}
-use Rattle.std.proofs.lemmas.Bool.{cases_lt, cases_eq}
-use Rattle.std.proofs.lemmas.Option.{slice_get_within}
+use Rattle.std.{specs.Option.{option_map, option_and_then}, proofs.lemmas.{Bool.{cases_lt, cases_eq}, Option.slice_get_within}}
 use Rattle.lft_lists.proofs.Places.{get_there, get_written, get_unwritten, get_write_cases, length_written, same_some}
 use Rattle.lft_resolve.specs.declared.expansion.walk.Instance.{Instance}
-use Rattle.lft_tag.specs.declared.Source.{Source}
-use Rattle.lft_resolve.specs.declared.expansion.joins.End.{End}
-use Rattle.lft_resolve.specs.declared.expansion.joins.End.TheVariants.{Own, Inner}
-use Rattle.lft_resolve.specs.declared.expansion.joins.Join.{Join}
-use Rattle.lft_resolve.specs.declared.expansion.joins.Connections.{Connections}
-use Rattle.lft_resolve.specs.declared.expansion.joins.Site.{Site}
-use Rattle.lft_resolve.specs.Expansion.Numbers.{things, AreFirst}
-use Rattle.lft_resolve.specs.Expansion.Values.{clock_in}
-use Rattle.lft_resolve.specs.Expansion.Sources.{AreInside}
+use Rattle.lft_resolve.specs.declared.expansion.joins.{End.{End, TheVariants.{Own, Inner}}, Join.Join, Connections.Connections, Site.Site}
+use Rattle.lft_resolve.specs.Expansion.{Numbers.{things, AreFirst}, Values.clock_in, Sources.AreInside}
 use Rattle.lft_resolve.specs.Expansion.Joins.{port_at, port_of, Declares, IsAt, IsPort, joins_of, HasJoin, JoinPorts, LeadApart, Joins, AreSites, AreSources}
 use Rattle.lft_resolve.proofs.ExpansionLemmas.Things.{things_more, things_some}
+use Rattle.lft_tag.specs.declared.Source.{Source}
 
 -- the number of a port that is declared is below their count
 abbrev pub Number : ℕ → Option ℕ → Type 0

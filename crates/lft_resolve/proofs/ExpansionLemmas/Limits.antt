@@ -1,10 +1,8 @@
 -- Paths that exist are no more than those in the list of the instances.
 use Rattle.std.proofs.Common.{◌≡◌, ℕ, suc, ◌≤◌, inl, inr, List, [], ◌∷◌, length, refl, sym, ap, ◌∙◌, arith, Option, Some, slice_get}
 use Rattle.lft_lists.proofs.Members.{Mem, mem_get, get_mem}
-use Rattle.lft_resolve.specs.Expansion.Paths.{Exists, IsPreOrder, IsMoreThan}
-use Rattle.lft_resolve.specs.Expansion.Contents.{contained, IsWalk}
-use Rattle.lft_resolve.specs.declared.expansion.walk.Contents.{Contents}
-use Rattle.lft_resolve.specs.declared.expansion.walk.Instance.{Instance}
+use Rattle.lft_resolve.specs.Expansion.{Paths.{Exists, IsPreOrder, IsMoreThan}, Contents.{contained, IsWalk}}
+use Rattle.lft_resolve.specs.declared.expansion.walk.{Contents.Contents, Instance.Instance}
 
 -- x taken out of ys
 abbrev pub without : {X : Type 0} (x : X) (ys : List X) → Mem x ys → List X

@@ -1,10 +1,8 @@
 -- The order of paths, and the list that the walk makes.
 use Rattle.std.proofs.Common.{◌≡◌, ℕ, zero, suc, ◌+◌, ◌<◌, ◌≤◌, ◌⊎◌, inl, inr, List, [], ◌∷◌, ◌++◌, refl, sym, ap, ◌∙◌, subst, arith, Option, Some, None, append_assoc, append-nil}
-use Rattle.std.proofs.lemmas.Bool.{cases_lt}
-use Rattle.std.specs.Option.{option_and_then}
+use Rattle.std.{proofs.lemmas.Bool.cases_lt, specs.Option.option_and_then}
 use Rattle.lft_lists.proofs.Members.{Mem, mem_get, get_mem, mem_left, mem_right, mem_cases}
-use Rattle.lft_resolve.specs.Expansion.Paths.{along, Before, Exists, IsPreOrder}
-use Rattle.lft_resolve.proofs.ExpansionLemmas.Pairs.{Pairs, pairs_append, pairs_at}
+use Rattle.lft_resolve.{specs.Expansion.Paths.{along, Before, Exists, IsPreOrder}, proofs.ExpansionLemmas.Pairs.{Pairs, pairs_append, pairs_at}}
 
 -- p and q part, and p goes to the earlier place
 abbrev pub Apart : List ℕ → List ℕ → Type 0

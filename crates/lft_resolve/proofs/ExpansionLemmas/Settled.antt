@@ -2,13 +2,10 @@
 use Rattle.std.proofs.Common.{◌≡◌, ◌≢◌, ℕ, ◌+◌, ◌<◌, ◌⊎◌, inl, inr, List, ◌∷◌, ◌++◌, length, refl, sym, ap, ◌∙◌, subst, arith, Option, Some, slice_get}
 use Rattle.std.proofs.lemmas.Option.{slice_get_within}
 use Rattle.lft_resolve.proofs.ExpansionLemmas.Settling.{leads_on}
+use Rattle.lft_resolve.specs.declared.expansion.origins.{Reached.Reached, Mark.{Mark, TheVariants.{New, Done}}}
+use Rattle.lft_resolve.specs.Expansion.{Sources.{Origin, itself, over, Leads, one, more, AreReached}, Marks.{IsSettled, NoneOpen}}
 use Rattle.lft_lists.proofs.Places.{get_there}
 use Rattle.lft_tag.specs.declared.Source.{Source}
-use Rattle.lft_resolve.specs.declared.expansion.origins.Reached.{Reached}
-use Rattle.lft_resolve.specs.declared.expansion.origins.Mark.{Mark}
-use Rattle.lft_resolve.specs.declared.expansion.origins.Mark.TheVariants.{New, Done}
-use Rattle.lft_resolve.specs.Expansion.Sources.{Origin, itself, over, Leads, one, more, AreReached}
-use Rattle.lft_resolve.specs.Expansion.Marks.{IsSettled, NoneOpen}
 
 pub record Looked (sources : List (Option Source)) (marks : List Mark) (port : ℕ) : Type 0 where
   pub as_long : length marks ≡ length sources

@@ -1,18 +1,10 @@
 -- The things of instances, counted and listed.
 use Rattle.std.proofs.Common.{◌≡◌, ℕ, zero, suc, ◌+◌, ◌<◌, ◌≤◌, ◌⊎◌, inl, inr, List, [], ◌∷◌, ◌++◌, length, refl, sym, ap, ◌∙◌, subst, arith, Some, slice_get, take, length-append, add-one}
-use Rattle.std.proofs.lemmas.Bool.{cases_lt}
-use Rattle.std.proofs.lemmas.Option.{slice_get_within}
-use Rattle.lft_lists.proofs.Places.{get_there, get_push_cases}
-use Rattle.lft_lists.proofs.Members.{Mem, mem_get, get_mem, mem_left, mem_right, mem_cases}
-use Rattle.lft_resolve.specs.declared.expansion.walk.Contents.{Contents}
-use Rattle.lft_resolve.specs.declared.expansion.walk.Instance.{Instance}
-use Rattle.lft_resolve.specs.Expansion.Paths.{Before, IsMoreThan}
-use Rattle.lft_resolve.specs.Expansion.Contents.{IsWalk}
-use Rattle.lft_resolve.specs.Expansion.Numbers.{count_of, things, IsThing}
-use Rattle.lft_resolve.proofs.ExpansionLemmas.Orders.{before_itself}
-use Rattle.lft_resolve.proofs.ExpansionLemmas.Limits.{no_longer}
-use Rattle.lft_resolve.proofs.ExpansionLemmas.Unique.{pairs_from}
-use Rattle.lft_resolve.proofs.ExpansionLemmas.Pairs.{Pairs, pairs_append, pairs_at}
+use Rattle.std.proofs.lemmas.{Bool.cases_lt, Option.slice_get_within}
+use Rattle.lft_lists.proofs.{Places.{get_there, get_push_cases}, Members.{Mem, mem_get, get_mem, mem_left, mem_right, mem_cases}}
+use Rattle.lft_resolve.specs.declared.expansion.walk.{Contents.Contents, Instance.Instance}
+use Rattle.lft_resolve.specs.Expansion.{Paths.{Before, IsMoreThan}, Contents.IsWalk, Numbers.{count_of, things, IsThing}}
+use Rattle.lft_resolve.proofs.ExpansionLemmas.{Orders.before_itself, Limits.no_longer, Unique.pairs_from, Pairs.{Pairs, pairs_append, pairs_at}}
 
 -- one instance more
 pub things_more : (counts : List ℕ) (instances : List Instance) (n : ℕ) (i : Instance) → slice_get instances n ≡ Some i → things counts (take (n + 1) instances) ≡ things counts (take n instances) + count_of counts i.reactor

@@ -1,9 +1,7 @@
 -- A list in pre-order is determined by what exists.
 use Rattle.std.proofs.Common.{◌≡◌, ℕ, suc, ◌<◌, ◌⊎◌, inl, inr, List, [], ◌∷◌, refl, sym, ◌∙◌, subst, arith, Option, Some, slice_get}
 use Rattle.lft_lists.proofs.Members.{Mem, mem_get, get_mem}
-use Rattle.lft_resolve.specs.Expansion.Paths.{Before, IsPreOrder}
-use Rattle.lft_resolve.proofs.ExpansionLemmas.Orders.{before_itself}
-use Rattle.lft_resolve.proofs.ExpansionLemmas.Pairs.{Pairs}
+use Rattle.lft_resolve.{specs.Expansion.Paths.{Before, IsPreOrder}, proofs.ExpansionLemmas.{Orders.before_itself, Pairs.Pairs}}
 
 pub before_both : (p q : List ℕ) → Before p q → Before q p → ⊥
 before_both p [] a b = a

@@ -1,9 +1,7 @@
 -- What reactors contain, by number, and the instances as a list.
 use Rattle.std.specs.Prelude.{◌≡◌, ℕ, ◌<◌, List, [], ◌∷◌, ◌++◌, Option, Some, slice_get, length}
 use Rattle.std.specs.Option.{option_and_then}
-use Rattle.lft_resolve.specs.Expansion.Paths.{along, IsPreOrder}
-use Rattle.lft_resolve.specs.declared.expansion.walk.Contents.{Contents}
-use Rattle.lft_resolve.specs.declared.expansion.walk.Instance.{Instance}
+use Rattle.lft_resolve.specs.{Expansion.Paths.{along, IsPreOrder}, declared.expansion.walk.{Contents.Contents, Instance.Instance}}
 
 -- the reactor of the k-th instance that a reactor contains
 abbrev pub contained : List Contents → ℕ → ℕ → Option ℕ

@@ -1,16 +1,10 @@
 -- What connections join, by the numbers of ports. Ports are numbered by instance and then by place.
 use Rattle.std.specs.Prelude.{◌≡◌, ℕ, ◌+◌, ◌<◌, ◌↔◌, List, [], Option, Some, slice_get, length, unwrap_or, option_map}
 use Rattle.std.specs.Option.{option_and_then, option_map_or}
-use Rattle.lft_resolve.specs.Expansion.Numbers.{count_of, things}
-use Rattle.lft_resolve.specs.Expansion.Children.{child_of}
-use Rattle.lft_resolve.specs.Expansion.Values.{clock_in}
+use Rattle.lft_resolve.specs.Expansion.{Numbers.{count_of, things}, Children.child_of, Values.clock_in}
 use Rattle.lft_resolve.specs.declared.expansion.walk.Instance.{Instance}
+use Rattle.lft_resolve.specs.declared.expansion.joins.{End.{End, TheVariants.{Own, Inner}}, Join.Join, Connections.Connections, Site.Site}
 use Rattle.lft_tag.specs.declared.Source.{Source}
-use Rattle.lft_resolve.specs.declared.expansion.joins.End.{End}
-use Rattle.lft_resolve.specs.declared.expansion.joins.End.TheVariants.{Own, Inner}
-use Rattle.lft_resolve.specs.declared.expansion.joins.Join.{Join}
-use Rattle.lft_resolve.specs.declared.expansion.joins.Connections.{Connections}
-use Rattle.lft_resolve.specs.declared.expansion.joins.Site.{Site}
 
 -- the number of the port at this place of instance n, by the numbers of first ports
 abbrev pub port_at : List ℕ → ℕ → ℕ → Option ℕ

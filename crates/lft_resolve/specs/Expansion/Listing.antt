@@ -1,8 +1,6 @@
 -- The things of one kind, each at its number.
 use Rattle.std.specs.Prelude.{◌≡◌, ℕ, ◌+◌, ◌<◌, List, Some, slice_get, length, take}
-use Rattle.lft_resolve.specs.Expansion.Numbers.{count_of, things}
-use Rattle.lft_resolve.specs.declared.expansion.walk.Instance.{Instance}
-use Rattle.lft_resolve.specs.declared.expansion.numbering.Thing.{Thing}
+use Rattle.lft_resolve.specs.{Expansion.Numbers.{count_of, things}, declared.expansion.{walk.Instance.Instance, numbering.Thing.Thing}}
 
 -- as many as the instances have; the one at a place of instance n stands behind those of the instances before, by its place
 pub record AreListed (counts : List ℕ) (instances : List Instance) (all : List Thing) : Type 0 where

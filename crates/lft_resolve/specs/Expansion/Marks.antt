@@ -1,13 +1,9 @@
 -- How far ports are looked at. The contracts of the crate's own functions alone need this file.
 use Rattle.std.specs.Prelude.{◌≡◌, ◌≢◌, ℕ, ◌+◌, ◌≤◌, List, [], ◌∷◌, Option, Some, None, slice_get}
-use Rattle.lft_tag.specs.declared.Shift.{Shift}
+use Rattle.lft_tag.specs.declared.{Shift.Shift, Source.Source}
 use Rattle.lft_resolve.specs.Expansion.Sources.{IsReached}
-use Rattle.lft_tag.specs.declared.Source.{Source}
-use Rattle.lft_resolve.specs.declared.expansion.origins.Reached.{Reached}
-use Rattle.lft_resolve.specs.declared.expansion.origins.Mark.{Mark}
-use Rattle.lft_resolve.specs.declared.expansion.origins.Mark.TheVariants.{New, Open, Done}
-use Rattle.lft_resolve.specs.declared.expansion.origins.Next.{Next}
-use Rattle.lft_resolve.specs.declared.expansion.origins.Next.TheVariants.{Known, Cycle, First}
+use Rattle.lft_resolve.specs.declared.expansion.origins.{Reached.Reached, Mark.{Mark, TheVariants.{New, Open, Done}}}
+use Rattle.lft_resolve.specs.declared.expansion.origins.Next.{Next, TheVariants.{Known, Cycle, First}}
 
 -- the microsteps of a shift, if there is one
 abbrev pub steps_of : Option Shift → ℕ

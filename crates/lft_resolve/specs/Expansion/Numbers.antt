@@ -1,9 +1,6 @@
 -- The things that instances declare, numbered by instance and then by place.
 use Rattle.std.specs.Prelude.{◌≡◌, ℕ, ◌+◌, ◌<◌, List, [], ◌∷◌, Some, slice_get, length, take, unwrap_or}
-use Rattle.lft_resolve.specs.Expansion.Paths.{along, IsMoreThan}
-use Rattle.lft_resolve.specs.Expansion.Contents.{contained}
-use Rattle.lft_resolve.specs.declared.expansion.walk.Contents.{Contents}
-use Rattle.lft_resolve.specs.declared.expansion.walk.Instance.{Instance}
+use Rattle.lft_resolve.specs.{Expansion.{Paths.{along, IsMoreThan}, Contents.contained}, declared.expansion.walk.{Contents.Contents, Instance.Instance}}
 
 -- how many things a reactor declares
 abbrev pub count_of : List ℕ → ℕ → ℕ

@@ -1,8 +1,6 @@
 -- Chains of sources: ports by number, and for each the port before it, if it has one.
 use Rattle.std.specs.Prelude.{◌≡◌, ℕ, ◌<◌, List, [], ◌++◌, Option, Some, None, slice_get, length, option_to_list, sum}
-use Rattle.lft_tag.specs.Shifts.{join_all, none}
-use Rattle.lft_tag.specs.declared.Shift.{Shift}
-use Rattle.lft_tag.specs.declared.Source.{Source}
+use Rattle.lft_tag.specs.{Shifts.{join_all, none}, declared.{Shift.Shift, Source.Source}}
 use Rattle.lft_resolve.specs.declared.expansion.origins.Reached.{Reached}
 
 -- each source is a port of the list

@@ -1,15 +1,9 @@
 -- The values of parameters, by instance.
 use Rattle.std.specs.Prelude.{◌≡◌, ℕ, ◌<◌, ◌==◌, List, [], Option, Some, slice_get, length, map, find, unwrap_or, option_and_then, option_map}
-use Rattle.std.specs.List.{enumerate_from}
-use Rattle.std.specs.Option.{option_map_or}
-use Rattle.lft_resolve.specs.Expansion.Paths.{along}
-use Rattle.lft_resolve.specs.Expansion.Contents.{contained, IsWalk}
-use Rattle.lft_resolve.specs.declared.expansion.walk.Contents.{Contents}
-use Rattle.lft_resolve.specs.declared.expansion.walk.Instance.{Instance}
-use Rattle.lft_resolve.specs.declared.expansion.settings.Clock.{Clock}
-use Rattle.lft_resolve.specs.declared.expansion.settings.Clock.TheVariants.{Fixed, Parameter}
-use Rattle.lft_resolve.specs.declared.expansion.settings.Given.{Given}
-use Rattle.lft_resolve.specs.declared.expansion.settings.Parameters.{Parameters}
+use Rattle.std.specs.{List.enumerate_from, Option.option_map_or}
+use Rattle.lft_resolve.specs.Expansion.{Paths.along, Contents.{contained, IsWalk}}
+use Rattle.lft_resolve.specs.declared.expansion.walk.{Contents.Contents, Instance.Instance}
+use Rattle.lft_resolve.specs.declared.expansion.settings.{Clock.{Clock, TheVariants.{Fixed, Parameter}}, Given.Given, Parameters.Parameters}
 
 -- what a clock is where the parameters have these values
 abbrev pub clock_in : List ℕ → Clock → ℕ

@@ -1,11 +1,8 @@
 //! Times as numbers of nanoseconds, or as places of parameters.
 
 ghost use Rattle.std.specs.Prelude.{◌≡◌, map, option_map, option_to_list, Any};
-ghost use Rattle.lft_tree.specs.Tree.{ReactorTree, nanoseconds};
-ghost use Rattle.lft_tree.specs.View.{time_view};
-ghost use Rattle.lft_resolve.specs.Lacking.{LacksPlace};
-ghost use Rattle.lft_resolve.specs.Places.{IsIndexOf, place_in};
-ghost use Rattle.lft_resolve.specs.Sheets.{IsClock, IsClockOrZero, kept};
+ghost use Rattle.lft_tree.specs.{Tree.{ReactorTree, nanoseconds}, View.time_view};
+ghost use Rattle.lft_resolve.specs.{Lacking.LacksPlace, Places.{IsIndexOf, place_in}, Sheets.{IsClock, IsClockOrZero, kept}};
 
 use crate::expansion::Clock;
 use crate::index::Index;

@@ -1,13 +1,9 @@
 //! Where the names of each reactor stand, by number.
 
 ghost use Rattle.std.specs.Prelude.{◌≡◌, List, Some, None, IfOk, IsSomeAnd, MatchOption, slice_get};
-ghost use Rattle.lft_tree.specs.Tree.{InstanceTree, ReactorTree, instances_of};
-ghost use Rattle.lft_tree.specs.View.{reactor_view};
-ghost use Rattle.lft_resolve.specs.Causes.{UnknownReactor};
-ghost use Rattle.lft_resolve.specs.Directories.{IsAt, IsDirectory, IsNames, inner_ref};
-ghost use Rattle.lft_resolve.specs.Kinds.{inner_kind};
-ghost use Rattle.lft_resolve.specs.Numbers.{AreContents, IsContents, IsNumberOf};
-ghost use Rattle.lft_resolve.specs.References.{reactor_trees};
+ghost use Rattle.lft_tree.specs.{Tree.{InstanceTree, ReactorTree, instances_of}, View.reactor_view};
+ghost use Rattle.lft_resolve.specs.{Causes.UnknownReactor, Directories.{IsAt, IsDirectory, IsNames, inner_ref}, Kinds.inner_kind};
+ghost use Rattle.lft_resolve.specs.{Numbers.{AreContents, IsContents, IsNumberOf}, References.reactor_trees};
 ghost use Rattle.lft_resolve.specs.Sheets.{IsInner, action_place, instance_place, parameter_place, port_place, timer_place};
 
 use crate::ReactorFault;

@@ -1,11 +1,8 @@
 //! What the names in a reactor stand for, by place.
 
 ghost use Rattle.std.specs.Prelude.{◌≡◌, ◌≢◌, List, None, false, IfOk, IfErr, MatchOption};
-ghost use Rattle.lft_tree.specs.Tree.{ReactorTree};
-ghost use Rattle.lft_tree.specs.View.{ref_view};
-ghost use Rattle.lft_resolve.specs.Directories.{IsAt, IsTimerAt, Lacks, inner_ref, is_port, is_spot};
-ghost use Rattle.lft_resolve.specs.Kinds.{inner_kind};
-ghost use Rattle.lft_resolve.specs.Sheets.{IsEnd, IsSpot, is_timer};
+ghost use Rattle.lft_tree.specs.{Tree.ReactorTree, View.ref_view};
+ghost use Rattle.lft_resolve.specs.{Directories.{IsAt, IsTimerAt, Lacks, inner_ref, is_port, is_spot}, Kinds.inner_kind, Sheets.{IsEnd, IsSpot, is_timer}};
 ghost use Rattle.lft_resolve.specs.declared.fault.ReactorFault.TheVariants as faults;
 
 use crate::ReactorFault;

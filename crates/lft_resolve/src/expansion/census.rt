@@ -1,8 +1,7 @@
 //! How many instances there are, where they are more than may be.
 
 ghost use Rattle.std.specs.Prelude.{◌≡◌, ◌<◌, ℕ, IfOk, true};
-ghost use Rattle.lft_resolve.specs.Expansion.Contents.{contained};
-ghost use Rattle.lft_resolve.specs.Expansion.Paths.{Exists, IsMoreThan};
+ghost use Rattle.lft_resolve.specs.Expansion.{Contents.contained, Paths.{Exists, IsMoreThan}};
 
 use crate::expansion::walk::Contents;
 use lft_tag::NoMemory;

@@ -1,9 +1,8 @@
 //! The values that the parameters of each instance have.
 
 ghost use Rattle.std.specs.Prelude.{◌≡◌, ℕ, ◌<◌, List, [], Some, map, slice_get, unwrap_or, IfOk};
-ghost use Rattle.lft_resolve.specs.Expansion.Contents.{AreWalked};
+ghost use Rattle.lft_resolve.specs.Expansion.{Contents.AreWalked, Values.{HaveValues, LeadToValues, clock_in, defaults_of, given_by, values_in}};
 ghost use Rattle.lft_resolve.specs.declared.expansion.walk.Contents.{Contents};
-ghost use Rattle.lft_resolve.specs.Expansion.Values.{HaveValues, LeadToValues, clock_in, defaults_of, given_by, values_in};
 
 use crate::expansion::walk::Instance;
 use lft_lists::item_at;

@@ -2,13 +2,8 @@
 use Rattle.std.proofs.Common.{◌≡◌, ℕ, List, [], ◌∷◌, ◌++◌, map, sym, ap, ◌∙◌, subst, Option, Some, slice_get, unwrap_or, option_map}
 use Rattle.std.proofs.lemmas.List.{map-append}
 use Rattle.lft_tag.specs.declared.Tag.{Tag}
-use Rattle.lft_ir.specs.Parts.{Parts, inputs}
-use Rattle.lft_ir.specs.declared.parts.Name.{Name}
-use Rattle.lft_ir.specs.declared.parts.Reaction.{Reaction}
-use Rattle.lft_ir.specs.declared.steps.row.Row.{Row}
-use Rattle.lft_ir.specs.declared.steps.row.Step.{Step}
-use Rattle.lft_model.specs.Plans.{PlanParts}
-use Rattle.lft_model.specs.Runs.{steps_of, reads_at, answer_at}
+use Rattle.lft_ir.specs.{Parts.{Parts, inputs}, declared.{parts.{Name.Name, Reaction.Reaction}, steps.row.{Row.Row, Step.Step}}}
+use Rattle.lft_model.specs.{Plans.PlanParts, Runs.{steps_of, reads_at, answer_at}}
 use Rattle.lft_rows.specs.Answers.Answers.{reads_of, answer_of}
 
 -- what is made of a list with one element more

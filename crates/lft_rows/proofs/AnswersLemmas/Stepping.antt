@@ -2,17 +2,11 @@
 use Rattle.std.proofs.Common.{◌≡◌, ℕ, zero, suc, ◌+◌, ◌<◌, ◌≤◌, ◌⊎◌, inl, inr, List, [], ◌∷◌, ◌++◌, length, take, append-nil, refl, sym, ap, ◌∙◌, subst, arith, Option, Some, None, Bool, true, false, slice_get, filter_map, is_some}
 use Rattle.std.specs.List.{last_or, cons_option}
 use Rattle.lft_tag.specs.declared.Tag.{Tag}
-use Rattle.lft_lists.proofs.Members.{last-append_nil, last-append_some, get_mem, mem_get, none_nil}
-use Rattle.lft_ir.specs.declared.steps.row.Row.{Row}
-use Rattle.lft_ir.specs.declared.steps.row.Step.{Step}
-use Rattle.lft_ir.specs.declared.steps.row.Step.TheVariants.{Start, Stop, End}
-use Rattle.lft_model.specs.Plans.{PlanParts}
-use Rattle.lft_model.specs.Breaches.{IsOpen}
-use Rattle.lft_model.specs.Runs.{start_row, end_row, step_of, steps_of, request_of}
+use Rattle.lft_lists.proofs.{Members.{last-append_nil, last-append_some, get_mem, mem_get, none_nil}, Picked.kept_more}
+use Rattle.lft_ir.specs.declared.steps.row.{Row.Row, Step.{Step, TheVariants.{Start, Stop, End}}}
+use Rattle.lft_model.specs.{Plans.PlanParts, Breaches.IsOpen, Runs.{start_row, end_row, step_of, steps_of, request_of}}
 use Rattle.lft_model.proofs.Steps.{step_row, row_step, request_mem, mem_request}
-use Rattle.lft_lists.proofs.Picked.{kept_more}
-use Rattle.lft_model.proofs.Legality.{four, opened, start_of, one_start, one_starter, start_or_inner, IsInner}
-use Rattle.lft_model.proofs.Places.{slice_get_within, slice_get_take}
+use Rattle.lft_model.proofs.{Legality.{four, opened, start_of, one_start, one_starter, start_or_inner, IsInner}, Places.{slice_get_within, slice_get_take}}
 use Rattle.lft_model.proofs.Ended.{row_is}
 use Rattle.lft_rows.specs.Answers.Answers.{KeepsRows}
 

@@ -1,27 +1,16 @@
 -- Pairs of causes, and what collides.
 use Rattle.std.proofs.Common.{◌≡◌, ◌≢◌, ℕ, zero, suc, ◌+◌, ◌<◌, ◌⊎◌, inl, inr, List, [], ◌∷◌, ◌++◌, length, length-append, refl, sym, ap, ◌∙◌, subst, arith, Bool, true, false, Option, Some, None, slice_get}
 use native.Mathlib.Decide.{ℕ_discrete}
-use Rattle.lft_tag.specs.declared.Tag.{Tag}
-use Rattle.lft_tag.specs.Tags.{Before, UpTo}
-use Rattle.lft_tag.specs.Shifts.{Folded, shifted}
-use Rattle.lft_tag.proofs.Order.{UpTo-trans, UpTo-not}
-use Rattle.lft_tag.proofs.Chains.{tag_of as tag_from, shifted_same}
+use Rattle.lft_tag.specs.{declared.Tag.Tag, Tags.{Before, UpTo}, Shifts.{Folded, shifted}}
+use Rattle.lft_tag.proofs.{Order.{UpTo-trans, UpTo-not}, Chains.{tag_of as tag_from, shifted_same}}
 use Rattle.lft_lists.proofs.Places.{get_push_cases}
 use Rattle.lft_ir.proofs.Origins.{origin_within}
-use Rattle.lft_ir.specs.declared.parts.Port.{Port as PortOf}
-use Rattle.lft_ir.specs.declared.parts.Name.{Name}
-use Rattle.lft_ir.specs.declared.parts.Name.TheVariants.{Port, Action}
-use Rattle.lft_ir.specs.declared.steps.row.Row.{Row}
-use Rattle.lft_ir.specs.Steps.Fits.{RowsFit}
-use Rattle.lft_model.specs.Plans.{PlanParts}
-use Rattle.lft_model.specs.Presence.{stop, PortClash, ClashesAt, Collision}
+use Rattle.lft_ir.specs.{declared.{parts.{Port.Port as PortOf, Name.{Name, TheVariants.{Port, Action}}}, steps.row.Row.Row}, Steps.Fits.RowsFit}
+use Rattle.lft_model.specs.{Plans.PlanParts, Presence.{stop, PortClash, ClashesAt, Collision}}
 use Rattle.lft_rows.specs.declared.presence.causes.Cause.{Cause}
-use Rattle.lft_rows.specs.Presence.Causes.{tag_of, AreCauses, AreNear, IsNear}
-use Rattle.lft_rows.specs.Presence.Traces.{LeastTag, IsSooner}
+use Rattle.lft_rows.specs.Presence.{Causes.{tag_of, AreCauses, AreNear, IsNear}, Traces.{LeastTag, IsSooner}}
 use Rattle.lft_rows.specs.Presence.Clashes.{Among, IsPair, IsFirstPair, AreDoubles, HasTwo, PortsClash, ActionsClash, IsClash}
-use Rattle.lft_rows.proofs.PresenceLemmas.Positions.{shifted_mono}
-use Rattle.lft_rows.proofs.PresenceLemmas.Leasts.{least_as, least_of_both}
-use Rattle.lft_rows.proofs.PresenceLemmas.Presences.{ChainOf, port_from, port_cause_at}
+use Rattle.lft_rows.proofs.PresenceLemmas.{Positions.shifted_mono, Leasts.{least_as, least_of_both}, Presences.{ChainOf, port_from, port_cause_at}}
 use Rattle.lft_rows.proofs.PresenceLemmas.Twice.{IsTwo, two_causes, two_events}
 
 -- the port's shift leads two tags to one alone where it has a time, and they are of one time

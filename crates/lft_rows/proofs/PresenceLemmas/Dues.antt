@@ -3,8 +3,7 @@ use Rattle.std.proofs.Common.{◌≡◌, ℕ, ◌+◌, ◌<◌, ◌≤◌, ◌�
 use native.Mathlib.Decide.{ℕ_discrete}
 use Rattle.lft_tag.specs.declared.Tag.{Tag}
 use Rattle.lft_lists.proofs.Places.{get_left, get_last, get_push_cases}
-use Rattle.lft_model.specs.Presence.{Triggered}
-use Rattle.lft_model.proofs.Places.{slice_get_within}
+use Rattle.lft_model.{specs.Presence.Triggered, proofs.Places.slice_get_within}
 use Rattle.lft_rows.specs.Presence.Traces.{TraceParts, AreDue}
 
 -- the reactions below n that are due

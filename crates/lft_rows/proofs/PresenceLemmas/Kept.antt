@@ -1,16 +1,9 @@
 -- What is kept of the events of a trace is right for its plan and rows.
 use Rattle.std.proofs.Common.{◌≡◌, ◌≤◌, List, Option, sym, subst, arith}
-use Rattle.lft_tag.specs.declared.Tag.{Tag}
-use Rattle.lft_tag.specs.Tags.{UpTo, IsRecorded}
-use Rattle.lft_ir.specs.declared.steps.row.Row.{Row}
-use Rattle.lft_ir.specs.Steps.Fits.{RowsFit}
-use Rattle.lft_model.specs.Plans.{PlanParts, IsSoundPlan}
-use Rattle.lft_model.specs.Presence.{stop}
-use Rattle.lft_model.proofs.Stops.{stop_external}
-use Rattle.lft_rows.specs.declared.presence.causes.Cause.{Cause}
-use Rattle.lft_rows.specs.Presence.Causes.{AreCauses}
-use Rattle.lft_rows.specs.Presence.Clashes.{IsClash}
-use Rattle.lft_rows.specs.Presence.Kept.{IsKept}
+use Rattle.lft_tag.specs.{declared.Tag.Tag, Tags.{UpTo, IsRecorded}}
+use Rattle.lft_ir.specs.{declared.steps.row.Row.Row, Steps.Fits.RowsFit}
+use Rattle.lft_model.{specs.{Plans.{PlanParts, IsSoundPlan}, Presence.stop}, proofs.Stops.stop_external}
+use Rattle.lft_rows.specs.{declared.presence.causes.Cause.Cause, Presence.{Causes.AreCauses, Clashes.IsClash, Kept.IsKept}}
 
 -- the stop is no later than the external one, which is recorded
 stop_limit : (plan : PlanParts) (t : List Row) → IsRecorded plan.externals.stop → (stop plan t).time ≤ 1000000000000000000

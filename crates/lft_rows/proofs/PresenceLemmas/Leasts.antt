@@ -1,15 +1,9 @@
 -- The least tag of two kinds, and what triggers a reaction.
 use Rattle.std.proofs.Common.{◌≡◌, ℕ, ◌<◌, ◌⊎◌, inl, inr, List, length, sym, ap, ◌∙◌, subst, arith, Option, Some, None, slice_get, Contains}
-use Rattle.lft_tag.specs.declared.Tag.{Tag}
-use Rattle.lft_tag.specs.Tags.{UpTo}
-use Rattle.lft_tag.proofs.Order.{UpTo-trans, Before-weaken}
+use Rattle.lft_tag.{specs.{declared.Tag.Tag, Tags.UpTo}, proofs.Order.{UpTo-trans, Before-weaken}}
 use Rattle.lft_lists.proofs.Members.{mem_get, get_mem, mem_contains, contains_mem}
-use Rattle.lft_ir.specs.Parts.{Parts}
-use Rattle.lft_ir.specs.Sound.{IsSound, IsTriggerOf}
-use Rattle.lft_ir.specs.declared.parts.Trigger.{Trigger}
-use Rattle.lft_ir.specs.declared.parts.Reaction.{Reaction}
-use Rattle.lft_model.specs.Presence.{Occurs, Triggered}
-use Rattle.lft_model.proofs.Places.{slice_get_within}
+use Rattle.lft_ir.specs.{Parts.Parts, Sound.{IsSound, IsTriggerOf}, declared.parts.{Trigger.Trigger, Reaction.Reaction}}
+use Rattle.lft_model.{specs.Presence.{Occurs, Triggered}, proofs.Places.slice_get_within}
 use Rattle.lft_rows.specs.Presence.Traces.{TraceParts, LeastTag, IsSooner}
 
 pub at_reaction : (p q : Parts) (r : ℕ) (x : Reaction) → p ≡ q → slice_get p.reactions r ≡ Some x → slice_get q.reactions r ≡ Some x

@@ -2,19 +2,14 @@
 use Rattle.std.proofs.Common.{◌≡◌, ◌≢◌, ℕ, ◌+◌, ◌<◌, ◌≤◌, ◌⊎◌, inl, inr, List, length, refl, sym, ◌∙◌, subst, arith, Bool, true, false, Some, None, slice_get}
 use Rattle.std.proofs.lemmas.Bool.{cases_lt}
 use native.Mathlib.Decide.{ℕ_discrete}
-use Rattle.lft_tag.specs.declared.Tag.{Tag}
-use Rattle.lft_tag.specs.Tags.{Before, UpTo}
-use Rattle.lft_tag.specs.Shifts.{Folded, shifted}
-use Rattle.lft_tag.proofs.Order.{Before-irrefl, Before-trans, order_cases, split_up}
+use Rattle.lft_tag.{specs.{declared.Tag.Tag, Tags.{Before, UpTo}, Shifts.{Folded, shifted}}, proofs.Order.{Before-irrefl, Before-trans, order_cases, split_up}}
 use Rattle.lft_lists.proofs.Places.{same_at}
 use Rattle.lft_ir.specs.declared.steps.row.Row.{Row}
-use Rattle.lft_model.specs.Plans.{PlanParts}
-use Rattle.lft_model.proofs.Places.{slice_get_within}
+use Rattle.lft_model.{specs.Plans.PlanParts, proofs.Places.slice_get_within}
 use Rattle.lft_rows.specs.declared.presence.causes.Cause.{Cause}
 use Rattle.lft_rows.specs.Presence.Causes.{tag_of, ComesUpTo, AreCauses, LiesBelow, IsPosition, Leads, IsCause}
-use Rattle.lft_rows.proofs.PresenceLemmas.Positions.{shifted_mono, tag_up}
 use Rattle.lft_rows.specs.Presence.Lookups.{IsFirstCause, LeadsBefore, IsLastBefore, LeadsAfter, IsFirstAfter}
-use Rattle.lft_rows.proofs.PresenceLemmas.Presences.{comes_self}
+use Rattle.lft_rows.proofs.PresenceLemmas.{Positions.{shifted_mono, tag_up}, Presences.comes_self}
 
 -- the tags of causes of one name are in the order of these
 pub in_order : (x y : Cause) → x.name ≡ y.name → ComesUpTo x y → UpTo (tag_of x) (tag_of y)

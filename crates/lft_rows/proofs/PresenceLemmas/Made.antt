@@ -1,37 +1,20 @@
 -- The causes, one row and one event after another, and in order.
 use Rattle.std.proofs.Common.{◌≡◌, ℕ, zero, suc, ◌+◌, ◌<◌, ◌≤◌, ◌⊎◌, inl, inr, List, [], ◌∷◌, ◌++◌, length, refl, sym, ap, ◌∙◌, subst, arith, Bool, ◌==◌, Option, Some, None, slice_get, false, slice_index_or, ne_eqb}
-use Rattle.std.specs.List.{IsDistinct}
-use Rattle.std.specs.List.Sorted.{IsPermutation, IsSorted}
-use Rattle.std.specs.Ordering.{nat_cmp, ordering_then, is_lt}
-use Rattle.std.specs.Cmp.{IsTotalOrder}
-use Rattle.std.proofs.lemmas.Cmp.{nat_cmp_total, then_total, on_total}
-use Rattle.std.proofs.lemmas.List.Sorted.{IsPermutation-sym, Contains-permutation, sorted_far, ranks_by}
-use Rattle.std.proofs.lemmas.Bool.Decides.{nat_tests}
-use Rattle.std.proofs.lemmas.Bool.{cases_lt, eq-eqb}
-use Rattle.std.proofs.lemmas.Map.Keys.{IsDistinct-IsPermutation, IsDistinct-from_apart, apart_from_distinct}
+use Rattle.std.specs.{List.{IsDistinct, Sorted.{IsPermutation, IsSorted}}, Ordering.{nat_cmp, ordering_then, is_lt}, Cmp.IsTotalOrder}
+use Rattle.std.proofs.lemmas.{Cmp.{nat_cmp_total, then_total, on_total}, List.Sorted.{IsPermutation-sym, Contains-permutation, sorted_far, ranks_by}}
+use Rattle.std.proofs.lemmas.{Bool.{cases_lt, eq-eqb, Decides.nat_tests}, Map.Keys.{IsDistinct-IsPermutation, IsDistinct-from_apart, apart_from_distinct}}
 use Rattle.std.proofs.lemmas.Option.{get_or_from_slice_get, slice_get-get_or}
 use native.Mathlib.Decide.{ℕ_discrete}
-use Rattle.lft_tag.specs.declared.Tag.{Tag}
-use Rattle.lft_tag.specs.Tags.{IsRecorded, after}
-use Rattle.lft_tag.proofs.Chains.{tag_of as tag_from}
-use Rattle.lft_lists.proofs.Members.{mem_get, get_mem, mem_contains, contains_mem}
-use Rattle.lft_lists.proofs.Places.{get_left, get_last, get_push_cases}
-use Rattle.lft_ir.specs.Parts.{Parts}
-use Rattle.lft_ir.specs.Sound.{IsSound}
-use Rattle.lft_ir.specs.declared.parts.Action.{Action as ActionOf}
-use Rattle.lft_ir.specs.declared.parts.Name.TheVariants.{Port, Action}
-use Rattle.lft_ir.specs.declared.steps.row.Row.{Row}
-use Rattle.lft_ir.specs.declared.steps.row.Step.{Step}
-use Rattle.lft_ir.specs.declared.steps.row.Step.TheVariants.{Start, Read, Write, Schedule, Stop, End}
-use Rattle.lft_ir.specs.declared.steps.externals.Event.{Event}
+use Rattle.lft_tag.{specs.{declared.Tag.Tag, Tags.{IsRecorded, after}}, proofs.Chains.tag_of as tag_from}
+use Rattle.lft_lists.proofs.{Members.{mem_get, get_mem, mem_contains, contains_mem}, Places.{get_left, get_last, get_push_cases}}
+use Rattle.lft_ir.specs.{Parts.Parts, Sound.IsSound}
+use Rattle.lft_ir.specs.declared.parts.{Action.Action as ActionOf, Name.TheVariants.{Port, Action}}
+use Rattle.lft_ir.specs.declared.steps.{row.{Row.Row, Step.{Step, TheVariants.{Start, Read, Write, Schedule, Stop, End}}}, externals.Event.Event}
 use Rattle.lft_ir.specs.Steps.Fits.{RowsFit, StepFits}
-use Rattle.lft_model.specs.Plans.{PlanParts, IsSoundPlan}
-use Rattle.lft_model.specs.Presence.{min_delay}
-use Rattle.lft_model.proofs.Places.{slice_get_within}
+use Rattle.lft_model.{specs.{Plans.{PlanParts, IsSoundPlan}, Presence.min_delay}, proofs.Places.slice_get_within}
 use Rattle.lft_rows.specs.declared.presence.causes.Cause.{Cause}
 use Rattle.lft_rows.specs.Presence.Causes.{tag_of, ComesUpTo, AreAscending, IsNear, AreNear, HasJust, IsRowCause, IsEventCause, IsCause, AreCauses, step_cause, event_cause}
-use Rattle.lft_rows.proofs.PresenceLemmas.Lists.{not_true}
-use Rattle.lft_rows.proofs.PresenceLemmas.Presences.{step_place, event_place}
+use Rattle.lft_rows.proofs.PresenceLemmas.{Lists.not_true, Presences.{step_place, event_place}}
 
 -- a list that has just one kind has just another that is the same
 pub just_as : (P Q : Cause → Type 0) (cs : List Cause) → HasJust P cs → ((c : Cause) → P c → Q c) → ((c : Cause) → Q c → P c) → HasJust Q cs

@@ -2,14 +2,11 @@
 use Rattle.std.proofs.Common.{◌≡◌, ℕ, ◌+◌, ◌<◌, ◌≤◌, ◌⊎◌, inl, inr, List, length, refl, sym, ap, ◌∙◌, subst, arith, Bool, true, false, Some, None, slice_get}
 use Rattle.std.proofs.lemmas.Bool.{cases_lt}
 use native.Mathlib.Decide.{ℕ_discrete}
-use Rattle.lft_tag.specs.Tags.{UpTo}
-use Rattle.lft_tag.specs.Shifts.{Folded, shifted}
+use Rattle.lft_tag.specs.{Tags.UpTo, Shifts.{Folded, shifted}}
 use Rattle.lft_model.proofs.Places.{slice_get_within}
 use Rattle.lft_rows.specs.declared.presence.causes.Cause.{Cause}
-use Rattle.lft_rows.specs.Presence.Causes.{tag_of, ComesUpTo, AreAscending, LiesBelow, IsPosition}
-use Rattle.lft_rows.specs.Presence.Clashes.{Among, IsPair, IsFirstPair}
-use Rattle.lft_rows.proofs.PresenceLemmas.Positions.{tag_up, same_cause}
-use Rattle.lft_rows.proofs.PresenceLemmas.Skips.{names_up}
+use Rattle.lft_rows.specs.Presence.{Causes.{tag_of, ComesUpTo, AreAscending, LiesBelow, IsPosition}, Clashes.{Among, IsPair, IsFirstPair}}
+use Rattle.lft_rows.proofs.PresenceLemmas.{Positions.{tag_up, same_cause}, Skips.names_up}
 
 pair_names : (b : Bool) (name : ℕ) (x y : Cause) → IsPair b name x y → (x.name ≡ name) × (y.name ≡ name) × (x.time ≡ y.time)
 pair_names true name x y p = (p.0, p.1, p.2)

@@ -1,36 +1,22 @@
 -- What the last cause that leads to a tag says of what is present there.
 use Rattle.std.proofs.Common.{◌≡◌, ℕ, ◌+◌, ◌-◌, ◌<◌, ◌≤◌, ◌⊎◌, inl, inr, List, length, refl, sym, ap, ◌∙◌, subst, arith, true, cond, ◌==◌, ◌&&◌, Option, Some, None, IfSome, IfNone, slice_get, filter_map, eqb-true}
-use Rattle.std.specs.List.{last_or}
-use Rattle.std.proofs.lemmas.Bool.{cases_lt, eq-eqb, and_from}
+use Rattle.std.{specs.List.last_or, proofs.{lemmas.Bool.{cases_lt, eq-eqb, and_from}, NetLemmas.Options.cond_some}}
 use native.Mathlib.Decide.{ℕ_discrete}
 use Rattle.lft_ir.proofs.Origins.{origin_unique, origin_inside}
-use Rattle.lft_tag.specs.declared.Tag.{Tag}
-use Rattle.lft_tag.specs.Tags.{Before, UpTo, after, after_all, same_tag}
-use Rattle.lft_tag.specs.Shifts.{Folded, shifted}
-use Rattle.lft_tag.proofs.Order.{UpTo-not, Before-irrefl, same_tag_refl, same_tag_true}
-use Rattle.lft_tag.proofs.Chains.{tag_of as tag_from, shifted_chain}
-use Rattle.lft_lists.proofs.Members.{Mem, mem_get, get_mem, mem_contains, contains_mem, mem_filter, mem_from_filter, mem_left, mem_right, mem_cases, last_at, last_by_place, last_of_mem}
-use Rattle.lft_ir.specs.Parts.{Parts}
-use Rattle.lft_ir.specs.Origins.{Origin}
-use Rattle.lft_ir.specs.Sound.{IsSound}
-use Rattle.lft_ir.specs.declared.parts.Port.{Port as PortOf}
-use Rattle.lft_ir.specs.declared.parts.Value.{Value}
-use Rattle.lft_ir.specs.declared.parts.Name.{Name}
-use Rattle.lft_ir.specs.declared.parts.Name.TheVariants.{Port, Action}
-use Rattle.lft_ir.specs.declared.steps.row.Row.{Row}
-use Rattle.lft_ir.specs.declared.steps.row.Step.{Step}
-use Rattle.lft_ir.specs.declared.steps.row.Step.TheVariants.{Start, Read, Write, Schedule, Stop, End}
-use Rattle.lft_ir.specs.declared.steps.externals.Event.{Event}
+use Rattle.lft_ir.specs.{Parts.Parts, Origins.Origin, Sound.IsSound}
+use Rattle.lft_ir.specs.declared.parts.{Port.Port as PortOf, Value.Value, Name.{Name, TheVariants.{Port, Action}}}
+use Rattle.lft_ir.specs.declared.steps.{row.{Row.Row, Step.{Step, TheVariants.{Start, Read, Write, Schedule, Stop, End}}}, externals.Event.Event}
 use Rattle.lft_ir.specs.Steps.Fits.{RowsFit, StepFits}
+use Rattle.lft_tag.specs.{declared.Tag.Tag, Tags.{Before, UpTo, after, after_all, same_tag}, Shifts.{Folded, shifted}}
+use Rattle.lft_tag.proofs.{Order.{UpTo-not, Before-irrefl, same_tag_refl, same_tag_true}, Chains.{tag_of as tag_from, shifted_chain}}
+use Rattle.lft_lists.proofs.Members.{Mem, mem_get, get_mem, mem_contains, contains_mem, mem_filter, mem_from_filter, mem_left, mem_right, mem_cases, last_at, last_by_place, last_of_mem}
 use Rattle.lft_model.specs.Plans.{PlanParts}
 use Rattle.lft_model.specs.Presence.{value_written, written, value_scheduled, scheduled, given, min_delay, events_of, IsWrittenFrom, At, IsPresent}
-use Rattle.lft_model.proofs.Places.{slice_get_within}
-use Rattle.lft_model.proofs.Ended.{Schedules, written_by, by_written, scheduled_by, by_scheduled}
+use Rattle.lft_model.proofs.{Places.slice_get_within, Ended.{Schedules, written_by, by_written, scheduled_by, by_scheduled}}
 use Rattle.lft_model.proofs.Steps.{written_some, some_written, scheduled_some, some_scheduled, both_true}
 use Rattle.lft_rows.specs.declared.presence.causes.Cause.{Cause}
 use Rattle.lft_rows.specs.Presence.Causes.{tag_of, cause, ComesUpTo, AreCauses, LiesBelow, IsPosition, Leads, IsLastCause, IsValueFrom, IsRowCause, IsEventCause, IsCause, Carries, value_of, write_cause, schedule_cause, step_cause, event_cause}
 use Rattle.lft_rows.proofs.PresenceLemmas.Positions.{shifted_mono, tag_up, same_cause}
-use Rattle.std.proofs.NetLemmas.Options.{cond_some}
 
 pub comes_self : (c : Cause) → ComesUpTo c c
 comes_self c = inr (refl, inr (refl, omega arith))

@@ -1,26 +1,14 @@
 -- Two causes of one action at one tag, and two events of it.
 use Rattle.std.proofs.Common.{◌≡◌, ◌≢◌, ℕ, zero, suc, ◌+◌, ◌<◌, ◌≤◌, ◌⊎◌, inl, inr, List, [], ◌∷◌, length, length-append, refl, sym, ap, ◌∙◌, arith, ◌==◌, ◌&&◌, Option, Some, None, slice_get, filter_map, eqb-true}
-use Rattle.std.specs.List.{cons_option}
-use Rattle.std.proofs.lemmas.Bool.{cases_lt}
-use Rattle.lft_tag.specs.declared.Tag.{Tag}
-use Rattle.lft_tag.specs.Tags.{after, same_tag}
-use Rattle.lft_ir.specs.declared.parts.Value.{Value}
-use Rattle.lft_ir.specs.declared.parts.Name.TheVariants.{Port, Action}
-use Rattle.lft_ir.specs.declared.steps.row.Row.{Row}
-use Rattle.lft_ir.specs.declared.steps.row.Step.{Step}
-use Rattle.lft_ir.specs.declared.steps.row.Step.TheVariants.{Start, Read, Write, Schedule, Stop, End}
-use Rattle.lft_ir.specs.declared.steps.externals.Event.{Event}
+use Rattle.std.{specs.List.cons_option, proofs.{lemmas.Bool.cases_lt, NetLemmas.Options.cond_some}}
+use Rattle.lft_tag.{specs.{declared.Tag.Tag, Tags.{after, same_tag}}, proofs.Order.same_tag_true}
+use Rattle.lft_ir.specs.declared.parts.{Value.Value, Name.TheVariants.{Port, Action}}
+use Rattle.lft_ir.specs.declared.steps.{row.{Row.Row, Step.{Step, TheVariants.{Start, Read, Write, Schedule, Stop, End}}}, externals.Event.Event}
 use Rattle.lft_ir.specs.Steps.Fits.{RowsFit, StepFits}
-use Rattle.lft_model.specs.Plans.{PlanParts, IsSoundPlan}
-use Rattle.lft_model.specs.Presence.{scheduled, given, min_delay, events_of}
-use Rattle.lft_model.proofs.Places.{slice_get_within}
-use Rattle.lft_model.proofs.Ended.{scheduled_by, by_scheduled}
-use Rattle.lft_model.proofs.Steps.{both_true}
-use Rattle.lft_rows.specs.declared.presence.causes.Cause.{Cause}
-use Rattle.lft_rows.specs.Presence.Causes.{tag_of, cause, Leads, IsCause, Carries, step_cause}
+use Rattle.lft_model.specs.{Plans.{PlanParts, IsSoundPlan}, Presence.{scheduled, given, min_delay, events_of}}
+use Rattle.lft_model.proofs.{Places.slice_get_within, Ended.{scheduled_by, by_scheduled}, Steps.both_true}
+use Rattle.lft_rows.specs.{declared.presence.causes.Cause.Cause, Presence.Causes.{tag_of, cause, Leads, IsCause, Carries, step_cause}}
 use Rattle.lft_rows.proofs.PresenceLemmas.Presences.{step_schedules, schedules_step, none_leads, row_of, event_of, carrier, given_there}
-use Rattle.std.proofs.NetLemmas.Options.{cond_some}
-use Rattle.lft_tag.proofs.Order.{same_tag_true}
 
 -- an item of which a filter keeps something
 record Kept {X Y : Type 0} (h : X → Option Y) (xs : List X) : Type 0 where

@@ -1,14 +1,8 @@
 -- What a run read and answered, by its steps.
 use Rattle.std.specs.Prelude.{List, Option, map}
-use Rattle.lft_ir.specs.declared.parts.Name.{Name}
-use Rattle.lft_ir.specs.declared.parts.Value.{Value}
-use Rattle.lft_ir.specs.declared.steps.row.Row.{Row}
-use Rattle.lft_ir.specs.declared.steps.row.Step.{Step}
-use Rattle.lft_model.specs.Plans.{PlanParts}
-use Rattle.lft_model.specs.declared.breach.Breach.{Breach}
-use Rattle.lft_model.specs.Breaches.{RowBreach}
-use Rattle.lft_model.specs.Runs.{Answer, Outcome, read_of, outcome_of, request_of}
-use Rattle.lft_model.specs.Runs.Outcome.{Written, Scheduled}
+use Rattle.lft_ir.specs.declared.{parts.{Name.Name, Value.Value}, steps.row.{Row.Row, Step.Step}}
+use Rattle.lft_model.specs.{Plans.PlanParts, declared.breach.Breach.Breach, Breaches.RowBreach}
+use Rattle.lft_model.specs.Runs.{Answer, Outcome, read_of, outcome_of, request_of, Outcome.{Written, Scheduled}}
 use Rattle.lft_rows.specs.declared.answers.outcomes.Outcome.{Outcome as KeptOutcome}
 use Rattle.lft_rows.specs.declared.answers.outcomes.Outcome.TheVariants as kept
 

@@ -1,12 +1,7 @@
 -- What some steps read last, kept by the names. This serves the reads of a run alone.
 use Rattle.std.specs.Prelude.{◌≡◌, List, Option, Some, None, cond}
-use Rattle.std.specs.BTreeMap.{get}
-use Rattle.std.specs.Ordering.{nat_cmp}
-use Rattle.lft_ir.specs.declared.parts.Name.{Name}
-use Rattle.lft_ir.specs.declared.parts.Name.TheVariants.{Port, Action}
-use Rattle.lft_ir.specs.declared.parts.Value.{Value}
-use Rattle.lft_ir.specs.Naming.{same_name}
-use Rattle.lft_ir.specs.declared.steps.row.Step.{Step}
+use Rattle.std.specs.{BTreeMap.get, Ordering.nat_cmp}
+use Rattle.lft_ir.specs.{declared.{parts.{Name.{Name, TheVariants.{Port, Action}}, Value.Value}, steps.row.Step.Step}, Naming.same_name}
 use Rattle.lft_model.specs.Runs.{read_of}
 use Rattle.lft_rows.specs.declared.answers.readings.Readings.{Readings}
 

@@ -1,13 +1,9 @@
 -- What collides: pairs of causes of a name, and the tags to which they lead.
 use Rattle.std.specs.Prelude.{◌≡◌, ◌≢◌, ℕ, ◌<◌, ◌⊎◌, Bool, true, false, List, length, Option, Some, MatchOption, slice_get}
-use Rattle.lft_tag.specs.declared.Tag.{Tag}
-use Rattle.lft_tag.specs.Tags.{UpTo}
+use Rattle.lft_tag.specs.{declared.Tag.Tag, Tags.UpTo}
 use Rattle.lft_ir.specs.declared.steps.row.Row.{Row}
-use Rattle.lft_model.specs.Plans.{PlanParts}
-use Rattle.lft_model.specs.Presence.{stop, PortClash, events_of, Collision}
-use Rattle.lft_rows.specs.declared.presence.causes.Cause.{Cause}
-use Rattle.lft_rows.specs.Presence.Causes.{tag_of}
-use Rattle.lft_rows.specs.Presence.Traces.{TraceParts, LeastTag}
+use Rattle.lft_model.specs.{Plans.PlanParts, Presence.{stop, PortClash, events_of, Collision}}
+use Rattle.lft_rows.specs.{declared.presence.causes.Cause.Cause, Presence.{Causes.tag_of, Traces.{TraceParts, LeastTag}}}
 
 -- the cause is one of these
 abbrev pub Among : List Cause → Cause → Type 0

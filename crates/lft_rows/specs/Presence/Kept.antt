@@ -2,10 +2,7 @@
 use Rattle.std.specs.Prelude.{◌≡◌, ◌≤◌, List, Option}
 use Rattle.lft_tag.specs.declared.Tag.{Tag}
 use Rattle.lft_model.specs.Presence.{stop}
-use Rattle.lft_rows.specs.declared.presence.causes.Cause.{Cause}
-use Rattle.lft_rows.specs.Presence.Causes.{AreCauses}
-use Rattle.lft_rows.specs.Presence.Clashes.{IsClash}
-use Rattle.lft_rows.specs.Presence.Traces.{TraceParts, IsFitting}
+use Rattle.lft_rows.specs.{declared.presence.causes.Cause.Cause, Presence.{Causes.AreCauses, Clashes.IsClash, Traces.{TraceParts, IsFitting}}}
 
 -- the stop, the causes and the first collision that are kept are those of the plan and the rows
 pub record IsKept (cut : TraceParts) (last : Tag) (causes : List Cause) (clash : Option Tag) : Type 0 where

@@ -1,12 +1,9 @@
 -- Which causes of events lead to a tag, before it or after it. A key is the origin of a port, or stands for an action.
 use Rattle.std.specs.Prelude.{◌≡◌, ℕ, List, Option, MatchOption}
-use Rattle.lft_tag.specs.declared.Tag.{Tag}
-use Rattle.lft_tag.specs.Tags.{Before}
-use Rattle.lft_tag.specs.Shifts.{Folded, shifted}
+use Rattle.lft_tag.specs.{declared.Tag.Tag, Tags.Before, Shifts.{Folded, shifted}}
 use Rattle.lft_ir.specs.declared.steps.row.Row.{Row}
 use Rattle.lft_model.specs.Plans.{PlanParts}
-use Rattle.lft_rows.specs.declared.presence.causes.Cause.{Cause}
-use Rattle.lft_rows.specs.Presence.Causes.{tag_of, ComesUpTo, Leads, IsCause}
+use Rattle.lft_rows.specs.{declared.presence.causes.Cause.Cause, Presence.Causes.{tag_of, ComesUpTo, Leads, IsCause}}
 
 -- of the causes of a key that lead to g the first, if any
 abbrev pub IsFirstCause : PlanParts → List Row → ℕ → Folded → Tag → Option Cause → Type 0

@@ -1,8 +1,7 @@
 //! What a run read, by its steps.
 
 ghost use Rattle.std.specs.Prelude.{◌≡◌, IfOk};
-ghost use Rattle.lft_ir.specs.Parts.{inputs};
-ghost use Rattle.lft_ir.specs.Naming.{named};
+ghost use Rattle.lft_ir.specs.{Parts.inputs, Naming.named};
 ghost use Rattle.lft_rows.specs.Answers.Answers.{reads_of};
 
 use crate::answers::readings::readings_of;

@@ -1,8 +1,7 @@
 //! What the run that starts in a row read and answered.
 
 ghost use Rattle.std.specs.Prelude.{◌≡◌, Some, slice_get, IfOk};
-ghost use Rattle.lft_ir.specs.Steps.Fits.{RowsFit};
-ghost use Rattle.lft_ir.specs.declared.steps.row.Step.TheVariants.{Start};
+ghost use Rattle.lft_ir.specs.{Steps.Fits.RowsFit, declared.steps.row.Step.TheVariants.Start};
 ghost use Rattle.lft_model.specs.Runs.{reads_at, answer_at};
 ghost use Rattle.lft_rows.specs.Answers.Answers.{KeepsRows};
 

@@ -2,8 +2,7 @@
 
 ghost use Rattle.std.specs.Prelude.{◌≡◌, ◌↔◌, Some, slice_get, OnOk, IsTrue};
 ghost use Rattle.lft_ir.specs.declared.steps.row.Step.TheVariants.{Start};
-ghost use Rattle.lft_model.specs.Plans.{PlanParts};
-ghost use Rattle.lft_model.specs.Runs.{steps_of};
+ghost use Rattle.lft_model.specs.{Plans.PlanParts, Runs.steps_of};
 ghost use Rattle.lft_rows.specs.Answers.Answers.{KeepsRows};
 
 use lft_ir::steps::{Row, Step, is_end, row_at};

@@ -3,9 +3,7 @@
 ghost use Rattle.std.specs.Prelude.{◌≡◌, ◌<◌, length, IfOk};
 ghost use Rattle.lft_ir.specs.Steps.Fits.{RowsFit};
 ghost use Rattle.lft_model.specs.Presence.{stop as the_stop, PortClash};
-ghost use Rattle.lft_rows.specs.Presence.Causes.{AreCauses};
-ghost use Rattle.lft_rows.specs.Presence.Clashes.{AreDoubles, HasTwo, PortsClash, ActionsClash, IsClash};
-ghost use Rattle.lft_rows.specs.Presence.Traces.{LeastTag, IsSooner};
+ghost use Rattle.lft_rows.specs.Presence.{Causes.AreCauses, Clashes.{AreDoubles, HasTwo, PortsClash, ActionsClash, IsClash}, Traces.{LeastTag, IsSooner}};
 
 use crate::presence::causes::{Cause, cause_tag, moved};
 use crate::presence::pairs::first_pair;

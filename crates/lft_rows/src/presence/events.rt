@@ -3,9 +3,7 @@
 ghost use Rattle.std.specs.Prelude.{◌≡◌, ◌≤◌, length, IfOk};
 ghost use Rattle.lft_ir.specs.Steps.Fits.{RowsFit};
 ghost use Rattle.lft_model.specs.Presence.{stop as the_stop};
-ghost use Rattle.lft_rows.specs.Presence.Causes.{AreCauses};
-ghost use Rattle.lft_rows.specs.Presence.Clashes.{IsClash};
-ghost use Rattle.lft_rows.specs.Presence.Traces.{IsFitting};
+ghost use Rattle.lft_rows.specs.Presence.{Causes.AreCauses, Clashes.IsClash, Traces.IsFitting};
 
 use crate::presence::causes::Cause;
 use crate::presence::causing::causes_of;

@@ -1,8 +1,6 @@
 -- The flat program of a core tree is that of what is written out of the tree.
 use Rattle.std.proofs.Common.{◌≡◌, inl, inr, ℕ, suc, ◌+◌, List, [], ◌∷◌, ◌++◌, map, flat_map, Option, Some, None, option_map, option_to_list, slice_get, codes, refl, sym, ap, ◌∙◌, subst}
-use Rattle.std.specs.List.{AllZip, enumerate_from, zip, cons_option}
-use Rattle.std.specs.Option.{option_and_then, option_map_or}
-use Rattle.std.specs.Fmt.{decimal}
+use Rattle.std.specs.{List.{AllZip, enumerate_from, zip, cons_option}, Option.{option_and_then, option_map_or}, Fmt.decimal}
 use Rattle.std.proofs.lemmas.List.{append-nil, map-append}
 use Rattle.lft_lists.proofs.Mapped.{mapped, mapped_from, option_map_some, pair_at}
 use Rattle.lft_lists.proofs.Members.{Mem, mem_get, get_mem, mem_flat, mem_from_map, mem_from_flat, mem_filter, mem_from_filter}
@@ -11,20 +9,14 @@ use Rattle.lft_resolve.specs.Expansion.Paths.{along, Before}
 use Rattle.lft_resolve.specs.Instances.{Inside, Thing, thing_at, entered, given_in, main_instance, main_of, reactor_named, stands_for, time_in, Connects as TreeConnects}
 use Rattle.lft_resolve.specs.Sheets.{without_timers}
 use Rattle.lft_ir.specs.Parts.{Parts}
-use Rattle.lft_ir.specs.declared.parts.Name.{Name}
-use Rattle.lft_ir.specs.declared.parts.Name.TheVariants.{Port as PortName, Action as ActionName}
-use Rattle.lft_ir.specs.declared.parts.Port.{Port as FlatPort}
-use Rattle.lft_ir.specs.declared.parts.Action.{Action as FlatAction}
-use Rattle.lft_ir.specs.declared.parts.Timer.{Timer as FlatTimer}
-use Rattle.lft_ir.specs.declared.parts.Reaction.{Reaction as FlatReaction}
-use Rattle.lft_ir.specs.declared.parts.Trigger.{Trigger}
-use Rattle.lft_ir.specs.declared.parts.Trigger.TheVariants.{Startup, Shutdown, Timer as TimerTrigger, On}
+use Rattle.lft_ir.specs.declared.parts.{Name.{Name, TheVariants.{Port as PortName, Action as ActionName}}, Port.Port as FlatPort, Action.Action as FlatAction}
+use Rattle.lft_ir.specs.declared.parts.{Timer.Timer as FlatTimer, Reaction.Reaction as FlatReaction}
+use Rattle.lft_ir.specs.declared.parts.Trigger.{Trigger, TheVariants.{Startup, Shutdown, Timer as TimerTrigger, On}}
 use Rattle.lft_tag.specs.declared.Source.{Source}
 use Rattle.lft_program.specs.Located.{Located as TreeLocated, AreLocated, Declared as TreeDeclared, declared as tree_declared, declared_in as tree_declared_in, ports_in as tree_ports, actions_in as tree_actions, timers_in as tree_timers, things as tree_things}
 use Rattle.lft_program.specs.Links.{IsSource as IsTreeSource}
 use Rattle.lft_program.specs.Flattening.{Flat, time_or_zero, IsName as IsTreeName, IsTrigger as IsTreeTrigger, IsPort as IsTreePort, IsAction as IsTreeAction, IsTimer as IsTreeTimer, IsReaction as IsTreeReaction, Means as TreeMeans, name_under, name_of_path as tree_name_of_path, name_of_thing as tree_name_of_thing, name_of_reaction as tree_name_of_reaction, names_of as tree_names_of}
-use Rattle.lft_program.proofs.Listing.{enumerate_from_at}
-use Rattle.lft_program.proofs.Zipping.{then_some}
+use Rattle.lft_program.proofs.{Listing.enumerate_from_at, Zipping.then_some}
 use Rattle.lft_classes.proofs.Rows.{map_alike}
 use Rattle.lft_same.specs.Expanded.Expanded.{Action, Contents, OnThing, Link, Port, Reaction, Timer}
 use Rattle.lft_same.specs.Expanded.Flat.{AreAll, Connects, Declared, IsAction, IsFlat, IsPort, IsReaction, IsSource, IsTimer, Located, Means, MeansTrigger, actions_in, declared, declared_in, name_behind, name_of_path, name_of_reaction, name_of_thing, names_along, names_of, ports_in, things, timers_in}

@@ -1,17 +1,12 @@
 -- The links of the connections that stand in place of one.
 use Rattle.std.proofs.Common.{◌≡◌, inl, inr, ℕ, ◌+◌, Bool, true, false, List, [], ◌∷◌, ◌++◌, map, flat_map, filter_map, Option, Some, option_map, refl, sym, ap, ◌∙◌}
-use Rattle.std.specs.List.{zip, cons_option}
-use Rattle.std.specs.Option.{option_and_then}
-use Rattle.std.proofs.lemmas.List.{append-nil}
+use Rattle.std.{specs.{List.{zip, cons_option}, Option.option_and_then}, proofs.lemmas.List.append-nil}
 use Rattle.lft_lists.proofs.Members.{Mem, mem_from_flat, mem_get}
 use Rattle.lft_elaborate.specs.Channels.Lowered.{AreJoined, single}
 use Rattle.lft_tree.specs.Tree.{RefTree, TimeTree, ConnectionTree}
 use Rattle.lft_resolve.specs.Instances.{Inside, Thing, stands_for, time_in}
-use Rattle.lft_same.specs.Expanded.Expanded.{Link}
-use Rattle.lft_same.specs.Expanded.Core.{link_of, core_links}
-use Rattle.lft_same.specs.Expanded.Whole.{pairs}
-use Rattle.lft_same.proofs.ExpandedLemmas.Pairs.{joined_pairs, pairs_map}
-use Rattle.lft_same.proofs.ExpandedLemmas.Flattened.{linked, map_twice, unzip}
+use Rattle.lft_same.specs.Expanded.{Expanded.Link, Core.{link_of, core_links}, Whole.pairs}
+use Rattle.lft_same.proofs.ExpandedLemmas.{Pairs.{joined_pairs, pairs_map}, Flattened.{linked, map_twice, unzip}}
 
 zip_mem : {X Y : Type 0} (xs : List X) (ys : List Y) (p : X × Y) → Mem p (zip xs ys) → Mem p.0 xs × Mem p.1 ys
 zip_mem xs ys p m = let k = unzip xs ys p.0 p.1 m in (mem_get xs k.0 p.0 k.1, mem_get ys k.0 p.1 k.2)

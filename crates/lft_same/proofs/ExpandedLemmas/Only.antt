@@ -1,37 +1,20 @@
 -- A core tree of which no cause of refusal holds has one flat program, as it is written out.
 use Rattle.std.proofs.Common.{◌≡◌, ℕ, suc, List, [], ◌∷◌, map, Option, Some, None, option_map, slice_get, refl, sym, ap, subst, ◌∙◌}
 use Rattle.std.specs.List.{AllZip}
-use Rattle.lft_lists.proofs.Mapped.{mapped, mapped_from, option_map_some}
-use Rattle.lft_lists.proofs.Picked.{map-same}
-use Rattle.lft_lists.proofs.Places.{Some_same}
+use Rattle.lft_lists.proofs.{Mapped.{mapped, mapped_from, option_map_some}, Picked.map-same, Places.Some_same}
 use Rattle.lft_tree.specs.Tree.{FileTree, PortTree, actions_of, ports_of, reactions_of, timers_of}
-use Rattle.lft_resolve.specs.Expansion.Paths.{along, Before, Exists, IsPreOrder}
+use Rattle.lft_resolve.specs.{Expansion.Paths.{along, Before, Exists, IsPreOrder}, Instances.{Inside, Thing, entered, main_instance, thing_at}}
 use Rattle.lft_resolve.proofs.ExpansionLemmas.Unique.{pre_order_unique}
-use Rattle.lft_resolve.specs.Instances.{Inside, Thing, entered, main_instance, thing_at}
-use Rattle.lft_ir.specs.Parts.{Parts}
-use Rattle.lft_ir.specs.Sound.{KeepsOrigins}
-use Rattle.lft_ir.specs.declared.parts.Action.{Action as FlatAction}
-use Rattle.lft_ir.specs.declared.parts.Name.{Name}
-use Rattle.lft_ir.specs.declared.parts.Name.TheVariants.{Port as PortName, Action as ActionName}
-use Rattle.lft_ir.specs.declared.parts.Port.{Port as FlatPort}
-use Rattle.lft_ir.specs.declared.parts.Reaction.{Reaction as FlatReaction}
-use Rattle.lft_ir.specs.declared.parts.Timer.{Timer as FlatTimer}
-use Rattle.lft_ir.specs.declared.parts.Trigger.{Trigger as FlatTrigger}
-use Rattle.lft_ir.specs.declared.parts.Trigger.TheVariants.{Startup, Shutdown, Timer as TimerTrigger, On}
+use Rattle.lft_ir.specs.{Parts.Parts, Sound.KeepsOrigins}
+use Rattle.lft_ir.specs.declared.parts.{Action.Action as FlatAction, Name.{Name, TheVariants.{Port as PortName, Action as ActionName}}, Port.Port as FlatPort}
+use Rattle.lft_ir.specs.declared.parts.{Reaction.Reaction as FlatReaction, Timer.Timer as FlatTimer}
+use Rattle.lft_ir.specs.declared.parts.Trigger.{Trigger as FlatTrigger, TheVariants.{Startup, Shutdown, Timer as TimerTrigger, On}}
 use Rattle.lft_tag.specs.declared.Source.{Source}
-use Rattle.lft_program.specs.Flattening.{IsFlatOf, Means as TreeMeans}
-use Rattle.lft_program.specs.Links.{IsSource as IsTreeSource}
+use Rattle.lft_program.specs.{Flattening.{IsFlatOf, Means as TreeMeans}, Links.IsSource as IsTreeSource}
 use Rattle.lft_program.specs.Located.{Located as TreeLocated, AreLocated, Declared as TreeDeclared, declared as tree_declared, ports_in as tree_ports, timers_in as tree_timers}
-use Rattle.lft_program.specs.Faults.{reactor_causes}
-use Rattle.lft_program.specs.Tables.{IsLawful}
-use Rattle.lft_program.proofs.Firsts.{NoneHolds-left, lawful, rest}
-use Rattle.lft_program.proofs.Listing.{declared_from}
-use Rattle.lft_program.proofs.OneFlat.{one_mapped}
-use Rattle.lft_program.proofs.OneName.{one_meant, timer_or_meant}
-use Rattle.lft_program.proofs.OneOrigin.{one_end}
-use Rattle.lft_program.proofs.OneSource.{one_source}
-use Rattle.lft_program.proofs.OneThing.{one_timer}
-use Rattle.lft_program.proofs.Zips.{AllZip-one}
+use Rattle.lft_program.specs.{Faults.reactor_causes, Tables.IsLawful}
+use Rattle.lft_program.proofs.{Firsts.{NoneHolds-left, lawful, rest}, Listing.declared_from, OneFlat.one_mapped, OneName.{one_meant, timer_or_meant}}
+use Rattle.lft_program.proofs.{OneOrigin.one_end, OneSource.one_source, OneThing.one_timer, Zips.AllZip-one}
 use Rattle.lft_same.specs.Expanded.Core.{core_contents, expanded_tree}
 use Rattle.lft_same.specs.Expanded.Expanded.{Action, Contents, Port, Reaction, Timer, Trigger, AtStartup, AtShutdown, OnThing}
 use Rattle.lft_same.specs.Expanded.Flat.{AreAll, Declared, IsAction, IsFlat, IsPort, IsReaction, IsSource, IsTimer, Located, Means, MeansTrigger, declared, names_of, ports_in, timers_in}

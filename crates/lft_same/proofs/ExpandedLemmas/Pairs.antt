@@ -1,15 +1,10 @@
 -- The connections that a core program has in place of one are those of its pairs, in order.
 use Rattle.std.proofs.Common.{◌≡◌, ℕ, zero, suc, ◌+◌, ◌*◌, ◌/◌, ◌%◌, ◌<◌, ◌≤◌, min, Bool, true, false, List, [], ◌∷◌, ◌++◌, map, Option, Some, slice_get, length, length-append, refl, sym, ap, ◌∙◌, arith}
 use Rattle.std.specs.List.{flat_map, zip}
-use Rattle.std.proofs.lemmas.Nat.{div_below, div-add-mod'}
-use Rattle.std.proofs.lemmas.List.{length-map, map-append}
-use Rattle.std.proofs.lemmas.Option.{slice_get_within}
-use Rattle.std.proofs.lemmas.Slice.Zip.{length-zip}
-use Rattle.lft_lists.proofs.Places.{get_left, get_right, same_items}
-use Rattle.lft_lists.proofs.Mapped.{mapped, pair_at}
+use Rattle.std.proofs.lemmas.{Nat.{div_below, div-add-mod'}, List.{length-map, map-append}, Option.slice_get_within, Slice.Zip.length-zip}
+use Rattle.lft_lists.proofs.{Places.{get_left, get_right, same_items}, Mapped.{mapped, pair_at}}
 use Rattle.lft_tree.specs.Tree.{RefTree, TimeTree, ConnectionTree}
-use Rattle.lft_elaborate.specs.Channels.Channels.{joined, source}
-use Rattle.lft_elaborate.specs.Channels.Lowered.{AreJoined, single}
+use Rattle.lft_elaborate.specs.Channels.{Channels.{joined, source}, Lowered.{AreJoined, single}}
 use Rattle.lft_same.specs.Expanded.Whole.{pairs}
 
 -- a list over and over

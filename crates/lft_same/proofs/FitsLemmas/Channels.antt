@@ -1,21 +1,16 @@
 -- How many channels a reference has.
 use Rattle.std.proofs.Common.{◌≡◌, inl, inr, ℕ, suc, ◌+◌, ◌*◌, Bool, true, false, List, [], ◌∷◌, ◌++◌, length, length-append, map, flat_map, filter_map, Option, Some, None, option_map, option_to_list, slice_get, refl, ap, subst, ◌∙◌, arith}
 use Rattle.std.specs.Prelude.{bytes_eq, string_bytes}
-use Rattle.std.specs.List.{cons_option, enumerate_from, position}
-use Rattle.std.specs.Option.{option_and_then, option_map_or}
-use Rattle.std.proofs.lemmas.List.{append-nil, length-map}
-use Rattle.std.proofs.lemmas.Slice.Eq.{bytes_eq-Decides}
-use Rattle.lft_lists.proofs.Mapped.{enumerate_at}
-use Rattle.lft_lists.proofs.Members.{Mem, mem_flat, mem_from_flat, mem_from_map, mem_get, get_mem, mem_map}
+use Rattle.std.specs.{List.{cons_option, enumerate_from, position}, Option.{option_and_then, option_map_or}}
+use Rattle.std.proofs.lemmas.{List.{append-nil, length-map}, Slice.Eq.bytes_eq-Decides}
+use Rattle.lft_lists.proofs.{Mapped.enumerate_at, Members.{Mem, mem_flat, mem_from_flat, mem_from_map, mem_get, get_mem, mem_map}}
 use Rattle.lft_resolve.specs.Instances.{thing_at}
-use Rattle.lft_whole.specs.declared.sources.source.SourceFile.{SourceFile}
-use Rattle.lft_whole.specs.declared.tree.Instance.{Instance}
-use Rattle.lft_whole.specs.declared.tree.Member.TheVariants as member
+use Rattle.lft_whole.specs.declared.{sources.source.SourceFile.SourceFile, tree.Instance.Instance}
 use Rattle.lft_same.specs.Expanded.Instances.{Inner, Inside, Widths, inners, inners_at, inside_of, numbers, numbers_at, numbers_named, place_named, written}
-use Rattle.lft_same.specs.Expanded.Reactors.{members_of}
-use Rattle.lft_classes.specs.Shapes.{width_of}
-use Rattle.lft_same.specs.Expanded.Whole.{crossed, inner_thing, inside_named, new_in, things_named}
+use Rattle.lft_same.specs.Expanded.{Reactors.members_of, Whole.{crossed, inner_thing, inside_named, new_in, things_named}}
 use Rattle.lft_same.proofs.FitsLemmas.ClassNames.{position_lost}
+use Rattle.lft_classes.specs.Shapes.{width_of}
+use Rattle.lft_whole.specs.declared.tree.Member.TheVariants as member
 
 -- crossed lists have as many pairs as their lengths make
 pub crossed_length : {X Y : Type 0} (interleaved : Bool) (xs : List X) (ys : List Y) → length (crossed interleaved xs ys) ≡ length xs * length ys

@@ -1,28 +1,18 @@
 -- The names of reactors mean what they mean in the language.
 use Rattle.std.proofs.Common.{◌≡◌, inl, inr, ℕ, ◌+◌, ◌<◌, ◌≤◌, Bool, true, false, List, [], ◌∷◌, length, flat_map, get_or, Option, Some, None, option_map, slice_get, refl, sym, ap, subst, ◌∙◌, arith}
 use Rattle.std.specs.Prelude.{if◌then◌else◌, is_some, string_bytes, zip}
-use Rattle.std.specs.List.{position, position_or_len}
-use Rattle.std.specs.Option.{option_and_then, option_map_or, option_or}
-use Rattle.std.proofs.lemmas.List.Quantifiers.{position-Some}
-use Rattle.std.proofs.lemmas.List.Sums.{fails_before_first}
-use Rattle.std.proofs.lemmas.Bool.{true≢false}
-use Rattle.std.proofs.lemmas.Grind.{common_steps}
-use Rattle.std.proofs.lemmas.Option.{get_or_from_slice_get, slice_get-get_or, slice_get_within}
-use Rattle.std.proofs.lemmas.Slice.Eq.{bytes_eq-Decides}
+use Rattle.std.specs.{List.{position, position_or_len}, Option.{option_and_then, option_map_or, option_or}}
+use Rattle.std.proofs.lemmas.{List.{Quantifiers.position-Some, Sums.fails_before_first}, Bool.true≢false, Grind.common_steps}
+use Rattle.std.proofs.lemmas.{Option.{get_or_from_slice_get, slice_get-get_or, slice_get_within}, Slice.Eq.bytes_eq-Decides}
 use Rattle.lft_lists.proofs.Mapped.{mapped_from, option_map_some, pair_at}
-use Rattle.lft_lists.proofs.Members.{mem_get, get_mem, mem_filter, mem_flat, mem_from_filter, mem_from_flat, Mem}
-use Rattle.lft_lists.proofs.Places.{Some_same}
-use Rattle.lft_whole.specs.declared.sources.source.SourceFile.{SourceFile}
-use Rattle.lft_whole.specs.declared.tree.ImportedName.{ImportedName}
-use Rattle.lft_whole.specs.declared.tree.Name.{Name}
-use Rattle.lft_whole.specs.declared.tree.Reactor.{Reactor}
+use Rattle.lft_lists.proofs.{Members.{mem_get, get_mem, mem_filter, mem_flat, mem_from_filter, mem_from_flat, Mem}, Places.Some_same}
+use Rattle.lft_whole.specs.declared.{sources.source.SourceFile.SourceFile, tree.{ImportedName.ImportedName, Name.Name, Reactor.Reactor}}
 use Rattle.lft_classes.specs.declared.scopes.Class.{Class}
 use Rattle.lft_classes.specs.Scopes.{AreScopes, IsImport, IsImported, IsMeant, IsOf, IsOwn, meaning_in, number_in, reactors_before, reactors_in}
 use Rattle.lft_classes.proofs.Numbering.{at_file, file_of}
-use Rattle.lft_same.specs.Expanded.Reactors.{class_named, imported_by, imported_class, is_called, is_named, own_class, reactor_of}
-use Rattle.lft_program.proofs.Zipping.{then_some}
+use Rattle.lft_same.specs.{Expanded.Reactors.{class_named, imported_by, imported_class, is_called, is_named, own_class, reactor_of}, Fits.Fits.number_at}
 use Rattle.lft_same.proofs.ExpandedLemmas.Flattened.{unzip}
-use Rattle.lft_same.specs.Fits.Fits.{number_at}
+use Rattle.lft_program.proofs.Zipping.{then_some}
 
 -- the reactor of the scopes is the one at this place of this file
 pub record IsAt (files : List SourceFile) (c : Class) (at : ℕ × ℕ) : Type 0 where

@@ -1,32 +1,21 @@
 -- A setting fits its instance, and what is inside fits what is inside.
 use Rattle.std.proofs.Common.{◌≡◌, ℕ, ℤ, zero, suc, ◌+◌, ◌<◌, pos, Bool, true, false, List, length, map, Option, Some, None, option_map, slice_get, refl, sym, ap, ◌∙◌, arith}
 use Rattle.std.specs.Prelude.{find, if◌then◌else◌, string_bytes}
-use Rattle.std.specs.Option.{option_and_then}
-use Rattle.std.specs.List.{range_with_len}
-use Rattle.lft_lists.proofs.Mapped.{mapped}
-use Rattle.lft_lists.proofs.Places.{Some_same, get_there}
+use Rattle.std.specs.{Option.option_and_then, List.range_with_len}
+use Rattle.lft_lists.proofs.{Mapped.mapped, Places.{Some_same, get_there}}
 use Rattle.lft_whole.specs.declared.sources.source.SourceFile.{SourceFile}
-use Rattle.lft_whole.specs.declared.tree.Assignment.{Assignment}
-use Rattle.lft_whole.specs.declared.tree.Expression.{Expression}
-use Rattle.lft_whole.specs.declared.tree.Instance.{Instance}
-use Rattle.lft_whole.specs.declared.tree.Parameter.{Parameter}
-use Rattle.lft_whole.specs.declared.tree.Value.{Value}
-use Rattle.lft_whole.specs.declared.tree.Value.TheVariants as value
-use Rattle.lft_classes.specs.declared.shapes.Child.{Child}
-use Rattle.lft_classes.specs.declared.shapes.InheritedParameter.{InheritedParameter}
-use Rattle.lft_classes.specs.declared.shapes.Shape.{Shape}
-use Rattle.lft_classes.specs.declared.shapes.Thing.{Thing}
-use Rattle.lft_classes.specs.declared.shapes.Thing.TheVariants as thing
-use Rattle.lft_classes.specs.Built.{located_parameters}
+use Rattle.lft_whole.specs.declared.tree.{Assignment.Assignment, Expression.Expression, Instance.Instance, Parameter.Parameter, Value.Value}
+use Rattle.lft_classes.specs.{declared.shapes.{Child.Child, InheritedParameter.InheritedParameter, Shape.Shape, Thing.Thing}, Built.located_parameters}
 use Rattle.lft_classes.specs.Shapes.{child_at, thing_named}
 use Rattle.lft_elaborate.specs.Channels.Channels.{below}
 use Rattle.lft_elaborate.specs.Values.{Valued, chosen, default_at, default_written, given_to, inside, is_sized, literal, main_setting, main_value, number_in, number_of, setting_of, value_inside}
 use Rattle.lft_same.specs.Expanded.Instances.{Inside, default_of, given_in, given_or_default, inside_of, main_instance, read_in, value_named}
 use Rattle.lft_same.specs.Expanded.Reactors.{class_named, is_named, parameters_of}
-use Rattle.lft_program.proofs.Zipping.{then_some}
 use Rattle.lft_same.specs.Fits.Fits.{Fits, IsShapeOf}
-use Rattle.lft_same.proofs.FitsLemmas.Giving.{IsGivenBy}
-use Rattle.lft_same.proofs.FitsLemmas.MemberNames.{value_found}
+use Rattle.lft_same.proofs.FitsLemmas.{Giving.IsGivenBy, MemberNames.value_found}
+use Rattle.lft_program.proofs.Zipping.{then_some}
+use Rattle.lft_whole.specs.declared.tree.Value.TheVariants as value
+use Rattle.lft_classes.specs.declared.shapes.Thing.TheVariants as thing
 
 -- a number that is written or named is that of the value that is read
 pub number_fits : (files : List SourceFile) (shapes : List Shape) (t : Valued) (x : Inside) (fits : Fits files shapes t x) (v : Value) (n : ℤ) → number_in fits.shape t.values v ≡ Some n → (w : Value) × (read_in files x v ≡ Some w) × (literal w ≡ Some n)

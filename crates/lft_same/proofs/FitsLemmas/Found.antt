@@ -1,15 +1,10 @@
 -- Where each width of a program is found, its instances have these widths.
 use Rattle.std.proofs.Common.{◌≡◌, ℕ, List, Some}
 use Rattle.lft_whole.specs.declared.sources.source.SourceFile.{SourceFile}
-use Rattle.lft_classes.specs.declared.nesting.Nesting.{Nesting}
-use Rattle.lft_classes.specs.Nestings.{IsNesting}
-use Rattle.lft_elaborate.specs.Used.{main as reached_main}
-use Rattle.lft_elaborate.specs.Values.{Valued, main_setting}
-use Rattle.lft_same.specs.Expanded.Instances.{Widths}
-use Rattle.lft_same.specs.Expanded.Whole.{AreWidths}
-use Rattle.lft_same.specs.Fits.Widths.{AreFound, AreThose}
-use Rattle.lft_same.proofs.FitsLemmas.Nested.{exists_law, inside_law, instance_law, main_law}
-use Rattle.lft_same.proofs.FitsLemmas.Widths.{AreNested, are_widths, width_is, widths_to}
+use Rattle.lft_classes.specs.{declared.nesting.Nesting.Nesting, Nestings.IsNesting}
+use Rattle.lft_elaborate.specs.{Used.main as reached_main, Values.{Valued, main_setting}}
+use Rattle.lft_same.specs.{Expanded.{Instances.Widths, Whole.AreWidths}, Fits.Widths.{AreFound, AreThose}}
+use Rattle.lft_same.proofs.FitsLemmas.{Nested.{exists_law, inside_law, instance_law, main_law}, Widths.{AreNested, are_widths, width_is, widths_to}}
 
 module _ (files : List SourceFile) (scopes : _) (n : Nesting) (is : IsNesting files scopes n) where
   are_nested : AreNested files n.shapes.items

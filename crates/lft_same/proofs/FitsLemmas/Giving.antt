@@ -1,28 +1,15 @@
 -- What is noted for the parameters of an instance is what `new` gives them.
 use Rattle.std.proofs.Common.{◌≡◌, ◌<◌, ◌⊎◌, inl, inr, ℕ, Bool, true, false, List, [], ◌∷◌, Option, Some, None, option_map, slice_get, refl, sym, ap, ◌∙◌, arith}
-use native.Mathlib.Decide.{dec_lt}
 use Rattle.std.specs.Prelude.{cond, find, if◌then◌else◌, string_bytes}
-use Rattle.std.proofs.lemmas.Bool.Decides.{eqb_tells}
-use Rattle.std.proofs.lemmas.Slice.Eq.{bytes_eq-Decides}
-use Rattle.lft_lists.proofs.Members.{Mem, contains_mem, get_mem, mem_contains}
-use Rattle.lft_lists.proofs.Places.{Some_same}
-use Rattle.lft_whole.specs.declared.sources.source.SourceFile.{SourceFile}
-use Rattle.lft_whole.specs.declared.tree.Assignment.{Assignment}
-use Rattle.lft_whole.specs.declared.tree.Expression.{Expression}
-use Rattle.lft_whole.specs.declared.tree.Instance.{Instance}
-use Rattle.lft_whole.specs.declared.tree.Value.{Value}
-use Rattle.lft_classes.specs.declared.shapes.Child.{Child}
-use Rattle.lft_classes.specs.declared.shapes.Given.{Given}
-use Rattle.lft_classes.specs.declared.shapes.InheritedParameter.{InheritedParameter}
-use Rattle.lft_classes.specs.declared.shapes.Shape.{Shape}
-use Rattle.lft_classes.specs.declared.shapes.Thing.TheVariants as thing
-use Rattle.lft_classes.specs.Shapes.{thing_named}
+use native.Mathlib.Decide.{dec_lt}
+use Rattle.std.proofs.lemmas.{Bool.Decides.eqb_tells, Slice.Eq.bytes_eq-Decides}
+use Rattle.lft_lists.proofs.{Members.{Mem, contains_mem, get_mem, mem_contains}, Places.Some_same}
+use Rattle.lft_whole.specs.declared.{sources.source.SourceFile.SourceFile, tree.{Assignment.Assignment, Expression.Expression, Instance.Instance, Value.Value}}
+use Rattle.lft_classes.specs.{declared.shapes.{Child.Child, Given.Given, InheritedParameter.InheritedParameter, Shape.Shape}, Shapes.thing_named}
+use Rattle.lft_classes.specs.{Built.AreGiven, Circles.GivesOnce}
 use Rattle.lft_elaborate.specs.Values.{given_to}
-use Rattle.lft_same.specs.Expanded.Reactors.{is_named}
-use Rattle.lft_classes.specs.Built.{AreGiven}
-use Rattle.lft_classes.specs.Circles.{GivesOnce}
-use Rattle.lft_same.specs.Fits.Fits.{IsShapeOf}
-use Rattle.lft_same.proofs.FitsLemmas.ClassNames.{named_so}
+use Rattle.lft_same.{specs.{Expanded.Reactors.is_named, Fits.Fits.IsShapeOf}, proofs.FitsLemmas.ClassNames.named_so}
+use Rattle.lft_classes.specs.declared.shapes.Thing.TheVariants as thing
 
 -- what is given to a parameter is noted
 to_some : (gs : List Given) (p : ℕ) (v : Value) → given_to gs p ≡ Some v → (g : Given) × Mem g gs × (g.parameter ≡ p) × (g.value.now.value ≡ v)

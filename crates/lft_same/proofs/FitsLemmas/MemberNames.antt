@@ -1,25 +1,15 @@
 -- The names in a shape mean what they mean in the language.
 use Rattle.std.proofs.Common.{◌≡◌, ℕ, zero, suc, Bool, true, false, List, [], ◌∷◌, Option, Some, None, option_map, slice_get, refl, sym, ap, ◌∙◌, arith}
 use Rattle.std.specs.Prelude.{if◌then◌else◌, string_bytes}
-use Rattle.std.specs.List.{position}
-use Rattle.std.specs.Option.{option_map_or}
-use Rattle.std.proofs.lemmas.Slice.Eq.{bytes_eq-Decides}
+use Rattle.std.{specs.{List.position, Option.option_map_or}, proofs.lemmas.Slice.Eq.bytes_eq-Decides}
 use Rattle.lft_lists.proofs.Mapped.{mapped, mapped_from}
-use Rattle.lft_whole.specs.declared.sources.source.SourceFile.{SourceFile}
-use Rattle.lft_whole.specs.declared.tree.Member.{Member}
-use Rattle.lft_whole.specs.declared.tree.Name.{Name}
-use Rattle.lft_whole.specs.declared.tree.Parameter.{Parameter}
-use Rattle.lft_whole.specs.declared.tree.Value.{Value}
-use Rattle.lft_classes.specs.declared.shapes.Inherited.{Inherited}
-use Rattle.lft_classes.specs.declared.shapes.InheritedParameter.{InheritedParameter}
-use Rattle.lft_classes.specs.declared.shapes.Shape.{Shape}
-use Rattle.lft_classes.specs.declared.shapes.Thing.TheVariants as thing
-use Rattle.lft_classes.specs.Built.{located_parameters}
+use Rattle.lft_whole.specs.declared.{sources.source.SourceFile.SourceFile, tree.{Member.Member, Name.Name, Parameter.Parameter, Value.Value}}
+use Rattle.lft_classes.specs.{declared.shapes.{Inherited.Inherited, InheritedParameter.InheritedParameter, Shape.Shape}, Built.located_parameters}
 use Rattle.lft_classes.specs.Shapes.{name_of, thing_named}
-use Rattle.lft_same.specs.Expanded.Instances.{Inside, place_named, value_at, value_named}
-use Rattle.lft_same.specs.Expanded.Reactors.{is_named, members_of, parameters_of}
+use Rattle.lft_same.specs.Expanded.{Instances.{Inside, place_named, value_at, value_named}, Reactors.{is_named, members_of, parameters_of}}
 use Rattle.lft_same.specs.Fits.Fits.{IsShapeOf}
 use Rattle.lft_same.proofs.FitsLemmas.ClassNames.{called, called_so, named_so, position_found, position_lost}
+use Rattle.lft_classes.specs.declared.shapes.Thing.TheVariants as thing
 
 -- the member has the name
 abbrev pub has_name : List ℕ → ℕ × Member → Bool

@@ -1,35 +1,21 @@
 -- The main setting fits the main instance, and what is inside fits what is inside.
 use Rattle.std.proofs.Common.{◌≡◌, ℕ, ◌+◌, List, length, map, Option, Some, None, option_map, slice_get, refl, sym, ap, subst, ◌∙◌}
 use Rattle.std.specs.Prelude.{string_bytes}
-use Rattle.std.specs.List.{position}
-use Rattle.std.specs.Option.{option_and_then}
-use Rattle.lft_lists.proofs.Mapped.{mapped, mapped_from, option_map_some}
-use Rattle.lft_lists.proofs.Places.{Some_same}
-use Rattle.lft_whole.specs.declared.sources.source.SourceFile.{SourceFile}
-use Rattle.lft_whole.specs.declared.tree.Instance.{Instance}
-use Rattle.lft_whole.specs.declared.tree.Member.{Member}
-use Rattle.lft_whole.specs.declared.tree.Member.TheVariants as member
-use Rattle.lft_whole.specs.declared.tree.Reactor.{Reactor}
-use Rattle.lft_classes.specs.declared.nesting.Nesting.{Nesting}
-use Rattle.lft_classes.specs.declared.scopes.Class.{Class as ScopesClass}
-use Rattle.lft_classes.specs.declared.shapes.Child.{Child}
-use Rattle.lft_classes.specs.declared.shapes.Inherited.{Inherited}
-use Rattle.lft_classes.specs.declared.shapes.Shape.{Shape}
-use Rattle.lft_classes.specs.Built.{AreGiven, Core, IsInside, core, cores, instance_of}
-use Rattle.lft_classes.specs.Circles.{GivesOnce}
-use Rattle.lft_classes.specs.Nestings.{IsNesting}
+use Rattle.std.specs.{List.position, Option.option_and_then}
+use Rattle.lft_lists.proofs.{Mapped.{mapped, mapped_from, option_map_some}, Places.Some_same}
+use Rattle.lft_whole.specs.declared.{sources.source.SourceFile.SourceFile, tree.{Instance.Instance, Member.Member, Reactor.Reactor}}
+use Rattle.lft_classes.specs.declared.{nesting.Nesting.Nesting, scopes.Class.Class as ScopesClass, shapes.{Child.Child, Inherited.Inherited, Shape.Shape}}
+use Rattle.lft_classes.specs.{Built.{AreGiven, Core, IsInside, core, cores, instance_of}, Circles.GivesOnce, Nestings.IsNesting}
 use Rattle.lft_classes.specs.Scopes.{AreScopes, IsMain, reactors_before, reactors_in}
 use Rattle.lft_classes.specs.Shapes.{child_at, child_in, inside as noted_inside, tables, thing_named}
+use Rattle.lft_classes.proofs.Numbering.{at_file}
 use Rattle.lft_elaborate.specs.Values.{Valued, inside, main_setting, setting_of, values_inside}
 use Rattle.lft_program.proofs.Zipping.{then_some}
-use Rattle.lft_same.specs.Expanded.Instances.{Inside, given_in, inside_of, main_instance}
-use Rattle.lft_same.specs.Expanded.Reactors.{Class, class_named, main_of, members_of, parameters_of}
+use Rattle.lft_same.specs.Expanded.{Instances.{Inside, given_in, inside_of, main_instance}, Reactors.{Class, class_named, main_of, members_of, parameters_of}}
 use Rattle.lft_same.specs.Fits.Fits.{Fits, IsShapeOf, number_at}
-use Rattle.lft_classes.proofs.Numbering.{at_file}
-use Rattle.lft_same.proofs.FitsLemmas.ClassNames.{IsAt, names_law, own_place, position_found, position_lost}
-use Rattle.lft_same.proofs.FitsLemmas.Fitting.{inside_fits, main_fits}
-use Rattle.lft_same.proofs.FitsLemmas.Giving.{IsGivenBy, given_by}
-use Rattle.lft_same.proofs.FitsLemmas.Shapes.{named_here, shape_is}
+use Rattle.lft_same.proofs.FitsLemmas.{ClassNames.{IsAt, names_law, own_place, position_found, position_lost}, Fitting.{inside_fits, main_fits}}
+use Rattle.lft_same.proofs.FitsLemmas.{Giving.{IsGivenBy, given_by}, Shapes.{named_here, shape_is}}
+use Rattle.lft_whole.specs.declared.tree.Member.TheVariants as member
 
 abbrev pub in_first : ℕ → ℕ × ℕ
 in_first k = (0, k)

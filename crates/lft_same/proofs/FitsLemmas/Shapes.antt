@@ -1,37 +1,22 @@
 -- A shape is of its reactor.
 use Rattle.std.proofs.Common.{◌≡◌, ◌≢◌, ◌⊎◌, inl, inr, ℕ, ◌+◌, ◌<◌, ◌≤◌, true, false, ◌&&◌, ◌||◌, List, [], ◌∷◌, ◌++◌, length, map, filter_map, flat_map, Option, Some, None, option_map, option_to_list, slice_get, refl, sym, ap, subst, ◌∙◌, arith}
 use Rattle.std.specs.Prelude.{◌==◌, string_bytes}
-use Rattle.std.specs.List.{enumerate_from, list_any, AllByRecursion, IsDistinct}
-use Rattle.std.specs.Option.{option_and_then}
-use Rattle.std.proofs.lemmas.Bool.{true≢false}
-use Rattle.std.proofs.lemmas.Bool.Decides.{eqb_tells}
-use Rattle.std.proofs.lemmas.List.{append-nil, length-append, length-map, map-append}
-use Rattle.std.proofs.lemmas.Map.Steps.{length-le_from_distinct_below}
-use Rattle.std.proofs.lemmas.Option.{slice_get_within}
-use Rattle.lft_lists.proofs.Mapped.{mapped_from, option_map_some}
-use Rattle.lft_lists.proofs.Members.{Mem, get_mem, mem_from_filter, mem_from_flat}
-use Rattle.lft_lists.proofs.Picked.{map-filter_map}
+use Rattle.std.specs.{List.{enumerate_from, list_any, AllByRecursion, IsDistinct}, Option.option_and_then}
+use Rattle.std.proofs.lemmas.{Bool.{true≢false, Decides.eqb_tells}, List.{append-nil, length-append, length-map, map-append}}
+use Rattle.std.proofs.lemmas.{Map.Steps.length-le_from_distinct_below, Option.slice_get_within}
+use Rattle.lft_lists.proofs.{Mapped.{mapped_from, option_map_some}, Members.{Mem, get_mem, mem_from_filter, mem_from_flat}, Picked.map-filter_map}
 use Rattle.lft_lists.proofs.Places.{get_push_cases, Some_same}
-use Rattle.lft_resolve.proofs.ExpansionLemmas.Pairs.{Pairs}
-use Rattle.lft_resolve.proofs.ExpansionLemmas.Unique.{pairs_from}
+use Rattle.lft_resolve.proofs.ExpansionLemmas.{Pairs.Pairs, Unique.pairs_from}
 use Rattle.lft_program.proofs.Zipping.{then_some}
-use Rattle.lft_whole.specs.declared.sources.source.SourceFile.{SourceFile}
-use Rattle.lft_whole.specs.declared.tree.Member.{Member}
-use Rattle.lft_whole.specs.declared.tree.Name.{Name}
-use Rattle.lft_whole.specs.declared.tree.Parameter.{Parameter}
-use Rattle.lft_whole.specs.declared.tree.Reactor.{Reactor}
-use Rattle.lft_classes.specs.declared.scopes.Class.{Class as ScopesClass}
-use Rattle.lft_classes.specs.declared.shapes.Shape.{Shape}
+use Rattle.lft_whole.specs.declared.{sources.source.SourceFile.SourceFile, tree.{Member.Member, Name.Name, Parameter.Parameter, Reactor.Reactor}}
+use Rattle.lft_classes.specs.declared.{scopes.Class.Class as ScopesClass, shapes.Shape.Shape}
 use Rattle.lft_classes.specs.Built.{IsBuilt, core, members_at, members_or_none, parameters_at, parameters_or_none}
 use Rattle.lft_classes.specs.Chains.{IsChain, base_in, base_of, bases_in, bases_of as numbered_bases, extended}
 use Rattle.lft_classes.specs.Scopes.{AreScopes, class_at, reactors_before, reactors_in, reactors_of}
 use Rattle.lft_classes.specs.Walks.{IsBehind, Reaches, Ways, nothing, one, itself, further}
-use Rattle.lft_same.specs.Expanded.Reactors.{Class, bases_of, class_named, lineage, reactor_count, reactor_of, same_class}
-use Rattle.lft_same.specs.Fits.Fits.{IsShapeOf, number_at}
-use Rattle.lft_classes.proofs.Decided.{listed_before}
-use Rattle.lft_classes.proofs.Numbering.{at_file}
-use Rattle.lft_same.proofs.FitsLemmas.ClassNames.{names_law, named_is}
-use Rattle.lft_same.proofs.FitsLemmas.Lineage.{Apart, Puts, all_put, lineage_apart, lineage_here, lineage_listed}
+use Rattle.lft_classes.proofs.{Decided.listed_before, Numbering.at_file}
+use Rattle.lft_same.specs.{Expanded.Reactors.{Class, bases_of, class_named, lineage, reactor_count, reactor_of, same_class}, Fits.Fits.{IsShapeOf, number_at}}
+use Rattle.lft_same.proofs.FitsLemmas.{ClassNames.{names_law, named_is}, Lineage.{Apart, Puts, all_put, lineage_apart, lineage_here, lineage_listed}}
 
 -- ---- lists
 

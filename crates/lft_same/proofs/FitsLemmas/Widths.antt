@@ -1,45 +1,24 @@
 -- Widths that are found are those of the instances.
 use Rattle.std.proofs.Common.{◌≡◌, ℕ, zero, suc, ◌+◌, ◌*◌, ◌<◌, ◌≤◌, min, ℤ, pos, Bool, true, false, List, [], ◌∷◌, length, map, Option, Some, None, option_map, slice_get, refl, sym, ap, subst, ◌∙◌, arith}
 use Rattle.std.specs.Prelude.{◌^◌, ◌-◌, neg_ℤ, string_bytes, unwrap_or}
-use Rattle.std.specs.Option.{option_and_then, option_map_or}
-use Rattle.std.proofs.lemmas.List.{length-map}
-use Rattle.std.proofs.lemmas.List.FromFn.{length-range_with_len}
-use Rattle.std.specs.List.{enumerate_from}
+use Rattle.std.{specs.{Option.{option_and_then, option_map_or}, List.enumerate_from}, proofs.lemmas.List.{length-map, FromFn.length-range_with_len}}
 use Rattle.lft_resolve.specs.Expansion.Paths.{along}
-use Rattle.lft_lists.proofs.Mapped.{mapped, mapped_from, option_map_some}
-use Rattle.lft_lists.proofs.Members.{Mem, get_mem, mem_from_flat, mem_from_map, mem_get}
-use Rattle.lft_program.proofs.Listing.{enumerate_from_at}
-use Rattle.lft_lists.proofs.Places.{Some_same}
+use Rattle.lft_lists.proofs.{Mapped.{mapped, mapped_from, option_map_some}, Members.{Mem, get_mem, mem_from_flat, mem_from_map, mem_get}, Places.Some_same}
+use Rattle.lft_program.proofs.{Listing.enumerate_from_at, Zipping.then_some}
 use Rattle.lft_whole.specs.declared.sources.source.SourceFile.{SourceFile}
-use Rattle.lft_whole.specs.declared.tree.Count.{Count}
-use Rattle.lft_whole.specs.declared.tree.Count.TheVariants as count
-use Rattle.lft_whole.specs.declared.tree.Instance.{Instance}
-use Rattle.lft_whole.specs.declared.tree.Member.{Member}
-use Rattle.lft_whole.specs.declared.tree.Member.TheVariants as member
-use Rattle.lft_whole.specs.declared.tree.Name.{Name}
-use Rattle.lft_whole.specs.declared.tree.Reference.{Reference}
-use Rattle.lft_whole.specs.declared.tree.Term.{Term}
-use Rattle.lft_whole.specs.declared.tree.Value.{Value}
-use Rattle.lft_whole.specs.declared.tree.Value.TheVariants as value
-use Rattle.lft_whole.specs.declared.tree.Width.{Width}
-use Rattle.lft_elaborate.specs.Channels.Channels.{below}
-use Rattle.lft_classes.specs.declared.shapes.Inherited.{Inherited}
-use Rattle.lft_classes.specs.declared.shapes.Shape.{Shape}
-use Rattle.lft_classes.specs.declared.shapes.Thing.{Thing}
-use Rattle.lft_classes.specs.declared.shapes.Thing.TheVariants as thing
-use Rattle.lft_classes.specs.Shapes.{name_of, thing_named, width_of}
-use Rattle.lft_elaborate.specs.Used.{IsReached, is_instance, is_instance_in, within}
+use Rattle.lft_whole.specs.declared.tree.{Count.Count, Instance.Instance, Member.Member, Name.Name, Reference.Reference, Term.Term, Value.Value, Width.Width}
+use Rattle.lft_elaborate.specs.{Channels.Channels.below, Used.{IsReached, is_instance, is_instance_in, within}}
 use Rattle.lft_elaborate.specs.Places.{IsMany, Meant, as_member, as_port, capped, count_in as settings_count, how_many, how_many_of, many, meaning_of, member_in, member_named, natural, own_thing, parameter_in, places_in, places_of, plus, port_inside, port_named, sum_in, thing_in, times, width_in, written_width}
 use Rattle.lft_elaborate.specs.Values.{Valued, inside, literal, number_named}
-use Rattle.lft_program.proofs.Zipping.{then_some}
+use Rattle.lft_classes.specs.{declared.shapes.{Inherited.Inherited, Shape.Shape, Thing.Thing}, Shapes.{name_of, thing_named, width_of}}
 use Rattle.lft_same.specs.Expanded.Instances.{Inner, Inside, Widths, entered, inners, inners_at, inside_of, main_instance, number_of, numbers, numbers_at, numbers_named, place_named, written}
-use Rattle.lft_same.specs.Expanded.Reactors.{Class, main_of, members_of}
-use Rattle.lft_same.specs.Expanded.Whole.{AreWidths, channels, count_in, things_named, total}
-use Rattle.lft_same.specs.Fits.Fits.{Fits}
-use Rattle.lft_same.specs.Fits.Widths.{AreFound, small}
-use Rattle.lft_same.proofs.FitsLemmas.Channels.{channels_length}
-use Rattle.lft_same.proofs.FitsLemmas.Fitting.{number_fits}
-use Rattle.lft_same.proofs.FitsLemmas.MemberNames.{member_found, member_lost}
+use Rattle.lft_same.specs.Expanded.{Reactors.{Class, main_of, members_of}, Whole.{AreWidths, channels, count_in, things_named, total}}
+use Rattle.lft_same.specs.Fits.{Fits.Fits, Widths.{AreFound, small}}
+use Rattle.lft_same.proofs.FitsLemmas.{Channels.channels_length, Fitting.number_fits, MemberNames.{member_found, member_lost}}
+use Rattle.lft_whole.specs.declared.tree.Count.TheVariants as count
+use Rattle.lft_whole.specs.declared.tree.Member.TheVariants as member
+use Rattle.lft_whole.specs.declared.tree.Value.TheVariants as value
+use Rattle.lft_classes.specs.declared.shapes.Thing.TheVariants as thing
 
 -- ---- small numbers
 

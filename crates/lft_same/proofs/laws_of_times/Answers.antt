@@ -1,5 +1,4 @@
-use Rattle.lft_same.proofs.Known.{known_law}
-use Rattle.lft_same.proofs.Times.{inside_times, main_times, period_law, time_law}
+use Rattle.lft_same.proofs.{Known.known_law, Times.{inside_times, main_times, period_law, time_law}}
 use Rattle.lft_same.proofs.laws_of_times.Goals as goal
 
 pub returns : goal.returns

@@ -2,10 +2,8 @@
 use Rattle.std.specs.Prelude.{ℕ, List, [], ◌∷◌, Option, filter_map, flat_map, map, option_map, option_to_list, zip}
 use Rattle.std.specs.Option.{option_and_then}
 use Rattle.lft_same.specs.Expanded.Expanded.{Contents, Expanded, Link, Reaction, Trigger, AtStartup, AtShutdown, OnThing}
-use Rattle.lft_resolve.specs.Expansion.Paths.{along}
+use Rattle.lft_resolve.specs.{Expansion.Paths.along, Instances.{Inside, Thing, entered, main_instance, main_of, stands_for, time_in}, Sheets.without_timers}
 use Rattle.lft_program.specs.Flattening.{time_or_zero}
-use Rattle.lft_resolve.specs.Instances.{Inside, Thing, entered, main_instance, main_of, stands_for, time_in}
-use Rattle.lft_resolve.specs.Sheets.{without_timers}
 use Rattle.lft_tree.specs.Tree.{ConnectionTree, FileTree, ReactionTree, ReactorTree, RefTree, TimeTree, TriggerTree, AtStartup as StartupTrigger, AtShutdown as ShutdownTrigger, OnRef, actions_of, connections_of, instances_of, ports_of, reactions_of, timers_of}
 
 -- what names stand for in the instance at a path

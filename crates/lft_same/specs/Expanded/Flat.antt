@@ -1,21 +1,12 @@
 -- The flat program of a program that is written out.
 use Rattle.std.specs.Prelude.{◌≡◌, ℕ, ◌+◌, ◌<◌, List, [], ◌∷◌, ◌++◌, Option, Some, None, codes, decimal, flat_map, map, slice_get}
-use Rattle.std.specs.List.{AllZip, enumerate_from}
-use Rattle.std.specs.Option.{option_map_or}
+use Rattle.std.specs.{List.{AllZip, enumerate_from}, Option.option_map_or}
 use Rattle.lft_same.specs.Expanded.Expanded.{Action, Contents, Expanded, Port, Reaction, Timer, Trigger, AtStartup, AtShutdown, OnThing}
-use Rattle.lft_ir.specs.Names.{ThingNames}
-use Rattle.lft_ir.specs.Parts.{Parts}
-use Rattle.lft_ir.specs.Sound.{KeepsOrigins}
-use Rattle.lft_ir.specs.declared.parts.Action.{Action as FlatAction}
-use Rattle.lft_ir.specs.declared.parts.Name.{Name}
-use Rattle.lft_ir.specs.declared.parts.Name.TheVariants.{Port as PortName, Action as ActionName}
-use Rattle.lft_ir.specs.declared.parts.Port.{Port as FlatPort}
-use Rattle.lft_ir.specs.declared.parts.Reaction.{Reaction as FlatReaction}
-use Rattle.lft_ir.specs.declared.parts.Timer.{Timer as FlatTimer}
-use Rattle.lft_ir.specs.declared.parts.Trigger.{Trigger as FlatTrigger}
-use Rattle.lft_ir.specs.declared.parts.Trigger.TheVariants.{Startup, Shutdown, Timer as TimerTrigger, On}
-use Rattle.lft_resolve.specs.Expansion.Paths.{Before}
-use Rattle.lft_resolve.specs.Instances.{Thing, thing_at}
+use Rattle.lft_ir.specs.{Names.ThingNames, Parts.Parts, Sound.KeepsOrigins}
+use Rattle.lft_ir.specs.declared.parts.{Action.Action as FlatAction, Name.{Name, TheVariants.{Port as PortName, Action as ActionName}}, Port.Port as FlatPort}
+use Rattle.lft_ir.specs.declared.parts.{Reaction.Reaction as FlatReaction, Timer.Timer as FlatTimer}
+use Rattle.lft_ir.specs.declared.parts.Trigger.{Trigger as FlatTrigger, TheVariants.{Startup, Shutdown, Timer as TimerTrigger, On}}
+use Rattle.lft_resolve.specs.{Expansion.Paths.Before, Instances.{Thing, thing_at}}
 use Rattle.lft_tag.specs.declared.Source.{Source}
 
 -- ---- the instances by number

@@ -1,23 +1,16 @@
 -- The instances of a whole program: the values of their parameters, and banks and multiports.
 use Rattle.std.specs.Prelude.{ℕ, ◌++◌, ℤ, pos, neg_ℤ, true, false, List, [], ◌∷◌, Option, Some, None, find, flat_map, if◌then◌else◌, map, option_map, position, slice_get, string_bytes}
-use Rattle.std.specs.List.{enumerate_from}
-use Rattle.std.specs.Option.{option_and_then, option_map_or}
-use Rattle.lft_elaborate.specs.Channels.Channels.{below}
-use Rattle.lft_elaborate.specs.Names.{tail}
+use Rattle.std.specs.{List.enumerate_from, Option.{option_and_then, option_map_or}}
+use Rattle.lft_elaborate.specs.{Channels.Channels.below, Names.tail}
 pub use Rattle.lft_elaborate.specs.Values.{is_forever}
 use Rattle.lft_classes.specs.Shapes.{name_of, width_of}
 use Rattle.lft_whole.specs.declared.sources.source.SourceFile.{SourceFile}
-use Rattle.lft_tree.specs.Tree.{nanoseconds}
-use Rattle.lft_whole.specs.declared.tree.Assignment.{Assignment}
-use Rattle.lft_whole.specs.declared.tree.Expression.{Expression}
-use Rattle.lft_whole.specs.declared.tree.Instance.{Instance}
-use Rattle.lft_whole.specs.declared.tree.Member.{Member}
-use Rattle.lft_whole.specs.declared.tree.Member.TheVariants as member
-use Rattle.lft_whole.specs.declared.tree.Parameter.{Parameter}
-use Rattle.lft_whole.specs.declared.tree.Value.{Value}
-use Rattle.lft_whole.specs.declared.tree.Value.TheVariants as value
+use Rattle.lft_whole.specs.declared.tree.{Assignment.Assignment, Expression.Expression, Instance.Instance, Member.Member, Parameter.Parameter, Value.Value}
 use Rattle.lft_whole.specs.declared.tree.Width.{Width}
+use Rattle.lft_tree.specs.Tree.{nanoseconds}
 use Rattle.lft_same.specs.Expanded.Reactors.{Class, class_named, is_named, members_of, parameters_of}
+use Rattle.lft_whole.specs.declared.tree.Member.TheVariants as member
+use Rattle.lft_whole.specs.declared.tree.Value.TheVariants as value
 
 -- ---- parameters
 

@@ -1,16 +1,12 @@
 -- What follows of programs that are written out.
 use Rattle.std.specs.Prelude.{◌≡◌, ℕ, Bool, false, List, [], ◌∷◌, Option, Some, None, Contains, flat_map, map, option_map}
 use Rattle.lft_ir.specs.Parts.{Parts}
-use Rattle.lft_elaborate.specs.Channels.Channels.{below, places}
-use Rattle.lft_elaborate.specs.Channels.Lowered.{AreJoined}
+use Rattle.lft_elaborate.specs.Channels.{Channels.{below, places}, Lowered.AreJoined}
 use Rattle.lft_program.specs.Flattening.{Flat, IsFlatOf}
 use Rattle.lft_resolve.specs.Instances.{Inside, Thing, stands_for, time_in}
 use Rattle.lft_whole.specs.declared.sources.source.SourceFile.{SourceFile}
 use Rattle.lft_tree.specs.Tree.{ConnectionTree, FileTree, RefTree, TimeTree}
-use Rattle.lft_same.specs.Expanded.Core.{core_links, expanded_tree}
-use Rattle.lft_same.specs.Expanded.Expanded.{Expanded, Link}
-use Rattle.lft_same.specs.Expanded.Flat.{IsFlat}
-use Rattle.lft_same.specs.Expanded.Same.{IsSame}
+use Rattle.lft_same.specs.Expanded.{Core.{core_links, expanded_tree}, Expanded.{Expanded, Link}, Flat.IsFlat, Same.IsSame}
 use Rattle.lft_same.specs.Expanded.Whole.{crossed, expanded_files, pairs}
 
 -- The flat program of a core tree is that of the tree written out.

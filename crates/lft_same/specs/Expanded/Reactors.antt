@@ -1,12 +1,7 @@
 -- The reactors of the files of a whole program: what a name means in a file, and what a reactor has with all that it extends.
 use Rattle.std.specs.Prelude.{ℕ, zero, suc, ◌&&◌, ◌==◌, Bool, false, not, List, [], ◌∷◌, ◌++◌, Option, None, bytes_eq, filter, filter_map, flat_map, if◌then◌else◌, length, map, option_map, option_to_list, position, slice_get, string_bytes, zip}
 use Rattle.std.specs.Option.{option_and_then, option_map_or, option_or}
-use Rattle.lft_whole.specs.declared.sources.source.SourceFile.{SourceFile}
-use Rattle.lft_whole.specs.declared.tree.Import.{Import}
-use Rattle.lft_whole.specs.declared.tree.Member.{Member}
-use Rattle.lft_whole.specs.declared.tree.Name.{Name}
-use Rattle.lft_whole.specs.declared.tree.Parameter.{Parameter}
-use Rattle.lft_whole.specs.declared.tree.Reactor.{Reactor}
+use Rattle.lft_whole.specs.declared.{sources.source.SourceFile.SourceFile, tree.{Import.Import, Member.Member, Name.Name, Parameter.Parameter, Reactor.Reactor}}
 
 -- a reactor: the number of its file, and its place there
 abbrev pub Class : Type 0

@@ -1,8 +1,6 @@
 -- That a program which is written out is the whole program of files.
 use Rattle.std.specs.Prelude.{◌≡◌, ℕ, ◌&&◌, Bool, true, false, not, List, Option, Some, None, Contains, bytes_eq, filter, map, option_map}
-use Rattle.lft_same.specs.Expanded.Expanded.{Contents, Expanded, Reaction, Trigger, OnThing}
-use Rattle.lft_same.specs.Expanded.Instances.{Widths}
-use Rattle.lft_same.specs.Expanded.Whole.{AreWidths, expanded_files}
+use Rattle.lft_same.specs.Expanded.{Expanded.{Contents, Expanded, Reaction, Trigger, OnThing}, Instances.Widths, Whole.{AreWidths, expanded_files}}
 use Rattle.lft_resolve.specs.Instances.{Thing, thing_at}
 use Rattle.lft_whole.specs.declared.sources.source.SourceFile.{SourceFile}
 

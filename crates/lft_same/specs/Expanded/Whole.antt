@@ -1,28 +1,19 @@
 -- A whole program written out, in the words of the language. What has no meaning here is refused: it has no place, is no number, and so on.
 use Rattle.std.specs.Prelude.{◌≡◌, ℕ, Bool, true, false, List, [], ◌∷◌, ◌++◌, Option, Some, None, bytes_eq, filter_map, flat_map, if◌then◌else◌, length, map, option_map, option_to_list, position, slice_get, string_bytes, zip, ◌+◌}
-use Rattle.std.specs.List.{enumerate_from}
-use Rattle.std.specs.Option.{option_and_then, option_map_or}
-use Rattle.lft_resolve.specs.Expansion.Paths.{along}
-use Rattle.lft_resolve.specs.Instances.{Thing, thing_at}
+use Rattle.std.specs.{List.enumerate_from, Option.{option_and_then, option_map_or}}
+use Rattle.lft_resolve.specs.{Expansion.Paths.along, Instances.{Thing, thing_at}}
 use Rattle.lft_elaborate.specs.Places.{natural}
 use Rattle.lft_classes.specs.Shapes.{width_of}
 use Rattle.lft_whole.specs.declared.sources.source.SourceFile.{SourceFile}
-use Rattle.lft_whole.specs.declared.tree.Connection.{Connection}
-use Rattle.lft_whole.specs.declared.tree.Count.{Count}
-use Rattle.lft_whole.specs.declared.tree.Count.TheVariants as count
-use Rattle.lft_whole.specs.declared.tree.Effect.{Effect}
-use Rattle.lft_whole.specs.declared.tree.Effect.TheVariants as effect
-use Rattle.lft_whole.specs.declared.tree.Instance.{Instance}
-use Rattle.lft_whole.specs.declared.tree.Member.{Member}
-use Rattle.lft_whole.specs.declared.tree.Member.TheVariants as member
-use Rattle.lft_whole.specs.declared.tree.Name.{Name}
-use Rattle.lft_whole.specs.declared.tree.Reference.{Reference}
-use Rattle.lft_whole.specs.declared.tree.Trigger.{Trigger as WrittenTrigger}
-use Rattle.lft_whole.specs.declared.tree.Trigger.TheVariants as trigger
-use Rattle.lft_whole.specs.declared.tree.Width.{Width}
+use Rattle.lft_whole.specs.declared.tree.{Connection.Connection, Count.Count, Effect.Effect, Instance.Instance, Member.Member, Name.Name, Reference.Reference}
+use Rattle.lft_whole.specs.declared.tree.{Trigger.Trigger as WrittenTrigger, Width.Width}
 use Rattle.lft_same.specs.Expanded.Expanded.{Action, Contents, Expanded, Link, Port, Reaction, Timer, Trigger, AtStartup, AtShutdown, OnThing}
 use Rattle.lft_same.specs.Expanded.Instances.{Inside, Widths, entered, inners, inside_of, main_instance, number_of, numbers, numbers_named, period_in, place_named, time_in, value_named, written}
 use Rattle.lft_same.specs.Expanded.Reactors.{Class, main_of, members_of}
+use Rattle.lft_whole.specs.declared.tree.Count.TheVariants as count
+use Rattle.lft_whole.specs.declared.tree.Effect.TheVariants as effect
+use Rattle.lft_whole.specs.declared.tree.Member.TheVariants as member
+use Rattle.lft_whole.specs.declared.tree.Trigger.TheVariants as trigger
 
 -- ---- references
 

@@ -1,15 +1,10 @@
 -- Shapes and settings, as reactors and instances of the language.
 use Rattle.std.specs.Prelude.{◌≡◌, ◌↔◌, ℕ, ◌+◌, ℤ, true, List, Some, length, map, slice_get}
-use Rattle.lft_whole.specs.declared.sources.source.SourceFile.{SourceFile}
-use Rattle.lft_whole.specs.declared.tree.Value.{Value}
-use Rattle.lft_classes.specs.declared.shapes.Shape.{Shape}
-use Rattle.lft_classes.specs.declared.shapes.Thing.{Thing}
-use Rattle.lft_classes.specs.Built.{HasName, located, located_parameters}
-use Rattle.lft_classes.specs.Scopes.{reactors_before}
+use Rattle.lft_whole.specs.declared.{sources.source.SourceFile.SourceFile, tree.Value.Value}
+use Rattle.lft_classes.specs.{declared.shapes.{Shape.Shape, Thing.Thing}, Built.{HasName, located, located_parameters}, Scopes.reactors_before}
 use Rattle.lft_classes.specs.Shapes.{thing_named}
 use Rattle.lft_elaborate.specs.Values.{Valued, is_sized, literal}
-use Rattle.lft_same.specs.Expanded.Instances.{Inside}
-use Rattle.lft_same.specs.Expanded.Reactors.{Class, members_of, parameters_of}
+use Rattle.lft_same.specs.Expanded.{Instances.Inside, Reactors.{Class, members_of, parameters_of}}
 
 -- the number of a reactor among those of all files
 abbrev pub number_at : List SourceFile → Class → ℕ

@@ -1,17 +1,11 @@
 -- How what lowering finds out of files stands to what they mean.
 use Rattle.std.specs.Prelude.{◌≡◌, ℕ, List, Some, option_map, slice_get}
-use Rattle.lft_whole.specs.declared.sources.source.SourceFile.{SourceFile}
-use Rattle.lft_whole.specs.declared.tree.Instance.{Instance}
-use Rattle.lft_whole.specs.declared.tree.Member.TheVariants as member
-use Rattle.lft_classes.specs.declared.nesting.Nesting.{Nesting}
-use Rattle.lft_classes.specs.Nestings.{IsNesting}
-use Rattle.lft_classes.specs.Scopes.{AreScopes, number_in}
+use Rattle.lft_whole.specs.declared.{sources.source.SourceFile.SourceFile, tree.Instance.Instance}
+use Rattle.lft_classes.specs.{declared.nesting.Nesting.Nesting, Nestings.IsNesting, Scopes.{AreScopes, number_in}}
 use Rattle.lft_elaborate.specs.Values.{Valued, inside, main_setting}
-use Rattle.lft_same.specs.Expanded.Instances.{Inside, Widths, inside_of, main_instance}
-use Rattle.lft_same.specs.Expanded.Reactors.{Class, class_named, main_of, members_of}
-use Rattle.lft_same.specs.Expanded.Whole.{AreWidths}
-use Rattle.lft_same.specs.Fits.Fits.{Fits, number_at}
-use Rattle.lft_same.specs.Fits.Widths.{AreFound, AreThose}
+use Rattle.lft_same.specs.Expanded.{Instances.{Inside, Widths, inside_of, main_instance}, Reactors.{Class, class_named, main_of, members_of}, Whole.AreWidths}
+use Rattle.lft_same.specs.Fits.{Fits.{Fits, number_at}, Widths.{AreFound, AreThose}}
+use Rattle.lft_whole.specs.declared.tree.Member.TheVariants as member
 
 -- A name of a reactor means in the scopes what it means in the language.
 abbrev pub NamesLaw : List SourceFile → Type 0

@@ -1,13 +1,9 @@
 -- Widths that are found in settings.
 use Rattle.std.specs.Prelude.{◌≡◌, ℕ, ◌<◌, ◌≤◌, List, Some}
-use Rattle.lft_whole.specs.declared.tree.Width.{Width}
+use Rattle.lft_whole.specs.declared.{tree.Width.Width, sources.source.SourceFile.SourceFile}
 use Rattle.lft_classes.specs.declared.shapes.Shape.{Shape}
-use Rattle.lft_elaborate.specs.Places.{width_in, written_width}
-use Rattle.lft_elaborate.specs.Used.{IsReached}
-use Rattle.lft_elaborate.specs.Values.{Valued}
-use Rattle.lft_whole.specs.declared.sources.source.SourceFile.{SourceFile}
-use Rattle.lft_same.specs.Expanded.Instances.{Inside, Widths}
-use Rattle.lft_same.specs.Fits.Fits.{Fits}
+use Rattle.lft_elaborate.specs.{Places.{width_in, written_width}, Used.IsReached, Values.Valued}
+use Rattle.lft_same.specs.{Expanded.Instances.{Inside, Widths}, Fits.Fits.Fits}
 
 -- a width below this one is cut off nowhere, and no program has a greater one
 abbrev pub small : ℕ

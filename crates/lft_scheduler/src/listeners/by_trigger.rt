@@ -1,8 +1,7 @@
 //! A list of reactions for each trigger.
 
 ghost use Rattle.std.specs.Prelude.{◌≡◌, [], IfOk, OnOk};
-ghost use Rattle.lft_ir.specs.declared.parts.Trigger.{Trigger as TriggerOf};
-ghost use Rattle.lft_ir.specs.Sound.{IsTriggerOf};
+ghost use Rattle.lft_ir.specs.{declared.parts.Trigger.Trigger as TriggerOf, Sound.IsTriggerOf};
 ghost use Rattle.lft_scheduler.specs.Lists.{list_of, HasList, IsPushed};
 
 use crate::listeners::lists::NumberLists;

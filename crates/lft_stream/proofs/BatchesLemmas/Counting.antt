@@ -1,18 +1,12 @@
 -- What is counted of a text's rows, batch by batch.
 use Rattle.std.proofs.Common.{◌≡◌, ◌∙◌, ℕ, ◌+◌, ◌≤◌, List, ◌++◌, length, take, drop, slice_get, Some, Option, None, sym, ap, subst, arith, map}
 use Rattle.std.specs.Prelude.{IfSome}
-use Rattle.std.proofs.lemmas.List.{length-append, length-take-le, take-append-drop}
-use Rattle.std.proofs.Math.Seq.{take-append_seam}
-use Rattle.lft_ir.specs.Parts.{Parts}
+use Rattle.std.proofs.{lemmas.List.{length-append, length-take-le, take-append-drop}, Math.Seq.take-append_seam}
+use Rattle.lft_ir.specs.{Parts.Parts, declared.steps.row.Row.Row}
 use Rattle.lft_lists.proofs.Places.{get_right}
-use Rattle.lft_ir.specs.declared.steps.row.Row.{Row}
 use Rattle.lft_model.specs.Plans.{PlanParts}
-use Rattle.lft_stream.specs.Kept.{IsAcceptorOf}
-use Rattle.lft_stream.specs.declared.acceptor.Acceptor.{Acceptor}
-use Rattle.lft_counts.specs.Counts.{KeepsRows}
-use Rattle.lft_counts.specs.Cover.{CoversRows}
-use Rattle.lft_counts.specs.declared.cover.Cover.{Cover}
-use Rattle.lft_counts.proofs.Agreeing.{covers_more, covers_front}
+use Rattle.lft_stream.specs.{Kept.IsAcceptorOf, declared.acceptor.Acceptor.Acceptor}
+use Rattle.lft_counts.{specs.{Counts.KeepsRows, Cover.CoversRows, declared.cover.Cover.Cover}, proofs.Agreeing.{covers_more, covers_front}}
 
 -- rows that the judge went over keep the rules 1 to 5
 pub keeps : (plan : PlanParts) (t : List Row) (acceptor : Acceptor) → IsAcceptorOf plan t acceptor → KeepsRows t

@@ -1,11 +1,8 @@
 -- A text's rows, judged batch by batch.
 use Rattle.std.proofs.Common.{◌≡◌, ◌∙◌, ℕ, ◌≤◌, List, ◌++◌, length, slice_range, sym, ap, subst, arith, ⊎_elim}
-use Rattle.std.proofs.lemmas.List.{append_assoc}
-use Rattle.std.proofs.Math.Seq.{take-length}
-use Rattle.lft_ir.specs.Parts.{Parts}
+use Rattle.std.proofs.{lemmas.List.append_assoc, Math.Seq.take-length}
+use Rattle.lft_ir.specs.{Parts.Parts, Steps.Fits.RowsFit, declared.steps.row.Row.Row}
 use Rattle.lft_lists.proofs.Places.{get_append_cases}
-use Rattle.lft_ir.specs.Steps.Fits.{RowsFit}
-use Rattle.lft_ir.specs.declared.steps.row.Row.{Row}
 use Rattle.lft_stream.proofs.Parting.{range_fits, up_to_second}
 
 -- a batch in three parts: what stands at the tag of the rows that wait, what is finished, and what stands at its last tag

@@ -1,17 +1,11 @@
 -- A text that is read batch by batch while its rows are judged.
 use Rattle.std.proofs.Common.{◌≡◌, ◌∙◌, ℕ, List, [], ◌∷◌, ◌++◌, length, take, ap, sym, subst, arith}
 use Rattle.std.proofs.lemmas.List.{append_assoc, length-take-le}
-use Rattle.lft_ir.specs.Sound.{IsSound}
-use Rattle.lft_trace.specs.Records.{records_of}
-use Rattle.lft_trace.specs.Telling.{rows_in}
-use Rattle.lft_trace.specs.Traces.{Table, header}
-use Rattle.lft_ir.specs.declared.steps.row.Row.{Row}
+use Rattle.lft_ir.specs.{Sound.IsSound, declared.steps.row.Row.Row}
+use Rattle.lft_trace.specs.{Records.records_of, Telling.rows_in, Traces.{Table, header}, Parts.BeginsWith}
+use Rattle.lft_trace.proofs.{Beginning.{begins_all, begins_more, begins_none}, FirstTold.tells}
 use Rattle.lft_model.specs.Plans.{PlanParts}
-use Rattle.lft_trace.specs.Parts.{BeginsWith}
-use Rattle.lft_trace.proofs.Beginning.{begins_all, begins_more, begins_none}
-use Rattle.lft_trace.proofs.FirstTold.{tells}
-use Rattle.lft_stream.specs.Batches.Fronts.{IsFront, IsNextBehind, judged_rows}
-use Rattle.lft_stream.specs.declared.batches.text.Front.{Front}
+use Rattle.lft_stream.specs.{Batches.Fronts.{IsFront, IsNextBehind, judged_rows}, declared.batches.text.Front.Front}
 
 module _ (plan : PlanParts) (body : List ℕ) (front : Front) (waiting : List Row) where
   -- before anything is judged, all rows are next

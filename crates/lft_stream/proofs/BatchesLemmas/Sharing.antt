@@ -1,14 +1,11 @@
 -- A batch of rows in parts, which are judged one after another.
 use Rattle.std.proofs.Common.{◌≡◌, ◌∙◌, ℕ, ◌+◌, ◌≤◌, List, [], ◌∷◌, ◌++◌, Vec, length, take, drop, add-one, ap, sym, subst, arith, slice_get, Some}
 use Rattle.std.specs.declared.alloc.Global.{Global}
-use Rattle.std.proofs.lemmas.Grind.{flat_map-append}
-use Rattle.std.proofs.lemmas.List.{append_assoc, append-nil, length-append, take-append-drop}
+use Rattle.std.proofs.lemmas.{Grind.flat_map-append, List.{append_assoc, append-nil, length-append, take-append-drop}}
 use Rattle.std.proofs.lemmas.Option.{get_or_from_slice_get, slice_get_within}
 use Rattle.std.proofs.Math.Seq.{take-suc}
-use Rattle.lft_ir.specs.Parts.{Parts}
+use Rattle.lft_ir.specs.{Parts.Parts, Steps.Fits.RowsFit, declared.steps.row.Row.Row}
 use Rattle.lft_lists.proofs.Places.{get_left, get_right}
-use Rattle.lft_ir.specs.Steps.Fits.{RowsFit}
-use Rattle.lft_ir.specs.declared.steps.row.Row.{Row}
 use Rattle.lft_trace.specs.Parts.{rows_of}
 
 module _ (parts : List (Vec Row Global)) (n : ℕ) (part : Vec Row Global) (at : slice_get parts n ≡ Some part) where

@@ -1,13 +1,10 @@
 -- How far the rows of a text are judged.
 use Rattle.std.specs.Prelude.{◌≡◌, ◌++◌, ◌≤◌, ℕ, List, length, take, IfSome}
-use Rattle.lft_trace.specs.Records.{records_of}
-use Rattle.lft_trace.specs.Traces.{Table}
-use Rattle.lft_trace.specs.Telling.{rows_in}
+use Rattle.lft_trace.specs.{Records.records_of, Traces.Table, Telling.rows_in}
 use Rattle.lft_ir.specs.declared.steps.row.Row.{Row}
 use Rattle.lft_model.specs.Plans.{PlanParts}
-use Rattle.lft_stream.specs.Kept.{IsAcceptorOf}
+use Rattle.lft_stream.specs.{Kept.IsAcceptorOf, declared.batches.text.Front.Front}
 use Rattle.lft_counts.specs.Cover.{CoversRows}
-use Rattle.lft_stream.specs.declared.batches.text.Front.{Front}
 
 -- the rows of the text that are judged
 abbrev pub judged_rows : PlanParts → List ℕ → Front → List Row

@@ -1,18 +1,11 @@
 //! Trace tables that are accepted from their texts, and what they exercise.
 
 ghost use Rattle.std.specs.Prelude.{◌≡◌, ◌++◌, ◌+◌, ◌≤◌, ℕ, List, Some, length, slice_get, take, IfOk, IfSome, IsTrue, OnSome};
-ghost use Rattle.lft_ir.specs.Parts.{Parts};
-ghost use Rattle.lft_ir.specs.Sound.{IsSound};
-ghost use Rattle.lft_ir.specs.Steps.Fits.{RowsFit};
-ghost use Rattle.lft_trace.specs.Records.{records_of};
-ghost use Rattle.lft_trace.specs.Telling.{rows_in};
-ghost use Rattle.lft_trace.specs.Traces.{Table};
-ghost use Rattle.lft_ir.specs.declared.steps.row.Row.{Row as TheRow};
+ghost use Rattle.lft_ir.specs.{Parts.Parts, Sound.IsSound, Steps.Fits.RowsFit, declared.steps.row.Row.Row as TheRow};
+ghost use Rattle.lft_trace.specs.{Records.records_of, Telling.rows_in, Traces.Table};
 ghost use Rattle.lft_rows.specs.Accepted.{IsAccepted};
-ghost use Rattle.lft_stream.specs.Kept.{IsAcceptorOf};
-ghost use Rattle.lft_counts.specs.Counts.{KeepsRows};
-ghost use Rattle.lft_counts.specs.Cover.{CoversRows};
-ghost use Rattle.lft_stream.specs.Batches.Fronts.{IsFront, IsNextBehind, IsWholeFront, judged_rows};
+ghost use Rattle.lft_stream.specs.{Kept.IsAcceptorOf, Batches.Fronts.{IsFront, IsNextBehind, IsWholeFront, judged_rows}};
+ghost use Rattle.lft_counts.specs.{Counts.KeepsRows, Cover.CoversRows};
 
 use crate::batches::rows::rows_together;
 use crate::{Acceptor, Counts};

@@ -1,13 +1,10 @@
 //! Ports, timers, actions, state variables and preambles.
 
 ghost use Rattle.std.specs.Prelude.{◌≡◌, ℕ, ◌+◌, codes, option_map, slice_get, Some, IfOk, IfSome, if◌then◌else◌};
-ghost use Rattle.lft_syntax.specs.Lexeme.{Letters, Symbol, is, is_word_of, scope_keys};
-ghost use Rattle.lft_syntax.specs.Grammar.{flat};
-ghost use Rattle.lft_syntax.specs.View.{Gives, at_next};
-ghost use Rattle.lft_tree.specs.View.{time_view, port_view, timer_view, action_view, range_view};
+ghost use Rattle.lft_syntax.specs.{Lexeme.{Letters, Symbol, is, is_word_of, scope_keys}, Grammar.flat, View.{Gives, at_next}};
 ghost use Rattle.lft_syntax.specs.Reading.{key_at, ignoring_at, apply, maybe, input_at, output_at, port_at, period_at, times_at, timer_at, min_delay_at, origin_at, action_at, state_at, scope_at, preamble_at};
-ghost use Rattle.lft_syntax.specs.Placed.{PortStands, TimerStands, ActionStands, TimeStands, TimesStand};
-ghost use Rattle.lft_syntax.specs.Parsing.{words};
+ghost use Rattle.lft_syntax.specs.{Placed.{PortStands, TimerStands, ActionStands, TimeStands, TimesStand}, Parsing.words};
+ghost use Rattle.lft_tree.specs.View.{time_view, port_view, timer_view, action_view, range_view};
 
 use crate::input::Input;
 use crate::parse_error::ParseError;

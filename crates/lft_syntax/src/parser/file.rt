@@ -1,14 +1,11 @@
 //! The file.
 
 ghost use Rattle.std.specs.Prelude.{◌≡◌, ℕ, ◌≤◌, codes, length, option_map, IfOk};
-ghost use Rattle.lft_syntax.specs.Lexeme.{Symbol, Letters, is};
-ghost use Rattle.lft_syntax.specs.View.{Gives, at_next};
+ghost use Rattle.lft_syntax.specs.{Lexeme.{Symbol, Letters, is}, View.{Gives, at_next}};
+ghost use Rattle.lft_syntax.specs.{Reading.{maybe, ignoring_at, braces_at, target_at, item_at, items_at, file_at, whole_at}, Language.many};
+ghost use Rattle.lft_syntax.specs.{Placed.{FileStands, past_target}, Parsing.words};
 ghost use Rattle.lft_tree.specs.View.{range_view, item_view, item_views, file_view};
-ghost use Rattle.lft_syntax.specs.Reading.{maybe, ignoring_at, braces_at, target_at, item_at, items_at, file_at, whole_at};
-ghost use Rattle.lft_syntax.specs.Language.{many};
 ghost use Rattle.lft_syntax.specs.Placed as Placed;
-ghost use Rattle.lft_syntax.specs.Placed.{FileStands, past_target};
-ghost use Rattle.lft_syntax.specs.Parsing.{words};
 
 use crate::input::Input;
 use crate::parse_error::ParseError;

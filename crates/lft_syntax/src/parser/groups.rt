@@ -1,9 +1,7 @@
 //! Groups: the tokens between brackets that balance.
 
 ghost use Rattle.std.specs.Prelude.{◌≡◌, ℕ, suc, ◌<◌, ◌≤◌, ◌+◌, ◌-◌, ◌^◌, length, slice_get, Result, IfOk};
-ghost use Rattle.lft_syntax.specs.Lexeme.{Symbol};
-ghost use Rattle.lft_syntax.specs.View.{Gives, at_next};
-ghost use Rattle.lft_syntax.specs.Reading.{inside_step, inside_at, braces_at, brackets_at, parentheses_at};
+ghost use Rattle.lft_syntax.specs.{Lexeme.Symbol, View.{Gives, at_next}, Reading.{inside_step, inside_at, braces_at, brackets_at, parentheses_at}};
 ghost use Rattle.lft_syntax.specs.Parsing.{words, Steps, shallow};
 
 use crate::input::{Input, Seen};

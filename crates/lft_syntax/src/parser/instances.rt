@@ -1,12 +1,11 @@
 //! Contained instances and connections.
 
 ghost use Rattle.std.specs.Prelude.{◌≡◌, ℕ, ◌+◌, [], ◌∷◌, map, option_map, slice_get, IfOk, IfSome, if◌then◌else◌};
-ghost use Rattle.lft_syntax.specs.Lexeme.{Symbol, is};
-ghost use Rattle.lft_syntax.specs.View.{Gives};
-ghost use Rattle.lft_tree.specs.View.{time_view, assignment_view, instance_view, connection_view};
+ghost use Rattle.lft_syntax.specs.{Lexeme.{Symbol, is}, View.Gives};
 ghost use Rattle.lft_syntax.specs.Reading.{after_comma, repeated, with_front, listed_at, given_value_at, assign_at, assigns_at, instance_at, after_at, connection_at};
 ghost use Rattle.lft_syntax.specs.Placed.{Takes, TakeRow, TimeStands, AssignmentsStand, AssignmentStands, InstanceStands, ConnectionStands, assignment_tokens, time_tokens};
 ghost use Rattle.lft_syntax.specs.Parsing.{words};
+ghost use Rattle.lft_tree.specs.View.{time_view, assignment_view, instance_view, connection_view};
 
 use crate::input::Input;
 use crate::parse_error::ParseError;

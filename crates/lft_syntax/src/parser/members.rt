@@ -1,15 +1,10 @@
 //! The members of a reactor.
 
 ghost use Rattle.std.specs.Prelude.{◌≡◌, ℕ, ◌+◌, ◌≤◌, length, slice_get, IfOk};
-ghost use Rattle.lft_syntax.specs.Lexeme.{Symbol, is};
-ghost use Rattle.lft_syntax.specs.View.{Gives};
-ghost use Rattle.lft_tree.specs.View.{member_view, member_views};
-ghost use Rattle.lft_syntax.specs.Reading.{member_at, members_at, body_at, choice_next, apply, instance_at, connection_at};
-ghost use Rattle.lft_tree.specs.Tree.{InstanceMember, ConnectionMember};
-ghost use Rattle.lft_syntax.specs.Language.{many};
+ghost use Rattle.lft_syntax.specs.{Lexeme.{Symbol, is}, View.Gives, Reading.{member_at, members_at, body_at, choice_next, apply, instance_at, connection_at}};
+ghost use Rattle.lft_syntax.specs.{Language.many, Placed.{MemberStands, BodyStands}, Parsing.words};
+ghost use Rattle.lft_tree.specs.{View.{member_view, member_views}, Tree.{InstanceMember, ConnectionMember}};
 ghost use Rattle.lft_syntax.specs.Placed as Placed;
-ghost use Rattle.lft_syntax.specs.Placed.{MemberStands, BodyStands};
-ghost use Rattle.lft_syntax.specs.Parsing.{words};
 
 use crate::input::Input;
 use crate::parse_error::ParseError;

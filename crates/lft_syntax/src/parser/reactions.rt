@@ -1,13 +1,11 @@
 //! Reactions.
 
 ghost use Rattle.std.specs.Prelude.{◌≡◌, ℕ, ◌+◌, [], ◌∷◌, map, IfOk};
-ghost use Rattle.lft_syntax.specs.Lexeme as Lexeme;
-ghost use Rattle.lft_syntax.specs.Lexeme.{Symbol, is};
-ghost use Rattle.lft_syntax.specs.View.{Gives, at_next};
-ghost use Rattle.lft_tree.specs.View.{trigger_view, reaction_view};
+ghost use Rattle.lft_syntax.specs.{Lexeme.{Symbol, is}, View.{Gives, at_next}};
 ghost use Rattle.lft_syntax.specs.Reading.{after_comma, repeated, with_front, listed_at, maybe, ignoring_at, name_at, trigger_at, triggers_at, reaction_at};
-ghost use Rattle.lft_syntax.specs.Placed.{Takes, TakeRow, TriggersStand, TriggerStands, ReactionStands, past_name, row_tokens, trigger_tokens};
-ghost use Rattle.lft_syntax.specs.Parsing.{words};
+ghost use Rattle.lft_syntax.specs.{Placed.{Takes, TakeRow, TriggersStand, TriggerStands, ReactionStands, past_name, row_tokens, trigger_tokens}, Parsing.words};
+ghost use Rattle.lft_tree.specs.View.{trigger_view, reaction_view};
+ghost use Rattle.lft_syntax.specs.Lexeme as Lexeme;
 
 use crate::input::Input;
 use crate::parse_error::ParseError;

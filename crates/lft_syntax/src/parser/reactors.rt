@@ -1,14 +1,12 @@
 //! Reactors and their parameters.
 
 ghost use Rattle.std.specs.Prelude.{◌≡◌, ℕ, ◌+◌, [], ◌∷◌, codes, map, option_map, string_bytes, slice_get, IfOk, if◌then◌else◌};
-ghost use Rattle.lft_syntax.specs.Lexeme as Lexeme;
-ghost use Rattle.lft_syntax.specs.Lexeme.{Symbol, is};
-ghost use Rattle.lft_syntax.specs.Grammar.{or_empty, reactor_of, main_of};
-ghost use Rattle.lft_syntax.specs.View.{Gives};
-ghost use Rattle.lft_tree.specs.View.{parameter_view, reactor_view};
+ghost use Rattle.lft_syntax.specs.{Lexeme.{Symbol, is}, Grammar.{or_empty, reactor_of, main_of}, View.Gives};
 ghost use Rattle.lft_syntax.specs.Reading.{after_comma, repeated, with_front, listed_at, apply, both, second, key_at, maybe, name_at, body_at, default_at, param_at, params_at, reactor_at};
 ghost use Rattle.lft_syntax.specs.Placed.{Takes, TakeRow, StandInRow, ParameterStands, ParametersStand, MainNameStands, ReactorStands, place_or, parameter_tokens, row_tokens, past_parameters, unit_tokens};
 ghost use Rattle.lft_syntax.specs.Parsing.{words};
+ghost use Rattle.lft_tree.specs.View.{parameter_view, reactor_view};
+ghost use Rattle.lft_syntax.specs.Lexeme as Lexeme;
 
 use crate::input::Input;
 use crate::parse_error::ParseError;

@@ -1,13 +1,10 @@
 //! References: a name, or a port of a contained instance.
 
 ghost use Rattle.std.specs.Prelude.{◌≡◌, ℕ, ◌+◌, [], ◌∷◌, IfOk};
-ghost use Rattle.lft_syntax.specs.Lexeme.{Symbol, is};
-ghost use Rattle.lft_syntax.specs.Grammar.{or_empty};
-ghost use Rattle.lft_syntax.specs.View.{Gives};
-ghost use Rattle.lft_tree.specs.View.{ref_view, ref_views};
+ghost use Rattle.lft_syntax.specs.{Lexeme.{Symbol, is}, Grammar.or_empty, View.Gives};
 ghost use Rattle.lft_syntax.specs.Reading.{apply, after_comma, repeated, with_front, ref_at, refs_at, uses_at, effects_at};
-ghost use Rattle.lft_syntax.specs.Placed.{Takes, TakeRow, ReferenceStands, EffectsStand, reference_tokens};
-ghost use Rattle.lft_syntax.specs.Parsing.{words};
+ghost use Rattle.lft_syntax.specs.{Placed.{Takes, TakeRow, ReferenceStands, EffectsStand, reference_tokens}, Parsing.words};
+ghost use Rattle.lft_tree.specs.View.{ref_view, ref_views};
 
 use crate::input::Input;
 use crate::parse_error::ParseError;

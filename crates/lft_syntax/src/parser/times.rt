@@ -1,14 +1,11 @@
 //! Units of time, times, and times or names of parameters.
 
 ghost use Rattle.std.specs.Prelude.{◌≡◌, ℕ, ◌<◌, ◌≤◌, ◌+◌, ◌-◌, ◌^◌, [], ◌∷◌, codes, slice_get, IfSome, IfOk};
-ghost use Rattle.lft_syntax.specs.Language.{look};
-ghost use Rattle.lft_syntax.specs.Lexeme as Lexeme;
-ghost use Rattle.lft_syntax.specs.Lexeme.{is_one_of, unit_of, unit_in};
-ghost use Rattle.lft_syntax.specs.View.{Gives};
-ghost use Rattle.lft_tree.specs.View.{time_view};
-ghost use Rattle.lft_syntax.specs.Reading.{time_from, time_at, delay_at, ptime_at, pdelay_at};
-ghost use Rattle.lft_syntax.specs.Placed.{Takes, TimeStands, time_tokens, unit_tokens};
+ghost use Rattle.lft_syntax.specs.{Language.look, Lexeme.{is_one_of, unit_of, unit_in}, View.Gives};
+ghost use Rattle.lft_syntax.specs.{Reading.{time_from, time_at, delay_at, ptime_at, pdelay_at}, Placed.{Takes, TimeStands, time_tokens, unit_tokens}};
 ghost use Rattle.lft_syntax.specs.Parsing.{words};
+ghost use Rattle.lft_tree.specs.View.{time_view};
+ghost use Rattle.lft_syntax.specs.Lexeme as Lexeme;
 
 use crate::input::{Input, Seen};
 use crate::parse_error::ParseError;

@@ -2,9 +2,9 @@
 
 ghost use Rattle.std.specs.Prelude.{◌≡◌, ℕ, slice_get};
 ghost use Rattle.lft_syntax.specs.View.{Gives, at_next};
-ghost use Rattle.lft_syntax.specs.Reading as Reading;
 ghost use Rattle.lft_syntax.specs.Reading.{ignoring_at, type_part_at, type_parts_at, stars_at, array_part_at, array_parts_at, type_at, typed_at};
 ghost use Rattle.lft_syntax.specs.Parsing.{words};
+ghost use Rattle.lft_syntax.specs.Reading as Reading;
 
 use crate::input::Input;
 use crate::parse_error::ParseError;

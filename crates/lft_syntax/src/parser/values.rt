@@ -1,8 +1,7 @@
 //! The values of state variables, which are read and mean nothing.
 
 ghost use Rattle.std.specs.Prelude.{◌≡◌, ℕ, slice_get};
-ghost use Rattle.lft_syntax.specs.Lexeme.{Symbol, is, Text};
-ghost use Rattle.lft_syntax.specs.View.{Gives, at_next};
+ghost use Rattle.lft_syntax.specs.{Lexeme.{Symbol, is, Text}, View.{Gives, at_next}};
 ghost use Rattle.lft_syntax.specs.Reading.{second, symbol_at, one_at, number_at, ignoring_at, maybe, maybe_suffix, signed_at, suffix_at, quantity_at, dot_name_at, dot_names_at, path_at, value_at, is_initial, initial_at};
 ghost use Rattle.lft_syntax.specs.Parsing.{words};
 

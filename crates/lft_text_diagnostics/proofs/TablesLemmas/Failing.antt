@@ -3,14 +3,10 @@ use Rattle.std.proofs.Common.{◌≡◌, ℕ, ◌+◌, List, [], ◌∷◌, ◌+
 use Rattle.std.proofs.lemmas.Slice.Zip.{AllZip-long}
 use Rattle.csv.specs.Records.{field_at as at_place}
 use Rattle.lft_ir.specs.Parts.{Parts}
-use Rattle.lft_trace.specs.ExternalTables.{external_tables}
-use Rattle.lft_trace.specs.Tables.{FailsAt, TableKind}
-use Rattle.lft_trace.specs.Traces.{trace_tables}
-use Rattle.lft_trace.specs.declared.fault.TraceFault.{TraceFault}
-use Rattle.lft_trace.specs.declared.fault.TraceFault.TheVariants as fault
+use Rattle.lft_trace.specs.{ExternalTables.external_tables, Tables.{FailsAt, TableKind}, Traces.trace_tables, declared.fault.TraceFault.TraceFault}
 use Rattle.lft_text_diagnostics.specs.Tables.Tables.{Fails, FailsThere, HasRecord, field_at}
-use Rattle.lft_text_diagnostics.specs.declared.tables.tables.Table.{Table}
-use Rattle.lft_text_diagnostics.specs.declared.tables.tables.Table.TheVariants.{Trace, Externals}
+use Rattle.lft_text_diagnostics.specs.declared.tables.tables.Table.{Table, TheVariants.{Trace, Externals}}
+use Rattle.lft_trace.specs.declared.fault.TraceFault.TheVariants as fault
 
 -- what is found is so, though nothing is
 pub found_none : {X : Type 0} (P : X → Type 0) (o : Option X) → is_some o ≡ true → IfSome o P → ((x : X) → P x → ⊥) → ⊥

@@ -1,19 +1,11 @@
 -- Which field of a table is wrong, and how it is named.
 use Rattle.std.specs.Prelude.{◌≡◌, ◌≢◌, ℕ, ◌+◌, ◌⊎◌, List, [], ◌++◌, Option, Some, None, slice_get, Bool, true, false, ◌||◌, bytes_eq, unwrap_or, codes, decimal}
 use Rattle.csv.specs.Records.{field_at as at_place}
-use Rattle.lft_ir.specs.Names.{IsNamed}
-use Rattle.lft_ir.specs.Parts.{Parts}
-use Rattle.lft_ir.specs.declared.found.Found.TheVariants.{Reaction}
-use Rattle.lft_ir.specs.declared.parts.Name.{Name}
-use Rattle.lft_trace.specs.Numbers.{number, number_or_zero, value}
-use Rattle.lft_trace.specs.ExternalTables.{ExternalFails, external_tables}
-use Rattle.lft_trace.specs.Tables.{FailsAt}
-use Rattle.lft_trace.specs.Traces.{IsThing, TraceFails, trace_tables}
-use Rattle.lft_trace.specs.declared.fault.TraceFault.{TraceFault}
+use Rattle.lft_ir.specs.{Names.IsNamed, Parts.Parts, declared.{found.Found.TheVariants.Reaction, parts.Name.Name}}
+use Rattle.lft_trace.specs.{Numbers.{number, number_or_zero, value}, ExternalTables.{ExternalFails, external_tables}, Tables.FailsAt}
+use Rattle.lft_trace.specs.{Traces.{IsThing, TraceFails, trace_tables}, declared.fault.TraceFault.TraceFault}
+use Rattle.lft_text_diagnostics.specs.declared.tables.{fields.Wrong.Wrong, tables.Table.{Table, TheVariants.{Trace, Externals}}}
 use Rattle.lft_trace.specs.declared.fault.TraceFault.TheVariants as fault
-use Rattle.lft_text_diagnostics.specs.declared.tables.fields.Wrong.{Wrong}
-use Rattle.lft_text_diagnostics.specs.declared.tables.tables.Table.{Table}
-use Rattle.lft_text_diagnostics.specs.declared.tables.tables.Table.TheVariants.{Trace, Externals}
 
 -- The record with that number, the first one being number 1.
 abbrev pub HasRecord : List (List (List ℕ)) → ℕ → List (List ℕ) → Type 0

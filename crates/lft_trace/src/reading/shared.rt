@@ -1,10 +1,8 @@
 //! Trace tables, read by several workers.
 
 ghost use Rattle.std.specs.Prelude.{◌≡◌, List, IfSome, IfOk, IfErr, true};
-ghost use Rattle.lft_trace.specs.Faults.{is_told};
+ghost use Rattle.lft_trace.specs.{Faults.is_told, Records.records_of, Traces.{Table, TraceFails}};
 ghost use Rattle.lft_ir.specs.Steps.Fits.{RowsFit};
-ghost use Rattle.lft_trace.specs.Records.{records_of};
-ghost use Rattle.lft_trace.specs.Traces.{Table, TraceFails};
 
 use crate::fault::TraceFault;
 use crate::reaction_names::ReactionNames;

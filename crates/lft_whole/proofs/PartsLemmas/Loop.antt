@@ -1,10 +1,7 @@
 -- A loop that reads one step after the other.
 use Rattle.std.proofs.Common.{◌≡◌, ℕ, zero, suc, ◌+◌, ◌≤◌, ◌<◌, true, false, length, Result, Ok, Err, refl, sym, ◌∙◌, arith}
-use Rattle.lft_whole.specs.declared.fault.TreeFault.{TreeFault}
+use Rattle.lft_whole.specs.{declared.fault.TreeFault.TreeFault, Parts.{Lexeme.Source, Language.{Reader, ◌>>=◌, Test, steps, repeat}, View.Fails}}
 use Rattle.lft_whole.specs.declared.fault.TreeFault.TheVariants as faults
-use Rattle.lft_whole.specs.Parts.Lexeme.{Source}
-use Rattle.lft_whole.specs.Parts.Language.{Reader, ◌>>=◌, Test, steps, repeat}
-use Rattle.lft_whole.specs.Parts.View.{Fails}
 
 -- the steps that are left, and what is read behind them, give the whole
 pub record Loop {B C : Type 0} (t : B → Test) (P : B → Reader B) (s : Source) (behind : B × ℕ → Result C TreeFault) (b : B) (i : ℕ) (total : Result C TreeFault) : Type 0 where

@@ -1,9 +1,7 @@
 -- The words that the grammar of whole texts is written in. It reads from left to right, and what stands at a
 -- place decides which of two goes on.
 use Rattle.std.specs.Prelude.{ℕ, zero, suc, ◌+◌, ◌-◌, List, [], ◌∷◌, ◌++◌, length, Option, Some, None, Result, Ok, Err, Bool, not, ◌&&◌, ◌||◌, ◌==◌, if◌then◌else◌}
-use Rattle.lft_whole.specs.declared.fault.TreeFault.{TreeFault}
-use Rattle.lft_whole.specs.declared.fault.TreeFault.TheVariants.{Unexpected}
-use Rattle.lft_whole.specs.Parts.Lexeme.{Source, Lexeme, see, is_there, is_symbol, is_key}
+use Rattle.lft_whole.specs.{declared.fault.TreeFault.{TreeFault, TheVariants.Unexpected}, Parts.Lexeme.{Source, Lexeme, see, is_there, is_symbol, is_key}}
 
 -- from a place on: a value and the place behind it, or why there is none
 abbrev pub Reader : Type 0 → Type 0

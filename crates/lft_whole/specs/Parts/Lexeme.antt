@@ -3,8 +3,7 @@ use Rattle.std.specs.Prelude.{ℕ, List, slice_get, slice_range, Bool, true, fal
 use Rattle.std.specs.Str.{bytes_eq}
 use Rattle.lft_tree.specs.declared.tree.TimeUnit.{TimeUnit}
 use Rattle.lft_syntax.specs.Lexeme.{is_reserved, unit_of}
-use Rattle.lft_whole.specs.declared.token.Token.{Token}
-use Rattle.lft_whole.specs.declared.token.TokenKind.{TokenKind}
+use Rattle.lft_whole.specs.declared.token.{Token.Token, TokenKind.TokenKind}
 use Rattle.lft_whole.specs.declared.token.TokenKind.TheVariants as kinds
 
 -- a text with its tokens

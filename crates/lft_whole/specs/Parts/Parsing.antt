@@ -1,12 +1,9 @@
 -- What the parser has of the grammar: the text with its tokens, and what it answers.
 use Rattle.std.specs.Prelude.{ℕ, ◌<◌, ◌≤◌, length, Option, Some, None}
 use Rattle.lft_tree.specs.Identifiers.{IsIdentifier}
-use Rattle.lft_whole.specs.declared.parts.input.Input.{Input}
-use Rattle.lft_whole.specs.declared.parts.input.Seen.{Seen}
+use Rattle.lft_whole.specs.declared.{parts.input.{Input.Input, Seen.Seen}, fault.TreeFault.TreeFault}
+use Rattle.lft_whole.specs.{Parts.Lexeme.{Source, Lexeme, Code, Text, Letters, Number, Decimal, Arrow, TildeArrow, Symbol}, Places.IsAmong}
 use Rattle.lft_whole.specs.declared.parts.input.Seen.TheVariants as seen
-use Rattle.lft_whole.specs.declared.fault.TreeFault.{TreeFault}
-use Rattle.lft_whole.specs.Parts.Lexeme.{Source, Lexeme, Code, Text, Letters, Number, Decimal, Arrow, TildeArrow, Symbol}
-use Rattle.lft_whole.specs.Places.{IsAmong}
 
 -- the text with its tokens, as the grammar sees it
 abbrev pub source : Input → Source

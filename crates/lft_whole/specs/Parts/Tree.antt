@@ -1,8 +1,7 @@
 -- The tree of a whole text, as contracts see it: a text is a list of bytes, a place the number of a token.
 use Rattle.std.specs.Prelude.{ℕ, Bool, List, Option}
 use Rattle.lft_tree.specs.declared.tree.TimeUnit.{TimeUnit}
-use Rattle.lft_whole.specs.declared.tree.Foreign.{Foreign}
-use Rattle.lft_whole.specs.declared.tree.Timeout.{Timeout}
+use Rattle.lft_whole.specs.declared.tree.{Foreign.Foreign, Timeout.Timeout}
 
 -- a name: its letters and its place
 pub record NameTree : Type 0 where

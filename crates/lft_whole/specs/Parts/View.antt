@@ -1,35 +1,17 @@
 -- What contracts see of the parts of a tree, and of what a function returned.
 use Rattle.std.specs.Prelude.{◌≡◌, ℕ, List, map, string_bytes, option_map, Result, Ok, Err}
 use Rattle.lft_whole.specs.declared.fault.TreeFault.{TreeFault}
-use Rattle.lft_whole.specs.declared.fault.TreeFault.TheVariants as faults
-use Rattle.lft_whole.specs.declared.tree.Name.{Name}
-use Rattle.lft_whole.specs.declared.tree.Reference.{Reference}
-use Rattle.lft_whole.specs.declared.tree.Value.{Value}
-use Rattle.lft_whole.specs.declared.tree.Value.TheVariants as values
-use Rattle.lft_whole.specs.declared.tree.Expression.{Expression}
-use Rattle.lft_whole.specs.declared.tree.Count.{Count}
-use Rattle.lft_whole.specs.declared.tree.Count.TheVariants as counts
-use Rattle.lft_whole.specs.declared.tree.Term.{Term}
-use Rattle.lft_whole.specs.declared.tree.Width.{Width}
-use Rattle.lft_whole.specs.declared.tree.Parameter.{Parameter}
-use Rattle.lft_whole.specs.declared.tree.Port.{Port}
-use Rattle.lft_whole.specs.declared.tree.Timer.{Timer}
-use Rattle.lft_whole.specs.declared.tree.Action.{Action}
-use Rattle.lft_whole.specs.declared.tree.Trigger.{Trigger}
-use Rattle.lft_whole.specs.declared.tree.Trigger.TheVariants as triggers
-use Rattle.lft_whole.specs.declared.tree.Effect.{Effect}
-use Rattle.lft_whole.specs.declared.tree.Effect.TheVariants as effects
-use Rattle.lft_whole.specs.declared.tree.Reaction.{Reaction}
-use Rattle.lft_whole.specs.declared.tree.Assignment.{Assignment}
-use Rattle.lft_whole.specs.declared.tree.Instance.{Instance}
-use Rattle.lft_whole.specs.declared.tree.Connection.{Connection}
-use Rattle.lft_whole.specs.declared.tree.Member.{Member}
-use Rattle.lft_whole.specs.declared.tree.Member.TheVariants as members
-use Rattle.lft_whole.specs.declared.tree.Reactor.{Reactor}
-use Rattle.lft_whole.specs.declared.tree.ImportedName.{ImportedName}
-use Rattle.lft_whole.specs.declared.tree.Import.{Import}
-use Rattle.lft_whole.specs.declared.tree.File.{File}
+use Rattle.lft_whole.specs.declared.tree.{Name.Name, Reference.Reference, Value.Value, Expression.Expression, Count.Count, Term.Term, Width.Width}
+use Rattle.lft_whole.specs.declared.tree.{Parameter.Parameter, Port.Port, Timer.Timer, Action.Action, Trigger.Trigger, Effect.Effect, Reaction.Reaction}
+use Rattle.lft_whole.specs.declared.tree.{Assignment.Assignment, Instance.Instance, Connection.Connection, Member.Member, Reactor.Reactor}
+use Rattle.lft_whole.specs.declared.tree.{ImportedName.ImportedName, Import.Import, File.File}
 use Rattle.lft_whole.specs.Parts.Tree.{NameTree, ReferenceTree, ValueTree, NumberValue, WordValue, CodeValue, OtherValue, ExpressionTree, CountTree, NumberCount, WordCount, WidthOf, CodeCount, OpenCount, TermTree, ParameterTree, PortTree, TimerTree, ActionTree, TriggerTree, AtStartup, AtShutdown, AtReset, OnReference, EffectTree, ToMode, ToReference, ReactionTree, AssignmentTree, InstanceTree, ConnectionTree, MemberTree, PortMember, TimerMember, ActionMember, ReactionMember, InstanceMember, ConnectionMember, ForeignMember, ReactorTree, ImportedTree, ImportTree, FileTree}
+use Rattle.lft_whole.specs.declared.fault.TreeFault.TheVariants as faults
+use Rattle.lft_whole.specs.declared.tree.Value.TheVariants as values
+use Rattle.lft_whole.specs.declared.tree.Count.TheVariants as counts
+use Rattle.lft_whole.specs.declared.tree.Trigger.TheVariants as triggers
+use Rattle.lft_whole.specs.declared.tree.Effect.TheVariants as effects
+use Rattle.lft_whole.specs.declared.tree.Member.TheVariants as members
 
 -- a name as its letters and its place
 abbrev pub name_view : Name → NameTree

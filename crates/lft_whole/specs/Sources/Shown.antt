@@ -1,7 +1,6 @@
 -- Paths and places as they are written into texts.
 use Rattle.std.specs.Prelude.{ℕ, List, ◌++◌, if◌then◌else◌, ◌&&◌, codes, decimal, nat_le, map, chars, string_bytes}
-use Rattle.lft_whole.specs.declared.sources.source.SourceFile.{SourceFile}
-use Rattle.lft_whole.specs.Sources.Spots.{spot_at}
+use Rattle.lft_whole.specs.{declared.sources.source.SourceFile.SourceFile, Sources.Spots.spot_at}
 
 -- A letter of printable ASCII as itself, any other as `?`.
 abbrev pub shown : ℕ → ℕ

@@ -1,7 +1,6 @@
 -- Tokens of all files of a program, by number: those of the first file, one for its end, those of the next one, and so on.
 use Rattle.std.specs.Prelude.{◌≡◌, ◌<◌, ◌+◌, ◌-◌, ◌^◌, ℕ, List, IsSomeAnd, length, min, option_map, slice_get, unwrap_or}
-use Rattle.lft_whole.specs.declared.sources.source.SourceFile.{SourceFile}
-use Rattle.lft_whole.specs.declared.sources.stop.Place.{Place}
+use Rattle.lft_whole.specs.declared.sources.{source.SourceFile.SourceFile, stop.Place.Place}
 
 -- The number of the token at a place; the greatest number, where it is past that. Without the file it is its own.
 abbrev pub number_at : List SourceFile → Place → ℕ

@@ -2,10 +2,8 @@
 
 ghost use Rattle.std.specs.Prelude.{◌≡◌, IfOk, IfErr, string_bytes};
 ghost use Rattle.lft_tree.specs.Identifiers.{IsIdentifier};
-ghost use Rattle.lft_whole.specs.Parts.Parsing.{Within, Further, Refuses, source};
+ghost use Rattle.lft_whole.specs.Parts.{Parsing.{Within, Further, Refuses, source}, View.{Gives, at_next, name_view}, Language.ignored};
 ghost use Rattle.lft_whole.specs.Parts.Parts as Parts;
-ghost use Rattle.lft_whole.specs.Parts.View.{Gives, at_next, name_view};
-ghost use Rattle.lft_whole.specs.Parts.Language.{ignored};
 
 use crate::parts::input::{Input, Seen};
 use crate::parts::tokens::peek;

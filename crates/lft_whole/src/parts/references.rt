@@ -1,9 +1,8 @@
 //! References, and what a reaction may write.
 
 ghost use Rattle.std.specs.Prelude.{◌≡◌, ◌<◌, true, IfOk, IfErr, map};
-ghost use Rattle.lft_whole.specs.Parts.Parsing.{count, Within, Further, NotBefore, Refuses, source};
+ghost use Rattle.lft_whole.specs.Parts.{Parsing.{count, Within, Further, NotBefore, Refuses, source}, View.{Gives, at_next, reference_view, effect_view}};
 ghost use Rattle.lft_whole.specs.Parts.Parts as Parts;
-ghost use Rattle.lft_whole.specs.Parts.View.{Gives, at_next, reference_view, effect_view};
 
 use crate::parts::groups::group;
 use crate::parts::input::Input;

@@ -1,9 +1,8 @@
 //! Types. They mean nothing, but for the word `time`.
 
 ghost use Rattle.std.specs.Prelude.{◌≡◌, ◌<◌, true, IfOk, IfErr, Ok};
-ghost use Rattle.lft_whole.specs.Parts.Parsing.{count, Within, Further, NotBefore, Refuses, source};
+ghost use Rattle.lft_whole.specs.Parts.{Parsing.{count, Within, Further, NotBefore, Refuses, source}, View.{Gives, at_next}};
 ghost use Rattle.lft_whole.specs.Parts.Parts as Parts;
-ghost use Rattle.lft_whole.specs.Parts.View.{Gives, at_next};
 
 use crate::TreeFault;
 use crate::parts::groups::{group, past_group};

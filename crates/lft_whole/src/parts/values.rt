@@ -1,10 +1,8 @@
 //! Values.
 
 ghost use Rattle.std.specs.Prelude.{◌≡◌, ◌<◌, true, IfOk, IfErr, option_map, ◌+◌, Ok};
-ghost use Rattle.lft_whole.specs.Parts.Parsing.{count, Within, Further, NotBefore, Refuses, source};
+ghost use Rattle.lft_whole.specs.Parts.{Parsing.{count, Within, Further, NotBefore, Refuses, source}, Language.ignored, View.{Gives, at_next, expression_view}};
 ghost use Rattle.lft_whole.specs.Parts.Parts as Parts;
-ghost use Rattle.lft_whole.specs.Parts.Language.{ignored};
-ghost use Rattle.lft_whole.specs.Parts.View.{Gives, at_next, expression_view};
 
 use crate::parts::groups::{group_end, opens_values};
 use crate::parts::input::{Input, Seen};

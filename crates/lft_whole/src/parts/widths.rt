@@ -1,9 +1,8 @@
 //! Widths of banks and multiports.
 
 ghost use Rattle.std.specs.Prelude.{◌≡◌, ◌<◌, true, IfOk, IfErr, Ok, map, option_map};
-ghost use Rattle.lft_whole.specs.Parts.Parsing.{count, Within, Further, NotBefore, Refuses, source};
+ghost use Rattle.lft_whole.specs.Parts.{Parsing.{count, Within, Further, NotBefore, Refuses, source}, View.{Gives, count_view, term_view, width_view}};
 ghost use Rattle.lft_whole.specs.Parts.Parts as Parts;
-ghost use Rattle.lft_whole.specs.Parts.View.{Gives, count_view, term_view, width_view};
 
 use crate::parts::input::{Input, Seen};
 use crate::parts::names::text_of;

@@ -31,8 +31,7 @@ pub struct SourceFile {
 
 impl SourceFile {
     ghost use Rattle.std.specs.Prelude.{◌≡◌, ℕ, IfNone, IfSome};
-    ghost use Rattle.lft_whole.specs.Sources.Spots.{spot_at};
-    ghost use Rattle.lft_whole.specs.Sources.Tokens.{HasToken};
+    ghost use Rattle.lft_whole.specs.Sources.{Spots.spot_at, Tokens.HasToken};
 
     /// Where the token of this number begins.
     pub fn spot(&self, token: usize) -> Spot

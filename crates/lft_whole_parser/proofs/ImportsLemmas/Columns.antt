@@ -1,17 +1,11 @@
 -- Lines and columns, byte by byte, and the spots of tokens.
 use Rattle.std.proofs.Common.{◌≡◌, ℕ, zero, suc, ◌+◌, ◌-◌, ◌<◌, ◌≤◌, ◌⊎◌, inl, inr, Bool, true, false, List, [], ◌∷◌, ◌++◌, length, take, drop, get_or, Some, refl, sym, subst, ap, ◌∙◌, arith, length-take, length-drop, add-one}
 use Rattle.std.specs.Prelude.{IsSomeAnd, count_by, slice_get, slice_index, slice_range}
-use Rattle.std.proofs.lemmas.Bool.{cases_lt}
-use Rattle.std.proofs.lemmas.Bool.Decides.{nat_tests}
-use Rattle.std.proofs.lemmas.List.{get_or-drop, length_push}
-use Rattle.std.proofs.lemmas.Option.{slice_get_within}
-use Rattle.std.proofs.lemmas.List.Sums.{count_by-le-length, count_by_more_yes, count_by_more_no}
-use Rattle.lft_lists.specs.Bytes.{is_in_line}
-use Rattle.lft_lists.proofs.Places.{get_last, same_some}
+use Rattle.std.proofs.lemmas.Bool.{cases_lt, Decides.nat_tests}
+use Rattle.std.proofs.lemmas.{List.{get_or-drop, length_push, Sums.{count_by-le-length, count_by_more_yes, count_by_more_no}}, Option.slice_get_within}
+use Rattle.lft_lists.{specs.Bytes.is_in_line, proofs.Places.{get_last, same_some}}
 use Rattle.lft_text_diagnostics.specs.Places.{BeginsLine, begins_letter, is_feed}
-use Rattle.lft_whole.specs.declared.sources.source.Spot.{Spot}
-use Rattle.lft_whole.specs.declared.token.Token.{Token}
-use Rattle.lft_whole.specs.Tokens.{IsToken, StandBetween}
+use Rattle.lft_whole.specs.{declared.{sources.source.Spot.Spot, token.Token.Token}, Tokens.{IsToken, StandBetween}}
 use Rattle.lft_whole_parser.specs.Imports.Places.{AreSpots, IsSpot}
 
 not_feed : (b : ℕ) → (b ≡ 10 → ⊥) → is_in_line b ≡ true

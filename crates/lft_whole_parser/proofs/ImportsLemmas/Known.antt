@@ -1,18 +1,13 @@
 -- Paths by number: what a path more, and a file more, bring.
 use Rattle.std.proofs.Common.{◌≡◌, ℕ, zero, suc, ◌+◌, ◌<◌, ◌≤◌, ◌⊎◌, inl, inr, true, false, List, [], ◌∷◌, ◌++◌, length, Option, Some, None, append_assoc, map, refl, sym, subst, ap, ◌∙◌, arith, string_bytes}
 use Rattle.std.specs.Prelude.{◌↔◌, IsSomeAnd, slice_get}
-use Rattle.std.specs.Map.{update}
-use Rattle.std.specs.Str.{bytes_eq}
-use Rattle.std.specs.Cmp.Lexicographic.{bytes_decides}
+use Rattle.std.specs.{Map.update, Str.bytes_eq, Cmp.Lexicographic.bytes_decides}
 use Rattle.std.proofs.lemmas.Bool.{cases_Bool, cases_lt, cond-true, cond-false}
-use Rattle.std.proofs.lemmas.List.{append-nil}
-use Rattle.std.proofs.lemmas.List.Elements.{All-append, All-cons, All-get_or, All-nil, All-weaker}
+use Rattle.std.proofs.lemmas.List.{append-nil, Elements.{All-append, All-cons, All-get_or, All-nil, All-weaker}}
 use Rattle.std.proofs.lemmas.Option.{get_or_from_slice_get, slice_get_within}
 use Rattle.lft_lists.proofs.Mapped.{mapped, mapped_from}
 use Rattle.lft_lists.proofs.Places.{get_append_cases, get_last, get_left, get_push, get_push_cases, get_there, same_some, Some_same}
-use Rattle.lft_whole.specs.declared.tree.Import.{Import}
-use Rattle.lft_whole.specs.declared.sources.source.SourceFile.{SourceFile}
-use Rattle.lft_whole.specs.declared.sources.stop.Place.{Place}
+use Rattle.lft_whole.specs.declared.{tree.Import.Import, sources.{source.SourceFile.SourceFile, stop.Place.Place}}
 use Rattle.lft_whole_parser.specs.declared.imports.asked.Wanted.{Wanted}
 use Rattle.lft_whole_parser.specs.Imports.Paths.{meaning}
 use Rattle.lft_whole_parser.specs.Imports.Files.{Adds, AreNamed, AreNumbered, AreReached, EachOnce, HasImport, IsAskedBy, IsImportOf, IsNamedBy, IsNumbered, IsWhole, LeadsTo, further, itself, paths_of_files}

@@ -1,19 +1,13 @@
 -- Why a text is refused.
 use Rattle.std.proofs.Common.{◌≡◌, ℕ, ◌+◌, ◌⊎◌, inl, inr, List, [], ◌∷◌, ◌++◌, length, take, Some, None, sym, subst, ap, ◌∙◌, zero-add, arith, string_bytes}
 use Rattle.std.specs.Prelude.{IfErr, Result, Ok, Err, slice_get}
-use Rattle.std.proofs.lemmas.List.{take-append-le, take_all}
-use Rattle.std.proofs.lemmas.List.Sums.{sum_by-append}
-use Rattle.std.proofs.lemmas.Option.{slice_get_within}
+use Rattle.std.proofs.lemmas.{List.{take-append-le, take_all, Sums.sum_by-append}, Option.slice_get_within}
 use Rattle.lft_lists.proofs.Places.{get_push_cases}
-use Rattle.lft_whole.specs.declared.sources.source.SourceFile.{SourceFile}
-use Rattle.lft_whole.specs.declared.sources.stop.Stop.{Stop}
-use Rattle.lft_whole.specs.declared.sources.stop.Stop.TheVariants as stop
-use Rattle.lft_whole.specs.declared.sources.why.Why.{Why}
-use Rattle.lft_whole.specs.declared.sources.why.Why.TheVariants.{NotRead}
-use Rattle.lft_whole_parser.specs.declared.imports.reading.Text.{Text}
-use Rattle.lft_whole_parser.specs.declared.imports.sources.Sources.{Sources}
+use Rattle.lft_whole.specs.declared.sources.{source.SourceFile.SourceFile, stop.Stop.Stop, why.Why.{Why, TheVariants.NotRead}}
+use Rattle.lft_whole_parser.specs.declared.imports.{reading.Text.Text, sources.Sources.Sources}
 use Rattle.lft_whole_parser.specs.Imports.Files.{AreCounted, AreOfTexts, HasUnread, IsRefusalOf, IsRefusedFor, IsUnread, RefusesNext, next_path, tokens_of}
 use Rattle.lft_whole_parser.specs.Imports.Reads.{HasNoTree, HasTree, IsRead, IsReadAs}
+use Rattle.lft_whole.specs.declared.sources.stop.Stop.TheVariants as stop
 
 -- a file has the tree that is read of its text
 pub tree_of : (t : List ℕ) (f : SourceFile) (read : Text) → f.spots ≡ read.spots → f.tree ≡ read.tree → IsRead t read → read.refused ≡ None → HasTree t f.spots.items f.tree

@@ -1,9 +1,7 @@
 -- Paths, part by part.
 use Rattle.std.proofs.Common.{◌≡◌, ℕ, ◌<◌, ◌-◌, Bool, true, false, cond, List, [], ◌∷◌, ◌++◌, length, take, sym, ap, ◌∙◌, append_assoc, arith}
 use Rattle.std.specs.Prelude.{slice_get}
-use Rattle.std.proofs.lemmas.Bool.{cond-true, cond-false}
-use Rattle.std.proofs.lemmas.List.{append-nil}
-use Rattle.std.proofs.lemmas.List.Concat.{flat_map-append}
+use Rattle.std.proofs.lemmas.{Bool.{cond-true, cond-false}, List.{append-nil, Concat.flat_map-append}}
 use Rattle.lft_whole_parser.specs.Imports.Paths.{back, is_back, is_folder, joined, root, slashed, stays, step}
 
 pub step_stays : (r : Bool) (fs : List (List ℕ)) (p : List ℕ) → stays p ≡ true → step r fs p ≡ fs

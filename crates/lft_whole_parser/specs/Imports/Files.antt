@@ -1,22 +1,12 @@
 -- The files of a program: which paths are asked for, and which file each import names.
 use Rattle.std.specs.Prelude.{◌≡◌, ◌<◌, ◌↔◌, ◌⊎◌, ℕ, All, List, [], ◌∷◌, ◌++◌, Option, Some, None, IsSomeAnd, length, map, slice_get, string_bytes, take}
-use Rattle.std.specs.BTreeMap.{get_by_text}
-use Rattle.std.specs.List.{sum_by}
-use Rattle.std.specs.Str.{IsUtf8}
+use Rattle.std.specs.{BTreeMap.get_by_text, List.sum_by, Str.IsUtf8}
 use Rattle.lft_whole.specs.declared.tree.Import.{Import}
-use Rattle.lft_whole.specs.declared.sources.source.SourceFile.{SourceFile}
+use Rattle.lft_whole.specs.declared.sources.{source.SourceFile.SourceFile, stop.{Place.Place, Stop.Stop}, why.Why.{Why, TheVariants.NotRead}}
 use Rattle.lft_whole.specs.Sources.Tokens.{StandsAt}
-use Rattle.lft_whole.specs.declared.sources.stop.Place.{Place}
-use Rattle.lft_whole.specs.declared.sources.stop.Stop.{Stop}
+use Rattle.lft_whole_parser.specs.declared.imports.{asked.{Asked.Asked, Wanted.Wanted}, reading.Text.Text, sources.Sources.Sources}
+use Rattle.lft_whole_parser.specs.Imports.{Paths.meaning, Reads.{HasNoTree, HasTree}}
 use Rattle.lft_whole.specs.declared.sources.stop.Stop.TheVariants as stop
-use Rattle.lft_whole.specs.declared.sources.why.Why.{Why}
-use Rattle.lft_whole.specs.declared.sources.why.Why.TheVariants.{NotRead}
-use Rattle.lft_whole_parser.specs.declared.imports.asked.Asked.{Asked}
-use Rattle.lft_whole_parser.specs.declared.imports.asked.Wanted.{Wanted}
-use Rattle.lft_whole_parser.specs.declared.imports.reading.Text.{Text}
-use Rattle.lft_whole_parser.specs.declared.imports.sources.Sources.{Sources}
-use Rattle.lft_whole_parser.specs.Imports.Paths.{meaning}
-use Rattle.lft_whole_parser.specs.Imports.Reads.{HasNoTree, HasTree}
 
 -- The paths that are asked for, by number.
 abbrev pub paths_of : Asked → List (List ℕ)

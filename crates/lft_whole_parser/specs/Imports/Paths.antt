@@ -1,7 +1,6 @@
 -- The paths of files, in their normal form.
 use Rattle.std.specs.Prelude.{ℕ, ◌-◌, Bool, true, false, not, ◌==◌, ◌||◌, if◌then◌else◌, List, [], ◌∷◌, ◌++◌, Option, Some, None, length, slice_get, take, flat_map, codes}
-use Rattle.std.specs.List.{fold, slice_split}
-use Rattle.std.specs.Str.{bytes_eq}
+use Rattle.std.specs.{List.{fold, slice_split}, Str.bytes_eq}
 use Rattle.lft_lists.specs.Bytes.{is_byte}
 
 -- The path begins at the root: with a slash.

@@ -1,21 +1,12 @@
 -- What is read of a text: its tree, or why it has none.
 use Rattle.std.specs.Prelude.{◌≡◌, ℕ, List, Option, Some, None, IfErr, IsSomeAnd, Result, Ok, Err, slice_get}
-use Rattle.lft_whole.specs.Pieces.{tokens_of}
-use Rattle.lft_whole.specs.Places.{IsAmong}
-use Rattle.lft_whole.specs.declared.fault.TextFault.TheVariants.{BadText}
-use Rattle.lft_whole.specs.declared.fault.TreeFault.{TreeFault}
+use Rattle.lft_whole.specs.{Pieces.tokens_of, Places.IsAmong}
+use Rattle.lft_whole.specs.declared.{fault.{TextFault.TheVariants.BadText, TreeFault.TreeFault}, token.Token.Token, tree.File.File}
+use Rattle.lft_whole.specs.declared.sources.{source.Spot.Spot, why.Why.Why}
+use Rattle.lft_whole.specs.Parts.{Tree.FileTree, View.file_view}
+use Rattle.lft_whole_parser.specs.{Files.reads, declared.imports.reading.{Refused.Refused, Text.Text}, Imports.Places.{AreSpots, IsSpot}}
 use Rattle.lft_whole.specs.declared.fault.TreeFault.TheVariants as faults
-use Rattle.lft_whole.specs.declared.token.Token.{Token}
-use Rattle.lft_whole.specs.declared.tree.File.{File}
-use Rattle.lft_whole.specs.Parts.Tree.{FileTree}
-use Rattle.lft_whole.specs.Parts.View.{file_view}
-use Rattle.lft_whole_parser.specs.Files.{reads}
-use Rattle.lft_whole.specs.declared.sources.source.Spot.{Spot}
-use Rattle.lft_whole.specs.declared.sources.why.Why.{Why}
 use Rattle.lft_whole.specs.declared.sources.why.Why.TheVariants as why
-use Rattle.lft_whole_parser.specs.declared.imports.reading.Refused.{Refused}
-use Rattle.lft_whole_parser.specs.declared.imports.reading.Text.{Text}
-use Rattle.lft_whole_parser.specs.Imports.Places.{AreSpots, IsSpot}
 
 -- The text is cut into tokens, which have these spots, and the grammar reads this from them: a tree, or a fault at one of them or at their end.
 pub record ReadsAs (t : List ℕ) (spots : List Spot) (read : Result FileTree TreeFault) : Type 0 where

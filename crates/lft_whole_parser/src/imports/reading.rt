@@ -1,8 +1,7 @@
 //! The tree of a text, and where its tokens stand.
 
 ghost use Rattle.std.specs.Prelude.{◌≡◌, ◌<◌, Err, Some, IfOk, length};
-ghost use Rattle.lft_whole.specs.Pieces.{tokens_of};
-ghost use Rattle.lft_whole.specs.declared.fault.TextFault.TheVariants.{BadText};
+ghost use Rattle.lft_whole.specs.{Pieces.tokens_of, declared.fault.TextFault.TheVariants.BadText};
 ghost use Rattle.lft_whole_parser.specs.Imports.Reads.{IsRead};
 
 use crate::imports::spots::{spot_of, spots};

@@ -1,11 +1,7 @@
 use Rattle.std.proofs.Common.{◌≡◌, ◌≤◌, ◌+◌, ◌⊎◌, ℕ, suc, inl, inr, Some, None, arith, sym, ◌∙◌}
-use Rattle.std.proofs.lemmas.Bool.{cases_eq}
-use Rattle.std.proofs.lemmas.Option.{MatchOption-at_none, MatchOption-at_some}
-use Rattle.lft_classes.specs.declared.chains.Base.{Base}
-use Rattle.lft_classes.specs.Chains.{base_of, bases_from}
-use Rattle.lft_classes.specs.Walks.{is_done}
-use Rattle.lft_classes.proofs.Listing.{base_more, no_base, one_done}
-use Rattle.lft_classes.proofs.Walking.{one_passed}
+use Rattle.std.proofs.lemmas.{Bool.cases_eq, Option.{MatchOption-at_none, MatchOption-at_some}}
+use Rattle.lft_classes.specs.{declared.chains.Base.Base, Chains.{base_of, bases_from}, Walks.is_done}
+use Rattle.lft_classes.proofs.{Listing.{base_more, no_base, one_done}, Walking.one_passed}
 use Rattle.lft_classes.proofs.chains.step.Goals as goal
 
 pub returns-in_default-2-clause-walk : goal.returns-in_default-2-clause-walk

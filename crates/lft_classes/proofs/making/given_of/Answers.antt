@@ -1,17 +1,10 @@
 use Rattle.std.proofs.Common.{◌≡◌, ◌+◌, ◌<◌, ℕ, List, Some, length, map, slice_get, string_bytes, refl, rules, sym, ap, ◌∙◌, arith}
-use Rattle.std.proofs.lemmas.List.{length_push}
 use Rattle.std.specs.Prelude.{unwrap_or}
-use Rattle.std.proofs.lemmas.List.Sorted.{IsNonDecreasingBy-from_sort_by_key}
-use Rattle.std.proofs.lemmas.Option.{slice_get_read, slice_get_within}
+use Rattle.std.proofs.lemmas.{List.{length_push, Sorted.IsNonDecreasingBy-from_sort_by_key}, Option.{slice_get_read, slice_get_within}}
 use Rattle.lft_lists.proofs.Places.{Some_same}
-use Rattle.lft_resolve.specs.Places.{place, place_in}
-use Rattle.lft_resolve.specs.Tests.{texts}
+use Rattle.lft_resolve.specs.{Places.{place, place_in}, Tests.texts}
 use Rattle.lft_whole.specs.declared.tree.Assignment.{Assignment}
-use Rattle.lft_classes.specs.declared.shapes.Given.{Given}
-use Rattle.lft_classes.specs.Shapes.{thing_named}
-use Rattle.lft_classes.proofs.Building.{below_one}
-use Rattle.lft_classes.proofs.Giving.{given_moved, noted_more}
-use Rattle.lft_classes.proofs.Naming.{once}
+use Rattle.lft_classes.{specs.{declared.shapes.Given.Given, Shapes.thing_named}, proofs.{Building.below_one, Giving.{given_moved, noted_more}, Naming.once}}
 use Rattle.lft_classes.proofs.making.given_of.Goals as goal
 
 pub loop-place-preserved : goal.loop-place-preserved

@@ -2,9 +2,7 @@ use Rattle.std.proofs.Common.{◌≡◌, ◌<◌, ℕ, Some, length, slice_get, 
 use Rattle.std.specs.Prelude.{unwrap_or}
 use Rattle.lft_resolve.specs.Places.{place_in}
 use Rattle.lft_whole.specs.declared.tree.Assignment.{Assignment}
-use Rattle.lft_classes.specs.declared.shapes.Given.{Given}
-use Rattle.lft_classes.specs.Built.{IsOf}
-use Rattle.lft_classes.specs.Shapes.{thing_named}
+use Rattle.lft_classes.specs.{declared.shapes.Given.Given, Built.IsOf, Shapes.thing_named}
 use Rattle.lft_classes.proofs.making.given_of.Given as goal
 
 abbrev pub invariant-loop-place : goal.invariant-loop-place

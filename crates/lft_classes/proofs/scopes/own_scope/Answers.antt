@@ -1,13 +1,8 @@
 use Rattle.std.proofs.Common.{◌≡◌, ◌+◌, ◌<◌, ◌++◌, ℕ, length, Some, map, take, option_map, string_bytes, slice_get, refl, sym, ap, subst, ◌∙◌, arith}
-use Rattle.std.proofs.lemmas.Grind.{common_steps}
-use Rattle.std.proofs.lemmas.List.{length-map}
-use Rattle.std.proofs.lemmas.Option.{slice_get_read, slice_get_within}
+use Rattle.std.proofs.lemmas.{Grind.common_steps, List.length-map, Option.{slice_get_read, slice_get_within}}
 use Rattle.lft_whole.specs.declared.tree.Reactor.{Reactor}
-use Rattle.lft_classes.specs.declared.scopes.Class.{Class}
-use Rattle.lft_classes.specs.Scopes.{AreNumbered, HasMeaning, IsOwnAt, placed}
-use Rattle.lft_classes.proofs.Building.{below_one, pushed}
-use Rattle.lft_classes.proofs.Meanings.{numbers_push, scope_has}
-use Rattle.lft_classes.proofs.Numbering.{counted, next_stands, own_item}
+use Rattle.lft_classes.specs.{declared.scopes.Class.Class, Scopes.{AreNumbered, HasMeaning, IsOwnAt, placed}}
+use Rattle.lft_classes.proofs.{Building.{below_one, pushed}, Meanings.{numbers_push, scope_has}, Numbering.{counted, next_stands, own_item}}
 use Rattle.lft_classes.proofs.scopes.own_scope.Goals as goal
 
 pub loop-place-preserved : goal.loop-place-preserved

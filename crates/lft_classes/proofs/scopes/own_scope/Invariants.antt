@@ -1,6 +1,5 @@
 use Rattle.std.proofs.Common.{◌≡◌, ◌+◌, ◌<◌, ◌++◌, ℕ, List, Some, length, map, option_map, slice_get, string_bytes, take}
-use Rattle.lft_whole.specs.declared.sources.source.SourceFile.{SourceFile}
-use Rattle.lft_whole.specs.declared.tree.Reactor.{Reactor}
+use Rattle.lft_whole.specs.declared.{sources.source.SourceFile.SourceFile, tree.Reactor.Reactor}
 use Rattle.lft_classes.specs.Scopes.{AreNumbered, EachMeans, HasMeaning, IsOwnAt, placed, reactors_before}
 use Rattle.lft_classes.proofs.scopes.own_scope.Given as goal
 

@@ -1,7 +1,5 @@
 use Rattle.std.proofs.Common.{◌≡◌, ◌<◌, ℕ, Some, slice_get}
-use Rattle.lft_classes.specs.declared.scopes.Class.{Class}
-use Rattle.lft_classes.specs.declared.scopes.Meaning.{Meaning}
-use Rattle.lft_classes.specs.Scopes.{in_scope}
+use Rattle.lft_classes.specs.{declared.scopes.{Class.Class, Meaning.Meaning}, Scopes.in_scope}
 use Rattle.lft_classes.proofs.scopes.refuse_twice.Given as goal
 
 abbrev pub invariant-loop-place : goal.invariant-loop-place

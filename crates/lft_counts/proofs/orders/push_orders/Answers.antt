@@ -1,6 +1,5 @@
 use Rattle.std.proofs.Common.{◌++◌, ◌∷◌, [], ap, sym, ◌∙◌, map, take, append_assoc}
-use Rattle.lft_counts.specs.Orders.{unmet}
-use Rattle.lft_counts.proofs.Laying.{map_next}
+use Rattle.lft_counts.{specs.Orders.unmet, proofs.Laying.map_next}
 use Rattle.lft_counts.proofs.orders.push_orders.Goals as goal
 
 pub loop-place-preserved : goal.loop-place-preserved

@@ -1,14 +1,9 @@
 use Rattle.std.proofs.Common.{◌≡◌, ◌-◌, ◌+◌, length, drop, take, ap, ◌∙◌, arith, Some, slice_get, length-drop, subst, flat_map}
-use Rattle.std.specs.List.{enumerate_from}
-use Rattle.std.proofs.lemmas.List.FromFn.{length-enumerate_from}
-use Rattle.lft_lists.proofs.Mapped.{enumerate_at}
-use Rattle.lft_lists.proofs.Places.{get_there}
+use Rattle.std.{specs.List.enumerate_from, proofs.lemmas.List.FromFn.length-enumerate_from}
+use Rattle.lft_lists.proofs.{Mapped.enumerate_at, Places.get_there}
 use Rattle.lft_ir.specs.declared.parts.Reaction.{Reaction}
 use Rattle.lft_counts.specs.Overlaps.{met_by}
-use Rattle.lft_coverage.specs.Facts.{has, pair_words}
-use Rattle.lft_coverage.specs.Taking.{TookMore}
-use Rattle.lft_coverage.proofs.Listed.{took_items, took_one, take_same}
-use Rattle.lft_coverage.proofs.Tests.{as_test}
+use Rattle.lft_coverage.{specs.{Facts.{has, pair_words}, Taking.TookMore}, proofs.{Listed.{took_items, took_one, take_same}, Tests.as_test}}
 use Rattle.lft_coverage.proofs.listing.put_met_from.Goals as goal
 
 pub loop-number-preserved : goal.loop-number-preserved

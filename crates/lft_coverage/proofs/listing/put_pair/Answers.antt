@@ -1,6 +1,5 @@
 use Rattle.std.proofs.Common.{sym, ap}
-use Rattle.lft_coverage.specs.Facts.{pair_words}
-use Rattle.lft_coverage.proofs.Taking.{took_both, took_nothing, took_so}
+use Rattle.lft_coverage.{specs.Facts.pair_words, proofs.Taking.{took_both, took_nothing, took_so}}
 use Rattle.lft_coverage.proofs.listing.put_pair.Goals as goal
 
 pub returns-then-met : goal.returns-then-met

@@ -1,8 +1,6 @@
 use Rattle.std.proofs.Common.{◌≤◌, length, arith}
 use Rattle.std.proofs.lemmas.List.{take_all}
-use Rattle.lft_coverage.specs.Facts.{worker_line}
-use Rattle.lft_coverage.proofs.Taking.{took_nothing}
-use Rattle.lft_coverage.proofs.Listed.{took_items, took_one}
+use Rattle.lft_coverage.{specs.Facts.worker_line, proofs.{Taking.took_nothing, Listed.{took_items, took_one}}}
 use Rattle.lft_coverage.proofs.listing.put_workers.Goals as goal
 
 pub loop-place-init : goal.loop-place-init

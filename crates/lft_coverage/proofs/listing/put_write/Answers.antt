@@ -1,8 +1,7 @@
 use Rattle.std.proofs.Common.{◌≡◌, ◌∙◌, ℕ, sym, ap, eq-eqb, true, false}
 use Rattle.std.specs.Prelude.{[], ◌++◌, List, codes, decimal, if◌then◌else◌, unwrap_or, option_map, slice_get, ◌==◌}
 use Rattle.std.proofs.lemmas.Bool.{ne_eqb}
-use Rattle.lft_coverage.specs.Facts.{is_origin}
-use Rattle.lft_coverage.proofs.Taking.{took_both, took_nothing, took_so}
+use Rattle.lft_coverage.{specs.Facts.is_origin, proofs.Taking.{took_both, took_nothing, took_so}}
 use Rattle.lft_coverage.proofs.listing.put_write.Goals as goal
 
 pub returns-then-port : goal.returns-then-port

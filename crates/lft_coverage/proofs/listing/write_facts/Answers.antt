@@ -1,8 +1,7 @@
 use Rattle.std.proofs.Common.{List, ℕ, ap, flat_map}
 use Rattle.std.specs.List.{enumerate_from}
 use Rattle.lft_counts.specs.declared.orders.Order.{Order}
-use Rattle.lft_coverage.specs.Facts.{order_line, run_line, width_line, worker_line, write_line}
-use Rattle.lft_coverage.proofs.Taking.{took_both, took_kept, took_since, took_so}
+use Rattle.lft_coverage.{specs.Facts.{order_line, run_line, width_line, worker_line, write_line}, proofs.Taking.{took_both, took_kept, took_since, took_so}}
 use Rattle.lft_coverage.proofs.listing.write_facts.Goals as goal
 
 pub returns : goal.returns

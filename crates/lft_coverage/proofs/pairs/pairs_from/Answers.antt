@@ -1,8 +1,7 @@
 use Rattle.std.proofs.Common.{◌≡◌, ◌+◌, true, false, length, min, refl, subst, arith}
 use Rattle.lft_counts.specs.Counts.{Count, more, same}
-use Rattle.lft_coverage.specs.Pairs.{IsCountedWith}
+use Rattle.lft_coverage.{specs.Pairs.IsCountedWith, proofs.pairs.pairs_from.Goals.{then-is_counted, else-is_counted}}
 use Rattle.lft_coverage.proofs.pairs.pairs_from.Goals as goal
-use Rattle.lft_coverage.proofs.pairs.pairs_from.Goals.{then-is_counted, else-is_counted}
 
 pub loop-other-init : goal.loop-other-init
 loop-other-init c = record {

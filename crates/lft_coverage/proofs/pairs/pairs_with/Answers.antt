@@ -1,11 +1,7 @@
 use Rattle.std.proofs.Common.{◌≡◌, ◌+◌, ◌-◌, ◌*◌, length, min, refl, sym, subst, arith}
-use Rattle.lft_counts.specs.Counts.{Count, none}
-use Rattle.lft_counts.proofs.Numbers.{count_within}
-use Rattle.lft_coverage.specs.Pairs.{IsCountedWith}
-use Rattle.lft_coverage.proofs.Once.{none_from}
-use Rattle.lft_coverage.proofs.Tests.{has_room}
+use Rattle.lft_counts.{specs.Counts.{Count, none}, proofs.Numbers.count_within}
+use Rattle.lft_coverage.{specs.Pairs.IsCountedWith, proofs.{Once.none_from, Tests.has_room, pairs.pairs_with.Goals.{then-not-has_none, else-not-has_none}}}
 use Rattle.lft_coverage.proofs.pairs.pairs_with.Goals as goal
-use Rattle.lft_coverage.proofs.pairs.pairs_with.Goals.{then-not-has_none, else-not-has_none}
 
 pub loop-word-init : goal.loop-word-init
 loop-word-init c = subst (λ k. Count (λ a. IsCountedWith c.args.overlaps.now a c.args.reaction) k 0) (let e : 0 ≡ min (length c.args.program.now.reactions) (0 * 64) = omega arith in e) none

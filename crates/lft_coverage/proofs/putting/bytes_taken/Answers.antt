@@ -1,10 +1,7 @@
 use Rattle.std.proofs.Common.{◌≡◌, ◌+◌, ◌-◌, ◌≤◌, length, arith, take, drop, sym, subst}
-use Rattle.std.proofs.lemmas.List.{length-drop}
-use Rattle.std.specs.Io.KnownBytes.{Appends}
-use Rattle.std.proofs.KnownBytes.{Appends-kept}
-use Rattle.lft_coverage.proofs.Taking.{rest_from, took_rest}
+use Rattle.std.{proofs.{lemmas.List.length-drop, KnownBytes.Appends-kept}, specs.Io.KnownBytes.Appends}
+use Rattle.lft_coverage.proofs.{Taking.{rest_from, took_rest}, putting.bytes_taken.Goals.{in-Ok, in-Err+else-ne}}
 use Rattle.lft_coverage.proofs.putting.bytes_taken.Goals as goal
-use Rattle.lft_coverage.proofs.putting.bytes_taken.Goals.{in-Ok, in-Err+else-ne}
 
 pub loop-preserved : goal.loop-preserved
 loop-preserved g c =

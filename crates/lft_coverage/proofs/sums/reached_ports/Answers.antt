@@ -1,9 +1,7 @@
 use Rattle.std.proofs.Common.{◌≡◌, ◌+◌, true, false, refl, sym, subst, arith}
-use Rattle.lft_counts.specs.Counts.{Count, none, more, same}
-use Rattle.lft_counts.proofs.Numbers.{count_within}
-use Rattle.lft_coverage.specs.Sums.{IsReached}
+use Rattle.lft_counts.{specs.Counts.{Count, none, more, same}, proofs.Numbers.count_within}
+use Rattle.lft_coverage.{specs.Sums.IsReached, proofs.sums.reached_ports.Goals.{then-is_reached, else-is_reached}}
 use Rattle.lft_coverage.proofs.sums.reached_ports.Goals as goal
-use Rattle.lft_coverage.proofs.sums.reached_ports.Goals.{then-is_reached, else-is_reached}
 
 pub loop-number-init : goal.loop-number-init
 loop-number-init c = none

@@ -1,7 +1,6 @@
 use Rattle.std.proofs.Common.{arith, inl, inr}
 use Rattle.std.proofs.lemmas.Result.{IfErr-weaker}
-use Rattle.lft_driver.specs.Refusals.JudgingRefusal.{by_check}
-use Rattle.lft_driver.specs.Refusals.JudgeRefusalUnder.{by_judging, by_trace}
+use Rattle.lft_driver.specs.Refusals.{JudgingRefusal.by_check, JudgeRefusalUnder.{by_judging, by_trace}}
 use Rattle.lft_driver.proofs.alone.judge_plan_alone.Goals as goal
 
 pub tell-requires : goal.tell-requires

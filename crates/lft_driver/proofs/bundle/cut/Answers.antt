@@ -1,7 +1,6 @@
 use Rattle.std.proofs.Common.{◌+◌, length, sym, subst, take, refl}
-use Rattle.lft_driver.specs.Bundles.{IsCut}
+use Rattle.lft_driver.{specs.Bundles.IsCut, proofs.Texts.cut_at}
 use Rattle.lft_load.proofs.Texts.{rest_from}
-use Rattle.lft_driver.proofs.Texts.{cut_at}
 use Rattle.lft_driver.proofs.bundle.cut.Goals as goal
 
 pub returns-then-is_marker_line-clause-some : goal.returns-then-is_marker_line-clause-some

@@ -1,7 +1,5 @@
-use Rattle.std.proofs.lemmas.Result.{IfErr-weaker}
-use Rattle.lft_driver.specs.Explained.ExplainRefusalUnder.{by_explaining, by_trace}
-use Rattle.std.proofs.KnownBytes.{Keeps-refl}
-use Rattle.lft_driver.proofs.Explaining.{explaining_kept, explaining_untold}
+use Rattle.std.proofs.{lemmas.Result.IfErr-weaker, KnownBytes.Keeps-refl}
+use Rattle.lft_driver.{specs.Explained.ExplainRefusalUnder.{by_explaining, by_trace}, proofs.Explaining.{explaining_kept, explaining_untold}}
 use Rattle.lft_driver.proofs.explain.explain_plan.Goals as goal
 
 pub returns-in-Ok-clause-refused : goal.returns-in-Ok-clause-refused

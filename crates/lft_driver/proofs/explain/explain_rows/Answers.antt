@@ -1,10 +1,8 @@
 use Rattle.std.proofs.Common.{inl, sym, subst}
 use Rattle.lft_ir.specs.Parts.{Parts}
-use Rattle.lft_driver.specs.Lines.{HasReaction}
-use Rattle.lft_driver.specs.Explained.ExplainingRefusal.{by_check}
+use Rattle.lft_driver.specs.{Lines.HasReaction, Explained.ExplainingRefusal.by_check}
+use Rattle.lft_driver.proofs.{Judging.has_reaction, Explaining.{line_refused, all_written, rest_refused}}
 use Rattle.std.proofs.KnownBytes.{Keeps-refl}
-use Rattle.lft_driver.proofs.Judging.{has_reaction}
-use Rattle.lft_driver.proofs.Explaining.{line_refused, all_written, rest_refused}
 use Rattle.lft_driver.proofs.explain.explain_rows.Goals as goal
 
 pub report-requires : goal.report-requires

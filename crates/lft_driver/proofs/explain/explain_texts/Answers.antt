@@ -1,6 +1,5 @@
 use Rattle.std.proofs.Common.{inl, inr}
-use Rattle.std.proofs.lemmas.Result.{IfErr-weaker, IfOk-weaker}
-use Rattle.std.proofs.KnownBytes.{Keeps-refl}
+use Rattle.std.proofs.{lemmas.Result.{IfErr-weaker, IfOk-weaker}, KnownBytes.Keeps-refl}
 use Rattle.lft_driver.proofs.Judging.{rows_of_plan}
 use Rattle.lft_driver.proofs.explain.explain_texts.Goals as goal
 

@@ -1,6 +1,5 @@
 use Rattle.std.proofs.Common.{sym, subst}
-use Rattle.lft_driver.specs.Explained.{AreReasons}
-use Rattle.lft_driver.proofs.Behind.{text_written, text_refused, no_text}
+use Rattle.lft_driver.{specs.Explained.AreReasons, proofs.Behind.{text_written, text_refused, no_text}}
 use Rattle.lft_driver.proofs.explain.write_reasons.Goals as goal
 
 pub returns-in-Ok-clause-written : goal.returns-in-Ok-clause-written

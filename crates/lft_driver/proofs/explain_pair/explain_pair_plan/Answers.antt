@@ -1,7 +1,5 @@
-use Rattle.std.proofs.lemmas.Result.{IfErr-weaker}
-use Rattle.lft_driver.specs.PairExplained.PairExplainRefusalUnder.{by_explaining, by_traces}
-use Rattle.std.proofs.KnownBytes.{Keeps-refl}
-use Rattle.lft_driver.proofs.PairExplaining.{explaining_untold, pair_kept}
+use Rattle.std.proofs.{lemmas.Result.IfErr-weaker, KnownBytes.Keeps-refl}
+use Rattle.lft_driver.{specs.PairExplained.PairExplainRefusalUnder.{by_explaining, by_traces}, proofs.PairExplaining.{explaining_untold, pair_kept}}
 use Rattle.lft_driver.proofs.explain_pair.explain_pair_plan.Goals as goal
 
 pub returns-in-Ok-clause-refused : goal.returns-in-Ok-clause-refused

@@ -1,6 +1,5 @@
 use Rattle.std.proofs.Common.{inl, inr}
-use Rattle.std.proofs.lemmas.Result.{IfErr-weaker, IfOk-weaker}
-use Rattle.std.proofs.KnownBytes.{Keeps-refl}
+use Rattle.std.proofs.{lemmas.Result.{IfErr-weaker, IfOk-weaker}, KnownBytes.Keeps-refl}
 use Rattle.lft_driver.proofs.Pairing.{none_of_both}
 use Rattle.lft_driver.proofs.explain_pair.explain_pair_texts.Goals as goal
 

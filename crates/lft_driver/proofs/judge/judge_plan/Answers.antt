@@ -1,7 +1,6 @@
 use Rattle.std.proofs.Common.{inl, inr}
 use Rattle.std.proofs.lemmas.Result.{IfErr-weaker}
-use Rattle.lft_driver.specs.Refusals.JudgingRefusal.{by_check}
-use Rattle.lft_driver.specs.Refusals.JudgeRefusalUnder.{by_judging, by_trace}
+use Rattle.lft_driver.specs.Refusals.{JudgingRefusal.by_check, JudgeRefusalUnder.{by_judging, by_trace}}
 use Rattle.lft_driver.proofs.judge.judge_plan.Goals as goal
 
 pub tell-requires : goal.tell-requires

@@ -1,14 +1,10 @@
 use Rattle.std.proofs.Common.{inl, inr, sym, subst}
 use Rattle.std.specs.Io.KnownBytes.{Appends}
 use Rattle.lft_ir.specs.Parts.{Parts}
-use Rattle.lft_trace.specs.Records.{records_of}
-use Rattle.lft_trace.proofs.TraceFacts.{one_table, table_fits}
+use Rattle.lft_trace.{specs.Records.records_of, proofs.TraceFacts.{one_table, table_fits}}
 use Rattle.lft_load.specs.Written.{AppendsFront}
-use Rattle.lft_driver.specs.Lines.{HasReaction, line_of}
-use Rattle.lft_driver.specs.Meaning.{HasTable}
-use Rattle.lft_driver.specs.Refusals.CheckRefusal.{by_growth}
-use Rattle.lft_driver.specs.Refusals.JudgingRefusal.{by_check, by_writer}
-use Rattle.lft_driver.specs.Refusals.JudgeRefusalUnder.{by_judging}
+use Rattle.lft_driver.specs.{Lines.{HasReaction, line_of}, Meaning.HasTable}
+use Rattle.lft_driver.specs.Refusals.{CheckRefusal.by_growth, JudgingRefusal.{by_check, by_writer}, JudgeRefusalUnder.by_judging}
 use Rattle.lft_driver.proofs.Judging.{accepted_runs, growth_untold, has_reaction, write_untold}
 use Rattle.lft_driver.proofs.judge.tell.Goals as goal
 

@@ -1,6 +1,5 @@
 use Rattle.std.proofs.Common.{subst}
-use Rattle.lft_pair.specs.declared.comparison.Pair.{Pair}
-use Rattle.lft_pair.specs.Pairs.{IsComparison}
+use Rattle.lft_pair.specs.{declared.comparison.Pair.Pair, Pairs.IsComparison}
 use Rattle.lft_driver.proofs.pair.compare.Goals as goal
 
 pub returns-in-Same-clause-right : goal.returns-in-Same-clause-right

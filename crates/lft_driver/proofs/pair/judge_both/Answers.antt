@@ -1,6 +1,5 @@
 use Rattle.std.proofs.Common.{subst}
-use Rattle.lft_check.specs.declared.verdict.Verdict.{Verdict}
-use Rattle.lft_check.specs.Verdicts.{IsVerdict}
+use Rattle.lft_check.specs.{declared.verdict.Verdict.Verdict, Verdicts.IsVerdict}
 use Rattle.lft_driver.specs.Judged.{AcceptedRuns}
 use Rattle.lft_driver.proofs.pair.judge_both.Goals as goal
 

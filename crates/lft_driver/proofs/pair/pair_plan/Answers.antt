@@ -1,6 +1,5 @@
 use Rattle.std.proofs.lemmas.Result.{IfErr-weaker}
-use Rattle.lft_driver.specs.PairRefusals.PairRefusalUnder.{by_pairing, by_traces}
-use Rattle.lft_driver.proofs.Pairing.{pairing_untold}
+use Rattle.lft_driver.{specs.PairRefusals.PairRefusalUnder.{by_pairing, by_traces}, proofs.Pairing.pairing_untold}
 use Rattle.lft_driver.proofs.pair.pair_plan.Goals as goal
 
 pub returns-in-Ok-clause-refused : goal.returns-in-Ok-clause-refused

@@ -1,7 +1,6 @@
 use Rattle.std.proofs.Common.{[], ◌++◌, OnOk, Result, Ok, Err, get_or, string_bytes, sym, ap, ◌∙◌}
 use Rattle.std.proofs.lemmas.Option.{get_or_from_slice_get}
-use Rattle.lft_driver.specs.Shown.{reaction_words}
-use Rattle.lft_driver.proofs.Listed.{before_within}
+use Rattle.lft_driver.{specs.Shown.reaction_words, proofs.Listed.before_within}
 use Rattle.lft_driver.proofs.show.push_line.Goals as goal
 
 then : {X E : Type 0} (r : Result X E) (P Q : Type 0) → (P → Q) → OnOk r P → OnOk r Q

@@ -1,7 +1,6 @@
 use Rattle.std.proofs.Common.{string_bytes, arith, sym}
 use Rattle.std.proofs.lemmas.List.{append-nil}
-use Rattle.lft_driver.specs.Shown.{reaction_line}
-use Rattle.lft_driver.proofs.Listed.{placed_all, placed_more}
+use Rattle.lft_driver.{specs.Shown.reaction_line, proofs.Listed.{placed_all, placed_more}}
 use Rattle.lft_driver.proofs.show.push_reactions.Goals as goal
 
 pub loop-number-init : goal.loop-number-init

@@ -1,13 +1,9 @@
 use Rattle.std.proofs.Common.{◌≡◌, ℕ, Bool, OnErr, IfErr, Result, Ok, Err, Option, List, subst, ◌∙◌}
 use Rattle.lft_ir.specs.Parts.{Parts}
 use Rattle.lft_graph.specs.Graph.{GraphParts, IsGraphOf}
-use Rattle.lft_load.specs.declared.fault.Fault.{Fault}
+use Rattle.lft_load.{specs.{declared.fault.Fault.Fault, Written.AppendsFront}, proofs.Loading.graph_none}
+use Rattle.lft_driver.specs.{Refusals.{ShowProgramRefusal, ShowProgramRefusal.{by_graph, by_writer}}, Shown.lines_of}
 use Rattle.lft_load.specs.declared.fault.Part.TheVariants as part
-use Rattle.lft_load.specs.Written.{AppendsFront}
-use Rattle.lft_load.proofs.Loading.{graph_none}
-use Rattle.lft_driver.specs.Refusals.{ShowProgramRefusal}
-use Rattle.lft_driver.specs.Refusals.ShowProgramRefusal.{by_graph, by_writer}
-use Rattle.lft_driver.specs.Shown.{lines_of}
 use Rattle.lft_driver.proofs.show.show_program.Goals as goal
 
 -- a writer that failed on the lines

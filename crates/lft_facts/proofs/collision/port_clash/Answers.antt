@@ -1,13 +1,8 @@
 use Rattle.std.proofs.Common.{◌≡◌, Some, slice_get, subst, sym, ◌∙◌, refl, Option}
-use Rattle.lft_tag.specs.declared.Tag.{Tag}
-use Rattle.lft_tag.specs.Shifts.{Folded}
-use Rattle.lft_ir.specs.Parts.{Parts}
-use Rattle.lft_rows.specs.declared.presence.causes.Cause.{Cause as Event}
-use Rattle.lft_rows.specs.Presence.Causes.{tag_of, IsLastCause}
-use Rattle.lft_rows.proofs.PresenceLemmas.Presences.{chain_of}
-use Rattle.lft_rows.proofs.PresenceLemmas.Lists.{not_true}
-use Rattle.lft_rows.specs.Presence.Lookups.{IsFirstCause}
-use Rattle.lft_ir.specs.declared.parts.Name.TheVariants.{Port}
+use Rattle.lft_tag.specs.{declared.Tag.Tag, Shifts.Folded}
+use Rattle.lft_ir.specs.{Parts.Parts, declared.parts.Name.TheVariants.Port}
+use Rattle.lft_rows.specs.{declared.presence.causes.Cause.Cause as Event, Presence.{Causes.{tag_of, IsLastCause}, Lookups.IsFirstCause}}
+use Rattle.lft_rows.proofs.PresenceLemmas.{Presences.chain_of, Lists.not_true}
 use Rattle.lft_facts.proofs.Causes.{last_written}
 use Rattle.lft_facts.proofs.Clashes.{two_written, written_apart, no_last_clash, no_first_clash, one_tag_clash, other_written, other_place}
 use Rattle.lft_facts.proofs.collision.port_clash.Goals as goal

@@ -1,8 +1,7 @@
 use Rattle.std.proofs.Common.{◌≡◌, length, refl, ap, arith, below_more}
 use Rattle.std.proofs.lemmas.Bool.{false≢true}
 use Rattle.lft_ir.specs.Parts.{Parts}
-use Rattle.lft_model.specs.Presence.{PortClash}
-use Rattle.lft_model.proofs.Clashing.{no_collision_found}
+use Rattle.lft_model.{specs.Presence.PortClash, proofs.Clashing.no_collision_found}
 use Rattle.lft_facts.proofs.collision.two_causes.Goals as goal
 
 pub loop-port-preserved : goal.loop-port-preserved

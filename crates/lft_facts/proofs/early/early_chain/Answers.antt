@@ -1,13 +1,8 @@
 use Rattle.std.proofs.Common.{◌≡◌, ◌++◌, ◌∷◌, [], sym, ap, ◌∙◌, subst}
-use Rattle.lft_facts.specs.Ways.{IsMarked, AreSteps, AreWays}
-use Rattle.lft_facts.specs.declared.facts.Fact.TheVariants as fact
-use Rattle.lft_facts.specs.declared.facts.Fact.{Fact}
 use Rattle.std.proofs.Common.{List}
-use Rattle.lft_facts.specs.Facts.{AreFacts, IsChosen}
-use Rattle.lft_facts.specs.Enough.{GivesChain, AreOwn}
-use Rattle.lft_facts.proofs.Giving.{late_gives, late_there, late_holds, late_own}
-use Rattle.lft_facts.proofs.Choosing.{chosen, ends_behind_start}
-use Rattle.lft_facts.proofs.Upstream.{all_marked, step_leads}
+use Rattle.lft_facts.specs.{Ways.{IsMarked, AreSteps, AreWays}, declared.facts.Fact.Fact, Facts.{AreFacts, IsChosen}, Enough.{GivesChain, AreOwn}}
+use Rattle.lft_facts.proofs.{Giving.{late_gives, late_there, late_holds, late_own}, Choosing.{chosen, ends_behind_start}, Upstream.{all_marked, step_leads}}
+use Rattle.lft_facts.specs.declared.facts.Fact.TheVariants as fact
 use Rattle.lft_facts.proofs.early.early_chain.Goals as goal
 
 pub late_end-earlier-requires-clause-some : goal.late_end-earlier-requires-clause-some

@@ -1,10 +1,9 @@
 use Rattle.std.proofs.Common.{◌≡◌, Bool, false, true, sym, ◌∙◌, subst, arith, Contains}
-use Rattle.lft_ir.specs.declared.parts.Name.{Name}
-use Rattle.lft_ir.specs.declared.parts.Name.TheVariants.{Port}
+use Rattle.lft_ir.specs.declared.parts.Name.{Name, TheVariants.Port}
 use Rattle.lft_graph.proofs.Feeding.{no_delay, kept_origin}
 use Rattle.lft_facts.specs.Ways.{IsFed}
-use Rattle.lft_facts.proofs.feeding.fed_port.Goals as goal
 use Rattle.lft_facts.proofs.feeding.fed_port.Goals.{else-port-eq0-via-then-port-eq0+then-port-eq0-2+else-has_port, else-port-eq0-via-then-port-eq0+else-port-eq0-2, else-port-eq0-via-else-port-eq0}
+use Rattle.lft_facts.proofs.feeding.fed_port.Goals as goal
 
 pub returns-then-has_port-clause-some : goal.returns-then-has_port-clause-some
 returns-then-has_port-clause-some c =

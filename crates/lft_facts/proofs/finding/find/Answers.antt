@@ -1,11 +1,8 @@
 use Rattle.std.proofs.Common.{List, sym, subst}
 use Rattle.lft_ir.specs.declared.steps.row.Row.{Row}
 use Rattle.lft_races.specs.Races.{FirstSoFar}
-use Rattle.lft_facts.specs.declared.facts.Fact.{Fact}
-use Rattle.lft_facts.specs.Facts.{AreFacts}
-use Rattle.lft_facts.specs.Enough.{Proves, AreOwn, TellsRace}
-use Rattle.lft_facts.proofs.Added.{adds_holds, adds_own}
-use Rattle.lft_facts.proofs.FirstRace.{adds_proves}
+use Rattle.lft_facts.specs.{declared.facts.Fact.Fact, Facts.AreFacts, Enough.{Proves, AreOwn, TellsRace}}
+use Rattle.lft_facts.proofs.{Added.{adds_holds, adds_own}, FirstRace.adds_proves}
 use Rattle.lft_facts.proofs.finding.find.Goals as goal
 
 pub of_breach-requires-clause-first : goal.of_breach-requires-clause-first

@@ -1,5 +1,4 @@
-use Rattle.lft_facts.proofs.Added.{adds_both}
-use Rattle.lft_facts.proofs.Firing.{near_before, near_after, not_now, timer_there}
+use Rattle.lft_facts.proofs.{Added.adds_both, Firing.{near_before, near_after, not_now, timer_there}}
 use Rattle.lft_facts.proofs.firings.add_firings.Goals as goal
 
 pub firing_before-requires : goal.firing_before-requires

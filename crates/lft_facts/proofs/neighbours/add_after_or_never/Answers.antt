@@ -1,7 +1,6 @@
+use Rattle.lft_facts.proofs.{Added.adds_one, Beside.never_runs}
 use Rattle.lft_facts.specs.declared.facts.Fact.TheVariants as fact
 use Rattle.lft_facts.specs.declared.facts.Reason.TheVariants as reason
-use Rattle.lft_facts.proofs.Added.{adds_one}
-use Rattle.lft_facts.proofs.Beside.{never_runs}
 use Rattle.lft_facts.proofs.neighbours.add_after_or_never.Goals as goal
 
 pub returns-in_ok-push-in-None : goal.returns-in_ok-push-in-None

@@ -1,7 +1,7 @@
 use Rattle.std.proofs.Common.{rules}
+use Rattle.lft_facts.proofs.Added.{adds_one, adds_both}
 use Rattle.lft_facts.specs.declared.facts.Fact.TheVariants as fact
 use Rattle.lft_facts.specs.declared.facts.Reason.TheVariants as reason
-use Rattle.lft_facts.proofs.Added.{adds_one, adds_both}
 use Rattle.lft_facts.proofs.neighbours.add_runs.Goals as goal
 
 pub returns-in_ok-add_after-in-Some : goal.returns-in_ok-add_after-in-Some

@@ -1,5 +1,4 @@
-use Rattle.lft_tag.specs.declared.Tag.{Tag}
-use Rattle.lft_tag.specs.Tags.{Before, UpTo}
+use Rattle.lft_tag.specs.{declared.Tag.Tag, Tags.{Before, UpTo}}
 use Rattle.lft_facts.specs.Neighbours.{IsNearestStart}
 use Rattle.lft_facts.proofs.neighbours.run_before.Given as goal
 

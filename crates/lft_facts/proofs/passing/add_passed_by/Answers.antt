@@ -1,9 +1,7 @@
 use Rattle.std.proofs.Common.{◌≡◌, ◌≤◌, List, Some, length, slice_get, subst, arith}
 use Rattle.std.proofs.lemmas.List.Elements.{All-contains}
 use Rattle.lft_lists.proofs.Places.{contains_at}
-use Rattle.lft_facts.specs.declared.facts.Fact.{Fact}
-use Rattle.lft_facts.specs.Facts.{IsFact}
-use Rattle.lft_facts.proofs.Added.{adds_none, adds_both, adds_holds}
+use Rattle.lft_facts.{specs.{declared.facts.Fact.Fact, Facts.IsFact}, proofs.Added.{adds_none, adds_both, adds_holds}}
 use Rattle.lft_facts.proofs.passing.add_passed_by.Goals as goal
 
 pub loop-place-init : goal.loop-place-init

@@ -1,8 +1,6 @@
 use Rattle.std.proofs.Common.{inl, inr, subst}
-use Rattle.lft_graph.specs.Precedence.{IsDeclaredFirst, Feeds}
-use Rattle.lft_graph.specs.Precedence.Precedes.{one}
-use Rattle.lft_facts.specs.declared.facts.Fact.{Fact}
-use Rattle.lft_facts.specs.Facts.{IsFact, FeedsBy}
+use Rattle.lft_graph.specs.Precedence.{IsDeclaredFirst, Feeds, Precedes.one}
+use Rattle.lft_facts.specs.{declared.facts.Fact.Fact, Facts.{IsFact, FeedsBy}}
 use Rattle.lft_facts.proofs.passing.ends_of.Goals as goal
 
 pub returns-in-DeclaredFirst : goal.returns-in-DeclaredFirst

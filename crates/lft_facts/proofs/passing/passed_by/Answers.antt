@@ -1,6 +1,5 @@
 use Rattle.std.proofs.Common.{false, true, sym, ◌∙◌}
-use Rattle.std.proofs.lemmas.Bool.{false≢true}
-use Rattle.std.proofs.lemmas.Option.{get_or_from_slice_get}
+use Rattle.std.proofs.lemmas.{Bool.false≢true, Option.get_or_from_slice_get}
 use Rattle.lft_facts.proofs.passing.passed_by.Goals as goal
 
 pub returns-then-not-ran-reaction-clause-holds : goal.returns-then-not-ran-reaction-clause-holds

@@ -1,8 +1,6 @@
 use Rattle.std.proofs.Common.{◌++◌, List, Option, Some, ℕ, take, ap, ◌∙◌, subst}
-use Rattle.lft_races.specs.Races.{IsFirstRace, IsRace, IsRaceBefore}
-use Rattle.lft_races.proofs.Standing.{stand_same}
-use Rattle.lft_facts.specs.declared.facts.Fact.{Fact}
-use Rattle.lft_facts.proofs.FirstRace.{ends_behind}
+use Rattle.lft_races.{specs.Races.{IsFirstRace, IsRace, IsRaceBefore}, proofs.Standing.stand_same}
+use Rattle.lft_facts.{specs.declared.facts.Fact.Fact, proofs.FirstRace.ends_behind}
 use Rattle.lft_facts.proofs.race.add_race.Goals as goal
 
 pub race_facts-requires-clause-race : goal.race_facts-requires-clause-race

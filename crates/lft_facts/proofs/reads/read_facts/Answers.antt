@@ -1,7 +1,7 @@
 use Rattle.std.proofs.Common.{◌≡◌, ◌++◌, ◌∷◌, [], Some, slice_get, ap, ◌∙◌, subst, arith}
 use Rattle.lft_ir.specs.Parts.{Parts}
-use Rattle.lft_facts.specs.declared.facts.Fact.TheVariants as fact
 use Rattle.lft_facts.proofs.WrongReads.{told_begin, told_more, told_gives, read_long, present_long}
+use Rattle.lft_facts.specs.declared.facts.Fact.TheVariants as fact
 use Rattle.lft_facts.proofs.reads.read_facts.Goals as goal
 
 pub loop-place-init : goal.loop-place-init

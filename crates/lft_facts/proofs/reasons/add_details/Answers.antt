@@ -1,8 +1,6 @@
 use Rattle.std.proofs.Common.{subst}
 use Rattle.std.proofs.lemmas.Result.{on_ok_weaker}
-use Rattle.lft_facts.specs.declared.facts.Fact.{Fact}
-use Rattle.lft_facts.specs.Facts.{IsFact, IsUntriggered}
-use Rattle.lft_facts.proofs.Added.{trigger_known}
+use Rattle.lft_facts.{specs.{declared.facts.Fact.Fact, Facts.{IsFact, IsUntriggered}}, proofs.Added.trigger_known}
 use Rattle.lft_facts.proofs.reasons.add_details.Goals as goal
 
 pub add_absent-requires-clause-trigger : goal.add_absent-requires-clause-trigger

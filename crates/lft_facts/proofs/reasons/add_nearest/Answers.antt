@@ -2,10 +2,9 @@ use Rattle.std.proofs.Common.{Option, IfSome, subst}
 use Rattle.std.proofs.lemmas.Result.{on_ok_weaker}
 use Rattle.lft_tag.specs.declared.Tag.{Tag}
 use Rattle.lft_ir.specs.declared.parts.Trigger.TheVariants.{On}
+use Rattle.lft_facts.{specs.Reasons.IsNearest, proofs.Added.{adds_one, adds_both}}
 use Rattle.lft_facts.specs.declared.facts.Fact.TheVariants as fact
 use Rattle.lft_facts.specs.declared.facts.Reason.TheVariants as reason
-use Rattle.lft_facts.specs.Reasons.{IsNearest}
-use Rattle.lft_facts.proofs.Added.{adds_one, adds_both}
 use Rattle.lft_facts.proofs.reasons.add_nearest.Goals as goal
 
 pub returns-in_ok-push-in-Some : goal.returns-in_ok-push-in-Some

@@ -1,13 +1,9 @@
 use Rattle.std.proofs.Common.{◌≡◌, ℕ, Option, subst}
 use Rattle.lft_tag.specs.declared.Tag.{Tag}
-use Rattle.lft_ir.specs.declared.parts.Name.{Name}
-use Rattle.lft_ir.specs.declared.parts.Value.{Value}
+use Rattle.lft_ir.specs.declared.parts.{Name.Name, Value.Value}
 use Rattle.lft_model.specs.declared.breach.Breach.{Breach}
+use Rattle.lft_facts.{specs.{Enough.{IsOwn, IsOf}, declared.facts.Fact.Fact, Facts.IsFact}, proofs.Added.{read_known, adds_both}}
 use Rattle.lft_facts.specs.declared.facts.Fact.TheVariants as fact
-use Rattle.lft_facts.specs.Enough.{IsOwn, IsOf}
-use Rattle.lft_facts.specs.declared.facts.Fact.{Fact}
-use Rattle.lft_facts.specs.Facts.{IsFact}
-use Rattle.lft_facts.proofs.Added.{read_known, adds_both}
 use Rattle.lft_facts.proofs.reasons.add_reasons.Goals as goal
 
 pub add_event-requires-clause-name : goal.add_event-requires-clause-name

@@ -1,10 +1,7 @@
 use Rattle.std.proofs.Common.{◌≡◌, ◌+◌, List, Some, slice_get, subst, arith}
 use Rattle.std.proofs.lemmas.List.Elements.{All-contains}
 use Rattle.lft_lists.proofs.Places.{contains_at}
-use Rattle.lft_facts.specs.declared.facts.Fact.{Fact}
-use Rattle.lft_facts.specs.Facts.{IsFact}
-use Rattle.lft_facts.specs.Enough.{IsOwn}
-use Rattle.lft_facts.proofs.Added.{extends_next, extends_more, extends_all, extends_further}
+use Rattle.lft_facts.{specs.{declared.facts.Fact.Fact, Facts.IsFact, Enough.IsOwn}, proofs.Added.{extends_next, extends_more, extends_all, extends_further}}
 use Rattle.lft_facts.proofs.reasons.with_reasons.Goals as goal
 
 pub loop-place-preserved : goal.loop-place-preserved

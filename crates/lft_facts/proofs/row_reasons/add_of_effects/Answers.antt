@@ -1,6 +1,5 @@
 use Rattle.std.proofs.Common.{sym}
-use Rattle.lft_facts.proofs.Added.{adds_both}
-use Rattle.lft_facts.proofs.Asking.{of_program, own_always, has_effects}
+use Rattle.lft_facts.proofs.{Added.adds_both, Asking.{of_program, own_always, has_effects}}
 use Rattle.lft_facts.proofs.row_reasons.add_of_effects.Goals as goal
 
 pub returns : goal.returns

@@ -1,5 +1,4 @@
-use Rattle.lft_facts.proofs.Added.{adds_both}
-use Rattle.lft_facts.proofs.Asking.{of_rows, own_of_row}
+use Rattle.lft_facts.proofs.{Added.adds_both, Asking.{of_rows, own_of_row}}
 use Rattle.lft_facts.proofs.row_reasons.add_of_end.Goals as goal
 
 pub returns : goal.returns

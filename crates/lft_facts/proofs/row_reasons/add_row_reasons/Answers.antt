@@ -1,7 +1,6 @@
 use Rattle.std.proofs.Common.{◌+◌, ap, ◌∙◌}
-use Rattle.lft_facts.specs.Enough.{row_of}
+use Rattle.lft_facts.{specs.Enough.row_of, proofs.Asking.{of_rows, own_of_row}}
 use Rattle.std.proofs.lemmas.Result.{on_ok_weaker}
-use Rattle.lft_facts.proofs.Asking.{of_rows, own_of_row}
 use Rattle.lft_facts.proofs.row_reasons.add_row_reasons.Goals as goal
 
 pub returns-in-AfterStop : goal.returns-in-AfterStop

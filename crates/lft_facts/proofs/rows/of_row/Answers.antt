@@ -1,10 +1,9 @@
 use Rattle.std.proofs.Common.{◌≡◌, ◌+◌, ◌-◌, ◌++◌, ◌∷◌, [], refl, ap, ◌∙◌, arith}
-use Rattle.lft_facts.specs.declared.facts.Fact.TheVariants as fact
 use Rattle.lft_facts.specs.Enough.{Adds}
-use Rattle.lft_facts.proofs.RowGiving.{row_proves, row_holds, row_own, own_breaks, own_tag, own_reaction}
-use Rattle.lft_facts.proofs.Added.{adds_row, adds_holds, adds_own}
-use Rattle.lft_facts.proofs.rows.of_row.Goals as goal
+use Rattle.lft_facts.proofs.{RowGiving.{row_proves, row_holds, row_own, own_breaks, own_tag, own_reaction}, Added.{adds_row, adds_holds, adds_own}}
 use Rattle.lft_facts.proofs.rows.of_row.Goals.{In_ok-add_row_reasons}
+use Rattle.lft_facts.specs.declared.facts.Fact.TheVariants as fact
+use Rattle.lft_facts.proofs.rows.of_row.Goals as goal
 
 pub row_fact-fact-requires-clause-breaks : goal.row_fact-fact-requires-clause-breaks
 row_fact-fact-requires-clause-breaks c =

@@ -1,8 +1,6 @@
 use Rattle.std.proofs.Common.{◌+◌, Some, take, sym, ap, ◌∙◌, subst}
-use Rattle.lft_facts.specs.Ways.{IsMarking}
-use Rattle.lft_facts.proofs.Upstream.{marking_more, marking_same}
+use Rattle.lft_facts.{specs.Ways.IsMarking, proofs.{Upstream.{marking_more, marking_same}, ways.mark.Goals.{in-None, in-Some}}}
 use Rattle.lft_facts.proofs.ways.mark.Goals as goal
-use Rattle.lft_facts.proofs.ways.mark.Goals.{in-None, in-Some}
 
 pub loop-place-preserved : goal.loop-place-preserved
 loop-place-preserved c =

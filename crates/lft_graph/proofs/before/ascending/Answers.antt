@@ -1,13 +1,9 @@
 use Rattle.std.proofs.Common.{◌≡◌, ℕ, sym, subst, Contains, eqb, arith}
 use Rattle.std.proofs.lemmas.Cmp.{nat_cmp_total}
-use Rattle.std.proofs.lemmas.List.Filters.{dedup_is}
-use Rattle.std.proofs.lemmas.List.Kept.{IsStrictlySortedBy-dedup, Contains-dedup_nat, Contains-from_dedup, AllPairs-from_increasing}
+use Rattle.std.proofs.lemmas.List.{Filters.dedup_is, Kept.{IsStrictlySortedBy-dedup, Contains-dedup_nat, Contains-from_dedup, AllPairs-from_increasing}}
 use Rattle.std.proofs.lemmas.List.Sorted.{Contains-permutation, IsPermutation-sym}
-use Rattle.std.proofs.lemmas.Map.Keys.{IsStrictlyIncreasing-from_sorted}
-use Rattle.std.proofs.lemmas.Bool.Decides.{nat_tests}
-use Rattle.std.specs.List.{dedup}
-use Rattle.std.specs.List.Sorted.{IsStrictlyIncreasing}
-use Rattle.std.specs.Ordering.{nat_cmp, eq_by_cmp}
+use Rattle.std.proofs.lemmas.{Map.Keys.IsStrictlyIncreasing-from_sorted, Bool.Decides.nat_tests}
+use Rattle.std.specs.{List.{dedup, Sorted.IsStrictlyIncreasing}, Ordering.{nat_cmp, eq_by_cmp}}
 use Rattle.lft_graph.proofs.before.ascending.Goals as goal
 
 ties : (x y : ℕ) → eqb x y ≡ eq_by_cmp nat_cmp x y

@@ -1,11 +1,9 @@
 use Rattle.std.proofs.Common.{◌≡◌, subst, length, Some, slice_get, arith, List, Contains}
-use Rattle.lft_ir.specs.declared.parts.Name.{Name}
-use Rattle.lft_ir.specs.declared.parts.Trigger.{Trigger}
-use Rattle.lft_ir.specs.declared.parts.Trigger.TheVariants.{On}
+use Rattle.lft_ir.specs.declared.parts.{Name.Name, Trigger.{Trigger, TheVariants.On}}
 use Rattle.lft_graph.specs.Walks.{NotesBelow}
 use Rattle.lft_graph.proofs.Feeding.{Begins, begins_none, begins_one, is_before, is_covered}
-use Rattle.lft_graph.proofs.before.before_of.Goals as goal
 use Rattle.lft_graph.proofs.before.before_of.Goals.{then-reaction-gt0+in_ok-push, else-reaction-gt0}
+use Rattle.lft_graph.proofs.before.before_of.Goals as goal
 
 pub note_triggers-requires-clause-named : goal.note_triggers-requires-clause-named
 note_triggers-requires-clause-named c n m =

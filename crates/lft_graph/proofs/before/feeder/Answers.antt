@@ -3,8 +3,8 @@ use Rattle.std.proofs.lemmas.Option.{slice_get-get_or, get_or_from_slice_get}
 use Rattle.lft_ir.specs.Origins.{Origin}
 use Rattle.lft_graph.specs.Walks.{IsUndelayed}
 use Rattle.lft_graph.proofs.Feeding.{origin_there, no_delay, kept_origin, last_at, last_there}
-use Rattle.lft_graph.proofs.before.feeder.Goals as goal
 use Rattle.lft_graph.proofs.before.feeder.Goals.{else-port-eq0-via-then-port-eq0+else-port-eq0-2, else-port-eq0-via-else-port-eq0}
+use Rattle.lft_graph.proofs.before.feeder.Goals as goal
 
 pub bounds-writers-port : goal.bounds-writers-port
 bounds-writers-port c = let l = origin_there c.args.program.now c.port-port.ensures.sound c.in-Port.number c.port-port.result.now c.port-port.ensures.value in let s = c.requires.writers.as_long in omega arith

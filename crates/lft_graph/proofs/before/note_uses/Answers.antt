@@ -1,9 +1,8 @@
 use Rattle.std.proofs.Common.{◌≡◌, ℕ, ◌+◌, ◌∷◌, [], ◌++◌, subst, length, Some, slice_get, arith}
 use Rattle.lft_ir.specs.declared.parts.Name.{Name}
 use Rattle.lft_graph.specs.Walks.{NotesBelow, IsUndelayed}
-use Rattle.lft_graph.proofs.Feeding.{notes_feeder, notes_none}
+use Rattle.lft_graph.proofs.{Feeding.{notes_feeder, notes_none}, before.note_uses.Goals.{in-Some+in_ok-push, in_default}}
 use Rattle.lft_graph.proofs.before.note_uses.Goals as goal
-use Rattle.lft_graph.proofs.before.note_uses.Goals.{in-Some+in_ok-push, in_default}
 
 pub uses-preserved : goal.uses-preserved
 uses-preserved c = elim c.match-feeder.branch [ in-Some+in_ok-push w ↦ (rw w.found-is (rw w.in_ok-push.ensures.items (some w.in-Some.writer w.in-Some.is))) | in_default w ↦ (rw w.found-is (none w.in_default.not-Some)) ]

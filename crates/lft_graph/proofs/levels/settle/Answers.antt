@@ -1,13 +1,11 @@
 use Rattle.std.proofs.Common.{◌≡◌, ℕ, ◌+◌, ◌<◌, length, slice_get, Some, [], ◌∷◌, ◌++◌, slice_set, ap, ◌∙◌, subst, arith, length-append}
 use Rattle.std.proofs.lemmas.Option.{slice_get_within}
-use Rattle.lft_graph.specs.Loops.{IsLoopOf}
-use Rattle.lft_graph.specs.Walks.{IsStep, IsNext, IsCut, tally, new_weight}
-use Rattle.lft_graph.specs.declared.levels.LevelMark.TheVariants.{New, Open, Done}
-use Rattle.lft_graph.specs.declared.levels.LevelStep.TheVariants.{Looped, First}
+use Rattle.lft_graph.specs.{Loops.IsLoopOf, Walks.{IsStep, IsNext, IsCut, tally, new_weight}}
+use Rattle.lft_graph.specs.declared.levels.{LevelMark.TheVariants.{New, Open, Done}, LevelStep.TheVariants.{Looped, First}}
 use Rattle.lft_graph.proofs.Walking.{tally_written, tally_all}
 use Rattle.lft_graph.proofs.Settling.{Settling, settling_start, settling_level, settling_first, settling_looped, top_open, first_new}
-use Rattle.lft_graph.proofs.levels.settle.Goals as goal
 use Rattle.lft_graph.proofs.levels.settle.Goals.{In-Some, In-First}
+use Rattle.lft_graph.proofs.levels.settle.Goals as goal
 
 pub walk-init : goal.walk-init
 walk-init c =

@@ -1,6 +1,5 @@
 use Rattle.std.proofs.Common.{◌≡◌, ℕ, ◌<◌, ◌⊎◌, ◌∙◌, ap, sym, subst, length, Some, slice_get, arith, List, Option, ◌++◌, take, drop, Contains}
-use Rattle.lft_ir.specs.declared.parts.Name.TheVariants.{Port}
-use Rattle.lft_ir.specs.declared.parts.Name.{Name}
+use Rattle.lft_ir.specs.declared.parts.Name.{Name, TheVariants.Port}
 use Rattle.lft_lists.proofs.Places.{written_back}
 use Rattle.lft_graph.proofs.Writing.{writers_more}
 use Rattle.lft_graph.proofs.writers.last_writers.Goals as goal

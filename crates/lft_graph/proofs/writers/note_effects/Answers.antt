@@ -2,9 +2,8 @@ use Rattle.std.proofs.Common.{◌≡◌, ℕ, ◌+◌, ◌∙◌, ap, Some, slic
 use Rattle.std.proofs.lemmas.Option.{slice_get_within}
 use Rattle.lft_ir.specs.declared.parts.Name.TheVariants.{Port}
 use Rattle.lft_lists.proofs.Places.{contains_at, at_contains}
-use Rattle.lft_graph.proofs.Writing.{Noted, noted_port, noted_other}
+use Rattle.lft_graph.proofs.{Writing.{Noted, noted_port, noted_other}, writers.note_effects.Goals.{in-Port, in_default}}
 use Rattle.lft_graph.proofs.writers.note_effects.Goals as goal
-use Rattle.lft_graph.proofs.writers.note_effects.Goals.{in-Port, in_default}
 
 pub bounds-writers-port : goal.bounds-writers-port
 bounds-writers-port c =

@@ -1,12 +1,9 @@
 use Rattle.std.proofs.Common.{◌≡◌, ◌∷◌, [], ◌++◌, append-nil, List, Some, None, filter_map, get_or, slice_get, take, refl, sym, ap, ◌∙◌, arith}
 use Rattle.std.proofs.lemmas.Option.{slice_get-get_or}
-use Rattle.lft_ir.proofs.Naming.{named_none}
-use Rattle.lft_ir.specs.Naming.{named}
-use Rattle.lft_ir.specs.declared.parts.Name.{Name}
-use Rattle.lft_ir.specs.declared.parts.Trigger.TheVariants.{Startup, On}
+use Rattle.lft_ir.proofs.{Naming.named_none, lists.names_of.Goals.{in-On+in_ok-push, in_default}}
+use Rattle.lft_ir.specs.{Naming.named, declared.parts.{Name.Name, Trigger.TheVariants.{Startup, On}}}
 use Rattle.lft_lists.proofs.Picked.{kept_more}
 use Rattle.lft_ir.proofs.lists.names_of.Goals as goal
-use Rattle.lft_ir.proofs.lists.names_of.Goals.{in-On+in_ok-push, in_default}
 
 pub loop-place-preserved : goal.loop-place-preserved
 loop-place-preserved c =

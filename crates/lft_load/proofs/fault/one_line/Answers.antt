@@ -1,10 +1,6 @@
 use Rattle.std.proofs.Common.{◌≡◌, flat_map, ap, ◌∙◌, sym}
-use Rattle.std.specs.Char.{encode_utf8}
-use Rattle.std.specs.Str.{chars}
-use Rattle.std.proofs.lemmas.Iterator.{YieldsList-from_chars}
-use Rattle.std.proofs.lemmas.Iterator.Consumers.{YieldsList-end}
+use Rattle.std.{specs.{Char.encode_utf8, Str.chars}, proofs.lemmas.{Iterator.{YieldsList-from_chars, Consumers.YieldsList-end}, List.map-id}}
 use Rattle.lft_load.specs.Words.{in_line}
-use Rattle.std.proofs.lemmas.List.{map-id}
 use Rattle.lft_load.proofs.fault.one_line.Goals as goal
 
 pub returns : goal.returns

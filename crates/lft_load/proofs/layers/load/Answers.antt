@@ -1,5 +1,4 @@
-use Rattle.lft_load.specs.Refusals.LoadRefusal.{by_program, by_plan}
-use Rattle.lft_load.proofs.Loading.{only_plan, under}
+use Rattle.lft_load.{specs.Refusals.LoadRefusal.{by_program, by_plan}, proofs.Loading.{only_plan, under}}
 use Rattle.lft_load.proofs.layers.load.Goals as goal
 
 pub returns-in-Err-clause-refused : goal.returns-in-Err-clause-refused

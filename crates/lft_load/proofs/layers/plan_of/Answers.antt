@@ -1,7 +1,6 @@
-use Rattle.lft_load.specs.Refusals.PlanRefusal.{by_externals, by_graph}
-use Rattle.lft_load.specs.declared.fault.Part.TheVariants as part
-use Rattle.lft_load.specs.Faults.{table_number}
+use Rattle.lft_load.specs.{Refusals.PlanRefusal.{by_externals, by_graph}, Faults.table_number}
 use Rattle.lft_load.proofs.Loading.{only_under, graph_none, externals_told, told_at}
+use Rattle.lft_load.specs.declared.fault.Part.TheVariants as part
 use Rattle.lft_load.proofs.layers.plan_of.Goals as goal
 
 pub returns-in-Err-clause-refused : goal.returns-in-Err-clause-refused

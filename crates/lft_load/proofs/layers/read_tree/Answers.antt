@@ -1,7 +1,5 @@
-use Rattle.lft_load.specs.Refusals.TreeRefusal.{by_lex, by_syntax}
+use Rattle.lft_load.{specs.{Refusals.TreeRefusal.{by_lex, by_syntax}, Faults.syntax_number}, proofs.Loading.{one_tree, syntax_fails, syntax_none, told_at}}
 use Rattle.lft_load.specs.declared.fault.Part.TheVariants as part
-use Rattle.lft_load.specs.Faults.{syntax_number}
-use Rattle.lft_load.proofs.Loading.{one_tree, syntax_fails, syntax_none, told_at}
 use Rattle.lft_load.proofs.layers.read_tree.Goals as goal
 
 pub returns-in-Err-clause-refused : goal.returns-in-Err-clause-refused

@@ -1,10 +1,7 @@
 use Rattle.std.proofs.Common.{◌≡◌, ◌+◌, ◌-◌, ◌≤◌, length, arith, take, drop, sym, subst}
-use Rattle.std.proofs.lemmas.List.{length-drop}
-use Rattle.std.specs.Io.KnownBytes.{Appends}
-use Rattle.std.proofs.KnownBytes.{Appends-kept}
-use Rattle.lft_load.proofs.Texts.{took, rest_from}
+use Rattle.std.{proofs.{lemmas.List.length-drop, KnownBytes.Appends-kept}, specs.Io.KnownBytes.Appends}
+use Rattle.lft_load.proofs.{Texts.{took, rest_from}, output.write_text.Goals.{in-Ok, in-Err+else-ne}}
 use Rattle.lft_load.proofs.output.write_text.Goals as goal
-use Rattle.lft_load.proofs.output.write_text.Goals.{in-Ok, in-Err+else-ne}
 
 pub loop-preserved : goal.loop-preserved
 loop-preserved g c =

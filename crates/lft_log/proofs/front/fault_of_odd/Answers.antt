@@ -1,7 +1,6 @@
 use Rattle.std.proofs.Common.{◌∙◌, refl, sym}
 use Rattle.std.proofs.lemmas.Bool.{false≢true}
-use Rattle.lft_log.specs.declared.fault.LogFault.TheVariants.{NotPlain, NotPlainInput, SecondHeader}
-use Rattle.lft_log.proofs.Odd.{odd_line}
+use Rattle.lft_log.{specs.declared.fault.LogFault.TheVariants.{NotPlain, NotPlainInput, SecondHeader}, proofs.Odd.odd_line}
 use Rattle.lft_log.proofs.front.fault_of_odd.Goals as goal
 
 pub returns-then-has_words : goal.returns-then-has_words

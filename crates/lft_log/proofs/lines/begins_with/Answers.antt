@@ -1,6 +1,5 @@
 use Rattle.std.proofs.Common.{drop, length}
-use Rattle.std.proofs.lemmas.Bool.Decides.{Decides-eqb}
-use Rattle.std.proofs.lemmas.Slice.Eq.{starts_is}
+use Rattle.std.proofs.lemmas.{Bool.Decides.Decides-eqb, Slice.Eq.starts_is}
 use Rattle.lft_log.proofs.lines.begins_with.Goals as goal
 
 pub returns : goal.returns

@@ -1,8 +1,6 @@
-use Rattle.std.proofs.lemmas.Bool.Decides.{Decides-eqb}
-use Rattle.std.proofs.lemmas.Slice.Eq.{strip_prefix_is}
 use Rattle.std.proofs.Common.{None, Some}
-use Rattle.lft_log.specs.Logs.{header_words, mark}
-use Rattle.lft_log.proofs.Heads.{words_alone, words_marked}
+use Rattle.std.proofs.lemmas.{Bool.Decides.Decides-eqb, Slice.Eq.strip_prefix_is}
+use Rattle.lft_log.{specs.Logs.{header_words, mark}, proofs.Heads.{words_alone, words_marked}}
 use Rattle.lft_log.proofs.lines.behind_words.Goals as goal
 
 pub returns-in-Some : goal.returns-in-Some

@@ -1,9 +1,7 @@
 use Rattle.std.proofs.Common.{◌≡◌, ◌≢◌, ◌++◌, ◌∷◌, [], inl, inr, ⊎_elim, Bor, ℕ, IfNone, IfSome, List, Option, Some, None}
 use Rattle.std.specs.Prelude.{MatchOption}
-use Rattle.std.proofs.lemmas.Bool.Decides.{Decides-eqb}
-use Rattle.std.proofs.lemmas.Slice.Eq.{strip_prefix_is}
-use Rattle.lft_log.specs.Logs.{IsHead, IsHeaderThen}
-use Rattle.lft_log.proofs.Heads.{head_of, head_then, if_none, none_head}
+use Rattle.std.proofs.lemmas.{Bool.Decides.Decides-eqb, Slice.Eq.strip_prefix_is}
+use Rattle.lft_log.{specs.Logs.{IsHead, IsHeaderThen}, proofs.Heads.{head_of, head_then, if_none, none_head}}
 use Rattle.lft_log.proofs.lines.below_header.Goals as goal
 
 below : (text rest : List ℕ) (r : Option (Bor (List ℕ))) → IsHeaderThen rest text → MatchOption r ((more : List ℕ) → rest ≢ (13 ∷ 10 ∷ []) ++ more) (λ x. rest ≡ (13 ∷ 10 ∷ []) ++ x.now) → IfSome r (λ x. (head : List ℕ) × (text ≡ head ++ x.now) × IsHead head)

@@ -1,6 +1,5 @@
 use Rattle.std.proofs.Common.{◌∷◌, ◌++◌, [], ⊎_elim, inl, inr, subst}
-use Rattle.lft_log.specs.Logs.{IsHeaderThen}
-use Rattle.lft_log.proofs.Heads.{no_header, rest_of_header, then_more}
+use Rattle.lft_log.{specs.Logs.IsHeaderThen, proofs.Heads.{no_header, rest_of_header, then_more}}
 use Rattle.lft_log.proofs.lines.is_header.Goals as goal
 
 pub returns-in-Some : goal.returns-in-Some

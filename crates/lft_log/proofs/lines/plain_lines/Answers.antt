@@ -1,7 +1,6 @@
 use Rattle.std.proofs.Common.{◌≤◌, ◌∙◌, ℕ, ap, min, arith}
 use Rattle.std.proofs.Math.Nat.{min-le_left, min-le_right}
-use Rattle.lft_log.proofs.Odd.{begins_odd, first_odd}
-use Rattle.lft_log.proofs.Plain.{front_of, front_up, plain_front}
+use Rattle.lft_log.proofs.{Odd.{begins_odd, first_odd}, Plain.{front_of, front_up, plain_front}}
 use Rattle.lft_log.proofs.lines.plain_lines.Goals as goal
 
 pub returns-clause-lines : goal.returns-clause-lines

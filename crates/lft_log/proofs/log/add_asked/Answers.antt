@@ -1,13 +1,8 @@
 use Rattle.std.proofs.Common.{◌≡◌, ◌∙◌, ◌++◌, List, take, drop, slice_range, ap, subst, sym}
-use Rattle.std.proofs.lemmas.List.{append_assoc, take-append-drop}
-use Rattle.std.proofs.lemmas.Result.{IfOk-weaker}
+use Rattle.std.proofs.lemmas.{List.{append_assoc, take-append-drop}, Result.IfOk-weaker}
 use Rattle.lft_ir.specs.declared.steps.row.Row.{Row}
 use Rattle.lft_monitor.specs.Follows.{IsFollowerOf, IsQuiet}
-use Rattle.lft_log.proofs.Asking.{kept_before}
-use Rattle.lft_log.proofs.Ends.{range_take}
-use Rattle.lft_log.proofs.Many.{first_all, fault_more}
-use Rattle.lft_log.proofs.Gathering.{fit_first}
-use Rattle.lft_log.proofs.Keeping.{rows_told}
+use Rattle.lft_log.proofs.{Asking.kept_before, Ends.range_take, Many.{first_all, fault_more}, Gathering.fit_first, Keeping.rows_told}
 use Rattle.lft_log.proofs.log.add_asked.Goals as goal
 
 pub returns-in-Ok-Some-clause-told : goal.returns-in-Ok-Some-clause-told

@@ -1,8 +1,7 @@
 use Rattle.std.proofs.Common.{inl, sym, subst}
 use Rattle.lft_trace.specs.declared.external_table.Entry.TheVariants.{Happens}
 use Rattle.lft_monitor.specs.Follows.{IsPassed}
-use Rattle.lft_log.proofs.Plans.{told_event}
-use Rattle.lft_log.proofs.Inputs.{passed_left}
+use Rattle.lft_log.proofs.{Plans.told_event, Inputs.passed_left}
 use Rattle.lft_log.proofs.telling.tell_event.Goals as goal
 
 pub returns-in-Ok-Taken-clause-told : goal.returns-in-Ok-Taken-clause-told

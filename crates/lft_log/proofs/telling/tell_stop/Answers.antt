@@ -1,8 +1,7 @@
 use Rattle.std.proofs.Common.{sym, subst}
 use Rattle.lft_trace.specs.declared.external_table.Entry.TheVariants.{Stops}
 use Rattle.lft_monitor.specs.Follows.{IsPassed}
-use Rattle.lft_log.proofs.Plans.{told_stop}
-use Rattle.lft_log.proofs.Inputs.{passed_left}
+use Rattle.lft_log.proofs.{Plans.told_stop, Inputs.passed_left}
 use Rattle.lft_log.proofs.telling.tell_stop.Goals as goal
 
 pub returns-then-stop_at-clause-told : goal.returns-then-stop_at-clause-told

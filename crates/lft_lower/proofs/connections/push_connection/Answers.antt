@@ -1,8 +1,5 @@
 use Rattle.std.proofs.Common.{subst}
-use Rattle.lft_lower.specs.Meanings.Meanings.{all_places, here, token_in}
-use Rattle.lft_lower.specs.Meanings.Standing.{all_tokens}
-use Rattle.lft_lower.specs.Standing.{AddsAt, AreSidesAt}
-use Rattle.lft_lower.specs.Lowered.{Adds, AreConnected}
+use Rattle.lft_lower.specs.{Meanings.{Meanings.{all_places, here, token_in}, Standing.all_tokens}, Standing.{AddsAt, AreSidesAt}, Lowered.{Adds, AreConnected}}
 use Rattle.lft_lower.proofs.connections.push_connection.Goals as goal
 
 pub returns-clause-joined : goal.returns-clause-joined

@@ -1,14 +1,10 @@
 use Rattle.std.proofs.Common.{◌≡◌, ◌++◌, [], Some, filter_map, length, slice_get, refl, sym, ap, ◌∙◌, arith}
-use Rattle.std.specs.List.{cons_option, flat_map}
 use Rattle.std.specs.Prelude.{option_map}
-use Rattle.std.proofs.lemmas.List.{take_all}
-use Rattle.std.proofs.lemmas.Option.{slice_get_read}
+use Rattle.std.{specs.List.{cons_option, flat_map}, proofs.lemmas.{List.take_all, Option.slice_get_read}}
 use Rattle.lft_lists.proofs.Picked.{kept_more}
 use Rattle.lft_tree.specs.View.{assignment_view}
-use Rattle.lft_lower.specs.Lowered.{IsGiven, time_given}
+use Rattle.lft_lower.specs.{Lowered.{IsGiven, time_given}, Meanings.Meanings.token_in, Standing.{given_token, given_tokens}}
 use Rattle.lft_lower.proofs.MeaningsLemmas.Growing.{all_done, all_next, flat_all, flat_grown}
-use Rattle.lft_lower.specs.Meanings.Meanings.{token_in}
-use Rattle.lft_lower.specs.Standing.{given_token, given_tokens}
 use Rattle.lft_lower.proofs.instances.given_times.Goals as goal
 
 pub loop-place-preserved : goal.loop-place-preserved

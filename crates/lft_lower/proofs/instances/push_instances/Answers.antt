@@ -1,14 +1,9 @@
 use Rattle.std.proofs.Common.{◌≡◌, ◌∷◌, ◌++◌, map, string_bytes, sym, ap, ◌∙◌, arith}
-use Rattle.std.specs.List.{All, flat_map}
-use Rattle.std.proofs.lemmas.List.Elements.{All-nil, All-weaker}
+use Rattle.std.{specs.List.{All, flat_map}, proofs.lemmas.List.Elements.{All-nil, All-weaker}}
 use Rattle.lft_tree.specs.View.{assignment_view, member_views}
-use Rattle.lft_lower.specs.Meanings.Meanings.{here, token_in}
-use Rattle.lft_lower.specs.Meanings.Names.{texts}
-use Rattle.lft_lower.specs.Meanings.Places.{count_of, several}
-use Rattle.lft_lower.specs.Lowered.{instances}
-use Rattle.lft_lower.proofs.Adding.{instances_none, instances_some}
+use Rattle.lft_lower.specs.{Meanings.{Meanings.{here, token_in}, Names.texts, Places.{count_of, several}}, Lowered.instances}
 use Rattle.lft_lower.specs.Standing.{given_tokens, instance_tokens}
-use Rattle.lft_lower.proofs.Standing.{AreThese, at_as, at_none, at_this}
+use Rattle.lft_lower.proofs.{Adding.{instances_none, instances_some}, Standing.{AreThese, at_as, at_none, at_this}}
 use Rattle.lft_lower.proofs.instances.push_instances.Goals as goal
 
 pub returns-then-count-eq0-clause-made : goal.returns-then-count-eq0-clause-made

@@ -1,14 +1,9 @@
 use Rattle.std.proofs.Common.{[], ◌∷◌, ◌++◌, map, sym, ap, ◌∙◌, rules}
-use Rattle.std.proofs.lemmas.Iterator.Adapters.{YieldsList-from_vec}
-use Rattle.std.proofs.lemmas.Iterator.Consumers.{YieldsList-end}
-use Rattle.std.proofs.lemmas.List.{append-nil, append_assoc, map-append, map-id}
-use Rattle.std.specs.List.{flat_map}
+use Rattle.std.proofs.lemmas.{Iterator.{Adapters.YieldsList-from_vec, Consumers.YieldsList-end}, List.{append-nil, append_assoc, map-append, map-id}}
 use Rattle.std.proofs.lemmas.Grind.{flat_map-append}
-use Rattle.lft_tree.specs.declared.tree.Reference.{Reference}
-use Rattle.lft_tree.specs.Tree.{OnRef}
-use Rattle.lft_tree.specs.View.{ref_view, ref_views, trigger_view}
-use Rattle.lft_lower.specs.Meanings.Standing.{ref_tokens}
-use Rattle.lft_lower.specs.Standing.{trigger_tokens}
+use Rattle.std.specs.List.{flat_map}
+use Rattle.lft_tree.specs.{declared.tree.Reference.Reference, Tree.OnRef, View.{ref_view, ref_views, trigger_view}}
+use Rattle.lft_lower.specs.{Meanings.Standing.ref_tokens, Standing.trigger_tokens}
 use Rattle.lft_lower.proofs.reactions.push_references.Goals as goal
 
 pub loop-reference-init : goal.loop-reference-init

@@ -1,17 +1,10 @@
 use Rattle.std.proofs.Common.{◌≡◌, ℕ, [], ◌∷◌, ◌++◌, List, length, map, string_bytes, refl, sym, ap, ◌∙◌, arith}
 use Rattle.std.specs.Prelude.{option_map}
-use Rattle.std.specs.List.{flat_map}
-use Rattle.std.proofs.lemmas.Grind.{flat_map-append}
-use Rattle.std.proofs.lemmas.List.{length-map, map-append}
-use Rattle.lft_tree.specs.Tree.{TriggerTree, OnRef}
-use Rattle.lft_tree.specs.View.{trigger_view}
-use Rattle.lft_tree.specs.declared.tree.Trigger.{Trigger}
+use Rattle.std.{specs.List.flat_map, proofs.lemmas.{Grind.flat_map-append, List.{length-map, map-append}}}
+use Rattle.lft_tree.specs.{Tree.{TriggerTree, OnRef}, View.trigger_view, declared.tree.Trigger.Trigger}
 use Rattle.lft_elaborate.specs.Channels.Lowered.{own}
-use Rattle.lft_lower.specs.Meanings.Meanings.{here, token_in}
-use Rattle.lft_lower.specs.Lowered.{all_triggers}
-use Rattle.lft_lower.proofs.Adding.{triggers_run, triggers_sleep}
-use Rattle.lft_lower.specs.Standing.{or_at, tokens_of_trigger, trigger_tokens}
-use Rattle.lft_lower.proofs.Standing.{at_none, at_this}
+use Rattle.lft_lower.specs.{Meanings.Meanings.{here, token_in}, Lowered.all_triggers, Standing.{or_at, tokens_of_trigger, trigger_tokens}}
+use Rattle.lft_lower.proofs.{Adding.{triggers_run, triggers_sleep}, Standing.{at_none, at_this}}
 use Rattle.lft_lower.proofs.reactions.some_triggers.Goals as goal
 
 pub returns-then-count-ne0-clause-triggers : goal.returns-then-count-ne0-clause-triggers

@@ -1,16 +1,10 @@
 use Rattle.std.proofs.Common.{◌≡◌, ◌<◌, ◌≤◌, ◌++◌, [], Some, filter_map, length, map, slice_get, sym, ap, ◌∙◌, arith, zero-add}
-use Rattle.std.specs.List.{cons_option}
 use Rattle.std.specs.Prelude.{option_map}
-use Rattle.std.proofs.lemmas.List.{take_all}
-use Rattle.std.proofs.lemmas.List.FromFn.{get_or-range_with_len, length-range_with_len}
-use Rattle.std.proofs.lemmas.Option.{slice_get-get_or}
+use Rattle.std.{specs.List.cons_option, proofs.lemmas.{List.{take_all, FromFn.{get_or-range_with_len, length-range_with_len}}, Option.slice_get-get_or}}
 use Rattle.lft_lists.proofs.Picked.{kept_more}
-use Rattle.lft_tree.specs.View.{parameter_view}
+use Rattle.lft_tree.specs.{View.parameter_view, declared.tree.Parameter.Parameter}
 use Rattle.lft_elaborate.specs.Channels.Channels.{below}
-use Rattle.lft_lower.specs.Reactors.{timed_parameter}
-use Rattle.lft_tree.specs.declared.tree.Parameter.{Parameter}
-use Rattle.lft_lower.specs.Standing.{parameter_token}
-use Rattle.lft_lower.proofs.Defaults.{defaults_all, defaults_next}
+use Rattle.lft_lower.{specs.{Reactors.timed_parameter, Standing.parameter_token}, proofs.Defaults.{defaults_all, defaults_next}}
 use Rattle.lft_lower.proofs.reactors.parameters.Goals as goal
 
 pub loop-number-init : goal.loop-number-init

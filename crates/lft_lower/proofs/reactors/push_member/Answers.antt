@@ -1,15 +1,11 @@
 use Rattle.std.proofs.Common.{◌≡◌, ℕ, List, string_bytes, refl, subst, sym, ap}
 use Rattle.std.specs.Prelude.{option_map}
-use Rattle.lft_whole.specs.declared.tree.Member.TheVariants as member
 use Rattle.lft_tree.specs.declared.tree.Member.{Member as Core}
 use Rattle.lft_whole.specs.declared.tree.Member.{Member}
-use Rattle.lft_lower.specs.Meanings.Meanings.{here, token_in}
-use Rattle.lft_lower.specs.declared.meanings.places.Within.{Within}
-use Rattle.lft_lower.specs.Meanings.Names.{texts}
-use Rattle.lft_lower.specs.Lowered.{ports}
-use Rattle.lft_lower.proofs.Adding.{lowered_as}
+use Rattle.lft_lower.specs.{Meanings.{Meanings.{here, token_in}, Names.texts}, declared.meanings.places.Within.Within, Lowered.ports}
 use Rattle.lft_lower.specs.Standing.{AddsAt, ArePartsAt, declared_at}
-use Rattle.lft_lower.proofs.Standing.{at_this}
+use Rattle.lft_lower.proofs.{Adding.lowered_as, Standing.at_this}
+use Rattle.lft_whole.specs.declared.tree.Member.TheVariants as member
 use Rattle.lft_lower.proofs.reactors.push_member.Goals as goal
 
 -- what stands at the token of this member, if it is the one

@@ -1,9 +1,7 @@
 use Rattle.std.proofs.Common.{◌≡◌, length, sym, ap, ◌∙◌, below_more, arith}
 use Rattle.std.proofs.lemmas.Bool.{false≢true}
-use Rattle.lft_ir.specs.Parts.{Parts}
-use Rattle.lft_ir.specs.declared.parts.Name.TheVariants.{Port, Action}
-use Rattle.lft_model.specs.Presence.{PortClash}
-use Rattle.lft_model.proofs.Clashing.{found_collision, no_collision_found}
+use Rattle.lft_ir.specs.{Parts.Parts, declared.parts.Name.TheVariants.{Port, Action}}
+use Rattle.lft_model.{specs.Presence.PortClash, proofs.Clashing.{found_collision, no_collision_found}}
 use Rattle.lft_model.proofs.slow.clash_slow.Goals as goal
 
 pub returns-then-port_clashes : goal.returns-then-port_clashes

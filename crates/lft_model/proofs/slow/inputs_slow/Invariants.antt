@@ -1,7 +1,6 @@
 use Rattle.std.proofs.Common.{◌≡◌, ◌++◌, Some, take, filter_map, slice_get}
 use Rattle.std.specs.List.{AllZip}
-use Rattle.lft_ir.specs.Naming.{named}
-use Rattle.lft_ir.specs.declared.parts.Reaction.{Reaction}
+use Rattle.lft_ir.specs.{Naming.named, declared.parts.Reaction.Reaction}
 use Rattle.lft_model.specs.Presence.{Shows}
 use Rattle.lft_model.proofs.slow.inputs_slow.Given as goal
 

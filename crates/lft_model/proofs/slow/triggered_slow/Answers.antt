@@ -1,8 +1,7 @@
 use Rattle.std.proofs.Common.{get_or, below_more, sym, ◌∙◌, arith}
 use Rattle.std.proofs.lemmas.Bool.{false≢true}
 use Rattle.lft_ir.specs.declared.parts.Trigger.TheVariants.{Startup}
-use Rattle.lft_model.specs.Presence.{OccursUntil}
-use Rattle.lft_model.proofs.Triggering.{trigger_known, triggered_by, not_triggered}
+use Rattle.lft_model.{specs.Presence.OccursUntil, proofs.Triggering.{trigger_known, triggered_by, not_triggered}}
 use Rattle.lft_model.proofs.slow.triggered_slow.Goals as goal
 
 pub occurs-requires-clause-trigger : goal.occurs-requires-clause-trigger

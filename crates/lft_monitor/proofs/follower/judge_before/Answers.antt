@@ -1,14 +1,9 @@
 use Rattle.std.proofs.Common.{◌≡◌, ◌+◌, ◌-◌, ◌<◌, ◌++◌, ◌∙◌, inr, ℕ, List, length, slice_range, sym, subst, arith}
-use Rattle.lft_ir.specs.declared.steps.row.Row.{Row}
-use Rattle.lft_ir.proofs.Ranges.{length-range}
+use Rattle.lft_ir.{specs.declared.steps.row.Row.Row, proofs.Ranges.length-range}
 use Rattle.lft_stream.proofs.Parting.{range_fits}
 use Rattle.lft_model.specs.declared.breach.Breach.{Breach}
-use Rattle.lft_monitor.specs.declared.past.Past.{Past}
-use Rattle.lft_monitor.specs.declared.reach.Reach.{Reach}
-use Rattle.lft_monitor.specs.Kept.{IsPast}
-use Rattle.lft_monitor.specs.Follows.{breach_of, IsOdd, IsFirstBehind, IsSureSoFar}
-use Rattle.lft_monitor.proofs.First.{first_behind}
-use Rattle.lft_monitor.proofs.Following.{odd_of}
+use Rattle.lft_monitor.specs.{declared.{past.Past.Past, reach.Reach.Reach}, Kept.IsPast, Follows.{breach_of, IsOdd, IsFirstBehind, IsSureSoFar}}
+use Rattle.lft_monitor.proofs.{First.first_behind, Following.odd_of}
 use Rattle.lft_monitor.proofs.follower.judge_before.Goals as goal
 
 pub judge-requires-clause-fit : goal.judge-requires-clause-fit

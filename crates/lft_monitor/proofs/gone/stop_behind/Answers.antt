@@ -1,7 +1,6 @@
 use Rattle.std.proofs.Common.{refl, ◌∙◌, sym, subst}
 use Rattle.std.proofs.lemmas.Bool.{false≢true}
-use Rattle.lft_tag.specs.declared.Tag.{Tag}
-use Rattle.lft_tag.specs.Tags.{Before}
+use Rattle.lft_tag.specs.{declared.Tag.Tag, Tags.Before}
 use Rattle.lft_monitor.proofs.Stops.{stop_keeps, stop_lower}
 use Rattle.lft_monitor.proofs.gone.stop_behind.Goals as goal
 

@@ -1,7 +1,6 @@
 use Rattle.std.proofs.Common.{◌≡◌, ◌++◌, List, take}
 use Rattle.lft_ir.specs.declared.steps.row.Row.{Row}
-use Rattle.lft_model.specs.Plans.{PlanParts}
-use Rattle.lft_model.specs.Presence.{stop}
+use Rattle.lft_model.specs.{Plans.PlanParts, Presence.stop}
 use Rattle.lft_monitor.proofs.gone.stop_over.Given as goal
 
 abbrev pub invariant-loop-place : goal.invariant-loop-place

@@ -1,11 +1,9 @@
 use Rattle.std.proofs.Common.{◌+◌, true, length, refl, sym, ◌∙◌, subst, arith}
-use Rattle.std.proofs.lemmas.Bool.{false≢true}
-use Rattle.std.proofs.lemmas.Option.{slice_get_read}
+use Rattle.std.proofs.lemmas.{Bool.false≢true, Option.slice_get_read}
 use Rattle.lft_ir.proofs.Origins.{origin_inside}
 use Rattle.lft_lists.proofs.Places.{Some_same, length_written}
-use Rattle.lft_monitor.proofs.Furthest.{AreFar, IsMarked, far_more, far_less, far_all}
+use Rattle.lft_monitor.proofs.{Furthest.{AreFar, IsMarked, far_more, far_less, far_all}, kept.furthest_of.Goals.{then-item_at, else-item_at}}
 use Rattle.lft_monitor.proofs.kept.furthest_of.Goals as goal
-use Rattle.lft_monitor.proofs.kept.furthest_of.Goals.{then-item_at, else-item_at}
 
 pub index-requires : goal.index-requires
 index-requires c = let o = origin_inside (c.port-port.ensures.sound.origins c.loop-number.number c.port-port.result.now c.port-port.ensures.value).1 in let a = c.loop-number.invariant.as_long in omega arith

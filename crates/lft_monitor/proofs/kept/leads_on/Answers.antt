@@ -1,7 +1,6 @@
 use Rattle.std.proofs.Common.{subst}
 use Rattle.std.proofs.lemmas.Bool.{not-false}
-use Rattle.lft_tag.specs.declared.Tag.{Tag}
-use Rattle.lft_tag.specs.Tags.{Before}
+use Rattle.lft_tag.specs.{declared.Tag.Tag, Tags.Before}
 use Rattle.lft_monitor.proofs.kept.leads_on.Goals as goal
 
 pub returns : goal.returns

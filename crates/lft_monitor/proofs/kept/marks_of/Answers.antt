@@ -2,8 +2,8 @@ use Rattle.std.proofs.Common.{◌+◌, ◌<◌, length, refl, sym, subst, arith,
 use Rattle.std.proofs.lemmas.Option.{slice_get_read}
 use Rattle.lft_model.proofs.Places.{slice_get_within}
 use Rattle.lft_monitor.proofs.Keeping.{AreMarkedTo, IsIdleApart, idle_there, ended_there, marked_one, started_there}
-use Rattle.lft_monitor.proofs.kept.marks_of.Goals as goal
 use Rattle.lft_monitor.proofs.kept.marks_of.Goals.{then-causes_from, else-causes_from+then-is_start, else-causes_from+else-is_start+then-is_end, else-causes_from+else-is_start+else-is_end}
+use Rattle.lft_monitor.proofs.kept.marks_of.Goals as goal
 
 pub loop-place-preserved : goal.loop-place-preserved
 loop-place-preserved c =

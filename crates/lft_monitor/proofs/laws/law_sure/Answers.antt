@@ -1,9 +1,4 @@
-use Rattle.lft_monitor.proofs.Finished.{finished_law, told_law}
-use Rattle.lft_monitor.proofs.Rows.{row_law}
-use Rattle.lft_monitor.proofs.Staying.{sure_law}
-use Rattle.lft_monitor.proofs.Whole.{whole_law}
-use Rattle.lft_monitor.proofs.Dropped.{dropped_law}
-use Rattle.lft_monitor.proofs.Later.{later_law}
+use Rattle.lft_monitor.proofs.{Finished.{finished_law, told_law}, Rows.row_law, Staying.sure_law, Whole.whole_law, Dropped.dropped_law, Later.later_law}
 use Rattle.lft_monitor.proofs.laws.law_sure.Goals as goal
 
 pub returns : goal.returns

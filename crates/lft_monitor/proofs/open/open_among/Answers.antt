@@ -1,6 +1,5 @@
 use Rattle.std.proofs.Common.{◌∙◌, ◌+◌, ◌++◌, ◌∷◌, [], List, sym, subst, ap, arith}
-use Rattle.std.specs.Global.{Vec}
-use Rattle.std.proofs.lemmas.Bool.{false≢true}
+use Rattle.std.{specs.Global.Vec, proofs.lemmas.Bool.false≢true}
 use Rattle.lft_lists.proofs.Places.{get_there}
 use Rattle.lft_monitor.specs.declared.open.OpenRun.{OpenRun}
 use Rattle.lft_monitor.proofs.Opened.{AreOpenTo, open_all, open_more, open_none, open_same}

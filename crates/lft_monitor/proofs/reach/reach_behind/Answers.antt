@@ -1,6 +1,5 @@
 use Rattle.std.proofs.Common.{◌≡◌, ◌+◌, ◌++◌, ◌∙◌, ℕ, List, length, take, sym, ap, subst, arith}
-use Rattle.std.proofs.Math.Seq.{take-append-add, take-length}
-use Rattle.std.proofs.lemmas.List.{append-nil}
+use Rattle.std.proofs.{Math.Seq.{take-append-add, take-length}, lemmas.List.append-nil}
 use Rattle.lft_lists.proofs.Places.{get_right}
 use Rattle.lft_ir.specs.declared.steps.row.Row.{Row}
 use Rattle.lft_monitor.specs.Reach.{IsReach}

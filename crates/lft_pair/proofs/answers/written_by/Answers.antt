@@ -1,7 +1,6 @@
 use Rattle.std.proofs.Common.{sym, ◌∙◌}
-use Rattle.lft_pair.proofs.Answering.{written_none, written_put}
+use Rattle.lft_pair.proofs.{Answering.{written_none, written_put}, answers.written_by.Goals.{in-Some+in_ok-_before, in_default}}
 use Rattle.lft_pair.proofs.answers.written_by.Goals as goal
-use Rattle.lft_pair.proofs.answers.written_by.Goals.{in-Some+in_ok-_before, in_default}
 
 pub loop-place-preserved : goal.loop-place-preserved
 loop-place-preserved c =

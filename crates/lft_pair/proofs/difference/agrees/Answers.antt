@@ -1,6 +1,5 @@
 use Rattle.std.proofs.Common.{◌∙◌}
-use Rattle.lft_model.specs.Runs.{start_row}
-use Rattle.lft_model.proofs.Places.{slice_get_within}
+use Rattle.lft_model.{specs.Runs.start_row, proofs.Places.slice_get_within}
 use Rattle.lft_pair.proofs.Odd.{agrees_by}
 use Rattle.lft_pair.proofs.difference.agrees.Goals as goal
 

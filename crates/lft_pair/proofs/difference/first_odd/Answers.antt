@@ -3,8 +3,8 @@ use Rattle.lft_tag.specs.declared.Tag.{Tag}
 use Rattle.lft_ir.specs.Parts.{Parts}
 use Rattle.lft_pair.specs.declared.difference.Kept.{Kept}
 use Rattle.lft_pair.proofs.Odd.{Compared, compared_begin, compared_on, compared_run, odd_stays, odd_agrees, odd_more, odd_over, odd_end, known_level}
-use Rattle.lft_pair.proofs.difference.first_odd.Goals as goal
 use Rattle.lft_pair.proofs.difference.first_odd.Goals.{then-is_start+in_ok-same+then-not-same, then-is_start+in_ok-same+else-not-same, else-is_start}
+use Rattle.lft_pair.proofs.difference.first_odd.Goals as goal
 
 pub loop-place-init : goal.loop-place-init
 loop-place-init c = compared_begin c.args.plan.now c.graph-graph.result.now.levels c.args.rows.now c.args.others.now c.in_ok-starts.starts.read c.in_ok-starts.starts.places.items c.in_ok-starts.ensures.none_read (c.in_ok-starts.ensures.as_long ∙ c.reactions.ensures.count ∙ ap (λ (p : Parts). length p.reactions) c.program.ensures.value) (c.in_ok-starts.ensures.kept c.args.others.now)

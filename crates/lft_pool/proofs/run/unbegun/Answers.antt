@@ -1,7 +1,6 @@
 use Rattle.std.proofs.Common.{◌≡◌, ◌∙◌, [], ℤ, List, sym, subst}
 use Rattle.lft_ir.specs.declared.steps.row.Row.{Row}
-use Rattle.lft_pool.specs.Books.{IsRecording}
-use Rattle.lft_pool.proofs.Known.{empty_recording}
+use Rattle.lft_pool.{specs.Books.IsRecording, proofs.Known.empty_recording}
 use Rattle.lft_pool.proofs.run.unbegun.Goals as goal
 
 pub returns-clause-recording : goal.returns-clause-recording

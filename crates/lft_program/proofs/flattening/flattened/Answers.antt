@@ -1,16 +1,12 @@
 use Rattle.std.proofs.Common.{◌≡◌, ◌≢◌, List, subst, sym}
-use Rattle.lft_tree.specs.Tree.{FileTree, reactors_of}
-use Rattle.lft_tree.specs.View.{tree_view}
+use Rattle.lft_tree.specs.{Tree.{FileTree, reactors_of}, View.tree_view}
 use Rattle.lft_resolve.specs.Causes.{IsFirst, NoneHolds, causes}
-use Rattle.lft_program.specs.Links.{AreLinks, TellsOf, last_causes, number_of as link_number}
-use Rattle.lft_program.specs.Faults.{reactor_causes}
-use Rattle.lft_program.specs.Nests.{IsNest}
-use Rattle.lft_program.specs.Refusals.{Tells, cause_of, of_links, of_nest}
-use Rattle.lft_program.specs.Tables.{AreTables}
-use Rattle.lft_program.specs.declared.refusal.Refusal.TheVariants as refusals
-use Rattle.lft_program.specs.declared.nesting.linking.LinkFault.TheVariants as links
+use Rattle.lft_program.specs.{Links.{AreLinks, TellsOf, last_causes, number_of as link_number}, Faults.reactor_causes, Nests.IsNest}
+use Rattle.lft_program.specs.{Refusals.{Tells, cause_of, of_links, of_nest}, Tables.AreTables}
 use Rattle.lft_program.proofs.Firsts.{first_of_reactors, first_of_links, none_of_all, lawful, in_time, handed_on, same_number, nest_first, nest_tells, links_tell}
 use Rattle.lft_program.proofs.OneFlat.{one_flat}
+use Rattle.lft_program.specs.declared.refusal.Refusal.TheVariants as refusals
+use Rattle.lft_program.specs.declared.nesting.linking.LinkFault.TheVariants as links
 use Rattle.lft_program.proofs.flattening.flattened.Goals as goal
 
 pub returns-in_err-tables-clause-first : goal.returns-in_err-tables-clause-first

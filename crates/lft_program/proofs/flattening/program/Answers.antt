@@ -1,8 +1,7 @@
 use Rattle.std.proofs.Common.{refl, sym, subst}
 use Rattle.lft_tree.specs.View.{tree_view}
-use Rattle.lft_program.specs.Flattening.{Flat}
+use Rattle.lft_program.{specs.Flattening.Flat, proofs.Laid.{flat_of_parts, limits_of_parts}}
 use Rattle.lft_ir.specs.Parts.{Parts}
-use Rattle.lft_program.proofs.Laid.{flat_of_parts, limits_of_parts}
 use Rattle.lft_program.proofs.flattening.program.Goals as goal
 
 pub assembled-requires-clause-flat : goal.assembled-requires-clause-flat

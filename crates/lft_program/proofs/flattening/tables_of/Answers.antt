@@ -1,12 +1,8 @@
 use Rattle.std.proofs.Common.{◌≢◌, subst, sym}
 use Rattle.lft_tree.specs.Tree.{reactors_of}
-use Rattle.lft_resolve.specs.Causes.{IsFirst, NoneHolds, first_causes, later_causes}
-use Rattle.lft_resolve.specs.Numbers.{AreContents}
-use Rattle.lft_program.specs.Faults.{reactor_causes}
-use Rattle.lft_program.specs.Refusals.{Tells, cause_of}
-use Rattle.lft_program.specs.Tables.{AreTables}
+use Rattle.lft_resolve.specs.{Causes.{IsFirst, NoneHolds, first_causes, later_causes}, Numbers.AreContents}
+use Rattle.lft_program.{specs.{Faults.reactor_causes, Refusals.{Tells, cause_of}, Tables.AreTables}, proofs.Firsts.{handed_on, lawful}}
 use Rattle.lft_program.specs.declared.refusal.Refusal.TheVariants as refusals
-use Rattle.lft_program.proofs.Firsts.{handed_on, lawful}
 use Rattle.lft_program.proofs.flattening.tables_of.Goals as goal
 
 pub returns-in_err-contents-clause-first : goal.returns-in_err-contents-clause-first

@@ -1,8 +1,6 @@
 use Rattle.std.proofs.Common.{◌≡◌, ◌<◌, ◌∷◌, [], length, ◌+◌, ap, ◌∙◌, arith, rules, length-append}
 use Rattle.std.proofs.lemmas.Grind.{common_steps}
-use Rattle.lft_program.proofs.ByNumber.{item_there}
-use Rattle.lft_program.proofs.Making.{made_more}
-use Rattle.lft_program.proofs.OriginsLaid.{keeps_origins}
+use Rattle.lft_program.proofs.{ByNumber.item_there, Making.made_more, OriginsLaid.keeps_origins}
 use Rattle.lft_program.proofs.PortsLaid.{IsLinkedPort, link_within, links_long, port_for, ports_are}
 use Rattle.lft_program.proofs.laying.ports.Goals as goal
 

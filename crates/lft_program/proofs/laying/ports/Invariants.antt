@@ -1,6 +1,5 @@
 use Rattle.std.proofs.Common.{◌≡◌, length}
-use Rattle.lft_program.proofs.Making.{Made}
-use Rattle.lft_program.proofs.PortsLaid.{IsLinkedPort}
+use Rattle.lft_program.proofs.{Making.Made, PortsLaid.IsLinkedPort}
 use Rattle.lft_program.proofs.laying.ports.Given as goal
 
 abbrev pub invariant-loop-number : goal.invariant-loop-number

@@ -1,7 +1,6 @@
 use Rattle.std.proofs.Common.{Some, refl, ap, ◌∙◌, arith}
 use Rattle.std.proofs.lemmas.Grind.{common_steps}
-use Rattle.lft_program.proofs.Zipping.{then_some}
-use Rattle.lft_program.proofs.ByNumber.{item_same, row_within, then_at}
+use Rattle.lft_program.proofs.{Zipping.then_some, ByNumber.{item_same, row_within, then_at}}
 use Rattle.lft_program.proofs.laying.timer.Goals as goal
 
 pub declarations_of-declarations-requires : goal.declarations_of-declarations-requires

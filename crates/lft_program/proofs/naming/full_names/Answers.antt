@@ -1,9 +1,6 @@
 use Rattle.std.proofs.Common.{sym, subst}
-use Rattle.lft_program.specs.FullNames.{AreFullNames}
+use Rattle.lft_program.{specs.FullNames.AreFullNames, proofs.{NamedParts.{are_starts, full}, OneNaming.one_naming, Words.AreWords-names_from}}
 use Rattle.lft_ir.specs.Names.{AreWords}
-use Rattle.lft_program.proofs.NamedParts.{are_starts, full}
-use Rattle.lft_program.proofs.OneNaming.{one_naming}
-use Rattle.lft_program.proofs.Words.{AreWords-names_from}
 use Rattle.lft_program.proofs.naming.full_names.Goals as goal
 
 pub new-requires : goal.new-requires

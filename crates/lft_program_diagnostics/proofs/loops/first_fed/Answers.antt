@@ -1,6 +1,5 @@
 use Rattle.std.proofs.Common.{◌≡◌, true, false, arith}
-use Rattle.lft_program_diagnostics.specs.Loops.{is_fed}
-use Rattle.lft_program_diagnostics.proofs.Firsts.{found_here, found_later, found_none}
+use Rattle.lft_program_diagnostics.{specs.Loops.is_fed, proofs.Firsts.{found_here, found_later, found_none}}
 use Rattle.lft_program_diagnostics.proofs.loops.first_fed.Goals as goal
 
 pub returns-then-is_fed : goal.returns-then-is_fed

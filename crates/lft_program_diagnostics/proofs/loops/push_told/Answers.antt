@@ -1,6 +1,5 @@
 use Rattle.std.proofs.Common.{◌++◌, ap, ◌∙◌, sym, codes, string_bytes}
-use Rattle.lft_ir.specs.Words.Words.{name_words}
-use Rattle.lft_ir.proofs.WordsLemmas.Steps.{also}
+use Rattle.lft_ir.{specs.Words.Words.name_words, proofs.WordsLemmas.Steps.also}
 use Rattle.lft_program_diagnostics.specs.Loops.{between, told_step}
 use Rattle.lft_program_diagnostics.proofs.loops.push_told.Goals as goal
 

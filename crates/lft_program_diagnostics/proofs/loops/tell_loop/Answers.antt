@@ -1,10 +1,9 @@
 use Rattle.std.proofs.Common.{◌++◌, ap, ◌∙◌, codes, arith}
 use Rattle.std.specs.Prelude.{zip}
 use Rattle.lft_ir.proofs.WordsLemmas.Steps.{said_all, said_more}
-use Rattle.lft_program_diagnostics.specs.Loops.{step_words, turned}
-use Rattle.lft_program_diagnostics.proofs.Turned.{zip_short}
-use Rattle.lft_program_diagnostics.proofs.loops.tell_loop.Goals as goal
+use Rattle.lft_program_diagnostics.{specs.Loops.{step_words, turned}, proofs.Turned.zip_short}
 use Rattle.lft_lists.proofs.Mapped.{pair_at}
+use Rattle.lft_program_diagnostics.proofs.loops.tell_loop.Goals as goal
 
 pub push_step-requires-clause-second : goal.push_step-requires-clause-second
 push_step-requires-clause-second c = c.requires c.next_of.ensures.among.0 c.next_of.result c.next_of.ensures.among.1

@@ -1,15 +1,10 @@
 use Rattle.std.proofs.Common.{◌≡◌, ◌<◌, Some, None, length, take, ap, arith, sym, subst, slice_get, ◌∙◌}
-use Rattle.std.specs.Option.{option_map}
-use Rattle.std.specs.Borrow.{Bor}
-use Rattle.std.proofs.lemmas.Option.{slice_get-get_or}
-use Rattle.std.proofs.lemmas.List.{length-map, take_all}
+use Rattle.std.{specs.{Option.option_map, Borrow.Bor}, proofs.lemmas.{Option.slice_get-get_or, List.{length-map, take_all}}}
 use Rattle.lft_lists.proofs.Mapped.{mapped}
-use Rattle.lft_tree.specs.Tree.{connection_in}
-use Rattle.lft_tree.specs.View.{connection_view, member_view, member_views, ref_view}
-use Rattle.lft_tree.specs.declared.tree.Connection.{Connection}
+use Rattle.lft_tree.specs.{Tree.connection_in, View.{connection_view, member_view, member_views, ref_view}, declared.tree.Connection.Connection}
 use Rattle.lft_program_diagnostics.proofs.Numbered.{found_here, other_member, singles_among, this_member}
-use Rattle.lft_program_diagnostics.proofs.singles.single_in.Goals as goal
 use Rattle.lft_program_diagnostics.proofs.singles.single_in.Goals.{in-Some+else-left-width, in_default}
+use Rattle.lft_program_diagnostics.proofs.singles.single_in.Goals as goal
 
 pub returns-then-left-width-clause-some : goal.returns-then-left-width-clause-some
 returns-then-left-width-clause-some c =

@@ -1,9 +1,8 @@
 use Rattle.std.proofs.Common.{◌<◌, length, ap, sym, ◌∙◌, arith}
 use Rattle.std.specs.Option.{option_map}
 use Rattle.lft_program_diagnostics.specs.Spots.{reactor_of}
-use Rattle.lft_program_diagnostics.proofs.Picking.{kept_some, kept_none}
+use Rattle.lft_program_diagnostics.proofs.{Picking.{kept_some, kept_none}, spots.reactors_among.Goals.{in-Some+in_ok-push-in-Some, in-None}}
 use Rattle.lft_program_diagnostics.proofs.spots.reactors_among.Goals as goal
-use Rattle.lft_program_diagnostics.proofs.spots.reactors_among.Goals.{in-Some+in_ok-push-in-Some, in-None}
 
 pub loop-item-preserved : goal.loop-item-preserved
 loop-item-preserved c =

@@ -1,6 +1,5 @@
 use Rattle.std.proofs.Common.{sym, ◌∙◌, arith}
-use Rattle.lft_program_diagnostics.specs.Spots.{name_among}
-use Rattle.lft_program_diagnostics.proofs.Picking.{nth_end}
+use Rattle.lft_program_diagnostics.{specs.Spots.name_among, proofs.Picking.nth_end}
 use Rattle.lft_program_diagnostics.proofs.spots.read_at.Goals as goal
 
 pub returns : goal.returns

@@ -1,6 +1,5 @@
 use Rattle.std.proofs.Common.{◌≡◌, ◌-◌, length, Some, subst, slice_get, rules}
-use Rattle.lft_tag.specs.declared.Tag.{Tag}
-use Rattle.lft_tag.specs.Tags.{Before}
+use Rattle.lft_tag.specs.{declared.Tag.Tag, Tags.Before}
 use Rattle.lft_queue.proofs.Dropping.{none_after}
 use Rattle.lft_queue.proofs.queue.ends_after.Goals as goal
 

@@ -1,6 +1,5 @@
 use Rattle.std.proofs.Common.{◌≡◌, ◌↔◌, ◌⊎◌, Some, true, slice_get, slice_set, sym, ◌∙◌, subst, refl}
-use Rattle.lft_ir.specs.declared.parts.Name.{Name}
-use Rattle.lft_ir.specs.declared.parts.Name.TheVariants.{Port, Action}
+use Rattle.lft_ir.specs.declared.parts.Name.{Name, TheVariants.{Port, Action}}
 use Rattle.lft_lists.proofs.Places.{length_written}
 use Rattle.lft_queue.proofs.Marking.{port_marked, action_marked}
 use Rattle.lft_queue.proofs.reading.mark.Goals as goal

@@ -1,7 +1,6 @@
 use Rattle.std.proofs.Common.{◌≡◌, ◌↔◌, ◌⊎◌, ◌<◌, ◌∙◌, List, Some, true, length, slice_get, Contains, refl, subst, arith}
 use Rattle.std.proofs.lemmas.List.{take_all}
-use Rattle.lft_ir.specs.declared.parts.Name.{Name}
-use Rattle.lft_ir.specs.declared.parts.Name.TheVariants.{Port}
+use Rattle.lft_ir.specs.declared.parts.Name.{Name, TheVariants.Port}
 use Rattle.lft_lists.proofs.Places.{contains_at}
 use Rattle.lft_queue.proofs.Marking.{names_start, names_more}
 use Rattle.lft_queue.proofs.reading.mark_all.Goals as goal

@@ -1,6 +1,5 @@
 use Rattle.std.proofs.Common.{◌≡◌, ◌<◌, Bool, false, true, sym, ◌∙◌, length, arith, below_more}
-use Rattle.lft_model.specs.Runs.{start_row}
-use Rattle.lft_model.proofs.Places.{slice_get_within}
+use Rattle.lft_model.{specs.Runs.start_row, proofs.Places.slice_get_within}
 use Rattle.lft_races.specs.Runs.{StartsAt}
 use Rattle.lft_races.proofs.runs.start_of.Goals as goal
 

@@ -1,6 +1,5 @@
 use Rattle.std.proofs.Common.{◌≡◌, Bool, false, true, refl, sym, ◌∙◌}
-use Rattle.lft_races.specs.Runs.{EndsAt}
-use Rattle.lft_races.proofs.Ending.{ends_here, end_here, marks_stay, marks_less}
+use Rattle.lft_races.{specs.Runs.EndsAt, proofs.Ending.{ends_here, end_here, marks_stay, marks_less}}
 use Rattle.lft_races.proofs.unfinished.unmark.Goals as goal
 
 pub returns-then-not-is_end-clause-left : goal.returns-then-not-is_end-clause-left

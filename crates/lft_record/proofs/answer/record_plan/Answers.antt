@@ -1,9 +1,7 @@
 use Rattle.std.proofs.Common.{◌≡◌, true, subst}
 use Rattle.lft_ir.specs.Parts.{Parts}
 use Rattle.lft_trace.specs.Records.{records_of}
-use Rattle.lft_record.specs.CardTables.{CardTable, CardsFail}
-use Rattle.lft_record.specs.CardFaults.{is_told}
-use Rattle.lft_record.specs.Answers.AnswerRefusalUnder.{by_cards, by_recording}
+use Rattle.lft_record.specs.{CardTables.{CardTable, CardsFail}, CardFaults.is_told, Answers.AnswerRefusalUnder.{by_cards, by_recording}}
 use Rattle.lft_record.proofs.Kept.{unchanged}
 use Rattle.lft_record.proofs.answer.record_plan.Goals as goal
 

@@ -1,6 +1,5 @@
 use Rattle.std.proofs.Common.{◌-◌, ◌<◌, ◌≤◌, length, string_bytes, arith}
-use Rattle.lft_report.specs.Hops.{hop_words}
-use Rattle.lft_report.proofs.Back.{said_back}
+use Rattle.lft_report.{specs.Hops.hop_words, proofs.Back.said_back}
 use Rattle.lft_report.proofs.hops.push_hops.Goals as goal
 
 pub loop-left-preserved : goal.loop-left-preserved

@@ -1,6 +1,5 @@
 use Rattle.std.proofs.Common.{◌-◌, ◌<◌, sym, ◌∙◌, arith}
-use Rattle.lft_report.specs.Hops.{way_back}
-use Rattle.lft_report.proofs.Back.{back_more}
+use Rattle.lft_report.{specs.Hops.way_back, proofs.Back.back_more}
 use Rattle.lft_report.proofs.hops.way_back.Goals as goal
 
 pub loop-left-preserved : goal.loop-left-preserved

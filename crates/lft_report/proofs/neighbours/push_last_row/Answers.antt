@@ -1,7 +1,5 @@
 use Rattle.std.proofs.Common.{◌++◌, codes}
-use Rattle.lft_ir.specs.Words.Words.{tag_words}
-use Rattle.lft_ir.specs.Words.Lines.{line_words}
-use Rattle.lft_ir.proofs.WordsLemmas.Steps.{also}
+use Rattle.lft_ir.{specs.Words.{Words.tag_words, Lines.line_words}, proofs.WordsLemmas.Steps.also}
 use Rattle.lft_report.proofs.neighbours.push_last_row.Goals as goal
 
 pub returns : goal.returns

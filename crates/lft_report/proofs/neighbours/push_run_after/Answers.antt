@@ -1,6 +1,5 @@
 use Rattle.std.proofs.Common.{codes}
-use Rattle.lft_ir.specs.Words.Words.{tag_words}
-use Rattle.lft_ir.specs.Words.Lines.{line_words}
+use Rattle.lft_ir.specs.Words.{Words.tag_words, Lines.line_words}
 use Rattle.lft_report.proofs.Texts.{five}
 use Rattle.lft_report.proofs.neighbours.push_run_after.Goals as goal
 

@@ -1,6 +1,5 @@
 use Rattle.std.proofs.Common.{◌++◌, codes}
-use Rattle.lft_ir.specs.Words.Columns.{padded}
-use Rattle.lft_ir.proofs.WordsLemmas.Steps.{also}
+use Rattle.lft_ir.{specs.Words.Columns.padded, proofs.WordsLemmas.Steps.also}
 use Rattle.lft_report.proofs.reads.push_line.Goals as goal
 
 pub returns : goal.returns

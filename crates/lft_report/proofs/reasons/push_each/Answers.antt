@@ -1,7 +1,6 @@
 use Rattle.std.proofs.Common.{string_bytes, arith}
 use Rattle.lft_report.specs.Reasons.{spaced}
-use Rattle.lft_ir.proofs.WordsLemmas.Steps.{also}
-use Rattle.lft_ir.proofs.WordsLemmas.Steps.{said_more, said_all}
+use Rattle.lft_ir.proofs.WordsLemmas.Steps.{also, said_more, said_all}
 use Rattle.lft_report.proofs.reasons.push_each.Goals as goal
 
 pub loop-place-preserved : goal.loop-place-preserved

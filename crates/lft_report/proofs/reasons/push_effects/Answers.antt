@@ -1,8 +1,7 @@
 use Rattle.std.proofs.Common.{◌++◌, codes}
 use Rattle.lft_model.specs.Runs.{effects_of}
 use Rattle.lft_report.specs.Reasons.{listed}
-use Rattle.lft_ir.specs.Words.Words.{reaction_words}
-use Rattle.lft_ir.proofs.WordsLemmas.Steps.{also}
+use Rattle.lft_ir.{specs.Words.Words.reaction_words, proofs.WordsLemmas.Steps.also}
 use Rattle.lft_report.proofs.reasons.push_effects.Goals as goal
 
 pub returns : goal.returns

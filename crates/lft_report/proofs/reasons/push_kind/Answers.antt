@@ -1,7 +1,6 @@
 use Rattle.std.proofs.Common.{◌++◌, ap, ◌∙◌, codes, string_bytes}
-use Rattle.lft_ir.specs.Words.Words.{name_words}
+use Rattle.lft_ir.{specs.Words.Words.name_words, proofs.WordsLemmas.Steps.also}
 use Rattle.lft_report.specs.Reasons.{kind_words}
-use Rattle.lft_ir.proofs.WordsLemmas.Steps.{also}
 use Rattle.lft_report.proofs.reasons.push_kind.Goals as goal
 
 pub returns : goal.returns

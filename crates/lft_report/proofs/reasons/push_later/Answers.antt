@@ -1,6 +1,5 @@
 use Rattle.std.proofs.Common.{◌++◌, codes}
-use Rattle.lft_ir.specs.Words.Lines.{capital_line_words, tag_at}
-use Rattle.lft_ir.proofs.WordsLemmas.Steps.{also}
+use Rattle.lft_ir.{specs.Words.Lines.{capital_line_words, tag_at}, proofs.WordsLemmas.Steps.also}
 use Rattle.lft_report.proofs.reasons.push_later.Goals as goal
 
 pub returns : goal.returns

@@ -1,7 +1,6 @@
 use Rattle.std.proofs.Common.{◌++◌, codes}
-use Rattle.lft_ir.specs.Words.Lines.{tag_at}
+use Rattle.lft_ir.{specs.Words.Lines.tag_at, proofs.WordsLemmas.Steps.also}
 use Rattle.lft_report.specs.Rows.{line_is_words}
-use Rattle.lft_ir.proofs.WordsLemmas.Steps.{also}
 use Rattle.lft_report.proofs.rows.push_late.Goals as goal
 
 pub returns : goal.returns

@@ -1,7 +1,6 @@
 use Rattle.std.proofs.Common.{◌++◌, codes}
-use Rattle.lft_ir.specs.Words.Lines.{line_words, worker_at}
+use Rattle.lft_ir.{specs.Words.Lines.{line_words, worker_at}, proofs.WordsLemmas.Steps.also}
 use Rattle.lft_report.specs.Rows.{run_words}
-use Rattle.lft_ir.proofs.WordsLemmas.Steps.{also}
 use Rattle.lft_report.proofs.rows.push_not_open.Goals as goal
 
 pub returns : goal.returns

@@ -1,8 +1,6 @@
 use Rattle.std.proofs.Common.{◌≡◌, ◌++◌, codes, string_bytes, sym, subst}
-use Rattle.lft_ir.specs.declared.parts.Trigger.{Trigger}
-use Rattle.lft_ir.specs.Words.Words.{tag_words, timer_words}
-use Rattle.lft_report.specs.Runs.{absent_words}
-use Rattle.lft_report.proofs.Texts.{five}
+use Rattle.lft_ir.specs.{declared.parts.Trigger.Trigger, Words.Words.{tag_words, timer_words}}
+use Rattle.lft_report.{specs.Runs.absent_words, proofs.Texts.five}
 use Rattle.lft_report.proofs.runs.push_absent.Goals as goal
 
 pub returns-in_ok-push_str-in-Timer-3 : goal.returns-in_ok-push_str-in-Timer-3

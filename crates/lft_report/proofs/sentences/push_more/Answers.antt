@@ -1,6 +1,5 @@
 use Rattle.std.proofs.Common.{◌++◌, codes}
-use Rattle.lft_ir.specs.Words.Words.{tag_words}
-use Rattle.lft_ir.proofs.WordsLemmas.Steps.{also}
+use Rattle.lft_ir.{specs.Words.Words.tag_words, proofs.WordsLemmas.Steps.also}
 use Rattle.lft_report.proofs.sentences.push_more.Goals as goal
 
 pub returns : goal.returns

@@ -1,7 +1,6 @@
 use Rattle.std.proofs.Common.{codes}
 use Rattle.lft_ir.specs.Words.Words.{tag_words}
-use Rattle.lft_report.specs.Ways.{side_words, nearest_of}
-use Rattle.lft_report.proofs.Texts.{five}
+use Rattle.lft_report.{specs.Ways.{side_words, nearest_of}, proofs.Texts.five}
 use Rattle.lft_report.proofs.ways.push_nearest.Goals as goal
 
 pub returns : goal.returns

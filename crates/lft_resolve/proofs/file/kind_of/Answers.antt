@@ -1,9 +1,6 @@
 use Rattle.std.proofs.Common.{◌≡◌, Some, None, find, option_map, string_bytes, bytes_eq, sym, ap, subst, ◌∙◌}
-use Rattle.lft_tree.specs.Tree.{instances_of, ports_of}
-use Rattle.lft_tree.specs.View.{instance_view}
-use Rattle.lft_resolve.specs.Instances.{reactor_named}
-use Rattle.lft_resolve.specs.Kinds.{inner_port, kind_inside}
-use Rattle.lft_resolve.proofs.Files.{inner_found, inner_lost}
+use Rattle.lft_tree.specs.{Tree.{instances_of, ports_of}, View.instance_view}
+use Rattle.lft_resolve.{specs.{Instances.reactor_named, Kinds.{inner_port, kind_inside}}, proofs.Files.{inner_found, inner_lost}}
 use Rattle.lft_resolve.proofs.file.kind_of.Goals as goal
 
 pub returns-in-Some-reactor : goal.returns-in-Some-reactor

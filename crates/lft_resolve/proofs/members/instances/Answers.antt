@@ -1,10 +1,9 @@
 use Rattle.std.proofs.Common.{◌<◌, length, ap, sym, ◌∙◌, arith}
 use Rattle.std.specs.Option.{option_map}
-use Rattle.lft_tree.specs.Tree.{instance_in}
-use Rattle.lft_tree.specs.View.{member_view, instance_view}
+use Rattle.lft_tree.specs.{Tree.instance_in, View.{member_view, instance_view}}
 use Rattle.lft_lists.proofs.Picked.{picked_some, picked_none}
-use Rattle.lft_resolve.proofs.members.instances.Goals as goal
 use Rattle.lft_resolve.proofs.members.instances.Goals.{in-Some+in_ok-push-in-Some, in-None}
+use Rattle.lft_resolve.proofs.members.instances.Goals as goal
 
 pub loop-member-preserved : goal.loop-member-preserved
 loop-member-preserved c =

@@ -1,10 +1,9 @@
 use Rattle.std.proofs.Common.{◌<◌, length, ap, sym, ◌∙◌, arith}
 use Rattle.std.specs.Option.{option_map}
-use Rattle.lft_tree.specs.Tree.{reactor_in}
-use Rattle.lft_tree.specs.View.{item_view, reactor_view}
+use Rattle.lft_tree.specs.{Tree.reactor_in, View.{item_view, reactor_view}}
 use Rattle.lft_lists.proofs.Picked.{picked_some, picked_none}
-use Rattle.lft_resolve.proofs.members.reactors.Goals as goal
 use Rattle.lft_resolve.proofs.members.reactors.Goals.{in-Some+in_ok-push-in-Some, in-None}
+use Rattle.lft_resolve.proofs.members.reactors.Goals as goal
 
 pub loop-item-preserved : goal.loop-item-preserved
 loop-item-preserved c =

@@ -2,8 +2,8 @@ use Rattle.std.proofs.Common.{◌<◌, length, Some, string_bytes, ap, sym, ◌�
 use Rattle.std.specs.Option.{option_map}
 use Rattle.lft_tree.specs.View.{reactor_view}
 use Rattle.lft_lists.proofs.Picked.{picked_some, picked_none}
-use Rattle.lft_resolve.proofs.names.reactor_names.Goals as goal
 use Rattle.lft_resolve.proofs.names.reactor_names.Goals.{in-Some+in_ok-push-in-Some, in-None}
+use Rattle.lft_resolve.proofs.names.reactor_names.Goals as goal
 
 pub loop-reactor-preserved : goal.loop-reactor-preserved
 loop-reactor-preserved c =

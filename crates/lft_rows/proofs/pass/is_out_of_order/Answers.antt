@@ -1,6 +1,5 @@
 use Rattle.std.proofs.Common.{refl, ◌∙◌, sym}
-use Rattle.lft_rows.proofs.Steps.{order_inner, order_open}
-use Rattle.lft_rows.proofs.PresenceLemmas.Lists.{not_true}
+use Rattle.lft_rows.proofs.{Steps.{order_inner, order_open}, PresenceLemmas.Lists.not_true}
 use Rattle.lft_rows.proofs.pass.is_out_of_order.Goals as goal
 
 pub returns-else-is_start : goal.returns-else-is_start

@@ -1,8 +1,5 @@
 use Rattle.lft_lists.proofs.Members.{mem_contains}
-use Rattle.lft_same.proofs.ExpandedLemmas.Crossed.{places_crossed}
-use Rattle.lft_same.proofs.ExpandedLemmas.Links.{joined_links, whole_links}
-use Rattle.lft_same.proofs.ExpandedLemmas.Only.{only_flat}
-use Rattle.lft_same.proofs.ExpandedLemmas.Sameness.{core_law, same_law}
+use Rattle.lft_same.proofs.ExpandedLemmas.{Crossed.places_crossed, Links.{joined_links, whole_links}, Only.only_flat, Sameness.{core_law, same_law}}
 use Rattle.lft_same.proofs.expanded.laws_of_programs.Goals as goal
 
 pub returns : goal.returns

@@ -1,5 +1,4 @@
-use Rattle.lft_same.proofs.FitsLemmas.ClassNames.{names_law}
-use Rattle.lft_same.proofs.FitsLemmas.Nested.{inside_law, main_law}
+use Rattle.lft_same.proofs.FitsLemmas.{ClassNames.names_law, Nested.{inside_law, main_law}}
 use Rattle.lft_same.proofs.fits.laws_of_settings.Goals as goal
 
 pub returns : goal.returns

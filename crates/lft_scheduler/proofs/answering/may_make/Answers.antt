@@ -1,6 +1,5 @@
 use Rattle.std.proofs.Common.{◌≡◌, ◌<◌, length, ap, subst, arith, rules, Some, slice_get, Contains}
-use Rattle.lft_ir.specs.Parts.{Parts}
-use Rattle.lft_ir.specs.declared.parts.Name.TheVariants.{Action}
+use Rattle.lft_ir.specs.{Parts.Parts, declared.parts.Name.TheVariants.Action}
 use Rattle.lft_scheduler.proofs.answering.may_make.Goals as goal
 
 pub action-requires : goal.action-requires

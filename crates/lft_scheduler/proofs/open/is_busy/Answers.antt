@@ -1,6 +1,5 @@
 use Rattle.std.proofs.Common.{◌≡◌, ◌<◌, Some, length, slice_get, refl, sym, ap, ◌∙◌, arith, rules}
-use Rattle.std.proofs.lemmas.Bool.{false≢true}
-use Rattle.std.proofs.lemmas.Option.{slice_get-get_or}
+use Rattle.std.proofs.lemmas.{Bool.false≢true, Option.slice_get-get_or}
 use Rattle.lft_model.proofs.Places.{slice_get_within}
 use Rattle.lft_scheduler.proofs.RunsOpen.{busy_with, busy_none, before_one_more}
 use Rattle.lft_scheduler.proofs.open.is_busy.Goals as goal

@@ -1,12 +1,7 @@
 use Rattle.std.proofs.Common.{◌≡◌, ◌<◌, ◌∷◌, [], ◌++◌, List, Some, None, map, filter_map, get_or, slice_get, length, ap, ◌∙◌, arith, rules, Option, unwrap_or, option_map}
-use Rattle.lft_ir.specs.Parts.{inputs}
-use Rattle.lft_ir.specs.declared.parts.Reaction.{Reaction}
-use Rattle.lft_model.specs.Runs.{inputs_of}
+use Rattle.lft_ir.specs.{Parts.inputs, declared.{parts.{Reaction.Reaction, Name.TheVariants.Port}, steps.row.Row.Row}}
+use Rattle.lft_model.specs.{Runs.{inputs_of, read_step}, Recorded.run_row}
 use Rattle.std.proofs.lemmas.Option.{slice_get-get_or}
-use Rattle.lft_ir.specs.declared.parts.Name.TheVariants.{Port}
-use Rattle.lft_ir.specs.declared.steps.row.Row.{Row}
-use Rattle.lft_model.specs.Runs.{read_step}
-use Rattle.lft_model.specs.Recorded.{run_row}
 use Rattle.lft_scheduler.proofs.BegunRows.{read_more}
 use Rattle.lft_scheduler.proofs.opening.begun.Goals as goal
 

@@ -1,7 +1,6 @@
 use Rattle.std.proofs.Common.{◌≡◌, sym, ◌∙◌, subst}
 use Rattle.std.proofs.lemmas.Bool.{false≢true}
-use Rattle.lft_tag.specs.declared.Tag.{Tag}
-use Rattle.lft_tag.specs.Tags.{Before, after}
+use Rattle.lft_tag.specs.{declared.Tag.Tag, Tags.{Before, after}}
 use Rattle.lft_scheduler.proofs.Stops.{stop_now, stop_late, stop_unasked}
 use Rattle.lft_scheduler.proofs.stopping.stop_with.Goals as goal
 

@@ -1,12 +1,8 @@
 use Rattle.std.proofs.Common.{◌<◌, ◌∷◌, [], List, IsTrue, true, refl, sym, subst, length}
 use Rattle.lft_tag.specs.Tags.{Before}
-use Rattle.lft_ir.specs.Parts.{Parts}
-use Rattle.lft_ir.specs.declared.parts.Trigger.TheVariants.{Timer}
-use Rattle.lft_scheduler.specs.Listeners.{IsListener}
-use Rattle.lft_scheduler.specs.declared.firings.Firing.{Firing}
-use Rattle.lft_scheduler.specs.Firings.{AreFirst, IsMoved}
-use Rattle.lft_scheduler.proofs.ToldTurns.{told_as, live_within}
-use Rattle.lft_scheduler.proofs.Taking.{none_taken, taken_more, all_taken, told_taken, told_at_first, told_one_timer}
+use Rattle.lft_ir.specs.{Parts.Parts, declared.parts.Trigger.TheVariants.Timer}
+use Rattle.lft_scheduler.specs.{Listeners.IsListener, declared.firings.Firing.Firing, Firings.{AreFirst, IsMoved}}
+use Rattle.lft_scheduler.proofs.{ToldTurns.{told_as, live_within}, Taking.{none_taken, taken_more, all_taken, told_taken, told_at_first, told_one_timer}}
 use Rattle.lft_scheduler.proofs.telling.tell_timers.Goals as goal
 
 pub due-init : goal.due-init

@@ -1,17 +1,12 @@
 use Rattle.std.proofs.Common.{◌≡◌, ℕ, ◌<◌, length, Some, slice_get, IsTrue, sym, ap, ◌∙◌, subst, arith}
 use Rattle.lft_tag.specs.Shifts.{shifted}
 use Rattle.lft_ir.specs.Parts.{Parts}
-use Rattle.lft_ir.specs.declared.parts.Port.{Port as PortOf}
-use Rattle.lft_ir.specs.declared.parts.Value.TheVariants.{Bare}
-use Rattle.lft_ir.specs.declared.parts.Name.TheVariants.{Port}
-use Rattle.lft_ir.specs.declared.parts.Trigger.TheVariants.{On}
+use Rattle.lft_ir.specs.declared.parts.{Port.Port as PortOf, Value.TheVariants.Bare, Name.TheVariants.Port, Trigger.TheVariants.On}
 use Rattle.lft_ir.specs.declared.steps.row.Step.TheVariants.{Write}
 use Rattle.lft_lists.proofs.Places.{contains_at, at_contains, same_some}
 use Rattle.lft_model.proofs.Places.{slice_get_within}
-use Rattle.lft_scheduler.specs.Listeners.{IsListener, IsArrival}
-use Rattle.lft_scheduler.proofs.Given.{listened_watched}
-use Rattle.lft_scheduler.specs.Telling.{ArrivesAtOnce}
-use Rattle.lft_scheduler.proofs.ToldTurns.{told_as, told_begun, told_next, told_each}
+use Rattle.lft_scheduler.specs.{Listeners.{IsListener, IsArrival}, Telling.ArrivesAtOnce}
+use Rattle.lft_scheduler.proofs.{Given.listened_watched, ToldTurns.{told_as, told_begun, told_next, told_each}}
 use Rattle.lft_scheduler.proofs.writing.tell_write.Goals as goal
 
 pub loop-at-init : goal.loop-at-init

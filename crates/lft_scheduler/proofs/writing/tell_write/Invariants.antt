@@ -1,10 +1,6 @@
 use Rattle.std.proofs.Common.{ℕ}
-use Rattle.lft_ir.specs.declared.parts.Value.{Value}
-use Rattle.lft_ir.specs.declared.parts.Name.TheVariants.{Port}
-use Rattle.lft_ir.specs.declared.parts.Trigger.TheVariants.{On}
-use Rattle.lft_ir.specs.declared.steps.row.Step.TheVariants.{Write}
-use Rattle.lft_scheduler.specs.Listeners.{IsListener}
-use Rattle.lft_scheduler.specs.Telling.{IsTold, OfFirst, ArrivesAtOnce}
+use Rattle.lft_ir.specs.declared.{parts.{Value.Value, Name.TheVariants.Port, Trigger.TheVariants.On}, steps.row.Step.TheVariants.Write}
+use Rattle.lft_scheduler.specs.{Listeners.IsListener, Telling.{IsTold, OfFirst, ArrivesAtOnce}}
 use Rattle.lft_scheduler.proofs.writing.tell_write.Given as goal
 
 abbrev pub invariant-loop-at : goal.invariant-loop-at

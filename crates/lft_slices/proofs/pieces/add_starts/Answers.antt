@@ -1,10 +1,8 @@
 use Rattle.std.proofs.Common.{◌≡◌, ◌+◌, List, refl, sym, ap, ◌∙◌, subst, arith}
 use Rattle.lft_rows.proofs.PresenceLemmas.Lists.{not_true}
-use Rattle.lft_slices.specs.declared.pieces.Piece.{Piece}
-use Rattle.lft_slices.specs.Pieces.{AreStartsTo}
-use Rattle.lft_slices.proofs.Piecing.{starts_begin, starts_stay, starts_more}
+use Rattle.lft_slices.specs.{declared.pieces.Piece.Piece, Pieces.AreStartsTo}
+use Rattle.lft_slices.proofs.{Piecing.{starts_begin, starts_stay, starts_more}, pieces.add_starts.Goals.{then-is_start+in_ok-push, else-is_start}}
 use Rattle.lft_slices.proofs.pieces.add_starts.Goals as goal
-use Rattle.lft_slices.proofs.pieces.add_starts.Goals.{then-is_start+in_ok-push, else-is_start}
 
 pub loop-place-init : goal.loop-place-init
 loop-place-init c = subst (λ xs. AreStartsTo c.args.rows.now c.args.slice c.args.slice.first xs) (sym c.requires.empty) (starts_begin c.requires.rules.0 c.args.rows.now c.requires.rules.1 c.args.slice c.requires.slice)

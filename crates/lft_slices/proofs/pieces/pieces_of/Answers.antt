@@ -1,6 +1,5 @@
 use Rattle.std.proofs.Common.{sym, ◌∙◌, subst, arith}
-use Rattle.lft_slices.specs.Pieces.{AreRuns}
-use Rattle.lft_slices.proofs.Piecing.{pieces_more, pieces_end}
+use Rattle.lft_slices.{specs.Pieces.AreRuns, proofs.Piecing.{pieces_more, pieces_end}}
 use Rattle.lft_slices.proofs.pieces.pieces_of.Goals as goal
 
 pub loop-place-preserved : goal.loop-place-preserved

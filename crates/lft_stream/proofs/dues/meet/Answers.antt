@@ -1,17 +1,11 @@
 use Rattle.std.proofs.Common.{◌≡◌, ℕ, Bool, IsTrue, List, refl, sym, ap, subst, arith, Some, slice_get}
 use Rattle.lft_tag.specs.declared.Tag.{Tag}
-use Rattle.lft_ir.specs.declared.parts.Trigger.{Trigger}
-use Rattle.lft_ir.specs.declared.steps.row.Row.{Row}
+use Rattle.lft_ir.specs.declared.{parts.Trigger.Trigger, steps.row.Row.Row}
 use Rattle.lft_lists.proofs.Places.{contains_at, get_there}
-use Rattle.lft_model.specs.Plans.{PlanParts}
-use Rattle.lft_model.specs.Presence.{stop}
-use Rattle.lft_model.specs.Runs.{Ran}
-use Rattle.lft_model.proofs.Places.{slice_get_within}
-use Rattle.lft_stream.specs.declared.due.Due.{Due}
-use Rattle.lft_stream.specs.Dues.{IsDue, AreDue, IsDueAt}
-use Rattle.lft_stream.proofs.Owing.{due_occurs, due_set}
+use Rattle.lft_model.{specs.{Plans.PlanParts, Presence.stop, Runs.Ran}, proofs.Places.slice_get_within}
+use Rattle.lft_stream.specs.{declared.due.Due.Due, Dues.{IsDue, AreDue, IsDueAt}}
+use Rattle.lft_stream.proofs.{Owing.{due_occurs, due_set}, dues.meet.Goals.{then-is_at+in_ok-next, else-is_at}}
 use Rattle.lft_stream.proofs.dues.meet.Goals as goal
-use Rattle.lft_stream.proofs.dues.meet.Goals.{then-is_at+in_ok-next, else-is_at}
 
 pub loop-place-preserved : goal.loop-place-preserved
 loop-place-preserved c =

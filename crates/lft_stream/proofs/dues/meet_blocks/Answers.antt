@@ -1,8 +1,7 @@
 use Rattle.std.proofs.Common.{Bool, IsTrue, List, sym, subst}
-use Rattle.lft_stream.specs.declared.due.Due.{Due}
-use Rattle.lft_stream.specs.Dues.{GoOn}
-use Rattle.lft_stream.proofs.dues.meet_blocks.Goals as goal
+use Rattle.lft_stream.specs.{declared.due.Due.Due, Dues.GoOn}
 use Rattle.lft_stream.proofs.dues.meet_blocks.Goals.{then-item_at-tag+in-Some+then-is_present, then-item_at-tag+in-Some+else-is_present, else-item_at-tag}
+use Rattle.lft_stream.proofs.dues.meet_blocks.Goals as goal
 
 pub returns-in_default-clause-due : goal.returns-in_default-clause-due
 returns-in_default-clause-due c = λ plan t r triggers last ran are. c.meet.ensures.due plan t r triggers last ran (c.loop-block.invariant.due plan t r triggers last ran are)

@@ -1,22 +1,11 @@
 use Rattle.std.proofs.Common.{◌≡◌, ℕ, inl, inr, Some, None, refl, sym, ap, ◌∙◌, subst, slice_get, filter_map, arith}
 use Rattle.std.proofs.lemmas.Bool.{cases_eq}
-use Rattle.lft_ir.specs.declared.steps.row.Row.{Row}
-use Rattle.lft_ir.specs.declared.steps.row.Step.{Step}
-use Rattle.lft_ir.specs.declared.steps.row.Step.TheVariants.{Write}
-use Rattle.lft_ir.specs.Parts.{Parts}
-use Rattle.lft_ir.specs.declared.parts.Name.{Name}
-use Rattle.lft_ir.specs.declared.parts.Name.TheVariants.{Port}
-use Rattle.lft_lists.proofs.Places.{same_at}
-use Rattle.lft_lists.proofs.Members.{get_mem, mem_from_filter, last_mem}
-use Rattle.lft_model.specs.Presence.{written, value_written}
-use Rattle.lft_model.proofs.Ended.{written_by}
-use Rattle.lft_model.proofs.Places.{slice_get_within}
-use Rattle.lft_model.proofs.Steps.{written_some, some_written}
-use Rattle.lft_queue.specs.Coming.Listeners.{list_of}
-use Rattle.lft_queue.proofs.ComingLemmas.AtOnce.{heard_origin}
-use Rattle.lft_stream.specs.StartTags.{AreStartTags}
+use Rattle.lft_ir.specs.{declared.{steps.row.{Row.Row, Step.{Step, TheVariants.Write}}, parts.Name.{Name, TheVariants.Port}}, Parts.Parts}
+use Rattle.lft_lists.proofs.{Places.same_at, Members.{get_mem, mem_from_filter, last_mem}}
+use Rattle.lft_model.{specs.Presence.{written, value_written}, proofs.{Ended.written_by, Places.slice_get_within, Steps.{written_some, some_written}}}
+use Rattle.lft_queue.{specs.Coming.Listeners.list_of, proofs.ComingLemmas.AtOnce.heard_origin}
+use Rattle.lft_stream.{specs.StartTags.AreStartTags, proofs.hearing.are_heard.Goals.{in-Some+else-not-have_started, in_default}}
 use Rattle.lft_stream.proofs.hearing.are_heard.Goals as goal
-use Rattle.lft_stream.proofs.hearing.are_heard.Goals.{in-Some+else-not-have_started, in_default}
 
 pub loop-place-preserved : goal.loop-place-preserved
 loop-place-preserved c = elim c.match-written_port.branch [

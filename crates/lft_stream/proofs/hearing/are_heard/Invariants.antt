@@ -1,10 +1,6 @@
 use Rattle.std.proofs.Common.{◌≡◌, ℕ, ◌<◌, List, [], Some, slice_get}
 use Rattle.lft_ir.specs.Origins.{Origin}
-use Rattle.lft_ir.specs.declared.parts.Value.{Value}
-use Rattle.lft_ir.specs.declared.parts.Name.TheVariants.{Port}
-use Rattle.lft_ir.specs.declared.parts.Trigger.TheVariants.{On}
-use Rattle.lft_ir.specs.declared.steps.row.Row.{Row}
-use Rattle.lft_ir.specs.declared.steps.row.Step.TheVariants.{Write}
+use Rattle.lft_ir.specs.declared.{parts.{Value.Value, Name.TheVariants.Port, Trigger.TheVariants.On}, steps.row.{Row.Row, Step.TheVariants.Write}}
 use Rattle.lft_model.specs.Runs.{Ran}
 use Rattle.lft_queue.specs.Coming.Listens.{Listens}
 use Rattle.lft_stream.specs.StartTags.{AreStartTags}

@@ -1,7 +1,6 @@
 use Rattle.std.proofs.Common.{◌⊎◌, List}
 use Rattle.lft_lists.proofs.Members.{Mem}
-use Rattle.lft_ir.specs.declared.parts.Name.{Name}
-use Rattle.lft_ir.specs.declared.steps.row.Row.{Row}
+use Rattle.lft_ir.specs.declared.{parts.Name.Name, steps.row.Row.Row}
 use Rattle.lft_queue.specs.Coming.Listeners.{AreStarted}
 use Rattle.lft_stream.specs.StartTags.{AreStartTags}
 use Rattle.lft_stream.proofs.hearing.are_met.Given as goal

@@ -1,6 +1,5 @@
 use Rattle.std.proofs.Common.{◌≡◌, ◌<◌, ℕ, Some, Contains, slice_get}
-use Rattle.lft_ir.specs.declared.parts.Name.{Name}
-use Rattle.lft_ir.specs.declared.parts.Name.TheVariants.{Port}
+use Rattle.lft_ir.specs.declared.parts.Name.{Name, TheVariants.Port}
 use Rattle.lft_stream.proofs.presence.add_ports.Given as goal
 
 abbrev pub invariant-loop-place : goal.invariant-loop-place

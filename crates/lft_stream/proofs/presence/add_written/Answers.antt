@@ -1,15 +1,10 @@
 use Rattle.std.proofs.Common.{◌≡◌, ℕ, inl, inr, List, Some, None, Contains, slice_get, refl, sym, ap, ◌∙◌, subst, arith}
 use Rattle.std.proofs.lemmas.Bool.{cases_eq}
-use Rattle.lft_ir.specs.declared.parts.Name.TheVariants.{Port}
-use Rattle.lft_ir.specs.declared.steps.row.Row.{Row}
-use Rattle.lft_ir.specs.declared.steps.row.Step.{Step}
-use Rattle.lft_ir.specs.declared.steps.row.Step.TheVariants.{Write}
+use Rattle.lft_ir.specs.declared.{parts.Name.TheVariants.Port, steps.row.{Row.Row, Step.{Step, TheVariants.Write}}}
 use Rattle.lft_lists.proofs.Places.{same_at, same_some}
-use Rattle.lft_model.specs.Presence.{value_written}
-use Rattle.lft_model.proofs.Places.{slice_get_within}
-use Rattle.lft_model.proofs.Steps.{some_written}
-use Rattle.lft_stream.proofs.presence.add_written.Goals as goal
+use Rattle.lft_model.{specs.Presence.value_written, proofs.{Places.slice_get_within, Steps.some_written}}
 use Rattle.lft_stream.proofs.presence.add_written.Goals.{in-Some+else-not-add_ports, in_default}
+use Rattle.lft_stream.proofs.presence.add_written.Goals as goal
 
 pub loop-place-preserved : goal.loop-place-preserved
 loop-place-preserved c = elim c.match-written_port.branch [

@@ -1,8 +1,5 @@
 use Rattle.std.proofs.Common.{◌≡◌, ◌<◌, ℕ, List, Some, Contains, slice_get}
-use Rattle.lft_ir.specs.declared.parts.Value.{Value}
-use Rattle.lft_ir.specs.declared.parts.Name.TheVariants.{Port}
-use Rattle.lft_ir.specs.declared.steps.row.Row.{Row}
-use Rattle.lft_ir.specs.declared.steps.row.Step.TheVariants.{Write}
+use Rattle.lft_ir.specs.declared.{parts.{Value.Value, Name.TheVariants.Port}, steps.row.{Row.Row, Step.TheVariants.Write}}
 use Rattle.lft_stream.proofs.presence.add_written.Given as goal
 
 abbrev pub invariant-loop-place : goal.invariant-loop-place

@@ -1,19 +1,13 @@
 use Rattle.std.proofs.Common.{◌≡◌, ◌++◌, inl, inr, ℕ, true, Option, Some, None, MatchOption, slice_get, refl, ap, sym, subst, ◌∙◌, arith}
-use Rattle.std.specs.Option.{is_some}
-use Rattle.std.proofs.lemmas.Bool.{cases_eq}
-use Rattle.lft_ir.specs.Parts.{Parts, inputs}
-use Rattle.lft_ir.specs.declared.parts.Name.{Name}
-use Rattle.lft_ir.specs.declared.parts.Value.{Value}
+use Rattle.std.{specs.Option.is_some, proofs.lemmas.Bool.cases_eq}
+use Rattle.lft_ir.specs.{Parts.{Parts, inputs}, declared.{parts.{Name.Name, Value.Value}, steps.row.{Row.Row, Step.TheVariants.Read}}}
 use Rattle.lft_ir.proofs.Naming.{input_known}
-use Rattle.lft_lists.proofs.Members.{Mem, mem_get}
-use Rattle.lft_lists.proofs.Places.{same_at}
-use Rattle.lft_ir.specs.declared.steps.row.Row.{Row}
-use Rattle.lft_ir.specs.declared.steps.row.Step.TheVariants.{Read}
+use Rattle.lft_lists.proofs.{Members.{Mem, mem_get}, Places.same_at}
 use Rattle.lft_model.specs.Presence.{Shows}
 use Rattle.lft_rows.specs.Marks.{HasSeat}
 use Rattle.lft_queue.proofs.ComingLemmas.AtOnce.{input_awaited}
-use Rattle.lft_stream.proofs.reads.are_reads_shown.Goals as goal
 use Rattle.lft_stream.proofs.reads.are_reads_shown.Goals.{in-Read+else-is_none+else-not-are_same, in_default}
+use Rattle.lft_stream.proofs.reads.are_reads_shown.Goals as goal
 
 -- what is found is one of those that are looked for
 found : (o : Option ℕ) (P : Type 0) (Q : ℕ → Type 0) → is_some o ≡ true → MatchOption o P Q → (k : ℕ) × Q k

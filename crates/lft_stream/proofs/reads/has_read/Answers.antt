@@ -1,9 +1,6 @@
 use Rattle.std.proofs.Common.{◌++◌, List, Contains, refl, sym, subst}
-use Rattle.lft_ir.specs.Parts.{inputs}
-use Rattle.lft_ir.specs.declared.parts.Name.{Name}
-use Rattle.lft_ir.proofs.Naming.{input_known}
-use Rattle.lft_lists.proofs.Members.{contains_mem}
-use Rattle.lft_lists.proofs.Places.{get_there}
+use Rattle.lft_ir.{specs.{Parts.inputs, declared.parts.Name.Name}, proofs.Naming.input_known}
+use Rattle.lft_lists.proofs.{Members.contains_mem, Places.get_there}
 use Rattle.lft_queue.proofs.ComingLemmas.AtOnce.{input_awaited}
 use Rattle.lft_stream.proofs.Meeting.{reads_present}
 use Rattle.lft_stream.proofs.reads.has_read.Goals as goal

@@ -1,19 +1,10 @@
 use Rattle.std.proofs.Common.{◌≡◌, ◌<◌, ◌+◌, ◌++◌, ◌∙◌, ℕ, List, Option, Some, slice_get, ap, refl, sym, subst, arith}
 use native.Mathlib.Decide.{ℕ_discrete}
-use Rattle.lft_ir.specs.Parts.{Parts, inputs}
-use Rattle.lft_ir.specs.declared.parts.Name.{Name}
-use Rattle.lft_ir.proofs.Naming.{input_known}
-use Rattle.lft_ir.specs.declared.parts.Value.{Value}
-use Rattle.lft_lists.proofs.Members.{Mem, mem_get}
-use Rattle.lft_lists.proofs.Places.{same_some}
-use Rattle.lft_ir.specs.declared.steps.row.Row.{Row}
-use Rattle.lft_model.specs.Plans.{PlanParts}
-use Rattle.lft_model.specs.Presence.{Shows}
-use Rattle.lft_model.specs.Runs.{read_of, steps_of}
-use Rattle.lft_model.proofs.Places.{slice_get_within}
+use Rattle.lft_ir.{specs.{Parts.{Parts, inputs}, declared.{parts.{Name.Name, Value.Value}, steps.row.Row.Row}}, proofs.Naming.input_known}
+use Rattle.lft_lists.proofs.{Members.{Mem, mem_get}, Places.same_some}
+use Rattle.lft_model.{specs.{Plans.PlanParts, Presence.Shows, Runs.{read_of, steps_of}}, proofs.Places.slice_get_within}
 use Rattle.lft_queue.proofs.ComingLemmas.AtOnce.{input_awaited}
-use Rattle.lft_stream.specs.Present.{AreShown}
-use Rattle.lft_stream.proofs.Present.{read_all}
+use Rattle.lft_stream.{specs.Present.AreShown, proofs.Present.read_all}
 use Rattle.lft_stream.proofs.reads.has_read_each.Goals as goal
 
 pub shown-present-requires : goal.shown-present-requires

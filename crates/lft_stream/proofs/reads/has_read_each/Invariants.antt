@@ -1,8 +1,6 @@
 use Rattle.std.proofs.Common.{◌≡◌, ℕ, ◌<◌, ◌++◌, List, Some, slice_get}
-use Rattle.lft_ir.specs.declared.parts.Name.{Name}
-use Rattle.lft_ir.specs.declared.steps.row.Row.{Row}
-use Rattle.lft_model.specs.Presence.{Shows}
-use Rattle.lft_model.specs.Runs.{read_of, steps_of}
+use Rattle.lft_ir.specs.declared.{parts.Name.Name, steps.row.Row.Row}
+use Rattle.lft_model.specs.{Presence.Shows, Runs.{read_of, steps_of}}
 use Rattle.lft_stream.specs.Present.{AreShown}
 use Rattle.lft_stream.proofs.reads.has_read_each.Given as goal
 

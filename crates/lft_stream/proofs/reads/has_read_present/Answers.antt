@@ -1,17 +1,11 @@
 use Rattle.std.proofs.Common.{◌≡◌, inl, inr, Option, Some, slice_get, ap, sym, subst, ◌∙◌, arith}
-use Rattle.std.specs.Option.{IsSome}
-use Rattle.std.proofs.lemmas.Bool.{cases_eq}
-use Rattle.lft_ir.specs.Parts.{Parts}
-use Rattle.lft_ir.specs.declared.parts.Name.{Name}
-use Rattle.lft_ir.specs.declared.parts.Reaction.{Reaction}
-use Rattle.lft_ir.specs.declared.parts.Value.{Value}
+use Rattle.std.{specs.Option.IsSome, proofs.lemmas.Bool.cases_eq}
+use Rattle.lft_ir.specs.{Parts.Parts, declared.parts.{Name.Name, Reaction.Reaction, Value.Value}}
 use Rattle.lft_lists.proofs.Places.{at_contains, same_at, same_some}
-use Rattle.lft_model.specs.Runs.{read_of, steps_of}
-use Rattle.lft_model.proofs.Places.{slice_get_within}
-use Rattle.lft_rows.specs.Marks.{HasSeat}
-use Rattle.lft_rows.proofs.Marked.{input_seat}
-use Rattle.lft_stream.proofs.reads.has_read_present.Goals as goal
+use Rattle.lft_model.{specs.Runs.{read_of, steps_of}, proofs.Places.slice_get_within}
+use Rattle.lft_rows.{specs.Marks.HasSeat, proofs.Marked.input_seat}
 use Rattle.lft_stream.proofs.reads.has_read_present.Goals.{in-Some+else-is_none, in_default}
+use Rattle.lft_stream.proofs.reads.has_read_present.Goals as goal
 
 pub loop-place-preserved : goal.loop-place-preserved
 loop-place-preserved c = elim c.match-seat.branch [

@@ -1,8 +1,6 @@
 use Rattle.std.proofs.Common.{◌≡◌, ◌<◌, ℕ, Some, Contains, slice_get}
 use Rattle.std.specs.Option.{IsSome}
-use Rattle.lft_ir.specs.Parts.{inputs}
-use Rattle.lft_ir.specs.declared.parts.Name.{Name}
-use Rattle.lft_ir.specs.declared.parts.Reaction.{Reaction}
+use Rattle.lft_ir.specs.{Parts.inputs, declared.parts.{Name.Name, Reaction.Reaction}}
 use Rattle.lft_model.specs.Runs.{read_of, steps_of}
 use Rattle.lft_stream.proofs.reads.has_read_present.Given as goal
 

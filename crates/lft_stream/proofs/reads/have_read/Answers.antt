@@ -2,10 +2,9 @@ use Rattle.std.proofs.Common.{◌≡◌, ◌++◌, ℕ, inl, inr, refl, sym, ap,
 use Rattle.std.proofs.lemmas.Bool.{cases_eq, false≢true}
 use Rattle.lft_lists.proofs.Places.{same_at}
 use Rattle.lft_ir.specs.declared.steps.row.Row.{Row}
-use Rattle.lft_model.specs.Presence.{Inputs}
-use Rattle.lft_model.specs.Runs.{start_row, reads_at}
-use Rattle.lft_stream.proofs.reads.have_read.Goals as goal
+use Rattle.lft_model.specs.{Presence.Inputs, Runs.{start_row, reads_at}}
 use Rattle.lft_stream.proofs.reads.have_read.Goals.{else-is_start-via-then-is_start+else-not-has_read, else-is_start-via-else-is_start}
+use Rattle.lft_stream.proofs.reads.have_read.Goals as goal
 
 pub loop-place-preserved : goal.loop-place-preserved
 loop-place-preserved c =

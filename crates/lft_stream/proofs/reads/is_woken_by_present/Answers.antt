@@ -1,14 +1,8 @@
 use Rattle.std.proofs.Common.{◌≡◌, ◌<◌, ◌++◌, ◌∙◌, length, List, Some, slice_get, filter_map, ap, sym, arith}
-use Rattle.lft_ir.specs.Naming.{named}
-use Rattle.lft_ir.specs.Parts.{Parts, inputs}
-use Rattle.lft_ir.specs.declared.parts.Name.{Name}
-use Rattle.lft_ir.specs.declared.parts.Reaction.{Reaction}
-use Rattle.lft_ir.proofs.Naming.{input_known}
-use Rattle.lft_lists.proofs.Members.{Mem, mem_get}
-use Rattle.lft_lists.proofs.Places.{same_some}
+use Rattle.lft_ir.{specs.{Naming.named, Parts.{Parts, inputs}, declared.parts.{Name.Name, Reaction.Reaction}}, proofs.Naming.input_known}
+use Rattle.lft_lists.proofs.{Members.{Mem, mem_get}, Places.same_some}
 use Rattle.lft_queue.proofs.ComingLemmas.AtOnce.{input_awaited}
-use Rattle.lft_stream.proofs.Present.{woken}
-use Rattle.lft_stream.proofs.Meeting.{trigger_at}
+use Rattle.lft_stream.proofs.{Present.woken, Meeting.trigger_at}
 use Rattle.lft_stream.proofs.reads.is_woken_by_present.Goals as goal
 
 pub shown-requires-clause-name : goal.shown-requires-clause-name

@@ -1,16 +1,8 @@
 use Rattle.std.proofs.Common.{◌≡◌, ◌<◌, ◌++◌, ◌∙◌, length, Option, Some, true, [], slice_get, ap, subst, sym, arith}
 use Rattle.lft_lists.proofs.Places.{get_there}
-use Rattle.lft_ir.specs.Origins.{Origin}
-use Rattle.lft_ir.specs.Parts.{Parts}
-use Rattle.lft_ir.specs.declared.parts.Name.{Name}
-use Rattle.lft_ir.specs.declared.parts.Name.TheVariants.{Port, Action}
-use Rattle.lft_ir.specs.declared.parts.Value.{Value}
-use Rattle.lft_ir.proofs.Origins.{origin_inside}
+use Rattle.lft_ir.{specs.{Origins.Origin, Parts.Parts, declared.parts.{Name.{Name, TheVariants.{Port, Action}}, Value.Value}}, proofs.Origins.origin_inside}
 use Rattle.lft_model.specs.Presence.{Shows}
-use Rattle.lft_queue.specs.Pending.{value_of}
-use Rattle.lft_queue.specs.Coming.AtOnce.{is_undelayed}
-use Rattle.lft_queue.specs.Coming.Shown.{last_write}
-use Rattle.lft_queue.proofs.ComingLemmas.AtOnce.{way_at_once}
+use Rattle.lft_queue.{specs.{Pending.value_of, Coming.{AtOnce.is_undelayed, Shown.last_write}}, proofs.ComingLemmas.AtOnce.way_at_once}
 use Rattle.lft_stream.proofs.Showing.{shows_law}
 use Rattle.lft_stream.proofs.reads.shown.Goals as goal
 

@@ -2,15 +2,12 @@ use Rattle.std.proofs.Common.{◌≡◌, ℕ, ◌++◌, inl, inr, List, refl, sy
 use Rattle.std.proofs.lemmas.Bool.{cases_eq, false≢true}
 use Rattle.lft_tag.specs.declared.Tag.{Tag}
 use Rattle.lft_lists.proofs.Places.{same_at}
-use Rattle.lft_ir.specs.declared.steps.row.Row.{Row}
-use Rattle.lft_ir.specs.declared.steps.row.Step.TheVariants.{Start}
-use Rattle.lft_model.specs.Presence.{Triggered}
-use Rattle.lft_model.specs.Runs.{start_row, Ran}
+use Rattle.lft_ir.specs.declared.steps.row.{Row.Row, Step.TheVariants.Start}
+use Rattle.lft_model.specs.{Presence.Triggered, Runs.{start_row, Ran}}
 use Rattle.lft_rows.proofs.Steps.{row_eq}
-use Rattle.lft_stream.specs.declared.due.Due.{Due}
-use Rattle.lft_stream.specs.Dues.{AreDues}
-use Rattle.lft_stream.proofs.stream.are_triggered.Goals as goal
+use Rattle.lft_stream.specs.{declared.due.Due.Due, Dues.AreDues}
 use Rattle.lft_stream.proofs.stream.are_triggered.Goals.{else-is_start-via-then-is_start+else-not-is_triggered, else-is_start-via-else-is_start}
+use Rattle.lft_stream.proofs.stream.are_triggered.Goals as goal
 
 pub is_triggered-requires-clause-dues : goal.is_triggered-requires-clause-dues
 is_triggered-requires-clause-dues c = (c.requires.dues.0, c.loop-place.invariant.dues c.requires.dues.0 c.requires.dues.1)

@@ -1,8 +1,8 @@
 use Rattle.std.proofs.Common.{◌≡◌, ◌+◌, ◌≤◌, refl, sym, ap, ◌∙◌, arith}
 use Rattle.std.proofs.lemmas.Bool.{false≢true}
 use Rattle.lft_rows.proofs.Counted.{count_start, count_inner}
-use Rattle.lft_stream.proofs.stream.starts_in.Goals as goal
 use Rattle.lft_stream.proofs.stream.starts_in.Goals.{then-is_start, else-is_start}
+use Rattle.lft_stream.proofs.stream.starts_in.Goals as goal
 
 pub loop-place-preserved : goal.loop-place-preserved
 loop-place-preserved c =

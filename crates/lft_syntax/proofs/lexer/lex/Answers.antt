@@ -1,10 +1,7 @@
 use Rattle.std.proofs.Common.{◌≡◌, List, Result, Ok, Err, IfErr, arith, sym, subst}
 use Rattle.std.specs.Result.{IsErrAnd}
-use Rattle.lft_syntax.specs.declared.token.Token.{Token}
-use Rattle.lft_syntax.specs.declared.fault.LexFault.{LexFault}
-use Rattle.lft_syntax.specs.Lexes.{Lexes, LexFails, Piece}
-use Rattle.lft_syntax.proofs.Pieces.{piece_further, piece_within}
-use Rattle.lft_syntax.proofs.Cuts.{Front, front_blank, front_token, front_whole, front_fault, not_some}
+use Rattle.lft_syntax.specs.{declared.{token.Token.Token, fault.LexFault.LexFault}, Lexes.{Lexes, LexFails, Piece}}
+use Rattle.lft_syntax.proofs.{Pieces.{piece_further, piece_within}, Cuts.{Front, front_blank, front_token, front_whole, front_fault, not_some}}
 use Rattle.lft_syntax.proofs.lexer.lex.Goals as goal
 
 handed_on : {A : Type 0} (P : LexFault → Type 0) (e : LexFault) (r : Result A LexFault) → P e → IsErrAnd r (λ x. x ≡ e) → IfErr r P

@@ -1,6 +1,5 @@
 use Rattle.std.proofs.Common.{inr, arith}
-use Rattle.lft_syntax.proofs.Pieces.{piece_further, piece_within}
-use Rattle.lft_syntax.proofs.Cuts.{front_piece, front_refused, front_whole}
+use Rattle.lft_syntax.proofs.{Pieces.{piece_further, piece_within}, Cuts.{front_piece, front_refused, front_whole}}
 use Rattle.lft_syntax.proofs.lexer.refused_at.Goals as goal
 
 pub pieces-smaller : goal.pieces-smaller

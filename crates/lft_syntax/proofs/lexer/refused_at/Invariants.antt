@@ -1,6 +1,5 @@
 use Rattle.std.proofs.Common.{◌-◌, ◌≤◌, List, length}
-use Rattle.lft_syntax.specs.declared.token.Token.{Token}
-use Rattle.lft_syntax.proofs.Cuts.{Front}
+use Rattle.lft_syntax.{specs.declared.token.Token.Token, proofs.Cuts.Front}
 use Rattle.lft_syntax.proofs.lexer.refused_at.Given as goal
 
 abbrev pub invariant-pieces : goal.invariant-pieces

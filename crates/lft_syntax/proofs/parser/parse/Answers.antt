@@ -1,15 +1,8 @@
 use Rattle.std.proofs.Common.{◌≡◌, ℕ, List, sym, subst, ◌∙◌, ap, arith, Ok, Err}
-use Rattle.lft_syntax.specs.declared.token.Token.{Token}
-use Rattle.lft_tree.specs.Tree.{FileTree}
-use Rattle.lft_syntax.specs.Grammar.{Spells}
-use Rattle.lft_syntax.specs.View.{lexemes}
-use Rattle.lft_syntax.specs.Placed.{FileStands}
-use Rattle.lft_tree.specs.View.{file_view}
-use Rattle.lft_syntax.specs.Reading.{whole_at}
-use Rattle.lft_syntax.proofs.TokenFacts.{InText, token_at, name_ascii}
-use Rattle.lft_syntax.proofs.Whole.{read_tree, fault_given, begun_given, read_fault}
-use Rattle.lft_syntax.proofs.Behind.{lexemes_length}
+use Rattle.lft_syntax.specs.{declared.token.Token.Token, Grammar.Spells, View.lexemes, Placed.FileStands, Reading.whole_at}
+use Rattle.lft_syntax.proofs.{TokenFacts.{InText, token_at, name_ascii}, Whole.{read_tree, fault_given, begun_given, read_fault}, Behind.lexemes_length}
 use Rattle.lft_syntax.proofs.DeclaredNames.{has_identifiers}
+use Rattle.lft_tree.specs.{Tree.FileTree, View.file_view}
 use Rattle.lft_syntax.proofs.parser.parse.Goals as goal
 
 only_tree : (text : List ℕ) {slice tokens : List Token} {tree : FileTree} → slice ≡ tokens → whole_at (lexemes text slice) ≡ Ok tree → Spells tree (lexemes text tokens) × ((other : FileTree) → Spells other (lexemes text tokens) → other ≡ tree)

@@ -1,6 +1,5 @@
 use Rattle.std.proofs.Common.{arith, sym, ◌∙◌}
-use Rattle.lft_syntax.specs.Lexes.{value}
-use Rattle.lft_syntax.proofs.Numbers.{value_step, value_large}
+use Rattle.lft_syntax.{specs.Lexes.value, proofs.Numbers.{value_step, value_large}}
 use Rattle.lft_syntax.proofs.piece.number.Goals as goal
 
 pub returns-then-number-digit-clause-none : goal.returns-then-number-digit-clause-none

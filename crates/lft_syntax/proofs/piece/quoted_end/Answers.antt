@@ -1,6 +1,5 @@
 use Rattle.std.proofs.Common.{arith, refl, ◌+◌}
-use Rattle.lft_syntax.specs.Lexes.{ends}
-use Rattle.lft_syntax.proofs.Strings.{read, string_past, slash_on, slash_off, plain_on, plain_off}
+use Rattle.lft_syntax.{specs.Lexes.ends, proofs.Strings.{read, string_past, slash_on, slash_off, plain_on, plain_off}}
 use Rattle.lft_syntax.proofs.piece.quoted_end.Goals as goal
 
 pub returns-then-byte-eq34-clause-some : goal.returns-then-byte-eq34-clause-some

@@ -1,6 +1,5 @@
 use Rattle.std.proofs.Common.{◌≡◌, ℕ, ◌<◌, Some, slice_get}
-use Rattle.lft_text_diagnostics.specs.Pages.{HasByte}
-use Rattle.lft_text_diagnostics.specs.declared.pages.Page.{Page}
+use Rattle.lft_text_diagnostics.specs.{Pages.HasByte, declared.pages.Page.Page}
 use Rattle.lft_text_diagnostics.proofs.pages.page_of.Given as goal
 
 abbrev pub invariant-loop-place : goal.invariant-loop-place

@@ -1,9 +1,7 @@
 use Rattle.std.proofs.Common.{inr, string_bytes}
 use Rattle.std.proofs.lemmas.Result.{IfOk-weaker}
 use Rattle.lft_lists.proofs.Options.{found}
-use Rattle.lft_text_diagnostics.specs.Candidates.{CanStandAt}
-use Rattle.lft_text_diagnostics.specs.Refusals.{IsRefusal}
-use Rattle.lft_text_diagnostics.specs.Told.{SaysAt, TellsProgram}
+use Rattle.lft_text_diagnostics.specs.{Candidates.CanStandAt, Refusals.IsRefusal, Told.{SaysAt, TellsProgram}}
 use Rattle.lft_text_diagnostics.proofs.Helping.{helps_by_way, puts_help, told_at}
 use Rattle.lft_text_diagnostics.proofs.program_text.tell_no_tokens.Goals as goal
 

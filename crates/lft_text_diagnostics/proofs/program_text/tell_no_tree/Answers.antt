@@ -1,8 +1,6 @@
 use Rattle.std.proofs.Common.{◌-◌, inr, string_bytes}
 use Rattle.std.proofs.lemmas.Result.{IfOk-weaker}
-use Rattle.lft_text_diagnostics.specs.Candidates.{CanStand}
-use Rattle.lft_text_diagnostics.specs.Told.{SaysAt, TellsProgram}
-use Rattle.lft_text_diagnostics.proofs.Helping.{told_at}
+use Rattle.lft_text_diagnostics.{specs.{Candidates.CanStand, Told.{SaysAt, TellsProgram}}, proofs.Helping.told_at}
 use Rattle.lft_text_diagnostics.proofs.program_text.tell_no_tree.Goals as goal
 
 pub returns : goal.returns

@@ -1,7 +1,6 @@
 use Rattle.std.proofs.Common.{◌++◌, ap, ◌∙◌}
 use Rattle.lft_ir.proofs.WordsLemmas.Steps.{also}
-use Rattle.lft_text_diagnostics.specs.Quotes.{marked_line, place_words}
-use Rattle.lft_text_diagnostics.specs.Told.{sentence}
+use Rattle.lft_text_diagnostics.specs.{Quotes.{marked_line, place_words}, Told.sentence}
 use Rattle.lft_text_diagnostics.proofs.program_text.words_at.Goals as goal
 
 pub returns : goal.returns

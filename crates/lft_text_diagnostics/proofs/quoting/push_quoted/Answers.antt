@@ -1,6 +1,5 @@
 use Rattle.std.proofs.Common.{◌++◌, ap, ◌∙◌, string_bytes}
-use Rattle.std.proofs.lemmas.Result.{on_ok_weaker}
-use Rattle.std.proofs.lemmas.Str.Ascii.{trim_ascii_end_is}
+use Rattle.std.proofs.lemmas.{Result.on_ok_weaker, Str.Ascii.trim_ascii_end_is}
 use Rattle.lft_ir.proofs.WordsLemmas.Steps.{also}
 use Rattle.lft_text_diagnostics.specs.Quotes.{margin, quoted, trimmed}
 use Rattle.lft_text_diagnostics.proofs.quoting.push_quoted.Goals as goal

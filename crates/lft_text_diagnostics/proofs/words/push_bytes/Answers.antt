@@ -1,11 +1,7 @@
 use Rattle.std.proofs.Common.{◌≡◌, ◌++◌, flat_map, ap, ◌∙◌, sym, string_bytes}
-use Rattle.std.specs.Char.{encode_utf8}
-use Rattle.std.specs.Str.{chars}
-use Rattle.std.specs.Str.Lossy.{utf8_lossy}
-use Rattle.std.proofs.lemmas.Iterator.{YieldsList-from_chars}
-use Rattle.std.proofs.lemmas.Iterator.Consumers.{YieldsList-end}
+use Rattle.std.specs.{Char.encode_utf8, Str.{chars, Lossy.utf8_lossy}}
+use Rattle.std.proofs.lemmas.{Iterator.{YieldsList-from_chars, Consumers.YieldsList-end}, List.map-id}
 use Rattle.lft_text_diagnostics.specs.Quotes.{shown}
-use Rattle.std.proofs.lemmas.List.{map-id}
 use Rattle.lft_text_diagnostics.proofs.words.push_bytes.Goals as goal
 
 pub returns : goal.returns

@@ -1,9 +1,6 @@
 use Rattle.std.proofs.Common.{◌≡◌, ◌++◌, drop, flat_map, length, take, ap, ◌∙◌, sym, string_bytes}
-use Rattle.std.specs.Char.{encode_utf8}
-use Rattle.std.specs.Char.Escape.{escape_unicode}
-use Rattle.std.specs.Char.Iter.{escape_rest, escape_steps}
-use Rattle.std.proofs.lemmas.Iterator.Consumers.{YieldsList-end, YieldsList-from_shown}
-use Rattle.std.proofs.lemmas.List.{map-id}
+use Rattle.std.specs.Char.{encode_utf8, Escape.escape_unicode, Iter.{escape_rest, escape_steps}}
+use Rattle.std.proofs.lemmas.{Iterator.Consumers.{YieldsList-end, YieldsList-from_shown}, List.map-id}
 use Rattle.lft_text_diagnostics.proofs.words.push_escape.Goals as goal
 
 pub returns : goal.returns

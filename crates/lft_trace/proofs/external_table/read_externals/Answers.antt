@@ -1,14 +1,7 @@
 use Rattle.std.proofs.Common.{◌≡◌, Result, Ok, Err, IfOk, IfErr, true}
-use Rattle.lft_ir.specs.Parts.{Parts}
-use Rattle.lft_ir.specs.Sound.{IsSound}
-use Rattle.lft_trace.specs.Faults.{is_told}
-use Rattle.lft_ir.specs.Steps.Fits.{ExternalsFit}
-use Rattle.lft_ir.specs.Steps.Inputs.{ExternalInputs}
-use Rattle.lft_trace.specs.Records.{records_of}
-use Rattle.lft_trace.specs.ExternalTables.{ExternalFails, ExternalTable}
-use Rattle.lft_trace.specs.declared.fault.TraceFault.{TraceFault}
-use Rattle.lft_trace.proofs.ExternalTableFacts.{no_table, one_table, table_fits}
-use Rattle.lft_trace.proofs.TableFacts.{Texts}
+use Rattle.lft_ir.specs.{Parts.Parts, Sound.IsSound, Steps.{Fits.ExternalsFit, Inputs.ExternalInputs}}
+use Rattle.lft_trace.specs.{Faults.is_told, Records.records_of, ExternalTables.{ExternalFails, ExternalTable}, declared.fault.TraceFault.TraceFault}
+use Rattle.lft_trace.proofs.{ExternalTableFacts.{no_table, one_table, table_fits}, TableFacts.Texts}
 use Rattle.lft_trace.proofs.external_table.read_externals.Goals as goal
 
 one : (program : Parts) (records : Texts) (r : Result ExternalInputs TraceFault) → IsSound program → IfOk r (ExternalTable program records) → IfOk r (λ inputs. (other : ExternalInputs) → ExternalTable program records other → other ≡ inputs)

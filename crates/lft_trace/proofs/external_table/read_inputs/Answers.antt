@@ -1,17 +1,11 @@
 use Rattle.std.proofs.Common.{rules, ◌≡◌, [], List, Option, Some, None, Result, Ok, Err, IfOk, IfErr, true}
 use Rattle.csv.specs.Records.{fields_of}
-use Rattle.lft_ir.specs.Parts.{Parts}
+use Rattle.lft_ir.specs.{Parts.Parts, Steps.Inputs.{ExternalInputs, InOrder}, declared.steps.externals.Event.Event}
 use Rattle.lft_tag.specs.declared.Tag.{Tag}
-use Rattle.lft_trace.specs.Faults.{is_told}
-use Rattle.lft_ir.specs.Steps.Inputs.{ExternalInputs, InOrder}
-use Rattle.lft_trace.specs.Records.{IsNext, records_left, records_of}
-use Rattle.lft_trace.specs.ExternalTables.{ExternalFails, ExternalTable, header}
-use Rattle.lft_ir.specs.declared.steps.externals.Event.{Event}
-use Rattle.lft_trace.specs.declared.fault.TraceFault.{TraceFault}
+use Rattle.lft_trace.specs.{Faults.is_told, Records.{IsNext, records_left, records_of}, ExternalTables.{ExternalFails, ExternalTable, header}}
+use Rattle.lft_trace.specs.declared.{fault.TraceFault.TraceFault, records.Records.Records}
+use Rattle.lft_trace.proofs.{ExternalFacts.{Gathered, bad, ended, no_stop, one_more, past, refused, start}, TableFacts.{Texts, fewer}}
 use Rattle.lft_trace.specs.declared.fault.TraceFault.TheVariants as fault
-use Rattle.lft_trace.specs.declared.records.Records.{Records}
-use Rattle.lft_trace.proofs.ExternalFacts.{Gathered, bad, ended, no_stop, one_more, past, refused, start}
-use Rattle.lft_trace.proofs.TableFacts.{Texts, fewer}
 use Rattle.lft_trace.proofs.external_table.read_inputs.Goals as goal
 
 module _ (program : Parts) (records : Texts) (stop : Option Tag) (events : List Event) (r : Records) (g : Gathered program records stop events r) (none : records_left r ≡ []) where

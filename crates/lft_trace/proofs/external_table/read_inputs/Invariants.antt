@@ -1,6 +1,5 @@
 use Rattle.std.proofs.Common.{◌-◌}
-use Rattle.lft_trace.specs.Records.{records_of}
-use Rattle.lft_trace.proofs.ExternalFacts.{Gathered}
+use Rattle.lft_trace.{specs.Records.records_of, proofs.ExternalFacts.Gathered}
 use Rattle.lft_trace.proofs.external_table.read_inputs.Given as goal
 
 abbrev pub invariant-lines : goal.invariant-lines

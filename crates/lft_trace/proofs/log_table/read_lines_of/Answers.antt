@@ -1,6 +1,5 @@
 use Rattle.std.proofs.Common.{rules, ◌≡◌, ◌++◌, ◌∷◌, [], length}
-use Rattle.lft_trace.specs.Records.{records_of}
-use Rattle.lft_trace.proofs.LogTableFacts.{among, input_more, row_more, start}
+use Rattle.lft_trace.{specs.Records.records_of, proofs.LogTableFacts.{among, input_more, row_more, start}}
 use Rattle.lft_trace.proofs.log_table.read_lines_of.Goals as goal
 
 pub lines-init : goal.lines-init

@@ -1,6 +1,5 @@
 use Rattle.std.proofs.Common.{◌<◌, ◌-◌, IfSome, length}
-use Rattle.lft_trace.specs.Records.{records_of}
-use Rattle.lft_trace.proofs.LogTableFacts.{Gone}
+use Rattle.lft_trace.{specs.Records.records_of, proofs.LogTableFacts.Gone}
 use Rattle.lft_trace.proofs.log_table.read_lines_of.Given as goal
 
 abbrev pub invariant-lines : goal.invariant-lines

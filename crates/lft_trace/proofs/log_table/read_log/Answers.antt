@@ -1,10 +1,7 @@
 use Rattle.std.proofs.Common.{subst}
 use Rattle.lft_ir.specs.Parts.{Parts}
-use Rattle.lft_trace.specs.LogTables.{ReadsLines}
-use Rattle.lft_trace.specs.Records.{records_of}
-use Rattle.lft_trace.proofs.LogTableFacts.{inputs_fit, rows_fit}
+use Rattle.lft_trace.{specs.{LogTables.ReadsLines, Records.records_of}, proofs.{LogTableFacts.{inputs_fit, rows_fit}, log_table.read_log.Goals.In-Ok}}
 use Rattle.lft_trace.proofs.log_table.read_log.Goals as goal
-use Rattle.lft_trace.proofs.log_table.read_log.Goals.{In-Ok}
 
 read : (c : In-Ok) → ReadsLines c.args.program.now (records_of c.args.text.now) c.in-Ok.read
 read c = subst (λ (p : Parts). ReadsLines p (records_of c.args.text.now) c.in-Ok.read) c.without-names.ensures c.in-Ok.ensures.read

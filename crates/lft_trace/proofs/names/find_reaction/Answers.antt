@@ -1,10 +1,7 @@
 use Rattle.std.proofs.Common.{rules, ◌≢◌, ◌≡◌, ◌<◌, ℕ, IfNone, IfSome, List, Option, Some, None, length}
-use Rattle.lft_ir.specs.Names.{AreDistinct, IsNamed, ThingNames}
-use Rattle.lft_ir.specs.Parts.{Parts}
-use Rattle.lft_ir.specs.Sound.{IsSound}
-use Rattle.lft_ir.specs.declared.found.Found.{Found}
-use Rattle.lft_ir.specs.declared.found.Found.TheVariants as found
+use Rattle.lft_ir.specs.{Names.{AreDistinct, IsNamed, ThingNames}, Parts.Parts, Sound.IsSound, declared.found.Found.Found}
 use Rattle.lft_trace.proofs.TraceFacts.{reaction_there}
+use Rattle.lft_ir.specs.declared.found.Found.TheVariants as found
 use Rattle.lft_trace.proofs.names.find_reaction.Goals as goal
 
 other : (names : ThingNames) (f : Found) (text : List ℕ) (o : Option ℕ) → AreDistinct names → IsNamed names f text → IfNone o ((r : ℕ) → f ≢ found.Reaction r)

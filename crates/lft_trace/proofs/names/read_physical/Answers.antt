@@ -1,9 +1,7 @@
 use Rattle.std.proofs.Common.{rules, ◌≡◌, ◌∙◌, ℕ, List, Some, true, false, sym, slice_get}
-use Rattle.lft_ir.specs.Names.{AreDistinct, IsNamed}
-use Rattle.lft_ir.specs.Parts.{Parts}
-use Rattle.lft_ir.specs.declared.found.Found.TheVariants as found
-use Rattle.lft_ir.specs.declared.parts.Action.{Action as ActionOf}
+use Rattle.lft_ir.specs.{Names.{AreDistinct, IsNamed}, Parts.Parts, declared.parts.Action.Action as ActionOf}
 use Rattle.lft_trace.specs.ExternalTables.{IsPhysical}
+use Rattle.lft_ir.specs.declared.found.Found.TheVariants as found
 use Rattle.lft_trace.proofs.names.read_physical.Goals as goal
 
 logical : (program : Parts) (text : List ℕ) (n a : ℕ) (action : ActionOf) → AreDistinct program.names → IsNamed program.names (found.Action n) text → slice_get program.actions n ≡ Some action → action.physical ≡ false → IsPhysical program text a → ⊥

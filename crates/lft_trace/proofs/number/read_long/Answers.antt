@@ -1,8 +1,8 @@
 use Rattle.std.proofs.Common.{arith, rules, ◌≡◌, ◌∙◌, sym, get_or, true, false, drop, ◌<◌, ◌≤◌, ◌+◌, ◌-◌, ◌*◌}
 use Rattle.std.specs.Char.{is_ascii_digit}
 use Rattle.lft_trace.proofs.Digits.{is_small, start, step, no_digit, too_large, done}
-use Rattle.lft_trace.proofs.number.read_long.Goals as goal
 use Rattle.lft_trace.proofs.number.read_long.Goals.{then-number-most-via-then-number-most, then-number-most-via-else-number-most+then-digit-limit}
+use Rattle.lft_trace.proofs.number.read_long.Goals as goal
 
 pub loop-at-init : goal.loop-at-init
 loop-at-init c = record { small = omega arith; same = start c.args.limit c.args.field.now (search rules) }

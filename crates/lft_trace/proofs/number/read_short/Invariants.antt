@@ -1,6 +1,5 @@
 use Rattle.std.proofs.Common.{◌≡◌, ◌<◌, ◌^◌, drop}
-use Rattle.lft_trace.specs.Numbers.{number}
-use Rattle.lft_trace.proofs.Digits.{number_after}
+use Rattle.lft_trace.{specs.Numbers.number, proofs.Digits.number_after}
 use Rattle.lft_trace.proofs.number.read_short.Given as goal
 
 abbrev pub invariant-loop-at : goal.invariant-loop-at

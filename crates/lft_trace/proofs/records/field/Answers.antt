@@ -1,6 +1,5 @@
 use Rattle.std.proofs.Common.{rules, ◌≡◌, sym, Some, None}
-use Rattle.csv.specs.Records.{field_at, fields_of}
-use Rattle.csv.proofs.RecordFacts.{field-get, field-there}
+use Rattle.csv.{specs.Records.{field_at, fields_of}, proofs.RecordFacts.{field-get, field-there}}
 use Rattle.lft_trace.proofs.records.field.Goals as goal
 
 pub returns-in-Some : goal.returns-in-Some

@@ -1,8 +1,6 @@
 use Rattle.std.proofs.Common.{rules, ◌≡◌, ◌++◌, ◌∷◌, []}
 use Rattle.csv.specs.Records.{fields_of}
-use Rattle.lft_trace.specs.Records.{records_of}
-use Rattle.lft_trace.specs.Traces.{header, trace_tables}
-use Rattle.lft_trace.proofs.TableFacts.{bad, ended, fewer, one_more, past, start}
+use Rattle.lft_trace.{specs.{Records.records_of, Traces.{header, trace_tables}}, proofs.TableFacts.{bad, ended, fewer, one_more, past, start}}
 use Rattle.lft_trace.proofs.trace_table.read_rows.Goals as goal
 
 pub lines-init : goal.lines-init

@@ -1,7 +1,5 @@
 use Rattle.std.proofs.Common.{◌<◌, ◌-◌, IfSome, length}
-use Rattle.lft_trace.specs.Records.{records_of}
-use Rattle.lft_trace.specs.Traces.{trace_tables}
-use Rattle.lft_trace.proofs.TableFacts.{Read}
+use Rattle.lft_trace.{specs.{Records.records_of, Traces.trace_tables}, proofs.TableFacts.Read}
 use Rattle.lft_trace.proofs.trace_table.read_rows.Given as goal
 
 abbrev pub invariant-lines : goal.invariant-lines

@@ -1,6 +1,5 @@
 use Rattle.std.proofs.Common.{[]}
-use Rattle.lft_trace.specs.Traces.{header}
-use Rattle.lft_trace.proofs.RowsBack.{once_written}
+use Rattle.lft_trace.{specs.Traces.header, proofs.RowsBack.once_written}
 use Rattle.lft_trace.proofs.trace_writer.write_header.Goals as goal
 
 pub returns : goal.returns

@@ -1,6 +1,5 @@
 use Rattle.std.proofs.Common.{rules, ◌≡◌, Some, slice_get, take}
-use Rattle.lft_trace.specs.Written.{written_records}
-use Rattle.lft_trace.proofs.RowsBack.{words_one, written_one}
+use Rattle.lft_trace.{specs.Written.written_records, proofs.RowsBack.{words_one, written_one}}
 use Rattle.lft_trace.proofs.trace_writer.write_rows.Goals as goal
 
 pub loop-at-preserved : goal.loop-at-preserved

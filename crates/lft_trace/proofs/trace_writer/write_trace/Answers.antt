@@ -1,5 +1,4 @@
-use Rattle.lft_trace.proofs.PlainRows.{plain_lines}
-use Rattle.lft_trace.proofs.RowsBack.{table_back}
+use Rattle.lft_trace.proofs.{PlainRows.plain_lines, RowsBack.table_back}
 use Rattle.lft_trace.proofs.trace_writer.write_trace.Goals as goal
 
 pub returns-clause-table : goal.returns-clause-table

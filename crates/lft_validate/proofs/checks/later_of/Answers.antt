@@ -1,11 +1,10 @@
 use Rattle.std.proofs.Common.{inl, inr}
-use Rattle.lft_resolve.specs.References.{reactor_trees}
-use Rattle.lft_resolve.specs.Causes.{TwoSources, later_causes}
+use Rattle.lft_resolve.specs.{References.reactor_trees, Causes.{TwoSources, later_causes}}
 use Rattle.lft_validate.specs.Shown.{SomeShows}
-use Rattle.lft_validate.specs.declared.members.Cause.TheVariants as cause
 use Rattle.lft_validate.proofs.Causes.{shows_unknown_name, shows_wrong_place, shows_main_port, shows_width, shows_no_trigger, shows_duplicate_input}
 use Rattle.lft_validate.proofs.Sound.{last_asked, shown_by}
 use Rattle.lft_lists.proofs.Options.{lacking}
+use Rattle.lft_validate.specs.declared.members.Cause.TheVariants as cause
 use Rattle.lft_validate.proofs.checks.later_of.Goals as goal
 
 pub returns-in-Some : goal.returns-in-Some

@@ -1,11 +1,7 @@
 use Rattle.std.proofs.Common.{Any, inl, ⊎_elim}
-use Rattle.lft_resolve.specs.References.{reactor_trees}
-use Rattle.lft_resolve.specs.Causes.{HasLongTime}
-use Rattle.lft_validate.specs.Shown.{SomeShows}
-use Rattle.lft_validate.specs.Witnesses.{time_causes}
+use Rattle.lft_resolve.specs.{References.reactor_trees, Causes.HasLongTime}
+use Rattle.lft_validate.{specs.{Shown.SomeShows, Witnesses.time_causes}, proofs.{Causes.long, Sound.{last_asked, shown_by}}}
 use Rattle.lft_validate.specs.declared.members.Cause.TheVariants as cause
-use Rattle.lft_validate.proofs.Causes.{long}
-use Rattle.lft_validate.proofs.Sound.{last_asked, shown_by}
 use Rattle.lft_validate.proofs.checks.times_of.Goals as goal
 
 pub returns-in-Some : goal.returns-in-Some

@@ -1,7 +1,6 @@
 use Rattle.std.proofs.Common.{rules}
 use Rattle.std.proofs.lemmas.List.{nil_from_length}
-use Rattle.lft_validate.proofs.Circles.{circle_from, circle_recursive, some_length}
-use Rattle.lft_validate.proofs.Founding.{none_recursive}
+use Rattle.lft_validate.proofs.{Circles.{circle_from, circle_recursive, some_length}, Founding.none_recursive}
 use Rattle.lft_validate.proofs.circle.circle_of.Goals as goal
 
 pub returns-clause-circle : goal.returns-clause-circle

@@ -1,10 +1,7 @@
 use Rattle.std.proofs.Common.{◌≡◌, sym, ap, subst, ◌∙◌}
 use Rattle.lft_tree.specs.View.{reactor_view}
-use Rattle.lft_resolve.specs.Causes.{IsTwice}
-use Rattle.lft_resolve.specs.Kinds.{names_in}
-use Rattle.lft_resolve.specs.Tests.{texts}
-use Rattle.lft_validate.specs.Members.{declarations}
-use Rattle.lft_validate.proofs.DeclaredNames.{declared_twice}
+use Rattle.lft_resolve.specs.{Causes.IsTwice, Kinds.names_in, Tests.texts}
+use Rattle.lft_validate.{specs.Members.declarations, proofs.DeclaredNames.declared_twice}
 use Rattle.lft_lists.proofs.Options.{ok_none}
 use Rattle.lft_validate.proofs.declared.declared_twice.Goals as goal
 

@@ -1,12 +1,8 @@
 use Rattle.std.proofs.Common.{IsSomeAnd, sym, subst}
 use Rattle.lft_tree.specs.View.{reactor_view}
-use Rattle.lft_resolve.specs.Causes.{IsTwice}
-use Rattle.lft_resolve.specs.Kinds.{names_in}
-use Rattle.lft_resolve.proofs.Somes.{none_more, none_done}
-use Rattle.lft_validate.specs.Findings.{IsTwiceAt}
-use Rattle.lft_validate.specs.Members.{declarations}
-use Rattle.lft_lists.proofs.Mapped.{mapped_at}
-use Rattle.lft_lists.proofs.Options.{found, lacking}
+use Rattle.lft_resolve.{specs.{Causes.IsTwice, Kinds.names_in}, proofs.Somes.{none_more, none_done}}
+use Rattle.lft_validate.specs.{Findings.IsTwiceAt, Members.declarations}
+use Rattle.lft_lists.proofs.{Mapped.mapped_at, Options.{found, lacking}}
 use Rattle.lft_validate.proofs.declared.some_declared_twice.Goals as goal
 
 pub returns-in-Some-clause-shows : goal.returns-in-Some-clause-shows

@@ -1,7 +1,5 @@
 use Rattle.std.proofs.Common.{Any, take}
-use Rattle.lft_resolve.specs.Causes.{IsTwice}
-use Rattle.lft_resolve.specs.Kinds.{names_in}
-use Rattle.lft_resolve.specs.References.{reactor_trees}
+use Rattle.lft_resolve.specs.{Causes.IsTwice, Kinds.names_in, References.reactor_trees}
 use Rattle.lft_validate.proofs.declared.some_declared_twice.Given as goal
 
 abbrev pub invariant-loop-reactor : goal.invariant-loop-reactor

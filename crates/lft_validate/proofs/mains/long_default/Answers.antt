@@ -1,8 +1,6 @@
 use Rattle.std.proofs.Common.{◌≡◌, ◌<◌, Any, map, sym, ap, subst, ◌∙◌}
-use Rattle.lft_tree.specs.Tree.{nanoseconds}
-use Rattle.lft_tree.specs.View.{parameter_view, reactor_view}
-use Rattle.lft_resolve.specs.Causes.{longest}
-use Rattle.lft_resolve.proofs.Somes.{none_more, none_done}
+use Rattle.lft_tree.specs.{Tree.nanoseconds, View.{parameter_view, reactor_view}}
+use Rattle.lft_resolve.{specs.Causes.longest, proofs.Somes.{none_more, none_done}}
 use Rattle.lft_validate.proofs.mains.long_default.Goals as goal
 
 pub loop-reactor-preserved : goal.loop-reactor-preserved

@@ -1,6 +1,5 @@
 use Rattle.std.proofs.Common.{◌<◌, Any, map, take}
-use Rattle.lft_tree.specs.Tree.{nanoseconds}
-use Rattle.lft_tree.specs.View.{parameter_view}
+use Rattle.lft_tree.specs.{Tree.nanoseconds, View.parameter_view}
 use Rattle.lft_resolve.specs.Causes.{longest}
 use Rattle.lft_validate.proofs.mains.long_default_in.Given as goal
 

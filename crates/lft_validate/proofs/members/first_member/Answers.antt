@@ -1,15 +1,9 @@
 use Rattle.std.proofs.Common.{rules, Any, IsSomeAnd, length, slice_get, sym, subst, ◌∙◌, arith}
 use Rattle.std.proofs.lemmas.List.{length-map}
 use Rattle.lft_tree.specs.View.{reactor_view}
-use Rattle.lft_resolve.specs.References.{reactor_trees}
-use Rattle.lft_resolve.specs.Tables.{IsOwn}
-use Rattle.lft_resolve.proofs.Somes.{Any-nil, none_more, none_done}
-use Rattle.lft_validate.specs.Shown.{ShowsCause}
-use Rattle.lft_validate.specs.Witnesses.{HasFinding}
-use Rattle.lft_lists.proofs.Mapped.{mapped_at}
-use Rattle.lft_lists.proofs.Options.{found, lacking}
-use Rattle.lft_lists.proofs.Zips.{long}
-use Rattle.lft_validate.proofs.Turns.{own_at}
+use Rattle.lft_resolve.{specs.{References.reactor_trees, Tables.IsOwn}, proofs.Somes.{Any-nil, none_more, none_done}}
+use Rattle.lft_validate.{specs.{Shown.ShowsCause, Witnesses.HasFinding}, proofs.Turns.own_at}
+use Rattle.lft_lists.proofs.{Mapped.mapped_at, Options.{found, lacking}, Zips.long}
 use Rattle.lft_validate.proofs.members.first_member.Goals as goal
 
 pub loop-reactor-init : goal.loop-reactor-init

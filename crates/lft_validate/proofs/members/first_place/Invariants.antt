@@ -1,6 +1,5 @@
 use Rattle.std.proofs.Common.{◌<◌, List, ℕ, IsSomeAnd, slice_get}
-use Rattle.lft_tree.specs.Tree.{ReactorTree}
-use Rattle.lft_tree.specs.View.{reactor_view}
+use Rattle.lft_tree.specs.{Tree.ReactorTree, View.reactor_view}
 use Rattle.lft_resolve.specs.Tables.{IsFile, IsOwn}
 use Rattle.lft_validate.specs.Shown.{ShowsCause}
 use Rattle.lft_validate.proofs.members.first_place.Given as goal

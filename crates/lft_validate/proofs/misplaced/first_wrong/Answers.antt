@@ -1,7 +1,6 @@
 use Rattle.std.proofs.Common.{sym}
 use Rattle.lft_tree.specs.View.{ref_view}
-use Rattle.lft_resolve.specs.Causes.{IsMisplaced}
-use Rattle.lft_resolve.proofs.Somes.{none_more, none_done}
+use Rattle.lft_resolve.{specs.Causes.IsMisplaced, proofs.Somes.{none_more, none_done}}
 use Rattle.lft_validate.proofs.misplaced.first_wrong.Goals as goal
 
 pub loop-name-preserved : goal.loop-name-preserved

@@ -1,8 +1,6 @@
 use Rattle.std.proofs.Common.{List, Any, take}
 use Rattle.lft_tree.specs.Tree.{ReactorTree}
-use Rattle.lft_resolve.specs.Causes.{IsMisplaced}
-use Rattle.lft_resolve.specs.References.{ref_trees}
-use Rattle.lft_resolve.specs.Tables.{IsFile, IsOwn}
+use Rattle.lft_resolve.specs.{Causes.IsMisplaced, References.ref_trees, Tables.{IsFile, IsOwn}}
 use Rattle.lft_validate.proofs.misplaced.first_wrong.Given as goal
 
 abbrev pub invariant-loop-name : goal.invariant-loop-name

@@ -1,7 +1,6 @@
 use Rattle.std.proofs.Common.{sym}
 use Rattle.lft_tree.specs.View.{time_view}
-use Rattle.lft_resolve.specs.Causes.{IsMisplacedTime}
-use Rattle.lft_resolve.proofs.Somes.{none_more, none_done}
+use Rattle.lft_resolve.{specs.Causes.IsMisplacedTime, proofs.Somes.{none_more, none_done}}
 use Rattle.lft_validate.proofs.misplaced.first_wrong_time.Goals as goal
 
 pub loop-time-preserved : goal.loop-time-preserved

@@ -1,10 +1,8 @@
 use Rattle.std.proofs.Common.{◌≡◌, inl, inr, Any, get_or, arith}
 use Rattle.std.proofs.lemmas.Bool.{cases_lt}
 use Rattle.lft_tree.specs.View.{member_view}
-use Rattle.lft_resolve.specs.Causes.{IsMisplaced}
-use Rattle.lft_resolve.specs.declared.kinds.Role.TheVariants.{Read}
-use Rattle.lft_validate.specs.Members.{names_of}
-use Rattle.lft_validate.proofs.Roles.{roles, place_of_role, role_there, place_within, last}
+use Rattle.lft_resolve.specs.{Causes.IsMisplaced, declared.kinds.Role.TheVariants.Read}
+use Rattle.lft_validate.{specs.Members.names_of, proofs.Roles.{roles, place_of_role, role_there, place_within, last}}
 use Rattle.lft_lists.proofs.Options.{lacking}
 use Rattle.lft_validate.proofs.misplaced.misplaced_name.Goals as goal
 

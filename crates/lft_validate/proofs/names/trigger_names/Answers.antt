@@ -3,8 +3,8 @@ use Rattle.std.specs.Option.{option_map}
 use Rattle.lft_tree.specs.View.{trigger_view, ref_view}
 use Rattle.lft_resolve.specs.Kinds.{ref_in}
 use Rattle.lft_lists.proofs.Picked.{picked_some, picked_none}
-use Rattle.lft_validate.proofs.names.trigger_names.Goals as goal
 use Rattle.lft_validate.proofs.names.trigger_names.Goals.{in-Some+in_ok-push-in-Some, in-None}
+use Rattle.lft_validate.proofs.names.trigger_names.Goals as goal
 
 pub loop-trigger-preserved : goal.loop-trigger-preserved
 loop-trigger-preserved c =

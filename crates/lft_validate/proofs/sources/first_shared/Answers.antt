@@ -1,10 +1,8 @@
 use Rattle.std.proofs.Common.{◌≡◌, Contains, sym, ◌∙◌, false}
 use Rattle.lft_tree.specs.View.{ref_view}
-use Rattle.lft_validate.specs.Seen.{has_seen}
-use Rattle.lft_resolve.specs.References.{ref_trees}
-use Rattle.lft_resolve.proofs.Somes.{none_more, none_done, Contains-Any}
+use Rattle.lft_validate.{specs.Seen.has_seen, proofs.sources.first_shared.Goals.{in-Some, in-None}}
+use Rattle.lft_resolve.{specs.References.ref_trees, proofs.Somes.{none_more, none_done, Contains-Any}}
 use Rattle.lft_lists.proofs.Mapped.{mapped_at}
-use Rattle.lft_validate.proofs.sources.first_shared.Goals.{in-Some, in-None}
 use Rattle.lft_validate.proofs.sources.first_shared.Goals as goal
 
 pub returns-then-has-clause-some : goal.returns-then-has-clause-some

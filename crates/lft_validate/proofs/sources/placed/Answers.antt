@@ -1,8 +1,7 @@
 use Rattle.std.proofs.Common.{◌≡◌, ◌+◌, ◌-◌, ◌<◌, length, flat_map, take, sym, ap, ◌∙◌, arith}
 use Rattle.std.proofs.lemmas.List.{length-map}
 use Rattle.lft_tree.specs.View.{member_view, ref_view, reactor_view}
-use Rattle.lft_validate.specs.Members.{names_of}
-use Rattle.lft_validate.proofs.Standing.{flat_next}
+use Rattle.lft_validate.{specs.Members.names_of, proofs.Standing.flat_next}
 use Rattle.lft_lists.proofs.Mapped.{mapped_at}
 use Rattle.lft_validate.proofs.sources.placed.Goals as goal
 

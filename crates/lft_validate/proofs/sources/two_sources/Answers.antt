@@ -1,7 +1,6 @@
 use Rattle.std.proofs.Common.{sym}
 use Rattle.lft_tree.specs.View.{reactor_view}
-use Rattle.lft_resolve.specs.Causes.{TwoSources, WritesTwice}
-use Rattle.lft_resolve.proofs.Somes.{none_more, none_done}
+use Rattle.lft_resolve.{specs.Causes.{TwoSources, WritesTwice}, proofs.Somes.{none_more, none_done}}
 use Rattle.lft_lists.proofs.Options.{lacking}
 use Rattle.lft_validate.proofs.sources.two_sources.Goals as goal
 

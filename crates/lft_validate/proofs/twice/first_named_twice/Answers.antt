@@ -1,13 +1,9 @@
 use Rattle.std.proofs.Common.{take, sym, subst}
 use Rattle.lft_tree.specs.View.{ref_view}
-use Rattle.lft_validate.specs.Seen.{has_seen, same_ref}
-use Rattle.lft_validate.proofs.SameRefs.{ref_decides}
-use Rattle.lft_resolve.specs.References.{ref_trees}
-use Rattle.lft_resolve.specs.Tests.{IsTestOf}
-use Rattle.lft_resolve.proofs.Tested.{test_none, test_more, was_new, was_met}
-use Rattle.lft_resolve.proofs.Twice.{map_last, once_more, once_done, once_none}
-use Rattle.lft_lists.proofs.Mapped.{mapped_at}
-use Rattle.lft_lists.proofs.Options.{none_weaker}
+use Rattle.lft_validate.{specs.Seen.{has_seen, same_ref}, proofs.SameRefs.ref_decides}
+use Rattle.lft_resolve.specs.{References.ref_trees, Tests.IsTestOf}
+use Rattle.lft_resolve.proofs.{Tested.{test_none, test_more, was_new, was_met}, Twice.{map_last, once_more, once_done, once_none}}
+use Rattle.lft_lists.proofs.{Mapped.mapped_at, Options.none_weaker}
 use Rattle.lft_validate.proofs.twice.first_named_twice.Goals as goal
 
 pub loop-place-init : goal.loop-place-init

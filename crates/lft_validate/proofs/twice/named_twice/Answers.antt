@@ -1,10 +1,7 @@
 use Rattle.std.proofs.Common.{⊎_elim, IsSomeAnd}
-use Rattle.lft_tree.specs.Tree.{MemberTree, ReactionMember, reaction_in}
-use Rattle.lft_tree.specs.View.{member_view}
-use Rattle.lft_resolve.specs.Causes.{IsTwice, NamesTwice}
-use Rattle.lft_resolve.specs.declared.kinds.Role.TheVariants.{Read, Effect}
-use Rattle.lft_validate.specs.Findings.{IsFinding}
-use Rattle.lft_validate.specs.Members.{names_of}
+use Rattle.lft_tree.specs.{Tree.{MemberTree, ReactionMember, reaction_in}, View.member_view}
+use Rattle.lft_resolve.specs.{Causes.{IsTwice, NamesTwice}, declared.kinds.Role.TheVariants.{Read, Effect}}
+use Rattle.lft_validate.specs.{Findings.IsFinding, Members.names_of}
 use Rattle.lft_lists.proofs.Options.{found, lacking, ok_none}
 use Rattle.lft_validate.proofs.twice.named_twice.Goals as goal
 

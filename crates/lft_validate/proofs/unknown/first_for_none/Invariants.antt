@@ -1,8 +1,6 @@
 use Rattle.std.proofs.Common.{Any, map, take}
-use Rattle.lft_tree.specs.Tree.{ReactorTree}
-use Rattle.lft_tree.specs.View.{assignment_view}
-use Rattle.lft_resolve.specs.Causes.{LacksParameter}
-use Rattle.lft_resolve.specs.Tables.{IsOutside}
+use Rattle.lft_tree.specs.{Tree.ReactorTree, View.assignment_view}
+use Rattle.lft_resolve.specs.{Causes.LacksParameter, Tables.IsOutside}
 use Rattle.lft_validate.proofs.unknown.first_for_none.Given as goal
 
 abbrev pub invariant-loop-value : goal.invariant-loop-value

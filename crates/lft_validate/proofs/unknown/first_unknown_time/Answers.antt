@@ -1,7 +1,6 @@
 use Rattle.std.proofs.Common.{sym}
 use Rattle.lft_tree.specs.View.{time_view}
-use Rattle.lft_resolve.specs.Causes.{IsUnknownTime}
-use Rattle.lft_resolve.proofs.Somes.{fails, none_more, none_done}
+use Rattle.lft_resolve.{specs.Causes.IsUnknownTime, proofs.Somes.{fails, none_more, none_done}}
 use Rattle.lft_validate.proofs.unknown.first_unknown_time.Goals as goal
 
 pub loop-time-preserved : goal.loop-time-preserved

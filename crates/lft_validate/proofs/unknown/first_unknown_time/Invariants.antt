@@ -1,7 +1,6 @@
 use Rattle.std.proofs.Common.{Any, take}
 use Rattle.lft_tree.specs.Tree.{ReactorTree}
-use Rattle.lft_resolve.specs.Causes.{IsUnknownTime}
-use Rattle.lft_resolve.specs.Tables.{IsOwn}
+use Rattle.lft_resolve.specs.{Causes.IsUnknownTime, Tables.IsOwn}
 use Rattle.lft_validate.specs.Members.{time_trees}
 use Rattle.lft_validate.proofs.unknown.first_unknown_time.Given as goal
 

@@ -1,13 +1,8 @@
 use Rattle.std.proofs.Common.{List, Any, IfNone, IsSomeAnd, ⊎_elim}
-use Rattle.lft_tree.specs.Tree.{ReactorTree, instance_in}
-use Rattle.lft_tree.specs.View.{member_view}
-use Rattle.lft_resolve.specs.Causes.{GivesUnknown, IsUnknownTime}
-use Rattle.lft_resolve.specs.Tables.{IsFile, IsOwn}
-use Rattle.lft_validate.specs.Findings.{IsNothing}
-use Rattle.lft_validate.specs.Members.{times_of}
-use Rattle.lft_validate.specs.Shown.{ShowsUnknown, SomeName}
+use Rattle.lft_tree.specs.{Tree.{ReactorTree, instance_in}, View.member_view}
+use Rattle.lft_resolve.specs.{Causes.{GivesUnknown, IsUnknownTime}, Tables.{IsFile, IsOwn}}
+use Rattle.lft_validate.{specs.{Findings.IsNothing, Members.times_of, Shown.{ShowsUnknown, SomeName}}, proofs.Turns.{both, none_both, weaker}}
 use Rattle.lft_lists.proofs.Options.{lacking, none_weaker}
-use Rattle.lft_validate.proofs.Turns.{both, none_both, weaker}
 use Rattle.lft_validate.proofs.unknown.unknown.Goals as goal
 
 pub returns-in-None-clause-none : goal.returns-in-None-clause-none

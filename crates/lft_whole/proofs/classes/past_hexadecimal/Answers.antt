@@ -1,6 +1,5 @@
 use Rattle.std.proofs.Common.{sym}
-use Rattle.lft_whole.specs.Forms.{is_hexadecimal}
-use Rattle.lft_whole.proofs.Searches.{run_is}
+use Rattle.lft_whole.{specs.Forms.is_hexadecimal, proofs.Searches.run_is}
 use Rattle.lft_whole.proofs.classes.past_hexadecimal.Goals as goal
 
 pub returns-clause-is : goal.returns-clause-is

@@ -1,7 +1,6 @@
 use Rattle.std.proofs.Common.{sym, ◌∙◌}
 use Rattle.lft_lists.specs.Bytes.{is_letter, is_word}
-use Rattle.lft_whole.proofs.Names.{run_further, run_identifier}
-use Rattle.lft_whole.proofs.Searches.{run_is, sees_there}
+use Rattle.lft_whole.proofs.{Names.{run_further, run_identifier}, Searches.{run_is, sees_there}}
 use Rattle.lft_whole.proofs.classes.past_word.Goals as goal
 
 pub returns-clause-is : goal.returns-clause-is

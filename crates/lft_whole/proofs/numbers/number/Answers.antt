@@ -1,7 +1,6 @@
 use Rattle.std.proofs.Common.{sym, ◌∙◌}
 use Rattle.std.specs.Prelude.{slice_range}
-use Rattle.lft_whole.specs.Pieces.{digits_from}
-use Rattle.lft_whole.proofs.Digits.{digits_step, digits_large}
+use Rattle.lft_whole.{specs.Pieces.digits_from, proofs.Digits.{digits_step, digits_large}}
 use Rattle.lft_whole.proofs.numbers.number.Goals as goal
 
 pub returns-then-number-digit : goal.returns-then-number-digit

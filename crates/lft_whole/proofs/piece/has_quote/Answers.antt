@@ -1,7 +1,6 @@
 use Rattle.std.proofs.Common.{ℕ, ◌-◌, Bool, [], ◌∷◌, Option, sym, ap, ◌∙◌, arith}
 use Rattle.std.specs.Prelude.{is_some}
-use Rattle.lft_whole.specs.Pieces.{stands}
-use Rattle.lft_whole.proofs.Searches.{first_found, first_none}
+use Rattle.lft_whole.{specs.Pieces.stands, proofs.Searches.{first_found, first_none}}
 use Rattle.lft_whole.proofs.piece.has_quote.Goals as goal
 
 abbrev found : Option ℕ → Bool

@@ -1,7 +1,5 @@
 use Rattle.std.proofs.Common.{◌≡◌, ◌-◌}
-use Rattle.lft_whole.specs.Pieces.{is_escaped}
-use Rattle.lft_whole.proofs.Searches.{NonePass}
-use Rattle.lft_whole.proofs.Escapes.{ends_line}
+use Rattle.lft_whole.{specs.Pieces.is_escaped, proofs.{Searches.NonePass, Escapes.ends_line}}
 use Rattle.lft_whole.proofs.quotes.past_in_line.Given as goal
 
 abbrev pub invariant-loop-at : goal.invariant-loop-at

@@ -1,6 +1,5 @@
 use Rattle.std.proofs.Common.{◌+◌, [], ◌∷◌, sym, ◌∙◌, arith}
-use Rattle.lft_whole.specs.Pieces.{stands}
-use Rattle.lft_whole.proofs.Searches.{found_past, none_past}
+use Rattle.lft_whole.{specs.Pieces.stands, proofs.Searches.{found_past, none_past}}
 use Rattle.lft_whole.proofs.quotes.past_remark.Goals as goal
 
 pub returns-then-pair_stands-clause-is : goal.returns-then-pair_stands-clause-is

@@ -1,7 +1,5 @@
 use Rattle.std.proofs.Common.{◌+◌, [], ◌∷◌, sym, ◌∙◌, arith}
-use Rattle.lft_whole.specs.Pieces.{closes}
-use Rattle.lft_whole.proofs.Searches.{none_more, found_past, none_past}
-use Rattle.lft_whole.proofs.Escapes.{escape_starts, escape_kept, closes_is}
+use Rattle.lft_whole.{specs.Pieces.closes, proofs.{Searches.{none_more, found_past, none_past}, Escapes.{escape_starts, escape_kept, closes_is}}}
 use Rattle.lft_whole.proofs.quotes.past_string.Goals as goal
 
 pub loop-at-init : goal.loop-at-init

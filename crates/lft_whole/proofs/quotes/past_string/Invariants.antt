@@ -1,6 +1,5 @@
 use Rattle.std.proofs.Common.{◌≡◌, ◌-◌, [], ◌∷◌}
-use Rattle.lft_whole.specs.Pieces.{is_escaped, closes}
-use Rattle.lft_whole.proofs.Searches.{NonePass}
+use Rattle.lft_whole.{specs.Pieces.{is_escaped, closes}, proofs.Searches.NonePass}
 use Rattle.lft_whole.proofs.quotes.past_string.Given as goal
 
 abbrev pub invariant-loop-at : goal.invariant-loop-at

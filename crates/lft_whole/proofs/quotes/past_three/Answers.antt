@@ -1,6 +1,5 @@
 use Rattle.std.proofs.Common.{◌+◌, [], ◌∷◌, sym, ◌∙◌, arith}
-use Rattle.lft_whole.specs.Pieces.{stands}
-use Rattle.lft_whole.proofs.Searches.{found_past, none_past}
+use Rattle.lft_whole.{specs.Pieces.stands, proofs.Searches.{found_past, none_past}}
 use Rattle.lft_whole.proofs.quotes.past_three.Goals as goal
 
 pub returns-then-three_stand-clause-is : goal.returns-then-three_stand-clause-is

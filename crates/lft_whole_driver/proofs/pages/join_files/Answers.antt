@@ -1,7 +1,6 @@
 use Rattle.std.proofs.Common.{◌≡◌, Some, slice_get, sym, ap, ◌∙◌}
 use Rattle.std.proofs.lemmas.Option.{slice_get-get_or}
-use Rattle.lft_whole_driver.specs.Pages.Join.{no_files}
-use Rattle.lft_whole_driver.proofs.Joining.{joined_next}
+use Rattle.lft_whole_driver.{specs.Pages.Join.no_files, proofs.Joining.joined_next}
 use Rattle.lft_whole_driver.proofs.pages.join_files.Goals as goal
 
 pub loop-at-init : goal.loop-at-init

@@ -1,9 +1,6 @@
 use Rattle.std.proofs.Common.{[], ap, inl, inr, refl}
 use Rattle.lft_program.specs.Refusals.{cause_of}
-use Rattle.lft_whole_driver.specs.Unlowered.{AreRefused}
-use Rattle.lft_whole_driver.specs.declared.told.Unlowered.{Unlowered}
-use Rattle.lft_whole_driver.proofs.Sameness.{the_program}
-use Rattle.lft_whole_driver.proofs.Saying.{told_says}
+use Rattle.lft_whole_driver.{specs.{Unlowered.AreRefused, declared.told.Unlowered.Unlowered}, proofs.{Sameness.the_program, Saying.told_says}}
 use Rattle.lft_whole_driver.proofs.program.program_of.Goals as goal
 
 pub returns-in-Err-clause-refused : goal.returns-in-Err-clause-refused

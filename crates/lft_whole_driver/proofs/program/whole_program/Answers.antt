@@ -1,9 +1,7 @@
 use Rattle.std.proofs.Common.{List, inl, inr, ⊎_elim, refl, subst, sym}
 use Rattle.std.proofs.lemmas.Result.{IfErr-weaker, IfOk-weaker}
 use Rattle.lft_whole.specs.declared.sources.source.SourceFile.{SourceFile}
-use Rattle.lft_whole_driver.specs.Lowered.{AreFilesOf}
-use Rattle.lft_whole_driver.specs.Unlowered.{AreRefused, IsOfProgram}
-use Rattle.lft_whole_driver.proofs.Saying.{says_too}
+use Rattle.lft_whole_driver.{specs.{Lowered.AreFilesOf, Unlowered.{AreRefused, IsOfProgram}}, proofs.Saying.says_too}
 use Rattle.lft_whole_driver.proofs.program.whole_program.Goals as goal
 
 pub returns-clause-program : goal.returns-clause-program

@@ -1,10 +1,6 @@
 use Rattle.std.proofs.Common.{◌-◌, Ok}
-use Rattle.lft_whole.specs.Parts.Language.{on}
-use Rattle.lft_whole.specs.Parts.Lexeme.{is_there}
+use Rattle.lft_whole.{specs.Parts.{Language.on, Lexeme.is_there, View.file_view, Parsing.{count, Within, source}}, proofs.PartsLemmas.Loop.Loop}
 use Rattle.lft_whole_parser.specs.Files as Files
-use Rattle.lft_whole.specs.Parts.View.{file_view}
-use Rattle.lft_whole.specs.Parts.Parsing.{count, Within, source}
-use Rattle.lft_whole.proofs.PartsLemmas.Loop.{Loop}
 use Rattle.lft_whole_parser.proofs.files.file.Given as goal
 
 abbrev pub invariant-items : goal.invariant-items

@@ -1,9 +1,7 @@
 use Rattle.std.proofs.Common.{refl, sym, ◌∙◌, arith}
-use Rattle.lft_whole.specs.Parts.Language.{ignored, this}
-use Rattle.lft_whole_parser.specs.Grammar as Grammar
+use Rattle.lft_whole.{specs.Parts.{Language.{ignored, this}, Parsing.source}, proofs.PartsLemmas.Loop.{loop_opens, loop_turns, loop_done}}
 use Rattle.lft_whole_parser.specs.Grammar.{host_rest}
-use Rattle.lft_whole.specs.Parts.Parsing.{source}
-use Rattle.lft_whole.proofs.PartsLemmas.Loop.{loop_opens, loop_turns, loop_done}
+use Rattle.lft_whole_parser.specs.Grammar as Grammar
 use Rattle.lft_whole_parser.proofs.instances.past_rest.Goals as goal
 
 pub host-init : goal.host-init

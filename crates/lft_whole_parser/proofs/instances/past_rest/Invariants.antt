@@ -1,8 +1,6 @@
 use Rattle.std.proofs.Common.{◌-◌, Ok}
-use Rattle.lft_whole.specs.Parts.Language.{ignored, this}
+use Rattle.lft_whole.{specs.Parts.{Language.{ignored, this}, Parsing.{count, NotBefore, source}}, proofs.PartsLemmas.Loop.Loop}
 use Rattle.lft_whole_parser.specs.Grammar as Grammar
-use Rattle.lft_whole.specs.Parts.Parsing.{count, NotBefore, source}
-use Rattle.lft_whole.proofs.PartsLemmas.Loop.{Loop}
 use Rattle.lft_whole_parser.proofs.instances.past_rest.Given as goal
 
 abbrev pub invariant-host : goal.invariant-host

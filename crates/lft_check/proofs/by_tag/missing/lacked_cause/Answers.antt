@@ -1,15 +1,9 @@
 use Rattle.std.proofs.Common.{◌≡◌, Some, ap, ◌∙◌, sym, subst, refl, arith}
-use Rattle.lft_tag.specs.declared.Tag.{Tag}
-use Rattle.lft_tag.specs.Tags.{Before, UpTo}
-use Rattle.lft_tag.specs.Shifts.{shifted}
+use Rattle.lft_tag.specs.{declared.Tag.Tag, Tags.{Before, UpTo}, Shifts.shifted}
 use Rattle.lft_model.specs.Presence.{stop}
-use Rattle.lft_rows.specs.Presence.Traces.{LeastTag}
-use Rattle.lft_rows.specs.Presence.Causes.{tag_of, IsSkip}
-use Rattle.lft_rows.proofs.PresenceLemmas.Lists.{not_true}
-use Rattle.lft_rows.proofs.PresenceLemmas.Skips.{up_to_stop}
+use Rattle.lft_rows.{specs.Presence.{Traces.LeastTag, Causes.{tag_of, IsSkip}}, proofs.PresenceLemmas.{Lists.not_true, Skips.up_to_stop}}
 use Rattle.lft_check.specs.ByTag.Least.{HasTag, LacksCause}
-use Rattle.lft_check.proofs.ByTagLemmas.Searched.{mark_more}
-use Rattle.lft_check.proofs.ByTagLemmas.Walks.{walk_over, walk_past, walk_late, walk_finds, walk_goes_on}
+use Rattle.lft_check.proofs.ByTagLemmas.{Searched.mark_more, Walks.{walk_over, walk_past, walk_late, walk_finds, walk_goes_on}}
 use Rattle.lft_check.proofs.by_tag.missing.lacked_cause.Goals as goal
 
 pub returns-then-cause-name-clause-least : goal.returns-then-cause-name-clause-least

@@ -3,8 +3,7 @@ use Rattle.lft_tag.specs.declared.Tag.{Tag}
 use Rattle.lft_model.specs.Presence.{stop}
 use Rattle.lft_rows.specs.Presence.Traces.{LeastTag}
 use Rattle.lft_check.specs.ByTag.Least.{LacksFiring}
-use Rattle.lft_check.proofs.ByTagLemmas.Searched.{mark_more}
-use Rattle.lft_check.proofs.ByTagLemmas.Firings.{walk_none, walk_fires, walk_finds, walk_goes_on, walk_ends}
+use Rattle.lft_check.proofs.ByTagLemmas.{Searched.mark_more, Firings.{walk_none, walk_fires, walk_finds, walk_goes_on, walk_ends}}
 use Rattle.lft_check.proofs.by_tag.missing.lacked_firing.Goals as goal
 
 pub returns-in_err-time-clause-least : goal.returns-in_err-time-clause-least

@@ -1,11 +1,8 @@
 use Rattle.std.proofs.Common.{◌≡◌, ◌+◌, length, subst, sym, ap, ◌∙◌, Some, slice_get, refl}
-use Rattle.lft_ir.specs.Parts.{Parts}
-use Rattle.lft_ir.specs.declared.parts.Name.{Name}
-use Rattle.lft_ir.specs.declared.parts.Name.TheVariants.{Port, Action}
+use Rattle.lft_ir.specs.{Parts.Parts, declared.parts.Name.{Name, TheVariants.{Port, Action}}}
 use Rattle.lft_rows.proofs.PresenceLemmas.Presences.{IsKey, cause_present}
-use Rattle.lft_check.proofs.ByTagLemmas.Walks.{lacked_key}
+use Rattle.lft_check.proofs.{ByTagLemmas.Walks.lacked_key, by_tag.missing.lacked_name.Goals.{After-port-port, After-none}}
 use Rattle.lft_check.proofs.by_tag.missing.lacked_name.Goals as goal
-use Rattle.lft_check.proofs.by_tag.missing.lacked_name.Goals.{After-port-port, After-none}
 
 port_key : (c : After-port-port) → IsKey c.args.presence.now.plan.program c.args.name c.port-port.result.now.origin (c.port-port.result.now.shift.time, c.port-port.result.now.shift.steps)
 port_key c =

@@ -1,6 +1,5 @@
 use Rattle.std.proofs.Common.{◌%◌, arith}
-use Rattle.std.proofs.lemmas.Bool.{eq-eqb}
-use Rattle.std.proofs.lemmas.Bool.Decides.{nat_tests}
+use Rattle.std.proofs.lemmas.Bool.{eq-eqb, Decides.nat_tests}
 use Rattle.lft_check.proofs.ByTagLemmas.Needing.{multiple_once, multiple_zero, multiple_of, multiple_rest}
 use Rattle.lft_check.proofs.by_tag.needed.is_multiple.Goals as goal
 

@@ -1,9 +1,8 @@
 use Rattle.std.proofs.Common.{◌+◌, List, sym, ap, ◌∙◌, subst, refl, arith}
-use Rattle.lft_rows.specs.declared.slices.Slice.{Slice}
+use Rattle.lft_rows.{specs.declared.slices.Slice.Slice, proofs.PresenceLemmas.Lists.not_true}
 use Rattle.lft_check.proofs.ByTagLemmas.ByTag.{AreSlicesTo, slices_stay, slices_more, slices_end}
-use Rattle.lft_rows.proofs.PresenceLemmas.Lists.{not_true}
-use Rattle.lft_check.proofs.by_tag.slices.slices_of.Goals as goal
 use Rattle.lft_check.proofs.by_tag.slices.slices_of.Goals.{then-is_other+in_ok-push, else-is_other}
+use Rattle.lft_check.proofs.by_tag.slices.slices_of.Goals as goal
 
 pub loop-place-preserved : goal.loop-place-preserved
 loop-place-preserved c = elim c.if-is_other.branch [

@@ -1,6 +1,5 @@
 use Rattle.std.proofs.Common.{refl}
-use Rattle.lft_check.proofs.ByTagLemmas.Begun.{due_over, none_in}
-use Rattle.lft_check.proofs.ByTagLemmas.Missed.{missing_all}
+use Rattle.lft_check.proofs.ByTagLemmas.{Begun.{due_over, none_in}, Missed.missing_all}
 use Rattle.lft_check.proofs.by_tag.slicing.caused_by.Goals as goal
 
 pub returns : goal.returns

@@ -1,12 +1,10 @@
 use Rattle.std.proofs.Common.{◌≡◌, ◌+◌, ◌<◌, ◌≤◌, length, refl, sym, ap, ◌∙◌, subst, arith}
 use Rattle.std.proofs.lemmas.List.{take_all}
-use Rattle.lft_rows.proofs.PresenceLemmas.Lists.{not_true}
+use Rattle.lft_rows.{proofs.{PresenceLemmas.Lists.not_true, Counted.{count_start, count_inner}}, specs.Slices.runs_in}
 use Rattle.lft_check.specs.ByTag.Indexes.{HasRunsTo}
-use Rattle.lft_rows.specs.Slices.{runs_in}
 use Rattle.lft_check.proofs.ByTagLemmas.Begun.{starts_begin, starts_stay, starts_more}
-use Rattle.lft_rows.proofs.Counted.{count_start, count_inner}
-use Rattle.lft_check.proofs.by_tag.started.started_of.Goals as goal
 use Rattle.lft_check.proofs.by_tag.started.started_of.Goals.{then-is_start+in_ok-push+in_ok-push-2, else-is_start}
+use Rattle.lft_check.proofs.by_tag.started.started_of.Goals as goal
 
 pub loop-place-init : goal.loop-place-init
 loop-place-init c = record { lists = starts_begin c.args.rows.now c.args.reactions c.in_ok-tags.tags c.in_ok-places.places c.in_ok-tags.ensures.count c.in_ok-places.ensures.count c.in_ok-tags.ensures.empty c.in_ok-places.ensures.empty; few = omega arith; counted = refl }

@@ -1,8 +1,6 @@
 use Rattle.std.proofs.Common.{[], ◌∷◌, sym, ap, ◌∙◌}
-use Rattle.lft_classes.specs.Needs.{HasNeed, IsTimeIn, NamesParameter, Times, Widths, times_of}
-use Rattle.lft_classes.specs.Shapes.{width_of}
-use Rattle.lft_classes.proofs.Marking.{marks_as, marks_on}
-use Rattle.lft_classes.proofs.Passing.{among_two, time_needed, width_needed}
+use Rattle.lft_classes.specs.{Needs.{HasNeed, IsTimeIn, NamesParameter, Times, Widths, times_of}, Shapes.width_of}
+use Rattle.lft_classes.proofs.{Marking.{marks_as, marks_on}, Passing.{among_two, time_needed, width_needed}}
 use Rattle.lft_classes.proofs.deciding.Needs.note.Goals as goal
 
 pub returns-in_ok-note_width-in-Port-clause-sized : goal.returns-in_ok-note_width-in-Port-clause-sized

@@ -1,11 +1,6 @@
 use Rattle.std.proofs.Common.{◌≡◌, ℕ, Some, option_map, slice_get, sym, ap, ◌∙◌}
 use Rattle.lft_lists.proofs.Mapped.{mapped_from}
-use Rattle.lft_classes.specs.declared.scopes.Class.{Class}
-use Rattle.lft_classes.specs.Below.{IsBelow}
-use Rattle.lft_classes.specs.Built.{core}
-use Rattle.lft_classes.specs.Chains.{extended}
-use Rattle.lft_classes.specs.Makings.{IsNeeded}
-use Rattle.lft_classes.specs.Scopes.{meaning_in}
+use Rattle.lft_classes.specs.{declared.scopes.Class.Class, Below.IsBelow, Built.core, Chains.extended, Makings.IsNeeded, Scopes.meaning_in}
 use Rattle.lft_classes.proofs.Goings.{goes_weaker}
 use Rattle.lft_classes.proofs.making.Making.child_of.Goals as goal
 

@@ -1,6 +1,5 @@
 use Rattle.std.proofs.Common.{ℕ, ◌<◌, ◌≤◌}
-use Rattle.lft_classes.specs.declared.scopes.Class.{Class}
-use Rattle.lft_classes.specs.Scopes.{IsMainAt}
+use Rattle.lft_classes.specs.{declared.scopes.Class.Class, Scopes.IsMainAt}
 use Rattle.lft_classes.proofs.scopes.Scopes.next_main.Given as goal
 
 abbrev pub invariant-loop-place : goal.invariant-loop-place

@@ -1,9 +1,6 @@
 use Rattle.std.proofs.Common.{length, ap, arith}
-use Rattle.std.proofs.lemmas.List.{length_push}
-use Rattle.lft_classes.proofs.Listing.{ended_as_ordered}
-use Rattle.lft_classes.proofs.Sets.{kept, only}
-use Rattle.std.proofs.lemmas.Option.{MatchOption-at_none}
-use Rattle.lft_classes.proofs.Walking.{ended_as}
+use Rattle.std.proofs.lemmas.{List.length_push, Option.MatchOption-at_none}
+use Rattle.lft_classes.proofs.{Listing.ended_as_ordered, Sets.{kept, only}, Walking.ended_as}
 use Rattle.lft_classes.proofs.walk.Walk.end.Goals as goal
 
 pub returns-clause-walk : goal.returns-clause-walk

@@ -1,5 +1,4 @@
-use Rattle.lft_classes.proofs.Listing.{over_ordered}
-use Rattle.lft_classes.proofs.Walking.{over}
+use Rattle.lft_classes.proofs.{Listing.over_ordered, Walking.over}
 use Rattle.lft_classes.proofs.walk.Walk.into_listed.Goals as goal
 
 pub returns-clause-list : goal.returns-clause-list

@@ -1,8 +1,5 @@
 use Rattle.std.proofs.Common.{◌≡◌, ◌∷◌, ◌++◌, [], ap, ◌∙◌}
-use Rattle.lft_classes.specs.declared.walk.Visit.{Visit}
-use Rattle.lft_classes.proofs.Listing.{begun_ordered}
-use Rattle.lft_classes.proofs.Walking.{begun_as}
-use Rattle.lft_classes.proofs.Sets.{alone, nowhere}
+use Rattle.lft_classes.{specs.declared.walk.Visit.Visit, proofs.{Listing.begun_ordered, Walking.begun_as, Sets.{alone, nowhere}}}
 use Rattle.lft_classes.proofs.walk.Walk.of.Goals as goal
 
 pub returns-clause-walk : goal.returns-clause-walk

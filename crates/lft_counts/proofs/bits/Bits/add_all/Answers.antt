@@ -2,9 +2,8 @@ use Rattle.std.proofs.Common.{◌≡◌, ◌+◌, ◌∙◌, ◌<◌, ◌≤◌,
 use Rattle.std.specs.Prelude.{bit_or, slice_index, slice_set}
 use Rattle.std.proofs.lemmas.Option.{get_or_from_slice_get, slice_get-get_or}
 use Rattle.lft_graph.proofs.Bits.{AreJoined, joined_has}
-use Rattle.lft_counts.proofs.Toggling.{joined_more, joined_none}
+use Rattle.lft_counts.proofs.{Toggling.{joined_more, joined_none}, bits.Bits.add_all.Goals.{then-word-ne0, else-word-ne0}}
 use Rattle.lft_counts.proofs.bits.Bits.add_all.Goals as goal
-use Rattle.lft_counts.proofs.bits.Bits.add_all.Goals.{then-word-ne0, else-word-ne0}
 
 pub returns-clause-members : goal.returns-clause-members
 returns-clause-members c r =

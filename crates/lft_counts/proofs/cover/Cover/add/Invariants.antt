@@ -1,6 +1,5 @@
 use Rattle.std.proofs.Common.{◌≡◌, ◌+◌, map}
-use Rattle.lft_counts.specs.Cover.{IsCover}
-use Rattle.lft_counts.specs.Orders.{cleared}
+use Rattle.lft_counts.specs.{Cover.IsCover, Orders.cleared}
 use Rattle.lft_counts.proofs.cover.Cover.add.Given as goal
 
 abbrev pub invariant-loop-place : goal.invariant-loop-place

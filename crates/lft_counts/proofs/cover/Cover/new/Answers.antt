@@ -1,7 +1,5 @@
 use Rattle.std.proofs.Common.{subst, ap, ◌∙◌, map}
-use Rattle.lft_counts.specs.Overlaps.{Overlap}
-use Rattle.lft_counts.specs.Orders.{cleared}
-use Rattle.lft_counts.proofs.Laying.{cleared_all}
+use Rattle.lft_counts.{specs.{Overlaps.Overlap, Orders.cleared}, proofs.Laying.cleared_all}
 use Rattle.lft_counts.proofs.cover.Cover.new.Goals as goal
 
 pub returns-clause-covers : goal.returns-clause-covers

@@ -1,7 +1,5 @@
 use Rattle.std.proofs.Common.{◌+◌, length, ap, sym, subst, ◌∙◌, arith}
-use Rattle.lft_counts.specs.Cover.{IsCounting}
-use Rattle.lft_counts.specs.Orders.{Stands}
-use Rattle.lft_counts.specs.Overlaps.{Overlap}
+use Rattle.lft_counts.specs.{Cover.IsCounting, Orders.Stands, Overlaps.Overlap}
 use Rattle.lft_counts.proofs.cover.Cover.step.Goals as goal
 
 pub add-requires : goal.add-requires

@@ -1,6 +1,5 @@
 use Rattle.std.proofs.Common.{◌≡◌, subst, refl, true, false}
-use Rattle.lft_counts.specs.Orders.{IsLast}
-use Rattle.lft_counts.proofs.Meeting.{met_apart, met_beside, met_elsewhere, met_never}
+use Rattle.lft_counts.{specs.Orders.IsLast, proofs.Meeting.{met_apart, met_beside, met_elsewhere, met_never}}
 use Rattle.lft_counts.proofs.orders.Order.met.Goals as goal
 
 pub returns-then-start-worker-clause-counted : goal.returns-then-start-worker-clause-counted

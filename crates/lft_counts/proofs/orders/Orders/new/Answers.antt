@@ -1,6 +1,5 @@
 use Rattle.std.proofs.Common.{◌≡◌, ◌++◌, ◌+◌, length, replicate, None, ap, ◌∙◌, sym, subst, arith, List, ℕ, take, map}
-use Rattle.lft_counts.specs.declared.orders.Order.{Order}
-use Rattle.lft_counts.specs.Orders.{orders_from, unmet}
+use Rattle.lft_counts.specs.{declared.orders.Order.Order, Orders.{orders_from, unmet}}
 use Rattle.lft_counts.proofs.Laying.{IsPushed, inside, pushed, laying_more, orders_more, stand_so, take_whole}
 use Rattle.lft_counts.proofs.orders.Orders.new.Goals as goal
 

@@ -1,6 +1,5 @@
 use Rattle.std.proofs.Common.{◌≡◌, length, take}
-use Rattle.lft_counts.specs.Orders.{orders_from}
-use Rattle.lft_counts.proofs.Laying.{Laying}
+use Rattle.lft_counts.{specs.Orders.orders_from, proofs.Laying.Laying}
 use Rattle.lft_counts.proofs.orders.Orders.new.Given as goal
 
 abbrev pub invariant-loop-reaction : goal.invariant-loop-reaction

@@ -1,9 +1,6 @@
 use Rattle.std.proofs.Common.{length, ◌≡◌, ◌+◌, ◌≤◌, inr, ℕ, List, Option, Some, sym, subst, ◌∙◌, refl, arith, slice_get}
-use Rattle.lft_counts.specs.declared.orders.Last.{Last}
-use Rattle.lft_counts.specs.declared.orders.Order.{Order}
+use Rattle.lft_counts.{specs.{declared.orders.{Last.Last, Order.Order}, Orders.IsLast}, proofs.Going.{set_out, go_on, arrive, few}}
 use Rattle.lft_model.specs.Runs.{start_row}
-use Rattle.lft_counts.specs.Orders.{IsLast}
-use Rattle.lft_counts.proofs.Going.{set_out, go_on, arrive, few}
 use Rattle.lft_counts.proofs.orders.Orders.start.Goals as goal
 
 pub loop-place-init : goal.loop-place-init

@@ -1,6 +1,5 @@
 use Rattle.std.proofs.Common.{length, ◌<◌, ◌-◌, arith}
-use Rattle.lft_counts.proofs.Going.{ended}
-use Rattle.lft_counts.proofs.Overlapping.{some_open, open_less, met_same, widths_same, no_start, end_no_start}
+use Rattle.lft_counts.proofs.{Going.ended, Overlapping.{some_open, open_less, met_same, widths_same, no_start, end_no_start}}
 use Rattle.lft_counts.proofs.overlaps.Overlaps.end.Goals as goal
 
 pub overflow_sub-self : goal.overflow_sub-self

@@ -1,6 +1,5 @@
 use Rattle.std.proofs.Common.{List, ℕ, subst, sym}
-use Rattle.lft_counts.specs.Overlaps.{AreWidths}
-use Rattle.lft_counts.proofs.Overlapping.{none_open, none_met, none_wide}
+use Rattle.lft_counts.{specs.Overlaps.AreWidths, proofs.Overlapping.{none_open, none_met, none_wide}}
 use Rattle.lft_counts.proofs.overlaps.Overlaps.new.Goals as goal
 
 pub returns : goal.returns

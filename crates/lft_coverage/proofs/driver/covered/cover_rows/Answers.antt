@@ -1,6 +1,5 @@
 use Rattle.std.proofs.Common.{refl, subst}
-use Rattle.lft_check.specs.Verdicts.{IsVerdict}
-use Rattle.lft_check.specs.declared.verdict.Verdict.TheVariants.{Accepted, Broken}
+use Rattle.lft_check.specs.{Verdicts.IsVerdict, declared.verdict.Verdict.TheVariants.{Accepted, Broken}}
 use Rattle.lft_driver.proofs.Judging.{has_reaction}
 use Rattle.lft_coverage.proofs.driver.covered.cover_rows.Goals as goal
 

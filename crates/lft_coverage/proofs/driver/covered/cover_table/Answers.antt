@@ -1,11 +1,7 @@
 use Rattle.std.proofs.Common.{◌≡◌, inr, List, true, sym, subst}
 use Rattle.std.proofs.lemmas.Result.{IfOk-weaker}
-use Rattle.lft_ir.specs.Parts.{Parts}
-use Rattle.lft_ir.specs.declared.steps.row.Row.{Row}
-use Rattle.lft_trace.specs.Faults.{is_told}
-use Rattle.lft_trace.specs.Records.{records_of}
-use Rattle.lft_trace.specs.Traces.{Table, TraceFails}
-use Rattle.lft_trace.proofs.TraceFacts.{one_table}
+use Rattle.lft_ir.specs.{Parts.Parts, declared.steps.row.Row.Row}
+use Rattle.lft_trace.{specs.{Faults.is_told, Records.records_of, Traces.{Table, TraceFails}}, proofs.TraceFacts.one_table}
 use Rattle.lft_driver.specs.Meaning.{HasTable}
 use Rattle.lft_coverage.specs.Driver.Covered.{IsCovered, IsCoveredTable}
 use Rattle.lft_coverage.proofs.driver.covered.cover_table.Goals as goal

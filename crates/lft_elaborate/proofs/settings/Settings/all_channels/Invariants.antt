@@ -1,8 +1,5 @@
 use Rattle.std.proofs.Common.{◌≡◌, take, Some}
-use Rattle.lft_elaborate.specs.Noted.{AreMade, GoesOn, table}
-use Rattle.lft_elaborate.specs.Places.{HavePlaces}
-use Rattle.lft_elaborate.specs.Settings.{setting_at}
-use Rattle.lft_elaborate.specs.Values.{Valued}
+use Rattle.lft_elaborate.specs.{Noted.{AreMade, GoesOn, table}, Places.HavePlaces, Settings.setting_at, Values.Valued}
 use Rattle.lft_elaborate.proofs.settings.Settings.all_channels.Given as goal
 
 abbrev pub invariant-loop-reference : goal.invariant-loop-reference

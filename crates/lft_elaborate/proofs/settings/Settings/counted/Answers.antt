@@ -1,6 +1,4 @@
-use Rattle.lft_elaborate.specs.Noted.{table}
-use Rattle.lft_elaborate.proofs.Keeping.{goes_further}
-use Rattle.lft_elaborate.proofs.Using.{used_goes}
+use Rattle.lft_elaborate.{specs.Noted.table, proofs.{Keeping.goes_further, Using.used_goes}}
 use Rattle.lft_elaborate.proofs.settings.Settings.counted.Goals as goal
 
 pub returns-clause-goes : goal.returns-clause-goes

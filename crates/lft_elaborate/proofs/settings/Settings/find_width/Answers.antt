@@ -1,14 +1,9 @@
 use Rattle.std.proofs.Common.{◌≡◌, ℕ, List, Some, sym, subst}
 use Rattle.lft_lists.proofs.Options.{found}
 use Rattle.lft_whole.specs.declared.tree.Term.{Term}
-use Rattle.lft_elaborate.specs.Finding.{AddsOnly, AreNeeded, is_open}
-use Rattle.lft_elaborate.specs.Noted.{AreMade, GoesOn, table}
-use Rattle.lft_elaborate.specs.Places.{IsSum}
-use Rattle.lft_elaborate.specs.Refused.{IsCountedIn}
-use Rattle.lft_elaborate.specs.Settings.{setting_at}
+use Rattle.lft_elaborate.specs.{Finding.{AddsOnly, AreNeeded, is_open}, Noted.{AreMade, GoesOn, table}, Places.IsSum, Refused.IsCountedIn, Settings.setting_at}
 use Rattle.lft_elaborate.specs.Values.{Valued}
-use Rattle.lft_elaborate.proofs.Finding.{are_needed, next_stays, path_stays}
-use Rattle.lft_elaborate.proofs.Standing.{close_goes}
+use Rattle.lft_elaborate.proofs.{Finding.{are_needed, next_stays, path_stays}, Standing.close_goes}
 use Rattle.lft_elaborate.proofs.settings.Settings.find_width.Goals as goal
 
 goes_noted : (c : goal.After-drop-needs-in-Some-all) → GoesOn (table c.args.self.now) (table c.note_width.new.self)

@@ -1,6 +1,5 @@
 use Rattle.std.proofs.Common.{◌≡◌, ◌<◌, ℕ, List, Some, inl, inr, ap, length, subst, ◌∙◌, arith, slice_get}
-use Rattle.std.proofs.lemmas.List.Sorted.{Contains-permutation, IsPermutation-sym}
-use Rattle.std.proofs.lemmas.Option.{slice_get-get_or}
+use Rattle.std.proofs.lemmas.{List.Sorted.{Contains-permutation, IsPermutation-sym}, Option.slice_get-get_or}
 use Rattle.lft_lists.proofs.Places.{at_contains, contains_at, get_push_cases}
 use Rattle.lft_elaborate.proofs.settings.Settings.inner_first.Goals as goal
 

@@ -1,6 +1,4 @@
-use Rattle.lft_elaborate.specs.Noted.{table}
-use Rattle.lft_elaborate.proofs.Keeping.{goes_further}
-use Rattle.lft_elaborate.proofs.Standing.{pairs_are}
+use Rattle.lft_elaborate.{specs.Noted.table, proofs.{Keeping.goes_further, Standing.pairs_are}}
 use Rattle.lft_elaborate.proofs.settings.Settings.pairs.Goals as goal
 
 pub returns-clause-goes : goal.returns-clause-goes

@@ -1,10 +1,6 @@
 use Rattle.std.proofs.Common.{◌≡◌, ℕ, Some, None, arith, rules}
-use Rattle.lft_elaborate.specs.Noted.{AreMade, table}
-use Rattle.lft_elaborate.specs.Settings.{setting_at}
-use Rattle.lft_elaborate.specs.Used.{IsIn, IsNumberIn}
-use Rattle.lft_elaborate.specs.Values.{Valued}
+use Rattle.lft_elaborate.{specs.{Noted.{AreMade, table}, Settings.setting_at, Used.{IsIn, IsNumberIn}, Values.Valued}, proofs.Using.{has_inside, number_or}}
 use Rattle.lft_lists.proofs.Options.{found, lacking}
-use Rattle.lft_elaborate.proofs.Using.{has_inside, number_or}
 use Rattle.lft_elaborate.proofs.settings.Settings.push_inside.Goals as goal
 
 pub returns-in_default-clause-has : goal.returns-in_default-clause-has

@@ -1,17 +1,10 @@
 use Rattle.std.proofs.Common.{inl, ◌≡◌, ◌<◌, ◌+◌, ◌++◌, [], ◌∷◌, List, length, take, Some, refl, sym, subst, arith, slice_get}
-use Rattle.std.proofs.lemmas.Grind.{common_steps}
-use Rattle.std.proofs.lemmas.Option.{slice_get_read}
 use Rattle.std.specs.Prelude.{IfSome}
+use Rattle.std.proofs.lemmas.{Grind.common_steps, Option.slice_get_read}
 use Rattle.lft_lists.proofs.Picked.{take_one_more}
 use Rattle.lft_whole.specs.declared.tree.Term.{Term}
-use Rattle.lft_elaborate.specs.Noted.{AreMade, table}
-use Rattle.lft_elaborate.specs.Places.{IsSum, plus}
-use Rattle.lft_elaborate.specs.Settings.{setting_at}
-use Rattle.lft_elaborate.specs.Values.{Valued}
-use Rattle.lft_elaborate.proofs.Counting.{no_terms}
-use Rattle.lft_elaborate.proofs.Finding.{adds_term}
-use Rattle.lft_elaborate.proofs.Keeping.{goes_further, goes_nowhere}
-use Rattle.lft_elaborate.proofs.Standing.{terms_plus}
+use Rattle.lft_elaborate.specs.{Noted.{AreMade, table}, Places.{IsSum, plus}, Settings.setting_at, Values.Valued}
+use Rattle.lft_elaborate.proofs.{Counting.no_terms, Finding.adds_term, Keeping.{goes_further, goes_nowhere}, Standing.terms_plus}
 use Rattle.lft_elaborate.proofs.settings.Settings.sum.Goals as goal
 
 pub loop-term-init : goal.loop-term-init

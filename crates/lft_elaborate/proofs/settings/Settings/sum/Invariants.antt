@@ -1,11 +1,6 @@
 use Rattle.std.proofs.Common.{◌≡◌, ◌≤◌, take, Some}
 use Rattle.std.specs.Prelude.{IfSome}
-use Rattle.lft_elaborate.specs.Finding.{AddsOnly}
-use Rattle.lft_elaborate.specs.Noted.{AreMade, GoesOn, table}
-use Rattle.lft_elaborate.specs.Places.{IsSum}
-use Rattle.lft_elaborate.specs.Refused.{IsCountedIn}
-use Rattle.lft_elaborate.specs.Settings.{setting_at}
-use Rattle.lft_elaborate.specs.Values.{Valued}
+use Rattle.lft_elaborate.specs.{Finding.AddsOnly, Noted.{AreMade, GoesOn, table}, Places.IsSum, Refused.IsCountedIn, Settings.setting_at, Values.Valued}
 use Rattle.lft_elaborate.proofs.settings.Settings.sum.Given as goal
 
 abbrev pub invariant-loop-term : goal.invariant-loop-term

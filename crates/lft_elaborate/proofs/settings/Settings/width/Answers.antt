@@ -1,10 +1,7 @@
 use Rattle.std.proofs.Common.{List, subst, sym, ◌∙◌}
 use Rattle.lft_classes.specs.declared.shapes.Shape.{Shape}
-use Rattle.lft_elaborate.specs.Finding.{IsFirst, IsPath}
-use Rattle.lft_elaborate.specs.Places.{IsWidth}
-use Rattle.lft_elaborate.specs.Refused.{Leads}
-use Rattle.lft_elaborate.proofs.Keeping.{goes_further, goes_nowhere}
-use Rattle.lft_elaborate.proofs.Standing.{found_is_width, none_written}
+use Rattle.lft_elaborate.specs.{Finding.{IsFirst, IsPath}, Places.IsWidth, Refused.Leads}
+use Rattle.lft_elaborate.proofs.{Keeping.{goes_further, goes_nowhere}, Standing.{found_is_width, none_written}}
 use Rattle.lft_elaborate.proofs.settings.Settings.width.Goals as goal
 
 pub widths-init : goal.widths-init

@@ -1,8 +1,5 @@
 use Rattle.std.proofs.Common.{◌≡◌, Some}
-use Rattle.lft_elaborate.specs.Finding.{IsPath}
-use Rattle.lft_elaborate.specs.Noted.{AreMade, GoesOn, table}
-use Rattle.lft_elaborate.specs.Settings.{setting_at}
-use Rattle.lft_elaborate.specs.Values.{Valued}
+use Rattle.lft_elaborate.specs.{Finding.IsPath, Noted.{AreMade, GoesOn, table}, Settings.setting_at, Values.Valued}
 use Rattle.lft_elaborate.proofs.settings.Settings.width.Given as goal
 
 abbrev pub invariant-widths : goal.invariant-widths

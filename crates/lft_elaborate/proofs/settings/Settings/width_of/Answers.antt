@@ -1,11 +1,7 @@
 use Rattle.std.proofs.Common.{◌≡◌, Some, sym, subst}
 use Rattle.std.specs.Prelude.{IfSome}
-use Rattle.lft_elaborate.specs.Noted.{AreMade, table}
-use Rattle.lft_elaborate.specs.Places.{HasPlaces}
-use Rattle.lft_elaborate.specs.Settings.{setting_at}
-use Rattle.lft_elaborate.specs.Values.{Valued}
-use Rattle.lft_elaborate.proofs.Finding.{adds_thing}
-use Rattle.lft_elaborate.proofs.Standing.{reference_times}
+use Rattle.lft_elaborate.specs.{Noted.{AreMade, table}, Places.HasPlaces, Settings.setting_at, Values.Valued}
+use Rattle.lft_elaborate.proofs.{Finding.adds_thing, Standing.reference_times}
 use Rattle.lft_elaborate.proofs.settings.Settings.width_of.Goals as goal
 
 pub returns-clause-places : goal.returns-clause-places

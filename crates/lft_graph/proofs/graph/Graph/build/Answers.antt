@@ -1,10 +1,6 @@
 use Rattle.std.proofs.Common.{◌≡◌, sym, subst}
-use Rattle.lft_graph.specs.Loops.{IsLoopOf}
-use Rattle.lft_graph.specs.Graph.{AreLevels, AreByLevel}
-use Rattle.lft_graph.specs.Walks.{AreInside, IsStep}
-use Rattle.lft_graph.specs.declared.fault.GraphFault.TheVariants.{CausalityLoop}
-use Rattle.lft_graph.proofs.Chains.{inside, is_loop, is_levelled, is_graph}
-use Rattle.lft_graph.proofs.Cycles.{no_loop}
+use Rattle.lft_graph.specs.{Loops.IsLoopOf, Graph.{AreLevels, AreByLevel}, Walks.{AreInside, IsStep}, declared.fault.GraphFault.TheVariants.CausalityLoop}
+use Rattle.lft_graph.proofs.{Chains.{inside, is_loop, is_levelled, is_graph}, Cycles.no_loop}
 use Rattle.lft_graph.proofs.graph.Graph.build.Goals as goal
 
 pub levels-requires-clause-inside : goal.levels-requires-clause-inside

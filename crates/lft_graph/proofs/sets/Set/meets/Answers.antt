@@ -1,8 +1,7 @@
 use Rattle.std.proofs.Common.{◌≡◌, ◌≤◌, ◌<◌, ◌^◌, ℕ, ◌⊎◌, inl, inr, slice_get, List, length, arith, refl, sym, ap, ◌∙◌}
 use Rattle.std.specs.Prelude.{bit_and, slice_index}
 use native.Mathlib.Decide.{ℕ_discrete, dec_le}
-use Rattle.std.proofs.lemmas.Nat.{and_le_l}
-use Rattle.std.proofs.lemmas.Option.{get_or_from_slice_get}
+use Rattle.std.proofs.lemmas.{Nat.and_le_l, Option.get_or_from_slice_get}
 use Rattle.lft_graph.proofs.Bits.{word_meets, none_meet, word_at}
 use Rattle.lft_graph.proofs.sets.Set.meets.Goals as goal
 

@@ -1,8 +1,6 @@
 use Rattle.std.proofs.Common.{rules, ◌≡◌, ◌-◌, ◌<◌, ◌≤◌, length, true, refl, arith}
-use Rattle.lft_ir.specs.declared.parts.Value.TheVariants.{Bare}
-use Rattle.lft_ir.specs.declared.steps.externals.Event.{Event}
+use Rattle.lft_ir.{specs.declared.{parts.Value.TheVariants.Bare, steps.externals.Event.Event}, proofs.StepsLemmas.Placing.{belongs, one_more, told}}
 use Rattle.lft_ir.proofs.steps.order.place_of.Goals as goal
-use Rattle.lft_ir.proofs.StepsLemmas.Placing.{belongs, one_more, told}
 
 abbrev none : Event
 none = record { tag = record { time = 0; micro = 0 }; action = 0; value = Bare }

@@ -1,7 +1,6 @@
 use Rattle.std.proofs.Common.{ℕ, ◌<◌, ◌≤◌, length}
 use lib.ListN.{get_or}
-use Rattle.lft_ir.specs.Steps.Inputs.{ComesBefore}
-use Rattle.lft_ir.specs.declared.steps.externals.Event.{Event}
+use Rattle.lft_ir.specs.{Steps.Inputs.ComesBefore, declared.steps.externals.Event.Event}
 use Rattle.lft_ir.proofs.steps.order.place_of.Given as goal
 
 abbrev pub invariant-loop-place : goal.invariant-loop-place

@@ -1,7 +1,5 @@
 use Rattle.std.proofs.Common.{Bool, true, false, not, refl, ◌≡◌, ◌++◌, ◌∷◌, [], take, sym, ap, ◌∙◌}
-use Rattle.std.proofs.lemmas.Option.{slice_get_within, get_or_from_slice_get}
-use Rattle.std.specs.Str.{bytes_eq}
-use Rattle.std.proofs.lemmas.Slice.Eq.{bytes_eq-Decides}
+use Rattle.std.{proofs.lemmas.{Option.{slice_get_within, get_or_from_slice_get}, Slice.Eq.bytes_eq-Decides}, specs.Str.bytes_eq}
 use Rattle.lft_lists.proofs.Picked.{take_one_more}
 use Rattle.lft_ir.proofs.texts.Texts.same.Goals as goal
 

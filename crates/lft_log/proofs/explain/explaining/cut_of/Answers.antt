@@ -1,10 +1,7 @@
 use Rattle.std.proofs.Common.{◌∙◌, ℕ, List, length, sym, subst}
-use Rattle.std.proofs.Math.Nat.{le_refl}
-use Rattle.std.proofs.lemmas.List.{take_all}
-use Rattle.lft_ir.specs.Steps.Fits.{RowsFit}
-use Rattle.lft_ir.specs.declared.steps.row.Row.{Row}
-use Rattle.lft_log.specs.Explain.Cuts.{IsCutBehind}
-use Rattle.lft_log.proofs.ExplainLemmas.Cutting.{cut_none}
+use Rattle.std.proofs.{Math.Nat.le_refl, lemmas.List.take_all}
+use Rattle.lft_ir.specs.{Steps.Fits.RowsFit, declared.steps.row.Row.Row}
+use Rattle.lft_log.{specs.Explain.Cuts.IsCutBehind, proofs.ExplainLemmas.Cutting.cut_none}
 use Rattle.lft_log.proofs.explain.explaining.cut_of.Goals as goal
 
 pub returns-in-Some-2-clause-fit : goal.returns-in-Some-2-clause-fit

@@ -1,8 +1,6 @@
 use Rattle.std.proofs.Common.{Err, inl, inr}
-use Rattle.std.proofs.KnownBytes.{Keeps-refl}
-use Rattle.std.proofs.lemmas.Result.{IfErr-weaker, IfOk-weaker}
-use Rattle.lft_log.proofs.FollowLemmas.Reaching.{writes_none}
-use Rattle.lft_log.specs.declared.explain.explaining.Explained.{Explained}
+use Rattle.std.proofs.{KnownBytes.Keeps-refl, lemmas.Result.{IfErr-weaker, IfOk-weaker}}
+use Rattle.lft_log.{proofs.FollowLemmas.Reaching.writes_none, specs.declared.explain.explaining.Explained.Explained}
 use Rattle.lft_log.proofs.explain.explaining.explain_log.Goals as goal
 
 pub returns-in-Ok-clause-explained : goal.returns-in-Ok-clause-explained

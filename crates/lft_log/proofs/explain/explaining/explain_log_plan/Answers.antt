@@ -1,16 +1,11 @@
 use Rattle.std.proofs.Common.{ℕ, List, [], Err, inl, sym, subst}
-use Rattle.std.specs.Io.KnownBytes.{Appends}
-use Rattle.std.proofs.KnownBytes.{Consumes-nil, Keeps-refl}
+use Rattle.std.{specs.Io.KnownBytes.Appends, proofs.KnownBytes.{Consumes-nil, Keeps-refl}}
 use Rattle.lft_model.specs.Plans.{PlanParts}
 use Rattle.lft_load.specs.Written.{AppendsFront}
-use Rattle.lft_log.specs.Told.{TellsOpen}
-use Rattle.lft_log.specs.Follow.Refusals.FollowRefusalUnder.{by_reading}
-use Rattle.lft_log.specs.Follow.Refusals.ReadRefusal.{by_outside}
-use Rattle.lft_log.proofs.FollowLemmas.Reaching.{none_written, told_all}
-use Rattle.lft_log.specs.Explain.Explained.{IsLack, IsLongKept, IsTextBehind}
-use Rattle.lft_log.specs.Explain.Refusals.ExplainLogRefusalUnder.{by_log}
+use Rattle.lft_log.specs.{Told.TellsOpen, Follow.Refusals.{FollowRefusalUnder.by_reading, ReadRefusal.by_outside}}
+use Rattle.lft_log.specs.Explain.{Explained.{IsLack, IsLongKept, IsTextBehind}, Refusals.ExplainLogRefusalUnder.by_log}
 use Rattle.lft_log.specs.declared.explain.explaining.Explained.{Explained}
-use Rattle.lft_log.proofs.ExplainLemmas.Writing.{line_alone, line_and_front, line_and_text}
+use Rattle.lft_log.proofs.{FollowLemmas.Reaching.{none_written, told_all}, ExplainLemmas.Writing.{line_alone, line_and_front, line_and_text}}
 use Rattle.lft_log.proofs.explain.explaining.explain_log_plan.Goals as goal
 
 pub text_behind-requires : goal.text_behind-requires

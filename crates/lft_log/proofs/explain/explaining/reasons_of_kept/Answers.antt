@@ -1,8 +1,7 @@
 use Rattle.std.proofs.Common.{◌∷◌, ◌++◌, [], ℕ, List, inr, subst}
 use Rattle.std.proofs.lemmas.Result.{IfErr-weaker, IfOk-weaker}
 use Rattle.lft_monitor.specs.Follows.{breach_of}
-use Rattle.lft_log.specs.Logs.{HasManyRows}
-use Rattle.lft_log.specs.Explain.Explained.{ExplainsCut}
+use Rattle.lft_log.specs.{Logs.HasManyRows, Explain.Explained.ExplainsCut}
 use Rattle.lft_log.proofs.explain.explaining.reasons_of_kept.Goals as goal
 
 pub returns-in-All-clause-text : goal.returns-in-All-clause-text

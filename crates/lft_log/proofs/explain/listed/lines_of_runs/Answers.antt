@@ -1,7 +1,6 @@
 use Rattle.std.specs.Prelude.{codes}
 use Rattle.std.proofs.Common.{◌++◌, ◌∙◌, ap, sym, append_assoc, flat_map, take}
-use Rattle.lft_log.specs.Explain.Listed.{run_words}
-use Rattle.lft_log.proofs.ExplainLemmas.Listing.{lines_more}
+use Rattle.lft_log.{specs.Explain.Listed.run_words, proofs.ExplainLemmas.Listing.lines_more}
 use Rattle.lft_log.proofs.explain.listed.lines_of_runs.Goals as goal
 
 pub loop-place-preserved : goal.loop-place-preserved

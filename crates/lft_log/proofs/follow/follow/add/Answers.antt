@@ -1,8 +1,6 @@
 use Rattle.std.proofs.Common.{◌<◌, ◌/◌, ◌++◌, ℕ, Err, Option, inl, sym, subst}
-use Rattle.std.specs.Io.KnownBytes.{Appends}
-use Rattle.std.proofs.KnownBytes.{Appends-nil}
-use Rattle.lft_log.specs.declared.told.Told.{Told}
-use Rattle.lft_log.specs.Follow.Reaches.{OfReaches, WritesOrFails}
+use Rattle.std.{specs.Io.KnownBytes.Appends, proofs.KnownBytes.Appends-nil}
+use Rattle.lft_log.specs.{declared.told.Told.Told, Follow.Reaches.{OfReaches, WritesOrFails}}
 use Rattle.lft_log.proofs.FollowLemmas.Reaching.{none_told, none_written, one_told, reach_of, some_more, told_cut}
 use Rattle.lft_log.proofs.follow.follow.add.Goals.{in-Ok, in-Err-tell_reach}
 use Rattle.lft_log.proofs.follow.follow.add.Goals as goal

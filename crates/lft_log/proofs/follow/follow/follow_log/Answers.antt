@@ -1,8 +1,6 @@
 use Rattle.std.proofs.Common.{Err, inl, inr}
-use Rattle.std.proofs.KnownBytes.{Keeps-refl}
-use Rattle.std.proofs.lemmas.Result.{IfErr-weaker, IfOk-weaker}
-use Rattle.lft_log.specs.declared.told.Ended.{Ended}
-use Rattle.lft_log.proofs.FollowLemmas.Reaching.{writes_none}
+use Rattle.std.proofs.{KnownBytes.Keeps-refl, lemmas.Result.{IfErr-weaker, IfOk-weaker}}
+use Rattle.lft_log.{specs.declared.told.Ended.Ended, proofs.FollowLemmas.Reaching.writes_none}
 use Rattle.lft_log.proofs.follow.follow.follow_log.Goals as goal
 
 pub returns-in-Ok-clause-followed : goal.returns-in-Ok-clause-followed

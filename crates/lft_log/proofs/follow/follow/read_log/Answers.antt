@@ -1,21 +1,10 @@
 use Rattle.std.proofs.Common.{◌≡◌, ◌∙◌, ◌<◌, ◌++◌, ℕ, List, [], refl, Option, Ok, Err, None, IfOk, IfErr, ⊎_elim, length, take, inl, inr, sym, subst, arith}
-use Rattle.std.specs.Io.KnownBytes.{Appends}
-use Rattle.std.proofs.KnownBytes.{Appends-nil, Consumes-nil, Consumes-trans, Consumes-kept}
+use Rattle.std.{specs.Io.KnownBytes.Appends, proofs.KnownBytes.{Appends-nil, Consumes-nil, Consumes-trans, Consumes-kept}}
 use Rattle.lft_model.specs.Plans.{PlanParts}
-use Rattle.lft_log.specs.declared.log.Log.{Log}
-use Rattle.lft_log.specs.Logs.{HasManyRows}
-use Rattle.lft_log.specs.Told.{IsLog, TellsOpen}
-use Rattle.lft_log.specs.declared.told.Ended.{Ended}
-use Rattle.lft_log.specs.declared.told.Final.{Final}
-use Rattle.lft_log.specs.declared.told.Told.{Told}
-use Rattle.lft_log.specs.Follow.Followed.{IsRead, IsReadKept}
-use Rattle.lft_log.specs.Follow.Kept.{IsKeptOn}
-use Rattle.lft_log.specs.Follow.Reaches.{OfReaches}
-use Rattle.lft_log.specs.declared.follow.kept.Kept.{Kept}
-use Rattle.lft_log.specs.Follow.Refusals.{ReadRefusal}
-use Rattle.lft_log.specs.Follow.Refusals.ReadRefusal.{by_end, by_line, by_outside, by_reader}
-use Rattle.lft_log.proofs.FollowLemmas.Keeping.{kept_more, kept_none}
-use Rattle.lft_log.proofs.FollowLemmas.Reaching.{none_told, none_written, told_all, told_both}
+use Rattle.lft_log.specs.{declared.{log.Log.Log, told.{Ended.Ended, Final.Final, Told.Told}, follow.kept.Kept.Kept}, Logs.HasManyRows, Told.{IsLog, TellsOpen}}
+use Rattle.lft_log.specs.Follow.{Followed.{IsRead, IsReadKept}, Kept.IsKeptOn, Reaches.OfReaches}
+use Rattle.lft_log.specs.Follow.Refusals.{ReadRefusal, ReadRefusal.{by_end, by_line, by_outside, by_reader}}
+use Rattle.lft_log.proofs.FollowLemmas.{Keeping.{kept_more, kept_none}, Reaching.{none_told, none_written, told_all, told_both}}
 use Rattle.lft_log.proofs.FollowLemmas.Reading.{none_more, soon_is_no_end}
 use Rattle.lft_log.proofs.follow.follow.read_log.Goals.{in-Ok-finish, in-Err-finish, in-Ok-read+in-Ok-None, in-Err+else-ne}
 use Rattle.lft_log.proofs.follow.follow.read_log.Goals as goal

@@ -1,7 +1,6 @@
 use Rattle.std.proofs.Common.{◌≡◌, ◌≤◌, ◌+◌, ◌∙◌, ℕ, List, Some, length, slice_range, sym, ap, subst}
 use Rattle.lft_trace.specs.Numbers.{number}
-use Rattle.lft_log.proofs.Heads.{if_none}
-use Rattle.lft_log.proofs.FollowLemmas.Words.{no_comma, parts_at, parts_same}
+use Rattle.lft_log.proofs.{Heads.if_none, FollowLemmas.Words.{no_comma, parts_at, parts_same}}
 use Rattle.lft_log.proofs.follow.follow.read_until.Goals as goal
 
 pub returns-clause-tag : goal.returns-clause-tag

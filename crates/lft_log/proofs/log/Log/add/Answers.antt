@@ -1,10 +1,7 @@
 use Rattle.std.proofs.Common.{ℕ, ◌++◌, List, drop, length, refl, slice_range, subst}
 use Rattle.std.proofs.lemmas.Result.{IfOk-weaker, IfErr-weaker}
-use Rattle.lft_log.specs.Logs.{HasNoEnd}
-use Rattle.lft_log.specs.Told.{IsFaultOf, IsSoon}
-use Rattle.lft_log.proofs.Ends.{never_both}
-use Rattle.lft_log.proofs.Keeping.{fault_longer, long_fault, none_told, soon_longer}
-use Rattle.lft_log.proofs.Pieces.{kept_behind, whole_piece}
+use Rattle.lft_log.specs.{Logs.HasNoEnd, Told.{IsFaultOf, IsSoon}}
+use Rattle.lft_log.proofs.{Ends.never_both, Keeping.{fault_longer, long_fault, none_told, soon_longer}, Pieces.{kept_behind, whole_piece}}
 use Rattle.lft_log.proofs.log.Log.add.Goals as goal
 
 pub returns-then-end-eq0-clause-told : goal.returns-then-end-eq0-clause-told

@@ -1,13 +1,9 @@
 use Rattle.std.proofs.Common.{◌++◌, [], inr, List, Option, slice_range, refl, sym, ap, subst, ◌∙◌, arith}
 use Rattle.lft_tag.specs.declared.Tag.{Tag}
-use Rattle.lft_ir.specs.Parts.{Parts}
-use Rattle.lft_ir.specs.declared.steps.row.Row.{Row}
-use Rattle.lft_ir.specs.Steps.Fits.{RowsFit}
+use Rattle.lft_ir.specs.{Parts.Parts, declared.steps.row.Row.Row, Steps.Fits.RowsFit}
 use Rattle.lft_monitor.specs.Follows.{IsFollowerOf}
-use Rattle.lft_log.specs.Logs.{IsFront, rows}
-use Rattle.lft_log.specs.Told.{IsAskedOf, IsFaultOfRows, IsSaid, KeepTo}
-use Rattle.lft_log.proofs.Gathering.{fit_first}
-use Rattle.lft_log.proofs.Keeping.{fault_on, lines_on, rows_fault_on, soon_on}
+use Rattle.lft_log.specs.{Logs.{IsFront, rows}, Told.{IsAskedOf, IsFaultOfRows, IsSaid, KeepTo}}
+use Rattle.lft_log.proofs.{Gathering.fit_first, Keeping.{fault_on, lines_on, rows_fault_on, soon_on}}
 use Rattle.lft_log.proofs.log.Log.add_body.Goals as goal
 
 pub returns-in-Some-clause-fault : goal.returns-in-Some-clause-fault

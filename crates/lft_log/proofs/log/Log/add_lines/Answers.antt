@@ -1,9 +1,6 @@
 use Rattle.std.proofs.Common.{ℕ, List, inr, refl, sym, subst}
 use Rattle.std.proofs.lemmas.Result.{IfOk-weaker, IfErr-weaker}
-use Rattle.lft_log.specs.Logs.{BeginsWithLine, IsHead}
-use Rattle.lft_log.proofs.Ends.{lines_below}
-use Rattle.lft_log.proofs.Odd.{no_head}
-use Rattle.lft_log.proofs.Keeping.{begun_as, only_kept}
+use Rattle.lft_log.{specs.Logs.{BeginsWithLine, IsHead}, proofs.{Ends.lines_below, Odd.no_head, Keeping.{begun_as, only_kept}}}
 use Rattle.lft_log.proofs.log.Log.add_lines.Goals as goal
 
 pub add_body-requires : goal.add_body-requires

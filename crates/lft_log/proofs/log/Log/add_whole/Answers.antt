@@ -1,9 +1,7 @@
 use Rattle.std.proofs.Common.{◌∙◌, ◌++◌, ℕ, Vec, refl, sym, ap, subst}
-use Rattle.std.specs.declared.alloc.Global.{Global}
-use Rattle.std.proofs.lemmas.Result.{IfOk-weaker, IfErr-weaker}
+use Rattle.std.{specs.declared.alloc.Global.Global, proofs.lemmas.Result.{IfOk-weaker, IfErr-weaker}}
 use Rattle.lft_trace.specs.Parts.{EndsLine}
-use Rattle.lft_log.proofs.Ends.{ends_behind}
-use Rattle.lft_log.proofs.Keeping.{kept_all, with_fact}
+use Rattle.lft_log.proofs.{Ends.ends_behind, Keeping.{kept_all, with_fact}}
 use Rattle.lft_log.proofs.log.Log.add_whole.Goals as goal
 
 pub add_lines-requires : goal.add_lines-requires

@@ -1,7 +1,5 @@
 use Rattle.std.proofs.Common.{[], List, ℕ, subst}
-use Rattle.lft_log.specs.Logs.{HoldSoFar, rows}
-use Rattle.lft_log.proofs.Fronts.{nothing}
-use Rattle.lft_log.proofs.Finishing.{final_of, kept_to, odd_at_end, tells_plan}
+use Rattle.lft_log.{specs.Logs.{HoldSoFar, rows}, proofs.{Fronts.nothing, Finishing.{final_of, kept_to, odd_at_end, tells_plan}}}
 use Rattle.lft_log.proofs.log.Log.end.Goals as goal
 
 pub returns-in-Ok : goal.returns-in-Ok

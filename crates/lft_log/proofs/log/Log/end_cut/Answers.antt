@@ -1,6 +1,5 @@
 use Rattle.std.proofs.Common.{inl}
-use Rattle.lft_log.specs.Logs.{rows}
-use Rattle.lft_log.proofs.Finishing.{kept_to, odd_at_end, tells_plan}
+use Rattle.lft_log.{specs.Logs.rows, proofs.Finishing.{kept_to, odd_at_end, tells_plan}}
 use Rattle.lft_log.proofs.log.Log.end_cut.Goals as goal
 
 pub returns-in-Ok-Unbroken : goal.returns-in-Ok-Unbroken

@@ -1,12 +1,7 @@
 use Rattle.std.proofs.Common.{◌++◌, ◌∷◌, inl, inr, ℕ, List, [], refl, subst, sym}
-use Rattle.std.proofs.lemmas.Bool.{false≢true}
-use Rattle.std.proofs.lemmas.Result.{IfOk-weaker, IfErr-weaker}
-use Rattle.lft_log.specs.Logs.{HasNoEnd, IsWholeLine}
-use Rattle.lft_log.specs.Told.{IsEnded, TellsOpen}
-use Rattle.lft_log.specs.declared.told.Final.{Final}
-use Rattle.lft_log.specs.declared.told.Final.TheVariants.{Soon}
-use Rattle.lft_log.proofs.Finishing.{ended_left, ended_whole, has_last, open_left, open_whole, some_bytes}
-use Rattle.lft_log.proofs.Pieces.{log_again}
+use Rattle.std.proofs.lemmas.{Bool.false≢true, Result.{IfOk-weaker, IfErr-weaker}}
+use Rattle.lft_log.specs.{Logs.{HasNoEnd, IsWholeLine}, Told.{IsEnded, TellsOpen}, declared.told.Final.{Final, TheVariants.Soon}}
+use Rattle.lft_log.proofs.{Finishing.{ended_left, ended_whole, has_last, open_left, open_whole, some_bytes}, Pieces.log_again}
 use Rattle.lft_log.proofs.log.Log.finish.Goals as goal
 
 pub returns-then-not-is_whole-clause-ended : goal.returns-then-not-is_whole-clause-ended

@@ -1,6 +1,5 @@
 use Rattle.std.proofs.Common.{refl, subst, sym}
-use Rattle.lft_log.specs.Logs.{HasNoEnd}
-use Rattle.lft_log.proofs.Keeping.{kept_all}
+use Rattle.lft_log.{specs.Logs.HasNoEnd, proofs.Keeping.kept_all}
 use Rattle.lft_log.proofs.log.Log.keep.Goals as goal
 
 pub returns-in-Ok-clause-told : goal.returns-in-Ok-clause-told

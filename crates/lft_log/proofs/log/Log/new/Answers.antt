@@ -1,6 +1,5 @@
 use Rattle.std.proofs.Common.{[], refl, sym, subst, arith}
-use Rattle.lft_log.specs.Logs.{HasNoEnd}
-use Rattle.lft_log.proofs.Plans.{told_none}
+use Rattle.lft_log.{specs.Logs.HasNoEnd, proofs.Plans.told_none}
 use Rattle.lft_log.proofs.log.Log.new.Goals as goal
 
 pub returns : goal.returns

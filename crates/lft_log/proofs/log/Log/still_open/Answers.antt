@@ -1,6 +1,5 @@
 use Rattle.std.proofs.lemmas.Result.{IfOk-weaker}
-use Rattle.lft_log.specs.Logs.{rows}
-use Rattle.lft_log.proofs.Finishing.{tells_plan}
+use Rattle.lft_log.{specs.Logs.rows, proofs.Finishing.tells_plan}
 use Rattle.lft_log.proofs.log.Log.still_open.Goals as goal
 
 pub returns : goal.returns

@@ -1,14 +1,10 @@
 use Rattle.std.proofs.Common.{◌≡◌, ◌+◌, ◌*◌, ◌-◌, ◌^◌, ◌≤◌, [], ◌∷◌, ◌++◌, Some, min, max, length, slice_get, sym, ap, ◌∙◌, arith}
 use Rattle.std.specs.Prelude.{option_map}
-use Rattle.std.proofs.lemmas.List.{append-nil, length-map, length_push, map-append}
-use Rattle.std.proofs.lemmas.Option.{slice_get-map}
+use Rattle.std.proofs.lemmas.{List.{append-nil, length-map, length_push, map-append}, Option.slice_get-map}
 use Rattle.lft_tree.specs.View.{ref_view, ref_views}
-use Rattle.lft_elaborate.specs.Names.{spelled}
-use Rattle.lft_elaborate.specs.Channels.Channels.{Place, places}
-use Rattle.lft_elaborate.specs.Channels.Lowered.{inner}
+use Rattle.lft_elaborate.specs.{Names.spelled, Channels.{Channels.{Place, places}, Lowered.inner}}
 use Rattle.lft_lower.specs.Meanings.Places.{count_of, inner_places, name_at, several}
-use Rattle.lft_lower.proofs.MeaningsLemmas.Cuts.{cut_more, cut_full, cut_end, length_places}
-use Rattle.lft_lower.proofs.MeaningsLemmas.Standing.{refs_more, refs_none}
+use Rattle.lft_lower.proofs.MeaningsLemmas.{Cuts.{cut_more, cut_full, cut_end, length_places}, Standing.{refs_more, refs_none}}
 use Rattle.lft_lower.proofs.meanings.places.push_inner.Goals as goal
 
 pub loop-place-init : goal.loop-place-init

@@ -1,10 +1,7 @@
 use Rattle.std.proofs.Common.{◌≡◌, map, sym, ap, ◌∙◌}
 use Rattle.lft_tree.specs.View.{ref_views}
-use Rattle.lft_lower.specs.Meanings.Meanings.{here, places_in}
-use Rattle.lft_lower.specs.Meanings.Places.{sense, up_to}
-use Rattle.lft_lower.proofs.MeaningsLemmas.Placed.{its_places}
-use Rattle.lft_lower.specs.Meanings.Standing.{ref_tokens}
-use Rattle.lft_lower.proofs.MeaningsLemmas.Standing.{tokens_up_to}
+use Rattle.lft_lower.specs.Meanings.{Meanings.{here, places_in}, Places.{sense, up_to}, Standing.ref_tokens}
+use Rattle.lft_lower.proofs.MeaningsLemmas.{Placed.its_places, Standing.tokens_up_to}
 use Rattle.lft_lower.proofs.meanings.places.push_some.Goals as goal
 
 pub returns-clause-places : goal.returns-clause-places

@@ -1,8 +1,7 @@
 use Rattle.std.proofs.Common.{◌≡◌, ap}
 use Rattle.lft_ir.specs.Steps.Inputs.{ExternalInputs}
-use Rattle.lft_model.specs.Plans.{PlanParts}
+use Rattle.lft_model.{specs.Plans.PlanParts, proofs.Told.stop_fits}
 use Rattle.lft_model.proofs.plan.Plan.stop_at.Goals as goal
-use Rattle.lft_model.proofs.Told.{stop_fits}
 
 pub invariant_of-self : goal.invariant_of-self
 invariant_of-self c = (

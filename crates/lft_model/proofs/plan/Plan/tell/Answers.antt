@@ -1,9 +1,7 @@
 use Rattle.std.proofs.Common.{◌≡◌, ◌<◌, length, ap}
-use Rattle.lft_ir.specs.Steps.Fits.{EventFits}
-use Rattle.lft_ir.specs.Steps.Inputs.{ExternalInputs}
-use Rattle.lft_model.specs.Plans.{PlanParts}
+use Rattle.lft_ir.specs.Steps.{Fits.EventFits, Inputs.ExternalInputs}
+use Rattle.lft_model.{specs.Plans.PlanParts, proofs.Told.tell_fits}
 use Rattle.lft_model.proofs.plan.Plan.tell.Goals as goal
-use Rattle.lft_model.proofs.Told.{tell_fits}
 
 pub invariant_of-self : goal.invariant_of-self
 invariant_of-self c =

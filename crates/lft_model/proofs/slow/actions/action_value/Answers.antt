@@ -1,7 +1,6 @@
 use Rattle.std.proofs.Common.{sym, ◌∙◌, ap}
 use Rattle.lft_ir.specs.Steps.Inputs.{ExternalInputs}
-use Rattle.lft_model.specs.Presence.{given, min_delay, scheduled}
-use Rattle.lft_model.proofs.ActionEvents.{none_more, at_row, at_event}
+use Rattle.lft_model.{specs.Presence.{given, min_delay, scheduled}, proofs.ActionEvents.{none_more, at_row, at_event}}
 use Rattle.lft_model.proofs.slow.actions.action_value.Goals as goal
 
 pub returns-then-is_some-clause-some : goal.returns-then-is_some-clause-some

@@ -1,7 +1,6 @@
 use Rattle.std.proofs.Common.{sym, ◌∙◌}
-use Rattle.lft_model.proofs.ActionEvents.{count_one, count_none}
+use Rattle.lft_model.proofs.{ActionEvents.{count_one, count_none}, slow.actions.count_given.Goals.{then-is_some, else-is_some}}
 use Rattle.lft_model.proofs.slow.actions.count_given.Goals as goal
-use Rattle.lft_model.proofs.slow.actions.count_given.Goals.{then-is_some, else-is_some}
 
 pub loop-place-preserved : goal.loop-place-preserved
 loop-place-preserved c =

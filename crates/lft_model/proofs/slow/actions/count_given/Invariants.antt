@@ -1,5 +1,4 @@
-use Rattle.lft_model.specs.Presence.{given}
-use Rattle.lft_model.proofs.ActionEvents.{IsCountTo}
+use Rattle.lft_model.{specs.Presence.given, proofs.ActionEvents.IsCountTo}
 use Rattle.lft_model.proofs.slow.actions.count_given.Given as goal
 
 abbrev pub invariant-loop-place : goal.invariant-loop-place

@@ -1,5 +1,4 @@
-use Rattle.lft_model.specs.Presence.{min_delay, scheduled}
-use Rattle.lft_model.proofs.ActionEvents.{IsCountTo}
+use Rattle.lft_model.{specs.Presence.{min_delay, scheduled}, proofs.ActionEvents.IsCountTo}
 use Rattle.lft_model.proofs.slow.actions.count_scheduled.Given as goal
 
 abbrev pub invariant-loop-place : goal.invariant-loop-place

@@ -1,8 +1,8 @@
 use Rattle.std.proofs.Common.{◌+◌, Option, Some, is_some, sym, ap, subst, ◌∙◌, refl, arith}
 use Rattle.lft_tag.specs.declared.Tag.{Tag}
 use Rattle.lft_model.proofs.PortEvents.{IsTagBefore, chain_of, tag_begins, tag_without, tag_again, tag_found, tag_clashes, tag_ends}
-use Rattle.lft_model.proofs.slow.ports.port_clashes.Goals as goal
 use Rattle.lft_model.proofs.slow.ports.port_clashes.Goals.{then-is_some+in-Some+else-not-is_same, then-is_some+in-None, else-is_some}
+use Rattle.lft_model.proofs.slow.ports.port_clashes.Goals as goal
 
 pub loop-place-init : goal.loop-place-init
 loop-place-init c = tag_begins c.args.rows.now c.args.tag c.port-port.result.now

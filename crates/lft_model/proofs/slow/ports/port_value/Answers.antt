@@ -1,7 +1,6 @@
 use Rattle.std.proofs.Common.{sym, ◌∙◌, arith}
-use Rattle.lft_model.proofs.PortEvents.{value_stays, value_changes, chain_of, event_is, is_absent}
+use Rattle.lft_model.proofs.{PortEvents.{value_stays, value_changes, chain_of, event_is, is_absent}, slow.ports.port_value.Goals.{then-is_some, else-is_some}}
 use Rattle.lft_model.proofs.slow.ports.port_value.Goals as goal
-use Rattle.lft_model.proofs.slow.ports.port_value.Goals.{then-is_some, else-is_some}
 
 pub loop-place-preserved : goal.loop-place-preserved
 loop-place-preserved c =

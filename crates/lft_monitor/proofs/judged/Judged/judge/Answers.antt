@@ -1,8 +1,7 @@
 use Rattle.std.proofs.Common.{◌<◌, ◌++◌, ◌∙◌, length, refl, rules, sym}
 use Rattle.std.proofs.lemmas.Bool.{eqb-true}
 use Rattle.lft_tag.specs.Tags.{after}
-use Rattle.lft_monitor.proofs.Behind.{before}
-use Rattle.lft_monitor.proofs.Judging.{accepted_rise, judged_more, judged_none}
+use Rattle.lft_monitor.proofs.{Behind.before, Judging.{accepted_rise, judged_more, judged_none}}
 use Rattle.lft_monitor.proofs.judged.Judged.judge.Goals as goal
 
 pub returns-then-is_empty-clause-stands : goal.returns-then-is_empty-clause-stands

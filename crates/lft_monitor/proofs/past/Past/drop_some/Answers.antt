@@ -1,9 +1,7 @@
 use Rattle.std.proofs.Common.{List, refl, sym, subst}
 use Rattle.lft_ir.specs.declared.steps.row.Row.{Row}
-use Rattle.lft_model.specs.Fitting.{EachFits}
-use Rattle.lft_model.specs.Presence.{stop}
-use Rattle.lft_monitor.proofs.Keeping.{kept_fit}
-use Rattle.lft_monitor.proofs.Behind.{past_less}
+use Rattle.lft_model.specs.{Fitting.EachFits, Presence.stop}
+use Rattle.lft_monitor.proofs.{Keeping.kept_fit, Behind.past_less}
 use Rattle.lft_monitor.proofs.past.Past.drop_some.Goals as goal
 
 pub keep_rows-requires : goal.keep_rows-requires

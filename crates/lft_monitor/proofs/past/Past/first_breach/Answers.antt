@@ -1,8 +1,7 @@
 use Rattle.std.proofs.Common.{List, Some, refl, subst}
 use Rattle.lft_ir.specs.declared.steps.row.Row.{Row}
 use Rattle.lft_check.specs.Verdicts.{LeastOf, BreachFrom}
-use Rattle.lft_monitor.proofs.Behind.{all_fit}
-use Rattle.lft_monitor.proofs.First.{first_before}
+use Rattle.lft_monitor.proofs.{Behind.all_fit, First.first_before}
 use Rattle.lft_monitor.proofs.past.Past.first_breach.Goals as goal
 
 pub first_from-requires : goal.first_from-requires

@@ -1,6 +1,5 @@
 use Rattle.std.proofs.Common.{◌++◌, [], sym, subst}
-use Rattle.lft_model.specs.declared.breach.Breach.{Breach}
-use Rattle.lft_model.specs.Breaches.{First}
+use Rattle.lft_model.specs.{declared.breach.Breach.Breach, Breaches.First}
 use Rattle.lft_monitor.proofs.Ended.{first_of_tags}
 use Rattle.lft_monitor.proofs.past.Past.first_of_all.Goals as goal
 

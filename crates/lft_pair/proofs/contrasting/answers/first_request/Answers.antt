@@ -1,7 +1,6 @@
 use Rattle.std.proofs.Common.{None, append-nil, filter_map, take, sym, ◌∙◌, arith}
 use Rattle.lft_lists.proofs.Picked.{kept_more}
-use Rattle.lft_pair.specs.Runs.{request_of}
-use Rattle.lft_pair.proofs.Outcomes.{found_first, found_none}
+use Rattle.lft_pair.{specs.Runs.request_of, proofs.Outcomes.{found_first, found_none}}
 use Rattle.lft_pair.proofs.contrasting.answers.first_request.Goals as goal
 
 pub loop-place-preserved : goal.loop-place-preserved

@@ -1,11 +1,8 @@
 use Rattle.std.proofs.Common.{◌≡◌, ◌≤◌, List, length, take, sym, ap, ◌∙◌, arith, Some, None, slice_get}
-use Rattle.lft_pair.specs.declared.contrasting.contrasts.Scheduling.{Scheduling}
-use Rattle.lft_pair.proofs.Answering.{few}
-use Rattle.lft_pair.specs.Runs.{scheduling_of, schedulings}
-use Rattle.lft_pair.specs.Answered.{scheduled}
-use Rattle.lft_pair.proofs.Answered.{scheduling_none, scheduling_put, count_put}
-use Rattle.lft_pair.proofs.contrasting.answers.schedulings_of.Goals as goal
+use Rattle.lft_pair.specs.{declared.contrasting.contrasts.Scheduling.Scheduling, Runs.{scheduling_of, schedulings}, Answered.scheduled}
+use Rattle.lft_pair.proofs.{Answering.few, Answered.{scheduling_none, scheduling_put, count_put}}
 use Rattle.lft_pair.proofs.contrasting.answers.schedulings_of.Goals.{in-Some+in_ok-_before+in_ok-_count, in_default}
+use Rattle.lft_pair.proofs.contrasting.answers.schedulings_of.Goals as goal
 
 pub overflow_add-count : goal.overflow_add-count
 overflow_add-count c =

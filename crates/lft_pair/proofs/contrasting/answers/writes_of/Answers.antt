@@ -1,7 +1,6 @@
 use Rattle.std.proofs.Common.{sym, ◌∙◌}
-use Rattle.lft_pair.proofs.Answered.{write_none, write_put}
+use Rattle.lft_pair.proofs.{Answered.{write_none, write_put}, contrasting.answers.writes_of.Goals.{in-Some+in_ok-_before, in_default}}
 use Rattle.lft_pair.proofs.contrasting.answers.writes_of.Goals as goal
-use Rattle.lft_pair.proofs.contrasting.answers.writes_of.Goals.{in-Some+in_ok-_before, in_default}
 
 pub loop-place-preserved : goal.loop-place-preserved
 loop-place-preserved c =

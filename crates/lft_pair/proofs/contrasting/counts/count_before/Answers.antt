@@ -1,8 +1,8 @@
 use Rattle.std.proofs.Common.{◌≡◌, ℕ, ◌+◌, Bool, false, true, sym, refl, subst, arith}
 use Rattle.lft_pair.specs.Counts.{StartsBefore}
 use Rattle.lft_pair.proofs.Counting.{CountTo, count_none, count_one, count_other, count_end}
-use Rattle.lft_pair.proofs.contrasting.counts.count_before.Goals as goal
 use Rattle.lft_pair.proofs.contrasting.counts.count_before.Goals.{then-starts_before, else-starts_before}
+use Rattle.lft_pair.proofs.contrasting.counts.count_before.Goals as goal
 
 pub loop-place-init : goal.loop-place-init
 loop-place-init c = count_none (StartsBefore c.args.tag) c.args.rows.now

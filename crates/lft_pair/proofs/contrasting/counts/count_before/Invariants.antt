@@ -1,5 +1,4 @@
-use Rattle.lft_pair.specs.Counts.{StartsBefore}
-use Rattle.lft_pair.proofs.Counting.{CountTo}
+use Rattle.lft_pair.{specs.Counts.StartsBefore, proofs.Counting.CountTo}
 use Rattle.lft_pair.proofs.contrasting.counts.count_before.Given as goal
 
 abbrev pub invariant-loop-place : goal.invariant-loop-place

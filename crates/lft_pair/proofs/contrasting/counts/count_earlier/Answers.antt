@@ -1,8 +1,8 @@
 use Rattle.std.proofs.Common.{◌≡◌, ℕ, ◌+◌, Bool, false, true, sym, refl, subst, arith}
 use Rattle.lft_pair.specs.Counts.{StartsEarlier}
 use Rattle.lft_pair.proofs.Counting.{CountTo, count_none, count_one, count_other, count_end}
-use Rattle.lft_pair.proofs.contrasting.counts.count_earlier.Goals as goal
 use Rattle.lft_pair.proofs.contrasting.counts.count_earlier.Goals.{then-starts_earlier, else-starts_earlier}
+use Rattle.lft_pair.proofs.contrasting.counts.count_earlier.Goals as goal
 
 pub loop-place-init : goal.loop-place-init
 loop-place-init c = count_none (StartsEarlier c.args.program.now c.args.tag c.args.reaction) c.args.rows.now

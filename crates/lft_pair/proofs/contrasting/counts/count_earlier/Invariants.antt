@@ -1,5 +1,4 @@
-use Rattle.lft_pair.specs.Counts.{StartsEarlier}
-use Rattle.lft_pair.proofs.Counting.{CountTo}
+use Rattle.lft_pair.{specs.Counts.StartsEarlier, proofs.Counting.CountTo}
 use Rattle.lft_pair.proofs.contrasting.counts.count_earlier.Given as goal
 
 abbrev pub invariant-loop-place : goal.invariant-loop-place

@@ -1,9 +1,8 @@
 use Rattle.std.proofs.Common.{List, ◌+◌, ap, ◌∙◌, sym, subst, arith}
-use Rattle.lft_pair.specs.declared.contrasting.contrasts.Contrast.{Contrast}
-use Rattle.lft_pair.specs.Enough.{HaveSameOutcome, TellsOf}
+use Rattle.lft_pair.specs.{declared.contrasting.contrasts.Contrast.Contrast, Enough.{HaveSameOutcome, TellsOf}}
 use Rattle.lft_pair.proofs.Differing.{ToldTo, told_none, told_same, told_other, told_end, of_some, of_none, of_runs}
-use Rattle.lft_pair.proofs.contrasting.effects.effect_contrasts.Goals as goal
 use Rattle.lft_pair.proofs.contrasting.effects.effect_contrasts.Goals.{in-Some+in_ok-push, in_default}
+use Rattle.lft_pair.proofs.contrasting.effects.effect_contrasts.Goals as goal
 
 pub loop-place-init : goal.loop-place-init
 loop-place-init c = told_none c.args.effects.now c.args.mine.now c.args.theirs.now c.new-told.result.items c.new-told.ensures.items

@@ -1,6 +1,5 @@
 use Rattle.std.proofs.Common.{arith}
-use Rattle.lft_pair.specs.Runs.{schedulings}
-use Rattle.lft_pair.proofs.Differing.{same_events}
+use Rattle.lft_pair.{specs.Runs.schedulings, proofs.Differing.same_events}
 use Rattle.lft_pair.proofs.contrasting.effects.first_other.Goals as goal
 
 pub returns : goal.returns

@@ -1,6 +1,5 @@
 use Rattle.std.proofs.Common.{◌≡◌, ℕ, ◌<◌, slice_get}
-use Rattle.lft_pair.specs.Contrasts.{event_of}
-use Rattle.lft_pair.specs.Runs.{schedulings}
+use Rattle.lft_pair.specs.{Contrasts.event_of, Runs.schedulings}
 use Rattle.lft_pair.proofs.contrasting.effects.first_other.Given as goal
 
 abbrev pub invariant-loop-place : goal.invariant-loop-place

@@ -1,9 +1,8 @@
 use Rattle.std.proofs.Common.{inl, sym, ap, ◌∙◌, subst}
 use Rattle.lft_ir.specs.Parts.{Parts}
 use Rattle.lft_model.specs.Recorded.{instance_of}
+use Rattle.lft_pair.{specs.Counts.{Counts, StartsEarlier}, proofs.Added.{adds_one, adds_both}}
 use Rattle.lft_pair.specs.declared.contrasting.contrasts.Contrast.TheVariants as contrast
-use Rattle.lft_pair.specs.Counts.{Counts, StartsEarlier}
-use Rattle.lft_pair.proofs.Added.{adds_one, adds_both}
 use Rattle.lft_pair.proofs.contrasting.finding.add_reasons.Goals as goal
 
 pub returns-clause-holds : goal.returns-clause-holds

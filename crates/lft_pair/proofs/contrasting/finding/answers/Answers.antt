@@ -1,10 +1,8 @@
 use Rattle.std.proofs.Common.{ap, ◌∙◌, is_some, ◌≡◌}
-use Rattle.lft_pair.specs.Runs.{first_request}
-use Rattle.lft_pair.specs.Enough.{TellsStop}
-use Rattle.lft_pair.proofs.Differing.{of_some, of_none}
-use Rattle.lft_pair.proofs.Giving.{own_effects, holds_with, holds_without, tells_with, tells_without}
-use Rattle.lft_pair.proofs.contrasting.finding.answers.Goals as goal
+use Rattle.lft_pair.specs.{Runs.first_request, Enough.TellsStop}
+use Rattle.lft_pair.proofs.{Differing.{of_some, of_none}, Giving.{own_effects, holds_with, holds_without, tells_with, tells_without}}
 use Rattle.lft_pair.proofs.contrasting.finding.answers.Goals.{in-Some+in_ok-push, in_default}
+use Rattle.lft_pair.proofs.contrasting.finding.answers.Goals as goal
 
 pub returns-clause-holds : goal.returns-clause-holds
 returns-clause-holds c =

@@ -1,7 +1,6 @@
 use Rattle.std.proofs.Common.{sym, ap, ◌∙◌, Some, None, append-nil, arith}
-use Rattle.lft_pair.proofs.Placing.{placed_more, placed_end}
+use Rattle.lft_pair.proofs.{Placing.{placed_more, placed_end}, contrasting.runs.placed_steps.Goals.{in-Some+in_ok-push, in_default}}
 use Rattle.lft_pair.proofs.contrasting.runs.placed_steps.Goals as goal
-use Rattle.lft_pair.proofs.contrasting.runs.placed_steps.Goals.{in-Some+in_ok-push, in_default}
 
 pub loop-place-preserved : goal.loop-place-preserved
 loop-place-preserved c =

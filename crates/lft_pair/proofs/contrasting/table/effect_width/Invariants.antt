@@ -1,6 +1,5 @@
 use Rattle.std.proofs.Common.{◌≡◌, take}
-use Rattle.lft_pair.specs.Words.{effect_words}
-use Rattle.lft_pair.specs.Told.{widest}
+use Rattle.lft_pair.specs.{Words.effect_words, Told.widest}
 use Rattle.lft_pair.proofs.contrasting.table.effect_width.Given as goal
 
 abbrev pub invariant-loop-place : goal.invariant-loop-place

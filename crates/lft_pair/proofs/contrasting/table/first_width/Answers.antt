@@ -1,6 +1,5 @@
 use Rattle.std.proofs.Common.{string_bytes, length, max, ap, ◌∙◌, arith}
-use Rattle.lft_pair.specs.Words.{first_words}
-use Rattle.lft_pair.proofs.Texts.{widest_next, widest_end}
+use Rattle.lft_pair.{specs.Words.first_words, proofs.Texts.{widest_next, widest_end}}
 use Rattle.lft_pair.proofs.contrasting.table.first_width.Goals as goal
 
 pub loop-place-preserved : goal.loop-place-preserved

@@ -1,7 +1,5 @@
 use Rattle.std.proofs.Common.{string_bytes, arith}
-use Rattle.lft_pair.specs.Words.{effect_words, first_words}
-use Rattle.lft_pair.specs.Told.{heading_words, widest}
-use Rattle.lft_pair.proofs.Texts.{told_next, told_end, same_width}
+use Rattle.lft_pair.{specs.{Words.{effect_words, first_words}, Told.{heading_words, widest}}, proofs.Texts.{told_next, told_end, same_width}}
 use Rattle.lft_pair.proofs.contrasting.telling.tell.Goals as goal
 
 pub loop-place-preserved : goal.loop-place-preserved

@@ -1,8 +1,7 @@
 use Rattle.std.proofs.Common.{◌≡◌, ℕ, sym, ap, subst, refl, arith, false, true}
 use Rattle.lft_pair.specs.Places.{AreAfter}
-use Rattle.lft_pair.proofs.Kept.{read_start, read_other, after_from, after_end}
+use Rattle.lft_pair.proofs.{Kept.{read_start, read_other, after_from, after_end}, starts.LastStarts.read_to.Goals.{then-is_start, else-is_start}}
 use Rattle.lft_pair.proofs.starts.LastStarts.read_to.Goals as goal
-use Rattle.lft_pair.proofs.starts.LastStarts.read_to.Goals.{then-is_start, else-is_start}
 
 pub returns-then-is_before-clause-rest : goal.returns-then-is_before-clause-rest
 returns-then-is_before-clause-rest c = subst (λ (k : ℕ). AreAfter c.args.rows.now k c.args.tag) (sym c.loop-place.invariant.at) (after_from c.args.rows.now c.loop-place.place c.row_at-row.result c.row_at-row.ensures c.requires.legal.0 c.requires.legal.1 c.args.tag (c.if-is_before.ensures.0 refl))

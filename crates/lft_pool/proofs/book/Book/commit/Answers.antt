@@ -1,10 +1,7 @@
 use Rattle.std.proofs.Common.{◌≡◌, ◌∙◌, ◌↔◌, IsTrue, IsErr, Result, None, sym, subst, rules}
 use Rattle.std.proofs.lemmas.Bool.{false≢true}
 use Rattle.lft_tag.specs.declared.NoMemory.{NoMemory}
-use Rattle.lft_pool.specs.declared.bodies.done.Done.{Done}
-use Rattle.lft_pool.specs.declared.stop.Stop.{Stop}
-use Rattle.lft_pool.specs.declared.bodies.ticket.Ticket.{Ticket}
-use Rattle.lft_pool.specs.Answers.{HasTicket, EndCause, CommitCause}
+use Rattle.lft_pool.specs.{declared.{bodies.{done.Done.Done, ticket.Ticket.Ticket}, stop.Stop.Stop}, Answers.{HasTicket, EndCause, CommitCause}}
 use Rattle.lft_pool.specs.Reasons.StopHolds.{by_commit}
 use Rattle.lft_pool.proofs.Refusals.{commit_cause, if_err, is_err_of}
 use Rattle.lft_pool.proofs.book.Book.commit.Goals as goal

@@ -1,25 +1,13 @@
 use Rattle.std.proofs.Common.{◌≡◌, ◌∙◌, ◌<◌, ◌≤◌, ◌++◌, ◌∷◌, [], ℕ, ℤ, List, Option, Some, None, length, take, slice_get, slice_set, refl, sym, ap, subst, rules, unwrap_or, option_map, cond, ◌==◌}
 use Rattle.std.proofs.Math.Seq.{take-append_seam}
 use Rattle.lft_lists.proofs.Members.{mem_get}
-use Rattle.lft_ir.specs.declared.steps.row.Row.{Row}
-use Rattle.lft_ir.specs.declared.steps.row.Step.{Step}
-use Rattle.lft_scheduler.specs.Agendas.{IsAgenda, EndsWith}
-use Rattle.lft_ir.specs.declared.parts.Value.{Value}
-use Rattle.lft_ir.specs.declared.parts.Reaction.{Reaction}
-use Rattle.lft_model.specs.Runs.{by_ends, reads_at}
-use Rattle.lft_model.specs.Recorded.{committed_rows, instance_of, word_after}
-use Rattle.lft_model.proofs.Places.{slice_get_within}
-use Rattle.lft_pool.specs.declared.stop.Stop.{Stop}
-use Rattle.lft_pool.specs.declared.stop.Stop.TheVariants.{NoMemory, UndeclaredEffect, LimitTag}
-use Rattle.lft_pool.specs.Books.{BookParts, IsRecording, IsKept, AgendaHolds}
-use Rattle.lft_pool.specs.Reasons.{StopHolds, ReasonHolds}
-use Rattle.lft_scheduler.specs.Answering.{MayAll, HasLongDelay}
-use Rattle.lft_scheduler.specs.Collisions.{IsClean}
-use Rattle.lft_pool.specs.Answers.{HasTicket, HasClash, KeepsOpenRuns, RefusalCause, EndCause, Committed, with_answer}
+use Rattle.lft_ir.specs.declared.{steps.row.{Row.Row, Step.Step}, parts.{Value.Value, Reaction.Reaction}}
+use Rattle.lft_scheduler.specs.{Agendas.{IsAgenda, EndsWith}, Answering.{MayAll, HasLongDelay}, Collisions.IsClean}
+use Rattle.lft_model.{specs.{Runs.{by_ends, reads_at}, Recorded.{committed_rows, instance_of, word_after}}, proofs.Places.slice_get_within}
+use Rattle.lft_pool.specs.{declared.stop.Stop.{Stop, TheVariants.{NoMemory, UndeclaredEffect, LimitTag}}, Books.{BookParts, IsRecording, IsKept, AgendaHolds}}
+use Rattle.lft_pool.specs.{Reasons.{StopHolds, ReasonHolds}, Answers.{HasTicket, HasClash, KeepsOpenRuns, RefusalCause, EndCause, Committed, with_answer}}
 use Rattle.lft_pool.proofs.Refusals.{memory_holds, before_it, holds_by_end, end_cause, may_mem, short_mem, answer_fits, set_words, ends_clash, ends_clean}
-use Rattle.lft_pool.proofs.Finishing.{if_some}
-use Rattle.lft_pool.proofs.Commuting.{keeps_open_runs}
-use Rattle.lft_pool.proofs.CommittedRun.{committed_recording, word_more, committed_count}
+use Rattle.lft_pool.proofs.{Finishing.if_some, Commuting.keeps_open_runs, CommittedRun.{committed_recording, word_more, committed_count}}
 use Rattle.lft_pool.proofs.book.Book.end.Goals as goal
 
 pub end-requires-clause-fit : goal.end-requires-clause-fit

@@ -1,17 +1,9 @@
 use Rattle.std.proofs.Common.{◌≡◌, ◌∙◌, ◌<◌, ◌↔◌, ℕ, Option, Some, None, IsTrue, false, length, slice_get, sym, ap, subst, arith, rules, unwrap_or, option_map}
-use Rattle.std.proofs.lemmas.Bool.{false≢true}
-use Rattle.std.proofs.lemmas.Int.{to_z-of_z}
-use Rattle.lft_ir.specs.declared.parts.Reaction.{Reaction}
-use Rattle.lft_model.specs.Runs.{start_row, by_ends}
-use Rattle.lft_model.specs.Breaches.{IsOpen}
-use Rattle.lft_model.specs.Recorded.{word_after}
-use Rattle.lft_model.proofs.Places.{slice_get_within}
-use Rattle.lft_scheduler.specs.Agendas.{IsAgenda}
-use Rattle.lft_scheduler.specs.OpenRuns.{HasReads}
-use Rattle.lft_pool.specs.declared.stop.Stop.{Stop}
-use Rattle.lft_ir.specs.Parts.{Parts}
-use Rattle.lft_pool.specs.Books.{BookParts, AgendaHolds, word_now}
-use Rattle.lft_pool.specs.Answers.{HasTicket}
+use Rattle.std.proofs.lemmas.{Bool.false≢true, Int.to_z-of_z}
+use Rattle.lft_ir.specs.{declared.parts.Reaction.Reaction, Parts.Parts}
+use Rattle.lft_model.{specs.{Runs.{start_row, by_ends}, Breaches.IsOpen, Recorded.word_after}, proofs.Places.slice_get_within}
+use Rattle.lft_scheduler.specs.{Agendas.IsAgenda, OpenRuns.HasReads}
+use Rattle.lft_pool.specs.{declared.stop.Stop.Stop, Books.{BookParts, AgendaHolds, word_now}, Answers.HasTicket}
 use Rattle.lft_pool.proofs.book.Book.has_ticket.Goals as goal
 
 pub returns-then-not-has_reads : goal.returns-then-not-has_reads

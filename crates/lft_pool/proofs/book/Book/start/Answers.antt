@@ -1,28 +1,15 @@
 use Rattle.std.proofs.Common.{◌≡◌, ◌≤◌, ◌<◌, ◌+◌, ◌++◌, ℕ, slice_index, List, Option, Some, None, length, length-append, length-set, slice_get, refl, sym, ap, ◌∙◌, subst, arith, rules, unwrap_or, option_map, []}
-use Rattle.std.proofs.lemmas.Int.{to_z-of_z}
+use Rattle.std.proofs.lemmas.{Int.to_z-of_z, Slice.Zip.AllZip-long}
 use Rattle.lft_tag.specs.Tags.{IsRecorded}
-use Rattle.lft_ir.specs.declared.steps.row.Row.{Row}
-use Rattle.lft_ir.specs.declared.parts.Reaction.{Reaction}
-use Rattle.lft_ir.specs.Parts.{inputs}
-use Rattle.lft_model.specs.Presence.{Inputs, Shows}
-use Rattle.lft_model.specs.Runs.{Run, by_ends}
-use Rattle.lft_model.specs.OneWorker.{IsPending, rows}
-use Rattle.lft_model.specs.Recorded.{begun_rows, word_after}
-use Rattle.lft_model.proofs.Places.{slice_get_within}
-use Rattle.lft_model.proofs.Quiet.{inputs_to_ended}
-use Rattle.lft_scheduler.specs.Starts.{MayStartFirst, IsBusy}
-use Rattle.lft_pool.specs.declared.bodies.ticket.Ticket.{Ticket}
-use Rattle.lft_pool.specs.declared.stop.Stop.{Stop}
-use Rattle.lft_pool.specs.Begun.{Started}
-use Rattle.lft_pool.specs.Causes.{HasAllRuns, HasNoRoom, StartCause}
-use Rattle.lft_scheduler.specs.Agendas.{IsAgenda}
-use Rattle.lft_pool.specs.Books.{BookParts, IsRecording, IsKept, AgendaHolds}
+use Rattle.lft_ir.specs.{declared.{steps.row.Row.Row, parts.Reaction.Reaction}, Parts.inputs}
+use Rattle.lft_model.specs.{Presence.{Inputs, Shows}, Runs.{Run, by_ends}, OneWorker.{IsPending, rows}, Recorded.{begun_rows, word_after}}
+use Rattle.lft_model.proofs.{Places.slice_get_within, Quiet.inputs_to_ended}
+use Rattle.lft_scheduler.specs.{Starts.{MayStartFirst, IsBusy}, Agendas.IsAgenda}
+use Rattle.lft_pool.specs.declared.{bodies.ticket.Ticket.Ticket, stop.Stop.{Stop, TheVariants.{NoBody, TooManyRuns, NoMemory, TooManyRows, LimitTag}}}
+use Rattle.lft_pool.specs.{Begun.Started, Causes.{HasAllRuns, HasNoRoom, StartCause}, Books.{BookParts, IsRecording, IsKept, AgendaHolds}}
 use Rattle.lft_pool.specs.Reasons.{StopHolds, ReasonHolds}
-use Rattle.lft_pool.specs.declared.stop.Stop.TheVariants.{NoBody, TooManyRuns, NoMemory, TooManyRows, LimitTag}
-use Rattle.lft_pool.proofs.Refusals.{memory_holds, holds_by_start}
-use Rattle.lft_pool.proofs.BegunRun.{same, begun_recording, begun_count}
+use Rattle.lft_pool.proofs.{Refusals.{memory_holds, holds_by_start}, BegunRun.{same, begun_recording, begun_count}}
 use Rattle.lft_pool.proofs.book.Book.start.Goals as goal
-use Rattle.std.proofs.lemmas.Slice.Zip.{AllZip-long}
 
 pub begun-requires-clause-reads : goal.begun-requires-clause-reads
 begun-requires-clause-reads g c =

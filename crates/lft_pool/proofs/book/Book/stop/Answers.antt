@@ -1,7 +1,5 @@
 use Rattle.std.proofs.Common.{◌≡◌, ◌∙◌, None, sym, ap, subst}
-use Rattle.lft_pool.specs.Books.{BookParts}
-use Rattle.lft_pool.specs.Reasons.{StopHolds}
-use Rattle.lft_pool.proofs.Refusals.{before_it}
+use Rattle.lft_pool.{specs.{Books.BookParts, Reasons.StopHolds}, proofs.Refusals.before_it}
 use Rattle.lft_pool.proofs.book.Book.stop.Goals as goal
 
 pub invariant_of-self : goal.invariant_of-self

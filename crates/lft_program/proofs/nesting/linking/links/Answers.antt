@@ -1,17 +1,12 @@
 use Rattle.std.proofs.Common.{◌≡◌, ℕ, length, ⊎_elim, ap, arith, subst, sym}
-use Rattle.std.proofs.lemmas.Option.{slice_get_within}
 use Rattle.std.specs.Prelude.{Err}
+use Rattle.std.proofs.lemmas.Option.{slice_get_within}
 use Rattle.lft_tree.specs.Tree.{reactors_of}
-use Rattle.lft_resolve.proofs.ExpansionLemmas.Settled.{leads_from}
-use Rattle.lft_resolve.specs.Causes.{IsFirst}
-use Rattle.lft_validate.specs.Witnesses.{time_causes}
-use Rattle.lft_validate.proofs.Sound.{first_shown, none_shown}
-use Rattle.lft_program.specs.Linking.{AreLinked, IsTooLong}
-use Rattle.lft_program.specs.Links.{last_causes}
-use Rattle.lft_program.proofs.Connected.{ports_read, apart_read, sources_read}
-use Rattle.lft_program.proofs.Lengths.{time_is_cause}
-use Rattle.lft_program.proofs.Reaching.{first_cycle, first_long, first_sum, no_cause, are_links}
-use Rattle.lft_program.proofs.Told.{long_read, ring_read, sites_read}
+use Rattle.lft_resolve.{proofs.ExpansionLemmas.Settled.leads_from, specs.Causes.IsFirst}
+use Rattle.lft_validate.{specs.Witnesses.time_causes, proofs.Sound.{first_shown, none_shown}}
+use Rattle.lft_program.specs.{Linking.{AreLinked, IsTooLong}, Links.last_causes}
+use Rattle.lft_program.proofs.{Connected.{ports_read, apart_read, sources_read}, Lengths.time_is_cause}
+use Rattle.lft_program.proofs.{Reaching.{first_cycle, first_long, first_sum, no_cause, are_links}, Told.{long_read, ring_read, sites_read}}
 use Rattle.lft_program.proofs.nesting.linking.links.Goals as goal
 
 pub find_sources-requires-clause-ports : goal.find_sources-requires-clause-ports

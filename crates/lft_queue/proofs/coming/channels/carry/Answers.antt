@@ -1,13 +1,9 @@
 use Rattle.std.proofs.Common.{◌≡◌, ◌++◌, true, false, refl, sym, ap, ◌∙◌, subst}
 use Rattle.lft_ir.specs.declared.parts.Name.TheVariants.{Port}
-use Rattle.lft_tag.specs.declared.Tag.{Tag}
-use Rattle.lft_tag.specs.Shifts.{shifted}
-use Rattle.lft_queue.specs.declared.coming.coming.Coming.{Coming}
-use Rattle.lft_queue.specs.Coming.Coming.{to_come, put_at, IsClear}
-use Rattle.lft_queue.specs.Coming.Channels.{is_behind}
-use Rattle.lft_queue.proofs.ComingLemmas.Carried.{carried_on, passed_by}
+use Rattle.lft_tag.specs.{declared.Tag.Tag, Shifts.shifted}
+use Rattle.lft_queue.specs.{declared.coming.coming.Coming.Coming, Coming.{Coming.{to_come, put_at, IsClear}, Channels.is_behind}}
+use Rattle.lft_queue.proofs.{ComingLemmas.Carried.{carried_on, passed_by}, coming.channels.carry.Goals.{then-is_behind+else-not-put_until, else-is_behind}}
 use Rattle.lft_queue.proofs.coming.channels.carry.Goals as goal
-use Rattle.lft_queue.proofs.coming.channels.carry.Goals.{then-is_behind+else-not-put_until, else-is_behind}
 
 pub loop-place-preserved : goal.loop-place-preserved
 loop-place-preserved c = elim c.if-is_behind.branch [

@@ -1,13 +1,12 @@
 use Rattle.std.proofs.Common.{◌≡◌, ◌<◌, inl, inr, ℕ, length, Some, Contains, slice_get, sym, ap, ◌∙◌, subst, arith}
 use Rattle.std.proofs.lemmas.Bool.{cases_eq}
-use Rattle.lft_ir.specs.declared.parts.Port.{Port as PortOf}
-use Rattle.lft_ir.proofs.Origins.{origin_inside}
+use Rattle.lft_ir.{specs.declared.parts.Port.Port as PortOf, proofs.Origins.origin_inside}
 use Rattle.lft_lists.proofs.Places.{same_at}
 use Rattle.lft_model.proofs.Places.{slice_get_within}
 use Rattle.lft_queue.specs.Coming.AtOnce.{is_undelayed, HaveGrown}
 use Rattle.lft_queue.proofs.ComingLemmas.AtOnce.{still_there, pushed_grows, pushed_there}
-use Rattle.lft_queue.proofs.coming.channels.channels_to.Goals as goal
 use Rattle.lft_queue.proofs.coming.channels.channels_to.Goals.{then-is_channel+in_ok-push, else-is_channel}
+use Rattle.lft_queue.proofs.coming.channels.channels_to.Goals as goal
 
 pub push-requires : goal.push-requires
 push-requires c =

@@ -1,6 +1,5 @@
 use Rattle.std.proofs.Common.{◌≡◌, ◌<◌, ◌+◌, ◌⊎◌, inl, inr, ℕ, false, Option, Some, None, refl, arith, sym, ap, ◌∙◌, slice_get}
-use Rattle.std.specs.Option.{is_some}
-use Rattle.std.proofs.lemmas.Bool.{cases_eq}
+use Rattle.std.{specs.Option.is_some, proofs.lemmas.Bool.cases_eq}
 use Rattle.lft_lists.proofs.Places.{same_some}
 use Rattle.lft_model.proofs.Places.{slice_get_within}
 use Rattle.lft_tag.specs.declared.Shift.{Shift}

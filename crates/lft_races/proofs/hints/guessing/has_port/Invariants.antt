@@ -1,6 +1,5 @@
 use Rattle.std.proofs.Common.{◌≡◌, ℕ, ◌<◌, Some, slice_get}
-use Rattle.lft_ir.specs.declared.parts.Name.TheVariants.{Port}
-use Rattle.lft_ir.specs.declared.parts.Trigger.TheVariants.{On}
+use Rattle.lft_ir.specs.declared.parts.{Name.TheVariants.Port, Trigger.TheVariants.On}
 use Rattle.lft_races.proofs.hints.guessing.has_port.Given as goal
 
 abbrev pub invariant-loop-place : goal.invariant-loop-place

@@ -1,8 +1,6 @@
 use Rattle.std.proofs.Common.{List, IfOk, IfSome, IfNone, sym, subst}
 use Rattle.lft_ir.specs.declared.steps.row.Row.{Row}
-use Rattle.lft_races.specs.Races.{FirstSoFar}
-use Rattle.lft_races.specs.declared.hints.hint.Hint.{Hint as TheHint}
-use Rattle.lft_races.specs.Hints.Hints.{IsHint}
+use Rattle.lft_races.specs.{Races.FirstSoFar, declared.hints.hint.Hint.Hint as TheHint, Hints.Hints.IsHint}
 use Rattle.lft_races.proofs.hints.guessing.hint_of.Goals as goal
 
 pub of_late-requires-clause-first : goal.of_late-requires-clause-first

@@ -1,8 +1,7 @@
 use Rattle.std.proofs.Common.{◌≡◌, ◌+◌, ◌-◌, ℕ, List, subst, arith}
 use Rattle.lft_ir.specs.declared.steps.row.Row.{Row}
 use Rattle.lft_model.specs.declared.breach.Breach.{Breach}
-use Rattle.lft_races.specs.Across.{IsAcross}
-use Rattle.lft_races.specs.Hints.Hints.{IsOfOpen}
+use Rattle.lft_races.specs.{Across.IsAcross, Hints.Hints.IsOfOpen}
 use Rattle.lft_races.proofs.hints.guessing.is_of_open.Goals as goal
 
 -- a row that the breach is of stands where it says

@@ -1,7 +1,5 @@
 use Rattle.std.proofs.Common.{◌≡◌, ℕ, inr, ◌<◌, Option, subst, arith}
-use Rattle.lft_races.specs.Races.{IsRaceBefore}
-use Rattle.lft_races.proofs.Standing.{row_of_rule, no_race_before}
-use Rattle.lft_races.specs.Hints.Hints.{HasRace}
+use Rattle.lft_races.{specs.{Races.IsRaceBefore, Hints.Hints.HasRace}, proofs.Standing.{row_of_rule, no_race_before}}
 use Rattle.lft_races.proofs.hints.guessing.of_order.Goals as goal
 
 pub of_disorder-requires-clause-row : goal.of_disorder-requires-clause-row

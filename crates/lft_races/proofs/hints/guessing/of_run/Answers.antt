@@ -1,11 +1,9 @@
 use Rattle.std.proofs.Common.{◌≡◌, ◌<◌, inl, inr, ℕ, List, Option, Some, None, IfNone, IfOk, Result, Ok, Err, length, ap, subst, arith}
 use Rattle.std.proofs.lemmas.Option.{slice_get_within}
 use Rattle.lft_ir.specs.declared.steps.row.Row.{Row}
-use Rattle.lft_model.specs.declared.breach.Breach.{Breach}
-use Rattle.lft_model.specs.Plans.{PlanParts}
-use Rattle.lft_races.specs.declared.hints.hint.Hint.{Hint as TheHint}
+use Rattle.lft_model.specs.{declared.breach.Breach.Breach, Plans.PlanParts}
+use Rattle.lft_races.specs.{declared.hints.hint.Hint.Hint as TheHint, Hints.Hints.{IsHint, IsUntriggeredHint, OfRule8}}
 use Rattle.lft_races.specs.declared.hints.hint.Hint.TheVariants as hint
-use Rattle.lft_races.specs.Hints.Hints.{IsHint, IsUntriggeredHint, OfRule8}
 use Rattle.lft_races.proofs.hints.guessing.of_run.Goals as goal
 
 -- what follows from an answer of nothing

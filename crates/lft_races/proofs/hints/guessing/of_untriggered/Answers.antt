@@ -1,9 +1,8 @@
 use Rattle.std.proofs.Common.{◌≡◌, Option, None, IfNone, subst}
-use Rattle.lft_races.specs.declared.hints.hint.Hint.{Hint as TheHint}
-use Rattle.lft_races.specs.declared.hints.hint.Hint.TheVariants as hint
-use Rattle.lft_races.specs.Hints.Hints.{IsUntriggeredHint}
-use Rattle.lft_races.proofs.hints.guessing.of_untriggered.Goals as goal
+use Rattle.lft_races.specs.{declared.hints.hint.Hint.Hint as TheHint, Hints.Hints.IsUntriggeredHint}
 use Rattle.lft_races.proofs.hints.guessing.of_untriggered.Goals.{else-none_writes-via-then-none_writes+else-has_port, else-none_writes-via-else-none_writes}
+use Rattle.lft_races.specs.declared.hints.hint.Hint.TheVariants as hint
+use Rattle.lft_races.proofs.hints.guessing.of_untriggered.Goals as goal
 
 of_nothing : {X P : Type 0} (o : Option X) → o ≡ None → IfNone o P → P
 of_nothing {X} {P} o e p = subst (λ (u : Option X). IfNone u P) e p

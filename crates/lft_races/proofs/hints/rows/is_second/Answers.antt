@@ -3,8 +3,7 @@ use native.Mathlib.Decide.{ℕ_discrete}
 use Rattle.std.proofs.lemmas.Bool.{false≢true}
 use Rattle.lft_lists.proofs.Places.{same_some}
 use Rattle.lft_ir.specs.declared.steps.row.Row.{Row}
-use Rattle.lft_races.specs.Runs.{StartsAt}
-use Rattle.lft_races.specs.Hints.Hints.{IsSecond}
+use Rattle.lft_races.specs.{Runs.StartsAt, Hints.Hints.IsSecond}
 use Rattle.lft_races.proofs.hints.rows.is_second.Goals as goal
 
 pub loop-earlier-preserved : goal.loop-earlier-preserved

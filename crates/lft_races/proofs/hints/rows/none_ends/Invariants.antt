@@ -1,6 +1,5 @@
 use Rattle.std.proofs.Common.{◌≡◌, ◌≢◌, ℕ, ◌<◌, Some, slice_get}
-use Rattle.lft_ir.specs.declared.steps.row.Row.{Row}
-use Rattle.lft_ir.specs.declared.steps.row.Step.TheVariants.{End}
+use Rattle.lft_ir.specs.declared.steps.row.{Row.Row, Step.TheVariants.End}
 use Rattle.lft_races.proofs.hints.rows.none_ends.Given as goal
 
 abbrev pub invariant-loop-place : goal.invariant-loop-place

@@ -1,6 +1,5 @@
 use Rattle.std.proofs.Common.{arith, ◌≡◌, ◌∙◌, length, map, ap, to_z-of_z}
-use Rattle.std.specs.Int.{cast_signed, cast_unsigned, w64}
-use Rattle.std.proofs.lemmas.List.{take_all}
+use Rattle.std.{specs.Int.{cast_signed, cast_unsigned, w64}, proofs.lemmas.List.take_all}
 use Rattle.lft_record.specs.Scripts.{script_done, script_word, step_done}
 use Rattle.lft_pool.specs.declared.bodies.done.Done.{Done}
 use Rattle.lft_record.proofs.cards.answer.follow.Goals as goal

@@ -1,9 +1,7 @@
 use Rattle.std.proofs.Common.{rules, ◌≡◌}
 use Rattle.csv.specs.Records.{fields_of}
-use Rattle.lft_trace.specs.Records.{records_of}
-use Rattle.lft_trace.proofs.TableFacts.{ended, fewer, past}
-use Rattle.lft_record.specs.CardTables.{card_tables, header}
-use Rattle.lft_record.proofs.CardFacts.{bad, one_more, refused, start}
+use Rattle.lft_trace.{specs.Records.records_of, proofs.TableFacts.{ended, fewer, past}}
+use Rattle.lft_record.{specs.CardTables.{card_tables, header}, proofs.CardFacts.{bad, one_more, refused, start}}
 use Rattle.lft_record.proofs.cards.card_table.read_records.Goals as goal
 
 pub lines-init : goal.lines-init

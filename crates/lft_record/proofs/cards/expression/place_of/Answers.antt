@@ -1,12 +1,9 @@
 use Rattle.std.proofs.Common.{rules, arith, ◌≡◌, ◌≤◌, ◌<◌, ◌+◌, ◌∙◌, sym, ap, Some, slice_get, get_or, length, take, filter_map}
-use Rattle.std.proofs.lemmas.List.{take_all}
-use Rattle.std.proofs.lemmas.Option.{slice_get-get_or}
-use Rattle.lft_ir.specs.Naming.{named}
-use Rattle.lft_ir.specs.declared.parts.Name.TheVariants.{Port}
-use Rattle.lft_ir.specs.declared.parts.Trigger.TheVariants.{Startup, On}
+use Rattle.std.proofs.lemmas.{List.take_all, Option.slice_get-get_or}
+use Rattle.lft_ir.specs.{Naming.named, declared.parts.{Name.TheVariants.Port, Trigger.TheVariants.{Startup, On}}}
 use Rattle.lft_record.proofs.Places.{behind, named_more, no_input, none_up_to, nothing_more, trigger_input}
-use Rattle.lft_record.proofs.cards.expression.place_of.Goals as goal
 use Rattle.lft_record.proofs.cards.expression.place_of.Goals.{in-On+else-eq, in_default}
+use Rattle.lft_record.proofs.cards.expression.place_of.Goals as goal
 
 pub returns-then-eq-clause-some : goal.returns-then-eq-clause-some
 returns-then-eq-clause-some c =

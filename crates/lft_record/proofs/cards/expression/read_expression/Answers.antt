@@ -1,12 +1,9 @@
 use Rattle.std.proofs.Common.{rules, ◌≡◌, ◌==◌, ◌++◌, ◌∷◌, [], ℕ, List, length, map, subst}
 use Rattle.std.specs.List.{AllZip}
-use Rattle.std.proofs.lemmas.Iterator.Consumers.{YieldsList-turn, YieldsList-end}
-use Rattle.std.proofs.lemmas.Iterator.Splits.{YieldsList-from_slice_split}
-use Rattle.std.proofs.lemmas.List.{map-append}
-use Rattle.lft_record.specs.Expressions.{IsTerm}
-use Rattle.lft_record.proofs.TermsDiffer.{no_term}
-use Rattle.lft_record.proofs.cards.expression.read_expression.Goals as goal
+use Rattle.std.proofs.lemmas.{Iterator.{Consumers.{YieldsList-turn, YieldsList-end}, Splits.YieldsList-from_slice_split}, List.map-append}
 use Rattle.std.proofs.lemmas.Slice.Zip.{all_zipped_more}
+use Rattle.lft_record.{specs.Expressions.IsTerm, proofs.TermsDiffer.no_term}
+use Rattle.lft_record.proofs.cards.expression.read_expression.Goals as goal
 
 pub loop-piece-preserved : goal.loop-piece-preserved
 loop-piece-preserved c =

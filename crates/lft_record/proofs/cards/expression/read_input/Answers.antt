@@ -1,11 +1,7 @@
 use Rattle.std.proofs.Common.{◌≡◌, ◌∙◌, ℕ, List, Option, Some, None, slice_get, sym, IfNone}
-use Rattle.lft_ir.specs.Parts.{Parts, inputs}
-use Rattle.lft_ir.specs.Sound.{IsSound}
-use Rattle.lft_ir.specs.declared.parts.Name.{Name}
-use Rattle.lft_ir.specs.declared.parts.Reaction.{Reaction}
+use Rattle.lft_ir.specs.{Parts.{Parts, inputs}, Sound.IsSound, declared.parts.{Name.Name, Reaction.Reaction}}
 use Rattle.lft_trace.specs.Traces.{IsThing}
-use Rattle.lft_record.specs.Expressions.{IsInput}
-use Rattle.lft_record.proofs.TermsDiffer.{one_thing}
+use Rattle.lft_record.{specs.Expressions.IsInput, proofs.TermsDiffer.one_thing}
 use Rattle.lft_record.proofs.cards.expression.read_input.Goals as goal
 
 -- a name that is no input of the reaction is none that the text may have

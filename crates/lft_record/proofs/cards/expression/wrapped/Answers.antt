@@ -1,6 +1,5 @@
 use Rattle.std.proofs.Common.{ap, sym, ◌∙◌}
-use Rattle.std.specs.Int.{cast_signed, cast_unsigned, w64}
-use Rattle.std.proofs.lemmas.Int.{of_z-to_z}
+use Rattle.std.{specs.Int.{cast_signed, cast_unsigned, w64}, proofs.lemmas.Int.of_z-to_z}
 use Rattle.lft_record.proofs.Sums.{wrap_natural}
 use Rattle.lft_record.proofs.cards.expression.wrapped.Goals as goal
 

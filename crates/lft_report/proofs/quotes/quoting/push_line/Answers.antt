@@ -1,6 +1,5 @@
 use Rattle.std.proofs.Common.{◌++◌, ap, ◌∙◌, codes, string_bytes}
-use Rattle.lft_ir.specs.Words.Columns.{fill, padded}
-use Rattle.lft_ir.proofs.WordsLemmas.Steps.{also}
+use Rattle.lft_ir.{specs.Words.Columns.{fill, padded}, proofs.WordsLemmas.Steps.also}
 use Rattle.lft_report.specs.Quotes.Marks.{mark_words}
 use Rattle.lft_report.proofs.quotes.quoting.push_line.Goals as goal
 

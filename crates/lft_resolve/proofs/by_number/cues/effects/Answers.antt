@@ -1,13 +1,8 @@
 use Rattle.std.proofs.Common.{take, sym}
 use Rattle.std.proofs.lemmas.Result.{err_from_is_err_and}
 use Rattle.lft_tree.specs.View.{ref_view, ref_views}
-use Rattle.lft_resolve.specs.Directories.{IsLost, is_spot}
-use Rattle.lft_resolve.specs.Sheets.{IsSpot}
-use Rattle.lft_resolve.specs.declared.kinds.Role.TheVariants.{Effect}
-use Rattle.lft_resolve.proofs.Files.{AllZip-last}
-use Rattle.lft_resolve.proofs.Lost.{lost, effect_spot}
-use Rattle.lft_resolve.proofs.Somes.{some_here}
-use Rattle.lft_resolve.proofs.Twice.{map_last}
+use Rattle.lft_resolve.specs.{Directories.{IsLost, is_spot}, Sheets.IsSpot, declared.kinds.Role.TheVariants.Effect}
+use Rattle.lft_resolve.proofs.{Files.AllZip-last, Lost.{lost, effect_spot}, Somes.some_here, Twice.map_last}
 use Rattle.lft_resolve.proofs.by_number.cues.effects.Goals as goal
 
 pub returns-in_err-spot-clause-lost : goal.returns-in_err-spot-clause-lost

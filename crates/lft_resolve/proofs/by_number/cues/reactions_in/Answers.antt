@@ -1,15 +1,8 @@
 use Rattle.std.proofs.Common.{◌≡◌, Any, map, filter_map, take, sym, ap, subst, ◌∙◌}
 use Rattle.std.proofs.lemmas.Result.{err_from_is_err_and}
-use Rattle.lft_tree.specs.Tree.{reaction_in, reactions_of}
-use Rattle.lft_tree.specs.View.{member_view, reaction_view, reactor_view}
-use Rattle.lft_resolve.specs.Directories.{IsLost}
-use Rattle.lft_resolve.specs.Kinds.{reaction_refs}
-use Rattle.lft_resolve.specs.References.{reaction_trees}
-use Rattle.lft_resolve.specs.Sheets.{AreCues}
-use Rattle.lft_resolve.proofs.Files.{AllZip-last}
-use Rattle.lft_resolve.proofs.Filtered.{lost_reaction}
-use Rattle.lft_resolve.proofs.Somes.{some_here}
-use Rattle.lft_resolve.proofs.Twice.{map_last}
+use Rattle.lft_tree.specs.{Tree.{reaction_in, reactions_of}, View.{member_view, reaction_view, reactor_view}}
+use Rattle.lft_resolve.specs.{Directories.IsLost, Kinds.reaction_refs, References.reaction_trees, Sheets.AreCues}
+use Rattle.lft_resolve.proofs.{Files.AllZip-last, Filtered.lost_reaction, Somes.some_here, Twice.map_last}
 use Rattle.lft_resolve.proofs.by_number.cues.reactions_in.Goals as goal
 
 pub returns-in_err-cues_of-clause-lost : goal.returns-in_err-cues_of-clause-lost

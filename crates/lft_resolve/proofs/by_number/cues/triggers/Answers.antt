@@ -1,13 +1,8 @@
 use Rattle.std.proofs.Common.{IsSomeAnd, map, take, sym}
 use Rattle.std.proofs.lemmas.Result.{err_from_is_err_and}
 use Rattle.lft_tree.specs.View.{trigger_view}
-use Rattle.lft_resolve.specs.Directories.{IsLost}
-use Rattle.lft_resolve.specs.Kinds.{ref_in}
-use Rattle.lft_resolve.specs.Sheets.{IsCue}
-use Rattle.lft_resolve.specs.declared.kinds.Role.TheVariants.{Read}
-use Rattle.lft_resolve.proofs.Files.{AllZip-last}
-use Rattle.lft_resolve.proofs.Somes.{some_here}
-use Rattle.lft_resolve.proofs.Twice.{map_last}
+use Rattle.lft_resolve.specs.{Directories.IsLost, Kinds.ref_in, Sheets.IsCue, declared.kinds.Role.TheVariants.Read}
+use Rattle.lft_resolve.proofs.{Files.AllZip-last, Somes.some_here, Twice.map_last}
 use Rattle.lft_resolve.proofs.by_number.cues.triggers.Goals as goal
 
 pub returns-in_err-cue-clause-lost : goal.returns-in_err-cue-clause-lost

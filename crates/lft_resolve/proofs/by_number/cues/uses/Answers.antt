@@ -1,14 +1,10 @@
 use Rattle.std.proofs.Common.{not, sym, ap}
 use Rattle.std.proofs.lemmas.Result.{err_from_is_err_and}
 use Rattle.lft_tree.specs.View.{ref_view}
-use Rattle.lft_resolve.specs.Directories.{IsLost}
-use Rattle.lft_resolve.specs.Sheets.{IsSpot, is_timer}
-use Rattle.lft_resolve.specs.declared.kinds.Role.TheVariants.{Read}
-use Rattle.lft_resolve.proofs.Filtered.{filtered_more, filtered_kept}
-use Rattle.lft_resolve.proofs.Lost.{lost_read}
-use Rattle.lft_resolve.proofs.Somes.{some_here}
-use Rattle.lft_resolve.proofs.by_number.cues.uses.Goals as goal
+use Rattle.lft_resolve.specs.{Directories.IsLost, Sheets.{IsSpot, is_timer}, declared.kinds.Role.TheVariants.Read}
+use Rattle.lft_resolve.proofs.{Filtered.{filtered_more, filtered_kept}, Lost.lost_read, Somes.some_here}
 use Rattle.lft_resolve.proofs.by_number.cues.uses.Goals.{in-Some, in-None+in_ok-spot-in-None+in_ok-push-in-None}
+use Rattle.lft_resolve.proofs.by_number.cues.uses.Goals as goal
 
 pub returns-in_err-spot-in-None-clause-lost : goal.returns-in_err-spot-in-None-clause-lost
 returns-in_err-spot-in-None-clause-lost c =

@@ -1,12 +1,7 @@
 use Rattle.std.proofs.Common.{option_to_list, take, refl, sym}
 use Rattle.lft_tree.specs.View.{action_view}
-use Rattle.lft_resolve.specs.Lacking.{LacksPlace}
-use Rattle.lft_resolve.specs.Places.{place_in}
-use Rattle.lft_resolve.specs.References.{action_trees}
-use Rattle.lft_resolve.specs.Sheets.{IsActionSheet}
-use Rattle.lft_resolve.proofs.Files.{AllZip-last}
-use Rattle.lft_resolve.proofs.Lacking.{none_at}
-use Rattle.lft_resolve.proofs.Twice.{map_last}
+use Rattle.lft_resolve.specs.{Lacking.LacksPlace, Places.place_in, References.action_trees, Sheets.IsActionSheet}
+use Rattle.lft_resolve.proofs.{Files.AllZip-last, Lacking.none_at, Twice.map_last}
 use Rattle.lft_resolve.proofs.by_number.declaring.action_sheets.Goals as goal
 
 pub clock_or_zero-min_delay-requires : goal.clock_or_zero-min_delay-requires

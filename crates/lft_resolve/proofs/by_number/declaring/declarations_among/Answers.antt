@@ -1,11 +1,7 @@
 use Rattle.std.proofs.Common.{take, sym}
 use Rattle.lft_tree.specs.View.{reactor_view}
-use Rattle.lft_resolve.specs.Lacking.{TimeLacksPlace}
-use Rattle.lft_resolve.specs.References.{reactor_trees}
-use Rattle.lft_resolve.specs.Sheets.{IsDeclarations}
-use Rattle.lft_resolve.proofs.Files.{AllZip-last}
-use Rattle.lft_resolve.proofs.Somes.{some_here}
-use Rattle.lft_resolve.proofs.Twice.{map_last}
+use Rattle.lft_resolve.specs.{Lacking.TimeLacksPlace, References.reactor_trees, Sheets.IsDeclarations}
+use Rattle.lft_resolve.proofs.{Files.AllZip-last, Somes.some_here, Twice.map_last}
 use Rattle.lft_resolve.proofs.by_number.declaring.declarations_among.Goals as goal
 
 pub declarations_of-requires : goal.declarations_of-requires

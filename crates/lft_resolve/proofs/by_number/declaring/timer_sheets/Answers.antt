@@ -1,14 +1,7 @@
 use Rattle.std.proofs.Common.{take, sym}
 use Rattle.lft_tree.specs.View.{timer_view}
-use Rattle.lft_resolve.specs.Kinds.{timer_times}
-use Rattle.lft_resolve.specs.Lacking.{LacksPlace}
-use Rattle.lft_resolve.specs.Places.{place_in}
-use Rattle.lft_resolve.specs.References.{timer_trees}
-use Rattle.lft_resolve.specs.Sheets.{IsTimerSheet}
-use Rattle.lft_resolve.proofs.Files.{AllZip-last}
-use Rattle.lft_resolve.proofs.Lacking.{none_at}
-use Rattle.lft_resolve.proofs.Somes.{Any-left, Any-right}
-use Rattle.lft_resolve.proofs.Twice.{map_last}
+use Rattle.lft_resolve.specs.{Kinds.timer_times, Lacking.LacksPlace, Places.place_in, References.timer_trees, Sheets.IsTimerSheet}
+use Rattle.lft_resolve.proofs.{Files.AllZip-last, Lacking.none_at, Somes.{Any-left, Any-right}, Twice.map_last}
 use Rattle.lft_resolve.proofs.by_number.declaring.timer_sheets.Goals as goal
 
 pub clock_or_zero-offset-requires : goal.clock_or_zero-offset-requires

@@ -1,7 +1,5 @@
 use Rattle.std.proofs.Common.{◌≡◌, None, Some, option_map, string_bytes, sym, ap, ◌∙◌}
-use Rattle.lft_resolve.specs.Kinds.{kind_inside, own_kind}
-use Rattle.lft_resolve.specs.Sheets.{action_place, port_place}
-use Rattle.lft_resolve.proofs.Lost.{own_spotless}
+use Rattle.lft_resolve.{specs.{Kinds.{kind_inside, own_kind}, Sheets.{action_place, port_place}}, proofs.Lost.own_spotless}
 use Rattle.lft_resolve.proofs.by_number.ends.spot.Goals as goal
 
 pub returns-in-None-action-clause-lost : goal.returns-in-None-action-clause-lost

@@ -1,12 +1,7 @@
 use Rattle.std.proofs.Common.{◌≡◌, Some, None, Any, map, filter_map, take, string_bytes, refl, sym, ap, subst, ◌∙◌}
-use Rattle.lft_tree.specs.View.{instance_view, member_view, reactor_view}
-use Rattle.lft_tree.specs.Tree.{instances_of, instance_in}
-use Rattle.lft_resolve.specs.Instances.{reactor_named}
-use Rattle.lft_resolve.specs.Numbers.{IsNumberOf}
-use Rattle.lft_resolve.specs.References.{instance_trees}
-use Rattle.lft_resolve.proofs.Files.{AllZip-last}
-use Rattle.lft_resolve.proofs.Somes.{some_here}
-use Rattle.lft_resolve.proofs.Twice.{map_last}
+use Rattle.lft_tree.specs.{View.{instance_view, member_view, reactor_view}, Tree.{instances_of, instance_in}}
+use Rattle.lft_resolve.specs.{Instances.reactor_named, Numbers.IsNumberOf, References.instance_trees}
+use Rattle.lft_resolve.proofs.{Files.AllZip-last, Somes.some_here, Twice.map_last}
 use Rattle.lft_resolve.proofs.by_number.numbers.contents_of.Goals as goal
 
 pub loop-instance-preserved : goal.loop-instance-preserved

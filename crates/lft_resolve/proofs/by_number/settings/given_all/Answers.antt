@@ -1,12 +1,7 @@
 use Rattle.std.proofs.Common.{map, take, sym}
 use Rattle.lft_tree.specs.View.{assignment_view}
-use Rattle.lft_resolve.specs.Lacking.{LacksName, LacksPlace}
-use Rattle.lft_resolve.specs.Places.{place_in}
-use Rattle.lft_resolve.specs.Sheets.{IsGiven}
-use Rattle.lft_resolve.proofs.Files.{AllZip-last}
-use Rattle.lft_resolve.proofs.Lacking.{Any-map}
-use Rattle.lft_resolve.proofs.Somes.{some_here}
-use Rattle.lft_resolve.proofs.Twice.{map_last}
+use Rattle.lft_resolve.specs.{Lacking.{LacksName, LacksPlace}, Places.place_in, Sheets.IsGiven}
+use Rattle.lft_resolve.proofs.{Files.AllZip-last, Lacking.Any-map, Somes.some_here, Twice.map_last}
 use Rattle.lft_resolve.proofs.by_number.settings.given_all.Goals as goal
 
 pub given_one-one-requires-clause-name : goal.given_one-one-requires-clause-name

@@ -1,21 +1,11 @@
 use Rattle.std.proofs.Common.{◌≡◌, List, Some, None, [], ◌∷◌, Any, map, take, string_bytes, sym, ap, subst, ◌∙◌}
-use Rattle.std.proofs.lemmas.List.{map-append}
-use Rattle.std.specs.List.{AllZip}
-use Rattle.lft_tree.specs.Tree.{ReactorTree}
-use Rattle.lft_tree.specs.View.{assignment_view, instance_view}
-use Rattle.lft_resolve.specs.Causes.{GivesUnknown, LacksParameter}
-use Rattle.lft_resolve.specs.Instances.{reactor_named}
-use Rattle.lft_resolve.specs.Lacking.{LacksName, LacksPlace}
-use Rattle.lft_resolve.specs.Places.{IsIndexOf, place_in}
-use Rattle.lft_resolve.specs.References.{instance_trees}
-use Rattle.lft_resolve.specs.Sheets.{AreGiven, IsGiven}
-use Rattle.lft_resolve.specs.Tables.{IsFile, IsOutside}
-use Rattle.lft_resolve.proofs.Files.{AllZip-last}
-use Rattle.lft_resolve.proofs.Lacking.{lacks_parameter, none_at}
-use Rattle.lft_resolve.proofs.Somes.{Any-weaker, some_here}
-use Rattle.lft_resolve.proofs.Twice.{map_last}
-use Rattle.lft_resolve.proofs.by_number.settings.given_to_each.Goals as goal
+use Rattle.std.{proofs.lemmas.List.map-append, specs.List.AllZip}
+use Rattle.lft_tree.specs.{Tree.ReactorTree, View.{assignment_view, instance_view}}
+use Rattle.lft_resolve.specs.{Causes.{GivesUnknown, LacksParameter}, Instances.reactor_named, Lacking.{LacksName, LacksPlace}, Places.{IsIndexOf, place_in}}
+use Rattle.lft_resolve.specs.{References.instance_trees, Sheets.{AreGiven, IsGiven}, Tables.{IsFile, IsOutside}}
+use Rattle.lft_resolve.proofs.{Files.AllZip-last, Lacking.{lacks_parameter, none_at}, Somes.{Any-weaker, some_here}, Twice.map_last}
 use Rattle.lft_resolve.proofs.by_number.settings.given_to_each.Goals.{After-parameters}
+use Rattle.lft_resolve.proofs.by_number.settings.given_to_each.Goals as goal
 
 pub unreachable-requires : goal.unreachable-requires
 unreachable-requires c =

@@ -1,12 +1,8 @@
 use Rattle.std.proofs.Common.{◌≡◌, Any, filter_map, ap, subst, ◌∙◌}
-use Rattle.lft_tree.specs.Tree.{reactor_in, reactors_of}
-use Rattle.lft_tree.specs.View.{item_views, tree_view}
-use Rattle.lft_resolve.specs.Causes.{LacksReactor, SomeGivesUnknown}
-use Rattle.lft_resolve.specs.Lacking.{TimeLacksPlace}
-use Rattle.lft_resolve.specs.References.{reactor_trees}
-use Rattle.lft_resolve.proofs.Lacking.{none_given, none_lacks, none_unknown}
+use Rattle.lft_tree.specs.{Tree.{reactor_in, reactors_of}, View.{item_views, tree_view}}
+use Rattle.lft_resolve.specs.{Causes.{LacksReactor, SomeGivesUnknown}, Lacking.TimeLacksPlace, References.reactor_trees}
+use Rattle.lft_resolve.proofs.{Lacking.{none_given, none_lacks, none_unknown}, by_number.settings.parameters.Goals.After-deref-2}
 use Rattle.lft_resolve.proofs.by_number.settings.parameters.Goals as goal
-use Rattle.lft_resolve.proofs.by_number.settings.parameters.Goals.{After-deref-2}
 
 -- the reactors of the tree
 reactors : (c : After-deref-2) → reactor_trees c.deref-2.result.now ≡ reactors_of (tree_view c.args.ast.now)

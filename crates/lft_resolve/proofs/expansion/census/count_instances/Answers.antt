@@ -1,7 +1,7 @@
 use Rattle.std.proofs.Common.{rules, ◌≡◌, ℕ, List, ◌∷◌, [], ◌++◌, ◌+◌, ◌<◌, length, refl, sym, ap, subst, ◌∙◌, arith}
 use Rattle.lft_resolve.proofs.ExpansionLemmas.Counting.{Counting, counted_more, counted_there, counting_drop, counting_turn, held, held_at}
-use Rattle.lft_resolve.proofs.expansion.census.count_instances.Goals as goal
 use Rattle.lft_resolve.proofs.expansion.census.count_instances.Goals.{then-reactor-contents+then-len-counted+in_ok-extend_from_slice, else-reactor-contents}
+use Rattle.lft_resolve.proofs.expansion.census.count_instances.Goals as goal
 
 pub returns-in_default-clause-counted : goal.returns-in_default-clause-counted
 returns-in_default-clause-counted c = counted_there c.args.contents.now c.args.main c.loop-counted.counted c.loop-counted.left.items c.loop-counted.invariant

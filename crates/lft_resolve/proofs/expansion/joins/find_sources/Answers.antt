@@ -1,11 +1,9 @@
 use Rattle.std.proofs.Common.{◌≡◌, ◌<◌, ◌≤◌, length, Some, slice_get, arith, refl, subst, sym, ◌∙◌}
-use Rattle.lft_resolve.specs.Expansion.Numbers.{things}
-use Rattle.lft_tag.specs.declared.Source.{Source}
-use Rattle.lft_resolve.specs.declared.expansion.joins.Site.{Site}
-use Rattle.lft_resolve.specs.Expansion.Joins.{HasJoin}
+use Rattle.lft_resolve.specs.{Expansion.{Numbers.things, Joins.HasJoin}, declared.expansion.joins.Site.Site}
 use Rattle.lft_resolve.proofs.ExpansionLemmas.Joining.{port_number, sited_more, sourced_more, sourced_next, sourced_end, sources_inside}
-use Rattle.lft_resolve.proofs.expansion.joins.find_sources.Goals as goal
 use Rattle.lft_resolve.proofs.expansion.joins.find_sources.Goals.{After-item_at-join, After-port_of-to}
+use Rattle.lft_tag.specs.declared.Source.{Source}
+use Rattle.lft_resolve.proofs.expansion.joins.find_sources.Goals as goal
 
 -- the join is one of this instance
 has : (c : goal.After-item_at-join) → HasJoin c.args.table.now c.args.instances.now c.instances.number c.joins.place c.item_at-join.result

@@ -1,7 +1,6 @@
 use Rattle.std.proofs.Common.{◌≡◌, ◌+◌, ◌-◌, subst, arith, drop}
-use Rattle.lft_resolve.proofs.ExpansionLemmas.Entering.{entered_is, AreEntered, entered_more, entered_skip}
+use Rattle.lft_resolve.proofs.{ExpansionLemmas.Entering.{entered_is, AreEntered, entered_more, entered_skip}, expansion.settings.give.Goals.After-item_at-one}
 use Rattle.lft_resolve.proofs.expansion.settings.give.Goals as goal
-use Rattle.lft_resolve.proofs.expansion.settings.give.Goals.{After-item_at-one}
 
 -- what is written so far, by the number of the one that is given now
 so_far : (c : goal.After-item_at-one) → AreEntered c.args.outer.now (drop ((c.given.number - 1) + 1) c.args.given.now) c.args.own.now c.given.own

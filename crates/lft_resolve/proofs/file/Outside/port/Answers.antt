@@ -1,15 +1,9 @@
 use Rattle.std.proofs.Common.{◌≡◌, map, slice_get, find, option_map, Some, None, bytes_eq, sym, ap, ◌∙◌}
-use Rattle.std.specs.Option.{option_and_then}
-use Rattle.std.proofs.lemmas.Option.{slice_get-map}
-use Rattle.lft_tree.specs.Tree.{ReactorTree, ports_of}
-use Rattle.lft_tree.specs.View.{port_view}
-use Rattle.lft_resolve.specs.Kinds.{inner_port}
-use Rattle.lft_resolve.specs.Places.{place}
-use Rattle.lft_resolve.specs.References.{port_trees}
-use Rattle.lft_resolve.specs.Tables.{IsOutside}
-use Rattle.lft_resolve.proofs.Placing.{find-place, lent}
+use Rattle.std.{specs.Option.option_and_then, proofs.lemmas.Option.slice_get-map}
+use Rattle.lft_tree.specs.{Tree.{ReactorTree, ports_of}, View.port_view}
+use Rattle.lft_resolve.specs.{Kinds.inner_port, Places.place, References.port_trees, Tables.IsOutside}
+use Rattle.lft_resolve.proofs.{Placing.{find-place, lent}, file.Outside.port.Goals.After-get-in-Some}
 use Rattle.lft_resolve.proofs.file.Outside.port.Goals as goal
-use Rattle.lft_resolve.proofs.file.Outside.port.Goals.{After-get-in-Some}
 
 -- what is found under the name is what is lent at its place
 lent_port : (c : After-get-in-Some) (r : ReactorTree) → IsOutside r c.args.self.now → option_map (λ p. port_view p.now) (option_map (λ p. p.now) c.get-in-Some.result) ≡ find (λ x. bytes_eq c.args.name.now x.name) (ports_of r)

@@ -1,10 +1,8 @@
 use Rattle.std.proofs.Common.{length, ◌≤◌, sym, ap, ◌∙◌}
-use Rattle.std.specs.List.{flat_map, fold}
-use Rattle.std.specs.Hash.DefaultHasher as sip
-use Rattle.std.proofs.lemmas.List.{take_all}
-use Rattle.std.proofs.lemmas.List.Folds.{flat_map-map}
+use Rattle.std.{specs.List.{flat_map, fold}, proofs.lemmas.List.{take_all, Folds.flat_map-map}}
 use Rattle.lft_tree.specs.ItemView.{ref_view}
 use Rattle.lft_resolve.specs.Hashing.{reference_writes, seeded_by}
+use Rattle.std.specs.Hash.DefaultHasher as sip
 use Rattle.lft_resolve.proofs.hashing.NameHash.of_references.Goals as goal
 
 pub returns : goal.returns

@@ -1,6 +1,5 @@
 use Rattle.std.proofs.Common.{take}
-use Rattle.lft_resolve.specs.Places.{IsIndexOf}
-use Rattle.lft_resolve.specs.Tests.{texts}
+use Rattle.lft_resolve.specs.{Places.IsIndexOf, Tests.texts}
 use Rattle.lft_resolve.proofs.index.Index.of.Given as goal
 
 abbrev pub invariant-loop-place : goal.invariant-loop-place

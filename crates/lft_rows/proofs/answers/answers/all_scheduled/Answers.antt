@@ -1,8 +1,8 @@
 use Rattle.std.proofs.Common.{sym, ap, ◌∙◌, [], ◌∷◌, ◌++◌, Some, None, append-nil, filter_map, take}
 use Rattle.lft_model.specs.Presence.{value_scheduled}
 use Rattle.lft_lists.proofs.Picked.{kept_more}
-use Rattle.lft_rows.proofs.answers.answers.all_scheduled.Goals as goal
 use Rattle.lft_rows.proofs.answers.answers.all_scheduled.Goals.{in-Some+in_ok-push, in_default}
+use Rattle.lft_rows.proofs.answers.answers.all_scheduled.Goals as goal
 
 pub loop-place-preserved : goal.loop-place-preserved
 loop-place-preserved c =

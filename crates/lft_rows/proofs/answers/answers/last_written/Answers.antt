@@ -1,8 +1,7 @@
 use Rattle.std.proofs.Common.{sym, ◌∙◌}
 use Rattle.lft_model.specs.Presence.{value_written}
-use Rattle.lft_rows.proofs.AnswersLemmas.Stepping.{last_stays, last_changes}
+use Rattle.lft_rows.proofs.{AnswersLemmas.Stepping.{last_stays, last_changes}, answers.answers.last_written.Goals.{then-is_some, else-is_some}}
 use Rattle.lft_rows.proofs.answers.answers.last_written.Goals as goal
-use Rattle.lft_rows.proofs.answers.answers.last_written.Goals.{then-is_some, else-is_some}
 
 pub loop-place-preserved : goal.loop-place-preserved
 loop-place-preserved c =

@@ -1,11 +1,8 @@
 use Rattle.std.proofs.Common.{◌+◌, take, sym, ap, ◌∙◌, subst, Option}
-use Rattle.lft_ir.specs.declared.parts.Name.{Name}
-use Rattle.lft_ir.specs.declared.parts.Value.{Value}
-use Rattle.lft_rows.specs.Answers.Readings.{AreReadBy, read_as}
-use Rattle.lft_rows.specs.declared.answers.readings.Readings.{Readings}
-use Rattle.lft_rows.proofs.AnswersLemmas.LastRead.{read_none, read_put}
+use Rattle.lft_ir.specs.declared.parts.{Name.Name, Value.Value}
+use Rattle.lft_rows.specs.{Answers.Readings.{AreReadBy, read_as}, declared.answers.readings.Readings.Readings}
+use Rattle.lft_rows.proofs.{AnswersLemmas.LastRead.{read_none, read_put}, answers.readings.readings_of.Goals.{in-Some+in_ok-put, in_default}}
 use Rattle.lft_rows.proofs.answers.readings.readings_of.Goals as goal
-use Rattle.lft_rows.proofs.answers.readings.readings_of.Goals.{in-Some+in_ok-put, in_default}
 
 pub loop-place-preserved : goal.loop-place-preserved
 loop-place-preserved c =

@@ -1,14 +1,10 @@
 use Rattle.std.proofs.Common.{◌≡◌, ◌+◌, ◌∷◌, [], ◌++◌, Some, None, map, take, filter_map, get_or, slice_get, append-nil, append_assoc, sym, ap, ◌∙◌, arith}
-use Rattle.std.proofs.lemmas.List.{take_more}
-use Rattle.std.proofs.lemmas.Option.{slice_get-get_or}
-use Rattle.lft_ir.specs.Naming.{named}
-use Rattle.lft_ir.specs.declared.parts.Name.TheVariants.{Port}
-use Rattle.lft_ir.specs.declared.parts.Trigger.TheVariants.{Startup}
+use Rattle.std.proofs.lemmas.{List.take_more, Option.slice_get-get_or}
+use Rattle.lft_ir.specs.{Naming.named, declared.parts.{Name.TheVariants.Port, Trigger.TheVariants.Startup}}
 use Rattle.lft_model.specs.Runs.{read_of}
 use Rattle.lft_lists.proofs.Picked.{kept_more}
-use Rattle.lft_rows.proofs.AnswersLemmas.Made.{made_more}
+use Rattle.lft_rows.proofs.{AnswersLemmas.Made.made_more, answers.reads.reads_of_steps.Goals.{in-Some+in_ok-push, in_default}}
 use Rattle.lft_rows.proofs.answers.reads.reads_of_steps.Goals as goal
-use Rattle.lft_rows.proofs.answers.reads.reads_of_steps.Goals.{in-Some+in_ok-push, in_default}
 
 pub loop-place-preserved : goal.loop-place-preserved
 loop-place-preserved c =

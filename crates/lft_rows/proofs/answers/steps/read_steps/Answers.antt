@@ -1,7 +1,7 @@
 use Rattle.std.proofs.Common.{◌≡◌, sym, ap, ◌∙◌, refl, false, true}
 use Rattle.lft_rows.proofs.AnswersLemmas.Stepping.{none_yet, step_more, step_past, all_steps}
-use Rattle.lft_rows.proofs.answers.steps.read_steps.Goals as goal
 use Rattle.lft_rows.proofs.answers.steps.read_steps.Goals.{then-is_of_run+in_ok-push+else-is_end, else-is_of_run}
+use Rattle.lft_rows.proofs.answers.steps.read_steps.Goals as goal
 
 pub loop-at-init : goal.loop-at-init
 loop-at-init c = c.clear.ensures.items ∙ sym (none_yet c.requires.rules.0 c.args.rows.now c.requires.rules.1 c.args.place c.args.start c.requires.row c.requires.starts)

@@ -1,8 +1,7 @@
 use Rattle.std.proofs.Common.{◌≡◌, arith, get_or}
-use Rattle.std.proofs.lemmas.Grind.{common_steps}
-use Rattle.std.proofs.lemmas.Option.{get_or_from_slice_get}
-use Rattle.lft_rows.proofs.effects.EffectSets.new.Goals as goal
+use Rattle.std.proofs.lemmas.{Grind.common_steps, Option.get_or_from_slice_get}
 use Rattle.lft_rows.proofs.effects.EffectSets.new.Goals.{in-Port+in_ok-_is_new-in-Port, in-Action+in_ok-_is_new-in-Action}
+use Rattle.lft_rows.proofs.effects.EffectSets.new.Goals as goal
 
 pub loop-place-preserved : goal.loop-place-preserved
 loop-place-preserved c =

@@ -1,6 +1,5 @@
 use Rattle.std.proofs.Common.{◌≡◌, ℕ, ◌+◌, ◌∷◌, [], ◌++◌, List, length, sym, ap, ◌∙◌, subst, arith}
-use Rattle.lft_ir.specs.Parts.{inputs}
-use Rattle.lft_ir.specs.declared.parts.Name.{Name}
+use Rattle.lft_ir.specs.{Parts.inputs, declared.parts.Name.Name}
 use Rattle.lft_rows.proofs.Marked.{AreLaidTo, laid_more, laid_all}
 use Rattle.lft_rows.proofs.marks.Marks.new.Goals as goal
 

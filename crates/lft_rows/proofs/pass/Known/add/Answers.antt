@@ -1,21 +1,14 @@
 use Rattle.std.proofs.Common.{◌≡◌, ◌+◌, inl, inr, sym, subst, refl, arith, ◌∙◌, ℕ, List}
 use Rattle.lft_tag.specs.declared.Tag.{Tag}
-use Rattle.lft_ir.specs.Parts.{Parts}
-use Rattle.lft_ir.specs.declared.parts.Name.{Name}
-use Rattle.lft_ir.specs.declared.parts.Value.{Value}
-use Rattle.lft_ir.specs.declared.steps.row.Row.{Row}
-use Rattle.lft_ir.specs.declared.steps.row.Step.TheVariants.{Start, Read, End}
+use Rattle.lft_ir.specs.{Parts.Parts, declared.{parts.{Name.Name, Value.Value}, steps.row.{Row.Row, Step.TheVariants.{Start, Read, End}}}}
 use Rattle.lft_model.specs.Plans.{PlanParts}
 use Rattle.lft_rows.specs.declared.marks.Marks.{Marks}
 use Rattle.lft_rows.specs.declared.open.OpenRuns.{OpenRuns}
 use Rattle.lft_rows.specs.declared.pass.Known.{Known}
-use Rattle.lft_rows.specs.Marks.{AreMarks}
-use Rattle.lft_rows.specs.Passes.{IsKnown, Holds, HasOpen, KeepsEarly}
-use Rattle.lft_rows.proofs.Marked.{other_step}
-use Rattle.lft_rows.proofs.Steps.{close_then, close_else, is_inside}
-use Rattle.lft_rows.proofs.Whole.{add_start, add_inner}
-use Rattle.lft_rows.proofs.pass.Known.add.Goals as goal
+use Rattle.lft_rows.specs.{Marks.AreMarks, Passes.{IsKnown, Holds, HasOpen, KeepsEarly}}
+use Rattle.lft_rows.proofs.{Marked.other_step, Steps.{close_then, close_else, is_inside}, Whole.{add_start, add_inner}}
 use Rattle.lft_rows.proofs.pass.Known.add.Goals.{in-Start+in_ok-begin-in-Start, in-Read, in-End, in-Write, in-Schedule, in-Stop}
+use Rattle.lft_rows.proofs.pass.Known.add.Goals as goal
 
 pub returns : goal.returns
 returns c = elim c.match-row.branch [

@@ -1,8 +1,6 @@
 use Rattle.std.proofs.Common.{inl, inr}
-use Rattle.lft_tag.specs.Tags.{UpTo}
-use Rattle.lft_tag.proofs.Order.{order_cases}
-use Rattle.lft_rows.proofs.Rereads.{rises_to}
-use Rattle.lft_rows.proofs.PresenceLemmas.Lists.{not_true}
+use Rattle.lft_tag.{specs.Tags.UpTo, proofs.Order.order_cases}
+use Rattle.lft_rows.proofs.{Rereads.rises_to, PresenceLemmas.Lists.not_true}
 use Rattle.lft_rows.proofs.pass.Known.rule.Goals as goal
 
 pub is_undeclared-requires-clause-rising : goal.is_undeclared-requires-clause-rising

@@ -1,8 +1,7 @@
 use Rattle.std.proofs.Common.{subst}
 use Rattle.lft_ir.specs.Parts.{Parts}
-use Rattle.lft_rows.specs.Passes.{IsKnown}
+use Rattle.lft_rows.{specs.Passes.IsKnown, proofs.Whole.{unended_first, early_first, none_first}}
 use Rattle.lft_model.proofs.Places.{slice_get_within}
-use Rattle.lft_rows.proofs.Whole.{unended_first, early_first, none_first}
 use Rattle.lft_rows.proofs.pass.Pass.first_breach.Goals as goal
 
 pub returns-in-Some-clause-first : goal.returns-in-Some-clause-first

@@ -1,6 +1,5 @@
 use Rattle.std.proofs.Common.{◌+◌, ◌-◌, ◌/◌, arith}
-use Rattle.lft_rows.proofs.PresenceLemmas.Positions.{lower}
-use Rattle.lft_rows.proofs.PresenceLemmas.Lists.{not_true}
+use Rattle.lft_rows.proofs.PresenceLemmas.{Positions.lower, Lists.not_true}
 use Rattle.lft_rows.proofs.presence.causes.position.Goals as goal
 
 pub loop-low-preserved : goal.loop-low-preserved

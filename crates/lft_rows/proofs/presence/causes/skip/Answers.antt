@@ -1,12 +1,9 @@
 use Rattle.std.proofs.Common.{◌+◌, ◌<◌, length, subst, arith}
 use Rattle.lft_model.proofs.Places.{slice_get_within}
-use Rattle.lft_rows.specs.declared.presence.causes.Cause.{Cause}
-use Rattle.lft_rows.specs.Presence.Causes.{Leads}
-use Rattle.lft_rows.proofs.PresenceLemmas.Lists.{not_true}
-use Rattle.lft_rows.proofs.PresenceLemmas.Positions.{same_cause}
-use Rattle.lft_rows.proofs.PresenceLemmas.Skips.{skip_one, skip_many}
-use Rattle.lft_rows.proofs.presence.causes.skip.Goals as goal
+use Rattle.lft_rows.specs.{declared.presence.causes.Cause.Cause, Presence.Causes.Leads}
+use Rattle.lft_rows.proofs.PresenceLemmas.{Lists.not_true, Positions.same_cause, Skips.{skip_one, skip_many}}
 use Rattle.lft_rows.proofs.presence.causes.skip.Goals.{else-next-causes-via-then-next-causes+else-leads, else-next-causes-via-else-next-causes}
+use Rattle.lft_rows.proofs.presence.causes.skip.Goals as goal
 
 pub returns-then-leads : goal.returns-then-leads
 returns-then-leads c = skip_many c.args.causes.now c.requires.ascending c.args.name (c.args.shift.time, c.args.shift.steps) c.args.tag c.args.place c.requires.here.0 c.requires.here.1 c.requires.here.2 c.position.result c.position.ensures

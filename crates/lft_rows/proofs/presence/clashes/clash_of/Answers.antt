@@ -1,13 +1,9 @@
 use Rattle.std.proofs.Common.{Option, sym, subst, refl}
-use Rattle.lft_tag.specs.declared.Tag.{Tag}
-use Rattle.lft_tag.specs.Tags.{Before, UpTo}
+use Rattle.lft_tag.specs.{declared.Tag.Tag, Tags.{Before, UpTo}}
 use Rattle.lft_rows.specs.Presence.Clashes.{IsClash}
-use Rattle.lft_rows.proofs.PresenceLemmas.Collisions.{clash_none, clash_late, clash_some}
-use Rattle.lft_rows.proofs.PresenceLemmas.Twice.{action_known}
-use Rattle.lft_rows.proofs.PresenceLemmas.Skips.{up_to_stop}
-use Rattle.lft_rows.proofs.PresenceLemmas.Lists.{not_true}
-use Rattle.lft_rows.proofs.presence.clashes.clash_of.Goals as goal
+use Rattle.lft_rows.proofs.PresenceLemmas.{Collisions.{clash_none, clash_late, clash_some}, Twice.action_known, Skips.up_to_stop, Lists.not_true}
 use Rattle.lft_rows.proofs.presence.clashes.clash_of.Goals.{then-is_before, else-is_before}
+use Rattle.lft_rows.proofs.presence.clashes.clash_of.Goals as goal
 
 pub returns-in-Some : goal.returns-in-Some
 returns-in-Some c =

@@ -1,15 +1,9 @@
 use Rattle.std.proofs.Common.{◌≡◌, ◌<◌, true, length, Option, Some, None, slice_get, sym, ap, ◌∙◌, subst, arith}
-use Rattle.lft_tag.specs.declared.Tag.{Tag}
-use Rattle.lft_tag.specs.Shifts.{shifted}
-use Rattle.lft_ir.proofs.Origins.{origin_inside}
-use Rattle.lft_ir.specs.Parts.{Parts}
+use Rattle.lft_tag.specs.{declared.Tag.Tag, Shifts.shifted}
+use Rattle.lft_ir.{proofs.Origins.origin_inside, specs.Parts.Parts}
 use Rattle.lft_model.specs.Presence.{PortClash}
-use Rattle.lft_rows.specs.declared.presence.causes.Cause.{Cause}
-use Rattle.lft_rows.specs.Presence.Causes.{IsNear, tag_of}
-use Rattle.lft_rows.specs.Presence.Traces.{LeastTag}
-use Rattle.lft_rows.specs.Presence.Clashes.{IsFirstPair}
-use Rattle.lft_rows.proofs.PresenceLemmas.Presences.{chain_of}
-use Rattle.lft_rows.proofs.PresenceLemmas.Collisions.{no_port_clash, port_no_pair, port_pair, pair_near}
+use Rattle.lft_rows.specs.{declared.presence.causes.Cause.Cause, Presence.{Causes.{IsNear, tag_of}, Traces.LeastTag, Clashes.IsFirstPair}}
+use Rattle.lft_rows.proofs.PresenceLemmas.{Presences.chain_of, Collisions.{no_port_clash, port_no_pair, port_pair, pair_near}}
 use Rattle.lft_rows.proofs.presence.clashes.port_clash.Goals as goal
 
 pub returns-then-port-eq0 : goal.returns-then-port-eq0

@@ -1,6 +1,5 @@
 use Rattle.std.proofs.Common.{refl, arith}
-use Rattle.lft_rows.proofs.PresenceLemmas.Lists.{not_true}
-use Rattle.lft_rows.proofs.PresenceLemmas.Lookups.{first_end, first_leads, first_leads_not}
+use Rattle.lft_rows.proofs.PresenceLemmas.{Lists.not_true, Lookups.{first_end, first_leads, first_leads_not}}
 use Rattle.lft_rows.proofs.presence.lookup.first_cause.Goals as goal
 
 pub returns-then-place-causes : goal.returns-then-place-causes

@@ -1,6 +1,5 @@
 use Rattle.std.proofs.Common.{◌-◌, refl, arith}
-use Rattle.lft_rows.proofs.PresenceLemmas.Lists.{not_true}
-use Rattle.lft_rows.proofs.PresenceLemmas.Presences.{none_stands, last_leads, last_leads_not}
+use Rattle.lft_rows.proofs.PresenceLemmas.{Lists.not_true, Presences.{none_stands, last_leads, last_leads_not}}
 use Rattle.lft_rows.proofs.presence.lookup.last_cause.Goals as goal
 
 pub returns-then-end-eq0 : goal.returns-then-end-eq0

@@ -1,6 +1,5 @@
 use Rattle.std.proofs.Common.{refl, arith}
-use Rattle.lft_rows.proofs.PresenceLemmas.Paired.{scan_begins, scan_over, scan_past, scan_finds, scan_goes_on}
-use Rattle.lft_rows.proofs.PresenceLemmas.Lists.{not_true}
+use Rattle.lft_rows.proofs.PresenceLemmas.{Paired.{scan_begins, scan_over, scan_past, scan_finds, scan_goes_on}, Lists.not_true}
 use Rattle.lft_rows.proofs.presence.pairs.first_pair.Goals as goal
 
 pub loop-place-init : goal.loop-place-init

@@ -1,20 +1,12 @@
 use Rattle.std.proofs.Common.{◌≡◌, List, Option, map, sym, ap, ◌∙◌, subst, unwrap_or, option_map, []}
-use Rattle.lft_tag.specs.declared.Tag.{Tag}
-use Rattle.lft_tag.specs.Tags.{UpTo}
-use Rattle.lft_ir.specs.Parts.{inputs}
-use Rattle.lft_ir.specs.declared.parts.Name.{Name}
-use Rattle.lft_ir.specs.declared.parts.Value.{Value}
-use Rattle.lft_ir.specs.declared.parts.Reaction.{Reaction}
+use Rattle.lft_tag.specs.{declared.Tag.Tag, Tags.UpTo}
+use Rattle.lft_ir.specs.{Parts.inputs, declared.parts.{Name.Name, Value.Value, Reaction.Reaction}}
 use Rattle.lft_lists.proofs.Places.{get_there}
 use Rattle.lft_queue.specs.Pending.{value_of}
-use Rattle.lft_model.specs.Presence.{Inputs}
-use Rattle.lft_model.specs.Runs.{inputs_of}
-use Rattle.lft_model.proofs.Quiet.{pending_time}
-use Rattle.lft_scheduler.proofs.Given.{inputs_read}
-use Rattle.lft_scheduler.specs.Starts.{SomethingLeft}
-use Rattle.lft_scheduler.specs.Agendas.{AgendaParts, IsAgenda}
-use Rattle.lft_scheduler.proofs.agenda.Agenda.inputs.Goals as goal
+use Rattle.lft_model.{specs.{Presence.Inputs, Runs.inputs_of}, proofs.Quiet.pending_time}
+use Rattle.lft_scheduler.{proofs.Given.inputs_read, specs.{Starts.SomethingLeft, Agendas.{AgendaParts, IsAgenda}}}
 use Rattle.std.proofs.lemmas.Result.{IfOk-weaker}
+use Rattle.lft_scheduler.proofs.agenda.Agenda.inputs.Goals as goal
 
 pub returns : goal.returns
 returns c = λ t is so_far quiet may.

@@ -1,18 +1,13 @@
 use Rattle.std.proofs.Common.{◌≡◌, ◌≤◌, ◌∙◌, ℕ, List, [], length, replicate, sym, ap, subst}
-use Rattle.lft_tag.specs.declared.Tag.{Tag}
-use Rattle.lft_tag.specs.Tags.{UpTo}
-use Rattle.lft_ir.specs.Parts.{Parts}
-use Rattle.lft_ir.specs.Steps.Inputs.{ExternalInputs}
+use Rattle.lft_tag.specs.{declared.Tag.Tag, Tags.UpTo}
+use Rattle.lft_ir.specs.{Parts.Parts, Steps.Inputs.ExternalInputs}
 use Rattle.lft_graph.specs.Graph.{GraphParts, IsGraphOf}
 use Rattle.lft_scheduler.specs.declared.turn.phase.Phase.TheVariants.{Idle}
-use Rattle.lft_scheduler.specs.Listeners.{AreListeners, AreArrivals}
-use Rattle.lft_lists.proofs.Places.{length_same}
 use Rattle.lft_scheduler.specs.declared.open.OpenRun.{OpenRun}
-use Rattle.lft_scheduler.specs.OpenRuns.{AreOpen}
-use Rattle.lft_scheduler.specs.Telling.{IsTold, TriggeredByQueue}
-use Rattle.lft_scheduler.specs.Firings.{AreFirst}
+use Rattle.lft_scheduler.specs.{Listeners.{AreListeners, AreArrivals}, OpenRuns.AreOpen, Telling.{IsTold, TriggeredByQueue}, Firings.AreFirst}
 use Rattle.lft_scheduler.specs.Agendas.{IsCurrent, IsReached, MayAdvance}
 use Rattle.lft_scheduler.proofs.Beginning.{none_are_open, no_rows_yet, first_reached}
+use Rattle.lft_lists.proofs.Places.{length_same}
 use Rattle.lft_scheduler.proofs.agenda.Agenda.new.Goals as goal
 
 pub tell-requires-clause-firings : goal.tell-requires-clause-firings

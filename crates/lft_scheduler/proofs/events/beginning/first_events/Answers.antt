@@ -1,15 +1,10 @@
 use Rattle.std.proofs.Common.{◌≡◌, ◌+◌, ◌↔◌, List, Some, None, IsSome, length, sym, ap, ◌∙◌, subst, arith, rules}
-use Rattle.lft_tag.specs.declared.Tag.{Tag}
-use Rattle.lft_tag.specs.Tags.{Before, UpTo}
-use Rattle.lft_ir.specs.declared.parts.Value.{Value}
-use Rattle.lft_ir.specs.declared.parts.Name.{Name}
-use Rattle.lft_ir.specs.declared.parts.Name.TheVariants.{Action}
-use Rattle.lft_ir.specs.declared.steps.externals.Event.{Event}
-use Rattle.lft_ir.specs.Steps.Inputs.{ExternalInputs, InOrder}
+use Rattle.lft_tag.specs.{declared.Tag.Tag, Tags.{Before, UpTo}}
+use Rattle.lft_ir.specs.{declared.{parts.{Value.Value, Name.{Name, TheVariants.Action}}, steps.externals.Event.Event}, Steps.Inputs.{ExternalInputs, InOrder}}
 use Rattle.lft_queue.specs.Pending.{Pending, value_of, Becomes}
 use Rattle.lft_scheduler.proofs.Given.{IsGiven, given_late, given_put, none_given, none_begun, all_given, up_to}
-use Rattle.lft_scheduler.proofs.events.beginning.first_events.Goals as goal
 use Rattle.lft_scheduler.proofs.events.beginning.first_events.Goals.{then-not-is_before+in-Err+in-Collision-1, then-not-is_before+in-Ok-1, else-not-is_before}
+use Rattle.lft_scheduler.proofs.events.beginning.first_events.Goals as goal
 
 pub loop-at-init : goal.loop-at-init
 loop-at-init c = λ h n v u. none_begun c.events-events.result.now c.new-queue.result c.new-queue.ensures h n v

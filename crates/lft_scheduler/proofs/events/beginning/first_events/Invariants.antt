@@ -1,8 +1,6 @@
 use Rattle.std.proofs.Common.{◌≡◌, ◌↔◌, Some}
-use Rattle.lft_tag.specs.declared.Tag.{Tag}
-use Rattle.lft_tag.specs.Tags.{UpTo}
-use Rattle.lft_ir.specs.declared.parts.Value.{Value}
-use Rattle.lft_ir.specs.declared.parts.Name.{Name}
+use Rattle.lft_tag.specs.{declared.Tag.Tag, Tags.UpTo}
+use Rattle.lft_ir.specs.declared.parts.{Value.Value, Name.Name}
 use Rattle.lft_queue.specs.Pending.{value_of}
 use Rattle.lft_scheduler.proofs.Given.{IsGiven}
 use Rattle.lft_scheduler.proofs.events.beginning.first_events.Given as goal

@@ -1,19 +1,12 @@
 use Rattle.std.proofs.Common.{◌≡◌, ◌++◌, ◌∷◌, [], List, Some, None, slice_get, refl, sym, ap, ◌∙◌, subst}
-use Rattle.std.proofs.lemmas.Bool.{false≢true}
-use Rattle.lft_tag.specs.declared.Tag.{Tag}
-use Rattle.lft_tag.specs.Shifts.{shifted}
-use Rattle.lft_ir.specs.Parts.{Parts}
-use Rattle.lft_ir.specs.declared.parts.Port.{Port as PortOf}
-use Rattle.lft_ir.specs.declared.parts.Name.TheVariants.{Port}
-use Rattle.lft_ir.specs.declared.steps.row.Step.TheVariants.{Write}
+use Rattle.std.proofs.lemmas.{Bool.false≢true, Result.IfOk-weaker}
+use Rattle.lft_tag.specs.{declared.Tag.Tag, Shifts.shifted}
+use Rattle.lft_ir.specs.{Parts.Parts, declared.{parts.{Port.Port as PortOf, Name.TheVariants.Port}, steps.row.Step.TheVariants.Write}}
 use Rattle.lft_lists.proofs.Places.{same_some}
 use Rattle.lft_queue.specs.Pending.{Pending, Becomes}
 use Rattle.lft_model.specs.Recorded.{run_row}
-use Rattle.lft_scheduler.specs.Events.{IsPut, IsFedTo}
-use Rattle.lft_scheduler.proofs.Fed.{again_fed, first_fed}
+use Rattle.lft_scheduler.{specs.Events.{IsPut, IsFedTo}, proofs.{Fed.{again_fed, first_fed}, events.feeding.feed_port.Goals.{then-again, else-again}}}
 use Rattle.lft_scheduler.proofs.events.feeding.feed_port.Goals as goal
-use Rattle.lft_scheduler.proofs.events.feeding.feed_port.Goals.{then-again, else-again}
-use Rattle.std.proofs.lemmas.Result.{IfOk-weaker}
 
 pub returns : goal.returns
 returns c = λ t w r o ports arrives watched unmet is was.

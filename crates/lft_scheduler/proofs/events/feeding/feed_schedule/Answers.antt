@@ -1,16 +1,10 @@
 use Rattle.std.proofs.Common.{◌≡◌, ◌+◌, ◌++◌, ◌∷◌, [], ℕ, Option, Some, slice_get, refl, sym, ap, ◌∙◌, subst, unwrap_or, option_map}
-use Rattle.lft_tag.specs.declared.Tag.{Tag}
-use Rattle.lft_tag.specs.Tags.{after}
-use Rattle.lft_ir.specs.Parts.{Parts}
-use Rattle.lft_ir.specs.declared.parts.Action.{Action as ActionOf}
-use Rattle.lft_ir.specs.declared.parts.Name.TheVariants.{Action}
-use Rattle.lft_ir.specs.declared.steps.row.Step.TheVariants.{Schedule}
-use Rattle.lft_model.specs.Presence.{min_delay}
-use Rattle.lft_model.specs.Recorded.{run_row}
-use Rattle.lft_scheduler.specs.Events.{IsPut, HasEvents}
-use Rattle.lft_scheduler.proofs.Steps.{schedule_fed}
-use Rattle.lft_scheduler.proofs.events.feeding.feed_schedule.Goals as goal
+use Rattle.lft_tag.specs.{declared.Tag.Tag, Tags.after}
+use Rattle.lft_ir.specs.{Parts.Parts, declared.{parts.{Action.Action as ActionOf, Name.TheVariants.Action}, steps.row.Step.TheVariants.Schedule}}
+use Rattle.lft_model.specs.{Presence.min_delay, Recorded.run_row}
+use Rattle.lft_scheduler.{specs.Events.{IsPut, HasEvents}, proofs.Steps.schedule_fed}
 use Rattle.std.proofs.lemmas.Result.{IfOk-weaker}
+use Rattle.lft_scheduler.proofs.events.feeding.feed_schedule.Goals as goal
 
 pub returns : goal.returns
 returns c = λ t w r is.

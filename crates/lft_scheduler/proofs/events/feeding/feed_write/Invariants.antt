@@ -1,8 +1,6 @@
 use Rattle.std.proofs.Common.{ℕ, List, take}
 use Rattle.lft_tag.specs.Tags.{UpTo}
-use Rattle.lft_ir.specs.declared.parts.Name.TheVariants.{Port}
-use Rattle.lft_ir.specs.declared.steps.row.Row.{Row}
-use Rattle.lft_ir.specs.declared.steps.row.Step.TheVariants.{Write}
+use Rattle.lft_ir.specs.declared.{parts.Name.TheVariants.Port, steps.row.{Row.Row, Step.TheVariants.Write}}
 use Rattle.lft_model.specs.Recorded.{run_row}
 use Rattle.lft_scheduler.specs.Events.{HasEvents, IsFedTo}
 use Rattle.lft_scheduler.proofs.events.feeding.feed_write.Given as goal

@@ -3,9 +3,7 @@ use Rattle.std.specs.declared.cmp.Reverse.{Reverse}
 use Rattle.lft_tag.specs.Tags.{UpTo}
 use Rattle.lft_lists.proofs.Places.{contains_at}
 use Rattle.lft_scheduler.specs.declared.firings.Firing.{Firing}
-use Rattle.lft_scheduler.proofs.ToldTurns.{live_within}
-use Rattle.lft_scheduler.proofs.NextFiring.{starts_at}
-use Rattle.lft_scheduler.proofs.FirstFirings.{AreFirstOf, none_put, one_put, all_put}
+use Rattle.lft_scheduler.proofs.{ToldTurns.live_within, NextFiring.starts_at, FirstFirings.{AreFirstOf, none_put, one_put, all_put}}
 use Rattle.lft_scheduler.proofs.firings.Firings.new.Goals as goal
 
 pub loop-at-init : goal.loop-at-init

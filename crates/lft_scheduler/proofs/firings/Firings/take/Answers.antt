@@ -1,17 +1,11 @@
 use Rattle.std.proofs.Common.{◌≡◌, ◌∷◌, List, map, refl, sym, ap, subst, arith, rules, slice_get, Contains}
-use Rattle.std.specs.List.Sorted.{IsPermutation}
-use Rattle.std.specs.declared.cmp.Reverse.{Reverse}
-use Rattle.std.proofs.lemmas.List.Sorted.{IsPermutation-map}
-use Rattle.lft_tag.specs.declared.Tag.{Tag}
-use Rattle.lft_tag.specs.Tags.{Before, UpTo}
-use Rattle.lft_tag.proofs.Order.{Before-UpTo, UpTo-trans}
+use Rattle.std.{specs.{List.Sorted.IsPermutation, declared.cmp.Reverse.Reverse}, proofs.lemmas.List.Sorted.IsPermutation-map}
+use Rattle.lft_tag.{specs.{declared.Tag.Tag, Tags.{Before, UpTo}}, proofs.Order.{Before-UpTo, UpTo-trans}}
 use Rattle.lft_ir.specs.declared.parts.Timer.{Timer as TimerOf}
 use Rattle.lft_lists.proofs.Places.{same_some}
 use Rattle.lft_model.specs.Presence.{Fires}
-use Rattle.lft_scheduler.specs.declared.firings.Firing.{Firing}
-use Rattle.lft_scheduler.specs.Firings.{tag_of_firing, IsFirstFiring, IsFirstOf, IsMoved}
-use Rattle.lft_scheduler.proofs.FirstFirings.{least_firing}
-use Rattle.lft_scheduler.proofs.Taking.{was, moved_out, moved_on}
+use Rattle.lft_scheduler.specs.{declared.firings.Firing.Firing, Firings.{tag_of_firing, IsFirstFiring, IsFirstOf, IsMoved}}
+use Rattle.lft_scheduler.proofs.{FirstFirings.least_firing, Taking.{was, moved_out, moved_on}}
 use Rattle.lft_scheduler.proofs.firings.Firings.take.Goals as goal
 
 pub returns-then-is_before-clause-over : goal.returns-then-is_before-clause-over

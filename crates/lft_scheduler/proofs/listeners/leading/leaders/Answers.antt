@@ -1,15 +1,11 @@
 use Rattle.std.proofs.Common.{◌≡◌, ℕ, take, Option, Some, slice_get, subst, sym, ◌∙◌, cond, rules}
-use Rattle.std.proofs.lemmas.Bool.{false≢true}
-use Rattle.std.specs.BTreeMap.{get}
-use Rattle.std.specs.Ordering.{is_eq}
-use Rattle.lft_ir.specs.declared.parts.Trigger.{Trigger}
-use Rattle.lft_ir.specs.declared.parts.Trigger.TheVariants.{Timer}
+use Rattle.std.{proofs.lemmas.Bool.false≢true, specs.{BTreeMap.get, Ordering.is_eq}}
+use Rattle.lft_ir.specs.declared.parts.Trigger.{Trigger, TheVariants.Timer}
 use Rattle.lft_lists.proofs.Places.{contains_at}
-use Rattle.lft_scheduler.specs.Listeners.{beat}
-use Rattle.lft_scheduler.specs.Filling.{beat_cmp, StartsBefore}
+use Rattle.lft_scheduler.specs.{Listeners.beat, Filling.{beat_cmp, StartsBefore}}
 use Rattle.lft_scheduler.proofs.Leaders.{leaders_same, leaders_stay, leaders_new, leaders_within}
-use Rattle.lft_scheduler.proofs.listeners.leading.leaders.Goals as goal
 use Rattle.lft_scheduler.proofs.listeners.leading.leaders.Goals.{in-Timer+then-starts_before+in_ok-_before, in-Timer+else-starts_before, in_default}
+use Rattle.lft_scheduler.proofs.listeners.leading.leaders.Goals as goal
 
 pub timer-requires : goal.timer-requires
 timer-requires c = c.requires c.in-Timer.number (contains_at c.args.triggers.now c.triggers.place (Timer c.in-Timer.number) (subst (λ (t : Trigger). slice_get c.args.triggers.now c.triggers.place ≡ Some t) c.in-Timer.is c.item_at.ensures))

@@ -1,8 +1,7 @@
 use Rattle.std.proofs.Common.{◌≡◌, true, false, Some, length, slice_get, ap, sym, refl, ◌∙◌, arith}
 use Rattle.std.proofs.lemmas.Option.{slice_get_read}
-use Rattle.lft_scheduler.proofs.Leaders.{live_more, live_same, live_all}
+use Rattle.lft_scheduler.proofs.{Leaders.{live_more, live_same, live_all}, listeners.leading.live_timers.Goals.{then-index+in_ok-push, else-index}}
 use Rattle.lft_scheduler.proofs.listeners.leading.live_timers.Goals as goal
-use Rattle.lft_scheduler.proofs.listeners.leading.live_timers.Goals.{then-index+in_ok-push, else-index}
 
 pub timers-preserved : goal.timers-preserved
 timers-preserved c =

@@ -1,14 +1,11 @@
 use Rattle.std.proofs.Common.{◌≡◌, ℕ, Some, slice_get, subst, sym, ◌∙◌, arith}
-use Rattle.std.proofs.lemmas.Bool.{false≢true}
-use Rattle.std.specs.BTreeMap.{get}
-use Rattle.lft_ir.specs.declared.parts.Trigger.{Trigger}
-use Rattle.lft_ir.specs.declared.parts.Trigger.TheVariants.{Timer}
+use Rattle.std.{proofs.lemmas.Bool.false≢true, specs.BTreeMap.get}
+use Rattle.lft_ir.specs.declared.parts.Trigger.{Trigger, TheVariants.Timer}
 use Rattle.lft_lists.proofs.Places.{contains_at}
-use Rattle.lft_scheduler.specs.Listeners.{beat, IsLeader}
-use Rattle.lft_scheduler.specs.Filling.{beat_cmp}
+use Rattle.lft_scheduler.specs.{Listeners.{beat, IsLeader}, Filling.beat_cmp}
 use Rattle.lft_scheduler.proofs.Leaders.{equal_some, some_equal, leader_within, leads_its_beat, marked_start, marked_other, marked_leader, marked_all}
-use Rattle.lft_scheduler.proofs.listeners.leading.mark_leaders.Goals as goal
 use Rattle.lft_scheduler.proofs.listeners.leading.mark_leaders.Goals.{in-Timer+then-eq, in-Timer+else-eq, in_default}
+use Rattle.lft_scheduler.proofs.listeners.leading.mark_leaders.Goals as goal
 
 pub triggers-init : goal.triggers-init
 triggers-init c = marked_start c.args.program.now c.args.triggers.now c.args.marked.now

@@ -1,11 +1,9 @@
 use Rattle.std.proofs.Common.{◌≡◌, ◌+◌, ℕ, None, replicate, length, refl, sym, ◌∙◌, subst, arith, rules}
-use Rattle.std.proofs.lemmas.Bool.{false≢true}
-use Rattle.std.proofs.lemmas.Option.{slice_get_read}
+use Rattle.std.proofs.lemmas.{Bool.false≢true, Option.slice_get_read}
 use Rattle.lft_scheduler.specs.Filling.{AreFirst}
-use Rattle.lft_scheduler.proofs.Arriving.{origin_known}
-use Rattle.lft_scheduler.proofs.Watching.{first_start, first_stays, first_changes, first_inside}
-use Rattle.lft_scheduler.proofs.listeners.watched.first_delayed.Goals as goal
+use Rattle.lft_scheduler.proofs.{Arriving.origin_known, Watching.{first_start, first_stays, first_changes, first_inside}}
 use Rattle.lft_scheduler.proofs.listeners.watched.first_delayed.Goals.{then-precedes, else-precedes}
+use Rattle.lft_scheduler.proofs.listeners.watched.first_delayed.Goals as goal
 
 pub ports-init : goal.ports-init
 ports-init c = (let same : c.in_ok-firsts.firsts.items ≡ replicate c.ports-2.result None = search rules in first_start c.args.program.now c.ports-2.result c.in_ok-firsts.firsts.items same c.ports-2.ensures.count)

@@ -1,12 +1,9 @@
 use Rattle.std.proofs.Common.{◌≡◌, ℕ, ◌+◌, ◌-◌, ◌<◌, List, [], length, refl, ◌∙◌, subst, arith, Some, slice_get}
 use Rattle.std.proofs.lemmas.Option.{slice_get_within}
 use mathlib.Core.Bool.{Bool}
-use Rattle.lft_scheduler.specs.declared.turn.seats.Seat.{Seat}
-use Rattle.lft_scheduler.specs.Seats.{IsMoving}
+use Rattle.lft_scheduler.specs.{declared.turn.seats.Seat.Seat, Seats.IsMoving}
+use Rattle.lft_scheduler.proofs.{Adding.tally_small, WrittenSeats.{popped, popped_fewer}, ToldSeats.phases_kept}
 use Rattle.lft_lists.proofs.Places.{get_there}
-use Rattle.lft_scheduler.proofs.Adding.{tally_small}
-use Rattle.lft_scheduler.proofs.WrittenSeats.{popped, popped_fewer}
-use Rattle.lft_scheduler.proofs.ToldSeats.{phases_kept}
 use Rattle.lft_scheduler.proofs.turn.moving.settle.Goals as goal
 
 -- the stack holds reactions

@@ -1,6 +1,5 @@
 use Rattle.std.proofs.Common.{◌≡◌, ◌*◌, inl, inr, arith}
-use Rattle.std.proofs.lemmas.Bool.{cases_lt}
-use Rattle.std.proofs.lemmas.Option.{slice_get_within}
+use Rattle.std.proofs.lemmas.{Bool.cases_lt, Option.slice_get_within}
 use mathlib.Core.Bool.{true}
 use Rattle.lft_scheduler.proofs.turn.numbers.first_of.Goals as goal
 

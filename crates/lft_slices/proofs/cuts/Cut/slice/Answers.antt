@@ -1,9 +1,7 @@
 use Rattle.std.proofs.Common.{subst}
 use Rattle.lft_rows.specs.Presence.Traces.{TraceParts}
-use Rattle.lft_slices.specs.Pieces.{ArePieces}
-use Rattle.lft_slices.proofs.Piecing.{tag_there, range_there, runs_there}
+use Rattle.lft_slices.{specs.Pieces.ArePieces, proofs.{Piecing.{tag_there, range_there, runs_there}, cuts.Cut.slice.Goals.After-self}}
 use Rattle.lft_slices.proofs.cuts.Cut.slice.Goals as goal
-use Rattle.lft_slices.proofs.cuts.Cut.slice.Goals.{After-self}
 
 pieced : (c : After-self) → ArePieces c.args.self.now.rows c.self.inside.pieces
 pieced c = subst (λ (z : TraceParts). ArePieces z.rows c.self.inside.pieces) c.self.view_is c.self.invariant

@@ -1,7 +1,6 @@
 use Rattle.std.proofs.Common.{◌≡◌, ◌+◌, Option, Some, slice_get, subst, sym, arith}
 use Rattle.std.specs.Prelude.{IfSome}
-use Rattle.lft_counts.specs.Cover.{CoversRows}
-use Rattle.lft_counts.specs.declared.cover.Cover.{Cover}
+use Rattle.lft_counts.specs.{Cover.CoversRows, declared.cover.Cover.Cover}
 use Rattle.lft_stream.proofs.batches.text.count_rows.Goals as goal
 
 pub add-requires : goal.add-requires

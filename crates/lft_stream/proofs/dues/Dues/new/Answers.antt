@@ -1,9 +1,6 @@
 use Rattle.std.proofs.Common.{◌≡◌, List, [], ◌∷◌, ◌++◌, length, length-append, filter_map, refl, sym, ap, ◌∙◌, subst, arith, Some, slice_get}
-use Rattle.lft_ir.specs.Parts.{Parts}
-use Rattle.lft_ir.specs.declared.parts.Trigger.{Trigger}
-use Rattle.lft_stream.specs.declared.due.Due.{Due}
-use Rattle.lft_stream.specs.Dues.{timed, AreDue}
-use Rattle.lft_stream.proofs.Owing.{of_program, dues_push}
+use Rattle.lft_ir.specs.{Parts.Parts, declared.parts.Trigger.Trigger}
+use Rattle.lft_stream.{specs.{declared.due.Due.Due, Dues.{timed, AreDue}}, proofs.Owing.{of_program, dues_push}}
 use Rattle.lft_stream.proofs.dues.Dues.new.Goals as goal
 
 pub first_dues-requires : goal.first_dues-requires

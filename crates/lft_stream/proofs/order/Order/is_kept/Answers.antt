@@ -1,8 +1,6 @@
 use Rattle.std.proofs.Common.{◌≡◌, true, false, sym, ◌∙◌, refl}
-use Rattle.lft_stream.specs.Ordered.{IsOrdered}
-use Rattle.lft_stream.proofs.Ordering.{ordered_law}
+use Rattle.lft_stream.{specs.Ordered.IsOrdered, proofs.{Ordering.ordered_law, order.Order.is_kept.Goals.{in-Some, in-None}}}
 use Rattle.lft_stream.proofs.order.Order.is_kept.Goals as goal
-use Rattle.lft_stream.proofs.order.Order.is_kept.Goals.{in-Some, in-None}
 
 pub returns-then-is_ranked-clause-kept : goal.returns-then-is_ranked-clause-kept
 returns-then-is_ranked-clause-kept c = λ z last kept g r o. ordered_law c.args.plan.now last c.args.rows.now kept (c.if-is_ranked.ensures refl) g r o

@@ -1,12 +1,10 @@
 use Rattle.std.proofs.Common.{◌≡◌, List, refl, sym, ap, ◌∙◌, subst, length, Option, Some, slice_get}
 use Rattle.lft_tag.specs.declared.Tag.{Tag}
-use Rattle.lft_ir.specs.declared.steps.row.Row.{Row}
-use Rattle.lft_ir.specs.declared.steps.row.Step.TheVariants.{Start}
+use Rattle.lft_ir.specs.declared.steps.row.{Row.Row, Step.TheVariants.Start}
 use Rattle.lft_model.specs.Runs.{start_row, Ran}
 use Rattle.lft_rows.proofs.Steps.{row_eq}
-use Rattle.lft_stream.specs.StartTags.{AreStartTags}
+use Rattle.lft_stream.{specs.StartTags.AreStartTags, proofs.start_tags.StartTags.pass_all.Goals.{then-is_start, else-is_start}}
 use Rattle.lft_stream.proofs.start_tags.StartTags.pass_all.Goals as goal
-use Rattle.lft_stream.proofs.start_tags.StartTags.pass_all.Goals.{then-is_start, else-is_start}
 
 pub begin-requires : goal.begin-requires
 begin-requires c = record { reaction = (c.requires.fit.each c.loop-place.place c.row_at-row.result c.row_at-row.ensures).reaction; long = c.loop-place.invariant.long }

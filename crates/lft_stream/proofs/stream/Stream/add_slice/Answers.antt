@@ -1,20 +1,11 @@
 use Rattle.std.proofs.Common.{ℕ, ◌+◌, ◌++◌, List, take, Option, ◌∙◌, ap, refl, sym, subst}
-use Rattle.lft_tag.specs.declared.Tag.{Tag}
-use Rattle.lft_tag.specs.Tags.{UpTo, after}
-use Rattle.lft_ir.specs.Parts.{Parts}
-use Rattle.lft_ir.specs.declared.parts.Value.{Value}
-use Rattle.lft_ir.specs.Steps.Fits.{RowsFit}
-use Rattle.lft_ir.specs.Steps.Inputs.{ExternalInputs}
+use Rattle.lft_tag.specs.{declared.Tag.Tag, Tags.{UpTo, after}}
+use Rattle.lft_ir.specs.{Parts.Parts, declared.parts.Value.Value, Steps.{Fits.RowsFit, Inputs.ExternalInputs}}
 use Rattle.lft_rows.specs.Marks.{AreMarks}
-use Rattle.lft_queue.specs.Coming.Channels.{caused_by}
-use Rattle.lft_queue.specs.Coming.Unread.{UnreadParts, AreUnread, AreFree}
-use Rattle.lft_queue.specs.Coming.Coming.{to_come, IsReached, IsClear, IsNoLater}
-use Rattle.lft_queue.specs.declared.coming.coming.Coming.{Coming}
-use Rattle.lft_queue.specs.Coming.Lanes.{held}
-use Rattle.lft_queue.specs.declared.coming.writes.Written.{Written}
+use Rattle.lft_queue.specs.Coming.{Channels.caused_by, Unread.{UnreadParts, AreUnread, AreFree}, Coming.{to_come, IsReached, IsClear, IsNoLater}, Lanes.held}
 use Rattle.lft_queue.specs.Coming.Writes.{AreEarlier}
-use Rattle.lft_stream.proofs.Parting.{rows_of, are_at, part_fits}
-use Rattle.lft_stream.proofs.Keeping.{own_kept, own_before, at_hand, slice_grows}
+use Rattle.lft_queue.specs.declared.coming.{coming.Coming.Coming, writes.Written.Written}
+use Rattle.lft_stream.proofs.{Parting.{rows_of, are_at, part_fits}, Keeping.{own_kept, own_before, at_hand, slice_grows}}
 use Rattle.lft_stream.proofs.stream.Stream.add_slice.Goals as goal
 
 pub judge_slice-requires : goal.judge_slice-requires

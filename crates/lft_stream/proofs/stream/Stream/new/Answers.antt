@@ -1,12 +1,8 @@
 use Rattle.std.proofs.Common.{None, [], refl, ap, ◌∙◌, subst}
 use Rattle.lft_tag.specs.declared.Tag.{Tag}
-use Rattle.lft_ir.specs.Parts.{Parts}
-use Rattle.lft_ir.specs.Steps.Inputs.{ExternalInputs}
-use Rattle.lft_queue.specs.Coming.Channels.{AreReadChannels}
-use Rattle.lft_queue.specs.Coming.Unread.{AreUnread}
-use Rattle.lft_stream.specs.StartTags.{AreStartTags}
-use Rattle.lft_queue.specs.Coming.Writes.{AreEarlier}
-use Rattle.lft_stream.proofs.Keeping.{begins_kept}
+use Rattle.lft_ir.specs.{Parts.Parts, Steps.Inputs.ExternalInputs}
+use Rattle.lft_queue.specs.Coming.{Channels.AreReadChannels, Unread.AreUnread, Writes.AreEarlier}
+use Rattle.lft_stream.{specs.StartTags.AreStartTags, proofs.Keeping.begins_kept}
 use Rattle.lft_stream.proofs.stream.Stream.new.Goals as goal
 
 pub returns : goal.returns

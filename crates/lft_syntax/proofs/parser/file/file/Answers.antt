@@ -1,11 +1,8 @@
 use Rattle.std.proofs.Common.{ℕ, length, subst, arith}
 use Rattle.std.specs.Prelude.{option_map}
 use Rattle.lft_tree.specs.View.{range_view}
-use Rattle.lft_syntax.specs.Language.{many}
+use Rattle.lft_syntax.{specs.{Language.many, Parsing.words}, proofs.{Loop.known, Files.right_maybe_target}}
 use Rattle.lft_syntax.specs.Placed as Placed
-use Rattle.lft_syntax.specs.Parsing.{words}
-use Rattle.lft_syntax.proofs.Loop.{known}
-use Rattle.lft_syntax.proofs.Files.{right_maybe_target}
 use Rattle.lft_syntax.proofs.parser.file.file.Goals as goal
 
 pub items-requires : goal.items-requires

@@ -1,11 +1,7 @@
 use Rattle.std.proofs.Common.{◌-◌, ◌≤◌, length}
-use Rattle.lft_syntax.specs.Lexeme.{is_there}
+use Rattle.lft_syntax.{specs.{Lexeme.is_there, Reading.{item_at, items_at}, Language.many, Parsing.words}, proofs.Loop.SoFar}
 use Rattle.lft_tree.specs.View.{item_views}
-use Rattle.lft_syntax.specs.Reading.{item_at, items_at}
-use Rattle.lft_syntax.specs.Language.{many}
 use Rattle.lft_syntax.specs.Placed as Placed
-use Rattle.lft_syntax.specs.Parsing.{words}
-use Rattle.lft_syntax.proofs.Loop.{SoFar}
 use Rattle.lft_syntax.proofs.parser.file.items.Given as goal
 
 abbrev pub invariant-list : goal.invariant-list

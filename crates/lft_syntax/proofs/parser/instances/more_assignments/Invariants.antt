@@ -1,12 +1,9 @@
 use Rattle.std.proofs.Common.{◌≡◌, ◌-◌, List, ◌∷◌, [], length}
 use Rattle.std.specs.Prelude.{map}
-use Rattle.lft_syntax.specs.Lexeme.{Symbol, is}
-use Rattle.lft_tree.specs.declared.tree.Assignment.{Assignment}
-use Rattle.lft_tree.specs.View.{assignment_view}
-use Rattle.lft_syntax.specs.Reading.{repeated, after_comma, assign_at, with_front}
-use Rattle.lft_syntax.specs.Placed.{TakeRow, AssignmentStands, assignment_tokens}
+use Rattle.lft_syntax.specs.{Lexeme.{Symbol, is}, Reading.{repeated, after_comma, assign_at, with_front}, Placed.{TakeRow, AssignmentStands, assignment_tokens}}
 use Rattle.lft_syntax.specs.Parsing.{words}
 use Rattle.lft_syntax.proofs.Loop.{SoFar}
+use Rattle.lft_tree.specs.{declared.tree.Assignment.Assignment, View.assignment_view}
 use Rattle.lft_syntax.proofs.parser.instances.more_assignments.Given as goal
 
 abbrev pub invariant-list : goal.invariant-list

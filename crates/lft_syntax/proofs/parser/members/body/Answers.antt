@@ -1,7 +1,6 @@
 use Rattle.std.proofs.Common.{ℕ, subst}
-use Rattle.lft_syntax.specs.Language.{many}
+use Rattle.lft_syntax.specs.{Language.many, Parsing.words}
 use Rattle.lft_syntax.specs.Placed as Placed
-use Rattle.lft_syntax.specs.Parsing.{words}
 use Rattle.lft_syntax.proofs.parser.members.body.Goals as goal
 
 pub returns-clause-stand : goal.returns-clause-stand

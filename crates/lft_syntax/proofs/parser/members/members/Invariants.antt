@@ -1,10 +1,7 @@
 use Rattle.std.proofs.Common.{◌-◌, ◌≤◌, length}
 use Rattle.lft_tree.specs.View.{member_views}
-use Rattle.lft_syntax.specs.Reading.{is_inside, member_at, members_at}
-use Rattle.lft_syntax.specs.Language.{many}
+use Rattle.lft_syntax.{specs.{Reading.{is_inside, member_at, members_at}, Language.many, Parsing.words}, proofs.Loop.SoFar}
 use Rattle.lft_syntax.specs.Placed as Placed
-use Rattle.lft_syntax.specs.Parsing.{words}
-use Rattle.lft_syntax.proofs.Loop.{SoFar}
 use Rattle.lft_syntax.proofs.parser.members.members.Given as goal
 
 abbrev pub invariant-list : goal.invariant-list

@@ -1,18 +1,11 @@
 use Rattle.std.proofs.Common.{◌≡◌, List, ◌++◌, ◌∷◌, [], refl, sym, ap, ◌∙◌, arith}
 use Rattle.std.specs.Prelude.{map}
-use Rattle.std.proofs.lemmas.Result.{err_from_is_err_and}
-use Rattle.std.proofs.lemmas.List.{map_push}
-use Rattle.lft_syntax.specs.Lexeme.{Symbol, is}
-use Rattle.lft_tree.specs.declared.tree.Trigger.{Trigger}
-use Rattle.lft_tree.specs.View.{trigger_view}
-use Rattle.lft_syntax.specs.Reading.{repeated, after_comma, trigger_at, with_front}
-use Rattle.lft_syntax.specs.Placed.{TriggerStands, trigger_tokens}
+use Rattle.std.proofs.lemmas.{Result.err_from_is_err_and, List.map_push}
+use Rattle.lft_syntax.specs.{Lexeme.{Symbol, is}, Reading.{repeated, after_comma, trigger_at, with_front}, Placed.{TriggerStands, trigger_tokens}}
 use Rattle.lft_syntax.specs.Parsing.{words}
-use Rattle.lft_syntax.proofs.Loop.{inside, loop_starts_behind, loop_fails, loop_turns, loop_done}
-use Rattle.lft_syntax.proofs.Rows.{row_push}
-use Rattle.lft_syntax.proofs.Rules.{near_looks}
-use Rattle.lft_syntax.proofs.Lists.{right_after_comma}
+use Rattle.lft_syntax.proofs.{Loop.{inside, loop_starts_behind, loop_fails, loop_turns, loop_done}, Rows.row_push, Rules.near_looks, Lists.right_after_comma}
 use Rattle.lft_syntax.proofs.Reactions.{right_trigger}
+use Rattle.lft_tree.specs.{declared.tree.Trigger.Trigger, View.trigger_view}
 use Rattle.lft_syntax.proofs.parser.reactions.more_triggers.Goals as goal
 
 pub list-init : goal.list-init

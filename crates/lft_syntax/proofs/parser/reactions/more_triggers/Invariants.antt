@@ -1,12 +1,9 @@
 use Rattle.std.proofs.Common.{◌≡◌, ℕ, ◌-◌, List, ◌∷◌, [], length}
 use Rattle.std.specs.Prelude.{map}
-use Rattle.lft_syntax.specs.Lexeme.{Symbol, is}
-use Rattle.lft_tree.specs.declared.tree.Trigger.{Trigger}
-use Rattle.lft_tree.specs.View.{trigger_view}
-use Rattle.lft_syntax.specs.Reading.{repeated, after_comma, trigger_at, with_front}
-use Rattle.lft_syntax.specs.Placed.{Takes, TakeRow, TriggerStands, trigger_tokens}
-use Rattle.lft_syntax.specs.Parsing.{words}
+use Rattle.lft_syntax.specs.{Lexeme.{Symbol, is}, Reading.{repeated, after_comma, trigger_at, with_front}}
+use Rattle.lft_syntax.specs.{Placed.{Takes, TakeRow, TriggerStands, trigger_tokens}, Parsing.words}
 use Rattle.lft_syntax.proofs.Loop.{SoFar}
+use Rattle.lft_tree.specs.{declared.tree.Trigger.Trigger, View.trigger_view}
 use Rattle.lft_syntax.proofs.parser.reactions.more_triggers.Given as goal
 
 abbrev pub invariant-list : goal.invariant-list

@@ -1,7 +1,6 @@
 use Rattle.std.proofs.Common.{◌≡◌, ℕ, ◌+◌, List, Option, Some, None, true, refl, sym, subst, ap, ◌∙◌, arith}
 use Rattle.std.specs.Prelude.{option_map, string_bytes}
-use Rattle.lft_syntax.specs.Lexeme.{Lexeme}
-use Rattle.lft_syntax.specs.Placed.{BodyStands, HeadStands, MainNameStands, ParametersStand, past_head, past_parameters, place_or}
+use Rattle.lft_syntax.specs.{Lexeme.Lexeme, Placed.{BodyStands, HeadStands, MainNameStands, ParametersStand, past_head, past_parameters, place_or}}
 use Rattle.lft_syntax.specs.Parsing.{words}
 use Rattle.lft_syntax.proofs.parser.reactors.main_reactor.Goals as goal
 

@@ -1,12 +1,9 @@
 use Rattle.std.proofs.Common.{◌≡◌, ◌-◌, List, ◌∷◌, [], length}
 use Rattle.std.specs.Prelude.{map}
-use Rattle.lft_syntax.specs.Lexeme.{Symbol, is}
-use Rattle.lft_tree.specs.declared.tree.Parameter.{Parameter}
-use Rattle.lft_tree.specs.View.{parameter_view}
-use Rattle.lft_syntax.specs.Reading.{repeated, after_comma, param_at, with_front}
-use Rattle.lft_syntax.specs.Placed.{TakeRow, ParameterStands, parameter_tokens}
+use Rattle.lft_syntax.specs.{Lexeme.{Symbol, is}, Reading.{repeated, after_comma, param_at, with_front}, Placed.{TakeRow, ParameterStands, parameter_tokens}}
 use Rattle.lft_syntax.specs.Parsing.{words}
 use Rattle.lft_syntax.proofs.Loop.{SoFar}
+use Rattle.lft_tree.specs.{declared.tree.Parameter.Parameter, View.parameter_view}
 use Rattle.lft_syntax.proofs.parser.reactors.more_parameters.Given as goal
 
 abbrev pub invariant-list : goal.invariant-list

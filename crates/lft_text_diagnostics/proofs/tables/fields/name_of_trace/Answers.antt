@@ -1,9 +1,7 @@
 use Rattle.std.proofs.Common.{rules, refl, ap, subst, ◌∙◌, ⊎_elim, IfSome}
-use Rattle.lft_ir.specs.Names.{IsNamed}
-use Rattle.lft_ir.specs.declared.found.Found.TheVariants.{Reaction}
+use Rattle.lft_ir.specs.{Names.IsNamed, declared.found.Found.TheVariants.Reaction}
 use Rattle.lft_trace.specs.Traces.{IsThing, in_order}
-use Rattle.lft_text_diagnostics.specs.Tables.Tables.{field_at}
-use Rattle.lft_text_diagnostics.proofs.TablesLemmas.Failing.{there, found_none}
+use Rattle.lft_text_diagnostics.{specs.Tables.Tables.field_at, proofs.TablesLemmas.Failing.{there, found_none}}
 use Rattle.lft_text_diagnostics.proofs.tables.fields.name_of_trace.Goals as goal
 
 pub returns-then-is_some-clause-none : goal.returns-then-is_some-clause-none

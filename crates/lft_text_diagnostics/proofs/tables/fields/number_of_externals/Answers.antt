@@ -1,8 +1,6 @@
 use Rattle.std.proofs.Common.{rules, refl, ap, sym, ◌∙◌}
-use Rattle.lft_trace.specs.Numbers.{number, value}
-use Rattle.lft_trace.specs.ExternalTables.{in_order}
-use Rattle.lft_text_diagnostics.specs.Tables.Tables.{field_at}
-use Rattle.lft_text_diagnostics.proofs.TablesLemmas.Failing.{there, was_read}
+use Rattle.lft_trace.specs.{Numbers.{number, value}, ExternalTables.in_order}
+use Rattle.lft_text_diagnostics.{specs.Tables.Tables.field_at, proofs.TablesLemmas.Failing.{there, was_read}}
 use Rattle.lft_text_diagnostics.proofs.tables.fields.number_of_externals.Goals as goal
 
 pub returns-clause-none : goal.returns-clause-none

@@ -1,8 +1,6 @@
 use Rattle.std.proofs.Common.{rules, ◌≡◌, ◌&&◌, ◌||◌, not, Bool, true, false, refl, sym, ap, ◌∙◌}
-use Rattle.lft_trace.specs.Numbers.{number, number_or_zero, value}
-use Rattle.lft_trace.specs.Traces.{has_numbers, in_order}
-use Rattle.lft_text_diagnostics.specs.Tables.Tables.{field_at}
-use Rattle.lft_text_diagnostics.proofs.TablesLemmas.Failing.{there, was_read}
+use Rattle.lft_trace.specs.{Numbers.{number, number_or_zero, value}, Traces.{has_numbers, in_order}}
+use Rattle.lft_text_diagnostics.{specs.Tables.Tables.field_at, proofs.TablesLemmas.Failing.{there, was_read}}
 use Rattle.lft_text_diagnostics.proofs.tables.fields.number_of_trace.Goals as goal
 
 -- a row whose fields are all numbers has its numbers, whichever it has to have

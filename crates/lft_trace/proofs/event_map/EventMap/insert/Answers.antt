@@ -1,16 +1,10 @@
 use Rattle.std.proofs.Common.{rules, ◌≡◌, ◌∙◌, ◌<◌, ◌++◌, ◌∷◌, [], List, map, length, append-nil, append_assoc, ap, arith, refl, subst, sym}
-use Rattle.std.specs.List.Sorted.{IsPermutation}
-use Rattle.std.proofs.lemmas.List.Sorted.{IsPermutation-cons, IsPermutation-middle, IsPermutation-sym, IsPermutation-trans}
-use Rattle.lft_ir.specs.declared.parts.Value.{Value}
-use Rattle.lft_ir.specs.Steps.Inputs.{ComesBefore}
-use Rattle.lft_ir.specs.declared.steps.externals.Event.{Event}
-use Rattle.lft_trace.specs.ExternalTables.{Has}
-use Rattle.lft_trace.specs.Keys.{event_at}
-use Rattle.lft_trace.proofs.EventFacts.{Key}
-use Rattle.lft_trace.proofs.EventLists.{in_order_push, no_clash}
-use Rattle.lft_trace.proofs.Members.{has_permuted, has_permuted_back}
-use Rattle.lft_trace.proofs.event_map.EventMap.insert.Goals as goal
+use Rattle.std.{specs.List.Sorted.IsPermutation, proofs.lemmas.List.Sorted.{IsPermutation-cons, IsPermutation-middle, IsPermutation-sym, IsPermutation-trans}}
+use Rattle.lft_ir.specs.{declared.{parts.Value.Value, steps.externals.Event.Event}, Steps.Inputs.ComesBefore}
+use Rattle.lft_trace.specs.{ExternalTables.Has, Keys.event_at}
+use Rattle.lft_trace.proofs.{EventFacts.Key, EventLists.{in_order_push, no_clash}, Members.{has_permuted, has_permuted_back}}
 use Rattle.lft_trace.proofs.event_map.EventMap.insert.Goals.{In_ok-values}
+use Rattle.lft_trace.proofs.event_map.EventMap.insert.Goals as goal
 
 no_entries : (es : List (Key × Value)) → length es ≡ 0 → map event_at es ≡ []
 no_entries [] none = refl

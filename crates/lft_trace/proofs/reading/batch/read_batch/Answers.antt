@@ -1,8 +1,5 @@
 use Rattle.std.proofs.Common.{◌≤◌, ◌∷◌, length, refl, arith}
-use Rattle.lft_trace.specs.Records.{records_of}
-use Rattle.lft_trace.specs.Traces.{header}
-use Rattle.lft_trace.proofs.TraceFacts.{table_fits}
-use Rattle.lft_trace.proofs.Beginning.{begins_lines}
+use Rattle.lft_trace.{specs.{Records.records_of, Traces.header}, proofs.{TraceFacts.table_fits, Beginning.begins_lines}}
 use Rattle.lft_trace.proofs.reading.batch.read_batch.Goals as goal
 
 pub returns-clause-rows : goal.returns-clause-rows

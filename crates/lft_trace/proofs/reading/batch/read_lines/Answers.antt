@@ -1,10 +1,7 @@
 use Rattle.std.proofs.Common.{◌∷◌, length, refl, subst, ◌≤◌, Vec, List}
 use Rattle.std.specs.declared.alloc.Global.{Global}
-use Rattle.lft_trace.specs.Records.{records_of}
-use Rattle.lft_trace.specs.Traces.{header}
+use Rattle.lft_trace.{specs.{Records.records_of, Traces.header, Parts.rows_of}, proofs.TraceFacts.table_fits}
 use Rattle.lft_ir.specs.declared.steps.row.Row.{Row}
-use Rattle.lft_trace.proofs.TraceFacts.{table_fits}
-use Rattle.lft_trace.specs.Parts.{rows_of}
 use Rattle.lft_trace.proofs.reading.batch.read_lines.Goals as goal
 
 pub returns-clause-fit : goal.returns-clause-fit

@@ -1,6 +1,5 @@
 use Rattle.std.proofs.Common.{rules, ◌∙◌, ◌<◌, ◌≤◌, ◌++◌, ◌∷◌, [], ℕ, List, ap, arith, get_or, length, sym}
-use Rattle.std.proofs.Math.ListN.{length-set}
-use Rattle.std.proofs.lemmas.List.{take_more, take_more_set}
+use Rattle.std.proofs.{Math.ListN.length-set, lemmas.List.{take_more, take_more_set}}
 use Rattle.lft_trace.proofs.short_name.ShortName.of.Goals as goal
 
 pub loop-at-preserved : goal.loop-at-preserved

@@ -1,7 +1,7 @@
 use Rattle.std.proofs.Common.{Some, ap, arith}
 use Rattle.lft_whole.proofs.Between.{token_there}
-use Rattle.lft_whole.proofs.parts.tokens.peek.Goals as goal
 use Rattle.lft_whole.proofs.parts.tokens.peek.Goals.{in-Code, in-Text, in-Name, in-Number, in-Decimal, in-Arrow, in-TildeArrow, in-Symbol}
+use Rattle.lft_whole.proofs.parts.tokens.peek.Goals as goal
 
 pub slice_bounds-result-count : goal.slice_bounds-result-count
 slice_bounds-result-count c =

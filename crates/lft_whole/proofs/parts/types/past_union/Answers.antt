@@ -1,10 +1,8 @@
 use Rattle.std.proofs.Common.{Ok, refl, sym, ◌∙◌, arith}
 use Rattle.std.proofs.lemmas.Result.{err_from_is_err_and}
-use Rattle.lft_whole.specs.Parts.Language.{ignored, sign, symbol, ◌>>◌}
-use Rattle.lft_whole.specs.Parts.Parts as Parts
-use Rattle.lft_whole.specs.Parts.Parts.{union}
-use Rattle.lft_whole.specs.Parts.Parsing.{source}
+use Rattle.lft_whole.specs.Parts.{Language.{ignored, sign, symbol, ◌>>◌}, Parts.union, Parsing.source}
 use Rattle.lft_whole.proofs.PartsLemmas.Loop.{bind_fails, loop_opens, loop_turns, loop_fails, loop_done}
+use Rattle.lft_whole.specs.Parts.Parts as Parts
 use Rattle.lft_whole.proofs.parts.types.past_union.Goals as goal
 
 pub types-init : goal.types-init

@@ -1,8 +1,6 @@
 use Rattle.std.proofs.Common.{◌-◌, Ok}
-use Rattle.lft_whole.specs.Parts.Language.{ignored, sign, symbol, ◌>>◌}
+use Rattle.lft_whole.{specs.Parts.{Language.{ignored, sign, symbol, ◌>>◌}, Parsing.{count, NotBefore, source}}, proofs.PartsLemmas.Loop.Loop}
 use Rattle.lft_whole.specs.Parts.Parts as Parts
-use Rattle.lft_whole.specs.Parts.Parsing.{count, NotBefore, source}
-use Rattle.lft_whole.proofs.PartsLemmas.Loop.{Loop}
 use Rattle.lft_whole.proofs.parts.types.past_union.Given as goal
 
 abbrev pub invariant-types : goal.invariant-types

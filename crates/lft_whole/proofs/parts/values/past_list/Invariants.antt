@@ -1,8 +1,6 @@
 use Rattle.std.proofs.Common.{◌-◌}
-use Rattle.lft_whole.specs.Parts.Language.{ignored, sign, isnt, symbol}
+use Rattle.lft_whole.{specs.Parts.{Language.{ignored, sign, isnt, symbol}, Parsing.{count, NotBefore, source}}, proofs.PartsLemmas.Loop.Loop}
 use Rattle.lft_whole.specs.Parts.Parts as Parts
-use Rattle.lft_whole.specs.Parts.Parsing.{count, NotBefore, source}
-use Rattle.lft_whole.proofs.PartsLemmas.Loop.{Loop}
 use Rattle.lft_whole.proofs.parts.values.past_list.Given as goal
 
 abbrev pub invariant-values : goal.invariant-values

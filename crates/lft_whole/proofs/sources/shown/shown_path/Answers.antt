@@ -1,10 +1,6 @@
 use Rattle.std.proofs.Common.{◌≡◌, ◌<◌, ℕ, List, [], ◌∷◌, ◌++◌, map, ap, sym, ◌∙◌, arith, string_bytes}
 use Rattle.std.specs.Char.{encode_utf8}
-use Rattle.std.proofs.lemmas.Bool.Decides.{nat_tests}
-use Rattle.std.proofs.lemmas.Iterator.{YieldsList-from_chars}
-use Rattle.std.proofs.lemmas.Iterator.Consumers.{YieldsList-end}
-use Rattle.std.proofs.lemmas.List.{map-append, map-id}
-use Rattle.std.proofs.lemmas.Str.{encode_ascii}
+use Rattle.std.proofs.lemmas.{Bool.Decides.nat_tests, Iterator.{YieldsList-from_chars, Consumers.YieldsList-end}, List.{map-append, map-id}, Str.encode_ascii}
 use Rattle.lft_whole.specs.Sources.Shown.{shown}
 use Rattle.lft_whole.proofs.sources.shown.shown_path.Goals as goal
 

@@ -1,6 +1,5 @@
 use Rattle.std.proofs.Common.{◌++◌, subst, sym}
-use Rattle.std.proofs.lemmas.List.Elements.{All-append, All-same}
-use Rattle.std.specs.List.{All}
+use Rattle.std.{proofs.lemmas.List.Elements.{All-append, All-same}, specs.List.All}
 use Rattle.lft_whole_driver.specs.Could.{CanStand}
 use Rattle.lft_whole_driver.proofs.could.Front.find_keys.Goals as goal
 

@@ -1,10 +1,8 @@
 use Rattle.std.proofs.Common.{◌≡◌, ℕ, ◌+◌, ◌<◌, List, [], ◌∷◌, ◌++◌, Bool, Some, length, length-take, take, map, get_or, sym, ap, ◌∙◌, append_assoc, arith}
 use Rattle.std.specs.Prelude.{slice_get}
-use Rattle.std.proofs.lemmas.List.{length-map, take_more}
-use Rattle.std.proofs.lemmas.Option.{get_or_from_slice_get, slice_get-get_or}
+use Rattle.std.proofs.lemmas.{List.{length-map, take_more}, Option.{get_or_from_slice_get, slice_get-get_or}}
 use Rattle.lft_lists.proofs.Mapped.{mapped}
-use Rattle.lft_whole_parser.specs.Imports.Paths.{joined}
-use Rattle.lft_whole_parser.proofs.ImportsLemmas.Walks.{joined_more}
+use Rattle.lft_whole_parser.{specs.Imports.Paths.joined, proofs.ImportsLemmas.Walks.joined_more}
 use Rattle.lft_whole_parser.proofs.imports.paths.joined.Goals as goal
 
 -- one folder more

@@ -1,8 +1,7 @@
 use Rattle.std.proofs.Common.{◌≡◌, ℕ, ◌-◌, Bool, List, [], ◌∷◌, Bor, take, map, length, sym, ap, ◌∙◌}
 use Rattle.std.specs.Prelude.{slice_get}
 use Rattle.std.proofs.lemmas.List.{map-append, take-map, length-map}
-use Rattle.lft_whole_parser.specs.Imports.Paths.{is_folder}
-use Rattle.lft_whole_parser.proofs.ImportsLemmas.Walks.{back_off, back_root, back_kept}
+use Rattle.lft_whole_parser.{specs.Imports.Paths.is_folder, proofs.ImportsLemmas.Walks.{back_off, back_root, back_kept}}
 use Rattle.lft_whole_parser.proofs.imports.paths.push_back.Goals as goal
 
 folder_is : (b : Bool) (xs ys : List (Bor (List ℕ))) → xs ≡ ys → b ≡ is_folder (slice_get (map (λ x. x.now) xs) (length xs - 1)) → is_folder (slice_get (map (λ x. x.now) ys) (length (map (λ x. x.now) ys) - 1)) ≡ b

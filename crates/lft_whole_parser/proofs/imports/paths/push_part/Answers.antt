@@ -1,6 +1,5 @@
 use Rattle.std.proofs.Common.{[], ◌∷◌, map, sym, ap, ◌∙◌}
-use Rattle.std.proofs.lemmas.List.{map-append}
-use Rattle.std.proofs.lemmas.Result.{on_ok_weaker}
+use Rattle.std.proofs.lemmas.{List.map-append, Result.on_ok_weaker}
 use Rattle.lft_whole_parser.proofs.ImportsLemmas.Walks.{step_stays, step_back, step_on}
 use Rattle.lft_whole_parser.proofs.imports.paths.push_part.Goals as goal
 

@@ -1,9 +1,5 @@
 use Rattle.std.proofs.Common.{[], ◌∷◌, map, sym, ap, ◌∙◌, lit<}
-use Rattle.std.specs.List.{fold}
-use Rattle.std.proofs.lemmas.List.{map-append}
-use Rattle.std.proofs.lemmas.List.Sums.{fold-append}
-use Rattle.std.proofs.lemmas.Iterator.Consumers.{YieldsList-end}
-use Rattle.std.proofs.lemmas.Iterator.Splits.{YieldsList-from_str_split}
+use Rattle.std.{specs.List.fold, proofs.lemmas.{List.{map-append, Sums.fold-append}, Iterator.{Consumers.YieldsList-end, Splits.YieldsList-from_str_split}}}
 use Rattle.lft_whole_parser.specs.Imports.Paths.{step}
 use Rattle.lft_whole_parser.proofs.imports.paths.push_parts.Goals as goal
 

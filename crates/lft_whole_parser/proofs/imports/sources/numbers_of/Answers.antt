@@ -1,6 +1,5 @@
 use Rattle.std.proofs.Common.{IfErr, IfOk, OnOk, subst}
-use Rattle.lft_whole_parser.specs.Imports.Files.{Adds, AreNumbered, IsAskedBy, IsUnread, paths_of}
-use Rattle.lft_whole_parser.proofs.ImportsLemmas.Telling.{unread_is_refusal}
+use Rattle.lft_whole_parser.{specs.Imports.Files.{Adds, AreNumbered, IsAskedBy, IsUnread, paths_of}, proofs.ImportsLemmas.Telling.unread_is_refusal}
 use Rattle.lft_whole_parser.proofs.imports.sources.numbers_of.Goals as goal
 
 pub returns-in-None-clause-numbers : goal.returns-in-None-clause-numbers

@@ -1,7 +1,6 @@
 use Rattle.std.proofs.Common.{◌≡◌, ◌≤◌, drop, length}
 use Rattle.lft_whole.specs.Tokens.{StandBetween}
-use Rattle.lft_whole_parser.specs.Imports.Places.{IsSpot}
-use Rattle.lft_whole_parser.proofs.ImportsLemmas.Columns.{SoFar}
+use Rattle.lft_whole_parser.{specs.Imports.Places.IsSpot, proofs.ImportsLemmas.Columns.SoFar}
 use Rattle.lft_whole_parser.proofs.imports.spots.spots.Given as goal
 
 abbrev pub invariant-loop-place : goal.invariant-loop-place

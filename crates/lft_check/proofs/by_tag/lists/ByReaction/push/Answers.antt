@@ -1,6 +1,5 @@
 use Rattle.std.proofs.Common.{◌++◌, ◌∷◌, [], ap, ◌∙◌, slice_get, slice_set}
-use Rattle.std.proofs.lemmas.List.{map-set}
-use Rattle.std.proofs.lemmas.Option.{get_or_from_slice_get}
+use Rattle.std.proofs.lemmas.{List.map-set, Option.get_or_from_slice_get}
 use Rattle.lft_lists.proofs.Mapped.{mapped_from}
 use Rattle.lft_check.proofs.by_tag.lists.ByReaction.push.Goals as goal
 

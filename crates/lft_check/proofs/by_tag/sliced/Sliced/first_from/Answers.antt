@@ -1,7 +1,6 @@
 use Rattle.std.proofs.Common.{◌≡◌, ◌+◌, ℕ, length, refl, ap, subst, sym, Some, slice_get}
 use Rattle.lft_tag.specs.Shifts.{Folded}
-use Rattle.lft_ir.specs.Parts.{Parts}
-use Rattle.lft_ir.specs.declared.parts.Name.{Name}
+use Rattle.lft_ir.specs.{Parts.Parts, declared.parts.Name.Name}
 use Rattle.lft_rows.proofs.PresenceLemmas.Presences.{IsKey}
 use Rattle.lft_check.proofs.ByTagLemmas.Absent.{absent_by}
 use Rattle.lft_check.proofs.by_tag.sliced.Sliced.first_from.Goals as goal

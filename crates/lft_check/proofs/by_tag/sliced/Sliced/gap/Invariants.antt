@@ -1,5 +1,4 @@
-use Rattle.lft_check.specs.ByTag.Slices.{IsVacant}
-use Rattle.lft_check.proofs.ByTagLemmas.Missed.{FirstBelow}
+use Rattle.lft_check.{specs.ByTag.Slices.IsVacant, proofs.ByTagLemmas.Missed.FirstBelow}
 use Rattle.lft_check.proofs.by_tag.sliced.Sliced.gap.Given as goal
 
 abbrev pub invariant-loop-reaction : goal.invariant-loop-reaction

@@ -1,18 +1,13 @@
 use Rattle.std.proofs.Common.{◌≡◌, ◌⊎◌, ℕ, ◌+◌, ◌*◌, ◌/◌, ◌<◌, List, refl, subst, sym, ap, ◌∙◌, arith, Some, length, slice_get, inl, inr}
 use Rattle.std.proofs.lemmas.Option.{slice_get_read}
-use Rattle.lft_ir.specs.Parts.{Parts, inputs}
-use Rattle.lft_ir.specs.declared.parts.Name.{Name}
-use Rattle.lft_ir.specs.declared.parts.Reaction.{Reaction}
+use Rattle.lft_ir.specs.{Parts.{Parts, inputs}, declared.parts.{Name.Name, Reaction.Reaction}}
 use Rattle.lft_tag.proofs.Order.{UpTo-refl}
 use Rattle.lft_lists.proofs.Places.{same_some}
 use Rattle.lft_model.proofs.Places.{slice_get_within}
 use Rattle.lft_rows.specs.Marks.{HasSeat}
-use Rattle.lft_check.specs.declared.by_tag.absences.Absences.{Absences}
-use Rattle.lft_check.specs.ByTag.Absences.{IsAbsentUntil}
-use Rattle.lft_check.proofs.ByTagLemmas.RightReads.{input_at}
-use Rattle.lft_check.proofs.ByTagLemmas.Absent.{absences_put, in_block}
+use Rattle.lft_check.specs.{declared.by_tag.absences.Absences.Absences, ByTag.Absences.IsAbsentUntil}
+use Rattle.lft_check.proofs.{ByTagLemmas.{RightReads.input_at, Absent.{absences_put, in_block}}, by_tag.sliced.Sliced.is_quiet.Goals.After-is_earlier}
 use Rattle.lft_check.proofs.by_tag.sliced.Sliced.is_quiet.Goals as goal
-use Rattle.lft_check.proofs.by_tag.sliced.Sliced.is_quiet.Goals.{After-is_earlier}
 
 pub returns-then-has-clause-quiet : goal.returns-then-has-clause-quiet
 returns-then-has-clause-quiet c y x n k e seat d =

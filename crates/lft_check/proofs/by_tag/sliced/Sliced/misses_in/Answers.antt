@@ -1,10 +1,8 @@
 use Rattle.std.proofs.Common.{◌≡◌, ◌⊎◌, inl, inr, ◌+◌, ◌<◌, ℕ, List, Some, slice_get, ap, subst, ◌∙◌, arith}
 use Rattle.std.proofs.lemmas.Bool.{cases_eq, false≢true}
-use Rattle.lft_ir.specs.Parts.{Parts, inputs}
-use Rattle.lft_ir.specs.declared.parts.Name.{Name}
+use Rattle.lft_ir.specs.{Parts.{Parts, inputs}, declared.parts.Name.Name}
 use Rattle.lft_lists.proofs.Places.{same_at, same_some}
-use Rattle.lft_check.specs.ByTag.Reads.{IsMissed}
-use Rattle.lft_check.proofs.ByTagLemmas.RightReads.{input_at}
+use Rattle.lft_check.{specs.ByTag.Reads.IsMissed, proofs.ByTagLemmas.RightReads.input_at}
 use Rattle.lft_check.proofs.by_tag.sliced.Sliced.misses_in.Goals as goal
 
 pub misses-requires-clause-name : goal.misses-requires-clause-name

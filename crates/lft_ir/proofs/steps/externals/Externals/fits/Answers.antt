@@ -2,9 +2,7 @@ use Rattle.std.proofs.Common.{rules, arith, ◌≡◌, ◌∙◌, ◌≤◌, ℕ
 use Rattle.std.proofs.lemmas.Option.{slice_get_read, slice_get_within}
 use borrow.Author.Count.{below_more}
 use Rattle.lft_tag.specs.Tags.{IsRecorded}
-use Rattle.lft_ir.specs.Steps.Fits.{EventFits}
-use Rattle.lft_ir.specs.Steps.Inputs.{ExternalInputs}
-use Rattle.lft_ir.specs.declared.steps.externals.Event.{Event}
+use Rattle.lft_ir.specs.{Steps.{Fits.EventFits, Inputs.ExternalInputs}, declared.steps.externals.Event.Event}
 use Rattle.lft_ir.proofs.steps.externals.Externals.fits.Goals as goal
 
 pub loop-at-preserved : goal.loop-at-preserved

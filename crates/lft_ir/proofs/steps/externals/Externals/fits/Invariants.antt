@@ -1,6 +1,5 @@
 use Rattle.std.proofs.Common.{◌≡◌, ◌<◌, ℕ, Some, slice_get}
-use Rattle.lft_ir.specs.Steps.Fits.{EventFits}
-use Rattle.lft_ir.specs.declared.steps.externals.Event.{Event}
+use Rattle.lft_ir.specs.{Steps.Fits.EventFits, declared.steps.externals.Event.Event}
 use Rattle.lft_ir.proofs.steps.externals.Externals.fits.Given as goal
 
 abbrev pub invariant-loop-at : goal.invariant-loop-at

@@ -1,8 +1,6 @@
 use Rattle.std.proofs.Common.{List, is_ok, subst}
-use Rattle.lft_ir.specs.Steps.Inputs.{BelongsAt}
-use Rattle.lft_ir.specs.declared.steps.externals.Event.{Event}
+use Rattle.lft_ir.{specs.{Steps.Inputs.BelongsAt, declared.steps.externals.Event.Event}, proofs.StepsLemmas.Placing.in_order-inserted}
 use Rattle.lft_ir.proofs.steps.externals.Externals.tell.Goals as goal
-use Rattle.lft_ir.proofs.StepsLemmas.Placing.{in_order-inserted}
 
 pub invariant_of-self : goal.invariant_of-self
 invariant_of-self c =

@@ -1,5 +1,4 @@
-use Rattle.lft_lower.specs.Meanings.Names.{texts}
-use Rattle.lft_lower.proofs.MeaningsLemmas.Apart.{AreNone}
+use Rattle.lft_lower.{specs.Meanings.Names.texts, proofs.MeaningsLemmas.Apart.AreNone}
 use Rattle.lft_lower.proofs.meanings.naming.CoreNames.of.Given as goal
 
 abbrev pub invariant-loop : goal.invariant-loop

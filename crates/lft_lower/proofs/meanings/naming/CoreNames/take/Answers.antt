@@ -1,7 +1,5 @@
 use Rattle.std.proofs.Common.{cond, true, ap, ◌∙◌, string_bytes}
-use Rattle.std.specs.BTreeSet.{contains_text}
-use Rattle.std.specs.Str.{bytes_eq}
-use Rattle.std.proofs.lemmas.Map.Text.{btree_set_updates_text}
+use Rattle.std.{specs.{BTreeSet.contains_text, Str.bytes_eq}, proofs.lemmas.Map.Text.btree_set_updates_text}
 use Rattle.lft_lower.proofs.meanings.naming.CoreNames.take.Goals as goal
 
 pub returns-clause-taken : goal.returns-clause-taken

@@ -1,7 +1,5 @@
 use Rattle.std.proofs.Common.{◌∙◌, ap, bytes_eq, cond, inl, inr, map, refl, rules, string_bytes, true}
-use Rattle.std.proofs.lemmas.List.{map_push}
-use Rattle.std.proofs.lemmas.Map.Text.{btree_set_updates_text}
-use Rattle.std.specs.BTreeSet.{contains_text}
+use Rattle.std.{proofs.lemmas.{List.map_push, Map.Text.btree_set_updates_text}, specs.BTreeSet.contains_text}
 use Rattle.lft_lower.proofs.meanings.notes.Notes.say.Goals as goal
 
 pub returns-in_ok-push : goal.returns-in_ok-push

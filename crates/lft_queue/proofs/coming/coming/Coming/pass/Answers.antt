@@ -1,11 +1,8 @@
 use Rattle.std.proofs.Common.{◌≡◌, ◌<◌, ◌⊎◌, inl, inr, List, [], length, refl, sym, subst, rules}
-use Rattle.std.specs.List.{filter}
-use Rattle.std.proofs.lemmas.Bool.{false≢true}
-use Rattle.lft_tag.specs.Tags.{Before, UpTo}
-use Rattle.lft_tag.proofs.Order.{order_cases, UpTo-trans}
+use Rattle.std.{specs.List.filter, proofs.lemmas.Bool.false≢true}
+use Rattle.lft_tag.{specs.Tags.{Before, UpTo}, proofs.Order.{order_cases, UpTo-trans}}
 use Rattle.lft_lists.proofs.Members.{Mem, mem_contains, contains_mem}
-use Rattle.lft_queue.specs.Pending.{Pending, is_after}
-use Rattle.lft_queue.proofs.ComingLemmas.ToCome.{OnTheWay, none_passed, all_passed, one_passed, dropped_fewer}
+use Rattle.lft_queue.{specs.Pending.{Pending, is_after}, proofs.ComingLemmas.ToCome.{OnTheWay, none_passed, all_passed, one_passed, dropped_fewer}}
 use Rattle.lft_queue.proofs.coming.coming.Coming.pass.Goals as goal
 
 pub loop-first-init : goal.loop-first-init

@@ -1,15 +1,9 @@
 use Rattle.std.proofs.Common.{◌≡◌, inl, inr, ℕ, List, length, Contains, slice_get, filter_map, sym, ap, ◌∙◌, subst, arith}
 use Rattle.std.proofs.lemmas.Bool.{cases_eq}
-use Rattle.lft_ir.specs.Naming.{named}
-use Rattle.lft_ir.specs.Parts.{Parts}
-use Rattle.lft_ir.specs.declared.parts.Name.{Name}
-use Rattle.lft_ir.specs.declared.parts.Reaction.{Reaction}
-use Rattle.lft_ir.proofs.Naming.{input_known}
-use Rattle.lft_lists.proofs.Members.{Mem, mem_get, mem_left}
-use Rattle.lft_lists.proofs.Places.{same_at}
+use Rattle.lft_ir.{specs.{Naming.named, Parts.Parts, declared.parts.{Name.Name, Reaction.Reaction}}, proofs.Naming.input_known}
+use Rattle.lft_lists.proofs.{Members.{Mem, mem_get, mem_left}, Places.same_at}
 use Rattle.lft_model.proofs.Places.{slice_get_within}
-use Rattle.lft_queue.specs.Coming.Listeners.{heard_at, IsListed}
-use Rattle.lft_queue.proofs.ComingLemmas.AtOnce.{both_there, listeners_of}
+use Rattle.lft_queue.{specs.Coming.Listeners.{heard_at, IsListed}, proofs.ComingLemmas.AtOnce.{both_there, listeners_of}}
 use Rattle.lft_queue.proofs.coming.listeners.Listeners.new.Goals as goal
 
 pub add-requires-clause-names : goal.add-requires-clause-names

@@ -1,6 +1,5 @@
 use Rattle.std.proofs.Common.{◌≡◌, map, length, Some, None, sym, ap, ◌∙◌, arith, slice_get}
-use Rattle.std.proofs.lemmas.Option.{slice_get-get_or, slice_get_past}
-use Rattle.std.proofs.lemmas.List.{length-map}
+use Rattle.std.proofs.lemmas.{Option.{slice_get-get_or, slice_get_past}, List.length-map}
 use Rattle.lft_lists.proofs.Mapped.{mapped}
 use Rattle.lft_queue.proofs.coming.number_lists.NumberLists.get.Goals as goal
 

@@ -1,13 +1,10 @@
 use Rattle.std.proofs.Common.{◌≡◌, ◌+◌, ◌∷◌, ◌++◌, [], ℕ, List, Some, take, refl, sym, ap, ◌∙◌, subst, arith, append_assoc, slice_get}
-use Rattle.std.proofs.lemmas.List.{append-nil, take_all}
-use Rattle.std.proofs.lemmas.Option.{get_or_from_slice_get}
-use Rattle.lft_tag.specs.declared.Tag.{Tag}
-use Rattle.lft_tag.specs.Tags.{UpTo}
+use Rattle.std.proofs.lemmas.{List.{append-nil, take_all}, Option.get_or_from_slice_get}
+use Rattle.lft_tag.specs.{declared.Tag.Tag, Tags.UpTo}
 use Rattle.lft_lists.proofs.Picked.{take_one_more}
 use Rattle.lft_ir.specs.declared.steps.row.Row.{Row}
 use Rattle.lft_model.proofs.Places.{slice_get_take}
-use Rattle.lft_queue.specs.Coming.Coming.{IsClear}
-use Rattle.lft_queue.specs.Coming.Unread.{UnreadParts, AreUnread, AreFree}
+use Rattle.lft_queue.specs.Coming.{Coming.IsClear, Unread.{UnreadParts, AreUnread, AreFree}}
 use Rattle.lft_queue.proofs.ComingLemmas.Meeting.{all_up_to, unread_nothing, free_all, free_none, free_more}
 use Rattle.lft_queue.proofs.coming.unread.Unread.pass_all.Goals as goal
 

@@ -1,10 +1,7 @@
 use Rattle.std.proofs.Common.{arith, get_or, pos}
-use Rattle.std.specs.Int.{cast_signed, cast_unsigned, w64}
-use Rattle.std.proofs.lemmas.Int.{SFits-int_wrap}
-use Rattle.std.proofs.lemmas.Option.{slice_get-get_or}
-use Rattle.lft_record.specs.Expressions.{term_value}
+use Rattle.std.{specs.Int.{cast_signed, cast_unsigned, w64}, proofs.lemmas.{Int.SFits-int_wrap, Option.slice_get-get_or}}
+use Rattle.lft_record.{specs.Expressions.term_value, proofs.Sums.sum_next}
 use Rattle.lft_record.specs.declared.cards.expression.Term.TheVariants as term
-use Rattle.lft_record.proofs.Sums.{sum_next}
 use Rattle.lft_record.proofs.cards.expression.Expression.value.Goals as goal
 
 pub loop-at-preserved : goal.loop-at-preserved

@@ -1,7 +1,6 @@
 use Rattle.std.proofs.Common.{slice_get, option_copied, Some, None, sym, ap, ◌∙◌}
 use Rattle.lft_tree.specs.Tree.{instances_of}
-use Rattle.lft_resolve.proofs.Directed.{number_there}
-use Rattle.lft_resolve.proofs.Placing.{lent}
+use Rattle.lft_resolve.proofs.{Directed.number_there, Placing.lent}
 use Rattle.lft_resolve.proofs.by_number.directory.Directory.child.Goals as goal
 
 pub returns-in-Some-get : goal.returns-in-Some-get

@@ -1,7 +1,5 @@
 use Rattle.std.proofs.Common.{slice_get, ap, ◌∙◌}
-use Rattle.lft_resolve.specs.Numbers.{IsContents}
-use Rattle.lft_resolve.proofs.Directed.{AllZip-there}
-use Rattle.lft_resolve.proofs.Placing.{lent}
+use Rattle.lft_resolve.{specs.Numbers.IsContents, proofs.{Directed.AllZip-there, Placing.lent}}
 use Rattle.lft_resolve.proofs.by_number.directory.Directory.contents.Goals as goal
 
 pub returns : goal.returns

@@ -1,11 +1,6 @@
 use Rattle.std.proofs.Common.{◌≡◌, slice_get, Some, None, sym, ap, ◌∙◌}
 use Rattle.std.specs.Option.{option_and_then}
-use Rattle.lft_resolve.specs.Places.{place}
-use Rattle.lft_resolve.specs.Tables.{with_name}
-use Rattle.lft_resolve.proofs.Files.{named-place}
-use Rattle.lft_resolve.proofs.Numbered.{number_named}
-use Rattle.lft_resolve.proofs.NamedReactors.{named}
-use Rattle.lft_resolve.proofs.Placing.{lent}
+use Rattle.lft_resolve.{specs.{Places.place, Tables.with_name}, proofs.{Files.named-place, Numbered.number_named, NamedReactors.named, Placing.lent}}
 use Rattle.lft_resolve.proofs.by_number.numbers.Numbers.get.Goals as goal
 
 pub returns-in-Some : goal.returns-in-Some

@@ -1,15 +1,10 @@
 use Rattle.std.proofs.Common.{◌≡◌, ◌<◌, take, length, sym, ap, subst, ◌∙◌, arith}
 use Rattle.std.proofs.lemmas.Grind.{common_steps}
 use Rattle.lft_tree.specs.View.{reactor_view}
-use Rattle.lft_resolve.specs.Numbers.{numbers_of}
-use Rattle.lft_resolve.specs.Places.{IsIndexOf}
-use Rattle.lft_resolve.specs.References.{reactor_trees}
-use Rattle.lft_resolve.specs.Tests.{texts}
-use Rattle.lft_resolve.proofs.Files.{named_some}
-use Rattle.lft_resolve.proofs.Numbered.{number_more, number_kept}
-use Rattle.lft_resolve.proofs.NamedReactors.{named}
-use Rattle.lft_resolve.proofs.by_number.numbers.Numbers.of.Goals as goal
+use Rattle.lft_resolve.specs.{Numbers.numbers_of, Places.IsIndexOf, References.reactor_trees, Tests.texts}
+use Rattle.lft_resolve.proofs.{Files.named_some, Numbered.{number_more, number_kept}, NamedReactors.named}
 use Rattle.lft_resolve.proofs.by_number.numbers.Numbers.of.Goals.{then-is_some+in_ok-push, else-is_some}
+use Rattle.lft_resolve.proofs.by_number.numbers.Numbers.of.Goals as goal
 
 pub loop-number-preserved : goal.loop-number-preserved
 loop-number-preserved c =

@@ -1,10 +1,9 @@
 use Rattle.std.proofs.Common.{◌≡◌, ℕ, ◌<◌, ◌≤◌, ◌++◌, List, [], ◌∷◌, length, map, Some, sym, ap, ◌∙◌, arith, slice_get, length-append}
-use Rattle.std.proofs.lemmas.Option.{slice_get-get_or}
-use Rattle.std.proofs.lemmas.List.{map_push, length-map}
+use Rattle.std.proofs.lemmas.{Option.slice_get-get_or, List.{map_push, length-map}}
 use Rattle.lft_lists.proofs.Mapped.{mapped}
 use Rattle.lft_resolve.proofs.ExpansionLemmas.Siblings.{filled_more, filled_end, parent_before, map_set}
-use Rattle.lft_resolve.proofs.expansion.nesting.Children.of.Goals as goal
 use Rattle.lft_resolve.proofs.expansion.nesting.Children.of.Goals.{After-item_at-parent}
+use Rattle.lft_resolve.proofs.expansion.nesting.Children.of.Goals as goal
 
 -- the parent has a row
 has_row : (c : goal.After-item_at-parent) → c.item_at-parent.result.parent < length c.push-in-instances.new.self.items

@@ -1,6 +1,5 @@
 use Rattle.std.proofs.Common.{subst}
-use Rattle.lft_rows.specs.Presence.Traces.{TraceParts}
-use Rattle.lft_rows.specs.Presence.Clashes.{IsClash}
+use Rattle.lft_rows.specs.Presence.{Traces.TraceParts, Clashes.IsClash}
 use Rattle.lft_rows.proofs.presence.events.Presence.clash.Goals as goal
 
 pub returns : goal.returns

@@ -1,8 +1,7 @@
 use Rattle.std.proofs.Common.{◌≡◌, ◌+◌, ℕ, List, length, refl, sym, ap, ◌∙◌, subst, arith}
-use Rattle.lft_rows.proofs.PresenceLemmas.Dues.{AreDueTo, due_stays, due_more, due_ends}
-use Rattle.lft_rows.proofs.PresenceLemmas.Lists.{not_true}
-use Rattle.lft_rows.proofs.presence.events.Presence.due.Goals as goal
+use Rattle.lft_rows.proofs.PresenceLemmas.{Dues.{AreDueTo, due_stays, due_more, due_ends}, Lists.not_true}
 use Rattle.lft_rows.proofs.presence.events.Presence.due.Goals.{then-triggered+in_ok-push, else-triggered}
+use Rattle.lft_rows.proofs.presence.events.Presence.due.Goals as goal
 
 pub loop-reaction-preserved : goal.loop-reaction-preserved
 loop-reaction-preserved c = elim c.if-triggered.branch [

@@ -1,17 +1,10 @@
 use Rattle.std.proofs.Common.{◌≡◌, ◌+◌, ◌++◌, List, Option, Some, take, filter_map, get_or, slice_get, sym, ap, ◌∙◌, subst, refl, arith}
-use Rattle.std.specs.List.{AllZip}
-use Rattle.std.proofs.lemmas.Option.{slice_get-get_or}
-use Rattle.lft_ir.specs.Naming.{named}
-use Rattle.lft_ir.specs.Sound.{IsTriggerOf}
-use Rattle.lft_ir.specs.declared.parts.Value.{Value}
-use Rattle.lft_ir.specs.declared.parts.Name.TheVariants.{Port}
-use Rattle.lft_ir.specs.declared.parts.Trigger.TheVariants.{Startup}
+use Rattle.std.{specs.List.AllZip, proofs.lemmas.Option.slice_get-get_or}
+use Rattle.lft_ir.specs.{Naming.named, Sound.IsTriggerOf, declared.parts.{Value.Value, Name.TheVariants.Port, Trigger.TheVariants.Startup}}
 use Rattle.lft_model.specs.Presence.{Shows, Inputs}
-use Rattle.lft_model.proofs.Agree.{one_inputs}
-use Rattle.lft_model.proofs.ReadsMade.{found_shown, read_trigger, read_nothing, read_use, all_read}
-use Rattle.lft_model.proofs.Triggering.{trigger_known, use_known}
-use Rattle.lft_rows.proofs.presence.events.Presence.inputs.Goals as goal
+use Rattle.lft_model.proofs.{Agree.one_inputs, ReadsMade.{found_shown, read_trigger, read_nothing, read_use, all_read}, Triggering.{trigger_known, use_known}}
 use Rattle.lft_rows.proofs.presence.events.Presence.inputs.Goals.{in-On+in_ok-push, in_default}
+use Rattle.lft_rows.proofs.presence.events.Presence.inputs.Goals as goal
 
 pub value_at-requires : goal.value_at-requires
 value_at-requires c = subst (λ x. IsTriggerOf c.args.self.now.plan.program x) c.in-On.is (trigger_known c.program-program.result.now c.args.self.now.plan.program c.program-program.ensures.value c.reaction-reaction.ensures.sound c.args.reaction c.reaction-reaction.result.now c.reaction-reaction.ensures.value c.as_slice-triggers.result.now c.as_slice-triggers.ensures c.loop-place.place Startup (omega arith))

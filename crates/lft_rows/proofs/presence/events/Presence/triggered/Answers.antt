@@ -1,6 +1,5 @@
 use Rattle.std.proofs.Common.{refl, arith}
-use Rattle.lft_rows.proofs.PresenceLemmas.Leasts.{at_reaction, trigger_of, triggered_by, not_triggered}
-use Rattle.lft_rows.proofs.PresenceLemmas.Lists.{not_true}
+use Rattle.lft_rows.proofs.PresenceLemmas.{Leasts.{at_reaction, trigger_of, triggered_by, not_triggered}, Lists.not_true}
 use Rattle.lft_rows.proofs.presence.events.Presence.triggered.Goals as goal
 
 pub occurs-requires : goal.occurs-requires

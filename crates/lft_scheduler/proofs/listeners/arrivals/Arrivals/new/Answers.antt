@@ -2,8 +2,8 @@ use Rattle.std.proofs.Common.{◌+◌, List, ℕ, sym, ◌∙◌, subst, arith}
 use Rattle.std.proofs.lemmas.Bool.{false≢true}
 use Rattle.lft_scheduler.specs.Filling.{AreArriving}
 use Rattle.lft_scheduler.proofs.Arriving.{arriving_start, arriving_more, arriving_same, origin_known, all_arriving}
-use Rattle.lft_scheduler.proofs.listeners.arrivals.Arrivals.new.Goals as goal
 use Rattle.lft_scheduler.proofs.listeners.arrivals.Arrivals.new.Goals.{then-has+in_ok-push, else-has}
+use Rattle.lft_scheduler.proofs.listeners.arrivals.Arrivals.new.Goals as goal
 
 pub push-requires : goal.push-requires
 push-requires c = let s = c.ports.invariant.as_long in let o = origin_known c.args.program.now c.port.ensures.sound c.ports.number c.port.result.now c.port.ensures.value in omega arith

@@ -1,8 +1,6 @@
 use Rattle.std.proofs.Common.{◌++◌, ◌∷◌, [], ℕ, List, Option, sym, ap, ◌∙◌, slice_get, slice_set, unwrap_or}
-use Rattle.std.proofs.lemmas.List.{map-set}
-use Rattle.std.proofs.lemmas.Option.{get_or_from_slice_get}
-use Rattle.lft_lists.proofs.Mapped.{mapped_from}
-use Rattle.lft_lists.proofs.Places.{get_there}
+use Rattle.std.proofs.lemmas.{List.map-set, Option.get_or_from_slice_get}
+use Rattle.lft_lists.proofs.{Mapped.mapped_from, Places.get_there}
 use Rattle.lft_scheduler.proofs.listeners.lists.NumberLists.push.Goals as goal
 
 pub returns : goal.returns
