@@ -6,7 +6,7 @@ use Rattle.lft_lists.proofs.Places.{same_at}
 use Rattle.lft_ir.specs.declared.steps.row.Row.{Row}
 use Rattle.lft_model.proofs.Places.{slice_get_within}
 use Rattle.lft_rows.specs.declared.slices.Slice.{Slice}
-use Rattle.lft_check.specs.{ByTag.Slices.AreSlices, Verdicts.IsBegin}
+use Rattle.lft_check.specs.inner.{ByTag.Slices.AreSlices, Verdicts.IsBegin}
 
 pub not_before : (g low : Tag) → ¬ Before g low → UpTo low g
 not_before g low n = go (order_cases g low)

@@ -5,7 +5,7 @@ use native.Mathlib.Decide.{ℕ_discrete}
 use Rattle.lft_tag.specs.declared.{Tag.Tag, NoMemory.NoMemory}
 use Rattle.lft_model.{specs.{declared.breach.Breach.Breach, Breaches.TagOrder}, proofs.Places.slice_get_within}
 use Rattle.lft_rows.specs.{declared.slices.Slice.Slice, Presence.Traces.TraceParts}
-use Rattle.lft_check.specs.{Verdicts.{LeastOf, BreachIn}, Least.IsLesser, Shares.{share_start, IsLeastOfShare, AreShares, IsFound, AreOk}}
+use Rattle.lft_check.specs.inner.{Verdicts.{LeastOf, BreachIn}, Least.IsLesser, Shares.{share_start, IsLeastOfShare, AreShares, IsFound, AreOk}}
 use Rattle.lft_check.proofs.Whole.{Under, under_first, under_second, pick, least_under, order_trans}
 
 -- each place below the start of the k-th share is in the share of one of the first k workers

@@ -1,7 +1,1 @@
 pub mod Slices
-pub mod Least
-pub mod Needed
-pub mod Indexes
-pub mod Reads
-pub mod Absences
-pub mod Walks

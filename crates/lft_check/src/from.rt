@@ -3,7 +3,7 @@
 ghost use Rattle.std.specs.Prelude.{◌≤◌, ◌<◌, List, length, IfOk, IfErr, IsTrue, ◌↔◌};
 ghost use Rattle.lft_ir.specs.{declared.steps.row.Row.Row as TheRow, Steps.Fits.RowsFit};
 ghost use Rattle.lft_rows.specs.Presence.Clashes.{IsClash};
-ghost use Rattle.lft_check.specs.{ByTag.Slices.AreSlices, Verdicts.{LeastOf, BreachFrom, IsBegin, IsFrom, IsFromFault}};
+ghost use Rattle.lft_check.specs.inner.{ByTag.Slices.AreSlices, Verdicts.{LeastOf, BreachFrom, IsBegin, IsFrom, IsFromFault}};
 
 use crate::by_tag::{CutFault, Sliced, slice_rows};
 use crate::fault::FromFault;

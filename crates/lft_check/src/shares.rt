@@ -2,8 +2,8 @@
 
 ghost use Rattle.std.specs.Prelude.{◌≡◌, ℕ, ◌<◌, ◌≤◌, length, Some, Err, IfOk, IfErr, OnOk, slice_get};
 ghost use Rattle.lft_rows.specs.Presence.Clashes.{IsClash};
-ghost use Rattle.lft_check.specs.{ByTag.Slices.AreSlices, Verdicts.{LeastOf, BreachIn}, Shares.{share_start, IsLeastOfShare, AreShares, IsFound, AreOk}};
-ghost use Rattle.lft_graph.specs.Sets.{AreAncestors};
+ghost use Rattle.lft_check.specs.inner.{ByTag.Slices.AreSlices, Verdicts.{LeastOf, BreachIn}, Shares.{share_start, IsLeastOfShare, AreShares, IsFound, AreOk}};
+ghost use Rattle.lft_graph.specs.inner.Sets.{AreAncestors};
 
 use crate::by_tag::Sliced;
 use crate::judging::{first_in, lesser};

@@ -5,8 +5,9 @@ use Rattle.lft_lists.proofs.Mapped.{mapped, mapped_from}
 use Rattle.lft_lists.proofs.Places.{Some_same, contains_at, get_push, get_push_cases, get_there, get_unwritten, get_write_cases, same_some}
 use Rattle.lft_whole.specs.declared.tree.{Instance.Instance, Member.Member}
 use Rattle.lft_classes.specs.declared.{scopes.Scopes.Scopes, shapes.{Child.Child, Inherited.Inherited, Shape.Shape}}
-use Rattle.lft_classes.specs.{Built.{AreNoted, Core, IsBuilt, core, cores, instance_of}, Chains.extended, Makings.AreShapes}
-use Rattle.lft_classes.specs.Needs.{AreMarks, Gives, HasMember, HasNeed, IsDecided, IsMarked, IsParameter, IsReady, IsReadyAt, NamedFor, Need, NeedsName, NeedsNumber, PassesOn, Times, Widths, by_instance, by_member}
+use Rattle.lft_classes.specs.{Built.{AreNoted, Core, IsBuilt, core, cores, instance_of}, Chains.extended}
+use Rattle.lft_classes.specs.inner.{Makings.AreShapes, Needs.{AreMarks, HasNeed, IsReady, IsReadyAt, PassesOn}}
+use Rattle.lft_classes.specs.Needs.{Gives, HasMember, IsDecided, IsMarked, IsParameter, NamedFor, Need, NeedsName, NeedsNumber, Times, Widths, by_instance, by_member}
 use Rattle.lft_classes.specs.{Shapes.{child_at, inside, tables}, Walks.{IsBehind, Ways, nothing, one}}
 use Rattle.lft_classes.proofs.{Building.below_one, Goings.noted_child, Needing.{declared, member_of, one_name}}
 use Rattle.lft_whole.specs.declared.tree.Member.TheVariants as member

@@ -3,9 +3,10 @@ use Rattle.std.proofs.Common.{◌≡◌, ◌⊎◌, ◌+◌, ◌<◌, ◌≤◌,
 use Rattle.std.{specs.Option.option_and_then, proofs.lemmas.{List.length-map, Bool.cases_lt, Option.{option_and_then_some, slice_get_within}}}
 use Rattle.lft_lists.proofs.Mapped.{mapped, mapped_from, option_map_some}
 use Rattle.lft_lists.proofs.Places.{get_last, get_left, get_push, get_there, get_unwritten, get_written, get_push_cases, get_write_cases, same_some}
-use Rattle.lft_classes.specs.{declared.{making.Making.Making, scopes.{Class.Class, Scopes.Scopes}, shapes.{Child.Child, Shape.Shape}}, Below.{IsBelow, itself}}
+use Rattle.lft_classes.specs.declared.{making.Making.Making, scopes.{Class.Class, Scopes.Scopes}, shapes.{Child.Child, Shape.Shape}}
+use Rattle.lft_classes.specs.inner.Below.{IsBelow, itself}
+use Rattle.lft_classes.specs.inner.Makings.{AddsShape, AreMade, AreShapes, GoesOn, HasChildren, IsOfClass, KeepsBut, KeepsNoted, SetsOne}
 use Rattle.lft_classes.specs.Built.{Core, IsBuilt, AreBuilt, AreInside, AreNoted, IsInside, IsNoted, core, cores, first_class}
-use Rattle.lft_classes.specs.Makings.{AddsShape, AreMade, AreShapes, GoesOn, HasChildren, IsOfClass, KeepsBut, KeepsNoted, SetsOne}
 use Rattle.lft_classes.specs.Shapes.{child_at, child_in, inside, tables}
 
 -- the shapes of the one are among those of the other, at the same places

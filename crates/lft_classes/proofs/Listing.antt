@@ -3,7 +3,7 @@ use Rattle.std.proofs.Common.{◌≡◌, ℕ, zero, suc, ◌≤◌, ◌⊎◌, i
 use Rattle.std.{specs.{List.cons_option, Option.option_and_then}, proofs.lemmas.List.reverse-append}
 use Rattle.lft_lists.proofs.Places.{get_last, get_push_cases}
 use Rattle.lft_classes.specs.{declared.{scopes.{Class.Class, Scopes.Scopes}, walk.Visit.Visit}, Chains.{base_in, base_of, bases_from, bases_in, extended}}
-use Rattle.lft_classes.specs.{Scopes.class_at, Walks.{EndsIn, Has, Lists, again, new, no_more}}
+use Rattle.lft_classes.specs.{Scopes.class_at, inner.Walks.EndsIn, Walks.{Has, Lists, again, new, no_more}}
 use Rattle.lft_classes.proofs.Walking.{same_last}
 
 -- one that stands already adds nothing

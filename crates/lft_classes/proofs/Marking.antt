@@ -2,7 +2,7 @@
 use Rattle.std.proofs.Common.{◌≡◌, ◌↔◌, ◌⊎◌, ◌<◌, ◌≤◌, ◌+◌, ℕ, Bool, true, inl, inr, List, Some, length, slice_get, slice_set, refl, sym, subst, ◌∙◌, arith}
 use Rattle.std.proofs.lemmas.{Bool.cases_eq, Option.slice_get_within}
 use Rattle.lft_lists.proofs.Places.{get_there, get_unwritten, get_write_cases, get_written, length_written, same_at}
-use Rattle.lft_classes.specs.Needs.{Marks}
+use Rattle.lft_classes.specs.inner.Needs.{Marks}
 
 -- nothing
 pub marks_none : (P : ℕ → Type 0) (list : List Bool) → ((n : ℕ) → P n → ⊥) → Marks P list list

@@ -2,10 +2,11 @@
 use Rattle.std.proofs.Common.{◌≡◌, ℕ, inl, inr, List, [], ◌∷◌, ◌++◌, length, map, option_map, string_bytes, Some, slice_get, refl, sym, ap, subst, ◌∙◌, arith}
 use Rattle.std.{specs.Option.option_and_then, proofs.lemmas.Option.{option_and_then_some, slice_get_within}}
 use Rattle.lft_lists.proofs.{Mapped.option_map_some, Places.{get_last, get_push, get_push_cases, get_there, same_some, Some_same}}
-use Rattle.lft_resolve.specs.Places.{place, place_in}
+use Rattle.lft_resolve.specs.{inner.Places.place, Places.place_in}
 use Rattle.lft_whole.specs.declared.{tree.{Import.Import, ImportedName.ImportedName}, sources.source.SourceFile.SourceFile}
 use Rattle.lft_classes.specs.declared.scopes.{Class.Class, Meaning.Meaning, Scope.Scope, Scopes.Scopes}
-use Rattle.lft_classes.specs.Scopes.{in_scope, meaning_in, number_in, AreMeantScopes, AreNumbered, AreOwnScopes, EachMeans, HasImports, HasMeaning, IsExported, IsGiven, IsImport, IsMeant, IsMeantScope, IsOnce, IsOwn, IsScope, IsScopeOf, MeansAt}
+use Rattle.lft_classes.specs.Scopes.{in_scope, meaning_in, number_in, AreNumbered, IsExported, IsImport, IsMeant, IsOwn}
+use Rattle.lft_classes.specs.inner.Scopes.{AreMeantScopes, AreOwnScopes, EachMeans, HasImports, HasMeaning, IsGiven, IsMeantScope, IsOnce, IsScope, IsScopeOf, MeansAt}
 use Rattle.lft_classes.proofs.{Naming.{place_is, place_least}, Numbering.file_of}
 
 -- what a name means in a scope is one of its meanings

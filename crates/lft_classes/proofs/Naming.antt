@@ -3,10 +3,10 @@ use Rattle.std.proofs.Common.{◌≡◌, ℕ, zero, suc, ◌≤◌, inl, inr, Bo
 use Rattle.std.specs.Prelude.{if◌then◌else◌, unwrap_or}
 use Rattle.std.{specs.Option.option_and_then, proofs.lemmas.{Option.option_and_then_some, Slice.Eq.bytes_eq-Decides}}
 use Rattle.lft_lists.proofs.{Mapped.option_map_some, Places.{get_last, get_push, get_push_cases, Some_same}}
-use Rattle.lft_resolve.specs.{Places.{IsIndexOf, place, place_in}, declared.index.Index.Index}
+use Rattle.lft_resolve.specs.{inner.Places.{IsIndexOf, place}, Places.place_in, declared.index.Index.Index}
 use Rattle.lft_whole.specs.declared.tree.Name.{Name}
 use Rattle.lft_classes.specs.{declared.shapes.{Inherited.Inherited, InheritedParameter.InheritedParameter, Named.Named, Thing.Thing}, Built.HasName}
-use Rattle.lft_classes.specs.{Naming.{EachNamed, HasNamed}, Shapes.name_of}
+use Rattle.lft_classes.specs.{inner.Naming.{EachNamed, HasNamed}, Shapes.name_of}
 use Rattle.lft_classes.specs.declared.shapes.Thing.TheVariants as thing
 
 module _ {X : Type 0} (name : X → List ℕ) (q : List ℕ) where

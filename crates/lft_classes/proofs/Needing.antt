@@ -5,7 +5,7 @@ use Rattle.std.specs.Option.{option_and_then}
 use Rattle.lft_lists.proofs.{Mapped.{mapped, mapped_from}, Members.{get_mem, mem_flat, mem_get}, Places.{get_push, get_push_cases, same_some}}
 use Rattle.lft_whole.specs.declared.tree.{Instance.Instance, Member.Member}
 use Rattle.lft_classes.specs.declared.{scopes.Scopes.Scopes, shapes.{Inherited.Inherited, InheritedParameter.InheritedParameter}}
-use Rattle.lft_classes.specs.{Below.{IsBelow, base, inner, instance_at}, Built.{Core, IsBuilt, instance_of, members_at}, Chains.base_of, Needs.HasMember}
+use Rattle.lft_classes.specs.{inner.Below.{IsBelow, base, inner, instance_at}, Built.{Core, IsBuilt, instance_of, members_at}, Chains.base_of, Needs.HasMember}
 use Rattle.lft_classes.specs.Walks.{Has, IsBehind, IsList, Reaches, Ways, further, itself, nothing, one}
 use Rattle.lft_classes.proofs.Refusing.{listed_of}
 use Rattle.lft_whole.specs.declared.tree.Member.TheVariants as member

@@ -4,8 +4,8 @@ use Rattle.std.{specs.Global.Global, proofs.lemmas.Option.slice_get_within}
 use Rattle.lft_lists.proofs.Places.{at_contains, contains_at, get_same, get_there, length_same, same_some}
 use Rattle.lft_whole.specs.declared.tree.{Assignment.Assignment, Expression.Expression, Instance.Instance, Member.Member, Term.Term, Width.Width}
 use Rattle.lft_classes.specs.{declared.shapes.{Child.Child, Inherited.Inherited, Shape.Shape}, Circles.NamesAt}
-use Rattle.lft_classes.specs.Needs.{AreMarks, HasNeed, IsMarked, IsParameter, IsParameterIn, IsPassed, IsPassedIn, IsTimeIn, IsWord, Marks, NamesNumber, NamesParameter, Need, PassesOn, Times, Widths, times_of}
-use Rattle.lft_classes.specs.Shapes.{child_at, width_of}
+use Rattle.lft_classes.specs.inner.Needs.{AreMarks, HasNeed, IsParameterIn, IsPassed, IsPassedIn, IsTimeIn, Marks, NamesNumber, NamesParameter, PassesOn}
+use Rattle.lft_classes.specs.{Needs.{IsMarked, IsParameter, IsWord, Need, Times, Widths, times_of}, Shapes.{child_at, width_of}}
 use Rattle.lft_classes.proofs.Marking.{AnyBelow}
 use Rattle.lft_whole.specs.declared.tree.Count.TheVariants as count
 use Rattle.lft_whole.specs.declared.tree.Member.TheVariants as member

@@ -1,13 +1,9 @@
-pub mod Below
 pub mod Built
-pub mod Causes
 pub mod Chains
 pub mod Circles
-pub mod Makings
-pub mod Naming
 pub mod Needs
 pub mod Nestings
-pub mod Refused
 pub mod Scopes
 pub mod Shapes
 pub mod Walks
+pub mod inner

@@ -1,7 +1,7 @@
 //! A reactor behind all that it extends.
 
 ghost use Rattle.std.specs.Prelude.{◌≡◌, ◌≤◌, ◌<◌, ℕ, Some, None, IfOk, OnOk, MatchOption, IsTrue, true, false};
-ghost use Rattle.lft_classes.specs.{Chains.{IsChain, base_of, bases_from}, Walks.{IsOrdered, IsOver, IsWalk}};
+ghost use Rattle.lft_classes.specs.{Chains.{IsChain, base_of, bases_from}, inner.Walks.{IsOrdered, IsOver, IsWalk}};
 
 use crate::scopes::Scopes;
 use crate::walk::Walk;

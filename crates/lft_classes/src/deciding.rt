@@ -2,7 +2,8 @@
 
 ghost use Rattle.std.specs.Prelude.{◌≡◌, ◌≢◌, ℕ, Some, IfNone, IfOk, IfSome, OnOk, true};
 ghost use Rattle.lft_classes.specs.{declared.scopes.Scopes.Scopes, Built.cores, Shapes.tables};
-ghost use Rattle.lft_classes.specs.Needs.{AreMarks, HasNeed, IsDecided, IsParameterIn, IsPassed, IsPassedIn, IsReady, IsTimeIn, Marks, NamesParameter, Times, Widths};
+ghost use Rattle.lft_classes.specs.inner.Needs.{AreMarks, HasNeed, IsParameterIn, IsPassed, IsPassedIn, IsReady, IsTimeIn, Marks, NamesParameter};
+ghost use Rattle.lft_classes.specs.Needs.{IsDecided, Times, Widths};
 
 use crate::shapes::{Inherited, Shape};
 use lft_whole::sources::{Stop, Why};

@@ -1,10 +1,11 @@
 //! The shapes of the main reactor and of all that it contains, each made when it is asked for first.
 
 ghost use Rattle.std.specs.Prelude.{◌≡◌, ◌<◌, ℕ, Some, OnOk, IfNone, IfOk, IfSome, length, map, slice_get, string_bytes};
-ghost use Rattle.lft_resolve.specs.Tests.{texts};
-ghost use Rattle.lft_classes.specs.{declared.shapes.{Inherited.Inherited, Shape.Shape}, Below.IsBelow};
+ghost use Rattle.lft_resolve.specs.inner.Tests.{texts};
+ghost use Rattle.lft_classes.specs.declared.shapes.{Inherited.Inherited, Shape.Shape};
+ghost use Rattle.lft_classes.specs.inner.Below.{IsBelow};
+ghost use Rattle.lft_classes.specs.inner.Makings.{AddsShape, AreMade, AreShapes, GoesOn, HasChildren, IsNeeded, IsOfClass, KeepsBut, KeepsNoted, KnowsNone, KnowsOne, SetsOne};
 ghost use Rattle.lft_classes.specs.{Built.{AreGiven, AreNoted, Core, IsInside, IsNoted, cores, first_class, instance_of}, Chains.extended, Circles.GivesOnce};
-ghost use Rattle.lft_classes.specs.Makings.{AddsShape, AreMade, AreShapes, GoesOn, HasChildren, IsNeeded, IsOfClass, KeepsBut, KeepsNoted, KnowsNone, KnowsOne, SetsOne};
 ghost use Rattle.lft_classes.specs.Shapes.{tables, thing_named};
 
 use crate::scopes::{Class, Scopes};

@@ -1,8 +1,8 @@
 //! All reactors below the main one, contained ones first.
 
 ghost use Rattle.std.specs.Prelude.{◌≡◌, ◌≤◌, ◌<◌, ℕ, Some, None, IfOk, IfSome, IfNone, OnOk, IsTrue, true, false};
-ghost use Rattle.lft_classes.specs.{declared.scopes.Scopes.Scopes, Causes.last_token, Nestings.IsNesting, Shapes.{inside, tables}};
-ghost use Rattle.lft_classes.specs.Walks.{IsWalk, IsList, IsOver};
+ghost use Rattle.lft_classes.specs.{declared.scopes.Scopes.Scopes, inner.{Causes.last_token, Walks.{IsWalk, IsOver}}, Nestings.IsNesting};
+ghost use Rattle.lft_classes.specs.{Shapes.{inside, tables}, Walks.IsList};
 
 use crate::deciding::decide;
 use crate::making::shapes_of;

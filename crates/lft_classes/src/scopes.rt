@@ -1,9 +1,10 @@
 //! What the names of reactors mean in each file.
 
 ghost use Rattle.std.specs.Prelude.{◌≡◌, ◌≤◌, ◌<◌, ◌++◌, ℕ, List, [], Some, false, IfNone, IfOk, IfSome, OnOk, map, slice_get};
-ghost use Rattle.lft_resolve.specs.Tests.{texts};
+ghost use Rattle.lft_resolve.specs.inner.Tests.{texts};
 ghost use Rattle.lft_whole.specs.declared.{sources.source.SourceFile.SourceFile, tree.{Import.Import, ImportedName.ImportedName}};
-ghost use Rattle.lft_classes.specs.Scopes.{in_scope, meaning_in, class_at, name_in, EachMeans, HasImports, HasMeaning, HasOwn, IsGiven, IsMeantScope, IsOnce, IsOwnScope, IsScopeOf, IsOf, AreNumbered, IsOwn, IsOwnAt, AreOwnScopes, IsImport, MeansAt, AreMeantScopes, IsMain, IsMainAt, AreScopes, placed, reactors_before, reactors_in, reactors_of};
+ghost use Rattle.lft_classes.specs.Scopes.{in_scope, meaning_in, class_at, name_in, IsOf, AreNumbered, IsOwn, IsImport, IsMain, IsMainAt, AreScopes, placed, reactors_in, reactors_of};
+ghost use Rattle.lft_classes.specs.inner.Scopes.{EachMeans, HasImports, HasMeaning, HasOwn, IsGiven, IsMeantScope, IsOnce, IsOwnScope, IsScopeOf, IsOwnAt, AreOwnScopes, MeansAt, AreMeantScopes, reactors_before};
 
 use lft_lists::item_at;
 use lft_resolve::index::Index;

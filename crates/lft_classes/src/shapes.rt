@@ -1,11 +1,11 @@
 //! A reactor with the members of its bases before its own, and what its names are.
 
 ghost use Rattle.std.specs.Prelude.{◌≡◌, ◌≢◌, ◌++◌, ◌↔◌, ℕ, List, [], Some, IfErr, IfOk, IfSome, IfNone, OnOk, IsTrue, flat_map, map, slice_get, option_map, string_bytes, true};
-ghost use Rattle.lft_resolve.specs.{Places.{IsIndexOf, place_in}, Tests.texts};
+ghost use Rattle.lft_resolve.specs.{inner.{Places.IsIndexOf, Tests.texts}, Places.place_in};
 ghost use Rattle.lft_whole.specs.declared.tree.{Foreign.Foreign, Instance.Instance, Name.Name, Port.Port};
 ghost use Rattle.lft_classes.specs.Shapes.{thing_named, child_at, name_of, width_of, is_at};
 ghost use Rattle.lft_classes.specs.Built.{HasName, HasNoForeign, IsBuilt, core, located, located_parameters, members_of, members_at, parameters_of, parameters_at};
-ghost use Rattle.lft_classes.specs.{Naming.{EachNamed, HasNamed}, Refused.{IsTooMuch, why_of}};
+ghost use Rattle.lft_classes.specs.inner.{Naming.{EachNamed, HasNamed}, Refused.{IsTooMuch, why_of}};
 
 use crate::chains::chain;
 use crate::scopes::{Class, Scopes};

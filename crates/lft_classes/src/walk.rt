@@ -1,7 +1,8 @@
 //! A walk that lists all that is reached from a first one, each behind all that it leads to.
 
 ghost use Rattle.std.specs.Prelude.{◌≡◌, ℕ, List, [], ◌∷◌, Option, true, false, IfOk, IfSome, IfNone, OnOk};
-ghost use Rattle.lft_classes.specs.Walks.{IsWalk, IsList, IsOrdered, IsTop, IsOver, EndsAt, LeadsFirst, LeadsNoFurther, LeadsTo, Lists, PassesDone, PassesTo, is_done};
+ghost use Rattle.lft_classes.specs.inner.Walks.{IsWalk, IsOrdered, IsTop, IsOver, EndsAt, LeadsFirst, LeadsNoFurther, LeadsTo, PassesDone, PassesTo, is_done};
+ghost use Rattle.lft_classes.specs.Walks.{IsList, Lists};
 
 use std::alloc::{AllocError, Global};
 use std::collections::BTreeSet;

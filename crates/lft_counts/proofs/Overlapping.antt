@@ -7,7 +7,7 @@ use Rattle.lft_tag.specs.declared.Tag.{Tag}
 use Rattle.lft_graph.specs.Sets.{Has}
 use Rattle.lft_ir.specs.declared.steps.row.{Row.Row, Step.TheVariants.{Start, End}}
 use Rattle.lft_model.{specs.Runs.{start_row, end_row}, proofs.Places.slice_get_within}
-use Rattle.lft_counts.specs.{Counts.{Count, none, same, KeepsRows, StartsAt, Runs, MeetsRun, Widens}, Overlaps.{AreOpen, AreMet, AreWidths}}
+use Rattle.lft_counts.specs.{Counts.{Count, none, same, StartsAt, Runs, MeetsRun, Widens}, inner.Counts.KeepsRows, Overlaps.{AreOpen, AreMet, AreWidths}}
 use Rattle.lft_counts.proofs.Numbers.{count_added, count_taken, count_same, count_one, counts_none, counts_more, counts_same}
 use Rattle.lft_counts.proofs.Running.{start_is, not_running, runs_more, more_runs, ran, runs_no_more, runs_others, runs_kept}
 

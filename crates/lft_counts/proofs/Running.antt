@@ -5,7 +5,7 @@ use native.Mathlib.Decide.{ℕ_discrete, dec_lt}
 use Rattle.lft_tag.{specs.declared.Tag.Tag, proofs.Order.UpTo_antisym}
 use Rattle.lft_ir.specs.declared.steps.row.{Row.Row, Step.TheVariants.{Start, End}}
 use Rattle.lft_model.{specs.{Breaches.IsOpen, Runs.{start_row, end_row}}, proofs.Legality.{KeepsFour, four, rising, one_start, one_starter, opened, ended}}
-use Rattle.lft_counts.specs.Counts.{KeepsRows, Runs}
+use Rattle.lft_counts.specs.{inner.Counts.KeepsRows, Counts.Runs}
 
 start_no_end : (w v : ℕ) (g h : Tag) (r a : ℕ) → Some (start_row w g r) ≡ Some (end_row v h a) → ⊥
 start_no_end w v g h r a e = let z : start_row w g r ≡ end_row v h a = cc in let s : Start ≡ End = ap (λ (x : Row). x.step) z in absurd (cc)

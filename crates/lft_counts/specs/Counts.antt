@@ -1,8 +1,8 @@
 -- What the counts of a trace are: at how many of its places something holds.
 use Rattle.std.specs.Prelude.{◌≡◌, ℕ, ◌+◌, ◌<◌, List, Some, slice_get}
 use Rattle.lft_tag.specs.declared.Tag.{Tag}
-use Rattle.lft_ir.specs.{Parts.Parts, declared.{parts.{Value.Value, Name.TheVariants.Port}, steps.row.{Row.Row, Step.TheVariants.Write}}}
-use Rattle.lft_model.specs.{declared.breach.Breach.Breach, Plans.PlanParts, Breaches.{RowBreach, IsOpen}, Runs.start_row}
+use Rattle.lft_ir.specs.declared.{parts.{Value.Value, Name.TheVariants.Port}, steps.row.{Row.Row, Step.TheVariants.Write}}
+use Rattle.lft_model.specs.{Breaches.IsOpen, Runs.start_row}
 
 -- n is the number of the places below k at which P holds
 pub data Count (P : ℕ → Type 0) : ℕ → ℕ → Type 0 where
@@ -13,16 +13,6 @@ pub data Count (P : ℕ → Type 0) : ℕ → ℕ → Type 0 where
 -- the count of each number x is that of the places below i at which P x holds
 abbrev pub AreCounts : (ℕ → ℕ → Type 0) → ℕ → List ℕ → Type 0
 AreCounts P i counts = (x n : ℕ) → slice_get counts x ≡ Some n → Count (P x) i n
-
--- no row of the trace breaks one of the rules 1 to 5, under some plan
-abbrev pub KeepsRows : List Row → Type 0
-KeepsRows t = (plan : PlanParts) × ((b : Breach) → ¬ RowBreach plan t b)
-
--- how far a trace of a program is gone through: the rows before a place
-pub record Here : Type 0 where
-  pub program : Parts
-  pub trace : List Row
-  pub place : ℕ
 
 -- the row at place i starts a run of reaction r
 abbrev pub StartsAt : List Row → ℕ → ℕ → Type 0

@@ -3,3 +3,4 @@ pub mod Orders
 pub mod Overlaps
 pub mod Workers
 pub mod Cover
+pub mod inner

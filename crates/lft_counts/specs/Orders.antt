@@ -1,5 +1,5 @@
 -- How often both reactions of an order ran at one tag, and how often on two workers.
-use Rattle.std.specs.Prelude.{◌≡◌, ◌≢◌, ℕ, ◌+◌, ◌<◌, ◌≤◌, List, [], ◌∷◌, ◌++◌, map, Option, Some, None, length, slice_get}
+use Rattle.std.specs.Prelude.{◌≡◌, ◌≢◌, ℕ, ◌+◌, ◌<◌, ◌≤◌, List, ◌∷◌, ◌++◌, map, Option, Some, None, length, slice_get}
 use Rattle.lft_tag.specs.declared.Tag.{Tag}
 use Rattle.lft_ir.specs.declared.steps.row.Row.{Row}
 use Rattle.lft_model.specs.{Breaches.WasStarted, Runs.start_row}
@@ -64,10 +64,6 @@ pub record Stands (t : List Row) (n i : ℕ) (orders : Orders) : Type 0 where
   pub laid : IsLaidOut n orders.all.items orders.begins.items
   pub kept : (a : ℕ) (o : Option Last) → slice_get orders.lasts.items a ≡ Some o → IsLast t i a o
   pub counted : (k : ℕ) (x : Order) → slice_get orders.all.items k ≡ Some x → IsCounted t i x
-
--- the order at place k of a list is met at a place before i
-abbrev pub IsHeld : List Row → ℕ → List Order → ℕ → Type 0
-IsHeld t i all k = (x : Order) × (j : ℕ) × (slice_get all k ≡ Some x) × (j < i) × MeetsAt t x.first x.then j
 
 -- the order at place k of a list is met at a place before i on two workers
 abbrev pub IsApart : List Row → ℕ → List Order → ℕ → Type 0

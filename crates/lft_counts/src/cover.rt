@@ -4,7 +4,7 @@ ghost use Rattle.std.specs.Prelude.{◌≡◌, ◌+◌, ◌≤◌, ◌<◌, ℕ,
 ghost use Rattle.lft_graph.specs.Graph.{IsGraphOf};
 ghost use Rattle.lft_ir.specs.{Parts.Parts, declared.{parts.{Value.Value, Name.TheVariants.Port}, steps.row.{Row.Row as TheRow, Step.TheVariants.Write}}};
 ghost use Rattle.lft_ir.specs.Steps.Fits.{RowFits, RowsFit};
-ghost use Rattle.lft_counts.specs.{Counts.{Here, KeepsRows}, Orders.cleared, Cover.{IsCounting, IsCover, IsListed}};
+ghost use Rattle.lft_counts.specs.{inner.Counts.{Here, KeepsRows}, Orders.cleared, Cover.{IsCounting, IsCover, IsListed}};
 
 use crate::inputs::{Inputs, add_row, all_inputs};
 use crate::orders::Orders;

@@ -4,7 +4,8 @@ ghost use Rattle.std.specs.Prelude.{IfOk, OnOk, None, replicate, map, ◌≡◌,
 ghost use Rattle.lft_graph.specs.Graph.{IsGraphOf};
 ghost use Rattle.lft_ir.specs.declared.steps.row.Row.{Row as TheRow};
 ghost use Rattle.lft_model.specs.Runs.{start_row};
-ghost use Rattle.lft_counts.specs.{Counts.{Count, Here, KeepsRows}, Orders.{IsApart, IsCounted, IsHeld, IsLast, Stands, cleared, orders_from, unmet}};
+ghost use Rattle.lft_counts.specs.{Counts.Count, inner.{Counts.{Here, KeepsRows}, Orders.IsHeld}};
+ghost use Rattle.lft_counts.specs.Orders.{IsApart, IsCounted, IsLast, Stands, cleared, orders_from, unmet};
 
 use lft_graph::Graph;
 use lft_ir::Program;

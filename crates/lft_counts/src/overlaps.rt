@@ -3,7 +3,7 @@
 ghost use Rattle.std.specs.Prelude.{◌≡◌, ◌+◌, ◌<◌, ◌/◌, ℕ, List, ◌↔◌, ◌*◌, Some, IfOk, IsTrue, length, slice_get};
 ghost use Rattle.lft_graph.specs.Sets.{Has};
 ghost use Rattle.lft_ir.specs.declared.steps.row.{Row.Row as TheRow, Step.TheVariants.{Start, End}};
-ghost use Rattle.lft_counts.specs.{Counts.{Here, KeepsRows}, Overlaps.{Overlap, met_by}};
+ghost use Rattle.lft_counts.specs.{inner.Counts.{Here, KeepsRows}, Overlaps.{Overlap, met_by}};
 
 use crate::bits::Bits;
 use crate::tally::Tally;

@@ -3,7 +3,7 @@ use Rattle.std.proofs.Common.{◌≡◌, ℕ, zero, suc, ◌+◌, ◌≤◌, Lis
 use Rattle.std.{specs.List.enumerate_from, proofs.lemmas.List.{append_assoc, append-nil, take_all, FromFn.length-enumerate_from}}
 use Rattle.lft_lists.proofs.Mapped.{enumerate_at}
 use Rattle.lft_ir.proofs.WordsLemmas.Steps.{said_more}
-use Rattle.lft_coverage.{specs.Taking.TookMore, proofs.Taking.took_both}
+use Rattle.lft_coverage.{specs.inner.Taking.TookMore, proofs.Taking.took_both}
 
 -- the piece of one item more
 pub took_one : {X : Type 0} (f : X → List ℕ) (xs : List X) (k : ℕ) (x : X) {a b c : Option (List ℕ)} {p q r : Bool} → slice_get xs k ≡ Some x → TookMore a p b q (flat_map f (take k xs)) → TookMore b q c r (f x) → TookMore a p c r (flat_map f (take (k + 1) xs))

@@ -2,7 +2,7 @@
 use Rattle.std.proofs.Common.{IsTrue, ◌≡◌, ℕ, zero, suc, ◌+◌, Bool, true, false, List, [], ◌∷◌, ◌++◌, length, take, Option, refl, sym, ap, ◌∙◌, subst, arith, append_assoc, append-nil, drop, ◌-◌, ◌≤◌}
 use Rattle.std.proofs.{Math.Seq.{take-add, take-append-add}, lemmas.List.{take_all, length-drop}, KnownBytes.{Appends-kept, Appends-nil, Appends-trans}}
 use Rattle.std.specs.Io.KnownBytes.{Appends, Keeps}
-use Rattle.lft_coverage.specs.Taking.{Took, TookMore}
+use Rattle.lft_coverage.specs.inner.Taking.{Took, TookMore}
 
 -- a front of a text is one of a longer text
 front_more : (text more : List ℕ) (n : ℕ) → (k : ℕ) × (take k (text ++ more) ≡ take n text)

@@ -6,7 +6,7 @@ use Rattle.lft_lists.proofs.Places.{get_there}
 use Rattle.lft_ir.specs.Parts.{Parts}
 use Rattle.lft_graph.specs.Sets.{Has}
 use Rattle.lft_counts.specs.{declared.overlaps.Overlaps.Overlaps, Overlaps.met_by}
-use Rattle.lft_coverage.specs.Facts.{has, pair_words, HasSets}
+use Rattle.lft_coverage.specs.{Facts.{has, pair_words}, inner.Facts.HasSets}
 
 -- what is asked of a set is the test
 pub as_test : (set : List ℕ) (a : ℕ) (b : Bool) → IsTrue b ↔ Has set a → b ≡ has set a

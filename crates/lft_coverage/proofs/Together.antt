@@ -7,7 +7,7 @@ use Rattle.lft_lists.proofs.Places.{get_there}
 use Rattle.lft_graph.specs.Sets.{Has}
 use Rattle.lft_ir.specs.declared.steps.row.Row.{Row}
 use Rattle.lft_counts.specs.{declared.overlaps.Overlaps.Overlaps, Counts.MeetsRun, Overlaps.{Overlap, met_by}}
-use Rattle.lft_coverage.{specs.Pairs.{AreTogether, CountPairs, HaveMet, IsCountedWith}, proofs.Once.{Rows, once, pairs_same}}
+use Rattle.lft_coverage.{specs.{Pairs.{AreTogether, CountPairs}, inner.Pairs.{HaveMet, IsCountedWith}}, proofs.Once.{Rows, once, pairs_same}}
 
 module _ (overlaps : Overlaps) where
   -- no reaction is counted with itself

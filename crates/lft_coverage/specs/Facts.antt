@@ -1,5 +1,5 @@
 -- The facts of `--list`, one a line.
-use Rattle.std.specs.Prelude.{◌≡◌, ℕ, ◌+◌, ◌/◌, ◌%◌, ◌==◌, Some, length, Bool, false, List, [], ◌++◌, slice_get, unwrap_or, option_map, codes, decimal, nat_eq, if◌then◌else◌, flat_map, slice_index}
+use Rattle.std.specs.Prelude.{ℕ, ◌/◌, ◌%◌, ◌==◌, Bool, false, List, ◌++◌, slice_get, unwrap_or, option_map, codes, decimal, nat_eq, if◌then◌else◌, flat_map, slice_index}
 use Rattle.std.specs.{List.enumerate_from, Int.bit_at}
 use Rattle.lft_ir.specs.{Parts.Parts, Words.Words.{port_words, reaction_words}}
 use Rattle.lft_counts.specs.{declared.{orders.Order.Order, cover.Cover.Cover, overlaps.Overlaps.Overlaps}, Overlaps.met_by, Workers.by_number}
@@ -36,11 +36,6 @@ has set a = bit_at (slice_index set (a / 64)) (a % 64) == 1
 abbrev pub pair_words : Parts → Bool → ℕ → ℕ → List ℕ
 pair_words program met a b = if met then codes "pair " ++ reaction_words program a ++ codes " " ++ reaction_words program b ++ codes "\n" else []
 
--- each reaction of the program has a set, with room for all of them
-pub record HasSets (program : Parts) (overlaps : Overlaps) : Type 0 where
-  pub as_long : length overlaps.met.items ≡ length program.reactions
-  pub room : (r : ℕ) (set : List ℕ) → slice_get overlaps.met.items r ≡ Some set → length set ≡ length program.reactions / 64 + 1
-
 -- the pairs with Y the reaction of this number, in the order of X
 abbrev pub pair_lines : Parts → Overlaps → ℕ → List ℕ
 pair_lines program overlaps b = flat_map (λ d. pair_words program (has (met_by overlaps b) d.0) d.0 b) (enumerate_from 0 program.reactions)
@@ -51,9 +46,3 @@ fact_lines program cover =
     flat_map (run_line program) (enumerate_from 0 cover.counting.runs) ++ flat_map (write_line program) (enumerate_from 0 cover.counting.writes)
     ++ flat_map (order_line program) cover.orders.all.items ++ flat_map (λ d. pair_lines program cover.overlaps d.0) (enumerate_from 0 program.reactions)
     ++ flat_map width_line (enumerate_from 0 cover.overlaps.widths) ++ flat_map worker_line (by_number cover.counting.workers)
-
--- the cover has a count for each reaction and port of the program, and a set with room for all reactions for each reaction
-pub record HasCounts (program : Parts) (cover : Cover) : Type 0 where
-  pub reactions : length cover.counting.runs ≡ length program.reactions
-  pub ports : length cover.counting.writes ≡ length program.ports
-  pub met : HasSets program cover.overlaps

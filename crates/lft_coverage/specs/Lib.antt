@@ -1,5 +1,5 @@
 pub mod Facts
 pub mod Pairs
 pub mod Sums
-pub mod Taking
 pub mod Driver
+pub mod inner

@@ -2,8 +2,8 @@
 
 ghost use Rattle.std.specs.Prelude.{◌≡◌, ◌++◌, ◌<◌, drop, flat_map, length, take};
 ghost use Rattle.std.specs.List.{enumerate_from};
-ghost use Rattle.lft_coverage.specs.Facts.{HasSets, HasCounts, fact_lines, has, order_line, pair_lines, pair_words, run_line, width_line, worker_line, write_line};
-ghost use Rattle.lft_coverage.specs.Taking.{Took, TookMore};
+ghost use Rattle.lft_coverage.specs.inner.{Facts.{HasSets, HasCounts}, Taking.{Took, TookMore}};
+ghost use Rattle.lft_coverage.specs.Facts.{fact_lines, has, order_line, pair_lines, pair_words, run_line, width_line, worker_line, write_line};
 ghost use Rattle.lft_counts.specs.{Overlaps.met_by, Workers.by_number};
 
 use crate::putting::{put, put_end, put_number, put_reaction};

@@ -2,7 +2,7 @@
 
 ghost use Rattle.std.specs.Prelude.{◌↔◌, ◌+◌, ◌<◌, ◌≤◌, ℕ, IsTrue, length, min};
 ghost use Rattle.lft_counts.specs.Counts.{Count};
-ghost use Rattle.lft_coverage.specs.{Facts.HasSets, Pairs.{CountPairs, HaveMet, IsCountedWith}};
+ghost use Rattle.lft_coverage.specs.{inner.{Facts.HasSets, Pairs.{HaveMet, IsCountedWith}}, Pairs.CountPairs};
 
 use lft_counts::Overlaps;
 use lft_ir::Program;

@@ -4,7 +4,7 @@
 ghost use Rattle.std.specs.Prelude.{◌≤◌, decimal, length, take, IsTrue};
 ghost use Rattle.std.specs.Io.KnownBytes.{Appends, Keeps};
 ghost use Rattle.lft_ir.specs.Words.Words.{reaction_words};
-ghost use Rattle.lft_coverage.specs.Taking.{TookMore};
+ghost use Rattle.lft_coverage.specs.inner.Taking.{TookMore};
 
 use itoa::Buffer;
 use lft_ir::Program;

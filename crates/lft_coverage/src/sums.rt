@@ -4,7 +4,7 @@ ghost use Rattle.std.specs.Prelude.{◌≡◌, ◌<◌, ◌↔◌, ℕ, List, If
 ghost use Rattle.lft_ir.specs.declared.steps.row.Row.{Row as TheRow};
 ghost use Rattle.lft_graph.specs.Graph.{IsGraphOf};
 ghost use Rattle.lft_counts.specs.{Counts.{Count, IsOver}, Orders.{IsApart, Stands}, Overlaps.Overlap};
-ghost use Rattle.lft_coverage.specs.{Facts.HasSets, Pairs.{AreTogether, CountPairs}, Sums.{IsFed, IsReached, origin_of}};
+ghost use Rattle.lft_coverage.specs.{inner.Facts.HasSets, Pairs.{AreTogether, CountPairs}, Sums.{IsFed, IsReached, origin_of}};
 
 use crate::closure::ordered_pairs;
 use crate::pairs::met_pairs;

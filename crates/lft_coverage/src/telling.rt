@@ -2,7 +2,7 @@
 
 ghost use Rattle.std.specs.Prelude.{◌≡◌, ◌++◌, ℕ, List, OnOk, decimal, length, string_bytes};
 ghost use Rattle.lft_graph.specs.Graph.{IsGraphOf};
-ghost use Rattle.lft_coverage.specs.{Facts.HasCounts, Sums.{TellsSums, share_words, sum_line}};
+ghost use Rattle.lft_coverage.specs.{inner.Facts.HasCounts, Sums.{TellsSums, share_words, sum_line}};
 
 use crate::inputs::tell_inputs;
 use crate::least::tell_least;

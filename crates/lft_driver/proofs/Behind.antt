@@ -2,7 +2,7 @@
 use Rattle.std.proofs.Common.{◌≡◌, ◌≢◌, ◌⊎◌, inl, inr, ℕ, suc, ◌+◌, Result, Ok, Err, OnOk, OnErr, IfErr, List, [], ◌∷◌, ◌++◌, Option, Some, None, length, take, append_assoc, arith, refl, sym, ap, ◌∙◌, subst}
 use Rattle.std.{proofs.{KnownBytes.{Appends-trans, Keeps-refl}, Math.Seq.take-append-add}, specs.Io.KnownBytes.{Appends, Keeps}}
 use Rattle.lft_load.specs.{Written.AppendsFront, declared.fault.Fault.Fault}
-use Rattle.lft_driver.specs.{Explained.{Writes, WriteRefusal}, Refusals.IsRefusedGrowth}
+use Rattle.lft_driver.specs.{Explained.Writes, inner.Explained.WriteRefusal, Refusals.IsRefusedGrowth}
 use Rattle.lft_load.specs.declared.fault.Part.TheVariants as part
 
 module _ (P Q : List ℕ → Type 0) (line : List ℕ) (joins : (rest : List ℕ) → P rest → Q (line ++ rest)) (old mid new : Option (List ℕ)) (first : Appends old mid line) where

@@ -6,7 +6,8 @@ use Rattle.lft_model.specs.{Plans.PlanParts, Workers.IsWorkers}
 use Rattle.lft_check.specs.{declared.verdict.Verdict.Verdict, Verdicts.IsVerdict}
 use Rattle.lft_load.specs.{Refusals.is_of_text, Written.AppendsFront, declared.fault.Fault.Fault}
 use Rattle.lft_driver.specs.{Refusals.{IsRefusedGrowth, CheckRefusal.by_growth}, Lines.line_of}
-use Rattle.lft_driver.specs.Explained.{StandsBehind, IsExplanation, Writes, WriteRefusal, ExplainingRefusal, ExplainingRefusal.{by_check, by_line, by_writer}}
+use Rattle.lft_driver.specs.Explained.{StandsBehind, IsExplanation, Writes, ExplainingRefusal, ExplainingRefusal.{by_check, by_line, by_writer}}
+use Rattle.lft_driver.specs.inner.Explained.{WriteRefusal}
 use Rattle.lft_driver.proofs.{Judging.{refusal_untold, write_untold}, Behind.{writes_both, front_both, growth_kept}}
 use Rattle.lft_load.specs.declared.fault.Part.TheVariants as part
 

@@ -2,8 +2,8 @@
 use Rattle.std.proofs.Common.{◌≡◌, ℕ, ◌<◌, inl, inr, List, length, Option, Some, None, true, sym, subst}
 use Rattle.lft_ir.specs.{declared.steps.row.Row.Row, Steps.Fits.RowsFit}
 use Rattle.lft_trace.specs.{Records.records_of, Traces.Table}
-use Rattle.lft_model.specs.{declared.breach.Breach.Breach, Plans.PlanParts, Presence.Triggered, Runs.Ran, Breaches.{First, RowBreach, BreaksAt, BreaksTag}}
-use Rattle.lft_model.specs.OneWorker.{LegalRunsAreOneWorker, LegalRunsKeepPrecedence}
+use Rattle.lft_model.specs.{declared.breach.Breach.Breach, Plans.PlanParts, Presence.Triggered, Runs.Ran, Breaches.{First, RowBreach}}
+use Rattle.lft_model.specs.{inner.Breaches.{BreaksAt, BreaksTag}, OneWorker.{LegalRunsAreOneWorker, LegalRunsKeepPrecedence}}
 use Rattle.lft_model.proofs.Places.{slice_get_within}
 use Rattle.lft_check.specs.{declared.verdict.Verdict.{Verdict, TheVariants.{Accepted, Broken}}, Verdicts.IsVerdict}
 use Rattle.lft_driver.specs.{Judged.AcceptedRuns, Lines.HasReaction, Meaning.Mean}

@@ -4,8 +4,8 @@ use Rattle.std.{specs.Io.KnownBytes.{Appends, Keeps}, proofs.KnownBytes.Appends-
 use Rattle.lft_ir.specs.{Parts.Parts, declared.steps.row.Row.Row}
 use Rattle.lft_model.specs.{Plans.PlanParts, Workers.IsWorkers}
 use Rattle.lft_load.specs.{Refusals.is_of_text, Written.AppendsFront, declared.fault.Fault.Fault}
-use Rattle.lft_driver.specs.{Lines.line_of_pair, Refusals.{IsRefusedGrowth, CheckRefusal.by_growth}, declared.paired.Paired.Paired}
-use Rattle.lft_driver.specs.Explained.{Writes, WriteRefusal}
+use Rattle.lft_driver.specs.{Lines.line_of_pair, Refusals.{IsRefusedGrowth, CheckRefusal.by_growth}, declared.paired.Paired.Paired, Explained.Writes}
+use Rattle.lft_driver.specs.inner.Explained.{WriteRefusal}
 use Rattle.lft_driver.specs.PairExplained.{StandsBehind, IsPairExplanation, PairExplainingRefusal, PairExplainingRefusal.{by_check, by_line, by_writer}}
 use Rattle.lft_driver.specs.Pairs.{IsPairing}
 use Rattle.lft_driver.proofs.{Judging.{refusal_untold, write_untold}, Behind.{writes_both, front_both, growth_kept}}

@@ -5,7 +5,8 @@ use Rattle.lft_trace.specs.{Records.records_of, Traces.Table}
 use Rattle.lft_model.specs.Plans.{PlanParts}
 use Rattle.lft_check.specs.declared.verdict.Verdict.TheVariants.{Broken}
 use Rattle.lft_load.specs.{Meaning.{IsOnly, IsPlanOf}, Refusals.is_of_text, declared.fault.Fault.Fault}
-use Rattle.lft_driver.specs.{Meaning.IsNoTrace, Pairs.{IsPairing, MeanBoth, NamesReaction}, PairRefusals.{PairingRefusal, PairingRefusal.{by_check, by_writer}}}
+use Rattle.lft_driver.specs.{Meaning.IsNoTrace, Pairs.{IsPairing, MeanBoth}, inner.Pairs.NamesReaction}
+use Rattle.lft_driver.specs.PairRefusals.{PairingRefusal, PairingRefusal.{by_check, by_writer}}
 use Rattle.lft_driver.specs.declared.paired.Paired.{Paired, TheVariants.{First, Second, Same, Differ}}
 use Rattle.lft_driver.proofs.Judging.{has_reaction, refusal_untold, rows_of_plan, write_untold}
 

@@ -8,7 +8,7 @@ use Rattle.lft_program.proofs.Firsts.{first_holds}
 use Rattle.lft_load.{specs.Meaning.{IsOnly, IsTreeOf}, proofs.Loading.one_tree}
 use Rattle.lft_text_diagnostics.specs.Refusals.{HasNoTree}
 use Rattle.lft_program_diagnostics.specs.Reasons.{IsToldOf}
-use Rattle.lft_driver.specs.Told.{HasNoProgram}
+use Rattle.lft_driver.specs.inner.Told.{HasNoProgram}
 use Rattle.lft_syntax.specs.declared.fault.LexFault.TheVariants as lex
 
 -- for it has no tokens, or too many bytes

@@ -1,5 +1,5 @@
 -- A verdict on three texts with what explains it, and why texts get none.
-use Rattle.std.specs.Prelude.{◌≡◌, ◌↔◌, ◌⊎◌, ℕ, Bool, IsTrue, List, [], ◌++◌, Option, codes}
+use Rattle.std.specs.Prelude.{◌≡◌, ◌↔◌, ◌⊎◌, ℕ, Bool, IsTrue, List, ◌++◌, Option, codes}
 use Rattle.std.specs.Io.KnownBytes.{Appends, Keeps}
 use Rattle.lft_ir.specs.declared.steps.row.Row.{Row}
 use Rattle.lft_model.specs.{declared.breach.Breach.Breach, Plans.PlanParts}
@@ -42,10 +42,6 @@ IsExplanation all plan rows verdict text = (rest : List ℕ) × StandsBehind all
 -- a text was written of which this holds
 abbrev pub Writes : (List ℕ → Type 0) → Option (List ℕ) → Option (List ℕ) → Type 0
 Writes P old new = (text : List ℕ) × P text × Appends old new text
-
--- no text was written of which this holds: memory was refused, and nothing was written, or the writer failed on such a text
-abbrev pub WriteRefusal : (List ℕ → Type 0) → Option (List ℕ) → Option (List ℕ) → Fault → Type 0
-WriteRefusal P old new f = ((f.part ≡ part.Memory) × (f.number ≡ 1) × Keeps old new) ⊎ ((f.part ≡ part.Write) × (f.number ≡ 1) × ((text : List ℕ) × P text × AppendsFront old new text))
 
 -- nothing was written, or memory was refused behind the verdict's line: then that line alone was written
 abbrev pub WritesLineAtMost : PlanParts → List Row → Option (List ℕ) → Option (List ℕ) → Fault → Type 0

@@ -10,4 +10,4 @@ pub mod PairRefusals
 pub mod Explained
 pub mod PairExplained
 pub mod Told
-pub mod Accepting
+pub mod inner

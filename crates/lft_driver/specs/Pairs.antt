@@ -1,5 +1,5 @@
 -- What is said of two traces, from texts, and what was written of it.
-use Rattle.std.specs.Prelude.{◌↔◌, ℕ, ◌<◌, Bool, IsTrue, List, Option, length}
+use Rattle.std.specs.Prelude.{ℕ, List, Option}
 use Rattle.std.specs.Io.KnownBytes.{Appends}
 use Rattle.lft_ir.specs.{Parts.Parts, declared.steps.row.Row.Row}
 use Rattle.lft_trace.specs.{Records.records_of, Traces.Table}
@@ -7,7 +7,7 @@ use Rattle.lft_model.specs.{Plans.PlanParts, Runs.by_ends, Breaches.{Legal, Firs
 use Rattle.lft_rows.specs.Accepted.{IsAccepted}
 use Rattle.lft_pair.specs.Pairs.{IsComparison}
 use Rattle.lft_load.specs.Meaning.{IsPlanOf, OfOnly}
-use Rattle.lft_driver.specs.{declared.paired.Paired.Paired, Lines.{HasReaction, line_of_pair}, Meaning.{HasTable, Mean}}
+use Rattle.lft_driver.specs.{declared.paired.Paired.Paired, Lines.line_of_pair, Meaning.{HasTable, Mean}}
 use Rattle.lft_pair.specs.declared.comparison.Pair.TheVariants as pair
 use Rattle.lft_driver.specs.declared.paired.Paired.TheVariants as paired
 
@@ -49,13 +49,6 @@ pub record IsPairedUnder (plan : PlanParts) (first second : List ℕ) (old new :
 -- what is said under the one plan of the first two texts
 abbrev pub IsPaired : List ℕ → List ℕ → List ℕ → List ℕ → Option (List ℕ) → Option (List ℕ) → Paired → Type 0
 IsPaired program externals first second old new said = OfOnly (IsPlanOf program externals) (λ plan. IsPairedUnder plan first second old new said)
-
--- the reaction that the line names, if it names one, is of the program
-abbrev pub NamesReaction : Parts → Paired → Type 0
-NamesReaction program (paired.First b) = HasReaction program b.reaction
-NamesReaction program (paired.Second b) = HasReaction program b.reaction
-NamesReaction program (paired.Same runs tags) = Unit {0}
-NamesReaction program (paired.Differ g r) = r < length program.reactions
 
 -- both traces are accepted and have the same runs
 abbrev pub SaysSame : Paired → Type 0

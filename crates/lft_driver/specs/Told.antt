@@ -1,15 +1,14 @@
 -- Texts of which a refusal is told.
-use Rattle.std.specs.Prelude.{◌≡◌, ℕ, ◌⊎◌, List, ◌++◌, Some, codes, string_bytes}
+use Rattle.std.specs.Prelude.{◌≡◌, ℕ, ◌⊎◌, List, ◌++◌, Some, codes}
 use Rattle.lft_ir.specs.{declared.steps.row.Row.Row, Parts.Parts, Steps.Inputs.ExternalInputs}
 use Rattle.lft_graph.specs.{Loops.IsLoop, Precedence.HasNoLoop}
 use Rattle.lft_trace.specs.{ExternalTables.{ExternalTable, ExternalFails}, Records.records_of, Traces.TraceFails, declared.fault.TraceFault.TraceFault}
 use Rattle.lft_model.specs.Plans.{PlanParts}
-use Rattle.lft_load.specs.Meaning.{IsOnly, IsPlanOf, IsPlanUnder, IsProgramOf, OfOnly}
+use Rattle.lft_load.specs.Meaning.{IsPlanUnder, IsProgramOf, OfOnly}
 use Rattle.lft_text_diagnostics.specs.{Told.TellsProgram, Tables.Tables.{Begins, IsWrong, IsWrongThere, NamesField, field_line, heading}}
 use Rattle.lft_program_diagnostics.specs.{Reasons.IsToldOf, Loops.loop_words}
-use Rattle.lft_driver.specs.{Bundles.IsBundle, Markers.IsMissing, Meaning.{IsTrace, Mean}, declared.{bundle.Marker.Marker, refused.Start.Start}}
+use Rattle.lft_driver.specs.{Bundles.IsBundle, Markers.IsMissing, Meaning.{IsTrace, Mean}, declared.bundle.Marker.Marker}
 use Rattle.lft_driver.specs.declared.bundle.Marker.TheVariants as markers
-use Rattle.lft_driver.specs.declared.refused.Start.TheVariants as start
 
 -- the text is a table of external inputs of the program
 abbrev pub IsTable : Parts → List ℕ → Type 0
@@ -18,10 +17,6 @@ IsTable program text = (inputs : ExternalInputs) × ExternalTable program (recor
 -- the text is no table of external inputs of the program
 abbrev pub IsNoTable : Parts → List ℕ → Type 0
 IsNoTable program text = (inputs : ExternalInputs) → ExternalTable program (records_of text) inputs → ⊥
-
--- the text has no program
-abbrev pub HasNoProgram : List ℕ → Type 0
-HasNoProgram text = (parts : Parts) → IsProgramOf text parts → ⊥
 
 -- no program of the text has an order of its reactions
 abbrev pub HasNoOrder : List ℕ → Type 0
@@ -90,11 +85,6 @@ TellsRefusal text externals trace words = TellsNoPlan text externals words ⊎ O
 -- the words tell why the first of two traces that is refused is
 abbrev pub TellsOneTrace : Parts → List ℕ → List ℕ → List ℕ → Type 0
 TellsOneTrace program first second words = TellsTrace program first (codes "First trace") words ⊎ (IsTrace program first × TellsTrace program second (codes "Second trace") words)
-
--- what a program's text gives: its one program; where it has none, the words tell why
-abbrev pub Reads : List ℕ → Start → Type 0
-Reads text (start.Program parts) = IsOnly (IsProgramOf text) parts
-Reads text (start.Refused words) = HasNoProgram text × TellsText text (string_bytes words)
 
 -- the sentence on a missing marker
 abbrev pub missing_words : Marker → List ℕ

@@ -5,7 +5,7 @@ ghost use Rattle.std.specs.Io.KnownBytes.{Keeps};
 ghost use Rattle.lft_ir.specs.{Steps.Fits.RowsFit, declared.steps.row.Row.Row};
 ghost use Rattle.lft_model.specs.Plans.{PlanParts};
 ghost use Rattle.lft_check.specs.Verdicts.{IsVerdict};
-ghost use Rattle.lft_driver.specs.{Accepting.{IsRight, IsUnjudged}, Meaning.{IsNoTrace, Mean}, Judged.{IsJudged, IsJudgedUnder}};
+ghost use Rattle.lft_driver.specs.{inner.Accepting.{IsRight, IsUnjudged}, Meaning.{IsNoTrace, Mean}, Judged.{IsJudged, IsJudgedUnder}};
 ghost use Rattle.lft_driver.specs.Refusals.{IsRefusedGrowth, JudgeRefusal, JudgeRefusalUnder};
 ghost use Rattle.lft_load.specs.Refusals.{is_of_text};
 ghost use Rattle.lft_load.specs.declared.fault.Part.TheVariants as part;

@@ -7,7 +7,8 @@ ghost use Rattle.lft_model.specs.{Plans.PlanParts, Workers.IsWorkers};
 ghost use Rattle.lft_races.specs.Races.{FirstSoFar};
 ghost use Rattle.lft_check.specs.Verdicts.{IsVerdict};
 ghost use Rattle.lft_driver.specs.{Meaning.{IsNoTrace, Mean}, Judged.AcceptedRuns};
-ghost use Rattle.lft_driver.specs.Explained.{Guesses, AreReasons, StandsBehind, IsExplanation, Writes, WriteRefusal, IsExplained, IsExplainedUnder, ExplainingRefusal, ExplainRefusal, ExplainRefusalUnder};
+ghost use Rattle.lft_driver.specs.Explained.{Guesses, AreReasons, StandsBehind, IsExplanation, Writes, IsExplained, IsExplainedUnder, ExplainingRefusal, ExplainRefusal, ExplainRefusalUnder};
+ghost use Rattle.lft_driver.specs.inner.Explained.{WriteRefusal};
 ghost use Rattle.lft_load.specs.Refusals.{is_of_text};
 ghost use Rattle.lft_load.specs.declared.fault.Part.TheVariants as part;
 

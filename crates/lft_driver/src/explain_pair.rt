@@ -4,8 +4,8 @@ ghost use Rattle.std.specs.Prelude.{◌≡◌, ◌≢◌, ◌⊎◌, true, OnOk,
 ghost use Rattle.std.specs.Io.KnownBytes.{Keeps};
 ghost use Rattle.lft_ir.specs.{Steps.Fits.RowsFit, declared.steps.row.Row.Row};
 ghost use Rattle.lft_model.specs.{Plans.PlanParts, Workers.IsWorkers};
-ghost use Rattle.lft_driver.specs.{Meaning.IsNoTrace, Pairs.{IsPairing, MeanBoth}, declared.paired.Paired.TheVariants.Differ as TheyDiffer};
-ghost use Rattle.lft_driver.specs.Explained.{Writes, WriteRefusal};
+ghost use Rattle.lft_driver.specs.{Meaning.IsNoTrace, Pairs.{IsPairing, MeanBoth}, declared.paired.Paired.TheVariants.Differ as TheyDiffer, Explained.Writes};
+ghost use Rattle.lft_driver.specs.inner.Explained.{WriteRefusal};
 ghost use Rattle.lft_driver.specs.PairExplained.{AreAnswers, StandsBehind, IsPairExplanation, IsPairExplained, IsPairExplainedUnder, PairExplainingRefusal, PairExplainRefusal, PairExplainRefusalUnder};
 ghost use Rattle.lft_load.specs.Refusals.{is_of_text};
 ghost use Rattle.lft_load.specs.declared.fault.Part.TheVariants as part;

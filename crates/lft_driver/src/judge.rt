@@ -5,7 +5,7 @@ ghost use Rattle.std.specs.Io.KnownBytes.{Appends, Keeps};
 ghost use Rattle.lft_ir.specs.{Steps.Fits.RowsFit, declared.steps.row.Row.Row};
 ghost use Rattle.lft_model.specs.{Plans.PlanParts, declared.breach.Breach.Breach, Workers.IsWorkers};
 ghost use Rattle.lft_check.specs.{declared.verdict.Verdict.TheVariants.{Accepted, Broken}, Verdicts.IsVerdict};
-ghost use Rattle.lft_driver.specs.{Lines.{line_of, HasReaction}, Accepting.{IsRight, IsUnjudged}, Meaning.{HasTable, IsNoTrace, Mean}};
+ghost use Rattle.lft_driver.specs.{Lines.{line_of, HasReaction}, inner.Accepting.{IsRight, IsUnjudged}, Meaning.{HasTable, IsNoTrace, Mean}};
 ghost use Rattle.lft_driver.specs.Judged.{AcceptedRuns, IsJudged, IsJudgedUnder};
 ghost use Rattle.lft_driver.specs.Refusals.{CheckRefusal, IsRefusedGrowth, JudgeRefusal, JudgeRefusalUnder, TraceRefusal};
 ghost use Rattle.lft_load.specs.{Refusals.is_of_text, Written.AppendsFront};

@@ -2,7 +2,7 @@
 
 ghost use Rattle.std.specs.Prelude.{◌≡◌, ◌++◌, ◌<◌, ℕ, IfOk, OnOk, Some, length, string_bytes};
 ghost use Rattle.lft_driver.specs.Lines.{accepted_words, breach_words, differ_words, line_of, line_of_pair, reaction_words, row_words, rule_name, same_words, HasReaction};
-ghost use Rattle.lft_driver.specs.Pairs.{NamesReaction};
+ghost use Rattle.lft_driver.specs.inner.Pairs.{NamesReaction};
 ghost use Rattle.lft_model.specs.declared.breach.Breach.{Breach as TheBreach};
 ghost use Rattle.lft_check.specs.declared.verdict.Verdict.TheVariants.{Broken};
 

@@ -4,7 +4,8 @@ ghost use Rattle.std.specs.Prelude.{◌≡◌, ◌++◌, ◌⊎◌, ℕ, List, I
 ghost use Rattle.lft_graph.specs.Precedence.{HasNoLoop};
 ghost use Rattle.lft_trace.specs.Faults.{is_told};
 ghost use Rattle.lft_driver.specs.Meaning.{IsNoTrace, IsTrace};
-ghost use Rattle.lft_driver.specs.Told.{HasNoOrder, HasOrder, HaveMeaning, HaveNoMeaning, IsBundleRefusal, IsNoTable, IsPlanned, IsReadBundle, IsTable, IsUnplanned, Reads, TellsExternals, TellsInputsOrLoop, TellsLoop, TellsNoOrder, TellsOneTrace, TellsRefusal, TellsTrace, missing_words};
+ghost use Rattle.lft_driver.specs.Told.{HasNoOrder, HasOrder, HaveMeaning, HaveNoMeaning, IsBundleRefusal, IsNoTable, IsPlanned, IsReadBundle, IsTable, IsUnplanned, TellsExternals, TellsInputsOrLoop, TellsLoop, TellsNoOrder, TellsOneTrace, TellsRefusal, TellsTrace, missing_words};
+ghost use Rattle.lft_driver.specs.inner.Told.{Reads};
 
 use crate::bundle::{Marker, has_returned_marker, read_bundle};
 use lft_graph::{Graph, GraphFault};

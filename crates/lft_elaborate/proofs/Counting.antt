@@ -3,7 +3,8 @@ use Rattle.std.proofs.Common.{◌≡◌, ℕ, zero, suc, ◌+◌, ◌-◌, ◌*�
 use Rattle.std.{specs.Option.option_and_then, proofs.lemmas.List.map_push}
 use Rattle.lft_whole.specs.declared.tree.{Count.Count, Reference.Reference, Term.Term, Width.Width}
 use Rattle.lft_classes.specs.declared.shapes.{Shape.Shape, Thing.Thing}
-use Rattle.lft_elaborate.specs.Places.{AreMany, AreManyIn, HasPlaces, HavePlaces, IsCount, IsSum, IsWidth, Meant, Widths, capped, count_in, how_many, how_many_in, how_many_of, many, meaning_in, places_in, places_of, plus, sum_in, times, total, width_by, width_in, written_width}
+use Rattle.lft_elaborate.specs.inner.Places.{AreMany, AreManyIn, HasPlaces, HavePlaces, IsCount, IsSum}
+use Rattle.lft_elaborate.specs.Places.{IsWidth, Meant, Widths, capped, count_in, how_many, how_many_in, how_many_of, many, meaning_in, places_in, places_of, plus, sum_in, times, total, width_by, width_in, written_width}
 use Rattle.lft_elaborate.specs.Values.{Valued}
 use Rattle.lft_whole.specs.declared.tree.Count.TheVariants as count
 use Rattle.lft_classes.specs.declared.shapes.Thing.TheVariants as thing

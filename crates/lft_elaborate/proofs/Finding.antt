@@ -7,9 +7,10 @@ use Rattle.lft_lists.proofs.Places.{get_last, get_push, get_push_cases, same_som
 use Rattle.lft_classes.specs.{Shapes.width_of, declared.shapes.{Inherited.Inherited, Shape.Shape}}
 use Rattle.lft_whole.specs.declared.tree.{Reference.Reference, Term.Term, Width.Width}
 use Rattle.lft_elaborate.specs.declared.{places.Meaning.Meaning, path.{Step.Step, Wanted.Wanted}, settings.{Setting.Setting, Settings.Settings}}
-use Rattle.lft_elaborate.specs.Finding.{AddsIf, AddsOnly, AreNeeded, AreNext, ArePath, IsFirst, IsOpenAt, LeadsTo, Needs, pair_cmp}
-use Rattle.lft_elaborate.specs.{Noted.{GoesOn, IsMeaning, Table}, Refused.{HangsOn, IsCounted, IsCountedBy, IsCountedIn, Leads}}
-use Rattle.lft_elaborate.specs.{Places.{member_in, written_width}, Settings.{setting_at, setting_in}, Widths.member_at, Values.Valued}
+use Rattle.lft_elaborate.specs.inner.Finding.{AddsIf, AddsOnly, AreNeeded, AreNext, ArePath, IsFirst, IsOpenAt, LeadsTo, Needs, pair_cmp}
+use Rattle.lft_elaborate.specs.inner.{Noted.{GoesOn, IsMeaning}, Refused.{HangsOn, IsCounted, IsCountedBy, IsCountedIn, Leads}, Settings.setting_at}
+use Rattle.lft_elaborate.specs.inner.Widths.{member_at}
+use Rattle.lft_elaborate.specs.{Noted.Table, Places.{member_in, written_width}, Settings.setting_in, Values.Valued}
 use Rattle.lft_elaborate.proofs.{Keeping.Stays, Standing.member_there}
 use Rattle.lft_classes.specs.declared.shapes.Thing.TheVariants as thing
 

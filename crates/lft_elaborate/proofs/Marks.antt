@@ -3,7 +3,7 @@ use Rattle.std.proofs.Common.{◌≡◌, ◌≢◌, ℕ, zero, suc, ◌<◌, ◌
 use Rattle.std.proofs.lemmas.Bool.{cases_eq}
 use Rattle.lft_lists.proofs.Places.{get_last, get_push, get_push_cases, get_unwritten, get_written}
 use Rattle.lft_classes.specs.Walks.{Has}
-use Rattle.lft_elaborate.specs.Used.{AreMarked, Stay, is_marked}
+use Rattle.lft_elaborate.specs.inner.Used.{AreMarked, Stay, is_marked}
 
 -- a mark that isn't set changes nothing
 pub unmarked_more : (marks : List Bool) (k : ℕ) → is_marked (marks ++ false ∷ []) k ≡ is_marked marks k

@@ -3,9 +3,12 @@ use Rattle.std.proofs.Common.{◌≡◌, ℕ, zero, suc, ◌*◌, List, [], ◌�
 use Rattle.std.specs.Prelude.{IfSome, is_some, false, unwrap_or}
 use Rattle.std.specs.Option.{option_and_then}
 use Rattle.lft_elaborate.specs.{Channels.Channels.joined, declared.{places.Meaning.Meaning, settings.{Setting.Setting, Settings.Settings}}}
-use Rattle.lft_elaborate.specs.Noted.{AreMade, GoesOn, GoesOnIf, IsMeaning, Table, noted_at, table}
-use Rattle.lft_elaborate.specs.Places.{AreMany, AreManyIn, HasPlaces, HasWidth, HavePlaces, IsCount, IsMany, IsSum, IsWidth, HasPairs, capped, many, member_in, plus, sum_in, times, width_in, written_width}
-use Rattle.lft_elaborate.specs.{Settings.{setting_at, setting_in, shape_at, valued}, Values.Valued, Widths.{found_width, member_at, width_at}}
+use Rattle.lft_elaborate.specs.Noted.{AreMade, Table, noted_at, table}
+use Rattle.lft_elaborate.specs.inner.Noted.{GoesOn, GoesOnIf, IsMeaning}
+use Rattle.lft_elaborate.specs.inner.{Places.{AreMany, AreManyIn, HasPlaces, HasWidth, HavePlaces, IsCount, IsSum, HasPairs}, Settings.setting_at}
+use Rattle.lft_elaborate.specs.inner.Widths.{member_at, width_at}
+use Rattle.lft_elaborate.specs.Places.{IsMany, IsWidth, capped, many, member_in, plus, sum_in, times, width_in, written_width}
+use Rattle.lft_elaborate.specs.{Settings.{setting_in, shape_at, valued}, Values.Valued, Widths.found_width}
 use Rattle.lft_elaborate.proofs.{Counting.{places_join, sum_width, terms_push}, Keeping.{goes_if, setting_from, setting_of_number}}
 use Rattle.lft_whole.specs.declared.tree.{Connection.Connection, Count.Count, Reference.Reference, Term.Term, Width.Width}
 use Rattle.lft_classes.specs.{Shapes.width_of, declared.shapes.{Inherited.Inherited, Shape.Shape, Thing.Thing}}

@@ -6,7 +6,8 @@ use Rattle.std.proofs.lemmas.{List.{map_push, FromFn.map-range_with_len_more}, B
 use Rattle.std.proofs.lemmas.Option.{option_and_then_some, slice_get-map}
 use Rattle.std.proofs.Math.Seq.{drop-cons, drop-length}
 use Rattle.lft_lists.proofs.{Mapped.{mapped_at, option_map_some}, Places.{Some_same, get_unwritten, get_written, same_some}}
-use Rattle.lft_elaborate.specs.{Channels.Channels.below, Values.{IsUnsized, Valued, given_to, inside, is_sized, setting_of, value_inside, values_inside}}
+use Rattle.lft_elaborate.specs.{Channels.Channels.below, inner.Values.IsUnsized}
+use Rattle.lft_elaborate.specs.Values.{Valued, given_to, inside, is_sized, setting_of, value_inside, values_inside}
 use Rattle.lft_whole.specs.declared.tree.{Expression.Expression, Value.Value}
 use Rattle.lft_classes.{specs.{declared.shapes.{Child.Child, Given.Given, Shape.Shape}, Shapes.child_at}, proofs.Rows.map_alike}
 

@@ -1,17 +1,12 @@
 -- How the things that a name stands for are written.
-use Rattle.std.specs.Prelude.{ℕ, List, [], ◌++◌, Option, Some, None, codes, decimal, string_bytes}
+use Rattle.std.specs.Prelude.{ℕ, List, ◌++◌, Option, Some, None, codes, decimal, string_bytes}
 use Rattle.lft_whole.specs.declared.tree.Member.{Member}
-use Rattle.lft_elaborate.specs.declared.names.Numbered.{Numbered}
 use Rattle.lft_whole.specs.declared.tree.Member.TheVariants as member
 
 -- the number, if there is one, stands in brackets
 abbrev pub tail : Option ℕ → List ℕ
 tail None = []
 tail (Some number) = codes "[" ++ decimal number ++ codes "]"
-
--- the name with its number, if it has one (ours: `b`, `b[2]`)
-abbrev pub spelled : Numbered → List ℕ
-spelled n = n.name.now ++ tail n.number
 
 -- the name of a port, timer, action or instance; else nothing
 abbrev pub name_in : Member → List ℕ

@@ -1,10 +1,9 @@
 -- What is noted of the settings that were made.
-use Rattle.std.specs.Prelude.{◌≡◌, ℕ, ℤ, List, [], ◌∷◌, ◌++◌, length, map, Option, Some, None, slice_get, Vec}
+use Rattle.std.specs.Prelude.{◌≡◌, ℕ, ℤ, List, length, map, Option, Some, None, slice_get, Vec}
 use Rattle.std.specs.{Global.Global, BTreeMap.{BTreeMap, get_by}, Cmp.Lexicographic.slice_cmp, Option.{option_and_then, option_or}, Ordering.int_cmp}
-use Rattle.lft_whole.specs.declared.tree.Reference.{Reference}
 use Rattle.lft_classes.specs.{declared.shapes.Shape.Shape, Shapes.child_at}
-use Rattle.lft_elaborate.specs.{declared.{places.Meaning.Meaning, settings.{Setting.Setting, Settings.Settings}}, Places.{IsWidth, meaning_in}}
-use Rattle.lft_elaborate.specs.{Settings.{setting_in, valued}, Values.{Valued, inside, main_setting}}
+use Rattle.lft_elaborate.specs.{declared.settings.{Setting.Setting, Settings.Settings}, Places.IsWidth, Settings.{setting_in, valued}}
+use Rattle.lft_elaborate.specs.Values.{Valued, inside, main_setting}
 
 -- what is noted at this place, if anything is
 abbrev pub noted_at : List (Option ℕ) → ℕ → Option ℕ
@@ -53,12 +52,6 @@ pub record AreSettings (t : Table) : Type 0 where
   pub main : IsNumberOf t.settings (main_setting t.shapes) (Some 0)
   pub made : AreMade t
 
--- settings that were made stay, and what is noted stays so
-pub record GoesOn (old new : Table) : Type 0 where
-  pub shapes : new.shapes ≡ old.shapes
-  pub stays : (k : ℕ) (t : Valued) → setting_in old.settings k ≡ Some t → setting_in new.settings k ≡ Some t
-  pub made : AreMade old → AreMade new
-
 -- the number that is noted for the shape that is in a member of another one
 abbrev pub only_inside : Settings → ℕ → ℕ → Option ℕ
 only_inside s shape member = option_and_then (λ outer. option_and_then (λ child. noted_at s.only.items child.shape) (child_at outer.children.items member)) (slice_get s.shapes.items shape)
@@ -66,24 +59,3 @@ only_inside s shape member = option_and_then (λ outer. option_and_then (λ chil
 -- the number of the setting in an instance that is noted: in the setting around, or else for its shape
 abbrev pub found_inside : Settings → ℕ → ℕ → Option ℕ
 found_inside s setting member = option_and_then (λ t. option_or (noted_at t.inner.items member) (only_inside s t.shape member)) (slice_get s.settings.items setting)
-
--- the reference means this thing of the setting that has this number, in this instance if in one
-abbrev pub IsMeaning : List Shape → List Setting → Valued → Reference → Meaning → Type 0
-IsMeaning shapes settings t r meaning = (u : Valued) × (setting_in settings meaning.setting ≡ Some u) × (meaning_in shapes t r ≡ Some (record { instance = meaning.instance; setting = u; thing = meaning.thing }))
-
--- ---- for the crate's own contracts
-
--- one setting more, of which nothing is noted
-pub record Adds (old new : Table) (shape : ℕ) (values : List ℤ) : Type 0 where
-  pub fresh : Setting
-  pub settings : new ≡ record old { settings = old.settings ++ fresh ∷ [] }
-  pub shape_is : fresh.shape ≡ shape
-  pub values_are : fresh.values.items ≡ values
-  pub no_widths : (m : ℕ) → noted_at fresh.widths.items m ≡ None
-  pub no_inner : (m : ℕ) → noted_at fresh.inner.items m ≡ None
-
--- settings that were made stay, and what is noted stays so if P holds
-pub record GoesOnIf (P : Type 0) (old new : Table) : Type 0 where
-  pub shapes : new.shapes ≡ old.shapes
-  pub stays : (k : ℕ) (t : Valued) → setting_in old.settings k ≡ Some t → setting_in new.settings k ≡ Some t
-  pub made : P → AreMade old → AreMade new

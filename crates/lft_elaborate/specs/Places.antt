@@ -1,15 +1,14 @@
 -- What references mean, how many places they have, and how wide members are, told by the shapes alone.
-use Rattle.std.specs.Prelude.{◌≡◌, ℕ, zero, suc, ◌+◌, ◌*◌, ◌-◌, ◌^◌, ℤ, pos, negsuc, min, List, [], ◌∷◌, map, Option, Some, None, option_map, slice_get, string_bytes}
+use Rattle.std.specs.Prelude.{◌≡◌, ℕ, zero, suc, ◌+◌, ◌*◌, ◌-◌, ◌^◌, ℤ, pos, negsuc, min, List, ◌∷◌, map, Option, Some, None, option_map, slice_get, string_bytes}
 use Rattle.std.specs.Option.{option_and_then}
-use Rattle.lft_elaborate.specs.{Channels.Channels.joined, Values.{Valued, inside, number_named}}
-use Rattle.lft_whole.specs.declared.tree.{Connection.Connection, Count.Count, Member.Member, Name.Name, Reference.Reference, Term.Term, Width.Width}
+use Rattle.lft_elaborate.specs.Values.{Valued, inside, number_named}
+use Rattle.lft_whole.specs.declared.tree.{Count.Count, Member.Member, Name.Name, Reference.Reference, Term.Term, Width.Width}
 use Rattle.lft_classes.specs.{declared.shapes.{Inherited.Inherited, Shape.Shape, Thing.Thing}, Shapes.{thing_named, width_of}}
 use Rattle.lft_whole.specs.declared.tree.Count.TheVariants as count
 use Rattle.lft_whole.specs.declared.tree.Member.TheVariants as member
 use Rattle.lft_classes.specs.declared.shapes.Thing.TheVariants as thing
 
 -- ---- members and references
-
 -- the member of this number
 abbrev pub member_in : List Shape → Valued → ℕ → Option Inherited
 member_in shapes t m = option_and_then (λ shape. slice_get shape.members.items m) (slice_get shapes t.shape)
@@ -64,7 +63,6 @@ abbrev pub meaning_in : List Shape → Valued → Reference → Option Meant
 meaning_in shapes t r = meaning_of shapes t (string_bytes r.head.text) r.port
 
 -- ---- counts
-
 -- a count of 2^64 or more is 2^64 - 1
 abbrev pub capped : ℕ → ℕ
 capped n = min n (2 ^ 64 - 1)
@@ -117,12 +115,7 @@ places_of shapes widths t meant = times (how_many_of shapes widths meant.setting
 abbrev pub places_in : List Shape → Widths → Valued → Reference → Option ℕ
 places_in shapes widths t r = option_and_then (places_of shapes widths t) (meaning_in shapes t r)
 
--- how many references have together
-abbrev pub all_places : List Shape → Widths → Valued → List Reference → Option ℕ
-all_places shapes widths t rs = total (map (places_in shapes widths t) rs)
-
 -- ---- widths
-
 -- a number below 0 is no width
 abbrev pub natural : ℤ → Option ℕ
 natural (pos n) = Some n
@@ -157,45 +150,6 @@ width_in shapes (suc depth) t m = width_by shapes (width_in shapes depth) t m
 abbrev pub IsWidth : List Shape → Valued → ℕ → ℕ → Type 0
 IsWidth shapes t m n = (depth : ℕ) × (width_in shapes depth t m ≡ Some n)
 
--- the member has that width, or none where none is written
-abbrev pub HasWidth : List Shape → Valued → ℕ → Option ℕ → Type 0
-HasWidth shapes t m None = written_width shapes t m ≡ None
-HasWidth shapes t m (Some n) = IsWidth shapes t m n
-
 -- the member is so many
 abbrev pub IsMany : List Shape → Valued → ℕ → ℕ → Type 0
 IsMany shapes t m n = (depth : ℕ) × (how_many shapes (width_in shapes depth) t m ≡ Some n)
-
--- the reference has so many places
-abbrev pub HasPlaces : List Shape → Valued → Reference → ℕ → Type 0
-HasPlaces shapes t r n = (depth : ℕ) × (places_in shapes (width_in shapes depth) t r ≡ Some n)
-
--- the references have so many together
-abbrev pub HavePlaces : List Shape → Valued → List Reference → ℕ → Type 0
-HavePlaces shapes t rs n = (depth : ℕ) × (all_places shapes (width_in shapes depth) t rs ≡ Some n)
-
--- the connection joins so many pairs
-pub record HasPairs (shapes : List Shape) (t : Valued) (c : Connection) (n : ℕ) : Type 0 where
-  pub left : ℕ
-  pub right : ℕ
-  pub sources : HavePlaces shapes t c.sources.items left
-  pub destinations : HavePlaces shapes t c.destinations.items right
-  pub pairs : n ≡ joined left right c.is_broadcast
-
--- ---- for the crate's own contracts
-
--- the thing is so many
-abbrev pub AreMany : List Shape → Valued → Thing → ℕ → Type 0
-AreMany shapes t thing n = (depth : ℕ) × (how_many_of shapes (width_in shapes depth) t thing ≡ Some n)
-
--- the instance is so many, if there is one
-abbrev pub AreManyIn : List Shape → Valued → Option ℕ → ℕ → Type 0
-AreManyIn shapes t instance n = (depth : ℕ) × (how_many_in shapes (width_in shapes depth) t instance ≡ Some n)
-
--- the term is so many
-abbrev pub IsCount : List Shape → Valued → Count → ℕ → Type 0
-IsCount shapes t c n = (depth : ℕ) × (count_in shapes (width_in shapes depth) t c ≡ Some n)
-
--- the terms are so many together
-abbrev pub IsSum : List Shape → Valued → List Term → ℕ → Type 0
-IsSum shapes t terms n = (depth : ℕ) × (sum_in shapes (width_in shapes depth) t terms ≡ Some n)

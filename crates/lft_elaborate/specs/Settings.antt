@@ -15,7 +15,3 @@ valued t = record { shape = t.shape; values = map (λ v. Some v) t.values.items 
 -- the one of this number among those that were made
 abbrev pub setting_in : List Setting → ℕ → Option Valued
 setting_in settings k = slice_get (map valued settings) k
-
--- the setting of this number
-abbrev pub setting_at : Settings → ℕ → Option Valued
-setting_at s k = setting_in s.settings.items k

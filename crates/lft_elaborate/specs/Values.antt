@@ -1,6 +1,6 @@
 -- Reactors with the numbers of their parameters, from the texts alone.
-use Rattle.std.specs.Prelude.{◌≡◌, ℕ, ◌^◌, ℤ, pos, neg_ℤ, min, Bool, true, false, ◌==◌, List, [], ◌∷◌, map, length, Option, Some, None, option_map, slice_get, bytes_eq, codes, string_bytes, unwrap_or, if◌then◌else◌}
-use Rattle.std.specs.Option.{option_and_then, option_or}
+use Rattle.std.specs.Prelude.{ℕ, ◌^◌, ℤ, pos, neg_ℤ, min, Bool, true, false, ◌==◌, List, ◌∷◌, map, length, Option, Some, None, option_map, slice_get, bytes_eq, codes, string_bytes, unwrap_or, if◌then◌else◌}
+use Rattle.std.specs.Option.{option_and_then}
 use Rattle.lft_elaborate.specs.Channels.Channels.{below}
 use Rattle.lft_whole.specs.declared.tree.Value.{Value}
 use Rattle.lft_classes.specs.{declared.shapes.{Child.Child, Given.Given, Shape.Shape, Thing.Thing}, Shapes.{child_at, thing_named}}
@@ -30,10 +30,6 @@ is_forever v = false
 -- a width needs the parameter of this number
 abbrev pub is_sized : Shape → ℕ → Bool
 is_sized shape p = unwrap_or (slice_get shape.sized.items p) false
-
--- no width needs any parameter of the shape of this number
-abbrev pub IsUnsized : List Shape → ℕ → Type 0
-IsUnsized shapes k = (shape : Shape) (p : ℕ) → slice_get shapes k ≡ Some shape → is_sized shape p ≡ false
 
 -- the number of a thing of the shape: of a parameter that a width needs
 abbrev pub number_of : Shape → List (Option ℤ) → Thing → Option ℤ
@@ -76,10 +72,6 @@ value_inside outer values gs inner p = if is_sized inner p then chosen outer val
 -- of each parameter
 abbrev pub values_inside : Shape → List (Option ℤ) → List Given → Shape → List (Option ℤ)
 values_inside outer values gs inner = map (value_inside outer values gs inner) (below (length inner.parameters.items))
-
--- what is written for the parameter of this number: what `new` gives to it, or else its default
-abbrev pub value_written : List Given → Shape → ℕ → Option Value
-value_written gs inner p = option_or (given_to gs p) (default_written inner p)
 
 -- the number of a parameter of the main reactor: its default; of one that decides no width 0
 abbrev pub main_value : Shape → ℕ → Option ℤ

@@ -2,8 +2,9 @@
 
 ghost use Rattle.std.specs.Prelude.{◌≡◌, ◌<◌, ◌≤◌, ◌⊎◌, ℕ, List, IfOk, IfNone, IfSome, OnOk, Some, length, slice_get, true};
 ghost use Rattle.lft_classes.specs.Walks.{Has};
-ghost use Rattle.lft_elaborate.specs.{Limits.{limits, first_passed}, Noted.{AreMade, AreSettings, GoesOn, table}, Places.HasPairs, Settings.setting_at};
-ghost use Rattle.lft_elaborate.specs.{Used.{AreMarked, AreUsed, HasInner, HasNumber, IsIn, IsNumberIn, Stay, is_instance, is_instance_in}, Values.Valued};
+ghost use Rattle.lft_elaborate.specs.inner.{Limits.{limits, first_passed}, Noted.GoesOn, Places.HasPairs, Settings.setting_at};
+ghost use Rattle.lft_elaborate.specs.inner.Used.{AreMarked, HasInner, HasNumber, IsNumberIn, Stay};
+ghost use Rattle.lft_elaborate.specs.{Noted.{AreMade, AreSettings, table}, Used.{AreUsed, IsIn, is_instance, is_instance_in}, Values.Valued};
 
 use crate::channels::joined;
 use crate::path::Wanted;

@@ -2,7 +2,7 @@
 
 ghost use Rattle.std.specs.Prelude.{◌≡◌, ℕ, List, true, false, IfOk, OnOk};
 ghost use Rattle.lft_classes.specs.declared.shapes.Shape.{Shape};
-ghost use Rattle.lft_elaborate.specs.{declared.settings.Setting.Setting, Finding.{AreNeeded, HasWanted, IsFirst, IsNext, IsPath, LeadsTo}, Values.Valued};
+ghost use Rattle.lft_elaborate.specs.{declared.settings.Setting.Setting, inner.Finding.{AreNeeded, HasWanted, IsFirst, IsNext, IsPath, LeadsTo}, Values.Valued};
 
 use std::alloc::{AllocError, Global};
 use std::collections::BTreeSet;

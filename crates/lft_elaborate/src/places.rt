@@ -2,8 +2,10 @@
 
 ghost use Rattle.std.specs.Prelude.{◌≡◌, ◌≤◌, IfOk, OnOk, option_and_then, option_map};
 ghost use Rattle.lft_classes.specs.Shapes.{thing_named};
-ghost use Rattle.lft_elaborate.specs.{Noted.{AreMade, GoesOn, IsMeaning, table}, Places.{AreMany, AreManyIn, HasPlaces, HavePlaces, port_named}};
-ghost use Rattle.lft_elaborate.specs.{Settings.{setting_at, shape_at}, Values.Valued, Widths.member_at};
+ghost use Rattle.lft_elaborate.specs.Noted.{AreMade, table};
+ghost use Rattle.lft_elaborate.specs.inner.{Noted.{GoesOn, IsMeaning}, Places.{AreMany, AreManyIn, HasPlaces, HavePlaces}, Settings.setting_at};
+ghost use Rattle.lft_elaborate.specs.inner.Widths.{member_at};
+ghost use Rattle.lft_elaborate.specs.{Places.port_named, Settings.shape_at, Values.Valued};
 
 use crate::settings::Settings;
 use lft_classes::Thing;

@@ -1,9 +1,9 @@
 //! The reactors with the values of those of their parameters that decide widths.
 
 ghost use Rattle.std.specs.Prelude.{◌≡◌, ◌≤◌, ◌<◌, ℕ, [], Some, IfErr, IfOk, IfSome, OnOk, length, map, option_map, slice_get, slice_set};
-ghost use Rattle.lft_classes.specs.{Nestings.IsNesting, Refused.IsTooMuch};
-ghost use Rattle.lft_elaborate.specs.Noted.{Adds, AreMade, AreSettings, GoesOn, GoesOnIf, IsNumberOf, found_inside, noted_for, table};
-ghost use Rattle.lft_elaborate.specs.{Settings.{setting_at, shape_at}, Values.{IsUnsized, Valued, inside}};
+ghost use Rattle.lft_classes.specs.{Nestings.IsNesting, inner.Refused.IsTooMuch};
+ghost use Rattle.lft_elaborate.specs.inner.{Noted.{Adds, GoesOn, GoesOnIf}, Settings.setting_at, Values.IsUnsized};
+ghost use Rattle.lft_elaborate.specs.{Noted.{AreMade, AreSettings, IsNumberOf, found_inside, noted_for, table}, Settings.shape_at, Values.{Valued, inside}};
 
 use crate::values::{Given, inner_values, main_values, nothing};
 use lft_classes::{Nesting, Shape, Work};

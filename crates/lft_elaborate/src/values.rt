@@ -1,8 +1,8 @@
 //! The whole numbers that parameters are.
 
 ghost use Rattle.std.specs.Prelude.{◌≡◌, ◌<◌, ℕ, IfErr, IfOk, map, None, Some, option_map, replicate, slice_get, vec_len};
-ghost use Rattle.lft_elaborate.specs.Refused.{IsLacking, SaysNoNumber};
-ghost use Rattle.lft_elaborate.specs.Values.{default_at, default_written, given_to, literal, main_value, main_values, number_in, number_named, signed, value_inside, value_written, values_inside};
+ghost use Rattle.lft_elaborate.specs.inner.{Refused.{IsLacking, SaysNoNumber}, Values.value_written};
+ghost use Rattle.lft_elaborate.specs.Values.{default_at, default_written, given_to, literal, main_value, main_values, number_in, number_named, signed, value_inside, values_inside};
 
 use lft_classes::{Child, Shape};
 use lft_whole::sources::{Stop, Why};

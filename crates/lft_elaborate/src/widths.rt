@@ -1,10 +1,10 @@
 //! Widths of ports and banks in a setting.
 
 ghost use Rattle.std.specs.Prelude.{◌≡◌, ◌≤◌, ◌↔◌, ℕ, Some, IfErr, IfOk, IfSome, IsSome, OnOk, is_some, option_and_then};
-ghost use Rattle.lft_elaborate.specs.{Finding.{AddsIf, AddsOnly, IsNext, IsPath}, Noted.{AreMade, GoesOn, GoesOnIf, table}};
-ghost use Rattle.lft_elaborate.specs.Places.{AreMany, AreManyIn, HasPlaces, HasWidth, IsCount, IsMany, IsSum, IsWidth, natural, parameter_in, plus, times};
-ghost use Rattle.lft_elaborate.specs.{Refused.{IsCounted, IsCountedBy, IsCountedIn, IsOfWord}, Settings.setting_at, Values.Valued};
-ghost use Rattle.lft_elaborate.specs.Widths.{member_at, width_at, found_width};
+ghost use Rattle.lft_elaborate.specs.inner.{Finding.{AddsIf, AddsOnly, IsNext, IsPath}, Noted.{GoesOn, GoesOnIf}};
+ghost use Rattle.lft_elaborate.specs.inner.Places.{AreMany, AreManyIn, HasPlaces, HasWidth, IsCount, IsSum};
+ghost use Rattle.lft_elaborate.specs.inner.{Refused.{IsCounted, IsCountedBy, IsCountedIn, IsOfWord}, Settings.setting_at, Widths.{member_at, width_at}};
+ghost use Rattle.lft_elaborate.specs.{Noted.{AreMade, table}, Places.{IsMany, IsWidth, natural, parameter_in, plus, times}, Values.Valued, Widths.found_width};
 
 use crate::path::{Path, Wanted};
 use crate::settings::{Settings, note};

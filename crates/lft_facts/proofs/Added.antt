@@ -8,8 +8,8 @@ use Rattle.lft_tag.specs.declared.Tag.{Tag}
 use Rattle.lft_ir.specs.{Parts.inputs, Naming.named, Sound.{IsSound, IsNameOf, IsTriggerOf}}
 use Rattle.lft_ir.specs.declared.{parts.{Name.Name, Value.Value, Trigger.{Trigger, TheVariants.On}}, steps.row.Row.Row}
 use Rattle.lft_graph.proofs.Feeding.{to_trigger}
-use Rattle.lft_facts.specs.{declared.facts.Fact.Fact, Facts.{IsFact, IsShown, AreFacts, AreShown, IsRead, IsUntriggered}}
-use Rattle.lft_facts.specs.Enough.{Adds, Extends, Gives, ProvesTag, ProvesRow, IsOwn, AreOwn}
+use Rattle.lft_facts.specs.{declared.facts.Fact.Fact, Facts.{IsFact, IsShown, AreFacts, AreShown, IsRead, IsUntriggered}, inner.Enough.{Adds, Extends, Gives}}
+use Rattle.lft_facts.specs.Enough.{ProvesTag, ProvesRow, IsOwn, AreOwn}
 use Rattle.lft_facts.proofs.Lists.{all_left}
 
 module _ {b : Breach} (plan : PlanParts) (t : List Row) where

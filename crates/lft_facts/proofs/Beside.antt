@@ -6,7 +6,7 @@ use Rattle.lft_lists.proofs.Places.{Some_same}
 use Rattle.lft_ir.specs.declared.steps.row.Row.{Row}
 use Rattle.lft_model.{specs.Runs.{start_row, Ran}, proofs.Places.slice_get_within}
 use Rattle.lft_races.specs.Runs.{StartsAt}
-use Rattle.lft_facts.specs.{Reasons.{IsRunBefore, IsRunAfter}, Neighbours.IsNearestStart}
+use Rattle.lft_facts.specs.{Reasons.{IsRunBefore, IsRunAfter}, inner.Neighbours.IsNearestStart}
 
 module _ (Kind : Tag → Type 0) (UpToIt : Tag → Tag → Type 0) (t : List Row) (r i : ℕ) (row : Row) (is : slice_get t i ≡ Some row) where
   pub tag_here : (k : Tag) → StartsAt t k r i → k ≡ row.tag

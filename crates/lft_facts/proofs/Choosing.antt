@@ -8,7 +8,7 @@ use Rattle.lft_graph.specs.{Graph.{GraphParts, IsGraphOf}, Precedence.Precedes}
 use Rattle.lft_model.{specs.{Plans.PlanParts, Runs.{start_row, end_row}}, proofs.{Legality.ended, Places.slice_get_take}}
 use Rattle.lft_rows.specs.Answers.Answers.{KeepsRows}
 use Rattle.lft_races.{specs.{Runs.{StartsAt, EndsAt}, Races.{EndLater, NotEnded, IsUnfinished}}, proofs.Standing.unfinished_whole}
-use Rattle.lft_facts.{specs.{Facts.{IsJustBefore, IsChosen}, Ways.{IsMarked, InList}}, proofs.Upstream.{direct_of, in_list}}
+use Rattle.lft_facts.{specs.{Facts.{IsJustBefore, IsChosen}, inner.Ways.{IsMarked, InList}}, proofs.Upstream.{direct_of, in_list}}
 
 -- what hasn't ended before a start ends behind it, if it ends
 pub end_after : (t : List Row) (g h : Tag) (a r start e : ℕ) → StartsAt t h r start → NotEnded t g a start → EndsAt t g a e → start < e

@@ -10,10 +10,10 @@ use Rattle.lft_ir.proofs.Origins.{origin_unique}
 use Rattle.lft_model.proofs.{Blocks.two_places, Steps.some_written}
 use Rattle.lft_model.specs.{Plans.PlanParts, Presence.{value_written, scheduled, given, min_delay, events_of, IsWrittenFrom, PortClash}}
 use Rattle.lft_rows.specs.declared.presence.causes.Cause.{Cause as Event}
-use Rattle.lft_rows.specs.Presence.{Causes.{tag_of, ComesUpTo, AreCauses, Leads, IsLastCause, IsCause as IsEventCause}, Lookups.IsFirstCause}
+use Rattle.lft_rows.specs.inner.Presence.{Causes.{tag_of, ComesUpTo, AreCauses, Leads, IsLastCause, IsCause as IsEventCause}, Lookups.IsFirstCause}
 use Rattle.lft_rows.proofs.PresenceLemmas.{Presences.{ChainOf, port_cause_at, none_leads}, Twice.two_causes, Lookups.in_order}
 use Rattle.lft_facts.specs.{declared.facts.{Fact.Fact, Cause.Cause}, Facts.{IsShown, AreShown, IsWrittenIn, event_of}}
-use Rattle.lft_facts.specs.Enough.{Gives, GivesClash, IsOwn, AreOwn, AreOwnAt}
+use Rattle.lft_facts.specs.{inner.Enough.{Gives, GivesClash, AreOwnAt}, Enough.{IsOwn, AreOwn}}
 use Rattle.lft_facts.proofs.Causes.{written_from, scheduled_at, given_at, written_in}
 use Rattle.lft_facts.specs.declared.facts.Fact.TheVariants as fact
 use Rattle.lft_facts.specs.declared.facts.Cause.TheVariants as cause

@@ -6,7 +6,7 @@ use Rattle.lft_model.proofs.Places.{slice_get_within}
 use Rattle.lft_ir.specs.{Parts.{Parts, inputs}, Naming.named, Sound.{IsSound, IsNameOf, IsTriggerOf as IsKnown}}
 use Rattle.lft_ir.specs.declared.parts.{Reaction.Reaction, Name.{Name, TheVariants.Port}, Trigger.{Trigger, TheVariants.On}}
 use Rattle.lft_graph.{specs.Precedence.Feeds, proofs.Feeding.{from_trigger, to_trigger}}
-use Rattle.lft_facts.{specs.{Facts.{FeedsBy, IsTriggerOf}, Ways.IsFed}, proofs.Giving.same_reaction}
+use Rattle.lft_facts.{specs.{Facts.{FeedsBy, IsTriggerOf}, inner.Ways.IsFed}, proofs.Giving.same_reaction}
 
 -- a reaction that may write and one that may read
 module _ (program : Parts) (sound : IsSound program) (a b : ℕ) (writer reader : Reaction) (is_writer : slice_get program.reactions a ≡ Some writer) (is_reader : slice_get program.reactions b ≡ Some reader) (effects : List Name) (are_effects : effects ≡ writer.effects) where

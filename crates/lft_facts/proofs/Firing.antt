@@ -6,7 +6,7 @@ use Rattle.lft_lists.proofs.Places.{same_at}
 use Rattle.lft_tag.{specs.{declared.Tag.Tag, Tags.Before}, proofs.{Order.{Before-irrefl, Before-trans}, Chains.tag_of}}
 use Rattle.lft_ir.specs.{Parts.Parts, declared.{parts.{Timer.Timer as TimerOf, Trigger.TheVariants.Timer}, steps.row.Row.Row}}
 use Rattle.lft_model.specs.{Plans.PlanParts, Presence.{Fires, Occurs}}
-use Rattle.lft_facts.specs.{Reasons.IsNearest, Neighbours.{IsFiringBefore, IsFiringAfter}}
+use Rattle.lft_facts.specs.{Reasons.IsNearest, inner.Neighbours.{IsFiringBefore, IsFiringAfter}}
 
 -- which time is the earlier, of tags of the microstep 0
 earlier_time : (s u : ℕ) → Before (record { time = s; micro = 0 }) (record { time = u; micro = 0 }) → s < u

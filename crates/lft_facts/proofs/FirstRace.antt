@@ -9,8 +9,8 @@ use Rattle.lft_ir.specs.{declared.steps.row.Row.Row, Parts.Parts}
 use Rattle.lft_model.{specs.{declared.breach.Breach.Breach, Plans.PlanParts}, proofs.Places.{slice_get_within, slice_get_take}}
 use Rattle.lft_graph.specs.Precedence.{Precedes}
 use Rattle.lft_races.{specs.{Runs.{StartsAt, EndsAt}, Races.{IsUnfinished, IsRace, StandBefore, EndLater}}, proofs.{Ending.starts_here, Standing.end_behind}}
-use Rattle.lft_facts.specs.{declared.facts.Fact.Fact, Facts.{IsChosen, IsFact, AreFacts, AreShown, IsShown}}
-use Rattle.lft_facts.specs.{Enough.{Adds, AreOwn, IsOwn, IsBefore, GivesChain, EndWithRace, Proves, ProvesTag}, Ways.{IsMarked, EndsMarked}}
+use Rattle.lft_facts.specs.{declared.facts.Fact.Fact, Facts.{IsChosen, IsFact, AreFacts, AreShown, IsShown}, inner.{Enough.Adds, Ways.{IsMarked, EndsMarked}}}
+use Rattle.lft_facts.specs.Enough.{AreOwn, IsOwn, IsBefore, GivesChain, EndWithRace, Proves, ProvesTag}
 use Rattle.lft_facts.proofs.{Lists.all_left, Giving.all_shown, Added.adds_row}
 use Rattle.lft_facts.specs.declared.facts.Fact.TheVariants as fact
 

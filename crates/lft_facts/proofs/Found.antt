@@ -2,10 +2,10 @@
 use Rattle.std.proofs.Common.{◌≡◌, ℕ, ◌+◌, ◌<◌, ◌≤◌, ◌⊎◌, inl, inr, List, refl, sym, ◌∙◌, subst, arith, Option, Some, None, unwrap_or}
 use Rattle.lft_tag.{specs.Tags.Before, proofs.Order.Before-irrefl}
 use Rattle.lft_ir.specs.declared.steps.row.Row.{Row}
-use Rattle.lft_model.specs.{declared.breach.Breach.Breach, Plans.PlanParts, Presence.Collision}
-use Rattle.lft_model.specs.Breaches.{BreaksRow, BreaksTag, BreaksAt, TagBreach, TagOrder, First}
+use Rattle.lft_model.specs.{declared.breach.Breach.Breach, Plans.PlanParts, Presence.Collision, inner.Breaches.{BreaksRow, BreaksTag, BreaksAt}}
+use Rattle.lft_model.specs.Breaches.{TagBreach, TagOrder, First}
 use Rattle.lft_rows.specs.Answers.Answers.{KeepsRows}
-use Rattle.lft_facts.specs.{declared.facts.Fact.Fact, Enough.{Gives, ProvesTag}}
+use Rattle.lft_facts.specs.{declared.facts.Fact.Fact, inner.Enough.Gives, Enough.ProvesTag}
 
 -- the first breach by a tag, and that no row breaks a rule
 pub record IsTagFirst (plan : PlanParts) (t : List Row) (b : Breach) : Type 0 where

@@ -12,7 +12,7 @@ use Rattle.lft_model.proofs.{Places.slice_get_within, Legality.{four, ran_at, on
 use Rattle.lft_rows.specs.Answers.Answers.{KeepsRows}
 use Rattle.lft_facts.specs.declared.facts.{Fact.Fact, Cause.Cause}
 use Rattle.lft_facts.specs.Facts.{IsChosen, IsFact, IsShown, IsCause, AreFacts, AreShown, StartsBefore, IsTriggerOf, HasTriggers, IsUntriggered}
-use Rattle.lft_facts.specs.{Enough.{Gives, GivesChain, GivesTrigger, IsOwn, AreOwn, AreOwnAt}, Ways.{IsMarked, EndsMarked}}
+use Rattle.lft_facts.specs.{inner.{Enough.{Gives, GivesTrigger, AreOwnAt}, Ways.{IsMarked, EndsMarked}}, Enough.{GivesChain, IsOwn, AreOwn}}
 use Rattle.lft_facts.proofs.Lists.{all_right}
 use Rattle.lft_races.specs.Runs.{StartsAt, EndsAt}
 use Rattle.lft_facts.specs.declared.facts.Fact.TheVariants as fact

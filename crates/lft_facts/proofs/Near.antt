@@ -3,9 +3,9 @@ use Rattle.std.proofs.Common.{ℕ, List, refl, sym, ◌∙◌, subst, Some}
 use Rattle.lft_tag.{specs.{declared.Tag.Tag, Tags.{Before, UpTo}, Shifts.{Folded, shifted}}, proofs.Order.{Before-irrefl, Before-trans, UpTo-not}}
 use Rattle.lft_ir.specs.{Sound.IsSound, declared.{parts.{Name.Name, Trigger.TheVariants.On}, steps.row.Row.Row}, Steps.Fits.RowsFit}
 use Rattle.lft_model.specs.{Plans.PlanParts, Presence.IsPresent}
-use Rattle.lft_rows.specs.{declared.presence.causes.Cause.Cause as Event, Presence.{Causes.tag_of, Lookups.{IsLastBefore, IsFirstAfter}}}
+use Rattle.lft_rows.specs.{declared.presence.causes.Cause.Cause as Event, inner.Presence.{Causes.tag_of, Lookups.{IsLastBefore, IsFirstAfter}}}
 use Rattle.lft_rows.proofs.PresenceLemmas.{Positions.shifted_mono, Presences.{present_cause, cause_present}, Lookups.in_order}
-use Rattle.lft_facts.specs.{Reasons.IsNearest, Causes.StandsFor}
+use Rattle.lft_facts.specs.{Reasons.IsNearest, inner.Causes.StandsFor}
 
 module _ (plan : PlanParts) (t : List Row) (sound : IsSound plan.program) (fit : RowsFit plan.program t) (g : Tag) (n : Name) (key : ℕ) (s : Folded) (stands : StandsFor plan.program n key s) (c : Event) where
   pub nearest_before : IsLastBefore plan t key s g (Some c) → IsNearest plan t g (On n) (shifted (tag_of c) s)

@@ -4,9 +4,9 @@ use Rattle.std.proofs.lemmas.List.Elements.{All-head, All-tail, All-cons, All-ni
 use Rattle.lft_lists.proofs.Places.{same_at}
 use Rattle.lft_tag.specs.declared.Tag.{Tag}
 use Rattle.lft_ir.specs.declared.steps.row.Row.{Row}
-use Rattle.lft_model.specs.{declared.breach.Breach.Breach, Plans.PlanParts, Breaches.{IsUndeclared, BreaksRow, RowBreach}}
-use Rattle.lft_facts.specs.{declared.facts.{Fact.Fact, RowFact.RowFact}, Facts.{IsFact, IsShown, IsRowFact, AreFacts, AreShown, IsRowOf}}
-use Rattle.lft_facts.specs.Enough.{GivesRow, ProvesRow, IsOwn, AreOwn, row_of}
+use Rattle.lft_model.specs.{declared.breach.Breach.Breach, Plans.PlanParts, Breaches.{IsUndeclared, RowBreach}, inner.Breaches.BreaksRow}
+use Rattle.lft_facts.specs.{declared.facts.{Fact.Fact, RowFact.RowFact}, Facts.{IsFact, IsShown, IsRowFact, AreFacts, AreShown, IsRowOf}, inner.Enough.GivesRow}
+use Rattle.lft_facts.specs.Enough.{ProvesRow, IsOwn, AreOwn, row_of}
 use Rattle.lft_facts.specs.declared.facts.Fact.TheVariants as fact
 
 pub breaks_4 : (plan : PlanParts) (t : List Row) (i : ℕ) (row : Row) → BreaksRow plan t i row 4 → IsUndeclared plan.program t i row row.step

@@ -6,7 +6,7 @@ use Rattle.lft_tag.specs.declared.Tag.{Tag}
 use Rattle.lft_ir.specs.declared.steps.row.Row.{Row}
 use Rattle.lft_model.{specs.Runs.end_row, proofs.Places.slice_get_within}
 use Rattle.lft_races.specs.Runs.{EndsAt}
-use Rattle.lft_facts.specs.Ways.{IsMarked, EndsMarked, IsLeastEnd, IsLeastOfAll}
+use Rattle.lft_facts.specs.inner.Ways.{IsMarked, EndsMarked, IsLeastEnd, IsLeastOfAll}
 
 -- one more row that ends no marked reaction
 module _ (t : List Row) (g : Tag) (next : List (Option ℕ)) (start i : ℕ) where

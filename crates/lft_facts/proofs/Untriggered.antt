@@ -6,7 +6,8 @@ use Rattle.lft_lists.proofs.Places.{same_at, contains_at}
 use Rattle.lft_tag.specs.declared.Tag.{Tag}
 use Rattle.lft_ir.specs.declared.{parts.{Reaction.Reaction, Trigger.Trigger}, steps.row.Row.Row}
 use Rattle.lft_model.{specs.{Plans.PlanParts, Presence.Triggered}, proofs.Places.slice_get_within}
-use Rattle.lft_facts.{specs.{declared.facts.Fact.Fact, Facts.{IsFact, AreFacts}, Enough.{Gives, IsOwn, AreOwnAt}}, proofs.Giving.not_triggered_gives}
+use Rattle.lft_facts.specs.{declared.facts.Fact.Fact, Facts.{IsFact, AreFacts}, inner.Enough.{Gives, AreOwnAt}, Enough.IsOwn}
+use Rattle.lft_facts.proofs.Giving.{not_triggered_gives}
 use Rattle.lft_races.specs.Runs.{StartsAt}
 use Rattle.lft_facts.specs.declared.facts.Fact.TheVariants as fact
 

@@ -7,8 +7,9 @@ use Rattle.lft_ir.specs.{Parts.Parts, declared.steps.row.Row.Row}
 use Rattle.lft_graph.specs.{Before.{IsDeclaredJustBefore, FeedsLast}, Graph.{GraphParts, IsGraphOf}, Precedence.{Precedes, Direct, Precedes.{one, more}}}
 use Rattle.lft_graph.proofs.Chains.{snoc}
 use Rattle.lft_model.{specs.{declared.breach.Breach.Breach, Plans.PlanParts}, proofs.Places.{slice_get_within, slice_get_take, slice_get_taken}}
-use Rattle.lft_facts.specs.{declared.facts.Fact.Fact, Facts.{AreFacts, IsFact, IsShown}, Enough.{GivesDirect, GivesChain, IsOwn, AreOwn}}
-use Rattle.lft_facts.specs.Ways.{IsMarked, IsMarking, AreThere, InList, LeadsOn, AreWays, AreSteps}
+use Rattle.lft_facts.specs.{declared.facts.Fact.Fact, Facts.{AreFacts, IsFact, IsShown}}
+use Rattle.lft_facts.specs.inner.{Enough.GivesDirect, Ways.{IsMarked, IsMarking, AreThere, InList, LeadsOn, AreWays, AreSteps}}
+use Rattle.lft_facts.specs.Enough.{GivesChain, IsOwn, AreOwn}
 use Rattle.lft_facts.proofs.Lists.{all_left, all_last}
 
 module _ (list : List ℕ) (i a : ℕ) (is : slice_get list i ≡ Some a) (b : ℕ) (old next : List (Option ℕ)) (so_far : IsMarking (take i list) b old next) where

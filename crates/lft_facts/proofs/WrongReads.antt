@@ -6,7 +6,7 @@ use Rattle.lft_lists.proofs.{Places.{get_there, same_at, get_written, same_items
 use Rattle.lft_tag.specs.declared.Tag.{Tag}
 use Rattle.lft_ir.specs.{Parts.inputs, declared.{parts.{Name.Name, Reaction.Reaction, Value.Value}, steps.row.Row.Row}}
 use Rattle.lft_model.{specs.{Plans.PlanParts, Presence.{Shows, Inputs}, Runs.{inputs_of, reads_at, read_of, steps_of}}, proofs.Places.slice_get_within}
-use Rattle.lft_facts.specs.{declared.facts.Fact.Fact, Facts.{IsFact, IsShown, AreFacts, IsRead}, Enough.{Gives, IsOwn, AreOwnAt}}
+use Rattle.lft_facts.specs.{declared.facts.Fact.Fact, Facts.{IsFact, IsShown, AreFacts, IsRead}, inner.Enough.{Gives, AreOwnAt}, Enough.IsOwn}
 use Rattle.lft_facts.proofs.Giving.{ran_there, same_reaction}
 use Rattle.lft_races.specs.Runs.{StartsAt}
 use Rattle.lft_facts.specs.declared.facts.Fact.TheVariants as fact

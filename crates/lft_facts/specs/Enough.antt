@@ -1,21 +1,15 @@
 -- What some facts give, of whatever plan and rows show them.
-use Rattle.std.specs.Prelude.{◌≡◌, ℕ, ◌+◌, ◌<◌, List, ◌∷◌, ◌++◌, take, Option, Some, MatchOption, slice_get, Contains, All}
+use Rattle.std.specs.Prelude.{◌≡◌, ℕ, ◌+◌, ◌<◌, List, ◌∷◌, ◌++◌, take, Option, Some, MatchOption, All}
 use Rattle.lft_tag.specs.{declared.Tag.Tag, Tags.UpTo}
-use Rattle.lft_ir.specs.{Parts.Parts, declared.{parts.Trigger.Trigger, steps.row.Row.Row}}
-use Rattle.lft_graph.specs.Precedence.{Direct, Precedes}
-use Rattle.lft_model.specs.{declared.breach.Breach.Breach, Plans.PlanParts, Presence.{stop, Occurs, Collision}}
-use Rattle.lft_model.specs.Breaches.{BreaksRow, BreaksAt, RowBreach, TagBreach}
+use Rattle.lft_ir.specs.{Parts.Parts, declared.steps.row.Row.Row}
+use Rattle.lft_graph.specs.Precedence.{Precedes}
+use Rattle.lft_model.specs.{declared.breach.Breach.Breach, Plans.PlanParts, Presence.stop, Breaches.{RowBreach, TagBreach}}
 use Rattle.lft_rows.specs.Answers.Answers.{KeepsRows}
 use Rattle.lft_races.specs.Races.{EndLater, IsFirstRace, StandBefore}
-use Rattle.lft_facts.specs.declared.facts.{Fact.Fact, Cause.Cause, Reason.Reason, RowFact.RowFact}
-use Rattle.lft_facts.specs.Facts.{IsChosen, IsShown, IsCause, IsRowFact, AreFacts, AreShown}
+use Rattle.lft_facts.specs.{declared.facts.{Fact.Fact, Cause.Cause, Reason.Reason, RowFact.RowFact}, Facts.{IsChosen, AreShown}}
 use Rattle.lft_facts.specs.declared.facts.Fact.TheVariants as fact
 use Rattle.lft_facts.specs.declared.facts.Reason.TheVariants as reason
 use Rattle.lft_facts.specs.declared.facts.RowFact.TheVariants as row_fact
-
--- of whatever plan and rows show the facts: where no row breaks one of the rules 1 to 5, the rule is broken at g
-abbrev pub Gives : List Fact → Tag → Option ℕ → ℕ → Type 0
-Gives facts g o k = (plan : PlanParts) (t : List Row) → AreShown plan t facts → KeepsRows plan t → BreaksAt plan t g o k
 
 -- the row that is wrong
 abbrev pub row_of : RowFact → ℕ
@@ -83,23 +77,6 @@ IsOwn b (fact.Reason x) = IsOwnReason b x
 abbrev pub AreOwn : Breach → List Fact → Type 0
 AreOwn b facts = All (IsOwn b) facts
 
--- they are so of whatever breach at g of these reactions
-abbrev pub AreOwnAt : Tag → Option ℕ → List Fact → Type 0
-AreOwnAt g o facts = (b : Breach) → b.tag ≡ g → b.reaction ≡ o → AreOwn b facts
-
--- facts that hold, and are of the breach where their words need it, stand behind others
-pub record Adds (b : Breach) (plan : PlanParts) (t : List Row) (old new : List Fact) : Type 0 where
-  pub more : List Fact
-  pub is : new ≡ old ++ more
-  pub holds : AreFacts plan t more
-  pub own : AreOwn b more
-
--- such facts, and among them each of the old ones
-pub record Extends (b : Breach) (plan : PlanParts) (t : List Row) (old new : List Fact) : Type 0 where
-  pub holds : AreFacts plan t new
-  pub kept : All (Contains new) old
-  pub own : AreOwn b new
-
 -- of whatever plan and rows show the facts, they give the breach of a rule by a row
 abbrev pub ProvesRow : List Fact → Breach → Type 0
 ProvesRow facts b = (plan : PlanParts) (t : List Row) → AreShown plan t facts → RowBreach plan t b
@@ -113,25 +90,9 @@ pub record Proves (facts : List Fact) (b : Breach) : Type 0 where
   pub row : 0 < b.row → ProvesRow facts b
   pub tag : b.row ≡ 0 → ProvesTag facts b
 
--- of whatever plan and rows the fact holds: the row at place i breaks the rule
-abbrev pub GivesRow : RowFact → ℕ → ℕ → Type 0
-GivesRow f i k = (plan : PlanParts) (t : List Row) → IsRowFact plan t f → (row : Row) × (slice_get t i ≡ Some row) × BreaksRow plan t i row k
-
--- of whatever plan and rows the cause holds: the trigger is present at g
-abbrev pub GivesTrigger : Cause → Tag → Trigger → Type 0
-GivesTrigger c g x = (plan : PlanParts) (t : List Row) → IsCause plan t c → Occurs plan t g x
-
--- of whatever plan and rows show the fact: a directly precedes b
-abbrev pub GivesDirect : Fact → ℕ → ℕ → Type 0
-GivesDirect f a b = (plan : PlanParts) (t : List Row) → IsShown plan t f → Direct plan.program a b
-
 -- of whatever plan and rows show the facts: a precedes b
 abbrev pub GivesChain : List Fact → ℕ → ℕ → Type 0
 GivesChain facts a b = (plan : PlanParts) (t : List Row) → AreShown plan t facts → Precedes plan.program a b
-
--- of whatever plan and rows the two causes hold: some port or action has two causes at g
-abbrev pub GivesClash : Cause → Cause → Tag → Type 0
-GivesClash c d g = (plan : PlanParts) (t : List Row) → IsCause plan t c → IsCause plan t d → Collision plan t g
 
 -- the last of the facts are a race that starts in the row at place i, and the steps from the one reaction to the other; of those that hadn't ended by these rows the one to name is named
 pub record EndWithRace (program : Parts) (rows : List Row) (facts : List Fact) (i : ℕ) : Type 0 where

@@ -3,7 +3,7 @@
 ghost use Rattle.std.specs.Prelude.{◌≤◌, List, length, IfSome, OnOk};
 ghost use Rattle.lft_ir.specs.declared.steps.row.Row.{Row as TheRow};
 ghost use Rattle.lft_model.specs.{declared.breach.Breach.Breach as TheBreach, Plans.PlanParts};
-ghost use Rattle.lft_facts.specs.{Reasons.IsReason, Enough.{Adds, IsOwnReason}};
+ghost use Rattle.lft_facts.specs.{Reasons.IsReason, inner.Enough.Adds, Enough.IsOwnReason};
 
 use crate::facts::{Fact, Reason};
 use lft_tag::NoMemory;

@@ -4,8 +4,8 @@ ghost use Rattle.std.specs.Prelude.{◌≡◌, ◌<◌, ◌≤◌, ◌-◌, ℕ,
 ghost use Rattle.lft_ir.specs.Sound.{IsNameOf, IsTriggerOf as IsKnown};
 ghost use Rattle.lft_ir.specs.{declared.parts.{Name.TheVariants.{Port as ThePort, Action as TheAction}, Trigger.TheVariants.On as TheName}, Steps.Fits.RowsFit};
 ghost use Rattle.lft_model.specs.Presence.{stop as the_stop, IsPresent, Occurs};
-ghost use Rattle.lft_rows.specs.Presence.Causes.{AreCauses};
-ghost use Rattle.lft_facts.specs.{Facts.{IsCause, IsWrittenIn, FiresAfter}, Enough.GivesTrigger};
+ghost use Rattle.lft_rows.specs.inner.Presence.Causes.{AreCauses};
+ghost use Rattle.lft_facts.specs.{Facts.{IsCause, IsWrittenIn, FiresAfter}, inner.Enough.GivesTrigger};
 
 use crate::facts::Cause;
 use lft_ir::steps::Row;

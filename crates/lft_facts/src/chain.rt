@@ -3,7 +3,7 @@
 ghost use Rattle.std.specs.Prelude.{◌≡◌, ◌<◌, ◌⊎◌, ℕ, Some, length, IfOk};
 ghost use Rattle.std.specs.Prelude.{List};
 ghost use Rattle.lft_graph.specs.{Graph.IsGraphOf, Before.{IsDeclaredJustBefore, FeedsLast}};
-ghost use Rattle.lft_facts.specs.{Facts.{IsFact, AreFacts}, Enough.{GivesDirect, GivesChain, IsOwn, AreOwn}, Ways.{AreWays, IsMarked}};
+ghost use Rattle.lft_facts.specs.{Facts.{IsFact, AreFacts}, inner.{Enough.GivesDirect, Ways.{AreWays, IsMarked}}, Enough.{GivesChain, IsOwn, AreOwn}};
 ghost use Rattle.lft_ir.specs.declared.steps.row.Row.{Row as TheRow};
 ghost use Rattle.lft_model.specs.declared.breach.Breach.{Breach as TheBreach};
 

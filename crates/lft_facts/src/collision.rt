@@ -3,8 +3,8 @@
 ghost use Rattle.std.specs.Prelude.{◌≡◌, ◌≤◌, ◌<◌, None, length, IfOk, IfSome, IfNone};
 ghost use Rattle.lft_ir.specs.Steps.Fits.{RowsFit};
 ghost use Rattle.lft_model.specs.Presence.{PortClash, Collision, events_of};
-ghost use Rattle.lft_rows.specs.Presence.Causes.{AreCauses};
-ghost use Rattle.lft_facts.specs.{Facts.{AreTwoCauses, AreFacts}, Enough.{Gives, GivesClash, AreOwnAt}};
+ghost use Rattle.lft_rows.specs.inner.Presence.Causes.{AreCauses};
+ghost use Rattle.lft_facts.specs.{Facts.{AreTwoCauses, AreFacts}, inner.Enough.{Gives, GivesClash, AreOwnAt}};
 
 use crate::cause::of_action;
 use crate::facts::{Cause, Fact};

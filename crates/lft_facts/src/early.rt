@@ -5,7 +5,7 @@ ghost use Rattle.lft_ir.specs.{Steps.Fits.RowsFit, declared.steps.row.Row.Row as
 ghost use Rattle.lft_model.specs.{Breaches.IsTooEarly, Runs.Ran};
 ghost use Rattle.lft_rows.specs.Answers.Answers.{KeepsRows};
 ghost use Rattle.lft_races.specs.Runs.{EndsAt};
-ghost use Rattle.lft_facts.specs.{Facts.AreFacts, Enough.{Gives, AreOwnAt}, Ways.{IsMarked, EndsMarked, IsLeastEnd, IsLeastOfAll}};
+ghost use Rattle.lft_facts.specs.{Facts.AreFacts, inner.{Enough.{Gives, AreOwnAt}, Ways.{IsMarked, EndsMarked, IsLeastEnd, IsLeastOfAll}}};
 
 use crate::chain::chain;
 use crate::facts::Fact;

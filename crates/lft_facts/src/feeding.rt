@@ -3,7 +3,7 @@
 ghost use Rattle.std.specs.Prelude.{◌≡◌, ◌↔◌, ◌<◌, ℕ, Some, length, Contains, IfSome, IfNone, IsTrue};
 ghost use Rattle.lft_ir.specs.{Sound.IsNameOf, declared.parts.Name.TheVariants.Port as ThePort};
 ghost use Rattle.lft_graph.specs.Precedence.{Feeds};
-ghost use Rattle.lft_facts.specs.{Facts.FeedsBy, Ways.IsFed};
+ghost use Rattle.lft_facts.specs.{Facts.FeedsBy, inner.Ways.IsFed};
 
 use lft_ir::{Name, Program, Trigger};
 use lft_lists::item_at;

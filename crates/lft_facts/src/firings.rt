@@ -3,7 +3,7 @@
 ghost use Rattle.std.specs.Prelude.{◌≡◌, ◌<◌, List, length, IfSome, OnOk};
 ghost use Rattle.lft_ir.specs.declared.{parts.Trigger.TheVariants.Timer as TheTimer, steps.row.Row.Row as TheRow};
 ghost use Rattle.lft_model.specs.{declared.breach.Breach.Breach as TheBreach, Plans.PlanParts, Presence.{Fires, Occurs}};
-ghost use Rattle.lft_facts.specs.{Reasons.{IsNearest, IsReason}, Neighbours.{IsFiringBefore, IsFiringAfter}, Enough.{Adds, IsOwnReason}};
+ghost use Rattle.lft_facts.specs.{Reasons.{IsNearest, IsReason}, inner.{Neighbours.{IsFiringBefore, IsFiringAfter}, Enough.Adds}, Enough.IsOwnReason};
 
 use crate::adding::add;
 use crate::facts::{Fact, Reason};

@@ -2,8 +2,8 @@
 
 ghost use Rattle.std.specs.Prelude.{◌≡◌, IfSome};
 ghost use Rattle.lft_ir.specs.{Sound.IsNameOf, declared.parts.Trigger.TheVariants.On as TheName, Steps.Fits.RowsFit};
-ghost use Rattle.lft_rows.specs.Presence.Causes.{AreCauses};
-ghost use Rattle.lft_facts.specs.{Reasons.IsNearest, Causes.StandsFor};
+ghost use Rattle.lft_rows.specs.inner.Presence.Causes.{AreCauses};
+ghost use Rattle.lft_facts.specs.{Reasons.IsNearest, inner.Causes.StandsFor};
 
 use lft_ir::steps::Row;
 use lft_ir::{Name, Program};

@@ -4,7 +4,7 @@ ghost use Rattle.std.specs.Prelude.{◌≡◌, ◌+◌, ◌<◌, ◌≤◌, Some
 ghost use Rattle.lft_tag.specs.{declared.Tag.Tag as TheTag, Tags.{Before, UpTo}};
 ghost use Rattle.lft_ir.specs.Steps.Fits.{RowsFit};
 ghost use Rattle.lft_model.specs.{declared.breach.Breach.Breach as TheBreach, Plans.PlanParts, Runs.Ran};
-ghost use Rattle.lft_facts.specs.{Reasons.{IsRunBefore, IsRunAfter}, Enough.Adds, Neighbours.IsNearestStart};
+ghost use Rattle.lft_facts.specs.{Reasons.{IsRunBefore, IsRunAfter}, inner.{Enough.Adds, Neighbours.IsNearestStart}};
 
 use crate::facts::{Fact, Reason};
 use lft_ir::steps::{Row, row_at};

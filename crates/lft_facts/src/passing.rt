@@ -4,8 +4,8 @@ ghost use Rattle.std.specs.Prelude.{◌≡◌, List, IfSome, OnOk};
 ghost use Rattle.lft_ir.specs.declared.steps.row.Row.{Row as TheRow};
 ghost use Rattle.lft_model.specs.{declared.breach.Breach.Breach as TheBreach, Plans.PlanParts};
 ghost use Rattle.lft_graph.specs.Precedence.{Precedes};
-ghost use Rattle.lft_facts.specs.{Facts.{IsFact, AreFacts}, Reasons.IsReason, Enough.{Adds, IsOwnReason}};
-ghost use Rattle.lft_races.specs.Runs.{HaveRun};
+ghost use Rattle.lft_facts.specs.{Facts.{IsFact, AreFacts}, Reasons.IsReason, inner.Enough.Adds, Enough.IsOwnReason};
+ghost use Rattle.lft_races.specs.inner.Runs.{HaveRun};
 
 use crate::adding::add;
 use crate::facts::{Fact, Reason};

@@ -4,7 +4,7 @@ ghost use Rattle.std.specs.Prelude.{◌≡◌, ◌↔◌, ◌<◌, ◌≤◌, �
 ghost use Rattle.lft_ir.specs.Steps.Fits.{RowsFit};
 ghost use Rattle.lft_model.specs.declared.breach.Breach.{Breach as TheBreach};
 ghost use Rattle.lft_races.specs.Races.{EndLater, FirstSoFar, IsRace, StandBefore};
-ghost use Rattle.lft_facts.specs.{Facts.AreFacts, Enough.{Adds, AreOwn, EndWithRace, TellsRace}, Ways.IsMarked};
+ghost use Rattle.lft_facts.specs.{Facts.AreFacts, inner.{Enough.Adds, Ways.IsMarked}, Enough.{AreOwn, EndWithRace, TellsRace}};
 
 use crate::chain::chain;
 use crate::early::{late_end, least_end};

@@ -4,7 +4,7 @@ ghost use Rattle.std.specs.Prelude.{◌≡◌, List, Option, Some, IfOk};
 ghost use Rattle.lft_ir.specs.{declared.parts.Value.Value as Carried, Steps.Fits.RowsFit};
 ghost use Rattle.lft_model.specs.{Presence.{Inputs, Collision}, Runs.{Ran, reads_at}};
 ghost use Rattle.lft_rows.specs.Answers.Answers.{KeepsRows};
-ghost use Rattle.lft_facts.specs.{Facts.AreFacts, Enough.{Gives, AreOwnAt}};
+ghost use Rattle.lft_facts.specs.{Facts.AreFacts, inner.Enough.{Gives, AreOwnAt}};
 ghost use Rattle.lft_races.specs.Runs.{StartsAt};
 
 use crate::facts::Fact;

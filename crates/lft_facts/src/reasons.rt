@@ -4,8 +4,8 @@
 ghost use Rattle.std.specs.Prelude.{◌≡◌, IfOk, IfSome, OnOk};
 ghost use Rattle.lft_ir.specs.{Sound.{IsNameOf, IsTriggerOf as IsKnown}, declared.parts.Trigger.TheVariants.On as TheName, Steps.Fits.RowsFit};
 ghost use Rattle.lft_model.specs.{declared.breach.Breach.Breach as TheBreach, Presence.Occurs};
-ghost use Rattle.lft_rows.specs.Presence.Causes.{AreCauses};
-ghost use Rattle.lft_facts.specs.{Facts.{IsFact, AreFacts}, Reasons.{IsNearest, IsReason}, Enough.{Adds, Extends, IsOwn, IsOwnReason, AreOwn}};
+ghost use Rattle.lft_rows.specs.inner.Presence.Causes.{AreCauses};
+ghost use Rattle.lft_facts.specs.{Facts.{IsFact, AreFacts}, Reasons.{IsNearest, IsReason}, inner.Enough.{Adds, Extends}, Enough.{IsOwn, IsOwnReason, AreOwn}};
 
 use crate::adding::add;
 use crate::cause::name_cause;

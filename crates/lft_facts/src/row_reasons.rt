@@ -3,7 +3,7 @@
 ghost use Rattle.std.specs.Prelude.{◌≡◌, ◌+◌, ◌<◌, ◌≤◌, List, length, IfSome, OnOk};
 ghost use Rattle.lft_ir.specs.{declared.{parts.Name.TheVariants.Action as TheAction, steps.row.Row.Row as TheRow}, Steps.Fits.{RowsFit, StepFits}};
 ghost use Rattle.lft_model.specs.{declared.breach.Breach.Breach as TheBreach, Plans.PlanParts};
-ghost use Rattle.lft_facts.specs.{Facts.IsRowFact, Reasons.{IsReason, IsOfKind}, Enough.{Adds, IsOwnReason, row_of}};
+ghost use Rattle.lft_facts.specs.{Facts.IsRowFact, Reasons.{IsReason, IsOfKind}, inner.Enough.Adds, Enough.{IsOwnReason, row_of}};
 
 use crate::across::{across, later_tag};
 use crate::adding::add;

@@ -2,8 +2,8 @@
 
 ghost use Rattle.std.specs.Prelude.{◌≡◌, Some, slice_get, IfOk};
 ghost use Rattle.lft_ir.specs.{Parts.Parts, Steps.Fits.RowsFit};
-ghost use Rattle.lft_model.specs.{Plans.PlanParts, Breaches.{BreaksRow, IsOutOfOrder, IsUndeclared, RowBreach}};
-ghost use Rattle.lft_facts.specs.{Facts.{IsRowFact, AreFacts}, Enough.{GivesRow, ProvesRow, AreOwn, row_of}};
+ghost use Rattle.lft_model.specs.{Plans.PlanParts, inner.Breaches.BreaksRow, Breaches.{IsOutOfOrder, IsUndeclared, RowBreach}};
+ghost use Rattle.lft_facts.specs.{Facts.{IsRowFact, AreFacts}, inner.Enough.GivesRow, Enough.{ProvesRow, AreOwn, row_of}};
 
 use crate::facts::{Fact, RowFact};
 use crate::row_reasons::add_row_reasons;

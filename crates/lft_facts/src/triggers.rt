@@ -3,8 +3,8 @@
 ghost use Rattle.std.specs.Prelude.{◌≡◌, ◌<◌, ◌≤◌, Some, length, IfOk};
 ghost use Rattle.lft_ir.specs.Steps.Fits.{RowsFit};
 ghost use Rattle.lft_model.specs.{Presence.Triggered, Runs.Ran};
-ghost use Rattle.lft_rows.specs.Presence.Causes.{AreCauses};
-ghost use Rattle.lft_facts.specs.{Facts.{IsCause, AreFacts, IsTriggerOf}, Enough.{Gives, GivesTrigger, AreOwnAt}};
+ghost use Rattle.lft_rows.specs.inner.Presence.Causes.{AreCauses};
+ghost use Rattle.lft_facts.specs.{Facts.{IsCause, AreFacts, IsTriggerOf}, inner.Enough.{Gives, GivesTrigger, AreOwnAt}};
 
 use crate::cause::trigger_cause;
 use crate::facts::{Cause, Fact};

@@ -3,7 +3,7 @@
 ghost use Rattle.std.specs.Prelude.{◌≡◌, ◌↔◌, ◌<◌, Some, length, slice_get, IsTrue, IfOk};
 ghost use Rattle.lft_graph.specs.Graph.{IsGraphOf};
 ghost use Rattle.lft_ir.specs.Parts.{Parts};
-ghost use Rattle.lft_facts.specs.Ways.{AreWays, AreSteps, IsMarked, IsMarking, AreThere, LeadsOn};
+ghost use Rattle.lft_facts.specs.inner.Ways.{AreWays, AreSteps, IsMarked, IsMarking, AreThere, LeadsOn};
 
 use lft_graph::Graph;
 use lft_lists::item_at;

@@ -4,7 +4,7 @@ use Rattle.std.specs.Prelude.{◌↔◌}
 use Rattle.std.proofs.lemmas.{Bool.cases_lt, Option.slice_get_within}
 use native.Mathlib.Decide.{ℕ_discrete}
 use Rattle.lft_ir.specs.Parts.{Parts}
-use Rattle.lft_graph.specs.{Precedence.Precedes, Graph.{GraphParts, IsGraphOf}, Sets.{Has, AreAncestors, HaveRoom, IsUnder, IsUnion}}
+use Rattle.lft_graph.specs.{Precedence.Precedes, Graph.{GraphParts, IsGraphOf}, Sets.Has, inner.Sets.{AreAncestors, HaveRoom, IsUnder, IsUnion}}
 use Rattle.lft_graph.proofs.Cycles.{from_there}
 use Rattle.lft_lists.proofs.Places.{contains_at, at_contains, get_there, same_at, get_write_cases, length_written}
 

@@ -4,7 +4,7 @@ use Rattle.std.proofs.lemmas.{Option.{slice_get_within, slice_get-get_or}, Bool.
 use Rattle.lft_ir.specs.{Parts.Parts, Sound.IsSound, declared.parts.Reaction.Reaction}
 use Rattle.lft_graph.specs.Precedence.{Direct, IsDeclaredFirst, Feeds, Precedes, IsLevelled, Precedes.{one, more}}
 use Rattle.lft_graph.specs.{Before.{IsDeclaredJustBefore, FeedsLast, Writes}, Graph.{AreLevels, AreByLevel, GraphParts, HasChains, IsGraphOf}}
-use Rattle.lft_graph.specs.{Loops.{IsLoopOf, IsLoop}, Walks.{HasLists, AreInside, IsStep}}
+use Rattle.lft_graph.specs.{Loops.{IsLoopOf, IsLoop}, inner.Walks.{HasLists, AreInside, IsStep}}
 use Rattle.lft_lists.proofs.Places.{contains_at, get_there}
 
 pub snoc : (program : Parts) (a b c : ℕ) → Precedes program a b → Direct program b c → Precedes program a c

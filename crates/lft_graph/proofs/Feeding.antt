@@ -9,7 +9,7 @@ use Rattle.lft_ir.specs.declared.parts.{Port.Port as PortOf, Reaction.Reaction, 
 use Rattle.lft_ir.specs.declared.parts.Trigger.{Trigger, TheVariants.{Startup, Shutdown, Timer, On}}
 use Rattle.lft_ir.proofs.Origins.{origin_unique, origin_inside}
 use Rattle.lft_graph.specs.Before.{Writes, IsLastWriter, Reaches, FeedsLast, IsDeclaredJustBefore, IsBefore}
-use Rattle.lft_graph.specs.Walks.{KnowsWriters, IsUndelayed, IsFeeder, NotesBelow, Covers, HasLists}
+use Rattle.lft_graph.specs.inner.Walks.{KnowsWriters, IsUndelayed, IsFeeder, NotesBelow, Covers, HasLists}
 use Rattle.lft_lists.proofs.Places.{contains_at, at_contains, get_push_cases}
 
 module _ (program : Parts) (sound : IsSound program) where

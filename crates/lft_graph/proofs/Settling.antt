@@ -2,7 +2,7 @@
 use Rattle.std.proofs.Common.{◌≡◌, ◌≢◌, ℕ, zero, suc, ◌+◌, ◌<◌, ◌⊎◌, inl, inr, List, [], ◌∷◌, ◌++◌, length, refl, sym, ap, ◌∙◌, subst, arith, Option, Some, slice_get, slice_set, Contains, length-append}
 use Rattle.std.proofs.lemmas.{Option.slice_get_within, Bool.cases_eq}
 use Rattle.lft_graph.specs.declared.levels.{LevelMark.{LevelMark, TheVariants.{New, Open, Done}}, LevelStep.TheVariants.{Level, Looped, First}}
-use Rattle.lft_graph.specs.{Loops.IsLoopOf, Walks.{IsStep, AreDone, IsLevelOf, IsSettled, NoneOpen, KeepsLooked, IsNext, IsCut, tally, done_weight}}
+use Rattle.lft_graph.specs.{Loops.IsLoopOf, inner.Walks.{IsStep, AreDone, IsLevelOf, IsSettled, NoneOpen, KeepsLooked, IsNext, IsCut, tally, done_weight}}
 use Rattle.lft_graph.proofs.{Turning.cut_loop, Walking.{tally_written, KeepsDone, keeps_done, done_kept, level_kept}}
 use Rattle.lft_lists.proofs.Places.{contains_at, at_contains, get_written, get_unwritten, get_write_cases, length_written, get_push, get_last, get_push_cases}
 

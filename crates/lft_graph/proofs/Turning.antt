@@ -1,7 +1,7 @@
 -- What is cut out of a walk is a loop.
 use Rattle.std.proofs.Common.{◌≡◌, ℕ, ◌+◌, ◌-◌, ◌<◌, ◌≤◌, ◌⊎◌, inl, inr, List, length, sym, ◌∙◌, subst, arith, Some, slice_get}
 use Rattle.std.proofs.lemmas.{Option.slice_get_within, Bool.{cases_lt, Decides.nat_tests}}
-use Rattle.lft_graph.specs.{Loops.IsLoopOf, Walks.{turned, IsCut}}
+use Rattle.lft_graph.specs.{Loops.IsLoopOf, inner.Walks.{turned, IsCut}}
 
 turned_low : (start place total step : ℕ) → start + step ≤ place → turned start place total step ≡ place - step
 turned_low start place total step l = grind (arith, nat_tests)

@@ -1,6 +1,6 @@
 -- Marks: their weights, and levels from them.
 use Rattle.std.proofs.Common.{◌≡◌, ℕ, zero, suc, ◌+◌, ◌<◌, ◌≤◌, List, [], ◌∷◌, length, ap, ◌∙◌, subst, arith, Some, slice_get, slice_set}
-use Rattle.lft_graph.specs.{declared.levels.LevelMark.{LevelMark, TheVariants.{New, Open, Done}}, Walks.{IsDone, IsLevelOf, tally, done_weight}}
+use Rattle.lft_graph.specs.{declared.levels.LevelMark.{LevelMark, TheVariants.{New, Open, Done}}, inner.Walks.{IsDone, IsLevelOf, tally, done_weight}}
 use Rattle.lft_lists.proofs.Places.{get_unwritten}
 
 pub tally_written : (f : LevelMark → ℕ) (xs : List LevelMark) (i : ℕ) (x y : LevelMark) → slice_get xs i ≡ Some x → tally f (slice_set xs i y) + f x ≡ tally f xs + f y

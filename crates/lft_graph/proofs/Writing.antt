@@ -2,7 +2,7 @@
 use Rattle.std.proofs.Common.{◌≡◌, ℕ, ◌+◌, ◌<◌, ◌≤◌, ◌⊎◌, inl, inr, List, length, sym, ap, ◌∙◌, subst, arith, Option, Some, slice_get, slice_set, Contains}
 use Rattle.std.proofs.lemmas.Bool.{cases_lt, cases_eq}
 use Rattle.lft_ir.specs.{Parts.Parts, declared.parts.{Reaction.Reaction, Name.{Name, TheVariants.Port}}}
-use Rattle.lft_graph.specs.{Before.Writes, Walks.KnowsWriters}
+use Rattle.lft_graph.specs.{Before.Writes, inner.Walks.KnowsWriters}
 use Rattle.lft_lists.proofs.Places.{contains_at, get_written, get_unwritten, length_written}
 
 -- the effects at the places below one are noted

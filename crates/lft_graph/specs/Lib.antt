@@ -2,5 +2,5 @@ pub mod Precedence
 pub mod Before
 pub mod Graph
 pub mod Loops
-pub mod Walks
 pub mod Sets
+pub mod inner

@@ -1,7 +1,7 @@
 //! What precedes each reaction.
 
 ghost use Rattle.std.specs.Prelude.{◌≡◌, ◌<◌, ◌≤◌, ◌+◌, ◌/◌, ℕ, [], length, replicate, Some, IfOk, slice_get};
-ghost use Rattle.lft_graph.specs.{Graph.IsGraphOf, Sets.{AreAncestors, HaveRoom, HasAll, IsUnion}};
+ghost use Rattle.lft_graph.specs.{Graph.IsGraphOf, inner.Sets.{AreAncestors, HaveRoom, HasAll, IsUnion}};
 
 use crate::graph::Graph;
 use crate::sets::Set;

@@ -2,7 +2,7 @@
 
 ghost use Rattle.std.specs.Prelude.{◌≡◌, ◌↔◌, ℕ, ◌<◌, length, slice_get, Some, IfOk, OnOk, Contains, AllPairs};
 ghost use Rattle.lft_ir.specs.{Sound.{IsNameOf, IsSound}, declared.parts.{Trigger.TheVariants.On, Name.Name}};
-ghost use Rattle.lft_graph.specs.{Before.{Writes, IsLastWriter, IsBefore}, Walks.{KnowsWriters, IsUndelayed, IsFeeder, NotesBelow, Covers, HasLists}};
+ghost use Rattle.lft_graph.specs.{Before.{Writes, IsLastWriter, IsBefore}, inner.Walks.{KnowsWriters, IsUndelayed, IsFeeder, NotesBelow, Covers, HasLists}};
 
 use crate::members::Members;
 use crate::writers::last_writers;

@@ -2,7 +2,7 @@
 
 ghost use Rattle.std.specs.Prelude.{◌≡◌, ◌≢◌, ℕ, List, ◌<◌, ◌≤◌, length, slice_get, Some, Err, IfOk, OnOk};
 ghost use Rattle.lft_graph.specs.{Graph.AreLevels, Loops.IsLoopOf};
-ghost use Rattle.lft_graph.specs.Walks.{AreInside, IsStep, AreDone, IsLevelOf, AreSmall, IsSettled, NoneOpen, IsNext, KeepsLooked, tally, done_weight};
+ghost use Rattle.lft_graph.specs.inner.Walks.{AreInside, IsStep, AreDone, IsLevelOf, AreSmall, IsSettled, NoneOpen, IsNext, KeepsLooked, tally, done_weight};
 ghost use Rattle.lft_graph.specs.declared.levels.LevelMark.TheVariants.{New, Open, Done};
 
 use crate::fault::GraphFault;

@@ -1,7 +1,7 @@
 //! A loop, cut out of a walk.
 
 ghost use Rattle.std.specs.Prelude.{◌≡◌, ℕ, ◌+◌, ◌<◌, ◌≤◌, length, slice_get, Some, IfOk, Contains};
-ghost use Rattle.lft_graph.specs.Walks.{turned, IsCut};
+ghost use Rattle.lft_graph.specs.inner.Walks.{turned, IsCut};
 
 use crate::lists::Loop;
 use lft_lists::item_at;

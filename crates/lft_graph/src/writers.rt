@@ -2,7 +2,7 @@
 
 ghost use Rattle.std.specs.Prelude.{◌≡◌, ℕ, ◌<◌, ◌⊎◌, length, slice_get, Some, IfOk, Contains};
 ghost use Rattle.lft_ir.specs.declared.parts.Name.TheVariants.{Port};
-ghost use Rattle.lft_graph.specs.Walks.{KnowsWriters};
+ghost use Rattle.lft_graph.specs.inner.Walks.{KnowsWriters};
 
 use lft_ir::{Name, Program};
 use lft_lists::item_at;

@@ -5,7 +5,7 @@ use Rattle.std.proofs.lemmas.{Grind.common_steps, List.{map-append, Folds.{Any-f
 use Rattle.std.proofs.lemmas.{Option.{slice_get_within, get_or_from_slice_get, slice_get-get_or}, Slice.Eq.bytes_eq-Decides, Str.IsUtf8-string_bytes}
 use Rattle.indexmap.specs.IndexSet.{insert_key}
 use Rattle.lft_lists.proofs.Mapped.{mapped, mapped_from}
-use Rattle.lft_ir.specs.{Names.HasNoTwice, Places.AreUtf8}
+use Rattle.lft_ir.specs.inner.{Names.HasNoTwice, Places.AreUtf8}
 
 module _ {X : Type 0} (p : X → Bool) where
   -- a search that found nothing passes nowhere

@@ -1,7 +1,7 @@
 -- Parts of a list of names: what stands at a place of a part, and the thing that has a name.
 use Rattle.std.proofs.Common.{◌++◌, ◌≡◌, ℕ, ◌<◌, ◌≤◌, ◌+◌, ◌-◌, zero, suc, Bool, true, false, List, [], ◌∷◌, take, drop, length, slice_get, slice_range, nat_lt, Some, refl, sym, ap, ◌∙◌, arith, zero-add, if◌then◌else◌}
 use Rattle.std.proofs.lemmas.{Bool.Decides.{nat_tests, Decides-ltb}, Grind.common_steps, List.Folds.drop_split, Option.slice_get_within}
-use Rattle.lft_ir.specs.{Names.{ThingNames, IsNamed, HasNoTwice, AreDistinct}, Places.{AreStarts, names_from, thing_at}}
+use Rattle.lft_ir.specs.{Names.{ThingNames, IsNamed, AreDistinct}, inner.{Names.HasNoTwice, Places.{AreStarts, names_from, thing_at}}}
 use Rattle.lft_ir.specs.declared.{found.Found.{Found, TheVariants.{Instance, Port, Action, Timer, Reaction}}, names.Starts.Starts}
 
 module _ {X : Type 0} where

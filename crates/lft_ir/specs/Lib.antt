@@ -2,7 +2,7 @@ pub mod Names
 pub mod Naming
 pub mod Origins
 pub mod Parts
-pub mod Places
 pub mod Sound
 pub mod Steps
 pub mod Words
+pub mod inner

@@ -20,10 +20,6 @@ IsNamed names (found.Action n) text = slice_get names.actions n ≡ Some text
 IsNamed names (found.Timer n) text = slice_get names.timers n ≡ Some text
 IsNamed names (found.Reaction n) text = slice_get names.reactions n ≡ Some text
 
--- no text stands in the list twice
-abbrev pub HasNoTwice : List (List ℕ) → Type 0
-HasNoTwice texts = (i j : ℕ) (text : List ℕ) → slice_get texts i ≡ Some text → slice_get texts j ≡ Some text → i ≡ j
-
 -- no text names two things
 abbrev pub AreDistinct : ThingNames → Type 0
 AreDistinct names = (f g : Found) (text : List ℕ) → IsNamed names f text → IsNamed names g text → f ≡ g

@@ -19,7 +19,7 @@ pub struct Starts {
 }
 
 impl Starts {
-    ghost use Rattle.lft_ir.specs.Places.{AreStarts, thing_at};
+    ghost use Rattle.lft_ir.specs.inner.Places.{AreStarts, thing_at};
 
     /// Whether each kind begins at the same place.
     fn same(&self, other: Starts) -> bool
@@ -59,7 +59,7 @@ pub struct NameTable {
 
 impl Model for NameTable {
     ghost use Rattle.std.specs.Prelude.{length};
-    ghost use Rattle.lft_ir.specs.{Names.{ThingNames, HasNoTwice}, Places.{names_from, AreStarts, AreUtf8}};
+    ghost use Rattle.lft_ir.specs.{Names.ThingNames, inner.{Names.HasNoTwice, Places.{names_from, AreStarts, AreUtf8}}};
 
     ghost Value = { ThingNames };
 
@@ -69,7 +69,7 @@ impl Model for NameTable {
 }
 
 impl NameTable {
-    ghost use Rattle.lft_ir.specs.{Names.{IsNamed, AreDistinct}, Places.{names_from, AreStarts}, declared.found.Found.Found};
+    ghost use Rattle.lft_ir.specs.{Names.{IsNamed, AreDistinct}, inner.Places.{names_from, AreStarts}, declared.found.Found.Found};
 
     /// The table of these names, of which each kind begins where `starts` says.
     pub fn new(texts: Texts, starts: Starts) -> NameTable

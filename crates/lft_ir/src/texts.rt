@@ -43,7 +43,7 @@ pub struct Texts {
 
 impl Model for Texts {
     ghost use Rattle.std.specs.Prelude.{ℕ, map, List, string_bytes};
-    ghost use Rattle.lft_ir.specs.{Names.HasNoTwice, Places.AreUtf8};
+    ghost use Rattle.lft_ir.specs.inner.{Names.HasNoTwice, Places.AreUtf8};
 
     ghost Value = { List (List ℕ) };
 
@@ -53,7 +53,7 @@ impl Model for Texts {
 }
 
 impl Texts {
-    ghost use Rattle.lft_ir.specs.{Names.HasNoTwice, Places.AreUtf8};
+    ghost use Rattle.lft_ir.specs.inner.{Names.HasNoTwice, Places.AreUtf8};
 
     /// No texts. The seed decides how they hash, and no answer: one that depends on all the texts to
     /// come keeps whoever writes them from choosing ones whose hashes collide.

@@ -7,7 +7,7 @@ use Rattle.lft_tag.{specs.{declared.Tag.Tag, Tags.{Before, UpTo}}, proofs.Order.
 use Rattle.lft_lists.proofs.{Picked.take_next, Places.{get_append_cases, get_last, get_left, get_push_cases, same_at}}
 use Rattle.lft_ir.specs.declared.steps.row.Row.{Row}
 use Rattle.lft_model.proofs.Places.{slice_get_within}
-use Rattle.lft_log.specs.{Told.{ComeTo, IsAskedOf, IsFirstFrom, IsPastEnd, IsWithin, KeepTo}, declared.asked.Asked.Asked}
+use Rattle.lft_log.specs.{inner.Told.{ComeTo, IsAskedOf}, Told.{IsFirstFrom, IsPastEnd, IsWithin, KeepTo}, declared.asked.Asked.Asked}
 
 -- each row is before the tag
 abbrev pub AreBefore : List Row → Tag → Type 0

@@ -2,8 +2,8 @@
 use Rattle.std.proofs.Common.{◌≡◌, ◌+◌, ℕ, List, [], ◌∷◌, ◌++◌, length, refl, sym, ap, subst, arith}
 use Rattle.std.{specs.List.AllZip, proofs.lemmas.List.{append_assoc, append-nil, Elements.filter_map-append}}
 use Rattle.lft_ir.specs.{Parts.Parts, declared.steps.row.Row.Row as TheRow}
-use Rattle.lft_trace.specs.{LogTables.{IsLine, inputs_behind, row_of}, Traces.IsRow, declared.log_table.Line.{Line, TheVariants.{Row, Input}}}
-use Rattle.lft_log.specs.Logs.{AreTimely, entry_of, inputs, row_records, rows}
+use Rattle.lft_trace.specs.{LogTables.{IsLine, row_of}, inner.LogTables.inputs_behind, Traces.IsRow, declared.log_table.Line.{Line, TheVariants.{Row, Input}}}
+use Rattle.lft_log.specs.{Logs.{AreTimely, entry_of, inputs, rows}, inner.Logs.row_records}
 
 pub rows_both : (xs ys : List Line) → rows (xs ++ ys) ≡ rows xs ++ rows ys
 rows_both xs ys = filter_map-append row_of xs ys

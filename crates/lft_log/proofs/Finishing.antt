@@ -7,10 +7,10 @@ use Rattle.lft_ir.specs.declared.steps.row.Row.{Row}
 use Rattle.lft_model.specs.Plans.{PlanParts}
 use Rattle.lft_monitor.specs.declared.judged.{Ending.{Ending, TheVariants.{Accepted, Unbroken, Broken}}, Unjudged.Unjudged}
 use Rattle.lft_monitor.specs.declared.open.OpenRun.{OpenRun}
-use Rattle.lft_monitor.specs.Follows.{IsEnding, IsUnjudged}
+use Rattle.lft_monitor.specs.inner.Follows.{IsEnding, IsUnjudged}
 use Rattle.lft_monitor.proofs.Following.{unjudged_so_far}
 use Rattle.lft_log.specs.Logs.{AreLines, HasLast, HoldSoFar, IsHead, LastCounts, LastIsLeft, header_words, mark, rows}
-use Rattle.lft_log.specs.Told.{AreOpenIn, IsEnded, IsFinal, IsLog, IsLogOf, IsSoon, KeepTo, TellsOpen, TellsPlan}
+use Rattle.lft_log.specs.{Told.{AreOpenIn, IsEnded, IsFinal, IsSoon, KeepTo, TellsOpen, TellsPlan}, inner.Told.{IsLog, IsLogOf}}
 use Rattle.lft_log.specs.declared.{log.Log.Log, told.{Final.{Final, TheVariants.{AtEnd, Soon}}, Told.TheVariants.Odd}}
 use Rattle.lft_log.proofs.{Asking.asked_within, Ends.lines_both}
 

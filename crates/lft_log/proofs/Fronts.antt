@@ -2,8 +2,8 @@
 use Rattle.std.proofs.Common.{◌≡◌, ◌+◌, ◌-◌, ◌<◌, ◌≤◌, ◌∙◌, inl, inr, ℕ, zero, suc, List, [], ◌∷◌, None, Option, IfSome, length, take, drop, slice_range, refl, sym, ap, subst, arith}
 use Rattle.std.proofs.lemmas.List.{length-drop, length-take, take-take, take_all}
 use Rattle.lft_ir.specs.{Parts.Parts, Steps.Fits.RowsFit}
-use Rattle.lft_trace.specs.{LogTables.{InputsFit, ReadsLines, StopsAt}, Parts.EndsLine, declared.log_table.{LineFault.LineFault, LogLines.LogLines}}
-use Rattle.lft_log.specs.Logs.{AreLines, ArePlain, BeginsOdd, IsFaultBehind, IsFront, inputs, records_below, rows}
+use Rattle.lft_trace.specs.{inner.LogTables.{InputsFit, ReadsLines, StopsAt}, Parts.EndsLine, declared.log_table.{LineFault.LineFault, LogLines.LogLines}}
+use Rattle.lft_log.specs.{Logs.{AreLines, ArePlain, inputs, records_below, rows}, inner.Logs.{BeginsOdd, IsFaultBehind, IsFront}}
 use Rattle.lft_log.specs.declared.{fault.LogFault.LogFault, front.Front.Front}
 use Rattle.lft_log.proofs.{Ends.{lines_left, range_take}, Behind.length_inputs}
 

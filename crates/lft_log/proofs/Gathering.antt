@@ -4,10 +4,10 @@ use Rattle.std.specs.Prelude.{MatchOption, is_some}
 use Rattle.std.proofs.lemmas.{Bool.false≢true, List.{append_assoc, append-nil, drop-drop, length-take, take-append-drop}}
 use Rattle.lft_lists.proofs.Places.{get_append_cases}
 use Rattle.lft_ir.{specs.{Parts.Parts, declared.steps.row.Row.Row, Steps.{Fits.RowsFit, Inputs.InOrder}}, proofs.Ranges.slice_get-drop}
-use Rattle.lft_trace.specs.{LogTables.inputs_behind, declared.log_table.Line.Line}
+use Rattle.lft_trace.specs.{inner.LogTables.inputs_behind, declared.log_table.Line.Line}
 use Rattle.lft_model.{specs.Plans.PlanParts, proofs.Places.slice_get_take}
-use Rattle.lft_monitor.specs.Follows.{IsFollowerOf}
-use Rattle.lft_log.specs.{Logs.{HasManyRows, IsFront, IsHead, rows}, Told.{HasRead, IsReadOn, IsReadSoFar, IsTaken, TellsPlan}}
+use Rattle.lft_monitor.specs.inner.Follows.{IsFollowerOf}
+use Rattle.lft_log.specs.{Logs.{HasManyRows, IsHead, rows}, inner.{Logs.IsFront, Told.{HasRead, IsReadOn, IsReadSoFar, IsTaken}}, Told.TellsPlan}
 use Rattle.lft_log.specs.declared.{front.Front.Front, rows.LogRows.LogRows, telling.Taken.Taken}
 use Rattle.lft_log.proofs.{Behind.rows_both, Fronts.rest_from, Holding.{header_there, hold_front}, Taking.{grown_tells, tells_all}, Plans.told_none}
 

@@ -6,10 +6,11 @@ use Rattle.lft_tag.{specs.{declared.Tag.Tag, Tags.Before}, proofs.Order.order_ca
 use Rattle.lft_ir.specs.{Parts.Parts, declared.steps.row.Row.Row as TheRow}
 use Rattle.lft_model.specs.Plans.{PlanParts}
 use Rattle.lft_monitor.specs.Follows.{IsPassed}
-use Rattle.lft_trace.specs.{ExternalTables.IsEntry, LogTables.{EntryFits, InputsFit, inputs_behind}}
+use Rattle.lft_trace.specs.{ExternalTables.IsEntry, inner.LogTables.{EntryFits, InputsFit, inputs_behind}}
 use Rattle.lft_trace.specs.declared.{external_table.Entry.Entry, log_table.{Among.Among, Line.{Line, TheVariants.{Row, Input}}}}
 use Rattle.lft_log.specs.declared.{fault.LogFault.{LogFault, TheVariants.LateInput}, front.Front.Front, telling.Taken.Taken}
-use Rattle.lft_log.specs.{Logs.{AreTimely, inputs, rows, tag_of}, Told.{HasTold, IsBeforeLatest, IsFaultOf, IsInputFault, IsLatest, IsTaken, StandsBehind}}
+use Rattle.lft_log.specs.{Logs.{AreTimely, inputs, rows, tag_of}, Told.{HasTold, IsFaultOf, StandsBehind}}
+use Rattle.lft_log.specs.inner.Told.{IsBeforeLatest, IsInputFault, IsLatest, IsTaken}
 use Rattle.lft_log.proofs.Behind.{inputs_both, length_inputs, rows_both, timely_both}
 
 -- ---- rows that pass a tag

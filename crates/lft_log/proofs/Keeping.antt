@@ -4,16 +4,17 @@ use Rattle.std.specs.Prelude.{MatchOption}
 use Rattle.std.proofs.lemmas.{List.{append_assoc, append-nil, length-append, take-append-drop}, Bool.false≢true}
 use Rattle.lft_tag.specs.declared.Tag.{Tag}
 use Rattle.lft_ir.specs.{Parts.Parts, declared.steps.row.Row.Row}
-use Rattle.lft_trace.specs.{ExternalTables.IsEntry, LogTables.{IsNoLine, inputs_behind}}
+use Rattle.lft_trace.specs.{ExternalTables.IsEntry, LogTables.IsNoLine, inner.LogTables.inputs_behind}
 use Rattle.lft_trace.specs.declared.{external_table.Entry.TheVariants.Happens, log_table.Line.Line}
 use Rattle.lft_model.specs.Plans.{PlanParts}
-use Rattle.lft_monitor.specs.{declared.follower.Follower.Follower, Follows.{IsFollowerOf, IsQuiet}}
+use Rattle.lft_monitor.specs.{declared.follower.Follower.Follower, inner.Follows.IsFollowerOf, Follows.IsQuiet}
 use Rattle.lft_log.specs.declared.asked.Asked.{Asked}
 use Rattle.lft_log.specs.declared.fault.LogFault.{LogFault}
 use Rattle.lft_log.specs.declared.fault.LogFault.TheVariants.{NoHeader, NoRow, NotPlain, SecondHeader, LongLine, TooManyRows, NoInput, NotPlainInput, LateInput, InputAgain, ManyLater, TooManyInputs, NoMemory}
 use Rattle.lft_log.specs.declared.{front.Front.Front, log.Log.Log, telling.Taken.Taken, told.Told.Told}
-use Rattle.lft_log.specs.Logs.{BeginsLong, HoldSoFar, IsFront, IsHead, IsOddLine, inputs, rows}
-use Rattle.lft_log.specs.Told.{IsAskedOf, IsBegun, IsFaultOf, IsFaultOfRows, IsLog, IsLogOf, IsOddBehind, IsSaid, IsSaidOfSome, IsSoon, IsTaken, KeepTo, StandsBehind}
+use Rattle.lft_log.specs.Logs.{BeginsLong, HoldSoFar, IsHead, IsOddLine, inputs, rows}
+use Rattle.lft_log.specs.inner.{Logs.IsFront, Told.{IsAskedOf, IsBegun, IsFaultOfRows, IsLog, IsLogOf, IsSaidOfSome, IsTaken}}
+use Rattle.lft_log.specs.Told.{IsFaultOf, IsOddBehind, IsSaid, IsSoon, KeepTo, StandsBehind}
 use Rattle.lft_log.proofs.{Asking.{asked_within, kept_before}, Holding.{header_there, hold_longer}, Odd.{line_longer, long_longer}}
 use Rattle.lft_log.proofs.Taking.{all_held, fault_held, fault_of_rows, grown, grown_numbered, grown_rows, grown_tells, grown_timely, grown_told, taken_rows}
 use Rattle.lft_trace.specs.declared.log_table.LineFault.TheVariants as none

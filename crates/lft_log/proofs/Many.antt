@@ -5,8 +5,8 @@ use Rattle.std.proofs.{Math.Seq.take-add, lemmas.List.{append-nil, append_assoc,
 use Rattle.lft_tag.specs.declared.Tag.{Tag}
 use Rattle.lft_ir.specs.declared.steps.row.Row.{Row}
 use Rattle.lft_model.specs.Plans.{PlanParts}
-use Rattle.lft_monitor.{specs.{Follows.{HasManyAtLast, IsFollowerOf}, declared.follower.Follower.Follower}, proofs.Held.not_many}
-use Rattle.lft_log.specs.{Told.{AreTooMany, IsFaultOfRows, IsSaid, IsSaidOfSome}, declared.{fault.LogFault.LogFault, told.Told.Told}}
+use Rattle.lft_monitor.{specs.{Follows.HasManyAtLast, inner.Follows.IsFollowerOf, declared.follower.Follower.Follower}, proofs.Held.not_many}
+use Rattle.lft_log.specs.{Told.{AreTooMany, IsSaid}, inner.Told.{IsFaultOfRows, IsSaidOfSome}, declared.{fault.LogFault.LogFault, told.Told.Told}}
 
 many_longer : (t u : List Row) → AreTooMany t → AreTooMany (t ++ u)
 many_longer t u (inl (before, row, more, e, many)) = inl (before, row, more ++ u, ap (λ (x : List Row). x ++ u) e ∙ append_assoc before (row ∷ more) u, many)

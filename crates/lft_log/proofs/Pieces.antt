@@ -3,7 +3,7 @@ use Rattle.std.proofs.Common.{◌≡◌, ◌∙◌, ℕ, List, [], ◌++◌, Opt
 use Rattle.std.specs.Prelude.{MatchOption}
 use Rattle.lft_tag.specs.declared.Tag.{Tag}
 use Rattle.lft_model.specs.Plans.{PlanParts}
-use Rattle.lft_log.specs.{declared.{log.Log.Log, told.Told.Told}, Logs.HasNoEnd, Told.{IsLog, IsLogOf}}
+use Rattle.lft_log.specs.{declared.{log.Log.Log, told.Told.Told}, Logs.HasNoEnd, inner.Told.{IsLog, IsLogOf}}
 use Rattle.lft_log.proofs.{Ends.range_take, Fronts.rest_from, Keeping.{none_told, piece_parts}}
 
 pub whole_piece : (bytes piece : List ℕ) (n : ℕ) → (bytes ++ slice_range piece 0 n) ++ slice_range piece n (length piece) ≡ bytes ++ piece

@@ -6,7 +6,7 @@ use Rattle.std.proofs.lemmas.List.Sorted.{IsPermutation-insert, IsPermutation-re
 use Rattle.lft_tag.specs.{declared.Tag.Tag, Tags.{earlier, earliest}}
 use Rattle.lft_ir.specs.{declared.steps.externals.Event.Event as EventOf, Steps.Inputs.InOrder}
 use Rattle.lft_model.specs.Plans.{PlanParts}
-use Rattle.lft_monitor.{specs.Follows.{HasOneMore, stopped_at}, proofs.Sooner.swapped}
+use Rattle.lft_monitor.{specs.inner.Follows.{HasOneMore, stopped_at}, proofs.Sooner.swapped}
 use Rattle.lft_log.specs.Told.{HasTold}
 use Rattle.lft_trace.specs.{ExternalTables.{event_of, stop_of}, declared.external_table.Entry.{Entry, TheVariants.{Happens, Stops}}}
 

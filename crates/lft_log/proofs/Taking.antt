@@ -7,8 +7,9 @@ use Rattle.lft_model.specs.Plans.{PlanParts}
 use Rattle.lft_log.specs.declared.fault.LogFault.{LogFault}
 use Rattle.lft_log.specs.declared.fault.LogFault.TheVariants.{NoHeader, NoRow, NotPlain, SecondHeader, LongLine, TooManyRows, NoInput, NotPlainInput, LateInput, InputAgain, ManyLater, TooManyInputs, NoMemory}
 use Rattle.lft_log.specs.declared.{front.Front.Front, telling.Taken.Taken}
-use Rattle.lft_log.specs.Logs.{AreTimely, BeginsWithLine, HoldSoFar, IsFaultBehind, IsFront, IsOddLine, inputs, rows}
-use Rattle.lft_log.specs.Told.{AreTooMany, HasTold, IsFaultOf, IsFaultOfRows, IsOddBehind, IsRefused, IsTaken, StandsBehind, TellsPlan}
+use Rattle.lft_log.specs.Logs.{AreTimely, BeginsWithLine, HoldSoFar, IsOddLine, inputs, rows}
+use Rattle.lft_log.specs.inner.{Logs.{IsFaultBehind, IsFront}, Told.{IsFaultOfRows, IsRefused, IsTaken}}
+use Rattle.lft_log.specs.Told.{AreTooMany, HasTold, IsFaultOf, IsOddBehind, StandsBehind, TellsPlan}
 use Rattle.lft_log.proofs.{Ends.range_take, Fronts.all_dropped, Holding.{hold_cut, hold_front}, Odd.line_longer, Behind.{inputs_both, rows_both, timely_both}}
 
 -- no records tell no lines

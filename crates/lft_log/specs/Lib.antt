@@ -2,3 +2,4 @@ pub mod Logs
 pub mod Told
 pub mod Follow
 pub mod Explain
+pub mod inner

@@ -1,16 +1,14 @@
 -- The lines of a log: rows and external inputs, below the header of a trace table that comes in pieces.
-use Rattle.std.specs.Prelude.{◌≡◌, ◌≢◌, ◌⊎◌, ◌≤◌, ◌+◌, ℕ, List, [], ◌++◌, ◌∷◌, ◌<◌, length, take, drop, codes, filter_map, Option, None, Some, slice_get}
+use Rattle.std.specs.Prelude.{◌≡◌, ◌≢◌, ◌⊎◌, ◌+◌, ℕ, List, ◌++◌, ◌∷◌, ◌<◌, length, codes, filter_map, Option, None, Some, slice_get}
 use Rattle.std.specs.List.{AllZip}
 use Rattle.csv.specs.Reading.{default_config, records}
 use Rattle.memchr.specs.Find.{OccursAt, is_byte, places}
 use Rattle.lft_tag.specs.declared.Tag.{Tag}
-use Rattle.lft_ir.specs.{Parts.Parts, Steps.Fits.RowsFit, declared.steps.row.Row.Row as TheRow}
-use Rattle.lft_trace.specs.{LogTables.{InputsFit, IsLine, IsNoLine, inputs_behind, row_of}, Parts.{EndsLine, HasNoQuote}, Records.records_of}
-use Rattle.lft_trace.specs.Traces.{Table, header}
+use Rattle.lft_ir.specs.{Parts.Parts, declared.steps.row.Row.Row as TheRow}
+use Rattle.lft_trace.specs.{LogTables.{IsLine, row_of}, Parts.{EndsLine, HasNoQuote}}
 use Rattle.lft_trace.specs.declared.{external_table.Entry.{Entry, TheVariants.{Happens, Stops}}, log_table.Line.{Line, TheVariants.{Row, Input}}}
 use Rattle.lft_monitor.specs.Follows.{IsPassed}
-use Rattle.lft_log.specs.declared.{fault.LogFault.{LogFault, TheVariants.{NoRow, NoInput, NotPlain, NotPlainInput, SecondHeader}}, front.Front.Front}
-use Rattle.lft_trace.specs.declared.log_table.LineFault.TheVariants as none
+use Rattle.lft_log.specs.declared.fault.LogFault.{LogFault, TheVariants.{NotPlain, NotPlainInput, SecondHeader}}
 
 -- the words of the header
 abbrev pub header_words : List ℕ
@@ -40,10 +38,6 @@ HasNoEnd text = (i : ℕ) → slice_get text i ≢ Some 10
 abbrev pub ReturnsEnd : List ℕ → Type 0
 ReturnsEnd text = (i : ℕ) → slice_get text i ≡ Some 13 → slice_get text (i + 1) ≡ Some 10
 
--- the byte is a carriage return, and no line feed stands behind it
-abbrev pub IsLoneReturn : List ℕ → ℕ → Type 0
-IsLoneReturn text i = (slice_get text i ≡ Some 13) × (slice_get text (i + 1) ≢ Some 10)
-
 -- the text is plain: it has no quotation mark, no carriage return that doesn't end a line, and no line with the header's words
 pub record ArePlain (text : List ℕ) : Type 0 where
   pub unquoted : HasNoQuote text
@@ -61,10 +55,6 @@ IsOneLine text = (line : List ℕ) × (text ≡ line ++ 10 ∷ []) × HasNoEnd l
 -- the text begins with a line of which this is so
 abbrev pub BeginsWithLine : (List ℕ → Type 0) → List ℕ → Type 0
 BeginsWithLine P text = (line : List ℕ) × (rest : List ℕ) × (text ≡ line ++ rest) × IsOneLine line × P line
-
--- the first line of the text isn't plain
-abbrev pub BeginsOdd : List ℕ → Type 0
-BeginsOdd text = (line rest : List ℕ) → text ≡ line ++ rest → IsOneLine line → ¬ ArePlain line
 
 -- more than 1,048,576 bytes of one line begin the text
 abbrev pub BeginsLong : List ℕ → Type 0
@@ -157,26 +147,9 @@ pub record HoldSoFar (program : Parts) (bytes : List ℕ) (lines : List Line) (o
 abbrev pub HasManyRows : Parts → List ℕ → Type 0
 HasManyRows program bytes = (lines : List Line) × (others : List (List (List ℕ))) × (rest : List ℕ) × HoldSoFar program bytes lines others rest × (4000000 < length (rows lines))
 
--- the records that tell rows
-abbrev pub row_records : List (List (List ℕ)) → List Line → List (List (List ℕ))
-row_records [] lines = []
-row_records (fields ∷ first) [] = []
-row_records (fields ∷ first) (Row row ∷ lines) = fields ∷ row_records first lines
-row_records (fields ∷ first) (Input entry ∷ lines) = row_records first lines
-
--- a log's records are the header and those of its lines; where there are no more rows than a table may have, the header and the records of rows are the trace table of the rows
-abbrev pub LogLaw : Parts → Type 0
-LogLaw program = (bytes rest : List ℕ) (lines : List Line) (log : HoldSoFar program bytes lines [] rest) → (records_of (log.head ++ log.body) ≡ header ∷ log.first) × (length (rows lines) ≤ 4000000 → Table program (header ∷ row_records log.first lines) (rows lines))
-
 -- the first of the records is one of which this is so
 abbrev pub BeginsWithRecord : (List (List ℕ) → Type 0) → List (List (List ℕ)) → Type 0
 BeginsWithRecord P records = (next : List (List ℕ)) × (more : List (List (List ℕ))) × (records ≡ next ∷ more) × P next
-
--- the fault is of the first of the records, which has this number among rows, or that among external inputs
-abbrev pub IsRecordFault : Parts → List (List (List ℕ)) → ℕ → ℕ → LogFault → Type 0
-IsRecordFault program records row input (NoRow e line) = (line ≡ row) × BeginsWithRecord (λ f. IsNoLine program f (none.NoRow e)) records
-IsRecordFault program records row input (NoInput e line) = (line ≡ input) × BeginsWithRecord (λ f. IsNoLine program f (none.NoInput e)) records
-IsRecordFault program records row input f = ⊥
 
 -- the fault is of a line that isn't plain, which has this number among rows, or that among external inputs
 abbrev pub IsOddLine : ℕ → ℕ → LogFault → List ℕ → Type 0
@@ -184,25 +157,3 @@ IsOddLine row input (SecondHeader n) line = (n ≡ row) × HasWords line
 IsOddLine row input (NotPlainInput n) line = (n ≡ input) × ¬ ArePlain line × ¬ HasWords line × IsOfInput line
 IsOddLine row input (NotPlain n) line = (n ≡ row) × ¬ ArePlain line × ¬ HasWords line × ¬ IsOfInput line
 IsOddLine row input f line = ⊥
-
--- the fault is of the first of the records, or there are none and it is of the line behind them
-abbrev pub IsFaultBehind : Parts → List (List (List ℕ)) → List ℕ → ℕ → ℕ → LogFault → Type 0
-IsFaultBehind program records rest row input f = IsRecordFault program records row input f ⊎ (records ≡ []) × BeginsWithLine (IsOddLine row input f) rest
-
--- the front has the rows and the external inputs of the first records of the plain lines, behind so many others; without a fault it is of all lines, and a fault is of the next record or of the line behind the plain ones
-pub record IsFront (program : Parts) (text : List ℕ) (rows_before inputs_before : ℕ) (front : Front) : Type 0 where
-  pub plain : ℕ
-  pub within : plain ≤ length text
-  pub are : AreLines (take plain text)
-  pub quiet : ArePlain (take plain text)
-  pub lines : List Line
-  pub first : List (List (List ℕ))
-  pub others : List (List (List ℕ))
-  pub whole : records_below (take plain text) ≡ first ++ others
-  pub each : AllZip (IsLine program) first lines
-  pub rows_are : front.rows.items ≡ rows lines
-  pub inputs_are : front.inputs.items ≡ inputs_behind 0 lines
-  pub rows_fit : RowsFit program front.rows.items
-  pub inputs_fit : InputsFit program front.inputs.items
-  pub all : front.fault ≡ None → (others ≡ []) × (plain ≡ length text)
-  pub none : (f : LogFault) → front.fault ≡ Some f → IsFaultBehind program others (drop plain text) (rows_before + length (rows lines) + 2) (inputs_before + length (inputs lines) + 2) f

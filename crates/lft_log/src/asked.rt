@@ -3,7 +3,7 @@
 ghost use Rattle.std.specs.Prelude.{◌≡◌, ◌<◌, ◌++◌, ◌∷◌, List, [], length, take, drop, false, IfSome, IfNone, IsTrue, Some};
 ghost use Rattle.lft_tag.specs.Tags.{Before};
 ghost use Rattle.lft_ir.specs.declared.steps.row.Row.{Row as TheRow};
-ghost use Rattle.lft_log.specs.Told.{AreAll, IsAskedOf, IsPastEnd, KeepTo};
+ghost use Rattle.lft_log.specs.{Told.{AreAll, IsPastEnd, KeepTo}, inner.Told.IsAskedOf};
 
 use lft_ir::steps::{Row, row_at};
 use lft_tag::Tag;

@@ -2,8 +2,8 @@
 
 ghost use Rattle.std.specs.Prelude.{◌≡◌, ◌≤◌, ◌^◌, ℕ, List, length, false, None, IfOk, IfSome};
 ghost use Rattle.lft_ir.specs.{Parts.Parts, Steps.Fits.RowsFit};
-ghost use Rattle.lft_trace.specs.{LogTables.{InputsFit, ReadsLines, StopsAt}, Parts.{BeginsPlain, EndsLine}};
-ghost use Rattle.lft_log.specs.Logs.{AreLines, BeginsOdd, BeginsWithLine, IsFaultBehind, IsFront, IsOddLine, records_below};
+ghost use Rattle.lft_trace.specs.{inner.{LogTables.{InputsFit, ReadsLines, StopsAt}, Parts.BeginsPlain}, Parts.EndsLine};
+ghost use Rattle.lft_log.specs.{Logs.{AreLines, BeginsWithLine, IsOddLine, records_below}, inner.Logs.{BeginsOdd, IsFaultBehind, IsFront}};
 
 use crate::fault::LogFault;
 use crate::lines::{first_line, has_words, is_input, plain_lines};

@@ -1,6 +1,6 @@
 //! A law of logs. It does no work.
 
-ghost use Rattle.lft_log.specs.Logs.{LogLaw};
+ghost use Rattle.lft_log.specs.inner.Logs.{LogLaw};
 
 use lft_ir::Program;
 

@@ -3,7 +3,8 @@
 ghost use Rattle.std.specs.Prelude.{◌≡◌, ◌≢◌, ◌↔◌, ◌⊎◌, ◌<◌, ◌≤◌, ◌+◌, ◌++◌, ◌∷◌, ℕ, List, [], Some, length, take, drop, slice_get, IfNone, IfSome, IsTrue, false, MatchOption};
 ghost use Rattle.memchr.specs.Find.{OccursAt};
 ghost use Rattle.lft_trace.specs.Parts.{EndsLine};
-ghost use Rattle.lft_log.specs.Logs.{AreLines, ArePlain, BeginsOdd, BeginsWith, EndsWith, HasNoEnd, HasWords, IsHead, IsHeaderThen, IsLoneReturn, IsOfInput, IsOneLine, IsWholeLine, IsWholeRow, IsWholeStop, fields, header_words};
+ghost use Rattle.lft_log.specs.Logs.{AreLines, ArePlain, BeginsWith, EndsWith, HasNoEnd, HasWords, IsHead, IsHeaderThen, IsOfInput, IsOneLine, IsWholeLine, IsWholeRow, IsWholeStop, fields, header_words};
+ghost use Rattle.lft_log.specs.inner.Logs.{BeginsOdd, IsLoneReturn};
 
 use memchr::{memchr, memchr_iter, memmem, memrchr};
 

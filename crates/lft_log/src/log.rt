@@ -5,9 +5,10 @@ ghost use Rattle.lft_tag.specs.declared.Tag.{Tag as TheTag};
 ghost use Rattle.lft_trace.specs.Parts.{EndsLine};
 ghost use Rattle.lft_ir.specs.{declared.steps.row.Row.Row as TheRow, Steps.Fits.RowsFit};
 ghost use Rattle.lft_model.specs.Plans.{PlanParts};
-ghost use Rattle.lft_monitor.specs.Follows.{IsFollowerOf, IsJudged, IsQuiet};
+ghost use Rattle.lft_monitor.specs.{inner.Follows.IsFollowerOf, Follows.{IsJudged, IsQuiet}};
 ghost use Rattle.lft_log.specs.Logs.{AreLines, BeginsLong, HasNoEnd, IsHead};
-ghost use Rattle.lft_log.specs.Told.{AreAll, AreOpenAtEnd, AreOpenIn, IsAskedOf, IsBegun, IsEnded, IsFaultAtEnd, IsFaultOf, IsFaultOfRows, IsFinal, IsLog, IsLogOf, IsSaid, IsSaidOfSome, IsSoon, KeepTo, TellsOpen};
+ghost use Rattle.lft_log.specs.Told.{AreAll, AreOpenAtEnd, AreOpenIn, IsEnded, IsFaultAtEnd, IsFaultOf, IsFinal, IsSaid, IsSoon, KeepTo, TellsOpen};
+ghost use Rattle.lft_log.specs.inner.Told.{IsAskedOf, IsBegun, IsFaultOfRows, IsLog, IsLogOf, IsSaidOfSome};
 
 use crate::asked::Asked;
 use crate::fault::LogFault;

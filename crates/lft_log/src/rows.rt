@@ -3,7 +3,7 @@
 ghost use Rattle.std.specs.Prelude.{◌≡◌, ◌++◌, ◌∷◌, ◌≤◌, ◌<◌, List, [], ℕ, true, length, drop, slice_range, IfOk, IfSome, OnOk, MatchOption};
 ghost use Rattle.lft_model.specs.Plans.{PlanParts};
 ghost use Rattle.lft_ir.specs.Steps.Fits.{RowsFit};
-ghost use Rattle.lft_log.specs.{Logs.{AreLines, HasManyRows}, Told.{HasRead, IsReadOn, IsReadSoFar, TellsPlan}};
+ghost use Rattle.lft_log.specs.{Logs.{AreLines, HasManyRows}, inner.Told.{HasRead, IsReadOn, IsReadSoFar}, Told.TellsPlan};
 
 use crate::front::read_front;
 use crate::lines::{below_header, is_whole, whole_lines};

@@ -4,10 +4,10 @@ ghost use Rattle.std.specs.Prelude.{◌≡◌, ◌↔◌, ◌≤◌, ◌^◌, �
 ghost use Rattle.lft_tag.specs.Tags.{IsRecorded};
 ghost use Rattle.lft_ir.specs.{declared.steps.row.Row.Row as TheRow, Steps.Fits.EventFits};
 ghost use Rattle.lft_model.specs.Plans.{PlanParts};
-ghost use Rattle.lft_monitor.specs.Follows.{IsFollowerOf, IsPassed};
+ghost use Rattle.lft_monitor.specs.{inner.Follows.IsFollowerOf, Follows.IsPassed};
 ghost use Rattle.lft_trace.specs.declared.{external_table.Entry.Entry as TheEntry, log_table.Line.Line as TheLine};
-ghost use Rattle.lft_trace.specs.LogTables.{EntryFits, InputsFit, inputs_behind};
-ghost use Rattle.lft_log.specs.{Logs.{rows, tag_of}, Told.{HasTold, IsBeforeLatest, IsInputFault, IsLatest, IsTaken}};
+ghost use Rattle.lft_trace.specs.inner.LogTables.{EntryFits, InputsFit, inputs_behind};
+ghost use Rattle.lft_log.specs.{Logs.{rows, tag_of}, Told.HasTold, inner.Told.{IsBeforeLatest, IsInputFault, IsLatest, IsTaken}};
 
 use crate::fault::LogFault;
 use crate::front::Front;

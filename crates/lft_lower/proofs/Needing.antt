@@ -4,7 +4,7 @@ use Rattle.std.specs.Prelude.{count_by, if◌then◌else◌, option_map, unwrap_
 use Rattle.std.{specs.List.range_with_len, proofs.lemmas.{Bool.Decides.{eqb_tells, leb_tells}, List.Sums.sum_by-cons, Option.slice_get_within}}
 use Rattle.lft_classes.specs.declared.shapes.{Child.Child, Given.Given, InheritedParameter.InheritedParameter, Shape.Shape}
 use Rattle.lft_elaborate.specs.Values.{given_to}
-use Rattle.lft_lower.specs.Needed.{GivesNeeded, GivesOnce, is_bare, is_needed, is_timed, needed_given, needed_in}
+use Rattle.lft_lower.specs.{Needed.{GivesNeeded, GivesOnce, is_bare, is_needed, is_timed}, inner.Needed.{needed_given, needed_in}}
 
 -- one, if it is so
 abbrev tick : Bool → ℕ

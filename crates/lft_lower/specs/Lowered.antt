@@ -1,24 +1,20 @@
 -- What the members of a reactor become in a setting.
-use Rattle.std.specs.Prelude.{◌≡◌, ◌≢◌, ◌&&◌, ℕ, zero, Bool, true, false, not, is_some, List, [], ◌∷◌, ◌++◌, Option, Some, None, filter_map, flat_map, if◌then◌else◌, length, map, option_map, slice_get, slice_index_or, string_bytes, unwrap_or}
+use Rattle.std.specs.Prelude.{◌≡◌, ◌≢◌, ◌&&◌, ℕ, zero, Bool, true, false, not, is_some, List, ◌∷◌, ◌++◌, Option, Some, None, filter_map, flat_map, if◌then◌else◌, length, map, option_map, slice_get, slice_index_or, string_bytes, unwrap_or}
 use Rattle.std.specs.{List.All, Option.option_and_then}
 use Rattle.lft_tree.specs.Identifiers.{IsName}
 use Rattle.lft_tree.specs.Tree.{TimeTree, RefTree, TimerTree, ActionTree, TriggerTree, AtStartup, AtShutdown, OnRef, ReactionTree, AssignmentTree, ConnectionTree, MemberTree, PortMember, TimerMember, ActionMember, ReactionMember, InstanceMember, ConnectionMember}
-use Rattle.lft_tree.specs.{View.member_views, declared.tree.Member.Member as Core}
 use Rattle.lft_whole.specs.declared.tree.{Action.Action, Connection.Connection, Effect.Effect, Expression.Expression, Member.Member, Reaction.Reaction}
 use Rattle.lft_whole.specs.declared.tree.{Timer.Timer, Trigger.Trigger, Value.Value}
 use Rattle.lft_classes.specs.{declared.shapes.{Child.Child, Given.Given, Inherited.Inherited, Shape.Shape}, Shapes.{child_at, thing_named, width_of}}
-use Rattle.lft_elaborate.specs.{Channels.Lowered.{AreJoined, own}, Noted.found_inside}
+use Rattle.lft_elaborate.specs.{Channels.Lowered.{AreJoined, own}, Noted.found_inside, Values.is_forever, Widths.found_width}
+use Rattle.lft_lower.specs.Meanings.{Meanings.{Here, Means, all_places, named_in, places_in, shape_inside}, Places.{Several, count_of, names_of}}
+use Rattle.lft_lower.specs.{Needed.{GivesNeeded, is_timed}, Times.{IsTime, time_for}}
 use Rattle.lft_whole.specs.declared.tree.Effect.TheVariants as effects
 use Rattle.lft_whole.specs.declared.tree.Member.TheVariants as member
 use Rattle.lft_whole.specs.declared.tree.Trigger.TheVariants as triggers
 use Rattle.lft_whole.specs.declared.tree.Value.TheVariants as value
-pub use Rattle.lft_elaborate.specs.Values.{is_forever}
-use Rattle.lft_elaborate.specs.Widths.{found_width}
-use Rattle.lft_lower.specs.Meanings.{Meanings.{Here, Means, all_places, named_in, places_in, shape_inside}, Places.{Several, count_of, names_of}}
-use Rattle.lft_lower.specs.{declared.connections.Sides.Sides, Needed.{GivesNeeded, is_timed}, Times.{IsTime, time_for}}
 
 -- ---- times, timers and actions
-
 -- what becomes of a time, where one is written
 abbrev pub time_at : Option Expression → Option TimeTree
 time_at None = None
@@ -57,7 +53,6 @@ abbrev pub is_spaced : Action → Bool
 is_spaced a = not a.is_physical && unwrap_or (option_map (λ spacing. is_some_time spacing.value) a.spacing) false
 
 -- ---- ports and instances
-
 -- a port for each name
 abbrev pub ports : Several → Bool → List MemberTree
 ports thing input = map (λ name. PortMember (record { name = name; is_input = input })) (names_of thing)
@@ -96,7 +91,6 @@ pub data AreInstances (names : List (Option (List ℕ))) (h : Here) (n : ℕ) (n
   some_instances : (reactor : List ℕ) (given : List AssignmentTree) → reactor_at names h n ≡ Some reactor → AreGiven h n given → AreInstances names h n name (instances (named_in h name n) reactor given)
 
 -- ---- connections
-
 -- each pair is a connection of its own
 abbrev pub AreEach : List RefTree → List RefTree → Bool → Option TimeTree → List MemberTree → Type 0
 AreEach left right broadcast delay ms = (cs : List ConnectionTree) × AreJoined left right broadcast delay cs × (ms ≡ map ConnectionMember cs)
@@ -106,16 +100,11 @@ pub data AreConnected (left right : List RefTree) (broadcast : Bool) (delay : Op
   each_pair : (ms : List MemberTree) → AreEach left right broadcast delay ms → AreConnected left right broadcast delay ms
   whole : broadcast ≡ false → length left ≡ length right → AreConnected left right broadcast delay (ConnectionMember (record { sources = left; destinations = right; delay = delay }) ∷ [])
 
--- so many places the two sides of a connection have
-abbrev pub AreSides : Here → Connection → Sides → Type 0
-AreSides h c sides = (sides.left ≡ length (all_places h c.sources.items)) × (sides.right ≡ length (all_places h c.destinations.items))
-
 -- each reference of a connection means something
 abbrev pub MeanSides : Here → Connection → Type 0
 MeanSides h c = All (Means h) c.sources.items × All (Means h) c.destinations.items
 
 -- ---- reactions
-
 -- the places of a trigger
 abbrev pub trigger_places : Here → Trigger → List TriggerTree
 trigger_places h triggers.Startup = AtStartup ∷ []
@@ -172,7 +161,6 @@ abbrev pub IsReaction : Here → Reaction → Option (List ℕ) → List MemberT
 IsReaction h r before new after = (triggers : List TriggerTree) × (more : List MemberTree) × AreTriggers h r before more after triggers × (new ≡ more ++ ReactionMember (reaction_tree h r triggers) ∷ [])
 
 -- ---- members
-
 -- what the member of this number becomes; the name of the action without events, if there is one, before and after; a mode, a mutation or a watchdog becomes nothing at all
 abbrev pub IsLowered : List (Option (List ℕ)) → Here → ℕ → Option (List ℕ) → List MemberTree → Option (List ℕ) → Member → Type 0
 IsLowered names h n before new after (member.Port port) = (after ≡ before) × (new ≡ ports (named_in h (string_bytes port.name.text) n) port.is_input)
@@ -191,7 +179,3 @@ IsMeasured h n m = is_some (width_of m) ≡ true → is_some (found_width h.sett
 pub data AreLowered (names : List (Option (List ℕ))) (h : Here) : List Inherited → List MemberTree → Option (List ℕ) → Type 0 where
   no_members : AreLowered names h [] [] None
   more_members : (front : List Inherited) (m : Inherited) (done new : List MemberTree) (before after : Option (List ℕ)) → AreLowered names h front done before → IsMeasured h (length front) m.member.now → IsLowered names h (length front) before new after m.member.now → AreLowered names h (front ++ m ∷ []) (done ++ new) after
-
--- such members stand behind those that there were
-abbrev pub Adds : List Core → List Core → (List MemberTree → Type 0) → Type 0
-Adds old new Are = (more : List MemberTree) × Are more × (member_views new ≡ member_views old ++ more)

@@ -1,6 +1,6 @@
 -- The times that each instance of a reactor has to give.
-use Rattle.std.specs.Prelude.{◌≡◌, ◌&&◌, ℕ, Bool, true, false, not, is_some, List, [], ◌∷◌, None, count_by, length, option_map, slice_get, unwrap_or}
-use Rattle.lft_elaborate.specs.{Channels.Channels.below, Values.given_to}
+use Rattle.std.specs.Prelude.{◌≡◌, ◌&&◌, ℕ, Bool, true, false, not, is_some, List, ◌∷◌, None, option_map, slice_get, unwrap_or}
+use Rattle.lft_elaborate.specs.Values.{given_to}
 use Rattle.lft_classes.specs.declared.shapes.{Child.Child, Given.Given, InheritedParameter.InheritedParameter, Shape.Shape}
 
 -- whether a time is read from the parameter of this number
@@ -27,13 +27,3 @@ GivesOnce (g ∷ gs) = (given_to gs g.parameter ≡ None) × GivesOnce gs
 -- an instance gives a value to each such parameter, if it gives none twice
 abbrev pub GivesNeeded : Shape → Child → Type 0
 GivesNeeded inner child = GivesOnce child.given.items → LacksGiven inner child → ⊥
-
--- ---- for the crate's own contracts
-
--- so many such parameters the shape has
-abbrev pub needed_in : Shape → ℕ
-needed_in shape = count_by (is_needed shape) (below (length shape.parameters.items))
-
--- so many values an instance gives to such parameters
-abbrev pub needed_given : Shape → Child → ℕ
-needed_given inner child = count_by (λ g. is_needed inner g.parameter) child.given.items

@@ -9,9 +9,9 @@ use Rattle.lft_whole.specs.declared.tree.Trigger.{Trigger}
 use Rattle.lft_whole.specs.declared.sources.source.SourceFile.{SourceFile}
 use Rattle.lft_whole.specs.Sources.Tokens.{number_at}
 use Rattle.lft_classes.specs.{Shapes.{child_at, is_at}, declared.shapes.{Given.Given, Inherited.Inherited, Shape.Shape}}
-use Rattle.lft_elaborate.specs.{Channels.Channels.{below, joined, source}, Settings.shape_at, declared.settings.Settings.Settings}
-use Rattle.lft_lower.specs.Meanings.{Meanings.{Here, shape_inside}, Standing.{all_tokens, ref_tokens, tokens_of}}
-use Rattle.lft_lower.specs.{Lowered.{all_triggers, is_forever, time_given}, Needed.is_timed}
+use Rattle.lft_elaborate.specs.{Channels.Channels.{below, joined, source}, Settings.shape_at, declared.settings.Settings.Settings, Values.is_forever}
+use Rattle.lft_lower.specs.{Meanings.{Meanings.{Here, shape_inside}, Standing.{all_tokens, ref_tokens, tokens_of}}, Lowered.{all_triggers, time_given}}
+use Rattle.lft_lower.specs.Needed.{is_timed}
 use Rattle.lft_tree.specs.declared.tree.Item.TheVariants as items
 use Rattle.lft_tree.specs.declared.tree.Member.TheVariants as kinds
 use Rattle.lft_tree.specs.declared.tree.TimeExpression.TheVariants as times

@@ -3,8 +3,10 @@
 ghost use Rattle.std.specs.Prelude.{◌≡◌, ◌⊎◌, ◌∷◌, IfErr, IfOk, IsTrue, OnOk, false, option_map, true};
 ghost use Rattle.lft_tree.specs.ItemView.{connection_view, ref_view, ref_views, time_view};
 ghost use Rattle.lft_elaborate.specs.Channels.Lowered.{single};
-ghost use Rattle.lft_lower.specs.Meanings.{Meanings.{all_places, here, token_in}, Refused.{IfRefused, IsOfOne, IsPassed}, Standing.{all_tokens, ref_tokens}};
-ghost use Rattle.lft_lower.specs.{Lowered.{Adds, AreConnected, AreEach, AreSides, IsRead, MeanSides, time_at}, Refused.{IsOfConnection, IsOfSides}};
+ghost use Rattle.lft_lower.specs.Meanings.{Meanings.all_places, Standing.{all_tokens, ref_tokens}};
+ghost use Rattle.lft_lower.specs.inner.{Meanings.{Meanings.{here, token_in}, Refused.{IfRefused, IsOfOne, IsPassed}}, Lowered.{Adds, AreSides}};
+ghost use Rattle.lft_lower.specs.inner.Refused.{IsOfConnection, IsOfSides};
+ghost use Rattle.lft_lower.specs.Lowered.{AreConnected, AreEach, IsRead, MeanSides, time_at};
 ghost use Rattle.lft_lower.specs.Standing.{AddsAt, AreSidesAt, pairs_tokens, parts_at, time_tokens, written_tokens};
 ghost use Rattle.lft_whole.specs.declared.sources.stop.Stop.TheVariants.{NoMemory};
 ghost use Rattle.lft_tree.specs.declared.tree.Member.TheVariants as kinds;

@@ -1,7 +1,7 @@
 //! What all reactors are made of.
 
 ghost use Rattle.std.specs.Prelude.{◌≡◌, None, map, option_map, slice_get, slice_index_or, unwrap_or};
-ghost use Rattle.lft_lower.specs.{Meanings.Names.texts, Needed.needed_in};
+ghost use Rattle.lft_lower.specs.inner.{Meanings.Names.texts, Needed.needed_in};
 ghost use Rattle.lft_whole.specs.Sources.Tokens.{number_at};
 
 use lft_elaborate::Settings;

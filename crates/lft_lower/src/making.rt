@@ -2,8 +2,8 @@
 
 ghost use Rattle.std.specs.Prelude.{◌≡◌, IfErr, IfOk, None, OnOk, true};
 ghost use Rattle.lft_whole.specs.declared.sources.stop.Stop.TheVariants.{NoMemory};
-ghost use Rattle.lft_lower.specs.{Meanings.Refused.IfRefused, Programs.{IsCentralized, decentralized_in}, Reactors.{IsLowering, IsProgram}};
-ghost use Rattle.lft_lower.specs.Refused.{IsDecentralized, IsOfFederation};
+ghost use Rattle.lft_lower.specs.{inner.{Meanings.Refused.IfRefused, Refused.{IsDecentralized, IsOfFederation}}, Programs.{IsCentralized, decentralized_in}};
+ghost use Rattle.lft_lower.specs.Reactors.{IsLowering, IsProgram};
 
 use crate::instances::needed;
 use crate::maker::Maker;

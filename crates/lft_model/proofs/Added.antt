@@ -5,8 +5,8 @@ use Rattle.lft_tag.{specs.{declared.Tag.Tag, Tags.{Before, UpTo}}, proofs.Order.
 use Rattle.lft_lists.proofs.{Places.{get_left, get_append_cases}, Mapped.mapped_from}
 use Rattle.lft_ir.specs.declared.{parts.Value.Value, steps.row.{Row.Row, Step.{Step, TheVariants.{Start, Read, Write, Schedule, Stop, End}}}}
 use Rattle.lft_model.specs.{Plans.{PlanParts, IsSoundPlan}, Presence.{Inputs, stop}, Runs.{Run, start_row, end_row, reads_at, ended_by, by_ends}}
-use Rattle.lft_model.specs.{Breaches.{IsOpen, IsLate, IsOutOfOrder, IsUndeclared, BreaksRow}, OneWorker.{IsPending, Ready, Next, Path, NoClash, rows}}
-use Rattle.lft_model.specs.Recorded.{SoFar, run_row}
+use Rattle.lft_model.specs.{Breaches.{IsOpen, IsLate, IsOutOfOrder, IsUndeclared}, inner.Breaches.BreaksRow}
+use Rattle.lft_model.specs.{OneWorker.{IsPending, Ready, Next, Path, NoClash, rows}, Recorded.{SoFar, run_row}}
 use Rattle.lft_model.proofs.{Places.{slice_get_within, slice_get_taken}, Legality.{KeepsFour, keeps_four}, Ended.ended_before}
 use Rattle.lft_model.proofs.Recording.{by_ends_taken, rows_up_to}
 

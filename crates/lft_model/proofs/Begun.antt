@@ -8,7 +8,7 @@ use Rattle.lft_ir.specs.declared.parts.{Reaction.Reaction, Value.Value, Name.{Na
 use Rattle.lft_ir.specs.declared.steps.row.{Row.Row, Step.{Step, TheVariants.{Start, Read, Write, Schedule, Stop, End}}}
 use Rattle.lft_model.specs.{Plans.{PlanParts, IsSoundPlan}, Presence.{Inputs, Shows, requests, stop}}
 use Rattle.lft_model.specs.Runs.{Run, Ran, start_row, end_row, read_step, value_read, read_of, step_of, steps_of, inputs_of, reads_at, ended_by, by_ends}
-use Rattle.lft_model.specs.{Breaches.{IsOpen, IsOutOfOrder, IsUndeclared, WasRead, BreaksRow}, OneWorker.{Ready, Path, NoClash, rows}}
+use Rattle.lft_model.specs.{Breaches.{IsOpen, IsOutOfOrder, IsUndeclared, WasRead}, inner.Breaches.BreaksRow, OneWorker.{Ready, Path, NoClash, rows}}
 use Rattle.lft_model.specs.Recorded.{SoFar, run_row, begun_rows}
 use Rattle.lft_model.proofs.{Places.slice_get_within, Stops.{asker, stop_added}, Legality.{KeepsFour, in_time, ran_at}, Steps.{step_row, row_step}}
 use Rattle.lft_model.proofs.{RunSteps.{ReadOf, in_reads, mem_zip}, Agree.no_steps, Grown.added_none, Blocks.{put_right, two_places, reads_one}}

@@ -7,7 +7,7 @@ use Rattle.lft_lists.proofs.{Members.{Mem, mem_get, mem_cases, mem_from_map, mem
 use Rattle.lft_ir.specs.declared.{parts.{Value.Value, Name.Name}, steps.row.{Row.Row, Step.{Step, TheVariants.{Start, Read, Write, Schedule, Stop, End}}}}
 use Rattle.lft_model.specs.{Plans.{PlanParts, IsSoundPlan}, Presence.{Inputs, requests, stop}}
 use Rattle.lft_model.specs.Runs.{Run, start_row, end_row, value_read, read_of, step_of, steps_of, inputs_of, reads_at, run_at, ended_by, by_ends}
-use Rattle.lft_model.specs.{Breaches.{IsOpen, IsOutOfOrder, IsUndeclared, BreaksRow}, OneWorker.{Ready, Next, Path, NoClash, rows}}
+use Rattle.lft_model.specs.{Breaches.{IsOpen, IsOutOfOrder, IsUndeclared}, inner.Breaches.BreaksRow, OneWorker.{Ready, Next, Path, NoClash, rows}}
 use Rattle.lft_model.specs.Recorded.{SoFar, MayAnswer, run_row, committed_rows}
 use Rattle.lft_model.proofs.{Places.slice_get_within, Stops.{asker, stop_added}, Legality.{KeepsFour, in_time, opened, one_starter}, Steps.step_row}
 use Rattle.lft_model.proofs.{Ended.{all_ended, stop_down}, Law.EndRow, Answered.answers_well, Recording.{rows_up_to, open_ready_now, none_after_end}}

@@ -10,7 +10,7 @@ use Rattle.lft_lists.proofs.Members.{Mem, mem_get, get_mem, mem_left, mem_right,
 use Rattle.lft_model.specs.Plans.{PlanParts, IsSoundPlan}
 use Rattle.lft_model.specs.Presence.{written, scheduled, value_scheduled, given, min_delay, events_of, Last, IsWrittenFrom, At, Triggered, Occurs, Shows, Inputs, stop, Collision, ClashesAt}
 use Rattle.lft_model.specs.Runs.{Run, Ran, start_row, end_row, steps_of, effects_of, reads_at, run_at, ended_by, by_ends, rows_of_run, rows_of}
-use Rattle.lft_model.specs.{Breaches.{BreaksRow, BreaksTag, BreaksAt, IsUnended, IsTooEarly, Legal}, OneWorker.{HasRun, IsPending, rows}}
+use Rattle.lft_model.specs.{inner.Breaches.{BreaksRow, BreaksTag, BreaksAt}, Breaches.{IsUnended, IsTooEarly, Legal}, OneWorker.{HasRun, IsPending, rows}}
 use Rattle.lft_model.specs.Recorded.{SoFar, IsAnswer}
 use Rattle.lft_model.proofs.{Places.{slice_get_within, filter_map_get}, Legality.{KeepsRows, IsOrdered, Inside, told_all, ran_at}}
 use Rattle.lft_model.proofs.Steps.{own_schedule, mem_step, scheduled_some, some_scheduled, both_true}

@@ -10,8 +10,8 @@ use Rattle.lft_ir.specs.declared.steps.row.{Row.Row, Step.{Step, TheVariants.{St
 use Rattle.lft_model.specs.{declared.breach.Breach.Breach, Plans.{PlanParts, IsSoundPlan}, Presence.{stop, Triggered, Inputs, Shows}}
 use Rattle.lft_model.specs.Runs.{Run, Outcome, Ran, start_row, end_row, value_read, read_of, steps_of, inputs_of, effects_of, reads_at, steps_of_run, rows_of}
 use Rattle.lft_model.specs.Runs.Outcome.{Written, Scheduled}
-use Rattle.lft_model.specs.Breaches.{IsOpen, IsLate, WasStarted, IsOutOfOrder, WasRead, MayWrite, MaySchedule, IsUndeclared, IsUnended, BreaksRow, RowBreach, BreaksTag, BreaksAt, TagBreach, IsTooEarly, Legal}
-use Rattle.lft_model.specs.OneWorker.{HasRun, MayHave, Path, OneWorker, rows}
+use Rattle.lft_model.specs.Breaches.{IsOpen, IsLate, WasStarted, IsOutOfOrder, WasRead, MayWrite, MaySchedule, IsUndeclared, IsUnended, RowBreach, TagBreach, IsTooEarly, Legal}
+use Rattle.lft_model.specs.{inner.Breaches.{BreaksRow, BreaksTag, BreaksAt}, OneWorker.{HasRun, MayHave, Path, OneWorker, rows}}
 use Rattle.lft_model.proofs.{Places.slice_get_within, Counted.{NamesApart, names_apart}}
 use Rattle.lft_model.proofs.{RunSteps.{StepOf, step_of_run, mem_zip, StepOf.{starts, reads, writes, schedules, stops, ends}}, Agree.acyclic}
 use Rattle.lft_model.proofs.Paths.{rises, one_each, none_later, run_in_time, triggered_kept, inputs_kept}

@@ -132,18 +132,8 @@ FirstUntil last plan t b =
     RowBreachUntil last plan t b × ((c : Breach) → RowBreachUntil last plan t c → RowOrder b c)
     ⊎ ((c : Breach) → ¬ RowBreachUntil last plan t c) × TagBreachUntil last plan t b × ((c : Breach) → TagBreachUntil last plan t c → TagOrder b c)
 
--- the same with the stop tag of the trace
-abbrev pub BreaksRow : PlanParts → List Row → ℕ → Row → ℕ → Type 0
-BreaksRow plan t i row k = BreaksRowUntil (stop plan t) plan t i row k
-
 abbrev pub RowBreach : PlanParts → List Row → Breach → Type 0
 RowBreach plan t b = RowBreachUntil (stop plan t) plan t b
-
-abbrev pub BreaksTag : PlanParts → List Row → Tag → ℕ → ℕ → Type 0
-BreaksTag plan t g r k = BreaksTagUntil (stop plan t) plan t g r k
-
-abbrev pub BreaksAt : PlanParts → List Row → Tag → Option ℕ → ℕ → Type 0
-BreaksAt plan t g o k = BreaksAtUntil (stop plan t) plan t g o k
 
 abbrev pub TagBreach : PlanParts → List Row → Breach → Type 0
 TagBreach plan t b = TagBreachUntil (stop plan t) plan t b

@@ -5,9 +5,9 @@ use Rattle.lft_tag.{specs.{declared.Tag.Tag, Tags.{Before, UpTo, after}}, proofs
 use Rattle.lft_lists.proofs.Places.{get_append_cases, get_left, get_right, same_at}
 use Rattle.lft_ir.specs.{declared.steps.row.Row.Row, Steps.Fits.{RowFits, RowsFit}}
 use Rattle.lft_model.{specs.{Plans.PlanParts, Presence.stop}, proofs.Places.slice_get_within}
-use Rattle.lft_rows.specs.Slices.{Rises}
+use Rattle.lft_rows.specs.inner.Slices.{Rises}
 use Rattle.lft_queue.specs.Coming.AtTag.{AreBefore}
-use Rattle.lft_monitor.specs.{Sure.IsUnbroken, Kept.{AreWays, IsKept, IsPast}, declared.{kept.Ways.Ways, past.Past.Past}}
+use Rattle.lft_monitor.specs.{Sure.IsUnbroken, inner.Kept.{AreWays, IsKept, IsPast}, declared.{kept.Ways.Ways, past.Past.Past}}
 use Rattle.lft_monitor.proofs.Keeping.{AreLate, time_up, kept_both, kept_fit, kept_later, kept_more, kept_self, kept_through}
 
 -- the tag behind another is the first one behind it

@@ -8,11 +8,11 @@ use Rattle.lft_ir.specs.declared.parts.{Trigger.{Trigger, TheVariants.{Startup, 
 use Rattle.lft_ir.specs.declared.steps.row.Row.{Row}
 use Rattle.lft_model.specs.{Plans.PlanParts, Presence.{stop, Fires, Occurs, Triggered, ClashesAt}, Runs.Ran, Breaches.{BreaksTagUntil, BreaksAtUntil}}
 use Rattle.lft_model.proofs.Places.{slice_get_within}
-use Rattle.lft_stream.specs.{declared.due.Due.{Due, TheVariants.{AtTag, AtStop, Never}}, Dues.{firing, IsNextFiring, IsDue, timed, AreDue, IsDueBefore}}
-use Rattle.lft_stream.specs.Streams.{State, IsStream}
+use Rattle.lft_stream.specs.declared.due.Due.{Due, TheVariants.{AtTag, AtStop, Never}}
+use Rattle.lft_stream.specs.inner.{Dues.{firing, IsNextFiring, IsDue, timed, AreDue, IsDueBefore}, Streams.{State, IsStream}}
 use Rattle.lft_stream.proofs.Owing.{due_occurs, firing_up, timed_there, timed_from}
-use Rattle.lft_queue.specs.Coming.Listens.{Listens}
-use Rattle.lft_monitor.specs.{Sure.IsUnbroken, Timely.{HasComeTo, TimelyLaw, OverdueLaw}}
+use Rattle.lft_queue.specs.inner.Coming.Listens.{Listens}
+use Rattle.lft_monitor.specs.{Sure.IsUnbroken, inner.Timely.{HasComeTo, TimelyLaw, OverdueLaw}}
 
 -- a timer that isn't due before low is met before it
 firing_met : (t : List Row) (r : ℕ) (timer : TimerOf) (due : Due) (last low h : Tag) → IsNextFiring t r timer due → ¬ IsDueBefore last low due → Before h low → Fires timer h → Ran t h r

@@ -6,11 +6,12 @@ use Rattle.lft_lists.proofs.Members.{Mem, get_mem, contains_mem, mem_left, mem_f
 use Rattle.lft_ir.specs.{Naming.named, Origins.Origin, Parts.inputs}
 use Rattle.lft_ir.specs.declared.parts.{Value.Value, Name.{Name, TheVariants.{Port, Action}}, Trigger.{Trigger, TheVariants.{Startup, Shutdown, Timer, On}}}
 use Rattle.lft_ir.specs.declared.steps.row.Row.{Row}
-use Rattle.lft_queue.{specs.{Reading.is_read, Coming.{AtOnce.IsAwaited, AtTag.AreBefore}}, proofs.ComingLemmas.AtOnce.input_awaited}
+use Rattle.lft_queue.{specs.{inner.{Reading.is_read, Coming.AtOnce.IsAwaited}, Coming.AtTag.AreBefore}, proofs.ComingLemmas.AtOnce.input_awaited}
 use Rattle.lft_model.specs.{declared.breach.Breach.Breach, Breaches.TagBreachUntil, Plans.PlanParts}
 use Rattle.lft_model.specs.Presence.{written, scheduled, given, min_delay, events_of, IsWrittenFrom, At, Shows, Inputs, OccursUntil, TriggeredUntil, PortClash, ClashesAt, Collision}
 use Rattle.lft_model.specs.Runs.{reads_at}
-use Rattle.lft_monitor.{specs.{Sure.{CauseSame, DroppedLaw}, Kept.{GoesUnheard, CauseAlike}}, proofs.{Keeping.{AreLate, own_clash}, Same.{SameAt, same_breach}}}
+use Rattle.lft_monitor.specs.inner.{Sure.{CauseSame, DroppedLaw}, Kept.{GoesUnheard, CauseAlike}}
+use Rattle.lft_monitor.proofs.{Keeping.{AreLate, own_clash}, Same.{SameAt, same_breach}}
 use Rattle.lft_stream.proofs.Before.{ran_second, ran_whole, too_early_second, too_early_whole, reads_second}
 
 -- two lists of rows, with the same rows behind them, cause the same at a tag; but where no reaction reads that matters only if two writes meet there

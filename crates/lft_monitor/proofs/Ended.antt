@@ -7,10 +7,10 @@ use Rattle.lft_ir.specs.declared.steps.row.Row.{Row}
 use Rattle.lft_model.specs.{declared.breach.Breach.Breach, Plans.PlanParts, Presence.stop}
 use Rattle.lft_model.specs.Breaches.{BreaksRowUntil, RowBreach, TagBreach, TagOrder, RowOrder, First}
 use Rattle.lft_model.proofs.Places.{slice_get_within}
-use Rattle.lft_rows.{specs.{Firsts.FirstRow, Parts.AreEarlier}, proofs.Together.together}
+use Rattle.lft_rows.{specs.inner.{Firsts.FirstRow, Parts.AreEarlier}, proofs.Together.together}
 use Rattle.lft_stream.proofs.{Behind.in_time_added, Settling.{rows_in_time, rows_until}}
-use Rattle.lft_monitor.specs.{Sure.IsFirstBefore, declared.{follower.Follower.Follower, judged.Judged.Judged, past.Past.Past}, Kept.IsPast}
-use Rattle.lft_monitor.specs.Follows.{AreJudged, done_of, IsFollowerOf, IsJudged, IsJudgedOf, KeepsRows}
+use Rattle.lft_monitor.specs.{Sure.IsFirstBefore, declared.{follower.Follower.Follower, judged.Judged.Judged, past.Past.Past}}
+use Rattle.lft_monitor.specs.{inner.{Kept.IsPast, Follows.{AreJudged, done_of, IsFollowerOf, IsJudgedOf, KeepsRows}}, Follows.IsJudged}
 use Rattle.lft_monitor.proofs.{Following.judged_so_far, Hand.{breaks_own, breaks_whole, unended_whole}, Rows.breaks_back}
 
 module _ (plan : PlanParts) (d v : List Row) (settled : FirstRow (stop plan d) plan d None) (earlier : AreEarlier d v) where

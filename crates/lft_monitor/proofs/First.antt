@@ -6,9 +6,10 @@ use Rattle.lft_ir.{proofs.Ranges.{range-get, range-within}, specs.declared.steps
 use Rattle.lft_lists.proofs.Places.{get_right, get_there}
 use Rattle.lft_model.specs.{declared.breach.Breach.Breach, Plans.PlanParts, Presence.stop, Breaches.{TagBreach, TagBreachUntil, TagOrder}}
 use Rattle.lft_model.proofs.Stops.{stop_append}
-use Rattle.lft_check.specs.Verdicts.{LeastOf, BreachFrom}
+use Rattle.lft_check.specs.inner.Verdicts.{LeastOf, BreachFrom}
 use Rattle.lft_stream.proofs.Parting.{up_to_second}
-use Rattle.lft_monitor.specs.{Sure.{AreFrom, IsFirstBefore}, Kept.IsPast, declared.past.Past.Past, Follows.{BeginsLast, IsFirstBehind, KeepsButLast}}
+use Rattle.lft_monitor.specs.{inner.{Sure.AreFrom, Kept.IsPast, Follows.BeginsLast}, Sure.IsFirstBefore, declared.past.Past.Past}
+use Rattle.lft_monitor.specs.Follows.{IsFirstBehind, KeepsButLast}
 use Rattle.lft_monitor.proofs.{Dropped.dropped_alike, Finished.finished_law, Keeping.{alike_nearer, from_late, kept_before, kept_stop}}
 
 module _ (plan : PlanParts) (d u v : List Row) (p : Past) (is : IsPast plan d p) (high : Tag) (from : AreFrom u p.low) (later : AreFrom v high) where

@@ -6,13 +6,14 @@ use Rattle.lft_tag.{specs.{declared.Tag.Tag, Tags.{Before, UpTo}}, proofs.Order.
 use Rattle.lft_ir.{proofs.Ranges.{length-range, range-get}, specs.{declared.steps.row.Row.Row, Steps.Fits.{RowFits, RowsFit}}}
 use Rattle.lft_lists.proofs.Places.{get_append_cases, get_right, get_there, same_at}
 use Rattle.lft_model.{specs.{declared.breach.Breach.Breach, Plans.PlanParts, Presence.stop}, proofs.Places.{slice_get_within, slice_get_take}}
-use Rattle.lft_rows.specs.{Firsts.FirstRow, Slices.Rises, Passes.{HasPassed, KeepsEarly}}
+use Rattle.lft_rows.specs.inner.{Firsts.FirstRow, Slices.Rises, Passes.{HasPassed, KeepsEarly}}
 use Rattle.lft_queue.specs.Coming.AtTag.{AreAt, AreBefore}
 use Rattle.lft_stream.proofs.Parting.{range_fits}
 use Rattle.lft_monitor.specs.declared.{gone.{Going.Going, Halt.TheVariants.{AtEnd, AtRow, AtLater}}, follower.Follower.Follower}
 use Rattle.lft_monitor.specs.declared.{judged.{Judged.Judged, Unjudged.Unjudged}, reach.Reach.Reach}
-use Rattle.lft_monitor.specs.Going.{AreEnded, AreOpen, IsGoing, IsGoneTo, IsFirstBad, IsLost, HasGone}
-use Rattle.lft_monitor.specs.Follows.{done_of, AreDone, IsAtHand, IsClean, IsCleanTo, IsFollowerOf, IsHalt, IsHeld, IsJudged, IsJudgedOf, IsOdd, IsOddSoFar, IsQuiet, IsSureBehind, IsSureSoFar, IsTurn, IsUnjudged, BeginsLast}
+use Rattle.lft_monitor.specs.inner.Going.{AreEnded, AreOpen, IsGoing, IsGoneTo, IsFirstBad, IsLost, HasGone}
+use Rattle.lft_monitor.specs.inner.Follows.{done_of, AreDone, IsAtHand, IsFollowerOf, IsHalt, IsHeld, IsJudgedOf, IsOdd, IsTurn, IsUnjudged, BeginsLast}
+use Rattle.lft_monitor.specs.Follows.{IsClean, IsCleanTo, IsJudged, IsOddSoFar, IsQuiet, IsSureBehind, IsSureSoFar}
 use Rattle.lft_monitor.proofs.{Judging.{accepted_rise, all_at, parted, rest_at}, Over.{apart, keeps_but_last, quiet}, Telling.{IsOf, bad_is_sure, lost_is_sure}}
 
 -- what is gone over is gone over still when more rows come behind

@@ -6,8 +6,8 @@ use Rattle.lft_ir.{proofs.Ranges.{range-get, range-within}, specs.declared.steps
 use Rattle.lft_lists.proofs.Places.{get_there}
 use Rattle.lft_model.specs.{declared.breach.Breach.Breach, Plans.PlanParts, Presence.stop, Runs.end_row, Breaches.{IsUnended, BreaksRowUntil, RowBreachUntil}}
 use Rattle.lft_model.proofs.Places.{slice_get_take, slice_get_taken}
-use Rattle.lft_stream.{specs.Kept.KeepRules, proofs.Parting.up_to_second}
-use Rattle.lft_monitor.{specs.{Follows.BeginsLast, Going.IsGoneTo}, proofs.{Over.apart, Rows.breaks_added}}
+use Rattle.lft_stream.{specs.inner.Kept.KeepRules, proofs.Parting.up_to_second}
+use Rattle.lft_monitor.{specs.inner.{Follows.BeginsLast, Going.IsGoneTo}, proofs.{Over.apart, Rows.breaks_added}}
 
 module _ (plan : PlanParts) (done rows : List Row) (i : ℕ) (gone : IsGoneTo plan done rows i) (begin : ℕ) (begins : BeginsLast rows i begin) where
   abbrev first : List Row

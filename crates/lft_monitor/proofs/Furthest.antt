@@ -6,8 +6,8 @@ use Rattle.lft_tag.proofs.{Order.UpTo-Before, Chains.shifted_chain}
 use Rattle.lft_ir.{specs.{Parts.Parts, Sound.IsSound, Origins.Origin, declared.parts.Port.Port}, proofs.Origins.{origin_unique, origin_within}}
 use Rattle.lft_lists.proofs.Places.{get_there, get_written, get_unwritten, same_at, same_some}
 use Rattle.lft_model.proofs.Places.{slice_get_within}
-use Rattle.lft_queue.{specs.{Reading.is_read, Coming.Unread.GoesAsFar}, proofs.ComingLemmas.Ways.{moved_up, far_trans}}
-use Rattle.lft_monitor.specs.{Kept.{AreFurthest, AreWays}, declared.kept.Ways.Ways}
+use Rattle.lft_queue.{specs.inner.{Reading.is_read, Coming.Unread.GoesAsFar}, proofs.ComingLemmas.Ways.{moved_up, far_trans}}
+use Rattle.lft_monitor.specs.{inner.Kept.{AreFurthest, AreWays}, declared.kept.Ways.Ways}
 
 -- a port is marked
 abbrev pub IsMarked : List Bool → ℕ → Type 0

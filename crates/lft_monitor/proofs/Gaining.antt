@@ -14,10 +14,10 @@ use Rattle.lft_ir.specs.declared.steps.{externals.Event.Event, row.Row.Row}
 use Rattle.lft_ir.specs.Steps.Inputs.{ExternalInputs, ComesBefore, InOrder}
 use Rattle.lft_model.specs.{Plans.PlanParts, Presence.{stop, scheduled, given, min_delay, IsWrittenFrom}, Runs.{Ran, start_row}}
 use Rattle.lft_model.proofs.Places.{slice_get_within}
-use Rattle.lft_queue.specs.Coming.{AtTag.AreBefore, Coming.AreComing, Lanes.{held, given_to, IsDone, IsKept, IsLane}}
-use Rattle.lft_stream.specs.{declared.{acceptor.Acceptor.Acceptor, stream.Stream.Stream}, Settled.IsRightRun}
-use Rattle.lft_stream.specs.Kept.{AreUpTo, HaveCome, IsLater, IsOfRow, low_of, IsStreamOf, IsAcceptorOf}
-use Rattle.lft_monitor.specs.{Sure.{IsUnbroken, with_inputs, GiveSame}, Kept.IsPast, Going.IsGoing, Follows.{IsJudgedOf, IsFollowerOf, done_of}}
+use Rattle.lft_queue.specs.{Coming.AtTag.AreBefore, inner.Coming.{Coming.AreComing, Lanes.{held, given_to, IsDone, IsKept, IsLane}}}
+use Rattle.lft_stream.specs.declared.{acceptor.Acceptor.Acceptor, stream.Stream.Stream}
+use Rattle.lft_stream.specs.{inner.{Settled.IsRightRun, Kept.{AreUpTo, HaveCome, IsLater, IsOfRow, IsStreamOf, IsAcceptorOf}}, Kept.low_of}
+use Rattle.lft_monitor.specs.{Sure.IsUnbroken, inner.{Sure.{with_inputs, GiveSame}, Kept.IsPast, Going.IsGoing, Follows.{IsJudgedOf, IsFollowerOf, done_of}}}
 use Rattle.lft_monitor.specs.declared.{past.Past.Past, gone.Going.Going, judged.Judged.Judged, follower.Follower.Follower}
 use Rattle.lft_monitor.proofs.{Behind.after_least, Later.{later_law, same_alike, at_alike, clash_alike}}
 use Rattle.lft_monitor.proofs.{OtherInputs.{row_other, listens_back, listeners_other, dues_other, right_other, kept_other}, Passed.{reach_up, done_before}}

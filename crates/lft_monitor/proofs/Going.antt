@@ -4,7 +4,7 @@ use Rattle.lft_tag.specs.{declared.Tag.Tag, Tags.{UpTo, after}}
 use Rattle.lft_lists.proofs.Places.{get_right}
 use Rattle.lft_model.{proofs.Places.slice_get_within, specs.Plans.PlanParts}
 use Rattle.lft_ir.specs.declared.steps.row.Row.{Row}
-use Rattle.lft_stream.specs.{declared.stream.Stream.Stream, Dues.NoneDueBefore, Kept.{AreUpTo, low_of, state_of, IsStreamOf}}
+use Rattle.lft_stream.specs.{declared.stream.Stream.Stream, inner.{Dues.NoneDueBefore, Kept.{AreUpTo, state_of, IsStreamOf}}, Kept.low_of}
 use Rattle.lft_monitor.{specs.Sure.IsUnbroken, proofs.Coming.timely_law}
 
 pub shown : (plan : PlanParts) (t : List Row) (low : Tag) (s : Stream) → IsStreamOf plan t s → UpTo low (low_of s.tag) → NoneDueBefore s.stop low s.dues → IsUnbroken plan t low

@@ -5,7 +5,7 @@ use Rattle.lft_lists.proofs.Places.{get_left, get_right, get_append_cases}
 use Rattle.lft_ir.specs.declared.steps.row.{Row.Row, Step.{Step, TheVariants.{Start, Read, Write, Schedule, Stop, End}}}
 use Rattle.lft_model.specs.{Plans.PlanParts, Runs.{start_row, end_row}, Breaches.{IsLate, IsOpen, IsOutOfOrder, IsUndeclared, IsUnended, BreaksRowUntil}}
 use Rattle.lft_model.proofs.Places.{slice_get_within}
-use Rattle.lft_rows.specs.{Firsts.FirstRow, Parts.AreEarlier}
+use Rattle.lft_rows.specs.inner.{Firsts.FirstRow, Parts.AreEarlier}
 
 -- a run of rows at hand without an end has none in the whole
 pub unended_whole : (d v : List Row) (j : ℕ) (x : Row) → IsUnended v j x → IsUnended (d ++ v) (length d + j) x

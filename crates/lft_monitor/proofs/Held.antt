@@ -6,7 +6,7 @@ use Rattle.lft_lists.proofs.Places.{get_left, get_right, get_there}
 use Rattle.lft_ir.specs.declared.steps.row.Row.{Row}
 use Rattle.lft_model.specs.Plans.{PlanParts}
 use Rattle.lft_queue.specs.Coming.AtTag.{AreAt}
-use Rattle.lft_monitor.specs.{Follows.{HasManyAtLast, IsFollowerOf, IsHeld, done_of}, declared.follower.Follower.Follower}
+use Rattle.lft_monitor.specs.{Follows.HasManyAtLast, inner.Follows.{IsFollowerOf, IsHeld, done_of}, declared.follower.Follower.Follower}
 
 module _ (plan : PlanParts) (t : List Row) (f : Follower) (is : IsFollowerOf plan t f) where
   abbrev h : IsHeld plan t f

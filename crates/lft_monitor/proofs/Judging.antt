@@ -6,11 +6,11 @@ use Rattle.lft_tag.{specs.{declared.Tag.Tag, Tags.{Before, UpTo, after}}, proofs
 use Rattle.lft_lists.proofs.Places.{get_last, get_right, get_there, same_at}
 use Rattle.lft_ir.{proofs.Ranges.{range-get, range-within}, specs.declared.steps.row.Row.Row}
 use Rattle.lft_model.{specs.{Plans.PlanParts, Presence.stop, Runs.{start_row, Ran}}, proofs.Places.slice_get_within}
-use Rattle.lft_rows.specs.Slices.{Rises}
+use Rattle.lft_rows.specs.inner.Slices.{Rises}
 use Rattle.lft_queue.specs.Coming.AtTag.{AreAt}
-use Rattle.lft_stream.{specs.{declared.acceptor.Acceptor.Acceptor, Kept.{IsAcceptorOf, low_of}}, proofs.Parting.{rises_from, up_to_second}}
-use Rattle.lft_monitor.specs.{Sure.IsUnbroken, Reach.{IsLastOf, IsReach}, declared.{reach.Reach.Reach, judged.Judged.Judged}, Kept.IsPast}
-use Rattle.lft_monitor.specs.Follows.{IsJudgedOf, AreLast, BeginsLast}
+use Rattle.lft_stream.{specs.{declared.acceptor.Acceptor.Acceptor, inner.Kept.IsAcceptorOf, Kept.low_of}, proofs.Parting.{rises_from, up_to_second}}
+use Rattle.lft_monitor.specs.{Sure.IsUnbroken, Reach.{IsLastOf, IsReach}, declared.{reach.Reach.Reach, judged.Judged.Judged}}
+use Rattle.lft_monitor.specs.inner.{Kept.IsPast, Follows.{IsJudgedOf, AreLast, BeginsLast}}
 use Rattle.lft_monitor.proofs.Going.{next_up}
 
 -- where nothing is broken before a tag, nothing is before an earlier one

@@ -9,7 +9,7 @@ use Rattle.lft_tag.{specs.{declared.Tag.Tag, Tags.{Before, same_tag}}, proofs.Or
 use Rattle.lft_lists.proofs.Members.{none_nil}
 use Rattle.lft_ir.specs.{declared.{parts.Value.Value, steps.externals.Event.Event}, Steps.Inputs.{ComesBefore, InOrder}}
 use Rattle.lft_model.specs.Presence.{given}
-use Rattle.lft_queue.specs.Coming.Lanes.{held, given_to}
+use Rattle.lft_queue.specs.inner.Coming.Lanes.{held, given_to}
 
 nothing_put : {Y : Type 0} (o : Option Y) (vs : List Y) → cons_option o vs ≡ [] → (o ≡ None) × (vs ≡ [])
 nothing_put None vs e = (refl, e)

@@ -4,8 +4,8 @@ use native.Mathlib.Decide.{dec_lt}
 use Rattle.lft_lists.proofs.{Members.{Mem, contains_mem, mem_contains}, Places.same_at}
 use Rattle.lft_ir.specs.declared.steps.row.{Row.Row, Step.{Step, TheVariants.{Start, Read, Write, Schedule, Stop, End}}}
 use Rattle.lft_model.{specs.{Runs.{start_row, end_row}, Breaches.{IsOpen, IsUnended}}, proofs.Places.{slice_get_take, slice_get_taken}}
-use Rattle.lft_rows.specs.Passes.{IsOnlyOpen, OpenPlace, Unended}
-use Rattle.lft_monitor.specs.Going.{AreOpen, opened}
+use Rattle.lft_rows.specs.inner.Passes.{IsOnlyOpen, OpenPlace, Unended}
+use Rattle.lft_monitor.specs.inner.Going.{AreOpen, opened}
 
 -- the other members of a list, of which one is left out
 less_more : (y s j : ℕ) (xs ys : List ℕ) → (Mem j xs → (j ≡ s) ⊎ Mem j ys) → (y ≡ j) ⊎ Mem j xs → (j ≡ s) ⊎ Mem j (y ∷ ys)

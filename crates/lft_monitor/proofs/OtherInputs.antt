@@ -5,9 +5,9 @@ use Rattle.lft_ir.specs.declared.{parts.{Value.Value, Trigger.{Trigger, TheVaria
 use Rattle.lft_ir.specs.Steps.Inputs.{ExternalInputs}
 use Rattle.lft_model.specs.{declared.breach.Breach.Breach, Plans.PlanParts, Presence.{stop, written, IsWrittenFrom, PortClash}, Runs.Ran}
 use Rattle.lft_model.specs.Breaches.{BreaksRowUntil, RowBreachUntil}
-use Rattle.lft_queue.specs.{Coming.{Listens.Listens, Listeners.AreListeners}, declared.coming.listeners.Listeners.Listeners}
-use Rattle.lft_stream.specs.{declared.due.Due.{Due, TheVariants.{AtTag, AtStop, Never}}, Dues.{IsDue, AreDues}, Settled.IsRightRun}
-use Rattle.lft_monitor.{specs.{Sure.with_inputs, Kept.{GoesUnheard, IsKept}}, proofs.Same.SameAt}
+use Rattle.lft_queue.specs.{inner.Coming.{Listens.Listens, Listeners.AreListeners}, declared.coming.listeners.Listeners.Listeners}
+use Rattle.lft_stream.specs.{declared.due.Due.{Due, TheVariants.{AtTag, AtStop, Never}}, inner.{Dues.{IsDue, AreDues}, Settled.IsRightRun}}
+use Rattle.lft_monitor.{specs.inner.{Sure.with_inputs, Kept.{GoesUnheard, IsKept}}, proofs.Same.SameAt}
 
 module _ (plan : PlanParts) (inputs : ExternalInputs) where
   abbrev other : PlanParts

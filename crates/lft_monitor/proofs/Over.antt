@@ -8,10 +8,10 @@ use Rattle.lft_ir.{proofs.Ranges.{range-get, range-within}, specs.declared.steps
 use Rattle.lft_lists.proofs.Places.{get_append_cases, get_there, same_at}
 use Rattle.lft_model.specs.{declared.breach.Breach.Breach, Plans.PlanParts, Presence.stop, Breaches.{IsUnended, BreaksRowUntil, RowBreach, TagBreach, RowOrder}}
 use Rattle.lft_model.proofs.Places.{slice_get_within, slice_get_take, slice_get_taken}
-use Rattle.lft_rows.specs.{Firsts.FirstRow, Parts.AreEarlier, Passes.{FirstUnended, KeepsEarly}}
+use Rattle.lft_rows.specs.inner.{Firsts.FirstRow, Parts.AreEarlier, Passes.{FirstUnended, KeepsEarly}}
 use Rattle.lft_queue.specs.Coming.AtTag.{AreBefore}
 use Rattle.lft_stream.proofs.{Parting.up_to_second, Settling.rows_until}
-use Rattle.lft_monitor.specs.{Sure.AreFrom, Going.IsGoneTo, Kept.IsPast, declared.past.Past.Past, Follows.{BeginsLast, IsQuiet, KeepsButLast}}
+use Rattle.lft_monitor.specs.{inner.{Sure.AreFrom, Going.IsGoneTo, Kept.IsPast, Follows.BeginsLast}, declared.past.Past.Past, Follows.{IsQuiet, KeepsButLast}}
 use Rattle.lft_monitor.proofs.{Finished.finished_law, Hand.breaks_own, Rows.breaks_back}
 
 module _ (plan : PlanParts) (done rows : List Row) (i : ℕ) (gone : IsGoneTo plan done rows i) where

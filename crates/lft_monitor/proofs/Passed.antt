@@ -6,7 +6,8 @@ use Rattle.lft_ir.specs.declared.steps.row.Row.{Row}
 use Rattle.lft_model.specs.{Plans.PlanParts, Runs.{Ran, start_row}}
 use Rattle.lft_queue.specs.Coming.AtTag.{AreAt, AreBefore}
 use Rattle.lft_stream.specs.Kept.{low_of}
-use Rattle.lft_monitor.specs.{Reach.{IsLastOf, IsReach}, Follows.{IsFollowerOf, IsPassed, done_of}, declared.{reach.Reach.Reach, follower.Follower.Follower}}
+use Rattle.lft_monitor.specs.{Reach.{IsLastOf, IsReach}, inner.Follows.{IsFollowerOf, done_of}, Follows.IsPassed}
+use Rattle.lft_monitor.specs.declared.{reach.Reach.Reach, follower.Follower.Follower}
 use Rattle.lft_monitor.proofs.Behind.{after_least}
 
 -- the last tag with a run is before all that is behind the rows

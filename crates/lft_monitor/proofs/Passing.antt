@@ -8,10 +8,10 @@ use Rattle.lft_lists.proofs.{Members.Mem, Places.{get_there, same_at}, Picked.ta
 use Rattle.lft_ir.specs.declared.steps.row.{Row.Row, Step.{Step, TheVariants.End}}
 use Rattle.lft_model.specs.{Breaches.{IsOpen, IsOutOfOrder, IsUnended}, Plans.PlanParts, Presence.{stop, requests}}
 use Rattle.lft_model.proofs.{Places.{slice_get_within, slice_get_take, slice_get_taken}, Stops.{asker, stop_added}}
-use Rattle.lft_rows.specs.{Passes.{KeepsEarly, EarlyRule, FirstUnended, HasPassed, HasGoneOn, IsPass}, Places.place_of, declared.pass.Pass.Pass}
+use Rattle.lft_rows.specs.{inner.{Passes.{KeepsEarly, EarlyRule, FirstUnended, HasPassed, HasGoneOn, IsPass}, Places.place_of}, declared.pass.Pass.Pass}
 use Rattle.lft_rows.proofs.Growing.{grown_law, nearer_law}
 use Rattle.lft_stream.proofs.Parting.{up_to_second}
-use Rattle.lft_monitor.specs.{declared.gone.Going.Going, Going.{AreEnded, AreOpen, HasEnded, IsGoing, IsGoneTo, IsFirstBad, IsLost, opened}}
+use Rattle.lft_monitor.specs.{declared.gone.Going.Going, inner.Going.{AreEnded, AreOpen, HasEnded, IsGoing, IsGoneTo, IsFirstBad, IsLost, opened}}
 use Rattle.lft_monitor.proofs.{Opening.{next_open, opened_few, unended_front}, Stops.stop_row}
 
 -- what a pass goes by is of the program

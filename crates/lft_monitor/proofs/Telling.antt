@@ -9,10 +9,10 @@ use Rattle.lft_ir.specs.declared.steps.row.{Row.Row, Step.TheVariants.Stop}
 use Rattle.lft_model.specs.{declared.breach.Breach.Breach, Plans.PlanParts, Presence.{stop, requests}, Runs.end_row}
 use Rattle.lft_model.specs.Breaches.{IsUnended, RowBreach, BreaksRowUntil}
 use Rattle.lft_model.proofs.{Places.{slice_get_within, slice_get_take, slice_get_taken}, Stops.{asker, stop_added, stop_append}}
-use Rattle.lft_rows.specs.{Firsts.FirstRow, Parts.AreEarlier}
+use Rattle.lft_rows.specs.inner.{Firsts.FirstRow, Parts.AreEarlier}
 use Rattle.lft_queue.specs.Coming.AtTag.{AreBefore}
 use Rattle.lft_stream.proofs.{Behind.in_time_added, Settling.{rows_in_time, rows_until}}
-use Rattle.lft_monitor.specs.{Follows.{IsQuiet, IsSureBehind}, Going.{IsFirstBad, IsLost}}
+use Rattle.lft_monitor.specs.{Follows.{IsQuiet, IsSureBehind}, inner.Going.{IsFirstBad, IsLost}}
 use Rattle.lft_monitor.proofs.{Hand.{breaks_own, breaks_whole, ended}, Over.{earlier, first_open}}
 
 -- what a breach says of a row

@@ -1,19 +1,11 @@
 -- What is kept of rows that are judged while they come, and what is told of them.
-use Rattle.std.specs.Prelude.{◌≡◌, ℕ, Bool, true, false, ◌+◌, ◌-◌, ◌^◌, ◌≤◌, ◌<◌, ◌⊎◌, List, [], ◌++◌, length, take, None, Some, slice_get}
-use Rattle.std.specs.List.{insert}
-use Rattle.lft_tag.specs.{declared.Tag.Tag, Tags.{Before, UpTo, earlier}}
-use Rattle.lft_ir.specs.{declared.steps.{externals.Event.Event, row.Row.Row}, Steps.{Fits.RowsFit, Inputs.IsTold}}
-use Rattle.lft_model.specs.{declared.breach.Breach.Breach, Plans.PlanParts, Presence.stop, Breaches.{RowBreach, RowOrder, TagBreach, First}}
-use Rattle.lft_rows.specs.{Accepted.IsAccepted, Firsts.FirstRow}
+use Rattle.std.specs.Prelude.{◌≡◌, ℕ, ◌+◌, ◌-◌, ◌≤◌, ◌<◌, ◌⊎◌, List, ◌++◌, length, take, Some, slice_get}
+use Rattle.lft_tag.specs.{declared.Tag.Tag, Tags.{Before, UpTo}}
+use Rattle.lft_ir.specs.declared.steps.{externals.Event.Event, row.Row.Row}
+use Rattle.lft_model.specs.{declared.breach.Breach.Breach, Plans.PlanParts, Breaches.{RowBreach, RowOrder, TagBreach, First}}
 use Rattle.lft_queue.specs.Coming.AtTag.{AreAt, AreBefore}
-use Rattle.lft_stream.specs.Kept.{IsAcceptorOf, low_of, stopped_stream}
-use Rattle.lft_monitor.specs.{Sure.{IsUnbroken, IsFirstBefore, with_inputs}, Kept.IsPast, Going.{IsFirstBad, IsGoing, IsGoneTo, IsLost}, Reach.IsReach}
-use Rattle.lft_monitor.specs.declared.{reach.Reach.Reach, judged.{Judged.Judged, Closing.Closing, Ending.Ending, Unjudged.Unjudged}}
-use Rattle.lft_monitor.specs.declared.follower.{Follower.Follower, Progress.{Progress, TheVariants.{GoesOn, Broken, Odd, TooMany}}, Receipt.Receipt}
-use Rattle.lft_monitor.specs.declared.found.Found.{Found}
-use Rattle.lft_monitor.specs.declared.judged.Closing.TheVariants as closing
-use Rattle.lft_monitor.specs.declared.judged.Ending.TheVariants as ending
-use Rattle.lft_monitor.specs.declared.follower.Receipt.TheVariants as receipt
+use Rattle.lft_stream.specs.Kept.{low_of}
+use Rattle.lft_monitor.specs.{Sure.{IsUnbroken, IsFirstBefore}, Reach.IsReach, declared.{reach.Reach.Reach, found.Found.Found}}
 
 -- the rows reach so far, and no rule is broken in them before the tag behind their last
 pub record IsClean (plan : PlanParts) (t : List Row) (r : Reach) : Type 0 where
@@ -34,85 +26,13 @@ pub record IsJudged (plan : PlanParts) (t : List Row) (r : Reach) : Type 0 where
   pub some : left ≡ [] → done ≡ []
   pub clean : IsClean plan done r
 
--- what is kept of rows that are judged is right for them, and they are clean
-pub record IsJudgedOf (plan : PlanParts) (t : List Row) (j : Judged) : Type 0 where
-  pub acceptor : IsAcceptorOf plan t j.acceptor
-  pub past : IsPast plan t j.past
-  pub counted : j.count ≡ length t
-  pub few : j.count ≤ 2 ^ 62 + 4000000
-  pub clean : IsClean plan t j.reach
-
--- of rows that are judged what is kept is right but for their acceptor, which may have gone on
-pub record AreJudged (plan : PlanParts) (t : List Row) (j : Judged) : Type 0 where
-  pub past : IsPast plan t j.past
-  pub counted : j.count ≡ length t
-  pub few : j.count ≤ 2 ^ 62 + 4000000
-  pub rows : FirstRow (stop plan t) plan t None
-
--- what is kept of rows that are judged, with the tag for its stop, where that is earlier
-abbrev pub stopped_judged : Judged → Tag → Judged
-stopped_judged j g = record j { acceptor = record j.acceptor { stream = stopped_stream j.acceptor.stream g }; past = record j.past { stop = earlier g j.past.stop } }
-
--- the rows that the follower has judged
-abbrev pub done_of : List Row → Follower → List Row
-done_of t f = take f.judged.count t
-
--- the first rows are judged, and the follower holds the others, which are at later tags
-pub record IsHeld (plan : PlanParts) (t : List Row) (f : Follower) : Type 0 where
-  pub parts : t ≡ done_of t f ++ f.rows.items
-  pub judged : IsJudgedOf plan (done_of t f) f.judged
-  pub fit : RowsFit plan.program f.rows.items
-  pub earlier : (x : Row) → slice_get f.rows.items 0 ≡ Some x → AreBefore (done_of t f) x.tag
-  pub some : f.rows.items ≡ [] → done_of t f ≡ []
-
--- of those that it holds it has gone over some
-pub record IsAtHand (plan : PlanParts) (t : List Row) (f : Follower) : Type 0 where
-  pub held : IsHeld plan t f
-  pub going : IsGoing plan (done_of t f) f.rows.items f.going
-
--- the follower has judged all rows but those at the last tag
-pub record IsFollowerOf (plan : PlanParts) (t : List Row) (f : Follower) : Type 0 where
-  pub hand : IsAtHand plan t f
-  pub at_one : (g : Tag) × AreAt f.rows.items g
-
 -- some row is at a later tag
 abbrev pub IsPassed : List Row → Tag → Type 0
 IsPassed t g = (i : ℕ) × (x : Row) × (slice_get t i ≡ Some x) × Before g x.tag
 
--- the new plan has one more external event, put at a place among the others
-pub record HasOneMore (old new : PlanParts) (event : Event) : Type 0 where
-  pub program : new.program ≡ old.program
-  pub stop : new.externals.stop ≡ old.externals.stop
-  pub place : ℕ
-  pub within : place ≤ length old.externals.events
-  pub events : new.externals.events ≡ insert old.externals.events place event
-
 -- the event that has 65,536 others behind it is at a later tag
 abbrev pub HasManyLater : List Event → Tag → Type 0
 HasManyLater events g = (65536 < length events) × ((x : Event) × (slice_get events (length events - 65537) ≡ Some x) × Before g x.tag)
-
--- what is said of an event that is told: the plan has it now, or stays as it was since an event of its action is at its tag already, or there are too many, too many are later, or it is late
-abbrev pub IsReceipt : PlanParts → PlanParts → Event → Receipt → Type 0
-IsReceipt old new event receipt.Taken = HasOneMore old new event
-IsReceipt old new event receipt.Late = new ≡ old
-IsReceipt old new event receipt.Again = (new ≡ old) × IsTold old.externals.events event
-IsReceipt old new event receipt.TooMany = (new ≡ old) × (4000000 ≤ length old.externals.events)
-IsReceipt old new event receipt.ManyLater = (new ≡ old) × HasManyLater old.externals.events event.tag
-
--- the plan with the tag for its stop, where that is earlier than its own
-abbrev pub stopped_at : PlanParts → Tag → PlanParts
-stopped_at plan g = with_inputs plan (record { stop = earlier g plan.externals.stop; events = plan.externals.events })
-
--- the rows from the first place up to the end are at the tag of the last of them
-pub record AreLast (rows : List Row) (end first : ℕ) : Type 0 where
-  pub up : first ≤ end
-  pub at_one : (i : ℕ) (x z : Row) → first ≤ i → i < end → slice_get rows i ≡ Some x → slice_get rows (end - 1) ≡ Some z → x.tag ≡ z.tag
-
--- and the row before is at another tag
-pub record BeginsLast (rows : List Row) (end first : ℕ) : Type 0 where
-  pub last : AreLast rows end first
-  pub some : 0 < end → first < end
-  pub other : (x z : Row) → 0 < first → slice_get rows (first - 1) ≡ Some x → slice_get rows (end - 1) ≡ Some z → ¬ (x.tag ≡ z.tag)
 
 -- the breach that is found
 abbrev pub breach_of : Found → Breach
@@ -177,18 +97,6 @@ pub record IsFirstBehind (plan : PlanParts) (t : List Row) (b : Breach) (n : ℕ
 abbrev pub IsSureSoFar : PlanParts → List Row → Breach → Type 0
 IsSureSoFar plan t b = (n : ℕ) × (IsSureBehind plan t b n ⊎ IsFirstBehind plan t b n)
 
--- of rows that came before more, those but the ones at the last tag are clean, and reach so far; the line is that of a row behind these, and the next row is at a later tag
-pub record IsOdd (plan : PlanParts) (t more : List Row) (r : Reach) (line : ℕ) : Type 0 where
-  pub judged : IsJudged plan t r
-  pub place : ℕ
-  pub row : Row
-  pub next : Row
-  pub is_row : slice_get (t ++ more) place ≡ Some row
-  pub is_next : slice_get (t ++ more) (place + 1) ≡ Some next
-  pub before : Before row.tag next.tag
-  pub behind : length judged.done ≤ place
-  pub line_is : line ≡ place + 2
-
 -- so many of the first rows are clean, and reach so far; the line is that of a later row, or of the last of these
 abbrev pub IsOddSoFar : PlanParts → List Row → Reach → ℕ → Type 0
 IsOddSoFar plan t r line = (n : ℕ) × IsCleanTo plan t r n × (n < line) × (line ≤ length t + 1)
@@ -197,27 +105,6 @@ IsOddSoFar plan t r line = (n : ℕ) × IsCleanTo plan t r n × (n < line) × (l
 abbrev pub HasManyAtLast : List Row → List Row → Type 0
 HasManyAtLast t more = (done : List Row) × (held : List Row) × (t ≡ done ++ held) × ((g : Tag) × AreAt held g) × (4000000 < length held + length more)
 
--- what is told of rows and more behind them: nothing is to be told, and all are followed on; a breach is sure behind some of them; they are odd; or the rows behind are too many with the last ones at one tag, or too many came
-abbrev pub IsProgress : PlanParts → List Row → List Row → Follower → Progress → Type 0
-IsProgress plan t more f GoesOn = IsFollowerOf plan (t ++ more) f × IsQuiet plan (t ++ more)
-IsProgress plan t more f (Broken b) = IsSureSoFar plan (t ++ more) (breach_of b)
-IsProgress plan t more f (Odd r line) = IsOdd plan t more r line
-IsProgress plan t more f TooMany = HasManyAtLast t more ⊎ (2 ^ 62 < length t)
-
--- no row breaks one of the rules 1 to 5
-abbrev pub KeepsRows : PlanParts → List Row → Type 0
-KeepsRows plan t = (b : Breach) → ¬ RowBreach plan t b
-
--- the rows are clean, all or but those at the last tag, and reach so far
-abbrev pub IsReached : PlanParts → List Row → Reach → Type 0
-IsReached plan t r = IsJudged plan t r ⊎ IsClean plan t r
-
--- what is told of the rows where no more come: they are accepted; or, where some may be missing, they are clean, all or but those at the last tag; or this is their first breach, where none is missing
-abbrev pub IsEnding : PlanParts → Bool → List Row → Ending → Type 0
-IsEnding plan whole t (ending.Accepted c) = IsAccepted plan t c.runs c.tags
-IsEnding plan whole t (ending.Unbroken r) = (whole ≡ false) × IsReached plan t r
-IsEnding plan whole t (ending.Broken b) = (whole ≡ true) × First plan t (breach_of b)
-
 -- the breach is the first of the rows, at a tag up to that of one of them
 pub record IsFirstUpToLast (plan : PlanParts) (t : List Row) (b : Breach) : Type 0 where
   pub first : First plan t b
@@ -225,28 +112,3 @@ pub record IsFirstUpToLast (plan : PlanParts) (t : List Row) (b : Breach) : Type
   pub row : Row
   pub is_row : slice_get t place ≡ Some row
   pub up : UpTo b.tag row.tag
-
--- what is told of rows that are all up to their last tag: they are clean, and reach so far; or this is their first breach, and not behind that tag
-abbrev pub IsClosing : PlanParts → List Row → Closing → Type 0
-IsClosing plan t (closing.Unbroken r) = IsClean plan t r
-IsClosing plan t (closing.Broken b) = IsFirstUpToLast plan t (breach_of b)
-
--- the rows can't be judged up to their last line, and reach so far
-abbrev pub IsUnjudged : PlanParts → List Row → Unjudged → Type 0
-IsUnjudged plan t u = IsReached plan t u.reach × (u.line ≡ length t + 1)
-
--- going over the rows at hand ended before the end: the row there breaks the rule and is the one at the place, or is at a later tag than the run without an end that starts at the place
-abbrev pub IsHalt : PlanParts → List Row → List Row → ℕ → ℕ → ℕ → Type 0
-IsHalt plan done rows place end rule = (end ≡ place) × IsFirstBad plan done rows place rule ⊎ (rule ≡ 5) × IsLost plan done rows place end
-
--- the rows but those at the last tag are clean, reach so far, and are these
-abbrev pub AreDone : PlanParts → List Row → List Row → Reach → Type 0
-AreDone plan t done r = (judged : IsJudged plan t r) × (judged.done ≡ done)
-
--- rows and more behind them are those that are done and those at hand; of these some are gone over up to an end, and their last tag begins at a place
-pub record IsTurn (plan : PlanParts) (t more done rows : List Row) (r : Reach) (begin end : ℕ) : Type 0 where
-  pub parts : t ++ more ≡ done ++ rows
-  pub judged : AreDone plan t done r
-  pub gone : IsGoneTo plan done rows end
-  pub begins : BeginsLast rows end begin
-  pub kept : KeepsButLast plan (done ++ take end rows)

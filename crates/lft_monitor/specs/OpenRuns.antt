@@ -1,6 +1,6 @@
 -- Runs without an end among the rows so far.
 use Rattle.std.specs.Prelude.{◌≡◌, ℕ, ◌+◌, ◌<◌, List, Some, slice_get}
-use Rattle.lft_ir.specs.declared.steps.row.{Row.Row, Step.TheVariants.End}
+use Rattle.lft_ir.specs.declared.steps.row.Row.{Row}
 use Rattle.lft_model.specs.Breaches.{IsUnended}
 use Rattle.lft_monitor.specs.declared.open.OpenRun.{OpenRun}
 
@@ -21,11 +21,3 @@ pub record AreOpenRuns (before : ℕ) (t : List Row) (runs : List OpenRun) : Typ
   pub each : (k : ℕ) (run : OpenRun) → slice_get runs k ≡ Some run → IsOpenRun before t run
   pub all : (i : ℕ) (row : Row) → slice_get t i ≡ Some row → IsUnended t i row → (k : ℕ) × (run : OpenRun) × (slice_get runs k ≡ Some run) × (run.line ≡ before + i + 2)
   pub order : (k m : ℕ) (run other : OpenRun) → k < m → slice_get runs k ≡ Some run → slice_get runs m ≡ Some other → run.line < other.line
-
--- each row is of a reaction below the number
-abbrev pub AreBelow : List Row → ℕ → Type 0
-AreBelow t n = (i : ℕ) (row : Row) → slice_get t i ≡ Some row → row.reaction < n
-
--- of the first n rows each that ends a run stands before the place that is kept of its reaction. This serves the proof alone
-abbrev pub EndBefore : List Row → ℕ → List ℕ → Type 0
-EndBefore t n last = (k x : ℕ) (row : Row) → k < n → slice_get t k ≡ Some row → row.step ≡ End → slice_get last row.reaction ≡ Some x → k < x

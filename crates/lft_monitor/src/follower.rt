@@ -4,11 +4,11 @@ ghost use Rattle.std.specs.Prelude.{◌≡◌, ◌↔◌, ◌<◌, ◌≤◌, �
 ghost use Rattle.lft_tag.specs.{declared.Tag.Tag as TheTag, Tags.{Before, IsRecorded}};
 ghost use Rattle.lft_ir.specs.{declared.steps.row.Row.Row as TheRow, Steps.Fits.{EventFits, RowsFit}};
 ghost use Rattle.lft_model.specs.Plans.{PlanParts};
-ghost use Rattle.lft_rows.specs.Slices.{Rises};
+ghost use Rattle.lft_rows.specs.inner.Slices.{Rises};
 ghost use Rattle.lft_queue.specs.Coming.AtTag.{AreAt};
-ghost use Rattle.lft_stream.specs.Kept.{KeepRules};
-ghost use Rattle.lft_monitor.specs.Follows.{AreDone, IsAtHand, IsHeld, IsFollowerOf, IsHalt, IsPassed, HasManyLater, IsReceipt, stopped_at, IsProgress, IsClosing, IsEnding, IsJudged, IsJudgedOf, IsTurn, IsUnjudged, BeginsLast, done_of};
-ghost use Rattle.lft_monitor.specs.{OpenRuns.AreOpenRuns, declared.follower.Follower.Follower as TheFollower};
+ghost use Rattle.lft_stream.specs.inner.Kept.{KeepRules};
+ghost use Rattle.lft_monitor.specs.inner.Follows.{AreDone, IsAtHand, IsHeld, IsFollowerOf, IsHalt, IsReceipt, stopped_at, IsProgress, IsClosing, IsEnding, IsJudgedOf, IsTurn, IsUnjudged, BeginsLast, done_of};
+ghost use Rattle.lft_monitor.specs.{Follows.{IsPassed, HasManyLater, IsJudged}, OpenRuns.AreOpenRuns, declared.follower.Follower.Follower as TheFollower};
 
 use crate::found::{Found, found_at, found_of};
 use crate::gone::{Going, Halt};

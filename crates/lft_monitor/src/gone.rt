@@ -4,7 +4,7 @@ ghost use Rattle.std.specs.Prelude.{◌≡◌, ◌+◌, ◌-◌, ◌<◌, ◌≤
 ghost use Rattle.lft_tag.specs.Tags.{Before, IsRecorded, earlier};
 ghost use Rattle.lft_ir.specs.{Parts.Parts, declared.steps.row.Row.Row as TheRow, Steps.Fits.RowsFit};
 ghost use Rattle.lft_model.specs.{Plans.PlanParts, Presence.stop as stop_of};
-ghost use Rattle.lft_monitor.specs.Going.{IsGoing, IsFirstBad, IsLost, HasEnded, HasGone, opened};
+ghost use Rattle.lft_monitor.specs.inner.Going.{IsGoing, IsFirstBad, IsLost, HasEnded, HasGone, opened};
 
 use lft_ir::steps::{Row, is_end, is_start, is_stop, row_at};
 use lft_model::Plan;

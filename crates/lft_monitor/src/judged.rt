@@ -3,9 +3,10 @@
 ghost use Rattle.std.specs.Prelude.{◌≡◌, ◌<◌, ◌≤◌, ◌^◌, List, [], ◌++◌, length, false, IfErr, IfOk, IfSome, IsTrue};
 ghost use Rattle.lft_ir.specs.{declared.steps.row.Row.Row as TheRow, Steps.Fits.RowsFit};
 ghost use Rattle.lft_model.specs.Breaches.{First};
-ghost use Rattle.lft_rows.specs.Parts.{AreEarlier};
-ghost use Rattle.lft_stream.specs.Kept.{KeepRules};
-ghost use Rattle.lft_monitor.specs.Follows.{AreJudged, IsClosing, IsEnding, IsFirstUpToLast, IsJudged, IsJudgedOf, IsReached, IsUnjudged, breach_of, stopped_judged};
+ghost use Rattle.lft_rows.specs.inner.Parts.{AreEarlier};
+ghost use Rattle.lft_stream.specs.inner.Kept.{KeepRules};
+ghost use Rattle.lft_monitor.specs.inner.Follows.{AreJudged, IsClosing, IsEnding, IsJudgedOf, IsReached, IsUnjudged, stopped_judged};
+ghost use Rattle.lft_monitor.specs.Follows.{IsFirstUpToLast, IsJudged, breach_of};
 
 use crate::found::{Found, found_behind};
 use crate::gone::stop_over;

@@ -4,9 +4,9 @@ ghost use Rattle.std.specs.Prelude.{◌≡◌, ◌<◌, ◌⊎◌, ℕ, List, le
 ghost use Rattle.lft_tag.specs.{declared.{Tag.Tag as TheTag, Shift.Shift as TheShift}, Shifts.shifted, Tags.{IsRecorded, Before, after_all}};
 ghost use Rattle.lft_ir.specs.{Origins.Origin, declared.steps.row.Row.Row as TheRow, Steps.Fits.RowFits};
 ghost use Rattle.lft_model.specs.Fitting.{EachFits};
-ghost use Rattle.lft_queue.specs.{Coming.Unread.GoesAsFar, Reading.is_read};
-ghost use Rattle.lft_stream.specs.Owed.{MeetNowhere};
-ghost use Rattle.lft_monitor.specs.Kept.{AreFurthest, AreWays, IsIdle, AreMarked, IsKept};
+ghost use Rattle.lft_queue.specs.inner.{Coming.Unread.GoesAsFar, Reading.is_read};
+ghost use Rattle.lft_stream.specs.inner.Owed.{MeetNowhere};
+ghost use Rattle.lft_monitor.specs.inner.Kept.{AreFurthest, AreWays, IsIdle, AreMarked, IsKept};
 
 use lft_ir::steps::{Row, Step, is_end, is_start, row_at};
 use lft_ir::{Name, Program};

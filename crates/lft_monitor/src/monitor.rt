@@ -3,7 +3,7 @@
 ghost use Rattle.std.specs.Prelude.{◌≡◌, ◌<◌, ◌-◌, List, ◌++◌, length, Some, IsTrue, slice_get};
 ghost use Rattle.lft_tag.specs.Tags.{UpTo, after};
 ghost use Rattle.lft_ir.specs.{declared.steps.row.Row.Row as TheRow, Steps.Fits.RowsFit};
-ghost use Rattle.lft_stream.specs.Kept.{IsAcceptorOf, KeepRules, low_of};
+ghost use Rattle.lft_stream.specs.{inner.Kept.{IsAcceptorOf, KeepRules}, Kept.low_of};
 ghost use Rattle.lft_monitor.specs.Sure.{IsUnbroken};
 
 use lft_ir::steps::{Row, row_at};

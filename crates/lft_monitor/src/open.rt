@@ -3,7 +3,7 @@
 ghost use Rattle.std.specs.Prelude.{◌≡◌, ◌↔◌, ◌+◌, ◌<◌, ◌≤◌, ◌^◌, ℕ, Some, length, slice_get, IfOk, IsTrue};
 ghost use Rattle.lft_ir.specs.declared.steps.row.Row.{Row as TheRow};
 ghost use Rattle.lft_model.specs.{Breaches.IsUnended, Runs.end_row};
-ghost use Rattle.lft_monitor.specs.OpenRuns.{AreBelow, AreOpenRuns, EndBefore, run_in};
+ghost use Rattle.lft_monitor.specs.{inner.OpenRuns.{AreBelow, EndBefore}, OpenRuns.{AreOpenRuns, run_in}};
 
 use lft_ir::steps::{Row, is_end, is_start, row_at};
 use lft_lists::item_at;

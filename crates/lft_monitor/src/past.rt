@@ -4,9 +4,9 @@ ghost use Rattle.std.specs.Prelude.{◌≡◌, ◌-◌, ◌<◌, ◌≤◌, List
 ghost use Rattle.lft_tag.specs.Tags.{after};
 ghost use Rattle.lft_ir.specs.{declared.steps.row.Row.Row as TheRow, Steps.Fits.RowsFit};
 ghost use Rattle.lft_model.specs.{Presence.stop, Breaches.First};
-ghost use Rattle.lft_stream.specs.Owed.{MeetNowhere};
-ghost use Rattle.lft_rows.specs.Slices.{Rises};
-ghost use Rattle.lft_monitor.specs.{Sure.{AreFrom, IsUnbroken, IsFirstBefore}, Kept.IsPast, Follows.{KeepsRows, breach_of}};
+ghost use Rattle.lft_stream.specs.inner.Owed.{MeetNowhere};
+ghost use Rattle.lft_rows.specs.inner.Slices.{Rises};
+ghost use Rattle.lft_monitor.specs.{inner.{Sure.AreFrom, Kept.IsPast, Follows.KeepsRows}, Sure.{IsUnbroken, IsFirstBefore}, Follows.breach_of};
 
 use crate::found::{Found, found_of};
 use crate::gone::stop_over;

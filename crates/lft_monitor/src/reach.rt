@@ -2,7 +2,7 @@
 
 ghost use Rattle.std.specs.Prelude.{◌≡◌, ◌+◌, ◌++◌, List, Some, IfSome, IsTrue, ◌↔◌, ℕ, take, slice_get};
 ghost use Rattle.lft_ir.specs.declared.steps.row.Row.{Row as TheRow};
-ghost use Rattle.lft_rows.specs.Slices.{Rises};
+ghost use Rattle.lft_rows.specs.inner.Slices.{Rises};
 ghost use Rattle.lft_monitor.specs.Reach.{IsReach};
 
 use lft_ir::steps::{Row, is_start, row_at};

@@ -6,7 +6,7 @@ use Rattle.lft_lists.proofs.Mapped.{mapped}
 use Rattle.lft_tag.specs.declared.Tag.{Tag}
 use Rattle.lft_ir.specs.{Parts.inputs, declared.{parts.{Name.Name, Reaction.Reaction, Value.Value}, steps.row.Row.Row}}
 use Rattle.lft_model.{specs.{Plans.PlanParts, Runs.{inputs_of, reads_at, read_of, steps_of}}, proofs.Places.slice_get_within}
-use Rattle.lft_pair.specs.{declared.contrasting.contrasts.Contrast.Contrast, Contrasts.{IsContrast, AreContrasts, IsRead}, Enough.{Adds, TellsReads}}
+use Rattle.lft_pair.specs.{declared.contrasting.contrasts.Contrast.Contrast, Contrasts.{IsContrast, AreContrasts, IsRead}, inner.Enough.Adds, Enough.TellsReads}
 use Rattle.lft_pair.specs.declared.contrasting.contrasts.Contrast.TheVariants as contrast
 
 module _ (plan : PlanParts) (t s : List Row) (g : Tag) (r : ℕ) where

@@ -6,8 +6,9 @@ use Rattle.lft_lists.proofs.{Picked.kept_more, Places.get_last}
 use Rattle.lft_tag.proofs.Comparing.{not_equal}
 use Rattle.lft_ir.specs.declared.{parts.Name.TheVariants.{Port, Action}, steps.row.Step.{Step, TheVariants.{Start, Read, Write, Schedule, Stop, End}}}
 use Rattle.lft_rows.proofs.AnswersLemmas.Stepping.{last_stays, last_changes}
-use Rattle.lft_pair.specs.{Answering.place_cmp, declared.contrasting.contrasts.{Placed.Placed, LastWrite.LastWrite, Scheduling.Scheduling}}
-use Rattle.lft_pair.specs.{Runs.{write, write_of, last_write, scheduling, scheduling_of, schedulings}, Answered.{writing, scheduled}}
+use Rattle.lft_pair.specs.inner.{Answering.place_cmp, Answered.{writing, scheduled}}
+use Rattle.lft_pair.specs.declared.contrasting.contrasts.{Placed.Placed, LastWrite.LastWrite, Scheduling.Scheduling}
+use Rattle.lft_pair.specs.Runs.{write, write_of, last_write, scheduling, scheduling_of, schedulings}
 
 -- what is found for one number, by the number that it stands under
 abbrev under : {Y : Type 0} → ℕ → Option (ℕ × Y) → Option Y

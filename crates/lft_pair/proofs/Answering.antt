@@ -11,8 +11,8 @@ use Rattle.lft_ir.specs.declared.steps.row.{Row.Row, Step.{Step, TheVariants.{St
 use Rattle.lft_model.specs.{Plans.{PlanParts, IsSoundPlan}, Presence.{value_written, value_scheduled}}
 use Rattle.lft_model.specs.{Runs.{Answer, outcome_of, request_of, effects_of, steps_of, Outcome.{Written, Scheduled}}, Breaches.Legal}
 use Rattle.lft_model.proofs.{Steps.{RowOf, step_mem, written_some, scheduled_some}, Legality.ordered, Kept.declared_write, Reached.declared_schedule}
-use Rattle.lft_rows.{specs.Answers.Answers.answer_of, proofs.AnswersLemmas.Stepping.{last_stays, last_changes}}
-use Rattle.lft_pair.specs.Answering.{writing, scheduling, last_to, SameWritten, SameScheduled, SameAnswers, AreWritten, AreScheduled, place_cmp}
+use Rattle.lft_rows.{specs.inner.Answers.Answers.answer_of, proofs.AnswersLemmas.Stepping.{last_stays, last_changes}}
+use Rattle.lft_pair.specs.inner.Answering.{writing, scheduling, last_to, SameWritten, SameScheduled, SameAnswers, AreWritten, AreScheduled, place_cmp}
 use Rattle.lft_pair.proofs.Maps.{map_get}
 
 -- what a step writes to a port, by the port and the value that it names

@@ -6,7 +6,7 @@ use Rattle.lft_lists.proofs.Members.{mem_contains, contains_mem, mem_get, get_me
 use Rattle.lft_ir.specs.declared.parts.Name.{Name, TheVariants.{Port, Action}}
 use Rattle.lft_model.{specs.Runs.Outcome.{Written, Scheduled}, proofs.Places.slice_get_within}
 use Rattle.lft_pair.specs.{declared.contrasting.contrasts.{Placed.Placed, Scheduling.Scheduling, Contrast.Contrast}, Runs.{last_write, schedulings}}
-use Rattle.lft_pair.specs.{Contrasts.{value_of, event, event_of, events}, Enough.{HaveSameOutcome, TellsOf, IsToldOf, IsOfEffect}}
+use Rattle.lft_pair.specs.{Contrasts.{value_of, event, event_of}, inner.{Contrasts.events, Enough.IsOfEffect}, Enough.{HaveSameOutcome, TellsOf, IsToldOf}}
 use Rattle.lft_pair.proofs.Outcomes.{write_outcome, schedule_outcome}
 
 -- lists with the same events at each place have the same events

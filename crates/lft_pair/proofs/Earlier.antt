@@ -8,7 +8,8 @@ use Rattle.lft_lists.proofs.Places.{get_there}
 use Rattle.lft_model.specs.{Plans.{PlanParts, IsSoundPlan}, Runs.Ran, Recorded.SameRuns, Breaches.Legal}
 use Rattle.lft_model.proofs.{Places.slice_get_within, Decided.dec_ran}
 use Rattle.lft_model.proofs.Agree.{SameRun, swap, IsBefore, SameBefore, ran_same, history_same, reads_same, agree, values_same, absent_same}
-use Rattle.lft_pair.specs.{declared.comparison.Pair.TheVariants.{Same, Differ}, Pairs.{ComesFirst, IsDifference, IsComparison, Agrees, IsFirstOdd, FirstOdd}}
+use Rattle.lft_pair.specs.{declared.comparison.Pair.TheVariants.{Same, Differ}, Pairs.{ComesFirst, IsDifference, IsComparison}}
+use Rattle.lft_pair.specs.inner.Pairs.{Agrees, IsFirstOdd, FirstOdd}
 use Rattle.lft_pair.proofs.Odd.{first_trans}
 
 -- what is so of a run where it is so of all that comes before it, is so of every run

@@ -7,7 +7,8 @@ use Rattle.lft_ir.specs.{declared.{parts.{Name.{Name, TheVariants.{Port, Action}
 use Rattle.lft_model.specs.{Plans.PlanParts, Runs.{Answer, Outcome, answer_at, effects_of, outcome_of, request_of, steps_of, Outcome.{Written, Scheduled}}}
 use Rattle.lft_pair.specs.declared.contrasting.contrasts.{Placed.Placed, LastWrite.LastWrite, Scheduling.Scheduling, Contrast.Contrast}
 use Rattle.lft_pair.specs.{Runs.{placed_steps, last_write, schedulings, first_request}, Contrasts.{IsContrast, AreContrasts, value_of, event, event_of}}
-use Rattle.lft_pair.specs.Enough.{GiveOther, HaveSameOutcome, TellsOf, TellsStop, IsToldOf, IsStopTold, IsOfEffect, TellsAnswers, steps, Adds, TellsAll, TellsReads}
+use Rattle.lft_pair.specs.Enough.{GiveOther, HaveSameOutcome, TellsOf, TellsStop, IsToldOf, IsStopTold, TellsAnswers, steps, TellsAll, TellsReads}
+use Rattle.lft_pair.specs.inner.Enough.{IsOfEffect, Adds}
 use Rattle.lft_pair.proofs.{Placing.placed_are, Outcomes.{write_outcome, schedule_outcome, request_outcome}}
 use Rattle.lft_pair.proofs.Added.{adds_keeps, adds_one, adds_holds, last_contained}
 use Rattle.lft_pair.specs.declared.contrasting.contrasts.Contrast.TheVariants as contrast

@@ -5,7 +5,7 @@ use Rattle.lft_tag.{specs.{declared.Tag.Tag, Tags.{Before, UpTo}}, proofs.Order.
 use Rattle.lft_ir.specs.declared.steps.row.{Row.Row, Step.TheVariants.Start}
 use Rattle.lft_lists.proofs.Places.{get_write_cases}
 use Rattle.lft_model.{specs.{Plans.PlanParts, Breaches.Legal, Runs.{start_row, Ran}}, proofs.{Legality.{four, rising}, Places.slice_get_within, Ended.row_is}}
-use Rattle.lft_pair.specs.Places.{StartsAt, IsLastStart, AreLastStarts, AreUpTo, AreAfter}
+use Rattle.lft_pair.specs.inner.Places.{StartsAt, IsLastStart, AreLastStarts, AreUpTo, AreAfter}
 
 -- a row starts a run exactly where it is its start row
 module _ (t : List Row) (i : ℕ) (row : Row) (is_row : slice_get t i ≡ Some row) where

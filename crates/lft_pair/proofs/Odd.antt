@@ -9,7 +9,7 @@ use Rattle.lft_graph.specs.Graph.{GraphParts, IsGraphOf}
 use Rattle.lft_lists.proofs.Places.{get_there}
 use Rattle.lft_model.specs.{Plans.{PlanParts, IsSoundPlan}, Breaches.Legal, Runs.{Ran, start_row, steps_of, effects_of}}
 use Rattle.lft_model.proofs.{Legality.{four, rising}, Places.slice_get_within, Ended.row_is}
-use Rattle.lft_pair.specs.{Answering.SameAnswers, Places.{StartsAt, AreLastStarts, AreUpTo}, Pairs.{ComesFirst, Agrees, FirstOdd}}
+use Rattle.lft_pair.specs.{inner.{Answering.SameAnswers, Places.{StartsAt, AreLastStarts, AreUpTo}, Pairs.{Agrees, FirstOdd}}, Pairs.ComesFirst}
 use Rattle.lft_pair.proofs.{Kept.start_is, Answering.{same_effects, same_from_effects}}
 
 -- the order of runs

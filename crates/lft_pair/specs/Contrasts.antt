@@ -1,5 +1,5 @@
 -- What two runs of r at g show beside one another, the one of the trace t, the other of s.
-use Rattle.std.specs.Prelude.{◌≡◌, ◌≢◌, ℕ, List, All, Contains, Option, Some, option_map, slice_get, is_some, map}
+use Rattle.std.specs.Prelude.{◌≡◌, ◌≢◌, ℕ, List, All, Contains, Option, Some, option_map, slice_get, is_some}
 use Rattle.lft_tag.specs.{declared.Tag.Tag, Tags.Before}
 use Rattle.lft_ir.specs.declared.{parts.{Name.{Name, TheVariants.{Port, Action}}, Value.Value}, steps.row.Row.Row}
 use Rattle.lft_model.specs.{Plans.PlanParts, Runs.{inputs_of, effects_of, read_of, steps_of}, Recorded.{SameHistory, instance_of}}
@@ -18,9 +18,6 @@ event y = (y.delay, y.value)
 
 abbrev pub event_of : Option Scheduling → Option (ℕ × Value)
 event_of o = option_map event o
-
-abbrev pub events : List Scheduling → List (ℕ × Value)
-events list = map event list
 
 -- the last writes of port p in two runs, which haven't the same value
 pub record IsWritten (mine theirs : List Placed) (p : ℕ) (first second : Option LastWrite) : Type 0 where

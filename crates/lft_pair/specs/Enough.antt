@@ -1,5 +1,5 @@
 -- What some contrasts give, and that none is left out.
-use Rattle.std.specs.Prelude.{◌≡◌, ◌≢◌, ℕ, ◌⊎◌, List, ◌++◌, map, Contains, Option, Some, slice_get}
+use Rattle.std.specs.Prelude.{◌≡◌, ◌≢◌, ℕ, ◌⊎◌, List, map, Contains, Option, Some, slice_get}
 use Rattle.lft_tag.specs.declared.Tag.{Tag}
 use Rattle.lft_ir.specs.declared.{parts.{Name.{Name, TheVariants.{Port, Action}}, Value.Value}, steps.row.{Row.Row, Step.Step}}
 use Rattle.lft_model.specs.{Plans.PlanParts, Runs.{inputs_of, effects_of, answer_at, outcome_of, request_of}}
@@ -36,10 +36,6 @@ IsToldOf mine theirs contrasts n = HaveSameOutcome mine theirs n ⊎ ((c : Contr
 abbrev pub IsStopTold : List Placed → List Placed → List Contrast → Type 0
 IsStopTold mine theirs contrasts = (request_of (steps mine) ≡ request_of (steps theirs)) ⊎ ((c : Contrast) × Contains contrasts c × TellsStop mine theirs c)
 
--- the contrast tells of an effect
-abbrev pub IsOfEffect : List Name → List Placed → List Placed → Contrast → Type 0
-IsOfEffect effects mine theirs c = (n : Name) × Contains effects n × TellsOf mine theirs n c
-
 -- each effect for which the runs of r at g answered otherwise is told of, and a stop request of one of them
 pub record TellsAnswers (plan : PlanParts) (t s : List Row) (g : Tag) (r : ℕ) (contrasts : List Contrast) : Type 0 where
   pub effects : (n : Name) → Contains (effects_of plan.program r) n → IsToldOf (placed_steps t g r) (placed_steps s g r) contrasts n
@@ -53,9 +49,3 @@ TellsReads plan r contrasts = (k : ℕ) (n : Name) → slice_get (inputs_of plan
 pub record TellsAll (plan : PlanParts) (t s : List Row) (g : Tag) (r : ℕ) (contrasts : List Contrast) : Type 0 where
   pub answers : TellsAnswers plan t s g r contrasts
   pub reads : TellsReads plan r contrasts
-
--- contrasts that hold stand behind others
-pub record Adds (plan : PlanParts) (t s : List Row) (g : Tag) (r : ℕ) (old new : List Contrast) : Type 0 where
-  pub more : List Contrast
-  pub is : new ≡ old ++ more
-  pub holds : AreContrasts plan t s g r more

@@ -2,7 +2,7 @@
 
 ghost use Rattle.std.specs.Prelude.{◌≡◌, IsTrue, IfOk, unwrap_or};
 ghost use Rattle.std.specs.{BTreeMap.get, Bool.Decides, Ordering.nat_cmp};
-ghost use Rattle.lft_pair.specs.Answering.{SameAnswers, SameWritten, SameScheduled, AreWritten, AreScheduled, writing as the_writing, scheduling as the_scheduling};
+ghost use Rattle.lft_pair.specs.inner.Answering.{SameAnswers, SameWritten, SameScheduled, AreWritten, AreScheduled, writing as the_writing, scheduling as the_scheduling};
 
 use lft_ir::steps::Step;
 use lft_ir::{Name, Value};

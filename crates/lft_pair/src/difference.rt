@@ -6,7 +6,7 @@ ghost use Rattle.lft_tag.specs.Tags.{Before};
 ghost use Rattle.lft_graph.specs.Graph.{GraphParts, IsGraphOf};
 ghost use Rattle.lft_ir.specs.{Steps.Fits.RowsFit, declared.steps.row.Step.TheVariants.Start, Parts.Parts};
 ghost use Rattle.lft_model.specs.Breaches.{Legal};
-ghost use Rattle.lft_pair.specs.{Pairs.{ComesFirst, Agrees, FirstOdd}, Places.{AreLastStarts, AreUpTo}};
+ghost use Rattle.lft_pair.specs.{Pairs.ComesFirst, inner.{Pairs.{Agrees, FirstOdd}, Places.{AreLastStarts, AreUpTo}}};
 
 use crate::answers::same_answers;
 use crate::starts::{LastStarts, no_starts};

@@ -3,7 +3,7 @@
 ghost use Rattle.std.specs.Prelude.{◌≡◌, ◌↔◌, ◌<◌, length, List, IsTrue, MatchOption, IfOk};
 ghost use Rattle.lft_ir.specs.{Parts.Parts, declared.steps.row.Row.Row as TheRow, Steps.Fits.RowsFit};
 ghost use Rattle.lft_model.specs.{Plans.PlanParts, Breaches.Legal, Runs.Ran};
-ghost use Rattle.lft_pair.specs.Places.{StartsAt, AreLastStarts, AreUpTo, AreAfter};
+ghost use Rattle.lft_pair.specs.inner.Places.{StartsAt, AreLastStarts, AreUpTo, AreAfter};
 
 use lft_ir::steps::{Row, is_start, row_at};
 use lft_lists::item_at;

@@ -14,7 +14,7 @@ use Rattle.lft_model.proofs.{Places.slice_get_within, Legality.{IsOrdered, IsInn
 use Rattle.lft_model.proofs.{Ended.all_ended, Grown.added_none, Law.{EndRow, end_of_run, collision_down}, Reached.all_stop, Recording.recorded_in_order}
 use Rattle.lft_model.proofs.Committed.{committed_kept, committed_runs, same_reads, committed_so_far, not_ended}
 use Rattle.lft_pool.{specs.{declared.bodies.done.Done.Done, Books.{law_of, IsRecording}}, proofs.BegunRun.{HandsOn, MeetsLaw}}
-use Rattle.lft_scheduler.{specs.{Starts.{started_row, started_count}, Agendas.MayEnd}, proofs.RunEnded.{quiet_more, ran_before}}
+use Rattle.lft_scheduler.{specs.{Starts.{started_row, started_count}, inner.Agendas.MayEnd}, proofs.RunEnded.{quiet_more, ran_before}}
 
 -- one item more on both sides of two lists of one length
 zip_both : {X Y : Type 0} (xs : List X) (x : X) (ys : List Y) (y : Y) → length ys ≡ length xs → zip (xs ++ x ∷ []) (ys ++ y ∷ []) ≡ zip xs ys ++ (x, y) ∷ []

@@ -6,7 +6,7 @@ use Rattle.lft_ir.specs.declared.steps.row.{Row.Row, Step.Step}
 use Rattle.lft_model.specs.{Plans.{PlanParts, IsSoundPlan}, Presence.{Triggered, Inputs}, Runs.{Run, run_at, start_row, by_ends}, OneWorker.{Ready, rows}}
 use Rattle.lft_model.specs.Recorded.{MayAnswer, committed_rows}
 use Rattle.lft_model.proofs.{Legality.one_starter, Grown.{open_triggered, open_inputs}, Committed.{now, committed_runs}}
-use Rattle.lft_scheduler.{specs.Agendas.MayEnd, proofs.RunsOpen.committed_cases}
+use Rattle.lft_scheduler.{specs.inner.Agendas.MayEnd, proofs.RunsOpen.committed_cases}
 use Rattle.lft_pool.specs.Answers.{KeepsOpenRuns}
 
 pub keeps_open_runs : (plan : PlanParts) (good : IsSoundPlan plan) (t : List Row) (w : ℕ) (g : Tag) (r : ℕ) (steps : List Step) → MayEnd plan t w g r steps → KeepsOpenRuns plan t (t ++ committed_rows w g r steps)

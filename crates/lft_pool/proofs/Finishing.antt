@@ -5,7 +5,7 @@ use Rattle.lft_pool.specs.declared.stop.Stop.{Stop}
 use Rattle.lft_pool.specs.declared.stop.Stop.TheVariants.{NoBody, Collision, UndeclaredEffect, TooManyRuns, Stranger, BodyNoMemory, NoMemory, NoWorker, PlanChanged, BadWorkers, TooManyRows, LimitTag}
 use Rattle.lft_pool.specs.declared.bodies.{ticket.Ticket.Ticket, done.Done.Done}
 use Rattle.lft_pool.specs.{Begun.MatchBegin, Books.{BookParts, LacksBody}, Reasons.{StopHolds, ReasonHolds, StopHolds.{by_begin, by_commit}}}
-use Rattle.lft_pool.specs.Endings.{IsUnfinished, ReasonIs, WhyStopped}
+use Rattle.lft_pool.specs.{inner.Endings.{IsUnfinished, ReasonIs}, Endings.WhyStopped}
 use Rattle.lft_tag.specs.declared.Tag.{Tag}
 use Rattle.lft_ir.specs.declared.parts.Value.{Value}
 use Rattle.lft_scheduler.specs.Starts.{SomethingLeft, started_count}

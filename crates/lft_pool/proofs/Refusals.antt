@@ -8,13 +8,13 @@ use Rattle.lft_ir.specs.Steps.Fits.{StepFits}
 use Rattle.lft_model.specs.{Plans.PlanParts, Recorded.{MayAnswer, SoFar, committed_rows}}
 use Rattle.lft_tag.specs.declared.Tag.{Tag}
 use Rattle.lft_lists.proofs.Members.{Mem, get_mem}
-use Rattle.lft_scheduler.specs.{Agendas.{AgendaParts, IsAgenda, EndsWith}, Collisions.IsClean, Starts.{IsBusy, MayStartFirst}}
+use Rattle.lft_scheduler.specs.{inner.Agendas.{AgendaParts, IsAgenda, EndsWith}, Collisions.IsClean, Starts.{IsBusy, MayStartFirst}}
 use Rattle.lft_scheduler.specs.Answering.{MayAll, IsLong, HasLongDelay}
 use Rattle.lft_pool.specs.declared.bodies.{done.Done.Done, ticket.Ticket.Ticket}
 use Rattle.lft_pool.specs.declared.stop.Stop.{Stop}
 use Rattle.lft_pool.specs.declared.stop.Stop.TheVariants.{NoBody, Collision, UndeclaredEffect, TooManyRuns, Stranger, BodyNoMemory, NoMemory, NoWorker, PlanChanged, BadWorkers, TooManyRows, LimitTag}
 use Rattle.lft_pool.specs.{Books.BookParts, Causes.StartCause, Reasons.{StopHolds, StopHolds.{by_begin, by_commit}}}
-use Rattle.lft_pool.specs.Answers.{HasTicket, HasClash, with_answer, RefusalCause, EndCause, CommitCause}
+use Rattle.lft_pool.specs.{Answers.{HasTicket, with_answer, EndCause, CommitCause}, inner.Answers.{HasClash, RefusalCause}}
 
 -- steps that may be made without a long delay, and rows that are refused
 pub end_cause : (b : BookParts) (t : Ticket) (d : Done) (s : Stop) → MayAll b.plan t.reaction d.steps → ¬ HasLongDelay d.steps → RefusalCause b.plan (with_answer b t d) s → EndCause b t d s

@@ -1,5 +1,5 @@
 -- What `commit` is given and does, and why it refuses.
-use Rattle.std.specs.Prelude.{◌≡◌, ℕ, ◌<◌, ◌++◌, ◌∷◌, [], List, length, Option, Some, None, Result, IsErr, IfOk}
+use Rattle.std.specs.Prelude.{◌≡◌, ℕ, ◌<◌, ◌++◌, ◌∷◌, List, length, Option, Result, IsErr, IfOk}
 use Rattle.lft_tag.specs.declared.{Tag.Tag, NoMemory.NoMemory as Refused}
 use Rattle.lft_ir.specs.declared.{parts.Value.Value, steps.row.Row.Row}
 use Rattle.lft_model.specs.{Plans.PlanParts, Presence.{Triggered, Inputs}, Runs.{reads_at, by_ends}, OneWorker.rows, Breaches.IsOpen, Recorded.committed_rows}
@@ -24,26 +24,6 @@ pub record Committed (old new : BookParts) (t : Ticket) (d : Done) : Type 0 wher
   pub had_ticket : HasTicket old t
   pub may : MayAll old.plan t.reaction d.steps
   pub book_is : new ≡ record old { rows = with_answer old t d; states = old.states ++ (t.state, d.state) ∷ [] }
-
--- the rows have that first collision, or none
-abbrev pub HasClash : PlanParts → List Row → Option Tag → Type 0
-HasClash plan t (Some g) = CollidesFirst plan t g
-HasClash plan t None = IsClean plan t
-
--- why rows with an answer are refused
-abbrev pub RefusalCause : PlanParts → List Row → Stop → Type 0
-RefusalCause plan t (Collision g) = CollidesFirst plan t g
-RefusalCause plan t TooManyRows = IsClean plan t × (4000000 < length t)
-RefusalCause plan t NoMemory = ⊥
-RefusalCause plan t LimitTag = ⊥
-RefusalCause plan t (UndeclaredEffect r) = ⊥
-RefusalCause plan t (NoBody r) = ⊥
-RefusalCause plan t TooManyRuns = ⊥
-RefusalCause plan t Stranger = ⊥
-RefusalCause plan t BodyNoMemory = ⊥
-RefusalCause plan t NoWorker = ⊥
-RefusalCause plan t PlanChanged = ⊥
-RefusalCause plan t BadWorkers = ⊥
 
 -- why an answer of an open run isn't committed: each cause comes only where those before it don't hold
 abbrev pub EndCause : BookParts → Ticket → Done → Stop → Type 0

@@ -1,10 +1,10 @@
 -- What contracts see of a book, and what holds of every book.
-use Rattle.std.specs.Prelude.{◌≡◌, ◌≤◌, ℕ, ℤ, List, length, Option, Some, None, slice_get, slice_index}
+use Rattle.std.specs.Prelude.{◌≡◌, ℕ, ℤ, List, Option, slice_index}
 use Rattle.lft_tag.specs.declared.Tag.{Tag}
-use Rattle.lft_ir.specs.{declared.{parts.{Value.Value, Reaction.Reaction}, steps.row.Row.Row}, Steps.Fits.RowsFit}
+use Rattle.lft_ir.specs.{declared.{parts.Value.Value, steps.row.Row.Row}, Steps.Fits.RowsFit}
 use Rattle.lft_model.specs.{Plans.PlanParts, Runs.by_ends, Recorded.{SoFar, Follows, BodyLaw, OnlyEndedAnswer, instance_of, word_after}}
 use Rattle.lft_pool.specs.declared.{bodies.done.Done.Done, stop.Stop.Stop}
-use Rattle.lft_scheduler.specs.{Starts.{MayStart, started_count}, Agendas.{AgendaParts, IsAgenda}}
+use Rattle.lft_scheduler.specs.Starts.{MayStart}
 
 -- plan, rows, words before and after each ended run, how many bodies each reaction has left, greatest number of runs, why it stopped
 pub record BookParts : Type 0 where
@@ -33,15 +33,3 @@ pub record IsRecording (law : ℕ → Tag → ℤ → List (Option Value) → Do
   pub follows : Follows plan (law_of law) t states
   pub fit : RowsFit plan.program t
   pub quiet : OnlyEndedAnswer t
-
--- what is kept beside them: the words of the instances, the number of started runs, a list of bodies for each reaction
-pub record IsKept (plan : PlanParts) (t : List Row) (states : List (ℤ × ℤ)) (words : List ℤ) (started : ℕ) (left : List ℕ) : Type 0 where
-  pub words_are : (r : ℕ) (x : Reaction) → slice_get plan.program.reactions r ≡ Some x → slice_get words x.instance ≡ Some (word_after plan.program x.instance (by_ends plan t) states)
-  pub started_is : started ≡ started_count t
-  pub few_runs : started ≤ 1000000
-  pub lists : length left ≡ length plan.program.reactions
-
--- the agenda is that of the rows, until the book stops
-abbrev pub AgendaHolds : Option Stop → PlanParts → List Row → AgendaParts → Type 0
-AgendaHolds None plan t agenda = IsAgenda plan t agenda
-AgendaHolds (Some s) plan t agenda = Unit {0}

@@ -5,3 +5,4 @@ pub mod Causes
 pub mod Answers
 pub mod Reasons
 pub mod Endings
+pub mod inner

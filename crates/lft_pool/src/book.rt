@@ -3,7 +3,8 @@
 ghost use Rattle.std.specs.Prelude.{◌≡◌, ◌<◌, ◌+◌, ◌-◌, [], length, Some, None, Err, IfOk, IfErr, IfSome, IfNone, OnOk, IsOk, IsTrue, ◌↔◌, ◌≤◌, ◌⊎◌};
 ghost use Rattle.lft_model.specs.{Plans.PlanParts, Breaches.Legal};
 ghost use Rattle.lft_pool.specs.{Books.{BookParts, IsRecording}, PendingEvents.SamePending, Reasons.{ReasonHolds, StopHolds}, Begun.{MatchBegin, Started}};
-ghost use Rattle.lft_pool.specs.{Causes.{BeginCause, StartCause}, Answers.{HasTicket, HasClash, KeepsOpenRuns, Committed, CommitCause, EndCause, RefusalCause}};
+ghost use Rattle.lft_pool.specs.{Causes.{BeginCause, StartCause}, Answers.{HasTicket, KeepsOpenRuns, Committed, CommitCause, EndCause}};
+ghost use Rattle.lft_pool.specs.inner.Answers.{HasClash, RefusalCause};
 ghost use Rattle.lft_scheduler.specs.Starts.{IsAnyOpen, IsBusy, MayStartFirst, NoneMayStart, NothingLeft, SomethingLeft, started_count};
 
 use crate::bodies::{Answered, Bodies, Body, BoxedCode, Code, Done, Law, Ticket, ticket_of};
@@ -46,7 +47,7 @@ pub struct Book<L: Law, C: Code + Drop = BoxedCode> {
 
 impl<L: Law, C: Code + Drop> Model for Book<L, C> {
     ghost use Rattle.std.specs.Prelude.{None};
-    ghost use Rattle.lft_pool.specs.{Books.{BookParts, IsRecording, IsKept, AgendaHolds}, Reasons.ReasonHolds};
+    ghost use Rattle.lft_pool.specs.{Books.{BookParts, IsRecording}, inner.Books.{IsKept, AgendaHolds}, Reasons.ReasonHolds};
 
     ghost Value = { BookParts };
 

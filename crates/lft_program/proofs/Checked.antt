@@ -6,7 +6,7 @@ use Rattle.lft_resolve.specs.Causes.{IsTwice, NoneHolds, DuplicateName, Declares
 use Rattle.lft_resolve.specs.Kinds.{names_in, destinations_in}
 use Rattle.lft_lists.proofs.{Mapped.mapped, Places.{get_right, get_left}}
 use Rattle.lft_tree.specs.Tree.{FileTree, ReactorTree, PortTree, ConnectionTree, reactors_of, connections_of, ports_of, timers_of, actions_of, instances_of}
-use Rattle.lft_program.specs.Tables.{IsLawful}
+use Rattle.lft_program.specs.inner.Tables.{IsLawful}
 
 pub later_parts : (rs : List ReactorTree) → NoneHolds (later_causes rs) → (UnknownName rs → ⊥) × (WrongPlace rs → ⊥) × (TwoSources rs → ⊥) × (WidthMismatch rs → ⊥)
 later_parts rs n = (n.0, n.1.0, n.1.1.1.0, n.1.1.1.1.0)

@@ -2,7 +2,8 @@
 use Rattle.std.proofs.Common.{◌≡◌, [], Option, Some, None, option_to_list, Any, ap}
 use Rattle.lft_program.{proofs.Giving.time_is, specs.Flattening.time_or_zero}
 use Rattle.lft_tree.specs.Tree.{TimeTree}
-use Rattle.lft_resolve.specs.{Expansion.Values.clock_in, declared.expansion.settings.Clock.Clock, Causes.IsLongTime, Instances.Inside, Sheets.IsClockOrZero}
+use Rattle.lft_resolve.specs.{inner.{Expansion.Values.clock_in, Sheets.IsClockOrZero}, declared.expansion.settings.Clock.Clock, Causes.IsLongTime}
+use Rattle.lft_resolve.specs.Instances.{Inside}
 use Rattle.lft_resolve.proofs.Somes.{Any-head}
 
 -- the value at the place of a name is the value of the name

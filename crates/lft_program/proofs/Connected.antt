@@ -5,9 +5,9 @@ use Rattle.lft_lists.proofs.Mapped.{mapped}
 use Rattle.lft_tree.specs.Tree.{FileTree, TimeTree, ConnectionTree, RefTree, reactors_of, ports_of, connections_of}
 use Rattle.lft_tag.specs.declared.Source.{Source}
 use Rattle.lft_resolve.specs.declared.expansion.{joins.{Join.Join, Connections.Connections, Site.Site}, walk.Instance.Instance}
-use Rattle.lft_resolve.specs.{Expansion.{Joins.{AreSources, Joins, JoinPorts, LeadApart, HasJoin}, Values.clock_in}, Causes.{HasLongTime, IsLongTime}}
-use Rattle.lft_resolve.specs.{Instances.{Inside, Thing, thing_at, Connects, stands_for, time_in}, Sheets.{IsJoin, Single, singles_of}}
-use Rattle.lft_program.specs.{Located.{Located, declared, ports_in}, Nests.IsNest, Tables.{AreTables, IsLawful}, Ways.IsJoined}
+use Rattle.lft_resolve.specs.inner.{Expansion.{Joins.{AreSources, Joins, JoinPorts, LeadApart, HasJoin}, Values.clock_in}, Sheets.{IsJoin, Single, singles_of}}
+use Rattle.lft_resolve.specs.{Causes.{HasLongTime, IsLongTime}, Instances.{Inside, Thing, thing_at, Connects, stands_for, time_in}}
+use Rattle.lft_program.specs.{Located.{Located, declared, ports_in}, inner.{Nests.IsNest, Tables.{AreTables, IsLawful}, Ways.IsJoined}}
 use Rattle.lft_program.specs.declared.nesting.{nest.Nest.Nest, tables.Tables.Tables}
 use Rattle.lft_program.proofs.{Checked.ports_once, Counting.base, Delays.{delay_is, long_delay}, Ends.{Standing, standing, place_at}}
 use Rattle.lft_program.proofs.{Joints.{Joint, joint, has_join, join_ports, lead_apart}, Nested.{instance_of, inside_of, number_of}, Ports.{as_many, distinct}}

@@ -2,7 +2,7 @@
 use Rattle.std.proofs.Common.{◌≡◌, ℕ, List, sym, ap, ◌∙◌, subst, Some, slice_get}
 use Rattle.std.specs.Option.{option_and_then}
 use Rattle.lft_tree.specs.Tree.{ReactorTree, InstanceTree, instances_of}
-use Rattle.lft_resolve.specs.{Expansion.Contents.contained, declared.expansion.walk.Contents.Contents, Numbers.{AreContents, IsContents, IsNumberOf}}
+use Rattle.lft_resolve.specs.{inner.{Expansion.Contents.contained, Numbers.{AreContents, IsContents, IsNumberOf}}, declared.expansion.walk.Contents.Contents}
 use Rattle.lft_resolve.proofs.Files.{AllZip-from}
 use Rattle.lft_program.proofs.Zipping.{then_some, zip_at}
 

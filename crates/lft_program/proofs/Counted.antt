@@ -4,7 +4,7 @@ use Rattle.std.{specs.List.{AllZip, zip}, proofs.lemmas.{Bool.Decides.eqb_tells,
 use Rattle.lft_tree.specs.Tree.{ReactorTree, ConnectionTree, actions_of, connections_of, ports_of, reactions_of, timers_of}
 use Rattle.lft_resolve.specs.declared.{expansion.joins.Connections.Connections, by_number.sheets.{Declarations.Declarations, Reactions.Reactions}}
 use Rattle.lft_resolve.specs.Causes.{DiffersInWidth, NoneHolds, WidthMismatch, joins_of, later_causes}
-use Rattle.lft_resolve.specs.Sheets.{AreConnections, AreCues, AreDeclarations, AreReactions, IsActionSheet, IsDeclarations, IsJoin, IsReactions, IsTimerSheet, singles_in, singles_of}
+use Rattle.lft_resolve.specs.inner.Sheets.{AreConnections, AreCues, AreDeclarations, AreReactions, IsActionSheet, IsDeclarations, IsJoin, IsReactions, IsTimerSheet, singles_in, singles_of}
 use Rattle.lft_resolve.proofs.Somes.{Any-head, Any-tail}
 
 same_counts : {A B : Type 0} (R : A → B → Type 0) (f : A → ℕ) (g : B → ℕ) → ((x : A) (y : B) → R x y → g y ≡ f x) → (xs : List A) (ys : List B) → AllZip R xs ys → map g ys ≡ map f xs

@@ -3,7 +3,7 @@ use Rattle.std.proofs.Common.{◌≡◌, ℕ, List, ◌++◌, refl, sym, ◌∙�
 use Rattle.std.proofs.lemmas.Option.{slice_get_within}
 use Rattle.lft_lists.proofs.Places.{get_there}
 use Rattle.lft_tree.specs.Tree.{FileTree}
-use Rattle.lft_resolve.specs.{Expansion.Sources.{Leads, one, more}, Causes.ConnectionCycle, Instances.{Thing, Chain, one as one_step, more as more_steps}}
+use Rattle.lft_resolve.specs.{inner.Expansion.Sources.{Leads, one, more}, Causes.ConnectionCycle, Instances.{Thing, Chain, one as one_step, more as more_steps}}
 use Rattle.lft_tag.specs.declared.Source.{Source}
 use Rattle.lft_program.proofs.Connected.{TreeSources}
 

@@ -2,9 +2,9 @@
 use Rattle.std.proofs.Common.{◌≡◌, ℕ, suc, ◌+◌, ◌<◌, inl, inr, Bool, true, false, cond, List, [], ◌∷◌, ◌++◌, refl, sym, ap, ◌∙◌, subst, Option, Some, None, option_map, option_to_list, slice_get, map, flat_map, unwrap_or, bytes_eq, Any}
 use Rattle.std.proofs.lemmas.Bool.{cases_lt, le-ltb}
 use Rattle.lft_resolve.proofs.{Effects.Any-flat, Somes.Any-right, Twice.Any-at}
-use Rattle.lft_resolve.specs.{declared.expansion.settings.Clock.{Clock, TheVariants.{Fixed, Parameter}}, Expansion.Values.clock_in}
-use Rattle.lft_resolve.specs.{Causes.{HasLongTime, IsLongTime, longest}, Instances.{Inside, time_in, value_of}, Kinds.{times_in, timer_times}, Places.place}
-use Rattle.lft_resolve.specs.Sheets.{IsClock, IsDelay, kept}
+use Rattle.lft_resolve.specs.declared.expansion.settings.Clock.{Clock, TheVariants.{Fixed, Parameter}}
+use Rattle.lft_resolve.specs.{inner.{Expansion.Values.clock_in, Places.place, Sheets.{IsClock, IsDelay, kept}}, Causes.{HasLongTime, IsLongTime, longest}}
+use Rattle.lft_resolve.specs.{Instances.{Inside, time_in, value_of}, Kinds.{times_in, timer_times}}
 use Rattle.lft_tree.specs.Tree.{FileTree, ReactorTree, ParameterTree, ConnectionTree, TimeTree, Written, Named, nanoseconds, reactors_of, connections_of, timers_of, actions_of, instances_of}
 
 pub kept_is : (t : ℕ) → (longest < t → ⊥) → kept t ≡ t

@@ -2,8 +2,8 @@
 use Rattle.std.proofs.Common.{◌≡◌, ℕ, ◌+◌, ◌<◌, zero, suc, List, [], ◌∷◌, ◌++◌, length, get_or, slice_get, Some, codes, refl, sym, ap, subst, ◌∙◌, arith, append_assoc, append-nil}
 use Rattle.std.proofs.lemmas.Option.{slice_get_within, slice_get-get_or}
 use Rattle.lft_lists.proofs.Places.{Some_same}
-use Rattle.lft_ir.{specs.Names.HasNoTwice, proofs.Positions.HasNoTwice-push}
-use Rattle.lft_program.specs.Extended.{Ending, name_after, extended, AreAfter}
+use Rattle.lft_ir.{specs.inner.Names.HasNoTwice, proofs.Positions.HasNoTwice-push}
+use Rattle.lft_program.specs.inner.Extended.{Ending, name_after, extended, AreAfter}
 use Rattle.lft_program.proofs.Extending.{extended-append, length-extended, extended-keeps, extended-at}
 use Rattle.lft_program.proofs.Separators.{HasNoSeparator, IsEnding, HasNoSeparator-main, separator_inside, same_ending}
 use Rattle.lft_resolve.proofs.Twice.{slice_get-front, slice_get-middle}

@@ -2,11 +2,11 @@
 use Rattle.std.proofs.Common.{◌≡◌, ℕ, ◌+◌, List, [], ◌∷◌, ◌++◌, refl, sym, ap, ◌∙◌, subst, arith, Some, option_map, slice_get, map, position, bytes_eq}
 use Rattle.std.{specs.Option.option_and_then, proofs.lemmas.Option.slice_get_within}
 use Rattle.lft_tree.specs.Tree.{FileTree, ReactorTree, PortTree, InstanceTree, RefTree, reactors_of, ports_of, instances_of}
-use Rattle.lft_resolve.specs.declared.expansion.joins.End.{End, TheVariants.{Own, Inner}}
-use Rattle.lft_resolve.specs.Expansion.{Paths.along, Children.child_of, Joins.{port_at, port_of, Declares, IsPort}}
-use Rattle.lft_resolve.specs.{Instances.{Inside, thing_at, stands_for, stands_inside, entered, main_instance, reactor_named, given_in}, Sheets.{IsEnd, IsInner}}
+use Rattle.lft_resolve.specs.{declared.expansion.joins.End.{End, TheVariants.{Own, Inner}}, Expansion.Paths.along}
+use Rattle.lft_resolve.specs.inner.{Expansion.{Children.child_of, Joins.{port_at, port_of, Declares, IsPort}}, Sheets.{IsEnd, IsInner}}
+use Rattle.lft_resolve.specs.Instances.{Inside, thing_at, stands_for, stands_inside, entered, main_instance, reactor_named, given_in}
 use Rattle.lft_resolve.proofs.ExpansionLemmas.Orders.{along_kid}
-use Rattle.lft_program.specs.{Located.{Located, ports_in}, Nests.IsNest, declared.nesting.{nest.Nest.Nest, tables.Tables.Tables}}
+use Rattle.lft_program.specs.{Located.{Located, ports_in}, inner.Nests.IsNest, declared.nesting.{nest.Nest.Nest, tables.Tables.Tables}}
 use Rattle.lft_program.proofs.{Counting.base, Nested.{instance_of, number_of, child_at}, Ports.{count_is, number_at, thing_forth}}
 use Rattle.lft_program.proofs.Singles.{place_forth, place_found}
 

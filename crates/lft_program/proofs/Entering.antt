@@ -3,8 +3,8 @@ use Rattle.std.proofs.Common.{◌≡◌, ℕ, List, sym, ap, ◌∙◌, Some, sl
 use Rattle.std.specs.Option.{option_and_then, option_map}
 use Rattle.lft_tree.specs.Tree.{FileTree, ReactorTree, InstanceTree, reactors_of, instances_of}
 use Rattle.lft_lists.proofs.Mapped.{option_map_some}
-use Rattle.lft_resolve.specs.{Expansion.Contents.contained, declared.expansion.walk.Contents.Contents, Instances.{Inside, entered, given_in, reactor_named}}
-use Rattle.lft_resolve.specs.Numbers.{AreContents}
+use Rattle.lft_resolve.specs.{inner.{Expansion.Contents.contained, Numbers.AreContents}, declared.expansion.walk.Contents.Contents}
+use Rattle.lft_resolve.specs.Instances.{Inside, entered, given_in, reactor_named}
 use Rattle.lft_resolve.proofs.ExpansionLemmas.Simulation.{Simulates}
 use Rattle.lft_program.proofs.{Containing.{inner_at, number_at}, Zipping.then_some}
 

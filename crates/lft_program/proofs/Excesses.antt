@@ -2,7 +2,7 @@
 use Rattle.std.proofs.Common.{◌≡◌, ℕ, ◌-◌, ◌≤◌, inl, inr, arith}
 use Rattle.lft_tree.specs.Tree.{FileTree}
 use Rattle.lft_resolve.specs.{Expansion.Paths.IsMoreThan, Causes.TooMany}
-use Rattle.lft_program.specs.Limits.{HasMoreThan, IsExcess, limit_of}
+use Rattle.lft_program.specs.inner.Limits.{HasMoreThan, IsExcess, limit_of}
 use Rattle.lft_program.specs.declared.nesting.limits.Excess.{Excess}
 use Rattle.lft_program.specs.declared.nesting.limits.LimitedKind.{LimitedKind, TheVariants.{Instances, Reactions, Ports, Connections, Actions, Timers}}
 

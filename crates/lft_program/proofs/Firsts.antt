@@ -3,9 +3,9 @@ use Rattle.std.proofs.Common.{◌≡◌, ◌≢◌, ℕ, List, [], ◌∷◌, �
 use Rattle.std.specs.Result.{IsErrAnd}
 use Rattle.lft_tree.specs.Tree.{FileTree, reactors_of}
 use Rattle.lft_resolve.specs.Causes.{IsFirst, NoneHolds, TooMany, HasLongTime, DelayTooLong, causes}
-use Rattle.lft_program.specs.Links.{TellsOf, last_causes, number_of as link_number}
-use Rattle.lft_program.specs.{declared.nesting.{linking.LinkFault.LinkFault, limits.Excess.Excess, nest.NestFault.NestFault}, Tables.IsLawful}
-use Rattle.lft_program.specs.{Faults.reactor_causes, Refusals.{Tells, cause_of, of_links, of_nest}, Limits.IsExcess}
+use Rattle.lft_program.specs.inner.{Links.{TellsOf, last_causes, number_of as link_number}, Tables.IsLawful, Faults.reactor_causes}
+use Rattle.lft_program.specs.inner.{Refusals.{Tells, cause_of, of_links, of_nest}, Limits.IsExcess}
+use Rattle.lft_program.specs.declared.nesting.{linking.LinkFault.LinkFault, limits.Excess.Excess, nest.NestFault.NestFault}
 use Rattle.lft_program.proofs.Excesses.{excess_is_cause}
 use Rattle.lft_program.specs.declared.nesting.linking.LinkFault.TheVariants as links
 use Rattle.lft_program.specs.declared.nesting.nest.NestFault.TheVariants as nests

@@ -6,7 +6,7 @@ use Rattle.lft_tree.specs.Tree.{FileTree, PortTree, RefTree, TriggerTree, AtStar
 use Rattle.lft_resolve.proofs.{Effects.{Any-flat, reads_once, effects_once}, Somes.{Any-left, Any-right}}
 use Rattle.lft_resolve.specs.{Causes.{HasLongTime, IsLongTime}, Instances.{stands_for, thing_at}, Kinds.{reads_of, ref_in, timer_times}}
 use Rattle.lft_resolve.specs.Sheets.{is_timer, without_timers}
-use Rattle.lft_program.specs.{Located.{Located, Declared, declared, ports_in, actions_in, timers_in}, Tables.IsLawful}
+use Rattle.lft_program.specs.{Located.{Located, Declared, declared, ports_in, actions_in, timers_in}, inner.Tables.IsLawful}
 use Rattle.lft_program.specs.Flattening.{Flat, IsPort, IsAction, IsTimer, IsReaction, IsName, IsTrigger, name_of_thing, name_of_reaction}
 use Rattle.lft_program.proofs.{Placed.{declared_from, thing_from, path_once}, Entered.{IsUsual, all_usual, option_short, in_timers, in_actions}}
 use Rattle.lft_program.proofs.{OneWriter.{Writes, writes, same_path}, Ordered.{reaction_at, is_numbered, is_consecutive}}

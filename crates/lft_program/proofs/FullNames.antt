@@ -4,8 +4,8 @@ use Rattle.std.specs.Fmt.{decimal}
 use Rattle.std.proofs.lemmas.{Bool.cases_order, Fmt.decimal_injective, Grind.common_steps, List.{map-append, length-map}}
 use Rattle.std.proofs.lemmas.Option.{slice_get_within, get_or_from_slice_get}
 use Rattle.lft_lists.proofs.Mapped.{mapped_from}
-use Rattle.lft_ir.{specs.Names.HasNoTwice, proofs.Ranges.slice_get-drop}
-use Rattle.lft_program.specs.{Extended.{Ending, dotted, hashed, endings, extended, AreAfter}, FullNames.{members, AreOfProgram, AreFew}}
+use Rattle.lft_ir.{specs.inner.Names.HasNoTwice, proofs.Ranges.slice_get-drop}
+use Rattle.lft_program.specs.inner.{Extended.{Ending, dotted, hashed, endings, extended, AreAfter}, FullNames.{members, AreOfProgram, AreFew}}
 use Rattle.lft_program.specs.declared.naming.{OwnName.OwnName, Placed.Placed}
 use Rattle.lft_program.proofs.{Distinct.{main, ArePaths, HasNoTwice-extended}, Extending.{extended-append, length-extended, extended-keeps}}
 use Rattle.lft_program.proofs.Separators.{IsEnding, HasNoSeparator-name, HasNoSeparator-decimal}

@@ -4,11 +4,10 @@ use Rattle.std.{specs.{List.{AllZip, enumerate_from}, Option.option_map_or}, pro
 use Rattle.lft_program.proofs.{Delays.kept_is, Counting.flat_at}
 use Rattle.lft_lists.proofs.Mapped.{mapped, option_map_some}
 use Rattle.lft_tree.specs.Tree.{ReactorTree, ParameterTree, AssignmentTree, InstanceTree, TimeTree, Written, Named, nanoseconds, instances_of, ports_of, timers_of, actions_of, connections_of}
-use Rattle.lft_resolve.specs.Expansion.Values.{clock_in, value_in, values_in}
+use Rattle.lft_resolve.specs.inner.{Expansion.Values.{clock_in, value_in, values_in}, Places.place, Sheets.{IsClock, IsGiven, kept}}
 use Rattle.lft_resolve.specs.declared.expansion.settings.{Clock.{Clock, TheVariants.{Fixed, Parameter}}, Given.Given}
 use Rattle.lft_resolve.specs.Causes.{DeclaresTwice, DuplicateName, HasLongTime, IsLongTime, IsTwice, NoneHolds, first_causes, longest}
-use Rattle.lft_resolve.specs.{Instances.{Inside, given_in, given_or_default, time_in, value_of}, Kinds.timer_times, Places.place}
-use Rattle.lft_resolve.specs.Sheets.{IsClock, IsGiven, kept}
+use Rattle.lft_resolve.specs.{Instances.{Inside, given_in, given_or_default, time_in, value_of}, Kinds.timer_times}
 use Rattle.lft_resolve.proofs.{Somes.{Any-head, Any-left, Any-right, Any-tail}, Twice.{Any-at, twice_left}}
 
 -- ---- places of names that stand once

@@ -6,8 +6,8 @@ use Rattle.lft_tree.specs.Tree.{FileTree, ReactorTree, InstanceTree, reactors_of
 use Rattle.lft_resolve.specs.{Expansion.Paths.along, declared.expansion.walk.Instance.Instance}
 use Rattle.lft_resolve.specs.Instances.{Inside, entered, given_in, main_instance, reactor_named}
 use Rattle.lft_resolve.proofs.ExpansionLemmas.Orders.{before_itself}
-use Rattle.lft_program.specs.{Located.Located, Nests.{IsInstanceOf, IsNest}, declared.{nesting.{nest.Nest.Nest, tables.Tables.Tables}, naming.OwnName.OwnName}}
-use Rattle.lft_program.specs.{Flattening.{name_of_path, name_under}, OwnNames.own_names, TreeLists.{name_at, seen}}
+use Rattle.lft_program.specs.{Located.Located, inner.{Nests.{IsInstanceOf, IsNest}, OwnNames.own_names, TreeLists.{name_at, seen}}}
+use Rattle.lft_program.specs.{declared.{nesting.{nest.Nest.Nest, tables.Tables.Tables}, naming.OwnName.OwnName}, Flattening.{name_of_path, name_under}}
 use Rattle.lft_program.proofs.{Zipping.{then_some, zip_at, zip_back, zip_long}, KindNames.instance_name_there, NamesOnce.instance_names, Sites.AreSites}
 use Rattle.lft_ir.proofs.Ranges.{slice_get-drop}
 use Rattle.lft_program.specs.declared.own_names.MemberKind.TheVariants as kinds

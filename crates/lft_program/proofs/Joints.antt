@@ -4,10 +4,11 @@ use Rattle.std.{specs.Option.option_map_or, proofs.lemmas.Bool.cases_lt}
 use Rattle.lft_lists.proofs.Places.{push_apart}
 use Rattle.lft_tree.specs.Tree.{FileTree, ReactorTree, PortTree, InstanceTree, RefTree, reactors_of, ports_of, instances_of}
 use Rattle.lft_resolve.specs.declared.expansion.{walk.Instance.Instance, joins.{End.{End, TheVariants.{Own, Inner}}, Join.Join, Connections.Connections}}
-use Rattle.lft_resolve.specs.{Expansion.Joins.{HasJoin, JoinPorts, LeadApart}, Causes.IsTwice, Instances.{thing_at, reactor_named}, Kinds.destinations_in}
-use Rattle.lft_resolve.specs.Sheets.{IsConnections, IsEnd, IsJoin, Single, singles_of}
+use Rattle.lft_resolve.specs.inner.{Expansion.Joins.{HasJoin, JoinPorts, LeadApart}, Sheets.{IsConnections, IsEnd, IsJoin, Single, singles_of}}
+use Rattle.lft_resolve.specs.{Causes.IsTwice, Instances.{thing_at, reactor_named}, Kinds.destinations_in}
 use Rattle.lft_resolve.proofs.Written.{own_written, inner_written}
-use Rattle.lft_program.specs.{Located.{Located, ports_in}, Nests.IsNest, Tables.{AreTables, IsLawful}, declared.nesting.{nest.Nest.Nest, tables.Tables.Tables}}
+use Rattle.lft_program.specs.{Located.{Located, ports_in}, inner.{Nests.IsNest, Tables.{AreTables, IsLawful}}}
+use Rattle.lft_program.specs.declared.nesting.{nest.Nest.Nest, tables.Tables.Tables}
 use Rattle.lft_program.proofs.{Checked.{later_parts, ports_once, even, destinations_once}, Counting.base, Ends.{Standing, standing, steps_to, place_at, holder}}
 use Rattle.lft_program.proofs.{Zipping.{zip_at, zip_back}, Nested.{located_of, instance_of, one_number}, Singles.{IsOf, single_back, to_at, place_forth}}
 

@@ -4,9 +4,9 @@ use Rattle.std.{specs.{List.AllZip, Option.{option_and_then, unwrap_or}}, proofs
 use Rattle.lft_lists.proofs.{Places.Some_same, Mapped.mapped, Picked.map-filter_map}
 use Rattle.lft_tree.specs.Tree.{ReactorTree, InstanceTree, instances_of, ports_of, actions_of, timers_of, instance_in, port_in, action_in, timer_in}
 use Rattle.lft_resolve.specs.declared.expansion.{numbering.Thing.Thing, walk.Instance.Instance}
-use Rattle.lft_program.specs.{Located.{Located, declared, Declared}, Nests.{IsInstanceOf, IsNumbering, IsThingOf}}
-use Rattle.lft_program.specs.{declared.{nesting.nest.Numbering.Numbering, naming.{OwnName.OwnName, Placed.Placed}}, OwnNames.own_names}
-use Rattle.lft_program.specs.TreeLists.{name_at, placed_at, seen, Says, IsPlacedAt}
+use Rattle.lft_program.specs.Located.{Located, declared, Declared}
+use Rattle.lft_program.specs.inner.{Nests.{IsInstanceOf, IsNumbering, IsThingOf}, OwnNames.own_names, TreeLists.{name_at, placed_at, seen, Says, IsPlacedAt}}
+use Rattle.lft_program.specs.declared.{nesting.nest.Numbering.Numbering, naming.{OwnName.OwnName, Placed.Placed}}
 use Rattle.lft_program.proofs.{Counting.base, Listing.{declared_from, declared-length}, Zipping.{zip_at, zip_back, zip_long, zip_of}, Sites.AreSites}
 use Rattle.lft_program.specs.declared.own_names.MemberKind.TheVariants as kinds
 

@@ -2,9 +2,9 @@
 use Rattle.std.proofs.Common.{◌≡◌, ◌≤◌, ℕ, List, length, ap, ◌∙◌, arith}
 use Rattle.std.{specs.List.AllZip, proofs.lemmas.List.length-map}
 use Rattle.lft_tree.specs.Tree.{FileTree, ReactorTree, reactors_of, ports_of, timers_of, actions_of, reactions_of}
-use Rattle.lft_program.specs.{Located.declared, Nests.{IsInstanceOf, IsNumbering}}
+use Rattle.lft_program.specs.{Located.declared, inner.{Nests.{IsInstanceOf, IsNumbering}, OfTree.AreOfTree}}
 use Rattle.lft_program.specs.declared.nesting.{linking.Linked.Linked, nest.{Nest.Nest, Numbering.Numbering}, tables.Tables.Tables}
-use Rattle.lft_program.specs.{Flattening.{Flat, IsPort, IsTimer, IsAction, IsReaction, names_of, name_of_path}, OfTree.AreOfTree}
+use Rattle.lft_program.specs.Flattening.{Flat, IsPort, IsTimer, IsAction, IsReaction, names_of, name_of_path}
 use Rattle.lft_program.proofs.{Listing.declared-length, Zips.AllZip-length}
 use Rattle.lft_ir.specs.{Parts.Parts, Sound.{IsWithinLimits, KeepsOrigins}}
 

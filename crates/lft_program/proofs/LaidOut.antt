@@ -2,16 +2,16 @@
 use Rattle.std.proofs.Common.{◌≡◌, ℕ, List, [], ◌∷◌, ◌++◌, Option, Some, map, flat_map, length, slice_get, option_to_list, Any, inr, sym, ap, ◌∙◌}
 use Rattle.std.specs.{Option.{option_and_then, unwrap_or}, List.AllZip}
 use Rattle.lft_resolve.proofs.{Effects.Any-flat, Somes.{Any-left, Any-right}, Twice.Any-at}
-use Rattle.lft_resolve.specs.Expansion.Values.{clock_in}
+use Rattle.lft_resolve.specs.inner.{Expansion.Values.clock_in, Sheets.{IsDeclarations, IsTimerSheet, IsActionSheet, IsClockOrZero}}
 use Rattle.lft_resolve.specs.declared.expansion.{numbering.Thing.Thing, settings.Clock.Clock, walk.Instance.Instance}
 use Rattle.lft_resolve.specs.declared.by_number.sheets.{ActionSheet.ActionSheet, Declarations.Declarations, TimerSheet.TimerSheet}
 use Rattle.lft_resolve.specs.{Causes.{IsLongTime, HasLongTime}, Kinds.{times_in, timer_times}}
-use Rattle.lft_resolve.specs.Sheets.{IsDeclarations, IsTimerSheet, IsActionSheet, IsClockOrZero}
 use Rattle.lft_lists.proofs.Mapped.{mapped}
 use Rattle.lft_tree.specs.Tree.{FileTree, ReactorTree, TimerTree, ActionTree, TimeTree, reactors_of, timers_of, actions_of, instances_of, connections_of}
-use Rattle.lft_program.specs.{Located.{Located, Declared, declared}, Nests.{IsInstanceOf, IsThingOf}}
+use Rattle.lft_program.specs.Located.{Located, Declared, declared}
+use Rattle.lft_program.specs.inner.{Nests.{IsInstanceOf, IsThingOf}, Laying.{IsActionAt, IsTimerAt, action_at, clock_at, declarations_at, timer_at}}
+use Rattle.lft_program.specs.inner.OfTree.{AreOfTree}
 use Rattle.lft_program.specs.{declared.nesting.{linking.Linked.Linked, nest.Nest.Nest, tables.Tables.Tables}, Flattening.{IsTimer, IsAction, time_or_zero}}
-use Rattle.lft_program.specs.{Laying.{IsActionAt, IsTimerAt, action_at, clock_at, declarations_at, timer_at}, OfTree.AreOfTree}
 use Rattle.lft_program.proofs.{Declared.declared_from, Zipping.zip_at, Clocks.clock_or_zero_is, Making.{Made, made_zip}, Zips.AllZip-from}
 use Rattle.lft_ir.specs.declared.parts.{Action.Action as ActionOf, Timer.Timer as TimerOf}
 

@@ -4,10 +4,10 @@ use Rattle.std.proofs.lemmas.{List.Sums.sum_by-cons, Option.slice_get_within}
 use Rattle.lft_lists.proofs.Places.{get_there}
 use Rattle.lft_tree.specs.Tree.{FileTree, reactors_of}
 use Rattle.lft_tag.specs.{Shifts.{join_all, none}, declared.{Shift.Shift, Source.Source}}
-use Rattle.lft_resolve.specs.{Expansion.Sources.{Origin, itself, over, IsFolded, IsReached, AreReached}, declared.expansion.origins.Reached.Reached}
+use Rattle.lft_resolve.specs.{inner.Expansion.Sources.{Origin, itself, over, IsFolded, IsReached, AreReached}, declared.expansion.origins.Reached.Reached}
 use Rattle.lft_resolve.specs.{Causes.{DelayTooLong, HasLongChain, HasLongTime}, Instances.{Thing, Chain, Connects, one as one_step, more as more_steps}}
 use Rattle.lft_resolve.proofs.ExpansionLemmas.Folding.{time_sum}
-use Rattle.lft_program.{specs.Linking.IsTooLong, proofs.Connected.{NoLongTime, TreeSources}}
+use Rattle.lft_program.{specs.inner.Linking.IsTooLong, proofs.Connected.{NoLongTime, TreeSources}}
 
 sum_append : (xs ys : List ℕ) → sum (xs ++ ys) ≡ sum xs + sum ys
 sum_append [] ys = omega arith

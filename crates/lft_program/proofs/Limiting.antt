@@ -3,9 +3,9 @@ use Rattle.std.proofs.Common.{◌≡◌, ℕ, List, length, sym, ◌∙◌, subs
 use Rattle.std.proofs.lemmas.Option.{slice_get_within}
 use Rattle.lft_lists.proofs.Places.{get_there}
 use Rattle.lft_tree.specs.Tree.{FileTree, ReactorTree, reactors_of}
-use Rattle.lft_resolve.specs.Expansion.{Contents.contained, Numbers.{HasMoreThings, IsThing}, Paths.{Exists, IsMoreThan, along}}
-use Rattle.lft_resolve.specs.{declared.expansion.walk.Contents.Contents, Causes.IsDeclaredAt, Instances.{Inside, IsInside, entered, main_instance, main_of}}
-use Rattle.lft_resolve.specs.Numbers.{AreContents}
+use Rattle.lft_resolve.specs.inner.{Expansion.{Contents.contained, Numbers.{HasMoreThings, IsThing}}, Numbers.AreContents}
+use Rattle.lft_resolve.specs.{Expansion.Paths.{Exists, IsMoreThan, along}, declared.expansion.walk.Contents.Contents, Causes.IsDeclaredAt}
+use Rattle.lft_resolve.specs.Instances.{Inside, IsInside, entered, main_instance, main_of}
 use Rattle.lft_resolve.proofs.ExpansionLemmas.Simulation.{along_back, along_forth}
 use Rattle.lft_program.proofs.{Entering.{HasNumber, numbers_go_along}, Listing.count_is}
 

@@ -3,8 +3,9 @@ use Rattle.std.proofs.Common.{◌≡◌, ℕ, zero, suc, ◌+◌, ◌<◌, ◌�
 use Rattle.std.{specs.List.{AllZip, enumerate_from}, proofs.lemmas.{Option.slice_get_within, List.{length-map, FromFn.length-enumerate_from}}}
 use Rattle.lft_lists.proofs.{Mapped.{mapped, mapped_from}, Places.get_append_cases}
 use Rattle.lft_tree.specs.Tree.{FileTree, ReactorTree, reactors_of}
-use Rattle.lft_resolve.specs.{Expansion.{Listing.AreListed, Numbers.{count_of, things}}, declared.expansion.{numbering.Thing.Thing, walk.Instance.Instance}}
-use Rattle.lft_program.specs.{Located.{Located, Declared, declared, declared_in}, Nests.{IsInstanceOf, IsNest, IsNumbering, IsThingOf}}
+use Rattle.lft_resolve.specs.inner.Expansion.{Listing.AreListed, Numbers.{count_of, things}}
+use Rattle.lft_resolve.specs.declared.expansion.{numbering.Thing.Thing, walk.Instance.Instance}
+use Rattle.lft_program.specs.{Located.{Located, Declared, declared, declared_in}, inner.Nests.{IsInstanceOf, IsNest, IsNumbering, IsThingOf}}
 use Rattle.lft_program.specs.declared.nesting.{nest.{Nest.Nest, Numbering.Numbering}, tables.Tables.Tables}
 use Rattle.lft_program.proofs.{Counting.{base, total}, Zipping.{zip_at, zip_of}}
 

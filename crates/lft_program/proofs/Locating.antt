@@ -3,13 +3,13 @@ use Rattle.std.proofs.Common.{◌≡◌, ℕ, List, [], ◌∷◌, Any, length, 
 use Rattle.std.{specs.List.AllZip, proofs.lemmas.{Option.slice_get_within, List.length-map}}
 use Rattle.lft_lists.proofs.{Mapped.mapped_from, Places.get_there}
 use Rattle.lft_tree.specs.Tree.{FileTree, ReactorTree, reactors_of}
-use Rattle.lft_resolve.specs.Expansion.{Contents.{IsWalk, contained}, Paths.{IsPreOrder, along}}
-use Rattle.lft_resolve.specs.Expansion.Values.{HaveValues, LeadToValues, defaults_of, entered as entered_by_number}
+use Rattle.lft_resolve.specs.inner.Expansion.{Contents.{IsWalk, contained}, Values.{HaveValues, LeadToValues, defaults_of, entered as entered_by_number}}
+use Rattle.lft_resolve.specs.inner.{Numbers.AreContents, Sheets.AreParameters}
+use Rattle.lft_resolve.specs.Expansion.Paths.{IsPreOrder, along}
 use Rattle.lft_resolve.specs.declared.expansion.{settings.Parameters.Parameters, walk.{Contents.Contents, Instance.Instance}}
-use Rattle.lft_resolve.specs.{Causes.{HasLongTime, NoneHolds, first_causes}, Instances.{entered, main_instance, main_of}, Numbers.AreContents}
-use Rattle.lft_resolve.specs.Sheets.{AreParameters}
+use Rattle.lft_resolve.specs.{Causes.{HasLongTime, NoneHolds, first_causes}, Instances.{entered, main_instance, main_of}}
 use Rattle.lft_resolve.proofs.ExpansionLemmas.Simulation.{along_back, pre_order_back}
-use Rattle.lft_program.specs.{Located.{AreLocated, Located}, Nests.IsInstanceOf}
+use Rattle.lft_program.specs.{Located.{AreLocated, Located}, inner.Nests.IsInstanceOf}
 use Rattle.lft_program.proofs.{Entering.{HasNumber, numbers_go_along}, Valuing.{HasValues, main_values, values_go_along}, Zipping.{same_values, zip_of}}
 
 map_itself : {X Y : Type 0} (f : X → Y) (g : Y → X) (xs : List X) → ((x : X) → g (f x) ≡ x) → map g (map f xs) ≡ xs

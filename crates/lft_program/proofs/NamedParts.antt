@@ -2,8 +2,9 @@
 use Rattle.std.proofs.Common.{◌≡◌, ℕ, ◌+◌, ◌-◌, ◌<◌, ◌≤◌, suc, List, [], ◌∷◌, ◌++◌, map, drop, length, slice_get, slice_range, Some, codes, refl, sym, ap, subst, ◌∙◌, arith, length-append, length-drop, append_assoc, append-nil, zero-add}
 use Rattle.std.{specs.{Fmt.decimal, List.AllZip}, proofs.lemmas.List.length-map}
 use Rattle.lft_lists.proofs.{Places.Some_same, Mapped.mapped}
-use Rattle.lft_ir.{specs.{Places.{names_from, AreStarts}, declared.names.Starts.Starts}, proofs.Ranges.{slice_get-drop, range-get, range-within, length-range}}
-use Rattle.lft_program.specs.{Extended.{Ending, dotted, hashed, endings, extended}, FullNames.{IsDotted, IsHashed, AreFullNames, AreOfProgram, AreFew}}
+use Rattle.lft_ir.specs.{inner.Places.{names_from, AreStarts}, declared.names.Starts.Starts}
+use Rattle.lft_ir.proofs.Ranges.{slice_get-drop, range-get, range-within, length-range}
+use Rattle.lft_program.specs.inner.{Extended.{Ending, dotted, hashed, endings, extended}, FullNames.{IsDotted, IsHashed, AreFullNames, AreOfProgram, AreFew}}
 use Rattle.lft_program.specs.declared.naming.{OwnName.OwnName, Placed.Placed}
 use Rattle.lft_program.proofs.{Distinct.{main, ArePaths}, Extending.{StandsAt, length-extended, extended-keeps, extended-at}}
 use Rattle.lft_program.proofs.FullNames.{later_at, all_at, are_paths, before_member, parts, parts2, parts3, parts4}

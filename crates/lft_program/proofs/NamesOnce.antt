@@ -4,7 +4,7 @@ use Rattle.std.proofs.lemmas.Option.{slice_get_within}
 use Rattle.lft_tree.specs.Identifiers.{IsName, HasIdentifiers, declared_names}
 use Rattle.lft_tree.specs.Tree.{FileTree, ReactorTree, reactors_of, ports_of, timers_of, actions_of, instances_of}
 use Rattle.lft_resolve.{specs.{Causes.{IsTwice, DeclaresTwice, DuplicateName}, Kinds.names_in}, proofs.Twice.{twice_left, Any-at, slice_get-front}}
-use Rattle.lft_program.{specs.Tables.IsLawful, proofs.{FullNames.{later_at, all_at}, Sites.AreApart}}
+use Rattle.lft_program.{specs.inner.Tables.IsLawful, proofs.{FullNames.{later_at, all_at}, Sites.AreApart}}
 
 -- the names of one kind
 abbrev pub port_names : ReactorTree → List (List ℕ)

@@ -3,10 +3,10 @@ use Rattle.std.proofs.Common.{◌≡◌, ℕ, ◌<◌, ◌≤◌, ◌⊎◌, inl
 use Rattle.std.proofs.lemmas.Bool.{cases_lt}
 use Rattle.lft_lists.proofs.{Places.push_apart, Mapped.{mapped, mapped_from}}
 use Rattle.lft_tree.specs.Tree.{FileTree, reactors_of}
-use Rattle.lft_resolve.specs.{declared.expansion.walk.Instance.Instance, Expansion.{Paths.along, Children.{child_of, IsChild}, Contents.IsAt}}
+use Rattle.lft_resolve.specs.{declared.expansion.walk.Instance.Instance, Expansion.Paths.along, inner.Expansion.{Children.{child_of, IsChild}, Contents.IsAt}}
 use Rattle.lft_resolve.specs.Instances.{Inside, IsInside, entered, main_instance}
 use Rattle.lft_resolve.proofs.ExpansionLemmas.Orders.{before_itself}
-use Rattle.lft_program.specs.{Located.Located, Nests.{IsNest, IsInstanceOf}, declared.nesting.{nest.Nest.Nest, tables.Tables.Tables}}
+use Rattle.lft_program.specs.{Located.Located, inner.Nests.{IsNest, IsInstanceOf}, declared.nesting.{nest.Nest.Nest, tables.Tables.Tables}}
 use Rattle.lft_program.proofs.{Elements.some_step, Zipping.{zip_at, zip_back}}
 
 module _ (tree : FileTree) (tables : Tables) (nest : Nest) (n : IsNest tree tables nest) where

@@ -3,7 +3,7 @@ use Rattle.std.proofs.Common.{◌≡◌, ℕ, suc, List, [], ◌∷◌, map, sli
 use Rattle.std.specs.List.{AllZip}
 use Rattle.lft_lists.proofs.{Picked.map-same, Places.Some_same}
 use Rattle.lft_tree.specs.Tree.{FileTree, PortTree, ports_of, actions_of, timers_of, reactions_of}
-use Rattle.lft_program.specs.{Located.{Located, AreLocated, Declared, declared}, Tables.IsLawful}
+use Rattle.lft_program.specs.{Located.{Located, AreLocated, Declared, declared}, inner.Tables.IsLawful}
 use Rattle.lft_program.specs.Flattening.{Flat, IsPort, IsAction, IsTimer, IsReaction, names_of}
 use Rattle.lft_program.proofs.{Listing.declared_from, OneInstances.one_located, OneName.{one_of_action, one_of_timer, one_of_reaction}, OneOrigin.one_end}
 use Rattle.lft_program.proofs.{OneSource.one_source, Zips.AllZip-one}

@@ -3,7 +3,7 @@ use Rattle.std.proofs.Common.{◌≡◌, ℕ, List, slice_get, Some, sym, ap, su
 use Rattle.lft_lists.proofs.Places.{Some_same}
 use Rattle.lft_tree.specs.Tree.{FileTree, RefTree, TriggerTree, ReactionTree, ActionTree, TimerTree, AtStartup, AtShutdown, OnRef}
 use Rattle.lft_resolve.specs.{Instances.{Thing, stands_for}, Sheets.without_timers}
-use Rattle.lft_program.specs.{Located.{Located, AreLocated, Declared, timers_in}, Tables.IsLawful}
+use Rattle.lft_program.specs.{Located.{Located, AreLocated, Declared, timers_in}, inner.Tables.IsLawful}
 use Rattle.lft_program.specs.Flattening.{Means, IsName, IsTrigger, IsAction, IsTimer, IsReaction}
 use Rattle.lft_program.proofs.{OneThing.{one_port, one_action, one_timer, port_or_timer, port_or_action, timer_or_action}, Zips.AllZip-one}
 use Rattle.lft_ir.specs.declared.parts.{Action.Action as ActionOf, Timer.Timer as TimerOf, Reaction.Reaction, Name.{Name, TheVariants.{Port, Action}}}

@@ -3,7 +3,7 @@ use Rattle.std.proofs.Common.{◌≡◌, ℕ, ◌+◌, ◌<◌, zero, suc, List,
 use Rattle.std.{specs.{Fmt.decimal, List.AllZip}, proofs.lemmas.Option.slice_get_within}
 use Rattle.lft_lists.proofs.Places.{Some_same, same_items}
 use Rattle.lft_ir.{specs.Names.ThingNames, proofs.Ranges.slice_get-drop}
-use Rattle.lft_program.specs.{FullNames.{IsDotted, IsHashed, AreFullNames, AreNested}, declared.naming.{OwnName.OwnName, Placed.Placed}}
+use Rattle.lft_program.specs.{inner.FullNames.{IsDotted, IsHashed, AreFullNames, AreNested}, declared.naming.{OwnName.OwnName, Placed.Placed}}
 use Rattle.lft_program.proofs.Zips.{AllZip-length, AllZip-from, AllZip-one}
 
 -- a name as it is made from a container's

@@ -5,9 +5,9 @@ use Rattle.lft_lists.proofs.Places.{get_left, push_apart, Some_same}
 use Rattle.lft_tree.specs.Tree.{FileTree, PortTree, InstanceTree, ConnectionTree, RefTree, reactors_of, ports_of, instances_of, connections_of}
 use Rattle.lft_resolve.specs.{Expansion.Paths.along, Causes.{IsTwice, TwoSources, WritesTwice}}
 use Rattle.lft_resolve.specs.Instances.{Inside, IsInside, Thing, thing_at, stands_for, stands_inside, time_in, Connects, entered, main_instance, reactor_named}
-use Rattle.lft_resolve.specs.{Kinds.destinations_in, Places.place, Sheets.{IsInner, port_place}}
+use Rattle.lft_resolve.specs.{Kinds.destinations_in, inner.{Places.place, Sheets.{IsInner, port_place}}}
 use Rattle.lft_resolve.proofs.{ExpansionLemmas.Orders.along_at, Effects.port_found, Placing.find-place, Twice.Any-at, Written.{own_written, inner_written}}
-use Rattle.lft_program.specs.{Located.{Located, AreLocated, Declared, ports_in}, Tables.IsLawful, Links.IsSource}
+use Rattle.lft_program.specs.{Located.{Located, AreLocated, Declared, ports_in}, inner.Tables.IsLawful, Links.IsSource}
 use Rattle.lft_program.proofs.{Counting.{total, flat_at}, Listing.Stands, Zipping.then_some, OneInstances.{InFile, in_file, one_inside, inside_at}}
 use Rattle.lft_program.proofs.{OneThing.{once_at, right_at, one_port}, Standing.{StandsInner, stands_inner, stands_once}, Entering.entered_by}
 use Rattle.lft_tag.specs.declared.Source.{Source}

@@ -3,7 +3,7 @@ use Rattle.std.proofs.Common.{◌≡◌, ℕ, suc, ◌+◌, ⊎_elim, List, [], 
 use Rattle.std.proofs.lemmas.{Bool.cases_lt, List.length-map, Option.slice_get_within}
 use Rattle.lft_program.proofs.{NamesOnce.{port_names, timer_names, action_names, instance_names}, Placed.path_once, Counting.base}
 use Rattle.lft_program.proofs.{Listing.{Stands, declared_from}, OneInstances.{in_file, inside_at}}
-use Rattle.lft_program.specs.{Located.{Located, AreLocated, Declared, declared, things, ports_in, actions_in, timers_in}, Tables.IsLawful}
+use Rattle.lft_program.specs.{Located.{Located, AreLocated, Declared, declared, things, ports_in, actions_in, timers_in}, inner.Tables.IsLawful}
 use Rattle.lft_lists.proofs.{Mapped.{mapped, mapped_from}, Places.{get_left, Some_same}}
 use Rattle.lft_tree.specs.Tree.{FileTree, ReactorTree, PortTree, TimerTree, ActionTree, reactors_of, ports_of, timers_of, actions_of}
 use Rattle.lft_resolve.{specs.{Causes.IsTwice, Instances.{Thing, thing_at}, Kinds.names_in}, proofs.Effects.names_once}

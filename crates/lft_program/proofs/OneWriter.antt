@@ -3,7 +3,7 @@ use Rattle.std.proofs.Common.{◌≡◌, ℕ, List, [], ◌∷◌, ◌++◌, fin
 use Rattle.std.specs.{Option.option_and_then, Str.bytes_eq}
 use Rattle.lft_program.proofs.{OneSource.found_at, Placed.{IsAt, inside_once}, Entered.{IsUsual, all_usual}, Standing.{StandsInner, stands_inner}}
 use Rattle.lft_program.proofs.Entering.{entered_by}
-use Rattle.lft_program.specs.{Located.{Located, AreLocated, Declared}, Tables.IsLawful}
+use Rattle.lft_program.specs.{Located.{Located, AreLocated, Declared}, inner.Tables.IsLawful}
 use Rattle.lft_lists.proofs.Places.{push_apart, Some_same}
 use Rattle.lft_tree.specs.Tree.{FileTree, ReactionTree, PortTree, RefTree, reactors_of, reactions_of, ports_of, instances_of}
 use Rattle.lft_resolve.specs.{Expansion.Paths.along, Causes.HasLongTime}

@@ -4,9 +4,9 @@ use Rattle.std.specs.{List.{AllZip, enumerate_from}, Option.option_map}
 use Rattle.std.proofs.lemmas.{Option.slice_get_within, List.{length-map, FromFn.length-enumerate_from}}
 use Rattle.lft_lists.proofs.{Mapped.{mapped, mapped_from}, Places.get_there}
 use Rattle.lft_tree.specs.Tree.{FileTree, ReactorTree, reactors_of}
-use Rattle.lft_resolve.specs.{declared.expansion.walk.Instance.Instance, Expansion.{Joins.port_at, Numbers.{count_of, things as how_many}}}
+use Rattle.lft_resolve.specs.{declared.expansion.walk.Instance.Instance, inner.Expansion.{Joins.port_at, Numbers.{count_of, things as how_many}}}
 use Rattle.lft_resolve.specs.Instances.{Thing, thing_at}
-use Rattle.lft_program.specs.{Located.{Located, Declared, declared, declared_in, things}, Nests.{IsNest, IsNumbering, IsInstanceOf}}
+use Rattle.lft_program.specs.{Located.{Located, Declared, declared, declared_in, things}, inner.Nests.{IsNest, IsNumbering, IsInstanceOf}}
 use Rattle.lft_program.specs.declared.nesting.{nest.{Nest.Nest, Numbering.Numbering}, tables.Tables.Tables}
 use Rattle.lft_program.proofs.{Counting.{total, base, declared_at}, Elements.{From, flat_back, enumerate_back}, Nested.{one_number, instance_of}}
 

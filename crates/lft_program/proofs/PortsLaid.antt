@@ -3,10 +3,9 @@ use Rattle.std.proofs.Common.{◌≡◌, ◌<◌, ℕ, Bool, List, Some, length,
 use Rattle.std.{specs.{Option.option_and_then, List.AllZip}, proofs.lemmas.List.length-map}
 use Rattle.lft_lists.proofs.Mapped.{mapped}
 use Rattle.lft_tree.specs.Tree.{FileTree, PortTree, ports_of}
-use Rattle.lft_resolve.specs.{declared.expansion.numbering.Thing.Thing, Instances.{Thing as Spoken, thing_at}, Sheets.IsDeclarations}
-use Rattle.lft_program.specs.{Links.IsSource, Located.{Declared, declared, ports_in}, Nests.IsThingOf}
-use Rattle.lft_program.specs.{declared.nesting.{linking.Linked.Linked, nest.Nest.Nest, tables.Tables.Tables}, Flattening.IsPort, Laying.{IsPortAt, input_at}}
-use Rattle.lft_program.specs.OfTree.{AreOfTree}
+use Rattle.lft_resolve.specs.{declared.expansion.numbering.Thing.Thing, Instances.{Thing as Spoken, thing_at}, inner.Sheets.IsDeclarations}
+use Rattle.lft_program.specs.{Links.IsSource, Located.{Declared, declared, ports_in}, inner.{Nests.IsThingOf, Laying.{IsPortAt, input_at}, OfTree.AreOfTree}}
+use Rattle.lft_program.specs.{declared.nesting.{linking.Linked.Linked, nest.Nest.Nest, tables.Tables.Tables}, Flattening.IsPort}
 use Rattle.lft_program.proofs.{Declared.declared_from, LaidOut.row_there, Making.{Made, made_zip}, Zips.{AllZip-from, AllZip-length}}
 use Rattle.lft_ir.specs.declared.parts.Port.{Port as PortOf}
 

@@ -4,9 +4,9 @@ use Rattle.std.proofs.lemmas.{Option.slice_get_within, List.length-map}
 use Rattle.lft_lists.proofs.{Mapped.mapped_from, Places.{get_there, get_push_cases}}
 use Rattle.lft_tree.specs.Tree.{FileTree}
 use Rattle.lft_tag.specs.declared.{Shift.Shift, Source.Source}
-use Rattle.lft_resolve.specs.{Expansion.Sources.{AreReached, Leads, Origin}, declared.expansion.origins.Reached.Reached}
+use Rattle.lft_resolve.specs.{inner.Expansion.Sources.{AreReached, Leads, Origin}, declared.expansion.origins.Reached.Reached}
 use Rattle.lft_resolve.specs.{Causes.{DelayTooLong as HasLongDelay, IsFirst, NoneHolds}, Instances.{Thing, Connects}}
-use Rattle.lft_program.specs.{Linking.{IsLinked, IsTooLong, AreLinked}, Links.{AreLinks, IsSource, last_causes}, Located.{Located, ports_in}}
+use Rattle.lft_program.specs.{inner.{Linking.{IsLinked, IsTooLong, AreLinked}, Links.{AreLinks, last_causes}}, Links.IsSource, Located.{Located, ports_in}}
 use Rattle.lft_program.specs.declared.nesting.linking.Linked.{Linked}
 use Rattle.lft_program.proofs.{Connected.{NoLongTime, TreeSources}, Cycles.{cycle_is_cause, no_cycle_no_cause}, Lengths.{long_is_cause, no_long_no_cause}}
 

@@ -3,7 +3,7 @@ use Rattle.std.proofs.Common.{◌≡◌, ℕ, suc, ◌+◌, Bool, true, false, c
 use Rattle.std.{specs.List.{zip, prefix_len}, proofs.lemmas.{Bool.{cases_lt, lt-ltb, le-ltb}, List.map-append, Slice.Eq.bytes_eq-Decides}}
 use Rattle.lft_lists.proofs.Mapped.{mapped, mapped_from, pair_at}
 use Rattle.lft_tree.specs.Tree.{ReactorTree, ConnectionTree, RefTree, TimeTree, connections_of}
-use Rattle.lft_resolve.specs.{Kinds.destinations_in, Places.place, Sheets.{Single, singles_in, singles_of}}
+use Rattle.lft_resolve.specs.{Kinds.destinations_in, inner.{Places.place, Sheets.{Single, singles_in, singles_of}}}
 use Rattle.lft_program.proofs.{Counting.{total, flat_at}, Elements.{From, flat_back, pair_back}}
 
 -- the connection that a single one is of

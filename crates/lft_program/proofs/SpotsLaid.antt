@@ -3,13 +3,14 @@ use Rattle.std.proofs.Common.{◌≡◌, ℕ, ◌≤◌, List, [], ◌∷◌, �
 use Rattle.std.{specs.{Option.{option_map, option_and_then}, List.AllZip}, proofs.lemmas.{Option.slice_get_within, List.length-map}}
 use Rattle.lft_tree.specs.Tree.{FileTree, ReactorTree, ReactionTree, RefTree, TriggerTree, AtStartup, AtShutdown, OnRef, reactors_of, ports_of, timers_of, actions_of, reactions_of}
 use Rattle.lft_lists.proofs.Mapped.{option_map_some}
-use Rattle.lft_resolve.specs.{Expansion.Joins.port_at, declared.{expansion.numbering.Thing.Thing, by_number.sheets.{Cue.Cue, Cues.Cues, Spot.Spot}}}
-use Rattle.lft_resolve.specs.{Instances.{Thing as Spoken, thing_at, stands_inside, stands_for}, Places.place}
-use Rattle.lft_resolve.specs.Sheets.{AreCues, IsCue, IsReactions, IsSpot, without_timers}
-use Rattle.lft_program.specs.{Located.{Located, Declared, declared, things}, Nests.{IsNumbering, IsThingOf}}
+use Rattle.lft_resolve.specs.inner.{Expansion.Joins.port_at, Places.place, Sheets.{AreCues, IsCue, IsReactions, IsSpot}}
+use Rattle.lft_resolve.specs.declared.{expansion.numbering.Thing.Thing, by_number.sheets.{Cue.Cue, Cues.Cues, Spot.Spot}}
+use Rattle.lft_resolve.specs.{Instances.{Thing as Spoken, thing_at, stands_inside, stands_for}, Sheets.without_timers}
+use Rattle.lft_program.specs.Located.{Located, Declared, declared, things}
+use Rattle.lft_program.specs.inner.{Nests.{IsNumbering, IsThingOf}, Laying.{Each, HasCues, HasName, HasTrigger, IsReactionAt, cues_at, name_at, trigger_at}}
+use Rattle.lft_program.specs.inner.OfTree.{AreOfTree}
 use Rattle.lft_program.specs.declared.nesting.{linking.Linked.Linked, nest.{Nest.Nest, Numbering.Numbering}, tables.Tables.Tables}
 use Rattle.lft_program.specs.Flattening.{IsName, IsReaction, IsTrigger}
-use Rattle.lft_program.specs.{Laying.{Each, HasCues, HasName, HasTrigger, IsReactionAt, cues_at, name_at, trigger_at}, OfTree.AreOfTree}
 use Rattle.lft_program.proofs.{Counting.base, Declared.declared_from, Ends.{place_at, standing}, Ports.{as_many, number_at, thing_forth}, Singles.place_forth}
 use Rattle.lft_program.proofs.{Zipping.zip_at, LaidOut.row_there, Making.{Made, made_zip}, Zips.AllZip-from}
 use Rattle.lft_ir.specs.declared.parts.{Name.{Name, TheVariants.{Port, Action}}, Reaction.Reaction}

@@ -5,12 +5,12 @@ use Rattle.lft_lists.proofs.Places.{get_there, same_some, Some_same}
 use Rattle.lft_tree.specs.Tree.{FileTree}
 use Rattle.lft_tag.specs.declared.Source.{Source}
 use Rattle.lft_resolve.specs.declared.expansion.{joins.{Connections.Connections, Site.Site, Sources.Sources}, origins.Reached.Reached, walk.Instance.Instance}
-use Rattle.lft_resolve.specs.Expansion.{Joins.{AreSites, AreSources}, Sources.{AreReached, IsFolded, IsReached, Leads, Origin, itself, over}}
-use Rattle.lft_resolve.specs.Expansion.Ways.{HaveSites, IsWayBack, LeadsBack}
+use Rattle.lft_resolve.specs.inner.Expansion.{Joins.{AreSites, AreSources}, Sources.{AreReached, IsFolded, IsReached, Leads, Origin, itself, over}}
+use Rattle.lft_resolve.specs.inner.Expansion.Ways.{HaveSites, IsWayBack, LeadsBack}
 use Rattle.lft_resolve.specs.{Causes.longest, Instances.Thing}
 use Rattle.lft_resolve.proofs.ExpansionLemmas.{Settled.leads_from, Backwards.{end_back, ring_back}}
-use Rattle.lft_program.specs.{Linking.IsTooLong, Located.{Located, ports_in}, Nests.IsNest, Tables.{AreTables, IsLawful}}
-use Rattle.lft_program.specs.{Ways.{IsJoined, IsLongChain, IsRing, LeadBack}, declared.nesting.{linking.Way.Way, nest.Nest.Nest, tables.Tables.Tables}}
+use Rattle.lft_program.specs.inner.{Linking.IsTooLong, Nests.IsNest, Tables.{AreTables, IsLawful}, Ways.{IsJoined, IsLongChain, IsRing, LeadBack}}
+use Rattle.lft_program.specs.{Located.{Located, ports_in}, declared.nesting.{linking.Way.Way, nest.Nest.Nest, tables.Tables.Tables}}
 use Rattle.lft_program.proofs.{Connected.{NoLongTime, TreeSources, joined_by, tree_sources}, Lengths.last_of}
 
 -- nothing delays what no join leads into

@@ -4,10 +4,11 @@ use Rattle.std.{specs.{Fmt.decimal, List.AllZip}, proofs.lemmas.{List.length-map
 use Rattle.lft_lists.proofs.{Places.Some_same, Mapped.{mapped, mapped_from}}
 use Rattle.lft_tree.specs.{Identifiers.{IsName, HasIdentifiers}, Tree.{FileTree, ReactorTree, reactors_of, ports_of, actions_of, timers_of, reactions_of}}
 use Rattle.lft_resolve.specs.{Kinds.names_in, Causes.IsTwice}
-use Rattle.lft_program.specs.{Located.{Located, declared, things}, Nests.IsNest, Tables.IsLawful}
+use Rattle.lft_program.specs.Located.{Located, declared, things}
+use Rattle.lft_program.specs.inner.{Nests.IsNest, Tables.IsLawful, FullNames.{IsDotted, IsHashed, AreFullNames, AreNested, AreOfProgram, AreFew, members}}
+use Rattle.lft_program.specs.inner.TreeLists.{AreLists, IsPlacedAt, Says}
 use Rattle.lft_program.specs.declared.{nesting.{nest.Nest.Nest, tables.Tables.Tables}, naming.{OwnName.OwnName, Placed.Placed}, tree_lists.Lists.Lists}
 use Rattle.lft_program.specs.Flattening.{name_of_path, name_of_thing, name_of_reaction, names_of}
-use Rattle.lft_program.specs.{FullNames.{IsDotted, IsHashed, AreFullNames, AreNested, AreOfProgram, AreFew, members}, TreeLists.{AreLists, IsPlacedAt, Says}}
 use Rattle.lft_program.proofs.{Listing.declared_from, Zipping.{zip_at, zip_long, zip_of}}
 use Rattle.lft_program.proofs.InnerNames.{first, inner_at, inner_sites, long, long_inner, path_last}
 use Rattle.lft_program.proofs.KindNames.{reactor_at, sites, few_told, placed_within, placed_once, few_placed}

@@ -3,10 +3,10 @@ use Rattle.std.proofs.Common.{◌≡◌, ℕ, List, [], Any, inl, sym, ap, ◌�
 use Rattle.std.specs.{List.AllZip, Option.option_map_or}
 use Rattle.lft_lists.proofs.Mapped.{mapped_from, option_map_some}
 use Rattle.lft_tree.specs.Tree.{FileTree, ReactorTree, InstanceTree, nanoseconds, reactors_of, instances_of}
-use Rattle.lft_resolve.specs.Expansion.{Contents.contained, Values.{defaults_of, entered as entered_by_number, given_by, values_in}}
+use Rattle.lft_resolve.specs.inner.Expansion.{Contents.contained, Values.{defaults_of, entered as entered_by_number, given_by, values_in}}
+use Rattle.lft_resolve.specs.inner.{Numbers.AreContents, Sheets.{AreGiven, AreParameters, IsGiven, IsParameters}}
 use Rattle.lft_resolve.specs.{declared.expansion.{settings.Parameters.Parameters, walk.Contents.Contents}, Causes.{HasLongTime, NoneHolds, first_causes}}
-use Rattle.lft_resolve.specs.{Instances.{Inside, entered, given_in, main_instance, reactor_named}, Numbers.AreContents}
-use Rattle.lft_resolve.specs.Sheets.{AreGiven, AreParameters, IsGiven, IsParameters}
+use Rattle.lft_resolve.specs.Instances.{Inside, entered, given_in, main_instance, reactor_named}
 use Rattle.lft_resolve.proofs.{ExpansionLemmas.Simulation.Simulates, Twice.Any-at}
 use Rattle.lft_program.proofs.{Containing.inner_at, Entering.{entered_by, enters, made_in, step_forth}}
 use Rattle.lft_program.proofs.{Giving.{defaults_short, given_short, parameters_once, values_given}, Zipping.zip_at}

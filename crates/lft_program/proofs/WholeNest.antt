@@ -1,11 +1,12 @@
 -- The nest of a tree, and the limits that it keeps.
 use Rattle.std.proofs.Common.{◌≡◌, ℕ, ◌-◌, ◌<◌, ◌≤◌, arith, inl, inr, List, length, refl, sym, ◌∙◌, subst, Result, Err, IsErrAnd, map}
 use Rattle.lft_tree.specs.Tree.{FileTree, ReactorTree, actions_of, ports_of, reactions_of, reactors_of, timers_of}
-use Rattle.lft_resolve.specs.Expansion.{Children.AreChildren, Contents.{IsWalk, contained}, Numbers.{AreFirst, HasMoreThings, things}}
-use Rattle.lft_resolve.specs.Expansion.{Paths.{Exists, IsMoreThan}, Values.{HaveValues, LeadToValues}}
-use Rattle.lft_resolve.specs.{declared.expansion.walk.{Contents.Contents, Instance.Instance}, Causes.{IsDeclaredAt, TooMany, joins_of}}
+use Rattle.lft_resolve.specs.inner.Expansion.{Children.AreChildren, Contents.{IsWalk, contained}, Numbers.{AreFirst, HasMoreThings, things}}
+use Rattle.lft_resolve.specs.inner.Expansion.Values.{HaveValues, LeadToValues}
+use Rattle.lft_resolve.specs.{Expansion.Paths.{Exists, IsMoreThan}, declared.expansion.walk.{Contents.Contents, Instance.Instance}}
+use Rattle.lft_resolve.specs.Causes.{IsDeclaredAt, TooMany, joins_of}
 use Rattle.lft_resolve.proofs.ExpansionLemmas.Things.{walk_more_things}
-use Rattle.lft_program.specs.{Limits.{HasMoreThan, IsExcess, IsFull, IsPassed, limit_of}, Nests.{IsNest, IsNumbering}, Tables.{AreTables, IsLawful}}
+use Rattle.lft_program.specs.inner.{Limits.{HasMoreThan, IsExcess, IsFull, IsPassed, limit_of}, Nests.{IsNest, IsNumbering}, Tables.{AreTables, IsLawful}}
 use Rattle.lft_program.specs.declared.nesting.limits.{Excess.Excess, LimitedKind.{LimitedKind, TheVariants.{Reactions, Ports, Connections, Actions, Timers}}}
 use Rattle.lft_program.specs.declared.nesting.{nest.{Nest.Nest, Numbering.Numbering}, tables.Tables.Tables}
 use Rattle.lft_program.proofs.Counted.{actions_counted, joins_counted, ports_counted, reactions_counted, timers_counted}

@@ -4,10 +4,10 @@ use Rattle.std.specs.Fmt.{decimal}
 use Rattle.std.proofs.lemmas.List.Elements.{All-nil, All-cons, All-head, All-tail, All-append, All-push, All-map, All-weaker, All-from_recursion}
 use Rattle.lft_lists.specs.Bytes.{is_part}
 use Rattle.lft_tree.specs.Identifiers.{IsName}
-use Rattle.lft_program.specs.{Extended.{Ending, dotted, hashed, endings, name_after, extended}, FullNames.{members, AreOfProgram, AreFew}}
+use Rattle.lft_program.specs.inner.{Extended.{Ending, dotted, hashed, endings, name_after, extended}, FullNames.{members, AreOfProgram, AreFew}}
 use Rattle.lft_program.specs.declared.naming.{OwnName.OwnName, Placed.Placed}
 use Rattle.lft_program.proofs.{Distinct.main, FullNames.all_at}
-use Rattle.lft_ir.specs.{Names.{IsNameByte, AreWords}, Places.{AreStarts, names_from}, declared.names.Starts.Starts}
+use Rattle.lft_ir.specs.{Names.{IsNameByte, AreWords}, inner.Places.{AreStarts, names_from}, declared.names.Starts.Starts}
 use Rattle.lft_ir.proofs.{Ranges.each_named, Decimals.All-decimal}
 
 -- what names are of may stand in a full name

@@ -1,16 +1,5 @@
 pub mod Located
-pub mod Refusals
-pub mod Tables
-pub mod Limits
-pub mod Nests
-pub mod Ways
 pub mod Links
-pub mod Linking
-pub mod FullNames
-pub mod Extended
 pub mod Flattening
-pub mod OfTree
 pub mod Faults
-pub mod Laying
-pub mod OwnNames
-pub mod TreeLists
+pub mod inner

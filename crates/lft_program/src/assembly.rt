@@ -3,7 +3,7 @@
 ghost use Rattle.std.specs.Prelude.{◌≡◌, Any};
 ghost use Rattle.lft_tree.specs.Tree.{FileTree, reactors_of};
 ghost use Rattle.lft_resolve.specs.Causes.{HasLongTime};
-ghost use Rattle.lft_program.specs.{Tables.IsLawful, Flattening.Flat};
+ghost use Rattle.lft_program.specs.{inner.Tables.IsLawful, Flattening.Flat};
 ghost use Rattle.lft_ir.specs.{Names.{AreDistinct, AreWords}, Sound.IsWithinLimits};
 
 use lft_ir::{Action, NameTable, Port, Program, Reaction, Timer};

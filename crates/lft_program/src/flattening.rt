@@ -2,9 +2,9 @@
 
 ghost use Rattle.std.specs.Prelude.{◌≡◌, ◌≢◌, IfOk, IfErr, OnOk};
 ghost use Rattle.lft_tree.specs.{Tree.reactors_of, View.tree_view};
-ghost use Rattle.lft_resolve.specs.{Causes.{IsFirst, NoneHolds, causes, first_causes, later_causes}, Numbers.AreContents};
-ghost use Rattle.lft_program.specs.{Tables.AreTables, Faults.{number_of, reactor_causes}, Flattening.{Flat, IsFlatOf}, OfTree.AreOfTree};
-ghost use Rattle.lft_program.specs.Refusals.{Tells, cause_of};
+ghost use Rattle.lft_resolve.specs.{Causes.{IsFirst, NoneHolds, causes, first_causes, later_causes}, inner.Numbers.AreContents};
+ghost use Rattle.lft_program.specs.{inner.{Tables.AreTables, Faults.reactor_causes, OfTree.AreOfTree, Refusals.{Tells, cause_of}}, Faults.number_of};
+ghost use Rattle.lft_program.specs.Flattening.{Flat, IsFlatOf};
 ghost use Rattle.lft_ir.specs.Parts.{Parts};
 ghost use Rattle.lft_program.specs.declared.fault.ProgramFault.TheVariants as faults;
 ghost use Rattle.lft_program.specs.declared.refusal.Refusal.TheVariants as refusals;

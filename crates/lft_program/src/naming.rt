@@ -1,8 +1,8 @@
 //! The full names of a program's things.
 
 ghost use Rattle.std.specs.Prelude.{◌≡◌, ◌<◌, ◌∷◌, [], codes, map, length, string_bytes, IfOk, OnOk};
-ghost use Rattle.lft_program.specs.{Extended.{dotted, hashed, endings, name_after, extended, AreAfter}, FullNames.{AreFullNames, AreOfProgram, AreFew}};
-ghost use Rattle.lft_ir.specs.Names.{ThingNames, HasNoTwice, AreDistinct, AreWords};
+ghost use Rattle.lft_program.specs.inner.{Extended.{dotted, hashed, endings, name_after, extended, AreAfter}, FullNames.{AreFullNames, AreOfProgram, AreFew}};
+ghost use Rattle.lft_ir.specs.{Names.{ThingNames, AreDistinct, AreWords}, inner.Names.HasNoTwice};
 
 use lft_ir::{NameTable, Starts, Texts};
 use lft_tag::NoMemory;

@@ -2,8 +2,8 @@
 
 ghost use Rattle.std.specs.Prelude.{◌≡◌, IfOk, map, filter_map, option_map};
 ghost use Rattle.lft_tree.specs.View.{member_view, member_views};
-ghost use Rattle.lft_resolve.specs.{Tests.texts, References.reactor_trees};
-ghost use Rattle.lft_program.specs.OwnNames.{name_in, name_lists, own_names};
+ghost use Rattle.lft_resolve.specs.inner.{Tests.texts, References.reactor_trees};
+ghost use Rattle.lft_program.specs.inner.OwnNames.{name_in, name_lists, own_names};
 
 use lft_tag::NoMemory;
 use lft_tree::{Member, Reactor};

@@ -2,7 +2,7 @@
 
 ghost use Rattle.std.specs.Prelude.{◌≡◌};
 ghost use Rattle.lft_validate.specs.{Findings.cause_of as cause_found, Witnesses.cause_shown};
-ghost use Rattle.lft_program.specs.{Faults.number_of, Refusals.cause_of};
+ghost use Rattle.lft_program.specs.{Faults.number_of, inner.Refusals.cause_of};
 ghost use Rattle.lft_program.specs.declared.fault.ProgramFault.TheVariants as faults;
 ghost use Rattle.lft_program.specs.declared.refusal.Refusal.TheVariants as refusals;
 
@@ -37,7 +37,7 @@ impl From<lft_tag::NoMemory> for Refusal {
 }
 
 impl From<NestFault> for Refusal {
-    ghost use Rattle.lft_program.specs.Refusals.{of_nest};
+    ghost use Rattle.lft_program.specs.inner.Refusals.{of_nest};
 
     ghost from_gives = { λ f e. e ≡ of_nest f };
 
@@ -50,7 +50,7 @@ impl From<NestFault> for Refusal {
 }
 
 impl From<LinkFault> for Refusal {
-    ghost use Rattle.lft_program.specs.Refusals.{of_links};
+    ghost use Rattle.lft_program.specs.inner.Refusals.{of_links};
 
     ghost from_gives = { λ f e. e ≡ of_links f };
 

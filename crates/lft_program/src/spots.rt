@@ -2,8 +2,8 @@
 //! of `lft_resolve::expansion` makes them of connections, by the same definitions.
 
 ghost use Rattle.std.specs.Prelude.{◌≡◌, Some, IfOk};
-ghost use Rattle.lft_resolve.specs.Expansion.Joins.{port_at, port_of};
-ghost use Rattle.lft_program.specs.Laying.{AreNames, AreTriggers, Each, HasName, HasTrigger, IsFew, name_at, trigger_at};
+ghost use Rattle.lft_resolve.specs.inner.Expansion.Joins.{port_at, port_of};
+ghost use Rattle.lft_program.specs.inner.Laying.{AreNames, AreTriggers, Each, HasName, HasTrigger, IsFew, name_at, trigger_at};
 
 use crate::nesting::{Nest, Numbering};
 use lft_ir::{Name, Names, Trigger, Triggers};

@@ -2,9 +2,9 @@
 
 ghost use Rattle.std.specs.Prelude.{◌≡◌, ◌≤◌, IfOk, length, map};
 ghost use Rattle.lft_tree.specs.Tree.{FileTree, reactors_of};
-ghost use Rattle.lft_program.specs.{Nests.IsNest, declared.nesting.tables.Tables.Tables, OwnNames.{name_lists, own_names}};
-ghost use Rattle.lft_program.specs.TreeLists.{AreLists, name_at, placed_at, seen};
-ghost use Rattle.lft_resolve.specs.References.{reactor_trees};
+ghost use Rattle.lft_program.specs.inner.{Nests.IsNest, OwnNames.{name_lists, own_names}, TreeLists.{AreLists, name_at, placed_at, seen}};
+ghost use Rattle.lft_program.specs.declared.nesting.tables.Tables.{Tables};
+ghost use Rattle.lft_resolve.specs.inner.References.{reactor_trees};
 
 use crate::naming::{OwnName, Placed};
 use crate::nesting::Nest;

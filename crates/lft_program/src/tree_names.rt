@@ -2,7 +2,7 @@
 
 ghost use Rattle.std.specs.Prelude.{◌≡◌, IfOk};
 ghost use Rattle.lft_tree.specs.{Identifiers.HasIdentifiers, View.tree_view};
-ghost use Rattle.lft_program.specs.{Nests.IsNest, Tables.{AreTables, IsLawful}, Flattening.names_of};
+ghost use Rattle.lft_program.specs.{inner.{Nests.IsNest, Tables.{AreTables, IsLawful}}, Flattening.names_of};
 ghost use Rattle.lft_ir.specs.Names.{AreDistinct, AreWords};
 
 use crate::naming::full_names;

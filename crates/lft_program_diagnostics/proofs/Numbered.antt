@@ -4,8 +4,8 @@ use Rattle.std.specs.List.{cons_option, zip}
 use Rattle.std.proofs.lemmas.{Grind.flat_map-append, List.{length-map, take-append-drop, Elements.filter_map-append}, Slice.Zip.length-zip}
 use Rattle.lft_lists.proofs.{Mapped.{mapped, pair_at}, Picked.kept_more, Places.{get_left, get_right, get_there}}
 use Rattle.lft_tree.specs.Tree.{ConnectionTree, MemberTree, RefTree, connection_in}
-use Rattle.lft_resolve.specs.Sheets.{Single, singles_in}
-use Rattle.lft_program_diagnostics.specs.Singles.{StandsAt}
+use Rattle.lft_resolve.specs.inner.Sheets.{Single, singles_in}
+use Rattle.lft_program_diagnostics.specs.inner.Singles.{StandsAt}
 
 -- the single connections of these members
 abbrev pub singles_among : List MemberTree → List Single

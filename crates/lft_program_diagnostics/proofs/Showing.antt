@@ -5,8 +5,8 @@ use Rattle.lft_tree.specs.{Tree.{FileTree, reactors_of}, View.{file_view, reacto
 use Rattle.lft_syntax.specs.declared.token.Token.{Token}
 use Rattle.lft_text_diagnostics.specs.declared.spots.Spot.{Spot}
 use Rattle.lft_validate.specs.{Witnesses.{Shows, cause_shown}, declared.witness.Witness.Witness}
-use Rattle.lft_program.specs.{Refusals.{Tells, cause_of}, declared.refusal.Refusal.Refusal}
-use Rattle.lft_program_diagnostics.specs.{Spots.{behind, reactors_among, witness_spot}, Reasons.{IsOfWhole, IsShownAt, witness_in}}
+use Rattle.lft_program.specs.{inner.Refusals.{Tells, cause_of}, declared.refusal.Refusal.Refusal}
+use Rattle.lft_program_diagnostics.specs.{inner.{Spots.behind, Reasons.witness_in}, Spots.{reactors_among, witness_spot}, Reasons.{IsOfWhole, IsShownAt}}
 use Rattle.lft_tree.specs.declared.tree.Item.TheVariants as items
 use Rattle.lft_program.specs.declared.refusal.Refusal.TheVariants as refusals
 

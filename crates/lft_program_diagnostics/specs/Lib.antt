@@ -1,5 +1,5 @@
 pub mod Spots
 pub mod Reasons
 pub mod Loops
-pub mod Singles
 pub mod Sentences
+pub mod inner

@@ -1,13 +1,11 @@
 -- What is told of a program that has a tree and is refused.
-use Rattle.std.specs.Prelude.{◌≡◌, ℕ, ◌⊎◌, List, [], ◌++◌, Option, Some, None, codes, map}
+use Rattle.std.specs.Prelude.{◌≡◌, ℕ, ◌⊎◌, List, ◌++◌, Option, codes, map}
 use Rattle.lft_tree.specs.{View.{file_view, reactor_view}, declared.tree.{Item.Item, Reactor.Reactor, TokenRange.TokenRange}}
 use Rattle.lft_syntax.specs.{declared.token.Token.Token, Lexes.Lexes, Placed.FileStands, Grammar.Spells, View.lexemes}
 use Rattle.lft_resolve.specs.Causes.{IsFirst, causes}
 use Rattle.lft_text_diagnostics.specs.{Pages.SaysSpot, declared.{pages.Page.Page, spots.Spot.Spot}}
 use Rattle.lft_validate.specs.{Witnesses.{Shows, cause_shown}, declared.witness.Witness.Witness}
-use Rattle.lft_program.specs.declared.refusal.Refusal.{Refusal}
 use Rattle.lft_program_diagnostics.specs.{Sentences.{cause_told, said, words_in}, declared.sentence.Sentence.Sentence, Spots.{reactors_among, witness_spot}}
-use Rattle.lft_program.specs.declared.refusal.Refusal.TheVariants as refusals
 
 -- the words begin with where the bytes stand, and then with this sentence
 pub record BeginsAt (t : List ℕ) (files : List Page) (spot : Option Spot) (sentence words : List ℕ) : Type 0 where
@@ -22,15 +20,6 @@ pub record HasWitnessAt (tokens : List Token) (reactors : List Reactor) (cause :
   pub shows : Shows (map reactor_view reactors) witness
   pub shows_cause : cause_shown witness ≡ cause
   pub at : spot ≡ witness_spot tokens reactors witness
-
--- the witness that a refusal has, if it has one
-abbrev pub witness_in : Refusal → Option Witness
-witness_in (refusals.Shown w) = Some w
-witness_in (refusals.Recursive places) = None
-witness_in (refusals.TooMany excess) = None
-witness_in (refusals.ConnectionCycle way) = None
-witness_in (refusals.LongChain way) = None
-witness_in refusals.NoMemory = None
 
 -- reactors that contain one another, connections that form a loop, delays that only together are too long, too many things: several places show the cause together
 abbrev pub IsOfWhole : ℕ → Type 0

@@ -1,6 +1,5 @@
 -- The bytes of a text at which what a witness shows stands.
-use Rattle.std.specs.Prelude.{ℕ, List, [], ◌++◌, Option, Some, None, map, filter_map, option_to_list, option_and_then, option_map, slice_get}
-use Rattle.std.specs.Borrow.{Bor}
+use Rattle.std.specs.Prelude.{ℕ, List, ◌++◌, Option, Some, None, map, filter_map, option_to_list, option_and_then, option_map, slice_get}
 use Rattle.lft_tree.specs.declared.tree.{TimeExpression.TimeExpression, Reference.Reference, Trigger.Trigger, Assignment.Assignment, Member.Member}
 use Rattle.lft_tree.specs.declared.tree.{Reactor.Reactor, Item.Item}
 use Rattle.lft_syntax.specs.{Placed.token_of, declared.token.Token.Token}
@@ -12,10 +11,6 @@ use Rattle.lft_tree.specs.declared.tree.Member.TheVariants as members
 use Rattle.lft_tree.specs.declared.tree.Item.TheVariants as items
 use Rattle.lft_validate.specs.declared.finding.Finding.TheVariants as finding
 use Rattle.lft_validate.specs.declared.witness.Witness.TheVariants as witness
-
--- what stands behind the references
-abbrev pub behind : {X : Type 0} → List (Bor X) → List X
-behind = map (λ x. x.now)
 
 -- the reactor that an item is, if it is one
 abbrev pub reactor_of : Item → Option Reactor

@@ -2,8 +2,8 @@
 
 ghost use Rattle.std.specs.Prelude.{IfOk, IfSome};
 ghost use Rattle.lft_validate.specs.{Findings.cause_of as cause_found, Witnesses.cause_shown};
-ghost use Rattle.lft_program.specs.Refusals.{cause_of};
-ghost use Rattle.lft_program_diagnostics.specs.Sentences.{IsOf};
+ghost use Rattle.lft_program.specs.inner.Refusals.{cause_of};
+ghost use Rattle.lft_program_diagnostics.specs.inner.Sentences.{IsOf};
 
 use crate::reason::Reason;
 use crate::refused::Refused;

@@ -1,7 +1,7 @@
 //! What is said of a reactor that contains itself.
 
 ghost use Rattle.std.specs.Prelude.{◌≡◌, IfOk, IfSome};
-ghost use Rattle.lft_program_diagnostics.specs.Sentences.{IsOf};
+ghost use Rattle.lft_program_diagnostics.specs.inner.Sentences.{IsOf};
 
 use crate::reason::Reason;
 use crate::refused::Refused;

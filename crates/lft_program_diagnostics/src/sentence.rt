@@ -1,7 +1,7 @@
 //! The sentences that tell why a program is refused.
 
 ghost use Rattle.std.specs.Prelude.{◌≡◌, ◌++◌, [], OnOk, get_or, map, option_map, string_bytes};
-ghost use Rattle.lft_program_diagnostics.specs.Sentences.{said, way_in, words_in};
+ghost use Rattle.lft_program_diagnostics.specs.{Sentences.{said, words_in}, inner.Sentences.way_in};
 
 use lft_lists::item_at;
 use lft_tag::NoMemory;

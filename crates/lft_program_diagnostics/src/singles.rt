@@ -2,8 +2,8 @@
 
 ghost use Rattle.std.specs.Prelude.{◌≡◌, ◌≤◌, Some, IfSome, IfNone, length, option_map, slice_get};
 ghost use Rattle.lft_tree.specs.{Tree.connection_in, View.{connection_view, member_view, reactor_view}};
-ghost use Rattle.lft_resolve.specs.Sheets.{Single, singles_of};
-ghost use Rattle.lft_program_diagnostics.specs.Singles.{StandsAt};
+ghost use Rattle.lft_resolve.specs.inner.Sheets.{Single, singles_of};
+ghost use Rattle.lft_program_diagnostics.specs.inner.Singles.{StandsAt};
 
 use lft_tree::{Connection, Member, Reactor};
 

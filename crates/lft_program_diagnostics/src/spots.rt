@@ -1,7 +1,8 @@
 //! Where what shows a cause stands in the text.
 
 ghost use Rattle.std.specs.Prelude.{◌≡◌, IfOk, filter_map, option_map, option_to_list, slice_get};
-ghost use Rattle.lft_program_diagnostics.specs.Spots.{behind, declared_at as the_declared_at, declaration_at as the_declaration_at, declared_in, finding_spot as the_finding_spot, given_spot as the_given_spot, member_at as the_member_at, member_of as the_member_of, name_among as the_name_among, named_at as the_named_at, named_spot as the_named_spot, names_in, parameter_at as the_parameter_at, reactor_of as the_reactor_of, reactors_among as the_reactors_among, timed_spot as the_timed_spot, times_in, witness_spot};
+ghost use Rattle.lft_program_diagnostics.specs.inner.Spots.{behind};
+ghost use Rattle.lft_program_diagnostics.specs.Spots.{declared_at as the_declared_at, declaration_at as the_declaration_at, declared_in, finding_spot as the_finding_spot, given_spot as the_given_spot, member_at as the_member_at, member_of as the_member_of, name_among as the_name_among, named_at as the_named_at, named_spot as the_named_spot, names_in, parameter_at as the_parameter_at, reactor_of as the_reactor_of, reactors_among as the_reactors_among, timed_spot as the_timed_spot, times_in, witness_spot};
 
 use lft_resolve::kinds::Role;
 use lft_syntax::Token;

@@ -5,10 +5,11 @@ ghost use Rattle.lft_tree.specs.View.{tree_view};
 ghost use Rattle.lft_syntax.specs.{Grammar.Spells, Lexes.Lexes, Placed.FileStands, View.lexemes};
 ghost use Rattle.lft_resolve.specs.Causes.{IsFirst, causes};
 ghost use Rattle.lft_validate.specs.Witnesses.{cause_shown};
-ghost use Rattle.lft_program.specs.{Faults.number_of, Refusals.{Tells, cause_of}};
-ghost use Rattle.lft_text_diagnostics.specs.Pages.{ArePages};
-ghost use Rattle.lft_program_diagnostics.specs.{Reasons.{BeginsAt, IsShownAt, IsToldIn, IsToldOf, witness_in}, Sentences.{IsOf, cause_told, sentence_of}};
-ghost use Rattle.lft_program_diagnostics.specs.Spots.{behind, reactors_among as the_reactors_among, witness_spot};
+ghost use Rattle.lft_program.specs.{Faults.number_of, inner.Refusals.{Tells, cause_of}};
+ghost use Rattle.lft_text_diagnostics.specs.inner.Pages.{ArePages};
+ghost use Rattle.lft_program_diagnostics.specs.Reasons.{BeginsAt, IsShownAt, IsToldIn, IsToldOf};
+ghost use Rattle.lft_program_diagnostics.specs.{inner.{Reasons.witness_in, Sentences.{IsOf, sentence_of}, Spots.behind}, Sentences.cause_told};
+ghost use Rattle.lft_program_diagnostics.specs.Spots.{reactors_among as the_reactors_among, witness_spot};
 ghost use Rattle.lft_program.specs.declared.refusal.Refusal.TheVariants as refusals;
 
 use crate::reason::Reason;

@@ -1,8 +1,8 @@
 //! What is said of names that are nothing.
 
 ghost use Rattle.std.specs.Prelude.{◌≡◌, IfOk, IfSome, codes};
-ghost use Rattle.lft_text_diagnostics.specs.Codes.{HasCodeWith};
-ghost use Rattle.lft_program_diagnostics.specs.Sentences.{IsOf};
+ghost use Rattle.lft_text_diagnostics.specs.inner.Codes.{HasCodeWith};
+ghost use Rattle.lft_program_diagnostics.specs.inner.Sentences.{IsOf};
 
 use crate::reason::Reason;
 use crate::refused::{Refused, Site};

@@ -2,7 +2,7 @@
 //! that is passed.
 
 ghost use Rattle.std.specs.Prelude.{IfOk, IfSome};
-ghost use Rattle.lft_program_diagnostics.specs.Sentences.{IsOf};
+ghost use Rattle.lft_program_diagnostics.specs.inner.Sentences.{IsOf};
 
 use crate::reason::Reason;
 use crate::refused::Refused;

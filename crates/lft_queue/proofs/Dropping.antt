@@ -6,7 +6,7 @@ use Rattle.std.proofs.lemmas.{Bool.false≢true, List.Elements.{All-tail, All-he
 use Rattle.lft_tag.{specs.{declared.Tag.Tag, Tags.{Before, UpTo, is_before, same_tag}}, proofs.Order.{Before-UpTo, UpTo-Before, order_cases, same_tag_true}}
 use Rattle.lft_ir.specs.{Naming.same_name, declared.parts.{Name.Name, Value.Value}}
 use Rattle.lft_lists.proofs.Places.{get_last, same_some}
-use Rattle.lft_queue.specs.{Pending.{Pending, is_after, same_key, value_of}, Keys.{Key, tag_of, pending_at, key_cmp}}
+use Rattle.lft_queue.specs.{Pending.{Pending, is_after, same_key, value_of}, inner.Keys.{Key, tag_of, pending_at, key_cmp}}
 use Rattle.lft_queue.proofs.{Entries.follows, Tests.{test_before, not_before}}
 
 -- where the first is after it, all stay

@@ -5,7 +5,7 @@ use Rattle.std.specs.{declared.cmp.Ordering.{Ordering, TheVariants.{Less, Equal,
 use Rattle.std.proofs.lemmas.{Bool.Decides.nat_tests, Map.Lookups.exact_unsigned}
 use Rattle.lft_tag.{specs.{declared.Tag.Tag, Tags.UpTo}, proofs.Comparing.{less_nat, less_then, both_equal}}
 use Rattle.lft_ir.specs.declared.parts.{Value.Value, Name.{Name, TheVariants.{Port, Action}}}
-use Rattle.lft_queue.specs.{Pending.{Pending, same_key, value_of, Becomes, IsMap}, Keys.{Key, key_of, tag_of, name_of, pending_at, key_cmp}}
+use Rattle.lft_queue.specs.{Pending.{Pending, same_key, value_of, Becomes, IsMap}, inner.Keys.{Key, key_of, tag_of, name_of, pending_at, key_cmp}}
 
 eq_nat : (a b : ℕ) → is_eq (nat_cmp a b) ≡ (a == b)
 eq_nat a b = grind (arith, nat_tests)

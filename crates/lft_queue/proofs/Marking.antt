@@ -8,7 +8,7 @@ use Rattle.lft_ir.specs.declared.parts.{Name.{Name, TheVariants.{Port, Action}},
 use Rattle.lft_ir.proofs.Naming.{named_on}
 use Rattle.lft_lists.proofs.{Members.{Mem, mem_cases, mem_left, mem_right, mem_contains, contains_mem, mem_from_filter}, Picked.take_one_more}
 use Rattle.lft_lists.proofs.Places.{get_there, at_contains, get_same, length_same, get_written, get_unwritten, get_write_cases, same_at}
-use Rattle.lft_queue.specs.Reading.{Reads, is_read, AreMarked}
+use Rattle.lft_queue.specs.inner.Reading.{Reads, is_read, AreMarked}
 
 -- the members of a list with one more at its end
 pub contains_pushed : {X : Type 0} (xs : List X) (y x : X) → Contains (xs ++ y ∷ []) x ↔ (Contains xs x ⊎ (x ≡ y))

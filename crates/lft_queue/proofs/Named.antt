@@ -5,7 +5,7 @@ use Rattle.std.specs.{declared.cmp.Ordering.{Ordering, TheVariants.{Less, Equal,
 use Rattle.std.proofs.lemmas.{Bool.{false≢true, Decides.nat_tests}, List.Kept.IsStrictlySortedBy-filter}
 use Rattle.lft_tag.{specs.{declared.Tag.Tag, Tags.{Before, UpTo, same_tag}}, proofs.Order.Before-UpTo}
 use Rattle.lft_ir.{specs.{declared.parts.{Value.Value, Name.{Name, TheVariants.Port}}, Naming.same_name}, proofs.Naming.{name_same, name_self}}
-use Rattle.lft_queue.specs.{Pending.{Pending, value_of, is_at, names_at}, Keys.{Key, key_of, tag_of, pending_at, key_cmp, AreFrom}}
+use Rattle.lft_queue.specs.{Pending.{Pending, value_of, is_at}, inner.{Pending.names_at, Keys.{Key, key_of, tag_of, pending_at, key_cmp, AreFrom}}}
 use Rattle.lft_queue.proofs.{Entries.{follows, equal_up}, Tests.{tag_apart, past}}
 
 contains_first : {X : Type 0} (x : X) (xs : List X) → Contains (x ∷ xs) x

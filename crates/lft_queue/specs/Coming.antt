@@ -1,10 +1,1 @@
-pub mod Lanes
-pub mod Shown
-pub mod Writes
-pub mod Coming
-pub mod AtOnce
-pub mod Channels
-pub mod Listeners
 pub mod AtTag
-pub mod Listens
-pub mod Unread

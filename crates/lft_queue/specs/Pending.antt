@@ -1,5 +1,5 @@
 -- What contracts see of a queue: the events that are to happen, as a map from tag and name to value.
-use Rattle.std.specs.Prelude.{◌≡◌, Bool, false, cond, ◌&&◌, List, [], ◌∷◌, map, filter, Option, Some, None}
+use Rattle.std.specs.Prelude.{◌≡◌, Bool, false, cond, ◌&&◌, List, ◌∷◌, Option, Some, None}
 use Rattle.std.specs.List.{AllPairs}
 use Rattle.lft_tag.specs.{declared.Tag.Tag, Tags.{same_tag, is_before}}
 use Rattle.lft_ir.specs.{declared.parts.{Value.Value, Name.Name}, Naming.same_name}
@@ -34,7 +34,3 @@ is_at g e = same_tag g e.tag
 -- the test of an event being after the tag
 abbrev pub is_after : Tag → Pending → Bool
 is_after g e = is_before g e.tag
-
--- the names of the events at the tag
-abbrev pub names_at : Tag → List Pending → List Name
-names_at g es = map (λ e. e.name) (filter (is_at g) es)

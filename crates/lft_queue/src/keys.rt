@@ -1,7 +1,7 @@
 //! Tags and names as keys of an ordered map.
 
 ghost use Rattle.std.specs.Prelude.{◌≡◌, ◌↔◌};
-ghost use Rattle.lft_queue.specs.Keys.{key_of, tag_of, name_of};
+ghost use Rattle.lft_queue.specs.inner.Keys.{key_of, tag_of, name_of};
 
 use lft_ir::Name;
 use lft_tag::Tag;

@@ -2,7 +2,7 @@
 
 ghost use Rattle.std.specs.Prelude.{◌≡◌, map};
 ghost use Rattle.std.specs.Iterator.{YieldsFirst, item_count};
-ghost use Rattle.lft_queue.specs.{Pending.names_at, Keys.{pending_at, AreFrom}};
+ghost use Rattle.lft_queue.specs.inner.{Pending.names_at, Keys.{pending_at, AreFrom}};
 
 use crate::keys::{Key, name_of_key, tag_of_key};
 use lft_ir::{Name, Value};
@@ -21,7 +21,7 @@ pub struct NamesAt<'a> {
 impl<'a> Model for NamesAt<'a> {
     ghost use Rattle.std.specs.Prelude.{List, map};
     ghost use Rattle.lft_ir.specs.declared.parts.Name.{Name};
-    ghost use Rattle.lft_queue.specs.{Pending.names_at, Keys.{pending_at, AreFrom}};
+    ghost use Rattle.lft_queue.specs.inner.{Pending.names_at, Keys.{pending_at, AreFrom}};
 
     ghost Value = { List Name };
 

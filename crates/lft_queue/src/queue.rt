@@ -3,7 +3,7 @@
 ghost use Rattle.std.specs.Prelude.{◌≡◌, ◌↔◌, ◌+◌, ◌-◌, ◌∷◌, [], List, length, map, filter, not, false, Some, None, IsSome, IfSome, IfNone, IfErr, OnOk, IsTrue, Contains, slice_get};
 ghost use Rattle.lft_tag.specs.Tags.{Before, UpTo};
 ghost use Rattle.lft_ir.specs.declared.parts.{Name.Name as NameOf, Value.Value as Carried};
-ghost use Rattle.lft_queue.specs.{Pending.{Pending, value_of, Becomes, IsMap, is_at, is_after}, Keys.{Key as KeyOf, tag_of, pending_at}};
+ghost use Rattle.lft_queue.specs.{Pending.{Pending, value_of, Becomes, IsMap, is_at, is_after}, inner.Keys.{Key as KeyOf, tag_of, pending_at}};
 
 use crate::keys::{Key, key, tag_of_key};
 use crate::names::NamesAt;
@@ -30,7 +30,7 @@ pub struct Queue {
 
 impl Model for Queue {
     ghost use Rattle.std.specs.Prelude.{List, map};
-    ghost use Rattle.lft_queue.specs.{Pending.Pending, Keys.pending_at};
+    ghost use Rattle.lft_queue.specs.{Pending.Pending, inner.Keys.pending_at};
 
     ghost Value = { List Pending };
 

@@ -2,7 +2,7 @@
 
 ghost use Rattle.std.specs.Prelude.{◌≡◌, ◌↔◌, ◌⊎◌, ◌<◌, ℕ, true, length, slice_get, Some, IfOk, Contains};
 ghost use Rattle.lft_ir.specs.declared.parts.Name.{Name as NameOf};
-ghost use Rattle.lft_queue.specs.Reading.{is_read, AreMarked};
+ghost use Rattle.lft_queue.specs.inner.Reading.{is_read, AreMarked};
 
 use lft_ir::{Name, Program};
 use lft_lists::item_at;

@@ -6,10 +6,11 @@ use Rattle.lft_lists.proofs.Places.{get_write_cases, get_unwritten, Some_same}
 use Rattle.lft_graph.specs.Sets.{Has}
 use Rattle.lft_tag.specs.declared.Tag.{Tag}
 use Rattle.lft_ir.specs.declared.steps.row.{Row.Row, Step.TheVariants.{Start, End}}
-use Rattle.lft_rows.{specs.{declared.slices.Slice.Slice, Slices.IsSlice}, proofs.Steps.row_eq}
+use Rattle.lft_rows.{specs.{declared.slices.Slice.Slice, inner.Slices.IsSlice}, proofs.Steps.row_eq}
 use Rattle.lft_model.specs.Runs.{start_row, end_row}
-use Rattle.lft_races.specs.{Runs.{StartsAt, EndsAt, HaveRun}, Races.{NotEnded, IsUnfinished, AreUnfinished}}
-use Rattle.lft_races.specs.Noted.{EndRuns, AreUpTo, IsNoted, AreNoted, HasUnfinished, HasOpen}
+use Rattle.lft_races.specs.Runs.{StartsAt, EndsAt}
+use Rattle.lft_races.specs.inner.{Runs.HaveRun, Races.AreUnfinished, Noted.{EndRuns, AreUpTo, IsNoted, AreNoted, HasUnfinished, HasOpen}}
+use Rattle.lft_races.specs.Races.{NotEnded, IsUnfinished}
 
 -- a row of a step and a tag
 module _ (t : List Row) (i : ℕ) (row : Row) (is_row : slice_get t i ≡ Some row) where

@@ -4,9 +4,9 @@ use native.Mathlib.Decide.{ℕ_discrete, dec_lt}
 use Rattle.lft_lists.proofs.Places.{Some_same}
 use Rattle.lft_tag.specs.declared.Tag.{Tag}
 use Rattle.lft_ir.specs.{Parts.Parts, declared.steps.row.{Row.Row, Step.TheVariants.Start}}
-use Rattle.lft_graph.specs.{Precedence.Precedes, Sets.{Has, AreAncestors}}
+use Rattle.lft_graph.specs.{Precedence.Precedes, Sets.Has, inner.Sets.AreAncestors}
 use Rattle.lft_model.proofs.Places.{slice_get_within}
-use Rattle.lft_races.specs.{Races.{IsUnfinished, IsRace, IsFirstRace}, Noted.{HasUnfinished, IsFirstIn}}
+use Rattle.lft_races.specs.{Races.{IsUnfinished, IsRace, IsFirstRace}, inner.Noted.{HasUnfinished, IsFirstIn}}
 
 -- the rows between two places are at the tag
 abbrev pub AtTag : List Row → Tag → ℕ → ℕ → Type 0

@@ -5,7 +5,7 @@ use Rattle.lft_lists.proofs.Places.{get_same, get_write_cases, get_written, get_
 use Rattle.lft_tag.specs.declared.Tag.{Tag}
 use Rattle.lft_ir.specs.declared.steps.row.Row.{Row}
 use Rattle.lft_model.{specs.Runs.start_row, proofs.Places.slice_get_within}
-use Rattle.lft_races.specs.Runs.{StartsAt, HaveRunBefore, HaveRun}
+use Rattle.lft_races.specs.{Runs.StartsAt, inner.Runs.{HaveRunBefore, HaveRun}}
 
 pub run_none : (t : List Row) (g : Tag) (n : ℕ) (ran : List Bool) → ran ≡ replicate n false → HaveRunBefore t g 0 ran
 run_none t g n ran e r = (λ q. let z : true ≡ false = get_same n r false true (ap (λ bs. slice_get bs r) (sym e) ∙ q) in absurd (cc), λ x. let l : x.0 < 0 = x.1 in absurd (omega arith))

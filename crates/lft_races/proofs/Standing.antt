@@ -4,11 +4,12 @@ use native.Mathlib.Decide.{ℕ_discrete, dec_lt}
 use Rattle.lft_lists.proofs.Places.{same_at, get_there, Some_same}
 use Rattle.lft_tag.{specs.{declared.Tag.Tag, Tags.{Before, UpTo}}, proofs.Order.{order_cases, UpTo-not, Before-UpTo}}
 use Rattle.lft_ir.specs.{Parts.Parts, declared.steps.row.{Row.Row, Step.TheVariants.{Start, End}}}
-use Rattle.lft_model.specs.{declared.breach.Breach.Breach, Plans.PlanParts, Runs.{start_row, end_row}, Breaches.{IsOpen, BreaksRow, BreaksAt, RowBreach, First}}
+use Rattle.lft_model.specs.{declared.breach.Breach.Breach, Plans.PlanParts, Runs.{start_row, end_row}, Breaches.{IsOpen, RowBreach, First}}
+use Rattle.lft_model.specs.inner.Breaches.{BreaksRow, BreaksAt}
 use Rattle.lft_model.proofs.Places.{stable, dec_both, dec_below, dec_end_at, slice_get_within, slice_get_take, slice_get_taken}
 use Rattle.lft_model.proofs.Legality.{KeepsRows, four, rising, dec_open}
-use Rattle.lft_rows.specs.Slices.{Rises}
-use Rattle.lft_races.specs.{Runs.EndsAt, Races.{FirstSoFar, NotEnded, IsUnfinished, IsRace, StandBefore, IsRaceBefore, EndLater}, Noted.EndRuns}
+use Rattle.lft_rows.specs.inner.Slices.{Rises}
+use Rattle.lft_races.specs.{Runs.EndsAt, Races.{FirstSoFar, NotEnded, IsUnfinished, IsRace, StandBefore, IsRaceBefore, EndLater}, inner.Noted.EndRuns}
 
 -- a breach of no row is the first of all
 pub first_of_tag : (plan : PlanParts) (t : List Row) (b : Breach) → FirstSoFar plan t b → b.row ≡ 0 → First plan t b

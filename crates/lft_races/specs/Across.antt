@@ -16,13 +16,6 @@ pub record StartsTwice (t : List Row) (i j : ℕ) : Type 0 where
 abbrev pub ReadsAt : List Row → Tag → ℕ → Name → ℕ → Type 0
 ReadsAt t g r n j = (w : ℕ) × (v : Value) × (slice_get t j ≡ Some (record { worker = w; tag = g; reaction = r; step = Read n v }))
 
--- the row at place j starts the run of the one at place i, and it is open there
-pub record OpensRun (t : List Row) (i j : ℕ) : Type 0 where
-  pub row : Row
-  pub is_row : slice_get t i ≡ Some row
-  pub starts : StartsAt t row.tag row.reaction j
-  pub open_since : IsOpenSince t i row.worker j
-
 -- the row at place i is of an open run, which starts in the one at place j; the one at place k between the two is at a later tag than the run, and the first such row of all
 pub record IsOpenAcross (t : List Row) (i j k : ℕ) : Type 0 where
   pub row : Row

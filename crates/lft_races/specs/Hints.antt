@@ -1,3 +1,2 @@
 pub mod Hints
-pub mod Actions
 pub mod Words

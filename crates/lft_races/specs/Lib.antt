@@ -1,5 +1,5 @@
 pub mod Runs
 pub mod Races
-pub mod Noted
 pub mod Across
 pub mod Hints
+pub mod inner

@@ -1,5 +1,5 @@
 -- Races: runs that start although one that precedes them at their tag hasn't ended.
-use Rattle.std.specs.Prelude.{◌≡◌, ◌↔◌, ℕ, ◌+◌, ◌<◌, ◌≤◌, ◌⊎◌, Bool, true, List, length, take, Option, Some, MatchOption, slice_get}
+use Rattle.std.specs.Prelude.{◌≡◌, ◌↔◌, ℕ, ◌+◌, ◌<◌, ◌≤◌, ◌⊎◌, List, length, take, Option, Some, MatchOption, slice_get}
 use Rattle.lft_tag.specs.{declared.Tag.Tag, Tags.UpTo}
 use Rattle.lft_ir.specs.{Parts.Parts, declared.steps.row.{Row.Row, Step.TheVariants.Start}}
 use Rattle.lft_graph.specs.Precedence.{Precedes}
@@ -45,10 +45,6 @@ pub record StandBefore (t : List Row) (b : Breach) (n : ℕ) : Type 0 where
 -- the first race of the rows before a breach, if there is one
 abbrev pub IsRaceBefore : PlanParts → List Row → Breach → Option ℕ → Type 0
 IsRaceBefore plan t b o = (n : ℕ) × StandBefore t b n × IsFirstRace plan.program (take n t) o
-
--- of each reaction whether it has a run at g that no row before place i ends
-abbrev pub AreUnfinished : List Row → Tag → ℕ → List Bool → Type 0
-AreUnfinished t g i marks = (a : ℕ) → (slice_get marks a ≡ Some true) ↔ IsUnfinished t g a i
 
 -- each run that starts before place n ends in a later row
 abbrev pub EndLater : List Row → ℕ → Type 0

@@ -1,8 +1,8 @@
 -- Where runs start, end and are open, and which reactions run at a tag.
-use Rattle.std.specs.Prelude.{◌≡◌, ◌↔◌, ℕ, ◌<◌, Bool, true, List, Some, slice_get}
+use Rattle.std.specs.Prelude.{◌≡◌, ℕ, ◌<◌, List, Some, slice_get}
 use Rattle.lft_tag.specs.declared.Tag.{Tag}
 use Rattle.lft_ir.specs.declared.steps.row.Row.{Row}
-use Rattle.lft_model.specs.Runs.{Ran, start_row, end_row}
+use Rattle.lft_model.specs.Runs.{start_row, end_row}
 
 -- the row at place p starts a run of r at g
 abbrev pub StartsAt : List Row → Tag → ℕ → ℕ → Type 0
@@ -19,11 +19,3 @@ pub record IsOpenSince (t : List Row) (i w j : ℕ) : Type 0 where
   pub before : j < i
   pub starts : slice_get t j ≡ Some (start_row w tag reaction)
   pub not_ended : (k : ℕ) → j < k → k < i → ¬ (slice_get t k ≡ Some (end_row w tag reaction))
-
--- of each reaction whether it has a run at g, by the rows before place i
-abbrev pub HaveRunBefore : List Row → Tag → ℕ → List Bool → Type 0
-HaveRunBefore t g i ran = (r : ℕ) → (slice_get ran r ≡ Some true) ↔ ((j : ℕ) × (j < i) × StartsAt t g r j)
-
--- of each reaction whether it has a run at g
-abbrev pub HaveRun : List Row → Tag → List Bool → Type 0
-HaveRun t g ran = (r : ℕ) → (slice_get ran r ≡ Some true) ↔ Ran t g r

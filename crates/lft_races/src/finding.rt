@@ -2,9 +2,9 @@
 
 ghost use Rattle.std.specs.Prelude.{◌≡◌, ◌↔◌, ◌+◌, ◌/◌, ◌<◌, ◌≤◌, length, IsTrue, IfOk};
 ghost use Rattle.lft_ir.specs.Parts.{Parts};
-ghost use Rattle.lft_graph.specs.Sets.{AreAncestors};
-ghost use Rattle.lft_rows.specs.Slices.{IsSlice, Rises};
-ghost use Rattle.lft_races.specs.{Races.{IsRace, IsFirstRace}, Noted.{AreBelow, AreNoted, AreUpTo, EndRuns, HasUnfinished, IsFirstIn}};
+ghost use Rattle.lft_graph.specs.inner.Sets.{AreAncestors};
+ghost use Rattle.lft_rows.specs.inner.Slices.{IsSlice, Rises};
+ghost use Rattle.lft_races.specs.{Races.{IsRace, IsFirstRace}, inner.Noted.{AreBelow, AreNoted, AreUpTo, EndRuns, HasUnfinished, IsFirstIn}};
 
 use crate::noting::{note_ends, open_runs, unfinish};
 use crate::slicing::slice_from;

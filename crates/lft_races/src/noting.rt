@@ -1,8 +1,8 @@
 //! Which runs at a tag no row ends, by its rows from the last one on.
 
 ghost use Rattle.std.specs.Prelude.{◌≡◌, ◌+◌, ◌/◌, ◌<◌, ◌≤◌, length, IfOk};
-ghost use Rattle.lft_rows.specs.Slices.{IsSlice};
-ghost use Rattle.lft_races.specs.Noted.{AreBelow, AreNoted, AreUpTo, EndRuns, HasOpen, HasUnfinished};
+ghost use Rattle.lft_rows.specs.inner.Slices.{IsSlice};
+ghost use Rattle.lft_races.specs.inner.Noted.{AreBelow, AreNoted, AreUpTo, EndRuns, HasOpen, HasUnfinished};
 
 use lft_graph::Set;
 use lft_ir::steps::{Row, is_end, is_start, row_at};

@@ -4,7 +4,7 @@ ghost use Rattle.std.specs.Prelude.{◌≡◌, ◌↔◌, ◌<◌, ℕ, Some, le
 ghost use Rattle.lft_tag.specs.{declared.Tag.Tag as TheTag, Tags.Before};
 ghost use Rattle.lft_ir.specs.declared.steps.row.Row.{Row as TheRow};
 ghost use Rattle.lft_model.specs.{Breaches.{IsLate, IsOpen, WasStarted, WasRead}, Runs.end_row};
-ghost use Rattle.lft_races.specs.{Runs.{StartsAt, IsOpenSince}, Across.{OpensRun, ReadsAt}};
+ghost use Rattle.lft_races.specs.{Runs.{StartsAt, IsOpenSince}, inner.Across.OpensRun, Across.ReadsAt};
 
 use crate::runs::is_start_at;
 use lft_ir::Name;

@@ -3,7 +3,7 @@
 ghost use Rattle.std.specs.Prelude.{◌≡◌, ◌↔◌, ◌+◌, ◌<◌, ◌≤◌, ℕ, Some, length, slice_get, IsTrue, IfOk};
 ghost use Rattle.lft_ir.specs.declared.steps.row.Row.{Row as TheRow};
 ghost use Rattle.lft_model.specs.Runs.{Ran};
-ghost use Rattle.lft_races.specs.Runs.{StartsAt, HaveRunBefore, HaveRun};
+ghost use Rattle.lft_races.specs.{Runs.StartsAt, inner.Runs.{HaveRunBefore, HaveRun}};
 
 use lft_ir::steps::{Row, is_start, row_at};
 use lft_tag::{NoMemory, Tag};

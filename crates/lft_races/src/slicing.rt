@@ -1,8 +1,8 @@
 //! The rows of a tag.
 
 ghost use Rattle.std.specs.Prelude.{◌≡◌, ◌<◌, length};
-ghost use Rattle.lft_rows.specs.Slices.{IsSlice, Rises};
-ghost use Rattle.lft_races.specs.Noted.{IsNew};
+ghost use Rattle.lft_rows.specs.inner.Slices.{IsSlice, Rises};
+ghost use Rattle.lft_races.specs.inner.Noted.{IsNew};
 
 use lft_ir::steps::{Row, row_at};
 use lft_rows::Slice;

@@ -1,7 +1,7 @@
 //! Which runs at a tag haven't ended.
 
 ghost use Rattle.std.specs.Prelude.{◌≡◌, ◌+◌, ◌<◌, ◌≤◌, length, IfOk};
-ghost use Rattle.lft_races.specs.{Races.AreUnfinished, Noted.AreBelow};
+ghost use Rattle.lft_races.specs.inner.{Races.AreUnfinished, Noted.AreBelow};
 
 use crate::runs::runs_at;
 use lft_ir::steps::{Row, is_end, row_at};

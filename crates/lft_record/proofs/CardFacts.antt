@@ -8,10 +8,10 @@ use Rattle.csv.specs.Records.{fields_of}
 use Rattle.lft_ir.specs.Parts.{Parts}
 use Rattle.lft_resolve.proofs.Placing.{not_some}
 use Rattle.lft_record.specs.CardTables.{AreTold, CardsFail, FaultAt, IsAgain, IsCard, IsScript, card_tables, entries_of, entry_bodies, entry_of, entry_state, entry_step, header}
-use Rattle.lft_record.specs.Scripts.{Adds, blank, is_taken, with_entry}
+use Rattle.lft_record.specs.{inner.Scripts.{Adds, is_taken, with_entry}, Scripts.blank}
 use Rattle.lft_record.specs.declared.cards.{card.{Card.Card, CardStep.CardStep, CardEntry.CardEntry}, Script.Script, expression.Term.Term}
 use Rattle.lft_record.specs.declared.cards.fault.CardFault.{CardFault}
-use Rattle.lft_trace.specs.{Records.{IsNext, IsUnread, records_of}, declared.records.Records.Records}
+use Rattle.lft_trace.specs.{inner.Records.{IsNext, IsUnread}, Records.records_of, declared.records.Records.Records}
 use Rattle.lft_trace.proofs.TableFacts.{Read, Texts, bad as bad_record, one_more as read_more, start as first}
 use Rattle.lft_record.specs.declared.cards.card.CardEntry.TheVariants as entry
 use Rattle.lft_record.specs.declared.cards.fault.CardFault.TheVariants as fault

@@ -1,5 +1,5 @@
 -- What a recording writes, and why it ends before its plan.
-use Rattle.std.specs.Prelude.{◌≡◌, ◌≢◌, ◌≤◌, ◌⊎◌, ℕ, ℤ, List, [], Option, None}
+use Rattle.std.specs.Prelude.{◌≡◌, ◌≢◌, ◌≤◌, ◌⊎◌, ℕ, ℤ, List, Option, None}
 use Rattle.std.specs.Io.KnownBytes.{Appends, Keeps}
 use Rattle.lft_tag.specs.declared.Tag.{Tag}
 use Rattle.lft_ir.specs.{Parts.Parts, declared.{parts.Value.Value, steps.row.Row.Row}}
@@ -22,11 +22,6 @@ pub record Writes (program : Parts) (rows : List Row) (old new : Option (List �
   pub plain : text ≡ table_text program rows
   pub table : Table program (records_of text) rows
   pub written : Appends old new text
-
--- the trace table of the rows wasn't written: a growth was refused, and nothing was written, or the writer failed, and took a front of it
-pub data TableRefusal (program : Parts) (rows : List Row) (old new : Option (List ℕ)) (f : Fault) : Type 0 where
-  by_growth : f.part ≡ part.Memory → f.number ≡ 1 → Keeps old new → TableRefusal program rows old new f
-  by_writer : f.part ≡ part.Write → f.number ≡ 1 → AppendsFront old new (table_text program rows) → TableRefusal program rows old new f
 
 -- the plan was recorded to its stop as legal rows by a lawful number of workers, in no more runs than are allowed, and the ended runs follow the law
 pub record IsWhole (law : AnswerLaw) (plan : PlanParts) (workers max_runs : ℕ) (rows : List Row) : Type 0 where

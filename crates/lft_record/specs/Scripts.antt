@@ -1,37 +1,16 @@
 -- Scripts by reaction: what cards add to them, and what they answer.
-use Rattle.std.specs.Prelude.{◌≡◌, ◌≢◌, ◌++◌, ◌∷◌, ℕ, ℤ, Bool, false, true, not, is_some, List, [], length, map, slice_get, option_and_then, option_map, unwrap_or, Option, Some, None}
+use Rattle.std.specs.Prelude.{◌≡◌, ℕ, ℤ, List, map, slice_get, option_and_then, option_map, unwrap_or, Option, None}
 use Rattle.lft_tag.specs.declared.Tag.{Tag}
 use Rattle.lft_ir.specs.declared.{parts.Value.{Value, TheVariants.{Bare, Int}}, steps.row.Step.Step}
 use Rattle.lft_pool.specs.declared.bodies.done.Done.{Done}
-use Rattle.lft_record.specs.Expressions.{expression_value}
-use Rattle.lft_record.specs.declared.cards.{card.{Card.Card, CardStep.CardStep, CardValue.CardValue, CardEntry.CardEntry}, Script.Script}
+use Rattle.lft_record.specs.{Expressions.expression_value, declared.cards.{card.{CardStep.CardStep, CardValue.CardValue}, Script.Script}}
 use Rattle.lft_ir.specs.declared.steps.row.Step.TheVariants as row
 use Rattle.lft_record.specs.declared.cards.card.CardStep.TheVariants as step
 use Rattle.lft_record.specs.declared.cards.card.CardValue.TheVariants as content
-use Rattle.lft_record.specs.declared.cards.card.CardEntry.TheVariants as entry
 
 -- a script of a reaction without cards
 abbrev pub blank : Script
 blank = record { bodies = None; steps = []; state = None }
-
--- whether the script has a number of bodies, or a word, where the entry tells one
-abbrev pub is_taken : Script → CardEntry → Bool
-is_taken script (entry.Bodies n) = is_some script.bodies
-is_taken script (entry.Step s) = false
-is_taken script (entry.State terms) = is_some script.state
-
--- the script with one more entry
-abbrev pub with_entry : Script → CardEntry → Script
-with_entry script (entry.Bodies n) = record script { bodies = Some n }
-with_entry script (entry.Step s) = record script { steps = script.steps ++ (s ∷ []) }
-with_entry script (entry.State terms) = record script { state = Some terms }
-
--- the card is added to the script of its reaction, if that hasn't got what it tells; the others stay
-pub record Adds (old new : List Script) (card : Card) (is_new : Bool) : Type 0 where
-  pub free : (script : Script) → slice_get old card.reaction ≡ Some script → is_new ≡ not (is_taken script card.entry)
-  pub added : (script : Script) → slice_get old card.reaction ≡ Some script → is_new ≡ true → slice_get new card.reaction ≡ Some (with_entry script card.entry)
-  pub others : (r : ℕ) → r ≢ card.reaction → slice_get new r ≡ slice_get old r
-  pub long : length new ≡ length old
 
 -- how many bodies a reaction has
 abbrev pub bodies_at : List Script → ℕ → ℕ

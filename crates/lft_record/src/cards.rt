@@ -1,7 +1,7 @@
 //! The cards of a program, gathered by reaction.
 
 ghost use Rattle.std.specs.Prelude.{◌≡◌, ◌≢◌, ◌<◌, length, slice_get, Some, None, true, false, not, IfOk, IfSome, IfNone, All};
-ghost use Rattle.lft_record.specs.Scripts.{Adds, bodies_at, blank, is_taken, with_entry};
+ghost use Rattle.lft_record.specs.{inner.Scripts.{Adds, is_taken, with_entry}, Scripts.{bodies_at, blank}};
 
 mod answer;
 mod card;

@@ -2,7 +2,7 @@
 
 ghost use Rattle.std.specs.Prelude.{◌≡◌, OnOk, IfErr, length};
 ghost use Rattle.lft_ir.specs.Steps.Fits.{RowsFit};
-ghost use Rattle.lft_record.specs.Recordings.{IsRecorded, RecordRefusal, TableRefusal, Writes};
+ghost use Rattle.lft_record.specs.{Recordings.{IsRecorded, RecordRefusal, Writes}, inner.Recordings.TableRefusal};
 
 use crate::fault::stop_fault;
 use lft_ir::steps::Rows;

@@ -12,3 +12,4 @@ pub mod Shortened
 pub mod Told
 pub mod Explained
 pub mod Quotes
+pub mod inner

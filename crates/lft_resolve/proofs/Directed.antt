@@ -2,8 +2,8 @@
 use Rattle.std.proofs.Common.{◌≡◌, ℕ, zero, suc, Bool, true, false, cond, List, [], ◌∷◌, map, slice_get, find, Option, Some, None, option_map, IsSomeAnd, MatchOption, Bor, bytes_eq, refl, sym, ap, subst, ◌∙◌}
 use Rattle.std.specs.{List.AllZip, Option.option_and_then}
 use Rattle.lft_tree.specs.Tree.{ReactorTree, InstanceTree, instances_of, ports_of}
-use Rattle.lft_resolve.specs.{Directories.inner_ref, Instances.reactor_named, Kinds.inner_kind, Numbers.IsNumberOf, Places.place}
-use Rattle.lft_resolve.specs.Sheets.{IsInner, instance_place, port_place}
+use Rattle.lft_resolve.specs.inner.{Directories.inner_ref, Numbers.IsNumberOf, Places.place, Sheets.{IsInner, instance_place, port_place}}
+use Rattle.lft_resolve.specs.{Instances.reactor_named, Kinds.inner_kind}
 use Rattle.lft_resolve.proofs.{Files.{AllZip-past, inner_nowhere}, Placing.{find-place, place_found}}
 
 module _ {A B : Type 0} (R : A → B → Type 0) where

@@ -2,7 +2,7 @@
 use Rattle.std.proofs.Common.{◌≡◌, ℕ, zero, suc, Bool, true, false, cond, List, [], ◌∷◌, ◌++◌, slice_get, find, is_some, Option, Some, None, option_map, MatchOption, Bor, String, string_bytes, bytes_eq, refl, sym, ap, subst, ◌∙◌}
 use Rattle.std.specs.{List.{AllZip, cons_option}, Option.option_and_then}
 use Rattle.lft_tree.specs.Tree.{ReactorTree, InstanceTree, instances_of, ports_of}
-use Rattle.lft_resolve.specs.{Instances.{is_called, reactor_named}, Kinds.{inner_kind, inner_port}, Places.place, Tables.{IsOutside, with_name}}
+use Rattle.lft_resolve.specs.{Instances.{is_called, reactor_named}, Kinds.{inner_kind, inner_port}, inner.{Places.place, Tables.{IsOutside, with_name}}}
 use Rattle.lft_resolve.specs.declared.{file.Outside.Outside, kinds.Kind.Kind}
 use Rattle.lft_resolve.proofs.NamedReactors.{named}
 

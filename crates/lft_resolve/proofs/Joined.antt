@@ -2,8 +2,9 @@
 use Rattle.std.proofs.Common.{◌≡◌, ℕ, ◌+◌, ◌<◌, zero, suc, min, List, [], ◌∷◌, ◌++◌, map, flat_map, take, length, get_or, Option, None, Any, ◌⊎◌, inl, inr, ⊎_elim, append_assoc, option_to_list, refl, sym, ap, subst, ◌∙◌, arith}
 use Rattle.std.specs.List.{AllZip, zip}
 use Rattle.lft_resolve.proofs.{Lacking.Any-flat_map, Files.AllZip-last, Somes.{Any-nil, Any-head, Any-tail, Any-cases, Any-right, some_here}}
-use Rattle.lft_resolve.specs.{Causes.{IsMisplaced, IsMisplacedTime, IsUnknownTime, UnknownName, WrongPlace}, Directories.{HasLost, IsLost, IsLostTime, LosesIn}}
-use Rattle.lft_resolve.specs.{Kinds.{connection_refs, in_role, kind_of, reaction_refs, refs_in, timer_times, times_in}, Sheets.Single, declared.kinds.Role.Role}
+use Rattle.lft_resolve.specs.Causes.{IsMisplaced, IsMisplacedTime, IsUnknownTime, UnknownName, WrongPlace}
+use Rattle.lft_resolve.specs.inner.{Directories.{HasLost, IsLost, IsLostTime, LosesIn}, Sheets.Single}
+use Rattle.lft_resolve.specs.{Kinds.{connection_refs, in_role, kind_of, reaction_refs, refs_in, timer_times, times_in}, declared.kinds.Role.Role}
 use Rattle.lft_tree.specs.Tree.{ReactorTree, ConnectionTree, RefTree, TimeTree, actions_of, connections_of, instances_of, reactions_of, timers_of}
 
 -- the single connections of two lists of names, seen by view

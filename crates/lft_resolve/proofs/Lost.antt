@@ -2,9 +2,9 @@
 use Rattle.std.proofs.Common.{◌≡◌, ◌≢◌, ℕ, Bool, true, false, List, Option, Some, None, inl, inr, find, is_some, option_map, MatchOption, bytes_eq, refl, sym, ap, subst, ◌∙◌}
 use Rattle.std.specs.Option.{option_and_then}
 use Rattle.lft_tree.specs.Tree.{ReactorTree, ParameterTree, PortTree, TimerTree, ActionTree, InstanceTree, RefTree, Named, ports_of, timers_of, actions_of, instances_of}
-use Rattle.lft_resolve.specs.{Directories.{IsLost, IsLostTime, IsTimerAt, Lacks, is_port, is_spot}, Instances.reactor_named}
-use Rattle.lft_resolve.specs.Kinds.{inner_port, kind_inside, kind_of, may_stand, or_else, own_kind, own_port}
-use Rattle.lft_resolve.specs.Sheets.{action_place, is_timer, parameter_place, port_place, timer_place}
+use Rattle.lft_resolve.specs.inner.Directories.{IsLost, IsLostTime, IsTimerAt, Lacks, is_port, is_spot}
+use Rattle.lft_resolve.specs.inner.Sheets.{action_place, parameter_place, port_place, timer_place}
+use Rattle.lft_resolve.specs.{Instances.reactor_named, Kinds.{inner_port, kind_inside, kind_of, may_stand, or_else, own_kind, own_port}, Sheets.is_timer}
 use Rattle.lft_resolve.specs.declared.kinds.Kind.{Kind}
 use Rattle.lft_resolve.specs.declared.kinds.Kind.TheVariants.{OwnParameter, OwnInput, OwnOutput, OwnTimer, OwnAction, OwnInstance, InnerInput, InnerOutput}
 use Rattle.lft_resolve.specs.declared.kinds.Role.{Role, TheVariants.{Read, Effect, Source, Destination}}

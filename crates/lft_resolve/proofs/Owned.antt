@@ -2,7 +2,7 @@
 use Rattle.std.proofs.Common.{◌≡◌, ℕ, List, [], ◌++◌, map, slice_get, append_assoc, append-nil, sym, ap, ◌∙◌}
 use Rattle.std.specs.Option.{option_and_then}
 use Rattle.lft_tree.specs.Tree.{ReactorTree, ports_of, timers_of, actions_of, instances_of}
-use Rattle.lft_resolve.specs.{Kinds.{or_else, own_kind, own_port, kinds_in, names_in}, Places.place}
+use Rattle.lft_resolve.specs.{Kinds.{or_else, own_kind, own_port, names_in}, inner.{Kinds.kinds_in, Places.place}}
 use Rattle.lft_resolve.specs.declared.kinds.Kind.{Kind, TheVariants.{OwnParameter, OwnTimer, OwnAction, OwnInstance}}
 use Rattle.lft_resolve.proofs.Placing.{find-places, or_else-none}
 

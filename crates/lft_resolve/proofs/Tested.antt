@@ -1,6 +1,6 @@
 -- What a set has after one more element, where a test says what is in it.
 use Rattle.std.proofs.Common.{◌≡◌, Bool, true, false, cond, not, List, [], ◌∷◌, ◌++◌, Any, ◌⊎◌, inl, inr, ⊎_elim, refl, sym, ap, subst, ◌∙◌, Decides}
-use Rattle.lft_resolve.{specs.Tests.IsTestOf, proofs.Somes.{Any-nil, Any-head, Any-left, Any-right, Any-append_cases, Any-cases}}
+use Rattle.lft_resolve.{specs.inner.Tests.IsTestOf, proofs.Somes.{Any-nil, Any-head, Any-left, Any-right, Any-append_cases, Any-cases}}
 
 pub test_none : {X : Type 0} (test : X → Bool) → ((q : X) → test q ≡ false) → IsTestOf test []
 test_none {X} test none = record { known = λ q e. (let f = none q in absurd (cc)); passes = λ q a. absurd (Any-nil (λ z. z ≡ q) a) }

@@ -4,7 +4,7 @@ use Rattle.std.specs.Option.{option_map, option_and_then}
 use Rattle.lft_resolve.proofs.{Effects.Any-flat, Placing.place_found, Somes.Any-right, Twice.Any-at}
 use Rattle.lft_resolve.specs.{Causes.{UnknownName, NamesNothing, WrongPlace, Misplaces, IsMisplaced}, Instances.reactor_named}
 use Rattle.lft_resolve.specs.Kinds.{inner_kind, own_port, inner_port, or_else, kind_of, kind_inside, refs_in, in_role, may_stand, reaction_refs, connection_refs}
-use Rattle.lft_resolve.specs.Sheets.{IsInner, port_place}
+use Rattle.lft_resolve.specs.inner.Sheets.{IsInner, port_place}
 use Rattle.lft_resolve.specs.declared.kinds.Kind.{Kind, TheVariants.{OwnParameter, OwnTimer, OwnAction, OwnInstance}}
 use Rattle.lft_resolve.specs.declared.kinds.Role.{Role, TheVariants.{Source, Destination}}
 use Rattle.lft_lists.proofs.Mapped.{mapped}

@@ -1,10 +1,1 @@
 pub mod Paths
-pub mod Contents
-pub mod Sources
-pub mod Ways
-pub mod Marks
-pub mod Numbers
-pub mod Children
-pub mod Values
-pub mod Joins
-pub mod Listing

@@ -96,10 +96,6 @@ times_in r = flat_map timer_times (timers_of r) ++ flat_map (λ a. option_to_lis
 abbrev pub names_in : ReactorTree → List (List ℕ)
 names_in r = map (λ x. x.name) r.parameters ++ map (λ x. x.name) (ports_of r) ++ map (λ x. x.name) (timers_of r) ++ map (λ x. x.name) (actions_of r) ++ map (λ x. x.name) (instances_of r)
 
--- and what they are, in the same order
-abbrev pub kinds_in : ReactorTree → List Kind
-kinds_in r = map (λ x. OwnParameter) r.parameters ++ map (λ x. own_port x.is_input) (ports_of r) ++ map (λ x. OwnTimer) (timers_of r) ++ map (λ x. OwnAction) (actions_of r) ++ map (λ x. OwnInstance) (instances_of r)
-
 -- the destinations of a reactor's connections
 abbrev pub destinations_in : ReactorTree → List RefTree
 destinations_in r = flat_map (λ c. c.destinations) (connections_of r)

@@ -1,13 +1,7 @@
 pub mod Causes
-pub mod Directories
-pub mod Hashing
 pub mod Instances
 pub mod Kinds
-pub mod Lacking
-pub mod Numbers
 pub mod Places
-pub mod References
 pub mod Sheets
-pub mod Tables
-pub mod Tests
 pub mod Expansion
+pub mod inner

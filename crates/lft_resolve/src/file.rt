@@ -2,7 +2,7 @@
 
 ghost use Rattle.std.specs.Prelude.{◌≡◌, List, IfOk, MatchOption, Some, None, find, is_some, option_map, bytes_eq};
 ghost use Rattle.lft_tree.specs.{Tree.{ReactorTree, ports_of}, View.{reactor_view, ref_view}};
-ghost use Rattle.lft_resolve.specs.{Instances.reactor_named, Kinds.{inner_port, kind_of}, References.reactor_trees, Tables.{IsFile, IsOutside, IsOwn}};
+ghost use Rattle.lft_resolve.specs.{Instances.reactor_named, Kinds.{inner_port, kind_of}, inner.{References.reactor_trees, Tables.{IsFile, IsOutside, IsOwn}}};
 
 use crate::index::Index;
 use crate::kinds::Kind;

@@ -1,7 +1,7 @@
 //! How names hash that are looked up.
 
 ghost use Rattle.std.specs.Prelude.{◌≡◌};
-ghost use Rattle.lft_resolve.specs.{Hashing.{for_references, for_texts, seeded_by}, References.ref_trees, Tests.texts};
+ghost use Rattle.lft_resolve.specs.inner.{Hashing.{for_references, for_texts, seeded_by}, References.ref_trees, Tests.texts};
 
 use lft_tree::Reference;
 use std::hash::{BuildHasher, DefaultHasher, FoldHasher, Hash, Hasher};

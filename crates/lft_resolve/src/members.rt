@@ -3,7 +3,7 @@
 ghost use Rattle.std.specs.Prelude.{◌≡◌, filter_map, option_map, IfOk};
 ghost use Rattle.lft_tree.specs.Tree.{reactor_in, connection_in, reaction_in, instance_in, timer_in, action_in, port_in};
 ghost use Rattle.lft_tree.specs.View.{item_view, item_views, member_view, member_views, reactor_view, connection_view, reaction_view, instance_view, timer_view, action_view, port_view};
-ghost use Rattle.lft_resolve.specs.References.{reactor_trees, connection_trees, reaction_trees, instance_trees, timer_trees, action_trees, port_trees};
+ghost use Rattle.lft_resolve.specs.inner.References.{reactor_trees, connection_trees, reaction_trees, instance_trees, timer_trees, action_trees, port_trees};
 
 use lft_tag::NoMemory;
 use lft_tree::{Action, Connection, Instance, Item, Member, Port, Reaction, Reactor, Timer};

@@ -2,7 +2,7 @@
 
 ghost use Rattle.std.specs.Prelude.{◌≡◌, ◌++◌, IfOk, OnOk, map, filter_map, option_map};
 ghost use Rattle.lft_tree.specs.View.{member_view, member_views, parameter_view, reactor_view};
-ghost use Rattle.lft_resolve.specs.{Kinds.names_in, References.reactor_trees, Tests.{name_in, texts}};
+ghost use Rattle.lft_resolve.specs.{Kinds.names_in, inner.{References.reactor_trees, Tests.{name_in, texts}}};
 
 use lft_tag::NoMemory;
 use lft_tree::{Member, Parameter, Reactor};

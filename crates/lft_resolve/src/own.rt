@@ -2,7 +2,7 @@
 
 ghost use Rattle.std.specs.Prelude.{◌≡◌, ◌++◌, IfOk, OnOk, map, filter_map, find, option_map, bytes_eq};
 ghost use Rattle.lft_tree.specs.{Tree.{ReactorTree, instances_of}, View.{instance_view, member_view, member_views, parameter_view, reactor_view}};
-ghost use Rattle.lft_resolve.specs.{Kinds.{kinds_in, own_kind}, Tables.{IsOwn, kind_in}, declared.kinds.Kind.TheVariants.OwnParameter};
+ghost use Rattle.lft_resolve.specs.{inner.{Kinds.kinds_in, Tables.{IsOwn, kind_in}}, Kinds.own_kind, declared.kinds.Kind.TheVariants.OwnParameter};
 
 use crate::index::Index;
 use crate::kinds::Kind;

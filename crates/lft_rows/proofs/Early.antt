@@ -4,7 +4,7 @@ use native.Mathlib.Decide.{ℕ_discrete}
 use Rattle.lft_tag.{specs.{declared.Tag.Tag, Tags.{Before, UpTo}}, proofs.Order.{UpTo-refl, UpTo-trans}}
 use Rattle.lft_ir.specs.declared.steps.row.Row.{Row}
 use Rattle.lft_model.specs.{Runs.start_row, Breaches.IsLate}
-use Rattle.lft_rows.specs.Passes.{IsLatest, LastStart}
+use Rattle.lft_rows.specs.inner.Passes.{IsLatest, LastStart}
 
 -- rule 1 by the latest tag
 pub late_of : (t : List Row) (i : ℕ) (row : Row) (last : Tag) → IsLatest t i last → Before row.tag last → IsLate t i row

@@ -4,7 +4,7 @@ use Rattle.lft_tag.{specs.declared.Tag.Tag, proofs.Order.UpTo-not}
 use Rattle.lft_lists.proofs.Places.{get_left, get_append_cases}
 use Rattle.lft_ir.specs.declared.{parts.Name.Name, steps.row.{Row.Row, Step.{Step, TheVariants.{Start, Read, Write, Schedule, Stop, End}}}}
 use Rattle.lft_model.specs.{Plans.PlanParts, Runs.{start_row, end_row}, Breaches.{IsOpen, IsOutOfOrder, IsUndeclared, BreaksRowUntil}}
-use Rattle.lft_rows.specs.{Marks.{IsMark, NoneReads}, Passes.{Unended, OpenPlace, IsLatest, LastStart, GrownLaw, NearerLaw}, Places.{place_of, last_of}}
+use Rattle.lft_rows.specs.inner.{Marks.{IsMark, NoneReads}, Passes.{Unended, OpenPlace, IsLatest, LastStart, GrownLaw, NearerLaw}, Places.{place_of, last_of}}
 
 module _ (t u : List Row) (i : ℕ) (inside : i ≤ length t) where
   -- a row before the place is one of the first part

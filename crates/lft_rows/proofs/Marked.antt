@@ -8,7 +8,7 @@ use Rattle.lft_lists.proofs.Places.{at_contains, contains_at, get_there, get_wri
 use Rattle.lft_lists.proofs.Members.{mem_get}
 use Rattle.lft_model.proofs.{Counted.{NamesApart, names_apart}, Places.slice_get_within}
 use Rattle.lft_rows.specs.declared.marks.Marks.{Marks}
-use Rattle.lft_rows.specs.Marks.{width, HasSeat, AreLaid, IsLaid, Mark, IsMarkedBy, AreNoneFrom, ReadsFor, NoneReads, IsMark, AreBefore, AreMarks}
+use Rattle.lft_rows.specs.inner.Marks.{width, HasSeat, AreLaid, IsLaid, Mark, IsMarkedBy, AreNoneFrom, ReadsFor, NoneReads, IsMark, AreBefore, AreMarks}
 
 -- a seat is one of the reaction's
 pub seat_within : (x : Reaction) (n : Name) (k : ℕ) → HasSeat x n k → k < width x

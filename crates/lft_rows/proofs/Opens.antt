@@ -4,7 +4,7 @@ use native.Mathlib.Decide.{ℕ_discrete}
 use Rattle.lft_tag.specs.declared.Tag.{Tag}
 use Rattle.lft_ir.specs.declared.steps.row.Row.{Row}
 use Rattle.lft_model.specs.{Runs.{start_row, end_row}, Breaches.IsOpen}
-use Rattle.lft_rows.specs.Passes.{Unended, OpenPlace}
+use Rattle.lft_rows.specs.inner.Passes.{Unended, OpenPlace}
 
 pub weaken : (t : List Row) (i j w : ℕ) (g : Tag) (r : ℕ) → Unended t (i + 1) j w g r → Unended t i j w g r
 weaken t i j w g r u = record { starts = u.starts; not_ended = λ k a b. let c : k < i + 1 = omega arith in u.not_ended k a c }

@@ -5,7 +5,7 @@ use native.Mathlib.Decide.{ℕ_discrete}
 use Rattle.lft_tag.{specs.{declared.Tag.Tag, Tags.{Before, UpTo}}, proofs.Order.{UpTo-trans, UpTo_antisym, order_cases}}
 use Rattle.lft_ir.specs.{Parts.{Parts, inputs}, declared.{parts.{Name.Name, Reaction.Reaction}, steps.row.{Row.Row, Step.TheVariants.Read}}}
 use Rattle.lft_model.{specs.{Plans.PlanParts, Runs.inputs_of, Breaches.WasRead}, proofs.Ended.row_is}
-use Rattle.lft_rows.specs.{Marks.{HasSeat, ReadsFor, IsMark}, Passes.{KeepsEarly, IsLatest, RisesTo, IsBadRead}}
+use Rattle.lft_rows.specs.inner.{Marks.{HasSeat, ReadsFor, IsMark}, Passes.{KeepsEarly, IsLatest, RisesTo, IsBadRead}}
 use Rattle.lft_rows.proofs.Marked.{seat_input, input_seat, same_here}
 
 -- the rows before a place at which no rule is broken rise, also to a tag that isn't before the latest

@@ -8,7 +8,8 @@ use Rattle.lft_ir.specs.Naming.{same_name}
 use Rattle.lft_ir.proofs.Naming.{name_same, name_self}
 use Rattle.lft_model.specs.{Runs.{read_of, steps_of, step_of, value_read as read_by}, Plans.PlanParts, Breaches.{WasRead, IsUndeclared}}
 use Rattle.lft_model.proofs.{Legality.{KeepsFour, keeps_four}, Steps.{step_row, row_step}}
-use Rattle.lft_rows.{proofs.{Steps.row_eq, Marked.same_here}, specs.{declared.slices.Slice.Slice, Slices.IsSlice, Marks.{ReadsFor, IsMark}, Reads.value_read}}
+use Rattle.lft_rows.proofs.{Steps.row_eq, Marked.same_here}
+use Rattle.lft_rows.specs.{declared.slices.Slice.Slice, inner.{Slices.IsSlice, Marks.{ReadsFor, IsMark}, Reads.value_read}}
 
 -- what a row of the run of r at g reads of a name
 abbrev pub read_in : Tag → ℕ → Name → Row → Option Value

@@ -5,7 +5,7 @@ use native.Mathlib.Decide.{ℕ_discrete}
 use Rattle.lft_tag.{specs.{declared.Tag.Tag, Tags.same_tag}, proofs.Order.{same_tag_refl, same_tag_true}}
 use Rattle.lft_ir.specs.declared.steps.row.{Row.Row, Step.{Step, TheVariants.{Start, End}}}
 use Rattle.lft_model.{specs.{Runs.{start_row, end_row}, Breaches.{IsOpen, IsOutOfOrder, WasStarted}}, proofs.OutOfOrder.{out_inner, inner_out}}
-use Rattle.lft_rows.specs.{declared.open.OpenRuns.OpenRuns, Places.place_of, Passes.{OpenPlace, Holds, HasOpen}}
+use Rattle.lft_rows.specs.{declared.open.OpenRuns.OpenRuns, inner.{Places.place_of, Passes.{OpenPlace, Holds, HasOpen}}}
 use Rattle.lft_rows.proofs.{PresenceLemmas.Lists.not_true, Opens.{keeps_open, ends_open, open_kept, none_open, same_start}}
 
 pub at_kept : (t : List Row) (p i w : ℕ) (o : Option ℕ) (s : ℕ) → OpenPlace t p i w o → o ≡ Some s → OpenPlace t p i w (Some s)

@@ -6,7 +6,7 @@ use Rattle.lft_lists.proofs.Places.{get_left, get_right, get_append_cases, get_t
 use Rattle.lft_ir.specs.{Parts.Parts, declared.steps.row.{Row.Row, Step.{Step, TheVariants.{Start, Read, Write, Schedule, Stop, End}}}, Steps.Fits.RowsFit}
 use Rattle.lft_model.specs.{Plans.PlanParts, Runs.{start_row, end_row}, Breaches.{IsOpen, IsLate, IsOutOfOrder, IsUndeclared, BreaksRowUntil}}
 use Rattle.lft_model.proofs.Places.{slice_get_within}
-use Rattle.lft_rows.specs.{Firsts.FirstRow, Parts.{RisesBetween, AreEarlier}}
+use Rattle.lft_rows.specs.inner.{Firsts.FirstRow, Parts.{RisesBetween, AreEarlier}}
 
 by_row : (last : Tag) (plan : PlanParts) (t : List Row) → FirstRow last plan t None → (i : ℕ) (row : Row) (k : ℕ) → slice_get t i ≡ Some row → ¬ BreaksRowUntil last plan t i row k
 by_row last plan t kept i row k e b = kept (record { rule = k; tag = row.tag; reaction = Some row.reaction; row = i + 2 }) (record { place = i; row = row; is_row = e; breaks = b; tag_is = refl; reaction_is = refl; row_is = refl })

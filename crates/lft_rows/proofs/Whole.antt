@@ -9,8 +9,8 @@ use Rattle.lft_model.proofs.Places.{slice_get_within}
 use Rattle.lft_rows.specs.declared.marks.Marks.{Marks}
 use Rattle.lft_rows.specs.declared.open.{OpenRuns.OpenRuns, LastStarts.LastStarts}
 use Rattle.lft_rows.specs.declared.pass.Known.{Known}
-use Rattle.lft_rows.specs.{Marks.AreMarks, Places.{place_of, last_of}, Firsts.IsFirstOfRows}
-use Rattle.lft_rows.specs.Passes.{OpenPlace, Holds, IsKnown, LastStart, KeepsEarly, FirstUnended}
+use Rattle.lft_rows.specs.inner.{Marks.AreMarks, Places.{place_of, last_of}, Passes.{OpenPlace, Holds, IsKnown, LastStart, KeepsEarly, FirstUnended}}
+use Rattle.lft_rows.specs.Firsts.{IsFirstOfRows}
 use Rattle.lft_rows.proofs.{Opens.{weaken, starts_none, starts_one}, Early.{late_of, latest_more, start_more, start_same}, Steps.{row_eq, out_start}}
 
 module _ (stop : Tag) (plan : PlanParts) (t : List Row) (i : ℕ) (row : Row) (is_row : slice_get t i ≡ Some row) (kept : KeepsEarly stop plan t (i + 1)) (program : Parts) (known : Known) (h : IsKnown program t i known) (marks : Marks) (marked : AreMarks program t 0 (i + 1) marks) where

@@ -1,5 +1,5 @@
 -- The first row that breaks one of the rules 1 to 5.
-use Rattle.std.specs.Prelude.{List, Option, MatchOption}
+use Rattle.std.specs.Prelude.{List}
 use Rattle.lft_tag.specs.declared.Tag.{Tag}
 use Rattle.lft_ir.specs.declared.steps.row.Row.{Row}
 use Rattle.lft_model.specs.{declared.breach.Breach.Breach, Plans.PlanParts, Breaches.{RowBreachUntil, RowOrder}}
@@ -8,7 +8,3 @@ use Rattle.lft_model.specs.{declared.breach.Breach.Breach, Plans.PlanParts, Brea
 pub record IsFirstOfRows (last : Tag) (plan : PlanParts) (t : List Row) (b : Breach) : Type 0 where
   pub breaks : RowBreachUntil last plan t b
   pub least : (c : Breach) → RowBreachUntil last plan t c → RowOrder b c
-
--- the first row that breaks one of the rules 1 to 5, with the least of these rules, if any, where the stop tag is last
-abbrev pub FirstRow : Tag → PlanParts → List Row → Option Breach → Type 0
-FirstRow last plan t o = MatchOption o ((c : Breach) → ¬ RowBreachUntil last plan t c) (IsFirstOfRows last plan t)

@@ -1,12 +1,6 @@
 pub mod Accepted
-pub mod Effects
 pub mod Firsts
-pub mod Marks
-pub mod Parts
-pub mod Passes
-pub mod Places
-pub mod Reads
-pub mod Seats
 pub mod Slices
 pub mod Presence
 pub mod Answers
+pub mod inner

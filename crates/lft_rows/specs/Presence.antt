@@ -1,5 +1,2 @@
 pub mod Traces
-pub mod Causes
 pub mod Clashes
-pub mod Kept
-pub mod Lookups

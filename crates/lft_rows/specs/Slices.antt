@@ -1,10 +1,9 @@
 -- The rows at a tag, the number of runs, and the tags that have one.
-use Rattle.std.specs.Prelude.{◌≡◌, ℕ, ◌<◌, ◌≤◌, Bool, true, false, List, length, Some, slice_get}
+use Rattle.std.specs.Prelude.{◌≡◌, ℕ, ◌<◌, Bool, true, false, List, Some, slice_get}
 use Rattle.std.specs.List.{count_by}
-use Rattle.lft_tag.specs.{declared.Tag.Tag, Tags.{Before, UpTo}}
+use Rattle.lft_tag.specs.{declared.Tag.Tag, Tags.Before}
 use Rattle.lft_ir.specs.declared.steps.row.{Row.Row, Step.{Step, TheVariants.{Start, Read, Write, Schedule, Stop, End}}}
 use Rattle.lft_model.specs.Runs.{Ran}
-use Rattle.lft_rows.specs.declared.slices.Slice.{Slice}
 
 -- the test of a start
 abbrev pub begins : Step → Bool
@@ -18,17 +17,6 @@ begins End = false
 -- the number of runs: of start rows
 abbrev pub runs_in : List Row → ℕ
 runs_in t = count_by (λ (row : Row). begins row.step) t
-
--- tags never fall from row to row
-abbrev pub Rises : List Row → Type 0
-Rises t = (i j : ℕ) (x y : Row) → i < j → slice_get t i ≡ Some x → slice_get t j ≡ Some y → UpTo x.tag y.tag
-
--- the rows from the first place up to the end are just those at the tag
-pub record IsSlice (t : List Row) (s : Slice) : Type 0 where
-  pub some : s.first < s.end
-  pub within : s.end ≤ length t
-  pub at_tag : (i : ℕ) (row : Row) → slice_get t i ≡ Some row → s.first ≤ i → i < s.end → row.tag ≡ s.tag
-  pub all : (i : ℕ) (row : Row) → slice_get t i ≡ Some row → row.tag ≡ s.tag → (s.first ≤ i) × (i < s.end)
 
 -- the tags with a run, ascending
 pub record AreTags (t : List Row) (tags : List Tag) : Type 0 where

@@ -3,7 +3,7 @@
 ghost use Rattle.std.specs.Prelude.{◌≡◌, ℕ, ◌+◌, ◌<◌, ◌≤◌, length, Some, IsTrue, ◌↔◌, slice_get};
 ghost use Rattle.lft_ir.specs.{Sound.IsNameOf, declared.steps.row.Row.Row as TheRow, Steps.Fits.RowFits};
 ghost use Rattle.lft_model.specs.Breaches.{IsUndeclared, MayWrite, MaySchedule};
-ghost use Rattle.lft_rows.specs.{Effects.AreEffects, Marks.AreMarks, Passes.{RisesTo, IsBadRead}};
+ghost use Rattle.lft_rows.specs.inner.{Effects.AreEffects, Marks.AreMarks, Passes.{RisesTo, IsBadRead}};
 
 use crate::effects::Effects;
 use crate::marks::Marks;

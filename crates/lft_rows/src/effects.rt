@@ -3,7 +3,7 @@
 ghost use Rattle.std.specs.Prelude.{◌≡◌, ◌<◌, ◌↔◌, length, IsTrue, IfOk, Contains};
 ghost use Rattle.lft_ir.specs.declared.parts.Name.TheVariants.{Port, Action};
 ghost use Rattle.lft_model.specs.Runs.{effects_of};
-ghost use Rattle.lft_rows.specs.Effects.{AreSetsOf, AreEffects};
+ghost use Rattle.lft_rows.specs.inner.Effects.{AreSetsOf, AreEffects};
 
 use lft_ir::{Name, Program};
 use lft_lists::item_at;

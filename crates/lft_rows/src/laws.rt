@@ -1,6 +1,6 @@
 //! Laws of a pass that goes on as rows come. They do no work.
 
-ghost use Rattle.lft_rows.specs.Passes.{GrownLaw, NearerLaw};
+ghost use Rattle.lft_rows.specs.inner.Passes.{GrownLaw, NearerLaw};
 
 use lft_model::Plan;
 

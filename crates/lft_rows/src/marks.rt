@@ -2,7 +2,7 @@
 
 ghost use Rattle.std.specs.Prelude.{◌≡◌, ℕ, ◌+◌, ◌<◌, ◌≤◌, length, Some, IfOk, OnOk, MatchOption, slice_get};
 ghost use Rattle.lft_ir.specs.{Parts.{Parts, inputs as the_inputs}, declared.parts.Reaction.Reaction as TheReaction, Steps.Fits.RowsFit};
-ghost use Rattle.lft_rows.specs.Marks.{width, HasSeat, AreNoneFrom, IsLaid, Mark, IsMarkedBy, AreMarks, AreBefore};
+ghost use Rattle.lft_rows.specs.inner.Marks.{width, HasSeat, AreNoneFrom, IsLaid, Mark, IsMarkedBy, AreMarks, AreBefore};
 
 use crate::seats::Inputs;
 use lft_ir::steps::{Row, Step, row_at};

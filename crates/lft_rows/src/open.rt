@@ -1,7 +1,7 @@
 //! The open run of each worker, by the place of its start row; the last start of each reaction.
 
 ghost use Rattle.std.specs.Prelude.{◌≡◌, ℕ, ◌==◌, ◌<◌, cond, length, Option, Some, None, IfOk, OnOk, IsTrue, slice_get};
-ghost use Rattle.lft_rows.specs.Places.{far_place_of, place_of, last_of};
+ghost use Rattle.lft_rows.specs.inner.Places.{far_place_of, place_of, last_of};
 
 use lft_lists::item_at;
 use lft_tag::{NoMemory, Tag};

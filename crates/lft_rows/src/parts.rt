@@ -4,7 +4,7 @@ ghost use Rattle.std.specs.Prelude.{◌≡◌, ℕ, ◌+◌, ◌<◌, ◌++◌, 
 ghost use Rattle.std.specs.Thread.{IsSync};
 ghost use Rattle.lft_tag.specs.Tags.{Before};
 ghost use Rattle.lft_ir.specs.{Parts.Parts, declared.steps.row.Row.Row as TheRow, Steps.Fits.RowsFit};
-ghost use Rattle.lft_rows.specs.{Firsts.FirstRow, Parts.RisesBetween};
+ghost use Rattle.lft_rows.specs.inner.{Firsts.FirstRow, Parts.RisesBetween};
 
 use crate::pass::first_breach;
 use lft_ir::steps::{Row, row_at};

@@ -4,8 +4,8 @@ ghost use Rattle.std.specs.Prelude.{◌≡◌, ℕ, List, ◌+◌, ◌<◌, ◌�
 ghost use Rattle.lft_tag.specs.{declared.Tag.Tag as TheTag, Tags.UpTo};
 ghost use Rattle.lft_ir.specs.{declared.steps.row.Row.Row as TheRow, Steps.Fits.RowsFit};
 ghost use Rattle.lft_model.specs.{Plans.PlanParts, Breaches.IsOutOfOrder};
-ghost use Rattle.lft_rows.specs.{Effects.AreEffects, Firsts.FirstRow, Marks.IsLaid, Places.last_of};
-ghost use Rattle.lft_rows.specs.Passes.{IsLatest, LastStart, Holds, HasOpen, IsKnown, FirstUnended, KeepsEarly, EarlyRule, IsEarly, IsPass, HasPassed, HasGoneOn};
+ghost use Rattle.lft_rows.specs.inner.{Effects.AreEffects, Firsts.FirstRow, Marks.IsLaid, Places.last_of};
+ghost use Rattle.lft_rows.specs.inner.Passes.{IsLatest, LastStart, Holds, HasOpen, IsKnown, FirstUnended, KeepsEarly, EarlyRule, IsEarly, IsPass, HasPassed, HasGoneOn};
 
 use crate::declared::is_undeclared;
 use crate::effects::Effects;

@@ -3,7 +3,7 @@
 ghost use Rattle.std.specs.Prelude.{◌≡◌, ◌<◌, Some, slice_get};
 ghost use Rattle.lft_ir.specs.{declared.parts.{Name.Name as TheName, Reaction.Reaction as TheReaction}, Steps.Fits.RowsFit};
 ghost use Rattle.lft_model.specs.Runs.{read_of, steps_of};
-ghost use Rattle.lft_rows.specs.{Marks.{AreMarks, HasSeat, width}, Reads.value_read as the_value_read, Slices.IsSlice};
+ghost use Rattle.lft_rows.specs.inner.{Marks.{AreMarks, HasSeat, width}, Reads.value_read as the_value_read, Slices.IsSlice};
 
 use crate::marks::Marks;
 use crate::slices::Slice;

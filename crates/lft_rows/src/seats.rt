@@ -21,7 +21,7 @@ pub(crate) struct Inputs {
 impl Model for Inputs {
     ghost use Rattle.std.specs.Prelude.{List};
     ghost use Rattle.lft_ir.specs.declared.parts.Name.{Name};
-    ghost use Rattle.lft_rows.specs.Seats.{AreSeats};
+    ghost use Rattle.lft_rows.specs.inner.Seats.{AreSeats};
 
     ghost Value = { List Name };
 

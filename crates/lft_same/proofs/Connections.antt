@@ -12,8 +12,8 @@ use Rattle.lft_elaborate.specs.Channels.Lowered.{AreJoined}
 use Rattle.lft_classes.specs.declared.shapes.Inherited.{Inherited}
 use Rattle.lft_lower.specs.Meanings.{Meanings.{all_places, named_in}, Places.names_of}
 use Rattle.lft_lower.specs.{Lowered.{AreConnected, IsLowered, IsRead, MeanSides, each_pair, time_at, whole}, Reactors.IsLowering}
-use Rattle.lft_same.specs.Expanded.{Core.core_links, Expanded.Link, Instances.{Inside, Widths, time_in}, Reactors.members_of}
-use Rattle.lft_same.specs.Expanded.Whole.{channels, link, links_at, links_of, pairs}
+use Rattle.lft_same.specs.inner.Expanded.Core.{core_links}
+use Rattle.lft_same.specs.Expanded.{Expanded.Link, Instances.{Inside, Widths, time_in}, Reactors.members_of, Whole.{channels, link, links_at, links_of, pairs}}
 use Rattle.lft_same.proofs.{ExpandedLemmas.{Flattened.linked, Links.{joined_links, whole_links}}, Instances.{AreWidthsFound, StandsFor}, Inners.names_alike}
 use Rattle.lft_same.proofs.{Known.{delay_time, known_law}, Listed.{all_mapped, none_mapped, unnumbered}, Lowered.{Appends, Becomes, of_instance, of_reaction}}
 use Rattle.lft_same.proofs.{Members.{here, members_alike, never_of}, References.{all_things, each_stands, thing_for}, Settings.its_setting}

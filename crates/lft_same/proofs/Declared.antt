@@ -16,7 +16,7 @@ use Rattle.lft_lower.specs.Lowered.{AreTriggers, IsAsleep, IsLowered, action_tre
 use Rattle.lft_lower.specs.Reactors.{IsLowering}
 use Rattle.lft_same.specs.Expanded.{Expanded.{Action, Port, Timer}, Instances.{Inside, Widths, numbers, period_in, time_in, written}, Reactors.members_of}
 use Rattle.lft_same.specs.Expanded.Whole.{actions_at, ports_at, timers_at}
-use Rattle.lft_same.specs.Times.{IsKnown}
+use Rattle.lft_same.specs.inner.Times.{IsKnown}
 use Rattle.lft_same.proofs.{ExpandedLemmas.Flattened.map_twice, Instances.{AreWidthsFound, StandsFor}, Known.{action_time, known_law, listed, timer_time}}
 use Rattle.lft_same.proofs.{Listed.{all_mapped, none_mapped, unnumbered}, Lowered.{Appends, Becomes, never_added, of_connection, of_instance, of_reaction}}
 use Rattle.lft_same.proofs.{Members.{here, members_alike, never_of, numbers_are, of_class}, Times.{period_law, time_law}}

@@ -3,10 +3,10 @@ use Rattle.std.proofs.Common.{◌≡◌, ℕ, ◌⊎◌, inl, inr, List, ◌++�
 use Rattle.lft_lists.proofs.{Members.{Mem, mem_contains, mem_flat, mem_left, mem_map, mem_right}, Places.{at_contains, contains_at}}
 use Rattle.lft_tree.specs.Tree.{ActionTree, AssignmentTree, ConnectionTree, FileTree, InstanceTree, ReactorTree, TimeTree, TimerTree, Written, Named, actions_of, connections_of, instances_of, reactors_of, timers_of}
 use Rattle.lft_resolve.specs.Causes.{IsMisplacedTime, IsUnknownTime, Misplaces, NamesNothing, NoneHolds, UnknownName, WrongPlace, causes}
-use Rattle.lft_resolve.specs.{Kinds.{timer_times, times_in}, Sheets.parameter_place}
+use Rattle.lft_resolve.specs.{Kinds.{timer_times, times_in}, inner.Sheets.parameter_place}
 use Rattle.lft_resolve.proofs.{Lost.lost_time, Twice.Any-at}
 use Rattle.lft_program.proofs.Giving.{place_is}
-use Rattle.lft_same.specs.Times.{IsKnown}
+use Rattle.lft_same.specs.inner.Times.{IsKnown}
 
 -- what is there is listed
 pub listed : {X : Type 0} (o : Option X) (z : X) → o ≡ Some z → Mem z (option_to_list o)

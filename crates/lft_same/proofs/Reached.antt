@@ -16,7 +16,7 @@ use Rattle.lft_whole.specs.declared.{sources.source.SourceFile.SourceFile, tree.
 use Rattle.lft_classes.specs.{declared.shapes.{Inherited.Inherited, Shape.Shape}, Built.located, Shapes.width_of}
 use Rattle.lft_lower.specs.Meanings.{Meanings.{Here, named_in}, Places.{name_at, names_of}}
 use Rattle.lft_lower.specs.{Lowered.{AreInstances, IsLowered, instances, no_instances, reactor_at, some_instances}, Reactors.IsLowering}
-use Rattle.lft_same.specs.Fits.Widths.{small}
+use Rattle.lft_same.specs.inner.Fits.Widths.{small}
 use Rattle.lft_same.proofs.{Found.{found_is_width, shape_of_setting, width_written}, Limits.{few_instances, few_ports}, Listed.all_mapped}
 use Rattle.lft_same.proofs.{Lowered.{Appends, Becomes, all_become, made_at, numbered}, Reactors.{IsCore, has_main, has_reactor, main_found, reactor_found}}
 use Rattle.lft_whole.specs.declared.tree.Member.TheVariants as member

@@ -15,9 +15,9 @@ use Rattle.lft_classes.specs.declared.shapes.Inherited.{Inherited}
 use Rattle.lft_lower.specs.Meanings.{Meanings.{Means, all_places, named_in, places_in}, Places.names_of}
 use Rattle.lft_lower.specs.Lowered.{AreTriggers, IsAsleep, IsLowered, MeansAll, MeansEffect, MeansTrigger, added, all_triggers, asleep, effect_places, known, reaction_tree, runs, sleeps, time_at, trigger_places}
 use Rattle.lft_lower.specs.Reactors.{IsLowering}
-use Rattle.lft_same.specs.Expanded.{Core.{core_reaction, things_for, triggers_for}, Expanded.{Reaction, Trigger, AtStartup, AtShutdown, OnThing}}
-use Rattle.lft_same.specs.Expanded.{Instances.{Inside, Widths}, Reactors.members_of, Same.{awake_reaction, is_other}}
-use Rattle.lft_same.specs.Expanded.Whole.{channels, effects_in, reactions_at, triggers_in, uses_in}
+use Rattle.lft_same.specs.inner.Expanded.Core.{core_reaction, things_for, triggers_for}
+use Rattle.lft_same.specs.Expanded.{Expanded.{Reaction, Trigger, AtStartup, AtShutdown, OnThing}, Instances.{Inside, Widths}, Reactors.members_of}
+use Rattle.lft_same.specs.Expanded.{Same.{awake_reaction, is_other}, Whole.{channels, effects_in, reactions_at, triggers_in, uses_in}}
 use Rattle.lft_same.proofs.{FitsLemmas.Shapes.{flat_alike, flat_mapped}, Instances.{AreWidthsFound, StandsFor}, Inners.names_alike}
 use Rattle.lft_same.proofs.{Kept.{all_pass, filter-flat_map, flat_kept, flat_map-flat_map, of_all}, Listed.{none_mapped, unnumbered}}
 use Rattle.lft_same.proofs.{Lowered.{Appends, Becomes, of_connection, of_instance}, Members.{here, members_alike, never_of}, References.places_channels}

@@ -10,7 +10,7 @@ use Rattle.lft_resolve.proofs.Twice.{Any-at}
 use Rattle.lft_program.proofs.Zipping.{then_some}
 use Rattle.lft_whole.specs.declared.sources.source.SourceFile.{SourceFile}
 use Rattle.lft_classes.specs.{declared.shapes.{Child.Child, Shape.Shape}, Shapes.child_at, Walks.Has}
-use Rattle.lft_elaborate.specs.{declared.settings.Settings.Settings, Noted.found_inside, Settings.{setting_at, shape_at}}
+use Rattle.lft_elaborate.specs.{declared.settings.Settings.Settings, Noted.found_inside, inner.Settings.setting_at, Settings.shape_at}
 use Rattle.lft_elaborate.specs.Values.{Valued, inside, main_setting, setting_of, values_inside}
 use Rattle.lft_elaborate.proofs.Keeping.{found_is_inside}
 use Rattle.lft_lower.specs.{Meanings.Meanings.shape_inside, Lowered.reactor_at, Reactors.{AreReactors, IsLowering, IsReactor, more_reactors, no_reactors}}

@@ -6,7 +6,7 @@ use Rattle.lft_lists.proofs.{Mapped.{mapped, option_map_some}, Members.{Mem, fil
 use Rattle.lft_lists.proofs.Places.{Some_same}
 use Rattle.lft_program.proofs.{Singles.place_found, Zipping.then_some}
 use Rattle.lft_tree.specs.{Tree.{ReactorTree, RefTree, instances_of}, declared.ast.Ast.Ast}
-use Rattle.lft_resolve.specs.{Instances.{Thing, stands_for, thing_at}, Places.place}
+use Rattle.lft_resolve.specs.{Instances.{Thing, stands_for, thing_at}, inner.Places.place}
 use Rattle.lft_whole.specs.declared.{sources.source.SourceFile.SourceFile, tree.{Instance.Instance, Member.Member, Name.Name, Reference.Reference}}
 use Rattle.lft_elaborate.specs.{Channels.{Channels.below, Lowered.{inner, own}}, Names.name_in, Values.{Valued, inside, setting_of, values_inside}}
 use Rattle.lft_elaborate.specs.Widths.{found_width}
@@ -15,7 +15,7 @@ use Rattle.lft_classes.specs.Shapes.{child_at, name_of, thing_named, width_of}
 use Rattle.lft_lower.specs.Meanings.Meanings.{Here, Means, all_places, if_port, inner_width, member_in, places_in, port_in, port_number, port_of, sense_behind, sense_in, sense_named, shape_inside, thing_in}
 use Rattle.lft_lower.specs.Meanings.Places.{Inner, Own, Sense, Several, count_of, inner_places, name_at, names_of, own_places, places_of}
 use Rattle.lft_lower.specs.Reactors.{IsLowering}
-use Rattle.lft_same.specs.Expanded.Core.{things_for}
+use Rattle.lft_same.specs.inner.Expanded.Core.{things_for}
 use Rattle.lft_same.specs.Expanded.Instances.{Inner as InnerInstance, Inside, Widths, inners, inside_of, numbers, numbers_at, numbers_named, place_named, written}
 use Rattle.lft_same.specs.Expanded.{Reactors.members_of, Whole.{channels, crossed, inner_thing, inside_named, new_in, things_named}}
 use Rattle.lft_same.proofs.ExpandedLemmas.{Crossed.{crossed_map, crossed_nil, places_crossed}, Flattened.map_twice}

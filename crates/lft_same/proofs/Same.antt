@@ -7,9 +7,9 @@ use Rattle.lft_lists.proofs.Places.{Some_same}
 use Rattle.lft_tree.specs.{Tree.ReactorTree, View.tree_view, declared.ast.Ast.Ast}
 use Rattle.lft_whole.specs.declared.sources.source.SourceFile.{SourceFile}
 use Rattle.lft_lower.specs.Reactors.{IsLowering}
-use Rattle.lft_same.specs.Expanded.{Core.{core_contents, expanded_tree}, Expanded.Contents, Instances.{Inside, Widths, entered, main_instance}}
-use Rattle.lft_same.specs.Expanded.{Reactors.{Class, main_of}, Same.{IsNever, IsSame, awake}, Whole.{AreWidths, expanded_files, whole_contents}}
-use Rattle.lft_same.specs.Laws.{LoweredLaw}
+use Rattle.lft_same.specs.inner.{Expanded.Core.{core_contents, expanded_tree}, Laws.LoweredLaw}
+use Rattle.lft_same.specs.Expanded.{Expanded.Contents, Instances.{Inside, Widths, entered, main_instance}, Reactors.{Class, main_of}}
+use Rattle.lft_same.specs.Expanded.{Same.{IsNever, IsSame, awake}, Whole.{AreWidths, expanded_files, whole_contents}}
 use Rattle.lft_same.proofs.{Instances.{AreWidthsFound, StandsFor}, Connections.links_alike, Declared.{actions_alike, awake_actions, ports_alike, timers_alike}}
 use Rattle.lft_same.proofs.{Inners.names_alike, Members.never_of, Paths.{Both, both, neither, together}, Reactions.{awake_reactions, reactions_alike}}
 use Rattle.lft_same.proofs.{Reactors.has_main, Sleeping.is_never, Widths.has_widths, Standing.{main_stands, step_stands}}

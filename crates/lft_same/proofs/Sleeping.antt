@@ -20,7 +20,8 @@ use Rattle.lft_lower.specs.Meanings.Meanings.{inner_width, member_in, named_in, 
 use Rattle.lft_lower.specs.Meanings.Places.{Inner, Own, Sense, Several, count_of, name_at, names_of, places_of}
 use Rattle.lft_lower.specs.Lowered.{AreInstances, IsLowered, IsReaction, asleep, effect_places, no_instances, reaction_tree, some_instances, time_at}
 use Rattle.lft_lower.specs.Reactors.{IsLowering}
-use Rattle.lft_same.specs.Expanded.{Core.{core_contents, core_reaction}, Expanded.{Action, Reaction}, Instances.Inside, Same.{IsNever, IsUnscheduled}}
+use Rattle.lft_same.specs.inner.Expanded.Core.{core_contents, core_reaction}
+use Rattle.lft_same.specs.Expanded.{Expanded.{Action, Reaction}, Instances.Inside, Same.{IsNever, IsUnscheduled}}
 use Rattle.lft_same.proofs.{Instances.StandsFor, Listed.none_mapped}
 use Rattle.lft_same.proofs.Lowered.{Appends, Becomes, IsAdded, all_become, made_at, never_added, of_connection, of_instance, of_reaction}
 use Rattle.lft_same.proofs.{Members.{here, never_of, of_class, unwritten}, References.named as member_named}

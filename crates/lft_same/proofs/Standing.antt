@@ -10,8 +10,8 @@ use Rattle.lft_whole.specs.declared.sources.source.SourceFile.{SourceFile}
 use Rattle.lft_classes.specs.declared.shapes.Shape.{Shape}
 use Rattle.lft_elaborate.specs.Values.{Valued, main_setting, main_values}
 use Rattle.lft_lower.specs.{Meanings.Meanings.shape_inside, Reactors.{AreShapes, IsLowering}}
-use Rattle.lft_same.specs.{Expanded.{Instances.{Inner, Inside, Widths, entered, inners, inside_of, main_instance}, Reactors.{Class, main_of}}, Fits.Fits.Fits}
-use Rattle.lft_same.specs.Times.{IsKnown}
+use Rattle.lft_same.specs.Expanded.{Instances.{Inner, Inside, Widths, entered, inners, inside_of, main_instance}, Reactors.{Class, main_of}}
+use Rattle.lft_same.specs.inner.{Fits.Fits.Fits, Times.IsKnown}
 use Rattle.lft_same.proofs.{FitsLemmas.Nested.main_law, Instances.{AreWidthsFound, StandsFor}, Found.shape_of_setting, Inners.{IsInner, instances_alike}}
 use Rattle.lft_same.proofs.{Known.{given_time, known_law}, Members.here, Paths.{Both, both_at, neither}}
 use Rattle.lft_same.proofs.{Reactors.{has_reactor, main_found, reactor_found, shape_is_inside}, Settings.nested, Times.{inside_times, main_times}}

@@ -10,7 +10,8 @@ use Rattle.lft_elaborate.specs.Channels.Lowered.{inner, own}
 use Rattle.lft_classes.specs.{declared.shapes.{Inherited.Inherited, Thing.Thing as ShapeThing}, Shapes.{name_of, thing_named, width_of}}
 use Rattle.lft_lower.specs.Meanings.{Meanings.{Means, named_in, places_in, sense_named, thing_in}, Places.{Own, names_of}}
 use Rattle.lft_lower.specs.{Lowered.{IsLowered, time_at, timer_tree}, Reactors.IsLowering}
-use Rattle.lft_same.specs.Expanded.{Core.things_for, Instances.{Inside, Widths, numbers, numbers_named, written}, Reactors.members_of}
+use Rattle.lft_same.specs.inner.Expanded.Core.{things_for}
+use Rattle.lft_same.specs.Expanded.{Instances.{Inside, Widths, numbers, numbers_named, written}, Reactors.members_of}
 use Rattle.lft_same.specs.Expanded.Whole.{channels, crossed, is_timer, names_timer, uses_in}
 use Rattle.lft_same.proofs.{FitsLemmas.{Giving.{find_none, find_some}, MemberNames.{member_found, member_lost}}, Instances.{AreWidthsFound, StandsFor}}
 use Rattle.lft_same.proofs.{Inners.names_alike, Kept.all_pass, Listed.none_mapped}

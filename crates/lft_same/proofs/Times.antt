@@ -11,13 +11,13 @@ use Rattle.lft_program.{proofs.{FullNames.all_at, Zipping.then_some}, specs.Flat
 use Rattle.lft_whole.specs.declared.{sources.source.SourceFile.SourceFile, tree.{Assignment.Assignment, Expression.Expression, Instance.Instance, Value.Value}}
 use Rattle.lft_classes.specs.{declared.shapes.{Child.Child, Given.Given, InheritedParameter.InheritedParameter, Shape.Shape}, Shapes.{child_at, thing_named}}
 use Rattle.lft_classes.proofs.Rows.{map_alike}
-use Rattle.lft_elaborate.specs.{Values.{Valued, given_to, inside, main_setting, main_values}, Channels.Channels.below}
+use Rattle.lft_elaborate.specs.{Values.{Valued, given_to, inside, main_setting, main_values, is_forever}, Channels.Channels.below}
 use Rattle.lft_lower.specs.Meanings.Meanings.{Here, shape_inside}
-use Rattle.lft_lower.specs.{Lowered.{AreGiven, IsGiven, IsPeriod, IsRead, assigned, given_times, is_forever, period_at, time_at, time_given}, Needed.is_timed}
+use Rattle.lft_lower.specs.{Lowered.{AreGiven, IsGiven, IsPeriod, IsRead, assigned, given_times, period_at, time_at, time_given}, Needed.is_timed}
 use Rattle.lft_lower.specs.{Reactors.{AreShapes, default_time, parameter_tree, timed_parameter, timed_parameters}, Times.{IsTime, time_for, time_in}}
 use Rattle.lft_same.specs.Expanded.Instances.{Inside, default_of, given_in, given_or_default, inside_of, main_instance, period_in, read_in, time_of, value_named, time_in as whole_time_in}
 use Rattle.lft_same.specs.Expanded.Reactors.{Class, class_named, is_named, main_of, members_of, parameters_of}
-use Rattle.lft_same.specs.{Fits.Fits.{Fits, IsShapeOf}, Times.{HasTimes, IsKnown, time_named}}
+use Rattle.lft_same.specs.inner.{Fits.Fits.{Fits, IsShapeOf}, Times.{HasTimes, IsKnown, time_named}}
 use Rattle.lft_same.proofs.FitsLemmas.{Fitting.parameter_is, Giving.{IsGivenBy, find_some}, MemberNames.value_found, Nested.{given_law, main_law}}
 use Rattle.lft_whole.specs.declared.tree.Member.TheVariants as member
 use Rattle.lft_whole.specs.declared.tree.Value.TheVariants as value

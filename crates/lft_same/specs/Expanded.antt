@@ -1,8 +1,6 @@
-pub mod Core
 pub mod Expanded
 pub mod Flat
 pub mod Instances
-pub mod Laws
 pub mod Reactors
 pub mod Same
 pub mod Whole

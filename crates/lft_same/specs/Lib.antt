@@ -1,4 +1,3 @@
-pub mod Laws
-pub mod Times
 pub mod Expanded
 pub mod Fits
+pub mod inner

@@ -1,6 +1,6 @@
 //! How the settings of a program stand to its instances. It has laws alone, and no code.
 
-ghost use Rattle.lft_same.specs.Fits.Laws.{InsideLaw, MainLaw, NamesLaw, WidthsLaw};
+ghost use Rattle.lft_same.specs.inner.Fits.Laws.{InsideLaw, MainLaw, NamesLaw, WidthsLaw};
 
 use lft_whole::sources::SourceFile;
 

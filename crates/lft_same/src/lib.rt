@@ -5,7 +5,7 @@
 pub mod expanded;
 pub mod fits;
 
-ghost use Rattle.lft_same.specs.Laws.{InsideTimesLaw, KnownLaw, LoweredLaw, MainTimesLaw, PeriodLaw, TimeLaw};
+ghost use Rattle.lft_same.specs.inner.Laws.{InsideTimesLaw, KnownLaw, LoweredLaw, MainTimesLaw, PeriodLaw, TimeLaw};
 
 use lft_whole::sources::SourceFile;
 

@@ -2,7 +2,7 @@
 use Rattle.std.proofs.Common.{◌≡◌, ◌≢◌, ℕ, zero, suc, ◌+◌, ◌*◌, ◌<◌, ◌≤◌, ◌⊎◌, inl, inr, List, [], ◌∷◌, length, refl, sym, ap, ◌∙◌, subst, arith, Some, slice_get, slice_set, drop, get_or}
 use Rattle.std.proofs.lemmas.{Option.{slice_get_within, slice_get-get_or}, List.drop_more, Bool.{true≢false, false≢true, cases_eq, cases_lt}}
 use mathlib.Core.Bool.{Bool, true, false, not}
-use Rattle.lft_scheduler.specs.{declared.turn.seats.Seat.Seat, Seats.{one, differ, tally, hit, times, load, gain, loss, AreOnce}}
+use Rattle.lft_scheduler.specs.{declared.turn.seats.Seat.Seat, inner.Seats.{one, differ, tally, hit, times, load, gain, loss, AreOnce}}
 
 pub not_self : (b : Bool) → b ≡ not b → ⊥
 not_self true e = true≢false e

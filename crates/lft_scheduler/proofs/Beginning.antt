@@ -5,8 +5,9 @@ use Rattle.lft_ir.specs.declared.steps.row.Row.{Row}
 use Rattle.lft_queue.specs.Pending.{Pending}
 use Rattle.lft_graph.specs.Graph.{IsGraphOf}
 use Rattle.lft_lists.proofs.Places.{get_same, length_same}
-use Rattle.lft_scheduler.specs.{declared.turn.phase.Phase.{Phase, TheVariants.Idle}, Turns.TurnParts, Events.HasEvents, Starts.IsAnyOpen, OpenRuns.AreOpen}
-use Rattle.lft_scheduler.specs.{Telling.{IsTold, TriggeredByQueue}, Agendas.{IsReached, MayAdvance}}
+use Rattle.lft_scheduler.specs.declared.turn.phase.Phase.{Phase, TheVariants.Idle}
+use Rattle.lft_scheduler.specs.inner.{Turns.TurnParts, Events.HasEvents, OpenRuns.AreOpen, Telling.{IsTold, TriggeredByQueue}, Agendas.{IsReached, MayAdvance}}
+use Rattle.lft_scheduler.specs.Starts.{IsAnyOpen}
 use Rattle.lft_scheduler.proofs.NextTags.{told_turn}
 use Rattle.lft_model.{specs.{Plans.{PlanParts, IsSoundPlan}, Recorded.OnlyEndedAnswer}, proofs.Empty.empty_so_far}
 

@@ -1,6 +1,6 @@
 -- Which reactions are blocked, from the short lists.
 use Rattle.std.specs.Prelude.{◌≡◌, ◌↔◌, ◌⊎◌, ℕ, List, Some, slice_get, Contains}
-use Rattle.lft_scheduler.specs.{declared.turn.phase.Phase.{Phase, TheVariants.Waiting}, Turns.IsPending}
+use Rattle.lft_scheduler.specs.{declared.turn.phase.Phase.{Phase, TheVariants.Waiting}, inner.Turns.IsPending}
 
 -- a is pending or blocked
 abbrev pub IsBusy : List Phase → (ℕ → Type 0) → ℕ → Type 0

@@ -4,7 +4,7 @@ use Rattle.std.proofs.lemmas.Option.{slice_get_within}
 use Rattle.lft_ir.specs.Parts.{Parts}
 use Rattle.lft_graph.specs.{Precedence.Precedes, Before.{IsDeclaredJustBefore, FeedsLast}, Graph.{GraphParts, IsGraphOf}}
 use Rattle.lft_lists.proofs.Places.{get_there}
-use Rattle.lft_scheduler.specs.{declared.turn.phase.Phase.{Phase, TheVariants.{Waiting, Open}}, Turns.{IsPending, IsReady, IsLeastReady}}
+use Rattle.lft_scheduler.specs.{declared.turn.phase.Phase.{Phase, TheVariants.{Waiting, Open}}, inner.Turns.{IsPending, IsReady, IsLeastReady}}
 use Rattle.lft_scheduler.proofs.Blocked.{IsBusy, IsFree, SpreadsAlong}
 
 module _ (program : Parts) (graph : GraphParts) (is : IsGraphOf program graph) where

@@ -3,7 +3,7 @@ use Rattle.std.proofs.Common.{◌≡◌, ℕ, zero, suc, ◌<◌, inl, inr, List
 use Rattle.lft_tag.{specs.{declared.Tag.Tag, Tags.UpTo, Shifts.{Folded, shifted}}, proofs.{Order.UpTo-Before, Chains.shifted_same}}
 use Rattle.lft_ir.specs.declared.{parts.Port.Port as PortOf, steps.row.Row.Row}
 use Rattle.lft_queue.proofs.Tests.{together}
-use Rattle.lft_scheduler.specs.{Listeners.{IsArrival, IsWatched, arrival, IsFirstDelayed}, Events.IsEarlier}
+use Rattle.lft_scheduler.specs.inner.{Listeners.{IsArrival, IsWatched, arrival, IsFirstDelayed}, Events.IsEarlier}
 use Rattle.lft_scheduler.proofs.{Watching.delayed_first, Written.{from_written, to_written}}
 use Rattle.lft_model.specs.{Plans.{PlanParts, IsSoundPlan}, Presence.{Last, PortClash}}
 

@@ -2,8 +2,8 @@
 use Rattle.std.proofs.Common.{◌≡◌, ◌≢◌, ℕ, zero, suc, ◌+◌, ◌<◌, ◌≤◌, ◌⊎◌, inl, inr, List, [], length, refl, sym, ◌∙◌, arith, Some, slice_get, slice_set}
 use Rattle.std.proofs.lemmas.Bool.{true≢false, false≢true, cases_Bool, cases_lt}
 use mathlib.Core.Bool.{Bool, true, false, not}
-use Rattle.lft_scheduler.specs.{declared.turn.{phase.Phase.{Phase, TheVariants.{Idle, Waiting, Open}}, seats.Seat.Seat}, Phases.pending}
-use Rattle.lft_scheduler.specs.Seats.{busy_at, busy, free, times, load, gain, loss, IsAtRest, IsMoving, IsPushed}
+use Rattle.lft_scheduler.specs.declared.turn.{phase.Phase.{Phase, TheVariants.{Idle, Waiting, Open}}, seats.Seat.Seat}
+use Rattle.lft_scheduler.specs.inner.{Phases.pending, Seats.{busy_at, busy, free, times, load, gain, loss, IsAtRest, IsMoving, IsPushed}}
 use Rattle.lft_scheduler.proofs.{WrittenSeats.{rest_moving, room_to_turn, written_moves}, ToldSeats.busy_waits}
 
 busy_pending : (p : Phase) (n : ℕ) → pending p ≡ true → busy_at p n ≡ true

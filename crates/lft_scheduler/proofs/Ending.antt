@@ -7,9 +7,10 @@ use Rattle.lft_ir.specs.declared.{parts.Value.Value, steps.row.{Row.Row, Step.St
 use Rattle.lft_queue.specs.Pending.{Pending}
 use Rattle.lft_scheduler.specs.declared.turn.phase.Phase.TheVariants.{Idle, Waiting, Open}
 use Rattle.lft_scheduler.specs.declared.open.OpenRun.{OpenRun}
-use Rattle.lft_scheduler.specs.{Turns.TurnParts, Events.HasEvents, Starts.IsAnyOpen, OpenRuns.{AreOpen, is_run}, Waits.{IsLeastTag, IsTurnOf}}
-use Rattle.lft_scheduler.specs.Telling.{IsTold, TriggeredByWrites}
-use Rattle.lft_scheduler.specs.Agendas.{AgendaParts, IsOf, IsAgenda, IsCurrent, IsReached, MayAdvance, MayBegin, MayEnd, EndsWith}
+use Rattle.lft_scheduler.specs.inner.{Turns.TurnParts, Events.HasEvents, OpenRuns.{AreOpen, is_run}, Waits.{IsLeastTag, IsTurnOf}}
+use Rattle.lft_scheduler.specs.inner.Telling.{IsTold, TriggeredByWrites}
+use Rattle.lft_scheduler.specs.inner.Agendas.{AgendaParts, IsOf, IsAgenda, IsCurrent, IsReached, MayAdvance, MayBegin, MayEnd, EndsWith}
+use Rattle.lft_scheduler.specs.Starts.{IsAnyOpen}
 use Rattle.lft_scheduler.proofs.{Keeping.{narrowed, begun_inert}, Awaiting.open_pending, Told.{waits_to, opens_to, at_least, some_run, no_run}}
 use Rattle.lft_scheduler.proofs.{RunsOpen.{opened_at, begun_open, committed_open}, RunEnded.{its_row, quiet_more}, Turned.{begun_turn, ended_turn}}
 use Rattle.lft_model.specs.{Plans.{PlanParts, IsSoundPlan}, Presence.stop, Runs.{Run, start_row, by_ends}, Breaches.IsOpen, OneWorker.{IsPending, Ready}}

@@ -11,7 +11,7 @@ use Rattle.lft_ir.proofs.Naming.{name_self}
 use Rattle.lft_lists.proofs.Picked.{take_one_more}
 use Rattle.lft_queue.specs.Pending.{Pending, value_of, same_key, Becomes}
 use Rattle.lft_model.{specs.{Plans.{PlanParts, IsSoundPlan}, Presence.{Last, IsWrittenFrom, At, PortClash, ClashesAt}}, proofs.Places.tag_discrete}
-use Rattle.lft_scheduler.specs.{Listeners.IsWatched, Events.{IsWanted, IsPut, seen_by, IsFedTo, WasWritten}}
+use Rattle.lft_scheduler.specs.inner.{Listeners.IsWatched, Events.{IsWanted, IsPut, seen_by, IsFedTo, WasWritten}}
 use Rattle.lft_scheduler.proofs.{Heard.heard, Written.{shifts_on, from_written, to_written, elsewhere_at, elsewhere_clash, more_clash, one_event, two_events}}
 
 -- the ports of a list that have heard so far, and the next one

@@ -4,8 +4,8 @@ use Rattle.std.proofs.lemmas.{Bool.cases_eq, Option.{slice_get_within, get_or_fr
 use Rattle.lft_ir.specs.{Parts.Parts, Sound.IsTriggerOf, declared.parts.{Reaction.Reaction, Trigger.Trigger}}
 use Rattle.lft_lists.proofs.{Picked.take_one_more, Places.same_at}
 use Rattle.lft_queue.proofs.Marking.{contains_pushed, none_contained}
-use Rattle.lft_scheduler.specs.{Listeners.{IsListener, IsLive, ListenerParts, AreListeners}, Lists.{TriggerLists, list_of, HasList, IsPushed, ArePushed}}
-use Rattle.lft_scheduler.specs.Filling.{AreListed}
+use Rattle.lft_scheduler.specs.inner.{Listeners.{IsListener, IsLive, ListenerParts, AreListeners}, Lists.{TriggerLists, list_of, HasList, IsPushed, ArePushed}}
+use Rattle.lft_scheduler.specs.inner.Filling.{AreListed}
 
 pub empty_contained : {X : Type 0} (xs : List X) (x : X) → xs ≡ [] → Contains xs x → ⊥
 empty_contained {X} xs x e c = none_contained x (subst (λ (ys : List X). Contains ys x) e c)

@@ -10,8 +10,9 @@ use Rattle.lft_lists.proofs.Members.{Mem, mem_contains, contains_mem, mem_map, m
 use Rattle.lft_lists.proofs.Places.{same_some, same_at, at_contains}
 use Rattle.lft_model.{proofs.Places.slice_get_within, specs.Presence.Fires}
 use Rattle.lft_queue.specs.Pending.{Pending}
-use Rattle.lft_scheduler.specs.{Listeners.IsLive, declared.firings.Firing.Firing, Waits.{IsBetween, IsCovered}, Telling.{FiresAt, TriggeredByQueue}}
-use Rattle.lft_scheduler.specs.Firings.{tag_of_firing, sooner_first, IsFirstOf, AreFirst}
+use Rattle.lft_scheduler.specs.inner.{Listeners.IsLive, Waits.{IsBetween, IsCovered}, Telling.{FiresAt, TriggeredByQueue}}
+use Rattle.lft_scheduler.specs.inner.Firings.{tag_of_firing, sooner_first, IsFirstOf, AreFirst}
+use Rattle.lft_scheduler.specs.declared.firings.Firing.{Firing}
 use Rattle.lft_scheduler.proofs.NextTags.{covered_after}
 
 -- a timer's first firing with a property is up to each of its firings with it

@@ -12,7 +12,7 @@ use Rattle.lft_lists.proofs.Members.{Mem, mem_get, get_mem, mem_filter, mem_from
 use Rattle.lft_queue.specs.Pending.{Pending, value_of, same_key, Becomes}
 use Rattle.lft_model.specs.{Plans.{PlanParts, IsSoundPlan}, Presence.{given, At, Shows, Inputs}}
 use Rattle.lft_model.proofs.{Places.slice_get_within, Counted.get_or_get, Steps.both_true, Reached.input_of_trigger, Empty.empty_so_far}
-use Rattle.lft_scheduler.{specs.{Listeners.IsListener, Events.{IsWatchedName, HasEvents}}, proofs.Fed.{none_there, some_there}}
+use Rattle.lft_scheduler.{specs.inner.{Listeners.IsListener, Events.{IsWatchedName, HasEvents}}, proofs.Fed.{none_there, some_there}}
 
 -- one of the first i events is of the action at the tag, with the value
 pub record IsGiven (events : List Event) (i : ℕ) (h : Tag) (n : Name) (v : Value) : Type 0 where

@@ -4,7 +4,7 @@ use Rattle.lft_tag.{specs.{declared.Tag.Tag, Tags.{Before, UpTo, same_tag}}, pro
 use Rattle.lft_ir.{specs.{declared.{parts.{Value.Value, Name.Name}, steps.row.Row.Row}, Naming.same_name}, proofs.Naming.{name_same, name_self}}
 use Rattle.lft_queue.specs.Pending.{Pending, value_of, same_key}
 use Rattle.lft_model.{specs.{Plans.PlanParts, Presence.{At, ClashesAt}}, proofs.Steps.both_true}
-use Rattle.lft_scheduler.specs.Events.{IsEarlier, IsWanted, IsPut, IsWatchedName, HasEventsOf}
+use Rattle.lft_scheduler.specs.inner.Events.{IsEarlier, IsWanted, IsPut, IsWatchedName, HasEventsOf}
 
 pub iff_trans : {A B C : Type 0} → A ↔ B → B ↔ C → A ↔ C
 iff_trans f g = (λ a. g.0 (f.0 a), λ c. f.1 (g.1 c))

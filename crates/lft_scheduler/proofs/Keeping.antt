@@ -6,7 +6,7 @@ use Rattle.lft_ir.specs.declared.parts.{Value.Value, Name.{Name, TheVariants.{Po
 use Rattle.lft_ir.specs.declared.steps.row.{Row.Row, Step.{Step, TheVariants.{Start, Read, Write, Schedule}}}
 use Rattle.lft_queue.specs.Pending.{Pending}
 use Rattle.lft_model.{specs.{Plans.PlanParts, Runs.{inputs_of, read_step}, Recorded.{run_row, begun_rows}}, proofs.Steps.in_reads}
-use Rattle.lft_scheduler.{specs.Events.HasEvents, proofs.Steps.inert}
+use Rattle.lft_scheduler.{specs.inner.Events.HasEvents, proofs.Steps.inert}
 
 -- from a later tag on, up to an earlier one
 pub narrowed : (plan : PlanParts) (t : List Row) (from later last sooner : Tag) (q : List Pending) → UpTo from later → UpTo sooner last → HasEvents plan t from last None q → HasEvents plan t later sooner None q

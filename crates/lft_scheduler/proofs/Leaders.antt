@@ -7,7 +7,7 @@ use native.Mathlib.Decide.{dec_lt}
 use Rattle.lft_ir.specs.{Parts.Parts, declared.parts.{Reaction.Reaction, Timer.Timer as TimerOf, Trigger.{Trigger, TheVariants.Timer}}}
 use Rattle.lft_lists.proofs.Picked.{take_one_more}
 use Rattle.lft_lists.proofs.Places.{get_same, length_same, get_written, get_unwritten, get_write_cases, length_written, same_at, same_some}
-use Rattle.lft_scheduler.specs.{Listeners.{beat, IsLeader, IsLive}, Filling.{beat_cmp, StartsBefore, HaveLeaders, AreLeading}}
+use Rattle.lft_scheduler.specs.inner.{Listeners.{beat, IsLeader, IsLive}, Filling.{beat_cmp, StartsBefore, HaveLeaders, AreLeading}}
 use Rattle.lft_queue.proofs.Marking.{contains_pushed, none_contained}
 use Rattle.lft_tag.proofs.Comparing.{not_equal}
 

@@ -2,7 +2,7 @@
 use Rattle.std.proofs.Common.{◌≡◌, ◌⊎◌, inl, inr, ◌<◌, ◌≤◌, ℕ, List, [], ◌∷◌, refl, sym, ap, ◌∙◌, subst, arith, Option, Some, None, slice_get, Contains}
 use Rattle.lft_ir.specs.{Parts.Parts, declared.parts.{Timer.Timer as TimerOf, Trigger.{Trigger, TheVariants.{Startup, Shutdown, Timer, On}}}}
 use Rattle.lft_lists.proofs.{Members.{Mem, mem_contains, contains_mem}, Places.same_some}
-use Rattle.lft_scheduler.{specs.Listeners.{beat, IsLeader}, proofs.Leaders.{cases_beat, starts_cases, starts_through}}
+use Rattle.lft_scheduler.{specs.inner.Listeners.{beat, IsLeader}, proofs.Leaders.{cases_beat, starts_cases, starts_through}}
 use Rattle.lft_queue.proofs.Marking.{none_contained}
 
 -- each timer among the triggers is led by one that beats like it and doesn't start later

@@ -5,7 +5,7 @@ use native.Mathlib.Decide.{dec_lt}
 use Rattle.lft_tag.specs.declared.Tag.{Tag}
 use Rattle.lft_ir.specs.{Parts.Parts, declared.parts.{Timer.Timer as TimerOf, Trigger.TheVariants.Timer}}
 use Rattle.lft_model.specs.Presence.{Fires}
-use Rattle.lft_scheduler.{specs.{Listeners.{beat, IsListener, IsLive}, Telling.FiresAt}, proofs.Led.led}
+use Rattle.lft_scheduler.{specs.inner.{Listeners.{beat, IsListener, IsLive}, Telling.FiresAt}, proofs.Led.led}
 
 -- the later of two offsets that go as far past whole periods is whole periods after the other
 periods_after : (first offset period : ℕ) → 0 < period → first % period ≡ offset % period → first ≤ offset → (j : ℕ) × (offset ≡ first + j * period)

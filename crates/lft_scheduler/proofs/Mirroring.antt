@@ -4,7 +4,7 @@ use Rattle.std.proofs.lemmas.{Option.{slice_get_within, slice_get-get_or}, Bool.
 use Rattle.lft_ir.specs.Parts.{Parts}
 use Rattle.lft_graph.specs.Graph.{GraphParts, IsGraphOf}
 use Rattle.lft_lists.proofs.Places.{get_there, get_write_cases, length_written, same_at}
-use Rattle.lft_scheduler.specs.Seats.{hit, times, AreInside, AreOnce, IsNoted, IsMirrored, IsMirror}
+use Rattle.lft_scheduler.specs.inner.Seats.{hit, times, AreInside, AreOnce, IsNoted, IsMirrored, IsMirror}
 use Rattle.lft_scheduler.proofs.Adding.{hit_same, hit_apart, times_drop, times_at, times_back}
 
 times_append : (xs : List ℕ) (r x : ℕ) → times x (xs ++ r ∷ []) ≡ times x xs + hit x r

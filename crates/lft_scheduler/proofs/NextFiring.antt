@@ -5,7 +5,7 @@ use native.Mathlib.Decide.{dec_lt}
 use Rattle.lft_tag.{specs.{declared.Tag.Tag, Tags.{Before, UpTo}}, proofs.Chains.tag_of}
 use Rattle.lft_ir.specs.declared.parts.Timer.{Timer as TimerOf}
 use Rattle.lft_model.{specs.Presence.Fires, proofs.Firings.{firing, time_of}}
-use Rattle.lft_scheduler.specs.Firings.{IsFirstFiring}
+use Rattle.lft_scheduler.specs.inner.Firings.{IsFirstFiring}
 
 -- after a tag is at a later time, since it fires at microstep 0
 later_time : (g f : Tag) → f.micro ≡ 0 → Before g f → g.time < f.time

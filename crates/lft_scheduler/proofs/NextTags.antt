@@ -6,9 +6,11 @@ use Rattle.lft_tag.proofs.Order.{Before-irrefl, Before-UpTo, Before-weaken, UpTo
 use Rattle.lft_ir.specs.declared.{parts.{Name.Name, Value.Value, Trigger.{Trigger, TheVariants.{Startup, Shutdown, Timer, On}}}, steps.row.Row.Row}
 use Rattle.lft_ir.specs.Naming.{same_name}
 use Rattle.lft_queue.{specs.Pending.{Pending, value_of, same_key, is_after}, proofs.{Dropping.later_value, Tests.before_test}}
-use Rattle.lft_scheduler.specs.{declared.turn.phase.Phase.{Phase, TheVariants.{Idle, Waiting, Open}}, Turns.{TurnParts, NonePending}}
-use Rattle.lft_scheduler.specs.{Events.{IsWatchedName, HasEvents}, Listeners.IsListener, Starts.SomethingLeft, Waits.{IsBetween, IsCovered, PhaseIs, IsTurnOf}}
-use Rattle.lft_scheduler.specs.{Telling.{IsTold, OccursBy, TriggeredByQueue}, Agendas.{MayAdvance, IsReached, IsCurrent}}
+use Rattle.lft_scheduler.specs.declared.turn.phase.Phase.{Phase, TheVariants.{Idle, Waiting, Open}}
+use Rattle.lft_scheduler.specs.inner.{Turns.{TurnParts, NonePending}, Events.{IsWatchedName, HasEvents}, Listeners.IsListener}
+use Rattle.lft_scheduler.specs.inner.{Waits.{IsBetween, IsCovered, PhaseIs, IsTurnOf}, Telling.{IsTold, OccursBy, TriggeredByQueue}}
+use Rattle.lft_scheduler.specs.inner.Agendas.{MayAdvance, IsReached, IsCurrent}
+use Rattle.lft_scheduler.specs.Starts.{SomethingLeft}
 use Rattle.lft_scheduler.proofs.{Given.listened_watched, Fed.some_there, RunsOpen.filter_mem, Told.{pending_back, none_waits, all_idle}}
 use Rattle.lft_graph.specs.Graph.{GraphParts, IsGraphOf}
 use Rattle.lft_model.specs.{Plans.{PlanParts, IsSoundPlan}, Presence.{stop, At, Occurs, Triggered}, Runs.{Ran, start_row, end_row, by_ends}}

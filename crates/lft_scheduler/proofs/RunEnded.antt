@@ -17,7 +17,8 @@ use Rattle.lft_model.specs.Recorded.{SoFar, IsAnswer, OnlyEndedAnswer, MayAnswer
 use Rattle.lft_model.proofs.{Places.slice_get_within, Stops.stop_append, Steps.{written_some, some_written}, Ended.{written_by, by_written, scheduled_by}}
 use Rattle.lft_model.proofs.{Law.EndRow, Legality.ran_at, Kept.effect_of, Reached.input_of_trigger, Blocks.put_right, Added.added_row}
 use Rattle.lft_model.proofs.{Committed.{not_ended, its_time, new_stop}, Recording.precedes_ended, Quiet.{pending_now, pending_triggered, pending_open}}
-use Rattle.lft_scheduler.{proofs.Written.{from_written, to_written}, specs.{Listeners.IsListener, Telling.{ArrivesAtOnce, TriggeredByWrites}, Agendas.MayEnd}}
+use Rattle.lft_scheduler.proofs.Written.{from_written, to_written}
+use Rattle.lft_scheduler.specs.inner.{Listeners.IsListener, Telling.{ArrivesAtOnce, TriggeredByWrites}, Agendas.MayEnd}
 
 -- delays that lead from a tag to itself are none
 undelayed : (g : Tag) (ds : List ℕ) → after_all g ds ≡ g → ds ≡ []

@@ -9,7 +9,7 @@ use Rattle.lft_model.specs.{Plans.{PlanParts, IsSoundPlan}, Presence.stop, Runs.
 use Rattle.lft_model.specs.{Breaches.IsOpen, Recorded.{run_row, begun_rows, committed_rows, MayAnswer}}
 use Rattle.lft_model.proofs.{Places.slice_get_within, Steps.{both_true, in_reads}, Blocks.put_right, Added.added_row, Begun.{steps_same, own_reads}}
 use Rattle.lft_model.proofs.{Committed.same_reads, Quiet.pending_time}
-use Rattle.lft_scheduler.specs.{Starts.IsBusy, declared.open.OpenRun.OpenRun, OpenRuns.{AreOpen, HasReads, is_run}, Agendas.{MayBegin, MayEnd}}
+use Rattle.lft_scheduler.specs.{Starts.IsBusy, declared.open.OpenRun.OpenRun, inner.{OpenRuns.{AreOpen, HasReads, is_run}, Agendas.{MayBegin, MayEnd}}}
 
 -- what a filter keeps
 pub filter_mem : {X : Type 0} (p : X → Bool) (xs : List X) (x : X) → Mem x (filter p xs) → Mem x xs × (p x ≡ true)

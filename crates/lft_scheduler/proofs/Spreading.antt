@@ -3,8 +3,8 @@ use Rattle.std.proofs.Common.{◌≡◌, ℕ, zero, suc, ◌<◌, ◌≤◌, ◌
 use Rattle.std.proofs.lemmas.{Option.{slice_get_within, slice_get-map}, Bool.{false≢true, cases_lt}}
 use mathlib.Core.Bool.{Bool, true}
 use Rattle.lft_lists.proofs.Places.{get_there, same_at, contains_at, at_contains}
-use Rattle.lft_scheduler.specs.{declared.turn.{phase.Phase.{Phase, TheVariants.{Idle, Waiting, Open}}, seats.Seat.Seat}, Flags.IsFlagged}
-use Rattle.lft_scheduler.specs.Seats.{busy_at, busy, free_at, free, IsAtRest, IsMirror, phases_of}
+use Rattle.lft_scheduler.specs.declared.turn.{phase.Phase.{Phase, TheVariants.{Idle, Waiting, Open}}, seats.Seat.Seat}
+use Rattle.lft_scheduler.specs.inner.{Flags.IsFlagged, Seats.{busy_at, busy, free_at, free, IsAtRest, IsMirror, phases_of}}
 use Rattle.lft_scheduler.proofs.{Blocked.{IsBusy, IsFree, SpreadsAlong}, Adding.{times_at, times_back, load_some, load_back}, ToldSeats.busy_waits}
 
 -- some of the short list of r are busy

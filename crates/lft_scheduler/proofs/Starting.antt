@@ -3,7 +3,7 @@ use Rattle.std.proofs.Common.{◌≡◌, ℕ, zero, suc, List, [], ◌∷◌, le
 use Rattle.std.proofs.lemmas.Option.{slice_get_within}
 use mathlib.Core.Bool.{false}
 use Rattle.lft_lists.proofs.Places.{get_there, get_same, length_same}
-use Rattle.lft_scheduler.specs.{declared.turn.{phase.Phase.TheVariants.Idle, seats.Seat.Seat}, Seats.{busy, free, load, IsAtRest, phases_of}}
+use Rattle.lft_scheduler.specs.{declared.turn.{phase.Phase.TheVariants.Idle, seats.Seat.Seat}, inner.Seats.{busy, free, load, IsAtRest, phases_of}}
 
 abbrev pub idle_seat : Seat
 idle_seat = record { phase = Idle; waits = 0; counted = false }

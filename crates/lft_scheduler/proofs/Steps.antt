@@ -9,8 +9,8 @@ use Rattle.lft_ir.specs.declared.parts.{Port.Port as PortOf, Value.Value, Name.{
 use Rattle.lft_ir.specs.declared.steps.row.{Row.Row, Step.{Step, TheVariants.{Write, Schedule, End}}}
 use Rattle.lft_ir.specs.Naming.{same_name}
 use Rattle.lft_queue.specs.Pending.{Pending, value_of}
-use Rattle.lft_scheduler.specs.Listeners.{IsArrival, IsWatched}
-use Rattle.lft_scheduler.specs.Events.{IsEarlier, IsWanted, IsPut, IsWatchedName, HasEvents, HasEventsOf, seen_by, IsFedTo, WasWritten, KnowsAgain}
+use Rattle.lft_scheduler.specs.inner.Listeners.{IsArrival, IsWatched}
+use Rattle.lft_scheduler.specs.inner.Events.{IsEarlier, IsWanted, IsPut, IsWatchedName, HasEvents, HasEventsOf, seen_by, IsFedTo, WasWritten, KnowsAgain}
 use Rattle.lft_scheduler.proofs.{Heard.{heard, unheard, iff_trans, iff_sym}, Written.{origin_at, its_origin, unheard_at, unheard_clash, more_clash}}
 use Rattle.lft_scheduler.proofs.{Carried.{carried, earlier_up}, Fed.{none_there, some_there, among_new}}
 use Rattle.lft_model.specs.Plans.{PlanParts, IsSoundPlan}

@@ -5,7 +5,7 @@ use Rattle.lft_lists.proofs.Members.{Mem, mem_get, get_mem, mem_cases, mem_left,
 use Rattle.lft_ir.specs.declared.steps.row.{Row.Row, Step.{Step, TheVariants.{Stop, End}}}
 use Rattle.lft_model.specs.{Plans.PlanParts, Presence.{requests, stop}, Recorded.{run_row, committed_rows}}
 use Rattle.lft_model.proofs.Stops.{ask, asker, stop_asked, stop_append, stop_added}
-use Rattle.lft_scheduler.specs.Agendas.{AsksStop}
+use Rattle.lft_scheduler.specs.inner.Agendas.{AsksStop}
 
 module _ (plan : PlanParts) (t : List Row) (w : ℕ) (g : Tag) (r : ℕ) (steps : List Step) where
   -- the stop is the old one, or one that the new rows ask for

@@ -5,8 +5,9 @@ use Rattle.lft_tag.{specs.{declared.Tag.Tag, Tags.{Before, UpTo, is_before}}, pr
 use Rattle.lft_ir.specs.{Parts.Parts, declared.parts.Trigger.TheVariants.Timer}
 use Rattle.lft_lists.proofs.Members.{Mem, mem_contains, contains_mem}
 use Rattle.lft_model.specs.Presence.{Fires}
-use Rattle.lft_scheduler.specs.{Listeners.{IsListener, IsLive}, Turns.TurnParts, declared.firings.Firing.Firing, Telling.{IsTold, FiresAt}}
-use Rattle.lft_scheduler.specs.Firings.{tag_of_firing, IsFirstOf, AreFirst, IsMoved, how_many_until}
+use Rattle.lft_scheduler.specs.inner.{Listeners.{IsListener, IsLive}, Turns.TurnParts, Telling.{IsTold, FiresAt}}
+use Rattle.lft_scheduler.specs.inner.Firings.{tag_of_firing, IsFirstOf, AreFirst, IsMoved, how_many_until}
+use Rattle.lft_scheduler.specs.declared.firings.Firing.{Firing}
 use Rattle.lft_scheduler.proofs.{ToldTurns.{told_none, told_as, told_more}, LedFirings.live_fires, FirstFirings.{first_up_to, first_after}}
 use Rattle.lft_queue.proofs.Tests.{test_before, not_before}
 

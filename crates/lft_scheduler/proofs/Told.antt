@@ -7,9 +7,9 @@ use Rattle.lft_model.proofs.Places.{slice_get_within}
 use Rattle.lft_model.specs.{Plans.{PlanParts, IsSoundPlan}, Runs.{Ran, by_ends}, OneWorker.IsPending, Recorded.{SoFar, OnlyEndedAnswer}}
 use Rattle.lft_scheduler.specs.declared.turn.phase.Phase.{Phase, TheVariants.{Idle, Waiting, Open}}
 use Rattle.lft_scheduler.specs.declared.open.OpenRun.{OpenRun}
-use Rattle.lft_scheduler.specs.Turns.{TurnParts, IsReady, IsLeastReady, NoneOpen, NonePending, IsPending as IsBusyThere}
-use Rattle.lft_scheduler.specs.{Starts.{MayStart, MayStartFirst, NoneMayStart, NothingLeft, IsAnyOpen}, OpenRuns.AreOpen}
-use Rattle.lft_scheduler.specs.{Waits.{Awaits, IsLeastTag, PhaseIs, IsTurnOf}, Agendas.{AgendaParts, IsAgenda, MayFind}}
+use Rattle.lft_scheduler.specs.inner.{Turns.{TurnParts, IsReady, IsLeastReady, NoneOpen, NonePending, IsPending as IsBusyThere}, OpenRuns.AreOpen}
+use Rattle.lft_scheduler.specs.inner.{Waits.{Awaits, IsLeastTag, PhaseIs, IsTurnOf}, Agendas.{AgendaParts, IsAgenda, MayFind}}
+use Rattle.lft_scheduler.specs.Starts.{MayStart, MayStartFirst, NoneMayStart, NothingLeft, IsAnyOpen}
 use Rattle.lft_scheduler.proofs.Awaiting.{pending_within, ran_open, any_left}
 
 -- the runs that are kept are all that are open

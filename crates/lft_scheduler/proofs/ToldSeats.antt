@@ -3,7 +3,7 @@ use Rattle.std.proofs.Common.{◌≡◌, ◌≢◌, ℕ, zero, suc, ◌+◌, ◌
 use Rattle.std.proofs.lemmas.Bool.{true≢false, false≢true, cases_Bool}
 use mathlib.Core.Bool.{Bool, true, false, not}
 use Rattle.lft_scheduler.specs.declared.turn.{phase.Phase.{Phase, TheVariants.{Idle, Waiting, Open}}, seats.Seat.Seat}
-use Rattle.lft_scheduler.specs.Seats.{busy_at, busy, free, times, hit, load, gain, loss, differ, uncounted, AreOnce, IsMoving, IsPushed}
+use Rattle.lft_scheduler.specs.inner.Seats.{busy_at, busy, free, times, hit, load, gain, loss, differ, uncounted, AreOnce, IsMoving, IsPushed}
 use Rattle.lft_scheduler.proofs.{Adding.{hit_same, hit_apart, times_drop, load_small, tally_written}, WrittenSeats.{room_to_turn, written_moves}}
 
 pub busy_waits : (p : Phase) (n : ℕ) → 0 < n → busy_at p n ≡ true

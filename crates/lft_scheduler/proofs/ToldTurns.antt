@@ -4,8 +4,9 @@ use native.Mathlib.Decide.{dec_lt}
 use Rattle.lft_tag.specs.declared.Tag.{Tag}
 use Rattle.lft_ir.specs.{Parts.Parts, declared.parts.{Name.Name, Trigger.{Trigger, TheVariants.{Startup, Shutdown, Timer, On}}}}
 use Rattle.lft_queue.specs.Pending.{Pending, value_of}
-use Rattle.lft_scheduler.specs.{Listeners.{IsListener, IsLive}, declared.turn.phase.Phase.{Phase, TheVariants.{Idle, Waiting, Open}}}
-use Rattle.lft_scheduler.specs.{Turns.{TurnParts, IsPending}, Telling.{IsTold, FiresAt, OccursBy, TriggeredByQueue, OfFirst}}
+use Rattle.lft_scheduler.specs.inner.{Listeners.{IsListener, IsLive}, Turns.{TurnParts, IsPending}}
+use Rattle.lft_scheduler.specs.inner.Telling.{IsTold, FiresAt, OccursBy, TriggeredByQueue, OfFirst}
+use Rattle.lft_scheduler.specs.declared.turn.phase.Phase.{Phase, TheVariants.{Idle, Waiting, Open}}
 use Rattle.lft_lists.proofs.Places.{get_there, get_written, get_unwritten, length_written, get_write_cases, same_at}
 use Rattle.lft_model.proofs.Places.{slice_get_within}
 

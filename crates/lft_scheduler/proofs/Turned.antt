@@ -4,8 +4,8 @@ use Rattle.lft_tag.specs.declared.Tag.{Tag}
 use Rattle.lft_ir.specs.declared.{parts.Value.Value, steps.row.{Row.Row, Step.Step}}
 use Rattle.lft_graph.specs.Graph.{GraphParts, IsGraphOf}
 use Rattle.lft_lists.proofs.Places.{get_there, get_write_cases, length_written, get_append_cases, get_left}
-use Rattle.lft_scheduler.specs.{declared.turn.phase.Phase.{Phase, TheVariants.{Idle, Waiting, Open}}, Turns.TurnParts, Waits.{PhaseIs, IsTurnOf}}
-use Rattle.lft_scheduler.specs.{Telling.{IsTold, TriggeredByWrites}, Agendas.MayEnd}
+use Rattle.lft_scheduler.specs.declared.turn.phase.Phase.{Phase, TheVariants.{Idle, Waiting, Open}}
+use Rattle.lft_scheduler.specs.inner.{Turns.TurnParts, Waits.{PhaseIs, IsTurnOf}, Telling.{IsTold, TriggeredByWrites}, Agendas.MayEnd}
 use Rattle.lft_scheduler.proofs.RunEnded.{ran_before, ran_on, no_more, called_waits, pending_on, pending_cases}
 use Rattle.lft_model.specs.{Plans.{PlanParts, IsSoundPlan}, Runs.{Run, Ran, start_row, by_ends}, OneWorker.IsPending}
 use Rattle.lft_model.specs.Recorded.{SoFar, begun_steps, begun_rows, committed_rows}

@@ -5,7 +5,8 @@ use native.Mathlib.Decide.{dec_lt}
 use Rattle.lft_tag.{specs.Tags.{Before, UpTo}, proofs.Order.{Before-irrefl, Before-UpTo, Before-weaken, UpTo-refl, UpTo_antisym, order_cases}}
 use Rattle.lft_ir.specs.{Parts.Parts, Sound.IsSound, declared.parts.Port.Port as PortOf}
 use Rattle.lft_lists.proofs.Places.{get_there, get_same, length_same, get_write_cases, length_written, same_at, same_some}
-use Rattle.lft_scheduler.specs.{Listeners.{arrival, IsDelayed, IsFirstDelayed, IsWatched}, Filling.{Precedes, IsFirst, AreFirst, WatchedParts, AreWatched}}
+use Rattle.lft_scheduler.specs.inner.Listeners.{arrival, IsDelayed, IsFirstDelayed, IsWatched}
+use Rattle.lft_scheduler.specs.inner.Filling.{Precedes, IsFirst, AreFirst, WatchedParts, AreWatched}
 
 -- one port more is looked at
 module _ (program : Parts) (n : ℕ) (port : PortOf) (here : slice_get program.ports n ≡ Some port) where

@@ -7,7 +7,7 @@ use Rattle.lft_lists.proofs.Members.{Mem, last-append_some}
 use Rattle.lft_ir.specs.{Parts.Parts, Origins.{Origin, Origin.{itself, over}}}
 use Rattle.lft_ir.specs.declared.{parts.{Port.Port as PortOf, Value.Value, Name.TheVariants.Port}, steps.row.{Row.Row, Step.{Step, TheVariants.Write}}}
 use Rattle.lft_ir.proofs.Origins.{origin_unique, port_of}
-use Rattle.lft_scheduler.specs.Listeners.{IsArrival}
+use Rattle.lft_scheduler.specs.inner.Listeners.{IsArrival}
 use Rattle.lft_model.specs.{Plans.{PlanParts, IsSoundPlan}, Presence.{value_written, written, Last, IsWrittenFrom, At, PortClash, ClashesAt}}
 use Rattle.lft_model.proofs.{Places.tag_discrete, Steps.{written_some, some_written}, Ended.{written_by, by_written}, Grown.added_none}
 

@@ -4,7 +4,7 @@ use Rattle.std.proofs.lemmas.{Option.slice_get_within, Bool.cases_eq}
 use mathlib.Core.Bool.{Bool, not}
 use Rattle.lft_lists.proofs.Places.{get_written, get_unwritten, get_write_cases, length_written, same_at}
 use Rattle.lft_scheduler.specs.declared.turn.seats.Seat.{Seat}
-use Rattle.lft_scheduler.specs.Seats.{busy_at, busy, free_at, free, differ, tally, times, load, gain, loss, IsAtRest, IsMoving, IsStacked, IsPushed}
+use Rattle.lft_scheduler.specs.inner.Seats.{busy_at, busy, free_at, free, differ, tally, times, load, gain, loss, IsAtRest, IsMoving, IsStacked, IsPushed}
 use Rattle.lft_scheduler.proofs.Adding.{not_self, differ_same, differ_not, gain_none, loss_none, tally_written, tally_some, tally_same, tally_small, load_flip, load_same}
 
 same_busy : (s y : Seat) → y.phase ≡ s.phase → y.waits ≡ s.waits → busy y ≡ busy s

@@ -1,16 +1,4 @@
-pub mod Events
-pub mod Listeners
-pub mod Lists
-pub mod Filling
-pub mod Phases
-pub mod Turns
-pub mod Flags
-pub mod Seats
-pub mod OpenRuns
-pub mod Waits
-pub mod Telling
-pub mod Firings
-pub mod Agendas
 pub mod Starts
 pub mod Collisions
 pub mod Answering
+pub mod inner

@@ -4,8 +4,8 @@ ghost use Rattle.std.specs.Prelude.{◌≡◌, ◌≤◌, ◌<◌, length, Some,
 ghost use Rattle.lft_tag.specs.{declared.Tag.Tag as TagOf, Tags.{Before, UpTo}};
 ghost use Rattle.lft_ir.specs.{Parts.Parts, declared.steps.row.Row.Row as RowOf};
 ghost use Rattle.lft_queue.specs.Pending.{Pending};
-ghost use Rattle.lft_scheduler.specs.{Listeners.AreListeners, Waits.{IsBetween, IsCovered}, Telling.TriggeredByQueue, Firings.AreFirst};
-ghost use Rattle.lft_scheduler.specs.Agendas.{MayAdvance, IsReached, IsCurrent};
+ghost use Rattle.lft_scheduler.specs.inner.{Listeners.AreListeners, Waits.{IsBetween, IsCovered}, Telling.TriggeredByQueue, Firings.AreFirst};
+ghost use Rattle.lft_scheduler.specs.inner.Agendas.{MayAdvance, IsReached, IsCurrent};
 
 use crate::firings::Firings;
 use crate::listeners::Listeners;

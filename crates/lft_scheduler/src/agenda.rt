@@ -4,7 +4,8 @@ ghost use Rattle.std.specs.Prelude.{◌≡◌, ◌<◌, ◌↔◌, ◌++◌, ℕ
 ghost use Rattle.lft_tag.specs.Tags.{IsRecorded};
 ghost use Rattle.lft_model.specs.{Plans.{PlanParts, IsSoundPlan}, Presence.Inputs, Recorded.{SoFar, OnlyEndedAnswer, begun_rows}};
 ghost use Rattle.lft_ir.specs.{declared.steps.row.{Row.Row as RowOf, Step.Step as StepOf}, Steps.Fits.StepFits};
-ghost use Rattle.lft_scheduler.specs.{Starts.{IsBusy, MayStart}, Agendas.{IsAgenda, IsOf, MayFind, Finds, MayBegin, MayEnd, EndsWith}, OpenRuns.HasReads};
+ghost use Rattle.lft_scheduler.specs.Starts.{IsBusy, MayStart};
+ghost use Rattle.lft_scheduler.specs.inner.{Agendas.{IsAgenda, IsOf, MayFind, Finds, MayBegin, MayEnd, EndsWith}, OpenRuns.HasReads};
 
 use crate::advancing::advance;
 use crate::events::{feed, first_events, read_inputs};
@@ -43,7 +44,7 @@ pub struct Agenda {
 }
 
 impl Model for Agenda {
-    ghost use Rattle.lft_scheduler.specs.Agendas.{AgendaParts};
+    ghost use Rattle.lft_scheduler.specs.inner.Agendas.{AgendaParts};
 
     ghost Value = { AgendaParts };
 

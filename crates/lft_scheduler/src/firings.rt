@@ -3,8 +3,8 @@
 ghost use Rattle.std.specs.Prelude.{◌≡◌, ◌≤◌, ◌<◌, [], length, IfOk, IfSome, IfNone, Contains};
 ghost use Rattle.lft_tag.specs.Tags.{Before, UpTo};
 ghost use Rattle.lft_model.specs.Presence.{Fires};
-ghost use Rattle.lft_scheduler.specs.{Listeners.AreListeners, declared.firings.Firing.Firing as FiringOf};
-ghost use Rattle.lft_scheduler.specs.Firings.{tag_of_firing, IsFirstFiring, AreFirst, IsMoved};
+ghost use Rattle.lft_scheduler.specs.inner.{Listeners.AreListeners, Firings.{tag_of_firing, IsFirstFiring, AreFirst, IsMoved}};
+ghost use Rattle.lft_scheduler.specs.declared.firings.Firing.{Firing as FiringOf};
 
 use crate::listeners::Listeners;
 use lft_ir::{Program, Timer};
@@ -68,7 +68,7 @@ pub(crate) struct Firings {
 impl Model for Firings {
     ghost use Rattle.std.specs.Prelude.{List, map};
     ghost use Rattle.std.specs.BinaryHeap.{heap_items, IsHeap};
-    ghost use Rattle.lft_scheduler.specs.{declared.firings.Firing.Firing, Firings.sooner_first};
+    ghost use Rattle.lft_scheduler.specs.{declared.firings.Firing.Firing, inner.Firings.sooner_first};
 
     ghost Value = { List Firing };
 

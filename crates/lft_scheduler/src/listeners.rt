@@ -2,7 +2,7 @@
 
 ghost use Rattle.std.specs.Prelude.{◌↔◌, ℕ, length, Contains, IfOk, OnOk};
 ghost use Rattle.lft_ir.specs.{Parts.Parts, declared.parts.Trigger.Trigger as TriggerOf};
-ghost use Rattle.lft_scheduler.specs.{Listeners.{IsListener, IsLive, AreListeners}, Lists.{HasList, ArePushed}, Filling.AreListed};
+ghost use Rattle.lft_scheduler.specs.inner.{Listeners.{IsListener, IsLive, AreListeners}, Lists.{HasList, ArePushed}, Filling.AreListed};
 
 mod arrivals;
 mod by_trigger;
@@ -27,7 +27,7 @@ pub(crate) struct Listeners {
 }
 
 impl Model for Listeners {
-    ghost use Rattle.lft_scheduler.specs.Listeners.{ListenerParts};
+    ghost use Rattle.lft_scheduler.specs.inner.Listeners.{ListenerParts};
 
     ghost Value = { ListenerParts };
 

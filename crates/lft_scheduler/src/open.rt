@@ -3,7 +3,7 @@
 ghost use Rattle.std.specs.Prelude.{◌≡◌, ◌↔◌, ◌<◌, List, filter, not, IsTrue};
 ghost use Rattle.lft_model.specs.Plans.{PlanParts};
 ghost use Rattle.lft_ir.specs.declared.steps.row.Row.{Row};
-ghost use Rattle.lft_scheduler.specs.{Starts.IsBusy, OpenRuns.{AreOpen, HasReads, is_run}};
+ghost use Rattle.lft_scheduler.specs.{Starts.IsBusy, inner.OpenRuns.{AreOpen, HasReads, is_run}};
 
 use crate::same::same_reads;
 use lft_ir::Value;

@@ -4,7 +4,7 @@ ghost use Rattle.std.specs.Prelude.{◌≡◌, ◌≤◌, ◌↔◌, ◌++◌, �
 ghost use Rattle.lft_tag.specs.Tags.{IsRecorded};
 ghost use Rattle.lft_ir.specs.declared.steps.row.Row.{Row as RowOf};
 ghost use Rattle.lft_model.specs.{Plans.PlanParts, Presence.stop as the_stop, Recorded.committed_rows};
-ghost use Rattle.lft_scheduler.specs.Agendas.{AsksStop};
+ghost use Rattle.lft_scheduler.specs.inner.Agendas.{AsksStop};
 
 use lft_ir::steps::{Step, is_stop};
 use lft_tag::Tag;

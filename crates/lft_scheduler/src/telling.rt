@@ -3,7 +3,7 @@
 ghost use Rattle.std.specs.Prelude.{◌≡◌, ◌≤◌, length, IsSome, IsTrue};
 ghost use Rattle.lft_tag.specs.Tags.{Before, UpTo};
 ghost use Rattle.lft_ir.specs.declared.parts.Name.{Name as NameOf};
-ghost use Rattle.lft_scheduler.specs.{Listeners.{IsListener, AreListeners}, Telling.{IsTold, FiresAt, TriggeredByQueue}, Firings.AreFirst};
+ghost use Rattle.lft_scheduler.specs.inner.{Listeners.{IsListener, AreListeners}, Telling.{IsTold, FiresAt, TriggeredByQueue}, Firings.AreFirst};
 ghost use Rattle.lft_queue.specs.Pending.{value_of};
 
 use crate::firings::Firings;

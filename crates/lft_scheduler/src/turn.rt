@@ -4,7 +4,7 @@ ghost use Rattle.std.specs.Prelude.{◌≡◌, ℕ, false, ◌<◌, ◌≤◌, l
 ghost use Rattle.lft_ir.specs.Parts.{Parts};
 ghost use Rattle.lft_graph.specs.Graph.{IsGraphOf};
 ghost use Rattle.lft_scheduler.specs.declared.turn.phase.Phase.TheVariants.{Idle, Waiting, Open};
-ghost use Rattle.lft_scheduler.specs.Turns.{IsPending, IsReady, IsLeastReady, NoneOpen, NonePending};
+ghost use Rattle.lft_scheduler.specs.inner.Turns.{IsPending, IsReady, IsLeastReady, NoneOpen, NonePending};
 
 mod members;
 mod mirror;
@@ -44,7 +44,7 @@ pub(crate) struct Turn {
 }
 
 impl Model for Turn {
-    ghost use Rattle.lft_scheduler.specs.{Turns.TurnParts, Seats.{IsKept, phases_of}};
+    ghost use Rattle.lft_scheduler.specs.inner.{Turns.TurnParts, Seats.{IsKept, phases_of}};
 
     ghost Value = { TurnParts };
 

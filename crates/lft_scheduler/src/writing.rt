@@ -3,7 +3,7 @@
 ghost use Rattle.std.specs.Prelude.{◌≡◌, length};
 ghost use Rattle.lft_tag.specs.Tags.{IsRecorded};
 ghost use Rattle.lft_ir.specs.declared.parts.Name.{Name as NameOf};
-ghost use Rattle.lft_scheduler.specs.{Listeners.{IsListener, AreListeners, AreArrivals}, Telling.{IsTold, ArrivesAtOnce, TriggeredByWrites}};
+ghost use Rattle.lft_scheduler.specs.inner.{Listeners.{IsListener, AreListeners, AreArrivals}, Telling.{IsTold, ArrivesAtOnce, TriggeredByWrites}};
 
 use crate::listeners::{Arrivals, Listeners};
 use crate::telling::tell_of;

@@ -11,10 +11,10 @@ use Rattle.lft_lists.proofs.Places.{get_there, same_at, get_write_cases, get_wri
 use Rattle.lft_lists.proofs.Members.{mem_get, get_mem, mem_contains, contains_mem}
 use Rattle.lft_model.specs.{Plans.PlanParts, Runs.{start_row, end_row, Ran}}
 use Rattle.lft_model.proofs.{Blocks.put_right, Ended.row_is, Legality.{four, one_start, one_end, ended, ran_at}, Places.slice_get_within}
-use Rattle.lft_rows.specs.{declared.slices.Slice.Slice, Slices.{IsSlice, AreTags}}
-use Rattle.lft_slices.specs.declared.pieces.{Piece.Piece, Pieces.Pieces}
-use Rattle.lft_slices.specs.Pieces.{IsPiece, AreRuns, AreEndsTo, AreStartsTo, AreRunsIn, ArePiecesTo, ArePieces, IsTagAt}
-use Rattle.lft_check.specs.ByTag.Slices.{IsCuttable, AreSlices}
+use Rattle.lft_rows.specs.{declared.slices.Slice.Slice, inner.Slices.IsSlice, Slices.AreTags}
+use Rattle.lft_slices.specs.{declared.pieces.{Piece.Piece, Pieces.Pieces}, Pieces.{IsPiece, AreRuns, IsTagAt}}
+use Rattle.lft_slices.specs.inner.Pieces.{AreEndsTo, AreStartsTo, AreRunsIn, ArePiecesTo, ArePieces}
+use Rattle.lft_check.specs.inner.ByTag.Slices.{IsCuttable, AreSlices}
 
 -- no two pieces of the list are of one reaction
 abbrev AreApart : List Piece → Type 0

@@ -5,7 +5,7 @@ use Rattle.lft_ir.specs.{declared.steps.row.{Row.Row, Step.TheVariants.Start}, S
 use Rattle.lft_model.{specs.{Plans.PlanParts, Runs.{start_row, reads_at, answer_at}}, proofs.Places.slice_get_within}
 use Rattle.lft_rows.specs.{Answers.Answers.KeepsRows, Presence.Traces.TraceParts}
 use Rattle.lft_slices.specs.{declared.pieces.Piece.Piece, Pieces.IsPiece}
-use Rattle.lft_check.specs.ByTag.Slices.{IsCuttable}
+use Rattle.lft_check.specs.inner.ByTag.Slices.{IsCuttable}
 
 module _ (cut : TraceParts) (rows : List Row) (are_rows : rows ≡ cut.rows) where
   pub starts_within : (g : Tag) (x : Piece) → IsPiece cut.rows g x → x.start < length rows

@@ -32,13 +32,13 @@ impl<'a> Model for Cut<'a> {
 
     ghost view = { λ a. a.sliced };
 
-    ghost use Rattle.lft_slices.specs.Pieces.{ArePieces};
+    ghost use Rattle.lft_slices.specs.inner.Pieces.{ArePieces};
 
     ghost invariant = { λ a. ArePieces a.sliced.rows a.pieces };
 }
 
 impl<'a> Cut<'a> {
-    ghost use Rattle.lft_slices.specs.Pieces.{ArePieces};
+    ghost use Rattle.lft_slices.specs.inner.Pieces.{ArePieces};
 
     /// The cut of sliced rows with their runs. It takes no memory.
     pub(crate) fn from_parts(sliced: Sliced<'a>, pieces: Pieces) -> Cut<'a>

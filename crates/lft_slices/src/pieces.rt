@@ -2,9 +2,9 @@
 
 ghost use Rattle.std.specs.Prelude.{◌≡◌, ◌++◌, ◌∷◌, [], ◌+◌, ◌<◌, ◌≤◌, length, Some, slice_get, slice_range, OnOk, IfOk};
 ghost use Rattle.lft_model.specs.Plans.{PlanParts};
-ghost use Rattle.lft_rows.specs.Slices.{IsSlice};
-ghost use Rattle.lft_check.specs.ByTag.Slices.{IsCuttable, AreSlices};
-ghost use Rattle.lft_slices.specs.Pieces.{AreRuns, AreEndsTo, AreStartsTo, ArePieces};
+ghost use Rattle.lft_rows.specs.inner.Slices.{IsSlice};
+ghost use Rattle.lft_check.specs.inner.ByTag.Slices.{IsCuttable, AreSlices};
+ghost use Rattle.lft_slices.specs.{Pieces.AreRuns, inner.Pieces.{AreEndsTo, AreStartsTo, ArePieces}};
 
 use lft_ir::steps::{Row, is_end, is_start, row_at};
 use lft_lists::item_at;

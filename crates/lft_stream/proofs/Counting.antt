@@ -7,7 +7,7 @@ use Rattle.lft_ir.specs.declared.steps.row.Row.{Row}
 use Rattle.lft_model.{specs.Runs.{start_row, Ran}, proofs.Places.slice_get_within}
 use Rattle.lft_rows.specs.Slices.{begins, runs_in, AreTags}
 use Rattle.lft_queue.specs.Coming.AtTag.{AreBefore, AreAt}
-use Rattle.lft_stream.specs.Counted.{IsCounted}
+use Rattle.lft_stream.specs.inner.Counted.{IsCounted}
 
 -- a later tag with a run adds its runs, and one tag
 abbrev pub CountLaw : Type 0

@@ -12,20 +12,21 @@ use Rattle.lft_ir.specs.declared.steps.{externals.Event.Event, row.{Row.Row, Ste
 use Rattle.lft_model.specs.{Plans.PlanParts, Presence.{requests, stop, given, written, Shows, Inputs, Triggered}, Runs.{Ran, inputs_of, read_of, reads_at}}
 use Rattle.lft_model.specs.Breaches.{IsTooEarly}
 use Rattle.lft_model.proofs.Stops.{stop_append}
-use Rattle.lft_rows.specs.{Firsts.FirstRow, declared.slices.Slice.Slice, Slices.{IsSlice, runs_in}, Accepted.IsAccepted}
-use Rattle.lft_stream.specs.{declared.stream.Stream.Stream, Settled.IsRightBehind, Owed.MeetNowhere, StartTags.AreStartTags, Dues.{AreDues, NoneOwed}}
-use Rattle.lft_stream.specs.Kept.{KeepRules, IsLater, AreUpTo, IsOfRow, low_of, HaveCome, state_of, IsStreamOf, IsAtHand, IsJudged}
-use Rattle.lft_stream.specs.Streams.{IsStream, IsGrown}
+use Rattle.lft_rows.specs.{inner.{Firsts.FirstRow, Slices.IsSlice}, declared.slices.Slice.Slice, Slices.runs_in, Accepted.IsAccepted}
+use Rattle.lft_stream.specs.declared.stream.Stream.{Stream}
+use Rattle.lft_stream.specs.inner.{Settled.IsRightBehind, Owed.MeetNowhere, StartTags.AreStartTags, Dues.{AreDues, NoneOwed}}
+use Rattle.lft_stream.specs.inner.{Kept.{KeepRules, IsLater, AreUpTo, IsOfRow, HaveCome, state_of, IsStreamOf, IsAtHand, IsJudged}, Streams.{IsStream, IsGrown}}
+use Rattle.lft_stream.specs.Kept.{low_of}
 use Rattle.lft_stream.proofs.{Before.ran_whole, Lanes.{held_append, held_first}, Lone.{unread_met, still_alone}, Owing.{due_law, ran_grows}}
 use Rattle.lft_stream.proofs.{Parting.{rows_of, are_at, ran_part, ran_of, steps_part, up_to_end, part_kept}, Stopping.stop_law, Ruling.rows_law}
 use Rattle.lft_stream.proofs.{Streaming.{stream_law, move_law}, Showing.shows_law}
-use Rattle.lft_queue.specs.Reading.{is_read}
-use Rattle.lft_queue.specs.Coming.{AtOnce.{is_undelayed, origin_of, HasEvents, IsAwaited, AreHeard}, Channels.{AreReadChannels, caused_by}}
-use Rattle.lft_queue.specs.Coming.{Unread.{AreUnread, AreFree}, Listeners.{list_of, AreListeners, AreStarted, IsUnheard}, AtTag.{AreBefore, AreAt}}
-use Rattle.lft_queue.specs.Coming.{Listens.Listens, Lanes.{held, first_events, IsMetAt, LaneGoesOn}}
-use Rattle.lft_queue.specs.Coming.{Coming.{to_come, AreTaken, IsClear, IsNoLater, IsReached, AreOver, AreComing}, Shown.{IsInLane, last_write}}
-use Rattle.lft_queue.specs.Coming.Writes.{AreEarlier}
-use Rattle.lft_queue.specs.{declared.coming.{coming.Coming.Coming, listeners.Listeners.Listeners}, Pending.value_of}
+use Rattle.lft_queue.specs.inner.Reading.{is_read}
+use Rattle.lft_queue.specs.inner.Coming.{AtOnce.{is_undelayed, origin_of, HasEvents, IsAwaited, AreHeard}, Channels.{AreReadChannels, caused_by}}
+use Rattle.lft_queue.specs.inner.Coming.{Unread.{AreUnread, AreFree}, Listeners.{list_of, AreListeners, AreStarted, IsUnheard}, Listens.Listens}
+use Rattle.lft_queue.specs.inner.Coming.Lanes.{held, first_events, IsMetAt, LaneGoesOn}
+use Rattle.lft_queue.specs.inner.Coming.{Coming.{to_come, AreTaken, IsClear, IsNoLater, IsReached, AreOver, AreComing}, Shown.{IsInLane, last_write}}
+use Rattle.lft_queue.specs.inner.Coming.Writes.{AreEarlier}
+use Rattle.lft_queue.specs.{Coming.AtTag.{AreBefore, AreAt}, declared.coming.{coming.Coming.Coming, listeners.Listeners.Listeners}, Pending.value_of}
 use Rattle.lft_queue.proofs.ComingLemmas.AtOnce.{undelayed_way, delayed_way, origin_is, heard_there}
 use Rattle.lft_queue.proofs.ComingLemmas.{Carrying.{carried_is, one_held, held_one, none_after, none_now, at_once_held}, Writing.earlier_on, Clearing.clear_up}
 use Rattle.lft_queue.proofs.ComingLemmas.{Scheduled.none_at, ToCome.{only_queue, item_of, few_of}}

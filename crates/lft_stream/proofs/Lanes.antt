@@ -12,8 +12,9 @@ use Rattle.lft_model.specs.Plans.{PlanParts}
 use Rattle.lft_model.specs.Presence.{stop, value_scheduled, scheduled, given, min_delay, events_of, written, Last, IsWrittenFrom, At, PortClash}
 use Rattle.lft_model.proofs.Ended.{written_by}
 use Rattle.lft_queue.specs.Coming.AtTag.{AreBefore, AreAt}
-use Rattle.lft_queue.specs.Coming.Lanes.{at_tag, held, coming, given_to, first_events, made, carried, IsDone, IsKept, IsLane, LaneGoesOn}
-use Rattle.lft_stream.{specs.Owed.{IsMet, IsApart}, proofs.{Behind.{at_back, clash_back}, Hand.{last_old, last_whole, last_now, last_then}, Owing.ran_grows}}
+use Rattle.lft_queue.specs.inner.Coming.Lanes.{at_tag, held, coming, given_to, first_events, made, carried, IsDone, IsKept, IsLane, LaneGoesOn}
+use Rattle.lft_stream.specs.inner.Owed.{IsMet, IsApart}
+use Rattle.lft_stream.proofs.{Behind.{at_back, clash_back}, Hand.{last_old, last_whole, last_now, last_then}, Owing.ran_grows}
 
 -- how a lane goes: it begins with the external inputs; more rows put their events behind; it goes on to a later tag where what it had before that is met; and where it is done with up to the stop, its name is met and apart
 pub record LaneLaw (plan : PlanParts) : Type 0 where

@@ -7,7 +7,8 @@ use Rattle.lft_ir.specs.{Naming.named, Origins.Origin, Parts.inputs, Sound.IsSou
 use Rattle.lft_ir.specs.declared.{parts.{Port.Port as PortOf, Value.Value, Name.TheVariants.Port, Trigger.TheVariants.On}, steps.row.Row.Row}
 use Rattle.lft_ir.proofs.Origins.{origin_unique, port_of}
 use Rattle.lft_model.{specs.{Plans.PlanParts, Presence.{written, Last}}, proofs.{Ended.written_by, Steps.written_some}}
-use Rattle.lft_queue.specs.{Reading.is_read, Coming.{AtTag.AreBefore, Lanes.{held, carried, IsLane, IsMetAt}, Listens.Listens, Unread.{IsWrittenAt, AreFree}}}
+use Rattle.lft_queue.specs.inner.{Reading.is_read, Coming.{Lanes.{held, carried, IsLane, IsMetAt}, Listens.Listens, Unread.{IsWrittenAt, AreFree}}}
+use Rattle.lft_queue.specs.Coming.AtTag.{AreBefore}
 use Rattle.lft_queue.proofs.Marking.{of_reads}
 use Rattle.lft_stream.proofs.Lanes.{held_append, held_mem, of_carried}
 

@@ -9,11 +9,11 @@ use Rattle.lft_ir.specs.declared.steps.row.{Row.Row, Step.TheVariants.Write}
 use Rattle.lft_ir.proofs.Origins.{origin_inside}
 use Rattle.lft_model.specs.{Plans.PlanParts, Presence.{written, Shows, Inputs}, Runs.{read_of, steps_of, reads_at}}
 use Rattle.lft_model.proofs.{Ended.written_by, Steps.written_some}
-use Rattle.lft_queue.specs.{Pending.{Pending, value_of}, Coming.{AtOnce.{is_undelayed, HasEvents, IsAwaited}, Channels.AreReadChannels, Shown.last_write}}
+use Rattle.lft_queue.specs.{Pending.{Pending, value_of}, inner.Coming.{AtOnce.{is_undelayed, HasEvents, IsAwaited}, Channels.AreReadChannels, Shown.last_write}}
 use Rattle.lft_queue.specs.declared.coming.{channels.Channels.Channels, writes.Written.Written}
 use Rattle.lft_queue.proofs.ComingLemmas.AtOnce.{way_at_once}
 use Rattle.lft_rows.proofs.RunReads.{read_there}
-use Rattle.lft_stream.{specs.Present.{AreShown, AreReadsShown}, proofs.{Present.read_all, Showing.shows_law}}
+use Rattle.lft_stream.{specs.inner.Present.{AreShown, AreReadsShown}, proofs.{Present.read_all, Showing.shows_law}}
 
 -- all that is present is listed, where what the rows reach without a delay and what waits at the tag is
 module _ (plan : PlanParts) (sound : IsSound plan.program) (channels : Channels) (are : AreReadChannels plan.program channels) (u : List Row) (g : Tag) (queue : List Pending) (names : List Name) (reached : (i o p : ℕ) (x : Row) (v : Value) (list : List ℕ) → slice_get u i ≡ Some x → x.step ≡ Write (Port o) v → slice_get channels.at_once o ≡ Some list → Contains list p → Contains names (Port p)) (waiting : (n : Name) → IsSome (value_of g n queue) → Contains names n) (d : List Row) (writes : List (Option Written)) (shown : AreShown plan d u g writes queue) where

@@ -4,8 +4,8 @@ use native.Mathlib.Decide.{ℕ_discrete, dec_lt}
 use Rattle.lft_tag.specs.declared.Tag.{Tag}
 use Rattle.lft_ir.specs.declared.steps.row.{Row.Row, Step.TheVariants.{Start, End}}
 use Rattle.lft_model.specs.{Plans.PlanParts, Runs.{start_row, end_row, Ran}, Breaches.IsTooEarly}
-use Rattle.lft_rows.specs.Firsts.{FirstRow}
-use Rattle.lft_stream.specs.Ordered.{IsOrdered}
+use Rattle.lft_rows.specs.inner.Firsts.{FirstRow}
+use Rattle.lft_stream.specs.inner.Ordered.{IsOrdered}
 
 -- where each row keeps the rules 1 to 5, no run that keeps the order is too early
 pub ordered_law : (plan : PlanParts) (last : Tag) (u : List Row) → FirstRow last plan u None → IsOrdered plan.program u → (g : Tag) (r : ℕ) → Ran u g r → ¬ IsTooEarly plan u g r

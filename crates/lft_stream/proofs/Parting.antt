@@ -7,7 +7,7 @@ use Rattle.lft_ir.proofs.Ranges.{length-range, range-get, range-within, slice_ge
 use Rattle.lft_model.specs.{Plans.PlanParts, Runs.{start_row, end_row, step_of, steps_of, Ran}, Breaches.{IsOpen, IsOutOfOrder, IsUndeclared, BreaksRowUntil}}
 use Rattle.lft_model.proofs.{Places.slice_get_take, Steps.step_row}
 use Rattle.lft_lists.proofs.Members.{none_nil}
-use Rattle.lft_rows.specs.{Firsts.FirstRow, declared.slices.Slice.Slice, Slices.{IsSlice, Rises}}
+use Rattle.lft_rows.specs.{inner.{Firsts.FirstRow, Slices.{IsSlice, Rises}}, declared.slices.Slice.Slice}
 use Rattle.lft_queue.specs.Coming.AtTag.{AreAt}
 
 -- tags don't fall where no row breaks a rule

@@ -5,7 +5,7 @@ use Rattle.lft_tag.specs.declared.Tag.{Tag}
 use Rattle.lft_ir.specs.{Parts.Parts, declared.steps.row.{Row.Row, Step.TheVariants.{Start, End}}, Steps.Fits.RowsFit}
 use Rattle.lft_graph.{specs.{Graph.{GraphParts, IsGraphOf}, Precedence.Precedes, Sets.Has}, proofs.Ancestry.{level_there, lower, precedes_known}}
 use Rattle.lft_model.specs.Runs.{start_row, end_row}
-use Rattle.lft_stream.specs.Ordered.{IsOrdered}
+use Rattle.lft_stream.specs.inner.Ordered.{IsOrdered}
 
 abbrev pub level_of : List ℕ → ℕ → ℕ
 level_of levels r = get_or levels r 0

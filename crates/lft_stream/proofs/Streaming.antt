@@ -6,10 +6,11 @@ use Rattle.lft_ir.specs.declared.parts.{Value.Value, Name.{Name, TheVariants.{Po
 use Rattle.lft_ir.specs.declared.steps.row.Row.{Row}
 use Rattle.lft_model.{specs.{Plans.PlanParts, Runs.{start_row, Ran}}, proofs.Places.slice_get_within}
 use Rattle.lft_rows.specs.{Accepted.IsAccepted, Slices.runs_in}
-use Rattle.lft_stream.specs.{Settled.IsRightBehind, Counted.IsCounted, declared.due.Due.Due, Owed.{IsMet, IsApart}, Dues.{AreDues, timed}}
-use Rattle.lft_stream.specs.Streams.{State, first_state, IsStream, IsEnded, IsGrown}
+use Rattle.lft_stream.specs.inner.{Settled.IsRightBehind, Counted.IsCounted, Owed.{IsMet, IsApart}, Dues.{AreDues, timed}}
+use Rattle.lft_stream.specs.inner.Streams.{State, first_state, IsStream, IsEnded, IsGrown}
+use Rattle.lft_stream.specs.declared.due.Due.{Due}
 use Rattle.lft_stream.proofs.{Settling.{step_law, legal_of}, Counting.count_law, Owing.{parts_law, due_law}, Lanes.{LaneLaw, lane_law}}
-use Rattle.lft_queue.specs.Coming.Lanes.{made, carried, IsLane, LaneGoesOn}
+use Rattle.lft_queue.specs.inner.Coming.Lanes.{made, carried, IsLane, LaneGoesOn}
 
 -- the whole: the first state is right for no rows; the rows of one later tag, right behind those so far, lead to a right state; and with a right state that has nothing left the rows are accepted, with its counts
 pub record StreamLaw (plan : PlanParts) : Type 0 where

@@ -4,7 +4,7 @@ ghost use Rattle.std.specs.Prelude.{◌≡◌, ◌↔◌, ℕ, List, [], IfSome,
 ghost use Rattle.lft_tag.specs.declared.Tag.{Tag as TheTag};
 ghost use Rattle.lft_ir.specs.{Sound.IsTriggerOf, declared.{parts.Trigger.Trigger as TheTrigger, steps.row.Row.Row as TheRow}};
 ghost use Rattle.lft_model.specs.{Plans.PlanParts, Presence.stop, Runs.Ran};
-ghost use Rattle.lft_stream.specs.Dues.{IsDue, IsDueAt, IsOwed, IsDueBefore};
+ghost use Rattle.lft_stream.specs.inner.Dues.{IsDue, IsDueAt, IsOwed, IsDueBefore};
 
 use lft_ir::Trigger;
 use lft_model::Plan;

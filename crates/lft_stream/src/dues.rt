@@ -4,7 +4,7 @@ ghost use Rattle.std.specs.Prelude.{◌≡◌, ℕ, List, [], ◌<◌, ◌≤◌
 ghost use Rattle.lft_ir.specs.{Sound.IsTriggerOf, declared.{parts.Trigger.Trigger as TheTrigger, steps.row.Row.Row as TheRow}};
 ghost use Rattle.lft_model.specs.{Presence.{stop, Triggered}, Runs.Ran};
 ghost use Rattle.lft_stream.specs.declared.due.Due.{Due as TheDue};
-ghost use Rattle.lft_stream.specs.Dues.{timed as the_timed, AreDue, AreDues, IsOwed, NoneOwed, IsDueBefore, NoneDueBefore, GoOn, IsSomePresent};
+ghost use Rattle.lft_stream.specs.inner.Dues.{timed as the_timed, AreDue, AreDues, IsOwed, NoneOwed, IsDueBefore, NoneDueBefore, GoOn, IsSomePresent};
 
 use crate::due::Due;
 use lft_ir::Trigger;

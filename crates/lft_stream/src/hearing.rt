@@ -3,8 +3,8 @@
 ghost use Rattle.std.specs.Prelude.{◌≡◌, ℕ, List, length, IsSome, IsTrue, Contains};
 ghost use Rattle.lft_ir.specs.{declared.{steps.row.Row.Row as TheRow, parts.Name.Name as TheName}, Steps.Fits.RowsFit};
 ghost use Rattle.lft_model.specs.Runs.{Ran};
-ghost use Rattle.lft_queue.specs.{Coming.{AtOnce.AreHeard, Listeners.{AreListeners, AreStarted}}, Pending.value_of};
-ghost use Rattle.lft_stream.specs.StartTags.{AreStartTags};
+ghost use Rattle.lft_queue.specs.{inner.Coming.{AtOnce.AreHeard, Listeners.{AreListeners, AreStarted}}, Pending.value_of};
+ghost use Rattle.lft_stream.specs.inner.StartTags.{AreStartTags};
 
 use crate::start_tags::StartTags;
 use lft_ir::Program;

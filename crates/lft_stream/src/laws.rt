@@ -1,6 +1,6 @@
 //! The law of a judge that keeps no rows. It does no work.
 
-ghost use Rattle.lft_stream.specs.Settled.{EndLaw};
+ghost use Rattle.lft_stream.specs.inner.Settled.{EndLaw};
 
 use lft_model::Plan;
 

@@ -3,10 +3,10 @@
 ghost use Rattle.std.specs.Prelude.{ℕ, ◌≡◌, IsTrue, None, IfSome};
 ghost use Rattle.lft_tag.specs.declared.Tag.{Tag as TheTag};
 ghost use Rattle.lft_ir.specs.Steps.Fits.{RowsFit};
-ghost use Rattle.lft_graph.specs.Sets.{AreAncestors};
+ghost use Rattle.lft_graph.specs.inner.Sets.{AreAncestors};
 ghost use Rattle.lft_model.specs.{Breaches.IsTooEarly, Runs.Ran};
-ghost use Rattle.lft_rows.specs.Firsts.{FirstRow};
-ghost use Rattle.lft_stream.specs.Ordered.{IsOrdered};
+ghost use Rattle.lft_rows.specs.inner.Firsts.{FirstRow};
+ghost use Rattle.lft_stream.specs.inner.Ordered.{IsOrdered};
 
 use crate::ranks::is_ranked;
 use lft_graph::{Ancestors, Set};

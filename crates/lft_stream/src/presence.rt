@@ -4,8 +4,8 @@ ghost use Rattle.std.specs.Prelude.{◌≡◌, ◌<◌, ◌++◌, ◌∷◌, [],
 ghost use Rattle.lft_ir.specs.declared.parts.{Name.{Name as TheName, TheVariants.Port as PortName}, Value.Value as TheValue};
 ghost use Rattle.lft_ir.specs.declared.steps.row.{Row.Row as TheRow, Step.TheVariants.Write};
 ghost use Rattle.lft_ir.specs.Steps.Fits.{RowsFit};
-ghost use Rattle.lft_queue.specs.{Pending.value_of, Coming.Channels.AreReadChannels};
-ghost use Rattle.lft_stream.specs.Present.{AreAllPresent, IsKnown};
+ghost use Rattle.lft_queue.specs.{Pending.value_of, inner.Coming.Channels.AreReadChannels};
+ghost use Rattle.lft_stream.specs.inner.Present.{AreAllPresent, IsKnown};
 
 use lft_ir::steps::{Row, is_start, row_at};
 use lft_ir::{Name, Program};

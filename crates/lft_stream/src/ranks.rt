@@ -2,7 +2,7 @@
 
 ghost use Rattle.std.specs.Prelude.{ℕ, ◌≡◌, IsTrue};
 ghost use Rattle.lft_ir.specs.Steps.Fits.{RowsFit};
-ghost use Rattle.lft_stream.specs.Ordered.{IsOrdered};
+ghost use Rattle.lft_stream.specs.inner.Ordered.{IsOrdered};
 
 use lft_ir::steps::{Row, is_end, is_start, row_at};
 use lft_model::Plan;

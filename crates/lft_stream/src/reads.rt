@@ -4,9 +4,9 @@ ghost use Rattle.std.specs.Prelude.{◌≡◌, ℕ, ◌<◌, ◌++◌, List, len
 ghost use Rattle.lft_ir.specs.{declared.{steps.row.Row.Row as TheRow, parts.{Name.Name as TheName, Reaction.Reaction as TheReaction}}, Steps.Fits.RowsFit};
 ghost use Rattle.lft_ir.specs.{Parts.inputs, Sound.IsNameOf};
 ghost use Rattle.lft_model.specs.{Presence.{Shows, Inputs, Triggered}, Runs.{Ran, reads_at, read_of, steps_of}};
-ghost use Rattle.lft_rows.specs.{Marks.{AreMarks, IsLaid}, Slices.IsSlice};
-ghost use Rattle.lft_queue.specs.Coming.AtOnce.{IsAwaited};
-ghost use Rattle.lft_stream.specs.Present.{AreShown, IsKnown, AreReadsShown};
+ghost use Rattle.lft_rows.specs.inner.{Marks.{AreMarks, IsLaid}, Slices.IsSlice};
+ghost use Rattle.lft_queue.specs.inner.Coming.AtOnce.{IsAwaited};
+ghost use Rattle.lft_stream.specs.inner.Present.{AreShown, IsKnown, AreReadsShown};
 
 use crate::presence::Presence;
 use lft_ir::steps::{Row, Step, is_start, row_at};

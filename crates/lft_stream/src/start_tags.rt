@@ -3,8 +3,8 @@
 ghost use Rattle.std.specs.Prelude.{◌≡◌, ℕ, List, [], ◌<◌, length, IfOk, IsTrue};
 ghost use Rattle.lft_ir.specs.{declared.steps.row.Row.Row as TheRow, Steps.Fits.RowsFit};
 ghost use Rattle.lft_model.specs.Runs.{Ran};
-ghost use Rattle.lft_rows.specs.Slices.{IsSlice};
-ghost use Rattle.lft_stream.specs.StartTags.{AreStartTags};
+ghost use Rattle.lft_rows.specs.inner.Slices.{IsSlice};
+ghost use Rattle.lft_stream.specs.inner.StartTags.{AreStartTags};
 
 use lft_ir::Program;
 use lft_ir::steps::{Row, is_start, row_at};

@@ -2,12 +2,12 @@
 
 ghost use Rattle.std.specs.Prelude.{◌≡◌, ℕ, List, [], ◌++◌, ◌+◌, ◌<◌, take, length, Some, None, IsTrue, IfOk, IfSome};
 ghost use Rattle.lft_ir.specs.{declared.steps.row.Row.Row as TheRow, Steps.Fits.RowsFit};
-ghost use Rattle.lft_graph.specs.Sets.{AreAncestors};
+ghost use Rattle.lft_graph.specs.inner.Sets.{AreAncestors};
 ghost use Rattle.lft_tag.specs.Tags.{UpTo, earlier, earliest};
 ghost use Rattle.lft_model.specs.{Presence.{stop, requests, Triggered}, Runs.Ran};
-ghost use Rattle.lft_rows.specs.{Marks.{AreMarks, AreBefore as HaveMarksTo, IsLaid}, Slices.{IsSlice, Rises, runs_in}, Accepted.IsAccepted};
-ghost use Rattle.lft_stream.specs.Dues.{AreDues, AreDuesAt, NoneDueBefore};
-ghost use Rattle.lft_stream.specs.{Kept.{KeepRules, IsLater, stopped_stream, IsStreamOf, RisesAt, IsAtHand, IsJudged}, Present.AreShown};
+ghost use Rattle.lft_rows.specs.{inner.{Marks.{AreMarks, AreBefore as HaveMarksTo, IsLaid}, Slices.{IsSlice, Rises}}, Slices.runs_in, Accepted.IsAccepted};
+ghost use Rattle.lft_stream.specs.inner.Dues.{AreDues, AreDuesAt, NoneDueBefore};
+ghost use Rattle.lft_stream.specs.inner.{Kept.{KeepRules, IsLater, stopped_stream, IsStreamOf, RisesAt, IsAtHand, IsJudged}, Present.AreShown};
 
 use crate::dues::Dues;
 use crate::effort::Effort;

@@ -6,7 +6,7 @@ use Rattle.lft_syntax.proofs.Options.{some, some_is}
 use Rattle.lft_syntax.proofs.Begun.{Agree, fewer, Begun, Regular, begun_first, begun_second, both_regular, token_regular, begun_as, as_regular, optional_regular, begun_there, many_regular, begun_item, begun_more, begun_left, begun_right, or_regular, begun_range, range_regular}
 use Rattle.lft_syntax.specs.Lexeme.{Lexeme, Code, Text, Letters, Number, Arrow, Symbol, same}
 use Rattle.lft_syntax.specs.Language.{Spelling, look, token, this, one, ◌&◌, ◌>>◌, ◌<<◌, ◌or◌, optional, many, made, ignored, range}
-use Rattle.lft_syntax.specs.Reading.{Reading, ◌>>=◌, seen_at, token_at, both, second, first, apply, maybe, choice, choice_next, many_at, repeated, range_at}
+use Rattle.lft_syntax.specs.inner.Reading.{Reading, ◌>>=◌, seen_at, token_at, both, second, first, apply, maybe, choice, choice_next, many_at, repeated, range_at}
 
 -- what may stand after a spelling
 abbrev pub Follow : Type 1

@@ -5,7 +5,7 @@ use Rattle.std.specs.List.{All}
 use Rattle.std.proofs.lemmas.List.{length-map, drop_at, drop-append-le, map-append, take-append-le, take-map}
 use Rattle.std.proofs.lemmas.List.Elements.{All-tail, All-head, All-take, All-push, All-weaker, All-get_or}
 use Rattle.std.proofs.lemmas.Option.{slice_get_within, get_or_from_slice_get}
-use Rattle.lft_syntax.specs.{declared.token.{Token.Token, TokenKind.TokenKind}, Lexeme.Lexeme, Grammar.{Spells, BeginsTree, CanFollow}, Reading.whole_at}
+use Rattle.lft_syntax.specs.{declared.token.{Token.Token, TokenKind.TokenKind}, Lexeme.Lexeme, Grammar.{Spells, BeginsTree, CanFollow}, inner.Reading.whole_at}
 use Rattle.lft_syntax.specs.{View.{lexeme_of, lexeme_from, lexemes}, Lexes.Lexes}
 use Rattle.lft_syntax.proofs.{TokenFacts.{InText, in_text_ascii, cut_tokens}, Whole.{read_tree, read_begun, read_fault}}
 use Rattle.lft_tree.specs.Tree.{FileTree}

@@ -5,7 +5,7 @@ use Rattle.std.proofs.lemmas.Option.{slice_get_within}
 use Rattle.lft_syntax.proofs.{Options.some, Begun.{Agree, Regular, begun_first, begun_as}, Rules.{and, leads_one, this_one}}
 use Rattle.lft_syntax.proofs.Algebra.{near, Known, Refused, Outcome, Right, Any, same-true, same_self, this_self, adapt, same_reading}
 use Rattle.lft_syntax.specs.{Lexeme.{Lexeme, same}, Language.{Spelling, look, this, one, ◌&◌, Balanced, nothing, another, nested, group}}
-use Rattle.lft_syntax.specs.Reading.{Reading, ◌>>=◌, one_at, both, inside_step, inside_at, group_at}
+use Rattle.lft_syntax.specs.inner.Reading.{Reading, ◌>>=◌, one_at, both, inside_step, inside_at, group_at}
 
 module _ (opening closing : Lexeme) (apart : opening ≡ closing → ⊥) where
   -- with depth more brackets open than one, the last is closed before j

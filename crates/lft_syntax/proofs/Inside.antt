@@ -1,7 +1,7 @@
 -- A group, one token at a time.
 use Rattle.std.proofs.Common.{◌≡◌, ℕ, zero, suc, ◌+◌, ◌≤◌, ◌<◌, List, length, Result, sym, subst, ◌∙◌, arith}
 use Rattle.std.specs.Prelude.{slice_get}
-use Rattle.lft_syntax.specs.{declared.parse_error.ParseError.ParseError, Lexeme.Lexeme, View.Fails, Reading.{inside_step, inside_at}}
+use Rattle.lft_syntax.specs.{declared.parse_error.ParseError.ParseError, Lexeme.Lexeme, inner.{View.Fails, Reading.{inside_step, inside_at}}}
 
 -- with so many brackets open, what is read from a place on is all
 pub record Within (opening closing : Lexeme) (ws : List Lexeme) (depth at : ℕ) (total : Result (Unit {0} × ℕ) ℕ) : Type 0 where

@@ -3,7 +3,7 @@ use Rattle.std.proofs.Common.{◌≡◌, Bool, true, false, Some, refl, arith}
 use Rattle.std.specs.Prelude.{codes}
 use Rattle.lft_syntax.specs.{Lexeme.{Letters, Symbol, is, is_name}, Language.{◌>>◌, ◌<<◌, ◌or◌, made}}
 use Rattle.lft_syntax.specs.Grammar.{key, symbol, name, time, ptime, listed, enclosed, assign, instance, param, params, or_empty, assignment_of, instance_of, parameter_of}
-use Rattle.lft_syntax.specs.Reading.{is_open, given_value_at, assign_at, assigns_at, instance_at, default_at, param_at, params_at}
+use Rattle.lft_syntax.specs.inner.Reading.{is_open, given_value_at, assign_at, assigns_at, instance_at, default_at, param_at, params_at}
 use Rattle.lft_syntax.proofs.Algebra.{near, Right, Leads, Any, Test, Starts, starts_one}
 use Rattle.lft_syntax.proofs.Rules.{near_looks, and, skip, before, before_if, making, this_one, leads_one, starts_skip, starts_and, starts_before, starts_made, choose, ended, taking, right_name}
 use Rattle.lft_syntax.proofs.{Lists.{right_enclosed_list, starts_enclosed}, Lookahead.{past_name, name_first, starts_name, named}}

@@ -3,7 +3,7 @@ use Rattle.std.proofs.Common.{◌≡◌, ℕ, suc, ◌+◌, ◌≤◌, Bool, tru
 use Rattle.std.specs.Prelude.{slice_get}
 use Rattle.lft_syntax.specs.{Lexeme.{Lexeme, Symbol, is}, Language.{Spelling, ◌>>◌, optional, many, made}}
 use Rattle.lft_syntax.specs.Grammar.{symbol, with_first, or_empty, listed, enclosed}
-use Rattle.lft_syntax.specs.Reading.{Reading, ◌>>=◌, repeated, with_front, after_comma, listed_at, is_open, enclosed_at, apply}
+use Rattle.lft_syntax.specs.inner.Reading.{Reading, ◌>>=◌, repeated, with_front, after_comma, listed_at, is_open, enclosed_at, apply}
 use Rattle.lft_syntax.proofs.Algebra.{Follow, Horizon, near, Right, Any, Test, Starts, starts_one, loosen, same_reading}
 use Rattle.lft_syntax.proofs.Rules.{near_looks, and_if, skip, before_if, making, this_one, perhaps, Here, leads_one, here, starts_skip, starts_and, starts_before, starts_made, leads_many, repeat, same_follow}
 

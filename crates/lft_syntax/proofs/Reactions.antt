@@ -3,7 +3,7 @@ use Rattle.std.proofs.Common.{◌≡◌, ℕ, Bool, true, false, List, Some, ref
 use Rattle.std.specs.Prelude.{slice_get, codes}
 use Rattle.lft_syntax.specs.{Lexeme.{Lexeme, Code, Letters, Arrow, Symbol, is, is_name, is_reserved}, Language.{one, ◌>>◌, optional, made, ignored}}
 use Rattle.lft_syntax.specs.Grammar.{name, refs, listed, enclosed, trigger, reaction, or_empty, startup_of, shutdown_of, reaction_of}
-use Rattle.lft_syntax.specs.Reading.{is_open, trigger_at, triggers_at, uses_at, effects_at, reaction_at}
+use Rattle.lft_syntax.specs.inner.Reading.{is_open, trigger_at, triggers_at, uses_at, effects_at, reaction_at}
 use Rattle.lft_syntax.proofs.Algebra.{Follow, near, Right, Any, Test, Starts, Not, starts_one}
 use Rattle.lft_syntax.proofs.Rules.{near_looks, and, and_if, skip, skip_if, before_if, making, ignoring, this_one, perhaps, Here, here, leads_one, leads_optional, starts_skip, starts_and, starts_before, starts_made, starts_or, choose, ended, same_follow, right_name}
 use Rattle.lft_syntax.proofs.{Lists.{right_enclosed_list, starts_enclosed}, Lookahead.{starts_name, named, no_word, Reserved}}

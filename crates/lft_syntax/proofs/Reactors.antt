@@ -2,7 +2,7 @@
 use Rattle.std.proofs.Common.{◌≡◌, Bool, true, false, Some, refl, arith}
 use Rattle.std.specs.Prelude.{slice_get, codes}
 use Rattle.lft_syntax.specs.{Lexeme.{Letters, Symbol, is, is_name}, Language.{Spelling, ◌&◌, ◌>>◌, optional, made}}
-use Rattle.lft_syntax.specs.{Grammar.{key, name, params, body, reactor, reactor_of, main_of}, Reading.{maybe, params_at, body_at, reactor_at}}
+use Rattle.lft_syntax.specs.{Grammar.{key, name, params, body, reactor, reactor_of, main_of}, inner.Reading.{maybe, params_at, body_at, reactor_at}}
 use Rattle.lft_syntax.proofs.Algebra.{near, Right, Leads, Any, Test, Starts, starts_one, loosen}
 use Rattle.lft_syntax.proofs.Rules.{and, and_if, skip, before_if, making, this_one, perhaps, Here, here, leads_one, leads_optional, starts_skip, starts_and, starts_made, starts_or, choose, same_follow, right_name}
 use Rattle.lft_syntax.proofs.{Lookahead.{far_looks, starts_name}, Instances.{right_params, starts_params}, Members.right_members}

@@ -2,7 +2,7 @@
 use Rattle.std.proofs.Common.{◌≡◌, ℕ, true, false, List, refl, arith}
 use Rattle.std.specs.Prelude.{slice_get}
 use Rattle.lft_syntax.specs.{Lexeme.{Lexeme, Symbol, is, is_name}, Language.{Spelling, ◌>>◌, optional, many}}
-use Rattle.lft_syntax.specs.{Grammar.{symbol, name, ref, refs, ref_of, with_first}, Reading.{ref_at, refs_at}}
+use Rattle.lft_syntax.specs.{Grammar.{symbol, name, ref, refs, ref_of, with_first}, inner.Reading.{ref_at, refs_at}}
 use Rattle.lft_syntax.proofs.Algebra.{Follow, near, Right, Leads, Starts, Not, starts_one, loosen}
 use Rattle.lft_syntax.proofs.Rules.{and, skip, making, this_one, perhaps, here, starts_skip, starts_and, starts_made, same_follow, right_name}
 use Rattle.lft_syntax.proofs.{Lookahead.{past_name, past_looks, Ends, no_symbol, name_first, starts_name}, Lists.right_listed}

@@ -5,7 +5,7 @@ use Rattle.lft_syntax.proofs.Options.{some}
 use Rattle.lft_syntax.proofs.Algebra.{Follow, Horizon, near, Right, Leads, Any, Test, Starts, right_both, right_second, right_first, right_made, right_ignored, right_token, right_maybe, right_choice, right_repeated, same-true, this_self, loosen}
 use Rattle.lft_syntax.specs.Lexeme.{Lexeme, Letters, Number, same, is_reserved, name_in, number_in}
 use Rattle.lft_syntax.specs.{Language.{Spelling, look, this, one, ◌&◌, ◌>>◌, ◌<<◌, ◌or◌, optional, many, made, ignored, range}, Grammar.{name, number}}
-use Rattle.lft_syntax.specs.Reading.{Reading, one_at, name_at, number_at, both, second, first, apply, maybe, choice, repeated}
+use Rattle.lft_syntax.specs.inner.Reading.{Reading, one_at, name_at, number_at, both, second, first, apply, maybe, choice, repeated}
 
 pub near_looks : (ws : List Lexeme) (i : ℕ) → i + 1 ≤ near ws i
 near_looks ws i = omega arith

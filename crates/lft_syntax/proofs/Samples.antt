@@ -2,7 +2,7 @@
 use Rattle.std.proofs.Common.{◌≡◌, ℕ, true, false, List, [], ◌∷◌, ◌++◌, Some, None, Result, Ok, Err, refl}
 use Rattle.std.specs.Prelude.{codes}
 use Rattle.lft_syntax.specs.Lexeme.{Lexeme, Code, Letters, Number, Arrow, Symbol, is_reserved, unit_of}
-use Rattle.lft_syntax.specs.Reading.{many_at, inside_at, group_at, time_at, delay_at, ptime_at, pdelay_at, ref_at, refs_at, type_part_at, type_parts_at, stars_at, array_part_at, array_parts_at, type_at, typed_at, signed_at, suffix_at, quantity_at, dot_name_at, dot_names_at, path_at, value_at, input_at, output_at, port_at, period_at, times_at, timer_at, min_delay_at, origin_at, action_at, initial_at, state_at, scope_at, preamble_at, trigger_at, triggers_at, uses_at, effects_at, reaction_at, given_value_at, assign_at, assigns_at, instance_at, after_at, connection_at, member_at, members_at, body_at, default_at, param_at, params_at, reactor_at, target_at, item_at, items_at, file_at, whole_at}
+use Rattle.lft_syntax.specs.inner.Reading.{many_at, inside_at, group_at, time_at, delay_at, ptime_at, pdelay_at, ref_at, refs_at, type_part_at, type_parts_at, stars_at, array_part_at, array_parts_at, type_at, typed_at, signed_at, suffix_at, quantity_at, dot_name_at, dot_names_at, path_at, value_at, input_at, output_at, port_at, period_at, times_at, timer_at, min_delay_at, origin_at, action_at, initial_at, state_at, scope_at, preamble_at, trigger_at, triggers_at, uses_at, effects_at, reaction_at, given_value_at, assign_at, assigns_at, instance_at, after_at, connection_at, member_at, members_at, body_at, default_at, param_at, params_at, reactor_at, target_at, item_at, items_at, file_at, whole_at}
 use Rattle.lft_tree.specs.Tree.{Written, Named, OnRef, MemberTree, TimerMember, StateMember, ReactionMember, InstanceMember, ConnectionMember, ReactorItem, FileTree}
 use Rattle.lft_tree.specs.declared.tree.TimeUnit.TheVariants as units
 

@@ -8,7 +8,7 @@ use Rattle.lft_syntax.proofs.Rules.{near_looks, making, this_one, Here, starts_a
 use Rattle.lft_syntax.proofs.Lookahead.{far, Ends, far_looks, far_two, ends_unit, ends_follower, starts_name, named}
 use Rattle.lft_syntax.specs.Lexeme.{Lexeme, Code, Text, Letters, Number, Arrow, Symbol, is_number, is_name, is_follower, same, name_in, number_in, unit_in, unit_of}
 use Rattle.lft_syntax.specs.{Language.{look, this, one, ◌&◌, made}, Grammar.{name, number, unit, time, ptime, counted, zero_time}}
-use Rattle.lft_syntax.specs.Reading.{◌>>=◌, seen_at, token_at, time_from, time_at, delay_at, ptime_at, pdelay_at, is_open}
+use Rattle.lft_syntax.specs.inner.Reading.{◌>>=◌, seen_at, token_at, time_from, time_at, delay_at, ptime_at, pdelay_at, is_open}
 use Rattle.lft_tree.specs.{declared.tree.TimeUnit.TimeUnit, Tree.{Written, Named}}
 use Rattle.lft_tree.specs.declared.tree.TimeUnit.TheVariants as units
 

@@ -10,7 +10,7 @@ use Rattle.lft_syntax.proofs.Lookahead.{far, past_name, Ends, far_looks, far_pas
 use Rattle.lft_syntax.specs.Lexeme.{Lexeme, Code, Text, Letters, Number, Arrow, Symbol, is, is_name, is_follower, same, number_in}
 use Rattle.lft_syntax.specs.Language.{Spelling, ◌>>◌, ◌or◌, optional, many, ignored, group}
 use Rattle.lft_syntax.specs.Grammar.{symbol, name, number, braces, brackets, parentheses, suffix, quantity, value}
-use Rattle.lft_syntax.specs.Reading.{Reading, ◌>>=◌, maybe_suffix, braces_at, brackets_at, parentheses_at, signed_at, suffix_at, quantity_at, is_sign, dot_name_at, dot_names_at, path_at, value_at}
+use Rattle.lft_syntax.specs.inner.Reading.{Reading, ◌>>=◌, maybe_suffix, braces_at, brackets_at, parentheses_at, signed_at, suffix_at, quantity_at, is_sign, dot_name_at, dot_names_at, path_at, value_at}
 
 -- ---- groups
 

@@ -2,7 +2,7 @@
 use Rattle.std.proofs.Common.{◌≡◌, ℕ, Bool, true, false, List, [], ◌∷◌, ◌++◌, refl, sym, ap, ◌∙◌}
 use Rattle.std.specs.Prelude.{◌||◌}
 use Rattle.std.specs.Str.{bytes_eq}
-use Rattle.lft_syntax.specs.{Lexeme.{is_one_of, is_reserved}, Parsing.{outer_words, declaring_words, other_words}}
+use Rattle.lft_syntax.specs.{Lexeme.{is_one_of, is_reserved}, inner.Parsing.{outer_words, declaring_words, other_words}}
 
 one_of : (a : Bool) (b c : Bool) → (a || (b || c)) ≡ ((a || b) || c)
 one_of true b c = refl

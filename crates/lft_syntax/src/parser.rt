@@ -2,7 +2,7 @@
 
 ghost use Rattle.std.specs.Prelude.{◌≡◌, ℕ, ◌<◌, ◌≤◌, ◌+◌, List, length, take, IfOk, Err, IsAscii, true, false};
 ghost use Rattle.lft_tree.specs.{Identifiers.HasIdentifiers, Tree.FileTree, View.tree_view};
-ghost use Rattle.lft_syntax.specs.{Lexes.Lexes, Lexeme.Lexeme, Grammar.{Spells, BeginsTree, CanFollow}, Seen.{seen_as, letters_ascii}};
+ghost use Rattle.lft_syntax.specs.{Lexes.Lexes, Lexeme.Lexeme, Grammar.{Spells, BeginsTree, CanFollow}, inner.Seen.{seen_as, letters_ascii}};
 ghost use Rattle.lft_syntax.specs.{View.{lexemes, lexeme_from}, Placed.FileStands};
 ghost use Rattle.lft_syntax.specs.declared.fault.SyntaxFault as SyntaxFault;
 

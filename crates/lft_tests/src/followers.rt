@@ -2,7 +2,7 @@
 
 ghost use Rattle.std.specs.Prelude.{◌≡◌, ◌<◌, ◌≤◌, length, take, IfSome};
 ghost use Rattle.lft_ir.specs.Steps.Fits.{RowsFit};
-ghost use Rattle.lft_monitor.specs.Follows.{IsFollowerOf};
+ghost use Rattle.lft_monitor.specs.inner.Follows.{IsFollowerOf};
 
 use crate::texts::{plan, rows};
 use lft_ir::steps::Row;

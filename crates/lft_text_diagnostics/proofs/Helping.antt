@@ -3,8 +3,8 @@ use Rattle.std.proofs.Common.{◌≡◌, ℕ, ◌≤◌, Bool, true, false, List
 use Rattle.std.specs.Prelude.{nat_lt}
 use Rattle.std.{specs.List.All, proofs.lemmas.{Bool.Decides.nat_tests, List.Elements.{All-nil, All-weaker}}}
 use Rattle.lft_ir.proofs.WordsLemmas.Steps.{also}
-use Rattle.lft_text_diagnostics.specs.{Candidates.{CanStandAt, IsHelp, IsLeftOut, IsWholeHelp, could_words, few}, Quotes.way_words, Told.{IsToldAt, SaysAt}}
-use Rattle.lft_text_diagnostics.specs.declared.{refusal.Refusal.Refusal, thing.Thing.Thing}
+use Rattle.lft_text_diagnostics.specs.{Candidates.{CanStandAt, IsHelp, IsLeftOut, IsWholeHelp, could_words}, inner.Candidates.few, Quotes.way_words}
+use Rattle.lft_text_diagnostics.specs.{Told.{IsToldAt, SaysAt}, declared.{refusal.Refusal.Refusal, thing.Thing.Thing}}
 
 -- ---- few things
 

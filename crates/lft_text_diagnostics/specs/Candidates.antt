@@ -1,5 +1,5 @@
 -- What can stand where a program's text is refused, and how it is listed.
-use Rattle.std.specs.Prelude.{◌≡◌, ℕ, ◌-◌, ◌⊎◌, List, [], ◌∷◌, ◌++◌, Option, codes, flat_map, if◌then◌else◌, length, nat_lt, take}
+use Rattle.std.specs.Prelude.{◌≡◌, ℕ, ◌-◌, ◌⊎◌, List, ◌∷◌, ◌++◌, Option, codes, flat_map, take}
 use Rattle.std.specs.List.{All}
 use Rattle.lft_syntax.specs.{declared.token.Token.Token, Lexes.Lexes, Lexeme.{Lexeme, Code, Letters, Number, Arrow, Symbol}, Grammar.CanFollow, View.lexemes}
 use Rattle.lft_text_diagnostics.specs.{Quotes.way_words, declared.{refusal.Why.{Why, TheVariants.{Lex, Token as AtToken, End}}, thing.Thing.Thing}}
@@ -69,10 +69,6 @@ other_words thing = codes ", " ++ words_of thing
 abbrev pub could_words : List Thing → List ℕ
 could_words [] = []
 could_words (x ∷ xs) = codes "  There could stand: " ++ words_of x ++ flat_map other_words xs ++ codes ".\n"
-
--- Where there are more than six, none is listed.
-abbrev pub few : List Thing → List Thing
-few things = if nat_lt 6 (length things) then [] else things
 
 -- Nothing, or lines of what is left out of the language further on.
 abbrev pub IsLeftOut : List ℕ → Type 0

@@ -1,10 +1,9 @@
 pub mod Candidates
-pub mod Codes
 pub mod Pages
 pub mod Places
 pub mod Quotes
 pub mod Refusals
 pub mod Spots
 pub mod Told
-pub mod Trying
 pub mod Tables
+pub mod inner

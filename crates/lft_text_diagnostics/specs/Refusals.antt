@@ -1,6 +1,5 @@
 -- Why a program's text has no tree.
-use Rattle.std.specs.Prelude.{◌≡◌, ◌⊎◌, ℕ, ◌+◌, ◌-◌, ◌++◌, ◌<◌, ◌≤◌, List, codes, length, take, slice_get, Some}
-use Rattle.std.specs.Str.Iter.{HasSubslice}
+use Rattle.std.specs.Prelude.{◌≡◌, ℕ, ◌+◌, ◌-◌, ◌<◌, List, length, take, slice_get, Some}
 use Rattle.lft_tree.specs.Tree.{FileTree}
 use Rattle.lft_syntax.specs.{declared.token.Token.Token, Lexes.{Lexes, LexFails, IsRefusedAt}, Lexeme.Lexeme, Grammar.Spells, View.lexemes}
 use Rattle.lft_text_diagnostics.specs.declared.refusal.{Why.{Why, TheVariants.{Lex, Token as AtToken, End}}, Refusal.Refusal}
@@ -23,26 +22,3 @@ Tells t start end (End number) = (tokens : List Token) × HasNoTree t tokens num
 -- It tells why the text has no tree.
 abbrev pub IsRefusal : List ℕ → Refusal → Type 0
 IsRefusal t refusal = Tells t refusal.start refusal.end refusal.why
-
--- The text begins with these bytes.
-abbrev pub BeginsWith : List ℕ → List ℕ → Type 0
-BeginsWith bytes t = (rest : List ℕ) × (t ≡ bytes ++ rest)
-
--- The text begins with the header of a trace, of external inputs, or of cards.
-abbrev pub BeginsTable : List ℕ → Type 0
-BeginsTable t =
-    BeginsWith (codes "event,worker,time,microstep,reaction,name,value,delay") t
-    ⊎ BeginsWith (codes "kind,time,microstep,name,value") t
-    ⊎ BeginsWith (codes "kind,reaction,name,delay,value") t
-
--- The token that begins at the byte k shows that the text has no tree.
-abbrev pub IsRefusedWith : List ℕ → ℕ → Type 0
-IsRefusedWith t k = (tokens : List Token) × (number : ℕ) × (token : Token) × HasNoTree t tokens number × (slice_get tokens (number - 1) ≡ Some token) × (token.start ≡ k)
-
--- The text is refused from i to j: it is cut into tokens up to j and no further, or a token that begins there shows that it has no tree.
-abbrev pub IsRefusedFrom : List ℕ → ℕ → ℕ → Type 0
-IsRefusedFrom t i j = IsRefusedAt t j ⊎ ((k : ℕ) × (i ≤ k) × (k ≤ j) × IsRefusedWith t k)
-
--- The words may help where a text is refused from i to j: it begins as a table, or is refused there as a core text. They don't tell that a core text leaves something out.
-abbrev pub MayHelp : List ℕ → ℕ → ℕ → List ℕ → Type 0
-MayHelp t i j words = (BeginsTable t ⊎ IsRefusedFrom t i j) × (HasSubslice words (codes "left out") → ⊥)

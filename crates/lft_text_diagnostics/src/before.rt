@@ -1,7 +1,7 @@
 //! What to write in place of a token, by the tokens before it.
 
 ghost use Rattle.std.specs.Prelude.{◌≡◌, true, IfOk};
-ghost use Rattle.lft_text_diagnostics.specs.Trying.{AreTokens, CanStandBehind};
+ghost use Rattle.lft_text_diagnostics.specs.inner.Trying.{AreTokens, CanStandBehind};
 
 use crate::thing::Thing;
 use crate::ways::{BROADCAST, FEDERATION, GENERICS, SPACING, TYPE, VALUE, of_token, of_word};

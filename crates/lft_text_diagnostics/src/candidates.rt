@@ -2,7 +2,7 @@
 
 ghost use Rattle.std.specs.Prelude.{IfOk, OnOk};
 ghost use Rattle.std.specs.List.{All};
-ghost use Rattle.lft_text_diagnostics.specs.Trying.{AreTokens, CanStandBehind};
+ghost use Rattle.lft_text_diagnostics.specs.inner.Trying.{AreTokens, CanStandBehind};
 
 use crate::before::Before;
 use crate::thing::Thing;

@@ -1,7 +1,7 @@
 //! Whether some code of a program's text has some bytes.
 
 ghost use Rattle.std.specs.Prelude.{◌≡◌, ◌↔◌, ◌+◌, ◌<◌, ◌≤◌, IfSome, IsSome, IsTrue, length, slice_range};
-ghost use Rattle.lft_text_diagnostics.specs.Codes.{HasCodeWith, IsCodeWith, StandsIn};
+ghost use Rattle.lft_text_diagnostics.specs.inner.Codes.{HasCodeWith, IsCodeWith, StandsIn};
 
 use lft_syntax::{Token, TokenKind};
 

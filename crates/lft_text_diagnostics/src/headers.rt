@@ -1,7 +1,7 @@
 //! The headers of tables. A program's text that begins with one is exchanged with a table.
 
 ghost use Rattle.std.specs.Prelude.{IfSome, IsTrue};
-ghost use Rattle.lft_text_diagnostics.specs.Refusals.{BeginsTable, BeginsWith};
+ghost use Rattle.lft_text_diagnostics.specs.inner.Refusals.{BeginsTable, BeginsWith};
 
 /// The header of a trace.
 pub const TRACE: &str = "event,worker,time,microstep,reaction,name,value,delay";

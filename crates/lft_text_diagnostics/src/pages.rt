@@ -1,7 +1,7 @@
 //! The text of a program as it is told of: one that stands alone, or files one behind another.
 
 ghost use Rattle.std.specs.Prelude.{◌≡◌, ◌↔◌, ◌≤◌, ◌++◌, ℕ, List, Contains, IfNone, IfOk, IfSome, IsTrue, OnOk, length, string_bytes};
-ghost use Rattle.lft_text_diagnostics.specs.Pages.{ArePages, HasByte, HasBytes, HasNone, MarksBytes, MarksSpot, SaysByte, SaysSpot, page_words};
+ghost use Rattle.lft_text_diagnostics.specs.{inner.Pages.{ArePages, HasBytes, MarksBytes, MarksSpot}, Pages.{HasByte, HasNone, SaysByte, SaysSpot, page_words}};
 
 use crate::place::{Place, place_of};
 use crate::quoting::{push_line, push_place};

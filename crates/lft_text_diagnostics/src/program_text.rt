@@ -2,8 +2,8 @@
 
 ghost use Rattle.std.specs.Prelude.{◌≡◌, ◌≢◌, ℕ, ◌+◌, ◌<◌, ◌≤◌, ◌++◌, List, flat_map, length, string_bytes, IfOk, IfSome, OnOk};
 ghost use Rattle.lft_syntax.specs.{declared.fault.LexFault.TheVariants.NoMemory as LexNoMemory, Lexes.{LexFails, Lexes}};
-ghost use Rattle.lft_text_diagnostics.specs.{Candidates.{IsHelp, IsWholeHelp, could_words, few, other_words}, Refusals.{HasNoTree, IsRefusedFrom, MayHelp}};
-ghost use Rattle.lft_text_diagnostics.specs.Trying.{AreTokens, CanStandBehind};
+ghost use Rattle.lft_text_diagnostics.specs.Candidates.{IsHelp, IsWholeHelp, could_words, other_words};
+ghost use Rattle.lft_text_diagnostics.specs.{inner.{Candidates.few, Refusals.{IsRefusedFrom, MayHelp}, Trying.{AreTokens, CanStandBehind}}, Refusals.HasNoTree};
 ghost use Rattle.lft_text_diagnostics.specs.Told.{SaysAt, TellsProgram, fault_words, long_words as words_of_long, sentence, spelled, token_words};
 
 use crate::before::Before;

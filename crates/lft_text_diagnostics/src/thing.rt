@@ -1,7 +1,7 @@
 //! What can be told to stand at a place of a program's text.
 
 ghost use Rattle.std.specs.Prelude.{◌≡◌};
-ghost use Rattle.lft_syntax.specs.Seen.{seen_as, letters_ascii};
+ghost use Rattle.lft_syntax.specs.inner.Seen.{seen_as, letters_ascii};
 ghost use Rattle.lft_text_diagnostics.specs.Candidates.{token_of, words_of};
 
 use lft_syntax::Seen;

@@ -3,7 +3,7 @@ use Rattle.std.proofs.Common.{◌≡◌, ◌++◌, ◌∙◌, inl, inr, ℕ, Lis
 use Rattle.std.{specs.List.AllZip, proofs.lemmas.List.{append_assoc, append-nil}}
 use Rattle.csv.specs.{Machine.next_record, Reading.{records_from, strip_bom}}
 use Rattle.lft_ir.specs.{Parts.Parts, declared.steps.row.Row.Row}
-use Rattle.lft_trace.{specs.{Records.records_of, Traces.IsRow, Parts.{BeginsWith, HoldsRows, IsCut}}, proofs.{Cutting.records_cut, Together.zipped}}
+use Rattle.lft_trace.{specs.{Records.records_of, Traces.IsRow, inner.Parts.{BeginsWith, HoldsRows, IsCut}}, proofs.{Cutting.records_cut, Together.zipped}}
 
 -- a text without bytes has no record
 pub no_record : records_of [] ≡ []

@@ -2,7 +2,7 @@
 use Rattle.std.proofs.Common.{◌≡◌, ◌++◌, ℕ, List}
 use Rattle.std.proofs.lemmas.List.{append_assoc}
 use Rattle.lft_ir.specs.{Parts.Parts, declared.steps.row.Row.Row}
-use Rattle.lft_trace.{specs.Parts.{EndsLine, BeginsPlain, HoldsRows}, proofs.Together.holds_both}
+use Rattle.lft_trace.{specs.{Parts.EndsLine, inner.Parts.{BeginsPlain, HoldsRows}}, proofs.Together.holds_both}
 
 -- the text holds these rows and behind them those of its rest, whichever they are
 abbrev pub GoesOn : Parts → List ℕ → List Row → List ℕ → Type 0

@@ -4,7 +4,7 @@ use Rattle.std.specs.Prelude.{◌==◌, ◌||◌, if◌then◌else◌, slice_get
 use Rattle.std.proofs.lemmas.Bool.{cases_Bool, false≢true}
 use Rattle.csv.specs.{Machine.{after_end, step, in_field, start_field, start_record}, Reading.{default_config, records, strip_bom, is_bom}}
 use Rattle.csv.specs.declared.parser.{State.State, Action.Action}
-use Rattle.lft_trace.{specs.{Records.records_of, Parts.{HasNoQuote, EndsLine, BeginsPlain}}, proofs.Joining.{LeadsToStart, records_joined}}
+use Rattle.lft_trace.{specs.{Records.records_of, Parts.{HasNoQuote, EndsLine}, inner.Parts.BeginsPlain}, proofs.Joining.{LeadsToStart, records_joined}}
 use Rattle.csv.specs.declared.parser.State.TheVariants as st
 use Rattle.csv.specs.declared.parser.Action.TheVariants as act
 

@@ -6,7 +6,7 @@ use Rattle.std.specs.Cmp.{Equal-is}
 use Rattle.std.proofs.lemmas.List.Sorted.{IsPermutation-cons, IsPermutation-middle, IsPermutation-refl, IsPermutation-sym, IsPermutation-trans}
 use Rattle.std.proofs.lemmas.{Bool.Decides.nat_tests, Map.{Entries.place_from_lookup, Lookups.exact_unsigned}}
 use Rattle.lft_ir.specs.{declared.{parts.Value.Value, steps.externals.Event.Event}, Steps.Inputs.InOrder}
-use Rattle.lft_trace.specs.{ExternalTables.{Clash, Has}, Keys.event_at}
+use Rattle.lft_trace.specs.{ExternalTables.{Clash, Has}, inner.Keys.event_at}
 use Rattle.lft_tag.{specs.{declared.Tag.Tag, Tags.Before}, proofs.Comparing.{less_nat, less_then, both_equal}}
 
 abbrev pub Key : Type 0

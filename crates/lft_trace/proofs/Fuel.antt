@@ -6,7 +6,7 @@ use Rattle.csv.specs.Machine.{Read, next_record, step, is_end, fields_after, fie
 use Rattle.csv.specs.Reading.{Reached, ReadRecord, Ready, default_config, records_from, records_next}
 use Rattle.csv.specs.declared.{parser.{Config.Config, State.State}, reader.Reader.Reader}
 use Rattle.csv.proofs.ReadFacts.{rows-more, rows-end}
-use Rattle.lft_trace.specs.{Records.{IsPlain, records_left}, declared.records.Records.Records}
+use Rattle.lft_trace.specs.{inner.Records.{IsPlain, records_left}, declared.records.Records.Records}
 use Rattle.csv.specs.declared.parser.State.TheVariants as st
 
 -- a record takes a byte, or is the last one

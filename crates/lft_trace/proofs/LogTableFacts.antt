@@ -4,8 +4,10 @@ use Rattle.std.{specs.List.AllZip, proofs.lemmas.{List.Elements.{All-cons, All-n
 use Rattle.csv.specs.Records.{fields_of}
 use Rattle.lft_ir.specs.{Parts.Parts, Sound.IsSound, Steps.Fits.RowsFit, declared.steps.row.Row.Row as TheRow}
 use Rattle.lft_lists.proofs.Zips.{behind}
-use Rattle.lft_trace.specs.{ExternalTables.{FaultAt, IsEntry}, LogTables.{BeginsAsInput, EntryFits, InputsFit, IsLine, ReadsLines, inputs_behind, row_of}}
-use Rattle.lft_trace.specs.{Records.{IsNext, IsPlain, IsUnread, records_left, records_of}, SeenExternals.is_of_input, Traces.IsRow}
+use Rattle.lft_trace.specs.{ExternalTables.{FaultAt, IsEntry}, LogTables.{BeginsAsInput, IsLine, row_of}}
+use Rattle.lft_trace.specs.inner.{LogTables.{EntryFits, InputsFit, ReadsLines, inputs_behind}, Records.{IsNext, IsPlain, IsUnread, records_left}}
+use Rattle.lft_trace.specs.inner.SeenExternals.{is_of_input}
+use Rattle.lft_trace.specs.{Records.records_of, Traces.IsRow}
 use Rattle.lft_trace.specs.declared.{external_table.Entry.{Entry, TheVariants.{Happens, Stops}}, fault.TraceFault.TraceFault}
 use Rattle.lft_trace.specs.declared.{log_table.{Among.Among, Line.{Line, TheVariants.{Row, Input}}, LogLines.LogLines}, records.Records.Records}
 use Rattle.lft_trace.proofs.{EntriesDiffer.same_fields, ExternalTableFacts.{event_fits, stop_fits}, TableFacts.Texts, TraceFacts.row_fits}

@@ -4,7 +4,7 @@ use Rattle.std.specs.Prelude.{◌==◌}
 use Rattle.std.specs.{Char.{digit_value, is_ascii_digit}, List.list_all, Str.Parse.{AllDigits, digits_value, digits_value_after}}
 use Rattle.std.proofs.lemmas.{Bool.{ne_eqb, Decides.nat_tests}, Fmt.decimal_is_IsNumeral, Str.{digit_value_digit, Parse.digit_from_value}}
 use Rattle.lft_ir.specs.declared.parts.Value.{Value, TheVariants.{Bare, Int}}
-use Rattle.lft_trace.specs.{Numbers.{digits_after, number, number_or_zero, value}, SeenWriting.IsWord, Written.{delay_text, value_text}}
+use Rattle.lft_trace.specs.{Numbers.{digits_after, number, number_or_zero, value}, inner.SeenWriting.IsWord, Written.{delay_text, value_text}}
 
 -- digits of std are digits here, and write the same number
 all_digits : (ds : List ℕ) → AllDigits 10 ds → list_all is_ascii_digit ds ≡ true

@@ -10,8 +10,8 @@ use Rattle.lft_ir.specs.declared.parts.{Name.{Name, TheVariants.{Port, Action}},
 use Rattle.lft_ir.specs.declared.steps.row.{Row.Row, Step.{Step, TheVariants.{Start, Read, Write, Schedule, Stop, End}}}
 use Rattle.lft_ir.specs.Steps.Fits.{RowFits, RowsFit, StepFits}
 use Rattle.lft_ir.proofs.Decimals.{All-decimal}
-use Rattle.lft_trace.specs.{Traces.{header, word}, SeenWriting.{AllHaveWords, HasWord, HasWords, IsWord}}
-use Rattle.lft_trace.specs.Written.{csv_text, delay_text, event_of, line, name_text, row_fields, step_fields, table_text, value_text, written_records}
+use Rattle.lft_trace.specs.{Traces.{header, word}, inner.{SeenWriting.{AllHaveWords, HasWord, HasWords, IsWord}, Written.csv_text}}
+use Rattle.lft_trace.specs.Written.{delay_text, event_of, line, name_text, row_fields, step_fields, table_text, value_text, written_records}
 use Rattle.lft_ir.specs.declared.found.Found.TheVariants as found
 
 -- csv writes the field as it is

@@ -5,7 +5,7 @@ use Rattle.std.proofs.lemmas.Bool.{or_parts, Decides.nat_tests}
 use Rattle.lft_ir.specs.{Parts.Parts, declared.steps.row.Step.Step}
 use Rattle.lft_trace.specs.declared.{fault.TraceFault.TraceFault, kind.RowKind.{RowKind, TheVariants.{Start, Read, Write, Schedule, Stop, End}}}
 use Rattle.lft_trace.specs.declared.trace_table.RowNumbers.{RowNumbers}
-use Rattle.lft_trace.specs.{Seen.{FieldFault, NumbersOf, StepOf}, Traces.{FaultAt, IsStep, TraceFields, in_order, is_empty, is_filled, word}}
+use Rattle.lft_trace.specs.{inner.Seen.{FieldFault, NumbersOf, StepOf}, Traces.{FaultAt, IsStep, TraceFields, in_order, is_empty, is_filled, word}}
 use Rattle.lft_trace.specs.declared.fault.TraceFault.TheVariants as fault
 
 not_none : (n : ℕ) → (suc n == 0) ≡ false

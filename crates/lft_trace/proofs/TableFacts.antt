@@ -2,7 +2,7 @@
 use Rattle.std.proofs.Common.{◌≡◌, ◌∙◌, inl, inr, ◌+◌, ◌-◌, ◌<◌, ◌≤◌, ◌++◌, ℕ, List, [], ◌∷◌, length, refl, sym, ap, arith, append_assoc, append-nil, length-append}
 use Rattle.std.proofs.lemmas.Slice.Zip.{all_zipped_more}
 use Rattle.csv.specs.Records.{fields_of}
-use Rattle.lft_trace.specs.Records.{IsNext, IsPast, IsPlain, IsUnread, records_left, records_of}
+use Rattle.lft_trace.specs.{inner.Records.{IsNext, IsPast, IsPlain, IsUnread, records_left}, Records.records_of}
 use Rattle.lft_trace.specs.{Tables.{Begins, FailsAt, Fails, HasTooMany, Holds, TableKind}, declared.records.Records.Records}
 use Rattle.lft_lists.proofs.Zips.{Parted, long, parted, same, same_rest}
 

@@ -5,7 +5,7 @@ use Rattle.lft_ir.specs.{Names.AreDistinct, Parts.Parts, declared.{parts.Name.{N
 use Rattle.lft_ir.proofs.Positions.{nowhere, somewhere}
 use Rattle.lft_trace.specs.Traces.{IsRow, IsStep, IsThing, RowOf, TraceFields, word}
 use Rattle.lft_trace.specs.declared.kind.RowKind.{RowKind, TheVariants.{Start, Read, Write, Schedule, Stop, End}}
-use Rattle.lft_trace.specs.Telling.{fields_in, kind_in, place_in, row_in, row_of, step_in, thing_in}
+use Rattle.lft_trace.specs.inner.Telling.{fields_in, kind_in, place_in, row_in, row_of, step_in, thing_in}
 use Rattle.lft_ir.specs.declared.found.Found.TheVariants as found
 
 -- a text that stands in a list once is found where it stands

@@ -4,7 +4,8 @@ use Rattle.std.specs.Prelude.{◌==◌, ◌&&◌, not}
 use Rattle.std.{specs.List.{AllZip, list_all}, proofs.lemmas.Bool.false≢true}
 use Rattle.csv.specs.{Machine.next_record, Reading.{records_from, strip_bom}}
 use Rattle.lft_ir.specs.{Parts.Parts, declared.steps.row.Row.Row}
-use Rattle.lft_trace.{specs.{Records.records_of, Traces.{IsRow, header}, Parts.{HasNoQuote, EndsLine, BeginsPlain, HoldsRows}}, proofs.Cutting.records_cut}
+use Rattle.lft_trace.specs.{Records.records_of, Traces.{IsRow, header}, Parts.{HasNoQuote, EndsLine}, inner.Parts.{BeginsPlain, HoldsRows}}
+use Rattle.lft_trace.proofs.Cutting.{records_cut}
 
 no_quote_in_both : (a b : List ℕ) → HasNoQuote a → HasNoQuote b → HasNoQuote (a ++ b)
 no_quote_in_both [] b x y i = y i

@@ -5,7 +5,7 @@ use Rattle.csv.specs.Writing.{fields_text, is_blank, escaped}
 use Rattle.lft_ir.specs.Parts.{Parts}
 use Rattle.lft_ir.specs.declared.parts.{Name.TheVariants.{Port, Action}, Value.TheVariants.{Bare, Int}}
 use Rattle.lft_ir.specs.declared.steps.row.{Row.Row, Step.{Step, TheVariants.{Start, Read, Write, Schedule, Stop, End}}}
-use Rattle.lft_trace.specs.Written.{csv_text, line, row_fields, table_text, written_records}
+use Rattle.lft_trace.specs.{inner.Written.csv_text, Written.{line, row_fields, table_text, written_records}}
 
 abbrev program : Parts
 program = record {

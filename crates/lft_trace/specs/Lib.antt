@@ -2,14 +2,9 @@ pub mod Records
 pub mod Numbers
 pub mod Tables
 pub mod Traces
-pub mod Seen
 pub mod Faults
 pub mod ExternalTables
-pub mod SeenExternals
-pub mod Keys
 pub mod Written
-pub mod SeenWriting
-pub mod Telling
 pub mod Parts
-pub mod ShortNames
 pub mod LogTables
+pub mod inner

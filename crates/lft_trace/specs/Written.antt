@@ -1,7 +1,6 @@
 -- The text of a trace table as it is written.
-use Rattle.std.specs.Prelude.{ℕ, List, [], ◌∷◌, ◌++◌, map, decimal, slice_index_or, if◌then◌else◌, ◌==◌}
+use Rattle.std.specs.Prelude.{ℕ, List, ◌∷◌, ◌++◌, map, decimal, slice_index_or, if◌then◌else◌, ◌==◌}
 use Rattle.std.specs.{Fmt.signed_decimal, List.{concat, join_with_byte}}
-use Rattle.csv.specs.Writing.{default_writer, row_text}
 use Rattle.lft_ir.specs.Parts.{Parts}
 use Rattle.lft_ir.specs.declared.parts.{Name.{Name, TheVariants.{Port, Action}}, Value.{Value, TheVariants.{Bare, Int}}}
 use Rattle.lft_ir.specs.declared.steps.row.{Row.Row, Step.{Step, TheVariants.{Start, Read, Write, Schedule, Stop, End}}}
@@ -47,10 +46,6 @@ row_fields program row = word (event_of row.step) ∷ decimal row.worker ∷ dec
 -- the header, and then the fields of each row
 abbrev pub written_records : Parts → List Row → List (List (List ℕ))
 written_records program rows = header ∷ map (row_fields program) rows
-
--- the text of records, as csv writes each
-abbrev pub csv_text : List (List (List ℕ)) → List ℕ
-csv_text records = concat (map (row_text default_writer) records)
 
 -- a line of fields with a comma (byte 44) between each two, ended by a line feed (byte 10)
 abbrev pub line : List (List ℕ) → List ℕ

@@ -2,7 +2,7 @@
 
 ghost use Rattle.std.specs.Prelude.{◌≡◌, ◌∷◌, ◌↔◌, [], map, true, false, IfOk, IsTrue};
 ghost use Rattle.std.specs.List.Sorted.{IsPermutation};
-ghost use Rattle.lft_trace.specs.{ExternalTables.{Clash, Has}, Keys.event_at};
+ghost use Rattle.lft_trace.specs.{ExternalTables.{Clash, Has}, inner.Keys.event_at};
 ghost use Rattle.lft_ir.specs.{Steps.Inputs.{ComesBefore, InOrder}, declared.steps.externals.Event.Event as TheEvent};
 
 use lft_ir::Value;
@@ -25,7 +25,7 @@ pub(crate) struct EventMap {
 impl Model for EventMap {
     ghost use Rattle.std.specs.Prelude.{List, ◌++◌, map};
     ghost use Rattle.lft_ir.specs.declared.steps.externals.Event.{Event};
-    ghost use Rattle.lft_trace.specs.Keys.{event_at, IsInOnePlace};
+    ghost use Rattle.lft_trace.specs.inner.Keys.{event_at, IsInOnePlace};
 
     ghost Value = { List Event };
 

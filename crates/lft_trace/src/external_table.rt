@@ -3,7 +3,7 @@
 ghost use Rattle.std.specs.Prelude.{◌≡◌, ◌≢◌, ◌+◌, ℕ, List, IfOk, IfErr, IsTrue, ◌↔◌, true, false, not, ◌&&◌, ◌||◌, Some, None};
 ghost use Rattle.csv.specs.Records.{fields_of};
 ghost use Rattle.lft_trace.specs.{ExternalTables.{ExternalTable, ExternalFails, FaultAt, IsEntry, IsOfKind, header}, Faults.is_told, Numbers.value};
-ghost use Rattle.lft_trace.specs.{Records.records_of, SeenExternals.{FieldFault, Keeps, Refuses, external_fields}};
+ghost use Rattle.lft_trace.specs.{Records.records_of, inner.SeenExternals.{FieldFault, Keeps, Refuses, external_fields}};
 ghost use Rattle.lft_ir.specs.Steps.{Fits.ExternalsFit, Inputs.{ExternalInputs, InOrder}};
 
 use crate::event_map::EventMap;

@@ -4,7 +4,7 @@ ghost use Rattle.std.specs.Prelude.{◌≡◌, ◌≢◌, ◌↔◌, IfSome, IfN
 ghost use Rattle.csv.specs.Records.{fields_of};
 ghost use Rattle.lft_trace.specs.Traces.{header, in_order, is_filled};
 ghost use Rattle.lft_trace.specs.ExternalTables.{header as external_header, in_order as externals_in_order, is_filled as is_filled_external};
-ghost use Rattle.lft_trace.specs.{Seen.trace_fields, SeenExternals.external_fields};
+ghost use Rattle.lft_trace.specs.inner.{Seen.trace_fields, SeenExternals.external_fields};
 
 use crate::kind::{EntryKind, RowKind};
 use crate::records::field;

@@ -3,7 +3,8 @@
 ghost use Rattle.std.specs.Prelude.{◌≡◌, ◌<◌, ◌≤◌, length, IfSome, IfOk, IfErr};
 ghost use Rattle.csv.specs.Records.{fields_of};
 ghost use Rattle.lft_ir.specs.Steps.Fits.{RowsFit};
-ghost use Rattle.lft_trace.specs.{LogTables.{InputsFit, IsLine, IsNoLine, IsWithin, ReadsLines}, Records.records_of, SeenExternals.is_of_input};
+ghost use Rattle.lft_trace.specs.{inner.{LogTables.{InputsFit, IsWithin, ReadsLines}, SeenExternals.is_of_input}, LogTables.{IsLine, IsNoLine}};
+ghost use Rattle.lft_trace.specs.Records.{records_of};
 
 use crate::external_table::{Entry, read_entry};
 use crate::fault::TraceFault;

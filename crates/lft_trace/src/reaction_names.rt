@@ -2,7 +2,7 @@
 
 ghost use Rattle.std.specs.Prelude.{◌≡◌, IfOk, IfSome, IsTrue};
 ghost use Rattle.lft_ir.specs.{Names.IsNamed, Sound.IsSound};
-ghost use Rattle.lft_trace.specs.ShortNames.{AreShort};
+ghost use Rattle.lft_trace.specs.inner.ShortNames.{AreShort};
 
 use crate::kind::RowKind;
 use crate::short_name::{ShortName, is_long};
@@ -31,7 +31,7 @@ impl<'a> Model for ReactionNames<'a> {
 
     ghost view = { λ a. a.program.now };
 
-    ghost use Rattle.lft_trace.specs.ShortNames.{AreShort};
+    ghost use Rattle.lft_trace.specs.inner.ShortNames.{AreShort};
 
     ghost invariant = { λ a. AreShort a.program.now.names.reactions a.names.items };
 }

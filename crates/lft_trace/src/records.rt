@@ -2,7 +2,7 @@
 
 ghost use Rattle.std.specs.Prelude.{◌≡◌, ◌<◌, [], true, false, IfOk, IfErr, length, slice_index_or};
 ghost use Rattle.csv.specs.Records.{fields_of};
-ghost use Rattle.lft_trace.specs.{Faults.is_told, Records.{IsNext, IsPast, IsPlain, IsUnread, records_left}};
+ghost use Rattle.lft_trace.specs.{Faults.is_told, inner.Records.{IsNext, IsPast, IsPlain, IsUnread, records_left}};
 
 use crate::fault::TraceFault;
 use csv::{ByteRecord, ErrorKind, Reader, ReaderBuilder};

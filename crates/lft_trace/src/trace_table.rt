@@ -5,7 +5,7 @@ ghost use Rattle.std.specs.List.{AllZip};
 ghost use Rattle.csv.specs.Records.{fields_of};
 ghost use Rattle.lft_trace.specs.{Numbers.{number_or_zero, value}, Faults.is_told, Records.records_of};
 ghost use Rattle.lft_trace.specs.Traces.{Table, TraceFails, header, FaultAt, IsRow, IsThing, RowOf, has_delay, has_name, has_numbers, word};
-ghost use Rattle.lft_trace.specs.Seen.{FieldFault, NumbersOf, StepOf, trace_fields};
+ghost use Rattle.lft_trace.specs.inner.Seen.{FieldFault, NumbersOf, StepOf, trace_fields};
 ghost use Rattle.lft_ir.specs.Steps.Fits.{RowsFit};
 
 use crate::fault::TraceFault;

@@ -5,7 +5,7 @@ use Rattle.lft_resolve.specs.{Instances.reactor_named, Kinds.{kind_of, reads_of,
 use Rattle.lft_resolve.specs.Causes.{GivesTwice, GivesUnknown, LacksReactor, IsUnknownTime, IsMisplaced, IsMisplacedTime, NamesTwice, NamesNothing, Misplaces, IsLongTime, HasLongTime, UnknownReactor, UnknownName, WrongPlace, MainHasPorts, WidthMismatch, NoTrigger, DuplicateInput, DiffersInWidth, LacksTrigger, RepeatsName, SomeGivesTwice, longest}
 use Rattle.lft_resolve.specs.declared.kinds.Role.{Role, TheVariants.{Read, Effect, Source, Destination}}
 use Rattle.lft_resolve.proofs.{Somes.{Any-nil, Any-head, Any-tail, Any-cases, Any-append_cases, Any-weaker, unpicked, unkept, some_of}, Lacking.Any-either}
-use Rattle.lft_validate.specs.{Members.times_of, Shown.{SomeName, SomeShows, ShowsCause, ShowsUnknown, ShowsMisplaced}}
+use Rattle.lft_validate.specs.{Members.times_of, inner.Shown.{SomeName, SomeShows, ShowsCause, ShowsUnknown, ShowsMisplaced}}
 use Rattle.lft_validate.specs.declared.members.Cause.TheVariants as cause
 
 -- ---- lists

@@ -3,10 +3,10 @@ use Rattle.std.proofs.Common.{◌≡◌, ◌≢◌, ℕ, zero, suc, ◌+◌, ◌
 use Rattle.std.{specs.Option.option_and_then, proofs.lemmas.Option.slice_get_within}
 use Rattle.lft_tree.specs.Tree.{ReactorTree, InstanceTree, instances_of}
 use Rattle.lft_resolve.specs.{declared.expansion.walk.Contents.Contents, Causes.{Holds as HoldsIn, HoldsDeep, directly, RecursiveReactor}}
-use Rattle.lft_resolve.specs.{Instances.reactor_named, Numbers.{IsNumberOf, IsContents, AreContents}}
+use Rattle.lft_resolve.specs.{Instances.reactor_named, inner.Numbers.{IsNumberOf, IsContents, AreContents}}
 use Rattle.lft_resolve.proofs.{Files.AllZip-from, Twice.Any-at}
 use Rattle.lft_lists.proofs.Places.{get_there, same_some}
-use Rattle.lft_validate.{specs.{Circles.{Holds, IsRound}, Witnesses.{HoldsAt, IsCircle}}, proofs.Founding.deeper}
+use Rattle.lft_validate.{specs.inner.{Circles.{Holds, IsRound}, Witnesses.{HoldsAt, IsCircle}}, proofs.Founding.deeper}
 
 module _ (rs : List ReactorTree) (table : List Contents) (all : AreContents rs table) where
   is_held : (a k b : ℕ) (c : Contents) → slice_get table a ≡ Some c → slice_get c.instances.items k ≡ Some b → HoldsAt rs a b

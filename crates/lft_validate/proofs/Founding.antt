@@ -1,12 +1,11 @@
 -- Where no way down goes on for ever, no reactor contains itself.
 use Rattle.std.proofs.Common.{◌≡◌, ℕ, List, Some, slice_get, sym, ap, ◌∙◌}
 use Rattle.lft_tree.specs.Tree.{ReactorTree, instances_of}
-use Rattle.lft_resolve.specs.{declared.expansion.walk.Contents.Contents, Expansion.Contents.contained}
+use Rattle.lft_resolve.specs.{declared.expansion.walk.Contents.Contents, inner.{Expansion.Contents.contained, Numbers.{IsNumberOf, IsContents, AreContents}}}
 use Rattle.lft_resolve.specs.{Causes.{Holds, HoldsDeep, directly, through, RecursiveReactor}, Instances.reactor_named}
-use Rattle.lft_resolve.specs.Numbers.{IsNumberOf, IsContents, AreContents}
 use Rattle.lft_resolve.proofs.{Directed.AllZip-to, Twice.at-Any}
 use Rattle.std.specs.Option.{option_and_then}
-use Rattle.lft_validate.specs.Circles.{Holds as HoldsNumber, Founded, founded, AllFounded}
+use Rattle.lft_validate.specs.inner.Circles.{Holds as HoldsNumber, Founded, founded, AllFounded}
 
 -- one step more
 pub deeper : (rs : List ReactorTree) (a b c : ReactorTree) → HoldsDeep rs a b → Holds rs b c → HoldsDeep rs a c

@@ -2,7 +2,7 @@
 use Rattle.std.proofs.Common.{◌≡◌, ◌&&◌, ℕ, Bool, true, false, List, Option, Some, None, refl, ap, subst, bytes_eq, Decides}
 use Rattle.std.proofs.lemmas.{Bool.and_parts, Slice.Eq.bytes_eq-Decides}
 use Rattle.lft_tree.specs.Tree.{RefTree}
-use Rattle.lft_validate.specs.Seen.{same_ref, same_inside}
+use Rattle.lft_validate.specs.inner.Seen.{same_ref, same_inside}
 
 made : (h h' : List ℕ) (p p' : Option (List ℕ)) → h ≡ h' → p ≡ p' → Path RefTree (record { head = h; port = p }) (record { head = h'; port = p' })
 made h h' p p' a b = cc

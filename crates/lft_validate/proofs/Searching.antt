@@ -3,8 +3,8 @@ use Rattle.std.proofs.Common.{◌≡◌, ◌≢◌, ℕ, zero, suc, ◌+◌, ◌
 use Rattle.std.{specs.Option.option_and_then, proofs.lemmas.{Bool.{cases_lt, cases_eq}, Option.{slice_get_within, slice_get_past, slice_get-map}}}
 use Rattle.lft_lists.proofs.Mapped.{option_map_some}
 use Rattle.lft_lists.proofs.Places.{get_there, get_written, get_unwritten, get_write_cases, length_written, get_push, get_last, get_push_cases, get_same, length_same, same_some}
-use Rattle.lft_resolve.specs.{Expansion.Contents.contained, declared.expansion.walk.Contents.Contents}
-use Rattle.lft_validate.specs.Circles.{Holds, IsDone, DoneBetween, OnlyDone, IsVisitAt, Founded, founded, AllFounded, IsSearched, KeepsNew, IsRound}
+use Rattle.lft_resolve.specs.{inner.Expansion.Contents.contained, declared.expansion.walk.Contents.Contents}
+use Rattle.lft_validate.specs.inner.Circles.{Holds, IsDone, DoneBetween, OnlyDone, IsVisitAt, Founded, founded, AllFounded, IsSearched, KeepsNew, IsRound}
 use Rattle.lft_validate.specs.declared.circle.{Stage.{Stage, TheVariants.{New, Open, Done}}, Visit.Visit}
 
 -- how many reactors weren't met

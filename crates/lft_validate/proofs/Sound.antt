@@ -11,8 +11,9 @@ use Rattle.lft_resolve.proofs.Somes.{Any-nil, Any-head, Any-tail, Any-cases, Any
 use Rattle.lft_resolve.proofs.{Lacking.{Any-either, Any-flat_map, Any-map}, Twice.Any-at}
 use Rattle.lft_lists.proofs.Places.{get_left, get_right}
 use Rattle.lft_validate.specs.Members.{names_of, times_of, given_of, declarations}
-use Rattle.lft_validate.specs.{Findings.{IsTwiceAt, IsOfNone, IsNothing, IsForNone, IsWrong, IsWrongTime, cause_of}, Shown.all_names}
-use Rattle.lft_validate.specs.Witnesses.{HasFinding, IsNamedAt, IsEarlier, IsWriting, IsWrittenTwice, IsMainAt, IsFirstShown, Shows, cause_shown, time_causes}
+use Rattle.lft_validate.specs.Findings.{IsTwiceAt, IsOfNone, IsNothing, IsForNone, IsWrong, IsWrongTime, cause_of}
+use Rattle.lft_validate.specs.inner.{Shown.all_names, Witnesses.{IsFirstShown, time_causes}}
+use Rattle.lft_validate.specs.Witnesses.{HasFinding, IsNamedAt, IsEarlier, IsWriting, IsWrittenTwice, IsMainAt, Shows, cause_shown}
 use Rattle.lft_validate.specs.declared.{finding.Finding.Finding, witness.{Naming.Naming, Witness.Witness}}
 use Rattle.lft_validate.proofs.{DeclaredNames.named_twice, Standing.{all_destinations, all_effects}, TwoMains.both_main}
 use Rattle.lft_validate.specs.declared.finding.Finding.TheVariants as finding

@@ -4,8 +4,8 @@ use Rattle.std.proofs.lemmas.Bool.{cases_lt}
 use Rattle.lft_tree.specs.Tree.{ReactorTree, MemberTree, RefTree, PortMember, TimerMember, ActionMember, StateMember, PreambleMember, ReactionMember, InstanceMember, ConnectionMember, connection_in, reaction_in}
 use Rattle.lft_resolve.specs.{Kinds.{destinations_in, effects_in}, declared.kinds.Role.{Role, TheVariants.{Effect, Destination}}}
 use Rattle.lft_resolve.proofs.Twice.{slice_get-front}
-use Rattle.lft_validate.specs.{Findings.IsTwiceAt, Members.names_of, Shown.all_names, Witnesses.{IsEarlier, IsPlaceOf, IsNamedAt, IsSharedAt, IsWrittenTwice}}
-use Rattle.lft_validate.specs.declared.witness.Naming.{Naming}
+use Rattle.lft_validate.specs.{Findings.IsTwiceAt, Members.names_of, inner.{Shown.all_names, Witnesses.{IsPlaceOf, IsSharedAt}}}
+use Rattle.lft_validate.specs.{Witnesses.{IsEarlier, IsNamedAt, IsWrittenTwice}, declared.witness.Naming.Naming}
 
 module _ {X : Type 0} where
   at_back : (xs ys : List X) (k : ℕ) → slice_get (xs ++ ys) (length xs + k) ≡ slice_get ys k

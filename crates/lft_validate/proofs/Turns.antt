@@ -3,7 +3,7 @@ use Rattle.std.proofs.Common.{◌≡◌, ℕ, zero, suc, ◌<◌, ◌≤◌, Lis
 use Rattle.lft_lists.proofs.Mapped.{mapped_at}
 use Rattle.std.{specs.List.AllZip, proofs.lemmas.Option.slice_get-get_or}
 use Rattle.lft_tree.specs.Tree.{ReactorTree}
-use Rattle.lft_resolve.{specs.{Tables.IsOwn, declared.own.Own.Own}, proofs.{Directed.AllZip-to, Twice.at-Any}}
+use Rattle.lft_resolve.{specs.{inner.Tables.IsOwn, declared.own.Own.Own}, proofs.{Directed.AllZip-to, Twice.at-Any}}
 
 -- what is so at a place is so of the item there
 pub so_at : {A C : Type 0} (v : C → A) (P : A → Type 0) (xs : List C) (i : ℕ) (x : C) → i < length xs → get_or xs i x ≡ x → IsSomeAnd (slice_get (map v xs) i) P → P (v x)

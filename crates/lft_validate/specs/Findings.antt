@@ -1,10 +1,9 @@
 -- What each finding says of a member of a reactor.
-use Rattle.std.specs.Prelude.{◌≡◌, ◌≢◌, ℕ, ◌<◌, List, [], length, Some, None, true, false, slice_get, map, IsSome, IsSomeAnd}
+use Rattle.std.specs.Prelude.{◌≡◌, ◌≢◌, ℕ, ◌<◌, List, length, Some, None, true, false, slice_get, map, IsSome, IsSomeAnd}
 use Rattle.lft_tree.specs.Tree.{ReactorTree, MemberTree, InstanceTree, RefTree, TimeTree, Named, port_in, instance_in, reaction_in, connection_in}
 use Rattle.lft_resolve.specs.{Instances.reactor_named, Kinds.{kind_of, own_kind, may_stand}, Causes.{IsUnknownTime, LacksParameter, IsLongTime}}
 use Rattle.lft_resolve.specs.declared.kinds.{Kind.{Kind, TheVariants.OwnParameter}, Role.Role}
-use Rattle.lft_validate.specs.{Members.{names_of, times_of, given_of}, declared.{members.Cause.Cause, finding.Finding.Finding}}
-use Rattle.lft_validate.specs.declared.members.Cause.TheVariants as cause
+use Rattle.lft_validate.specs.{Members.{names_of, times_of, given_of}, declared.finding.Finding.Finding}
 use Rattle.lft_validate.specs.declared.finding.Finding.TheVariants as finding
 
 -- the list has one thing at two places, the first before the second
@@ -61,15 +60,3 @@ cause_of finding.WidthMismatch = 11
 cause_of finding.NoTrigger = 12
 cause_of (finding.NamedTwice role first second) = 13
 cause_of (finding.LongTime n) = 14
-
--- the number of a cause that one member can show
-abbrev pub number_of : Cause → ℕ
-number_of cause.DuplicateName = 3
-number_of cause.UnknownReactor = 4
-number_of cause.UnknownName = 6
-number_of cause.WrongPlace = 7
-number_of cause.MainHasPorts = 8
-number_of cause.WidthMismatch = 11
-number_of cause.NoTrigger = 12
-number_of cause.DuplicateInput = 13
-number_of cause.DelayTooLong = 14

@@ -1,8 +1,6 @@
 -- The names, times and values of one member of a reactor, and what a reactor declares, in the order of the text.
-use Rattle.std.specs.Prelude.{ℕ, List, [], ◌++◌, Option, Some, None, map, filter_map, option_to_list}
-use Rattle.std.specs.Borrow.{Bor}
+use Rattle.std.specs.Prelude.{ℕ, List, ◌++◌, Option, Some, None, map, filter_map, option_to_list}
 use Rattle.lft_tree.specs.Tree.{ReactorTree, MemberTree, PortMember, TimerMember, ActionMember, ReactionMember, InstanceMember, ConnectionMember, RefTree, TimeTree, AssignmentTree}
-use Rattle.lft_tree.specs.{View.time_view, declared.tree.TimeExpression.TimeExpression}
 use Rattle.lft_resolve.specs.{Kinds.{reads_of, timer_times}, declared.kinds.Role.{Role, TheVariants.{Read, Effect, Source, Destination}}}
 
 -- the names of the member that have the role, in order
@@ -37,7 +35,3 @@ declared_name _ = None
 -- the names that the reactor declares
 abbrev pub declarations : ReactorTree → List (List ℕ)
 declarations r = map (λ p. p.name) r.parameters ++ filter_map declared_name r.members
-
--- the times behind the references, as trees
-abbrev pub time_trees : List (Bor TimeExpression) → List TimeTree
-time_trees = map (λ t. time_view t.now)

@@ -2,8 +2,8 @@
 
 ghost use Rattle.std.specs.Prelude.{◌≡◌, IfOk, IfSome, IfNone};
 ghost use Rattle.lft_tree.specs.Tree.{reactors_of};
-ghost use Rattle.lft_resolve.specs.{Causes.{DuplicateName, first_causes, later_causes}, References.reactor_trees};
-ghost use Rattle.lft_validate.specs.{Scopes.AreNames, Witnesses.{IsFirstShown, Shows, cause_shown, time_causes}};
+ghost use Rattle.lft_resolve.specs.{Causes.{DuplicateName, first_causes, later_causes}, inner.References.reactor_trees};
+ghost use Rattle.lft_validate.specs.{inner.{Scopes.AreNames, Witnesses.{IsFirstShown, time_causes}}, Witnesses.{Shows, cause_shown}};
 
 use crate::declared::{same_reactors, some_declared_twice};
 use crate::mains::{long_default, no_main, two_mains};

@@ -5,8 +5,8 @@
 
 ghost use Rattle.std.specs.Prelude.{◌≡◌, ◌≢◌, ◌≤◌, ◌<◌, ◌↔◌, ℕ, List, [], Some, IfOk, IfSome, IfNone, IsTrue, drop, length, map, slice_get};
 ghost use Rattle.lft_tree.specs.Tree.{ReactorTree};
-ghost use Rattle.lft_resolve.specs.{Expansion.Contents.contained, Causes.RecursiveReactor, Numbers.AreContents};
-ghost use Rattle.lft_validate.specs.{Circles.{AllFounded, DoneBetween, IsDone, IsRound, IsSearched, IsVisitAt, KeepsNew, OnlyDone}, Witnesses.IsCircle};
+ghost use Rattle.lft_resolve.specs.{inner.{Expansion.Contents.contained, Numbers.AreContents}, Causes.RecursiveReactor};
+ghost use Rattle.lft_validate.specs.inner.{Circles.{AllFounded, DoneBetween, IsDone, IsRound, IsSearched, IsVisitAt, KeepsNew, OnlyDone}, Witnesses.IsCircle};
 ghost use Rattle.lft_validate.specs.declared.circle.Stage.TheVariants.{New};
 
 use lft_lists::item_at;

@@ -2,7 +2,7 @@
 
 ghost use Rattle.std.specs.Prelude.{◌≡◌, ◌++◌, Any, IfOk, OnOk, IfSome, IfNone, filter_map, option_map};
 ghost use Rattle.lft_tree.specs.View.{member_view, member_views, reactor_view};
-ghost use Rattle.lft_resolve.specs.{Causes.IsTwice, Kinds.names_in, References.reactor_trees, Tests.texts};
+ghost use Rattle.lft_resolve.specs.{Causes.IsTwice, Kinds.names_in, inner.{References.reactor_trees, Tests.texts}};
 ghost use Rattle.lft_validate.specs.{Findings.IsTwiceAt, Members.{declared_name, declarations}, Witnesses.{Shows, cause_shown}};
 
 use crate::twice::first_twice;

@@ -2,8 +2,8 @@
 
 ghost use Rattle.std.specs.Prelude.{◌≡◌, ◌↔◌, List, None, Any, IfOk, IfSome, IfNone, IsTrue, IsSomeAnd, slice_get};
 ghost use Rattle.lft_tree.specs.{Tree.ReactorTree, View.{member_view, reactor_view, time_view}};
-ghost use Rattle.lft_resolve.specs.{Causes.IsLongTime, Tables.IsFile};
-ghost use Rattle.lft_validate.specs.{Members.time_trees, Findings.{IsFinding, cause_of}, Shown.ShowsCause};
+ghost use Rattle.lft_resolve.specs.{Causes.IsLongTime, inner.Tables.IsFile};
+ghost use Rattle.lft_validate.specs.{inner.{Members.time_trees, Shown.ShowsCause}, Findings.{IsFinding, cause_of}};
 ghost use Rattle.lft_validate.specs.declared.members.Cause.TheVariants as causes;
 
 use crate::finding::Finding;

@@ -2,7 +2,7 @@
 
 ghost use Rattle.std.specs.Prelude.{◌≡◌, ◌<◌, ◌≤◌, ℕ, Some, Any, IfSome, IfNone, IsSomeAnd, length, map, slice_get};
 ghost use Rattle.lft_tree.specs.{Tree.nanoseconds, View.parameter_view};
-ghost use Rattle.lft_resolve.specs.{Causes.{NoMain, TwoMains, longest}, References.reactor_trees};
+ghost use Rattle.lft_resolve.specs.{Causes.{NoMain, TwoMains, longest}, inner.References.reactor_trees};
 ghost use Rattle.lft_validate.specs.Witnesses.{IsMainAt, Shows, cause_shown};
 
 use crate::witness::Witness;

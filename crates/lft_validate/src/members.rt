@@ -2,8 +2,8 @@
 
 ghost use Rattle.std.specs.Prelude.{◌≡◌, ◌<◌, List, Any, IfOk, IfSome, IfNone, length, slice_get, IsSomeAnd};
 ghost use Rattle.lft_tree.specs.{Tree.ReactorTree, View.{member_view, reactor_view}};
-ghost use Rattle.lft_resolve.specs.{References.reactor_trees, Tables.{IsFile, IsOwn}};
-ghost use Rattle.lft_validate.specs.{Findings.{IsFinding, cause_of, number_of}, Scopes.AreNames, Shown.{ShowsCause, SomeShows}};
+ghost use Rattle.lft_resolve.specs.inner.{References.reactor_trees, Tables.{IsFile, IsOwn}};
+ghost use Rattle.lft_validate.specs.{Findings.{IsFinding, cause_of}, inner.{Findings.number_of, Scopes.AreNames, Shown.{ShowsCause, SomeShows}}};
 ghost use Rattle.lft_validate.specs.Witnesses.{HasFinding, Shows, cause_shown};
 
 use crate::finding::Finding;

@@ -2,8 +2,9 @@
 
 ghost use Rattle.std.specs.Prelude.{◌≡◌, List, Any, IfOk, IfSome, IfNone, IsSomeAnd, slice_get};
 ghost use Rattle.lft_tree.specs.{Tree.ReactorTree, View.{member_view, ref_view, time_view}};
-ghost use Rattle.lft_resolve.specs.{Causes.{IsMisplaced, IsMisplacedTime}, References.ref_trees, Tables.{IsFile, IsOwn}};
-ghost use Rattle.lft_validate.specs.{Members.{names_of, time_trees}, Findings.{IsFinding, IsWrong, IsWrongTime, cause_of}, Shown.{ShowsMisplaced, SomeName}};
+ghost use Rattle.lft_resolve.specs.{Causes.{IsMisplaced, IsMisplacedTime}, inner.{References.ref_trees, Tables.{IsFile, IsOwn}}};
+ghost use Rattle.lft_validate.specs.{Members.names_of, inner.{Members.time_trees, Shown.{ShowsMisplaced, SomeName}}};
+ghost use Rattle.lft_validate.specs.Findings.{IsFinding, IsWrong, IsWrongTime, cause_of};
 
 use crate::finding::{Finding, ROLES};
 use crate::names::{names_of, times_of};

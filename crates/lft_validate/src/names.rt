@@ -2,8 +2,8 @@
 
 ghost use Rattle.std.specs.Prelude.{◌≡◌, ◌++◌, IfOk, OnOk, option_map, filter_map, option_to_list, map};
 ghost use Rattle.lft_tree.specs.View.{assignment_view, member_view, ref_view, ref_views, trigger_view, reaction_view, time_view};
-ghost use Rattle.lft_resolve.specs.{Kinds.{ref_in, reads_of}, References.ref_trees};
-ghost use Rattle.lft_validate.specs.Members.{names_of, times_of, time_trees};
+ghost use Rattle.lft_resolve.specs.{Kinds.{ref_in, reads_of}, inner.References.ref_trees};
+ghost use Rattle.lft_validate.specs.{Members.{names_of, times_of}, inner.Members.time_trees};
 
 use lft_resolve::kinds::Role;
 use lft_tag::NoMemory;

@@ -3,7 +3,7 @@
 ghost use Rattle.std.specs.Prelude.{◌≡◌, IfOk};
 ghost use Rattle.std.specs.List.{AllZip};
 ghost use Rattle.lft_tree.specs.{Tree.reactors_of, View.tree_view};
-ghost use Rattle.lft_resolve.specs.{References.reactor_trees, Tables.{IsFile, IsOwn}};
+ghost use Rattle.lft_resolve.specs.inner.{References.reactor_trees, Tables.{IsFile, IsOwn}};
 
 use lft_resolve::file::File;
 use lft_resolve::members;
@@ -24,7 +24,7 @@ pub struct Scopes<'a> {
 
 impl<'a> Model for Scopes<'a> {
     ghost use Rattle.lft_tree.specs.{Tree.FileTree, View.tree_view};
-    ghost use Rattle.lft_validate.specs.Scopes.{AreScopes};
+    ghost use Rattle.lft_validate.specs.inner.Scopes.{AreScopes};
 
     ghost Value = { FileTree };
 

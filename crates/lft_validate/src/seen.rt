@@ -2,7 +2,7 @@
 
 ghost use Rattle.std.specs.Prelude.{◌≡◌, cond, not, true, false, IfOk, OnOk};
 ghost use Rattle.lft_tree.specs.{Tree.RefTree, View.ref_view};
-ghost use Rattle.lft_validate.specs.Seen.{has_seen, same_ref};
+ghost use Rattle.lft_validate.specs.inner.Seen.{has_seen, same_ref};
 
 use lft_resolve::hashing::NameHash;
 use lft_tag::NoMemory;

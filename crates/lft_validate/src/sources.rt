@@ -2,8 +2,9 @@
 
 ghost use Rattle.std.specs.Prelude.{◌≡◌, ◌+◌, ◌≤◌, ◌⊎◌, Any, Contains, IfOk, IfSome, IfNone, IsSomeAnd, length};
 ghost use Rattle.lft_tree.specs.View.{reactor_view};
-ghost use Rattle.lft_validate.specs.{Seen.has_seen, Findings.IsTwiceAt, Shown.all_names, Witnesses.{IsPlaceOf, IsSharedAt, IsWrittenTwice, Shows, cause_shown}};
-ghost use Rattle.lft_resolve.specs.{Causes.{TwoSources, WritesTwice}, References.{reactor_trees, ref_trees}, Tests.IsTestOf};
+ghost use Rattle.lft_validate.specs.{inner.{Seen.has_seen, Shown.all_names, Witnesses.{IsPlaceOf, IsSharedAt}}, Findings.IsTwiceAt};
+ghost use Rattle.lft_validate.specs.Witnesses.{IsWrittenTwice, Shows, cause_shown};
+ghost use Rattle.lft_resolve.specs.{Causes.{TwoSources, WritesTwice}, inner.{References.{reactor_trees, ref_trees}, Tests.IsTestOf}};
 ghost use Rattle.lft_resolve.specs.declared.kinds.Role.TheVariants as roles;
 
 use crate::names::names_of;

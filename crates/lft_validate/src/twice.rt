@@ -4,7 +4,7 @@
 
 ghost use Rattle.std.specs.Prelude.{◌≡◌, ◌<◌, ◌↔◌, ℕ, List, Some, Any, IfOk, IfSome, IfNone, IsSome, IsSomeAnd, IsTrue, length, map, slice_get, take};
 ghost use Rattle.lft_tree.specs.{Tree.{ReactorTree, RefTree, instance_in, reaction_in}, View.{assignment_view, member_view, ref_view}};
-ghost use Rattle.lft_resolve.specs.{Causes.{GivesTwice, IsTwice, NamesTwice}, References.ref_trees, Tests.texts};
+ghost use Rattle.lft_resolve.specs.{Causes.{GivesTwice, IsTwice, NamesTwice}, inner.{References.ref_trees, Tests.texts}};
 ghost use Rattle.lft_validate.specs.{Members.{given_of, names_of}, Findings.{IsFinding, IsTwiceAt, cause_of}};
 
 use crate::finding::Finding;

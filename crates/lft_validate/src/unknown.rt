@@ -2,9 +2,9 @@
 
 ghost use Rattle.std.specs.Prelude.{◌≡◌, ◌↔◌, List, None, Any, IfOk, IfSome, IfNone, IsTrue, IsSomeAnd, map, slice_get};
 ghost use Rattle.lft_tree.specs.{Tree.{ReactorTree, instance_in}, View.{assignment_view, instance_view, member_view, time_view}};
-ghost use Rattle.lft_resolve.specs.{Causes.{GivesUnknown, IsUnknownTime, LacksParameter}, References.ref_trees, Tables.{IsFile, IsOutside, IsOwn}};
-ghost use Rattle.lft_validate.specs.{Members.{names_of, time_trees, times_of}, Findings.{IsFinding, IsForNone, IsNothing, cause_of}};
-ghost use Rattle.lft_validate.specs.Shown.{ShowsUnknown, SomeName};
+ghost use Rattle.lft_resolve.specs.{Causes.{GivesUnknown, IsUnknownTime, LacksParameter}, inner.{References.ref_trees, Tables.{IsFile, IsOutside, IsOwn}}};
+ghost use Rattle.lft_validate.specs.{Members.{names_of, times_of}, inner.{Members.time_trees, Shown.{ShowsUnknown, SomeName}}};
+ghost use Rattle.lft_validate.specs.Findings.{IsFinding, IsForNone, IsNothing, cause_of};
 
 use crate::finding::{Finding, ROLES};
 use crate::names::{names_of, times_of};

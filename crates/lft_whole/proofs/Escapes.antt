@@ -2,7 +2,7 @@
 use Rattle.std.proofs.Common.{◌≡◌, ℕ, zero, suc, ◌+◌, ◌-◌, ◌<◌, ◌≤◌, Bool, true, false, List, [], ◌∷◌, length, Option, Some, None, Result, Ok, Err, ◌⊎◌, inl, inr, if◌then◌else◌, refl, sym, ap, subst, ◌∙◌, arith}
 use Rattle.std.specs.Prelude.{not, ◌&&◌, ◌||◌, codes}
 use Rattle.std.proofs.lemmas.Bool.{and_parts}
-use Rattle.lft_whole.specs.Pieces.{stands, first_in, is_escaped, closes, past_or_line, past_in_line, past_or_next, QuoteNothing}
+use Rattle.lft_whole.specs.{Pieces.{stands, first_in, is_escaped, closes, past_or_line, past_in_line, past_or_next}, inner.Pieces.QuoteNothing}
 use Rattle.lft_whole.proofs.Searches.{NonePass, none_more, none_in, found_in, none_says, found_says}
 
 -- a string that begins here has escaped nothing yet

@@ -2,6 +2,6 @@ pub mod Forms
 pub mod Names
 pub mod Pieces
 pub mod Places
-pub mod Tokens
 pub mod Parts
 pub mod Sources
+pub mod inner

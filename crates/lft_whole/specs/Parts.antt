@@ -1,6 +1,5 @@
 pub mod Language
 pub mod Lexeme
-pub mod Parsing
 pub mod Parts
 pub mod Tree
 pub mod View

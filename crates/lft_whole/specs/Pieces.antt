@@ -1,6 +1,6 @@
 -- The lexical grammar of whole Lingua Franca: what begins at a place of a text, and where it ends. Here t is the
 -- text, a list of bytes, and i and j are places in it, counted from 0.
-use Rattle.std.specs.Prelude.{◌≡◌, ℕ, zero, suc, ◌+◌, ◌-◌, ◌*◌, ◌^◌, ◌<◌, ◌≤◌, min, List, [], ◌∷◌, length, slice_get, slice_index, slice_range, Option, Some, None, is_some, Result, Ok, Err, Bool, if◌then◌else◌, true, false, not, ◌&&◌, ◌||◌, nat_le, nat_lt, codes}
+use Rattle.std.specs.Prelude.{ℕ, zero, suc, ◌+◌, ◌-◌, ◌*◌, ◌^◌, min, List, ◌∷◌, length, slice_get, slice_index, slice_range, Option, Some, None, is_some, Result, Ok, Err, Bool, if◌then◌else◌, true, false, not, ◌&&◌, ◌||◌, nat_le, nat_lt, codes}
 use Rattle.std.specs.{List.fold, Option.option_map}
 use Rattle.lft_lists.specs.Bytes.{within, is_in_line, is_digit, is_letter, is_word, is_byte}
 use Rattle.lft_whole.specs.{Forms.{is_gap, is_hexadecimal}, declared.{token.{Token.Token, TokenKind.TokenKind}, fault.TextFault.TextFault}}
@@ -8,7 +8,6 @@ use Rattle.lft_whole.specs.declared.token.TokenKind.TheVariants as kinds
 use Rattle.lft_whole.specs.declared.fault.TextFault.TheVariants as faults
 
 -- ---- what stands at a place
-
 -- there is a byte, and it is of the class
 abbrev pub is_of : (ℕ → Bool) → Option ℕ → Bool
 is_of class None = false
@@ -24,7 +23,6 @@ stands [] t i = true
 stands (b ∷ bs) t i = is_byte b (slice_get t i) && stands bs t (i + 1)
 
 -- ---- where it ends
-
 -- the first of so many places, from one on, that passes the test
 unfoldable pub first : (ℕ → Bool) → ℕ → ℕ → Option ℕ
 first test zero i = None
@@ -89,10 +87,6 @@ code_next t i =
     else if stands (codes "'") t i then place_or (i + 1) (past_character t i)
     else i + 1
 
--- no quote from i up to j begins a string that ends on its line
-abbrev pub QuoteNothing : List ℕ → ℕ → ℕ → Type 0
-QuoteNothing t i j = (k : ℕ) → i ≤ k → k < j → stands (codes "\"") t k ≡ true → past_or_next k (past_in_line 34 t (k + 1)) ≡ k + 1
-
 -- just past the `=}` that ends code, within so many steps
 unfoldable pub code_within : ℕ → List ℕ → ℕ → Option ℕ
 code_within zero t i = None
@@ -103,7 +97,6 @@ abbrev pub past_code : List ℕ → ℕ → Option ℕ
 past_code t i = code_within (length t) t i
 
 -- ---- numbers
-
 -- the value of a digit, also of a hexadecimal one; 0 for another byte
 abbrev pub digit_value : ℕ → ℕ
 digit_value b = if is_digit b then b - 48 else if within 97 102 b then b - 87 else if within 65 70 b then b - 55 else 0
@@ -156,7 +149,6 @@ unfoldable pub number_at : List ℕ → ℕ → TokenKind × ℕ
 number_at t i = number_behind t i (run_end is_digit t i)
 
 -- ---- pieces
-
 -- a kind, which white space and remarks have not, and the place behind it
 abbrev pub Piece : Type 0
 Piece = Option TokenKind × ℕ
@@ -217,7 +209,6 @@ piece_at t i =
     else symbol_at t i
 
 -- ---- the whole text
-
 -- the token of a piece, if it is one, in front of the tokens behind it
 abbrev pub in_front : ℕ → Piece → Result (List Token) TextFault → Result (List Token) TextFault
 in_front i (None, j) tokens = tokens
@@ -237,8 +228,3 @@ tokens_within (suc n) t i = if nat_le (length t) i then Ok [] else go_on i (piec
 -- the tokens of a text, or the first byte that begins none; each piece takes a byte at least
 unfoldable pub tokens_of : List ℕ → Result (List Token) TextFault
 tokens_of t = tokens_within (length t) t 0
-
--- the grammar refuses the text at that byte, unless memory ran out
-abbrev pub IsRefused : List ℕ → TextFault → Type 0
-IsRefused t (faults.BadText i) = tokens_of t ≡ Err (faults.BadText i)
-IsRefused t faults.NoMemory = Unit {0}

@@ -1,7 +1,8 @@
 //! The tokens of a text.
 
 ghost use Rattle.std.specs.Prelude.{◌≡◌, ◌<◌, length, Some, None, IfOk, IfErr};
-ghost use Rattle.lft_whole.specs.{Pieces.{piece_at, tokens_of, IsRefused}, declared.fault.TextFault.TheVariants.BadText, Tokens.{AreTokens, IsInText, IsPiece}};
+ghost use Rattle.lft_whole.specs.{Pieces.{piece_at, tokens_of}, inner.{Pieces.IsRefused, Tokens.{AreTokens, IsInText, IsPiece}}};
+ghost use Rattle.lft_whole.specs.declared.fault.TextFault.TheVariants.{BadText};
 
 use crate::fault::TextFault;
 use crate::piece::piece;

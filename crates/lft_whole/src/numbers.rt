@@ -3,7 +3,7 @@
 ghost use Rattle.std.specs.Prelude.{◌≡◌, ◌<◌, ◌≤◌, ◌+◌, [], ◌∷◌, ◌&&◌, length, true, slice_range, Some};
 ghost use Rattle.lft_lists.specs.Bytes.{is_digit};
 ghost use Rattle.lft_whole.specs.Pieces.{sees, stands, past_exponent, past_decimal, digit_value, number_of, begins_hexadecimal, whole_number, number_at};
-ghost use Rattle.lft_whole.specs.Tokens.{IsPiece};
+ghost use Rattle.lft_whole.specs.inner.Tokens.{IsPiece};
 
 use crate::classes::{
     digit_stands, hexadecimal_stands, one_stands, pair_stands, past_digits, past_hexadecimal,

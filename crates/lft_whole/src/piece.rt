@@ -1,7 +1,7 @@
 //! One piece of the text: white space, a remark or a token.
 
 ghost use Rattle.std.specs.Prelude.{◌<◌, ◌≤◌, ◌≡◌, ◌||◌, ◌-◌, ◌+◌, [], ◌∷◌, codes, length, is_some, IfSome};
-ghost use Rattle.lft_whole.specs.{Pieces.{first, stands, symbol_at, characters_at, past_long_remark, quote_at, string_end, piece_at}, Tokens.IsPiece};
+ghost use Rattle.lft_whole.specs.{Pieces.{first, stands, symbol_at, characters_at, past_long_remark, quote_at, string_end, piece_at}, inner.Tokens.IsPiece};
 
 use crate::classes::{
     digit_stands, gap_stands, is_printable, letter_stands, pair_stands, past_line, past_word,

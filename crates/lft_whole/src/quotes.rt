@@ -1,7 +1,7 @@
 //! Where a remark, a string, a character and code end.
 
 ghost use Rattle.std.specs.Prelude.{◌≡◌, ◌+◌, ◌<◌, ◌≤◌, [], ◌∷◌, not, ◌&&◌, length, IfSome, IfOk, IfErr};
-ghost use Rattle.lft_whole.specs.Pieces.{past, past_string, past_in_line, past_character, code_next, past_code, QuoteNothing};
+ghost use Rattle.lft_whole.specs.{Pieces.{past, past_string, past_in_line, past_character, code_next, past_code}, inner.Pieces.QuoteNothing};
 
 use crate::classes::{pair_stands, stands, three_stand};
 

@@ -4,11 +4,11 @@ use Rattle.std.specs.Prelude.{IfSome, IsSomeAnd, slice_get}
 use Rattle.std.proofs.lemmas.{List.length-map, Option.slice_get_within}
 use Rattle.lft_lists.proofs.Places.{get_push, get_push_cases, get_there, Some_same}
 use Rattle.lft_whole.specs.declared.sources.{source.SourceFile.SourceFile, stop.{Place.Place, Refusal.Refusal}}
-use Rattle.lft_whole_parser.specs.Imports.Files.{AreSources, HasOneMore, IsFileOf, IsImportOf, IsNamedBy, IsRefusedFor, RefusesNext, next_path, paths_of, paths_of_files}
-use Rattle.lft_whole_parser.specs.Imports.Paths.{normal}
-use Rattle.lft_whole_parser.specs.declared.imports.sources.Sources.{Sources}
+use Rattle.lft_whole_parser.specs.inner.Imports.Files.{AreSources, HasOneMore, IsNamedBy, RefusesNext, next_path, paths_of}
+use Rattle.lft_whole_parser.specs.{Imports.{Files.{IsFileOf, IsImportOf, IsRefusedFor, paths_of_files}, Paths.normal}, declared.imports.sources.Sources.Sources}
 use Rattle.lft_whole_parser.proofs.ImportsLemmas.Known.{all_whole, path_at, read_more}
-use Rattle.lft_whole_driver.specs.{Lowered.{AreFilesOf, BeginWith, BeginsAs, LeadTo}, Unlowered.{IsAt, IsOfFirst, IsOfImported, IsOfUnread}}
+use Rattle.lft_whole_driver.specs.{Lowered.{AreFilesOf, BeginWith, LeadTo}, inner.{Lowered.BeginsAs, Unlowered.{IsAt, IsOfUnread}}}
+use Rattle.lft_whole_driver.specs.Unlowered.{IsOfFirst, IsOfImported}
 use Rattle.lft_whole.specs.declared.sources.stop.Stop.TheVariants as stop
 
 module _ (path text : List ℕ) (s0 : Sources) (none : s0.files.items ≡ []) (paths : paths_of s0.asked ≡ normal path ∷ []) where

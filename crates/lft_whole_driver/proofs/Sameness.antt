@@ -5,7 +5,7 @@ use Rattle.lft_lower.specs.Reactors.{IsLowering}
 use Rattle.lft_program.specs.Flattening.{IsFlatOf}
 use Rattle.lft_whole.specs.declared.sources.source.SourceFile.{SourceFile}
 use Rattle.lft_tree.specs.{View.tree_view, declared.ast.Ast.Ast}
-use Rattle.lft_same.{specs.Expanded.Core.expanded_tree, proofs.{ExpandedLemmas.{Only.only_flat, Sameness.core_law}, Same.lowered_law}}
+use Rattle.lft_same.{specs.inner.Expanded.Core.expanded_tree, proofs.{ExpandedLemmas.{Only.only_flat, Sameness.core_law}, Same.lowered_law}}
 use Rattle.lft_whole_driver.specs.Lowered.{IsOfFiles}
 
 pub the_program : (files : List SourceFile) (tree : Ast) → IsLowering files tree → (p : Parts) → IsFlatOf (tree_view tree) p → IsOfFiles files p

@@ -1,7 +1,7 @@
 -- What is said of a refusal.
 use Rattle.std.proofs.Common.{◌≡◌, ℕ, inl, inr, List, refl, subst}
 use Rattle.lft_whole.specs.declared.sources.{source.SourceFile.SourceFile, stop.{Refusal.Refusal, Stop.Stop}}
-use Rattle.lft_whole_driver.specs.{Told.IsTold, Unlowered.Says, declared.told.Unlowered.Unlowered}
+use Rattle.lft_whole_driver.specs.{inner.Told.IsTold, Unlowered.Says, declared.told.Unlowered.Unlowered}
 use Rattle.lft_whole.specs.declared.sources.stop.Stop.TheVariants as stop
 
 told_known : (Is : List SourceFile → List ℕ → Refusal → Type 0) (files : List SourceFile) (first : List ℕ) (refusal : Refusal) (u : Unlowered) → Is files first refusal → IsTold files first (stop.Refused refusal) u → Says Is u

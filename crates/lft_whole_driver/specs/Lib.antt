@@ -2,4 +2,4 @@ pub mod Lowered
 pub mod Unlowered
 pub mod Pages
 pub mod Told
-pub mod Could
+pub mod inner

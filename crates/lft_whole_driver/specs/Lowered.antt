@@ -1,5 +1,5 @@
 -- What the files of a program are, and which program they are.
-use Rattle.std.specs.Prelude.{◌≡◌, ℕ, IsSomeAnd, List, Some, slice_get}
+use Rattle.std.specs.Prelude.{ℕ, IsSomeAnd, List, slice_get}
 use Rattle.lft_ir.specs.Parts.{Parts}
 use Rattle.lft_whole_parser.specs.Imports.{Files.{AreOfTexts, AreReached, EachOnce, IsFileOf, IsWhole, paths_of_files}, Paths.normal}
 use Rattle.lft_load.specs.Meaning.{IsOnly}
@@ -29,9 +29,3 @@ IsOfFiles files program = (expanded : Expanded) × IsSame files expanded × IsOn
 -- So it is of the files of this path and this text.
 abbrev pub IsProgramOf : List ℕ → List ℕ → Parts → Type 0
 IsProgramOf path text program = (files : List SourceFile) × AreFilesOf path text files × IsOfFiles files program
-
--- ---- for the crate's own contracts
-
--- The first file stays.
-abbrev pub BeginsAs : List SourceFile → List SourceFile → Type 0
-BeginsAs old new = (file : SourceFile) → slice_get old 0 ≡ Some file → slice_get new 0 ≡ Some file

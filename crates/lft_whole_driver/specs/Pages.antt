@@ -1,5 +1,5 @@
 -- The files of a program as one text.
-use Rattle.std.specs.Prelude.{◌≡◌, ◌+◌, ◌++◌, ℕ, List, [], ◌∷◌, Result, Ok, Err, length, map, string_bytes}
+use Rattle.std.specs.Prelude.{◌≡◌, ◌+◌, ◌++◌, ℕ, List, ◌∷◌, Result, Ok, Err, length, map, string_bytes}
 use Rattle.lft_text_diagnostics.specs.declared.pages.Page.{Page}
 use Rattle.lft_whole.specs.{Sources.Shown.shown_path, declared.{sources.source.SourceFile.SourceFile, fault.TextFault.TextFault}, Pieces.tokens_of}
 use Rattle.lft_syntax.specs.declared.token.{Token.Token, TokenKind.TokenKind}
@@ -47,17 +47,3 @@ pub data Join : List SourceFile → List ℕ → List Token → List Page → Ty
 -- They are those of these files.
 abbrev pub AreJoined : List SourceFile → Joined → Type 0
 AreJoined files joined = Join files joined.text.items joined.tokens.items joined.pages.items
-
--- ---- for the crate's own contracts
-
--- The tokens are put behind those that were there.
-abbrev pub JoinsTokens : ℕ → List whole.Token → List Token → List Token → Type 0
-JoinsTokens start tokens old new = new ≡ old ++ map (moved start) tokens
-
--- The file is put behind those that were there.
-pub record JoinsFile (file : SourceFile) (old new : Joined) : Type 0 where
-  pub page : Page
-  pub is_page : is_page (length old.text.items) file page
-  pub text : new.text.items ≡ old.text.items ++ (file.text.items ++ 10 ∷ [])
-  pub tokens : new.tokens.items ≡ old.tokens.items ++ file_tokens (length old.text.items) file
-  pub pages : new.pages.items ≡ old.pages.items ++ page ∷ []

@@ -1,14 +1,12 @@
 -- What is told of a program that isn't lowered.
-use Rattle.std.specs.Prelude.{◌≡◌, ◌⊎◌, ◌++◌, ◌-◌, ℕ, IfSome, List, [], Some, None, codes, option_map, slice_get, string_bytes, unwrap_or}
+use Rattle.std.specs.Prelude.{◌≡◌, ◌⊎◌, ◌++◌, ◌-◌, ℕ, IfSome, List, Some, None, codes, option_map, slice_get, string_bytes, unwrap_or}
 use Rattle.lft_load.specs.{Faults.words_of, declared.fault.Fault.Fault}
 use Rattle.lft_program_diagnostics.specs.Reasons.{IsToldIn}
 use Rattle.lft_whole.specs.Sources.{Causes.{names, number_of, sentence_of}, Shown.place_words}
-use Rattle.lft_whole.specs.declared.sources.{source.SourceFile.SourceFile, stop.{Place.Place, Refusal.Refusal, Stop.Stop}}
-use Rattle.lft_whole.specs.declared.sources.why.Why.{Why, TheVariants.Unexpected}
+use Rattle.lft_whole.specs.declared.sources.{source.SourceFile.SourceFile, stop.{Place.Place, Refusal.Refusal}, why.Why.{Why, TheVariants.Unexpected}}
 use Rattle.lft_tree.specs.declared.tree.Item.{Item}
 use Rattle.lft_whole_driver.specs.{Pages.AreJoined, declared.{pages.Joined.Joined, told.Unlowered.Unlowered}}
 use Rattle.lft_load.specs.declared.fault.Part.TheVariants as part
-use Rattle.lft_whole.specs.declared.sources.stop.Stop.TheVariants as stop
 
 -- Where a token of one of the files stands: `FILE:LINE:COLUMN`.
 abbrev pub where_words : List SourceFile → Place → List ℕ
@@ -49,10 +47,3 @@ IsToldTree files parts cause words = (joined : Joined) × AreJoined files joined
 pub record TellsTree (files : List SourceFile) (parts : List Item) (cause : ℕ) (u : Unlowered) : Type 0 where
   pub fault : (u.failure.fault.part ≡ part.Program) × (u.failure.fault.number ≡ cause) ⊎ (u.told ≡ None)
   pub told : IfSome u.told (λ words. IsToldTree files parts cause (string_bytes words))
-
--- ---- for the crate's own contracts
-
--- Of a refusal that is told this is told.
-abbrev pub IsTold : List SourceFile → List ℕ → Stop → Unlowered → Type 0
-IsTold files first (stop.Refused refusal) u = TellsRefusal files first refusal u ⊎ (u.told ≡ None)
-IsTold files first stop.NoMemory u = u.told ≡ None

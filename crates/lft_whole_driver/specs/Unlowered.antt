@@ -1,13 +1,11 @@
 -- Why a program isn't lowered, and of which of its files.
-use Rattle.std.specs.Prelude.{◌≡◌, ◌⊎◌, ◌<◌, ℕ, IsSomeAnd, List, [], ◌∷◌, ◌++◌, None, length, slice_get, string_bytes}
-use Rattle.lft_whole.specs.declared.sources.{source.SourceFile.SourceFile, stop.{Place.Place, Refusal.Refusal}, why.Why.Why}
-use Rattle.lft_whole_parser.specs.Imports.{Files.{IsImportOf, IsRefusedFor, RefusesNext, paths_of_files}, Paths.normal}
-use Rattle.lft_whole_parser.specs.declared.imports.sources.Sources.{Sources}
+use Rattle.std.specs.Prelude.{◌≡◌, ◌⊎◌, ◌<◌, ℕ, IsSomeAnd, List, ◌∷◌, ◌++◌, None, length, slice_get, string_bytes}
+use Rattle.lft_whole.specs.declared.sources.{source.SourceFile.SourceFile, stop.Refusal.Refusal}
+use Rattle.lft_whole_parser.specs.Imports.{Files.{IsImportOf, IsRefusedFor, paths_of_files}, Paths.normal}
 use Rattle.lft_lower.specs.Reactors.{IsLowering}
 use Rattle.lft_resolve.specs.Causes.{IsFirst, causes}
 use Rattle.lft_tree.specs.{View.tree_view, declared.ast.Ast.Ast}
-use Rattle.lft_whole_driver.specs.{Lowered.{AreFilesOf, BeginWith, BeginsAs, LeadTo}, Told.{TellsRefusal, TellsTree}, declared.told.Unlowered.Unlowered}
-use Rattle.lft_whole.specs.declared.sources.stop.Stop.TheVariants as stop
+use Rattle.lft_whole_driver.specs.{Lowered.{AreFilesOf, BeginWith, LeadTo}, Told.{TellsRefusal, TellsTree}, declared.told.Unlowered.Unlowered}
 use Rattle.lft_whole.specs.declared.sources.why.Why.TheVariants as why
 
 -- the refusal is of the first file, which has this path, and is refused for this text
@@ -57,28 +55,6 @@ pub record IsRefusedTree (files : List SourceFile) (u : Unlowered) : Type 0 wher
   pub first : IsFirst (causes (tree_view tree)) cause
   pub tells : TellsTree files tree.items.items cause u
 
--- Why these files have no program: a refusal of them is told, or of the tree to which they are lowered.
-abbrev pub IsUnloweredFrom : List SourceFile → Unlowered → Type 0
-IsUnloweredFrom files u = Says (AreRefused files) u ⊎ IsRefusedTree files u
-
 -- Why this path and this text have no program: a refusal is told as they are read, or of their files, or of the tree to which these are lowered.
 abbrev pub IsUnloweredOf : List ℕ → List ℕ → Unlowered → Type 0
 IsUnloweredOf path text u = Says (IsOfProgram path text) u ⊎ ((files : List SourceFile) × AreFilesOf path text files × IsRefusedTree files u)
-
--- ---- for the crate's own contracts
-
--- the refusal is of the import at this place in these files: the file that it names can't be read
-abbrev pub IsAt : List SourceFile → Place → List SourceFile → List ℕ → Refusal → Type 0
-IsAt these place files first r = (files ≡ these) × (r.why ≡ why.NotRead) × (r.place ≡ place)
-
--- so it is of an import of these files
-abbrev pub IsOfUnread : List SourceFile → List SourceFile → List ℕ → Refusal → Type 0
-IsOfUnread these files first r = (files ≡ these) × IsOfImport files r
-
--- the refusal is of the file that was to be read next, for this text; nothing is said first
-abbrev pub IsOfNext : List ℕ → Sources → List SourceFile → List ℕ → Refusal → Type 0
-IsOfNext text sources files first r = (first ≡ []) × RefusesNext text sources files (stop.Refused r)
-
--- the refusal is of a file that is read behind these
-abbrev pub IsOfRest : List SourceFile → List SourceFile → List ℕ → Refusal → Type 0
-IsOfRest these files first r = BeginsAs these files × IsOfLater files first r

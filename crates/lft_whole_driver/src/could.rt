@@ -2,7 +2,7 @@
 
 ghost use Rattle.std.specs.Prelude.{◌≡◌, IfOk, OnOk, true};
 ghost use Rattle.std.specs.List.{All};
-ghost use Rattle.lft_whole_driver.specs.Could.{CanStand, IsReadPast};
+ghost use Rattle.lft_whole_driver.specs.inner.Could.{CanStand, IsReadPast};
 
 use lft_tag::NoMemory;
 use lft_whole::{TextFault, TreeFault, lex};

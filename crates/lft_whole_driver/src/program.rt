@@ -2,7 +2,7 @@
 
 ghost use Rattle.std.specs.Prelude.{◌≡◌, ◌≢◌, IfErr, IfOk, false};
 ghost use Rattle.lft_whole_parser.specs.Imports.Files.{AreOfTexts};
-ghost use Rattle.lft_whole_driver.specs.{Lowered.{IsOfFiles, IsProgramOf}, Unlowered.{IsUnloweredFrom, IsUnloweredOf}};
+ghost use Rattle.lft_whole_driver.specs.{Lowered.{IsOfFiles, IsProgramOf}, inner.Unlowered.IsUnloweredFrom, Unlowered.IsUnloweredOf};
 ghost use Rattle.lft_program.specs.declared.refusal.Refusal.TheVariants as refusals;
 
 use crate::reading::read_sources;

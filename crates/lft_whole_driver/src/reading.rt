@@ -1,8 +1,9 @@
 //! The files of a program, read.
 
 ghost use Rattle.std.specs.Prelude.{◌≡◌, ◌<◌, IfErr, IfOk, None, OnOk, Some, length};
-ghost use Rattle.lft_whole_parser.specs.Imports.Files.{AreSources, HasOneMore, next_path};
-ghost use Rattle.lft_whole_driver.specs.{Lowered.{AreFilesOf, BeginsAs}, Unlowered.{IsAt, IsOfNext, IsOfReading, IsOfRest, IsOfUnread, Says}};
+ghost use Rattle.lft_whole_parser.specs.inner.Imports.Files.{AreSources, HasOneMore, next_path};
+ghost use Rattle.lft_whole_driver.specs.{Lowered.AreFilesOf, inner.{Lowered.BeginsAs, Unlowered.{IsAt, IsOfNext, IsOfRest, IsOfUnread}}};
+ghost use Rattle.lft_whole_driver.specs.Unlowered.{IsOfReading, Says};
 
 use crate::told::{Unlowered, unlowered_by};
 use lft_load::files::{Failure, read_ordinary};

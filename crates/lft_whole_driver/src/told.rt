@@ -2,10 +2,11 @@
 
 ghost use Rattle.std.specs.Prelude.{◌≡◌, ◌-◌, IfOk, Some, slice_get, string_bytes};
 ghost use Rattle.lft_whole_parser.specs.Imports.Files.{AreOfTexts};
-ghost use Rattle.lft_program.specs.Refusals.{Tells, cause_of};
+ghost use Rattle.lft_program.specs.inner.Refusals.{Tells, cause_of};
 ghost use Rattle.lft_whole.specs.Sources.Causes.{names, number_of};
 ghost use Rattle.lft_tree.specs.View.{tree_view};
-ghost use Rattle.lft_whole_driver.specs.Told.{IsSentence, IsTold, IsToldTree, IsUnexpected, TellsAt, TellsRefusal, TellsTree, where_words as words_where};
+ghost use Rattle.lft_whole_driver.specs.Told.{IsSentence, IsToldTree, IsUnexpected, TellsAt, TellsRefusal, TellsTree, where_words as words_where};
+ghost use Rattle.lft_whole_driver.specs.inner.Told.{IsTold};
 ghost use Rattle.lft_load.specs.declared.fault.Detail.TheVariants as detail;
 ghost use Rattle.lft_load.specs.declared.fault.Part.TheVariants as part;
 

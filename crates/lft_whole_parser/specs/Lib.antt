@@ -1,3 +1,4 @@
 pub mod Files
 pub mod Grammar
 pub mod Imports
+pub mod inner

@@ -1,8 +1,8 @@
 //! Connections.
 
 ghost use Rattle.std.specs.Prelude.{◌≡◌, ◌<◌, ◌≤◌, true, IfOk, IfErr, map, option_map, Ok};
-ghost use Rattle.lft_whole.specs.Parts.Parsing.{count, Within, Further, NotBefore, Refuses, source};
-ghost use Rattle.lft_whole.specs.Parts.View.{Gives, at_next, reference_view, expression_view, connection_view};
+ghost use Rattle.lft_whole.specs.inner.Parts.{Parsing.{count, Within, Further, NotBefore, Refuses, source}, View.{Gives, at_next}};
+ghost use Rattle.lft_whole.specs.Parts.View.{reference_view, expression_view, connection_view};
 ghost use Rattle.lft_whole_parser.specs.Grammar as Grammar;
 
 use lft_whole::parts::input::Input;

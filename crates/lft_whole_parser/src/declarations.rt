@@ -1,8 +1,8 @@
 //! Ports, timers, actions, and what is declared and has no part in the tree.
 
 ghost use Rattle.std.specs.Prelude.{◌≡◌, ◌<◌, ◌≤◌, true, IfOk, IfErr};
-ghost use Rattle.lft_whole.specs.Parts.Parsing.{count, Within, Further, NotBefore, Refuses, source};
-ghost use Rattle.lft_whole.specs.Parts.View.{Gives, at_next, port_view, timer_view, action_view};
+ghost use Rattle.lft_whole.specs.inner.Parts.{Parsing.{count, Within, Further, NotBefore, Refuses, source}, View.{Gives, at_next}};
+ghost use Rattle.lft_whole.specs.Parts.View.{port_view, timer_view, action_view};
 ghost use Rattle.lft_whole_parser.specs.Grammar as Grammar;
 
 use lft_whole::parts::groups::group;

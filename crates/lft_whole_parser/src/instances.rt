@@ -1,8 +1,8 @@
 //! Contained instances.
 
 ghost use Rattle.std.specs.Prelude.{◌≡◌, ◌<◌, ◌≤◌, true, IfOk, IfErr, map, Ok};
-ghost use Rattle.lft_whole.specs.Parts.{Parsing.{count, Within, Further, NotBefore, Refuses, source}, Language.listed};
-ghost use Rattle.lft_whole.specs.Parts.View.{Gives, at_next, assignment_view, instance_view};
+ghost use Rattle.lft_whole.specs.inner.Parts.{Parsing.{count, Within, Further, NotBefore, Refuses, source}, View.{Gives, at_next}};
+ghost use Rattle.lft_whole.specs.Parts.{Language.listed, View.{assignment_view, instance_view}};
 ghost use Rattle.lft_whole_parser.specs.Grammar as Grammar;
 
 use lft_whole::parts::groups::past_group;

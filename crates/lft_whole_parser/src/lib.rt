@@ -3,7 +3,7 @@
 //! the part and the place behind it. In `imports` the files of a program, each read once.
 
 ghost use Rattle.std.specs.Prelude.{IfErr};
-ghost use Rattle.lft_whole.specs.{Tokens.AreTokens, Places.IsAmong, Parts.View.{Gives, file_view}};
+ghost use Rattle.lft_whole.specs.{inner.{Tokens.AreTokens, Parts.View.Gives}, Places.IsAmong, Parts.View.file_view};
 ghost use Rattle.lft_whole_parser.specs.Files.{reads};
 
 mod connections;

@@ -6,12 +6,12 @@ use Rattle.lft_tag.proofs.Order.{Before-UpTo, Before-weaken, UpTo-not, UpTo-tran
 use Rattle.lft_ir.specs.{Sound.IsSound, declared.{parts.{Name.Name, Reaction.Reaction}, steps.row.Row.Row}, Steps.Fits.RowsFit}
 use Rattle.lft_lists.proofs.Places.{get_write_cases, length_written, same_at, get_there}
 use Rattle.lft_model.{specs.{Plans.PlanParts, Presence.IsPresent}, proofs.Places.slice_get_within}
-use Rattle.lft_rows.specs.{Marks.HasSeat, declared.{presence.causes.Cause.Cause, slices.Slice.Slice}}
-use Rattle.lft_rows.specs.{Presence.{Causes.{tag_of, IsCause, AreCauses, Leads, LiesBelow, IsPosition}, Traces.{TraceParts, IsSooner}}, Slices.IsSlice}
+use Rattle.lft_rows.specs.inner.{Marks.HasSeat, Presence.{Causes.{tag_of, IsCause, AreCauses, Leads, LiesBelow, IsPosition}, Traces.IsSooner}, Slices.IsSlice}
+use Rattle.lft_rows.specs.{declared.{presence.causes.Cause.Cause, slices.Slice.Slice}, Presence.Traces.TraceParts}
 use Rattle.lft_rows.proofs.{PresenceLemmas.{Presences.{IsKey, present_cause}, Skips.{leads_up, names_up}}, Marked.before_on}
 use Rattle.lft_check.specs.declared.by_tag.{absences.Absences.Absences, walk.Walk.Walk}
-use Rattle.lft_check.specs.ByTag.{Absences.{IsEarlier, IsAbsentUntil, AreAbsences, AreAbsentUntil, IsUnknown}, Slices.IsCuttable}
-use Rattle.lft_check.specs.ByTag.Walks.{IsPast, IsBefore, HasWalked}
+use Rattle.lft_check.specs.inner.ByTag.{Absences.{IsEarlier, IsAbsentUntil, AreAbsences, AreAbsentUntil, IsUnknown}, Slices.IsCuttable}
+use Rattle.lft_check.specs.inner.ByTag.Walks.{IsPast, IsBefore, HasWalked}
 use Rattle.lft_check.proofs.ByTagLemmas.Indexed.{rises_of}
 
 -- no tag is before the first one

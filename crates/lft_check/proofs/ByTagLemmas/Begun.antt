@@ -8,8 +8,9 @@ use Rattle.lft_model.specs.{Plans.PlanParts, Presence.Triggered, Runs.{start_row
 use Rattle.lft_model.proofs.{Ended.row_is, Legality.{four, rising, one_start}, Places.{slice_get_within, slice_get_take}}
 use Rattle.lft_rows.{specs.{Presence.Traces.{TraceParts, LeastTag}, Slices.AreTags}, proofs.PresenceLemmas.Leasts.least_as}
 use Rattle.lft_check.specs.declared.by_tag.started.Started.{Started}
-use Rattle.lft_check.specs.ByTag.{Slices.{IsCuttable, IsMissing, IsVacant}, Least.{HasTag, IsPassed, AreTriggered, Lacks}}
-use Rattle.lft_check.specs.ByTag.Indexes.{AreStartsOf, HasRunsTo, HasRuns, AreDue, AreMarkedTo}
+use Rattle.lft_check.specs.inner.ByTag.{Slices.{IsCuttable, IsMissing}, Least.{HasTag, IsPassed, AreTriggered, Lacks}}
+use Rattle.lft_check.specs.inner.ByTag.Indexes.{AreStartsOf, HasRunsTo, HasRuns, AreDue, AreMarkedTo}
+use Rattle.lft_check.specs.ByTag.Slices.{IsVacant}
 
 pub starts_begin : (t : List Row) (n : ℕ) (tags : List (List Tag)) (places : List (List ℕ)) → length tags ≡ n → length places ≡ n → ((r : ℕ) (gs : List Tag) → slice_get tags r ≡ Some gs → gs ≡ []) → ((r : ℕ) (ps : List ℕ) → slice_get places r ≡ Some ps → ps ≡ []) → HasRunsTo t 0 n tags places
 starts_begin t n tags places c d none none_too = record { many_tags = c; many_places = d; starts = λ r gs ps p q. subst (λ (xs : List Tag). AreStartsOf t 0 r xs ps) (sym (none r gs p)) (subst (λ (xs : List ℕ). AreStartsOf t 0 r [] xs) (sym (none_too r ps q)) (empty r)) }

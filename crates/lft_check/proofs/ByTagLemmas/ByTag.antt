@@ -3,10 +3,10 @@ use Rattle.std.proofs.Common.{◌≡◌, ℕ, ◌+◌, ◌<◌, ◌≤◌, ◌�
 use native.Mathlib.Decide.{ℕ_discrete, dec_lt}
 use Rattle.lft_tag.{specs.{declared.Tag.Tag, Tags.{Before, UpTo}}, proofs.Order.{Before-irrefl, Before-UpTo, UpTo_antisym, order_cases}}
 use Rattle.lft_lists.proofs.Places.{get_there, get_left, get_last, get_push_cases}
-use Rattle.lft_rows.{proofs.PresenceLemmas.Presences.same_row, specs.{declared.slices.Slice.Slice, Slices.{Rises, IsSlice}}}
+use Rattle.lft_rows.{proofs.PresenceLemmas.Presences.same_row, specs.{declared.slices.Slice.Slice, inner.Slices.{Rises, IsSlice}}}
 use Rattle.lft_ir.specs.declared.steps.row.Row.{Row}
 use Rattle.lft_model.proofs.Places.{slice_get_within, tag_discrete}
-use Rattle.lft_check.specs.ByTag.Slices.{AreSlices}
+use Rattle.lft_check.specs.inner.ByTag.Slices.{AreSlices}
 
 -- no row of the tag stands at the place
 abbrev pub IsOther : List Row → ℕ → Tag → Type 0

@@ -6,7 +6,7 @@ use Rattle.lft_tag.{specs.{declared.Tag.Tag, Tags.{Before, UpTo}}, proofs.{Chain
 use Rattle.lft_ir.specs.declared.parts.Timer.{Timer as TimerOf}
 use Rattle.lft_model.{specs.Presence.{stop, Fires}, proofs.Firings.{firing, time_of}}
 use Rattle.lft_rows.specs.Presence.Traces.{TraceParts, LeastTag}
-use Rattle.lft_check.specs.ByTag.Least.{HasTag, IsPassed, IsFirstFiring, IsFirstTime, LacksFiring}
+use Rattle.lft_check.specs.inner.ByTag.Least.{HasTag, IsPassed, IsFirstFiring, IsFirstTime, LacksFiring}
 
 -- the firings before this time are each there
 pub record WalkedTo (cut : TraceParts) (timer : TimerOf) (low : Tag) (tags : List Tag) (time : ℕ) : Type 0 where

@@ -2,8 +2,8 @@
 use Rattle.std.proofs.Common.{List, None}
 use Rattle.lft_ir.specs.{declared.steps.row.Row.Row, Steps.Fits.RowsFit}
 use Rattle.lft_model.{specs.{Plans.{PlanParts, IsSoundPlan}, Presence.stop}, proofs.Legality.{four, rising}}
-use Rattle.lft_rows.specs.{Firsts.FirstRow, Slices.Rises}
-use Rattle.lft_check.specs.ByTag.Slices.{IsCuttable}
+use Rattle.lft_rows.specs.inner.{Firsts.FirstRow, Slices.Rises}
+use Rattle.lft_check.specs.inner.ByTag.Slices.{IsCuttable}
 
 pub rises_of : (plan : PlanParts) (t : List Row) → FirstRow (stop plan t) plan t None → Rises t
 rises_of plan t kept i j x y l p q = rising plan t (four plan t kept) i j x y l p q

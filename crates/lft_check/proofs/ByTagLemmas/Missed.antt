@@ -6,9 +6,11 @@ use Rattle.lft_ir.specs.{Parts.Parts, Sound.{IsSound, IsTriggerOf}}
 use Rattle.lft_ir.specs.declared.parts.{Trigger.{Trigger, TheVariants.{Startup, Shutdown, Timer, On}}, Timer.Timer as TimerOf, Name.Name, Reaction.Reaction}
 use Rattle.lft_model.{specs.Presence.{stop, Occurs, Triggered}, proofs.Places.slice_get_within}
 use Rattle.lft_lists.proofs.Places.{at_contains}
-use Rattle.lft_rows.{specs.Presence.Traces.{TraceParts, LeastTag, IsSooner}, proofs.PresenceLemmas.Leasts.{least_as, least_of_both, trigger_of, triggered_by}}
-use Rattle.lft_check.specs.ByTag.{Slices.{LeastPair, IsFirstMissing, IsFirstMissingFrom}, Needed.AreNeededOf}
-use Rattle.lft_check.specs.ByTag.Least.{IsFirstOf, LacksAt, LacksFiring, LacksTrigger, Lacks}
+use Rattle.lft_rows.specs.{Presence.Traces.{TraceParts, LeastTag}, inner.Presence.Traces.IsSooner}
+use Rattle.lft_rows.proofs.PresenceLemmas.Leasts.{least_as, least_of_both, trigger_of, triggered_by}
+use Rattle.lft_check.specs.ByTag.Slices.{LeastPair}
+use Rattle.lft_check.specs.inner.ByTag.{Slices.{IsFirstMissing, IsFirstMissingFrom}, Needed.AreNeededOf}
+use Rattle.lft_check.specs.inner.ByTag.Least.{IsFirstOf, LacksAt, LacksFiring, LacksTrigger, Lacks}
 use Rattle.lft_check.proofs.ByTagLemmas.Needing.{stands_occurs}
 
 -- one of the triggers before place k is lacked at g

@@ -7,7 +7,7 @@ use Rattle.lft_ir.specs.{Parts.Parts, declared.parts.{Timer.Timer as TimerOf, Tr
 use Rattle.lft_lists.proofs.Places.{contains_at, at_contains, get_push, get_last, get_push_cases, same_some, same_at}
 use Rattle.lft_model.{specs.Presence.{Fires, Occurs}, proofs.{Firings.{firing, time_of}, Places.slice_get_within}}
 use Rattle.lft_rows.specs.Presence.Traces.{TraceParts}
-use Rattle.lft_check.specs.{declared.by_tag.needed.Beat.Beat, ByTag.Needed.{Covers, StandsFor, AreNeeded, IsMultiple, IsBeatOf, InStep, IsMade, AreAdded}}
+use Rattle.lft_check.specs.{declared.by_tag.needed.Beat.Beat, inner.ByTag.Needed.{Covers, StandsFor, AreNeeded, IsMultiple, IsBeatOf, InStep, IsMade, AreAdded}}
 
 -- what stands for a trigger is present wherever that one is
 pub stands_occurs : (cut : TraceParts) (g : Tag) (y x : Trigger) → StandsFor cut.plan.program y x → Occurs cut.plan cut.rows g x → Occurs cut.plan cut.rows g y

@@ -10,7 +10,7 @@ use Rattle.lft_model.specs.{Plans.PlanParts, Presence.{At, IsPresent, Shows, Inp
 use Rattle.lft_model.specs.Runs.{read_of, steps_of, inputs_of, reads_at}
 use Rattle.lft_model.proofs.Places.{tag_discrete}
 use Rattle.lft_lists.proofs.Members.{Mem, mem_get, get_mem, contains_mem}
-use Rattle.lft_check.specs.ByTag.Reads.{IsRight, MissesInput, TellsWrongRead}
+use Rattle.lft_check.specs.inner.ByTag.Reads.{IsRight, MissesInput, TellsWrongRead}
 
 -- without a collision a name shows one thing
 module _ (plan : PlanParts) (t : List Row) (g : Tag) (no_clash : ¬ Collision plan t g) where

@@ -5,7 +5,7 @@ use Rattle.lft_tag.specs.{declared.Tag.Tag, Tags.{Before, UpTo}}
 use Rattle.lft_lists.proofs.Places.{same_at, get_unwritten}
 use Rattle.lft_model.specs.Presence.{Triggered}
 use Rattle.lft_rows.specs.Presence.Traces.{TraceParts}
-use Rattle.lft_check.specs.ByTag.Least.{AreTriggered}
+use Rattle.lft_check.specs.inner.ByTag.Least.{AreTriggered}
 
 -- the tags before place low are before g, and those from place high on are not
 pub record IsSearched (tags : List Tag) (g : Tag) (low high : ℕ) : Type 0 where

@@ -4,9 +4,9 @@ use Rattle.std.proofs.lemmas.Bool.{cases_lt}
 use Rattle.lft_tag.{specs.{declared.Tag.Tag, Tags.{Before, UpTo}, Shifts.{Folded, shifted}}, proofs.Order.{UpTo-not, UpTo-trans}}
 use Rattle.lft_ir.specs.{Sound.IsSound, declared.parts.{Name.Name, Trigger.TheVariants.On}, Steps.Fits.RowsFit}
 use Rattle.lft_model.{specs.Presence.stop, proofs.Places.slice_get_within}
-use Rattle.lft_rows.specs.{declared.presence.causes.Cause.Cause, Presence.{Causes.{tag_of, AreCauses, IsSkip}, Traces.{TraceParts, LeastTag}}}
+use Rattle.lft_rows.specs.{declared.presence.causes.Cause.Cause, inner.Presence.Causes.{tag_of, AreCauses, IsSkip}, Presence.Traces.{TraceParts, LeastTag}}
 use Rattle.lft_rows.proofs.PresenceLemmas.{Skips.{leads_up, names_up}, Leasts.least_as, Presences.{IsKey, present_cause, cause_present}}
-use Rattle.lft_check.specs.ByTag.Least.{HasTag, IsPassed, LacksCause, LacksTrigger}
+use Rattle.lft_check.specs.inner.ByTag.Least.{HasTag, IsPassed, LacksCause, LacksTrigger}
 
 -- the tag of each cause of the name before a place is passed; from there on no name is lesser, and those of the name lead to the low tag or behind it
 pub record IsWalked (cut : TraceParts) (causes : List Cause) (name : ℕ) (s : Folded) (low : Tag) (tags : List Tag) (place : ℕ) : Type 0 where

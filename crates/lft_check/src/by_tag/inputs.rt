@@ -4,8 +4,8 @@ ghost use Rattle.std.specs.Prelude.{◌≡◌, ◌<◌, ◌≤◌, ◌↔◌, �
 ghost use Rattle.lft_ir.specs.{Parts.inputs, Sound.IsNameOf};
 ghost use Rattle.lft_ir.specs.declared.{parts.{Name.Name as TheName, Reaction.Reaction as TheReaction}, steps.row.Row.Row as TheRow};
 ghost use Rattle.lft_model.specs.Presence.{Collision};
-ghost use Rattle.lft_rows.specs.{Marks.HasSeat, Slices.IsSlice};
-ghost use Rattle.lft_check.specs.ByTag.{Reads.{IsMissed, MissesInput, TellsWrongRead}, Walks.HasWalked};
+ghost use Rattle.lft_rows.specs.inner.{Marks.HasSeat, Slices.IsSlice};
+ghost use Rattle.lft_check.specs.inner.ByTag.{Reads.{IsMissed, MissesInput, TellsWrongRead}, Walks.HasWalked};
 
 use crate::by_tag::absences::{BLOCK, end_of};
 use crate::by_tag::sliced::Sliced;

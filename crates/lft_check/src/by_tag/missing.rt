@@ -4,9 +4,9 @@ ghost use Rattle.std.specs.Prelude.{◌≡◌, ℕ, ◌<◌, ◌≤◌, length, 
 ghost use Rattle.lft_tag.specs.{declared.Tag.Tag as TheTag, Tags.Before};
 ghost use Rattle.lft_ir.specs.{Sound.{IsNameOf, IsTriggerOf}, declared.parts.Trigger.TheVariants.On};
 ghost use Rattle.lft_model.specs.Presence.{Fires, IsPresent, Occurs, Triggered};
-ghost use Rattle.lft_rows.specs.Presence.{Causes.{IsCause, Leads}, Traces.LeastTag};
-ghost use Rattle.lft_check.specs.ByTag.{Needed.AreNeededOf, Indexes.{AreStartsOf, HasRuns, AreDue, AreMarkedTo}, Slices.{IsCuttable, IsFirstMissingFrom}};
-ghost use Rattle.lft_check.specs.ByTag.Least.{AreUp, HasTag, IsFirstFiring, IsFirstTime, AreTriggered, IsFirstOf, LacksAt, LacksFiring, LacksCause, LacksTrigger, Lacks};
+ghost use Rattle.lft_rows.specs.{inner.Presence.Causes.{IsCause, Leads}, Presence.Traces.LeastTag};
+ghost use Rattle.lft_check.specs.inner.ByTag.{Needed.AreNeededOf, Indexes.{AreStartsOf, HasRuns, AreDue, AreMarkedTo}, Slices.{IsCuttable, IsFirstMissingFrom}};
+ghost use Rattle.lft_check.specs.inner.ByTag.Least.{AreUp, HasTag, IsFirstFiring, IsFirstTime, AreTriggered, IsFirstOf, LacksAt, LacksFiring, LacksCause, LacksTrigger, Lacks};
 
 use crate::by_tag::needed::needed_of;
 use crate::by_tag::started::Started;

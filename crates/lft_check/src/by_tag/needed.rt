@@ -2,7 +2,8 @@
 
 ghost use Rattle.std.specs.Prelude.{◌≡◌, ◌↔◌, ℕ, ◌<◌, length, Some, IsTrue, IfOk, OnOk, slice_get};
 ghost use Rattle.lft_ir.specs.{Sound.IsTriggerOf, declared.parts.Trigger.Trigger as TheTrigger};
-ghost use Rattle.lft_check.specs.{declared.by_tag.needed.Beat.Beat as TheBeat, ByTag.Needed.{AreNeeded, AreNeededOf, IsMultiple, InStep, IsBeatOf, AreAdded}};
+ghost use Rattle.lft_check.specs.declared.by_tag.needed.Beat.{Beat as TheBeat};
+ghost use Rattle.lft_check.specs.inner.ByTag.Needed.{AreNeeded, AreNeededOf, IsMultiple, InStep, IsBeatOf, AreAdded};
 
 use lft_ir::{Program, Trigger};
 use lft_lists::item_at;

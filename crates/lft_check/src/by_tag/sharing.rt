@@ -3,8 +3,8 @@
 ghost use Rattle.std.specs.Prelude.{◌≡◌, length, IfOk, IfErr};
 ghost use Rattle.lft_ir.specs.Steps.Fits.{RowsFit};
 ghost use Rattle.lft_model.specs.{Plans.PlanParts, Presence.stop as the_stop};
-ghost use Rattle.lft_check.specs.ByTag.{Indexes.{HasRuns, IsCaused}, Slices.{AreSlices, IsCuttable, IsCutFault}};
-ghost use Rattle.lft_rows.specs.Slices.{Rises};
+ghost use Rattle.lft_check.specs.{inner.ByTag.{Indexes.{HasRuns, IsCaused}, Slices.{AreSlices, IsCuttable}}, ByTag.Slices.IsCutFault};
+ghost use Rattle.lft_rows.specs.inner.Slices.{Rises};
 
 use crate::by_tag::fault::CutFault;
 use crate::by_tag::sliced::Sliced;

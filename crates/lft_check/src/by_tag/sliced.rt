@@ -5,7 +5,7 @@ ghost use Rattle.lft_ir.specs.{Sound.IsNameOf, declared.steps.row.Row.Row as The
 ghost use Rattle.lft_graph.specs.Graph.{IsGraphOf};
 ghost use Rattle.lft_model.specs.Presence.{At, IsPresent, Triggered};
 ghost use Rattle.lft_rows.specs.{Presence.Clashes.IsClash, Slices.runs_in};
-ghost use Rattle.lft_check.specs.ByTag.Slices.{AreSlices, IsCuttable, IsFirstMissing, IsFirstMissingFrom};
+ghost use Rattle.lft_check.specs.inner.ByTag.Slices.{AreSlices, IsCuttable, IsFirstMissing, IsFirstMissingFrom};
 
 use crate::by_tag::missing::first_missing;
 use crate::by_tag::slicing::Caused;
@@ -37,13 +37,13 @@ impl<'a> Model for Sliced<'a> {
 
     ghost view = { λ a. a.presence };
 
-    ghost use Rattle.lft_check.specs.ByTag.Indexes.{IsIndexed};
+    ghost use Rattle.lft_check.specs.inner.ByTag.Indexes.{IsIndexed};
 
     ghost invariant = { λ a. IsIndexed a.presence a.slices.items a.missing a.due.items a.runs };
 }
 
 impl<'a> Sliced<'a> {
-    ghost use Rattle.lft_check.specs.ByTag.Indexes.{IsCaused};
+    ghost use Rattle.lft_check.specs.inner.ByTag.Indexes.{IsCaused};
 
     /// Slices with what their rows cause. It takes no memory.
     pub(crate) fn from_parts(slices: Vec<Slice>, caused: Caused<'a>) -> Sliced<'a>

@@ -2,8 +2,8 @@
 
 ghost use Rattle.std.specs.Prelude.{◌≡◌, Some, IsTrue, ◌↔◌, IfOk, slice_get};
 ghost use Rattle.lft_ir.specs.declared.steps.row.Row.{Row as TheRow};
-ghost use Rattle.lft_rows.specs.Slices.{Rises};
-ghost use Rattle.lft_check.specs.ByTag.Slices.{AreSlices};
+ghost use Rattle.lft_rows.specs.inner.Slices.{Rises};
+ghost use Rattle.lft_check.specs.inner.ByTag.Slices.{AreSlices};
 
 use lft_ir::steps::{Row, row_at};
 use lft_rows::Slice;

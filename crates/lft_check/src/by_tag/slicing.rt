@@ -3,7 +3,7 @@
 ghost use Rattle.std.specs.Prelude.{◌≡◌, length, IfOk, IfErr};
 ghost use Rattle.lft_ir.specs.Steps.Fits.{RowsFit};
 ghost use Rattle.lft_model.specs.Presence.{stop as the_stop};
-ghost use Rattle.lft_check.specs.ByTag.{Indexes.{HasRuns, IsCaused}, Slices.{IsCuttable, IsCutFault}};
+ghost use Rattle.lft_check.specs.{inner.ByTag.{Indexes.{HasRuns, IsCaused}, Slices.IsCuttable}, ByTag.Slices.IsCutFault};
 
 use crate::by_tag::fault::CutFault;
 use crate::by_tag::missing::first_missing;

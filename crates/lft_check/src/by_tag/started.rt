@@ -2,7 +2,7 @@
 
 ghost use Rattle.std.specs.Prelude.{◌≡◌, length, IfOk};
 ghost use Rattle.lft_model.specs.Plans.{PlanParts};
-ghost use Rattle.lft_check.specs.ByTag.{Slices.IsCuttable, Indexes.HasRuns};
+ghost use Rattle.lft_check.specs.inner.ByTag.{Slices.IsCuttable, Indexes.HasRuns};
 
 use crate::by_tag::lists::ByReaction;
 use lft_ir::steps::{Row, is_start, row_at};

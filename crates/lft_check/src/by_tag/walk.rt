@@ -3,8 +3,8 @@
 ghost use Rattle.std.specs.Prelude.{◌≡◌, ◌<◌, IfOk, Some, slice_get};
 ghost use Rattle.lft_ir.specs.declared.parts.{Reaction.Reaction as TheReaction, Name.Name as TheName};
 ghost use Rattle.lft_model.specs.Runs.{read_of, steps_of};
-ghost use Rattle.lft_rows.specs.{Marks.{HasSeat, width}, Slices.IsSlice};
-ghost use Rattle.lft_check.specs.ByTag.Walks.{IsBefore, HasWalked};
+ghost use Rattle.lft_rows.specs.inner.{Marks.{HasSeat, width}, Slices.IsSlice};
+ghost use Rattle.lft_check.specs.inner.ByTag.Walks.{IsBefore, HasWalked};
 
 use crate::by_tag::absences::{Absences, absences_of};
 use crate::by_tag::sliced::Sliced;

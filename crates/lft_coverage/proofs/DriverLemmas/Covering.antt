@@ -6,13 +6,13 @@ use Rattle.lft_trace.specs.{Records.records_of, Traces.Table}
 use Rattle.lft_model.specs.{Plans.PlanParts, declared.breach.Breach.Breach, OneWorker.{LegalRunsAreOneWorker, LegalRunsKeepPrecedence}, Workers.IsWorkers}
 use Rattle.lft_check.specs.Verdicts.{IsVerdict}
 use Rattle.lft_counts.specs.{Cover.CoversRows, declared.cover.Cover.Cover}
-use Rattle.lft_coverage.specs.{Facts.{HasCounts, fact_lines}, Sums.TellsSums}
-use Rattle.lft_coverage.specs.Driver.Covered.{CoverRefusalUnder, IsCovered, IsCoveredTable, IsBehind, IsCoverText, IsJudgedCoverUnder, IsTold, IsUnread, verdict_in}
+use Rattle.lft_coverage.specs.{inner.{Facts.HasCounts, Driver.Covered.{IsCovered, IsCoveredTable, IsCoverText, verdict_in}}, Facts.fact_lines, Sums.TellsSums}
+use Rattle.lft_coverage.specs.Driver.Covered.{CoverRefusalUnder, IsBehind, IsJudgedCoverUnder, IsTold, IsUnread}
 use Rattle.lft_coverage.specs.Driver.Covered.CoverRefusalUnder.{by_check, by_trace, by_writer}
 use Rattle.lft_coverage.specs.declared.driver.covered.Covered.{Covered, TheVariants.{Accepted, Broken}}
 use Rattle.lft_load.specs.{Faults.table_number, Refusals.is_of_text, Written.AppendsFront, declared.fault.Fault.Fault}
 use Rattle.lft_load.proofs.Loading.{memory_untold, told_at, trace_told}
-use Rattle.lft_driver.specs.{Explained.{WriteRefusal, Writes}, Lines.line_of, Refusals.{CheckRefusal, CheckRefusal.by_growth}}
+use Rattle.lft_driver.specs.{inner.Explained.WriteRefusal, Explained.Writes, Lines.line_of, Refusals.{CheckRefusal, CheckRefusal.by_growth}}
 use Rattle.lft_driver.proofs.Judging.{accepted_runs, refusal_untold, write_untold}
 use Rattle.lft_check.specs.declared.verdict.Verdict.TheVariants as verdict
 use Rattle.lft_load.specs.declared.fault.Part.TheVariants as part

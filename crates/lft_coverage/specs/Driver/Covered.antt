@@ -1,31 +1,16 @@
 -- A verdict on a trace table with what an accepted one exercised, and what was written of both.
-use Rattle.std.specs.Prelude.{◌≡◌, ◌++◌, ℕ, Bool, true, false, List, [], Option, length}
+use Rattle.std.specs.Prelude.{◌≡◌, ◌++◌, ℕ, Bool, true, false, List, Option, length}
 use Rattle.std.specs.Io.KnownBytes.{Appends}
 use Rattle.lft_ir.specs.declared.steps.row.Row.{Row}
 use Rattle.lft_trace.specs.{declared.fault.TraceFault.TraceFault, Faults.is_told, Records.records_of, Traces.{Table, TraceFails}}
-use Rattle.lft_model.specs.{Breaches.First, Plans.PlanParts}
-use Rattle.lft_rows.specs.Accepted.{IsAccepted}
+use Rattle.lft_model.specs.Plans.{PlanParts}
 use Rattle.lft_check.specs.{declared.verdict.Verdict.Verdict, Verdicts.IsVerdict}
 use Rattle.lft_counts.specs.{Cover.CoversRows, declared.cover.Cover.Cover}
-use Rattle.lft_coverage.specs.{Facts.fact_lines, Sums.TellsSums, declared.driver.covered.Covered.{Covered, TheVariants.{Accepted, Broken}}}
+use Rattle.lft_coverage.specs.{Facts.fact_lines, Sums.TellsSums, declared.driver.covered.Covered.TheVariants.{Accepted, Broken}}
 use Rattle.lft_load.specs.{Faults.table_number, Meaning.{IsOnly, IsPlanOf}, Refusals.LoadRefusal, Written.AppendsFront, declared.fault.Fault.Fault}
-use Rattle.lft_driver.specs.{Judged.AcceptedRuns, Lines.{HasReaction, line_of}, Meaning.HasTable, Refusals.CheckRefusal}
+use Rattle.lft_driver.specs.{Judged.AcceptedRuns, Lines.line_of, Meaning.HasTable, Refusals.CheckRefusal}
 use Rattle.lft_check.specs.declared.verdict.Verdict.TheVariants as verdict
 use Rattle.lft_load.specs.declared.fault.Part.TheVariants as part
-
--- the verdict alone
-abbrev pub verdict_in : Covered → Verdict
-verdict_in (Accepted runs tags cover) = verdict.Accepted runs tags
-verdict_in (Broken b) = verdict.Broken b
-
--- the verdict is right for the rows, and the counts of an accepted trace are those of all its rows
-abbrev pub IsCovered : PlanParts → List Row → Covered → Type 0
-IsCovered plan rows (Accepted runs tags cover) = IsAccepted plan rows runs tags × CoversRows plan.program rows (length rows) cover
-IsCovered plan rows (Broken b) = First plan rows b × HasReaction plan.program b.reaction
-
--- the same of the rows of a trace table
-abbrev pub IsCoveredTable : PlanParts → List ℕ → Covered → Type 0
-IsCoveredTable plan trace covered = (rows : List Row) × HasTable plan.program trace rows × IsCovered plan rows covered
 
 -- what stands behind the line of an accepted trace: with `--list` the facts of the counts of all rows, else a text that begins with their sums
 abbrev pub IsTold : Bool → PlanParts → List Row → List ℕ → Type 0
@@ -36,10 +21,6 @@ IsTold false plan rows text = (cover : Cover) × CoversRows plan.program rows (l
 abbrev pub IsBehind : Bool → PlanParts → List Row → Verdict → List ℕ → Type 0
 IsBehind list plan rows (verdict.Accepted runs tags) text = IsTold list plan rows text
 IsBehind list plan rows (verdict.Broken b) text = text ≡ []
-
--- the line of a verdict, and behind it what is right for all rows that it is of
-abbrev pub IsCoverText : Bool → PlanParts → Covered → List ℕ → Type 0
-IsCoverText list plan covered text = (rows : List Row) → IsCovered plan rows covered → (behind : List ℕ) × (text ≡ line_of plan.program (verdict_in covered) ++ behind) × IsBehind list plan rows (verdict_in covered) behind
 
 -- the verdict on the rows of the trace table; its line was written, and behind it what an accepted trace exercised
 pub record IsJudgedCoverUnder (list : Bool) (plan : PlanParts) (trace : List ℕ) (old new : Option (List ℕ)) (v : Verdict) : Type 0 where

@@ -3,9 +3,9 @@
 ghost use Rattle.std.specs.Prelude.{◌≡◌, ◌⊎◌, IfOk, IfErr, OnOk, List, length};
 ghost use Rattle.lft_ir.specs.{Parts.Parts, Steps.Fits.RowsFit, declared.steps.row.Row.Row as TheRow};
 ghost use Rattle.lft_model.specs.Workers.{IsWorkers};
-ghost use Rattle.lft_counts.specs.{Counts.KeepsRows, Cover.CoversRows};
+ghost use Rattle.lft_counts.specs.{inner.Counts.KeepsRows, Cover.CoversRows};
 ghost use Rattle.lft_driver.specs.Refusals.{CheckRefusal};
-ghost use Rattle.lft_coverage.specs.Driver.Covered.{IsCovered, IsCoveredTable, IsUnread, verdict_in};
+ghost use Rattle.lft_coverage.specs.{inner.Driver.Covered.{IsCovered, IsCoveredTable, verdict_in}, Driver.Covered.IsUnread};
 
 use lft_check::{CheckFault, NoWatch, Verdict, judge};
 use lft_counts::Cover;

@@ -5,10 +5,10 @@ ghost use Rattle.std.specs.Io.KnownBytes.{Keeps};
 ghost use Rattle.lft_ir.specs.declared.steps.row.Row.{Row as TheRow};
 ghost use Rattle.lft_trace.specs.{Records.records_of, Traces.Table};
 ghost use Rattle.lft_model.specs.{Plans.PlanParts, Workers.IsWorkers};
-ghost use Rattle.lft_coverage.specs.{Facts.{HasCounts, fact_lines}, Sums.TellsSums};
-ghost use Rattle.lft_coverage.specs.Driver.Covered.{CoverRefusal, CoverRefusalUnder, IsCoverText, IsCovered, IsJudgedCover, IsJudgedCoverUnder, verdict_in};
+ghost use Rattle.lft_coverage.specs.{inner.{Facts.HasCounts, Driver.Covered.{IsCoverText, IsCovered, verdict_in}}, Facts.fact_lines, Sums.TellsSums};
+ghost use Rattle.lft_coverage.specs.Driver.Covered.{CoverRefusal, CoverRefusalUnder, IsJudgedCover, IsJudgedCoverUnder};
 ghost use Rattle.lft_load.specs.Refusals.{is_of_text};
-ghost use Rattle.lft_driver.specs.{Explained.{WriteRefusal, Writes}, Meaning.Mean};
+ghost use Rattle.lft_driver.specs.{inner.Explained.WriteRefusal, Explained.Writes, Meaning.Mean};
 ghost use Rattle.lft_load.specs.declared.fault.Part.TheVariants as part;
 
 use crate::driver::covered::{Covered, cover_table};

@@ -6,7 +6,7 @@ use Rattle.std.proofs.lemmas.{Bool.cases_lt, List.{get_or_default, Edits.{get_or
 use Rattle.std.proofs.lemmas.Option.{slice_get-get_or}
 use lib.ListN.{get_or}
 use Rattle.lft_tag.{specs.{declared.Tag.Tag, Tags.{Before, UpTo}}, proofs.Order.{Before-trans, order_cases, split_up}}
-use Rattle.lft_ir.specs.{declared.steps.externals.Event.Event, Steps.Inputs.{ComesBefore, InOrder, IsTold, BelongsAt}}
+use Rattle.lft_ir.specs.{declared.steps.externals.Event.Event, Steps.Inputs.{ComesBefore, InOrder, IsTold}, inner.Steps.Inputs.BelongsAt}
 
 pub comes_before-trans : (x y z : Event) → ComesBefore x y → ComesBefore y z → ComesBefore x z
 comes_before-trans x y z (inl a) (inl b) = inl (Before-trans x.tag y.tag z.tag a b)

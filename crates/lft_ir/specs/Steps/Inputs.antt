@@ -1,5 +1,5 @@
 -- What contracts see of external inputs.
-use Rattle.std.specs.Prelude.{◌≡◌, ℕ, ◌<◌, ◌≤◌, ◌⊎◌, List, length, AllPairs, Some, slice_get, slice_index_or}
+use Rattle.std.specs.Prelude.{◌≡◌, ℕ, ◌<◌, ◌⊎◌, List, AllPairs, Some, slice_get}
 use Rattle.lft_tag.specs.{declared.Tag.Tag, Tags.Before}
 use Rattle.lft_ir.specs.declared.steps.externals.Event.{Event}
 
@@ -23,9 +23,3 @@ pub record IsTold (events : List Event) (event : Event) : Type 0 where
   pub stands : slice_get events place ≡ Some other
   pub same_tag : other.tag ≡ event.tag
   pub same_action : other.action ≡ event.action
-
--- where an event belongs among others: those before the place come before it, and it comes before all from there on
-pub record BelongsAt (events : List Event) (event : Event) (place : ℕ) : Type 0 where
-  pub within : place ≤ length events
-  pub front : (k : ℕ) (d : Event) → k < place → ComesBefore (slice_index_or events k d) event
-  pub rest : (k : ℕ) (d : Event) → place ≤ k → k < length events → ComesBefore event (slice_index_or events k d)

@@ -1,7 +1,7 @@
 //! Where an event belongs among others.
 
 ghost use Rattle.std.specs.Prelude.{◌≡◌, ◌↔◌, IsTrue, IfSome, IfNone};
-ghost use Rattle.lft_ir.specs.Steps.Inputs.{ComesBefore, InOrder, IsTold, BelongsAt};
+ghost use Rattle.lft_ir.specs.{Steps.Inputs.{ComesBefore, InOrder, IsTold}, inner.Steps.Inputs.BelongsAt};
 
 use crate::steps::externals::Event;
 

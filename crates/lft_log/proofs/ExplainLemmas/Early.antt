@@ -5,9 +5,10 @@ use native.Mathlib.Decide.{ℕ_discrete, dec_lt}
 use Rattle.lft_lists.proofs.Places.{same_at, Some_same}
 use Rattle.lft_tag.specs.declared.Tag.{Tag}
 use Rattle.lft_ir.specs.declared.steps.row.Row.{Row}
-use Rattle.lft_model.specs.{declared.breach.Breach.Breach, Plans.PlanParts, Presence.stop, Breaches.{BreaksRow, BreaksAt, RowBreach, RowOrder, First}}
+use Rattle.lft_model.specs.{declared.breach.Breach.Breach, Plans.PlanParts, Presence.stop, inner.Breaches.{BreaksRow, BreaksAt}}
+use Rattle.lft_model.specs.Breaches.{RowBreach, RowOrder, First}
 use Rattle.lft_model.proofs.Places.{slice_get_within}
-use Rattle.lft_rows.specs.Passes.{KeepsEarly, EarlyRule}
+use Rattle.lft_rows.specs.inner.Passes.{KeepsEarly, EarlyRule}
 use Rattle.lft_check.specs.{declared.verdict.Verdict.{Verdict, TheVariants.Broken}, Verdicts.IsExact}
 use Rattle.lft_races.specs.Races.{FirstEarly, FirstSoFar}
 

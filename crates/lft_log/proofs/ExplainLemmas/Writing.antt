@@ -13,8 +13,8 @@ use Rattle.lft_log.specs.{Logs.HasManyRows, Told.{AreOpenAtEnd, AreOpenIn, Tells
 use Rattle.lft_log.specs.declared.told.{Ended.Ended, Told.TheVariants.{Broken, Odd, Reached}, Final.{Final, TheVariants.{Soon, AtEnd}}}
 use Rattle.lft_log.specs.declared.{follow.kept.Kept.{Kept, TheVariants.{All, Nothing, TooLong}}, explain.explaining.Unexplained.Unexplained}
 use Rattle.lft_log.specs.Follow.{Lines.line_of_log, Followed.IsFollowedUnder, Kept.IsKeptOn}
-use Rattle.lft_log.specs.Explain.Listed.{AreOf}
-use Rattle.lft_log.specs.Explain.Explained.{ExplainsCut, IsBehindLine, IsExplainedUnder, IsLack, IsListOf, IsLongKept, IsReasonOf, IsTextBehind, IsTextOf, IsToStand, IsTooLong}
+use Rattle.lft_log.specs.inner.Explain.{Listed.AreOf, Explained.{IsListOf, IsLongKept, IsReasonOf, IsTextBehind}}
+use Rattle.lft_log.specs.Explain.Explained.{ExplainsCut, IsBehindLine, IsExplainedUnder, IsLack, IsTextOf, IsToStand, IsTooLong}
 use Rattle.lft_log.specs.Explain.Refusals.{ExplainLogRefusalUnder, ExplainLogRefusalUnder.by_writer_behind}
 use Rattle.lft_log.proofs.FollowLemmas.{Keeping.many_longer, Telling.of_log}
 use Rattle.lft_driver.proofs.Behind.{writes_both}

@@ -4,7 +4,7 @@ use Rattle.std.specs.Global.{Vec}
 use Rattle.lft_tag.specs.declared.Tag.{Tag}
 use Rattle.lft_ir.specs.Parts.{Parts}
 use Rattle.lft_model.specs.Plans.{PlanParts}
-use Rattle.lft_log.specs.{Logs.HasManyRows, Told.IsLog, declared.{log.Log.Log, follow.kept.Kept.{Kept, TheVariants.{All, Nothing, TooLong}}}}
+use Rattle.lft_log.specs.{Logs.HasManyRows, inner.Told.IsLog, declared.{log.Log.Log, follow.kept.Kept.{Kept, TheVariants.{All, Nothing, TooLong}}}}
 use Rattle.lft_log.specs.Follow.Kept.{IsKeptOn}
 use Rattle.lft_log.proofs.{Holding.hold_longer, FollowLemmas.Reaching.is_begun}
 

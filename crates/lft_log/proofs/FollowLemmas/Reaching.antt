@@ -9,9 +9,9 @@ use Rattle.lft_trace.specs.declared.log_table.Line.{Line}
 use Rattle.lft_ir.specs.declared.steps.row.Row.{Row}
 use Rattle.lft_model.specs.Plans.{PlanParts}
 use Rattle.lft_load.specs.{Written.AppendsFront, declared.fault.Fault.Fault}
-use Rattle.lft_monitor.specs.{Follows.{IsFollowerOf, IsJudged}, declared.reach.Reach.Reach}
-use Rattle.lft_driver.{specs.Explained.WriteRefusal, proofs.Behind.front_both}
-use Rattle.lft_log.specs.{Logs.rows, Told.IsLog, declared.log.Log.Log, Follow.{Lines.unbroken_words, Reaches.{IsReachOf, OfReaches, WritesOrFails}}}
+use Rattle.lft_monitor.specs.{inner.Follows.IsFollowerOf, Follows.IsJudged, declared.reach.Reach.Reach}
+use Rattle.lft_driver.{specs.inner.Explained.WriteRefusal, proofs.Behind.front_both}
+use Rattle.lft_log.specs.{Logs.rows, inner.Told.IsLog, declared.log.Log.Log, Follow.{Lines.unbroken_words, Reaches.{IsReachOf, OfReaches, WritesOrFails}}}
 use Rattle.lft_log.proofs.{Finishing.tells_plan, Holding.hold_longer}
 
 -- no line is told

@@ -4,7 +4,7 @@ use Rattle.std.specs.Io.KnownBytes.{Keeps}
 use Rattle.lft_tag.specs.declared.Tag.{Tag}
 use Rattle.lft_model.specs.Plans.{PlanParts}
 use Rattle.lft_load.specs.{Written.AppendsFront, declared.fault.Fault.Fault}
-use Rattle.lft_driver.specs.Explained.{WriteRefusal}
+use Rattle.lft_driver.specs.inner.Explained.{WriteRefusal}
 use Rattle.lft_log.specs.declared.told.Final.{Final}
 use Rattle.lft_log.specs.Follow.{Followed.IsRead, Lines.line_of_log}
 use Rattle.lft_log.specs.Follow.Refusals.{FollowRefusalUnder, IsOutside, FollowRefusalUnder.{by_reading, by_writer}, ReadRefusal.by_outside}

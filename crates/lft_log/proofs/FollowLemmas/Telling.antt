@@ -5,11 +5,11 @@ use Rattle.lft_tag.specs.declared.Tag.{Tag}
 use Rattle.lft_lists.proofs.{Places.get_left, Zips.behind}
 use Rattle.lft_ir.specs.{Parts.Parts, Sound.IsSound, declared.steps.row.Row.Row}
 use Rattle.lft_trace.specs.Traces.{IsRow}
-use Rattle.lft_model.{specs.{declared.breach.Breach.Breach, Plans.PlanParts, Breaches.{BreaksAt, First}}, proofs.Places.slice_get_take}
+use Rattle.lft_model.{specs.{declared.breach.Breach.Breach, Plans.PlanParts, inner.Breaches.BreaksAt, Breaches.First}, proofs.Places.slice_get_take}
 use Rattle.lft_driver.specs.Lines.{HasReaction}
 use Rattle.lft_monitor.specs.{declared.found.Found.Found, Follows.{IsSureBehind, IsFirstBehind, breach_of}}
-use Rattle.lft_log.specs.{Logs.row_records, Told.{IsEnded, IsFinal, IsSaid, IsSoon, TellsPlan}}
-use Rattle.lft_log.specs.{declared.told.{Told.TheVariants.{Broken, Odd, Reached}, Final.{Final, TheVariants.{Soon, AtEnd}}}, Follow.Lines.HasFound}
+use Rattle.lft_log.specs.{inner.{Logs.row_records, Follow.Lines.HasFound}, Told.{IsEnded, IsFinal, IsSaid, IsSoon, TellsPlan}}
+use Rattle.lft_log.specs.declared.told.{Told.TheVariants.{Broken, Odd, Reached}, Final.{Final, TheVariants.{Soon, AtEnd}}}
 use Rattle.lft_log.proofs.Behind.{rows_each}
 use Rattle.lft_monitor.specs.declared.judged.Ending.TheVariants as ending
 

@@ -1,9 +1,8 @@
 -- The rows behind which a breach is sure.
-use Rattle.std.specs.Prelude.{◌≡◌, ◌≢◌, ℕ, ◌+◌, ◌<◌, ◌≤◌, List, length, take, Option, Some, MatchOption, slice_get}
+use Rattle.std.specs.Prelude.{◌≡◌, ◌≢◌, ℕ, ◌+◌, ◌<◌, ◌≤◌, List, length, Some, slice_get}
 use Rattle.lft_tag.specs.Tags.{Before}
 use Rattle.lft_ir.specs.declared.steps.row.Row.{Row}
-use Rattle.lft_model.specs.{declared.breach.Breach.Breach, Plans.PlanParts, Breaches.RowBreach}
-use Rattle.lft_races.specs.Races.{FirstEarly}
+use Rattle.lft_model.specs.declared.breach.Breach.{Breach}
 
 -- the row at place m is at a tag after that of the breach, and none from that of the breach up to it is
 pub record IsLaterAt (t : List Row) (b : Breach) (m : ℕ) : Type 0 where
@@ -23,11 +22,3 @@ pub record IsCutBehind (t : List Row) (b : Breach) (n : ℕ) : Type 0 where
   pub within : n ≤ length t
   pub of_row : b.rule ≤ 4 → b.row ≡ n + 1
   pub of_tag : 4 < b.rule → (m : ℕ) × IsLaterAt t b m × IsEndBehind b m n
-
--- these are the rows behind which it is sure, if there are such
-abbrev pub IsCutOf : List Row → Breach → Option (List Row) → Type 0
-IsCutOf t b o = MatchOption o ((n : ℕ) → ¬ IsCutBehind t b n) (λ rows. (n : ℕ) × IsCutBehind t b n × (rows ≡ take n t))
-
--- the first row that breaks one of the rules 1 to 4, if one does
-abbrev pub IsEarlyOf : PlanParts → List Row → Option Breach → Type 0
-IsEarlyOf plan t o = MatchOption o ((b : Breach) → RowBreach plan t b → ¬ (b.rule ≤ 4)) (FirstEarly plan t)

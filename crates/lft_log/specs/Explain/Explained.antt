@@ -1,13 +1,12 @@
 -- What is told of a log, with what explains it.
-use Rattle.std.specs.Prelude.{◌≡◌, ◌⊎◌, ◌<◌, ◌^◌, ℕ, Bool, true, false, List, [], ◌∷◌, ◌++◌, length, take, Option, Result, Ok, MatchOption}
-use Rattle.std.specs.Global.{Vec}
-use Rattle.lft_tag.specs.declared.{NoMemory.NoMemory as TheNoMemory, Tag.Tag}
+use Rattle.std.specs.Prelude.{◌≡◌, ◌⊎◌, ◌<◌, ◌^◌, ℕ, Bool, true, false, List, ◌∷◌, ◌++◌, length, take, Option, MatchOption}
+use Rattle.lft_tag.specs.declared.Tag.{Tag}
 use Rattle.lft_ir.specs.{Parts.Parts, declared.steps.row.Row.Row}
 use Rattle.lft_model.specs.{declared.breach.Breach.Breach, Plans.PlanParts}
 use Rattle.lft_load.specs.Meaning.{IsPlanOf, OfOnly}
 use Rattle.lft_races.specs.Races.{FirstSoFar}
 use Rattle.lft_log.specs.{Explain.{Cuts.IsCutBehind, Listed.runs_words, Reasons.AreReasonsSoFar}, Logs.HasManyRows, Told.{AreOpenAtEnd, TellsPlan}}
-use Rattle.lft_log.specs.declared.{told.{Ended.Ended, Told.TheVariants.Broken, Final.{Final, TheVariants.{Soon, AtEnd}}}, follow.kept.Kept.Kept}
+use Rattle.lft_log.specs.declared.told.{Told.TheVariants.Broken, Final.{Final, TheVariants.{Soon, AtEnd}}}
 use Rattle.lft_log.specs.declared.explain.explaining.{Explained.Explained, Unexplained.{Unexplained, TheVariants.{NoMemory, TooLong}}}
 use Rattle.lft_log.specs.Follow.{Lines.line_of_log, Followed.IsRead}
 use Rattle.lft_monitor.specs.Follows.{breach_of}
@@ -15,7 +14,6 @@ use Rattle.lft_monitor.specs.declared.found.Found.{Found}
 use Rattle.lft_monitor.specs.declared.open.OpenRun.{OpenRun}
 use Rattle.lft_driver.specs.Explained.{Writes}
 use Rattle.lft_monitor.specs.declared.judged.Ending.TheVariants as ending
-use Rattle.lft_log.specs.declared.follow.kept.Kept.TheVariants as keeps
 
 -- of a breach, at the end or before it, the text is what explains it, where rows are missing it lists runs, else it is empty
 abbrev pub IsTextOf : (Bool → Found → List ℕ → Type 0) → (List ℕ → Type 0) → Final → List ℕ → Type 0
@@ -47,22 +45,6 @@ ExplainsFirst all plan t b text = FirstSoFar plan t b × AreReasonsSoFar all pla
 -- the same of the first rows of the log, up to the one behind which the breach is sure
 abbrev pub ExplainsCut : Bool → Bool → PlanParts → List ℕ → Breach → List ℕ → Type 0
 ExplainsCut all at_end base log b text = (plan : PlanParts) × (rows : List Row) × IsLogCut at_end base log plan b rows × ExplainsFirst all plan rows b text
-
--- all of the log is kept, and the text stands behind the line of a breach that is told of it under the plan
-abbrev pub IsReasonOf : Bool → PlanParts → Kept → Found → Bool → List ℕ → Type 0
-IsReasonOf at_end plan kept found all text = (log : Vec ℕ) × (kept ≡ keeps.All log) × ExplainsCut all at_end plan log.items (breach_of found) text
-
--- too much was read to be kept, or all of the log is kept and has too many rows
-abbrev pub IsLongKept : PlanParts → Kept → Type 0
-IsLongKept plan kept = (kept ≡ keeps.TooLong) ⊎ (log : Vec ℕ) × (kept ≡ keeps.All log) × HasManyRows plan.program (log.items ++ 10 ∷ [])
-
--- the text has the lines of the runs, which are known
-abbrev pub IsListOf : PlanParts → Result (Vec OpenRun) TheNoMemory → List ℕ → Type 0
-IsListOf plan still_open text = (runs : Vec OpenRun) × (still_open ≡ Ok runs) × (text ≡ runs_words plan.program runs.items)
-
--- the text stands behind the line of what is told: what explains a breach; the runs without an end where rows are missing; else nothing
-abbrev pub IsTextBehind : Bool → PlanParts → Kept → Ended → List ℕ → Type 0
-IsTextBehind all plan kept e text = IsTextOf (λ at_end found. IsReasonOf at_end plan kept found all) (IsListOf plan e.still_open) e.told text
 
 -- the text has the lines of the runs that are open at the end of the log
 abbrev pub ListsOpen : PlanParts → List ℕ → List ℕ → Type 0

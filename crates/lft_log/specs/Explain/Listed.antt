@@ -1,5 +1,5 @@
 -- The runs that are open at the end of a log.
-use Rattle.std.specs.Prelude.{◌≡◌, ℕ, ◌<◌, List, [], ◌∷◌, ◌++◌, Some, length, slice_get, codes, flat_map}
+use Rattle.std.specs.Prelude.{ℕ, List, ◌∷◌, ◌++◌, codes, flat_map}
 use Rattle.lft_ir.specs.Parts.{Parts}
 use Rattle.lft_load.specs.Words.{field, reaction_name}
 use Rattle.lft_monitor.specs.declared.open.OpenRun.{OpenRun}
@@ -12,7 +12,3 @@ run_words program run = codes "open at the end: " ++ reaction_name program run.r
 abbrev pub runs_words : Parts → List OpenRun → List ℕ
 runs_words program [] = []
 runs_words program (run ∷ runs) = codes "\n" ++ flat_map (run_words program) (run ∷ runs)
-
--- each run is of a reaction of the program
-abbrev pub AreOf : Parts → List OpenRun → Type 0
-AreOf program runs = (k : ℕ) (run : OpenRun) → slice_get runs k ≡ Some run → run.reaction < length program.reactions

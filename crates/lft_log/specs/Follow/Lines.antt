@@ -1,10 +1,10 @@
 -- The lines that are printed of a trace table that is followed.
-use Rattle.std.specs.Prelude.{ℕ, List, [], ◌++◌, Option, Some, None, codes}
+use Rattle.std.specs.Prelude.{ℕ, List, ◌++◌, Option, Some, None, codes}
 use Rattle.lft_tag.specs.declared.Tag.{Tag}
 use Rattle.lft_ir.specs.Parts.{Parts}
 use Rattle.lft_load.specs.Words.{field}
 use Rattle.lft_monitor.specs.{Follows.breach_of, declared.reach.Reach.Reach}
-use Rattle.lft_driver.specs.Lines.{HasReaction, accepted_words, breach_words}
+use Rattle.lft_driver.specs.Lines.{accepted_words, breach_words}
 use Rattle.lft_log.specs.declared.told.{Told.TheVariants.{Broken, Odd, Reached}, Final.{Final, TheVariants.{Soon, AtEnd}}}
 use Rattle.lft_monitor.specs.declared.judged.Ending.TheVariants as ending
 
@@ -37,12 +37,6 @@ line_of_log program (Soon (Reached r)) = unbroken_words r
 line_of_log program (AtEnd (ending.Accepted c)) = accepted_words c.runs c.tags
 line_of_log program (AtEnd (ending.Unbroken r)) = unbroken_words r
 line_of_log program (AtEnd (ending.Broken b)) = breach_words program (breach_of b)
-
--- the reaction of a breach that is told is one of the program
-abbrev pub HasFound : Parts → Final → Type 0
-HasFound program (Soon (Broken b)) = HasReaction program b.reaction
-HasFound program (AtEnd (ending.Broken b)) = HasReaction program b.reaction
-HasFound program told = Unit {0}
 
 -- the status of what is told: 0 accepted, or unbroken as far as was asked for; 1 broken; 3 unbroken at the end; 4 odd
 abbrev pub log_status : Final → ℕ

@@ -2,7 +2,7 @@
 
 ghost use Rattle.std.specs.Prelude.{◌<◌, ℕ, IfOk, IfSome, MatchOption};
 ghost use Rattle.lft_ir.specs.{Parts.Parts, Steps.Fits.RowsFit};
-ghost use Rattle.lft_log.specs.Explain.Cuts.{IsCutBehind, IsCutOf, IsEndBehind};
+ghost use Rattle.lft_log.specs.{Explain.Cuts.{IsCutBehind, IsEndBehind}, inner.Explain.Cuts.IsCutOf};
 
 use lft_ir::steps::{Row, Rows, row_at};
 use lft_model::Breach;

@@ -5,8 +5,9 @@ ghost use Rattle.std.specs.Io.KnownBytes.{Keeps};
 ghost use Rattle.lft_ir.specs.Steps.Fits.{RowsFit};
 ghost use Rattle.lft_monitor.specs.Follows.{breach_of};
 ghost use Rattle.lft_log.specs.{Logs.HasManyRows, Told.{AreOpenAtEnd, TellsOpen}, Follow.Reaches.{OfReadReaches, OfTextReaches, WritesOrFails}};
-ghost use Rattle.lft_log.specs.Explain.Explained.{ExplainsCut, ExplainsFirst, IsExplained, IsExplainedUnder, IsLack, IsListOf, IsLogCut, IsLongKept, IsReasonOf, IsTextBehind};
+ghost use Rattle.lft_log.specs.Explain.Explained.{ExplainsCut, ExplainsFirst, IsExplained, IsExplainedUnder, IsLack, IsLogCut};
 ghost use Rattle.lft_log.specs.Explain.Refusals.{ExplainLogRefusal, ExplainLogRefusalUnder};
+ghost use Rattle.lft_log.specs.inner.Explain.Explained.{IsListOf, IsLongKept, IsReasonOf, IsTextBehind};
 ghost use Rattle.lft_load.specs.declared.fault.Part.TheVariants as part;
 
 use crate::explain::cut::cut_at;

@@ -3,7 +3,7 @@
 ghost use Rattle.std.specs.Prelude.{◌≡◌, ◌↔◌, IsTrue, IfOk};
 ghost use Rattle.lft_ir.specs.Steps.Fits.{RowsFit};
 ghost use Rattle.lft_races.specs.Races.{FirstSoFar};
-ghost use Rattle.lft_log.specs.Explain.Cuts.{IsEarlyOf};
+ghost use Rattle.lft_log.specs.inner.Explain.Cuts.{IsEarlyOf};
 
 use lft_check::{NoWatch, Verdict, judge_alone};
 use lft_ir::steps::{Row, Rows, row_at};

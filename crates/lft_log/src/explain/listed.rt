@@ -1,7 +1,7 @@
 //! The lines of the runs that are open at the end of a log.
 
 ghost use Rattle.std.specs.Prelude.{◌≡◌, ◌++◌, ◌<◌, IfOk, OnOk, length, string_bytes};
-ghost use Rattle.lft_log.specs.Explain.Listed.{AreOf, run_words, runs_words};
+ghost use Rattle.lft_log.specs.{inner.Explain.Listed.AreOf, Explain.Listed.{run_words, runs_words}};
 
 use lft_ir::Program;
 use lft_lists::item_at;

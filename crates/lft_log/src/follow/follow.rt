@@ -4,10 +4,9 @@ ghost use Rattle.std.specs.Prelude.{◌≡◌, ◌≢◌, ◌⊎◌, ◌<◌, �
 ghost use Rattle.std.specs.Io.KnownBytes.{Appends, IsAtEnd, Keeps};
 ghost use Rattle.lft_tag.specs.{declared.Tag.Tag as TheTag, Tags.IsRecorded};
 ghost use Rattle.lft_model.specs.Plans.{PlanParts};
-ghost use Rattle.lft_driver.specs.Explained.{WriteRefusal};
-ghost use Rattle.lft_log.specs.Told.{IsLog, IsSoon};
-ghost use Rattle.lft_log.specs.Follow.Lines.{HasFound, line_of_log, log_status, unbroken_words};
-ghost use Rattle.lft_log.specs.Follow.Followed.{IsFollowed, IsFollowedUnder, IsReadKept, until_words};
+ghost use Rattle.lft_driver.specs.inner.Explained.{WriteRefusal};
+ghost use Rattle.lft_log.specs.{inner.{Told.IsLog, Follow.Lines.HasFound}, Told.IsSoon};
+ghost use Rattle.lft_log.specs.Follow.{Lines.{line_of_log, log_status, unbroken_words}, Followed.{IsFollowed, IsFollowedUnder, IsReadKept, until_words}};
 ghost use Rattle.lft_log.specs.Follow.Reaches.{OfReaches, OfReadReaches, OfTextReaches, WritesOrFails};
 ghost use Rattle.lft_log.specs.Follow.Refusals.{FollowRefusal, FollowRefusalUnder, IsFaultOfLog, IsNamed, IsOutside, IsToldAs, ReadRefusal, TellsLine};
 ghost use Rattle.lft_load.specs.declared.fault.Part.TheVariants as part;

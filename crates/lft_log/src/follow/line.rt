@@ -3,7 +3,7 @@
 ghost use Rattle.std.specs.Prelude.{◌≡◌, ◌<◌, ◌++◌, IfOk, OnOk, length, string_bytes};
 ghost use Rattle.lft_monitor.specs.Follows.{breach_of};
 ghost use Rattle.lft_driver.specs.Lines.{HasReaction, breach_words};
-ghost use Rattle.lft_log.specs.Follow.Lines.{HasFound, last_words, line_of_log, odd_words, reach_words, tag_words, unbroken_words};
+ghost use Rattle.lft_log.specs.{inner.Follow.Lines.HasFound, Follow.Lines.{last_words, line_of_log, odd_words, reach_words, tag_words, unbroken_words}};
 
 use crate::{Final, Told};
 use lft_driver::{accepted_line, broken_line};

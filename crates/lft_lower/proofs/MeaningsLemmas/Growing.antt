@@ -5,7 +5,7 @@ use Rattle.std.specs.List.{All, flat_map}
 use Rattle.std.proofs.lemmas.{Grind.flat_map-append, List.{append-nil, length-take, take-append-le, take_all, Elements.All-more}}
 use Rattle.std.proofs.lemmas.Option.{get_or_from_slice_get, slice_get_within}
 use Rattle.lft_lists.proofs.Picked.{take_next}
-use Rattle.lft_lower.specs.Meanings.Places.{up_to}
+use Rattle.lft_lower.specs.inner.Meanings.Places.{up_to}
 
 -- one more item
 pub one_more : {X : Type 0} (xs : List X) (n : ℕ) (x : X) → slice_get xs n ≡ Some x → take (n + 1) xs ≡ take n xs ++ x ∷ []

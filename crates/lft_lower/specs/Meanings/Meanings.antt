@@ -1,11 +1,11 @@
 -- What references mean in a setting.
-use Rattle.std.specs.Prelude.{◌≡◌, ℕ, true, is_some, List, [], Option, Some, None, flat_map, option_map, slice_get, string_bytes, unwrap_or}
+use Rattle.std.specs.Prelude.{◌≡◌, ℕ, true, is_some, List, Option, Some, None, flat_map, option_map, slice_get, string_bytes, unwrap_or}
 use Rattle.std.specs.Option.{option_and_then}
 use Rattle.lft_tree.specs.Tree.{RefTree}
-use Rattle.lft_whole.specs.{declared.tree.{Member.Member, Reference.Reference}, Sources.Tokens.number_at}
+use Rattle.lft_whole.specs.declared.tree.{Member.Member, Reference.Reference}
 use Rattle.lft_classes.specs.{declared.shapes.{Shape.Shape, Thing.Thing}, Shapes.{child_at, thing_named}}
 use Rattle.lft_elaborate.specs.{declared.settings.Settings.Settings, Names.name_in, Noted.found_inside, Widths.found_width}
-use Rattle.lft_lower.specs.{Meanings.Places.{Several, Sense, Own, Inner, places_of}, declared.meanings.places.Within.Within}
+use Rattle.lft_lower.specs.Meanings.Places.{Several, Sense, Own, Inner, places_of}
 use Rattle.lft_whole.specs.declared.tree.Member.TheVariants as member
 use Rattle.lft_classes.specs.declared.shapes.Thing.TheVariants as things
 
@@ -87,13 +87,3 @@ places_in h r = unwrap_or (option_map (places_of r.is_interleaved) (sense_in h r
 -- the places of references, one after another
 abbrev pub all_places : Here → List Reference → List RefTree
 all_places h rs = flat_map (places_in h) rs
-
--- ---- what the crate has of it
-
--- such a setting, of where references are looked up
-abbrev pub here : Within → Here
-here w = record { settings = w.settings.now; setting = w.setting; shape = w.shape.now }
-
--- the number of a token of the file there among those of all files
-abbrev pub token_in : Within → ℕ → ℕ
-token_in w token = number_at w.files.now (record { file = w.file; token = token })

@@ -4,7 +4,7 @@ ghost use Rattle.std.specs.Prelude.{◌≡◌, ◌≤◌, ◌<◌, ◌++◌, ℕ
 ghost use Rattle.std.specs.BTreeSet.{contains_text};
 ghost use Rattle.lft_tree.specs.Tree.{nanoseconds as nanoseconds_of};
 ghost use Rattle.lft_resolve.specs.Causes.{longest};
-ghost use Rattle.lft_lower.specs.Meanings.Notes.{IsSaid, default_words, differ_words, divide_words, note_begin, stop_words};
+ghost use Rattle.lft_lower.specs.inner.Meanings.Notes.{IsSaid, default_words, differ_words, divide_words, note_begin, stop_words};
 
 use lft_ir::words::push_number;
 use lft_resolve::times::nanoseconds;

@@ -3,11 +3,11 @@
 ghost use Rattle.std.specs.Prelude.{◌≡◌, ◌+◌, ◌*◌, ◌++◌, ◌⊎◌, Bool, Some, IfErr, IfOk, OnOk, is_some, length, option_map, string_bytes, take};
 ghost use Rattle.std.specs.List.{All};
 ghost use Rattle.lft_tree.specs.View.{ref_view, ref_views};
-ghost use Rattle.lft_elaborate.specs.Names.{spelled};
-ghost use Rattle.lft_lower.specs.Meanings.Meanings.{Means, all_places, here, inner_width, member_in, named_in, parameter_in, places_in, port_in, port_sense, sense_in, shape_inside, thing_in, token_in};
-ghost use Rattle.lft_lower.specs.Meanings.Places.{count_of, inner_places, name_at, own_places, places_of, sense, several, up_to, is_wide};
-ghost use Rattle.lft_lower.specs.Meanings.Refused.{IfRefused, IsAt, IsNoPort, IsOfOne, IsOfReference, IsPassed};
-ghost use Rattle.lft_lower.specs.Meanings.Standing.{AddsAt, all_tokens, ref_tokens, tokens_of};
+ghost use Rattle.lft_elaborate.specs.inner.Names.{spelled};
+ghost use Rattle.lft_lower.specs.Meanings.Meanings.{Means, all_places, inner_width, member_in, named_in, parameter_in, places_in, port_in, port_sense, sense_in, shape_inside, thing_in};
+ghost use Rattle.lft_lower.specs.Meanings.{Places.{count_of, inner_places, name_at, own_places, places_of}, Standing.{all_tokens, ref_tokens, tokens_of}};
+ghost use Rattle.lft_lower.specs.inner.Meanings.{Meanings.{here, token_in}, Places.{sense, several, up_to, is_wide}};
+ghost use Rattle.lft_lower.specs.inner.Meanings.{Refused.{IfRefused, IsAt, IsNoPort, IsOfOne, IsOfReference, IsPassed}, Standing.AddsAt};
 ghost use Rattle.lft_classes.specs.declared.shapes.Thing.TheVariants as things;
 
 use crate::meanings::room::Room;

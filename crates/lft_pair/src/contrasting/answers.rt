@@ -3,7 +3,7 @@
 ghost use Rattle.std.specs.Prelude.{◌≡◌, IfOk, length, slice_get, unwrap_or};
 ghost use Rattle.std.specs.{BTreeMap.get, Ordering.nat_cmp};
 ghost use Rattle.lft_pair.specs.Runs.{request_of as the_request_of, last_write as the_last_write, schedulings as the_schedulings, first_request as the_first_request};
-ghost use Rattle.lft_pair.specs.Answered.{writing as the_writing, scheduled as the_scheduled, AreWrites, AreSchedulings};
+ghost use Rattle.lft_pair.specs.inner.Answered.{writing as the_writing, scheduled as the_scheduled, AreWrites, AreSchedulings};
 
 use crate::contrasting::contrasts::{LastWrite, Placed, Scheduling};
 use lft_ir::Name;
@@ -103,7 +103,7 @@ pub(crate) struct Answered<'a> {
 
 impl<'a> Model for Answered<'a> {
     ghost use Rattle.std.specs.Prelude.{List};
-    ghost use Rattle.lft_pair.specs.{declared.contrasting.contrasts.Placed.Placed, Answered.AreAnswers};
+    ghost use Rattle.lft_pair.specs.{declared.contrasting.contrasts.Placed.Placed, inner.Answered.AreAnswers};
 
     ghost Value = { List Placed };
 

@@ -3,8 +3,8 @@
 ghost use Rattle.std.specs.Prelude.{◌≡◌, ◌↔◌, All, Contains, IsTrue, MatchOption, IfOk, slice_get, is_some};
 ghost use Rattle.lft_ir.specs.declared.parts.Name.{Name as TheName, TheVariants.{Port, Action}};
 ghost use Rattle.lft_pair.specs.Runs.{last_write as the_last_write, schedulings as the_schedulings, first_request as the_first_request};
-ghost use Rattle.lft_pair.specs.Contrasts.{value_of as the_value_of, event_of as the_event_of, events};
-ghost use Rattle.lft_pair.specs.Enough.{HaveSameOutcome, TellsOf, TellsStop, IsToldOf, IsOfEffect};
+ghost use Rattle.lft_pair.specs.{Contrasts.{value_of as the_value_of, event_of as the_event_of}, inner.{Contrasts.events, Enough.IsOfEffect}};
+ghost use Rattle.lft_pair.specs.Enough.{HaveSameOutcome, TellsOf, TellsStop, IsToldOf};
 
 use crate::contrasting::answers::{Answered, first_request};
 use crate::contrasting::contrasts::{Contrast, LastWrite, Placed, Scheduling};

@@ -3,7 +3,7 @@
 ghost use Rattle.std.specs.Prelude.{IfOk, OnOk};
 ghost use Rattle.lft_ir.specs.Steps.Fits.{RowsFit};
 ghost use Rattle.lft_model.specs.Breaches.{Legal};
-ghost use Rattle.lft_pair.specs.{Pairs.IsDifference, Contrasts.AreContrasts, Enough.{Adds, GiveOther, TellsAll, TellsAnswers, TellsReads}};
+ghost use Rattle.lft_pair.specs.{Pairs.IsDifference, Contrasts.AreContrasts, inner.Enough.Adds, Enough.{GiveOther, TellsAll, TellsAnswers, TellsReads}};
 
 use crate::contrasting::contrasts::{Contrast, Contrasts};
 use crate::contrasting::counts::{count_before, count_earlier, instance_of};

@@ -4,7 +4,7 @@ ghost use Rattle.std.specs.Prelude.{◌≡◌, IfOk, OnOk};
 ghost use Rattle.lft_ir.specs.Steps.Fits.{RowsFit};
 ghost use Rattle.lft_model.specs.Runs.{reads_at};
 ghost use Rattle.lft_rows.specs.Answers.Answers.{KeepsRows};
-ghost use Rattle.lft_pair.specs.Enough.{Adds, TellsReads};
+ghost use Rattle.lft_pair.specs.{inner.Enough.Adds, Enough.TellsReads};
 ghost use Rattle.lft_races.specs.Runs.{StartsAt};
 
 use crate::contrasting::contrasts::Contrast;

@@ -1,8 +1,8 @@
 //! Limits on how many things a program has.
 
 ghost use Rattle.std.specs.Prelude.{◌≡◌, IfOk};
-ghost use Rattle.lft_resolve.specs.Expansion.{Contents.contained, Paths.{Exists, IsMoreThan}};
-ghost use Rattle.lft_program.specs.Limits.{IsFull, limit_of};
+ghost use Rattle.lft_resolve.specs.{inner.Expansion.Contents.contained, Expansion.Paths.{Exists, IsMoreThan}};
+ghost use Rattle.lft_program.specs.inner.Limits.{IsFull, limit_of};
 
 use lft_resolve::expansion::{Contents, count_instances};
 use lft_tag::{MAX_INSTANCES, MAX_REACTIONS, MAX_THINGS, NoMemory};

@@ -1,9 +1,9 @@
 //! The source and the origin of each port.
 
 ghost use Rattle.std.specs.Prelude.{◌≡◌, ◌≢◌, ℕ, ◌<◌, None, IfSome, IfOk, IfErr, OnOk, length};
-ghost use Rattle.lft_resolve.specs.{Expansion.{Sources.AreInside, Ways.{HaveSites, IsWayBack}}, Causes.{IsFirst, NoneHolds}};
-ghost use Rattle.lft_program.specs.{Linking.{AreLinked, IsLinked, IsTooLong}, Links.{AreLinks, TellsOf, last_causes, number_of}, Nests.IsNest};
-ghost use Rattle.lft_program.specs.Tables.{AreTables, IsLawful};
+ghost use Rattle.lft_resolve.specs.{inner.Expansion.{Sources.AreInside, Ways.{HaveSites, IsWayBack}}, Causes.{IsFirst, NoneHolds}};
+ghost use Rattle.lft_program.specs.inner.{Linking.{AreLinked, IsLinked, IsTooLong}, Links.{AreLinks, TellsOf, last_causes, number_of}, Nests.IsNest};
+ghost use Rattle.lft_program.specs.inner.Tables.{AreTables, IsLawful};
 ghost use Rattle.lft_program.specs.declared.nesting.linking.LinkFault.TheVariants as faults;
 
 use crate::nesting::nest::Nest;

@@ -2,9 +2,9 @@
 
 ghost use Rattle.std.specs.Prelude.{◌≡◌, ◌≤◌, ℕ, List, Err, IfOk, OnOk, length};
 ghost use Rattle.lft_tree.specs.Tree.{FileTree};
-ghost use Rattle.lft_resolve.specs.Expansion.{Contents.{IsWalk, contained}, Numbers.{AreFirst, HasMoreThings, things}, Paths.{Exists, IsMoreThan}};
-ghost use Rattle.lft_resolve.specs.{declared.expansion.walk.Contents.Contents as TheContents, Causes.TooMany};
-ghost use Rattle.lft_program.specs.{Limits.{IsExcess, IsFull, IsPassed, limit_of}, Nests.IsNest, Tables.{AreTables, IsLawful}};
+ghost use Rattle.lft_resolve.specs.inner.Expansion.{Contents.{IsWalk, contained}, Numbers.{AreFirst, HasMoreThings, things}};
+ghost use Rattle.lft_resolve.specs.{Expansion.Paths.{Exists, IsMoreThan}, declared.expansion.walk.Contents.Contents as TheContents, Causes.TooMany};
+ghost use Rattle.lft_program.specs.inner.{Limits.{IsExcess, IsFull, IsPassed, limit_of}, Nests.IsNest, Tables.{AreTables, IsLawful}};
 ghost use Rattle.lft_program.specs.declared.nesting.limits.Excess.{Excess as TheExcess};
 ghost use Rattle.lft_program.specs.declared.nesting.nest.NestFault;
 

@@ -3,7 +3,7 @@
 ghost use Rattle.std.specs.Prelude.{◌≤◌, length, IfOk};
 ghost use Rattle.std.specs.List.{AllZip};
 ghost use Rattle.lft_tree.specs.Tree.{FileTree, actions_of, ports_of, reactions_of, timers_of};
-ghost use Rattle.lft_program.specs.{Located.declared, Nests.{IsNest, IsThingOf}, declared.nesting.tables.Tables.Tables};
+ghost use Rattle.lft_program.specs.{Located.declared, inner.Nests.{IsNest, IsThingOf}, declared.nesting.tables.Tables.Tables};
 
 use crate::nesting::nest::Nest;
 use lft_resolve::expansion::{Thing, list_things};

@@ -9,8 +9,8 @@ use Rattle.lft_ir.specs.declared.parts.{Name.{Name, TheVariants.{Port, Action}},
 use Rattle.lft_ir.proofs.Origins.{origin_unique, port_of}
 use Rattle.lft_model.{specs.Plans.PlanParts, proofs.Steps.both_true}
 use Rattle.lft_queue.proofs.Marking.{of_reads}
-use Rattle.lft_queue.specs.Coming.AtOnce.{is_undelayed, origin_of, HasEvents, IsAwaited, HaveGrown}
-use Rattle.lft_queue.specs.Coming.{Listeners.{list_of, heard_at, BothGrow, IsListed, AreListeners}, Listens.Listens}
+use Rattle.lft_queue.specs.inner.Coming.AtOnce.{is_undelayed, origin_of, HasEvents, IsAwaited, HaveGrown}
+use Rattle.lft_queue.specs.inner.Coming.{Listeners.{list_of, heard_at, BothGrow, IsListed, AreListeners}, Listens.Listens}
 use Rattle.lft_queue.specs.declared.coming.listeners.Listeners.{Listeners}
 
 -- what the test asks of a port

@@ -4,7 +4,7 @@ use Rattle.std.{specs.List.cons_option, proofs.lemmas.List.append-nil}
 use Rattle.lft_tag.specs.{declared.Tag.Tag, Shifts.shifted}
 use Rattle.lft_lists.proofs.Picked.{kept_more}
 use Rattle.lft_ir.specs.{Parts.Parts, declared.parts.{Port.Port as PortOf, Value.Value, Name.{Name, TheVariants.Port}}}
-use Rattle.lft_queue.specs.{Pending.same_key, Coming.{Coming.put_at, Channels.{is_behind, arrives_at, arrival}}}
+use Rattle.lft_queue.specs.{Pending.same_key, inner.Coming.{Coming.put_at, Channels.{is_behind, arrives_at, arrival}}}
 
 module _ (program : Parts) (o : ℕ) (g : Tag) (v : Value) (targets : List ℕ) (i p : ℕ) (is : slice_get targets i ≡ Some p) (h : Tag) (n : Name) (old mid new : List Value) (so_far : mid ≡ old ++ filter_map (arrival program o g v h n) (take i targets)) where
   -- the values so far with that of one more port

@@ -13,9 +13,9 @@ use Rattle.lft_ir.proofs.{Origins.{origin_unique, port_of}, Naming.name_same}
 use Rattle.lft_model.specs.Presence.{value_written, written}
 use Rattle.lft_model.proofs.{Ended.{written_by, by_written}, Places.slice_get_within, Steps.{both_true, written_some, some_written}}
 use Rattle.lft_queue.specs.Pending.{value_of}
-use Rattle.lft_queue.specs.Coming.AtOnce.{is_undelayed, origin_of, Passes}
-use Rattle.lft_queue.specs.Coming.Channels.{is_behind, arrives_at, arrival, AreChannelsTo, carried_to, carried_by, IsCarried, IsUncarried, AreCarried}
-use Rattle.lft_queue.specs.Coming.{Coming.to_come, Lanes.{held, carried}, Shown.last_write, Writes.value_at}
+use Rattle.lft_queue.specs.inner.Coming.AtOnce.{is_undelayed, origin_of, Passes}
+use Rattle.lft_queue.specs.inner.Coming.Channels.{is_behind, arrives_at, arrival, AreChannelsTo, carried_to, carried_by, IsCarried, IsUncarried, AreCarried}
+use Rattle.lft_queue.specs.inner.Coming.{Coming.to_come, Lanes.{held, carried}, Shown.last_write, Writes.value_at}
 use Rattle.lft_queue.specs.declared.coming.{coming.Coming.Coming, writes.Written.Written}
 use Rattle.lft_queue.proofs.ComingLemmas.{AtOnce.{test_of, origin_is, port_behind, delayed_way}, ToCome.few_of}
 

@@ -4,9 +4,9 @@ use Rattle.std.proofs.lemmas.Option.{none-some}
 use Rattle.lft_lists.proofs.Places.{get_write_cases, length_written}
 use Rattle.lft_ir.specs.{Parts.Parts, declared.steps.row.Row.Row}
 use Rattle.lft_tag.{specs.{declared.Tag.Tag, Tags.{UpTo, after}}, proofs.Order.{UpTo-Before, after_past}}
-use Rattle.lft_queue.specs.Reading.{is_read}
-use Rattle.lft_queue.specs.Coming.{AtOnce.origin_of, Channels.{AreCarried, AreCarriedClear}, Coming.{IsClear, IsNoLater}}
-use Rattle.lft_queue.specs.Coming.Writes.{AreWrites, AreEarlier, AreFewer}
+use Rattle.lft_queue.specs.inner.Reading.{is_read}
+use Rattle.lft_queue.specs.inner.Coming.{AtOnce.origin_of, Channels.{AreCarried, AreCarriedClear}, Coming.{IsClear, IsNoLater}}
+use Rattle.lft_queue.specs.inner.Coming.Writes.{AreWrites, AreEarlier, AreFewer}
 use Rattle.lft_queue.specs.declared.coming.{coming.Coming.Coming, writes.Written.Written}
 
 -- a tag up to a clear one is clear

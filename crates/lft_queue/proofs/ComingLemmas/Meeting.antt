@@ -8,8 +8,8 @@ use Rattle.lft_ir.specs.Parts.{Parts}
 use Rattle.lft_ir.specs.declared.{parts.{Port.Port as PortOf, Value.Value, Name.TheVariants.Port}, steps.row.{Row.Row, Step.{Step, TheVariants.Write}}}
 use Rattle.lft_ir.specs.Steps.Fits.{StepFits, RowsFit}
 use Rattle.lft_model.{specs.Presence.value_written, proofs.{Places.slice_get_within, Steps.some_written}}
-use Rattle.lft_queue.specs.Reading.{is_read}
-use Rattle.lft_queue.specs.Coming.{AtTag.{AreBefore, AreAt}, Unread.{GoesAsFar, UnreadParts, AreSoonest, IsWrittenAt, IsLastTag, AreUnread, IsFree, AreFree}}
+use Rattle.lft_queue.specs.inner.{Reading.is_read, Coming.Unread.{GoesAsFar, UnreadParts, AreSoonest, IsWrittenAt, IsLastTag, AreUnread, IsFree, AreFree}}
+use Rattle.lft_queue.specs.Coming.AtTag.{AreBefore, AreAt}
 use Rattle.lft_queue.proofs.{Tests.together, ComingLemmas.Ways.{moved_up, far_trans}}
 
 -- how soon a write arrives, port by port

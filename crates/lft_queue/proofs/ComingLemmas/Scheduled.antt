@@ -3,7 +3,7 @@ use Rattle.std.proofs.Common.{◌≡◌, ℕ, ◌+◌, List, [], ◌∷◌, ◌+
 use Rattle.std.proofs.lemmas.List.Elements.{filter_map-append}
 use Rattle.lft_tag.{specs.{declared.Tag.Tag, Tags.{UpTo, same_tag, after}}, proofs.Order.{after_past, UpTo-Before}}
 use Rattle.lft_lists.proofs.{Members.{mem_get, get_mem, mem_from_filter, none_nil}, Picked.take_next}
-use Rattle.lft_queue.{proofs.Tests.tag_apart, specs.Coming.{Coming.scheduled_by, Lanes.{held, at_tag, coming, made}, AtTag.AreAt}}
+use Rattle.lft_queue.{proofs.Tests.tag_apart, specs.{inner.Coming.{Coming.scheduled_by, Lanes.{held, at_tag, coming, made}}, Coming.AtTag.AreAt}}
 use Rattle.lft_ir.specs.declared.{parts.{Value.Value, Name.{Name, TheVariants.{Port, Action}}}, steps.row.Row.Row}
 use Rattle.lft_model.specs.{Plans.PlanParts, Presence.{value_scheduled, min_delay}}
 

@@ -12,7 +12,8 @@ use Rattle.lft_ir.specs.{declared.{parts.{Value.Value, Name.{Name, TheVariants.{
 use Rattle.lft_ir.specs.Steps.Inputs.{InOrder}
 use Rattle.lft_model.{specs.Presence.given, proofs.{Steps.both_true, Places.slice_get_within}}
 use Rattle.lft_queue.specs.{Pending.{Pending, value_of, same_key, is_after, Becomes}, declared.coming.{coming.Coming.Coming, listeners.Listeners.Listeners}}
-use Rattle.lft_queue.specs.Coming.{Coming.{given_from, to_come, put_at, AreBrought, AreTaken, IsClear, ArePassed, IsReached, AreOver}, Listeners.IsUnheard}
+use Rattle.lft_queue.specs.inner.Coming.Coming.{given_from, to_come, put_at, AreBrought, AreTaken, IsClear, ArePassed, IsReached, AreOver}
+use Rattle.lft_queue.specs.inner.Coming.Listeners.{IsUnheard}
 use Rattle.lft_queue.proofs.{Dropping.later_value, Tests.{not_before, tag_apart}}
 
 -- an event of the queue is one at its tag

@@ -1,7 +1,7 @@
 -- Ways, and where they lead from a tag.
 use Rattle.std.proofs.Common.{◌≡◌, ℕ, zero, suc, ◌<◌, ◌≤◌, ◌⊎◌, inl, inr, refl, ◌∙◌, arith}
 use Rattle.lft_tag.specs.{declared.{Tag.Tag, Shift.Shift}, Tags.UpTo, Shifts.moved}
-use Rattle.lft_queue.specs.Coming.Unread.{GoesAsFar}
+use Rattle.lft_queue.specs.inner.Coming.Unread.{GoesAsFar}
 
 pub moved_up : (g : Tag) (a b c d : ℕ) → (a < c) ⊎ ((a ≡ c) × (b ≤ d)) → UpTo (moved g a b) (moved g c d)
 moved_up g zero b zero d (inl l) = absurd (omega arith)

@@ -6,7 +6,7 @@ use Rattle.lft_tag.proofs.Order.{Before-irrefl, Before-weaken, Before-UpTo, UpTo
 use Rattle.lft_lists.proofs.{Members.{last-append_nil, last-append_some}, Places.{get_write_cases, length_written}}
 use Rattle.lft_ir.specs.{Parts.Parts, declared.{parts.{Value.Value, Name.TheVariants.Port}, steps.row.{Row.Row, Step.{Step, TheVariants.Write}}}}
 use Rattle.lft_model.{specs.Presence.{value_written, written}, proofs.Ended.by_written}
-use Rattle.lft_queue.specs.{declared.coming.writes.Written.Written, Coming.Writes.{value_at, AreWrites, AreEarlier}}
+use Rattle.lft_queue.specs.{declared.coming.writes.Written.Written, inner.Coming.Writes.{value_at, AreWrites, AreEarlier}}
 
 -- what is of earlier tags than one is so of a later one, and says nothing of its rows
 pub earlier_on : (program : Parts) (g h : Tag) (writes : List (Option Written)) → UpTo g h → AreEarlier program g writes → AreEarlier program h writes

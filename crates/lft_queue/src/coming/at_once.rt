@@ -1,7 +1,7 @@
 //! Ports that are reached without a delay.
 
 ghost use Rattle.std.specs.Prelude.{◌≡◌, ◌<◌, length};
-ghost use Rattle.lft_queue.specs.Coming.AtOnce.{is_undelayed as is_reached};
+ghost use Rattle.lft_queue.specs.inner.Coming.AtOnce.{is_undelayed as is_reached};
 
 use lft_ir::Program;
 

@@ -4,10 +4,11 @@ ghost use Rattle.std.specs.Prelude.{◌≡◌, ◌≢◌, ◌+◌, ◌<◌, ◌+
 ghost use Rattle.lft_tag.specs.{declared.Tag.Tag as TheTag, Tags.{IsRecorded, Before, UpTo, after}};
 ghost use Rattle.lft_ir.specs.declared.{parts.Name.Name as TheName, steps.{externals.Event.Event as TheEvent, row.Row.Row as TheRow}};
 ghost use Rattle.lft_ir.specs.Steps.Fits.{RowFits, RowsFit};
-ghost use Rattle.lft_queue.specs.Coming.Channels.{is_behind as lies_behind, arrival, AreChannelsTo, AreReadChannels, AreCarried, carried_by};
-ghost use Rattle.lft_queue.specs.Coming.{AtOnce.{IsAwaited, is_undelayed as is_reached}, Coming.{to_come, IsClear, IsNoLater}, Lanes.held, AtTag.AreAt};
-ghost use Rattle.lft_queue.specs.Coming.Writes.{AreWrites, AreEarlier, AreFewer};
-ghost use Rattle.lft_queue.specs.{Reading.is_read, declared.coming.coming.Coming.Coming as TheComing};
+ghost use Rattle.lft_queue.specs.inner.Coming.Channels.{is_behind as lies_behind, arrival, AreChannelsTo, AreReadChannels, AreCarried, carried_by};
+ghost use Rattle.lft_queue.specs.inner.Coming.{AtOnce.{IsAwaited, is_undelayed as is_reached}, Coming.{to_come, IsClear, IsNoLater}, Lanes.held};
+ghost use Rattle.lft_queue.specs.inner.Coming.Writes.{AreWrites, AreEarlier, AreFewer};
+ghost use Rattle.lft_queue.specs.inner.Reading.{is_read};
+ghost use Rattle.lft_queue.specs.{Coming.AtTag.AreAt, declared.coming.coming.Coming.Coming as TheComing};
 
 use crate::coming::at_once::is_undelayed;
 use crate::coming::coming::Coming;

@@ -4,8 +4,8 @@ ghost use Rattle.std.specs.Prelude.{◌≡◌, ◌↔◌, ◌⊎◌, ◌++◌, [
 ghost use Rattle.lft_tag.specs.{declared.Tag.Tag as TheTag, Tags.{Before, UpTo}};
 ghost use Rattle.lft_ir.specs.declared.{parts.Name.Name as TheName, steps.externals.Event.Event as TheEvent};
 ghost use Rattle.lft_queue.specs.Pending.{value_of, Becomes};
-ghost use Rattle.lft_queue.specs.Coming.Coming.{put_at, to_come, AreBrought, AreTaken, ArePassed, IsReached, AreOver, IsClear, IsNoLater};
-ghost use Rattle.lft_queue.specs.Coming.Listeners.{IsUnheard};
+ghost use Rattle.lft_queue.specs.inner.Coming.Coming.{put_at, to_come, AreBrought, AreTaken, ArePassed, IsReached, AreOver, IsClear, IsNoLater};
+ghost use Rattle.lft_queue.specs.inner.Coming.Listeners.{IsUnheard};
 
 use crate::coming::listeners::Listeners;
 use crate::{NamesAt, Queue, QueueFault};

@@ -2,7 +2,8 @@
 
 ghost use Rattle.std.specs.Prelude.{◌≡◌, ℕ, List, ◌<◌, length, Some, None, IfSome, IfNone, IfOk, OnOk, IsTrue, Contains, slice_get};
 ghost use Rattle.lft_ir.specs.{Sound.IsNameOf, declared.parts.Name.Name as TheName};
-ghost use Rattle.lft_queue.specs.Coming.{AtOnce.is_undelayed, Listeners.{list_of, heard_at as is_heard_at, IsIn, BothGrow, IsListed, IsUnheard, AreListeners}};
+ghost use Rattle.lft_queue.specs.inner.Coming.AtOnce.{is_undelayed};
+ghost use Rattle.lft_queue.specs.inner.Coming.Listeners.{list_of, heard_at as is_heard_at, IsIn, BothGrow, IsListed, IsUnheard, AreListeners};
 
 use crate::coming::at_once::is_undelayed;
 use crate::coming::number_lists::NumberLists;

@@ -3,8 +3,9 @@
 ghost use Rattle.std.specs.Prelude.{◌≡◌, ◌++◌, [], ◌∷◌, List, IsTrue};
 ghost use Rattle.lft_tag.specs.{declared.Tag.Tag as TheTag, Tags.{Before, UpTo, after}};
 ghost use Rattle.lft_ir.specs.{declared.{parts.Name.Name as TheName, steps.externals.Event.Event as TheEvent}, Steps.Fits.{RowFits, RowsFit}};
-ghost use Rattle.lft_queue.specs.Coming.{Channels.{AreReadChannels, caused_by}, AtOnce.IsAwaited, Coming.{to_come, scheduled_by, IsClear, IsNoLater}};
-ghost use Rattle.lft_queue.specs.Coming.{Lanes.held, AtTag.AreAt, Writes.{AreWrites, AreEarlier}};
+ghost use Rattle.lft_queue.specs.inner.Coming.{Channels.{AreReadChannels, caused_by}, AtOnce.IsAwaited, Coming.{to_come, scheduled_by, IsClear, IsNoLater}};
+ghost use Rattle.lft_queue.specs.inner.Coming.{Lanes.held, Writes.{AreWrites, AreEarlier}};
+ghost use Rattle.lft_queue.specs.Coming.AtTag.{AreAt};
 
 use crate::coming::channels::{Channels, carry_all};
 use crate::coming::coming::Coming;

@@ -5,7 +5,8 @@ ghost use Rattle.lft_tag.specs.{declared.{Tag.Tag as TheTag, Shift.Shift as TheS
 ghost use Rattle.lft_ir.specs.declared.parts.{Name.TheVariants.Port as PortName, Value.Value as TheValue};
 ghost use Rattle.lft_ir.specs.declared.steps.row.{Row.Row as TheRow, Step.TheVariants.Write};
 ghost use Rattle.lft_ir.specs.Steps.Fits.{RowFits, RowsFit};
-ghost use Rattle.lft_queue.specs.Coming.{AtTag.{AreBefore, AreAt}, Coming.IsClear, Unread.{GoesAsFar, AreSoonest, IsWrittenAt, AreUnread, IsFree, AreFree}};
+ghost use Rattle.lft_queue.specs.Coming.AtTag.{AreBefore, AreAt};
+ghost use Rattle.lft_queue.specs.inner.Coming.{Coming.IsClear, Unread.{GoesAsFar, AreSoonest, IsWrittenAt, AreUnread, IsFree, AreFree}};
 
 use crate::coming::coming::earlier_of;
 use crate::coming::writes::written_port;
@@ -32,7 +33,7 @@ pub struct Unread {
 }
 
 impl Model for Unread {
-    ghost use Rattle.lft_queue.specs.Coming.Unread.{UnreadParts};
+    ghost use Rattle.lft_queue.specs.inner.Coming.Unread.{UnreadParts};
 
     ghost Value = { UnreadParts };
 

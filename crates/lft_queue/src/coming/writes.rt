@@ -4,7 +4,8 @@ ghost use Rattle.std.specs.Prelude.{◌≡◌, ℕ, List, Option, [], ◌∷◌,
 ghost use Rattle.lft_tag.specs.declared.Tag.{Tag as TheTag};
 ghost use Rattle.lft_ir.specs.{declared.{parts.Name.TheVariants.Port, steps.row.{Step.TheVariants.Write, Row.Row as TheRow}}, Steps.Fits.{RowFits, RowsFit}};
 ghost use Rattle.lft_model.specs.Presence.{value_written};
-ghost use Rattle.lft_queue.specs.{Coming.{AtTag.AreAt, Writes.{value_at, AreWrites, AreEarlier}}, declared.coming.writes.Written.Written as TheWritten};
+ghost use Rattle.lft_queue.specs.{Coming.AtTag.AreAt, inner.Coming.Writes.{value_at, AreWrites, AreEarlier}};
+ghost use Rattle.lft_queue.specs.declared.coming.writes.Written.{Written as TheWritten};
 
 use lft_ir::steps::{Row, Step, row_at};
 use lft_ir::{Name, Program, Value};

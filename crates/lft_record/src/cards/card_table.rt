@@ -4,7 +4,7 @@ ghost use Rattle.std.specs.Prelude.{◌≡◌, ◌≢◌, ◌↔◌, ◌<◌, �
 ghost use Rattle.csv.specs.Records.{fields_of};
 ghost use Rattle.lft_trace.specs.Records.{records_of};
 ghost use Rattle.lft_record.specs.{CardTables.{CardTable, CardsFail, FaultAt, IsCard, IsContent, header}, CardFaults.is_told};
-ghost use Rattle.lft_record.specs.{Seen.{FieldFault, IsCardOf, card_fields}, declared.cards.{card.Card.Card as TheCard, Script.Script}};
+ghost use Rattle.lft_record.specs.{inner.Seen.{FieldFault, IsCardOf, card_fields}, declared.cards.{card.Card.Card as TheCard, Script.Script}};
 
 use crate::cards::Cards;
 use crate::cards::card::{Card, CardEntry, CardStep, CardValue};

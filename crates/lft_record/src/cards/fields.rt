@@ -2,7 +2,7 @@
 
 ghost use Rattle.std.specs.Prelude.{◌≡◌, ◌≢◌, ◌↔◌, IfSome, IfNone, IsTrue, length};
 ghost use Rattle.csv.specs.Records.{fields_of};
-ghost use Rattle.lft_record.specs.{CardTables.{header, in_order, is_filled}, Seen.card_fields};
+ghost use Rattle.lft_record.specs.{CardTables.{header, in_order, is_filled}, inner.Seen.card_fields};
 
 use crate::cards::kind::CardKind;
 use csv::ByteRecord;

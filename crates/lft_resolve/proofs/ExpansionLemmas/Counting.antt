@@ -2,7 +2,8 @@
 use Rattle.std.proofs.Common.{◌≡◌, ℕ, zero, suc, ◌+◌, ◌≤◌, ◌<◌, ◌⊎◌, inl, inr, List, [], ◌∷◌, ◌++◌, Option, Some, None, get_or, length, map, slice_get, length-append, refl, sym, ap, subst, ◌∙◌, arith}
 use Rattle.std.{specs.Option.option_and_then, proofs.lemmas.{Bool.cases_lt, List.length-map}}
 use Rattle.lft_lists.proofs.Members.{Mem, mem_cases, mem_from_map, mem_get}
-use Rattle.lft_resolve.specs.{Expansion.{Contents.contained, Paths.{along, Before, Exists, IsMoreThan}}, declared.expansion.walk.Contents.Contents}
+use Rattle.lft_resolve.specs.{inner.Expansion.Contents.contained, Expansion.Paths.{along, Before, Exists, IsMoreThan}}
+use Rattle.lft_resolve.specs.declared.expansion.walk.Contents.{Contents}
 use Rattle.lft_resolve.proofs.ExpansionLemmas.{Orders.before_itself, Pairs.{Pairs, pairs_append, pairs_at}}
 
 -- what a reactor contains

@@ -4,8 +4,9 @@ use Rattle.std.specs.{List.enumerate_from, Option.{option_map_or, option_map, op
 use Rattle.std.proofs.lemmas.{Bool.{cases_lt, Decides.eqb_tells}, Option.slice_get_within, List.{length-map, FromFn.length-enumerate_from}}
 use Rattle.lft_lists.proofs.{Mapped.{mapped, enumerate_at}, Places.{get_there, get_written, get_unwritten, length_written, get_push_cases, same_some}}
 use Rattle.lft_resolve.specs.declared.expansion.{walk.{Contents.Contents, Instance.Instance}, settings.{Given.Given, Parameters.Parameters}}
-use Rattle.lft_resolve.specs.Expansion.{Paths.along, Contents.{contained, IsAt}}
-use Rattle.lft_resolve.specs.Expansion.Values.{clock_in, value_in, values_in, defaults_of, given_by, entered, HaveValues, LeadToValues}
+use Rattle.lft_resolve.specs.Expansion.Paths.{along}
+use Rattle.lft_resolve.specs.inner.Expansion.Contents.{contained, IsAt}
+use Rattle.lft_resolve.specs.inner.Expansion.Values.{clock_in, value_in, values_in, defaults_of, given_by, entered, HaveValues, LeadToValues}
 use Rattle.lft_resolve.proofs.ExpansionLemmas.Orders.{along_at, along_kid}
 
 -- each parameter has its value

@@ -2,7 +2,7 @@
 use Rattle.std.proofs.Common.{◌≡◌, ℕ, zero, suc, ◌+◌, ◌<◌, ◌≤◌, inl, inr, List, [], ◌∷◌, ◌++◌, refl, sym, ap, ◌∙◌, arith, Option, Some, None, sum}
 use Rattle.std.{specs.Option.MatchOption, proofs.lemmas.{Bool.cases_lt, List.Sums.sum_by-cons}}
 use Rattle.lft_tag.specs.{Shifts.{join, join_all, none, HasRoom, Folded}, declared.Shift.Shift}
-use Rattle.lft_resolve.specs.Expansion.Sources.{IsFolded}
+use Rattle.lft_resolve.specs.inner.Expansion.Sources.{IsFolded}
 
 pub join_push : (x : Folded) (ds : List ℕ) (d : ℕ) → join_all x (ds ++ d ∷ []) ≡ join (join_all x ds) d
 join_push x [] d = refl

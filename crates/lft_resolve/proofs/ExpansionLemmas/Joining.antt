@@ -4,8 +4,8 @@ use Rattle.std.{specs.Option.{option_map, option_and_then}, proofs.lemmas.{Bool.
 use Rattle.lft_lists.proofs.Places.{get_there, get_written, get_unwritten, get_write_cases, length_written, same_some}
 use Rattle.lft_resolve.specs.declared.expansion.walk.Instance.{Instance}
 use Rattle.lft_resolve.specs.declared.expansion.joins.{End.{End, TheVariants.{Own, Inner}}, Join.Join, Connections.Connections, Site.Site}
-use Rattle.lft_resolve.specs.Expansion.{Numbers.{things, AreFirst}, Values.clock_in, Sources.AreInside}
-use Rattle.lft_resolve.specs.Expansion.Joins.{port_at, port_of, Declares, IsAt, IsPort, joins_of, HasJoin, JoinPorts, LeadApart, Joins, AreSites, AreSources}
+use Rattle.lft_resolve.specs.inner.Expansion.{Numbers.{things, AreFirst}, Values.clock_in, Sources.AreInside}
+use Rattle.lft_resolve.specs.inner.Expansion.Joins.{port_at, port_of, Declares, IsAt, IsPort, joins_of, HasJoin, JoinPorts, LeadApart, Joins, AreSites, AreSources}
 use Rattle.lft_resolve.proofs.ExpansionLemmas.Things.{things_more, things_some}
 use Rattle.lft_tag.specs.declared.Source.{Source}
 

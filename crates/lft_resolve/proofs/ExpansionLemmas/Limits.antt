@@ -1,7 +1,7 @@
 -- Paths that exist are no more than those in the list of the instances.
 use Rattle.std.proofs.Common.{◌≡◌, ℕ, suc, ◌≤◌, inl, inr, List, [], ◌∷◌, length, refl, sym, ap, ◌∙◌, arith, Option, Some, slice_get}
 use Rattle.lft_lists.proofs.Members.{Mem, mem_get, get_mem}
-use Rattle.lft_resolve.specs.Expansion.{Paths.{Exists, IsPreOrder, IsMoreThan}, Contents.{contained, IsWalk}}
+use Rattle.lft_resolve.specs.{Expansion.Paths.{Exists, IsPreOrder, IsMoreThan}, inner.Expansion.Contents.{contained, IsWalk}}
 use Rattle.lft_resolve.specs.declared.expansion.walk.{Contents.Contents, Instance.Instance}
 
 -- x taken out of ys

@@ -2,7 +2,8 @@
 use Rattle.std.proofs.Common.{◌≡◌, ℕ, ◌+◌, ◌<◌, ◌≤◌, ◌⊎◌, inl, inr, List, [], ◌∷◌, ◌++◌, length, sym, ap, ◌∙◌, subst, arith, Some, slice_get, take, length-append}
 use Rattle.std.proofs.lemmas.{Bool.cases_lt, Option.slice_get_within}
 use Rattle.lft_lists.proofs.Places.{get_push, get_last}
-use Rattle.lft_resolve.specs.{declared.expansion.{walk.Instance.Instance, numbering.Thing.Thing}, Expansion.{Numbers.{count_of, things}, Listing.AreListed}}
+use Rattle.lft_resolve.specs.declared.expansion.{walk.Instance.Instance, numbering.Thing.Thing}
+use Rattle.lft_resolve.specs.inner.Expansion.{Numbers.{count_of, things}, Listing.AreListed}
 use Rattle.lft_resolve.proofs.ExpansionLemmas.{Things.{things_more, things_all}, Joining.Earlier}
 
 pub record Listing (counts : List ℕ) (instances : List Instance) (number place : ℕ) (all : List Thing) : Type 0 where

@@ -2,7 +2,7 @@
 use Rattle.std.proofs.Common.{◌≡◌, ℕ, List, [], ◌∷◌, Some, None, refl}
 use Rattle.lft_resolve.specs.declared.expansion.{walk.Instance.Instance, settings.{Clock.TheVariants.{Fixed, Parameter}, Given.Given}}
 use Rattle.lft_resolve.specs.declared.expansion.joins.End.TheVariants.{Own, Inner}
-use Rattle.lft_resolve.specs.Expansion.{Numbers.{count_of, things}, Children.child_of, Values.{clock_in, values_in}, Joins.{port_of, joins_of}}
+use Rattle.lft_resolve.specs.inner.Expansion.{Numbers.{count_of, things}, Children.child_of, Values.{clock_in, values_in}, Joins.{port_of, joins_of}}
 
 abbrev of_reactor : ℕ → Instance
 of_reactor r = record { reactor = r; parent = 0; place = 0 }

@@ -3,7 +3,7 @@ use Rattle.std.proofs.Common.{◌≡◌, ◌≢◌, ℕ, ◌+◌, ◌<◌, ◌�
 use Rattle.std.proofs.lemmas.Option.{slice_get_within}
 use Rattle.lft_resolve.proofs.ExpansionLemmas.Settling.{leads_on}
 use Rattle.lft_resolve.specs.declared.expansion.origins.{Reached.Reached, Mark.{Mark, TheVariants.{New, Done}}}
-use Rattle.lft_resolve.specs.Expansion.{Sources.{Origin, itself, over, Leads, one, more, AreReached}, Marks.{IsSettled, NoneOpen}}
+use Rattle.lft_resolve.specs.inner.Expansion.{Sources.{Origin, itself, over, Leads, one, more, AreReached}, Marks.{IsSettled, NoneOpen}}
 use Rattle.lft_lists.proofs.Places.{get_there}
 use Rattle.lft_tag.specs.declared.Source.{Source}
 

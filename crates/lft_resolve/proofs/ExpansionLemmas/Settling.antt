@@ -4,7 +4,8 @@ use Rattle.std.proofs.lemmas.Option.{slice_get_within}
 use Rattle.lft_lists.proofs.{Places.{get_written, get_unwritten, get_write_cases, length_written}, Members.{Mem, mem_left, mem_right, mem_cases}}
 use Rattle.lft_tag.specs.{Shifts.none, declared.Source.Source}
 use Rattle.lft_resolve.specs.declared.expansion.origins.{Reached.Reached, Mark.{Mark, TheVariants.{New, Open, Done}}, Next.TheVariants.{Known, Cycle, First}}
-use Rattle.lft_resolve.specs.Expansion.{Sources.{Leads, one, more, IsReached}, Marks.{IsSettled, IsNext, NoneOpen, KeepsLooked, tally, done_weight, steps_of}}
+use Rattle.lft_resolve.specs.inner.Expansion.Sources.{Leads, one, more, IsReached}
+use Rattle.lft_resolve.specs.inner.Expansion.Marks.{IsSettled, IsNext, NoneOpen, KeepsLooked, tally, done_weight, steps_of}
 use Rattle.lft_resolve.proofs.ExpansionLemmas.Pairs.{Pairs, pairs_append}
 
 -- with this weight, the ports not looked at are counted

@@ -2,8 +2,8 @@
 use Rattle.std.proofs.Common.{◌≡◌, ◌≢◌, ℕ, zero, suc, ◌+◌, ◌<◌, ◌≤◌, ◌⊎◌, inl, inr, List, [], ◌∷◌, ◌++◌, length, refl, sym, ap, ◌∙◌, subst, arith, Option, Some, None, slice_get, slice_set, length-append, map}
 use Rattle.std.{specs.Option.option_and_then, proofs.lemmas.{Bool.{cases_lt, cases_eq}, Option.slice_get_within}}
 use Rattle.lft_lists.proofs.Places.{get_there, get_written, get_unwritten, get_write_cases, length_written, get_push, get_last, get_push_cases, push_apart, same_some}
-use Rattle.lft_resolve.specs.declared.expansion.walk.{Contents.Contents, Instance.Instance}
-use Rattle.lft_resolve.specs.Expansion.{Paths.{along, Before}, Contents.{contained, IsWalk}, Children.{IsChild, AreChildren, child_of}}
+use Rattle.lft_resolve.specs.{declared.expansion.walk.{Contents.Contents, Instance.Instance}, Expansion.Paths.{along, Before}}
+use Rattle.lft_resolve.specs.inner.Expansion.{Contents.{contained, IsWalk}, Children.{IsChild, AreChildren, child_of}}
 use Rattle.lft_resolve.proofs.ExpansionLemmas.{Orders.{before_itself, apart_before, apart_kids, along_at, along_kid}, Walks.{count, has_kids}}
 use Rattle.lft_resolve.proofs.ExpansionLemmas.Unique.{before_both}
 

@@ -2,8 +2,8 @@
 use Rattle.std.proofs.Common.{◌≡◌, ℕ, zero, suc, ◌+◌, ◌<◌, ◌≤◌, ◌⊎◌, inl, inr, List, [], ◌∷◌, ◌++◌, length, refl, sym, ap, ◌∙◌, subst, arith, Some, slice_get, take, length-append, add-one}
 use Rattle.std.proofs.lemmas.{Bool.cases_lt, Option.slice_get_within}
 use Rattle.lft_lists.proofs.{Places.{get_there, get_push_cases}, Members.{Mem, mem_get, get_mem, mem_left, mem_right, mem_cases}}
-use Rattle.lft_resolve.specs.declared.expansion.walk.{Contents.Contents, Instance.Instance}
-use Rattle.lft_resolve.specs.Expansion.{Paths.{Before, IsMoreThan}, Contents.IsWalk, Numbers.{count_of, things, IsThing}}
+use Rattle.lft_resolve.specs.{declared.expansion.walk.{Contents.Contents, Instance.Instance}, Expansion.Paths.{Before, IsMoreThan}}
+use Rattle.lft_resolve.specs.inner.Expansion.{Contents.IsWalk, Numbers.{count_of, things, IsThing}}
 use Rattle.lft_resolve.proofs.ExpansionLemmas.{Orders.before_itself, Limits.no_longer, Unique.pairs_from, Pairs.{Pairs, pairs_append, pairs_at}}
 
 -- one instance more

@@ -2,8 +2,8 @@
 use Rattle.std.proofs.Common.{◌≡◌, ℕ, zero, suc, ◌+◌, ◌-◌, ◌<◌, ◌≤◌, ◌⊎◌, inl, inr, List, [], ◌∷◌, ◌++◌, length, refl, sym, ap, ◌∙◌, subst, arith, Option, Some, None, slice_get, append_assoc, length-append, add-one, append-nil}
 use Rattle.std.{specs.Option.option_and_then, proofs.lemmas.{Bool.cases_lt, Option.slice_get_within}}
 use Rattle.lft_lists.proofs.{Places.{get_there, get_push, get_last, get_push_cases}, Members.{Mem, mem_get, mem_left, mem_right, mem_cases}}
-use Rattle.lft_resolve.specs.declared.expansion.walk.{Contents.Contents, Instance.Instance, Frame.Frame}
-use Rattle.lft_resolve.specs.Expansion.{Paths.{along, Before, Exists, IsMoreThan}, Contents.{contained, IsAt, IsWalk}}
+use Rattle.lft_resolve.specs.{declared.expansion.walk.{Contents.Contents, Instance.Instance, Frame.Frame}, Expansion.Paths.{along, Before, Exists, IsMoreThan}}
+use Rattle.lft_resolve.specs.inner.Expansion.Contents.{contained, IsAt, IsWalk}
 use Rattle.lft_resolve.proofs.ExpansionLemmas.Orders.{Halfway, HasKids, kids, halfway_start, halfway_turn, halfway_end, before_itself, along_kid}
 use Rattle.lft_resolve.proofs.ExpansionLemmas.Pairs.{pairs_at}
 

@@ -3,9 +3,10 @@
 ghost use Rattle.std.specs.Prelude.{◌≢◌, List, Any, IfOk, IfErr, IsSomeAnd, map};
 ghost use Rattle.std.specs.List.{AllZip};
 ghost use Rattle.lft_tree.specs.{Tree.{ReactorTree, reactors_of}, View.{reaction_view, reactor_view, ref_views, tree_view, trigger_view}};
-ghost use Rattle.lft_resolve.specs.{Causes.{NoneHolds, UnknownReactor, first_causes, later_causes}, Directories.{HasLost, IsAt, IsLost}};
-ghost use Rattle.lft_resolve.specs.{Kinds.{reaction_refs, ref_in}, References.reactor_trees};
-ghost use Rattle.lft_resolve.specs.{Sheets.{AreCues, AreReactions, IsCue, IsReactions, IsSpot, without_timers}, declared.kinds.Role.TheVariants.{Effect, Read}};
+ghost use Rattle.lft_resolve.specs.Causes.{NoneHolds, UnknownReactor, first_causes, later_causes};
+ghost use Rattle.lft_resolve.specs.inner.{Directories.{HasLost, IsAt, IsLost}, References.reactor_trees};
+ghost use Rattle.lft_resolve.specs.inner.Sheets.{AreCues, AreReactions, IsCue, IsReactions, IsSpot};
+ghost use Rattle.lft_resolve.specs.{Kinds.{reaction_refs, ref_in}, Sheets.without_timers, declared.kinds.Role.TheVariants.{Effect, Read}};
 ghost use Rattle.lft_resolve.specs.declared.fault.ReactorFault.TheVariants as faults;
 
 use crate::by_number::directory::Directory;

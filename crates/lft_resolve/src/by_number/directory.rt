@@ -2,9 +2,10 @@
 
 ghost use Rattle.std.specs.Prelude.{◌≡◌, List, Some, None, IfOk, IsSomeAnd, MatchOption, slice_get};
 ghost use Rattle.lft_tree.specs.{Tree.{InstanceTree, ReactorTree, instances_of}, View.reactor_view};
-ghost use Rattle.lft_resolve.specs.{Causes.UnknownReactor, Directories.{IsAt, IsDirectory, IsNames, inner_ref}, Kinds.inner_kind};
-ghost use Rattle.lft_resolve.specs.{Numbers.{AreContents, IsContents, IsNumberOf}, References.reactor_trees};
-ghost use Rattle.lft_resolve.specs.Sheets.{IsInner, action_place, instance_place, parameter_place, port_place, timer_place};
+ghost use Rattle.lft_resolve.specs.Causes.{UnknownReactor};
+ghost use Rattle.lft_resolve.specs.inner.{Directories.{IsAt, IsDirectory, IsNames, inner_ref}, Numbers.{AreContents, IsContents, IsNumberOf}};
+ghost use Rattle.lft_resolve.specs.inner.{References.reactor_trees, Sheets.{IsInner, action_place, instance_place, parameter_place, port_place, timer_place}};
+ghost use Rattle.lft_resolve.specs.Kinds.{inner_kind};
 
 use crate::ReactorFault;
 use crate::by_number::numbers::contents_among;

@@ -2,7 +2,8 @@
 
 ghost use Rattle.std.specs.Prelude.{◌≡◌, ◌≢◌, List, None, false, IfOk, IfErr, MatchOption};
 ghost use Rattle.lft_tree.specs.{Tree.ReactorTree, View.ref_view};
-ghost use Rattle.lft_resolve.specs.{Directories.{IsAt, IsTimerAt, Lacks, inner_ref, is_port, is_spot}, Kinds.inner_kind, Sheets.{IsEnd, IsSpot, is_timer}};
+ghost use Rattle.lft_resolve.specs.{inner.{Directories.{IsAt, IsTimerAt, Lacks, inner_ref, is_port, is_spot}, Sheets.{IsEnd, IsSpot}}, Kinds.inner_kind};
+ghost use Rattle.lft_resolve.specs.Sheets.{is_timer};
 ghost use Rattle.lft_resolve.specs.declared.fault.ReactorFault.TheVariants as faults;
 
 use crate::ReactorFault;

@@ -3,8 +3,9 @@
 ghost use Rattle.std.specs.Prelude.{◌≢◌, ◌++◌, List, None, Some, Any, IfOk, IfErr, OnOk, option_map, option_to_list};
 ghost use Rattle.std.specs.List.{AllZip};
 ghost use Rattle.lft_tree.specs.{Tree.{ReactorTree, reactors_of}, View.{connection_view, reactor_view, time_view, tree_view}};
-ghost use Rattle.lft_resolve.specs.{Causes.{NoneHolds, UnknownReactor, first_causes, later_causes}, Directories.{HasLost, IsAt, IsLostTime, LosesIn}};
-ghost use Rattle.lft_resolve.specs.{References.reactor_trees, Sheets.{AreConnections, IsClock, IsConnections, IsDelay, IsJoin, Single, singles_in}};
+ghost use Rattle.lft_resolve.specs.Causes.{NoneHolds, UnknownReactor, first_causes, later_causes};
+ghost use Rattle.lft_resolve.specs.inner.{Directories.{HasLost, IsAt, IsLostTime, LosesIn}, References.reactor_trees};
+ghost use Rattle.lft_resolve.specs.inner.Sheets.{AreConnections, IsClock, IsConnections, IsDelay, IsJoin, Single, singles_in};
 ghost use Rattle.lft_resolve.specs.declared.fault.ReactorFault.TheVariants as faults;
 
 use crate::by_number::clocks::kept;

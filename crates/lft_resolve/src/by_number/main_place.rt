@@ -2,7 +2,7 @@
 
 ghost use Rattle.std.specs.Prelude.{◌≡◌, ◌<◌, ◌^◌, Some, find, length, slice_get, IfOk, MatchOption};
 ghost use Rattle.lft_tree.specs.{Tree.{ReactorTree, reactors_of}, View.tree_view};
-ghost use Rattle.lft_resolve.specs.{Causes.{NoMain, NoneHolds, first_causes}, Instances.main_of, References.reactor_trees};
+ghost use Rattle.lft_resolve.specs.{Causes.{NoMain, NoneHolds, first_causes}, Instances.main_of, inner.References.reactor_trees};
 
 use crate::members;
 use lft_tag::NoMemory;

@@ -2,8 +2,8 @@
 
 ghost use Rattle.std.specs.Prelude.{◌≡◌, ◌≢◌, ◌<◌, ◌^◌, List, Some, None, IfOk, IfErr, MatchOption, length, slice_get};
 ghost use Rattle.lft_tree.specs.{Tree.{ReactorTree, reactors_of}, View.{reactor_view, tree_view}};
-ghost use Rattle.lft_resolve.specs.{Causes.{LacksReactor, UnknownReactor}, Instances.reactor_named, Numbers.{AreContents, IsContents, IsNumbers}};
-ghost use Rattle.lft_resolve.specs.References.{reactor_trees};
+ghost use Rattle.lft_resolve.specs.{Causes.{LacksReactor, UnknownReactor}, Instances.reactor_named};
+ghost use Rattle.lft_resolve.specs.inner.{Numbers.{AreContents, IsContents, IsNumbers}, References.reactor_trees};
 ghost use Rattle.lft_resolve.specs.declared.fault.ReactorFault.TheVariants as faults;
 
 use crate::expansion::Contents;

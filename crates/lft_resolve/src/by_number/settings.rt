@@ -4,8 +4,9 @@ ghost use Rattle.std.specs.Prelude.{◌≡◌, List, None, map, flat_map, Any, I
 ghost use Rattle.std.specs.List.{AllZip};
 ghost use Rattle.lft_tree.specs.{Tree.{ReactorTree, instances_of, nanoseconds, reactors_of}, View.{assignment_view, parameter_view, reactor_view, tree_view}};
 ghost use Rattle.lft_resolve.specs.Causes.{LacksReactor, NoneHolds, SomeGivesUnknown, first_causes, later_causes};
-ghost use Rattle.lft_resolve.specs.{Lacking.{AreOf, LacksName, LacksPlace, TimeLacksPlace}, Places.{IsIndexOf, place_in}};
-ghost use Rattle.lft_resolve.specs.{References.{instance_trees, reactor_trees}, Sheets.{AreGiven, AreParameters, IsGiven, IsParameters, kept}, Tables.IsFile};
+ghost use Rattle.lft_resolve.specs.inner.{Lacking.{AreOf, LacksName, LacksPlace, TimeLacksPlace}, Places.IsIndexOf, References.{instance_trees, reactor_trees}};
+ghost use Rattle.lft_resolve.specs.inner.{Sheets.{AreGiven, AreParameters, IsGiven, IsParameters, kept}, Tables.IsFile};
+ghost use Rattle.lft_resolve.specs.Places.{place_in};
 
 use crate::by_number::clocks::{clock, kept};
 use crate::expansion::{Given, Parameters};

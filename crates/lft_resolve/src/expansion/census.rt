@@ -1,7 +1,7 @@
 //! How many instances there are, where they are more than may be.
 
 ghost use Rattle.std.specs.Prelude.{◌≡◌, ◌<◌, ℕ, IfOk, true};
-ghost use Rattle.lft_resolve.specs.Expansion.{Contents.contained, Paths.{Exists, IsMoreThan}};
+ghost use Rattle.lft_resolve.specs.{inner.Expansion.Contents.contained, Expansion.Paths.{Exists, IsMoreThan}};
 
 use crate::expansion::walk::Contents;
 use lft_tag::NoMemory;

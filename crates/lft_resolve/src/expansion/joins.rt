@@ -1,8 +1,8 @@
 //! Which connection leads into each port.
 
 ghost use Rattle.std.specs.Prelude.{◌≡◌, ℕ, ◌≤◌, [], Some, length, slice_get, unwrap_or, option_map, IfOk};
-ghost use Rattle.lft_resolve.specs.Expansion.{Joins.{AreSites, AreSources, JoinPorts, LeadApart, joins_of, port_at, port_of}, Numbers.{AreFirst, things}};
-ghost use Rattle.lft_resolve.specs.Expansion.{Sources.AreInside, Values.clock_in};
+ghost use Rattle.lft_resolve.specs.inner.Expansion.{Joins.{AreSites, AreSources, JoinPorts, LeadApart, joins_of, port_at, port_of}, Numbers.{AreFirst, things}};
+ghost use Rattle.lft_resolve.specs.inner.Expansion.{Sources.AreInside, Values.clock_in};
 
 use crate::expansion::nesting::Children;
 use crate::expansion::numbering::count_things;

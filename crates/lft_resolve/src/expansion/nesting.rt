@@ -1,7 +1,7 @@
 //! The instances that each instance contains, by place.
 
 ghost use Rattle.std.specs.Prelude.{◌≡◌, ℕ, ◌≤◌, List, length, map, IfOk};
-ghost use Rattle.lft_resolve.specs.Expansion.{Contents.AreWalked, Children.{AreChildren, child_of}};
+ghost use Rattle.lft_resolve.specs.inner.Expansion.{Contents.AreWalked, Children.{AreChildren, child_of}};
 
 use crate::expansion::walk::Instance;
 use lft_lists::item_at;

@@ -1,7 +1,7 @@
 //! The numbers of what instances declare.
 
 ghost use Rattle.std.specs.Prelude.{◌≡◌, ℕ, ◌<◌, ◌≤◌, List, length, IfOk, IfSome, IfNone, MatchOption, min};
-ghost use Rattle.lft_resolve.specs.Expansion.{Contents.IsWalk, Listing.AreListed, Numbers.{AreFirst, HasMoreThings, count_of, things}};
+ghost use Rattle.lft_resolve.specs.inner.Expansion.{Contents.IsWalk, Listing.AreListed, Numbers.{AreFirst, HasMoreThings, count_of, things}};
 ghost use Rattle.lft_resolve.specs.declared.expansion.walk.Contents.{Contents};
 
 use crate::expansion::walk::Instance;

@@ -1,8 +1,8 @@
 //! Where the chain of connections into each port begins, and its delays folded.
 
 ghost use Rattle.std.specs.Prelude.{◌≡◌, ◌≢◌, ℕ, ◌+◌, ◌<◌, ◌≤◌, ◌++◌, length, slice_get, Some, Err, IfOk, OnOk, List, option_to_list};
-ghost use Rattle.lft_resolve.specs.Expansion.Sources.{AreInside, AreReached, IsFolded, Leads};
-ghost use Rattle.lft_resolve.specs.Expansion.Marks.{IsNext, IsSettled, KeepsLooked, NoneOpen, done_weight, steps_of, tally};
+ghost use Rattle.lft_resolve.specs.inner.Expansion.Sources.{AreInside, AreReached, IsFolded, Leads};
+ghost use Rattle.lft_resolve.specs.inner.Expansion.Marks.{IsNext, IsSettled, KeepsLooked, NoneOpen, done_weight, steps_of, tally};
 ghost use Rattle.lft_resolve.specs.declared.expansion.origins.Mark.TheVariants.{New};
 
 use lft_tag::{Shift, Source};

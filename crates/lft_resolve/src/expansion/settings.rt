@@ -1,7 +1,7 @@
 //! The values that the parameters of each instance have.
 
 ghost use Rattle.std.specs.Prelude.{◌≡◌, ℕ, ◌<◌, List, [], Some, map, slice_get, unwrap_or, IfOk};
-ghost use Rattle.lft_resolve.specs.Expansion.{Contents.AreWalked, Values.{HaveValues, LeadToValues, clock_in, defaults_of, given_by, values_in}};
+ghost use Rattle.lft_resolve.specs.inner.Expansion.{Contents.AreWalked, Values.{HaveValues, LeadToValues, clock_in, defaults_of, given_by, values_in}};
 ghost use Rattle.lft_resolve.specs.declared.expansion.walk.Contents.{Contents};
 
 use crate::expansion::walk::Instance;

@@ -1,7 +1,7 @@
 //! The instances, in pre-order, by an explicit stack.
 
 ghost use Rattle.std.specs.Prelude.{◌≡◌, ◌+◌, ◌<◌, ◌≤◌, ◌^◌, length, IfOk, IfSome, OnOk, Err};
-ghost use Rattle.lft_resolve.specs.Expansion.{Contents.{IsWalk, contained}, Paths.{Exists, IsMoreThan}};
+ghost use Rattle.lft_resolve.specs.{inner.Expansion.Contents.{IsWalk, contained}, Expansion.Paths.{Exists, IsMoreThan}};
 
 use lft_tag::MAX_INSTANCES;
 use std::alloc::{AllocError, AllocFailed, Global};

@@ -1,7 +1,7 @@
 //! The way back along joins: from a port to the one from which a join leads into it, and so on.
 
 ghost use Rattle.std.specs.Prelude.{◌<◌, IfOk, length};
-ghost use Rattle.lft_resolve.specs.Expansion.{Sources.AreInside, Ways.{HaveSites, IsWayBack}};
+ghost use Rattle.lft_resolve.specs.inner.Expansion.{Sources.AreInside, Ways.{HaveSites, IsWayBack}};
 
 use crate::expansion::joins::{Site, Sources};
 use lft_lists::item_at;

@@ -2,7 +2,7 @@
 use Rattle.std.proofs.Common.{◌≡◌, ℕ, ◌+◌, List, take, refl, sym, ap, ◌∙◌, Some, None, Bool, true, false, cond, slice_get}
 use Rattle.lft_ir.specs.{declared.{parts.{Name.Name, Value.Value}, steps.row.Step.Step}, Naming.same_name}
 use Rattle.lft_model.specs.Runs.{value_read, read_of}
-use Rattle.lft_rows.specs.{Answers.Readings.{last_of, read_as, AreReadBy, IsPut}, declared.answers.readings.Readings.Readings}
+use Rattle.lft_rows.specs.{inner.Answers.Readings.{last_of, read_as, AreReadBy, IsPut}, declared.answers.readings.Readings.Readings}
 use Rattle.lft_rows.proofs.AnswersLemmas.Stepping.{last_stays, last_changes}
 
 -- one step more, which reads or doesn't

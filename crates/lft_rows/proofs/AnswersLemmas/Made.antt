@@ -4,7 +4,7 @@ use Rattle.std.proofs.lemmas.List.{map-append}
 use Rattle.lft_tag.specs.declared.Tag.{Tag}
 use Rattle.lft_ir.specs.{Parts.{Parts, inputs}, declared.{parts.{Name.Name, Reaction.Reaction}, steps.row.{Row.Row, Step.Step}}}
 use Rattle.lft_model.specs.{Plans.PlanParts, Runs.{steps_of, reads_at, answer_at}}
-use Rattle.lft_rows.specs.Answers.Answers.{reads_of, answer_of}
+use Rattle.lft_rows.specs.inner.Answers.Answers.{reads_of, answer_of}
 
 -- what is made of a list with one element more
 pub made_more : {X Y : Type 0} (f : X → Y) (xs more : List X) (x : X) (ys : List Y) (y : Y) → more ≡ xs ++ x ∷ [] → y ≡ f x → ys ≡ map f xs → ys ++ y ∷ [] ≡ map f more

@@ -8,8 +8,9 @@ use Rattle.lft_ir.proofs.Origins.{origin_within}
 use Rattle.lft_ir.specs.{declared.{parts.{Port.Port as PortOf, Name.{Name, TheVariants.{Port, Action}}}, steps.row.Row.Row}, Steps.Fits.RowsFit}
 use Rattle.lft_model.specs.{Plans.PlanParts, Presence.{stop, PortClash, ClashesAt, Collision}}
 use Rattle.lft_rows.specs.declared.presence.causes.Cause.{Cause}
-use Rattle.lft_rows.specs.Presence.{Causes.{tag_of, AreCauses, AreNear, IsNear}, Traces.{LeastTag, IsSooner}}
-use Rattle.lft_rows.specs.Presence.Clashes.{Among, IsPair, IsFirstPair, AreDoubles, HasTwo, PortsClash, ActionsClash, IsClash}
+use Rattle.lft_rows.specs.inner.Presence.{Causes.{tag_of, AreCauses, AreNear, IsNear}, Traces.IsSooner}
+use Rattle.lft_rows.specs.inner.Presence.Clashes.{Among, IsPair, IsFirstPair, AreDoubles, HasTwo, PortsClash, ActionsClash}
+use Rattle.lft_rows.specs.Presence.{Traces.LeastTag, Clashes.IsClash}
 use Rattle.lft_rows.proofs.PresenceLemmas.{Positions.shifted_mono, Leasts.{least_as, least_of_both}, Presences.{ChainOf, port_from, port_cause_at}}
 use Rattle.lft_rows.proofs.PresenceLemmas.Twice.{IsTwo, two_causes, two_events}
 

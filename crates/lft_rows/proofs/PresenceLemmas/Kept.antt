@@ -3,7 +3,7 @@ use Rattle.std.proofs.Common.{◌≡◌, ◌≤◌, List, Option, sym, subst, ar
 use Rattle.lft_tag.specs.{declared.Tag.Tag, Tags.{UpTo, IsRecorded}}
 use Rattle.lft_ir.specs.{declared.steps.row.Row.Row, Steps.Fits.RowsFit}
 use Rattle.lft_model.{specs.{Plans.{PlanParts, IsSoundPlan}, Presence.stop}, proofs.Stops.stop_external}
-use Rattle.lft_rows.specs.{declared.presence.causes.Cause.Cause, Presence.{Causes.AreCauses, Clashes.IsClash, Kept.IsKept}}
+use Rattle.lft_rows.specs.{declared.presence.causes.Cause.Cause, inner.Presence.{Causes.AreCauses, Kept.IsKept}, Presence.Clashes.IsClash}
 
 -- the stop is no later than the external one, which is recorded
 stop_limit : (plan : PlanParts) (t : List Row) → IsRecorded plan.externals.stop → (stop plan t).time ≤ 1000000000000000000

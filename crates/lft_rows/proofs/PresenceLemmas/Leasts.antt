@@ -4,7 +4,7 @@ use Rattle.lft_tag.{specs.{declared.Tag.Tag, Tags.UpTo}, proofs.Order.{UpTo-tran
 use Rattle.lft_lists.proofs.Members.{mem_get, get_mem, mem_contains, contains_mem}
 use Rattle.lft_ir.specs.{Parts.Parts, Sound.{IsSound, IsTriggerOf}, declared.parts.{Trigger.Trigger, Reaction.Reaction}}
 use Rattle.lft_model.{specs.Presence.{Occurs, Triggered}, proofs.Places.slice_get_within}
-use Rattle.lft_rows.specs.Presence.Traces.{TraceParts, LeastTag, IsSooner}
+use Rattle.lft_rows.specs.{Presence.Traces.{TraceParts, LeastTag}, inner.Presence.Traces.IsSooner}
 
 pub at_reaction : (p q : Parts) (r : ℕ) (x : Reaction) → p ≡ q → slice_get p.reactions r ≡ Some x → slice_get q.reactions r ≡ Some x
 at_reaction p q r x e h = subst (λ (z : Parts). slice_get z.reactions r ≡ Some x) e h

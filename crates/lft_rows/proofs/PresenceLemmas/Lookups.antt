@@ -7,8 +7,8 @@ use Rattle.lft_lists.proofs.Places.{same_at}
 use Rattle.lft_ir.specs.declared.steps.row.Row.{Row}
 use Rattle.lft_model.{specs.Plans.PlanParts, proofs.Places.slice_get_within}
 use Rattle.lft_rows.specs.declared.presence.causes.Cause.{Cause}
-use Rattle.lft_rows.specs.Presence.Causes.{tag_of, ComesUpTo, AreCauses, LiesBelow, IsPosition, Leads, IsCause}
-use Rattle.lft_rows.specs.Presence.Lookups.{IsFirstCause, LeadsBefore, IsLastBefore, LeadsAfter, IsFirstAfter}
+use Rattle.lft_rows.specs.inner.Presence.Causes.{tag_of, ComesUpTo, AreCauses, LiesBelow, IsPosition, Leads, IsCause}
+use Rattle.lft_rows.specs.inner.Presence.Lookups.{IsFirstCause, LeadsBefore, IsLastBefore, LeadsAfter, IsFirstAfter}
 use Rattle.lft_rows.proofs.PresenceLemmas.{Positions.{shifted_mono, tag_up}, Presences.comes_self}
 
 -- the tags of causes of one name are in the order of these

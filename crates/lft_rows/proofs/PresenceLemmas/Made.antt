@@ -13,7 +13,7 @@ use Rattle.lft_ir.specs.declared.steps.{row.{Row.Row, Step.{Step, TheVariants.{S
 use Rattle.lft_ir.specs.Steps.Fits.{RowsFit, StepFits}
 use Rattle.lft_model.{specs.{Plans.{PlanParts, IsSoundPlan}, Presence.min_delay}, proofs.Places.slice_get_within}
 use Rattle.lft_rows.specs.declared.presence.causes.Cause.{Cause}
-use Rattle.lft_rows.specs.Presence.Causes.{tag_of, ComesUpTo, AreAscending, IsNear, AreNear, HasJust, IsRowCause, IsEventCause, IsCause, AreCauses, step_cause, event_cause}
+use Rattle.lft_rows.specs.inner.Presence.Causes.{tag_of, ComesUpTo, AreAscending, IsNear, AreNear, HasJust, IsRowCause, IsEventCause, IsCause, AreCauses, step_cause, event_cause}
 use Rattle.lft_rows.proofs.PresenceLemmas.{Lists.not_true, Presences.{step_place, event_place}}
 
 -- a list that has just one kind has just another that is the same

@@ -5,7 +5,7 @@ use native.Mathlib.Decide.{ℕ_discrete}
 use Rattle.lft_tag.specs.{Tags.UpTo, Shifts.{Folded, shifted}}
 use Rattle.lft_model.proofs.Places.{slice_get_within}
 use Rattle.lft_rows.specs.declared.presence.causes.Cause.{Cause}
-use Rattle.lft_rows.specs.Presence.{Causes.{tag_of, ComesUpTo, AreAscending, LiesBelow, IsPosition}, Clashes.{Among, IsPair, IsFirstPair}}
+use Rattle.lft_rows.specs.inner.Presence.{Causes.{tag_of, ComesUpTo, AreAscending, LiesBelow, IsPosition}, Clashes.{Among, IsPair, IsFirstPair}}
 use Rattle.lft_rows.proofs.PresenceLemmas.{Positions.{tag_up, same_cause}, Skips.names_up}
 
 pair_names : (b : Bool) (name : ℕ) (x y : Cause) → IsPair b name x y → (x.name ≡ name) × (y.name ≡ name) × (x.time ≡ y.time)

@@ -3,7 +3,7 @@ use Rattle.std.proofs.Common.{◌≡◌, ℕ, zero, suc, ◌+◌, ◌<◌, ◌�
 use native.Mathlib.Decide.{ℕ_discrete}
 use Rattle.lft_tag.specs.{declared.Tag.Tag, Tags.{Before, UpTo}, Shifts.{Folded, shifted}}
 use Rattle.lft_tag.proofs.Order.{UpTo-Before, UpTo-refl, Before-weaken, order_cases, UpTo_antisym}
-use Rattle.lft_rows.specs.{declared.presence.causes.Cause.Cause, Presence.Causes.{tag_of, ComesUpTo, AreAscending, LiesBelow}}
+use Rattle.lft_rows.specs.{declared.presence.causes.Cause.Cause, inner.Presence.Causes.{tag_of, ComesUpTo, AreAscending, LiesBelow}}
 
 -- a shift keeps the order of tags
 pub shifted_mono : (g h : Tag) (s : Folded) → UpTo g h → UpTo (shifted g s) (shifted h s)

@@ -15,7 +15,7 @@ use Rattle.lft_model.specs.Presence.{value_written, written, value_scheduled, sc
 use Rattle.lft_model.proofs.{Places.slice_get_within, Ended.{Schedules, written_by, by_written, scheduled_by, by_scheduled}}
 use Rattle.lft_model.proofs.Steps.{written_some, some_written, scheduled_some, some_scheduled, both_true}
 use Rattle.lft_rows.specs.declared.presence.causes.Cause.{Cause}
-use Rattle.lft_rows.specs.Presence.Causes.{tag_of, cause, ComesUpTo, AreCauses, LiesBelow, IsPosition, Leads, IsLastCause, IsValueFrom, IsRowCause, IsEventCause, IsCause, Carries, value_of, write_cause, schedule_cause, step_cause, event_cause}
+use Rattle.lft_rows.specs.inner.Presence.Causes.{tag_of, cause, ComesUpTo, AreCauses, LiesBelow, IsPosition, Leads, IsLastCause, IsValueFrom, IsRowCause, IsEventCause, IsCause, Carries, value_of, write_cause, schedule_cause, step_cause, event_cause}
 use Rattle.lft_rows.proofs.PresenceLemmas.Positions.{shifted_mono, tag_up, same_cause}
 
 pub comes_self : (c : Cause) → ComesUpTo c c

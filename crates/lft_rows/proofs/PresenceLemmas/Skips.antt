@@ -3,7 +3,7 @@ use Rattle.std.proofs.Common.{◌≡◌, ℕ, ◌+◌, ◌<◌, ◌≤◌, ◌�
 use Rattle.std.proofs.lemmas.Bool.{cases_lt}
 use native.Mathlib.Decide.{ℕ_discrete}
 use Rattle.lft_tag.{specs.{declared.Tag.Tag, Tags.{Before, UpTo}, Shifts.{Folded, shifted}}, proofs.Order.{UpTo-refl, UpTo-not, order_cases}}
-use Rattle.lft_rows.specs.{declared.presence.causes.Cause.Cause, Presence.Causes.{tag_of, ComesUpTo, AreAscending, LiesBelow, IsPosition, IsSkip, Leads}}
+use Rattle.lft_rows.specs.{declared.presence.causes.Cause.Cause, inner.Presence.Causes.{tag_of, ComesUpTo, AreAscending, LiesBelow, IsPosition, IsSkip, Leads}}
 use Rattle.lft_rows.proofs.PresenceLemmas.Positions.{shifted_mono, tag_up, same_cause}
 
 -- a later cause of the name leads no earlier

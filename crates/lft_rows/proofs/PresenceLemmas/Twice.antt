@@ -7,7 +7,7 @@ use Rattle.lft_ir.specs.declared.steps.{row.{Row.Row, Step.{Step, TheVariants.{S
 use Rattle.lft_ir.specs.Steps.Fits.{RowsFit, StepFits}
 use Rattle.lft_model.specs.{Plans.{PlanParts, IsSoundPlan}, Presence.{scheduled, given, min_delay, events_of}}
 use Rattle.lft_model.proofs.{Places.slice_get_within, Ended.{scheduled_by, by_scheduled}, Steps.both_true}
-use Rattle.lft_rows.specs.{declared.presence.causes.Cause.Cause, Presence.Causes.{tag_of, cause, Leads, IsCause, Carries, step_cause}}
+use Rattle.lft_rows.specs.{declared.presence.causes.Cause.Cause, inner.Presence.Causes.{tag_of, cause, Leads, IsCause, Carries, step_cause}}
 use Rattle.lft_rows.proofs.PresenceLemmas.Presences.{step_schedules, schedules_step, none_leads, row_of, event_of, carrier, given_there}
 
 -- an item of which a filter keeps something

@@ -3,7 +3,7 @@
 ghost use Rattle.std.specs.Prelude.{◌≡◌, None, filter_map, IfOk};
 ghost use Rattle.std.specs.List.{last_or};
 ghost use Rattle.lft_model.specs.{Presence.{value_written as the_value_written, value_scheduled as the_value_scheduled}, Runs.{outcome_of, request_of}};
-ghost use Rattle.lft_rows.specs.Answers.Answers.{as_outcome, answer_of};
+ghost use Rattle.lft_rows.specs.inner.Answers.Answers.{as_outcome, answer_of};
 
 use crate::answers::outcomes::{Answer, Outcome, Schedulings};
 use lft_ir::steps::{Step, is_stop};

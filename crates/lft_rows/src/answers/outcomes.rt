@@ -32,14 +32,14 @@ impl Model for Answer {
 
     ghost Value = { TheAnswer };
 
-    ghost use Rattle.lft_rows.specs.Answers.Answers.{as_outcome};
+    ghost use Rattle.lft_rows.specs.inner.Answers.Answers.{as_outcome};
 
     ghost view = { λ a. record { outcomes = map as_outcome a.outcomes.items; stops = a.stops } };
 }
 
 impl Answer {
     ghost use Rattle.std.specs.Prelude.{map};
-    ghost use Rattle.lft_rows.specs.Answers.Answers.{as_outcome};
+    ghost use Rattle.lft_rows.specs.inner.Answers.Answers.{as_outcome};
 
     /// The answer of these outcomes. It takes no memory.
     pub(crate) fn from_parts(outcomes: Vec<Outcome>, stops: bool) -> Answer

@@ -3,7 +3,7 @@
 ghost use Rattle.std.specs.Prelude.{◌≡◌, None, IfOk, OnOk};
 ghost use Rattle.lft_model.specs.Runs.{value_read as the_value_read};
 ghost use Rattle.lft_ir.specs.declared.parts.Name.{Name as TheName};
-ghost use Rattle.lft_rows.specs.Answers.Readings.{last_of, read_as, AreReadBy, IsPut};
+ghost use Rattle.lft_rows.specs.inner.Answers.Readings.{last_of, read_as, AreReadBy, IsPut};
 
 use lft_ir::steps::Step;
 use lft_ir::{Name, Value};

@@ -2,7 +2,7 @@
 
 ghost use Rattle.std.specs.Prelude.{◌≡◌, IfOk};
 ghost use Rattle.lft_ir.specs.{Parts.inputs, Naming.named};
-ghost use Rattle.lft_rows.specs.Answers.Answers.{reads_of};
+ghost use Rattle.lft_rows.specs.inner.Answers.Answers.{reads_of};
 
 use crate::answers::readings::readings_of;
 use lft_ir::steps::Step;

@@ -3,7 +3,7 @@
 ghost use Rattle.std.specs.Prelude.{◌≡◌, Some, IsTrue, ◌↔◌, slice_get};
 ghost use Rattle.lft_tag.specs.Shifts.{shifted};
 ghost use Rattle.lft_rows.specs.declared.presence.causes.Cause.{Cause as TheCause};
-ghost use Rattle.lft_rows.specs.Presence.Causes.{IsNear, AreNear, AreAscending, LiesBelow, IsPosition, IsSkip, Leads, tag_of};
+ghost use Rattle.lft_rows.specs.inner.Presence.Causes.{IsNear, AreNear, AreAscending, LiesBelow, IsPosition, IsSkip, Leads, tag_of};
 
 use lft_lists::item_at;
 use lft_tag::{Shift, Tag};

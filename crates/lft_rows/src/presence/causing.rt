@@ -3,7 +3,7 @@
 ghost use Rattle.std.specs.Prelude.{◌≡◌, ◌≤◌, IfOk, OnOk};
 ghost use Rattle.lft_tag.specs.Tags.{IsRecorded};
 ghost use Rattle.lft_ir.specs.{Sound.IsNameOf, Steps.Fits.{RowFits, RowsFit, EventFits}};
-ghost use Rattle.lft_rows.specs.Presence.Causes.{HasJust, IsRowCause, IsCause, AreCauses, write_cause, schedule_cause, step_cause, event_cause};
+ghost use Rattle.lft_rows.specs.inner.Presence.Causes.{HasJust, IsRowCause, IsCause, AreCauses, write_cause, schedule_cause, step_cause, event_cause};
 
 use crate::presence::causes::Cause;
 use lft_ir::steps::{Event, Row, Step, row_at};

@@ -3,7 +3,8 @@
 ghost use Rattle.std.specs.Prelude.{◌≡◌, ◌<◌, length, IfOk};
 ghost use Rattle.lft_ir.specs.Steps.Fits.{RowsFit};
 ghost use Rattle.lft_model.specs.Presence.{stop as the_stop, PortClash};
-ghost use Rattle.lft_rows.specs.Presence.{Causes.AreCauses, Clashes.{AreDoubles, HasTwo, PortsClash, ActionsClash, IsClash}, Traces.{LeastTag, IsSooner}};
+ghost use Rattle.lft_rows.specs.inner.Presence.{Causes.AreCauses, Clashes.{AreDoubles, HasTwo, PortsClash, ActionsClash}, Traces.IsSooner};
+ghost use Rattle.lft_rows.specs.Presence.{Clashes.IsClash, Traces.LeastTag};
 
 use crate::presence::causes::{Cause, cause_tag, moved};
 use crate::presence::pairs::first_pair;

@@ -3,7 +3,7 @@
 ghost use Rattle.std.specs.Prelude.{◌≡◌, ◌≤◌, length, IfOk};
 ghost use Rattle.lft_ir.specs.Steps.Fits.{RowsFit};
 ghost use Rattle.lft_model.specs.Presence.{stop as the_stop};
-ghost use Rattle.lft_rows.specs.Presence.{Causes.AreCauses, Clashes.IsClash, Traces.IsFitting};
+ghost use Rattle.lft_rows.specs.{inner.Presence.{Causes.AreCauses, Traces.IsFitting}, Presence.Clashes.IsClash};
 
 use crate::presence::causes::Cause;
 use crate::presence::causing::causes_of;
@@ -32,13 +32,13 @@ impl<'a> Model for Presence<'a> {
 
     ghost view = { λ a. record { plan = a.plan.now; rows = a.rows.now } };
 
-    ghost use Rattle.lft_rows.specs.Presence.Kept.{IsKept};
+    ghost use Rattle.lft_rows.specs.inner.Presence.Kept.{IsKept};
 
     ghost invariant = { λ a. IsKept (record { plan = a.plan.now; rows = a.rows.now }) a.stop a.causes.items a.clash };
 }
 
 impl<'a> Presence<'a> {
-    ghost use Rattle.lft_rows.specs.Presence.Kept.{IsKept};
+    ghost use Rattle.lft_rows.specs.inner.Presence.Kept.{IsKept};
 
     /// The events of rows with what is kept beside them. It takes no memory.
     fn from_parts(

@@ -4,8 +4,8 @@
 ghost use Rattle.std.specs.Prelude.{◌↔◌, List, IsTrue};
 ghost use Rattle.lft_ir.specs.declared.steps.row.Row.{Row as TheRow};
 ghost use Rattle.lft_model.specs.Plans.{PlanParts};
-ghost use Rattle.lft_rows.specs.Presence.Causes.{tag_of, IsNear, AreAscending, AreNear, AreCauses, Leads, IsLastCause};
-ghost use Rattle.lft_rows.specs.Presence.Lookups.{IsFirstCause, IsLastBefore, IsFirstAfter};
+ghost use Rattle.lft_rows.specs.inner.Presence.Causes.{tag_of, IsNear, AreAscending, AreNear, AreCauses, Leads, IsLastCause};
+ghost use Rattle.lft_rows.specs.inner.Presence.Lookups.{IsFirstCause, IsLastBefore, IsFirstAfter};
 
 use crate::presence::causes::{Cause, cause_tag, moved, position};
 use lft_lists::item_at;

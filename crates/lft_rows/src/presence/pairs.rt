@@ -2,7 +2,7 @@
 //! side by side.
 
 ghost use Rattle.std.specs.Prelude.{IsTrue, ◌↔◌};
-ghost use Rattle.lft_rows.specs.Presence.{Causes.{AreAscending, AreNear}, Clashes.{IsPair, IsFirstPair}};
+ghost use Rattle.lft_rows.specs.inner.Presence.{Causes.{AreAscending, AreNear}, Clashes.{IsPair, IsFirstPair}};
 
 use crate::presence::causes::{Cause, position};
 use lft_lists::item_at;

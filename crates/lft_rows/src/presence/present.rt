@@ -3,7 +3,7 @@
 ghost use Rattle.std.specs.Prelude.{◌≡◌, IfSome, IfNone};
 ghost use Rattle.lft_ir.specs.Sound.{IsNameOf};
 ghost use Rattle.lft_model.specs.Presence.{At, IsPresent};
-ghost use Rattle.lft_rows.specs.Presence.Causes.{IsCause, IsLastCause, IsValueFrom, Carries, value_of as the_value_of};
+ghost use Rattle.lft_rows.specs.inner.Presence.Causes.{IsCause, IsLastCause, IsValueFrom, Carries, value_of as the_value_of};
 
 use crate::presence::causes::{Cause, leads, position};
 use crate::presence::events::Presence;

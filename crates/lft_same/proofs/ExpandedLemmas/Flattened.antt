@@ -20,7 +20,7 @@ use Rattle.lft_program.proofs.{Listing.enumerate_from_at, Zipping.then_some}
 use Rattle.lft_classes.proofs.Rows.{map_alike}
 use Rattle.lft_same.specs.Expanded.Expanded.{Action, Contents, OnThing, Link, Port, Reaction, Timer}
 use Rattle.lft_same.specs.Expanded.Flat.{AreAll, Connects, Declared, IsAction, IsFlat, IsPort, IsReaction, IsSource, IsTimer, Located, Means, MeansTrigger, actions_in, declared, declared_in, name_behind, name_of_path, name_of_reaction, name_of_thing, names_along, names_of, ports_in, things, timers_in}
-use Rattle.lft_same.specs.Expanded.Core.{things_for, triggers_for, expanded_tree, core_contents, link_of, core_links, core_reaction}
+use Rattle.lft_same.specs.inner.Expanded.Core.{things_for, triggers_for, expanded_tree, core_contents, link_of, core_links, core_reaction}
 
 -- ---- instances
 

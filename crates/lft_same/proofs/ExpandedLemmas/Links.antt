@@ -5,7 +5,7 @@ use Rattle.lft_lists.proofs.Members.{Mem, mem_from_flat, mem_get}
 use Rattle.lft_elaborate.specs.Channels.Lowered.{AreJoined, single}
 use Rattle.lft_tree.specs.Tree.{RefTree, TimeTree, ConnectionTree}
 use Rattle.lft_resolve.specs.Instances.{Inside, Thing, stands_for, time_in}
-use Rattle.lft_same.specs.Expanded.{Expanded.Link, Core.{link_of, core_links}, Whole.pairs}
+use Rattle.lft_same.specs.{Expanded.{Expanded.Link, Whole.pairs}, inner.Expanded.Core.{link_of, core_links}}
 use Rattle.lft_same.proofs.ExpandedLemmas.{Pairs.{joined_pairs, pairs_map}, Flattened.{linked, map_twice, unzip}}
 
 zip_mem : {X Y : Type 0} (xs : List X) (ys : List Y) (p : X × Y) → Mem p (zip xs ys) → Mem p.0 xs × Mem p.1 ys

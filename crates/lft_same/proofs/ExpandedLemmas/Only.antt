@@ -12,10 +12,10 @@ use Rattle.lft_ir.specs.declared.parts.Trigger.{Trigger as FlatTrigger, TheVaria
 use Rattle.lft_tag.specs.declared.Source.{Source}
 use Rattle.lft_program.specs.{Flattening.{IsFlatOf, Means as TreeMeans}, Links.IsSource as IsTreeSource}
 use Rattle.lft_program.specs.Located.{Located as TreeLocated, AreLocated, Declared as TreeDeclared, declared as tree_declared, ports_in as tree_ports, timers_in as tree_timers}
-use Rattle.lft_program.specs.{Faults.reactor_causes, Tables.IsLawful}
+use Rattle.lft_program.specs.inner.{Faults.reactor_causes, Tables.IsLawful}
 use Rattle.lft_program.proofs.{Firsts.{NoneHolds-left, lawful, rest}, Listing.declared_from, OneFlat.one_mapped, OneName.{one_meant, timer_or_meant}}
 use Rattle.lft_program.proofs.{OneOrigin.one_end, OneSource.one_source, OneThing.one_timer, Zips.AllZip-one}
-use Rattle.lft_same.specs.Expanded.Core.{core_contents, expanded_tree}
+use Rattle.lft_same.specs.inner.Expanded.Core.{core_contents, expanded_tree}
 use Rattle.lft_same.specs.Expanded.Expanded.{Action, Contents, Port, Reaction, Timer, Trigger, AtStartup, AtShutdown, OnThing}
 use Rattle.lft_same.specs.Expanded.Flat.{AreAll, Declared, IsAction, IsFlat, IsPort, IsReaction, IsSource, IsTimer, Located, Means, MeansTrigger, declared, names_of, ports_in, timers_in}
 use Rattle.lft_same.proofs.ExpandedLemmas.Flattened.{actions_out, all_out, back, bodies_of, declared_turned, flat_out, forth, port_out, ports_out, timers_out, turned, written_out}

@@ -1,6 +1,6 @@
 -- A flat program of what is the whole program is one of the whole program.
 use Rattle.std.proofs.Common.{◌≡◌, ℕ, List, Option, Some, None, option_map, refl, sym, ap, subst, ◌∙◌}
-use Rattle.lft_same.specs.Expanded.{Expanded.Contents, Flat.IsFlat, Laws.{CoreLaw, SameLaw}, Same.awake, Whole.expanded_files}
+use Rattle.lft_same.specs.{Expanded.{Expanded.Contents, Flat.IsFlat, Same.awake, Whole.expanded_files}, inner.Expanded.Laws.{CoreLaw, SameLaw}}
 use Rattle.lft_same.proofs.ExpandedLemmas.Flattened.{flat_out}
 
 pub core_law : CoreLaw

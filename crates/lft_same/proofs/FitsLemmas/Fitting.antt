@@ -11,7 +11,7 @@ use Rattle.lft_elaborate.specs.Channels.Channels.{below}
 use Rattle.lft_elaborate.specs.Values.{Valued, chosen, default_at, default_written, given_to, inside, is_sized, literal, main_setting, main_value, number_in, number_of, setting_of, value_inside}
 use Rattle.lft_same.specs.Expanded.Instances.{Inside, default_of, given_in, given_or_default, inside_of, main_instance, read_in, value_named}
 use Rattle.lft_same.specs.Expanded.Reactors.{class_named, is_named, parameters_of}
-use Rattle.lft_same.specs.Fits.Fits.{Fits, IsShapeOf}
+use Rattle.lft_same.specs.inner.Fits.Fits.{Fits, IsShapeOf}
 use Rattle.lft_same.proofs.FitsLemmas.{Giving.IsGivenBy, MemberNames.value_found}
 use Rattle.lft_program.proofs.Zipping.{then_some}
 use Rattle.lft_whole.specs.declared.tree.Value.TheVariants as value

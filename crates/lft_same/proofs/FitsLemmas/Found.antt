@@ -3,7 +3,7 @@ use Rattle.std.proofs.Common.{◌≡◌, ℕ, List, Some}
 use Rattle.lft_whole.specs.declared.sources.source.SourceFile.{SourceFile}
 use Rattle.lft_classes.specs.{declared.nesting.Nesting.Nesting, Nestings.IsNesting}
 use Rattle.lft_elaborate.specs.{Used.main as reached_main, Values.{Valued, main_setting}}
-use Rattle.lft_same.specs.{Expanded.{Instances.Widths, Whole.AreWidths}, Fits.Widths.{AreFound, AreThose}}
+use Rattle.lft_same.specs.{Expanded.{Instances.Widths, Whole.AreWidths}, inner.Fits.Widths.{AreFound, AreThose}}
 use Rattle.lft_same.proofs.FitsLemmas.{Nested.{exists_law, inside_law, instance_law, main_law}, Widths.{AreNested, are_widths, width_is, widths_to}}
 
 module _ (files : List SourceFile) (scopes : _) (n : Nesting) (is : IsNesting files scopes n) where

@@ -8,7 +8,7 @@ use Rattle.lft_whole.specs.declared.{sources.source.SourceFile.SourceFile, tree.
 use Rattle.lft_classes.specs.{declared.shapes.{Child.Child, Given.Given, InheritedParameter.InheritedParameter, Shape.Shape}, Shapes.thing_named}
 use Rattle.lft_classes.specs.{Built.AreGiven, Circles.GivesOnce}
 use Rattle.lft_elaborate.specs.Values.{given_to}
-use Rattle.lft_same.{specs.{Expanded.Reactors.is_named, Fits.Fits.IsShapeOf}, proofs.FitsLemmas.ClassNames.named_so}
+use Rattle.lft_same.{specs.{Expanded.Reactors.is_named, inner.Fits.Fits.IsShapeOf}, proofs.FitsLemmas.ClassNames.named_so}
 use Rattle.lft_classes.specs.declared.shapes.Thing.TheVariants as thing
 
 -- what is given to a parameter is noted

@@ -7,7 +7,7 @@ use Rattle.lft_whole.specs.declared.{sources.source.SourceFile.SourceFile, tree.
 use Rattle.lft_classes.specs.{declared.shapes.{Inherited.Inherited, InheritedParameter.InheritedParameter, Shape.Shape}, Built.located_parameters}
 use Rattle.lft_classes.specs.Shapes.{name_of, thing_named}
 use Rattle.lft_same.specs.Expanded.{Instances.{Inside, place_named, value_at, value_named}, Reactors.{is_named, members_of, parameters_of}}
-use Rattle.lft_same.specs.Fits.Fits.{IsShapeOf}
+use Rattle.lft_same.specs.inner.Fits.Fits.{IsShapeOf}
 use Rattle.lft_same.proofs.FitsLemmas.ClassNames.{called, called_so, named_so, position_found, position_lost}
 use Rattle.lft_classes.specs.declared.shapes.Thing.TheVariants as thing
 

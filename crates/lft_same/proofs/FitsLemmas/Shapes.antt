@@ -12,10 +12,11 @@ use Rattle.lft_whole.specs.declared.{sources.source.SourceFile.SourceFile, tree.
 use Rattle.lft_classes.specs.declared.{scopes.Class.Class as ScopesClass, shapes.Shape.Shape}
 use Rattle.lft_classes.specs.Built.{IsBuilt, core, members_at, members_or_none, parameters_at, parameters_or_none}
 use Rattle.lft_classes.specs.Chains.{IsChain, base_in, base_of, bases_in, bases_of as numbered_bases, extended}
-use Rattle.lft_classes.specs.Scopes.{AreScopes, class_at, reactors_before, reactors_in, reactors_of}
+use Rattle.lft_classes.specs.{Scopes.{AreScopes, class_at, reactors_in, reactors_of}, inner.Scopes.reactors_before}
 use Rattle.lft_classes.specs.Walks.{IsBehind, Reaches, Ways, nothing, one, itself, further}
 use Rattle.lft_classes.proofs.{Decided.listed_before, Numbering.at_file}
-use Rattle.lft_same.specs.{Expanded.Reactors.{Class, bases_of, class_named, lineage, reactor_count, reactor_of, same_class}, Fits.Fits.{IsShapeOf, number_at}}
+use Rattle.lft_same.specs.Expanded.Reactors.{Class, bases_of, class_named, lineage, reactor_count, reactor_of, same_class}
+use Rattle.lft_same.specs.inner.Fits.Fits.{IsShapeOf, number_at}
 use Rattle.lft_same.proofs.FitsLemmas.{ClassNames.{names_law, named_is}, Lineage.{Apart, Puts, all_put, lineage_apart, lineage_here, lineage_listed}}
 
 -- ---- lists

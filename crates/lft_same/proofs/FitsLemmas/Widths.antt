@@ -13,7 +13,7 @@ use Rattle.lft_elaborate.specs.Values.{Valued, inside, literal, number_named}
 use Rattle.lft_classes.specs.{declared.shapes.{Inherited.Inherited, Shape.Shape, Thing.Thing}, Shapes.{name_of, thing_named, width_of}}
 use Rattle.lft_same.specs.Expanded.Instances.{Inner, Inside, Widths, entered, inners, inners_at, inside_of, main_instance, number_of, numbers, numbers_at, numbers_named, place_named, written}
 use Rattle.lft_same.specs.Expanded.{Reactors.{Class, main_of, members_of}, Whole.{AreWidths, channels, count_in, things_named, total}}
-use Rattle.lft_same.specs.Fits.{Fits.Fits, Widths.{AreFound, small}}
+use Rattle.lft_same.specs.inner.Fits.{Fits.Fits, Widths.{AreFound, small}}
 use Rattle.lft_same.proofs.FitsLemmas.{Channels.channels_length, Fitting.number_fits, MemberNames.{member_found, member_lost}}
 use Rattle.lft_whole.specs.declared.tree.Count.TheVariants as count
 use Rattle.lft_whole.specs.declared.tree.Member.TheVariants as member

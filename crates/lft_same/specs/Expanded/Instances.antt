@@ -1,8 +1,7 @@
 -- The instances of a whole program: the values of their parameters, and banks and multiports.
 use Rattle.std.specs.Prelude.{ℕ, ◌++◌, ℤ, pos, neg_ℤ, true, false, List, [], ◌∷◌, Option, Some, None, find, flat_map, if◌then◌else◌, map, option_map, position, slice_get, string_bytes}
 use Rattle.std.specs.{List.enumerate_from, Option.{option_and_then, option_map_or}}
-use Rattle.lft_elaborate.specs.{Channels.Channels.below, Names.tail}
-pub use Rattle.lft_elaborate.specs.Values.{is_forever}
+use Rattle.lft_elaborate.specs.{Channels.Channels.below, Names.tail, Values.is_forever}
 use Rattle.lft_classes.specs.Shapes.{name_of, width_of}
 use Rattle.lft_whole.specs.declared.sources.source.SourceFile.{SourceFile}
 use Rattle.lft_whole.specs.declared.tree.{Assignment.Assignment, Expression.Expression, Instance.Instance, Member.Member, Parameter.Parameter, Value.Value}

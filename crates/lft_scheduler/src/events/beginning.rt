@@ -1,7 +1,7 @@
 //! The events of the external inputs.
 
 ghost use Rattle.std.specs.Prelude.{[], None, IfOk};
-ghost use Rattle.lft_scheduler.specs.Events.{HasEvents};
+ghost use Rattle.lft_scheduler.specs.inner.Events.{HasEvents};
 
 use lft_ir::Name;
 use lft_ir::steps::Event;

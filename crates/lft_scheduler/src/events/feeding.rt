@@ -2,7 +2,7 @@
 
 ghost use Rattle.std.specs.Prelude.{◌≡◌, ◌<◌, ◌≤◌, ◌+◌, ◌++◌, ◌∷◌, [], ℕ, List, length, slice_get, Some, None, IfOk, Contains};
 ghost use Rattle.lft_tag.specs.Tags.{UpTo, IsRecorded};
-ghost use Rattle.lft_scheduler.specs.{Listeners.{IsArrival, IsWatched, AreArrivals}, Events.{HasEvents, IsPut, IsFedTo, KnowsAgain}};
+ghost use Rattle.lft_scheduler.specs.inner.{Listeners.{IsArrival, IsWatched, AreArrivals}, Events.{HasEvents, IsPut, IsFedTo, KnowsAgain}};
 ghost use Rattle.lft_ir.specs.{declared.steps.row.{Row.Row as RowOf, Step.Step as StepOf}, Steps.Fits.StepFits};
 ghost use Rattle.lft_model.specs.Recorded.{run_row, committed_rows};
 

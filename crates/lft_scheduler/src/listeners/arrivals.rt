@@ -2,7 +2,7 @@
 
 ghost use Rattle.std.specs.Prelude.{◌≡◌, ◌≢◌, ◌↔◌, ℕ, Contains, AllPairs, IfOk};
 ghost use Rattle.lft_ir.specs.Parts.{Parts};
-ghost use Rattle.lft_scheduler.specs.Listeners.{IsArrival, IsWatched, AreArrivals};
+ghost use Rattle.lft_scheduler.specs.inner.Listeners.{IsArrival, IsWatched, AreArrivals};
 
 use crate::listeners::lists::NumberLists;
 use crate::listeners::watched::Watched;

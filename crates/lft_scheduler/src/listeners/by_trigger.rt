@@ -2,7 +2,7 @@
 
 ghost use Rattle.std.specs.Prelude.{◌≡◌, [], IfOk, OnOk};
 ghost use Rattle.lft_ir.specs.{declared.parts.Trigger.Trigger as TriggerOf, Sound.IsTriggerOf};
-ghost use Rattle.lft_scheduler.specs.Lists.{list_of, HasList, IsPushed};
+ghost use Rattle.lft_scheduler.specs.inner.Lists.{list_of, HasList, IsPushed};
 
 use crate::listeners::lists::NumberLists;
 use lft_ir::{Name, Program, Trigger};
@@ -21,7 +21,7 @@ pub(crate) struct ByTrigger {
 }
 
 impl Model for ByTrigger {
-    ghost use Rattle.lft_scheduler.specs.Lists.{TriggerLists};
+    ghost use Rattle.lft_scheduler.specs.inner.Lists.{TriggerLists};
 
     ghost Value = { TriggerLists };
 

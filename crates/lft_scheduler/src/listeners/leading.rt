@@ -2,7 +2,7 @@
 
 ghost use Rattle.std.specs.Prelude.{◌≡◌, ◌↔◌, ◌⊎◌, ◌<◌, ℕ, true, length, slice_get, Some, IfOk, OnOk, IfSome, IsTrue, Contains};
 ghost use Rattle.lft_ir.specs.declared.parts.Trigger.{Trigger as TriggerOf};
-ghost use Rattle.lft_scheduler.specs.{Listeners.{beat as the_beat, IsLeader, IsLive}, Filling.{HaveLeaders, AreLeading, StartsBefore}};
+ghost use Rattle.lft_scheduler.specs.inner.{Listeners.{beat as the_beat, IsLeader, IsLive}, Filling.{HaveLeaders, AreLeading, StartsBefore}};
 
 use lft_ir::{Program, Timer, Trigger};
 use lft_lists::item_at;

@@ -1,7 +1,7 @@
 //! Lists of numbers, by number.
 
 ghost use Rattle.std.specs.Prelude.{◌≡◌, ℕ, ◌<◌, ◌++◌, ◌∷◌, [], length, slice_set, IfOk, OnOk};
-ghost use Rattle.lft_scheduler.specs.Lists.{list_at};
+ghost use Rattle.lft_scheduler.specs.inner.Lists.{list_at};
 
 use lft_tag::NoMemory;
 use std::alloc::Global;

@@ -1,7 +1,7 @@
 //! The ports whose events are watched.
 
 ghost use Rattle.std.specs.Prelude.{◌≡◌, ◌↔◌, ◌<◌, length, IfOk, IfSome, IsTrue};
-ghost use Rattle.lft_scheduler.specs.{Listeners.{IsWatched, arrival as arrival_of}, Filling.{AreFirst, Precedes, AreWatched}};
+ghost use Rattle.lft_scheduler.specs.inner.{Listeners.{IsWatched, arrival as arrival_of}, Filling.{AreFirst, Precedes, AreWatched}};
 
 use lft_ir::{Port, Program};
 use lft_queue::read_ports;
@@ -59,7 +59,7 @@ pub(crate) struct Watched {
 }
 
 impl Model for Watched {
-    ghost use Rattle.lft_scheduler.specs.Filling.{WatchedParts};
+    ghost use Rattle.lft_scheduler.specs.inner.Filling.{WatchedParts};
 
     ghost Value = { WatchedParts };
 

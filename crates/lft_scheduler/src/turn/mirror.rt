@@ -1,7 +1,7 @@
 //! The short lists turned round.
 
 ghost use Rattle.std.specs.Prelude.{◌≡◌, ℕ, List, [], ◌<◌, length, slice_get, Some, IfOk, OnOk};
-ghost use Rattle.lft_scheduler.specs.{Turns.HasProgram, Seats.{IsMirror, IsNoted}};
+ghost use Rattle.lft_scheduler.specs.inner.{Turns.HasProgram, Seats.{IsMirror, IsNoted}};
 
 use crate::turn::members::ReactionList;
 use lft_graph::Graph;

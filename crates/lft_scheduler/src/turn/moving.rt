@@ -3,7 +3,7 @@
 
 ghost use Rattle.std.specs.Prelude.{◌≡◌, ◌≢◌, ℕ, List, [], true, false, ◌+◌, ◌<◌, ◌≤◌, length, slice_get, slice_set, Some};
 ghost use Rattle.lft_scheduler.specs.declared.turn.seats.Seat.{Seat};
-ghost use Rattle.lft_scheduler.specs.Seats.{busy, free, IsAtRest, IsPushed, IsMoving, AreInside, AreOnce, KeepsPhases, phases_of, uncounted};
+ghost use Rattle.lft_scheduler.specs.inner.Seats.{busy, free, IsAtRest, IsPushed, IsMoving, AreInside, AreOnce, KeepsPhases, phases_of, uncounted};
 
 use crate::turn::members::ReactionList;
 use crate::turn::numbers::NumberSet;

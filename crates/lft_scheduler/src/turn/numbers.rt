@@ -1,7 +1,7 @@
 //! A set of numbers below a bound, whose least member is found without a look at all of them.
 
 ghost use Rattle.std.specs.Prelude.{◌≡◌, ℕ, Bool, false, ◌+◌, ◌<◌, ◌≤◌, length, slice_set, replicate, Some, None, IfOk};
-ghost use Rattle.lft_scheduler.specs.Flags.{IsFlagged, IsLeastIn, NoneIn, AreCovered};
+ghost use Rattle.lft_scheduler.specs.inner.Flags.{IsFlagged, IsLeastIn, NoneIn, AreCovered};
 
 use lft_lists::item_at;
 use lft_tag::NoMemory;
@@ -21,7 +21,7 @@ pub(crate) struct NumberSet {
 
 impl Model for NumberSet {
     ghost use Rattle.std.specs.Prelude.{List, Bool};
-    ghost use Rattle.lft_scheduler.specs.Flags.{AreCovered};
+    ghost use Rattle.lft_scheduler.specs.inner.Flags.{AreCovered};
 
     ghost Value = { List Bool };
 

@@ -1,7 +1,7 @@
 //! How far a reaction is at a tag.
 
 ghost use Rattle.std.specs.Prelude.{◌≡◌};
-ghost use Rattle.lft_scheduler.specs.Phases.{pending};
+ghost use Rattle.lft_scheduler.specs.inner.Phases.{pending};
 
 /// How far a reaction is at a tag: it wasn't triggered or its run has ended, it is triggered and
 /// its run hasn't started, or its run has started and hasn't ended.

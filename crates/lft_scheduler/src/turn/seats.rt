@@ -1,7 +1,7 @@
 //! What is kept for each reaction.
 
 ghost use Rattle.std.specs.Prelude.{◌≡◌, ◌<◌, length, slice_get, Some};
-ghost use Rattle.lft_scheduler.specs.Seats.{busy, free};
+ghost use Rattle.lft_scheduler.specs.inner.Seats.{busy, free};
 
 use crate::turn::phase::{Phase, is_pending};
 

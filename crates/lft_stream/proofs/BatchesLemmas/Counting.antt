@@ -5,8 +5,8 @@ use Rattle.std.proofs.{lemmas.List.{length-append, length-take-le, take-append-d
 use Rattle.lft_ir.specs.{Parts.Parts, declared.steps.row.Row.Row}
 use Rattle.lft_lists.proofs.Places.{get_right}
 use Rattle.lft_model.specs.Plans.{PlanParts}
-use Rattle.lft_stream.specs.{Kept.IsAcceptorOf, declared.acceptor.Acceptor.Acceptor}
-use Rattle.lft_counts.{specs.{Counts.KeepsRows, Cover.CoversRows, declared.cover.Cover.Cover}, proofs.Agreeing.{covers_more, covers_front}}
+use Rattle.lft_stream.specs.{inner.Kept.IsAcceptorOf, declared.acceptor.Acceptor.Acceptor}
+use Rattle.lft_counts.{specs.{inner.Counts.KeepsRows, Cover.CoversRows, declared.cover.Cover.Cover}, proofs.Agreeing.{covers_more, covers_front}}
 
 -- rows that the judge went over keep the rules 1 to 5
 pub keeps : (plan : PlanParts) (t : List Row) (acceptor : Acceptor) → IsAcceptorOf plan t acceptor → KeepsRows t

@@ -2,10 +2,10 @@
 use Rattle.std.proofs.Common.{◌≡◌, ◌∙◌, ℕ, List, [], ◌∷◌, ◌++◌, length, take, ap, sym, subst, arith}
 use Rattle.std.proofs.lemmas.List.{append_assoc, length-take-le}
 use Rattle.lft_ir.specs.{Sound.IsSound, declared.steps.row.Row.Row}
-use Rattle.lft_trace.specs.{Records.records_of, Telling.rows_in, Traces.{Table, header}, Parts.BeginsWith}
+use Rattle.lft_trace.specs.{Records.records_of, inner.{Telling.rows_in, Parts.BeginsWith}, Traces.{Table, header}}
 use Rattle.lft_trace.proofs.{Beginning.{begins_all, begins_more, begins_none}, FirstTold.tells}
 use Rattle.lft_model.specs.Plans.{PlanParts}
-use Rattle.lft_stream.specs.{Batches.Fronts.{IsFront, IsNextBehind, judged_rows}, declared.batches.text.Front.Front}
+use Rattle.lft_stream.specs.{inner.Batches.Fronts.{IsFront, IsNextBehind, judged_rows}, declared.batches.text.Front.Front}
 
 module _ (plan : PlanParts) (body : List ℕ) (front : Front) (waiting : List Row) where
   -- before anything is judged, all rows are next

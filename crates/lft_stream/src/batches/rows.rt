@@ -3,7 +3,7 @@
 ghost use Rattle.std.specs.Prelude.{◌≡◌, ◌<◌, ◌≤◌, List, length, take, IfSome, IsTrue};
 ghost use Rattle.lft_ir.specs.{declared.steps.row.Row.Row as TheRow, Steps.Fits.RowsFit};
 ghost use Rattle.lft_rows.specs.Accepted.{IsAccepted};
-ghost use Rattle.lft_stream.specs.Kept.{IsAcceptorOf};
+ghost use Rattle.lft_stream.specs.inner.Kept.{IsAcceptorOf};
 
 use crate::{Acceptor, Counts};
 use lft_ir::steps::{Row, Rows, row_at};

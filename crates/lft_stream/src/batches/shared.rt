@@ -4,9 +4,9 @@
 ghost use Rattle.std.specs.Prelude.{◌≡◌, ◌++◌, List, IfSome};
 ghost use Rattle.std.specs.Thread.{IsSync};
 ghost use Rattle.lft_ir.specs.{Steps.Fits.RowsFit, declared.steps.row.Row.Row as TheRow};
-ghost use Rattle.lft_trace.specs.{Records.records_of, Traces.Table, Parts.{HoldsRows, rows_of}};
+ghost use Rattle.lft_trace.specs.{Records.records_of, Traces.Table, inner.Parts.{HoldsRows, rows_of}};
 ghost use Rattle.lft_rows.specs.Accepted.{IsAccepted};
-ghost use Rattle.lft_stream.specs.Batches.Fronts.{IsFront, IsNextBehind, judged_rows};
+ghost use Rattle.lft_stream.specs.inner.Batches.Fronts.{IsFront, IsNextBehind, judged_rows};
 
 use crate::Counts;
 use crate::batches::text::{Front, add_batch, batch_bytes, reaction_names};

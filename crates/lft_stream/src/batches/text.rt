@@ -2,10 +2,10 @@
 
 ghost use Rattle.std.specs.Prelude.{◌≡◌, ◌++◌, ◌+◌, ◌≤◌, ℕ, List, Some, length, slice_get, take, IfOk, IfSome, IsTrue, OnSome};
 ghost use Rattle.lft_ir.specs.{Parts.Parts, Sound.IsSound, Steps.Fits.RowsFit, declared.steps.row.Row.Row as TheRow};
-ghost use Rattle.lft_trace.specs.{Records.records_of, Telling.rows_in, Traces.Table};
+ghost use Rattle.lft_trace.specs.{Records.records_of, inner.Telling.rows_in, Traces.Table};
 ghost use Rattle.lft_rows.specs.Accepted.{IsAccepted};
-ghost use Rattle.lft_stream.specs.{Kept.IsAcceptorOf, Batches.Fronts.{IsFront, IsNextBehind, IsWholeFront, judged_rows}};
-ghost use Rattle.lft_counts.specs.{Counts.KeepsRows, Cover.CoversRows};
+ghost use Rattle.lft_stream.specs.inner.{Kept.IsAcceptorOf, Batches.Fronts.{IsFront, IsNextBehind, IsWholeFront, judged_rows}};
+ghost use Rattle.lft_counts.specs.{inner.Counts.KeepsRows, Cover.CoversRows};
 
 use crate::batches::rows::rows_together;
 use crate::{Acceptor, Counts};

@@ -1,9 +1,11 @@
 //! Ports, timers, actions, state variables and preambles.
 
 ghost use Rattle.std.specs.Prelude.{◌≡◌, ℕ, ◌+◌, codes, option_map, slice_get, Some, IfOk, IfSome, if◌then◌else◌};
-ghost use Rattle.lft_syntax.specs.{Lexeme.{Letters, Symbol, is, is_word_of, scope_keys}, Grammar.flat, View.{Gives, at_next}};
-ghost use Rattle.lft_syntax.specs.Reading.{key_at, ignoring_at, apply, maybe, input_at, output_at, port_at, period_at, times_at, timer_at, min_delay_at, origin_at, action_at, state_at, scope_at, preamble_at};
-ghost use Rattle.lft_syntax.specs.{Placed.{PortStands, TimerStands, ActionStands, TimeStands, TimesStand}, Parsing.words};
+ghost use Rattle.lft_syntax.specs.{Lexeme.{Letters, Symbol, is, is_word_of, scope_keys}, Grammar.flat};
+ghost use Rattle.lft_syntax.specs.inner.View.{Gives, at_next};
+ghost use Rattle.lft_syntax.specs.inner.Reading.{key_at, ignoring_at, apply, maybe, input_at, output_at, port_at, period_at, times_at, timer_at, min_delay_at, origin_at, action_at, state_at, scope_at, preamble_at};
+ghost use Rattle.lft_syntax.specs.inner.Parsing.{words};
+ghost use Rattle.lft_syntax.specs.Placed.{PortStands, TimerStands, ActionStands, TimeStands, TimesStand};
 ghost use Rattle.lft_tree.specs.View.{time_view, port_view, timer_view, action_view, range_view};
 
 use crate::input::Input;
@@ -26,7 +28,7 @@ fn mutable(input: &Input, at: usize) -> Result<usize, ParseError>
     key(input, at, b"mutable")
 }
 
-#[tactic(auto, unfolding(crate::specs::Reading::input_at))]
+#[tactic(auto, unfolding(crate::specs::inner::Reading::input_at))]
 fn input_port(input: &Input, at: usize) -> Result<(Port, usize), ParseError>
     ensures gives { Gives (λ x. (port_view x.0, x.1)) result (input_at (words input.now) at) }
     ensures stands { IfOk result (λ x. PortStands (words input.now) at x.0) }
@@ -45,7 +47,7 @@ fn input_port(input: &Input, at: usize) -> Result<(Port, usize), ParseError>
     ))
 }
 
-#[tactic(auto, unfolding(crate::specs::Reading::output_at))]
+#[tactic(auto, unfolding(crate::specs::inner::Reading::output_at))]
 fn output_port(input: &Input, at: usize) -> Result<(Port, usize), ParseError>
     ensures gives { Gives (λ x. (port_view x.0, x.1)) result (output_at (words input.now) at) }
     ensures stands { IfOk result (λ x. PortStands (words input.now) at x.0) }
@@ -63,7 +65,7 @@ fn output_port(input: &Input, at: usize) -> Result<(Port, usize), ParseError>
     ))
 }
 
-#[tactic(auto, unfolding(crate::specs::Reading::port_at))]
+#[tactic(auto, unfolding(crate::specs::inner::Reading::port_at))]
 pub fn port(input: &Input, at: usize) -> Result<(Port, usize), ParseError>
     ensures gives { Gives (λ x. (port_view x.0, x.1)) result (port_at (words input.now) at) }
     ensures stands { IfOk result (λ x. PortStands (words input.now) at x.0) }
@@ -76,7 +78,7 @@ pub fn port(input: &Input, at: usize) -> Result<(Port, usize), ParseError>
 }
 
 /// `,` and a timer's period, which may be left out.
-#[tactic(auto, unfolding(crate::specs::Reading::period_at))]
+#[tactic(auto, unfolding(crate::specs::inner::Reading::period_at))]
 fn period(input: &Input, at: usize) -> Result<(Option<TimeExpression>, usize), ParseError>
     ensures gives { Gives (λ x. (option_map time_view x.0, x.1)) result (period_at (words input.now) at) }
     ensures stands { IfOk result (λ x. IfSome x.0 (TimeStands (at + 1))) }
@@ -90,7 +92,7 @@ fn period(input: &Input, at: usize) -> Result<(Option<TimeExpression>, usize), P
 }
 
 /// A timer's offset and period in their parentheses.
-#[tactic(auto, unfolding(crate::specs::Reading::times_at))]
+#[tactic(auto, unfolding(crate::specs::inner::Reading::times_at))]
 fn times(
     input: &Input,
     at: usize,
@@ -109,7 +111,7 @@ fn times(
     Ok((Some((offset, period)), end))
 }
 
-#[tactic(auto, unfolding(crate::specs::Reading::timer_at))]
+#[tactic(auto, unfolding(crate::specs::inner::Reading::timer_at))]
 pub fn timer(input: &Input, at: usize) -> Result<(Timer, usize), ParseError>
     ensures gives { Gives (λ x. (timer_view x.0, x.1)) result (timer_at (words input.now) at) }
     ensures stands { IfOk result (λ x. TimerStands (words input.now) at x.0) }
@@ -151,7 +153,7 @@ pub fn timer(input: &Input, at: usize) -> Result<(Timer, usize), ParseError>
 }
 
 /// Whether an action is physical.
-#[tactic(auto, unfolding(crate::specs::Reading::origin_at))]
+#[tactic(auto, unfolding(crate::specs::inner::Reading::origin_at))]
 fn origin(input: &Input, at: usize) -> Result<(bool, usize), ParseError>
     ensures gives { Gives (λ x. (x.0, x.1)) result (origin_at (words input.now) at) }
     ensures next { IfOk result (λ x. x.1 ≡ at + 1) }
@@ -165,7 +167,7 @@ fn origin(input: &Input, at: usize) -> Result<(bool, usize), ParseError>
 }
 
 /// An action's minimum delay in its parentheses.
-#[tactic(auto, unfolding(crate::specs::Reading::min_delay_at))]
+#[tactic(auto, unfolding(crate::specs::inner::Reading::min_delay_at))]
 fn min_delay(input: &Input, at: usize) -> Result<(Option<TimeExpression>, usize), ParseError>
     ensures gives { Gives (λ x. (option_map time_view x.0, x.1)) result (min_delay_at (words input.now) at) }
     ensures stands { IfOk result (λ x. IfSome x.0 (TimeStands (at + 1))) }
@@ -194,7 +196,7 @@ fn left_out_min_delay(
     min_delay(input, at)
 }
 
-#[tactic(auto, unfolding(crate::specs::Reading::action_at))]
+#[tactic(auto, unfolding(crate::specs::inner::Reading::action_at))]
 pub fn action(input: &Input, at: usize) -> Result<(Action, usize), ParseError>
     ensures gives { Gives (λ x. (action_view x.0, x.1)) result (action_at (words input.now) at) }
     ensures stands { IfOk result (λ x. ActionStands (words input.now) at x.0) }
@@ -216,7 +218,7 @@ pub fn action(input: &Input, at: usize) -> Result<(Action, usize), ParseError>
 }
 
 /// A state variable.
-#[tactic(auto, unfolding(crate::specs::Reading::state_at))]
+#[tactic(auto, unfolding(crate::specs::inner::Reading::state_at))]
 pub fn state(input: &Input, at: usize) -> Result<(TokenRange, usize), ParseError>
     ensures { Gives (λ x. (range_view x.0, x.1)) result (state_at (words input.now) at) }
 {
@@ -229,7 +231,7 @@ pub fn state(input: &Input, at: usize) -> Result<(TokenRange, usize), ParseError
 }
 
 /// `private` or `public`, which may be left out.
-#[tactic(auto, unfolding(crate::specs::Reading::scope_at))]
+#[tactic(auto, unfolding(crate::specs::inner::Reading::scope_at))]
 fn scope(input: &Input, at: usize) -> Result<usize, ParseError>
     ensures { Gives at_next result (ignoring_at (maybe (is_word_of scope_keys) scope_at) (words input.now) at) }
 {
@@ -242,7 +244,7 @@ fn scope(input: &Input, at: usize) -> Result<usize, ParseError>
     key(input, at, b"public")
 }
 
-#[tactic(auto, unfolding(crate::specs::Reading::preamble_at))]
+#[tactic(auto, unfolding(crate::specs::inner::Reading::preamble_at))]
 pub fn preamble(input: &Input, at: usize) -> Result<(TokenRange, usize), ParseError>
     ensures gives { Gives (λ x. (range_view x.0, x.1)) result (preamble_at (words input.now) at) }
     ensures stands { IfOk result (λ x. range_view x.0 ≡ (at, x.1)) }

@@ -1,9 +1,10 @@
 //! The file.
 
 ghost use Rattle.std.specs.Prelude.{◌≡◌, ℕ, ◌≤◌, codes, length, option_map, IfOk};
-ghost use Rattle.lft_syntax.specs.{Lexeme.{Symbol, Letters, is}, View.{Gives, at_next}};
-ghost use Rattle.lft_syntax.specs.{Reading.{maybe, ignoring_at, braces_at, target_at, item_at, items_at, file_at, whole_at}, Language.many};
-ghost use Rattle.lft_syntax.specs.{Placed.{FileStands, past_target}, Parsing.words};
+ghost use Rattle.lft_syntax.specs.Lexeme.{Symbol, Letters, is};
+ghost use Rattle.lft_syntax.specs.inner.{View.{Gives, at_next}, Reading.{maybe, ignoring_at, braces_at, target_at, item_at, items_at, file_at, whole_at}};
+ghost use Rattle.lft_syntax.specs.inner.Parsing.{words};
+ghost use Rattle.lft_syntax.specs.{Language.many, Placed.{FileStands, past_target}};
 ghost use Rattle.lft_tree.specs.View.{range_view, item_view, item_views, file_view};
 ghost use Rattle.lft_syntax.specs.Placed as Placed;
 
@@ -26,7 +27,7 @@ fn properties(input: &Input, at: usize) -> Result<usize, ParseError>
     braces(input, at)
 }
 
-#[tactic(auto, unfolding(crate::specs::Reading::target_at))]
+#[tactic(auto, unfolding(crate::specs::inner::Reading::target_at))]
 fn target(input: &Input, at: usize) -> Result<(TokenRange, usize), ParseError>
     ensures gives { Gives (λ x. (range_view x.0, x.1)) result (target_at (words input.now) at) }
     ensures next { IfOk result (λ x. x.1 ≡ x.0.end) }
@@ -50,7 +51,7 @@ fn left_out_target(input: &Input, at: usize) -> Result<(Option<TokenRange>, usiz
     Ok((Some(tokens), at))
 }
 
-#[tactic(auto, unfolding(crate::specs::Reading::item_at))]
+#[tactic(auto, unfolding(crate::specs::inner::Reading::item_at))]
 fn item(input: &Input, at: usize) -> Result<(Item, usize), ParseError>
     ensures gives { Gives (λ x. (item_view x.0, x.1)) result (item_at (words input.now) at) }
     ensures stands { IfOk result (λ x. Placed.item (words input.now) at x.1 x.0) }
@@ -85,7 +86,7 @@ pub struct Content {
     pub items: Vec<Item>,
 }
 
-#[tactic(auto, unfolding(crate::specs::Reading::file_at))]
+#[tactic(auto, unfolding(crate::specs::inner::Reading::file_at))]
 fn file(input: &Input) -> Result<(Content, usize), ParseError>
     ensures gives { Gives (λ x. (file_view x.0.target x.0.items.items, x.1)) result (file_at (words input.now) 0) }
     ensures stand { IfOk result (λ x. FileStands (words input.now) x.0.target x.0.items.items) }
@@ -96,7 +97,7 @@ fn file(input: &Input) -> Result<(Content, usize), ParseError>
 }
 
 /// What stands in the whole text.
-#[tactic(auto, unfolding(crate::specs::Reading::whole_at))]
+#[tactic(auto, unfolding(crate::specs::inner::Reading::whole_at))]
 pub fn whole(input: &Input) -> Result<Content, ParseError>
     ensures gives { Gives (λ x. file_view x.target x.items.items) result (whole_at (words input.now)) }
     ensures stand { IfOk result (λ x. FileStands (words input.now) x.target x.items.items) }

@@ -1,8 +1,9 @@
 //! Groups: the tokens between brackets that balance.
 
 ghost use Rattle.std.specs.Prelude.{◌≡◌, ℕ, suc, ◌<◌, ◌≤◌, ◌+◌, ◌-◌, ◌^◌, length, slice_get, Result, IfOk};
-ghost use Rattle.lft_syntax.specs.{Lexeme.Symbol, View.{Gives, at_next}, Reading.{inside_step, inside_at, braces_at, brackets_at, parentheses_at}};
-ghost use Rattle.lft_syntax.specs.Parsing.{words, Steps, shallow};
+ghost use Rattle.lft_syntax.specs.Lexeme.{Symbol};
+ghost use Rattle.lft_syntax.specs.inner.{View.{Gives, at_next}, Reading.{inside_step, inside_at, braces_at, brackets_at, parentheses_at}};
+ghost use Rattle.lft_syntax.specs.inner.Parsing.{words, Steps, shallow};
 
 use crate::input::{Input, Seen};
 use crate::parse_error::ParseError;
@@ -58,7 +59,7 @@ fn inside(input: &Input, at: usize, opening: u8, closing: u8) -> Result<usize, P
     }
 }
 
-#[tactic(auto, unfolding(crate::specs::Reading::braces_at, crate::specs::Reading::group_at))]
+#[tactic(auto, unfolding(crate::specs::inner::Reading::braces_at, crate::specs::inner::Reading::group_at))]
 pub fn braces(input: &Input, at: usize) -> Result<usize, ParseError>
     ensures { Gives at_next result (braces_at (words input.now) at) }
 {
@@ -66,7 +67,7 @@ pub fn braces(input: &Input, at: usize) -> Result<usize, ParseError>
     inside(input, at, b'{', b'}')
 }
 
-#[tactic(auto, unfolding(crate::specs::Reading::brackets_at, crate::specs::Reading::group_at))]
+#[tactic(auto, unfolding(crate::specs::inner::Reading::brackets_at, crate::specs::inner::Reading::group_at))]
 pub fn brackets(input: &Input, at: usize) -> Result<usize, ParseError>
     ensures { Gives at_next result (brackets_at (words input.now) at) }
 {
@@ -74,7 +75,7 @@ pub fn brackets(input: &Input, at: usize) -> Result<usize, ParseError>
     inside(input, at, b'[', b']')
 }
 
-#[tactic(auto, unfolding(crate::specs::Reading::parentheses_at, crate::specs::Reading::group_at))]
+#[tactic(auto, unfolding(crate::specs::inner::Reading::parentheses_at, crate::specs::inner::Reading::group_at))]
 pub fn parentheses(input: &Input, at: usize) -> Result<usize, ParseError>
     ensures { Gives at_next result (parentheses_at (words input.now) at) }
 {

@@ -1,10 +1,11 @@
 //! Contained instances and connections.
 
 ghost use Rattle.std.specs.Prelude.{◌≡◌, ℕ, ◌+◌, [], ◌∷◌, map, option_map, slice_get, IfOk, IfSome, if◌then◌else◌};
-ghost use Rattle.lft_syntax.specs.{Lexeme.{Symbol, is}, View.Gives};
-ghost use Rattle.lft_syntax.specs.Reading.{after_comma, repeated, with_front, listed_at, given_value_at, assign_at, assigns_at, instance_at, after_at, connection_at};
+ghost use Rattle.lft_syntax.specs.Lexeme.{Symbol, is};
+ghost use Rattle.lft_syntax.specs.inner.View.{Gives};
+ghost use Rattle.lft_syntax.specs.inner.Reading.{after_comma, repeated, with_front, listed_at, given_value_at, assign_at, assigns_at, instance_at, after_at, connection_at};
+ghost use Rattle.lft_syntax.specs.inner.Parsing.{words};
 ghost use Rattle.lft_syntax.specs.Placed.{Takes, TakeRow, TimeStands, AssignmentsStand, AssignmentStands, InstanceStands, ConnectionStands, assignment_tokens, time_tokens};
-ghost use Rattle.lft_syntax.specs.Parsing.{words};
 ghost use Rattle.lft_tree.specs.View.{time_view, assignment_view, instance_view, connection_view};
 
 use crate::input::Input;
@@ -16,7 +17,7 @@ use crate::parser::tokens::{arrow, is_key, is_symbol, key, symbol};
 use lft_tree::{Assignment, Connection, Instance, TimeExpression};
 
 /// The value of a parameter, after `=` or in parentheses.
-#[tactic(auto, unfolding(crate::specs::Reading::given_value_at))]
+#[tactic(auto, unfolding(crate::specs::inner::Reading::given_value_at))]
 fn given_value(input: &Input, at: usize) -> Result<(TimeExpression, usize), ParseError>
     ensures gives { Gives (λ x. (time_view x.0, x.1)) result (given_value_at (words input.now) at) }
     ensures stands { IfOk result (λ x. TimeStands (at + 1) x.0 × (x.1 ≡ at + (if is (Symbol 61) (slice_get (words input.now) at) then time_tokens x.0 + 1 else time_tokens x.0 + 2))) }
@@ -31,7 +32,7 @@ fn given_value(input: &Input, at: usize) -> Result<(TimeExpression, usize), Pars
     Ok((value, end))
 }
 
-#[tactic(auto, unfolding(crate::specs::Reading::assign_at))]
+#[tactic(auto, unfolding(crate::specs::inner::Reading::assign_at))]
 fn assignment(input: &Input, at: usize) -> Result<(Assignment, usize), ParseError>
     ensures gives { Gives (λ x. (assignment_view x.0, x.1)) result (assign_at (words input.now) at) }
     ensures stands { IfOk result (λ x. Takes (AssignmentStands (words input.now)) (assignment_tokens (words input.now)) at x.0 x.1) }
@@ -78,7 +79,7 @@ fn some_assignments(input: &Input, at: usize) -> Result<(Vec<Assignment>, usize)
 }
 
 /// What `new` gives to parameters, in its parentheses.
-#[tactic(auto, unfolding(crate::specs::Reading::assigns_at))]
+#[tactic(auto, unfolding(crate::specs::inner::Reading::assigns_at))]
 fn assignments(input: &Input, at: usize) -> Result<(Vec<Assignment>, usize), ParseError>
     ensures gives { Gives (λ x. (map assignment_view x.0.items, x.1)) result (assigns_at (words input.now) at) }
     ensures stand { IfOk result (λ x. AssignmentsStand (words input.now) (at + 1) x.0.items) }
@@ -93,7 +94,7 @@ fn assignments(input: &Input, at: usize) -> Result<(Vec<Assignment>, usize), Par
     Ok((given, end))
 }
 
-#[tactic(auto, unfolding(crate::specs::Reading::instance_at))]
+#[tactic(auto, unfolding(crate::specs::inner::Reading::instance_at))]
 pub fn instance(input: &Input, at: usize) -> Result<(Instance, usize), ParseError>
     ensures gives { Gives (λ x. (instance_view x.0, x.1)) result (instance_at (words input.now) at) }
     ensures stands { IfOk result (λ x. InstanceStands (words input.now) at x.0) }
@@ -116,7 +117,7 @@ pub fn instance(input: &Input, at: usize) -> Result<(Instance, usize), ParseErro
 }
 
 /// `after` and a connection's delay, which may be left out.
-#[tactic(auto, unfolding(crate::specs::Reading::after_at))]
+#[tactic(auto, unfolding(crate::specs::inner::Reading::after_at))]
 fn after(input: &Input, at: usize) -> Result<(Option<TimeExpression>, usize), ParseError>
     ensures gives { Gives (λ x. (option_map time_view x.0, x.1)) result (after_at (words input.now) at) }
     ensures stands { IfOk result (λ x. IfSome x.0 (TimeStands (at + 1))) }
@@ -129,7 +130,7 @@ fn after(input: &Input, at: usize) -> Result<(Option<TimeExpression>, usize), Pa
     Ok((Some(delay), end))
 }
 
-#[tactic(auto, unfolding(crate::specs::Reading::connection_at))]
+#[tactic(auto, unfolding(crate::specs::inner::Reading::connection_at))]
 pub fn connection(input: &Input, at: usize) -> Result<(Connection, usize), ParseError>
     ensures gives { Gives (λ x. (connection_view x.0, x.1)) result (connection_at (words input.now) at) }
     ensures stands { IfOk result (λ x. ConnectionStands (words input.now) at x.0) }

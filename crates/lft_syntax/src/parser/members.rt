@@ -1,8 +1,9 @@
 //! The members of a reactor.
 
 ghost use Rattle.std.specs.Prelude.{◌≡◌, ℕ, ◌+◌, ◌≤◌, length, slice_get, IfOk};
-ghost use Rattle.lft_syntax.specs.{Lexeme.{Symbol, is}, View.Gives, Reading.{member_at, members_at, body_at, choice_next, apply, instance_at, connection_at}};
-ghost use Rattle.lft_syntax.specs.{Language.many, Placed.{MemberStands, BodyStands}, Parsing.words};
+ghost use Rattle.lft_syntax.specs.Lexeme.{Symbol, is};
+ghost use Rattle.lft_syntax.specs.inner.{View.Gives, Reading.{member_at, members_at, body_at, choice_next, apply, instance_at, connection_at}, Parsing.words};
+ghost use Rattle.lft_syntax.specs.{Language.many, Placed.{MemberStands, BodyStands}};
 ghost use Rattle.lft_tree.specs.{View.{member_view, member_views}, Tree.{InstanceMember, ConnectionMember}};
 ghost use Rattle.lft_syntax.specs.Placed as Placed;
 
@@ -38,7 +39,7 @@ fn named_member(input: &Input, at: usize) -> Result<(Member, usize), ParseError>
     Ok((Member::Connection(connection), at))
 }
 
-#[tactic(auto, unfolding(crate::specs::Reading::member_at))]
+#[tactic(auto, unfolding(crate::specs::inner::Reading::member_at))]
 pub fn member(input: &Input, at: usize) -> Result<(Member, usize), ParseError>
     ensures gives { Gives (λ x. (member_view x.0, x.1)) result (member_at (words input.now) at) }
     ensures stands { IfOk result (λ x. MemberStands (words input.now) at x.0) }
@@ -85,7 +86,7 @@ fn members(input: &Input, at: usize) -> Result<(Vec<Member>, usize), ParseError>
     Ok((members, next))
 }
 
-#[tactic(auto, unfolding(crate::specs::Reading::body_at))]
+#[tactic(auto, unfolding(crate::specs::inner::Reading::body_at))]
 pub fn body(input: &Input, at: usize) -> Result<(Vec<Member>, usize), ParseError>
     ensures gives { Gives (λ x. (member_views x.0.items, x.1)) result (body_at (words input.now) at) }
     ensures stand { IfOk result (λ x. BodyStands (words input.now) at x.1 x.0.items) }

@@ -1,9 +1,11 @@
 //! Reactions.
 
 ghost use Rattle.std.specs.Prelude.{◌≡◌, ℕ, ◌+◌, [], ◌∷◌, map, IfOk};
-ghost use Rattle.lft_syntax.specs.{Lexeme.{Symbol, is}, View.{Gives, at_next}};
-ghost use Rattle.lft_syntax.specs.Reading.{after_comma, repeated, with_front, listed_at, maybe, ignoring_at, name_at, trigger_at, triggers_at, reaction_at};
-ghost use Rattle.lft_syntax.specs.{Placed.{Takes, TakeRow, TriggersStand, TriggerStands, ReactionStands, past_name, row_tokens, trigger_tokens}, Parsing.words};
+ghost use Rattle.lft_syntax.specs.Lexeme.{Symbol, is};
+ghost use Rattle.lft_syntax.specs.inner.View.{Gives, at_next};
+ghost use Rattle.lft_syntax.specs.inner.Reading.{after_comma, repeated, with_front, listed_at, maybe, ignoring_at, name_at, trigger_at, triggers_at, reaction_at};
+ghost use Rattle.lft_syntax.specs.inner.Parsing.{words};
+ghost use Rattle.lft_syntax.specs.Placed.{Takes, TakeRow, TriggersStand, TriggerStands, ReactionStands, past_name, row_tokens, trigger_tokens};
 ghost use Rattle.lft_tree.specs.View.{trigger_view, reaction_view};
 ghost use Rattle.lft_syntax.specs.Lexeme as Lexeme;
 
@@ -14,7 +16,7 @@ use crate::parser::references::{effects, reference, uses};
 use crate::parser::tokens::{code, is_key, is_symbol, key, symbol};
 use lft_tree::{Reaction, Trigger};
 
-#[tactic(auto, unfolding(crate::specs::Reading::trigger_at))]
+#[tactic(auto, unfolding(crate::specs::inner::Reading::trigger_at))]
 fn trigger(input: &Input, at: usize) -> Result<(Trigger, usize), ParseError>
     ensures gives { Gives (λ x. (trigger_view x.0, x.1)) result (trigger_at (words input.now) at) }
     ensures stands { IfOk result (λ x. Takes (TriggerStands (words input.now)) trigger_tokens at x.0 x.1) }
@@ -67,7 +69,7 @@ fn some_triggers(input: &Input, at: usize) -> Result<(Vec<Trigger>, usize), Pars
 }
 
 /// The triggers in their parentheses.
-#[tactic(auto, unfolding(crate::specs::Reading::triggers_at))]
+#[tactic(auto, unfolding(crate::specs::inner::Reading::triggers_at))]
 fn triggers(input: &Input, at: usize) -> Result<(Vec<Trigger>, usize), ParseError>
     ensures gives { Gives (λ x. (map trigger_view x.0.items, x.1)) result (triggers_at (words input.now) at) }
     ensures stand { IfOk result (λ x. TriggersStand (words input.now) (at + 1) x.0.items × (x.1 ≡ at + row_tokens trigger_tokens x.0.items + 2)) }
@@ -93,7 +95,7 @@ fn own_name(input: &Input, at: usize) -> Result<usize, ParseError>
     skip_name(input, at)
 }
 
-#[tactic(auto, unfolding(crate::specs::Reading::reaction_at))]
+#[tactic(auto, unfolding(crate::specs::inner::Reading::reaction_at))]
 pub fn reaction(input: &Input, at: usize) -> Result<(Reaction, usize), ParseError>
     ensures gives { Gives (λ x. (reaction_view x.0, x.1)) result (reaction_at (words input.now) at) }
     ensures stands { IfOk result (λ x. ReactionStands (words input.now) at x.0) }

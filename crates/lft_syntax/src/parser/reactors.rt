@@ -1,10 +1,11 @@
 //! Reactors and their parameters.
 
 ghost use Rattle.std.specs.Prelude.{◌≡◌, ℕ, ◌+◌, [], ◌∷◌, codes, map, option_map, string_bytes, slice_get, IfOk, if◌then◌else◌};
-ghost use Rattle.lft_syntax.specs.{Lexeme.{Symbol, is}, Grammar.{or_empty, reactor_of, main_of}, View.Gives};
-ghost use Rattle.lft_syntax.specs.Reading.{after_comma, repeated, with_front, listed_at, apply, both, second, key_at, maybe, name_at, body_at, default_at, param_at, params_at, reactor_at};
+ghost use Rattle.lft_syntax.specs.{Lexeme.{Symbol, is}, Grammar.{or_empty, reactor_of, main_of}};
+ghost use Rattle.lft_syntax.specs.inner.View.{Gives};
+ghost use Rattle.lft_syntax.specs.inner.Reading.{after_comma, repeated, with_front, listed_at, apply, both, second, key_at, maybe, name_at, body_at, default_at, param_at, params_at, reactor_at};
+ghost use Rattle.lft_syntax.specs.inner.Parsing.{words};
 ghost use Rattle.lft_syntax.specs.Placed.{Takes, TakeRow, StandInRow, ParameterStands, ParametersStand, MainNameStands, ReactorStands, place_or, parameter_tokens, row_tokens, past_parameters, unit_tokens};
-ghost use Rattle.lft_syntax.specs.Parsing.{words};
 ghost use Rattle.lft_tree.specs.View.{parameter_view, reactor_view};
 ghost use Rattle.lft_syntax.specs.Lexeme as Lexeme;
 
@@ -17,7 +18,7 @@ use crate::parser::tokens::{is_key, is_symbol, key, symbol};
 use lft_tree::{Parameter, Reactor, Time};
 
 /// A parameter's default, after `=` or in parentheses.
-#[tactic(auto, unfolding(crate::specs::Reading::default_at))]
+#[tactic(auto, unfolding(crate::specs::inner::Reading::default_at))]
 fn default(input: &Input, at: usize) -> Result<(Time, usize), ParseError>
     ensures gives { Gives (λ x. (x.0, x.1)) result (default_at (words input.now) at) }
     ensures next { IfOk result (λ x. x.1 ≡ at + (if is (Symbol 61) (slice_get (words input.now) at) then unit_tokens x.0.unit + 1 else unit_tokens x.0.unit + 2)) }
@@ -32,7 +33,7 @@ fn default(input: &Input, at: usize) -> Result<(Time, usize), ParseError>
     Ok((value, end))
 }
 
-#[tactic(auto, unfolding(crate::specs::Reading::param_at))]
+#[tactic(auto, unfolding(crate::specs::inner::Reading::param_at))]
 fn parameter(input: &Input, at: usize) -> Result<(Parameter, usize), ParseError>
     ensures gives { Gives (λ x. (parameter_view x.0, x.1)) result (param_at (words input.now) at) }
     ensures stands { IfOk result (λ x. Takes (ParameterStands (words input.now)) (parameter_tokens (words input.now)) at x.0 x.1) }
@@ -81,7 +82,7 @@ fn some_parameters(input: &Input, at: usize) -> Result<(Vec<Parameter>, usize), 
 }
 
 /// A reactor's parameters in their parentheses.
-#[tactic(auto, unfolding(crate::specs::Reading::params_at))]
+#[tactic(auto, unfolding(crate::specs::inner::Reading::params_at))]
 fn parameters(input: &Input, at: usize) -> Result<(Vec<Parameter>, usize), ParseError>
     ensures gives { Gives (λ x. (map parameter_view x.0.items, x.1)) result (params_at (words input.now) at) }
     ensures stand { IfOk result (λ x. StandInRow (ParameterStands (words input.now)) (parameter_tokens (words input.now)) (at + 1) x.0.items × (x.1 ≡ at + row_tokens (parameter_tokens (words input.now)) x.0.items + 2)) }
@@ -168,7 +169,7 @@ fn main_reactor(input: &Input, at: usize) -> Result<(Reactor, usize), ParseError
     ))
 }
 
-#[tactic(auto, unfolding(crate::specs::Reading::reactor_at))]
+#[tactic(auto, unfolding(crate::specs::inner::Reading::reactor_at))]
 pub fn reactor(input: &Input, at: usize) -> Result<(Reactor, usize), ParseError>
     ensures gives { Gives (λ x. (reactor_view x.0, x.1)) result (reactor_at (words input.now) at) }
     ensures stands { IfOk result (λ x. ReactorStands (words input.now) at x.1 x.0) }

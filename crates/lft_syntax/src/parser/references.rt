@@ -1,9 +1,9 @@
 //! References: a name, or a port of a contained instance.
 
 ghost use Rattle.std.specs.Prelude.{◌≡◌, ℕ, ◌+◌, [], ◌∷◌, IfOk};
-ghost use Rattle.lft_syntax.specs.{Lexeme.{Symbol, is}, Grammar.or_empty, View.Gives};
-ghost use Rattle.lft_syntax.specs.Reading.{apply, after_comma, repeated, with_front, ref_at, refs_at, uses_at, effects_at};
-ghost use Rattle.lft_syntax.specs.{Placed.{Takes, TakeRow, ReferenceStands, EffectsStand, reference_tokens}, Parsing.words};
+ghost use Rattle.lft_syntax.specs.{Lexeme.{Symbol, is}, Grammar.or_empty};
+ghost use Rattle.lft_syntax.specs.inner.{View.Gives, Reading.{apply, after_comma, repeated, with_front, ref_at, refs_at, uses_at, effects_at}, Parsing.words};
+ghost use Rattle.lft_syntax.specs.Placed.{Takes, TakeRow, ReferenceStands, EffectsStand, reference_tokens};
 ghost use Rattle.lft_tree.specs.View.{ref_view, ref_views};
 
 use crate::input::Input;
@@ -12,7 +12,7 @@ use crate::parser::names::{is_name, name};
 use crate::parser::tokens::{arrow, is_arrow, is_symbol, symbol};
 use lft_tree::Reference;
 
-#[tactic(auto, unfolding(crate::specs::Reading::ref_at))]
+#[tactic(auto, unfolding(crate::specs::inner::Reading::ref_at))]
 pub fn reference(input: &Input, at: usize) -> Result<(Reference, usize), ParseError>
     ensures gives { Gives (λ x. (ref_view x.0, x.1)) result (ref_at (words input.now) at) }
     ensures stands { IfOk result (λ x. Takes (ReferenceStands (words input.now)) reference_tokens at x.0 x.1) }
@@ -68,7 +68,7 @@ fn more_references(
     Ok((references, next))
 }
 
-#[tactic(auto, unfolding(crate::specs::Reading::refs_at))]
+#[tactic(auto, unfolding(crate::specs::inner::Reading::refs_at))]
 pub fn references(input: &Input, at: usize) -> Result<(Vec<Reference>, usize), ParseError>
     ensures gives { Gives (λ x. (ref_views x.0.items, x.1)) result (refs_at (words input.now) at) }
     ensures stand { IfOk result (λ x. TakeRow (ReferenceStands (words input.now)) reference_tokens at x.0.items x.1) }
@@ -78,7 +78,7 @@ pub fn references(input: &Input, at: usize) -> Result<(Vec<Reference>, usize), P
 }
 
 /// A reaction's uses, which may be left out.
-#[tactic(auto, unfolding(crate::specs::Reading::uses_at))]
+#[tactic(auto, unfolding(crate::specs::inner::Reading::uses_at))]
 pub fn uses(input: &Input, at: usize) -> Result<(Vec<Reference>, usize), ParseError>
     ensures gives { Gives (λ x. (ref_views x.0.items, x.1)) result (apply or_empty uses_at (words input.now) at) }
     ensures stand { IfOk result (λ x. TakeRow (ReferenceStands (words input.now)) reference_tokens at x.0.items x.1) }
@@ -90,7 +90,7 @@ pub fn uses(input: &Input, at: usize) -> Result<(Vec<Reference>, usize), ParseEr
 }
 
 /// A reaction's effects, which may be left out.
-#[tactic(auto, unfolding(crate::specs::Reading::effects_at))]
+#[tactic(auto, unfolding(crate::specs::inner::Reading::effects_at))]
 pub fn effects(input: &Input, at: usize) -> Result<(Vec<Reference>, usize), ParseError>
     ensures gives { Gives (λ x. (ref_views x.0.items, x.1)) result (apply or_empty effects_at (words input.now) at) }
     ensures stand { IfOk result (λ x. EffectsStand (words input.now) at x.0.items) }

@@ -1,9 +1,9 @@
 //! Units of time, times, and times or names of parameters.
 
 ghost use Rattle.std.specs.Prelude.{◌≡◌, ℕ, ◌<◌, ◌≤◌, ◌+◌, ◌-◌, ◌^◌, [], ◌∷◌, codes, slice_get, IfSome, IfOk};
-ghost use Rattle.lft_syntax.specs.{Language.look, Lexeme.{is_one_of, unit_of, unit_in}, View.Gives};
-ghost use Rattle.lft_syntax.specs.{Reading.{time_from, time_at, delay_at, ptime_at, pdelay_at}, Placed.{Takes, TimeStands, time_tokens, unit_tokens}};
-ghost use Rattle.lft_syntax.specs.Parsing.{words};
+ghost use Rattle.lft_syntax.specs.{Language.look, Lexeme.{is_one_of, unit_of, unit_in}};
+ghost use Rattle.lft_syntax.specs.inner.{View.Gives, Reading.{time_from, time_at, delay_at, ptime_at, pdelay_at}, Parsing.words};
+ghost use Rattle.lft_syntax.specs.Placed.{Takes, TimeStands, time_tokens, unit_tokens};
 ghost use Rattle.lft_tree.specs.View.{time_view};
 ghost use Rattle.lft_syntax.specs.Lexeme as Lexeme;
 
@@ -135,7 +135,7 @@ fn counted(input: &Input, count: u64, at: usize) -> Result<(Time, usize), ParseE
 }
 
 /// A time, where no name may stand after it.
-#[tactic(auto, unfolding(crate::specs::Reading::time_at))]
+#[tactic(auto, unfolding(crate::specs::inner::Reading::time_at))]
 pub fn time(input: &Input, at: usize) -> Result<(Time, usize), ParseError>
     ensures gives { Gives (λ x. (x.0, x.1)) result (time_at (words input.now) at) }
     ensures next { IfOk result (λ x. x.1 ≡ at + unit_tokens x.0.unit) }
@@ -160,7 +160,7 @@ pub fn is_before_follower(input: &Input, at: usize) -> bool
 }
 
 /// A time, where a member may stand after it: a name that begins a member isn't the unit of 0.
-#[tactic(auto, unfolding(crate::specs::Reading::delay_at))]
+#[tactic(auto, unfolding(crate::specs::inner::Reading::delay_at))]
 fn delay(input: &Input, at: usize) -> Result<(Time, usize), ParseError>
     ensures gives { Gives (λ x. (x.0, x.1)) result (delay_at (words input.now) at) }
     ensures next { IfOk result (λ x. x.1 ≡ at + unit_tokens x.0.unit) }
@@ -179,7 +179,7 @@ fn delay(input: &Input, at: usize) -> Result<(Time, usize), ParseError>
 }
 
 /// A time or a name, where no name may stand after a time.
-#[tactic(auto, unfolding(crate::specs::Reading::ptime_at))]
+#[tactic(auto, unfolding(crate::specs::inner::Reading::ptime_at))]
 pub fn time_expression(input: &Input, at: usize) -> Result<(TimeExpression, usize), ParseError>
     ensures gives { Gives (λ x. (time_view x.0, x.1)) result (ptime_at (words input.now) at) }
     ensures stands { IfOk result (λ x. Takes TimeStands time_tokens at x.0 x.1) }
@@ -193,7 +193,7 @@ pub fn time_expression(input: &Input, at: usize) -> Result<(TimeExpression, usiz
 }
 
 /// A time or a name, where a member may stand after it.
-#[tactic(auto, unfolding(crate::specs::Reading::pdelay_at))]
+#[tactic(auto, unfolding(crate::specs::inner::Reading::pdelay_at))]
 pub fn delay_expression(input: &Input, at: usize) -> Result<(TimeExpression, usize), ParseError>
     ensures gives { Gives (λ x. (time_view x.0, x.1)) result (pdelay_at (words input.now) at) }
     ensures stands { IfOk result (λ x. Takes TimeStands time_tokens at x.0 x.1) }

@@ -1,8 +1,9 @@
 //! Single tokens: what stands at a place, and the place after one that must stand there.
 
 ghost use Rattle.std.specs.Prelude.{◌≡◌, ℕ, ◌<◌, ◌≤◌, ◌+◌, ◌-◌, ◌^◌, length, slice_get, Some, IfSome, IfOk};
-ghost use Rattle.lft_syntax.specs.{Lexeme.{Code, Text, Letters, Arrow, Symbol, is}, View.{Gives, at_next}, Reading.{key_at, symbol_at, one_at, number_at}};
-ghost use Rattle.lft_syntax.specs.{Seen.{seen_there, letters_ascii}, Parsing.words};
+ghost use Rattle.lft_syntax.specs.Lexeme.{Code, Text, Letters, Arrow, Symbol, is};
+ghost use Rattle.lft_syntax.specs.inner.{View.{Gives, at_next}, Reading.{key_at, symbol_at, one_at, number_at}, Seen.{seen_there, letters_ascii}};
+ghost use Rattle.lft_syntax.specs.inner.Parsing.{words};
 ghost use Rattle.lft_syntax.specs.Lexeme as Lexeme;
 
 use crate::input::{Input, Seen};

@@ -1,10 +1,10 @@
 //! Types, which are read and mean nothing.
 
 ghost use Rattle.std.specs.Prelude.{◌≡◌, ℕ, slice_get};
-ghost use Rattle.lft_syntax.specs.View.{Gives, at_next};
-ghost use Rattle.lft_syntax.specs.Reading.{ignoring_at, type_part_at, type_parts_at, stars_at, array_part_at, array_parts_at, type_at, typed_at};
-ghost use Rattle.lft_syntax.specs.Parsing.{words};
-ghost use Rattle.lft_syntax.specs.Reading as Reading;
+ghost use Rattle.lft_syntax.specs.inner.View.{Gives, at_next};
+ghost use Rattle.lft_syntax.specs.inner.Reading.{ignoring_at, type_part_at, type_parts_at, stars_at, array_part_at, array_parts_at, type_at, typed_at};
+ghost use Rattle.lft_syntax.specs.inner.Parsing.{words};
+ghost use Rattle.lft_syntax.specs.inner.Reading as Reading;
 
 use crate::input::Input;
 use crate::parse_error::ParseError;
@@ -18,7 +18,7 @@ fn is_type_part(input: &Input, at: usize) -> bool
 }
 
 /// `.NAME` or `::NAME`.
-#[tactic(auto, unfolding(crate::specs::Reading::type_part_at))]
+#[tactic(auto, unfolding(crate::specs::inner::Reading::type_part_at))]
 fn type_part(input: &Input, at: usize) -> Result<usize, ParseError>
     ensures { Gives at_next result (type_part_at (words input.now) at) }
 {
@@ -52,7 +52,7 @@ fn stars(input: &Input, at: usize) -> Result<usize, ParseError>
 }
 
 /// `[` and `]`, with or without a number.
-#[tactic(auto, unfolding(crate::specs::Reading::array_part_at))]
+#[tactic(auto, unfolding(crate::specs::inner::Reading::array_part_at))]
 fn array_part(input: &Input, at: usize) -> Result<usize, ParseError>
     ensures { Gives at_next result (array_part_at (words input.now) at) }
 {
@@ -74,7 +74,7 @@ fn array_parts(input: &Input, at: usize) -> Result<usize, ParseError>
     Ok(next)
 }
 
-#[tactic(auto, unfolding(crate::specs::Reading::type_at))]
+#[tactic(auto, unfolding(crate::specs::inner::Reading::type_at))]
 fn skip_type(input: &Input, at: usize) -> Result<usize, ParseError>
     ensures { Gives at_next result (type_at (words input.now) at) }
 {
@@ -88,7 +88,7 @@ fn skip_type(input: &Input, at: usize) -> Result<usize, ParseError>
 }
 
 /// `:` and a type, which may be left out.
-#[tactic(auto, unfolding(crate::specs::Reading::typed_at))]
+#[tactic(auto, unfolding(crate::specs::inner::Reading::typed_at))]
 pub fn typed(input: &Input, at: usize) -> Result<usize, ParseError>
     ensures { Gives at_next result (typed_at (words input.now) at) }
 {

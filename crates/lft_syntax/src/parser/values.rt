@@ -1,9 +1,10 @@
 //! The values of state variables, which are read and mean nothing.
 
 ghost use Rattle.std.specs.Prelude.{◌≡◌, ℕ, slice_get};
-ghost use Rattle.lft_syntax.specs.{Lexeme.{Symbol, is, Text}, View.{Gives, at_next}};
-ghost use Rattle.lft_syntax.specs.Reading.{second, symbol_at, one_at, number_at, ignoring_at, maybe, maybe_suffix, signed_at, suffix_at, quantity_at, dot_name_at, dot_names_at, path_at, value_at, is_initial, initial_at};
-ghost use Rattle.lft_syntax.specs.Parsing.{words};
+ghost use Rattle.lft_syntax.specs.Lexeme.{Symbol, is, Text};
+ghost use Rattle.lft_syntax.specs.inner.View.{Gives, at_next};
+ghost use Rattle.lft_syntax.specs.inner.Reading.{second, symbol_at, one_at, number_at, ignoring_at, maybe, maybe_suffix, signed_at, suffix_at, quantity_at, dot_name_at, dot_names_at, path_at, value_at, is_initial, initial_at};
+ghost use Rattle.lft_syntax.specs.inner.Parsing.{words};
 
 use crate::input::{Input, Seen};
 use crate::parse_error::ParseError;
@@ -13,7 +14,7 @@ use crate::parser::times::is_before_follower;
 use crate::parser::tokens::{code, is_code, is_symbol, number, peek, symbol};
 
 /// `+` or `-` and a number.
-#[tactic(auto, unfolding(crate::specs::Reading::signed_at))]
+#[tactic(auto, unfolding(crate::specs::inner::Reading::signed_at))]
 fn signed(input: &Input, at: usize) -> Result<usize, ParseError>
     ensures { Gives at_next result (signed_at (words input.now) at) }
 {
@@ -28,7 +29,7 @@ fn signed(input: &Input, at: usize) -> Result<usize, ParseError>
 }
 
 /// The name after a number, and what is added to it or taken from it.
-#[tactic(auto, unfolding(crate::specs::Reading::suffix_at))]
+#[tactic(auto, unfolding(crate::specs::inner::Reading::suffix_at))]
 fn suffix(input: &Input, at: usize) -> Result<usize, ParseError>
     ensures { Gives at_next result (suffix_at (words input.now) at) }
 {
@@ -74,7 +75,7 @@ fn sign(input: &Input, at: usize) -> Result<usize, ParseError>
     symbol(input, at, b'-')
 }
 
-#[tactic(auto, unfolding(crate::specs::Reading::quantity_at))]
+#[tactic(auto, unfolding(crate::specs::inner::Reading::quantity_at))]
 fn quantity(input: &Input, at: usize) -> Result<usize, ParseError>
     ensures { Gives at_next result (quantity_at (words input.now) at) }
 {
@@ -84,7 +85,7 @@ fn quantity(input: &Input, at: usize) -> Result<usize, ParseError>
     left_out_suffix(input, at)
 }
 
-#[tactic(auto, unfolding(crate::specs::Reading::dot_name_at))]
+#[tactic(auto, unfolding(crate::specs::inner::Reading::dot_name_at))]
 fn dot_name(input: &Input, at: usize) -> Result<usize, ParseError>
     ensures { Gives at_next result (dot_name_at (words input.now) at) }
 {
@@ -103,7 +104,7 @@ fn dot_names(input: &Input, at: usize) -> Result<usize, ParseError>
 }
 
 /// Names joined by dots.
-#[tactic(auto, unfolding(crate::specs::Reading::path_at))]
+#[tactic(auto, unfolding(crate::specs::inner::Reading::path_at))]
 fn path(input: &Input, at: usize) -> Result<usize, ParseError>
     ensures { Gives at_next result (path_at (words input.now) at) }
 {
@@ -126,7 +127,7 @@ fn text(input: &Input, at: usize) -> Result<usize, ParseError>
     }
 }
 
-#[tactic(auto, unfolding(crate::specs::Reading::value_at))]
+#[tactic(auto, unfolding(crate::specs::inner::Reading::value_at))]
 fn value(input: &Input, at: usize) -> Result<usize, ParseError>
     ensures { Gives at_next result (value_at (words input.now) at) }
 {
@@ -152,7 +153,7 @@ fn value(input: &Input, at: usize) -> Result<usize, ParseError>
 }
 
 /// A state variable's first value, which may be left out.
-#[tactic(auto, unfolding(crate::specs::Reading::initial_at))]
+#[tactic(auto, unfolding(crate::specs::inner::Reading::initial_at))]
 pub fn initial(input: &Input, at: usize) -> Result<usize, ParseError>
     ensures { Gives at_next result (ignoring_at (maybe is_initial initial_at) (words input.now) at) }
 {

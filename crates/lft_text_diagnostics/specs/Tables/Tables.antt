@@ -1,10 +1,9 @@
 -- Which field of a table is wrong, and how it is named.
-use Rattle.std.specs.Prelude.{◌≡◌, ◌≢◌, ℕ, ◌+◌, ◌⊎◌, List, [], ◌++◌, Option, Some, None, slice_get, Bool, true, false, ◌||◌, bytes_eq, unwrap_or, codes, decimal}
+use Rattle.std.specs.Prelude.{◌≡◌, ◌≢◌, ℕ, ◌+◌, ◌⊎◌, List, ◌++◌, Option, Some, None, slice_get, Bool, true, false, ◌||◌, bytes_eq, unwrap_or, codes, decimal}
 use Rattle.csv.specs.Records.{field_at as at_place}
 use Rattle.lft_ir.specs.{Names.IsNamed, Parts.Parts, declared.{found.Found.TheVariants.Reaction, parts.Name.Name}}
-use Rattle.lft_trace.specs.{Numbers.{number, number_or_zero, value}, ExternalTables.{ExternalFails, external_tables}, Tables.FailsAt}
-use Rattle.lft_trace.specs.{Traces.{IsThing, TraceFails, trace_tables}, declared.fault.TraceFault.TraceFault}
-use Rattle.lft_text_diagnostics.specs.declared.tables.{fields.Wrong.Wrong, tables.Table.{Table, TheVariants.{Trace, Externals}}}
+use Rattle.lft_trace.specs.{Numbers.{number, number_or_zero, value}, Traces.IsThing, declared.fault.TraceFault.TraceFault}
+use Rattle.lft_text_diagnostics.specs.declared.tables.fields.Wrong.{Wrong}
 use Rattle.lft_trace.specs.declared.fault.TraceFault.TheVariants as fault
 
 -- The record with that number, the first one being number 1.
@@ -72,16 +71,6 @@ IsWrongThere (fault.UnknownName n) fields w = IsField w 3 (codes "name")
 IsWrongThere (fault.FieldInPlace n) fields w = IsFilledThere fields w
 IsWrongThere e fields w = ⊥
 
--- The field of a record that a fault of the table is about.
-abbrev pub IsWrongIn : Parts → Table → TraceFault → List (List ℕ) → Wrong → Type 0
-IsWrongIn program (Trace word) e fields w = IsWrong program e fields w
-IsWrongIn program Externals e fields w = IsWrongThere e fields w
-
--- How a table is called.
-abbrev pub word_of : Table → List ℕ
-word_of (Trace word) = word.now
-word_of Externals = codes "External inputs"
-
 -- The record of a fault that is of one field.
 abbrev pub field_line : TraceFault → Option ℕ
 field_line (fault.BadEvent n) = Some n
@@ -112,16 +101,6 @@ heading word fault.NoStop = word
 heading word fault.TooManyRows = word
 heading word fault.NotCsv = []
 heading word fault.NoMemory = []
-
--- The table has the fault.
-abbrev pub Fails : Parts → Table → List (List (List ℕ)) → TraceFault → Type 0
-Fails program (Trace word) records e = TraceFails program records e
-Fails program Externals records e = ExternalFails program records e
-
--- The table fails at this record.
-abbrev pub FailsThere : Parts → Table → List (List (List ℕ)) → List (List ℕ) → TraceFault → Type 0
-FailsThere program (Trace word) records fields e = (fails : FailsAt (trace_tables program) records e) × (fails.bad ≡ fields)
-FailsThere program Externals records fields e = (fails : FailsAt (external_tables program) records e) × (fails.bad ≡ fields)
 
 -- `TABLE, line L, field K (NAME): `
 abbrev pub field_words : List ℕ → ℕ → Wrong → List ℕ

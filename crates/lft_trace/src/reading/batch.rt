@@ -2,7 +2,7 @@
 
 ghost use Rattle.std.specs.Prelude.{◌<◌, ◌≤◌, length, IfSome, IsTrue};
 ghost use Rattle.lft_ir.specs.Steps.Fits.{RowsFit};
-ghost use Rattle.lft_trace.specs.Parts.{BeginsWith, HoldsRows, IsCut, rows_of};
+ghost use Rattle.lft_trace.specs.inner.Parts.{BeginsWith, HoldsRows, IsCut, rows_of};
 
 use crate::reaction_names::ReactionNames;
 use crate::reading::lines::cut_behind;

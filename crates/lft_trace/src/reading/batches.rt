@@ -2,7 +2,7 @@
 
 ghost use Rattle.std.specs.Prelude.{◌≡◌, ◌≤◌, ◌++◌, length, IfSome};
 ghost use Rattle.std.specs.Thread.{IsSync};
-ghost use Rattle.lft_trace.specs.Parts.{HoldsRows, rows_of};
+ghost use Rattle.lft_trace.specs.inner.Parts.{HoldsRows, rows_of};
 
 use crate::reaction_names::ReactionNames;
 use crate::reading::lines::cut_behind;

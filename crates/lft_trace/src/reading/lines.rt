@@ -1,7 +1,7 @@
 //! Texts cut where a line ends.
 
 ghost use Rattle.std.specs.Prelude.{◌≡◌, ◌++◌, ◌∷◌, IfSome, false};
-ghost use Rattle.lft_trace.specs.{Records.records_of, Traces.header, Parts.{BeginsPlain, EndsLine}};
+ghost use Rattle.lft_trace.specs.{Records.records_of, Traces.header, inner.Parts.BeginsPlain, Parts.EndsLine};
 
 /// The header as it is mostly written.
 const HEADER: &[u8] = b"event,worker,time,microstep,reaction,name,value,delay\n";

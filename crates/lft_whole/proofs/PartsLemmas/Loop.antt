@@ -1,6 +1,6 @@
 -- A loop that reads one step after the other.
 use Rattle.std.proofs.Common.{◌≡◌, ℕ, zero, suc, ◌+◌, ◌≤◌, ◌<◌, true, false, length, Result, Ok, Err, refl, sym, ◌∙◌, arith}
-use Rattle.lft_whole.specs.{declared.fault.TreeFault.TreeFault, Parts.{Lexeme.Source, Language.{Reader, ◌>>=◌, Test, steps, repeat}, View.Fails}}
+use Rattle.lft_whole.specs.{declared.fault.TreeFault.TreeFault, Parts.{Lexeme.Source, Language.{Reader, ◌>>=◌, Test, steps, repeat}}, inner.Parts.View.Fails}
 use Rattle.lft_whole.specs.declared.fault.TreeFault.TheVariants as faults
 
 -- the steps that are left, and what is read behind them, give the whole

@@ -1,12 +1,10 @@
 -- What contracts see of the parts of a tree, and of what a function returned.
-use Rattle.std.specs.Prelude.{◌≡◌, ℕ, List, map, string_bytes, option_map, Result, Ok, Err}
-use Rattle.lft_whole.specs.declared.fault.TreeFault.{TreeFault}
+use Rattle.std.specs.Prelude.{List, map, string_bytes, option_map}
 use Rattle.lft_whole.specs.declared.tree.{Name.Name, Reference.Reference, Value.Value, Expression.Expression, Count.Count, Term.Term, Width.Width}
 use Rattle.lft_whole.specs.declared.tree.{Parameter.Parameter, Port.Port, Timer.Timer, Action.Action, Trigger.Trigger, Effect.Effect, Reaction.Reaction}
 use Rattle.lft_whole.specs.declared.tree.{Assignment.Assignment, Instance.Instance, Connection.Connection, Member.Member, Reactor.Reactor}
 use Rattle.lft_whole.specs.declared.tree.{ImportedName.ImportedName, Import.Import, File.File}
 use Rattle.lft_whole.specs.Parts.Tree.{NameTree, ReferenceTree, ValueTree, NumberValue, WordValue, CodeValue, OtherValue, ExpressionTree, CountTree, NumberCount, WordCount, WidthOf, CodeCount, OpenCount, TermTree, ParameterTree, PortTree, TimerTree, ActionTree, TriggerTree, AtStartup, AtShutdown, AtReset, OnReference, EffectTree, ToMode, ToReference, ReactionTree, AssignmentTree, InstanceTree, ConnectionTree, MemberTree, PortMember, TimerMember, ActionMember, ReactionMember, InstanceMember, ConnectionMember, ForeignMember, ReactorTree, ImportedTree, ImportTree, FileTree}
-use Rattle.lft_whole.specs.declared.fault.TreeFault.TheVariants as faults
 use Rattle.lft_whole.specs.declared.tree.Value.TheVariants as values
 use Rattle.lft_whole.specs.declared.tree.Count.TheVariants as counts
 use Rattle.lft_whole.specs.declared.tree.Trigger.TheVariants as triggers
@@ -117,22 +115,3 @@ import_view i = record { names = map imported_view i.names.items; path = i.path.
 -- the tree of a file, as contracts see it
 abbrev pub file_view : File → FileTree
 file_view f = record { target = option_map name_view f.target; timeouts = f.timeouts.items; decentralized = f.decentralized; imports = map import_view f.imports.items; reactors = map reactor_view f.reactors.items }
-
--- a fault is that of what was read, unless memory ran out
-abbrev pub Fails : {Y : Type 0} → TreeFault → Result Y TreeFault → Type 0
-Fails faults.NoMemory read = Unit {0}
-Fails e read = read ≡ Err e
-
--- what a function returned, seen by a view, is what was read, unless memory ran out
-abbrev pub Gives : {X Y : Type 0} → (X → Y) → Result X TreeFault → Result Y TreeFault → Type 0
-Gives view (Ok x) read = read ≡ Ok (view x)
-Gives view (Err e) read = Fails e read
-
--- the same, where no memory is taken
-abbrev pub GivesAlways : {X Y : Type 0} → (X → Y) → Result X TreeFault → Result Y TreeFault → Type 0
-GivesAlways view (Ok x) read = read ≡ Ok (view x)
-GivesAlways view (Err e) read = read ≡ Err e
-
--- a place alone: no value is read
-abbrev pub at_next : ℕ → Unit {0} × ℕ
-at_next j = (tt, j)

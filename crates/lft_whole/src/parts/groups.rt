@@ -1,8 +1,8 @@
 //! Groups: the tokens between two brackets. Only these two are counted.
 
 ghost use Rattle.std.specs.Prelude.{◌≡◌, ◌<◌, ◌≤◌, true, IfOk, IfErr, ◌+◌, ◌&&◌, ◌==◌, false};
-ghost use Rattle.lft_whole.specs.Parts.{Parsing.{count, Within, Further, NotBefore, Refuses, source}, Lexeme.{see, is_symbol}};
-ghost use Rattle.lft_whole.specs.Parts.{Language.{repeat, within, opened, ignored}, View.{Gives, GivesAlways, at_next}, Parts.{on_values, before_arrow}};
+ghost use Rattle.lft_whole.specs.inner.Parts.{Parsing.{count, Within, Further, NotBefore, Refuses, source}, View.{Gives, GivesAlways, at_next}};
+ghost use Rattle.lft_whole.specs.Parts.{Lexeme.{see, is_symbol}, Language.{repeat, within, opened, ignored}, Parts.{on_values, before_arrow}};
 ghost use Rattle.lft_whole.specs.Parts.Language as Language;
 
 use crate::TreeFault;

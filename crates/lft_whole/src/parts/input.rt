@@ -1,6 +1,6 @@
 //! A text with its tokens, as the parser sees them.
 
-ghost use Rattle.lft_whole.specs.Tokens.{EachIsToken, EachIsToken-prop};
+ghost use Rattle.lft_whole.specs.inner.Tokens.{EachIsToken, EachIsToken-prop};
 
 use crate::Token;
 use std::alloc::Global;

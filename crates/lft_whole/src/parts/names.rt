@@ -2,7 +2,7 @@
 
 ghost use Rattle.std.specs.Prelude.{◌≡◌, IfOk, IfErr, string_bytes};
 ghost use Rattle.lft_tree.specs.Identifiers.{IsIdentifier};
-ghost use Rattle.lft_whole.specs.Parts.{Parsing.{Within, Further, Refuses, source}, View.{Gives, at_next, name_view}, Language.ignored};
+ghost use Rattle.lft_whole.specs.{inner.Parts.{Parsing.{Within, Further, Refuses, source}, View.{Gives, at_next}}, Parts.{View.name_view, Language.ignored}};
 ghost use Rattle.lft_whole.specs.Parts.Parts as Parts;
 
 use crate::parts::input::{Input, Seen};

@@ -1,7 +1,8 @@
 //! References, and what a reaction may write.
 
 ghost use Rattle.std.specs.Prelude.{◌≡◌, ◌<◌, true, IfOk, IfErr, map};
-ghost use Rattle.lft_whole.specs.Parts.{Parsing.{count, Within, Further, NotBefore, Refuses, source}, View.{Gives, at_next, reference_view, effect_view}};
+ghost use Rattle.lft_whole.specs.inner.Parts.{Parsing.{count, Within, Further, NotBefore, Refuses, source}, View.{Gives, at_next}};
+ghost use Rattle.lft_whole.specs.Parts.View.{reference_view, effect_view};
 ghost use Rattle.lft_whole.specs.Parts.Parts as Parts;
 
 use crate::parts::groups::group;

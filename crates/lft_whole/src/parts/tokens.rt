@@ -1,8 +1,8 @@
 //! Single tokens: what stands at a place, and the place behind one that must stand there.
 
 ghost use Rattle.std.specs.Prelude.{◌≡◌, ◌<◌, ◌≤◌, ◌+◌, ◌-◌, ◌^◌, true, IfSome, IfOk, IfErr, if◌then◌else◌};
-ghost use Rattle.lft_whole.specs.Parts.{Parsing.{count, Within, Further, Refuses, AreLetters, source, seen_there}, Lexeme.see, Language.on};
-ghost use Rattle.lft_whole.specs.Parts.View.{Gives, GivesAlways, at_next};
+ghost use Rattle.lft_whole.specs.inner.Parts.{Parsing.{count, Within, Further, Refuses, AreLetters, source, seen_there}, View.{Gives, GivesAlways, at_next}};
+ghost use Rattle.lft_whole.specs.Parts.{Lexeme.see, Language.on};
 ghost use Rattle.lft_whole.specs.Parts.Lexeme as Lexeme;
 ghost use Rattle.lft_whole.specs.Parts.Language as Language;
 

@@ -1,7 +1,7 @@
 //! Types. They mean nothing, but for the word `time`.
 
 ghost use Rattle.std.specs.Prelude.{◌≡◌, ◌<◌, true, IfOk, IfErr, Ok};
-ghost use Rattle.lft_whole.specs.Parts.{Parsing.{count, Within, Further, NotBefore, Refuses, source}, View.{Gives, at_next}};
+ghost use Rattle.lft_whole.specs.inner.Parts.{Parsing.{count, Within, Further, NotBefore, Refuses, source}, View.{Gives, at_next}};
 ghost use Rattle.lft_whole.specs.Parts.Parts as Parts;
 
 use crate::TreeFault;

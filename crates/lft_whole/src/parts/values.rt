@@ -1,7 +1,8 @@
 //! Values.
 
 ghost use Rattle.std.specs.Prelude.{◌≡◌, ◌<◌, true, IfOk, IfErr, option_map, ◌+◌, Ok};
-ghost use Rattle.lft_whole.specs.Parts.{Parsing.{count, Within, Further, NotBefore, Refuses, source}, Language.ignored, View.{Gives, at_next, expression_view}};
+ghost use Rattle.lft_whole.specs.inner.Parts.{Parsing.{count, Within, Further, NotBefore, Refuses, source}, View.{Gives, at_next}};
+ghost use Rattle.lft_whole.specs.Parts.{Language.ignored, View.expression_view};
 ghost use Rattle.lft_whole.specs.Parts.Parts as Parts;
 
 use crate::parts::groups::{group_end, opens_values};

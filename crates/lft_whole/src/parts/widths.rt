@@ -1,7 +1,8 @@
 //! Widths of banks and multiports.
 
 ghost use Rattle.std.specs.Prelude.{◌≡◌, ◌<◌, true, IfOk, IfErr, Ok, map, option_map};
-ghost use Rattle.lft_whole.specs.Parts.{Parsing.{count, Within, Further, NotBefore, Refuses, source}, View.{Gives, count_view, term_view, width_view}};
+ghost use Rattle.lft_whole.specs.inner.Parts.{Parsing.{count, Within, Further, NotBefore, Refuses, source}, View.Gives};
+ghost use Rattle.lft_whole.specs.Parts.View.{count_view, term_view, width_view};
 ghost use Rattle.lft_whole.specs.Parts.Parts as Parts;
 
 use crate::parts::input::{Input, Seen};

@@ -1,7 +1,7 @@
 //! A file of a program, and the tokens of all files by number.
 
 ghost use Rattle.std.specs.Prelude.{◌≡◌, IfNone, IfSome};
-ghost use Rattle.lft_whole.specs.Sources.Tokens.{StandsAt, number_at};
+ghost use Rattle.lft_whole.specs.{inner.Sources.Tokens.StandsAt, Sources.Tokens.number_at};
 
 use crate::File;
 use crate::sources::stop::Place;
@@ -31,7 +31,7 @@ pub struct SourceFile {
 
 impl SourceFile {
     ghost use Rattle.std.specs.Prelude.{◌≡◌, ℕ, IfNone, IfSome};
-    ghost use Rattle.lft_whole.specs.Sources.{Spots.spot_at, Tokens.HasToken};
+    ghost use Rattle.lft_whole.specs.{Sources.Spots.spot_at, inner.Sources.Tokens.HasToken};
 
     /// Where the token of this number begins.
     pub fn spot(&self, token: usize) -> Spot

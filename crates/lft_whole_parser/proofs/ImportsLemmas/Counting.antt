@@ -2,8 +2,8 @@
 use Rattle.std.proofs.Common.{◌≡◌, ℕ, zero, suc, ◌+◌, ◌<◌, ◌≤◌, List, [], ◌∷◌, Option, Some, None, length, take, refl, sym, ap, ◌∙◌, zero-add, arith}
 use Rattle.std.specs.Prelude.{IsSomeAnd, slice_get}
 use Rattle.std.proofs.lemmas.List.Sums.{sum_by-append}
-use Rattle.lft_whole.specs.{Sources.Tokens.HasToken, declared.sources.{source.SourceFile.SourceFile, stop.Place.Place}}
-use Rattle.lft_whole_parser.specs.Imports.Files.{AreApart, AreCounted, tokens_of}
+use Rattle.lft_whole.specs.{inner.Sources.Tokens.HasToken, declared.sources.{source.SourceFile.SourceFile, stop.Place.Place}}
+use Rattle.lft_whole_parser.specs.inner.Imports.Files.{AreApart, AreCounted, tokens_of}
 
 -- so many tokens stand before these files
 abbrev CountedFrom : List SourceFile → ℕ → Type 0

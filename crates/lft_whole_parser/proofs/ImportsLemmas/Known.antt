@@ -10,7 +10,8 @@ use Rattle.lft_lists.proofs.Places.{get_append_cases, get_last, get_left, get_pu
 use Rattle.lft_whole.specs.declared.{tree.Import.Import, sources.{source.SourceFile.SourceFile, stop.Place.Place}}
 use Rattle.lft_whole_parser.specs.declared.imports.asked.Wanted.{Wanted}
 use Rattle.lft_whole_parser.specs.Imports.Paths.{meaning}
-use Rattle.lft_whole_parser.specs.Imports.Files.{Adds, AreNamed, AreNumbered, AreReached, EachOnce, HasImport, IsAskedBy, IsImportOf, IsNamedBy, IsNumbered, IsWhole, LeadsTo, further, itself, paths_of_files}
+use Rattle.lft_whole_parser.specs.Imports.Files.{AreNumbered, AreReached, EachOnce, HasImport, IsImportOf, IsNumbered, IsWhole, LeadsTo, further, itself, paths_of_files}
+use Rattle.lft_whole_parser.specs.inner.Imports.Files.{Adds, AreNamed, IsAskedBy, IsNamedBy}
 
 -- each path by its number, and no other
 abbrev pub ByNumber : (List ℕ → Option ℕ) → List (List ℕ) → Type 0

@@ -5,8 +5,8 @@ use Rattle.std.proofs.lemmas.{List.{take-append-le, take_all, Sums.sum_by-append
 use Rattle.lft_lists.proofs.Places.{get_push_cases}
 use Rattle.lft_whole.specs.declared.sources.{source.SourceFile.SourceFile, stop.Stop.Stop, why.Why.{Why, TheVariants.NotRead}}
 use Rattle.lft_whole_parser.specs.declared.imports.{reading.Text.Text, sources.Sources.Sources}
-use Rattle.lft_whole_parser.specs.Imports.Files.{AreCounted, AreOfTexts, HasUnread, IsRefusalOf, IsRefusedFor, IsUnread, RefusesNext, next_path, tokens_of}
-use Rattle.lft_whole_parser.specs.Imports.Reads.{HasNoTree, HasTree, IsRead, IsReadAs}
+use Rattle.lft_whole_parser.specs.inner.Imports.{Files.{AreCounted, IsRefusalOf, IsUnread, RefusesNext, next_path, tokens_of}, Reads.{IsRead, IsReadAs}}
+use Rattle.lft_whole_parser.specs.Imports.{Files.{AreOfTexts, HasUnread, IsRefusedFor}, Reads.{HasNoTree, HasTree}}
 use Rattle.lft_whole.specs.declared.sources.stop.Stop.TheVariants as stop
 
 -- a file has the tree that is read of its text

@@ -1,16 +1,8 @@
 -- The files of a program: which paths are asked for, and which file each import names.
-use Rattle.std.specs.Prelude.{◌≡◌, ◌<◌, ◌↔◌, ◌⊎◌, ℕ, All, List, [], ◌∷◌, ◌++◌, Option, Some, None, IsSomeAnd, length, map, slice_get, string_bytes, take}
-use Rattle.std.specs.{BTreeMap.get_by_text, List.sum_by, Str.IsUtf8}
-use Rattle.lft_whole.specs.declared.tree.Import.{Import}
-use Rattle.lft_whole.specs.declared.sources.{source.SourceFile.SourceFile, stop.{Place.Place, Stop.Stop}, why.Why.{Why, TheVariants.NotRead}}
-use Rattle.lft_whole.specs.Sources.Tokens.{StandsAt}
-use Rattle.lft_whole_parser.specs.declared.imports.{asked.{Asked.Asked, Wanted.Wanted}, reading.Text.Text, sources.Sources.Sources}
+use Rattle.std.specs.Prelude.{◌≡◌, ◌⊎◌, ℕ, List, Some, IsSomeAnd, length, map, slice_get, string_bytes}
+use Rattle.std.specs.Str.{IsUtf8}
+use Rattle.lft_whole.specs.declared.{tree.Import.Import, sources.{source.SourceFile.SourceFile, stop.Place.Place, why.Why.{Why, TheVariants.NotRead}}}
 use Rattle.lft_whole_parser.specs.Imports.{Paths.meaning, Reads.{HasNoTree, HasTree}}
-use Rattle.lft_whole.specs.declared.sources.stop.Stop.TheVariants as stop
-
--- The paths that are asked for, by number.
-abbrev pub paths_of : Asked → List (List ℕ)
-paths_of asked = map (λ wanted. string_bytes wanted.path) asked.paths.items
 
 -- The paths of files.
 abbrev pub paths_of_files : List SourceFile → List (List ℕ)
@@ -19,10 +11,6 @@ paths_of_files files = map (λ file. string_bytes file.path) files
 -- Each path stands there once.
 abbrev pub EachOnce : List (List ℕ) → Type 0
 EachOnce paths = (i j : ℕ) (path : List ℕ) → slice_get paths i ≡ Some path → slice_get paths j ≡ Some path → i ≡ j
-
--- A path is known by its number among those that are asked for.
-abbrev pub IsKnown : Asked → Type 0
-IsKnown asked = (path : List ℕ) (number : ℕ) → (get_by_text asked.known path ≡ Some number) ↔ (slice_get (paths_of asked) number ≡ Some path)
 
 -- Each import in a file of that path has the number of the path that it means, and there are no other numbers.
 abbrev pub AreNumbered : List (List ℕ) → List ℕ → List Import → List ℕ → Type 0
@@ -49,55 +37,15 @@ AreReached files paths = (k : ℕ) (first path : List ℕ) → slice_get paths 0
 abbrev pub IsImportOf : List SourceFile → List ℕ → Place → Type 0
 IsImportOf files path place = IsSomeAnd (slice_get files place.file) (λ file. (i : ℕ) × IsSomeAnd (slice_get file.tree.imports.items i) (λ import. (place.token ≡ import.at) × (meaning (string_bytes file.path) import.path.items ≡ path)))
 
--- The program itself is named by no import. Any other file is named by one, which means its path.
-abbrev pub IsNamedBy : List SourceFile → ℕ → List ℕ → Option Place → Type 0
-IsNamedBy files number path None = number ≡ 0
-IsNamedBy files number path (Some place) = (0 < number) × IsImportOf files path place
-
--- So are those that are wanted, each by the import that is kept with it.
-abbrev pub AreNamed : List SourceFile → List Wanted → Type 0
-AreNamed files wanted = (k : ℕ) (one : Wanted) → slice_get wanted k ≡ Some one → IsNamedBy files k (string_bytes one.path) one.import
-
 -- Each of the files has the tree of its text, and the spots of its tokens.
 abbrev pub AreOfTexts : List SourceFile → Type 0
 AreOfTexts files = (k : ℕ) (file : SourceFile) → slice_get files k ≡ Some file → HasTree file.text.items file.spots.items file.tree
-
--- So many tokens the files have, with the end of each.
-abbrev pub tokens_of : List SourceFile → ℕ
-tokens_of files = sum_by (λ file. length file.spots.items) files
-
--- The number of the first token of each is that of the tokens of the files before it.
-abbrev pub AreCounted : List SourceFile → Type 0
-AreCounted files = (k : ℕ) (file : SourceFile) → slice_get files k ≡ Some file → file.first ≡ tokens_of (take k files)
-
--- Of all files no two tokens have one number.
-abbrev pub AreApart : List SourceFile → Type 0
-AreApart files = (number : ℕ) (one other : Place) → StandsAt files number one → StandsAt files number other → one ≡ other
-
--- The files that are read are the first of the paths that are asked for, and have the trees of texts; their tokens are counted; each import of them has its number, and imports of them lead to each path, and name it.
-pub record AreSources (sources : Sources) : Type 0 where
-  pub known : IsKnown sources.asked
-  pub read : (k : ℕ) (file : SourceFile) → slice_get sources.files.items k ≡ Some file → slice_get (paths_of sources.asked) k ≡ Some (string_bytes file.path)
-  pub trees : AreOfTexts sources.files.items
-  pub tokens : sources.tokens ≡ tokens_of sources.files.items
-  pub counted : AreCounted sources.files.items
-  pub numbered : (k : ℕ) (file : SourceFile) → slice_get sources.files.items k ≡ Some file → IsNumbered (paths_of sources.asked) file
-  pub reached : AreReached sources.files.items (paths_of sources.asked)
-  pub named : AreNamed sources.files.items sources.asked.paths.items
-
--- The path that is to be read next, if not all are read.
-abbrev pub next_path : Sources → Option (List ℕ)
-next_path sources = slice_get (paths_of sources.asked) (length sources.files.items)
 
 -- The file of that path is read from that text: it has the tree of the text, and the spots of its tokens.
 pub record IsFileOf (path t : List ℕ) (file : SourceFile) : Type 0 where
   pub same : string_bytes file.path ≡ path
   pub text : file.text.items ≡ t
   pub tree : HasTree t file.spots.items file.tree
-
--- One file more is read: the one that was to be read next.
-abbrev pub HasOneMore : List ℕ → Sources → Sources → Type 0
-HasOneMore t before after = (path : List ℕ) → next_path before ≡ Some path → (file : SourceFile) × IsFileOf path t file × (after.files.items ≡ before.files.items ++ file ∷ [])
 
 -- Each import of the files names one of them, by number.
 abbrev pub IsWhole : List SourceFile → Type 0
@@ -110,28 +58,3 @@ HasUnread imports token = (i : ℕ) × IsSomeAnd (slice_get imports i) (λ impor
 -- The file is refused for that text, at that token: the text has no tree, or it has, and the path of an import there is no UTF-8.
 abbrev pub IsRefusedFor : List ℕ → SourceFile → ℕ → Why → Type 0
 IsRefusedFor t file token why = HasNoTree t file.spots.items token why ⊎ ((why ≡ NotRead) × HasTree t file.spots.items file.tree × HasUnread file.tree.imports.items token)
-
--- A refusal is of the file that was to be read next. It stands behind those that were read before, and is refused for that text.
-abbrev pub RefusesNext : List ℕ → Sources → List SourceFile → Stop → Type 0
-RefusesNext t before files (stop.Refused refusal) = (file : SourceFile) × (next_path before ≡ Some (string_bytes file.path)) × (files ≡ before.files.items ++ file ∷ []) × (refusal.place.file ≡ length before.files.items) × IsRefusedFor t file refusal.place.token refusal.why
-RefusesNext t before files stop.NoMemory = Unit {0}
-
--- ---- for the crate's own contracts
-
--- The later list is the earlier one, and such behind it.
-abbrev pub Adds : {X : Type 0} → List X → (X → Type 0) → List X → Type 0
-Adds {X} before Such after = (more : List X) × All Such more × (after ≡ before ++ more)
-
--- An import in the file of that number and path means the path that is wanted, and is kept with it.
-abbrev pub IsAskedBy : ℕ → List ℕ → List Import → Wanted → Type 0
-IsAskedBy number path imports wanted = (i : ℕ) × IsSomeAnd (slice_get imports i) (λ import. (wanted.import ≡ Some (record { file = number; token = import.at })) × (meaning path import.path.items ≡ string_bytes wanted.path))
-
--- The refusal is of a path that is no UTF-8, of an import of the file of that number.
-abbrev pub IsUnread : ℕ → List Import → Stop → Type 0
-IsUnread number imports (stop.Refused refusal) = (refusal.why ≡ NotRead) × (refusal.place.file ≡ number) × HasUnread imports refusal.place.token
-IsUnread number imports stop.NoMemory = Unit {0}
-
--- The refusal is that of the text of the file of that number; or it has none, and the refusal is of a path in the file.
-abbrev pub IsRefusalOf : ℕ → Text → Stop → Type 0
-IsRefusalOf number read (stop.Refused refusal) = (refusal.place.file ≡ number) × ((read.refused ≡ Some (record { why = refusal.why; token = refusal.place.token })) ⊎ ((read.refused ≡ None) × (refusal.why ≡ NotRead) × HasUnread read.tree.imports.items refusal.place.token))
-IsRefusalOf number read stop.NoMemory = Unit {0}

@@ -1,10 +1,10 @@
 -- What is read of a text: its tree, or why it has none.
-use Rattle.std.specs.Prelude.{◌≡◌, ℕ, List, Option, Some, None, IfErr, IsSomeAnd, Result, Ok, Err, slice_get}
+use Rattle.std.specs.Prelude.{◌≡◌, ℕ, List, IfErr, IsSomeAnd, Result, Ok, Err, slice_get}
 use Rattle.lft_whole.specs.{Pieces.tokens_of, Places.IsAmong}
 use Rattle.lft_whole.specs.declared.{fault.{TextFault.TheVariants.BadText, TreeFault.TreeFault}, token.Token.Token, tree.File.File}
 use Rattle.lft_whole.specs.declared.sources.{source.Spot.Spot, why.Why.Why}
 use Rattle.lft_whole.specs.Parts.{Tree.FileTree, View.file_view}
-use Rattle.lft_whole_parser.specs.{Files.reads, declared.imports.reading.{Refused.Refused, Text.Text}, Imports.Places.{AreSpots, IsSpot}}
+use Rattle.lft_whole_parser.specs.{Files.reads, Imports.Places.{AreSpots, IsSpot}}
 use Rattle.lft_whole.specs.declared.fault.TreeFault.TheVariants as faults
 use Rattle.lft_whole.specs.declared.sources.why.Why.TheVariants as why
 
@@ -30,14 +30,3 @@ HasNoTree t spots token why.NotText = IsSomeAnd (slice_get spots token) (IsNotCu
 HasNoTree t spots token why.Unexpected = ReadsAs t spots (Err (faults.Unexpected token))
 HasNoTree t spots token why.Package = ReadsAs t spots (Err (faults.Package token))
 HasNoTree t spots token _ = ⊥
-
--- ---- for the crate's own contracts
-
--- The text has this tree, if it isn't refused; else it has none.
-abbrev pub IsReadAs : List ℕ → List Spot → File → Option Refused → Type 0
-IsReadAs t spots tree None = HasTree t spots tree
-IsReadAs t spots tree (Some refused) = HasNoTree t spots refused.token refused.why
-
--- This is read of the text.
-abbrev pub IsRead : List ℕ → Text → Type 0
-IsRead t read = IsReadAs t read.spots.items read.tree read.refused

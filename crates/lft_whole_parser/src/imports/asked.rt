@@ -2,7 +2,7 @@
 
 ghost use Rattle.std.specs.Prelude.{◌≡◌, ℕ, List, ◌∷◌, ◌++◌, None, Some, [], IfErr, IfOk, OnOk, slice_get, string_bytes};
 ghost use Rattle.std.specs.BTreeMap.{get_by_text};
-ghost use Rattle.lft_whole_parser.specs.Imports.Files.{Adds, AreNumbered, IsAskedBy, IsKnown, IsUnread, paths_of};
+ghost use Rattle.lft_whole_parser.specs.{inner.Imports.Files.{Adds, IsAskedBy, IsKnown, IsUnread, paths_of}, Imports.Files.AreNumbered};
 
 use crate::imports::paths::imported;
 use lft_tag::NoMemory;

@@ -2,7 +2,7 @@
 
 ghost use Rattle.std.specs.Prelude.{◌≡◌, ◌<◌, Err, Some, IfOk, length};
 ghost use Rattle.lft_whole.specs.{Pieces.tokens_of, declared.fault.TextFault.TheVariants.BadText};
-ghost use Rattle.lft_whole_parser.specs.Imports.Reads.{IsRead};
+ghost use Rattle.lft_whole_parser.specs.inner.Imports.Reads.{IsRead};
 
 use crate::imports::spots::{spot_of, spots};
 use crate::parse;

@@ -1,8 +1,8 @@
 //! The files of a program: which is to be read next, and which file each import names.
 
 ghost use Rattle.std.specs.Prelude.{◌≡◌, ◌+◌, [], ◌∷◌, None, IfErr, IfOk, IfSome, OnOk, option_and_then, option_map, length, slice_get};
-ghost use Rattle.lft_whole_parser.specs.Imports.Paths.{normal as normal_path};
-ghost use Rattle.lft_whole_parser.specs.Imports.Files.{Adds, AreApart, AreCounted, AreNumbered, AreSources, EachOnce, HasOneMore, IsAskedBy, IsKnown, IsNamedBy, IsRefusalOf, IsWhole, RefusesNext, next_path, paths_of, paths_of_files};
+ghost use Rattle.lft_whole_parser.specs.Imports.{Paths.normal as normal_path, Files.{AreNumbered, EachOnce, IsWhole, paths_of_files}};
+ghost use Rattle.lft_whole_parser.specs.inner.Imports.Files.{Adds, AreApart, AreCounted, AreSources, HasOneMore, IsAskedBy, IsKnown, IsNamedBy, IsRefusalOf, RefusesNext, next_path, paths_of};
 
 use crate::imports::asked::Asked;
 use crate::imports::paths::normal;

@@ -3,7 +3,7 @@
 ghost use Rattle.std.specs.Prelude.{◌≡◌, ◌+◌, ◌<◌, ◌≤◌, IfOk, length};
 ghost use Rattle.lft_whole_parser.specs.Imports.Places.{AreSpots, IsSpot};
 ghost use Rattle.lft_text_diagnostics.specs.Places.{begins_letter as is_begin};
-ghost use Rattle.lft_whole.specs.Tokens.{AreTokens};
+ghost use Rattle.lft_whole.specs.inner.Tokens.{AreTokens};
 
 use lft_whole::Token;
 use lft_whole::sources::Spot;

@@ -1,6 +1,6 @@
 use Rattle.std.proofs.Common.{◌≤◌, length, arith, subst, Option}
 use Rattle.lft_model.specs.declared.breach.Breach.{Breach}
-use Rattle.lft_check.specs.Verdicts.{LeastOf, BreachFrom}
+use Rattle.lft_check.specs.inner.Verdicts.{LeastOf, BreachFrom}
 use Rattle.lft_check.proofs.Counts.{few_slices, tags_of, are_tags, tags_length}
 use Rattle.lft_check.proofs.Whole.{broken, accepted, missing_from_first, inner_from_first, clash_from_first}
 use Rattle.lft_check.proofs.judging.verdict_of.Goals as goal

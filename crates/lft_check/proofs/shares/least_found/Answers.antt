@@ -1,5 +1,5 @@
 use Rattle.std.proofs.Common.{◌≡◌, ◌≤◌, length, subst, arith}
-use Rattle.lft_check.{specs.{Verdicts.LeastOf, Shares.IsFound}, proofs.Sharing.{next_found, next_ok}}
+use Rattle.lft_check.{specs.inner.{Verdicts.LeastOf, Shares.IsFound}, proofs.Sharing.{next_found, next_ok}}
 use Rattle.lft_check.proofs.shares.least_found.Goals as goal
 
 pub loop-place-preserved : goal.loop-place-preserved

@@ -1,4 +1,4 @@
-use Rattle.lft_check.specs.{Verdicts.LeastOf, Shares.{IsFound, AreOk}}
+use Rattle.lft_check.specs.inner.{Verdicts.LeastOf, Shares.{IsFound, AreOk}}
 use Rattle.lft_check.proofs.shares.least_found.Given as goal
 
 abbrev pub invariant-loop-place : goal.invariant-loop-place

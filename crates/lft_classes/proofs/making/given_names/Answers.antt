@@ -1,5 +1,5 @@
 use Rattle.std.proofs.Common.{◌<◌, [], length, string_bytes, sym, ap, ◌∙◌, arith}
-use Rattle.lft_resolve.specs.Tests.{texts}
+use Rattle.lft_resolve.specs.inner.Tests.{texts}
 use Rattle.lft_classes.proofs.Building.{pushed}
 use Rattle.lft_classes.proofs.making.given_names.Goals as goal
 

@@ -1,5 +1,5 @@
 use Rattle.std.proofs.Common.{◌≡◌, map, string_bytes, take}
-use Rattle.lft_resolve.specs.Tests.{texts}
+use Rattle.lft_resolve.specs.inner.Tests.{texts}
 use Rattle.lft_classes.proofs.making.given_names.Given as goal
 
 abbrev pub invariant-loop-assignment : goal.invariant-loop-assignment

@@ -2,7 +2,7 @@ use Rattle.std.proofs.Common.{◌≡◌, ◌+◌, ◌<◌, ℕ, List, Some, leng
 use Rattle.std.specs.Prelude.{unwrap_or}
 use Rattle.std.proofs.lemmas.{List.{length_push, Sorted.IsNonDecreasingBy-from_sort_by_key}, Option.{slice_get_read, slice_get_within}}
 use Rattle.lft_lists.proofs.Places.{Some_same}
-use Rattle.lft_resolve.specs.{Places.{place, place_in}, Tests.texts}
+use Rattle.lft_resolve.specs.{inner.{Places.place, Tests.texts}, Places.place_in}
 use Rattle.lft_whole.specs.declared.tree.Assignment.{Assignment}
 use Rattle.lft_classes.{specs.{declared.shapes.Given.Given, Shapes.thing_named}, proofs.{Building.below_one, Giving.{given_moved, noted_more}, Naming.once}}
 use Rattle.lft_classes.proofs.making.given_of.Goals as goal

@@ -1,6 +1,6 @@
 use Rattle.std.proofs.Common.{None, Some, inl, inr, sym, subst}
 use Rattle.lft_lists.proofs.Places.{get_push_cases}
-use Rattle.lft_classes.specs.Makings.{KnowsNone}
+use Rattle.lft_classes.specs.inner.Makings.{KnowsNone}
 use Rattle.lft_classes.proofs.making.nothing.Goals as goal
 
 pub loop-preserved : goal.loop-preserved

@@ -1,4 +1,4 @@
-use Rattle.lft_classes.specs.Makings.{KnowsNone}
+use Rattle.lft_classes.specs.inner.Makings.{KnowsNone}
 use Rattle.lft_classes.proofs.making.nothing.Given as goal
 
 abbrev pub invariant-loop : goal.invariant-loop

@@ -1,6 +1,6 @@
 use Rattle.std.proofs.Common.{◌≡◌, ◌+◌, length, Some, slice_get, refl, sym, ap, subst, ◌∙◌, arith}
 use Rattle.std.proofs.lemmas.{List.length_push, Option.slice_get_read}
-use Rattle.lft_classes.{specs.Scopes.IsMeantScope, proofs.Meanings.scopes_push}
+use Rattle.lft_classes.{specs.inner.Scopes.IsMeantScope, proofs.Meanings.scopes_push}
 use Rattle.lft_classes.proofs.scopes.all_scopes.Goals as goal
 
 pub loop-number-preserved : goal.loop-number-preserved

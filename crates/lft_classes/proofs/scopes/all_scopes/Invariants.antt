@@ -1,5 +1,5 @@
 use Rattle.std.proofs.Common.{◌≡◌, ℕ, length, Some, slice_get}
-use Rattle.lft_classes.specs.{declared.scopes.Scope.Scope, Scopes.{AreOwnScopes, IsMeantScope}}
+use Rattle.lft_classes.specs.{declared.scopes.Scope.Scope, inner.Scopes.{AreOwnScopes, IsMeantScope}}
 use Rattle.lft_classes.proofs.scopes.all_scopes.Given as goal
 
 abbrev pub invariant-loop-number : goal.invariant-loop-number

@@ -1,6 +1,6 @@
 use Rattle.std.proofs.Common.{◌≡◌, Some, option_copied, slice_get, sym, ap, ◌∙◌}
 use Rattle.lft_resolve.proofs.Placing.{lent}
-use Rattle.lft_classes.{specs.Scopes.IsOwnAt, proofs.Meanings.found_in}
+use Rattle.lft_classes.{specs.inner.Scopes.IsOwnAt, proofs.Meanings.found_in}
 use Rattle.lft_classes.proofs.scopes.exported.Goals as goal
 
 pub returns-in-Some-get : goal.returns-in-Some-get

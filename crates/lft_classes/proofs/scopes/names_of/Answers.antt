@@ -1,5 +1,5 @@
 use Rattle.std.proofs.Common.{◌<◌, [], length, refl, sym, ap, ◌∙◌, arith}
-use Rattle.lft_resolve.specs.Tests.{texts}
+use Rattle.lft_resolve.specs.inner.Tests.{texts}
 use Rattle.lft_classes.proofs.Building.{pushed}
 use Rattle.lft_classes.proofs.scopes.names_of.Goals as goal
 

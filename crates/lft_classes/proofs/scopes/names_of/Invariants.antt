@@ -1,5 +1,5 @@
 use Rattle.std.proofs.Common.{◌≡◌, map, take}
-use Rattle.lft_resolve.specs.Tests.{texts}
+use Rattle.lft_resolve.specs.inner.Tests.{texts}
 use Rattle.lft_classes.proofs.scopes.names_of.Given as goal
 
 abbrev pub invariant-loop-meaning : goal.invariant-loop-meaning

@@ -1,7 +1,7 @@
 use Rattle.std.proofs.Common.{◌≡◌, Some, None, inl, option_copied, slice_get, sym, ap, subst, ◌∙◌}
 use Rattle.lft_lists.proofs.Places.{same_some}
 use Rattle.lft_resolve.proofs.Placing.{lent}
-use Rattle.lft_classes.{specs.{declared.scopes.Scope.Scope, Scopes.{EachMeans, HasMeaning, MeansAt}}, proofs.Meanings.own_means}
+use Rattle.lft_classes.{specs.{declared.scopes.Scope.Scope, inner.Scopes.{EachMeans, HasMeaning, MeansAt}}, proofs.Meanings.own_means}
 use Rattle.lft_classes.proofs.scopes.own_meanings.Goals as goal
 
 pub returns-clause-meant : goal.returns-clause-meant

@@ -2,7 +2,7 @@ use Rattle.std.proofs.Common.{◌≡◌, ◌<◌, ℕ, length, Some, slice_get, 
 use Rattle.std.proofs.lemmas.Option.{slice_get_read, slice_get_within}
 use Rattle.lft_lists.proofs.Places.{same_some}
 use Rattle.lft_whole.specs.declared.tree.ImportedName.{ImportedName}
-use Rattle.lft_classes.{specs.Scopes.IsGiven, proofs.{Building.below_one, Meanings.{given_kept, imports_of}}}
+use Rattle.lft_classes.{specs.inner.Scopes.IsGiven, proofs.{Building.below_one, Meanings.{given_kept, imports_of}}}
 use Rattle.lft_classes.proofs.scopes.push_imports.Goals as goal
 
 pub loop-place-preserved : goal.loop-place-preserved

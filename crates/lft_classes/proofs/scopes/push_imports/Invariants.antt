@@ -1,6 +1,6 @@
 use Rattle.std.proofs.Common.{◌≡◌, ◌<◌, ℕ, List, Some, slice_get}
 use Rattle.lft_whole.specs.declared.{sources.source.SourceFile.SourceFile, tree.{Import.Import, ImportedName.ImportedName}}
-use Rattle.lft_classes.specs.Scopes.{AreOwnScopes, EachMeans, HasMeaning, IsGiven, MeansAt}
+use Rattle.lft_classes.specs.inner.Scopes.{AreOwnScopes, EachMeans, HasMeaning, IsGiven, MeansAt}
 use Rattle.lft_classes.proofs.scopes.push_imports.Given as goal
 
 abbrev pub invariant-loop-place : goal.invariant-loop-place

@@ -1,6 +1,6 @@
 use Rattle.std.proofs.Common.{◌≡◌, Some, option_map, string_bytes, refl, sym, ap, subst, ◌∙◌}
 use Rattle.lft_lists.proofs.Places.{Some_same}
-use Rattle.lft_classes.{specs.Scopes.{EachMeans, HasMeaning, IsOwnAt}, proofs.Meanings.{has_last, has_push, means_push}}
+use Rattle.lft_classes.{specs.inner.Scopes.{EachMeans, HasMeaning, IsOwnAt}, proofs.Meanings.{has_last, has_push, means_push}}
 use Rattle.lft_classes.proofs.scopes.push_named.Goals as goal
 
 pub returns-clause-own : goal.returns-clause-own

@@ -1,5 +1,5 @@
 use Rattle.std.proofs.Common.{sym, subst}
-use Rattle.lft_classes.{specs.Scopes.{HasImports, HasMeaning, MeansAt}, proofs.Meanings.scope_has}
+use Rattle.lft_classes.{specs.inner.Scopes.{HasImports, HasMeaning, MeansAt}, proofs.Meanings.scope_has}
 use Rattle.lft_classes.proofs.scopes.scope_of.Goals as goal
 
 pub returns : goal.returns

@@ -1,7 +1,7 @@
 use Rattle.std.proofs.Common.{◌≡◌, ℕ, List, Some, option_map, slice_get, string_bytes, sym, subst, arith}
 use Rattle.std.proofs.lemmas.Option.{slice_get_within}
 use Rattle.lft_whole.specs.declared.tree.Name.{Name}
-use Rattle.lft_classes.specs.{declared.shapes.{Inherited.Inherited, InheritedParameter.InheritedParameter}, Naming.{EachNamed, HasNamed}, Shapes.name_of}
+use Rattle.lft_classes.specs.{declared.shapes.{Inherited.Inherited, InheritedParameter.InheritedParameter}, inner.Naming.{EachNamed, HasNamed}, Shapes.name_of}
 use Rattle.lft_classes.proofs.{Building.below_one, Naming.{all_noted, has_named_last, has_named_push, named_push}}
 use Rattle.lft_classes.specs.declared.shapes.Thing.TheVariants as thing
 use Rattle.lft_classes.proofs.shapes.all_named.Goals as goal

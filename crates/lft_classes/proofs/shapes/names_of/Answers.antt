@@ -1,6 +1,6 @@
 use Rattle.std.proofs.Common.{◌≡◌, [], get_or, refl, ap, ◌∙◌}
 use Rattle.std.proofs.lemmas.Option.{get_or_from_slice_get}
-use Rattle.lft_resolve.specs.Tests.{texts}
+use Rattle.lft_resolve.specs.inner.Tests.{texts}
 use Rattle.lft_classes.proofs.Building.{pushed}
 use Rattle.lft_classes.proofs.shapes.names_of.Goals as goal
 

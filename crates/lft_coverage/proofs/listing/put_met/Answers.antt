@@ -2,7 +2,7 @@ use Rattle.std.proofs.Common.{◌≡◌, ◌≤◌, ◌*◌, ◌+◌, ℕ, List,
 use Rattle.std.specs.List.{enumerate_from}
 use Rattle.lft_ir.specs.declared.parts.Reaction.{Reaction}
 use Rattle.lft_counts.specs.Overlaps.{met_by}
-use Rattle.lft_coverage.specs.{Facts.{has, pair_words}, Taking.TookMore}
+use Rattle.lft_coverage.specs.{Facts.{has, pair_words}, inner.Taking.TookMore}
 use Rattle.lft_coverage.proofs.{Taking.{took_at, took_nothing, took_so}, Listed.{all_placed, took_items, took_more}, Tests.none_met_from}
 use Rattle.lft_coverage.proofs.listing.put_met.Goals.{then-not-has_none, else-not-has_none}
 use Rattle.lft_coverage.proofs.listing.put_met.Goals as goal

@@ -1,7 +1,7 @@
 use Rattle.std.proofs.Common.{◌*◌, take, flat_map}
 use Rattle.std.specs.List.{enumerate_from}
 use Rattle.lft_counts.specs.Overlaps.{met_by}
-use Rattle.lft_coverage.specs.{Facts.{has, pair_words}, Taking.TookMore}
+use Rattle.lft_coverage.specs.{Facts.{has, pair_words}, inner.Taking.TookMore}
 use Rattle.lft_coverage.proofs.listing.put_met.Given as goal
 
 abbrev pub invariant-loop-word : goal.invariant-loop-word

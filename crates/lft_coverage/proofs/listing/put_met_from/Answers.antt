@@ -3,7 +3,7 @@ use Rattle.std.{specs.List.enumerate_from, proofs.lemmas.List.FromFn.length-enum
 use Rattle.lft_lists.proofs.{Mapped.enumerate_at, Places.get_there}
 use Rattle.lft_ir.specs.declared.parts.Reaction.{Reaction}
 use Rattle.lft_counts.specs.Overlaps.{met_by}
-use Rattle.lft_coverage.{specs.{Facts.{has, pair_words}, Taking.TookMore}, proofs.{Listed.{took_items, took_one, take_same}, Tests.as_test}}
+use Rattle.lft_coverage.{specs.{Facts.{has, pair_words}, inner.Taking.TookMore}, proofs.{Listed.{took_items, took_one, take_same}, Tests.as_test}}
 use Rattle.lft_coverage.proofs.listing.put_met_from.Goals as goal
 
 pub loop-number-preserved : goal.loop-number-preserved

@@ -1,7 +1,7 @@
 use Rattle.std.proofs.Common.{◌-◌, drop, take, flat_map}
 use Rattle.std.specs.List.{enumerate_from}
 use Rattle.lft_counts.specs.Overlaps.{met_by}
-use Rattle.lft_coverage.specs.{Facts.{has, pair_words}, Taking.TookMore}
+use Rattle.lft_coverage.specs.{Facts.{has, pair_words}, inner.Taking.TookMore}
 use Rattle.lft_coverage.proofs.listing.put_met_from.Given as goal
 
 abbrev pub invariant-loop-number : goal.invariant-loop-number

@@ -1,5 +1,5 @@
 use Rattle.std.proofs.Common.{take, flat_map}
-use Rattle.lft_coverage.specs.{Facts.order_line, Taking.TookMore}
+use Rattle.lft_coverage.specs.{Facts.order_line, inner.Taking.TookMore}
 use Rattle.lft_coverage.proofs.listing.put_orders.Given as goal
 
 abbrev pub invariant-loop-place : goal.invariant-loop-place

@@ -1,6 +1,6 @@
 use Rattle.std.proofs.Common.{take, flat_map}
 use Rattle.std.specs.List.{enumerate_from}
-use Rattle.lft_coverage.specs.{Facts.pair_lines, Taking.TookMore}
+use Rattle.lft_coverage.specs.{Facts.pair_lines, inner.Taking.TookMore}
 use Rattle.lft_coverage.proofs.listing.put_pairs.Given as goal
 
 abbrev pub invariant-loop-number : goal.invariant-loop-number

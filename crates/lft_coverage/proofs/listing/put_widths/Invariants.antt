@@ -1,6 +1,6 @@
 use Rattle.std.proofs.Common.{take, flat_map}
 use Rattle.std.specs.List.{enumerate_from}
-use Rattle.lft_coverage.specs.{Facts.width_line, Taking.TookMore}
+use Rattle.lft_coverage.specs.{Facts.width_line, inner.Taking.TookMore}
 use Rattle.lft_coverage.proofs.listing.put_widths.Given as goal
 
 abbrev pub invariant-loop-width : goal.invariant-loop-width

@@ -1,6 +1,6 @@
 use Rattle.std.proofs.Common.{◌≡◌, ◌+◌, true, false, length, min, refl, subst, arith}
 use Rattle.lft_counts.specs.Counts.{Count, more, same}
-use Rattle.lft_coverage.{specs.Pairs.IsCountedWith, proofs.pairs.pairs_from.Goals.{then-is_counted, else-is_counted}}
+use Rattle.lft_coverage.{specs.inner.Pairs.IsCountedWith, proofs.pairs.pairs_from.Goals.{then-is_counted, else-is_counted}}
 use Rattle.lft_coverage.proofs.pairs.pairs_from.Goals as goal
 
 pub loop-other-init : goal.loop-other-init

@@ -1,6 +1,6 @@
 use Rattle.std.proofs.Common.{ℕ, ◌+◌, ◌≤◌}
 use Rattle.lft_counts.specs.Counts.{Count}
-use Rattle.lft_coverage.specs.Pairs.{IsCountedWith}
+use Rattle.lft_coverage.specs.inner.Pairs.{IsCountedWith}
 use Rattle.lft_coverage.proofs.pairs.pairs_from.Given as goal
 
 abbrev pub invariant-loop-other : goal.invariant-loop-other

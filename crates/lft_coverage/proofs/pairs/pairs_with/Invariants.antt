@@ -1,6 +1,6 @@
 use Rattle.std.proofs.Common.{◌*◌, length, min}
 use Rattle.lft_counts.specs.Counts.{Count}
-use Rattle.lft_coverage.specs.Pairs.{IsCountedWith}
+use Rattle.lft_coverage.specs.inner.Pairs.{IsCountedWith}
 use Rattle.lft_coverage.proofs.pairs.pairs_with.Given as goal
 
 abbrev pub invariant-loop-word : goal.invariant-loop-word

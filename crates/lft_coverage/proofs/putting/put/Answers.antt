@@ -1,6 +1,6 @@
 use Rattle.std.proofs.Common.{List, ℕ, length, take, sym, ap, ◌∙◌, subst, eqb-true, false, nat_eq}
 use Rattle.std.specs.Io.KnownBytes.{Appends}
-use Rattle.lft_coverage.{specs.Taking.TookMore, proofs.Taking.{took_given, took_no_more}}
+use Rattle.lft_coverage.{specs.inner.Taking.TookMore, proofs.Taking.{took_given, took_no_more}}
 use Rattle.lft_coverage.proofs.putting.put.Goals as goal
 
 pub returns-then-whole : goal.returns-then-whole

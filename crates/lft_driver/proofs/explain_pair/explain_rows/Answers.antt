@@ -1,6 +1,6 @@
 use Rattle.std.proofs.Common.{inl, sym, subst}
 use Rattle.lft_ir.specs.Parts.{Parts}
-use Rattle.lft_driver.specs.{Pairs.NamesReaction, PairExplained.PairExplainingRefusal.by_check}
+use Rattle.lft_driver.specs.{inner.Pairs.NamesReaction, PairExplained.PairExplainingRefusal.by_check}
 use Rattle.lft_driver.proofs.{Pairing.names_reaction, PairExplaining.{line_refused, all_written, rest_refused}}
 use Rattle.std.proofs.KnownBytes.{Keeps-refl}
 use Rattle.lft_driver.proofs.explain_pair.explain_rows.Goals as goal

@@ -1,5 +1,5 @@
 use Rattle.std.proofs.Common.{OnOk, IfErr, sym, subst}
-use Rattle.lft_driver.specs.{declared.paired.Paired.Paired, Explained.{Writes, WriteRefusal}, PairExplained.StandsBehind}
+use Rattle.lft_driver.specs.{declared.paired.Paired.Paired, Explained.Writes, inner.Explained.WriteRefusal, PairExplained.StandsBehind}
 use Rattle.lft_driver.proofs.explain_pair.write_behind.Goals as goal
 
 pub returns-in-Second-clause-refused : goal.returns-in-Second-clause-refused

@@ -1,6 +1,6 @@
 use Rattle.std.proofs.Common.{inl, inr, sym, subst}
 use Rattle.std.proofs.lemmas.Result.{IfErr-weaker, IfOk-weaker}
-use Rattle.lft_driver.{specs.Accepting.IsRight, proofs.Judging.refusal_untold}
+use Rattle.lft_driver.{specs.inner.Accepting.IsRight, proofs.Judging.refusal_untold}
 use Rattle.lft_driver.proofs.judge.verdict_on.Goals as goal
 
 pub returns-in-Some-clause-right : goal.returns-in-Some-clause-right

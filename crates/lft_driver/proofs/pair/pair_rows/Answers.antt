@@ -1,6 +1,6 @@
 use Rattle.std.proofs.Common.{inl, inr, sym, subst}
 use Rattle.lft_ir.specs.Parts.{Parts}
-use Rattle.lft_driver.specs.{Lines.line_of_pair, Pairs.NamesReaction, Refusals.CheckRefusal.by_growth, PairRefusals.PairingRefusal.{by_check, by_writer}}
+use Rattle.lft_driver.specs.{Lines.line_of_pair, inner.Pairs.NamesReaction, Refusals.CheckRefusal.by_growth, PairRefusals.PairingRefusal.{by_check, by_writer}}
 use Rattle.lft_driver.proofs.Pairing.{names_reaction}
 use Rattle.lft_load.specs.Written.{AppendsFront}
 use Rattle.lft_driver.proofs.pair.pair_rows.Goals as goal

@@ -1,6 +1,6 @@
 use Rattle.std.proofs.Common.{rules, ◌≢◌, inl, inr, string_bytes}
 use Rattle.lft_tree.specs.View.{tree_view}
-use Rattle.lft_program.specs.Refusals.{cause_of}
+use Rattle.lft_program.specs.inner.Refusals.{cause_of}
 use Rattle.lft_text_diagnostics.specs.Refusals.{HasNoTree}
 use Rattle.lft_load.proofs.Loading.{only_program}
 use Rattle.lft_driver.proofs.Reading.{no_flat, no_tokens, no_tree, only_tree}

@@ -1,6 +1,6 @@
 use Rattle.std.proofs.Common.{inl, inr, string_bytes, subst}
 use Rattle.lft_graph.specs.Precedence.{HasNoLoop}
-use Rattle.lft_driver.specs.{declared.refused.Start.Start, Told.{HasNoOrder, Reads, TellsLoop, TellsNoOrder}}
+use Rattle.lft_driver.specs.{declared.refused.Start.Start, Told.{HasNoOrder, TellsLoop, TellsNoOrder}, inner.Told.Reads}
 use Rattle.lft_driver.proofs.Telling.{of_none, of_found, told_loop, no_order_by_loop, no_order_by_program}
 use Rattle.lft_driver.proofs.refused.refusal_of_program.Goals as goal
 

@@ -1,5 +1,5 @@
 use Rattle.std.proofs.Common.{inl, inr, string_bytes, subst}
-use Rattle.lft_driver.specs.{declared.refused.Start.Start, Meaning.{IsNoTrace, IsTrace}, Told.{HaveNoMeaning, IsPlanned, Reads, TellsInputsOrLoop}}
+use Rattle.lft_driver.specs.{declared.refused.Start.Start, Meaning.{IsNoTrace, IsTrace}, Told.{HaveNoMeaning, IsPlanned, TellsInputsOrLoop}, inner.Told.Reads}
 use Rattle.lft_driver.proofs.Telling.{meant, none_by_program, none_by_trace, none_by_unplanned, none_so, of_found, of_none, some_is, some_so}
 use Rattle.lft_driver.proofs.refused.refusal_of_texts.Goals as goal
 

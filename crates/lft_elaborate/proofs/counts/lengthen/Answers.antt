@@ -1,6 +1,6 @@
 use Rattle.std.proofs.Common.{false, length, sym, ap, subst, ◌∙◌, arith}
 use Rattle.std.proofs.lemmas.List.{length_push}
-use Rattle.lft_elaborate.{specs.Used.AreMarked, proofs.Marks.marks_more}
+use Rattle.lft_elaborate.{specs.inner.Used.AreMarked, proofs.Marks.marks_more}
 use Rattle.lft_elaborate.proofs.counts.lengthen.Goals as goal
 
 pub loop-more-preserved : goal.loop-more-preserved

@@ -1,5 +1,5 @@
 use Rattle.std.proofs.Common.{ℕ, ◌≤◌, List, vec_len}
-use Rattle.lft_elaborate.specs.Used.{AreMarked}
+use Rattle.lft_elaborate.specs.inner.Used.{AreMarked}
 use Rattle.lft_elaborate.proofs.counts.lengthen.Given as goal
 
 abbrev pub invariant-loop-more : goal.invariant-loop-more

@@ -1,7 +1,7 @@
 use Rattle.std.proofs.Common.{◌≡◌, ◌+◌, ℕ, length, ap, ◌∙◌, subst, Some, None}
 use Rattle.lft_tag.specs.Shifts.{Folded}
 use Rattle.lft_ir.specs.Parts.{Parts}
-use Rattle.lft_rows.specs.Presence.Causes.{IsLastCause}
+use Rattle.lft_rows.specs.inner.Presence.Causes.{IsLastCause}
 use Rattle.lft_facts.proofs.Causes.{action_holds, action_gives, none_acting}
 use Rattle.lft_facts.proofs.cause.action_cause.Goals as goal
 

@@ -1,6 +1,6 @@
 use Rattle.std.proofs.Common.{◌≡◌, ◌++◌, ◌∷◌, [], sym, ap, ◌∙◌, subst}
 use Rattle.std.proofs.Common.{List}
-use Rattle.lft_facts.specs.{Ways.{IsMarked, AreSteps, AreWays}, declared.facts.Fact.Fact, Facts.{AreFacts, IsChosen}, Enough.{GivesChain, AreOwn}}
+use Rattle.lft_facts.specs.{inner.Ways.{IsMarked, AreSteps, AreWays}, declared.facts.Fact.Fact, Facts.{AreFacts, IsChosen}, Enough.{GivesChain, AreOwn}}
 use Rattle.lft_facts.proofs.{Giving.{late_gives, late_there, late_holds, late_own}, Choosing.{chosen, ends_behind_start}, Upstream.{all_marked, step_leads}}
 use Rattle.lft_facts.specs.declared.facts.Fact.TheVariants as fact
 use Rattle.lft_facts.proofs.early.early_chain.Goals as goal

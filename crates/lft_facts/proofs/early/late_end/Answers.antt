@@ -1,5 +1,5 @@
 use Rattle.std.proofs.Common.{ℕ, inl, inr, subst, Option}
-use Rattle.lft_facts.{specs.Ways.IsLeastOfAll, proofs.Running.{all_some, all_none, all_least, all_marked}}
+use Rattle.lft_facts.{specs.inner.Ways.IsLeastOfAll, proofs.Running.{all_some, all_none, all_least, all_marked}}
 use Rattle.lft_facts.proofs.early.late_end.Goals as goal
 
 pub unreachable-requires : goal.unreachable-requires

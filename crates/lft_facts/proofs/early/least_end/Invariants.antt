@@ -1,4 +1,4 @@
-use Rattle.lft_facts.specs.Ways.{IsLeastEnd}
+use Rattle.lft_facts.specs.inner.Ways.{IsLeastEnd}
 use Rattle.lft_facts.proofs.early.least_end.Given as goal
 
 abbrev pub invariant-loop-place : goal.invariant-loop-place

@@ -1,6 +1,6 @@
 use Rattle.std.proofs.Common.{ℕ, sym, ◌∙◌, subst, arith, Option}
 use Rattle.lft_rows.proofs.PresenceLemmas.Lists.{not_true}
-use Rattle.lft_facts.{specs.Ways.IsLeastEnd, proofs.Running.{least_stays, least_kept, least_first, least_here}}
+use Rattle.lft_facts.{specs.inner.Ways.IsLeastEnd, proofs.Running.{least_stays, least_kept, least_first, least_here}}
 use Rattle.lft_facts.proofs.early.lesser.Goals as goal
 
 pub returns-then-not-ends_marked : goal.returns-then-not-ends_marked

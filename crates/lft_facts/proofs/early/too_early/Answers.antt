@@ -1,7 +1,7 @@
 use Rattle.std.proofs.Common.{◌≡◌, List, Bool, Some, refl, sym, subst}
 use Rattle.lft_model.specs.declared.breach.Breach.{Breach}
-use Rattle.lft_facts.{specs.Enough.Adds, proofs.Added.{adds_holds, adds_gives, adds_own}}
-use Rattle.lft_races.specs.Runs.{HaveRun}
+use Rattle.lft_facts.{specs.inner.Enough.Adds, proofs.Added.{adds_holds, adds_gives, adds_own}}
+use Rattle.lft_races.specs.inner.Runs.{HaveRun}
 use Rattle.lft_facts.proofs.early.too_early.Goals as goal
 
 -- which reactions have no run stands behind the other facts

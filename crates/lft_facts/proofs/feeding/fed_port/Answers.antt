@@ -1,7 +1,7 @@
 use Rattle.std.proofs.Common.{◌≡◌, Bool, false, true, sym, ◌∙◌, subst, arith, Contains}
 use Rattle.lft_ir.specs.declared.parts.Name.{Name, TheVariants.Port}
 use Rattle.lft_graph.proofs.Feeding.{no_delay, kept_origin}
-use Rattle.lft_facts.specs.Ways.{IsFed}
+use Rattle.lft_facts.specs.inner.Ways.{IsFed}
 use Rattle.lft_facts.proofs.feeding.fed_port.Goals.{else-port-eq0-via-then-port-eq0+then-port-eq0-2+else-has_port, else-port-eq0-via-then-port-eq0+else-port-eq0-2, else-port-eq0-via-else-port-eq0}
 use Rattle.lft_facts.proofs.feeding.fed_port.Goals as goal
 

@@ -1,6 +1,6 @@
 use Rattle.std.proofs.Common.{◌≡◌, ℕ, ◌<◌, Some, slice_get}
 use Rattle.lft_ir.specs.declared.parts.{Name.Name, Trigger.TheVariants.On}
-use Rattle.lft_facts.specs.Ways.{IsFed}
+use Rattle.lft_facts.specs.inner.Ways.{IsFed}
 use Rattle.lft_facts.proofs.feeding.feeding_port.Given as goal
 
 abbrev pub invariant-loop-place : goal.invariant-loop-place

@@ -1,6 +1,6 @@
 use Rattle.std.proofs.lemmas.Result.{IfOk-weaker}
 use Rattle.lft_model.specs.declared.breach.Breach.{Breach}
-use Rattle.lft_facts.{specs.{Facts.AreFacts, Enough.{Extends, ProvesTag, AreOwn}}, proofs.Added.extends_proves}
+use Rattle.lft_facts.{specs.{Facts.AreFacts, inner.Enough.Extends, Enough.{ProvesTag, AreOwn}}, proofs.Added.extends_proves}
 use Rattle.lft_facts.proofs.finding.at_tag.Goals as goal
 
 pub returns-clause-holds : goal.returns-clause-holds

@@ -1,7 +1,7 @@
 use Rattle.std.proofs.Common.{arith, rules}
 use Rattle.std.proofs.Common.{Some, None, refl}
 use Rattle.std.proofs.lemmas.Result.{IfOk-weaker}
-use Rattle.lft_facts.{specs.Enough.{Gives, ProvesTag, AreOwn, AreOwnAt}, proofs.Found.{of_tag, no_clash, proves, clash_proves, is_tenth}}
+use Rattle.lft_facts.{specs.{inner.Enough.{Gives, AreOwnAt}, Enough.{ProvesTag, AreOwn}}, proofs.Found.{of_tag, no_clash, proves, clash_proves, is_tenth}}
 use Rattle.lft_facts.proofs.finding.enough_at_tag.Goals as goal
 
 pub too_early-requires-clause-kept : goal.too_early-requires-clause-kept

@@ -1,8 +1,8 @@
 use Rattle.std.proofs.Common.{◌≡◌, sym, ap, ◌∙◌, subst}
 use Rattle.lft_tag.specs.{declared.Tag.Tag, Shifts.shifted}
 use Rattle.lft_ir.specs.{Parts.Parts, declared.parts.Trigger.TheVariants.On}
-use Rattle.lft_rows.specs.Presence.Causes.{tag_of}
-use Rattle.lft_facts.{specs.{Reasons.IsNearest, Causes.StandsFor}, proofs.Near.nearest_after}
+use Rattle.lft_rows.specs.inner.Presence.Causes.{tag_of}
+use Rattle.lft_facts.{specs.{Reasons.IsNearest, inner.Causes.StandsFor}, proofs.Near.nearest_after}
 use Rattle.lft_facts.proofs.nearest.event_after.Goals as goal
 
 pub returns-in-Some : goal.returns-in-Some

@@ -1,6 +1,6 @@
 use Rattle.std.proofs.Common.{sym, subst, refl}
 use Rattle.lft_ir.specs.declared.parts.Name.{Name}
-use Rattle.lft_facts.specs.Causes.{StandsFor}
+use Rattle.lft_facts.specs.inner.Causes.{StandsFor}
 use Rattle.lft_facts.proofs.nearest.key_of.Goals as goal
 
 pub returns-in-Port : goal.returns-in-Port

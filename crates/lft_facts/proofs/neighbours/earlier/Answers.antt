@@ -2,7 +2,7 @@ use Rattle.std.proofs.Common.{ℕ, refl, sym, ◌∙◌, subst, Option}
 use Rattle.lft_tag.{specs.{declared.Tag.Tag, Tags.{Before, UpTo}}, proofs.Order.{Before-weaken, UpTo-refl, UpTo-trans}}
 use Rattle.lft_rows.proofs.PresenceLemmas.{Lists.not_true, Skips.up_to_stop}
 use Rattle.lft_races.specs.Runs.{StartsAt}
-use Rattle.lft_facts.{specs.Neighbours.IsNearestStart, proofs.Beside.{tag_here, start_stays, start_kept, start_first, start_here}}
+use Rattle.lft_facts.{specs.inner.Neighbours.IsNearestStart, proofs.Beside.{tag_here, start_stays, start_kept, start_first, start_here}}
 use Rattle.lft_facts.proofs.neighbours.earlier.Goals as goal
 
 pub returns-then-not-is_start_at : goal.returns-then-not-is_start_at

@@ -1,6 +1,6 @@
 use Rattle.std.proofs.Common.{◌≡◌, ℕ, ◌++◌, ◌∷◌, [], List, ◌<◌, take, sym, ap, ◌∙◌, subst, Option, Some}
 use Rattle.lft_races.proofs.Standing.{unfinished_whole, start_there}
-use Rattle.lft_facts.specs.{Ways.{IsMarked, EndsMarked, IsLeastOfAll, AreSteps}, declared.facts.Fact.Fact, Facts.AreFacts, Enough.{GivesChain, AreOwn}}
+use Rattle.lft_facts.specs.{inner.Ways.{IsMarked, EndsMarked, IsLeastOfAll, AreSteps}, declared.facts.Fact.Fact, Facts.AreFacts, Enough.{GivesChain, AreOwn}}
 use Rattle.lft_facts.proofs.{Choosing.{chosen, ends_behind_race}, Upstream.{all_marked, step_leads}, Running.{all_end, all_none}}
 use Rattle.lft_facts.proofs.FirstRace.{IsOnly, only_of, only_leads, row_starts, late_some, race_holds, race_own, race_ends, is_before}
 use Rattle.lft_facts.specs.declared.facts.Fact.TheVariants as fact

@@ -1,5 +1,5 @@
 use Rattle.lft_model.specs.declared.breach.Breach.{Breach}
-use Rattle.lft_facts.{specs.Enough.{Extends, AreOwn}, proofs.Added.ExtendsTo}
+use Rattle.lft_facts.{specs.{inner.Enough.Extends, Enough.AreOwn}, proofs.Added.ExtendsTo}
 use Rattle.lft_facts.proofs.reasons.with_reasons.Given as goal
 
 abbrev pub invariant-loop-place : goal.invariant-loop-place

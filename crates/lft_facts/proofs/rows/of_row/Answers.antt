@@ -1,5 +1,5 @@
 use Rattle.std.proofs.Common.{◌≡◌, ◌+◌, ◌-◌, ◌++◌, ◌∷◌, [], refl, ap, ◌∙◌, arith}
-use Rattle.lft_facts.specs.Enough.{Adds}
+use Rattle.lft_facts.specs.inner.Enough.{Adds}
 use Rattle.lft_facts.proofs.{RowGiving.{row_proves, row_holds, row_own, own_breaks, own_tag, own_reaction}, Added.{adds_row, adds_holds, adds_own}}
 use Rattle.lft_facts.proofs.rows.of_row.Goals.{In_ok-add_row_reasons}
 use Rattle.lft_facts.specs.declared.facts.Fact.TheVariants as fact

@@ -1,6 +1,6 @@
 use Rattle.std.proofs.Common.{ℕ, sym, subst}
-use Rattle.lft_model.specs.Breaches.{BreaksRow}
-use Rattle.lft_facts.{specs.Enough.GivesRow, proofs.RowGiving.breaks_4}
+use Rattle.lft_model.specs.inner.Breaches.{BreaksRow}
+use Rattle.lft_facts.{specs.inner.Enough.GivesRow, proofs.RowGiving.breaks_4}
 use Rattle.lft_facts.proofs.rows.row_fact.Goals as goal
 
 pub undeclared_fact-requires-clause-breaks : goal.undeclared_fact-requires-clause-breaks

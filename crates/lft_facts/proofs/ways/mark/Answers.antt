@@ -1,5 +1,5 @@
 use Rattle.std.proofs.Common.{◌+◌, Some, take, sym, ap, ◌∙◌, subst}
-use Rattle.lft_facts.{specs.Ways.IsMarking, proofs.{Upstream.{marking_more, marking_same}, ways.mark.Goals.{in-None, in-Some}}}
+use Rattle.lft_facts.{specs.inner.Ways.IsMarking, proofs.{Upstream.{marking_more, marking_same}, ways.mark.Goals.{in-None, in-Some}}}
 use Rattle.lft_facts.proofs.ways.mark.Goals as goal
 
 pub loop-place-preserved : goal.loop-place-preserved

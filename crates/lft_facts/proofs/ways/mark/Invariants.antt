@@ -1,5 +1,5 @@
 use Rattle.std.proofs.Common.{take}
-use Rattle.lft_facts.specs.Ways.{IsMarking}
+use Rattle.lft_facts.specs.inner.Ways.{IsMarking}
 use Rattle.lft_facts.proofs.ways.mark.Given as goal
 
 abbrev pub invariant-loop-place : goal.invariant-loop-place

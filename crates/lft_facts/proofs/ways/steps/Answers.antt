@@ -1,6 +1,6 @@
 use Rattle.std.proofs.Common.{rules, ◌≡◌, None, length, sym, ap, ◌∙◌, subst}
 use Rattle.lft_lists.proofs.Places.{length_same, written_back}
-use Rattle.lft_facts.{specs.Ways.{AreSteps, IsMarking}, proofs.Upstream.{list_there, steps_marked}}
+use Rattle.lft_facts.{specs.inner.Ways.{AreSteps, IsMarking}, proofs.Upstream.{list_there, steps_marked}}
 use Rattle.lft_facts.proofs.ways.steps.Goals as goal
 
 pub mark-requires : goal.mark-requires

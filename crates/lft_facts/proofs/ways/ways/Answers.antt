@@ -1,6 +1,6 @@
 use Rattle.std.proofs.Common.{◌≡◌, ◌+◌, ◌-◌, ◌<◌, ℕ, List, Some, Bool, false, true, length, slice_get, sym, ap, ◌∙◌, subst, arith}
 use Rattle.lft_lists.proofs.Places.{written_back}
-use Rattle.lft_facts.{specs.Ways.{LeadsOn, IsMarking}, proofs.Upstream.{WaysFrom, ways_pass, ways_mark, ways_end, order_known, list_there}}
+use Rattle.lft_facts.{specs.inner.Ways.{LeadsOn, IsMarking}, proofs.Upstream.{WaysFrom, ways_pass, ways_mark, ways_end, order_known, list_there}}
 use Rattle.lft_facts.proofs.ways.ways.Goals as goal
 
 -- the reaction at the place

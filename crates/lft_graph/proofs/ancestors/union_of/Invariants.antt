@@ -1,5 +1,5 @@
 use Rattle.std.proofs.Common.{◌≡◌, ◌+◌, ◌/◌, length}
-use Rattle.lft_graph.specs.Sets.{IsUnion}
+use Rattle.lft_graph.specs.inner.Sets.{IsUnion}
 use Rattle.lft_graph.proofs.ancestors.union_of.Given as goal
 
 abbrev pub invariant-loop-place : goal.invariant-loop-place

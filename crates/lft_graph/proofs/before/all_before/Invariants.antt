@@ -1,4 +1,4 @@
-use Rattle.lft_graph.specs.Walks.{HasLists}
+use Rattle.lft_graph.specs.inner.Walks.{HasLists}
 use Rattle.lft_graph.proofs.before.all_before.Given as goal
 
 abbrev pub invariant-reactions : goal.invariant-reactions

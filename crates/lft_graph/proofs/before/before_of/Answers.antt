@@ -1,6 +1,6 @@
 use Rattle.std.proofs.Common.{◌≡◌, subst, length, Some, slice_get, arith, List, Contains}
 use Rattle.lft_ir.specs.declared.parts.{Name.Name, Trigger.{Trigger, TheVariants.On}}
-use Rattle.lft_graph.specs.Walks.{NotesBelow}
+use Rattle.lft_graph.specs.inner.Walks.{NotesBelow}
 use Rattle.lft_graph.proofs.Feeding.{Begins, begins_none, begins_one, is_before, is_covered}
 use Rattle.lft_graph.proofs.before.before_of.Goals.{then-reaction-gt0+in_ok-push, else-reaction-gt0}
 use Rattle.lft_graph.proofs.before.before_of.Goals as goal

@@ -1,7 +1,7 @@
 use Rattle.std.proofs.Common.{◌≡◌, ◌<◌, ◌∙◌, ap, sym, subst, length, Some, None, slice_get, arith, []}
 use Rattle.std.proofs.lemmas.Option.{slice_get-get_or, get_or_from_slice_get}
 use Rattle.lft_ir.specs.Origins.{Origin}
-use Rattle.lft_graph.specs.Walks.{IsUndelayed}
+use Rattle.lft_graph.specs.inner.Walks.{IsUndelayed}
 use Rattle.lft_graph.proofs.Feeding.{origin_there, no_delay, kept_origin, last_at, last_there}
 use Rattle.lft_graph.proofs.before.feeder.Goals.{else-port-eq0-via-then-port-eq0+else-port-eq0-2, else-port-eq0-via-else-port-eq0}
 use Rattle.lft_graph.proofs.before.feeder.Goals as goal

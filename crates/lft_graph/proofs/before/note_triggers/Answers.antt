@@ -1,6 +1,6 @@
 use Rattle.std.proofs.Common.{◌≡◌, ℕ, ◌+◌, ◌∙◌, ◌∷◌, [], ◌++◌, ap, subst, length, Some, slice_get, arith}
 use Rattle.lft_ir.specs.declared.parts.{Name.Name, Trigger.TheVariants.On}
-use Rattle.lft_graph.specs.{Before.{Writes, IsLastWriter}, Walks.{NotesBelow, IsUndelayed, IsFeeder}}
+use Rattle.lft_graph.specs.{Before.{Writes, IsLastWriter}, inner.Walks.{NotesBelow, IsUndelayed, IsFeeder}}
 use Rattle.lft_graph.proofs.{Feeding.{notes_feeder, notes_none}, before.note_triggers.Goals.{in-On+in-Some+in_ok-push, in-On+in_default-feeder, in_default}}
 use Rattle.lft_graph.proofs.before.note_triggers.Goals as goal
 

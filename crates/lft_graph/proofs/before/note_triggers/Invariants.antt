@@ -1,6 +1,6 @@
 use Rattle.std.proofs.Common.{◌≡◌, Some, slice_get}
 use Rattle.lft_ir.specs.declared.parts.Trigger.TheVariants.{On}
-use Rattle.lft_graph.specs.Walks.{NotesBelow}
+use Rattle.lft_graph.specs.inner.Walks.{NotesBelow}
 use Rattle.lft_graph.proofs.before.note_triggers.Given as goal
 
 abbrev pub invariant-triggers : goal.invariant-triggers

@@ -1,6 +1,6 @@
 use Rattle.std.proofs.Common.{◌≡◌, ℕ, ◌+◌, ◌∷◌, [], ◌++◌, subst, length, Some, slice_get, arith}
 use Rattle.lft_ir.specs.declared.parts.Name.{Name}
-use Rattle.lft_graph.specs.Walks.{NotesBelow, IsUndelayed}
+use Rattle.lft_graph.specs.inner.Walks.{NotesBelow, IsUndelayed}
 use Rattle.lft_graph.proofs.{Feeding.{notes_feeder, notes_none}, before.note_uses.Goals.{in-Some+in_ok-push, in_default}}
 use Rattle.lft_graph.proofs.before.note_uses.Goals as goal
 

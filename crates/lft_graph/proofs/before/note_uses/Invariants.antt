@@ -1,5 +1,5 @@
 use Rattle.std.proofs.Common.{◌≡◌, Some, slice_get}
-use Rattle.lft_graph.specs.Walks.{NotesBelow}
+use Rattle.lft_graph.specs.inner.Walks.{NotesBelow}
 use Rattle.lft_graph.proofs.before.note_uses.Given as goal
 
 abbrev pub invariant-uses : goal.invariant-uses

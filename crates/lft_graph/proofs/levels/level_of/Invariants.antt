@@ -1,5 +1,5 @@
 use Rattle.std.proofs.Common.{◌≤◌}
-use Rattle.lft_graph.specs.Walks.{IsLevelOf, tally, done_weight}
+use Rattle.lft_graph.specs.inner.Walks.{IsLevelOf, tally, done_weight}
 use Rattle.lft_graph.proofs.levels.level_of.Given as goal
 
 abbrev pub invariant-members : goal.invariant-members

@@ -1,5 +1,5 @@
 use Rattle.std.proofs.Common.{◌≡◌, ℕ, ◌<◌, slice_get, Some}
-use Rattle.lft_graph.specs.Walks.{IsDone}
+use Rattle.lft_graph.specs.inner.Walks.{IsDone}
 use Rattle.lft_graph.proofs.levels.look.Given as goal
 
 abbrev pub invariant-members : goal.invariant-members

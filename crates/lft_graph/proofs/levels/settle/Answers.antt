@@ -1,6 +1,6 @@
 use Rattle.std.proofs.Common.{◌≡◌, ℕ, ◌+◌, ◌<◌, length, slice_get, Some, [], ◌∷◌, ◌++◌, slice_set, ap, ◌∙◌, subst, arith, length-append}
 use Rattle.std.proofs.lemmas.Option.{slice_get_within}
-use Rattle.lft_graph.specs.{Loops.IsLoopOf, Walks.{IsStep, IsNext, IsCut, tally, new_weight}}
+use Rattle.lft_graph.specs.{Loops.IsLoopOf, inner.Walks.{IsStep, IsNext, IsCut, tally, new_weight}}
 use Rattle.lft_graph.specs.declared.levels.{LevelMark.TheVariants.{New, Open, Done}, LevelStep.TheVariants.{Looped, First}}
 use Rattle.lft_graph.proofs.Walking.{tally_written, tally_all}
 use Rattle.lft_graph.proofs.Settling.{Settling, settling_start, settling_level, settling_first, settling_looped, top_open, first_new}

@@ -1,5 +1,5 @@
 use Rattle.std.proofs.Common.{◌*◌, ◌+◌, length}
-use Rattle.lft_graph.{specs.Walks.{tally, new_weight}, proofs.Settling.Settling}
+use Rattle.lft_graph.{specs.inner.Walks.{tally, new_weight}, proofs.Settling.Settling}
 use Rattle.lft_graph.proofs.levels.settle.Given as goal
 
 abbrev pub invariant-walk : goal.invariant-walk

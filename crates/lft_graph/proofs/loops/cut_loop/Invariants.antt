@@ -1,5 +1,5 @@
 use Rattle.std.proofs.Common.{◌≡◌, ℕ, ◌<◌, length, slice_get}
-use Rattle.lft_graph.specs.Walks.{turned}
+use Rattle.lft_graph.specs.inner.Walks.{turned}
 use Rattle.lft_graph.proofs.loops.cut_loop.Given as goal
 
 abbrev pub invariant-steps : goal.invariant-steps

@@ -1,4 +1,4 @@
-use Rattle.lft_graph.specs.Walks.{KnowsWriters}
+use Rattle.lft_graph.specs.inner.Walks.{KnowsWriters}
 use Rattle.lft_graph.proofs.writers.last_writers.Given as goal
 
 abbrev pub invariant-reactions : goal.invariant-reactions

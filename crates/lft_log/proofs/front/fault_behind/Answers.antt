@@ -1,5 +1,5 @@
 use Rattle.std.proofs.Common.{Option, inr, subst}
-use Rattle.lft_trace.specs.{LogTables.StopsAt, declared.log_table.LineFault.LineFault}
+use Rattle.lft_trace.specs.{inner.LogTables.StopsAt, declared.log_table.LineFault.LineFault}
 use Rattle.lft_log.proofs.front.fault_behind.Goals as goal
 
 pub returns-else-is_empty-clause-none : goal.returns-else-is_empty-clause-none

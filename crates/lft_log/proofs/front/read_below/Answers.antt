@@ -1,5 +1,5 @@
 use Rattle.std.proofs.Common.{◌∙◌, ◌++◌, ℕ, List, IfOk, refl, ap, subst}
-use Rattle.lft_trace.specs.{LogTables.ReadsLines, Records.records_of}
+use Rattle.lft_trace.specs.{inner.LogTables.ReadsLines, Records.records_of}
 use Rattle.lft_log.proofs.Below.{below_empty, below_plain}
 use Rattle.lft_log.proofs.front.read_below.Goals as goal
 

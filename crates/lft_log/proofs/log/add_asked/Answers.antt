@@ -1,7 +1,7 @@
 use Rattle.std.proofs.Common.{◌≡◌, ◌∙◌, ◌++◌, List, take, drop, slice_range, ap, subst, sym}
 use Rattle.std.proofs.lemmas.{List.{append_assoc, take-append-drop}, Result.IfOk-weaker}
 use Rattle.lft_ir.specs.declared.steps.row.Row.{Row}
-use Rattle.lft_monitor.specs.Follows.{IsFollowerOf, IsQuiet}
+use Rattle.lft_monitor.specs.{inner.Follows.IsFollowerOf, Follows.IsQuiet}
 use Rattle.lft_log.proofs.{Asking.kept_before, Ends.range_take, Many.{first_all, fault_more}, Gathering.fit_first, Keeping.rows_told}
 use Rattle.lft_log.proofs.log.add_asked.Goals as goal
 

@@ -1,7 +1,7 @@
 use Rattle.std.proofs.Common.{◌≡◌, ◌∙◌, ◌+◌, ◌<◌, ◌++◌, List, drop, length, slice_range, take, ap, arith, subst, sym}
 use Rattle.std.proofs.{Math.Seq.take-length, lemmas.Result.IfOk-weaker}
 use Rattle.lft_ir.specs.declared.steps.row.Row.{Row}
-use Rattle.lft_monitor.specs.Follows.{IsFollowerOf, IsQuiet}
+use Rattle.lft_monitor.specs.{inner.Follows.IsFollowerOf, Follows.IsQuiet}
 use Rattle.lft_log.proofs.{Gathering.fit_part, Many.{fault_more, first_all, next_one, said_all, said_of_some}}
 use Rattle.lft_log.proofs.log.add_rows.Goals as goal
 

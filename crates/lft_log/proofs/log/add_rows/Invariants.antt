@@ -1,6 +1,6 @@
 use Rattle.std.proofs.Common.{◌++◌, ◌<◌, List, take}
 use Rattle.lft_ir.specs.declared.steps.row.Row.{Row}
-use Rattle.lft_monitor.specs.Follows.{IsFollowerOf, IsQuiet}
+use Rattle.lft_monitor.specs.{inner.Follows.IsFollowerOf, Follows.IsQuiet}
 use Rattle.lft_log.proofs.log.add_rows.Given as goal
 
 abbrev pub invariant-loop-place : goal.invariant-loop-place

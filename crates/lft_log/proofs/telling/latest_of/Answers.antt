@@ -1,7 +1,7 @@
 use Rattle.std.proofs.Common.{◌≡◌, ◌++◌, ℕ, List, length, take, sym, subst, arith}
 use Rattle.std.proofs.{Math.Seq.take-length, lemmas.List.append-nil}
 use Rattle.lft_ir.specs.declared.steps.row.Row.{Row}
-use Rattle.lft_log.{specs.Told.IsLatest, proofs.Asking.next_row}
+use Rattle.lft_log.{specs.inner.Told.IsLatest, proofs.Asking.next_row}
 use Rattle.lft_log.proofs.telling.latest_of.Goals as goal
 
 pub loop-place-init : goal.loop-place-init

@@ -1,6 +1,6 @@
 use Rattle.std.proofs.Common.{◌++◌, List, take}
 use Rattle.lft_ir.specs.declared.steps.row.Row.{Row}
-use Rattle.lft_log.specs.Told.{IsLatest}
+use Rattle.lft_log.specs.inner.Told.{IsLatest}
 use Rattle.lft_log.proofs.telling.latest_of.Given as goal
 
 abbrev pub invariant-loop-place : goal.invariant-loop-place

@@ -1,7 +1,7 @@
 use Rattle.std.proofs.Common.{◌≡◌, Option, Some, None, refl, subst}
 use Rattle.std.proofs.lemmas.Bool.{false≢true}
 use Rattle.lft_tag.specs.{declared.Tag.Tag, Tags.Before}
-use Rattle.lft_log.{specs.Told.IsLatest, proofs.Inputs.{latest_higher, latest_stays}}
+use Rattle.lft_log.{specs.inner.Told.IsLatest, proofs.Inputs.{latest_higher, latest_stays}}
 use Rattle.lft_log.proofs.telling.latest_with.Goals as goal
 
 pub returns-in-None : goal.returns-in-None

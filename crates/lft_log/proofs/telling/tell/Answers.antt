@@ -1,8 +1,8 @@
 use Rattle.std.proofs.Common.{◌++◌, List, IfOk, IfErr, sym, subst}
 use Rattle.lft_ir.specs.declared.steps.row.Row.{Row}
 use Rattle.lft_trace.specs.declared.external_table.Entry.{Entry}
-use Rattle.lft_monitor.specs.Follows.{IsFollowerOf, IsPassed}
-use Rattle.lft_log.specs.{Logs.tag_of, Told.IsInputFault}
+use Rattle.lft_monitor.specs.{inner.Follows.IsFollowerOf, Follows.IsPassed}
+use Rattle.lft_log.specs.{Logs.tag_of, inner.Told.IsInputFault}
 use Rattle.lft_log.proofs.telling.tell.Goals as goal
 
 pub returns-in-Happens-clause-timely : goal.returns-in-Happens-clause-timely

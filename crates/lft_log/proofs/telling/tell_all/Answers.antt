@@ -1,6 +1,6 @@
 use Rattle.std.proofs.Common.{◌≡◌, ◌∙◌, ◌++◌, ◌≤◌, List, drop, length, refl, ap, subst, arith}
 use Rattle.lft_ir.specs.declared.steps.row.Row.{Row}
-use Rattle.lft_log.specs.Told.{IsLatest}
+use Rattle.lft_log.specs.inner.Told.{IsLatest}
 use Rattle.lft_log.proofs.{Fronts.all_dropped, Inputs.{all_gone, fits_at, gone_at, gone_none, gone_short, gone_up, input_gone, input_refused, rows_gone}}
 use Rattle.lft_log.proofs.telling.tell_all.Goals as goal
 

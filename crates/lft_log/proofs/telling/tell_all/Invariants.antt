@@ -1,7 +1,7 @@
 use Rattle.std.proofs.Common.{◌≡◌, List, drop}
 use Rattle.lft_ir.specs.declared.steps.row.Row.{Row}
-use Rattle.lft_trace.specs.{LogTables.inputs_behind, declared.log_table.Line.Line}
-use Rattle.lft_monitor.specs.Follows.{IsFollowerOf}
+use Rattle.lft_trace.specs.{inner.LogTables.inputs_behind, declared.log_table.Line.Line}
+use Rattle.lft_monitor.specs.inner.Follows.{IsFollowerOf}
 use Rattle.lft_log.{specs.Logs.rows, proofs.Inputs.IsGone}
 use Rattle.lft_log.proofs.telling.tell_all.Given as goal
 

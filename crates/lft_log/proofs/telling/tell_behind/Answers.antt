@@ -1,6 +1,6 @@
 use Rattle.std.proofs.Common.{⊎_elim, refl, sym, subst}
 use Rattle.std.proofs.lemmas.{Bool.false≢true, Result.{IfOk-weaker, IfErr-weaker}}
-use Rattle.lft_log.{specs.{Logs.tag_of, Told.IsBeforeLatest}, proofs.Inputs.{late_behind, passed_either}}
+use Rattle.lft_log.{specs.{Logs.tag_of, inner.Told.IsBeforeLatest}, proofs.Inputs.{late_behind, passed_either}}
 use Rattle.lft_log.proofs.telling.tell_behind.Goals as goal
 
 pub returns-then-is_before_latest-clause-fault : goal.returns-then-is_before_latest-clause-fault

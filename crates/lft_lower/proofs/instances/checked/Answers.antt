@@ -3,7 +3,7 @@ use Rattle.std.specs.Prelude.{option_map, unwrap_or}
 use Rattle.std.{specs.{Option.option_and_then, List.flat_map}, proofs.lemmas.Option.slice_get-map}
 use Rattle.lft_classes.specs.declared.shapes.{Shape.Shape, Child.Child}
 use Rattle.lft_elaborate.specs.declared.settings.Settings.{Settings}
-use Rattle.lft_lower.specs.{Meanings.Meanings.{here, shape_inside, token_in}, Standing.given_token, Needed.{needed_given, needed_in}}
+use Rattle.lft_lower.specs.{inner.{Meanings.Meanings.{here, token_in}, Needed.{needed_given, needed_in}}, Meanings.Meanings.shape_inside, Standing.given_token}
 use Rattle.lft_lower.proofs.Needing.{none_lacks}
 use Rattle.lft_lower.proofs.instances.checked.Goals as goal
 

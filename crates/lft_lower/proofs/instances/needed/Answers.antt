@@ -1,6 +1,6 @@
 use Rattle.std.proofs.Common.{◌≡◌, ◌++◌, [], ◌∷◌, Some, map, slice_get, take, sym, ap, ◌∙◌, arith}
 use Rattle.std.proofs.lemmas.{List.map-append, Option.slice_get-get_or}
-use Rattle.lft_lower.{specs.Needed.needed_in, proofs.MeaningsLemmas.Growing.one_more}
+use Rattle.lft_lower.{specs.inner.Needed.needed_in, proofs.MeaningsLemmas.Growing.one_more}
 use Rattle.lft_lower.proofs.instances.needed.Goals as goal
 
 pub loop-place-preserved : goal.loop-place-preserved

@@ -1,5 +1,5 @@
 use Rattle.std.proofs.Common.{◌≡◌, map, take}
-use Rattle.lft_lower.specs.Needed.{needed_in}
+use Rattle.lft_lower.specs.inner.Needed.{needed_in}
 use Rattle.lft_lower.proofs.instances.needed.Given as goal
 
 abbrev pub invariant-loop-place : goal.invariant-loop-place

@@ -1,6 +1,6 @@
 use Rattle.std.proofs.Common.{◌≡◌, Some, None, string_bytes, refl, rules}
 use Rattle.std.specs.Prelude.{option_map}
-use Rattle.lft_lower.{specs.Meanings.Meanings.here, proofs.{Adding.{asleep_added, asleep_known}, Standing.at_none}}
+use Rattle.lft_lower.{specs.inner.Meanings.Meanings.here, proofs.{Adding.{asleep_added, asleep_known}, Standing.at_none}}
 use Rattle.lft_lower.proofs.reactions.asleep.Goals as goal
 
 pub returns-in-Some-clause-added : goal.returns-in-Some-clause-added

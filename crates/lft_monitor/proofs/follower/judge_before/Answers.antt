@@ -2,7 +2,7 @@ use Rattle.std.proofs.Common.{◌≡◌, ◌+◌, ◌-◌, ◌<◌, ◌++◌, �
 use Rattle.lft_ir.{specs.declared.steps.row.Row.Row, proofs.Ranges.length-range}
 use Rattle.lft_stream.proofs.Parting.{range_fits}
 use Rattle.lft_model.specs.declared.breach.Breach.{Breach}
-use Rattle.lft_monitor.specs.{declared.{past.Past.Past, reach.Reach.Reach}, Kept.IsPast, Follows.{breach_of, IsOdd, IsFirstBehind, IsSureSoFar}}
+use Rattle.lft_monitor.specs.{declared.{past.Past.Past, reach.Reach.Reach}, inner.{Kept.IsPast, Follows.IsOdd}, Follows.{breach_of, IsFirstBehind, IsSureSoFar}}
 use Rattle.lft_monitor.proofs.{First.first_behind, Following.odd_of}
 use Rattle.lft_monitor.proofs.follower.judge_before.Goals as goal
 

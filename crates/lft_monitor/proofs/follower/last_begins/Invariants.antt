@@ -1,5 +1,5 @@
 use Rattle.std.proofs.Common.{◌-◌}
-use Rattle.lft_monitor.specs.Follows.{AreLast}
+use Rattle.lft_monitor.specs.inner.Follows.{AreLast}
 use Rattle.lft_monitor.proofs.follower.last_begins.Given as goal
 
 abbrev pub invariant-loop-passed : goal.invariant-loop-passed

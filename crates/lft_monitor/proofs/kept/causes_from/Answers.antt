@@ -1,8 +1,8 @@
 use Rattle.std.proofs.Common.{◌≡◌, ◌<◌, ◌⊎◌, ℕ, List, IsTrue, false, sym, subst, rules}
 use Rattle.lft_tag.specs.Tags.{Before, after_all}
 use Rattle.lft_ir.specs.{Parts.Parts, Origins.Origin, declared.{parts.Name.TheVariants.Port, steps.row.Step.TheVariants.Write}}
-use Rattle.lft_queue.specs.Reading.{is_read}
-use Rattle.lft_monitor.{specs.Kept.AreWays, proofs.Keeping.idle_write}
+use Rattle.lft_queue.specs.inner.Reading.{is_read}
+use Rattle.lft_monitor.{specs.inner.Kept.AreWays, proofs.Keeping.idle_write}
 use Rattle.lft_monitor.proofs.kept.causes_from.Goals as goal
 
 pub lead_on-requires-clause-ways : goal.lead_on-requires-clause-ways

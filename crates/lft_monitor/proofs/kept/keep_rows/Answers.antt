@@ -2,7 +2,7 @@ use Rattle.std.proofs.Common.{◌+◌, ◌<◌, ◌∙◌, List, length, take, r
 use Rattle.std.proofs.lemmas.{Option.slice_get_read, List.take_all}
 use Rattle.lft_lists.proofs.Places.{get_there}
 use Rattle.lft_ir.specs.declared.steps.row.Row.{Row}
-use Rattle.lft_monitor.{specs.Kept.IsKept, proofs.{Keeping.{kept_one, kept_less}, kept.keep_rows.Goals.{then-index+in_ok-push, else-index}}}
+use Rattle.lft_monitor.{specs.inner.Kept.IsKept, proofs.{Keeping.{kept_one, kept_less}, kept.keep_rows.Goals.{then-index+in_ok-push, else-index}}}
 use Rattle.lft_monitor.proofs.kept.keep_rows.Goals as goal
 
 pub loop-place-preserved : goal.loop-place-preserved

@@ -1,8 +1,8 @@
 use Rattle.std.proofs.Common.{List, IsTrue, take}
 use Rattle.lft_tag.specs.declared.Tag.{Tag}
 use Rattle.lft_ir.specs.declared.steps.row.Row.{Row}
-use Rattle.lft_stream.specs.Owed.{MeetNowhere}
-use Rattle.lft_monitor.specs.Kept.{IsKept}
+use Rattle.lft_stream.specs.inner.Owed.{MeetNowhere}
+use Rattle.lft_monitor.specs.inner.Kept.{IsKept}
 use Rattle.lft_monitor.proofs.kept.keep_rows.Given as goal
 
 abbrev pub invariant-loop-place : goal.invariant-loop-place

@@ -2,7 +2,7 @@ use Rattle.std.proofs.Common.{◌≡◌, ◌-◌, ◌++◌, length, refl, ap, �
 use Rattle.lft_tag.specs.{declared.Tag.Tag, Tags.after}
 use Rattle.lft_lists.proofs.Places.{same_some}
 use Rattle.lft_ir.specs.declared.steps.row.Row.{Row}
-use Rattle.lft_stream.specs.{Dues.NoneDueBefore, Kept.IsAcceptorOf}
+use Rattle.lft_stream.specs.inner.{Dues.NoneDueBefore, Kept.IsAcceptorOf}
 use Rattle.lft_monitor.proofs.Going.{shown, behind_last}
 use Rattle.lft_monitor.proofs.monitor.go_on_kept.Goals as goal
 

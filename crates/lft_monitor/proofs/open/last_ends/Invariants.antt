@@ -1,5 +1,5 @@
 use Rattle.std.proofs.Common.{◌≡◌, length}
-use Rattle.lft_monitor.specs.OpenRuns.{EndBefore}
+use Rattle.lft_monitor.specs.inner.OpenRuns.{EndBefore}
 use Rattle.lft_monitor.proofs.open.last_ends.Given as goal
 
 abbrev pub invariant-loop-place : goal.invariant-loop-place

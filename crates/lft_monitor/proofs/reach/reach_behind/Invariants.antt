@@ -1,6 +1,6 @@
 use Rattle.std.proofs.Common.{◌+◌, ◌++◌, List, length, take}
 use Rattle.lft_ir.specs.declared.steps.row.Row.{Row}
-use Rattle.lft_rows.specs.Slices.{Rises}
+use Rattle.lft_rows.specs.inner.Slices.{Rises}
 use Rattle.lft_monitor.specs.Reach.{IsReach}
 use Rattle.lft_monitor.proofs.reach.reach_behind.Given as goal
 

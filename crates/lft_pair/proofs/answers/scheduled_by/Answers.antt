@@ -1,7 +1,7 @@
 use Rattle.std.proofs.Common.{◌≡◌, ℕ, ◌≤◌, List, length, take, sym, ap, ◌∙◌, arith, Some, None, slice_get}
 use Rattle.lft_ir.specs.declared.parts.Value.{Value}
 use Rattle.lft_model.specs.Presence.{value_scheduled}
-use Rattle.lft_pair.specs.Answering.{scheduling}
+use Rattle.lft_pair.specs.inner.Answering.{scheduling}
 use Rattle.lft_pair.proofs.Answering.{scheduled_for, scheduled_none, scheduled_put, count_put, few}
 use Rattle.lft_pair.proofs.answers.scheduled_by.Goals.{in-Some+in_ok-_before+in_ok-_count, in_default}
 use Rattle.lft_pair.proofs.answers.scheduled_by.Goals as goal

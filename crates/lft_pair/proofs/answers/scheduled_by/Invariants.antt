@@ -1,6 +1,6 @@
 use Rattle.std.proofs.Common.{◌≡◌, ℕ, take, length, unwrap_or, slice_get}
 use Rattle.std.specs.{BTreeMap.get, Ordering.nat_cmp}
-use Rattle.lft_pair.{specs.Answering.place_cmp, proofs.Answering.scheduled_for}
+use Rattle.lft_pair.{specs.inner.Answering.place_cmp, proofs.Answering.scheduled_for}
 use Rattle.lft_pair.proofs.answers.scheduled_by.Given as goal
 
 abbrev pub invariant-loop-place : goal.invariant-loop-place

@@ -1,7 +1,7 @@
 use Rattle.std.proofs.Common.{List, ◌∷◌, inl, inr, refl, sym, subst}
 use Rattle.lft_tree.specs.{Tree.{ReactorTree, reactors_of}, View.tree_view}
-use Rattle.lft_resolve.specs.{Causes.{NoneHolds, RecursiveReactor, first_causes, later_causes}, Numbers.AreContents}
-use Rattle.lft_validate.{specs.Witnesses.IsCircle, proofs.Sound.{first_shown, none_shown}}
+use Rattle.lft_resolve.specs.{Causes.{NoneHolds, RecursiveReactor, first_causes, later_causes}, inner.Numbers.AreContents}
+use Rattle.lft_validate.{specs.inner.Witnesses.IsCircle, proofs.Sound.{first_shown, none_shown}}
 use Rattle.lft_lists.proofs.Options.{found, lacking}
 use Rattle.lft_program.proofs.Firsts.{IsFirst-left, IsFirst-right, NoneHolds-both}
 use Rattle.lft_program.proofs.flattening.checked_contents.Goals as goal

@@ -1,8 +1,8 @@
 use Rattle.std.proofs.Common.{◌≡◌, ◌≢◌, List, subst, sym}
 use Rattle.lft_tree.specs.{Tree.{FileTree, reactors_of}, View.tree_view}
 use Rattle.lft_resolve.specs.Causes.{IsFirst, NoneHolds, causes}
-use Rattle.lft_program.specs.{Links.{AreLinks, TellsOf, last_causes, number_of as link_number}, Faults.reactor_causes, Nests.IsNest}
-use Rattle.lft_program.specs.{Refusals.{Tells, cause_of, of_links, of_nest}, Tables.AreTables}
+use Rattle.lft_program.specs.inner.{Links.{AreLinks, TellsOf, last_causes, number_of as link_number}, Faults.reactor_causes, Nests.IsNest}
+use Rattle.lft_program.specs.inner.{Refusals.{Tells, cause_of, of_links, of_nest}, Tables.AreTables}
 use Rattle.lft_program.proofs.Firsts.{first_of_reactors, first_of_links, none_of_all, lawful, in_time, handed_on, same_number, nest_first, nest_tells, links_tell}
 use Rattle.lft_program.proofs.OneFlat.{one_flat}
 use Rattle.lft_program.specs.declared.refusal.Refusal.TheVariants as refusals

@@ -1,7 +1,7 @@
 use Rattle.std.proofs.Common.{◌≢◌, subst, sym}
 use Rattle.lft_tree.specs.Tree.{reactors_of}
-use Rattle.lft_resolve.specs.{Causes.{IsFirst, NoneHolds, first_causes, later_causes}, Numbers.AreContents}
-use Rattle.lft_program.{specs.{Faults.reactor_causes, Refusals.{Tells, cause_of}, Tables.AreTables}, proofs.Firsts.{handed_on, lawful}}
+use Rattle.lft_resolve.specs.{Causes.{IsFirst, NoneHolds, first_causes, later_causes}, inner.Numbers.AreContents}
+use Rattle.lft_program.{specs.inner.{Faults.reactor_causes, Refusals.{Tells, cause_of}, Tables.AreTables}, proofs.Firsts.{handed_on, lawful}}
 use Rattle.lft_program.specs.declared.refusal.Refusal.TheVariants as refusals
 use Rattle.lft_program.proofs.flattening.tables_of.Goals as goal
 

@@ -1,6 +1,6 @@
 use Rattle.std.proofs.Common.{◌≡◌, ◌<◌, ◌∷◌, [], length, ◌+◌, ap, ◌∙◌, arith, length-append}
 use Rattle.std.proofs.lemmas.Grind.{common_steps}
-use Rattle.lft_program.{specs.Laying.IsActionAt, proofs.{ByNumber.item_there, LaidOut.{action_for, actions_are}, Making.made_more}}
+use Rattle.lft_program.{specs.inner.Laying.IsActionAt, proofs.{ByNumber.item_there, LaidOut.{action_for, actions_are}, Making.made_more}}
 use Rattle.lft_program.proofs.laying.actions.Goals as goal
 
 pub action-requires : goal.action-requires

@@ -1,5 +1,5 @@
 use Rattle.std.proofs.Common.{◌≡◌, length}
-use Rattle.lft_program.{specs.Laying.IsActionAt, proofs.Making.Made}
+use Rattle.lft_program.{specs.inner.Laying.IsActionAt, proofs.Making.Made}
 use Rattle.lft_program.proofs.laying.actions.Given as goal
 
 abbrev pub invariant-loop-number : goal.invariant-loop-number

@@ -1,5 +1,5 @@
 use Rattle.std.proofs.Common.{refl, subst}
-use Rattle.lft_program.specs.Laying.{AreNames, AreTriggers}
+use Rattle.lft_program.specs.inner.Laying.{AreNames, AreTriggers}
 use Rattle.lft_program.proofs.laying.reaction.Goals as goal
 
 pub returns : goal.returns

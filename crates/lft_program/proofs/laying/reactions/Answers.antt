@@ -1,6 +1,6 @@
 use Rattle.std.proofs.Common.{◌≡◌, ◌<◌, ◌∷◌, [], length, ◌+◌, ap, ◌∙◌, arith, length-append}
 use Rattle.std.proofs.lemmas.Grind.{common_steps}
-use Rattle.lft_program.{specs.Laying.IsReactionAt, proofs.{ByNumber.item_there, SpotsLaid.{reaction_for, reactions_are}, Making.made_more}}
+use Rattle.lft_program.{specs.inner.Laying.IsReactionAt, proofs.{ByNumber.item_there, SpotsLaid.{reaction_for, reactions_are}, Making.made_more}}
 use Rattle.lft_program.proofs.laying.reactions.Goals as goal
 
 pub reaction-requires : goal.reaction-requires

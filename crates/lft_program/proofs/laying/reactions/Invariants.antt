@@ -1,5 +1,5 @@
 use Rattle.std.proofs.Common.{◌≡◌, length}
-use Rattle.lft_program.{specs.Laying.IsReactionAt, proofs.Making.Made}
+use Rattle.lft_program.{specs.inner.Laying.IsReactionAt, proofs.Making.Made}
 use Rattle.lft_program.proofs.laying.reactions.Given as goal
 
 abbrev pub invariant-loop-number : goal.invariant-loop-number

@@ -1,6 +1,6 @@
 use Rattle.std.proofs.Common.{◌≡◌, ◌<◌, ◌∷◌, [], length, ◌+◌, ap, ◌∙◌, arith, length-append}
 use Rattle.std.proofs.lemmas.Grind.{common_steps}
-use Rattle.lft_program.{specs.Laying.IsTimerAt, proofs.{ByNumber.item_there, LaidOut.{timer_for, timers_are}, Making.made_more}}
+use Rattle.lft_program.{specs.inner.Laying.IsTimerAt, proofs.{ByNumber.item_there, LaidOut.{timer_for, timers_are}, Making.made_more}}
 use Rattle.lft_program.proofs.laying.timers.Goals as goal
 
 pub timer-requires : goal.timer-requires

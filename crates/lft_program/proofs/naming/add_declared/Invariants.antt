@@ -1,5 +1,5 @@
 use Rattle.std.proofs.Common.{◌≡◌, map, take}
-use Rattle.lft_program.specs.Extended.{dotted, extended}
+use Rattle.lft_program.specs.inner.Extended.{dotted, extended}
 use Rattle.lft_program.proofs.naming.add_declared.Given as goal
 
 abbrev pub invariant-loop-thing : goal.invariant-loop-thing

@@ -1,6 +1,6 @@
 use Rattle.std.proofs.Common.{◌∙◌, arith}
 use Rattle.std.proofs.lemmas.Option.{slice_get-get_or}
-use Rattle.lft_program.{specs.Extended.hashed, proofs.Extending.{step_low, step_fresh, step_more, step_done}}
+use Rattle.lft_program.{specs.inner.Extended.hashed, proofs.Extending.{step_low, step_fresh, step_more, step_done}}
 use Rattle.lft_program.proofs.naming.add_placed.Goals as goal
 
 pub hashed_name-requires : goal.hashed_name-requires

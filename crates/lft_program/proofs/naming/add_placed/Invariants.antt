@@ -1,5 +1,5 @@
 use Rattle.std.proofs.Common.{◌≡◌, map, take}
-use Rattle.lft_program.specs.Extended.{hashed, extended}
+use Rattle.lft_program.specs.inner.Extended.{hashed, extended}
 use Rattle.lft_program.proofs.naming.add_placed.Given as goal
 
 abbrev pub invariant-loop-reaction : goal.invariant-loop-reaction

@@ -1,5 +1,5 @@
 use Rattle.std.proofs.Common.{map, ap, sym, subst, ◌∙◌}
-use Rattle.lft_program.specs.Extended.{dotted, extended}
+use Rattle.lft_program.specs.inner.Extended.{dotted, extended}
 use Rattle.lft_program.proofs.FullNames.{IsReady, rest_of, ready_instances, ready_ports, ready_actions, ready_timers, ready_reactions, all_named}
 use Rattle.lft_program.proofs.naming.all_names.Goals as goal
 

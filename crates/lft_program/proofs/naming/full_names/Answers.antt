@@ -1,5 +1,5 @@
 use Rattle.std.proofs.Common.{sym, subst}
-use Rattle.lft_program.{specs.FullNames.AreFullNames, proofs.{NamedParts.{are_starts, full}, OneNaming.one_naming, Words.AreWords-names_from}}
+use Rattle.lft_program.{specs.inner.FullNames.AreFullNames, proofs.{NamedParts.{are_starts, full}, OneNaming.one_naming, Words.AreWords-names_from}}
 use Rattle.lft_ir.specs.Names.{AreWords}
 use Rattle.lft_program.proofs.naming.full_names.Goals as goal
 

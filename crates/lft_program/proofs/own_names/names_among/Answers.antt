@@ -1,7 +1,7 @@
 use Rattle.std.proofs.Common.{◌<◌, length, ap, sym, ◌∙◌, arith}
 use Rattle.std.specs.Option.{option_map}
 use Rattle.lft_tree.specs.View.{member_view}
-use Rattle.lft_program.{specs.OwnNames.name_in, proofs.own_names.names_among.Goals.{in-Some+in_ok-push-in-Some, in-None}}
+use Rattle.lft_program.{specs.inner.OwnNames.name_in, proofs.own_names.names_among.Goals.{in-Some+in_ok-push-in-Some, in-None}}
 use Rattle.lft_lists.proofs.Picked.{picked_some, picked_none}
 use Rattle.lft_program.proofs.own_names.names_among.Goals as goal
 

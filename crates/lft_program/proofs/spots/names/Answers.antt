@@ -1,6 +1,6 @@
 use Rattle.std.proofs.Common.{◌≡◌, ◌<◌, ◌∷◌, [], Some, length, length-append, ◌+◌, ap, ◌∙◌, arith}
 use Rattle.std.proofs.lemmas.{Grind.common_steps, Option.slice_get-get_or}
-use Rattle.lft_program.{specs.Laying.name_at, proofs.Making.{made_all, made_more}}
+use Rattle.lft_program.{specs.inner.Laying.name_at, proofs.Making.{made_all, made_more}}
 use Rattle.lft_program.proofs.spots.names.Goals as goal
 
 pub name-requires : goal.name-requires

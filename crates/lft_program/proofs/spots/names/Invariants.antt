@@ -1,5 +1,5 @@
 use Rattle.std.proofs.Common.{◌≡◌, Some, length}
-use Rattle.lft_program.{specs.Laying.name_at, proofs.Making.Made}
+use Rattle.lft_program.{specs.inner.Laying.name_at, proofs.Making.Made}
 use Rattle.lft_program.proofs.spots.names.Given as goal
 
 abbrev pub invariant-loop-spot : goal.invariant-loop-spot

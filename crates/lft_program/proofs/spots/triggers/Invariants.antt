@@ -1,5 +1,5 @@
 use Rattle.std.proofs.Common.{◌≡◌, Some, length}
-use Rattle.lft_program.{specs.Laying.trigger_at, proofs.Making.Made}
+use Rattle.lft_program.{specs.inner.Laying.trigger_at, proofs.Making.Made}
 use Rattle.lft_program.proofs.spots.triggers.Given as goal
 
 abbrev pub invariant-loop-cue : goal.invariant-loop-cue

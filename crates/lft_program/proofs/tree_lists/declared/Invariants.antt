@@ -1,5 +1,5 @@
 use Rattle.std.proofs.Common.{◌≡◌, map, take}
-use Rattle.lft_program.specs.{OwnNames.name_lists, TreeLists.{name_at, seen}}
+use Rattle.lft_program.specs.inner.{OwnNames.name_lists, TreeLists.{name_at, seen}}
 use Rattle.lft_program.proofs.tree_lists.declared.Given as goal
 
 abbrev pub invariant-loop-thing : goal.invariant-loop-thing

@@ -1,5 +1,5 @@
 use Rattle.std.proofs.Common.{◌≡◌, map, take}
-use Rattle.lft_program.specs.TreeLists.{placed_at}
+use Rattle.lft_program.specs.inner.TreeLists.{placed_at}
 use Rattle.lft_program.proofs.tree_lists.placed.Given as goal
 
 abbrev pub invariant-loop-thing : goal.invariant-loop-thing

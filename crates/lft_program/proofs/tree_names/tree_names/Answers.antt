@@ -1,6 +1,6 @@
 use Rattle.std.proofs.Common.{◌≡◌, filter_map, ap, ◌∙◌}
 use Rattle.lft_tree.specs.{Tree.{reactor_in, reactors_of}, View.{item_views, tree_view}}
-use Rattle.lft_resolve.specs.References.{reactor_trees}
+use Rattle.lft_resolve.specs.inner.References.{reactor_trees}
 use Rattle.lft_program.proofs.TreeNames.{of_program, few, full_tree, named_as}
 use Rattle.lft_program.proofs.tree_names.tree_names.Goals as goal
 

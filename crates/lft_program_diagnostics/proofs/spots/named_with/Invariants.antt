@@ -1,5 +1,5 @@
 use Rattle.std.proofs.Common.{◌≡◌, [], ◌++◌, drop, filter_map, slice_get}
-use Rattle.lft_program_diagnostics.specs.Spots.{behind, named_at}
+use Rattle.lft_program_diagnostics.specs.{inner.Spots.behind, Spots.named_at}
 use Rattle.lft_program_diagnostics.proofs.spots.named_with.Given as goal
 
 abbrev pub invariant-loop-reactor : goal.invariant-loop-reactor

@@ -1,5 +1,5 @@
 use Rattle.std.proofs.Common.{◌≡◌, take}
-use Rattle.lft_program_diagnostics.specs.Spots.{behind, reactors_among}
+use Rattle.lft_program_diagnostics.specs.{inner.Spots.behind, Spots.reactors_among}
 use Rattle.lft_program_diagnostics.proofs.spots.reactors_among.Given as goal
 
 abbrev pub invariant-loop-item : goal.invariant-loop-item

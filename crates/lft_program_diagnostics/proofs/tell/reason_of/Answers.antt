@@ -2,7 +2,8 @@ use Rattle.std.proofs.Common.{◌≡◌, List, ap, ◌∙◌, sym, subst, inr}
 use Rattle.std.{specs.Borrow.Bor, proofs.lemmas.Result.IfOk-weaker}
 use Rattle.lft_tree.specs.{Tree.ReactorTree, View.tree_view, declared.tree.Reactor.Reactor}
 use Rattle.lft_validate.specs.Witnesses.{Shows}
-use Rattle.lft_program_diagnostics.specs.{Reasons.{IsOfWhole, IsShownAt}, Sentences.{IsOf, cause_told}, Spots.{behind, reactors_among, witness_spot}}
+use Rattle.lft_program_diagnostics.specs.{Reasons.{IsOfWhole, IsShownAt}, inner.{Sentences.IsOf, Spots.behind}, Sentences.cause_told}
+use Rattle.lft_program_diagnostics.specs.Spots.{reactors_among, witness_spot}
 use Rattle.lft_program_diagnostics.proofs.Showing.{trees_among, told, of_whole, witnessed}
 use Rattle.lft_program_diagnostics.proofs.tell.reason_of.Goals as goal
 

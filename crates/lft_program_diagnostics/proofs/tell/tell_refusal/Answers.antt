@@ -1,5 +1,5 @@
 use Rattle.std.proofs.Common.{[], List, Result, Ok, Err, IfOk, IsErr, string_bytes, subst}
-use Rattle.lft_program.specs.Refusals.{cause_of}
+use Rattle.lft_program.specs.inner.Refusals.{cause_of}
 use Rattle.lft_syntax.specs.declared.token.Token.{Token}
 use Rattle.lft_program_diagnostics.specs.Reasons.{IsToldIn, IsToldOf}
 use Rattle.lft_program_diagnostics.proofs.tell.tell_refusal.Goals as goal

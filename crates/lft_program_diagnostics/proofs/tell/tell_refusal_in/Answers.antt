@@ -1,8 +1,8 @@
 use Rattle.std.proofs.Common.{◌≡◌, ◌≢◌, ◌∙◌, map, string_bytes, subst, sym}
 use Rattle.std.proofs.lemmas.Result.{IfOk-weaker}
 use Rattle.lft_lists.proofs.Options.{found}
-use Rattle.lft_program.specs.{Faults.number_of, Refusals.cause_of}
-use Rattle.lft_program_diagnostics.specs.{Reasons.{BeginsAt, IsShownAt, IsToldIn}, Sentences.{cause_told, sentence_of}, Spots.reactors_among}
+use Rattle.lft_program.specs.{Faults.number_of, inner.Refusals.cause_of}
+use Rattle.lft_program_diagnostics.specs.{Reasons.{BeginsAt, IsShownAt, IsToldIn}, Sentences.cause_told, inner.Sentences.sentence_of, Spots.reactors_among}
 use Rattle.lft_program.specs.declared.fault.ProgramFault.TheVariants as faults
 use Rattle.lft_program_diagnostics.proofs.tell.tell_refusal_in.Goals as goal
 

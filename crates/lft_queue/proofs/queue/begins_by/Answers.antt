@@ -1,7 +1,7 @@
 use Rattle.std.proofs.Common.{◌≡◌, Some, subst, slice_get, rules}
 use Rattle.std.specs.{Map.keys_of, List.Sorted.IsStrictlySortedBy}
 use Rattle.lft_tag.specs.{declared.Tag.Tag, Tags.Before}
-use Rattle.lft_queue.{specs.Keys.key_cmp, proofs.Dropping.all_kept}
+use Rattle.lft_queue.{specs.inner.Keys.key_cmp, proofs.Dropping.all_kept}
 use Rattle.lft_queue.proofs.queue.begins_by.Goals as goal
 
 pub returns-in-Some-clause-begins : goal.returns-in-Some-clause-begins

@@ -1,7 +1,7 @@
 use Rattle.std.proofs.Common.{◌≡◌, ◌↔◌, ◌⊎◌, ◌<◌, ◌+◌, ◌++◌, ℕ, List, Bool, true, Some, Contains, filter_map, ap, length, slice_get, drop, take, sym, ◌∙◌, subst, arith}
 use Rattle.lft_ir.specs.{Naming.named, declared.parts.Name.{Name, TheVariants.Port}}
 use Rattle.lft_lists.proofs.Places.{written_back}
-use Rattle.lft_queue.{specs.Reading.AreMarked, proofs.Marking.{marked_start, marked_more, triggers_inside, marked_is}}
+use Rattle.lft_queue.{specs.inner.Reading.AreMarked, proofs.Marking.{marked_start, marked_more, triggers_inside, marked_is}}
 use Rattle.lft_queue.proofs.reading.read_ports.Goals as goal
 
 pub reactions-init : goal.reactions-init

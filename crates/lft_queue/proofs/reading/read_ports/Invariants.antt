@@ -1,4 +1,4 @@
-use Rattle.lft_queue.specs.Reading.{AreMarked}
+use Rattle.lft_queue.specs.inner.Reading.{AreMarked}
 use Rattle.lft_queue.proofs.reading.read_ports.Given as goal
 
 abbrev pub invariant-reactions : goal.invariant-reactions

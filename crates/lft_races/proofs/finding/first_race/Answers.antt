@@ -1,8 +1,8 @@
 use Rattle.std.proofs.Common.{length, List, ℕ, Option, sym, ap, ◌∙◌, subst, arith}
 use Rattle.lft_lists.proofs.Places.{written_back}
 use Rattle.lft_ir.specs.Parts.{Parts}
-use Rattle.lft_graph.specs.Sets.{AreAncestors}
-use Rattle.lft_races.{specs.Noted.{AreUpTo, IsFirstIn}, proofs.Racing.{NoneBefore, none_more, first_of_all, none_at_all}}
+use Rattle.lft_graph.specs.inner.Sets.{AreAncestors}
+use Rattle.lft_races.{specs.inner.Noted.{AreUpTo, IsFirstIn}, proofs.Racing.{NoneBefore, none_more, first_of_all, none_at_all}}
 use Rattle.lft_races.proofs.finding.first_race.Goals as goal
 
 pub returns-in-Some : goal.returns-in-Some

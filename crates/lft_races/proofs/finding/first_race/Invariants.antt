@@ -1,5 +1,5 @@
 use Rattle.std.proofs.Common.{◌≡◌, ◌-◌, ◌≤◌, length}
-use Rattle.lft_races.{specs.Noted.{AreUpTo, IsNew}, proofs.Racing.NoneBefore}
+use Rattle.lft_races.{specs.inner.Noted.{AreUpTo, IsNew}, proofs.Racing.NoneBefore}
 use Rattle.lft_races.proofs.finding.first_race.Given as goal
 
 abbrev pub invariant-loop-first : goal.invariant-loop-first

@@ -1,5 +1,5 @@
 use Rattle.std.proofs.Common.{◌≡◌, ◌≤◌, subst, arith}
-use Rattle.lft_races.specs.Noted.{IsFirstIn}
+use Rattle.lft_races.specs.inner.Noted.{IsFirstIn}
 use Rattle.lft_races.proofs.finding.race_by_rows.Goals as goal
 
 pub with_race-race-requires-clause-later : goal.with_race-race-requires-clause-later

@@ -1,7 +1,7 @@
 use Rattle.std.proofs.Common.{◌≡◌, ◌+◌, ◌-◌, ◌/◌, ◌≤◌, length}
 use Rattle.lft_ir.specs.Parts.{Parts}
-use Rattle.lft_graph.specs.Sets.{AreAncestors}
-use Rattle.lft_races.specs.Noted.{HasUnfinished, IsFirstIn}
+use Rattle.lft_graph.specs.inner.Sets.{AreAncestors}
+use Rattle.lft_races.specs.inner.Noted.{HasUnfinished, IsFirstIn}
 use Rattle.lft_races.proofs.finding.race_by_rows.Given as goal
 
 abbrev pub invariant-loop-place : goal.invariant-loop-place

@@ -1,5 +1,5 @@
 use Rattle.std.proofs.Common.{◌≡◌, refl, subst, arith}
-use Rattle.lft_races.{specs.Noted.AreNoted, proofs.Ending.noted_none}
+use Rattle.lft_races.{specs.inner.Noted.AreNoted, proofs.Ending.noted_none}
 use Rattle.lft_races.proofs.noting.note_ends.Goals as goal
 
 pub loop-place-init : goal.loop-place-init

@@ -1,5 +1,5 @@
 use Rattle.std.proofs.Common.{◌≡◌, length}
-use Rattle.lft_races.specs.Noted.{AreNoted}
+use Rattle.lft_races.specs.inner.Noted.{AreNoted}
 use Rattle.lft_races.proofs.noting.note_ends.Given as goal
 
 abbrev pub invariant-loop-place : goal.invariant-loop-place

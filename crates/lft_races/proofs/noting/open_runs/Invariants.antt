@@ -1,5 +1,5 @@
 use Rattle.std.proofs.Common.{◌≡◌, ◌+◌, ◌/◌, length}
-use Rattle.lft_races.specs.Noted.{HasOpen}
+use Rattle.lft_races.specs.inner.Noted.{HasOpen}
 use Rattle.lft_races.proofs.noting.open_runs.Given as goal
 
 abbrev pub invariant-loop-place : goal.invariant-loop-place

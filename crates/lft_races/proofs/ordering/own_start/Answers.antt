@@ -1,5 +1,5 @@
 use Rattle.std.proofs.Common.{◌≡◌, Bool, false, true, sym, ◌∙◌, arith, below_more}
-use Rattle.lft_races.specs.Across.{OpensRun}
+use Rattle.lft_races.specs.inner.Across.{OpensRun}
 use Rattle.lft_races.proofs.ordering.own_start.Goals as goal
 
 pub loop-start-preserved : goal.loop-start-preserved

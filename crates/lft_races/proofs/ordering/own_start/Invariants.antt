@@ -1,5 +1,5 @@
 use Rattle.std.proofs.Common.{ℕ, ◌<◌}
-use Rattle.lft_races.specs.Across.{OpensRun}
+use Rattle.lft_races.specs.inner.Across.{OpensRun}
 use Rattle.lft_races.proofs.ordering.own_start.Given as goal
 
 abbrev pub invariant-loop-start : goal.invariant-loop-start

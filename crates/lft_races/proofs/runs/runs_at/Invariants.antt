@@ -1,5 +1,5 @@
 use Rattle.std.proofs.Common.{◌≡◌, length}
-use Rattle.lft_races.specs.Runs.{HaveRunBefore}
+use Rattle.lft_races.specs.inner.Runs.{HaveRunBefore}
 use Rattle.lft_races.proofs.runs.runs_at.Given as goal
 
 abbrev pub invariant-loop-place : goal.invariant-loop-place

@@ -1,5 +1,5 @@
 use Rattle.std.proofs.Common.{◌≡◌, ◌≤◌, subst, arith}
-use Rattle.lft_races.{specs.Races.AreUnfinished, proofs.Ending.marks_none}
+use Rattle.lft_races.{specs.inner.Races.AreUnfinished, proofs.Ending.marks_none}
 use Rattle.lft_races.proofs.unfinished.unfinished_at.Goals as goal
 
 pub loop-end-init : goal.loop-end-init

@@ -1,5 +1,5 @@
 use Rattle.std.proofs.Common.{◌≡◌, ◌≤◌, length}
-use Rattle.lft_races.specs.Races.{AreUnfinished}
+use Rattle.lft_races.specs.inner.Races.{AreUnfinished}
 use Rattle.lft_races.proofs.unfinished.unfinished_at.Given as goal
 
 abbrev pub invariant-loop-end : goal.invariant-loop-end

@@ -1,6 +1,6 @@
 use Rattle.std.proofs.Common.{◌≡◌, filter_map, take}
 use Rattle.lft_tree.specs.{Tree.action_in, View.member_views}
-use Rattle.lft_resolve.specs.References.{action_trees}
+use Rattle.lft_resolve.specs.inner.References.{action_trees}
 use Rattle.lft_resolve.proofs.members.actions.Given as goal
 
 abbrev pub invariant-loop-member : goal.invariant-loop-member

@@ -1,6 +1,6 @@
 use Rattle.std.proofs.Common.{◌≡◌, ◌++◌, ℕ, List, map, filter_map, ap, ◌∙◌}
 use Rattle.lft_tree.specs.View.{member_views, parameter_view, reactor_view}
-use Rattle.lft_resolve.specs.{Tests.{name_in, member_names, texts}, declared.names.Declared.TheVariants.{Port, Timer, Action, Instance}}
+use Rattle.lft_resolve.specs.{inner.Tests.{name_in, member_names, texts}, declared.names.Declared.TheVariants.{Port, Timer, Action, Instance}}
 use Rattle.lft_resolve.proofs.NamedMembers.{named_members}
 use Rattle.lft_resolve.proofs.names.declared_names.Goals as goal
 

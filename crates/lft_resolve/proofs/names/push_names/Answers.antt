@@ -1,7 +1,7 @@
 use Rattle.std.proofs.Common.{◌<◌, length, ap, sym, ◌∙◌, arith}
 use Rattle.std.specs.Option.{option_map}
 use Rattle.lft_tree.specs.View.{member_view}
-use Rattle.lft_resolve.{specs.Tests.{name_in, texts}, proofs.names.push_names.Goals.{in-Some+in_ok-push-in-Some, in-None}}
+use Rattle.lft_resolve.{specs.inner.Tests.{name_in, texts}, proofs.names.push_names.Goals.{in-Some+in_ok-push-in-Some, in-None}}
 use Rattle.lft_lists.proofs.Picked.{behind_some, behind_none}
 use Rattle.lft_resolve.proofs.names.push_names.Goals as goal
 

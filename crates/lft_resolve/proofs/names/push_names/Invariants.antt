@@ -1,6 +1,6 @@
 use Rattle.std.proofs.Common.{◌≡◌, ◌++◌, filter_map, take}
 use Rattle.lft_tree.specs.View.{member_views}
-use Rattle.lft_resolve.specs.Tests.{name_in, texts}
+use Rattle.lft_resolve.specs.inner.Tests.{name_in, texts}
 use Rattle.lft_resolve.proofs.names.push_names.Given as goal
 
 abbrev pub invariant-loop-member : goal.invariant-loop-member

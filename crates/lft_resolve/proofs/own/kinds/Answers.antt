@@ -1,6 +1,6 @@
 use Rattle.std.proofs.Common.{◌≡◌, ◌++◌, List, map, filter_map, ap, sym, ◌∙◌}
 use Rattle.lft_tree.specs.{Tree.{port_in, timer_in, action_in, instance_in}, View.{member_views, parameter_view}}
-use Rattle.lft_resolve.specs.{Kinds.own_port, Tables.kind_in}
+use Rattle.lft_resolve.specs.{Kinds.own_port, inner.Tables.kind_in}
 use Rattle.lft_resolve.specs.declared.kinds.Kind.{Kind, TheVariants.{OwnParameter, OwnTimer, OwnAction, OwnInstance}}
 use Rattle.lft_resolve.specs.declared.names.Declared.TheVariants.{Port, Timer, Action, Instance}
 use Rattle.lft_lists.proofs.Picked.{map-filter_map}

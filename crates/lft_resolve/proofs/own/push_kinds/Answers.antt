@@ -1,6 +1,6 @@
 use Rattle.std.proofs.Common.{◌<◌, length, sym, ◌∙◌, arith}
 use Rattle.lft_tree.specs.View.{member_view}
-use Rattle.lft_resolve.{specs.Tables.kind_in, proofs.own.push_kinds.Goals.{in-Some+in_ok-push-in-Some, in-None}}
+use Rattle.lft_resolve.{specs.inner.Tables.kind_in, proofs.own.push_kinds.Goals.{in-Some+in_ok-push-in-Some, in-None}}
 use Rattle.lft_lists.proofs.Picked.{behind_some, behind_none, map-same}
 use Rattle.lft_resolve.proofs.own.push_kinds.Goals as goal
 

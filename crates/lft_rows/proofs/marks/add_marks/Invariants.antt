@@ -1,5 +1,5 @@
 use Rattle.std.proofs.Common.{◌≡◌, ◌+◌, length}
-use Rattle.lft_rows.specs.Marks.{AreNoneFrom}
+use Rattle.lft_rows.specs.inner.Marks.{AreNoneFrom}
 use Rattle.lft_rows.proofs.marks.add_marks.Given as goal
 
 abbrev pub invariant-loop-number : goal.invariant-loop-number

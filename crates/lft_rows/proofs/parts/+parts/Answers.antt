@@ -1,6 +1,6 @@
 use Rattle.std.proofs.Common.{rules, List, None, sym, subst}
 use Rattle.lft_ir.specs.declared.steps.row.Row.{Row}
-use Rattle.lft_rows.{specs.Firsts.FirstRow, proofs.Together.{earlier_of, together}}
+use Rattle.lft_rows.{specs.inner.Firsts.FirstRow, proofs.Together.{earlier_of, together}}
 use Rattle.lft_rows.proofs.parts.+parts.Goals as goal
 
 pub returns-then-one : goal.returns-then-one

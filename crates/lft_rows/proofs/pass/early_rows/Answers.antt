@@ -1,7 +1,7 @@
 use Rattle.std.proofs.Common.{◌≡◌, ◌+◌, ◌<◌, length, arith, subst, refl}
 use Rattle.lft_lists.proofs.Places.{get_there}
 use Rattle.lft_ir.specs.Parts.{Parts}
-use Rattle.lft_rows.{specs.Passes.{IsKnown, KeepsEarly, Holds}, proofs.Whole.keep_more}
+use Rattle.lft_rows.{specs.inner.Passes.{IsKnown, KeepsEarly, Holds}, proofs.Whole.keep_more}
 use Rattle.lft_rows.proofs.pass.early_rows.Goals as goal
 
 pub loop-place-init : goal.loop-place-init

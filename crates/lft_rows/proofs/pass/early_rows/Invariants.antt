@@ -1,4 +1,4 @@
-use Rattle.lft_rows.specs.Passes.{IsKnown, KeepsEarly}
+use Rattle.lft_rows.specs.inner.Passes.{IsKnown, KeepsEarly}
 use Rattle.lft_rows.proofs.pass.early_rows.Given as goal
 
 abbrev pub invariant-loop-place : goal.invariant-loop-place

@@ -1,6 +1,6 @@
 use Rattle.std.proofs.Common.{◌∙◌, ap, subst, length, Some}
 use Rattle.lft_ir.specs.declared.steps.row.Step.TheVariants.{Start}
-use Rattle.lft_rows.{specs.Passes.OpenPlace, proofs.Steps.row_eq}
+use Rattle.lft_rows.{specs.inner.Passes.OpenPlace, proofs.Steps.row_eq}
 use Rattle.lft_rows.proofs.pass.least_open.Goals as goal
 
 pub returns-then-are_none : goal.returns-then-are_none

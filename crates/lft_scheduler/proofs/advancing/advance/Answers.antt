@@ -2,7 +2,7 @@ use Rattle.std.proofs.Common.{◌≡◌, ◌∙◌, ℕ, List, Option, None, Con
 use Rattle.lft_tag.specs.{declared.Tag.Tag, Tags.{Before, UpTo}}
 use Rattle.lft_ir.specs.declared.steps.row.Row.{Row}
 use Rattle.lft_queue.specs.Pending.{Pending}
-use Rattle.lft_scheduler.specs.{Turns.NonePending, Waits.IsCovered, Telling.TriggeredByQueue, Agendas.{MayAdvance, IsReached}}
+use Rattle.lft_scheduler.specs.inner.{Turns.NonePending, Waits.IsCovered, Telling.TriggeredByQueue, Agendas.{MayAdvance, IsReached}}
 use Rattle.lft_scheduler.proofs.{Told.none_open_there, NextTags.{some_number, later_event, reached_current, finished_current, moved_on, nearer}}
 use Rattle.lft_scheduler.proofs.FirstFirings.{first_from, none_skipped}
 use Rattle.lft_scheduler.proofs.advancing.advance.Goals as goal

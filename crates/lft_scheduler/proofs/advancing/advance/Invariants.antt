@@ -1,7 +1,7 @@
 use Rattle.std.proofs.Common.{◌≡◌, ◌+◌, ◌-◌, ◌*◌, ◌≤◌, List, length}
 use Rattle.lft_tag.specs.Tags.{Before}
 use Rattle.lft_ir.specs.declared.steps.row.Row.{Row}
-use Rattle.lft_scheduler.specs.{Firings.AreFirst, Agendas.{MayAdvance, IsReached}}
+use Rattle.lft_scheduler.specs.inner.{Firings.AreFirst, Agendas.{MayAdvance, IsReached}}
 use Rattle.lft_scheduler.proofs.advancing.advance.Given as goal
 
 abbrev pub invariant-tags : goal.invariant-tags

@@ -2,7 +2,7 @@ use Rattle.std.proofs.Common.{ℕ, refl, sym, subst}
 use Rattle.lft_tag.{specs.{declared.Tag.Tag, Tags.{Before, UpTo}}, proofs.Order.UpTo-refl}
 use Rattle.lft_ir.specs.{Parts.Parts, declared.parts.Trigger.{Trigger, TheVariants.{Startup, Shutdown, Timer, On}}}
 use Rattle.lft_scheduler.proofs.{Fed.some_there, NextTags.{none_before_first, value_there}, FirstFirings.{first_up_to, least_covers}, LedFirings.live_fires}
-use Rattle.lft_scheduler.specs.{Listeners.IsListener, Waits.IsCovered, Telling.OccursBy, Firings.{tag_of_firing, AreFirst}}
+use Rattle.lft_scheduler.specs.inner.{Listeners.IsListener, Waits.IsCovered, Telling.OccursBy, Firings.{tag_of_firing, AreFirst}}
 use Rattle.lft_queue.specs.Pending.{Pending, value_of}
 use Rattle.lft_scheduler.proofs.advancing.next_tag.Goals as goal
 

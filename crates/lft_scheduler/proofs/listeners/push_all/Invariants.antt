@@ -1,5 +1,5 @@
 use Rattle.std.proofs.Common.{take}
-use Rattle.lft_scheduler.specs.Lists.{ArePushed}
+use Rattle.lft_scheduler.specs.inner.Lists.{ArePushed}
 use Rattle.lft_scheduler.proofs.listeners.push_all.Given as goal
 
 abbrev pub invariant-triggers : goal.invariant-triggers

@@ -1,6 +1,6 @@
 use Rattle.std.proofs.Common.{◌≡◌, ℕ, List, length, subst, arith, Contains}
 use Rattle.lft_ir.specs.declared.parts.Trigger.{Trigger}
-use Rattle.lft_scheduler.{specs.{Lists.ArePushed, Filling.AreListed}, proofs.Filling.{listed_start, listed_more}}
+use Rattle.lft_scheduler.{specs.inner.{Lists.ArePushed, Filling.AreListed}, proofs.Filling.{listed_start, listed_more}}
 use Rattle.lft_scheduler.proofs.listeners.reactions_by_trigger.Goals as goal
 
 pub push_all-requires : goal.push_all-requires

@@ -1,4 +1,4 @@
-use Rattle.lft_scheduler.specs.Filling.{AreListed}
+use Rattle.lft_scheduler.specs.inner.Filling.{AreListed}
 use Rattle.lft_scheduler.proofs.listeners.reactions_by_trigger.Given as goal
 
 abbrev pub invariant-reactions : goal.invariant-reactions

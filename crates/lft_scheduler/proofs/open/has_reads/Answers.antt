@@ -1,7 +1,7 @@
 use Rattle.std.proofs.Common.{◌≡◌, ◌<◌, Some, false, length, slice_get, sym, ap, ◌∙◌, arith}
 use Rattle.std.proofs.lemmas.{Bool.false≢true, Option.slice_get-get_or}
 use Rattle.lft_model.proofs.Places.{slice_get_within}
-use Rattle.lft_scheduler.{specs.OpenRuns.is_run, proofs.RunsOpen.{reads_none, before_one_more, reads_iff}}
+use Rattle.lft_scheduler.{specs.inner.OpenRuns.is_run, proofs.RunsOpen.{reads_none, before_one_more, reads_iff}}
 use Rattle.lft_scheduler.proofs.open.has_reads.Goals as goal
 
 pub returns-then-is_of : goal.returns-then-is_of

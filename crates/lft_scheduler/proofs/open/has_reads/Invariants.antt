@@ -1,5 +1,5 @@
 use Rattle.std.proofs.Common.{◌≡◌, ℕ, ◌<◌, Some, slice_get, false}
-use Rattle.lft_scheduler.specs.{declared.open.OpenRun.OpenRun, OpenRuns.is_run}
+use Rattle.lft_scheduler.specs.{declared.open.OpenRun.OpenRun, inner.OpenRuns.is_run}
 use Rattle.lft_scheduler.proofs.open.has_reads.Given as goal
 
 abbrev pub invariant-loop-at : goal.invariant-loop-at

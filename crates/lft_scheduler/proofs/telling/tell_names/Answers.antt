@@ -2,7 +2,7 @@ use Rattle.std.proofs.Common.{◌≡◌, ◌↔◌, ℕ, ◌+◌, List, Contains
 use Rattle.lft_ir.specs.declared.parts.{Name.Name, Trigger.TheVariants.On}
 use Rattle.lft_queue.specs.Pending.{value_of}
 use Rattle.lft_lists.proofs.Places.{contains_at, at_contains}
-use Rattle.lft_scheduler.{specs.Listeners.IsListener, proofs.ToldTurns.{told_as, told_begun, told_next, told_each, drop_head, drop_none}}
+use Rattle.lft_scheduler.{specs.inner.Listeners.IsListener, proofs.ToldTurns.{told_as, told_begun, told_next, told_each, drop_head, drop_none}}
 use Rattle.lft_scheduler.proofs.telling.tell_names.Goals as goal
 
 pub loop-name-init : goal.loop-name-init

@@ -1,6 +1,6 @@
 use Rattle.std.proofs.Common.{◌≡◌, ℕ, drop}
 use Rattle.lft_ir.specs.declared.parts.{Name.Name, Trigger.TheVariants.On}
-use Rattle.lft_scheduler.specs.{Listeners.IsListener, Telling.{IsTold, OfFirst}}
+use Rattle.lft_scheduler.specs.inner.{Listeners.IsListener, Telling.{IsTold, OfFirst}}
 use Rattle.lft_scheduler.proofs.telling.tell_names.Given as goal
 
 abbrev pub invariant-loop-name : goal.invariant-loop-name

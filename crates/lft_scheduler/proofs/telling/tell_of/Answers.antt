@@ -2,7 +2,7 @@ use Rattle.std.proofs.Common.{◌≡◌, ℕ, ◌<◌, length, IsTrue, refl, sym
 use Rattle.std.proofs.lemmas.Bool.{false≢true}
 use Rattle.lft_lists.proofs.Places.{contains_at, at_contains}
 use Rattle.lft_model.proofs.Places.{slice_get_within}
-use Rattle.lft_scheduler.{specs.Listeners.IsListener, proofs.ToldTurns.{told_none, told_begun, told_next, told_each, told_one}}
+use Rattle.lft_scheduler.{specs.inner.Listeners.IsListener, proofs.ToldTurns.{told_none, told_begun, told_next, told_each, told_one}}
 use Rattle.lft_scheduler.proofs.telling.tell_of.Goals as goal
 
 pub returns-then-not-is_present : goal.returns-then-not-is_present

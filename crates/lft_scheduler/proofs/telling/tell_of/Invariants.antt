@@ -1,5 +1,5 @@
 use Rattle.std.proofs.Common.{◌≡◌, ℕ}
-use Rattle.lft_scheduler.specs.Telling.{IsTold, OfFirst}
+use Rattle.lft_scheduler.specs.inner.Telling.{IsTold, OfFirst}
 use Rattle.lft_scheduler.proofs.telling.tell_of.Given as goal
 
 abbrev pub invariant-loop-at : goal.invariant-loop-at

@@ -1,7 +1,7 @@
 use Rattle.std.proofs.Common.{◌<◌, ◌∷◌, [], List, IsTrue, true, refl, sym, subst, length}
 use Rattle.lft_tag.specs.Tags.{Before}
 use Rattle.lft_ir.specs.{Parts.Parts, declared.parts.Trigger.TheVariants.Timer}
-use Rattle.lft_scheduler.specs.{Listeners.IsListener, declared.firings.Firing.Firing, Firings.{AreFirst, IsMoved}}
+use Rattle.lft_scheduler.specs.{inner.{Listeners.IsListener, Firings.{AreFirst, IsMoved}}, declared.firings.Firing.Firing}
 use Rattle.lft_scheduler.proofs.{ToldTurns.{told_as, live_within}, Taking.{none_taken, taken_more, all_taken, told_taken, told_at_first, told_one_timer}}
 use Rattle.lft_scheduler.proofs.telling.tell_timers.Goals as goal
 

@@ -1,7 +1,7 @@
 use Rattle.std.proofs.Common.{ℕ, List}
 use Rattle.lft_ir.specs.declared.parts.Trigger.TheVariants.{Timer}
 use Rattle.lft_lists.proofs.Members.{Mem}
-use Rattle.lft_scheduler.{specs.{Listeners.IsListener, Telling.IsTold, Firings.how_many_until}, proofs.Taking.AreTaken}
+use Rattle.lft_scheduler.{specs.inner.{Listeners.IsListener, Telling.IsTold, Firings.how_many_until}, proofs.Taking.AreTaken}
 use Rattle.lft_scheduler.proofs.telling.tell_timers.Given as goal
 
 abbrev pub invariant-due : goal.invariant-due

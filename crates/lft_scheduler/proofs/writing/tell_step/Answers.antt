@@ -1,6 +1,6 @@
 use Rattle.std.proofs.Common.{◌≡◌, ℕ, sym, subst, rules}
 use Rattle.lft_ir.specs.declared.{parts.{Name.TheVariants.Port, Trigger.TheVariants.On}, steps.row.Step.{Step, TheVariants.Write}}
-use Rattle.lft_scheduler.specs.{Listeners.IsListener, Telling.{IsTold, ArrivesAtOnce}}
+use Rattle.lft_scheduler.specs.inner.{Listeners.IsListener, Telling.{IsTold, ArrivesAtOnce}}
 use Rattle.lft_scheduler.proofs.writing.tell_step.Goals as goal
 
 pub returns-in-Write-Port-default : goal.returns-in-Write-Port-default

@@ -5,7 +5,7 @@ use Rattle.lft_ir.specs.declared.parts.{Port.Port as PortOf, Value.TheVariants.B
 use Rattle.lft_ir.specs.declared.steps.row.Step.TheVariants.{Write}
 use Rattle.lft_lists.proofs.Places.{contains_at, at_contains, same_some}
 use Rattle.lft_model.proofs.Places.{slice_get_within}
-use Rattle.lft_scheduler.specs.{Listeners.{IsListener, IsArrival}, Telling.ArrivesAtOnce}
+use Rattle.lft_scheduler.specs.inner.{Listeners.{IsListener, IsArrival}, Telling.ArrivesAtOnce}
 use Rattle.lft_scheduler.proofs.{Given.listened_watched, ToldTurns.{told_as, told_begun, told_next, told_each}}
 use Rattle.lft_scheduler.proofs.writing.tell_write.Goals as goal
 

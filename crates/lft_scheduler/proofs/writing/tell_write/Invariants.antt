@@ -1,6 +1,6 @@
 use Rattle.std.proofs.Common.{ℕ}
 use Rattle.lft_ir.specs.declared.{parts.{Value.Value, Name.TheVariants.Port, Trigger.TheVariants.On}, steps.row.Step.TheVariants.Write}
-use Rattle.lft_scheduler.specs.{Listeners.IsListener, Telling.{IsTold, OfFirst, ArrivesAtOnce}}
+use Rattle.lft_scheduler.specs.inner.{Listeners.IsListener, Telling.{IsTold, OfFirst, ArrivesAtOnce}}
 use Rattle.lft_scheduler.proofs.writing.tell_write.Given as goal
 
 abbrev pub invariant-loop-at : goal.invariant-loop-at

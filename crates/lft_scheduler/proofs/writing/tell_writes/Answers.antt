@@ -1,6 +1,6 @@
 use Rattle.std.proofs.Common.{ℕ, arith}
 use Rattle.lft_ir.specs.declared.{parts.{Name.TheVariants.Port, Trigger.TheVariants.On}, steps.row.Step.Step}
-use Rattle.lft_scheduler.{specs.{Listeners.IsListener, Telling.{ArrivesAtOnce, TriggeredByWrites}}, proofs.ToldTurns.{told_begun, told_next, told_each}}
+use Rattle.lft_scheduler.{specs.inner.{Listeners.IsListener, Telling.{ArrivesAtOnce, TriggeredByWrites}}, proofs.ToldTurns.{told_begun, told_next, told_each}}
 use Rattle.lft_scheduler.proofs.writing.tell_writes.Goals as goal
 
 pub loop-at-init : goal.loop-at-init

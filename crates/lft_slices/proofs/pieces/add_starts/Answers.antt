@@ -1,6 +1,6 @@
 use Rattle.std.proofs.Common.{◌≡◌, ◌+◌, List, refl, sym, ap, ◌∙◌, subst, arith}
 use Rattle.lft_rows.proofs.PresenceLemmas.Lists.{not_true}
-use Rattle.lft_slices.specs.{declared.pieces.Piece.Piece, Pieces.AreStartsTo}
+use Rattle.lft_slices.specs.{declared.pieces.Piece.Piece, inner.Pieces.AreStartsTo}
 use Rattle.lft_slices.proofs.{Piecing.{starts_begin, starts_stay, starts_more}, pieces.add_starts.Goals.{then-is_start+in_ok-push, else-is_start}}
 use Rattle.lft_slices.proofs.pieces.add_starts.Goals as goal
 

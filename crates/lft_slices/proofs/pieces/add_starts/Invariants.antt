@@ -1,4 +1,4 @@
-use Rattle.lft_slices.specs.Pieces.{AreStartsTo}
+use Rattle.lft_slices.specs.inner.Pieces.{AreStartsTo}
 use Rattle.lft_slices.proofs.pieces.add_starts.Given as goal
 
 abbrev pub invariant-loop-place : goal.invariant-loop-place

@@ -1,7 +1,7 @@
 use Rattle.std.proofs.Common.{◌≡◌, ℕ, ◌+◌, ◌<◌, List, length, refl, sym, ap, ◌∙◌, subst, arith}
 use Rattle.lft_lists.proofs.Places.{length_written}
 use Rattle.lft_rows.proofs.PresenceLemmas.Lists.{not_true}
-use Rattle.lft_slices.{specs.Pieces.AreEndsTo, proofs.{Piecing.{ends_stay, ends_more}, pieces.keep_ends.Goals.{then-is_end, else-is_end}}}
+use Rattle.lft_slices.{specs.inner.Pieces.AreEndsTo, proofs.{Piecing.{ends_stay, ends_more}, pieces.keep_ends.Goals.{then-is_end, else-is_end}}}
 use Rattle.lft_slices.proofs.pieces.keep_ends.Goals as goal
 
 pub loop-place-preserved : goal.loop-place-preserved

@@ -1,5 +1,5 @@
 use Rattle.std.proofs.Common.{◌≡◌, length}
-use Rattle.lft_slices.specs.Pieces.{AreEndsTo}
+use Rattle.lft_slices.specs.inner.Pieces.{AreEndsTo}
 use Rattle.lft_slices.proofs.pieces.keep_ends.Given as goal
 
 abbrev pub invariant-loop-place : goal.invariant-loop-place

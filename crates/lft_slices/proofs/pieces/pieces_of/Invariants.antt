@@ -1,5 +1,5 @@
 use Rattle.std.proofs.Common.{◌≡◌, length}
-use Rattle.lft_slices.specs.Pieces.{ArePiecesTo}
+use Rattle.lft_slices.specs.inner.Pieces.{ArePiecesTo}
 use Rattle.lft_slices.proofs.pieces.pieces_of.Given as goal
 
 abbrev pub invariant-loop-place : goal.invariant-loop-place

@@ -2,7 +2,8 @@ use Rattle.std.proofs.Common.{◌≡◌, ◌+◌, List, [], ◌∷◌, ◌++◌,
 use Rattle.std.proofs.lemmas.List.{take_all, append-nil}
 use Rattle.lft_lists.proofs.Picked.{kept_more}
 use Rattle.lft_ir.specs.declared.parts.Trigger.{Trigger}
-use Rattle.lft_stream.{specs.{declared.due.Due.Due, Dues.{timed, AreDue}}, proofs.{Owing.due_push, dues.first_dues.Goals.{in-Some+in_ok-push-in-Some, in-None}}}
+use Rattle.lft_stream.specs.{declared.due.Due.Due, inner.Dues.{timed, AreDue}}
+use Rattle.lft_stream.proofs.{Owing.due_push, dues.first_dues.Goals.{in-Some+in_ok-push-in-Some, in-None}}
 use Rattle.lft_stream.proofs.dues.first_dues.Goals as goal
 
 pub loop-place-preserved : goal.loop-place-preserved

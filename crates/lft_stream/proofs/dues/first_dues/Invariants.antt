@@ -1,5 +1,5 @@
 use Rattle.std.proofs.Common.{ℕ, [], filter_map, take}
-use Rattle.lft_stream.specs.Dues.{timed, AreDue}
+use Rattle.lft_stream.specs.inner.Dues.{timed, AreDue}
 use Rattle.lft_stream.proofs.dues.first_dues.Given as goal
 
 abbrev pub invariant-loop-place : goal.invariant-loop-place

@@ -3,7 +3,7 @@ use Rattle.lft_tag.specs.declared.Tag.{Tag}
 use Rattle.lft_ir.specs.declared.{parts.Trigger.Trigger, steps.row.Row.Row}
 use Rattle.lft_lists.proofs.Places.{contains_at, get_there}
 use Rattle.lft_model.{specs.{Plans.PlanParts, Presence.stop, Runs.Ran}, proofs.Places.slice_get_within}
-use Rattle.lft_stream.specs.{declared.due.Due.Due, Dues.{IsDue, AreDue, IsDueAt}}
+use Rattle.lft_stream.specs.{declared.due.Due.Due, inner.Dues.{IsDue, AreDue, IsDueAt}}
 use Rattle.lft_stream.proofs.{Owing.{due_occurs, due_set}, dues.meet.Goals.{then-is_at+in_ok-next, else-is_at}}
 use Rattle.lft_stream.proofs.dues.meet.Goals as goal
 

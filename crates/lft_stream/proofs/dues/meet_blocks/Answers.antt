@@ -1,5 +1,5 @@
 use Rattle.std.proofs.Common.{Bool, IsTrue, List, sym, subst}
-use Rattle.lft_stream.specs.{declared.due.Due.Due, Dues.GoOn}
+use Rattle.lft_stream.specs.{declared.due.Due.Due, inner.Dues.GoOn}
 use Rattle.lft_stream.proofs.dues.meet_blocks.Goals.{then-item_at-tag+in-Some+then-is_present, then-item_at-tag+in-Some+else-is_present, else-item_at-tag}
 use Rattle.lft_stream.proofs.dues.meet_blocks.Goals as goal
 

@@ -1,5 +1,5 @@
 use Rattle.std.proofs.Common.{IsTrue}
-use Rattle.lft_stream.specs.Dues.{GoOn, IsSomePresent}
+use Rattle.lft_stream.specs.inner.Dues.{GoOn, IsSomePresent}
 use Rattle.lft_stream.proofs.dues.meet_blocks.Given as goal
 
 abbrev pub invariant-loop-block : goal.invariant-loop-block

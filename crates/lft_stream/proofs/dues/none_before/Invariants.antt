@@ -1,5 +1,5 @@
 use Rattle.std.proofs.Common.{◌≡◌, ℕ, ◌<◌, Some, slice_get}
-use Rattle.lft_stream.specs.{declared.due.Due.Due, Dues.IsDueBefore}
+use Rattle.lft_stream.specs.{declared.due.Due.Due, inner.Dues.IsDueBefore}
 use Rattle.lft_stream.proofs.dues.none_before.Given as goal
 
 abbrev pub invariant-loop-place : goal.invariant-loop-place

@@ -3,8 +3,8 @@ use Rattle.std.proofs.lemmas.Bool.{cases_eq}
 use Rattle.lft_ir.specs.{declared.{steps.row.{Row.Row, Step.{Step, TheVariants.Write}}, parts.Name.{Name, TheVariants.Port}}, Parts.Parts}
 use Rattle.lft_lists.proofs.{Places.same_at, Members.{get_mem, mem_from_filter, last_mem}}
 use Rattle.lft_model.{specs.Presence.{written, value_written}, proofs.{Ended.written_by, Places.slice_get_within, Steps.{written_some, some_written}}}
-use Rattle.lft_queue.{specs.Coming.Listeners.list_of, proofs.ComingLemmas.AtOnce.heard_origin}
-use Rattle.lft_stream.{specs.StartTags.AreStartTags, proofs.hearing.are_heard.Goals.{in-Some+else-not-have_started, in_default}}
+use Rattle.lft_queue.{specs.inner.Coming.Listeners.list_of, proofs.ComingLemmas.AtOnce.heard_origin}
+use Rattle.lft_stream.{specs.inner.StartTags.AreStartTags, proofs.hearing.are_heard.Goals.{in-Some+else-not-have_started, in_default}}
 use Rattle.lft_stream.proofs.hearing.are_heard.Goals as goal
 
 pub loop-place-preserved : goal.loop-place-preserved

@@ -2,7 +2,7 @@ use Rattle.std.proofs.Common.{◌≡◌, ◌⊎◌, inl, inr, ℕ, List, [], ◌
 use Rattle.std.proofs.lemmas.Option.{none-some}
 use Rattle.lft_lists.proofs.{Members.{Mem, contains_mem}, Places.same_some}
 use Rattle.lft_ir.specs.declared.{parts.Name.Name, steps.row.Row.Row}
-use Rattle.lft_queue.specs.Coming.Listeners.{list_of, AreStarted}
+use Rattle.lft_queue.specs.inner.Coming.Listeners.{list_of, AreStarted}
 use Rattle.lft_stream.proofs.Meeting.{first_done}
 use Rattle.lft_stream.proofs.hearing.are_met.Goals as goal
 

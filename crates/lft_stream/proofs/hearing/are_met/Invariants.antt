@@ -1,8 +1,8 @@
 use Rattle.std.proofs.Common.{◌⊎◌, List}
 use Rattle.lft_lists.proofs.Members.{Mem}
 use Rattle.lft_ir.specs.declared.{parts.Name.Name, steps.row.Row.Row}
-use Rattle.lft_queue.specs.Coming.Listeners.{AreStarted}
-use Rattle.lft_stream.specs.StartTags.{AreStartTags}
+use Rattle.lft_queue.specs.inner.Coming.Listeners.{AreStarted}
+use Rattle.lft_stream.specs.inner.StartTags.{AreStartTags}
 use Rattle.lft_stream.proofs.hearing.are_met.Given as goal
 
 -- of each name the listeners have started, or it is still to come

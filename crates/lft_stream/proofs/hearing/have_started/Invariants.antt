@@ -1,7 +1,7 @@
 use Rattle.std.proofs.Common.{◌≡◌, ℕ, ◌<◌, List, Some, slice_get}
 use Rattle.lft_ir.specs.declared.steps.row.Row.{Row}
 use Rattle.lft_model.specs.Runs.{Ran}
-use Rattle.lft_stream.specs.StartTags.{AreStartTags}
+use Rattle.lft_stream.specs.inner.StartTags.{AreStartTags}
 use Rattle.lft_stream.proofs.hearing.have_started.Given as goal
 
 abbrev pub invariant-loop-place : goal.invariant-loop-place

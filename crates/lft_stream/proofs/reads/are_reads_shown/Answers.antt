@@ -4,7 +4,7 @@ use Rattle.lft_ir.specs.{Parts.{Parts, inputs}, declared.{parts.{Name.Name, Valu
 use Rattle.lft_ir.proofs.Naming.{input_known}
 use Rattle.lft_lists.proofs.{Members.{Mem, mem_get}, Places.same_at}
 use Rattle.lft_model.specs.Presence.{Shows}
-use Rattle.lft_rows.specs.Marks.{HasSeat}
+use Rattle.lft_rows.specs.inner.Marks.{HasSeat}
 use Rattle.lft_queue.proofs.ComingLemmas.AtOnce.{input_awaited}
 use Rattle.lft_stream.proofs.reads.are_reads_shown.Goals.{in-Read+else-is_none+else-not-are_same, in_default}
 use Rattle.lft_stream.proofs.reads.are_reads_shown.Goals as goal

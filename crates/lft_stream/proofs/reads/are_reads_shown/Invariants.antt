@@ -1,7 +1,7 @@
 use Rattle.std.proofs.Common.{◌≡◌, ◌<◌, ◌≤◌, ◌++◌, ℕ, List, Some, slice_get}
 use Rattle.lft_ir.specs.declared.{parts.{Name.Name, Value.Value}, steps.row.{Row.Row, Step.TheVariants.Read}}
 use Rattle.lft_model.specs.Presence.{Shows}
-use Rattle.lft_stream.specs.Present.{AreShown}
+use Rattle.lft_stream.specs.inner.Present.{AreShown}
 use Rattle.lft_stream.proofs.reads.are_reads_shown.Given as goal
 
 abbrev pub invariant-loop-place : goal.invariant-loop-place

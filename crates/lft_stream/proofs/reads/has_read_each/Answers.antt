@@ -4,7 +4,7 @@ use Rattle.lft_ir.{specs.{Parts.{Parts, inputs}, declared.{parts.{Name.Name, Val
 use Rattle.lft_lists.proofs.{Members.{Mem, mem_get}, Places.same_some}
 use Rattle.lft_model.{specs.{Plans.PlanParts, Presence.Shows, Runs.{read_of, steps_of}}, proofs.Places.slice_get_within}
 use Rattle.lft_queue.proofs.ComingLemmas.AtOnce.{input_awaited}
-use Rattle.lft_stream.{specs.Present.AreShown, proofs.Present.read_all}
+use Rattle.lft_stream.{specs.inner.Present.AreShown, proofs.Present.read_all}
 use Rattle.lft_stream.proofs.reads.has_read_each.Goals as goal
 
 pub shown-present-requires : goal.shown-present-requires

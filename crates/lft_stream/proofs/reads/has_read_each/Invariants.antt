@@ -1,7 +1,7 @@
 use Rattle.std.proofs.Common.{◌≡◌, ℕ, ◌<◌, ◌++◌, List, Some, slice_get}
 use Rattle.lft_ir.specs.declared.{parts.Name.Name, steps.row.Row.Row}
 use Rattle.lft_model.specs.{Presence.Shows, Runs.{read_of, steps_of}}
-use Rattle.lft_stream.specs.Present.{AreShown}
+use Rattle.lft_stream.specs.inner.Present.{AreShown}
 use Rattle.lft_stream.proofs.reads.has_read_each.Given as goal
 
 abbrev pub invariant-loop-seat : goal.invariant-loop-seat

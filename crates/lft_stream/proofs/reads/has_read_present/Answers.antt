@@ -3,7 +3,7 @@ use Rattle.std.{specs.Option.IsSome, proofs.lemmas.Bool.cases_eq}
 use Rattle.lft_ir.specs.{Parts.Parts, declared.parts.{Name.Name, Reaction.Reaction, Value.Value}}
 use Rattle.lft_lists.proofs.Places.{at_contains, same_at, same_some}
 use Rattle.lft_model.{specs.Runs.{read_of, steps_of}, proofs.Places.slice_get_within}
-use Rattle.lft_rows.{specs.Marks.HasSeat, proofs.Marked.input_seat}
+use Rattle.lft_rows.{specs.inner.Marks.HasSeat, proofs.Marked.input_seat}
 use Rattle.lft_stream.proofs.reads.has_read_present.Goals.{in-Some+else-is_none, in_default}
 use Rattle.lft_stream.proofs.reads.has_read_present.Goals as goal
 

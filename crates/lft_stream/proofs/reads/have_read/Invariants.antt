@@ -1,7 +1,7 @@
 use Rattle.std.proofs.Common.{◌≡◌, ℕ, ◌<◌, ◌≤◌, ◌++◌, List, Some, slice_get}
 use Rattle.lft_ir.specs.declared.steps.row.Row.{Row}
 use Rattle.lft_model.specs.{Presence.Inputs, Runs.{start_row, reads_at}}
-use Rattle.lft_stream.specs.Present.{AreShown, IsKnown}
+use Rattle.lft_stream.specs.inner.Present.{AreShown, IsKnown}
 use Rattle.lft_stream.proofs.reads.have_read.Given as goal
 
 abbrev pub invariant-loop-place : goal.invariant-loop-place

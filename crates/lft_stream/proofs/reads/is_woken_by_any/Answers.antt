@@ -1,7 +1,7 @@
 use Rattle.std.proofs.Common.{◌≡◌, ◌++◌, ◌∙◌, List, Some, slice_get, filter_map, ap, sym, subst}
 use Rattle.lft_ir.{specs.{Naming.named, Parts.{Parts, inputs}, Sound.IsNameOf, declared.parts.Name.Name}, proofs.Naming.input_known}
 use Rattle.lft_lists.proofs.Members.{Mem, mem_get, mem_left}
-use Rattle.lft_queue.{specs.Coming.AtOnce.IsAwaited, proofs.ComingLemmas.AtOnce.input_awaited}
+use Rattle.lft_queue.{specs.inner.Coming.AtOnce.IsAwaited, proofs.ComingLemmas.AtOnce.input_awaited}
 use Rattle.lft_stream.proofs.Present.{woken}
 use Rattle.lft_stream.proofs.reads.is_woken_by_any.Goals as goal
 

@@ -2,7 +2,7 @@ use Rattle.std.proofs.Common.{◌≡◌, ◌<◌, ◌++◌, ◌∙◌, length, O
 use Rattle.lft_lists.proofs.Places.{get_there}
 use Rattle.lft_ir.{specs.{Origins.Origin, Parts.Parts, declared.parts.{Name.{Name, TheVariants.{Port, Action}}, Value.Value}}, proofs.Origins.origin_inside}
 use Rattle.lft_model.specs.Presence.{Shows}
-use Rattle.lft_queue.{specs.{Pending.value_of, Coming.{AtOnce.is_undelayed, Shown.last_write}}, proofs.ComingLemmas.AtOnce.way_at_once}
+use Rattle.lft_queue.{specs.{Pending.value_of, inner.Coming.{AtOnce.is_undelayed, Shown.last_write}}, proofs.ComingLemmas.AtOnce.way_at_once}
 use Rattle.lft_stream.proofs.Showing.{shows_law}
 use Rattle.lft_stream.proofs.reads.shown.Goals as goal
 

@@ -5,7 +5,7 @@ use Rattle.lft_lists.proofs.Places.{same_at}
 use Rattle.lft_ir.specs.declared.steps.row.{Row.Row, Step.TheVariants.Start}
 use Rattle.lft_model.specs.{Presence.Triggered, Runs.{start_row, Ran}}
 use Rattle.lft_rows.proofs.Steps.{row_eq}
-use Rattle.lft_stream.specs.{declared.due.Due.Due, Dues.AreDues}
+use Rattle.lft_stream.specs.{declared.due.Due.Due, inner.Dues.AreDues}
 use Rattle.lft_stream.proofs.stream.are_triggered.Goals.{else-is_start-via-then-is_start+else-not-is_triggered, else-is_start-via-else-is_start}
 use Rattle.lft_stream.proofs.stream.are_triggered.Goals as goal
 

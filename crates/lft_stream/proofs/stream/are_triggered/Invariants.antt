@@ -1,7 +1,7 @@
 use Rattle.std.proofs.Common.{◌≡◌, ℕ, ◌<◌, ◌≤◌, ◌++◌, List, Some, slice_get}
 use Rattle.lft_ir.specs.declared.steps.row.Row.{Row}
 use Rattle.lft_model.specs.{Presence.Triggered, Runs.start_row}
-use Rattle.lft_stream.specs.{Dues.{AreDues, AreDuesAt}, Present.AreShown}
+use Rattle.lft_stream.specs.inner.{Dues.{AreDues, AreDuesAt}, Present.AreShown}
 use Rattle.lft_stream.proofs.stream.are_triggered.Given as goal
 
 abbrev pub invariant-loop-place : goal.invariant-loop-place

@@ -1,7 +1,7 @@
 use Rattle.std.proofs.Common.{◌≡◌, ◌<◌, ◌≤◌, take, Err, sym, ap, ◌∙◌, arith}
 use Rattle.std.proofs.lemmas.Bool.Decides.{nat_tests}
 use Rattle.lft_tree.specs.View.{file_view}
-use Rattle.lft_syntax.specs.{Seen.seen_as, View.lexemes, Reading.whole_at}
+use Rattle.lft_syntax.specs.{inner.{Seen.seen_as, Reading.whole_at}, View.lexemes}
 use Rattle.lft_syntax.proofs.Behind.{trial_words, trial_fits, front_length, stands, stands_if, stands_not}
 use Rattle.lft_syntax.proofs.parser.can_stand.Goals as goal
 

@@ -1,5 +1,5 @@
 use Rattle.std.proofs.Common.{◌≡◌, ℕ, List, sym, subst, ◌∙◌, ap, arith, Ok, Err}
-use Rattle.lft_syntax.specs.{declared.token.Token.Token, Grammar.Spells, View.lexemes, Placed.FileStands, Reading.whole_at}
+use Rattle.lft_syntax.specs.{declared.token.Token.Token, Grammar.Spells, View.lexemes, Placed.FileStands, inner.Reading.whole_at}
 use Rattle.lft_syntax.proofs.{TokenFacts.{InText, token_at, name_ascii}, Whole.{read_tree, fault_given, begun_given, read_fault}, Behind.lexemes_length}
 use Rattle.lft_syntax.proofs.DeclaredNames.{has_identifiers}
 use Rattle.lft_tree.specs.{Tree.FileTree, View.file_view}

@@ -1,7 +1,7 @@
 use Rattle.std.proofs.Common.{List, take, subst}
 use Rattle.lft_ir.specs.declared.steps.row.Row.{Row}
 use Rattle.lft_stream.proofs.Parting.{range_fits, up_to_second}
-use Rattle.lft_monitor.specs.Follows.{IsFollowerOf}
+use Rattle.lft_monitor.specs.inner.Follows.{IsFollowerOf}
 use Rattle.lft_tests.proofs.followers.add_part.Goals as goal
 
 pub add-requires : goal.add-requires

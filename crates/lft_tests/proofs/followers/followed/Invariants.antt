@@ -1,5 +1,5 @@
 use Rattle.std.proofs.Common.{◌-◌, ◌≤◌, take, length}
-use Rattle.lft_monitor.specs.Follows.{IsFollowerOf}
+use Rattle.lft_monitor.specs.inner.Follows.{IsFollowerOf}
 use Rattle.lft_tests.proofs.followers.followed.Given as goal
 
 abbrev pub invariant-loop-first : goal.invariant-loop-first

@@ -1,6 +1,6 @@
 use Rattle.std.proofs.Common.{◌∷◌, [], ◌++◌}
 use Rattle.std.proofs.lemmas.List.Elements.{All-same, All-push}
-use Rattle.lft_text_diagnostics.specs.Trying.{CanStandBehind}
+use Rattle.lft_text_diagnostics.specs.inner.Trying.{CanStandBehind}
 use Rattle.lft_text_diagnostics.proofs.candidates.try_thing.Goals as goal
 
 pub returns : goal.returns

@@ -1,6 +1,6 @@
 use Rattle.std.proofs.Common.{◌≡◌, ℕ, ◌<◌, Some, slice_get}
 use Rattle.lft_syntax.specs.declared.token.Token.{Token}
-use Rattle.lft_text_diagnostics.specs.Codes.{IsCodeWith}
+use Rattle.lft_text_diagnostics.specs.inner.Codes.{IsCodeWith}
 use Rattle.lft_text_diagnostics.proofs.code.has_code_with.Given as goal
 
 abbrev pub invariant-loop-at : goal.invariant-loop-at

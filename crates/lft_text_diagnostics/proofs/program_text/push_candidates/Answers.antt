@@ -1,6 +1,7 @@
 use Rattle.std.proofs.Common.{◌≡◌, List, ◌∷◌, ◌++◌, codes, string_bytes, flat_map, sym, ap, ◌∙◌}
 use Rattle.lft_ir.proofs.WordsLemmas.Steps.{also}
-use Rattle.lft_text_diagnostics.{specs.{Candidates.{could_words, few, other_words, words_of}, declared.thing.Thing.Thing}, proofs.Helping.few_all}
+use Rattle.lft_text_diagnostics.specs.{Candidates.{could_words, other_words, words_of}, inner.Candidates.few, declared.thing.Thing.Thing}
+use Rattle.lft_text_diagnostics.proofs.Helping.{few_all}
 use Rattle.lft_text_diagnostics.proofs.program_text.push_candidates.Goals as goal
 
 pub returns : goal.returns

@@ -1,6 +1,6 @@
 use Rattle.std.proofs.Common.{string_bytes}
 use Rattle.std.proofs.lemmas.{List.Elements.All-same, Result.on_ok_weaker}
-use Rattle.lft_text_diagnostics.{specs.{Candidates.few, Trying.CanStandBehind}, proofs.Helping.{all_few, helps_by_list, helps_by_way, puts_help}}
+use Rattle.lft_text_diagnostics.{specs.inner.{Candidates.few, Trying.CanStandBehind}, proofs.Helping.{all_few, helps_by_list, helps_by_way, puts_help}}
 use Rattle.lft_text_diagnostics.proofs.program_text.push_help.Goals as goal
 
 pub returns-then-is_some : goal.returns-then-is_some

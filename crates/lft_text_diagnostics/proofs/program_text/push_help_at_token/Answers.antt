@@ -1,6 +1,6 @@
 use Rattle.std.proofs.Common.{string_bytes}
 use Rattle.std.proofs.lemmas.List.Elements.{All-same}
-use Rattle.lft_text_diagnostics.{specs.{Trying.CanStandBehind, Candidates.few}, proofs.Helping.{all_few, helps}}
+use Rattle.lft_text_diagnostics.{specs.inner.{Trying.CanStandBehind, Candidates.few}, proofs.Helping.{all_few, helps}}
 use Rattle.lft_text_diagnostics.proofs.program_text.push_help_at_token.Goals as goal
 
 pub returns : goal.returns

@@ -1,6 +1,6 @@
 use Rattle.std.proofs.Common.{◌-◌, Option, Some, None, IfSome, Result, Ok, Err, IfOk, inr, refl}
 use Rattle.std.proofs.lemmas.Option.{slice_get-get_or}
-use Rattle.lft_text_diagnostics.specs.Refusals.{IsRefusedFrom}
+use Rattle.lft_text_diagnostics.specs.inner.Refusals.{IsRefusedFrom}
 use Rattle.lft_text_diagnostics.proofs.program_text.way_among.Goals as goal
 
 -- what holds at all events holds where something is found

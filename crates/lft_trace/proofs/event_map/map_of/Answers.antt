@@ -1,5 +1,5 @@
 use Rattle.std.proofs.Common.{map}
-use Rattle.lft_trace.{specs.Keys.event_at, proofs.EventLists.put_in}
+use Rattle.lft_trace.{specs.inner.Keys.event_at, proofs.EventLists.put_in}
 use Rattle.lft_trace.proofs.event_map.map_of.Goals as goal
 
 pub loop-place-preserved : goal.loop-place-preserved

@@ -1,6 +1,6 @@
 use Rattle.std.proofs.Common.{map, take}
 use Rattle.std.specs.List.Sorted.{IsPermutation}
-use Rattle.lft_trace.specs.Keys.{event_at}
+use Rattle.lft_trace.specs.inner.Keys.{event_at}
 use Rattle.lft_trace.proofs.event_map.map_of.Given as goal
 
 abbrev pub invariant-loop-place : goal.invariant-loop-place

@@ -2,7 +2,7 @@ use Rattle.std.proofs.Common.{◌≡◌, ◌∙◌, Option, Some, None, true, fa
 use Rattle.std.specs.Prelude.{is_some}
 use Rattle.std.specs.{BTreeMap.{insert_entry, is_at}, Map.lookup}
 use Rattle.lft_ir.specs.declared.{parts.Value.Value, steps.externals.Event.Event}
-use Rattle.lft_trace.{specs.{ExternalTables.{Clash, Has}, Keys.event_at}, proofs.EventFacts.{Key, apart, found, inserted, key_cmp}}
+use Rattle.lft_trace.{specs.{ExternalTables.{Clash, Has}, inner.Keys.event_at}, proofs.EventFacts.{Key, apart, found, inserted, key_cmp}}
 use Rattle.lft_trace.proofs.event_map.put.Goals as goal
 
 there : (es : List (Key × Value)) (e : Event) (old : Option Value) → old ≡ lookup (is_at (key_cmp (e.tag.time, e.tag.micro, e.action))) es → is_some old ≡ true → (d : Event) × Has (map event_at es) d × Clash d e

@@ -2,7 +2,7 @@ use Rattle.std.proofs.Common.{rules, ◌≡◌, [], List, Option, Some, None, Re
 use Rattle.csv.specs.Records.{fields_of}
 use Rattle.lft_ir.specs.{Parts.Parts, Steps.Inputs.{ExternalInputs, InOrder}, declared.steps.externals.Event.Event}
 use Rattle.lft_tag.specs.declared.Tag.{Tag}
-use Rattle.lft_trace.specs.{Faults.is_told, Records.{IsNext, records_left, records_of}, ExternalTables.{ExternalFails, ExternalTable, header}}
+use Rattle.lft_trace.specs.{Faults.is_told, inner.Records.{IsNext, records_left}, Records.records_of, ExternalTables.{ExternalFails, ExternalTable, header}}
 use Rattle.lft_trace.specs.declared.{fault.TraceFault.TraceFault, records.Records.Records}
 use Rattle.lft_trace.proofs.{ExternalFacts.{Gathered, bad, ended, no_stop, one_more, past, refused, start}, TableFacts.{Texts, fewer}}
 use Rattle.lft_trace.specs.declared.fault.TraceFault.TheVariants as fault

@@ -1,7 +1,7 @@
 use Rattle.std.proofs.Common.{rules, ◌≡◌, [], true, false, subst}
 use Rattle.csv.specs.Records.{fields_of}
 use Rattle.lft_ir.specs.Parts.{Parts}
-use Rattle.lft_trace.{specs.{ExternalTables.FaultAt, SeenExternals.is_of_input}, proofs.LogTableFacts.{begins, begins_not}}
+use Rattle.lft_trace.{specs.{ExternalTables.FaultAt, inner.SeenExternals.is_of_input}, proofs.LogTableFacts.{begins, begins_not}}
 use Rattle.lft_trace.proofs.log_table.read_line.Goals as goal
 
 pub returns-then-is_of_input-clause-fault : goal.returns-then-is_of_input-clause-fault

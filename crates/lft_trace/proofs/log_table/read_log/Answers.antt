@@ -1,6 +1,6 @@
 use Rattle.std.proofs.Common.{subst}
 use Rattle.lft_ir.specs.Parts.{Parts}
-use Rattle.lft_trace.{specs.{LogTables.ReadsLines, Records.records_of}, proofs.{LogTableFacts.{inputs_fit, rows_fit}, log_table.read_log.Goals.In-Ok}}
+use Rattle.lft_trace.{specs.{inner.LogTables.ReadsLines, Records.records_of}, proofs.{LogTableFacts.{inputs_fit, rows_fit}, log_table.read_log.Goals.In-Ok}}
 use Rattle.lft_trace.proofs.log_table.read_log.Goals as goal
 
 read : (c : In-Ok) → ReadsLines c.args.program.now (records_of c.args.text.now) c.in-Ok.read

@@ -1,6 +1,6 @@
 use Rattle.std.proofs.Common.{rules, ◌≡◌, ◌∙◌, ◌<◌, ◌≤◌, ◌++◌, ◌∷◌, [], ℕ, inl, inr, List, Some, ap, arith, length, length-append, slice_get, take}
 use Rattle.lft_lists.proofs.Places.{get_push_cases}
-use Rattle.lft_trace.specs.{ShortNames.AreShort, declared.short_name.ShortName.ShortName}
+use Rattle.lft_trace.specs.{inner.ShortNames.AreShort, declared.short_name.ShortName.ShortName}
 use Rattle.lft_trace.proofs.reaction_names.short_names.Goals as goal
 
 few : (n len : ℕ) → 0 < len → (31 < n → len ≡ 0) → n ≤ 31

@@ -1,5 +1,5 @@
 use Rattle.std.proofs.Common.{◌≡◌, length}
-use Rattle.lft_trace.specs.ShortNames.{AreShort}
+use Rattle.lft_trace.specs.inner.ShortNames.{AreShort}
 use Rattle.lft_trace.proofs.reaction_names.short_names.Given as goal
 
 abbrev pub invariant-loop-number : goal.invariant-loop-number

@@ -1,6 +1,6 @@
 use Rattle.std.proofs.Common.{rules, ◌≡◌, false, subst}
 use Rattle.lft_ir.specs.Parts.{Parts}
-use Rattle.lft_trace.{specs.{Traces.is_filled, Seen.{NumbersOf, StepOf, trace_fields}}, proofs.RowFacts.step_is}
+use Rattle.lft_trace.{specs.{Traces.is_filled, inner.Seen.{NumbersOf, StepOf, trace_fields}}, proofs.RowFacts.step_is}
 use Rattle.lft_trace.proofs.trace_table.read_fields.Goals as goal
 
 pub returns-clause-row : goal.returns-clause-row

@@ -2,7 +2,7 @@ use Rattle.std.proofs.Common.{rules, ◌≡◌, ◌∙◌, ◌++◌, ◌∷◌, 
 use Rattle.std.specs.List.{AllZip}
 use Rattle.csv.specs.Records.{fields_of}
 use Rattle.lft_ir.specs.{Parts.Parts, declared.steps.row.Row.Row}
-use Rattle.lft_trace.specs.{Records.{IsNext, records_left, records_of}, Tables.Begins, Traces.{IsRow, header, trace_tables}}
+use Rattle.lft_trace.specs.{inner.Records.{IsNext, records_left}, Records.records_of, Tables.Begins, Traces.{IsRow, header, trace_tables}}
 use Rattle.lft_trace.proofs.TableFacts.{Texts, begins_more, fewer}
 use Rattle.lft_trace.proofs.trace_table.read_part.Goals as goal
 

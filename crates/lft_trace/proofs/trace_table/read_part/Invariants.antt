@@ -1,5 +1,5 @@
 use Rattle.std.proofs.Common.{◌<◌, ◌-◌, ◌∷◌, IfSome, length}
-use Rattle.lft_trace.specs.{Records.{IsPlain, records_left, records_of}, Tables.Begins, Traces.{header, trace_tables}}
+use Rattle.lft_trace.specs.{inner.Records.{IsPlain, records_left}, Records.records_of, Tables.Begins, Traces.{header, trace_tables}}
 use Rattle.lft_trace.proofs.trace_table.read_part.Given as goal
 
 -- as in a table whose header was read

@@ -2,7 +2,7 @@ use Rattle.std.proofs.Common.{rules, ◌≡◌, IfErr, Ok, Err, Result, List, �
 use Rattle.csv.specs.Records.{fields_of}
 use Rattle.lft_ir.specs.{Parts.Parts, declared.steps.row.Row.Row}
 use Rattle.lft_trace.specs.{declared.{fault.TraceFault.TraceFault, kind.RowKind.RowKind}, Traces.{FaultAt, TraceFields, in_order, word}}
-use Rattle.lft_trace.specs.Seen.{FieldFault, trace_fields}
+use Rattle.lft_trace.specs.inner.Seen.{FieldFault, trace_fields}
 use Rattle.lft_trace.proofs.RowFacts.{fault_is}
 use Rattle.lft_trace.proofs.trace_table.read_row.Goals as goal
 

@@ -1,4 +1,4 @@
-use Rattle.lft_trace.{specs.{Seen.trace_fields, Traces.in_order}, proofs.{RowsBack.one_written, trace_writer.write_fields.Goals.{in-Ok, in-Err}}}
+use Rattle.lft_trace.{specs.{inner.Seen.trace_fields, Traces.in_order}, proofs.{RowsBack.one_written, trace_writer.write_fields.Goals.{in-Ok, in-Err}}}
 use Rattle.lft_trace.proofs.trace_writer.write_fields.Goals as goal
 
 pub returns : goal.returns

@@ -1,5 +1,5 @@
 use Rattle.std.proofs.Common.{◌≡◌, ◌<◌, ℕ, Some, slice_get, take}
-use Rattle.lft_trace.specs.{SeenWriting.{HasWords, HasWritten}, Written.written_records}
+use Rattle.lft_trace.specs.{inner.SeenWriting.{HasWords, HasWritten}, Written.written_records}
 use Rattle.lft_ir.specs.declared.steps.row.Row.{Row}
 use Rattle.lft_trace.proofs.trace_writer.write_rows.Given as goal
 

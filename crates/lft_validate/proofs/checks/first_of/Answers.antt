@@ -1,6 +1,6 @@
 use Rattle.std.proofs.Common.{inl, inr}
-use Rattle.lft_resolve.specs.{References.reactor_trees, Causes.{NoMain, TwoMains, DuplicateName, UnknownReactor, first_causes}}
-use Rattle.lft_validate.{specs.Shown.SomeShows, proofs.{Causes.shows_unknown_reactor, Sound.{last_asked, shown_by}}}
+use Rattle.lft_resolve.specs.{inner.References.reactor_trees, Causes.{NoMain, TwoMains, DuplicateName, UnknownReactor, first_causes}}
+use Rattle.lft_validate.{specs.inner.Shown.SomeShows, proofs.{Causes.shows_unknown_reactor, Sound.{last_asked, shown_by}}}
 use Rattle.lft_lists.proofs.Options.{lacking}
 use Rattle.lft_validate.specs.declared.members.Cause.TheVariants as cause
 use Rattle.lft_validate.proofs.checks.first_of.Goals as goal

@@ -1,6 +1,6 @@
 use Rattle.std.proofs.Common.{inl, inr}
-use Rattle.lft_resolve.specs.{References.reactor_trees, Causes.{TwoSources, later_causes}}
-use Rattle.lft_validate.specs.Shown.{SomeShows}
+use Rattle.lft_resolve.specs.{inner.References.reactor_trees, Causes.{TwoSources, later_causes}}
+use Rattle.lft_validate.specs.inner.Shown.{SomeShows}
 use Rattle.lft_validate.proofs.Causes.{shows_unknown_name, shows_wrong_place, shows_main_port, shows_width, shows_no_trigger, shows_duplicate_input}
 use Rattle.lft_validate.proofs.Sound.{last_asked, shown_by}
 use Rattle.lft_lists.proofs.Options.{lacking}

@@ -1,6 +1,6 @@
 use Rattle.std.proofs.Common.{Any, inl, ⊎_elim}
-use Rattle.lft_resolve.specs.{References.reactor_trees, Causes.HasLongTime}
-use Rattle.lft_validate.{specs.{Shown.SomeShows, Witnesses.time_causes}, proofs.{Causes.long, Sound.{last_asked, shown_by}}}
+use Rattle.lft_resolve.specs.{inner.References.reactor_trees, Causes.HasLongTime}
+use Rattle.lft_validate.{specs.inner.{Shown.SomeShows, Witnesses.time_causes}, proofs.{Causes.long, Sound.{last_asked, shown_by}}}
 use Rattle.lft_validate.specs.declared.members.Cause.TheVariants as cause
 use Rattle.lft_validate.proofs.checks.times_of.Goals as goal
 

@@ -1,5 +1,5 @@
 use Rattle.std.proofs.Common.{◌≡◌, ◌≢◌, ℕ, ◌+◌, ◌*◌, ◌<◌, [], ◌∷◌, ◌++◌, Some, length, slice_get, slice_set, vec_len, refl, sym, ap, subst, ◌∙◌, arith}
-use Rattle.lft_validate.specs.{Circles.{IsRound, IsVisitAt}, declared.circle.{Stage.TheVariants.{New, Open, Done}, Visit.Visit}}
+use Rattle.lft_validate.specs.{inner.Circles.{IsRound, IsVisitAt}, declared.circle.{Stage.TheVariants.{New, Open, Done}, Visit.Visit}}
 use Rattle.lft_validate.proofs.Searching.{Searching, news, no_more, one_less, push_length, searching_done, searching_on, searching_enter, left_is_there, met_is_open, round_of}
 use Rattle.lft_validate.proofs.Turns.{weaker}
 use Rattle.lft_validate.proofs.circle.explore.Goals as goal

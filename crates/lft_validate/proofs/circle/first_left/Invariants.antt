@@ -1,5 +1,5 @@
 use Rattle.std.proofs.Common.{slice_get}
-use Rattle.lft_validate.specs.Circles.{DoneBetween}
+use Rattle.lft_validate.specs.inner.Circles.{DoneBetween}
 use Rattle.lft_validate.proofs.circle.first_left.Given as goal
 
 abbrev pub invariant-loop-place : goal.invariant-loop-place

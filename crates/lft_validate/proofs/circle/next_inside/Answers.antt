@@ -1,7 +1,7 @@
 use Rattle.std.proofs.Common.{◌≡◌, ℕ, Some, slice_get, sym, ap, ◌∙◌}
 use Rattle.std.{specs.Option.option_and_then, proofs.lemmas.Option.slice_get-get_or}
-use Rattle.lft_resolve.specs.Expansion.Contents.{contained}
-use Rattle.lft_validate.{specs.Circles.{DoneBetween, IsDone, OnlyDone}, proofs.Turns.some_weaker}
+use Rattle.lft_resolve.specs.inner.Expansion.Contents.{contained}
+use Rattle.lft_validate.{specs.inner.Circles.{DoneBetween, IsDone, OnlyDone}, proofs.Turns.some_weaker}
 use Rattle.lft_lists.proofs.Options.{none_weaker}
 use Rattle.lft_validate.proofs.circle.next_inside.Goals as goal
 

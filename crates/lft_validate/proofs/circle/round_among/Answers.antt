@@ -1,5 +1,5 @@
 use Rattle.std.proofs.Common.{◌≡◌, length, replicate, subst, sym, arith}
-use Rattle.lft_validate.{specs.{Circles.IsSearched, declared.circle.Stage.TheVariants.New}, proofs.Searching.{searched_start, all_founded}}
+use Rattle.lft_validate.{specs.{inner.Circles.IsSearched, declared.circle.Stage.TheVariants.New}, proofs.Searching.{searched_start, all_founded}}
 use Rattle.lft_validate.proofs.circle.round_among.Goals as goal
 
 pub reactors-init : goal.reactors-init

@@ -1,5 +1,5 @@
 use Rattle.std.proofs.Common.{ℕ, ◌<◌, ◌≢◌, Some, slice_get}
-use Rattle.lft_validate.specs.{Circles.IsSearched, declared.circle.Stage.TheVariants.New}
+use Rattle.lft_validate.specs.{inner.Circles.IsSearched, declared.circle.Stage.TheVariants.New}
 use Rattle.lft_validate.proofs.circle.round_among.Given as goal
 
 abbrev pub invariant-reactors : goal.invariant-reactors

@@ -1,6 +1,6 @@
 use Rattle.std.proofs.Common.{◌≡◌, sym, ap, subst, ◌∙◌}
 use Rattle.lft_tree.specs.View.{reactor_view}
-use Rattle.lft_resolve.specs.{Causes.IsTwice, Kinds.names_in, Tests.texts}
+use Rattle.lft_resolve.specs.{Causes.IsTwice, Kinds.names_in, inner.Tests.texts}
 use Rattle.lft_validate.{specs.Members.declarations, proofs.DeclaredNames.declared_twice}
 use Rattle.lft_lists.proofs.Options.{ok_none}
 use Rattle.lft_validate.proofs.declared.declared_twice.Goals as goal

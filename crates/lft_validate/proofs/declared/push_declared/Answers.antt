@@ -1,7 +1,7 @@
 use Rattle.std.proofs.Common.{◌<◌, length, ap, sym, ◌∙◌, arith}
 use Rattle.std.specs.Option.{option_map}
 use Rattle.lft_tree.specs.View.{member_view}
-use Rattle.lft_resolve.specs.Tests.{texts}
+use Rattle.lft_resolve.specs.inner.Tests.{texts}
 use Rattle.lft_lists.proofs.Picked.{behind_some, behind_none}
 use Rattle.lft_validate.{specs.Members.declared_name, proofs.declared.push_declared.Goals.{in-Some+in_ok-push-in-Some, in-None}}
 use Rattle.lft_validate.proofs.declared.push_declared.Goals as goal

@@ -1,6 +1,6 @@
 use Rattle.std.proofs.Common.{◌≡◌, ◌++◌, filter_map, take}
 use Rattle.lft_tree.specs.View.{member_views}
-use Rattle.lft_resolve.specs.Tests.{texts}
+use Rattle.lft_resolve.specs.inner.Tests.{texts}
 use Rattle.lft_validate.specs.Members.{declared_name}
 use Rattle.lft_validate.proofs.declared.push_declared.Given as goal
 

@@ -1,6 +1,6 @@
 use Rattle.std.proofs.Common.{Any, take}
 use Rattle.lft_resolve.specs.Causes.{IsLongTime}
-use Rattle.lft_validate.specs.Members.{time_trees}
+use Rattle.lft_validate.specs.inner.Members.{time_trees}
 use Rattle.lft_validate.proofs.lone.first_long.Given as goal
 
 abbrev pub invariant-loop-time : goal.invariant-loop-time

@@ -1,6 +1,6 @@
 use Rattle.std.proofs.Common.{◌<◌, Any, take}
 use Rattle.lft_tree.specs.Tree.{nanoseconds}
-use Rattle.lft_resolve.specs.{Causes.longest, References.reactor_trees}
+use Rattle.lft_resolve.specs.{Causes.longest, inner.References.reactor_trees}
 use Rattle.lft_validate.proofs.mains.long_default.Given as goal
 
 abbrev pub invariant-loop-reactor : goal.invariant-loop-reactor

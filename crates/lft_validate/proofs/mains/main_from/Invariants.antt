@@ -1,5 +1,5 @@
 use Rattle.std.proofs.Common.{ℕ, ◌<◌, ◌≤◌}
-use Rattle.lft_resolve.specs.References.{reactor_trees}
+use Rattle.lft_resolve.specs.inner.References.{reactor_trees}
 use Rattle.lft_validate.specs.Witnesses.{IsMainAt}
 use Rattle.lft_validate.proofs.mains.main_from.Given as goal
 

@@ -1,5 +1,5 @@
 use Rattle.std.proofs.Common.{arith}
-use Rattle.lft_resolve.specs.References.{reactor_trees}
+use Rattle.lft_resolve.specs.inner.References.{reactor_trees}
 use Rattle.lft_validate.proofs.TwoMains.{none_main, some_main}
 use Rattle.lft_validate.proofs.mains.no_main.Goals as goal
 

@@ -1,7 +1,7 @@
 use Rattle.std.proofs.Common.{List, IfNone, IsSomeAnd, slice_get, sym}
 use Rattle.lft_tree.specs.{Tree.ReactorTree, View.{member_view, reactor_view}}
-use Rattle.lft_resolve.specs.Tables.{IsFile, IsOwn}
-use Rattle.lft_validate.{specs.Shown.ShowsCause, proofs.Turns.{weaker, so_at}}
+use Rattle.lft_resolve.specs.inner.Tables.{IsFile, IsOwn}
+use Rattle.lft_validate.{specs.inner.Shown.ShowsCause, proofs.Turns.{weaker, so_at}}
 use Rattle.lft_lists.proofs.Options.{none_weaker}
 use Rattle.lft_validate.proofs.members.at_place.Goals as goal
 

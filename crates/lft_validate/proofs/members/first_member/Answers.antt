@@ -1,8 +1,8 @@
 use Rattle.std.proofs.Common.{rules, Any, IsSomeAnd, length, slice_get, sym, subst, ◌∙◌, arith}
 use Rattle.std.proofs.lemmas.List.{length-map}
 use Rattle.lft_tree.specs.View.{reactor_view}
-use Rattle.lft_resolve.{specs.{References.reactor_trees, Tables.IsOwn}, proofs.Somes.{Any-nil, none_more, none_done}}
-use Rattle.lft_validate.{specs.{Shown.ShowsCause, Witnesses.HasFinding}, proofs.Turns.own_at}
+use Rattle.lft_resolve.{specs.inner.{References.reactor_trees, Tables.IsOwn}, proofs.Somes.{Any-nil, none_more, none_done}}
+use Rattle.lft_validate.{specs.{inner.Shown.ShowsCause, Witnesses.HasFinding}, proofs.Turns.own_at}
 use Rattle.lft_lists.proofs.{Mapped.mapped_at, Options.{found, lacking}, Zips.long}
 use Rattle.lft_validate.proofs.members.first_member.Goals as goal
 

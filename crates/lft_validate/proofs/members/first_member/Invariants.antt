@@ -1,6 +1,6 @@
 use Rattle.std.proofs.Common.{◌≡◌, Any, length, take}
-use Rattle.lft_resolve.specs.References.{reactor_trees}
-use Rattle.lft_validate.specs.Shown.{ShowsCause}
+use Rattle.lft_resolve.specs.inner.References.{reactor_trees}
+use Rattle.lft_validate.specs.inner.Shown.{ShowsCause}
 use Rattle.lft_validate.proofs.members.first_member.Given as goal
 
 abbrev pub invariant-loop-reactor : goal.invariant-loop-reactor

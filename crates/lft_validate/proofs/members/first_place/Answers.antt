@@ -1,7 +1,7 @@
 use Rattle.std.proofs.Common.{◌≡◌, inl, inr, length, IsSomeAnd, slice_get, subst, arith}
 use Rattle.std.proofs.lemmas.Bool.{cases_lt}
 use Rattle.lft_tree.specs.View.{member_view, reactor_view}
-use Rattle.lft_validate.{specs.Shown.ShowsCause, proofs.Turns.{none_past, some_place}}
+use Rattle.lft_validate.{specs.inner.Shown.ShowsCause, proofs.Turns.{none_past, some_place}}
 use Rattle.lft_lists.proofs.Options.{lacking}
 use Rattle.lft_validate.proofs.members.first_place.Goals as goal
 

@@ -1,7 +1,7 @@
 use Rattle.std.proofs.Common.{◌<◌, List, ℕ, IsSomeAnd, slice_get}
 use Rattle.lft_tree.specs.{Tree.ReactorTree, View.reactor_view}
-use Rattle.lft_resolve.specs.Tables.{IsFile, IsOwn}
-use Rattle.lft_validate.specs.Shown.{ShowsCause}
+use Rattle.lft_resolve.specs.inner.Tables.{IsFile, IsOwn}
+use Rattle.lft_validate.specs.inner.Shown.{ShowsCause}
 use Rattle.lft_validate.proofs.members.first_place.Given as goal
 
 abbrev pub invariant-loop-place : goal.invariant-loop-place

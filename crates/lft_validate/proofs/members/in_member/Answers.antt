@@ -1,7 +1,7 @@
 use Rattle.std.proofs.Common.{List, IfNone}
 use Rattle.lft_tree.specs.{Tree.ReactorTree, View.{member_view, reactor_view}}
-use Rattle.lft_resolve.specs.Tables.{IsFile, IsOwn}
-use Rattle.lft_validate.{specs.Shown.ShowsCause, proofs.Turns.weaker}
+use Rattle.lft_resolve.specs.inner.Tables.{IsFile, IsOwn}
+use Rattle.lft_validate.{specs.inner.Shown.ShowsCause, proofs.Turns.weaker}
 use Rattle.lft_validate.specs.declared.members.Cause.TheVariants as cause
 use Rattle.lft_validate.proofs.members.in_member.Goals as goal
 

@@ -1,6 +1,6 @@
 use Rattle.std.proofs.Common.{List, Any, take}
 use Rattle.lft_tree.specs.Tree.{ReactorTree}
-use Rattle.lft_resolve.specs.{Causes.IsMisplaced, References.ref_trees, Tables.{IsFile, IsOwn}}
+use Rattle.lft_resolve.specs.{Causes.IsMisplaced, inner.{References.ref_trees, Tables.{IsFile, IsOwn}}}
 use Rattle.lft_validate.proofs.misplaced.first_wrong.Given as goal
 
 abbrev pub invariant-loop-name : goal.invariant-loop-name

@@ -1,7 +1,7 @@
 use Rattle.std.proofs.Common.{◌≡◌, Any, ⊎_elim, sym, ap, subst, ◌∙◌}
 use Rattle.lft_tree.specs.View.{member_view}
 use Rattle.lft_resolve.specs.Causes.{IsMisplaced, IsMisplacedTime}
-use Rattle.lft_validate.specs.{Members.{time_trees, times_of}, Shown.SomeName}
+use Rattle.lft_validate.specs.{inner.{Members.time_trees, Shown.SomeName}, Members.times_of}
 use Rattle.lft_lists.proofs.Options.{lacking}
 use Rattle.lft_validate.proofs.misplaced.misplaced.Goals as goal
 

@@ -1,6 +1,6 @@
 use Rattle.std.proofs.Common.{◌≡◌, ℕ, ◌<◌, List, Some, Any, slice_get}
 use Rattle.lft_tree.specs.{Tree.ReactorTree, View.member_view}
-use Rattle.lft_resolve.specs.{Causes.IsMisplaced, Tables.{IsFile, IsOwn}, declared.kinds.Role.Role}
+use Rattle.lft_resolve.specs.{Causes.IsMisplaced, inner.Tables.{IsFile, IsOwn}, declared.kinds.Role.Role}
 use Rattle.lft_validate.{specs.Members.names_of, proofs.Roles.roles}
 use Rattle.lft_validate.proofs.misplaced.misplaced_name.Given as goal
 

@@ -1,6 +1,6 @@
 use Rattle.std.proofs.Common.{◌≡◌, ◌++◌, take}
 use Rattle.lft_tree.specs.View.{ref_views}
-use Rattle.lft_resolve.specs.References.{ref_trees}
+use Rattle.lft_resolve.specs.inner.References.{ref_trees}
 use Rattle.lft_validate.proofs.names.push_all.Given as goal
 
 abbrev pub invariant-loop-reference : goal.invariant-loop-reference

@@ -1,6 +1,6 @@
 use Rattle.std.proofs.Common.{◌≡◌, map, take}
 use Rattle.lft_tree.specs.View.{assignment_view}
-use Rattle.lft_validate.specs.Members.{time_trees}
+use Rattle.lft_validate.specs.inner.Members.{time_trees}
 use Rattle.lft_validate.proofs.names.values.Given as goal
 
 abbrev pub invariant-loop-assignment : goal.invariant-loop-assignment

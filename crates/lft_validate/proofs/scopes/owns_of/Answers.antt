@@ -1,7 +1,7 @@
 use Rattle.std.proofs.Common.{take, sym, subst}
 use Rattle.std.specs.List.{AllZip}
 use Rattle.lft_tree.specs.View.{reactor_view}
-use Rattle.lft_resolve.{specs.{References.reactor_trees, Tables.IsOwn}, proofs.{Files.AllZip-last, Twice.map_last}}
+use Rattle.lft_resolve.{specs.inner.{References.reactor_trees, Tables.IsOwn}, proofs.{Files.AllZip-last, Twice.map_last}}
 use Rattle.lft_validate.proofs.scopes.owns_of.Goals as goal
 
 pub loop-reactor-preserved : goal.loop-reactor-preserved

@@ -1,6 +1,6 @@
 use Rattle.std.proofs.Common.{◌≡◌, flat_map, map, take}
 use Rattle.lft_tree.specs.View.{member_view}
-use Rattle.lft_resolve.specs.References.{ref_trees}
+use Rattle.lft_resolve.specs.inner.References.{ref_trees}
 use Rattle.lft_validate.specs.Members.{names_of}
 use Rattle.lft_validate.proofs.sources.all_names.Given as goal
 

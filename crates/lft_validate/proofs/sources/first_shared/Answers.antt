@@ -1,7 +1,7 @@
 use Rattle.std.proofs.Common.{◌≡◌, Contains, sym, ◌∙◌, false}
 use Rattle.lft_tree.specs.View.{ref_view}
-use Rattle.lft_validate.{specs.Seen.has_seen, proofs.sources.first_shared.Goals.{in-Some, in-None}}
-use Rattle.lft_resolve.{specs.References.ref_trees, proofs.Somes.{none_more, none_done, Contains-Any}}
+use Rattle.lft_validate.{specs.inner.Seen.has_seen, proofs.sources.first_shared.Goals.{in-Some, in-None}}
+use Rattle.lft_resolve.{specs.inner.References.ref_trees, proofs.Somes.{none_more, none_done, Contains-Any}}
 use Rattle.lft_lists.proofs.Mapped.{mapped_at}
 use Rattle.lft_validate.proofs.sources.first_shared.Goals as goal
 

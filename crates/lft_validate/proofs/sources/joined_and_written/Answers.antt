@@ -1,7 +1,7 @@
 use Rattle.std.proofs.Common.{arith}
 use Rattle.lft_tree.specs.View.{reactor_view}
 use Rattle.lft_resolve.specs.declared.kinds.Role.TheVariants.{Effect, Destination}
-use Rattle.lft_validate.{specs.Witnesses.IsPlaceOf, proofs.Standing.{joined_first, written_first}}
+use Rattle.lft_validate.{specs.inner.Witnesses.IsPlaceOf, proofs.Standing.{joined_first, written_first}}
 use Rattle.lft_lists.proofs.Options.{found}
 use Rattle.lft_validate.proofs.sources.joined_and_written.Goals as goal
 

@@ -1,6 +1,6 @@
 use Rattle.lft_tree.specs.View.{reactor_view}
 use Rattle.lft_resolve.specs.declared.kinds.Role.TheVariants.{Destination}
-use Rattle.lft_validate.{specs.Witnesses.IsPlaceOf, proofs.Standing.twice_joined}
+use Rattle.lft_validate.{specs.inner.Witnesses.IsPlaceOf, proofs.Standing.twice_joined}
 use Rattle.lft_lists.proofs.Options.{found}
 use Rattle.lft_validate.proofs.sources.joined_twice.Goals as goal
 

@@ -1,7 +1,7 @@
 use Rattle.std.proofs.Common.{take, sym, subst}
 use Rattle.lft_tree.specs.View.{ref_view}
-use Rattle.lft_validate.{specs.Seen.{has_seen, same_ref}, proofs.SameRefs.ref_decides}
-use Rattle.lft_resolve.{specs.{References.ref_trees, Tests.IsTestOf}, proofs.{Tested.test_more, Twice.map_last}}
+use Rattle.lft_validate.{specs.inner.Seen.{has_seen, same_ref}, proofs.SameRefs.ref_decides}
+use Rattle.lft_resolve.{specs.inner.{References.ref_trees, Tests.IsTestOf}, proofs.{Tested.test_more, Twice.map_last}}
 use Rattle.lft_validate.proofs.sources.set_of.Goals as goal
 
 pub loop-name-preserved : goal.loop-name-preserved

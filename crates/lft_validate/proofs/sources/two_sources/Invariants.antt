@@ -1,5 +1,5 @@
 use Rattle.std.proofs.Common.{Any, take}
-use Rattle.lft_resolve.specs.{Causes.WritesTwice, References.reactor_trees}
+use Rattle.lft_resolve.specs.{Causes.WritesTwice, inner.References.reactor_trees}
 use Rattle.lft_validate.proofs.sources.two_sources.Given as goal
 
 abbrev pub invariant-loop-reactor : goal.invariant-loop-reactor

@@ -1,6 +1,6 @@
 use Rattle.std.proofs.Common.{◌≡◌, Any, Contains, ⊎_elim, sym, ap, subst, ◌∙◌}
 use Rattle.lft_tree.specs.View.{reactor_view}
-use Rattle.lft_resolve.specs.{Causes.IsTwice, Kinds.{destinations_in, effects_in}, References.ref_trees}
+use Rattle.lft_resolve.specs.{Causes.IsTwice, Kinds.{destinations_in, effects_in}, inner.References.ref_trees}
 use Rattle.lft_validate.proofs.Standing.{all_destinations, all_effects}
 use Rattle.lft_lists.proofs.Options.{lacking}
 use Rattle.lft_validate.proofs.sources.written_twice.Goals as goal

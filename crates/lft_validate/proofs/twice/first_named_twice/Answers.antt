@@ -1,7 +1,7 @@
 use Rattle.std.proofs.Common.{take, sym, subst}
 use Rattle.lft_tree.specs.View.{ref_view}
-use Rattle.lft_validate.{specs.Seen.{has_seen, same_ref}, proofs.SameRefs.ref_decides}
-use Rattle.lft_resolve.specs.{References.ref_trees, Tests.IsTestOf}
+use Rattle.lft_validate.{specs.inner.Seen.{has_seen, same_ref}, proofs.SameRefs.ref_decides}
+use Rattle.lft_resolve.specs.inner.{References.ref_trees, Tests.IsTestOf}
 use Rattle.lft_resolve.proofs.{Tested.{test_none, test_more, was_new, was_met}, Twice.{map_last, once_more, once_done, once_none}}
 use Rattle.lft_lists.proofs.{Mapped.mapped_at, Options.none_weaker}
 use Rattle.lft_validate.proofs.twice.first_named_twice.Goals as goal

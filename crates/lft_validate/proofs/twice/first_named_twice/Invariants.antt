@@ -1,6 +1,6 @@
 use Rattle.std.proofs.Common.{take}
-use Rattle.lft_validate.specs.Seen.{has_seen}
-use Rattle.lft_resolve.specs.{Causes.IsTwice, References.ref_trees, Tests.IsTestOf}
+use Rattle.lft_validate.specs.inner.Seen.{has_seen}
+use Rattle.lft_resolve.specs.{Causes.IsTwice, inner.{References.ref_trees, Tests.IsTestOf}}
 use Rattle.lft_validate.proofs.twice.first_named_twice.Given as goal
 
 abbrev pub invariant-loop-place : goal.invariant-loop-place

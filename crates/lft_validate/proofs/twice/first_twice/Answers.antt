@@ -1,6 +1,6 @@
 use Rattle.std.proofs.Common.{◌≡◌, ℕ, List, [], Bor, bytes_eq, get_or, take, sym, subst}
 use Rattle.std.proofs.lemmas.Slice.Eq.{bytes_eq-Decides}
-use Rattle.lft_resolve.specs.Tests.{IsTestOf, has_text, texts}
+use Rattle.lft_resolve.specs.inner.Tests.{IsTestOf, has_text, texts}
 use Rattle.lft_resolve.proofs.{Tested.{test_more, was_new, was_met}, Twice.{get_or-itself, map_last, once_more, once_done}}
 use Rattle.lft_lists.proofs.{Mapped.mapped_at, Options.none_weaker}
 use Rattle.lft_validate.proofs.twice.first_twice.Goals as goal

@@ -1,5 +1,5 @@
 use Rattle.std.proofs.Common.{take}
-use Rattle.lft_resolve.specs.{Causes.IsTwice, Tests.{IsTestOf, has_text, texts}}
+use Rattle.lft_resolve.specs.{Causes.IsTwice, inner.Tests.{IsTestOf, has_text, texts}}
 use Rattle.lft_validate.proofs.twice.first_twice.Given as goal
 
 abbrev pub invariant-loop-place : goal.invariant-loop-place

@@ -1,6 +1,6 @@
 use Rattle.std.proofs.Common.{◌≡◌, ◌<◌, true, Some, length, slice_get, sym, ap, ◌∙◌, arith}
 use Rattle.lft_tree.specs.View.{ref_view}
-use Rattle.lft_resolve.{specs.References.ref_trees, proofs.Somes.none_more}
+use Rattle.lft_resolve.{specs.inner.References.ref_trees, proofs.Somes.none_more}
 use Rattle.lft_lists.proofs.Mapped.{mapped_at}
 use Rattle.lft_validate.proofs.twice.name_before.Goals as goal
 

@@ -1,6 +1,6 @@
 use Rattle.std.proofs.Common.{◌≡◌, Some, Any, slice_get, take}
 use Rattle.lft_tree.specs.Tree.{RefTree}
-use Rattle.lft_resolve.specs.References.{ref_trees}
+use Rattle.lft_resolve.specs.inner.References.{ref_trees}
 use Rattle.lft_validate.proofs.twice.name_before.Given as goal
 
 abbrev pub invariant-loop-before : goal.invariant-loop-before

@@ -1,6 +1,6 @@
 use Rattle.std.proofs.Common.{◌≡◌, map, take}
 use Rattle.lft_tree.specs.View.{assignment_view}
-use Rattle.lft_resolve.specs.Tests.{texts}
+use Rattle.lft_resolve.specs.inner.Tests.{texts}
 use Rattle.lft_validate.proofs.twice.names_in.Given as goal
 
 abbrev pub invariant-loop-assignment : goal.invariant-loop-assignment

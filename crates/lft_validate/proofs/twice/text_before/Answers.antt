@@ -1,6 +1,6 @@
 use Rattle.std.proofs.Common.{◌≡◌, ℕ, ◌<◌, true, List, [], Some, Bor, length, get_or, slice_get, sym, ap, ◌∙◌, arith}
 use Rattle.std.proofs.lemmas.Slice.Eq.{bytes_eq-Decides}
-use Rattle.lft_resolve.{specs.Tests.texts, proofs.{Somes.none_more, Twice.get_or-itself}}
+use Rattle.lft_resolve.{specs.inner.Tests.texts, proofs.{Somes.none_more, Twice.get_or-itself}}
 use Rattle.lft_lists.proofs.Mapped.{mapped_at}
 use Rattle.lft_validate.proofs.twice.text_before.Goals as goal
 

@@ -1,5 +1,5 @@
 use Rattle.std.proofs.Common.{◌≡◌, ℕ, List, Some, Any, slice_get, take}
-use Rattle.lft_resolve.specs.Tests.{texts}
+use Rattle.lft_resolve.specs.inner.Tests.{texts}
 use Rattle.lft_validate.proofs.twice.text_before.Given as goal
 
 abbrev pub invariant-loop-before : goal.invariant-loop-before

@@ -1,6 +1,6 @@
 use Rattle.std.proofs.Common.{Any, map, take}
 use Rattle.lft_tree.specs.{Tree.ReactorTree, View.assignment_view}
-use Rattle.lft_resolve.specs.{Causes.LacksParameter, Tables.IsOutside}
+use Rattle.lft_resolve.specs.{Causes.LacksParameter, inner.Tables.IsOutside}
 use Rattle.lft_validate.proofs.unknown.first_for_none.Given as goal
 
 abbrev pub invariant-loop-value : goal.invariant-loop-value

@@ -1,6 +1,6 @@
 use Rattle.std.proofs.Common.{List, Any, take}
 use Rattle.lft_tree.specs.Tree.{ReactorTree}
-use Rattle.lft_resolve.specs.{References.ref_trees, Tables.{IsFile, IsOwn}}
+use Rattle.lft_resolve.specs.inner.{References.ref_trees, Tables.{IsFile, IsOwn}}
 use Rattle.lft_validate.specs.Findings.{IsNothing}
 use Rattle.lft_validate.proofs.unknown.first_nothing.Given as goal
 

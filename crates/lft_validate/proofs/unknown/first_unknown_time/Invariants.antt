@@ -1,7 +1,7 @@
 use Rattle.std.proofs.Common.{Any, take}
 use Rattle.lft_tree.specs.Tree.{ReactorTree}
-use Rattle.lft_resolve.specs.{Causes.IsUnknownTime, Tables.IsOwn}
-use Rattle.lft_validate.specs.Members.{time_trees}
+use Rattle.lft_resolve.specs.{Causes.IsUnknownTime, inner.Tables.IsOwn}
+use Rattle.lft_validate.specs.inner.Members.{time_trees}
 use Rattle.lft_validate.proofs.unknown.first_unknown_time.Given as goal
 
 abbrev pub invariant-loop-time : goal.invariant-loop-time

@@ -1,7 +1,7 @@
 use Rattle.std.proofs.Common.{List, Any, IfNone, IsSomeAnd, ⊎_elim}
 use Rattle.lft_tree.specs.{Tree.{ReactorTree, instance_in}, View.member_view}
-use Rattle.lft_resolve.specs.{Causes.{GivesUnknown, IsUnknownTime}, Tables.{IsFile, IsOwn}}
-use Rattle.lft_validate.{specs.{Findings.IsNothing, Members.times_of, Shown.{ShowsUnknown, SomeName}}, proofs.Turns.{both, none_both, weaker}}
+use Rattle.lft_resolve.specs.{Causes.{GivesUnknown, IsUnknownTime}, inner.Tables.{IsFile, IsOwn}}
+use Rattle.lft_validate.{specs.{Findings.IsNothing, Members.times_of, inner.Shown.{ShowsUnknown, SomeName}}, proofs.Turns.{both, none_both, weaker}}
 use Rattle.lft_lists.proofs.Options.{lacking, none_weaker}
 use Rattle.lft_validate.proofs.unknown.unknown.Goals as goal
 

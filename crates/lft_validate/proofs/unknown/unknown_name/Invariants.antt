@@ -1,7 +1,7 @@
 use Rattle.std.proofs.Common.{◌≡◌, ℕ, ◌<◌, List, Some, Any, slice_get}
 use Rattle.lft_tree.specs.{Tree.ReactorTree, View.member_view}
 use Rattle.lft_validate.{specs.{Findings.IsNothing, Members.names_of}, proofs.Roles.roles}
-use Rattle.lft_resolve.specs.{Tables.{IsFile, IsOwn}, declared.kinds.Role.Role}
+use Rattle.lft_resolve.specs.{inner.Tables.{IsFile, IsOwn}, declared.kinds.Role.Role}
 use Rattle.lft_validate.proofs.unknown.unknown_name.Given as goal
 
 abbrev pub invariant-loop-role : goal.invariant-loop-role

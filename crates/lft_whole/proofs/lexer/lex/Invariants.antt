@@ -1,5 +1,5 @@
 use Rattle.std.proofs.Common.{◌-◌, ◌≤◌, length}
-use Rattle.lft_whole.{specs.Tokens.StandBetween, proofs.Cuts.Front}
+use Rattle.lft_whole.{specs.inner.Tokens.StandBetween, proofs.Cuts.Front}
 use Rattle.lft_whole.proofs.lexer.lex.Given as goal
 
 abbrev pub invariant-pieces : goal.invariant-pieces

@@ -1,5 +1,5 @@
 use Rattle.std.proofs.Common.{◌-◌, ◌≤◌, length}
-use Rattle.lft_whole.{specs.Pieces.QuoteNothing, proofs.CodeEnds.CodeLeft}
+use Rattle.lft_whole.{specs.inner.Pieces.QuoteNothing, proofs.CodeEnds.CodeLeft}
 use Rattle.lft_whole.proofs.quotes.past_code.Given as goal
 
 abbrev pub invariant-code : goal.invariant-code

@@ -1,5 +1,5 @@
 use Rattle.std.proofs.Common.{[], ap, inl, inr, refl}
-use Rattle.lft_program.specs.Refusals.{cause_of}
+use Rattle.lft_program.specs.inner.Refusals.{cause_of}
 use Rattle.lft_whole_driver.{specs.{Unlowered.AreRefused, declared.told.Unlowered.Unlowered}, proofs.{Sameness.the_program, Saying.told_says}}
 use Rattle.lft_whole_driver.proofs.program.program_of.Goals as goal
 

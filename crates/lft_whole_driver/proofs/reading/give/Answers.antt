@@ -1,6 +1,6 @@
 use Rattle.std.proofs.Common.{[], refl, subst}
-use Rattle.lft_whole_parser.specs.Imports.Files.{RefusesNext}
-use Rattle.lft_whole_driver.{specs.{Told.IsTold, Unlowered.IsOfNext}, proofs.Saying.told_says}
+use Rattle.lft_whole_parser.specs.inner.Imports.Files.{RefusesNext}
+use Rattle.lft_whole_driver.{specs.inner.{Told.IsTold, Unlowered.IsOfNext}, proofs.Saying.told_says}
 use Rattle.lft_whole_driver.proofs.reading.give.Goals as goal
 
 pub returns-in-Err-clause-refused : goal.returns-in-Err-clause-refused

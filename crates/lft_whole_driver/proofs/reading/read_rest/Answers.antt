@@ -1,6 +1,6 @@
 use Rattle.std.proofs.Common.{inl, inr, subst, sym}
 use Rattle.std.proofs.lemmas.Result.{err_from_is_err_and}
-use Rattle.lft_whole_driver.specs.{Lowered.BeginsAs, Unlowered.{IsOfNext, IsOfRest, IsOfUnread}}
+use Rattle.lft_whole_driver.specs.inner.{Lowered.BeginsAs, Unlowered.{IsOfNext, IsOfRest, IsOfUnread}}
 use Rattle.lft_whole_driver.proofs.{Gathered.{begins_too, begun, further, grown, later_refused}, Saying.says_too}
 use Rattle.lft_whole_driver.proofs.reading.read_rest.Goals as goal
 

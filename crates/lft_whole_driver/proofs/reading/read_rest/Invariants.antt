@@ -1,5 +1,5 @@
-use Rattle.lft_whole_parser.specs.Imports.Files.{AreSources}
-use Rattle.lft_whole_driver.specs.Lowered.{BeginsAs}
+use Rattle.lft_whole_parser.specs.inner.Imports.Files.{AreSources}
+use Rattle.lft_whole_driver.specs.inner.Lowered.{BeginsAs}
 use Rattle.lft_whole_driver.proofs.reading.read_rest.Given as goal
 
 abbrev pub invariant-loop : goal.invariant-loop

@@ -1,7 +1,7 @@
 use Rattle.std.proofs.Common.{inl, inr, subst}
 use Rattle.std.proofs.lemmas.Result.{err_from_is_err_and}
-use Rattle.lft_whole_parser.specs.Imports.Files.{HasOneMore}
-use Rattle.lft_whole_driver.specs.Unlowered.{IsOfNext, IsOfReading, IsOfRest, Says}
+use Rattle.lft_whole_parser.specs.inner.Imports.Files.{HasOneMore}
+use Rattle.lft_whole_driver.specs.{inner.Unlowered.{IsOfNext, IsOfRest}, Unlowered.{IsOfReading, Says}}
 use Rattle.lft_whole_driver.proofs.{Gathered.{all_read, begun_by, first_read, first_refused, goes_on}, Saying.says_too}
 use Rattle.lft_whole_driver.proofs.reading.read_sources.Goals as goal
 

@@ -1,7 +1,7 @@
 use Rattle.std.proofs.Common.{length, subst}
 use Rattle.std.specs.Prelude.{IfSome}
-use Rattle.lft_whole_parser.specs.Imports.Files.{IsNamedBy, next_path}
-use Rattle.lft_whole_driver.{specs.Unlowered.{IsAt, IsOfUnread}, proofs.{Gathered.unread_at, Saying.says_too}}
+use Rattle.lft_whole_parser.specs.inner.Imports.Files.{IsNamedBy, next_path}
+use Rattle.lft_whole_driver.{specs.inner.Unlowered.{IsAt, IsOfUnread}, proofs.{Gathered.unread_at, Saying.says_too}}
 use Rattle.lft_whole_driver.proofs.reading.read_wanted.Goals as goal
 
 pub returns-in-Some : goal.returns-in-Some

@@ -1,5 +1,5 @@
 use Rattle.std.proofs.Common.{refl}
-use Rattle.lft_whole_driver.{specs.Unlowered.IsAt, proofs.Saying.told_this}
+use Rattle.lft_whole_driver.{specs.inner.Unlowered.IsAt, proofs.Saying.told_this}
 use Rattle.lft_whole_driver.proofs.reading.unread.Goals as goal
 
 pub returns-in-Ok : goal.returns-in-Ok

@@ -1,7 +1,7 @@
 use Rattle.std.proofs.Common.{◌≡◌, ◌-◌}
 use Rattle.std.specs.Prelude.{find}
 use Rattle.lft_whole_parser.specs.Files.{decentralized_at, decentralized, places}
-use Rattle.lft_whole.specs.Parts.Parsing.{source}
+use Rattle.lft_whole.specs.inner.Parts.Parsing.{source}
 use Rattle.lft_whole_parser.proofs.files.decentralized.Given as goal
 
 abbrev pub invariant-loop-at : goal.invariant-loop-at

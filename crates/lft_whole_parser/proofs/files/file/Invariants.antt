@@ -1,5 +1,5 @@
 use Rattle.std.proofs.Common.{◌-◌, Ok}
-use Rattle.lft_whole.{specs.Parts.{Language.on, Lexeme.is_there, View.file_view, Parsing.{count, Within, source}}, proofs.PartsLemmas.Loop.Loop}
+use Rattle.lft_whole.{specs.{Parts.{Language.on, Lexeme.is_there, View.file_view}, inner.Parts.Parsing.{count, Within, source}}, proofs.PartsLemmas.Loop.Loop}
 use Rattle.lft_whole_parser.specs.Files as Files
 use Rattle.lft_whole_parser.proofs.files.file.Given as goal
 

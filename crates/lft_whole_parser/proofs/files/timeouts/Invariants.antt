@@ -1,7 +1,7 @@
 use Rattle.std.proofs.Common.{◌≡◌, ◌-◌, ◌++◌}
 use Rattle.std.specs.Prelude.{filter_map}
 use Rattle.lft_whole_parser.specs.Files.{timeout_at, timeouts, places}
-use Rattle.lft_whole.specs.Parts.Parsing.{source}
+use Rattle.lft_whole.specs.inner.Parts.Parsing.{source}
 use Rattle.lft_whole_parser.proofs.files.timeouts.Given as goal
 
 abbrev pub invariant-loop-at : goal.invariant-loop-at

@@ -1,5 +1,6 @@
 use Rattle.std.proofs.Common.{◌-◌, Ok, map}
-use Rattle.lft_whole.specs.Parts.{Language.{sign, isnt, symbol, one_more, listed, ◌>>=◌}, Parsing.{count, NotBefore, source}, View.assignment_view}
+use Rattle.lft_whole.specs.Parts.{Language.{sign, isnt, symbol, one_more, listed, ◌>>=◌}, View.assignment_view}
+use Rattle.lft_whole.specs.inner.Parts.Parsing.{count, NotBefore, source}
 use Rattle.lft_whole.proofs.PartsLemmas.Loop.{Loop}
 use Rattle.lft_whole_parser.specs.Grammar as Grammar
 use Rattle.lft_whole_parser.proofs.instances.assignments.Given as goal

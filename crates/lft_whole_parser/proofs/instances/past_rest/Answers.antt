@@ -1,5 +1,5 @@
 use Rattle.std.proofs.Common.{refl, sym, ◌∙◌, arith}
-use Rattle.lft_whole.{specs.Parts.{Language.{ignored, this}, Parsing.source}, proofs.PartsLemmas.Loop.{loop_opens, loop_turns, loop_done}}
+use Rattle.lft_whole.{specs.{Parts.Language.{ignored, this}, inner.Parts.Parsing.source}, proofs.PartsLemmas.Loop.{loop_opens, loop_turns, loop_done}}
 use Rattle.lft_whole_parser.specs.Grammar.{host_rest}
 use Rattle.lft_whole_parser.specs.Grammar as Grammar
 use Rattle.lft_whole_parser.proofs.instances.past_rest.Goals as goal

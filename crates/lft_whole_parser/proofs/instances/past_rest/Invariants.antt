@@ -1,5 +1,5 @@
 use Rattle.std.proofs.Common.{◌-◌, Ok}
-use Rattle.lft_whole.{specs.Parts.{Language.{ignored, this}, Parsing.{count, NotBefore, source}}, proofs.PartsLemmas.Loop.Loop}
+use Rattle.lft_whole.{specs.{Parts.Language.{ignored, this}, inner.Parts.Parsing.{count, NotBefore, source}}, proofs.PartsLemmas.Loop.Loop}
 use Rattle.lft_whole_parser.specs.Grammar as Grammar
 use Rattle.lft_whole_parser.proofs.instances.past_rest.Given as goal
 

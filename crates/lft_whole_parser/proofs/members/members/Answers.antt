@@ -1,6 +1,6 @@
 use Rattle.std.proofs.Common.{◌≡◌, ℕ, ◌<◌, ◌≤◌, [], map, not, true, Ok, refl, sym, ap, ◌∙◌, arith}
 use Rattle.std.proofs.lemmas.Result.{err_from_is_err_and}
-use Rattle.lft_whole.specs.Parts.{Language.{sign, isnt, symbol, ◌>>=◌}, View.member_view, Parsing.source}
+use Rattle.lft_whole.specs.{Parts.{Language.{sign, isnt, symbol, ◌>>=◌}, View.member_view}, inner.Parts.Parsing.source}
 use Rattle.lft_whole.proofs.PartsLemmas.Loop.{loop_begins, loop_turns, loop_fails, loop_done}
 use Rattle.lft_whole_parser.specs.Grammar.{members}
 use Rattle.lft_whole_parser.specs.Grammar as Grammar

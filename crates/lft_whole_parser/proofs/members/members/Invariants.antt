@@ -1,5 +1,6 @@
 use Rattle.std.proofs.Common.{◌-◌, Ok, map}
-use Rattle.lft_whole.{specs.Parts.{Language.{sign, isnt, symbol, ◌>>=◌}, Parsing.{count, NotBefore, source}, View.member_view}, proofs.PartsLemmas.Loop.Loop}
+use Rattle.lft_whole.specs.{Parts.{Language.{sign, isnt, symbol, ◌>>=◌}, View.member_view}, inner.Parts.Parsing.{count, NotBefore, source}}
+use Rattle.lft_whole.proofs.PartsLemmas.Loop.{Loop}
 use Rattle.lft_whole_parser.specs.Grammar as Grammar
 use Rattle.lft_whole_parser.proofs.members.members.Given as goal
 

@@ -1,6 +1,7 @@
 use Rattle.std.proofs.Common.{Ok, refl, sym, ◌∙◌, arith}
 use Rattle.std.proofs.lemmas.Result.{err_from_is_err_and}
-use Rattle.lft_whole.{specs.Parts.{Language.ignored, Parsing.source}, proofs.PartsLemmas.Loop.{bind_fails, loop_opens, loop_turns, loop_fails, loop_done}}
+use Rattle.lft_whole.specs.{Parts.Language.ignored, inner.Parts.Parsing.source}
+use Rattle.lft_whole.proofs.PartsLemmas.Loop.{bind_fails, loop_opens, loop_turns, loop_fails, loop_done}
 use Rattle.lft_whole_parser.specs.Grammar.{handlers}
 use Rattle.lft_whole_parser.specs.Grammar as Grammar
 use Rattle.lft_whole_parser.proofs.reactions.past_handlers.Goals as goal

@@ -1,5 +1,6 @@
 use Rattle.std.proofs.Common.{◌-◌, Ok, map}
-use Rattle.lft_whole.{specs.Parts.{Language.{sign, symbol, one_more, ◌>>◌}, Parsing.{count, Further, source}, View.name_view}, proofs.PartsLemmas.Loop.Loop}
+use Rattle.lft_whole.specs.{Parts.{Language.{sign, symbol, one_more, ◌>>◌}, View.name_view}, inner.Parts.Parsing.{count, Further, source}}
+use Rattle.lft_whole.proofs.PartsLemmas.Loop.{Loop}
 use Rattle.lft_whole_parser.specs.Grammar as Grammar
 use Rattle.lft_whole_parser.proofs.reactors.base_list.Given as goal
 

@@ -1,6 +1,6 @@
 use Rattle.std.proofs.Common.{◌≡◌, ℕ, ◌+◌, ◌<◌, ◌≤◌, false, Bool, Ok, refl, sym, ap, ◌∙◌, arith}
 use Rattle.lft_whole_parser.specs.Grammar.{kind_words}
-use Rattle.lft_whole.{specs.Parts.Parsing.source, proofs.PartsLemmas.Loop.{loop_opens, loop_turns, loop_done}}
+use Rattle.lft_whole.{specs.inner.Parts.Parsing.source, proofs.PartsLemmas.Loop.{loop_opens, loop_turns, loop_done}}
 use Rattle.lft_whole_parser.specs.Grammar as Grammar
 use Rattle.lft_whole_parser.proofs.reactors.kind_words.Goals as goal
 

@@ -1,5 +1,5 @@
 use Rattle.std.proofs.Common.{◌-◌, Ok, map}
-use Rattle.lft_whole.specs.Parts.{Language.{sign, isnt, symbol, one_more, listed, ◌>>=◌}, Parsing.{count, NotBefore, source}, View.parameter_view}
+use Rattle.lft_whole.specs.{Parts.{Language.{sign, isnt, symbol, one_more, listed, ◌>>=◌}, View.parameter_view}, inner.Parts.Parsing.{count, NotBefore, source}}
 use Rattle.lft_whole.proofs.PartsLemmas.Loop.{Loop}
 use Rattle.lft_whole_parser.specs.Grammar as Grammar
 use Rattle.lft_whole_parser.proofs.reactors.parameter_list.Given as goal

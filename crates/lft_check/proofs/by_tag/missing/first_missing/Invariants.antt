@@ -1,6 +1,6 @@
 use Rattle.std.proofs.Common.{ℕ}
 use Rattle.lft_tag.specs.{declared.Tag.Tag, Tags.UpTo}
-use Rattle.lft_check.{specs.ByTag.{Indexes.AreDue, Slices.IsMissing}, proofs.ByTagLemmas.Missed.FirstBelow}
+use Rattle.lft_check.{specs.inner.ByTag.{Indexes.AreDue, Slices.IsMissing}, proofs.ByTagLemmas.Missed.FirstBelow}
 use Rattle.lft_check.proofs.by_tag.missing.first_missing.Given as goal
 
 abbrev pub invariant-loop-reaction : goal.invariant-loop-reaction

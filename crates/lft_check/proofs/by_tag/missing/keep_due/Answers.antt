@@ -1,5 +1,5 @@
 use Rattle.std.proofs.Common.{List, Bool, ◌+◌, sym, ◌∙◌, subst}
-use Rattle.lft_check.specs.ByTag.Indexes.{AreDue, AreMarkedTo}
+use Rattle.lft_check.specs.inner.ByTag.Indexes.{AreDue, AreMarkedTo}
 use Rattle.lft_check.proofs.{ByTagLemmas.Begun.{due_more, marked_more, marked_stay}, by_tag.missing.keep_due.Goals.{in-Some, in_default}}
 use Rattle.lft_check.proofs.by_tag.missing.keep_due.Goals as goal
 

@@ -1,4 +1,4 @@
-use Rattle.lft_check.specs.ByTag.Indexes.{AreDue, AreMarkedTo}
+use Rattle.lft_check.specs.inner.ByTag.Indexes.{AreDue, AreMarkedTo}
 use Rattle.lft_check.proofs.by_tag.missing.keep_due.Given as goal
 
 abbrev pub invariant-loop-number : goal.invariant-loop-number

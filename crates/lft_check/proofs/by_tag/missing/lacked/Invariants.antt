@@ -1,5 +1,5 @@
 use Rattle.lft_rows.specs.Presence.Traces.{LeastTag}
-use Rattle.lft_check.{specs.ByTag.Least.AreTriggered, proofs.ByTagLemmas.Missed.LacksBefore}
+use Rattle.lft_check.{specs.inner.ByTag.Least.AreTriggered, proofs.ByTagLemmas.Missed.LacksBefore}
 use Rattle.lft_check.proofs.by_tag.missing.lacked.Given as goal
 
 abbrev pub invariant-loop-place : goal.invariant-loop-place

@@ -1,8 +1,8 @@
 use Rattle.std.proofs.Common.{◌≡◌, Some, ap, ◌∙◌, sym, subst, refl, arith}
 use Rattle.lft_tag.specs.{declared.Tag.Tag, Tags.{Before, UpTo}, Shifts.shifted}
 use Rattle.lft_model.specs.Presence.{stop}
-use Rattle.lft_rows.{specs.Presence.{Traces.LeastTag, Causes.{tag_of, IsSkip}}, proofs.PresenceLemmas.{Lists.not_true, Skips.up_to_stop}}
-use Rattle.lft_check.specs.ByTag.Least.{HasTag, LacksCause}
+use Rattle.lft_rows.{specs.{Presence.Traces.LeastTag, inner.Presence.Causes.{tag_of, IsSkip}}, proofs.PresenceLemmas.{Lists.not_true, Skips.up_to_stop}}
+use Rattle.lft_check.specs.inner.ByTag.Least.{HasTag, LacksCause}
 use Rattle.lft_check.proofs.ByTagLemmas.{Searched.mark_more, Walks.{walk_over, walk_past, walk_late, walk_finds, walk_goes_on}}
 use Rattle.lft_check.proofs.by_tag.missing.lacked_cause.Goals as goal
 

@@ -1,5 +1,5 @@
 use Rattle.std.proofs.Common.{◌-◌, length}
-use Rattle.lft_check.{specs.ByTag.Least.AreTriggered, proofs.ByTagLemmas.Walks.IsWalked}
+use Rattle.lft_check.{specs.inner.ByTag.Least.AreTriggered, proofs.ByTagLemmas.Walks.IsWalked}
 use Rattle.lft_check.proofs.by_tag.missing.lacked_cause.Given as goal
 
 abbrev pub invariant-loop-place : goal.invariant-loop-place

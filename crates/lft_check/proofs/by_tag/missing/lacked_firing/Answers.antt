@@ -2,7 +2,7 @@ use Rattle.std.proofs.Common.{◌≡◌, Option, ap, sym, subst, arith}
 use Rattle.lft_tag.specs.declared.Tag.{Tag}
 use Rattle.lft_model.specs.Presence.{stop}
 use Rattle.lft_rows.specs.Presence.Traces.{LeastTag}
-use Rattle.lft_check.specs.ByTag.Least.{LacksFiring}
+use Rattle.lft_check.specs.inner.ByTag.Least.{LacksFiring}
 use Rattle.lft_check.proofs.ByTagLemmas.{Searched.mark_more, Firings.{walk_none, walk_fires, walk_finds, walk_goes_on, walk_ends}}
 use Rattle.lft_check.proofs.by_tag.missing.lacked_firing.Goals as goal
 

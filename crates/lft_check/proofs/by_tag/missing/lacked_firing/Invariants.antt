@@ -1,5 +1,5 @@
 use Rattle.std.proofs.Common.{◌+◌, ◌-◌}
-use Rattle.lft_check.{specs.ByTag.Least.AreTriggered, proofs.ByTagLemmas.Firings.WalkedTo}
+use Rattle.lft_check.{specs.inner.ByTag.Least.AreTriggered, proofs.ByTagLemmas.Firings.WalkedTo}
 use Rattle.lft_check.proofs.by_tag.missing.lacked_firing.Given as goal
 
 abbrev pub invariant-loop-time : goal.invariant-loop-time

@@ -1,4 +1,4 @@
-use Rattle.lft_check.{specs.ByTag.Needed.AreAdded, proofs.ByTagLemmas.Needing.IsLast}
+use Rattle.lft_check.{specs.inner.ByTag.Needed.AreAdded, proofs.ByTagLemmas.Needing.IsLast}
 use Rattle.lft_check.proofs.by_tag.needed.add_timers.Given as goal
 
 abbrev pub invariant-loop-place : goal.invariant-loop-place

@@ -1,6 +1,6 @@
 use Rattle.std.proofs.Common.{None, List, sym, subst}
 use Rattle.lft_ir.specs.{declared.steps.row.Row.Row, Steps.Fits.RowsFit}
-use Rattle.lft_rows.specs.Firsts.{FirstRow}
+use Rattle.lft_rows.specs.inner.Firsts.{FirstRow}
 use Rattle.lft_check.proofs.ByTagLemmas.Indexed.{cuttable}
 use Rattle.lft_check.proofs.by_tag.sharing.slice_rows_shared.Goals as goal
 

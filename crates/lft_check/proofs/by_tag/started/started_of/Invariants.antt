@@ -1,5 +1,5 @@
 use Rattle.std.proofs.Common.{◌≡◌, ◌≤◌, take}
-use Rattle.lft_check.specs.ByTag.Indexes.{HasRunsTo}
+use Rattle.lft_check.specs.inner.ByTag.Indexes.{HasRunsTo}
 use Rattle.lft_rows.specs.Slices.{runs_in}
 use Rattle.lft_check.proofs.by_tag.started.started_of.Given as goal
 

@@ -1,6 +1,6 @@
 use Rattle.std.proofs.Common.{◌≡◌, ℕ}
 use Rattle.lft_lists.proofs.Options.{lacking}
-use Rattle.lft_classes.{specs.Needs.{IsParameterIn, IsTimeIn}, proofs.{Marking.{marks_as, marks_none}, Passing.{time_none, time_one}}}
+use Rattle.lft_classes.{specs.inner.Needs.{IsParameterIn, IsTimeIn}, proofs.{Marking.{marks_as, marks_none}, Passing.{time_none, time_one}}}
 use Rattle.lft_classes.proofs.deciding.Needs.note_time.Goals as goal
 
 pub returns-in_default-clause-timed : goal.returns-in_default-clause-timed

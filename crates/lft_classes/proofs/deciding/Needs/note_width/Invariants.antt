@@ -1,5 +1,5 @@
 use Rattle.std.proofs.Common.{◌≡◌}
-use Rattle.lft_classes.{specs.Needs.Marks, proofs.{Marking.AnyBelow, Passing.IsTermIn}}
+use Rattle.lft_classes.{specs.inner.Needs.Marks, proofs.{Marking.AnyBelow, Passing.IsTermIn}}
 use Rattle.lft_classes.proofs.deciding.Needs.note_width.Given as goal
 
 abbrev pub invariant-loop-term : goal.invariant-loop-term

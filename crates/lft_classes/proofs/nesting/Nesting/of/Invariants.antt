@@ -1,5 +1,5 @@
 use Rattle.std.proofs.Common.{◌≡◌, ◌<◌, ℕ, Some, slice_get}
-use Rattle.lft_classes.specs.{declared.scopes.Scopes.Scopes, Built.{AreNoted, cores}, Makings.AreShapes, Needs.IsDecided, Shapes.{inside, tables}}
+use Rattle.lft_classes.specs.{declared.scopes.Scopes.Scopes, Built.{AreNoted, cores}, inner.Makings.AreShapes, Needs.IsDecided, Shapes.{inside, tables}}
 use Rattle.lft_classes.specs.Walks.{IsBehind}
 use Rattle.lft_classes.proofs.nesting.Nesting.of.Given as goal
 

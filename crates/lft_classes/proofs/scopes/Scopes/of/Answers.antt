@@ -1,5 +1,5 @@
 use Rattle.std.proofs.Common.{sym, ap, subst}
-use Rattle.lft_classes.{specs.Scopes.{AreNumbered, AreOwnScopes, placed}, proofs.Meanings.{all_imports, all_meant, all_once}}
+use Rattle.lft_classes.{specs.{Scopes.{AreNumbered, placed}, inner.Scopes.AreOwnScopes}, proofs.Meanings.{all_imports, all_meant, all_once}}
 use Rattle.lft_classes.proofs.scopes.Scopes.of.Goals as goal
 
 pub returns : goal.returns

@@ -1,7 +1,7 @@
 use Rattle.std.proofs.Common.{◌≡◌, ℕ, List, Some, slice_get, map, ap, subst, ◌∙◌}
 use Rattle.std.specs.Prelude.{flat_map}
-use Rattle.lft_resolve.specs.{Places.{IsIndexOf, place_in}, Tests.texts}
-use Rattle.lft_classes.specs.{declared.shapes.{Named.Named, Thing.Thing}, Naming.{EachNamed, HasNamed}}
+use Rattle.lft_resolve.specs.{inner.{Places.IsIndexOf, Tests.texts}, Places.place_in}
+use Rattle.lft_classes.specs.{declared.shapes.{Named.Named, Thing.Thing}, inner.Naming.{EachNamed, HasNamed}}
 use Rattle.lft_classes.specs.Built.{HasName, HasNoForeign, members_at, parameters_at}
 use Rattle.lft_classes.proofs.Naming.{is_thing, thing_of}
 use Rattle.lft_classes.proofs.shapes.Shape.of.Goals as goal

@@ -1,6 +1,6 @@
 use Rattle.std.proofs.Common.{◌≡◌, ◌∷◌, ◌++◌, [], true, false, reverse, sym, ap, subst, ◌∙◌}
 use Rattle.std.specs.{BTreeSet.contains, Ordering.nat_cmp}
-use Rattle.lft_classes.{specs.{declared.walk.Visit.Visit, Walks.EndsIn}, proofs.{Listing.entered_ordered, Sets.{kept, only, was_new}, Walking.entered_as}}
+use Rattle.lft_classes.{specs.{declared.walk.Visit.Visit, inner.Walks.EndsIn}, proofs.{Listing.entered_ordered, Sets.{kept, only, was_new}, Walking.entered_as}}
 use Rattle.lft_classes.proofs.walk.Walk.enter.Goals as goal
 
 pub returns-then-is_new-clause-new : goal.returns-then-is_new-clause-new

@@ -1,6 +1,6 @@
 use Rattle.std.proofs.Common.{length, ap, refl, arith}
 use Rattle.std.proofs.lemmas.{List.length_push, Option.MatchOption-at_none}
-use Rattle.lft_classes.{specs.Walks.is_done, proofs.{Listing.moved_as_ordered, Walking.moved_as}}
+use Rattle.lft_classes.{specs.inner.Walks.is_done, proofs.{Listing.moved_as_ordered, Walking.moved_as}}
 use Rattle.lft_classes.proofs.walk.Walk.pass.Goals as goal
 
 pub returns-clause-walk : goal.returns-clause-walk

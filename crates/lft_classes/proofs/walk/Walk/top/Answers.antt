@@ -1,5 +1,5 @@
 use Rattle.std.proofs.Common.{◌≡◌, ◌-◌, length, Some, None, slice_get, sym, subst, ◌∙◌}
-use Rattle.lft_classes.{specs.Walks.{IsTop, IsOver}, proofs.Walking.{some_of, none_of, last_some, last_none}}
+use Rattle.lft_classes.{specs.inner.Walks.{IsTop, IsOver}, proofs.Walking.{some_of, none_of, last_some, last_none}}
 use Rattle.lft_classes.proofs.walk.Walk.top.Goals as goal
 
 pub returns-clause-some : goal.returns-clause-some

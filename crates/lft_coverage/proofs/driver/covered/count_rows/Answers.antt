@@ -1,6 +1,6 @@
 use Rattle.std.proofs.Common.{◌≡◌, ◌+◌, ◌∙◌, Some, List, length, slice_get, arith, sym, ap, subst}
 use Rattle.lft_ir.specs.{Parts.Parts, Steps.Fits.RowsFit, declared.steps.row.Row.Row}
-use Rattle.lft_counts.specs.{Counts.KeepsRows, Cover.IsCover}
+use Rattle.lft_counts.specs.{inner.Counts.KeepsRows, Cover.IsCover}
 use Rattle.lft_coverage.proofs.driver.covered.count_rows.Goals as goal
 
 pub add-requires : goal.add-requires

@@ -2,7 +2,7 @@ use Rattle.std.proofs.Common.{◌≡◌, ◌∙◌, List, ℕ, ap, string_bytes}
 use Rattle.lft_ir.specs.Parts.{Parts}
 use Rattle.lft_check.specs.declared.verdict.Verdict.{Verdict}
 use Rattle.lft_driver.{specs.Lines.line_of, proofs.Behind.{no_text, text_refused, text_written}}
-use Rattle.lft_coverage.specs.Driver.Covered.{IsCoverText, verdict_in}
+use Rattle.lft_coverage.specs.inner.Driver.Covered.{IsCoverText, verdict_in}
 use Rattle.lft_coverage.proofs.DriverLemmas.Covering.{broken_text, counts_of, listed_text, people_text, refused_as, written_as}
 use Rattle.lft_coverage.proofs.driver.texts.write_covered.Goals as goal
 

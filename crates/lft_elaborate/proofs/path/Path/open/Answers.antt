@@ -1,6 +1,6 @@
 use Rattle.std.proofs.Common.{◌≡◌, false, true}
 use Rattle.std.specs.BTreeSet.{contains}
-use Rattle.lft_elaborate.{specs.Finding.{is_open, pair_cmp}, proofs.Finding.{circle, next_begun, path_begun}}
+use Rattle.lft_elaborate.{specs.inner.Finding.{is_open, pair_cmp}, proofs.Finding.{circle, next_begun, path_begun}}
 use Rattle.lft_classes.proofs.Sets.{was_known, was_new}
 use Rattle.lft_elaborate.proofs.path.Path.open.Goals as goal
 

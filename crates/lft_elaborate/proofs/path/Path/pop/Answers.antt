@@ -1,4 +1,4 @@
-use Rattle.lft_elaborate.{specs.Finding.is_open, proofs.Finding.{next_left, path_closed, path_left}}
+use Rattle.lft_elaborate.{specs.inner.Finding.is_open, proofs.Finding.{next_left, path_closed, path_left}}
 use Rattle.lft_elaborate.proofs.path.Path.pop.Goals as goal
 
 pub returns-then-step-clause-path : goal.returns-then-step-clause-path

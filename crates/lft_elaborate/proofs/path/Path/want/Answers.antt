@@ -1,6 +1,7 @@
 use Rattle.std.proofs.Common.{◌≡◌, ◌<◌, [], ◌∷◌, ◌++◌, List, get_or, length, sym, subst, arith}
 use Rattle.std.proofs.lemmas.Option.{slice_get-get_or}
-use Rattle.lft_elaborate.{specs.{declared.path.Step.Step, Finding.{AreNext, ArePath, HasWanted, is_open}}, proofs.Finding.{next_wanted, path_wanted, shut}}
+use Rattle.lft_elaborate.specs.{declared.path.Step.Step, inner.Finding.{AreNext, ArePath, HasWanted, is_open}}
+use Rattle.lft_elaborate.proofs.Finding.{next_wanted, path_wanted, shut}
 use Rattle.lft_elaborate.proofs.path.Path.want.Goals as goal
 
 pub loop-need-preserved : goal.loop-need-preserved

@@ -1,6 +1,6 @@
 use Rattle.std.proofs.Common.{ℕ, List}
 use Rattle.lft_classes.specs.declared.shapes.Shape.{Shape}
-use Rattle.lft_elaborate.specs.{declared.{path.Wanted.Wanted, settings.Setting.Setting}, Finding.{HasWanted, IsNext, IsPath}, Values.Valued}
+use Rattle.lft_elaborate.specs.{declared.{path.Wanted.Wanted, settings.Setting.Setting}, inner.Finding.{HasWanted, IsNext, IsPath}, Values.Valued}
 use Rattle.lft_elaborate.proofs.path.Path.want.Given as goal
 
 abbrev pub invariant-loop-need : goal.invariant-loop-need

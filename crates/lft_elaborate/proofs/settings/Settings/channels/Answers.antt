@@ -1,5 +1,5 @@
 use Rattle.std.proofs.Common.{sym, subst}
-use Rattle.lft_elaborate.{specs.{Noted.table, Places.HasPlaces}, proofs.{Keeping.goes_further, Standing.channels_are}}
+use Rattle.lft_elaborate.{specs.{Noted.table, inner.Places.HasPlaces}, proofs.{Keeping.goes_further, Standing.channels_are}}
 use Rattle.lft_elaborate.proofs.settings.Settings.channels.Goals as goal
 
 pub returns-clause-goes : goal.returns-clause-goes

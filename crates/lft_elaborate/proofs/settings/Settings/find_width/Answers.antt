@@ -1,8 +1,8 @@
 use Rattle.std.proofs.Common.{◌≡◌, ℕ, List, Some, sym, subst}
 use Rattle.lft_lists.proofs.Options.{found}
 use Rattle.lft_whole.specs.declared.tree.Term.{Term}
-use Rattle.lft_elaborate.specs.{Finding.{AddsOnly, AreNeeded, is_open}, Noted.{AreMade, GoesOn, table}, Places.IsSum, Refused.IsCountedIn, Settings.setting_at}
-use Rattle.lft_elaborate.specs.Values.{Valued}
+use Rattle.lft_elaborate.specs.inner.{Finding.{AddsOnly, AreNeeded, is_open}, Noted.GoesOn, Places.IsSum, Refused.IsCountedIn, Settings.setting_at}
+use Rattle.lft_elaborate.specs.{Noted.{AreMade, table}, Values.Valued}
 use Rattle.lft_elaborate.proofs.{Finding.{are_needed, next_stays, path_stays}, Standing.close_goes}
 use Rattle.lft_elaborate.proofs.settings.Settings.find_width.Goals as goal
 

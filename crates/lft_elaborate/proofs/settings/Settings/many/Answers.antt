@@ -1,7 +1,7 @@
 use Rattle.std.proofs.Common.{sym, subst}
 use Rattle.std.specs.Prelude.{unwrap_or}
 use Rattle.lft_classes.specs.declared.shapes.Thing.{Thing}
-use Rattle.lft_elaborate.{specs.Places.AreMany, proofs.Standing.width_many}
+use Rattle.lft_elaborate.{specs.inner.Places.AreMany, proofs.Standing.width_many}
 use Rattle.lft_elaborate.proofs.settings.Settings.many.Goals as goal
 
 pub returns-clause-many : goal.returns-clause-many

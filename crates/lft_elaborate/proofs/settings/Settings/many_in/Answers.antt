@@ -1,5 +1,5 @@
 use Rattle.std.proofs.Common.{◌≡◌, ℕ, Option, Some, IfOk, sym, subst}
-use Rattle.lft_elaborate.specs.{Noted.{AreMade, table}, Places.AreManyIn, Settings.setting_at, Values.Valued}
+use Rattle.lft_elaborate.specs.{Noted.{AreMade, table}, inner.{Places.AreManyIn, Settings.setting_at}, Values.Valued}
 use Rattle.lft_elaborate.proofs.settings.Settings.many_in.Goals as goal
 
 pub returns-clause-many : goal.returns-clause-many

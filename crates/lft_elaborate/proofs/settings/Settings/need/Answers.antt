@@ -1,5 +1,5 @@
 use Rattle.std.proofs.Common.{◌≡◌, Some, sym, subst}
-use Rattle.lft_elaborate.{specs.Finding.AddsIf, proofs.{Finding.adds_one, Standing.{found_is_width, width_many}}}
+use Rattle.lft_elaborate.{specs.inner.Finding.AddsIf, proofs.{Finding.adds_one, Standing.{found_is_width, width_many}}}
 use Rattle.lft_elaborate.proofs.settings.Settings.need.Goals as goal
 
 pub returns-in-Some-clause-many : goal.returns-in-Some-clause-many

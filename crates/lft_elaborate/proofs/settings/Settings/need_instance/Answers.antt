@@ -1,6 +1,6 @@
 use Rattle.std.proofs.Common.{◌≡◌, ℕ, Option, Some, IfOk, IfSome, ap, sym, subst, ◌∙◌}
 use Rattle.std.proofs.lemmas.Result.{on_ok_weaker}
-use Rattle.lft_elaborate.specs.{declared.path.Wanted.Wanted, Noted.{AreMade, table}, Places.AreManyIn, Settings.setting_at, Values.Valued}
+use Rattle.lft_elaborate.specs.{declared.path.Wanted.Wanted, Noted.{AreMade, table}, inner.{Places.AreManyIn, Settings.setting_at}, Values.Valued}
 use Rattle.lft_elaborate.proofs.Finding.{adds_weaker}
 use Rattle.lft_elaborate.proofs.settings.Settings.need_instance.Goals as goal
 

@@ -1,7 +1,7 @@
 use Rattle.std.proofs.Common.{◌≡◌, Some, IfOk, IfSome, ap, sym, subst, ◌∙◌}
 use Rattle.std.proofs.lemmas.Result.{on_ok_weaker}
 use Rattle.lft_classes.specs.declared.shapes.Thing.{Thing}
-use Rattle.lft_elaborate.specs.{declared.path.Wanted.Wanted, Noted.{AreMade, table}, Places.AreMany, Settings.setting_at, Values.Valued}
+use Rattle.lft_elaborate.specs.{declared.path.Wanted.Wanted, Noted.{AreMade, table}, inner.{Places.AreMany, Settings.setting_at}, Values.Valued}
 use Rattle.lft_elaborate.proofs.Finding.{adds_weaker}
 use Rattle.lft_classes.specs.declared.shapes.Thing.TheVariants as thing
 use Rattle.lft_elaborate.proofs.settings.Settings.need_thing.Goals as goal

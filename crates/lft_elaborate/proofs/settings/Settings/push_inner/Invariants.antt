@@ -1,6 +1,7 @@
 use Rattle.std.proofs.Common.{◌≡◌, ℕ, ◌<◌, ◌⊎◌, Some}
 use Rattle.lft_classes.specs.Walks.{Has}
-use Rattle.lft_elaborate.specs.{Noted.{AreMade, GoesOn, table}, Settings.setting_at, Used.{AreMarked, HasNumber, IsIn, IsNumberIn, Stay}, Values.Valued}
+use Rattle.lft_elaborate.specs.{Noted.{AreMade, table}, inner.{Noted.GoesOn, Settings.setting_at, Used.{AreMarked, HasNumber, IsNumberIn, Stay}}, Used.IsIn}
+use Rattle.lft_elaborate.specs.Values.{Valued}
 use Rattle.lft_elaborate.proofs.settings.Settings.push_inner.Given as goal
 
 abbrev pub invariant-loop-member : goal.invariant-loop-member

@@ -1,6 +1,7 @@
 use Rattle.std.proofs.Common.{◌≡◌, ◌≤◌, take, Some}
 use Rattle.std.specs.Prelude.{IfSome}
-use Rattle.lft_elaborate.specs.{Finding.AddsOnly, Noted.{AreMade, GoesOn, table}, Places.IsSum, Refused.IsCountedIn, Settings.setting_at, Values.Valued}
+use Rattle.lft_elaborate.specs.{inner.{Finding.AddsOnly, Noted.GoesOn, Places.IsSum, Refused.IsCountedIn, Settings.setting_at}, Noted.{AreMade, table}}
+use Rattle.lft_elaborate.specs.Values.{Valued}
 use Rattle.lft_elaborate.proofs.settings.Settings.sum.Given as goal
 
 abbrev pub invariant-loop-term : goal.invariant-loop-term

@@ -1,5 +1,5 @@
 use Rattle.std.proofs.Common.{◌≡◌, Some}
-use Rattle.lft_elaborate.specs.{Finding.IsPath, Noted.{AreMade, GoesOn, table}, Settings.setting_at, Values.Valued}
+use Rattle.lft_elaborate.specs.{inner.{Finding.IsPath, Noted.GoesOn, Settings.setting_at}, Noted.{AreMade, table}, Values.Valued}
 use Rattle.lft_elaborate.proofs.settings.Settings.width.Given as goal
 
 abbrev pub invariant-widths : goal.invariant-widths

@@ -1,6 +1,6 @@
 use Rattle.std.proofs.Common.{◌≡◌, Some, sym, subst}
 use Rattle.std.specs.Prelude.{IfSome}
-use Rattle.lft_elaborate.specs.{Noted.{AreMade, table}, Places.HasPlaces, Settings.setting_at, Values.Valued}
+use Rattle.lft_elaborate.specs.{Noted.{AreMade, table}, inner.{Places.HasPlaces, Settings.setting_at}, Values.Valued}
 use Rattle.lft_elaborate.proofs.{Finding.adds_thing, Standing.reference_times}
 use Rattle.lft_elaborate.proofs.settings.Settings.width_of.Goals as goal
 

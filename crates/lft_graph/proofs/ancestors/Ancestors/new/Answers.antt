@@ -1,5 +1,5 @@
 use Rattle.std.proofs.Common.{◌≡◌, ◌+◌, ◌/◌, ◌<◌, ◌≤◌, ℕ, List, length, Some, slice_get, slice_set, sym, ap, subst, arith}
-use Rattle.lft_graph.{specs.Sets.IsUnion, proofs.Ancestry.{AreAncestorsTo, order_listed, order_known, set_of, ancestors_more, ancestors_end}}
+use Rattle.lft_graph.{specs.inner.Sets.IsUnion, proofs.Ancestry.{AreAncestorsTo, order_listed, order_known, set_of, ancestors_more, ancestors_end}}
 use Rattle.lft_graph.proofs.ancestors.Ancestors.new.Goals as goal
 
 pub before-requires : goal.before-requires

@@ -1,5 +1,5 @@
 use Rattle.std.proofs.Common.{◌≡◌, sym, subst}
-use Rattle.lft_graph.specs.{Loops.IsLoopOf, Graph.{AreLevels, AreByLevel}, Walks.{AreInside, IsStep}, declared.fault.GraphFault.TheVariants.CausalityLoop}
+use Rattle.lft_graph.specs.{Loops.IsLoopOf, Graph.{AreLevels, AreByLevel}, inner.Walks.{AreInside, IsStep}, declared.fault.GraphFault.TheVariants.CausalityLoop}
 use Rattle.lft_graph.proofs.{Chains.{inside, is_loop, is_levelled, is_graph}, Cycles.no_loop}
 use Rattle.lft_graph.proofs.graph.Graph.build.Goals as goal
 

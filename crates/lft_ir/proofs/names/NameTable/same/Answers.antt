@@ -1,5 +1,5 @@
 use Rattle.std.proofs.Common.{◌≡◌, sym, ◌∙◌}
-use Rattle.lft_ir.{specs.Places.names_from, proofs.Ranges.{same_texts, same_starts}}
+use Rattle.lft_ir.{specs.inner.Places.names_from, proofs.Ranges.{same_texts, same_starts}}
 use Rattle.lft_ir.proofs.names.NameTable.same.Goals as goal
 
 pub returns-then-not-same : goal.returns-then-not-same

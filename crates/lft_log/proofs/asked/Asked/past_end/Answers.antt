@@ -2,7 +2,7 @@ use Rattle.std.proofs.Common.{◌≡◌, ◌+◌, ◌++◌, ◌∙◌, ℕ, List
 use Rattle.std.proofs.Math.Seq.{take-length}
 use Rattle.lft_tag.specs.declared.Tag.{Tag}
 use Rattle.lft_ir.{proofs.Ranges.slice_get-drop, specs.declared.steps.row.Row.Row}
-use Rattle.lft_log.{specs.Told.{AreAll, IsAskedOf, KeepTo}, proofs.Asking.{asked_within, next_row}}
+use Rattle.lft_log.{specs.{Told.{AreAll, KeepTo}, inner.Told.IsAskedOf}, proofs.Asking.{asked_within, next_row}}
 use Rattle.lft_log.proofs.asked.Asked.past_end.Goals as goal
 
 pub returns-then-is_past-clause-past : goal.returns-then-is_past-clause-past

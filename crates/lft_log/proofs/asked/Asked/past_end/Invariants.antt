@@ -1,6 +1,6 @@
 use Rattle.std.proofs.Common.{◌≡◌, ◌++◌, List, take}
 use Rattle.lft_ir.specs.declared.steps.row.Row.{Row}
-use Rattle.lft_log.specs.Told.{IsAskedOf}
+use Rattle.lft_log.specs.inner.Told.{IsAskedOf}
 use Rattle.lft_log.proofs.asked.Asked.past_end.Given as goal
 
 abbrev pub invariant-loop-place : goal.invariant-loop-place

@@ -3,7 +3,7 @@ use Rattle.std.{specs.Io.KnownBytes.Appends, proofs.KnownBytes.{Consumes-nil, Ke
 use Rattle.lft_model.specs.Plans.{PlanParts}
 use Rattle.lft_load.specs.Written.{AppendsFront}
 use Rattle.lft_log.specs.{Told.TellsOpen, Follow.Refusals.{FollowRefusalUnder.by_reading, ReadRefusal.by_outside}}
-use Rattle.lft_log.specs.Explain.{Explained.{IsLack, IsLongKept, IsTextBehind}, Refusals.ExplainLogRefusalUnder.by_log}
+use Rattle.lft_log.specs.{Explain.{Explained.IsLack, Refusals.ExplainLogRefusalUnder.by_log}, inner.Explain.Explained.{IsLongKept, IsTextBehind}}
 use Rattle.lft_log.specs.declared.explain.explaining.Explained.{Explained}
 use Rattle.lft_log.proofs.{FollowLemmas.Reaching.{none_written, told_all}, ExplainLemmas.Writing.{line_alone, line_and_front, line_and_text}}
 use Rattle.lft_log.proofs.explain.explaining.explain_log_plan.Goals as goal

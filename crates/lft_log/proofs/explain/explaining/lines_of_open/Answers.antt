@@ -1,7 +1,7 @@
 use Rattle.std.proofs.Common.{◌∙◌, List, sym, subst, ap}
 use Rattle.lft_ir.specs.Parts.{Parts}
 use Rattle.lft_monitor.specs.declared.open.OpenRun.{OpenRun}
-use Rattle.lft_log.{specs.Explain.Listed.{AreOf, runs_words}, proofs.ExplainLemmas.Writing.runs_known}
+use Rattle.lft_log.{specs.{inner.Explain.Listed.AreOf, Explain.Listed.runs_words}, proofs.ExplainLemmas.Writing.runs_known}
 use Rattle.lft_log.proofs.explain.explaining.lines_of_open.Goals as goal
 
 pub lines_of_runs-requires : goal.lines_of_runs-requires

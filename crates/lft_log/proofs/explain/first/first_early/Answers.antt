@@ -2,7 +2,7 @@ use Rattle.std.proofs.Common.{◌∙◌, length, sym, subst, Some}
 use Rattle.lft_lists.proofs.Places.{Some_same}
 use Rattle.lft_tag.specs.declared.Tag.{Tag}
 use Rattle.lft_ir.specs.declared.steps.row.Row.{Row}
-use Rattle.lft_rows.specs.Passes.{KeepsEarly, EarlyRule}
+use Rattle.lft_rows.specs.inner.Passes.{KeepsEarly, EarlyRule}
 use Rattle.lft_races.specs.Races.{FirstEarly}
 use Rattle.lft_log.proofs.ExplainLemmas.Early.{breach_at, early_some, early_none}
 use Rattle.lft_log.proofs.explain.first.first_early.Goals as goal

@@ -1,7 +1,7 @@
 use Rattle.std.proofs.Common.{◌≡◌, ◌∙◌, List, sym, subst}
 use Rattle.lft_ir.specs.declared.steps.row.Row.{Row}
 use Rattle.lft_check.specs.declared.verdict.Verdict.TheVariants.{Broken}
-use Rattle.lft_log.{specs.Explain.Cuts.IsEarlyOf, proofs.ExplainLemmas.Early.{early_exact, early_not, later_of, by_verdict}}
+use Rattle.lft_log.{specs.inner.Explain.Cuts.IsEarlyOf, proofs.ExplainLemmas.Early.{early_exact, early_not, later_of, by_verdict}}
 use Rattle.lft_log.proofs.explain.first.is_first_so_far.Goals as goal
 
 pub returns-in-Some : goal.returns-in-Some

@@ -1,7 +1,8 @@
 use Rattle.std.proofs.Common.{◌∙◌, [], Err, inl, ap, sym, subst}
 use Rattle.std.proofs.KnownBytes.{Consumes-nil, Keeps-refl}
 use Rattle.lft_ir.specs.{Parts.Parts, Sound.IsSound}
-use Rattle.lft_log.specs.{Follow.{Lines.{HasFound, line_of_log}, Refusals.{FollowRefusalUnder.by_reading, ReadRefusal.by_outside}}, declared.told.Ended.Ended}
+use Rattle.lft_log.specs.{inner.Follow.Lines.HasFound, Follow.{Lines.line_of_log, Refusals.{FollowRefusalUnder.by_reading, ReadRefusal.by_outside}}}
+use Rattle.lft_log.specs.declared.told.Ended.{Ended}
 use Rattle.lft_log.proofs.FollowLemmas.{Reaching.{none_written, told_all}, Refusing.{kept_unless, unwritten}, Telling.has_found}
 use Rattle.lft_log.proofs.follow.follow.follow_plan.Goals as goal
 

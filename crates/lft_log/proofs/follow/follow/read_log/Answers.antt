@@ -1,7 +1,8 @@
 use Rattle.std.proofs.Common.{◌≡◌, ◌∙◌, ◌<◌, ◌++◌, ℕ, List, [], refl, Option, Ok, Err, None, IfOk, IfErr, ⊎_elim, length, take, inl, inr, sym, subst, arith}
 use Rattle.std.{specs.Io.KnownBytes.Appends, proofs.KnownBytes.{Appends-nil, Consumes-nil, Consumes-trans, Consumes-kept}}
 use Rattle.lft_model.specs.Plans.{PlanParts}
-use Rattle.lft_log.specs.{declared.{log.Log.Log, told.{Ended.Ended, Final.Final, Told.Told}, follow.kept.Kept.Kept}, Logs.HasManyRows, Told.{IsLog, TellsOpen}}
+use Rattle.lft_log.specs.{declared.{log.Log.Log, told.{Ended.Ended, Final.Final, Told.Told}, follow.kept.Kept.Kept}, Logs.HasManyRows, inner.Told.IsLog}
+use Rattle.lft_log.specs.Told.{TellsOpen}
 use Rattle.lft_log.specs.Follow.{Followed.{IsRead, IsReadKept}, Kept.IsKeptOn, Reaches.OfReaches}
 use Rattle.lft_log.specs.Follow.Refusals.{ReadRefusal, ReadRefusal.{by_end, by_line, by_outside, by_reader}}
 use Rattle.lft_log.proofs.FollowLemmas.{Keeping.{kept_more, kept_none}, Reaching.{none_told, none_written, told_all, told_both}}

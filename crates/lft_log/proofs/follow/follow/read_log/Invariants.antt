@@ -1,6 +1,6 @@
 use Rattle.std.proofs.Common.{◌≡◌, ◌<◌, ℕ, List, length}
 use Rattle.std.specs.Io.KnownBytes.{Appends, Consumes}
-use Rattle.lft_log.specs.{Logs.HasManyRows, Told.IsLog, Follow.{Kept.IsKeptOn, Reaches.OfReaches}}
+use Rattle.lft_log.specs.{Logs.HasManyRows, inner.Told.IsLog, Follow.{Kept.IsKeptOn, Reaches.OfReaches}}
 use Rattle.lft_log.proofs.follow.follow.read_log.Given as goal
 
 abbrev pub invariant-loop : goal.invariant-loop

@@ -1,8 +1,8 @@
 use Rattle.std.proofs.Common.{◌++◌, [], inr, List, Option, slice_range, refl, sym, ap, subst, ◌∙◌, arith}
 use Rattle.lft_tag.specs.declared.Tag.{Tag}
 use Rattle.lft_ir.specs.{Parts.Parts, declared.steps.row.Row.Row, Steps.Fits.RowsFit}
-use Rattle.lft_monitor.specs.Follows.{IsFollowerOf}
-use Rattle.lft_log.specs.{Logs.{IsFront, rows}, Told.{IsAskedOf, IsFaultOfRows, IsSaid, KeepTo}}
+use Rattle.lft_monitor.specs.inner.Follows.{IsFollowerOf}
+use Rattle.lft_log.specs.{inner.{Logs.IsFront, Told.{IsAskedOf, IsFaultOfRows}}, Logs.rows, Told.{IsSaid, KeepTo}}
 use Rattle.lft_log.proofs.{Gathering.fit_first, Keeping.{fault_on, lines_on, rows_fault_on, soon_on}}
 use Rattle.lft_log.proofs.log.Log.add_body.Goals as goal
 

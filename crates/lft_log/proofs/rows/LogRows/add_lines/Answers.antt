@@ -1,7 +1,7 @@
 use Rattle.std.proofs.Common.{◌-◌, ◌≤◌, ◌++◌, ◌∙◌, List, length, slice_range, sym, ap, subst, arith, ◌≡◌, ◌+◌, ◌<◌, ℕ, [], drop, refl}
 use Rattle.lft_ir.specs.{Parts.Parts, declared.steps.row.Row.Row, Steps.Fits.RowsFit}
-use Rattle.lft_monitor.specs.Follows.{IsFollowerOf}
-use Rattle.lft_log.{specs.Logs.IsFront, proofs.Gathering.{all_read, fit_first, none_is, rows_fit, rows_read, cut_rows, has_read}}
+use Rattle.lft_monitor.specs.inner.Follows.{IsFollowerOf}
+use Rattle.lft_log.{specs.inner.Logs.IsFront, proofs.Gathering.{all_read, fit_first, none_is, rows_fit, rows_read, cut_rows, has_read}}
 use Rattle.lft_log.proofs.rows.LogRows.add_lines.Goals as goal
 
 pub returns-then-is_some-clause-read : goal.returns-then-is_some-clause-read

@@ -1,5 +1,5 @@
 use Rattle.std.proofs.Common.{◌≤◌, ◌++◌, ◌∙◌, ℕ, List, drop, sym, subst, arith}
-use Rattle.lft_log.{specs.Told.IsReadSoFar, proofs.Gathering.{read_on, split_at, still_read}}
+use Rattle.lft_log.{specs.inner.Told.IsReadSoFar, proofs.Gathering.{read_on, split_at, still_read}}
 use Rattle.lft_log.proofs.rows.LogRows.add_text.Goals as goal
 
 pub add_lines-requires-clause-stands : goal.add_lines-requires-clause-stands

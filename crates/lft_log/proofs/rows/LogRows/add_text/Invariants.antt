@@ -1,6 +1,6 @@
 use Rattle.std.proofs.Common.{◌≡◌, ◌-◌, ◌≤◌, ◌++◌, ℕ, List, drop, length}
 use Rattle.lft_model.specs.Plans.{PlanParts}
-use Rattle.lft_log.specs.Told.{IsReadSoFar}
+use Rattle.lft_log.specs.inner.Told.{IsReadSoFar}
 use Rattle.lft_log.proofs.rows.LogRows.add_text.Given as goal
 
 abbrev pub invariant-loop-begin : goal.invariant-loop-begin

@@ -1,4 +1,4 @@
-use Rattle.lft_lower.specs.Meanings.Names.{AreNames}
+use Rattle.lft_lower.specs.inner.Meanings.Names.{AreNames}
 use Rattle.lft_lower.proofs.meanings.naming.names.Given as goal
 
 abbrev pub invariant-loop-setting : goal.invariant-loop-setting

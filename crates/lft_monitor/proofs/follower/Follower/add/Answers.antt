@@ -1,7 +1,7 @@
 use Rattle.std.proofs.Common.{◌++◌, ◌<◌, ◌≤◌, List, length, refl, subst}
 use Rattle.std.proofs.lemmas.Result.{IfOk-weaker}
 use Rattle.lft_ir.specs.declared.steps.row.Row.{Row}
-use Rattle.lft_monitor.specs.{declared.follower.Follower.Follower, Follows.done_of}
+use Rattle.lft_monitor.specs.{declared.follower.Follower.Follower, inner.Follows.done_of}
 use Rattle.lft_monitor.proofs.Following.{held_more, fit_over, going_over, held_over, over_end, over_row, over_later, still_done}
 use Rattle.lft_monitor.proofs.follower.Follower.add.Goals as goal
 

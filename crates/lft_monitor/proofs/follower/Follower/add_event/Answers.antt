@@ -1,6 +1,6 @@
 use Rattle.std.proofs.Common.{refl, subst}
 use Rattle.lft_model.specs.Plans.{PlanParts}
-use Rattle.lft_monitor.{specs.Follows.IsFollowerOf, proofs.{Passed.{is_passed, not_passed}, Gaining.{follower_told, same_parts}}}
+use Rattle.lft_monitor.{specs.inner.Follows.IsFollowerOf, proofs.{Passed.{is_passed, not_passed}, Gaining.{follower_told, same_parts}}}
 use Rattle.lft_monitor.proofs.follower.Follower.add_event.Goals as goal
 
 pub returns-then-is_past-clause-late : goal.returns-then-is_past-clause-late

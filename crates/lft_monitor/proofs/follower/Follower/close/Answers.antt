@@ -1,7 +1,7 @@
 use Rattle.std.proofs.Common.{List}
 use Rattle.std.proofs.lemmas.Result.{IfOk-weaker, IfErr-weaker}
 use Rattle.lft_ir.specs.declared.steps.row.Row.{Row}
-use Rattle.lft_monitor.{specs.Follows.{IsClosing, IsUnjudged}, proofs.Ended.at_end}
+use Rattle.lft_monitor.{specs.inner.Follows.{IsClosing, IsUnjudged}, proofs.Ended.at_end}
 use Rattle.lft_monitor.proofs.follower.Follower.close.Goals as goal
 
 pub returns-clause-closed : goal.returns-clause-closed

@@ -1,10 +1,10 @@
 use Rattle.std.proofs.Common.{◌<◌, ◌≤◌, ◌++◌, ◌∙◌, ℕ, List, length, slice_range, refl, sym, ap, subst, arith}
 use Rattle.lft_ir.specs.{declared.steps.row.Row.Row, Steps.Fits.RowsFit}
-use Rattle.lft_rows.specs.Slices.{Rises}
+use Rattle.lft_rows.specs.inner.Slices.{Rises}
 use Rattle.lft_tag.specs.declared.Tag.{Tag}
 use Rattle.lft_queue.specs.Coming.AtTag.{AreAt}
-use Rattle.lft_stream.specs.Kept.{KeepRules}
-use Rattle.lft_monitor.specs.{declared.follower.Follower.Follower, Follows.{done_of, IsJudgedOf, IsTurn, BeginsLast}}
+use Rattle.lft_stream.specs.inner.Kept.{KeepRules}
+use Rattle.lft_monitor.specs.{declared.follower.Follower.Follower, inner.Follows.{done_of, IsJudgedOf, IsTurn, BeginsLast}}
 use Rattle.lft_monitor.proofs.{Front.keeps_first, Following.{at_one_tag, begins_of, gone_all, judged_on, quiet_all, quiet_at_one, rises_at_hand, turn_to}}
 use Rattle.lft_monitor.proofs.follower.Follower.go_on.Goals as goal
 

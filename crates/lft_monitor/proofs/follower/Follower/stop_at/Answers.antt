@@ -1,5 +1,5 @@
 use Rattle.std.proofs.Common.{◌≡◌, refl, rules}
-use Rattle.lft_monitor.{specs.Follows.stopped_at, proofs.{Passed.{is_passed, not_passed}, Sooner.follower_stopped}}
+use Rattle.lft_monitor.{specs.inner.Follows.stopped_at, proofs.{Passed.{is_passed, not_passed}, Sooner.follower_stopped}}
 use Rattle.lft_monitor.proofs.follower.Follower.stop_at.Goals as goal
 
 pub returns-then-is_past-clause-late : goal.returns-then-is_past-clause-late

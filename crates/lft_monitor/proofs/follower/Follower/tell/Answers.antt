@@ -1,8 +1,8 @@
 use Rattle.std.proofs.Common.{◌≡◌, ◌++◌, ◌∙◌, List, length, slice_range, refl, sym, ap, subst, arith, Some, slice_get}
 use Rattle.lft_ir.specs.{declared.steps.row.Row.Row, Steps.Fits.RowsFit}
-use Rattle.lft_monitor.specs.{declared.follower.Follower.Follower, Follows.{breach_of, done_of, BeginsLast, IsJudgedOf, IsTurn}}
+use Rattle.lft_monitor.specs.{declared.follower.Follower.Follower, Follows.breach_of, inner.Follows.{done_of, BeginsLast, IsJudgedOf, IsTurn}}
 use Rattle.lft_monitor.proofs.{Following.{begins_within, gone_at, told_sure, turn_to}, Front.keeps_first}
-use Rattle.lft_stream.specs.Kept.{KeepRules}
+use Rattle.lft_stream.specs.inner.Kept.{KeepRules}
 use Rattle.lft_monitor.proofs.follower.Follower.tell.Goals as goal
 
 pub judge_before-requires : goal.judge_before-requires

@@ -1,6 +1,6 @@
 use Rattle.std.proofs.Common.{◌≡◌, ◌+◌, inl, List, length, length-append, ap, arith, ◌∙◌}
 use Rattle.lft_ir.specs.declared.steps.row.Row.{Row}
-use Rattle.lft_monitor.{specs.Follows.done_of, proofs.Following.judged_so_far}
+use Rattle.lft_monitor.{specs.inner.Follows.done_of, proofs.Following.judged_so_far}
 use Rattle.lft_monitor.proofs.follower.Follower.unjudged.Goals as goal
 
 pub returns : goal.returns

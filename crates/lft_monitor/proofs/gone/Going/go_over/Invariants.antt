@@ -1,6 +1,6 @@
 use Rattle.std.proofs.Common.{◌≡◌, List}
 use Rattle.lft_ir.specs.declared.steps.row.Row.{Row}
-use Rattle.lft_monitor.specs.Going.{IsGoing}
+use Rattle.lft_monitor.specs.inner.Going.{IsGoing}
 use Rattle.lft_monitor.proofs.gone.Going.go_over.Given as goal
 
 abbrev pub invariant-loop-place : goal.invariant-loop-place

@@ -1,7 +1,7 @@
 use Rattle.std.proofs.Common.{◌+◌, arith, sym, subst, None, slice_range}
 use Rattle.lft_stream.proofs.Parting.{range_fits}
 use Rattle.lft_lists.proofs.Places.{get_there}
-use Rattle.lft_rows.specs.{Passes.HasGoneOn, declared.pass.Pass.Pass}
+use Rattle.lft_rows.specs.{inner.Passes.HasGoneOn, declared.pass.Pass.Pass}
 use Rattle.lft_monitor.proofs.Passing.{bad_here, gone_on, grown_own}
 use Rattle.lft_monitor.proofs.gone.Going.pass_row.Goals as goal
 

@@ -1,7 +1,7 @@
 use Rattle.std.proofs.Common.{◌≡◌, ◌++◌, inr, List, length-append, slice_range, sym, subst, arith}
 use Rattle.std.proofs.lemmas.{List.append-nil, Result.{IfOk-weaker, IfErr-weaker}}
 use Rattle.lft_ir.specs.declared.steps.row.Row.{Row}
-use Rattle.lft_monitor.specs.{declared.judged.Unjudged.Unjudged, Follows.{IsClean, IsEnding, IsUnjudged}}
+use Rattle.lft_monitor.specs.{declared.judged.Unjudged.Unjudged, Follows.IsClean, inner.Follows.{IsEnding, IsUnjudged}}
 use Rattle.lft_monitor.proofs.judged.Judged.finish.Goals as goal
 
 pub judge-requires-clause-kept : goal.judge-requires-clause-kept

@@ -1,7 +1,7 @@
 use Rattle.std.proofs.Common.{◌++◌, ◌+◌, ℕ, Some, None, sym, subst}
 use Rattle.lft_tag.specs.declared.Tag.{Tag}
 use Rattle.lft_model.specs.{declared.breach.Breach.Breach, Breaches.First}
-use Rattle.lft_rows.specs.Firsts.{FirstRow}
+use Rattle.lft_rows.specs.inner.Firsts.{FirstRow}
 use Rattle.std.proofs.lemmas.Option.{IfSome_then}
 use Rattle.lft_monitor.proofs.Ended.{first_of_rows, keeps_both}
 use Rattle.lft_monitor.proofs.judged.Judged.first_of.Goals as goal

@@ -2,7 +2,7 @@ use Rattle.std.proofs.Common.{◌++◌, ◌∙◌, List, IsTrue, refl, sym, ap, 
 use Rattle.lft_tag.specs.declared.Tag.{Tag}
 use Rattle.lft_ir.specs.declared.steps.row.Row.{Row}
 use Rattle.lft_model.specs.Presence.{stop}
-use Rattle.lft_stream.specs.Owed.{MeetNowhere}
+use Rattle.lft_stream.specs.inner.Owed.{MeetNowhere}
 use Rattle.lft_monitor.proofs.Behind.{past_more}
 use Rattle.lft_monitor.proofs.past.Past.add.Goals as goal
 

@@ -1,6 +1,6 @@
 use Rattle.std.proofs.Common.{List, Some, refl, subst}
 use Rattle.lft_ir.specs.declared.steps.row.Row.{Row}
-use Rattle.lft_check.specs.Verdicts.{LeastOf, BreachFrom}
+use Rattle.lft_check.specs.inner.Verdicts.{LeastOf, BreachFrom}
 use Rattle.lft_monitor.proofs.{Behind.all_fit, First.first_before}
 use Rattle.lft_monitor.proofs.past.Past.first_breach.Goals as goal
 

@@ -1,5 +1,5 @@
 use Rattle.std.proofs.Common.{◌≡◌, ◌≤◌, List, length, take, sym, ap, ◌∙◌, arith, Some, None, slice_get}
-use Rattle.lft_pair.specs.{declared.contrasting.contrasts.Scheduling.Scheduling, Runs.{scheduling_of, schedulings}, Answered.scheduled}
+use Rattle.lft_pair.specs.{declared.contrasting.contrasts.Scheduling.Scheduling, Runs.{scheduling_of, schedulings}, inner.Answered.scheduled}
 use Rattle.lft_pair.proofs.{Answering.few, Answered.{scheduling_none, scheduling_put, count_put}}
 use Rattle.lft_pair.proofs.contrasting.answers.schedulings_of.Goals.{in-Some+in_ok-_before+in_ok-_count, in_default}
 use Rattle.lft_pair.proofs.contrasting.answers.schedulings_of.Goals as goal

@@ -1,5 +1,5 @@
 use Rattle.std.proofs.Common.{take}
-use Rattle.lft_pair.specs.Answered.{AreSchedulings}
+use Rattle.lft_pair.specs.inner.Answered.{AreSchedulings}
 use Rattle.lft_pair.proofs.contrasting.answers.schedulings_of.Given as goal
 
 abbrev pub invariant-loop-place : goal.invariant-loop-place

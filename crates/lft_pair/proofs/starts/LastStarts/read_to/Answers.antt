@@ -1,5 +1,5 @@
 use Rattle.std.proofs.Common.{◌≡◌, ℕ, sym, ap, subst, refl, arith, false, true}
-use Rattle.lft_pair.specs.Places.{AreAfter}
+use Rattle.lft_pair.specs.inner.Places.{AreAfter}
 use Rattle.lft_pair.proofs.{Kept.{read_start, read_other, after_from, after_end}, starts.LastStarts.read_to.Goals.{then-is_start, else-is_start}}
 use Rattle.lft_pair.proofs.starts.LastStarts.read_to.Goals as goal
 

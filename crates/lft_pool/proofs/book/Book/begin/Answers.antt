@@ -1,9 +1,9 @@
 use Rattle.std.proofs.Common.{◌≡◌, inl, inr, sym, subst, Option, None, rules}
 use Rattle.lft_model.specs.Breaches.{Legal}
-use Rattle.lft_scheduler.specs.{declared.found.NextRun.NextRun, Agendas.{IsAgenda, MayFind, Finds}}
+use Rattle.lft_scheduler.specs.{declared.found.NextRun.NextRun, inner.Agendas.{IsAgenda, MayFind, Finds}}
 use Rattle.lft_scheduler.specs.Starts.{MayStartFirst, NoneMayStart, NothingLeft, SomethingLeft, IsBusy, IsAnyOpen}
 use Rattle.lft_scheduler.proofs.Awaiting.{busy_left}
-use Rattle.lft_pool.specs.{declared.stop.Stop.Stop, Books.{BookParts, AgendaHolds}, Causes.{BeginCause, StartCause}}
+use Rattle.lft_pool.specs.{declared.stop.Stop.Stop, Books.BookParts, inner.Books.AgendaHolds, Causes.{BeginCause, StartCause}}
 use Rattle.lft_pool.proofs.{Known.nothing_left_legal, Refusals.if_err}
 use Rattle.lft_pool.proofs.book.Book.begin.Goals as goal
 

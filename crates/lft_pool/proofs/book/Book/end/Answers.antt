@@ -2,10 +2,11 @@ use Rattle.std.proofs.Common.{◌≡◌, ◌∙◌, ◌<◌, ◌≤◌, ◌++◌
 use Rattle.std.proofs.Math.Seq.{take-append_seam}
 use Rattle.lft_lists.proofs.Members.{mem_get}
 use Rattle.lft_ir.specs.declared.{steps.row.{Row.Row, Step.Step}, parts.{Value.Value, Reaction.Reaction}}
-use Rattle.lft_scheduler.specs.{Agendas.{IsAgenda, EndsWith}, Answering.{MayAll, HasLongDelay}, Collisions.IsClean}
+use Rattle.lft_scheduler.specs.{inner.Agendas.{IsAgenda, EndsWith}, Answering.{MayAll, HasLongDelay}, Collisions.IsClean}
 use Rattle.lft_model.{specs.{Runs.{by_ends, reads_at}, Recorded.{committed_rows, instance_of, word_after}}, proofs.Places.slice_get_within}
-use Rattle.lft_pool.specs.{declared.stop.Stop.{Stop, TheVariants.{NoMemory, UndeclaredEffect, LimitTag}}, Books.{BookParts, IsRecording, IsKept, AgendaHolds}}
-use Rattle.lft_pool.specs.{Reasons.{StopHolds, ReasonHolds}, Answers.{HasTicket, HasClash, KeepsOpenRuns, RefusalCause, EndCause, Committed, with_answer}}
+use Rattle.lft_pool.specs.{declared.stop.Stop.{Stop, TheVariants.{NoMemory, UndeclaredEffect, LimitTag}}, Books.{BookParts, IsRecording}}
+use Rattle.lft_pool.specs.{inner.{Books.{IsKept, AgendaHolds}, Answers.{HasClash, RefusalCause}}, Reasons.{StopHolds, ReasonHolds}}
+use Rattle.lft_pool.specs.Answers.{HasTicket, KeepsOpenRuns, EndCause, Committed, with_answer}
 use Rattle.lft_pool.proofs.Refusals.{memory_holds, before_it, holds_by_end, end_cause, may_mem, short_mem, answer_fits, set_words, ends_clash, ends_clean}
 use Rattle.lft_pool.proofs.{Finishing.if_some, Commuting.keeps_open_runs, CommittedRun.{committed_recording, word_more, committed_count}}
 use Rattle.lft_pool.proofs.book.Book.end.Goals as goal

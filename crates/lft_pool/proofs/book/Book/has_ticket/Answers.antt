@@ -2,8 +2,8 @@ use Rattle.std.proofs.Common.{◌≡◌, ◌∙◌, ◌<◌, ◌↔◌, ℕ, Opt
 use Rattle.std.proofs.lemmas.{Bool.false≢true, Int.to_z-of_z}
 use Rattle.lft_ir.specs.{declared.parts.Reaction.Reaction, Parts.Parts}
 use Rattle.lft_model.{specs.{Runs.{start_row, by_ends}, Breaches.IsOpen, Recorded.word_after}, proofs.Places.slice_get_within}
-use Rattle.lft_scheduler.specs.{Agendas.IsAgenda, OpenRuns.HasReads}
-use Rattle.lft_pool.specs.{declared.stop.Stop.Stop, Books.{BookParts, AgendaHolds, word_now}, Answers.HasTicket}
+use Rattle.lft_scheduler.specs.inner.{Agendas.IsAgenda, OpenRuns.HasReads}
+use Rattle.lft_pool.specs.{declared.stop.Stop.Stop, Books.{BookParts, word_now}, inner.Books.AgendaHolds, Answers.HasTicket}
 use Rattle.lft_pool.proofs.book.Book.has_ticket.Goals as goal
 
 pub returns-then-not-has_reads : goal.returns-then-not-has_reads

@@ -1,7 +1,7 @@
 use Rattle.std.proofs.Common.{◌≡◌, arith, ◌∙◌, [], ℕ, ℤ, pos, List, Some, slice_get, refl, sym, subst, rules}
 use Rattle.lft_ir.specs.{Parts.Parts, declared.{parts.Reaction.Reaction, steps.row.Row.Row}}
-use Rattle.lft_pool.{specs.Books.{IsRecording, IsKept}, proofs.Known.empty_recording}
-use Rattle.lft_scheduler.specs.Agendas.{IsAgenda}
+use Rattle.lft_pool.{specs.{Books.IsRecording, inner.Books.IsKept}, proofs.Known.empty_recording}
+use Rattle.lft_scheduler.specs.inner.Agendas.{IsAgenda}
 use Rattle.lft_pool.proofs.book.Book.new.Goals as goal
 
 pub invariant_of-result : goal.invariant_of-result

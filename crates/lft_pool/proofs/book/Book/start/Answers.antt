@@ -4,9 +4,9 @@ use Rattle.lft_tag.specs.Tags.{IsRecorded}
 use Rattle.lft_ir.specs.{declared.{steps.row.Row.Row, parts.Reaction.Reaction}, Parts.inputs}
 use Rattle.lft_model.specs.{Presence.{Inputs, Shows}, Runs.{Run, by_ends}, OneWorker.{IsPending, rows}, Recorded.{begun_rows, word_after}}
 use Rattle.lft_model.proofs.{Places.slice_get_within, Quiet.inputs_to_ended}
-use Rattle.lft_scheduler.specs.{Starts.{MayStartFirst, IsBusy}, Agendas.IsAgenda}
+use Rattle.lft_scheduler.specs.{Starts.{MayStartFirst, IsBusy}, inner.Agendas.IsAgenda}
 use Rattle.lft_pool.specs.declared.{bodies.ticket.Ticket.Ticket, stop.Stop.{Stop, TheVariants.{NoBody, TooManyRuns, NoMemory, TooManyRows, LimitTag}}}
-use Rattle.lft_pool.specs.{Begun.Started, Causes.{HasAllRuns, HasNoRoom, StartCause}, Books.{BookParts, IsRecording, IsKept, AgendaHolds}}
+use Rattle.lft_pool.specs.{Begun.Started, Causes.{HasAllRuns, HasNoRoom, StartCause}, Books.{BookParts, IsRecording}, inner.Books.{IsKept, AgendaHolds}}
 use Rattle.lft_pool.specs.Reasons.{StopHolds, ReasonHolds}
 use Rattle.lft_pool.proofs.{Refusals.{memory_holds, holds_by_start}, BegunRun.{same, begun_recording, begun_count}}
 use Rattle.lft_pool.proofs.book.Book.start.Goals as goal

@@ -1,4 +1,4 @@
-use Rattle.lft_program.specs.Linking.{IsTooLong}
+use Rattle.lft_program.specs.inner.Linking.{IsTooLong}
 use Rattle.lft_program.proofs.nesting.linking.first_long.Given as goal
 
 abbrev pub invariant-back : goal.invariant-back

@@ -1,7 +1,7 @@
 use Rattle.std.proofs.Common.{◌≡◌, ℕ, ◌<◌, false, List, MatchOption, arith, ap, refl, subst}
 use Rattle.lft_lists.proofs.Options.{lacking}
-use Rattle.lft_resolve.specs.Expansion.Numbers.{HasMoreThings, things}
-use Rattle.lft_program.{specs.{Limits.{IsPassed, limit_of}, declared.nesting.limits.Excess.Excess}, proofs.Excesses.limit_small}
+use Rattle.lft_resolve.specs.inner.Expansion.Numbers.{HasMoreThings, things}
+use Rattle.lft_program.{specs.{inner.Limits.{IsPassed, limit_of}, declared.nesting.limits.Excess.Excess}, proofs.Excesses.limit_small}
 use Rattle.lft_program.proofs.nesting.nest.numbered.Goals as goal
 
 pub returns-in-Some-clause-within : goal.returns-in-Some-clause-within

@@ -1,8 +1,8 @@
 use Rattle.std.proofs.Common.{◌≡◌, map, ap, ◌∙◌}
 use Rattle.lft_tree.specs.Tree.{reactors_of, ports_of, actions_of, timers_of, reactions_of}
-use Rattle.lft_program.specs.{OwnNames.{name_lists, own_names}, TreeLists.{name_at, placed_at}}
+use Rattle.lft_program.specs.inner.{OwnNames.{name_lists, own_names}, TreeLists.{name_at, placed_at}}
 use Rattle.lft_program.proofs.KindNames.{told_as, placed_told, own_ports, own_actions, own_timers}
-use Rattle.lft_resolve.specs.References.{reactor_trees}
+use Rattle.lft_resolve.specs.inner.References.{reactor_trees}
 use Rattle.lft_program.specs.declared.own_names.MemberKind.TheVariants as kinds
 use Rattle.lft_program.proofs.tree_lists.Lists.of.Goals as goal
 

@@ -1,7 +1,7 @@
 use Rattle.std.proofs.Common.{◌≡◌, ◌++◌, true, false, refl, sym, ap, ◌∙◌, subst}
 use Rattle.lft_ir.specs.declared.parts.Name.TheVariants.{Port}
 use Rattle.lft_tag.specs.{declared.Tag.Tag, Shifts.shifted}
-use Rattle.lft_queue.specs.{declared.coming.coming.Coming.Coming, Coming.{Coming.{to_come, put_at, IsClear}, Channels.is_behind}}
+use Rattle.lft_queue.specs.{declared.coming.coming.Coming.Coming, inner.Coming.{Coming.{to_come, put_at, IsClear}, Channels.is_behind}}
 use Rattle.lft_queue.proofs.{ComingLemmas.Carried.{carried_on, passed_by}, coming.channels.carry.Goals.{then-is_behind+else-not-put_until, else-is_behind}}
 use Rattle.lft_queue.proofs.coming.channels.carry.Goals as goal
 

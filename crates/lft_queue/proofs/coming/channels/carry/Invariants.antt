@@ -1,7 +1,7 @@
 use Rattle.std.proofs.Common.{◌≡◌, ◌++◌, List, take, filter_map}
 use Rattle.lft_tag.specs.{declared.Tag.Tag, Tags.UpTo}
 use Rattle.lft_ir.specs.declared.{parts.Name.Name, steps.externals.Event.Event}
-use Rattle.lft_queue.specs.Coming.{Channels.arrival, Coming.{to_come, IsClear, IsNoLater}}
+use Rattle.lft_queue.specs.inner.Coming.{Channels.arrival, Coming.{to_come, IsClear, IsNoLater}}
 use Rattle.lft_queue.proofs.coming.channels.carry.Given as goal
 
 abbrev pub invariant-loop-place : goal.invariant-loop-place

@@ -1,6 +1,6 @@
 use Rattle.std.proofs.Common.{◌∙◌, refl, arith}
 use Rattle.lft_tag.proofs.Order.{UpTo-refl}
-use Rattle.lft_queue.{specs.Reading.is_read, proofs.ComingLemmas.{Carrying.all_carried, Clearing.{clear_first, clear_more, clear_earlier}}}
+use Rattle.lft_queue.{specs.inner.Reading.is_read, proofs.ComingLemmas.{Carrying.all_carried, Clearing.{clear_first, clear_more, clear_earlier}}}
 use Rattle.lft_queue.proofs.coming.channels.carry_all.Goals as goal
 
 pub loop-place-init : goal.loop-place-init

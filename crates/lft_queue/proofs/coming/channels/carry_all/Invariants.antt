@@ -1,5 +1,5 @@
 use Rattle.std.proofs.Common.{◌≡◌}
-use Rattle.lft_queue.specs.Coming.Channels.{AreCarriedClear}
+use Rattle.lft_queue.specs.inner.Coming.Channels.{AreCarriedClear}
 use Rattle.lft_queue.proofs.coming.channels.carry_all.Given as goal
 
 abbrev pub invariant-loop-place : goal.invariant-loop-place

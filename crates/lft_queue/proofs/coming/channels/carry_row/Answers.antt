@@ -1,7 +1,7 @@
 use Rattle.std.proofs.Common.{◌+◌, ◌<◌, List, Option, length, sym, subst, arith}
 use Rattle.lft_lists.proofs.Places.{get_there}
 use Rattle.lft_ir.specs.{declared.steps.row.Step.Step, Steps.Fits.StepFits}
-use Rattle.lft_queue.specs.{Reading.is_read, Coming.{Channels.AreCarried, Writes.AreFewer}, declared.coming.writes.Written.Written}
+use Rattle.lft_queue.specs.{inner.{Reading.is_read, Coming.{Channels.AreCarried, Writes.AreFewer}}, declared.coming.writes.Written.Written}
 use Rattle.lft_queue.proofs.ComingLemmas.{Clearing.{clear_up, fewer_same, fewer_set}, Carrying.{carried_stays, carried_again, carried_now}}
 use Rattle.lft_tag.proofs.Order.{UpTo-trans}
 use Rattle.lft_queue.proofs.coming.channels.carry_row.Goals as goal

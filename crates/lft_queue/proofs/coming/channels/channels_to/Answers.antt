@@ -3,7 +3,7 @@ use Rattle.std.proofs.lemmas.Bool.{cases_eq}
 use Rattle.lft_ir.{specs.declared.parts.Port.Port as PortOf, proofs.Origins.origin_inside}
 use Rattle.lft_lists.proofs.Places.{same_at}
 use Rattle.lft_model.proofs.Places.{slice_get_within}
-use Rattle.lft_queue.specs.Coming.AtOnce.{is_undelayed, HaveGrown}
+use Rattle.lft_queue.specs.inner.Coming.AtOnce.{is_undelayed, HaveGrown}
 use Rattle.lft_queue.proofs.ComingLemmas.AtOnce.{still_there, pushed_grows, pushed_there}
 use Rattle.lft_queue.proofs.coming.channels.channels_to.Goals.{then-is_channel+in_ok-push, else-is_channel}
 use Rattle.lft_queue.proofs.coming.channels.channels_to.Goals as goal

@@ -1,6 +1,6 @@
 use Rattle.std.proofs.Common.{◌≡◌, ℕ, ◌<◌, true, List, length, Some, Contains, slice_get}
 use Rattle.lft_ir.specs.declared.parts.Port.{Port as PortOf}
-use Rattle.lft_queue.specs.Coming.AtOnce.{is_undelayed}
+use Rattle.lft_queue.specs.inner.Coming.AtOnce.{is_undelayed}
 use Rattle.lft_queue.proofs.coming.channels.channels_to.Given as goal
 
 abbrev pub invariant-loop-number : goal.invariant-loop-number

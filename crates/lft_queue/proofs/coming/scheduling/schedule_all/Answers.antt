@@ -1,6 +1,6 @@
 use Rattle.std.proofs.Common.{◌++◌, ◌∷◌, [], List, take, refl, ap, ◌∙◌, append_assoc}
 use Rattle.lft_ir.specs.declared.parts.Value.{Value}
-use Rattle.lft_queue.{specs.Coming.{Coming.{to_come, scheduled_by}, Lanes.held}, proofs.ComingLemmas.Scheduled.held_more}
+use Rattle.lft_queue.{specs.inner.Coming.{Coming.{to_come, scheduled_by}, Lanes.held}, proofs.ComingLemmas.Scheduled.held_more}
 use Rattle.lft_queue.proofs.coming.scheduling.schedule_all.Goals as goal
 
 pub loop-place-preserved : goal.loop-place-preserved

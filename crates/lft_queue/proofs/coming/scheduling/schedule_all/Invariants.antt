@@ -1,7 +1,7 @@
 use Rattle.std.proofs.Common.{◌≡◌, ◌++◌, List, take}
 use Rattle.lft_tag.specs.{declared.Tag.Tag, Tags.UpTo}
 use Rattle.lft_ir.specs.declared.{parts.Name.Name, steps.externals.Event.Event}
-use Rattle.lft_queue.specs.Coming.{Coming.{to_come, scheduled_by, IsClear, IsNoLater}, Lanes.held}
+use Rattle.lft_queue.specs.inner.Coming.{Coming.{to_come, scheduled_by, IsClear, IsNoLater}, Lanes.held}
 use Rattle.lft_queue.proofs.coming.scheduling.schedule_all.Given as goal
 
 abbrev pub invariant-loop-place : goal.invariant-loop-place

@@ -2,7 +2,7 @@ use Rattle.std.proofs.Common.{◌≡◌, ◌<◌, ◌⊎◌, inl, inr, ◌+◌, 
 use Rattle.std.proofs.lemmas.Option.{slice_get_read}
 use Rattle.lft_ir.proofs.Origins.{origin_inside}
 use Rattle.lft_lists.proofs.Places.{Some_same}
-use Rattle.lft_queue.specs.{Reading.is_read, Coming.Unread.AreSoonest}
+use Rattle.lft_queue.specs.inner.{Reading.is_read, Coming.Unread.AreSoonest}
 use Rattle.lft_queue.proofs.{ComingLemmas.Meeting.{soonest_first, soonest_stays, soonest_set}, coming.unread.soonest_of.Goals.{then-is_unread, else-is_unread}}
 use Rattle.lft_queue.proofs.coming.unread.soonest_of.Goals as goal
 

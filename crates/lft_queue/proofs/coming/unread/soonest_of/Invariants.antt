@@ -1,4 +1,4 @@
-use Rattle.lft_queue.specs.Coming.Unread.{AreSoonest}
+use Rattle.lft_queue.specs.inner.Coming.Unread.{AreSoonest}
 use Rattle.lft_queue.proofs.coming.unread.soonest_of.Given as goal
 
 abbrev pub invariant-ports : goal.invariant-ports

@@ -1,7 +1,7 @@
 use Rattle.std.proofs.Common.{◌≡◌, ◌∷◌, List, map, sym, ap, subst, ◌∙◌, rules}
 use Rattle.lft_tag.specs.declared.Tag.{Tag}
 use Rattle.lft_ir.specs.declared.parts.Value.{Value}
-use Rattle.lft_queue.{specs.{Pending.names_at, Keys.{Key, pending_at, AreFrom}}, proofs.Named.{rest_from, none_named}}
+use Rattle.lft_queue.{specs.inner.{Pending.names_at, Keys.{Key, pending_at, AreFrom}}, proofs.Named.{rest_from, none_named}}
 use Rattle.lft_queue.proofs.names.NamesAtIterator.next.Goals as goal
 
 pub invariant_of-self-then-not-is_same : goal.invariant_of-self-then-not-is_same

@@ -1,6 +1,6 @@
 use Rattle.std.proofs.Common.{◌≡◌, length, map}
 use Rattle.std.specs.List.{filter}
-use Rattle.lft_queue.specs.{Pending.is_after, Keys.pending_at}
+use Rattle.lft_queue.specs.{Pending.is_after, inner.Keys.pending_at}
 use Rattle.lft_queue.proofs.queue.Queue.drop_until.Given as goal
 
 -- what is to stay is what was to stay

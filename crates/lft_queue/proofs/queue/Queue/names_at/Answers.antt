@@ -1,7 +1,7 @@
 use Rattle.std.proofs.Common.{◌≡◌, ◌↔◌, ◌∙◌, List, IsSome, map, sym, ap, subst, Contains, ◌&&◌, true}
 use Rattle.std.specs.{List.{filter, Sorted.IsStrictlySortedBy}, Map.keys_of, Ordering.is_le}
 use Rattle.lft_ir.specs.declared.parts.{Value.Value, Name.Name}
-use Rattle.lft_queue.specs.{Pending.{Pending, value_of, names_at}, Keys.{Key, pending_at, key_cmp, AreFrom}}
+use Rattle.lft_queue.specs.{Pending.{Pending, value_of}, inner.{Pending.names_at, Keys.{Key, pending_at, key_cmp, AreFrom}}}
 use Rattle.lft_queue.proofs.Named.{from_on, are_from, names_from, named}
 use Rattle.lft_queue.proofs.queue.Queue.names_at.Goals as goal
 

@@ -1,7 +1,7 @@
 use Rattle.std.proofs.Common.{◌≡◌, ◌∙◌, List, Option, Some, None, IsSome, map, sym, ap, subst, cond, true, false, rules}
 use Rattle.std.specs.{Option.is_some, BTreeMap.is_at, Map.lookup}
 use Rattle.lft_ir.specs.declared.parts.Value.{Value}
-use Rattle.lft_queue.{specs.{Pending.{Pending, value_of, Becomes}, Keys.{Key, key_of, pending_at, key_cmp}}, proofs.Entries.{value_found, becomes}}
+use Rattle.lft_queue.{specs.{Pending.{Pending, value_of, Becomes}, inner.Keys.{Key, key_of, pending_at, key_cmp}}, proofs.Entries.{value_found, becomes}}
 use Rattle.lft_queue.proofs.queue.Queue.put.Goals as goal
 
 some : (o : Option Value) → is_some o ≡ true → IsSome o

@@ -2,7 +2,7 @@ use Rattle.std.proofs.Common.{◌≡◌, ◌∙◌, List, Option, Some, None, Is
 use Rattle.std.specs.Prelude.{Result, OnOk, OnErr}
 use Rattle.std.specs.{declared.result.Result.TheVariants.{Ok, Err}, BTreeMap.is_at, Map.lookup}
 use Rattle.lft_ir.specs.declared.parts.Value.{Value}
-use Rattle.lft_queue.{specs.{Pending.{Pending, value_of, Becomes}, Keys.{Key, key_of, pending_at, key_cmp}}, proofs.Entries.{value_found, becomes}}
+use Rattle.lft_queue.{specs.{Pending.{Pending, value_of, Becomes}, inner.Keys.{Key, key_of, pending_at, key_cmp}}, proofs.Entries.{value_found, becomes}}
 use Rattle.lft_queue.proofs.queue.Queue.replace.Goals as goal
 
 -- an insertion where the key is there isn't refused

@@ -1,4 +1,4 @@
-use Rattle.lft_races.specs.Hints.Actions.{AreActionsTo}
+use Rattle.lft_races.specs.inner.Hints.Actions.{AreActionsTo}
 use Rattle.lft_races.proofs.hints.guessing.trigger_actions.Given as goal
 
 abbrev pub invariant-loop-place : goal.invariant-loop-place

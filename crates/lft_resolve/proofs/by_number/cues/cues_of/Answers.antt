@@ -1,7 +1,7 @@
 use Rattle.std.proofs.Common.{Any, IsSomeAnd, map, filter_map, subst}
 use Rattle.std.proofs.lemmas.Result.{err_from_is_err_and}
 use Rattle.lft_tree.specs.View.{reaction_view, ref_views, trigger_view}
-use Rattle.lft_resolve.specs.{Directories.IsLost, Kinds.{in_role, reads_of, ref_in}, declared.kinds.Role.TheVariants.{Effect, Read}}
+use Rattle.lft_resolve.specs.{inner.Directories.IsLost, Kinds.{in_role, reads_of, ref_in}, declared.kinds.Role.TheVariants.{Effect, Read}}
 use Rattle.lft_resolve.proofs.{Joined.Any-role, Somes.{Any-left, Any-right, picked}}
 use Rattle.lft_resolve.proofs.by_number.cues.cues_of.Goals as goal
 

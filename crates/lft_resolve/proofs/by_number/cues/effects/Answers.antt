@@ -1,7 +1,7 @@
 use Rattle.std.proofs.Common.{take, sym}
 use Rattle.std.proofs.lemmas.Result.{err_from_is_err_and}
 use Rattle.lft_tree.specs.View.{ref_view, ref_views}
-use Rattle.lft_resolve.specs.{Directories.{IsLost, is_spot}, Sheets.IsSpot, declared.kinds.Role.TheVariants.Effect}
+use Rattle.lft_resolve.specs.{inner.{Directories.{IsLost, is_spot}, Sheets.IsSpot}, declared.kinds.Role.TheVariants.Effect}
 use Rattle.lft_resolve.proofs.{Files.AllZip-last, Lost.{lost, effect_spot}, Somes.some_here, Twice.map_last}
 use Rattle.lft_resolve.proofs.by_number.cues.effects.Goals as goal
 

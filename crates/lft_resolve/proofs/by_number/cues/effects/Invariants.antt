@@ -1,7 +1,7 @@
 use Rattle.std.proofs.Common.{List, take}
 use Rattle.std.specs.List.{AllZip}
 use Rattle.lft_tree.specs.{Tree.ReactorTree, View.ref_views}
-use Rattle.lft_resolve.specs.{Directories.IsAt, Sheets.IsSpot}
+use Rattle.lft_resolve.specs.inner.{Directories.IsAt, Sheets.IsSpot}
 use Rattle.lft_resolve.proofs.by_number.cues.effects.Given as goal
 
 abbrev pub invariant-loop-reference : goal.invariant-loop-reference

@@ -2,7 +2,8 @@ use Rattle.std.proofs.Common.{◌<◌, take, length, sym, arith}
 use Rattle.std.proofs.lemmas.Result.{err_from_is_err_and}
 use Rattle.lft_lists.proofs.Mapped.{mapped_at}
 use Rattle.lft_tree.specs.View.{reactor_view}
-use Rattle.lft_resolve.{specs.{Directories.HasLost, References.reactor_trees, Sheets.IsReactions}, proofs.{Files.AllZip-last, Somes.some_here, Twice.map_last}}
+use Rattle.lft_resolve.specs.inner.{Directories.HasLost, References.reactor_trees, Sheets.IsReactions}
+use Rattle.lft_resolve.proofs.{Files.AllZip-last, Somes.some_here, Twice.map_last}
 use Rattle.lft_resolve.proofs.by_number.cues.reactions_among.Goals as goal
 
 pub returns-in_err-reactions_in-clause-lost : goal.returns-in_err-reactions_in-clause-lost

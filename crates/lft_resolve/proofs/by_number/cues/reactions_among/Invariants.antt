@@ -1,6 +1,6 @@
 use Rattle.std.proofs.Common.{take}
 use Rattle.std.specs.List.{AllZip}
-use Rattle.lft_resolve.specs.{References.reactor_trees, Sheets.IsReactions}
+use Rattle.lft_resolve.specs.inner.{References.reactor_trees, Sheets.IsReactions}
 use Rattle.lft_resolve.proofs.by_number.cues.reactions_among.Given as goal
 
 abbrev pub invariant-loop-number : goal.invariant-loop-number

@@ -1,7 +1,7 @@
 use Rattle.std.proofs.Common.{◌≡◌, Any, map, filter_map, take, sym, ap, subst, ◌∙◌}
 use Rattle.std.proofs.lemmas.Result.{err_from_is_err_and}
 use Rattle.lft_tree.specs.{Tree.{reaction_in, reactions_of}, View.{member_view, reaction_view, reactor_view}}
-use Rattle.lft_resolve.specs.{Directories.IsLost, Kinds.reaction_refs, References.reaction_trees, Sheets.AreCues}
+use Rattle.lft_resolve.specs.{inner.{Directories.IsLost, References.reaction_trees, Sheets.AreCues}, Kinds.reaction_refs}
 use Rattle.lft_resolve.proofs.{Files.AllZip-last, Filtered.lost_reaction, Somes.some_here, Twice.map_last}
 use Rattle.lft_resolve.proofs.by_number.cues.reactions_in.Goals as goal
 

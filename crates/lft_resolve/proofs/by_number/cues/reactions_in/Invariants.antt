@@ -1,7 +1,7 @@
 use Rattle.std.proofs.Common.{List, take}
 use Rattle.std.specs.List.{AllZip}
 use Rattle.lft_tree.specs.Tree.{ReactorTree}
-use Rattle.lft_resolve.specs.{References.reaction_trees, Directories.IsAt, Sheets.AreCues}
+use Rattle.lft_resolve.specs.inner.{References.reaction_trees, Directories.IsAt, Sheets.AreCues}
 use Rattle.lft_resolve.proofs.by_number.cues.reactions_in.Given as goal
 
 abbrev pub invariant-loop-reaction : goal.invariant-loop-reaction

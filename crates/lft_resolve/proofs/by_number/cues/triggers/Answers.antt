@@ -1,7 +1,7 @@
 use Rattle.std.proofs.Common.{IsSomeAnd, map, take, sym}
 use Rattle.std.proofs.lemmas.Result.{err_from_is_err_and}
 use Rattle.lft_tree.specs.View.{trigger_view}
-use Rattle.lft_resolve.specs.{Directories.IsLost, Kinds.ref_in, Sheets.IsCue, declared.kinds.Role.TheVariants.Read}
+use Rattle.lft_resolve.specs.{inner.{Directories.IsLost, Sheets.IsCue}, Kinds.ref_in, declared.kinds.Role.TheVariants.Read}
 use Rattle.lft_resolve.proofs.{Files.AllZip-last, Somes.some_here, Twice.map_last}
 use Rattle.lft_resolve.proofs.by_number.cues.triggers.Goals as goal
 

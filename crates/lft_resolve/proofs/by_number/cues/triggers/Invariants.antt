@@ -1,7 +1,7 @@
 use Rattle.std.proofs.Common.{List, map, take}
 use Rattle.std.specs.List.{AllZip}
 use Rattle.lft_tree.specs.{Tree.ReactorTree, View.trigger_view}
-use Rattle.lft_resolve.specs.{Directories.IsAt, Sheets.IsCue}
+use Rattle.lft_resolve.specs.inner.{Directories.IsAt, Sheets.IsCue}
 use Rattle.lft_resolve.proofs.by_number.cues.triggers.Given as goal
 
 abbrev pub invariant-loop-trigger : goal.invariant-loop-trigger

@@ -1,7 +1,7 @@
 use Rattle.std.proofs.Common.{not, sym, ap}
 use Rattle.std.proofs.lemmas.Result.{err_from_is_err_and}
 use Rattle.lft_tree.specs.View.{ref_view}
-use Rattle.lft_resolve.specs.{Directories.IsLost, Sheets.{IsSpot, is_timer}, declared.kinds.Role.TheVariants.Read}
+use Rattle.lft_resolve.specs.{inner.{Directories.IsLost, Sheets.IsSpot}, Sheets.is_timer, declared.kinds.Role.TheVariants.Read}
 use Rattle.lft_resolve.proofs.{Filtered.{filtered_more, filtered_kept}, Lost.lost_read, Somes.some_here}
 use Rattle.lft_resolve.proofs.by_number.cues.uses.Goals.{in-Some, in-None+in_ok-spot-in-None+in_ok-push-in-None}
 use Rattle.lft_resolve.proofs.by_number.cues.uses.Goals as goal

@@ -1,7 +1,7 @@
 use Rattle.std.proofs.Common.{map, take}
 use Rattle.std.specs.List.{AllZip}
 use Rattle.lft_tree.specs.Tree.{ReactorTree}
-use Rattle.lft_resolve.specs.{Places.IsIndexOf, References.action_trees, Sheets.IsActionSheet}
+use Rattle.lft_resolve.specs.inner.{Places.IsIndexOf, References.action_trees, Sheets.IsActionSheet}
 use Rattle.lft_resolve.proofs.by_number.declaring.action_sheets.Given as goal
 
 abbrev pub invariant-loop-action : goal.invariant-loop-action

@@ -1,6 +1,6 @@
 use Rattle.std.proofs.Common.{◌≡◌, Any, filter_map, ap, subst, ◌∙◌}
 use Rattle.lft_tree.specs.{Tree.{reactor_in, reactors_of}, View.{item_views, tree_view}}
-use Rattle.lft_resolve.{specs.{Lacking.TimeLacksPlace, References.reactor_trees}, proofs.Lacking.none_lacks}
+use Rattle.lft_resolve.{specs.inner.{Lacking.TimeLacksPlace, References.reactor_trees}, proofs.Lacking.none_lacks}
 use Rattle.lft_resolve.proofs.by_number.declaring.declarations.Goals as goal
 
 pub declarations_among-requires : goal.declarations_among-requires

@@ -1,6 +1,6 @@
 use Rattle.std.proofs.Common.{take, sym}
 use Rattle.lft_tree.specs.View.{reactor_view}
-use Rattle.lft_resolve.specs.{Lacking.TimeLacksPlace, References.reactor_trees, Sheets.IsDeclarations}
+use Rattle.lft_resolve.specs.inner.{Lacking.TimeLacksPlace, References.reactor_trees, Sheets.IsDeclarations}
 use Rattle.lft_resolve.proofs.{Files.AllZip-last, Somes.some_here, Twice.map_last}
 use Rattle.lft_resolve.proofs.by_number.declaring.declarations_among.Goals as goal
 

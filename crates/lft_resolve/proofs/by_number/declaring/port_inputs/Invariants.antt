@@ -1,5 +1,5 @@
 use Rattle.std.proofs.Common.{◌≡◌, map, take}
-use Rattle.lft_resolve.specs.References.{port_trees}
+use Rattle.lft_resolve.specs.inner.References.{port_trees}
 use Rattle.lft_resolve.proofs.by_number.declaring.port_inputs.Given as goal
 
 abbrev pub invariant-loop-port : goal.invariant-loop-port

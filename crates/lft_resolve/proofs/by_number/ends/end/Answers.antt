@@ -1,5 +1,5 @@
 use Rattle.std.proofs.Common.{◌≡◌, None, Some, option_map, string_bytes, sym, ap, ◌∙◌}
-use Rattle.lft_resolve.{specs.{Kinds.{kind_inside, own_kind}, Sheets.port_place}, proofs.Lost.own_portless}
+use Rattle.lft_resolve.{specs.{Kinds.{kind_inside, own_kind}, inner.Sheets.port_place}, proofs.Lost.own_portless}
 use Rattle.lft_resolve.proofs.by_number.ends.end.Goals as goal
 
 pub returns-in-None-port-clause-lost : goal.returns-in-None-port-clause-lost

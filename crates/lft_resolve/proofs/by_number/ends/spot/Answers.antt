@@ -1,5 +1,5 @@
 use Rattle.std.proofs.Common.{◌≡◌, None, Some, option_map, string_bytes, sym, ap, ◌∙◌}
-use Rattle.lft_resolve.{specs.{Kinds.{kind_inside, own_kind}, Sheets.{action_place, port_place}}, proofs.Lost.own_spotless}
+use Rattle.lft_resolve.{specs.{Kinds.{kind_inside, own_kind}, inner.Sheets.{action_place, port_place}}, proofs.Lost.own_spotless}
 use Rattle.lft_resolve.proofs.by_number.ends.spot.Goals as goal
 
 pub returns-in-None-action-clause-lost : goal.returns-in-None-action-clause-lost

@@ -1,6 +1,6 @@
 use Rattle.std.proofs.Common.{option_map, string_bytes, ap, ◌∙◌}
 use Rattle.lft_tree.specs.View.{ref_view}
-use Rattle.lft_resolve.{specs.Sheets.timer_place, proofs.Lost.timer_there}
+use Rattle.lft_resolve.{specs.inner.Sheets.timer_place, proofs.Lost.timer_there}
 use Rattle.lft_resolve.proofs.by_number.ends.timer.Goals as goal
 
 pub returns-in-None : goal.returns-in-None

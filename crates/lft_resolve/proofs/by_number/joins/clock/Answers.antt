@@ -1,6 +1,6 @@
 use Rattle.std.proofs.Common.{◌≡◌, None, string_bytes, sym, ap, subst, ◌∙◌}
 use Rattle.lft_tree.specs.View.{time_view}
-use Rattle.lft_resolve.{specs.{Directories.IsLostTime, Sheets.parameter_place}, proofs.Lost.lost_time}
+use Rattle.lft_resolve.{specs.inner.{Directories.IsLostTime, Sheets.parameter_place}, proofs.Lost.lost_time}
 use Rattle.lft_resolve.proofs.by_number.joins.clock.Goals as goal
 
 pub returns-in-None-clause-lost : goal.returns-in-None-clause-lost

@@ -1,6 +1,6 @@
 use Rattle.std.proofs.Common.{◌≡◌, Any, map, filter_map, ap, subst, ◌∙◌}
 use Rattle.lft_tree.specs.{Tree.{reactor_in, reactors_of}, View.{item_view, tree_view}}
-use Rattle.lft_resolve.{specs.{Directories.HasLost, References.reactor_trees}, proofs.Joined.lost_nowhere}
+use Rattle.lft_resolve.{specs.inner.{Directories.HasLost, References.reactor_trees}, proofs.Joined.lost_nowhere}
 use Rattle.lft_resolve.proofs.by_number.joins.connections.Goals as goal
 
 pub unreachable-requires : goal.unreachable-requires

@@ -2,7 +2,7 @@ use Rattle.std.proofs.Common.{◌<◌, take, length, sym, arith}
 use Rattle.std.proofs.lemmas.Result.{err_from_is_err_and}
 use Rattle.lft_lists.proofs.Mapped.{mapped_at}
 use Rattle.lft_tree.specs.View.{reactor_view}
-use Rattle.lft_resolve.specs.{Directories.HasLost, References.reactor_trees, Sheets.IsConnections}
+use Rattle.lft_resolve.specs.inner.{Directories.HasLost, References.reactor_trees, Sheets.IsConnections}
 use Rattle.lft_resolve.proofs.{Files.AllZip-last, Somes.some_here, Twice.map_last}
 use Rattle.lft_resolve.proofs.by_number.joins.connections_among.Goals as goal
 

@@ -1,7 +1,7 @@
 use Rattle.std.proofs.Common.{◌≡◌, Any, map, filter_map, sym, ap, subst, ◌∙◌}
 use Rattle.std.proofs.lemmas.Result.{err_from_is_err_and}
 use Rattle.lft_tree.specs.{Tree.{connection_in, connections_of}, View.{connection_view, member_view, reactor_view}}
-use Rattle.lft_resolve.{specs.{Directories.LosesIn, References.connection_trees}, proofs.{Joined.lost_among, Somes.some_here}}
+use Rattle.lft_resolve.{specs.inner.{Directories.LosesIn, References.connection_trees}, proofs.{Joined.lost_among, Somes.some_here}}
 use Rattle.lft_resolve.proofs.by_number.joins.joins_of.Goals as goal
 
 pub returns-in_err-push_joins-clause-lost : goal.returns-in_err-push_joins-clause-lost

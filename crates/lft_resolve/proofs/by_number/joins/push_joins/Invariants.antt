@@ -1,7 +1,7 @@
 use Rattle.std.proofs.Common.{◌++◌, List, length, take}
 use Rattle.std.specs.List.{AllZip}
 use Rattle.lft_tree.specs.{Tree.ReactorTree, View.connection_view}
-use Rattle.lft_resolve.specs.{Directories.IsAt, Sheets.{IsJoin, Single, singles_in}}
+use Rattle.lft_resolve.specs.inner.{Directories.IsAt, Sheets.{IsJoin, Single, singles_in}}
 use Rattle.lft_resolve.proofs.by_number.joins.push_joins.Given as goal
 
 abbrev pub invariant-loop-from : goal.invariant-loop-from

@@ -2,7 +2,7 @@ use Rattle.std.proofs.Common.{◌≡◌, Any, true, take, sym, subst, arith}
 use Rattle.std.proofs.lemmas.Grind.{common_steps}
 use Rattle.lft_lists.proofs.Mapped.{mapped_at}
 use Rattle.lft_tree.specs.View.{reactor_view}
-use Rattle.lft_resolve.{specs.{Causes.NoMain, References.reactor_trees}, proofs.Firsts.{first_found, none_passes}}
+use Rattle.lft_resolve.{specs.{Causes.NoMain, inner.References.reactor_trees}, proofs.Firsts.{first_found, none_passes}}
 use Rattle.lft_resolve.proofs.by_number.main_place.number_of_main.Goals as goal
 
 pub returns-then-reactor : goal.returns-then-reactor

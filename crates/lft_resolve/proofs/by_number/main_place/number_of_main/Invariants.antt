@@ -1,5 +1,5 @@
 use Rattle.std.proofs.Common.{Any, true, ◌≡◌, take}
-use Rattle.lft_resolve.specs.References.{reactor_trees}
+use Rattle.lft_resolve.specs.inner.References.{reactor_trees}
 use Rattle.lft_resolve.proofs.by_number.main_place.number_of_main.Given as goal
 
 abbrev pub invariant-loop-number : goal.invariant-loop-number

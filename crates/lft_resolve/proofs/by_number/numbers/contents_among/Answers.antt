@@ -1,6 +1,6 @@
 use Rattle.std.proofs.Common.{take, sym}
 use Rattle.lft_tree.specs.View.{reactor_view}
-use Rattle.lft_resolve.specs.{Causes.{LacksReactor, UnknownReactor}, Numbers.IsContents, References.reactor_trees}
+use Rattle.lft_resolve.specs.{Causes.{LacksReactor, UnknownReactor}, inner.{Numbers.IsContents, References.reactor_trees}}
 use Rattle.lft_resolve.proofs.{Files.AllZip-last, Somes.some_here, Twice.map_last}
 use Rattle.lft_resolve.proofs.by_number.numbers.contents_among.Goals as goal
 

@@ -1,6 +1,6 @@
 use Rattle.std.proofs.Common.{take}
 use Rattle.std.specs.List.{AllZip}
-use Rattle.lft_resolve.specs.{Numbers.IsContents, References.reactor_trees}
+use Rattle.lft_resolve.specs.inner.{Numbers.IsContents, References.reactor_trees}
 use Rattle.lft_resolve.proofs.by_number.numbers.contents_among.Given as goal
 
 abbrev pub invariant-loop-reactor : goal.invariant-loop-reactor

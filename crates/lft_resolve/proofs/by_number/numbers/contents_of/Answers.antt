@@ -1,6 +1,6 @@
 use Rattle.std.proofs.Common.{◌≡◌, Some, None, Any, map, filter_map, take, string_bytes, refl, sym, ap, subst, ◌∙◌}
 use Rattle.lft_tree.specs.{View.{instance_view, member_view, reactor_view}, Tree.{instances_of, instance_in}}
-use Rattle.lft_resolve.specs.{Instances.reactor_named, Numbers.IsNumberOf, References.instance_trees}
+use Rattle.lft_resolve.specs.{Instances.reactor_named, inner.{Numbers.IsNumberOf, References.instance_trees}}
 use Rattle.lft_resolve.proofs.{Files.AllZip-last, Somes.some_here, Twice.map_last}
 use Rattle.lft_resolve.proofs.by_number.numbers.contents_of.Goals as goal
 

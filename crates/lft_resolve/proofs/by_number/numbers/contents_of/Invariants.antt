@@ -1,7 +1,7 @@
 use Rattle.std.proofs.Common.{List, take}
 use Rattle.std.specs.List.{AllZip}
 use Rattle.lft_tree.specs.Tree.{ReactorTree}
-use Rattle.lft_resolve.specs.{Numbers.{IsNumberOf, IsNumbers}, References.instance_trees}
+use Rattle.lft_resolve.specs.inner.{Numbers.{IsNumberOf, IsNumbers}, References.instance_trees}
 use Rattle.lft_resolve.proofs.by_number.numbers.contents_of.Given as goal
 
 abbrev pub invariant-loop-instance : goal.invariant-loop-instance

@@ -1,7 +1,7 @@
 use Rattle.std.proofs.Common.{map, take}
 use Rattle.std.specs.List.{AllZip}
 use Rattle.lft_tree.specs.{Tree.ReactorTree, View.assignment_view}
-use Rattle.lft_resolve.specs.{Places.IsIndexOf, Sheets.IsGiven}
+use Rattle.lft_resolve.specs.inner.{Places.IsIndexOf, Sheets.IsGiven}
 use Rattle.lft_resolve.proofs.by_number.settings.given_all.Given as goal
 
 abbrev pub invariant-loop-assignment : goal.invariant-loop-assignment

@@ -1,7 +1,7 @@
 use Rattle.std.proofs.Common.{List, map, take}
 use Rattle.std.specs.List.{AllZip}
 use Rattle.lft_tree.specs.Tree.{ReactorTree}
-use Rattle.lft_resolve.specs.{Places.IsIndexOf, References.instance_trees, Sheets.AreGiven, Tables.IsFile}
+use Rattle.lft_resolve.specs.inner.{Places.IsIndexOf, References.instance_trees, Sheets.AreGiven, Tables.IsFile}
 use Rattle.lft_resolve.proofs.by_number.settings.given_to_each.Given as goal
 
 abbrev pub invariant-loop-instance : goal.invariant-loop-instance

@@ -1,6 +1,6 @@
 use Rattle.std.proofs.Common.{◌≡◌, Any, filter_map, ap, subst, ◌∙◌}
 use Rattle.lft_tree.specs.{Tree.{reactor_in, reactors_of}, View.{item_views, tree_view}}
-use Rattle.lft_resolve.specs.{Causes.{LacksReactor, SomeGivesUnknown}, Lacking.TimeLacksPlace, References.reactor_trees}
+use Rattle.lft_resolve.specs.{Causes.{LacksReactor, SomeGivesUnknown}, inner.{Lacking.TimeLacksPlace, References.reactor_trees}}
 use Rattle.lft_resolve.proofs.{Lacking.{none_given, none_lacks, none_unknown}, by_number.settings.parameters.Goals.After-deref-2}
 use Rattle.lft_resolve.proofs.by_number.settings.parameters.Goals as goal
 

@@ -1,5 +1,5 @@
 use Rattle.std.proofs.Common.{◌≡◌, ◌<◌, ◌≤◌, length, Some, slice_get, arith, refl, subst, sym, ◌∙◌}
-use Rattle.lft_resolve.specs.{Expansion.{Numbers.things, Joins.HasJoin}, declared.expansion.joins.Site.Site}
+use Rattle.lft_resolve.specs.{inner.Expansion.{Numbers.things, Joins.HasJoin}, declared.expansion.joins.Site.Site}
 use Rattle.lft_resolve.proofs.ExpansionLemmas.Joining.{port_number, sited_more, sourced_more, sourced_next, sourced_end, sources_inside}
 use Rattle.lft_resolve.proofs.expansion.joins.find_sources.Goals.{After-item_at-join, After-port_of-to}
 use Rattle.lft_tag.specs.declared.Source.{Source}

@@ -1,5 +1,5 @@
 use Rattle.std.proofs.Common.{◌≡◌, min, take}
-use Rattle.lft_resolve.specs.Expansion.Numbers.{things}
+use Rattle.lft_resolve.specs.inner.Expansion.Numbers.{things}
 use Rattle.lft_resolve.proofs.expansion.numbering.count_things.Given as goal
 
 abbrev pub invariant-instances : goal.invariant-instances

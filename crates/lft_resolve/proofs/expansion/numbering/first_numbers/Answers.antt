@@ -1,5 +1,5 @@
 use Rattle.std.proofs.Common.{◌≡◌, ◌+◌, ◌<◌, ◌≤◌, length, arith}
-use Rattle.lft_resolve.specs.Expansion.Numbers.{count_of, things}
+use Rattle.lft_resolve.specs.inner.Expansion.Numbers.{count_of, things}
 use Rattle.lft_resolve.proofs.ExpansionLemmas.Things.{numbering_more, numbering_passed, numbering_total, walk_more_things, walk_not_more_things}
 use Rattle.lft_resolve.proofs.expansion.numbering.first_numbers.Goals.{Then-count-limit}
 use Rattle.lft_resolve.proofs.expansion.numbering.first_numbers.Goals as goal

@@ -1,5 +1,5 @@
 use Rattle.std.proofs.Common.{◌<◌, ◌++◌, sym, subst, Some, option_to_list}
-use Rattle.lft_resolve.{specs.Expansion.{Sources.IsFolded, Marks.steps_of}, proofs.ExpansionLemmas.Folding.folded_then}
+use Rattle.lft_resolve.{specs.inner.Expansion.{Sources.IsFolded, Marks.steps_of}, proofs.ExpansionLemmas.Folding.folded_then}
 use Rattle.lft_resolve.proofs.expansion.origins.extended.Goals as goal
 
 pub returns-in-Some-delay-clause-folded : goal.returns-in-Some-delay-clause-folded

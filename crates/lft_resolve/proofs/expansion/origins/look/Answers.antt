@@ -1,5 +1,5 @@
 use Rattle.std.proofs.Common.{◌≡◌, [], ◌++◌, refl, sym, ap, ◌∙◌, arith, Some, option_to_list}
-use Rattle.lft_resolve.specs.Expansion.Sources.{itself, over}
+use Rattle.lft_resolve.specs.inner.Expansion.Sources.{itself, over}
 use Rattle.lft_resolve.proofs.expansion.origins.look.Goals as goal
 
 pub returns-in-None : goal.returns-in-None

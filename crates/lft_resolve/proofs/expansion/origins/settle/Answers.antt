@@ -2,7 +2,7 @@ use Rattle.std.proofs.Common.{◌≡◌, ◌+◌, inl, length, [], ◌∷◌, �
 use Rattle.std.proofs.lemmas.Option.{slice_get_within}
 use Rattle.lft_lists.proofs.Members.{mem_right}
 use Rattle.lft_resolve.specs.declared.expansion.origins.{Mark.TheVariants.{New, Open, Done}, Next.TheVariants.First}
-use Rattle.lft_resolve.specs.Expansion.{Marks.{IsNext, tally}, Sources.Leads}
+use Rattle.lft_resolve.specs.inner.Expansion.{Marks.{IsNext, tally}, Sources.Leads}
 use Rattle.lft_resolve.proofs.ExpansionLemmas.Settling.{new_weight, Settling, settling_start, settling_done, settling_first, settling_cycle, tally_below, tally_written}
 use Rattle.lft_resolve.proofs.expansion.origins.settle.Goals.{In-Some, In-First}
 use Rattle.lft_resolve.proofs.expansion.origins.settle.Goals as goal

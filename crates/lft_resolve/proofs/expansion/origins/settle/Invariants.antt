@@ -1,5 +1,5 @@
 use Rattle.std.proofs.Common.{◌*◌, ◌+◌, length}
-use Rattle.lft_resolve.{specs.Expansion.Marks.tally, proofs.ExpansionLemmas.Settling.{new_weight, Settling}}
+use Rattle.lft_resolve.{specs.inner.Expansion.Marks.tally, proofs.ExpansionLemmas.Settling.{new_weight, Settling}}
 use Rattle.lft_resolve.proofs.expansion.origins.settle.Given as goal
 
 abbrev pub invariant-chain : goal.invariant-chain

@@ -1,5 +1,5 @@
 use Rattle.std.proofs.Common.{◌≡◌, ◌+◌, ◌≤◌, ◌<◌, length, List, [], ◌∷◌, ◌++◌, refl, sym, ap, ◌∙◌, subst, arith, Some, length-append}
-use Rattle.lft_resolve.specs.{declared.expansion.walk.{Instance.Instance, Frame.Frame}, Expansion.Contents.contained}
+use Rattle.lft_resolve.specs.{declared.expansion.walk.{Instance.Instance, Frame.Frame}, inner.Expansion.Contents.contained}
 use Rattle.lft_resolve.proofs.ExpansionLemmas.Walks.{Walking, walking_start, walking_pop, walking_make, walking_end, walking_more, root_instance, root_frame}
 use Rattle.lft_resolve.proofs.ExpansionLemmas.Limits.{walk_not_more}
 use Rattle.lft_resolve.proofs.expansion.walk.all_instances.Goals as goal

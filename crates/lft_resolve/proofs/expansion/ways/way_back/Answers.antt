@@ -1,5 +1,5 @@
 use Rattle.std.proofs.Common.{◌≡◌, [], ◌∷◌, ◌++◌, inr, sym, ap, ◌∙◌, subst, Some, slice_get}
-use Rattle.lft_resolve.{specs.Expansion.Ways.LeadsBack, proofs.ExpansionLemmas.Backwards.{back_more, pushed_some}}
+use Rattle.lft_resolve.{specs.inner.Expansion.Ways.LeadsBack, proofs.ExpansionLemmas.Backwards.{back_more, pushed_some}}
 use Rattle.lft_resolve.proofs.expansion.ways.way_back.Goals as goal
 
 pub returns-then-at-port : goal.returns-then-at-port

@@ -1,5 +1,5 @@
 use Rattle.std.proofs.Common.{◌<◌, length}
-use Rattle.lft_resolve.specs.Expansion.Ways.{LeadsBack}
+use Rattle.lft_resolve.specs.inner.Expansion.Ways.{LeadsBack}
 use Rattle.lft_resolve.proofs.expansion.ways.way_back.Given as goal
 
 abbrev pub invariant-back : goal.invariant-back

@@ -1,7 +1,7 @@
 use Rattle.std.proofs.Common.{◌≡◌, is_some, take, sym, ap, subst, ◌∙◌, arith}
 use Rattle.std.{specs.List.AllZip, proofs.lemmas.Grind.common_steps}
 use Rattle.lft_tree.specs.View.{reactor_view}
-use Rattle.lft_resolve.specs.{Places.IsIndexOf, References.reactor_trees, Tables.{IsOutside, with_name}, Tests.texts}
+use Rattle.lft_resolve.specs.inner.{Places.IsIndexOf, References.reactor_trees, Tables.{IsOutside, with_name}, Tests.texts}
 use Rattle.lft_resolve.proofs.{Files.named_some, Filtered.{filtered_more, filtered_kept}, NamedReactors.named}
 use Rattle.lft_resolve.proofs.file.File.of.Goals.{then-is_some+in_ok-of+in_ok-push, else-is_some}
 use Rattle.lft_resolve.proofs.file.File.of.Goals as goal

@@ -1,6 +1,6 @@
 use Rattle.std.proofs.Common.{◌≡◌, slice_get, Some, None, sym, ap, ◌∙◌}
 use Rattle.std.specs.Option.{option_and_then}
-use Rattle.lft_resolve.{specs.{Places.place, Tables.with_name}, proofs.{Files.{named-place, table_at}, NamedReactors.named, Placing.lent}}
+use Rattle.lft_resolve.{specs.inner.{Places.place, Tables.with_name}, proofs.{Files.{named-place, table_at}, NamedReactors.named, Placing.lent}}
 use Rattle.lft_resolve.proofs.file.File.reactor.Goals as goal
 
 pub returns-in-Some : goal.returns-in-Some

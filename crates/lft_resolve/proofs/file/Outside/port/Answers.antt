@@ -1,7 +1,7 @@
 use Rattle.std.proofs.Common.{◌≡◌, map, slice_get, find, option_map, Some, None, bytes_eq, sym, ap, ◌∙◌}
 use Rattle.std.{specs.Option.option_and_then, proofs.lemmas.Option.slice_get-map}
 use Rattle.lft_tree.specs.{Tree.{ReactorTree, ports_of}, View.port_view}
-use Rattle.lft_resolve.specs.{Kinds.inner_port, Places.place, References.port_trees, Tables.IsOutside}
+use Rattle.lft_resolve.specs.{Kinds.inner_port, inner.{Places.place, References.port_trees, Tables.IsOutside}}
 use Rattle.lft_resolve.proofs.{Placing.{find-place, lent}, file.Outside.port.Goals.After-get-in-Some}
 use Rattle.lft_resolve.proofs.file.Outside.port.Goals as goal
 

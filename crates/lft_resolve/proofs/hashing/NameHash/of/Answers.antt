@@ -1,6 +1,6 @@
 use Rattle.std.proofs.Common.{◌≡◌, length, map, ◌++◌, sym, ap, ◌∙◌}
 use Rattle.std.{specs.{List.{flat_map, fold}, Hash.{str, usize}}, proofs.lemmas.List.{length-map, Folds.flat_map-map}}
-use Rattle.lft_resolve.specs.Hashing.{seeded_by}
+use Rattle.lft_resolve.specs.inner.Hashing.{seeded_by}
 use Rattle.std.specs.Hash.DefaultHasher as sip
 use Rattle.lft_resolve.proofs.hashing.NameHash.of.Goals as goal
 

@@ -1,7 +1,7 @@
 use Rattle.std.proofs.Common.{length, ◌≤◌, sym, ap, ◌∙◌}
 use Rattle.std.{specs.List.{flat_map, fold}, proofs.lemmas.List.{take_all, Folds.flat_map-map}}
 use Rattle.lft_tree.specs.ItemView.{ref_view}
-use Rattle.lft_resolve.specs.Hashing.{reference_writes, seeded_by}
+use Rattle.lft_resolve.specs.inner.Hashing.{reference_writes, seeded_by}
 use Rattle.std.specs.Hash.DefaultHasher as sip
 use Rattle.lft_resolve.proofs.hashing.NameHash.of_references.Goals as goal
 

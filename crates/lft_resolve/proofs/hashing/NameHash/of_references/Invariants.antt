@@ -1,7 +1,7 @@
 use Rattle.std.proofs.Common.{◌≡◌, take}
 use Rattle.std.specs.List.{flat_map, fold}
 use Rattle.lft_tree.specs.ItemView.{ref_view}
-use Rattle.lft_resolve.specs.Hashing.{reference_writes}
+use Rattle.lft_resolve.specs.inner.Hashing.{reference_writes}
 use Rattle.std.specs.Hash.DefaultHasher as sip
 use Rattle.lft_resolve.proofs.hashing.NameHash.of_references.Given as goal
 

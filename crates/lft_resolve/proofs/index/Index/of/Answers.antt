@@ -1,6 +1,6 @@
 use Rattle.std.proofs.Common.{◌≡◌, ◌+◌, ◌++◌, ◌∷◌, ℕ, true, false, cond, List, [], take, length, get_or, Some, Bor, bytes_eq, sym, ap, subst, ◌∙◌, arith}
 use Rattle.std.{specs.Option.is_none, proofs.lemmas.Grind.common_steps}
-use Rattle.lft_resolve.specs.{Places.place, Tests.texts}
+use Rattle.lft_resolve.specs.inner.{Places.place, Tests.texts}
 use Rattle.lft_resolve.proofs.{Placing.{place_put, place_kept, is_nothing, same_test}, Twice.{get_or-itself, map_last}}
 use Rattle.lft_resolve.proofs.index.Index.of.Goals.{then-is_none+in_ok-put, else-is_none}
 use Rattle.lft_resolve.proofs.index.Index.of.Goals as goal

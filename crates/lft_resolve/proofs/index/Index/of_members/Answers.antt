@@ -1,6 +1,6 @@
 use Rattle.std.proofs.Common.{◌≡◌, ◌++◌, IfOk, filter_map, ap, subst, ◌∙◌}
 use Rattle.lft_tree.specs.View.{member_views, reactor_view}
-use Rattle.lft_resolve.{specs.{Places.IsIndexOf, Tests.{name_in, member_names, texts}}, proofs.NamedMembers.named_members}
+use Rattle.lft_resolve.{specs.inner.{Places.IsIndexOf, Tests.{name_in, member_names, texts}}, proofs.NamedMembers.named_members}
 use Rattle.lft_resolve.proofs.index.Index.of_members.Goals as goal
 
 pub returns : goal.returns

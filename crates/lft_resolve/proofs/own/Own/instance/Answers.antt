@@ -1,7 +1,7 @@
 use Rattle.std.proofs.Common.{◌≡◌, map, slice_get, option_map, Some, None, sym, ap, ◌∙◌}
 use Rattle.std.{specs.Option.option_and_then, proofs.lemmas.Option.slice_get-map}
 use Rattle.lft_tree.specs.{Tree.instances_of, View.instance_view}
-use Rattle.lft_resolve.{specs.{Places.place, References.instance_trees}, proofs.Placing.{find-place, lent}}
+use Rattle.lft_resolve.{specs.inner.{Places.place, References.instance_trees}, proofs.Placing.{find-place, lent}}
 use Rattle.lft_resolve.proofs.own.Own.instance.Goals as goal
 
 pub returns-in-Some : goal.returns-in-Some

@@ -1,6 +1,6 @@
 use Rattle.std.proofs.Common.{◌≡◌, slice_get, Some, None, sym, ap, ◌∙◌}
 use Rattle.std.specs.Option.{option_and_then}
-use Rattle.lft_resolve.{specs.{Kinds.{kinds_in, names_in}, Places.place}, proofs.{Owned.own_kind-place, Placing.lent}}
+use Rattle.lft_resolve.{specs.{inner.{Kinds.kinds_in, Places.place}, Kinds.names_in}, proofs.{Owned.own_kind-place, Placing.lent}}
 use Rattle.lft_resolve.proofs.own.Own.kind.Goals as goal
 
 pub returns-in-Some : goal.returns-in-Some

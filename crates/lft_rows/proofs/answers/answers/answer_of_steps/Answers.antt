@@ -2,7 +2,7 @@ use Rattle.std.proofs.Common.{◌+◌, ◌∷◌, [], map, take, get_or, ap, ◌
 use Rattle.std.proofs.lemmas.List.{map-append, take_more}
 use Rattle.lft_ir.specs.declared.parts.Name.TheVariants.{Port}
 use Rattle.lft_model.specs.Runs.{outcome_of}
-use Rattle.lft_rows.{specs.Answers.Answers.as_outcome, proofs.AnswersLemmas.Made.made_more}
+use Rattle.lft_rows.{specs.inner.Answers.Answers.as_outcome, proofs.AnswersLemmas.Made.made_more}
 use Rattle.lft_rows.proofs.answers.answers.answer_of_steps.Goals as goal
 
 pub loop-place-preserved : goal.loop-place-preserved

@@ -1,6 +1,6 @@
 use Rattle.std.proofs.Common.{◌≡◌, take, map}
 use Rattle.lft_model.specs.Runs.{outcome_of}
-use Rattle.lft_rows.specs.Answers.Answers.{as_outcome}
+use Rattle.lft_rows.specs.inner.Answers.Answers.{as_outcome}
 use Rattle.lft_rows.proofs.answers.answers.answer_of_steps.Given as goal
 
 abbrev pub invariant-loop-place : goal.invariant-loop-place

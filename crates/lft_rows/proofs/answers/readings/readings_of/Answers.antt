@@ -1,6 +1,6 @@
 use Rattle.std.proofs.Common.{◌+◌, take, sym, ap, ◌∙◌, subst, Option}
 use Rattle.lft_ir.specs.declared.parts.{Name.Name, Value.Value}
-use Rattle.lft_rows.specs.{Answers.Readings.{AreReadBy, read_as}, declared.answers.readings.Readings.Readings}
+use Rattle.lft_rows.specs.{inner.Answers.Readings.{AreReadBy, read_as}, declared.answers.readings.Readings.Readings}
 use Rattle.lft_rows.proofs.{AnswersLemmas.LastRead.{read_none, read_put}, answers.readings.readings_of.Goals.{in-Some+in_ok-put, in_default}}
 use Rattle.lft_rows.proofs.answers.readings.readings_of.Goals as goal
 

@@ -1,5 +1,5 @@
 use Rattle.std.proofs.Common.{take}
-use Rattle.lft_rows.specs.Answers.Readings.{AreReadBy}
+use Rattle.lft_rows.specs.inner.Answers.Readings.{AreReadBy}
 use Rattle.lft_rows.proofs.answers.readings.readings_of.Given as goal
 
 abbrev pub invariant-loop-place : goal.invariant-loop-place

@@ -1,5 +1,5 @@
 use Rattle.std.proofs.Common.{take}
-use Rattle.lft_rows.specs.Effects.{AreSetsOf}
+use Rattle.lft_rows.specs.inner.Effects.{AreSetsOf}
 use Rattle.lft_rows.proofs.effects.EffectSets.new.Given as goal
 
 abbrev pub invariant-loop-place : goal.invariant-loop-place

@@ -1,4 +1,4 @@
-use Rattle.lft_rows.specs.Effects.{AreFirst}
+use Rattle.lft_rows.specs.inner.Effects.{AreFirst}
 use Rattle.lft_rows.proofs.effects.Effects.new.Given as goal
 
 abbrev pub invariant-loop-number : goal.invariant-loop-number

@@ -1,5 +1,5 @@
 use Rattle.std.proofs.Common.{ℕ, ◌≡◌, subst, arith}
-use Rattle.lft_rows.{specs.Marks.AreMarks, proofs.Marked.marks_begin}
+use Rattle.lft_rows.{specs.inner.Marks.AreMarks, proofs.Marked.marks_begin}
 use Rattle.lft_rows.proofs.marks.Marks.pass_all.Goals as goal
 
 pub loop-place-init : goal.loop-place-init

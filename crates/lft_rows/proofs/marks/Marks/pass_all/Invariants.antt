@@ -1,4 +1,4 @@
-use Rattle.lft_rows.specs.Marks.{AreMarks}
+use Rattle.lft_rows.specs.inner.Marks.{AreMarks}
 use Rattle.lft_rows.proofs.marks.Marks.pass_all.Given as goal
 
 abbrev pub invariant-loop-place : goal.invariant-loop-place

@@ -5,7 +5,7 @@ use Rattle.lft_model.specs.Plans.{PlanParts}
 use Rattle.lft_rows.specs.declared.marks.Marks.{Marks}
 use Rattle.lft_rows.specs.declared.open.OpenRuns.{OpenRuns}
 use Rattle.lft_rows.specs.declared.pass.Known.{Known}
-use Rattle.lft_rows.specs.{Marks.AreMarks, Passes.{IsKnown, Holds, HasOpen, KeepsEarly}}
+use Rattle.lft_rows.specs.inner.{Marks.AreMarks, Passes.{IsKnown, Holds, HasOpen, KeepsEarly}}
 use Rattle.lft_rows.proofs.{Marked.other_step, Steps.{close_then, close_else, is_inside}, Whole.{add_start, add_inner}}
 use Rattle.lft_rows.proofs.pass.Known.add.Goals.{in-Start+in_ok-begin-in-Start, in-Read, in-End, in-Write, in-Schedule, in-Stop}
 use Rattle.lft_rows.proofs.pass.Known.add.Goals as goal

@@ -1,5 +1,5 @@
 use Rattle.std.proofs.Common.{◌∙◌, sym, subst, arith}
-use Rattle.lft_rows.{specs.Passes.{LastStart, OpenPlace}, proofs.{Early.latest_none, Marked.marks_begin}}
+use Rattle.lft_rows.{specs.inner.Passes.{LastStart, OpenPlace}, proofs.{Early.latest_none, Marked.marks_begin}}
 use Rattle.lft_rows.proofs.pass.Known.new.Goals as goal
 
 pub returns : goal.returns

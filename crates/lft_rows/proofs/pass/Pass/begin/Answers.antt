@@ -1,6 +1,6 @@
 use Rattle.std.proofs.Common.{subst, arith}
 use Rattle.lft_ir.specs.Parts.{Parts}
-use Rattle.lft_rows.specs.Passes.{IsKnown}
+use Rattle.lft_rows.specs.inner.Passes.{IsKnown}
 use Rattle.lft_rows.proofs.pass.Pass.begin.Goals as goal
 
 pub returns : goal.returns

@@ -1,6 +1,6 @@
 use Rattle.std.proofs.Common.{subst}
 use Rattle.lft_ir.specs.Parts.{Parts}
-use Rattle.lft_rows.{specs.Passes.IsKnown, proofs.Whole.{unended_first, early_first, none_first}}
+use Rattle.lft_rows.{specs.inner.Passes.IsKnown, proofs.Whole.{unended_first, early_first, none_first}}
 use Rattle.lft_model.proofs.Places.{slice_get_within}
 use Rattle.lft_rows.proofs.pass.Pass.first_breach.Goals as goal
 

@@ -1,6 +1,6 @@
 use Rattle.std.proofs.Common.{◌+◌, ◌<◌, length, arith, subst}
 use Rattle.lft_ir.specs.Parts.{Parts}
-use Rattle.lft_rows.{specs.Passes.IsKnown, proofs.Whole.keep_more}
+use Rattle.lft_rows.{specs.inner.Passes.IsKnown, proofs.Whole.keep_more}
 use Rattle.lft_rows.proofs.pass.Pass.go_on.Goals as goal
 
 pub add-requires-clause-kept : goal.add-requires-clause-kept

@@ -1,4 +1,4 @@
-use Rattle.lft_rows.specs.Passes.{HasPassed}
+use Rattle.lft_rows.specs.inner.Passes.{HasPassed}
 use Rattle.lft_rows.proofs.pass.Pass.go_on.Given as goal
 
 abbrev pub invariant-loop-place : goal.invariant-loop-place

@@ -1,6 +1,6 @@
 use Rattle.std.proofs.Common.{◌+◌, ◌<◌, length, subst, arith}
 use Rattle.lft_model.proofs.Places.{slice_get_within}
-use Rattle.lft_rows.specs.{declared.presence.causes.Cause.Cause, Presence.Causes.Leads}
+use Rattle.lft_rows.specs.{declared.presence.causes.Cause.Cause, inner.Presence.Causes.Leads}
 use Rattle.lft_rows.proofs.PresenceLemmas.{Lists.not_true, Positions.same_cause, Skips.{skip_one, skip_many}}
 use Rattle.lft_rows.proofs.presence.causes.skip.Goals.{else-next-causes-via-then-next-causes+else-leads, else-next-causes-via-else-next-causes}
 use Rattle.lft_rows.proofs.presence.causes.skip.Goals as goal

@@ -1,6 +1,6 @@
 use Rattle.std.proofs.Common.{◌≡◌, ◌+◌, List, length, Some, slice_get, sym, ap, ◌∙◌, subst, arith}
 use Rattle.lft_ir.specs.{Parts.Parts, declared.steps.externals.Event.Event}
-use Rattle.lft_rows.specs.{declared.presence.causes.Cause.Cause, Presence.Causes.{HasJust, event_cause}}
+use Rattle.lft_rows.specs.{declared.presence.causes.Cause.Cause, inner.Presence.Causes.{HasJust, event_cause}}
 use Rattle.lft_rows.proofs.PresenceLemmas.Made.{IsCauseTo, events_begin, event_more, events_end}
 use Rattle.lft_rows.proofs.presence.causing.add_events.Goals as goal
 

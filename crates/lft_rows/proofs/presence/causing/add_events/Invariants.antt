@@ -1,4 +1,4 @@
-use Rattle.lft_rows.{specs.Presence.Causes.HasJust, proofs.PresenceLemmas.Made.IsCauseTo}
+use Rattle.lft_rows.{specs.inner.Presence.Causes.HasJust, proofs.PresenceLemmas.Made.IsCauseTo}
 use Rattle.lft_rows.proofs.presence.causing.add_events.Given as goal
 
 abbrev pub invariant-loop-place : goal.invariant-loop-place

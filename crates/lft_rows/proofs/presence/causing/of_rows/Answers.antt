@@ -1,5 +1,5 @@
 use Rattle.std.proofs.Common.{◌+◌, List, sym, ap, ◌∙◌, subst, arith}
-use Rattle.lft_rows.specs.{declared.presence.causes.Cause.Cause, Presence.Causes.HasJust}
+use Rattle.lft_rows.specs.{declared.presence.causes.Cause.Cause, inner.Presence.Causes.HasJust}
 use Rattle.lft_rows.proofs.PresenceLemmas.Made.{IsRowCauseTo, row_is_none, row_is_one, rows_end}
 use Rattle.lft_rows.proofs.presence.causing.of_rows.Goals.{in-Some+in_ok-push, in_default}
 use Rattle.lft_rows.proofs.presence.causing.of_rows.Goals as goal

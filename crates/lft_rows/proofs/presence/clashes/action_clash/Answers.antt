@@ -1,7 +1,8 @@
 use Rattle.std.proofs.Common.{◌≡◌, ◌+◌, ℕ, false, length, Some, None, sym, ap, ◌∙◌, subst}
 use Rattle.lft_tag.specs.declared.Tag.{Tag}
 use Rattle.lft_ir.specs.Parts.{Parts}
-use Rattle.lft_rows.{specs.Presence.{Traces.LeastTag, Clashes.{HasTwo, IsFirstPair}}, proofs.PresenceLemmas.Collisions.{action_pair, action_no_pair}}
+use Rattle.lft_rows.specs.{Presence.Traces.LeastTag, inner.Presence.Clashes.{HasTwo, IsFirstPair}}
+use Rattle.lft_rows.proofs.PresenceLemmas.Collisions.{action_pair, action_no_pair}
 use Rattle.lft_rows.proofs.presence.clashes.action_clash.Goals as goal
 
 pub returns-in-Some : goal.returns-in-Some

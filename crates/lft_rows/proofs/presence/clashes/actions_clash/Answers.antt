@@ -1,6 +1,6 @@
 use Rattle.std.proofs.Common.{◌≡◌, ℕ, length, ap, ◌∙◌, subst, arith}
 use Rattle.lft_ir.specs.Parts.{Parts}
-use Rattle.lft_rows.{specs.Presence.{Traces.LeastTag, Clashes.ActionsClash}, proofs.PresenceLemmas.Collisions.actions_more}
+use Rattle.lft_rows.{specs.{Presence.Traces.LeastTag, inner.Presence.Clashes.ActionsClash}, proofs.PresenceLemmas.Collisions.actions_more}
 use Rattle.lft_rows.proofs.presence.clashes.actions_clash.Goals as goal
 
 pub loop-action-preserved : goal.loop-action-preserved

@@ -1,4 +1,4 @@
-use Rattle.lft_rows.specs.Presence.{Traces.LeastTag, Clashes.ActionsClash}
+use Rattle.lft_rows.specs.{Presence.Traces.LeastTag, inner.Presence.Clashes.ActionsClash}
 use Rattle.lft_rows.proofs.presence.clashes.actions_clash.Given as goal
 
 abbrev pub invariant-loop-action : goal.invariant-loop-action

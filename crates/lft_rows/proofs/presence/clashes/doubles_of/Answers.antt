@@ -1,5 +1,5 @@
 use Rattle.std.proofs.Common.{◌+◌, List, Option, sym, subst}
-use Rattle.lft_rows.{specs.{declared.presence.causes.Cause.Cause, Presence.Clashes.AreDoubles}, proofs.PresenceLemmas.Collisions.doubles_more}
+use Rattle.lft_rows.{specs.{declared.presence.causes.Cause.Cause, inner.Presence.Clashes.AreDoubles}, proofs.PresenceLemmas.Collisions.doubles_more}
 use Rattle.lft_rows.proofs.presence.clashes.doubles_of.Goals as goal
 
 pub loop-port-preserved : goal.loop-port-preserved

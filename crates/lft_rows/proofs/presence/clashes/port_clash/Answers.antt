@@ -2,7 +2,7 @@ use Rattle.std.proofs.Common.{◌≡◌, ◌<◌, true, length, Option, Some, No
 use Rattle.lft_tag.specs.{declared.Tag.Tag, Shifts.shifted}
 use Rattle.lft_ir.{proofs.Origins.origin_inside, specs.Parts.Parts}
 use Rattle.lft_model.specs.Presence.{PortClash}
-use Rattle.lft_rows.specs.{declared.presence.causes.Cause.Cause, Presence.{Causes.{IsNear, tag_of}, Traces.LeastTag, Clashes.IsFirstPair}}
+use Rattle.lft_rows.specs.{declared.presence.causes.Cause.Cause, inner.Presence.{Causes.{IsNear, tag_of}, Clashes.IsFirstPair}, Presence.Traces.LeastTag}
 use Rattle.lft_rows.proofs.PresenceLemmas.{Presences.chain_of, Collisions.{no_port_clash, port_no_pair, port_pair, pair_near}}
 use Rattle.lft_rows.proofs.presence.clashes.port_clash.Goals as goal
 

@@ -1,6 +1,6 @@
 use Rattle.std.proofs.Common.{◌≡◌, ℕ, length, ap, ◌∙◌, subst, arith}
 use Rattle.lft_ir.specs.Parts.{Parts}
-use Rattle.lft_rows.{specs.Presence.{Traces.LeastTag, Clashes.PortsClash}, proofs.PresenceLemmas.Collisions.ports_more}
+use Rattle.lft_rows.{specs.{Presence.Traces.LeastTag, inner.Presence.Clashes.PortsClash}, proofs.PresenceLemmas.Collisions.ports_more}
 use Rattle.lft_rows.proofs.presence.clashes.ports_clash.Goals as goal
 
 pub loop-port-preserved : goal.loop-port-preserved

@@ -1,4 +1,4 @@
-use Rattle.lft_rows.specs.Seats.{AreSeatsTo}
+use Rattle.lft_rows.specs.inner.Seats.{AreSeatsTo}
 use Rattle.lft_rows.proofs.seats.Inputs.new.Given as goal
 
 abbrev pub invariant-loop-place : goal.invariant-loop-place

@@ -1,7 +1,7 @@
 use Rattle.std.proofs.Common.{◌≡◌, ◌∷◌, [], ◌++◌, List, Option, sym, ap, ◌∙◌, subst}
 use Rattle.lft_ir.specs.declared.parts.Value.{Value}
 use Rattle.lft_model.specs.Recorded.{begun_rows}
-use Rattle.lft_scheduler.{specs.{declared.open.OpenRun.OpenRun, Agendas.{AgendaParts, IsAgenda}}, proofs.Ending.begun_agenda}
+use Rattle.lft_scheduler.{specs.{declared.open.OpenRun.OpenRun, inner.Agendas.{AgendaParts, IsAgenda}}, proofs.Ending.begun_agenda}
 use Rattle.lft_scheduler.proofs.agenda.Agenda.begin.Goals as goal
 
 pub returns-clause-ok : goal.returns-clause-ok

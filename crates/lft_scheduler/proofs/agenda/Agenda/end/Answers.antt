@@ -2,7 +2,7 @@ use Rattle.std.proofs.Common.{◌≡◌, ◌++◌, ◌<◌, ◌∙◌, Option, N
 use Rattle.std.specs.List.{filter}
 use Rattle.lft_tag.specs.declared.Tag.{Tag}
 use Rattle.lft_model.specs.{Presence.stop as the_stop, Recorded.committed_rows}
-use Rattle.lft_scheduler.specs.{Events.HasEvents, OpenRuns.is_run, Agendas.{AgendaParts, IsAgenda, IsOf}}
+use Rattle.lft_scheduler.specs.inner.{Events.HasEvents, OpenRuns.is_run, Agendas.{AgendaParts, IsAgenda, IsOf}}
 use Rattle.lft_scheduler.proofs.Ending.{its_end, from_here, ended_reached, may_go_on, stays_current, ended_agenda}
 use Rattle.lft_scheduler.proofs.agenda.Agenda.end.Goals as goal
 

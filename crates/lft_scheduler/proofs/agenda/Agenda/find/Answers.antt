@@ -1,5 +1,5 @@
 use Rattle.std.proofs.Common.{◌≡◌, ◌<◌, None, length, sym, subst, rules}
-use Rattle.lft_scheduler.{specs.Agendas.{AgendaParts, IsAgenda}, proofs.Told.{some_run, no_run, finds_ready, finds_blocked, finds_nothing}}
+use Rattle.lft_scheduler.{specs.inner.Agendas.{AgendaParts, IsAgenda}, proofs.Told.{some_run, no_run, finds_ready, finds_blocked, finds_nothing}}
 use Rattle.lft_scheduler.proofs.agenda.Agenda.find.Goals as goal
 
 pub returns-in-Some : goal.returns-in-Some

@@ -4,7 +4,7 @@ use Rattle.lft_ir.specs.{Parts.inputs, declared.parts.{Name.Name, Value.Value, R
 use Rattle.lft_lists.proofs.Places.{get_there}
 use Rattle.lft_queue.specs.Pending.{value_of}
 use Rattle.lft_model.{specs.{Presence.Inputs, Runs.inputs_of}, proofs.Quiet.pending_time}
-use Rattle.lft_scheduler.{proofs.Given.inputs_read, specs.{Starts.SomethingLeft, Agendas.{AgendaParts, IsAgenda}}}
+use Rattle.lft_scheduler.{proofs.Given.inputs_read, specs.{Starts.SomethingLeft, inner.Agendas.{AgendaParts, IsAgenda}}}
 use Rattle.std.proofs.lemmas.Result.{IfOk-weaker}
 use Rattle.lft_scheduler.proofs.agenda.Agenda.inputs.Goals as goal
 

@@ -4,8 +4,8 @@ use Rattle.lft_ir.specs.{Parts.Parts, Steps.Inputs.ExternalInputs}
 use Rattle.lft_graph.specs.Graph.{GraphParts, IsGraphOf}
 use Rattle.lft_scheduler.specs.declared.turn.phase.Phase.TheVariants.{Idle}
 use Rattle.lft_scheduler.specs.declared.open.OpenRun.{OpenRun}
-use Rattle.lft_scheduler.specs.{Listeners.{AreListeners, AreArrivals}, OpenRuns.AreOpen, Telling.{IsTold, TriggeredByQueue}, Firings.AreFirst}
-use Rattle.lft_scheduler.specs.Agendas.{IsCurrent, IsReached, MayAdvance}
+use Rattle.lft_scheduler.specs.inner.{Listeners.{AreListeners, AreArrivals}, OpenRuns.AreOpen, Telling.{IsTold, TriggeredByQueue}, Firings.AreFirst}
+use Rattle.lft_scheduler.specs.inner.Agendas.{IsCurrent, IsReached, MayAdvance}
 use Rattle.lft_scheduler.proofs.Beginning.{none_are_open, no_rows_yet, first_reached}
 use Rattle.lft_lists.proofs.Places.{length_same}
 use Rattle.lft_scheduler.proofs.agenda.Agenda.new.Goals as goal

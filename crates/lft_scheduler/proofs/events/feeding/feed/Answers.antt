@@ -2,7 +2,7 @@ use Rattle.std.proofs.Common.{◌++◌, List, None, map, take, sym, subst, arith
 use Rattle.std.proofs.lemmas.List.{take_all}
 use Rattle.lft_ir.specs.declared.steps.row.{Row.Row, Step.Step}
 use Rattle.lft_model.specs.Recorded.{run_row}
-use Rattle.lft_scheduler.{specs.Events.HasEvents, proofs.Steps.{step_more, end_fed}}
+use Rattle.lft_scheduler.{specs.inner.Events.HasEvents, proofs.Steps.{step_more, end_fed}}
 use Rattle.lft_scheduler.proofs.events.feeding.feed.Goals as goal
 
 pub loop-at-init : goal.loop-at-init

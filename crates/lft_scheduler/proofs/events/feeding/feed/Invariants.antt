@@ -2,7 +2,7 @@ use Rattle.std.proofs.Common.{ℕ, List, None, ◌++◌, map, take}
 use Rattle.lft_tag.specs.Tags.{UpTo}
 use Rattle.lft_ir.specs.declared.steps.row.Row.{Row}
 use Rattle.lft_model.specs.Recorded.{run_row}
-use Rattle.lft_scheduler.specs.Events.{HasEvents}
+use Rattle.lft_scheduler.specs.inner.Events.{HasEvents}
 use Rattle.lft_scheduler.proofs.events.feeding.feed.Given as goal
 
 abbrev pub invariant-loop-at : goal.invariant-loop-at

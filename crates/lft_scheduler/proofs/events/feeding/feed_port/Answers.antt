@@ -5,7 +5,7 @@ use Rattle.lft_ir.specs.{Parts.Parts, declared.{parts.{Port.Port as PortOf, Name
 use Rattle.lft_lists.proofs.Places.{same_some}
 use Rattle.lft_queue.specs.Pending.{Pending, Becomes}
 use Rattle.lft_model.specs.Recorded.{run_row}
-use Rattle.lft_scheduler.{specs.Events.{IsPut, IsFedTo}, proofs.{Fed.{again_fed, first_fed}, events.feeding.feed_port.Goals.{then-again, else-again}}}
+use Rattle.lft_scheduler.{specs.inner.Events.{IsPut, IsFedTo}, proofs.{Fed.{again_fed, first_fed}, events.feeding.feed_port.Goals.{then-again, else-again}}}
 use Rattle.lft_scheduler.proofs.events.feeding.feed_port.Goals as goal
 
 pub returns : goal.returns

@@ -2,7 +2,7 @@ use Rattle.std.proofs.Common.{◌≡◌, ◌+◌, ◌++◌, ◌∷◌, [], ℕ, 
 use Rattle.lft_tag.specs.{declared.Tag.Tag, Tags.after}
 use Rattle.lft_ir.specs.{Parts.Parts, declared.{parts.{Action.Action as ActionOf, Name.TheVariants.Action}, steps.row.Step.TheVariants.Schedule}}
 use Rattle.lft_model.specs.{Presence.min_delay, Recorded.run_row}
-use Rattle.lft_scheduler.{specs.Events.{IsPut, HasEvents}, proofs.Steps.schedule_fed}
+use Rattle.lft_scheduler.{specs.inner.Events.{IsPut, HasEvents}, proofs.Steps.schedule_fed}
 use Rattle.std.proofs.lemmas.Result.{IfOk-weaker}
 use Rattle.lft_scheduler.proofs.events.feeding.feed_schedule.Goals as goal
 

@@ -3,7 +3,7 @@ use Rattle.std.proofs.lemmas.{List.take_all, Option.slice_get_within}
 use Rattle.lft_ir.specs.declared.{parts.Name.TheVariants.Port, steps.row.Step.TheVariants.Write}
 use Rattle.lft_lists.proofs.Places.{contains_at}
 use Rattle.lft_queue.specs.Pending.{value_of}
-use Rattle.lft_scheduler.specs.{Listeners.{IsArrival, IsWatched}, Events.IsFedTo}
+use Rattle.lft_scheduler.specs.inner.{Listeners.{IsArrival, IsWatched}, Events.IsFedTo}
 use Rattle.lft_scheduler.proofs.{Fed.{taken_more, unmet_yet}, Steps.{none_fed, write_fed, knows_again}}
 use Rattle.lft_model.specs.Recorded.{run_row}
 use Rattle.lft_scheduler.proofs.events.feeding.feed_write.Goals as goal

@@ -2,7 +2,7 @@ use Rattle.std.proofs.Common.{ℕ, List, take}
 use Rattle.lft_tag.specs.Tags.{UpTo}
 use Rattle.lft_ir.specs.declared.{parts.Name.TheVariants.Port, steps.row.{Row.Row, Step.TheVariants.Write}}
 use Rattle.lft_model.specs.Recorded.{run_row}
-use Rattle.lft_scheduler.specs.Events.{HasEvents, IsFedTo}
+use Rattle.lft_scheduler.specs.inner.Events.{HasEvents, IsFedTo}
 use Rattle.lft_scheduler.proofs.events.feeding.feed_write.Given as goal
 
 abbrev pub invariant-loop-place : goal.invariant-loop-place

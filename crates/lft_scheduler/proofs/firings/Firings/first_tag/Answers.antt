@@ -1,6 +1,6 @@
 use Rattle.std.proofs.Common.{List, subst, sym, Contains}
 use Rattle.lft_tag.specs.{declared.Tag.Tag, Tags.UpTo}
-use Rattle.lft_scheduler.{specs.{declared.firings.Firing.Firing, Firings.tag_of_firing}, proofs.FirstFirings.least_firing}
+use Rattle.lft_scheduler.{specs.{declared.firings.Firing.Firing, inner.Firings.tag_of_firing}, proofs.FirstFirings.least_firing}
 use Rattle.lft_scheduler.proofs.firings.Firings.first_tag.Goals as goal
 
 pub returns-clause-least : goal.returns-clause-least

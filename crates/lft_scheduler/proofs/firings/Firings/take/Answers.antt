@@ -4,7 +4,7 @@ use Rattle.lft_tag.{specs.{declared.Tag.Tag, Tags.{Before, UpTo}}, proofs.Order.
 use Rattle.lft_ir.specs.declared.parts.Timer.{Timer as TimerOf}
 use Rattle.lft_lists.proofs.Places.{same_some}
 use Rattle.lft_model.specs.Presence.{Fires}
-use Rattle.lft_scheduler.specs.{declared.firings.Firing.Firing, Firings.{tag_of_firing, IsFirstFiring, IsFirstOf, IsMoved}}
+use Rattle.lft_scheduler.specs.{declared.firings.Firing.Firing, inner.Firings.{tag_of_firing, IsFirstFiring, IsFirstOf, IsMoved}}
 use Rattle.lft_scheduler.proofs.{FirstFirings.least_firing, Taking.{was, moved_out, moved_on}}
 use Rattle.lft_scheduler.proofs.firings.Firings.take.Goals as goal
 

@@ -1,5 +1,5 @@
 use Rattle.std.proofs.Common.{◌↔◌, ℕ, List, sym, ap, ◌∙◌, subst, Contains}
-use Rattle.lft_scheduler.specs.Listeners.{IsLive, ListenerParts}
+use Rattle.lft_scheduler.specs.inner.Listeners.{IsLive, ListenerParts}
 use Rattle.lft_scheduler.proofs.listeners.Listeners.live_timers.Goals as goal
 
 pub returns : goal.returns

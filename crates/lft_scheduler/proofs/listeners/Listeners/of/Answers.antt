@@ -1,5 +1,5 @@
 use Rattle.std.proofs.Common.{◌↔◌, ℕ, List, sym, ap, ◌∙◌, subst, Contains}
-use Rattle.lft_scheduler.specs.{Listeners.{IsListener, ListenerParts}, Lists.list_of}
+use Rattle.lft_scheduler.specs.inner.{Listeners.{IsListener, ListenerParts}, Lists.list_of}
 use Rattle.lft_scheduler.proofs.listeners.Listeners.of.Goals as goal
 
 pub returns : goal.returns

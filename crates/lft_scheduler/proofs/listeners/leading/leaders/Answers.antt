@@ -2,7 +2,7 @@ use Rattle.std.proofs.Common.{◌≡◌, ℕ, take, Option, Some, slice_get, sub
 use Rattle.std.{proofs.lemmas.Bool.false≢true, specs.{BTreeMap.get, Ordering.is_eq}}
 use Rattle.lft_ir.specs.declared.parts.Trigger.{Trigger, TheVariants.Timer}
 use Rattle.lft_lists.proofs.Places.{contains_at}
-use Rattle.lft_scheduler.specs.{Listeners.beat, Filling.{beat_cmp, StartsBefore}}
+use Rattle.lft_scheduler.specs.inner.{Listeners.beat, Filling.{beat_cmp, StartsBefore}}
 use Rattle.lft_scheduler.proofs.Leaders.{leaders_same, leaders_stay, leaders_new, leaders_within}
 use Rattle.lft_scheduler.proofs.listeners.leading.leaders.Goals.{in-Timer+then-starts_before+in_ok-_before, in-Timer+else-starts_before, in_default}
 use Rattle.lft_scheduler.proofs.listeners.leading.leaders.Goals as goal

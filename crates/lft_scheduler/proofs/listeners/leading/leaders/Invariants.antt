@@ -1,5 +1,5 @@
 use Rattle.std.proofs.Common.{take}
-use Rattle.lft_scheduler.specs.Filling.{HaveLeaders}
+use Rattle.lft_scheduler.specs.inner.Filling.{HaveLeaders}
 use Rattle.lft_scheduler.proofs.listeners.leading.leaders.Given as goal
 
 abbrev pub invariant-triggers : goal.invariant-triggers

@@ -1,7 +1,7 @@
 use Rattle.std.proofs.Common.{◌≡◌, ◌↔◌, ◌⊎◌, ◌+◌, ◌++◌, ℕ, List, Bool, true, Some, length, slice_get, take, drop, ap, subst, sym, ◌∙◌, arith, Contains}
 use Rattle.lft_ir.specs.declared.parts.Trigger.{Trigger, TheVariants.Timer}
 use Rattle.lft_lists.proofs.Places.{written_back}
-use Rattle.lft_scheduler.{specs.{Listeners.IsLeader, Filling.AreLeading}, proofs.Leaders.{leading_start, leading_more}}
+use Rattle.lft_scheduler.{specs.inner.{Listeners.IsLeader, Filling.AreLeading}, proofs.Leaders.{leading_start, leading_more}}
 use Rattle.lft_scheduler.proofs.listeners.leading.leading.Goals as goal
 
 pub reactions-init : goal.reactions-init

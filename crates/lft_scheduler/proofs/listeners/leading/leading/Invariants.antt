@@ -1,4 +1,4 @@
-use Rattle.lft_scheduler.specs.Filling.{AreLeading}
+use Rattle.lft_scheduler.specs.inner.Filling.{AreLeading}
 use Rattle.lft_scheduler.proofs.listeners.leading.leading.Given as goal
 
 abbrev pub invariant-reactions : goal.invariant-reactions

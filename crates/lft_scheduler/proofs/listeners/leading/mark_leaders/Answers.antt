@@ -2,7 +2,7 @@ use Rattle.std.proofs.Common.{◌≡◌, ℕ, Some, slice_get, subst, sym, ◌�
 use Rattle.std.{proofs.lemmas.Bool.false≢true, specs.BTreeMap.get}
 use Rattle.lft_ir.specs.declared.parts.Trigger.{Trigger, TheVariants.Timer}
 use Rattle.lft_lists.proofs.Places.{contains_at}
-use Rattle.lft_scheduler.specs.{Listeners.{beat, IsLeader}, Filling.beat_cmp}
+use Rattle.lft_scheduler.specs.inner.{Listeners.{beat, IsLeader}, Filling.beat_cmp}
 use Rattle.lft_scheduler.proofs.Leaders.{equal_some, some_equal, leader_within, leads_its_beat, marked_start, marked_other, marked_leader, marked_all}
 use Rattle.lft_scheduler.proofs.listeners.leading.mark_leaders.Goals.{in-Timer+then-eq, in-Timer+else-eq, in_default}
 use Rattle.lft_scheduler.proofs.listeners.leading.mark_leaders.Goals as goal

@@ -1,6 +1,6 @@
 use Rattle.std.proofs.Common.{◌≡◌, ◌+◌, ℕ, None, replicate, length, refl, sym, ◌∙◌, subst, arith, rules}
 use Rattle.std.proofs.lemmas.{Bool.false≢true, Option.slice_get_read}
-use Rattle.lft_scheduler.specs.Filling.{AreFirst}
+use Rattle.lft_scheduler.specs.inner.Filling.{AreFirst}
 use Rattle.lft_scheduler.proofs.{Arriving.origin_known, Watching.{first_start, first_stays, first_changes, first_inside}}
 use Rattle.lft_scheduler.proofs.listeners.watched.first_delayed.Goals.{then-precedes, else-precedes}
 use Rattle.lft_scheduler.proofs.listeners.watched.first_delayed.Goals as goal

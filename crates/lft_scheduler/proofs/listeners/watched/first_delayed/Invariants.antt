@@ -1,4 +1,4 @@
-use Rattle.lft_scheduler.specs.Filling.{AreFirst}
+use Rattle.lft_scheduler.specs.inner.Filling.{AreFirst}
 use Rattle.lft_scheduler.proofs.listeners.watched.first_delayed.Given as goal
 
 abbrev pub invariant-ports : goal.invariant-ports

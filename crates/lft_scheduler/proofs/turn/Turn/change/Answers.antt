@@ -1,6 +1,6 @@
 use Rattle.std.proofs.Common.{sym, subst}
 use Rattle.std.proofs.Common.{refl}
-use Rattle.lft_scheduler.{specs.Seats.{AreInside, AreOnce}, proofs.Mirroring.{mirror_inside, mirror_once}}
+use Rattle.lft_scheduler.{specs.inner.Seats.{AreInside, AreOnce}, proofs.Mirroring.{mirror_inside, mirror_once}}
 use Rattle.lft_scheduler.proofs.turn.Turn.change.Goals as goal
 
 pub change-requires-clause-inside : goal.change-requires-clause-inside

@@ -2,7 +2,7 @@ use Rattle.std.proofs.Common.{◌≡◌, List, length, replicate, sym, ap, ◌�
 use mathlib.Core.Bool.{Bool}
 use Rattle.lft_graph.specs.Graph.{IsGraphOf}
 use Rattle.lft_lists.proofs.Places.{length_same}
-use Rattle.lft_scheduler.specs.{declared.turn.{phase.Phase.TheVariants.Idle, seats.Seat.Seat}, Seats.{IsAtRest, phases_of}}
+use Rattle.lft_scheduler.specs.{declared.turn.{phase.Phase.TheVariants.Idle, seats.Seat.Seat}, inner.Seats.{IsAtRest, phases_of}}
 use Rattle.lft_scheduler.proofs.Starting.{idle_seat, idle_rest, phases_idle}
 use Rattle.lft_scheduler.proofs.turn.Turn.new.Goals as goal
 

@@ -1,6 +1,6 @@
 use Rattle.std.proofs.Common.{◌≡◌, ◌++◌, List, [], ℕ, length, ap, subst, arith, take, drop}
 use Rattle.lft_lists.proofs.Places.{contains_at, written_back}
-use Rattle.lft_scheduler.{specs.Seats.IsNoted, proofs.{Blocking.inside, Mirroring.mirrored_more}}
+use Rattle.lft_scheduler.{specs.inner.Seats.IsNoted, proofs.{Blocking.inside, Mirroring.mirrored_more}}
 use Rattle.lft_scheduler.proofs.turn.mirror.mirror.Goals as goal
 
 pub note-requires : goal.note-requires

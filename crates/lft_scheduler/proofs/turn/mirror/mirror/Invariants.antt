@@ -1,4 +1,4 @@
-use Rattle.lft_scheduler.specs.Seats.{IsMirrored}
+use Rattle.lft_scheduler.specs.inner.Seats.{IsMirrored}
 use Rattle.lft_scheduler.proofs.turn.mirror.mirror.Given as goal
 
 abbrev pub invariant-reactions : goal.invariant-reactions

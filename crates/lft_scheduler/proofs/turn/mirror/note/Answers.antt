@@ -1,6 +1,6 @@
 use Rattle.std.proofs.Common.{◌+◌, List, ℕ, sym, subst, arith, slice_set, slice_index_or, drop}
 use Rattle.std.proofs.lemmas.Option.{slice_get-get_or}
-use Rattle.lft_scheduler.{specs.Seats.IsNoted, proofs.Mirroring.noted_more}
+use Rattle.lft_scheduler.{specs.inner.Seats.IsNoted, proofs.Mirroring.noted_more}
 use Rattle.lft_scheduler.proofs.turn.mirror.note.Goals as goal
 
 pub members-preserved : goal.members-preserved

@@ -1,5 +1,5 @@
 use Rattle.std.proofs.Common.{drop}
-use Rattle.lft_scheduler.specs.Seats.{IsNoted}
+use Rattle.lft_scheduler.specs.inner.Seats.{IsNoted}
 use Rattle.lft_scheduler.proofs.turn.mirror.note.Given as goal
 
 abbrev pub invariant-members : goal.invariant-members

@@ -2,7 +2,7 @@ use Rattle.std.proofs.Common.{◌≡◌, List, [], refl, sym, ap, ◌∙◌, sub
 use Rattle.std.proofs.lemmas.List.{map-set}
 use mathlib.Core.Bool.{Bool}
 use Rattle.lft_lists.proofs.Places.{same_at}
-use Rattle.lft_scheduler.{specs.{declared.turn.seats.Seat.Seat, Seats.{busy, IsMoving, phases_of}}, proofs.Changing.{change_room, change_moves}}
+use Rattle.lft_scheduler.{specs.{declared.turn.seats.Seat.Seat, inner.Seats.{busy, IsMoving, phases_of}}, proofs.Changing.{change_room, change_moves}}
 use Rattle.lft_scheduler.proofs.turn.moving.change.Goals as goal
 
 pub write-top-requires-clause-room : goal.write-top-requires-clause-room

@@ -1,7 +1,7 @@
 use Rattle.std.proofs.Common.{◌≡◌, ℕ, ◌+◌, ◌-◌, ◌<◌, List, [], length, refl, ◌∙◌, subst, arith, Some, slice_get}
 use Rattle.std.proofs.lemmas.Option.{slice_get_within}
 use mathlib.Core.Bool.{Bool}
-use Rattle.lft_scheduler.specs.{declared.turn.seats.Seat.Seat, Seats.IsMoving}
+use Rattle.lft_scheduler.specs.{declared.turn.seats.Seat.Seat, inner.Seats.IsMoving}
 use Rattle.lft_scheduler.proofs.{Adding.tally_small, WrittenSeats.{popped, popped_fewer}, ToldSeats.phases_kept}
 use Rattle.lft_lists.proofs.Places.{get_there}
 use Rattle.lft_scheduler.proofs.turn.moving.settle.Goals as goal

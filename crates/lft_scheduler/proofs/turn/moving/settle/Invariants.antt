@@ -1,5 +1,5 @@
 use Rattle.std.proofs.Common.{[]}
-use Rattle.lft_scheduler.specs.Seats.{IsMoving, KeepsPhases, uncounted}
+use Rattle.lft_scheduler.specs.inner.Seats.{IsMoving, KeepsPhases, uncounted}
 use Rattle.lft_scheduler.proofs.turn.moving.settle.Given as goal
 
 abbrev pub invariant-walk : goal.invariant-walk

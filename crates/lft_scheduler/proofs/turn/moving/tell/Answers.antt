@@ -1,7 +1,7 @@
 use Rattle.std.proofs.Common.{◌≡◌, ◌+◌, List, refl, sym, ap, ◌∙◌, subst, arith, slice_set, drop, map}
 use mathlib.Core.Bool.{Bool}
 use Rattle.lft_lists.proofs.Places.{same_at}
-use Rattle.lft_scheduler.specs.{declared.turn.seats.Seat.Seat, Seats.{busy, uncounted, IsMoving}}
+use Rattle.lft_scheduler.specs.{declared.turn.seats.Seat.Seat, inner.Seats.{busy, uncounted, IsMoving}}
 use Rattle.lft_scheduler.proofs.ToldSeats.{IsTold, told_fits, told_some, told_room, told_moves, told_as_many, phases_kept}
 use Rattle.lft_scheduler.proofs.turn.moving.tell.Goals as goal
 

@@ -1,5 +1,5 @@
 use Rattle.std.proofs.Common.{◌≡◌, drop}
-use Rattle.lft_scheduler.specs.Seats.{IsMoving, KeepsPhases, uncounted}
+use Rattle.lft_scheduler.specs.inner.Seats.{IsMoving, KeepsPhases, uncounted}
 use Rattle.lft_scheduler.proofs.turn.moving.tell.Given as goal
 
 abbrev pub invariant-members : goal.invariant-members

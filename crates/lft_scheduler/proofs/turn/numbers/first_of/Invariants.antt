@@ -1,5 +1,5 @@
 use Rattle.std.proofs.Common.{◌*◌}
-use Rattle.lft_scheduler.specs.Flags.{NoneIn}
+use Rattle.lft_scheduler.specs.inner.Flags.{NoneIn}
 use Rattle.lft_scheduler.proofs.turn.numbers.first_of.Given as goal
 
 abbrev pub invariant-each : goal.invariant-each

@@ -1,4 +1,4 @@
-use Rattle.lft_scheduler.specs.Flags.{NoneIn}
+use Rattle.lft_scheduler.specs.inner.Flags.{NoneIn}
 use Rattle.lft_scheduler.proofs.turn.numbers.least_in.Given as goal
 
 abbrev pub invariant-places : goal.invariant-places

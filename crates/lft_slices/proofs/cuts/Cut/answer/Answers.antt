@@ -1,7 +1,7 @@
 use Rattle.std.proofs.Common.{◌≡◌, ◌∙◌, ap, subst, IfOk}
 use Rattle.lft_model.specs.Runs.{Answer}
 use Rattle.lft_rows.specs.Presence.Traces.{TraceParts}
-use Rattle.lft_check.specs.ByTag.Slices.{IsCuttable}
+use Rattle.lft_check.specs.inner.ByTag.Slices.{IsCuttable}
 use Rattle.lft_slices.proofs.Told.{starts_within, starts, told_answer, fits, keeps}
 use Rattle.lft_slices.proofs.cuts.Cut.answer.Goals as goal
 

@@ -1,7 +1,7 @@
 use Rattle.std.proofs.Common.{◌≡◌, List, Option, ◌∙◌, ap, subst, IfOk}
 use Rattle.lft_ir.specs.declared.parts.Value.{Value}
 use Rattle.lft_rows.specs.Presence.Traces.{TraceParts}
-use Rattle.lft_check.specs.ByTag.Slices.{IsCuttable}
+use Rattle.lft_check.specs.inner.ByTag.Slices.{IsCuttable}
 use Rattle.lft_slices.proofs.Told.{starts_within, starts, told_reads, fits, keeps}
 use Rattle.lft_slices.proofs.cuts.Cut.reads.Goals as goal
 

@@ -1,6 +1,6 @@
 use Rattle.std.proofs.Common.{subst}
 use Rattle.lft_rows.specs.Presence.Traces.{TraceParts}
-use Rattle.lft_slices.{specs.Pieces.ArePieces, proofs.{Piecing.{tag_there, range_there, runs_there}, cuts.Cut.slice.Goals.After-self}}
+use Rattle.lft_slices.{specs.inner.Pieces.ArePieces, proofs.{Piecing.{tag_there, range_there, runs_there}, cuts.Cut.slice.Goals.After-self}}
 use Rattle.lft_slices.proofs.cuts.Cut.slice.Goals as goal
 
 pieced : (c : After-self) → ArePieces c.args.self.now.rows c.self.inside.pieces

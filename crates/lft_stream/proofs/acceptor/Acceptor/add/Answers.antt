@@ -1,7 +1,7 @@
 use Rattle.std.proofs.Common.{rules, Option, subst}
 use Rattle.lft_model.specs.declared.breach.Breach.{Breach}
-use Rattle.lft_rows.specs.Firsts.{FirstRow}
-use Rattle.lft_stream.specs.Kept.{KeepRules}
+use Rattle.lft_rows.specs.inner.Firsts.{FirstRow}
+use Rattle.lft_stream.specs.inner.Kept.{KeepRules}
 use Rattle.lft_stream.proofs.acceptor.Acceptor.add.Goals as goal
 
 pub add_kept-requires : goal.add_kept-requires

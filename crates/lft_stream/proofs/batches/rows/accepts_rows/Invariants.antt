@@ -1,5 +1,5 @@
 use Rattle.std.proofs.Common.{◌-◌, ◌≤◌, take, length}
-use Rattle.lft_stream.specs.Kept.{IsAcceptorOf}
+use Rattle.lft_stream.specs.inner.Kept.{IsAcceptorOf}
 use Rattle.lft_stream.proofs.batches.rows.accepts_rows.Given as goal
 
 abbrev pub invariant-loop-first : goal.invariant-loop-first

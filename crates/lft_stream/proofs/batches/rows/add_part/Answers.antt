@@ -1,6 +1,6 @@
 use Rattle.std.proofs.Common.{List, take, subst}
 use Rattle.lft_ir.specs.declared.steps.row.Row.{Row}
-use Rattle.lft_stream.{specs.Kept.IsAcceptorOf, proofs.Parting.up_to_second}
+use Rattle.lft_stream.{specs.inner.Kept.IsAcceptorOf, proofs.Parting.up_to_second}
 use Rattle.lft_stream.proofs.batches.rows.add_part.Goals as goal
 
 pub add-requires-clause-stands : goal.add-requires-clause-stands

@@ -1,8 +1,8 @@
 use Rattle.std.proofs.Common.{◌≢◌, ◌∙◌, ◌++◌, List, ap, arith, length, refl, rules, subst, sym}
 use Rattle.std.proofs.lemmas.{Bool.{eqb-false, eqb-true}, Option.IfSome_then}
 use Rattle.lft_ir.specs.{Parts.Parts, Steps.Fits.RowsFit, declared.steps.row.Row.Row}
-use Rattle.lft_trace.{specs.Parts.{BeginsWith, HoldsRows, rows_of}, proofs.Beginning.begins_lines}
-use Rattle.lft_stream.{specs.Batches.Fronts.judged_rows, proofs.BatchesLemmas.{Reading.{gone_on, nothing_read, read_all}, Sharing.rows_behind}}
+use Rattle.lft_trace.{specs.inner.Parts.{BeginsWith, HoldsRows, rows_of}, proofs.Beginning.begins_lines}
+use Rattle.lft_stream.{specs.inner.Batches.Fronts.judged_rows, proofs.BatchesLemmas.{Reading.{gone_on, nothing_read, read_all}, Sharing.rows_behind}}
 use Rattle.lft_stream.proofs.batches.shared.accepts_text_shared.Goals as goal
 
 pub loop-rest-init : goal.loop-rest-init

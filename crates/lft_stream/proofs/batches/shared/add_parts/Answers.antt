@@ -1,8 +1,8 @@
 use Rattle.std.proofs.Common.{◌∙◌, ◌++◌, List, ap, arith, length, refl, subst, sym}
 use Rattle.std.proofs.lemmas.Option.{slice_get_read}
 use Rattle.lft_ir.specs.{Steps.Fits.RowsFit, declared.steps.row.Row.Row}
-use Rattle.lft_trace.specs.Telling.{rows_in}
-use Rattle.lft_stream.{specs.Batches.Fronts.{IsNextBehind, judged_rows}, proofs.BatchesLemmas.Sharing.{part_fits, part_next, part_on}}
+use Rattle.lft_trace.specs.inner.Telling.{rows_in}
+use Rattle.lft_stream.{specs.inner.Batches.Fronts.{IsNextBehind, judged_rows}, proofs.BatchesLemmas.Sharing.{part_fits, part_next, part_on}}
 use Rattle.lft_stream.proofs.batches.shared.add_parts.Goals as goal
 
 pub add_batch-requires-clause-batch_fit : goal.add_batch-requires-clause-batch_fit

@@ -1,7 +1,7 @@
 use Rattle.std.proofs.Common.{◌≡◌, ◌++◌, take}
 use Rattle.lft_ir.specs.Steps.Fits.{RowsFit}
-use Rattle.lft_trace.specs.Parts.{rows_of}
-use Rattle.lft_stream.specs.Batches.Fronts.{IsFront, judged_rows}
+use Rattle.lft_trace.specs.inner.Parts.{rows_of}
+use Rattle.lft_stream.specs.inner.Batches.Fronts.{IsFront, judged_rows}
 use Rattle.lft_stream.proofs.batches.shared.add_parts.Given as goal
 
 abbrev pub invariant-loop-place : goal.invariant-loop-place

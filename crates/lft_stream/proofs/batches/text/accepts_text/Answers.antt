@@ -1,5 +1,5 @@
 use Rattle.std.proofs.lemmas.Option.{IfSome_then}
-use Rattle.lft_stream.specs.Batches.Fronts.{judged_rows}
+use Rattle.lft_stream.specs.inner.Batches.Fronts.{judged_rows}
 use Rattle.lft_stream.proofs.batches.text.accepts_text.Goals as goal
 
 pub returns : goal.returns

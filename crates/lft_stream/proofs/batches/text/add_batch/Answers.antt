@@ -1,8 +1,9 @@
 use Rattle.std.proofs.Common.{◌∙◌, ◌++◌, List, length, ap, arith, refl, sym, subst, slice_range}
 use Rattle.std.proofs.lemmas.Option.{IfSome_then}
 use Rattle.lft_ir.specs.{Steps.Fits.RowsFit, declared.steps.row.Row.Row}
-use Rattle.lft_trace.specs.Telling.{rows_in}
-use Rattle.lft_stream.{specs.Batches.Fronts.judged_rows, proofs.{BatchesLemmas.Fronting.{first_next, part_waits, second_next, third_left}, Parting.range_fits}}
+use Rattle.lft_trace.specs.inner.Telling.{rows_in}
+use Rattle.lft_stream.specs.inner.Batches.Fronts.{judged_rows}
+use Rattle.lft_stream.proofs.{BatchesLemmas.Fronting.{first_next, part_waits, second_next, third_left}, Parting.range_fits}
 use Rattle.lft_stream.proofs.batches.text.add_batch.Goals as goal
 
 pub returns-then-same-batch-clause-fit : goal.returns-then-same-batch-clause-fit

@@ -1,5 +1,5 @@
 use Rattle.std.proofs.Common.{take}
-use Rattle.lft_trace.specs.Telling.{rows_in}
+use Rattle.lft_trace.specs.inner.Telling.{rows_in}
 use Rattle.lft_stream.proofs.batches.text.add_rows.Goals as goal
 
 pub add-requires : goal.add-requires

@@ -1,8 +1,8 @@
 use Rattle.std.proofs.Common.{◌∙◌, Option, sym, subst}
 use Rattle.std.specs.Prelude.{IfSome}
-use Rattle.lft_trace.specs.Telling.{rows_in}
+use Rattle.lft_trace.specs.inner.Telling.{rows_in}
 use Rattle.lft_counts.specs.{Cover.CoversRows, declared.cover.Cover.Cover}
-use Rattle.lft_stream.{specs.Batches.Fronts.judged_rows, proofs.BatchesLemmas.Counting.counts_whole}
+use Rattle.lft_stream.{specs.inner.Batches.Fronts.judged_rows, proofs.BatchesLemmas.Counting.counts_whole}
 use Rattle.lft_stream.proofs.batches.text.covers_text.Goals as goal
 
 pub returns : goal.returns

@@ -1,8 +1,8 @@
 use Rattle.std.proofs.Common.{◌≢◌, ◌++◌, ◌∙◌, List, length, ap, arith, refl, rules, sym, subst}
 use Rattle.std.proofs.lemmas.Bool.{eqb-false, eqb-true}
 use Rattle.lft_ir.specs.{Parts.Parts, Steps.Fits.RowsFit, declared.steps.row.Row.Row}
-use Rattle.lft_trace.specs.Parts.{BeginsWith}
-use Rattle.lft_stream.{specs.Batches.Fronts.{IsNextBehind, judged_rows}, proofs.BatchesLemmas.Reading.{batch_next, gone_on, nothing_read, read_all}}
+use Rattle.lft_trace.specs.inner.Parts.{BeginsWith}
+use Rattle.lft_stream.{specs.inner.Batches.Fronts.{IsNextBehind, judged_rows}, proofs.BatchesLemmas.Reading.{batch_next, gone_on, nothing_read, read_all}}
 use Rattle.lft_stream.proofs.batches.text.go_over.Goals as goal
 
 pub loop-rest-init : goal.loop-rest-init

@@ -1,7 +1,7 @@
 use Rattle.std.proofs.Common.{◌++◌, length}
 use Rattle.lft_ir.specs.Steps.Fits.{RowsFit}
-use Rattle.lft_trace.specs.Parts.{BeginsWith}
-use Rattle.lft_stream.specs.Batches.Fronts.{IsFront, IsNextBehind, judged_rows}
+use Rattle.lft_trace.specs.inner.Parts.{BeginsWith}
+use Rattle.lft_stream.specs.inner.Batches.Fronts.{IsFront, IsNextBehind, judged_rows}
 use Rattle.lft_stream.proofs.batches.text.go_over.Given as goal
 
 abbrev pub invariant-loop-rest : goal.invariant-loop-rest

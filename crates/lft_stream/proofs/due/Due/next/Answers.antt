@@ -1,6 +1,6 @@
 use Rattle.std.proofs.Common.{◌≡◌, ◌+◌, ◌∙◌, ap, subst, arith}
 use Rattle.lft_model.specs.Presence.{stop}
-use Rattle.lft_stream.{specs.{declared.due.Due.Due, Dues.{IsDue, IsDueAt}}, proofs.Owing.due_next}
+use Rattle.lft_stream.{specs.{declared.due.Due.Due, inner.Dues.{IsDue, IsDueAt}}, proofs.Owing.due_next}
 use Rattle.lft_stream.proofs.due.Due.next.Goals as goal
 
 pub returns-in_ok-time-in-AtTag : goal.returns-in_ok-time-in-AtTag

@@ -1,6 +1,6 @@
 use Rattle.std.proofs.Common.{◌≡◌, List, length, sym, ◌∙◌, subst, arith}
 use Rattle.std.proofs.lemmas.List.{with_items_is}
-use Rattle.lft_stream.specs.{declared.due.Due.Due, Dues.AreDue}
+use Rattle.lft_stream.specs.{declared.due.Due.Due, inner.Dues.AreDue}
 use Rattle.lft_stream.proofs.dues.Beats.meet.Goals as goal
 
 pub returns-clause-due : goal.returns-clause-due

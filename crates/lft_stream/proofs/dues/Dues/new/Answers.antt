@@ -1,6 +1,6 @@
 use Rattle.std.proofs.Common.{◌≡◌, List, [], ◌∷◌, ◌++◌, length, length-append, filter_map, refl, sym, ap, ◌∙◌, subst, arith, Some, slice_get}
 use Rattle.lft_ir.specs.{Parts.Parts, declared.parts.Trigger.Trigger}
-use Rattle.lft_stream.{specs.{declared.due.Due.Due, Dues.{timed, AreDue}}, proofs.Owing.{of_program, dues_push}}
+use Rattle.lft_stream.{specs.{declared.due.Due.Due, inner.Dues.{timed, AreDue}}, proofs.Owing.{of_program, dues_push}}
 use Rattle.lft_stream.proofs.dues.Dues.new.Goals as goal
 
 pub first_dues-requires : goal.first_dues-requires

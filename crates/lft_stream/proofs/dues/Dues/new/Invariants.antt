@@ -1,6 +1,6 @@
 use Rattle.std.proofs.Common.{◌≡◌, ℕ, List, [], length, filter_map, Some, slice_get}
 use Rattle.lft_ir.specs.declared.parts.Reaction.{Reaction}
-use Rattle.lft_stream.specs.{declared.due.Due.Due, Dues.{timed, AreDue}}
+use Rattle.lft_stream.specs.{declared.due.Due.Due, inner.Dues.{timed, AreDue}}
 use Rattle.lft_stream.proofs.dues.Dues.new.Given as goal
 
 abbrev pub invariant-loop-number : goal.invariant-loop-number

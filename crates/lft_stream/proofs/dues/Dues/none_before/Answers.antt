@@ -2,7 +2,7 @@ use Rattle.std.proofs.Common.{◌≡◌, ℕ, ◌+◌, ◌<◌, List, length, re
 use native.Mathlib.Decide.{ℕ_discrete}
 use Rattle.lft_lists.proofs.Places.{same_at}
 use Rattle.lft_model.proofs.Places.{slice_get_within}
-use Rattle.lft_stream.specs.{declared.due.Due.Due, Dues.IsDueBefore}
+use Rattle.lft_stream.specs.{declared.due.Due.Due, inner.Dues.IsDueBefore}
 use Rattle.lft_stream.proofs.dues.Dues.none_before.Goals as goal
 
 pub loop-number-preserved : goal.loop-number-preserved

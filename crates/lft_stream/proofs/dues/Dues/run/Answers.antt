@@ -1,7 +1,7 @@
 use Rattle.std.proofs.Common.{◌≡◌, List, sym, ap, ◌∙◌, subst, arith, Some, slice_get, slice_set, filter_map}
 use Rattle.std.proofs.lemmas.Option.{get_or_from_slice_get}
 use Rattle.lft_lists.proofs.Places.{get_there}
-use Rattle.lft_stream.{specs.{declared.due.Due.Due, Dues.{timed, AreDue, AreDues}}, proofs.Owing.{dues_set, timed_from}}
+use Rattle.lft_stream.{specs.{declared.due.Due.Due, inner.Dues.{timed, AreDue, AreDues}}, proofs.Owing.{dues_set, timed_from}}
 use Rattle.lft_stream.proofs.dues.Dues.run.Goals as goal
 
 pub returns-clause-dues : goal.returns-clause-dues

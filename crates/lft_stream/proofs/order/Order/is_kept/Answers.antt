@@ -1,5 +1,5 @@
 use Rattle.std.proofs.Common.{◌≡◌, true, false, sym, ◌∙◌, refl}
-use Rattle.lft_stream.{specs.Ordered.IsOrdered, proofs.{Ordering.ordered_law, order.Order.is_kept.Goals.{in-Some, in-None}}}
+use Rattle.lft_stream.{specs.inner.Ordered.IsOrdered, proofs.{Ordering.ordered_law, order.Order.is_kept.Goals.{in-Some, in-None}}}
 use Rattle.lft_stream.proofs.order.Order.is_kept.Goals as goal
 
 pub returns-then-is_ranked-clause-kept : goal.returns-then-is_ranked-clause-kept

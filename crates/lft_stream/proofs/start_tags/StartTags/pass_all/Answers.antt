@@ -3,7 +3,7 @@ use Rattle.lft_tag.specs.declared.Tag.{Tag}
 use Rattle.lft_ir.specs.declared.steps.row.{Row.Row, Step.TheVariants.Start}
 use Rattle.lft_model.specs.Runs.{start_row, Ran}
 use Rattle.lft_rows.proofs.Steps.{row_eq}
-use Rattle.lft_stream.{specs.StartTags.AreStartTags, proofs.start_tags.StartTags.pass_all.Goals.{then-is_start, else-is_start}}
+use Rattle.lft_stream.{specs.inner.StartTags.AreStartTags, proofs.start_tags.StartTags.pass_all.Goals.{then-is_start, else-is_start}}
 use Rattle.lft_stream.proofs.start_tags.StartTags.pass_all.Goals as goal
 
 pub begin-requires : goal.begin-requires

@@ -1,6 +1,6 @@
 use Rattle.std.proofs.Common.{◌++◌, take, refl, subst, sym}
-use Rattle.lft_rows.specs.Marks.{AreBefore}
-use Rattle.lft_stream.{specs.Kept.IsStreamOf, proofs.Parting.rises_from}
+use Rattle.lft_rows.specs.inner.Marks.{AreBefore}
+use Rattle.lft_stream.{specs.inner.Kept.IsStreamOf, proofs.Parting.rises_from}
 use Rattle.lft_stream.proofs.stream.Stream.add_kept.Goals as goal
 
 pub slice_from-slice-requires-clause-rises : goal.slice_from-slice-requires-clause-rises

@@ -1,9 +1,9 @@
 use Rattle.std.proofs.Common.{◌++◌, ◌-◌, ◌≤◌, List, take, length}
 use Rattle.std.specs.Prelude.{IfSome}
-use Rattle.lft_graph.specs.Sets.{AreAncestors}
+use Rattle.lft_graph.specs.inner.Sets.{AreAncestors}
 use Rattle.lft_ir.specs.declared.steps.row.Row.{Row}
-use Rattle.lft_rows.specs.Marks.{AreBefore}
-use Rattle.lft_stream.specs.Kept.{IsStreamOf, RisesAt}
+use Rattle.lft_rows.specs.inner.Marks.{AreBefore}
+use Rattle.lft_stream.specs.inner.Kept.{IsStreamOf, RisesAt}
 use Rattle.lft_stream.proofs.stream.Stream.add_kept.Given as goal
 
 abbrev pub invariant-loop-first : goal.invariant-loop-first

@@ -1,9 +1,9 @@
 use Rattle.std.proofs.Common.{ℕ, ◌+◌, ◌++◌, List, take, Option, ◌∙◌, ap, refl, sym, subst}
 use Rattle.lft_tag.specs.{declared.Tag.Tag, Tags.{UpTo, after}}
 use Rattle.lft_ir.specs.{Parts.Parts, declared.parts.Value.Value, Steps.{Fits.RowsFit, Inputs.ExternalInputs}}
-use Rattle.lft_rows.specs.Marks.{AreMarks}
-use Rattle.lft_queue.specs.Coming.{Channels.caused_by, Unread.{UnreadParts, AreUnread, AreFree}, Coming.{to_come, IsReached, IsClear, IsNoLater}, Lanes.held}
-use Rattle.lft_queue.specs.Coming.Writes.{AreEarlier}
+use Rattle.lft_rows.specs.inner.Marks.{AreMarks}
+use Rattle.lft_queue.specs.inner.Coming.{Channels.caused_by, Unread.{UnreadParts, AreUnread, AreFree}, Coming.{to_come, IsReached, IsClear, IsNoLater}}
+use Rattle.lft_queue.specs.inner.Coming.{Lanes.held, Writes.AreEarlier}
 use Rattle.lft_queue.specs.declared.coming.{coming.Coming.Coming, writes.Written.Written}
 use Rattle.lft_stream.proofs.{Parting.{rows_of, are_at, part_fits}, Keeping.{own_kept, own_before, at_hand, slice_grows}}
 use Rattle.lft_stream.proofs.stream.Stream.add_slice.Goals as goal

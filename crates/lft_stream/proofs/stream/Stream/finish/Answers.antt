@@ -1,6 +1,6 @@
 use Rattle.std.proofs.Common.{subst, refl}
 use Rattle.lft_ir.specs.Steps.Inputs.{ExternalInputs}
-use Rattle.lft_queue.specs.Coming.Coming.{AreOver}
+use Rattle.lft_queue.specs.inner.Coming.Coming.{AreOver}
 use Rattle.lft_stream.proofs.Keeping.{accepts_kept}
 use Rattle.lft_stream.proofs.stream.Stream.finish.Goals as goal
 

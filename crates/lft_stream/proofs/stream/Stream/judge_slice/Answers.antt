@@ -1,7 +1,7 @@
 use Rattle.std.proofs.Common.{◌++◌, refl, slice_range, subst, sym}
 use Rattle.lft_ir.specs.Parts.{Parts}
-use Rattle.lft_queue.specs.Coming.Writes.{AreWrites}
-use Rattle.lft_stream.{specs.{Dues.AreDuesAt, Present.AreShown, StartTags.AreStartTags}, proofs.Parting.are_at}
+use Rattle.lft_queue.specs.inner.Coming.Writes.{AreWrites}
+use Rattle.lft_stream.{specs.inner.{Dues.AreDuesAt, Present.AreShown, StartTags.AreStartTags}, proofs.Parting.are_at}
 use Rattle.lft_stream.proofs.stream.Stream.judge_slice.Goals as goal
 
 pub are_triggered-requires-clause-dues : goal.are_triggered-requires-clause-dues

@@ -1,8 +1,8 @@
 use Rattle.std.proofs.Common.{None, [], refl, ap, ◌∙◌, subst}
 use Rattle.lft_tag.specs.declared.Tag.{Tag}
 use Rattle.lft_ir.specs.{Parts.Parts, Steps.Inputs.ExternalInputs}
-use Rattle.lft_queue.specs.Coming.{Channels.AreReadChannels, Unread.AreUnread, Writes.AreEarlier}
-use Rattle.lft_stream.{specs.StartTags.AreStartTags, proofs.Keeping.begins_kept}
+use Rattle.lft_queue.specs.inner.Coming.{Channels.AreReadChannels, Unread.AreUnread, Writes.AreEarlier}
+use Rattle.lft_stream.{specs.inner.StartTags.AreStartTags, proofs.Keeping.begins_kept}
 use Rattle.lft_stream.proofs.stream.Stream.new.Goals as goal
 
 pub returns : goal.returns

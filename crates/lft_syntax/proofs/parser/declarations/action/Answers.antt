@@ -1,6 +1,6 @@
 use Rattle.std.proofs.Common.{◌≡◌, ℕ, ◌+◌, subst, arith}
 use Rattle.std.specs.Prelude.{string_bytes, IfSome}
-use Rattle.lft_syntax.specs.{Placed.{IsWord, TimeStands}, Parsing.words}
+use Rattle.lft_syntax.specs.{Placed.{IsWord, TimeStands}, inner.Parsing.words}
 use Rattle.lft_syntax.proofs.parser.declarations.action.Goals as goal
 
 pub returns-clause-stands : goal.returns-clause-stands

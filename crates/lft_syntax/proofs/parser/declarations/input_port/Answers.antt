@@ -1,6 +1,6 @@
 use Rattle.std.proofs.Common.{◌≡◌, ℕ, ◌+◌, Bool, true, false, subst, ◌∙◌, arith}
 use Rattle.std.specs.Prelude.{codes, slice_get, string_bytes, if◌then◌else◌}
-use Rattle.lft_syntax.specs.{Lexeme.{Letters, is}, Placed.{IsWord, port_token}, Parsing.words}
+use Rattle.lft_syntax.specs.{Lexeme.{Letters, is}, Placed.{IsWord, port_token}, inner.Parsing.words}
 use Rattle.lft_syntax.proofs.parser.declarations.input_port.Goals as goal
 
 one_more : (i j : ℕ) (b : Bool) → j ≡ (if b then i + 1 else i) → j + 1 ≡ (if b then i + 2 else i + 1)

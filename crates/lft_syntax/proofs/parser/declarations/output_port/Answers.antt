@@ -1,6 +1,6 @@
 use Rattle.std.proofs.Common.{ℕ, subst}
 use Rattle.std.specs.Prelude.{string_bytes}
-use Rattle.lft_syntax.specs.{Placed.IsWord, Parsing.words}
+use Rattle.lft_syntax.specs.{Placed.IsWord, inner.Parsing.words}
 use Rattle.lft_syntax.proofs.parser.declarations.output_port.Goals as goal
 
 pub returns-clause-stands : goal.returns-clause-stands

@@ -1,7 +1,7 @@
 use Rattle.std.proofs.Common.{ℕ, length, subst, arith}
 use Rattle.std.specs.Prelude.{option_map}
 use Rattle.lft_tree.specs.View.{range_view}
-use Rattle.lft_syntax.{specs.{Language.many, Parsing.words}, proofs.{Loop.known, Files.right_maybe_target}}
+use Rattle.lft_syntax.{specs.{Language.many, inner.Parsing.words}, proofs.{Loop.known, Files.right_maybe_target}}
 use Rattle.lft_syntax.specs.Placed as Placed
 use Rattle.lft_syntax.proofs.parser.file.file.Goals as goal
 

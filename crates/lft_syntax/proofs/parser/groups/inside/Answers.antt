@@ -1,6 +1,6 @@
 use Rattle.std.proofs.Common.{suc, ◌∙◌, sym, length}
 use Rattle.std.proofs.lemmas.Result.{err_from_is_err_and}
-use Rattle.lft_syntax.{specs.{Lexeme.Symbol, Reading.inside_at, Parsing.words}, proofs.Inside.{rest_past, within_is, within_turns, within_fails}}
+use Rattle.lft_syntax.{specs.{Lexeme.Symbol, inner.{Reading.inside_at, Parsing.words}}, proofs.Inside.{rest_past, within_is, within_turns, within_fails}}
 use Rattle.lft_syntax.proofs.parser.groups.inside.Goals as goal
 
 pub returns-in_err-still_open : goal.returns-in_err-still_open

@@ -1,5 +1,5 @@
 use Rattle.std.proofs.Common.{suc, ◌-◌, length}
-use Rattle.lft_syntax.{specs.{Lexeme.Symbol, Reading.inside_at, Parsing.words}, proofs.Inside.Within}
+use Rattle.lft_syntax.{specs.{Lexeme.Symbol, inner.{Reading.inside_at, Parsing.words}}, proofs.Inside.Within}
 use Rattle.lft_syntax.proofs.parser.groups.inside.Given as goal
 
 abbrev pub invariant-group : goal.invariant-group

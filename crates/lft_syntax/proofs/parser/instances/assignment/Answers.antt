@@ -1,6 +1,6 @@
 use Rattle.std.proofs.Common.{◌≡◌, ℕ, ◌+◌, Bool, true, false, refl, ap, ◌∙◌, arith}
 use Rattle.std.specs.Prelude.{slice_get, if◌then◌else◌}
-use Rattle.lft_syntax.specs.{Lexeme.{Symbol, is}, Placed.time_tokens, Parsing.words}
+use Rattle.lft_syntax.specs.{Lexeme.{Symbol, is}, Placed.time_tokens, inner.Parsing.words}
 use Rattle.lft_syntax.proofs.parser.instances.assignment.Goals as goal
 
 ends : (i n : ℕ) (b : Bool) → i + 1 + (if b then n + 1 else n + 2) ≡ i + (if b then n + 2 else n + 3)

@@ -1,6 +1,6 @@
 use Rattle.std.proofs.Common.{◌≡◌, ℕ, ◌+◌, ap, subst, ◌∙◌}
 use Rattle.std.specs.Prelude.{IfSome}
-use Rattle.lft_syntax.specs.{Placed.{ReferencesStand, TimeStands, references_tokens}, Parsing.words}
+use Rattle.lft_syntax.specs.{Placed.{ReferencesStand, TimeStands, references_tokens}, inner.Parsing.words}
 use Rattle.lft_syntax.proofs.parser.instances.connection.Goals as goal
 
 pub returns-clause-stands : goal.returns-clause-stands

@@ -1,6 +1,6 @@
 use Rattle.std.proofs.Common.{◌≡◌, false, sym, ◌∙◌, arith}
 use Rattle.std.specs.Prelude.{slice_get}
-use Rattle.lft_syntax.specs.{Lexeme.{Symbol, is}, Parsing.words}
+use Rattle.lft_syntax.specs.{Lexeme.{Symbol, is}, inner.Parsing.words}
 use Rattle.lft_syntax.proofs.parser.instances.given_value.Goals as goal
 
 pub returns-clause-stands : goal.returns-clause-stands

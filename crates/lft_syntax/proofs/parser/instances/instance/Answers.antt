@@ -1,6 +1,6 @@
 use Rattle.std.proofs.Common.{◌≡◌, ℕ, ◌+◌, refl, subst, arith}
 use Rattle.std.specs.Prelude.{string_bytes}
-use Rattle.lft_syntax.specs.{Placed.{IsWord, AssignmentsStand}, Parsing.words}
+use Rattle.lft_syntax.specs.{Placed.{IsWord, AssignmentsStand}, inner.Parsing.words}
 use Rattle.lft_syntax.proofs.parser.instances.instance.Goals as goal
 
 pub returns-clause-stands : goal.returns-clause-stands

@@ -1,5 +1,5 @@
 use Rattle.std.proofs.Common.{ℕ, subst}
-use Rattle.lft_syntax.specs.{Language.many, Parsing.words}
+use Rattle.lft_syntax.specs.{Language.many, inner.Parsing.words}
 use Rattle.lft_syntax.specs.Placed as Placed
 use Rattle.lft_syntax.proofs.parser.members.body.Goals as goal
 

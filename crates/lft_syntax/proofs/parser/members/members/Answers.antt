@@ -1,6 +1,6 @@
 use Rattle.std.proofs.Common.{◌≡◌, ◌++◌, ◌∷◌, [], refl, sym, ◌∙◌, ap, arith}
 use Rattle.std.proofs.lemmas.{Result.err_from_is_err_and, List.map_push}
-use Rattle.lft_syntax.specs.{Lexeme.negated, Reading.{is_inside, member_at, members_at}, Parsing.words}
+use Rattle.lft_syntax.specs.{Lexeme.negated, inner.{Reading.{is_inside, member_at, members_at}, Parsing.words}}
 use Rattle.lft_syntax.proofs.{Loop.{loop_starts, loop_fails, loop_turns, loop_done, known}, Rows.many_push, Members.right_member}
 use Rattle.lft_tree.specs.View.{member_view, member_views}
 use Rattle.lft_syntax.specs.Placed as Placed

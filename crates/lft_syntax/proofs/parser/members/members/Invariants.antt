@@ -1,6 +1,6 @@
 use Rattle.std.proofs.Common.{◌-◌, ◌≤◌, length}
 use Rattle.lft_tree.specs.View.{member_views}
-use Rattle.lft_syntax.{specs.{Reading.{is_inside, member_at, members_at}, Language.many, Parsing.words}, proofs.Loop.SoFar}
+use Rattle.lft_syntax.{specs.{inner.{Reading.{is_inside, member_at, members_at}, Parsing.words}, Language.many}, proofs.Loop.SoFar}
 use Rattle.lft_syntax.specs.Placed as Placed
 use Rattle.lft_syntax.proofs.parser.members.members.Given as goal
 

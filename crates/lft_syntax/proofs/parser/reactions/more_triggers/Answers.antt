@@ -1,8 +1,8 @@
 use Rattle.std.proofs.Common.{◌≡◌, List, ◌++◌, ◌∷◌, [], refl, sym, ap, ◌∙◌, arith}
 use Rattle.std.specs.Prelude.{map}
 use Rattle.std.proofs.lemmas.{Result.err_from_is_err_and, List.map_push}
-use Rattle.lft_syntax.specs.{Lexeme.{Symbol, is}, Reading.{repeated, after_comma, trigger_at, with_front}, Placed.{TriggerStands, trigger_tokens}}
-use Rattle.lft_syntax.specs.Parsing.{words}
+use Rattle.lft_syntax.specs.{Lexeme.{Symbol, is}, inner.{Reading.{repeated, after_comma, trigger_at, with_front}, Parsing.words}}
+use Rattle.lft_syntax.specs.Placed.{TriggerStands, trigger_tokens}
 use Rattle.lft_syntax.proofs.{Loop.{inside, loop_starts_behind, loop_fails, loop_turns, loop_done}, Rows.row_push, Rules.near_looks, Lists.right_after_comma}
 use Rattle.lft_syntax.proofs.Reactions.{right_trigger}
 use Rattle.lft_tree.specs.{declared.tree.Trigger.Trigger, View.trigger_view}

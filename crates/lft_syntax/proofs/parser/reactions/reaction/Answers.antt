@@ -1,5 +1,6 @@
 use Rattle.std.proofs.Common.{◌≡◌, ℕ, ◌+◌, refl, ap, subst, ◌∙◌}
-use Rattle.lft_syntax.specs.{Placed.{TriggersStand, ReferencesStand, EffectsStand, past_name, row_tokens, references_tokens, trigger_tokens}, Parsing.words}
+use Rattle.lft_syntax.specs.Placed.{TriggersStand, ReferencesStand, EffectsStand, past_name, row_tokens, references_tokens, trigger_tokens}
+use Rattle.lft_syntax.specs.inner.Parsing.{words}
 use Rattle.lft_syntax.proofs.parser.reactions.reaction.Goals as goal
 
 pub returns-clause-stands : goal.returns-clause-stands

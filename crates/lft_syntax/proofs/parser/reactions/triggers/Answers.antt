@@ -1,5 +1,5 @@
 use Rattle.std.proofs.Common.{ℕ, subst, arith}
-use Rattle.lft_syntax.specs.{Placed.TriggersStand, Parsing.words}
+use Rattle.lft_syntax.specs.{Placed.TriggersStand, inner.Parsing.words}
 use Rattle.lft_syntax.proofs.parser.reactions.triggers.Goals as goal
 
 pub returns-clause-stand : goal.returns-clause-stand

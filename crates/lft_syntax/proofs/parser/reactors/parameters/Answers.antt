@@ -1,5 +1,5 @@
 use Rattle.std.proofs.Common.{ℕ, subst, arith}
-use Rattle.lft_syntax.specs.{Placed.{StandInRow, ParameterStands, parameter_tokens}, Parsing.words}
+use Rattle.lft_syntax.specs.{Placed.{StandInRow, ParameterStands, parameter_tokens}, inner.Parsing.words}
 use Rattle.lft_syntax.proofs.parser.reactors.parameters.Goals as goal
 
 pub returns-clause-stand : goal.returns-clause-stand

@@ -1,6 +1,6 @@
 use Rattle.std.proofs.Common.{◌≡◌, ℕ, ◌+◌, subst, ap, ◌∙◌, arith}
 use Rattle.std.specs.Prelude.{string_bytes}
-use Rattle.lft_syntax.specs.{Placed.{BodyStands, IsWord, ParametersStand, past_parameters}, Parsing.words}
+use Rattle.lft_syntax.specs.{Placed.{BodyStands, IsWord, ParametersStand, past_parameters}, inner.Parsing.words}
 use Rattle.lft_syntax.proofs.parser.reactors.plain_reactor.Goals as goal
 
 pub returns-clause-stands : goal.returns-clause-stands

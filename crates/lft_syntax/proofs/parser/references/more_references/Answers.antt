@@ -1,7 +1,7 @@
 use Rattle.std.proofs.Common.{◌≡◌, List, ◌++◌, ◌∷◌, [], refl, sym, ap, ◌∙◌, arith}
 use Rattle.std.proofs.lemmas.{Result.err_from_is_err_and, List.map_push}
-use Rattle.lft_syntax.specs.{Lexeme.{Symbol, is}, Reading.{repeated, after_comma, ref_at, with_front}, Placed.{ReferenceStands, reference_tokens}}
-use Rattle.lft_syntax.specs.Parsing.{words}
+use Rattle.lft_syntax.specs.{Lexeme.{Symbol, is}, inner.{Reading.{repeated, after_comma, ref_at, with_front}, Parsing.words}}
+use Rattle.lft_syntax.specs.Placed.{ReferenceStands, reference_tokens}
 use Rattle.lft_syntax.proofs.{Loop.{inside, loop_starts_behind, loop_fails, loop_turns, loop_done}, Rows.row_push, Rules.near_looks, Lists.right_after_comma}
 use Rattle.lft_syntax.proofs.References.{right_ref}
 use Rattle.lft_tree.specs.{declared.tree.Reference.Reference, View.{ref_view, ref_views}}

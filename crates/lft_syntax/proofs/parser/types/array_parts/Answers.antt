@@ -1,6 +1,6 @@
 use Rattle.std.proofs.Common.{refl, sym, ◌∙◌, arith}
 use Rattle.std.proofs.lemmas.Result.{err_from_is_err_and}
-use Rattle.lft_syntax.specs.{Lexeme.{Symbol, is}, Reading.{array_part_at, array_parts_at, ignoring_at}, Parsing.words}
+use Rattle.lft_syntax.specs.{Lexeme.{Symbol, is}, inner.{Reading.{array_part_at, array_parts_at, ignoring_at}, Parsing.words}}
 use Rattle.lft_syntax.proofs.{Loop.{inside, passing_starts, passing_fails, passing_turns, passing_done}, Types.right_array_part}
 use Rattle.lft_syntax.proofs.parser.types.array_parts.Goals as goal
 

@@ -1,5 +1,5 @@
 use Rattle.std.proofs.Common.{◌-◌, length}
-use Rattle.lft_syntax.{specs.{Lexeme.{Symbol, is}, Reading.{array_part_at, array_parts_at, ignoring_at}, Parsing.words}, proofs.Loop.Passing}
+use Rattle.lft_syntax.{specs.{Lexeme.{Symbol, is}, inner.{Reading.{array_part_at, array_parts_at, ignoring_at}, Parsing.words}}, proofs.Loop.Passing}
 use Rattle.lft_syntax.proofs.parser.types.array_parts.Given as goal
 
 abbrev pub invariant-list : goal.invariant-list

@@ -1,5 +1,5 @@
 use Rattle.std.proofs.Common.{◌-◌, length}
-use Rattle.lft_syntax.{specs.{Lexeme.{Symbol, is}, Reading.{symbol_at, stars_at, ignoring_at}, Parsing.words}, proofs.Loop.Passing}
+use Rattle.lft_syntax.{specs.{Lexeme.{Symbol, is}, inner.{Reading.{symbol_at, stars_at, ignoring_at}, Parsing.words}}, proofs.Loop.Passing}
 use Rattle.lft_syntax.proofs.parser.types.stars.Given as goal
 
 abbrev pub invariant-list : goal.invariant-list

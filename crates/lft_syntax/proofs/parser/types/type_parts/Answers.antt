@@ -1,6 +1,6 @@
 use Rattle.std.proofs.Common.{refl, sym, ◌∙◌, arith}
 use Rattle.std.proofs.lemmas.Result.{err_from_is_err_and}
-use Rattle.lft_syntax.specs.{Reading.{is_type_part, type_part_at, type_parts_at, ignoring_at}, Parsing.words}
+use Rattle.lft_syntax.specs.inner.{Reading.{is_type_part, type_part_at, type_parts_at, ignoring_at}, Parsing.words}
 use Rattle.lft_syntax.proofs.{Loop.{inside, passing_starts, passing_fails, passing_turns, passing_done}, Types.right_type_part}
 use Rattle.lft_syntax.proofs.parser.types.type_parts.Goals as goal
 

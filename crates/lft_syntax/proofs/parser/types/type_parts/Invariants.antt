@@ -1,5 +1,5 @@
 use Rattle.std.proofs.Common.{◌-◌, length}
-use Rattle.lft_syntax.{specs.{Reading.{is_type_part, type_part_at, type_parts_at, ignoring_at}, Parsing.words}, proofs.Loop.Passing}
+use Rattle.lft_syntax.{specs.inner.{Reading.{is_type_part, type_part_at, type_parts_at, ignoring_at}, Parsing.words}, proofs.Loop.Passing}
 use Rattle.lft_syntax.proofs.parser.types.type_parts.Given as goal
 
 abbrev pub invariant-list : goal.invariant-list

@@ -1,6 +1,6 @@
 use Rattle.std.proofs.Common.{refl, sym, ◌∙◌, arith}
 use Rattle.std.proofs.lemmas.Result.{err_from_is_err_and}
-use Rattle.lft_syntax.specs.{Lexeme.{Symbol, is}, Reading.{dot_name_at, dot_names_at, ignoring_at}, Parsing.words}
+use Rattle.lft_syntax.specs.{Lexeme.{Symbol, is}, inner.{Reading.{dot_name_at, dot_names_at, ignoring_at}, Parsing.words}}
 use Rattle.lft_syntax.proofs.{Loop.{inside, passing_starts, passing_fails, passing_turns, passing_done}, Values.right_dot_name}
 use Rattle.lft_syntax.proofs.parser.values.dot_names.Goals as goal
 

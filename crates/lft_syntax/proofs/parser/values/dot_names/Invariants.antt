@@ -1,5 +1,5 @@
 use Rattle.std.proofs.Common.{◌-◌, length}
-use Rattle.lft_syntax.{specs.{Lexeme.{Symbol, is}, Reading.{dot_name_at, dot_names_at, ignoring_at}, Parsing.words}, proofs.Loop.Passing}
+use Rattle.lft_syntax.{specs.{Lexeme.{Symbol, is}, inner.{Reading.{dot_name_at, dot_names_at, ignoring_at}, Parsing.words}}, proofs.Loop.Passing}
 use Rattle.lft_syntax.proofs.parser.values.dot_names.Given as goal
 
 abbrev pub invariant-list : goal.invariant-list

@@ -1,6 +1,6 @@
 use Rattle.std.proofs.Common.{◌≡◌, ◌-◌, ◌<◌, Some, drop, slice_get}
 use Rattle.csv.specs.Records.{fields_of}
-use Rattle.lft_trace.specs.Records.{IsPlain, records_left, records_of}
+use Rattle.lft_trace.specs.{inner.Records.{IsPlain, records_left}, Records.records_of}
 use Rattle.lft_text_diagnostics.proofs.tables.record.record_of.Given as goal
 
 abbrev pub invariant-loop-before : goal.invariant-loop-before

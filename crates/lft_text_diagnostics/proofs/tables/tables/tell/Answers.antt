@@ -1,7 +1,7 @@
 use Rattle.std.proofs.Common.{rules, ◌≡◌, Some, string_bytes, subst, sym}
 use Rattle.std.proofs.lemmas.Result.{IfOk-weaker}
 use Rattle.lft_trace.specs.Records.{records_of}
-use Rattle.lft_text_diagnostics.specs.Tables.Tables.{Begins, FailsThere, field_line, heading, line_words, word_of}
+use Rattle.lft_text_diagnostics.specs.{Tables.Tables.{Begins, field_line, heading, line_words}, inner.Tables.Tables.{FailsThere, word_of}}
 use Rattle.lft_text_diagnostics.proofs.TablesLemmas.Failing.{failing, line_in}
 use Rattle.lft_text_diagnostics.proofs.tables.tables.tell.Goals as goal
 

@@ -1,7 +1,7 @@
 use Rattle.std.proofs.Common.{subst}
 use Rattle.csv.specs.Records.{fields_of}
 use Rattle.lft_trace.specs.Records.{records_of}
-use Rattle.lft_text_diagnostics.{specs.Tables.Tables.{FailsThere, HasRecord}, proofs.TablesLemmas.Failing.one_record}
+use Rattle.lft_text_diagnostics.{specs.{inner.Tables.Tables.FailsThere, Tables.Tables.HasRecord}, proofs.TablesLemmas.Failing.one_record}
 use Rattle.lft_lists.proofs.Options.{found, lacking}
 use Rattle.lft_text_diagnostics.proofs.tables.tables.tell_field.Goals as goal
 

@@ -1,7 +1,7 @@
 use Rattle.std.proofs.Common.{length, ◌+◌, subst}
 use Rattle.csv.specs.Records.{fields_of}
 use Rattle.lft_trace.specs.Traces.{FaultAt}
-use Rattle.lft_text_diagnostics.specs.{Tables.Tables.FailsThere, declared.tables.tables.Table.TheVariants.{Trace, Externals}}
+use Rattle.lft_text_diagnostics.specs.{inner.Tables.Tables.FailsThere, declared.tables.tables.Table.TheVariants.{Trace, Externals}}
 use Rattle.lft_lists.proofs.Options.{none_weaker}
 use Rattle.lft_trace.specs.declared.fault.TraceFault.TheVariants as fault
 use Rattle.lft_text_diagnostics.proofs.tables.tables.wrong_field.Goals as goal

@@ -1,7 +1,7 @@
 use Rattle.std.proofs.Common.{rules, ◌≡◌, ◌∙◌, ◌<◌, ◌++◌, ◌∷◌, [], List, map, length, append-nil, append_assoc, ap, arith, refl, subst, sym}
 use Rattle.std.{specs.List.Sorted.IsPermutation, proofs.lemmas.List.Sorted.{IsPermutation-cons, IsPermutation-middle, IsPermutation-sym, IsPermutation-trans}}
 use Rattle.lft_ir.specs.{declared.{parts.Value.Value, steps.externals.Event.Event}, Steps.Inputs.ComesBefore}
-use Rattle.lft_trace.specs.{ExternalTables.Has, Keys.event_at}
+use Rattle.lft_trace.specs.{ExternalTables.Has, inner.Keys.event_at}
 use Rattle.lft_trace.proofs.{EventFacts.Key, EventLists.{in_order_push, no_clash}, Members.{has_permuted, has_permuted_back}}
 use Rattle.lft_trace.proofs.event_map.EventMap.insert.Goals.{In_ok-values}
 use Rattle.lft_trace.proofs.event_map.EventMap.insert.Goals as goal

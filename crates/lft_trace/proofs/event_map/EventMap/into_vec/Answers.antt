@@ -1,7 +1,7 @@
 use Rattle.std.proofs.Common.{rules, ◌≡◌, ◌∙◌, ◌<◌, ◌++◌, [], List, ap, length, map, sym}
 use Rattle.std.specs.{Map.keys_of, List.Sorted.IsStrictlySortedBy}
 use Rattle.lft_ir.specs.declared.steps.externals.Event.{Event}
-use Rattle.lft_trace.{specs.Keys.event_at, proofs.EventFacts.{key_cmp, ordered}}
+use Rattle.lft_trace.{specs.inner.Keys.event_at, proofs.EventFacts.{key_cmp, ordered}}
 use Rattle.lft_trace.proofs.event_map.EventMap.into_vec.Goals as goal
 
 pub loop-time-init : goal.loop-time-init

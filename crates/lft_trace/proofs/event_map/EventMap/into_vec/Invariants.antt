@@ -1,6 +1,6 @@
 use Rattle.std.proofs.Common.{◌≡◌, ◌++◌, map}
 use Rattle.lft_ir.specs.Steps.Inputs.{InOrder}
-use Rattle.lft_trace.specs.Keys.{event_at}
+use Rattle.lft_trace.specs.inner.Keys.{event_at}
 use Rattle.lft_trace.proofs.event_map.EventMap.into_vec.Given as goal
 
 abbrev pub invariant-loop-time : goal.invariant-loop-time

@@ -1,5 +1,5 @@
 use Rattle.std.proofs.Common.{◌++◌}
-use Rattle.lft_trace.{specs.Parts.rows_of, proofs.Behind.{GoesOn, goes_on}}
+use Rattle.lft_trace.{specs.inner.Parts.rows_of, proofs.Behind.{GoesOn, goes_on}}
 use Rattle.lft_trace.proofs.reading.batches.read_batches.Goals as goal
 
 pub loop-batch-preserved : goal.loop-batch-preserved

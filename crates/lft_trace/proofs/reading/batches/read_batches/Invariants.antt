@@ -1,5 +1,5 @@
 use Rattle.std.proofs.Common.{◌++◌, length}
-use Rattle.lft_trace.{specs.Parts.rows_of, proofs.Behind.GoesOn}
+use Rattle.lft_trace.{specs.inner.Parts.rows_of, proofs.Behind.GoesOn}
 use Rattle.lft_trace.proofs.reading.batches.read_batches.Given as goal
 
 abbrev pub invariant-loop-batch : goal.invariant-loop-batch

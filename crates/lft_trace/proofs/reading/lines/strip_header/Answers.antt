@@ -1,7 +1,7 @@
 use Rattle.std.proofs.Common.{◌≡◌, ◌≢◌, ◌++◌, ◌∷◌, [], Bor, ℕ, IfSome, List, Option, Some, None}
 use Rattle.std.specs.Prelude.{MatchOption}
 use Rattle.std.proofs.lemmas.{Bool.Decides.Decides-eqb, Slice.Eq.strip_prefix_is}
-use Rattle.lft_trace.{specs.{Records.records_of, Traces.header, Parts.BeginsPlain}, proofs.Together.{csv_line, line, under_csv_header, under_header}}
+use Rattle.lft_trace.{specs.{Records.records_of, Traces.header, inner.Parts.BeginsPlain}, proofs.Together.{csv_line, line, under_csv_header, under_header}}
 use Rattle.lft_trace.proofs.reading.lines.strip_header.Goals as goal
 
 below : (text : List ℕ) (r : Option (Bor (List ℕ))) → MatchOption r ((rest : List ℕ) → text ≢ (csv_line ++ 10 ∷ []) ++ rest) (λ x. text ≡ (csv_line ++ 10 ∷ []) ++ x.now) → IfSome r (λ x. BeginsPlain x.now → records_of text ≡ header ∷ records_of x.now)

@@ -1,7 +1,7 @@
 use Rattle.std.proofs.Common.{Vec}
 use Rattle.std.{proofs.lemmas.{Grind.flat_map-append, Option.IfSome_then}, specs.declared.alloc.Global.Global}
 use Rattle.lft_ir.specs.declared.steps.row.Row.{Row}
-use Rattle.lft_trace.{specs.Parts.{HoldsRows, rows_of}, proofs.Together.{at_some, holds_both}}
+use Rattle.lft_trace.{specs.inner.Parts.{HoldsRows, rows_of}, proofs.Together.{at_some, holds_both}}
 use Rattle.lft_trace.proofs.reading.workers.+parts.Goals as goal
 
 pub returns : goal.returns

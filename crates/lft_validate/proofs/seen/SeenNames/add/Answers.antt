@@ -1,5 +1,5 @@
 use Rattle.std.proofs.Common.{◌≡◌, ℕ, true, cond, ◌&&◌, List, Option, Some, None, string_bytes, option_map, refl, sym, ap, subst, ◌∙◌, Bor, bytes_eq}
-use Rattle.lft_validate.specs.{Seen.{has_seen, has_inside, same_inside}, declared.seen.SeenNames.SeenNames}
+use Rattle.lft_validate.specs.{inner.Seen.{has_seen, has_inside, same_inside}, declared.seen.SeenNames.SeenNames}
 use Rattle.lft_validate.proofs.seen.SeenNames.add.Goals as goal
 
 abbrev text : List ℕ → Bor (List ℕ)

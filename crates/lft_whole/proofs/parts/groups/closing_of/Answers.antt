@@ -1,5 +1,5 @@
 use Rattle.std.proofs.Common.{Ok, refl, sym, ◌∙◌, arith}
-use Rattle.lft_whole.specs.{declared.fault.TreeFault.TheVariants.Unexpected, Parts.{Language.{ignored, repeat, inside, within}, Parsing.source}}
+use Rattle.lft_whole.specs.{declared.fault.TreeFault.TheVariants.Unexpected, Parts.Language.{ignored, repeat, inside, within}, inner.Parts.Parsing.source}
 use Rattle.lft_whole.proofs.PartsLemmas.Loop.{loop_begins, loop_turns, loop_fails, loop_done}
 use Rattle.lft_whole.proofs.parts.groups.closing_of.Goals as goal
 

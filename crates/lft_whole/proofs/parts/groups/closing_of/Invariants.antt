@@ -1,5 +1,5 @@
 use Rattle.std.proofs.Common.{◌-◌, ◌+◌, ◌≤◌, Ok}
-use Rattle.lft_whole.{specs.Parts.{Language.{ignored, repeat, inside, within}, Parsing.{count, NotBefore, source}}, proofs.PartsLemmas.Loop.Loop}
+use Rattle.lft_whole.{specs.{Parts.Language.{ignored, repeat, inside, within}, inner.Parts.Parsing.{count, NotBefore, source}}, proofs.PartsLemmas.Loop.Loop}
 use Rattle.lft_whole.proofs.parts.groups.closing_of.Given as goal
 
 -- no more brackets are open than tokens were passed

@@ -1,5 +1,5 @@
 use Rattle.std.proofs.Common.{◌-◌, Ok, map}
-use Rattle.lft_whole.specs.Parts.{Language.{sign, symbol, one_more, ◌>>◌}, Parsing.{count, Further, source}, View.reference_view}
+use Rattle.lft_whole.specs.{Parts.{Language.{sign, symbol, one_more, ◌>>◌}, View.reference_view}, inner.Parts.Parsing.{count, Further, source}}
 use Rattle.lft_whole.proofs.PartsLemmas.Loop.{Loop}
 use Rattle.lft_whole.specs.Parts.Parts as Parts
 use Rattle.lft_whole.proofs.parts.references.references.Given as goal

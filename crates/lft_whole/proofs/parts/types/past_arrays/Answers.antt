@@ -1,6 +1,6 @@
 use Rattle.std.proofs.Common.{Ok, refl, sym, ◌∙◌, arith}
 use Rattle.std.proofs.lemmas.Result.{err_from_is_err_and}
-use Rattle.lft_whole.specs.Parts.{Language.{ignored, sign, group}, Parts.arrays, Parsing.source}
+use Rattle.lft_whole.specs.{Parts.{Language.{ignored, sign, group}, Parts.arrays}, inner.Parts.Parsing.source}
 use Rattle.lft_whole.proofs.PartsLemmas.Loop.{bind_fails, loop_opens, loop_turns, loop_fails, loop_done}
 use Rattle.lft_whole.specs.Parts.Parts as Parts
 use Rattle.lft_whole.proofs.parts.types.past_arrays.Goals as goal

@@ -1,5 +1,6 @@
 use Rattle.std.proofs.Common.{refl, sym, ◌∙◌, arith}
-use Rattle.lft_whole.{specs.Parts.{Language.{ignored, this}, Parts.signs, Parsing.source}, proofs.PartsLemmas.Loop.{loop_opens, loop_turns, loop_done}}
+use Rattle.lft_whole.specs.{Parts.{Language.{ignored, this}, Parts.signs}, inner.Parts.Parsing.source}
+use Rattle.lft_whole.proofs.PartsLemmas.Loop.{loop_opens, loop_turns, loop_done}
 use Rattle.lft_whole.specs.Parts.Parts as Parts
 use Rattle.lft_whole.proofs.parts.types.past_signs.Goals as goal
 

@@ -1,6 +1,6 @@
 use Rattle.std.proofs.Common.{◌≡◌, not, true, refl, sym, ap, ◌∙◌, arith}
 use Rattle.std.proofs.lemmas.Result.{err_from_is_err_and}
-use Rattle.lft_whole.specs.Parts.{Language.{ignored, sign, isnt, symbol}, Parts.rest, Parsing.source}
+use Rattle.lft_whole.specs.{Parts.{Language.{ignored, sign, isnt, symbol}, Parts.rest}, inner.Parts.Parsing.source}
 use Rattle.lft_whole.proofs.PartsLemmas.Loop.{loop_begins, loop_turns, loop_fails, loop_done}
 use Rattle.lft_whole.specs.Parts.Parts as Parts
 use Rattle.lft_whole.proofs.parts.values.past_list.Goals as goal

@@ -1,5 +1,5 @@
 use Rattle.std.proofs.Common.{◌-◌}
-use Rattle.lft_whole.{specs.Parts.{Language.{ignored, sign, isnt, symbol}, Parsing.{count, NotBefore, source}}, proofs.PartsLemmas.Loop.Loop}
+use Rattle.lft_whole.{specs.{Parts.Language.{ignored, sign, isnt, symbol}, inner.Parts.Parsing.{count, NotBefore, source}}, proofs.PartsLemmas.Loop.Loop}
 use Rattle.lft_whole.specs.Parts.Parts as Parts
 use Rattle.lft_whole.proofs.parts.values.past_list.Given as goal
 

@@ -1,5 +1,6 @@
 use Rattle.std.proofs.Common.{◌-◌, Ok, map}
-use Rattle.lft_whole.{specs.Parts.{Language.{sign, symbol, one_more, ◌>>◌}, Parsing.{count, Further, source}, View.term_view}, proofs.PartsLemmas.Loop.Loop}
+use Rattle.lft_whole.specs.{Parts.{Language.{sign, symbol, one_more, ◌>>◌}, View.term_view}, inner.Parts.Parsing.{count, Further, source}}
+use Rattle.lft_whole.proofs.PartsLemmas.Loop.{Loop}
 use Rattle.lft_whole.specs.Parts.Parts as Parts
 use Rattle.lft_whole.proofs.parts.widths.terms.Given as goal
 

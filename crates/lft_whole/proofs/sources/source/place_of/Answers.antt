@@ -1,7 +1,7 @@
 use Rattle.std.proofs.Common.{◌≡◌, ℕ, ◌+◌, ◌<◌, ◌≤◌, inl, inr, List, Option, Some, None, length, slice_get, refl, sym, subst, ap, ◌∙◌, arith, rules}
 use Rattle.std.specs.Prelude.{IfNone, IsSomeAnd}
 use Rattle.std.proofs.{Math.Nat.eq-or-lt_of_le, lemmas.Option.{slice_get-get_or, slice_get_within}}
-use Rattle.lft_whole.specs.{declared.sources.{source.SourceFile.SourceFile, stop.Place.Place}, Sources.Tokens.{HasToken, StandsAt}}
+use Rattle.lft_whole.specs.{declared.sources.{source.SourceFile.SourceFile, stop.Place.Place}, inner.Sources.Tokens.{HasToken, StandsAt}}
 use Rattle.lft_whole.proofs.sources.source.place_of.Goals as goal
 
 -- such a place is in one of the files

@@ -1,5 +1,5 @@
 use Rattle.std.specs.List.{All}
-use Rattle.lft_whole_driver.specs.Could.{CanStand}
+use Rattle.lft_whole_driver.specs.inner.Could.{CanStand}
 use Rattle.lft_whole_driver.proofs.could.Front.find.Given as goal
 
 abbrev pub invariant-loop-place : goal.invariant-loop-place

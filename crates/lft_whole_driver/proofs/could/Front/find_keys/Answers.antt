@@ -1,6 +1,6 @@
 use Rattle.std.proofs.Common.{◌++◌, subst, sym}
 use Rattle.std.{proofs.lemmas.List.Elements.{All-append, All-same}, specs.List.All}
-use Rattle.lft_whole_driver.specs.Could.{CanStand}
+use Rattle.lft_whole_driver.specs.inner.Could.{CanStand}
 use Rattle.lft_whole_driver.proofs.could.Front.find_keys.Goals as goal
 
 pub returns : goal.returns

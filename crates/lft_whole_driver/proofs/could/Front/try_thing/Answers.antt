@@ -1,6 +1,6 @@
 use Rattle.std.proofs.Common.{◌∷◌, [], ◌++◌}
 use Rattle.std.proofs.lemmas.List.Elements.{All-same, All-push}
-use Rattle.lft_whole_driver.specs.Could.{CanStand}
+use Rattle.lft_whole_driver.specs.inner.Could.{CanStand}
 use Rattle.lft_whole_driver.proofs.could.Front.try_thing.Goals as goal
 
 pub returns : goal.returns

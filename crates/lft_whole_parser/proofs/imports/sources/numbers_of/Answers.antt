@@ -1,5 +1,6 @@
 use Rattle.std.proofs.Common.{IfErr, IfOk, OnOk, subst}
-use Rattle.lft_whole_parser.{specs.Imports.Files.{Adds, AreNumbered, IsAskedBy, IsUnread, paths_of}, proofs.ImportsLemmas.Telling.unread_is_refusal}
+use Rattle.lft_whole_parser.specs.{inner.Imports.Files.{Adds, IsAskedBy, IsUnread, paths_of}, Imports.Files.AreNumbered}
+use Rattle.lft_whole_parser.proofs.ImportsLemmas.Telling.{unread_is_refusal}
 use Rattle.lft_whole_parser.proofs.imports.sources.numbers_of.Goals as goal
 
 pub returns-in-None-clause-numbers : goal.returns-in-None-clause-numbers

@@ -1,5 +1,5 @@
 use Rattle.std.proofs.Common.{◌≡◌, ◌≤◌, drop, length}
-use Rattle.lft_whole.specs.Tokens.{StandBetween}
+use Rattle.lft_whole.specs.inner.Tokens.{StandBetween}
 use Rattle.lft_whole_parser.{specs.Imports.Places.IsSpot, proofs.ImportsLemmas.Columns.SoFar}
 use Rattle.lft_whole_parser.proofs.imports.spots.spots.Given as goal
 

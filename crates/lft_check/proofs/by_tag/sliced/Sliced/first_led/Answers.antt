@@ -1,6 +1,6 @@
 use Rattle.std.proofs.Common.{◌∙◌, ap, subst}
 use Rattle.lft_tag.specs.{declared.Tag.Tag, Tags.Before, Shifts.shifted}
-use Rattle.lft_rows.specs.Presence.{Causes.AreCauses, Traces.TraceParts}
+use Rattle.lft_rows.specs.{inner.Presence.Causes.AreCauses, Presence.Traces.TraceParts}
 use Rattle.lft_check.proofs.ByTagLemmas.Absent.{led_by_none, led_later, led_by_others}
 use Rattle.lft_check.proofs.by_tag.sliced.Sliced.first_led.Goals as goal
 

@@ -1,5 +1,5 @@
 use Rattle.std.proofs.Common.{◌-◌}
-use Rattle.lft_check.specs.ByTag.Absences.{AreAbsentUntil}
+use Rattle.lft_check.specs.inner.ByTag.Absences.{AreAbsentUntil}
 use Rattle.lft_check.proofs.by_tag.sliced.Sliced.first_of.Given as goal
 
 abbrev pub invariant-loop-place : goal.invariant-loop-place

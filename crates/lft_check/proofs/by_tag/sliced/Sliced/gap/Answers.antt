@@ -1,7 +1,7 @@
 use Rattle.std.proofs.Common.{◌≡◌, length, sym, ap, ◌∙◌, subst, arith}
 use Rattle.lft_ir.specs.Parts.{Parts}
 use Rattle.lft_rows.{proofs.PresenceLemmas.Leasts.at_reaction, specs.Presence.Traces.{TraceParts, LeastTag}}
-use Rattle.lft_check.specs.ByTag.{Needed.{AreNeeded, AreNeededOf}, Slices.IsVacant, Least.Lacks}
+use Rattle.lft_check.specs.{inner.ByTag.{Needed.{AreNeeded, AreNeededOf}, Least.Lacks}, ByTag.Slices.IsVacant}
 use Rattle.lft_check.proofs.ByTagLemmas.{Needing.needed_all, Begun.vacant_of, Missed.{first_more, first_all, known_reaction}}
 use Rattle.lft_check.proofs.by_tag.sliced.Sliced.gap.Goals as goal
 

@@ -4,8 +4,8 @@ use Rattle.lft_ir.specs.{Parts.{Parts, inputs}, declared.parts.{Name.Name, React
 use Rattle.lft_tag.proofs.Order.{UpTo-refl}
 use Rattle.lft_lists.proofs.Places.{same_some}
 use Rattle.lft_model.proofs.Places.{slice_get_within}
-use Rattle.lft_rows.specs.Marks.{HasSeat}
-use Rattle.lft_check.specs.{declared.by_tag.absences.Absences.Absences, ByTag.Absences.IsAbsentUntil}
+use Rattle.lft_rows.specs.inner.Marks.{HasSeat}
+use Rattle.lft_check.specs.{declared.by_tag.absences.Absences.Absences, inner.ByTag.Absences.IsAbsentUntil}
 use Rattle.lft_check.proofs.{ByTagLemmas.{RightReads.input_at, Absent.{absences_put, in_block}}, by_tag.sliced.Sliced.is_quiet.Goals.After-is_earlier}
 use Rattle.lft_check.proofs.by_tag.sliced.Sliced.is_quiet.Goals as goal
 

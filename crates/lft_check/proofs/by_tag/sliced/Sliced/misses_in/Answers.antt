@@ -2,7 +2,7 @@ use Rattle.std.proofs.Common.{◌≡◌, ◌⊎◌, inl, inr, ◌+◌, ◌<◌, 
 use Rattle.std.proofs.lemmas.Bool.{cases_eq, false≢true}
 use Rattle.lft_ir.specs.{Parts.{Parts, inputs}, declared.parts.Name.Name}
 use Rattle.lft_lists.proofs.Places.{same_at, same_some}
-use Rattle.lft_check.{specs.ByTag.Reads.IsMissed, proofs.ByTagLemmas.RightReads.input_at}
+use Rattle.lft_check.{specs.inner.ByTag.Reads.IsMissed, proofs.ByTagLemmas.RightReads.input_at}
 use Rattle.lft_check.proofs.by_tag.sliced.Sliced.misses_in.Goals as goal
 
 pub misses-requires-clause-name : goal.misses-requires-clause-name

@@ -1,7 +1,7 @@
 use Rattle.std.proofs.Common.{◌≡◌, ◌≤◌, ◌<◌, ◌/◌, ℕ, Some, slice_get}
 use Rattle.lft_ir.specs.declared.parts.{Name.Name, Reaction.Reaction}
-use Rattle.lft_rows.specs.Marks.{HasSeat}
-use Rattle.lft_check.specs.ByTag.{Reads.IsMissed, Walks.HasWalked}
+use Rattle.lft_rows.specs.inner.Marks.{HasSeat}
+use Rattle.lft_check.specs.inner.ByTag.{Reads.IsMissed, Walks.HasWalked}
 use Rattle.lft_check.proofs.by_tag.sliced.Sliced.misses_input.Given as goal
 
 abbrev pub invariant-loop-block : goal.invariant-loop-block

@@ -1,7 +1,7 @@
 use Rattle.std.proofs.Common.{◌≡◌, ◌↔◌, List, Some, not, slice_get, subst, true}
 use Rattle.lft_ir.specs.declared.steps.row.Row.{Row}
 use Rattle.lft_lists.proofs.Places.{same_some}
-use Rattle.lft_check.{specs.ByTag.Reads.TellsWrongRead, proofs.ByTagLemmas.RightReads.{tells_start, tells_read}}
+use Rattle.lft_check.{specs.inner.ByTag.Reads.TellsWrongRead, proofs.ByTagLemmas.RightReads.{tells_start, tells_read}}
 use Rattle.lft_check.proofs.by_tag.sliced.Sliced.tells_wrong_read.Goals as goal
 
 pub returns-in-Start-clause-tells : goal.returns-in-Start-clause-tells

@@ -1,6 +1,6 @@
 use Rattle.std.proofs.Common.{◌≡◌, length, subst}
 use Rattle.lft_ir.specs.Parts.{Parts}
-use Rattle.lft_rows.specs.Marks.{AreBefore}
+use Rattle.lft_rows.specs.inner.Marks.{AreBefore}
 use Rattle.lft_check.proofs.ByTagLemmas.Absent.{absences_begin}
 use Rattle.lft_check.proofs.by_tag.sliced.Sliced.walk.Goals as goal
 

@@ -1,6 +1,6 @@
 use Rattle.std.proofs.Common.{List, subst}
 use Rattle.lft_ir.specs.{Parts.Parts, declared.steps.row.Row.Row}
-use Rattle.lft_rows.specs.Marks.{AreMarks}
+use Rattle.lft_rows.specs.inner.Marks.{AreMarks}
 use Rattle.lft_check.proofs.ByTagLemmas.Absent.{slice_past}
 use Rattle.lft_check.proofs.by_tag.sliced.Sliced.walk_over.Goals as goal
 

@@ -1,5 +1,5 @@
 use Rattle.std.proofs.Common.{List, is_ok, subst}
-use Rattle.lft_ir.{specs.{Steps.Inputs.BelongsAt, declared.steps.externals.Event.Event}, proofs.StepsLemmas.Placing.in_order-inserted}
+use Rattle.lft_ir.{specs.{inner.Steps.Inputs.BelongsAt, declared.steps.externals.Event.Event}, proofs.StepsLemmas.Placing.in_order-inserted}
 use Rattle.lft_ir.proofs.steps.externals.Externals.tell.Goals as goal
 
 pub invariant_of-self : goal.invariant_of-self

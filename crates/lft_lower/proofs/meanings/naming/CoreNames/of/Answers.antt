@@ -1,7 +1,7 @@
 use Rattle.std.proofs.Common.{[], ◌∷◌, None, sym, ap, subst, ◌∙◌, string_bytes}
 use Rattle.std.specs.Prelude.{option_map}
 use Rattle.std.proofs.lemmas.List.{map-append}
-use Rattle.lft_lower.{specs.Meanings.Names.texts, proofs.MeaningsLemmas.Apart.{AreNone, none_first, none_more}}
+use Rattle.lft_lower.{specs.inner.Meanings.Names.texts, proofs.MeaningsLemmas.Apart.{AreNone, none_first, none_more}}
 use Rattle.lft_lower.proofs.meanings.naming.CoreNames.of.Goals as goal
 
 pub loop-init : goal.loop-init

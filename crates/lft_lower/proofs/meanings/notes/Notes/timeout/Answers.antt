@@ -1,5 +1,5 @@
 use Rattle.std.proofs.Common.{◌∙◌, ◌++◌, OnOk, ap, subst}
-use Rattle.lft_lower.specs.Meanings.Notes.{IsSaid, note_begin, stop_words}
+use Rattle.lft_lower.specs.inner.Meanings.Notes.{IsSaid, note_begin, stop_words}
 use Rattle.lft_lower.proofs.meanings.notes.Notes.timeout.Goals as goal
 
 pub returns-clause-said : goal.returns-clause-said

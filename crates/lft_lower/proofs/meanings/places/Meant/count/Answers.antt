@@ -1,5 +1,6 @@
 use Rattle.std.proofs.Common.{◌*◌, length, sym, ap, ◌∙◌}
-use Rattle.lft_lower.{specs.Meanings.Places.{count_of, places_of, sense, several}, proofs.MeaningsLemmas.Cuts.{length_inner, length_own}}
+use Rattle.lft_lower.specs.{Meanings.Places.{count_of, places_of}, inner.Meanings.Places.{sense, several}}
+use Rattle.lft_lower.proofs.MeaningsLemmas.Cuts.{length_inner, length_own}
 use Rattle.lft_lower.proofs.meanings.places.Meant.count.Goals as goal
 
 pub returns-in-Own-clause-count : goal.returns-in-Own-clause-count

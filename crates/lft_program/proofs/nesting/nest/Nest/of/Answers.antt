@@ -1,6 +1,7 @@
 use Rattle.std.proofs.Common.{Err, ap, length, map, subst, ◌∙◌}
-use Rattle.lft_resolve.specs.Expansion.{Children.AreChildren, Contents.{IsWalk, contained}, Paths.{Exists, IsMoreThan}, Values.{HaveValues, LeadToValues}}
-use Rattle.lft_program.specs.{Limits.IsFull, declared.nesting.limits.LimitedKind.TheVariants.{Reactions, Ports, Connections, Actions, Timers}}
+use Rattle.lft_resolve.specs.inner.Expansion.{Children.AreChildren, Contents.{IsWalk, contained}, Values.{HaveValues, LeadToValues}}
+use Rattle.lft_resolve.specs.Expansion.Paths.{Exists, IsMoreThan}
+use Rattle.lft_program.specs.{inner.Limits.IsFull, declared.nesting.limits.LimitedKind.TheVariants.{Reactions, Ports, Connections, Actions, Timers}}
 use Rattle.lft_program.proofs.WholeNest.{action_counts, excess_of_actions, excess_of_instances, excess_of_joins, excess_of_ports, excess_of_reactions, excess_of_timers, is_nest, join_counts, none_here, not_too_many, numbered_here, passed_here, port_counts, reaction_counts, same_fault, timer_counts}
 use Rattle.lft_program.proofs.nesting.nest.Nest.of.Goals as goal
 

@@ -1,5 +1,5 @@
 use Rattle.std.proofs.Common.{◌≡◌, ◌<◌, ◌∙◌, ap, ℕ, List, Bool, Some, length, slice_get}
-use Rattle.lft_queue.specs.Reading.{is_read}
+use Rattle.lft_queue.specs.inner.Reading.{is_read}
 use Rattle.lft_queue.proofs.coming.channels.Channels.new.Goals as goal
 
 pub returns : goal.returns

@@ -1,7 +1,7 @@
 use Rattle.std.proofs.Common.{◌≡◌, ◌⊎◌, inl, inr, List, [], ◌∷◌, Option, Some, None, IsSome, refl, sym, subst, rules}
 use Rattle.lft_lists.proofs.Members.{Mem, contains_mem}
 use Rattle.lft_ir.specs.declared.parts.{Value.Value, Name.Name}
-use Rattle.lft_queue.specs.{Pending.value_of, Coming.Listeners.IsUnheard}
+use Rattle.lft_queue.specs.{Pending.value_of, inner.Coming.Listeners.IsUnheard}
 use Rattle.lft_queue.proofs.coming.coming.Coming.are_unheard.Goals as goal
 
 pub loop-name-init : goal.loop-name-init

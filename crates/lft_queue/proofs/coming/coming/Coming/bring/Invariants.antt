@@ -1,7 +1,7 @@
 use Rattle.std.proofs.Common.{◌≡◌, length, ◌-◌}
 use Rattle.lft_tag.specs.declared.Tag.{Tag}
 use Rattle.lft_ir.specs.declared.parts.Name.{Name}
-use Rattle.lft_queue.specs.Coming.Coming.{to_come, AreTaken}
+use Rattle.lft_queue.specs.inner.Coming.Coming.{to_come, AreTaken}
 use Rattle.lft_queue.proofs.coming.coming.Coming.bring.Given as goal
 
 -- so far nothing is lost, and what is taken is up to the tag

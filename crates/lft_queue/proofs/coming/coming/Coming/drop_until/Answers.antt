@@ -1,6 +1,6 @@
 use Rattle.std.proofs.Common.{◌++◌, ap, ◌∙◌, List, Option, option_to_list}
 use Rattle.lft_ir.specs.declared.parts.Value.{Value}
-use Rattle.lft_queue.{specs.{Pending.{Pending, value_of}, Coming.Coming.given_from}, proofs.Dropping.later_value}
+use Rattle.lft_queue.{specs.{Pending.{Pending, value_of}, inner.Coming.Coming.given_from}, proofs.Dropping.later_value}
 use Rattle.lft_queue.proofs.coming.coming.Coming.drop_until.Goals as goal
 
 pub returns-clause-same : goal.returns-clause-same

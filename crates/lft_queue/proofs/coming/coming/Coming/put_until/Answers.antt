@@ -1,6 +1,6 @@
 use Rattle.std.proofs.Common.{refl, ap, ◌∙◌}
 use Rattle.lft_tag.proofs.Order.{UpTo-refl}
-use Rattle.lft_queue.{specs.{declared.coming.coming.Coming.Coming, Coming.Coming.to_come}, proofs.ComingLemmas.ToCome.{none_put, put_adds}}
+use Rattle.lft_queue.{specs.{declared.coming.coming.Coming.Coming, inner.Coming.Coming.to_come}, proofs.ComingLemmas.ToCome.{none_put, put_adds}}
 use Rattle.lft_queue.proofs.coming.coming.Coming.put_until.Goals as goal
 
 pub returns-then-is_before-clause-put : goal.returns-then-is_before-clause-put

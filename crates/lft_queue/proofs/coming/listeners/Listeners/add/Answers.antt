@@ -3,7 +3,7 @@ use Rattle.std.proofs.lemmas.Bool.{cases_eq}
 use Rattle.lft_ir.specs.{Sound.IsNameOf, declared.parts.Name.{Name, TheVariants.{Port, Action}}}
 use Rattle.lft_lists.proofs.Places.{same_at}
 use Rattle.lft_model.proofs.Places.{slice_get_within}
-use Rattle.lft_queue.{specs.Coming.Listeners.{list_of, heard_at, IsIn}, proofs.ComingLemmas.AtOnce.{both_on, both_there}}
+use Rattle.lft_queue.{specs.inner.Coming.Listeners.{list_of, heard_at, IsIn}, proofs.ComingLemmas.AtOnce.{both_on, both_there}}
 use Rattle.lft_queue.proofs.coming.listeners.Listeners.add.Goals as goal
 
 pub push-requires : goal.push-requires

@@ -1,6 +1,6 @@
 use Rattle.std.proofs.Common.{◌≡◌, ℕ, ◌<◌, List, Some, Contains, slice_get}
 use Rattle.lft_ir.specs.declared.parts.Name.{Name}
-use Rattle.lft_queue.specs.Coming.Listeners.{list_of, heard_at, BothGrow}
+use Rattle.lft_queue.specs.inner.Coming.Listeners.{list_of, heard_at, BothGrow}
 use Rattle.lft_queue.proofs.coming.listeners.Listeners.add.Given as goal
 
 abbrev pub invariant-loop-place : goal.invariant-loop-place

@@ -3,7 +3,7 @@ use Rattle.std.proofs.lemmas.Bool.{cases_eq}
 use Rattle.lft_ir.{specs.{Naming.named, Parts.Parts, declared.parts.{Name.Name, Reaction.Reaction}}, proofs.Naming.input_known}
 use Rattle.lft_lists.proofs.{Members.{Mem, mem_get, mem_left}, Places.same_at}
 use Rattle.lft_model.proofs.Places.{slice_get_within}
-use Rattle.lft_queue.{specs.Coming.Listeners.{heard_at, IsListed}, proofs.ComingLemmas.AtOnce.{both_there, listeners_of}}
+use Rattle.lft_queue.{specs.inner.Coming.Listeners.{heard_at, IsListed}, proofs.ComingLemmas.AtOnce.{both_there, listeners_of}}
 use Rattle.lft_queue.proofs.coming.listeners.Listeners.new.Goals as goal
 
 pub add-requires-clause-names : goal.add-requires-clause-names

@@ -1,6 +1,6 @@
 use Rattle.std.proofs.Common.{◌≡◌, ℕ, ◌<◌, length, Some, slice_get, filter_map}
 use Rattle.lft_ir.specs.{Naming.named, declared.parts.Reaction.Reaction}
-use Rattle.lft_queue.specs.Coming.Listeners.{IsListed}
+use Rattle.lft_queue.specs.inner.Coming.Listeners.{IsListed}
 use Rattle.lft_queue.proofs.coming.listeners.Listeners.new.Given as goal
 
 abbrev pub invariant-loop-number : goal.invariant-loop-number

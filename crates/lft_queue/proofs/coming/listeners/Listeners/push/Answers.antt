@@ -1,6 +1,6 @@
 use Rattle.std.proofs.Common.{◌≡◌, ◌<◌, Some, length, subst}
 use Rattle.lft_ir.specs.declared.parts.Name.{Name}
-use Rattle.lft_queue.{specs.Coming.Listeners.{list_of, IsIn}, proofs.ComingLemmas.AtOnce.{same_lists, pushed_grows, pushed_there}}
+use Rattle.lft_queue.{specs.inner.Coming.Listeners.{list_of, IsIn}, proofs.ComingLemmas.AtOnce.{same_lists, pushed_grows, pushed_there}}
 use Rattle.std.proofs.lemmas.Result.{on_ok_weaker}
 use Rattle.lft_queue.proofs.coming.listeners.Listeners.push.Goals as goal
 

@@ -2,7 +2,7 @@ use Rattle.std.proofs.Common.{◌<◌, length, sym, ap, ◌∙◌, subst}
 use Rattle.std.proofs.lemmas.Option.{none-some}
 use Rattle.lft_ir.specs.{declared.steps.row.Step.Step, Steps.Fits.StepFits}
 use Rattle.lft_model.{specs.Presence.value_written, proofs.Steps.some_written}
-use Rattle.lft_queue.{specs.Coming.Unread.{UnreadParts, AreUnread}, proofs.ComingLemmas.Meeting.{unread_stays, unread_set, free_or_written, same_write}}
+use Rattle.lft_queue.{specs.inner.Coming.Unread.{UnreadParts, AreUnread}, proofs.ComingLemmas.Meeting.{unread_stays, unread_set, free_or_written, same_write}}
 use Rattle.lft_queue.proofs.coming.unread.Unread.pass.Goals as goal
 
 pub returns-in_default-clause-unread : goal.returns-in_default-clause-unread

@@ -4,7 +4,7 @@ use Rattle.lft_tag.specs.{declared.Tag.Tag, Tags.UpTo}
 use Rattle.lft_lists.proofs.Picked.{take_one_more}
 use Rattle.lft_ir.specs.declared.steps.row.Row.{Row}
 use Rattle.lft_model.proofs.Places.{slice_get_take}
-use Rattle.lft_queue.specs.Coming.{Coming.IsClear, Unread.{UnreadParts, AreUnread, AreFree}}
+use Rattle.lft_queue.specs.inner.Coming.{Coming.IsClear, Unread.{UnreadParts, AreUnread, AreFree}}
 use Rattle.lft_queue.proofs.ComingLemmas.Meeting.{all_up_to, unread_nothing, free_all, free_none, free_more}
 use Rattle.lft_queue.proofs.coming.unread.Unread.pass_all.Goals as goal
 

@@ -1,7 +1,7 @@
 use Rattle.std.proofs.Common.{◌≡◌, ◌++◌, true, List, length, take}
 use Rattle.lft_ir.specs.declared.steps.row.Row.{Row}
 use Rattle.lft_tag.specs.declared.Tag.{Tag}
-use Rattle.lft_queue.specs.Coming.{AtTag.AreBefore, Coming.IsClear, Unread.{AreUnread, AreFree}}
+use Rattle.lft_queue.specs.{Coming.AtTag.AreBefore, inner.Coming.{Coming.IsClear, Unread.{AreUnread, AreFree}}}
 use Rattle.lft_queue.proofs.coming.unread.Unread.pass_all.Given as goal
 
 abbrev pub invariant-loop-place : goal.invariant-loop-place

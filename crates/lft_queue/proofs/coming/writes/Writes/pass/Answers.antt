@@ -1,6 +1,6 @@
 use Rattle.std.proofs.Common.{◌≡◌, ◌∷◌, ◌++◌, [], ◌<◌, length, List, Option, Some, sym, subst, arith, slice_set}
 use Rattle.lft_ir.specs.{declared.steps.row.Step.Step, Steps.Fits.StepFits}
-use Rattle.lft_queue.{specs.{declared.coming.writes.Written.Written, Coming.Writes.AreWrites}, proofs.ComingLemmas.Writing.{writes_stay, writes_set}}
+use Rattle.lft_queue.{specs.{declared.coming.writes.Written.Written, inner.Coming.Writes.AreWrites}, proofs.ComingLemmas.Writing.{writes_stay, writes_set}}
 use Rattle.lft_queue.proofs.coming.writes.Writes.pass.Goals as goal
 
 pub returns-in-Some-clause-passed : goal.returns-in-Some-clause-passed

@@ -3,7 +3,7 @@ use Rattle.std.proofs.lemmas.Option.{get_or_from_slice_get}
 use Rattle.lft_tag.specs.declared.Tag.{Tag}
 use Rattle.lft_lists.proofs.Picked.{take_one_more}
 use Rattle.lft_ir.specs.declared.steps.row.Row.{Row}
-use Rattle.lft_queue.{specs.Coming.Writes.AreWrites, proofs.ComingLemmas.Writing.none_yet}
+use Rattle.lft_queue.{specs.inner.Coming.Writes.AreWrites, proofs.ComingLemmas.Writing.none_yet}
 use Rattle.lft_queue.proofs.coming.writes.Writes.pass_all.Goals as goal
 
 pub loop-place-init : goal.loop-place-init

@@ -1,5 +1,5 @@
 use Rattle.std.proofs.Common.{◌≡◌, take, length}
-use Rattle.lft_queue.specs.Coming.Writes.{AreWrites}
+use Rattle.lft_queue.specs.inner.Coming.Writes.{AreWrites}
 use Rattle.lft_queue.proofs.coming.writes.Writes.pass_all.Given as goal
 
 abbrev pub invariant-loop-place : goal.invariant-loop-place

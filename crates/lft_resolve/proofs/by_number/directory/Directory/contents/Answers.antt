@@ -1,5 +1,5 @@
 use Rattle.std.proofs.Common.{slice_get, ap, ◌∙◌}
-use Rattle.lft_resolve.{specs.Numbers.IsContents, proofs.{Directed.AllZip-there, Placing.lent}}
+use Rattle.lft_resolve.{specs.inner.Numbers.IsContents, proofs.{Directed.AllZip-there, Placing.lent}}
 use Rattle.lft_resolve.proofs.by_number.directory.Directory.contents.Goals as goal
 
 pub returns : goal.returns

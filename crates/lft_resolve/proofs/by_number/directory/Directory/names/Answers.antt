@@ -1,5 +1,5 @@
 use Rattle.std.proofs.Common.{slice_get, ap, ◌∙◌}
-use Rattle.lft_resolve.{specs.Directories.IsNames, proofs.{Directed.AllZip-there, Placing.lent}}
+use Rattle.lft_resolve.{specs.inner.Directories.IsNames, proofs.{Directed.AllZip-there, Placing.lent}}
 use Rattle.lft_resolve.proofs.by_number.directory.Directory.names.Goals as goal
 
 pub returns : goal.returns

@@ -1,7 +1,7 @@
 use Rattle.std.proofs.Common.{◌≡◌, take, sym, subst, arith}
 use Rattle.std.{specs.List.AllZip, proofs.lemmas.Grind.common_steps}
 use Rattle.lft_tree.specs.View.{reactor_view}
-use Rattle.lft_resolve.{specs.{Directories.IsNames, References.reactor_trees}, proofs.{Files.AllZip-last, Twice.map_last}}
+use Rattle.lft_resolve.{specs.inner.{Directories.IsNames, References.reactor_trees}, proofs.{Files.AllZip-last, Twice.map_last}}
 use Rattle.lft_resolve.proofs.by_number.directory.Directory.of.Goals as goal
 
 pub loop-reactor-preserved : goal.loop-reactor-preserved

@@ -1,7 +1,7 @@
 use Rattle.std.proofs.Common.{◌≡◌, ◌<◌, take, length, sym, ap, subst, ◌∙◌, arith}
 use Rattle.std.proofs.lemmas.Grind.{common_steps}
 use Rattle.lft_tree.specs.View.{reactor_view}
-use Rattle.lft_resolve.specs.{Numbers.numbers_of, Places.IsIndexOf, References.reactor_trees, Tests.texts}
+use Rattle.lft_resolve.specs.inner.{Numbers.numbers_of, Places.IsIndexOf, References.reactor_trees, Tests.texts}
 use Rattle.lft_resolve.proofs.{Files.named_some, Numbered.{number_more, number_kept}, NamedReactors.named}
 use Rattle.lft_resolve.proofs.by_number.numbers.Numbers.of.Goals.{then-is_some+in_ok-push, else-is_some}
 use Rattle.lft_resolve.proofs.by_number.numbers.Numbers.of.Goals as goal

@@ -1,5 +1,5 @@
 use Rattle.std.proofs.Common.{◌≡◌, take}
-use Rattle.lft_resolve.specs.{Numbers.numbers_of, References.reactor_trees}
+use Rattle.lft_resolve.specs.inner.{Numbers.numbers_of, References.reactor_trees}
 use Rattle.lft_resolve.proofs.by_number.numbers.Numbers.of.Given as goal
 
 abbrev pub invariant-loop-number : goal.invariant-loop-number

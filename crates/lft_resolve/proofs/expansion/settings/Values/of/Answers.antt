@@ -1,7 +1,7 @@
 use Rattle.std.proofs.Common.{◌≡◌, ℕ, ◌+◌, ◌<◌, ◌≤◌, ◌++◌, List, [], ◌∷◌, length, map, Some, sym, ap, ◌∙◌, arith, slice_get}
 use Rattle.std.proofs.lemmas.{List.{with_items_is, map_push, length-map}, Option.slice_get-get_or}
 use Rattle.lft_lists.proofs.Mapped.{mapped}
-use Rattle.lft_resolve.specs.{declared.expansion.walk.Instance.Instance, Expansion.Values.{values_in, given_by}}
+use Rattle.lft_resolve.specs.{declared.expansion.walk.Instance.Instance, inner.Expansion.Values.{values_in, given_by}}
 use Rattle.lft_resolve.proofs.ExpansionLemmas.{Siblings.parent_before, Entering.{Valued, valued_main, valued_later, length_values, valued_end, lead_to_values}}
 use Rattle.lft_resolve.proofs.expansion.settings.Values.of.Goals.{then-number-gt0, else-number-gt0}
 use Rattle.lft_resolve.proofs.expansion.settings.Values.of.Goals as goal

@@ -2,7 +2,7 @@ use Rattle.std.proofs.Common.{◌≡◌, ◌+◌, ℕ, length, subst, sym, ap, �
 use Rattle.lft_tag.specs.Shifts.{Folded}
 use Rattle.lft_ir.specs.{Parts.Parts, declared.parts.Name.Name}
 use Rattle.lft_model.specs.Presence.{At, IsPresent}
-use Rattle.lft_rows.{specs.Presence.Causes.IsValueFrom, proofs.PresenceLemmas.Presences.{chain_of, port_some, port_none, action_some, action_none}}
+use Rattle.lft_rows.{specs.inner.Presence.Causes.IsValueFrom, proofs.PresenceLemmas.Presences.{chain_of, port_some, port_none, action_some, action_none}}
 use Rattle.lft_rows.proofs.presence.events.Presence.value_at.Goals as goal
 
 pub returns-in-Port-clause-some : goal.returns-in-Port-clause-some

@@ -1,6 +1,6 @@
 use Rattle.std.proofs.Common.{◌+◌, List, ℕ, sym, ◌∙◌, subst, arith}
 use Rattle.std.proofs.lemmas.Bool.{false≢true}
-use Rattle.lft_scheduler.specs.Filling.{AreArriving}
+use Rattle.lft_scheduler.specs.inner.Filling.{AreArriving}
 use Rattle.lft_scheduler.proofs.Arriving.{arriving_start, arriving_more, arriving_same, origin_known, all_arriving}
 use Rattle.lft_scheduler.proofs.listeners.arrivals.Arrivals.new.Goals.{then-has+in_ok-push, else-has}
 use Rattle.lft_scheduler.proofs.listeners.arrivals.Arrivals.new.Goals as goal

@@ -1,4 +1,4 @@
-use Rattle.lft_scheduler.specs.Filling.{AreArriving}
+use Rattle.lft_scheduler.specs.inner.Filling.{AreArriving}
 use Rattle.lft_scheduler.proofs.listeners.arrivals.Arrivals.new.Given as goal
 
 abbrev pub invariant-ports : goal.invariant-ports

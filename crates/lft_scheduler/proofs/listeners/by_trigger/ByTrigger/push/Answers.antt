@@ -1,6 +1,6 @@
 use Rattle.std.proofs.Common.{◌≡◌, ◌<◌, ℕ, List, length, sym, subst, rules}
 use Rattle.lft_ir.specs.declared.parts.{Name.TheVariants.{Port, Action}, Trigger.{Trigger, TheVariants.{Startup, Shutdown, Timer, On}}}
-use Rattle.lft_scheduler.specs.Lists.{TriggerLists, HasList, IsPushed}
+use Rattle.lft_scheduler.specs.inner.Lists.{TriggerLists, HasList, IsPushed}
 use Rattle.lft_scheduler.proofs.Pushing.{startup_pushed, shutdown_pushed, timer_pushed, port_pushed, action_pushed}
 use Rattle.lft_scheduler.proofs.listeners.by_trigger.ByTrigger.push.Goals as goal
 

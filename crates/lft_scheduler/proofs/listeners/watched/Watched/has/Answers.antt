@@ -1,6 +1,6 @@
 use Rattle.std.proofs.Common.{◌≡◌, ◌<◌, inl, inr, ℕ, length, Some, None, false, slice_get, refl, sym, ap, ◌∙◌, subst, arith, eqb-true, eq-eqb}
 use Rattle.std.proofs.lemmas.Option.{slice_get_read}
-use Rattle.lft_scheduler.specs.{Listeners.IsWatched, Filling.{WatchedParts, AreWatched}}
+use Rattle.lft_scheduler.specs.inner.{Listeners.IsWatched, Filling.{WatchedParts, AreWatched}}
 use Rattle.lft_scheduler.proofs.{Arriving.origin_known, Watching.{watched_known, watched_first}}
 use Rattle.lft_scheduler.proofs.listeners.watched.Watched.has.Goals.{then-index-via-then-index, then-index-via-else-index+then-origin-number}
 use Rattle.lft_scheduler.proofs.listeners.watched.Watched.has.Goals as goal

@@ -1,6 +1,6 @@
 use Rattle.std.proofs.Common.{arith, subst}
 use Rattle.lft_ir.specs.Parts.{Parts}
-use Rattle.lft_trace.specs.Telling.{rows_in}
+use Rattle.lft_trace.specs.inner.Telling.{rows_in}
 use Rattle.lft_counts.specs.Cover.{IsCover}
 use Rattle.lft_stream.proofs.batches.text.Front.counting.Goals as goal
 

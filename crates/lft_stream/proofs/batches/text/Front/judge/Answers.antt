@@ -1,8 +1,8 @@
 use Rattle.std.proofs.Common.{◌++◌, List, take, refl, rules, sym, subst, arith}
 use Rattle.std.proofs.lemmas.Option.{IfSome_then}
-use Rattle.lft_trace.specs.Telling.{rows_in}
+use Rattle.lft_trace.specs.inner.Telling.{rows_in}
 use Rattle.lft_ir.specs.declared.steps.row.Row.{Row}
-use Rattle.lft_stream.{specs.Kept.IsAcceptorOf, proofs.BatchesLemmas.Counting.{comes_next, counts_before, counts_behind, judged_more, keeps, within_more}}
+use Rattle.lft_stream.{specs.inner.Kept.IsAcceptorOf, proofs.BatchesLemmas.Counting.{comes_next, counts_before, counts_behind, judged_more, keeps, within_more}}
 use Rattle.lft_stream.proofs.batches.text.Front.judge.Goals as goal
 
 pub count_rows-requires : goal.count_rows-requires

@@ -1,6 +1,6 @@
 use Rattle.std.proofs.Common.{◌≡◌, ℕ, List, [], ◌∷◌, Some, length, map, sym, subst, ap, ◌∙◌, arith, string_bytes}
 use Rattle.std.{specs.{BTreeMap.get_by_text, Map.update, Str.bytes_eq}, proofs.lemmas.{List.{length-map, map-append}, Map.Text.btree_map_updates_text}}
-use Rattle.lft_whole_parser.{specs.{declared.imports.asked.Wanted.Wanted, Imports.Files.paths_of}, proofs.ImportsLemmas.Known.{ByNumber, known_more}}
+use Rattle.lft_whole_parser.{specs.{declared.imports.asked.Wanted.Wanted, inner.Imports.Files.paths_of}, proofs.ImportsLemmas.Known.{ByNumber, known_more}}
 use Rattle.lft_whole_parser.proofs.imports.asked.Asked.ask.Goals as goal
 
 pub returns-clause-known : goal.returns-clause-known

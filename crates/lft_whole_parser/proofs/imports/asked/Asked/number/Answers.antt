@@ -2,7 +2,8 @@ use Rattle.std.proofs.Common.{◌≡◌, [], ◌∷◌, ◌++◌, Some, length, 
 use Rattle.std.specs.Prelude.{slice_get}
 use Rattle.std.{specs.BTreeMap.get_by_text, proofs.lemmas.List.{length-map, map-append}}
 use Rattle.lft_lists.proofs.Places.{get_last}
-use Rattle.lft_whole_parser.{specs.{declared.imports.asked.Wanted.Wanted, Imports.Files.{Adds, paths_of}}, proofs.ImportsLemmas.Known.{adds_none, adds_one}}
+use Rattle.lft_whole_parser.specs.{declared.imports.asked.Wanted.Wanted, inner.Imports.Files.{Adds, paths_of}}
+use Rattle.lft_whole_parser.proofs.ImportsLemmas.Known.{adds_none, adds_one}
 use Rattle.lft_whole_parser.proofs.imports.asked.Asked.number.Goals as goal
 
 pub returns-in-Some-clause-number : goal.returns-in-Some-clause-number

@@ -2,7 +2,7 @@ use Rattle.std.proofs.Common.{◌≡◌, ℕ, ◌+◌, Some, length, refl, sym, 
 use Rattle.std.specs.Prelude.{slice_get}
 use Rattle.std.{specs.Str.IsUtf8, proofs.lemmas.{List.length_push, Option.slice_get-get_or}}
 use Rattle.lft_whole.specs.declared.tree.Import.{Import}
-use Rattle.lft_whole_parser.specs.{declared.imports.asked.Wanted.Wanted, Imports.{Files.{IsAskedBy, IsUnread, paths_of}, Paths.meaning}}
+use Rattle.lft_whole_parser.specs.{declared.imports.asked.Wanted.Wanted, inner.Imports.Files.{IsAskedBy, IsUnread, paths_of}, Imports.Paths.meaning}
 use Rattle.lft_whole_parser.proofs.ImportsLemmas.{Columns.some_and, Known.{SoFar, adds_more, adds_weaker, asked_by, goes_on, numbers_all, numbers_more}}
 use Rattle.lft_whole_parser.proofs.imports.asked.Asked.numbers.Goals as goal
 

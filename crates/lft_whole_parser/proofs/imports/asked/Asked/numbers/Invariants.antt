@@ -1,5 +1,5 @@
 use Rattle.std.proofs.Common.{◌≡◌, length}
-use Rattle.lft_whole_parser.{specs.Imports.Files.{Adds, IsAskedBy, IsKnown, paths_of}, proofs.ImportsLemmas.Known.SoFar}
+use Rattle.lft_whole_parser.{specs.inner.Imports.Files.{Adds, IsAskedBy, IsKnown, paths_of}, proofs.ImportsLemmas.Known.SoFar}
 use Rattle.lft_whole_parser.proofs.imports.asked.Asked.numbers.Given as goal
 
 abbrev pub invariant-loop-place : goal.invariant-loop-place

@@ -1,6 +1,6 @@
 use Rattle.std.proofs.Common.{sym, subst}
 use Rattle.std.specs.BTreeMap.{get_by_text}
-use Rattle.lft_whole_parser.specs.Imports.Files.{AreApart, AreCounted, EachOnce, IsWhole, paths_of, paths_of_files}
+use Rattle.lft_whole_parser.specs.{inner.Imports.Files.{AreApart, AreCounted, paths_of}, Imports.Files.{EachOnce, IsWhole, paths_of_files}}
 use Rattle.lft_whole_parser.proofs.ImportsLemmas.{Counting.are_apart, Known.{all_whole, each_once}}
 use Rattle.lft_whole_parser.proofs.imports.sources.Sources.files.Goals as goal
 

@@ -2,7 +2,8 @@ use Rattle.std.proofs.Common.{◌≡◌, ◌+◌, Some, length, sym, subst, ap, 
 use Rattle.std.specs.Prelude.{slice_get}
 use Rattle.lft_lists.proofs.Places.{Some_same}
 use Rattle.lft_whole.specs.declared.sources.source.SourceFile.{SourceFile}
-use Rattle.lft_whole_parser.specs.Imports.{Files.{IsAskedBy, AreCounted, AreNamed, AreOfTexts, AreReached, paths_of, tokens_of}, Reads.IsRead}
+use Rattle.lft_whole_parser.specs.inner.Imports.{Files.{IsAskedBy, AreCounted, AreNamed, paths_of, tokens_of}, Reads.IsRead}
+use Rattle.lft_whole_parser.specs.Imports.Files.{AreOfTexts, AreReached}
 use Rattle.lft_whole_parser.proofs.ImportsLemmas.Known.{AllNumbered, AreRead, adds_file, goes_on, named_more, numbered_file, numbered_more, reached_more, read_more}
 use Rattle.lft_whole_parser.proofs.ImportsLemmas.Telling.{counted_more, refuses_next, tokens_more, tree_of, trees_more}
 use Rattle.lft_whole_parser.proofs.imports.sources.Sources.give.Goals as goal

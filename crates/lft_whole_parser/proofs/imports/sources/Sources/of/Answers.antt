@@ -1,5 +1,5 @@
 use Rattle.std.proofs.Common.{◌≡◌, None, [], ◌∷◌, ◌++◌, map, refl, sym, ap, ◌∙◌, string_bytes}
-use Rattle.lft_whole_parser.specs.{declared.imports.asked.Wanted.Wanted, Imports.Files.{paths_of, tokens_of}}
+use Rattle.lft_whole_parser.specs.{declared.imports.asked.Wanted.Wanted, inner.Imports.Files.{paths_of, tokens_of}}
 use Rattle.lft_whole_parser.proofs.ImportsLemmas.Known.{no_file, one_named, one_reached}
 use Rattle.lft_whole_parser.proofs.imports.sources.Sources.of.Goals as goal
 

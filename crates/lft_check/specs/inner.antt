@@ -1,0 +1,5 @@
+pub mod ByTag
+pub mod Least
+pub mod Ranks
+pub mod Shares
+pub mod Verdicts

@@ -1,0 +1,4 @@
+pub mod Driver
+pub mod Facts
+pub mod Pairs
+pub mod Taking

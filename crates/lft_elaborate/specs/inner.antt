@@ -1,0 +1,10 @@
+pub mod Finding
+pub mod Limits
+pub mod Names
+pub mod Noted
+pub mod Places
+pub mod Refused
+pub mod Settings
+pub mod Used
+pub mod Values
+pub mod Widths

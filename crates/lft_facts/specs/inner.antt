@@ -1,0 +1,4 @@
+pub mod Causes
+pub mod Enough
+pub mod Neighbours
+pub mod Ways

@@ -1,0 +1,4 @@
+pub mod Lowered
+pub mod Meanings
+pub mod Needed
+pub mod Refused

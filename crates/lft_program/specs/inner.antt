@@ -1,0 +1,14 @@
+pub mod Extended
+pub mod Faults
+pub mod FullNames
+pub mod Laying
+pub mod Limits
+pub mod Linking
+pub mod Links
+pub mod Nests
+pub mod OfTree
+pub mod OwnNames
+pub mod Refusals
+pub mod Tables
+pub mod TreeLists
+pub mod Ways

@@ -1,0 +1,4 @@
+pub mod Reasons
+pub mod Sentences
+pub mod Singles
+pub mod Spots

@@ -1,0 +1,4 @@
+pub mod Coming
+pub mod Keys
+pub mod Pending
+pub mod Reading

@@ -1,0 +1,9 @@
+pub mod AtOnce
+pub mod Channels
+pub mod Coming
+pub mod Lanes
+pub mod Listeners
+pub mod Listens
+pub mod Shown
+pub mod Unread
+pub mod Writes

@@ -1,0 +1,5 @@
+pub mod Across
+pub mod Hints
+pub mod Noted
+pub mod Races
+pub mod Runs

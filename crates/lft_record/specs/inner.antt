@@ -1,0 +1,3 @@
+pub mod Recordings
+pub mod Scripts
+pub mod Seen

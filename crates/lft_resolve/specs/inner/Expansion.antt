@@ -1,0 +1,9 @@
+pub mod Children
+pub mod Contents
+pub mod Joins
+pub mod Listing
+pub mod Marks
+pub mod Numbers
+pub mod Sources
+pub mod Values
+pub mod Ways

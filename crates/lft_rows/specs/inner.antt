@@ -1,0 +1,11 @@
+pub mod Answers
+pub mod Effects
+pub mod Firsts
+pub mod Marks
+pub mod Parts
+pub mod Passes
+pub mod Places
+pub mod Presence
+pub mod Reads
+pub mod Seats
+pub mod Slices

@@ -1,0 +1,5 @@
+pub mod Causes
+pub mod Clashes
+pub mod Kept
+pub mod Lookups
+pub mod Traces

@@ -1,0 +1,4 @@
+pub mod Expanded
+pub mod Fits
+pub mod Laws
+pub mod Times

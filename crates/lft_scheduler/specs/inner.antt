@@ -1,0 +1,13 @@
+pub mod Agendas
+pub mod Events
+pub mod Filling
+pub mod Firings
+pub mod Flags
+pub mod Listeners
+pub mod Lists
+pub mod OpenRuns
+pub mod Phases
+pub mod Seats
+pub mod Telling
+pub mod Turns
+pub mod Waits

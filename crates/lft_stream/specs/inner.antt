@@ -1,0 +1,10 @@
+pub mod Batches
+pub mod Counted
+pub mod Dues
+pub mod Kept
+pub mod Ordered
+pub mod Owed
+pub mod Present
+pub mod Settled
+pub mod StartTags
+pub mod Streams

@@ -1,0 +1,4 @@
+pub mod Parsing
+pub mod Reading
+pub mod Seen
+pub mod View

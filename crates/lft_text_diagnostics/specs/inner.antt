@@ -1,0 +1,6 @@
+pub mod Candidates
+pub mod Codes
+pub mod Pages
+pub mod Refusals
+pub mod Tables
+pub mod Trying

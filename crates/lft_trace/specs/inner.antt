@@ -1,0 +1,10 @@
+pub mod Keys
+pub mod LogTables
+pub mod Parts
+pub mod Records
+pub mod Seen
+pub mod SeenExternals
+pub mod SeenWriting
+pub mod ShortNames
+pub mod Telling
+pub mod Written

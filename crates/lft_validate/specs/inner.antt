@@ -1,0 +1,7 @@
+pub mod Circles
+pub mod Findings
+pub mod Members
+pub mod Scopes
+pub mod Seen
+pub mod Shown
+pub mod Witnesses

@@ -1,0 +1,46 @@
+-- Inside: what each witness shows of the reactors of a file.
+use Rattle.std.specs.Prelude.{◌≡◌, ℕ, ◌+◌, ◌<◌, List, ◌∷◌, Option, Some, None, length, slice_get, flat_map, take, Any}
+use Rattle.lft_tree.specs.Tree.{ReactorTree, MemberTree, RefTree}
+use Rattle.lft_resolve.specs.{Causes.{HasLongTime, Holds, IsFirst, NoneHolds}, declared.kinds.Role.Role}
+use Rattle.lft_validate.specs.{Members.names_of, declared.witness.{Naming.Naming, Witness.Witness}, Witnesses.{Shows, cause_shown}}
+
+-- the name at that place among those that have the role in the reactor stands there
+pub record IsPlaceOf (r : ReactorTree) (role : Role) (place : ℕ) (n : Naming) : Type 0 where
+  pub is_role : n.role ≡ role
+  pub member : MemberTree
+  pub is_member : slice_get r.members n.member ≡ Some member
+  pub within : n.name < length (names_of role member)
+  pub at : length (flat_map (names_of role) (take n.member r.members)) + n.name ≡ place
+
+-- one name stands at a place of the one list and at a place of the other
+abbrev pub IsSharedAt : List RefTree → ℕ → List RefTree → ℕ → Type 0
+IsSharedAt xs i ys j = (x : RefTree) × (slice_get xs i ≡ Some x) × (slice_get ys j ≡ Some x)
+
+-- the cause that a time alone shows, with its number
+abbrev pub time_causes : List ReactorTree → List (ℕ × Type 0)
+time_causes reactors = (14, Any HasLongTime reactors) ∷ []
+
+-- the witness shows the first of the causes that holds; where there is none, no cause holds
+abbrev pub IsFirstShown : List ReactorTree → List (ℕ × Type 0) → Option Witness → Type 0
+IsFirstShown reactors causes (Some w) = Shows reactors w × IsFirst causes (cause_shown w)
+IsFirstShown reactors causes None = NoneHolds causes
+
+-- the reactor with the first place has an instance of that with the second
+pub record HoldsAt (reactors : List ReactorTree) (a b : ℕ) : Type 0 where
+  pub outer : ReactorTree
+  pub inner : ReactorTree
+  pub is_outer : slice_get reactors a ≡ Some outer
+  pub is_inner : slice_get reactors b ≡ Some inner
+  pub holds : Holds reactors outer inner
+
+-- each of the reactors has an instance of the next
+abbrev pub LeadsOn : List ReactorTree → List ℕ → Type 0
+LeadsOn reactors places = (i a b : ℕ) → slice_get places i ≡ Some a → slice_get places (i + 1) ≡ Some b → HoldsAt reactors a b
+
+-- the last of the reactors has an instance of the first
+abbrev pub Closes : List ReactorTree → List ℕ → Type 0
+Closes reactors places = (i a b : ℕ) → i + 1 ≡ length places → slice_get places i ≡ Some a → slice_get places 0 ≡ Some b → HoldsAt reactors a b
+
+-- there is a reactor, each has an instance of the next, and the last of the first
+abbrev pub IsCircle : List ReactorTree → List ℕ → Type 0
+IsCircle reactors places = (0 < length places) × LeadsOn reactors places × Closes reactors places

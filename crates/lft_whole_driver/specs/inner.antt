@@ -1,0 +1,5 @@
+pub mod Could
+pub mod Lowered
+pub mod Pages
+pub mod Told
+pub mod Unlowered
