@@ -1,5 +1,5 @@
 -- Which parameters reactors need: for their widths, and for their times.
-use Rattle.std.specs.Prelude.{◌≡◌, ◌↔◌, ℕ, Bool, true, Contains, List, ◌∷◌, Option, Some, String, slice_get, string_bytes}
+use Rattle.std.specs.Prelude.{◌≡◌, ◌↔◌, ℕ, Bool, true, Contains, List, ◌∷◌, Option, Some, String, slice_get, string_bytes, []}
 use Rattle.std.specs.Global.{Global}
 use Rattle.lft_whole.specs.declared.tree.{Assignment.Assignment, Expression.Expression, Instance.Instance, Member.Member, Width.Width}
 use Rattle.lft_classes.specs.{declared.{scopes.Scopes.Scopes, shapes.Shape.Shape}, Built.members_at, Chains.{base_of, extended}, Circles.NamesAt}

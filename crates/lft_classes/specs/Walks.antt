@@ -1,5 +1,5 @@
 -- Lists of all that is reached from a first one, and walks that make them.
-use Rattle.std.specs.Prelude.{◌≡◌, ℕ, List, ◌∷◌, ◌++◌, Option, Some, slice_get}
+use Rattle.std.specs.Prelude.{◌≡◌, ℕ, List, ◌∷◌, ◌++◌, Option, Some, slice_get, []}
 
 -- what each one leads to, by number
 abbrev pub Ways : Type 0

@@ -1,5 +1,5 @@
 -- The facts of `--list`, one a line.
-use Rattle.std.specs.Prelude.{ℕ, ◌/◌, ◌%◌, ◌==◌, Bool, false, List, ◌++◌, slice_get, unwrap_or, option_map, codes, decimal, nat_eq, if◌then◌else◌, flat_map, slice_index}
+use Rattle.std.specs.Prelude.{ℕ, ◌/◌, ◌%◌, ◌==◌, Bool, false, List, ◌++◌, slice_get, unwrap_or, option_map, codes, decimal, nat_eq, if◌then◌else◌, flat_map, slice_index, []}
 use Rattle.std.specs.{List.enumerate_from, Int.bit_at}
 use Rattle.lft_ir.specs.{Parts.Parts, Words.Words.{port_words, reaction_words}}
 use Rattle.lft_counts.specs.{declared.{orders.Order.Order, cover.Cover.Cover, overlaps.Overlaps.Overlaps}, Overlaps.met_by, Workers.by_number}

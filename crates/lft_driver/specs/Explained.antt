@@ -1,5 +1,5 @@
 -- A verdict on three texts with what explains it, and why texts get none.
-use Rattle.std.specs.Prelude.{◌≡◌, ◌↔◌, ◌⊎◌, ℕ, Bool, IsTrue, List, ◌++◌, Option, codes}
+use Rattle.std.specs.Prelude.{◌≡◌, ◌↔◌, ◌⊎◌, ℕ, Bool, IsTrue, List, ◌++◌, Option, codes, []}
 use Rattle.std.specs.Io.KnownBytes.{Appends, Keeps}
 use Rattle.lft_ir.specs.declared.steps.row.Row.{Row}
 use Rattle.lft_model.specs.{declared.breach.Breach.Breach, Plans.PlanParts}

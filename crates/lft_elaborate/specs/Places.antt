@@ -1,5 +1,5 @@
 -- What references mean, how many places they have, and how wide members are, told by the shapes alone.
-use Rattle.std.specs.Prelude.{◌≡◌, ℕ, zero, suc, ◌+◌, ◌*◌, ◌-◌, ◌^◌, ℤ, pos, negsuc, min, List, ◌∷◌, map, Option, Some, None, option_map, slice_get, string_bytes}
+use Rattle.std.specs.Prelude.{◌≡◌, ℕ, zero, suc, ◌+◌, ◌*◌, ◌-◌, ◌^◌, ℤ, pos, negsuc, min, List, ◌∷◌, map, Option, Some, None, option_map, slice_get, string_bytes, []}
 use Rattle.std.specs.Option.{option_and_then}
 use Rattle.lft_elaborate.specs.Values.{Valued, inside, number_named}
 use Rattle.lft_whole.specs.declared.tree.{Count.Count, Member.Member, Name.Name, Reference.Reference, Term.Term, Width.Width}

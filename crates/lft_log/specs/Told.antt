@@ -1,5 +1,5 @@
 -- What is told of a log.
-use Rattle.std.specs.Prelude.{◌≡◌, ◌⊎◌, ◌+◌, ◌^◌, ◌<◌, ◌≤◌, true, ℕ, Bool, List, ◌++◌, ◌∷◌, length, filter_map, Option, None, Some, slice_get, Result, IfOk}
+use Rattle.std.specs.Prelude.{◌≡◌, ◌⊎◌, ◌+◌, ◌^◌, ◌<◌, ◌≤◌, true, ℕ, Bool, List, ◌++◌, ◌∷◌, length, filter_map, Option, None, Some, slice_get, Result, IfOk, []}
 use Rattle.std.specs.{Global.Vec, List.Sorted.IsPermutation}
 use Rattle.lft_ir.specs.{Parts.Parts, declared.steps.{externals.Event.Event as EventOf, row.Row.Row}, Steps.Inputs.{InOrder, IsTold}}
 use Rattle.lft_tag.specs.{declared.{NoMemory.NoMemory as WantOfMemory, Tag.Tag}, Tags.{Before, UpTo, earliest}}

@@ -1,5 +1,5 @@
 -- The times that each instance of a reactor has to give.
-use Rattle.std.specs.Prelude.{◌≡◌, ◌&&◌, ℕ, Bool, true, false, not, is_some, List, ◌∷◌, None, option_map, slice_get, unwrap_or}
+use Rattle.std.specs.Prelude.{◌≡◌, ◌&&◌, ℕ, Bool, true, false, not, is_some, List, ◌∷◌, None, option_map, slice_get, unwrap_or, []}
 use Rattle.lft_elaborate.specs.Values.{given_to}
 use Rattle.lft_classes.specs.declared.shapes.{Child.Child, Given.Given, InheritedParameter.InheritedParameter, Shape.Shape}
 

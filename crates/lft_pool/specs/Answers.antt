@@ -1,5 +1,5 @@
 -- What `commit` is given and does, and why it refuses.
-use Rattle.std.specs.Prelude.{◌≡◌, ℕ, ◌<◌, ◌++◌, ◌∷◌, List, length, Option, Result, IsErr, IfOk}
+use Rattle.std.specs.Prelude.{◌≡◌, ℕ, ◌<◌, ◌++◌, ◌∷◌, List, length, Option, Result, IsErr, IfOk, []}
 use Rattle.lft_tag.specs.declared.{Tag.Tag, NoMemory.NoMemory as Refused}
 use Rattle.lft_ir.specs.declared.{parts.Value.Value, steps.row.Row.Row}
 use Rattle.lft_model.specs.{Plans.PlanParts, Presence.{Triggered, Inputs}, Runs.{reads_at, by_ends}, OneWorker.rows, Breaches.IsOpen, Recorded.committed_rows}

@@ -1,5 +1,5 @@
 -- What is told of a program that has a tree and is refused.
-use Rattle.std.specs.Prelude.{◌≡◌, ℕ, ◌⊎◌, List, ◌++◌, Option, codes, map}
+use Rattle.std.specs.Prelude.{◌≡◌, ℕ, ◌⊎◌, List, ◌++◌, Option, codes, map, []}
 use Rattle.lft_tree.specs.{View.{file_view, reactor_view}, declared.tree.{Item.Item, Reactor.Reactor, TokenRange.TokenRange}}
 use Rattle.lft_syntax.specs.{declared.token.Token.Token, Lexes.Lexes, Placed.FileStands, Grammar.Spells, View.lexemes}
 use Rattle.lft_resolve.specs.Causes.{IsFirst, causes}

@@ -1,5 +1,5 @@
 -- The bytes of a text at which what a witness shows stands.
-use Rattle.std.specs.Prelude.{ℕ, List, ◌++◌, Option, Some, None, map, filter_map, option_to_list, option_and_then, option_map, slice_get}
+use Rattle.std.specs.Prelude.{ℕ, List, ◌++◌, Option, Some, None, map, filter_map, option_to_list, option_and_then, option_map, slice_get, []}
 use Rattle.lft_tree.specs.declared.tree.{TimeExpression.TimeExpression, Reference.Reference, Trigger.Trigger, Assignment.Assignment, Member.Member}
 use Rattle.lft_tree.specs.declared.tree.{Reactor.Reactor, Item.Item}
 use Rattle.lft_syntax.specs.{Placed.token_of, declared.token.Token.Token}

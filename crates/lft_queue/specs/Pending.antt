@@ -1,5 +1,5 @@
 -- What contracts see of a queue: the events that are to happen, as a map from tag and name to value.
-use Rattle.std.specs.Prelude.{◌≡◌, Bool, false, cond, ◌&&◌, List, ◌∷◌, Option, Some, None}
+use Rattle.std.specs.Prelude.{◌≡◌, Bool, false, cond, ◌&&◌, List, ◌∷◌, Option, Some, None, []}
 use Rattle.std.specs.List.{AllPairs}
 use Rattle.lft_tag.specs.{declared.Tag.Tag, Tags.{same_tag, is_before}}
 use Rattle.lft_ir.specs.{declared.parts.{Value.Value, Name.Name}, Naming.same_name}

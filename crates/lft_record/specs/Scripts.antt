@@ -1,5 +1,5 @@
 -- Scripts by reaction: what cards add to them, and what they answer.
-use Rattle.std.specs.Prelude.{◌≡◌, ℕ, ℤ, List, map, slice_get, option_and_then, option_map, unwrap_or, Option, None}
+use Rattle.std.specs.Prelude.{◌≡◌, ℕ, ℤ, List, map, slice_get, option_and_then, option_map, unwrap_or, Option, None, []}
 use Rattle.lft_tag.specs.declared.Tag.{Tag}
 use Rattle.lft_ir.specs.declared.{parts.Value.{Value, TheVariants.{Bare, Int}}, steps.row.Step.Step}
 use Rattle.lft_pool.specs.declared.bodies.done.Done.{Done}

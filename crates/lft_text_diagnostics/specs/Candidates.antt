@@ -1,5 +1,5 @@
 -- What can stand where a program's text is refused, and how it is listed.
-use Rattle.std.specs.Prelude.{◌≡◌, ℕ, ◌-◌, ◌⊎◌, List, ◌∷◌, ◌++◌, Option, codes, flat_map, take}
+use Rattle.std.specs.Prelude.{◌≡◌, ℕ, ◌-◌, ◌⊎◌, List, ◌∷◌, ◌++◌, Option, codes, flat_map, take, []}
 use Rattle.std.specs.List.{All}
 use Rattle.lft_syntax.specs.{declared.token.Token.Token, Lexes.Lexes, Lexeme.{Lexeme, Code, Letters, Number, Arrow, Symbol}, Grammar.CanFollow, View.lexemes}
 use Rattle.lft_text_diagnostics.specs.{Quotes.way_words, declared.{refusal.Why.{Why, TheVariants.{Lex, Token as AtToken, End}}, thing.Thing.Thing}}

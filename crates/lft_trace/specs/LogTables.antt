@@ -1,5 +1,5 @@
 -- Tables of rows with external inputs among them: the lines of their records, and why a record is none.
-use Rattle.std.specs.Prelude.{ℕ, List, Option, Some, None}
+use Rattle.std.specs.Prelude.{ℕ, List, Option, Some, None, []}
 use Rattle.lft_ir.specs.{Parts.Parts, declared.steps.row.Row.Row as TheRow}
 use Rattle.lft_trace.specs.{ExternalTables.{ExternalFields, IsEntry}, Traces.IsRow}
 use Rattle.lft_trace.specs.declared.kind.EntryKind.{EntryKind}

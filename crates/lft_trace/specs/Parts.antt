@@ -1,5 +1,5 @@
 -- Texts that can be cut: at the end of a line, where no quote stands before.
-use Rattle.std.specs.Prelude.{◌≡◌, ◌≢◌, ℕ, List, ◌∷◌, ◌++◌, Some, slice_get}
+use Rattle.std.specs.Prelude.{◌≡◌, ◌≢◌, ℕ, List, ◌∷◌, ◌++◌, Some, slice_get, []}
 
 -- no byte is a quotation mark
 abbrev pub HasNoQuote : List ℕ → Type 0

@@ -1,5 +1,5 @@
 -- The text of a trace table as it is written.
-use Rattle.std.specs.Prelude.{ℕ, List, ◌∷◌, ◌++◌, map, decimal, slice_index_or, if◌then◌else◌, ◌==◌}
+use Rattle.std.specs.Prelude.{ℕ, List, ◌∷◌, ◌++◌, map, decimal, slice_index_or, if◌then◌else◌, ◌==◌, []}
 use Rattle.std.specs.{Fmt.signed_decimal, List.{concat, join_with_byte}}
 use Rattle.lft_ir.specs.Parts.{Parts}
 use Rattle.lft_ir.specs.declared.parts.{Name.{Name, TheVariants.{Port, Action}}, Value.{Value, TheVariants.{Bare, Int}}}

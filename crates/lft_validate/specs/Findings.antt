@@ -1,5 +1,5 @@
 -- What each finding says of a member of a reactor.
-use Rattle.std.specs.Prelude.{◌≡◌, ◌≢◌, ℕ, ◌<◌, List, length, Some, None, true, false, slice_get, map, IsSome, IsSomeAnd}
+use Rattle.std.specs.Prelude.{◌≡◌, ◌≢◌, ℕ, ◌<◌, List, length, Some, None, true, false, slice_get, map, IsSome, IsSomeAnd, []}
 use Rattle.lft_tree.specs.Tree.{ReactorTree, MemberTree, InstanceTree, RefTree, TimeTree, Named, port_in, instance_in, reaction_in, connection_in}
 use Rattle.lft_resolve.specs.{Instances.reactor_named, Kinds.{kind_of, own_kind, may_stand}, Causes.{IsUnknownTime, LacksParameter, IsLongTime}}
 use Rattle.lft_resolve.specs.declared.kinds.{Kind.{Kind, TheVariants.OwnParameter}, Role.Role}

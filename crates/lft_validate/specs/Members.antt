@@ -1,5 +1,5 @@
 -- The names, times and values of one member of a reactor, and what a reactor declares, in the order of the text.
-use Rattle.std.specs.Prelude.{ℕ, List, ◌++◌, Option, Some, None, map, filter_map, option_to_list}
+use Rattle.std.specs.Prelude.{ℕ, List, ◌++◌, Option, Some, None, map, filter_map, option_to_list, []}
 use Rattle.lft_tree.specs.Tree.{ReactorTree, MemberTree, PortMember, TimerMember, ActionMember, ReactionMember, InstanceMember, ConnectionMember, RefTree, TimeTree, AssignmentTree}
 use Rattle.lft_resolve.specs.{Kinds.{reads_of, timer_times}, declared.kinds.Role.{Role, TheVariants.{Read, Effect, Source, Destination}}}
 

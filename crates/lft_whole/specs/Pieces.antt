@@ -1,6 +1,6 @@
 -- The lexical grammar of whole Lingua Franca: what begins at a place of a text, and where it ends. Here t is the
 -- text, a list of bytes, and i and j are places in it, counted from 0.
-use Rattle.std.specs.Prelude.{ℕ, zero, suc, ◌+◌, ◌-◌, ◌*◌, ◌^◌, min, List, ◌∷◌, length, slice_get, slice_index, slice_range, Option, Some, None, is_some, Result, Ok, Err, Bool, if◌then◌else◌, true, false, not, ◌&&◌, ◌||◌, nat_le, nat_lt, codes}
+use Rattle.std.specs.Prelude.{ℕ, zero, suc, ◌+◌, ◌-◌, ◌*◌, ◌^◌, min, List, ◌∷◌, length, slice_get, slice_index, slice_range, Option, Some, None, is_some, Result, Ok, Err, Bool, if◌then◌else◌, true, false, not, ◌&&◌, ◌||◌, nat_le, nat_lt, codes, []}
 use Rattle.std.specs.{List.fold, Option.option_map}
 use Rattle.lft_lists.specs.Bytes.{within, is_in_line, is_digit, is_letter, is_word, is_byte}
 use Rattle.lft_whole.specs.{Forms.{is_gap, is_hexadecimal}, declared.{token.{Token.Token, TokenKind.TokenKind}, fault.TextFault.TextFault}}

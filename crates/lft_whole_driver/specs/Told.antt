@@ -1,5 +1,5 @@
 -- What is told of a program that isn't lowered.
-use Rattle.std.specs.Prelude.{◌≡◌, ◌⊎◌, ◌++◌, ◌-◌, ℕ, IfSome, List, Some, None, codes, option_map, slice_get, string_bytes, unwrap_or}
+use Rattle.std.specs.Prelude.{◌≡◌, ◌⊎◌, ◌++◌, ◌-◌, ℕ, IfSome, List, Some, None, codes, option_map, slice_get, string_bytes, unwrap_or, []}
 use Rattle.lft_load.specs.{Faults.words_of, declared.fault.Fault.Fault}
 use Rattle.lft_program_diagnostics.specs.Reasons.{IsToldIn}
 use Rattle.lft_whole.specs.Sources.{Causes.{names, number_of, sentence_of}, Shown.place_words}

@@ -1,5 +1,5 @@
 -- Why a program isn't lowered, and of which of its files.
-use Rattle.std.specs.Prelude.{◌≡◌, ◌⊎◌, ◌<◌, ℕ, IsSomeAnd, List, ◌∷◌, ◌++◌, None, length, slice_get, string_bytes}
+use Rattle.std.specs.Prelude.{◌≡◌, ◌⊎◌, ◌<◌, ℕ, IsSomeAnd, List, ◌∷◌, ◌++◌, None, length, slice_get, string_bytes, []}
 use Rattle.lft_whole.specs.declared.sources.{source.SourceFile.SourceFile, stop.Refusal.Refusal}
 use Rattle.lft_whole_parser.specs.Imports.{Files.{IsImportOf, IsRefusedFor, paths_of_files}, Paths.normal}
 use Rattle.lft_lower.specs.Reactors.{IsLowering}

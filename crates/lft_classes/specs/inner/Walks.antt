@@ -1,5 +1,5 @@
 -- Inside: lists of all that is reached from a first one, and walks that make them.
-use Rattle.std.specs.Prelude.{◌≡◌, ℕ, ◌<◌, ◌≤◌, ◌⊎◌, Bool, true, List, ◌∷◌, ◌++◌, Some, None, reverse, slice_get}
+use Rattle.std.specs.Prelude.{◌≡◌, ℕ, ◌<◌, ◌≤◌, ◌⊎◌, Bool, true, List, ◌∷◌, ◌++◌, Some, None, reverse, slice_get, []}
 use Rattle.std.specs.{BTreeSet.contains, Ordering.nat_cmp}
 use Rattle.lft_classes.specs.{declared.walk.{Visit.Visit, Walk.Walk}, Walks.{Ways, Has, Reaches, IsBehind, Lists}}
 

@@ -1,5 +1,5 @@
 -- Inside: what is noted of the settings that were made.
-use Rattle.std.specs.Prelude.{◌≡◌, ℕ, ℤ, List, ◌∷◌, ◌++◌, Some, None}
+use Rattle.std.specs.Prelude.{◌≡◌, ℕ, ℤ, List, ◌∷◌, ◌++◌, Some, None, []}
 use Rattle.lft_whole.specs.declared.tree.Reference.{Reference}
 use Rattle.lft_classes.specs.declared.shapes.Shape.{Shape}
 use Rattle.lft_elaborate.specs.{declared.{places.Meaning.Meaning, settings.Setting.Setting}, Places.meaning_in, Settings.setting_in, Values.Valued}

@@ -1,5 +1,5 @@
 -- The runs that are open at the end of a log.
-use Rattle.std.specs.Prelude.{ℕ, List, ◌∷◌, ◌++◌, codes, flat_map}
+use Rattle.std.specs.Prelude.{ℕ, List, ◌∷◌, ◌++◌, codes, flat_map, []}
 use Rattle.lft_ir.specs.Parts.{Parts}
 use Rattle.lft_load.specs.Words.{field, reaction_name}
 use Rattle.lft_monitor.specs.declared.open.OpenRun.{OpenRun}

@@ -1,5 +1,5 @@
 -- Inside: the lines of a log: rows and external inputs, below the header of a trace table that comes in pieces.
-use Rattle.std.specs.Prelude.{◌≡◌, ◌≢◌, ◌⊎◌, ◌≤◌, ◌+◌, ℕ, List, ◌++◌, ◌∷◌, length, take, drop, None, Some, slice_get}
+use Rattle.std.specs.Prelude.{◌≡◌, ◌≢◌, ◌⊎◌, ◌≤◌, ◌+◌, ℕ, List, ◌++◌, ◌∷◌, length, take, drop, None, Some, slice_get, []}
 use Rattle.std.specs.List.{AllZip}
 use Rattle.csv.specs.Reading.{records}
 use Rattle.lft_ir.specs.{Parts.Parts, Steps.Fits.RowsFit}

@@ -1,5 +1,5 @@
 -- Inside: what is told of a log.
-use Rattle.std.specs.Prelude.{◌≡◌, ◌↔◌, ◌⊎◌, ◌+◌, ◌^◌, ◌≤◌, true, false, ℕ, Bool, List, ◌++◌, ◌∷◌, length, Option, None, Some, MatchOption, slice_get}
+use Rattle.std.specs.Prelude.{◌≡◌, ◌↔◌, ◌⊎◌, ◌+◌, ◌^◌, ◌≤◌, true, false, ℕ, Bool, List, ◌++◌, ◌∷◌, length, Option, None, Some, MatchOption, slice_get, []}
 use Rattle.lft_ir.specs.{declared.steps.row.Row.Row, Steps.Fits.RowsFit}
 use Rattle.lft_tag.specs.{declared.Tag.Tag, Tags.{Before, UpTo}}
 use Rattle.lft_model.specs.Plans.{PlanParts}

@@ -1,5 +1,5 @@
 -- What references mean in a setting.
-use Rattle.std.specs.Prelude.{◌≡◌, ℕ, true, is_some, List, Option, Some, None, flat_map, option_map, slice_get, string_bytes, unwrap_or}
+use Rattle.std.specs.Prelude.{◌≡◌, ℕ, true, is_some, List, Option, Some, None, flat_map, option_map, slice_get, string_bytes, unwrap_or, []}
 use Rattle.std.specs.Option.{option_and_then}
 use Rattle.lft_tree.specs.Tree.{RefTree}
 use Rattle.lft_whole.specs.declared.tree.{Member.Member, Reference.Reference}

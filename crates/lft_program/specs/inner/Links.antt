@@ -1,5 +1,5 @@
 -- Inside: how ports are reached.
-use Rattle.std.specs.Prelude.{◌≡◌, ℕ, List, ◌∷◌, Some, map, length, slice_get}
+use Rattle.std.specs.Prelude.{◌≡◌, ℕ, List, ◌∷◌, Some, map, length, slice_get, []}
 use Rattle.lft_tree.specs.Tree.{FileTree, reactors_of}
 use Rattle.lft_tag.specs.Shifts.{join_all, none}
 use Rattle.lft_resolve.specs.{inner.Expansion.Sources.Origin, Causes.{ConnectionCycle as HasCycle, DelayTooLong as HasLongDelay}, Instances.Thing}

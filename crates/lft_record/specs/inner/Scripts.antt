@@ -1,5 +1,5 @@
 -- Inside: scripts by reaction: what cards add to them, and what they answer.
-use Rattle.std.specs.Prelude.{◌≡◌, ◌≢◌, ◌++◌, ◌∷◌, ℕ, Bool, false, true, not, is_some, List, length, slice_get, Some}
+use Rattle.std.specs.Prelude.{◌≡◌, ◌≢◌, ◌++◌, ◌∷◌, ℕ, Bool, false, true, not, is_some, List, length, slice_get, Some, []}
 use Rattle.lft_ir.specs.declared.steps.row.Step.{Step}
 use Rattle.lft_record.specs.declared.cards.{card.{Card.Card, CardEntry.CardEntry}, Script.Script}
 use Rattle.lft_record.specs.declared.cards.card.CardEntry.TheVariants as entry

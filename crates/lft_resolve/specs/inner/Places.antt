@@ -1,5 +1,5 @@
 -- Inside: places of names in lists: the first place at which a name stands. `Sheets.antt` tells by it what a name stands for.
-use Rattle.std.specs.Prelude.{◌≡◌, ℕ, suc, List, ◌∷◌, Option, Some, None, if◌then◌else◌, option_map, bytes_eq}
+use Rattle.std.specs.Prelude.{◌≡◌, ℕ, suc, List, ◌∷◌, Option, Some, None, if◌then◌else◌, option_map, bytes_eq, []}
 use Rattle.lft_resolve.specs.{declared.index.Index.Index, Places.place_in}
 
 -- the first place at which the name stands

@@ -1,5 +1,5 @@
 -- Inside: what is kept of rows at finished tags, and what is asked of the next ones.
-use Rattle.std.specs.Prelude.{◌≡◌, true, false, ℕ, ◌<◌, ◌≤◌, List, ◌++◌, length, Option, Some, None, IsSome, MatchOption, IfSome, slice_get, slice_range}
+use Rattle.std.specs.Prelude.{◌≡◌, true, false, ℕ, ◌<◌, ◌≤◌, List, ◌++◌, length, Option, Some, None, IsSome, MatchOption, IfSome, slice_get, slice_range, []}
 use Rattle.lft_tag.specs.{declared.Tag.Tag, Tags.{Before, UpTo, earlier}}
 use Rattle.lft_ir.specs.declared.{parts.{Value.Value, Name.{Name, TheVariants.Port}}, steps.{externals.Event.Event, row.Row.Row}}
 use Rattle.lft_model.specs.{Plans.PlanParts, Presence.{stop, Triggered, Inputs, Shows}, Runs.{Ran, reads_at}}

@@ -1,5 +1,5 @@
 -- Which field of a table is wrong, and how it is named.
-use Rattle.std.specs.Prelude.{◌≡◌, ◌≢◌, ℕ, ◌+◌, ◌⊎◌, List, ◌++◌, Option, Some, None, slice_get, Bool, true, false, ◌||◌, bytes_eq, unwrap_or, codes, decimal}
+use Rattle.std.specs.Prelude.{◌≡◌, ◌≢◌, ℕ, ◌+◌, ◌⊎◌, List, ◌++◌, Option, Some, None, slice_get, Bool, true, false, ◌||◌, bytes_eq, unwrap_or, codes, decimal, []}
 use Rattle.csv.specs.Records.{field_at as at_place}
 use Rattle.lft_ir.specs.{Names.IsNamed, Parts.Parts, declared.{found.Found.TheVariants.Reaction, parts.Name.Name}}
 use Rattle.lft_trace.specs.{Numbers.{number, number_or_zero, value}, Traces.IsThing, declared.fault.TraceFault.TraceFault}

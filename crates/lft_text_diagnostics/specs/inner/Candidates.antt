@@ -1,5 +1,5 @@
 -- Inside: what can stand where a program's text is refused, and how it is listed.
-use Rattle.std.specs.Prelude.{List, if◌then◌else◌, length, nat_lt}
+use Rattle.std.specs.Prelude.{List, if◌then◌else◌, length, nat_lt, []}
 use Rattle.lft_text_diagnostics.specs.declared.thing.Thing.{Thing}
 
 -- Where there are more than six, none is listed.

@@ -1,5 +1,5 @@
 -- Inside: where a byte of a program's text stands: in one of its files, or in the text as a whole.
-use Rattle.std.specs.Prelude.{◌≡◌, ◌⊎◌, ◌≤◌, ◌-◌, ℕ, List, Option, Some, None, Contains, length, min, slice_range}
+use Rattle.std.specs.Prelude.{◌≡◌, ◌⊎◌, ◌≤◌, ◌-◌, ℕ, List, Option, Some, None, Contains, length, min, slice_range, []}
 use Rattle.std.specs.List.{All}
 use Rattle.lft_text_diagnostics.specs.{Places.IsPlace, Quotes.marked_line, declared.{pages.Page.Page, place.Place.Place, spots.Spot.Spot}}
 use Rattle.lft_text_diagnostics.specs.Pages.{HasByte, HasNone}

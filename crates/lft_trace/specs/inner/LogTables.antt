@@ -1,5 +1,5 @@
 -- Inside: tables of rows with external inputs among them: the lines of their records, and why a record is none.
-use Rattle.std.specs.Prelude.{◌≡◌, ◌+◌, ◌<◌, ℕ, length, List, ◌∷◌, ◌++◌, filter_map, All, Option, Some, None}
+use Rattle.std.specs.Prelude.{◌≡◌, ◌+◌, ◌<◌, ℕ, length, List, ◌∷◌, ◌++◌, filter_map, All, Option, Some, None, []}
 use Rattle.std.specs.List.{AllZip}
 use Rattle.lft_ir.specs.{Parts.Parts, Steps.Fits.EventFits}
 use Rattle.lft_tag.specs.Tags.{IsRecorded}

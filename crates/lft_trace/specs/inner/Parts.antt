@@ -1,5 +1,5 @@
 -- Inside: texts that can be cut: at the end of a line, where no quote stands before.
-use Rattle.std.specs.Prelude.{◌≡◌, ◌≢◌, ◌⊎◌, ℕ, List, ◌++◌, Some, Vec, slice_get}
+use Rattle.std.specs.Prelude.{◌≡◌, ◌≢◌, ◌⊎◌, ℕ, List, ◌++◌, Some, Vec, slice_get, []}
 use Rattle.std.specs.{List.{AllZip, flat_map}, declared.alloc.Global.Global}
 use Rattle.lft_ir.specs.{Parts.Parts, declared.steps.row.Row.Row}
 use Rattle.lft_trace.specs.{Records.records_of, Traces.IsRow, Parts.{HasNoQuote, EndsLine}}

@@ -1,5 +1,5 @@
 -- Inside: the records of a text, and how they are read one at a time.
-use Rattle.std.specs.Prelude.{ℕ, List, length, ◌+◌, ◌≡◌, ◌≤◌, ◌<◌, Option, Some, None, ◌∷◌}
+use Rattle.std.specs.Prelude.{ℕ, List, length, ◌+◌, ◌≡◌, ◌≤◌, ◌<◌, Option, Some, None, ◌∷◌, []}
 use Rattle.std.proofs.Common.{Bor}
 use Rattle.csv.specs.{Records.fields_of, Reading.{Ready, default_config, records_from, source_of, reader_trim, reader_config}, declared.parser.State.State}
 use Rattle.lft_trace.specs.{declared.records.Records.Records, Records.records_of}

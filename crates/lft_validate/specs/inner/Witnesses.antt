@@ -1,5 +1,5 @@
 -- Inside: what each witness shows of the reactors of a file.
-use Rattle.std.specs.Prelude.{◌≡◌, ℕ, ◌+◌, ◌<◌, List, ◌∷◌, Option, Some, None, length, slice_get, flat_map, take, Any}
+use Rattle.std.specs.Prelude.{◌≡◌, ℕ, ◌+◌, ◌<◌, List, ◌∷◌, Option, Some, None, length, slice_get, flat_map, take, Any, []}
 use Rattle.lft_tree.specs.Tree.{ReactorTree, MemberTree, RefTree}
 use Rattle.lft_resolve.specs.{Causes.{HasLongTime, Holds, IsFirst, NoneHolds}, declared.kinds.Role.Role}
 use Rattle.lft_validate.specs.{Members.names_of, declared.witness.{Naming.Naming, Witness.Witness}, Witnesses.{Shows, cause_shown}}

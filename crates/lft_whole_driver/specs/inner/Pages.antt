@@ -1,5 +1,5 @@
 -- Inside: the files of a program as one text.
-use Rattle.std.specs.Prelude.{◌≡◌, ◌++◌, ℕ, List, ◌∷◌, length, map}
+use Rattle.std.specs.Prelude.{◌≡◌, ◌++◌, ℕ, List, ◌∷◌, length, map, []}
 use Rattle.lft_text_diagnostics.specs.declared.pages.Page.{Page}
 use Rattle.lft_whole.specs.declared.sources.source.SourceFile.{SourceFile}
 use Rattle.lft_syntax.specs.declared.token.Token.{Token}

@@ -1,5 +1,5 @@
 -- Inside: why a program isn't lowered, and of which of its files.
-use Rattle.std.specs.Prelude.{◌≡◌, ◌⊎◌, ℕ, List}
+use Rattle.std.specs.Prelude.{◌≡◌, ◌⊎◌, ℕ, List, []}
 use Rattle.lft_whole.specs.declared.sources.{source.SourceFile.SourceFile, stop.{Place.Place, Refusal.Refusal}}
 use Rattle.lft_whole_parser.specs.{inner.Imports.Files.RefusesNext, declared.imports.sources.Sources.Sources}
 use Rattle.lft_whole_driver.specs.{inner.Lowered.BeginsAs, declared.told.Unlowered.Unlowered}

@@ -1,5 +1,5 @@
 -- Inside: what is told of a log, with what explains it.
-use Rattle.std.specs.Prelude.{◌≡◌, ◌⊎◌, ℕ, Bool, List, ◌∷◌, ◌++◌, Result, Ok}
+use Rattle.std.specs.Prelude.{◌≡◌, ◌⊎◌, ℕ, Bool, List, ◌∷◌, ◌++◌, Result, Ok, []}
 use Rattle.std.specs.Global.{Vec}
 use Rattle.lft_tag.specs.declared.NoMemory.{NoMemory as TheNoMemory}
 use Rattle.lft_model.specs.Plans.{PlanParts}

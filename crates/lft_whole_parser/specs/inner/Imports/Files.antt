@@ -1,5 +1,5 @@
 -- Inside: the files of a program: which paths are asked for, and which file each import names.
-use Rattle.std.specs.Prelude.{◌≡◌, ◌<◌, ◌↔◌, ◌⊎◌, ℕ, All, List, ◌∷◌, ◌++◌, Option, Some, None, IsSomeAnd, length, map, slice_get, string_bytes, take}
+use Rattle.std.specs.Prelude.{◌≡◌, ◌<◌, ◌↔◌, ◌⊎◌, ℕ, All, List, ◌∷◌, ◌++◌, Option, Some, None, IsSomeAnd, length, map, slice_get, string_bytes, take, []}
 use Rattle.std.specs.{BTreeMap.get_by_text, List.sum_by}
 use Rattle.lft_whole.specs.declared.{tree.Import.Import, sources.{source.SourceFile.SourceFile, stop.{Place.Place, Stop.Stop}, why.Why.TheVariants.NotRead}}
 use Rattle.lft_whole.specs.inner.Sources.Tokens.{StandsAt}
