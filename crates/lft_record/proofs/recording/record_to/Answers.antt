@@ -5,8 +5,7 @@ use Rattle.lft_pool.specs.declared.stop.Stop.{Stop}
 use Rattle.lft_load.specs.declared.fault.Fault.{Fault}
 use Rattle.lft_record.specs.Recordings.{AnswerLaw, IsWhole, IsRecorded, RecordRefusal, StopsAt, Writes}
 use Rattle.lft_record.specs.Recordings.RecordRefusal.{by_stop, by_growth, by_writer, by_stop_and_writer}
-use Rattle.lft_record.specs.Recordings.TableRefusal.{by_growth as no_growth, by_writer as no_writer}
-use Rattle.lft_record.specs.inner.Recordings.{TableRefusal}
+use Rattle.lft_record.specs.inner.Recordings.{TableRefusal, TableRefusal.{by_growth as no_growth, by_writer as no_writer}}
 use Rattle.lft_record.proofs.recording.record_to.Goals as goal
 
 recorded : {A E : Type 0} (law : AnswerLaw) (plan : PlanParts) (workers max_runs : ℕ) (old new : Option (List ℕ)) (rows : List Row) (r : Result A E)
