@@ -1,3 +1,2 @@
 pub mod Texts
 pub mod Loading
-pub mod FilesLemmas

@@ -4,4 +4,3 @@ pub mod Written
 pub mod Words
 pub mod Meaning
 pub mod Refusals
-pub mod Files

@@ -1,3 +1,2 @@
 pub mod Expanded
-pub mod Fits
 pub mod inner
