@@ -1,6 +1,6 @@
 -- Inside: which references a thing of the source becomes.
 use Rattle.std.specs.Prelude.{◌||◌, ℕ, max, Bool, is_some, List, ◌++◌, length, take}
-use Rattle.lft_lower.specs.{declared.meanings.places.{Wide.Wide, Meant.Meant}, Meanings.Places.{Several, Sense}}
+use Rattle.lft_lower.specs.{declared.meanings.places.{Wide.Wide, Meant.Meant}, Meanings.Places.{Several, Sense, Own, Inner}}
 use Rattle.lft_lower.specs.declared.meanings.places.Meant.TheVariants as meant
 
 -- whether a width is written in it
