@@ -1,6 +1,7 @@
 #![tactic(auto)]
-//! What an accepted trace exercised, as text: one fact a line, or for people. In `driver` the way there from
-//! three texts, or from a plan and a text, with the verdict.
+//! What an accepted trace exercised, as text: one fact a line, or for people.
+//!
+//! - `driver`: the command `cover`, from texts or a plan to a verdict and that text.
 
 mod closure;
 pub mod driver;

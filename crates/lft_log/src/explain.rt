@@ -1,4 +1,4 @@
-//! What is told of a log, and what explains it.
+//! What is told of a log, with what explains it.
 
 mod cut;
 mod explaining;

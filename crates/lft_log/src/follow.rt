@@ -1,4 +1,4 @@
-//! Traces that are followed while they are written: from readers to printed lines.
+//! Logs that are followed while they are written: from a reader to printed lines.
 
 mod follow;
 mod kept;

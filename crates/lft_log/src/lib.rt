@@ -1,6 +1,8 @@
 #![tactic(auto)]
 //! Logs: trace tables that come in pieces, with external inputs among their rows, judged while they come.
-//! `follow` is the way from a log's reader to printed lines, and `explain` says what explains its breach.
+//!
+//! - `follow`: the command `follow`, from a reader to lines.
+//! - `explain`: what explains the breach of a log.
 
 mod asked;
 pub mod explain;

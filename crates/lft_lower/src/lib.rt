@@ -1,6 +1,8 @@
 #![tactic(auto)]
-//! The core tree of a whole program, and what is said of it. In `meanings` what references of a setting mean
-//! in the core, the names of reactors there, and how much text may be made.
+//! The core tree of a whole program, and the notes on it.
+//!
+//! - `meanings`: what references of a setting mean in the core, the names of reactors there, and how much text
+//!   may be made.
 
 mod connections;
 mod copies;

@@ -1,7 +1,6 @@
 #![tactic(auto)]
-//! What a trace means: plans, breaches, the one-worker machine and the laws about them. The slow
-//! forms are for who wants to ask about a trace, and `law_agree` and `law_no_request` for who reads
-//! the contracts: no command calls them.
+//! What a trace means: plans, breaches, the one-worker machine and the laws about them. The slow forms and two
+//! of the laws are for who asks or reads: no command calls them.
 
 mod breach;
 pub mod laws;

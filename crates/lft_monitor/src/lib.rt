@@ -1,5 +1,5 @@
 #![tactic(auto)]
-//! What is sure of a trace before all of its rows are there.
+//! The follower: what is sure of a trace before all of its rows are there.
 
 mod follower;
 mod found;

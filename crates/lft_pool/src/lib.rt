@@ -1,5 +1,5 @@
 #![tactic(auto)]
-//! Recording on a pool of workers: the code of runs, the book, and the workers round it.
+//! Recording on a pool of workers: the code of runs, the book of a recording, and the workers round it.
 
 mod bodies;
 mod book;

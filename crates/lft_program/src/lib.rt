@@ -1,6 +1,5 @@
 #![tactic(auto)]
-//! Flattening: from the tree of a program's text to the flat program, or the first cause of
-//! refusal.
+//! Flattening: from the tree of a program's text to the flat program, or to the first cause of refusal.
 
 mod assembly;
 mod fault;

@@ -1,6 +1,6 @@
 #![tactic(auto)]
-//! Why a program that has a tree is refused, for people: what shows the cause, where in the text it stands,
-//! and what to write. Why a program has no graph.
+//! Why a program that has a tree is refused, for people: what shows the cause, where in the text it stands, and
+//! what to write. Of reactions that precede themselves the loop is told.
 
 mod candidates;
 mod findings;

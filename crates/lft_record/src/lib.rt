@@ -1,5 +1,5 @@
 #![tactic(auto)]
-//! Recordings that are written as trace tables, and recordings by cards: tables of what bodies answer.
+//! Recordings that are written as trace tables, also by cards: tables of what bodies answer.
 
 mod answer;
 mod bodies;

@@ -1,6 +1,7 @@
 #![tactic(auto)]
-//! Why a trace breaks a rule, as text: facts that a reader can believe one by one. In `quotes` the rows that
-//! facts name, with their lines and what each of them is to the facts.
+//! The text of facts: why a trace breaks a rule, in statements that a reader can believe one by one.
+//!
+//! - `quotes`: the rows that facts name, with their lines and what each of them is to the facts.
 
 mod causes;
 mod explaining;

@@ -1,6 +1,8 @@
 #![tactic(auto)]
-//! The core tree of a program is the whole program. In `expanded` what a program means, written out, a whole
-//! one and a core one; in `fits` how its settings stand to its instances. It has laws alone, and no code.
+//! Laws alone, and no code: the core tree of a program is the whole program.
+//!
+//! - `expanded`: what a program means, written out: a whole one and a core one.
+//! - `fits`: how the settings of a program stand to its instances.
 
 pub mod expanded;
 pub mod fits;

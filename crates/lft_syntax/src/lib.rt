@@ -1,5 +1,5 @@
 #![tactic(auto)]
-//! Program texts: tokens, and the tree that they spell. The calls on bytes and words serve other readers of
+//! Core texts: their tokens, and the tree that these spell. The calls on bytes and words serve other readers of
 //! texts.
 
 mod fault;

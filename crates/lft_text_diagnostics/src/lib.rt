@@ -1,7 +1,9 @@
 #![tactic(auto)]
-//! Why a program's text has no tree, for people: where in it, the line with a mark, what could stand there,
-//! and what to write in place of what the language has and `lftrace` leaves out. `words` and `headers` serve
-//! who tells of other texts. In `tables` why a table is refused.
+//! Why a text is refused, for people. Here why a program's text has no tree: the line with a mark, what could
+//! stand there, and what to write in place of what is left out of the language.
+//!
+//! - `tables`: why a table is refused.
+//! - `words`, `headers`: for who tells of other texts.
 
 mod before;
 mod candidates;

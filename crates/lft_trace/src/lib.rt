@@ -1,6 +1,6 @@
 #![tactic(auto)]
-//! The tables that hold the rows of a trace and external inputs. `write_trace` serves who records.
-//! The modules `records`, `number` and `names` serve who reads another table.
+//! The tables of trace rows and of external inputs, read and written. `records`, `number` and `names` serve who
+//! reads another table.
 
 mod event_map;
 mod external_table;

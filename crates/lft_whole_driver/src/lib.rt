@@ -1,5 +1,5 @@
 #![tactic(auto)]
-//! From the files of a whole program to its flat program.
+//! From the files of a whole program to its flat program, or to what is told of a refused one.
 
 mod could;
 mod hints;
