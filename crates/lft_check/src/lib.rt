@@ -2,6 +2,9 @@
 //! The checker: the verdict on a trace, with the rules 6 to 10 tag by tag.
 //!
 //! - `by_tag`: the rows by tag, with what they cause.
+//!
+//! What `judge` promises (`IsExact`) has no word on the number of workers. So any two numbers give the same
+//! verdict.
 
 pub mod by_tag;
 mod examine;

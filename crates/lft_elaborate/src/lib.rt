@@ -3,6 +3,9 @@
 //! there are.
 //!
 //! - `channels`: which channels of banks and multiports are joined, by number.
+//!
+//! No clause says how many things are counted, that a program is refused that passes a limit, or why one is
+//! refused.
 
 pub mod channels;
 mod counts;

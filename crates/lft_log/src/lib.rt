@@ -3,6 +3,9 @@
 //!
 //! - `follow`: the command `follow`, from a reader to lines.
 //! - `explain`: what explains the breach of a log.
+//!
+//! What is told is so of the log's first rows, for the plan that its external inputs make. No clause says that
+//! it is told as early as it is sure.
 
 mod asked;
 pub mod explain;

@@ -2,6 +2,9 @@
 //! The text of facts: why a trace breaks a rule, in statements that a reader can believe one by one.
 //!
 //! - `quotes`: the rows that facts name, with their lines and what each of them is to the facts.
+//!
+//! `tell` promises the text of the facts byte by byte, whether they are true or not. That they are is promised
+//! of `find` in `lft_facts`. `explain` brings both together (`Explains`).
 
 mod causes;
 mod explaining;

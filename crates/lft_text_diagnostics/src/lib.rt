@@ -4,6 +4,9 @@
 //!
 //! - `tables`: why a table is refused.
 //! - `words`, `headers`: for who tells of other texts.
+//!
+//! The clauses speak of the place, of what is wrong there, and of what is listed as what could stand there.
+//! Which way out is told and what else is listed is free: cases try it.
 
 mod before;
 mod candidates;
