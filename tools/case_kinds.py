@@ -55,7 +55,7 @@ HEADERS = {
 GIVEN = {"program": "program", "externals": "externals", "externals-text": "externals", "trace": "trace"}
 # Stands where lines of what `explain` tells are left out.
 LEFT_OUT = b"  More lines, which `--all` prints: "
-# KiB of stack, and what fills it before the program begins: by docs/FORMATS.md the one is enough with the other.
+# KiB of stack, and what fills it before the program begins: by docs/TABLES.md the one is enough with the other.
 STACK = 192
 ENVIRONMENT = {**os.environ, "FILLS": "x" * 32768}
 # A trace of fewer bytes is judged by one worker.

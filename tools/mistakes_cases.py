@@ -1,6 +1,6 @@
 """The cases of tools/mistakes: what people do wrong, and what is right.
 
-What is to come of each is written by hand from docs/FORMATS.md.
+What is to come of each is written by hand from docs/OUTPUT.md.
 """
 import gzip
 import pathlib

@@ -1,4 +1,4 @@
-"""The lines that the program may print, and its faults by part and number, from docs/FORMATS.md."""
+"""The lines that the program may print, and its faults by part and number, from docs/OUTPUT.md."""
 import re
 
 from hostile.machine import RULES

@@ -1,4 +1,4 @@
-"""Small examples of every command with their answers, written by hand from docs/FORMATS.md, and one
+"""Small examples of every command with their answers, written by hand from docs/OUTPUT.md, and one
 table over 1 MiB, the size from which several workers share a table."""
 import dataclasses
 

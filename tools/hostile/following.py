@@ -1,4 +1,4 @@
-"""What `lftrace follow` tells of a log, reckoned from docs/FORMATS.md and not from the code.
+"""What `lftrace follow` tells of a log, reckoned from docs/TABLES.md and not from the code.
 
 It goes row by row, and asks the rows up to the last finished tag as a whole each time, with the external inputs that
 were told by then.

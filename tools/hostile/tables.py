@@ -1,4 +1,4 @@
-"""The three tables and the bundle, read and written as docs/FORMATS.md says. A table that has no
+"""The three tables and the bundle, read and written as docs/TABLES.md says. A table that has no
 meaning is `Refused` with what its fault line says."""
 import functools
 import re

@@ -1,5 +1,10 @@
 #![tactic(auto)]
-//! The verdict on a trace. In `by_tag` its rows by tag, with what they cause: what the judge asks.
+//! The checker: the verdict on a trace, with the rules 6 to 10 tag by tag.
+//!
+//! - `by_tag`: the rows by tag, with what they cause.
+//!
+//! What `judge` promises (`IsExact`) has no word on the number of workers. So any two numbers give the same
+//! verdict.
 
 pub mod by_tag;
 mod examine;

@@ -67,7 +67,8 @@ fn examine_shares<W: Watch, R: Threads + Sync>(
     requires workers { (1 < workers) × (workers ≤ 64) }
     ensures { IfOk result (λ found. AreShares sliced.now slices.now bound workers found.items) }
 {
-    // Where no thread can be started it calls for one share after another, so no fault tells of threads.
+    // Where no thread can be started it calls for one share after another, so no fault tells of threads: number 2 of
+    // part `check` is free. Of a scoped thread's result, whose type has a lifetime, the prover would learn nothing.
     let Ok(found) = thread::map_indices(
         rt,
         alloc,

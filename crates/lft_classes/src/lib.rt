@@ -1,6 +1,9 @@
 #![tactic(auto)]
 //! Reactors of several files with all that they inherit, and which of their parameters decide widths or are
 //! times.
+//!
+//! A refusal of a mode, a mutation or a watchdog says which of them it is. No clause says why else there are no
+//! shapes.
 
 mod chains;
 mod deciding;

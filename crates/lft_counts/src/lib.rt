@@ -1,6 +1,9 @@
 #![tactic(auto)]
 //! How often something holds in a trace, counted row by row: runs, writes, orders that are met, runs that are
-//! open together. No row of the trace may break one of the rules 1 to 5.
+//! open together.
+//!
+//! No row of the trace may break one of the rules 1 to 5. The judge says so of the rows that it has gone over,
+//! so both go over them together.
 
 mod bits;
 mod cover;

@@ -1,6 +1,10 @@
 #![tactic(auto)]
-//! What an accepted trace exercised, as text: one fact a line, or for people. In `driver` the way there from
-//! three texts, or from a plan and a text, with the verdict.
+//! What an accepted trace exercised, as text: one fact a line, or for people.
+//!
+//! - `driver`: the command `cover`, from texts or a plan to a verdict and that text.
+//!
+//! The clauses speak of each byte of the list. Of the text for people they speak of the line of sums alone,
+//! without its count of pairs that have no order.
 
 mod closure;
 pub mod driver;

@@ -102,6 +102,7 @@ fn write_behind<W: Write>(
 
 /// Judges rows by so many workers, and writes the verdict's line. Then it looks for what explains it, and
 /// writes that.
+// Places that are kept while judging would spare the search, and each accepted trace would pay for them.
 fn explain_rows<W: Write, R: Threads + Sync>(
     rt: &R,
     alloc: Global,

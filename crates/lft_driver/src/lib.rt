@@ -1,6 +1,6 @@
 #![tactic(auto)]
-//! From plans and texts to a verdict, to the comparison of two traces, or to the lines of a program. It hands
-//! on what a command begins and ends with: faults, `load`, `read_input` and `finish` of `lft_load`.
+//! The commands `judge`, `explain`, `pair` and `show`: from plans and texts to lines. It hands on what a
+//! command begins and ends with: faults, `load`, `read_input` and `finish` of `lft_load`.
 
 mod accepting;
 mod alone;

@@ -1,6 +1,11 @@
 #![tactic(auto)]
-//! The settings in which the reactors of a program are used, how wide what is in them is, and how many things
-//! there are. In `channels` which channels of banks and multiports are joined, by number.
+//! The settings in which the reactors of a program are used: how wide what is in them is, and how many things
+//! there are.
+//!
+//! - `channels`: which channels of banks and multiports are joined, by number.
+//!
+//! No clause says how many things are counted, that a program is refused that passes a limit, or why one is
+//! refused.
 
 pub mod channels;
 mod counts;

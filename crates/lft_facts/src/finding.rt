@@ -87,6 +87,8 @@ fn of_breach(
 /// The facts behind the first breach of a trace, in the order in which they are told: those that are
 /// enough, reasons behind them, and last the first race before a breach of one of the rules 1 to 8. Where
 /// runs may end yet the race may be left out: no row ends the run that had to end first.
+// Facts are enough if they give the breach of every plan and every list of rows (`Proves`), so none can be left
+// out, not even one on the program. Of this plan and these rows the breach is known: no fact at all would do.
 pub fn find(alloc: Global, plan: &Plan, rows: &Rows, breach: Breach) -> Result<Facts, NoMemory>
     requires fit { RowsFit plan.now.program rows.now }
     requires first { FirstSoFar plan.now rows.now breach }

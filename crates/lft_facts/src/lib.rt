@@ -1,5 +1,8 @@
 #![tactic(auto)]
 //! Facts behind the first breach of a trace: each of them is true, and together they give the breach.
+//!
+//! Beside the facts that are enough stand others, which no promise chooses, as the event that is nearest to
+//! what is absent (`IsNearest`). They are true too.
 
 mod across;
 mod adding;

@@ -1,7 +1,9 @@
 #![tactic(auto)]
-//! What a text becomes: the flat program as data, with numbered instances, ports, actions, timers and
-//! reactions, and what holds of each such program. In `steps` rows of a trace and external inputs, as values;
-//! in `words` how all these are written for people.
+//! What a text becomes, as data: the flat program with its numbered instances, ports, actions, timers and
+//! reactions.
+//!
+//! - `steps`: rows of a trace, and external inputs.
+//! - `words`: how times, tags, values, names and rows are written for people.
 
 mod copies;
 mod found;

@@ -27,6 +27,7 @@ fn names_of(alloc: Global, triggers: &[Trigger]) -> Result<Vec<Name>, NoMemory>
 
 /// Some triggers in order. The ports and actions among them stand in a list of their own, so that
 /// a reaction with many timers is asked for its few inputs alone.
+// A pass over all triggers would go through thousands of timers at each tag.
 #[derive(Debug, Drop)]
 pub struct Triggers {
     items: Vec<Trigger>,

@@ -1,6 +1,7 @@
 #![tactic(auto)]
-//! From texts to a plan: faults and their lines, and what is read and written around it. In `files` are files
-//! by their paths: their bytes, or why they can't be read or written.
+//! From texts to a plan, or to the first fault with its line; and how texts are read and lines are written.
+//!
+//! - `files`: files by their paths: their bytes, or why they can't be read or written.
 
 mod fault;
 pub mod files;

@@ -1,4 +1,8 @@
-//! Traces that are followed while they are written: from readers to printed lines.
+//! Logs that are followed while they are written: from a reader to printed lines.
+//!
+//! No clause says how many lines `every` makes: there may be none. Of a line that is no row and no external
+//! input the name of the fault is free. A body that always says that memory is refused, or that the reader
+//! failed, meets each contract.
 
 mod follow;
 mod kept;

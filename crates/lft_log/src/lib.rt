@@ -1,6 +1,11 @@
 #![tactic(auto)]
 //! Logs: trace tables that come in pieces, with external inputs among their rows, judged while they come.
-//! `follow` is the way from a log's reader to printed lines, and `explain` says what explains its breach.
+//!
+//! - `follow`: the command `follow`, from a reader to lines.
+//! - `explain`: what explains the breach of a log.
+//!
+//! What is told is so of the log's first rows, for the plan that its external inputs make. No clause says that
+//! it is told as early as it is sure.
 
 mod asked;
 pub mod explain;

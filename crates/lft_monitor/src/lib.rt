@@ -1,5 +1,8 @@
 #![tactic(auto)]
-//! What is sure of a trace before all of its rows are there.
+//! The follower: what is sure of a trace before all of its rows are there.
+//!
+//! What is sure of some rows stays sure when more come, and at the end it is the whole (`law_sure`,
+//! `law_timely`). No clause says that a breach is told as early as it is sure.
 
 mod follower;
 mod found;

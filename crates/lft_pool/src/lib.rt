@@ -1,5 +1,9 @@
 #![tactic(auto)]
-//! Recording on a pool of workers: the code of runs, the book, and the workers round it.
+//! Recording on a pool of workers: the code of runs, the book of a recording, and the workers round it.
+//!
+//! What is pending is said of plan and rows (`IsPendingEvent`). A refusal may leave the agenda of a book
+//! altered inside. Nobody sees it: a stopped book answers its reason before it looks at the agenda, and `close`
+//! drops it. No contract says that a body gave an answer that isn't taken.
 
 mod bodies;
 mod book;

@@ -1,6 +1,9 @@
 #![tactic(auto)]
-//! Flattening: from the tree of a program's text to the flat program, or the first cause of
-//! refusal.
+//! Flattening: from the tree of a program's text to the flat program, or to the first cause of refusal.
+//!
+//! A program comes exactly if no cause holds, and it is the only flat program of the tree. Causes are answered
+//! in the order 1 to 9, 11, 12, 13, 15, 10, 14. What is told with one is true; where several things show the
+//! cause, it may be any of them.
 
 mod assembly;
 mod fault;

@@ -1,6 +1,9 @@
 #![tactic(auto)]
-//! Why a program that has a tree is refused, for people: what shows the cause, where in the text it stands,
-//! and what to write. Why a program has no graph.
+//! Why a program that has a tree is refused, for people: what shows the cause, where in the text it stands, and
+//! what to write. Of reactions that precede themselves the loop is told.
+//!
+//! The clauses speak of the first cause that holds, and of the place that shows it where a single place does.
+//! That is so of all causes but 5, 10, 14 and 15. Which names a sentence has is free: cases try it.
 
 mod candidates;
 mod findings;

@@ -1,5 +1,7 @@
 #![tactic(auto)]
-//! Pending events by tag. In `coming` the events that are still to come, and what rows cause at later tags.
+//! Pending events by tag.
+//!
+//! - `coming`: the events that are still to come, and what rows cause at later tags.
 
 pub mod coming;
 mod keys;

@@ -1,7 +1,8 @@
 #![tactic(auto)]
-//! Where runs start and end, which row another one contradicts, and races: runs that start although one that
-//! precedes them at their tag hasn't ended. In `hints` guesses at what is behind a breach, such a race or
-//! another.
+//! Races: runs that start although one that precedes them at their tag hasn't ended. Where runs start and end,
+//! and which row another one contradicts, is found here too.
+//!
+//! - `hints`: guesses at what is behind a breach.
 
 mod across;
 mod before;

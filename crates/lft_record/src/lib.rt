@@ -1,5 +1,9 @@
 #![tactic(auto)]
-//! Recordings that are written as trace tables, and recordings by cards: tables of what bodies answer.
+//! Recordings that are written as trace tables, also by cards: tables of what bodies answer.
+//!
+//! The law of a recording by cards is `card_law`. So one that stopped at an answer, as by a collision, stopped
+//! at an answer of the cards. That `NoBody` comes only where a reaction has run as often as its card says isn't
+//! promised.
 
 mod answer;
 mod bodies;

@@ -1,6 +1,10 @@
 #![tactic(auto)]
-//! Why a trace breaks a rule, as text: facts that a reader can believe one by one. In `quotes` the rows that
-//! facts name, with their lines and what each of them is to the facts.
+//! The text of facts: why a trace breaks a rule, in statements that a reader can believe one by one.
+//!
+//! - `quotes`: the rows that facts name, with their lines and what each of them is to the facts.
+//!
+//! `tell` promises the text of the facts byte by byte, whether they are true or not. That they are is promised
+//! of `find` in `lft_facts`. `explain` brings both together (`Explains`).
 
 mod causes;
 mod explaining;

@@ -1,5 +1,5 @@
-//! Tables, by the reactors' numbers, of what a tree declares of which no cause of refusal holds
-//! that is looked for in each reactor by itself.
+//! Tables of what each reactor of a tree declares, by the reactors' numbers. No cause of refusal holds of the
+//! tree that a reactor shows by itself.
 
 mod clocks;
 mod cues;

@@ -1,7 +1,9 @@
 #![tactic(auto)]
-//! What the names in the reactors of a file stand for, the tables of reactors by number, and the definitions
-//! of instances and of the causes of refusal. In `expansion` the instances of a main reactor, over numbers
-//! alone.
+//! What the names in the reactors of a file stand for. It has the definitions of instances and of the causes of
+//! refusal too.
+//!
+//! - `by_number`: tables of what each reactor declares, by the reactors' numbers.
+//! - `expansion`: the instances of a main reactor, over these numbers alone.
 
 pub mod by_number;
 pub mod expansion;

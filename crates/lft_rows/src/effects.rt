@@ -13,7 +13,8 @@ use std::collections::BTreeSet;
 
 /// The effects of one reaction, the ports apart from the actions. Each row that writes or schedules
 /// looks one up, and a reaction may have thousands.
-// The sets are trees, since std's hash sets have a fixed seed.
+// A walk over the effects at each row would cost by both. The sets are trees, since std's hash sets have a fixed
+// seed.
 #[derive(Drop)]
 struct EffectSets {
     ports: BTreeSet<u32>,

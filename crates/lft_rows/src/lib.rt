@@ -1,6 +1,9 @@
 #![tactic(auto)]
-//! What rows say. Here the rules 1 to 5, which rows break one by one; in `presence` the causes of events, and
-//! what they make present, trigger and collide at a tag; in `answers` what a run read and answered.
+//! What the rows of a trace say, before they are put in order by tag. Here the rules 1 to 5, which rows break
+//! one by one.
+//!
+//! - `presence`: the causes of events, and what they make present, trigger and collide at a tag.
+//! - `answers`: what a run read and answered.
 
 pub mod answers;
 mod declared;

@@ -11,6 +11,7 @@ use std::marker::Model;
 
 /// The inputs of one reaction in order, and the place of each by its number, the ports apart from
 /// the actions. A run may read thousands, in any order.
+// So a walk over the inputs at each row would cost by both.
 #[derive(Drop)]
 pub(crate) struct Inputs {
     names: Names,

@@ -1,4 +1,8 @@
 //! How the settings of a program stand to its instances. It has laws alone, and no code.
+//!
+//! A setting fits an instance where its shape is of the instance's reactor, and its numbers are those of the
+//! values there. The main setting fits the main instance. Where one fits, so does that of each member: this
+//! carries widths and names to all instances.
 
 ghost use Rattle.lft_same.specs.inner.Fits.Laws.{InsideLaw, MainLaw, NamesLaw, WidthsLaw};
 

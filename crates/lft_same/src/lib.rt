@@ -1,6 +1,12 @@
 #![tactic(auto)]
-//! The core tree of a program is the whole program. In `expanded` what a program means, written out, a whole
-//! one and a core one; in `fits` how its settings stand to its instances. It has laws alone, and no code.
+//! Laws alone, and no code: the core tree of a program is the whole program.
+//!
+//! - `expanded`: what a program means, written out: a whole one and a core one.
+//! - `fits`: how the settings of a program stand to its instances.
+//!
+//! Each law stands on a function without code. `law_of_lowering` is the one that a verdict rests on: a tree
+//! that lowering makes, of which no cause of refusal holds, is the whole program. But where a reaction has no
+//! trigger, as its channels are none, a logical action that nothing schedules triggers it.
 
 pub mod expanded;
 pub mod fits;

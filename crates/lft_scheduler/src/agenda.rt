@@ -30,6 +30,8 @@ use std::marker::Model;
 /// far each reaction is at the tag that is run, and the stop. While something is left to run, that
 /// tag is the least at which a reaction is pending: `new` and `end` go on to it, so that `find`
 /// has nothing to look for.
+// A search over all rows at each `begin` would cost by the rows so far. So contracts speak of all rows that an
+// agenda is of, and it keeps none of them.
 #[derive(Drop)]
 pub struct Agenda {
     alloc: Global,

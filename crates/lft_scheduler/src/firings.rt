@@ -59,7 +59,7 @@ impl Firing {
 }
 
 /// One firing of each live timer, where it has one left; the first stands first.
-// A heap, so that a tag costs by the timers that fire there.
+// A heap, so that a tag costs by the timers that fire there and not by all of them.
 #[derive(Drop)]
 pub(crate) struct Firings {
     heap: BinaryHeap<Reverse<Firing>>,

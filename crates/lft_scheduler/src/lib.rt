@@ -1,6 +1,6 @@
 #![tactic(auto)]
-//! What is kept beside the rows of a recording, so that no row is looked at again: its open runs,
-//! the events that are to happen, how far each reaction is at the tag that is run, the stop.
+//! What a recording may start next: its open runs, the events that are to happen, how far each reaction is at
+//! the tag that is run, the stop. No row is looked at again.
 
 mod advancing;
 mod agenda;

@@ -1,5 +1,5 @@
 #![tactic(auto)]
-//! The cut of a trace: its runs by tag, for those who ask what ran. The judge doesn't.
+//! The cut of a trace: its runs by tag, for who asks what ran. No command calls it.
 
 mod answers;
 mod cuts;

@@ -1,4 +1,4 @@
-//! Rows and trace tables that are accepted, and what they exercise, a batch of rows at a time.
+//! Trace tables and rows, accepted a batch at a time, and what they exercise.
 
 mod rows;
 mod shared;

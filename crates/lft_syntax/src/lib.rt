@@ -1,6 +1,9 @@
 #![tactic(auto)]
-//! Program texts: tokens, and the tree that they spell. The calls on bytes and words serve other readers of
+//! Core texts: their tokens, and the tree that these spell. The calls on bytes and words serve other readers of
 //! texts.
+//!
+//! A text has at most one cutting into tokens, and tokens have at most one tree. `parse` tells the first token
+//! with which no tree goes on. `can_stand` decides the same of any token at any place.
 
 mod fault;
 mod form;

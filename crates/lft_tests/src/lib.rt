@@ -1,8 +1,8 @@
 #![tactic(auto)]
 //! The tests that need code: tags; what fits a program; who is told of a tag; rows that are followed as they
-//! come; queues, books driven by hand, and recordings. In `driver` the calls on texts: long texts and tables,
-//! many workers, readers and writers that are interrupted or fail. What is data is a case in the folder
-//! `cases`.
+//! come; queues, books driven by hand, and recordings. What is data is a case in the folder `cases`.
+//!
+//! - `driver`: the calls on texts, with long tables, many workers, readers and writers that fail.
 
 #[cfg(test)]
 mod answers;

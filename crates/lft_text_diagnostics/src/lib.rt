@@ -1,7 +1,12 @@
 #![tactic(auto)]
-//! Why a program's text has no tree, for people: where in it, the line with a mark, what could stand there,
-//! and what to write in place of what the language has and `lftrace` leaves out. `words` and `headers` serve
-//! who tells of other texts. In `tables` why a table is refused.
+//! Why a text is refused, for people. Here why a program's text has no tree: the line with a mark, what could
+//! stand there, and what to write in place of what is left out of the language.
+//!
+//! - `tables`: why a table is refused.
+//! - `words`, `headers`: for who tells of other texts.
+//!
+//! The clauses speak of the place, of what is wrong there, and of what is listed as what could stand there.
+//! Which way out is told and what else is listed is free: cases try it.
 
 mod before;
 mod candidates;

@@ -1,6 +1,10 @@
 #![tactic(auto)]
-//! The tables that hold the rows of a trace and external inputs. `write_trace` serves who records.
-//! The modules `records`, `number` and `names` serve who reads another table.
+//! The tables of trace rows and of external inputs, read and written. `records`, `number` and `names` serve who
+//! reads another table.
+//!
+//! The records of a text (`records_of`) are by definition those of the crate `csv`. Reading in parts rests on
+//! the lemma `records_cut`: a text is cut behind a line feed, has no quotation mark before the cut, and no byte
+//! order mark begins behind it. Then its records are those before the cut, and then those behind it.
 
 mod event_map;
 mod external_table;

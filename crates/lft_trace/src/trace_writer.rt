@@ -17,6 +17,8 @@ use std::alloc::Global;
 /// The trace table of the rows, which `read_trace` reads as these rows. Each line ends with a line
 /// feed; a bare value and no delay are written as nothing, and numbers without leading zeros. No
 /// quotes are written.
+// Contracts see names as lists of letters, digits, `_`, dots and `#` (`AreWords`). So no clause has to say how `csv`
+// quotes.
 pub fn write_trace(alloc: Global, program: &Program, rows: &Rows) -> Result<Vec<u8>, NoMemory>
     requires { RowsFit program.now rows.now }
     ensures plain { IfOk result (λ text. text.items ≡ table_text program.now rows.now) }

@@ -1,5 +1,5 @@
 #![tactic(auto)]
-//! The tree of a program's text.
+//! The tree of a core text, as data.
 
 mod ast;
 mod tree;

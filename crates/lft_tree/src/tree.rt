@@ -1,5 +1,7 @@
 //! The parts of the tree of a program text. A part that has a place in the text has it as the number of a
-//! token, counted from 0. What contracts see of the tree has no places.
+//! token, counted from 0. What contracts see of the tree has no places: two names of one spelling stay one name to
+//! the grammar. The parser knows the places. A second reading of the text would have to find each part by the sizes
+//! of those before it.
 
 /// A unit of time.
 #[derive(Clone, Copy, Debug, PartialEq, Eq)]
@@ -31,6 +33,7 @@ pub enum TimeExpression {
 
 /// The tokens from the number `start` up to, without, the number `end`, counted from 0. They are
 /// read and mean nothing.
+// They aren't dropped, so that uniqueness speaks of the whole tree.
 #[derive(Clone, Copy, Debug, PartialEq, Eq)]
 pub struct TokenRange {
     pub start: usize,

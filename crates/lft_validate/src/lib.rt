@@ -1,6 +1,6 @@
 #![tactic(auto)]
-//! The causes of refusal that places of a file show: what is looked for, and which reactor, which member
-//! and which name show it.
+//! The causes of refusal that places of a file show, each with the reactor, the member and the name that show
+//! it.
 
 mod checks;
 mod circle;

@@ -1,7 +1,8 @@
 #![tactic(auto)]
-//! Whole Lingua Franca texts: tokens, and the tree of what coordination needs. In `parts` the small parts of
-//! a text of which members are made; in `sources` the files of a program as they are read, and why there is
-//! no core program of them.
+//! Texts of the whole language: their tokens, and the tree of what coordination needs.
+//!
+//! - `parts`: the small parts of which members are made, each read by a function.
+//! - `sources`: the files of a program as they are read, and why there is no core program of them.
 
 mod classes;
 mod fault;

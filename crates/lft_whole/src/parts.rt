@@ -1,5 +1,5 @@
-//! The parts of which members of a whole Lingua Franca text are made: a function for each, from the place of its
-//! first token to the part and the place behind it.
+//! The small parts of which members of a whole text are made: a function for each, from the place of its first
+//! token to the part and the place behind it.
 
 pub mod groups;
 pub mod input;

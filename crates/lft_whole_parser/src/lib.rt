@@ -1,6 +1,8 @@
 #![tactic(auto)]
-//! The parser of whole Lingua Franca texts: a function for each part, from the place of its first token to
-//! the part and the place behind it. In `imports` the files of a program, each read once.
+//! The parser of whole texts: a function for each part, from the place of its first token to the part and the
+//! place behind it.
+//!
+//! - `imports`: the files of a program, each read once.
 
 ghost use Rattle.std.specs.Prelude.{IfErr};
 ghost use Rattle.lft_whole.specs.{inner.{Tokens.AreTokens, Parts.View.Gives}, Places.IsAmong, Parts.View.file_view};

@@ -1,4 +1,5 @@
-//! Judges recorded traces of Lingua Franca programs, compares them, and records executions.
+//! The command line: it judges recorded traces of Lingua Franca programs, compares them, and records
+//! executions.
 #![tactic(auto)]
 
 mod follow;

@@ -22,6 +22,7 @@ pub(crate) const BLOCK: usize = 64;
 
 /// For each block of the inputs of a reaction the tag before which it is absent; where there is none,
 /// it is absent for good. A reaction with few inputs has no blocks.
+// A look-up for each input of each run would cost by both.
 #[derive(Drop)]
 pub(crate) struct Absences {
     until: Vec<Option<Tag>>,

@@ -69,6 +69,8 @@ fn breach_in_table(found: Found) -> Option<Breach>
 
 /// The rows of a log up to the one behind which the breach is sure; the plan becomes the one that the log
 /// tells. At the end they may be all: where no row is missing, none behind them is needed.
+// Rows behind the tag of the breach aren't all there. Rows that are kept while something waits for them would need
+// other facts, with proofs of their own.
 fn cut_of(
     alloc: Global,
     plan: &mut Plan,

@@ -16,6 +16,7 @@ pub type BoxedCode = Box<dyn FnOnce(Tag, i64, Reads) -> Result<Done, NoMemory> +
 
 /// What can be run once, by value. A body stands on this and not on a closure itself, since a
 /// fact on a law can't stand beside a `dyn` value.
+// A struct of one's own can name the definition of its answer, which a closure can't.
 pub trait Code {
     ghost use Rattle.std.specs.Prelude.{◌≡◌, ℤ, List, Option, Result, IfSome, IsSome};
     ghost use Rattle.lft_tag.specs.declared.{Tag.Tag, NoMemory.NoMemory};

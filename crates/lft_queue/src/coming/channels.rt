@@ -99,6 +99,7 @@ fn is_behind(program: &Program, origin: u32, number: u32) -> bool
 
 /// Puts an event in for each of the ports that lies behind a delay of the origin, which is written at the
 /// tag, where it arrives up to the stop. It is false where memory is refused.
+// This is what costs most: a write that arrives at thousands of inputs at different tags is thousands of events.
 fn carry(
     coming: &mut Coming,
     program: &Program,

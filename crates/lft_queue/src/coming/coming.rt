@@ -25,6 +25,7 @@ pub struct Coming {
     next: usize,
     /// The least tag at which two events of a name are known to meet, if there is one. The queue has what
     /// comes before it.
+    // All goes on up to that tag: an end where two events meet would leave `follow` no rule to name.
     clash: Option<Tag>,
 }
 

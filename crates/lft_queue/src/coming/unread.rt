@@ -20,7 +20,7 @@ use std::marker::Model;
 
 /// What is kept of ports behind delays that no reaction reads. Nobody waits for their events. Two of them
 /// meet where the origin is written at two tags of one time.
-// So the tag of its last write is enough: tags rise.
+// So the tag of its last write is enough: tags rise. Events of these ports would be one for each write.
 #[derive(Drop)]
 pub struct Unread {
     /// For each port, as an origin, the way to such a port where a write of it arrives soonest, if it does at

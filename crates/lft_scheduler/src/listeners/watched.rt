@@ -49,7 +49,9 @@ fn first_delayed(alloc: Global, program: &Program) -> Result<Vec<Option<u32>>, N
 }
 
 // Two writes meet at some port only if they are of one time and the port is delayed. Then they meet at the
-// first delayed port of their origin too, and no later: so each collision is found.
+// first delayed port of their origin too, and no later: so each collision is found. An event for each port would
+// be one for each write and each port behind it. A port that a reaction names has one for each write all the same,
+// though the reaction may never run.
 
 /// Which ports of a program are watched.
 #[derive(Drop)]
