@@ -7,4 +7,3 @@ pub mod Digits
 pub mod Cuts
 mod Samples
 pub mod PartsLemmas
-pub mod SourcesLemmas

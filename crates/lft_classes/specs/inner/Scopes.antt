@@ -6,11 +6,11 @@ use Rattle.lft_whole.specs.declared.{tree.{Import.Import, ImportedName.ImportedN
 use Rattle.lft_classes.specs.declared.scopes.{Class.Class, Meaning.Meaning, Scope.Scope}
 use Rattle.lft_classes.specs.Scopes.{in_scope, reactors_of, IsOwn, IsImport, IsImported, IsExported}
 
--- those of the files before this one
+-- the reactors of the files before this one, with the numbers of these
 abbrev pub reactors_before : List SourceFile → ℕ → List (ℕ × Reactor)
 reactors_before files n = flat_map reactors_of (take n (enumerate_from 0 files))
 
--- so it is, and the token says it: that at which the reactor begins, or that of the name that the import gives
+-- the name means the class in the file, and the token says it: that at which the reactor begins, or that of the name that the import gives
 abbrev pub MeansAt : List SourceFile → ℕ → List ℕ → Class → ℕ → Type 0
 MeansAt files file q c at = (IsOwn files file q c × (at ≡ c.reactor.now.at)) ⊎ ((is : IsImported files file q c) × (at ≡ is.name.alias.at))
 

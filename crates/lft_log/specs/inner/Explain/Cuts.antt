@@ -5,7 +5,7 @@ use Rattle.lft_model.specs.{declared.breach.Breach.Breach, Plans.PlanParts, Brea
 use Rattle.lft_races.specs.Races.{FirstEarly}
 use Rattle.lft_log.specs.Explain.Cuts.{IsCutBehind}
 
--- these are the rows behind which it is sure, if there are such
+-- these are the rows behind which the breach is sure, if there are such
 abbrev pub IsCutOf : List Row → Breach → Option (List Row) → Type 0
 IsCutOf t b o = MatchOption o ((n : ℕ) → ¬ IsCutBehind t b n) (λ rows. (n : ℕ) × IsCutBehind t b n × (rows ≡ take n t))
 
