@@ -6,6 +6,7 @@ PROGRAM stands for the program that a part asks. The scripts of the examples fin
 # Of the sources alone.
 SOURCES = (
     "tools/index check",
+    "tools/shorter-uses --check",
     "tools/try-edits --apply",
 )
 
