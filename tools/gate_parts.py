@@ -17,7 +17,6 @@ READER = ("tools/cases --reader PROGRAM",)
 # what comes where memory, files and stack are refused, no contract decides.
 OF_BOTH = (
     "tools/cases PROGRAM",
-    "tools/mistakes PROGRAM",
     "tools/refuse-each PROGRAM",
 )
 
