@@ -146,16 +146,15 @@ def said_in(path, place, text):
     found, owner, kept, lines = [], None, None, text.split("\n")
     for at, line in enumerate(lines):
         head, function, clause = OWNER.match(line), FUNCTION.match(line), CLAUSE.match(line)
-        if line == "}":
+        if line == "}" or function and not function["indent"]:
             owner = kept = None
-        elif head:
-            owner, is_seen = head, bool(head["pub"] or line.startswith("impl"))
-            kept = Said(path, place, head["name"], None, is_seen, [])
+        if head:
+            owner = head
+            kept = Said(path, place, head["name"], None, bool(head["pub"] or line.startswith("impl")), [])
             found.append(kept)
         elif function:
-            own = owner if function["indent"] else None
-            is_out = function["pub"] == "pub " or bool(own and (own["of"] or own["trait"]))
-            found.append(Said(path, place, own and own["name"], function["name"], is_out, []))
+            is_out = function["pub"] == "pub " or bool(owner and (owner["of"] or owner["trait"]))
+            found.append(Said(path, place, owner and owner["name"], function["name"], is_out, []))
         elif clause and kept and len(clause[1]) == 4:
             kept.clauses.append(clause_at(lines, at))
         elif clause and found and len(clause[1]) == 4 + 4 * bool(found[-1].owner):
