@@ -36,6 +36,12 @@ error, and `status N`.
   `cards` by which the given program is recorded, at most ten runs. Where something else is told from a length
   on, the length is told, and the lines.
 
+- `words WORDS`: of a command line, by files that stand above it as parts `file NAME`, or `pipe NAME` for a pipe that
+  nobody writes to. In a word `\\HH` is a byte. The text is standard input. `words-typed` has a terminal as standard
+  input, at which its end is typed, and `words-seen` one as standard error. `words-full` has a full device as standard
+  output, and `words-both-full` as standard error too. In `words-unread` standard input is closed, in `words-unwritten`
+  standard output, and `words-folder` reads a folder. Before each line of standard error stands `! `.
+
 `judge-text`, `pair-text`, `follow-text` and `record-text` have a whole table, header and all.
 """
 import collections
@@ -45,6 +51,8 @@ import pathlib
 import re
 import subprocess
 import tempfile
+
+import command_lines
 
 HEADERS = {
     "externals": b"kind,time,microstep,name,value\n",
@@ -320,4 +328,5 @@ KINDS = {
     "record-text": lambda runs, case: recorded(runs, case, case.text),
     "recordings": recordings,
     "fronts": fronts,
+    **dict.fromkeys(command_lines.KINDS, lambda runs, case: command_lines.told(runs, case, ENVIRONMENT)),
 }

@@ -6,6 +6,7 @@ PROGRAM stands for the program that a part asks. The scripts of the examples fin
 # Of the sources alone.
 SOURCES = (
     "tools/index check",
+    "tools/shorter-uses --check",
     "tools/try-edits --apply",
 )
 
@@ -16,7 +17,6 @@ READER = ("tools/cases --reader PROGRAM",)
 # what comes where memory, files and stack are refused, no contract decides.
 OF_BOTH = (
     "tools/cases PROGRAM",
-    "tools/mistakes PROGRAM",
     "tools/refuse-each PROGRAM",
 )
 

@@ -25,9 +25,11 @@ pub record Run : Type 0 where
   pub reads : List (Option Value)
   pub answer : Answer
 
+-- the row with which worker w starts the run of r at g
 abbrev pub start_row : ℕ → Tag → ℕ → Row
 start_row w g r = record { worker = w; tag = g; reaction = r; step = Start }
 
+-- the row with which worker w ends the run of r at g
 abbrev pub end_row : ℕ → Tag → ℕ → Row
 end_row w g r = record { worker = w; tag = g; reaction = r; step = End }
 

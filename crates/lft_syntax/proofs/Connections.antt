@@ -1,8 +1,8 @@
 -- Connections.
 use Rattle.std.proofs.Common.{◌≡◌, ℕ, ◌+◌, true, false, List, Option, Some, refl}
 use Rattle.std.specs.Prelude.{slice_get, codes}
-use Rattle.lft_syntax.specs.{Lexeme.{Lexeme, Letters, Arrow, Symbol, is, is_name, is_reserved, closes_at}, Language.{one, ◌>>◌, optional}}
-use Rattle.lft_syntax.specs.{Grammar.{key, ptime, refs, connection, connection_of}, inner.Reading.{after_at, connection_at}}
+use Rattle.lft_syntax.specs.{Lexeme.{Lexeme, Letters, Arrow, Symbol, is, is_name, is_reserved}, inner.{Tests.closes_at, Reading.{after_at, connection_at}}}
+use Rattle.lft_syntax.specs.{Language.{one, ◌>>◌, optional}, Grammar.{key, ptime, refs, connection, connection_of}}
 use Rattle.lft_syntax.proofs.Algebra.{near, Right, Any, Starts, starts_one}
 use Rattle.lft_syntax.proofs.Rules.{and, and_if, skip, before_if, making, this_one, perhaps_to, leads_optional, starts_skip, starts_and, starts_before, starts_made, same_follow}
 use Rattle.lft_syntax.proofs.{Lookahead.{far, past_name, Ends, far_looks, ends_word}, Times.right_pdelay}

@@ -2,10 +2,11 @@
 use Rattle.std.proofs.Common.{◌≡◌, ℕ, Bool, true, false, List, Some, refl, arith}
 use Rattle.std.specs.Prelude.{slice_get, codes, ◌||◌}
 use Rattle.std.proofs.lemmas.Bool.{or_from}
-use Rattle.lft_syntax.specs.Lexeme.{Lexeme, Code, Letters, Symbol, is, is_word_of, input_keys, scope_keys}
+use Rattle.lft_syntax.specs.Lexeme.{Lexeme, Code, Letters, Symbol, is}
+use Rattle.lft_syntax.specs.inner.Tests.{is_word_of, input_keys, scope_keys}
+use Rattle.lft_syntax.specs.inner.Reading.{Reading, input_at, output_at, port_at, period_at, times_at, timer_at, min_delay_at, origin_at, action_at, is_initial, initial_at, state_at, scope_at, preamble_at, range_at}
 use Rattle.lft_syntax.specs.Language.{Spelling, one, ◌&◌, ◌>>◌, ◌<<◌, ◌or◌, optional, made, ignored, range}
 use Rattle.lft_syntax.specs.Grammar.{key, symbol, name, ptime, enclosed, typed, value, parentheses, braces, port, timer, action, state, preamble, input_of, output_of, timer_of, logical_is, physical_is, action_of}
-use Rattle.lft_syntax.specs.inner.Reading.{Reading, input_at, output_at, port_at, period_at, times_at, timer_at, min_delay_at, origin_at, action_at, is_initial, initial_at, state_at, scope_at, preamble_at, range_at}
 use Rattle.lft_syntax.proofs.Algebra.{Follow, Horizon, near, Right, Leads, Any, Test, Starts, Not, right_range, starts_one}
 use Rattle.lft_syntax.proofs.Rules.{near_looks, and, and_if, skip, skip_if, before, before_if, making, ignoring, this_one, perhaps, perhaps_to, Here, here, leads_one, leads_ignored, leads_optional, starts_skip, starts_and, starts_before, starts_made, starts_range, starts_or, starts_either, choose, ended, taking, same_follow, right_name}
 use Rattle.lft_syntax.proofs.{Lists.{right_enclosed, starts_enclosed}, Lookahead.{far, Ends, far_looks, no_symbol}}

@@ -4,8 +4,9 @@ use Rattle.std.specs.Prelude.{slice_get, ◌||◌}
 use Rattle.std.{specs.Str.bytes_eq, proofs.lemmas.{Slice.Eq.bytes_eq-Decides, Bool.eqb-true}}
 use Rattle.lft_syntax.proofs.{Options.some, Algebra.{Follow, Horizon, near, Known, Refused, Outcome, Right, Any, Test, Starts, starts_token}}
 use Rattle.lft_syntax.proofs.Rules.{starts_by, Here, right_name}
-use Rattle.lft_syntax.specs.Lexeme.{Lexeme, Code, Text, Letters, Number, Arrow, Symbol, is, is_name, is_word_of, is_follower, is_reserved, is_one_of, member_keys, closes_at, negated, name_in, unit_in, unit_of}
-use Rattle.lft_syntax.specs.{Language.{Spelling, look}, Grammar.name, inner.Reading.{seen_at, name_at}}
+use Rattle.lft_syntax.specs.Lexeme.{Lexeme, Code, Text, Letters, Number, Arrow, Symbol, is, is_name, is_reserved, is_one_of, negated, name_in, unit_in, unit_of}
+use Rattle.lft_syntax.specs.{inner.{Tests.{is_word_of, is_follower, member_keys, closes_at}, Reading.{seen_at, name_at}}, Language.{Spelling, look}}
+use Rattle.lft_syntax.specs.Grammar.{name}
 use Rattle.lft_tree.specs.declared.tree.TimeUnit.{TimeUnit}
 
 -- ---- two tokens ahead

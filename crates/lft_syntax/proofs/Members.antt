@@ -1,10 +1,11 @@
 -- Members of a reactor.
 use Rattle.std.proofs.Common.{◌≡◌, ℕ, ◌+◌, ◌≤◌, Bool, true, false, List, [], ◌∷◌, Option, Some, None, refl, subst, arith, inl, inr}
 use Rattle.std.specs.Prelude.{slice_get, codes}
-use Rattle.lft_syntax.specs.Lexeme.{Lexeme, Code, Text, Letters, Number, Arrow, Symbol, is, is_name, is_word_of, is_follower, is_reserved, is_one_of, port_keys, action_keys, preamble_keys, member_keys, closes_at, negated}
+use Rattle.lft_syntax.specs.Lexeme.{Lexeme, Code, Text, Letters, Number, Arrow, Symbol, is, is_name, is_reserved, is_one_of, negated}
+use Rattle.lft_syntax.specs.inner.Tests.{is_word_of, is_follower, port_keys, action_keys, preamble_keys, member_keys, closes_at}
+use Rattle.lft_syntax.specs.inner.Reading.{Reading, apply, choice, choice_next, instance_at, connection_at, member_at, is_inside, members_at}
 use Rattle.lft_syntax.specs.Language.{Spelling, one, ◌&◌, ◌>>◌, ◌<<◌, ◌or◌, optional, many, made}
 use Rattle.lft_syntax.specs.Grammar.{key, symbol, name, ptime, ref, refs, listed, enclosed, assign, port, timer, action, state, preamble, reaction, instance, connection, member, or_empty, instance_of, connection_of}
-use Rattle.lft_syntax.specs.inner.Reading.{Reading, apply, choice, choice_next, instance_at, connection_at, member_at, is_inside, members_at}
 use Rattle.lft_syntax.proofs.Algebra.{Follow, near, Right, Test, Starts, StartsNext, right_choice, right_choice_next, starts_one, loosen}
 use Rattle.lft_syntax.proofs.Rules.{making, Here, here, starts_skip, starts_made, starts_or, repeat, ended}
 use Rattle.lft_syntax.proofs.Lookahead.{far, past_name, Ends, AllOf, Reserved, far_looks, far_near, far_past, past_looks, past_two, no_symbol, bracket_ends, named, no_key, no_word, key_no_name, word_no_name}

@@ -1,6 +1,6 @@
 -- Parts that stand one behind the other.
 use Rattle.std.proofs.Common.{◌≡◌, ℕ, ◌+◌, List, [], ◌∷◌, ◌++◌, refl, subst, arith}
-use Rattle.lft_syntax.specs.{Lexeme.Lexeme, Language.{Spelling, many}, Placed.{Takes, TakeRow, tokens_behind}}
+use Rattle.lft_syntax.specs.{Lexeme.Lexeme, Language.{Spelling, many}, inner.Placed.{Takes, TakeRow}, Placed.tokens_behind}
 
 -- one more behind several
 pub many_push : {X : Type 0} (P : Spelling X) (ws : List Lexeme) (i m j : ℕ) (xs : List X) (x : X) → many P ws i m xs → P ws m j x → many P ws i j (xs ++ x ∷ [])

@@ -6,9 +6,10 @@ use Rattle.lft_syntax.proofs.{Options.{some, some_is}, Begun.{Agree, Regular, be
 use Rattle.lft_syntax.proofs.Algebra.{Follow, Horizon, near, Known, Refused, Outcome, Right, Any, Starts, right_token, starts_token, starts_one, same-true, pair}
 use Rattle.lft_syntax.proofs.Rules.{near_looks, making, this_one, Here, starts_and, starts_made, starts_or, starts_by, choose, ended, right_name, right_number}
 use Rattle.lft_syntax.proofs.Lookahead.{far, Ends, far_looks, far_two, ends_unit, ends_follower, starts_name, named}
-use Rattle.lft_syntax.specs.Lexeme.{Lexeme, Code, Text, Letters, Number, Arrow, Symbol, is_number, is_name, is_follower, same, name_in, number_in, unit_in, unit_of}
-use Rattle.lft_syntax.specs.{Language.{look, this, one, ◌&◌, made}, Grammar.{name, number, unit, time, ptime, counted, zero_time}}
+use Rattle.lft_syntax.specs.Lexeme.{Lexeme, Code, Text, Letters, Number, Arrow, Symbol, is_name, same, name_in, number_in, unit_in, unit_of}
+use Rattle.lft_syntax.specs.inner.Tests.{is_number, is_follower}
 use Rattle.lft_syntax.specs.inner.Reading.{◌>>=◌, seen_at, token_at, time_from, time_at, delay_at, ptime_at, pdelay_at, is_open}
+use Rattle.lft_syntax.specs.{Language.{look, this, one, ◌&◌, made}, Grammar.{name, number, unit, time, ptime, counted, zero_time}}
 use Rattle.lft_tree.specs.{declared.tree.TimeUnit.TimeUnit, Tree.{Written, Named}}
 use Rattle.lft_tree.specs.declared.tree.TimeUnit.TheVariants as units
 

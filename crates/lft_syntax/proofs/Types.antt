@@ -2,9 +2,10 @@
 use Rattle.std.proofs.Common.{◌≡◌, ℕ, suc, Bool, true, false, List, Some, refl, arith}
 use Rattle.std.specs.Prelude.{slice_get}
 use Rattle.std.proofs.lemmas.Bool.{or_from}
-use Rattle.lft_syntax.specs.{Lexeme.{Lexeme, Code, Letters, Symbol, is, is_number, number_in}, Language.{◌>>◌, optional, many, ignored}}
-use Rattle.lft_syntax.specs.Grammar.{symbol, name, number, type, typed, type_part, array_part}
+use Rattle.lft_syntax.specs.Lexeme.{Lexeme, Code, Letters, Symbol, is, number_in}
+use Rattle.lft_syntax.specs.inner.Tests.{is_number}
 use Rattle.lft_syntax.specs.inner.Reading.{symbol_at, is_type_part, type_part_at, type_parts_at, stars_at, array_part_at, array_parts_at, type_at, typed_at, second, ignoring_at, name_at}
+use Rattle.lft_syntax.specs.{Language.{◌>>◌, optional, many, ignored}, Grammar.{symbol, name, number, type, typed, type_part, array_part}}
 use Rattle.lft_syntax.proofs.Algebra.{Follow, near, Right, Leads, Any, Test, Starts, Not, starts_token, starts_one}
 use Rattle.lft_syntax.proofs.Rules.{near_looks, skip, skip_if, ignoring, this_one, perhaps, Here, here, leads_one, leads_ignored, leads_many, leads_optional, starts_skip, starts_ignored, starts_or, repeat, choose, ended, taking, same_follow, right_name, right_number}
 use Rattle.lft_syntax.proofs.{Lookahead.{Ends, no_symbol, starts_name, named}, Times.number_starts}

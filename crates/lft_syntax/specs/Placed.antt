@@ -62,14 +62,6 @@ abbrev pub StandInRow : {X : Type 0} → (ℕ → X → Type 0) → (X → ℕ) 
 StandInRow Stands tokens i [] = Unit {0}
 StandInRow Stands tokens i (x ∷ xs) = Stands i x × StandInRow Stands tokens (i + tokens x + 1) xs
 
--- the part begins at the token i, and ends before j
-abbrev pub Takes : {X : Type 0} → (ℕ → X → Type 0) → (X → ℕ) → ℕ → X → ℕ → Type 0
-Takes Stands tokens i x j = Stands i x × (j ≡ i + tokens x)
-
--- the list begins at the token i, and ends before j
-abbrev pub TakeRow : {X : Type 0} → (ℕ → X → Type 0) → (X → ℕ) → ℕ → List X → ℕ → Type 0
-TakeRow Stands tokens = Takes (StandInRow Stands tokens) (row_tokens tokens)
-
 -- ---- names and times
 
 -- the token is this word
@@ -196,21 +188,11 @@ HeadStands ws i at false (Some name) = NameStands ws (i + 1) at name
 HeadStands ws i at true (Some name) = NameStands ws (i + 2) at name
 HeadStands ws i at _ None = at ≡ i
 
--- the first place if there is a name, else the other
-abbrev pub place_or : Option (List ℕ) → ℕ → ℕ → ℕ
-place_or None own other = other
-place_or (Some name) own other = own
-
 -- the token behind it
 abbrev pub past_head : ℕ → Bool → Option (List ℕ) → ℕ
 past_head i false name = i + 2
 past_head i true None = i + 2
 past_head i true (Some name) = i + 3
-
--- a name of the main reactor, which may be left out, begins at the token i and ends before j
-abbrev pub MainNameStands : List Lexeme → ℕ → Option (List ℕ) → ℕ → Type 0
-MainNameStands ws i None j = j ≡ i
-MainNameStands ws i (Some name) j = IsWord ws i name × (j ≡ i + 1)
 
 -- the place of a parameter is its name
 abbrev pub ParameterStands : List Lexeme → ℕ → Parameter → Type 0

@@ -106,8 +106,3 @@ pub(crate) fn bodies_of(
 pub(crate) fn write(port: u32, value: i64) -> Step {
     Step::Write(Name::Port(port), Value::Int(value))
 }
-
-/// The step that schedules an action, with this delay beside its own.
-pub(crate) fn schedule(action: u32, delay: u64) -> Step {
-    Step::Schedule(Name::Action(action), Value::Bare, delay)
-}

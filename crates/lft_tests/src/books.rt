@@ -389,60 +389,6 @@ fn refuses_a_strange_answer(rt: HostRuntime) {
     }
 }
 
-/// Whether the book takes an answer made by hand to the ticket of its open run, and refuses the other
-/// one.
-fn takes_one(alloc: Global, book: &mut PreparedBook, other: Answered<AnyAnswer>) -> bool {
-    let is_taken = match by_hand(alloc, SECOND) {
-        Ok(answer) => takes(book, answer),
-        Err(_) => false,
-    };
-    refuses(book, other) && is_taken
-}
-
-/// The same of a book of `PIPE` that has begun no run.
-fn takes_one_of_two(alloc: Global, book: &mut PreparedBook) -> bool {
-    match open_answer(alloc, book, true) {
-        Some(other) => takes_one(alloc, book, other),
-        None => false,
-    }
-}
-
-// also where the ticket is made by hand: with the parts of the run that is open it is that run's
-#[test]
-fn takes_one_answer_to_a_ticket(rt: HostRuntime) -> Result<(), Fail> {
-    let mut book = book_of(rt.alloc(), PIPE, PIPE_ANSWERS)?;
-    assert!(rt; takes_one_of_two(rt.alloc(), &mut book));
-    Ok(())
-}
-
-/// A body for the second of two reactions alone.
-const LAST_ANSWER: &[Answer<'static>] = &[Answer {
-    reaction: 1,
-    state: 0,
-    steps: &[],
-}];
-
-/// Whether the book begins no run, since the first reaction has no body.
-fn lacks_body(book: &mut PreparedBook, worker: u32) -> bool {
-    matches!(book.begin(worker), Err(Stop::NoBody(0)))
-}
-
-/// Whether the book was closed for that, without a row, and the second reaction's body is left.
-fn is_without_a_run(closed: &Closed<AnyAnswer, Prepared>) -> bool {
-    closed.reason == Some(Stop::NoBody(0))
-        && closed.rows.as_slice().is_empty()
-        && closed.left.left(0) == 0
-        && closed.left.left(1) == 1
-}
-
-#[test]
-fn closes_without_a_run_where_a_body_is_missing(rt: HostRuntime) -> Result<(), Fail> {
-    let mut book = book_of(rt.alloc(), TWO, LAST_ANSWER)?;
-    assert!(rt; lacks_body(&mut book, 0) && lacks_body(&mut book, 1));
-    assert!(rt; is_without_a_run(&book.close()));
-    Ok(())
-}
-
 /// Whether a body of a third reaction is handed back, and no list has one.
 fn hands_back(bodies: &mut PreparedBodies, third: PreparedBody) -> bool {
     match bodies.put(third) {

@@ -1,8 +1,7 @@
 #![tactic(auto)]
-//! The tests that need code: tags; what fits a program; who is told of a tag; rows that are followed as they
-//! come; queues, books driven by hand, and recordings. What is data is a case in the folder `cases`.
-//!
-//! - `driver`: the calls on texts, with long tables, many workers, readers and writers that fail.
+//! The tests of what no clause says and what needs code: who is told of a tag; rows that are followed as they come;
+//! books driven by hand, and recordings. In `driver` the calls on texts: inputs with two lengths, and readers and
+//! writers that are interrupted or fail. What is text in and text out is a case in the folder `cases`.
 
 #[cfg(test)]
 mod answers;
@@ -12,19 +11,11 @@ mod books;
 mod closures;
 pub mod driver;
 #[cfg(test)]
-mod fits;
-#[cfg(test)]
 mod followers;
-#[cfg(test)]
-mod plans;
-#[cfg(test)]
-mod queues;
 #[cfg(test)]
 mod recordings;
 #[cfg(test)]
 mod stops;
-#[cfg(test)]
-mod tags;
 #[cfg(test)]
 mod texts;
 #[cfg(test)]

@@ -1,11 +1,11 @@
 //! Ports, timers, actions, state variables and preambles.
 
 ghost use Rattle.std.specs.Prelude.{◌≡◌, ℕ, ◌+◌, codes, option_map, slice_get, Some, IfOk, IfSome, if◌then◌else◌};
-ghost use Rattle.lft_syntax.specs.{Lexeme.{Letters, Symbol, is, is_word_of, scope_keys}, Grammar.flat};
-ghost use Rattle.lft_syntax.specs.inner.View.{Gives, at_next};
+ghost use Rattle.lft_syntax.specs.Lexeme.{Letters, Symbol, is};
+ghost use Rattle.lft_syntax.specs.inner.{Tests.{is_word_of, scope_keys}, View.{Gives, at_next}};
 ghost use Rattle.lft_syntax.specs.inner.Reading.{key_at, ignoring_at, apply, maybe, input_at, output_at, port_at, period_at, times_at, timer_at, min_delay_at, origin_at, action_at, state_at, scope_at, preamble_at};
 ghost use Rattle.lft_syntax.specs.inner.Parsing.{words};
-ghost use Rattle.lft_syntax.specs.Placed.{PortStands, TimerStands, ActionStands, TimeStands, TimesStand};
+ghost use Rattle.lft_syntax.specs.{Grammar.flat, Placed.{PortStands, TimerStands, ActionStands, TimeStands, TimesStand}};
 ghost use Rattle.lft_tree.specs.View.{time_view, port_view, timer_view, action_view, range_view};
 
 use crate::input::Input;

@@ -4,8 +4,8 @@ ghost use Rattle.std.specs.Prelude.{◌≡◌, ℕ, ◌+◌, [], ◌∷◌, map,
 ghost use Rattle.lft_syntax.specs.Lexeme.{Symbol, is};
 ghost use Rattle.lft_syntax.specs.inner.View.{Gives};
 ghost use Rattle.lft_syntax.specs.inner.Reading.{after_comma, repeated, with_front, listed_at, given_value_at, assign_at, assigns_at, instance_at, after_at, connection_at};
-ghost use Rattle.lft_syntax.specs.inner.Parsing.{words};
-ghost use Rattle.lft_syntax.specs.Placed.{Takes, TakeRow, TimeStands, AssignmentsStand, AssignmentStands, InstanceStands, ConnectionStands, assignment_tokens, time_tokens};
+ghost use Rattle.lft_syntax.specs.inner.{Parsing.words, Placed.{Takes, TakeRow}};
+ghost use Rattle.lft_syntax.specs.Placed.{TimeStands, AssignmentsStand, AssignmentStands, InstanceStands, ConnectionStands, assignment_tokens, time_tokens};
 ghost use Rattle.lft_tree.specs.View.{time_view, assignment_view, instance_view, connection_view};
 
 use crate::input::Input;

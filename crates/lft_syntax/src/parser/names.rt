@@ -2,9 +2,9 @@
 
 ghost use Rattle.std.specs.Prelude.{◌≡◌, ℕ, ◌<◌, ◌≤◌, ◌+◌, ◌-◌, ◌^◌, slice_get, IsAscii, IfOk, string_bytes};
 ghost use Rattle.std.specs.Str.{bytes_eq};
-ghost use Rattle.lft_syntax.specs.Lexeme.{is_word_of, is_one_of, is_reserved, input_keys, port_keys, action_keys, scope_keys, preamble_keys};
-ghost use Rattle.lft_syntax.specs.inner.{View.{Gives, at_next}, Reading.{name_at, ignoring_at}, Parsing.{words, outer_words, declaring_words, other_words}};
-ghost use Rattle.lft_syntax.specs.Placed.{IsWord};
+ghost use Rattle.lft_syntax.specs.inner.{Tests.{is_word_of, input_keys, port_keys, action_keys, scope_keys, preamble_keys}, View.{Gives, at_next}};
+ghost use Rattle.lft_syntax.specs.inner.{Reading.{name_at, ignoring_at}, Parsing.{words, outer_words, declaring_words, other_words}};
+ghost use Rattle.lft_syntax.specs.{Lexeme.{is_one_of, is_reserved}, Placed.IsWord};
 ghost use Rattle.lft_syntax.specs.Lexeme as Lexeme;
 
 use crate::input::{Input, Seen};

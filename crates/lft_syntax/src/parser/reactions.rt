@@ -4,8 +4,8 @@ ghost use Rattle.std.specs.Prelude.{◌≡◌, ℕ, ◌+◌, [], ◌∷◌, map,
 ghost use Rattle.lft_syntax.specs.Lexeme.{Symbol, is};
 ghost use Rattle.lft_syntax.specs.inner.View.{Gives, at_next};
 ghost use Rattle.lft_syntax.specs.inner.Reading.{after_comma, repeated, with_front, listed_at, maybe, ignoring_at, name_at, trigger_at, triggers_at, reaction_at};
-ghost use Rattle.lft_syntax.specs.inner.Parsing.{words};
-ghost use Rattle.lft_syntax.specs.Placed.{Takes, TakeRow, TriggersStand, TriggerStands, ReactionStands, past_name, row_tokens, trigger_tokens};
+ghost use Rattle.lft_syntax.specs.inner.{Parsing.words, Placed.{Takes, TakeRow}};
+ghost use Rattle.lft_syntax.specs.Placed.{TriggersStand, TriggerStands, ReactionStands, past_name, row_tokens, trigger_tokens};
 ghost use Rattle.lft_tree.specs.View.{trigger_view, reaction_view};
 ghost use Rattle.lft_syntax.specs.Lexeme as Lexeme;
 

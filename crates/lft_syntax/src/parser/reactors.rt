@@ -4,8 +4,8 @@ ghost use Rattle.std.specs.Prelude.{◌≡◌, ℕ, ◌+◌, [], ◌∷◌, code
 ghost use Rattle.lft_syntax.specs.{Lexeme.{Symbol, is}, Grammar.{or_empty, reactor_of, main_of}};
 ghost use Rattle.lft_syntax.specs.inner.View.{Gives};
 ghost use Rattle.lft_syntax.specs.inner.Reading.{after_comma, repeated, with_front, listed_at, apply, both, second, key_at, maybe, name_at, body_at, default_at, param_at, params_at, reactor_at};
-ghost use Rattle.lft_syntax.specs.inner.Parsing.{words};
-ghost use Rattle.lft_syntax.specs.Placed.{Takes, TakeRow, StandInRow, ParameterStands, ParametersStand, MainNameStands, ReactorStands, place_or, parameter_tokens, row_tokens, past_parameters, unit_tokens};
+ghost use Rattle.lft_syntax.specs.inner.{Parsing.words, Placed.{Takes, TakeRow, MainNameStands, place_or}};
+ghost use Rattle.lft_syntax.specs.Placed.{StandInRow, ParameterStands, ParametersStand, ReactorStands, parameter_tokens, row_tokens, past_parameters, unit_tokens};
 ghost use Rattle.lft_tree.specs.View.{parameter_view, reactor_view};
 ghost use Rattle.lft_syntax.specs.Lexeme as Lexeme;
 

@@ -3,7 +3,8 @@
 ghost use Rattle.std.specs.Prelude.{◌≡◌, ℕ, ◌+◌, [], ◌∷◌, IfOk};
 ghost use Rattle.lft_syntax.specs.{Lexeme.{Symbol, is}, Grammar.or_empty};
 ghost use Rattle.lft_syntax.specs.inner.{View.Gives, Reading.{apply, after_comma, repeated, with_front, ref_at, refs_at, uses_at, effects_at}, Parsing.words};
-ghost use Rattle.lft_syntax.specs.Placed.{Takes, TakeRow, ReferenceStands, EffectsStand, reference_tokens};
+ghost use Rattle.lft_syntax.specs.inner.Placed.{Takes, TakeRow};
+ghost use Rattle.lft_syntax.specs.Placed.{ReferenceStands, EffectsStand, reference_tokens};
 ghost use Rattle.lft_tree.specs.View.{ref_view, ref_views};
 
 use crate::input::Input;

@@ -2,10 +2,11 @@
 
 ghost use Rattle.std.specs.Prelude.{◌≡◌, ℕ, ◌<◌, ◌≤◌, ◌+◌, ◌-◌, ◌^◌, [], ◌∷◌, codes, slice_get, IfSome, IfOk};
 ghost use Rattle.lft_syntax.specs.{Language.look, Lexeme.{is_one_of, unit_of, unit_in}};
-ghost use Rattle.lft_syntax.specs.inner.{View.Gives, Reading.{time_from, time_at, delay_at, ptime_at, pdelay_at}, Parsing.words};
-ghost use Rattle.lft_syntax.specs.Placed.{Takes, TimeStands, time_tokens, unit_tokens};
+ghost use Rattle.lft_syntax.specs.inner.{View.Gives, Reading.{time_from, time_at, delay_at, ptime_at, pdelay_at}, Parsing.words, Placed.Takes};
+ghost use Rattle.lft_syntax.specs.Placed.{TimeStands, time_tokens, unit_tokens};
 ghost use Rattle.lft_tree.specs.View.{time_view};
 ghost use Rattle.lft_syntax.specs.Lexeme as Lexeme;
+ghost use Rattle.lft_syntax.specs.inner.Tests as Tests;
 
 use crate::input::{Input, Seen};
 use crate::parse_error::ParseError;
@@ -147,7 +148,7 @@ pub fn time(input: &Input, at: usize) -> Result<(Time, usize), ParseError>
 /// Whether `=`, `.`, `,` or `->` stands at the place after this one, as after the name that a
 /// member begins with.
 pub fn is_before_follower(input: &Input, at: usize) -> bool
-    ensures { result ≡ Lexeme.is_follower (slice_get (words input.now) (at + 1)) }
+    ensures { result ≡ Tests.is_follower (slice_get (words input.now) (at + 1)) }
 {
     if peek(input, at).is_none() {
         return false;

@@ -4,7 +4,7 @@ ghost use Rattle.std.specs.Prelude.{◌≡◌, ℕ, ◌<◌, ◌≤◌, ◌+◌,
 ghost use Rattle.lft_syntax.specs.Lexeme.{Code, Text, Letters, Arrow, Symbol, is};
 ghost use Rattle.lft_syntax.specs.inner.{View.{Gives, at_next}, Reading.{key_at, symbol_at, one_at, number_at}, Seen.{seen_there, letters_ascii}};
 ghost use Rattle.lft_syntax.specs.inner.Parsing.{words};
-ghost use Rattle.lft_syntax.specs.Lexeme as Lexeme;
+ghost use Rattle.lft_syntax.specs.inner.Tests as Tests;
 
 use crate::input::{Input, Seen};
 use crate::parse_error::ParseError;
@@ -110,13 +110,13 @@ pub fn is_code(input: &Input, at: usize) -> bool
 }
 
 pub fn is_number(input: &Input, at: usize) -> bool
-    ensures { result ≡ Lexeme.is_number (slice_get (words input.now) at) }
+    ensures { result ≡ Tests.is_number (slice_get (words input.now) at) }
 {
     matches!(peek(input, at), Some(Seen::Number(_)))
 }
 
 pub fn is_there(input: &Input, at: usize) -> bool
-    ensures { result ≡ Lexeme.is_there (slice_get (words input.now) at) }
+    ensures { result ≡ Tests.is_there (slice_get (words input.now) at) }
 {
     peek(input, at).is_some()
 }

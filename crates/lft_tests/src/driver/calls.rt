@@ -1,8 +1,8 @@
 //! What the command line doesn't give: numbers of workers that aren't 1 to 64, which are told behind the
-//! faults of the texts; and it doesn't show the three texts of a bundle.
+//! faults of the texts.
 
 use crate::driver::texts::{judged_by, with_fault};
-use lft_driver::{pair_texts, split_bundle};
+use lft_driver::pair_texts;
 use lft_record::record_answer;
 use std::alloc::Global;
 use std::sync::Wait;
@@ -123,32 +123,4 @@ fn records_by_no_other_number_of_workers(rt: HostRuntime) {
             "{workers} workers"
         );
     }
-}
-
-/// Whether the text is a bundle of these three.
-fn is_bundle_of(text: &str, program: &[u8], externals: &[u8], trace: &[u8]) -> bool {
-    match split_bundle(text.as_bytes()) {
-        Some(found) => {
-            found.program == program && found.externals == externals && found.trace == trace
-        }
-        None => false,
-    }
-}
-
-#[test]
-fn splits_a_bundle_at_the_first_markers(rt: HostRuntime) {
-    let text =
-        "--- program\na\n--- trace\n--- externals\nb\n--- externals\n--- trace\nc\n--- trace\n";
-    assert!(rt;
-        is_bundle_of(
-            text,
-            b"a\n--- trace\n",
-            b"b\n--- externals\n",
-            b"c\n--- trace\n"
-        )
-    );
-    let text = "--- program\n--- externals\n--- trace\n";
-    assert!(rt; is_bundle_of(text, b"", b"", b""));
-    let text = "--- program\n--- externals\n--- trace\na";
-    assert!(rt; is_bundle_of(text, b"", b"", b"a"));
 }

@@ -1,6 +1,6 @@
 //! What is written of texts, with the lines of faults.
 
-use lft_driver::{Fault, finish, judge_texts, judge_texts_alone, show_text};
+use lft_driver::{Fault, finish, judge_texts, judge_texts_alone};
 use std::alloc::Global;
 use std::thread::Threads;
 
@@ -11,13 +11,6 @@ pub(crate) fn with_fault(mut out: Vec<u8>, fault: Option<Fault>) -> Vec<u8> {
         let _ = finish(Err(fault), &mut out);
     }
     out
-}
-
-/// What is shown of a program, and after it the line of the fault, where there is one.
-pub(crate) fn shown(alloc: Global, text: &[u8]) -> Vec<u8> {
-    let mut out = Vec::new(alloc);
-    let answer = show_text(alloc, text, &mut out);
-    with_fault(out, answer.err())
 }
 
 /// The verdict's line on three texts, or the line of the fault.

@@ -1,7 +1,7 @@
 use Rattle.std.proofs.Common.{◌≡◌, ◌-◌, List, ◌∷◌, [], length}
 use Rattle.std.specs.Prelude.{map}
-use Rattle.lft_syntax.specs.{Lexeme.{Symbol, is}, inner.{Reading.{repeated, after_comma, assign_at, with_front}, Parsing.words}}
-use Rattle.lft_syntax.specs.Placed.{TakeRow, AssignmentStands, assignment_tokens}
+use Rattle.lft_syntax.specs.{Lexeme.{Symbol, is}, inner.{Reading.{repeated, after_comma, assign_at, with_front}, Parsing.words, Placed.TakeRow}}
+use Rattle.lft_syntax.specs.Placed.{AssignmentStands, assignment_tokens}
 use Rattle.lft_syntax.proofs.Loop.{SoFar}
 use Rattle.lft_tree.specs.{declared.tree.Assignment.Assignment, View.assignment_view}
 use Rattle.lft_syntax.proofs.parser.instances.more_assignments.Given as goal

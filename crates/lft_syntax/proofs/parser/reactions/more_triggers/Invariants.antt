@@ -1,7 +1,7 @@
 use Rattle.std.proofs.Common.{◌≡◌, ℕ, ◌-◌, List, ◌∷◌, [], length}
 use Rattle.std.specs.Prelude.{map}
-use Rattle.lft_syntax.specs.{Lexeme.{Symbol, is}, inner.{Reading.{repeated, after_comma, trigger_at, with_front}, Parsing.words}}
-use Rattle.lft_syntax.specs.Placed.{Takes, TakeRow, TriggerStands, trigger_tokens}
+use Rattle.lft_syntax.specs.{Lexeme.{Symbol, is}, inner.{Reading.{repeated, after_comma, trigger_at, with_front}, Parsing.words, Placed.{Takes, TakeRow}}}
+use Rattle.lft_syntax.specs.Placed.{TriggerStands, trigger_tokens}
 use Rattle.lft_syntax.proofs.Loop.{SoFar}
 use Rattle.lft_tree.specs.{declared.tree.Trigger.Trigger, View.trigger_view}
 use Rattle.lft_syntax.proofs.parser.reactions.more_triggers.Given as goal

@@ -1,7 +1,7 @@
 use Rattle.std.proofs.Common.{◌≡◌, ℕ, ◌+◌, List, Option, Some, None, true, refl, sym, subst, ap, ◌∙◌, arith}
 use Rattle.std.specs.Prelude.{option_map, string_bytes}
-use Rattle.lft_syntax.specs.{Lexeme.Lexeme, Placed.{BodyStands, HeadStands, MainNameStands, ParametersStand, past_head, past_parameters, place_or}}
-use Rattle.lft_syntax.specs.inner.Parsing.{words}
+use Rattle.lft_syntax.specs.{Lexeme.Lexeme, Placed.{BodyStands, HeadStands, ParametersStand, past_head, past_parameters}}
+use Rattle.lft_syntax.specs.inner.{Placed.{MainNameStands, place_or}, Parsing.words}
 use Rattle.lft_syntax.proofs.parser.reactors.main_reactor.Goals as goal
 
 head_stands : (ws : List Lexeme) (i j : ℕ) (name : Option (List ℕ)) → MainNameStands ws (i + 2) name j → HeadStands ws i (place_or name (i + 2) i) true name

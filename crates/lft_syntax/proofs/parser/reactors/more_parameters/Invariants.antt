@@ -1,7 +1,7 @@
 use Rattle.std.proofs.Common.{◌≡◌, ◌-◌, List, ◌∷◌, [], length}
 use Rattle.std.specs.Prelude.{map}
-use Rattle.lft_syntax.specs.{Lexeme.{Symbol, is}, inner.{Reading.{repeated, after_comma, param_at, with_front}, Parsing.words}}
-use Rattle.lft_syntax.specs.Placed.{TakeRow, ParameterStands, parameter_tokens}
+use Rattle.lft_syntax.specs.{Lexeme.{Symbol, is}, inner.{Reading.{repeated, after_comma, param_at, with_front}, Parsing.words, Placed.TakeRow}}
+use Rattle.lft_syntax.specs.Placed.{ParameterStands, parameter_tokens}
 use Rattle.lft_syntax.proofs.Loop.{SoFar}
 use Rattle.lft_tree.specs.{declared.tree.Parameter.Parameter, View.parameter_view}
 use Rattle.lft_syntax.proofs.parser.reactors.more_parameters.Given as goal

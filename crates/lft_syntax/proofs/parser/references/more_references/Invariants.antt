@@ -1,6 +1,6 @@
 use Rattle.std.proofs.Common.{◌≡◌, ◌-◌, List, ◌∷◌, [], length}
-use Rattle.lft_syntax.specs.{Lexeme.{Symbol, is}, inner.{Reading.{repeated, after_comma, ref_at, with_front}, Parsing.words}}
-use Rattle.lft_syntax.specs.Placed.{TakeRow, ReferenceStands, reference_tokens}
+use Rattle.lft_syntax.specs.{Lexeme.{Symbol, is}, inner.{Reading.{repeated, after_comma, ref_at, with_front}, Parsing.words, Placed.TakeRow}}
+use Rattle.lft_syntax.specs.Placed.{ReferenceStands, reference_tokens}
 use Rattle.lft_syntax.proofs.Loop.{SoFar}
 use Rattle.lft_tree.specs.{declared.tree.Reference.Reference, View.{ref_view, ref_views}}
 use Rattle.lft_syntax.proofs.parser.references.more_references.Given as goal
