@@ -24,7 +24,7 @@ fn line_feeds(bytes: &[u8]) -> usize
 }
 
 /// Whether a letter of UTF-8 begins with the byte.
-pub(crate) fn begins_letter(byte: u8) -> bool
+pub fn begins_letter(byte: u8) -> bool
     ensures { result ≡ begins_letter byte }
 {
     !(128 <= byte && byte <= 191)

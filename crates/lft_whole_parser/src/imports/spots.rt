@@ -2,19 +2,12 @@
 
 ghost use Rattle.std.specs.Prelude.{◌≡◌, ◌+◌, ◌<◌, ◌≤◌, IfOk, length};
 ghost use Rattle.lft_whole_parser.specs.Imports.Places.{AreSpots, IsSpot};
-ghost use Rattle.lft_text_diagnostics.specs.Places.{begins_letter as is_begin};
 ghost use Rattle.lft_whole.specs.inner.Tokens.{AreTokens};
 
+use lft_text_diagnostics::{begins_letter, place_of};
 use lft_whole::Token;
 use lft_whole::sources::Spot;
 use std::alloc::{AllocError, Global};
-
-/// Whether a letter of UTF-8 begins with the byte.
-fn begins_letter(byte: u8) -> bool
-    ensures { result ≡ is_begin byte }
-{
-    !(128 <= byte && byte <= 191)
-}
 
 /// The spot of the first byte.
 fn first(text: &[u8]) -> Spot
@@ -46,7 +39,7 @@ fn after(text: &[u8], at: usize, spot: Spot) -> Spot
 }
 
 /// The spot of a byte further on.
-pub(crate) fn spot_at(text: &[u8], from: usize, spot: Spot, to: usize) -> Spot
+fn spot_at(text: &[u8], from: usize, spot: Spot, to: usize) -> Spot
     requires order { from ≤ to }
     requires inside { to ≤ length text.now }
     requires spot { IsSpot text.now from spot }
@@ -82,5 +75,9 @@ pub(crate) fn spot_of(text: &[u8], at: usize) -> Spot
     requires { at ≤ length text.now }
     ensures { IsSpot text.now at result }
 {
-    spot_at(text, 0, first(text), at)
+    let place = place_of(text, at);
+    Spot {
+        line: place.line,
+        column: place.column,
+    }
 }
