@@ -1,13 +1,14 @@
 //! Rows with external inputs among them.
 
-ghost use Rattle.std.specs.Prelude.{◌≡◌, ◌<◌, ◌≤◌, length, IfSome, IfOk, IfErr};
+ghost use Rattle.std.specs.Prelude.{◌↔◌, ◌<◌, ◌≤◌, length, IfSome, IfOk, IfErr, IsTrue};
 ghost use Rattle.csv.specs.Records.{fields_of};
 ghost use Rattle.lft_ir.specs.Steps.Fits.{RowsFit};
-ghost use Rattle.lft_trace.specs.{inner.{LogTables.{InputsFit, IsWithin, ReadsLines}, SeenExternals.is_of_input}, LogTables.{IsLine, IsNoLine}};
-ghost use Rattle.lft_trace.specs.Records.{records_of};
+ghost use Rattle.lft_trace.specs.{inner.LogTables.{InputsFit, IsWithin, ReadsLines}, LogTables.{BeginsAsInput, IsLine, IsNoLine}, Records.records_of};
 
 use crate::external_table::{Entry, read_entry};
 use crate::fault::TraceFault;
+use crate::fields::ExternalFields;
+use crate::kind::read_entry_kind;
 use crate::next_names::NextNames;
 use crate::reaction_names::ReactionNames;
 use crate::records::{Records, Unread};
@@ -55,18 +56,24 @@ pub struct LogLines {
     pub fault: Option<LineFault>,
 }
 
-/// Whether a record that has this fault as an external input begins as one.
-fn is_of_input(fault: TraceFault) -> bool
-    ensures { result ≡ is_of_input fault }
+/// Whether a record has as many fields as an external input, and begins with the word of one. No row has as
+/// few fields.
+#[inline(always)]
+fn begins_as_input(fields: &ByteRecord) -> bool
+    ensures { IsTrue result ↔ BeginsAsInput (fields_of fields.now) }
 {
-    !matches!(
-        fault,
-        TraceFault::BadFieldCount(_) | TraceFault::BadEvent(_)
-    )
+    match ExternalFields::of(fields) {
+        Some(fields) => match read_entry_kind(fields.kind) {
+            Some(_) => true,
+            None => false,
+        },
+        None => false,
+    }
 }
 
 /// What a record tells. `last` is the reaction of the row before, `next` where the names of a row are
 /// looked for first.
+#[inline(always)]
 fn read_line(
     names: &ReactionNames,
     last: Option<u32>,
@@ -78,17 +85,15 @@ fn read_line(
     ensures fault { IfErr result (λ e. IsNoLine names.now (fields_of fields.now) e) }
     ensures within { IfOk result (λ line. IsWithin names.now line) }
 {
-    match read_entry(names.program(), fields, ONLY_LINE) {
-        Ok(entry) => Ok(Line::Input(entry)),
-        Err(fault) => {
-            if is_of_input(fault) {
-                return Err(LineFault::NoInput(fault));
-            }
-            match read_row(names, last, next, fields, ONLY_LINE) {
-                Ok(row) => Ok(Line::Row(row)),
-                Err(fault) => Err(LineFault::NoRow(fault)),
-            }
-        }
+    if begins_as_input(fields) {
+        return match read_entry(names.program(), fields, ONLY_LINE) {
+            Ok(entry) => Ok(Line::Input(entry)),
+            Err(fault) => Err(LineFault::NoInput(fault)),
+        };
+    }
+    match read_row(names, last, next, fields, ONLY_LINE) {
+        Ok(row) => Ok(Line::Row(row)),
+        Err(fault) => Err(LineFault::NoRow(fault)),
     }
 }
 
