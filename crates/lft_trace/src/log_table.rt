@@ -22,6 +22,9 @@ use std::alloc::Global;
 /// The line that a record has in a table of its own. The header is line 1.
 const ONLY_LINE: u32 = 2;
 
+/// Most rows have more bytes.
+const BYTES_OF_A_ROW: usize = 32;
+
 /// What a record tells that stands among rows.
 #[derive(Clone, Copy, PartialEq, Eq, Drop)]
 pub enum Line {
@@ -102,7 +105,10 @@ fn read_lines_of(alloc: Global, names: &ReactionNames, text: &[u8]) -> Result<Lo
     ensures few { IfOk result (λ read. length read.rows.items ≤ 4000000) }
 {
     let mut records = Records::new(alloc, text, MAX_ROWS as u32);
-    let mut rows = Vec::new(alloc);
+    // With room for most texts, so that no row is copied while others come.
+    let Ok(mut rows) = Vec::with_capacity(alloc, text.len() / BYTES_OF_A_ROW) else {
+        return Err(Unread::NoMemory);
+    };
     let mut inputs = Vec::new(alloc);
     let mut last = None;
     let mut next = NextNames::first();
