@@ -1,49 +1,15 @@
 -- What one more record does to rows with external inputs among them, and that what is read fits its program.
-use Rattle.std.proofs.Common.{◌≡◌, ◌∙◌, ◌+◌, ◌≤◌, ◌++◌, ℕ, zero, suc, List, [], ◌∷◌, length, filter_map, Some, true, false, slice_get, refl, sym, ap, arith, append_assoc, append-nil, length-append}
+use Rattle.std.proofs.Common.{◌≡◌, ◌∙◌, ◌+◌, ◌≤◌, ◌++◌, ℕ, zero, suc, List, [], ◌∷◌, length, filter_map, Some, slice_get, refl, sym, ap, arith, append_assoc, append-nil, length-append}
 use Rattle.std.{specs.List.AllZip, proofs.lemmas.{List.Elements.{All-cons, All-nil, filter_map-append}, Slice.Zip.all_zipped_more}}
 use Rattle.csv.specs.Records.{fields_of}
 use Rattle.lft_ir.specs.{Parts.Parts, Sound.IsSound, Steps.Fits.RowsFit, declared.steps.row.Row.Row as TheRow}
 use Rattle.lft_lists.proofs.Zips.{behind}
-use Rattle.lft_trace.specs.{ExternalTables.{FaultAt, IsEntry}, LogTables.{BeginsAsInput, IsLine, row_of}}
+use Rattle.lft_trace.specs.{ExternalTables.IsEntry, LogTables.{IsLine, row_of}}
 use Rattle.lft_trace.specs.inner.{LogTables.{EntryFits, InputsFit, ReadsLines, inputs_behind}, Records.{IsNext, IsPlain, IsUnread, records_left}}
-use Rattle.lft_trace.specs.inner.SeenExternals.{is_of_input}
 use Rattle.lft_trace.specs.{Records.records_of, Traces.IsRow}
-use Rattle.lft_trace.specs.declared.{external_table.Entry.{Entry, TheVariants.{Happens, Stops}}, fault.TraceFault.TraceFault}
+use Rattle.lft_trace.specs.declared.external_table.Entry.{Entry, TheVariants.{Happens, Stops}}
 use Rattle.lft_trace.specs.declared.{log_table.{Among.Among, Line.{Line, TheVariants.{Row, Input}}, LogLines.LogLines}, records.Records.Records}
-use Rattle.lft_trace.proofs.{EntriesDiffer.same_fields, ExternalTableFacts.{event_fits, stop_fits}, TableFacts.Texts, TraceFacts.row_fits}
-use Rattle.lft_trace.specs.declared.fault.TraceFault.TheVariants as fault
-
--- ---- one record
-
--- a record with another fault than of its count or its kind begins as an external input
-pub begins : (program : Parts) (fields : List (List ℕ)) (e : TraceFault) → FaultAt program [] 2 fields e → is_of_input e ≡ true → BeginsAsInput fields
-begins program fields (fault.BadFieldCount n) f t = absurd (cc (t))
-begins program fields (fault.BadEvent n) f t = absurd (cc (t))
-begins program fields (fault.BadNumber n) f t = (f.2, f.1, f.3)
-begins program fields (fault.UnknownName n) f t = (f.2, f.1, f.3)
-begins program fields (fault.FieldInPlace n) f t = (f.2, f.1, f.3)
-begins program fields (fault.DuplicateExternal n) f t = (f.2.1, f.2.0, (f.2.2, f.2.3))
-begins program fields (fault.TwoStops n) f t = (f.2.1, f.2.0, (f.2.2, f.2.3))
-begins program fields fault.BadHeader f t = absurd f
-begins program fields fault.NoStop f t = absurd f
-begins program fields fault.TooManyRows f t = absurd f
-begins program fields fault.NotCsv f t = absurd f
-begins program fields fault.NoMemory f t = absurd f
-
--- a record with the fault of its count or its kind doesn't
-pub begins_not : (program : Parts) (fields : List (List ℕ)) (e : TraceFault) → FaultAt program [] 2 fields e → is_of_input e ≡ false → BeginsAsInput fields → ⊥
-begins_not program fields (fault.BadFieldCount n) f t b = f.1 (ap length b.2.0)
-begins_not program fields (fault.BadEvent n) f t b = f.3 b.0 (rw (same_fields f.1 b.1 (sym f.2 ∙ b.2.0)) b.2.1)
-begins_not program fields (fault.BadNumber n) f t b = absurd (cc (t))
-begins_not program fields (fault.UnknownName n) f t b = absurd (cc (t))
-begins_not program fields (fault.FieldInPlace n) f t b = absurd (cc (t))
-begins_not program fields (fault.DuplicateExternal n) f t b = absurd (cc (t))
-begins_not program fields (fault.TwoStops n) f t b = absurd (cc (t))
-begins_not program fields fault.BadHeader f t b = absurd f
-begins_not program fields fault.NoStop f t b = absurd f
-begins_not program fields fault.TooManyRows f t b = absurd f
-begins_not program fields fault.NotCsv f t b = absurd f
-begins_not program fields fault.NoMemory f t b = absurd f
+use Rattle.lft_trace.proofs.{ExternalTableFacts.{event_fits, stop_fits}, TableFacts.Texts, TraceFacts.row_fits}
 
 -- ---- many
 

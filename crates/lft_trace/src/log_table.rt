@@ -1,13 +1,14 @@
 //! Rows with external inputs among them.
 
-ghost use Rattle.std.specs.Prelude.{◌≡◌, ◌<◌, ◌≤◌, length, IfSome, IfOk, IfErr};
+ghost use Rattle.std.specs.Prelude.{◌↔◌, ◌<◌, ◌≤◌, length, IfSome, IfOk, IfErr, IsTrue};
 ghost use Rattle.csv.specs.Records.{fields_of};
 ghost use Rattle.lft_ir.specs.Steps.Fits.{RowsFit};
-ghost use Rattle.lft_trace.specs.{inner.{LogTables.{InputsFit, IsWithin, ReadsLines}, SeenExternals.is_of_input}, LogTables.{IsLine, IsNoLine}};
-ghost use Rattle.lft_trace.specs.Records.{records_of};
+ghost use Rattle.lft_trace.specs.{inner.LogTables.{InputsFit, IsWithin, ReadsLines}, LogTables.{BeginsAsInput, IsLine, IsNoLine}, Records.records_of};
 
 use crate::external_table::{Entry, read_entry};
 use crate::fault::TraceFault;
+use crate::fields::ExternalFields;
+use crate::kind::read_entry_kind;
 use crate::next_names::NextNames;
 use crate::reaction_names::ReactionNames;
 use crate::records::{Records, Unread};
@@ -20,6 +21,9 @@ use std::alloc::Global;
 
 /// The line that a record has in a table of its own. The header is line 1.
 const ONLY_LINE: u32 = 2;
+
+/// Most rows have more bytes.
+const BYTES_OF_A_ROW: usize = 32;
 
 /// What a record tells that stands among rows.
 #[derive(Clone, Copy, PartialEq, Eq, Drop)]
@@ -55,18 +59,24 @@ pub struct LogLines {
     pub fault: Option<LineFault>,
 }
 
-/// Whether a record that has this fault as an external input begins as one.
-fn is_of_input(fault: TraceFault) -> bool
-    ensures { result ≡ is_of_input fault }
+/// Whether a record has as many fields as an external input, and begins with the word of one. No row has as
+/// few fields.
+#[inline(always)]
+fn begins_as_input(fields: &ByteRecord) -> bool
+    ensures { IsTrue result ↔ BeginsAsInput (fields_of fields.now) }
 {
-    !matches!(
-        fault,
-        TraceFault::BadFieldCount(_) | TraceFault::BadEvent(_)
-    )
+    match ExternalFields::of(fields) {
+        Some(fields) => match read_entry_kind(fields.kind) {
+            Some(_) => true,
+            None => false,
+        },
+        None => false,
+    }
 }
 
 /// What a record tells. `last` is the reaction of the row before, `next` where the names of a row are
 /// looked for first.
+#[inline(always)]
 fn read_line(
     names: &ReactionNames,
     last: Option<u32>,
@@ -78,17 +88,15 @@ fn read_line(
     ensures fault { IfErr result (λ e. IsNoLine names.now (fields_of fields.now) e) }
     ensures within { IfOk result (λ line. IsWithin names.now line) }
 {
-    match read_entry(names.program(), fields, ONLY_LINE) {
-        Ok(entry) => Ok(Line::Input(entry)),
-        Err(fault) => {
-            if is_of_input(fault) {
-                return Err(LineFault::NoInput(fault));
-            }
-            match read_row(names, last, next, fields, ONLY_LINE) {
-                Ok(row) => Ok(Line::Row(row)),
-                Err(fault) => Err(LineFault::NoRow(fault)),
-            }
-        }
+    if begins_as_input(fields) {
+        return match read_entry(names.program(), fields, ONLY_LINE) {
+            Ok(entry) => Ok(Line::Input(entry)),
+            Err(fault) => Err(LineFault::NoInput(fault)),
+        };
+    }
+    match read_row(names, last, next, fields, ONLY_LINE) {
+        Ok(row) => Ok(Line::Row(row)),
+        Err(fault) => Err(LineFault::NoRow(fault)),
     }
 }
 
@@ -97,7 +105,10 @@ fn read_lines_of(alloc: Global, names: &ReactionNames, text: &[u8]) -> Result<Lo
     ensures few { IfOk result (λ read. length read.rows.items ≤ 4000000) }
 {
     let mut records = Records::new(alloc, text, MAX_ROWS as u32);
-    let mut rows = Vec::new(alloc);
+    // With room for most texts, so that no row is copied while others come.
+    let Ok(mut rows) = Vec::with_capacity(alloc, text.len() / BYTES_OF_A_ROW) else {
+        return Err(Unread::NoMemory);
+    };
     let mut inputs = Vec::new(alloc);
     let mut last = None;
     let mut next = NextNames::first();

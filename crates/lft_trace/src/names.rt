@@ -49,7 +49,7 @@ pub(crate) fn read_reaction_of(
 }
 
 // Whether the field names the reaction.
-fn names_reaction(program: &Program, number: u32, field: &[u8]) -> bool
+pub(crate) fn names_reaction(program: &Program, number: u32, field: &[u8]) -> bool
     requires { number < length program.now.reactions }
     ensures { IsTrue result ↔ IsNamed program.now.names (Found.Reaction number) field.now }
 {

@@ -5,6 +5,7 @@ ghost use Rattle.lft_ir.specs.{Names.IsNamed, Sound.IsSound};
 ghost use Rattle.lft_trace.specs.inner.ShortNames.{AreShort};
 
 use crate::kind::RowKind;
+use crate::names::names_reaction;
 use crate::short_name::{ShortName, is_long};
 use lft_ir::{Found, Program};
 use lft_tag::NoMemory;
@@ -71,8 +72,8 @@ impl<'a> ReactionNames<'a> {
         self.program
     }
 
-    /// The reaction that has this name, if it is kept and one of those that a row of this event mostly has:
-    /// that of the row before, the one behind it where a run starts, or that to which the name's hash leads.
+    /// The reaction that has this name, if it is one of those that a row of this event mostly has: that of the
+    /// row before, the one behind it where a run starts, or, where names are kept, that to which its hash leads.
     #[inline(always)]
     pub(crate) fn guess(&self, last: Option<u32>, kind: RowKind, name: &[u8]) -> Option<u32>
         ensures { IfSome result (λ r. IsNamed self.now.names (Found.Reaction r) name.now) }
@@ -89,14 +90,17 @@ impl<'a> ReactionNames<'a> {
         self.find(name)
     }
 
-    /// Whether the reaction of this number has this name, and it is kept.
+    /// Whether the reaction of this number has this name. Where names are kept, it is one of these.
     #[inline(always)]
     fn is_of(&self, number: u32, name: &[u8]) -> bool
         ensures { IsTrue result → IsNamed self.now.names (Found.Reaction number) name.now }
     {
         match self.names.get(number as usize) {
             Some(short) => short.is(name),
-            None => false,
+            None => {
+                (number as usize) < self.program.reactions()
+                    && names_reaction(self.program, number, name)
+            }
         }
     }
 

@@ -1,5 +1,5 @@
 -- What the clauses of single steps see of a record of external inputs: its fields by their names, and its numbers.
-use Rattle.std.specs.Prelude.{◌≡◌, ◌≢◌, Bool, ◌∷◌, ℕ, List, Option, Some, None, true, false}
+use Rattle.std.specs.Prelude.{◌≡◌, ◌≢◌, ◌∷◌, ℕ, List, Option, Some, None, true, false}
 use Rattle.std.specs.List.Sorted.{IsPermutation}
 use Rattle.lft_tag.specs.declared.Tag.{Tag}
 use Rattle.lft_ir.specs.{Parts.Parts, declared.steps.externals.Event.Event}
@@ -27,9 +27,3 @@ Keeps (Stops g) stop events stop_now events_now = (stop ≡ None) × (stop_now �
 abbrev pub Refuses : Entry → Option Tag → List Event → ℕ → TraceFault → Type 0
 Refuses (Happens x) stop events line e = (e ≡ fault.DuplicateExternal line) × ((d : Event) × Has events d × Clash d x)
 Refuses (Stops g) stop events line e = (e ≡ fault.TwoStops line) × (stop ≢ None)
-
--- whether a record with the fault begins as an external input: it has as many fields, and the first is the word of one
-abbrev pub is_of_input : TraceFault → Bool
-is_of_input (fault.BadFieldCount n) = false
-is_of_input (fault.BadEvent n) = false
-is_of_input e = true

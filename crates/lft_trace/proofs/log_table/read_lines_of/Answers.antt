@@ -3,7 +3,7 @@ use Rattle.lft_trace.{specs.Records.records_of, proofs.LogTableFacts.{among, inp
 use Rattle.lft_trace.proofs.log_table.read_lines_of.Goals as goal
 
 pub lines-init : goal.lines-init
-lines-init c = (rw (c.new-rows.ensures.items, c.new-inputs.ensures.items) (start c.args.names.now c.args.text.now c.new-records.result c.new-records.ensures), tt)
+lines-init c = (rw (c.in-Ok.ensures.items, c.new-inputs.ensures.items) (start c.args.names.now c.args.text.now c.new-records.result c.new-records.ensures), tt)
 
 pub lines-preserved-in-Ok-Row : goal.lines-preserved-in-Ok-Row
 lines-preserved-in-Ok-Row c =
