@@ -1,5 +1,4 @@
 pub mod Counting
-mod Finding
 pub mod Keeping
 mod Marks
 pub mod Spelling

@@ -1,4 +1,3 @@
-pub mod Finding
 pub mod Limits
 pub mod Names
 pub mod Noted

@@ -1,9 +1,8 @@
 //! Widths of ports and banks in a setting.
 
 ghost use Rattle.std.specs.Prelude.{◌≡◌, ◌≤◌, ◌↔◌, ℕ, Some, IfErr, IfOk, IfSome, IsSome, OnOk, is_some, option_and_then};
-ghost use Rattle.lft_elaborate.specs.inner.{Finding.{AddsIf, AddsOnly, IsNext, IsPath}, Noted.{GoesOn, GoesOnIf}};
-ghost use Rattle.lft_elaborate.specs.inner.Places.{AreMany, AreManyIn, HasPlaces, HasWidth, IsCount, IsSum};
-ghost use Rattle.lft_elaborate.specs.inner.{Refused.{IsCounted, IsCountedBy, IsCountedIn, IsOfWord}, Settings.setting_at, Widths.{member_at, width_at}};
+ghost use Rattle.lft_elaborate.specs.inner.{Noted.{GoesOn, GoesOnIf}, Places.{AreMany, AreManyIn, HasPlaces, HasWidth, IsCount, IsSum}, Refused.IsOfWord};
+ghost use Rattle.lft_elaborate.specs.inner.{Settings.setting_at, Widths.{member_at, width_at}};
 ghost use Rattle.lft_elaborate.specs.{Noted.{AreMade, table}, Places.{IsMany, IsWidth, natural, parameter_in, plus, times}, Values.Valued, Widths.found_width};
 
 use crate::path::{Path, Wanted};
@@ -109,7 +108,6 @@ impl<'a> Settings<'a> {
     /// How many a member is, on which a width hangs: 1 if it has no width. One that isn't known is put behind a list.
     fn need(&self, needed: Wanted, needs: &mut Vec<Wanted>) -> Result<Option<u64>, AllocError>
         ensures many { IfOk result (λ found. IfSome found (λ n. (t : Valued) → AreMade (table self.now) → setting_at self.now needed.setting ≡ Some t → IsMany self.now.shapes.items t needed.member n)) }
-        ensures needs { OnOk result (AddsIf (λ w. w ≡ needed) needs.old.items needs.new.items) }
     {
         if !self.is_wide(needed) {
             return Ok(Some(1));
@@ -129,7 +127,6 @@ impl<'a> Settings<'a> {
         needs: &mut Vec<Wanted>,
     ) -> Result<Option<u64>, AllocError>
         ensures many { IfOk result (λ found. IfSome found (λ n. (t : Valued) → AreMade (table self.now) → setting_at self.now setting ≡ Some t → AreMany self.now.shapes.items t thing n)) }
-        ensures needs { OnOk result (AddsIf (λ w. (w.setting ≡ setting) × (thing ≡ Thing.Member w.member)) needs.old.items needs.new.items) }
     {
         match thing {
             Thing::Member(member) => self.need(Wanted { setting, member }, needs),
@@ -145,7 +142,6 @@ impl<'a> Settings<'a> {
         needs: &mut Vec<Wanted>,
     ) -> Result<Option<u64>, AllocError>
         ensures many { IfOk result (λ found. IfSome found (λ n. (t : Valued) → AreMade (table self.now) → setting_at self.now setting ≡ Some t → AreManyIn self.now.shapes.items t instance n)) }
-        ensures needs { OnOk result (AddsIf (λ w. (w.setting ≡ setting) × (instance ≡ Some w.member)) needs.old.items needs.new.items) }
     {
         match instance {
             Some(member) => self.need(Wanted { setting, member }, needs),
@@ -164,7 +160,6 @@ impl<'a> Settings<'a> {
         ensures work { OnOk result (self.new.work.left ≤ self.old.work.left) }
         ensures goes { OnOk result (GoesOn (table self.old) (table self.new)) }
         ensures places { IfOk result (λ found. IfSome found (λ n. (t : Valued) → AreMade (table self.old) → setting_at self.old setting ≡ Some t → HasPlaces self.old.shapes.items t reference.now n)) }
-        ensures needs { OnOk result ((t : Valued) → AreMade (table self.old) → setting_at self.old setting ≡ Some t → AddsOnly (IsCounted self.old.shapes.items t reference.now) self.new.settings.items needs.old.items needs.new.items) }
     {
         let meaning = self.meaning(setting, file, reference)?;
         let count = self.need_thing(meaning.setting, meaning.thing, needs)?;
@@ -183,7 +178,6 @@ impl<'a> Settings<'a> {
         ensures work { OnOk result (self.new.work.left ≤ self.old.work.left) }
         ensures goes { OnOk result (GoesOn (table self.old) (table self.new)) }
         ensures count { IfOk result (λ found. IfSome found (λ n. (t : Valued) → AreMade (table self.old) → setting_at self.old setting ≡ Some t → IsCount self.old.shapes.items t term.now.count n)) }
-        ensures needs { OnOk result ((t : Valued) → AreMade (table self.old) → setting_at self.old setting ≡ Some t → AddsOnly (IsCountedBy self.old.shapes.items t term.now.count) self.new.settings.items needs.old.items needs.new.items) }
     {
         match &term.count {
             Count::Number(count) => Ok(Some(*count)),
@@ -208,7 +202,6 @@ impl<'a> Settings<'a> {
         ensures work { OnOk result (self.new.work.left ≤ self.old.work.left) }
         ensures goes { OnOk result (GoesOn (table self.old) (table self.new)) }
         ensures sum { IfOk result (λ all. IfSome all (λ n. (t : Valued) → AreMade (table self.old) → setting_at self.old setting ≡ Some t → IsSum self.old.shapes.items t terms.now n)) }
-        ensures needs { OnOk result ((t : Valued) → AreMade (table self.old) → setting_at self.old setting ≡ Some t → AddsOnly (IsCountedIn self.old.shapes.items t terms.now) self.new.settings.items needs.old.items needs.new.items) }
     {
         let mut all = Some(0);
         for term in terms {
@@ -222,7 +215,6 @@ impl<'a> Settings<'a> {
     fn find_width(&mut self, wanted: Wanted, path: &mut Path) -> Result<(), Stop>
         ensures work { OnOk result (self.new.work.left ≤ self.old.work.left) }
         ensures goes { OnOk result (GoesOn (table self.old) (table self.new)) }
-        ensures path { OnOk result ((t : Valued) (m : ℕ) → AreMade (table self.old) → IsPath self.old.shapes.items self.old.settings.items t m path.old → IsNext self.old.shapes.items self.old.settings.items t m path.old wanted → IsPath self.old.shapes.items self.new.settings.items t m path.new) }
     {
         if self.known(wanted.setting, wanted.member).is_some() {
             return Ok(());

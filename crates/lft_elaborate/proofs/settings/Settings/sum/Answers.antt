@@ -1,10 +1,10 @@
-use Rattle.std.proofs.Common.{inl, ◌≡◌, ◌<◌, ◌+◌, ◌++◌, [], ◌∷◌, List, length, take, Some, refl, sym, subst, arith, slice_get}
+use Rattle.std.proofs.Common.{◌≡◌, ◌<◌, ◌+◌, ◌++◌, [], ◌∷◌, List, length, take, Some, sym, subst, arith}
 use Rattle.std.specs.Prelude.{IfSome}
-use Rattle.std.proofs.lemmas.{Grind.common_steps, Option.slice_get_read}
+use Rattle.std.proofs.lemmas.Grind.{common_steps}
 use Rattle.lft_lists.proofs.Picked.{take_one_more}
 use Rattle.lft_whole.specs.declared.tree.Term.{Term}
 use Rattle.lft_elaborate.specs.{Noted.{AreMade, table}, inner.{Places.IsSum, Settings.setting_at}, Places.plus, Values.Valued}
-use Rattle.lft_elaborate.proofs.{Counting.no_terms, Finding.adds_term, Keeping.{goes_further, goes_nowhere}, Standing.terms_plus}
+use Rattle.lft_elaborate.proofs.{Counting.no_terms, Keeping.{goes_further, goes_nowhere}, Standing.terms_plus}
 use Rattle.lft_elaborate.proofs.settings.Settings.sum.Goals as goal
 
 pub loop-term-init : goal.loop-term-init
@@ -12,7 +12,6 @@ loop-term-init c = record {
   work = omega arith;
   goes = goes_nowhere _;
   sum = λ t made at. no_terms c.args.self.now.shapes.items t;
-  needs = λ t made at w h. inl h;
 }
 
 pub loop-term-preserved : goal.loop-term-preserved
@@ -21,7 +20,6 @@ loop-term-preserved c =
     let terms = c.args.terms.now in
     let i = c.loop-term.term-index in
     let within : i < length terms = omega arith in
-    let there : slice_get terms i ≡ Some c.term-item.result = slice_get_read terms (length terms) i c.term-item.result refl within c.term-item.is in
     let more : take (i + 1) terms ≡ take i terms ++ c.term-item.result ∷ [] = take_one_more terms i c.term-item.result within (sym c.term-item.is) in
     let was = c.loop-term.invariant in
     let now = c.in_ok-count.ensures in
@@ -29,7 +27,6 @@ loop-term-preserved c =
       work = (let a = now.work in let b = was.work in omega (arith, a, b));
       goes = goes_further _ _ _ was.goes now.goes;
       sum = subst (λ o. IfSome o (λ n. (t : Valued) → AreMade (table s) → setting_at s c.args.setting ≡ Some t → IsSum s.shapes.items t (take (i + 1) terms) n)) (sym c.plus-all.ensures) (subst (λ (l : List Term). IfSome (plus c.loop-term.all c.in_ok-count.count) (λ n. (t : Valued) → AreMade (table s) → setting_at s c.args.setting ≡ Some t → IsSum s.shapes.items t l n)) (sym more) (terms_plus (table s) (table c.loop-term.self) was.goes c.args.setting (take i terms) c.term-item.result c.loop-term.all c.in_ok-count.count was.sum now.count));
-      needs = λ t made at. adds_term (table s) (table c.loop-term.self) c.term.new.self.settings.items was.goes (now.goes.stays) t terms i c.term-item.result there c.args.needs.now.items c.loop-term.needs.items c.term.new.needs.items (was.needs t made at) (now.needs t (was.goes.made made) (was.goes.stays c.args.setting t at));
     }
 
 pub returns-clause-sum : goal.returns-clause-sum
