@@ -17,6 +17,9 @@ use std::marker::Model;
 /// So many dues stand in a block. A run looks at the blocks in which something is due.
 const BLOCK: usize = 64;
 
+/// What a run costs for each of them, where it costs one for an input that it looks at.
+const COST_OF_BLOCK: usize = 16;
+
 /// When some triggers of a reaction are due.
 #[derive(Drop)]
 struct Beats {
@@ -199,6 +202,18 @@ impl Beats {
         self.dues.as_slice()
     }
 
+    /// What a run at the time costs for the blocks in which something is due. Where there is one alone, nothing.
+    fn cost(&self, time: u64) -> usize {
+        let soonest = self.soonest.as_slice();
+        let mut cost: usize = 0;
+        for block in 0..soonest.len() {
+            if item_at(soonest, block) <= time {
+                cost = cost.saturating_add(COST_OF_BLOCK);
+            }
+        }
+        cost
+    }
+
     /// Whether one of the triggers is present at the tag, where the stop is the last. Those that were due there
     /// are due later now. It is false too where 64 bits hold no such time.
     fn meet(&mut self, tag: Tag, last: Tag) -> bool
@@ -230,6 +245,14 @@ impl Dues {
         ensures { slice_get self.now number ≡ Some result.now }
     {
         self.lists[number].as_slice()
+    }
+
+    /// What a run of the reaction at the time costs for dues. No verdict hangs on it.
+    pub(crate) fn cost(&self, reaction: u32, time: u64) -> usize {
+        match self.lists.get(reaction as usize) {
+            Some(beats) => beats.cost(time),
+            None => 0,
+        }
     }
 
     /// Whether the reaction, which has a run at the tag, is triggered there, where the stop is the last.

@@ -260,6 +260,7 @@ impl Stream {
         if !self.effort.allows(
             program,
             &self.presence,
+            &self.dues,
             &self.listeners,
             &self.channels,
             own,
