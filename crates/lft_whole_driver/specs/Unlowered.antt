@@ -2,7 +2,6 @@
 use Rattle.std.specs.Prelude.{◌≡◌, ◌⊎◌, ◌<◌, ℕ, IsSomeAnd, List, ◌∷◌, ◌++◌, None, length, slice_get, string_bytes, []}
 use Rattle.lft_whole.specs.declared.sources.{source.SourceFile.SourceFile, stop.Refusal.Refusal}
 use Rattle.lft_whole_parser.specs.Imports.{Files.{IsImportOf, IsRefusedFor, paths_of_files}, Paths.normal}
-use Rattle.lft_lower.specs.Reactors.{IsLowering}
 use Rattle.lft_resolve.specs.Causes.{IsFirst, causes}
 use Rattle.lft_tree.specs.{View.tree_view, declared.ast.Ast.Ast}
 use Rattle.lft_whole_driver.specs.{Lowered.{AreFilesOf, BeginWith, LeadTo}, Told.{TellsRefusal, TellsTree}, declared.told.Unlowered.Unlowered}
@@ -47,14 +46,13 @@ IsOfProgram path text files first r = IsOfReading path text files first r ⊎ (A
 abbrev pub Says : (List SourceFile → List ℕ → Refusal → Type 0) → Unlowered → Type 0
 Says Is u = (u.told ≡ None) ⊎ ((files : List SourceFile) × (first : List ℕ) × (refusal : Refusal) × Is files first refusal × TellsRefusal files first refusal u)
 
--- The files are lowered to a tree, and the first cause of refusal that holds of it is told.
+-- A tree has no flat program, and the first cause of refusal that holds of it is told.
 pub record IsRefusedTree (files : List SourceFile) (u : Unlowered) : Type 0 where
   pub tree : Ast
-  pub lowering : IsLowering files tree
   pub cause : ℕ
   pub first : IsFirst (causes (tree_view tree)) cause
   pub tells : TellsTree files tree.items.items cause u
 
--- Why this path and this text have no program: a refusal is told as they are read, or of their files, or of the tree to which these are lowered.
+-- Why this path and this text have no program: a refusal is told as they are read, or of their files, or of a tree.
 abbrev pub IsUnloweredOf : List ℕ → List ℕ → Unlowered → Type 0
 IsUnloweredOf path text u = Says (IsOfProgram path text) u ⊎ ((files : List SourceFile) × AreFilesOf path text files × IsRefusedTree files u)

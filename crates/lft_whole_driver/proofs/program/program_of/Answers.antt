@@ -14,7 +14,6 @@ returns-then-is_no_memory-clause-refused c = inl (inl (ap (λ (u : Unlowered). u
 pub returns-else-is_no_memory-clause-refused : goal.returns-else-is_no_memory-clause-refused
 returns-else-is_no_memory-clause-refused c = inr (record {
   tree = c.in-Ok.lowering.tree;
-  lowering = c.in-Ok.ensures.made;
   cause = cause_of c.in-Err-flattened.refusal;
   first = c.in-Err-flattened.ensures.first (c.is_no_memory.ensures.other c.if-is_no_memory.false);
   tells = c.unlowered_tree.ensures;
