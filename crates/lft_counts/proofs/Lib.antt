@@ -4,7 +4,6 @@ mod Meeting
 mod Going
 mod Held
 mod Laying
-mod Toggling
 mod Running
 mod Overlapping
 mod Tallied

@@ -5,7 +5,6 @@
 //! No row of the trace may break one of the rules 1 to 5. The judge says so of the rows that it has gone over,
 //! so both go over them together.
 
-mod bits;
 mod cover;
 mod inputs;
 mod many;

@@ -5,8 +5,8 @@ ghost use Rattle.lft_graph.specs.Sets.{Has};
 ghost use Rattle.lft_ir.specs.declared.steps.row.{Row.Row as TheRow, Step.TheVariants.{Start, End}};
 ghost use Rattle.lft_counts.specs.{inner.Counts.{Here, KeepsRows}, Overlaps.{Overlap, met_by}};
 
-use crate::bits::Bits;
 use crate::tally::Tally;
+use lft_graph::Set;
 use lft_ir::steps::{Row, is_end, is_start};
 use lft_tag::NoMemory;
 use std::alloc::Global;
@@ -15,23 +15,23 @@ use std::alloc::Global;
 // A start looks at the words of one set: 157 of them for 10,000 reactions, however many runs are open.
 #[derive(Drop)]
 pub struct Overlaps {
-    running: Bits,
+    running: Set,
     /// How many reactions have an open run.
     many: usize,
-    met: Vec<Bits>,
+    met: Vec<Set>,
     /// For each number the starts that left so many reactions with an open run.
     widths: Tally,
 }
 
 /// So many empty sets, each with room for as many numbers.
-fn no_sets(alloc: Global, count: usize) -> Result<Vec<Bits>, NoMemory>
+fn no_sets(alloc: Global, count: usize) -> Result<Vec<Set>, NoMemory>
     ensures long { IfOk result (λ sets. length sets.items ≡ count) }
     ensures room { IfOk result (λ sets. (k : ℕ) (set : List ℕ) → slice_get sets.items k ≡ Some set → length set ≡ count / 64 + 1) }
     ensures none { IfOk result (λ sets. (k : ℕ) (set : List ℕ) → slice_get sets.items k ≡ Some set → (r : ℕ) → Has set r → ⊥) }
 {
     let mut sets = Vec::with_capacity(alloc, count)?;
     for number in 0..count {
-        sets.push(Bits::with_room(alloc, count)?)?;
+        sets.push(Set::with_room(alloc, count)?)?;
     }
     Ok(sets)
 }
@@ -41,7 +41,7 @@ impl Overlaps {
     pub fn new(alloc: Global, reactions: usize) -> Result<Overlaps, NoMemory>
         ensures { IfOk result (λ overlaps. (t : List TheRow) → Overlap t reactions 0 overlaps) }
     {
-        let running = Bits::with_room(alloc, reactions)?;
+        let running = Set::with_room(alloc, reactions)?;
         let met = no_sets(alloc, reactions)?;
         let widths = Tally::new(alloc, reactions + 1)?;
         Ok(Overlaps {

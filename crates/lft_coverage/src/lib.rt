@@ -6,7 +6,6 @@
 //! The clauses speak of each byte of the list. Of the text for people they speak of the line of sums alone,
 //! without its count of pairs that have no order.
 
-mod closure;
 pub mod driver;
 mod inputs;
 mod least;

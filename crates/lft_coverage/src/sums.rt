@@ -6,10 +6,9 @@ ghost use Rattle.lft_graph.specs.Graph.{IsGraphOf};
 ghost use Rattle.lft_counts.specs.{Counts.{Count, IsOver}, Orders.{IsApart, Stands}, Overlaps.Overlap};
 ghost use Rattle.lft_coverage.specs.{inner.Facts.HasSets, Pairs.{AreTogether, CountPairs}, Sums.{IsFed, IsReached, origin_of}};
 
-use crate::closure::ordered_pairs;
 use crate::pairs::met_pairs;
 use lft_counts::{Cover, how_many};
-use lft_graph::Graph;
+use lft_graph::{Ancestors, Graph};
 use lft_ir::Program;
 use lft_lists::item_at;
 use lft_tag::NoMemory;
@@ -147,7 +146,7 @@ impl Sums {
         let writes = cover.counting.writes.as_slice();
         let orders = cover.orders.as_slice().len() as u64;
         let reactions = program.reactions() as u64;
-        let ordered = ordered_pairs(alloc, program, graph)?;
+        let ordered = Ancestors::new(alloc, program, graph)?.pairs();
         let mut is_writer = vec![in alloc; false; program.ports()]?;
         mark_writers(program, &mut is_writer);
         Ok(Sums {

@@ -8,4 +8,5 @@ pub mod Chains
 pub mod Cycles
 pub mod Arranging
 pub mod Bits
+mod Toggling
 pub mod Ancestry

@@ -1,7 +1,6 @@
 use Rattle.std.proofs.Common.{◌/◌, ◌<◌, length, sym, ap, arith}
-use Rattle.lft_graph.proofs.Bits.{word_at}
-use Rattle.lft_counts.proofs.Toggling.{toggle_other, toggle_put, toggle_taken}
-use Rattle.lft_counts.proofs.bits.Bits.toggle.Goals as goal
+use Rattle.lft_graph.proofs.{Bits.word_at, Toggling.{toggle_other, toggle_put, toggle_taken}}
+use Rattle.lft_graph.proofs.sets.Set.toggle.Goals as goal
 
 pub returns-clause-others : goal.returns-clause-others
 returns-clause-others c r n =

@@ -58,22 +58,6 @@ module _ (words : List ℕ) (x word : ℕ) (there : x / 64 < length words) (is_w
 pub none_in : (words : List ℕ) (k : ℕ) → slice_index words k ≡ 0 → (r : ℕ) → r / 64 ≡ k → Has words r → ⊥
 none_in words k e r at h = let z : bit_at (slice_index words (r / 64)) (r % 64) ≡ 0 = ap (λ w. bit_at w (r % 64)) (ap (slice_index words) at ∙ e) ∙ bit_at-zero (r % 64) in absurd (omega (arith, z, h))
 
-past : (words : List ℕ) (k : ℕ) → length words ≤ k → slice_index words k ≡ 0
-past [] k l = refl
-past (w ∷ ws) zero l = absurd (omega arith)
-past (w ∷ ws) (suc k) l = past ws k (omega arith)
-
--- where all words are 0, no number is in the set
-pub none_there : (words : List ℕ) (k : ℕ) → length words ≤ k → ((j : ℕ) → j < k → slice_index words j ≡ 0) → (r : ℕ) → Has words r → ⊥
-none_there words k l zeros r h = go (dec_lt (r / 64) k)
-  where
-    off : slice_index words (r / 64) ≡ 0 → ⊥
-    off e = let z : bit_at (slice_index words (r / 64)) (r % 64) ≡ 0 = ap (λ w. bit_at w (r % 64)) e ∙ bit_at-zero (r % 64) in absurd (omega (arith, z, h))
-
-    go : Dec (r / 64 < k) → ⊥
-    go (yes m) = off (zeros (r / 64) m)
-    go (no n) = off (past words (r / 64) (omega arith))
-
 -- one word more is joined with that of another set
 pub joined_more : (k : ℕ) (old other new next : List ℕ) (word : ℕ) → slice_index other k ≡ word → k < length new → next ≡ slice_set new k (bit_or (slice_index new k) word) → AreJoined k old other new → AreJoined (k + 1) old other next
 joined_more k old other new next word is there set so = record { as_long = ap (λ (ws : List ℕ). length ws) set ∙ length-set new k (bit_or (slice_index new k) word) ∙ so.as_long; joined = joined; kept = kept }

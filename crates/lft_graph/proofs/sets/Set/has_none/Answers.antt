@@ -1,8 +1,8 @@
 use Rattle.std.proofs.Common.{◌≡◌, ◌∙◌, List, ℕ, slice_get, sym, ap}
 use Rattle.std.specs.Prelude.{slice_index}
 use Rattle.std.proofs.lemmas.{Bool.eqb-true, Option.get_or_from_slice_get}
-use Rattle.lft_counts.proofs.Toggling.{none_in}
-use Rattle.lft_counts.proofs.bits.Bits.has_none.Goals as goal
+use Rattle.lft_graph.proofs.Toggling.{none_in}
+use Rattle.lft_graph.proofs.sets.Set.has_none.Goals as goal
 
 pub returns : goal.returns
 returns c e r at h =
