@@ -3,7 +3,8 @@ use Rattle.std.proofs.Common.{◌≡◌, ◌⊎◌, inl, inr, ◌<◌, ◌≤◌
 use Rattle.std.proofs.lemmas.{Bool.cases_eq, Option.slice_get_within, List.{Elements.Contains-get_or, Quantifiers.all_pairs_push}}
 use Rattle.lft_ir.{specs.{Parts.Parts, Sound.IsSound, declared.parts.Port.Port as PortOf}, proofs.Origins.origin_inside}
 use Rattle.lft_lists.proofs.Places.{length_written, same_at}
-use Rattle.lft_scheduler.specs.inner.{Listeners.{IsArrival, IsWatched, AreArrivals}, Lists.list_at, Filling.AreArriving}
+use Rattle.lft_queue.specs.inner.Coming.NumberLists.{list_at}
+use Rattle.lft_scheduler.specs.inner.{Listeners.{IsArrival, IsWatched, AreArrivals}, Filling.AreArriving}
 use Rattle.lft_scheduler.proofs.{Pushing.{list_pushed, same_pushed, at_unwritten}, Filling.empty_contained}
 
 -- no port yet

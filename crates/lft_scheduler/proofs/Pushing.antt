@@ -4,19 +4,14 @@ use Rattle.std.proofs.lemmas.Bool.{cases_eq}
 use Rattle.lft_ir.specs.declared.parts.{Name.TheVariants.{Port, Action}, Trigger.{Trigger, TheVariants.{Startup, Shutdown, Timer, On}}}
 use Rattle.lft_lists.proofs.Places.{get_written, get_unwritten, length_written}
 use Rattle.lft_queue.proofs.Marking.{contains_pushed}
-use Rattle.lft_scheduler.specs.inner.Lists.{TriggerLists, list_at, list_of, HasList, IsPushed}
+use Rattle.lft_queue.specs.inner.Coming.NumberLists.{list_at}
+use Rattle.lft_scheduler.specs.inner.Lists.{TriggerLists, list_of, HasList, IsPushed}
 
 pub at_written : (lists : List (List ℕ)) (n : ℕ) (list : List ℕ) → n < length lists → list_at (slice_set lists n list) n ≡ list
 at_written lists n list l = ap (λ (o : Option (List ℕ)). unwrap_or o []) (get_written lists n list l)
 
 pub at_unwritten : (lists : List (List ℕ)) (n m : ℕ) (list : List ℕ) → m ≢ n → list_at (slice_set lists n list) m ≡ list_at lists m
 at_unwritten lists n m list d = ap (λ (o : Option (List ℕ)). unwrap_or o []) (get_unwritten lists n m list d)
-
--- where all rows are empty, all lists are
-pub rows_empty : {X : Type 0} (f : X → List ℕ) (rows : List X) → ((n : ℕ) (row : X) → slice_get rows n ≡ Some row → f row ≡ []) → (n : ℕ) → list_at (map f rows) n ≡ []
-rows_empty f [] h n = refl
-rows_empty f (row ∷ rows) h zero = h 0 row refl
-rows_empty f (row ∷ rows) h (suc n) = rows_empty f rows (λ m x e. h (suc m) x e) n
 
 -- one number more in one of several lists
 module _ (lists : List (List ℕ)) (n k : ℕ) (within : n < length lists) where

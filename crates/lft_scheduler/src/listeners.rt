@@ -7,7 +7,6 @@ ghost use Rattle.lft_scheduler.specs.inner.{Listeners.{IsListener, IsLive, AreLi
 mod arrivals;
 mod by_trigger;
 mod leading;
-mod lists;
 mod watched;
 
 use crate::listeners::by_trigger::ByTrigger;

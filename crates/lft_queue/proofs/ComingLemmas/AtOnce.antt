@@ -1,5 +1,5 @@
 -- Ports that are reached without a delay, those behind one, and the reactions that they trigger.
-use Rattle.std.proofs.Common.{◌≡◌, ◌≢◌, ℕ, ◌<◌, ◌⊎◌, inl, inr, ◌==◌, ◌&&◌, eqb-true, eq-eqb, Bool, true, false, cond, List, [], ◌∷◌, ◌++◌, length, refl, sym, ap, ◌∙◌, subst, arith, Option, Some, None, slice_get, slice_set, filter_map, option_map, unwrap_or, Contains}
+use Rattle.std.proofs.Common.{◌≡◌, ◌≢◌, ℕ, zero, suc, ◌<◌, ◌⊎◌, inl, inr, ◌==◌, ◌&&◌, eqb-true, eq-eqb, Bool, true, false, cond, List, [], ◌∷◌, ◌++◌, length, map, refl, sym, ap, ◌∙◌, subst, arith, Option, Some, None, slice_get, slice_set, filter_map, option_map, unwrap_or, Contains}
 use Rattle.std.proofs.lemmas.{Bool.false≢true, Option.slice_get_within}
 use Rattle.lft_tag.{specs.Shifts.{join_all, none}, proofs.Chains.undelayed}
 use Rattle.lft_lists.proofs.Members.{Mem, get_mem, mem_left, mem_right, mem_contains, contains_mem, mem_filter}
@@ -9,7 +9,7 @@ use Rattle.lft_ir.specs.declared.parts.{Name.{Name, TheVariants.{Port, Action}},
 use Rattle.lft_ir.proofs.Origins.{origin_unique, port_of}
 use Rattle.lft_model.{specs.Plans.PlanParts, proofs.Steps.both_true}
 use Rattle.lft_queue.proofs.Marking.{of_reads}
-use Rattle.lft_queue.specs.inner.Coming.AtOnce.{is_undelayed, origin_of, HasEvents, IsAwaited, HaveGrown}
+use Rattle.lft_queue.specs.inner.Coming.{AtOnce.{is_undelayed, origin_of, HasEvents, IsAwaited, HaveGrown}, NumberLists.list_at}
 use Rattle.lft_queue.specs.inner.Coming.{Listeners.{list_of, heard_at, BothGrow, IsListed, AreListeners}, Listens.Listens}
 use Rattle.lft_queue.specs.declared.coming.listeners.Listeners.{Listeners}
 
@@ -79,13 +79,19 @@ still_there old new grown o r more e there =
 pub grown_on : (old new newer : List (List ℕ)) → HaveGrown old new → HaveGrown new newer → HaveGrown old newer
 grown_on old new newer first second = record { as_long = second.as_long ∙ first.as_long; kept = λ o r list more e f c. still_there new newer second o r more f (λ own h. first.kept o r list own e h c) }
 
+-- where all are empty, so is the list of each number
+pub lists_empty : {X : Type 0} (f : X → List ℕ) (all : List X) → ((n : ℕ) (x : X) → slice_get all n ≡ Some x → f x ≡ []) → (n : ℕ) → list_at (map f all) n ≡ []
+lists_empty f [] h n = refl
+lists_empty f (x ∷ all) h zero = h 0 x refl
+lists_empty f (x ∷ all) h (suc n) = lists_empty f all (λ m y e. h (suc m) y e) n
+
 -- one more reaction in the list of a port
-module _ (old new : List (List ℕ)) (o r : ℕ) (within : o < length old) (pushed : (list : List ℕ) → slice_get old o ≡ Some list → new ≡ slice_set old o (list ++ r ∷ [])) where
+module _ (old new : List (List ℕ)) (o r : ℕ) (within : o < length old) (pushed : new ≡ slice_set old o (list_at old o ++ r ∷ [])) where
   abbrev own : (list : List ℕ) × (slice_get old o ≡ Some list)
   own = get_there old o within
 
   is_new : new ≡ slice_set old o (own.0 ++ r ∷ [])
-  is_new = pushed own.0 own.1
+  is_new = pushed ∙ ap (λ (all : Option (List ℕ)). slice_set old o (unwrap_or all [] ++ r ∷ [])) own.1
 
   cases : (q : ℕ) (more : List ℕ) → slice_get new q ≡ Some more → ((q ≡ o) × (own.0 ++ r ∷ [] ≡ more)) ⊎ ((q ≢ o) × (slice_get old q ≡ Some more))
   cases q more e = get_write_cases old o q (own.0 ++ r ∷ []) more within (ap (λ (lists : List (List ℕ)). slice_get lists q) (sym is_new) ∙ e)

@@ -4,6 +4,7 @@ pub mod Coming
 pub mod Lanes
 pub mod Listeners
 pub mod Listens
+pub mod NumberLists
 pub mod Shown
 pub mod Unread
 pub mod Writes

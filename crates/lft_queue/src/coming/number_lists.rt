@@ -1,6 +1,7 @@
 //! Lists of numbers, by number.
 
-ghost use Rattle.std.specs.Prelude.{◌≡◌, ℕ, List, [], ◌∷◌, ◌++◌, ◌<◌, length, Some, None, IfSome, IfNone, IfOk, OnOk, slice_get, slice_set};
+ghost use Rattle.std.specs.Prelude.{◌≡◌, ℕ, [], ◌∷◌, ◌++◌, ◌<◌, length, Some, None, IfSome, IfNone, IfOk, OnOk, slice_get, slice_set};
+ghost use Rattle.lft_queue.specs.inner.Coming.NumberLists.{list_at};
 
 use lft_tag::NoMemory;
 use std::alloc::Global;
@@ -22,8 +23,9 @@ impl Model for NumberLists {
 
 impl NumberLists {
     /// So many empty lists.
-    pub(crate) fn empty(alloc: Global, count: usize) -> Result<NumberLists, NoMemory>
-        ensures { IfOk result (λ lists. length lists ≡ count) }
+    pub fn empty(alloc: Global, count: usize) -> Result<NumberLists, NoMemory>
+        ensures long { IfOk result (λ lists. length lists ≡ count) }
+        ensures none { IfOk result (λ lists. (n : ℕ) → list_at lists n ≡ []) }
     {
         let mut lists = Vec::new(alloc);
         for _ in 0..count {
@@ -54,10 +56,20 @@ impl NumberLists {
         }
     }
 
-    /// Adds an item to the list of the number.
-    pub(crate) fn push(&mut self, number: u32, item: u32) -> Result<(), NoMemory>
+    /// The list of the number, empty past the last one.
+    pub fn at(&self, number: u32) -> &[u32]
+        ensures { result.now ≡ list_at self.now number }
+    {
+        match self.lists.get(number as usize) {
+            Some(list) => list.as_slice(),
+            None => &[],
+        }
+    }
+
+    /// Puts an item behind the list of the number.
+    pub fn push(&mut self, number: u32, item: u32) -> Result<(), NoMemory>
         requires { number < length self.old }
-        ensures { OnOk result ((list : List ℕ) → slice_get self.old number ≡ Some list → self.new ≡ slice_set self.old number (list ++ item ∷ [])) }
+        ensures { OnOk result (self.new ≡ slice_set self.old number (list_at self.old number ++ item ∷ [])) }
     {
         self.lists[number as usize].push(item)?;
         Ok(())

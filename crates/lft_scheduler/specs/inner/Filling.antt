@@ -5,8 +5,9 @@ use Rattle.lft_tag.specs.Tags.{Before}
 use Rattle.lft_ir.specs.{Parts.Parts, Sound.IsTriggerOf}
 use Rattle.lft_ir.specs.declared.parts.{Port.Port as PortOf, Reaction.Reaction, Timer.Timer as TimerOf, Trigger.{Trigger, TheVariants.Timer}}
 use Rattle.lft_queue.specs.inner.Reading.{AreMarked}
+use Rattle.lft_queue.specs.inner.Coming.NumberLists.{list_at}
 use Rattle.lft_scheduler.specs.inner.Listeners.{beat, IsLeader, IsListener, IsArrival, IsWatched, arrival, IsDelayed, IsFirstDelayed}
-use Rattle.lft_scheduler.specs.inner.Lists.{TriggerLists, list_at, list_of, HasList}
+use Rattle.lft_scheduler.specs.inner.Lists.{TriggerLists, list_of, HasList}
 
 -- beats by the period, then by the rest
 abbrev pub beat_cmp : ℕ × ℕ → ℕ × ℕ → Ordering

@@ -1,10 +1,7 @@
 -- Lists by number and by trigger. The contracts of private functions alone need this file.
-use Rattle.std.specs.Prelude.{◌≡◌, ◌↔◌, ◌⊎◌, ◌<◌, ℕ, List, [], Contains, slice_get, length, unwrap_or}
+use Rattle.std.specs.Prelude.{◌≡◌, ◌↔◌, ◌⊎◌, ◌<◌, ℕ, List, Contains, length}
+use Rattle.lft_queue.specs.inner.Coming.NumberLists.{list_at}
 use Rattle.lft_ir.specs.declared.parts.{Name.TheVariants.{Port, Action}, Trigger.{Trigger, TheVariants.{Startup, Shutdown, Timer, On}}}
-
--- the list of a number, empty past the last one
-abbrev pub list_at : List (List ℕ) → ℕ → List ℕ
-list_at lists n = unwrap_or (slice_get lists n) []
 
 -- a list for each trigger, by its number
 pub record TriggerLists : Type 0 where

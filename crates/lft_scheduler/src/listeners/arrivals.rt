@@ -4,9 +4,9 @@ ghost use Rattle.std.specs.Prelude.{◌≡◌, ◌≢◌, ◌↔◌, ℕ, Contai
 ghost use Rattle.lft_ir.specs.Parts.{Parts};
 ghost use Rattle.lft_scheduler.specs.inner.Listeners.{IsArrival, IsWatched, AreArrivals};
 
-use crate::listeners::lists::NumberLists;
 use crate::listeners::watched::Watched;
 use lft_ir::Program;
+use lft_queue::coming::NumberLists;
 use lft_tag::NoMemory;
 use std::alloc::Global;
 use std::marker::Model;
@@ -33,7 +33,7 @@ impl Arrivals {
         ensures { IfOk result (λ arrivals. AreArrivals program.now arrivals) }
     {
         let watched = Watched::new(alloc, program)?;
-        let mut lists = NumberLists::new(alloc, program.ports())?;
+        let mut lists = NumberLists::empty(alloc, program.ports())?;
         'ports: for number in 0..program.ports() {
             if watched.has(program, number as u32) {
                 lists.push(program.port(number as u32).origin, number as u32)?;

@@ -4,8 +4,8 @@ ghost use Rattle.std.specs.Prelude.{◌≡◌, [], IfOk, OnOk};
 ghost use Rattle.lft_ir.specs.{declared.parts.Trigger.Trigger as TriggerOf, Sound.IsTriggerOf};
 ghost use Rattle.lft_scheduler.specs.inner.Lists.{list_of, HasList, IsPushed};
 
-use crate::listeners::lists::NumberLists;
 use lft_ir::{Name, Program, Trigger};
+use lft_queue::coming::NumberLists;
 use lft_tag::NoMemory;
 use std::alloc::Global;
 use std::marker::Model;
@@ -37,9 +37,9 @@ impl ByTrigger {
         Ok(ByTrigger {
             startup: Vec::new(alloc),
             shutdown: Vec::new(alloc),
-            timers: NumberLists::new(alloc, program.timers())?,
-            ports: NumberLists::new(alloc, program.ports())?,
-            actions: NumberLists::new(alloc, program.actions())?,
+            timers: NumberLists::empty(alloc, program.timers())?,
+            ports: NumberLists::empty(alloc, program.ports())?,
+            actions: NumberLists::empty(alloc, program.actions())?,
         })
     }
 
