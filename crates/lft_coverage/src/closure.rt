@@ -38,6 +38,7 @@ fn members(set: &Vec<u64>) -> u64 {
     let mut many = 0u64;
     for place in 0..set.len() {
         let word = item_at(set.as_slice(), place);
+        // At most 10,000 for each reaction: it never saturates, and needs no clause that says so.
         many = many.saturating_add(u64::from(word.count_ones()));
     }
     many
@@ -64,6 +65,7 @@ pub(crate) fn ordered_pairs(
 {
     let mut sets = empty_sets(alloc, program.reactions())?;
     let mut many = 0u64;
+    // By level, so that the sets of all that comes before are there.
     let order = graph.by_level();
     for place in 0..order.len() {
         let reaction = item_at(order, place);
