@@ -34,6 +34,7 @@ fn base_at(
     let Some(base) = here.reactor.bases.get(number) else {
         return Ok(None);
     };
+    // The name is looked up once more for each reactor that extends this one, so its bytes count each time.
     work.spend(base.text.len() as u64)?;
     match scopes.get(here.file, base.text.as_str()) {
         Some(found) => Ok(Some(Base {
@@ -61,6 +62,7 @@ fn step(scopes: &Scopes, work: &mut Work, walk: &mut Walk) -> Result<bool, Stop>
         walk.end()?;
         return Ok(true);
     };
+    // A base that was entered is met here once more when it is listed. Then the walk passes it.
     if walk.is_done(base.class) {
         walk.pass(visit.next.saturating_add(1))?;
         return Ok(true);
@@ -68,6 +70,7 @@ fn step(scopes: &Scopes, work: &mut Work, walk: &mut Walk) -> Result<bool, Stop>
     if walk.enter(base.class)? {
         return Ok(true);
     }
+    // Met and not listed: it is on the way here.
     Err(Stop::at(Why::ExtendsItself, base.file, base.at))
 }
 

@@ -48,6 +48,7 @@ fn mark_if(list: &mut Vec<bool>, parameter: usize, is_needed: bool)
 
 /// Refuses a bank of a reactor with a width that needs the number in the bank.
 fn refuse_by_index(inner: &Shape, file: usize, instance: &Instance) -> Result<(), Stop> {
+    // A bank has one setting for all its members, and here each of them would need its own.
     if instance.width.is_some()
         && let Some(index) = inner.parameter("bank_index")
         && inner.is_sized(index)
@@ -66,6 +67,7 @@ impl Needs {
         let Some(value) = value else {
             return;
         };
+        // What names no parameter is refused where the time is read. Here only the parameters are wanted.
         let Some(parameter) = named(shape, value) else {
             return;
         };

@@ -58,6 +58,8 @@ fn given_of<'a>(
         let Some(parameter) = inner.parameter(name) else {
             return Err(Stop::at(Why::GivesNoParameter, file, assignment.name.at));
         };
+        // The index has the first place of each name, so two of one name are
+        // found without comparing each two.
         if index.get(name).unwrap_or(place) != place {
             return Err(Stop::at(Why::GivenTwice, file, assignment.name.at));
         }
@@ -127,6 +129,8 @@ impl<'a> Making<'a> {
     {
         let number = self.shapes.len();
         let shape = Shape::of(self.alloc, &self.scopes, &mut self.work, class)?;
+        // Noted before its instances are looked at: so a reactor that contains itself
+        // ends here. It is refused later, by the walk that puts them in order.
         self.shapes.push(shape)?;
         note(&mut self.known, class.number, number);
         Ok(number)
@@ -201,6 +205,8 @@ impl<'a> Making<'a> {
         ensures goes { OnOk result (GoesOn (λ first. Unit {0}) self.old self.new) }
         ensures noted { OnOk result (AreNoted self.old.scopes (cores self.new.shapes.items) (tables self.new.shapes.items)) }
     {
+        // The list grows meanwhile. A call for each instance would need a stack
+        // as deep as reactors contain each other.
         for shape in 0..usize::MAX {
             let count = match self.shapes.get(shape) {
                 Some(found) => found.members.len(),

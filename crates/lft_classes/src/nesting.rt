@@ -42,6 +42,7 @@ fn next_child(shapes: &[Shape], visit: Visit) -> Option<(usize, usize)>
 /// Why a shape may not be in the instance of this number, as it contains that.
 fn contains_itself(shapes: &[Shape], shape: usize, member: usize) -> Stop {
     let Some(found) = shapes.get(shape) else {
+        // Neither comes, as the walk came to this member. Want of memory says nothing of a program.
         return Stop::NoMemory;
     };
     let Some(inherited) = found.member(member) else {
@@ -113,6 +114,7 @@ impl<'a> Nesting<'a> {
         let made = shapes_of(alloc, scopes, first, main)?;
         let (mut work, mut shapes) = made;
         let order = order_of(alloc, &shapes, &mut work)?;
+        // A parameter is needed where one inside needs what it is given, so these come first.
         for place in 0..order.len() {
             decide(alloc, &mut shapes, order[place])?;
         }

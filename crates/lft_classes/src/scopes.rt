@@ -124,6 +124,7 @@ fn own_scope<'a>(
 fn exported<'a>(own: &[Scope<'a>], target: usize, name: &str) -> Option<Class<'a>>
     ensures some { IfSome result (λ class. (class.reactor.now.is_main ≡ false) × ((files : List SourceFile) → AreOwnScopes files own.now → IsOwn files target name.now class)) }
 {
+    // Among its own reactors alone: what a file imports it doesn't hand on.
     let Some(scope) = own.get(target) else {
         return None;
     };
@@ -265,6 +266,7 @@ impl<'a> Scopes<'a> {
         ensures scopes { IfOk result (AreScopes files.now) }
     {
         let mut classes = Vec::new(alloc);
+        // The names of all files come before the first import, as files may import each other.
         let own = own_scopes(alloc, files, &mut classes)?;
         let scopes = all_scopes(alloc, files, &own)?;
         Ok(Scopes { classes, scopes })

@@ -19,6 +19,7 @@ use lft_whole::{Expression, Foreign, Instance, Member, Name, Parameter, Port, Wi
 use std::alloc::Global;
 
 /// A member, and the number of the file in which it stands.
+// With its file: a name in it means what it means there, whoever inherits it.
 #[derive(Clone, Copy)]
 pub struct Inherited<'a> {
     pub file: usize,
@@ -64,6 +65,7 @@ struct Named<'a> {
 }
 
 /// A reactor with all that it inherits.
+// One for each reactor, however its parameters are set: what it inherits is listed once.
 #[derive(Drop)]
 pub struct Shape<'a> {
     pub class: Class<'a>,
@@ -184,7 +186,9 @@ fn push_members<'a>(
     let mut all: u64 = 0;
     for member in &class.reactor.members {
         let weight = of_member(member);
+        // Spent before it is listed: in a chain of bases each reactor lists the members of all before it.
         work.spend(weight)?;
+        // It never saturates, as all of it was spent before.
         all = all.saturating_add(weight);
         members.push(Inherited {
             file: class.file,
@@ -256,6 +260,7 @@ fn parts_of<'a>(
     let mut parts = Parts {
         members: Vec::new(alloc),
         parameters: Vec::new(alloc),
+        // A reactor of nothing counts too, since each of its settings has a place in lists.
         weight: 1,
     };
     for place in 0..chain.len() {
@@ -423,6 +428,7 @@ impl<'a> Shape<'a> {
 fn refuse_twice(index: &Index, named: &[Named]) -> Result<(), Stop>
     ensures once { OnOk result (IsIndexOf index.now (map (λ n. n.name.now) named.now) → (k : ℕ) (n : Named) → slice_get named.now k ≡ Some n → place_in index.now n.name.now ≡ Some k) }
 {
+    // An index has the first place of each name: so one pass finds two of one name.
     for place in 0..named.len() {
         let found = item_at(named, place);
         if index.get(found.name).unwrap_or(place) != place {

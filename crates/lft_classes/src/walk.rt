@@ -15,6 +15,8 @@ pub(crate) struct Visit {
 }
 
 /// How far a walk has come.
+// Sets of numbers, and no mark for each reactor of the program: a walk begins at each of
+// them, for its bases. The path is a list, as no depth of calls may grow with the text.
 #[derive(Drop)]
 pub(crate) struct Walk {
     /// Those that were gone over, in this order.

@@ -7,6 +7,7 @@ use lft_whole::{
 
 /// A name, counted in bytes.
 fn of_name(name: &Name) -> u64 {
+    // One more than its bytes, as a name of one letter has a place in a list too.
     (name.text.len() as u64).saturating_add(1)
 }
 

@@ -9,6 +9,7 @@ use lft_tag::NoMemory;
 use std::alloc::Global;
 
 /// Of a reaction with more inputs nothing is kept.
+// One word holds what an input was present with. For more, the pairs grow as the square.
 const MOST_INPUTS: usize = 64;
 
 /// An input of a reaction, and those that some run of it read up to this one, itself too: a bit for each,
@@ -66,6 +67,7 @@ impl Inputs {
     /// The run at hand reads an input.
     fn read(&mut self, name: Name) {
         if let Some(place) = self.place_of(name) {
+            // The place is below 64. The remainder says so to the shift.
             self.read |= 1u64 << (place % 64);
             let input = item_at(self.all.as_slice(), place);
             self.all[place] = Input {

@@ -42,6 +42,8 @@ impl Order {
     {
         let mut order = self;
         if let Some(start) = last {
+            // The start of an earlier tag isn't cleared, which would cost all
+            // reactions at each tag. Its tag tells it apart.
             if start.tag.is_same(tag) {
                 order.both += 1;
                 if start.worker != worker {
@@ -118,6 +120,8 @@ impl Orders {
     {
         let begin = item_at(self.begins.as_slice(), reaction as usize);
         let end = item_at(self.begins.as_slice(), reaction as usize + 1);
+        // The first reaction has started by now, if it runs at this tag: else
+        // rule 9 is broken, and no count is told.
         for place in begin..end {
             let order = item_at(self.all.as_slice(), place);
             let last = item_at(self.lasts.as_slice(), order.first as usize);

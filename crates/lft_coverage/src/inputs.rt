@@ -39,6 +39,7 @@ fn are_apart(inputs: &[Input], one: usize, other: usize) -> bool
     requires other { other < length inputs.now }
 {
     let (first, second) = (item_at(inputs, one).with, item_at(inputs, other).with);
+    // A run may read its inputs in any order, so either may have the bit.
     let is_with = (first >> (other % 64)) % 2 == 1 || (second >> (one % 64)) % 2 == 1;
     first != 0 && second != 0 && !is_with
 }
@@ -53,6 +54,7 @@ fn tell_apart(
     requires { reaction < length program.now.reactions }
 {
     let mut is_first = true;
+    // At most 2,016 pairs: of a reaction with more than 64 inputs nothing is kept.
     for one in 0..inputs.len() {
         for other in one + 1..inputs.len() {
             if !are_apart(inputs, one, other) {

@@ -50,6 +50,7 @@ pub(crate) fn tell_least(
     counts: &[u64],
 ) -> Result<(), AllocError> {
     let mut last = None;
+    // A pass over the counts for each of them, in place of a sorted copy: no memory is asked for.
     for turn in 0..MOST {
         let Some(next) = next_least(program, counts, last) else {
             break;

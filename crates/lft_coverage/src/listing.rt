@@ -28,6 +28,7 @@ fn put_write<W: Write>(out: &mut W, whole: bool, program: &Program, port: u32, w
     requires { port < length program.now.ports }
     ensures { TookMore (W.contents out.old) whole (W.contents out.new) result (write_line program.now (port, writes)) }
 {
+    // Rows that write name the origin, so a fed port has no writes of its own.
     if program.port(port).origin == port {
         let whole = put(out, whole, "port ");
         let whole = put(out, whole, program.name_of_port(port));

@@ -115,6 +115,7 @@ fn tell_orders(text: &mut String, alloc: Global, sums: Sums) -> Result<(), Alloc
     text.push_str(
         "  X and Y ran at one tag, on two workers at least once: the scheduler alone kept their order\n",
     )?;
+    // An order that was met on two workers was met, so no difference saturates.
     push_right(text, alloc, sums.met.count.saturating_sub(sums.apart.count))?;
     text.push_str("  X and Y ran at one tag, always on one worker: a race could not have shown\n")?;
     push_right(text, alloc, sums.met.of.saturating_sub(sums.met.count))?;

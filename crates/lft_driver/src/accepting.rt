@@ -35,5 +35,6 @@ pub(crate) fn accepted(alloc: Global, plan: &Plan, rows: &Rows) -> Option<Verdic
 /// Whether `accepts_text` gives a text up before it looks at its rows. Then these are still to be
 /// gone through, once they are read.
 pub(crate) fn is_odd(trace: &[u8]) -> bool {
+    // Parts are cut at line ends, and between quotation marks a line end is one of a field.
     below_header(trace).is_none() || trace.contains(&b'"')
 }

@@ -92,6 +92,7 @@ pub(crate) fn read_bundle(text: &[u8]) -> Result<Bundle<'_>, Marker>
     let Some(rest) = behind_program(text) else {
         return Err(Marker::Program);
     };
+    // Each is looked for behind the one before: a line `--- trace` in the program belongs to that.
     let Some((program, others)) = cut(rest, EXTERNALS) else {
         return Err(Marker::Externals);
     };

@@ -152,6 +152,7 @@ pub fn explain_plan<W: Write, R: Threads + Sync>(
     ensures none { IfErr result (λ f. is_of_text f.part f.number ≡ true → IsNoTrace plan.now.program trace.now) }
     ensures kept { IfErr result (λ f. f.part ≢ part.Write → f.part ≢ part.Memory → Keeps (W.contents out.old) (W.contents out.new)) }
 {
+    // Read in any case, since facts are looked for among rows.
     match read_table(rt, alloc, plan, trace, workers) {
         Ok(rows) => explain_rows(rt, alloc, plan, &rows, workers, all, out),
         Err(fault) => Err(fault),

@@ -165,6 +165,7 @@ fn accepts<R: Threads + Sync>(
     ensures right { IfSome result (λ counts. IsRight plan.now trace.now (Accepted counts.runs counts.tags)) }
     ensures workers { IfSome result (λ counts. IsWorkers workers) }
 {
+    // A number out of range is a fault of the checker, and those of the table come before it.
     if !is_workers(workers) {
         return None;
     }

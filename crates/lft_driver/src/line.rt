@@ -57,6 +57,7 @@ fn push_reaction(
             line.push_str(" reaction=")?;
             push_name(line, program, number)?;
         }
+        // Rule 6 alone names no reaction.
         None => line.push_str(" (outside the profile)")?,
     }
     Ok(())

@@ -50,6 +50,7 @@ pub(crate) fn read_both<R: Threads + Sync>(
         Ok(rows) => rows,
         Err(fault) => return Err(fault),
     };
+    // Read before the first is judged: a fault of a table comes before any verdict.
     match read_table(rt, alloc, plan, second, workers) {
         Ok(others) => Ok(Both {
             first: rows,
@@ -80,6 +81,7 @@ fn compare(
         Err(_) => return Err(Fault::no_memory()),
     };
     match pair {
+        // The counts are of the first trace. The second has the same runs, so they are its own too.
         Pair::Same => Ok(Paired::Same { runs, tags }),
         Pair::Differ { tag, reaction } => Ok(Paired::Differ { tag, reaction }),
     }

@@ -148,6 +148,7 @@ pub fn show_program<W: Write>(
         Ok(graph) => graph,
         Err(fault) => return Err(fault),
     };
+    // All of the text is there before any is written, so that a refused growth cuts none.
     match lines(alloc, program, &graph, all) {
         Ok(text) => write_text(text.as_bytes(), out),
         Err(_) => Err(Fault::no_memory()),

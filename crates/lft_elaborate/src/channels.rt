@@ -8,8 +8,10 @@ pub fn joined(left: usize, right: usize, broadcast: bool) -> usize
     ensures { result ≡ joined left right broadcast }
 {
     if broadcast {
+        // Nothing is joined then. So `source` never divides by 0.
         if left == 0 { 0 } else { right }
     } else {
+        // Sides that differ are no fault. A compiler warns, and joins as many as there are.
         left.min(right)
     }
 }
@@ -20,6 +22,7 @@ pub fn source(left: usize, right: usize, broadcast: bool, channel: usize) -> usi
     ensures result { result ≡ source left broadcast channel }
     ensures there { result < left }
 {
+    // Over and over, as 0 1 0 1, and not in blocks, as 0 0 1 1.
     if broadcast { channel % left } else { channel }
 }
 
@@ -28,6 +31,7 @@ pub fn place_at(members: usize, channels: usize, interleaved: bool, place: usize
     requires { place < members * channels }
     ensures { slice_get (places members channels interleaved) place ≡ Some result }
 {
+    // Members are outermost, but in `interleaved(..)` channels are.
     if interleaved {
         (place % members, place / members)
     } else {

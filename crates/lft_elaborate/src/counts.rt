@@ -50,6 +50,8 @@ impl Counts {
             reactions,
         } = other;
         Counts {
+            // Saturating: a width may be 2^64 - 1, and banks in banks multiply.
+            // What would overflow passes its limit all the same.
             instances: self
                 .instances
                 .saturating_add(instances.saturating_mul(times)),
@@ -112,6 +114,7 @@ fn lengthen(is_used: &mut Vec<bool>, count: usize) -> Result<(), AllocError>
     ensures marked { OnOk result ((used : List ℕ) → AreMarked used is_used.old.items → AreMarked used is_used.new.items) }
     ensures long { OnOk result (count ≤ length is_used.new.items) }
 {
+    // Settings are made while they are listed, so the marks grow with them.
     for _more in is_used.len()..count {
         is_used.push(false)?;
     }
@@ -200,6 +203,8 @@ impl<'a> Settings<'a> {
             return Ok(None);
         }
         let count = self.many(setting, Thing::Member(member))?;
+        // What is in a bank without members is in no instance, so its reactor
+        // is neither counted nor lowered.
         if count == 0 {
             return Ok(None);
         }
@@ -260,6 +265,8 @@ impl<'a> Settings<'a> {
         'places: while place < used.len() {
             let setting = used[place];
             self.push_inner(setting, &mut used, &mut is_used)?;
+            // Each of them has an instance. Two `new` with other values in each
+            // reactor would double them at each depth.
             if used.len() > MAX_INSTANCES {
                 return Err(self.work.refused(Why::TooManyInstances));
             }
@@ -278,6 +285,8 @@ impl<'a> Settings<'a> {
         ensures goes { OnOk result (GoesOn (table self.old) (table self.new)) }
     {
         let width = self.many(setting, Thing::Member(member))?;
+        // Asked for first. In a bank without members the setting may never have
+        // been made, and has no total.
         if width == 0 {
             return Ok(Counts::none());
         }
@@ -393,6 +402,8 @@ impl<'a> Settings<'a> {
             };
             places.push((depth, setting))?;
         }
+        // By the depth of their reactors: settings are made from outside
+        // inwards, and one may be met again deeper.
         places.sort()?;
         Ok(places)
     }
@@ -402,6 +413,7 @@ impl<'a> Settings<'a> {
         ensures goes { OnOk result (GoesOn (table self.old) (table self.new)) }
     {
         let places = self.inner_first(used)?;
+        // No total leaves this function: whether a limit is passed is all that is asked.
         let mut totals = vec![in self.alloc; Counts::none(); self.settings.len()]?;
         for place in 0..places.len() {
             let setting = places[place].1;

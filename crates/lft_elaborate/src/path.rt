@@ -18,9 +18,12 @@ struct Step {
 }
 
 /// Those whose width is wanted, the last one first. The width of one that is open hangs on those behind it.
+// A list, and no call in a call: a text chooses how long a chain of `widthof` is, and the stack is small.
 #[derive(Drop)]
 pub(crate) struct Path {
     steps: Vec<Step>,
+    // The open ones once more, as a set: to look for one among all steps
+    // would cost a long chain its square.
     noted: BTreeSet<(usize, usize)>,
 }
 

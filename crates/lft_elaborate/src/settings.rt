@@ -12,6 +12,8 @@ use std::alloc::Global;
 use std::collections::BTreeMap;
 
 /// A shape with values of its parameters. Of one that decides no width the value is 0.
+// Not one for each instance: the members of a bank share one, and so do
+// instances that give the same numbers.
 #[derive(Drop)]
 pub struct Setting {
     pub shape: usize,
@@ -115,6 +117,7 @@ impl<'a> Settings<'a> {
             return Ok(known);
         }
         let number = self.settings.len();
+        // Twice, as a key and by number: who has a setting asks it for its numbers.
         let key = Vec::from_slice(self.alloc, values.as_slice())?;
         self.add_setting(shape, values)?;
         if shape < self.known.len() {
@@ -134,6 +137,7 @@ impl<'a> Settings<'a> {
             Some(found) => (found.members.len(), found.weight),
             None => (0, 0),
         };
+        // Each setting has lists as long as its reactor, and a text chooses both how many and how long.
         self.work.spend(weight)?;
         let widths = nothing(self.alloc, count)?;
         let inner = nothing(self.alloc, count)?;
@@ -194,6 +198,7 @@ impl<'a> Settings<'a> {
         let Some(inner) = self.shapes.get(child.shape) else {
             return Ok(None);
         };
+        // Each instance asks for all parameters of its reactor, also for those that it doesn't give.
         self.work.spend(inner.parameters.len() as u64)?;
         let (file, at) = match outer.member(member) {
             Some(inherited) => (inherited.file, inherited.at()),
@@ -225,6 +230,8 @@ impl<'a> Settings<'a> {
         ensures work { self.new.work ≡ self.old.work }
         ensures goes { GoesOnIf ((t u : Valued) (m : ℕ) → inside self.old.shapes.items t m ≡ Some u → u.shape ≡ shape → IsUnsized self.old.shapes.items shape → setting_at self.old inner ≡ Some u) (table self.old) (table self.new) }
     {
+        // All instances of such a reactor are alike to the counts. They find it
+        // without a look at what they give.
         let is_only = match self.shapes.get(shape) {
             Some(found) => !found.sized.contains(&true),
             None => false,

@@ -136,6 +136,8 @@ fn given_values<'a>(
     ensures given { IfOk result (λ table. (p : ℕ) → p < count → slice_get (map (λ found. option_map (λ value. value.now.value) found) table.items) p ≡ Some (given_to child.now.given.items p)) }
 {
     let mut table = nothing(alloc, count)?;
+    // Backwards, so that of two values for one parameter the first would
+    // count, as the definition says. Two are refused before.
     for place in (0..child.given.len()).rev() {
         let found = child.given[place];
         if found.parameter < table.len() {
@@ -156,6 +158,7 @@ fn inner_value(
     ensures found { IfOk result (λ found. (option_map (λ value. value.now.value) value.entry ≡ given_to given.entry.child.now.given.items parameter) → value_inside given.entry.outer.now (map (λ v. Some v) given.entry.values.now) given.entry.child.now.given.items inner.now parameter ≡ Some found) }
     ensures lacking { IfErr result (λ stop. SaysNoNumber None missing → (option_map (λ value. value.now.value) value.entry ≡ given_to given.entry.child.now.given.items parameter) → IsLacking (value_inside given.entry.outer.now (map (λ v. Some v) given.entry.values.now) given.entry.child.now.given.items inner.now parameter) (value_written given.entry.child.now.given.items inner.now parameter) stop) }
 {
+    // Instances that differ in such parameters alone share a setting, and a reactor of the core.
     if !inner.is_sized(parameter) {
         return Ok(0);
     }

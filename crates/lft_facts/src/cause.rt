@@ -28,6 +28,7 @@ pub(crate) fn writing_row(
     ensures none { IfNone result (¬ IsPresent plan.now rows.now tag (ThePort port)) }
 {
     let port = plan.program().port(port);
+    // A run may write a port more than once at its tag. The last write counts.
     match last_cause(causes, port.origin, port.shift, tag) {
         Some(cause) => Some(cause.place),
         None => None,
@@ -72,6 +73,7 @@ fn action_cause(
     ensures gives { IfSome result (λ c. GivesTrigger c tag (TheName (TheAction action))) }
     ensures none { IfNone result (¬ IsPresent plan.now rows.now tag (TheAction action)) }
 {
+    // One list has the causes of both kinds: the key of an action stands behind those of the ports.
     let key = plan.program().ports() as u32 + action;
     match last_cause(causes, key, Shift::none(), tag) {
         Some(cause) => Some(of_action(rows, tag, action, cause.place)),

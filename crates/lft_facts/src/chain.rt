@@ -24,6 +24,7 @@ fn step(plan: &Plan, first: u32, second: u32) -> Fact
     ensures gives { GivesDirect result first second }
     ensures own { (b : TheBreach) → IsOwn b result }
 {
+    // The graph keeps which reactions are just before, and not why.
     match feeding_port(plan.program(), first, second) {
         Some(port) => Fact::Feeds {
             writer: first,

@@ -35,6 +35,7 @@ fn port_clash(
     let Some(first) = first_cause(causes, flat.origin, flat.shift, tag) else {
         return None;
     };
+    // Two writes at one tag are one event, with the last value.
     if cause_tag(first).is_same(cause_tag(last)) {
         return None;
     }
@@ -78,6 +79,7 @@ fn action_clash(
     let Some(last) = last_cause(causes, key, Shift::none(), tag) else {
         return None;
     };
+    // Each scheduling is an event of its own, also at one tag.
     if first.place == last.place {
         return None;
     }

@@ -99,6 +99,7 @@ pub(crate) fn late_end(
     ensures nearest { (i a : ℕ) → start < i → EndsAt rows.now tag a i → IsMarked near.now a → IsMarked near.now result.0 × (result.0 ≤ a) }
     ensures least { (i a : ℕ) → start < i → EndsAt rows.now tag a i → IsMarked next.now a → IsMarked near.now result.0 ⊎ (result.0 ≤ a) }
 {
+    // One that is just before comes first: its way to the other has one step.
     if let Some(end) = least_end(rows, tag, start, near) {
         return end;
     }

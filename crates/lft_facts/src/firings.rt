@@ -49,6 +49,7 @@ fn firing_after(timer: &Timer, tag: Tag) -> Option<Tag>
         return None;
     }
     let since = (tag.time - timer.offset) % timer.period;
+    // It fits for each tag and timer of a plan. Tested here, it needs no clause that says so.
     let time = (tag.time - since).checked_add(timer.period)?;
     Some(Tag { time, micro: 0 })
 }

@@ -40,6 +40,7 @@ pub(crate) fn event_before(
     ensures { IfSome result (IsNearest plan.now rows.now tag (TheName name)) }
 {
     let (key, shift) = key_of(plan.program(), name);
+    // The causes stand in order, so no rows are gone over for each input.
     match last_before(causes, key, shift, tag) {
         Some(cause) => Some(moved(cause_tag(cause), shift)),
         None => None,

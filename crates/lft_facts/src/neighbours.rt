@@ -85,6 +85,7 @@ fn run_before(rows: &[Row], tag: Tag, reaction: u32) -> Option<(Tag, u32)>
     ensures none { IfNone result ((k : TheTag) → Before k tag → ¬ Ran rows.now k reaction) }
 {
     let mut run = None;
+    // Each start is compared, so that no clause has to say that tags rise.
     for place in 0..rows.len() {
         run = later(rows, tag, reaction, run, place);
     }

@@ -44,6 +44,7 @@ fn passed_by(tag: Tag, ran: &[bool], step: Fact) -> Option<Reason>
 pub(crate) fn add_passed_by(tag: Tag, ran: &[bool], facts: &mut Vec<Fact>) -> Result<(), NoMemory>
     ensures { OnOk result ((b : TheBreach) (plan : PlanParts) (t : List TheRow) → b.tag ≡ tag → AreFacts plan t facts.old.items → HaveRun t tag ran.now → Adds b plan t facts.old.items facts.new.items) }
 {
+    // Counted before, since what is put behind the steps is none.
     let count = facts.len();
     for place in 0..count {
         let step = item_at(facts.as_slice(), place);

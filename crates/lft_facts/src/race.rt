@@ -92,6 +92,7 @@ pub(crate) fn add_race(
     ensures adds { OnOk result (Adds breach plan.now rows.now facts.old.items facts.new.items) }
     ensures race { OnOk result (TellsRace plan.now rows.now breach facts.new.items) }
 {
+    // Rule 9 is told as a race anyway. Where rule 10 is named, no tag up to its own breaks rule 9.
     if breach.rule > 8 {
         return Ok(());
     }

@@ -37,6 +37,8 @@ fn own_open(rows: &[Row], row: u32) -> Option<Reason>
     ensures own { IfSome result (λ c. (b : TheBreach) → b.row ≡ row + 2 → IsOwnReason b c) }
 {
     let worker = row_at(rows, row as usize).worker;
+    // Backwards: of the worker's starts only the last can be open, and to
+    // ask it of one goes over the rows behind it.
     for back in 0..row {
         let place = row - 1 - back;
         let other = row_at(rows, place as usize);
@@ -94,6 +96,7 @@ fn other_end(rows: &[Row], row: u32) -> Option<Reason>
     let own = row_at(rows, row as usize);
     for place in row as usize + 1..rows.len() {
         let other = row_at(rows, place);
+        // One of the two is right and the other isn't, as where a recorder wrote a wrong number.
         if is_end(&other.step)
             && other.reaction == own.reaction
             && (other.worker == own.worker) != other.tag.is_same(own.tag)

@@ -93,6 +93,7 @@ pub(crate) fn not_triggered(
         reaction,
         start,
     })?;
+    // By the count no trigger can be left out: so the facts on each of them are enough.
     facts.push(Fact::TriggerCount { reaction, count })?;
     for place in 0..count {
         facts.push(Fact::Untriggered {

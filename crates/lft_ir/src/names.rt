@@ -51,6 +51,7 @@ impl Starts {
 
 /// The name of each thing of a program: the names of the instances, ports, actions, timers and
 /// reactions one after another, each kind in the order of its numbers.
+// One table for all kinds, so that a text is found in one look-up, whatever it names.
 #[derive(Debug, Drop)]
 pub struct NameTable {
     texts: Texts,

@@ -60,6 +60,7 @@ pub struct Timer {
 
 /// A reaction: its place among those of its instance, counted from 0, and what it names, each list
 /// in order of declaration. A timer as a use isn't kept.
+// Nothing is read of a timer. So as a use it has no row, and isn't kept.
 #[derive(Debug, Drop)]
 pub struct Reaction {
     pub instance: u32,

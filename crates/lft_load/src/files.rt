@@ -91,6 +91,7 @@ pub fn read_file<F: Files>(rt: &F, alloc: Global, path: &str) -> Result<Vec<u8>,
         Ok(bytes) => Ok(bytes),
         Err(fault) => Err(Failure {
             fault,
+            // Asked only then: a folder can be opened, and it is the reading that fails.
             cause: is_folder(rt, path).then_some(FOLDER),
         }),
     }

@@ -12,6 +12,8 @@ use std::io::{ErrorKind, Read};
 /// The most bytes of a file.
 const MOST_BYTES: usize = 1 << 30;
 /// The most calls of `read` that a file may take.
+// Enough for 2^30 bytes in pieces of 64. A reader that is interrupted
+// each time would else be asked for ever.
 const MOST_READS: u32 = 1 << 24;
 
 /// All bytes of a reader up to its end. `read` 1 `Failed` comes only where the reader failed, and

@@ -34,6 +34,7 @@ impl Asked {
         let Some(until) = self.until else {
             return false;
         };
+        // More rows at that tag may come: only one behind it shows that they are all there.
         match self.last {
             Some(last) => last.is_before(row.tag),
             None => {

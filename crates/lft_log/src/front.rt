@@ -99,6 +99,7 @@ pub(crate) fn read_front(
     requires lines { AreLines lines.now }
     ensures { IfOk result (IsFront program.now lines.now rows_before inputs_before) }
 {
+    // Within quotation marks a record could go on in a line that hasn't come.
     let plain = plain_lines(lines);
     let Ok(read) = read_below(alloc, program, &lines[0..plain]) else {
         return Err(NoMemory);

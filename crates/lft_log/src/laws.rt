@@ -9,5 +9,6 @@ use lft_ir::Program;
 pub fn law_log(program: &Program)
     ensures { LogLaw program.now }
 {
+    // Asked for what every program keeps.
     program.keeps();
 }

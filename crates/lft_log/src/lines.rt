@@ -88,6 +88,7 @@ pub(crate) fn is_input(line: &[u8]) -> bool
 pub(crate) fn has_words(line: &[u8]) -> bool
     ensures { IsTrue result ↔ HasWords line.now }
 {
+    // Anywhere in it: a second log may begin with a byte order mark.
     memmem::find(line, WORDS).is_some()
 }
 
@@ -193,6 +194,7 @@ fn ends_with(line: &[u8], word: &[u8]) -> bool
 fn is_whole_row(line: &[u8]) -> bool
     ensures { IsTrue result ↔ IsWholeRow line.now }
 {
+    // A number at the end may be the front of a longer one. Behind an empty last part nothing can be missing.
     commas(line) == 7 && ends_with(line, b",") && !begins_with(line, b"schedule,")
 }
 

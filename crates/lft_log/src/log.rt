@@ -26,6 +26,7 @@ use std::alloc::Global;
 const LONGEST: usize = 1 << 20;
 
 /// More rows aren't counted, and no more external inputs.
+// Far enough from 2^64 that the lines of one more piece don't overflow.
 const MOST: u64 = 1 << 62;
 
 /// What is kept of a log so far.
@@ -197,11 +198,14 @@ impl Log {
         let Ok(front) = read_front(alloc, plan.program(), lines, self.rows, self.inputs) else {
             return Err(LogFault::NoMemory);
         };
+        // Told first: rows of these lines may be at the tags of these inputs.
         let taken = tell_all(&mut self.follower, plan, &front, self.inputs);
         self.inputs += taken.inputs as u64;
         self.rows += taken.rows as u64;
         let rows = &front.rows.as_slice()[0..taken.rows];
         match add_asked(&mut self.follower, &mut self.asked, alloc, plan, rows) {
+            // The rows before a bad line are judged first: a breach of theirs is
+            // sure, whatever that line was to say.
             Ok(None) => match taken.fault {
                 Some(fault) => Err(fault),
                 None => Ok(None),
@@ -236,6 +240,7 @@ impl Log {
     fn is_long(&self, piece: &[u8]) -> bool
         ensures { IsTrue result → HasNoEnd self.now.rest.items → BeginsLong (self.now.rest.items ++ piece.now) }
     {
+        // No piece has more bytes than a line may have, so its other lines are short enough.
         self.rest.len() + before_end(piece) > LONGEST
     }
 
@@ -325,6 +330,8 @@ impl Log {
         let reach = self.follower.reach(plan);
         match self.follower.finish(alloc, plan, false) {
             Ok(Ending::Unbroken(reach)) => Final::AtEnd(Ending::Unbroken(reach)),
+            // A breach that only the end makes sure isn't told: the half line may
+            // be the row that is missing.
             Ok(_) => Final::AtEnd(Ending::Unbroken(reach)),
             Err(left) => Final::Soon(Told::Odd(left.reach, left.line)),
         }

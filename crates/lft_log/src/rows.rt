@@ -15,6 +15,7 @@ use lft_tag::{MAX_ROWS, NoMemory};
 use std::alloc::Global;
 
 /// No part of a log that is read at once has more bytes.
+// No line has more bytes, so each stands in one part.
 const MOST: usize = 1 << 20;
 
 /// The rows with which a log begins.
@@ -52,6 +53,7 @@ impl LogRows {
         ensures program { plan.new.program ≡ plan.old.program }
         ensures read { IfOk result (λ on. (base : PlanParts) (bytes behind : List ℕ) → IsReadSoFar base plan.old bytes (lines.now ++ behind) self.old → IsReadOn on base plan.new bytes behind self.new) }
     {
+        // The fault of a line isn't told here, so its number may be any.
         let front = read_front(alloc, plan.program(), lines, 0, 0)?;
         if front.rows.len() > MAX_ROWS - self.rows.len() {
             self.is_cut = true;
@@ -111,6 +113,7 @@ impl LogRows {
         }
         let mut line = Vec::from_slice(alloc, last)?;
         line.push(b'\n')?;
+        // Behind the last line nothing is read, wherever it ended.
         let _ = self.add_text(alloc, plan, line.as_slice())?;
         Ok(())
     }

@@ -147,6 +147,7 @@ fn tell_behind(
     ensures stays { OnErr result (plan.new ≡ plan.old) }
     ensures fault { IfErr result (λ f. (t u : List TheRow) → IsFollowerOf plan.old t follower.old → IsLatest u latest → IsInputFault plan.old (t ++ u) entry number f) }
 {
+    // Rows at its own tag may stand before it: only one at a later tag makes it late.
     if is_before_latest(tag_of(entry), latest) {
         return Err(LogFault::LateInput(number));
     }

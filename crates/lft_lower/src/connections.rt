@@ -95,6 +95,7 @@ fn bytes_of_reference(reference: &Reference) -> usize {
 /// How many bytes a delay takes at least, when it is written.
 fn bytes_of_delay(delay: &Option<TimeExpression>) -> usize {
     match delay {
+        // The 6 are the word `after` and a blank.
         Some(time) => bytes_of(time).saturating_add(6),
         None => 0,
     }
@@ -142,6 +143,7 @@ fn push_pairs(
     ensures cause { IfErr result (IfRefused (IsPassed work.now.main)) }
 {
     let right = destinations.len();
+    // A plain connection comes with as many sources as destinations, so it is joined like a broadcast.
     let pairs = joined(sources.len(), right, true);
     for pair in 0..pairs {
         let place = source(sources.len(), right, true, pair);
@@ -150,6 +152,7 @@ fn push_pairs(
         if pair >= sources.len() {
             room.spend(bytes_of_reference(from), work)?;
         }
+        // Each pair has a copy of the delay, and that may be a parameter with a long name.
         room.spend(bytes_of_delay(delay), work)?;
         let connection = connected(alloc, from, to, delay, arrow)?;
         list.push(Member::Connection(connection))?;
@@ -174,6 +177,7 @@ fn push_sides(
 {
     let arrow = within.token(connection.arrow);
     let pairs = joined(sides.left, sides.right, connection.is_broadcast);
+    // A place that is joined with nothing isn't made: one side may be far wider than the other.
     let most = pairs.min(sides.left);
     let sources = some_places(alloc, room, within, &connection.sources, most)?;
     let destinations = some_places(alloc, room, within, &connection.destinations, pairs)?;

@@ -47,6 +47,8 @@ pub(crate) fn needed(alloc: Global, shapes: &[Shape]) -> Result<Vec<usize>, Allo
     ensures { IfOk result (λ counts. counts.items ≡ map needed_in shapes.now) }
 {
     let mut counts = Vec::new(alloc);
+    // Counted once for each reactor: an instance that gives little would
+    // else go through all of its parameters.
     for place in 0..shapes.len() {
         let count = count_needed(&shapes[place]);
         counts.push(count)?;
@@ -60,6 +62,7 @@ fn gives_needed(inner: &Shape, child: &Child, needed: usize) -> bool
     ensures enough { result ≡ true → needed ≤ needed_given inner.now child.now }
 {
     let mut count: usize = 0;
+    // None is given twice, so as many as are needed are all of them.
     for place in 0..child.given.len() {
         if is_needed(inner, child.given[place].parameter) {
             count += 1;
@@ -80,6 +83,7 @@ fn assigned(
     ensures read { OnOk result (IsGiven within.entry.shape.now inner.now given.entry) }
     ensures cause { IfErr result (IfRefused (IsOfGiven within.entry.shape.now within.entry.file inner.now given.entry)) }
 {
+    // No time is read from it, so its value may be of any type, and isn't looked at.
     if !inner.is_timed(given.parameter) {
         return Ok(None);
     }
@@ -155,6 +159,7 @@ fn reactor_of<'n>(maker: Maker<'n, '_>, within: Within, member: usize) -> Result
     };
     match name {
         Some(name) => Ok(name),
+        // This doesn't come: what is in each instance was found when it was counted.
         None => Err(within.settings.work.refused(Why::TooMuch)),
     }
 }
@@ -188,6 +193,7 @@ fn push_each(
 {
     let bytes = reactor.len().saturating_add(bytes_of_given(given));
     for number in 0..members.count() {
+        // Each member of the bank has copies of all this, so a long name and a great width are a product.
         room.spend(bytes, work)?;
         list.push(Member::Instance(Instance {
             name: counted(alloc, room, work, members.at(number))?,
@@ -213,6 +219,7 @@ pub(crate) fn push_instances(
     ensures at { OnOk result (AddsAt list.old.items list.new.items (token_in within.entry instance.now.name.at) (All (λ tokens. tokens ≡ instance_tokens (token_in within.entry) (here within.entry) member instance.now))) }
 {
     let members = within.named(&instance.name, member);
+    // The reactor of such a bank may have no setting, and so no name.
     if members.count() == 0 {
         return Ok(());
     }

@@ -49,6 +49,7 @@ fn note_federated(notes: &mut Notes, files: &[SourceFile], main: &Shape) -> Resu
     ensures known { OnOk result (main.now.class.reactor.now.is_federated ≡ true → decentralized_in files.now ≡ None) }
     ensures cause { IfErr result (IfRefused (λ r. (main.now.class.reactor.now.is_federated ≡ true) × IsDecentralized files.now r)) }
 {
+    // One process has no coordination, whatever its target says of it.
     if !main.class.reactor.is_federated {
         return Ok(());
     }

@@ -27,6 +27,7 @@ fn never(alloc: Global, within: Within) -> Result<String, Stop>
     let shape = within.shape;
     let mut name = String::from_str(alloc, "never")?;
     let names = shape.members.len().saturating_add(shape.parameters.len());
+    // One more try than the reactor has names, so one of them is free.
     for _ in 0..names.saturating_add(1) {
         if shape.find(name.as_str()).is_none() {
             return Ok(name);
@@ -151,6 +152,8 @@ fn add_asleep(
     room.spend(free.len(), &within.settings.work)?;
     list.push(Member::Action(Action {
         name: free.clone()?,
+        // A physical one could have events among the external inputs. A logical one has
+        // those of its schedulings, and no reaction may schedule it.
         is_physical: false,
         min_delay: None,
         at,
@@ -228,6 +231,7 @@ pub(crate) fn push_reaction(
     let triggers = some_triggers(alloc, room, within, reaction, never, list)?;
     let uses = places(alloc, room, within, &reaction.uses)?;
     let effects = effects(alloc, room, within, reaction)?;
+    // It has no name to be counted, and each setting of its reactor has it anew. So it counts as 16 bytes.
     room.spend(16, &within.settings.work)?;
     let at = within.token(reaction.at);
     list.push(Member::Reaction(Reaction {

@@ -129,6 +129,7 @@ fn period(
 {
     match value {
         Some(period) => {
+            // Asked first, as `read_time` would look for a parameter of this name.
             if is_forever(period) {
                 return Ok(None);
             }
@@ -163,6 +164,8 @@ fn lowered_action(alloc: Global, within: Within, action: &WrittenAction) -> Resu
     ensures spacing { OnOk result (is_spaced action.now ≡ false) }
     ensures cause { IfErr result (IfRefused (IsOfAction within.entry.shape.now within.entry.file action.now)) }
 {
+    // A spacing moves or drops events. Those of a physical action come with
+    // the tags that the runtime gave them.
     if let Some(spacing) = &action.spacing
         && !action.is_physical
         && !is_zero(spacing)

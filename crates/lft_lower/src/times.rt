@@ -106,6 +106,7 @@ pub(crate) fn read_time(
     let Some(found) = found else {
         return Err(Stop::at(Why::NoTime, file, value.at));
     };
+    // In the language a parameter of another type never stands for a time.
     if !found.parameter.is_time {
         return Err(Stop::at(Why::NotOfTypeTime, file, value.at));
     }

@@ -38,6 +38,7 @@ fn written_by(alloc: Global, steps: &[Step]) -> Result<BTreeMap<u32, Value>, NoM
 {
     let mut written = BTreeMap::new(alloc);
     for place in 0..steps.len() {
+        // Of several writes of a port the last one counts, and takes the place of those before it.
         if let Some(write) = writing(item_at(steps, place)) {
             let _before = written.insert(write.0, write.1)?;
         }
@@ -64,6 +65,8 @@ fn scheduled_by(
     let mut counts = BTreeMap::new(alloc);
     let mut scheduled = BTreeMap::new(alloc);
     for place in 0..steps.len() {
+        // A run may schedule an action again and again, and each is an event:
+        // so the place among them is in the key.
         if let Some(event) = scheduling(item_at(steps, place)) {
             let count = count_of(&counts, event.0);
             let _before = scheduled.insert((event.0, count), event.1)?;

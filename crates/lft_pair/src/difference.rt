@@ -19,6 +19,7 @@ use std::alloc::Global;
 
 /// What is kept from run to run: where the runs of the second trace start, and room for the steps of
 /// a run of each trace.
+// Lists that are filled anew, so that a run asks for no memory of its own.
 #[derive(Drop)]
 struct Kept {
     starts: LastStarts,
@@ -74,6 +75,7 @@ fn comes_first(graph: &Graph, a: (Tag, u32), b: (Tag, u32)) -> bool
     if !a.0.is_same(b.0) {
         return a.0.is_before(b.0);
     }
+    // By level: at its tag a run can change what those of higher levels read, and nothing that others do.
     let first = graph.level(a.1);
     let second = graph.level(b.1);
     first < second || (first == second && a.1 < b.1)

@@ -12,6 +12,7 @@ use std::alloc::Global;
 
 /// How many rows of a trace are read, and for each reaction the place of its last start among them,
 /// or 0.
+// So the other trace is gone through once: a search for each run would cost runs times rows.
 #[derive(Drop)]
 pub(crate) struct LastStarts {
     pub read: usize,
@@ -35,6 +36,7 @@ pub(crate) fn no_starts(alloc: Global, reactions: usize) -> Result<LastStarts, N
     ensures none_read { IfOk result (λ starts. starts.read ≡ 0) }
     ensures kept { IfOk result (λ starts. (t : List TheRow) → AreLastStarts t starts.read starts.places.items) }
 {
+    // 0 will do for none: who looks up a place asks the row there.
     let places = vec![in alloc; 0; reactions]?;
     Ok(LastStarts { read: 0, places })
 }

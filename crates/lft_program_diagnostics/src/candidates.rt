@@ -49,6 +49,8 @@ impl<'a> Refused<'a> {
     /// The names of the reactors that have a port of that name.
     fn with_port(&self, wanted: &str) -> Result<HashSet<&'a str, NameHash>, NoMemory> {
         let names = reactor_names(self.alloc, self.reactors)?;
+        // A set, as each instance asks for its reactor: a list of these would
+        // cost instances times reactors.
         let mut found = HashSet::with_hasher(self.alloc, NameHash::of(&names));
         for reactor in self.reactors {
             if let Some(name) = &reactor.name {
@@ -91,6 +93,7 @@ impl<'a> Refused<'a> {
         wanted: &str,
         port: &str,
     ) -> Result<Option<&'a str>, NoMemory> {
+        // One without the port wasn't meant, however near its name is.
         let names = self.instances_with(reactor, port)?;
         Ok(nearest(&names, wanted))
     }

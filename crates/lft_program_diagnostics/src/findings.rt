@@ -42,6 +42,7 @@ impl<'a> Refused<'a> {
     ) -> Result<Option<Reason>, NoMemory>
         ensures { IfOk result (λ found. IfSome found (IsOf 7)) }
     {
+        // A finding names what its member has, so this doesn't come.
         let Some(name) = name_at(site.member, role, place) else {
             return Ok(None);
         };

@@ -33,6 +33,7 @@ impl<'a> Refused<'a> {
 
     /// The first reactor of that name.
     pub(crate) fn named(&self, name: &str) -> Option<&'a Reactor> {
+        // One by one: of a refused program this is asked a few times.
         for reactor in self.reactors {
             if let Some(other) = &reactor.name {
                 if other.as_str() == name {

@@ -71,6 +71,7 @@ impl<'a> Refused<'a> {
         let names = [owner.as_str(), wanted];
         let reason = Reason::of(self.alloc, Sentence::UnknownName, &names)?;
         let reason = meant(reason, self.near_declared(site.reactor, wanted)?)?;
+        // A port of an instance may be meant, with the instance left out.
         match self.with_that_port(site.reactor, wanted)? {
             Some(instance) => Ok(reason.ask(instance, Some(wanted))?),
             None => Ok(reason),

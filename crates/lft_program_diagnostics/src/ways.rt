@@ -77,6 +77,7 @@ impl<'a> Refused<'a> {
     fn path(&self, way: &Way, number: usize) -> Result<Vec<&'a str>, NoMemory> {
         let mut names = Vec::new(self.alloc);
         let mut at = number;
+        // None stands deeper than there are instances.
         for _ in 0..way.instances.len() {
             match way.instances.get(at).copied() {
                 // The main instance has no name in another one.
@@ -101,6 +102,7 @@ impl<'a> Refused<'a> {
         number: usize,
         name: &Reference,
     ) -> Result<(), NoMemory> {
+        // The path leads outwards, and a full name begins with `main`.
         for instance in self.path(way, number)?.iter().rev() {
             out.push_str(*instance)?;
             out.push_str(".")?;

@@ -90,6 +90,7 @@ impl<'a> Refused<'a> {
                 out.push_str("..")?;
                 return Ok(out);
             }
+            // A way leads from each port to its source, and is told in the direction of the connections.
             let place = if step <= first {
                 first - step
             } else {
@@ -120,6 +121,7 @@ impl<'a> Refused<'a> {
         ensures { IfOk result (λ found. IfSome found (IsOf 14)) }
     {
         let (mut start, mut end) = (String::new(self.alloc), String::new(self.alloc));
+        // A way leads back from its end, so the chain begins at the last one.
         self.push_start(&mut start, way, way.joins.len().saturating_sub(1))?;
         self.push_end(&mut end, way, 0)?;
         let names = [start.as_str(), end.as_str()];

@@ -87,6 +87,7 @@ impl Queue {
         ensures collision { IfErr result (λ e. e ≡ QueueFault.Collision → IsSome (value_of tag name self.old)) }
     {
         let key = key(tag, name);
+        // Asked first, as `insert` puts a new value in place of one that is there.
         if self.values.contains_key(&key) {
             return Err(QueueFault::Collision);
         }
@@ -139,6 +140,7 @@ impl Queue {
     pub fn names_at(&self, tag: Tag) -> NamesAt<'_>
         ensures { (n : NameOf) → Contains result n ↔ IsSome (value_of tag n self.now) }
     {
+        // No key of the tag is less than that of port 0.
         NamesAt::new(tag, self.values.range(key(tag, Name::Port(0))..))
     }
 

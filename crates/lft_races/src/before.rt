@@ -19,6 +19,7 @@ pub fn rows_before(rows: &[Row], breach: Breach) -> usize
     if breach.row > 0 {
         return breach.row as usize - 2;
     }
+    // A breach without a row is one of a whole tag, so the rows at that tag stand before it.
     for place in 0..rows.len() {
         if breach.tag.is_before(row_at(rows, place).tag) {
             return place;

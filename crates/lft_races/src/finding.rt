@@ -34,6 +34,7 @@ fn is_race(
     if !is_start(&row.step) {
         return false;
     }
+    // By words of 64 reactions: one by one, all that precedes it might be asked at each start.
     ancestors.of(row.reaction).meets(unfinished)
 }
 

@@ -28,6 +28,8 @@ fn note_end(rows: &[Row], slice: Slice, place: usize, ends: &mut [u32])
         return;
     }
     let noted = item_at(ends, row.reaction as usize);
+    // A place up to the first row of the slice is of an earlier tag. So the
+    // list isn't cleared for each tag.
     if slice.first < noted as usize {
         return;
     }

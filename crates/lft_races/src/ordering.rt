@@ -96,6 +96,8 @@ pub fn open_start(rows: &[Row], place: u32, worker: u32) -> u32
     requires open { (g : TheTag) × (r : ℕ) × IsOpen rows.now place worker g r }
     ensures { IsOpenSince rows.now place worker result }
 {
+    // This costs the rows, and not their square: where rule 3 holds, runs
+    // of a worker don't overlap. Each is gone over to its end alone.
     for start in 0..place {
         if is_open_since(rows, start, place, worker) {
             return start;

@@ -24,6 +24,7 @@ pub fn start_of(rows: &[Row], tag: Tag, reaction: u32) -> u32
     requires ran { Ran rows.now tag reaction }
     ensures { StartsAt rows.now tag reaction result }
 {
+    // From the first row on: this is asked once or twice for a breach, so no list is kept for it.
     for place in 0..rows.len() {
         if is_start_at(rows, tag, reaction, place) {
             return place as u32;

@@ -105,6 +105,7 @@ fn push_hops(
     requires { IsRecorded tag }
     ensures { OnOk result (string_bytes text.new ≡ string_bytes text.old ++ told_back (hop_words program.now tag) ports.now) }
 {
+    // They are listed from the port back, and told from the origin on.
     let mut left = ports.len();
     while left > 0 {
         left -= 1;

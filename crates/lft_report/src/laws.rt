@@ -8,5 +8,6 @@ use lft_model::Plan;
 pub fn law_race(plan: &Plan)
     ensures { RaceLaw plan.now }
 {
+    // Asked for what every plan keeps.
     plan.keeps();
 }

@@ -95,6 +95,7 @@ fn widen(alloc: Global, program: &Program, widths: Widths, fact: Fact) -> Result
 fn widest(alloc: Global, program: &Program, facts: &[Fact]) -> Result<Widths, AllocError>
     ensures { IfOk result (λ w. w ≡ widths_of program.now facts.now) }
 {
+    // As wide as the words over the columns: `input`, `read`, `present`.
     let mut widths = Widths {
         name: 5,
         read: 4,

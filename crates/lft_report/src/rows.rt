@@ -191,7 +191,9 @@ fn push_unended(
     ensures { OnOk result (string_bytes text.new ≡ string_bytes text.old ++ unended_words program.now rows.now row) }
 {
     push_starts(text, program, rows, row)?;
+    // In a log its end may stand further on. So it isn't said that it has none.
     text.push_str(", and no row up to line ")?;
+    // The last row stands in the line of this number, as line 1 has the header.
     push_number(text, rows.len() as u64 + 1)?;
     text.push_str(" ends it.\n")?;
     Ok(())

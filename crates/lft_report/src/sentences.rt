@@ -60,6 +60,7 @@ fn push_clash(text: &mut String, program: &Program, cause: Cause) -> Result<(), 
         Cause::Written { tag, port, .. } => push_port_more(text, program, tag, port),
         Cause::Scheduled { tag, action, .. } => push_action_more(text, program, tag, action),
         Cause::Given { tag, action, .. } => push_action_more(text, program, tag, action),
+        // No clash has such a cause: ports and actions alone have events.
         Cause::AtStartup { .. } | Cause::AtShutdown { .. } | Cause::Fires { .. } => Ok(()),
     }
 }

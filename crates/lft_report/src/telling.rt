@@ -31,6 +31,7 @@ fn push_fact(
     ensures { OnOk result (string_bytes text.new ≡ string_bytes text.old ++ fact_words program.now rows.now fact) }
 {
     match fact {
+        // The sentence, the table and the quoted rows tell these.
         Fact::RowIs { .. }
         | Fact::Row(_)
         | Fact::NoRun { .. }

@@ -29,6 +29,7 @@ pub(crate) fn push_arrow(text: &mut String, delay: Option<u64>) -> Result<(), Al
 {
     match delay {
         None => text.push_str(" --> ")?,
+        // `after 0` has an arrow with a delay of 0, as it takes a microstep.
         Some(delay) => {
             text.push_str(" --")?;
             push_time(text, delay)?;
@@ -102,6 +103,7 @@ fn push_side(text: &mut String, tag: Tag, other: Tag) -> Result<(), AllocError>
     } else if other.micro < tag.micro {
         text.push_str("before")?;
     } else {
+        // It is never at the tag itself: there the trigger is absent.
         text.push_str("after")?;
     }
     Ok(())

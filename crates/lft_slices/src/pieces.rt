@@ -44,6 +44,8 @@ fn keep_ends(rows: &[Row], slice: Slice, ends: &mut Vec<u32>)
     for place in slice.first..slice.end {
         let row = row_at(rows, place);
         if is_end(&row.step) {
+            // What an earlier tag left isn't cleared, which would cost all reactions at each
+            // tag. A run that starts in the slice ends in it, so its place is put over it.
             ends[row.reaction as usize] = place as u32;
         }
     }
@@ -99,6 +101,7 @@ fn find_runs(
     keep_ends(rows, slice, ends);
     found.clear();
     add_starts(rows, slice, ends.as_slice(), found)?;
+    // Unstable will do: by rule 3 no two runs at a tag are of one reaction.
     found.sort_unstable();
     Ok(())
 }

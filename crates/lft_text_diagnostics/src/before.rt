@@ -138,6 +138,7 @@ impl<'a> Before<'a> {
     ) -> Result<Option<&'static str>, NoMemory>
         requires lexed { AreTokens self.now }
     {
+        // The first value is one token, as `0`, or two, as `1 ms`.
         let is_delayed = self.is(2, "(") && self.is(4, "action")
             || self.is(3, "(") && self.is(5, "action");
         if kind == TokenKind::Symbol(b',') && is_delayed {

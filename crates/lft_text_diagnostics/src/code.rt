@@ -33,6 +33,7 @@ fn stands_at(text: &[u8], bytes: &[u8], place: usize) -> bool
 fn holds(text: &[u8], bytes: &[u8]) -> bool
     ensures { IsTrue result ↔ StandsIn text.now bytes.now }
 {
+    // It is asked for one short word, so it costs as much as the text.
     for start in 0..text.len() {
         if stands_at(text, bytes, start) {
             return true;

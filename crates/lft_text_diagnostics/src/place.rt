@@ -68,6 +68,7 @@ pub fn place_of(text: &[u8], at: usize) -> Place
     requires { at ≤ length text.now }
     ensures { IsPlace text.now at result }
 {
+    // Counted from the start of the text: this is asked of few bytes, and of refused texts alone.
     let start = line_start(text, at);
     Place {
         line: line_feeds(&text[..at]) + 1,

@@ -154,10 +154,12 @@ fn push_help_at_token(
         Some(way) => Some(way),
         None => before.way_of_last()?,
     };
+    // The tokens before it tell more than its spelling alone.
     let better = before.way(kind, spelling)?;
     if way.is_some() {
         return push_way(out, better.or(way));
     }
+    // Asked only now: the parser tries each of some twenty things.
     let found = candidates(before)?;
     push_candidates(out, &found)?;
     push_way(out, better.or(of_candidates(kind, before, &found)))?;

@@ -31,6 +31,7 @@ fn push_quoted(alloc: Global, out: &mut String, number: usize, line: &[u8]) -> R
     ensures { OnOk result (string_bytes out.new ≡ string_bytes out.old ++ (margin number ++ quoted (trimmed line.now))) }
 {
     push_margin(out, number)?;
+    // Without blanks at its end, such as the carriage return of CR LF.
     push_bytes(alloc, out, line.trim_ascii_end())
 }
 

@@ -53,6 +53,7 @@ impl Thing {
             Thing::Equals => Seen::Symbol(b'='),
             Thing::Point => Seen::Symbol(b'.'),
             Thing::Arrow => Seen::Arrow,
+            // Where this word can begin a member the others can too.
             Thing::Member => Seen::Letters(b"timer"),
             Thing::Reactor => Seen::Letters(b"reactor"),
             Thing::Action => Seen::Letters(b"action"),

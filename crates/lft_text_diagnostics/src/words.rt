@@ -72,6 +72,7 @@ pub fn quoted_text(alloc: Global, bytes: &[u8]) -> Result<String, NoMemory>
 fn push_blank(out: &mut String, byte: u8) -> Result<(), NoMemory>
     ensures { OnOk result (string_bytes out.new ≡ string_bytes out.old ++ blank_below byte) }
 {
+    // A tab is as wide below as above, whatever a terminal makes of it.
     if byte == b'\t' {
         out.push_str("\t")?;
     } else if begins_letter(byte) {

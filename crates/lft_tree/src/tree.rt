@@ -118,6 +118,7 @@ pub struct Instance {
 }
 
 /// Connections of sources to destinations, joined in order. The arrow between them is the token `arrow`.
+// Two lists, and no list of pairs: where their lengths differ the text has a tree, and its program is refused.
 #[derive(Debug, Drop)]
 pub struct Connection {
     pub sources: Vec<Reference>,

@@ -12,6 +12,7 @@ use lft_syntax::{digits_end, is_digit, is_letter, line_end, word_end};
 fn is_gap(byte: u8) -> bool
     ensures { result ≡ is_gap byte }
 {
+    // No semicolon, which is white space in core texts: here it may end a reaction without code.
     byte == b' ' || byte == b'\t' || byte == b'\r' || byte == b'\n' || byte == 12
 }
 

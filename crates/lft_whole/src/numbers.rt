@@ -71,6 +71,8 @@ fn number(text: &[u8], from: usize, end: usize, base: u64) -> u64
     let mut number: u64 = 0;
     for at in from..end {
         let digit = hexadecimal(text[at]);
+        // Asked before the product, which could overflow. A number this long
+        // isn't refused here: each use of one has a limit.
         if number > (u64::MAX - digit) / base {
             return u64::MAX;
         }

@@ -50,6 +50,7 @@ pub fn past_string(text: &[u8], from: usize) -> Option<usize>
         if is_free(is_escaped, is_quote) {
             return Some(at + 1);
         }
+        // Kept from byte to byte: a look at the byte before wouldn't tell whether that is escaped itself.
         is_escaped = is_free(is_escaped, is_backslash);
     }
     None
@@ -109,6 +110,7 @@ fn past_character(text: &[u8], at: usize) -> Option<usize>
             None
         };
     }
+    // An apostrophe in a remark begins no character. So one byte stands between two quotes, and no more.
     let is_closed = stands(text, at + 1, b'\'');
     let is_line_end = stands(text, at + 1, b'\n');
     if is_closed || is_line_end || !stands(text, at + 2, b'\'') {
@@ -127,6 +129,7 @@ fn past_one(text: &[u8], at: usize, quoteless: usize) -> (usize, usize)
     ensures nothing { QuoteNothing text.now (at + 1) result.1 }
 {
     if stands(text, at, b'"') {
+        // Without this a line of escaped quotes would be gone over once for each: the square of its length.
         if at < quoteless {
             return (at + 1, quoteless);
         }

@@ -37,6 +37,7 @@ pub enum Value {
     /// Code between `{=` and `=}`.
     Code,
     /// A string, a decimal number, a list, a word with points.
+    // None of these is a width or a time, so no more of it is kept.
     Other,
 }
 

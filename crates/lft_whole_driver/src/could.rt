@@ -163,6 +163,7 @@ impl Front<'_> {
         ensures { IfOk result (λ yes. yes ≡ true → CanStand self.entry.text.now self.entry.token thing) }
     {
         let mut text = Vec::from_slice(self.alloc, self.text)?;
+        // A blank, so that the thing doesn't go on with the last token of the front.
         text.push(b' ')?;
         text.extend_from_slice(thing.spelling.as_bytes())?;
         is_read_past(self.alloc, &text, self.token)
@@ -185,6 +186,7 @@ impl Front<'_> {
         requires { All (CanStand self.text.now self.token) found.old.items }
         ensures { OnOk result (All (CanStand self.entry.text.now self.entry.token) found.new.items) }
     {
+        // A try reads the front anew. There are at most 25 of them, however long it is.
         for place in 0..things.len() {
             self.try_thing(found, things[place])?;
         }

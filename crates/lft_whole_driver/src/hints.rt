@@ -90,6 +90,8 @@ impl<'a> Hint<'a> {
     /// The instances that have a port of this name.
     fn with_port(self, declared: &[Declared<'a>], port: &str) -> Result<Vec<&'a str>, NoMemory> {
         let mut found = Vec::new(self.names.alloc);
+        // Each instance may be of a reactor with many names, two lengths that a
+        // text chooses. So what is compared has a limit.
         let mut left = MOST_COMPARED;
         for one in declared {
             if let Some(instance) = one.instance
@@ -199,6 +201,7 @@ impl<'a> Hint<'a> {
     /// What helps where code reaches too far, so that a reactor is in it.
     fn way_of_code(self) -> Result<Option<&'static str>, NoMemory> {
         let Ok(tokens) = lex(self.names.alloc, &self.file.text) else {
+            // The file has a tree, so it has tokens, and only memory can be refused.
             return Err(NoMemory);
         };
         let mut list = Vec::new(self.names.alloc);
@@ -269,6 +272,7 @@ impl<'a> Hint<'a> {
         };
         let way = self.names.way(inner, around)?;
         let mut outer = around;
+        // The way comes from its end back, and is told from the instance at the place on.
         for site in way.iter().rev() {
             push_link(out, outer.name(), site.name())?;
             outer = *site;

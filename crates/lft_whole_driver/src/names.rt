@@ -8,6 +8,8 @@ use lft_whole::{Import, Instance, Member, Name, Parameter, Reactor};
 use std::alloc::Global;
 
 /// Of a reactor with more bases the others aren't looked at.
+// A refused program has no tables of names: each is looked for one by
+// one, for a hint alone. So there are limits.
 const MOST_BASES: usize = 16;
 
 /// Where more reactors contain one another the others aren't looked at.
@@ -249,6 +251,7 @@ impl<'a> Names<'a> {
             return Ok(());
         };
         let declared = self.declared(step.site)?;
+        // Each look-up costs as much as its file has reactors, so in a large file there are fewer.
         for place in 0..MOST_COMPARED / self.cost(step.site.file) {
             let Some(one) = declared.get(place).copied() else {
                 return Ok(());
@@ -270,6 +273,7 @@ impl<'a> Names<'a> {
             site: first,
             outer: usize::MAX,
         })?;
+        // In the order in which they are found, so the way that is told is a shortest one.
         for place in 0..MOST_INNER {
             match steps.get(place).copied() {
                 Some(step) if step.site.is(second) => {

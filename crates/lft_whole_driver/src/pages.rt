@@ -70,17 +70,20 @@ impl Joined {
         ensures { OnOk result (JoinsFile file.now self.old self.new) }
     {
         let Ok(tokens) = lex(alloc, &file.text) else {
+            // The text had tokens before, so only memory can be refused.
             return Err(NoMemory);
         };
         let start = self.text.len();
         self.text.extend_from_slice(&file.text)?;
         let end = self.text.len();
         push_tokens(&mut self.tokens, &file.text, &tokens, start)?;
+        // The numbers of tokens among all files count the end of each.
         self.tokens.push(Token {
             kind: TokenKind::Name,
             start: end,
             end,
         })?;
+        // Else a file would begin where the one before it ends, and its first byte would count as that end.
         self.text.push(b'\n')?;
         let path = shown_path(alloc, file.path.as_str())?;
         self.pages.push(Page { path, start, end })?;

@@ -14,10 +14,12 @@ use std::alloc::{AllocError, Global};
 use std::rt::Files;
 
 /// How many bytes all imported files may have together.
+// A byte that is read may take thirty in memory, and many paths may lead to one file.
 const MOST_IMPORTED: u64 = 1 << 26;
 
 /// Why an imported file isn't read.
 fn cause_of(failure: &Failure) -> &'static str {
+    // The limit is of all imported files, of which `read_ordinary` doesn't know.
     if failure.fault.name == "TooLarge" {
         return "with it the imported files have more than 64 MiB";
     }
@@ -74,6 +76,7 @@ fn read_wanted<F: Files>(
         Err(failure) if is_of_memory(&failure) => Err(Unlowered::from(failure)),
         Err(failure) => match sources.import() {
             Some(place) => Err(unread(alloc, sources, path, place, &failure)),
+            // The program itself isn't read here, so this doesn't come.
             None => Err(Unlowered::from(failure)),
         },
     }
@@ -101,6 +104,7 @@ fn read_rest<F: Files>(rt: &F, alloc: Global, sources: &mut Sources) -> Result<(
     ensures first { OnOk result (BeginsAs sources.old.files.items sources.new.files.items) }
     ensures refused { IfErr result (Says (IsOfRest sources.old.files.items)) }
 {
+    // One limit for all of them, as a program may import any number.
     let mut left = MOST_IMPORTED;
     for _ in 0..u64::MAX {
         let Some(path) = sources.wanted() else {

@@ -110,6 +110,8 @@ fn fault_of(refusal: Refusal, words: String) -> Fault
 /// The bytes of a token of a file, or its end. Of a text without tokens the byte that shows it.
 fn spot_in(alloc: Global, file: &SourceFile, token: usize) -> Result<Spot, NoMemory> {
     let end = file.text.len();
+    // Read into tokens once more: a file keeps lines and columns, no bytes,
+    // and a refused one alone is asked for these.
     match lex(alloc, &file.text) {
         Ok(tokens) => match tokens.as_slice().get(token) {
             Some(token) => Ok(Spot {
@@ -253,6 +255,7 @@ fn rest_of(alloc: Global, files: &[SourceFile], refusal: Refusal) -> Result<Stri
         return Ok(out);
     }
     let Ok(tokens) = lex(alloc, &file.text) else {
+        // The cause is none of a text without tokens, so only memory can be refused.
         return Err(NoMemory);
     };
     let hint = Hint {

@@ -63,6 +63,7 @@ fn arrow(input: &Input, at: usize) -> Result<(bool, usize), TreeFault>
     ensures ok { IfOk result (λ x. Further input.now at x.1) }
     ensures err { IfErr result (Refuses input.now) }
 {
+    // Read here, and refused where it is lowered: a reactor that no program uses may have one.
     if is_tilde_arrow(input, at) {
         return Ok((true, at + 1));
     }
@@ -95,6 +96,7 @@ fn past_serializer(input: &Input, at: usize) -> usize
     ensures gives { Grammar.serializer (source input.now) at ≡ Ok (tt, result) }
     ensures inside { NotBefore input.now at result }
 {
+    // How values are sent changes no tag.
     if is_key(input, at, b"serializer") {
         past_any(input, at + 1)
     } else {

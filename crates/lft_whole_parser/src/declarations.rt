@@ -161,6 +161,7 @@ pub fn method(input: &Input, at: usize) -> Result<usize, TreeFault>
     ensures ok { IfOk result (Further input.now at) }
     ensures err { IfErr result (Refuses input.now) }
 {
+    // It is code that reactions share, which touches states alone. So nothing of it is kept.
     let word = past_key(input, at, b"const");
     let first = key(input, word, b"method")?;
     let opening = skip_name(input, first)?;

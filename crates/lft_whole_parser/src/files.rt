@@ -28,6 +28,7 @@ fn imported_name(input: &Input, at: usize) -> Result<(ImportedName, usize), Tree
     let (alias, end) = if is_key(input, behind, b"as") {
         name(input, behind + 1)?
     } else {
+        // Read once more: the name and the alias each own their letters.
         name(input, at)?
     };
     Ok((ImportedName { name: first, alias }, end))
@@ -64,6 +65,7 @@ fn unquoted(input: &Input, at: usize) -> Result<Vec<u8>, TreeFault>
         return Ok(path);
     };
     let bytes = &input.text[token.start..token.end];
+    // A string has both its quotes, so this doesn't come.
     if bytes.len() < 2 {
         return Ok(path);
     }
@@ -148,6 +150,7 @@ fn timeouts(input: &Input, first: usize, end: usize) -> Result<Vec<Timeout>, Tre
     ensures err { IfErr result (Refuses input.now) }
 {
     let mut timeouts = Vec::new(input.alloc);
+    // At any depth of the properties: only a note comes of it, so no grammar of targets is needed.
     for at in first..end {
         let found = timeout(input, at, end);
         push_found(&mut timeouts, found)?;

@@ -75,6 +75,7 @@ fn is_of_host(input: &Input, at: usize) -> bool
     ensures is { result ≡ Grammar.on_host (source input.now) at }
     ensures inside { result ≡ true → at < count input.now }
 {
+    // A host, as `user@10.0.0.1:22`, is many tokens here. The brace or semicolon behind it may touch it.
     is_joined(input, at) && !is_symbol(input, at, b'{') && !is_symbol(input, at, b';')
 }
 

@@ -23,6 +23,7 @@ fn attribute(input: &Input, at: usize) -> Result<(bool, usize), TreeFault>
     ensures err { IfErr result (Refuses input.now) }
 {
     let name_at = symbol(input, at, b'@')?;
+    // Of all attributes this one alone is told of: an enclave goes on by tags of its own.
     let is_enclave = is_key(input, name_at, b"enclave");
     let behind = word(input, name_at)?;
     let end = past_group(input, behind, b'(', b')')?;
@@ -97,6 +98,7 @@ fn mode(input: &Input, at: usize) -> Result<usize, TreeFault>
     } else {
         skip_name(input, own)?
     };
+    // What stands in it isn't read: no reactor with a mode is lowered.
     group(input, opening, b'{', b'}')
 }
 
@@ -108,6 +110,7 @@ fn foreign(input: &Input, at: usize) -> Result<(Member, usize), TreeFault>
     ensures ok { IfOk result (λ x. Further input.now at x.1) }
     ensures err { IfErr result (Refuses input.now) }
 {
+    // They are read, and refused only in a reactor that the program uses.
     if is_key(input, at, b"mutation") {
         let (_, end) = reaction(input, at, b"mutation")?;
         let what = Foreign::Mutation;
@@ -202,6 +205,7 @@ fn is_skipped(input: &Input, at: usize) -> bool
     ensures inside { result ≡ true → at < count input.now }
 {
     let is_code = is_preamble(input, at) || is_state(input, at) || is_method(input, at);
+    // `reset`, `const` and `method` aren't reserved: an instance or a port may be called so.
     is_code && !(is_connection(input, at) || is_instance(input, at))
 }
 

@@ -121,6 +121,7 @@ fn is_use(input: &Input, at: usize) -> bool
     ensures is { result ≡ Grammar.on_use (source input.now) at }
     ensures inside { result ≡ true → at < count input.now }
 {
+    // Code may be left out. Then the word behind the triggers may begin the next member.
     let is_other = is_declaring(input, at) || is_coded(input, at) || is_handler(input, at);
     is_word(input, at) && !is_other && !is_symbol(input, at + 1, b'=')
 }
@@ -172,6 +173,8 @@ fn past_handlers(input: &Input, at: usize) -> Result<usize, TreeFault>
     ensures ok { IfOk result (NotBefore input.now at) }
     ensures err { IfErr result (Refuses input.now) }
 {
+    // A deadline's runs in place of the reaction, at its tag and with its
+    // effects. The others run in federations alone. So none is kept.
     let mut next = at;
     'handlers: while is_handler(input, next) {
         next = handler(input, next)?;

@@ -225,6 +225,7 @@ fn own_name(input: &Input, at: usize) -> Result<(Option<Name>, usize), TreeFault
     ensures ok { IfOk result (λ x. NotBefore input.now at x.1) }
     ensures err { IfErr result (Refuses input.now) }
 {
+    // A main reactor may have no name. Then one of these words may stand in its place.
     let is_name = is_word(input, at) && !is_key(input, at, b"at") && !is_key(input, at, b"extends");
     if !is_name {
         return Ok((None, at));

@@ -117,6 +117,7 @@ fn follow_reader<R: Read, W: Write>(
         Err(failure) => end_failed(rt, alloc, failure),
     };
     if words.drain {
+        // What is told is told: nothing changes where the reader fails behind it.
         let _ = drain(alloc, reader);
     }
     status

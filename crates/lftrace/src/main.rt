@@ -124,6 +124,7 @@ fn explain_bundle<T: Threads + Sync, R: Read, W: Write>(
 ) -> Result<bool, Failure> {
     let text = read_input(alloc, "-", reader)?;
     let answer = explain_bundle_answer(rt, alloc, text.as_slice(), all, out);
+    // A bundle has no path for imports, so its program is core, and nothing is said of `--lower`.
     if let Err(fault) = &answer
         && is_known(fault)
         && let Ok(Some(told)) = refusal_of_bundle(alloc, text.as_slice())
@@ -198,6 +199,8 @@ fn words_for(job: Job<'_>, answer: &Result<bool, Failure>) -> Option<&'static st
 
 /// Says something at a terminal.
 pub(crate) fn say(rt: &HostRuntime, words: Option<&'static str>) {
+    // At a terminal alone: scripts read the line of a fault on standard
+    // error, and nothing else is to stand there.
     if let Some(words) = words
         && rt.stderr().is_terminal()
     {
@@ -221,6 +224,7 @@ pub(crate) fn end(rt: &HostRuntime, alloc: Global, answer: Result<bool, Failure>
     match BufWriter::new(alloc, rt.stderr()) {
         Ok(mut errors) => {
             let status = finish(answer, &mut errors);
+            // As in `finish`: a failure here has nowhere to be told.
             let _ = errors.flush();
             status
         }
@@ -245,6 +249,7 @@ fn answer_of<R: Files + Threads + Sync, W: Write>(
 fn refusal_words(alloc: Global, error: &clap::Error) -> Result<String, NoMemory> {
     let text = format!(in alloc; "{error}")?;
     let mut words = String::new(alloc);
+    // Line by line, as what quotes a text replaces the ends of lines too.
     for line in text.lines() {
         push_bytes(alloc, &mut words, line.as_bytes())?;
         words.push_str("\n")?;
@@ -282,6 +287,7 @@ fn main(rt: HostRuntime) -> ExitCode {
             return ExitCode::from(2);
         }
         Err(error) => {
+            // The help or the version, which were asked for.
             let printed = error.print(&rt);
             return ExitCode::from(if printed.is_err() { 2 } else { 0 });
         }

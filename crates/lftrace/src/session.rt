@@ -19,6 +19,7 @@ use std::rt::Files;
 use std::thread::Threads;
 
 /// A trace of fewer bytes is judged by one worker: of it a thread costs more than it brings.
+// Calls of the library have limits of their own: this one holds of all that a command does.
 const SHORT: usize = 1 << 20;
 
 /// How many of so many workers judge traces of so many bytes.
@@ -28,11 +29,13 @@ fn workers_for(workers: u32, bytes: usize) -> u32 {
 
 /// Whether a text can be told of: of one that was refused for want of memory nothing is known.
 pub(crate) fn is_known(fault: &Fault) -> bool {
+    // By its name: want of memory is a fault of several parts.
     fault.name != "NoMemory"
 }
 
 /// Whether a text of this fault isn't core.
 fn is_no_core(fault: &Fault) -> bool {
+    // A text that has a core tree is core, also where its program is refused.
     matches!(fault.part, Part::Lex | Part::Syntax) && is_known(fault)
 }
 
@@ -103,6 +106,7 @@ impl<'w, F: Files, W: Write> Session<'w, F, W> {
         words: ProgramWords<'_>,
         text: &[u8],
     ) -> Result<Whole, Failure> {
+        // A core text is taken as one with `--lower` too, so that scripts may always write the flag.
         match read_program(self.alloc, text) {
             Ok(program) => Ok(Whole {
                 program,

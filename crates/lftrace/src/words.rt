@@ -345,6 +345,7 @@ fn root_command<'a>(alloc: Global) -> Result<Command<'a>, Error> {
 
 /// The text of a word that the command line must have.
 fn text<'a>(matches: &ArgMatches<'a>, id: &str) -> &'a str {
+    // A command line without the word is refused before, so the empty text doesn't come.
     matches.get_str(id).unwrap_or("")
 }
 
@@ -432,6 +433,7 @@ fn follow_until(words: JudgeWords<'_>, until: Tag, explain: bool, all: bool) -> 
 /// What the words of `judge` ask for.
 fn judge_job<'a>(alloc: Global, matches: &ArgMatches<'a>) -> Result<Job<'a>, Error> {
     let words = judge_words(matches);
+    // Made once more, for an error that names it: reading the words took the other one.
     let command = judge_command(alloc)?.bin_name("lftrace judge")?;
     match until(command, matches)? {
         Some(until) => Ok(follow_until(words, until, false, false)),

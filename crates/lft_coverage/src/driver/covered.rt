@@ -93,6 +93,7 @@ pub(crate) fn cover_table<R: Threads + Sync>(
     ensures refused { IfErr result (λ f. CheckRefusal workers f ⊎ IsUnread plan.now trace.now f) }
 {
     let program = plan.program();
+    // A number out of range is a fault of the checker, and those of the table come before it.
     if is_workers(workers) {
         if let Some((counts, cover)) = covers_text(alloc, plan, trace) {
             return Ok(Covered::Accepted {

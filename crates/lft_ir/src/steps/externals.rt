@@ -21,6 +21,7 @@ pub struct Event {
 
 /// The stop tag, and the events in ascending order of tag and action, each pair once: a map from
 /// (tag, action) to value.
+// A list and no map: it takes 32 bytes an event, and most events are told in their order.
 #[derive(Debug, Drop)]
 pub struct Externals {
     stop: Tag,

@@ -12,6 +12,7 @@ use std::alloc::AllocError;
 fn push_line_number(text: &mut String, place: u32) -> Result<(), AllocError>
     ensures { OnOk result (string_bytes text.new ≡ string_bytes text.old ++ decimal (place + 2)) }
 {
+    // Line 1 has the header, and places count from 0.
     push_number(text, u64::from(place) + 2)
 }
 

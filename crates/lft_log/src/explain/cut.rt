@@ -14,6 +14,7 @@ fn end_behind(breach: Breach, place: usize) -> usize
     requires { place < 18446744073709551615 }
     ensures { IsEndBehind breach place result }
 {
+    // That a run has no end is sure once a later tag has begun, and the row of that shows it.
     if breach.rule == 5 { place + 1 } else { place }
 }
 
@@ -30,6 +31,7 @@ fn end_of_cut(rows: &[Row], breach: Breach) -> Option<usize>
             None
         };
     }
+    // From the row behind its own on. A breach of a whole tag has the line 0: then from the first row on.
     for place in line.saturating_sub(1)..rows.len() {
         if breach.tag.is_before(row_at(rows, place).tag) {
             return Some(end_behind(breach, place));

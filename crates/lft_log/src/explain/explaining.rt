@@ -183,6 +183,7 @@ fn text_behind(
     match ended.told {
         Final::Soon(Told::Broken(found)) => reasons_of_kept(alloc, plan, kept, found, false, all),
         Final::AtEnd(Ending::Broken(found)) => reasons_of_kept(alloc, plan, kept, found, true, all),
+        // So a run that hangs is named.
         Final::AtEnd(Ending::Unbroken(_)) => {
             let text = lines_of_open(alloc, plan, ended.still_open)?;
             Ok(text)

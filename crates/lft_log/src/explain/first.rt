@@ -51,6 +51,7 @@ pub(crate) fn is_first_so_far(
     requires fit { RowsFit plan.now.program rows.now }
     ensures { IfOk result (λ is. IsTrue is ↔ FirstSoFar plan.now rows.now breach) }
 {
+    // Not by the checker: behind these rows runs are open yet, which it would take for a breach of rule 5.
     if breach.rule < 5 {
         let early = first_early(alloc, plan, rows.as_slice())?;
         return match early {

@@ -25,6 +25,7 @@ use std::alloc::{AllocError, Global};
 use std::io::{ErrorKind, Read, Write};
 
 /// So many bytes are read at once at most.
+// At most as many as a line may have. So only the first line of a piece can be too long.
 const CHUNK: usize = 1 << 18;
 
 /// How a table is followed.
@@ -209,6 +210,7 @@ fn read_log<R: Read, E: Write>(
     let Ok(mut log) = Log::new(alloc, plan, following.until) else {
         return Err(Fault::no_memory());
     };
+    // The bound is for the proof that the loop ends, and no run comes near it.
     for _ in 0..u64::MAX {
         match reader.read(chunk) {
             Ok(0) => {

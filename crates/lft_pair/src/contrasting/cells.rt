@@ -104,6 +104,7 @@ fn push_first(text: &mut String, contrast: Contrast) -> Result<(), AllocError>
 pub(crate) fn push_second(text: &mut String, contrast: Contrast) -> Result<(), AllocError>
     ensures { OnOk result (string_bytes text.new ≡ string_bytes text.old ++ second_words contrast) }
 {
+    // The last column isn't padded, so it needs no text of its own.
     match contrast {
         Contrast::Written { second, .. } => push_write(text, second),
         Contrast::Scheduled { second, .. } => push_scheduling(text, second),

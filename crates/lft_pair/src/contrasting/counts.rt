@@ -49,6 +49,7 @@ fn starts_earlier(program: &Program, row: Row, tag: Tag, reaction: u32) -> bool
     {
         return false;
     }
+    // At one tag the reactions of an instance run in the order of their numbers, which is that of the text.
     row.tag.is_before(tag) || (row.tag.is_same(tag) && row.reaction < reaction)
 }
 

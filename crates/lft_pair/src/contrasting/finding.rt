@@ -65,6 +65,7 @@ fn add_reasons(
     told.push(Contrast::Starts { first, second })?;
     add_reads(told, alloc, plan, rows, others, tag, reaction, first)?;
     let program = plan.program();
+    // Up to these runs both traces have the same, so those of the first are counted.
     told.push(Contrast::Earlier {
         instance: instance_of(program, reaction),
         count: count_earlier(program, rows, tag, reaction),

@@ -52,6 +52,7 @@ pub(crate) fn add_reads(
     ensures holds { OnOk result (Adds plan.now rows.now others.now tag reaction told.old.items told.new.items) }
     ensures all { OnOk result (TellsReads plan.now reaction told.new.items) }
 {
+    // Both runs read the same, so the first trace tells of both.
     let reads = read_from(alloc, plan, rows, tag, reaction, start)?;
     let read = reads.as_slice();
     let inputs = plan.program().reaction(reaction).inputs(alloc)?;

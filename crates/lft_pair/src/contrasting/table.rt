@@ -36,6 +36,7 @@ fn effect_width(
 ) -> Result<usize, AllocError>
     ensures { IfOk result (λ width. width ≡ widest (effect_words program.now) 6 contrasts.now) }
 {
+    // As wide as the word over the column, `effect`.
     let mut width = 6;
     for place in 0..contrasts.len() {
         let cell = effect_cell(alloc, program, item_at(contrasts, place))?;
@@ -48,6 +49,7 @@ fn effect_width(
 fn first_width(alloc: Global, contrasts: &[Contrast]) -> Result<usize, AllocError>
     ensures { IfOk result (λ width. width ≡ widest first_words 5 contrasts.now) }
 {
+    // As wide as the word over the column, `first`.
     let mut width = 5;
     for place in 0..contrasts.len() {
         let cell = first_cell(alloc, item_at(contrasts, place))?;

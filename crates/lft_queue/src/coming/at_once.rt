@@ -11,5 +11,6 @@ pub fn is_undelayed(program: &Program, number: u32) -> bool
     ensures { result ≡ is_reached program.now number }
 {
     let shift = program.port(number).shift;
+    // `after 0` is a delay too, of one microstep.
     shift.time == 0 && shift.steps == 0
 }

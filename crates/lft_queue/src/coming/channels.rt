@@ -22,6 +22,7 @@ use lft_tag::{NoMemory, Tag};
 use std::alloc::Global;
 
 /// For each port, as an origin, the ports of it that some reaction reads.
+// A port that no reaction reads isn't among them: its events would wait for nobody.
 #[derive(Drop)]
 pub struct Channels {
     /// Those that are reached without a delay.
@@ -116,6 +117,7 @@ fn carry(
 {
     for place in 0..targets.len() {
         let target = item_at(targets, place);
+        // The list has no others. Asked here, it needs no clause that says so.
         if is_behind(program, origin, target) {
             let arrives = tag.plus(program.port(target).shift);
             if !coming.put_until(last, arrives, Name::Port(target), value) {

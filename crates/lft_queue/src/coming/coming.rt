@@ -22,6 +22,7 @@ pub struct Coming {
     /// So many events may be in the queue at once.
     most: usize,
     /// The place of the first external event that isn't in the queue.
+    // External events stand in order. Each is put in when its tag comes, so the queue stays small.
     next: usize,
     /// The least tag at which two events of a name are known to meet, if there is one. The queue has what
     /// comes before it.
@@ -116,6 +117,7 @@ impl Coming {
             if tag.is_before(event.tag) {
                 return true;
             }
+            // Its tag is reached, so here the two do meet, and nothing can end the run before.
             let Ok(()) = self.put(event.tag, Name::Action(event.action), event.value) else {
                 return false;
             };
@@ -202,6 +204,7 @@ impl Coming {
         if !self.is_clear(tag) {
             return false;
         }
+        // Brought in first: external events before the tag are passed over too.
         self.bring(externals, tag) && self.pass(listeners, tag)
     }
 

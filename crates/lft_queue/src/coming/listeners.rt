@@ -15,6 +15,7 @@ use std::alloc::Global;
 
 /// For each port and each action the reactions that it triggers. Those of a port that is reached
 /// without a delay are its origin's.
+// Rows that write name origins, so a write finds its listeners in one look-up.
 #[derive(Drop)]
 pub struct Listeners {
     ports: NumberLists,

@@ -76,6 +76,8 @@ fn soonest_of(alloc: Global, program: &Program) -> Result<Vec<Option<Shift>>, No
         let origin = port.origin as usize;
         let least = nearer_of(soonest[origin], port.shift);
         if is_unread(item_at(read.as_slice(), number), port) {
+            // The soonest will do: two writes of one time meet on each way that
+            // takes time, and there first.
             soonest[origin] = Some(least);
         }
     }
@@ -100,6 +102,7 @@ fn meet_at(way: Shift, earlier: Tag, tag: Tag) -> Option<Tag>
     requires { IsRecorded tag }
     ensures { (h : TheTag) → IsClear result h → earlier.time ≡ tag.time → earlier.micro ≢ tag.micro → Before h (shifted tag (way.time, way.steps)) }
 {
+    // A way that takes time forgets the microstep of the write.
     if earlier.time == tag.time && earlier.micro != tag.micro {
         Some(tag.plus(way))
     } else {

@@ -92,6 +92,8 @@ impl Writes {
     {
         match item_at(self.last.as_slice(), port as usize) {
             Some(write) => {
+                // A write of an earlier tag isn't cleared, which would cost all ports
+                // at each tag. Its tag tells it apart.
                 if write.tag.is_same(tag) {
                     Some(write.value)
                 } else {

@@ -88,6 +88,7 @@ fn is_thousandfold(
     if tag.time == 0 {
         return Ok(false);
     }
+    // A tag may be as late as 10^18, of which a thousand times overflows.
     match tag.time.checked_mul(1000) {
         Some(time) if time <= MAX_TIME => {
             let later = Tag {
@@ -110,6 +111,7 @@ fn trigger_actions(
     ensures { IfOk result (AreActions plan.now.program reaction) }
 {
     let triggers = plan.program().reaction(reaction).triggers.as_slice();
+    // A map, as each row asks: a search among the triggers would cost rows times triggers.
     let mut actions = BTreeMap::new(alloc);
     for place in 0..triggers.len() {
         if let Trigger::On(Name::Action(action)) = item_at(triggers, place) {
@@ -133,6 +135,7 @@ fn schedules_whole(
 {
     match row.step {
         Step::Schedule(Name::Action(action), _, extra) => {
+            // Where an event comes after some time, its microstep is 0.
             extra > 0
                 && tag.micro == 0
                 && row.tag.time < tag.time
@@ -199,6 +202,7 @@ fn of_recorder(rows: &[Row], breach: Breach) -> Hint
     requires row { (i : ℕ) × (breach.row ≡ i + 2) × (i < length rows.now) }
     ensures { (plan : PlanParts) → IsLateByRecorder plan rows.now breach → IsHint plan rows.now breach result }
 {
+    // Where the logs of workers were put one behind another, the first row of the next one is late.
     if is_first_of_worker(rows, breach.row as usize - 2) {
         Hint::FirstOfWorker
     } else {
@@ -215,6 +219,7 @@ fn of_disorder(rows: &[Row], breach: Breach) -> Hint
     if breach.row == 2 {
         return Hint::FirstRow;
     }
+    // Both starts are of one run, so neither worker numbers nor sorted rows are to blame.
     if is_second(rows, breach.row as usize - 2) {
         Hint::StartedTwice
     } else {
@@ -254,9 +259,11 @@ fn of_late(
     ensures some { IfOk result (λ hint. IfSome hint (IsHint plan.now rows.now breach)) }
     ensures none { IfOk result (λ hint. IfNone hint ((other : TheHint) → IsHint plan.now rows.now breach other → ⊥)) }
 {
+    // A start at an earlier tag comes of sorted rows or of a log behind another one, and of no race.
     if is_of_start(rows, breach) {
         return Ok(Some(of_recorder(rows, breach)));
     }
+    // In the rows a tag that began too soon and a row that is written late look alike.
     if is_of_open(rows, breach) {
         return Ok(Some(Hint::NextTag));
     }
@@ -314,6 +321,8 @@ fn is_small_stop(plan: &Plan, rows: &[Row], tag: Tag) -> bool
     ensures { IsTrue result ↔ IsSmallStop plan.now rows.now tag }
 {
     let stop = plan.externals().stop().time;
+    // Saturating: a stop near 10^18 would overflow. No tag is as late as
+    // that, so the answer stays the same.
     is_given_stop(plan, rows) && stop > 0 && stop.saturating_mul(100) < tag.time
 }
 
@@ -324,6 +333,7 @@ fn of_missing(plan: &Plan, rows: &[Row], breach: Breach) -> Option<Hint>
     ensures some { IfSome result (IsHint plan.now rows.now breach) }
     ensures none { IfNone result ((hint : TheHint) → IsHint plan.now rows.now breach hint → ⊥) }
 {
+    // Asked first: of no rows all are before any tag.
     if rows.is_empty() {
         return Some(Hint::NoRows);
     }
@@ -339,6 +349,7 @@ fn of_unended(rows: &[Row], breach: Breach) -> Option<Hint>
     ensures some { (plan : PlanParts) → IfSome result (IsHint plan rows.now breach) }
     ensures none { (plan : PlanParts) → IfNone result ((hint : TheHint) → IsHint plan rows.now breach hint → ⊥) }
 {
+    // Asked first: where no run ends, rows at later tags mostly stand behind it too.
     if none_ends(rows) {
         return Some(Hint::NoEnds);
     }

@@ -31,6 +31,7 @@ fn insert(quotes: &mut Vec<Quote>, quote: Quote) -> Result<(), AllocError>
         quotes.push(quote)?;
         return Ok(());
     }
+    // The facts begin with what is wrong, so the row that breaks the rule keeps its mark.
     if quote.row < item_at(quotes.as_slice(), place).row {
         quotes.insert(place, quote)?;
     }

@@ -26,6 +26,7 @@ struct Widths {
 fn width_of(text: &str) -> usize
     ensures { result ≡ the_width_of text.now }
 {
+    // All rows are padded to the widest. One long name would be paid for by each of them.
     if text.len() <= 200 { text.len() } else { 0 }
 }
 
@@ -34,6 +35,7 @@ fn digits(place: u32) -> usize
     ensures { result ≡ length (line_number place) }
 {
     let mut buffer = Buffer::new();
+    // Line 1 has the header, and places count from 0.
     buffer.format(u64::from(place) + 2).len()
 }
 
@@ -122,6 +124,7 @@ fn push_gap(
     ensures { OnOk result (string_bytes text.new ≡ string_bytes text.old ++ gap_words widths before quote) }
 {
     if let Some(before) = before {
+        // In 64 bits, since the greatest number of 32 bits has one behind it.
         if u64::from(before.row) + 1 < u64::from(quote.row) {
             push_blanks(text, widths.line)?;
             text.push_str("   ..\n")?;

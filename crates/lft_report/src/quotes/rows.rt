@@ -74,6 +74,7 @@ fn push_delay(text: &mut String, delay: u64) -> Result<(), AllocError>
     ensures { OnOk result (string_bytes text.new ≡ string_bytes text.old ++ (44 ∷ delay_text delay)) }
 {
     text.push_str(",")?;
+    // In a table an empty delay is 0. A row keeps no text, so the shorter form is told.
     if delay != 0 {
         push_number(text, delay)?;
     }

@@ -10,6 +10,7 @@ pub(crate) fn of_text(text: &[u8], first: &str) -> Option<&'static str> {
     if text.starts_with(b"\x1f\x8b") {
         return Some("That is compressed by gzip: give <(gzip -dc FILE) in place of FILE.");
     }
+    // Asked before the zeros: in UTF-16 each letter of ASCII has one.
     if text.starts_with(b"\xff\xfe") || text.starts_with(b"\xfe\xff") {
         return Some("That is UTF-16: save the table as UTF-8.");
     }

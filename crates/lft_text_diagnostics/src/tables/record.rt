@@ -28,6 +28,7 @@ pub(crate) fn record_of(
     if number == 0 {
         return Ok(None);
     }
+    // Read once more up to it: no list of records is kept, and a refused table alone is asked for one.
     let mut records = Records::new(alloc, text, number);
     for _before in 0..number {
         match records.next() {

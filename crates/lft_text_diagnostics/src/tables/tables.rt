@@ -105,6 +105,7 @@ fn tell(
     ensures told { IfOk result (λ words. Fails program.now table (records_of text.now) fault → Begins (heading (word_of table) fault) (string_bytes words)) }
 {
     match fault {
+        // These say nothing of the text.
         TraceFault::NotCsv | TraceFault::NoMemory => Ok(String::new(alloc)),
         TraceFault::BadEvent(line)
         | TraceFault::BadNumber(line)

@@ -11,6 +11,7 @@ use std::alloc::{AllocError, Global};
 fn shown_letter(letter: char) -> char
     ensures { result ≡ shown letter }
 {
+    // A path may come from anyone's text: a line end in it would begin a line that looks like one of ours.
     if ' ' <= letter && letter <= '~' {
         letter
     } else {

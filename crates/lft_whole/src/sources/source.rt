@@ -39,6 +39,7 @@ impl SourceFile {
     {
         match self.spots.get(token) {
             Some(spot) => *spot,
+            // Each token has a spot, and so has the end: this doesn't come.
             None => Spot { line: 1, column: 1 },
         }
     }

@@ -48,6 +48,7 @@ fn push_back<'a>(
         let _last = folders.pop();
         return Ok(());
     }
+    // From the root `..` leads to the root.
     if from_root {
         return Ok(());
     }
@@ -120,6 +121,7 @@ fn joined(alloc: Global, from_root: bool, folders: &[&str]) -> Result<String, Al
 }
 
 /// The normal form of a path: `..` stands only at its front, and `.` only alone.
+// By its letters alone: no folder is asked for, so a link before `..` counts as a plain folder.
 pub(crate) fn normal(alloc: Global, path: &str) -> Result<String, AllocError>
     ensures { IfOk result (λ text. string_bytes text ≡ normal_path path.now) }
 {

@@ -55,6 +55,7 @@ fn tokens_behind(tokens: usize, count: usize) -> Option<usize>
 
 /// The files of a program, each once by the normal form of its path. They are read in the order in which they
 /// are asked for: the program itself, what it imports, what these import.
+// It asks for files and reads none, so its clauses speak of texts alone.
 #[derive(Drop)]
 pub struct Sources {
     alloc: Global,
@@ -130,6 +131,7 @@ impl Sources {
         let read = read_text(self.alloc, text.as_slice())?;
         let first = self.tokens;
         let count = read.spots.len();
+        // More tokens than there are numbers fit into no memory, so no cause is needed for them.
         let Some(tokens) = tokens_behind(first, count) else {
             return Err(Stop::NoMemory);
         };

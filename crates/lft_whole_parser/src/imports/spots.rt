@@ -62,6 +62,7 @@ pub(crate) fn spots(alloc: Global, text: &[u8], tokens: &[Token]) -> Result<Vec<
     let mut from = 0;
     for place in 0..tokens.len() {
         let start = tokens[place].start;
+        // On from the token before: from the start of the text each time, it would cost bytes times tokens.
         spot = spot_at(text, from, spot, start);
         from = start;
         spots.push(spot)?;
