@@ -29,8 +29,8 @@ use std::alloc::{AllocError, Global};
 /// A token of more bytes isn't quoted.
 const LONGEST_TOKEN: usize = 40;
 
-/// Why a program isn't lowered: its fault, and what is told of it for people. Where a file can't be read, or memory
-/// is refused, nothing is told.
+/// Why a program isn't lowered: its fault, and what is told of it for people. Where memory is refused, or the
+/// program's own file can't be read, nothing is told.
 #[derive(Drop)]
 pub struct Unlowered {
     pub failure: Failure,

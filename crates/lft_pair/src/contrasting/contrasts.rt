@@ -44,7 +44,7 @@ pub enum Contrast {
         first: Option<Scheduling>,
         second: Option<Scheduling>,
     },
-    /// Where a run requested a stop last: in one of the two traces it did not.
+    /// Where a run requested a stop first: in one of the two traces it did not.
     Requested {
         first: Option<u32>,
         second: Option<u32>,
