@@ -20,10 +20,6 @@ pub was_new : (known added : Bool) → added ≡ not known → added ≡ true �
 was_new true added e is = let f : false ≡ true = sym e ∙ is in absurd (cc)
 was_new false added e is = refl
 
-pub was_known : (known added : Bool) → added ≡ not known → added ≡ false → known ≡ true
-was_known true added e is = refl
-was_known false added e is = let f : true ≡ false = sym e ∙ is in absurd (cc)
-
 -- of none, and one more, that is the only one
 pub alone : (s n : BTreeSet ℕ) (k : ℕ) → s.keys ≡ [] → Updates nat_cmp s n k true → (q : ℕ) → contains nat_cmp n q ≡ true → q ≡ k
 alone s n k empty u q h = elim (only s n k u q h) [ inl e ↦ e | inr o ↦ absurd (nowhere s empty q o) ]

@@ -3,10 +3,11 @@ use Rattle.std.proofs.Common.{◌≡◌, ℕ, zero, suc, ◌+◌, ◌-◌, ◌*�
 use Rattle.std.{specs.Option.option_and_then, proofs.lemmas.List.map_push}
 use Rattle.lft_whole.specs.declared.tree.{Count.Count, Reference.Reference, Term.Term, Width.Width}
 use Rattle.lft_classes.specs.declared.shapes.{Shape.Shape, Thing.Thing}
-use Rattle.lft_elaborate.specs.inner.Places.{AreMany, AreManyIn, HasPlaces, HavePlaces, IsCount, IsSum}
-use Rattle.lft_elaborate.specs.Places.{IsWidth, Meant, Widths, capped, count_in, how_many, how_many_in, how_many_of, many, meaning_in, places_in, places_of, plus, sum_in, times, total, width_by, width_in, written_width}
-use Rattle.lft_elaborate.specs.Values.{Valued}
+use Rattle.lft_elaborate.specs.inner.Places.{AreMany, HasPlaces, HavePlaces, IsCount, IsSum}
+use Rattle.lft_elaborate.specs.Places.{IsMany, IsWidth, Widths, capped, count_in, how_many, how_many_inside, how_many_of, many, meaning_in, places_in, places_of, plus, sum_in, times, total, width_by, width_in, written_width}
+use Rattle.lft_elaborate.specs.{Values.{Valued, inside}, declared.meanings.Meaning.Meaning}
 use Rattle.lft_whole.specs.declared.tree.Count.TheVariants as count
+use Rattle.lft_elaborate.specs.declared.meanings.Meaning.TheVariants as meaning
 use Rattle.lft_classes.specs.declared.shapes.Thing.TheVariants as thing
 
 -- ---- what is more is known of
@@ -42,15 +43,15 @@ module _ (shapes : List Shape) (f g : Widths) (h : (t : Valued) (m n : ℕ) → 
   how_many_of_more t (thing.Parameter p) n e = e
   how_many_of_more t (thing.Member m) n e = how_many_more t m n e
 
-  how_many_in_more : (t : Valued) (o : Option ℕ) (n : ℕ) → how_many_in shapes f t o ≡ Some n → how_many_in shapes g t o ≡ Some n
-  how_many_in_more t None n e = e
-  how_many_in_more t (Some m) n e = how_many_more t m n e
+  inside_more : (t : Valued) (instance port n : ℕ) → how_many_inside shapes f t instance port ≡ Some n → how_many_inside shapes g t instance port ≡ Some n
+  inside_more t instance port n e = and_then_more (λ u. how_many shapes f u port) (λ u. how_many shapes g u port) (inside shapes t instance) n (λ u. how_many_more u port n) e
 
-  places_of_more : (t : Valued) (meant : Meant) (n : ℕ) → places_of shapes f t meant ≡ Some n → places_of shapes g t meant ≡ Some n
-  places_of_more t meant n e = times_more (how_many_of shapes f meant.setting meant.thing) (how_many_in shapes f t meant.instance) (how_many_of shapes g meant.setting meant.thing) (how_many_in shapes g t meant.instance) n (how_many_of_more meant.setting meant.thing) (how_many_in_more t meant.instance) e
+  places_of_more : (t : Valued) (m : Meaning) (n : ℕ) → places_of shapes f t m ≡ Some n → places_of shapes g t m ≡ Some n
+  places_of_more t (meaning.Own x) n e = how_many_of_more t x n e
+  places_of_more t (meaning.Port i p) n e = times_more (how_many_inside shapes f t i p) (how_many shapes f t i) (how_many_inside shapes g t i p) (how_many shapes g t i) n (inside_more t i p) (how_many_more t i) e
 
   places_more : (t : Valued) (r : Reference) (n : ℕ) → places_in shapes f t r ≡ Some n → places_in shapes g t r ≡ Some n
-  places_more t r n e = and_then_more (places_of shapes f t) (places_of shapes g t) (meaning_in shapes t r) n (λ meant. places_of_more t meant n) e
+  places_more t r n e = and_then_more (places_of shapes f t) (places_of shapes g t) (meaning_in shapes t r) n (λ m. places_of_more t m n) e
 
   count_more : (t : Valued) (c : Count) (n : ℕ) → count_in shapes f t c ≡ Some n → count_in shapes g t c ≡ Some n
   count_more t (count.Number k) n e = e
@@ -105,11 +106,16 @@ total_push (Some b ∷ xs) a n e = go (λ c q. total_push xs c n q) (total xs) r
 
 -- ---- places, terms and widths
 
-pub places_join : (shapes : List Shape) (t : Valued) (r : Reference) (meant : Meant) (n k : ℕ) → meaning_in shapes t r ≡ Some meant → AreMany shapes meant.setting meant.thing n → AreManyIn shapes t meant.instance k → HasPlaces shapes t r (capped (n * k))
-places_join shapes t r meant n k is (d, p) (e, q) =
-    let x : how_many_of shapes (width_in shapes (d + e)) meant.setting meant.thing ≡ Some n = how_many_of_more shapes (width_in shapes d) (width_in shapes (d + e)) (deeper shapes d e) meant.setting meant.thing n p in
-    let y : how_many_in shapes (width_in shapes (d + e)) t meant.instance ≡ Some k = how_many_in_more shapes (width_in shapes e) (width_in shapes (d + e)) (deeper_right shapes d e) t meant.instance k q in
-    (d + e, ap (option_and_then (places_of shapes (width_in shapes (d + e)) t)) is ∙ ap (λ o. times o (how_many_in shapes (width_in shapes (d + e)) t meant.instance)) x ∙ ap (times (Some n)) y)
+-- of a thing of the reactor itself
+pub own_places : (shapes : List Shape) (t : Valued) (r : Reference) (x : Thing) (n : ℕ) → meaning_in shapes t r ≡ Some (meaning.Own x) → AreMany shapes t x n → HasPlaces shapes t r n
+own_places shapes t r x n is (d, p) = (d, ap (option_and_then (places_of shapes (width_in shapes d) t)) is ∙ p)
+
+-- of a port of an instance
+pub port_places : (shapes : List Shape) (t u : Valued) (r : Reference) (i p n k : ℕ) → meaning_in shapes t r ≡ Some (meaning.Port i p) → inside shapes t i ≡ Some u → IsMany shapes u p n → IsMany shapes t i k → HasPlaces shapes t r (capped (n * k))
+port_places shapes t u r i p n k is is_inside (d, a) (e, b) =
+    let x : how_many shapes (width_in shapes (d + e)) u p ≡ Some n = how_many_more shapes (width_in shapes d) (width_in shapes (d + e)) (deeper shapes d e) u p n a in
+    let y : how_many shapes (width_in shapes (d + e)) t i ≡ Some k = how_many_more shapes (width_in shapes e) (width_in shapes (d + e)) (deeper_right shapes d e) t i k b in
+    (d + e, ap (option_and_then (places_of shapes (width_in shapes (d + e)) t)) is ∙ ap (λ o. times (option_and_then (λ v. how_many shapes (width_in shapes (d + e)) v p) o) (how_many shapes (width_in shapes (d + e)) t i)) is_inside ∙ ap (λ o. times o (how_many shapes (width_in shapes (d + e)) t i)) x ∙ ap (times (Some n)) y)
 
 pub no_places : (shapes : List Shape) (t : Valued) → HavePlaces shapes t [] 0
 no_places shapes t = (0, refl)

@@ -2,17 +2,18 @@
 use Rattle.std.proofs.Common.{◌≡◌, ℕ, zero, suc, ◌*◌, List, [], ◌∷◌, ◌++◌, Option, Some, None, slice_get, refl, sym, ap, subst, ◌∙◌}
 use Rattle.std.specs.Prelude.{IfSome, is_some, false, unwrap_or}
 use Rattle.std.specs.Option.{option_and_then}
-use Rattle.lft_elaborate.specs.{Channels.Channels.joined, declared.{places.Meaning.Meaning, settings.{Setting.Setting, Settings.Settings}}}
-use Rattle.lft_elaborate.specs.Noted.{AreMade, Table, noted_at, table}
-use Rattle.lft_elaborate.specs.inner.Noted.{GoesOn, GoesOnIf, IsMeaning}
-use Rattle.lft_elaborate.specs.inner.{Places.{AreMany, AreManyIn, HasPlaces, HasWidth, HavePlaces, IsCount, IsSum, HasPairs}, Settings.setting_at}
-use Rattle.lft_elaborate.specs.inner.Widths.{member_at, width_at}
-use Rattle.lft_elaborate.specs.Places.{IsMany, IsWidth, capped, many, member_in, plus, sum_in, times, width_in, written_width}
-use Rattle.lft_elaborate.specs.{Settings.{setting_in, shape_at, valued}, Values.Valued, Widths.found_width}
-use Rattle.lft_elaborate.proofs.{Counting.{places_join, sum_width, terms_push}, Keeping.{goes_if, setting_from, setting_of_number}}
+use Rattle.lft_elaborate.specs.{Channels.Channels.joined, declared.settings.{Setting.Setting, Settings.Settings}}
+use Rattle.lft_elaborate.specs.Noted.{AreMade, IsNumberOf, Table, noted_at, table}
+use Rattle.lft_elaborate.specs.inner.{Noted.{GoesOn, GoesOnIf}, Places.{AreMany, HasPlaces, HasWidth, HavePlaces, IsCount, IsSum, HasPairs}}
+use Rattle.lft_elaborate.specs.inner.{Settings.setting_at, Widths.{member_at, width_at}}
+use Rattle.lft_elaborate.specs.Places.{IsMany, IsWidth, capped, many, meaning_in, member_in, plus, sum_in, times, width_in, written_width}
+use Rattle.lft_elaborate.specs.{Settings.{setting_in, shape_at, valued}, Values.{Valued, inside}, Widths.found_width}
+use Rattle.lft_elaborate.proofs.{Counting.{own_places, port_places, sum_width, terms_push}, Keeping.{goes_if, setting_from, setting_of_number}}
 use Rattle.lft_whole.specs.declared.tree.{Connection.Connection, Count.Count, Reference.Reference, Term.Term, Width.Width}
 use Rattle.lft_classes.specs.{Shapes.width_of, declared.shapes.{Inherited.Inherited, Shape.Shape, Thing.Thing}}
 use Rattle.lft_lists.proofs.Places.{same_some}
+use Rattle.lft_elaborate.specs.declared.meanings.Meaning.TheVariants as meaning
+use Rattle.lft_classes.specs.declared.shapes.Thing.TheVariants as thing
 
 -- ---- by number and by what it is
 
@@ -68,17 +69,10 @@ standing s k m i e = go (slice_get s.settings.items k) refl e
     go None q f = absurd (cc)
     go (Some x) q f = (valued x, setting_of_number s.settings.items k x q)
 
--- the places of what a reference means
-pub places_are : (shapes : List Shape) (settings : List Setting) (t : Valued) (r : Reference) (meaning : Meaning) (n k : ℕ) → IsMeaning shapes settings t r meaning → ((u : Valued) → setting_in settings meaning.setting ≡ Some u → AreMany shapes u meaning.thing n) → AreManyIn shapes t meaning.instance k → HasPlaces shapes t r (capped (n * k))
-places_are shapes settings t r meaning n k (u, at, is) many many_in = places_join shapes t r (record { instance = meaning.instance; setting = u; thing = meaning.thing }) n k is (many u at) many_in
-
 module _ (t0 t1 : Table) (goes : GoesOn t0 t1) (setting : ℕ) (t : Valued) (made : AreMade t0) (at : setting_in t0.settings setting ≡ Some t) where
   -- what is counted later is counted of the same shapes
   pub many_then : (thing : Thing) (n : ℕ) → ((u : Valued) → AreMade t1 → setting_in t1.settings setting ≡ Some u → AreMany t1.shapes u thing n) → AreMany t0.shapes t thing n
   many_then thing n many = subst (λ shapes. AreMany shapes t thing n) goes.shapes (many t (goes.made made) (goes.stays setting t at))
-
-  pub many_in_then : (instance : Option ℕ) (n : ℕ) → ((u : Valued) → AreMade t1 → setting_in t1.settings setting ≡ Some u → AreManyIn t1.shapes u instance n) → AreManyIn t0.shapes t instance n
-  many_in_then instance n many = subst (λ shapes. AreManyIn shapes t instance n) goes.shapes (many t (goes.made made) (goes.stays setting t at))
 
   pub places_then : (r : Reference) (n : ℕ) → ((u : Valued) → AreMade t1 → setting_in t1.settings setting ≡ Some u → HasPlaces t1.shapes u r n) → HasPlaces t0.shapes t r n
   places_then r n places = subst (λ shapes. HasPlaces shapes t r n) goes.shapes (places t (goes.made made) (goes.stays setting t at))
@@ -89,11 +83,6 @@ module _ (t0 t1 : Table) (goes : GoesOn t0 t1) (setting : ℕ) (t : Valued) (mad
   pub count_then : (c : Count) (n : ℕ) → ((u : Valued) → AreMade t1 → setting_in t1.settings setting ≡ Some u → IsCount t1.shapes u c n) → IsCount t0.shapes t c n
   count_then c n count = subst (λ shapes. IsCount shapes t c n) goes.shapes (count t (goes.made made) (goes.stays setting t at))
 
-  -- what a reference means, and how many these are
-  pub reference_then : (r : Reference) (meaning : Meaning) (n k : ℕ) → ((u : Valued) → AreMade t0 → setting_in t0.settings setting ≡ Some u → IsMeaning t0.shapes t1.settings u r meaning) → ((u : Valued) → AreMade t1 → setting_in t1.settings meaning.setting ≡ Some u → AreMany t1.shapes u meaning.thing n) → ((u : Valued) → AreMade t1 → setting_in t1.settings setting ≡ Some u → AreManyIn t1.shapes u meaning.instance k) → HasPlaces t0.shapes t r (capped (n * k))
-  reference_then r meaning n k is many many_in =
-      places_are t0.shapes t1.settings t r meaning n k (is t made at) (λ u there. subst (λ shapes. AreMany shapes u meaning.thing n) goes.shapes (many u (goes.made made) there)) (many_in_then meaning.instance k many_in)
-
 -- a width that was found is one in the settings that there are then
 pub width_then : (t0 t1 : Table) → GoesOn t0 t1 → (setting m n : ℕ) (w : Width) (t : Valued) → setting_in t0.settings setting ≡ Some t → written_width t0.shapes t m ≡ Some w → AreMade t0 → (AreMade t0 → setting_in t0.settings setting ≡ Some t → IsSum t0.shapes t w.terms.items n) → (u : Valued) → setting_in t1.settings setting ≡ Some u → IsWidth t1.shapes u m n
 width_then t0 t1 goes setting m n w t at is made sum u there =
@@ -102,11 +91,18 @@ width_then t0 t1 goes setting m n w t at is made sum u there =
 
 -- ---- counts that may not be known yet
 
--- how many places there are, if both counts are known
-pub reference_times : (t0 t1 : Table) → GoesOn t0 t1 → (setting : ℕ) (r : Reference) (meaning : Meaning) (a b : Option ℕ) → ((u : Valued) → AreMade t0 → setting_in t0.settings setting ≡ Some u → IsMeaning t0.shapes t1.settings u r meaning) → IfSome a (λ n. (u : Valued) → AreMade t1 → setting_in t1.settings meaning.setting ≡ Some u → AreMany t1.shapes u meaning.thing n) → IfSome b (λ k. (u : Valued) → AreMade t1 → setting_in t1.settings setting ≡ Some u → AreManyIn t1.shapes u meaning.instance k) → IfSome (times a b) (λ n. (t : Valued) → AreMade t0 → setting_in t0.settings setting ≡ Some t → HasPlaces t0.shapes t r n)
-reference_times t0 t1 goes setting r meaning None b is many many_in = tt
-reference_times t0 t1 goes setting r meaning (Some n) None is many many_in = tt
-reference_times t0 t1 goes setting r meaning (Some n) (Some k) is many many_in = λ t made at. reference_then t0 t1 goes setting t made at r meaning n k is many many_in
+-- how many places a thing of the reactor itself has, if its count is known
+pub own_count : (t0 t1 : Table) → GoesOn t0 t1 → (setting : ℕ) (r : Reference) (x : Thing) (a : Option ℕ) → ((u : Valued) → setting_in t1.settings setting ≡ Some u → meaning_in t1.shapes u r ≡ Some (meaning.Own x)) → IfSome a (λ n. (u : Valued) → AreMade t1 → setting_in t1.settings setting ≡ Some u → AreMany t1.shapes u x n) → IfSome a (λ n. (t : Valued) → AreMade t0 → setting_in t0.settings setting ≡ Some t → HasPlaces t0.shapes t r n)
+own_count t0 t1 goes setting r x None is many = tt
+own_count t0 t1 goes setting r x (Some n) is many = λ t made at. places_then t0 t1 goes setting t made at r n (λ u made_one there. own_places t1.shapes u r x n (is u there) (many u made_one there))
+
+-- how many a port of an instance has, if both counts are known
+pub port_times : (t0 t1 : Table) → GoesOn t0 t1 → (setting inner : ℕ) (r : Reference) (i p : ℕ) (a b : Option ℕ) → ((u : Valued) → setting_in t1.settings setting ≡ Some u → meaning_in t1.shapes u r ≡ Some (meaning.Port i p)) → ((u : Valued) → AreMade t1 → setting_in t1.settings setting ≡ Some u → IsNumberOf t1.settings (inside t1.shapes u i) (Some inner)) → IfSome a (λ n. (v : Valued) → AreMade t1 → setting_in t1.settings inner ≡ Some v → IsMany t1.shapes v p n) → IfSome b (λ k. (u : Valued) → AreMade t1 → setting_in t1.settings setting ≡ Some u → IsMany t1.shapes u i k) → IfSome (times a b) (λ n. (t : Valued) → AreMade t0 → setting_in t0.settings setting ≡ Some t → HasPlaces t0.shapes t r n)
+port_times t0 t1 goes setting inner r i p None b is enters ports members = tt
+port_times t0 t1 goes setting inner r i p (Some n) None is enters ports members = tt
+port_times t0 t1 goes setting inner r i p (Some n) (Some k) is enters ports members = λ t made at. places_then t0 t1 goes setting t made at r (capped (n * k)) (λ u made_one there.
+    let e = enters u made_one there in
+    port_places t1.shapes u e.0 r i p n k (is u there) e.1 (ports e.0 made_one e.2) (members u made_one there))
 
 -- how many terms are together with one more, if both counts are known
 pub terms_plus : (t0 t1 : Table) → GoesOn t0 t1 → (setting : ℕ) (terms : List Term) (term : Term) (a b : Option ℕ) → IfSome a (λ n. (t : Valued) → AreMade t0 → setting_in t0.settings setting ≡ Some t → IsSum t0.shapes t terms n) → IfSome b (λ n. (u : Valued) → AreMade t1 → setting_in t1.settings setting ≡ Some u → IsCount t1.shapes u term.count n) → IfSome (plus a b) (λ n. (t : Valued) → AreMade t0 → setting_in t0.settings setting ≡ Some t → IsSum t0.shapes t (terms ++ term ∷ []) n)
@@ -130,8 +126,10 @@ close_goes s t1 t2 goes k m i w all there wide sum closes = goes_if _ (table s) 
 
 -- ---- how many places and pairs there are
 
-pub channels_are : (t0 t1 t2 : Table) → GoesOn t0 t1 → GoesOn t1 t2 → (setting : ℕ) (t : Valued) → AreMade t0 → setting_in t0.settings setting ≡ Some t → (r : Reference) (meaning : Meaning) (n k : ℕ) → ((u : Valued) → AreMade t0 → setting_in t0.settings setting ≡ Some u → IsMeaning t0.shapes t1.settings u r meaning) → ((u : Valued) → AreMade t1 → setting_in t1.settings meaning.setting ≡ Some u → AreMany t1.shapes u meaning.thing n) → ((u : Valued) → AreMade t2 → setting_in t2.settings setting ≡ Some u → AreManyIn t2.shapes u meaning.instance k) → HasPlaces t0.shapes t r (capped (n * k))
-channels_are t0 t1 t2 one two setting t made at r meaning n k is many many_in = reference_then t0 t1 one setting t made at r meaning n k is many (λ u made_one there. many_in_then t1 t2 two setting u made_one there meaning.instance k many_in)
+pub port_channels : (t0 t1 t2 : Table) → GoesOn t0 t1 → GoesOn t1 t2 → (setting inner : ℕ) (t : Valued) → AreMade t0 → setting_in t0.settings setting ≡ Some t → (r : Reference) (i p n k : ℕ) → ((u : Valued) → setting_in t1.settings setting ≡ Some u → meaning_in t1.shapes u r ≡ Some (meaning.Port i p)) → ((u : Valued) → AreMade t1 → setting_in t1.settings setting ≡ Some u → IsNumberOf t1.settings (inside t1.shapes u i) (Some inner)) → ((v : Valued) → AreMade t1 → setting_in t1.settings inner ≡ Some v → IsMany t1.shapes v p n) → ((u : Valued) → AreMade t2 → setting_in t2.settings setting ≡ Some u → IsMany t2.shapes u i k) → HasPlaces t0.shapes t r (capped (n * k))
+port_channels t0 t1 t2 one two setting inner t made at r i p n k is enters ports members = places_then t0 t1 one setting t made at r (capped (n * k)) (λ u made_one there.
+    let e = enters u made_one there in
+    port_places t1.shapes u e.0 r i p n k (is u there) e.1 (ports e.0 made_one e.2) (many_then t1 t2 two setting u made_one there (thing.Member i) k members))
 
 pub pairs_are : (t0 t1 : Table) → GoesOn t0 t1 → (setting : ℕ) (t : Valued) → AreMade t0 → setting_in t0.settings setting ≡ Some t → (c : Connection) (ls rs : List Reference) (left right n : ℕ) → ls ≡ c.sources.items → rs ≡ c.destinations.items → ((u : Valued) → AreMade t0 → setting_in t0.settings setting ≡ Some u → HavePlaces t0.shapes u ls left) → ((u : Valued) → AreMade t1 → setting_in t1.settings setting ≡ Some u → HavePlaces t1.shapes u rs right) → n ≡ joined left right c.is_broadcast → HasPairs t0.shapes t c n
 pairs_are t0 t1 goes setting t made at c ls rs left right n ls_are rs_are sources destinations pairs = record {

@@ -1,4 +1,5 @@
 pub mod Names
+pub mod Meanings
 pub mod Noted
 pub mod Places
 pub mod Settings

@@ -1,11 +1,11 @@
 -- What references mean, how many places they have, and how wide members are, told by the shapes alone.
-use Rattle.std.specs.Prelude.{◌≡◌, ℕ, zero, suc, ◌+◌, ◌*◌, ◌-◌, ◌^◌, ℤ, pos, negsuc, min, List, ◌∷◌, map, Option, Some, None, option_map, slice_get, string_bytes, []}
+use Rattle.std.specs.Prelude.{◌≡◌, ℕ, zero, suc, ◌+◌, ◌*◌, ◌-◌, ◌^◌, ℤ, pos, negsuc, min, List, ◌∷◌, map, Option, Some, None, slice_get, string_bytes, []}
 use Rattle.std.specs.Option.{option_and_then}
-use Rattle.lft_elaborate.specs.Values.{Valued, inside, number_named}
-use Rattle.lft_whole.specs.declared.tree.{Count.Count, Member.Member, Name.Name, Reference.Reference, Term.Term, Width.Width}
-use Rattle.lft_classes.specs.{declared.shapes.{Inherited.Inherited, Shape.Shape, Thing.Thing}, Shapes.{thing_named, width_of}}
+use Rattle.lft_elaborate.specs.{Values.{Valued, inside, number_named}, Meanings.meaning_of, declared.meanings.Meaning.Meaning}
+use Rattle.lft_whole.specs.declared.tree.{Count.Count, Reference.Reference, Term.Term, Width.Width}
+use Rattle.lft_classes.specs.{declared.shapes.{Inherited.Inherited, Shape.Shape, Thing.Thing}, Shapes.width_of}
 use Rattle.lft_whole.specs.declared.tree.Count.TheVariants as count
-use Rattle.lft_whole.specs.declared.tree.Member.TheVariants as member
+use Rattle.lft_elaborate.specs.declared.meanings.Meaning.TheVariants as meaning
 use Rattle.lft_classes.specs.declared.shapes.Thing.TheVariants as thing
 
 -- ---- members and references
@@ -17,50 +17,9 @@ member_in shapes t m = option_and_then (λ shape. slice_get shape.members.items 
 abbrev pub written_width : List Shape → Valued → ℕ → Option Width
 written_width shapes t m = option_and_then (λ found. width_of found.member.now) (member_in shapes t m)
 
--- what a name is
-abbrev pub thing_in : List Shape → Valued → List ℕ → Option Thing
-thing_in shapes t q = option_and_then (λ shape. thing_named shape q) (slice_get shapes t.shape)
-
--- the number of a member
-abbrev pub as_member : Thing → Option ℕ
-as_member (thing.Parameter p) = None
-as_member (thing.Member m) = Some m
-
--- a number of a member that is a port
-abbrev pub as_port : ℕ → Member → Option ℕ
-as_port m (member.Port port) = Some m
-as_port m _ = None
-
--- the member of this name
-abbrev pub member_named : List Shape → Valued → List ℕ → Option ℕ
-member_named shapes t q = option_and_then as_member (thing_in shapes t q)
-
--- the port of this name
-abbrev pub port_named : List Shape → Valued → List ℕ → Option ℕ
-port_named shapes t q = option_and_then (λ m. option_and_then (λ found. as_port m found.member.now) (member_in shapes t m)) (member_named shapes t q)
-
--- what a reference means: a thing of a setting, and the instance that it is in, if it is a port of one
-pub record Meant : Type 0 where
-  pub instance : Option ℕ
-  pub setting : Valued
-  pub thing : Thing
-
--- a thing of the reactor itself
-abbrev pub own_thing : Valued → Thing → Meant
-own_thing t thing = record { instance = None; setting = t; thing = thing }
-
--- a port of an instance
-abbrev pub port_inside : List Shape → Valued → List ℕ → ℕ → Option Meant
-port_inside shapes t q instance = option_and_then (λ u. option_map (λ m. record { instance = Some instance; setting = u; thing = thing.Member m }) (port_named shapes u q)) (inside shapes t instance)
-
--- what a name means, or a name and that of a port
-abbrev pub meaning_of : List Shape → Valued → List ℕ → Option Name → Option Meant
-meaning_of shapes t head None = option_map (own_thing t) (thing_in shapes t head)
-meaning_of shapes t head (Some port) = option_and_then (port_inside shapes t (string_bytes port.text)) (member_named shapes t head)
-
--- what a reference means
-abbrev pub meaning_in : List Shape → Valued → Reference → Option Meant
-meaning_in shapes t r = meaning_of shapes t (string_bytes r.head.text) r.port
+-- what a reference means in a setting
+abbrev pub meaning_in : List Shape → Valued → Reference → Option Meaning
+meaning_in shapes t r = option_and_then (λ shape. meaning_of shapes shape r) (slice_get shapes t.shape)
 
 -- ---- counts
 -- a count of 2^64 or more is 2^64 - 1
@@ -102,14 +61,14 @@ abbrev pub how_many_of : List Shape → Widths → Valued → Thing → Option �
 how_many_of shapes widths t (thing.Parameter p) = Some 1
 how_many_of shapes widths t (thing.Member m) = how_many shapes widths t m
 
--- how many an instance is, if there is one
-abbrev pub how_many_in : List Shape → Widths → Valued → Option ℕ → Option ℕ
-how_many_in shapes widths t None = Some 1
-how_many_in shapes widths t (Some m) = how_many shapes widths t m
+-- how many a port of an instance is
+abbrev pub how_many_inside : List Shape → Widths → Valued → ℕ → ℕ → Option ℕ
+how_many_inside shapes widths t instance port = option_and_then (λ u. how_many shapes widths u port) (inside shapes t instance)
 
 -- how many places there are of what a reference means
-abbrev pub places_of : List Shape → Widths → Valued → Meant → Option ℕ
-places_of shapes widths t meant = times (how_many_of shapes widths meant.setting meant.thing) (how_many_in shapes widths t meant.instance)
+abbrev pub places_of : List Shape → Widths → Valued → Meaning → Option ℕ
+places_of shapes widths t (meaning.Own thing) = how_many_of shapes widths t thing
+places_of shapes widths t (meaning.Port instance port) = times (how_many_inside shapes widths t instance port) (how_many shapes widths t instance)
 
 -- how many places a reference has
 abbrev pub places_in : List Shape → Widths → Valued → Reference → Option ℕ

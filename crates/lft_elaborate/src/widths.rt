@@ -1,10 +1,11 @@
 //! Widths of ports and banks in a setting.
 
 ghost use Rattle.std.specs.Prelude.{◌≡◌, ◌≤◌, ◌↔◌, ℕ, Some, IfErr, IfOk, IfSome, IsSome, OnOk, is_some, option_and_then};
-ghost use Rattle.lft_elaborate.specs.inner.{Noted.{GoesOn, GoesOnIf}, Places.{AreMany, AreManyIn, HasPlaces, HasWidth, IsCount, IsSum}, Refused.IsOfWord};
+ghost use Rattle.lft_elaborate.specs.inner.{Noted.{GoesOn, GoesOnIf}, Places.{AreMany, HasPlaces, HasWidth, IsCount, IsSum}, Refused.{IfRefused, IsOfWord}};
 ghost use Rattle.lft_elaborate.specs.inner.{Settings.setting_at, Widths.{member_at, width_at}};
 ghost use Rattle.lft_elaborate.specs.{Noted.{AreMade, table}, Places.{IsMany, IsWidth, natural, parameter_in, plus, times}, Values.Valued, Widths.found_width};
 
+use crate::meanings::Meaning;
 use crate::path::{Path, Wanted};
 use crate::settings::{Settings, note};
 use crate::values::number_named;
@@ -93,7 +94,7 @@ impl<'a> Settings<'a> {
         at: usize,
     ) -> Result<u64, Stop>
         ensures number { IfOk result (λ n. (t : Valued) → setting_at self.now setting ≡ Some t → option_and_then natural (parameter_in self.now.shapes.items t word.now) ≡ Some n) }
-        ensures cause { IfErr result (λ stop. (t : Valued) → setting_at self.now setting ≡ Some t → IsOfWord self.now.shapes.items t file at word.now stop) }
+        ensures cause { IfErr result (λ stop. (t : Valued) → setting_at self.now setting ≡ Some t → IfRefused (IsOfWord self.now.shapes.items t file at word.now) stop) }
     {
         let Some(value) = self.number_in(setting, word) else {
             return Err(Stop::at(Why::UnknownParameter, file, at));
@@ -134,21 +135,6 @@ impl<'a> Settings<'a> {
         }
     }
 
-    /// The same of an instance of a setting, if there is one.
-    fn need_instance(
-        &self,
-        setting: usize,
-        instance: Option<usize>,
-        needs: &mut Vec<Wanted>,
-    ) -> Result<Option<u64>, AllocError>
-        ensures many { IfOk result (λ found. IfSome found (λ n. (t : Valued) → AreMade (table self.now) → setting_at self.now setting ≡ Some t → AreManyIn self.now.shapes.items t instance n)) }
-    {
-        match instance {
-            Some(member) => self.need(Wanted { setting, member }, needs),
-            None => Ok(Some(1)),
-        }
-    }
-
     /// How many places a reference in a width has, if the widths that it takes are known.
     fn width_of(
         &mut self,
@@ -161,10 +147,32 @@ impl<'a> Settings<'a> {
         ensures goes { OnOk result (GoesOn (table self.old) (table self.new)) }
         ensures places { IfOk result (λ found. IfSome found (λ n. (t : Valued) → AreMade (table self.old) → setting_at self.old setting ≡ Some t → HasPlaces self.old.shapes.items t reference.now n)) }
     {
+        self.enter(setting, reference)?;
         let meaning = self.meaning(setting, file, reference)?;
-        let count = self.need_thing(meaning.setting, meaning.thing, needs)?;
-        let members = self.need_instance(setting, meaning.instance, needs)?;
-        Ok(times(count, members))
+        match meaning {
+            Meaning::Own(thing) => {
+                let count = self.need_thing(setting, thing, needs)?;
+                Ok(count)
+            }
+            Meaning::Port { instance, port } => {
+                let inner = self.entered(setting, instance, file, reference)?;
+                let ports = self.need(
+                    Wanted {
+                        setting: inner,
+                        member: port,
+                    },
+                    needs,
+                )?;
+                let members = self.need(
+                    Wanted {
+                        setting,
+                        member: instance,
+                    },
+                    needs,
+                )?;
+                Ok(times(ports, members))
+            }
+        }
     }
 
     /// The number that a term of a width is, if the widths that it takes are known.

@@ -6,8 +6,8 @@ use Rattle.lft_tree.specs.Tree.{TimeTree, RefTree, TimerTree, ActionTree, Trigge
 use Rattle.lft_whole.specs.declared.tree.{Action.Action, Connection.Connection, Effect.Effect, Expression.Expression, Member.Member, Reaction.Reaction}
 use Rattle.lft_whole.specs.declared.tree.{Timer.Timer, Trigger.Trigger, Value.Value}
 use Rattle.lft_classes.specs.{declared.shapes.{Child.Child, Given.Given, Inherited.Inherited, Shape.Shape}, Shapes.{child_at, thing_named, width_of}}
-use Rattle.lft_elaborate.specs.{Channels.Lowered.{AreJoined, own}, Noted.found_inside, Values.is_forever, Widths.found_width}
-use Rattle.lft_lower.specs.Meanings.{Meanings.{Here, Means, all_places, named_in, places_in, shape_inside}, Places.{Several, count_of, names_of}}
+use Rattle.lft_elaborate.specs.{Channels.Lowered.{AreJoined, own}, Meanings.shape_inside, Noted.found_inside, Values.is_forever, Widths.found_width}
+use Rattle.lft_lower.specs.Meanings.{Meanings.{Here, Means, all_places, named_in, places_in}, Places.{Several, count_of, names_of}}
 use Rattle.lft_lower.specs.{Needed.{GivesNeeded, is_timed}, Times.{IsTime, time_for}}
 use Rattle.lft_whole.specs.declared.tree.Effect.TheVariants as effects
 use Rattle.lft_whole.specs.declared.tree.Member.TheVariants as member
@@ -79,7 +79,7 @@ given_times shape child = filter_map (time_given shape) child.given.items
 
 -- the times that the instance of this number gives, which can all be read; none is lacking
 abbrev pub AreGiven : Here → ℕ → List AssignmentTree → Type 0
-AreGiven h n given = (child : Child) × (shape : Shape) × (child_at h.shape.children.items n ≡ Some child) × (shape_inside h n ≡ Some shape) × GivesNeeded shape child × All (IsGiven h.shape shape) child.given.items × (given ≡ given_times shape child)
+AreGiven h n given = (child : Child) × (shape : Shape) × (child_at h.shape.children.items n ≡ Some child) × (shape_inside h.settings.shapes.items h.shape n ≡ Some shape) × GivesNeeded shape child × All (IsGiven h.shape shape) child.given.items × (given ≡ given_times shape child)
 
 -- the name of the core reactor of the setting that is in the instance of this number
 abbrev pub reactor_at : List (Option (List ℕ)) → Here → ℕ → Option (List ℕ)

@@ -9,9 +9,9 @@ use Rattle.lft_whole.specs.declared.tree.Trigger.{Trigger}
 use Rattle.lft_whole.specs.declared.sources.source.SourceFile.{SourceFile}
 use Rattle.lft_whole.specs.Sources.Tokens.{number_at}
 use Rattle.lft_classes.specs.{Shapes.{child_at, is_at}, declared.shapes.{Given.Given, Inherited.Inherited, Shape.Shape}}
-use Rattle.lft_elaborate.specs.{Channels.Channels.{below, joined, source}, Settings.shape_at, declared.settings.Settings.Settings, Values.is_forever}
-use Rattle.lft_lower.specs.{Meanings.{Meanings.{Here, shape_inside}, Standing.{all_tokens, ref_tokens, tokens_of}}, Lowered.{all_triggers, time_given}}
-use Rattle.lft_lower.specs.Needed.{is_timed}
+use Rattle.lft_elaborate.specs.{Channels.Channels.{below, joined, source}, Meanings.shape_inside, Settings.shape_at, declared.settings.Settings.Settings}
+use Rattle.lft_elaborate.specs.Values.{is_forever}
+use Rattle.lft_lower.specs.{Meanings.{Meanings.Here, Standing.{all_tokens, ref_tokens, tokens_of}}, Lowered.{all_triggers, time_given}, Needed.is_timed}
 use Rattle.lft_tree.specs.declared.tree.Item.TheVariants as items
 use Rattle.lft_tree.specs.declared.tree.Member.TheVariants as kinds
 use Rattle.lft_tree.specs.declared.tree.TimeExpression.TheVariants as times
@@ -102,7 +102,7 @@ given_token number shape g = unwrap_or (option_map (λ _. number g.value.now.at 
 
 -- the tokens of what the instance of this number gives
 abbrev pub tokens_of_given : (ℕ → ℕ) → Here → ℕ → List ℕ
-tokens_of_given number h n = unwrap_or (option_and_then (λ child. option_map (λ shape. flat_map (given_token number shape) child.given.items) (shape_inside h n)) (child_at h.shape.children.items n)) []
+tokens_of_given number h n = unwrap_or (option_and_then (λ child. option_map (λ shape. flat_map (given_token number shape) child.given.items) (shape_inside h.settings.shapes.items h.shape n)) (child_at h.shape.children.items n)) []
 
 -- an instance, or each of a bank, names its reactor behind `new`
 abbrev pub instance_tokens : (ℕ → ℕ) → Here → ℕ → Instance → List ℕ

@@ -2,9 +2,9 @@
 
 ghost use Rattle.std.specs.Prelude.{◌≡◌, ◌⊎◌, ◌∷◌, IfErr, IfOk, IsTrue, OnOk, false, option_map, true};
 ghost use Rattle.lft_tree.specs.ItemView.{connection_view, ref_view, ref_views, time_view};
-ghost use Rattle.lft_elaborate.specs.Channels.Lowered.{single};
+ghost use Rattle.lft_elaborate.specs.{Channels.Lowered.single, inner.Refused.IfRefused};
 ghost use Rattle.lft_lower.specs.Meanings.{Meanings.all_places, Standing.{all_tokens, ref_tokens}};
-ghost use Rattle.lft_lower.specs.inner.{Meanings.{Meanings.{here, token_in}, Refused.{IfRefused, IsOfOne, IsPassed}}, Lowered.{Adds, AreSides}};
+ghost use Rattle.lft_lower.specs.inner.{Meanings.{Meanings.{here, token_in}, Refused.{IsOfOne, IsPassed}}, Lowered.{Adds, AreSides}};
 ghost use Rattle.lft_lower.specs.inner.Refused.{IsOfConnection, IsOfSides};
 ghost use Rattle.lft_lower.specs.Lowered.{AreConnected, AreEach, IsRead, MeanSides, time_at};
 ghost use Rattle.lft_lower.specs.Standing.{AddsAt, AreSidesAt, pairs_tokens, parts_at, time_tokens, written_tokens};
@@ -13,7 +13,7 @@ ghost use Rattle.lft_tree.specs.declared.tree.Member.TheVariants as kinds;
 
 use crate::copies::{copied_reference, copied_time};
 use crate::meanings::notes::Notes;
-use crate::meanings::places::{Within, count, meaning, some_places};
+use crate::meanings::places::{Within, count, some_places};
 use crate::meanings::room::Room;
 use crate::times::{bytes_of, maybe_time};
 use lft_classes::Work;
@@ -62,7 +62,7 @@ fn are_plain(within: Within, references: &[lft_whole::Reference]) -> Result<bool
     ensures { IfErr result (IfRefused (IsOfOne (here within.entry) within.entry.file references.now)) }
 {
     for reference in references {
-        if meaning(within, reference)?.is_wide() {
+        if within.is_wide(within.meaning(reference)?) {
             return Ok(false);
         }
     }

@@ -3,7 +3,8 @@
 ghost use Rattle.std.specs.Prelude.{◌≡◌, ◌<◌, ◌≤◌, ◌++◌, [], ◌∷◌, Some, false, IfErr, IfOk, OnOk, flat_map, map, option_map, string_bytes, true, unwrap_or};
 ghost use Rattle.std.specs.List.{All, cons_option};
 ghost use Rattle.lft_tree.specs.ItemView.{assignment_view, member_views};
-ghost use Rattle.lft_lower.specs.inner.{Meanings.{Meanings.{here, token_in}, Names.texts, Places.several, Refused.{IfRefused, IsPassed}}, Lowered.Adds};
+ghost use Rattle.lft_elaborate.specs.inner.Refused.{IfRefused};
+ghost use Rattle.lft_lower.specs.inner.{Meanings.{Meanings.{here, token_in}, Names.texts, Places.several, Refused.IsPassed}, Lowered.Adds};
 ghost use Rattle.lft_lower.specs.inner.{Needed.{needed_given, needed_in}, Refused.IsOfGiven};
 ghost use Rattle.lft_lower.specs.{Lowered.{AreGiven, AreInstances, IsGiven, given_times, instances, reactor_at, time_given}, Needed.is_needed};
 ghost use Rattle.lft_lower.specs.Standing.{AddsAt, given_token, given_tokens, instance_tokens, tokens_of_given};

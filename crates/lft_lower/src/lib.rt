@@ -1,7 +1,7 @@
 #![tactic(auto)]
 //! The core tree of a whole program, and the notes on it.
 //!
-//! - `meanings`: what references of a setting mean in the core, the names of reactors there, and how much text
+//! - `meanings`: what references of a setting become in the core, the names of reactors there, and how much text
 //!   may be made.
 //!
 //! Of some parts the clauses say why they are refused: references, times, connections, spacings. Why a program

@@ -2,7 +2,8 @@
 
 ghost use Rattle.std.specs.Prelude.{◌≡◌, IfErr, IfOk, None, OnOk, true};
 ghost use Rattle.lft_whole.specs.declared.sources.stop.Stop.TheVariants.{NoMemory};
-ghost use Rattle.lft_lower.specs.{inner.{Meanings.Refused.IfRefused, Refused.{IsDecentralized, IsOfFederation}}, Programs.{IsCentralized, decentralized_in}};
+ghost use Rattle.lft_elaborate.specs.inner.Refused.{IfRefused};
+ghost use Rattle.lft_lower.specs.{inner.Refused.{IsDecentralized, IsOfFederation}, Programs.{IsCentralized, decentralized_in}};
 ghost use Rattle.lft_lower.specs.Reactors.{IsLowering, IsProgram};
 
 use crate::instances::needed;

@@ -1,5 +1,5 @@
-//! What references of a setting mean in the core, the names of reactors there, what is said of a program, and how
-//! much text may be made.
+//! What references of a setting become in the core, the names of reactors there, what is said of a program, and
+//! how much text may be made.
 //!
 //! No clause says which notes are said of a program, or which name a setting gets.
 

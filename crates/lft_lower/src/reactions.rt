@@ -4,7 +4,8 @@ ghost use Rattle.std.specs.Prelude.{◌≡◌, ◌≢◌, ◌++◌, ◌⊎◌, [
 ghost use Rattle.std.specs.List.{All};
 ghost use Rattle.lft_tree.specs.{Identifiers.IsName, ItemView.{member_views, ref_views, trigger_view}, Tree.OnRef};
 ghost use Rattle.lft_classes.specs.Shapes.{thing_named};
-ghost use Rattle.lft_lower.specs.inner.{Meanings.{Meanings.{here, token_in}, Refused.{IfRefused, IsPassed}}, Lowered.Adds, Refused.{IsOfEffect, IsOfTrigger}};
+ghost use Rattle.lft_elaborate.specs.inner.Refused.{IfRefused};
+ghost use Rattle.lft_lower.specs.inner.{Meanings.{Meanings.{here, token_in}, Refused.IsPassed}, Lowered.Adds, Refused.{IsOfEffect, IsOfTrigger}};
 ghost use Rattle.lft_lower.specs.Meanings.Standing.{ref_tokens};
 ghost use Rattle.lft_lower.specs.Lowered.{AreTriggers, IsAsleep, IsReaction, MeansAll, MeansEffect, MeansTrigger, all_triggers, asleep, effect_places, trigger_places};
 ghost use Rattle.lft_lower.specs.Standing.{AddsAt, all_trigger_tokens, reaction_tokens, tokens_of_effect, tokens_of_trigger, trigger_tokens};

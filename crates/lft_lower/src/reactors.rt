@@ -4,12 +4,12 @@ ghost use Rattle.std.specs.Prelude.{◌≡◌, ◌++◌, ◌⊎◌, ℕ, [], ◌
 ghost use Rattle.std.specs.List.{cons_option};
 ghost use Rattle.lft_tree.specs.ItemView.{action_view, item_view, member_views, parameter_view, reactor_view, time_view, timer_view};
 ghost use Rattle.lft_tree.specs.Tree.{ActionMember, TimerMember};
-ghost use Rattle.lft_lower.specs.inner.{Meanings.{Meanings.{here, token_in}, Names.texts, Places.several, Refused.{IfRefused, IsPassed}}, Lowered.Adds};
+ghost use Rattle.lft_lower.specs.inner.{Meanings.{Meanings.{here, token_in}, Names.texts, Places.several, Refused.IsPassed}, Lowered.Adds};
 ghost use Rattle.lft_lower.specs.inner.Refused.{IsOfAction, IsOfDefault, IsOfParameter, IsOfPeriod, IsOfTimer};
 ghost use Rattle.lft_lower.specs.Lowered.{IsLowered, IsMeasured, IsPeriod, IsRead, action_tree, is_spaced, period_at, ports, timer_tree};
 ghost use Rattle.lft_lower.specs.Reactors.{AreMembers, AreReactors, HasDefault, IsDefault, IsReactor, default_time, timed_parameter, timed_parameters};
 ghost use Rattle.lft_lower.specs.Standing.{AddsAt, AreAt, ArePartsAt, ArePlaced, IsPlaced, declared_at, head_at, parameter_token, period_tokens, time_tokens, written_tokens};
-ghost use Rattle.lft_elaborate.specs.Channels.Channels.{below};
+ghost use Rattle.lft_elaborate.specs.{Channels.Channels.below, inner.Refused.IfRefused};
 
 use crate::connections::push_connection;
 use crate::instances::push_instances;

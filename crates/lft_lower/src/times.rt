@@ -2,10 +2,9 @@
 
 ghost use Rattle.std.specs.Prelude.{◌≡◌, Some, IfErr, IfOk, OnOk, not, option_map};
 ghost use Rattle.lft_tree.specs.ItemView.{time_view};
-ghost use Rattle.lft_lower.specs.inner.{Meanings.{Refused.{IfRefused, IsAt}, Meanings.token_in}, Refused.{IsNoTime, IsNoWritten, IsOfTime}};
-ghost use Rattle.lft_lower.specs.{Lowered.{IsRead, is_some_time, time_at}, Standing.{time_token, time_tokens, written_tokens}};
-ghost use Rattle.lft_lower.specs.Times.{IsTime, IsWritten, named_by, time_for, time_in};
-ghost use Rattle.lft_elaborate.specs.Values.{is_forever};
+ghost use Rattle.lft_lower.specs.{inner.{Meanings.Meanings.token_in, Refused.{IsNoTime, IsNoWritten, IsOfTime}}, Lowered.{IsRead, is_some_time, time_at}};
+ghost use Rattle.lft_lower.specs.{Standing.{time_token, time_tokens, written_tokens}, Times.{IsTime, IsWritten, named_by, time_for, time_in}};
+ghost use Rattle.lft_elaborate.specs.{Values.is_forever, inner.Refused.{IfRefused, IsAt}};
 
 use crate::meanings::places::Within;
 use lft_classes::{InheritedParameter, Shape, Thing};

@@ -6,5 +6,6 @@ pub mod Giving
 pub mod Lineage
 pub mod MemberNames
 pub mod Nested
+pub mod Ports
 pub mod Shapes
 pub mod Widths

@@ -1,19 +1,19 @@
 -- The core reactors of a tree, and what `new` finds of them.
 use Rattle.std.proofs.Common.{◌≡◌, ℕ, ◌⊎◌, inl, inr, Bool, true, false, List, [], ◌∷◌, ◌++◌, length, filter_map, Option, Some, None, Contains, slice_get, refl, sym, ap, subst, ◌∙◌}
 use Rattle.std.specs.Prelude.{filter, find, if◌then◌else◌, slice_index_or}
-use Rattle.std.{specs.Option.option_and_then, proofs.lemmas.{List.Elements.filter_map-append, Slice.Eq.bytes_eq-Decides}}
-use Rattle.lft_lists.proofs.{Mapped.option_map_some, Members.{Mem, mem_cases, mem_contains}, Places.{at_contains, get_last, get_push}}
+use Rattle.std.proofs.lemmas.{List.Elements.filter_map-append, Slice.Eq.bytes_eq-Decides}
+use Rattle.lft_lists.proofs.{Members.{Mem, mem_cases, mem_contains}, Places.{at_contains, get_last, get_push}}
 use Rattle.lft_tree.specs.{Tree.{InstanceTree, ItemTree, ReactorTree, ReactorItem, instances_of, reactor_in, reactors_of}, View.tree_view, ItemView.item_views}
 use Rattle.lft_tree.specs.declared.ast.Ast.{Ast}
 use Rattle.lft_resolve.specs.{Causes.{LacksReactor, NoMain, NoneHolds, UnknownReactor, causes}, Instances.{is_called, main_of, reactor_named}}
 use Rattle.lft_resolve.proofs.Twice.{Any-at}
 use Rattle.lft_program.proofs.Zipping.{then_some}
 use Rattle.lft_whole.specs.declared.sources.source.SourceFile.{SourceFile}
-use Rattle.lft_classes.specs.{declared.shapes.{Child.Child, Shape.Shape}, Shapes.child_at, Walks.Has}
+use Rattle.lft_classes.specs.{declared.shapes.Shape.Shape, Walks.Has}
 use Rattle.lft_elaborate.specs.{declared.settings.Settings.Settings, Noted.found_inside, inner.Settings.setting_at, Settings.shape_at}
-use Rattle.lft_elaborate.specs.Values.{Valued, inside, main_setting, setting_of, values_inside}
+use Rattle.lft_elaborate.specs.Values.{Valued, inside, main_setting}
 use Rattle.lft_elaborate.proofs.Keeping.{found_is_inside}
-use Rattle.lft_lower.specs.{Meanings.Meanings.shape_inside, Lowered.reactor_at, Reactors.{AreReactors, IsLowering, IsReactor, more_reactors, no_reactors}}
+use Rattle.lft_lower.specs.{Lowered.reactor_at, Reactors.{AreReactors, IsLowering, IsReactor, more_reactors, no_reactors}}
 use Rattle.lft_same.proofs.FitsLemmas.Giving.{find_some}
 
 -- a reactor is the core reactor of one of these settings
@@ -67,20 +67,6 @@ module _ (files : List SourceFile) (tree : Ast) (low : IsLowering files tree) wh
 
       same : one.number ≡ k.0
       same = low.apart one.number k.0 q (sym one.reactor.name ∙ called r.name f.1) k.2
-
-  -- its shape is the one that is noted in the instance
-  pub shape_is_inside : (number n : ℕ) (t u : Valued) (shape inner : Shape) → slice_get low.settings.shapes.items t.shape ≡ Some shape → inside low.settings.shapes.items t n ≡ Some u → slice_get low.settings.shapes.items u.shape ≡ Some inner → shape_inside (record { settings = low.settings; setting = number; shape = shape }) n ≡ Some inner
-  shape_is_inside number n t u shape inner is_shape in_u is_inner =
-      ap (option_and_then (λ (c : Child). slice_get low.settings.shapes.items c.shape)) child.1 ∙ ap (slice_get low.settings.shapes.items) (ap (λ (v : Valued). v.shape) made.2) ∙ is_inner
-    where
-      child : (child : Child) × (child_at shape.children.items n ≡ Some child) × (setting_of low.settings.shapes.items shape t.values child ≡ Some u)
-      child = then_some (setting_of low.settings.shapes.items shape t.values) (child_at shape.children.items n) u (sym (ap (option_and_then (λ (outer : Shape). option_and_then (setting_of low.settings.shapes.items outer t.values) (child_at outer.children.items n))) is_shape) ∙ in_u)
-
-      valued : Shape → Valued
-      valued inner = record { shape = child.0.shape; values = values_inside shape t.values child.0.given.items inner }
-
-      made : (inner : Shape) × (slice_get low.settings.shapes.items child.0.shape ≡ Some inner) × (valued inner ≡ u)
-      made = option_map_some valued (slice_get low.settings.shapes.items child.0.shape) u child.2
 
   -- the main reactor is the core reactor of the main setting
   pub main_found : (r : ReactorTree) → main_of (tree_view tree) ≡ Some r → (t : Valued) × (main_setting low.settings.shapes.items ≡ Some t) × IsCore t r

@@ -9,19 +9,20 @@ use Rattle.lft_tree.specs.{Tree.{ReactorTree, RefTree, instances_of}, declared.a
 use Rattle.lft_resolve.specs.{Instances.{Thing, stands_for, thing_at}, inner.Places.place}
 use Rattle.lft_whole.specs.declared.{sources.source.SourceFile.SourceFile, tree.{Instance.Instance, Member.Member, Name.Name, Reference.Reference}}
 use Rattle.lft_elaborate.specs.{Channels.{Channels.below, Lowered.{inner, own}}, Names.name_in, Values.{Valued, inside, setting_of, values_inside}}
-use Rattle.lft_elaborate.specs.Widths.{found_width}
+use Rattle.lft_elaborate.specs.{Meanings.{meaning_named, shape_inside}, Widths.found_width, declared.meanings.Meaning.Meaning}
 use Rattle.lft_classes.specs.declared.shapes.{Child.Child, Inherited.Inherited, InheritedParameter.InheritedParameter, Shape.Shape, Thing.Thing as ShapeThing}
 use Rattle.lft_classes.specs.Shapes.{child_at, name_of, thing_named, width_of}
-use Rattle.lft_lower.specs.Meanings.Meanings.{Here, Means, all_places, if_port, inner_width, member_in, places_in, port_in, port_number, port_of, sense_behind, sense_in, sense_named, shape_inside, thing_in}
-use Rattle.lft_lower.specs.Meanings.Places.{Inner, Own, Sense, Several, count_of, inner_places, name_at, names_of, own_places, places_of}
+use Rattle.lft_lower.specs.Meanings.Meanings.{Here, Means, all_places, inner_width, meaning_in, member_in, member_name, places_in, places_of, port_of, thing_in}
+use Rattle.lft_lower.specs.Meanings.Places.{Several, count_of, inner_places, name_at, names_of, own_places}
 use Rattle.lft_lower.specs.Reactors.{IsLowering}
 use Rattle.lft_same.specs.inner.Expanded.Core.{things_for}
 use Rattle.lft_same.specs.Expanded.Instances.{Inner as InnerInstance, Inside, Widths, inners, inside_of, numbers, numbers_at, numbers_named, place_named, written}
 use Rattle.lft_same.specs.Expanded.{Reactors.members_of, Whole.{channels, crossed, inner_thing, inside_named, new_in, things_named}}
 use Rattle.lft_same.proofs.ExpandedLemmas.{Crossed.{crossed_map, crossed_nil, places_crossed}, Flattened.map_twice}
-use Rattle.lft_same.proofs.FitsLemmas.{Channels.{crossed_first, is_found}, MemberNames.{member_found, member_lost}, Shapes.flat_alike}
+use Rattle.lft_same.proofs.FitsLemmas.{Channels.{crossed_first, is_found}, MemberNames.{member_found, member_lost}, Ports.port_is, Shapes.flat_alike}
 use Rattle.lft_same.proofs.{Instances.AreWidthsFound, Kept.{kept_or, of_all, some_or}}
 use Rattle.lft_same.proofs.Settings.{HasSetting, IsFoundIn, found_in, here, nested, numbers_are, of_class, shape_there, member_of}
+use Rattle.lft_elaborate.specs.declared.meanings.Meaning.TheVariants as meaning
 use Rattle.lft_whole.specs.declared.tree.Member.TheVariants as member
 use Rattle.lft_classes.specs.declared.shapes.Thing.TheVariants as thing
 
@@ -99,7 +100,7 @@ module _ (files : List SourceFile) (tree : Ast) (low : IsLowering files tree) (w
         ∙ ap (map own) (own_names q th is)
         ∙ map_twice (written q) own (numbers_named files w x q)
 
-  module _ (x : Inside) (s : HasSetting files tree low x) (b p : List ℕ) (m : ℕ) (is : thing_named s.shape b ≡ Some (thing.Member m)) (shape : Shape) (is_shape : shape_inside (here files tree low x s) m ≡ Some shape) (port : ℕ) (is_port : port_in shape p ≡ Some port) where
+  module _ (x : Inside) (s : HasSetting files tree low x) (b p : List ℕ) (m : ℕ) (is : thing_named s.shape b ≡ Some (thing.Member m)) (shape : Shape) (is_shape : shape_inside low.settings.shapes.items s.shape m ≡ Some shape) (port : ℕ) (is_port : thing_named shape p ≡ Some (thing.Member port)) where
     abbrev h : Here
     h = here files tree low x s
 
@@ -134,13 +135,14 @@ module _ (files : List SourceFile) (tree : Ast) (low : IsLowering files tree) (w
 
     -- the names of the ports
     abbrev ports : Several
-    ports = member_in shape port (inner_width h m port)
+    ports = port_of h m port
 
     port_names : (c : ℕ) → unwrap_or (found_width low.settings s.number m) 1 ≡ suc c → names_of ports ≡ map (written p) (inner_numbers files w x b p)
     port_names c some =
-        ap (λ (o : Option ℕ). names_of (member_in shape port (option_and_then (λ k. found_width low.settings k port) o))) f.is_number
+        ap (λ (o : Option Shape). names_of (record { name = unwrap_or (option_map (λ (z : Shape). member_name z port) o) []; width = inner_width h m port })) is_shape
+        ∙ ap (λ (o : Option ℕ). names_of (member_in shape port (option_and_then (λ k. found_width low.settings k port) o))) f.is_number
         ∙ ap (λ (z : Shape). names_of (member_in z port (found_width low.settings f.setting.number port))) (sym same)
-        ∙ own_names y.0 f.setting p (thing.Member port) (ap (λ (z : Shape). thing_named z p) same ∙ named_port)
+        ∙ own_names y.0 f.setting p (thing.Member port) (ap (λ (z : Shape). thing_named z p) same ∙ is_port)
         ∙ ap (map (written p)) (sym (ap (λ o. flat_map (λ y. numbers_named files w y p) (option_to_list o)) inside_is ∙ append-nil (numbers_named files w y.0 p)))
       where
         f : IsFoundIn files tree low x s m y.0
@@ -150,22 +152,6 @@ module _ (files : List SourceFile) (tree : Ast) (low : IsLowering files tree) (w
         same =
             let v : f.setting.setting ≡ u.0 = Some_same f.setting.setting u.0 (sym f.is_inside ∙ u.1) in
             Some_same f.setting.shape shape (sym (shape_there files tree low y.0 f.setting) ∙ ap (λ (v : Valued). slice_get low.settings.shapes.items v.shape) v ∙ u.2)
-
-        named_port : thing_named shape p ≡ Some (thing.Member port)
-        named_port = let t = then_some (port_number shape) (thing_named shape p) port is_port in t.1 ∙ ap Some (one t.0 t.2)
-          where
-            numbered : (n : ℕ) (m : Member) → if_port n m ≡ Some port → n ≡ port
-            numbered n (member.Port q) e = Some_same n port e
-            numbered n (member.Timer q) e = absurd (cc)
-            numbered n (member.Action q) e = absurd (cc)
-            numbered n (member.Reaction q) e = absurd (cc)
-            numbered n (member.Instance q) e = absurd (cc)
-            numbered n (member.Connection q) e = absurd (cc)
-            numbered n (member.Foreign what q) e = absurd (cc)
-
-            one : (t : ShapeThing) → port_number shape t ≡ Some port → t ≡ thing.Member port
-            one (thing.Parameter n) e = absurd (cc)
-            one (thing.Member n) e = let r = then_some (λ (m : Inherited). if_port n m.member.now) (slice_get shape.members.items n) port e in ap thing.Member (numbered n r.0.member.now r.2)
 
     -- the places of its ports
     pub inner_refs : (interleaved : Bool) → inner_places (thing_in h (thing.Member m)) ports interleaved ≡ refs_named files w x interleaved b (Some p)
@@ -211,21 +197,14 @@ module _ (files : List SourceFile) (tree : Ast) (low : IsLowering files tree) (w
         is_found files w x m its_instance.0 its_instance.1 its_instance.2 path p n (subst (Mem n.0) own first) (ap (λ z. inner_thing files w path x z p n) is_named ∙ none)
 
   module _ (x : Inside) (s : HasSetting files tree low x) where
-    -- what a reference means by its names
-    sense_refs : (interleaved : Bool) (q : List ℕ) (port : Option (List ℕ)) (sense : Sense) → sense_named (here files tree low x s) q port ≡ Some sense → places_of interleaved sense ≡ refs_named files w x interleaved q port
-    sense_refs interleaved q None sense e =
-        let t = option_map_some (λ th. Own (thing_in (here files tree low x s) th)) (thing_named s.shape q) sense e in
-        ap (places_of interleaved) (sym t.2) ∙ own_refs x s q t.0 t.1
-    sense_refs interleaved q (Some p) sense e =
-        let t = then_some (sense_behind (here files tree low x s) p) (thing_named s.shape q) sense e in
-        by t.0 t.1 t.2
-      where
-        by : (t : ShapeThing) → thing_named s.shape q ≡ Some t → sense_behind (here files tree low x s) p t ≡ Some sense → places_of interleaved sense ≡ refs_named files w x interleaved q (Some p)
-        by (thing.Parameter n) is f = absurd (cc)
-        by (thing.Member m) is f =
-            let i = then_some (port_of (here files tree low x s) m p) (shape_inside (here files tree low x s) m) sense f in
-            let r = option_map_some (λ port. Inner (thing_in (here files tree low x s) (thing.Member m)) (member_in i.0 port (inner_width (here files tree low x s) m port))) (port_in i.0 p) sense i.2 in
-            ap (places_of interleaved) (sym r.2) ∙ inner_refs x s q p m is i.0 i.1 r.0 r.1 interleaved
+    -- the places of what a reference means, by its names
+    meaning_refs : (interleaved : Bool) (q : List ℕ) (port : Option (List ℕ)) (z : Meaning) → meaning_named low.settings.shapes.items s.shape q port ≡ Some z → places_of (here files tree low x s) interleaved z ≡ refs_named files w x interleaved q port
+    meaning_refs interleaved q None z e =
+        let t = option_map_some (λ th. meaning.Own th) (thing_named s.shape q) z e in
+        ap (places_of (here files tree low x s) interleaved) (sym t.2) ∙ own_refs x s q t.0 t.1
+    meaning_refs interleaved q (Some p) z e =
+        let b = port_is low.settings.shapes.items s.shape q p z e in
+        ap (places_of (here files tree low x s) interleaved) (sym b.is_meant) ∙ inner_refs x s q p b.instance b.is_instance b.inner b.is_inner b.port b.is_port interleaved
 
     module _ (path : List ℕ) (r : ReactorTree) (same : map (λ i. i.name) (instances_of r) ≡ map (λ (i : InnerInstance). i.name) (inners files w x)) where
       -- an instance is at the same place in both
@@ -248,36 +227,29 @@ module _ (files : List SourceFile) (tree : Ast) (low : IsLowering files tree) (w
           ∙ ap (λ (f : Option ℕ × Option ℕ → Option Thing). filter_map f ns) (λ i n. inner_same b p n i)
 
       -- each of them stands for something
-      refs_stand : (interleaved : Bool) (q : List ℕ) (port : Option (List ℕ)) (sense : Sense) → sense_named (here files tree low x s) q port ≡ Some sense → (ref : RefTree) → Mem ref (refs_named files w x interleaved q port) → stands_for r path ref ≡ None → ⊥
-      refs_stand interleaved q None sense e ref k none =
+      refs_stand : (interleaved : Bool) (q : List ℕ) (port : Option (List ℕ)) (z : Meaning) → meaning_named low.settings.shapes.items s.shape q port ≡ Some z → (ref : RefTree) → Mem ref (refs_named files w x interleaved q port) → stands_for r path ref ≡ None → ⊥
+      refs_stand interleaved q None z e ref k none =
           let n = mem_from_map (λ n. own (written q n)) (numbers_named files w x q) ref k in
           let f : Some (thing_at path (written q n.0)) ≡ None = ap (stands_for r path) n.2 ∙ none in absurd (cc)
-      refs_stand interleaved b (Some p) sense e ref k none =
-          let t = then_some (sense_behind (here files tree low x s) p) (thing_named s.shape b) sense e in
-          by t.0 t.1 t.2
-        where
-          by : (t : ShapeThing) → thing_named s.shape b ≡ Some t → sense_behind (here files tree low x s) p t ≡ Some sense → ⊥
-          by (thing.Parameter n) is f = absurd (cc)
-          by (thing.Member m) is f =
-              let i = then_some (port_of (here files tree low x s) m p) (shape_inside (here files tree low x s) m) sense f in
-              let o = option_map_some (λ port. Inner (thing_in (here files tree low x s) (thing.Member m)) (member_in i.0 port (inner_width (here files tree low x s) m port))) (port_in i.0 p) sense i.2 in
-              let n = mem_from_map (λ (n : Option ℕ × Option ℕ). inner (written b n.0) (written p n.1)) (crossed interleaved (numbers_named files w x b) (inner_numbers files w x b p)) ref k in
-              inner_found x s b p m is i.0 i.1 o.0 o.1 path interleaved n.0 n.1 (sym (inner_same b p n.0) ∙ ap (stands_for r path) n.2 ∙ none)
+      refs_stand interleaved q (Some p) z e ref k none =
+          let b = port_is low.settings.shapes.items s.shape q p z e in
+          let n = mem_from_map (λ (n : Option ℕ × Option ℕ). inner (written q n.0) (written p n.1)) (crossed interleaved (numbers_named files w x q) (inner_numbers files w x q p)) ref k in
+          inner_found x s q p b.instance b.is_instance b.inner b.is_inner b.port b.is_port path interleaved n.0 n.1 (sym (inner_same q p n.0) ∙ ap (stands_for r path) n.2 ∙ none)
 
       -- what a reference means
-      pub sense_of : (ref : Reference) → Means (here files tree low x s) ref → (sense : Sense) × (sense_in (here files tree low x s) ref ≡ Some sense)
-      sense_of ref means = of (sense_in (here files tree low x s) ref) refl
+      pub meaning_is : (ref : Reference) → Means (here files tree low x s) ref → (z : Meaning) × (meaning_in (here files tree low x s) ref ≡ Some z)
+      meaning_is ref means = of (meaning_in (here files tree low x s) ref) refl
         where
-          of : (o : Option Sense) → sense_in (here files tree low x s) ref ≡ o → (sense : Sense) × (sense_in (here files tree low x s) ref ≡ Some sense)
+          of : (o : Option Meaning) → meaning_in (here files tree low x s) ref ≡ o → (z : Meaning) × (meaning_in (here files tree low x s) ref ≡ Some z)
           of None e = absurd (let f : false ≡ true = sym (ap is_some e) ∙ means in cc)
-          of (Some sense) e = (sense, e)
+          of (Some z) e = (z, e)
 
       -- its places by its names
       pub places_refs : (ref : Reference) → Means (here files tree low x s) ref → places_in (here files tree low x s) ref ≡ refs_named files w x ref.is_interleaved (string_bytes ref.head.text) (option_map (λ (p : Name). string_bytes p.text) ref.port)
       places_refs ref means =
-          let sense = sense_of ref means in
-          ap (λ o. unwrap_or (option_map (places_of ref.is_interleaved) o) []) sense.1
-          ∙ sense_refs ref.is_interleaved (string_bytes ref.head.text) (option_map (λ (p : Name). string_bytes p.text) ref.port) sense.0 sense.1
+          let z = meaning_is ref means in
+          ap (λ o. unwrap_or (option_map (places_of (here files tree low x s) ref.is_interleaved) o) []) z.1
+          ∙ meaning_refs ref.is_interleaved (string_bytes ref.head.text) (option_map (λ (p : Name). string_bytes p.text) ref.port) z.0 z.1
 
       -- the places of a reference stand for its channels, in order
       pub places_channels : (ref : Reference) → Means (here files tree low x s) ref → things_for path r (places_in (here files tree low x s) ref) ≡ channels files w path x ref
@@ -286,8 +258,8 @@ module _ (files : List SourceFile) (tree : Ast) (low : IsLowering files tree) (w
       -- each of them for one
       pub places_stand : (ref : Reference) → Means (here files tree low x s) ref → (p : RefTree) → Mem p (places_in (here files tree low x s) ref) → stands_for r path p ≡ None → ⊥
       places_stand ref means p k none =
-          let sense = sense_of ref means in
-          refs_stand ref.is_interleaved (string_bytes ref.head.text) (option_map (λ (p : Name). string_bytes p.text) ref.port) sense.0 sense.1 p (subst (Mem p) (places_refs ref means) k) none
+          let z = meaning_is ref means in
+          refs_stand ref.is_interleaved (string_bytes ref.head.text) (option_map (λ (p : Name). string_bytes p.text) ref.port) z.0 z.1 p (subst (Mem p) (places_refs ref means) k) none
 
       -- the places of references stand for their channels, one after another
       pub all_channels : (refs : List Reference) → All (Means (here files tree low x s)) refs → things_for path r (all_places (here files tree low x s) refs) ≡ flat_map (channels files w path x) refs

@@ -1,11 +1,12 @@
 -- Nothing names the action without events that lowering adds, but the reactions that sleep.
 use Rattle.std.proofs.Common.{◌≡◌, ℕ, ◌+◌, ◌<◌, inl, inr, ⊎_elim, Bool, false, List, [], ◌∷◌, ◌++◌, length, length-append, map, filter_map, Option, Some, None, Contains, option_map, slice_get, refl, sym, ap, subst, ◌∙◌, arith, append-nil}
 use Rattle.std.specs.Prelude.{bytes_eq, position, string_bytes, unwrap_or}
-use Rattle.std.{specs.Option.option_and_then, proofs.lemmas.{Option.slice_get_within, List.Elements.filter_map-append}}
+use Rattle.std.proofs.lemmas.{Option.slice_get_within, List.Elements.filter_map-append}
 use Rattle.lft_lists.proofs.Mapped.{option_map_some}
 use Rattle.lft_lists.proofs.Members.{Mem, contains_mem, get_mem, mem_cases, mem_contains, mem_filter, mem_from_filter, mem_from_flat, mem_from_map, mem_left, mem_map, mem_right}
 use Rattle.lft_lists.proofs.Places.{Some_same, at_contains, get_left, get_right}
-use Rattle.lft_elaborate.specs.{Channels.{Channels.{below, places}, Lowered.{inner, own}}, Names.name_in, Widths.found_width}
+use Rattle.lft_elaborate.specs.{Channels.{Channels.{below, places}, Lowered.{inner, own}}, Meanings.meaning_named, Names.name_in, Widths.found_width}
+use Rattle.lft_elaborate.specs.declared.meanings.Meaning.{Meaning}
 use Rattle.lft_tree.specs.Tree.{ActionTree, TriggerTree, InstanceTree, InstanceMember, MemberTree, PortTree, PortMember, ReactionTree, ReactorTree, RefTree, action_in, actions_of, instance_in, instances_of, port_in, ports_of, reaction_in, reactions_of, reactors_of, timers_of}
 use Rattle.lft_tree.specs.{View.tree_view, declared.ast.Ast.Ast}
 use Rattle.lft_resolve.specs.Causes.{DeclaresTwice, DuplicateName, IsTwice, NoneHolds, causes}
@@ -14,17 +15,17 @@ use Rattle.lft_resolve.proofs.Twice.{Any-at, twice_left}
 use Rattle.lft_program.specs.Flattening.{time_or_zero}
 use Rattle.lft_whole.specs.declared.sources.source.SourceFile.{SourceFile}
 use Rattle.lft_whole.specs.declared.tree.{Effect.Effect, Member.Member, Name.Name, Reaction.Reaction as WrittenReaction, Reference.Reference}
-use Rattle.lft_classes.specs.declared.shapes.{Inherited.Inherited, InheritedParameter.InheritedParameter, Shape.Shape, Thing.Thing as ShapeThing}
+use Rattle.lft_classes.specs.declared.shapes.{Inherited.Inherited, InheritedParameter.InheritedParameter, Thing.Thing as ShapeThing}
 use Rattle.lft_classes.specs.Shapes.{name_of, thing_named, width_of}
-use Rattle.lft_lower.specs.Meanings.Meanings.{inner_width, member_in, named_in, places_in, port_in as port_number_in, port_of, sense_behind, sense_named, shape_inside, thing_in}
-use Rattle.lft_lower.specs.Meanings.Places.{Inner, Own, Sense, Several, count_of, name_at, names_of, places_of}
+use Rattle.lft_lower.specs.Meanings.{Meanings.{named_in, places_in, places_of, port_of, thing_in}, Places.{Several, count_of, name_at, names_of}}
 use Rattle.lft_lower.specs.Lowered.{AreInstances, IsLowered, IsReaction, asleep, effect_places, no_instances, reaction_tree, some_instances, time_at}
 use Rattle.lft_lower.specs.Reactors.{IsLowering}
 use Rattle.lft_same.specs.inner.Expanded.Core.{core_contents, core_reaction}
 use Rattle.lft_same.specs.Expanded.{Expanded.{Action, Reaction}, Instances.Inside, Same.{IsNever, IsUnscheduled}}
-use Rattle.lft_same.proofs.{Instances.StandsFor, Listed.none_mapped}
+use Rattle.lft_same.proofs.{FitsLemmas.Ports.port_is, Instances.StandsFor, Listed.none_mapped}
 use Rattle.lft_same.proofs.Lowered.{Appends, Becomes, IsAdded, all_become, made_at, never_added, of_connection, of_instance, of_reaction}
 use Rattle.lft_same.proofs.{Members.{here, never_of, of_class, unwritten}, References.named as member_named}
+use Rattle.lft_elaborate.specs.declared.meanings.Meaning.TheVariants as meaning
 use Rattle.lft_whole.specs.declared.tree.Effect.TheVariants as effect
 use Rattle.lft_whole.specs.declared.tree.Member.TheVariants as member
 use Rattle.lft_classes.specs.declared.shapes.Thing.TheVariants as thing
@@ -163,35 +164,16 @@ module _ (files : List SourceFile) (tree : Ast) (none : NoneHolds (causes (tree_
 
   -- no place of a reference is it
   module _ (ref : RefTree) (own_port : ref.port ≡ None) (own_head : ref.head ≡ q) where
-    abbrev IsOwnNone : Option Sense → Type 0
-    IsOwnNone None = Unit {0}
-    IsOwnNone (Some (Own several)) = ⊥
-    IsOwnNone (Some (Inner members ports)) = Unit {0}
-
-    no_inner : (interleaved : Bool) (o : Option Sense) → IsOwnNone o → Mem ref (unwrap_or (option_map (places_of interleaved) o) []) → ⊥
-    no_inner interleaved None is m = absurd m
-    no_inner interleaved (Some (Own several)) is m = absurd is
-    no_inner interleaved (Some (Inner members ports)) is m =
-        let p = mem_from_map (λ (p : ℕ × ℕ). inner (name_at members p.0) (name_at ports p.1)) (places (count_of members) (count_of ports) interleaved) ref m in
+    no_inner : (interleaved : Bool) (head port : List ℕ) (o : Option Meaning) → meaning_named low.settings.shapes.items s.shape head (Some port) ≡ o → Mem ref (unwrap_or (option_map (places_of (here files tree low x core s) interleaved) o) []) → ⊥
+    no_inner interleaved head port None is m = absurd m
+    no_inner interleaved head port (Some z) is m =
+        let b = port_is low.settings.shapes.items s.shape head port z is in
+        let members : Several = thing_in (here files tree low x core s) (thing.Member b.instance) in
+        let ports : Several = port_of (here files tree low x core s) b.instance b.port in
+        let p = mem_from_map (λ (p : ℕ × ℕ). inner (name_at members p.0) (name_at ports p.1)) (places (count_of members) (count_of ports) interleaved) ref (subst (λ (z : Meaning). Mem ref (places_of (here files tree low x core s) interleaved z)) (sym b.is_meant) m) in
         let f : Some (name_at ports p.0.1) ≡ None = ap (λ (r : RefTree). r.port) p.2 ∙ own_port in cc
 
-    behind : (head port : List ℕ) → IsOwnNone (sense_named (here files tree low x core s) head (Some port))
-    behind head port = by (thing_named s.shape head)
-      where
-        port_is : (n : ℕ) (shape : Shape) (o : Option ℕ) → IsOwnNone (option_map (λ p. Inner (thing_in (here files tree low x core s) (thing.Member n)) (member_in shape p (inner_width (here files tree low x core s) n p))) o)
-        port_is n shape None = tt
-        port_is n shape (Some p) = tt
-
-        shape_is : (n : ℕ) (o : Option Shape) → IsOwnNone (option_and_then (port_of (here files tree low x core s) n port) o)
-        shape_is n None = tt
-        shape_is n (Some shape) = port_is n shape (port_number_in shape port)
-
-        by : (o : Option ShapeThing) → IsOwnNone (option_and_then (sense_behind (here files tree low x core s) port) o)
-        by None = tt
-        by (Some (thing.Parameter n)) = tt
-        by (Some (thing.Member n)) = shape_is n (shape_inside (here files tree low x core s) n)
-
-    itself : (interleaved : Bool) (head : List ℕ) (o : Option ShapeThing) → thing_named s.shape head ≡ o → Mem ref (unwrap_or (option_map (places_of interleaved) (option_map (λ th. Own (thing_in (here files tree low x core s) th)) o)) []) → ⊥
+    itself : (interleaved : Bool) (head : List ℕ) (o : Option ShapeThing) → thing_named s.shape head ≡ o → Mem ref (unwrap_or (option_map (places_of (here files tree low x core s) interleaved) (option_map (λ th. meaning.Own th) o)) []) → ⊥
     itself interleaved head None e m = absurd m
     itself interleaved head (Some th) e m =
         let k = mem_from_map (λ k. own (name_at (thing_in (here files tree low x core s) th) k)) (below (count_of (thing_in (here files tree low x core s) th))) ref m in
@@ -200,9 +182,9 @@ module _ (files : List SourceFile) (tree : Ast) (none : NoneHolds (causes (tree_
     pub never_meant : (r : Reference) → Mem ref (places_in (here files tree low x core s) r) → ⊥
     never_meant r m = by (option_map (λ (n : Name). string_bytes n.text) r.port) m
       where
-        by : (port : Option (List ℕ)) → Mem ref (unwrap_or (option_map (places_of r.is_interleaved) (sense_named (here files tree low x core s) (string_bytes r.head.text) port)) []) → ⊥
+        by : (port : Option (List ℕ)) → Mem ref (unwrap_or (option_map (places_of (here files tree low x core s) r.is_interleaved) (meaning_named low.settings.shapes.items s.shape (string_bytes r.head.text) port)) []) → ⊥
         by None m = itself r.is_interleaved (string_bytes r.head.text) (thing_named s.shape (string_bytes r.head.text)) refl m
-        by (Some port) m = no_inner r.is_interleaved (sense_named (here files tree low x core s) (string_bytes r.head.text) (Some port)) (behind (string_bytes r.head.text) port) m
+        by (Some port) m = no_inner r.is_interleaved (string_bytes r.head.text) port (meaning_named low.settings.shapes.items s.shape (string_bytes r.head.text) (Some port)) refl m
 
   -- ---- effects
 

@@ -8,13 +8,13 @@ use Rattle.lft_resolve.specs.Instances.{Inside as CoreInside, entered as core_en
 use Rattle.lft_program.proofs.{Ordered.AllZip-to, Zips.AllZip-from}
 use Rattle.lft_whole.specs.declared.sources.source.SourceFile.{SourceFile}
 use Rattle.lft_classes.specs.declared.shapes.Shape.{Shape}
-use Rattle.lft_elaborate.specs.Values.{Valued, main_setting, main_values}
-use Rattle.lft_lower.specs.{Meanings.Meanings.shape_inside, Reactors.{AreShapes, IsLowering}}
+use Rattle.lft_elaborate.specs.{Meanings.shape_inside, Values.{Valued, main_setting, main_values}}
+use Rattle.lft_lower.specs.Reactors.{AreShapes, IsLowering}
 use Rattle.lft_same.specs.Expanded.{Instances.{Inner, Inside, Widths, entered, inners, inside_of, main_instance}, Reactors.{Class, main_of}}
 use Rattle.lft_same.specs.inner.{Fits.Fits.Fits, Times.IsKnown}
-use Rattle.lft_same.proofs.{FitsLemmas.Nested.main_law, Instances.{AreWidthsFound, StandsFor}, Found.shape_of_setting, Inners.{IsInner, instances_alike}}
-use Rattle.lft_same.proofs.{Known.{given_time, known_law}, Members.here, Paths.{Both, both_at, neither}}
-use Rattle.lft_same.proofs.{Reactors.{has_reactor, main_found, reactor_found, shape_is_inside}, Settings.nested, Times.{inside_times, main_times}}
+use Rattle.lft_same.proofs.{FitsLemmas.{Nested.main_law, Ports.shape_is_inside}, Instances.{AreWidthsFound, StandsFor}, Found.shape_of_setting}
+use Rattle.lft_same.proofs.{Inners.{IsInner, instances_alike}, Known.{given_time, known_law}, Members.here, Paths.{Both, both_at, neither}}
+use Rattle.lft_same.proofs.{Reactors.{has_reactor, main_found, reactor_found}, Settings.nested, Times.{inside_times, main_times}}
 
 -- the law of the main setting, of the shapes of a program
 main_fits_at : (files : List SourceFile) (shapes : List Shape) → AreShapes files shapes → (t : Valued) → main_setting shapes ≡ Some t → (c : Class) × (main_of files ≡ Some c) × Fits files shapes t (main_instance files c)
@@ -62,7 +62,7 @@ module _ (files : List SourceFile) (tree : Ast) (low : IsLowering files tree) wh
         let (u, in_u, is) = reactor_found files tree low s.number one.number s.setting s.shape i.reactor r.0 s.is_setting one.reactor r.1 in
         let (y, is_y, fits) = (nested files tree low).inside_fits s.setting u x one.number one.file one.instance s.fits one.at in_u in
         let outer : slice_get low.settings.shapes.items s.setting.shape ≡ Some s.shape = shape_of_setting low.settings s.number s.setting s.shape s.is_setting s.is_shape in
-        let inner : shape_inside (here files tree low x core s) one.number ≡ Some is.shape = shape_is_inside files tree low s.number one.number s.setting u s.shape is.shape outer in_u (shape_of_setting low.settings is.number u is.shape is.is_setting is.is_shape) in (
+        let inner : shape_inside low.settings.shapes.items s.shape one.number ≡ Some is.shape = shape_is_inside low.settings.shapes.items one.number s.setting u s.shape is.shape outer in_u (shape_of_setting low.settings is.number u is.shape is.is_setting is.is_shape) in (
           made_of i r.0,
           y,
           ap (option_map (made_of i)) r.1,

@@ -6,17 +6,17 @@ use Rattle.lft_lists.{proofs.{Mapped.{mapped, option_map_some}, Members.{Mem, me
 use Rattle.lft_tree.specs.{Identifiers.IsIdentifier, Tree.{MemberTree, RefTree, TimerTree, PortMember, TimerMember, timer_in, timers_of}, declared.ast.Ast.Ast}
 use Rattle.lft_resolve.specs.{Instances.Inside as CoreInside, Sheets.{is_timer as is_core_timer, without_timers}}
 use Rattle.lft_whole.specs.declared.{sources.source.SourceFile.SourceFile, tree.{Member.Member, Name.Name, Reference.Reference, Timer.Timer}}
-use Rattle.lft_elaborate.specs.Channels.Lowered.{inner, own}
+use Rattle.lft_elaborate.specs.{Channels.Lowered.{inner, own}, Meanings.meaning_named}
 use Rattle.lft_classes.specs.{declared.shapes.{Inherited.Inherited, Thing.Thing as ShapeThing}, Shapes.{name_of, thing_named, width_of}}
-use Rattle.lft_lower.specs.Meanings.{Meanings.{Means, named_in, places_in, sense_named, thing_in}, Places.{Own, names_of}}
-use Rattle.lft_lower.specs.{Lowered.{IsLowered, time_at, timer_tree}, Reactors.IsLowering}
+use Rattle.lft_lower.specs.{Meanings.{Meanings.{Means, named_in, places_in}, Places.names_of}, Lowered.{IsLowered, time_at, timer_tree}, Reactors.IsLowering}
 use Rattle.lft_same.specs.inner.Expanded.Core.{things_for}
 use Rattle.lft_same.specs.Expanded.{Instances.{Inside, Widths, numbers, numbers_named, written}, Reactors.members_of}
 use Rattle.lft_same.specs.Expanded.Whole.{channels, crossed, is_timer, names_timer, uses_in}
 use Rattle.lft_same.proofs.{FitsLemmas.{Giving.{find_none, find_some}, MemberNames.{member_found, member_lost}}, Instances.{AreWidthsFound, StandsFor}}
 use Rattle.lft_same.proofs.{Inners.names_alike, Kept.all_pass, Listed.none_mapped}
 use Rattle.lft_same.proofs.{Lowered.{Appends, Becomes, all_become, made_at, of_connection, of_instance, of_reaction}, Members.{here, never_of, of_class}}
-use Rattle.lft_same.proofs.{References.{inner_numbers, numbers_there, places_channels, places_refs, refs_named, sense_of}, Settings.its_setting}
+use Rattle.lft_same.proofs.{References.{inner_numbers, numbers_there, places_channels, places_refs, refs_named, meaning_is}, Settings.its_setting}
+use Rattle.lft_elaborate.specs.declared.meanings.Meaning.TheVariants as meaning
 use Rattle.lft_whole.specs.declared.tree.Member.TheVariants as member
 use Rattle.lft_classes.specs.declared.shapes.Thing.TheVariants as thing
 
@@ -216,6 +216,6 @@ module _ (files : List SourceFile) (tree : Ast) (low : IsLowering files tree) (x
         by_port : (o : Option Name) → ref.port ≡ o → things_for path core.reactor inputs ≡ uses_in files w path x ref
         by_port (Some p) e = inner_used p e
         by_port None e =
-            let sense = sense_of files tree low w found x (its_setting files tree low x core s) path core.reactor (names_alike files tree low x core s w found) ref means in
-            let t = option_map_some (λ th. Own (thing_in (here files tree low x core s) th)) (thing_named s.shape q) sense.0 (ap (λ o. sense_named (here files tree low x core s) q (option_map (λ (p : Name). string_bytes p.text) o)) (sym e) ∙ sense.1) in
+            let z = meaning_is files tree low w found x (its_setting files tree low x core s) path core.reactor (names_alike files tree low x core s w found) ref means in
+            let t = option_map_some (λ th. meaning.Own th) (thing_named s.shape q) z.0 (ap (λ o. meaning_named low.settings.shapes.items s.shape q (option_map (λ (p : Name). string_bytes p.text) o)) (sym e) ∙ z.1) in
             plain_used e t.0 t.1

@@ -11,10 +11,10 @@ use Rattle.lft_program.{proofs.{FullNames.all_at, Zipping.then_some}, specs.Flat
 use Rattle.lft_whole.specs.declared.{sources.source.SourceFile.SourceFile, tree.{Assignment.Assignment, Expression.Expression, Instance.Instance, Value.Value}}
 use Rattle.lft_classes.specs.{declared.shapes.{Child.Child, Given.Given, InheritedParameter.InheritedParameter, Shape.Shape}, Shapes.{child_at, thing_named}}
 use Rattle.lft_classes.proofs.Rows.{map_alike}
-use Rattle.lft_elaborate.specs.{Values.{Valued, given_to, inside, main_setting, main_values, is_forever}, Channels.Channels.below}
-use Rattle.lft_lower.specs.Meanings.Meanings.{Here, shape_inside}
-use Rattle.lft_lower.specs.{Lowered.{AreGiven, IsGiven, IsPeriod, IsRead, assigned, given_times, period_at, time_at, time_given}, Needed.is_timed}
-use Rattle.lft_lower.specs.{Reactors.{AreShapes, default_time, parameter_tree, timed_parameter, timed_parameters}, Times.{IsTime, time_for, time_in}}
+use Rattle.lft_elaborate.specs.{Meanings.shape_inside, Values.{Valued, given_to, inside, main_setting, main_values, is_forever}, Channels.Channels.below}
+use Rattle.lft_lower.specs.{Meanings.Meanings.Here, Lowered.{AreGiven, IsGiven, IsPeriod, IsRead, assigned, given_times, period_at, time_at, time_given}}
+use Rattle.lft_lower.specs.{Needed.is_timed, Reactors.{AreShapes, default_time, parameter_tree, timed_parameter, timed_parameters}}
+use Rattle.lft_lower.specs.Times.{IsTime, time_for, time_in}
 use Rattle.lft_same.specs.Expanded.Instances.{Inside, default_of, given_in, given_or_default, inside_of, main_instance, period_in, read_in, time_of, value_named, time_in as whole_time_in}
 use Rattle.lft_same.specs.Expanded.Reactors.{Class, class_named, is_named, main_of, members_of, parameters_of}
 use Rattle.lft_same.specs.inner.{Fits.Fits.{Fits, IsShapeOf}, Times.{HasTimes, IsKnown, time_named}}
@@ -248,7 +248,7 @@ main_times files shapes shape c r (scopes, n, is, same) first main parameters = 
         let one = is_timed_one shape p m in
         one.default ∙ sym (value_there files shape (main_instance files c) of_main p one (default_of one.ip.parameter.now) (mapped default_of (parameters_of files c) one.n one.ip.parameter.now (parameter_is files shape c of_main one.n one.ip one.at)))
 
-pub inside_times : (files : List SourceFile) (h : Here) (t u : Valued) (x y : Inside) (core : CoreInside) (m file : ℕ) (i : Instance) (inner : Shape) (r : ReactorTree) (given : List AssignmentTree) → AreShapes files h.settings.shapes.items → slice_get h.settings.shapes.items t.shape ≡ Some h.shape → Fits files h.settings.shapes.items t x → slice_get (members_of files x.class) m ≡ Some (file, member.Instance i) → inside h.settings.shapes.items t m ≡ Some u → inside_of files x (file, i) ≡ Some y → HasTimes files x core → AreGiven h m given → ((a : AssignmentTree) → Contains given a → IsKnown core.reactor.parameters a.value) → shape_inside h m ≡ Some inner → r.parameters ≡ timed_parameters inner → HasTimes files y (record { reactor = r; values = map (core_given_in core given) r.parameters })
+pub inside_times : (files : List SourceFile) (h : Here) (t u : Valued) (x y : Inside) (core : CoreInside) (m file : ℕ) (i : Instance) (inner : Shape) (r : ReactorTree) (given : List AssignmentTree) → AreShapes files h.settings.shapes.items → slice_get h.settings.shapes.items t.shape ≡ Some h.shape → Fits files h.settings.shapes.items t x → slice_get (members_of files x.class) m ≡ Some (file, member.Instance i) → inside h.settings.shapes.items t m ≡ Some u → inside_of files x (file, i) ≡ Some y → HasTimes files x core → AreGiven h m given → ((a : AssignmentTree) → Contains given a → IsKnown core.reactor.parameters a.value) → shape_inside h.settings.shapes.items h.shape m ≡ Some inner → r.parameters ≡ timed_parameters inner → HasTimes files y (record { reactor = r; values = map (core_given_in core given) r.parameters })
 inside_times files h t u x y core m file i inner r given (scopes, n, is, same) is_shape fits at in_u is_y has (child, shape, is_child, is_inner, needed, gives, given_is) known inner_is parameters =
     subst (λ z. map (core_given_in core given) r.parameters ≡ map (λ p. time_named files z p.name) r.parameters) made_is (map_alike (core_given_in core given) (λ p. time_named files (made_of files x i law.4) p.name) r.parameters (λ p k. ap (λ l. core_given_in core l p) given_is ∙ inner_times files h.shape shape x core child i law.4 of_inner has given_by (λ g k. let j = get_mem g child.given.items k in all_at (IsGiven h.shape shape) child.given.items gives j.0 g j.1) (subst (λ l. (a : AssignmentTree) → Contains l a → IsKnown core.reactor.parameters a.value) given_is known) p (subst (Mem p) (parameters ∙ ap timed_parameters inner_same) k)))
   where
@@ -271,7 +271,7 @@ inside_times files h t u x y core m file i inner r given (scopes, n, is, same) i
     shape_same = same_some (slice_get h.settings.shapes.items child.shape) law.2 shape (ap (λ l. slice_get l child.shape) (sym same) ∙ ap (λ (c : Child). slice_get n.shapes.items c.shape) (sym child_same) ∙ law.3) shape_at
 
     inner_same : inner ≡ shape
-    inner_same = same_some (shape_inside h m) inner shape inner_is is_inner
+    inner_same = same_some (shape_inside h.settings.shapes.items h.shape m) inner shape inner_is is_inner
 
     of_inner : IsShapeOf files shape law.4
     of_inner = subst (λ s. IsShapeOf files s law.4) shape_same law.6

@@ -1,10 +1,9 @@
 -- Inside: what references mean, how many places they have, and how wide members are, told by the shapes alone.
 use Rattle.std.specs.Prelude.{◌≡◌, ℕ, List, map, Option, Some, None}
 use Rattle.lft_elaborate.specs.{Channels.Channels.joined, Values.Valued}
-use Rattle.lft_elaborate.specs.Places.{written_width, total, Widths, how_many_of, how_many_in, places_in, count_in, sum_in, width_in, IsWidth}
+use Rattle.lft_elaborate.specs.Places.{written_width, total, Widths, how_many_of, places_in, count_in, sum_in, width_in, IsWidth}
 use Rattle.lft_whole.specs.declared.tree.{Connection.Connection, Count.Count, Reference.Reference, Term.Term}
 use Rattle.lft_classes.specs.declared.shapes.{Shape.Shape, Thing.Thing}
-use Rattle.lft_classes.specs.declared.shapes.Thing.TheVariants as thing
 
 -- how many references have together
 abbrev pub all_places : List Shape → Widths → Valued → List Reference → Option ℕ
@@ -35,10 +34,6 @@ pub record HasPairs (shapes : List Shape) (t : Valued) (c : Connection) (n : ℕ
 -- the thing is so many
 abbrev pub AreMany : List Shape → Valued → Thing → ℕ → Type 0
 AreMany shapes t thing n = (depth : ℕ) × (how_many_of shapes (width_in shapes depth) t thing ≡ Some n)
-
--- the instance is so many, if there is one
-abbrev pub AreManyIn : List Shape → Valued → Option ℕ → ℕ → Type 0
-AreManyIn shapes t instance n = (depth : ℕ) × (how_many_in shapes (width_in shapes depth) t instance ≡ Some n)
 
 -- the term is so many
 abbrev pub IsCount : List Shape → Valued → Count → ℕ → Type 0

@@ -2,7 +2,8 @@
 use Rattle.std.proofs.Common.{◌≡◌, ◌⊎◌, inl, inr, ⊎_elim, ℕ, List, Option, Some, slice_get}
 use Rattle.std.specs.Prelude.{IsSomeAnd}
 use Rattle.lft_whole.specs.declared.sources.stop.{Refusal.Refusal, Stop.Stop}
-use Rattle.lft_lower.specs.inner.Meanings.Refused.{IfRefused, IsOfSome}
+use Rattle.lft_elaborate.specs.inner.Refused.{IfRefused}
+use Rattle.lft_lower.specs.inner.Meanings.Refused.{IsOfSome}
 use Rattle.lft_whole.specs.declared.sources.stop.Stop.TheVariants as stop
 
 -- a refusal of the one kind is of the other

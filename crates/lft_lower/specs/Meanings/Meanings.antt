@@ -1,12 +1,13 @@
 -- What references mean in a setting.
-use Rattle.std.specs.Prelude.{◌≡◌, ℕ, true, is_some, List, Option, Some, None, flat_map, option_map, slice_get, string_bytes, unwrap_or, []}
+use Rattle.std.specs.Prelude.{◌≡◌, ℕ, Bool, true, is_some, List, Option, None, flat_map, option_map, slice_get, string_bytes, unwrap_or, []}
 use Rattle.std.specs.Option.{option_and_then}
 use Rattle.lft_tree.specs.Tree.{RefTree}
-use Rattle.lft_whole.specs.declared.tree.{Member.Member, Reference.Reference}
-use Rattle.lft_classes.specs.{declared.shapes.{Shape.Shape, Thing.Thing}, Shapes.{child_at, thing_named}}
-use Rattle.lft_elaborate.specs.{declared.settings.Settings.Settings, Names.name_in, Noted.found_inside, Widths.found_width}
-use Rattle.lft_lower.specs.Meanings.Places.{Several, Sense, Own, Inner, places_of}
-use Rattle.lft_whole.specs.declared.tree.Member.TheVariants as member
+use Rattle.lft_whole.specs.declared.tree.Reference.{Reference}
+use Rattle.lft_classes.specs.declared.shapes.{Shape.Shape, Thing.Thing}
+use Rattle.lft_elaborate.specs.{Meanings.{meaning_of, shape_inside}, Names.name_in, Noted.found_inside, Widths.found_width}
+use Rattle.lft_elaborate.specs.declared.{meanings.Meaning.Meaning, settings.Settings.Settings}
+use Rattle.lft_lower.specs.Meanings.Places.{Several, inner_places, own_places}
+use Rattle.lft_elaborate.specs.declared.meanings.Meaning.TheVariants as meaning
 use Rattle.lft_classes.specs.declared.shapes.Thing.TheVariants as things
 
 -- a setting of a program, by its number, and its shape
@@ -15,9 +16,13 @@ pub record Here : Type 0 where
   pub setting : ℕ
   pub shape : Shape
 
+-- the name of the member of this number of a shape
+abbrev pub member_name : Shape → ℕ → List ℕ
+member_name shape n = unwrap_or (option_map (λ m. name_in m.member.now) (slice_get shape.members.items n)) []
+
 -- the member of this number of a shape, with its width
 abbrev pub member_in : Shape → ℕ → Option ℕ → Several
-member_in shape n width = record { name = unwrap_or (option_map (λ m. name_in m.member.now) (slice_get shape.members.items n)) []; width = width }
+member_in shape n width = record { name = member_name shape n; width = width }
 
 -- the parameter of this number of a shape
 abbrev pub parameter_in : Shape → ℕ → Several
@@ -36,53 +41,26 @@ named_in h name n = record { name = name; width = found_width h.settings h.setti
 abbrev pub inner_width : Here → ℕ → ℕ → Option ℕ
 inner_width h instance port = option_and_then (λ inner. found_width h.settings inner port) (found_inside h.settings h.setting instance)
 
--- the shape of the reactor of the instance of this number
-abbrev pub shape_inside : Here → ℕ → Option Shape
-shape_inside h instance = option_and_then (λ child. slice_get h.settings.shapes.items child.shape) (child_at h.shape.children.items instance)
+-- a port of an instance, by their numbers, with its width there
+abbrev pub port_of : Here → ℕ → ℕ → Several
+port_of h instance port = record { name = unwrap_or (option_map (λ inner. member_name inner port) (shape_inside h.settings.shapes.items h.shape instance)) []; width = inner_width h instance port }
 
--- the number, if this member is a port
-abbrev pub if_port : ℕ → Member → Option ℕ
-if_port n (member.Port port) = Some n
-if_port n _ = None
-
--- the number of the port that a thing is
-abbrev pub port_number : Shape → Thing → Option ℕ
-port_number shape (things.Parameter n) = None
-port_number shape (things.Member n) = option_and_then (λ m. if_port n m.member.now) (slice_get shape.members.items n)
-
--- the number of the port of this name
-abbrev pub port_in : Shape → List ℕ → Option ℕ
-port_in shape name = option_and_then (port_number shape) (thing_named shape name)
-
--- the port of this name in the shape of an instance
-abbrev pub port_of : Here → ℕ → List ℕ → Shape → Option Sense
-port_of h instance name shape = option_map (λ port. Inner (thing_in h (things.Member instance)) (member_in shape port (inner_width h instance port))) (port_in shape name)
-
--- the port of this name of the instance of this number
-abbrev pub port_sense : Here → ℕ → List ℕ → Option Sense
-port_sense h instance name = option_and_then (port_of h instance name) (shape_inside h instance)
-
--- the port of this name of an instance, if the thing is one
-abbrev pub sense_behind : Here → List ℕ → Thing → Option Sense
-sense_behind h name (things.Parameter n) = None
-sense_behind h name (things.Member n) = port_sense h n name
-
--- what a name means, or of an instance a port
-abbrev pub sense_named : Here → List ℕ → Option (List ℕ) → Option Sense
-sense_named h head None = option_map (λ thing. Own (thing_in h thing)) (thing_named h.shape head)
-sense_named h head (Some name) = option_and_then (sense_behind h name) (thing_named h.shape head)
+-- the places of what is meant, in order
+abbrev pub places_of : Here → Bool → Meaning → List RefTree
+places_of h interleaved (meaning.Own thing) = own_places (thing_in h thing)
+places_of h interleaved (meaning.Port instance port) = inner_places (thing_in h (things.Member instance)) (port_of h instance port) interleaved
 
 -- what a reference means
-abbrev pub sense_in : Here → Reference → Option Sense
-sense_in h r = sense_named h (string_bytes r.head.text) (option_map (λ name. string_bytes name.text) r.port)
+abbrev pub meaning_in : Here → Reference → Option Meaning
+meaning_in h r = meaning_of h.settings.shapes.items h.shape r
 
 -- a reference means something
 abbrev pub Means : Here → Reference → Type 0
-Means h r = is_some (sense_in h r) ≡ true
+Means h r = is_some (meaning_in h r) ≡ true
 
 -- the places of a reference, in order
 abbrev pub places_in : Here → Reference → List RefTree
-places_in h r = unwrap_or (option_map (places_of r.is_interleaved) (sense_in h r)) []
+places_in h r = unwrap_or (option_map (places_of h r.is_interleaved) (meaning_in h r)) []
 
 -- the places of references, one after another
 abbrev pub all_places : Here → List Reference → List RefTree

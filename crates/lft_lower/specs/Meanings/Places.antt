@@ -27,13 +27,3 @@ own_places thing = map (λ k. own (name_at thing k)) (below (count_of thing))
 -- all channels of all members of a bank, in order
 abbrev pub inner_places : Several → Several → Bool → List RefTree
 inner_places members channels interleaved = map (λ p. inner (name_at members p.0) (name_at channels p.1)) (places (count_of members) (count_of channels) interleaved)
-
--- what a reference means: a thing of the reactor itself, or of an instance or a bank a port
-pub data Sense : Type 0 where
-  Own : Several → Sense
-  Inner : Several → Several → Sense
-
--- the places of what is meant
-abbrev pub places_of : Bool → Sense → List RefTree
-places_of interleaved (Own thing) = own_places thing
-places_of interleaved (Inner members ports) = inner_places members ports interleaved

@@ -5,8 +5,8 @@ use Rattle.lft_tree.specs.Tree.{nanoseconds}
 use Rattle.lft_whole.specs.declared.sources.{source.SourceFile.SourceFile, stop.Refusal.Refusal, why.Why.Why}
 use Rattle.lft_whole.specs.declared.tree.{Action.Action, Connection.Connection, Effect.Effect, Expression.Expression, Timer.Timer, Trigger.Trigger, Value.Value}
 use Rattle.lft_classes.specs.declared.shapes.{Given.Given, InheritedParameter.InheritedParameter, Shape.Shape}
-use Rattle.lft_elaborate.specs.{declared.settings.Settings.Settings, Settings.shape_at, Values.is_forever}
-use Rattle.lft_lower.specs.{Meanings.Meanings.Here, inner.Meanings.Refused.{IsAt, IsOfOne, IsOfReference}, Lowered.is_spaced, Needed.is_timed}
+use Rattle.lft_elaborate.specs.{declared.settings.Settings.Settings, Settings.shape_at, Values.is_forever, inner.Refused.IsAt}
+use Rattle.lft_lower.specs.{Meanings.Meanings.Here, inner.Meanings.Refused.{IsOfOne, IsOfReference}, Lowered.is_spaced, Needed.is_timed}
 use Rattle.lft_lower.specs.{Programs.decentralized_in, Times.{named_by, time_in}}
 use Rattle.lft_whole.specs.declared.sources.why.Why.TheVariants as why
 use Rattle.lft_whole.specs.declared.tree.Effect.TheVariants as effects

@@ -2,7 +2,8 @@
 
 ghost use Rattle.std.specs.Prelude.{◌≡◌, ℕ, List, IfErr, IfOk, OnOk, bytes_eq, cond, false, string_bytes, true};
 ghost use Rattle.std.specs.BTreeSet.{contains_text};
-ghost use Rattle.lft_lower.specs.{Meanings.Names.AreApart, inner.Meanings.{Names.{AreNames, texts}, Refused.{IfRefused, IsPassed}}};
+ghost use Rattle.lft_elaborate.specs.inner.Refused.{IfRefused};
+ghost use Rattle.lft_lower.specs.{Meanings.Names.AreApart, inner.Meanings.{Names.{AreNames, texts}, Refused.IsPassed}};
 
 use crate::meanings::room::Room;
 use lft_classes::Work;

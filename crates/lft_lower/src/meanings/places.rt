@@ -3,20 +3,21 @@
 ghost use Rattle.std.specs.Prelude.{◌≡◌, ◌+◌, ◌*◌, ◌++◌, ◌⊎◌, Bool, Some, IfErr, IfOk, OnOk, is_some, length, option_map, string_bytes, take};
 ghost use Rattle.std.specs.List.{All};
 ghost use Rattle.lft_tree.specs.View.{ref_view, ref_views};
-ghost use Rattle.lft_elaborate.specs.inner.Names.{spelled};
-ghost use Rattle.lft_lower.specs.Meanings.Meanings.{Means, all_places, inner_width, member_in, named_in, parameter_in, places_in, port_in, port_sense, sense_in, shape_inside, thing_in};
-ghost use Rattle.lft_lower.specs.Meanings.{Places.{count_of, inner_places, name_at, own_places, places_of}, Standing.{all_tokens, ref_tokens, tokens_of}};
-ghost use Rattle.lft_lower.specs.inner.Meanings.{Meanings.{here, token_in}, Places.{sense, several, up_to, is_wide}};
-ghost use Rattle.lft_lower.specs.inner.Meanings.{Refused.{IfRefused, IsAt, IsNoPort, IsOfOne, IsOfReference, IsPassed}, Standing.AddsAt};
+ghost use Rattle.lft_elaborate.specs.{Meanings.shape_inside, inner.{Names.spelled, Refused.IfRefused}};
+ghost use Rattle.lft_lower.specs.Meanings.Meanings.{Means, all_places, inner_width, meaning_in, member_in, named_in, parameter_in, places_in, places_of, port_of, thing_in};
+ghost use Rattle.lft_lower.specs.Meanings.{Places.{count_of, inner_places, name_at, own_places}, Standing.{all_tokens, ref_tokens, tokens_of}};
+ghost use Rattle.lft_lower.specs.inner.Meanings.{Meanings.{here, is_wide, token_in}, Places.{several, up_to}, Refused.{IsOfOne, IsOfReference, IsPassed}};
+ghost use Rattle.lft_lower.specs.inner.Meanings.Standing.{AddsAt};
 ghost use Rattle.lft_classes.specs.declared.shapes.Thing.TheVariants as things;
 
 use crate::meanings::room::Room;
 use lft_classes::{Shape, Thing, Work};
 use lft_elaborate::channels::place_at;
+use lft_elaborate::meanings::{Meaning, inner_shape, meaning_of};
 use lft_elaborate::{Numbered, Settings, name_of};
 use lft_tree::Reference;
 use lft_whole::sources::{Place, SourceFile, Stop, Why, number_of};
-use lft_whole::{Member, Name, Reference as Written};
+use lft_whole::{Name, Reference as Written};
 use std::alloc::Global;
 
 /// A thing of a setting, with its width, if it has one.
@@ -88,22 +89,6 @@ fn parameter<'a>(shape: &Shape<'a>, number: usize) -> Wide<'a>
     Wide { name, width: None }
 }
 
-/// The port of this name in a shape, by its number.
-fn port(shape: &Shape, name: &str) -> Option<usize>
-    ensures { result ≡ port_in shape.now name.now }
-{
-    match shape.find(name) {
-        Some(Thing::Member(number)) => match shape.member(number) {
-            Some(inherited) => match inherited.member {
-                Member::Port(_) => Some(number),
-                _ => None,
-            },
-            None => None,
-        },
-        _ => None,
-    }
-}
-
 impl<'s, 'a> Within<'s, 'a> {
     /// The number of a token of the file among those of all files.
     pub fn token(self, token: usize) -> usize
@@ -153,20 +138,58 @@ impl<'s, 'a> Within<'s, 'a> {
 
     /// The shape of the reactor of the instance of this number.
     pub fn inner_shape(self, instance: usize) -> Option<&'s Shape<'a>>
-        ensures { option_map (λ shape. shape.now) result ≡ shape_inside (here self.entry) instance }
+        ensures { option_map (λ shape. shape.now) result ≡ shape_inside self.entry.settings.now.shapes.items self.entry.shape.now instance }
     {
-        match self.shape.child(instance) {
-            Some(child) => self.settings.shapes.get(child.shape),
-            None => None,
+        inner_shape(&self.settings.shapes, self.shape, instance)
+    }
+
+    /// A port of an instance, both by their numbers.
+    fn port(self, instance: usize, port: usize) -> Wide<'a>
+        ensures { several result ≡ port_of (here self.entry) instance port }
+    {
+        let width = self.inner_width(instance, port);
+        match self.inner_shape(instance) {
+            Some(shape) => wide_member(shape, port, width),
+            None => Wide { name: "", width },
         }
     }
-}
 
-/// What a reference means: a thing of the reactor itself, or of an instance or a bank a port.
-#[derive(Clone, Copy)]
-pub enum Meant<'a> {
-    Own(Wide<'a>),
-    Inner(Wide<'a>, Wide<'a>),
+    /// What a reference means.
+    pub fn meaning(self, reference: &Written) -> Result<Meaning, Stop>
+        ensures meaning { IfOk result (λ meaning. meaning_in (here self.entry) reference.now ≡ Some meaning) }
+        ensures cause { IfErr result (IfRefused (IsOfReference (here self.entry) self.entry.file reference.now)) }
+    {
+        let meaning = meaning_of(&self.settings.shapes, self.shape, self.file, reference)?;
+        Ok(meaning)
+    }
+
+    /// How many places what is meant has. More than can be counted are refused.
+    fn count(self, meaning: Meaning) -> Result<usize, Stop>
+        ensures cause { IfErr result (IfRefused (IsPassed self.entry.settings.now.work.main)) }
+        ensures count { IfOk result (λ count. (interleaved : Bool) → count ≡ length (places_of (here self.entry) interleaved meaning)) }
+    {
+        match meaning {
+            Meaning::Own(thing) => Ok(self.thing(thing).count()),
+            Meaning::Port { instance, port } => {
+                let members = self.member(instance).count();
+                let ports = self.port(instance, port).count();
+                let count = product(&self.settings.work, members, ports)?;
+                Ok(count)
+            }
+        }
+    }
+
+    /// Whether there is a width in it.
+    pub fn is_wide(self, meaning: Meaning) -> bool
+        ensures { result ≡ is_wide (here self.entry) meaning }
+    {
+        match meaning {
+            Meaning::Own(thing) => self.thing(thing).is_wide(),
+            Meaning::Port { instance, port } => {
+                self.member(instance).is_wide() || self.port(instance, port).is_wide()
+            }
+        }
+    }
 }
 
 /// The sum of two counts. One that can't be counted is refused.
@@ -188,72 +211,6 @@ fn product(work: &Work, left: usize, right: usize) -> Result<usize, Stop>
     match left.checked_mul(right) {
         Some(product) => Ok(product),
         None => Err(work.refused(Why::TooMuch)),
-    }
-}
-
-impl Meant<'_> {
-    /// How many places it has. More than can be counted are refused.
-    fn count(self, work: &Work) -> Result<usize, Stop>
-        ensures cause { IfErr result (IfRefused (IsPassed work.now.main)) }
-        ensures count { IfOk result (λ count. (interleaved : Bool) → count ≡ length (places_of interleaved (sense self.entry))) }
-    {
-        match self {
-            Meant::Own(thing) => Ok(thing.count()),
-            Meant::Inner(members, ports) => {
-                let count = product(work, members.count(), ports.count())?;
-                Ok(count)
-            }
-        }
-    }
-
-    /// Whether there is a width in it.
-    pub fn is_wide(self) -> bool
-        ensures { result ≡ is_wide (sense self.entry) }
-    {
-        match self {
-            Meant::Own(thing) => thing.is_wide(),
-            Meant::Inner(members, ports) => members.is_wide() || ports.is_wide(),
-        }
-    }
-}
-
-/// What a port of the instance of this number means.
-fn inner<'a>(
-    within: Within<'_, 'a>,
-    instance: usize,
-    reference: &Written,
-    name: &Name,
-) -> Result<Meant<'a>, Stop>
-    ensures sense { IfOk result (λ meant. port_sense (here within.entry) instance (string_bytes name.now.text) ≡ Some (sense meant)) }
-    ensures cause { IfErr result (IfRefused (λ r. IsAt within.entry.file reference.now.head.at r × IsNoPort (shape_inside (here within.entry) instance) (string_bytes name.now.text) r.why)) }
-{
-    let at = reference.head.at;
-    let Some(shape) = within.inner_shape(instance) else {
-        return Err(Stop::at(Why::UnknownInstance, within.file, at));
-    };
-    let Some(port) = port(shape, name.text.as_str()) else {
-        return Err(Stop::at(Why::UnknownPort, within.file, at));
-    };
-    let width = within.inner_width(instance, port);
-    Ok(Meant::Inner(within.member(instance), wide_member(shape, port, width)))
-}
-
-/// What a reference means in a setting.
-pub fn meaning<'a>(within: Within<'_, 'a>, reference: &Written) -> Result<Meant<'a>, Stop>
-    ensures sense { IfOk result (λ meant. sense_in (here within.entry) reference.now ≡ Some (sense meant)) }
-    ensures cause { IfErr result (IfRefused (IsOfReference (here within.entry) within.entry.file reference.now)) }
-{
-    let at = reference.head.at;
-    let head = within.shape.find(reference.head.text.as_str());
-    match &reference.port {
-        None => match head {
-            Some(thing) => Ok(Meant::Own(within.thing(thing))),
-            None => Err(Stop::at(Why::UnknownName, within.file, at)),
-        },
-        Some(name) => match head {
-            Some(Thing::Member(instance)) => inner(within, instance, reference, name),
-            _ => Err(Stop::at(Why::UnknownInstance, within.file, at)),
-        },
     }
 }
 
@@ -367,42 +324,47 @@ pub fn count(within: Within, references: &[Written]) -> Result<usize, Stop>
     let work = &within.settings.work;
     let mut all: usize = 0;
     for place in 0..references.len() {
-        let meant = meaning(within, &references[place])?;
-        let count = meant.count(work)?;
+        let meaning = within.meaning(&references[place])?;
+        let count = within.count(meaning)?;
         all = sum(work, all, count)?;
     }
     Ok(all)
 }
 
-/// Puts the places of what is meant at the end of a list, until that has `most`.
+/// Puts the places of what a reference means at the end of a list, until that has `most`.
 fn push_meant(
     alloc: Global,
     room: &mut Room,
-    work: &Work,
+    within: Within,
     at: usize,
-    meant: Meant,
+    meaning: Meaning,
     is_interleaved: bool,
     most: usize,
     list: &mut Vec<Reference>,
 ) -> Result<(), Stop>
-    ensures places { OnOk result (ref_views list.new.items ≡ up_to most (ref_views list.old.items) (places_of is_interleaved (sense meant.entry))) }
+    ensures places { OnOk result (ref_views list.new.items ≡ up_to most (ref_views list.old.items) (places_of (here within.entry) is_interleaved meaning)) }
     ensures at { OnOk result (AddsAt list.old.items list.new.items at) }
-    ensures cause { IfErr result (IfRefused (IsPassed work.now.main)) }
+    ensures cause { IfErr result (IfRefused (IsPassed within.entry.settings.now.work.main)) }
 {
-    match meant {
-        Meant::Own(thing) => push_own(alloc, room, work, at, thing, most, list),
-        Meant::Inner(members, ports) => {
+    let work = &within.settings.work;
+    match meaning {
+        Meaning::Own(thing) => {
+            push_own(alloc, room, work, at, within.thing(thing), most, list)?;
+            Ok(())
+        }
+        Meaning::Port { instance, port } => {
             push_inner(
                 alloc,
                 room,
                 work,
                 at,
-                members,
-                ports,
+                within.member(instance),
+                within.port(instance, port),
                 is_interleaved,
                 most,
                 list,
-            )
+            )?;
+            Ok(())
         }
     }
 }
@@ -420,14 +382,14 @@ fn push_some(
     ensures tokens { OnOk result (ref_tokens list.new.items ≡ up_to most (ref_tokens list.old.items) (tokens_of (token_in within.entry) (here within.entry) reference.now)) }
     ensures cause { IfErr result (IfRefused (λ r. IsPassed within.entry.settings.now.work.main r ⊎ IsOfReference (here within.entry) within.entry.file reference.now r)) }
 {
-    let meant = meaning(within, reference)?;
+    let meaning = within.meaning(reference)?;
     let is_interleaved = reference.is_interleaved;
     push_meant(
         alloc,
         room,
-        &within.settings.work,
+        within,
         within.token(reference.head.at),
-        meant,
+        meaning,
         is_interleaved,
         most,
         list,
@@ -467,13 +429,12 @@ pub fn push_places(
     ensures means { OnOk result (Means (here within.entry) reference.now) }
     ensures cause { IfErr result (IfRefused (λ r. IsPassed within.entry.settings.now.work.main r ⊎ IsOfReference (here within.entry) within.entry.file reference.now r)) }
 {
-    let meant = meaning(within, reference)?;
-    let work = &within.settings.work;
-    let is_interleaved = reference.is_interleaved;
-    let count = meant.count(work)?;
-    let most = sum(work, list.len(), count)?;
+    let meaning = within.meaning(reference)?;
+    let count = within.count(meaning)?;
+    let most = sum(&within.settings.work, list.len(), count)?;
     let at = within.token(reference.head.at);
-    push_meant(alloc, room, work, at, meant, is_interleaved, most, list)?;
+    let is_interleaved = reference.is_interleaved;
+    push_meant(alloc, room, within, at, meaning, is_interleaved, most, list)?;
     Ok(())
 }
 

@@ -1,5 +1,5 @@
 -- The links of the connections that stand in place of one.
-use Rattle.std.proofs.Common.{◌≡◌, inl, inr, ℕ, ◌+◌, Bool, true, false, List, [], ◌∷◌, ◌++◌, map, flat_map, filter_map, Option, Some, option_map, refl, sym, ap, ◌∙◌}
+use Rattle.std.proofs.Common.{◌≡◌, inl, inr, ℕ, Bool, true, false, List, [], ◌∷◌, ◌++◌, map, flat_map, filter_map, Option, Some, option_map, refl, sym, ap, ◌∙◌}
 use Rattle.std.{specs.{List.{zip, cons_option}, Option.option_and_then}, proofs.lemmas.List.append-nil}
 use Rattle.lft_lists.proofs.Members.{Mem, mem_from_flat, mem_get}
 use Rattle.lft_elaborate.specs.Channels.Lowered.{AreJoined, single}

@@ -2,8 +2,8 @@
 use Rattle.std.proofs.Common.{◌≡◌, ℕ, suc, List, [], ◌∷◌, map, Option, Some, None, option_map, slice_get, refl, sym, ap, subst, ◌∙◌}
 use Rattle.std.specs.List.{AllZip}
 use Rattle.lft_lists.proofs.{Mapped.{mapped, mapped_from, option_map_some}, Picked.map-same, Places.Some_same}
-use Rattle.lft_tree.specs.Tree.{FileTree, PortTree, actions_of, ports_of, reactions_of, timers_of}
-use Rattle.lft_resolve.specs.{Expansion.Paths.{along, Before, Exists, IsPreOrder}, Instances.{Inside, Thing, entered, main_instance, thing_at}}
+use Rattle.lft_tree.specs.Tree.{FileTree, PortTree, ports_of}
+use Rattle.lft_resolve.specs.{Expansion.Paths.{along, Before, Exists, IsPreOrder}, Instances.{Thing, entered, main_instance, thing_at}}
 use Rattle.lft_resolve.proofs.ExpansionLemmas.Unique.{pre_order_unique}
 use Rattle.lft_ir.specs.{Parts.Parts, Sound.KeepsOrigins}
 use Rattle.lft_ir.specs.declared.parts.{Action.Action as FlatAction, Name.{Name, TheVariants.{Port as PortName, Action as ActionName}}, Port.Port as FlatPort}

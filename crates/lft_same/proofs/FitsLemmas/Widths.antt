@@ -1,6 +1,6 @@
 -- Widths that are found are those of the instances.
 use Rattle.std.proofs.Common.{◌≡◌, ℕ, zero, suc, ◌+◌, ◌*◌, ◌<◌, ◌≤◌, min, ℤ, pos, Bool, true, false, List, [], ◌∷◌, length, map, Option, Some, None, option_map, slice_get, refl, sym, ap, subst, ◌∙◌, arith}
-use Rattle.std.specs.Prelude.{◌^◌, ◌-◌, neg_ℤ, string_bytes, unwrap_or}
+use Rattle.std.specs.Prelude.{◌^◌, neg_ℤ, string_bytes, unwrap_or}
 use Rattle.std.{specs.{Option.{option_and_then, option_map_or}, List.enumerate_from}, proofs.lemmas.List.{length-map, FromFn.length-range_with_len}}
 use Rattle.lft_resolve.specs.Expansion.Paths.{along}
 use Rattle.lft_lists.proofs.{Mapped.{mapped, mapped_from, option_map_some}, Members.{Mem, get_mem, mem_from_flat, mem_from_map, mem_get}, Places.Some_same}
@@ -8,13 +8,15 @@ use Rattle.lft_program.proofs.{Listing.enumerate_from_at, Zipping.then_some}
 use Rattle.lft_whole.specs.declared.sources.source.SourceFile.{SourceFile}
 use Rattle.lft_whole.specs.declared.tree.{Count.Count, Instance.Instance, Member.Member, Name.Name, Reference.Reference, Term.Term, Value.Value, Width.Width}
 use Rattle.lft_elaborate.specs.{Channels.Channels.below, Used.{IsReached, is_instance, is_instance_in, within}}
-use Rattle.lft_elaborate.specs.Places.{IsMany, Meant, as_member, as_port, capped, count_in as settings_count, how_many, how_many_of, many, meaning_of, member_in, member_named, natural, own_thing, parameter_in, places_in, places_of, plus, port_inside, port_named, sum_in, thing_in, times, width_in, written_width}
-use Rattle.lft_elaborate.specs.Values.{Valued, inside, literal, number_named}
+use Rattle.lft_elaborate.specs.Places.{IsMany, capped, count_in as settings_count, how_many, how_many_inside, how_many_of, many, member_in, natural, parameter_in, places_in, places_of, plus, sum_in, times, width_in, written_width}
+use Rattle.lft_elaborate.specs.{Meanings.{meaning_named, meaning_of}, Values.{Valued, inside, literal, number_named}, declared.meanings.Meaning.Meaning}
 use Rattle.lft_classes.specs.{declared.shapes.{Inherited.Inherited, Shape.Shape, Thing.Thing}, Shapes.{name_of, thing_named, width_of}}
 use Rattle.lft_same.specs.Expanded.Instances.{Inner, Inside, Widths, entered, inners, inners_at, inside_of, main_instance, number_of, numbers, numbers_at, numbers_named, place_named, written}
 use Rattle.lft_same.specs.Expanded.{Reactors.{Class, main_of, members_of}, Whole.{AreWidths, channels, count_in, things_named, total}}
 use Rattle.lft_same.specs.inner.Fits.{Fits.Fits, Widths.{AreFound, small}}
 use Rattle.lft_same.proofs.FitsLemmas.{Channels.channels_length, Fitting.number_fits, MemberNames.{member_found, member_lost}}
+use Rattle.lft_same.proofs.FitsLemmas.Ports.{IsPort, port_is, shape_is_inside}
+use Rattle.lft_elaborate.specs.declared.meanings.Meaning.TheVariants as meaning
 use Rattle.lft_whole.specs.declared.tree.Count.TheVariants as count
 use Rattle.lft_whole.specs.declared.tree.Member.TheVariants as member
 use Rattle.lft_whole.specs.declared.tree.Value.TheVariants as value
@@ -105,9 +107,6 @@ module _ (files : List SourceFile) (shapes : List Shape) (t : Valued) (x : Insid
   pub width_is_written : (m : ℕ) (i : Inherited) → slice_get fits.shape.members.items m ≡ Some i → written_width shapes t m ≡ width_of i.member.now
   width_is_written m i at = ap (λ o. option_and_then (λ (found : Inherited). width_of found.member.now) (option_and_then (λ (s : Shape). slice_get s.members.items m) o)) fits.is_shape ∙ ap (option_and_then (λ (found : Inherited). width_of found.member.now)) at
 
-  pub thing_is : (q : List ℕ) → thing_in shapes t q ≡ thing_named fits.shape q
-  thing_is q = ap (option_and_then (λ (s : Shape). thing_named s q)) fits.is_shape
-
   -- what has a name that is a member's
   pub named_member : (q : List ℕ) (m : ℕ) → thing_named fits.shape q ≡ Some (thing.Member m) → (i : Inherited) × (slice_get fits.shape.members.items m ≡ Some i)
   named_member q m e = let h = (fits.of_class.names q (thing.Member m)).0 e in (h.0, h.1)
@@ -136,99 +135,57 @@ module _ (files : List SourceFile) (shapes : List Shape) (nested : AreNested fil
       none : (m : ℕ) → thing_named fits.shape q ≡ Some (thing.Member m) → ⊥
       none m f = let s : Some (thing.Parameter p) ≡ Some (thing.Member m) = sym is ∙ f in absurd (cc)
 
-  places_long : (t : Valued) (x : Inside) (fits : Fits files shapes t x) (path : List ℕ) (interleaved : Bool) (q : List ℕ) (port : Option Name) (n : ℕ) → option_and_then (places_of shapes (width_in shapes depth) t) (meaning_of shapes t q port) ≡ Some n → n < small → length (things_named files w path x interleaved q (option_map (λ (p : Name). string_bytes p.text) port)) ≡ n
+  places_long : (t : Valued) (x : Inside) (fits : Fits files shapes t x) (path : List ℕ) (interleaved : Bool) (q : List ℕ) (port : Option (List ℕ)) (n : ℕ) → option_and_then (places_of shapes (width_in shapes depth) t) (meaning_named shapes fits.shape q port) ≡ Some n → n < small → length (things_named files w path x interleaved q port) ≡ n
   places_long t x fits path interleaved q None n e l =
-      let meant = then_some (places_of shapes (width_in shapes depth) t) (option_map (own_thing t) (thing_in shapes t q)) n e in
-      let th = option_map_some (own_thing t) (thing_in shapes t q) meant.0 meant.1 in
-      let f : times (how_many_of shapes (width_in shapes depth) t th.0) (Some 1) ≡ Some n = ap (places_of shapes (width_in shapes depth) t) th.2 ∙ meant.2 in
-      let p = times_some (how_many_of shapes (width_in shapes depth) t th.0) (Some 1) n f in
-      let one : 1 ≡ p.1 = Some_same 1 p.1 p.3 in
-      let all : p.0 ≡ n = whole p.0 p.1 n one p.4 l in
-      length-map (numbers_named files w x q) _ ∙ own_long t x fits q th.0 n (sym (thing_is files shapes t x fits q) ∙ th.1) (p.2 ∙ ap Some all) l
+      let meant = then_some (places_of shapes (width_in shapes depth) t) (option_map (λ th. meaning.Own th) (thing_named fits.shape q)) n e in
+      let th = option_map_some (λ th. meaning.Own th) (thing_named fits.shape q) meant.0 meant.1 in
+      length-map (numbers_named files w x q) _ ∙ own_long t x fits q th.0 n th.1 (ap (places_of shapes (width_in shapes depth) t) th.2 ∙ meant.2) l
+  places_long t x fits path interleaved q (Some p) n e l =
+      ap (λ z. length (things_named files w path x interleaved z (Some p))) (sym called)
+      ∙ channels_length files w x b.instance at.0 at.1 at.2 (ap (place_named files x) called ∙ member_found files fits.shape x fits.of_class q b.instance b.is_instance) path p interleaved y.0 y.1
+      ∙ product both.0 both.1 n (length (numbers_named files w y.0 p)) (length (numbers at.1.width (w x b.instance))) both.4 l ports_long members_long
     where
-      whole : (i j n : ℕ) → 1 ≡ j → capped (i * j) ≡ n → n < small → i ≡ n
-      whole i j n one e l =
-          let s : capped (i * 1) ≡ n = ap (λ k. capped (i * k)) one ∙ e in
-          let m : i * 1 ≡ i = omega arith in
-          let r : capped i ≡ n = ap capped (sym m) ∙ s in
-          omega (arith, r, l)
-  places_long t x fits path interleaved q (Some port) n e l = go k.0 (k.1, k.2)
-    where
-      b : List ℕ
-      b = string_bytes port.text
+      meant : (z : Meaning) × (meaning_named shapes fits.shape q (Some p) ≡ Some z) × (places_of shapes (width_in shapes depth) t z ≡ Some n)
+      meant = then_some (places_of shapes (width_in shapes depth) t) (meaning_named shapes fits.shape q (Some p)) n e
 
-      meant : (m : Meant) × (option_and_then (port_inside shapes t (string_bytes port.text)) (member_named shapes t q) ≡ Some m) × (places_of shapes (width_in shapes depth) t m ≡ Some n)
-      meant = then_some (places_of shapes (width_in shapes depth) t) (meaning_of shapes t q (Some port)) n e
+      b : IsPort shapes fits.shape q p meant.0
+      b = port_is shapes fits.shape q p meant.0 meant.1
 
-      inst : (k : ℕ) × (member_named shapes t q ≡ Some k) × (port_inside shapes t (string_bytes port.text) k ≡ Some meant.0)
-      inst = then_some (port_inside shapes t (string_bytes port.text)) (member_named shapes t q) meant.0 meant.1
+      both : (i : ℕ) × (j : ℕ) × (how_many_inside shapes (width_in shapes depth) t b.instance b.port ≡ Some i) × (how_many shapes (width_in shapes depth) t b.instance ≡ Some j) × (capped (i * j) ≡ n)
+      both = times_some (how_many_inside shapes (width_in shapes depth) t b.instance b.port) (how_many shapes (width_in shapes depth) t b.instance) n (ap (places_of shapes (width_in shapes depth) t) b.is_meant ∙ meant.2)
 
-      k : (th : Thing) × (thing_in shapes t q ≡ Some th) × (as_member th ≡ Some inst.0)
-      k = then_some as_member (thing_in shapes t q) inst.0 inst.1
+      u : (u : Valued) × (inside shapes t b.instance ≡ Some u) × (how_many shapes (width_in shapes depth) u b.port ≡ Some both.0)
+      u = then_some (λ u. how_many shapes (width_in shapes depth) u b.port) (inside shapes t b.instance) both.0 both.2
 
-      found : Valued → ℕ → Meant
-      found u m = record { instance = Some inst.0; setting = u; thing = thing.Member m }
-
-      u : (u : Valued) × (inside shapes t inst.0 ≡ Some u) × (option_map (found u) (port_named shapes u (string_bytes port.text)) ≡ Some meant.0)
-      u = then_some (λ u. option_map (found u) (port_named shapes u (string_bytes port.text))) (inside shapes t inst.0) meant.0 inst.2
-
-      m : (m : ℕ) × (port_named shapes u.0 (string_bytes port.text) ≡ Some m) × (found u.0 m ≡ meant.0)
-      m = option_map_some (found u.0) (port_named shapes u.0 (string_bytes port.text)) meant.0 u.2
-
-      -- the port is the member of its name
-      named : (m' : ℕ) × (member_named shapes u.0 (string_bytes port.text) ≡ Some m') × (option_and_then (λ (i : Inherited). as_port m' i.member.now) (member_in shapes u.0 m') ≡ Some m.0)
-      named = then_some (λ m'. option_and_then (λ (i : Inherited). as_port m' i.member.now) (member_in shapes u.0 m')) (member_named shapes u.0 (string_bytes port.text)) m.0 m.1
-
-      same : named.0 ≡ m.0
-      same = let i = then_some (λ (i : Inherited). as_port named.0 i.member.now) (member_in shapes u.0 named.0) m.0 named.2 in of_port i.0.member.now i.2
-        where
-          of_port : (y : Member) → as_port named.0 y ≡ Some m.0 → named.0 ≡ m.0
-          of_port (member.Port p) f = Some_same named.0 m.0 f
-          of_port (member.Timer p) f = absurd (cc)
-          of_port (member.Action p) f = absurd (cc)
-          of_port (member.Reaction p) f = absurd (cc)
-          of_port (member.Instance p) f = absurd (cc)
-          of_port (member.Connection p) f = absurd (cc)
-          of_port (member.Foreign what at) f = absurd (cc)
-
-      at : (file : ℕ) × (i : Instance) × (slice_get (members_of files x.class) inst.0 ≡ Some (file, member.Instance i))
-      at = nested.instance t u.0 x inst.0 fits u.1
+      at : (file : ℕ) × (i : Instance) × (slice_get (members_of files x.class) b.instance ≡ Some (file, member.Instance i))
+      at = nested.instance t u.0 x b.instance fits u.1
 
       y : (y : Inside) × (inside_of files x (at.0, at.1) ≡ Some y) × Fits files shapes u.0 y
-      y = nested.inside_fits t u.0 x inst.0 at.0 at.1 fits at.2 u.1
+      y = nested.inside_fits t u.0 x b.instance at.0 at.1 fits at.2 u.1
 
-      both : (i : ℕ) × (j : ℕ) × (how_many shapes (width_in shapes depth) u.0 m.0 ≡ Some i) × (how_many shapes (width_in shapes depth) t inst.0 ≡ Some j) × (capped (i * j) ≡ n)
-      both = times_some (how_many shapes (width_in shapes depth) u.0 m.0) (how_many shapes (width_in shapes depth) t inst.0) n (ap (places_of shapes (width_in shapes depth) t) m.2 ∙ meant.2)
+      -- the instance is the member of its name
+      i : (i : Inherited) × (slice_get fits.shape.members.items b.instance ≡ Some i) × (option_map (λ (z : Name). string_bytes z.text) (name_of i.member.now) ≡ Some q)
+      i = (fits.of_class.names q (thing.Member b.instance)).0 b.is_instance
 
-      go : (th : Thing) → (thing_in shapes t q ≡ Some th) × (as_member th ≡ Some inst.0) → length (things_named files w path x interleaved q (Some (string_bytes port.text))) ≡ n
-      go (thing.Parameter p) (is, f) = absurd (cc)
-      go (thing.Member h) (is, f) =
-          let hs : h ≡ inst.0 = Some_same h inst.0 f in
-          let own : thing_named fits.shape q ≡ Some (thing.Member inst.0) = sym (thing_is files shapes t x fits q) ∙ is ∙ ap (λ z. Some (thing.Member z)) hs in
-          let i = named_member files shapes t x fits q inst.0 own in
-          let r : Some (i.0.file, i.0.member.now) ≡ Some (at.0, member.Instance at.1) = sym (member_is files shapes t x fits inst.0 i.0 i.1) ∙ at.2 in
-          let s : (i.0.file, i.0.member.now) ≡ (at.0, member.Instance at.1) = Some_same (i.0.file, i.0.member.now) (at.0, member.Instance at.1) r in
-          let is_inst : i.0.member.now ≡ member.Instance at.1 = ap (λ (p : ℕ × Member). p.1) s in
-          let has : option_map (λ (z : Name). string_bytes z.text) (name_of i.0.member.now) ≡ Some q = (let g = (fits.of_class.names q (thing.Member inst.0)).0 own in let e' : g.0 ≡ i.0 = Some_same g.0 i.0 (sym g.1 ∙ i.1) in ap (λ (z : Inherited). option_map (λ (z : Name). string_bytes z.text) (name_of z.member.now)) (sym e') ∙ g.2) in
-          let called : string_bytes at.1.name.text ≡ q = Some_same (string_bytes at.1.name.text) q (ap (λ (z : Member). option_map (λ (z : Name). string_bytes z.text) (name_of z)) (sym is_inst) ∙ has) in
-          let place : place_named files x (string_bytes at.1.name.text) ≡ Some inst.0 = ap (place_named files x) called ∙ member_found files fits.shape x fits.of_class q inst.0 own in
-          let long : length (things_named files w path x interleaved (string_bytes at.1.name.text) (Some (string_bytes port.text))) ≡ length (numbers at.1.width (w x inst.0)) * length (numbers_named files w y.0 (string_bytes port.text)) = channels_length files w x inst.0 at.0 at.1 at.2 place path (string_bytes port.text) interleaved y.0 y.1 in
-          ap (λ z. length (things_named files w path x interleaved z (Some (string_bytes port.text)))) (sym called)
-          ∙ long
-          ∙ product both.0 both.1 n (length (numbers_named files w y.0 (string_bytes port.text))) (length (numbers at.1.width (w x inst.0))) both.4 l (ports_long (th_of named.1)) (λ small_j. ap (λ (z : Member). length (numbers (width_of z) (w x inst.0))) (sym is_inst) ∙ member_long t x fits inst.0 both.1 i.0 i.1 both.3 small_j)
-        where
-          th_of : member_named shapes u.0 (string_bytes port.text) ≡ Some named.0 → (th : Thing) × (thing_in shapes u.0 (string_bytes port.text) ≡ Some th) × (as_member th ≡ Some named.0)
-          th_of f = then_some as_member (thing_in shapes u.0 (string_bytes port.text)) named.0 f
+      is_inst : i.0.member.now ≡ member.Instance at.1
+      is_inst = ap (λ (p : ℕ × Member). p.1) (Some_same (i.0.file, i.0.member.now) (at.0, member.Instance at.1) (sym (member_is files shapes t x fits b.instance i.0 i.1) ∙ at.2))
 
-          ports_long : (th : Thing) × (thing_in shapes u.0 (string_bytes port.text) ≡ Some th) × (as_member th ≡ Some named.0) → both.0 < small → length (numbers_named files w y.0 (string_bytes port.text)) ≡ both.0
-          ports_long (thing.Parameter p, is, f) l = absurd (cc)
-          ports_long (thing.Member h, is, f) l =
-              let hs : h ≡ m.0 = Some_same h named.0 f ∙ same in
-              named_long u.0 y.0 y.2 (string_bytes port.text) m.0 both.0 (sym (thing_is files shapes u.0 y.0 y.2 (string_bytes port.text)) ∙ is ∙ ap (λ z. Some (thing.Member z)) hs) both.2 l
+      called : string_bytes at.1.name.text ≡ q
+      called = Some_same (string_bytes at.1.name.text) q (ap (λ (z : Member). option_map (λ (z : Name). string_bytes z.text) (name_of z)) (sym is_inst) ∙ i.2)
+
+      members_long : both.1 < small → length (numbers at.1.width (w x b.instance)) ≡ both.1
+      members_long few = ap (λ (z : Member). length (numbers (width_of z) (w x b.instance))) (sym is_inst) ∙ member_long t x fits b.instance both.1 i.0 i.1 both.3 few
+
+      -- and the port that of its own
+      inner_is : b.inner ≡ y.2.shape
+      inner_is = Some_same b.inner y.2.shape (sym b.is_inner ∙ shape_is_inside shapes b.instance t u.0 fits.shape y.2.shape fits.is_shape u.1 y.2.is_shape)
+
+      ports_long : both.0 < small → length (numbers_named files w y.0 p) ≡ both.0
+      ports_long few = named_long u.0 y.0 y.2 p b.port both.0 (ap (λ (z : Shape). thing_named z p) (sym inner_is) ∙ b.is_port) u.2 few
 
   -- a reference has as many channels as places
   pub channels_long : (t : Valued) (x : Inside) (fits : Fits files shapes t x) (path : List ℕ) (r : Reference) (n : ℕ) → places_in shapes (width_in shapes depth) t r ≡ Some n → n < small → length (channels files w path x r) ≡ n
-  channels_long t x fits path r n e l = places_long t x fits path r.is_interleaved (string_bytes r.head.text) r.port n e l
+  channels_long t x fits path r n e l = places_long t x fits path r.is_interleaved (string_bytes r.head.text) (option_map (λ (p : Name). string_bytes p.text) r.port) n (sym (ap (λ o. option_and_then (places_of shapes (width_in shapes depth) t) (option_and_then (λ (z : Shape). meaning_of shapes z r) o)) fits.is_shape) ∙ e) l
 
   count_is : (t : Valued) (x : Inside) (fits : Fits files shapes t x) (c : Count) (n : ℕ) → settings_count shapes (width_in shapes depth) t c ≡ Some n → n < small → count_in files w x c ≡ Some n
   count_is t x fits (count.Number k) n e l = e

@@ -5,8 +5,8 @@ use Rattle.lft_resolve.specs.{Causes.{NoneHolds, causes}, Instances.{Inside as C
 use Rattle.lft_program.specs.Flattening.{time_or_zero}
 use Rattle.lft_whole.specs.declared.{sources.source.SourceFile.SourceFile, tree.Instance.Instance}
 use Rattle.lft_classes.specs.declared.shapes.Shape.{Shape}
-use Rattle.lft_elaborate.specs.Values.{Valued, inside}
-use Rattle.lft_lower.specs.{Meanings.Meanings.{Here, shape_inside}, Lowered.{AreGiven, IsPeriod, IsRead, period_at, time_at}}
+use Rattle.lft_elaborate.specs.{Meanings.shape_inside, Values.{Valued, inside}}
+use Rattle.lft_lower.specs.{Meanings.Meanings.Here, Lowered.{AreGiven, IsPeriod, IsRead, period_at, time_at}}
 use Rattle.lft_lower.specs.Reactors.{AreShapes, IsLowering, timed_parameters}
 use Rattle.lft_same.specs.Expanded.{Instances.{Inside, inside_of, main_instance, period_in, time_in}, Reactors.{Class, main_of, members_of}, Same.IsSame}
 use Rattle.lft_same.specs.inner.{Expanded.Core.expanded_tree, Fits.Fits.Fits, Times.{HasTimes, IsKnown}}
@@ -18,7 +18,7 @@ MainTimesLaw files = (shapes : List Shape) (shape : Shape) (c : Class) (r : Reac
 
 -- Where a core instance has the times of an instance, the one inside, with what lowering gives it, has those of the one that `new` makes. What is given has to name parameters of the reactor around.
 abbrev pub InsideTimesLaw : List SourceFile → Type 0
-InsideTimesLaw files = (h : Here) (t u : Valued) (x y : Inside) (core : CoreInside) (m file : ℕ) (i : Instance) (inner : Shape) (r : ReactorTree) (given : List AssignmentTree) → AreShapes files h.settings.shapes.items → slice_get h.settings.shapes.items t.shape ≡ Some h.shape → Fits files h.settings.shapes.items t x → slice_get (members_of files x.class) m ≡ Some (file, member.Instance i) → inside h.settings.shapes.items t m ≡ Some u → inside_of files x (file, i) ≡ Some y → HasTimes files x core → AreGiven h m given → ((a : AssignmentTree) → Contains given a → IsKnown core.reactor.parameters a.value) → shape_inside h m ≡ Some inner → r.parameters ≡ timed_parameters inner → HasTimes files y (record { reactor = r; values = map (given_in core given) r.parameters })
+InsideTimesLaw files = (h : Here) (t u : Valued) (x y : Inside) (core : CoreInside) (m file : ℕ) (i : Instance) (inner : Shape) (r : ReactorTree) (given : List AssignmentTree) → AreShapes files h.settings.shapes.items → slice_get h.settings.shapes.items t.shape ≡ Some h.shape → Fits files h.settings.shapes.items t x → slice_get (members_of files x.class) m ≡ Some (file, member.Instance i) → inside h.settings.shapes.items t m ≡ Some u → inside_of files x (file, i) ≡ Some y → HasTimes files x core → AreGiven h m given → ((a : AssignmentTree) → Contains given a → IsKnown core.reactor.parameters a.value) → shape_inside h.settings.shapes.items h.shape m ≡ Some inner → r.parameters ≡ timed_parameters inner → HasTimes files y (record { reactor = r; values = map (given_in core given) r.parameters })
 
 -- there a time that is written means in the core what it means in the language
 abbrev pub TimeLaw : List SourceFile → Type 0

@@ -2,9 +2,8 @@ use Rattle.std.proofs.Common.{◌≡◌, ◌≤◌, ℕ, List, [], Some, map, sl
 use Rattle.std.specs.Prelude.{option_map, unwrap_or}
 use Rattle.std.{specs.{Option.option_and_then, List.flat_map}, proofs.lemmas.Option.slice_get-map}
 use Rattle.lft_classes.specs.declared.shapes.{Shape.Shape, Child.Child}
-use Rattle.lft_elaborate.specs.declared.settings.Settings.{Settings}
-use Rattle.lft_lower.specs.{inner.{Meanings.Meanings.{here, token_in}, Needed.{needed_given, needed_in}}, Meanings.Meanings.shape_inside, Standing.given_token}
-use Rattle.lft_lower.proofs.Needing.{none_lacks}
+use Rattle.lft_elaborate.specs.{Meanings.shape_inside, declared.settings.Settings.Settings}
+use Rattle.lft_lower.{specs.{inner.{Meanings.Meanings.{here, token_in}, Needed.{needed_given, needed_in}}, Standing.given_token}, proofs.Needing.none_lacks}
 use Rattle.lft_lower.proofs.instances.checked.Goals as goal
 
 -- so many parameters of the shape in an instance have to be given
@@ -34,4 +33,4 @@ returns-clause-at c =
     let child = c.in-Some.child.now in
     c.in_ok-given.ensures.at
     ∙ ap (λ o. unwrap_or (option_map (λ (s : Shape). flat_map (given_token number s) child.given.items) o) []) c.in-Some-inner_shape.ensures
-    ∙ ap (λ o. unwrap_or (option_and_then (λ (ch : Child). option_map (λ (s : Shape). flat_map (given_token number s) ch.given.items) (shape_inside h c.args.member)) o) []) c.in-Some.ensures
+    ∙ ap (λ o. unwrap_or (option_and_then (λ (ch : Child). option_map (λ (s : Shape). flat_map (given_token number s) ch.given.items) (shape_inside h.settings.shapes.items h.shape c.args.member)) o) []) c.in-Some.ensures

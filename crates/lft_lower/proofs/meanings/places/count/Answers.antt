@@ -1,7 +1,7 @@
 use Rattle.std.proofs.Common.{◌≡◌, Some, length, slice_get, sym, ap, ◌∙◌, arith}
 use Rattle.std.specs.Prelude.{is_some}
 use Rattle.std.proofs.lemmas.{List.take_all, Option.slice_get-get_or}
-use Rattle.lft_lower.specs.{Meanings.Meanings.{Means, all_places}, inner.Meanings.{Meanings.here, Places.sense}}
+use Rattle.lft_lower.specs.{Meanings.Meanings.{Means, all_places}, inner.Meanings.Meanings.here}
 use Rattle.lft_lower.proofs.MeaningsLemmas.{Growing.{all_done, all_next}, Placed.count_next}
 use Rattle.lft_lower.proofs.meanings.places.count.Goals as goal
 
@@ -13,8 +13,8 @@ loop-place-preserved c =
     let test = c.loop-place-test.true in
     let there : slice_get items place ≡ Some item = slice_get-get_or items place item (omega arith) ∙ ap Some (sym c.index-references-place.is) in
     let h = here c.args.within in (
-      count_next h items place item (sense c.in_ok-meant.meant) c.loop-place.all c.in_ok-count.count _ there c.in_ok-meant.ensures.sense c.in_ok-count.ensures.count c.in_ok-all.ensures.sum c.loop-place.invariant.0,
-      all_next (Means h) items place item there c.loop-place.invariant.1 (ap is_some c.in_ok-meant.ensures.sense),
+      count_next h items place item c.in_ok-meaning.meaning c.loop-place.all c.in_ok-count.count _ there c.in_ok-meaning.ensures.meaning c.in_ok-count.ensures.count c.in_ok-all.ensures.sum c.loop-place.invariant.0,
+      all_next (Means h) items place item there c.loop-place.invariant.1 (ap is_some c.in_ok-meaning.ensures.meaning),
     )
 
 pub returns-clause-means : goal.returns-clause-means

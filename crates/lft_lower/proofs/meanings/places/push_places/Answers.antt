@@ -2,20 +2,20 @@ use Rattle.std.proofs.Common.{◌≡◌, ◌+◌, ◌++◌, length, map, sym, ap
 use Rattle.std.specs.Prelude.{is_some}
 use Rattle.std.proofs.lemmas.List.{length-map}
 use Rattle.lft_tree.specs.View.{ref_view, ref_views}
-use Rattle.lft_lower.specs.{inner.Meanings.{Meanings.here, Places.{sense, up_to}}, Meanings.{Meanings.places_in, Places.places_of, Standing.ref_tokens}}
+use Rattle.lft_lower.specs.{inner.Meanings.{Meanings.here, Places.up_to}, Meanings.{Meanings.{places_in, places_of}, Standing.ref_tokens}}
 use Rattle.lft_lower.proofs.MeaningsLemmas.{Growing.take_whole, Placed.its_places, Standing.tokens_put}
 use Rattle.lft_lower.proofs.meanings.places.push_places.Goals as goal
 
 pub returns-clause-means : goal.returns-clause-means
-returns-clause-means c = ap is_some c.in_ok-meant.ensures.sense
+returns-clause-means c = ap is_some c.in_ok-meaning.ensures.meaning
 
 pub returns-clause-places : goal.returns-clause-places
 returns-clause-places c =
     let old = ref_views c.args.list.now.items in
     let r = c.args.reference.now in
-    let more = places_of r.is_interleaved (sense c.in_ok-meant.meant) in
+    let more = places_of (here c.args.within) r.is_interleaved c.in_ok-meaning.meaning in
     let long : c.in_ok-most.most ≡ length old + length more = omega (arith, c.in_ok-most.ensures.sum, c.in_ok-count.ensures.count r.is_interleaved, length-map c.args.list.now.items ref_view) in
-    c.in_ok-push_meant.ensures.places ∙ ap (λ most. up_to most old more) long ∙ take_whole old more ∙ ap (λ ms. old ++ ms) (sym (its_places (here c.args.within) r (sense c.in_ok-meant.meant) c.in_ok-meant.ensures.sense))
+    c.in_ok-push_meant.ensures.places ∙ ap (λ most. up_to most old more) long ∙ take_whole old more ∙ ap (λ ms. old ++ ms) (sym (its_places (here c.args.within) r c.in_ok-meaning.meaning c.in_ok-meaning.ensures.meaning))
 
 pub returns-clause-tokens : goal.returns-clause-tokens
 returns-clause-tokens c =
