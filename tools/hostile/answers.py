@@ -1,15 +1,18 @@
 """The lines that the program may print, and its faults by part and number, from docs/OUTPUT.md."""
+import pathlib
 import re
 
 from hostile.machine import RULES
 
+# The causes of refusal of a program, as the page has them.
+PAGE = pathlib.Path(__file__).resolve().parents[2] / "docs/LANGUAGE.md"
+CAUSES = {int(number): name for number, name in re.findall(r"(?m)^\| (\d+) \| `(\w+)` \|", PAGE.read_text().split("\n## Why a program is refused\n")[1])}
 # The names of the faults of each part, with what stands behind them.
 LINED = " line=NUMBER"
 FAULTS = {
     "lex": {1: "BadChar at=NUMBER", 2: "OpenComment", 3: "OpenCode", 4: "OpenString", 5: "NumberTooLarge at=NUMBER", 6: "TooLong", 7: "NoMemory"},
     "syntax": {1: "Unexpected token=NUMBER", 2: "NoMemory"},
-    "program": dict(enumerate(["NoMain", "TwoMains", "DuplicateName", "UnknownReactor", "RecursiveReactor", "UnknownName", "WrongPlace", "MainHasPorts",
-                               "TwoSources", "ConnectionCycle", "WidthMismatch", "NoTrigger", "DuplicateInput", "DelayTooLong", "TooMany", "NoMemory"], 1)),
+    "program": {**CAUSES, 16: "NoMemory"},
     "externals": {1: "BadHeader", 2: "BadFieldCount" + LINED, 3: "BadEvent" + LINED, 4: "BadNumber" + LINED, 5: "UnknownName" + LINED, 6: "FieldInPlace" + LINED,
                   7: "DuplicateExternal" + LINED, 8: "NoStop", 9: "TwoStops" + LINED, 10: "TooManyRows", 11: "NotCsv", 12: "NoMemory", 13: "LateExternal" + LINED, 14: "NotPlain" + LINED,
                   15: "ManyLater" + LINED},

@@ -3,7 +3,7 @@
 ghost use Rattle.std.specs.Prelude.{◌≡◌, ◌<◌, ◌++◌, ℕ, List, Some, IfOk, OnOk, flat_map, length, slice_get, string_bytes};
 ghost use Rattle.std.specs.Char.{encode_utf8, Escape.escape_default};
 ghost use Rattle.lft_graph.specs.{Loops.IsLoop, declared.fault.GraphFault.TheVariants.CausalityLoop};
-ghost use Rattle.lft_program.specs.Faults.{number_of as program_number};
+ghost use Rattle.lft_validate.specs.Faults.{number_of as program_number};
 ghost use Rattle.lft_load.specs.Faults.{lex_number, syntax_number, graph_number, table_number, IsFault, IsFaultOfPath};
 ghost use Rattle.lft_load.specs.Words.{in_line, names_words, one_line};
 ghost use Rattle.lft_load.specs.declared.fault.Part.TheVariants as part;
@@ -234,24 +234,7 @@ impl Fault {
         ensures part { result.part ≡ part.Program }
         ensures number { result.number ≡ program_number fault }
     {
-        let (number, name) = match fault {
-            ProgramFault::NoMain => (1, "NoMain"),
-            ProgramFault::TwoMains => (2, "TwoMains"),
-            ProgramFault::DuplicateName => (3, "DuplicateName"),
-            ProgramFault::UnknownReactor => (4, "UnknownReactor"),
-            ProgramFault::RecursiveReactor => (5, "RecursiveReactor"),
-            ProgramFault::UnknownName => (6, "UnknownName"),
-            ProgramFault::WrongPlace => (7, "WrongPlace"),
-            ProgramFault::MainHasPorts => (8, "MainHasPorts"),
-            ProgramFault::TwoSources => (9, "TwoSources"),
-            ProgramFault::ConnectionCycle => (10, "ConnectionCycle"),
-            ProgramFault::WidthMismatch => (11, "WidthMismatch"),
-            ProgramFault::NoTrigger => (12, "NoTrigger"),
-            ProgramFault::DuplicateInput => (13, "DuplicateInput"),
-            ProgramFault::DelayTooLong => (14, "DelayTooLong"),
-            ProgramFault::TooMany => (15, "TooMany"),
-            ProgramFault::NoMemory => (16, "NoMemory"),
-        };
+        let (number, name) = fault.cause();
         Fault::plain(Part::Program, number, name)
     }
 

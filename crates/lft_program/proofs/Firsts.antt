@@ -3,11 +3,9 @@ use Rattle.std.proofs.Common.{◌≡◌, ◌≢◌, ℕ, List, [], ◌∷◌, �
 use Rattle.std.specs.Result.{IsErrAnd}
 use Rattle.lft_tree.specs.Tree.{FileTree, reactors_of}
 use Rattle.lft_resolve.specs.Causes.{IsFirst, NoneHolds, TooMany, HasLongTime, DelayTooLong, causes}
-use Rattle.lft_program.specs.inner.{Links.{TellsOf, last_causes, number_of as link_number}, Tables.IsLawful, Faults.reactor_causes}
-use Rattle.lft_program.specs.inner.{Refusals.{Tells, cause_of, of_links, of_nest}, Limits.IsExcess}
-use Rattle.lft_program.specs.declared.nesting.{linking.LinkFault.LinkFault, limits.Excess.Excess, nest.NestFault.NestFault}
+use Rattle.lft_program.specs.inner.{Links.last_causes, Tables.IsLawful, Faults.reactor_causes, Refusals.{Tells, cause_of, of_nest}, Limits.IsExcess}
+use Rattle.lft_program.specs.declared.nesting.{limits.Excess.Excess, nest.NestFault.NestFault}
 use Rattle.lft_program.proofs.Excesses.{excess_is_cause}
-use Rattle.lft_program.specs.declared.nesting.linking.LinkFault.TheVariants as links
 use Rattle.lft_program.specs.declared.nesting.nest.NestFault.TheVariants as nests
 use Rattle.lft_program.specs.declared.refusal.Refusal.TheVariants as refusals
 
@@ -64,21 +62,8 @@ pub nest_first : (tree : FileTree) (f : NestFault) → NoneHolds (reactor_causes
 nest_first tree (nests.TooMany e) none many other = IsFirst-right (reactor_causes tree) (rest tree) 15 none (inl (refl, excess_is_cause tree e (many e refl)))
 nest_first tree nests.NoMemory none many other = absurd (other refl)
 
--- a fault of the links has the number of its cause here too
-pub same_number : (tree : FileTree) (e : LinkFault) → (e ≢ links.NoMemory → IsFirst (last_causes tree) (link_number e)) → of_links e ≢ refusals.NoMemory → IsFirst (last_causes tree) (cause_of (of_links e))
-same_number tree (links.ConnectionCycle way) first other = first (λ e. absurd (cc))
-same_number tree (links.LongTime w) first other = first (λ e. absurd (cc))
-same_number tree (links.LongChain way) first other = first (λ e. absurd (cc))
-same_number tree links.NoMemory first other = absurd (other refl)
-
 -- ---- what faults tell
 
 pub nest_tells : (tree : FileTree) (f : NestFault) → ((e : Excess) → f ≡ nests.TooMany e → IsExcess tree e) → Tells tree (of_nest f)
 nest_tells tree (nests.TooMany e) many = many e refl
 nest_tells tree nests.NoMemory many = tt
-
-pub links_tell : (tree : FileTree) (f : LinkFault) → TellsOf tree f → Tells tree (of_links f)
-links_tell tree (links.ConnectionCycle way) told = told
-links_tell tree (links.LongTime w) told = told
-links_tell tree (links.LongChain way) told = told
-links_tell tree links.NoMemory told = tt

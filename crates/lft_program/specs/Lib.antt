@@ -1,5 +1,4 @@
 pub mod Located
 pub mod Links
 pub mod Flattening
-pub mod Faults
 pub mod inner

@@ -3,14 +3,13 @@
 ghost use Rattle.std.specs.Prelude.{◌≡◌, ◌≢◌, IfOk, IfErr, OnOk};
 ghost use Rattle.lft_tree.specs.{Tree.reactors_of, View.tree_view};
 ghost use Rattle.lft_resolve.specs.{Causes.{IsFirst, NoneHolds, causes, first_causes, later_causes}, inner.Numbers.AreContents};
-ghost use Rattle.lft_program.specs.{inner.{Tables.AreTables, Faults.reactor_causes, OfTree.AreOfTree, Refusals.{Tells, cause_of}}, Faults.number_of};
-ghost use Rattle.lft_program.specs.Flattening.{Flat, IsFlatOf};
+ghost use Rattle.lft_validate.specs.Faults.{number_of};
+ghost use Rattle.lft_program.specs.{inner.{Tables.AreTables, Faults.reactor_causes, OfTree.AreOfTree, Refusals.{Tells, cause_of}}, Flattening.{Flat, IsFlatOf}};
 ghost use Rattle.lft_ir.specs.Parts.{Parts};
-ghost use Rattle.lft_program.specs.declared.fault.ProgramFault.TheVariants as faults;
+ghost use Rattle.lft_validate.specs.declared.fault.ProgramFault.TheVariants as faults;
 ghost use Rattle.lft_program.specs.declared.refusal.Refusal.TheVariants as refusals;
 
 use crate::assembly::assembled;
-use crate::fault::ProgramFault;
 use crate::laying;
 use crate::nesting::{Linked, Nest, Tables, links};
 use crate::refusal::Refusal;
@@ -23,7 +22,7 @@ use lft_resolve::by_number::{
 use lft_resolve::expansion::Contents;
 use lft_tag::NoMemory;
 use lft_tree::Ast;
-use lft_validate::{Scopes, check_first, check_later, circle_of};
+use lft_validate::{ProgramFault, Scopes, check_first, check_later, circle_of};
 use std::alloc::Global;
 
 /// What each reactor of the file contains.
@@ -109,9 +108,7 @@ fn program(
     Ok(assembled(ports, actions, timers, reactions, names))
 }
 
-/// The flat program of a tree, if no cause of refusal holds of it. Of several the first is told, in the
-/// order of `NoMain` to `TwoSources`, `WidthMismatch`, `NoTrigger`, `DuplicateInput`, `TooMany`,
-/// `ConnectionCycle`, `DelayTooLong`.
+/// The flat program of a tree, if no cause of refusal holds of it.
 pub fn flattened(alloc: Global, ast: &Ast) -> Result<Program, Refusal>
     ensures flat { IfOk result (IsFlatOf (tree_view ast.now)) }
     ensures one { IfOk result (λ p. (other : Parts) → IsFlatOf (tree_view ast.now) other → other ≡ p) }

@@ -9,6 +9,6 @@ mod things;
 
 pub use limits::{Excess, LimitedKind};
 pub use linking::Way;
-pub(crate) use linking::{LinkFault, Linked, links};
+pub(crate) use linking::{Linked, links};
 pub use nest::{Nest, NestFault, Numbering};
 pub use tables::Tables;

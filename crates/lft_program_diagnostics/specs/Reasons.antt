@@ -4,8 +4,8 @@ use Rattle.lft_tree.specs.{View.{file_view, reactor_view}, declared.tree.{Item.I
 use Rattle.lft_syntax.specs.{declared.token.Token.Token, Lexes.Lexes, Placed.FileStands, Grammar.Spells, View.lexemes}
 use Rattle.lft_resolve.specs.Causes.{IsFirst, causes}
 use Rattle.lft_text_diagnostics.specs.{Pages.SaysSpot, declared.{pages.Page.Page, spots.Spot.Spot}}
-use Rattle.lft_validate.specs.{Witnesses.{Shows, cause_shown}, declared.witness.Witness.Witness}
-use Rattle.lft_program_diagnostics.specs.{Sentences.{cause_told, said, words_in}, declared.sentence.Sentence.Sentence, Spots.{reactors_among, witness_spot}}
+use Rattle.lft_validate.specs.{Faults.number_of, Witnesses.{Shows, fault_shown}, declared.witness.Witness.Witness}
+use Rattle.lft_program_diagnostics.specs.{Sentences.{fault_told, said, words_in}, declared.sentence.Sentence.Sentence, Spots.{reactors_among, witness_spot}}
 
 -- the words begin with where the bytes stand, and then with this sentence
 pub record BeginsAt (t : List ℕ) (files : List Page) (spot : Option Spot) (sentence words : List ℕ) : Type 0 where
@@ -18,7 +18,7 @@ pub record BeginsAt (t : List ℕ) (files : List Page) (spot : Option Spot) (sen
 pub record HasWitnessAt (tokens : List Token) (reactors : List Reactor) (cause : ℕ) (spot : Option Spot) : Type 0 where
   pub witness : Witness
   pub shows : Shows (map reactor_view reactors) witness
-  pub shows_cause : cause_shown witness ≡ cause
+  pub shows_cause : number_of (fault_shown witness) ≡ cause
   pub at : spot ≡ witness_spot tokens reactors witness
 
 -- reactors that contain one another, connections that form a loop, delays that only together are too long, too many things: several places show the cause together
@@ -34,7 +34,7 @@ pub record IsToldIn (t : List ℕ) (tokens : List Token) (files : List Page) (pa
   pub spot : Option Spot
   pub shown : IsShownAt tokens (reactors_among parts) cause spot
   pub sentence : Sentence
-  pub tells : cause_told sentence ≡ cause
+  pub tells : number_of (fault_told sentence) ≡ cause
   pub names : List (List ℕ)
   pub begins : BeginsAt t files spot (said (words_in sentence) names) words
 

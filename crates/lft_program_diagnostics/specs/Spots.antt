@@ -5,11 +5,11 @@ use Rattle.lft_tree.specs.declared.tree.{Reactor.Reactor, Item.Item}
 use Rattle.lft_syntax.specs.{Placed.token_of, declared.token.Token.Token}
 use Rattle.lft_resolve.specs.declared.kinds.Role.{Role, TheVariants.{Read, Effect, Source, Destination}}
 use Rattle.lft_text_diagnostics.specs.{Spots.{last_of_head, last_of_name, last_of_time, span}, declared.spots.Spot.Spot}
-use Rattle.lft_validate.specs.declared.{finding.Finding.Finding, witness.Witness.Witness}
+use Rattle.lft_validate.specs.{Findings.part_found, declared.{finding.MemberPart.MemberPart, witness.Witness.Witness}}
 use Rattle.lft_tree.specs.declared.tree.Trigger.TheVariants as triggers
 use Rattle.lft_tree.specs.declared.tree.Member.TheVariants as members
 use Rattle.lft_tree.specs.declared.tree.Item.TheVariants as items
-use Rattle.lft_validate.specs.declared.finding.Finding.TheVariants as finding
+use Rattle.lft_validate.specs.declared.finding.MemberPart.TheVariants as parts
 use Rattle.lft_validate.specs.declared.witness.Witness.TheVariants as witness
 
 -- the reactor that an item is, if it is one
@@ -98,20 +98,13 @@ timed_spot tokens m n = option_and_then (time_spot tokens) (slice_get (times_in 
 abbrev pub given_spot : List Token → Member → ℕ → Option Spot
 given_spot tokens m n = option_and_then (λ a. token_spot tokens a.at) (slice_get (given_in m) n)
 
--- where what is found in a member stands: of two that are one the second
-abbrev pub finding_spot : List Token → Member → Finding → Option Spot
-finding_spot tokens m (finding.GivenTwice first second) = given_spot tokens m second
-finding_spot tokens m finding.UnknownReactor = option_and_then (token_spot tokens) (member_at m)
-finding_spot tokens m (finding.UnknownName role n) = named_spot tokens m role n
-finding_spot tokens m (finding.UnknownTime n) = timed_spot tokens m n
-finding_spot tokens m (finding.UnknownParameter n) = given_spot tokens m n
-finding_spot tokens m (finding.WrongPlace role n kind) = named_spot tokens m role n
-finding_spot tokens m (finding.WrongTime n kind) = timed_spot tokens m n
-finding_spot tokens m finding.MainHasPort = option_and_then (token_spot tokens) (declared_at m)
-finding_spot tokens m finding.WidthMismatch = option_and_then (token_spot tokens) (member_at m)
-finding_spot tokens m finding.NoTrigger = option_and_then (token_spot tokens) (member_at m)
-finding_spot tokens m (finding.NamedTwice role first second) = named_spot tokens m role second
-finding_spot tokens m (finding.LongTime n) = timed_spot tokens m n
+-- the bytes of a part of a member
+abbrev pub part_spot : List Token → Member → MemberPart → Option Spot
+part_spot tokens m parts.Whole = option_and_then (token_spot tokens) (member_at m)
+part_spot tokens m parts.Declared = option_and_then (token_spot tokens) (declared_at m)
+part_spot tokens m (parts.Name role n) = named_spot tokens m role n
+part_spot tokens m (parts.Time n) = timed_spot tokens m n
+part_spot tokens m (parts.Value n) = given_spot tokens m n
 
 -- the member with that place in the reactor with that place
 abbrev pub member_of : List Reactor → ℕ → ℕ → Option Member
@@ -131,6 +124,6 @@ witness_spot tokens reactors witness.NoMain = None
 witness_spot tokens reactors (witness.TwoMains first second) = option_and_then (head_spot tokens) (slice_get reactors second)
 witness_spot tokens reactors (witness.SameReactors first second) = option_and_then (token_spot tokens) (slice_get (filter_map named_at reactors) second)
 witness_spot tokens reactors (witness.DeclaredTwice r first second) = option_and_then (token_spot tokens) (declaration_at reactors r second)
-witness_spot tokens reactors (witness.Member r m f) = option_and_then (λ x. finding_spot tokens x f) (member_of reactors r m)
+witness_spot tokens reactors (witness.Member r m f) = option_and_then (λ x. part_spot tokens x (part_found f)) (member_of reactors r m)
 witness_spot tokens reactors (witness.TwoSources r first second) = option_and_then (λ x. named_spot tokens x second.role second.name) (member_of reactors r second.member)
 witness_spot tokens reactors (witness.LongDefault r p) = option_and_then (token_spot tokens) (parameter_at reactors r p)

@@ -1,4 +1,3 @@
-pub mod Reasons
 pub mod Sentences
 pub mod Singles
 pub mod Spots

@@ -1,8 +1,9 @@
 //! What is said of a finding in one member of a reactor.
 
-ghost use Rattle.std.specs.Prelude.{IfOk, IfSome};
-ghost use Rattle.lft_validate.specs.Findings.{cause_of};
+ghost use Rattle.std.specs.Prelude.{IfOk};
+ghost use Rattle.lft_validate.specs.Findings.{fault_found};
 ghost use Rattle.lft_program_diagnostics.specs.inner.Sentences.{IsOf};
+ghost use Rattle.lft_validate.specs.declared.fault.ProgramFault.TheVariants as faults;
 
 use crate::reason::Reason;
 use crate::refused::{Refused, Site};
@@ -25,11 +26,11 @@ impl<'a> Refused<'a> {
         kind: Kind,
         why: &'static str,
     ) -> Result<Reason, NoMemory>
-        ensures { IfOk result (IsOf 7) }
+        ensures { IfOk result (IsOf faults.WrongPlace) }
     {
         let owner = reactor_words(self.alloc, site.reactor)?;
         let names = [owner.as_str(), name.as_str(), kind_words(kind), why];
-        Ok(Reason::of(self.alloc, Sentence::WrongPlace, &names)?)
+        Reason::of(self.alloc, Sentence::WrongPlace, &names)
     }
 
     /// A name may not stand there.
@@ -39,118 +40,104 @@ impl<'a> Refused<'a> {
         role: Role,
         place: usize,
         kind: Kind,
-    ) -> Result<Option<Reason>, NoMemory>
-        ensures { IfOk result (λ found. IfSome found (IsOf 7)) }
+    ) -> Result<Reason, NoMemory>
+        ensures { IfOk result (IsOf faults.WrongPlace) }
     {
         // A finding names what its member has, so this doesn't come.
         let Some(name) = name_at(site.member, role, place) else {
-            return Ok(None);
+            return self.plain(Sentence::WrongPlace);
         };
         let name = name_words(self.alloc, name)?;
         let reason = self.not_there(site, name, kind, role_words(role))?;
-        Ok(Some(reason.way(role_way(role))?))
+        reason.way(role_way(role))
     }
 
     /// A time names what is no parameter.
-    fn wrong_time(
-        &self,
-        site: Site<'a>,
-        place: usize,
-        kind: Kind,
-    ) -> Result<Option<Reason>, NoMemory>
-        ensures { IfOk result (λ found. IfSome found (IsOf 7)) }
+    fn wrong_time(&self, site: Site<'a>, place: usize, kind: Kind) -> Result<Reason, NoMemory>
+        ensures { IfOk result (IsOf faults.WrongPlace) }
     {
         let Some(TimeExpression::Parameter { name, .. }) = time_at(site.member, place) else {
-            return Ok(None);
+            return self.plain(Sentence::WrongPlace);
         };
         let reason = self.not_there(site, name.clone()?, kind, "no time")?;
         let way = "A time is a number with a unit, or a parameter of the reactor.";
-        Ok(Some(reason.way(way)?))
+        reason.way(way)
     }
 
     /// The main reactor has a port.
-    fn main_port(&self, site: Site<'a>) -> Result<Option<Reason>, NoMemory>
-        ensures { IfOk result (λ found. IfSome found (IsOf 8)) }
+    fn main_port(&self, site: Site<'a>) -> Result<Reason, NoMemory>
+        ensures { IfOk result (IsOf faults.MainHasPorts) }
     {
         let Some(name) = declared_name(site.member) else {
-            return Ok(None);
+            return self.plain(Sentence::MainPort);
         };
-        Ok(Some(Reason::of(self.alloc, Sentence::MainPort, &[name])?))
+        Reason::of(self.alloc, Sentence::MainPort, &[name])
     }
 
     /// The two lists of a connection differ in length.
-    fn widths(&self, site: Site<'a>) -> Result<Option<Reason>, NoMemory>
-        ensures { IfOk result (λ found. IfSome found (IsOf 11)) }
+    fn widths(&self, site: Site<'a>) -> Result<Reason, NoMemory>
+        ensures { IfOk result (IsOf faults.WidthMismatch) }
     {
         let Member::Connection(connection) = site.member else {
-            return Ok(None);
+            return self.plain(Sentence::Widths);
         };
         let owner = reactor_words(self.alloc, site.reactor)?;
         let (mut from, mut to) = (Buffer::new(), Buffer::new());
         let from = from.format(connection.sources.len() as u64);
         let to = to.format(connection.destinations.len() as u64);
         let names = [owner.as_str(), from, to];
-        Ok(Some(Reason::of(self.alloc, Sentence::Widths, &names)?))
+        Reason::of(self.alloc, Sentence::Widths, &names)
     }
 
     /// A reaction has no trigger.
-    fn no_trigger(&self, site: Site<'a>) -> Result<Option<Reason>, NoMemory>
-        ensures { IfOk result (λ found. IfSome found (IsOf 12)) }
+    fn no_trigger(&self, site: Site<'a>) -> Result<Reason, NoMemory>
+        ensures { IfOk result (IsOf faults.NoTrigger) }
     {
         let owner = reactor_words(self.alloc, site.reactor)?;
         let names = [owner.as_str()];
-        Ok(Some(Reason::of(self.alloc, Sentence::NoTrigger, &names)?))
+        Reason::of(self.alloc, Sentence::NoTrigger, &names)
     }
 
     /// A name stands twice in one role of a reaction.
-    fn named_twice(
-        &self,
-        site: Site<'a>,
-        role: Role,
-        second: usize,
-    ) -> Result<Option<Reason>, NoMemory>
-        ensures { IfOk result (λ found. IfSome found (IsOf 13)) }
+    fn named_twice(&self, site: Site<'a>, role: Role, second: usize) -> Result<Reason, NoMemory>
+        ensures { IfOk result (IsOf faults.DuplicateInput) }
     {
         let Some(name) = name_at(site.member, role, second) else {
-            return Ok(None);
+            return self.plain(Sentence::NamedTwice);
         };
         let owner = reactor_words(self.alloc, site.reactor)?;
         let name = name_words(self.alloc, name)?;
         let names = [owner.as_str(), name.as_str(), list_words(role)];
-        Ok(Some(Reason::of(self.alloc, Sentence::NamedTwice, &names)?))
+        Reason::of(self.alloc, Sentence::NamedTwice, &names)
     }
 
     /// An instance gives a parameter two values.
-    fn given_twice(&self, site: Site<'a>, second: usize) -> Result<Option<Reason>, NoMemory>
-        ensures { IfOk result (λ found. IfSome found (IsOf 3)) }
+    fn given_twice(&self, site: Site<'a>, second: usize) -> Result<Reason, NoMemory>
+        ensures { IfOk result (IsOf faults.DuplicateName) }
     {
         let Some(instance) = instance_of(site.member) else {
-            return Ok(None);
+            return self.plain(Sentence::GivenTwice);
         };
         if second >= instance.given.len() {
-            return Ok(None);
+            return self.plain(Sentence::GivenTwice);
         }
         let name = instance.given[second].name.as_str();
         let names = [instance.name.as_str(), name];
-        Ok(Some(Reason::of(self.alloc, Sentence::GivenTwice, &names)?))
+        Reason::of(self.alloc, Sentence::GivenTwice, &names)
     }
 
     /// A time is too long.
-    fn long_time(&self, site: Site<'a>) -> Result<Option<Reason>, NoMemory>
-        ensures { IfOk result (λ found. IfSome found (IsOf 14)) }
+    fn long_time(&self, site: Site<'a>) -> Result<Reason, NoMemory>
+        ensures { IfOk result (IsOf faults.DelayTooLong) }
     {
         let owner = reactor_words(self.alloc, site.reactor)?;
         let names = [owner.as_str()];
-        Ok(Some(Reason::of(self.alloc, Sentence::LongTime, &names)?))
+        Reason::of(self.alloc, Sentence::LongTime, &names)
     }
 
     /// What is said of the finding.
-    pub(crate) fn of_finding(
-        &self,
-        site: Site<'a>,
-        finding: Finding,
-    ) -> Result<Option<Reason>, NoMemory>
-        ensures { IfOk result (λ found. IfSome found (IsOf (cause_of finding))) }
+    pub(crate) fn of_finding(&self, site: Site<'a>, finding: Finding) -> Result<Reason, NoMemory>
+        ensures { IfOk result (IsOf (fault_found finding)) }
     {
         match finding {
             Finding::GivenTwice { second, .. } => self.given_twice(site, second),

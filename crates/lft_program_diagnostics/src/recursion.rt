@@ -1,7 +1,8 @@
 //! What is said of a reactor that contains itself.
 
-ghost use Rattle.std.specs.Prelude.{◌≡◌, IfOk, IfSome};
+ghost use Rattle.std.specs.Prelude.{◌≡◌, IfOk};
 ghost use Rattle.lft_program_diagnostics.specs.inner.Sentences.{IsOf};
+ghost use Rattle.lft_validate.specs.declared.fault.ProgramFault.TheVariants as faults;
 
 use crate::reason::Reason;
 use crate::refused::Refused;
@@ -50,15 +51,15 @@ impl<'a> Refused<'a> {
     }
 
     /// A reactor contains itself. Each of the circle has an instance of the next, and the last of the first.
-    pub(crate) fn recursive(&self, circle: &[usize]) -> Result<Option<Reason>, NoMemory>
-        ensures { IfOk result (λ found. IfSome found (IsOf 5)) }
+    pub(crate) fn recursive(&self, circle: &[usize]) -> Result<Reason, NoMemory>
+        ensures { IfOk result (IsOf faults.RecursiveReactor) }
     {
         if circle.is_empty() {
-            return Ok(None);
+            return self.plain(Sentence::Recursive);
         }
         let first = circle[0];
         let Some(reactor) = self.reactor(first) else {
-            return Ok(None);
+            return self.plain(Sentence::Recursive);
         };
         let owner = reactor_words(self.alloc, reactor)?;
         let second = if circle.len() > 1 { circle[1] } else { first };
@@ -73,6 +74,6 @@ impl<'a> Refused<'a> {
             };
             reason = self.with_step(reason, circle[place], circle[next])?;
         }
-        Ok(Some(reason))
+        Ok(reason)
     }
 }

@@ -1,5 +1,8 @@
 //! A program that has a tree and is refused.
 
+ghost use Rattle.std.specs.Prelude.{◌≡◌, option_map, slice_get};
+ghost use Rattle.lft_program_diagnostics.specs.{inner.Spots.behind, Spots.member_of};
+
 use lft_syntax::Token;
 use lft_tree::{Member, Reactor};
 use lft_validate::declared_name;
@@ -23,12 +26,10 @@ pub(crate) struct Site<'a> {
 
 impl<'a> Refused<'a> {
     /// The reactor with that place in the file.
-    pub(crate) fn reactor(&self, place: usize) -> Option<&'a Reactor> {
-        if place < self.reactors.len() {
-            Some(self.reactors[place])
-        } else {
-            None
-        }
+    pub(crate) fn reactor(&self, place: usize) -> Option<&'a Reactor>
+        ensures { option_map (λ r. r.now) result ≡ slice_get (behind self.now.reactors.now) place }
+    {
+        Some(*self.reactors.get(place)?)
     }
 
     /// The first reactor of that name.
@@ -59,15 +60,12 @@ impl<'a> Refused<'a> {
     }
 
     /// The member with that place in the reactor with that place.
-    pub(crate) fn site(&self, reactor: usize, member: usize) -> Option<Site<'a>> {
-        let owner = self.reactor(reactor)?;
-        if member >= owner.members.len() {
-            return None;
-        }
-        Some(Site {
-            reactor: owner,
-            member: &owner.members[member],
-        })
+    pub(crate) fn site(&self, reactor: usize, member: usize) -> Option<Site<'a>>
+        ensures { option_map (λ s. s.member.now) result ≡ member_of (behind self.now.reactors.now) reactor member }
+    {
+        let reactor = self.reactor(reactor)?;
+        let member = reactor.members.get(member)?;
+        Some(Site { reactor, member })
     }
 
     /// The name of what a reactor declares with that number, parameters first.

@@ -2,14 +2,14 @@
 
 ghost use Rattle.std.specs.Prelude.{◌≡◌, IfOk, filter_map, option_map, option_to_list, slice_get};
 ghost use Rattle.lft_program_diagnostics.specs.inner.Spots.{behind};
-ghost use Rattle.lft_program_diagnostics.specs.Spots.{declared_at as the_declared_at, declaration_at as the_declaration_at, declared_in, finding_spot as the_finding_spot, given_spot as the_given_spot, member_at as the_member_at, member_of as the_member_of, name_among as the_name_among, named_at as the_named_at, named_spot as the_named_spot, names_in, parameter_at as the_parameter_at, reactor_of as the_reactor_of, reactors_among as the_reactors_among, timed_spot as the_timed_spot, times_in, witness_spot};
+ghost use Rattle.lft_program_diagnostics.specs.Spots.{declared_at as the_declared_at, declaration_at as the_declaration_at, declared_in, given_spot as the_given_spot, member_at as the_member_at, member_of as the_member_of, name_among as the_name_among, named_at as the_named_at, named_spot as the_named_spot, names_in, parameter_at as the_parameter_at, part_spot as the_part_spot, reactor_of as the_reactor_of, reactors_among as the_reactors_among, timed_spot as the_timed_spot, times_in, witness_spot};
 
 use lft_resolve::kinds::Role;
 use lft_syntax::Token;
 use lft_tag::NoMemory;
 use lft_text_diagnostics::{Spot, name_spot, reactor_spot, time_spot, token_spot};
 use lft_tree::{Item, Member, Reaction, Reactor, Reference, TimeExpression, Timer, Trigger};
-use lft_validate::{Finding, Witness};
+use lft_validate::{MemberPart, Witness};
 use std::alloc::Global;
 
 /// The reactor that the item is, if it is one.
@@ -218,23 +218,16 @@ fn given_spot(tokens: &[Token], member: &Member, place: usize) -> Option<Spot>
     }
 }
 
-/// Where what is found in the member stands.
-fn finding_spot(tokens: &[Token], member: &Member, finding: Finding) -> Option<Spot>
-    ensures { result ≡ the_finding_spot tokens.now member.now finding }
+/// Where that part of the member stands.
+fn part_spot(tokens: &[Token], member: &Member, part: MemberPart) -> Option<Spot>
+    ensures { result ≡ the_part_spot tokens.now member.now part }
 {
-    match finding {
-        Finding::GivenTwice { second, .. } => given_spot(tokens, member, second),
-        Finding::UnknownParameter { value } => given_spot(tokens, member, value),
-        Finding::UnknownName { role, name } => named_spot(tokens, member, role, name),
-        Finding::WrongPlace { role, name, .. } => named_spot(tokens, member, role, name),
-        Finding::NamedTwice { role, second, .. } => named_spot(tokens, member, role, second),
-        Finding::UnknownTime { time } => timed_spot(tokens, member, time),
-        Finding::WrongTime { time, .. } => timed_spot(tokens, member, time),
-        Finding::LongTime { time } => timed_spot(tokens, member, time),
-        Finding::UnknownReactor => token_spot(tokens, member_at(member)?),
-        Finding::WidthMismatch => token_spot(tokens, member_at(member)?),
-        Finding::NoTrigger => token_spot(tokens, member_at(member)?),
-        Finding::MainHasPort => token_spot(tokens, declared_at(member)?),
+    match part {
+        MemberPart::Whole => token_spot(tokens, member_at(member)?),
+        MemberPart::Declared => token_spot(tokens, declared_at(member)?),
+        MemberPart::Name { role, name } => named_spot(tokens, member, role, name),
+        MemberPart::Time { time } => timed_spot(tokens, member, time),
+        MemberPart::Value { value } => given_spot(tokens, member, value),
     }
 }
 
@@ -287,7 +280,11 @@ pub(crate) fn spot_of(tokens: &[Token], reactors: &[&Reactor], witness: Witness)
             reactor,
             member,
             finding,
-        } => finding_spot(tokens, member_of(reactors, reactor, member)?, finding),
+        } => part_spot(
+            tokens,
+            member_of(reactors, reactor, member)?,
+            finding.part(),
+        ),
         Witness::TwoSources {
             reactor,
             second,

@@ -1,22 +1,21 @@
 //! Why a program with a tree is refused, for people.
 
-ghost use Rattle.std.specs.Prelude.{◌≡◌, ◌≢◌, IfOk, IfSome, IfNone, IsErr, string_bytes};
-ghost use Rattle.lft_tree.specs.View.{tree_view};
+ghost use Rattle.std.specs.Prelude.{◌≡◌, ◌≢◌, IfOk, IsErr, map, string_bytes};
+ghost use Rattle.lft_tree.specs.View.{reactor_view, tree_view};
 ghost use Rattle.lft_syntax.specs.{Grammar.Spells, Lexes.Lexes, Placed.FileStands, View.lexemes};
 ghost use Rattle.lft_resolve.specs.Causes.{IsFirst, causes};
-ghost use Rattle.lft_validate.specs.Witnesses.{cause_shown};
-ghost use Rattle.lft_program.specs.{Faults.number_of, inner.Refusals.{Tells, cause_of}};
+ghost use Rattle.lft_validate.specs.Witnesses.{Shows, fault_shown};
+ghost use Rattle.lft_program.specs.inner.Refusals.{Tells, cause_of, fault_of};
 ghost use Rattle.lft_text_diagnostics.specs.inner.Pages.{ArePages};
-ghost use Rattle.lft_program_diagnostics.specs.Reasons.{BeginsAt, IsShownAt, IsToldIn, IsToldOf};
-ghost use Rattle.lft_program_diagnostics.specs.{inner.{Reasons.witness_in, Sentences.{IsOf, sentence_of}, Spots.behind}, Sentences.cause_told};
+ghost use Rattle.lft_program_diagnostics.specs.{Reasons.{BeginsAt, IsShownAt, IsToldIn, IsToldOf}, inner.{Sentences.{IsOf, sentence_of}, Spots.behind}};
 ghost use Rattle.lft_program_diagnostics.specs.Spots.{reactors_among as the_reactors_among, witness_spot};
 ghost use Rattle.lft_program.specs.declared.refusal.Refusal.TheVariants as refusals;
 
 use crate::reason::Reason;
 use crate::refused::Refused;
-use crate::sentence::{Sentence, push_said};
+use crate::sentence::push_said;
 use crate::spots::{reactors_among, spot_of};
-use lft_program::{ProgramFault, Refusal};
+use lft_program::Refusal;
 use lft_syntax::{Token, Tokens};
 use lft_tag::NoMemory;
 use lft_text_diagnostics::words::push_way;
@@ -81,73 +80,30 @@ fn spot_before(tokens: &[Token], reactors: &[&Reactor], witness: Witness) -> Opt
     spot_of(tokens, reactors, first_of(witness)?)
 }
 
-/// What is said of a witness: what it tells of itself, or else the sentence without names.
-fn said_of(refused: &Refused, witness: Witness, sentence: Sentence) -> Result<Reason, NoMemory>
-    requires { cause_shown witness ≡ cause_told sentence }
-    ensures { IfOk result (IsOf (cause_told sentence)) }
-{
-    match refused.of_witness(witness)? {
-        Some(reason) => Ok(reason),
-        None => Reason::of(refused.alloc, sentence, &[]),
-    }
-}
-
 /// What is said of a witness, and where it stands.
-fn of_witness(refused: &Refused, witness: Witness, sentence: Sentence) -> Result<Reason, NoMemory>
-    requires { cause_shown witness ≡ cause_told sentence }
-    ensures cause { IfOk result (IsOf (cause_told sentence)) }
+fn of_witness(refused: &Refused, witness: Witness) -> Result<Reason, NoMemory>
+    requires { Shows (map reactor_view (behind refused.now.reactors.now)) witness }
+    ensures fault { IfOk result (IsOf (fault_shown witness)) }
     ensures at { IfOk result (λ r. r.at ≡ witness_spot refused.now.tokens.now (behind refused.now.reactors.now) witness) }
 {
-    let reason = said_of(refused, witness, sentence)?;
+    let reason = refused.of_witness(witness)?;
     let before = spot_before(refused.tokens, refused.reactors, witness);
     let spot = spot_of(refused.tokens, refused.reactors, witness);
     Ok(reason.before(before).at(spot))
 }
 
-/// The witness that a refusal has, if it has one.
-fn witness_of(refusal: &Refusal) -> Option<Witness>
-    ensures witness { result ≡ witness_in refusal.now }
-    ensures cause { IfSome result (λ witness. cause_shown witness ≡ cause_of refusal.now) }
-{
-    match refusal {
-        Refusal::Shown(witness) => Some(*witness),
-        Refusal::Recursive(_) => None,
-        Refusal::TooMany(_) => None,
-        Refusal::ConnectionCycle(_) => None,
-        Refusal::LongChain(_) => None,
-        Refusal::NoMemory => None,
-    }
-}
-
-/// What is said of a refusal that no place of the text shows by itself.
-fn without_witness(
-    refused: &Refused,
-    refusal: &Refusal,
-    sentence: Sentence,
-) -> Result<Reason, NoMemory>
-    requires { cause_of refusal.now ≡ cause_told sentence }
-    ensures { IfOk result (IsOf (cause_told sentence)) }
-{
-    match refused.of_whole(refusal)? {
-        Some(reason) => Ok(reason),
-        None => Reason::of(refused.alloc, sentence, &[]),
-    }
-}
-
-/// What is said of a refusal of a program that has this tree. The sentence is one of its cause.
+/// What is said of a refusal of a program that has this tree.
 fn reason_of(
     alloc: Global,
     text: &[u8],
     tokens: &[Token],
     ast: &Ast,
     refusal: &Refusal,
-    sentence: Sentence,
 ) -> Result<Reason, NoMemory>
-    requires tells { Tells (tree_view ast.now) refusal.now }
-    requires told { refusal.now ≢ refusals.NoMemory }
-    requires cause { cause_of refusal.now ≡ cause_told sentence }
-    ensures cause { IfOk result (IsOf (cause_told sentence)) }
-    ensures shown { IfOk result (λ r. IsShownAt tokens.now (the_reactors_among ast.now.items.items) (cause_told sentence) r.at) }
+    requires { Tells (tree_view ast.now) refusal.now }
+    ensures fault { IfOk result (IsOf (fault_of refusal.now)) }
+    ensures shown { IfOk result (λ r. IsShownAt tokens.now (the_reactors_among ast.now.items.items) (cause_of refusal.now) r.at) }
+    ensures memory { refusal.now ≡ refusals.NoMemory → IsErr result }
 {
     let reactors = reactors_among(alloc, &ast.items)?;
     let refused = Refused {
@@ -156,9 +112,13 @@ fn reason_of(
         tokens,
         reactors: &reactors,
     };
-    match witness_of(refusal) {
-        Some(witness) => of_witness(&refused, witness, sentence),
-        None => without_witness(&refused, refusal, sentence),
+    match refusal {
+        Refusal::Shown(witness) => of_witness(&refused, *witness),
+        Refusal::Recursive(circle) => refused.recursive(circle),
+        Refusal::TooMany(excess) => refused.too_many(*excess),
+        Refusal::ConnectionCycle(way) => refused.cycle(way),
+        Refusal::LongChain(way) => refused.long_chain(way),
+        Refusal::NoMemory => Err(NoMemory),
     }
 }
 
@@ -196,31 +156,6 @@ fn lines(alloc: Global, text: &[u8], files: &[Page], reason: &Reason) -> Result<
     Ok(out)
 }
 
-/// A sentence that tells the fault's cause.
-fn sentence_for(fault: ProgramFault) -> Option<Sentence>
-    ensures some { IfSome result (λ sentence. (cause_told sentence ≡ number_of fault) × (fault ≢ ProgramFault.NoMemory)) }
-    ensures none { IfNone result (fault ≡ ProgramFault.NoMemory) }
-{
-    match fault {
-        ProgramFault::NoMain => Some(Sentence::NoMain),
-        ProgramFault::TwoMains => Some(Sentence::TwoMains),
-        ProgramFault::DuplicateName => Some(Sentence::SameThings),
-        ProgramFault::UnknownReactor => Some(Sentence::UnknownReactor),
-        ProgramFault::RecursiveReactor => Some(Sentence::Recursive),
-        ProgramFault::UnknownName => Some(Sentence::UnknownName),
-        ProgramFault::WrongPlace => Some(Sentence::WrongPlace),
-        ProgramFault::MainHasPorts => Some(Sentence::MainPort),
-        ProgramFault::TwoSources => Some(Sentence::TwoSources),
-        ProgramFault::ConnectionCycle => Some(Sentence::Cycle),
-        ProgramFault::WidthMismatch => Some(Sentence::Widths),
-        ProgramFault::NoTrigger => Some(Sentence::NoTrigger),
-        ProgramFault::DuplicateInput => Some(Sentence::NamedTwice),
-        ProgramFault::DelayTooLong => Some(Sentence::LongTime),
-        ProgramFault::TooMany => Some(Sentence::TooMany),
-        ProgramFault::NoMemory => None,
-    }
-}
-
 /// Why a program that has this tree is refused, in lines that end with a line feed: the place, what is wrong
 /// there, the line with a mark, and what to write. Where something stands twice, both lines. `NoMemory` where the refusal
 /// is. The text may be that of several files, one behind another.
@@ -237,10 +172,7 @@ pub fn tell_refusal_in(
     ensures told { IfOk result (λ words. IsToldIn text.now tokens.now files.now ast.now.items.items (cause_of refusal.now) (string_bytes words)) }
     ensures memory { refusal.now ≡ refusals.NoMemory → IsErr result }
 {
-    let Some(sentence) = sentence_for(refusal.fault()) else {
-        return Err(NoMemory);
-    };
-    let reason = reason_of(alloc, text, tokens, ast, refusal, sentence)?;
+    let reason = reason_of(alloc, text, tokens, ast, refusal)?;
     lines(alloc, text, files, &reason)
 }
 

@@ -3,6 +3,7 @@
 ghost use Rattle.std.specs.Prelude.{◌≡◌, IfOk, IfSome, codes};
 ghost use Rattle.lft_text_diagnostics.specs.inner.Codes.{HasCodeWith};
 ghost use Rattle.lft_program_diagnostics.specs.inner.Sentences.{IsOf};
+ghost use Rattle.lft_validate.specs.declared.fault.ProgramFault.TheVariants as faults;
 
 use crate::reason::Reason;
 use crate::refused::{Refused, Site};
@@ -46,11 +47,11 @@ fn meant(reason: Reason, near: Option<&str>) -> Result<Reason, NoMemory>
 
 impl<'a> Refused<'a> {
     /// An instance is of a reactor that isn't there.
-    pub(crate) fn unknown_reactor(&self, site: Site<'a>) -> Result<Option<Reason>, NoMemory>
-        ensures { IfOk result (λ found. IfSome found (IsOf 4)) }
+    pub(crate) fn unknown_reactor(&self, site: Site<'a>) -> Result<Reason, NoMemory>
+        ensures { IfOk result (IsOf faults.UnknownReactor) }
     {
         let Some(instance) = instance_of(site.member) else {
-            return Ok(None);
+            return self.plain(Sentence::UnknownReactor);
         };
         let wanted = instance.reactor.as_str();
         let owner = reactor_words(self.alloc, site.reactor)?;
@@ -58,14 +59,14 @@ impl<'a> Refused<'a> {
         let reason = Reason::of(self.alloc, Sentence::UnknownReactor, &names)?;
         let reason = meant(reason, self.near_reactor(wanted)?)?;
         match way_of_code(self.text, self.tokens) {
-            Some(way) => Ok(Some(reason.way(way)?)),
-            None => Ok(Some(reason)),
+            Some(way) => reason.way(way),
+            None => Ok(reason),
         }
     }
 
     /// A name without a port is nothing.
     fn unknown_plain(&self, site: Site<'a>, wanted: &str) -> Result<Reason, NoMemory>
-        ensures { IfOk result (IsOf 6) }
+        ensures { IfOk result (IsOf faults.UnknownName) }
     {
         let owner = reactor_words(self.alloc, site.reactor)?;
         let names = [owner.as_str(), wanted];
@@ -73,20 +74,20 @@ impl<'a> Refused<'a> {
         let reason = meant(reason, self.near_declared(site.reactor, wanted)?)?;
         // A port of an instance may be meant, with the instance left out.
         match self.with_that_port(site.reactor, wanted)? {
-            Some(instance) => Ok(reason.ask(instance, Some(wanted))?),
+            Some(instance) => reason.ask(instance, Some(wanted)),
             None => Ok(reason),
         }
     }
 
     /// An instance is nothing whose port is named.
     fn unknown_instance(&self, site: Site<'a>, head: &str, port: &str) -> Result<Reason, NoMemory>
-        ensures { IfOk result (IsOf 6) }
+        ensures { IfOk result (IsOf faults.UnknownName) }
     {
         let owner = reactor_words(self.alloc, site.reactor)?;
         let names = [owner.as_str(), head];
         let reason = Reason::of(self.alloc, Sentence::UnknownInstance, &names)?;
         match self.near_instance(site.reactor, head, port)? {
-            Some(near) => Ok(reason.ask(near, Some(port))?),
+            Some(near) => reason.ask(near, Some(port)),
             None => Ok(reason),
         }
     }
@@ -98,7 +99,7 @@ impl<'a> Refused<'a> {
         instance: &Instance,
         port: &str,
     ) -> Result<Reason, NoMemory>
-        ensures { IfOk result (IsOf 6) }
+        ensures { IfOk result (IsOf faults.UnknownName) }
     {
         let owner = reactor_words(self.alloc, site.reactor)?;
         let (head, inner) = (instance.name.as_str(), instance.reactor.as_str());
@@ -131,32 +132,28 @@ impl<'a> Refused<'a> {
         site: Site<'a>,
         role: Role,
         place: usize,
-    ) -> Result<Option<Reason>, NoMemory>
-        ensures { IfOk result (λ found. IfSome found (IsOf 6)) }
+    ) -> Result<Reason, NoMemory>
+        ensures { IfOk result (IsOf faults.UnknownName) }
     {
         let Some(name) = name_at(site.member, role, place) else {
-            return Ok(None);
+            return self.plain(Sentence::UnknownName);
         };
         let head = name.head.as_str();
         let Some(port) = &name.port else {
-            return Ok(Some(self.unknown_plain(site, head)?));
+            return self.unknown_plain(site, head);
         };
         match self.instance(site, head) {
-            Some(instance) => Ok(Some(self.unknown_port(site, instance, port.as_str())?)),
-            None => Ok(Some(self.unknown_instance(site, head, port.as_str())?)),
+            Some(instance) => self.unknown_port(site, instance, port.as_str()),
+            None => self.unknown_instance(site, head, port.as_str()),
         }
     }
 
     /// A time names nothing.
-    pub(crate) fn unknown_time(
-        &self,
-        site: Site<'a>,
-        place: usize,
-    ) -> Result<Option<Reason>, NoMemory>
-        ensures { IfOk result (λ found. IfSome found (IsOf 6)) }
+    pub(crate) fn unknown_time(&self, site: Site<'a>, place: usize) -> Result<Reason, NoMemory>
+        ensures { IfOk result (IsOf faults.UnknownName) }
     {
         let Some(TimeExpression::Parameter { name, .. }) = time_at(site.member, place) else {
-            return Ok(None);
+            return self.plain(Sentence::UnknownName);
         };
         let wanted = name.as_str();
         let owner = reactor_words(self.alloc, site.reactor)?;
@@ -164,22 +161,18 @@ impl<'a> Refused<'a> {
         let reason = Reason::of(self.alloc, Sentence::UnknownName, &names)?;
         let reason = meant(reason, self.near_parameter(site.reactor, wanted)?)?;
         let way = "A time is a number with a unit, or a parameter of the reactor.";
-        Ok(Some(reason.way(way)?))
+        reason.way(way)
     }
 
     /// A value is for what isn't a parameter.
-    pub(crate) fn unknown_parameter(
-        &self,
-        site: Site<'a>,
-        value: usize,
-    ) -> Result<Option<Reason>, NoMemory>
-        ensures { IfOk result (λ found. IfSome found (IsOf 6)) }
+    pub(crate) fn unknown_parameter(&self, site: Site<'a>, value: usize) -> Result<Reason, NoMemory>
+        ensures { IfOk result (IsOf faults.UnknownName) }
     {
         let Some(instance) = instance_of(site.member) else {
-            return Ok(None);
+            return self.plain(Sentence::UnknownParameter);
         };
         if value >= instance.given.len() {
-            return Ok(None);
+            return self.plain(Sentence::UnknownParameter);
         }
         let given = &instance.given[value];
         let (wanted, inner) = (given.name.as_str(), instance.reactor.as_str());
@@ -187,8 +180,8 @@ impl<'a> Refused<'a> {
         let names = [owner.as_str(), inner, wanted];
         let reason = Reason::of(self.alloc, Sentence::UnknownParameter, &names)?;
         match self.named(inner) {
-            Some(reactor) => Ok(Some(meant(reason, self.near_parameter(reactor, wanted)?)?)),
-            None => Ok(Some(reason)),
+            Some(reactor) => meant(reason, self.near_parameter(reactor, wanted)?),
+            None => Ok(reason),
         }
     }
 }

@@ -1,8 +1,9 @@
 //! What is said of a cause that the program shows as a whole: a loop of connections, a sum of delays, a limit
 //! that is passed.
 
-ghost use Rattle.std.specs.Prelude.{IfOk, IfSome};
+ghost use Rattle.std.specs.Prelude.{IfOk};
 ghost use Rattle.lft_program_diagnostics.specs.inner.Sentences.{IsOf};
+ghost use Rattle.lft_validate.specs.declared.fault.ProgramFault.TheVariants as faults;
 
 use crate::reason::Reason;
 use crate::refused::Refused;
@@ -102,38 +103,34 @@ impl<'a> Refused<'a> {
     }
 
     /// Connections alone form a loop. The place is the end of the one that stands first.
-    pub(crate) fn cycle(&self, way: &Way) -> Result<Option<Reason>, NoMemory>
-        ensures { IfOk result (λ found. IfSome found (IsOf 10)) }
+    pub(crate) fn cycle(&self, way: &Way) -> Result<Reason, NoMemory>
+        ensures { IfOk result (IsOf faults.ConnectionCycle) }
     {
         let Some(first) = first_place(&way.joins) else {
-            return Ok(None);
+            return self.plain(Sentence::Cycle);
         };
         let words = self.ring_words(way, first)?;
-        let reason = Reason::of(self.alloc, Sentence::Cycle, &[])?
-            .at(self.end_spot(way, first))
-            .way(words.as_str())?;
-        Ok(Some(reason))
+        let reason = self.plain(Sentence::Cycle)?.at(self.end_spot(way, first));
+        reason.way(words.as_str())
     }
 
     /// The delays of a chain of connections sum to more than the greatest time. The place is the delay with
     /// which they do.
-    pub(crate) fn long_chain(&self, way: &Way) -> Result<Option<Reason>, NoMemory>
-        ensures { IfOk result (λ found. IfSome found (IsOf 14)) }
+    pub(crate) fn long_chain(&self, way: &Way) -> Result<Reason, NoMemory>
+        ensures { IfOk result (IsOf faults.DelayTooLong) }
     {
         let (mut start, mut end) = (String::new(self.alloc), String::new(self.alloc));
         // A way leads back from its end, so the chain begins at the last one.
         self.push_start(&mut start, way, way.joins.len().saturating_sub(1))?;
         self.push_end(&mut end, way, 0)?;
         let names = [start.as_str(), end.as_str()];
-        let reason = Reason::of(self.alloc, Sentence::LongChain, &names)?.at(self.delay_spot(
-            way, 0,
-        ));
-        Ok(Some(reason))
+        let reason = Reason::of(self.alloc, Sentence::LongChain, &names)?;
+        Ok(reason.at(self.delay_spot(way, 0)))
     }
 
     /// Which limit the program passes, and how many there are.
-    pub(crate) fn too_many(&self, excess: Excess) -> Result<Option<Reason>, NoMemory>
-        ensures { IfOk result (λ found. IfSome found (IsOf 15)) }
+    pub(crate) fn too_many(&self, excess: Excess) -> Result<Reason, NoMemory>
+        ensures { IfOk result (IsOf faults.TooMany) }
     {
         let (mut counted, mut most) = (Buffer::new(), Buffer::new());
         let mut things = String::new(self.alloc);
@@ -143,7 +140,6 @@ impl<'a> Refused<'a> {
         things.push_str(counted.format(excess.count))?;
         things.push_str(kind_words(excess.kind))?;
         let most = most.format(u64::from(excess.kind.limit()));
-        let reason = Reason::of(self.alloc, Sentence::TooMany, &[things.as_str(), most])?;
-        Ok(Some(reason))
+        Reason::of(self.alloc, Sentence::TooMany, &[things.as_str(), most])
     }
 }

@@ -6,7 +6,7 @@ use Rattle.lft_resolve.specs.Causes.{GivesTwice, GivesUnknown, LacksReactor, IsU
 use Rattle.lft_resolve.specs.declared.kinds.Role.{Role, TheVariants.{Read, Effect, Source, Destination}}
 use Rattle.lft_resolve.proofs.{Somes.{Any-nil, Any-head, Any-tail, Any-cases, Any-append_cases, Any-weaker, unpicked, unkept, some_of}, Lacking.Any-either}
 use Rattle.lft_validate.specs.{Members.times_of, inner.Shown.{SomeName, SomeShows, ShowsCause, ShowsUnknown, ShowsMisplaced}}
-use Rattle.lft_validate.specs.declared.members.Cause.TheVariants as cause
+use Rattle.lft_validate.specs.declared.fault.ProgramFault.TheVariants as faults
 
 -- ---- lists
 
@@ -89,9 +89,9 @@ module _ (P : TimeTree → Type 0) where
 -- ---- causes
 
 module _ (rs : List ReactorTree) where
-  pub shows_unknown_reactor : UnknownReactor rs → SomeShows rs cause.UnknownReactor
+  pub shows_unknown_reactor : UnknownReactor rs → SomeShows rs faults.UnknownReactor
   unfolding UnknownReactor
-  shows_unknown_reactor a = Any-weaker (LacksReactor rs) (λ r. Any (λ m. ShowsCause rs r m cause.UnknownReactor) r.members) (λ r b. unpicked instance_in (λ i. reactor_named rs i.reactor ≡ None) r.members b) rs a
+  shows_unknown_reactor a = Any-weaker (LacksReactor rs) (λ r. Any (λ m. ShowsCause rs r m faults.UnknownReactor) r.members) (λ r b. unpicked instance_in (λ i. reactor_named rs i.reactor ≡ None) r.members b) rs a
 
   nothing : (r : ReactorTree) → NamesNothing rs r → Any (ShowsUnknown rs r) r.members
   nothing r a = ⊎_elim
@@ -102,9 +102,9 @@ module _ (rs : List ReactorTree) where
       b)
       a
 
-  pub shows_unknown_name : UnknownName rs → SomeShows rs cause.UnknownName
+  pub shows_unknown_name : UnknownName rs → SomeShows rs faults.UnknownName
   unfolding UnknownName
-  shows_unknown_name a = Any-weaker (NamesNothing rs) (λ r. Any (λ m. ShowsCause rs r m cause.UnknownName) r.members) nothing rs a
+  shows_unknown_name a = Any-weaker (NamesNothing rs) (λ r. Any (λ m. ShowsCause rs r m faults.UnknownName) r.members) nothing rs a
 
   misplaces : (r : ReactorTree) → Misplaces rs r → Any (ShowsMisplaced rs r) r.members
   misplaces r a = ⊎_elim
@@ -112,35 +112,35 @@ module _ (rs : List ReactorTree) where
       (λ t. Any-weaker (λ m. Any (IsMisplacedTime r) (times_of m)) (ShowsMisplaced rs r) (λ m h. inr h) r.members (some_time (IsMisplacedTime r) r t))
       a
 
-  pub shows_wrong_place : WrongPlace rs → SomeShows rs cause.WrongPlace
+  pub shows_wrong_place : WrongPlace rs → SomeShows rs faults.WrongPlace
   unfolding WrongPlace
-  shows_wrong_place a = Any-weaker (Misplaces rs) (λ r. Any (λ m. ShowsCause rs r m cause.WrongPlace) r.members) misplaces rs a
+  shows_wrong_place a = Any-weaker (Misplaces rs) (λ r. Any (λ m. ShowsCause rs r m faults.WrongPlace) r.members) misplaces rs a
 
   is_some : (o : Option PortTree) → IsSomeAnd o (λ _. Unit {0}) → IsSome o
   is_some None a = absurd a
   is_some (Some x) a = refl
 
-  has_port : (r : ReactorTree) → (r.is_main ≡ true) × (ports_of r ≢ []) → Any (λ m. ShowsCause rs r m cause.MainHasPorts) r.members
-  has_port r (main, some) = Any-weaker (λ m. IsSomeAnd (port_in m) (λ _. Unit {0})) (λ m. ShowsCause rs r m cause.MainHasPorts) (λ m h. (main, is_some (port_in m) h)) r.members (unpicked port_in (λ _. Unit {0}) r.members (some_of (ports_of r) some))
+  has_port : (r : ReactorTree) → (r.is_main ≡ true) × (ports_of r ≢ []) → Any (λ m. ShowsCause rs r m faults.MainHasPorts) r.members
+  has_port r (main, some) = Any-weaker (λ m. IsSomeAnd (port_in m) (λ _. Unit {0})) (λ m. ShowsCause rs r m faults.MainHasPorts) (λ m h. (main, is_some (port_in m) h)) r.members (unpicked port_in (λ _. Unit {0}) r.members (some_of (ports_of r) some))
 
-  pub shows_main_port : MainHasPorts rs → SomeShows rs cause.MainHasPorts
+  pub shows_main_port : MainHasPorts rs → SomeShows rs faults.MainHasPorts
   unfolding MainHasPorts
-  shows_main_port a = Any-weaker (λ r. (r.is_main ≡ true) × (ports_of r ≢ [])) (λ r. Any (λ m. ShowsCause rs r m cause.MainHasPorts) r.members) has_port rs (unkept (λ r. r.is_main) (λ r. ports_of r ≢ []) rs a)
+  shows_main_port a = Any-weaker (λ r. (r.is_main ≡ true) × (ports_of r ≢ [])) (λ r. Any (λ m. ShowsCause rs r m faults.MainHasPorts) r.members) has_port rs (unkept (λ r. r.is_main) (λ r. ports_of r ≢ []) rs a)
 
-  pub shows_width : WidthMismatch rs → SomeShows rs cause.WidthMismatch
+  pub shows_width : WidthMismatch rs → SomeShows rs faults.WidthMismatch
   unfolding WidthMismatch
-  shows_width a = Any-weaker DiffersInWidth (λ r. Any (λ m. ShowsCause rs r m cause.WidthMismatch) r.members) (λ r b. unpicked connection_in (λ c. length c.sources ≢ length c.destinations) r.members b) rs a
+  shows_width a = Any-weaker DiffersInWidth (λ r. Any (λ m. ShowsCause rs r m faults.WidthMismatch) r.members) (λ r b. unpicked connection_in (λ c. length c.sources ≢ length c.destinations) r.members b) rs a
 
-  pub shows_no_trigger : NoTrigger rs → SomeShows rs cause.NoTrigger
+  pub shows_no_trigger : NoTrigger rs → SomeShows rs faults.NoTrigger
   unfolding NoTrigger
-  shows_no_trigger a = Any-weaker LacksTrigger (λ r. Any (λ m. ShowsCause rs r m cause.NoTrigger) r.members) (λ r b. unpicked reaction_in (λ x. x.triggers ≡ []) r.members b) rs a
+  shows_no_trigger a = Any-weaker LacksTrigger (λ r. Any (λ m. ShowsCause rs r m faults.NoTrigger) r.members) (λ r b. unpicked reaction_in (λ x. x.triggers ≡ []) r.members b) rs a
 
-  pub shows_duplicate_input : DuplicateInput rs → SomeShows rs cause.DuplicateInput
+  pub shows_duplicate_input : DuplicateInput rs → SomeShows rs faults.DuplicateInput
   unfolding DuplicateInput
-  shows_duplicate_input a = Any-weaker RepeatsName (λ r. Any (λ m. ShowsCause rs r m cause.DuplicateInput) r.members) (λ r b. unpicked reaction_in NamesTwice r.members b) rs a
+  shows_duplicate_input a = Any-weaker RepeatsName (λ r. Any (λ m. ShowsCause rs r m faults.DuplicateInput) r.members) (λ r b. unpicked reaction_in NamesTwice r.members b) rs a
 
-  pub shows_given_twice : Any SomeGivesTwice rs → SomeShows rs cause.DuplicateName
-  shows_given_twice a = Any-weaker SomeGivesTwice (λ r. Any (λ m. ShowsCause rs r m cause.DuplicateName) r.members) (λ r b. unpicked instance_in GivesTwice r.members b) rs a
+  pub shows_given_twice : Any SomeGivesTwice rs → SomeShows rs faults.DuplicateName
+  shows_given_twice a = Any-weaker SomeGivesTwice (λ r. Any (λ m. ShowsCause rs r m faults.DuplicateName) r.members) (λ r b. unpicked instance_in GivesTwice r.members b) rs a
 
-  pub long : Any HasLongTime rs → Any (λ r. Any (λ p. longest < nanoseconds p.default) r.parameters) rs ⊎ SomeShows rs cause.DelayTooLong
-  long a = Any-either (λ r. Any (λ p. longest < nanoseconds p.default) r.parameters) (λ r. Any (λ m. ShowsCause rs r m cause.DelayTooLong) r.members) rs (Any-weaker HasLongTime (λ r. Any (λ p. longest < nanoseconds p.default) r.parameters ⊎ Any (λ m. ShowsCause rs r m cause.DelayTooLong) r.members) (λ r h. ⊎_elim (λ d. inl d) (λ t. inr (some_time IsLongTime r t)) h) rs a)
+  pub long : Any HasLongTime rs → Any (λ r. Any (λ p. longest < nanoseconds p.default) r.parameters) rs ⊎ SomeShows rs faults.DelayTooLong
+  long a = Any-either (λ r. Any (λ p. longest < nanoseconds p.default) r.parameters) (λ r. Any (λ m. ShowsCause rs r m faults.DelayTooLong) r.members) rs (Any-weaker HasLongTime (λ r. Any (λ p. longest < nanoseconds p.default) r.parameters ⊎ Any (λ m. ShowsCause rs r m faults.DelayTooLong) r.members) (λ r h. ⊎_elim (λ d. inl d) (λ t. inr (some_time IsLongTime r t)) h) rs a)

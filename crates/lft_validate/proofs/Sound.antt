@@ -11,10 +11,10 @@ use Rattle.lft_resolve.proofs.Somes.{Any-nil, Any-head, Any-tail, Any-cases, Any
 use Rattle.lft_resolve.proofs.{Lacking.{Any-either, Any-flat_map, Any-map}, Twice.Any-at}
 use Rattle.lft_lists.proofs.Places.{get_left, get_right}
 use Rattle.lft_validate.specs.Members.{names_of, times_of, given_of, declarations}
-use Rattle.lft_validate.specs.Findings.{IsTwiceAt, IsOfNone, IsNothing, IsForNone, IsWrong, IsWrongTime, cause_of}
+use Rattle.lft_validate.specs.Findings.{IsTwiceAt, IsOfNone, IsNothing, IsForNone, IsWrong, IsWrongTime, fault_found}
 use Rattle.lft_validate.specs.inner.{Shown.all_names, Witnesses.{IsFirstShown, time_causes}}
-use Rattle.lft_validate.specs.Witnesses.{HasFinding, IsNamedAt, IsEarlier, IsWriting, IsWrittenTwice, IsMainAt, Shows, cause_shown}
-use Rattle.lft_validate.specs.declared.{finding.Finding.Finding, witness.{Naming.Naming, Witness.Witness}}
+use Rattle.lft_validate.specs.{Witnesses.{HasFinding, IsNamedAt, IsEarlier, IsWriting, IsWrittenTwice, IsMainAt, Shows, fault_shown}, Faults.number_of}
+use Rattle.lft_validate.specs.declared.{fault.ProgramFault.ProgramFault, finding.Finding.Finding, witness.{Naming.Naming, Witness.Witness}}
 use Rattle.lft_validate.proofs.{DeclaredNames.named_twice, Standing.{all_destinations, all_effects}, TwoMains.both_main}
 use Rattle.lft_validate.specs.declared.finding.Finding.TheVariants as finding
 use Rattle.lft_validate.specs.declared.witness.Witness.TheVariants as witness
@@ -266,7 +266,7 @@ module _ (rs : List ReactorTree) (reactor member : ℕ) where
   long_time : (n : ℕ) → Found (finding.LongTime n) → Any HasLongTime rs
   long_time n a = among_all HasLongTime (finding.LongTime n) (λ r h. inr (time_in IsLongTime r member n h)) a
 
-  found : (f : Finding) → Found f → the (shown rs) (cause_of f)
+  found : (f : Finding) → Found f → the (shown rs) (number_of (fault_found f))
   found (finding.GivenTwice i j) a = given_twice i j a
   found finding.UnknownReactor a = unknown_reactor a
   found (finding.UnknownName role n) a = unknown_name role n a
@@ -297,7 +297,7 @@ module _ (rs : List ReactorTree) where
   long_default k n a = at_place HasLongTime rs k (so_too (λ r. IsSomeAnd (slice_get r.parameters n) (λ p. longest < nanoseconds p.default)) HasLongTime (λ r x. inl (at_place (λ p. longest < nanoseconds p.default) r.parameters n x)) (slice_get rs k) a)
 
   -- the cause holds that a witness shows
-  held : (w : Witness) → Shows rs w → the (shown rs) (cause_shown w)
+  held : (w : Witness) → Shows rs w → the (shown rs) (number_of (fault_shown w))
   held witness.NoMain a = a
   held (witness.TwoMains i j) a = both_main rs i j a.0 a.1 a.2
   held (witness.SameReactors i j) a = same_reactors i j a
@@ -306,28 +306,28 @@ module _ (rs : List ReactorTree) where
   held (witness.TwoSources k n m) a = two_sources k n m a
   held (witness.LongDefault k n) a = long_default k n a
 
-  -- what shows the cause with this number
-  abbrev pub ShowsThe : ℕ → Witness → Type 0
-  ShowsThe k w = Shows rs w × (cause_shown w ≡ k) × the (shown rs) k
+  -- what shows this cause
+  abbrev pub ShowsThe : ProgramFault → Witness → Type 0
+  ShowsThe k w = Shows rs w × (number_of (fault_shown w) ≡ number_of k) × the (shown rs) (number_of k)
 
   -- what an answer has found
-  pub shown_by : (k : ℕ) (o : Option Witness) (w : Witness) → IfSome o (Shows rs) → IfSome o (λ w. cause_shown w ≡ k) → o ≡ Some w → ShowsThe k w
+  pub shown_by : (k : ProgramFault) (o : Option Witness) (w : Witness) → IfSome o (Shows rs) → IfSome o (λ w. fault_shown w ≡ k) → o ≡ Some w → ShowsThe k w
   shown_by k None w shows cause is = absurd (cc)
   shown_by k (Some v) w shows cause is =
       let e : v ≡ w = cc in
-      subst (ShowsThe k) e (shows, cause, subst (the (shown rs)) cause (held v shows))
+      subst (ShowsThe k) e (shows, ap number_of cause, subst (λ f. the (shown rs) (number_of f)) cause (held v shows))
 
 -- ---- answers
 
 -- the last question of a check, whose answer is that of the check
-pub last_asked : {E : Type 0} (rs : List ReactorTree) (k : ℕ) (N : Type 0) (causes : List (ℕ × Type 0)) (r : Result (Option Witness) E) → IfOk r (λ o. IfSome o (Shows rs)) → IfOk r (λ o. IfSome o (λ w. cause_shown w ≡ k)) → IfOk r (λ o. IfNone o N) → ((w : Witness) → ShowsThe rs k w → IsFirst causes (cause_shown w)) → (N → NoneHolds causes) → IfOk r (IsFirstShown rs causes)
+pub last_asked : {E : Type 0} (rs : List ReactorTree) (k : ProgramFault) (N : Type 0) (causes : List (ℕ × Type 0)) (r : Result (Option Witness) E) → IfOk r (λ o. IfSome o (Shows rs)) → IfOk r (λ o. IfSome o (λ w. fault_shown w ≡ k)) → IfOk r (λ o. IfNone o N) → ((w : Witness) → ShowsThe rs k w → IsFirst causes (number_of (fault_shown w))) → (N → NoneHolds causes) → IfOk r (IsFirstShown rs causes)
 last_asked rs k N causes (Err e) shows cause none found rest = shows
 last_asked rs k N causes (Ok None) shows cause none found rest = rest none
 last_asked rs k N causes (Ok (Some w)) shows cause none found rest = (shows, found w (shown_by rs k (Some w) w shows cause refl))
 
-pub first_shown : (rs : List ReactorTree) (causes : List (ℕ × Type 0)) (o : Option Witness) (w : Witness) → IsFirstShown rs causes o → o ≡ Some w → Shows rs w × IsFirst causes (cause_shown w)
+pub first_shown : (rs : List ReactorTree) (causes : List (ℕ × Type 0)) (o : Option Witness) (w : Witness) → IsFirstShown rs causes o → o ≡ Some w → Shows rs w × IsFirst causes (number_of (fault_shown w))
 first_shown rs causes None w is at = absurd (cc)
-first_shown rs causes (Some v) w is at = let e : v ≡ w = cc in subst (λ v. Shows rs v × IsFirst causes (cause_shown v)) e is
+first_shown rs causes (Some v) w is at = let e : v ≡ w = cc in subst (λ v. Shows rs v × IsFirst causes (number_of (fault_shown v))) e is
 
 pub none_shown : (rs : List ReactorTree) (causes : List (ℕ × Type 0)) (o : Option Witness) → IsFirstShown rs causes o → o ≡ None → NoneHolds causes
 none_shown rs causes None is at = is

@@ -3,8 +3,11 @@ use Rattle.std.specs.Prelude.{◌≡◌, ◌≢◌, ℕ, ◌<◌, List, length, 
 use Rattle.lft_tree.specs.Tree.{ReactorTree, MemberTree, InstanceTree, RefTree, TimeTree, Named, port_in, instance_in, reaction_in, connection_in}
 use Rattle.lft_resolve.specs.{Instances.reactor_named, Kinds.{kind_of, own_kind, may_stand}, Causes.{IsUnknownTime, LacksParameter, IsLongTime}}
 use Rattle.lft_resolve.specs.declared.kinds.{Kind.{Kind, TheVariants.OwnParameter}, Role.Role}
-use Rattle.lft_validate.specs.{Members.{names_of, times_of, given_of}, declared.finding.Finding.Finding}
+use Rattle.lft_validate.specs.Members.{names_of, times_of, given_of}
+use Rattle.lft_validate.specs.declared.{fault.ProgramFault.ProgramFault, finding.{Finding.Finding, MemberPart.MemberPart}}
+use Rattle.lft_validate.specs.declared.fault.ProgramFault.TheVariants as faults
 use Rattle.lft_validate.specs.declared.finding.Finding.TheVariants as finding
+use Rattle.lft_validate.specs.declared.finding.MemberPart.TheVariants as parts
 
 -- the list has one thing at two places, the first before the second
 abbrev pub IsTwiceAt : {X : Type 0} → List X → ℕ → ℕ → Type 0
@@ -46,17 +49,32 @@ IsFinding reactors r m finding.NoTrigger = IsSomeAnd (reaction_in m) (λ x. x.tr
 IsFinding reactors r m (finding.NamedTwice role first second) = IsSome (reaction_in m) × IsTwiceAt (names_of role m) first second
 IsFinding reactors r m (finding.LongTime n) = IsSomeAnd (slice_get (times_of m) n) IsLongTime
 
--- the number of the cause that a finding shows
-abbrev pub cause_of : Finding → ℕ
-cause_of (finding.GivenTwice first second) = 3
-cause_of finding.UnknownReactor = 4
-cause_of (finding.UnknownName role n) = 6
-cause_of (finding.UnknownTime n) = 6
-cause_of (finding.UnknownParameter n) = 6
-cause_of (finding.WrongPlace role n kind) = 7
-cause_of (finding.WrongTime n kind) = 7
-cause_of finding.MainHasPort = 8
-cause_of finding.WidthMismatch = 11
-cause_of finding.NoTrigger = 12
-cause_of (finding.NamedTwice role first second) = 13
-cause_of (finding.LongTime n) = 14
+-- the cause that a finding shows
+abbrev pub fault_found : Finding → ProgramFault
+fault_found (finding.GivenTwice first second) = faults.DuplicateName
+fault_found finding.UnknownReactor = faults.UnknownReactor
+fault_found (finding.UnknownName role n) = faults.UnknownName
+fault_found (finding.UnknownTime n) = faults.UnknownName
+fault_found (finding.UnknownParameter n) = faults.UnknownName
+fault_found (finding.WrongPlace role n kind) = faults.WrongPlace
+fault_found (finding.WrongTime n kind) = faults.WrongPlace
+fault_found finding.MainHasPort = faults.MainHasPorts
+fault_found finding.WidthMismatch = faults.WidthMismatch
+fault_found finding.NoTrigger = faults.NoTrigger
+fault_found (finding.NamedTwice role first second) = faults.DuplicateInput
+fault_found (finding.LongTime n) = faults.DelayTooLong
+
+-- where in its member a finding is: of two that are one, the second
+abbrev pub part_found : Finding → MemberPart
+part_found (finding.GivenTwice first second) = parts.Value second
+part_found finding.UnknownReactor = parts.Whole
+part_found (finding.UnknownName role n) = parts.Name role n
+part_found (finding.UnknownTime n) = parts.Time n
+part_found (finding.UnknownParameter n) = parts.Value n
+part_found (finding.WrongPlace role n kind) = parts.Name role n
+part_found (finding.WrongTime n kind) = parts.Time n
+part_found finding.MainHasPort = parts.Declared
+part_found finding.WidthMismatch = parts.Whole
+part_found finding.NoTrigger = parts.Whole
+part_found (finding.NamedTwice role first second) = parts.Name role second
+part_found (finding.LongTime n) = parts.Time n

@@ -2,8 +2,9 @@
 use Rattle.std.specs.Prelude.{◌≡◌, ℕ, ◌<◌, ◌⊎◌, List, Some, true, slice_get, filter_map, IsSomeAnd}
 use Rattle.lft_tree.specs.Tree.{ReactorTree, RefTree, nanoseconds}
 use Rattle.lft_resolve.specs.{Causes.{NoMain, longest}, declared.kinds.Role.{Role, TheVariants.{Effect, Destination}}}
-use Rattle.lft_validate.specs.{Members.{names_of, declarations}, Findings.{IsFinding, IsTwiceAt, cause_of}}
-use Rattle.lft_validate.specs.declared.{finding.Finding.Finding, witness.{Naming.Naming, Witness.Witness}}
+use Rattle.lft_validate.specs.{Members.{names_of, declarations}, Findings.{IsFinding, IsTwiceAt, fault_found}}
+use Rattle.lft_validate.specs.declared.{fault.ProgramFault.ProgramFault, finding.Finding.Finding, witness.{Naming.Naming, Witness.Witness}}
+use Rattle.lft_validate.specs.declared.fault.ProgramFault.TheVariants as faults
 use Rattle.lft_validate.specs.declared.witness.Witness.TheVariants as witness
 
 -- the finding is true of the reactor's member at that place
@@ -46,12 +47,12 @@ Shows reactors (witness.Member reactor member f) = IsSomeAnd (slice_get reactors
 Shows reactors (witness.TwoSources reactor first second) = IsSomeAnd (slice_get reactors reactor) (λ r. IsWrittenTwice r first second)
 Shows reactors (witness.LongDefault reactor parameter) = IsSomeAnd (slice_get reactors reactor) (λ r. IsSomeAnd (slice_get r.parameters parameter) (λ p. longest < nanoseconds p.default))
 
--- the number of the cause that a witness shows
-abbrev pub cause_shown : Witness → ℕ
-cause_shown witness.NoMain = 1
-cause_shown (witness.TwoMains first second) = 2
-cause_shown (witness.SameReactors first second) = 3
-cause_shown (witness.DeclaredTwice reactor first second) = 3
-cause_shown (witness.Member reactor member f) = cause_of f
-cause_shown (witness.TwoSources reactor first second) = 9
-cause_shown (witness.LongDefault reactor parameter) = 14
+-- the cause that a witness shows
+abbrev pub fault_shown : Witness → ProgramFault
+fault_shown witness.NoMain = faults.NoMain
+fault_shown (witness.TwoMains first second) = faults.TwoMains
+fault_shown (witness.SameReactors first second) = faults.DuplicateName
+fault_shown (witness.DeclaredTwice reactor first second) = faults.DuplicateName
+fault_shown (witness.Member reactor member f) = fault_found f
+fault_shown (witness.TwoSources reactor first second) = faults.TwoSources
+fault_shown (witness.LongDefault reactor parameter) = faults.DelayTooLong

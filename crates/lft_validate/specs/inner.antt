@@ -1,5 +1,4 @@
 pub mod Circles
-pub mod Findings
 pub mod Members
 pub mod Scopes
 pub mod Seen

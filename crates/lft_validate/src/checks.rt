@@ -3,11 +3,12 @@
 ghost use Rattle.std.specs.Prelude.{◌≡◌, IfOk, IfSome, IfNone};
 ghost use Rattle.lft_tree.specs.Tree.{reactors_of};
 ghost use Rattle.lft_resolve.specs.{Causes.{DuplicateName, first_causes, later_causes}, inner.References.reactor_trees};
-ghost use Rattle.lft_validate.specs.{inner.{Scopes.AreNames, Witnesses.{IsFirstShown, time_causes}}, Witnesses.{Shows, cause_shown}};
+ghost use Rattle.lft_validate.specs.{inner.{Scopes.AreNames, Witnesses.{IsFirstShown, time_causes}}, Witnesses.{Shows, fault_shown}};
 
 use crate::declared::{same_reactors, some_declared_twice};
+use crate::fault::ProgramFault;
 use crate::mains::{long_default, no_main, two_mains};
-use crate::members::{Cause, first_member};
+use crate::members::first_member;
 use crate::scopes::Scopes;
 use crate::sources::two_sources;
 use crate::witness::Witness;
@@ -26,7 +27,7 @@ fn duplicate_name(
 ) -> Result<Option<Witness>, NoMemory>
     requires { AreNames (reactor_trees reactors.now) file.now owns.now }
     ensures shows { IfOk result (λ found. IfSome found (Shows (reactor_trees reactors.now))) }
-    ensures cause { IfOk result (λ found. IfSome found (λ w. cause_shown w ≡ 3)) }
+    ensures cause { IfOk result (λ found. IfSome found (λ w. fault_shown w ≡ ProgramFault.DuplicateName)) }
     ensures none { IfOk result (λ found. IfNone found (¬ DuplicateName (reactor_trees reactors.now))) }
 {
     if let Some(found) = same_reactors(alloc, reactors)? {
@@ -35,7 +36,7 @@ fn duplicate_name(
     if let Some(found) = some_declared_twice(alloc, reactors)? {
         return Ok(Some(found));
     }
-    first_member(alloc, Cause::DuplicateName, reactors, file, owns)
+    first_member(alloc, ProgramFault::DuplicateName, reactors, file, owns)
 }
 
 // Each cause is looked for once: what is found shows it.
@@ -57,7 +58,7 @@ fn first_of(
     if let Some(found) = duplicate_name(alloc, reactors, file, owns)? {
         return Ok(Some(found));
     }
-    first_member(alloc, Cause::UnknownReactor, reactors, file, owns)
+    first_member(alloc, ProgramFault::UnknownReactor, reactors, file, owns)
 }
 
 /// Looks for a main reactor, for a second one, for a name that is declared twice, and for a `new` of a
@@ -78,25 +79,25 @@ fn later_of(
     requires { AreNames (reactor_trees reactors.now) file.now owns.now }
     ensures { IfOk result (IsFirstShown (reactor_trees reactors.now) (later_causes (reactor_trees reactors.now))) }
 {
-    if let Some(found) = first_member(alloc, Cause::UnknownName, reactors, file, owns)? {
+    if let Some(found) = first_member(alloc, ProgramFault::UnknownName, reactors, file, owns)? {
         return Ok(Some(found));
     }
-    if let Some(found) = first_member(alloc, Cause::WrongPlace, reactors, file, owns)? {
+    if let Some(found) = first_member(alloc, ProgramFault::WrongPlace, reactors, file, owns)? {
         return Ok(Some(found));
     }
-    if let Some(found) = first_member(alloc, Cause::MainHasPorts, reactors, file, owns)? {
+    if let Some(found) = first_member(alloc, ProgramFault::MainHasPorts, reactors, file, owns)? {
         return Ok(Some(found));
     }
     if let Some(found) = two_sources(alloc, reactors)? {
         return Ok(Some(found));
     }
-    if let Some(found) = first_member(alloc, Cause::WidthMismatch, reactors, file, owns)? {
+    if let Some(found) = first_member(alloc, ProgramFault::WidthMismatch, reactors, file, owns)? {
         return Ok(Some(found));
     }
-    if let Some(found) = first_member(alloc, Cause::NoTrigger, reactors, file, owns)? {
+    if let Some(found) = first_member(alloc, ProgramFault::NoTrigger, reactors, file, owns)? {
         return Ok(Some(found));
     }
-    first_member(alloc, Cause::DuplicateInput, reactors, file, owns)
+    first_member(alloc, ProgramFault::DuplicateInput, reactors, file, owns)
 }
 
 /// Looks in each reactor of the file for a name that is nothing, for one that may not stand in its place,
@@ -121,7 +122,7 @@ fn times_of(
     if let Some(found) = long_default(reactors) {
         return Ok(Some(found));
     }
-    first_member(alloc, Cause::DelayTooLong, reactors, file, owns)
+    first_member(alloc, ProgramFault::DelayTooLong, reactors, file, owns)
 }
 
 /// Looks for a time in some reactor that is past 10^18 nanoseconds: a default of a parameter, or any other

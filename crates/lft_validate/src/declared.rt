@@ -3,7 +3,8 @@
 ghost use Rattle.std.specs.Prelude.{◌≡◌, ◌++◌, Any, IfOk, OnOk, IfSome, IfNone, filter_map, option_map};
 ghost use Rattle.lft_tree.specs.View.{member_view, member_views, reactor_view};
 ghost use Rattle.lft_resolve.specs.{Causes.IsTwice, Kinds.names_in, inner.{References.reactor_trees, Tests.texts}};
-ghost use Rattle.lft_validate.specs.{Findings.IsTwiceAt, Members.{declared_name, declarations}, Witnesses.{Shows, cause_shown}};
+ghost use Rattle.lft_validate.specs.{Findings.IsTwiceAt, Members.{declared_name, declarations}, Witnesses.{Shows, fault_shown}};
+ghost use Rattle.lft_validate.specs.declared.fault.ProgramFault.TheVariants as faults;
 
 use crate::twice::first_twice;
 use crate::witness::Witness;
@@ -64,7 +65,7 @@ pub(crate) fn some_declared_twice(
     reactors: &[&Reactor],
 ) -> Result<Option<Witness>, NoMemory>
     ensures shows { IfOk result (λ found. IfSome found (Shows (reactor_trees reactors.now))) }
-    ensures cause { IfOk result (λ found. IfSome found (λ w. cause_shown w ≡ 3)) }
+    ensures cause { IfOk result (λ found. IfSome found (λ w. fault_shown w ≡ faults.DuplicateName)) }
     ensures none { IfOk result (λ found. IfNone found (¬ Any (λ r. IsTwice (names_in r)) (reactor_trees reactors.now))) }
 {
     for reactor in 0..reactors.len() {
@@ -85,7 +86,7 @@ pub(crate) fn same_reactors(
     reactors: &[&Reactor],
 ) -> Result<Option<Witness>, NoMemory>
     ensures shows { IfOk result (λ found. IfSome found (Shows (reactor_trees reactors.now))) }
-    ensures cause { IfOk result (λ found. IfSome found (λ w. cause_shown w ≡ 3)) }
+    ensures cause { IfOk result (λ found. IfSome found (λ w. fault_shown w ≡ faults.DuplicateName)) }
     ensures none { IfOk result (λ found. IfNone found (¬ IsTwice (filter_map (λ r. r.name) (reactor_trees reactors.now)))) }
 {
     let names = reactor_names(alloc, reactors)?;

@@ -1,10 +1,11 @@
 #![tactic(auto)]
-//! The causes of refusal that places of a file show, each with the reactor, the member and the name that show
-//! it.
+//! The causes of refusal of a core program, and those that places of a file show, each with the reactor, the
+//! member and the name that show it.
 
 mod checks;
 mod circle;
 mod declared;
+mod fault;
 mod finding;
 mod lone;
 mod mains;
@@ -21,6 +22,7 @@ mod witness;
 pub use checks::{check_first, check_later, check_times};
 pub use circle::circle_of;
 pub use declared::declared_name;
-pub use finding::Finding;
+pub use fault::ProgramFault;
+pub use finding::{Finding, MemberPart};
 pub use scopes::Scopes;
 pub use witness::{Naming, Witness};

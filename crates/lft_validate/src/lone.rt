@@ -3,8 +3,8 @@
 ghost use Rattle.std.specs.Prelude.{◌≡◌, ◌↔◌, List, None, Any, IfOk, IfSome, IfNone, IsTrue, IsSomeAnd, slice_get};
 ghost use Rattle.lft_tree.specs.{Tree.ReactorTree, View.{member_view, reactor_view, time_view}};
 ghost use Rattle.lft_resolve.specs.{Causes.IsLongTime, inner.Tables.IsFile};
-ghost use Rattle.lft_validate.specs.{inner.{Members.time_trees, Shown.ShowsCause}, Findings.{IsFinding, cause_of}};
-ghost use Rattle.lft_validate.specs.declared.members.Cause.TheVariants as causes;
+ghost use Rattle.lft_validate.specs.{inner.{Members.time_trees, Shown.ShowsCause}, Findings.{IsFinding, fault_found}};
+ghost use Rattle.lft_validate.specs.declared.fault.ProgramFault.TheVariants as faults;
 
 use crate::finding::Finding;
 use crate::names::times_of;
@@ -17,8 +17,8 @@ use std::alloc::Global;
 /// Whether the member is an instance of a reactor that isn't in the file.
 pub(crate) fn unknown_reactor(file: &File, member: &Member) -> Option<Finding>
     ensures some { (rs : List ReactorTree) (r : ReactorTree) → IsFile rs file.now → IfSome result (IsFinding rs r (member_view member.now)) }
-    ensures cause { IfSome result (λ f. cause_of f ≡ 4) }
-    ensures none { (rs : List ReactorTree) (r : ReactorTree) → IsFile rs file.now → IfNone result (¬ ShowsCause rs r (member_view member.now) causes.UnknownReactor) }
+    ensures cause { IfSome result (λ f. fault_found f ≡ faults.UnknownReactor) }
+    ensures none { (rs : List ReactorTree) (r : ReactorTree) → IsFile rs file.now → IfNone result (¬ ShowsCause rs r (member_view member.now) faults.UnknownReactor) }
 {
     match member {
         Member::Instance(instance) => match file.reactor(instance.reactor.as_str()) {
@@ -33,8 +33,8 @@ pub(crate) fn unknown_reactor(file: &File, member: &Member) -> Option<Finding>
 /// Whether the member is a port of a main reactor.
 pub(crate) fn main_port(reactor: &Reactor, member: &Member) -> Option<Finding>
     ensures some { (rs : List ReactorTree) → IfSome result (IsFinding rs (reactor_view reactor.now) (member_view member.now)) }
-    ensures cause { IfSome result (λ f. cause_of f ≡ 8) }
-    ensures none { (rs : List ReactorTree) → IfNone result (¬ ShowsCause rs (reactor_view reactor.now) (member_view member.now) causes.MainHasPorts) }
+    ensures cause { IfSome result (λ f. fault_found f ≡ faults.MainHasPorts) }
+    ensures none { (rs : List ReactorTree) → IfNone result (¬ ShowsCause rs (reactor_view reactor.now) (member_view member.now) faults.MainHasPorts) }
 {
     if !reactor.is_main {
         return None;
@@ -49,8 +49,8 @@ pub(crate) fn main_port(reactor: &Reactor, member: &Member) -> Option<Finding>
 /// Whether the member is a connection whose two lists differ in length.
 pub(crate) fn width(member: &Member) -> Option<Finding>
     ensures some { (rs : List ReactorTree) (r : ReactorTree) → IfSome result (IsFinding rs r (member_view member.now)) }
-    ensures cause { IfSome result (λ f. cause_of f ≡ 11) }
-    ensures none { (rs : List ReactorTree) (r : ReactorTree) → IfNone result (¬ ShowsCause rs r (member_view member.now) causes.WidthMismatch) }
+    ensures cause { IfSome result (λ f. fault_found f ≡ faults.WidthMismatch) }
+    ensures none { (rs : List ReactorTree) (r : ReactorTree) → IfNone result (¬ ShowsCause rs r (member_view member.now) faults.WidthMismatch) }
 {
     match member {
         Member::Connection(connection) => {
@@ -68,8 +68,8 @@ pub(crate) fn width(member: &Member) -> Option<Finding>
 /// Whether the member is a reaction without a trigger.
 pub(crate) fn no_trigger(member: &Member) -> Option<Finding>
     ensures some { (rs : List ReactorTree) (r : ReactorTree) → IfSome result (IsFinding rs r (member_view member.now)) }
-    ensures cause { IfSome result (λ f. cause_of f ≡ 12) }
-    ensures none { (rs : List ReactorTree) (r : ReactorTree) → IfNone result (¬ ShowsCause rs r (member_view member.now) causes.NoTrigger) }
+    ensures cause { IfSome result (λ f. fault_found f ≡ faults.NoTrigger) }
+    ensures none { (rs : List ReactorTree) (r : ReactorTree) → IfNone result (¬ ShowsCause rs r (member_view member.now) faults.NoTrigger) }
 {
     match member {
         Member::Reaction(reaction) => {
@@ -110,8 +110,8 @@ fn first_long(times: &[&TimeExpression]) -> Option<usize>
 /// The first time of the member that is past the greatest.
 pub(crate) fn long_time(alloc: Global, member: &Member) -> Result<Option<Finding>, NoMemory>
     ensures some { IfOk result (λ found. (rs : List ReactorTree) (r : ReactorTree) → IfSome found (IsFinding rs r (member_view member.now))) }
-    ensures cause { IfOk result (λ found. IfSome found (λ f. cause_of f ≡ 14)) }
-    ensures none { IfOk result (λ found. (rs : List ReactorTree) (r : ReactorTree) → IfNone found (¬ ShowsCause rs r (member_view member.now) causes.DelayTooLong)) }
+    ensures cause { IfOk result (λ found. IfSome found (λ f. fault_found f ≡ faults.DelayTooLong)) }
+    ensures none { IfOk result (λ found. (rs : List ReactorTree) (r : ReactorTree) → IfNone found (¬ ShowsCause rs r (member_view member.now) faults.DelayTooLong)) }
 {
     let times = times_of(alloc, member)?;
     match first_long(&times) {

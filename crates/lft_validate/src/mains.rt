@@ -3,7 +3,8 @@
 ghost use Rattle.std.specs.Prelude.{◌≡◌, ◌<◌, ◌≤◌, ℕ, Some, Any, IfSome, IfNone, IsSomeAnd, length, map, slice_get};
 ghost use Rattle.lft_tree.specs.{Tree.nanoseconds, View.parameter_view};
 ghost use Rattle.lft_resolve.specs.{Causes.{NoMain, TwoMains, longest}, inner.References.reactor_trees};
-ghost use Rattle.lft_validate.specs.Witnesses.{IsMainAt, Shows, cause_shown};
+ghost use Rattle.lft_validate.specs.Witnesses.{IsMainAt, Shows, fault_shown};
+ghost use Rattle.lft_validate.specs.declared.fault.ProgramFault.TheVariants as faults;
 
 use crate::witness::Witness;
 use lft_resolve::times::nanoseconds;
@@ -27,7 +28,7 @@ fn main_from(reactors: &[&Reactor], start: usize) -> Option<usize>
 /// Whether there is no main reactor.
 pub(crate) fn no_main(reactors: &[&Reactor]) -> Option<Witness>
     ensures shows { IfSome result (Shows (reactor_trees reactors.now)) }
-    ensures cause { IfSome result (λ w. cause_shown w ≡ 1) }
+    ensures cause { IfSome result (λ w. fault_shown w ≡ faults.NoMain) }
     ensures none { IfNone result (¬ NoMain (reactor_trees reactors.now)) }
 {
     match main_from(reactors, 0) {
@@ -39,7 +40,7 @@ pub(crate) fn no_main(reactors: &[&Reactor]) -> Option<Witness>
 /// Two main reactors.
 pub(crate) fn two_mains(reactors: &[&Reactor]) -> Option<Witness>
     ensures shows { IfSome result (Shows (reactor_trees reactors.now)) }
-    ensures cause { IfSome result (λ w. cause_shown w ≡ 2) }
+    ensures cause { IfSome result (λ w. fault_shown w ≡ faults.TwoMains) }
     ensures none { IfNone result (¬ TwoMains (reactor_trees reactors.now)) }
 {
     let first = main_from(reactors, 0)?;
@@ -63,7 +64,7 @@ fn long_default_in(parameters: &[Parameter]) -> Option<usize>
 /// The first parameter of the file whose default is past the greatest time.
 pub(crate) fn long_default(reactors: &[&Reactor]) -> Option<Witness>
     ensures shows { IfSome result (Shows (reactor_trees reactors.now)) }
-    ensures cause { IfSome result (λ w. cause_shown w ≡ 14) }
+    ensures cause { IfSome result (λ w. fault_shown w ≡ faults.DelayTooLong) }
     ensures none { IfNone result (¬ Any (λ r. Any (λ p. longest < nanoseconds p.default) r.parameters) (reactor_trees reactors.now)) }
 {
     for reactor in 0..reactors.len() {

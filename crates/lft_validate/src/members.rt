@@ -3,9 +3,10 @@
 ghost use Rattle.std.specs.Prelude.{◌≡◌, ◌<◌, List, Any, IfOk, IfSome, IfNone, length, slice_get, IsSomeAnd};
 ghost use Rattle.lft_tree.specs.{Tree.ReactorTree, View.{member_view, reactor_view}};
 ghost use Rattle.lft_resolve.specs.inner.{References.reactor_trees, Tables.{IsFile, IsOwn}};
-ghost use Rattle.lft_validate.specs.{Findings.{IsFinding, cause_of}, inner.{Findings.number_of, Scopes.AreNames, Shown.{ShowsCause, SomeShows}}};
-ghost use Rattle.lft_validate.specs.Witnesses.{HasFinding, Shows, cause_shown};
+ghost use Rattle.lft_validate.specs.{Findings.{IsFinding, fault_found}, inner.{Scopes.AreNames, Shown.{ShowsCause, SomeShows}}};
+ghost use Rattle.lft_validate.specs.Witnesses.{HasFinding, Shows, fault_shown};
 
+use crate::fault::ProgramFault;
 use crate::finding::Finding;
 use crate::lone::{long_time, main_port, no_trigger, unknown_reactor, width};
 use crate::misplaced::misplaced;
@@ -18,50 +19,37 @@ use lft_tag::NoMemory;
 use lft_tree::{Member, Reactor};
 use std::alloc::Global;
 
-/// The causes that one member can show.
-#[derive(Clone, Copy, Drop)]
-pub(crate) enum Cause {
-    DuplicateName,
-    UnknownReactor,
-    UnknownName,
-    WrongPlace,
-    MainHasPorts,
-    WidthMismatch,
-    NoTrigger,
-    DuplicateInput,
-    DelayTooLong,
-}
-
-/// How the member shows the cause, if it does.
+/// How the member shows the cause, if it does. Alone it shows no other than these.
 fn in_member(
     alloc: Global,
-    cause: Cause,
+    cause: ProgramFault,
     file: &File,
     own: &Own,
     reactor: &Reactor,
     member: &Member,
 ) -> Result<Option<Finding>, NoMemory>
     ensures some { IfOk result (λ found. (rs : List ReactorTree) → IsFile rs file.now → IsOwn (reactor_view reactor.now) own.now → IfSome found (IsFinding rs (reactor_view reactor.now) (member_view member.now))) }
-    ensures cause { IfOk result (λ found. IfSome found (λ f. cause_of f ≡ number_of cause)) }
+    ensures cause { IfOk result (λ found. IfSome found (λ f. fault_found f ≡ cause)) }
     ensures none { IfOk result (λ found. (rs : List ReactorTree) → IsFile rs file.now → IsOwn (reactor_view reactor.now) own.now → IfNone found (¬ ShowsCause rs (reactor_view reactor.now) (member_view member.now) cause)) }
 {
     match cause {
-        Cause::DuplicateName => given_twice(alloc, member),
-        Cause::UnknownReactor => Ok(unknown_reactor(file, member)),
-        Cause::UnknownName => unknown(alloc, file, own, member),
-        Cause::WrongPlace => misplaced(alloc, file, own, member),
-        Cause::MainHasPorts => Ok(main_port(reactor, member)),
-        Cause::WidthMismatch => Ok(width(member)),
-        Cause::NoTrigger => Ok(no_trigger(member)),
-        Cause::DuplicateInput => named_twice(alloc, member),
-        Cause::DelayTooLong => long_time(alloc, member),
+        ProgramFault::DuplicateName => given_twice(alloc, member),
+        ProgramFault::UnknownReactor => Ok(unknown_reactor(file, member)),
+        ProgramFault::UnknownName => unknown(alloc, file, own, member),
+        ProgramFault::WrongPlace => misplaced(alloc, file, own, member),
+        ProgramFault::MainHasPorts => Ok(main_port(reactor, member)),
+        ProgramFault::WidthMismatch => Ok(width(member)),
+        ProgramFault::NoTrigger => Ok(no_trigger(member)),
+        ProgramFault::DuplicateInput => named_twice(alloc, member),
+        ProgramFault::DelayTooLong => long_time(alloc, member),
+        _ => Ok(None),
     }
 }
 
 /// How the member with that place shows the cause, if it does.
 fn at_place(
     alloc: Global,
-    cause: Cause,
+    cause: ProgramFault,
     file: &File,
     own: &Own,
     reactor: &Reactor,
@@ -69,7 +57,7 @@ fn at_place(
 ) -> Result<Option<Finding>, NoMemory>
     requires { place < length reactor.now.members.items }
     ensures some { IfOk result (λ found. (rs : List ReactorTree) → IsFile rs file.now → IsOwn (reactor_view reactor.now) own.now → IfSome found (HasFinding rs (reactor_view reactor.now) place)) }
-    ensures cause { IfOk result (λ found. IfSome found (λ f. cause_of f ≡ number_of cause)) }
+    ensures cause { IfOk result (λ found. IfSome found (λ f. fault_found f ≡ cause)) }
     ensures none { IfOk result (λ found. (rs : List ReactorTree) → IsFile rs file.now → IsOwn (reactor_view reactor.now) own.now → IfNone found (¬ IsSomeAnd (slice_get (reactor_view reactor.now).members place) (λ m. ShowsCause rs (reactor_view reactor.now) m cause))) }
 {
     in_member(alloc, cause, file, own, reactor, &reactor.members[place])
@@ -79,13 +67,13 @@ fn at_place(
 /// of the reactor.
 fn first_place(
     alloc: Global,
-    cause: Cause,
+    cause: ProgramFault,
     file: &File,
     own: &Own,
     reactor: &Reactor,
 ) -> Result<Option<(usize, Finding)>, NoMemory>
     ensures some { IfOk result (λ found. (rs : List ReactorTree) → IsFile rs file.now → IsOwn (reactor_view reactor.now) own.now → IfSome found (λ p. HasFinding rs (reactor_view reactor.now) p.0 p.1)) }
-    ensures cause { IfOk result (λ found. IfSome found (λ p. cause_of p.1 ≡ number_of cause)) }
+    ensures cause { IfOk result (λ found. IfSome found (λ p. fault_found p.1 ≡ cause)) }
     ensures none { IfOk result (λ found. (rs : List ReactorTree) → IsFile rs file.now → IsOwn (reactor_view reactor.now) own.now → IfNone found (¬ Any (λ m. ShowsCause rs (reactor_view reactor.now) m cause) (reactor_view reactor.now).members)) }
 {
     for place in 0..reactor.members.len() {
@@ -99,14 +87,14 @@ fn first_place(
 /// The first member of the file that shows the cause. The tables are those of the names of its reactors.
 pub(crate) fn first_member(
     alloc: Global,
-    cause: Cause,
+    cause: ProgramFault,
     reactors: &[&Reactor],
     file: &File,
     owns: &[Own],
 ) -> Result<Option<Witness>, NoMemory>
     requires { AreNames (reactor_trees reactors.now) file.now owns.now }
     ensures shows { IfOk result (λ found. IfSome found (Shows (reactor_trees reactors.now))) }
-    ensures cause { IfOk result (λ found. IfSome found (λ w. cause_shown w ≡ number_of cause)) }
+    ensures cause { IfOk result (λ found. IfSome found (λ w. fault_shown w ≡ cause)) }
     ensures none { IfOk result (λ found. IfNone found (¬ SomeShows (reactor_trees reactors.now) cause)) }
 {
     for reactor in 0..reactors.len() {

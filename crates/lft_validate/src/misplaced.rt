@@ -4,7 +4,8 @@ ghost use Rattle.std.specs.Prelude.{◌≡◌, List, Any, IfOk, IfSome, IfNone, 
 ghost use Rattle.lft_tree.specs.{Tree.ReactorTree, View.{member_view, ref_view, time_view}};
 ghost use Rattle.lft_resolve.specs.{Causes.{IsMisplaced, IsMisplacedTime}, inner.{References.ref_trees, Tables.{IsFile, IsOwn}}};
 ghost use Rattle.lft_validate.specs.{Members.names_of, inner.{Members.time_trees, Shown.{ShowsMisplaced, SomeName}}};
-ghost use Rattle.lft_validate.specs.Findings.{IsFinding, IsWrong, IsWrongTime, cause_of};
+ghost use Rattle.lft_validate.specs.Findings.{IsFinding, IsWrong, IsWrongTime, fault_found};
+ghost use Rattle.lft_validate.specs.declared.fault.ProgramFault.TheVariants as faults;
 
 use crate::finding::{Finding, ROLES};
 use crate::names::{names_of, times_of};
@@ -50,7 +51,7 @@ fn misplaced_in_role(
     role: Role,
 ) -> Result<Option<Finding>, NoMemory>
     ensures some { IfOk result (λ found. (rs : List ReactorTree) (r : ReactorTree) → IsFile rs file.now → IsOwn r own.now → IfSome found (IsFinding rs r (member_view member.now))) }
-    ensures cause { IfOk result (λ found. IfSome found (λ f. cause_of f ≡ 7)) }
+    ensures cause { IfOk result (λ found. IfSome found (λ f. fault_found f ≡ faults.WrongPlace)) }
     ensures none { IfOk result (λ found. (rs : List ReactorTree) (r : ReactorTree) → IsFile rs file.now → IsOwn r own.now → IfNone found (¬ Any (λ ref. IsMisplaced rs r (role, ref)) (names_of role (member_view member.now)))) }
 {
     let names = names_of(alloc, member, role)?;
@@ -68,7 +69,7 @@ fn misplaced_name(
     member: &Member,
 ) -> Result<Option<Finding>, NoMemory>
     ensures some { IfOk result (λ found. (rs : List ReactorTree) (r : ReactorTree) → IsFile rs file.now → IsOwn r own.now → IfSome found (IsFinding rs r (member_view member.now))) }
-    ensures cause { IfOk result (λ found. IfSome found (λ f. cause_of f ≡ 7)) }
+    ensures cause { IfOk result (λ found. IfSome found (λ f. fault_found f ≡ faults.WrongPlace)) }
     ensures none { IfOk result (λ found. (rs : List ReactorTree) (r : ReactorTree) → IsFile rs file.now → IsOwn r own.now → IfNone found (¬ SomeName (IsMisplaced rs r) (member_view member.now))) }
 {
     for role in ROLES {
@@ -118,7 +119,7 @@ pub(crate) fn misplaced(
     member: &Member,
 ) -> Result<Option<Finding>, NoMemory>
     ensures some { IfOk result (λ found. (rs : List ReactorTree) (r : ReactorTree) → IsFile rs file.now → IsOwn r own.now → IfSome found (IsFinding rs r (member_view member.now))) }
-    ensures cause { IfOk result (λ found. IfSome found (λ f. cause_of f ≡ 7)) }
+    ensures cause { IfOk result (λ found. IfSome found (λ f. fault_found f ≡ faults.WrongPlace)) }
     ensures none { IfOk result (λ found. (rs : List ReactorTree) (r : ReactorTree) → IsFile rs file.now → IsOwn r own.now → IfNone found (¬ ShowsMisplaced rs r (member_view member.now))) }
 {
     if let Some(found) = misplaced_name(alloc, file, own, member)? {

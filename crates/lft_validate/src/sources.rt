@@ -3,9 +3,10 @@
 ghost use Rattle.std.specs.Prelude.{◌≡◌, ◌+◌, ◌≤◌, ◌⊎◌, Any, Contains, IfOk, IfSome, IfNone, IsSomeAnd, length};
 ghost use Rattle.lft_tree.specs.View.{reactor_view};
 ghost use Rattle.lft_validate.specs.{inner.{Seen.has_seen, Shown.all_names, Witnesses.{IsPlaceOf, IsSharedAt}}, Findings.IsTwiceAt};
-ghost use Rattle.lft_validate.specs.Witnesses.{IsWrittenTwice, Shows, cause_shown};
+ghost use Rattle.lft_validate.specs.Witnesses.{IsWrittenTwice, Shows, fault_shown};
 ghost use Rattle.lft_resolve.specs.{Causes.{TwoSources, WritesTwice}, inner.{References.{reactor_trees, ref_trees}, Tests.IsTestOf}};
 ghost use Rattle.lft_resolve.specs.declared.kinds.Role.TheVariants as roles;
+ghost use Rattle.lft_validate.specs.declared.fault.ProgramFault.TheVariants as faults;
 
 use crate::names::names_of;
 use crate::seen::SeenNames;
@@ -148,7 +149,7 @@ fn written_twice(alloc: Global, reactor: &Reactor) -> Result<Option<(Naming, Nam
 /// The first port of the file that is written at two places.
 pub(crate) fn two_sources(alloc: Global, reactors: &[&Reactor]) -> Result<Option<Witness>, NoMemory>
     ensures shows { IfOk result (λ found. IfSome found (Shows (reactor_trees reactors.now))) }
-    ensures cause { IfOk result (λ found. IfSome found (λ w. cause_shown w ≡ 9)) }
+    ensures cause { IfOk result (λ found. IfSome found (λ w. fault_shown w ≡ faults.TwoSources)) }
     ensures none { IfOk result (λ found. IfNone found (¬ TwoSources (reactor_trees reactors.now))) }
 {
     for reactor in 0..reactors.len() {

@@ -5,7 +5,8 @@
 ghost use Rattle.std.specs.Prelude.{◌≡◌, ◌<◌, ◌↔◌, ℕ, List, Some, Any, IfOk, IfSome, IfNone, IsSome, IsSomeAnd, IsTrue, length, map, slice_get, take};
 ghost use Rattle.lft_tree.specs.{Tree.{ReactorTree, RefTree, instance_in, reaction_in}, View.{assignment_view, member_view, ref_view}};
 ghost use Rattle.lft_resolve.specs.{Causes.{GivesTwice, IsTwice, NamesTwice}, inner.{References.ref_trees, Tests.texts}};
-ghost use Rattle.lft_validate.specs.{Members.{given_of, names_of}, Findings.{IsFinding, IsTwiceAt, cause_of}};
+ghost use Rattle.lft_validate.specs.{Members.{given_of, names_of}, Findings.{IsFinding, IsTwiceAt, fault_found}};
+ghost use Rattle.lft_validate.specs.declared.fault.ProgramFault.TheVariants as faults;
 
 use crate::finding::Finding;
 use crate::names::names_of;
@@ -107,7 +108,7 @@ pub(crate) fn first_named_twice(
 fn twice_in_role(alloc: Global, member: &Member, role: Role) -> Result<Option<Finding>, NoMemory>
     requires { IsSome (reaction_in (member_view member.now)) }
     ensures some { IfOk result (λ found. (rs : List ReactorTree) (r : ReactorTree) → IfSome found (IsFinding rs r (member_view member.now))) }
-    ensures cause { IfOk result (λ found. IfSome found (λ f. cause_of f ≡ 13)) }
+    ensures cause { IfOk result (λ found. IfSome found (λ f. fault_found f ≡ faults.DuplicateInput)) }
     ensures none { IfOk result (λ found. IfNone found (¬ IsTwice (names_of role (member_view member.now)))) }
 {
     let names = names_of(alloc, member, role)?;
@@ -124,7 +125,7 @@ fn twice_in_role(alloc: Global, member: &Member, role: Role) -> Result<Option<Fi
 /// The first of the reaction's names that stands in one role twice.
 pub(crate) fn named_twice(alloc: Global, member: &Member) -> Result<Option<Finding>, NoMemory>
     ensures some { IfOk result (λ found. (rs : List ReactorTree) (r : ReactorTree) → IfSome found (IsFinding rs r (member_view member.now))) }
-    ensures cause { IfOk result (λ found. IfSome found (λ f. cause_of f ≡ 13)) }
+    ensures cause { IfOk result (λ found. IfSome found (λ f. fault_found f ≡ faults.DuplicateInput)) }
     ensures none { IfOk result (λ found. IfNone found (¬ IsSomeAnd (reaction_in (member_view member.now)) NamesTwice)) }
 {
     match member {
@@ -163,7 +164,7 @@ fn names_in(alloc: Global, given: &[Assignment]) -> Result<Vec<&str>, NoMemory>
 /// The first parameter to which the member gives a second value.
 pub(crate) fn given_twice(alloc: Global, member: &Member) -> Result<Option<Finding>, NoMemory>
     ensures some { IfOk result (λ found. (rs : List ReactorTree) (r : ReactorTree) → IfSome found (IsFinding rs r (member_view member.now))) }
-    ensures cause { IfOk result (λ found. IfSome found (λ f. cause_of f ≡ 3)) }
+    ensures cause { IfOk result (λ found. IfSome found (λ f. fault_found f ≡ faults.DuplicateName)) }
     ensures none { IfOk result (λ found. IfNone found (¬ IsSomeAnd (instance_in (member_view member.now)) GivesTwice)) }
 {
     let names = given_names(alloc, member)?;

@@ -4,7 +4,8 @@ ghost use Rattle.std.specs.Prelude.{◌≡◌, ◌↔◌, List, None, Any, IfOk,
 ghost use Rattle.lft_tree.specs.{Tree.{ReactorTree, instance_in}, View.{assignment_view, instance_view, member_view, time_view}};
 ghost use Rattle.lft_resolve.specs.{Causes.{GivesUnknown, IsUnknownTime, LacksParameter}, inner.{References.ref_trees, Tables.{IsFile, IsOutside, IsOwn}}};
 ghost use Rattle.lft_validate.specs.{Members.{names_of, times_of}, inner.{Members.time_trees, Shown.{ShowsUnknown, SomeName}}};
-ghost use Rattle.lft_validate.specs.Findings.{IsFinding, IsForNone, IsNothing, cause_of};
+ghost use Rattle.lft_validate.specs.Findings.{IsFinding, IsForNone, IsNothing, fault_found};
+ghost use Rattle.lft_validate.specs.declared.fault.ProgramFault.TheVariants as faults;
 
 use crate::finding::{Finding, ROLES};
 use crate::names::{names_of, times_of};
@@ -37,7 +38,7 @@ fn unknown_in_role(
     role: Role,
 ) -> Result<Option<Finding>, NoMemory>
     ensures some { IfOk result (λ found. (rs : List ReactorTree) (r : ReactorTree) → IsFile rs file.now → IsOwn r own.now → IfSome found (IsFinding rs r (member_view member.now))) }
-    ensures cause { IfOk result (λ found. IfSome found (λ f. cause_of f ≡ 6)) }
+    ensures cause { IfOk result (λ found. IfSome found (λ f. fault_found f ≡ faults.UnknownName)) }
     ensures none { IfOk result (λ found. (rs : List ReactorTree) (r : ReactorTree) → IsFile rs file.now → IsOwn r own.now → IfNone found (¬ Any (IsNothing rs r) (names_of role (member_view member.now)))) }
 {
     let names = names_of(alloc, member, role)?;
@@ -55,7 +56,7 @@ fn unknown_name(
     member: &Member,
 ) -> Result<Option<Finding>, NoMemory>
     ensures some { IfOk result (λ found. (rs : List ReactorTree) (r : ReactorTree) → IsFile rs file.now → IsOwn r own.now → IfSome found (IsFinding rs r (member_view member.now))) }
-    ensures cause { IfOk result (λ found. IfSome found (λ f. cause_of f ≡ 6)) }
+    ensures cause { IfOk result (λ found. IfSome found (λ f. fault_found f ≡ faults.UnknownName)) }
     ensures none { IfOk result (λ found. (rs : List ReactorTree) (r : ReactorTree) → IsFile rs file.now → IsOwn r own.now → IfNone found (¬ SomeName (λ n. IsNothing rs r n.1) (member_view member.now))) }
 {
     for role in ROLES {
@@ -140,7 +141,7 @@ fn unknown_value_or_time(
     member: &Member,
 ) -> Result<Option<Finding>, NoMemory>
     ensures some { IfOk result (λ found. (rs : List ReactorTree) (r : ReactorTree) → IsFile rs file.now → IsOwn r own.now → IfSome found (IsFinding rs r (member_view member.now))) }
-    ensures cause { IfOk result (λ found. IfSome found (λ f. cause_of f ≡ 6)) }
+    ensures cause { IfOk result (λ found. IfSome found (λ f. fault_found f ≡ faults.UnknownName)) }
     ensures none { IfOk result (λ found. (rs : List ReactorTree) (r : ReactorTree) → IsFile rs file.now → IsOwn r own.now → IfNone found (¬ Any (IsUnknownTime r) (times_of (member_view member.now)))) }
     ensures none_given { IfOk result (λ found. (rs : List ReactorTree) (r : ReactorTree) → IsFile rs file.now → IsOwn r own.now → IfNone found (¬ IsSomeAnd (instance_in (member_view member.now)) (GivesUnknown rs))) }
 {
@@ -164,7 +165,7 @@ pub(crate) fn unknown(
     member: &Member,
 ) -> Result<Option<Finding>, NoMemory>
     ensures some { IfOk result (λ found. (rs : List ReactorTree) (r : ReactorTree) → IsFile rs file.now → IsOwn r own.now → IfSome found (IsFinding rs r (member_view member.now))) }
-    ensures cause { IfOk result (λ found. IfSome found (λ f. cause_of f ≡ 6)) }
+    ensures cause { IfOk result (λ found. IfSome found (λ f. fault_found f ≡ faults.UnknownName)) }
     ensures none { IfOk result (λ found. (rs : List ReactorTree) (r : ReactorTree) → IsFile rs file.now → IsOwn r own.now → IfNone found (¬ ShowsUnknown rs r (member_view member.now))) }
 {
     match unknown_name(alloc, file, own, member)? {

@@ -1,5 +1,9 @@
 //! What shows a cause of refusal. Everything is named by its place in the tree, counted from 0.
 
+ghost use Rattle.std.specs.Prelude.{◌≡◌};
+ghost use Rattle.lft_validate.specs.Witnesses.{fault_shown};
+
+use crate::fault::ProgramFault;
 use crate::finding::Finding;
 use lft_resolve::kinds::Role;
 
@@ -50,4 +54,21 @@ pub enum Witness {
         reactor: usize,
         parameter: usize,
     },
+}
+
+impl Witness {
+    /// The cause that it shows.
+    pub fn fault(self) -> ProgramFault
+        ensures { result ≡ fault_shown self }
+    {
+        match self {
+            Witness::NoMain => ProgramFault::NoMain,
+            Witness::TwoMains { .. } => ProgramFault::TwoMains,
+            Witness::SameReactors { .. } => ProgramFault::DuplicateName,
+            Witness::DeclaredTwice { .. } => ProgramFault::DuplicateName,
+            Witness::Member { finding, .. } => finding.fault(),
+            Witness::TwoSources { .. } => ProgramFault::TwoSources,
+            Witness::LongDefault { .. } => ProgramFault::DelayTooLong,
+        }
+    }
 }

@@ -1,4 +1,4 @@
--- Inside: the numbers of faults, and the causes that are looked for before those of instances.
+-- Inside: the causes that are looked for before those of instances.
 use Rattle.std.specs.Prelude.{ℕ, List, ◌∷◌, ◌++◌}
 use Rattle.lft_tree.specs.Tree.{FileTree, reactors_of}
 use Rattle.lft_resolve.specs.Causes.{RecursiveReactor, first_causes, later_causes}

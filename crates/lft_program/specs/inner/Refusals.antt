@@ -1,21 +1,24 @@
 -- Why a tree has no flat program, with what shows it.
 use Rattle.std.specs.Prelude.{ℕ}
 use Rattle.lft_tree.specs.Tree.{FileTree, reactors_of}
-use Rattle.lft_validate.specs.{Witnesses.{Shows, cause_shown}, inner.Witnesses.IsCircle}
-use Rattle.lft_program.specs.inner.{Limits.IsExcess, Ways.{IsLongChain, IsRing}}
-use Rattle.lft_program.specs.declared.{nesting.{nest.NestFault.NestFault, linking.LinkFault.LinkFault}, refusal.Refusal.Refusal}
+use Rattle.lft_validate.specs.{Faults.number_of, Witnesses.{Shows, fault_shown}, inner.Witnesses.IsCircle, declared.fault.ProgramFault.ProgramFault}
+use Rattle.lft_program.specs.{inner.{Limits.IsExcess, Ways.{IsLongChain, IsRing}}, declared.{nesting.nest.NestFault.NestFault, refusal.Refusal.Refusal}}
+use Rattle.lft_validate.specs.declared.fault.ProgramFault.TheVariants as faults
 use Rattle.lft_program.specs.declared.nesting.nest.NestFault.TheVariants as nests
-use Rattle.lft_program.specs.declared.nesting.linking.LinkFault.TheVariants as links
 use Rattle.lft_program.specs.declared.refusal.Refusal.TheVariants as refusals
 
--- the number of the cause for which a tree is refused; want of memory has 16
+-- the cause for which a tree is refused, without what shows it
+abbrev pub fault_of : Refusal → ProgramFault
+fault_of (refusals.Shown witness) = fault_shown witness
+fault_of (refusals.Recursive places) = faults.RecursiveReactor
+fault_of (refusals.TooMany excess) = faults.TooMany
+fault_of (refusals.ConnectionCycle way) = faults.ConnectionCycle
+fault_of (refusals.LongChain way) = faults.DelayTooLong
+fault_of refusals.NoMemory = faults.NoMemory
+
+-- its number
 abbrev pub cause_of : Refusal → ℕ
-cause_of (refusals.Shown witness) = cause_shown witness
-cause_of (refusals.Recursive places) = 5
-cause_of (refusals.TooMany excess) = 15
-cause_of (refusals.ConnectionCycle way) = 10
-cause_of (refusals.LongChain way) = 14
-cause_of refusals.NoMemory = 16
+cause_of refusal = number_of (fault_of refusal)
 
 -- what a refusal tells of the tree is so
 abbrev pub Tells : FileTree → Refusal → Type 0
@@ -30,10 +33,3 @@ Tells tree refusals.NoMemory = Unit {0}
 abbrev pub of_nest : NestFault → Refusal
 of_nest (nests.TooMany excess) = refusals.TooMany excess
 of_nest nests.NoMemory = refusals.NoMemory
-
--- a fault of the connections of all instances
-abbrev pub of_links : LinkFault → Refusal
-of_links (links.ConnectionCycle way) = refusals.ConnectionCycle way
-of_links (links.LongTime witness) = refusals.Shown witness
-of_links (links.LongChain way) = refusals.LongChain way
-of_links links.NoMemory = refusals.NoMemory

@@ -2,18 +2,19 @@
 
 ghost use Rattle.std.specs.Prelude.{◌≡◌, ◌≢◌, ℕ, ◌<◌, None, IfSome, IfOk, IfErr, OnOk, length};
 ghost use Rattle.lft_resolve.specs.{inner.Expansion.{Sources.AreInside, Ways.{HaveSites, IsWayBack}}, Causes.{IsFirst, NoneHolds}};
-ghost use Rattle.lft_program.specs.inner.{Linking.{AreLinked, IsLinked, IsTooLong}, Links.{AreLinks, TellsOf, last_causes, number_of}, Nests.IsNest};
+ghost use Rattle.lft_program.specs.inner.{Linking.{AreLinked, IsLinked, IsTooLong}, Links.{AreLinks, last_causes}, Nests.IsNest, Refusals.{Tells, cause_of}};
 ghost use Rattle.lft_program.specs.inner.Tables.{AreTables, IsLawful};
-ghost use Rattle.lft_program.specs.declared.nesting.linking.LinkFault.TheVariants as faults;
+ghost use Rattle.lft_program.specs.declared.refusal.Refusal.TheVariants as refusals;
 
 use crate::nesting::nest::Nest;
 use crate::nesting::tables::Tables;
+use crate::refusal::Refusal;
 use lft_resolve::expansion::{
     Instance, OriginFault, Reached, Site, Sources, find_origins, find_sources, way_back,
 };
 use lft_tag::{NoMemory, Shift, Source};
-use lft_validate::{Scopes, Witness, check_times};
-use std::alloc::{AllocFailed, Global};
+use lft_validate::{Scopes, check_times};
+use std::alloc::Global;
 
 /// How a port is reached: the port before it with the delay of the connection from it in
 /// nanoseconds, the origin of its chain of connections, and the delays of that chain.
@@ -31,41 +32,6 @@ pub struct Way {
     pub instances: Vec<Instance>,
     /// Where each of the connections stands.
     pub joins: Vec<Site>,
-}
-
-/// Why ports have no origins, in the order in which the causes are answered.
-#[derive(Drop)]
-pub(crate) enum LinkFault {
-    /// Connections alone form a cycle. The last of them begins where the first one ends.
-    ConnectionCycle(Way),
-    /// A time is past 10^18 nanoseconds.
-    LongTime(Witness),
-    /// The sum of the delays of this chain is.
-    LongChain(Way),
-    /// A growth of memory was refused.
-    NoMemory,
-}
-
-impl From<NoMemory> for LinkFault {
-    ghost use Rattle.std.specs.Prelude.{◌≡◌};
-    ghost use Rattle.lft_program.specs.declared.nesting.linking.LinkFault.TheVariants as faults;
-
-    ghost from_gives = { λ _ f. f ≡ faults.NoMemory };
-
-    fn from(_error: NoMemory) -> LinkFault {
-        LinkFault::NoMemory
-    }
-}
-
-impl<T: Drop> From<AllocFailed<T>> for LinkFault {
-    ghost use Rattle.std.specs.Prelude.{◌≡◌};
-    ghost use Rattle.lft_program.specs.declared.nesting.linking.LinkFault.TheVariants as faults;
-
-    ghost from_gives = { λ _ f. f ≡ faults.NoMemory };
-
-    fn from(_error: AllocFailed<T>) -> LinkFault {
-        LinkFault::NoMemory
-    }
 }
 
 // how a port is reached, or None where the delays of its chain sum to too much
@@ -161,14 +127,14 @@ pub(crate) fn links(
     scopes: &Scopes,
     tables: &Tables,
     nest: &Nest,
-) -> Result<Vec<Linked>, LinkFault>
+) -> Result<Vec<Linked>, Refusal>
     requires tables { AreTables scopes.now tables.now }
     requires lawful { IsLawful scopes.now }
     requires nest { IsNest scopes.now tables.now nest.now }
     ensures links { IfOk result (λ v. (n : IsNest scopes.now tables.now nest.now) → AreLinks scopes.now n.located v.items) }
     ensures none { OnOk result (NoneHolds (last_causes scopes.now)) }
-    ensures first { IfErr result (λ f. f ≢ faults.NoMemory → IsFirst (last_causes scopes.now) (number_of f)) }
-    ensures tells { IfErr result (TellsOf scopes.now) }
+    ensures first { IfErr result (λ f. f ≢ refusals.NoMemory → IsFirst (last_causes scopes.now) (cause_of f)) }
+    ensures tells { IfErr result (Tells scopes.now) }
 {
     let found = find_sources(
         alloc,
@@ -183,19 +149,19 @@ pub(crate) fn links(
         Ok(reached) => reached,
         Err(OriginFault::Cycle(port)) => {
             let way = way_to(alloc, nest, &found, port as usize)?;
-            return Err(LinkFault::ConnectionCycle(way));
+            return Err(Refusal::ConnectionCycle(way));
         }
-        Err(OriginFault::NoMemory) => return Err(LinkFault::NoMemory),
+        Err(OriginFault::NoMemory) => return Err(Refusal::NoMemory),
     };
     if let Some(witness) = check_times(alloc, scopes)? {
-        return Err(LinkFault::LongTime(witness));
+        return Err(Refusal::Shown(witness));
     }
     match link_all(alloc, &found.sources, &reached)? {
         Ok(links) => Ok(links),
         Err(port) => {
             let first = first_long(&found.sources, &reached, port);
             let way = way_to(alloc, nest, &found, first)?;
-            Err(LinkFault::LongChain(way))
+            Err(Refusal::LongChain(way))
         }
     }
 }

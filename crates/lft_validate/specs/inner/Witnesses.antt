@@ -2,7 +2,7 @@
 use Rattle.std.specs.Prelude.{◌≡◌, ℕ, ◌+◌, ◌<◌, List, ◌∷◌, Option, Some, None, length, slice_get, flat_map, take, Any, []}
 use Rattle.lft_tree.specs.Tree.{ReactorTree, MemberTree, RefTree}
 use Rattle.lft_resolve.specs.{Causes.{HasLongTime, Holds, IsFirst, NoneHolds}, declared.kinds.Role.Role}
-use Rattle.lft_validate.specs.{Members.names_of, declared.witness.{Naming.Naming, Witness.Witness}, Witnesses.{Shows, cause_shown}}
+use Rattle.lft_validate.specs.{Faults.number_of, Members.names_of, declared.witness.{Naming.Naming, Witness.Witness}, Witnesses.{Shows, fault_shown}}
 
 -- the name at that place among those that have the role in the reactor stands there
 pub record IsPlaceOf (r : ReactorTree) (role : Role) (place : ℕ) (n : Naming) : Type 0 where
@@ -22,7 +22,7 @@ time_causes reactors = (14, Any HasLongTime reactors) ∷ []
 
 -- the witness shows the first of the causes that holds; where there is none, no cause holds
 abbrev pub IsFirstShown : List ReactorTree → List (ℕ × Type 0) → Option Witness → Type 0
-IsFirstShown reactors causes (Some w) = Shows reactors w × IsFirst causes (cause_shown w)
+IsFirstShown reactors causes (Some w) = Shows reactors w × IsFirst causes (number_of (fault_shown w))
 IsFirstShown reactors causes None = NoneHolds causes
 
 -- the reactor with the first place has an instance of that with the second

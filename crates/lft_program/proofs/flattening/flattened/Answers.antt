@@ -1,12 +1,9 @@
 use Rattle.std.proofs.Common.{◌≡◌, ◌≢◌, List, subst, sym}
 use Rattle.lft_tree.specs.{Tree.{FileTree, reactors_of}, View.tree_view}
 use Rattle.lft_resolve.specs.Causes.{IsFirst, NoneHolds, causes}
-use Rattle.lft_program.specs.inner.{Links.{AreLinks, TellsOf, last_causes, number_of as link_number}, Faults.reactor_causes, Nests.IsNest}
-use Rattle.lft_program.specs.inner.{Refusals.{Tells, cause_of, of_links, of_nest}, Tables.AreTables}
-use Rattle.lft_program.proofs.Firsts.{first_of_reactors, first_of_links, none_of_all, lawful, in_time, handed_on, same_number, nest_first, nest_tells, links_tell}
-use Rattle.lft_program.proofs.OneFlat.{one_flat}
+use Rattle.lft_program.specs.inner.{Links.{AreLinks, last_causes}, Faults.reactor_causes, Nests.IsNest, Refusals.{Tells, cause_of, of_nest}, Tables.AreTables}
+use Rattle.lft_program.proofs.{Firsts.{first_of_reactors, first_of_links, none_of_all, lawful, in_time, handed_on, nest_first, nest_tells}, OneFlat.one_flat}
 use Rattle.lft_program.specs.declared.refusal.Refusal.TheVariants as refusals
-use Rattle.lft_program.specs.declared.nesting.linking.LinkFault.TheVariants as links
 use Rattle.lft_program.proofs.flattening.flattened.Goals as goal
 
 pub returns-in_err-tables-clause-first : goal.returns-in_err-tables-clause-first
@@ -53,15 +50,15 @@ returns-in_err-links-clause-first c =
     let none = subst (λ t. NoneHolds (reactor_causes t)) c.in_ok-scopes.ensures c.in_ok-tables.ensures.none in
     let are = subst (λ t. AreTables t c.in_ok-tables.tables) c.in_ok-scopes.ensures c.in_ok-tables.ensures.tables in
     let few = c.in_ok-nest.ensures.within tree are (lawful tree none) in
-    let first = subst (λ t. e ≢ links.NoMemory → IsFirst (last_causes t) (link_number e)) c.in_ok-scopes.ensures c.in_err-links.ensures.first in
-    handed_on (λ f. f ≢ refusals.NoMemory → IsFirst (causes tree) (cause_of f)) (of_links e) c.from_residual-in_err-links.result
-    (λ other. first_of_links tree (cause_of (of_links e)) none few (same_number tree e first other)) c.from_residual-in_err-links.ensures.1
+    let first = subst (λ t. e ≢ refusals.NoMemory → IsFirst (last_causes t) (cause_of e)) c.in_ok-scopes.ensures c.in_err-links.ensures.first in
+    handed_on (λ f. f ≢ refusals.NoMemory → IsFirst (causes tree) (cause_of f)) e c.from_residual-in_err-links.result
+    (λ other. first_of_links tree (cause_of e) none few (first other)) c.from_residual-in_err-links.ensures.1
 
 pub returns-in_err-links-clause-tells : goal.returns-in_err-links-clause-tells
 returns-in_err-links-clause-tells c =
     let tree = tree_view c.args.ast.now in
     let e = c.in_err-links.field-0.0 in
-    handed_on (Tells tree) (of_links e) c.from_residual-in_err-links.result (links_tell tree e (subst (λ t. TellsOf t e) c.in_ok-scopes.ensures c.in_err-links.ensures.tells)) c.from_residual-in_err-links.ensures.1
+    handed_on (Tells tree) e c.from_residual-in_err-links.result (subst (λ t. Tells t e) c.in_ok-scopes.ensures c.in_err-links.ensures.tells) c.from_residual-in_err-links.ensures.1
 
 pub program-requires : goal.program-requires
 program-requires c =

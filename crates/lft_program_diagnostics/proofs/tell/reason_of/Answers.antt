@@ -1,27 +1,29 @@
-use Rattle.std.proofs.Common.{◌≡◌, List, ap, ◌∙◌, sym, subst, inr}
-use Rattle.std.{specs.Borrow.Bor, proofs.lemmas.Result.IfOk-weaker}
-use Rattle.lft_tree.specs.{Tree.ReactorTree, View.tree_view, declared.tree.Reactor.Reactor}
+use Rattle.std.proofs.Common.{◌≡◌, List, map, ap, ◌∙◌, sym, subst}
+use Rattle.std.proofs.lemmas.Result.{IfOk-weaker}
+use Rattle.lft_tree.specs.{Tree.ReactorTree, View.{reactor_view, tree_view}, declared.tree.Reactor.Reactor}
 use Rattle.lft_validate.specs.Witnesses.{Shows}
-use Rattle.lft_program_diagnostics.specs.{Reasons.{IsOfWhole, IsShownAt}, inner.{Sentences.IsOf, Spots.behind}, Sentences.cause_told}
-use Rattle.lft_program_diagnostics.specs.Spots.{reactors_among, witness_spot}
-use Rattle.lft_program_diagnostics.proofs.Showing.{trees_among, told, of_whole, witnessed}
+use Rattle.lft_program.specs.inner.Refusals.{Tells, cause_of}
+use Rattle.lft_program_diagnostics.specs.{Reasons.IsShownAt, inner.Spots.behind, Spots.{reactors_among, witness_spot}}
+use Rattle.lft_program_diagnostics.proofs.Showing.{trees_among, witnessed}
+use Rattle.lft_program.specs.declared.refusal.Refusal.TheVariants as refusals
 use Rattle.lft_program_diagnostics.proofs.tell.reason_of.Goals as goal
 
-pub returns-in-Some-clause-shown : goal.returns-in-Some-clause-shown
-returns-in-Some-clause-shown c =
-    let tokens = c.args.tokens.now in
-    let parts = reactors_among c.args.ast.now.items.items in
-    let rs = c.in_ok-reactors.reactors.items in
-    let w = c.in-Some.witness in
-    let same : behind rs ≡ parts = c.in_ok-reactors.ensures ∙ ap reactors_among c.deref.ensures.value in
-    let both = told (tree_view c.args.ast.now) c.args.refusal.now w (sym c.in-Some.is ∙ c.witness_of.ensures.witness) c.requires.tells in
-    let shows = subst (λ (ts : List ReactorTree). Shows ts w) (trees_among c.args.ast.now.target c.args.ast.now.items.items) both.0 in
-    IfOk-weaker c.of_witness.result (λ r. r.at ≡ witness_spot tokens (behind c.deref-2.result.now) w) (λ r. IsShownAt tokens parts (cause_told c.args.sentence) r.at)
-    (λ r e. witnessed tokens rs parts same (cause_told c.args.sentence) w shows (both.1 ∙ c.requires.cause) r.at (e ∙ ap (λ (xs : List (Bor Reactor)). witness_spot tokens (behind xs) w) c.deref-2.ensures.value))
-    c.of_witness.ensures.at
+pub of_witness-requires : goal.of_witness-requires
+of_witness-requires c =
+    let w = c.in-Shown.witness in
+    let items = c.args.ast.now.items.items in
+    let tells : Tells (tree_view c.args.ast.now) (refusals.Shown w) = subst (Tells (tree_view c.args.ast.now)) c.in-Shown.is c.requires in
+    let same : behind c.deref-2.result.now ≡ reactors_among items = ap behind c.deref-2.ensures.value ∙ c.in_ok-reactors.ensures ∙ ap reactors_among c.deref.ensures.value in
+    subst (λ (rs : List Reactor). Shows (map reactor_view rs) w) (sym same) (subst (λ (ts : List ReactorTree). Shows ts w) (trees_among c.args.ast.now.target items) tells)
 
-pub returns-clause-shown : goal.returns-clause-shown
-returns-clause-shown c =
-    let cause = cause_told c.args.sentence in
-    let whole : IsOfWhole cause = subst IsOfWhole c.requires.cause (of_whole c.args.refusal.now (sym c.in-None.is ∙ c.witness_of.ensures.witness) c.requires.told) in
-    IfOk-weaker c.without_witness.result (IsOf cause) (λ r. IsShownAt c.args.tokens.now (reactors_among c.args.ast.now.items.items) cause r.at) (λ r is. inr whole) c.without_witness.ensures
+pub returns-in-Shown-clause-shown : goal.returns-in-Shown-clause-shown
+returns-in-Shown-clause-shown c =
+    let w = c.in-Shown.witness in
+    let tokens = c.args.tokens.now in
+    let items = c.args.ast.now.items.items in
+    let tells : Tells (tree_view c.args.ast.now) (refusals.Shown w) = subst (Tells (tree_view c.args.ast.now)) c.in-Shown.is c.requires in
+    let shows = subst (λ (ts : List ReactorTree). Shows ts w) (trees_among c.args.ast.now.target items) tells in
+    let same : behind c.deref-2.result.now ≡ reactors_among items = ap behind c.deref-2.ensures.value ∙ c.in_ok-reactors.ensures ∙ ap reactors_among c.deref.ensures.value in
+    IfOk-weaker c.of_witness.result (λ r. r.at ≡ witness_spot tokens (behind c.deref-2.result.now) w) (λ r. IsShownAt tokens (reactors_among items) (cause_of c.args.refusal.now) r.at)
+    (λ r e. subst (λ f. IsShownAt tokens (reactors_among items) (cause_of f) r.at) (sym c.in-Shown.is) (witnessed tokens c.deref-2.result.now (reactors_among items) same w shows r.at e))
+    c.of_witness.ensures.at

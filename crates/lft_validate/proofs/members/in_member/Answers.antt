@@ -2,14 +2,14 @@ use Rattle.std.proofs.Common.{List, IfNone}
 use Rattle.lft_tree.specs.{Tree.ReactorTree, View.{member_view, reactor_view}}
 use Rattle.lft_resolve.specs.inner.Tables.{IsFile, IsOwn}
 use Rattle.lft_validate.{specs.inner.Shown.ShowsCause, proofs.Turns.weaker}
-use Rattle.lft_validate.specs.declared.members.Cause.TheVariants as cause
+use Rattle.lft_validate.specs.declared.fault.ProgramFault.TheVariants as faults
 use Rattle.lft_validate.proofs.members.in_member.Goals as goal
 
 pub returns-in-DuplicateName-clause-some : goal.returns-in-DuplicateName-clause-some
 returns-in-DuplicateName-clause-some c = weaker _ _ c.given_twice.result (λ found all rs file own. all rs (reactor_view c.args.reactor.now)) c.given_twice.ensures.some
 
 pub returns-in-DuplicateName-clause-none : goal.returns-in-DuplicateName-clause-none
-returns-in-DuplicateName-clause-none c = rw c.in-DuplicateName.is (weaker _ (λ found. (rs : List ReactorTree) → IsFile rs c.args.file.now → IsOwn (reactor_view c.args.reactor.now) c.args.own.now → IfNone found (ShowsCause rs (reactor_view c.args.reactor.now) (member_view c.args.member.now) cause.DuplicateName → ⊥)) c.given_twice.result (λ found none rs file own. none) c.given_twice.ensures.none)
+returns-in-DuplicateName-clause-none c = rw c.in-DuplicateName.is (weaker _ (λ found. (rs : List ReactorTree) → IsFile rs c.args.file.now → IsOwn (reactor_view c.args.reactor.now) c.args.own.now → IfNone found (ShowsCause rs (reactor_view c.args.reactor.now) (member_view c.args.member.now) faults.DuplicateName → ⊥)) c.given_twice.result (λ found none rs file own. none) c.given_twice.ensures.none)
 
 pub returns-in-UnknownReactor-clause-some : goal.returns-in-UnknownReactor-clause-some
 returns-in-UnknownReactor-clause-some c rs file own = c.unknown_reactor.ensures.some rs (reactor_view c.args.reactor.now) file
@@ -18,10 +18,10 @@ pub returns-in-UnknownReactor-clause-none : goal.returns-in-UnknownReactor-claus
 returns-in-UnknownReactor-clause-none c rs file own = rw c.in-UnknownReactor.is (c.unknown_reactor.ensures.none rs (reactor_view c.args.reactor.now) file)
 
 pub returns-in-UnknownName-clause-none : goal.returns-in-UnknownName-clause-none
-returns-in-UnknownName-clause-none c = rw c.in-UnknownName.is (weaker _ (λ found. (rs : List ReactorTree) → IsFile rs c.args.file.now → IsOwn (reactor_view c.args.reactor.now) c.args.own.now → IfNone found (ShowsCause rs (reactor_view c.args.reactor.now) (member_view c.args.member.now) cause.UnknownName → ⊥)) c.unknown.result (λ found none rs file own. none rs (reactor_view c.args.reactor.now) file own) c.unknown.ensures.none)
+returns-in-UnknownName-clause-none c = rw c.in-UnknownName.is (weaker _ (λ found. (rs : List ReactorTree) → IsFile rs c.args.file.now → IsOwn (reactor_view c.args.reactor.now) c.args.own.now → IfNone found (ShowsCause rs (reactor_view c.args.reactor.now) (member_view c.args.member.now) faults.UnknownName → ⊥)) c.unknown.result (λ found none rs file own. none rs (reactor_view c.args.reactor.now) file own) c.unknown.ensures.none)
 
 pub returns-in-WrongPlace-clause-none : goal.returns-in-WrongPlace-clause-none
-returns-in-WrongPlace-clause-none c = rw c.in-WrongPlace.is (weaker _ (λ found. (rs : List ReactorTree) → IsFile rs c.args.file.now → IsOwn (reactor_view c.args.reactor.now) c.args.own.now → IfNone found (ShowsCause rs (reactor_view c.args.reactor.now) (member_view c.args.member.now) cause.WrongPlace → ⊥)) c.misplaced.result (λ found none rs file own. none rs (reactor_view c.args.reactor.now) file own) c.misplaced.ensures.none)
+returns-in-WrongPlace-clause-none c = rw c.in-WrongPlace.is (weaker _ (λ found. (rs : List ReactorTree) → IsFile rs c.args.file.now → IsOwn (reactor_view c.args.reactor.now) c.args.own.now → IfNone found (ShowsCause rs (reactor_view c.args.reactor.now) (member_view c.args.member.now) faults.WrongPlace → ⊥)) c.misplaced.result (λ found none rs file own. none rs (reactor_view c.args.reactor.now) file own) c.misplaced.ensures.none)
 
 pub returns-in-MainHasPorts-clause-some : goal.returns-in-MainHasPorts-clause-some
 returns-in-MainHasPorts-clause-some c rs file own = c.main_port.ensures.some rs
@@ -45,10 +45,10 @@ pub returns-in-DuplicateInput-clause-some : goal.returns-in-DuplicateInput-claus
 returns-in-DuplicateInput-clause-some c = weaker _ _ c.named_twice.result (λ found all rs file own. all rs (reactor_view c.args.reactor.now)) c.named_twice.ensures.some
 
 pub returns-in-DuplicateInput-clause-none : goal.returns-in-DuplicateInput-clause-none
-returns-in-DuplicateInput-clause-none c = rw c.in-DuplicateInput.is (weaker _ (λ found. (rs : List ReactorTree) → IsFile rs c.args.file.now → IsOwn (reactor_view c.args.reactor.now) c.args.own.now → IfNone found (ShowsCause rs (reactor_view c.args.reactor.now) (member_view c.args.member.now) cause.DuplicateInput → ⊥)) c.named_twice.result (λ found none rs file own. none) c.named_twice.ensures.none)
+returns-in-DuplicateInput-clause-none c = rw c.in-DuplicateInput.is (weaker _ (λ found. (rs : List ReactorTree) → IsFile rs c.args.file.now → IsOwn (reactor_view c.args.reactor.now) c.args.own.now → IfNone found (ShowsCause rs (reactor_view c.args.reactor.now) (member_view c.args.member.now) faults.DuplicateInput → ⊥)) c.named_twice.result (λ found none rs file own. none) c.named_twice.ensures.none)
 
 pub returns-in-DelayTooLong-clause-some : goal.returns-in-DelayTooLong-clause-some
 returns-in-DelayTooLong-clause-some c = weaker _ _ c.long_time.result (λ found all rs file own. all rs (reactor_view c.args.reactor.now)) c.long_time.ensures.some
 
 pub returns-in-DelayTooLong-clause-none : goal.returns-in-DelayTooLong-clause-none
-returns-in-DelayTooLong-clause-none c = rw c.in-DelayTooLong.is (weaker _ (λ found. (rs : List ReactorTree) → IsFile rs c.args.file.now → IsOwn (reactor_view c.args.reactor.now) c.args.own.now → IfNone found (ShowsCause rs (reactor_view c.args.reactor.now) (member_view c.args.member.now) cause.DelayTooLong → ⊥)) c.long_time.result (λ found none rs file own. none rs (reactor_view c.args.reactor.now)) c.long_time.ensures.none)
+returns-in-DelayTooLong-clause-none c = rw c.in-DelayTooLong.is (weaker _ (λ found. (rs : List ReactorTree) → IsFile rs c.args.file.now → IsOwn (reactor_view c.args.reactor.now) c.args.own.now → IfNone found (ShowsCause rs (reactor_view c.args.reactor.now) (member_view c.args.member.now) faults.DelayTooLong → ⊥)) c.long_time.result (λ found none rs file own. none rs (reactor_view c.args.reactor.now)) c.long_time.ensures.none)

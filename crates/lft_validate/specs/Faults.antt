@@ -1,8 +1,7 @@
--- The numbers of faults, and the causes that are looked for before those of instances.
+-- The number of each cause of refusal.
 use Rattle.std.specs.Prelude.{ℕ}
-use Rattle.lft_resolve.specs.Causes.{RecursiveReactor}
-use Rattle.lft_program.specs.declared.fault.ProgramFault.{ProgramFault}
-use Rattle.lft_program.specs.declared.fault.ProgramFault.TheVariants as faults
+use Rattle.lft_validate.specs.declared.fault.ProgramFault.{ProgramFault}
+use Rattle.lft_validate.specs.declared.fault.ProgramFault.TheVariants as faults
 
 -- the number of a fault is that of its cause; want of memory has 16
 abbrev pub number_of : ProgramFault → ℕ
