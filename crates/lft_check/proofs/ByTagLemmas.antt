@@ -1,7 +1,6 @@
 pub mod ByTag
 pub mod Firings
 pub mod Missed
-pub mod Needing
 pub mod Indexed
 pub mod Absent
 pub mod RightReads

@@ -6,7 +6,6 @@ mod gap;
 mod inputs;
 mod lists;
 mod missing;
-mod needed;
 mod sharing;
 mod sliced;
 mod slices;

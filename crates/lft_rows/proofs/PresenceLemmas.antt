@@ -1,5 +1,6 @@
 pub mod Lists
 pub mod Leasts
+pub mod Needing
 pub mod Positions
 pub mod Made
 pub mod Presences

@@ -46,6 +46,14 @@ impl Due {
         }
     }
 
+    /// A time before which this isn't, but at the stop.
+    pub(crate) fn time(self) -> u64 {
+        match self {
+            Due::AtTag(next, _) => next.time,
+            _ => u64::MAX,
+        }
+    }
+
     /// Whether this is at the tag, where the stop is the last.
     pub(crate) fn is_at(self, tag: Tag, last: Tag) -> bool
         ensures { IsTrue result ↔ IsDueAt last tag self }

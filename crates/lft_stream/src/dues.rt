@@ -7,26 +7,25 @@ ghost use Rattle.lft_stream.specs.declared.due.Due.{Due as TheDue};
 ghost use Rattle.lft_stream.specs.inner.Dues.{timed as the_timed, AreDue, AreDues, IsOwed, NoneOwed, IsDueBefore, NoneDueBefore, GoOn, IsSomePresent};
 
 use crate::due::Due;
+use crate::turns::Turns;
 use lft_ir::Trigger;
 use lft_lists::item_at;
 use lft_model::Plan;
+use lft_rows::presence::needed_of;
 use lft_tag::{NoMemory, Tag};
 use std::alloc::Global;
 use std::marker::Model;
 
-/// So many dues stand in a block. A run looks at the blocks in which something is due.
-const BLOCK: usize = 64;
-
-/// What a run costs for each of them, where it costs one for an input that it looks at.
-const COST_OF_BLOCK: usize = 16;
+/// Up to so many dues a run looks at each; of more, at those whose turn it is.
+const FEW: usize = 16;
 
 /// When some triggers of a reaction are due.
 #[derive(Drop)]
 struct Beats {
     dues: Vec<Due>,
-    /// For each block, where there are several, a time before which nothing there is due. Where it is wrong, a run
-    /// that is triggered may be taken for one that isn't.
-    soonest: Vec<u64>,
+    /// The turns of the dues, where these are many. Where one is missing or wrong, a run that is triggered may be
+    /// taken for one that isn't.
+    turns: Option<Turns>,
 }
 
 impl Model for Beats {
@@ -104,95 +103,80 @@ fn none_before(dues: &[Due], low: Tag, last: Tag) -> bool
     true
 }
 
-/// The earlier of a time and the one at which this is due.
-fn sooner(due: Due, time: u64) -> u64 {
-    match due {
-        Due::AtTag(next, _) => next.time.min(time),
-        // The stop may come at any tag.
-        Due::AtStop => 0,
-        Due::Never => time,
+/// The turns of these dues, where they are many.
+fn turns_of(alloc: Global, dues: &[Due]) -> Result<Option<Turns>, NoMemory> {
+    if dues.len() <= FEW {
+        return Ok(None);
     }
+    let mut turns = Turns::new(alloc, dues.len())?;
+    for place in 0..dues.len() {
+        turns.put(place, item_at(dues, place).time());
+    }
+    Ok(Some(turns))
 }
 
-/// What a run found among the dues of a block.
-#[derive(Clone, Copy, Drop)]
-struct Met {
-    is_present: bool,
-    /// Nothing is due before this time now.
-    soonest: u64,
-}
-
-/// Whether one of a reaction's triggers from the first place up to the end is present at the tag, where the stop
-/// is the last. Those that were due there are due later now. It is none where 64 bits hold no such time.
-fn meet(dues: &mut [Due], first: usize, end: usize, tag: Tag, last: Tag) -> Option<Met>
-    requires { end ≤ length dues.old }
+/// Whether what stands at the place is due at the tag, where the stop is the last. Then it is due later now.
+/// None where 64 bits hold no such time.
+fn meet(dues: &mut [Due], place: usize, tag: Tag, last: Tag) -> Option<bool>
+    requires { place < length dues.old }
     ensures due { GoOn last tag dues.old dues.new }
-    ensures present { IfSome result (λ met. IsTrue met.is_present → IsSomePresent last tag dues.old) }
+    ensures present { IfSome result (λ yes. IsTrue yes → IsSomePresent last tag dues.old) }
 {
-    let mut met = Met {
-        is_present: false,
-        soonest: u64::MAX,
-    };
-    for place in first..end {
-        let due = item_at(dues, place);
-        if due.is_at(tag, last) {
-            let next = due.next()?;
-            dues[place] = next;
-            met.is_present = true;
-            met.soonest = sooner(next, met.soonest);
-        } else {
-            met.soonest = sooner(due, met.soonest);
-        }
+    let due = item_at(dues, place);
+    if !due.is_at(tag, last) {
+        return Some(false);
     }
-    Some(met)
+    let next = due.next()?;
+    dues[place] = next;
+    Some(true)
 }
 
-/// The same of all of them, block by block.
-fn meet_blocks(dues: &mut [Due], soonest: &mut [u64], tag: Tag, last: Tag) -> bool
+/// Whether one of the triggers is present at the tag, where the stop is the last. Those that were due there are
+/// due later now. It is false too where 64 bits hold no such time.
+fn meet_all(dues: &mut [Due], tag: Tag, last: Tag) -> bool
     ensures due { GoOn last tag dues.old dues.new }
     ensures present { IsTrue result → IsSomePresent last tag dues.old }
 {
     let mut is_present = false;
-    for block in 0..soonest.len() {
-        if item_at(soonest, block) <= tag.time {
-            let first = block.saturating_mul(BLOCK);
-            let end = first.saturating_add(BLOCK).min(dues.len());
-            let Some(met) = meet(dues, first, end, tag, last) else {
-                return false;
-            };
-            soonest[block] = met.soonest;
-            is_present = is_present || met.is_present;
-        }
+    for place in 0..dues.len() {
+        let Some(is_met) = meet(dues, place, tag, last) else {
+            return false;
+        };
+        is_present = is_present || is_met;
     }
     is_present
 }
 
-/// The same, where one block has no time.
-fn meet_all(dues: &mut [Due], soonest: &mut [u64], tag: Tag, last: Tag) -> bool
+/// The same, where only those are looked at whose turn it is.
+fn meet_in_turn(dues: &mut [Due], turns: &mut Turns, tag: Tag, last: Tag) -> bool
     ensures due { GoOn last tag dues.old dues.new }
     ensures present { IsTrue result → IsSomePresent last tag dues.old }
 {
-    if soonest.len() > 0 {
-        return meet_blocks(dues, soonest, tag, last);
+    turns.go_to(dues, tag.time);
+    let mut is_present = false;
+    for _ in 0..dues.len() {
+        let Some(place) = turns.take() else {
+            return is_present;
+        };
+        if place >= dues.len() {
+            return false;
+        }
+        let Some(true) = meet(dues, place, tag, last) else {
+            return false;
+        };
+        is_present = true;
+        turns.put(place, item_at(dues, place).time());
     }
-    match meet(dues, 0, dues.len(), tag, last) {
-        Some(met) => met.is_present,
-        None => false,
-    }
+    is_present
 }
 
 impl Beats {
-    /// These dues. Any of them may be due at once.
+    /// These dues.
     fn new(alloc: Global, dues: Vec<Due>) -> Result<Beats, NoMemory>
         ensures { IfOk result (λ beats. beats ≡ dues.items) }
     {
-        let blocks = if dues.len() > BLOCK {
-            dues.len() / BLOCK + 1
-        } else {
-            0
-        };
-        let soonest = vec![in alloc; 0; blocks]?;
-        Ok(Beats { dues, soonest })
+        let turns = turns_of(alloc, dues.as_slice())?;
+        Ok(Beats { dues, turns })
     }
 
     /// The dues, in the order of their triggers.
@@ -202,18 +186,6 @@ impl Beats {
         self.dues.as_slice()
     }
 
-    /// What a run at the time costs for the blocks in which something is due. Where there is one alone, nothing.
-    fn cost(&self, time: u64) -> usize {
-        let soonest = self.soonest.as_slice();
-        let mut cost: usize = 0;
-        for block in 0..soonest.len() {
-            if item_at(soonest, block) <= time {
-                cost = cost.saturating_add(COST_OF_BLOCK);
-            }
-        }
-        cost
-    }
-
     /// Whether one of the triggers is present at the tag, where the stop is the last. Those that were due there
     /// are due later now. It is false too where 64 bits hold no such time.
     fn meet(&mut self, tag: Tag, last: Tag) -> bool
@@ -221,20 +193,27 @@ impl Beats {
         ensures present { IsTrue result → IsSomePresent last tag self.old }
     {
         let dues = self.dues.as_mut_slice();
-        meet_all(dues, self.soonest.as_mut_slice(), tag, last)
+        // What is due at the stop has no turn. A reaction runs there once.
+        if let Some(turns) = &mut self.turns {
+            if !tag.is_same(last) {
+                return meet_in_turn(dues, turns, tag, last);
+            }
+        }
+        meet_all(dues, tag, last)
     }
 }
 
 impl Dues {
-    /// When all triggers are due before the first row.
+    /// When all triggers are due before the first row. Of timers that fire in step the first stands for the others.
     pub(crate) fn new(alloc: Global, plan: &Plan) -> Result<Dues, NoMemory>
         ensures { IfOk result (AreDues plan.now []) }
     {
         let program = plan.program();
         let mut lists = Vec::new(alloc);
         for number in 0..program.reactions() {
-            let triggers = program.reaction(number as u32).triggers.as_slice();
-            lists.push(Beats::new(alloc, first_dues(alloc, plan, triggers)?)?)?;
+            let needed = needed_of(alloc, program, number as u32)?;
+            let dues = first_dues(alloc, plan, needed.as_slice())?;
+            lists.push(Beats::new(alloc, dues)?)?;
         }
         Ok(Dues { lists })
     }
@@ -245,14 +224,6 @@ impl Dues {
         ensures { slice_get self.now number ≡ Some result.now }
     {
         self.lists[number].as_slice()
-    }
-
-    /// What a run of the reaction at the time costs for dues. No verdict hangs on it.
-    pub(crate) fn cost(&self, reaction: u32, time: u64) -> usize {
-        match self.lists.get(reaction as usize) {
-            Some(beats) => beats.cost(time),
-            None => 0,
-        }
     }
 
     /// Whether the reaction, which has a run at the tag, is triggered there, where the stop is the last.

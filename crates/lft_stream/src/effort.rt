@@ -3,15 +3,13 @@
 ghost use Rattle.std.specs.Prelude.{◌≡◌, length};
 ghost use Rattle.lft_ir.specs.Steps.Fits.{RowFits, RowsFit};
 
-use crate::dues::Dues;
 use crate::presence::Presence;
 use lft_ir::Program;
 use lft_ir::steps::{Row, is_start, row_at};
 use lft_queue::coming::{Channels, Listeners, written_port};
 
 /// So many inputs, listeners and ports behind delays may be looked at for each row. Most programs need a few.
-/// One in whose runs hundreds are looked at, or hundreds of timers fire at once, is judged sooner with an index of
-/// what the rows cause.
+/// One in whose runs hundreds are looked at is judged sooner with an index of what the rows cause.
 const PER_ROW: u64 = 16;
 
 /// So many more may be looked at, so that much may be present once or twice.
@@ -32,7 +30,6 @@ pub(crate) struct Effort {
 fn cost_of(
     program: &Program,
     presence: &Presence,
-    dues: &Dues,
     listeners: &Listeners,
     channels: &Channels,
     row: Row,
@@ -42,8 +39,7 @@ fn cost_of(
     requires channels { length channels.now.delayed ≡ length program.now.ports }
 {
     if is_start(&row.step) {
-        let fired = dues.cost(row.reaction, row.tag.time);
-        return presence.cost(program, row.reaction).saturating_add(fired);
+        return presence.cost(program, row.reaction);
     }
     match written_port(&row.step) {
         Some((port, _)) => {
@@ -79,7 +75,6 @@ impl Effort {
         &mut self,
         program: &Program,
         presence: &Presence,
-        dues: &Dues,
         listeners: &Listeners,
         channels: &Channels,
         rows: &[Row],
@@ -94,7 +89,7 @@ impl Effort {
         let mut left = most;
         for place in 0..rows.len() {
             let row = row_at(rows, place);
-            let cost = cost_of(program, presence, dues, listeners, channels, row);
+            let cost = cost_of(program, presence, listeners, channels, row);
             match left.saturating_add(PER_ROW).checked_sub(cost as u64) {
                 Some(rest) => left = rest,
                 None => return false,

@@ -260,7 +260,6 @@ impl Stream {
         if !self.effort.allows(
             program,
             &self.presence,
-            &self.dues,
             &self.listeners,
             &self.channels,
             own,

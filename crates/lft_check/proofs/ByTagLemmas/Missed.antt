@@ -1,17 +1,14 @@
 -- The least missed tag: over triggers, then over reactions.
-use Rattle.std.proofs.Common.{◌≡◌, ℕ, ◌+◌, ◌*◌, ◌<◌, ◌≤◌, ◌⊎◌, inl, inr, List, length, refl, sym, ap, ◌∙◌, subst, arith, Option, Some, None, slice_get, Contains, MatchOption}
+use Rattle.std.proofs.Common.{◌≡◌, ℕ, ◌+◌, ◌*◌, ◌<◌, ◌≤◌, ◌⊎◌, inl, inr, List, length, sym, ap, ◌∙◌, subst, arith, Option, Some, None, slice_get, Contains, MatchOption}
 use native.Mathlib.Decide.{ℕ_discrete}
 use Rattle.lft_tag.{specs.{declared.Tag.Tag, Tags.Before}, proofs.Order.{from_first, UpTo-trans, Before-weaken, Before-UpTo, split_up}}
-use Rattle.lft_ir.specs.{Parts.Parts, Sound.{IsSound, IsTriggerOf}}
 use Rattle.lft_ir.specs.declared.parts.{Trigger.{Trigger, TheVariants.{Startup, Shutdown, Timer, On}}, Timer.Timer as TimerOf, Name.Name, Reaction.Reaction}
 use Rattle.lft_model.{specs.Presence.{stop, Occurs, Triggered}, proofs.Places.slice_get_within}
 use Rattle.lft_lists.proofs.Places.{at_contains}
-use Rattle.lft_rows.specs.{Presence.Traces.{TraceParts, LeastTag}, inner.Presence.Traces.IsSooner}
-use Rattle.lft_rows.proofs.PresenceLemmas.Leasts.{least_as, least_of_both, trigger_of, triggered_by}
+use Rattle.lft_rows.specs.{Presence.Traces.{TraceParts, LeastTag}, inner.Presence.{Traces.IsSooner, Needed.AreNeededOf}}
+use Rattle.lft_rows.proofs.PresenceLemmas.{Leasts.{least_as, least_of_both}, Needing.{stands_occurs, needed_triggers}}
 use Rattle.lft_check.specs.ByTag.Slices.{LeastPair}
-use Rattle.lft_check.specs.inner.ByTag.{Slices.{IsFirstMissing, IsFirstMissingFrom}, Needed.AreNeededOf}
-use Rattle.lft_check.specs.inner.ByTag.Least.{IsFirstOf, LacksAt, LacksFiring, LacksTrigger, Lacks}
-use Rattle.lft_check.proofs.ByTagLemmas.Needing.{stands_occurs}
+use Rattle.lft_check.specs.inner.ByTag.{Slices.{IsFirstMissing, IsFirstMissingFrom}, Least.{IsFirstOf, LacksAt, LacksFiring, LacksTrigger, Lacks}}
 
 -- one of the triggers before place k is lacked at g
 pub record LacksBefore (cut : TraceParts) (xs : List Trigger) (k : ℕ) (low : Tag) (tags : List Tag) (g : Tag) : Type 0 where
@@ -31,14 +28,6 @@ lacked_more cut xs k low tags trigger a b o e p q s = least_as (λ g. LacksBefor
     from : (g : Tag) (x : LacksBefore cut xs (k + 1) low tags g) → Dec (x.place ≡ k) → LacksBefore cut xs k low tags g ⊎ LacksTrigger cut trigger low tags g
     from g x (yes d) = let y : Some x.trigger ≡ Some trigger = sym x.is_trigger ∙ ap (λ j. slice_get xs j) d ∙ e in let z : x.trigger ≡ trigger = cc in inr (subst (λ t. LacksTrigger cut t low tags g) z x.lacks)
     from g x (no n) = let l : x.place < k + 1 = x.before in inl (record { place = x.place; trigger = x.trigger; before = omega arith; is_trigger = x.is_trigger; lacks = x.lacks })
-
--- a trigger that is needed is of the program
-pub needed_known : (program : Parts) → IsSound program → (r k : ℕ) (ys : List Trigger) (y : Trigger) → AreNeededOf program r ys → slice_get ys k ≡ Some y → IsTriggerOf program y
-needed_known program sound r k ys y h e = let j = h.2.only k y e in trigger_of program sound r h.0 h.0.triggers j.0 y h.1 refl j.1
-
--- where it is present, its reaction is triggered
-pub needed_triggers : (cut : TraceParts) (g : Tag) (r k : ℕ) (ys : List Trigger) (y : Trigger) → AreNeededOf cut.plan.program r ys → slice_get ys k ≡ Some y → Occurs cut.plan cut.rows g y → Triggered cut.plan cut.rows g r
-needed_triggers cut g r k ys y h e o = let j = h.2.only k y e in triggered_by cut g r h.0 h.0.triggers j.0 y h.1 refl j.1 o
 
 -- over triggers that stand for all of a reaction
 pub lacked_all : (cut : TraceParts) (r k : ℕ) (low : Tag) (tags : List Tag) (ys : List Trigger) (o : Option Tag) → AreNeededOf cut.plan.program r ys → k ≡ length ys → LeastTag (LacksBefore cut ys k low tags) o → LeastTag (Lacks cut low tags r) o

@@ -1,7 +1,6 @@
 pub mod Absences
 pub mod Indexes
 pub mod Least
-pub mod Needed
 pub mod Reads
 pub mod Slices
 pub mod Walks

@@ -4,15 +4,14 @@ ghost use Rattle.std.specs.Prelude.{◌≡◌, ℕ, ◌<◌, ◌≤◌, length, 
 ghost use Rattle.lft_tag.specs.{declared.Tag.Tag as TheTag, Tags.Before};
 ghost use Rattle.lft_ir.specs.{Sound.{IsNameOf, IsTriggerOf}, declared.parts.Trigger.TheVariants.On};
 ghost use Rattle.lft_model.specs.Presence.{Fires, IsPresent, Occurs, Triggered};
-ghost use Rattle.lft_rows.specs.{inner.Presence.Causes.{IsCause, Leads}, Presence.Traces.LeastTag};
-ghost use Rattle.lft_check.specs.inner.ByTag.{Needed.AreNeededOf, Indexes.{AreStartsOf, HasRuns, AreDue, AreMarkedTo}, Slices.{IsCuttable, IsFirstMissingFrom}};
+ghost use Rattle.lft_rows.specs.{inner.Presence.{Causes.{IsCause, Leads}, Needed.AreNeededOf}, Presence.Traces.LeastTag};
+ghost use Rattle.lft_check.specs.inner.ByTag.{Indexes.{AreStartsOf, HasRuns, AreDue, AreMarkedTo}, Slices.{IsCuttable, IsFirstMissingFrom}};
 ghost use Rattle.lft_check.specs.inner.ByTag.Least.{AreUp, HasTag, IsFirstFiring, IsFirstTime, AreTriggered, IsFirstOf, LacksAt, LacksFiring, LacksCause, LacksTrigger, Lacks};
 
-use crate::by_tag::needed::needed_of;
 use crate::by_tag::started::Started;
 use lft_ir::{Name, Timer, Trigger};
 use lft_lists::item_at;
-use lft_rows::presence::{Presence, cause_tag, moved, position, skip, sooner};
+use lft_rows::presence::{Presence, cause_tag, moved, needed_of, position, skip, sooner};
 use lft_tag::{NoMemory, Shift, Tag};
 use std::alloc::Global;
 

@@ -1,9 +1,9 @@
 -- When triggers that wait for no event are due: at the tags where their reactions have no run yet.
 use Rattle.std.specs.Prelude.{◌≡◌, ℕ, ◌+◌, ◌*◌, ◌<◌, List, length, filter_map, Option, Some, None, slice_get, Contains}
 use Rattle.lft_tag.specs.{declared.Tag.Tag, Tags.{Before, UpTo}}
-use Rattle.lft_ir.specs.declared.parts.{Reaction.Reaction, Trigger.{Trigger, TheVariants.{Startup, Shutdown, Timer, On}}, Timer.Timer as TimerOf}
-use Rattle.lft_ir.specs.declared.steps.row.Row.{Row}
+use Rattle.lft_ir.specs.declared.{parts.{Trigger.{Trigger, TheVariants.{Startup, Shutdown, Timer, On}}, Timer.Timer as TimerOf}, steps.row.Row.Row}
 use Rattle.lft_model.specs.{Plans.PlanParts, Presence.{stop, Occurs}, Runs.Ran}
+use Rattle.lft_rows.specs.inner.Presence.Needed.{AreNeededOf}
 use Rattle.lft_stream.specs.declared.due.Due.{Due, TheVariants.{AtTag, AtStop, Never}}
 
 -- the k-th firing of a timer, counted from 0; where the period is 0 the first alone is one
@@ -45,10 +45,14 @@ timed Shutdown = Some Shutdown
 timed (Timer n) = Some (Timer n)
 timed (On n) = None
 
--- when the triggers of each reaction that wait for no event are due
+-- when those triggers of r are due that wait for no event and stand for all such
+abbrev pub AreDueOf : PlanParts → List Row → ℕ → List Due → Type 0
+AreDueOf plan t r dues = (needed : List Trigger) × AreNeededOf plan.program r needed × AreDue plan t r (filter_map timed needed) dues
+
+-- the same of each reaction
 pub record AreDues (plan : PlanParts) (t : List Row) (dues : List (List Due)) : Type 0 where
   pub as_long : length dues ≡ length plan.program.reactions
-  pub each : (r : ℕ) (reaction : Reaction) (list : List Due) → slice_get plan.program.reactions r ≡ Some reaction → slice_get dues r ≡ Some list → AreDue plan t r (filter_map timed reaction.triggers) list
+  pub each : (r : ℕ) (list : List Due) → slice_get dues r ≡ Some list → AreDueOf plan t r list
 
 -- the runs at g of some rows are runs of all rows t, of which last is the stop, and what is kept is when the triggers of each reaction are due
 pub record AreDuesAt (plan : PlanParts) (t rows : List Row) (g last : Tag) (dues : List (List Due)) : Type 0 where

@@ -1,7 +1,8 @@
 use Rattle.std.proofs.Common.{◌≡◌, ℕ, length, sym, subst, arith}
 use Rattle.lft_tag.specs.{declared.Tag.Tag, Tags.UpTo}
 use Rattle.lft_ir.specs.Parts.{Parts}
-use Rattle.lft_check.specs.inner.ByTag.{Needed.AreNeededOf, Slices.IsMissing, Least.AreTriggered}
+use Rattle.lft_rows.specs.inner.Presence.Needed.{AreNeededOf}
+use Rattle.lft_check.specs.inner.ByTag.{Slices.IsMissing, Least.AreTriggered}
 use Rattle.lft_check.proofs.ByTagLemmas.{Begun.{starts_of, none_marked, none_in, marks_over, missing_of}, Missed.{first_more, first_all, known_reaction}}
 use Rattle.lft_check.proofs.by_tag.missing.first_missing.Goals as goal
 

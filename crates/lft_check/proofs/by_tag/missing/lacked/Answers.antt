@@ -1,5 +1,6 @@
 use Rattle.std.proofs.Common.{arith}
-use Rattle.lft_check.proofs.ByTagLemmas.Missed.{needed_known, needed_triggers, lacked_more, lacked_all}
+use Rattle.lft_rows.proofs.PresenceLemmas.Needing.{needed_known, needed_triggers}
+use Rattle.lft_check.proofs.ByTagLemmas.Missed.{lacked_more, lacked_all}
 use Rattle.lft_check.proofs.by_tag.missing.lacked.Goals as goal
 
 pub lacked_trigger-requires-clause-trigger : goal.lacked_trigger-requires-clause-trigger

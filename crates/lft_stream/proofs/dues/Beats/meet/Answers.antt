@@ -10,3 +10,11 @@ returns-clause-due c = λ plan t r triggers last ran are.
 
 pub returns-clause-present : goal.returns-clause-present
 returns-clause-present c = λ z plan t r triggers last ran are. c.meet_all.ensures.present z plan t r triggers last ran (subst (λ (list : List Due). AreDue plan t r triggers list) (sym (c.as_mut_slice-dues.ensures.value ∙ c.self.view_is)) are)
+
+pub returns-then-not-is_same-clause-due : goal.returns-then-not-is_same-clause-due
+returns-then-not-is_same-clause-due c = λ plan t r triggers last ran are.
+    let d : length c.meet_in_turn.new.dues ≡ c.self.inside.dues.len = omega arith in
+    subst (λ (list : List Due). AreDue plan t r triggers list) (sym (with_items_is c.self.inside.dues c.meet_in_turn.new.dues d)) (c.meet_in_turn.ensures.due plan t r triggers last ran (subst (λ (list : List Due). AreDue plan t r triggers list) (sym (c.as_mut_slice-dues.ensures.value ∙ c.self.view_is)) are))
+
+pub returns-then-not-is_same-clause-present : goal.returns-then-not-is_same-clause-present
+returns-then-not-is_same-clause-present c = λ z plan t r triggers last ran are. c.meet_in_turn.ensures.present z plan t r triggers last ran (subst (λ (list : List Due). AreDue plan t r triggers list) (sym (c.as_mut_slice-dues.ensures.value ∙ c.self.view_is)) are)

@@ -1,8 +1,9 @@
 use Rattle.std.proofs.Common.{◌≡◌, length, sym, ap, ◌∙◌, subst, arith}
 use Rattle.lft_ir.specs.Parts.{Parts}
-use Rattle.lft_rows.{proofs.PresenceLemmas.Leasts.at_reaction, specs.Presence.Traces.{TraceParts, LeastTag}}
-use Rattle.lft_check.specs.{inner.ByTag.{Needed.{AreNeeded, AreNeededOf}, Least.Lacks}, ByTag.Slices.IsVacant}
-use Rattle.lft_check.proofs.ByTagLemmas.{Needing.needed_all, Begun.vacant_of, Missed.{first_more, first_all, known_reaction}}
+use Rattle.lft_rows.proofs.PresenceLemmas.{Leasts.at_reaction, Needing.needed_all}
+use Rattle.lft_rows.specs.{Presence.Traces.{TraceParts, LeastTag}, inner.Presence.Needed.{AreNeeded, AreNeededOf}}
+use Rattle.lft_check.specs.{inner.ByTag.Least.Lacks, ByTag.Slices.IsVacant}
+use Rattle.lft_check.proofs.ByTagLemmas.{Begun.vacant_of, Missed.{first_more, first_all, known_reaction}}
 use Rattle.lft_check.proofs.by_tag.sliced.Sliced.gap.Goals as goal
 
 pub loop-reaction-preserved : goal.loop-reaction-preserved

@@ -1,9 +1,9 @@
--- Which triggers of a reaction tell where one of all is present. This serves the search for missing runs alone.
+-- Which triggers of a reaction tell where one of all is present.
 use Rattle.std.specs.Prelude.{◌≡◌, ℕ, ◌+◌, ◌*◌, ◌<◌, ◌⊎◌, List, Some, slice_get}
 use Rattle.lft_tag.specs.declared.Tag.{Tag}
 use Rattle.lft_ir.specs.{Parts.Parts, declared.parts.{Timer.Timer as TimerOf, Reaction.Reaction, Trigger.{Trigger, TheVariants.Timer}}}
 use Rattle.lft_model.specs.Presence.{Fires}
-use Rattle.lft_check.specs.declared.by_tag.needed.Beat.{Beat}
+use Rattle.lft_rows.specs.declared.presence.needed.Beat.{Beat}
 
 -- each firing of timer n is one of timer m
 pub record Covers (program : Parts) (m n : ℕ) : Type 0 where

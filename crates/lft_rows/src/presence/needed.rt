@@ -2,8 +2,8 @@
 
 ghost use Rattle.std.specs.Prelude.{◌≡◌, ◌↔◌, ℕ, ◌<◌, length, Some, IsTrue, IfOk, OnOk, slice_get};
 ghost use Rattle.lft_ir.specs.{Sound.IsTriggerOf, declared.parts.Trigger.Trigger as TheTrigger};
-ghost use Rattle.lft_check.specs.declared.by_tag.needed.Beat.{Beat as TheBeat};
-ghost use Rattle.lft_check.specs.inner.ByTag.Needed.{AreNeeded, AreNeededOf, IsMultiple, InStep, IsBeatOf, AreAdded};
+ghost use Rattle.lft_rows.specs.declared.presence.needed.Beat.{Beat as TheBeat};
+ghost use Rattle.lft_rows.specs.inner.Presence.Needed.{AreNeeded, AreNeededOf, IsMultiple, InStep, IsBeatOf, AreAdded};
 
 use lft_ir::{Program, Trigger};
 use lft_lists::item_at;
@@ -106,11 +106,7 @@ fn needed_triggers(
 }
 
 /// Triggers of the reaction that stand for all of its triggers.
-pub(crate) fn needed_of(
-    alloc: Global,
-    program: &Program,
-    reaction: u32,
-) -> Result<Vec<Trigger>, NoMemory>
+pub fn needed_of(alloc: Global, program: &Program, reaction: u32) -> Result<Vec<Trigger>, NoMemory>
     requires { reaction < length program.now.reactions }
     ensures { IfOk result (λ needed. AreNeededOf program.now reaction needed.items) }
 {

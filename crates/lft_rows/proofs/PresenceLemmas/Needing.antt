@@ -3,11 +3,12 @@ use Rattle.std.proofs.Common.{◌≡◌, ℕ, ◌+◌, ◌-◌, ◌*◌, ◌/◌
 use Rattle.std.{specs.List.Sorted.IsPermutation, proofs.lemmas.{List.Sorted.{IsPermutation-sym, Contains-permutation}, Nat.{div-add-mod', mod-mul-add}}}
 use native.Mathlib.Decide.{ℕ_discrete}
 use Rattle.lft_tag.{specs.declared.Tag.Tag, proofs.Chains.tag_of}
-use Rattle.lft_ir.specs.{Parts.Parts, declared.parts.{Timer.Timer as TimerOf, Trigger.{Trigger, TheVariants.Timer}}}
+use Rattle.lft_ir.specs.{Parts.Parts, Sound.{IsSound, IsTriggerOf}, declared.parts.{Timer.Timer as TimerOf, Trigger.{Trigger, TheVariants.Timer}}}
 use Rattle.lft_lists.proofs.Places.{contains_at, at_contains, get_push, get_last, get_push_cases, same_some, same_at}
-use Rattle.lft_model.{specs.Presence.{Fires, Occurs}, proofs.{Firings.{firing, time_of}, Places.slice_get_within}}
-use Rattle.lft_rows.specs.Presence.Traces.{TraceParts}
-use Rattle.lft_check.specs.{declared.by_tag.needed.Beat.Beat, inner.ByTag.Needed.{Covers, StandsFor, AreNeeded, IsMultiple, IsBeatOf, InStep, IsMade, AreAdded}}
+use Rattle.lft_model.{specs.Presence.{Fires, Occurs, Triggered}, proofs.{Firings.{firing, time_of}, Places.slice_get_within}}
+use Rattle.lft_rows.specs.{Presence.Traces.TraceParts, declared.presence.needed.Beat.Beat}
+use Rattle.lft_rows.specs.inner.Presence.Needed.{Covers, StandsFor, AreNeeded, AreNeededOf, IsMultiple, IsBeatOf, InStep, IsMade, AreAdded}
+use Rattle.lft_rows.proofs.PresenceLemmas.Leasts.{trigger_of, triggered_by}
 
 -- what stands for a trigger is present wherever that one is
 pub stands_occurs : (cut : TraceParts) (g : Tag) (y x : Trigger) → StandsFor cut.plan.program y x → Occurs cut.plan cut.rows g x → Occurs cut.plan cut.rows g y
@@ -22,6 +23,14 @@ stands_occurs cut g y x (inr (m, n, e, f, c)) o = subst (λ z. Occurs cut.plan c
 -- all triggers stand for themselves
 pub needed_all : (program : Parts) (xs : List Trigger) → AreNeeded program xs xs
 needed_all program xs = record { only = λ k y e. (k, e); each = λ j x e. (j, x, e, inl refl) }
+
+-- a trigger that is needed is of the program
+pub needed_known : (program : Parts) → IsSound program → (r k : ℕ) (ys : List Trigger) (y : Trigger) → AreNeededOf program r ys → slice_get ys k ≡ Some y → IsTriggerOf program y
+needed_known program sound r k ys y h e = let j = h.2.only k y e in trigger_of program sound r h.0 h.0.triggers j.0 y h.1 refl j.1
+
+-- where it is present, its reaction is triggered
+pub needed_triggers : (cut : TraceParts) (g : Tag) (r k : ℕ) (ys : List Trigger) (y : Trigger) → AreNeededOf cut.plan.program r ys → slice_get ys k ≡ Some y → Occurs cut.plan cut.rows g y → Triggered cut.plan cut.rows g r
+needed_triggers cut g r k ys y h e o = let j = h.2.only k y e in triggered_by cut g r h.0 h.0.triggers j.0 y h.1 refl j.1 o
 
 -- of two beats in step the first makes all firings of the second
 in_step_covers : (program : Parts) (a b : Beat) → IsBeatOf program a → IsBeatOf program b → InStep a b → Covers program a.number b.number

@@ -1,9 +1,9 @@
 use Rattle.std.proofs.Common.{List, Option, Some, ◌+◌, ◌∙◌, refl, sym, ap, subst}
 use Rattle.lft_ir.specs.declared.parts.Trigger.{Trigger}
-use Rattle.lft_check.specs.{declared.by_tag.needed.Beat.Beat, inner.ByTag.Needed.AreAdded}
-use Rattle.lft_check.proofs.ByTagLemmas.Needing.{IsLast, added_stays, added_more, last_more}
-use Rattle.lft_check.proofs.by_tag.needed.add_timers.Goals.{then-not-is_covered+in_ok-push, else-not-is_covered}
-use Rattle.lft_check.proofs.by_tag.needed.add_timers.Goals as goal
+use Rattle.lft_rows.specs.{declared.presence.needed.Beat.Beat, inner.Presence.Needed.AreAdded}
+use Rattle.lft_rows.proofs.PresenceLemmas.Needing.{IsLast, added_stays, added_more, last_more}
+use Rattle.lft_rows.proofs.presence.needed.add_timers.Goals.{then-not-is_covered+in_ok-push, else-not-is_covered}
+use Rattle.lft_rows.proofs.presence.needed.add_timers.Goals as goal
 
 pub loop-place-preserved : goal.loop-place-preserved
 loop-place-preserved c =

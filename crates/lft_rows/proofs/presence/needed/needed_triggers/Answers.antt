@@ -1,9 +1,9 @@
 use Rattle.std.proofs.Common.{List, ◌+◌, ◌++◌, ◌∷◌, [], length, ◌∙◌, sym, ap, subst, arith}
 use Rattle.lft_ir.specs.declared.parts.Trigger.{Trigger, TheVariants.Timer}
-use Rattle.lft_check.specs.{declared.by_tag.needed.Beat.Beat, inner.ByTag.Needed.AreAdded}
-use Rattle.lft_check.proofs.ByTagLemmas.Needing.{AreParted, parted_timer, parted_other, needed_of}
-use Rattle.lft_check.proofs.by_tag.needed.needed_triggers.Goals.{in-Timer+in_ok-push, in_default+in_ok-push-2}
-use Rattle.lft_check.proofs.by_tag.needed.needed_triggers.Goals as goal
+use Rattle.lft_rows.specs.{declared.presence.needed.Beat.Beat, inner.Presence.Needed.AreAdded}
+use Rattle.lft_rows.proofs.PresenceLemmas.Needing.{AreParted, parted_timer, parted_other, needed_of}
+use Rattle.lft_rows.proofs.presence.needed.needed_triggers.Goals.{in-Timer+in_ok-push, in_default+in_ok-push-2}
+use Rattle.lft_rows.proofs.presence.needed.needed_triggers.Goals as goal
 
 pub loop-place-preserved : goal.loop-place-preserved
 loop-place-preserved c =
