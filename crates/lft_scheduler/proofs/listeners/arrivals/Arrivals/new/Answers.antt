@@ -9,7 +9,7 @@ pub push-requires : goal.push-requires
 push-requires c = let s = c.ports.invariant.as_long in let o = origin_known c.args.program.now c.port.ensures.sound c.ports.number c.port.result.now c.port.ensures.value in omega arith
 
 pub ports-init : goal.ports-init
-ports-init c = arriving_start c.args.program.now c.in_ok-lists.lists (let a = c.in_ok-lists.ensures.as_long in let b = c.ports-2.ensures.count in omega arith) c.in_ok-lists.ensures.empty
+ports-init c = arriving_start c.args.program.now c.in_ok-lists.lists (let a = c.in_ok-lists.ensures.long in let b = c.ports-2.ensures.count in omega arith) c.in_ok-lists.ensures.none
 
 pub ports-preserved : goal.ports-preserved
 ports-preserved c =
