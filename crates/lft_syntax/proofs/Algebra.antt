@@ -4,7 +4,7 @@ use Rattle.std.specs.Prelude.{slice_get}
 use Rattle.std.proofs.lemmas.{Option.slice_get_within, Bool.{eqb-true, eq-eqb}, Slice.Eq.bytes_eq-Decides}
 use Rattle.lft_syntax.proofs.Options.{some, some_is}
 use Rattle.lft_syntax.proofs.Begun.{Agree, fewer, Begun, Regular, begun_first, begun_second, both_regular, token_regular, begun_as, as_regular, optional_regular, begun_there, many_regular, begun_item, begun_more, begun_left, begun_right, or_regular, begun_range, range_regular}
-use Rattle.lft_syntax.specs.Lexeme.{Lexeme, Code, Text, Letters, Number, Arrow, Symbol, same}
+use Rattle.lft_syntax.specs.Lexeme.{Lexeme, Code, Text, Letters, Number, Decimal, Arrow, TildeArrow, Symbol, same}
 use Rattle.lft_syntax.specs.Language.{Spelling, look, token, this, one, ◌&◌, ◌>>◌, ◌<<◌, ◌or◌, optional, many, made, ignored, range}
 use Rattle.lft_syntax.specs.inner.Reading.{Reading, ◌>>=◌, seen_at, token_at, both, second, first, apply, maybe, choice, choice_next, many_at, repeated, range_at}
 
@@ -181,17 +181,17 @@ same-true Code Code e = refl
 same-true Text Text e = refl
 same-true (Letters a) (Letters b) e = ap Letters ((bytes_eq-Decides a b).0 e)
 same-true (Number a) (Number b) e = ap Number (eqb-true a b e)
+same-true Decimal Decimal e = refl
 same-true Arrow Arrow e = refl
+same-true TildeArrow TildeArrow e = refl
 same-true (Symbol a) (Symbol b) e = ap Symbol (eqb-true a b e)
 same-true _ _ e = absurd cc
 
 pub same_self : (w : Lexeme) → same w w ≡ true
-same_self Code = refl
-same_self Text = refl
 same_self (Letters x) = (bytes_eq-Decides x x).1 refl
 same_self (Number n) = eq-eqb n n refl
-same_self Arrow = refl
 same_self (Symbol b) = eq-eqb b b refl
+same_self _ = refl
 
 this_self_if : (b : Bool) (w : Lexeme) → same w w ≡ b → ◌≡◌ {A = Option (Unit {0})} (cond b (some tt) None) (Some tt)
 this_self_if true w e = refl

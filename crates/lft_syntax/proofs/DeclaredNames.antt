@@ -5,7 +5,7 @@ use Rattle.std.specs.List.{All, cons_option, filter_map}
 use Rattle.std.proofs.lemmas.List.Elements.{All-nil, All-cons, All-head, All-tail, All-append, All-map, All-get_or}
 use Rattle.std.proofs.lemmas.Option.{slice_get_within, get_or_from_slice_get}
 use Rattle.lft_syntax.specs.{declared.token.Token.Token, Language.{Spelling, look, ◌&◌, ◌>>◌, ◌<<◌, ◌or◌, optional, many, made, ignored}}
-use Rattle.lft_syntax.specs.{Lexeme.{Lexeme, Code, Text, Letters, Number, Arrow, Symbol, is_reserved, name_in}, Lexes.Lexes}
+use Rattle.lft_syntax.specs.{Lexeme.{Lexeme, Letters, is_reserved, name_in}, Lexes.Lexes}
 use Rattle.lft_syntax.specs.Grammar.{Spells, key, symbol, name, typed, input_of, output_of, timer_of, action_of, instance_of, reactor_of, main_of, file_of, port, timer, action, state, preamble, reaction, instance, connection, member, body, reactor, file}
 use Rattle.lft_syntax.specs.View.{lexemes}
 use Rattle.lft_syntax.proofs.Identifiers.{IsWord, words_of_text}
@@ -56,12 +56,8 @@ name_is x y true e h = absurd cc
 name_is x y false e h = let same : x ≡ y = cc in subst IsName same h
 
 name_seen : (w : Lexeme) (x : List ℕ) → name_in w ≡ Some x → IsWord w → IsName x
-name_seen Code x e h = absurd cc
-name_seen Text x e h = absurd cc
 name_seen (Letters y) x e h = name_is y x (is_reserved y) e (IsName-identifier y h)
-name_seen (Number n) x e h = absurd cc
-name_seen Arrow x e h = absurd cc
-name_seen (Symbol b) x e h = absurd cc
+name_seen _ x e h = absurd cc
 
 name_looked : (o : Option Lexeme) (x : List ℕ) → look name_in o ≡ Some x → ((w : Lexeme) → o ≡ Some w → IsWord w) → IsName x
 name_looked None x e words = absurd cc

@@ -1,8 +1,8 @@
 -- The target and the whole file.
 use Rattle.std.proofs.Common.{◌≡◌, ℕ, suc, Bool, true, false, List, Some, None, refl, ap, ◌∙◌, arith}
 use Rattle.std.specs.Prelude.{slice_get, codes}
-use Rattle.lft_syntax.specs.Lexeme.{Lexeme, Letters, Symbol, is}
-use Rattle.lft_syntax.specs.inner.{Tests.{is_there, is_word_of, preamble_keys}, Reading.{maybe, target_at, item_at, items_at, file_at}}
+use Rattle.lft_syntax.specs.Lexeme.{Lexeme, Letters, Symbol, is, is_there}
+use Rattle.lft_syntax.specs.inner.{Tests.{is_word_of, preamble_keys}, Reading.{maybe, target_at, item_at, items_at, file_at}}
 use Rattle.lft_syntax.specs.{Language.{optional, many, ignored}, Grammar.{name, braces, target, item, file, file_of}}
 use Rattle.lft_syntax.proofs.Algebra.{Follow, near, Right, Leads, Any, Test, Starts, Not, starts_one}
 use Rattle.lft_syntax.proofs.Rules.{near_looks, and_if, skip, making, ignoring, this_one, perhaps, leads_many, starts_skip, starts_range, starts_made, starts_or, repeat, choose, taking, same_follow, right_name}

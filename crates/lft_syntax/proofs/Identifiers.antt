@@ -20,7 +20,8 @@ identifier_from (c ∷ cs) some letter words = (letter, All-from_get_or (λ d. i
 plus_zero : (i : ℕ) → i + 0 ≡ i
 plus_zero i = omega arith
 
-range_identifier : (t : List ℕ) (i j : ℕ) → i < j → j ≤ length t → is_letter (slice_index t i) ≡ true → ((k : ℕ) → i ≤ k → k < j → is_word (slice_index t k) ≡ true) → IsIdentifier (slice_range t i j)
+-- letters and digits, the first a letter, are an identifier
+pub range_identifier : (t : List ℕ) (i j : ℕ) → i < j → j ≤ length t → is_letter (slice_index t i) ≡ true → ((k : ℕ) → i ≤ k → k < j → is_word (slice_index t k) ≡ true) → IsIdentifier (slice_range t i j)
 range_identifier t i j order within letter words =
     let long : length (slice_range t i j) ≡ j - i = omega (arith, length-take (j - i) (drop i t), length-drop i t) in
     let byte : (k : ℕ) → k < j - i → get_or (slice_range t i j) k 0 ≡ get_or t (i + k) 0 = λ k lt. get_or-take (j - i) (drop i t) k 0 lt ∙ get_or-drop i t k 0 in

@@ -4,7 +4,7 @@ use Rattle.std.specs.Prelude.{slice_get, ◌||◌}
 use Rattle.std.{specs.Str.bytes_eq, proofs.lemmas.{Slice.Eq.bytes_eq-Decides, Bool.eqb-true}}
 use Rattle.lft_syntax.proofs.{Options.some, Algebra.{Follow, Horizon, near, Known, Refused, Outcome, Right, Any, Test, Starts, starts_token}}
 use Rattle.lft_syntax.proofs.Rules.{starts_by, Here, right_name}
-use Rattle.lft_syntax.specs.Lexeme.{Lexeme, Code, Text, Letters, Number, Arrow, Symbol, is, is_name, is_reserved, is_one_of, negated, name_in, unit_in, unit_of}
+use Rattle.lft_syntax.specs.Lexeme.{Lexeme, Letters, Symbol, is, is_name, is_reserved, is_one_of, negated, name_in, unit_in, unit_of}
 use Rattle.lft_syntax.specs.{inner.{Tests.{is_word_of, is_follower, member_keys, closes_at}, Reading.{seen_at, name_at}}, Language.{Spelling, look}}
 use Rattle.lft_syntax.specs.Grammar.{name}
 use Rattle.lft_tree.specs.declared.tree.TimeUnit.{TimeUnit}
@@ -72,21 +72,12 @@ is_a_name x y true e s = absurd cc
 is_a_name x y false e s = rw e refl
 
 no_name : (o : Option Lexeme) → look name_in o ≡ None → is_name o ≡ false
-no_name None e = refl
-no_name (Some Code) e = refl
-no_name (Some Text) e = refl
 no_name (Some (Letters x)) e = not_name x (is_reserved x) refl e
-no_name (Some (Number n)) e = refl
-no_name (Some Arrow) e = refl
-no_name (Some (Symbol b)) e = refl
+no_name _ e = refl
 
 name_seen : (w : Lexeme) (y : List ℕ) → name_in w ≡ Some y → is_name (Some w) ≡ true
-name_seen Code y e = absurd cc
-name_seen Text y e = absurd cc
 name_seen (Letters x) y e = is_a_name x y (is_reserved x) refl e
-name_seen (Number n) y e = absurd cc
-name_seen Arrow y e = absurd cc
-name_seen (Symbol b) y e = absurd cc
+name_seen _ y e = absurd cc
 
 pub starts_name : Starts name is_name true
 starts_name = starts_token name_in is_name true name_seen
@@ -118,26 +109,16 @@ name_first = record { regular = right_name.regular; at = λ ws i le. name_first_
 -- ---- what ends a member
 
 pub ends_symbol : (b : ℕ) → eqb b 125 ≡ false → (o q : Option Lexeme) → closes_at o q ≡ true → is (Symbol b) o ≡ false
-ends_symbol b e None q h = refl
-ends_symbol b e (Some Code) q h = refl
-ends_symbol b e (Some Text) q h = refl
-ends_symbol b e (Some (Letters x)) q h = refl
-ends_symbol b e (Some (Number n)) q h = refl
-ends_symbol b e (Some Arrow) q h = refl
 ends_symbol b e (Some (Symbol s)) q h = let s-is : s ≡ 125 = eqb-true s 125 h in rw s-is e
+ends_symbol b e _ q h = refl
 
 ends_word_is : (w x : List ℕ) (q : Option Lexeme) → closes_at (Some (Letters w)) q ≡ false → closes_at (Some (Letters x)) q ≡ true → (b : Bool) → bytes_eq w x ≡ b → b ≡ false
 ends_word_is w x q never ends true e = let same_word : w ≡ x = (bytes_eq-Decides w x).0 e in absurd (cc (ap (λ (y : List ℕ). closes_at (Some (Letters y)) q) same_word, never, ends))
 ends_word_is w x q never ends false e = refl
 
 pub ends_word : (w : List ℕ) → ((q : Option Lexeme) → closes_at (Some (Letters w)) q ≡ false) → (o q : Option Lexeme) → closes_at o q ≡ true → is (Letters w) o ≡ false
-ends_word w never None q h = refl
-ends_word w never (Some Code) q h = refl
-ends_word w never (Some Text) q h = refl
 ends_word w never (Some (Letters x)) q h = ends_word_is w x q (never q) h (bytes_eq w x) refl
-ends_word w never (Some (Number n)) q h = refl
-ends_word w never (Some Arrow) q h = refl
-ends_word w never (Some (Symbol s)) q h = refl
+ends_word w never _ q h = refl
 
 abbrev pub AllOf : (List ℕ → Type 0) → List (List ℕ) → Type 0
 AllOf P [] = Unit {0}
@@ -166,26 +147,16 @@ follows_if x q false false e f never h = (rw f refl, h)
 -- a unit that begins a member is a name, and what stands after a member's name stands after it
 pub ends_unit : (o q : Option Lexeme) (u : TimeUnit) → closes_at o q ≡ true → look unit_in o ≡ Some u → (is_name o ≡ true) × (is_follower q ≡ true)
 unfolding NoUnitWord
-ends_unit None q u h e = absurd cc
-ends_unit (Some Code) q u h e = absurd cc
-ends_unit (Some Text) q u h e = absurd cc
 ends_unit (Some (Letters x)) q u h e = follows_if x q (is_one_of member_keys x) (is_reserved x) refl refl (λ t. let none = one_of NoUnitWord member_keys x keys_no_units t in cc (none, e)) h
-ends_unit (Some (Number n)) q u h e = absurd cc
-ends_unit (Some Arrow) q u h e = absurd cc
-ends_unit (Some (Symbol s)) q u h e = absurd cc
+ends_unit _ q u h e = absurd cc
 
 follower_symbol : (s : ℕ) → eqb s 125 ≡ true → (eqb s 61 || eqb s 46 || eqb s 44) ≡ true → ⊥
 follower_symbol s e h = let s-is : s ≡ 125 = eqb-true s 125 e in let f = rw s-is at h in cc f
 
 -- what stands after a member's name ends no member
 pub ends_follower : (o q : Option Lexeme) → closes_at o q ≡ true → is_follower o ≡ true → ⊥
-ends_follower None q h e = cc
-ends_follower (Some Code) q h e = cc
-ends_follower (Some Text) q h e = cc
-ends_follower (Some (Letters x)) q h e = cc
-ends_follower (Some (Number n)) q h e = cc
-ends_follower (Some Arrow) q h e = cc
 ends_follower (Some (Symbol s)) q h e = follower_symbol s h e
+ends_follower _ q h e = cc
 
 -- no member, and no end of a body, begins with this symbol
 pub no_symbol : (b : ℕ) → eqb b 125 ≡ false → (vs : List Lexeme) (m : ℕ) → Ends vs m → is (Symbol b) (slice_get vs m) ≡ false
@@ -197,13 +168,8 @@ bracket_ends vs m h = ap (λ (o : Option Lexeme). closes_at o (slice_get vs (m +
 -- ---- names and other words
 
 name_so_at : (go : Test) (b : Bool) → ((x : List ℕ) → negated (is_reserved x) ≡ true → go (Some (Letters x)) ≡ b) → (o : Option Lexeme) → is_name o ≡ true → go o ≡ b
-name_so_at go b so None e = absurd cc
-name_so_at go b so (Some Code) e = absurd cc
-name_so_at go b so (Some Text) e = absurd cc
 name_so_at go b so (Some (Letters x)) e = so x e
-name_so_at go b so (Some (Number n)) e = absurd cc
-name_so_at go b so (Some Arrow) e = absurd cc
-name_so_at go b so (Some (Symbol s)) e = absurd cc
+name_so_at go b so _ e = absurd cc
 
 -- what begins with a name begins as names do
 pub named : {A : Type 0} {P : Spelling A} (go : Test) (b : Bool) → ((x : List ℕ) → go (Some (Letters x)) ≡ b) → Starts P is_name true → Starts P go b
@@ -230,22 +196,12 @@ no_word w r starts = starts_by (name_so_at (is (Letters w)) false (λ x e. word_
 
 -- one of these words is no name
 pub key_no_name : (ks : List (List ℕ)) → AllOf Reserved ks → (o : Option Lexeme) → is_word_of ks o ≡ true → is_name o ≡ false
-key_no_name ks each None e = refl
-key_no_name ks each (Some Code) e = refl
-key_no_name ks each (Some Text) e = refl
 key_no_name ks each (Some (Letters x)) e = ap negated (one_of Reserved ks x each e)
-key_no_name ks each (Some (Number n)) e = refl
-key_no_name ks each (Some Arrow) e = refl
-key_no_name ks each (Some (Symbol s)) e = refl
+key_no_name ks each _ e = refl
 
 pub word_no_name : (w : List ℕ) → Reserved w → (o : Option Lexeme) → is (Letters w) o ≡ true → is_name o ≡ false
-word_no_name w r None e = refl
-word_no_name w r (Some Code) e = refl
-word_no_name w r (Some Text) e = refl
 word_no_name w r (Some (Letters x)) e = let same_word : w ≡ x = (bytes_eq-Decides w x).0 e in ap negated (subst Reserved same_word r)
-word_no_name w r (Some (Number n)) e = refl
-word_no_name w r (Some Arrow) e = refl
-word_no_name w r (Some (Symbol s)) e = refl
+word_no_name w r _ e = refl
 
 -- where a member begins with a name, one of the four signs follows
 ends_name_at : (x : List ℕ) (q : Option Lexeme) (a b : Bool) → is_one_of member_keys x ≡ a → is_reserved x ≡ b → (a ≡ true → is_reserved x ≡ true) → negated (is_reserved x) ≡ true → cond a true (cond b false (is_follower q)) ≡ true → is_follower q ≡ true
@@ -258,10 +214,5 @@ unfolding is_reserved
 member_reserved = (refl, (refl, (refl, (refl, (refl, (refl, (refl, (refl, (refl, (refl, (refl, tt)))))))))))
 
 pub ends_name : (o q : Option Lexeme) → is_name o ≡ true → closes_at o q ≡ true → is_follower q ≡ true
-ends_name None q e h = absurd cc
-ends_name (Some Code) q e h = absurd cc
-ends_name (Some Text) q e h = absurd cc
 ends_name (Some (Letters x)) q e h = ends_name_at x q (is_one_of member_keys x) (is_reserved x) refl refl (one_of Reserved member_keys x member_reserved) e h
-ends_name (Some (Number n)) q e h = absurd cc
-ends_name (Some Arrow) q e h = absurd cc
-ends_name (Some (Symbol s)) q e h = absurd cc
+ends_name _ q e h = absurd cc

@@ -2,9 +2,8 @@
 use Rattle.std.proofs.Common.{◌≡◌, ℕ, zero, suc, ◌+◌, ◌≤◌, ◌<◌, true, false, List, [], ◌∷◌, ◌++◌, length, None, Result, Ok, Err, refl, sym, ap, subst, ◌∙◌, append_assoc, arith, inl, inr}
 use Rattle.std.specs.Prelude.{slice_get}
 use Rattle.std.proofs.lemmas.{List.append-nil, Option.slice_get_cases}
-use Rattle.lft_syntax.specs.{declared.parse_error.ParseError.ParseError, Lexeme.Lexeme}
-use Rattle.lft_syntax.specs.inner.{Tests.is_there, View.{Fails, at_next}, Reading.{Reading, ◌>>=◌, many_at, repeated, with_front, ignoring_at}}
-use Rattle.lft_syntax.specs.Language.{Spelling}
+use Rattle.lft_syntax.specs.{declared.parse_error.ParseError.ParseError, Lexeme.{Lexeme, is_there}}
+use Rattle.lft_syntax.specs.{inner.{View.{Fails, at_next}, Reading.{Reading, ◌>>=◌, many_at, repeated, with_front, ignoring_at}}, Language.Spelling}
 use Rattle.lft_syntax.proofs.Algebra.{Follow, Horizon, Right, Known, Outcome, Test}
 use Rattle.lft_syntax.specs.declared.parse_error.ParseError.TheVariants as errors
 

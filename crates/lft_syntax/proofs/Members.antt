@@ -1,7 +1,7 @@
 -- Members of a reactor.
 use Rattle.std.proofs.Common.{◌≡◌, ℕ, ◌+◌, ◌≤◌, Bool, true, false, List, [], ◌∷◌, Option, Some, None, refl, subst, arith, inl, inr}
 use Rattle.std.specs.Prelude.{slice_get, codes}
-use Rattle.lft_syntax.specs.Lexeme.{Lexeme, Code, Text, Letters, Number, Arrow, Symbol, is, is_name, is_reserved, is_one_of, negated}
+use Rattle.lft_syntax.specs.Lexeme.{Lexeme, Letters, Arrow, Symbol, is, is_name, is_reserved, is_one_of, negated}
 use Rattle.lft_syntax.specs.inner.Tests.{is_word_of, is_follower, port_keys, action_keys, preamble_keys, member_keys, closes_at}
 use Rattle.lft_syntax.specs.inner.Reading.{Reading, apply, choice, choice_next, instance_at, connection_at, member_at, is_inside, members_at}
 use Rattle.lft_syntax.specs.Language.{Spelling, one, ◌&◌, ◌>>◌, ◌<<◌, ◌or◌, optional, many, made}
@@ -170,13 +170,8 @@ right_member =
 -- ---- the members of a body
 
 shut_no_name : (o : Option Lexeme) → is_inside o ≡ false → is_name o ≡ false
-shut_no_name None e = refl
-shut_no_name (Some Code) e = refl
-shut_no_name (Some Text) e = refl
 shut_no_name (Some (Letters x)) e = absurd cc
-shut_no_name (Some (Number n)) e = refl
-shut_no_name (Some Arrow) e = refl
-shut_no_name (Some (Symbol b)) e = refl
+shut_no_name _ e = refl
 
 pub starts_member : Starts member is_inside true
 starts_member = from_port is_inside true (named is_inside true (λ x. refl) starts_others) refl refl refl refl refl refl refl refl refl refl refl
@@ -187,26 +182,16 @@ name_closes_with x q false true e f n h = absurd cc
 name_closes_with x q false false e f n h = rw (e, f, h) refl
 
 name_closes : (o q : Option Lexeme) → is_name o ≡ true → is_follower q ≡ true → closes_at o q ≡ true
-name_closes None q e h = absurd cc
-name_closes (Some Code) q e h = absurd cc
-name_closes (Some Text) q e h = absurd cc
 name_closes (Some (Letters x)) q e h = name_closes_with x q (is_one_of member_keys x) (is_reserved x) refl refl e h
-name_closes (Some (Number n)) q e h = absurd cc
-name_closes (Some Arrow) q e h = absurd cc
-name_closes (Some (Symbol b)) q e h = absurd cc
+name_closes _ q e h = absurd cc
 
 others_end : (vs : List Lexeme) (i j : ℕ) (x : MemberTree) → others vs i j x → Ends vs i
 others_end vs i j x s = name_closes (slice_get vs i) (slice_get vs (i + 1)) (starts_others.at vs i j x s)
     (elim s [ inl p ↦ (next_instance is_follower true refl).at vs i j x p | inr q ↦ (next_connection is_follower true refl refl refl).at vs i j x q ])
 
 key_closes : (o q : Option Lexeme) → is_word_of member_keys o ≡ true → closes_at o q ≡ true
-key_closes None q e = absurd cc
-key_closes (Some Code) q e = absurd cc
-key_closes (Some Text) q e = absurd cc
 key_closes (Some (Letters x)) q e = rw e refl
-key_closes (Some (Number n)) q e = absurd cc
-key_closes (Some Arrow) q e = absurd cc
-key_closes (Some (Symbol b)) q e = absurd cc
+key_closes _ q e = absurd cc
 
 -- a member that begins with one of its words
 keyed : {P : Spelling MemberTree} → Starts P (is_word_of member_keys) true → (vs : List Lexeme) (i j : ℕ) (x : MemberTree) → P vs i j x → Ends vs i

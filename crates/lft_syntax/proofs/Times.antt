@@ -6,7 +6,7 @@ use Rattle.lft_syntax.proofs.{Options.{some, some_is}, Begun.{Agree, Regular, be
 use Rattle.lft_syntax.proofs.Algebra.{Follow, Horizon, near, Known, Refused, Outcome, Right, Any, Starts, right_token, starts_token, starts_one, same-true, pair}
 use Rattle.lft_syntax.proofs.Rules.{near_looks, making, this_one, Here, starts_and, starts_made, starts_or, starts_by, choose, ended, right_name, right_number}
 use Rattle.lft_syntax.proofs.Lookahead.{far, Ends, far_looks, far_two, ends_unit, ends_follower, starts_name, named}
-use Rattle.lft_syntax.specs.Lexeme.{Lexeme, Code, Text, Letters, Number, Arrow, Symbol, is_name, same, name_in, number_in, unit_in, unit_of}
+use Rattle.lft_syntax.specs.Lexeme.{Lexeme, Letters, Number, Symbol, is_name, same, name_in, number_in, unit_in, unit_of}
 use Rattle.lft_syntax.specs.inner.Tests.{is_number, is_follower}
 use Rattle.lft_syntax.specs.inner.Reading.{◌>>=◌, seen_at, token_at, time_from, time_at, delay_at, ptime_at, pdelay_at, is_open}
 use Rattle.lft_syntax.specs.{Language.{look, this, one, ◌&◌, made}, Grammar.{name, number, unit, time, ptime, counted, zero_time}}
@@ -31,11 +31,7 @@ zero_there (Some w) x e = zero_if w x (same (Number 0) w) refl e
 
 zero_seen : (w : Lexeme) → number_in w ≡ Some 0 → look (this (Number 0)) (Some w) ≡ Some tt
 zero_seen (Number n) e = let is_n : n ≡ 0 = cc in rw is_n refl
-zero_seen Code e = absurd cc
-zero_seen Text e = absurd cc
-zero_seen (Letters x) e = absurd cc
-zero_seen Arrow e = absurd cc
-zero_seen (Symbol b) e = absurd cc
+zero_seen _ e = absurd cc
 
 there_zero : (o : Option Lexeme) → look number_in o ≡ Some 0 → look (this (Number 0)) o ≡ Some tt
 there_zero None e = absurd cc
@@ -150,11 +146,7 @@ right_time = record { regular = time_regular; at = λ ws i le. time_number ws i 
 
 pub number_starts : (w : Lexeme) (n : ℕ) → number_in w ≡ Some n → is_number (Some w) ≡ true
 number_starts (Number k) n e = refl
-number_starts Code n e = absurd cc
-number_starts Text n e = absurd cc
-number_starts (Letters x) n e = absurd cc
-number_starts Arrow n e = absurd cc
-number_starts (Symbol b) n e = absurd cc
+number_starts _ n e = absurd cc
 
 pub starts_time : Starts time is_number true
 starts_time = starts_or (starts_made counted (starts_and unit (starts_token number_in is_number true number_starts))) (starts_made zero_time (starts_one (Number 0) is_number true refl))
@@ -212,11 +204,7 @@ right_delay = record { regular = time_regular; at = λ ws i le. delay_number ws 
 
 name_no_number : (w : Lexeme) (x : List ℕ) → name_in w ≡ Some x → is_number (Some w) ≡ false
 name_no_number (Letters y) x e = refl
-name_no_number Code x e = absurd cc
-name_no_number Text x e = absurd cc
-name_no_number (Number n) x e = absurd cc
-name_no_number Arrow x e = absurd cc
-name_no_number (Symbol b) x e = absurd cc
+name_no_number _ x e = absurd cc
 
 starts_written : Starts (made Written time) is_number true
 starts_written = starts_made Written starts_time
@@ -233,13 +221,8 @@ unfolding pdelay_at
 right_pdelay = choose is_number starts_written starts_named (making Written right_delay) (ended Ends far 1 (λ vs i h. tt) far_looks (omega arith) (making Named right_name))
 
 number_open : (o : Option Lexeme) → is_number o ≡ true → is_open o ≡ true
-number_open None e = refl
-number_open (Some Code) e = refl
-number_open (Some Text) e = refl
-number_open (Some (Letters x)) e = refl
-number_open (Some (Number n)) e = refl
-number_open (Some Arrow) e = refl
 number_open (Some (Symbol b)) e = absurd cc
+number_open _ e = refl
 
 pub starts_ptime : Starts ptime is_open true
 starts_ptime = starts_or (starts_by number_open starts_written) (starts_made Named (named is_open true (λ x. refl) starts_name))

@@ -1,12 +1,12 @@
 -- What is known of the tokens of a text.
-use Rattle.std.proofs.Common.{◌≡◌, ℕ, ◌+◌, ◌-◌, ◌<◌, ◌≤◌, true, List, length, get_or, drop, Some, None, IsAscii, sym, ap, subst, ◌∙◌, arith, length-take, length-drop}
+use Rattle.std.proofs.Common.{◌≡◌, ℕ, ◌+◌, ◌-◌, ◌<◌, ◌≤◌, true, List, length, get_or, drop, Some, None, IsAscii, refl, sym, ap, subst, ◌∙◌, arith, length-take, length-drop}
 use Rattle.std.specs.Prelude.{slice_get, slice_index, slice_range}
 use Rattle.std.specs.List.{All}
 use Rattle.std.proofs.lemmas.{List.{get_or-take, get_or-drop, Elements.{All-nil, All-cons, All-get_or}}, Option.{slice_get_within, get_or_from_slice_get}}
 use Rattle.std.proofs.lemmas.{Str.Ascii.IsAscii-from_reads, Bool.Decides.nat_tests}
 use Rattle.lft_syntax.specs.declared.token.{Token.Token, TokenKind.TokenKind}
 use Rattle.lft_syntax.specs.declared.form.Form.{Form, TheVariants.{Space, LineComment, StarComment, Code, Text, Name, Digits, Arrow, Symbol, Unknown}}
-use Rattle.lft_syntax.specs.Lexes.{Run, form_of, Reads, Piece, Cut, done, piece, Lexes}
+use Rattle.lft_syntax.specs.{inner.Seen.OfLetters, View.lexeme_from, Lexes.{Run, form_of, Reads, Piece, Cut, done, piece, Lexes}}
 use Rattle.lft_syntax.proofs.Pieces.{Begins, begins, read_there, piece_further, piece_within}
 use Rattle.lft_lists.specs.Bytes.{is_letter, is_word}
 use Rattle.lft_syntax.specs.declared.token.TokenKind.TheVariants as kinds
@@ -17,6 +17,11 @@ pub record InText (t : List ℕ) (k : Token) : Type 0 where
   pub within : k.end ≤ length t
   pub first : k.kind ≡ kinds.Name → is_letter (slice_index t k.start) ≡ true
   pub letters : k.kind ≡ kinds.Name → (j : ℕ) → k.start ≤ j → j < k.end → is_word (slice_index t j) ≡ true
+
+-- the letters of a token are such, if those of a name are
+pub letters_of : (P : List ℕ → Type 0) (kind : TokenKind) (bytes : List ℕ) → (kind ≡ kinds.Name → P bytes) → OfLetters P (lexeme_from kind bytes)
+letters_of P kinds.Name bytes are = are refl
+letters_of P _ bytes are = tt
 
 named : (t : List ℕ) (i b : ℕ) (f : Form) (j : ℕ) (kind : TokenKind) → Reads t i b f j (Some kind) → kind ≡ kinds.Name → Run is_word t i j
 named t i b Space j kind r e = let n = r.1 in cc

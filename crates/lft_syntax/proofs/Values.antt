@@ -7,7 +7,7 @@ use Rattle.lft_syntax.proofs.Algebra.{near, Outcome, Right, Any, Test, Starts, N
 use Rattle.lft_syntax.proofs.Rules.{near_looks, skip, skip_if, ignoring, this_one, perhaps, perhaps_to, here, leads_ignored, leads_optional, starts_skip, starts_ignored, starts_or, starts_either, repeat, choose, ended, same_follow, right_name, right_number}
 use Rattle.lft_syntax.proofs.Groups.{right_group}
 use Rattle.lft_syntax.proofs.Lookahead.{far, past_name, Ends, far_looks, far_past, far_two, past_two, no_symbol, ends_follower, name_first, starts_name, named, ends_name}
-use Rattle.lft_syntax.specs.Lexeme.{Lexeme, Code, Text, Letters, Number, Arrow, Symbol, is, is_name, same, number_in}
+use Rattle.lft_syntax.specs.Lexeme.{Lexeme, Code, Text, Letters, Number, Symbol, is, is_name, same, number_in}
 use Rattle.lft_syntax.specs.inner.Tests.{is_follower}
 use Rattle.lft_syntax.specs.inner.Reading.{Reading, ◌>>=◌, maybe_suffix, braces_at, brackets_at, parentheses_at, signed_at, suffix_at, quantity_at, is_sign, dot_name_at, dot_names_at, path_at, value_at}
 use Rattle.lft_syntax.specs.Language.{Spelling, ◌>>◌, ◌or◌, optional, many, ignored, group}
@@ -136,11 +136,7 @@ right_maybe_suffix = record { regular = optional_regular right_suffix.regular; a
 
 number_so_in : (go : Test) (b : Bool) → ((n : ℕ) → go (Some (Number n)) ≡ b) → (w : Lexeme) (n : ℕ) → number_in w ≡ Some n → go (Some w) ≡ b
 number_so_in go b so (Number k) n e = so k
-number_so_in go b so Code n e = absurd cc
-number_so_in go b so Text n e = absurd cc
-number_so_in go b so (Letters x) n e = absurd cc
-number_so_in go b so Arrow n e = absurd cc
-number_so_in go b so (Symbol s) n e = absurd cc
+number_so_in go b so _ n e = absurd cc
 
 pub starts_number : (go : Test) (b : Bool) → ((n : ℕ) → go (Some (Number n)) ≡ b) → Starts number go b
 starts_number go b so = starts_token number_in go b (number_so_in go b so)

@@ -2,8 +2,8 @@
 use Rattle.std.proofs.Common.{◌≡◌, ℕ, zero, suc, ◌+◌, ◌≤◌, ◌<◌, Bool, true, false, List, [], ◌∷◌, ◌++◌, length, length-take-le, take, take-append-drop, drop, Option, Result, Ok, Err, refl, sym, ap, subst, ◌∙◌, arith, cond, inl, inr}
 use Rattle.std.specs.Prelude.{slice_get, codes}
 use Rattle.std.proofs.lemmas.Option.{slice_get_cases, slice_get_past}
-use Rattle.lft_syntax.specs.{declared.fault.SyntaxFault.SyntaxFault, Lexeme.{Lexeme, Letters, is}}
-use Rattle.lft_syntax.specs.inner.{Tests.is_there, Reading.{Reading, ◌>>=◌, maybe, many_at, target_at, item_at, items_at, file_at, whole_at}}
+use Rattle.lft_syntax.specs.{declared.fault.SyntaxFault.SyntaxFault, Lexeme.{Lexeme, Letters, is, is_there}}
+use Rattle.lft_syntax.specs.inner.Reading.{Reading, ◌>>=◌, maybe, many_at, target_at, item_at, items_at, file_at, whole_at}
 use Rattle.lft_syntax.specs.Grammar.{file, file_of, Spells, BeginsTree}
 use Rattle.lft_syntax.proofs.{Options.some_is, Begun.{Agree, Begun}, Algebra.{near, Outcome, Test}, Files.{AtEnd, right_file}}
 use Rattle.lft_tree.specs.{declared.ast.Ast.Ast, Tree.{FileTree, ItemTree, Range}}

@@ -1,16 +1,18 @@
--- What a token is to the grammar.
+-- What a token is to a grammar.
 use Rattle.std.specs.Prelude.{ℕ, List, [], ◌∷◌, codes, Bool, true, false, Option, Some, None, nat_eq, ◌||◌, if◌then◌else◌}
 use Rattle.std.specs.Str.{bytes_eq}
 use Rattle.lft_tree.specs.declared.tree.TimeUnit.{TimeUnit}
 use Rattle.lft_tree.specs.declared.tree.TimeUnit.TheVariants as units
 
--- a name or a reserved word is seen as its letters
+-- a name or a reserved word is seen as its letters; only whole texts have decimal numbers and ~>
 pub data Lexeme : Type 0 where
   Code : Lexeme
   Text : Lexeme
   Letters : List ℕ → Lexeme
   Number : ℕ → Lexeme
+  Decimal : Lexeme
   Arrow : Lexeme
+  TildeArrow : Lexeme
   Symbol : ℕ → Lexeme
 
 -- whether two are equal
@@ -19,7 +21,9 @@ same Code Code = true
 same Text Text = true
 same (Letters a) (Letters b) = bytes_eq a b
 same (Number a) (Number b) = nat_eq a b
+same Decimal Decimal = true
 same Arrow Arrow = true
+same TildeArrow TildeArrow = true
 same (Symbol a) (Symbol b) = nat_eq a b
 same _ _ = false
 
@@ -45,15 +49,19 @@ unit_of name =
     else if is_one_of (codes "week" ∷ codes "weeks" ∷ []) name then Some units.Week
     else None
 
--- what is seen in one token
+-- ---- what is seen in one token
+
+-- a word that isn't reserved
 abbrev pub name_in : Lexeme → Option (List ℕ)
 name_in (Letters x) = if is_reserved x then None else Some x
 name_in _ = None
 
+-- the value of a number
 abbrev pub number_in : Lexeme → Option ℕ
 number_in (Number n) = Some n
 number_in _ = None
 
+-- the unit that a word names
 abbrev pub unit_in : Lexeme → Option TimeUnit
 unit_in (Letters x) = unit_of x
 unit_in _ = None
@@ -68,6 +76,11 @@ negated false = true
 abbrev pub is : Lexeme → Option Lexeme → Bool
 is w None = false
 is w (Some v) = same w v
+
+-- whether any token stands there
+abbrev pub is_there : Option Lexeme → Bool
+is_there None = false
+is_there (Some w) = true
 
 abbrev pub is_name : Option Lexeme → Bool
 is_name (Some (Letters x)) = negated (is_reserved x)

@@ -1,6 +1,6 @@
 #![tactic(auto)]
-//! Core texts: their tokens, and the tree that these spell. The calls on bytes and words serve other readers of
-//! texts.
+//! Core texts: their tokens, and the tree that these spell. The calls on bytes and words, and what a token is and
+//! what is seen of it, serve other readers of texts.
 //!
 //! A text has at most one cutting into tokens, and tokens have at most one tree. `parse` tells the first token
 //! with which no tree goes on. `can_stand` decides the same of any token at any place.
@@ -22,6 +22,6 @@ pub use lft_tree::{
     Action, Assignment, Ast, Connection, Instance, Item, Member, Parameter, Port, Reaction,
     Reactor, Reference, Time, TimeExpression, TimeUnit, Timer, TokenRange, Trigger,
 };
-pub use parser::{can_stand, is_reserved_word, parse, unit_named};
+pub use parser::{can_stand, is_reserved_word, parse, text_of, unit_named};
 pub use piece::{digits_end, line_end, word_end};
 pub use token::{Token, TokenKind, Tokens};

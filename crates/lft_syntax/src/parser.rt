@@ -25,7 +25,7 @@ use crate::input::{Input, Seen};
 use crate::parse_error::ParseError;
 use crate::token::{Token, TokenKind, Tokens};
 use lft_tree::Ast;
-pub use names::is_reserved_word;
+pub use names::{is_reserved_word, text_of};
 use std::alloc::{AllocError, Global};
 pub use times::unit_named;
 
@@ -65,7 +65,9 @@ fn kind_and_letters<'a>(token: Seen<'a>) -> (TokenKind, &'a [u8])
         Seen::Text => (TokenKind::Text, b""),
         Seen::Letters(letters) => (TokenKind::Name, letters),
         Seen::Number(number) => (TokenKind::Number(number), b""),
+        Seen::Decimal => (TokenKind::Decimal, b""),
         Seen::Arrow => (TokenKind::Arrow, b""),
+        Seen::TildeArrow => (TokenKind::TildeArrow, b""),
         Seen::Symbol(byte) => (TokenKind::Symbol(byte), b""),
     }
 }

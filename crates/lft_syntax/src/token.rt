@@ -2,14 +2,24 @@
 
 use std::marker::Model;
 
-/// What a token is. A number and a symbol's byte are kept, the rest is read from the text.
+/// What a token is. A number and a symbol's byte are kept, the rest is read from the text. A core text has no
+/// decimal numbers and no `~>`.
 #[derive(Clone, Copy, Debug, PartialEq, Eq)]
 pub enum TokenKind {
+    /// From `{=` to `=}`.
     Code,
+    /// A string; in a whole text also a character.
     Text,
+    /// A word, reserved or not.
     Name,
+    /// A whole number. In a whole text one from 2^64 on counts as 2^64 - 1.
     Number(u64),
+    /// A number with a point or an exponent.
+    Decimal,
+    /// `->`
     Arrow,
+    /// `~>`
+    TildeArrow,
     Symbol(u8),
 }
 
@@ -40,7 +50,7 @@ impl Tokens {
     ghost use Rattle.std.specs.Prelude.{◌≡◌};
 
     /// The list of these tokens. It takes no memory.
-    pub(crate) fn from_vec(items: Vec<Token>) -> Tokens
+    pub fn from_vec(items: Vec<Token>) -> Tokens
         ensures { result ≡ items.items }
     {
         Tokens { items }

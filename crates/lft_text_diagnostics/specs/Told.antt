@@ -25,10 +25,7 @@ spelled bytes = if nat_lt 40 (length bytes) then codes "this" else codes "`" ++ 
 abbrev pub token_words : TokenKind → List ℕ → List ℕ
 token_words kind.Code bytes = codes "this code"
 token_words kind.Text bytes = codes "this string"
-token_words kind.Name bytes = spelled bytes
-token_words (kind.Number n) bytes = spelled bytes
-token_words kind.Arrow bytes = spelled bytes
-token_words (kind.Symbol sign) bytes = spelled bytes
+token_words _ bytes = spelled bytes
 
 -- What is wrong at some bytes.
 abbrev pub why_words : Why → List ℕ → List ℕ

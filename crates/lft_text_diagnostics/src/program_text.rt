@@ -76,9 +76,7 @@ fn push_token(
             out.push_str("this string")?;
             Ok(())
         }
-        TokenKind::Name | TokenKind::Number(_) | TokenKind::Arrow | TokenKind::Symbol(_) => {
-            push_spelled(alloc, out, spelling)
-        }
+        _ => push_spelled(alloc, out, spelling),
     }
 }
 

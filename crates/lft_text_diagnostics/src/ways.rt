@@ -66,7 +66,7 @@ pub(crate) fn of_token(kind: TokenKind, spelling: &[u8]) -> Option<&'static str>
     match kind {
         TokenKind::Name => of_word(spelling),
         TokenKind::Symbol(sign) => of_sign(sign),
-        TokenKind::Code | TokenKind::Text | TokenKind::Number(_) | TokenKind::Arrow => None,
+        _ => None,
     }
 }
 

@@ -3,7 +3,8 @@ use Rattle.std.proofs.Common.{◌≡◌, ℕ, ◌<◌, ◌≤◌, List, [], ◌�
 use Rattle.std.specs.Prelude.{slice_get}
 use Rattle.std.specs.{List.All, Slice.IsItemAt}
 use Rattle.std.proofs.lemmas.{List.Elements.{All-nil, All-cons, All-get_or}, Option.{slice_get_within, get_or_from_slice_get, slice_get-get_or}}
-use Rattle.lft_whole.specs.{declared.token.Token.Token, inner.Tokens.{IsToken, StandBetween, AreTokens, EachIsToken}}
+use Rattle.lft_syntax.specs.declared.token.Token.{Token}
+use Rattle.lft_whole.specs.inner.Tokens.{IsToken, StandBetween, AreTokens, EachIsToken}
 
 -- white space and remarks stand behind them
 pub between_blank : (text : List ℕ) (i : ℕ) (tokens : List Token) (j k : ℕ) → j ≤ k → StandBetween text i tokens j → StandBetween text i tokens k

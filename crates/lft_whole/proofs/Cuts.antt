@@ -2,8 +2,8 @@
 use Rattle.std.proofs.Common.{◌≡◌, ℕ, zero, suc, ◌+◌, ◌<◌, ◌≤◌, true, false, List, [], ◌∷◌, ◌++◌, length, Option, Some, None, Result, Ok, Err, refl, sym, ap, ◌∙◌, append_assoc, arith}
 use Rattle.std.specs.Prelude.{nat_le}
 use Rattle.std.proofs.lemmas.List.{append-nil}
-use Rattle.lft_whole.specs.declared.{token.{Token.Token, TokenKind.TokenKind}, fault.TextFault.TextFault}
-use Rattle.lft_whole.specs.Pieces.{Piece, in_front, go_on, piece_at, tokens_within, tokens_of}
+use Rattle.lft_syntax.specs.declared.token.{Token.Token, TokenKind.TokenKind}
+use Rattle.lft_whole.specs.{declared.fault.TextFault.TextFault, Pieces.{Piece, in_front, go_on, piece_at, tokens_within, tokens_of}}
 use Rattle.lft_whole.specs.declared.fault.TextFault.TheVariants as faults
 
 abbrev pub Lexed : Type 0

@@ -1,26 +1,11 @@
 -- Names among the pieces of a text, and their bytes.
-use Rattle.std.proofs.Common.{◌≡◌, ℕ, suc, ◌+◌, ◌-◌, ◌<◌, ◌≤◌, true, false, List, [], ◌∷◌, length, get_or, drop, IsAscii, ◌⊎◌, inl, inr, refl, sym, subst, ap, ◌∙◌, arith, length-take, length-drop}
+use Rattle.std.proofs.Common.{◌≡◌, ℕ, ◌<◌, ◌≤◌, true, false, List, [], ◌∷◌, length, IsAscii, ◌⊎◌, inl, inr, subst, arith}
 use Rattle.std.specs.Prelude.{slice_index, slice_range}
 use Rattle.std.specs.List.{All}
-use Rattle.std.proofs.lemmas.{List.{get_or-take, get_or-drop, Elements.{All-cons, All-from_get_or, All-get_or, All-weaker}}, Str.Ascii.IsAscii-from_reads}
-use Rattle.std.proofs.lemmas.Bool.{cases_lt, Decides.nat_tests}
+use Rattle.std.proofs.lemmas.{List.Elements.{All-cons, All-get_or, All-weaker}, Str.Ascii.IsAscii-from_reads, Bool.{cases_lt, Decides.nat_tests}}
 use Rattle.lft_lists.specs.Bytes.{is_letter, is_word}
-use Rattle.lft_syntax.{proofs.TokenFacts.word_ascii, specs.Lexes.Run}
+use Rattle.lft_syntax.{proofs.{Identifiers.range_identifier, TokenFacts.word_ascii}, specs.Lexes.Run}
 use Rattle.lft_tree.specs.Identifiers.{IsIdentifier}
-
-identifier_from : (xs : List ℕ) → 0 < length xs → is_letter (get_or xs 0 0) ≡ true → ((k : ℕ) → k < length xs → is_word (get_or xs k 0) ≡ true) → IsIdentifier xs
-identifier_from [] some letter words = absurd (omega arith)
-identifier_from (c ∷ cs) some letter words = (letter, All-from_get_or (λ d. is_word d ≡ true) cs 0 (λ k lt. words (suc k) (omega arith)))
-
-plus_zero : (i : ℕ) → i + 0 ≡ i
-plus_zero i = omega arith
-
-range_identifier : (t : List ℕ) (i j : ℕ) → i < j → j ≤ length t → is_letter (slice_index t i) ≡ true → ((k : ℕ) → i ≤ k → k < j → is_word (slice_index t k) ≡ true) → IsIdentifier (slice_range t i j)
-range_identifier t i j order within letter words =
-    let long : length (slice_range t i j) ≡ j - i = omega (arith, length-take (j - i) (drop i t), length-drop i t) in
-    let byte : (k : ℕ) → k < j - i → get_or (slice_range t i j) k 0 ≡ get_or t (i + k) 0 = λ k lt. get_or-take (j - i) (drop i t) k 0 lt ∙ get_or-drop i t k 0 in
-    identifier_from (slice_range t i j) (omega (arith, long)) (ap is_letter (byte 0 (omega arith)) ∙ ap (λ n. is_letter (slice_index t n)) (plus_zero i) ∙ letter)
-    (λ k lt. ap is_word (byte k (omega (arith, long))) ∙ words (i + k) (omega arith) (omega (arith, long)))
 
 letter_word : (b : ℕ) → is_letter b ≡ true → is_word b ≡ false → ⊥
 letter_word b h n = grind (arith, nat_tests)

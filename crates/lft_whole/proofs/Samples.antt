@@ -1,7 +1,7 @@
 -- What is read of some texts, as a check of the definitions.
 use Rattle.std.proofs.Common.{◌≡◌, ℕ, List, [], ◌∷◌, Result, Ok, Err, refl}
 use Rattle.std.specs.Prelude.{codes}
-use Rattle.lft_whole.specs.declared.token.{Token.Token, TokenKind.{TokenKind, TheVariants.{Code, Text, Name, Number, Decimal, Arrow, Symbol}}}
+use Rattle.lft_syntax.specs.declared.token.{Token.Token, TokenKind.{TokenKind, TheVariants.{Code, Text, Name, Number, Decimal, Arrow, Symbol}}}
 use Rattle.lft_whole.specs.declared.fault.TextFault.{TextFault, TheVariants.BadText}
 use Rattle.lft_whole.specs.Pieces.{first, run_end, is_escaped, code_within, past_exponent, past_decimal, whole_number, number_at, symbol_at, characters_at, quote_at, string_end, piece_at, tokens_within, tokens_of}
 

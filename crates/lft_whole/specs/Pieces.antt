@@ -3,8 +3,9 @@
 use Rattle.std.specs.Prelude.{ℕ, zero, suc, ◌+◌, ◌-◌, ◌*◌, ◌^◌, min, List, ◌∷◌, length, slice_get, slice_index, slice_range, Option, Some, None, is_some, Result, Ok, Err, Bool, if◌then◌else◌, true, false, not, ◌&&◌, ◌||◌, nat_le, nat_lt, codes, []}
 use Rattle.std.specs.{List.fold, Option.option_map}
 use Rattle.lft_lists.specs.Bytes.{within, is_in_line, is_digit, is_letter, is_word, is_byte}
-use Rattle.lft_whole.specs.{Forms.{is_gap, is_hexadecimal}, declared.{token.{Token.Token, TokenKind.TokenKind}, fault.TextFault.TextFault}}
-use Rattle.lft_whole.specs.declared.token.TokenKind.TheVariants as kinds
+use Rattle.lft_syntax.specs.declared.token.{Token.Token, TokenKind.TokenKind}
+use Rattle.lft_whole.specs.{Forms.{is_gap, is_hexadecimal}, declared.fault.TextFault.TextFault}
+use Rattle.lft_syntax.specs.declared.token.TokenKind.TheVariants as kinds
 use Rattle.lft_whole.specs.declared.fault.TextFault.TheVariants as faults
 
 -- ---- what stands at a place

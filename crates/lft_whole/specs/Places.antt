@@ -1,6 +1,7 @@
 -- The places of tokens.
 use Rattle.std.specs.Prelude.{ℕ, ◌<◌, ◌≤◌, List, length}
-use Rattle.lft_whole.specs.declared.{token.Token.Token, fault.TreeFault.TreeFault}
+use Rattle.lft_syntax.specs.declared.token.Token.{Token}
+use Rattle.lft_whole.specs.declared.fault.TreeFault.{TreeFault}
 use Rattle.lft_whole.specs.declared.fault.TreeFault.TheVariants as faults
 
 -- the fault is of one of these tokens, or of their end

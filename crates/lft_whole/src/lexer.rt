@@ -6,7 +6,7 @@ ghost use Rattle.lft_whole.specs.declared.fault.TextFault.TheVariants.{BadText};
 
 use crate::fault::TextFault;
 use crate::piece::piece;
-use crate::token::{Token, TokenKind, Tokens};
+use lft_syntax::{Token, TokenKind, Tokens};
 use std::alloc::Global;
 
 /// The kind of the piece that begins at a place, if it is a token, and where it ends.

@@ -12,13 +12,12 @@ pub mod parts;
 mod piece;
 mod quotes;
 pub mod sources;
-mod token;
 mod tree;
 
 pub use fault::{TextFault, TreeFault};
 pub use lexer::lex;
+pub use lft_syntax::{Token, TokenKind, Tokens};
 pub use lft_tree::{Time, TimeUnit};
-pub use token::{Token, TokenKind, Tokens};
 pub use tree::{
     Action, Assignment, Connection, Count, Effect, Expression, File, Foreign, Import, ImportedName,
     Instance, Member, Name, Parameter, Port, Reaction, Reactor, Reference, Term, Timeout, Timer,

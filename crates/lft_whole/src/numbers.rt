@@ -9,7 +9,7 @@ use crate::classes::{
     digit_stands, hexadecimal_stands, one_stands, pair_stands, past_digits, past_hexadecimal,
     stands,
 };
-use crate::token::TokenKind;
+use lft_syntax::TokenKind;
 
 /// Where an exponent ends whose `e` would stand at a place; that place where none does.
 #[tactic(auto, unfolding(crate::specs::Pieces::past_exponent))]

@@ -11,7 +11,7 @@ use crate::numbers::number_piece;
 use crate::quotes::{
     past_code, past_in_line, past_long_string, past_remark, past_string, past_three,
 };
-use crate::token::TokenKind;
+use lft_syntax::TokenKind;
 
 /// A symbol, or nothing where the byte is none.
 #[tactic(auto, unfolding(crate::specs::Pieces::symbol_at))]

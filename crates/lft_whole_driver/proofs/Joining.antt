@@ -8,15 +8,14 @@ use Rattle.lft_whole.proofs.Between.{each_token}
 use Rattle.lft_syntax.specs.declared.token.Token.{Token}
 use Rattle.lft_whole_driver.specs.{Pages.{AreJoined, Join, cut, end_at, end_of, file_tokens, is_page, moved, Join.{no_files, file_more}}, inner.Pages.JoinsFile}
 use Rattle.lft_whole_driver.specs.declared.pages.Joined.{Joined}
-use Rattle.lft_whole.specs.declared.token.Token as whole
 
 -- a token of a text
-pub token_at : (t : List ℕ) (tokens these : List whole.Token) (at : ℕ) (d : whole.Token) → AreTokens t tokens → these ≡ tokens → at < length these → IsToken t (get_or these at d)
+pub token_at : (t : List ℕ) (tokens these : List Token) (at : ℕ) (d : Token) → AreTokens t tokens → these ≡ tokens → at < length these → IsToken t (get_or these at d)
 token_at t tokens these at d are same lt =
     each_token t these (subst (AreTokens t) (sym same) are) at (get_or these at d) (slice_get-get_or these at d lt)
 
 -- a file behind those that are there: its text, its tokens with its end, and a line feed
-pub joins_file : (file : SourceFile) (old new : Joined) (page : Page) (tokens : List whole.Token) (text : List ℕ) (moved_tokens : List Token) → tokens_of file.text.items ≡ Ok tokens → text ≡ old.text.items ++ file.text.items → new.text.items ≡ text ++ 10 ∷ [] → moved_tokens ≡ old.tokens.items ++ map (moved page.start) tokens → new.tokens.items ≡ moved_tokens ++ end_at page.end ∷ [] → string_bytes page.path ≡ shown_path (string_bytes file.path) → page.start ≡ length old.text.items → page.end ≡ length text → new.pages.items ≡ old.pages.items ++ page ∷ [] → JoinsFile file old new
+pub joins_file : (file : SourceFile) (old new : Joined) (page : Page) (tokens : List Token) (text : List ℕ) (moved_tokens : List Token) → tokens_of file.text.items ≡ Ok tokens → text ≡ old.text.items ++ file.text.items → new.text.items ≡ text ++ 10 ∷ [] → moved_tokens ≡ old.tokens.items ++ map (moved page.start) tokens → new.tokens.items ≡ moved_tokens ++ end_at page.end ∷ [] → string_bytes page.path ≡ shown_path (string_bytes file.path) → page.start ≡ length old.text.items → page.end ≡ length text → new.pages.items ≡ old.pages.items ++ page ∷ [] → JoinsFile file old new
 joins_file file old new page tokens text moved_tokens read behind feed moved_are end_more path start end pages =
     let n = length old.text.items in
     let end_is : page.end ≡ end_of n file = end ∙ ap length behind ∙ length-append old.text.items file.text.items in

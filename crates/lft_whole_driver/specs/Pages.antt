@@ -2,21 +2,13 @@
 use Rattle.std.specs.Prelude.{◌≡◌, ◌+◌, ◌++◌, ℕ, List, ◌∷◌, Result, Ok, Err, length, map, string_bytes, []}
 use Rattle.lft_text_diagnostics.specs.declared.pages.Page.{Page}
 use Rattle.lft_whole.specs.{Sources.Shown.shown_path, declared.{sources.source.SourceFile.SourceFile, fault.TextFault.TextFault}, Pieces.tokens_of}
-use Rattle.lft_syntax.specs.declared.token.{Token.Token, TokenKind.TokenKind}
+use Rattle.lft_syntax.specs.declared.token.Token.{Token}
 use Rattle.lft_whole_driver.specs.declared.pages.Joined.{Joined}
 use Rattle.lft_syntax.specs.declared.token.TokenKind.TheVariants as kinds
-use Rattle.lft_whole.specs.declared.token.Token as whole
-use Rattle.lft_whole.specs.declared.token.TokenKind as whole_kind
-use Rattle.lft_whole.specs.declared.token.TokenKind.TheVariants as whole_kinds
-
--- Code is code, and any other token is as a name.
-abbrev pub kind_in : whole_kind.TokenKind → TokenKind
-kind_in whole_kinds.Code = kinds.Code
-kind_in _ = kinds.Name
 
 -- A token of a file, where its text begins there in the text of all.
-abbrev pub moved : ℕ → whole.Token → Token
-moved start token = record { kind = kind_in token.kind; start = start + token.start; end = start + token.end }
+abbrev pub moved : ℕ → Token → Token
+moved start token = record { kind = token.kind; start = start + token.start; end = start + token.end }
 
 -- What stands at a byte alone: the end of a file.
 abbrev pub end_at : ℕ → Token
@@ -27,7 +19,7 @@ abbrev pub end_of : ℕ → SourceFile → ℕ
 end_of start file = start + length file.text.items
 
 -- The tokens of a text that has some.
-abbrev pub cut : Result (List whole.Token) TextFault → List whole.Token
+abbrev pub cut : Result (List Token) TextFault → List Token
 cut (Ok tokens) = tokens
 cut (Err fault) = []
 

@@ -2,12 +2,11 @@
 
 use crate::could::push_unit;
 use crate::names::{Declared, Kind, MOST_COMPARED, Names, Site};
-use crate::pages::push_tokens;
 use lft_program_diagnostics::{Sentence, nearest, push_link, push_question, way_of_code};
 use lft_tag::NoMemory;
 use lft_text_diagnostics::words::push_way;
 use lft_whole::sources::{Place, SourceFile, Why};
-use lft_whole::{Instance, Member, TokenKind, Tokens, lex};
+use lft_whole::{Instance, Member, TokenKind, Tokens};
 use std::alloc::Global;
 use std::str::from_utf8;
 
@@ -198,28 +197,17 @@ impl<'a> Hint<'a> {
         }
     }
 
-    /// What helps where code reaches too far, so that a reactor is in it.
-    fn way_of_code(self) -> Result<Option<&'static str>, NoMemory> {
-        let Ok(tokens) = lex(self.names.alloc, &self.file.text) else {
-            // The file has a tree, so it has tokens, and only memory can be refused.
-            return Err(NoMemory);
-        };
-        let mut list = Vec::new(self.names.alloc);
-        push_tokens(&mut list, &self.file.text, &tokens, 0)?;
-        Ok(way_of_code(&self.file.text, &list))
-    }
-
     /// What to write for a cause, where the same is said of a core program.
-    fn way(self, why: Why) -> Result<Option<&'static str>, NoMemory> {
+    fn way(self, why: Why) -> Option<&'static str> {
         match why {
-            Why::NoReactor => self.way_of_code(),
-            Why::NoMain => Ok(Sentence::NoMain.way()),
-            Why::TwoMains => Ok(Sentence::TwoMains.way()),
-            Why::TwoReactors => Ok(Sentence::SameReactors.way()),
-            Why::TwoNames => Ok(Sentence::SameThings.way()),
-            Why::NoTrigger => Ok(Sentence::NoTrigger.way()),
-            Why::TimeTooLong => Ok(Sentence::LongTime.way()),
-            _ => Ok(None),
+            Why::NoReactor => way_of_code(&self.file.text, self.tokens.as_slice()),
+            Why::NoMain => Sentence::NoMain.way(),
+            Why::TwoMains => Sentence::TwoMains.way(),
+            Why::TwoReactors => Sentence::SameReactors.way(),
+            Why::TwoNames => Sentence::SameThings.way(),
+            Why::NoTrigger => Sentence::NoTrigger.way(),
+            Why::TimeTooLong => Sentence::LongTime.way(),
+            _ => None,
         }
     }
 
@@ -227,8 +215,7 @@ impl<'a> Hint<'a> {
     pub(crate) fn push(self, out: &mut String, why: Why) -> Result<(), NoMemory> {
         self.ask(out, why)?;
         self.push_lines(out, why)?;
-        let way = self.way(why)?;
-        push_way(out, way)
+        push_way(out, self.way(why))
     }
 
     /// Asks for what was probably meant by the name.

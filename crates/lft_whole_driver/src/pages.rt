@@ -3,13 +3,13 @@
 ghost use Rattle.std.specs.Prelude.{◌≡◌, ◌+◌, ◌≤◌, ◌<◌, ◌^◌, IfOk, OnOk, length};
 ghost use Rattle.lft_whole.specs.inner.Tokens.{AreTokens};
 ghost use Rattle.lft_whole_parser.specs.Imports.{Files.AreOfTexts, Reads.HasTree};
-ghost use Rattle.lft_whole_driver.specs.{Pages.{AreJoined, kind_in, moved as moved_token}, inner.Pages.{JoinsFile, JoinsTokens}};
+ghost use Rattle.lft_whole_driver.specs.{Pages.{AreJoined, moved as moved_token}, inner.Pages.{JoinsFile, JoinsTokens}};
 
-use lft_syntax::{Token, TokenKind};
+use lft_syntax::{Token, TokenKind, Tokens};
 use lft_tag::NoMemory;
 use lft_text_diagnostics::Page;
+use lft_whole::lex;
 use lft_whole::sources::{SourceFile, shown_path};
-use lft_whole::{Token as WholeToken, TokenKind as WholeKind, Tokens, lex};
 use std::alloc::Global;
 
 /// The text of files with its tokens. A line feed stands behind each file, and a token for its end behind its tokens.
@@ -22,31 +22,21 @@ pub(crate) struct Joined {
     pub(crate) pages: Vec<Page>,
 }
 
-/// What a token is, as far as it is asked for.
-fn kind_of(kind: WholeKind) -> TokenKind
-    ensures { result ≡ kind_in kind }
-{
-    match kind {
-        WholeKind::Code => TokenKind::Code,
-        _ => TokenKind::Name,
-    }
-}
-
 /// A token of a file whose text begins there in the text of all.
-fn moved(start: usize, token: WholeToken) -> Token
+fn moved(start: usize, token: Token) -> Token
     requires start { start + token.start < 2 ^ 64 }
     requires end { start + token.end < 2 ^ 64 }
     ensures { result ≡ moved_token start token }
 {
     Token {
-        kind: kind_of(token.kind),
+        kind: token.kind,
         start: start + token.start,
         end: start + token.end,
     }
 }
 
 /// Puts the tokens of a file at the end of a list, where its text begins there in the text of all.
-pub(crate) fn push_tokens(
+fn push_tokens(
     list: &mut Vec<Token>,
     text: &[u8],
     tokens: &Tokens,

@@ -1,8 +1,9 @@
 -- The grammar of a file: its target, imports and reactors.
 use Rattle.std.specs.Prelude.{ℕ, zero, suc, ◌+◌, ◌-◌, List, [], ◌∷◌, ◌++◌, codes, length, slice_get, slice_range, nat_lt, filter_map, find, Option, Some, None, Result, Ok, Err, Bool, ◌&&◌, if◌then◌else◌}
 use Rattle.lft_tree.specs.declared.tree.TimeUnit.{TimeUnit}
-use Rattle.lft_whole.specs.declared.{token.Token.Token, fault.TreeFault.{TreeFault, TheVariants.{Unexpected, Package}}, tree.Timeout.Timeout}
-use Rattle.lft_whole.specs.Parts.Lexeme.{Source, see, unit_in, number_in, is_there, is_text}
+use Rattle.lft_syntax.specs.{declared.token.Token.Token, Lexeme.{Text, is, is_there, unit_in, number_in}, Language.look}
+use Rattle.lft_whole.specs.declared.{fault.TreeFault.{TreeFault, TheVariants.{Unexpected, Package}}, tree.Timeout.Timeout}
+use Rattle.lft_whole.specs.Parts.Lexeme.{Source, see}
 use Rattle.lft_whole.specs.Parts.Language.{Reader, ◌>>=◌, on, sign, word, this, key, ◌&◌, ◌>>◌, ◌<<◌, ◌then◌, nothing, made, choice, repeat, separated, opened}
 use Rattle.lft_whole.specs.Parts.{Tree.{NameTree, ReactorTree, ImportedTree, ImportTree, FileTree}, Parts.name}
 use Rattle.lft_whole_parser.specs.Grammar.{on_preamble, preamble, attributes, on_reactor, reactor, unexpected}
@@ -30,7 +31,7 @@ unquoted text (Some t) = inner (slice_range text t.start t.end)
 
 -- TEXT: a `<` begins the name of a package
 unfoldable pub path_text : Reader (List ℕ × ℕ)
-path_text s i = if sign 60 s i then Err (Package i) else if on is_text s i then Ok ((unquoted s.text (slice_get s.tokens i), i), i + 1) else Err (Unexpected i)
+path_text s i = if sign 60 s i then Err (Package i) else if on (is Text) s i then Ok ((unquoted s.text (slice_get s.tokens i), i), i + 1) else Err (Unexpected i)
 
 -- an import of these names from this path, which stands at this place
 abbrev pub import_of : List ImportedTree × (List ℕ × ℕ) → ImportTree
@@ -49,7 +50,7 @@ timeout_of i _ _ = None
 
 -- "timeout" TOKEN NUMBER UNIT, before the end of the properties
 abbrev pub timeout_at : Source → ℕ → ℕ → Option Timeout
-timeout_at s end i = if word (codes "timeout") s i && nat_lt (i + 3) end then timeout_of i (number_in (see s (i + 2))) (unit_in (see s (i + 3))) else None
+timeout_at s end i = if word (codes "timeout") s i && nat_lt (i + 3) end then timeout_of i (look number_in (see s (i + 2))) (look unit_in (see s (i + 3))) else None
 
 -- "coordination" TOKEN "decentralized", before the end of the properties
 abbrev pub decentralized_at : Source → ℕ → ℕ → Bool

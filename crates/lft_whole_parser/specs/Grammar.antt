@@ -1,8 +1,9 @@
 -- The grammar of whole texts: each production, and the part of the tree that it reads. A comment above one
 -- has it as grammars are written: [ ] may be left out, { } is read over and over, | has what is tried in order.
 use Rattle.std.specs.Prelude.{ℕ, ◌+◌, ◌-◌, List, [], ◌∷◌, ◌++◌, codes, slice_get, Option, Some, None, Ok, Err, Bool, true, false, ◌||◌, ◌==◌}
-use Rattle.lft_whole.specs.declared.{token.Token.Token, fault.TreeFault.TheVariants.Unexpected}
-use Rattle.lft_whole.specs.Parts.Lexeme.{is_there, is_word, is_code, is_arrow, is_tilde_arrow}
+use Rattle.lft_syntax.specs.{declared.token.Token.Token, Lexeme.{Code, Arrow, TildeArrow, is, is_there}}
+use Rattle.lft_whole.specs.declared.fault.TreeFault.TheVariants.{Unexpected}
+use Rattle.lft_whole.specs.Parts.Lexeme.{is_word}
 use Rattle.lft_whole.specs.Parts.Language.{Reader, ◌>>=◌, Test, on, sign, word, next, ◌and◌, ◌or◌, isnt, one, symbol, key, this, flag, ◌&◌, ◌>>◌, ◌<<◌, ◌then◌, nothing, made, made_at, ignored, needed, choice, optional, passed, repeat, passing, separated, closed, group, past_group}
 use Rattle.lft_whole.specs.Parts.Parts.{on_arrow, name, typed, expression, initial, two_values, on_interleaved, reference, references, effects, width}
 use Rattle.lft_whole.specs.Parts.Tree.{NameTree, ReferenceTree, ValueTree, NumberValue, ExpressionTree, TermTree, ParameterTree, PortTree, TimerTree, ActionTree, TriggerTree, AtStartup, AtShutdown, AtReset, OnReference, EffectTree, ReactionTree, AssignmentTree, InstanceTree, ConnectionTree, MemberTree, PortMember, TimerMember, ActionMember, ReactionMember, InstanceMember, ConnectionMember, ForeignMember, ReactorTree}
@@ -54,7 +55,7 @@ on_preamble = on_scope or word (codes "preamble")
 
 -- ["private" | "public"] "preamble" CODE
 unfoldable pub preamble : Reader (Unit {0})
-preamble = flag on_scope >> key (codes "preamble") >> one (on is_code)
+preamble = flag on_scope >> key (codes "preamble") >> one (on (is Code))
 
 -- ["reset"] "state" NAME [":" type] [initial]
 unfoldable pub state : Reader (Unit {0})
@@ -62,7 +63,7 @@ state = flag (word (codes "reset")) >> key (codes "state") >> ignored name >> ty
 
 -- ["const"] "method" NAME group of ( ) [":" type] CODE
 unfoldable pub method : Reader (Unit {0})
-method = flag (word (codes "const")) >> key (codes "method") >> ignored name >> group 40 41 >> typed >> one (on is_code)
+method = flag (word (codes "const")) >> key (codes "method") >> ignored name >> group 40 41 >> typed >> one (on (is Code))
 
 -- ---- reactions
 
@@ -102,11 +103,11 @@ uses = choice on_use references (nothing [])
 
 -- ["->" effects]
 unfoldable pub written : Reader (List EffectTree)
-written = choice (on is_arrow) (this >> effects) (nothing [])
+written = choice (on (is Arrow)) (this >> effects) (nothing [])
 
 -- handler [group of ( )] [CODE]
 unfoldable pub handler : Reader (Unit {0})
-handler = this >> past_group 40 41 >> ignored (flag (on is_code))
+handler = this >> past_group 40 41 >> ignored (flag (on (is Code)))
 
 -- {handler}
 unfoldable pub handlers : Reader (Unit {0})
@@ -122,11 +123,11 @@ reaction_of i x = record { triggers = x.0.0; uses = x.0.1; effects = x.1; at = i
 
 -- WORD [NAME] "(" triggers [references] ["->" effects] [CODE] {handler}
 unfoldable pub reaction : List ℕ → Reader ReactionTree
-reaction letters = made_at reaction_of (key letters >> own_name >> symbol 40 >> triggers & uses & written << flag (on is_code) << handlers)
+reaction letters = made_at reaction_of (key letters >> own_name >> symbol 40 >> triggers & uses & written << flag (on (is Code)) << handlers)
 
 -- "watchdog" NAME group of ( ) ["->" effects] CODE
 unfoldable pub watchdog : Reader (Unit {0})
-watchdog = key (codes "watchdog") >> ignored name >> group 40 41 >> written >> one (on is_code)
+watchdog = key (codes "watchdog") >> ignored name >> group 40 41 >> written >> one (on (is Code))
 
 -- ---- instances
 
@@ -187,7 +188,7 @@ left_side = choice (sign 40) (symbol 40 >> references << symbol 41 & flag (sign 
 
 -- "~>" | "->": whether it is "~>"
 unfoldable pub arrow : Reader Bool
-arrow = choice (on is_tilde_arrow) (this >> nothing true) (made (λ _. false) (one (on is_arrow)))
+arrow = choice (on (is TildeArrow)) (this >> nothing true) (made (λ _. false) (one (on (is Arrow))))
 
 -- ["after" expression]
 unfoldable pub delay : Reader (Option ExpressionTree)

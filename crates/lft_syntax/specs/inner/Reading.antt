@@ -3,8 +3,8 @@
 use Rattle.std.specs.Prelude.{ℕ, zero, suc, ◌+◌, List, [], ◌∷◌, ◌++◌, codes, length, slice_get, Option, Some, None, Result, Ok, Err, Bool, nat_eq, ◌||◌, if◌then◌else◌}
 use Rattle.lft_tree.specs.declared.tree.{Time.Time, TimeUnit.TimeUnit}
 use Rattle.lft_tree.specs.Tree.{Range, TimeTree, Written, Named, RefTree, ParameterTree, PortTree, TimerTree, ActionTree, TriggerTree, OnRef, ReactionTree, AssignmentTree, InstanceTree, ConnectionTree, MemberTree, PortMember, TimerMember, ActionMember, StateMember, PreambleMember, ReactionMember, InstanceMember, ConnectionMember, ReactorTree, ItemTree, PreambleItem, ReactorItem, FileTree}
-use Rattle.lft_syntax.specs.Lexeme.{Lexeme, Code, Text, Letters, Arrow, Symbol, is, same, negated, is_name, name_in, number_in, unit_in}
-use Rattle.lft_syntax.specs.inner.Tests.{is_there, is_number, is_word_of, is_follower, input_keys, port_keys, action_keys, scope_keys, preamble_keys}
+use Rattle.lft_syntax.specs.Lexeme.{Lexeme, Code, Text, Letters, Arrow, Symbol, is, is_there, same, negated, is_name, name_in, number_in, unit_in}
+use Rattle.lft_syntax.specs.inner.Tests.{is_number, is_word_of, is_follower, input_keys, port_keys, action_keys, scope_keys, preamble_keys}
 use Rattle.lft_syntax.specs.Language.{look, this}
 use Rattle.lft_syntax.specs.Grammar.{or_empty, counted, zero_time, ref_of, parameter_of, input_of, output_of, timer_of, logical_is, physical_is, action_of, startup_of, shutdown_of, reaction_of, assignment_of, instance_of, connection_of, reactor_of, main_of, file_of}
 

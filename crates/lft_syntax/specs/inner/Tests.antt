@@ -1,15 +1,11 @@
 -- Tests of what stands at a place, and the words with which productions begin: for the readings alone.
-use Rattle.std.specs.Prelude.{ℕ, List, [], ◌∷◌, codes, Bool, true, false, Option, Some, None, nat_eq, ◌||◌, if◌then◌else◌}
+use Rattle.std.specs.Prelude.{ℕ, List, [], ◌∷◌, codes, Bool, true, false, Option, Some, nat_eq, ◌||◌, if◌then◌else◌}
 use Rattle.lft_syntax.specs.Lexeme.{Lexeme, Letters, Number, Arrow, Symbol, is_one_of, is_reserved}
 
 -- whether one of these words stands there
 abbrev pub is_word_of : List (List ℕ) → Option Lexeme → Bool
 is_word_of words (Some (Letters x)) = is_one_of words x
 is_word_of words _ = false
-
-abbrev pub is_there : Option Lexeme → Bool
-is_there None = false
-is_there (Some w) = true
 
 abbrev pub is_number : Option Lexeme → Bool
 is_number (Some (Number n)) = true

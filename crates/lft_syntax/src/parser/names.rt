@@ -77,8 +77,8 @@ pub fn is_name(input: &Input, at: usize) -> bool
     }
 }
 
-// the letters as text
-fn text_of(alloc: Global, letters: &[u8]) -> Result<String, AllocError>
+/// The letters as text.
+pub fn text_of(alloc: Global, letters: &[u8]) -> Result<String, AllocError>
     requires { IsAscii letters.now }
     ensures { IfOk result (λ text. string_bytes text ≡ letters.now) }
 {

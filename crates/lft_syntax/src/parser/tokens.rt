@@ -4,11 +4,11 @@ ghost use Rattle.std.specs.Prelude.{◌≡◌, ℕ, ◌<◌, ◌≤◌, ◌+◌,
 ghost use Rattle.lft_syntax.specs.Lexeme.{Code, Text, Letters, Arrow, Symbol, is};
 ghost use Rattle.lft_syntax.specs.inner.{View.{Gives, at_next}, Reading.{key_at, symbol_at, one_at, number_at}, Seen.{seen_there, letters_ascii}};
 ghost use Rattle.lft_syntax.specs.inner.Parsing.{words};
+ghost use Rattle.lft_syntax.specs.Lexeme as Lexeme;
 ghost use Rattle.lft_syntax.specs.inner.Tests as Tests;
 
 use crate::input::{Input, Seen};
 use crate::parse_error::ParseError;
-use crate::token::TokenKind;
 
 /// What stands at a place.
 #[tactic(auto, unfolding(crate::specs::View::lexemes))]
@@ -19,15 +19,7 @@ pub fn peek<'a>(input: &Input<'a>, at: usize) -> Option<Seen<'a>>
     ensures ascii { IfSome result letters_ascii }
 {
     let token = input.tokens.get(at)?;
-    let bytes = &input.text[token.start..token.end];
-    Some(match token.kind {
-        TokenKind::Code => Seen::Code,
-        TokenKind::Text => Seen::Text,
-        TokenKind::Name => Seen::Letters(bytes),
-        TokenKind::Number(n) => Seen::Number(n),
-        TokenKind::Arrow => Seen::Arrow,
-        TokenKind::Symbol(b) => Seen::Symbol(b),
-    })
+    Some(Seen::of(input.text, *token))
 }
 
 pub fn key(input: &Input, at: usize, word: &[u8]) -> Result<usize, ParseError>
@@ -116,7 +108,7 @@ pub fn is_number(input: &Input, at: usize) -> bool
 }
 
 pub fn is_there(input: &Input, at: usize) -> bool
-    ensures { result ≡ Tests.is_there (slice_get (words input.now) at) }
+    ensures { result ≡ Lexeme.is_there (slice_get (words input.now) at) }
 {
     peek(input, at).is_some()
 }

@@ -1,7 +1,8 @@
 -- The words that the grammar of whole texts is written in. It reads from left to right, and what stands at a
 -- place decides which of two goes on.
 use Rattle.std.specs.Prelude.{ℕ, zero, suc, ◌+◌, ◌-◌, List, [], ◌∷◌, ◌++◌, length, Option, Some, None, Result, Ok, Err, Bool, not, ◌&&◌, ◌||◌, ◌==◌, if◌then◌else◌}
-use Rattle.lft_whole.specs.{declared.fault.TreeFault.{TreeFault, TheVariants.Unexpected}, Parts.Lexeme.{Source, Lexeme, see, is_there, is_symbol, is_key}}
+use Rattle.lft_syntax.specs.{Lexeme.{Lexeme, Letters, Symbol, is, is_there}, Language.look}
+use Rattle.lft_whole.specs.{declared.fault.TreeFault.{TreeFault, TheVariants.Unexpected}, Parts.Lexeme.{Source, see}}
 
 -- from a place on: a value and the place behind it, or why there is none
 abbrev pub Reader : Type 0 → Type 0
@@ -21,15 +22,15 @@ Test = Source → ℕ → Bool
 
 -- such a token
 abbrev pub on : (Option Lexeme → Bool) → Test
-on is s i = is (see s i)
+on passes s i = passes (see s i)
 
 -- this sign, by its byte
 abbrev pub sign : ℕ → Test
-sign byte = on (is_symbol byte)
+sign byte = on (is (Symbol byte))
 
 -- this word, reserved or not
 abbrev pub word : List ℕ → Test
-word letters = on (is_key letters)
+word letters = on (is (Letters letters))
 
 -- the token behind it
 abbrev pub next : Test → Test
@@ -57,8 +58,8 @@ seen_at None i = Err (Unexpected i)
 seen_at (Some x) i = Ok (x, i + 1)
 
 -- a token in which a value is seen
-abbrev pub token : {A : Type 0} → (Option Lexeme → Option A) → Reader A
-token in_it s i = seen_at (in_it (see s i)) i
+abbrev pub token : {A : Type 0} → (Lexeme → Option A) → Reader A
+token in_it s i = seen_at (look in_it (see s i)) i
 
 -- a token that passes
 abbrev pub one : Test → Reader (Unit {0})
@@ -190,7 +191,7 @@ closed closing P = many (isnt (sign closing)) (listed closing P) << symbol closi
 
 -- how many brackets are open behind a token of a group, besides the group's own
 abbrev pub deep : ℕ → ℕ → ℕ → Option Lexeme → ℕ
-deep opening closing depth w = if is_symbol opening w then depth + 1 else if is_symbol closing w then depth - 1 else depth
+deep opening closing depth w = if is (Symbol opening) w then depth + 1 else if is (Symbol closing) w then depth - 1 else depth
 
 -- one token of a group
 abbrev pub within : ℕ → ℕ → ℕ → Reader ℕ

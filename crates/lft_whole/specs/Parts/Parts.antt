@@ -3,9 +3,10 @@
 use Rattle.std.specs.Prelude.{ℕ, ◌+◌, List, [], ◌∷◌, codes, nat_lt, Option, Some, None, Result, Ok, Err, Bool, true, false, not, ◌&&◌, ◌==◌, if◌then◌else◌}
 use Rattle.lft_tree.specs.declared.tree.TimeUnit.{TimeUnit}
 use Rattle.lft_whole.specs.declared.fault.TreeFault.{TreeFault}
-use Rattle.lft_whole.specs.Parts.Lexeme.{Source, Lexeme, Code, Letters, Number, see, letters_in, name_in, unit_in, number_in, is_word, is_code, is_text, is_decimal, is_arrow, is_tilde_arrow}
+use Rattle.lft_whole.specs.Parts.Lexeme.{Source, see, letters_in, is_word}
 use Rattle.lft_whole.specs.Parts.Language.{Reader, ◌>>=◌, Test, on, sign, word, next, ◌and◌, ◌or◌, isnt, token, one, symbol, key, this, flag, ◌&◌, ◌>>◌, ◌<<◌, ◌then◌, nothing, made, made_at, ignored, choice, optional, passed, passing, separated, listed, opened, group, past_group}
 use Rattle.lft_whole.specs.Parts.Tree.{NameTree, ReferenceTree, ValueTree, NumberValue, WordValue, CodeValue, OtherValue, ExpressionTree, CountTree, NumberCount, WordCount, WidthOf, CodeCount, OpenCount, TermTree, EffectTree, ToMode, ToReference}
+use Rattle.lft_syntax.specs.{Lexeme.{Lexeme, Code, Text, Letters, Number, Decimal, Arrow, TildeArrow, is, name_in, unit_in, number_in}, Language.look}
 
 -- ---- names
 
@@ -45,7 +46,7 @@ signs = passing on_sign this
 
 -- CODE | group of { } | joined_names [group of < >] signs
 unfoldable pub element : Reader (Unit {0})
-element = choice (on is_code) (one (on is_code)) (choice (sign 123) (group 123 125) (joined_names >> past_group 60 62 >> signs))
+element = choice (on (is Code)) (one (on (is Code))) (choice (sign 123) (group 123 125) (joined_names >> past_group 60 62 >> signs))
 
 -- {group of [ ]}
 unfoldable pub arrays : Reader (Unit {0})
@@ -87,7 +88,7 @@ number_value negative x = NumberValue (negative && nat_lt 0 x.0) x.0 x.1
 
 -- an arrow
 abbrev pub on_arrow : Test
-on_arrow = on is_arrow or on is_tilde_arrow
+on_arrow = on (is Arrow) or on (is TildeArrow)
 
 -- what stands behind the first word of a member
 abbrev pub on_follower : Test
@@ -100,11 +101,11 @@ with_unit (Some u) i = Ok (Some u, i + 1)
 
 -- [UNIT]: a word that begins a member is none
 unfoldable pub unit : Reader (Option TimeUnit)
-unit s i = if on_follower s (i + 1) then Ok (None, i) else with_unit (unit_in (see s i)) i
+unit s i = if on_follower s (i + 1) then Ok (None, i) else with_unit (look unit_in (see s i)) i
 
 -- DECIMAL | NUMBER [UNIT]
 abbrev pub quantity : Bool → Reader ValueTree
-quantity negative = choice (on is_decimal) (made other_value this) (made (number_value negative) (token number_in & unit))
+quantity negative = choice (on (is Decimal)) (made other_value this) (made (number_value negative) (token number_in & unit))
 
 -- ["-"] quantity
 unfoldable pub number : Reader ExpressionTree
@@ -129,7 +130,7 @@ word_value s i = (token letters_in << path) s i >>= λ a. Ok (expression_of i (p
 -- CODE | TEXT | word_value | number
 unfoldable pub bare_value : Reader ExpressionTree
 bare_value =
-    choice (on is_code) (made_at expression_of (made code_value (one (on is_code)))) (choice (on is_text) (made_at expression_of (made other_value (one (on is_text))))
+    choice (on (is Code)) (made_at expression_of (made code_value (one (on (is Code))))) (choice (on (is Text)) (made_at expression_of (made other_value (one (on (is Text)))))
     (choice (on is_word) word_value number))
 
 -- what is between brackets, if it is one bare value alone
@@ -236,10 +237,10 @@ abbrev pub on_width_of : Test
 on_width_of = word (codes "widthof") and next (sign 40)
 
 -- what counts: code, a number, or a word, reserved or not
-abbrev pub count_in : Option Lexeme → Option CountTree
-count_in (Some Code) = Some CodeCount
-count_in (Some (Number n)) = Some (NumberCount n)
-count_in (Some (Letters letters)) = Some (WordCount letters)
+abbrev pub count_in : Lexeme → Option CountTree
+count_in Code = Some CodeCount
+count_in (Number n) = Some (NumberCount n)
+count_in (Letters letters) = Some (WordCount letters)
 count_in _ = None
 
 -- "(" reference ")"

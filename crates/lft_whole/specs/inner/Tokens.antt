@@ -2,7 +2,8 @@
 use Rattle.std.specs.Prelude.{◌≡◌, ℕ, ◌<◌, ◌≤◌, List, [], ◌∷◌, length, slice_get, slice_range, Option, Some, None}
 use Rattle.std.proofs.Props.{props}
 use Rattle.lft_tree.specs.Identifiers.{IsIdentifier, IsIdentifier-prop}
-use Rattle.lft_whole.specs.declared.{token.{Token.Token, TokenKind.{TokenKind, TheVariants.Name}}, fault.TextFault.TextFault}
+use Rattle.lft_syntax.specs.declared.token.{Token.Token, TokenKind.{TokenKind, TheVariants.Name}}
+use Rattle.lft_whole.specs.declared.fault.TextFault.{TextFault}
 use Rattle.lft_whole.specs.declared.fault.TextFault.TheVariants as faults
 
 -- the bytes from a place up to another lie in the text, and are an identifier if they are a name

@@ -2,7 +2,8 @@
 
 ghost use Rattle.std.specs.Prelude.{◌≡◌, ◌<◌, ◌≤◌, true, IfOk, IfErr, ◌+◌, ◌&&◌, ◌==◌, false};
 ghost use Rattle.lft_whole.specs.inner.Parts.{Parsing.{count, Within, Further, NotBefore, Refuses, source}, View.{Gives, GivesAlways, at_next}};
-ghost use Rattle.lft_whole.specs.Parts.{Lexeme.{see, is_symbol}, Language.{repeat, within, opened, ignored}, Parts.{on_values, before_arrow}};
+ghost use Rattle.lft_whole.specs.Parts.{Lexeme.see, Language.{repeat, within, opened, ignored}, Parts.{on_values, before_arrow}};
+ghost use Rattle.lft_syntax.specs.Lexeme.{Symbol, is};
 ghost use Rattle.lft_whole.specs.Parts.Language as Language;
 
 use crate::TreeFault;
@@ -21,7 +22,7 @@ fn is_inside(input: &Input, at: usize, depth: usize, closing: u8) -> bool
 fn depth_behind(input: &Input, at: usize, depth: usize, opening: u8, closing: u8) -> usize
     requires depth { depth ≤ at }
     requires there { at < count input.now }
-    requires closing { (is_symbol closing (see (source input.now) at) && (depth == 0)) ≡ false }
+    requires closing { (is (Symbol closing) (see (source input.now) at) && (depth == 0)) ≡ false }
     ensures is { result ≡ Language.deep opening closing depth (see (source input.now) at) }
     ensures inside { result ≤ depth + 1 }
 {

@@ -2,21 +2,8 @@
 
 ghost use Rattle.lft_whole.specs.inner.Tokens.{EachIsToken, EachIsToken-prop};
 
-use crate::Token;
+use lft_syntax::Token;
 use std::alloc::Global;
-
-/// What is seen of a token.
-#[derive(Clone, Copy)]
-pub enum Seen<'a> {
-    Code,
-    Text,
-    Letters(&'a [u8]),
-    Number(u64),
-    Decimal,
-    Arrow,
-    TildeArrow,
-    Symbol(u8),
-}
 
 /// A text with its tokens, which lie in it.
 #[derive(Drop)]

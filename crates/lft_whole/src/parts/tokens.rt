@@ -1,14 +1,15 @@
 //! Single tokens: what stands at a place, and the place behind one that must stand there.
 
 ghost use Rattle.std.specs.Prelude.{◌≡◌, ◌<◌, ◌≤◌, ◌+◌, ◌-◌, ◌^◌, true, IfSome, IfOk, IfErr, if◌then◌else◌};
-ghost use Rattle.lft_whole.specs.inner.Parts.{Parsing.{count, Within, Further, Refuses, AreLetters, source, seen_there}, View.{Gives, GivesAlways, at_next}};
-ghost use Rattle.lft_whole.specs.Parts.{Lexeme.see, Language.on};
-ghost use Rattle.lft_whole.specs.Parts.Lexeme as Lexeme;
+ghost use Rattle.lft_syntax.specs.{Lexeme.{Code, Text, Arrow, TildeArrow, is, unit_in}, Language.look, inner.Seen.seen_there};
+ghost use Rattle.lft_whole.specs.inner.Parts.{Parsing.{count, Within, Further, Refuses, AreLetters, source}, View.{Gives, GivesAlways, at_next}};
+ghost use Rattle.lft_whole.specs.Parts.{Lexeme.{see, is_word as is_any_word}, Language.on};
+ghost use Rattle.lft_syntax.specs.Lexeme as Lexeme;
 ghost use Rattle.lft_whole.specs.Parts.Language as Language;
 
-use crate::parts::input::{Input, Seen};
-use crate::{TokenKind, TreeFault};
-use lft_syntax::unit_named;
+use crate::TreeFault;
+use crate::parts::input::Input;
+use lft_syntax::{Seen, unit_named};
 use lft_tree::TimeUnit;
 
 /// What stands at a place.
@@ -19,16 +20,7 @@ pub fn peek<'a>(input: &Input<'a>, at: usize) -> Option<Seen<'a>>
     ensures letters { IfSome result AreLetters }
 {
     let token = input.tokens.get(at)?;
-    Some(match token.kind {
-        TokenKind::Code => Seen::Code,
-        TokenKind::Text => Seen::Text,
-        TokenKind::Name => Seen::Letters(&input.text[token.start..token.end]),
-        TokenKind::Number(n) => Seen::Number(n),
-        TokenKind::Decimal => Seen::Decimal,
-        TokenKind::Arrow => Seen::Arrow,
-        TokenKind::TildeArrow => Seen::TildeArrow,
-        TokenKind::Symbol(b) => Seen::Symbol(b),
-    })
+    Some(Seen::of(input.text, *token))
 }
 
 pub fn is_there(input: &Input, at: usize) -> bool
@@ -61,35 +53,35 @@ pub fn is_key(input: &Input, at: usize, word: &[u8]) -> bool
 
 /// Whether a word stands there, reserved or not.
 pub fn is_word(input: &Input, at: usize) -> bool
-    ensures is { result ≡ on Lexeme.is_word (source input.now) at }
+    ensures is { result ≡ on is_any_word (source input.now) at }
     ensures inside { result ≡ true → at < count input.now }
 {
     matches!(peek(input, at), Some(Seen::Letters(_)))
 }
 
 pub fn is_code(input: &Input, at: usize) -> bool
-    ensures is { result ≡ on Lexeme.is_code (source input.now) at }
+    ensures is { result ≡ on (is Code) (source input.now) at }
     ensures inside { result ≡ true → at < count input.now }
 {
     matches!(peek(input, at), Some(Seen::Code))
 }
 
 pub fn is_text(input: &Input, at: usize) -> bool
-    ensures is { result ≡ on Lexeme.is_text (source input.now) at }
+    ensures is { result ≡ on (is Text) (source input.now) at }
     ensures inside { result ≡ true → at < count input.now }
 {
     matches!(peek(input, at), Some(Seen::Text))
 }
 
 pub fn is_arrow(input: &Input, at: usize) -> bool
-    ensures is { result ≡ on Lexeme.is_arrow (source input.now) at }
+    ensures is { result ≡ on (is Arrow) (source input.now) at }
     ensures inside { result ≡ true → at < count input.now }
 {
     matches!(peek(input, at), Some(Seen::Arrow))
 }
 
 pub fn is_tilde_arrow(input: &Input, at: usize) -> bool
-    ensures is { result ≡ on Lexeme.is_tilde_arrow (source input.now) at }
+    ensures is { result ≡ on (is TildeArrow) (source input.now) at }
     ensures inside { result ≡ true → at < count input.now }
 {
     matches!(peek(input, at), Some(Seen::TildeArrow))
@@ -123,7 +115,7 @@ pub fn key(input: &Input, at: usize, word: &[u8]) -> Result<usize, TreeFault>
 
 pub fn code(input: &Input, at: usize) -> Result<usize, TreeFault>
     requires { Within input.now at }
-    ensures gives { Gives at_next result (Language.one (on Lexeme.is_code) (source input.now) at) }
+    ensures gives { Gives at_next result (Language.one (on (is Code)) (source input.now) at) }
     ensures ok { IfOk result (Further input.now at) }
     ensures err { IfErr result (Refuses input.now) }
 {
@@ -137,7 +129,7 @@ pub fn code(input: &Input, at: usize) -> Result<usize, TreeFault>
 /// Any word, reserved or not.
 pub fn word(input: &Input, at: usize) -> Result<usize, TreeFault>
     requires { Within input.now at }
-    ensures gives { Gives at_next result (Language.one (on Lexeme.is_word) (source input.now) at) }
+    ensures gives { Gives at_next result (Language.one (on is_any_word) (source input.now) at) }
     ensures ok { IfOk result (Further input.now at) }
     ensures err { IfErr result (Refuses input.now) }
 {
@@ -173,7 +165,7 @@ pub fn past_key(input: &Input, at: usize, word: &[u8]) -> usize
 /// The place behind code, or this one where another token stands here.
 pub fn past_code(input: &Input, at: usize) -> usize
     requires { Within input.now at }
-    ensures is { result ≡ (if on Lexeme.is_code (source input.now) at then at + 1 else at) }
+    ensures is { result ≡ (if on (is Code) (source input.now) at then at + 1 else at) }
     ensures inside { (at ≤ result) × Within input.now result }
 {
     if is_code(input, at) { at + 1 } else { at }
@@ -207,7 +199,7 @@ pub fn past_item(input: &Input, at: usize, closing: u8) -> Result<usize, TreeFau
 
 /// The unit that stands at a place.
 pub fn unit(input: &Input, at: usize) -> Option<TimeUnit>
-    ensures is { result ≡ Lexeme.unit_in (see (source input.now) at) }
+    ensures is { result ≡ look unit_in (see (source input.now) at) }
     ensures inside { IfSome result (λ _. at < count input.now) }
 {
     match peek(input, at) {

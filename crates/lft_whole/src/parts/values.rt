@@ -6,13 +6,13 @@ ghost use Rattle.lft_whole.specs.Parts.{Language.ignored, View.expression_view};
 ghost use Rattle.lft_whole.specs.Parts.Parts as Parts;
 
 use crate::parts::groups::{group_end, opens_values};
-use crate::parts::input::{Input, Seen};
-use crate::parts::names::text_of;
+use crate::parts::input::Input;
 use crate::parts::tokens::{
     is_arrow, is_code, is_symbol, is_text, is_tilde_arrow, is_word, past_item, past_symbol, peek,
     unit,
 };
 use crate::{Expression, TreeFault, Value};
+use lft_syntax::{Seen, text_of};
 use lft_tree::TimeUnit;
 
 /// Whether what stands behind this place makes the word here the first of a member.
@@ -93,7 +93,7 @@ fn path_end(input: &Input, at: usize) -> usize
 }
 
 /// A word, or words that are joined by points.
-#[tactic(auto, unfolding(crate::specs::Parts::Parts::word_value))]
+#[tactic(auto, unfolding(crate::specs::Parts::Parts::word_value), using(crate::proofs::Names::identifier_ascii))]
 fn word_value(input: &Input, at: usize) -> Result<(Expression, usize), TreeFault>
     requires { Within input.now at }
     ensures gives { Gives (λ x. (expression_view x.0, x.1)) result (Parts.word_value (source input.now) at) }

@@ -5,11 +5,11 @@ ghost use Rattle.lft_whole.specs.inner.Parts.{Parsing.{count, Within, Further, N
 ghost use Rattle.lft_whole.specs.Parts.View.{count_view, term_view, width_view};
 ghost use Rattle.lft_whole.specs.Parts.Parts as Parts;
 
-use crate::parts::input::{Input, Seen};
-use crate::parts::names::text_of;
+use crate::parts::input::Input;
 use crate::parts::references::reference;
 use crate::parts::tokens::{is_key, is_symbol, peek, symbol};
 use crate::{Count, Term, TreeFault, Width};
+use lft_syntax::{Seen, text_of};
 
 /// Whether `widthof(` stands here.
 fn is_width_of(input: &Input, at: usize) -> bool
@@ -33,7 +33,7 @@ fn width_of(input: &Input, at: usize) -> Result<(Count, usize), TreeFault>
     Ok((Count::WidthOf(reference), end))
 }
 
-#[tactic(auto, unfolding(crate::specs::Parts::Parts::count))]
+#[tactic(auto, unfolding(crate::specs::Parts::Parts::count), using(crate::proofs::Names::identifier_ascii))]
 fn count_here(input: &Input, at: usize) -> Result<(Count, usize), TreeFault>
     requires { Within input.now at }
     ensures gives { Gives (λ x. (count_view x.0, x.1)) result (Parts.count (source input.now) at) }

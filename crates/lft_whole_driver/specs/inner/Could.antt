@@ -1,6 +1,7 @@
 -- What could stand in place of a token.
 use Rattle.std.specs.Prelude.{◌≡◌, ◌<◌, ◌++◌, ◌∷◌, ℕ, List, [], Result, Ok, Err}
-use Rattle.lft_whole.specs.{Pieces.tokens_of, declared.{fault.TreeFault.TreeFault, token.Token.Token}, Parts.Tree.FileTree}
+use Rattle.lft_syntax.specs.declared.token.Token.{Token}
+use Rattle.lft_whole.specs.{Pieces.tokens_of, declared.fault.TreeFault.TreeFault, Parts.Tree.FileTree}
 use Rattle.lft_whole_parser.specs.Files.{reads}
 use Rattle.lft_whole_driver.specs.declared.could.Thing.{Thing}
 use Rattle.lft_whole.specs.declared.fault.TreeFault.TheVariants as faults

@@ -5,7 +5,8 @@ use Rattle.std.proofs.lemmas.Bool.{cases_lt, Decides.nat_tests}
 use Rattle.std.proofs.lemmas.{List.{get_or-drop, length_push, Sums.{count_by-le-length, count_by_more_yes, count_by_more_no}}, Option.slice_get_within}
 use Rattle.lft_lists.{specs.Bytes.is_in_line, proofs.Places.{get_last, same_some}}
 use Rattle.lft_text_diagnostics.specs.Places.{BeginsLine, begins_letter, is_feed}
-use Rattle.lft_whole.specs.{declared.{sources.source.Spot.Spot, token.Token.Token}, inner.Tokens.{IsToken, StandBetween}}
+use Rattle.lft_syntax.specs.declared.token.Token.{Token}
+use Rattle.lft_whole.specs.{declared.sources.source.Spot.Spot, inner.Tokens.{IsToken, StandBetween}}
 use Rattle.lft_whole_parser.specs.Imports.Places.{AreSpots, IsSpot}
 
 not_feed : (b : ℕ) → (b ≡ 10 → ⊥) → is_in_line b ≡ true

@@ -1,7 +1,8 @@
 -- Where the bytes of a file stand, for people.
 use Rattle.std.specs.Prelude.{◌≡◌, ℕ, ◌+◌, List, Some, IsSomeAnd, count_by, length, slice_get, slice_range, take}
 use Rattle.lft_text_diagnostics.specs.Places.{BeginsLine, begins_letter, is_feed}
-use Rattle.lft_whole.specs.declared.{sources.source.Spot.Spot, token.Token.Token}
+use Rattle.lft_syntax.specs.declared.token.Token.{Token}
+use Rattle.lft_whole.specs.declared.sources.source.Spot.{Spot}
 
 -- The line and the column of a byte: lines count by the line feeds before it, columns by the letters that begin before it in its line.
 pub record IsSpot (t : List ℕ) (at : ℕ) (spot : Spot) : Type 0 where

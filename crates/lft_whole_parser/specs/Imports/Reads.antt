@@ -1,9 +1,9 @@
 -- What is read of a text: its tree, or why it has none.
 use Rattle.std.specs.Prelude.{◌≡◌, ℕ, List, IfErr, IsSomeAnd, Result, Ok, Err, slice_get}
 use Rattle.lft_whole.specs.{Pieces.tokens_of, Places.IsAmong}
-use Rattle.lft_whole.specs.declared.{fault.{TextFault.TheVariants.BadText, TreeFault.TreeFault}, token.Token.Token, tree.File.File}
-use Rattle.lft_whole.specs.declared.sources.{source.Spot.Spot, why.Why.Why}
+use Rattle.lft_whole.specs.declared.{fault.{TextFault.TheVariants.BadText, TreeFault.TreeFault}, tree.File.File, sources.{source.Spot.Spot, why.Why.Why}}
 use Rattle.lft_whole.specs.Parts.{Tree.FileTree, View.file_view}
+use Rattle.lft_syntax.specs.declared.token.Token.{Token}
 use Rattle.lft_whole_parser.specs.{Files.reads, Imports.Places.{AreSpots, IsSpot}}
 use Rattle.lft_whole.specs.declared.fault.TreeFault.TheVariants as faults
 use Rattle.lft_whole.specs.declared.sources.why.Why.TheVariants as why

@@ -1,9 +1,9 @@
 use Rattle.std.proofs.Common.{◌≡◌, List, length, Option, Some, Result, Ok, Err, IfErr, subst, sym, ap, ◌∙◌, arith}
 use Rattle.std.specs.Result.{IsErrAnd}
-use Rattle.lft_whole.specs.{declared.{token.{Token.Token, TokenKind.TokenKind}, fault.TextFault.TextFault}, Pieces.{Piece, tokens_of}}
+use Rattle.lft_syntax.{specs.declared.token.{Token.Token, TokenKind.TokenKind}, proofs.Cuts.not_some}
+use Rattle.lft_whole.specs.{declared.fault.TextFault.TextFault, Pieces.{Piece, tokens_of}}
 use Rattle.lft_whole.specs.inner.{Pieces.IsRefused, Tokens.{IsPiece, IsInText, StandBetween, AreTokens}}
 use Rattle.lft_whole.proofs.{Between.{between_blank, between_push}, Cuts.{Front, front_starts, front_token, front_blank, front_refused, front_whole}}
-use Rattle.lft_syntax.proofs.Cuts.{not_some}
 use Rattle.lft_whole.proofs.lexer.lex.Goals as goal
 
 handed_on : {A : Type 0} (P : TextFault → Type 0) (e : TextFault) (r : Result A TextFault) → P e → IsErrAnd r (λ x. x ≡ e) → IfErr r P

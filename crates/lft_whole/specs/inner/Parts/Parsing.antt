@@ -1,29 +1,12 @@
 -- What the parser has of the grammar: the text with its tokens, and what it answers.
-use Rattle.std.specs.Prelude.{ℕ, ◌<◌, ◌≤◌, length, Option, Some, None}
+use Rattle.std.specs.Prelude.{ℕ, ◌<◌, ◌≤◌, length}
 use Rattle.lft_tree.specs.Identifiers.{IsIdentifier}
-use Rattle.lft_whole.specs.declared.{parts.input.{Input.Input, Seen.Seen}, fault.TreeFault.TreeFault}
-use Rattle.lft_whole.specs.{Parts.Lexeme.{Source, Lexeme, Code, Text, Letters, Number, Decimal, Arrow, TildeArrow, Symbol}, Places.IsAmong}
-use Rattle.lft_whole.specs.declared.parts.input.Seen.TheVariants as seen
+use Rattle.lft_syntax.specs.{declared.input.Seen.Seen, inner.Seen.{seen_as, OfLetters}}
+use Rattle.lft_whole.specs.{declared.{parts.input.Input.Input, fault.TreeFault.TreeFault}, Parts.Lexeme.Source, Places.IsAmong}
 
 -- the text with its tokens, as the grammar sees it
 abbrev pub source : Input → Source
 source input = record { text = input.text.now; tokens = input.tokens.now }
-
--- what is seen of a token, as the grammar sees it
-abbrev pub seen_as : Seen → Lexeme
-seen_as seen.Code = Code
-seen_as seen.Text = Text
-seen_as (seen.Letters bytes) = Letters bytes.now
-seen_as (seen.Number n) = Number n
-seen_as seen.Decimal = Decimal
-seen_as seen.Arrow = Arrow
-seen_as seen.TildeArrow = TildeArrow
-seen_as (seen.Symbol b) = Symbol b
-
--- what is seen of what stands at a place, as the grammar sees it
-abbrev pub seen_there : Option Seen → Option Lexeme
-seen_there None = None
-seen_there (Some s) = Some (seen_as s)
 
 -- how many tokens there are
 abbrev pub count : Input → ℕ
@@ -47,5 +30,4 @@ Refuses input fault = IsAmong input.tokens.now fault
 
 -- letters are an identifier
 abbrev pub AreLetters : Seen → Type 0
-AreLetters (seen.Letters bytes) = IsIdentifier bytes.now
-AreLetters _ = Unit {0}
+AreLetters s = OfLetters IsIdentifier (seen_as s)

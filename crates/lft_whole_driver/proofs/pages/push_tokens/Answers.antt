@@ -1,5 +1,5 @@
 use Rattle.std.proofs.Common.{arith}
-use Rattle.lft_whole.specs.declared.token.TokenKind.TheVariants.{Code}
+use Rattle.lft_syntax.specs.declared.token.TokenKind.TheVariants.{Code}
 use Rattle.lft_whole_driver.proofs.Joining.{token_at}
 use Rattle.lft_whole_driver.proofs.pages.push_tokens.Goals as goal
 

@@ -1,7 +1,7 @@
 use Rattle.std.proofs.Common.{◌≡◌, ℕ, ◌<◌, ◌≤◌, Ok, refl, sym, ◌∙◌, arith}
 use Rattle.std.proofs.lemmas.Result.{err_from_is_err_and}
-use Rattle.lft_whole.specs.{Parts.{Language.on, Lexeme.is_there}, inner.Parts.Parsing.source}
-use Rattle.lft_whole.proofs.PartsLemmas.Loop.{loop_begins, loop_turns, loop_fails, loop_done}
+use Rattle.lft_syntax.specs.Lexeme.{is_there}
+use Rattle.lft_whole.{specs.{Parts.Language.on, inner.Parts.Parsing.source}, proofs.PartsLemmas.Loop.{loop_begins, loop_turns, loop_fails, loop_done}}
 use Rattle.lft_whole_parser.specs.Files.{file}
 use Rattle.lft_whole_parser.specs.Files as Files
 use Rattle.lft_whole_parser.proofs.files.file.Goals as goal

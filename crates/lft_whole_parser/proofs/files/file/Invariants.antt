@@ -1,5 +1,6 @@
 use Rattle.std.proofs.Common.{◌-◌, Ok}
-use Rattle.lft_whole.{specs.{Parts.{Language.on, Lexeme.is_there, View.file_view}, inner.Parts.Parsing.{count, Within, source}}, proofs.PartsLemmas.Loop.Loop}
+use Rattle.lft_syntax.specs.Lexeme.{is_there}
+use Rattle.lft_whole.{specs.{Parts.{Language.on, View.file_view}, inner.Parts.Parsing.{count, Within, source}}, proofs.PartsLemmas.Loop.Loop}
 use Rattle.lft_whole_parser.specs.Files as Files
 use Rattle.lft_whole_parser.proofs.files.file.Given as goal
 

@@ -1,6 +1,6 @@
 use Rattle.std.proofs.Common.{◌≡◌, ℕ, ◌++◌, ◌∷◌, [], length, refl, sym, subst, ◌∙◌, ap, arith}
 use Rattle.std.proofs.lemmas.{Result.err_from_is_err_and, List.map_push}
-use Rattle.lft_syntax.specs.{inner.{Tests.is_there, Reading.{item_at, items_at}, Parsing.words}, Language.many}
+use Rattle.lft_syntax.specs.{Lexeme.is_there, inner.{Reading.{item_at, items_at}, Parsing.words}, Language.many}
 use Rattle.lft_syntax.proofs.{Loop.{all_read, loop_starts, loop_fails, loop_turns, loop_done}, Rows.many_push, Files.right_item}
 use Rattle.lft_tree.specs.View.{item_view, item_views}
 use Rattle.lft_syntax.specs.Placed as Placed

@@ -1,5 +1,5 @@
 use Rattle.std.proofs.Common.{◌-◌, ◌≤◌, length}
-use Rattle.lft_syntax.{specs.{inner.{Tests.is_there, Reading.{item_at, items_at}, Parsing.words}, Language.many}, proofs.Loop.SoFar}
+use Rattle.lft_syntax.{specs.{Lexeme.is_there, inner.{Reading.{item_at, items_at}, Parsing.words}, Language.many}, proofs.Loop.SoFar}
 use Rattle.lft_tree.specs.View.{item_views}
 use Rattle.lft_syntax.specs.Placed as Placed
 use Rattle.lft_syntax.proofs.parser.file.items.Given as goal

@@ -1,7 +1,7 @@
 use Rattle.std.proofs.Common.{◌≡◌, ℕ, ◌+◌, Some, ap, sym, subst, ◌∙◌, arith, get_or, length}
 use Rattle.std.specs.Prelude.{slice_get}
 use Rattle.std.proofs.lemmas.{List.length_push, Option.slice_get-get_or}
-use Rattle.lft_whole.specs.declared.token.TokenKind.TheVariants.{Code}
+use Rattle.lft_syntax.specs.declared.token.TokenKind.TheVariants.{Code}
 use Rattle.lft_whole_parser.{specs.Imports.Places.AreSpots, proofs.ImportsLemmas.Columns.{SoFar, more, next, spots_all}}
 use Rattle.lft_whole_parser.proofs.imports.spots.spots.Goals as goal
 
