@@ -50,7 +50,7 @@ fn cost_of(
     }
 }
 
-/// Whether no row of the program costs more than is added for it. So few timers are one block.
+/// Whether no row of the program costs more than is added for it.
 fn is_cheap(program: &Program, listeners: &Listeners, channels: &Channels) -> bool
     requires ports { length listeners.now.ports ≡ length program.now.ports }
     requires channels { length channels.now.delayed ≡ length program.now.ports }
