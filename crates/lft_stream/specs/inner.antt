@@ -3,6 +3,7 @@ pub mod Counted
 pub mod Dues
 pub mod Kept
 pub mod Ordered
+pub mod Outlines
 pub mod Owed
 pub mod Present
 pub mod Settled

@@ -3,13 +3,13 @@
 ghost use Rattle.std.specs.Prelude.{◌≡◌, ℕ, ◌<◌, ◌++◌, List, length, Some, IsSome, IsTrue, Contains, slice_get};
 ghost use Rattle.lft_ir.specs.{declared.{steps.row.Row.Row as TheRow, parts.{Name.Name as TheName, Reaction.Reaction as TheReaction}}, Steps.Fits.RowsFit};
 ghost use Rattle.lft_ir.specs.{Parts.inputs, Sound.IsNameOf};
-ghost use Rattle.lft_model.specs.{Presence.{Shows, Inputs, Triggered}, Runs.{Ran, reads_at, read_of, steps_of}};
+ghost use Rattle.lft_model.specs.{Presence.{Shows, Inputs, Triggered}, Runs.{reads_at, read_of, steps_of}};
 ghost use Rattle.lft_rows.specs.inner.{Marks.{AreMarks, IsLaid}, Slices.IsSlice};
 ghost use Rattle.lft_queue.specs.inner.Coming.AtOnce.{IsAwaited};
 ghost use Rattle.lft_stream.specs.inner.Present.{AreShown, IsKnown, AreReadsShown};
 
 use crate::presence::Presence;
-use lft_ir::steps::{Row, Step, is_start, row_at};
+use lft_ir::steps::{Row, Step, row_at};
 use lft_ir::{Name, Value};
 use lft_lists::item_at;
 use lft_model::Plan;
@@ -226,7 +226,7 @@ fn has_read(
     }
 }
 
-/// Whether each run of the slice read what was present.
+/// Whether the runs of these reactions in the slice read what was present.
 pub(crate) fn have_read(
     writes: &Writes,
     coming: &Coming,
@@ -235,30 +235,21 @@ pub(crate) fn have_read(
     plan: &Plan,
     rows: &[Row],
     slice: Slice,
+    started: &[u32],
 ) -> bool
     requires fit { RowsFit plan.now.program rows.now }
     requires slice { IsSlice rows.now slice }
+    requires exist { (r : ℕ) → Contains started.now r → r < length plan.now.program.reactions }
     requires marks { AreMarks plan.now.program rows.now slice.first slice.end marks.now }
     requires long { length writes.now ≡ length plan.now.program.ports }
-    ensures { IsTrue result → (d u : List TheRow) → AreShown plan.now d u slice.tag writes.now coming.now.queue → IsKnown plan.now u slice.tag coming.now.queue presence.now → (r : ℕ) → Ran rows.now slice.tag r → Inputs plan.now (d ++ u) slice.tag r (reads_at plan.now rows.now slice.tag r) }
+    ensures { IsTrue result → (d u : List TheRow) → AreShown plan.now d u slice.tag writes.now coming.now.queue → IsKnown plan.now u slice.tag coming.now.queue presence.now → (r : ℕ) → Contains started.now r → Inputs plan.now (d ++ u) slice.tag r (reads_at plan.now rows.now slice.tag r) }
 {
     if !are_reads_shown(writes, coming, marks, presence, plan, rows, slice) {
         return false;
     }
-    for place in slice.first..slice.end {
-        let row = row_at(rows, place);
-        if is_start(&row.step)
-            && !has_read(
-                writes,
-                coming,
-                marks,
-                presence,
-                plan,
-                rows,
-                slice,
-                row.reaction,
-            )
-        {
+    for place in 0..started.len() {
+        let reaction = item_at(started, place);
+        if !has_read(writes, coming, marks, presence, plan, rows, slice, reaction) {
             return false;
         }
     }

@@ -1,15 +1,12 @@
 //! At which tag each reaction started last.
 
-ghost use Rattle.std.specs.Prelude.{◌≡◌, ℕ, List, [], ◌<◌, length, IfOk, IsTrue};
-ghost use Rattle.lft_ir.specs.{declared.steps.row.Row.Row as TheRow, Steps.Fits.RowsFit};
+ghost use Rattle.std.specs.Prelude.{◌≡◌, ℕ, List, [], ◌<◌, length, IfOk, IsTrue, Contains};
+ghost use Rattle.lft_ir.specs.declared.steps.row.Row.{Row as TheRow};
 ghost use Rattle.lft_model.specs.Runs.{Ran};
-ghost use Rattle.lft_rows.specs.inner.Slices.{IsSlice};
 ghost use Rattle.lft_stream.specs.inner.StartTags.{AreStartTags};
 
 use lft_ir::Program;
-use lft_ir::steps::{Row, is_start, row_at};
 use lft_lists::item_at;
-use lft_rows::Slice;
 use lft_tag::{NoMemory, Tag};
 use std::alloc::Global;
 use std::marker::Model;
@@ -48,19 +45,15 @@ impl StartTags {
         self.last[reaction as usize] = Some(tag);
     }
 
-    /// Goes on past the rows of a slice, whose runs are runs of the whole.
-    pub(crate) fn pass_all(&mut self, program: &Program, rows: &[Row], slice: Slice)
-        requires fit { RowsFit program.now rows.now }
-        requires slice { IsSlice rows.now slice }
+    /// Each of the reactions has a run at the tag.
+    pub(crate) fn begin_all(&mut self, program: &Program, started: &[u32], tag: Tag)
+        requires exist { (r : ℕ) → Contains started.now r → r < length program.now.reactions }
         requires long { length self.old ≡ length program.now.reactions }
         ensures long { length self.new ≡ length program.now.reactions }
-        ensures starts { (whole : List TheRow) → ((r : ℕ) → Ran rows.now slice.tag r → Ran whole slice.tag r) → AreStartTags program.now whole self.old → AreStartTags program.now whole self.new }
+        ensures starts { (whole : List TheRow) → ((r : ℕ) → Contains started.now r → Ran whole tag r) → AreStartTags program.now whole self.old → AreStartTags program.now whole self.new }
     {
-        for place in slice.first..slice.end {
-            let row = row_at(rows, place);
-            if is_start(&row.step) {
-                self.begin(program, row.reaction, slice.tag);
-            }
+        for place in 0..started.len() {
+            self.begin(program, item_at(started, place), tag);
         }
     }
 

@@ -1,23 +1,25 @@
 //! What is kept of the rows so far.
 
-ghost use Rattle.std.specs.Prelude.{◌≡◌, ℕ, List, [], ◌++◌, ◌+◌, ◌<◌, take, length, Some, None, IsTrue, IfOk, IfSome};
+ghost use Rattle.std.specs.Prelude.{◌≡◌, ℕ, List, [], ◌++◌, ◌+◌, ◌<◌, take, slice_range, length, Some, None, IsTrue, IfOk, IfSome, Contains};
 ghost use Rattle.lft_ir.specs.{declared.steps.row.Row.Row as TheRow, Steps.Fits.RowsFit};
 ghost use Rattle.lft_graph.specs.inner.Sets.{AreAncestors};
 ghost use Rattle.lft_tag.specs.Tags.{UpTo, earlier, earliest};
 ghost use Rattle.lft_model.specs.{Presence.{stop, requests, Triggered}, Runs.Ran};
-ghost use Rattle.lft_rows.specs.{inner.{Marks.{AreMarks, AreBefore as HaveMarksTo, IsLaid}, Slices.{IsSlice, Rises}}, Slices.runs_in, Accepted.IsAccepted};
-ghost use Rattle.lft_stream.specs.inner.Dues.{AreDues, AreDuesAt, NoneDueBefore};
+ghost use Rattle.lft_rows.specs.{inner.{Marks.{AreMarks, AreBefore as HaveMarksTo, IsLaid}, Slices.{IsSlice, Rises}}, Accepted.IsAccepted};
+ghost use Rattle.lft_stream.specs.inner.{Outlines.IsOutline, Dues.{AreDues, AreDuesAt, NoneDueBefore}};
 ghost use Rattle.lft_stream.specs.inner.{Kept.{KeepRules, IsLater, stopped_stream, IsStreamOf, RisesAt, IsAtHand, IsJudged}, Present.AreShown};
 
 use crate::dues::Dues;
 use crate::effort::Effort;
 use crate::hearing::is_all_heard;
 use crate::order::Order;
+use crate::outline::Outline;
 use crate::presence::Presence;
 use crate::reads::{have_read, is_woken};
 use crate::start_tags::StartTags;
 use lft_ir::Program;
-use lft_ir::steps::{Row, is_start, is_stop, row_at};
+use lft_ir::steps::{Row, is_stop, row_at};
+use lft_lists::item_at;
 use lft_model::Plan;
 use lft_queue::coming::{Channels, Coming, Listeners, Unread, Writes, pass_on};
 use lft_rows::{Marks, Slice};
@@ -49,6 +51,8 @@ pub(crate) struct Stream {
     unread: Unread,
     effort: Effort,
     presence: Presence,
+    /// Of the rows at the tag at hand.
+    outline: Outline,
 }
 
 /// The earlier of two tags.
@@ -93,21 +97,6 @@ fn slice_from(rows: &[Row], first: usize) -> Slice
     Slice { tag, first, end }
 }
 
-/// The number of start rows.
-fn starts_in(rows: &[Row]) -> u32
-    requires { length rows.now < 4294967296 }
-    ensures { result ≡ runs_in rows.now }
-{
-    let mut starts = 0;
-    for place in 0..rows.len() {
-        let row = row_at(rows, place);
-        if is_start(&row.step) {
-            starts += 1;
-        }
-    }
-    starts
-}
-
 /// Whether the reaction, which has a run at the tag, is triggered there, where the stop is the last.
 /// What was due there is due later now.
 fn is_triggered(
@@ -133,8 +122,8 @@ fn is_triggered(
         || is_woken(writes, coming, marks, presence, plan, tag, reaction)
 }
 
-/// Whether each reaction that starts in the slice is triggered there, where the stop is the last. What
-/// was due there is due later now.
+/// Whether each of the reactions, which have runs at the tag, is triggered there, where the stop is the last.
+/// What was due there is due later now.
 fn are_triggered(
     dues: &mut Dues,
     writes: &Writes,
@@ -142,33 +131,22 @@ fn are_triggered(
     marks: &Marks,
     presence: &Presence,
     plan: &Plan,
-    rows: &[Row],
-    slice: Slice,
+    started: &[u32],
+    tag: Tag,
     last: Tag,
 ) -> bool
-    requires fit { RowsFit plan.now.program rows.now }
-    requires slice { IsSlice rows.now slice }
+    requires exist { (r : ℕ) → Contains started.now r → r < length plan.now.program.reactions }
     requires laid { IsLaid plan.now.program marks.now }
     requires long { length writes.now ≡ length plan.now.program.ports }
-    requires dues { (t : List TheRow) × AreDuesAt plan.now t rows.now slice.tag last dues.old }
-    ensures dues { (t : List TheRow) → AreDuesAt plan.now t rows.now slice.tag last dues.old → AreDues plan.now t dues.new }
-    ensures triggered { IsTrue result → (d u : List TheRow) → AreDuesAt plan.now (d ++ u) rows.now slice.tag last dues.old → AreShown plan.now d u slice.tag writes.now coming.now.queue → (r : ℕ) → Ran rows.now slice.tag r → Triggered plan.now (d ++ u) slice.tag r }
+    requires dues { (t : List TheRow) × AreDuesAt plan.now t started.now tag last dues.old }
+    ensures dues { (t : List TheRow) → AreDuesAt plan.now t started.now tag last dues.old → AreDues plan.now t dues.new }
+    ensures triggered { IsTrue result → (d u : List TheRow) → AreDuesAt plan.now (d ++ u) started.now tag last dues.old → AreShown plan.now d u tag writes.now coming.now.queue → (r : ℕ) → Contains started.now r → Triggered plan.now (d ++ u) tag r }
 {
-    for place in slice.first..slice.end {
-        let row = row_at(rows, place);
-        if is_start(&row.step)
-            && !is_triggered(
-                dues,
-                writes,
-                coming,
-                marks,
-                presence,
-                plan,
-                row.reaction,
-                slice.tag,
-                last,
-            )
-        {
+    for place in 0..started.len() {
+        let reaction = item_at(started, place);
+        if !is_triggered(
+            dues, writes, coming, marks, presence, plan, reaction, tag, last,
+        ) {
             return false;
         }
     }
@@ -195,6 +173,7 @@ impl Stream {
             unread: Unread::new(alloc, program)?,
             effort,
             presence: Presence::new(alloc, program),
+            outline: Outline::new(alloc),
         })
     }
 
@@ -240,6 +219,7 @@ impl Stream {
         requires fit { RowsFit plan.now.program rows.now }
         requires slice { IsSlice rows.now slice }
         requires marks { AreMarks plan.now.program rows.now slice.first slice.end marks.now }
+        requires outline { IsOutline (slice_range rows.now slice.first slice.end) self.old.outline }
         requires hand { (done : List TheRow) × IsAtHand plan.now done rows.now slice self.old }
         ensures stop { self.new.stop ≡ self.old.stop }
         ensures tag { self.new.tag ≡ self.old.tag }
@@ -249,14 +229,17 @@ impl Stream {
         ensures unread { self.new.unread ≡ self.old.unread }
         ensures listeners { self.new.listeners ≡ self.old.listeners }
         ensures channels { self.new.channels ≡ self.old.channels }
+        ensures outline { self.new.outline ≡ self.old.outline }
         ensures judged { IsTrue result → (done : List TheRow) → IsAtHand plan.now done rows.now slice self.old → IsJudged plan.now done rows.now slice self.new }
     {
         let program = plan.program();
         let own = &rows[slice.first..slice.end];
+        let started = self.outline.started();
+        let effects = self.outline.effects(own);
         self.presence
             .find(plan, &self.channels, &self.coming, own, slice.tag);
-        self.writes.pass_all(program, own, slice.tag);
-        self.starts.pass_all(program, rows, slice);
+        self.writes.pass_all(program, effects, slice.tag);
+        self.starts.begin_all(program, started, slice.tag);
         if !self.effort.allows(
             program,
             &self.presence,
@@ -271,8 +254,8 @@ impl Stream {
             marks,
             &self.presence,
             plan,
-            rows,
-            slice,
+            started,
+            slice.tag,
             self.stop,
         ) || !have_read(
             &self.writes,
@@ -282,6 +265,7 @@ impl Stream {
             plan,
             rows,
             slice,
+            started,
         ) {
             return false;
         }
@@ -290,7 +274,7 @@ impl Stream {
             &self.coming,
             &self.listeners,
             &self.starts,
-            own,
+            effects,
             slice.tag,
         )
     }
@@ -318,6 +302,7 @@ impl Stream {
         let program = plan.program();
         let own = &rows[slice.first..slice.end];
         if !self.may_reach(slice.tag)
+            || !self.outline.find(own)
             || !order.is_kept(plan, own)
             || !self
                 .coming
@@ -326,23 +311,26 @@ impl Stream {
             return false;
         }
         // A request of the tag holds for its runs too: one microstep later is the stop.
-        self.stop = stop_behind(program, self.stop, own);
-        marks.pass_all(program, rows, slice.first, slice.end);
+        let effects = self.outline.effects(own);
+        self.stop = stop_behind(program, self.stop, effects);
+        let read = slice.first + self.outline.reads_end();
+        marks.pass_all(program, rows, slice.first, read);
         if !self.judge_slice(plan, marks, rows, slice) {
             return false;
         }
         self.coming.drop_until(slice.tag);
-        let met = self.unread.pass_all(program, own, slice.tag);
+        let met = self.unread.pass_all(program, effects, slice.tag);
         self.coming.note(met);
+        let runs = self.outline.runs(own);
         pass_on(
             &mut self.coming,
             &mut self.writes,
             &self.channels,
             plan,
-            own,
+            effects,
             slice.tag,
             self.stop,
-        ) && self.count(slice.tag, starts_in(own))
+        ) && self.count(slice.tag, runs)
     }
 
     /// Goes on past rows that break none of the rules 1 to 5, tag by tag. It is false where they may

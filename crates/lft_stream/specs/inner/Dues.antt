@@ -50,10 +50,10 @@ pub record AreDues (plan : PlanParts) (t : List Row) (dues : List (List Due)) : 
   pub as_long : length dues ≡ length plan.program.reactions
   pub each : (r : ℕ) (reaction : Reaction) (list : List Due) → slice_get plan.program.reactions r ≡ Some reaction → slice_get dues r ≡ Some list → AreDue plan t r (filter_map timed reaction.triggers) list
 
--- the runs at g of some rows are runs of all rows t, of which last is the stop, and what is kept is when the triggers of each reaction are due
-pub record AreDuesAt (plan : PlanParts) (t rows : List Row) (g last : Tag) (dues : List (List Due)) : Type 0 where
+-- the reactions that started at g have runs there in the rows t, of which last is the stop, and what is kept is when the triggers of each reaction are due
+pub record AreDuesAt (plan : PlanParts) (t : List Row) (started : List ℕ) (g last : Tag) (dues : List (List Due)) : Type 0 where
   pub last_is : last ≡ stop plan t
-  pub ran : (r : ℕ) → Ran rows g r → Ran t g r
+  pub ran : (r : ℕ) → Contains started r → Ran t g r
   pub each : AreDues plan t dues
 
 -- what is due is so at g, where the stop tag is last

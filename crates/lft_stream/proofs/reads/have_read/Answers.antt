@@ -1,29 +1,23 @@
-use Rattle.std.proofs.Common.{◌≡◌, ◌++◌, ℕ, inl, inr, refl, sym, ap, subst, arith}
-use Rattle.std.proofs.lemmas.Bool.{cases_eq, false≢true}
-use Rattle.lft_lists.proofs.Places.{same_at}
-use Rattle.lft_ir.specs.declared.steps.row.Row.{Row}
-use Rattle.lft_model.specs.{Presence.Inputs, Runs.{start_row, reads_at}}
-use Rattle.lft_stream.proofs.reads.have_read.Goals.{else-is_start-via-then-is_start+else-not-has_read, else-is_start-via-else-is_start}
+use Rattle.std.proofs.Common.{◌≡◌, ◌++◌, ℕ, inl, inr, refl, sym, subst, arith}
+use Rattle.std.proofs.lemmas.Bool.{cases_eq}
+use Rattle.lft_lists.proofs.{Members.{mem_get, get_mem, mem_contains, contains_mem}, Places.same_at}
+use Rattle.lft_model.{specs.{Presence.Inputs, Runs.reads_at}, proofs.Places.slice_get_within}
 use Rattle.lft_stream.proofs.reads.have_read.Goals as goal
 
+pub has_read-requires-clause-reaction : goal.has_read-requires-clause-reaction
+has_read-requires-clause-reaction c = c.requires.exist c.item_at-reaction.result (mem_contains c.item_at-reaction.result c.args.started.now (mem_get c.args.started.now c.loop-place.place c.item_at-reaction.result c.item_at-reaction.ensures))
+
 pub loop-place-preserved : goal.loop-place-preserved
-loop-place-preserved c =
-    let plan = c.args.plan.now in
-    let rows = c.args.rows.now in
-    let g = c.args.slice.tag in
-    let i = c.loop-place.place in
-    let row = c.row_at-row.result in
-    elim c.else-is_start.branch [
-      | else-is_start-via-then-is_start+else-not-has_read w ↦ λ d u shown known j v r low high starts. elim (cases_eq j i) [
-        | inl q ↦
-            let same : start_row v g r ≡ row = same_at rows j i (start_row v g r) row starts c.row_at-row.ensures q in
-            subst (λ (a : ℕ). Inputs plan (d ++ u) g a (reads_at plan rows g a)) (sym (ap (λ (x : Row). x.reaction) same)) (w.if-not-has_read.ensures refl d u shown known (λ k. c.if-not-are_reads_shown.ensures refl k d u shown))
-        | inr m ↦ c.loop-place.invariant d u shown known j v r low (omega (arith, high, m)) starts
-      ]
-      | else-is_start-via-else-is_start w ↦ λ d u shown known j v r low high starts. elim (cases_eq j i) [
-        | inl q ↦
-            let same : start_row v g r ≡ row = same_at rows j i (start_row v g r) row starts c.row_at-row.ensures q in
-            absurd (false≢true (w.if-is_start.ensures.1 (sym (ap (λ (x : Row). x.step) same))))
-        | inr m ↦ c.loop-place.invariant d u shown known j v r low (omega (arith, high, m)) starts
-      ]
-    ]
+loop-place-preserved c = λ d u shown known k r low e. elim (cases_eq k c.loop-place.place) [
+  | inl q ↦
+      let same : r ≡ c.item_at-reaction.result = same_at c.args.started.now k c.loop-place.place r c.item_at-reaction.result e c.item_at-reaction.ensures q in
+      subst (λ (a : ℕ). Inputs c.args.plan.now (d ++ u) c.args.slice.tag a (reads_at c.args.plan.now c.args.rows.now c.args.slice.tag a)) (sym same) (c.if-not-has_read.ensures refl d u shown known (λ z. c.if-not-are_reads_shown.ensures refl z d u shown))
+  | inr m ↦ c.loop-place.invariant d u shown known k r (omega (arith, low, m)) e
+]
+
+pub returns : goal.returns
+returns c = λ z d u shown known r has.
+    let at = get_mem r c.args.started.now (contains_mem r c.args.started.now has) in
+    let l = slice_get_within c.args.started.now at.0 r at.1 in
+    let past = c.loop-place-test.false in
+    c.loop-place.invariant d u shown known at.0 r (omega (arith, l, past)) at.1

@@ -1,8 +1,0 @@
-use Rattle.std.proofs.Common.{◌≡◌, ℕ, List, length}
-use Rattle.lft_ir.specs.declared.steps.row.Row.{Row}
-use Rattle.lft_model.specs.Runs.{Ran}
-use Rattle.lft_stream.specs.inner.StartTags.{AreStartTags}
-use Rattle.lft_stream.proofs.start_tags.StartTags.pass_all.Given as goal
-
-abbrev pub invariant-loop-place : goal.invariant-loop-place
-invariant-loop-place l = record { long : length l.self ≡ length l.program.reactions; starts : (whole : List Row) → ((r : ℕ) → Ran l.rows l.slice.tag r → Ran whole l.slice.tag r) → AreStartTags l.program whole l.fn.self → AreStartTags l.program whole l.self }
