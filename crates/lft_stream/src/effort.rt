@@ -54,6 +54,29 @@ fn cost_of(
     }
 }
 
+/// Whether no row of the program costs more than is added for it. So few timers are one block.
+fn is_cheap(program: &Program, listeners: &Listeners, channels: &Channels) -> bool
+    requires ports { length listeners.now.ports ≡ length program.now.ports }
+    requires channels { length channels.now.delayed ≡ length program.now.ports }
+{
+    for number in 0..program.reactions() as u32 {
+        let reaction = program.reaction(number);
+        let uses = reaction.uses.as_slice().len();
+        let inputs = reaction.triggers.as_slice().len().saturating_add(uses);
+        if inputs as u64 > PER_ROW {
+            return false;
+        }
+    }
+    for port in 0..program.ports() as u32 {
+        let targets = channels.delayed(port).len();
+        let cost = listeners.of(port).len().saturating_add(targets);
+        if cost as u64 > PER_ROW {
+            return false;
+        }
+    }
+    true
+}
+
 impl Effort {
     /// What may be looked at before the first row, where another judge stands behind.
     pub(crate) fn shared() -> Effort {
@@ -63,6 +86,22 @@ impl Effort {
     /// The same, where rows that are given up are judged by nobody.
     pub(crate) fn alone() -> Effort {
         Effort { left: None }
+    }
+
+    /// The same for rows of this program. Where each costs so little that none is given up, nothing is counted.
+    pub(crate) fn of_program(
+        self,
+        program: &Program,
+        listeners: &Listeners,
+        channels: &Channels,
+    ) -> Effort
+        requires ports { length listeners.now.ports ≡ length program.now.ports }
+        requires channels { length channels.now.delayed ≡ length program.now.ports }
+    {
+        if is_cheap(program, listeners, channels) {
+            return Effort::alone();
+        }
+        self
     }
 
     /// So many events may wait at once.

@@ -159,6 +159,8 @@ impl Stream {
         ensures { IfOk result (IsStreamOf plan.now []) }
     {
         let program = plan.program();
+        let listeners = Listeners::new(alloc, plan)?;
+        let channels = Channels::new(alloc, program)?;
         Ok(Stream {
             stop: plan.externals().stop(),
             tag: None,
@@ -167,11 +169,11 @@ impl Stream {
             dues: Dues::new(alloc, plan)?,
             starts: StartTags::new(alloc, program)?,
             writes: Writes::new(alloc, program)?,
-            listeners: Listeners::new(alloc, plan)?,
-            channels: Channels::new(alloc, program)?,
+            effort: effort.of_program(program, &listeners, &channels),
+            listeners,
+            channels,
             coming: Coming::new(alloc, effort.most_events()),
             unread: Unread::new(alloc, program)?,
-            effort,
             presence: Presence::new(alloc, program),
             outline: Outline::new(alloc),
         })
