@@ -4,17 +4,16 @@ use Rattle.std.{specs.{Global.Global, Option.option_and_then}, proofs.lemmas.{Bo
 use Rattle.lft_lists.proofs.Mapped.{mapped, mapped_from}
 use Rattle.lft_lists.proofs.Places.{Some_same, contains_at, get_push, get_push_cases, get_there, get_unwritten, get_write_cases, same_some}
 use Rattle.lft_whole.specs.declared.tree.{Instance.Instance, Member.Member}
-use Rattle.lft_classes.specs.declared.{scopes.Scopes.Scopes, shapes.{Child.Child, Inherited.Inherited, Shape.Shape}}
-use Rattle.lft_classes.specs.{Built.{AreNoted, Core, IsBuilt, core, cores, instance_of}, Chains.extended}
-use Rattle.lft_classes.specs.inner.{Makings.AreShapes, Needs.{AreMarks, HasNeed, IsReady, IsReadyAt, PassesOn}}
-use Rattle.lft_classes.specs.Needs.{Gives, HasMember, IsDecided, IsMarked, IsParameter, NamedFor, Need, NeedsName, NeedsNumber, Times, Widths, by_instance, by_member}
-use Rattle.lft_classes.specs.{Shapes.{child_at, inside, tables}, Walks.{IsBehind, Ways, nothing, one}}
+use Rattle.lft_classes.specs.declared.{scopes.ReactorNames.ReactorNames, shapes.{Child.Child, Inherited.Inherited, Shape.Shape}}
+use Rattle.lft_classes.specs.inner.{Built.{AreNoted, Core, IsBuilt, core, cores, instance_of}, Chains.extended, Makings.AreShapes}
+use Rattle.lft_classes.specs.inner.Needs.{AreMarks, HasNeed, IsReady, IsReadyAt, PassesOn, Gives, HasMember, IsDecided, IsMarked, IsParameter, NamedFor, Need, NeedsName, NeedsNumber, Times, Widths, by_instance, by_member}
+use Rattle.lft_classes.specs.inner.{Shapes.{child_at, inside, tables}, Walks.{IsBehind, Ways, nothing, one}}
 use Rattle.lft_classes.proofs.{Building.below_one, Goings.noted_child, Needing.{declared, member_of, one_name}}
 use Rattle.lft_whole.specs.declared.tree.Member.TheVariants as member
-use Rattle.lft_classes.specs.declared.shapes.Thing.TheVariants as thing
+use Rattle.lft_classes.specs.declared.shapes.OwnThing.TheVariants as thing
 
 -- the shape that is noted in a member is that of its reactor
-pub inner_means : (scopes : Scopes) (first : ℕ) (shapes : List Shape) (s k : ℕ) (shape : Shape) (m : Inherited) (t : ℕ) (inner : Shape) → AreShapes scopes first (cores shapes) (tables shapes) → slice_get shapes s ≡ Some shape → slice_get shape.members.items k ≡ Some m → inside (tables shapes) s k ≡ Some t → slice_get shapes t ≡ Some inner → instance_of scopes (m.file, m.member.now) ≡ Some inner.class.number
+pub inner_means : (scopes : ReactorNames) (first : ℕ) (shapes : List Shape) (s k : ℕ) (shape : Shape) (m : Inherited) (t : ℕ) (inner : Shape) → AreShapes scopes first (cores shapes) (tables shapes) → slice_get shapes s ≡ Some shape → slice_get shape.members.items k ≡ Some m → inside (tables shapes) s k ≡ Some t → slice_get shapes t ≡ Some inner → instance_of scopes (m.file, m.member.now) ≡ Some inner.class.number
 inner_means scopes first shapes s k shape m t inner all is_shape is_member is_inside is_inner =
     let outer = mapped core shapes s shape is_shape in
     let within = mapped core shapes t inner is_inner in
@@ -33,13 +32,13 @@ child_inside shapes s k shape child at there =
     ap (λ o. option_map number_of (option_and_then (λ (l : List (Option Child)). child_at l k) o)) (mapped rows shapes s shape at) ∙ ap (option_map number_of) there
 
 -- what is marked is needed, by its name
-pub needs_name : (scopes : Scopes) (need : Need) (shapes : List Shape) (t : ℕ) (inner : Shape) (q : List ℕ) (n : ℕ) → IsBuilt scopes (core inner) → IsDecided scopes shapes t → slice_get shapes t ≡ Some inner → IsParameter inner q n → IsMarked need inner n → NeedsName scopes need inner.class.number q
+pub needs_name : (scopes : ReactorNames) (need : Need) (shapes : List Shape) (t : ℕ) (inner : Shape) (q : List ℕ) (n : ℕ) → IsBuilt scopes (core inner) → IsDecided scopes shapes t → slice_get shapes t ≡ Some inner → IsParameter inner q n → IsMarked need inner n → NeedsName scopes need inner.class.number q
 needs_name scopes need shapes t inner q n built decided at is marked =
     let s = (decided inner at need n).0 marked in
     subst (NeedsName scopes need inner.class.number) (one_name scopes (core inner) s.0 q n built s.1 is) s.2
 
 -- what a member needs is needed
-pub member_needs : (scopes : Scopes) (first : ℕ) (shapes : List Shape) (s k : ℕ) (shape : Shape) (m : Inherited) (need : Need) (n : ℕ) → IsReadyAt scopes first shapes s shape k m → HasNeed need shapes shape k m.member.now n → NeedsNumber scopes need shape n
+pub member_needs : (scopes : ReactorNames) (first : ℕ) (shapes : List Shape) (s k : ℕ) (shape : Shape) (m : Inherited) (need : Need) (n : ℕ) → IsReadyAt scopes first shapes s shape k m → HasNeed need shapes shape k m.member.now n → NeedsNumber scopes need shape n
 member_needs scopes first shapes s k shape m need n at (inl names) =
     let built = at.ready.are_shapes.built s (core shape) (mapped core shapes s shape at.is_shape) in
     (names.0, names.1, by_member (m.file, m.member.now) (declared scopes (core shape) k m built at.is_member) names.2)
@@ -58,7 +57,7 @@ member_needs scopes first shapes s k shape m need n at (inr passes) =
     (value.0, value.2, by_instance m.file passes.instance has means (record { which = h.0; assignment = h.1.0; is_given = h.1.1; has_name = refl; is_word = value.1 }) needed)
 
 -- an instance passes on what it gives
-pub instance_passes : (scopes : Scopes) (first : ℕ) (shapes : List Shape) (s k : ℕ) (shape : Shape) (m : Inherited) (instance : Instance) (inner : ℕ) (need : Need) (p q : List ℕ) (n : ℕ) → IsReadyAt scopes first shapes s shape k m → m.member.now ≡ member.Instance instance → extended scopes m.file instance.reactor ≡ Some inner → Gives instance p q → NeedsName scopes need inner p → IsParameter shape q n → PassesOn need shapes shape k m.member.now n
+pub instance_passes : (scopes : ReactorNames) (first : ℕ) (shapes : List Shape) (s k : ℕ) (shape : Shape) (m : Inherited) (instance : Instance) (inner : ℕ) (need : Need) (p q : List ℕ) (n : ℕ) → IsReadyAt scopes first shapes s shape k m → m.member.now ≡ member.Instance instance → extended scopes m.file instance.reactor ≡ Some inner → Gives instance p q → NeedsName scopes need inner p → IsParameter shape q n → PassesOn need shapes shape k m.member.now n
 instance_passes scopes first shapes s k shape m instance inner need p q n at is extends gives needs is_parameter =
     let all = at.ready.are_shapes in
     let outer = mapped core shapes s shape at.is_shape in
@@ -89,7 +88,7 @@ instance_passes scopes first shapes s k shape m instance inner need p q n at is 
     }
 
 -- what is needed a member needs
-pub needed_by : (scopes : Scopes) (first : ℕ) (shapes : List Shape) (s : ℕ) (shape : Shape) (need : Need) (n : ℕ) → IsReady scopes first shapes s → slice_get shapes s ≡ Some shape → (r : ℕ) (q : List ℕ) → NeedsName scopes need r q → r ≡ shape.class.number → IsParameter shape q n → (k : ℕ) × ((m : Inherited) × (slice_get shape.members.items k ≡ Some m) × HasNeed need shapes shape k m.member.now n)
+pub needed_by : (scopes : ReactorNames) (first : ℕ) (shapes : List Shape) (s : ℕ) (shape : Shape) (need : Need) (n : ℕ) → IsReady scopes first shapes s → slice_get shapes s ≡ Some shape → (r : ℕ) (q : List ℕ) → NeedsName scopes need r q → r ≡ shape.class.number → IsParameter shape q n → (k : ℕ) × ((m : Inherited) × (slice_get shape.members.items k ≡ Some m) × HasNeed need shapes shape k m.member.now n)
 needed_by scopes first shapes s shape need n ready at _ _ (by_member {r = r} {q = q} m has named) same is =
     let built = ready.are_shapes.built s (core shape) (mapped core shapes s shape at) in
     let there = member_of scopes (core shape) m built (subst (λ x. HasMember scopes x m) same has) in
@@ -104,7 +103,7 @@ needed_by scopes first shapes s shape need n ready at _ _ (by_instance {r = r} {
     (there.0, (m, there.1.1, inr (instance_passes scopes first shapes s there.0 shape m instance inner need p q n (record { ready = ready; is_shape = at; is_member = there.1.1 }) is_instance extends gives needs is)))
 
 -- so what the members of a shape need is marked, and that alone
-pub decided_by : (scopes : Scopes) (first : ℕ) (shapes : List Shape) (s : ℕ) (shape : Shape) (need : Need) (list : List Bool) → IsReady scopes first shapes s → slice_get shapes s ≡ Some shape → AreMarks need shapes shape list → (n : ℕ) → (slice_get list n ≡ Some true) ↔ NeedsNumber scopes need shape n
+pub decided_by : (scopes : ReactorNames) (first : ℕ) (shapes : List Shape) (s : ℕ) (shape : Shape) (need : Need) (list : List Bool) → IsReady scopes first shapes s → slice_get shapes s ≡ Some shape → AreMarks need shapes shape list → (n : ℕ) → (slice_get list n ≡ Some true) ↔ NeedsNumber scopes need shape n
 decided_by scopes first shapes s shape need list ready at are n = (there, back)
   where
     there : slice_get list n ≡ Some true → NeedsNumber scopes need shape n
@@ -135,27 +134,27 @@ listed_before next _ (one xs y behind new below) i x k r at way = elim (get_push
 ]
 
 -- a shape with what is decided
-pub both_decided : (scopes : Scopes) (shape : Shape) (sized timed : Vec Bool Global) → ((n : ℕ) → (slice_get sized.items n ≡ Some true) ↔ NeedsNumber scopes Widths shape n) → ((n : ℕ) → (slice_get timed.items n ≡ Some true) ↔ NeedsNumber scopes Times shape n) → (need : Need) (n : ℕ) → IsMarked need (record shape { sized = sized; timed = timed }) n ↔ NeedsNumber scopes need (record shape { sized = sized; timed = timed }) n
+pub both_decided : (scopes : ReactorNames) (shape : Shape) (sized timed : Vec Bool Global) → ((n : ℕ) → (slice_get sized.items n ≡ Some true) ↔ NeedsNumber scopes Widths shape n) → ((n : ℕ) → (slice_get timed.items n ≡ Some true) ↔ NeedsNumber scopes Times shape n) → (need : Need) (n : ℕ) → IsMarked need (record shape { sized = sized; timed = timed }) n ↔ NeedsNumber scopes need (record shape { sized = sized; timed = timed }) n
 both_decided scopes shape sized timed widths times Widths = widths
 both_decided scopes shape sized timed widths times Times = times
 
 -- a shape that is written
-pub decided_one : (scopes : Scopes) (shapes : List Shape) (i : ℕ) (y : Shape) → i < length shapes → ((need : Need) (n : ℕ) → IsMarked need y n ↔ NeedsNumber scopes need y n) → IsDecided scopes (slice_set shapes i y) i
+pub decided_one : (scopes : ReactorNames) (shapes : List Shape) (i : ℕ) (y : Shape) → i < length shapes → ((need : Need) (n : ℕ) → IsMarked need y n ↔ NeedsNumber scopes need y n) → IsDecided scopes (slice_set shapes i y) i
 decided_one scopes shapes i y within is shape at = elim (get_write_cases shapes i i y shape within at) [
   | inl this ↦ subst (λ (x : Shape). (need : Need) (n : ℕ) → IsMarked need x n ↔ NeedsNumber scopes need x n) this.1 is
   | inr other ↦ absurd (other.0 refl)
 ]
 
 -- the others stay
-pub decided_but : (scopes : Scopes) (shapes : List Shape) (i : ℕ) (y : Shape) (s : ℕ) → s ≢ i → IsDecided scopes shapes s → IsDecided scopes (slice_set shapes i y) s
+pub decided_but : (scopes : ReactorNames) (shapes : List Shape) (i : ℕ) (y : Shape) (s : ℕ) → s ≢ i → IsDecided scopes shapes s → IsDecided scopes (slice_set shapes i y) s
 decided_but scopes shapes i y s apart is shape at = is shape (sym (get_unwritten shapes i s y apart) ∙ at)
 
 -- where there is no shape nothing is marked
-pub decided_none : (scopes : Scopes) (shapes : List Shape) (s : ℕ) → (s < length shapes → ⊥) → IsDecided scopes shapes s
+pub decided_none : (scopes : ReactorNames) (shapes : List Shape) (s : ℕ) → (s < length shapes → ⊥) → IsDecided scopes shapes s
 decided_none scopes shapes s none shape at = absurd (none (slice_get_within shapes s shape at))
 
 -- where what came before is decided, the next one can be
-pub ready_next : (scopes : Scopes) (first : ℕ) (was now : List Shape) (order : List ℕ) (place node : ℕ) → AreShapes scopes first (cores was) (tables was) → AreNoted scopes (cores was) (tables was) → IsBehind (inside (tables was)) order → tables now ≡ tables was → cores now ≡ cores was → slice_get order place ≡ Some node → ((j t : ℕ) → j < place → slice_get order j ≡ Some t → IsDecided scopes now t) → IsReady scopes first now node
+pub ready_next : (scopes : ReactorNames) (first : ℕ) (was now : List Shape) (order : List ℕ) (place node : ℕ) → AreShapes scopes first (cores was) (tables was) → AreNoted scopes (cores was) (tables was) → IsBehind (inside (tables was)) order → tables now ≡ tables was → cores now ≡ cores was → slice_get order place ≡ Some node → ((j t : ℕ) → j < place → slice_get order j ≡ Some t → IsDecided scopes now t) → IsReady scopes first now node
 ready_next scopes first was now order place node all noted behind rows same at before = record {
   are_shapes = subst (λ cs. AreShapes scopes first cs (tables now)) (sym same) (subst (AreShapes scopes first (cores was)) (sym rows) all);
   all_noted = subst (λ cs. AreNoted scopes cs (tables now)) (sym same) (subst (AreNoted scopes (cores was)) (sym rows) noted);
@@ -163,7 +162,7 @@ ready_next scopes first was now order place node all noted behind rows same at b
 }
 
 -- and with it what came up to it is
-pub decided_next : (scopes : Scopes) (old new : List Shape) (order : List ℕ) (place node : ℕ) → slice_get order place ≡ Some node → ((j t : ℕ) → j < place → slice_get order j ≡ Some t → IsDecided scopes old t) → IsDecided scopes new node → ((s : ℕ) → s ≢ node → IsDecided scopes old s → IsDecided scopes new s) → (j t : ℕ) → j < place + 1 → slice_get order j ≡ Some t → IsDecided scopes new t
+pub decided_next : (scopes : ReactorNames) (old new : List Shape) (order : List ℕ) (place node : ℕ) → slice_get order place ≡ Some node → ((j t : ℕ) → j < place → slice_get order j ≡ Some t → IsDecided scopes old t) → IsDecided scopes new node → ((s : ℕ) → s ≢ node → IsDecided scopes old s → IsDecided scopes new s) → (j t : ℕ) → j < place + 1 → slice_get order j ≡ Some t → IsDecided scopes new t
 decided_next scopes old new order place node at before decided kept = below_one (λ j t. IsDecided scopes new t) order place node at (λ j t lt there. still t (before j t lt there) (cases_eq t node)) decided
   where
     still : (t : ℕ) → IsDecided scopes old t → (t ≡ node) ⊎ (t ≡ node → ⊥) → IsDecided scopes new t

@@ -3,11 +3,11 @@ use Rattle.std.proofs.Common.{◌≡◌, ◌⊎◌, ◌+◌, ◌<◌, ◌≤◌,
 use Rattle.std.{specs.Option.option_and_then, proofs.lemmas.{List.length-map, Bool.cases_lt, Option.{option_and_then_some, slice_get_within}}}
 use Rattle.lft_lists.proofs.Mapped.{mapped, mapped_from, option_map_some}
 use Rattle.lft_lists.proofs.Places.{get_last, get_left, get_push, get_there, get_unwritten, get_written, get_push_cases, get_write_cases, same_some}
-use Rattle.lft_classes.specs.declared.{making.Making.Making, scopes.{Class.Class, Scopes.Scopes}, shapes.{Child.Child, Shape.Shape}}
+use Rattle.lft_classes.specs.declared.{making.Making.Making, scopes.{Class.Class, ReactorNames.ReactorNames}, shapes.{Child.Child, Shape.Shape}}
 use Rattle.lft_classes.specs.inner.Below.{IsBelow, itself}
 use Rattle.lft_classes.specs.inner.Makings.{AddsShape, AreMade, AreShapes, GoesOn, HasChildren, IsOfClass, KeepsBut, KeepsNoted, SetsOne}
-use Rattle.lft_classes.specs.Built.{Core, IsBuilt, AreBuilt, AreInside, AreNoted, IsInside, IsNoted, core, cores, first_class}
-use Rattle.lft_classes.specs.Shapes.{child_at, child_in, inside, tables}
+use Rattle.lft_classes.specs.inner.Built.{Core, IsBuilt, AreBuilt, AreInside, AreNoted, IsInside, IsNoted, core, cores, first_class}
+use Rattle.lft_classes.specs.inner.Shapes.{child_at, child_in, inside, tables}
 
 -- the shapes of the one are among those of the other, at the same places
 abbrev pub Kept : List Core → List Core → Type 0
@@ -16,7 +16,7 @@ Kept cs ds = (i : ℕ) (c : Core) → slice_get cs i ≡ Some c → slice_get ds
 pub class_kept : (cs ds : List Core) (s r : ℕ) → Kept cs ds → IsOfClass cs s r → IsOfClass ds s r
 class_kept cs ds s r kept is = record { core = is.core; is_core = kept s is.core is.is_core; is_of = is.is_of }
 
-pub inside_kept : (scopes : Scopes) (cs ds : List Core) (s k : ℕ) (child : Child) → Kept cs ds → IsInside scopes cs s k child → IsInside scopes ds s k child
+pub inside_kept : (scopes : ReactorNames) (cs ds : List Core) (s k : ℕ) (child : Child) → Kept cs ds → IsInside scopes cs s k child → IsInside scopes ds s k child
 inside_kept scopes cs ds s k child kept is = record {
   outer = is.outer;
   is_outer = kept s is.outer is.is_outer;
@@ -93,7 +93,7 @@ sets_one old number y children within is s k child e =
       | inr other ↦ inl (ap (option_and_then (λ (l : List (Option Child)). child_at l k)) (mapped rows old s from.0 other.1 ∙ ap Some from.2) ∙ there)
     ])
 
-pub set_made : (scopes : Scopes) (first : ℕ) (old new : Making) (number : ℕ) (children : List (Option Child)) → new.known ≡ old.known → cores new.shapes.items ≡ cores old.shapes.items → SetsOne old.shapes.items new.shapes.items number children → AreMade scopes first old → ((k : ℕ) (child : Child) → child_at children k ≡ Some child → IsInside scopes (cores old.shapes.items) number k child) → AreMade scopes first new
+pub set_made : (scopes : ReactorNames) (first : ℕ) (old new : Making) (number : ℕ) (children : List (Option Child)) → new.known ≡ old.known → cores new.shapes.items ≡ cores old.shapes.items → SetsOne old.shapes.items new.shapes.items number children → AreMade scopes first old → ((k : ℕ) (child : Child) → child_at children k ≡ Some child → IsInside scopes (cores old.shapes.items) number k child) → AreMade scopes first new
 set_made scopes first old new number children known same sets all is = record {
   shapes = record {
     built = subst (AreBuilt scopes) (sym same) all.shapes.built;
@@ -165,7 +165,7 @@ sets_children old number y children within is k t e =
     ap (λ o. option_map number_of (option_and_then (λ l. child_at l k) o)) (mapped rows (slice_set old number y) number y (get_written old number y within) ∙ ap Some is) ∙ e
 
 -- what is noted stays noted
-pub noted_kept : (scopes : Scopes) (old new : List (List (Option Child))) (s : ℕ) (c : Core) → ((k t : ℕ) → inside old s k ≡ Some t → inside new s k ≡ Some t) → IsNoted scopes old s c → IsNoted scopes new s c
+pub noted_kept : (scopes : ReactorNames) (old new : List (List (Option Child))) (s : ℕ) (c : Core) → ((k t : ℕ) → inside old s k ≡ Some t → inside new s k ≡ Some t) → IsNoted scopes old s c → IsNoted scopes new s c
 noted_kept scopes old new s c kept is k n m at means = let t = is k n m at means in (t.0, kept k t.0 t.1)
 
 -- a shape is noted in an instance, where none is for want of one alone
@@ -180,7 +180,7 @@ noted_in children k N within none is = of there.0 there.1
     of None at = absurd (none at is)
 
 -- one shape more in which all is noted
-pub noted_more : (scopes : Scopes) (old new : List Shape) (number : ℕ) (here : Core) → slice_get (cores old) number ≡ Some here → Kept (cores old) (cores new) → KeepsBut old new number → ((s : ℕ) (c : Core) → s < number → slice_get (cores old) s ≡ Some c → IsNoted scopes (tables old) s c) → IsNoted scopes (tables new) number here → (s : ℕ) (c : Core) → s < number + 1 → slice_get (cores new) s ≡ Some c → IsNoted scopes (tables new) s c
+pub noted_more : (scopes : ReactorNames) (old new : List Shape) (number : ℕ) (here : Core) → slice_get (cores old) number ≡ Some here → Kept (cores old) (cores new) → KeepsBut old new number → ((s : ℕ) (c : Core) → s < number → slice_get (cores old) s ≡ Some c → IsNoted scopes (tables old) s c) → IsNoted scopes (tables new) number here → (s : ℕ) (c : Core) → s < number + 1 → slice_get (cores new) s ≡ Some c → IsNoted scopes (tables new) s c
 noted_more scopes old new number here at kept but before is s c lt there = elim (cases_lt s number) [
   | inl l ↦ (
       let within = slice_get_within (cores old) number here at in
@@ -196,7 +196,7 @@ noted_more scopes old new number here at kept but before is s c lt there = elim 
 ]
 
 -- behind the last one there is none
-pub noted_all : (scopes : Scopes) (shapes : List Shape) (number : ℕ) → slice_get shapes number ≡ None → ((s : ℕ) (c : Core) → s < number → slice_get (cores shapes) s ≡ Some c → IsNoted scopes (tables shapes) s c) → AreNoted scopes (cores shapes) (tables shapes)
+pub noted_all : (scopes : ReactorNames) (shapes : List Shape) (number : ℕ) → slice_get shapes number ≡ None → ((s : ℕ) (c : Core) → s < number → slice_get (cores shapes) s ≡ Some c → IsNoted scopes (tables shapes) s c) → AreNoted scopes (cores shapes) (tables shapes)
 noted_all scopes shapes number none before s c at = before s c (below (cases_lt s number)) at
   where
     below : (s < number) ⊎ (number ≤ s) → s < number

@@ -2,8 +2,8 @@
 use Rattle.std.proofs.Common.{◌≡◌, ℕ, zero, suc, ◌≤◌, ◌⊎◌, inl, inr, Bool, true, List, [], ◌∷◌, ◌++◌, Option, Some, None, drop, filter_map, reverse, slice_get, refl, sym, ap, subst, ◌∙◌, arith}
 use Rattle.std.{specs.{List.cons_option, Option.option_and_then}, proofs.lemmas.List.reverse-append}
 use Rattle.lft_lists.proofs.Places.{get_last, get_push_cases}
-use Rattle.lft_classes.specs.{declared.{scopes.{Class.Class, Scopes.Scopes}, walk.Visit.Visit}, Chains.{base_in, base_of, bases_from, bases_in, extended}}
-use Rattle.lft_classes.specs.{Scopes.class_at, inner.Walks.EndsIn, Walks.{Has, Lists, again, new, no_more}}
+use Rattle.lft_classes.specs.declared.{scopes.{Class.Class, ReactorNames.ReactorNames}, walk.Visit.Visit}
+use Rattle.lft_classes.specs.inner.{Chains.{base_in, base_of, bases_from, bases_in, extended}, Scopes.class_at, Walks.{EndsIn, Has, Lists, again, new, no_more}}
 use Rattle.lft_classes.proofs.Walking.{same_last}
 
 -- one that stands already adds nothing
@@ -83,7 +83,7 @@ none_more f (x ∷ xs) zero none = ap (λ o. cons_option o (filter_map f xs)) (n
 none_more f (x ∷ xs) (suc k) none = none_more f xs k (λ j le. none (suc j) (omega (arith, le)))
 
 -- there is a base at the place
-pub base_more : (scopes : Scopes) (r k b : ℕ) → base_of scopes r k ≡ Some b → bases_from scopes r k ≡ b ∷ bases_from scopes r (suc k)
+pub base_more : (scopes : ReactorNames) (r k b : ℕ) → base_of scopes r k ≡ Some b → bases_from scopes r k ≡ b ∷ bases_from scopes r (suc k)
 base_more scopes r k b e = of (class_at scopes r) e
   where
     of : (o : Option Class) → option_and_then (λ c. base_in scopes c k) o ≡ Some b → bases_in scopes o k ≡ b ∷ bases_in scopes o (suc k)
@@ -91,7 +91,7 @@ base_more scopes r k b e = of (class_at scopes r) e
     of (Some c) e = one_more (extended scopes c.file) c.reactor.now.bases.items k b e
 
 -- there is none from the place on
-pub no_base : (scopes : Scopes) (r k : ℕ) → ((j : ℕ) → k ≤ j → base_of scopes r j ≡ None) → bases_from scopes r k ≡ []
+pub no_base : (scopes : ReactorNames) (r k : ℕ) → ((j : ℕ) → k ≤ j → base_of scopes r j ≡ None) → bases_from scopes r k ≡ []
 no_base scopes r k none = of (class_at scopes r) none
   where
     of : (o : Option Class) → ((j : ℕ) → k ≤ j → option_and_then (λ c. base_in scopes c j) o ≡ None) → bases_in scopes o k ≡ []
@@ -99,6 +99,6 @@ no_base scopes r k none = of (class_at scopes r) none
     of (Some c) none = none_more (extended scopes c.file) c.reactor.now.bases.items k none
 
 -- what a reactor extends up to the next place is done
-pub one_done : (scopes : Scopes) (done : ℕ → Bool) (r k number b : ℕ) → base_of scopes r k ≡ Some b → done b ≡ true → (number ≡ suc k) ⊎ (number ≡ k) → (passed : List ℕ) × (bases_from scopes r k ≡ passed ++ bases_from scopes r number) × ((x : ℕ) → Has passed x → done x ≡ true)
+pub one_done : (scopes : ReactorNames) (done : ℕ → Bool) (r k number b : ℕ) → base_of scopes r k ≡ Some b → done b ≡ true → (number ≡ suc k) ⊎ (number ≡ k) → (passed : List ℕ) × (bases_from scopes r k ≡ passed ++ bases_from scopes r number) × ((x : ℕ) → Has passed x → done x ≡ true)
 one_done scopes done r k number b at is (inl next) = (b ∷ [], base_more scopes r k b at ∙ ap (λ n. b ∷ bases_from scopes r n) (sym next), λ x h. (elim (get_push_cases [] b h.0 x h.1) [ inl old ↦ absurd (cc) | inr last ↦ subst (λ y. done y ≡ true) last.1 is ]))
 one_done scopes done r k number b at is (inr here) = ([], ap (bases_from scopes r) (sym here), λ x h. absurd (let e = h.1 in cc))

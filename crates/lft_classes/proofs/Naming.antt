@@ -3,11 +3,11 @@ use Rattle.std.proofs.Common.{◌≡◌, ℕ, zero, suc, ◌≤◌, inl, inr, Bo
 use Rattle.std.specs.Prelude.{if◌then◌else◌, unwrap_or}
 use Rattle.std.{specs.Option.option_and_then, proofs.lemmas.{Option.option_and_then_some, Slice.Eq.bytes_eq-Decides}}
 use Rattle.lft_lists.proofs.{Mapped.option_map_some, Places.{get_last, get_push, get_push_cases, Some_same}}
-use Rattle.lft_resolve.specs.{inner.Places.{IsIndexOf, place}, Places.place_in, declared.index.Index.Index}
+use Rattle.lft_resolve.specs.{inner.Places.{IsIndexOf, place, place_in}, declared.index.Index.Index}
 use Rattle.lft_whole.specs.declared.tree.Name.{Name}
-use Rattle.lft_classes.specs.{declared.shapes.{Inherited.Inherited, InheritedParameter.InheritedParameter, Named.Named, Thing.Thing}, Built.HasName}
-use Rattle.lft_classes.specs.{inner.Naming.{EachNamed, HasNamed}, Shapes.name_of}
-use Rattle.lft_classes.specs.declared.shapes.Thing.TheVariants as thing
+use Rattle.lft_classes.specs.declared.shapes.{Inherited.Inherited, InheritedParameter.InheritedParameter, Named.Named, OwnThing.OwnThing}
+use Rattle.lft_classes.specs.{inner.{Built.HasName, Naming.{EachNamed, HasNamed}}, Shapes.name_of}
+use Rattle.lft_classes.specs.declared.shapes.OwnThing.TheVariants as thing
 
 module _ {X : Type 0} (name : X → List ℕ) (q : List ℕ) where
   place_step : (y : X) (ys : List X) (k : ℕ) (x : X) (b : Bool) → bytes_eq q (name y) ≡ b → (if b then Some 0 else option_map suc (place q (map name ys))) ≡ Some k → slice_get (y ∷ ys) k ≡ Some x → ((j : ℕ) → place q (map name ys) ≡ Some j → slice_get ys j ≡ Some x → q ≡ name x) → q ≡ name x
@@ -43,14 +43,14 @@ module _ {X : Type 0} (name : X → List ℕ) (q : List ℕ) where
 pub named_push : (ps : List InheritedParameter) (ms : List Inherited) (ns : List Named) (n : Named) → EachNamed ps ms ns → HasName ps ms n.name.now n.thing → EachNamed ps ms (ns ++ n ∷ [])
 named_push ps ms ns n all is i m at = elim (get_push_cases ns n i m at) [ inl old ↦ all i m old | inr last ↦ subst (λ (x : Named). HasName ps ms x.name.now x.thing) last.1 is ]
 
-pub has_named_push : (ns : List Named) (n : Named) (q : List ℕ) (t : Thing) → HasNamed ns q t → HasNamed (ns ++ n ∷ []) q t
+pub has_named_push : (ns : List Named) (n : Named) (q : List ℕ) (t : OwnThing) → HasNamed ns q t → HasNamed (ns ++ n ∷ []) q t
 has_named_push ns n q t has = (has.0, (has.1.0, get_push ns n has.0 has.1.0 has.1.1, has.1.2))
 
 pub has_named_last : (ns : List Named) (n : Named) → HasNamed (ns ++ n ∷ []) n.name.now n.thing
 has_named_last ns n = (length ns, (n, get_last ns n, (refl, refl)))
 
 -- each parameter and each member that has a name is noted
-pub all_noted : (ps : List InheritedParameter) (ms : List Inherited) (ns : List Named) → ((j : ℕ) (p : InheritedParameter) → slice_get ps j ≡ Some p → HasNamed ns (string_bytes p.parameter.now.name.text) (thing.Parameter j)) → ((j : ℕ) (m : Inherited) → slice_get ms j ≡ Some m → (q : List ℕ) → option_map (λ (n : Name). string_bytes n.text) (name_of m.member.now) ≡ Some q → HasNamed ns q (thing.Member j)) → (q : List ℕ) (t : Thing) → HasName ps ms q t → HasNamed ns q t
+pub all_noted : (ps : List InheritedParameter) (ms : List Inherited) (ns : List Named) → ((j : ℕ) (p : InheritedParameter) → slice_get ps j ≡ Some p → HasNamed ns (string_bytes p.parameter.now.name.text) (thing.Parameter j)) → ((j : ℕ) (m : Inherited) → slice_get ms j ≡ Some m → (q : List ℕ) → option_map (λ (n : Name). string_bytes n.text) (name_of m.member.now) ≡ Some q → HasNamed ns q (thing.Member j)) → (q : List ℕ) (t : OwnThing) → HasName ps ms q t → HasNamed ns q t
 all_noted ps ms ns one two q (thing.Parameter j) is = subst (λ r. HasNamed ns r (thing.Parameter j)) is.2 (one j is.0 is.1)
 all_noted ps ms ns one two q (thing.Member j) is = two j is.0 is.1 q is.2
 
@@ -63,16 +63,16 @@ once name xs o k x at is e =
     same ∙ ap Some there
 
 -- what a name is in a shape is what has it
-pub thing_of : (ps : List InheritedParameter) (ms : List Inherited) (ns : List Named) (index : Index) → IsIndexOf index (map (λ (n : Named). n.name.now) ns) → EachNamed ps ms ns → (q : List ℕ) (t : Thing) → option_map (λ (n : Named). n.thing) (option_and_then (slice_get ns) (place_in index q)) ≡ Some t → HasName ps ms q t
+pub thing_of : (ps : List InheritedParameter) (ms : List Inherited) (ns : List Named) (index : Index) → IsIndexOf index (map (λ (n : Named). n.name.now) ns) → EachNamed ps ms ns → (q : List ℕ) (t : OwnThing) → option_map (λ (n : Named). n.thing) (option_and_then (slice_get ns) (place_in index q)) ≡ Some t → HasName ps ms q t
 thing_of ps ms ns index is each q t e =
     let n = option_map_some (λ (n : Named). n.thing) (option_and_then (slice_get ns) (place_in index q)) t e in
     option_and_then_some (slice_get ns) (place_in index q) n.0 n.1 (λ k at there.
     let same : q ≡ n.0.name.now = place_is (λ (m : Named). m.name.now) q ns k n.0 (sym (is q) ∙ at) there in
     subst (λ r. HasName ps ms r t) (sym same) (subst (HasName ps ms n.0.name.now) n.2 (each k n.0 there)))
 
-pub is_thing : (ns : List Named) (index : Index) → ((k : ℕ) (n : Named) → slice_get ns k ≡ Some n → place_in index n.name.now ≡ Some k) → (q : List ℕ) (t : Thing) → HasNamed ns q t → option_map (λ (n : Named). n.thing) (option_and_then (slice_get ns) (place_in index q)) ≡ Some t
+pub is_thing : (ns : List Named) (index : Index) → ((k : ℕ) (n : Named) → slice_get ns k ≡ Some n → place_in index n.name.now ≡ Some k) → (q : List ℕ) (t : OwnThing) → HasNamed ns q t → option_map (λ (n : Named). n.thing) (option_and_then (slice_get ns) (place_in index q)) ≡ Some t
 is_thing ns index once q t has =
     let n = has.1.0 in
-    let thing : Named → Thing = λ m. m.thing in
+    let thing : Named → OwnThing = λ m. m.thing in
     let at : place_in index q ≡ Some has.0 = ap (place_in index) (sym has.1.2.0) ∙ once has.0 n has.1.1 in
     ap (λ o. option_map thing (option_and_then (slice_get ns) o)) at ∙ ap (option_map thing) has.1.1 ∙ ap Some has.1.2.1

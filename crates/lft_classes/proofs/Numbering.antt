@@ -7,7 +7,7 @@ use Rattle.std.proofs.lemmas.Option.{get_or_from_slice_get, slice_get_within}
 use Rattle.lft_lists.proofs.{Mapped.{enumerate_at, mapped, mapped_from}, Members.{get_mem, mem_from_flat, mem_from_map, mem_get}, Picked.take_one_more}
 use Rattle.lft_lists.proofs.Places.{get_append_cases, get_left, get_right, same_at, Some_same}
 use Rattle.lft_whole.specs.declared.{sources.source.SourceFile.SourceFile, tree.Reactor.Reactor}
-use Rattle.lft_classes.specs.{declared.scopes.Class.Class, Scopes.{IsOf, placed, reactors_in, reactors_of}, inner.Scopes.reactors_before}
+use Rattle.lft_classes.specs.{declared.scopes.Class.Class, inner.Scopes.{IsOf, placed, reactors_in, reactors_of, reactors_before}}
 
 -- an item of the part of one stands behind the parts of those before it
 pub flat_at : {X Y : Type 0} (f : X → List Y) (xs : List X) (n : ℕ) (x : X) (j : ℕ) (y : Y) → slice_get xs n ≡ Some x → slice_get (f x) j ≡ Some y → slice_get (flat_map f xs) (length (flat_map f (take n xs)) + j) ≡ Some y

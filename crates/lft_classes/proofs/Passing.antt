@@ -3,14 +3,16 @@ use Rattle.std.proofs.Common.{◌≡◌, ◌↔◌, ◌⊎◌, ◌≤◌, ℕ, z
 use Rattle.std.{specs.Global.Global, proofs.lemmas.Option.slice_get_within}
 use Rattle.lft_lists.proofs.Places.{at_contains, contains_at, get_same, get_there, length_same, same_some}
 use Rattle.lft_whole.specs.declared.tree.{Assignment.Assignment, Expression.Expression, Instance.Instance, Member.Member, Term.Term, Width.Width}
-use Rattle.lft_classes.specs.{declared.shapes.{Child.Child, Inherited.Inherited, Shape.Shape}, Circles.NamesAt}
-use Rattle.lft_classes.specs.inner.Needs.{AreMarks, HasNeed, IsParameterIn, IsPassed, IsPassedIn, IsTimeIn, Marks, NamesNumber, NamesParameter, PassesOn}
-use Rattle.lft_classes.specs.{Needs.{IsMarked, IsParameter, IsWord, Need, Times, Widths, times_of}, Shapes.{child_at, width_of}}
+use Rattle.lft_classes.specs.declared.shapes.{Child.Child, Inherited.Inherited, Shape.Shape}
+use Rattle.lft_classes.specs.inner.Circles.{NamesAt}
+use Rattle.lft_classes.specs.inner.Needs.{AreMarks, HasNeed, IsParameterIn, IsPassed, IsPassedIn, IsTimeIn, Marks, NamesNumber, NamesParameter, PassesOn, IsMarked, IsParameter, IsWord, Need, Times, Widths, times_of}
+use Rattle.lft_classes.specs.inner.Shapes.{child_at}
+use Rattle.lft_classes.specs.Shapes.{width_of}
 use Rattle.lft_classes.proofs.Marking.{AnyBelow}
 use Rattle.lft_whole.specs.declared.tree.Count.TheVariants as count
 use Rattle.lft_whole.specs.declared.tree.Member.TheVariants as member
 use Rattle.lft_whole.specs.declared.tree.Value.TheVariants as value
-use Rattle.lft_classes.specs.declared.shapes.Thing.TheVariants as thing
+use Rattle.lft_classes.specs.declared.shapes.OwnThing.TheVariants as thing
 
 -- a name is that of one parameter
 pub one_number : (shape : Shape) (q : List ℕ) (m n : ℕ) → IsParameter shape q m → IsParameter shape q n → m ≡ n

@@ -2,7 +2,7 @@
 use Rattle.std.proofs.Common.{◌≡◌, ℕ, suc, ◌+◌, ◌-◌, ◌<◌, ◌≤◌, ◌⊎◌, inl, inr, Bool, true, false, List, [], ◌∷◌, ◌++◌, length, Option, Some, None, IfSome, IfNone, slice_get, refl, sym, ap, subst, ◌∙◌, arith}
 use Rattle.std.proofs.lemmas.{Bool.cases_lt, List.length_push, Option.slice_get_within}
 use Rattle.lft_lists.proofs.Places.{get_there, get_push, get_last, get_push_cases, same_some, Some_same}
-use Rattle.lft_classes.specs.{Walks.{Ways, Has, Reaches, itself, further, nothing, one, IsList}, inner.Walks.{IsVisitAt, Walking}, declared.walk.Visit.Visit}
+use Rattle.lft_classes.specs.{inner.Walks.{Ways, Has, Reaches, itself, further, nothing, one, IsList, IsVisitAt, Walking}, declared.walk.Visit.Visit}
 
 abbrev at_first : ℕ → Visit
 at_first node = record { node = node; next = 0 }

@@ -1,9 +1,2 @@
-pub mod Built
-pub mod Chains
-pub mod Circles
-pub mod Needs
-pub mod Nestings
-pub mod Scopes
 pub mod Shapes
-pub mod Walks
 pub mod inner

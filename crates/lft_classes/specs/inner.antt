@@ -6,3 +6,8 @@ pub mod Needs
 pub mod Refused
 pub mod Scopes
 pub mod Walks
+pub mod Built
+pub mod Chains
+pub mod Circles
+pub mod Nestings
+pub mod Shapes

@@ -1,12 +1,12 @@
 //! A reactor behind all that it extends.
 
 ghost use Rattle.std.specs.Prelude.{◌≡◌, ◌≤◌, ◌<◌, ℕ, Some, None, IfOk, OnOk, MatchOption, IsTrue, true, false};
-ghost use Rattle.lft_classes.specs.{Chains.{IsChain, base_of, bases_from}, inner.Walks.{IsOrdered, IsOver, IsWalk}};
+ghost use Rattle.lft_classes.specs.inner.{Chains.{IsChain, base_of, bases_from}, Walks.{IsOrdered, IsOver, IsWalk}};
 
-use crate::scopes::Scopes;
-use crate::walk::Walk;
+use crate::scopes::ReactorNames;
+use crate::walk::Traversal;
 use crate::work::Work;
-use lft_whole::sources::{Stop, Why};
+use lft_whole::sources::{NoProgram, Why};
 use std::alloc::Global;
 
 /// A base of a reactor, by number, and where its name stands.
@@ -19,11 +19,11 @@ struct Base {
 
 /// The base of this number of a reactor.
 fn base_at(
-    scopes: &Scopes,
+    scopes: &ReactorNames,
     work: &mut Work,
     class: usize,
     number: usize,
-) -> Result<Option<Base>, Stop>
+) -> Result<Option<Base>, NoProgram>
     ensures base { IfOk result (λ o. MatchOption o ((k : ℕ) → number ≤ k → base_of scopes.now class k ≡ None) (λ base. base_of scopes.now class number ≡ Some base.class)) }
     ensures main { OnOk result (work.new.main ≡ work.old.main) }
     ensures work { work.new.left ≤ work.old.left }
@@ -42,12 +42,12 @@ fn base_at(
             file: here.file,
             at: base.at,
         })),
-        None => Err(Stop::at(Why::NoReactor, here.file, base.at)),
+        None => Err(NoProgram::at(Why::NoReactor, here.file, base.at)),
     }
 }
 
 /// Goes on with the bases of the reactor that is gone over; whether there was one.
-fn step(scopes: &Scopes, work: &mut Work, walk: &mut Walk) -> Result<bool, Stop>
+fn step(scopes: &ReactorNames, work: &mut Work, walk: &mut Traversal) -> Result<bool, NoProgram>
     ensures walk { OnOk result ((first : ℕ) → IsWalk (base_of scopes.now) first walk.old → IsWalk (base_of scopes.now) first walk.new) }
     ensures order { OnOk result ((first : ℕ) → IsWalk (base_of scopes.now) first walk.old → IsOrdered (bases_from scopes.now) first walk.old → IsOrdered (bases_from scopes.now) first walk.new) }
     ensures over { IfOk result (λ more. more ≡ false → IsOver walk.new) }
@@ -71,21 +71,21 @@ fn step(scopes: &Scopes, work: &mut Work, walk: &mut Walk) -> Result<bool, Stop>
         return Ok(true);
     }
     // Met and not listed: it is on the way here.
-    Err(Stop::at(Why::ExtendsItself, base.file, base.at))
+    Err(NoProgram::at(Why::ExtendsItself, base.file, base.at))
 }
 
 /// The reactor behind all that it extends at any depth, each once, a base of a base before it, and a first base
 /// before a second.
 pub(crate) fn chain(
     alloc: Global,
-    scopes: &Scopes,
+    scopes: &ReactorNames,
     work: &mut Work,
     class: usize,
-) -> Result<Vec<usize>, Stop>
+) -> Result<Vec<usize>, NoProgram>
     ensures list { IfOk result (λ v. IsChain scopes.now class v.items) }
     ensures main { OnOk result (work.new.main ≡ work.old.main) }
 {
-    let mut walk = Walk::of(alloc, class)?;
+    let mut walk = Traversal::of(alloc, class)?;
     'visits: loop {
         if !step(scopes, work, &mut walk)? {
             break;

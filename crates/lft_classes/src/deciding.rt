@@ -1,12 +1,12 @@
 //! Which parameters decide widths, and which are times.
 
 ghost use Rattle.std.specs.Prelude.{◌≡◌, ◌≢◌, ℕ, Some, IfNone, IfOk, IfSome, OnOk, true};
-ghost use Rattle.lft_classes.specs.{declared.scopes.Scopes.Scopes, Built.cores, Shapes.tables};
-ghost use Rattle.lft_classes.specs.inner.Needs.{AreMarks, HasNeed, IsParameterIn, IsPassed, IsPassedIn, IsReady, IsTimeIn, Marks, NamesParameter};
-ghost use Rattle.lft_classes.specs.Needs.{IsDecided, Times, Widths};
+ghost use Rattle.lft_classes.specs.declared.scopes.ReactorNames.{ReactorNames};
+ghost use Rattle.lft_classes.specs.inner.{Built.cores, Shapes.tables};
+ghost use Rattle.lft_classes.specs.inner.Needs.{AreMarks, HasNeed, IsParameterIn, IsPassed, IsPassedIn, IsReady, IsTimeIn, Marks, NamesParameter, IsDecided, Times, Widths};
 
 use crate::shapes::{Inherited, Shape};
-use lft_whole::sources::{Stop, Why};
+use lft_whole::sources::{NoProgram, Why};
 use lft_whole::{Assignment, Connection, Count, Expression, Instance, Member, Value, Width};
 use std::alloc::Global;
 
@@ -47,13 +47,13 @@ fn mark_if(list: &mut Vec<bool>, parameter: usize, is_needed: bool)
 }
 
 /// Refuses a bank of a reactor with a width that needs the number in the bank.
-fn refuse_by_index(inner: &Shape, file: usize, instance: &Instance) -> Result<(), Stop> {
+fn refuse_by_index(inner: &Shape, file: usize, instance: &Instance) -> Result<(), NoProgram> {
     // A bank has one setting for all its members, and here each of them would need its own.
     if instance.width.is_some()
         && let Some(index) = inner.parameter("bank_index")
         && inner.is_sized(index)
     {
-        return Err(Stop::at(Why::WidthByIndex, file, instance.name.at));
+        return Err(NoProgram::at(Why::WidthByIndex, file, instance.name.at));
     }
     Ok(())
 }
@@ -75,7 +75,12 @@ impl Needs {
     }
 
     /// Notes the parameters that a width names.
-    fn note_width(&mut self, shape: &Shape, file: usize, width: &Option<Width>) -> Result<(), Stop>
+    fn note_width(
+        &mut self,
+        shape: &Shape,
+        file: usize,
+        width: &Option<Width>,
+    ) -> Result<(), NoProgram>
         ensures sized { OnOk result (Marks (NamesParameter shape.now width.now) self.old.sized.items self.new.sized.items) }
         ensures timed { self.new.timed ≡ self.old.timed }
     {
@@ -85,7 +90,7 @@ impl Needs {
         for term in &width.terms {
             if let Count::Word(word) = &term.count {
                 let Some(parameter) = shape.parameter(word.as_str()) else {
-                    return Err(Stop::at(Why::UnknownParameter, file, term.at));
+                    return Err(NoProgram::at(Why::UnknownParameter, file, term.at));
                 };
                 mark(&mut self.sized, parameter);
             }
@@ -134,7 +139,7 @@ impl Needs {
         number: usize,
         inherited: Inherited,
         instance: &Instance,
-    ) -> Result<(), Stop>
+    ) -> Result<(), NoProgram>
         ensures sized { OnOk result (Marks (HasNeed Widths shapes.now shape.now number (Member.Instance instance.now)) self.old.sized.items self.new.sized.items) }
         ensures timed { OnOk result (Marks (HasNeed Times shapes.now shape.now number (Member.Instance instance.now)) self.old.timed.items self.new.timed.items) }
     {
@@ -157,7 +162,7 @@ impl Needs {
         shape: &Shape,
         number: usize,
         inherited: Inherited,
-    ) -> Result<(), Stop>
+    ) -> Result<(), NoProgram>
         ensures sized { OnOk result (Marks (HasNeed Widths shapes.now shape.now number inherited.entry.member.now) self.old.sized.items self.new.sized.items) }
         ensures timed { OnOk result (Marks (HasNeed Times shapes.now shape.now number inherited.entry.member.now) self.old.timed.items self.new.timed.items) }
     {
@@ -179,7 +184,7 @@ impl Needs {
 }
 
 /// What a shape needs of its parameters, where that is known of the shapes in it.
-fn needs_of(alloc: Global, shapes: &[Shape], shape: &Shape) -> Result<Needs, Stop>
+fn needs_of(alloc: Global, shapes: &[Shape], shape: &Shape) -> Result<Needs, NoProgram>
     ensures sized { IfOk result (λ needs. AreMarks Widths shapes.now shape.now needs.sized.items) }
     ensures timed { IfOk result (λ needs. AreMarks Times shapes.now shape.now needs.timed.items) }
 {
@@ -195,11 +200,11 @@ fn needs_of(alloc: Global, shapes: &[Shape], shape: &Shape) -> Result<Needs, Sto
 }
 
 /// Decides it for the shape of this number. Those in it come before.
-pub(crate) fn decide(alloc: Global, shapes: &mut Vec<Shape>, number: usize) -> Result<(), Stop>
+pub(crate) fn decide(alloc: Global, shapes: &mut Vec<Shape>, number: usize) -> Result<(), NoProgram>
     ensures tables { OnOk result (tables shapes.new.items ≡ tables shapes.old.items) }
     ensures cores { OnOk result (cores shapes.new.items ≡ cores shapes.old.items) }
-    ensures decided { OnOk result ((scopes : Scopes) (first : ℕ) → IsReady scopes first shapes.old.items number → IsDecided scopes shapes.new.items number) }
-    ensures kept { OnOk result ((scopes : Scopes) (s : ℕ) → s ≢ number → IsDecided scopes shapes.old.items s → IsDecided scopes shapes.new.items s) }
+    ensures decided { OnOk result ((scopes : ReactorNames) (first : ℕ) → IsReady scopes first shapes.old.items number → IsDecided scopes shapes.new.items number) }
+    ensures kept { OnOk result ((scopes : ReactorNames) (s : ℕ) → s ≢ number → IsDecided scopes shapes.old.items s → IsDecided scopes shapes.new.items s) }
 {
     if number >= shapes.len() {
         return Ok(());

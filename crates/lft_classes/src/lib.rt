@@ -17,5 +17,7 @@ mod work;
 
 pub use nesting::Nesting;
 pub use scopes::Class;
-pub use shapes::{Child, Given, Inherited, InheritedParameter, Shape, Thing, foreign, why_of};
+pub use shapes::{
+    Child, GivenValue, Inherited, InheritedParameter, OwnThing, Shape, foreign, why_of,
+};
 pub use work::Work;

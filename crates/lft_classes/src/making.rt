@@ -5,15 +5,15 @@ ghost use Rattle.lft_resolve.specs.inner.Tests.{texts};
 ghost use Rattle.lft_classes.specs.declared.shapes.{Inherited.Inherited, Shape.Shape};
 ghost use Rattle.lft_classes.specs.inner.Below.{IsBelow};
 ghost use Rattle.lft_classes.specs.inner.Makings.{AddsShape, AreMade, AreShapes, GoesOn, HasChildren, IsNeeded, IsOfClass, KeepsBut, KeepsNoted, KnowsNone, KnowsOne, SetsOne};
-ghost use Rattle.lft_classes.specs.{Built.{AreGiven, AreNoted, Core, IsInside, IsNoted, cores, first_class, instance_of}, Chains.extended, Circles.GivesOnce};
-ghost use Rattle.lft_classes.specs.Shapes.{tables, thing_named};
+ghost use Rattle.lft_classes.specs.inner.{Built.{AreGiven, AreNoted, Core, IsInside, IsNoted, cores, first_class, instance_of}, Chains.extended};
+ghost use Rattle.lft_classes.specs.inner.{Circles.GivesOnce, Shapes.{tables, thing_named}};
 
-use crate::scopes::{Class, Scopes};
-use crate::shapes::{Child, Given, Shape};
+use crate::scopes::{Class, ReactorNames};
+use crate::shapes::{Child, GivenValue, Shape};
 use crate::work::Work;
 use lft_resolve::index::Index;
 use lft_tag::NoMemory;
-use lft_whole::sources::{Stop, Why};
+use lft_whole::sources::{NoProgram, Why};
 use lft_whole::{Assignment, Instance};
 use std::alloc::Global;
 
@@ -21,7 +21,7 @@ use std::alloc::Global;
 #[derive(Drop)]
 struct Making<'a> {
     alloc: Global,
-    scopes: Scopes<'a>,
+    scopes: ReactorNames<'a>,
     work: Work,
     shapes: Vec<Shape<'a>>,
     /// For each reactor the number of its shape.
@@ -45,7 +45,7 @@ fn given_of<'a>(
     inner: &Shape<'a>,
     file: usize,
     instance: &'a Instance,
-) -> Result<Vec<Given<'a>>, Stop>
+) -> Result<Vec<GivenValue<'a>>, NoProgram>
     ensures once { OnOk result (GivesOnce instance.now.given.items) }
     ensures given { IfOk result (λ given. AreGiven (thing_named inner.now) instance.now.given.items given.items) }
 {
@@ -56,14 +56,14 @@ fn given_of<'a>(
         let assignment = &instance.given[place];
         let name = assignment.name.text.as_str();
         let Some(parameter) = inner.parameter(name) else {
-            return Err(Stop::at(Why::GivesNoParameter, file, assignment.name.at));
+            return Err(NoProgram::at(Why::GivesNoParameter, file, assignment.name.at));
         };
         // The index has the first place of each name, so two of one name are
         // found without comparing each two.
         if index.get(name).unwrap_or(place) != place {
-            return Err(Stop::at(Why::GivenTwice, file, assignment.name.at));
+            return Err(NoProgram::at(Why::GivenTwice, file, assignment.name.at));
         }
-        given.push(Given {
+        given.push(GivenValue {
             parameter,
             value: &assignment.value,
         })?;
@@ -79,7 +79,7 @@ fn given_inside<'a>(
     shape: usize,
     file: usize,
     instance: &'a Instance,
-) -> Result<Vec<Given<'a>>, Stop>
+) -> Result<Vec<GivenValue<'a>>, NoProgram>
     ensures once { OnOk result ((inner : Shape) → slice_get shapes.now shape ≡ Some inner → GivesOnce instance.now.given.items) }
     ensures given { IfOk result (λ given. (inner : Shape) → slice_get shapes.now shape ≡ Some inner → AreGiven (thing_named inner) instance.now.given.items given.items) }
 {
@@ -124,7 +124,7 @@ fn set_children<'a>(shapes: &mut Vec<Shape<'a>>, shape: usize, children: Vec<Opt
 
 impl<'a> Making<'a> {
     /// Makes the shape of a reactor; its number.
-    fn add_shape(&mut self, class: Class<'a>) -> Result<usize, Stop>
+    fn add_shape(&mut self, class: Class<'a>) -> Result<usize, NoProgram>
         ensures adds { IfOk result (AddsShape self.old self.new class.entry) }
     {
         let number = self.shapes.len();
@@ -137,7 +137,7 @@ impl<'a> Making<'a> {
     }
 
     /// The number of the shape of a reactor.
-    fn shape_of(&mut self, class: Class<'a>) -> Result<usize, Stop>
+    fn shape_of(&mut self, class: Class<'a>) -> Result<usize, NoProgram>
         ensures goes { OnOk result (GoesOn (λ first. IsBelow self.old.scopes first class.entry.number) self.old self.new) }
         ensures shape { IfOk result (λ shape. (first : ℕ) → IsBelow self.old.scopes first class.entry.number → AreMade self.old.scopes first self.old → IsOfClass (cores self.new.shapes.items) shape class.entry.number) }
         ensures noted { OnOk result (KeepsNoted self.old.shapes.items self.new.shapes.items) }
@@ -150,7 +150,7 @@ impl<'a> Making<'a> {
     }
 
     /// What is in an instance.
-    fn child_of(&mut self, file: usize, instance: &'a Instance) -> Result<Child<'a>, Stop>
+    fn child_of(&mut self, file: usize, instance: &'a Instance) -> Result<Child<'a>, NoProgram>
         ensures goes { OnOk result (GoesOn (IsNeeded self.old.scopes file instance.now) self.old self.new) }
         ensures child { IfOk result (λ child. (first : ℕ) → IsNeeded self.old.scopes file instance.now first → AreMade self.old.scopes first self.old → (r : ℕ) × (extended self.old.scopes file instance.now.reactor ≡ Some r) × IsOfClass (cores self.new.shapes.items) child.shape r) }
         ensures once { OnOk result ((first : ℕ) → IsNeeded self.old.scopes file instance.now first → AreMade self.old.scopes first self.old → GivesOnce instance.now.given.items) }
@@ -158,7 +158,7 @@ impl<'a> Making<'a> {
         ensures noted { OnOk result (KeepsNoted self.old.shapes.items self.new.shapes.items) }
     {
         let Some(class) = self.scopes.get(file, instance.reactor.text.as_str()) else {
-            return Err(Stop::at(Why::NoReactor, file, instance.reactor.at));
+            return Err(NoProgram::at(Why::NoReactor, file, instance.reactor.at));
         };
         let shape = self.shape_of(class)?;
         let given = given_inside(self.alloc, &self.shapes, shape, file, instance)?;
@@ -166,7 +166,7 @@ impl<'a> Making<'a> {
     }
 
     /// What is in the member of this number of a shape, if it is an instance.
-    fn child_at(&mut self, shape: usize, number: usize) -> Result<Option<Child<'a>>, Stop>
+    fn child_at(&mut self, shape: usize, number: usize) -> Result<Option<Child<'a>>, NoProgram>
         ensures goes { OnOk result (GoesOn (λ first. Unit {0}) self.old self.new) }
         ensures child { IfOk result (λ o. IfSome o (λ child. (first : ℕ) → AreMade self.old.scopes first self.old → IsInside self.old.scopes (cores self.new.shapes.items) shape number child)) }
         ensures noted { OnOk result (KeepsNoted self.old.shapes.items self.new.shapes.items) }
@@ -186,7 +186,7 @@ impl<'a> Making<'a> {
     }
 
     /// Notes what is in each instance of a shape, which has so many members.
-    fn fill(&mut self, shape: usize, count: usize) -> Result<(), Stop>
+    fn fill(&mut self, shape: usize, count: usize) -> Result<(), NoProgram>
         ensures goes { OnOk result (GoesOn (λ first. Unit {0}) self.old self.new) }
         ensures others { OnOk result (KeepsBut self.old.shapes.items self.new.shapes.items shape) }
         ensures noted { OnOk result ((c : Core) → slice_get (cores self.old.shapes.items) shape ≡ Some c → length c.members ≡ count → IsNoted self.old.scopes (tables self.new.shapes.items) shape c) }
@@ -201,7 +201,7 @@ impl<'a> Making<'a> {
     }
 
     /// Notes what is in each instance of each shape, also of those that are made meanwhile.
-    fn fill_all(&mut self) -> Result<(), Stop>
+    fn fill_all(&mut self) -> Result<(), NoProgram>
         ensures goes { OnOk result (GoesOn (λ first. Unit {0}) self.old self.new) }
         ensures noted { OnOk result (AreNoted self.old.scopes (cores self.new.shapes.items) (tables self.new.shapes.items)) }
     {
@@ -221,10 +221,10 @@ impl<'a> Making<'a> {
 /// The shapes of the main reactor, which is the first one, and of all that it contains.
 pub(crate) fn shapes_of<'a>(
     alloc: Global,
-    scopes: Scopes<'a>,
+    scopes: ReactorNames<'a>,
     work: Work,
     main: Class<'a>,
-) -> Result<(Work, Vec<Shape<'a>>), Stop>
+) -> Result<(Work, Vec<Shape<'a>>), NoProgram>
     ensures shapes { IfOk result (λ made. AreShapes scopes.entry main.entry.number (cores made.1.items) (tables made.1.items)) }
     ensures first { IfOk result (λ made. first_class (cores made.1.items) ≡ Some main.entry) }
     ensures noted { IfOk result (λ made. AreNoted scopes.entry (cores made.1.items) (tables made.1.items)) }

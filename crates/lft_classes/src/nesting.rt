@@ -1,16 +1,16 @@
 //! All reactors below the main one, contained ones first.
 
 ghost use Rattle.std.specs.Prelude.{◌≡◌, ◌≤◌, ◌<◌, ℕ, Some, None, IfOk, IfSome, IfNone, OnOk, IsTrue, true, false};
-ghost use Rattle.lft_classes.specs.{declared.scopes.Scopes.Scopes, inner.{Causes.last_token, Walks.{IsWalk, IsOver}}, Nestings.IsNesting};
-ghost use Rattle.lft_classes.specs.{Shapes.{inside, tables}, Walks.IsList};
+ghost use Rattle.lft_classes.specs.declared.scopes.ReactorNames.{ReactorNames};
+ghost use Rattle.lft_classes.specs.inner.{Causes.last_token, Walks.{IsWalk, IsOver, IsList}, Nestings.IsNesting, Shapes.{inside, tables}};
 
 use crate::deciding::decide;
 use crate::making::shapes_of;
-use crate::scopes::Scopes;
+use crate::scopes::ReactorNames;
 use crate::shapes::Shape;
-use crate::walk::{Visit, Walk};
+use crate::walk::{Traversal, Visit};
 use crate::work::Work;
-use lft_whole::sources::{Place, SourceFile, Stop, Why};
+use lft_whole::sources::{NoProgram, Place, SourceFile, Why};
 use std::alloc::Global;
 
 /// The shapes of the main reactor, which is the first one, and of all that it contains.
@@ -40,19 +40,19 @@ fn next_child(shapes: &[Shape], visit: Visit) -> Option<(usize, usize)>
 }
 
 /// Why a shape may not be in the instance of this number, as it contains that.
-fn contains_itself(shapes: &[Shape], shape: usize, member: usize) -> Stop {
+fn contains_itself(shapes: &[Shape], shape: usize, member: usize) -> NoProgram {
     let Some(found) = shapes.get(shape) else {
         // Neither comes, as the walk came to this member. Want of memory says nothing of a program.
-        return Stop::NoMemory;
+        return NoProgram::NoMemory;
     };
     let Some(inherited) = found.member(member) else {
-        return Stop::NoMemory;
+        return NoProgram::NoMemory;
     };
-    Stop::at(Why::ContainsItself, inherited.file, inherited.at())
+    NoProgram::at(Why::ContainsItself, inherited.file, inherited.at())
 }
 
 /// Goes on with the instances of the shape that is gone over; whether there was one.
-fn step(shapes: &[Shape], work: &mut Work, walk: &mut Walk) -> Result<bool, Stop>
+fn step(shapes: &[Shape], work: &mut Work, walk: &mut Traversal) -> Result<bool, NoProgram>
     ensures walk { OnOk result ((first : ℕ) → IsWalk (inside (tables shapes.now)) first walk.old → IsWalk (inside (tables shapes.now)) first walk.new) }
     ensures over { IfOk result (λ more. more ≡ false → IsOver walk.new) }
     ensures main { OnOk result (work.new.main ≡ work.old.main) }
@@ -77,11 +77,11 @@ fn step(shapes: &[Shape], work: &mut Work, walk: &mut Walk) -> Result<bool, Stop
 }
 
 /// The shapes, each behind those that it contains. None may contain itself.
-fn order_of(alloc: Global, shapes: &[Shape], work: &mut Work) -> Result<Vec<usize>, Stop>
+fn order_of(alloc: Global, shapes: &[Shape], work: &mut Work) -> Result<Vec<usize>, NoProgram>
     ensures order { IfOk result (λ order. IsList (inside (tables shapes.now)) 0 order.items) }
     ensures main { OnOk result (work.new.main ≡ work.old.main) }
 {
-    let mut walk = Walk::of(alloc, 0)?;
+    let mut walk = Traversal::of(alloc, 0)?;
     'visits: loop {
         if !step(shapes, work, &mut walk)? {
             break;
@@ -102,10 +102,10 @@ fn last_token(files: &[SourceFile]) -> usize
 
 impl<'a> Nesting<'a> {
     /// The reactors of the files that the main one of the first file contains.
-    pub fn of(alloc: Global, files: &'a [SourceFile]) -> Result<Nesting<'a>, Stop>
-        ensures nesting { IfOk result (λ nesting. (scopes : Scopes) × IsNesting files.now scopes nesting) }
+    pub fn of(alloc: Global, files: &'a [SourceFile]) -> Result<Nesting<'a>, NoProgram>
+        ensures nesting { IfOk result (λ nesting. (scopes : ReactorNames) × IsNesting files.now scopes nesting) }
     {
-        let scopes = Scopes::of(alloc, files)?;
+        let scopes = ReactorNames::of(alloc, files)?;
         let main = scopes.main(last_token(files))?;
         let first = Work::of(Place {
             file: main.file,

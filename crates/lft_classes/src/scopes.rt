@@ -3,13 +3,12 @@
 ghost use Rattle.std.specs.Prelude.{◌≡◌, ◌≤◌, ◌<◌, ◌++◌, ℕ, List, [], Some, false, IfNone, IfOk, IfSome, OnOk, map, slice_get};
 ghost use Rattle.lft_resolve.specs.inner.Tests.{texts};
 ghost use Rattle.lft_whole.specs.declared.{sources.source.SourceFile.SourceFile, tree.{Import.Import, ImportedName.ImportedName}};
-ghost use Rattle.lft_classes.specs.Scopes.{in_scope, meaning_in, class_at, name_in, IsOf, AreNumbered, IsOwn, IsImport, IsMain, IsMainAt, AreScopes, placed, reactors_in, reactors_of};
-ghost use Rattle.lft_classes.specs.inner.Scopes.{EachMeans, HasImports, HasMeaning, HasOwn, IsGiven, IsMeantScope, IsOnce, IsOwnScope, IsScopeOf, IsOwnAt, AreOwnScopes, MeansAt, AreMeantScopes, reactors_before};
+ghost use Rattle.lft_classes.specs.inner.Scopes.{in_scope, meaning_in, class_at, name_in, IsOf, AreNumbered, IsOwn, IsImport, IsMain, IsMainAt, AreScopes, placed, reactors_in, reactors_of, EachMeans, HasImports, HasMeaning, HasOwn, IsGiven, IsMeantScope, IsOnce, IsOwnScope, IsScopeOf, IsOwnAt, AreOwnScopes, MeansAt, AreMeantScopes, reactors_before};
 
 use lft_lists::item_at;
 use lft_resolve::index::Index;
 use lft_tag::NoMemory;
-use lft_whole::sources::{SourceFile, Stop, Why};
+use lft_whole::sources::{NoProgram, SourceFile, Why};
 use lft_whole::{Import, Reactor};
 use std::alloc::Global;
 
@@ -23,7 +22,7 @@ pub struct Class<'a> {
 
 /// A name, the reactor that it means, and the token that says so.
 #[derive(Clone, Copy)]
-struct Meaning<'a> {
+struct NamedReactor<'a> {
     name: &'a str,
     class: Class<'a>,
     at: usize,
@@ -33,18 +32,18 @@ struct Meaning<'a> {
 #[derive(Drop)]
 struct Scope<'a> {
     names: Index<'a>,
-    meanings: Vec<Meaning<'a>>,
+    meanings: Vec<NamedReactor<'a>>,
 }
 
 /// The reactors of all files, by number, and what their names mean in each file.
 #[derive(Drop)]
-pub(crate) struct Scopes<'a> {
+pub(crate) struct ReactorNames<'a> {
     classes: Vec<Class<'a>>,
     scopes: Vec<Scope<'a>>,
 }
 
 /// The names alone.
-fn names_of<'a>(alloc: Global, meanings: &[Meaning<'a>]) -> Result<Vec<&'a str>, NoMemory>
+fn names_of<'a>(alloc: Global, meanings: &[NamedReactor<'a>]) -> Result<Vec<&'a str>, NoMemory>
     ensures { IfOk result (λ v. texts v.items ≡ map (λ m. m.name.now) meanings.now) }
 {
     let mut names = Vec::new(alloc);
@@ -56,7 +55,7 @@ fn names_of<'a>(alloc: Global, meanings: &[Meaning<'a>]) -> Result<Vec<&'a str>,
 
 impl<'a> Scope<'a> {
     /// The scope with these meanings. Of a name that stands twice the first one counts.
-    fn of(alloc: Global, meanings: Vec<Meaning<'a>>) -> Result<Scope<'a>, NoMemory>
+    fn of(alloc: Global, meanings: Vec<NamedReactor<'a>>) -> Result<Scope<'a>, NoMemory>
         ensures { IfOk result (IsScopeOf meanings.entry.items) }
     {
         let texts = names_of(alloc, &meanings)?;
@@ -79,7 +78,7 @@ impl<'a> Scope<'a> {
 }
 
 /// Puts the name of a reactor behind others, if it has one.
-fn push_named<'a>(meanings: &mut Vec<Meaning<'a>>, class: Class<'a>) -> Result<(), NoMemory>
+fn push_named<'a>(meanings: &mut Vec<NamedReactor<'a>>, class: Class<'a>) -> Result<(), NoMemory>
     ensures own { OnOk result ((files : List SourceFile) → IsOf files class.entry → EachMeans (IsOwnAt files class.entry.file) meanings.old.items → EachMeans (IsOwnAt files class.entry.file) meanings.new.items) }
     ensures kept { OnOk result ((q : List ℕ) (n : ℕ) → HasMeaning meanings.old.items q n → HasMeaning meanings.new.items q n) }
     ensures has { OnOk result ((q : List ℕ) → name_in class.entry ≡ Some q → HasMeaning meanings.new.items q class.entry.number) }
@@ -87,7 +86,7 @@ fn push_named<'a>(meanings: &mut Vec<Meaning<'a>>, class: Class<'a>) -> Result<(
     let Some(name) = &class.reactor.name else {
         return Ok(());
     };
-    meanings.push(Meaning {
+    meanings.push(NamedReactor {
         name: name.text.as_str(),
         class,
         at: class.reactor.at,
@@ -136,12 +135,12 @@ fn exported<'a>(own: &[Scope<'a>], target: usize, name: &str) -> Option<Class<'a
 
 /// Puts the names that an import gives behind others.
 fn push_names<'a>(
-    meanings: &mut Vec<Meaning<'a>>,
+    meanings: &mut Vec<NamedReactor<'a>>,
     own: &[Scope<'a>],
     number: usize,
     target: usize,
     import: &'a Import,
-) -> Result<(), Stop>
+) -> Result<(), NoProgram>
     ensures meant { OnOk result ((files : List SourceFile) → IsImport files number target import.now → AreOwnScopes files own.now → EachMeans (MeansAt files number) meanings.old.items → EachMeans (MeansAt files number) meanings.new.items) }
     ensures kept { OnOk result ((q : List ℕ) (n : ℕ) → HasMeaning meanings.old.items q n → HasMeaning meanings.new.items q n) }
     ensures all { OnOk result ((files : List SourceFile) → AreOwnScopes files own.now → (which : ℕ) (name : ImportedName) → slice_get import.now.names.items which ≡ Some name → IsGiven files target name meanings.new.items) }
@@ -149,9 +148,9 @@ fn push_names<'a>(
     for place in 0..import.names.len() {
         let imported = &import.names[place];
         let Some(class) = exported(own, target, imported.name.text.as_str()) else {
-            return Err(Stop::at(Why::NotImported, number, imported.name.at));
+            return Err(NoProgram::at(Why::NotImported, number, imported.name.at));
         };
-        meanings.push(Meaning {
+        meanings.push(NamedReactor {
             name: imported.alias.text.as_str(),
             class,
             at: imported.alias.at,
@@ -162,11 +161,11 @@ fn push_names<'a>(
 
 /// Puts the names that the imports of a file give behind others.
 fn push_imports<'a>(
-    meanings: &mut Vec<Meaning<'a>>,
+    meanings: &mut Vec<NamedReactor<'a>>,
     own: &[Scope<'a>],
     number: usize,
     file: &'a SourceFile,
-) -> Result<(), Stop>
+) -> Result<(), NoProgram>
     ensures meant { OnOk result ((files : List SourceFile) → slice_get files number ≡ Some file.now → AreOwnScopes files own.now → EachMeans (MeansAt files number) meanings.old.items → EachMeans (MeansAt files number) meanings.new.items) }
     ensures kept { OnOk result ((q : List ℕ) (n : ℕ) → HasMeaning meanings.old.items q n → HasMeaning meanings.new.items q n) }
     ensures all { OnOk result ((files : List SourceFile) → slice_get files number ≡ Some file.now → AreOwnScopes files own.now → HasImports files number meanings.new.items) }
@@ -184,7 +183,7 @@ fn own_meanings<'a>(
     alloc: Global,
     own: &[Scope<'a>],
     number: usize,
-) -> Result<Vec<Meaning<'a>>, NoMemory>
+) -> Result<Vec<NamedReactor<'a>>, NoMemory>
     ensures meant { IfOk result (λ v. (files : List SourceFile) → AreOwnScopes files own.now → EachMeans (MeansAt files number) v.items) }
     ensures all { IfOk result (λ v. (files : List SourceFile) → AreOwnScopes files own.now → HasOwn files number v.items) }
 {
@@ -196,7 +195,7 @@ fn own_meanings<'a>(
 }
 
 /// Refuses a name that means two reactors. One reactor may be imported twice.
-fn refuse_twice(scope: &Scope, number: usize) -> Result<(), Stop>
+fn refuse_twice(scope: &Scope, number: usize) -> Result<(), NoProgram>
     ensures once { OnOk result (IsOnce scope.now) }
 {
     for place in 0..scope.meanings.len() {
@@ -204,7 +203,7 @@ fn refuse_twice(scope: &Scope, number: usize) -> Result<(), Stop>
         if let Some(other) = scope.get(meaning.name)
             && other.number != meaning.class.number
         {
-            return Err(Stop::at(Why::TwoReactors, number, meaning.at));
+            return Err(NoProgram::at(Why::TwoReactors, number, meaning.at));
         }
     }
     Ok(())
@@ -216,7 +215,7 @@ fn scope_of<'a>(
     own: &[Scope<'a>],
     number: usize,
     file: &'a SourceFile,
-) -> Result<Scope<'a>, Stop>
+) -> Result<Scope<'a>, NoProgram>
     ensures meant { IfOk result (λ scope. (files : List SourceFile) → slice_get files number ≡ Some file.now → AreOwnScopes files own.now → IsMeantScope files number scope) }
 {
     let mut meanings = own_meanings(alloc, own, number)?;
@@ -249,7 +248,7 @@ fn all_scopes<'a>(
     alloc: Global,
     files: &'a [SourceFile],
     own: &[Scope<'a>],
-) -> Result<Vec<Scope<'a>>, Stop>
+) -> Result<Vec<Scope<'a>>, NoProgram>
     ensures meant { IfOk result (λ scopes. AreOwnScopes files.now own.now → AreMeantScopes files.now scopes.items) }
 {
     let mut scopes = Vec::new(alloc);
@@ -260,16 +259,16 @@ fn all_scopes<'a>(
     Ok(scopes)
 }
 
-impl<'a> Scopes<'a> {
+impl<'a> ReactorNames<'a> {
     /// The reactors of the files, and what their names mean.
-    pub(crate) fn of(alloc: Global, files: &'a [SourceFile]) -> Result<Scopes<'a>, Stop>
+    pub(crate) fn of(alloc: Global, files: &'a [SourceFile]) -> Result<ReactorNames<'a>, NoProgram>
         ensures scopes { IfOk result (AreScopes files.now) }
     {
         let mut classes = Vec::new(alloc);
         // The names of all files come before the first import, as files may import each other.
         let own = own_scopes(alloc, files, &mut classes)?;
         let scopes = all_scopes(alloc, files, &own)?;
-        Ok(Scopes { classes, scopes })
+        Ok(ReactorNames { classes, scopes })
     }
 
     /// The reactor of this number.
@@ -310,14 +309,14 @@ impl<'a> Scopes<'a> {
     }
 
     /// The main reactor of the first file, which ends at the token.
-    pub(crate) fn main(&self, end: usize) -> Result<Class<'a>, Stop>
+    pub(crate) fn main(&self, end: usize) -> Result<Class<'a>, NoProgram>
         ensures main { IfOk result (IsMain self.now) }
     {
         let Some((place, class)) = self.next_main(0) else {
-            return Err(Stop::at(Why::NoMain, 0, end));
+            return Err(NoProgram::at(Why::NoMain, 0, end));
         };
         if let Some((_, second)) = self.next_main(place.saturating_add(1)) {
-            return Err(Stop::at(Why::TwoMains, 0, second.reactor.at));
+            return Err(NoProgram::at(Why::TwoMains, 0, second.reactor.at));
         }
         Ok(class)
     }

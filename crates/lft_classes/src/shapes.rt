@@ -1,20 +1,21 @@
 //! A reactor with the members of its bases before its own, and what its names are.
 
 ghost use Rattle.std.specs.Prelude.{◌≡◌, ◌≢◌, ◌++◌, ◌↔◌, ℕ, List, [], Some, IfErr, IfOk, IfSome, IfNone, OnOk, IsTrue, flat_map, map, slice_get, option_map, string_bytes, true};
-ghost use Rattle.lft_resolve.specs.{inner.{Places.IsIndexOf, Tests.texts}, Places.place_in};
+ghost use Rattle.lft_resolve.specs.inner.{Places.{IsIndexOf, place_in}, Tests.texts};
 ghost use Rattle.lft_whole.specs.declared.tree.{Foreign.Foreign, Instance.Instance, Name.Name, Port.Port};
-ghost use Rattle.lft_classes.specs.Shapes.{thing_named, child_at, name_of, width_of, is_at};
-ghost use Rattle.lft_classes.specs.Built.{HasName, HasNoForeign, IsBuilt, core, located, located_parameters, members_of, members_at, parameters_of, parameters_at};
+ghost use Rattle.lft_classes.specs.inner.Shapes.{thing_named, child_at, is_at};
+ghost use Rattle.lft_classes.specs.inner.Built.{HasName, HasNoForeign, IsBuilt, core, located, located_parameters, members_of, members_at, parameters_of, parameters_at};
 ghost use Rattle.lft_classes.specs.inner.{Naming.{EachNamed, HasNamed}, Refused.{IsTooMuch, why_of}};
+ghost use Rattle.lft_classes.specs.Shapes.{name_of, width_of};
 
 use crate::chains::chain;
-use crate::scopes::{Class, Scopes};
+use crate::scopes::{Class, ReactorNames};
 use crate::weights::{of_member, of_parameter};
 use crate::work::Work;
 use lft_lists::item_at;
 use lft_resolve::index::Index;
 use lft_tag::NoMemory;
-use lft_whole::sources::{Stop, Why};
+use lft_whole::sources::{NoProgram, Why};
 use lft_whole::{Expression, Foreign, Instance, Member, Name, Parameter, Port, Width};
 use std::alloc::Global;
 
@@ -35,14 +36,14 @@ pub struct InheritedParameter<'a> {
 
 /// What a name is: a parameter or a member, by its number.
 #[derive(Clone, Copy, PartialEq, Eq, Debug)]
-pub enum Thing {
+pub enum OwnThing {
     Parameter(usize),
     Member(usize),
 }
 
 /// What `new` gives to the parameter of this number.
 #[derive(Clone, Copy)]
-pub struct Given<'a> {
+pub struct GivenValue<'a> {
     pub parameter: usize,
     pub value: &'a Expression,
 }
@@ -52,14 +53,14 @@ pub struct Given<'a> {
 #[derive(Drop)]
 pub struct Child<'a> {
     pub shape: usize,
-    pub given: Vec<Given<'a>>,
+    pub given: Vec<GivenValue<'a>>,
 }
 
 /// A name, what it is, and the token of a file that gives it.
 #[derive(Clone, Copy)]
 struct Named<'a> {
     name: &'a str,
-    thing: Thing,
+    thing: OwnThing,
     file: usize,
     at: usize,
 }
@@ -178,7 +179,7 @@ fn push_members<'a>(
     members: &mut Vec<Inherited<'a>>,
     work: &mut Work,
     class: Class<'a>,
-) -> Result<u64, Stop>
+) -> Result<u64, NoProgram>
     ensures members { OnOk result (located members.new.items ≡ located members.old.items ++ members_of class.entry) }
     ensures main { OnOk result (work.new.main ≡ work.old.main) }
     ensures cause { IfErr result IsTooMuch }
@@ -203,7 +204,7 @@ fn push_parameters<'a>(
     parameters: &mut Vec<InheritedParameter<'a>>,
     work: &mut Work,
     class: Class<'a>,
-) -> Result<u64, Stop>
+) -> Result<u64, NoProgram>
     ensures parameters { OnOk result (located_parameters parameters.new.items ≡ located_parameters parameters.old.items ++ parameters_of class.entry) }
     ensures main { OnOk result (work.new.main ≡ work.old.main) }
     ensures cause { IfErr result IsTooMuch }
@@ -225,9 +226,9 @@ fn push_parameters<'a>(
 fn push_class<'a>(
     parts: &mut Parts<'a>,
     work: &mut Work,
-    scopes: &Scopes<'a>,
+    scopes: &ReactorNames<'a>,
     number: usize,
-) -> Result<(), Stop>
+) -> Result<(), NoProgram>
     ensures members { OnOk result (located parts.new.members.items ≡ located parts.old.members.items ++ members_at scopes.now number) }
     ensures parameters { OnOk result (located_parameters parts.new.parameters.items ≡ located_parameters parts.old.parameters.items ++ parameters_at scopes.now number) }
     ensures main { OnOk result (work.new.main ≡ work.old.main) }
@@ -248,10 +249,10 @@ fn push_class<'a>(
 /// What the reactors of a chain have.
 fn parts_of<'a>(
     alloc: Global,
-    scopes: &Scopes<'a>,
+    scopes: &ReactorNames<'a>,
     work: &mut Work,
     chain: &[usize],
-) -> Result<Parts<'a>, Stop>
+) -> Result<Parts<'a>, NoProgram>
     ensures members { IfOk result (λ parts. located parts.members.items ≡ flat_map (members_at scopes.now) chain.now) }
     ensures parameters { IfOk result (λ parts. located_parameters parts.parameters.items ≡ flat_map (parameters_at scopes.now) chain.now) }
     ensures main { OnOk result (work.new.main ≡ work.old.main) }
@@ -277,15 +278,15 @@ fn push_named<'a>(
     inherited: Inherited<'a>,
 ) -> Result<(), NoMemory>
     ensures each { OnOk result ((ps : List InheritedParameter) (ms : List Inherited) → slice_get ms number ≡ Some inherited.entry → EachNamed ps ms named.old.items → EachNamed ps ms named.new.items) }
-    ensures kept { OnOk result ((q : List ℕ) (t : Thing) → HasNamed named.old.items q t → HasNamed named.new.items q t) }
-    ensures has { OnOk result ((q : List ℕ) → option_map (λ n. string_bytes n.text) (name_of inherited.entry.member.now) ≡ Some q → HasNamed named.new.items q (Thing.Member number)) }
+    ensures kept { OnOk result ((q : List ℕ) (t : OwnThing) → HasNamed named.old.items q t → HasNamed named.new.items q t) }
+    ensures has { OnOk result ((q : List ℕ) → option_map (λ n. string_bytes n.text) (name_of inherited.entry.member.now) ≡ Some q → HasNamed named.new.items q (OwnThing.Member number)) }
 {
     let Some(name) = name_of(inherited.member) else {
         return Ok(());
     };
     named.push(Named {
         name: name.text.as_str(),
-        thing: Thing::Member(number),
+        thing: OwnThing::Member(number),
         file: inherited.file,
         at: name.at,
     })?;
@@ -299,14 +300,14 @@ fn all_named<'a>(
     members: &[Inherited<'a>],
 ) -> Result<Vec<Named<'a>>, NoMemory>
     ensures each { IfOk result (λ named. EachNamed parameters.now members.now named.items) }
-    ensures all { IfOk result (λ named. (q : List ℕ) (t : Thing) → HasName parameters.now members.now q t → HasNamed named.items q t) }
+    ensures all { IfOk result (λ named. (q : List ℕ) (t : OwnThing) → HasName parameters.now members.now q t → HasNamed named.items q t) }
 {
     let mut named = Vec::new(alloc);
     for number in 0..parameters.len() {
         let declared = item_at(parameters, number);
         named.push(Named {
             name: declared.parameter.name.text.as_str(),
-            thing: Thing::Parameter(number),
+            thing: OwnThing::Parameter(number),
             file: declared.file,
             at: declared.parameter.name.at,
         })?;
@@ -334,10 +335,10 @@ impl<'a> Shape<'a> {
     /// The reactor behind all that it extends.
     pub(crate) fn of(
         alloc: Global,
-        scopes: &Scopes<'a>,
+        scopes: &ReactorNames<'a>,
         work: &mut Work,
         class: Class<'a>,
-    ) -> Result<Shape<'a>, Stop>
+    ) -> Result<Shape<'a>, NoProgram>
         ensures class { IfOk result (λ shape. shape.class ≡ class.entry) }
         ensures built { IfOk result (λ shape. IsBuilt scopes.now (core shape)) }
         ensures empty { IfOk result (λ shape. shape.children.items ≡ []) }
@@ -369,7 +370,7 @@ impl<'a> Shape<'a> {
     }
 
     /// What the name is in the reactor.
-    pub fn find(&self, name: &str) -> Option<Thing>
+    pub fn find(&self, name: &str) -> Option<OwnThing>
         ensures { result ≡ thing_named self.now name.now }
     {
         match self.names.get(name) {
@@ -383,11 +384,11 @@ impl<'a> Shape<'a> {
 
     /// The parameter of this name, by its number.
     pub fn parameter(&self, name: &str) -> Option<usize>
-        ensures some { IfSome result (λ number. thing_named self.now name.now ≡ Some (Thing.Parameter number)) }
-        ensures none { IfNone result ((number : ℕ) → thing_named self.now name.now ≢ Some (Thing.Parameter number)) }
+        ensures some { IfSome result (λ number. thing_named self.now name.now ≡ Some (OwnThing.Parameter number)) }
+        ensures none { IfNone result ((number : ℕ) → thing_named self.now name.now ≢ Some (OwnThing.Parameter number)) }
     {
         match self.find(name) {
-            Some(Thing::Parameter(number)) => Some(number),
+            Some(OwnThing::Parameter(number)) => Some(number),
             _ => None,
         }
     }
@@ -425,26 +426,26 @@ impl<'a> Shape<'a> {
 }
 
 /// Refuses two things of one name.
-fn refuse_twice(index: &Index, named: &[Named]) -> Result<(), Stop>
+fn refuse_twice(index: &Index, named: &[Named]) -> Result<(), NoProgram>
     ensures once { OnOk result (IsIndexOf index.now (map (λ n. n.name.now) named.now) → (k : ℕ) (n : Named) → slice_get named.now k ≡ Some n → place_in index.now n.name.now ≡ Some k) }
 {
     // An index has the first place of each name: so one pass finds two of one name.
     for place in 0..named.len() {
         let found = item_at(named, place);
         if index.get(found.name).unwrap_or(place) != place {
-            return Err(Stop::at(Why::TwoNames, found.file, found.at));
+            return Err(NoProgram::at(Why::TwoNames, found.file, found.at));
         }
     }
     Ok(())
 }
 
 /// Refuses what no core program has in its place.
-fn refuse_foreign(members: &[Inherited]) -> Result<(), Stop>
+fn refuse_foreign(members: &[Inherited]) -> Result<(), NoProgram>
     ensures none { OnOk result (HasNoForeign members.now) }
 {
     for inherited in members {
         if let Some((why, at)) = foreign(inherited.member) {
-            return Err(Stop::at(why, inherited.file, at));
+            return Err(NoProgram::at(why, inherited.file, at));
         }
     }
     Ok(())

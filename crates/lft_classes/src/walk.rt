@@ -1,8 +1,7 @@
 //! A walk that lists all that is reached from a first one, each behind all that it leads to.
 
 ghost use Rattle.std.specs.Prelude.{◌≡◌, ℕ, List, [], ◌∷◌, Option, true, false, IfOk, IfSome, IfNone, OnOk};
-ghost use Rattle.lft_classes.specs.inner.Walks.{IsWalk, IsOrdered, IsTop, IsOver, EndsAt, LeadsFirst, LeadsNoFurther, LeadsTo, PassesDone, PassesTo, is_done};
-ghost use Rattle.lft_classes.specs.Walks.{IsList, Lists};
+ghost use Rattle.lft_classes.specs.inner.Walks.{IsWalk, IsOrdered, IsTop, IsOver, EndsAt, LeadsFirst, LeadsNoFurther, LeadsTo, PassesDone, PassesTo, is_done, IsList, Lists};
 
 use std::alloc::{AllocError, Global};
 use std::collections::BTreeSet;
@@ -18,7 +17,7 @@ pub(crate) struct Visit {
 // Sets of numbers, and no mark for each reactor of the program: a walk begins at each of
 // them, for its bases. The path is a list, as no depth of calls may grow with the text.
 #[derive(Drop)]
-pub(crate) struct Walk {
+pub(crate) struct Traversal {
     /// Those that were gone over, in this order.
     listed: Vec<usize>,
     done: BTreeSet<usize>,
@@ -26,9 +25,9 @@ pub(crate) struct Walk {
     path: Vec<Visit>,
 }
 
-impl Walk {
+impl Traversal {
     /// Nothing is listed yet.
-    pub(crate) fn of(alloc: Global, first: usize) -> Result<Walk, AllocError>
+    pub(crate) fn of(alloc: Global, first: usize) -> Result<Traversal, AllocError>
         ensures walk { IfOk result (λ walk. (next : ℕ → ℕ → Option ℕ) → IsWalk next first walk) }
         ensures order { IfOk result (λ walk. (from : ℕ → ℕ → List ℕ) → IsOrdered from first walk) }
     {
@@ -41,7 +40,7 @@ impl Walk {
             node: first,
             next: 0,
         })?;
-        Ok(Walk {
+        Ok(Traversal {
             listed,
             done,
             met,
@@ -110,7 +109,7 @@ impl Walk {
         ensures list { (next : ℕ → ℕ → Option ℕ) (first : ℕ) → IsOver self → IsWalk next first self → IsList next first result.items }
         ensures order { (from : ℕ → ℕ → List ℕ) (first : ℕ) → IsOver self → IsOrdered from first self → Lists (λ r. from r 0) [] (first ∷ []) result.items }
     {
-        let Walk {
+        let Traversal {
             listed,
             done: _,
             met: _,

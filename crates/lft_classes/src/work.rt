@@ -1,9 +1,9 @@
 //! How much is listed at most.
 
 ghost use Rattle.std.specs.Prelude.{◌≡◌, ◌+◌, ◌<◌, OnOk, OnErr, IfErr};
-ghost use Rattle.lft_whole.specs.declared.sources.{stop.Stop.TheVariants.Refused, why.Why.TheVariants.TooMuch};
+ghost use Rattle.lft_whole.specs.declared.sources.{stop.NoProgram.TheVariants.Refused, why.Why.TheVariants.TooMuch};
 
-use lft_whole::sources::{Place, Refusal, Stop, Why};
+use lft_whole::sources::{FileRefusal, NoProgram, Place, Why};
 
 /// How many bytes of names, and things, may be listed of all reactors and settings together.
 const MOST: u64 = 1 << 23;
@@ -25,7 +25,7 @@ impl Work {
     }
 
     /// Counts what is to be listed.
-    pub fn spend(&mut self, amount: u64) -> Result<(), Stop>
+    pub fn spend(&mut self, amount: u64) -> Result<(), NoProgram>
         ensures ok { OnOk result (self.old.left ≡ self.new.left + amount) }
         ensures main { self.new.main ≡ self.old.main }
         ensures few { OnErr result (self.old.left < amount) }
@@ -42,10 +42,10 @@ impl Work {
     }
 
     /// A refusal of the program as a whole.
-    pub fn refused(&self, why: Why) -> Stop
+    pub fn refused(&self, why: Why) -> NoProgram
         ensures { result ≡ Refused (record { why = why; place = self.now.main }) }
     {
-        Stop::Refused(Refusal {
+        NoProgram::Refused(FileRefusal {
             why,
             place: self.main,
         })

@@ -6,7 +6,7 @@ ghost use Rattle.lft_ir.specs.{Parts.Parts, declared.{parts.{Value.Value, Name.T
 ghost use Rattle.lft_ir.specs.Steps.Fits.{RowFits, RowsFit};
 ghost use Rattle.lft_counts.specs.{inner.Counts.{Here, KeepsRows}, Orders.cleared, Cover.{IsCounting, IsCover, IsListed}};
 
-use crate::inputs::{Inputs, add_row, all_inputs};
+use crate::inputs::{ReadInputs, add_row, all_inputs};
 use crate::orders::Orders;
 use crate::overlaps::Overlaps;
 use crate::tally::Tally;
@@ -34,7 +34,7 @@ pub struct Cover {
     pub orders: Orders,
     pub overlaps: Overlaps,
     /// Of each reaction which inputs were present together. No promise says that they are right.
-    pub inputs: Vec<Inputs>,
+    pub inputs: Vec<ReadInputs>,
     /// So many rows are gone through.
     pub rows: usize,
 }

@@ -15,34 +15,34 @@ const MOST_INPUTS: usize = 64;
 /// An input of a reaction, and those that some run of it read up to this one, itself too: a bit for each,
 /// by its place among the inputs.
 #[derive(Clone, Copy, Drop)]
-pub struct Input {
+pub struct ReadInput {
     pub name: Name,
     pub with: u64,
 }
 
 /// The inputs of a reaction: none where it has more than 64.
 #[derive(Drop)]
-pub struct Inputs {
-    pub all: Vec<Input>,
+pub struct ReadInputs {
+    pub all: Vec<ReadInput>,
     /// The inputs that its last run read.
     read: u64,
     /// The place behind the last of them. Most runs read in order.
     next: usize,
 }
 
-impl Inputs {
+impl ReadInputs {
     /// Before the first row.
-    fn new(alloc: Global, names: &[Name]) -> Result<Inputs, NoMemory> {
+    fn new(alloc: Global, names: &[Name]) -> Result<ReadInputs, NoMemory> {
         let mut all = Vec::new(alloc);
         if names.len() <= MOST_INPUTS {
             for place in 0..names.len() {
-                all.push(Input {
+                all.push(ReadInput {
                     name: item_at(names, place),
                     with: 0,
                 })?;
             }
         }
-        Ok(Inputs {
+        Ok(ReadInputs {
             all,
             read: 0,
             next: 0,
@@ -70,7 +70,7 @@ impl Inputs {
             // The place is below 64. The remainder says so to the shift.
             self.read |= 1u64 << (place % 64);
             let input = item_at(self.all.as_slice(), place);
-            self.all[place] = Input {
+            self.all[place] = ReadInput {
                 name,
                 with: input.with | self.read,
             };
@@ -92,19 +92,19 @@ impl Inputs {
 }
 
 /// The inputs of all reactions, before the first row.
-pub(crate) fn all_inputs(alloc: Global, program: &Program) -> Result<Vec<Inputs>, NoMemory>
+pub(crate) fn all_inputs(alloc: Global, program: &Program) -> Result<Vec<ReadInputs>, NoMemory>
     ensures { IfOk result (λ all. length all.items ≡ length program.now.reactions) }
 {
     let mut all = Vec::with_capacity(alloc, program.reactions())?;
     for number in 0..program.reactions() {
         let names = program.reaction(number as u32).inputs(alloc)?;
-        all.push(Inputs::new(alloc, names.as_slice())?)?;
+        all.push(ReadInputs::new(alloc, names.as_slice())?)?;
     }
     Ok(all)
 }
 
 /// Goes on past a row.
-pub(crate) fn add_row(inputs: &mut Vec<Inputs>, row: Row)
+pub(crate) fn add_row(inputs: &mut Vec<ReadInputs>, row: Row)
     requires { row.reaction < length inputs.old.items }
     ensures { length inputs.new.items ≡ length inputs.old.items }
 {

@@ -14,7 +14,7 @@ mod tally;
 mod workers;
 
 pub use cover::{Counting, Cover};
-pub use inputs::{Input, Inputs};
+pub use inputs::{ReadInput, ReadInputs};
 pub use many::how_many;
 pub use orders::{Last, Order, Orders};
 pub use overlaps::Overlaps;

@@ -2,7 +2,7 @@
 
 ghost use Rattle.std.specs.Prelude.{◌<◌, length};
 
-use lft_counts::{Cover, Input};
+use lft_counts::{Cover, ReadInput};
 use lft_ir::words::push_padded;
 use lft_ir::{Name, Program};
 use lft_lists::item_at;
@@ -34,7 +34,7 @@ fn own_name(program: &Program, name: Name) -> &str {
 
 /// Whether the inputs at two places were present, and never both. Of two that were, the later one has the
 /// bit of the earlier one.
-fn are_apart(inputs: &[Input], one: usize, other: usize) -> bool
+fn are_apart(inputs: &[ReadInput], one: usize, other: usize) -> bool
     requires one { one < length inputs.now }
     requires other { other < length inputs.now }
 {
@@ -49,7 +49,7 @@ fn tell_apart(
     text: &mut String,
     program: &Program,
     reaction: u32,
-    inputs: &[Input],
+    inputs: &[ReadInput],
 ) -> Result<(), AllocError>
     requires { reaction < length program.now.reactions }
 {

@@ -7,13 +7,13 @@ ghost use Rattle.lft_check.specs.{declared.verdict.Verdict.TheVariants.Accepted,
 use lft_check::Verdict;
 use lft_ir::steps::Rows;
 use lft_model::Plan;
-use lft_stream::Counts;
+use lft_stream::RunCounts;
 use lft_stream::batches::accepts_rows;
 use lft_trace::below_header;
 use std::alloc::Global;
 
 /// The verdict on rows that are accepted with these counts.
-pub(crate) fn accepted_by(counts: Counts) -> Verdict
+pub(crate) fn accepted_by(counts: RunCounts) -> Verdict
     ensures { result ≡ Accepted counts.runs counts.tags }
 {
     Verdict::Accepted {

@@ -19,7 +19,7 @@ use lft_ir::steps::Rows;
 use lft_load::{Fault, Part, load, write_text};
 use lft_model::laws::law_one_worker;
 use lft_model::{Plan, is_workers};
-use lft_stream::Counts;
+use lft_stream::RunCounts;
 use lft_stream::batches::{accepts_text, accepts_text_shared};
 use lft_trace::read_trace_shared;
 use std::alloc::Global;
@@ -161,7 +161,7 @@ fn accepts<R: Threads + Sync>(
     plan: &Plan,
     trace: &[u8],
     workers: u32,
-) -> Option<Counts>
+) -> Option<RunCounts>
     ensures right { IfSome result (λ counts. IsRight plan.now trace.now (Accepted counts.runs counts.tags)) }
     ensures workers { IfSome result (λ counts. IsWorkers workers) }
 {

@@ -2,13 +2,13 @@
 use Rattle.std.proofs.Common.{◌≡◌, ℕ, zero, suc, ◌+◌, ◌-◌, ◌*◌, ◌^◌, List, [], ◌∷◌, ◌++◌, map, min, Option, Some, None, refl, sym, ap, subst, ◌∙◌, arith}
 use Rattle.std.{specs.Option.option_and_then, proofs.lemmas.List.map_push}
 use Rattle.lft_whole.specs.declared.tree.{Count.Count, Reference.Reference, Term.Term, Width.Width}
-use Rattle.lft_classes.specs.declared.shapes.{Shape.Shape, Thing.Thing}
-use Rattle.lft_elaborate.specs.inner.Places.{AreMany, HasPlaces, HavePlaces, IsCount, IsSum}
-use Rattle.lft_elaborate.specs.Places.{IsMany, IsWidth, Widths, capped, count_in, how_many, how_many_inside, how_many_of, many, meaning_in, places_in, places_of, plus, sum_in, times, total, width_by, width_in, written_width}
-use Rattle.lft_elaborate.specs.{Values.{Valued, inside}, declared.meanings.Meaning.Meaning}
+use Rattle.lft_classes.specs.declared.shapes.{Shape.Shape, OwnThing.OwnThing}
+use Rattle.lft_elaborate.specs.inner.Places.{AreMany, HasPlaces, HavePlaces, IsCount, IsSum, IsMany, IsWidth, Widths, capped, count_in, how_many, how_many_inside, how_many_of, many, meaning_in, places_in, places_of, plus, sum_in, times, total, width_by, width_in, written_width}
+use Rattle.lft_elaborate.specs.inner.Values.{Valued, inside}
+use Rattle.lft_elaborate.specs.declared.meanings.Meaning.{Meaning}
 use Rattle.lft_whole.specs.declared.tree.Count.TheVariants as count
 use Rattle.lft_elaborate.specs.declared.meanings.Meaning.TheVariants as meaning
-use Rattle.lft_classes.specs.declared.shapes.Thing.TheVariants as thing
+use Rattle.lft_classes.specs.declared.shapes.OwnThing.TheVariants as thing
 
 -- ---- what is more is known of
 
@@ -39,7 +39,7 @@ module _ (shapes : List Shape) (f g : Widths) (h : (t : Valued) (m n : ℕ) → 
   how_many_more : (t : Valued) (m n : ℕ) → how_many shapes f t m ≡ Some n → how_many shapes g t m ≡ Some n
   how_many_more t m n e = many_more (f t m) (g t m) (written_width shapes t m) n (h t m n) e
 
-  how_many_of_more : (t : Valued) (x : Thing) (n : ℕ) → how_many_of shapes f t x ≡ Some n → how_many_of shapes g t x ≡ Some n
+  how_many_of_more : (t : Valued) (x : OwnThing) (n : ℕ) → how_many_of shapes f t x ≡ Some n → how_many_of shapes g t x ≡ Some n
   how_many_of_more t (thing.Parameter p) n e = e
   how_many_of_more t (thing.Member m) n e = how_many_more t m n e
 
@@ -107,7 +107,7 @@ total_push (Some b ∷ xs) a n e = go (λ c q. total_push xs c n q) (total xs) r
 -- ---- places, terms and widths
 
 -- of a thing of the reactor itself
-pub own_places : (shapes : List Shape) (t : Valued) (r : Reference) (x : Thing) (n : ℕ) → meaning_in shapes t r ≡ Some (meaning.Own x) → AreMany shapes t x n → HasPlaces shapes t r n
+pub own_places : (shapes : List Shape) (t : Valued) (r : Reference) (x : OwnThing) (n : ℕ) → meaning_in shapes t r ≡ Some (meaning.Own x) → AreMany shapes t x n → HasPlaces shapes t r n
 own_places shapes t r x n is (d, p) = (d, ap (option_and_then (places_of shapes (width_in shapes d) t)) is ∙ p)
 
 -- of a port of an instance

@@ -7,11 +7,11 @@ use Rattle.std.specs.declared.cmp.Ordering.{Ordering, TheVariants.{Less, Equal, 
 use Rattle.std.proofs.lemmas.{Bool.cases_eq, Cmp.{int_cmp_total, lists_total, tied_itself}, List.map_push, Option.{option_and_then_some, slice_get_within}}
 use Rattle.lft_lists.proofs.Mapped.{mapped, mapped_from}
 use Rattle.lft_lists.proofs.Places.{get_last, get_push, get_push_cases, get_there, get_unwritten, get_write_cases, get_written, length_written, same_some}
-use Rattle.lft_classes.specs.{declared.{shapes.{Child.Child, Shape.Shape}, scopes.Class.Class}, Built.{cores, first_class}, Shapes.child_at}
+use Rattle.lft_classes.specs.{declared.{shapes.{Child.Child, Shape.Shape}, scopes.Class.Class}, inner.{Built.{cores, first_class}, Shapes.child_at}}
 use Rattle.lft_classes.proofs.Rows.{map_written}
-use Rattle.lft_elaborate.specs.{declared.settings.{Setting.Setting, Settings.Settings}, inner.{Noted.{Adds, GoesOn, GoesOnIf}, Values.IsUnsized}}
-use Rattle.lft_elaborate.specs.Noted.{AreMade, AreSettings, IsNoted, IsNumberOf, Known, Table, found_inside, noted_at, noted_for, only_inside, table}
-use Rattle.lft_elaborate.specs.{Settings.{setting_in, valued}, Values.{Valued, inside, main_setting, setting_of, values_inside}}
+use Rattle.lft_elaborate.specs.declared.settings.{Setting.Setting, Settings.Settings}
+use Rattle.lft_elaborate.specs.inner.Noted.{Adds, GoesOn, GoesOnIf, AreMade, AreSettings, IsNoted, IsNumberOf, Known, Table, found_inside, noted_at, noted_for, only_inside, table}
+use Rattle.lft_elaborate.specs.inner.{Values.{IsUnsized, Valued, inside, main_setting, setting_of, values_inside}, Settings.{setting_in, valued}}
 use Rattle.lft_elaborate.proofs.Valuing.{alike, is_given}
 
 -- ---- what stays

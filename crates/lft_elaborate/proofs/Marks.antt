@@ -2,7 +2,7 @@
 use Rattle.std.proofs.Common.{◌≡◌, ◌≢◌, ℕ, zero, suc, ◌<◌, ◌⊎◌, inl, inr, Bool, true, false, List, [], ◌∷◌, ◌++◌, length, Option, Some, slice_get, slice_set, unwrap_or, refl, sym, ap, subst, ◌∙◌}
 use Rattle.std.proofs.lemmas.Bool.{cases_eq}
 use Rattle.lft_lists.proofs.Places.{get_last, get_push, get_push_cases, get_unwritten, get_written}
-use Rattle.lft_classes.specs.Walks.{Has}
+use Rattle.lft_classes.specs.inner.Walks.{Has}
 use Rattle.lft_elaborate.specs.inner.Used.{AreMarked, Stay, is_marked}
 
 -- a mark that isn't set changes nothing

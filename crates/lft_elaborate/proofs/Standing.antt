@@ -2,18 +2,16 @@
 use Rattle.std.proofs.Common.{◌≡◌, ℕ, zero, suc, ◌*◌, List, [], ◌∷◌, ◌++◌, Option, Some, None, slice_get, refl, sym, ap, subst, ◌∙◌}
 use Rattle.std.specs.Prelude.{IfSome, is_some, false, unwrap_or}
 use Rattle.std.specs.Option.{option_and_then}
-use Rattle.lft_elaborate.specs.{Channels.Channels.joined, declared.settings.{Setting.Setting, Settings.Settings}}
-use Rattle.lft_elaborate.specs.Noted.{AreMade, IsNumberOf, Table, noted_at, table}
-use Rattle.lft_elaborate.specs.inner.{Noted.{GoesOn, GoesOnIf}, Places.{AreMany, HasPlaces, HasWidth, HavePlaces, IsCount, IsSum, HasPairs}}
-use Rattle.lft_elaborate.specs.inner.{Settings.setting_at, Widths.{member_at, width_at}}
-use Rattle.lft_elaborate.specs.Places.{IsMany, IsWidth, capped, many, meaning_in, member_in, plus, sum_in, times, width_in, written_width}
-use Rattle.lft_elaborate.specs.{Settings.{setting_in, shape_at, valued}, Values.{Valued, inside}, Widths.found_width}
+use Rattle.lft_elaborate.specs.inner.{Channels.Channels.joined, Noted.{AreMade, IsNumberOf, Table, noted_at, table, GoesOn, GoesOnIf}}
+use Rattle.lft_elaborate.specs.inner.Places.{AreMany, HasPlaces, HasWidth, HavePlaces, IsCount, IsSum, HasPairs, IsMany, IsWidth, capped, many, meaning_in, member_in, plus, sum_in, times, width_in, written_width}
+use Rattle.lft_elaborate.specs.inner.{Settings.{setting_at, setting_in, shape_at, valued}, Widths.{member_at, width_at, found_width}, Values.{Valued, inside}}
+use Rattle.lft_elaborate.specs.declared.settings.{Setting.Setting, Settings.Settings}
 use Rattle.lft_elaborate.proofs.{Counting.{own_places, port_places, sum_width, terms_push}, Keeping.{goes_if, setting_from, setting_of_number}}
 use Rattle.lft_whole.specs.declared.tree.{Connection.Connection, Count.Count, Reference.Reference, Term.Term, Width.Width}
-use Rattle.lft_classes.specs.{Shapes.width_of, declared.shapes.{Inherited.Inherited, Shape.Shape, Thing.Thing}}
+use Rattle.lft_classes.specs.{Shapes.width_of, declared.shapes.{Inherited.Inherited, Shape.Shape, OwnThing.OwnThing}}
 use Rattle.lft_lists.proofs.Places.{same_some}
 use Rattle.lft_elaborate.specs.declared.meanings.Meaning.TheVariants as meaning
-use Rattle.lft_classes.specs.declared.shapes.Thing.TheVariants as thing
+use Rattle.lft_classes.specs.declared.shapes.OwnThing.TheVariants as thing
 
 -- ---- by number and by what it is
 
@@ -71,7 +69,7 @@ standing s k m i e = go (slice_get s.settings.items k) refl e
 
 module _ (t0 t1 : Table) (goes : GoesOn t0 t1) (setting : ℕ) (t : Valued) (made : AreMade t0) (at : setting_in t0.settings setting ≡ Some t) where
   -- what is counted later is counted of the same shapes
-  pub many_then : (thing : Thing) (n : ℕ) → ((u : Valued) → AreMade t1 → setting_in t1.settings setting ≡ Some u → AreMany t1.shapes u thing n) → AreMany t0.shapes t thing n
+  pub many_then : (thing : OwnThing) (n : ℕ) → ((u : Valued) → AreMade t1 → setting_in t1.settings setting ≡ Some u → AreMany t1.shapes u thing n) → AreMany t0.shapes t thing n
   many_then thing n many = subst (λ shapes. AreMany shapes t thing n) goes.shapes (many t (goes.made made) (goes.stays setting t at))
 
   pub places_then : (r : Reference) (n : ℕ) → ((u : Valued) → AreMade t1 → setting_in t1.settings setting ≡ Some u → HasPlaces t1.shapes u r n) → HasPlaces t0.shapes t r n
@@ -92,7 +90,7 @@ width_then t0 t1 goes setting m n w t at is made sum u there =
 -- ---- counts that may not be known yet
 
 -- how many places a thing of the reactor itself has, if its count is known
-pub own_count : (t0 t1 : Table) → GoesOn t0 t1 → (setting : ℕ) (r : Reference) (x : Thing) (a : Option ℕ) → ((u : Valued) → setting_in t1.settings setting ≡ Some u → meaning_in t1.shapes u r ≡ Some (meaning.Own x)) → IfSome a (λ n. (u : Valued) → AreMade t1 → setting_in t1.settings setting ≡ Some u → AreMany t1.shapes u x n) → IfSome a (λ n. (t : Valued) → AreMade t0 → setting_in t0.settings setting ≡ Some t → HasPlaces t0.shapes t r n)
+pub own_count : (t0 t1 : Table) → GoesOn t0 t1 → (setting : ℕ) (r : Reference) (x : OwnThing) (a : Option ℕ) → ((u : Valued) → setting_in t1.settings setting ≡ Some u → meaning_in t1.shapes u r ≡ Some (meaning.Own x)) → IfSome a (λ n. (u : Valued) → AreMade t1 → setting_in t1.settings setting ≡ Some u → AreMany t1.shapes u x n) → IfSome a (λ n. (t : Valued) → AreMade t0 → setting_in t0.settings setting ≡ Some t → HasPlaces t0.shapes t r n)
 own_count t0 t1 goes setting r x None is many = tt
 own_count t0 t1 goes setting r x (Some n) is many = λ t made at. places_then t0 t1 goes setting t made at r n (λ u made_one there. own_places t1.shapes u r x n (is u there) (many u made_one there))
 

@@ -3,15 +3,15 @@ use Rattle.std.proofs.Common.{◌≡◌, ℕ, zero, suc, ◌+◌, ◌<◌, ◌�
 use Rattle.std.specs.Prelude.{IfNone, IfSome, option_map, unwrap_or}
 use Rattle.std.{specs.Option.option_and_then, proofs.lemmas.{Bool.cases_lt, Option.slice_get_within}}
 use Rattle.lft_lists.proofs.Places.{Some_same, get_there, same_some}
-use Rattle.lft_classes.{specs.{declared.shapes.{Shape.Shape, Inherited.Inherited}, Walks.Has}, proofs.Walking.some_of}
-use Rattle.lft_elaborate.specs.inner.{Places.AreMany, Widths.member_at, Noted.GoesOn, Settings.setting_at}
-use Rattle.lft_elaborate.specs.inner.Used.{AreMarked, HasInner, IsNumberIn, HasNumber, Stay, is_marked}
-use Rattle.lft_elaborate.specs.{Places.member_in, declared.settings.{Settings.Settings, Setting.Setting}}
-use Rattle.lft_elaborate.specs.{Noted.{AreMade, AreSettings, IsNumberOf, Table, noted_for}, Settings.{setting_in, shape_at, valued}}
-use Rattle.lft_elaborate.specs.{Used.{AreUsed, IsIn, IsReached, main, within, is_instance, is_instance_in}, Values.{Valued, inside, main_setting}}
+use Rattle.lft_classes.{specs.{declared.shapes.{Shape.Shape, Inherited.Inherited}, inner.Walks.Has}, proofs.Walking.some_of}
+use Rattle.lft_elaborate.specs.inner.{Places.{AreMany, member_in}, Widths.member_at, Noted.{GoesOn, AreMade, AreSettings, IsNumberOf, Table, noted_for}}
+use Rattle.lft_elaborate.specs.inner.Settings.{setting_at, setting_in, shape_at, valued}
+use Rattle.lft_elaborate.specs.inner.Used.{AreMarked, HasInner, IsNumberIn, HasNumber, Stay, is_marked, AreUsed, IsIn, IsReached, main, within, is_instance, is_instance_in}
+use Rattle.lft_elaborate.specs.inner.Values.{Valued, inside, main_setting}
+use Rattle.lft_elaborate.specs.declared.settings.{Settings.Settings, Setting.Setting}
 use Rattle.lft_elaborate.proofs.{Standing.{member_there, shape_there}, Counting.one_count, Keeping.setting_from}
 use Rattle.lft_whole.specs.declared.tree.Member.{Member}
-use Rattle.lft_classes.specs.declared.shapes.Thing.TheVariants as thing
+use Rattle.lft_classes.specs.declared.shapes.OwnThing.TheVariants as thing
 
 -- how far the list of those that are reached has come: what is in the first ones stands in it
 pub record Using (s : Table) (used : List ℕ) (marks : List Bool) (done : ℕ) : Type 0 where

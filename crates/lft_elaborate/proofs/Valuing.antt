@@ -6,10 +6,9 @@ use Rattle.std.proofs.lemmas.{List.{map_push, FromFn.map-range_with_len_more}, B
 use Rattle.std.proofs.lemmas.Option.{option_and_then_some, slice_get-map}
 use Rattle.std.proofs.Math.Seq.{drop-cons, drop-length}
 use Rattle.lft_lists.proofs.{Mapped.{mapped_at, option_map_some}, Places.{Some_same, get_unwritten, get_written, same_some}}
-use Rattle.lft_elaborate.specs.{Channels.Channels.below, inner.Values.IsUnsized}
-use Rattle.lft_elaborate.specs.Values.{Valued, given_to, inside, is_sized, setting_of, value_inside, values_inside}
+use Rattle.lft_elaborate.specs.{Channels.Channels.below, inner.Values.{IsUnsized, Valued, given_to, inside, is_sized, setting_of, value_inside, values_inside}}
 use Rattle.lft_whole.specs.declared.tree.{Expression.Expression, Value.Value}
-use Rattle.lft_classes.{specs.{declared.shapes.{Child.Child, Given.Given, Shape.Shape}, Shapes.child_at}, proofs.Rows.map_alike}
+use Rattle.lft_classes.{specs.{declared.shapes.{Child.Child, GivenValue.GivenValue, Shape.Shape}, inner.Shapes.child_at}, proofs.Rows.map_alike}
 
 -- what stands in a list, seen as found
 pub some_at : {X : Type 0} (xs : List X) (p : ℕ) → option_and_then (λ v. v) (slice_get (map (λ v. Some v) xs) p) ≡ slice_get xs p
@@ -33,13 +32,13 @@ all_same f (suc n) zero x l = refl
 all_same f (suc n) (suc p) x l = all_same f n p x (omega arith)
 
 -- nothing is noted yet
-pub given_none : (table : List (Option (Bor Expression))) (count n : ℕ) (gs : List Given) → table ≡ replicate count None → n ≡ length gs → (p : ℕ) → p < count → slice_get (map seen table) p ≡ Some (given_to (drop n gs) p)
+pub given_none : (table : List (Option (Bor Expression))) (count n : ℕ) (gs : List GivenValue) → table ≡ replicate count None → n ≡ length gs → (p : ℕ) → p < count → slice_get (map seen table) p ≡ Some (given_to (drop n gs) p)
 given_none table count n gs empty end p within =
     let none : drop n gs ≡ [] = ap (λ k. drop k gs) end ∙ drop-length gs in
     ap (λ l. slice_get (map seen l) p) empty ∙ all_same seen count p None within ∙ ap (λ l. Some (given_to l p)) (sym none)
 
 -- one more is noted, from the last on
-pub given_put : (table : List (Option (Bor Expression))) (count place : ℕ) (gs : List Given) (g : Given) → length table ≡ count → 0 < place → place ≤ length gs → g ≡ get_or gs (place - 1) g → g.parameter < length table → ((p : ℕ) → p < count → slice_get (map seen table) p ≡ Some (given_to (drop place gs) p)) → (p : ℕ) → p < count → slice_get (map seen (slice_set table g.parameter (Some g.value))) p ≡ Some (given_to (drop (place - 1) gs) p)
+pub given_put : (table : List (Option (Bor Expression))) (count place : ℕ) (gs : List GivenValue) (g : GivenValue) → length table ≡ count → 0 < place → place ≤ length gs → g ≡ get_or gs (place - 1) g → g.parameter < length table → ((p : ℕ) → p < count → slice_get (map seen table) p ≡ Some (given_to (drop place gs) p)) → (p : ℕ) → p < count → slice_get (map seen (slice_set table g.parameter (Some g.value))) p ≡ Some (given_to (drop (place - 1) gs) p)
 given_put table count place gs g long some within is there so_far p in_count =
     let one : suc (place - 1) ≡ place = omega arith in
     let first : drop (place - 1) gs ≡ g ∷ drop place gs = drop-cons gs (place - 1) g (omega arith) ∙ ap (λ x. x ∷ drop (suc (place - 1)) gs) (sym is) ∙ ap (λ k. g ∷ drop k gs) one in
@@ -56,21 +55,21 @@ given_put table count place gs g long some within is there so_far p in_count =
     ]
 
 -- what is read of the table
-pub given_read : (table : List (Option (Bor Expression))) (gs : List Given) (p : ℕ) (v : Option (Bor Expression)) → p < length table → v ≡ get_or table p v → slice_get (map seen table) p ≡ Some (given_to gs p) → seen v ≡ given_to gs p
+pub given_read : (table : List (Option (Bor Expression))) (gs : List GivenValue) (p : ℕ) (v : Option (Bor Expression)) → p < length table → v ≡ get_or table p v → slice_get (map seen table) p ≡ Some (given_to gs p) → seen v ≡ given_to gs p
 given_read table gs p v within is there = Some_same (seen v) (given_to gs p) (sym (mapped_at seen table p v within (sym is)) ∙ there)
 
 -- a number more of a list that is made by number
 pub number_pushed : (f : ℕ → Option ℤ) (vs now : List ℤ) (x : ℤ) (p : ℕ) → FitsSigned w64 x → now ≡ vs ++ to_z w64 (of_z w64 x) ∷ [] → map (λ v. Some v) vs ≡ map f (below p) → f p ≡ Some x → map (λ v. Some v) now ≡ map f (below (p + 1))
 number_pushed f vs now x p fits is so_far at = ap (map (λ v. Some v)) (is ∙ ap (λ v. vs ++ v ∷ []) (to_z-of_z w64 x fits)) ∙ numbered_more (λ v. Some v) f vs x p so_far at
 
-value_alike : (outer other : Shape) (vs ws : List (Option ℤ)) (gs hs : List Given) (inner : Shape) (p : ℕ) → is_sized inner p ≡ false → value_inside outer vs gs inner p ≡ value_inside other ws hs inner p
+value_alike : (outer other : Shape) (vs ws : List (Option ℤ)) (gs hs : List GivenValue) (inner : Shape) (p : ℕ) → is_sized inner p ≡ false → value_inside outer vs gs inner p ≡ value_inside other ws hs inner p
 value_alike outer other vs ws gs hs inner p e = rw e refl
 
 -- what is in an instance has the numbers that this gives it
 pub record IsGiven (shapes : List Shape) (u : Valued) : Type 0 where
   pub outer : Shape
   pub values : List (Option ℤ)
-  pub given : List Given
+  pub given : List GivenValue
   pub inner : Shape
   pub is_inner : slice_get shapes u.shape ≡ Some inner
   pub are_given : values_inside outer values given inner ≡ u.values

@@ -1,10 +1,5 @@
 pub mod Names
-pub mod Meanings
-pub mod Noted
 pub mod Places
-pub mod Settings
-pub mod Used
 pub mod Values
-pub mod Widths
 pub mod Channels
 pub mod inner

@@ -7,3 +7,5 @@ pub mod Settings
 pub mod Used
 pub mod Values
 pub mod Widths
+pub mod Channels
+pub mod Meanings

@@ -1,7 +1,7 @@
 //! Which channels of banks and multiports are joined, by number.
 
 ghost use Rattle.std.specs.Prelude.{◌≡◌, ℕ, ◌*◌, ◌<◌, Some, slice_get};
-ghost use Rattle.lft_elaborate.specs.Channels.Channels.{places, joined, source};
+ghost use Rattle.lft_elaborate.specs.inner.Channels.Channels.{places, joined, source};
 
 /// How many channels are joined where there are so many on each side.
 pub fn joined(left: usize, right: usize, broadcast: bool) -> usize

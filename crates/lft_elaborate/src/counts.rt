@@ -1,17 +1,16 @@
 //! How many things a program has, counted before any of them is made.
 
 ghost use Rattle.std.specs.Prelude.{◌≡◌, ◌<◌, ◌≤◌, ◌⊎◌, ℕ, List, IfOk, IfNone, IfSome, OnOk, Some, length, slice_get, true};
-ghost use Rattle.lft_classes.specs.Walks.{Has};
-ghost use Rattle.lft_elaborate.specs.inner.{Limits.{limits, first_passed}, Noted.GoesOn, Places.HasPairs, Settings.setting_at};
-ghost use Rattle.lft_elaborate.specs.inner.Used.{AreMarked, HasInner, HasNumber, IsNumberIn, Stay};
-ghost use Rattle.lft_elaborate.specs.{Noted.{AreMade, AreSettings, table}, Used.{AreUsed, IsIn, is_instance, is_instance_in}, Values.Valued};
+ghost use Rattle.lft_classes.specs.inner.Walks.{Has};
+ghost use Rattle.lft_elaborate.specs.inner.{Limits.{limits, first_passed}, Noted.{GoesOn, AreMade, AreSettings, table}, Places.HasPairs, Settings.setting_at};
+ghost use Rattle.lft_elaborate.specs.inner.{Used.{AreMarked, HasInner, HasNumber, IsNumberIn, Stay, AreUsed, IsIn, is_instance, is_instance_in}, Values.Valued};
 
 use crate::channels::joined;
-use crate::path::Wanted;
+use crate::path::WantedWidth;
 use crate::settings::Settings;
-use lft_classes::Thing;
+use lft_classes::OwnThing;
 use lft_tag::{MAX_INSTANCES, MAX_REACTIONS, MAX_THINGS};
-use lft_whole::sources::{Stop, Why};
+use lft_whole::sources::{NoProgram, Why};
 use lft_whole::{Connection, Member};
 use std::alloc::AllocError;
 
@@ -163,7 +162,7 @@ impl<'a> Settings<'a> {
         setting: usize,
         file: usize,
         connection: &Connection,
-    ) -> Result<u64, Stop>
+    ) -> Result<u64, NoProgram>
         ensures goes { OnOk result (GoesOn (table self.old) (table self.new)) }
         ensures pairs { IfOk result (λ n. (t : Valued) → AreMade (table self.old) → setting_at self.old setting ≡ Some t → HasPairs self.old.shapes.items t connection.now n) }
     {
@@ -194,7 +193,7 @@ impl<'a> Settings<'a> {
     }
 
     /// The setting in the member of this number, if it is an instance, and no bank without members.
-    fn used_inside(&mut self, setting: usize, member: usize) -> Result<Option<usize>, Stop>
+    fn used_inside(&mut self, setting: usize, member: usize) -> Result<Option<usize>, NoProgram>
         ensures goes { OnOk result (GoesOn (table self.old) (table self.new)) }
         ensures some { IfOk result (λ inner. IfSome inner (λ k. (t : Valued) → AreMade (table self.old) → setting_at self.old setting ≡ Some t → IsNumberIn self.old.shapes.items self.new.settings.items t member k)) }
         ensures none { IfOk result (λ inner. IfNone inner ((t u : Valued) → AreMade (table self.old) → setting_at self.old setting ≡ Some t → IsIn self.old.shapes.items t member u → ⊥)) }
@@ -202,7 +201,7 @@ impl<'a> Settings<'a> {
         if !self.has_instance(setting, member) {
             return Ok(None);
         }
-        let count = self.many(setting, Thing::Member(member))?;
+        let count = self.many(setting, OwnThing::Member(member))?;
         // What is in a bank without members is in no instance, so its reactor
         // is neither counted nor lowered.
         if count == 0 {
@@ -219,7 +218,7 @@ impl<'a> Settings<'a> {
         member: usize,
         used: &mut Vec<usize>,
         is_used: &mut Vec<bool>,
-    ) -> Result<(), Stop>
+    ) -> Result<(), NoProgram>
         ensures goes { OnOk result (GoesOn (table self.old) (table self.new)) }
         ensures marked { OnOk result (AreMarked used.old.items is_used.old.items → AreMarked used.new.items is_used.new.items) }
         ensures stay { OnOk result (Stay used.old.items used.new.items) }
@@ -239,7 +238,7 @@ impl<'a> Settings<'a> {
         setting: usize,
         used: &mut Vec<usize>,
         is_used: &mut Vec<bool>,
-    ) -> Result<(), Stop>
+    ) -> Result<(), NoProgram>
         ensures goes { OnOk result (GoesOn (table self.old) (table self.new)) }
         ensures marked { OnOk result (AreMarked used.old.items is_used.old.items → AreMarked used.new.items is_used.new.items) }
         ensures stay { OnOk result (Stay used.old.items used.new.items) }
@@ -253,7 +252,7 @@ impl<'a> Settings<'a> {
     }
 
     /// The settings of all instances, each once: the main one, those in it in order, those in these, and so on.
-    fn used(&mut self) -> Result<Vec<usize>, Stop>
+    fn used(&mut self) -> Result<Vec<usize>, NoProgram>
         ensures goes { OnOk result (GoesOn (table self.old) (table self.new)) }
         ensures used { IfOk result (λ used. AreSettings (table self.old) → AreUsed (table self.new) used.items) }
     {
@@ -281,10 +280,10 @@ impl<'a> Settings<'a> {
         setting: usize,
         member: usize,
         totals: &[Counts],
-    ) -> Result<Counts, Stop>
+    ) -> Result<Counts, NoProgram>
         ensures goes { OnOk result (GoesOn (table self.old) (table self.new)) }
     {
-        let width = self.many(setting, Thing::Member(member))?;
+        let width = self.many(setting, OwnThing::Member(member))?;
         // Asked for first. In a bank without members the setting may never have
         // been made, and has no total.
         if width == 0 {
@@ -305,10 +304,10 @@ impl<'a> Settings<'a> {
         setting: usize,
         number: usize,
         totals: &[Counts],
-    ) -> Result<Counts, Stop>
+    ) -> Result<Counts, NoProgram>
         ensures goes { OnOk result (GoesOn (table self.old) (table self.new)) }
     {
-        let Some(inherited) = self.inherited(Wanted {
+        let Some(inherited) = self.inherited(WantedWidth {
             setting,
             member: number,
         }) else {
@@ -316,7 +315,7 @@ impl<'a> Settings<'a> {
         };
         match inherited.member {
             Member::Port(_) => {
-                let ports = self.many(setting, Thing::Member(number))?;
+                let ports = self.many(setting, OwnThing::Member(number))?;
                 Ok(Counts {
                     ports,
                     ..Counts::none()
@@ -347,21 +346,26 @@ impl<'a> Settings<'a> {
     }
 
     /// Refuses counts that pass a limit, at the member of a setting with which they do.
-    fn refuse_passed(&self, setting: usize, number: usize, counts: Counts) -> Result<(), Stop> {
+    fn refuse_passed(
+        &self,
+        setting: usize,
+        number: usize,
+        counts: Counts,
+    ) -> Result<(), NoProgram> {
         let Some(why) = counts.passed() else {
             return Ok(());
         };
-        match self.inherited(Wanted {
+        match self.inherited(WantedWidth {
             setting,
             member: number,
         }) {
-            Some(inherited) => Err(Stop::at(why, inherited.file, token_of(inherited.member))),
+            Some(inherited) => Err(NoProgram::at(why, inherited.file, token_of(inherited.member))),
             None => Ok(()),
         }
     }
 
     /// What one instance of a setting counts, with all in it. That of the settings in it is known.
-    fn count(&mut self, setting: usize, totals: &[Counts]) -> Result<Counts, Stop>
+    fn count(&mut self, setting: usize, totals: &[Counts]) -> Result<Counts, NoProgram>
         ensures goes { OnOk result (GoesOn (table self.old) (table self.new)) }
     {
         let mut counts = Counts {
@@ -409,7 +413,7 @@ impl<'a> Settings<'a> {
     }
 
     /// Counts what one instance of each setting has, with all in it.
-    fn count_all(&mut self, used: &[usize]) -> Result<(), Stop>
+    fn count_all(&mut self, used: &[usize]) -> Result<(), NoProgram>
         ensures goes { OnOk result (GoesOn (table self.old) (table self.new)) }
     {
         let places = self.inner_first(used)?;
@@ -426,7 +430,7 @@ impl<'a> Settings<'a> {
     }
 
     /// The settings of all instances, as `used` has them. A program that passes a limit is refused.
-    pub fn counted(&mut self) -> Result<Vec<usize>, Stop>
+    pub fn counted(&mut self) -> Result<Vec<usize>, NoProgram>
         ensures goes { OnOk result (GoesOn (table self.old) (table self.new)) }
         ensures used { IfOk result (λ used. AreSettings (table self.old) → AreUsed (table self.new) used.items) }
     {

@@ -1,18 +1,18 @@
 //! What references of a reactor mean.
 
 ghost use Rattle.std.specs.Prelude.{◌≡◌, Some, IfErr, IfOk, option_map, string_bytes};
-ghost use Rattle.lft_elaborate.specs.{Meanings.{meaning_of, port_in, port_of, shape_inside}, inner.Refused.{IfRefused, IsAt, IsNoPort, IsUnmeant}};
+ghost use Rattle.lft_elaborate.specs.inner.{Meanings.{meaning_of, port_in, port_of, shape_inside}, Refused.{IfRefused, IsAt, IsNoPort, IsUnmeant}};
 ghost use Rattle.std.specs.Option.{option_and_then};
 
-use lft_classes::{Shape, Thing};
-use lft_whole::sources::{Stop, Why};
+use lft_classes::{OwnThing, Shape};
+use lft_whole::sources::{NoProgram, Why};
 use lft_whole::{Member, Name, Reference};
 
 /// What a reference of a reactor means: a thing of the reactor itself, or a port of an instance or a bank. These
 /// are members, by their numbers.
 #[derive(Clone, Copy)]
 pub enum Meaning {
-    Own(Thing),
+    Own(OwnThing),
     Port { instance: usize, port: usize },
 }
 
@@ -21,7 +21,7 @@ fn port(shape: &Shape, name: &str) -> Option<usize>
     ensures { result ≡ port_in shape.now name.now }
 {
     match shape.find(name) {
-        Some(Thing::Member(number)) => match shape.member(number) {
+        Some(OwnThing::Member(number)) => match shape.member(number) {
             Some(inherited) => match inherited.member {
                 Member::Port(_) => Some(number),
                 _ => None,
@@ -54,17 +54,17 @@ fn inner(
     instance: usize,
     reference: &Reference,
     name: &Name,
-) -> Result<Meaning, Stop>
+) -> Result<Meaning, NoProgram>
     ensures meaning { IfOk result (λ meaning. option_and_then (port_of instance (string_bytes name.now.text)) (shape_inside shapes.now shape.now instance) ≡ Some meaning) }
     ensures cause { IfErr result (IfRefused (λ r. IsAt file reference.now.head.at r × IsNoPort (shape_inside shapes.now shape.now instance) (string_bytes name.now.text) r.why)) }
 {
     let at = reference.head.at;
     let Some(inner) = inner_shape(shapes, shape, instance) else {
-        return Err(Stop::at(Why::UnknownInstance, file, at));
+        return Err(NoProgram::at(Why::UnknownInstance, file, at));
     };
     match port(inner, name.text.as_str()) {
         Some(port) => Ok(Meaning::Port { instance, port }),
-        None => Err(Stop::at(Why::UnknownPort, file, at)),
+        None => Err(NoProgram::at(Why::UnknownPort, file, at)),
     }
 }
 
@@ -74,7 +74,7 @@ pub fn meaning_of(
     shape: &Shape,
     file: usize,
     reference: &Reference,
-) -> Result<Meaning, Stop>
+) -> Result<Meaning, NoProgram>
     ensures meaning { IfOk result (λ meaning. meaning_of shapes.now shape.now reference.now ≡ Some meaning) }
     ensures cause { IfErr result (IfRefused (IsUnmeant shapes.now shape.now file reference.now)) }
 {
@@ -83,11 +83,13 @@ pub fn meaning_of(
     match &reference.port {
         None => match head {
             Some(thing) => Ok(Meaning::Own(thing)),
-            None => Err(Stop::at(Why::UnknownName, file, at)),
+            None => Err(NoProgram::at(Why::UnknownName, file, at)),
         },
         Some(name) => match head {
-            Some(Thing::Member(instance)) => inner(shapes, shape, file, instance, reference, name),
-            _ => Err(Stop::at(Why::UnknownInstance, file, at)),
+            Some(OwnThing::Member(instance)) => inner(
+                shapes, shape, file, instance, reference, name,
+            ),
+            _ => Err(NoProgram::at(Why::UnknownInstance, file, at)),
         },
     }
 }

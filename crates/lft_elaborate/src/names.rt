@@ -1,7 +1,7 @@
 //! The names of members, and those with a number behind them.
 
 ghost use Rattle.std.specs.Prelude.{◌≡◌, IfOk, string_bytes};
-ghost use Rattle.lft_elaborate.specs.{Names.name_in, inner.Names.spelled};
+ghost use Rattle.lft_elaborate.specs.inner.Names.{name_in, spelled};
 
 use itoa::Buffer;
 use lft_whole::Member;

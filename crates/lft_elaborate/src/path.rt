@@ -5,15 +5,15 @@ use std::collections::BTreeSet;
 
 /// A member of a setting whose width is wanted.
 #[derive(Clone, Copy)]
-pub(crate) struct Wanted {
+pub(crate) struct WantedWidth {
     pub setting: usize,
     pub member: usize,
 }
 
 /// One whose width is wanted, and whether that is being found.
 #[derive(Clone, Copy)]
-struct Step {
-    wanted: Wanted,
+struct WidthStep {
+    wanted: WantedWidth,
     is_open: bool,
 }
 
@@ -21,7 +21,7 @@ struct Step {
 // A list, and no call in a call: a text chooses how long a chain of `widthof` is, and the stack is small.
 #[derive(Drop)]
 pub(crate) struct Path {
-    steps: Vec<Step>,
+    steps: Vec<WidthStep>,
     // The open ones once more, as a set: to look for one among all steps
     // would cost a long chain its square.
     noted: BTreeSet<(usize, usize)>,
@@ -37,7 +37,7 @@ impl Path {
     }
 
     /// Takes the last one, which isn't being found any more; the first one of all where none is left.
-    pub(crate) fn pop(&mut self, first: Wanted) -> Wanted {
+    pub(crate) fn pop(&mut self, first: WantedWidth) -> WantedWidth {
         let Some(step) = self.steps.pop() else {
             return first;
         };
@@ -50,9 +50,9 @@ impl Path {
     }
 
     /// Puts some behind the others.
-    fn want(&mut self, needs: &[Wanted]) -> Result<(), AllocError> {
+    fn want(&mut self, needs: &[WantedWidth]) -> Result<(), AllocError> {
         for need in needs {
-            self.steps.push(Step {
+            self.steps.push(WidthStep {
                 wanted: *need,
                 is_open: false,
             })?;
@@ -61,12 +61,16 @@ impl Path {
     }
 
     /// Puts one behind the others, and behind it what its width hangs on. False if it is being found already.
-    pub(crate) fn open(&mut self, wanted: Wanted, needs: &[Wanted]) -> Result<bool, AllocError> {
+    pub(crate) fn open(
+        &mut self,
+        wanted: WantedWidth,
+        needs: &[WantedWidth],
+    ) -> Result<bool, AllocError> {
         let is_new = self.noted.insert((wanted.setting, wanted.member))?;
         if !is_new {
             return Ok(false);
         }
-        self.steps.push(Step {
+        self.steps.push(WidthStep {
             wanted,
             is_open: true,
         })?;

@@ -1,13 +1,13 @@
 //! How many things references mean in a setting.
 
 ghost use Rattle.std.specs.Prelude.{◌≡◌, ◌≤◌, IfOk, OnOk, Some, option_map};
-ghost use Rattle.lft_elaborate.specs.inner.{Noted.GoesOn, Places.{AreMany, HasPlaces, HavePlaces}, Settings.setting_at, Widths.member_at};
-ghost use Rattle.lft_elaborate.specs.{Noted.{AreMade, IsNumberOf, table}, Places.meaning_in, Values.{Valued, inside}};
+ghost use Rattle.lft_elaborate.specs.inner.{Noted.{GoesOn, AreMade, IsNumberOf, table}, Places.{AreMany, HasPlaces, HavePlaces, meaning_in}};
+ghost use Rattle.lft_elaborate.specs.inner.{Settings.setting_at, Widths.member_at, Values.{Valued, inside}};
 
 use crate::meanings::{Meaning, meaning_of};
 use crate::settings::Settings;
-use lft_classes::Thing;
-use lft_whole::sources::{Stop, Why};
+use lft_classes::OwnThing;
+use lft_whole::sources::{NoProgram, Why};
 use lft_whole::{Member, Reference};
 
 impl<'a> Settings<'a> {
@@ -25,7 +25,7 @@ impl<'a> Settings<'a> {
     }
 
     /// Enters the instance of which a reference names a port. What is wrong in it is told before a port that it lacks.
-    pub(crate) fn enter(&mut self, setting: usize, reference: &Reference) -> Result<(), Stop>
+    pub(crate) fn enter(&mut self, setting: usize, reference: &Reference) -> Result<(), NoProgram>
         ensures work { OnOk result (self.new.work.left ≤ self.old.work.left) }
         ensures goes { OnOk result (GoesOn (table self.old) (table self.new)) }
     {
@@ -34,7 +34,7 @@ impl<'a> Settings<'a> {
         };
         let head = shape.find(reference.head.text.as_str());
         match (&reference.port, head) {
-            (Some(_), Some(Thing::Member(instance))) => {
+            (Some(_), Some(OwnThing::Member(instance))) => {
                 self.inside(setting, instance)?;
                 Ok(())
             }
@@ -48,11 +48,11 @@ impl<'a> Settings<'a> {
         setting: usize,
         file: usize,
         reference: &Reference,
-    ) -> Result<Meaning, Stop>
+    ) -> Result<Meaning, NoProgram>
         ensures { IfOk result (λ meaning. (t : Valued) → setting_at self.now setting ≡ Some t → meaning_in self.now.shapes.items t reference.now ≡ Some meaning) }
     {
         let Some(shape) = self.shape_of(setting) else {
-            return Err(Stop::at(Why::UnknownName, file, reference.head.at));
+            return Err(NoProgram::at(Why::UnknownName, file, reference.head.at));
         };
         let meaning = meaning_of(&self.shapes, shape, file, reference)?;
         Ok(meaning)
@@ -65,21 +65,21 @@ impl<'a> Settings<'a> {
         instance: usize,
         file: usize,
         reference: &Reference,
-    ) -> Result<usize, Stop>
+    ) -> Result<usize, NoProgram>
         ensures { IfOk result (λ inner. (t : Valued) → AreMade (table self.now) → setting_at self.now setting ≡ Some t → IsNumberOf self.now.settings.items (inside self.now.shapes.items t instance) (Some inner)) }
     {
         match self.known_inside(setting, instance) {
             Some(inner) => Ok(inner),
-            None => Err(Stop::at(Why::UnknownInstance, file, reference.head.at)),
+            None => Err(NoProgram::at(Why::UnknownInstance, file, reference.head.at)),
         }
     }
 
     /// How many things a thing of a setting is.
-    pub(crate) fn many(&mut self, setting: usize, thing: Thing) -> Result<u64, Stop>
+    pub(crate) fn many(&mut self, setting: usize, thing: OwnThing) -> Result<u64, NoProgram>
         ensures goes { OnOk result (GoesOn (table self.old) (table self.new)) }
         ensures many { IfOk result (λ n. (t : Valued) → AreMade (table self.old) → setting_at self.old setting ≡ Some t → AreMany self.old.shapes.items t thing n) }
     {
-        let Thing::Member(member) = thing else {
+        let OwnThing::Member(member) = thing else {
             return Ok(1);
         };
         let width = self.width(setting, member)?;
@@ -92,7 +92,7 @@ impl<'a> Settings<'a> {
         setting: usize,
         file: usize,
         reference: &Reference,
-    ) -> Result<u64, Stop>
+    ) -> Result<u64, NoProgram>
         ensures goes { OnOk result (GoesOn (table self.old) (table self.new)) }
         ensures places { IfOk result (λ n. (t : Valued) → AreMade (table self.old) → setting_at self.old setting ≡ Some t → HasPlaces self.old.shapes.items t reference.now n) }
     {
@@ -105,8 +105,8 @@ impl<'a> Settings<'a> {
             }
             Meaning::Port { instance, port } => {
                 let inner = self.entered(setting, instance, file, reference)?;
-                let ports = self.many(inner, Thing::Member(port))?;
-                let members = self.many(setting, Thing::Member(instance))?;
+                let ports = self.many(inner, OwnThing::Member(port))?;
+                let members = self.many(setting, OwnThing::Member(instance))?;
                 Ok(ports.saturating_mul(members))
             }
         }
@@ -118,7 +118,7 @@ impl<'a> Settings<'a> {
         setting: usize,
         file: usize,
         references: &[Reference],
-    ) -> Result<u64, Stop>
+    ) -> Result<u64, NoProgram>
         ensures goes { OnOk result (GoesOn (table self.old) (table self.new)) }
         ensures places { IfOk result (λ n. (t : Valued) → AreMade (table self.old) → setting_at self.old setting ≡ Some t → HavePlaces self.old.shapes.items t references.now n) }
     {

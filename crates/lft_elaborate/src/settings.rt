@@ -1,13 +1,13 @@
 //! The reactors with the values of those of their parameters that decide widths.
 
 ghost use Rattle.std.specs.Prelude.{◌≡◌, ◌≤◌, ◌<◌, ℕ, [], Some, IfErr, IfOk, IfSome, OnOk, length, map, option_map, slice_get, slice_set};
-ghost use Rattle.lft_classes.specs.{Nestings.IsNesting, inner.Refused.IsTooMuch};
-ghost use Rattle.lft_elaborate.specs.inner.{Noted.{Adds, GoesOn, GoesOnIf}, Settings.setting_at, Values.IsUnsized};
-ghost use Rattle.lft_elaborate.specs.{Noted.{AreMade, AreSettings, IsNumberOf, found_inside, noted_for, table}, Settings.shape_at, Values.{Valued, inside}};
+ghost use Rattle.lft_classes.specs.inner.{Nestings.IsNesting, Refused.IsTooMuch};
+ghost use Rattle.lft_elaborate.specs.inner.Noted.{Adds, GoesOn, GoesOnIf, AreMade, AreSettings, IsNumberOf, found_inside, noted_for, table};
+ghost use Rattle.lft_elaborate.specs.inner.{Settings.{setting_at, shape_at}, Values.{IsUnsized, Valued, inside}};
 
-use crate::values::{Given, inner_values, main_values, nothing};
+use crate::values::{Giving, inner_values, main_values, nothing};
 use lft_classes::{Nesting, Shape, Work};
-use lft_whole::sources::{SourceFile, Stop, Why};
+use lft_whole::sources::{NoProgram, SourceFile, Why};
 use std::alloc::Global;
 use std::collections::BTreeMap;
 
@@ -50,7 +50,7 @@ pub(crate) fn note<N: Copy>(list: &mut [Option<N>], place: usize, number: N)
 
 impl<'a> Settings<'a> {
     /// The reactors of the files. The main one is the setting of number 0.
-    pub fn of(alloc: Global, files: &'a [SourceFile]) -> Result<Settings<'a>, Stop>
+    pub fn of(alloc: Global, files: &'a [SourceFile]) -> Result<Settings<'a>, NoProgram>
         ensures shapes { IfOk result (λ s. (scopes : _) × (work : Work) × IsNesting files.now scopes (record { work = work; shapes = s.shapes; order = s.order })) }
         ensures settings { IfOk result (λ s. AreSettings (table s)) }
     {
@@ -78,7 +78,7 @@ impl<'a> Settings<'a> {
     }
 
     /// Makes the setting of the main reactor, whose shape was made first.
-    fn add_main(&mut self) -> Result<(), Stop>
+    fn add_main(&mut self) -> Result<(), NoProgram>
         ensures main { OnOk result ((main : Shape) → slice_get self.old.shapes.items 0 ≡ Some main → self.old.settings.items ≡ [] → AreMade (table self.old) → AreSettings (table self.new)) }
         ensures rest { OnOk result ((self.new.shapes ≡ self.old.shapes) × (self.new.order ≡ self.old.order)) }
     {
@@ -105,7 +105,7 @@ impl<'a> Settings<'a> {
     }
 
     /// The setting of this shape and these values.
-    fn setting(&mut self, shape: usize, values: Vec<i64>) -> Result<usize, Stop>
+    fn setting(&mut self, shape: usize, values: Vec<i64>) -> Result<usize, NoProgram>
         ensures work { OnOk result (self.new.work.left ≤ self.old.work.left) }
         ensures goes { OnOk result (shape < length self.old.shapes.items → GoesOn (table self.old) (table self.new)) }
         ensures number { IfOk result (λ k. shape < length self.old.shapes.items → AreMade (table self.old) → setting_at self.new k ≡ Some (record { shape = shape; values = map (λ v. Some v) values.items })) }
@@ -127,7 +127,7 @@ impl<'a> Settings<'a> {
     }
 
     /// Makes a setting.
-    fn add_setting(&mut self, shape: usize, values: Vec<i64>) -> Result<(), Stop>
+    fn add_setting(&mut self, shape: usize, values: Vec<i64>) -> Result<(), NoProgram>
         ensures work { OnOk result (self.new.work.left ≤ self.old.work.left) }
         ensures adds { OnOk result (Adds (table self.old) (table self.new) shape values.items) }
         ensures cause { IfErr result IsTooMuch }
@@ -179,7 +179,7 @@ impl<'a> Settings<'a> {
         &mut self,
         setting: usize,
         member: usize,
-    ) -> Result<Option<(usize, Vec<i64>)>, Stop>
+    ) -> Result<Option<(usize, Vec<i64>)>, NoProgram>
         ensures work { OnOk result (self.new.work.left ≤ self.old.work.left) }
         ensures rest { self.new ≡ record self.old { work = self.new.work } }
         ensures inside { IfOk result (λ found. (t : Valued) → setting_at self.old setting ≡ Some t → option_map (λ p. record { shape = p.0; values = map (λ v. Some v) p.1.items }) found ≡ inside self.old.shapes.items t member) }
@@ -204,8 +204,8 @@ impl<'a> Settings<'a> {
             Some(inherited) => (inherited.file, inherited.at()),
             None => (0, 0),
         };
-        let missing = Stop::at(Why::MissingNumber, file, at);
-        let given = Given {
+        let missing = NoProgram::at(Why::MissingNumber, file, at);
+        let given = Giving {
             outer,
             values: found.values.as_slice(),
             file,
@@ -242,7 +242,7 @@ impl<'a> Settings<'a> {
     }
 
     /// The setting in the instance of this number in a setting; None where it is no instance.
-    pub fn inside(&mut self, setting: usize, member: usize) -> Result<Option<usize>, Stop>
+    pub fn inside(&mut self, setting: usize, member: usize) -> Result<Option<usize>, NoProgram>
         ensures work { OnOk result (self.new.work.left ≤ self.old.work.left) }
         ensures goes { OnOk result (GoesOn (table self.old) (table self.new)) }
         ensures inside { IfOk result (λ inner. (t : Valued) → AreMade (table self.old) → setting_at self.old setting ≡ Some t → IsNumberOf self.new.settings.items (inside self.old.shapes.items t member) inner) }

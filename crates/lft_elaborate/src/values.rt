@@ -1,11 +1,11 @@
 //! The whole numbers that parameters are.
 
 ghost use Rattle.std.specs.Prelude.{◌≡◌, ◌<◌, ℕ, IfErr, IfOk, map, None, Some, option_map, replicate, slice_get, vec_len};
-ghost use Rattle.lft_elaborate.specs.inner.{Refused.{IsLacking, SaysNoNumber}, Values.value_written};
-ghost use Rattle.lft_elaborate.specs.Values.{default_at, default_written, given_to, literal, main_value, main_values, number_in, number_named, signed, value_inside, values_inside};
+ghost use Rattle.lft_elaborate.specs.inner.Refused.{IsLacking, SaysNoNumber};
+ghost use Rattle.lft_elaborate.specs.inner.Values.{value_written, default_at, default_written, given_to, literal, main_value, main_values, number_in, number_named, signed, value_inside, values_inside};
 
 use lft_classes::{Child, Shape};
-use lft_whole::sources::{Stop, Why};
+use lft_whole::sources::{NoProgram, Why};
 use lft_whole::{Expression, Value};
 use std::alloc::{AllocError, Global};
 
@@ -59,7 +59,7 @@ pub(crate) fn number_named(shape: &Shape, values: &[i64], name: &str) -> Option<
 
 /// The number that a value is, in a reactor with these values of its parameters. Only those that decide a width
 /// count.
-fn number(shape: &Shape, values: &[i64], file: usize, value: &Expression) -> Result<i64, Stop>
+fn number(shape: &Shape, values: &[i64], file: usize, value: &Expression) -> Result<i64, NoProgram>
     ensures found { IfOk result (λ found. number_in shape.now (map (λ v. Some v) values.now) value.now.value ≡ Some found) }
     ensures lacking { IfErr result (IsLacking (number_in shape.now (map (λ v. Some v) values.now) value.now.value) (Some value.now.value)) }
 {
@@ -69,12 +69,12 @@ fn number(shape: &Shape, values: &[i64], file: usize, value: &Expression) -> Res
     };
     match found {
         Some(found) => Ok(found),
-        None => Err(Stop::at(Why::NoWholeNumber, file, value.at)),
+        None => Err(NoProgram::at(Why::NoWholeNumber, file, value.at)),
     }
 }
 
 /// The default of a parameter. `missing` is what is said where there is none.
-fn default(inner: &Shape, parameter: usize, missing: Stop) -> Result<i64, Stop>
+fn default(inner: &Shape, parameter: usize, missing: NoProgram) -> Result<i64, NoProgram>
     ensures found { IfOk result (λ found. default_at inner.now parameter ≡ Some found) }
     ensures lacking { IfErr result (λ stop. SaysNoNumber None missing → IsLacking (default_at inner.now parameter) (default_written inner.now parameter) stop) }
 {
@@ -86,12 +86,12 @@ fn default(inner: &Shape, parameter: usize, missing: Stop) -> Result<i64, Stop>
     };
     match literal(&value.value) {
         Some(found) => Ok(found),
-        None => Err(Stop::at(Why::NoWholeNumber, inherited.file, value.at)),
+        None => Err(NoProgram::at(Why::NoWholeNumber, inherited.file, value.at)),
     }
 }
 
 /// The value of a parameter of the main reactor: its default. Of one that decides no width it is 0.
-fn main_value(main: &Shape, parameter: usize) -> Result<i64, Stop>
+fn main_value(main: &Shape, parameter: usize) -> Result<i64, NoProgram>
     ensures found { IfOk result (λ found. main_value main.now parameter ≡ Some found) }
     ensures lacking { IfErr result (IsLacking (main_value main.now parameter) (default_written main.now parameter)) }
 {
@@ -102,11 +102,11 @@ fn main_value(main: &Shape, parameter: usize) -> Result<i64, Stop>
         Some(inherited) => (inherited.file, inherited.parameter.name.at),
         None => (0, 0),
     };
-    default(main, parameter, Stop::at(Why::MissingNumber, file, at))
+    default(main, parameter, NoProgram::at(Why::MissingNumber, file, at))
 }
 
 /// The values of the parameters of the main reactor.
-pub(crate) fn main_values(alloc: Global, main: &Shape) -> Result<Vec<i64>, Stop>
+pub(crate) fn main_values(alloc: Global, main: &Shape) -> Result<Vec<i64>, NoProgram>
     ensures found { IfOk result (λ values. map (λ v. Some v) values.items ≡ main_values main.now) }
 {
     let mut values = Vec::new(alloc);
@@ -118,7 +118,7 @@ pub(crate) fn main_values(alloc: Global, main: &Shape) -> Result<Vec<i64>, Stop>
 
 /// What an instance gives, in a file and in a reactor with these values of its parameters.
 #[derive(Clone, Copy)]
-pub(crate) struct Given<'o, 'v, 'c, 'a> {
+pub(crate) struct Giving<'o, 'v, 'c, 'a> {
     pub(crate) outer: &'o Shape<'a>,
     pub(crate) values: &'v [i64],
     pub(crate) file: usize,
@@ -130,9 +130,9 @@ fn given_values<'a>(
     alloc: Global,
     child: &Child<'a>,
     count: usize,
-) -> Result<Vec<Option<&'a Expression>>, Stop>
+) -> Result<Vec<Option<&'a Expression>>, NoProgram>
     ensures long { IfOk result (λ table. vec_len table ≡ count) }
-    ensures memory { IfErr result (λ stop. stop ≡ Stop.NoMemory) }
+    ensures memory { IfErr result (λ stop. stop ≡ NoProgram.NoMemory) }
     ensures given { IfOk result (λ table. (p : ℕ) → p < count → slice_get (map (λ found. option_map (λ value. value.now.value) found) table.items) p ≡ Some (given_to child.now.given.items p)) }
 {
     let mut table = nothing(alloc, count)?;
@@ -151,10 +151,10 @@ fn given_values<'a>(
 fn inner_value(
     inner: &Shape,
     parameter: usize,
-    given: Given,
+    given: Giving,
     value: Option<&Expression>,
-    missing: Stop,
-) -> Result<i64, Stop>
+    missing: NoProgram,
+) -> Result<i64, NoProgram>
     ensures found { IfOk result (λ found. (option_map (λ value. value.now.value) value.entry ≡ given_to given.entry.child.now.given.items parameter) → value_inside given.entry.outer.now (map (λ v. Some v) given.entry.values.now) given.entry.child.now.given.items inner.now parameter ≡ Some found) }
     ensures lacking { IfErr result (λ stop. SaysNoNumber None missing → (option_map (λ value. value.now.value) value.entry ≡ given_to given.entry.child.now.given.items parameter) → IsLacking (value_inside given.entry.outer.now (map (λ v. Some v) given.entry.values.now) given.entry.child.now.given.items inner.now parameter) (value_written given.entry.child.now.given.items inner.now parameter) stop) }
 {
@@ -172,9 +172,9 @@ fn inner_value(
 pub(crate) fn inner_values(
     alloc: Global,
     inner: &Shape,
-    given: Given,
-    missing: Stop,
-) -> Result<Vec<i64>, Stop>
+    given: Giving,
+    missing: NoProgram,
+) -> Result<Vec<i64>, NoProgram>
     ensures found { IfOk result (λ values. map (λ v. Some v) values.items ≡ values_inside given.entry.outer.now (map (λ v. Some v) given.entry.values.now) given.entry.child.now.given.items inner.now) }
 {
     let count = inner.parameters.len();

@@ -1,16 +1,17 @@
 //! Widths of ports and banks in a setting.
 
 ghost use Rattle.std.specs.Prelude.{◌≡◌, ◌≤◌, ◌↔◌, ℕ, Some, IfErr, IfOk, IfSome, IsSome, OnOk, is_some, option_and_then};
-ghost use Rattle.lft_elaborate.specs.inner.{Noted.{GoesOn, GoesOnIf}, Places.{AreMany, HasPlaces, HasWidth, IsCount, IsSum}, Refused.{IfRefused, IsOfWord}};
-ghost use Rattle.lft_elaborate.specs.inner.{Settings.setting_at, Widths.{member_at, width_at}};
-ghost use Rattle.lft_elaborate.specs.{Noted.{AreMade, table}, Places.{IsMany, IsWidth, natural, parameter_in, plus, times}, Values.Valued, Widths.found_width};
+ghost use Rattle.lft_elaborate.specs.inner.Noted.{GoesOn, GoesOnIf, AreMade, table};
+ghost use Rattle.lft_elaborate.specs.inner.Places.{AreMany, HasPlaces, HasWidth, IsCount, IsSum, IsMany, IsWidth, parameter_in, plus, times};
+ghost use Rattle.lft_elaborate.specs.inner.{Refused.{IfRefused, IsOfWord}, Settings.setting_at, Widths.{member_at, width_at, found_width}, Values.Valued};
+ghost use Rattle.lft_elaborate.specs.Places.{natural};
 
 use crate::meanings::Meaning;
-use crate::path::{Path, Wanted};
+use crate::path::{Path, WantedWidth};
 use crate::settings::{Settings, note};
 use crate::values::number_named;
-use lft_classes::{Inherited, Thing};
-use lft_whole::sources::{Stop, Why};
+use lft_classes::{Inherited, OwnThing};
+use lft_whole::sources::{NoProgram, Why};
 use lft_whole::{Count, Reference, Term};
 use std::alloc::AllocError;
 
@@ -30,7 +31,7 @@ fn times(one: Option<u64>, other: Option<u64>) -> Option<u64>
 
 impl<'a> Settings<'a> {
     /// The member of a setting, with its file.
-    pub(crate) fn inherited(&self, wanted: Wanted) -> Option<Inherited<'a>>
+    pub(crate) fn inherited(&self, wanted: WantedWidth) -> Option<Inherited<'a>>
         ensures { result ≡ member_at self.now wanted.setting wanted.member }
     {
         match self.shape_of(wanted.setting) {
@@ -40,7 +41,7 @@ impl<'a> Settings<'a> {
     }
 
     /// Whether a member has a width.
-    fn is_wide(&self, wanted: Wanted) -> bool
+    fn is_wide(&self, wanted: WantedWidth) -> bool
         ensures { result ≡ is_some (width_at self.now wanted.setting wanted.member) }
     {
         match self.inherited(wanted) {
@@ -63,7 +64,7 @@ impl<'a> Settings<'a> {
     }
 
     /// Notes a width.
-    fn note_width(&mut self, wanted: Wanted, width: u64)
+    fn note_width(&mut self, wanted: WantedWidth, width: u64)
         ensures work { self.new.work ≡ self.old.work }
         ensures goes { GoesOnIf ((t : Valued) → setting_at self.old wanted.setting ≡ Some t → IsWidth self.old.shapes.items t wanted.member width) (table self.old) (table self.new) }
     {
@@ -92,22 +93,26 @@ impl<'a> Settings<'a> {
         file: usize,
         word: &str,
         at: usize,
-    ) -> Result<u64, Stop>
+    ) -> Result<u64, NoProgram>
         ensures number { IfOk result (λ n. (t : Valued) → setting_at self.now setting ≡ Some t → option_and_then natural (parameter_in self.now.shapes.items t word.now) ≡ Some n) }
         ensures cause { IfErr result (λ stop. (t : Valued) → setting_at self.now setting ≡ Some t → IfRefused (IsOfWord self.now.shapes.items t file at word.now) stop) }
     {
         let Some(value) = self.number_in(setting, word) else {
-            return Err(Stop::at(Why::UnknownParameter, file, at));
+            return Err(NoProgram::at(Why::UnknownParameter, file, at));
         };
         if value < 0 {
-            Err(Stop::at(Why::NegativeWidth, file, at))
+            Err(NoProgram::at(Why::NegativeWidth, file, at))
         } else {
             Ok(value as u64)
         }
     }
 
     /// How many a member is, on which a width hangs: 1 if it has no width. One that isn't known is put behind a list.
-    fn need(&self, needed: Wanted, needs: &mut Vec<Wanted>) -> Result<Option<u64>, AllocError>
+    fn need(
+        &self,
+        needed: WantedWidth,
+        needs: &mut Vec<WantedWidth>,
+    ) -> Result<Option<u64>, AllocError>
         ensures many { IfOk result (λ found. IfSome found (λ n. (t : Valued) → AreMade (table self.now) → setting_at self.now needed.setting ≡ Some t → IsMany self.now.shapes.items t needed.member n)) }
     {
         if !self.is_wide(needed) {
@@ -124,14 +129,14 @@ impl<'a> Settings<'a> {
     fn need_thing(
         &self,
         setting: usize,
-        thing: Thing,
-        needs: &mut Vec<Wanted>,
+        thing: OwnThing,
+        needs: &mut Vec<WantedWidth>,
     ) -> Result<Option<u64>, AllocError>
         ensures many { IfOk result (λ found. IfSome found (λ n. (t : Valued) → AreMade (table self.now) → setting_at self.now setting ≡ Some t → AreMany self.now.shapes.items t thing n)) }
     {
         match thing {
-            Thing::Member(member) => self.need(Wanted { setting, member }, needs),
-            Thing::Parameter(_) => Ok(Some(1)),
+            OwnThing::Member(member) => self.need(WantedWidth { setting, member }, needs),
+            OwnThing::Parameter(_) => Ok(Some(1)),
         }
     }
 
@@ -141,8 +146,8 @@ impl<'a> Settings<'a> {
         setting: usize,
         file: usize,
         reference: &Reference,
-        needs: &mut Vec<Wanted>,
-    ) -> Result<Option<u64>, Stop>
+        needs: &mut Vec<WantedWidth>,
+    ) -> Result<Option<u64>, NoProgram>
         ensures work { OnOk result (self.new.work.left ≤ self.old.work.left) }
         ensures goes { OnOk result (GoesOn (table self.old) (table self.new)) }
         ensures places { IfOk result (λ found. IfSome found (λ n. (t : Valued) → AreMade (table self.old) → setting_at self.old setting ≡ Some t → HasPlaces self.old.shapes.items t reference.now n)) }
@@ -157,14 +162,14 @@ impl<'a> Settings<'a> {
             Meaning::Port { instance, port } => {
                 let inner = self.entered(setting, instance, file, reference)?;
                 let ports = self.need(
-                    Wanted {
+                    WantedWidth {
                         setting: inner,
                         member: port,
                     },
                     needs,
                 )?;
                 let members = self.need(
-                    Wanted {
+                    WantedWidth {
                         setting,
                         member: instance,
                     },
@@ -181,8 +186,8 @@ impl<'a> Settings<'a> {
         setting: usize,
         file: usize,
         term: &Term,
-        needs: &mut Vec<Wanted>,
-    ) -> Result<Option<u64>, Stop>
+        needs: &mut Vec<WantedWidth>,
+    ) -> Result<Option<u64>, NoProgram>
         ensures work { OnOk result (self.new.work.left ≤ self.old.work.left) }
         ensures goes { OnOk result (GoesOn (table self.old) (table self.new)) }
         ensures count { IfOk result (λ found. IfSome found (λ n. (t : Valued) → AreMade (table self.old) → setting_at self.old setting ≡ Some t → IsCount self.old.shapes.items t term.now.count n)) }
@@ -194,8 +199,8 @@ impl<'a> Settings<'a> {
                 Ok(Some(count))
             }
             Count::WidthOf(reference) => self.width_of(setting, file, reference, needs),
-            Count::Code => Err(Stop::at(Why::WidthByCode, file, term.at)),
-            Count::Open => Err(Stop::at(Why::OpenWidth, file, term.at)),
+            Count::Code => Err(NoProgram::at(Why::WidthByCode, file, term.at)),
+            Count::Open => Err(NoProgram::at(Why::OpenWidth, file, term.at)),
         }
     }
 
@@ -205,8 +210,8 @@ impl<'a> Settings<'a> {
         setting: usize,
         file: usize,
         terms: &[Term],
-        needs: &mut Vec<Wanted>,
-    ) -> Result<Option<u64>, Stop>
+        needs: &mut Vec<WantedWidth>,
+    ) -> Result<Option<u64>, NoProgram>
         ensures work { OnOk result (self.new.work.left ≤ self.old.work.left) }
         ensures goes { OnOk result (GoesOn (table self.old) (table self.new)) }
         ensures sum { IfOk result (λ all. IfSome all (λ n. (t : Valued) → AreMade (table self.old) → setting_at self.old setting ≡ Some t → IsSum self.old.shapes.items t terms.now n)) }
@@ -220,7 +225,7 @@ impl<'a> Settings<'a> {
     }
 
     /// Finds a width, if it isn't known and all that it hangs on is. Else that is wanted before it.
-    fn find_width(&mut self, wanted: Wanted, path: &mut Path) -> Result<(), Stop>
+    fn find_width(&mut self, wanted: WantedWidth, path: &mut Path) -> Result<(), NoProgram>
         ensures work { OnOk result (self.new.work.left ≤ self.old.work.left) }
         ensures goes { OnOk result (GoesOn (table self.old) (table self.new)) }
     {
@@ -242,18 +247,18 @@ impl<'a> Settings<'a> {
         if path.open(wanted, &needs)? {
             Ok(())
         } else {
-            Err(Stop::at(Why::WidthOfItself, inherited.file, inherited.at()))
+            Err(NoProgram::at(Why::WidthOfItself, inherited.file, inherited.at()))
         }
     }
 
     /// The width of the member of this number in a setting; None for a plain one.
-    pub fn width(&mut self, setting: usize, member: usize) -> Result<Option<u64>, Stop>
+    pub fn width(&mut self, setting: usize, member: usize) -> Result<Option<u64>, NoProgram>
         ensures plain { IfOk result (λ width. IsSome width ↔ IsSome (width_at self.old setting member)) }
         ensures found { IfOk result (λ width. IfSome width (λ count. found_width self.new setting member ≡ Some count)) }
         ensures goes { OnOk result (GoesOn (table self.old) (table self.new)) }
         ensures width { IfOk result (λ width. (t : Valued) → AreMade (table self.old) → setting_at self.old setting ≡ Some t → HasWidth self.old.shapes.items t member width) }
     {
-        let first = Wanted { setting, member };
+        let first = WantedWidth { setting, member };
         if !self.is_wide(first) {
             return Ok(None);
         }

@@ -13,7 +13,7 @@ use Rattle.lft_model.specs.Plans.{PlanParts}
 use Rattle.lft_model.specs.Presence.{value_written, value_scheduled, written, scheduled, given, min_delay, IsWrittenFrom, IsPresent, Fires, Occurs}
 use Rattle.lft_model.proofs.{Places.slice_get_within, ActionEvents.{at_row, at_event}, Firings.{time_of, again_fires}}
 use Rattle.lft_model.proofs.{Ended.{written_by, by_written, by_scheduled, scheduled_by}, Steps.{written_some, some_written, scheduled_some, some_scheduled}}
-use Rattle.lft_rows.specs.declared.presence.causes.Cause.{Cause as Event}
+use Rattle.lft_rows.specs.declared.presence.causes.EventCause.{EventCause as Event}
 use Rattle.lft_rows.specs.inner.Presence.Causes.{tag_of, cause as cause_of, ComesUpTo, Leads, IsLastCause, IsCause, Carries, step_cause}
 use Rattle.lft_rows.proofs.PresenceLemmas.Presences.{ChainOf, port_cause, action_cause, carrier, row_of, event_of, step_place, step_schedules, none_leads}
 use Rattle.lft_facts.specs.{declared.facts.Cause.Cause, Facts.{IsCause as IsFactCause, IsWrittenIn, IsScheduledIn, IsGiven, FiresAfter}}

@@ -9,7 +9,7 @@ use Rattle.lft_ir.specs.Steps.Fits.{RowsFit}
 use Rattle.lft_ir.proofs.Origins.{origin_unique}
 use Rattle.lft_model.proofs.{Blocks.two_places, Steps.some_written}
 use Rattle.lft_model.specs.{Plans.PlanParts, Presence.{value_written, scheduled, given, min_delay, events_of, IsWrittenFrom, PortClash}}
-use Rattle.lft_rows.specs.declared.presence.causes.Cause.{Cause as Event}
+use Rattle.lft_rows.specs.declared.presence.causes.EventCause.{EventCause as Event}
 use Rattle.lft_rows.specs.inner.Presence.{Causes.{tag_of, ComesUpTo, AreCauses, Leads, IsLastCause, IsCause as IsEventCause}, Lookups.IsFirstCause}
 use Rattle.lft_rows.proofs.PresenceLemmas.{Presences.{ChainOf, port_cause_at, none_leads}, Twice.two_causes, Lookups.in_order}
 use Rattle.lft_facts.specs.{declared.facts.{Fact.Fact, Cause.Cause}, Facts.{IsShown, AreShown, IsWrittenIn, event_of}}

@@ -3,7 +3,7 @@ use Rattle.std.proofs.Common.{ℕ, List, refl, sym, ◌∙◌, subst, Some}
 use Rattle.lft_tag.{specs.{declared.Tag.Tag, Tags.{Before, UpTo}, Shifts.{Folded, shifted}}, proofs.Order.{Before-irrefl, Before-trans, UpTo-not}}
 use Rattle.lft_ir.specs.{Sound.IsSound, declared.{parts.{Name.Name, Trigger.TheVariants.On}, steps.row.Row.Row}, Steps.Fits.RowsFit}
 use Rattle.lft_model.specs.{Plans.PlanParts, Presence.IsPresent}
-use Rattle.lft_rows.specs.{declared.presence.causes.Cause.Cause as Event, inner.Presence.{Causes.tag_of, Lookups.{IsLastBefore, IsFirstAfter}}}
+use Rattle.lft_rows.specs.{declared.presence.causes.EventCause.EventCause as Event, inner.Presence.{Causes.tag_of, Lookups.{IsLastBefore, IsFirstAfter}}}
 use Rattle.lft_rows.proofs.PresenceLemmas.{Positions.shifted_mono, Presences.{present_cause, cause_present}, Lookups.in_order}
 use Rattle.lft_facts.specs.{Reasons.IsNearest, inner.Causes.StandsFor}
 

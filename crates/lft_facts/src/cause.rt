@@ -11,7 +11,7 @@ use crate::facts::Cause;
 use lft_ir::steps::Row;
 use lft_ir::{Name, Trigger};
 use lft_model::{Plan, fires};
-use lft_rows::presence::{Cause as EventCause, last_cause};
+use lft_rows::presence::{EventCause, last_cause};
 use lft_tag::{Shift, Tag};
 
 /// The place of the last row that gives the port an event at the tag.

@@ -10,7 +10,7 @@ use crate::cause::of_action;
 use crate::facts::{Cause, Fact};
 use lft_ir::steps::Row;
 use lft_model::Plan;
-use lft_rows::presence::{Cause as EventCause, cause_tag, first_cause, last_cause};
+use lft_rows::presence::{EventCause, cause_tag, first_cause, last_cause};
 use lft_tag::{NoMemory, Shift, Tag};
 use std::alloc::Global;
 

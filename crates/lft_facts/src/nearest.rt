@@ -8,7 +8,7 @@ ghost use Rattle.lft_facts.specs.{Reasons.IsNearest, inner.Causes.StandsFor};
 use lft_ir::steps::Row;
 use lft_ir::{Name, Program};
 use lft_model::Plan;
-use lft_rows::presence::{Cause as EventCause, cause_tag, first_after, last_before, moved};
+use lft_rows::presence::{EventCause, cause_tag, first_after, last_before, moved};
 use lft_tag::{Shift, Tag};
 
 /// The key of the port or action, and the shift that leads from the tags of its causes to those of

@@ -18,7 +18,7 @@ use lft_ir::steps::Row;
 use lft_ir::{Name, Trigger};
 use lft_lists::item_at;
 use lft_model::Plan;
-use lft_rows::presence::Cause as EventCause;
+use lft_rows::presence::EventCause;
 use lft_tag::{NoMemory, Tag};
 use std::alloc::Global;
 

@@ -13,7 +13,7 @@ use lft_ir::steps::Row;
 use lft_lists::item_at;
 use lft_model::{Plan, trace_stop};
 use lft_races::start_of;
-use lft_rows::presence::Cause as EventCause;
+use lft_rows::presence::EventCause;
 use lft_tag::{NoMemory, Tag};
 use std::alloc::Global;
 

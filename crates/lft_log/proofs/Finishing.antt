@@ -6,7 +6,7 @@ use Rattle.lft_tag.specs.declared.{NoMemory.NoMemory, Tag.Tag}
 use Rattle.lft_ir.specs.declared.steps.row.Row.{Row}
 use Rattle.lft_model.specs.Plans.{PlanParts}
 use Rattle.lft_monitor.specs.declared.judged.{Ending.{Ending, TheVariants.{Accepted, Unbroken, Broken}}, Unjudged.Unjudged}
-use Rattle.lft_monitor.specs.declared.open.OpenRun.{OpenRun}
+use Rattle.lft_monitor.specs.declared.open.StillOpen.{StillOpen}
 use Rattle.lft_monitor.specs.inner.Follows.{IsEnding, IsUnjudged}
 use Rattle.lft_monitor.proofs.Following.{unjudged_so_far}
 use Rattle.lft_log.specs.Logs.{AreLines, HasLast, HoldSoFar, IsHead, LastCounts, LastIsLeft, header_words, mark, rows}
@@ -41,12 +41,12 @@ ended_left base until whole bytes (Soon told) last is = inl is
 ended_left base until whole bytes (AtEnd ending) last is = inr (last, is)
 
 -- the runs without an end, where the last line counts and where it doesn't
-pub open_whole : (base : PlanParts) (bytes : List ℕ) (told : Final) (r : Result (Vec OpenRun) NoMemory) → LastCounts bytes → IfOk r (λ (runs : Vec OpenRun). AreOpenIn base (bytes ++ 10 ∷ []) runs.items) → TellsOpen base bytes told r
+pub open_whole : (base : PlanParts) (bytes : List ℕ) (told : Final) (r : Result (Vec StillOpen) NoMemory) → LastCounts bytes → IfOk r (λ (runs : Vec StillOpen). AreOpenIn base (bytes ++ 10 ∷ []) runs.items) → TellsOpen base bytes told r
 open_whole base bytes (Soon told) r last is = tt
 open_whole base bytes (AtEnd ending) (Err e) last is = tt
 open_whole base bytes (AtEnd ending) (Ok runs) last is = inl (last, is)
 
-pub open_left : (base : PlanParts) (bytes : List ℕ) (told : Final) (r : Result (Vec OpenRun) NoMemory) → LastIsLeft bytes → IfOk r (λ (runs : Vec OpenRun). AreOpenIn base bytes runs.items) → TellsOpen base bytes told r
+pub open_left : (base : PlanParts) (bytes : List ℕ) (told : Final) (r : Result (Vec StillOpen) NoMemory) → LastIsLeft bytes → IfOk r (λ (runs : Vec StillOpen). AreOpenIn base bytes runs.items) → TellsOpen base bytes told r
 open_left base bytes (Soon told) r last is = tt
 open_left base bytes (AtEnd ending) (Err e) last is = tt
 open_left base bytes (AtEnd ending) (Ok runs) last is = inr (last, is)

@@ -4,7 +4,7 @@ use Rattle.std.proofs.lemmas.List.{length-drop, length-take, take-take, take_all
 use Rattle.lft_ir.specs.{Parts.Parts, Steps.Fits.RowsFit}
 use Rattle.lft_trace.specs.{inner.LogTables.{InputsFit, ReadsLines, StopsAt}, Parts.EndsLine, declared.log_table.{LineFault.LineFault, LogLines.LogLines}}
 use Rattle.lft_log.specs.{Logs.{AreLines, ArePlain, inputs, records_below, rows}, inner.Logs.{BeginsOdd, IsFaultBehind, IsFront}}
-use Rattle.lft_log.specs.declared.{fault.LogFault.LogFault, front.Front.Front}
+use Rattle.lft_log.specs.declared.{fault.LogFault.LogFault, front.LinesRead.LinesRead}
 use Rattle.lft_log.proofs.{Ends.{lines_left, range_take}, Behind.length_inputs}
 
 pub rest_from : (text : List ℕ) (n : ℕ) → slice_range text n (length text) ≡ drop n text
@@ -44,7 +44,7 @@ some_lines text (inr ends) some = ends
 abbrev pub IsNextFault : Option LineFault → List ℕ → ℕ → ℕ → LogFault → Type 0
 IsNextFault fault behind row input f = (program : Parts) (records : List (List (List ℕ))) → StopsAt program records fault → BeginsOdd behind → IsFaultBehind program records behind row input f
 
-pub front_is : (program : Parts) (text : List ℕ) (rows_before inputs_before plain : ℕ) (read : LogLines) (front : Front) (row input : ℕ)
+pub front_is : (program : Parts) (text : List ℕ) (rows_before inputs_before plain : ℕ) (read : LogLines) (front : LinesRead) (row input : ℕ)
     → plain ≤ length text → AreLines (take plain text) → ArePlain (take plain text) → BeginsOdd (drop plain text)
     → ReadsLines program (records_below (slice_range text 0 plain)) read → RowsFit program read.rows.items → InputsFit program read.inputs.items
     → front.rows ≡ read.rows → front.inputs ≡ read.inputs

@@ -8,7 +8,7 @@ use Rattle.lft_trace.specs.{inner.LogTables.inputs_behind, declared.log_table.Li
 use Rattle.lft_model.{specs.Plans.PlanParts, proofs.Places.slice_get_take}
 use Rattle.lft_monitor.specs.inner.Follows.{IsFollowerOf}
 use Rattle.lft_log.specs.{Logs.{HasManyRows, IsHead, rows}, inner.{Logs.IsFront, Told.{HasRead, IsReadOn, IsReadSoFar, IsTaken}}, Told.TellsPlan}
-use Rattle.lft_log.specs.declared.{front.Front.Front, rows.LogRows.LogRows, telling.Taken.Taken}
+use Rattle.lft_log.specs.declared.{front.LinesRead.LinesRead, rows.LogRows.LogRows, telling.Taken.Taken}
 use Rattle.lft_log.proofs.{Behind.rows_both, Fronts.rest_from, Holding.{header_there, hold_front}, Taking.{grown_tells, tells_all}, Plans.told_none}
 
 -- a part of what is left, and what is left behind it
@@ -63,7 +63,7 @@ none_is None e = refl
 none_is (Some x) e = absurd (false≢true (sym e))
 
 -- the first lines of a front are taken behind those that are read
-module _ (base old new : PlanParts) (bytes text behind : List ℕ) (r : LogRows) (rows_before inputs_before : ℕ) (front : Front) (taken : Taken) (t : List Row) (so : IsReadSoFar base old bytes (text ++ behind) r) (given : IsFront old.program text rows_before inputs_before front) (program : new.program ≡ old.program) (are : (s : List Row) (lines : List Line) → IsFollowerOf old s r.follower → front.rows.items ≡ rows lines → front.inputs.items ≡ inputs_behind 0 lines → IsTaken old new s inputs_before front lines taken) (few : length front.rows.items ≤ 4000000 - length r.rows.items) (e : t ≡ r.rows.items ++ slice_range front.rows.items 0 taken.rows) where
+module _ (base old new : PlanParts) (bytes text behind : List ℕ) (r : LogRows) (rows_before inputs_before : ℕ) (front : LinesRead) (taken : Taken) (t : List Row) (so : IsReadSoFar base old bytes (text ++ behind) r) (given : IsFront old.program text rows_before inputs_before front) (program : new.program ≡ old.program) (are : (s : List Row) (lines : List Line) → IsFollowerOf old s r.follower → front.rows.items ≡ rows lines → front.inputs.items ≡ inputs_behind 0 lines → IsTaken old new s inputs_before front lines taken) (few : length front.rows.items ≤ 4000000 - length r.rows.items) (e : t ≡ r.rows.items ++ slice_range front.rows.items 0 taken.rows) where
   fronts : IsFront base.program text rows_before inputs_before front
   fronts = subst (λ (p : Parts). IsFront p text rows_before inputs_before front) so.tells.told.program given
 
@@ -88,7 +88,7 @@ module _ (base old new : PlanParts) (bytes text behind : List ℕ) (r : LogRows)
   all_read none = tells_all base old new bytes text behind so.tells.lines rows_before inputs_before front taken so.tells.held fronts takes so.tells.timely so.tells.told none t whole
 
 -- with a front the log has more rows than a table may have
-pub cut_rows : (base old : PlanParts) (bytes text behind : List ℕ) (r : LogRows) (rows_before inputs_before : ℕ) (front : Front) → IsReadSoFar base old bytes (text ++ behind) r → IsFront old.program text rows_before inputs_before front → 4000000 < length r.rows.items + length front.rows.items → HasManyRows base.program bytes
+pub cut_rows : (base old : PlanParts) (bytes text behind : List ℕ) (r : LogRows) (rows_before inputs_before : ℕ) (front : LinesRead) → IsReadSoFar base old bytes (text ++ behind) r → IsFront old.program text rows_before inputs_before front → 4000000 < length r.rows.items + length front.rows.items → HasManyRows base.program bytes
 cut_rows base old bytes text behind r rows_before inputs_before front so given many = (so.tells.lines ++ fronts.lines, fronts.others, _, hold_front base.program bytes text behind so.tells.lines rows_before inputs_before front so.tells.held fronts, more)
   where
     fronts : IsFront base.program text rows_before inputs_before front

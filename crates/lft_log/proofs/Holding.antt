@@ -3,7 +3,7 @@ use Rattle.std.proofs.Common.{◌≡◌, ◌∙◌, ℕ, inl, List, [], ◌∷�
 use Rattle.std.{specs.List.AllZip, proofs.lemmas.List.{append_assoc, append-nil, take-append-drop}}
 use Rattle.lft_ir.specs.Parts.{Parts}
 use Rattle.lft_trace.{specs.{LogTables.IsLine, Traces.header, declared.log_table.Line.Line}, proofs.Together.zipped}
-use Rattle.lft_log.specs.{Logs.{HoldSoFar, IsHead, records_below}, inner.Logs.{IsFront, LogLaw, row_records}, declared.front.Front.Front}
+use Rattle.lft_log.specs.{Logs.{HoldSoFar, IsHead, records_below}, inner.Logs.{IsFront, LogLaw, row_records}, declared.front.LinesRead.LinesRead}
 use Rattle.lft_log.proofs.{Below.{below_head, lines_joined, no_bytes}, Ends.lines_both, Plain.{no_lines, plain_both}, Behind.{rows_each, zip_cut}}
 
 -- the header came
@@ -21,7 +21,7 @@ header_there program bytes lines head body e f is = record {
 }
 
 -- a front of the rest more
-pub hold_front : (program : Parts) (bytes text behind : List ℕ) (lines : List Line) (rows_before inputs_before : ℕ) (front : Front) → HoldSoFar program bytes lines [] (text ++ behind) → (f : IsFront program text rows_before inputs_before front) → HoldSoFar program bytes (lines ++ f.lines) f.others (drop f.plain text ++ behind)
+pub hold_front : (program : Parts) (bytes text behind : List ℕ) (lines : List Line) (rows_before inputs_before : ℕ) (front : LinesRead) → HoldSoFar program bytes lines [] (text ++ behind) → (f : IsFront program text rows_before inputs_before front) → HoldSoFar program bytes (lines ++ f.lines) f.others (drop f.plain text ++ behind)
 hold_front program bytes text behind lines rows_before inputs_before front h f = record {
   head = h.head;
   body = h.body ++ more;

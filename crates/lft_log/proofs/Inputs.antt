@@ -8,7 +8,7 @@ use Rattle.lft_model.specs.Plans.{PlanParts}
 use Rattle.lft_monitor.specs.Follows.{IsPassed}
 use Rattle.lft_trace.specs.{ExternalTables.IsEntry, inner.LogTables.{EntryFits, InputsFit, inputs_behind}}
 use Rattle.lft_trace.specs.declared.{external_table.Entry.Entry, log_table.{Among.Among, Line.{Line, TheVariants.{Row, Input}}}}
-use Rattle.lft_log.specs.declared.{fault.LogFault.{LogFault, TheVariants.LateInput}, front.Front.Front, telling.Taken.Taken}
+use Rattle.lft_log.specs.declared.{fault.LogFault.{LogFault, TheVariants.LateInput}, front.LinesRead.LinesRead, telling.Taken.Taken}
 use Rattle.lft_log.specs.{Logs.{AreTimely, inputs, rows, tag_of}, Told.{HasTold, IsFaultOf, StandsBehind}}
 use Rattle.lft_log.specs.inner.Told.{IsBeforeLatest, IsInputFault, IsLatest, IsTaken}
 use Rattle.lft_log.proofs.Behind.{inputs_both, length_inputs, rows_both, timely_both}
@@ -216,7 +216,7 @@ module _ (old now : PlanParts) (t : List TheRow) (lines : List Line) (a : Among)
       same_rows = rows_both here.first (Input a.entry ∷ []) ∙ append-nil (rows here.first)
 
   -- it is refused
-  pub input_refused : (before : ℕ) (new : PlanParts) (front : Front) (taken : Taken) (f : LogFault) → new ≡ now → taken.rows ≡ a.rows_before → taken.inputs ≡ place → taken.fault ≡ Some f → ((u : List TheRow) → IsLatest u latest → IsInputFault now (t ++ u) a.entry (before + place + 2) f) → IsTaken old new t before front lines taken
+  pub input_refused : (before : ℕ) (new : PlanParts) (front : LinesRead) (taken : Taken) (f : LogFault) → new ≡ now → taken.rows ≡ a.rows_before → taken.inputs ≡ place → taken.fault ≡ Some f → ((u : List TheRow) → IsLatest u latest → IsInputFault now (t ++ u) a.entry (before + place + 2) f) → IsTaken old new t before front lines taken
   input_refused before new front taken f stays rows_are inputs_are named of = record {
     first = here.first;
     others = here.others;
@@ -239,7 +239,7 @@ only_rows n [] t e = tt
 only_rows n (Row r ∷ lines) t e = only_rows (n + 1) lines (t ++ r ∷ []) e
 only_rows n (Input x ∷ lines) t e = absurd (cc e)
 
-pub all_gone : (old now : PlanParts) (t : List TheRow) (before : ℕ) (lines : List Line) (left : List Among) (place gone : ℕ) (latest : Option Tag) (front : Front) (taken : Taken) → IsGone old now t lines left place gone latest → left ≡ [] → front.rows.items ≡ rows lines → front.inputs.items ≡ inputs_behind 0 lines → taken.rows ≡ length front.rows.items → taken.inputs ≡ length front.inputs.items → taken.fault ≡ front.fault → IsTaken old now t before front lines taken
+pub all_gone : (old now : PlanParts) (t : List TheRow) (before : ℕ) (lines : List Line) (left : List Among) (place gone : ℕ) (latest : Option Tag) (front : LinesRead) (taken : Taken) → IsGone old now t lines left place gone latest → left ≡ [] → front.rows.items ≡ rows lines → front.inputs.items ≡ inputs_behind 0 lines → taken.rows ≡ length front.rows.items → taken.inputs ≡ length front.inputs.items → taken.fault ≡ front.fault → IsTaken old now t before front lines taken
 all_gone old now t before lines left place gone latest front taken is none rows_are inputs_are counted numbered same = record {
   first = lines;
   others = [];

@@ -11,7 +11,7 @@ use Rattle.lft_monitor.specs.{declared.follower.Follower.Follower, inner.Follows
 use Rattle.lft_log.specs.declared.asked.Asked.{Asked}
 use Rattle.lft_log.specs.declared.fault.LogFault.{LogFault}
 use Rattle.lft_log.specs.declared.fault.LogFault.TheVariants.{NoHeader, NoRow, NotPlain, SecondHeader, LongLine, TooManyRows, NoInput, NotPlainInput, LateInput, InputAgain, ManyLater, TooManyInputs, NoMemory}
-use Rattle.lft_log.specs.declared.{front.Front.Front, log.Log.Log, telling.Taken.Taken, told.Told.Told}
+use Rattle.lft_log.specs.declared.{front.LinesRead.LinesRead, log.Log.Log, telling.Taken.Taken, told.Told.Told}
 use Rattle.lft_log.specs.Logs.{BeginsLong, HoldSoFar, IsHead, IsOddLine, inputs, rows}
 use Rattle.lft_log.specs.inner.{Logs.IsFront, Told.{IsAskedOf, IsBegun, IsFaultOfRows, IsLog, IsLogOf, IsSaidOfSome, IsTaken}}
 use Rattle.lft_log.specs.Told.{IsFaultOf, IsOddBehind, IsSaid, IsSoon, KeepTo, StandsBehind}
@@ -31,7 +31,7 @@ body_held base plan until bytes lines body log is below above = go log.is_begun 
         subst (λ (l : List Line). HoldSoFar base.program bytes l [] body) (sym f.1) (header_there base.program bytes lines h.0 body f.0 h.1 h.2)
 
 -- whole lines are read and told
-module _ (base old new : PlanParts) (until : Option Tag) (bytes text : List ℕ) (log : Log) (front : Front) (taken : Taken) (is : IsBegun base old until bytes text log) (given : IsFront old.program text log.rows log.inputs front) (are : (t : List Row) (lines : List Line) → IsFollowerOf old t log.follower → front.rows.items ≡ rows lines → front.inputs.items ≡ inputs_behind 0 lines → IsTaken old new t log.inputs front lines taken) where
+module _ (base old new : PlanParts) (until : Option Tag) (bytes text : List ℕ) (log : Log) (front : LinesRead) (taken : Taken) (is : IsBegun base old until bytes text log) (given : IsFront old.program text log.rows log.inputs front) (are : (t : List Row) (lines : List Line) → IsFollowerOf old t log.follower → front.rows.items ≡ rows lines → front.inputs.items ≡ inputs_behind 0 lines → IsTaken old new t log.inputs front lines taken) where
   abbrev so_far : List Line
   so_far = is.0.lines
 

@@ -6,7 +6,7 @@ use Rattle.lft_trace.specs.{ExternalTables.IsEntry, LogTables.IsLine, declared.{
 use Rattle.lft_model.specs.Plans.{PlanParts}
 use Rattle.lft_log.specs.declared.fault.LogFault.{LogFault}
 use Rattle.lft_log.specs.declared.fault.LogFault.TheVariants.{NoHeader, NoRow, NotPlain, SecondHeader, LongLine, TooManyRows, NoInput, NotPlainInput, LateInput, InputAgain, ManyLater, TooManyInputs, NoMemory}
-use Rattle.lft_log.specs.declared.{front.Front.Front, telling.Taken.Taken}
+use Rattle.lft_log.specs.declared.{front.LinesRead.LinesRead, telling.Taken.Taken}
 use Rattle.lft_log.specs.Logs.{AreTimely, BeginsWithLine, HoldSoFar, IsOddLine, inputs, rows}
 use Rattle.lft_log.specs.inner.{Logs.{IsFaultBehind, IsFront}, Told.{IsFaultOfRows, IsRefused, IsTaken}}
 use Rattle.lft_log.specs.Told.{AreTooMany, HasTold, IsFaultOf, IsOddBehind, StandsBehind, TellsPlan}
@@ -55,7 +55,7 @@ behind_cut program bytes lines (f ∷ cut) others rest left entry more h timely 
     ((f ∷ cut) ++ others, rest, (h, timely), (f, cut ++ others, refl, e.0))
 
 -- the first lines of a front are taken
-module _ (base old new : PlanParts) (bytes text behind : List ℕ) (before : List Line) (rows_before inputs_before : ℕ) (front : Front) (taken : Taken) (held : HoldSoFar base.program bytes before [] (text ++ behind)) (fronts : IsFront base.program text rows_before inputs_before front) (is : IsTaken old new (rows before) inputs_before front fronts.lines taken) where
+module _ (base old new : PlanParts) (bytes text behind : List ℕ) (before : List Line) (rows_before inputs_before : ℕ) (front : LinesRead) (taken : Taken) (held : HoldSoFar base.program bytes before [] (text ++ behind)) (fronts : IsFront base.program text rows_before inputs_before front) (is : IsTaken old new (rows before) inputs_before front fronts.lines taken) where
   abbrev pub grown : List Line
   grown = before ++ is.first
 

@@ -5,7 +5,7 @@ use Rattle.lft_ir.specs.{Parts.Parts, declared.steps.{externals.Event.Event as E
 use Rattle.lft_tag.specs.{declared.{NoMemory.NoMemory as WantOfMemory, Tag.Tag}, Tags.{Before, UpTo, earliest}}
 use Rattle.lft_model.specs.{Plans.PlanParts, Breaches.First}
 use Rattle.lft_rows.specs.Accepted.{IsAccepted}
-use Rattle.lft_monitor.specs.{declared.open.OpenRun.OpenRun, OpenRuns.AreOpenRuns}
+use Rattle.lft_monitor.specs.{declared.open.StillOpen.StillOpen, OpenRuns.AreOpenRuns}
 use Rattle.lft_monitor.specs.Follows.{HasManyAtLast, HasManyLater, IsSureSoFar, IsOddSoFar, IsClean, IsFirstUpToLast, IsJudged, IsPassed, IsQuiet, breach_of}
 use Rattle.lft_trace.specs.{ExternalTables.{IsEntry, event_of, stop_of}, LogTables.IsNoLine}
 use Rattle.lft_trace.specs.declared.{external_table.Entry.{Entry, TheVariants.Happens}, log_table.Line.Line}
@@ -78,11 +78,11 @@ IsEnded base until whole bytes (Soon told) = IsSoon base until bytes told ⊎ La
 IsEnded base until whole bytes (AtEnd ending) = LastCounts bytes × IsFinal base until whole (bytes ++ 10 ∷ []) (AtEnd ending) ⊎ LastIsLeft bytes × IsFinal base until whole bytes (AtEnd ending)
 
 -- the bytes are a log, up to a line without its end, and the runs are those of its rows without an end
-abbrev pub AreOpenIn : PlanParts → List ℕ → List OpenRun → Type 0
+abbrev pub AreOpenIn : PlanParts → List ℕ → List StillOpen → Type 0
 AreOpenIn base bytes runs = (plan : PlanParts) × (t : List Row) × (rest : List ℕ) × TellsPlan base bytes plan t [] rest × HasNoEnd rest × AreOpenRuns 0 t runs
 
 -- the same of bytes behind which no more come, of all that counts
-abbrev pub AreOpenAtEnd : PlanParts → List ℕ → List OpenRun → Type 0
+abbrev pub AreOpenAtEnd : PlanParts → List ℕ → List StillOpen → Type 0
 AreOpenAtEnd base bytes runs = LastCounts bytes × AreOpenIn base (bytes ++ 10 ∷ []) runs ⊎ LastIsLeft bytes × AreOpenIn base bytes runs
 
 -- the bytes are a log of these lines, up to other records and a rest, and no external input among them is late
@@ -90,7 +90,7 @@ abbrev pub HoldInTime : Parts → List ℕ → List Line → List (List (List �
 HoldInTime program bytes lines others rest = HoldSoFar program bytes lines others rest × AreTimely [] lines
 
 -- at the end they are given, or memory was refused; what is told before it says nothing of them
-abbrev pub TellsOpen : PlanParts → List ℕ → Final → Result (Vec OpenRun) WantOfMemory → Type 0
+abbrev pub TellsOpen : PlanParts → List ℕ → Final → Result (Vec StillOpen) WantOfMemory → Type 0
 TellsOpen base bytes (Soon told) runs = Unit {0}
 TellsOpen base bytes (AtEnd ending) runs = IfOk runs (λ v. AreOpenAtEnd base bytes v.items)
 

@@ -19,7 +19,7 @@ const MARK: u8 = 239;
 
 /// The rows and the external inputs of lines, and the fault of the line behind them, if it has one.
 #[derive(Drop)]
-pub(crate) struct Front {
+pub(crate) struct LinesRead {
     pub rows: Vec<Row>,
     pub inputs: Vec<Among>,
     pub fault: Option<LogFault>,
@@ -94,7 +94,7 @@ pub(crate) fn read_front(
     lines: &[u8],
     rows_before: u64,
     inputs_before: u64,
-) -> Result<Front, NoMemory>
+) -> Result<LinesRead, NoMemory>
     requires few { (rows_before ≤ 2 ^ 62) × (inputs_before ≤ 2 ^ 62) }
     requires lines { AreLines lines.now }
     ensures { IfOk result (IsFront program.now lines.now rows_before inputs_before) }
@@ -107,7 +107,7 @@ pub(crate) fn read_front(
     let row = rows_before + read.rows.len() as u64 + 2;
     let input = inputs_before + read.inputs.len() as u64 + 2;
     let fault = fault_behind(read.fault, &lines[plain..lines.len()], row, input);
-    Ok(Front {
+    Ok(LinesRead {
         rows: read.rows,
         inputs: read.inputs,
         fault,

@@ -18,7 +18,7 @@ use crate::telling::tell_all;
 use crate::told::{Ended, Final, Told};
 use lft_ir::steps::Row;
 use lft_model::Plan;
-use lft_monitor::{Closing, Ending, Follower, OpenRun, Progress, Reach};
+use lft_monitor::{Closing, Ending, Follower, Progress, Reach, StillOpen};
 use lft_tag::{MAX_ROWS, NoMemory, Tag};
 use std::alloc::Global;
 
@@ -351,7 +351,7 @@ impl Log {
     }
 
     /// The runs that have no end so far.
-    fn still_open(&self, alloc: Global, plan: &Plan) -> Result<Vec<OpenRun>, NoMemory>
+    fn still_open(&self, alloc: Global, plan: &Plan) -> Result<Vec<StillOpen>, NoMemory>
         requires begun { self.now.is_begun ≡ true }
         requires stands { (base : PlanParts) × (until : Option TheTag) × (bytes : List ℕ) × IsLog base plan.now until bytes self.now }
         ensures { (base : PlanParts) (until : Option TheTag) (bytes : List ℕ) → IsLog base plan.now until bytes self.now → IfOk result (λ runs. AreOpenIn base bytes runs.items) }

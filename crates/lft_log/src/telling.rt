@@ -10,7 +10,7 @@ ghost use Rattle.lft_trace.specs.inner.LogTables.{EntryFits, InputsFit, inputs_b
 ghost use Rattle.lft_log.specs.{Logs.{rows, tag_of}, Told.HasTold, inner.Told.{IsBeforeLatest, IsInputFault, IsLatest, IsTaken}};
 
 use crate::fault::LogFault;
-use crate::front::Front;
+use crate::front::LinesRead;
 use lft_ir::steps::{Event, Row, row_at};
 use lft_model::Plan;
 use lft_monitor::{Follower, Receipt};
@@ -176,7 +176,7 @@ pub(crate) struct Taken {
 pub(crate) fn tell_all(
     follower: &mut Follower,
     plan: &mut Plan,
-    front: &Front,
+    front: &LinesRead,
     before: u64,
 ) -> Taken
     requires few { before ≤ 2 ^ 62 }

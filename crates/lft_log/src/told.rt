@@ -3,14 +3,14 @@
 ghost use Rattle.std.specs.Prelude.{◌≡◌};
 ghost use Rattle.lft_log.specs.declared.told.Final.TheVariants.{Soon};
 
-use lft_monitor::{Ending, Found, OpenRun, Reach};
+use lft_monitor::{BrokenRule, Ending, Reach, StillOpen};
 use lft_tag::NoMemory;
 use std::alloc::Global;
 
 /// What is told before the end of a table. Nothing is judged behind it.
 #[derive(Clone, Copy, PartialEq, Eq, Debug, Drop)]
 pub enum Told {
-    Broken(Found),
+    Broken(BrokenRule),
     /// The rows that are judged break no rule. Of the next ones, up to the line, too much is to be kept or
     /// looked at, or memory is refused.
     Odd(Reach, u64),
@@ -30,7 +30,7 @@ pub enum Final {
 pub struct Ended {
     pub told: Final,
     /// They count only at the end. What is told before it says nothing of them.
-    pub still_open: Result<Vec<OpenRun>, NoMemory>,
+    pub still_open: Result<Vec<StillOpen>, NoMemory>,
 }
 
 impl Ended {

@@ -4,10 +4,10 @@ use Rattle.std.proofs.lemmas.List.{append-nil, map-append}
 use Rattle.lft_tree.specs.{Identifiers.IsName, Tree.{TriggerTree, OnRef, AssignmentTree, MemberTree, ReactionMember}, View.{member_view, member_views}}
 use Rattle.lft_tree.specs.declared.tree.Member.{Member as Core}
 use Rattle.lft_whole.specs.declared.tree.{Member.Member, Reaction.Reaction}
-use Rattle.lft_elaborate.specs.Channels.Lowered.{own}
-use Rattle.lft_lower.specs.{Meanings.{Meanings.{Here, named_in}, Places.{Several, count_of}}, inner.Lowered.Adds}
-use Rattle.lft_lower.specs.Lowered.{AreGiven, AreInstances, AreTriggers, IsAsleep, IsLowered, IsReaction, added, all_triggers, asleep, instances, known, no_instances, reaction_tree, reactor_at, runs, sleeps, some_instances}
-use Rattle.lft_classes.specs.Shapes.{thing_named}
+use Rattle.lft_elaborate.specs.inner.Channels.Lowered.{own}
+use Rattle.lft_lower.specs.inner.Meanings.{Meanings.{Here, named_in}, Places.{Several, count_of}}
+use Rattle.lft_lower.specs.inner.Lowered.{Adds, AreGiven, AreInstances, AreTriggers, IsAsleep, IsLowered, IsReaction, added, all_triggers, asleep, instances, known, no_instances, reaction_tree, reactor_at, runs, sleeps, some_instances}
+use Rattle.lft_classes.specs.inner.Shapes.{thing_named}
 
 -- none
 pub adds_none : (old : List Core) (Are : List MemberTree → Type 0) → Are [] → Adds old old Are

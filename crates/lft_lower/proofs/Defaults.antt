@@ -3,7 +3,7 @@ use Rattle.std.proofs.Common.{◌≡◌, ℕ, ◌+◌, ◌<◌, ◌≤◌, inl, 
 use Rattle.std.specs.Prelude.{IfSome}
 use Rattle.std.proofs.{Math.Nat.eq-or-lt_of_le, lemmas.Option.slice_get_within}
 use Rattle.lft_classes.specs.declared.shapes.{InheritedParameter.InheritedParameter, Shape.Shape}
-use Rattle.lft_lower.specs.Reactors.{HasDefault, IsDefault}
+use Rattle.lft_lower.specs.inner.Reactors.{HasDefault, IsDefault}
 
 -- the first of them have defaults
 abbrev pub HaveDefaults : Bool → Shape → ℕ → Type 0

@@ -2,10 +2,10 @@
 use Rattle.std.proofs.Common.{◌≡◌, ℕ, zero, suc, ◌+◌, ◌%◌, ◌<◌, ◌≤◌, inl, inr, min, Bool, true, false, List, [], ◌∷◌, ◌++◌, Option, Some, map, take, length, refl, sym, subst, ◌∙◌, ap, arith, append_assoc}
 use Rattle.std.specs.Prelude.{slice_get}
 use Rattle.std.proofs.{Math.Nat.{eq-or-lt_of_le, mod-eq_of_lt}, lemmas.List.{length_push, length-take, map-append, take_all}}
-use Rattle.lft_lower.{specs.Lowered.{AreConnected, AreEach, each_pair, whole}, proofs.MeaningsLemmas.Growing.either}
+use Rattle.lft_lower.{specs.inner.Lowered.{AreConnected, AreEach, each_pair, whole}, proofs.MeaningsLemmas.Growing.either}
 use Rattle.lft_lists.proofs.Places.{get_last, get_push}
 use Rattle.lft_tree.specs.Tree.{TimeTree, RefTree, ConnectionTree, ConnectionMember, MemberTree}
-use Rattle.lft_elaborate.specs.Channels.{Channels.{joined, source}, Lowered.{AreJoined, single}}
+use Rattle.lft_elaborate.specs.inner.Channels.{Channels.{joined, source}, Lowered.{AreJoined, single}}
 
 -- this connection joins the place of this number on the right
 abbrev pub Joins : List RefTree → List RefTree → Bool → Option TimeTree → List ConnectionTree → ℕ → Type 0

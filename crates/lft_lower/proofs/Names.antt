@@ -8,9 +8,9 @@ use Rattle.lft_tree.proofs.Names.{IsName-identifier}
 use Rattle.lft_whole.specs.declared.tree.{Member.Member, Reaction.Reaction}
 use Rattle.lft_classes.specs.declared.shapes.Inherited.{Inherited}
 use Rattle.lft_elaborate.{specs.{declared.settings.Settings.Settings, Channels.Channels.below}, proofs.Spelling.IsName-spelled}
-use Rattle.lft_lower.specs.Meanings.{Meanings.{Here, named_in}, Places.{count_of, name_at, names_of}}
-use Rattle.lft_lower.specs.Lowered.{AreConnected, AreInstances, AreLowered, AreTriggers, IsAsleep, IsLowered, IsReaction, added, each_pair, instances, known, more_members, no_instances, no_members, ports, runs, sleeps, some_instances, whole}
-use Rattle.lft_lower.specs.Reactors.{AreReactors, more_reactors, no_reactors}
+use Rattle.lft_lower.specs.inner.Meanings.{Meanings.{Here, named_in}, Places.{count_of, name_at, names_of}}
+use Rattle.lft_lower.specs.inner.Lowered.{AreConnected, AreInstances, AreLowered, AreTriggers, IsAsleep, IsLowered, IsReaction, added, each_pair, instances, known, more_members, no_instances, no_members, ports, runs, sleeps, some_instances, whole}
+use Rattle.lft_lower.specs.inner.Reactors.{AreReactors, more_reactors, no_reactors}
 use Rattle.lft_whole.specs.declared.tree.Member.TheVariants as member
 
 -- of each kind of thing that the member declares the name is one

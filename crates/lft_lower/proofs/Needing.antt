@@ -2,19 +2,19 @@
 use Rattle.std.proofs.Common.{◌≡◌, ◌≢◌, inl, inr, ℕ, zero, suc, ◌+◌, ◌<◌, ◌≤◌, ◌&&◌, Bool, true, false, cond, leb, List, [], ◌∷◌, Option, Some, None, length, slice_get, refl, subst, sym, ap, ◌∙◌, arith}
 use Rattle.std.specs.Prelude.{count_by, if◌then◌else◌, option_map, unwrap_or}
 use Rattle.std.{specs.List.range_with_len, proofs.lemmas.{Bool.Decides.{eqb_tells, leb_tells}, List.Sums.sum_by-cons, Option.slice_get_within}}
-use Rattle.lft_classes.specs.declared.shapes.{Child.Child, Given.Given, InheritedParameter.InheritedParameter, Shape.Shape}
-use Rattle.lft_elaborate.specs.Values.{given_to}
-use Rattle.lft_lower.specs.{Needed.{GivesNeeded, GivesOnce, is_bare, is_needed, is_timed}, inner.Needed.{needed_given, needed_in}}
+use Rattle.lft_classes.specs.declared.shapes.{Child.Child, GivenValue.GivenValue, InheritedParameter.InheritedParameter, Shape.Shape}
+use Rattle.lft_elaborate.specs.inner.Values.{given_to}
+use Rattle.lft_lower.specs.inner.Needed.{GivesNeeded, GivesOnce, is_bare, is_needed, is_timed, needed_given, needed_in}
 
 -- one, if it is so
 abbrev tick : Bool → ℕ
 tick b = cond b 1 0
 
 -- so many values are given to such parameters, from this number on
-abbrev from_on : (ℕ → Bool) → ℕ → List Given → ℕ
+abbrev from_on : (ℕ → Bool) → ℕ → List GivenValue → ℕ
 from_on f s gs = count_by (λ g. f g.parameter && leb s g.parameter) gs
 
-counted : (f : ℕ → Bool) (s : ℕ) (g : Given) (gs : List Given) → from_on f s (g ∷ gs) ≡ tick (f g.parameter && leb s g.parameter) + from_on f s gs
+counted : (f : ℕ → Bool) (s : ℕ) (g : GivenValue) (gs : List GivenValue) → from_on f s (g ∷ gs) ≡ tick (f g.parameter && leb s g.parameter) + from_on f s gs
 counted f s g gs = sum_by-cons (λ g. tick (f g.parameter && leb s g.parameter)) g gs
 
 later : (b : Bool) (s p : ℕ) → tick (b && leb (s + 1) p) ≤ tick (b && leb s p)
@@ -34,7 +34,7 @@ from_first true p = elim (leb_tells 0 p) [
   | inr unmet ↦ absurd (omega (arith, unmet.1))
 ]
 
-all_from : (f : ℕ → Bool) (gs : List Given) → from_on f 0 gs ≡ count_by (λ g. f g.parameter) gs
+all_from : (f : ℕ → Bool) (gs : List GivenValue) → from_on f 0 gs ≡ count_by (λ g. f g.parameter) gs
 all_from f [] = refl
 all_from f (g ∷ gs) = counted f 0 g gs ∙ ap (λ n. n + from_on f 0 gs) (from_first (f g.parameter) g.parameter) ∙ ap (λ n. tick (f g.parameter) + n) (all_from f gs) ∙ sym (sum_by-cons (λ g. tick (f g.parameter)) g gs)
 
@@ -50,7 +50,7 @@ elsewhere true s p apart = elim (leb_tells s p) [
   | inr unmet ↦ let a : tick (leb s p) ≡ 0 = ap tick unmet.0 in omega (arith, a)
 ]
 
-none_here : (f : ℕ → Bool) (s : ℕ) (gs : List Given) → given_to gs s ≡ None → from_on f s gs ≤ from_on f (s + 1) gs
+none_here : (f : ℕ → Bool) (s : ℕ) (gs : List GivenValue) → given_to gs s ≡ None → from_on f s gs ≤ from_on f (s + 1) gs
 none_here f s [] none = omega arith
 none_here f s (g ∷ gs) none = elim (eqb_tells g.parameter s) [
   | inl same ↦ let e : Some g.value.now.value ≡ None = sym (ap (λ b. if b then Some g.value.now.value else given_to gs s) same.0) ∙ none in absurd (cc)
@@ -64,7 +64,7 @@ no_more false c = omega arith
 no_more true false = omega arith
 no_more true true = omega arith
 
-at_most_one : (f : ℕ → Bool) (s : ℕ) (gs : List Given) → GivesOnce gs → from_on f s gs ≤ tick (f s) + from_on f (s + 1) gs
+at_most_one : (f : ℕ → Bool) (s : ℕ) (gs : List GivenValue) → GivesOnce gs → from_on f s gs ≤ tick (f s) + from_on f (s + 1) gs
 at_most_one f s [] once = omega arith
 at_most_one f s (g ∷ gs) (first, once) = elim (eqb_tells g.parameter s) [
   | inl same ↦
@@ -81,17 +81,17 @@ before true s p low = elim (leb_tells s p) [
   | inr unmet ↦ let a : tick (leb s p) ≡ 0 = ap tick unmet.0 in omega (arith, a)
 ]
 
-all_before : (f : ℕ → Bool) (s : ℕ) (gs : List Given) → ((p : ℕ) → f p ≡ true → p < s) → from_on f s gs ≤ 0
+all_before : (f : ℕ → Bool) (s : ℕ) (gs : List GivenValue) → ((p : ℕ) → f p ≡ true → p < s) → from_on f s gs ≤ 0
 all_before f s [] low = omega arith
 all_before f s (g ∷ gs) low = omega (arith, counted f s g gs, before (f g.parameter) s g.parameter (low g.parameter), all_before f s gs low)
 
-not_more : (f : ℕ → Bool) (gs : List Given) → GivesOnce gs → (n s : ℕ) → ((p : ℕ) → f p ≡ true → p < s + n) → from_on f s gs ≤ count_by f (range_with_len s n)
+not_more : (f : ℕ → Bool) (gs : List GivenValue) → GivesOnce gs → (n s : ℕ) → ((p : ℕ) → f p ≡ true → p < s + n) → from_on f s gs ≤ count_by f (range_with_len s n)
 not_more f gs once zero s low = omega (arith, all_before f s gs (λ p is. let l = low p is in omega (arith, l)))
 not_more f gs once (suc n) s low =
     let rest = not_more f gs once n (s + 1) (λ p is. let l = low p is in omega (arith, l)) in
     omega (arith, sum_by-cons (λ p. tick (f p)) s (range_with_len (s + 1) n), at_most_one f s gs once, rest)
 
-one_fewer : (f : ℕ → Bool) (gs : List Given) → GivesOnce gs → (p : ℕ) → f p ≡ true → given_to gs p ≡ None → (n s : ℕ) → ((q : ℕ) → f q ≡ true → q < s + n) → s ≤ p → from_on f s gs < count_by f (range_with_len s n)
+one_fewer : (f : ℕ → Bool) (gs : List GivenValue) → GivesOnce gs → (p : ℕ) → f p ≡ true → given_to gs p ≡ None → (n s : ℕ) → ((q : ℕ) → f q ≡ true → q < s + n) → s ≤ p → from_on f s gs < count_by f (range_with_len s n)
 one_fewer f gs once p need none zero s low from = let l = low p need in absurd (omega (arith, l, from))
 one_fewer f gs once p need none (suc n) s low from =
     let low_on : (q : ℕ) → f q ≡ true → q < s + 1 + n = λ q is. let l = low q is in omega (arith, l) in

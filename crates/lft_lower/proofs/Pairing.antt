@@ -3,8 +3,8 @@ use Rattle.std.proofs.Common.{◌≡◌, ℕ, zero, suc, ◌+◌, ◌%◌, ◌<�
 use Rattle.std.specs.Prelude.{slice_get, slice_index}
 use Rattle.std.specs.List.{range_with_len}
 use Rattle.std.proofs.lemmas.{List.{get_or-take, length-take, take_all, FromFn.map-range_with_len_more}, Nat.mod_below, Option.get_or_from_slice_get}
-use Rattle.lft_elaborate.specs.Channels.Channels.{below, joined, source}
-use Rattle.lft_lower.{specs.Standing.{AreSidesAt, pair_tokens, pairs_tokens}, proofs.Joining.{same_joined, same_source}}
+use Rattle.lft_elaborate.specs.{Channels.Channels.below, inner.Channels.Channels.{joined, source}}
+use Rattle.lft_lower.{specs.inner.Standing.{AreSidesAt, pair_tokens, pairs_tokens}, proofs.Joining.{same_joined, same_source}}
 
 -- one more pair
 pub tokens_next : (left right delay : List ℕ) (parts : List (List ℕ)) (one : List ℕ) (pair place from to : ℕ) → slice_get left place ≡ Some from → place ≡ source (length left) true pair → slice_get right pair ≡ Some to → one ≡ from ∷ to ∷ delay → parts ≡ map (pair_tokens left right true delay) (below pair) → parts ++ one ∷ [] ≡ map (pair_tokens left right true delay) (below (pair + 1))

@@ -6,9 +6,9 @@ use Rattle.std.proofs.lemmas.Option.{slice_get_within}
 use Rattle.lft_tree.specs.declared.tree.{Item.Item, Member.Member as Core, Reactor.Reactor}
 use Rattle.lft_whole.specs.declared.sources.source.SourceFile.{SourceFile}
 use Rattle.lft_classes.specs.declared.shapes.{Inherited.Inherited, Shape.Shape}
-use Rattle.lft_elaborate.specs.{Settings.shape_at, declared.settings.Settings.Settings}
-use Rattle.lft_lower.specs.Meanings.Meanings.{Here}
-use Rattle.lft_lower.specs.Standing.{AddsAt, AreAt, ArePartsAt, ArePlaced, IsPlaced, declared_at, more_at, more_placed, number_in, parts_at, stands_at}
+use Rattle.lft_elaborate.specs.{inner.Settings.shape_at, declared.settings.Settings.Settings}
+use Rattle.lft_lower.specs.inner.Meanings.Meanings.{Here}
+use Rattle.lft_lower.specs.inner.Standing.{AddsAt, AreAt, ArePartsAt, ArePlaced, IsPlaced, declared_at, more_at, more_placed, number_in, parts_at, stands_at}
 use Rattle.lft_lower.proofs.MeaningsLemmas.Growing.{one_more}
 use Rattle.lft_tree.specs.declared.tree.Item.TheVariants as items
 

@@ -4,9 +4,9 @@ use Rattle.std.specs.Prelude.{slice_get}
 use Rattle.std.proofs.lemmas.{List.{length-take-le, take_all}, Option.slice_get_within}
 use Rattle.lft_tree.specs.Tree.{ItemTree, MemberTree, ReactorTree, ReactorItem}
 use Rattle.lft_classes.specs.declared.shapes.{Inherited.Inherited, Shape.Shape}
-use Rattle.lft_elaborate.specs.{declared.settings.Settings.Settings, Settings.shape_at}
-use Rattle.lft_lower.specs.{Meanings.Meanings.Here, Lowered.{AreLowered, IsLowered, IsMeasured, more_members}}
-use Rattle.lft_lower.specs.Reactors.{AreMembers, AreReactors, IsReactor, more_reactors}
+use Rattle.lft_elaborate.specs.{declared.settings.Settings.Settings, inner.Settings.shape_at}
+use Rattle.lft_lower.specs.inner.{Meanings.Meanings.Here, Lowered.{AreLowered, IsLowered, IsMeasured, more_members}}
+use Rattle.lft_lower.specs.inner.Reactors.{AreMembers, AreReactors, IsReactor, more_reactors}
 use Rattle.lft_lower.proofs.MeaningsLemmas.Growing.{one_more}
 
 -- one more member

@@ -2,13 +2,11 @@
 
 ghost use Rattle.std.specs.Prelude.{◌≡◌, ◌⊎◌, ◌∷◌, IfErr, IfOk, IsTrue, OnOk, false, option_map, true};
 ghost use Rattle.lft_tree.specs.ItemView.{connection_view, ref_view, ref_views, time_view};
-ghost use Rattle.lft_elaborate.specs.{Channels.Lowered.single, inner.Refused.IfRefused};
-ghost use Rattle.lft_lower.specs.Meanings.{Meanings.all_places, Standing.{all_tokens, ref_tokens}};
-ghost use Rattle.lft_lower.specs.inner.{Meanings.{Meanings.{here, token_in}, Refused.{IsOfOne, IsPassed}}, Lowered.{Adds, AreSides}};
-ghost use Rattle.lft_lower.specs.inner.Refused.{IsOfConnection, IsOfSides};
-ghost use Rattle.lft_lower.specs.Lowered.{AreConnected, AreEach, IsRead, MeanSides, time_at};
-ghost use Rattle.lft_lower.specs.Standing.{AddsAt, AreSidesAt, pairs_tokens, parts_at, time_tokens, written_tokens};
-ghost use Rattle.lft_whole.specs.declared.sources.stop.Stop.TheVariants.{NoMemory};
+ghost use Rattle.lft_elaborate.specs.inner.{Channels.Lowered.single, Refused.IfRefused};
+ghost use Rattle.lft_lower.specs.inner.Meanings.{Meanings.{all_places, here, token_in}, Standing.{all_tokens, ref_tokens}, Refused.{IsOfOne, IsPassed}};
+ghost use Rattle.lft_lower.specs.inner.{Lowered.{Adds, AreSides, AreConnected, AreEach, IsRead, MeanSides, time_at}, Refused.{IsOfConnection, IsOfSides}};
+ghost use Rattle.lft_lower.specs.inner.Standing.{AddsAt, AreSidesAt, pairs_tokens, parts_at, time_tokens, written_tokens};
+ghost use Rattle.lft_whole.specs.declared.sources.stop.NoProgram.TheVariants.{NoMemory};
 ghost use Rattle.lft_tree.specs.declared.tree.Member.TheVariants as kinds;
 
 use crate::copies::{copied_reference, copied_time};
@@ -20,7 +18,7 @@ use lft_classes::Work;
 use lft_elaborate::channels::{joined, source};
 use lft_tree::{Connection, Member, Reference, TimeExpression};
 use lft_whole::Connection as Written;
-use lft_whole::sources::{Stop, Why};
+use lft_whole::sources::{NoProgram, Why};
 use std::alloc::Global;
 
 /// How many places a connection has on each side.
@@ -31,7 +29,7 @@ struct Sides {
 }
 
 impl Sides {
-    fn of(within: Within, connection: &Written) -> Result<Sides, Stop>
+    fn of(within: Within, connection: &Written) -> Result<Sides, NoProgram>
         ensures sides { IfOk result (AreSides (here within.entry) connection.now) }
         ensures mean { OnOk result (MeanSides (here within.entry) connection.now) }
         ensures cause { IfErr result (IfRefused (λ r. IsPassed within.entry.settings.now.work.main r ⊎ IsOfSides (here within.entry) within.entry.file connection.now r)) }
@@ -42,7 +40,7 @@ impl Sides {
     }
 
     /// What is said of sides that differ.
-    fn note(self, notes: &mut Notes, within: Within, connection: &Written) -> Result<(), Stop>
+    fn note(self, notes: &mut Notes, within: Within, connection: &Written) -> Result<(), NoProgram>
         ensures { IfErr result (λ stop. stop ≡ NoMemory) }
     {
         let (left, right) = (self.left as u64, self.right as u64);
@@ -58,7 +56,7 @@ impl Sides {
 }
 
 /// Whether none of the references has a width in it.
-fn are_plain(within: Within, references: &[lft_whole::Reference]) -> Result<bool, Stop>
+fn are_plain(within: Within, references: &[lft_whole::Reference]) -> Result<bool, NoProgram>
     ensures { IfErr result (IfRefused (IsOfOne (here within.entry) within.entry.file references.now)) }
 {
     for reference in references {
@@ -70,7 +68,7 @@ fn are_plain(within: Within, references: &[lft_whole::Reference]) -> Result<bool
 }
 
 /// Whether a connection stays as it is: no part of it has a width, and of its places none is left over.
-fn stays(within: Within, connection: &Written, sides: Sides) -> Result<bool, Stop>
+fn stays(within: Within, connection: &Written, sides: Sides) -> Result<bool, NoProgram>
     ensures plain { IfOk result (λ yes. IsTrue yes → (connection.now.is_broadcast ≡ false) × (sides.left ≡ sides.right)) }
     ensures cause { IfErr result (IfRefused (IsOfSides (here within.entry) within.entry.file connection.now)) }
 {
@@ -108,7 +106,7 @@ fn connected(
     to: &Reference,
     delay: &Option<TimeExpression>,
     arrow: usize,
-) -> Result<Connection, Stop>
+) -> Result<Connection, NoProgram>
     ensures made { IfOk result (λ made. connection_view made ≡ single (option_map time_view delay.now) (ref_view from.now) (ref_view to.now)) }
     ensures arrow { IfOk result (λ made. made.arrow ≡ arrow) }
     ensures parts { IfOk result (λ made. parts_at (kinds.Connection made) ≡ from.now.at ∷ to.now.at ∷ time_tokens delay.now) }
@@ -137,7 +135,7 @@ fn push_pairs(
     delay: &Option<TimeExpression>,
     arrow: usize,
     list: &mut Vec<Member>,
-) -> Result<(), Stop>
+) -> Result<(), NoProgram>
     ensures made { OnOk result (Adds list.old.items list.new.items (AreEach (ref_views sources.now) (ref_views destinations.now) true (option_map time_view delay.now))) }
     ensures at { OnOk result (AddsAt list.old.items list.new.items arrow (λ parts. parts ≡ pairs_tokens (ref_tokens sources.now) (ref_tokens destinations.now) true (time_tokens delay.now))) }
     ensures cause { IfErr result (IfRefused (IsPassed work.now.main)) }
@@ -169,7 +167,7 @@ fn push_sides(
     sides: Sides,
     delay: Option<TimeExpression>,
     list: &mut Vec<Member>,
-) -> Result<(), Stop>
+) -> Result<(), NoProgram>
     requires { AreSides (here within) connection.now sides }
     ensures made { OnOk result (Adds list.old.items list.new.items (AreConnected (all_places (here within.entry) connection.now.sources.items) (all_places (here within.entry) connection.now.destinations.items) connection.now.is_broadcast (option_map time_view delay))) }
     ensures at { OnOk result (AddsAt list.old.items list.new.items (token_in within.entry connection.now.arrow) (AreSidesAt (all_tokens (token_in within.entry) (here within.entry) connection.now.sources.items) (all_tokens (token_in within.entry) (here within.entry) connection.now.destinations.items) connection.now.is_broadcast (time_tokens delay))) }
@@ -212,7 +210,7 @@ pub(crate) fn push_connection(
     within: Within,
     connection: &Written,
     list: &mut Vec<Member>,
-) -> Result<(), Stop>
+) -> Result<(), NoProgram>
     ensures logical { OnOk result (connection.now.is_physical ≡ false) }
     ensures mean { OnOk result (MeanSides (here within.entry) connection.now) }
     ensures read { OnOk result (IsRead within.entry.shape.now connection.now.delay) }
@@ -221,7 +219,7 @@ pub(crate) fn push_connection(
     ensures cause { IfErr result (IfRefused (λ r. IsPassed within.entry.settings.now.work.main r ⊎ IsOfConnection (here within.entry) within.entry.file connection.now r)) }
 {
     if connection.is_physical {
-        return Err(Stop::at(Why::PhysicalConnection, within.file, connection.arrow));
+        return Err(NoProgram::at(Why::PhysicalConnection, within.file, connection.arrow));
     }
     let delay = maybe_time(alloc, within, &connection.delay)?;
     let sides = Sides::of(within, connection)?;

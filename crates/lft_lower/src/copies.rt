@@ -2,7 +2,7 @@
 
 ghost use Rattle.std.specs.Prelude.{◌≡◌, IfOk, flat_map, map, option_map};
 ghost use Rattle.lft_tree.specs.ItemView.{assignment_view, ref_view, time_view};
-ghost use Rattle.lft_lower.specs.Standing.{given_tokens, time_token, time_tokens};
+ghost use Rattle.lft_lower.specs.inner.Standing.{given_tokens, time_token, time_tokens};
 
 use lft_tree::{Assignment, Reference, TimeExpression};
 use std::alloc::{AllocError, Global};

@@ -4,20 +4,20 @@ ghost use Rattle.std.specs.Prelude.{◌≡◌, ◌<◌, ◌≤◌, ◌++◌, [],
 ghost use Rattle.std.specs.List.{All, cons_option};
 ghost use Rattle.lft_tree.specs.ItemView.{assignment_view, member_views};
 ghost use Rattle.lft_elaborate.specs.inner.Refused.{IfRefused};
-ghost use Rattle.lft_lower.specs.inner.{Meanings.{Meanings.{here, token_in}, Names.texts, Places.several, Refused.IsPassed}, Lowered.Adds};
-ghost use Rattle.lft_lower.specs.inner.{Needed.{needed_given, needed_in}, Refused.IsOfGiven};
-ghost use Rattle.lft_lower.specs.{Lowered.{AreGiven, AreInstances, IsGiven, given_times, instances, reactor_at, time_given}, Needed.is_needed};
-ghost use Rattle.lft_lower.specs.Standing.{AddsAt, given_token, given_tokens, instance_tokens, tokens_of_given};
+ghost use Rattle.lft_lower.specs.inner.Meanings.{Meanings.{here, token_in}, Names.texts, Places.several, Refused.IsPassed};
+ghost use Rattle.lft_lower.specs.inner.Lowered.{Adds, AreGiven, AreInstances, IsGiven, given_times, instances, reactor_at, time_given};
+ghost use Rattle.lft_lower.specs.inner.{Needed.{needed_given, needed_in, is_needed}, Refused.IsOfGiven};
+ghost use Rattle.lft_lower.specs.inner.Standing.{AddsAt, given_token, given_tokens, instance_tokens, tokens_of_given};
 
 use crate::copies::copied_given;
 use crate::maker::Maker;
 use crate::meanings::places::{Wide, Within, counted};
 use crate::meanings::room::Room;
 use crate::times::{bytes_of, read_time};
-use lft_classes::{Child, Given, Shape, Work};
+use lft_classes::{Child, GivenValue, Shape, Work};
 use lft_tree::{Assignment, Instance, Member};
 use lft_whole::Instance as Written;
-use lft_whole::sources::{Stop, Why};
+use lft_whole::sources::{NoProgram, Why};
 use std::alloc::{AllocError, Global};
 
 /// Whether each instance of a shape has to give the parameter of this number: it is a time without a default.
@@ -77,8 +77,8 @@ fn assigned(
     alloc: Global,
     within: Within,
     inner: &Shape,
-    given: Given,
-) -> Result<Option<Assignment>, Stop>
+    given: GivenValue,
+) -> Result<Option<Assignment>, NoProgram>
     ensures made { IfOk result (λ made. option_map assignment_view made ≡ time_given inner.now given.entry) }
     ensures at { IfOk result (λ made. unwrap_or (option_map given_tokens made) [] ≡ given_token (token_in within.entry) inner.now given.entry) }
     ensures read { OnOk result (IsGiven within.entry.shape.now inner.now given.entry) }
@@ -89,7 +89,7 @@ fn assigned(
         return Ok(None);
     }
     let Some(found) = inner.parameters.get(given.parameter) else {
-        return Err(Stop::at(Why::MissingTime, within.file, given.value.at));
+        return Err(NoProgram::at(Why::MissingTime, within.file, given.value.at));
     };
     let value = read_time(alloc, within, given.value)?;
     Ok(Some(Assignment {
@@ -116,7 +116,7 @@ fn given_times(
     within: Within,
     inner: &Shape,
     child: &Child,
-) -> Result<Vec<Assignment>, Stop>
+) -> Result<Vec<Assignment>, NoProgram>
     ensures given { IfOk result (λ list. map assignment_view list.items ≡ given_times inner.now child.now) }
     ensures at { IfOk result (λ list. flat_map given_tokens list.items ≡ flat_map (given_token (token_in within.entry) inner.now) child.now.given.items) }
     ensures read { OnOk result (All (IsGiven within.entry.shape.now inner.now) child.now.given.items) }
@@ -131,7 +131,12 @@ fn given_times(
 }
 
 /// What an instance gives, where it gives all that it has to.
-fn checked(maker: Maker, within: Within, member: usize, at: usize) -> Result<Vec<Assignment>, Stop>
+fn checked(
+    maker: Maker,
+    within: Within,
+    member: usize,
+    at: usize,
+) -> Result<Vec<Assignment>, NoProgram>
     ensures given { maker.entry.settings.now ≡ within.entry.settings.now → IfOk result (λ given. AreGiven (here within.entry) member (map assignment_view given.items)) }
     ensures at { IfOk result (λ given. flat_map given_tokens given.items ≡ tokens_of_given (token_in within.entry) (here within.entry) member) }
 {
@@ -143,14 +148,14 @@ fn checked(maker: Maker, within: Within, member: usize, at: usize) -> Result<Vec
     };
     let needed = maker.needed_of(child.shape);
     if !gives_needed(inner, child, needed) {
-        return Err(Stop::at(Why::MissingTime, within.file, at));
+        return Err(NoProgram::at(Why::MissingTime, within.file, at));
     }
     let given = given_times(maker.alloc, within, inner, child)?;
     Ok(given)
 }
 
 /// The name of the core reactor of the instance of this number.
-fn reactor_of<'n>(maker: Maker<'n, '_>, within: Within, member: usize) -> Result<&'n str, Stop>
+fn reactor_of<'n>(maker: Maker<'n, '_>, within: Within, member: usize) -> Result<&'n str, NoProgram>
     ensures name { IfOk result (λ name. reactor_at (texts maker.entry.names.now) (here within.entry) member ≡ Some name.now) }
     ensures cause { IfErr result (IfRefused (IsPassed within.entry.settings.now.work.main)) }
 {
@@ -187,7 +192,7 @@ fn push_each(
     at: usize,
     reactor_at: usize,
     list: &mut Vec<Member>,
-) -> Result<(), Stop>
+) -> Result<(), NoProgram>
     ensures cause { IfErr result (IfRefused (IsPassed work.now.main)) }
     ensures made { OnOk result (member_views list.new.items ≡ member_views list.old.items ++ instances (several members.entry) reactor.now (map assignment_view given.now)) }
     ensures at { OnOk result (AddsAt list.old.items list.new.items at (All (λ tokens. tokens ≡ reactor_at ∷ flat_map given_tokens given.now))) }
@@ -215,7 +220,7 @@ pub(crate) fn push_instances(
     member: usize,
     instance: &Written,
     list: &mut Vec<Member>,
-) -> Result<(), Stop>
+) -> Result<(), NoProgram>
     ensures made { maker.entry.settings.now ≡ within.entry.settings.now → OnOk result (Adds list.old.items list.new.items (AreInstances (texts maker.entry.names.now) (here within.entry) member (string_bytes instance.now.name.text))) }
     ensures at { OnOk result (AddsAt list.old.items list.new.items (token_in within.entry instance.now.name.at) (All (λ tokens. tokens ≡ instance_tokens (token_in within.entry) (here within.entry) member instance.now))) }
 {

@@ -2,7 +2,7 @@
 
 ghost use Rattle.std.specs.Prelude.{◌≡◌, None, map, option_map, slice_get, slice_index_or, unwrap_or};
 ghost use Rattle.lft_lower.specs.inner.{Meanings.Names.texts, Needed.needed_in};
-ghost use Rattle.lft_whole.specs.Sources.Tokens.{number_at};
+ghost use Rattle.lft_whole.specs.inner.Sources.Tokens.{number_at};
 
 use lft_elaborate::Settings;
 use lft_whole::sources::{Place, SourceFile, number_of};

@@ -1,10 +1,10 @@
 //! The core tree of a whole program.
 
 ghost use Rattle.std.specs.Prelude.{◌≡◌, IfErr, IfOk, None, OnOk, true};
-ghost use Rattle.lft_whole.specs.declared.sources.stop.Stop.TheVariants.{NoMemory};
+ghost use Rattle.lft_whole.specs.declared.sources.stop.NoProgram.TheVariants.{NoMemory};
 ghost use Rattle.lft_elaborate.specs.inner.Refused.{IfRefused};
-ghost use Rattle.lft_lower.specs.{inner.Refused.{IsDecentralized, IsOfFederation}, Programs.{IsCentralized, decentralized_in}};
-ghost use Rattle.lft_lower.specs.Reactors.{IsLowering, IsProgram};
+ghost use Rattle.lft_lower.specs.inner.{Refused.{IsDecentralized, IsOfFederation}, Programs.{IsCentralized, decentralized_in}};
+ghost use Rattle.lft_lower.specs.inner.Reactors.{IsLowering, IsProgram};
 
 use crate::instances::needed;
 use crate::maker::Maker;
@@ -15,7 +15,7 @@ use crate::reactors::reactors;
 use lft_classes::{InheritedParameter, Shape};
 use lft_elaborate::Settings;
 use lft_tree::Ast;
-use lft_whole::sources::{SourceFile, Stop, Why};
+use lft_whole::sources::{NoProgram, SourceFile, Why};
 use std::alloc::Global;
 
 /// A program that is lowered: its core tree, under the names of the source, and what is said of it.
@@ -27,7 +27,7 @@ pub struct Lowering {
 }
 
 /// What is said of the target.
-fn note_target(notes: &mut Notes, files: &[SourceFile]) -> Result<(), Stop>
+fn note_target(notes: &mut Notes, files: &[SourceFile]) -> Result<(), NoProgram>
     ensures { IfErr result (λ stop. stop ≡ NoMemory) }
 {
     if let Some(file) = files.first() {
@@ -46,7 +46,7 @@ fn decentralized(files: &[SourceFile]) -> Option<usize>
 }
 
 /// What is said of a federated program. One whose coordination is decentralized is refused.
-fn note_federated(notes: &mut Notes, files: &[SourceFile], main: &Shape) -> Result<(), Stop>
+fn note_federated(notes: &mut Notes, files: &[SourceFile], main: &Shape) -> Result<(), NoProgram>
     ensures known { OnOk result (main.now.class.reactor.now.is_federated ≡ true → decentralized_in files.now ≡ None) }
     ensures cause { IfErr result (IfRefused (λ r. (main.now.class.reactor.now.is_federated ≡ true) × IsDecentralized files.now r)) }
 {
@@ -55,7 +55,7 @@ fn note_federated(notes: &mut Notes, files: &[SourceFile], main: &Shape) -> Resu
         return Ok(());
     }
     if let Some(token) = decentralized(files) {
-        return Err(Stop::at(Why::Decentralized, 0, token));
+        return Err(NoProgram::at(Why::Decentralized, 0, token));
     }
     notes.words(
         0,
@@ -66,7 +66,7 @@ fn note_federated(notes: &mut Notes, files: &[SourceFile], main: &Shape) -> Resu
 }
 
 /// What is said of the enclaves in a reactor.
-fn note_enclaves(notes: &mut Notes, shape: &Shape) -> Result<(), Stop>
+fn note_enclaves(notes: &mut Notes, shape: &Shape) -> Result<(), NoProgram>
     ensures { IfErr result (λ stop. stop ≡ NoMemory) }
 {
     for inherited in &shape.members {
@@ -84,7 +84,7 @@ fn note_enclaves(notes: &mut Notes, shape: &Shape) -> Result<(), Stop>
 }
 
 /// What is said of the parameters of the main reactor.
-fn note_defaults(notes: &mut Notes, main: &Shape) -> Result<(), Stop>
+fn note_defaults(notes: &mut Notes, main: &Shape) -> Result<(), NoProgram>
     ensures { IfErr result (λ stop. stop ≡ NoMemory) }
 {
     for number in 0..main.parameters.len() {
@@ -102,7 +102,7 @@ fn notes<'a>(
     files: &'a [SourceFile],
     settings: &Settings,
     used: &[usize],
-) -> Result<Notes<'a>, Stop>
+) -> Result<Notes<'a>, NoProgram>
     ensures known { OnOk result (IsCentralized files.now settings.now) }
     ensures cause { IfErr result (IfRefused (IsOfFederation files.now settings.now)) }
 {
@@ -128,7 +128,7 @@ fn lowered(
     files: &[SourceFile],
     settings: &Settings,
     used: &[usize],
-) -> Result<Lowering, Stop>
+) -> Result<Lowering, NoProgram>
     ensures made { IfOk result (λ lowering. IsProgram files.now settings.now used.now → IsLowering files.now lowering.tree) }
 {
     let mut notes = notes(alloc, files, settings, used)?;
@@ -154,7 +154,7 @@ fn lowered(
 }
 
 /// The core tree of the program that these files are.
-pub fn lower(alloc: Global, files: &[SourceFile]) -> Result<Lowering, Stop>
+pub fn lower(alloc: Global, files: &[SourceFile]) -> Result<Lowering, NoProgram>
     ensures made { IfOk result (λ lowering. IsLowering files.now lowering.tree) }
 {
     let mut settings = Settings::of(alloc, files)?;

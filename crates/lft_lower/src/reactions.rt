@@ -3,24 +3,24 @@
 ghost use Rattle.std.specs.Prelude.{◌≡◌, ◌≢◌, ◌++◌, ◌⊎◌, [], ◌∷◌, None, Some, IfErr, IfOk, OnOk, flat_map, map, option_map, string_bytes};
 ghost use Rattle.std.specs.List.{All};
 ghost use Rattle.lft_tree.specs.{Identifiers.IsName, ItemView.{member_views, ref_views, trigger_view}, Tree.OnRef};
-ghost use Rattle.lft_classes.specs.Shapes.{thing_named};
+ghost use Rattle.lft_classes.specs.inner.Shapes.{thing_named};
 ghost use Rattle.lft_elaborate.specs.inner.Refused.{IfRefused};
-ghost use Rattle.lft_lower.specs.inner.{Meanings.{Meanings.{here, token_in}, Refused.IsPassed}, Lowered.Adds, Refused.{IsOfEffect, IsOfTrigger}};
-ghost use Rattle.lft_lower.specs.Meanings.Standing.{ref_tokens};
-ghost use Rattle.lft_lower.specs.Lowered.{AreTriggers, IsAsleep, IsReaction, MeansAll, MeansEffect, MeansTrigger, all_triggers, asleep, effect_places, trigger_places};
-ghost use Rattle.lft_lower.specs.Standing.{AddsAt, all_trigger_tokens, reaction_tokens, tokens_of_effect, tokens_of_trigger, trigger_tokens};
-ghost use Rattle.lft_whole.specs.declared.sources.stop.Stop.TheVariants.{NoMemory};
+ghost use Rattle.lft_lower.specs.inner.Meanings.{Meanings.{here, token_in}, Refused.IsPassed, Standing.ref_tokens};
+ghost use Rattle.lft_lower.specs.inner.Lowered.{Adds, AreTriggers, IsAsleep, IsReaction, MeansAll, MeansEffect, MeansTrigger, all_triggers, asleep, effect_places, trigger_places};
+ghost use Rattle.lft_lower.specs.inner.Refused.{IsOfEffect, IsOfTrigger};
+ghost use Rattle.lft_lower.specs.inner.Standing.{AddsAt, all_trigger_tokens, reaction_tokens, tokens_of_effect, tokens_of_trigger, trigger_tokens};
+ghost use Rattle.lft_whole.specs.declared.sources.stop.NoProgram.TheVariants.{NoMemory};
 
 use crate::meanings::places::{Within, places, push_places};
 use crate::meanings::room::Room;
 use lft_classes::Shape;
 use lft_tree::{Action, Member, Reaction, Reference, Trigger};
-use lft_whole::sources::{Stop, Why};
+use lft_whole::sources::{NoProgram, Why};
 use lft_whole::{Effect, Reaction as Written, Trigger as WrittenTrigger};
 use std::alloc::Global;
 
 /// The name of an action that has no events: no thing of the reactor has it.
-fn never(alloc: Global, within: Within) -> Result<String, Stop>
+fn never(alloc: Global, within: Within) -> Result<String, NoProgram>
     ensures free { IfOk result (λ name. thing_named within.entry.shape.now (string_bytes name) ≡ None) }
     ensures name { IfOk result (λ name. IsName (string_bytes name)) }
     ensures cause { IfErr result (IfRefused (IsPassed within.entry.settings.now.work.main)) }
@@ -39,7 +39,7 @@ fn never(alloc: Global, within: Within) -> Result<String, Stop>
 }
 
 /// Puts references at the end of a list of triggers.
-fn push_references(list: &mut Vec<Trigger>, references: Vec<Reference>) -> Result<(), Stop>
+fn push_references(list: &mut Vec<Trigger>, references: Vec<Reference>) -> Result<(), NoProgram>
     ensures places { OnOk result (map trigger_view list.new.items ≡ map trigger_view list.old.items ++ map OnRef (ref_views references.items)) }
     ensures at { OnOk result (flat_map trigger_tokens list.new.items ≡ flat_map trigger_tokens list.old.items ++ ref_tokens references.items) }
     ensures cause { IfErr result (λ stop. stop ≡ NoMemory) }
@@ -57,7 +57,7 @@ fn push_trigger(
     within: Within,
     trigger: &WrittenTrigger,
     list: &mut Vec<Trigger>,
-) -> Result<(), Stop>
+) -> Result<(), NoProgram>
     ensures places { OnOk result (map trigger_view list.new.items ≡ map trigger_view list.old.items ++ trigger_places (here within.entry) trigger.now) }
     ensures at { OnOk result (flat_map trigger_tokens list.new.items ≡ flat_map trigger_tokens list.old.items ++ tokens_of_trigger (token_in within.entry) (here within.entry) trigger.now) }
     ensures means { OnOk result (MeansTrigger (here within.entry) trigger.now) }
@@ -66,7 +66,7 @@ fn push_trigger(
     match trigger {
         WrittenTrigger::Startup => list.push(Trigger::Startup)?,
         WrittenTrigger::Shutdown => list.push(Trigger::Shutdown)?,
-        WrittenTrigger::Reset { at } => return Err(Stop::at(Why::Mode, within.file, *at)),
+        WrittenTrigger::Reset { at } => return Err(NoProgram::at(Why::Mode, within.file, *at)),
         WrittenTrigger::Reference(reference) => {
             let mut found = Vec::new(alloc);
             push_places(alloc, room, within, reference, &mut found)?;
@@ -82,14 +82,14 @@ fn triggers(
     room: &mut Room,
     within: Within,
     reaction: &Written,
-) -> Result<Vec<Trigger>, Stop>
+) -> Result<Vec<Trigger>, NoProgram>
     ensures places { IfOk result (λ list. map trigger_view list.items ≡ all_triggers (here within.entry) reaction.now) }
     ensures at { IfOk result (λ list. flat_map trigger_tokens list.items ≡ flat_map (tokens_of_trigger (token_in within.entry) (here within.entry)) reaction.now.triggers.items) }
     ensures some { OnOk result (reaction.now.triggers.items ≢ []) }
     ensures means { OnOk result (All (MeansTrigger (here within.entry)) reaction.now.triggers.items) }
 {
     if reaction.triggers.is_empty() {
-        return Err(Stop::at(Why::NoTrigger, within.file, reaction.at));
+        return Err(NoProgram::at(Why::NoTrigger, within.file, reaction.at));
     }
     let mut list = Vec::new(alloc);
     for place in 0..reaction.triggers.len() {
@@ -105,14 +105,14 @@ fn push_effect(
     within: Within,
     effect: &Effect,
     list: &mut Vec<Reference>,
-) -> Result<(), Stop>
+) -> Result<(), NoProgram>
     ensures places { OnOk result (ref_views list.new.items ≡ ref_views list.old.items ++ effect_places (here within.entry) effect.now) }
     ensures at { OnOk result (ref_tokens list.new.items ≡ ref_tokens list.old.items ++ tokens_of_effect (token_in within.entry) (here within.entry) effect.now) }
     ensures means { OnOk result (MeansEffect (here within.entry) effect.now) }
     ensures cause { IfErr result (IfRefused (λ r. IsPassed within.entry.settings.now.work.main r ⊎ IsOfEffect (here within.entry) within.entry.file effect.now r)) }
 {
     match effect {
-        Effect::Mode { at } => Err(Stop::at(Why::Mode, within.file, *at)),
+        Effect::Mode { at } => Err(NoProgram::at(Why::Mode, within.file, *at)),
         Effect::Reference(reference) => { push_places(alloc, room, within, reference, list) }
     }
 }
@@ -123,7 +123,7 @@ fn effects(
     room: &mut Room,
     within: Within,
     reaction: &Written,
-) -> Result<Vec<Reference>, Stop>
+) -> Result<Vec<Reference>, NoProgram>
     ensures places { IfOk result (λ list. ref_views list.items ≡ flat_map (effect_places (here within.entry)) reaction.now.effects.items) }
     ensures at { IfOk result (λ list. ref_tokens list.items ≡ flat_map (tokens_of_effect (token_in within.entry) (here within.entry)) reaction.now.effects.items) }
     ensures means { OnOk result (All (MeansEffect (here within.entry)) reaction.now.effects.items) }
@@ -142,7 +142,7 @@ fn add_asleep(
     within: Within,
     at: usize,
     list: &mut Vec<Member>,
-) -> Result<String, Stop>
+) -> Result<String, NoProgram>
     ensures free { IfOk result (λ name. thing_named within.entry.shape.now (string_bytes name) ≡ None) }
     ensures name { IfOk result (λ name. IsName (string_bytes name)) }
     ensures added { IfOk result (λ name. member_views list.new.items ≡ member_views list.old.items ++ asleep (string_bytes name) ∷ []) }
@@ -170,7 +170,7 @@ fn asleep(
     at: usize,
     name: &mut Option<String>,
     list: &mut Vec<Member>,
-) -> Result<String, Stop>
+) -> Result<String, NoProgram>
     ensures name { IfOk result (λ found. option_map string_bytes name.new ≡ Some (string_bytes found)) }
     ensures added { IfOk result (λ found. Adds list.old.items list.new.items (IsAsleep (here within.entry) (string_bytes found) (option_map string_bytes name.old))) }
     ensures at { OnOk result (AddsAt list.old.items list.new.items at (λ parts. flat_map (λ tokens. tokens) parts ≡ [])) }
@@ -194,7 +194,7 @@ fn some_triggers(
     reaction: &Written,
     never: &mut Option<String>,
     list: &mut Vec<Member>,
-) -> Result<Vec<Trigger>, Stop>
+) -> Result<Vec<Trigger>, NoProgram>
     ensures means { OnOk result (All (MeansTrigger (here within.entry)) reaction.now.triggers.items) }
     ensures triggers { IfOk result (λ found. Adds list.old.items list.new.items (λ more. AreTriggers (here within.entry) reaction.now (option_map string_bytes never.old) more (option_map string_bytes never.new) (map trigger_view found.items))) }
     ensures tokens { IfOk result (λ found. flat_map trigger_tokens found.items ≡ all_trigger_tokens (token_in within.entry) (here within.entry) reaction.now) }
@@ -224,7 +224,7 @@ pub(crate) fn push_reaction(
     reaction: &Written,
     never: &mut Option<String>,
     list: &mut Vec<Member>,
-) -> Result<(), Stop>
+) -> Result<(), NoProgram>
     ensures means { OnOk result (MeansAll (here within.entry) reaction.now) }
     ensures lowered { OnOk result (Adds list.old.items list.new.items (λ more. IsReaction (here within.entry) reaction.now (option_map string_bytes never.old) more (option_map string_bytes never.new))) }
     ensures at { OnOk result (AddsAt list.old.items list.new.items (token_in within.entry reaction.now.at) (λ parts. flat_map (λ tokens. tokens) parts ≡ reaction_tokens (token_in within.entry) (here within.entry) reaction.now)) }

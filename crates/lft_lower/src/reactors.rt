@@ -4,11 +4,11 @@ ghost use Rattle.std.specs.Prelude.{◌≡◌, ◌++◌, ◌⊎◌, ℕ, [], ◌
 ghost use Rattle.std.specs.List.{cons_option};
 ghost use Rattle.lft_tree.specs.ItemView.{action_view, item_view, member_views, parameter_view, reactor_view, time_view, timer_view};
 ghost use Rattle.lft_tree.specs.Tree.{ActionMember, TimerMember};
-ghost use Rattle.lft_lower.specs.inner.{Meanings.{Meanings.{here, token_in}, Names.texts, Places.several, Refused.IsPassed}, Lowered.Adds};
+ghost use Rattle.lft_lower.specs.inner.Meanings.{Meanings.{here, token_in}, Names.texts, Places.several, Refused.IsPassed};
+ghost use Rattle.lft_lower.specs.inner.Lowered.{Adds, IsLowered, IsMeasured, IsPeriod, IsRead, action_tree, is_spaced, period_at, ports, timer_tree};
 ghost use Rattle.lft_lower.specs.inner.Refused.{IsOfAction, IsOfDefault, IsOfParameter, IsOfPeriod, IsOfTimer};
-ghost use Rattle.lft_lower.specs.Lowered.{IsLowered, IsMeasured, IsPeriod, IsRead, action_tree, is_spaced, period_at, ports, timer_tree};
-ghost use Rattle.lft_lower.specs.Reactors.{AreMembers, AreReactors, HasDefault, IsDefault, IsReactor, default_time, timed_parameter, timed_parameters};
-ghost use Rattle.lft_lower.specs.Standing.{AddsAt, AreAt, ArePartsAt, ArePlaced, IsPlaced, declared_at, head_at, parameter_token, period_tokens, time_tokens, written_tokens};
+ghost use Rattle.lft_lower.specs.inner.Reactors.{AreMembers, AreReactors, HasDefault, IsDefault, IsReactor, default_time, timed_parameter, timed_parameters};
+ghost use Rattle.lft_lower.specs.inner.Standing.{AddsAt, AreAt, ArePartsAt, ArePlaced, IsPlaced, declared_at, head_at, parameter_token, period_tokens, time_tokens, written_tokens};
 ghost use Rattle.lft_elaborate.specs.{Channels.Channels.below, inner.Refused.IfRefused};
 
 use crate::connections::push_connection;
@@ -22,7 +22,7 @@ use crate::times::{is_forever, is_zero, maybe_time, read_time, written};
 use lft_classes::{Inherited, InheritedParameter, Shape, Work, why_of};
 use lft_lists::item_at;
 use lft_tree::{Action, Item, Member, Parameter, Port, Reactor, Time, TimeExpression, Timer};
-use lft_whole::sources::{Stop, Why};
+use lft_whole::sources::{NoProgram, Why};
 use lft_whole::{
     Action as WrittenAction, Expression, Member as Written, Name, Reactor as WrittenReactor,
     Timer as WrittenTimer, Value,
@@ -30,7 +30,7 @@ use lft_whole::{
 use std::alloc::{AllocError, Global};
 
 /// The default of a time that is needed. One that each instance has to give is 0, which is never read.
-fn default(inherited: InheritedParameter, is_main: bool) -> Result<Time, Stop>
+fn default(inherited: InheritedParameter, is_main: bool) -> Result<Time, NoProgram>
     ensures time { IfOk result (λ time. default_time inherited.entry.parameter.now.default ≡ Some time) }
     ensures known { OnOk result ((inherited.entry.parameter.now.is_time ≡ true) × IsDefault is_main inherited.entry.parameter.now.default) }
     ensures cause { IfErr result (IfRefused (IsOfDefault is_main inherited.entry)) }
@@ -38,11 +38,11 @@ fn default(inherited: InheritedParameter, is_main: bool) -> Result<Time, Stop>
     let InheritedParameter { file, parameter } = inherited;
     let at = parameter.name.at;
     if !parameter.is_time {
-        return Err(Stop::at(Why::StandsForTime, file, at));
+        return Err(NoProgram::at(Why::StandsForTime, file, at));
     }
     let Some(value) = &parameter.default else {
         return if is_main {
-            Err(Stop::at(Why::MissingInMain, file, at))
+            Err(NoProgram::at(Why::MissingInMain, file, at))
         } else {
             Ok(Time {
                 count: 0,
@@ -51,7 +51,7 @@ fn default(inherited: InheritedParameter, is_main: bool) -> Result<Time, Stop>
         };
     };
     match &value.value {
-        Value::Word(_) => Err(Stop::at(Why::DefaultByName, file, value.at)),
+        Value::Word(_) => Err(NoProgram::at(Why::DefaultByName, file, value.at)),
         _ => written(file, value),
     }
 }
@@ -63,7 +63,7 @@ fn timed(
     shape: &Shape,
     is_main: bool,
     number: usize,
-) -> Result<Option<Parameter>, Stop>
+) -> Result<Option<Parameter>, NoProgram>
     ensures made { IfOk result (λ made. option_map parameter_view made ≡ timed_parameter shape.now number) }
     ensures at { IfOk result (λ made. option_map (λ p. p.at) made ≡ parameter_token maker.entry.files.now shape.now number) }
     ensures known { OnOk result (HasDefault is_main shape.now number) }
@@ -102,7 +102,7 @@ fn parameters(
     room: &mut Room,
     shape: &Shape,
     is_main: bool,
-) -> Result<Vec<Parameter>, Stop>
+) -> Result<Vec<Parameter>, NoProgram>
     ensures made { IfOk result (λ list. map parameter_view list.items ≡ timed_parameters shape.now) }
     ensures at { IfOk result (λ list. map (λ p. p.at) list.items ≡ filter_map (parameter_token maker.entry.files.now shape.now) (below (length shape.now.parameters.items))) }
     ensures known { OnOk result ((number : ℕ) → HasDefault is_main shape.now number) }
@@ -121,7 +121,7 @@ fn period(
     alloc: Global,
     within: Within,
     value: &Option<Expression>,
-) -> Result<Option<TimeExpression>, Stop>
+) -> Result<Option<TimeExpression>, NoProgram>
     ensures time { IfOk result (λ time. option_map time_view time ≡ period_at value.now) }
     ensures at { IfOk result (λ time. time_tokens time ≡ period_tokens (token_in within.entry) value.now) }
     ensures read { OnOk result (IsPeriod within.entry.shape.now value.now) }
@@ -140,7 +140,7 @@ fn period(
 }
 
 /// What a timer becomes.
-fn lowered_timer(alloc: Global, within: Within, timer: &WrittenTimer) -> Result<Timer, Stop>
+fn lowered_timer(alloc: Global, within: Within, timer: &WrittenTimer) -> Result<Timer, NoProgram>
     ensures made { IfOk result (λ made. timer_view made ≡ timer_tree timer.now) }
     ensures at { IfOk result (λ made. made.at ≡ token_in within.entry timer.now.name.at) }
     ensures times { IfOk result (λ made. time_tokens made.offset ++ time_tokens made.period ≡ written_tokens (token_in within.entry) timer.now.offset ++ period_tokens (token_in within.entry) timer.now.period) }
@@ -156,7 +156,11 @@ fn lowered_timer(alloc: Global, within: Within, timer: &WrittenTimer) -> Result<
 }
 
 /// What an action becomes. A least spacing of a logical one is refused, unless it is 0.
-fn lowered_action(alloc: Global, within: Within, action: &WrittenAction) -> Result<Action, Stop>
+fn lowered_action(
+    alloc: Global,
+    within: Within,
+    action: &WrittenAction,
+) -> Result<Action, NoProgram>
     ensures made { IfOk result (λ made. action_view made ≡ action_tree action.now) }
     ensures at { IfOk result (λ made. made.at ≡ token_in within.entry action.now.name.at) }
     ensures times { IfOk result (λ made. time_tokens made.min_delay ≡ written_tokens (token_in within.entry) action.now.min_delay) }
@@ -170,7 +174,7 @@ fn lowered_action(alloc: Global, within: Within, action: &WrittenAction) -> Resu
         && !action.is_physical
         && !is_zero(spacing)
     {
-        return Err(Stop::at(Why::Spacing, within.file, spacing.at));
+        return Err(NoProgram::at(Why::Spacing, within.file, spacing.at));
     }
     Ok(Action {
         name: action.name.text.clone()?,
@@ -189,7 +193,7 @@ fn push_ports(
     is_input: bool,
     at: usize,
     list: &mut Vec<Member>,
-) -> Result<(), Stop>
+) -> Result<(), NoProgram>
     ensures made { OnOk result (member_views list.new.items ≡ member_views list.old.items ++ ports (several channels.entry) is_input) }
     ensures at { OnOk result (AddsAt list.old.items list.new.items at (λ parts. Unit {0})) }
     ensures cause { IfErr result (IfRefused (IsPassed work.now.main)) }
@@ -211,7 +215,7 @@ fn push_timer(
     within: Within,
     timer: &WrittenTimer,
     list: &mut Vec<Member>,
-) -> Result<(), Stop>
+) -> Result<(), NoProgram>
     ensures made { OnOk result (member_views list.new.items ≡ member_views list.old.items ++ TimerMember (timer_tree timer.now) ∷ []) }
     ensures at { OnOk result (AddsAt list.old.items list.new.items (token_in within.entry timer.now.name.at) (λ parts. parts ≡ (written_tokens (token_in within.entry) timer.now.offset ++ period_tokens (token_in within.entry) timer.now.period) ∷ [])) }
     ensures read { OnOk result (IsRead within.entry.shape.now timer.now.offset × IsPeriod within.entry.shape.now timer.now.period) }
@@ -229,7 +233,7 @@ fn push_action(
     within: Within,
     action: &WrittenAction,
     list: &mut Vec<Member>,
-) -> Result<(), Stop>
+) -> Result<(), NoProgram>
     ensures made { OnOk result (member_views list.new.items ≡ member_views list.old.items ++ ActionMember (action_tree action.now) ∷ []) }
     ensures at { OnOk result (AddsAt list.old.items list.new.items (token_in within.entry action.now.name.at) (λ parts. parts ≡ written_tokens (token_in within.entry) action.now.min_delay ∷ [])) }
     ensures read { OnOk result (IsRead within.entry.shape.now action.now.min_delay) }
@@ -251,7 +255,7 @@ fn push_member(
     member: &Written,
     never: &mut Option<String>,
     list: &mut Vec<Member>,
-) -> Result<(), Stop>
+) -> Result<(), NoProgram>
     ensures made { maker.entry.settings.now ≡ within.entry.settings.now → OnOk result (Adds list.old.items list.new.items (λ more. IsLowered (texts maker.entry.names.now) (here within.entry) number (option_map string_bytes never.old) more (option_map string_bytes never.new) member.now)) }
     ensures at { OnOk result (AddsAt list.old.items list.new.items (token_in within.entry (declared_at member.now)) (ArePartsAt (token_in within.entry) (here within.entry) number member.now)) }
 {
@@ -292,12 +296,12 @@ fn push_member(
             Ok(())
         }
         // Such a member is refused before a setting is made.
-        Written::Foreign { what, at } => Err(Stop::at(why_of(*what), within.file, *at)),
+        Written::Foreign { what, at } => Err(NoProgram::at(why_of(*what), within.file, *at)),
     }
 }
 
 /// Refuses a member whose width is written and isn't known. There is none.
-fn check_width(within: Within, number: usize, inherited: Inherited) -> Result<(), Stop>
+fn check_width(within: Within, number: usize, inherited: Inherited) -> Result<(), NoProgram>
     ensures known { OnOk result (IsMeasured (here within.entry) number inherited.entry.member.now) }
     ensures cause { IfErr result (IfRefused (IsPassed within.entry.settings.now.work.main)) }
 {
@@ -314,7 +318,7 @@ fn members<'s, 'a>(
     notes: &mut Notes,
     setting: usize,
     shape: &'s Shape<'a>,
-) -> Result<Vec<Member>, Stop>
+) -> Result<Vec<Member>, NoProgram>
     ensures made { IfOk result (λ list. AreMembers maker.entry.settings.now (texts maker.entry.names.now) setting shape.now (member_views list.items)) }
     ensures at { IfOk result (λ list. AreAt maker.entry.files.now (record { settings = maker.entry.settings.now; setting = setting; shape = shape.now }) shape.now.members.items list.items) }
 {
@@ -361,7 +365,7 @@ fn core_reactor<'s, 'a>(
     notes: &mut Notes,
     setting: usize,
     shape: &'s Shape<'a>,
-) -> Result<Reactor, Stop>
+) -> Result<Reactor, NoProgram>
     ensures made { IfOk result (λ made. IsReactor maker.entry.settings.now (texts maker.entry.names.now) setting shape.now (reactor_view made)) }
     ensures at { IfOk result (λ made. IsPlaced maker.entry.files.now maker.entry.settings.now setting shape.now made) }
 {
@@ -387,7 +391,7 @@ pub(crate) fn reactors(
     room: &mut Room,
     notes: &mut Notes,
     settings: &[usize],
-) -> Result<Vec<Item>, Stop>
+) -> Result<Vec<Item>, NoProgram>
     ensures made { IfOk result (λ items. AreReactors maker.entry.settings.now (texts maker.entry.names.now) settings.now (map item_view items.items)) }
     ensures at { IfOk result (λ items. ArePlaced maker.entry.files.now maker.entry.settings.now settings.now items.items) }
 {

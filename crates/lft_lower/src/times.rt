@@ -2,15 +2,15 @@
 
 ghost use Rattle.std.specs.Prelude.{◌≡◌, Some, IfErr, IfOk, OnOk, not, option_map};
 ghost use Rattle.lft_tree.specs.ItemView.{time_view};
-ghost use Rattle.lft_lower.specs.{inner.{Meanings.Meanings.token_in, Refused.{IsNoTime, IsNoWritten, IsOfTime}}, Lowered.{IsRead, is_some_time, time_at}};
-ghost use Rattle.lft_lower.specs.{Standing.{time_token, time_tokens, written_tokens}, Times.{IsTime, IsWritten, named_by, time_for, time_in}};
+ghost use Rattle.lft_lower.specs.inner.{Meanings.Meanings.token_in, Refused.{IsNoTime, IsNoWritten, IsOfTime}, Lowered.{IsRead, is_some_time, time_at}};
+ghost use Rattle.lft_lower.specs.inner.{Standing.{time_token, time_tokens, written_tokens}, Times.{IsTime, IsWritten, named_by, time_for, time_in}};
 ghost use Rattle.lft_elaborate.specs.{Values.is_forever, inner.Refused.{IfRefused, IsAt}};
 
 use crate::meanings::places::Within;
-use lft_classes::{InheritedParameter, Shape, Thing};
+use lft_classes::{InheritedParameter, OwnThing, Shape};
 use lft_resolve::times::nanoseconds;
 use lft_tree::{Time, TimeExpression};
-use lft_whole::sources::{Stop, Why};
+use lft_whole::sources::{NoProgram, Why};
 use lft_whole::{Expression, Value};
 use std::alloc::Global;
 
@@ -40,17 +40,17 @@ fn time_in(value: &Value) -> Option<Time>
 }
 
 /// A time that is written out: a whole number with a unit, or 0.
-pub(crate) fn written(file: usize, value: &Expression) -> Result<Time, Stop>
+pub(crate) fn written(file: usize, value: &Expression) -> Result<Time, NoProgram>
     ensures time { IfOk result (λ time. time_in value.now.value ≡ Some time) }
     ensures short { OnOk result (IsWritten value.now.value) }
     ensures cause { IfErr result (IfRefused (λ r. IsAt file value.now.at r × IsNoWritten value.now.value r.why)) }
 {
     let Some(time) = time_in(&value.value) else {
-        return Err(Stop::at(Why::NoTime, file, value.at));
+        return Err(NoProgram::at(Why::NoTime, file, value.at));
     };
     match nanoseconds(time) {
         Some(_) => Ok(time),
-        None => Err(Stop::at(Why::TimeTooLong, file, value.at)),
+        None => Err(NoProgram::at(Why::TimeTooLong, file, value.at)),
     }
 }
 
@@ -79,7 +79,7 @@ fn named_by<'a>(shape: &Shape<'a>, value: &Value) -> Option<InheritedParameter<'
         return None;
     };
     match shape.find(word.as_str()) {
-        Some(Thing::Parameter(number)) => shape.parameters.get(number).copied(),
+        Some(OwnThing::Parameter(number)) => shape.parameters.get(number).copied(),
         _ => None,
     }
 }
@@ -89,7 +89,7 @@ pub(crate) fn read_time(
     alloc: Global,
     within: Within,
     value: &Expression,
-) -> Result<TimeExpression, Stop>
+) -> Result<TimeExpression, NoProgram>
     ensures time { IfOk result (λ time. time_for value.now.value ≡ Some (time_view time)) }
     ensures at { IfOk result (λ time. time_token time ≡ token_in within.entry value.now.at) }
     ensures read { OnOk result (IsTime within.entry.shape.now value.now.value) }
@@ -103,11 +103,11 @@ pub(crate) fn read_time(
         return Ok(TimeExpression::Written { time, at });
     };
     let Some(found) = found else {
-        return Err(Stop::at(Why::NoTime, file, value.at));
+        return Err(NoProgram::at(Why::NoTime, file, value.at));
     };
     // In the language a parameter of another type never stands for a time.
     if !found.parameter.is_time {
-        return Err(Stop::at(Why::NotOfTypeTime, file, value.at));
+        return Err(NoProgram::at(Why::NotOfTypeTime, file, value.at));
     }
     let name = String::from_str(alloc, word.as_str())?;
     Ok(TimeExpression::Parameter { name, at })
@@ -118,7 +118,7 @@ pub(crate) fn maybe_time(
     alloc: Global,
     within: Within,
     value: &Option<Expression>,
-) -> Result<Option<TimeExpression>, Stop>
+) -> Result<Option<TimeExpression>, NoProgram>
     ensures time { IfOk result (λ time. option_map time_view time ≡ time_at value.now) }
     ensures at { IfOk result (λ time. time_tokens time ≡ written_tokens (token_in within.entry) value.now) }
     ensures read { OnOk result (IsRead within.entry.shape.now value.now) }

@@ -5,7 +5,7 @@ use Rattle.lft_ir.specs.declared.steps.{externals.Event.Event, row.Row.Row}
 use Rattle.lft_model.specs.{declared.breach.Breach.Breach, Plans.PlanParts, Breaches.{RowBreach, RowOrder, TagBreach, First}}
 use Rattle.lft_queue.specs.Coming.AtTag.{AreAt, AreBefore}
 use Rattle.lft_stream.specs.Kept.{low_of}
-use Rattle.lft_monitor.specs.{Sure.{IsUnbroken, IsFirstBefore}, Reach.IsReach, declared.{reach.Reach.Reach, found.Found.Found}}
+use Rattle.lft_monitor.specs.{Sure.{IsUnbroken, IsFirstBefore}, Reach.IsReach, declared.{reach.Reach.Reach, found.BrokenRule.BrokenRule}}
 
 -- the rows reach so far, and no rule is broken in them before the tag behind their last
 pub record IsClean (plan : PlanParts) (t : List Row) (r : Reach) : Type 0 where
@@ -35,7 +35,7 @@ abbrev pub HasManyLater : List Event → Tag → Type 0
 HasManyLater events g = (65536 < length events) × ((x : Event) × (slice_get events (length events - 65537) ≡ Some x) × Before g x.tag)
 
 -- the breach that is found
-abbrev pub breach_of : Found → Breach
+abbrev pub breach_of : BrokenRule → Breach
 breach_of f = record { rule = f.rule; tag = f.tag; reaction = f.reaction; row = f.line }
 
 -- the tag is finished: a row is at it or behind it, and another at a later tag still

@@ -10,10 +10,10 @@ ghost use Rattle.lft_stream.specs.inner.Kept.{KeepRules};
 ghost use Rattle.lft_monitor.specs.inner.Follows.{AreDone, IsAtHand, IsHeld, IsFollowerOf, IsHalt, IsReceipt, stopped_at, IsProgress, IsClosing, IsEnding, IsJudgedOf, IsTurn, IsUnjudged, BeginsLast, done_of};
 ghost use Rattle.lft_monitor.specs.{Follows.{IsPassed, HasManyLater, IsJudged}, OpenRuns.AreOpenRuns, declared.follower.Follower.Follower as TheFollower};
 
-use crate::found::{Found, found_at, found_of};
+use crate::found::{BrokenRule, found_at, found_of};
 use crate::gone::{Going, Halt};
 use crate::judged::{Closing, Ending, Judged, Unjudged};
-use crate::open::{OpenRun, open_among};
+use crate::open::{StillOpen, open_among};
 use crate::reach::Reach;
 use lft_ir::steps::{Event, Row, row_at};
 use lft_model::Plan;
@@ -27,7 +27,7 @@ pub enum Progress {
     /// More rows may come.
     GoesOn,
     /// Nothing is to be judged behind it.
-    Broken(Found),
+    Broken(BrokenRule),
     /// The rows that are judged break no rule. Of the next ones, up to the line, too much is to be kept or
     /// looked at, or memory is refused.
     Odd(Reach, u64),
@@ -312,7 +312,7 @@ impl Follower {
     }
 
     /// The runs that have no end so far. They are at the last tag.
-    pub fn open_runs(&self, alloc: Global, plan: &Plan) -> Result<Vec<OpenRun>, NoMemory>
+    pub fn open_runs(&self, alloc: Global, plan: &Plan) -> Result<Vec<StillOpen>, NoMemory>
         requires { (t : List TheRow) × IsFollowerOf plan.now t self.now }
         ensures { IfOk result (λ runs. (t : List TheRow) → IsFollowerOf plan.now t self.now → AreOpenRuns 0 t runs.items) }
     {

@@ -10,7 +10,7 @@ use lft_tag::Tag;
 
 /// A rule that is broken, told as soon as it is sure.
 #[derive(Clone, Copy, PartialEq, Eq, Debug, Drop)]
-pub struct Found {
+pub struct BrokenRule {
     pub rule: u8,
     pub tag: Tag,
     /// None for rule 6.
@@ -21,7 +21,7 @@ pub struct Found {
 }
 
 /// The rule that the row at the place breaks, where so many rows stand before these.
-pub(crate) fn found_at(rows: &[Row], place: usize, before: u64, rule: u8) -> Found
+pub(crate) fn found_at(rows: &[Row], place: usize, before: u64, rule: u8) -> BrokenRule
     requires place { place < length rows.now }
     requires few { before ≤ 2 ^ 62 }
     requires short { length rows.now ≤ 4000000 }
@@ -31,7 +31,7 @@ pub(crate) fn found_at(rows: &[Row], place: usize, before: u64, rule: u8) -> Fou
     ensures reaction { (row : TheRow) → slice_get rows.now place ≡ Some row → result.reaction ≡ Some row.reaction }
 {
     let row = row_at(rows, place);
-    Found {
+    BrokenRule {
         rule,
         tag: row.tag,
         reaction: Some(row.reaction),
@@ -40,10 +40,10 @@ pub(crate) fn found_at(rows: &[Row], place: usize, before: u64, rule: u8) -> Fou
 }
 
 /// The breach of rows that are few enough for a table.
-pub(crate) fn found_of(breach: Breach) -> Found
+pub(crate) fn found_of(breach: Breach) -> BrokenRule
     ensures { breach_of result ≡ breach }
 {
-    Found {
+    BrokenRule {
         rule: breach.rule,
         tag: breach.tag,
         reaction: breach.reaction,
@@ -52,11 +52,11 @@ pub(crate) fn found_of(breach: Breach) -> Found
 }
 
 /// The same of rows behind so many others.
-pub(crate) fn found_behind(breach: Breach, before: u64) -> Found
+pub(crate) fn found_behind(breach: Breach, before: u64) -> BrokenRule
     requires few { before ≤ 2 ^ 62 + 4000000 }
     ensures { breach_of result ≡ record breach { row = before + breach.row } }
 {
-    Found {
+    BrokenRule {
         line: before + breach.row as u64,
         ..found_of(breach)
     }

@@ -8,7 +8,7 @@ ghost use Rattle.lft_stream.specs.inner.Kept.{KeepRules};
 ghost use Rattle.lft_monitor.specs.inner.Follows.{AreJudged, IsClosing, IsEnding, IsJudgedOf, IsReached, IsUnjudged, stopped_judged};
 ghost use Rattle.lft_monitor.specs.Follows.{IsFirstUpToLast, IsJudged, breach_of};
 
-use crate::found::{Found, found_behind};
+use crate::found::{BrokenRule, found_behind};
 use crate::gone::stop_over;
 use crate::monitor::go_on_as;
 use crate::past::Past;
@@ -16,7 +16,7 @@ use crate::reach::{Reach, reach_behind};
 use lft_ir::steps::{Row, row_at};
 use lft_model::Plan;
 use lft_rows::first_breach;
-use lft_stream::{Acceptor, Counts, earlier_of};
+use lft_stream::{Acceptor, RunCounts, earlier_of};
 use lft_tag::{NoMemory, Tag};
 use std::alloc::Global;
 
@@ -24,11 +24,11 @@ use std::alloc::Global;
 #[derive(Clone, Copy, PartialEq, Eq, Debug, Drop)]
 pub enum Ending {
     /// Nothing is due up to the stop.
-    Accepted(Counts),
+    Accepted(RunCounts),
     /// No rule is broken up to the tag, and more rows are needed.
     Unbroken(Reach),
     /// The first rule that is broken, where no row is missing.
-    Broken(Found),
+    Broken(BrokenRule),
 }
 
 /// What rows show that are all up to their last tag.
@@ -37,7 +37,7 @@ pub enum Closing {
     /// No rule is broken in them.
     Unbroken(Reach),
     /// The first rule that they break.
-    Broken(Found),
+    Broken(BrokenRule),
 }
 
 /// Rows that can't be judged up to their last line: too much is kept, or memory is refused. No rule is
@@ -119,7 +119,7 @@ impl Judged {
 
     /// The first breach of all rows, where these come behind those that are judged and no more come. None
     /// where none is found: there is none, or there are too many rows, or memory is refused.
-    fn first_of(&self, alloc: Global, plan: &Plan, rows: &[Row]) -> Option<Found>
+    fn first_of(&self, alloc: Global, plan: &Plan, rows: &[Row]) -> Option<BrokenRule>
         requires fit { RowsFit plan.now.program rows.now }
         requires stands { (t : List TheRow) × AreJudged plan.now t self.now }
         ensures { IfSome result (λ found. (t : List TheRow) → AreJudged plan.now t self.now → AreEarlier t rows.now → First plan.now (t ++ rows.now) (breach_of found)) }
@@ -134,7 +134,7 @@ impl Judged {
 
     /// The same where that breach is at a tag up to the last of these rows. It may be at a later one, where a
     /// run is missing.
-    fn first_up_to_last(&self, alloc: Global, plan: &Plan, rows: &[Row]) -> Option<Found>
+    fn first_up_to_last(&self, alloc: Global, plan: &Plan, rows: &[Row]) -> Option<BrokenRule>
         requires some { 0 < length rows.now }
         requires fit { RowsFit plan.now.program rows.now }
         requires stands { (t : List TheRow) × AreJudged plan.now t self.now }

@@ -16,9 +16,9 @@ mod past;
 mod reach;
 
 pub use follower::{Follower, Progress, Receipt};
-pub use found::Found;
+pub use found::BrokenRule;
 pub use judged::{Closing, Ending, Unjudged};
 pub use laws::{law_sure, law_timely};
 pub use monitor::{go_on, is_unbroken};
-pub use open::OpenRun;
+pub use open::StillOpen;
 pub use reach::Reach;

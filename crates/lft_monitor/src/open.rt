@@ -12,7 +12,7 @@ use std::alloc::Global;
 
 /// A run that has no end so far.
 #[derive(Clone, Copy, Drop)]
-pub struct OpenRun {
+pub struct StillOpen {
     pub reaction: u32,
     pub worker: u32,
     /// The row's line of the table that starts it. The first row stands in line 2.
@@ -90,13 +90,13 @@ fn is_open(rows: &[Row], place: usize, last: &[usize]) -> bool
 }
 
 /// The run that the row at the place starts, where so many rows stand before these.
-fn run_at(rows: &[Row], place: usize, before: u64) -> OpenRun
+fn run_at(rows: &[Row], place: usize, before: u64) -> StillOpen
     requires place { place < length rows.now }
     requires few { before + length rows.now ≤ 2 ^ 63 }
     ensures { (row : TheRow) → slice_get rows.now place ≡ Some row → result ≡ run_in row (before + place + 2) }
 {
     let row = row_at(rows, place);
-    OpenRun {
+    StillOpen {
         reaction: row.reaction,
         worker: row.worker,
         line: before + place as u64 + 2,
@@ -109,7 +109,7 @@ pub(crate) fn open_among(
     rows: &[Row],
     before: u64,
     reactions: usize,
-) -> Result<Vec<OpenRun>, NoMemory>
+) -> Result<Vec<StillOpen>, NoMemory>
     requires known { AreBelow rows.now reactions }
     requires few { before + length rows.now ≤ 2 ^ 63 }
     ensures { IfOk result (λ runs. AreOpenRuns before rows.now runs.items) }

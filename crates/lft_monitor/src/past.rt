@@ -8,7 +8,7 @@ ghost use Rattle.lft_stream.specs.inner.Owed.{MeetNowhere};
 ghost use Rattle.lft_rows.specs.inner.Slices.{Rises};
 ghost use Rattle.lft_monitor.specs.{inner.{Sure.AreFrom, Kept.IsPast, Follows.KeepsRows}, Sure.{IsUnbroken, IsFirstBefore}, Follows.breach_of};
 
-use crate::found::{Found, found_of};
+use crate::found::{BrokenRule, found_of};
 use crate::gone::stop_over;
 use crate::kept::{Ways, keep_rows};
 use lft_check::first_from;
@@ -159,7 +159,12 @@ impl Past {
 
     /// The first breach, of the rules 6 to 10, of these rows behind those that are judged, where no more
     /// come and none of them breaks one of the rules 1 to 5. None where none is found.
-    pub(crate) fn first_of_all(&self, alloc: Global, plan: &Plan, rows: &[Row]) -> Option<Found>
+    pub(crate) fn first_of_all(
+        &self,
+        alloc: Global,
+        plan: &Plan,
+        rows: &[Row],
+    ) -> Option<BrokenRule>
         requires fit { RowsFit plan.now.program rows.now }
         requires stands { (t : List TheRow) × IsPast plan.now t self.now }
         ensures { IfSome result (λ b. (t : List TheRow) → IsPast plan.now t self.now → KeepsRows plan.now (t ++ rows.now) → First plan.now (t ++ rows.now) (breach_of b)) }

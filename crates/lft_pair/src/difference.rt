@@ -9,7 +9,7 @@ ghost use Rattle.lft_model.specs.Breaches.{Legal};
 ghost use Rattle.lft_pair.specs.{Pairs.ComesFirst, inner.{Pairs.{Agrees, FirstOdd}, Places.{AreLastStarts, AreUpTo}}};
 
 use crate::answers::same_answers;
-use crate::starts::{LastStarts, no_starts};
+use crate::starts::{StartPlaces, no_starts};
 use lft_graph::Graph;
 use lft_ir::steps::{Row, Step, is_start, row_at};
 use lft_model::Plan;
@@ -21,8 +21,8 @@ use std::alloc::Global;
 /// a run of each trace.
 // Lists that are filled anew, so that a run asks for no memory of its own.
 #[derive(Drop)]
-struct Kept {
-    starts: LastStarts,
+struct Carried {
+    starts: StartPlaces,
     mine: Vec<Step>,
     theirs: Vec<Step>,
 }
@@ -34,7 +34,7 @@ fn agrees(
     plan: &Plan,
     rows: &[Row],
     others: &[Row],
-    kept: &mut Kept,
+    kept: &mut Carried,
     place: usize,
     row: Row,
 ) -> Result<bool, NoMemory>
@@ -124,7 +124,7 @@ pub(crate) fn first_odd(
 {
     let graph = plan.graph();
     let starts = no_starts(alloc, plan.program().reactions())?;
-    let mut kept = Kept {
+    let mut kept = Carried {
         starts,
         mine: Vec::new(alloc),
         theirs: Vec::new(alloc),

@@ -14,7 +14,7 @@ use std::alloc::Global;
 /// or 0.
 // So the other trace is gone through once: a search for each run would cost runs times rows.
 #[derive(Drop)]
-pub(crate) struct LastStarts {
+pub(crate) struct StartPlaces {
     pub read: usize,
     pub places: Vec<usize>,
 }
@@ -31,17 +31,17 @@ fn is_start_at(rows: &[Row], tag: Tag, reaction: u32, place: usize) -> bool
 }
 
 /// No row is read.
-pub(crate) fn no_starts(alloc: Global, reactions: usize) -> Result<LastStarts, NoMemory>
+pub(crate) fn no_starts(alloc: Global, reactions: usize) -> Result<StartPlaces, NoMemory>
     ensures as_long { IfOk result (λ starts. length starts.places.items ≡ reactions) }
     ensures none_read { IfOk result (λ starts. starts.read ≡ 0) }
     ensures kept { IfOk result (λ starts. (t : List TheRow) → AreLastStarts t starts.read starts.places.items) }
 {
     // 0 will do for none: who looks up a place asks the row there.
     let places = vec![in alloc; 0; reactions]?;
-    Ok(LastStarts { read: 0, places })
+    Ok(StartPlaces { read: 0, places })
 }
 
-impl LastStarts {
+impl StartPlaces {
     /// Reads on, up to the first row after the tag.
     fn read_to(&mut self, rows: &[Row], tag: Tag)
         requires fit { (program : Parts) × RowsFit program rows.now × (length self.old.places.items ≡ length program.reactions) }

@@ -10,7 +10,7 @@ mod line;
 mod same;
 mod ticket;
 
-use crate::bodies::line::Line;
+use crate::bodies::line::BodiesLeft;
 use crate::bodies::same::SameBodies;
 pub use answered::Answered;
 pub use body::{Body, BoxedCode, Code};
@@ -34,7 +34,7 @@ pub enum PutFault {
 /// The bodies that are left, in lists by reaction. Contracts see the lengths.
 #[derive(Drop)]
 pub struct Bodies<L: Law, C: Code + Drop = BoxedCode> {
-    lists: Vec<Line<L, C>>,
+    lists: Vec<BodiesLeft<L, C>>,
 }
 
 impl<L: Law, C: Code + Drop> Model for Bodies<L, C> {
@@ -56,7 +56,7 @@ impl<L: Law, C: Code + Drop> Bodies<L, C> {
         let mut lists = Vec::new(alloc);
         for reaction in 0..program.reactions() {
             lists.reserve(1)?;
-            lists.push_reserved(Line::new(alloc, reaction as u32));
+            lists.push_reserved(BodiesLeft::new(alloc, reaction as u32));
         }
         Ok(Bodies { lists })
     }

@@ -6,7 +6,7 @@ use Rattle.std.proofs.lemmas.Option.{slice_get_within, get_or_from_slice_get}
 use Rattle.lft_lists.proofs.Mapped.{mapped_from}
 use Rattle.lft_ir.{specs.inner.Names.HasNoTwice, proofs.Ranges.slice_get-drop}
 use Rattle.lft_program.specs.inner.{Extended.{Ending, dotted, hashed, endings, extended, AreAfter}, FullNames.{members, AreOfProgram, AreFew}}
-use Rattle.lft_program.specs.declared.naming.{OwnName.OwnName, Placed.Placed}
+use Rattle.lft_program.specs.declared.naming.{OwnName.OwnName, PlacedReaction.PlacedReaction}
 use Rattle.lft_program.proofs.{Distinct.{main, ArePaths, HasNoTwice-extended}, Extending.{extended-append, length-extended, extended-keeps}}
 use Rattle.lft_program.proofs.Separators.{IsEnding, HasNoSeparator-name, HasNoSeparator-decimal}
 use Rattle.lft_tree.specs.Identifiers.{IsName}
@@ -65,7 +65,7 @@ ready front middle back all parts paths t so_far =
         ap (extended main) parts ∙ extended-append main front (middle ++ back) ∙ sym (ap (λ l. extended l (middle ++ back)) so_far) ∙ extended-append t middle back in
         rw e (extended-keeps (extended t middle) back i text at)
 
-module _ (instances ports actions timers : List OwnName) (reactions : List Placed) (things : AreOfProgram instances ports actions timers reactions) (few : AreFew instances ports actions timers reactions) where
+module _ (instances ports actions timers : List OwnName) (reactions : List PlacedReaction) (things : AreOfProgram instances ports actions timers reactions) (few : AreFew instances ports actions timers reactions) where
   long_all : length (members instances ports actions timers) ≡ (length instances - 1) + length (ports ++ actions ++ timers)
   long_all = length-append (drop 1 instances) (ports ++ actions ++ timers) ∙ ap (λ n. n + length (ports ++ actions ++ timers)) (length-drop 1 instances)
 
@@ -90,7 +90,7 @@ module _ (instances ports actions timers : List OwnName) (reactions : List Place
           let main = some in
           (omega arith, low)
 
-  small : (r : Placed) (k : ℕ) → slice_get reactions k ≡ Some r → r.place + 1 < 2 ^ 64
+  small : (r : PlacedReaction) (k : ℕ) → slice_get reactions k ≡ Some r → r.place + 1 < 2 ^ 64
   small r k at =
       let low = (all_at (λ x. (x.instance < length instances) × (x.place < length reactions)) reactions things.placed k r at).1 in
       let count = few.few_reactions in
@@ -98,7 +98,7 @@ module _ (instances ports actions timers : List OwnName) (reactions : List Place
 
   -- where an ending is from
   data_of : (k : ℕ) (e : Ending) → slice_get (endings instances ports actions timers reactions) k ≡ Some e
-      → ((d : OwnName) × (slice_get (members instances ports actions timers) k ≡ Some d) × (dotted d ≡ e)) ⊎ ((j : ℕ) × (r : Placed) × (k ≡ length (members instances ports actions timers) + j) × (slice_get reactions j ≡ Some r) × (hashed r ≡ e))
+      → ((d : OwnName) × (slice_get (members instances ports actions timers) k ≡ Some d) × (dotted d ≡ e)) ⊎ ((j : ℕ) × (r : PlacedReaction) × (k ≡ length (members instances ports actions timers) + j) × (slice_get reactions j ≡ Some r) × (hashed r ≡ e))
   data_of k e at =
       ⊎_elim
       (λ h. inl (mapped_from dotted (members instances ports actions timers) k e h))
@@ -127,7 +127,7 @@ module _ (instances ports actions timers : List OwnName) (reactions : List Place
     last = HasNoSeparator-name d.name.now (all_at (λ x. IsName x.name.now) (members instances ports actions timers) things.identifiers k d at);
   }
 
-  hashed_ends : (k : ℕ) (r : Placed) → slice_get reactions k ≡ Some r → IsEnding (hashed r).1
+  hashed_ends : (k : ℕ) (r : PlacedReaction) → slice_get reactions k ≡ Some r → IsEnding (hashed r).1
   hashed_ends k r at = record {
     separator = 35;
     rest = decimal (r.place + 1);
@@ -145,7 +145,7 @@ module _ (instances ports actions timers : List OwnName) (reactions : List Place
       (λ k l d low high both. things.names_once k l d low high both.0 both.1)
       i j a b at_a at_b (instance, name) (sym instance, sym name)
 
-  same_hashed : (i j : ℕ) (a b : Placed) → slice_get reactions i ≡ Some a → slice_get reactions j ≡ Some b → hashed a ≡ hashed b → i ≡ j
+  same_hashed : (i j : ℕ) (a b : PlacedReaction) → slice_get reactions i ≡ Some a → slice_get reactions j ≡ Some b → hashed a ≡ hashed b → i ≡ j
   same_hashed i j a b at_a at_b same =
       let instance : a.instance ≡ b.instance = ap (λ (e : Ending). e.0) same in
       let ends : codes "#" ++ decimal (a.place + 1) ≡ codes "#" ++ decimal (b.place + 1) = ap (λ (e : Ending). e.1) same in
@@ -156,7 +156,7 @@ module _ (instances ports actions timers : List OwnName) (reactions : List Place
       (λ k l d low high both. things.places_once k l d low high both.0 both.1)
       i j a b at_a at_b (instance, place) (sym instance, sym place)
 
-  never_both : (d : OwnName) (r : Placed) → dotted d ≡ hashed r → ⊥
+  never_both : (d : OwnName) (r : PlacedReaction) → dotted d ≡ hashed r → ⊥
   never_both d r same =
       let ends : codes "." ++ d.name.now ≡ codes "#" ++ decimal (r.place + 1) = ap (λ (e : Ending). e.1) same in
       differ 46 35 refl refl (ap (λ (l : List ℕ). get_or l 0 0) ends)

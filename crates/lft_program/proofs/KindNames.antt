@@ -6,7 +6,7 @@ use Rattle.lft_tree.specs.Tree.{ReactorTree, InstanceTree, instances_of, ports_o
 use Rattle.lft_resolve.specs.declared.expansion.{numbering.Thing.Thing, walk.Instance.Instance}
 use Rattle.lft_program.specs.Located.{Located, declared, Declared}
 use Rattle.lft_program.specs.inner.{Nests.{IsInstanceOf, IsNumbering, IsThingOf}, OwnNames.own_names, TreeLists.{name_at, placed_at, seen, Says, IsPlacedAt}}
-use Rattle.lft_program.specs.declared.{nesting.nest.Numbering.Numbering, naming.{OwnName.OwnName, Placed.Placed}}
+use Rattle.lft_program.specs.declared.{nesting.nest.Numbering.Numbering, naming.{OwnName.OwnName, PlacedReaction.PlacedReaction}}
 use Rattle.lft_program.proofs.{Counting.base, Listing.{declared_from, declared-length}, Zipping.{zip_at, zip_back, zip_long, zip_of}, Sites.AreSites}
 use Rattle.lft_program.specs.declared.own_names.MemberKind.TheVariants as kinds
 
@@ -110,17 +110,17 @@ module _ (rs : List ReactorTree) (located : List Located) (instances : List Inst
 
     -- ---- reactions
 
-    pub placed_told : (things : List Thing) → AllZip IsThingOf (declared kind located) things → (xs : List Placed) → xs ≡ map placed_at things → AllZip IsPlacedAt (declared kind located) xs
+    pub placed_told : (things : List Thing) → AllZip IsThingOf (declared kind located) things → (xs : List PlacedReaction) → xs ≡ map placed_at things → AllZip IsPlacedAt (declared kind located) xs
     placed_told things all xs is = zip_of IsPlacedAt (declared kind located) xs (zip_long IsThingOf (declared kind located) things all ∙ sym (length-map things placed_at) ∙ sym (ap length is)) each
       where
-        each : (k : ℕ) (d : Declared X) (x : Placed) → slice_get (declared kind located) k ≡ Some d → slice_get xs k ≡ Some x → IsPlacedAt d x
+        each : (k : ℕ) (d : Declared X) (x : PlacedReaction) → slice_get (declared kind located) k ≡ Some d → slice_get xs k ≡ Some x → IsPlacedAt d x
         each k d x at_d at_x =
             let t = zip_at IsThingOf (declared kind located) things all k d at_d in
             let one : x ≡ placed_at t.0 = Some_same _ _ (sym at_x ∙ ap (λ l. slice_get l k) is ∙ mapped placed_at things k t.0 t.1) in
             (ap (λ p. p.instance) one ∙ t.2.0, ap (λ p. p.place) one ∙ t.2.1)
 
-    module _ (xs : List Placed) (all : AllZip IsPlacedAt (declared kind located) xs) where
-      pub placed_within : (k : ℕ) (x : Placed) → slice_get xs k ≡ Some x → (x.instance < length located) × (x.place < length xs)
+    module _ (xs : List PlacedReaction) (all : AllZip IsPlacedAt (declared kind located) xs) where
+      pub placed_within : (k : ℕ) (x : PlacedReaction) → slice_get xs k ≡ Some x → (x.instance < length located) × (x.place < length xs)
       placed_within k x at =
           let d = zip_back IsPlacedAt (declared kind located) xs all k x at in
           let stands = declared_from kind located k d.0 d.1 in
@@ -131,7 +131,7 @@ module _ (rs : List ReactorTree) (located : List Located) (instances : List Inst
           let e = d.2.1 in
           (omega arith, omega arith)
 
-      pub placed_once : (i j : ℕ) (a b : Placed) → i < j → slice_get xs i ≡ Some a → slice_get xs j ≡ Some b → a.instance ≡ b.instance → a.place ≡ b.place → ⊥
+      pub placed_once : (i j : ℕ) (a b : PlacedReaction) → i < j → slice_get xs i ≡ Some a → slice_get xs j ≡ Some b → a.instance ≡ b.instance → a.place ≡ b.place → ⊥
       placed_once i j a b low at_a at_b instance place =
           let c = zip_back IsPlacedAt (declared kind located) xs all i a at_a in
           let d = zip_back IsPlacedAt (declared kind located) xs all j b at_b in

@@ -5,7 +5,7 @@ use Rattle.lft_lists.proofs.{Places.Some_same, Mapped.mapped}
 use Rattle.lft_ir.specs.{inner.Places.{names_from, AreStarts}, declared.names.Starts.Starts}
 use Rattle.lft_ir.proofs.Ranges.{slice_get-drop, range-get, range-within, length-range}
 use Rattle.lft_program.specs.inner.{Extended.{Ending, dotted, hashed, endings, extended}, FullNames.{IsDotted, IsHashed, AreFullNames, AreOfProgram, AreFew}}
-use Rattle.lft_program.specs.declared.naming.{OwnName.OwnName, Placed.Placed}
+use Rattle.lft_program.specs.declared.naming.{OwnName.OwnName, PlacedReaction.PlacedReaction}
 use Rattle.lft_program.proofs.{Distinct.{main, ArePaths}, Extending.{StandsAt, length-extended, extended-keeps, extended-at}}
 use Rattle.lft_program.proofs.FullNames.{later_at, all_at, are_paths, before_member, parts, parts2, parts3, parts4}
 use Rattle.lft_resolve.proofs.Twice.{slice_get-front}
@@ -48,7 +48,7 @@ module _ (all : List Ending) (paths : ArePaths all) (texts : List (List ℕ)) (i
             let place : 1 + (length front + k) ≡ a + k = omega arith in
             ap (slice_get texts) place ∙ sym (range-get texts a b k low) ∙ at
 
-module _ (instances ports actions timers : List OwnName) (reactions : List Placed) (things : AreOfProgram instances ports actions timers reactions) (few : AreFew instances ports actions timers reactions)
+module _ (instances ports actions timers : List OwnName) (reactions : List PlacedReaction) (things : AreOfProgram instances ports actions timers reactions) (few : AreFew instances ports actions timers reactions)
     (texts : List (List ℕ)) (is : texts ≡ extended main (endings instances ports actions timers reactions)) where
   -- where the kinds begin
   abbrev pub starts : Starts
@@ -83,7 +83,7 @@ module _ (instances ports actions timers : List OwnName) (reactions : List Place
   made_dotted : (d : OwnName) (c : List ℕ) → slice_get (slice_range texts 0 (length instances)) d.instance ≡ Some c → IsDotted (slice_range texts 0 (length instances)) d (c ++ (dotted d).1)
   made_dotted d c there = (c, there, sym (append_assoc c (codes ".") d.name.now))
 
-  made_hashed : (r : Placed) (c : List ℕ) → slice_get (slice_range texts 0 (length instances)) r.instance ≡ Some c → IsHashed (slice_range texts 0 (length instances)) r (c ++ (hashed r).1)
+  made_hashed : (r : PlacedReaction) (c : List ℕ) → slice_get (slice_range texts 0 (length instances)) r.instance ≡ Some c → IsHashed (slice_range texts 0 (length instances)) r (c ++ (hashed r).1)
   made_hashed r c there = (c, there, sym (append_assoc c (codes "#") (decimal (r.place + 1))))
 
   inside_inner : (k : ℕ) (d : OwnName) → slice_get (drop 1 instances) k ≡ Some d → d.instance < length instances
@@ -102,7 +102,7 @@ module _ (instances ports actions timers : List OwnName) (reactions : List Place
   inside_timers : (k : ℕ) (d : OwnName) → slice_get timers k ≡ Some d → d.instance < length instances
   inside_timers k d at = inside_declared (length (ports ++ actions) + k) d (later_at (ports ++ actions) timers k ∙ at)
 
-  inside_reactions : (k : ℕ) (r : Placed) → slice_get reactions k ≡ Some r → r.instance < length instances
+  inside_reactions : (k : ℕ) (r : PlacedReaction) → slice_get reactions k ≡ Some r → r.instance < length instances
   inside_reactions k r at = (all_at (λ x. (x.instance < length instances) × (x.place < length reactions)) reactions things.placed k r at).0
 
   paths : ArePaths (endings instances ports actions timers reactions)

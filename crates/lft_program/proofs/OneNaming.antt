@@ -3,7 +3,7 @@ use Rattle.std.proofs.Common.{◌≡◌, ℕ, ◌+◌, ◌<◌, zero, suc, List,
 use Rattle.std.{specs.{Fmt.decimal, List.AllZip}, proofs.lemmas.Option.slice_get_within}
 use Rattle.lft_lists.proofs.Places.{Some_same, same_items}
 use Rattle.lft_ir.{specs.Names.ThingNames, proofs.Ranges.slice_get-drop}
-use Rattle.lft_program.specs.{inner.FullNames.{IsDotted, IsHashed, AreFullNames, AreNested}, declared.naming.{OwnName.OwnName, Placed.Placed}}
+use Rattle.lft_program.specs.{inner.FullNames.{IsDotted, IsHashed, AreFullNames, AreNested}, declared.naming.{OwnName.OwnName, PlacedReaction.PlacedReaction}}
 use Rattle.lft_program.proofs.Zips.{AllZip-length, AllZip-from, AllZip-one}
 
 -- a name as it is made from a container's
@@ -46,12 +46,12 @@ one_dotted ns d y z a b =
     let same = Some_same a.0 b.0 (sym a.1 ∙ b.1) in
     dotted_by a.0 b.0 y d same a.2 ∙ sym b.2
 
-one_hashed : (ns : List (List ℕ)) (r : Placed) (y z : List ℕ) → IsHashed ns r y → IsHashed ns r z → y ≡ z
+one_hashed : (ns : List (List ℕ)) (r : PlacedReaction) (y z : List ℕ) → IsHashed ns r y → IsHashed ns r z → y ≡ z
 one_hashed ns r y z a b =
     let same = Some_same a.0 b.0 (sym a.1 ∙ b.1) in
     a.2 ∙ ap (λ l. l ++ codes "#" ++ decimal (r.place + 1)) same ∙ sym b.2
 
-pub one_naming : (instances ports actions timers : List OwnName) (reactions : List Placed) → AreNested instances → (names other : ThingNames)
+pub one_naming : (instances ports actions timers : List OwnName) (reactions : List PlacedReaction) → AreNested instances → (names other : ThingNames)
     → AreFullNames instances ports actions timers reactions names → AreFullNames instances ports actions timers reactions other → other ≡ names
 one_naming instances ports actions timers reactions nested names other a b =
     let i : other.instances ≡ names.instances = same_instances instances nested other.instances names.instances b.main_name a.main_name b.instance_names a.instance_names in

@@ -4,7 +4,7 @@ use Rattle.std.{specs.{Option.{option_map, option_and_then}, List.AllZip}, proof
 use Rattle.lft_tree.specs.Tree.{FileTree, ReactorTree, ReactionTree, RefTree, TriggerTree, AtStartup, AtShutdown, OnRef, reactors_of, ports_of, timers_of, actions_of, reactions_of}
 use Rattle.lft_lists.proofs.Mapped.{option_map_some}
 use Rattle.lft_resolve.specs.inner.{Expansion.Joins.port_at, Places.place, Sheets.{AreCues, IsCue, IsReactions, IsSpot}}
-use Rattle.lft_resolve.specs.declared.{expansion.numbering.Thing.Thing, by_number.sheets.{Cue.Cue, Cues.Cues, Spot.Spot}}
+use Rattle.lft_resolve.specs.declared.{expansion.numbering.Thing.Thing, by_number.sheets.{Cue.Cue, Cues.Cues, NamedThing.NamedThing}}
 use Rattle.lft_resolve.specs.{Instances.{Thing as Spoken, thing_at, stands_inside, stands_for}, Sheets.without_timers}
 use Rattle.lft_program.specs.Located.{Located, Declared, declared, things}
 use Rattle.lft_program.specs.inner.{Nests.{IsNumbering, IsThingOf}, Laying.{Each, HasCues, HasName, HasTrigger, IsReactionAt, cues_at, name_at, trigger_at}}
@@ -16,7 +16,7 @@ use Rattle.lft_program.proofs.{Zipping.zip_at, LaidOut.row_there, Making.{Made, 
 use Rattle.lft_ir.specs.declared.parts.{Name.{Name, TheVariants.{Port, Action}}, Reaction.Reaction}
 use Rattle.lft_ir.specs.declared.parts.Trigger.{Trigger, TheVariants.{Startup, Shutdown, Timer, On}}
 use Rattle.lft_resolve.specs.declared.by_number.sheets.Cue.TheVariants as cues
-use Rattle.lft_resolve.specs.declared.by_number.sheets.Spot.TheVariants as spots
+use Rattle.lft_resolve.specs.declared.by_number.sheets.NamedThing.TheVariants as spots
 
 zip_along : {A B C : Type 0} (R : A → B → Type 0) (S : B → C → Type 0) (T : A → C → Type 0) → ((x : A) (y : B) (z : C) → R x y → S y z → T x z) → (xs : List A) (ys : List B) (zs : List C) → AllZip R xs ys → AllZip S ys zs → AllZip T xs zs
 zip_along R S T both [] [] [] r s = tt
@@ -61,7 +61,7 @@ module _ (tree : FileTree) (tables : Tables) (nest : Nest) (links : List Linked)
 
   module _ (k : ℕ) (l : Located) (at : slice_get all k ≡ Some l) where
     -- the number of what a spot is, and what it stands for
-    name_of : (ref : RefTree) (spot : Spot) → IsSpot (reactors_of tree) l.inside.reactor ref spot → HasName nest k spot × (x : Name) × (name_at nest k spot ≡ Some x) × IsName all l ref x
+    name_of : (ref : RefTree) (spot : NamedThing) → IsSpot (reactors_of tree) l.inside.reactor ref spot → HasName nest k spot × (x : Name) × (name_at nest k spot ≡ Some x) × IsName all l ref x
     name_of ref (spots.Port end) is =
         let s = standing tree tables nest of.is_nest k l at ref end is in
         let p = base ports_of all s.owner + place_at end in (
@@ -78,10 +78,10 @@ module _ (tree : FileTree) (tables : Tables) (nest : Nest) (links : List Linked)
           (a.1, a.3, a.4),
         )
 
-    has_name : (ref : RefTree) (spot : Spot) → IsSpot (reactors_of tree) l.inside.reactor ref spot → HasName nest k spot
+    has_name : (ref : RefTree) (spot : NamedThing) → IsSpot (reactors_of tree) l.inside.reactor ref spot → HasName nest k spot
     has_name ref spot is = (name_of ref spot is).0
 
-    is_name : (ref : RefTree) (spot : Spot) (x : Name) → IsSpot (reactors_of tree) l.inside.reactor ref spot → name_at nest k spot ≡ Some x → IsName all l ref x
+    is_name : (ref : RefTree) (spot : NamedThing) (x : Name) → IsSpot (reactors_of tree) l.inside.reactor ref spot → name_at nest k spot ≡ Some x → IsName all l ref x
     is_name ref spot x is made =
         let n = name_of ref spot is in
         let same : n.1 ≡ x = (let e : Some n.1 ≡ Some x = sym n.2 ∙ made in cc) in
@@ -134,7 +134,7 @@ module _ (tree : FileTree) (tables : Tables) (nest : Nest) (links : List Linked)
         let r = d.located.inside.reactor in
         let cues : made.cues ≡ cues_there.0 = (let e : Some made.cues ≡ Some cues_there.0 = sym made.is_cues ∙ cues_there.1 in cc) in
         let are : AreCues (reactors_of tree) r d.item made.cues = subst (AreCues (reactors_of tree) r d.item) (sym cues) cues_there.2 in
-        let names : (ref : RefTree) (spot : Spot) (x : Name) → IsSpot (reactors_of tree) r ref spot → name_at nest thing.instance spot ≡ Some x → IsName all d.located ref x = is_name thing.instance d.located here in
+        let names : (ref : RefTree) (spot : NamedThing) (x : Name) → IsSpot (reactors_of tree) r ref spot → name_at nest thing.instance spot ≡ Some x → IsName all d.located ref x = is_name thing.instance d.located here in
         record {
           instance = made.instance ∙ same.0;
           place = made.place ∙ same.1;

@@ -4,7 +4,8 @@ use Rattle.std.proofs.lemmas.Option.{slice_get_within}
 use Rattle.lft_lists.proofs.Places.{get_there, same_some, Some_same}
 use Rattle.lft_tree.specs.Tree.{FileTree}
 use Rattle.lft_tag.specs.declared.Source.{Source}
-use Rattle.lft_resolve.specs.declared.expansion.{joins.{Connections.Connections, Site.Site, Sources.Sources}, origins.Reached.Reached, walk.Instance.Instance}
+use Rattle.lft_resolve.specs.declared.expansion.{joins.{Connections.Connections, Site.Site, PortSources.PortSources}, origins.Reached.Reached}
+use Rattle.lft_resolve.specs.declared.expansion.walk.Instance.{Instance}
 use Rattle.lft_resolve.specs.inner.Expansion.{Joins.{AreSites, AreSources}, Sources.{AreReached, IsFolded, IsReached, Leads, Origin, itself, over}}
 use Rattle.lft_resolve.specs.inner.Expansion.Ways.{HaveSites, IsWayBack, LeadsBack}
 use Rattle.lft_resolve.specs.{Causes.longest, Instances.Thing}
@@ -83,7 +84,7 @@ module _ (tree : FileTree) (tables : Tables) (nest : Nest) (made : AreTables tre
       delays = b.4 short r.origin i.delays (end_back sources sites p way is (none p)) i.origin
 
 -- the same of lists that are read from the tables and the nest
-module _ {tree : FileTree} {tables : Tables} {nest : Nest} (made : AreTables tree tables) (n : IsNest tree tables nest) (lawful : IsLawful tree) {counts : List ℕ} {table : List Connections} {instances : List Instance} {firsts : List ℕ} (as_counts : counts ≡ nest.ports.counts.items) (as_table : table ≡ tables.connections.items) (as_instances : instances ≡ nest.instances.items) (as_firsts : firsts ≡ nest.ports.firsts.items) (found : Sources) (w : AreSources counts table instances firsts nest.children nest.values found.sources.items) (beside : AreSites table instances firsts nest.children nest.values found.sources.items found.sites.items) where
+module _ {tree : FileTree} {tables : Tables} {nest : Nest} (made : AreTables tree tables) (n : IsNest tree tables nest) (lawful : IsLawful tree) {counts : List ℕ} {table : List Connections} {instances : List Instance} {firsts : List ℕ} (as_counts : counts ≡ nest.ports.counts.items) (as_table : table ≡ tables.connections.items) (as_instances : instances ≡ nest.instances.items) (as_firsts : firsts ≡ nest.ports.firsts.items) (found : PortSources) (w : AreSources counts table instances firsts nest.children nest.values found.sources.items) (beside : AreSites table instances firsts nest.children nest.values found.sources.items found.sites.items) where
   pub sites_read : HaveSites found.sources.items found.sites.items
   sites_read p s e = let y = beside p s e in (y.0, y.1)
 

@@ -7,7 +7,8 @@ use Rattle.lft_resolve.specs.{Kinds.names_in, Causes.IsTwice}
 use Rattle.lft_program.specs.Located.{Located, declared, things}
 use Rattle.lft_program.specs.inner.{Nests.IsNest, Tables.IsLawful, FullNames.{IsDotted, IsHashed, AreFullNames, AreNested, AreOfProgram, AreFew, members}}
 use Rattle.lft_program.specs.inner.TreeLists.{AreLists, IsPlacedAt, Says}
-use Rattle.lft_program.specs.declared.{nesting.{nest.Nest.Nest, tables.Tables.Tables}, naming.{OwnName.OwnName, Placed.Placed}, tree_lists.Lists.Lists}
+use Rattle.lft_program.specs.declared.{nesting.{nest.Nest.Nest, tables.Tables.Tables}, naming.{OwnName.OwnName, PlacedReaction.PlacedReaction}}
+use Rattle.lft_program.specs.declared.tree_lists.Lists.{Lists}
 use Rattle.lft_program.specs.Flattening.{name_of_path, name_of_thing, name_of_reaction, names_of}
 use Rattle.lft_program.proofs.{Listing.declared_from, Zipping.{zip_at, zip_long, zip_of}}
 use Rattle.lft_program.proofs.InnerNames.{first, inner_at, inner_sites, long, long_inner, path_last}
@@ -30,7 +31,7 @@ module _ (tree : FileTree) (tables : Tables) (nest : Nest) (is : IsNest tree tab
   abbrev timers : List OwnName
   timers = lists.timers.items
 
-  abbrev reactions : List Placed
+  abbrev reactions : List PlacedReaction
   reactions = lists.reactions.items
 
   -- ---- sites
@@ -151,7 +152,7 @@ module _ (tree : FileTree) (tables : Tables) (nest : Nest) (is : IsNest tree tab
       same : length reactions ≡ length (map (name_of_reaction tree is.are_located.main) (declared reactions_of is.located))
       same = sym (zip_long IsPlacedAt (declared reactions_of is.located) reactions are.reactions) ∙ sym (length-map (declared reactions_of is.located) (name_of_reaction tree is.are_located.main))
 
-      each : (k : ℕ) (x : Placed) (y : List ℕ) → slice_get reactions k ≡ Some x → slice_get (map (name_of_reaction tree is.are_located.main) (declared reactions_of is.located)) k ≡ Some y → IsHashed instance_texts x y
+      each : (k : ℕ) (x : PlacedReaction) (y : List ℕ) → slice_get reactions k ≡ Some x → slice_get (map (name_of_reaction tree is.are_located.main) (declared reactions_of is.located)) k ≡ Some y → IsHashed instance_texts x y
       each k x y at_x at_y =
           let d = mapped_from (name_of_reaction tree is.are_located.main) (declared reactions_of is.located) k y at_y in
           let s = zip_at IsPlacedAt (declared reactions_of is.located) reactions are.reactions k d.0 d.1 in
@@ -194,7 +195,7 @@ module _ (tree : FileTree) (tables : Tables) (nest : Nest) (is : IsNest tree tab
       }
 
 -- an answer that each right naming is equal to is the naming of the tree
-pub named_as : {E : Type 0} (tree : FileTree) (tables : Tables) (nest : Nest) (xs ps cs ts : List OwnName) (rs : List Placed) (r : Result ThingNames E)
+pub named_as : {E : Type 0} (tree : FileTree) (tables : Tables) (nest : Nest) (xs ps cs ts : List OwnName) (rs : List PlacedReaction) (r : Result ThingNames E)
     → ((n : IsNest tree tables nest) → AreFullNames xs ps cs ts rs (names_of tree n.are_located.main n.located))
     → IfOk r (λ t. (other : ThingNames) → AreFullNames xs ps cs ts rs other → other ≡ t)
     → IfOk r (λ t. (n : IsNest tree tables nest) → t ≡ names_of tree n.are_located.main n.located)

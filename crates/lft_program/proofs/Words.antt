@@ -5,7 +5,7 @@ use Rattle.std.proofs.lemmas.List.Elements.{All-nil, All-cons, All-head, All-tai
 use Rattle.lft_lists.specs.Bytes.{is_part}
 use Rattle.lft_tree.specs.Identifiers.{IsName}
 use Rattle.lft_program.specs.inner.{Extended.{Ending, dotted, hashed, endings, name_after, extended}, FullNames.{members, AreOfProgram, AreFew}}
-use Rattle.lft_program.specs.declared.naming.{OwnName.OwnName, Placed.Placed}
+use Rattle.lft_program.specs.declared.naming.{OwnName.OwnName, PlacedReaction.PlacedReaction}
 use Rattle.lft_program.proofs.{Distinct.main, FullNames.all_at}
 use Rattle.lft_ir.specs.{Names.{IsNameByte, AreWords}, inner.Places.{AreStarts, names_from}, declared.names.Starts.Starts}
 use Rattle.lft_ir.proofs.{Ranges.each_named, Decimals.All-decimal}
@@ -36,7 +36,7 @@ extended_fits texts (e ∷ es) all ends =
 main_fits : All (All IsNameByte) main
 main_fits = All-cons (All IsNameByte) (codes "main") [] (All-from_recursion IsNameByte (codes "main") (refl, (refl, (refl, (refl, tt))))) (All-nil (All IsNameByte))
 
-module _ (instances ports actions timers : List OwnName) (reactions : List Placed) (things : AreOfProgram instances ports actions timers reactions) (few : AreFew instances ports actions timers reactions) where
+module _ (instances ports actions timers : List OwnName) (reactions : List PlacedReaction) (things : AreOfProgram instances ports actions timers reactions) (few : AreFew instances ports actions timers reactions) where
   -- a dot and a name
   dotted_fits : All (λ d. All IsNameByte (dotted d).1) (members instances ports actions timers)
   dotted_fits =

@@ -20,7 +20,7 @@ pub struct OwnName<'a> {
 
 /// A reaction of an instance.
 #[derive(Clone, Copy)]
-pub(crate) struct Placed {
+pub(crate) struct PlacedReaction {
     /// The number of the instance.
     pub(crate) instance: u32,
     /// Its place among the instance's reactions, in order of declaration, counted from 0.
@@ -38,7 +38,11 @@ fn dotted_name(alloc: Global, instances: &Texts, thing: &OwnName<'_>) -> Result<
 }
 
 /// The name of a reaction, after that of its instance.
-fn hashed_name(alloc: Global, instances: &Texts, reaction: &Placed) -> Result<String, NoMemory>
+fn hashed_name(
+    alloc: Global,
+    instances: &Texts,
+    reaction: &PlacedReaction,
+) -> Result<String, NoMemory>
     requires { reaction.now.instance < length instances.now }
     ensures { IfOk result (λ r. string_bytes r ≡ name_after instances.now (hashed reaction.now)) }
 {
@@ -60,7 +64,11 @@ fn add_declared(alloc: Global, texts: &mut Texts, things: &[OwnName<'_>]) -> Res
 }
 
 /// Adds the names of these reactions, whose instances have their names there.
-fn add_placed(alloc: Global, texts: &mut Texts, reactions: &[Placed]) -> Result<(), NoMemory>
+fn add_placed(
+    alloc: Global,
+    texts: &mut Texts,
+    reactions: &[PlacedReaction],
+) -> Result<(), NoMemory>
     requires after { AreAfter (length texts.old) (map hashed reactions.now) }
     requires distinct { HasNoTwice (extended texts.old (map hashed reactions.now)) }
     ensures { OnOk result (texts.new ≡ extended texts.old (map hashed reactions.now)) }
@@ -111,7 +119,7 @@ fn all_names(
     ports: &[OwnName<'_>],
     actions: &[OwnName<'_>],
     timers: &[OwnName<'_>],
-    reactions: &[Placed],
+    reactions: &[PlacedReaction],
 ) -> Result<Texts, NoMemory>
     requires things { AreOfProgram instances.now ports.now actions.now timers.now reactions.now }
     requires few { AreFew instances.now ports.now actions.now timers.now reactions.now }
@@ -135,7 +143,7 @@ pub(crate) fn full_names(
     ports: &[OwnName<'_>],
     actions: &[OwnName<'_>],
     timers: &[OwnName<'_>],
-    reactions: &[Placed],
+    reactions: &[PlacedReaction],
 ) -> Result<NameTable, NoMemory>
     requires things { AreOfProgram instances.now ports.now actions.now timers.now reactions.now }
     requires few { AreFew instances.now ports.now actions.now timers.now reactions.now }

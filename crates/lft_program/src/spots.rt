@@ -7,7 +7,7 @@ ghost use Rattle.lft_program.specs.inner.Laying.{AreNames, AreTriggers, Each, Ha
 
 use crate::nesting::{Nest, Numbering};
 use lft_ir::{Name, Names, Trigger, Triggers};
-use lft_resolve::by_number::{Cue, Spot};
+use lft_resolve::by_number::{Cue, NamedThing};
 use lft_resolve::expansion::End;
 use lft_tag::NoMemory;
 use std::alloc::Global;
@@ -38,13 +38,13 @@ fn port_number(nest: &Nest, instance: u32, end: End) -> u32
 }
 
 // the port or action that a spot is in an instance
-fn name(nest: &Nest, instance: u32, spot: Spot) -> Name
+fn name(nest: &Nest, instance: u32, spot: NamedThing) -> Name
     requires { HasName nest.now instance spot }
     ensures { name_at nest.now instance spot ≡ Some result }
 {
     match spot {
-        Spot::Port(end) => Name::Port(port_number(nest, instance, end)),
-        Spot::Action(place) => Name::Action(number_of(&nest.actions, instance, place)),
+        NamedThing::Port(end) => Name::Port(port_number(nest, instance, end)),
+        NamedThing::Action(place) => Name::Action(number_of(&nest.actions, instance, place)),
     }
 }
 
@@ -66,7 +66,7 @@ pub(crate) fn names(
     alloc: Global,
     nest: &Nest,
     instance: u32,
-    spots: &[Spot],
+    spots: &[NamedThing],
 ) -> Result<Names, NoMemory>
     requires { Each (HasName nest.now instance) spots.now }
     ensures { IfOk result (AreNames nest.now instance spots.now) }

@@ -6,7 +6,7 @@ ghost use Rattle.lft_program.specs.inner.{Nests.IsNest, OwnNames.{name_lists, ow
 ghost use Rattle.lft_program.specs.declared.nesting.tables.Tables.{Tables};
 ghost use Rattle.lft_resolve.specs.inner.References.{reactor_trees};
 
-use crate::naming::{OwnName, Placed};
+use crate::naming::{OwnName, PlacedReaction};
 use crate::nesting::Nest;
 use crate::own_names::{MemberKind, own_names};
 use lft_resolve::expansion::{Instance, Thing};
@@ -21,7 +21,7 @@ pub struct Lists<'a> {
     pub ports: Vec<OwnName<'a>>,
     pub(crate) actions: Vec<OwnName<'a>>,
     pub(crate) timers: Vec<OwnName<'a>>,
-    pub(crate) reactions: Vec<Placed>,
+    pub(crate) reactions: Vec<PlacedReaction>,
 }
 
 /// The name at this place of the reactor of this instance; an empty one where there is none.
@@ -90,12 +90,12 @@ fn declared_of<'a>(
 }
 
 /// The reactions by their places.
-fn placed(alloc: Global, things: &[Thing]) -> Result<Vec<Placed>, NoMemory>
+fn placed(alloc: Global, things: &[Thing]) -> Result<Vec<PlacedReaction>, NoMemory>
     ensures { IfOk result (λ v. v.items ≡ map placed_at things.now) }
 {
     let mut placed = Vec::new(alloc);
     for thing in things {
-        placed.push(Placed {
+        placed.push(PlacedReaction {
             instance: thing.instance,
             place: thing.place,
         })?;

@@ -4,7 +4,7 @@ use Rattle.std.specs.Borrow.{Bor}
 use Rattle.lft_tree.specs.{Tree.{MemberTree, ReactorTree, reactors_of}, View.{file_view, member_view, reactor_view}}
 use Rattle.lft_tree.specs.declared.tree.{Item.Item, Member.Member, Reactor.Reactor, TokenRange.TokenRange}
 use Rattle.lft_syntax.specs.declared.token.Token.{Token}
-use Rattle.lft_text_diagnostics.specs.declared.spots.Spot.{Spot}
+use Rattle.lft_text_diagnostics.specs.declared.spots.Span.{Span}
 use Rattle.lft_validate.specs.{Faults.number_of, Witnesses.{Shows, fault_shown}, declared.witness.Witness.Witness}
 use Rattle.lft_program_diagnostics.specs.{inner.Spots.behind, Spots.{member_of, reactors_among, witness_spot}, Reasons.IsShownAt}
 use Rattle.lft_tree.specs.declared.tree.Item.TheVariants as items
@@ -27,5 +27,5 @@ there P (x ∷ reactors) zero m a = member_there (P (reactor_view x)) x.members.
 there P (x ∷ reactors) (suc r) m a = there P reactors r m a
 
 -- what is told where a witness stands
-pub witnessed : (tokens : List Token) (rs : List (Bor Reactor)) (reactors : List Reactor) → behind rs ≡ reactors → (w : Witness) → Shows (map reactor_view reactors) w → (spot : Option Spot) → spot ≡ witness_spot tokens (behind rs) w → IsShownAt tokens reactors (number_of (fault_shown w)) spot
+pub witnessed : (tokens : List Token) (rs : List (Bor Reactor)) (reactors : List Reactor) → behind rs ≡ reactors → (w : Witness) → Shows (map reactor_view reactors) w → (spot : Option Span) → spot ≡ witness_spot tokens (behind rs) w → IsShownAt tokens reactors (number_of (fault_shown w)) spot
 witnessed tokens rs reactors same w shows spot at = inl (record { witness = w; shows = shows; shows_cause = refl; at = at ∙ ap (λ (xs : List Reactor). witness_spot tokens xs w) same })

@@ -3,19 +3,19 @@ use Rattle.std.specs.Prelude.{◌≡◌, ℕ, ◌⊎◌, List, ◌++◌, Option,
 use Rattle.lft_tree.specs.{View.{file_view, reactor_view}, declared.tree.{Item.Item, Reactor.Reactor, TokenRange.TokenRange}}
 use Rattle.lft_syntax.specs.{declared.token.Token.Token, Lexes.Lexes, Placed.FileStands, Grammar.Spells, View.lexemes}
 use Rattle.lft_resolve.specs.Causes.{IsFirst, causes}
-use Rattle.lft_text_diagnostics.specs.{Pages.SaysSpot, declared.{pages.Page.Page, spots.Spot.Spot}}
+use Rattle.lft_text_diagnostics.specs.{Pages.SaysSpot, declared.{pages.Page.Page, spots.Span.Span}}
 use Rattle.lft_validate.specs.{Faults.number_of, Witnesses.{Shows, fault_shown}, declared.witness.Witness.Witness}
 use Rattle.lft_program_diagnostics.specs.{Sentences.{fault_told, said, words_in}, declared.sentence.Sentence.Sentence, Spots.{reactors_among, witness_spot}}
 
 -- the words begin with where the bytes stand, and then with this sentence
-pub record BeginsAt (t : List ℕ) (files : List Page) (spot : Option Spot) (sentence words : List ℕ) : Type 0 where
+pub record BeginsAt (t : List ℕ) (files : List Page) (spot : Option Span) (sentence words : List ℕ) : Type 0 where
   pub start : List ℕ
   pub rest : List ℕ
   pub whole : words ≡ start ++ sentence ++ codes ".\n" ++ rest
   pub place : SaysSpot t files spot start
 
 -- a witness of these reactors shows the cause, and stands at these bytes
-pub record HasWitnessAt (tokens : List Token) (reactors : List Reactor) (cause : ℕ) (spot : Option Spot) : Type 0 where
+pub record HasWitnessAt (tokens : List Token) (reactors : List Reactor) (cause : ℕ) (spot : Option Span) : Type 0 where
   pub witness : Witness
   pub shows : Shows (map reactor_view reactors) witness
   pub shows_cause : number_of (fault_shown witness) ≡ cause
@@ -26,12 +26,12 @@ abbrev pub IsOfWhole : ℕ → Type 0
 IsOfWhole cause = (cause ≡ 5) ⊎ (cause ≡ 10) ⊎ (cause ≡ 14) ⊎ (cause ≡ 15)
 
 -- the bytes are those of a witness, unless several places show the cause together
-abbrev pub IsShownAt : List Token → List Reactor → ℕ → Option Spot → Type 0
+abbrev pub IsShownAt : List Token → List Reactor → ℕ → Option Span → Type 0
 IsShownAt tokens reactors cause spot = HasWitnessAt tokens reactors cause spot ⊎ IsOfWhole cause
 
 -- the words begin with where the cause is shown in these parts, and a sentence that tells it
 pub record IsToldIn (t : List ℕ) (tokens : List Token) (files : List Page) (parts : List Item) (cause : ℕ) (words : List ℕ) : Type 0 where
-  pub spot : Option Spot
+  pub spot : Option Span
   pub shown : IsShownAt tokens (reactors_among parts) cause spot
   pub sentence : Sentence
   pub tells : number_of (fault_told sentence) ≡ cause

@@ -4,7 +4,7 @@ use Rattle.lft_tree.specs.declared.tree.{TimeExpression.TimeExpression, Referenc
 use Rattle.lft_tree.specs.declared.tree.{Reactor.Reactor, Item.Item}
 use Rattle.lft_syntax.specs.{Placed.token_of, declared.token.Token.Token}
 use Rattle.lft_resolve.specs.declared.kinds.Role.{Role, TheVariants.{Read, Effect, Source, Destination}}
-use Rattle.lft_text_diagnostics.specs.{Spots.{last_of_head, last_of_name, last_of_time, span}, declared.spots.Spot.Spot}
+use Rattle.lft_text_diagnostics.specs.{Spots.{last_of_head, last_of_name, last_of_time, span}, declared.spots.Span.Span}
 use Rattle.lft_validate.specs.{Findings.part_found, declared.{finding.MemberPart.MemberPart, witness.Witness.Witness}}
 use Rattle.lft_tree.specs.declared.tree.Trigger.TheVariants as triggers
 use Rattle.lft_tree.specs.declared.tree.Member.TheVariants as members
@@ -67,19 +67,19 @@ member_at (members.Reaction x) = Some x.at
 member_at _ = None
 
 -- the bytes of a token
-abbrev pub token_spot : List Token → ℕ → Option Spot
+abbrev pub token_spot : List Token → ℕ → Option Span
 token_spot tokens at = span tokens at at
 
 -- the bytes of a name
-abbrev pub name_spot : List Token → Reference → Option Spot
+abbrev pub name_spot : List Token → Reference → Option Span
 name_spot tokens x = span tokens x.at (last_of_name x)
 
 -- the bytes of a time
-abbrev pub time_spot : List Token → TimeExpression → Option Spot
+abbrev pub time_spot : List Token → TimeExpression → Option Span
 time_spot tokens x = span tokens (token_of x) (last_of_time x)
 
 -- the bytes of a reactor's name, or of `main reactor` where it has none
-abbrev pub head_spot : List Token → Reactor → Option Spot
+abbrev pub head_spot : List Token → Reactor → Option Span
 head_spot tokens r = span tokens r.at (last_of_head r)
 
 -- the token of a reactor's name, if it has one
@@ -87,19 +87,19 @@ abbrev pub named_at : Reactor → Option ℕ
 named_at r = option_map (λ name. r.at) r.name
 
 -- the bytes of the name with that role and place in a member
-abbrev pub named_spot : List Token → Member → Role → ℕ → Option Spot
+abbrev pub named_spot : List Token → Member → Role → ℕ → Option Span
 named_spot tokens m role n = option_and_then (name_spot tokens) (slice_get (names_in role m) n)
 
 -- the bytes of the time with that place in a member
-abbrev pub timed_spot : List Token → Member → ℕ → Option Spot
+abbrev pub timed_spot : List Token → Member → ℕ → Option Span
 timed_spot tokens m n = option_and_then (time_spot tokens) (slice_get (times_in m) n)
 
 -- the bytes of the parameter's name in the value with that place in a member
-abbrev pub given_spot : List Token → Member → ℕ → Option Spot
+abbrev pub given_spot : List Token → Member → ℕ → Option Span
 given_spot tokens m n = option_and_then (λ a. token_spot tokens a.at) (slice_get (given_in m) n)
 
 -- the bytes of a part of a member
-abbrev pub part_spot : List Token → Member → MemberPart → Option Spot
+abbrev pub part_spot : List Token → Member → MemberPart → Option Span
 part_spot tokens m parts.Whole = option_and_then (token_spot tokens) (member_at m)
 part_spot tokens m parts.Declared = option_and_then (token_spot tokens) (declared_at m)
 part_spot tokens m (parts.Name role n) = named_spot tokens m role n
@@ -119,7 +119,7 @@ abbrev pub declaration_at : List Reactor → ℕ → ℕ → Option ℕ
 declaration_at reactors r n = option_and_then (λ x. slice_get (declared_in x) n) (slice_get reactors r)
 
 -- where what the witness shows of these reactors stands: of two that are one, or that write one port, the second
-abbrev pub witness_spot : List Token → List Reactor → Witness → Option Spot
+abbrev pub witness_spot : List Token → List Reactor → Witness → Option Span
 witness_spot tokens reactors witness.NoMain = None
 witness_spot tokens reactors (witness.TwoMains first second) = option_and_then (head_spot tokens) (slice_get reactors second)
 witness_spot tokens reactors (witness.SameReactors first second) = option_and_then (token_spot tokens) (slice_get (filter_map named_at reactors) second)

@@ -5,8 +5,8 @@ ghost use Rattle.lft_validate.specs.Findings.{fault_found};
 ghost use Rattle.lft_program_diagnostics.specs.inner.Sentences.{IsOf};
 ghost use Rattle.lft_validate.specs.declared.fault.ProgramFault.TheVariants as faults;
 
-use crate::reason::Reason;
-use crate::refused::{Refused, Site};
+use crate::reason::WhyRefused;
+use crate::refused::{MemberSite, Refused};
 use crate::sentence::Sentence;
 use crate::spots::{name_at, time_at};
 use crate::unknown::instance_of;
@@ -21,26 +21,26 @@ impl<'a> Refused<'a> {
     /// What the name is, and why it may not stand there.
     fn not_there(
         &self,
-        site: Site<'a>,
+        site: MemberSite<'a>,
         name: String,
         kind: Kind,
         why: &'static str,
-    ) -> Result<Reason, NoMemory>
+    ) -> Result<WhyRefused, NoMemory>
         ensures { IfOk result (IsOf faults.WrongPlace) }
     {
         let owner = reactor_words(self.alloc, site.reactor)?;
         let names = [owner.as_str(), name.as_str(), kind_words(kind), why];
-        Reason::of(self.alloc, Sentence::WrongPlace, &names)
+        WhyRefused::of(self.alloc, Sentence::WrongPlace, &names)
     }
 
     /// A name may not stand there.
     fn wrong_place(
         &self,
-        site: Site<'a>,
+        site: MemberSite<'a>,
         role: Role,
         place: usize,
         kind: Kind,
-    ) -> Result<Reason, NoMemory>
+    ) -> Result<WhyRefused, NoMemory>
         ensures { IfOk result (IsOf faults.WrongPlace) }
     {
         // A finding names what its member has, so this doesn't come.
@@ -53,7 +53,12 @@ impl<'a> Refused<'a> {
     }
 
     /// A time names what is no parameter.
-    fn wrong_time(&self, site: Site<'a>, place: usize, kind: Kind) -> Result<Reason, NoMemory>
+    fn wrong_time(
+        &self,
+        site: MemberSite<'a>,
+        place: usize,
+        kind: Kind,
+    ) -> Result<WhyRefused, NoMemory>
         ensures { IfOk result (IsOf faults.WrongPlace) }
     {
         let Some(TimeExpression::Parameter { name, .. }) = time_at(site.member, place) else {
@@ -65,17 +70,17 @@ impl<'a> Refused<'a> {
     }
 
     /// The main reactor has a port.
-    fn main_port(&self, site: Site<'a>) -> Result<Reason, NoMemory>
+    fn main_port(&self, site: MemberSite<'a>) -> Result<WhyRefused, NoMemory>
         ensures { IfOk result (IsOf faults.MainHasPorts) }
     {
         let Some(name) = declared_name(site.member) else {
             return self.plain(Sentence::MainPort);
         };
-        Reason::of(self.alloc, Sentence::MainPort, &[name])
+        WhyRefused::of(self.alloc, Sentence::MainPort, &[name])
     }
 
     /// The two lists of a connection differ in length.
-    fn widths(&self, site: Site<'a>) -> Result<Reason, NoMemory>
+    fn widths(&self, site: MemberSite<'a>) -> Result<WhyRefused, NoMemory>
         ensures { IfOk result (IsOf faults.WidthMismatch) }
     {
         let Member::Connection(connection) = site.member else {
@@ -86,20 +91,25 @@ impl<'a> Refused<'a> {
         let from = from.format(connection.sources.len() as u64);
         let to = to.format(connection.destinations.len() as u64);
         let names = [owner.as_str(), from, to];
-        Reason::of(self.alloc, Sentence::Widths, &names)
+        WhyRefused::of(self.alloc, Sentence::Widths, &names)
     }
 
     /// A reaction has no trigger.
-    fn no_trigger(&self, site: Site<'a>) -> Result<Reason, NoMemory>
+    fn no_trigger(&self, site: MemberSite<'a>) -> Result<WhyRefused, NoMemory>
         ensures { IfOk result (IsOf faults.NoTrigger) }
     {
         let owner = reactor_words(self.alloc, site.reactor)?;
         let names = [owner.as_str()];
-        Reason::of(self.alloc, Sentence::NoTrigger, &names)
+        WhyRefused::of(self.alloc, Sentence::NoTrigger, &names)
     }
 
     /// A name stands twice in one role of a reaction.
-    fn named_twice(&self, site: Site<'a>, role: Role, second: usize) -> Result<Reason, NoMemory>
+    fn named_twice(
+        &self,
+        site: MemberSite<'a>,
+        role: Role,
+        second: usize,
+    ) -> Result<WhyRefused, NoMemory>
         ensures { IfOk result (IsOf faults.DuplicateInput) }
     {
         let Some(name) = name_at(site.member, role, second) else {
@@ -108,11 +118,11 @@ impl<'a> Refused<'a> {
         let owner = reactor_words(self.alloc, site.reactor)?;
         let name = name_words(self.alloc, name)?;
         let names = [owner.as_str(), name.as_str(), list_words(role)];
-        Reason::of(self.alloc, Sentence::NamedTwice, &names)
+        WhyRefused::of(self.alloc, Sentence::NamedTwice, &names)
     }
 
     /// An instance gives a parameter two values.
-    fn given_twice(&self, site: Site<'a>, second: usize) -> Result<Reason, NoMemory>
+    fn given_twice(&self, site: MemberSite<'a>, second: usize) -> Result<WhyRefused, NoMemory>
         ensures { IfOk result (IsOf faults.DuplicateName) }
     {
         let Some(instance) = instance_of(site.member) else {
@@ -123,20 +133,24 @@ impl<'a> Refused<'a> {
         }
         let name = instance.given[second].name.as_str();
         let names = [instance.name.as_str(), name];
-        Reason::of(self.alloc, Sentence::GivenTwice, &names)
+        WhyRefused::of(self.alloc, Sentence::GivenTwice, &names)
     }
 
     /// A time is too long.
-    fn long_time(&self, site: Site<'a>) -> Result<Reason, NoMemory>
+    fn long_time(&self, site: MemberSite<'a>) -> Result<WhyRefused, NoMemory>
         ensures { IfOk result (IsOf faults.DelayTooLong) }
     {
         let owner = reactor_words(self.alloc, site.reactor)?;
         let names = [owner.as_str()];
-        Reason::of(self.alloc, Sentence::LongTime, &names)
+        WhyRefused::of(self.alloc, Sentence::LongTime, &names)
     }
 
     /// What is said of the finding.
-    pub(crate) fn of_finding(&self, site: Site<'a>, finding: Finding) -> Result<Reason, NoMemory>
+    pub(crate) fn of_finding(
+        &self,
+        site: MemberSite<'a>,
+        finding: Finding,
+    ) -> Result<WhyRefused, NoMemory>
         ensures { IfOk result (IsOf (fault_found finding)) }
     {
         match finding {

@@ -5,27 +5,31 @@ ghost use Rattle.std.specs.Prelude.{◌≡◌, IfOk};
 use crate::near::{push_link, push_question};
 use crate::sentence::Sentence;
 use lft_tag::NoMemory;
-use lft_text_diagnostics::Spot;
+use lft_text_diagnostics::Span;
 use std::alloc::Global;
 
 /// Why a program is refused.
 #[derive(Drop)]
-pub(crate) struct Reason {
+pub(crate) struct WhyRefused {
     /// What is wrong.
     pub sentence: Sentence,
     /// The names in the sentence, in order.
     pub names: Vec<String>,
     /// Where that is.
-    pub at: Option<Spot>,
+    pub at: Option<Span>,
     /// What stands there twice, or is written from there too.
-    pub before: Option<Spot>,
+    pub before: Option<Span>,
     /// What to write, a sentence a line.
     pub ways: String,
 }
 
-impl Reason {
+impl WhyRefused {
     /// The sentence with these names.
-    pub(crate) fn of(alloc: Global, sentence: Sentence, names: &[&str]) -> Result<Reason, NoMemory>
+    pub(crate) fn of(
+        alloc: Global,
+        sentence: Sentence,
+        names: &[&str],
+    ) -> Result<WhyRefused, NoMemory>
         ensures { IfOk result (λ r. r.sentence ≡ sentence) }
     {
         let mut owned = Vec::new(alloc);
@@ -34,7 +38,7 @@ impl Reason {
             copy.push_str(*name)?;
             owned.push(copy)?;
         }
-        Ok(Reason {
+        Ok(WhyRefused {
             sentence,
             names: owned,
             at: None,
@@ -44,26 +48,26 @@ impl Reason {
     }
 
     /// The same with that place.
-    pub(crate) fn at(self, spot: Option<Spot>) -> Reason
+    pub(crate) fn at(self, spot: Option<Span>) -> WhyRefused
         ensures at { result.at ≡ spot }
         ensures sentence { result.sentence ≡ self.sentence }
     {
-        Reason { at: spot, ..self }
+        WhyRefused { at: spot, ..self }
     }
 
     /// The same with that place before.
-    pub(crate) fn before(self, spot: Option<Spot>) -> Reason
+    pub(crate) fn before(self, spot: Option<Span>) -> WhyRefused
         ensures at { result.at ≡ self.at }
         ensures sentence { result.sentence ≡ self.sentence }
     {
-        Reason {
+        WhyRefused {
             before: spot,
             ..self
         }
     }
 
     /// The same with what to write.
-    pub(crate) fn way(self, words: &str) -> Result<Reason, NoMemory>
+    pub(crate) fn way(self, words: &str) -> Result<WhyRefused, NoMemory>
         ensures { IfOk result (λ r. r.sentence ≡ self.sentence) }
     {
         let mut reason = self;
@@ -74,7 +78,7 @@ impl Reason {
     }
 
     /// The same with the question whether a name was meant, or a port of an instance.
-    pub(crate) fn ask(self, head: &str, port: Option<&str>) -> Result<Reason, NoMemory>
+    pub(crate) fn ask(self, head: &str, port: Option<&str>) -> Result<WhyRefused, NoMemory>
         ensures { IfOk result (λ r. r.sentence ≡ self.sentence) }
     {
         let mut reason = self;
@@ -83,7 +87,7 @@ impl Reason {
     }
 
     /// The same with what one reactor contains.
-    pub(crate) fn link(self, outer: &str, inner: &str) -> Result<Reason, NoMemory>
+    pub(crate) fn link(self, outer: &str, inner: &str) -> Result<WhyRefused, NoMemory>
         ensures { IfOk result (λ r. r.sentence ≡ self.sentence) }
     {
         let mut reason = self;

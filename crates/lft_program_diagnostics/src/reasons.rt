@@ -6,7 +6,7 @@ ghost use Rattle.lft_validate.specs.{Findings.fault_found, Witnesses.{Shows, fau
 ghost use Rattle.lft_program_diagnostics.specs.{inner.{Sentences.IsOf, Spots.behind}, Spots.member_of};
 ghost use Rattle.lft_validate.specs.declared.fault.ProgramFault.TheVariants as faults;
 
-use crate::reason::Reason;
+use crate::reason::WhyRefused;
 use crate::refused::Refused;
 use crate::sentence::Sentence;
 use crate::spots::name_at;
@@ -16,24 +16,24 @@ use lft_validate::{Finding, Naming, Witness};
 
 impl<'a> Refused<'a> {
     /// The sentence without names.
-    pub(crate) fn plain(&self, sentence: Sentence) -> Result<Reason, NoMemory>
+    pub(crate) fn plain(&self, sentence: Sentence) -> Result<WhyRefused, NoMemory>
         ensures { IfOk result (λ r. r.sentence ≡ sentence) }
     {
-        Reason::of(self.alloc, sentence, &[])
+        WhyRefused::of(self.alloc, sentence, &[])
     }
 
     /// Two reactors have one name.
-    fn same_reactors(&self, second: usize) -> Result<Reason, NoMemory>
+    fn same_reactors(&self, second: usize) -> Result<WhyRefused, NoMemory>
         ensures { IfOk result (IsOf faults.DuplicateName) }
     {
         let Some(name) = self.name_of_named(second) else {
             return self.plain(Sentence::SameReactors);
         };
-        Reason::of(self.alloc, Sentence::SameReactors, &[name])
+        WhyRefused::of(self.alloc, Sentence::SameReactors, &[name])
     }
 
     /// A reactor declares two things of one name.
-    fn same_things(&self, place: usize, second: usize) -> Result<Reason, NoMemory>
+    fn same_things(&self, place: usize, second: usize) -> Result<WhyRefused, NoMemory>
         ensures { IfOk result (IsOf faults.DuplicateName) }
     {
         let (Some(name), Some(reactor)) = (self.declaration(place, second), self.reactor(place))
@@ -42,11 +42,16 @@ impl<'a> Refused<'a> {
         };
         let owner = reactor_words(self.alloc, reactor)?;
         let names = [owner.as_str(), name];
-        Reason::of(self.alloc, Sentence::SameThings, &names)
+        WhyRefused::of(self.alloc, Sentence::SameThings, &names)
     }
 
     /// A port is written at two places.
-    fn two_sources(&self, place: usize, first: Naming, second: Naming) -> Result<Reason, NoMemory>
+    fn two_sources(
+        &self,
+        place: usize,
+        first: Naming,
+        second: Naming,
+    ) -> Result<WhyRefused, NoMemory>
         ensures { IfOk result (IsOf faults.TwoSources) }
     {
         let Some(site) = self.site(place, second.member) else {
@@ -59,11 +64,11 @@ impl<'a> Refused<'a> {
         let name = name_words(self.alloc, name)?;
         let writers = writer_words(first.role, second.role);
         let names = [owner.as_str(), name.as_str(), writers];
-        Reason::of(self.alloc, Sentence::TwoSources, &names)
+        WhyRefused::of(self.alloc, Sentence::TwoSources, &names)
     }
 
     /// The default of a parameter is too long.
-    fn long_default(&self, place: usize, parameter: usize) -> Result<Reason, NoMemory>
+    fn long_default(&self, place: usize, parameter: usize) -> Result<WhyRefused, NoMemory>
         ensures { IfOk result (IsOf faults.DelayTooLong) }
     {
         let (Some(name), Some(reactor)) = (self.declaration(place, parameter), self.reactor(place))
@@ -72,11 +77,16 @@ impl<'a> Refused<'a> {
         };
         let owner = reactor_words(self.alloc, reactor)?;
         let names = [name, owner.as_str()];
-        Reason::of(self.alloc, Sentence::LongDefault, &names)
+        WhyRefused::of(self.alloc, Sentence::LongDefault, &names)
     }
 
     /// What is said of a finding in the member with that place in the reactor with that place.
-    fn of_member(&self, reactor: usize, member: usize, finding: Finding) -> Result<Reason, NoMemory>
+    fn of_member(
+        &self,
+        reactor: usize,
+        member: usize,
+        finding: Finding,
+    ) -> Result<WhyRefused, NoMemory>
         requires { IsSome (member_of (behind self.now.reactors.now) reactor member) }
         ensures { IfOk result (IsOf (fault_found finding)) }
     {
@@ -87,7 +97,7 @@ impl<'a> Refused<'a> {
     }
 
     /// What is said of a witness of these reactors.
-    pub(crate) fn of_witness(&self, witness: Witness) -> Result<Reason, NoMemory>
+    pub(crate) fn of_witness(&self, witness: Witness) -> Result<WhyRefused, NoMemory>
         requires { Shows (map reactor_view (behind self.now.reactors.now)) witness }
         ensures { IfOk result (IsOf (fault_shown witness)) }
     {

@@ -4,12 +4,12 @@ ghost use Rattle.std.specs.Prelude.{◌≡◌, IfOk};
 ghost use Rattle.lft_program_diagnostics.specs.inner.Sentences.{IsOf};
 ghost use Rattle.lft_validate.specs.declared.fault.ProgramFault.TheVariants as faults;
 
-use crate::reason::Reason;
+use crate::reason::WhyRefused;
 use crate::refused::Refused;
 use crate::sentence::Sentence;
 use crate::words::reactor_words;
 use lft_tag::NoMemory;
-use lft_text_diagnostics::{Spot, token_spot};
+use lft_text_diagnostics::{Span, token_spot};
 use lft_tree::{Instance, Member, Reactor};
 
 /// The first instance in the reactor of one with that name.
@@ -34,14 +34,19 @@ fn own_name(reactor: &Reactor) -> &str {
 
 impl<'a> Refused<'a> {
     /// Where the first reactor has an instance of the second.
-    fn instance_spot(&self, first: usize, second: usize) -> Option<Spot> {
+    fn instance_spot(&self, first: usize, second: usize) -> Option<Span> {
         let name = own_name(self.reactor(second)?);
         let instance = first_instance(self.reactor(first)?, name)?;
         token_spot(self.tokens, instance.reactor_at)
     }
 
     /// The reason with that the first reactor has an instance of the second.
-    fn with_step(&self, reason: Reason, first: usize, second: usize) -> Result<Reason, NoMemory>
+    fn with_step(
+        &self,
+        reason: WhyRefused,
+        first: usize,
+        second: usize,
+    ) -> Result<WhyRefused, NoMemory>
         ensures { IfOk result (λ r. r.sentence ≡ reason.sentence) }
     {
         let (Some(outer), Some(inner)) = (self.reactor(first), self.reactor(second)) else {
@@ -51,7 +56,7 @@ impl<'a> Refused<'a> {
     }
 
     /// A reactor contains itself. Each of the circle has an instance of the next, and the last of the first.
-    pub(crate) fn recursive(&self, circle: &[usize]) -> Result<Reason, NoMemory>
+    pub(crate) fn recursive(&self, circle: &[usize]) -> Result<WhyRefused, NoMemory>
         ensures { IfOk result (IsOf faults.RecursiveReactor) }
     {
         if circle.is_empty() {
@@ -63,7 +68,7 @@ impl<'a> Refused<'a> {
         };
         let owner = reactor_words(self.alloc, reactor)?;
         let second = if circle.len() > 1 { circle[1] } else { first };
-        let mut reason = Reason::of(self.alloc, Sentence::Recursive, &[owner.as_str()])?.at(
+        let mut reason = WhyRefused::of(self.alloc, Sentence::Recursive, &[owner.as_str()])?.at(
             self.instance_spot(first, second),
         );
         for place in 0..circle.len() {

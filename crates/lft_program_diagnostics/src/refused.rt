@@ -19,7 +19,7 @@ pub(crate) struct Refused<'a> {
 
 /// A member of a reactor.
 #[derive(Clone, Copy)]
-pub(crate) struct Site<'a> {
+pub(crate) struct MemberSite<'a> {
     pub reactor: &'a Reactor,
     pub member: &'a Member,
 }
@@ -60,12 +60,12 @@ impl<'a> Refused<'a> {
     }
 
     /// The member with that place in the reactor with that place.
-    pub(crate) fn site(&self, reactor: usize, member: usize) -> Option<Site<'a>>
+    pub(crate) fn site(&self, reactor: usize, member: usize) -> Option<MemberSite<'a>>
         ensures { option_map (λ s. s.member.now) result ≡ member_of (behind self.now.reactors.now) reactor member }
     {
         let reactor = self.reactor(reactor)?;
         let member = reactor.members.get(member)?;
-        Some(Site { reactor, member })
+        Some(MemberSite { reactor, member })
     }
 
     /// The name of what a reactor declares with that number, parameters first.

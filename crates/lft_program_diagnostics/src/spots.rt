@@ -7,7 +7,7 @@ ghost use Rattle.lft_program_diagnostics.specs.Spots.{declared_at as the_declare
 use lft_resolve::kinds::Role;
 use lft_syntax::Token;
 use lft_tag::NoMemory;
-use lft_text_diagnostics::{Spot, name_spot, reactor_spot, time_spot, token_spot};
+use lft_text_diagnostics::{Span, name_spot, reactor_spot, time_spot, token_spot};
 use lft_tree::{Item, Member, Reaction, Reactor, Reference, TimeExpression, Timer, Trigger};
 use lft_validate::{MemberPart, Witness};
 use std::alloc::Global;
@@ -195,21 +195,21 @@ fn member_at(member: &Member) -> Option<usize>
 }
 
 /// Where the name with that role and place in the member stands.
-fn named_spot(tokens: &[Token], member: &Member, role: Role, place: usize) -> Option<Spot>
+fn named_spot(tokens: &[Token], member: &Member, role: Role, place: usize) -> Option<Span>
     ensures { result ≡ the_named_spot tokens.now member.now role place }
 {
     name_spot(tokens, name_at(member, role, place)?)
 }
 
 /// Where the time with that place in the member stands.
-fn timed_spot(tokens: &[Token], member: &Member, place: usize) -> Option<Spot>
+fn timed_spot(tokens: &[Token], member: &Member, place: usize) -> Option<Span>
     ensures { result ≡ the_timed_spot tokens.now member.now place }
 {
     time_spot(tokens, time_at(member, place)?)
 }
 
 /// Where the parameter's name in the value with that place stands.
-fn given_spot(tokens: &[Token], member: &Member, place: usize) -> Option<Spot>
+fn given_spot(tokens: &[Token], member: &Member, place: usize) -> Option<Span>
     ensures { result ≡ the_given_spot tokens.now member.now place }
 {
     match member {
@@ -219,7 +219,7 @@ fn given_spot(tokens: &[Token], member: &Member, place: usize) -> Option<Spot>
 }
 
 /// Where that part of the member stands.
-fn part_spot(tokens: &[Token], member: &Member, part: MemberPart) -> Option<Spot>
+fn part_spot(tokens: &[Token], member: &Member, part: MemberPart) -> Option<Span>
     ensures { result ≡ the_part_spot tokens.now member.now part }
 {
     match part {
@@ -264,7 +264,7 @@ fn declaration_at(reactors: &[&Reactor], reactor: usize, number: usize) -> Optio
 }
 
 /// Where what the witness shows stands: of two that are one the second.
-pub(crate) fn spot_of(tokens: &[Token], reactors: &[&Reactor], witness: Witness) -> Option<Spot>
+pub(crate) fn spot_of(tokens: &[Token], reactors: &[&Reactor], witness: Witness) -> Option<Span>
     ensures { result ≡ witness_spot tokens.now (behind reactors.now) witness }
 {
     match witness {

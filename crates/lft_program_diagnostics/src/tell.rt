@@ -11,7 +11,7 @@ ghost use Rattle.lft_program_diagnostics.specs.{Reasons.{BeginsAt, IsShownAt, Is
 ghost use Rattle.lft_program_diagnostics.specs.Spots.{reactors_among as the_reactors_among, witness_spot};
 ghost use Rattle.lft_program.specs.declared.refusal.Refusal.TheVariants as refusals;
 
-use crate::reason::Reason;
+use crate::reason::WhyRefused;
 use crate::refused::Refused;
 use crate::sentence::push_said;
 use crate::spots::{reactors_among, spot_of};
@@ -19,7 +19,7 @@ use lft_program::Refusal;
 use lft_syntax::{Token, Tokens};
 use lft_tag::NoMemory;
 use lft_text_diagnostics::words::push_way;
-use lft_text_diagnostics::{Page, Spot, place_words, push_marked};
+use lft_text_diagnostics::{Page, Span, place_words, push_marked};
 use lft_tree::{Ast, Reactor};
 use lft_validate::{Finding, Witness};
 use std::alloc::Global;
@@ -76,12 +76,12 @@ fn first_found(finding: Finding) -> Option<Finding> {
 }
 
 /// Where the first of the two things that a witness names stands, if it names two.
-fn spot_before(tokens: &[Token], reactors: &[&Reactor], witness: Witness) -> Option<Spot> {
+fn spot_before(tokens: &[Token], reactors: &[&Reactor], witness: Witness) -> Option<Span> {
     spot_of(tokens, reactors, first_of(witness)?)
 }
 
 /// What is said of a witness, and where it stands.
-fn of_witness(refused: &Refused, witness: Witness) -> Result<Reason, NoMemory>
+fn of_witness(refused: &Refused, witness: Witness) -> Result<WhyRefused, NoMemory>
     requires { Shows (map reactor_view (behind refused.now.reactors.now)) witness }
     ensures fault { IfOk result (IsOf (fault_shown witness)) }
     ensures at { IfOk result (λ r. r.at ≡ witness_spot refused.now.tokens.now (behind refused.now.reactors.now) witness) }
@@ -99,7 +99,7 @@ fn reason_of(
     tokens: &[Token],
     ast: &Ast,
     refusal: &Refusal,
-) -> Result<Reason, NoMemory>
+) -> Result<WhyRefused, NoMemory>
     requires { Tells (tree_view ast.now) refusal.now }
     ensures fault { IfOk result (IsOf (fault_of refusal.now)) }
     ensures shown { IfOk result (λ r. IsShownAt tokens.now (the_reactors_among ast.now.items.items) (cause_of refusal.now) r.at) }
@@ -123,7 +123,12 @@ fn reason_of(
 }
 
 /// Where it is, and the sentence.
-fn head_of(alloc: Global, text: &[u8], files: &[Page], reason: &Reason) -> Result<String, NoMemory>
+fn head_of(
+    alloc: Global,
+    text: &[u8],
+    files: &[Page],
+    reason: &WhyRefused,
+) -> Result<String, NoMemory>
     requires { ArePages text.now files.now }
     ensures { IfOk result (λ words. BeginsAt text.now files.now reason.now.at (sentence_of reason.now) (string_bytes words)) }
 {
@@ -134,7 +139,12 @@ fn head_of(alloc: Global, text: &[u8], files: &[Page], reason: &Reason) -> Resul
 }
 
 /// What is behind the sentence: both lines, and what to write.
-fn rest_of(alloc: Global, text: &[u8], files: &[Page], reason: &Reason) -> Result<String, NoMemory>
+fn rest_of(
+    alloc: Global,
+    text: &[u8],
+    files: &[Page],
+    reason: &WhyRefused,
+) -> Result<String, NoMemory>
     requires { ArePages text.now files.now }
 {
     let mut out = String::new(alloc);
@@ -146,7 +156,12 @@ fn rest_of(alloc: Global, text: &[u8], files: &[Page], reason: &Reason) -> Resul
 }
 
 /// The reason in lines.
-fn lines(alloc: Global, text: &[u8], files: &[Page], reason: &Reason) -> Result<String, NoMemory>
+fn lines(
+    alloc: Global,
+    text: &[u8],
+    files: &[Page],
+    reason: &WhyRefused,
+) -> Result<String, NoMemory>
     requires { ArePages text.now files.now }
     ensures { IfOk result (λ words. BeginsAt text.now files.now reason.now.at (sentence_of reason.now) (string_bytes words)) }
 {

@@ -5,8 +5,8 @@ ghost use Rattle.lft_text_diagnostics.specs.inner.Codes.{HasCodeWith};
 ghost use Rattle.lft_program_diagnostics.specs.inner.Sentences.{IsOf};
 ghost use Rattle.lft_validate.specs.declared.fault.ProgramFault.TheVariants as faults;
 
-use crate::reason::Reason;
-use crate::refused::{Refused, Site};
+use crate::reason::WhyRefused;
+use crate::refused::{MemberSite, Refused};
 use crate::sentence::Sentence;
 use crate::spots::{name_at, time_at};
 use crate::words::reactor_words;
@@ -36,7 +36,7 @@ pub fn way_of_code(text: &[u8], tokens: &[Token]) -> Option<&'static str>
 }
 
 /// The reason with a question, where some name was probably meant.
-fn meant(reason: Reason, near: Option<&str>) -> Result<Reason, NoMemory>
+fn meant(reason: WhyRefused, near: Option<&str>) -> Result<WhyRefused, NoMemory>
     ensures { IfOk result (λ r. r.sentence ≡ reason.sentence) }
 {
     match near {
@@ -47,7 +47,7 @@ fn meant(reason: Reason, near: Option<&str>) -> Result<Reason, NoMemory>
 
 impl<'a> Refused<'a> {
     /// An instance is of a reactor that isn't there.
-    pub(crate) fn unknown_reactor(&self, site: Site<'a>) -> Result<Reason, NoMemory>
+    pub(crate) fn unknown_reactor(&self, site: MemberSite<'a>) -> Result<WhyRefused, NoMemory>
         ensures { IfOk result (IsOf faults.UnknownReactor) }
     {
         let Some(instance) = instance_of(site.member) else {
@@ -56,7 +56,7 @@ impl<'a> Refused<'a> {
         let wanted = instance.reactor.as_str();
         let owner = reactor_words(self.alloc, site.reactor)?;
         let names = [owner.as_str(), wanted];
-        let reason = Reason::of(self.alloc, Sentence::UnknownReactor, &names)?;
+        let reason = WhyRefused::of(self.alloc, Sentence::UnknownReactor, &names)?;
         let reason = meant(reason, self.near_reactor(wanted)?)?;
         match way_of_code(self.text, self.tokens) {
             Some(way) => reason.way(way),
@@ -65,12 +65,12 @@ impl<'a> Refused<'a> {
     }
 
     /// A name without a port is nothing.
-    fn unknown_plain(&self, site: Site<'a>, wanted: &str) -> Result<Reason, NoMemory>
+    fn unknown_plain(&self, site: MemberSite<'a>, wanted: &str) -> Result<WhyRefused, NoMemory>
         ensures { IfOk result (IsOf faults.UnknownName) }
     {
         let owner = reactor_words(self.alloc, site.reactor)?;
         let names = [owner.as_str(), wanted];
-        let reason = Reason::of(self.alloc, Sentence::UnknownName, &names)?;
+        let reason = WhyRefused::of(self.alloc, Sentence::UnknownName, &names)?;
         let reason = meant(reason, self.near_declared(site.reactor, wanted)?)?;
         // A port of an instance may be meant, with the instance left out.
         match self.with_that_port(site.reactor, wanted)? {
@@ -80,12 +80,17 @@ impl<'a> Refused<'a> {
     }
 
     /// An instance is nothing whose port is named.
-    fn unknown_instance(&self, site: Site<'a>, head: &str, port: &str) -> Result<Reason, NoMemory>
+    fn unknown_instance(
+        &self,
+        site: MemberSite<'a>,
+        head: &str,
+        port: &str,
+    ) -> Result<WhyRefused, NoMemory>
         ensures { IfOk result (IsOf faults.UnknownName) }
     {
         let owner = reactor_words(self.alloc, site.reactor)?;
         let names = [owner.as_str(), head];
-        let reason = Reason::of(self.alloc, Sentence::UnknownInstance, &names)?;
+        let reason = WhyRefused::of(self.alloc, Sentence::UnknownInstance, &names)?;
         match self.near_instance(site.reactor, head, port)? {
             Some(near) => reason.ask(near, Some(port)),
             None => Ok(reason),
@@ -95,16 +100,16 @@ impl<'a> Refused<'a> {
     /// A port of an instance is nothing.
     fn unknown_port(
         &self,
-        site: Site<'a>,
+        site: MemberSite<'a>,
         instance: &Instance,
         port: &str,
-    ) -> Result<Reason, NoMemory>
+    ) -> Result<WhyRefused, NoMemory>
         ensures { IfOk result (IsOf faults.UnknownName) }
     {
         let owner = reactor_words(self.alloc, site.reactor)?;
         let (head, inner) = (instance.name.as_str(), instance.reactor.as_str());
         let names = [owner.as_str(), head, inner, port];
-        let reason = Reason::of(self.alloc, Sentence::UnknownPort, &names)?;
+        let reason = WhyRefused::of(self.alloc, Sentence::UnknownPort, &names)?;
         let Some(reactor) = self.named(inner) else {
             return Ok(reason);
         };
@@ -115,7 +120,7 @@ impl<'a> Refused<'a> {
     }
 
     /// The instance of that name in the reactor of the site.
-    fn instance(&self, site: Site<'a>, wanted: &str) -> Option<&'a Instance> {
+    fn instance(&self, site: MemberSite<'a>, wanted: &str) -> Option<&'a Instance> {
         for member in &site.reactor.members {
             if let Member::Instance(instance) = member {
                 if instance.name.as_str() == wanted {
@@ -129,10 +134,10 @@ impl<'a> Refused<'a> {
     /// A name is nothing.
     pub(crate) fn unknown_name(
         &self,
-        site: Site<'a>,
+        site: MemberSite<'a>,
         role: Role,
         place: usize,
-    ) -> Result<Reason, NoMemory>
+    ) -> Result<WhyRefused, NoMemory>
         ensures { IfOk result (IsOf faults.UnknownName) }
     {
         let Some(name) = name_at(site.member, role, place) else {
@@ -149,7 +154,11 @@ impl<'a> Refused<'a> {
     }
 
     /// A time names nothing.
-    pub(crate) fn unknown_time(&self, site: Site<'a>, place: usize) -> Result<Reason, NoMemory>
+    pub(crate) fn unknown_time(
+        &self,
+        site: MemberSite<'a>,
+        place: usize,
+    ) -> Result<WhyRefused, NoMemory>
         ensures { IfOk result (IsOf faults.UnknownName) }
     {
         let Some(TimeExpression::Parameter { name, .. }) = time_at(site.member, place) else {
@@ -158,14 +167,18 @@ impl<'a> Refused<'a> {
         let wanted = name.as_str();
         let owner = reactor_words(self.alloc, site.reactor)?;
         let names = [owner.as_str(), wanted];
-        let reason = Reason::of(self.alloc, Sentence::UnknownName, &names)?;
+        let reason = WhyRefused::of(self.alloc, Sentence::UnknownName, &names)?;
         let reason = meant(reason, self.near_parameter(site.reactor, wanted)?)?;
         let way = "A time is a number with a unit, or a parameter of the reactor.";
         reason.way(way)
     }
 
     /// A value is for what isn't a parameter.
-    pub(crate) fn unknown_parameter(&self, site: Site<'a>, value: usize) -> Result<Reason, NoMemory>
+    pub(crate) fn unknown_parameter(
+        &self,
+        site: MemberSite<'a>,
+        value: usize,
+    ) -> Result<WhyRefused, NoMemory>
         ensures { IfOk result (IsOf faults.UnknownName) }
     {
         let Some(instance) = instance_of(site.member) else {
@@ -178,7 +191,7 @@ impl<'a> Refused<'a> {
         let (wanted, inner) = (given.name.as_str(), instance.reactor.as_str());
         let owner = reactor_words(self.alloc, site.reactor)?;
         let names = [owner.as_str(), inner, wanted];
-        let reason = Reason::of(self.alloc, Sentence::UnknownParameter, &names)?;
+        let reason = WhyRefused::of(self.alloc, Sentence::UnknownParameter, &names)?;
         match self.named(inner) {
             Some(reactor) => meant(reason, self.near_parameter(reactor, wanted)?),
             None => Ok(reason),

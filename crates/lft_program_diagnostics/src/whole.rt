@@ -5,14 +5,14 @@ ghost use Rattle.std.specs.Prelude.{IfOk};
 ghost use Rattle.lft_program_diagnostics.specs.inner.Sentences.{IsOf};
 ghost use Rattle.lft_validate.specs.declared.fault.ProgramFault.TheVariants as faults;
 
-use crate::reason::Reason;
+use crate::reason::WhyRefused;
 use crate::refused::Refused;
 use crate::sentence::Sentence;
 use crate::ways::first_place;
 use itoa::Buffer;
 use lft_program::{Excess, LimitedKind, Way};
 use lft_tag::NoMemory;
-use lft_text_diagnostics::{Spot, name_spot, time_spot};
+use lft_text_diagnostics::{Span, name_spot, time_spot};
 use lft_tree::Reference;
 
 /// More ports of a loop aren't named.
@@ -67,13 +67,13 @@ impl<'a> Refused<'a> {
     }
 
     /// Where the name at which the single connection with that place on the way ends stands.
-    fn end_spot(&self, way: &Way, place: usize) -> Option<Spot> {
+    fn end_spot(&self, way: &Way, place: usize) -> Option<Span> {
         let (_, name) = self.end(way, place)?;
         name_spot(self.tokens, name)
     }
 
     /// Where the delay of the single connection with that place on the way stands.
-    fn delay_spot(&self, way: &Way, place: usize) -> Option<Spot> {
+    fn delay_spot(&self, way: &Way, place: usize) -> Option<Span> {
         match &self.single(way, place)?.connection.delay {
             Some(time) => time_spot(self.tokens, time),
             None => None,
@@ -103,7 +103,7 @@ impl<'a> Refused<'a> {
     }
 
     /// Connections alone form a loop. The place is the end of the one that stands first.
-    pub(crate) fn cycle(&self, way: &Way) -> Result<Reason, NoMemory>
+    pub(crate) fn cycle(&self, way: &Way) -> Result<WhyRefused, NoMemory>
         ensures { IfOk result (IsOf faults.ConnectionCycle) }
     {
         let Some(first) = first_place(&way.joins) else {
@@ -116,7 +116,7 @@ impl<'a> Refused<'a> {
 
     /// The delays of a chain of connections sum to more than the greatest time. The place is the delay with
     /// which they do.
-    pub(crate) fn long_chain(&self, way: &Way) -> Result<Reason, NoMemory>
+    pub(crate) fn long_chain(&self, way: &Way) -> Result<WhyRefused, NoMemory>
         ensures { IfOk result (IsOf faults.DelayTooLong) }
     {
         let (mut start, mut end) = (String::new(self.alloc), String::new(self.alloc));
@@ -124,12 +124,12 @@ impl<'a> Refused<'a> {
         self.push_start(&mut start, way, way.joins.len().saturating_sub(1))?;
         self.push_end(&mut end, way, 0)?;
         let names = [start.as_str(), end.as_str()];
-        let reason = Reason::of(self.alloc, Sentence::LongChain, &names)?;
+        let reason = WhyRefused::of(self.alloc, Sentence::LongChain, &names)?;
         Ok(reason.at(self.delay_spot(way, 0)))
     }
 
     /// Which limit the program passes, and how many there are.
-    pub(crate) fn too_many(&self, excess: Excess) -> Result<Reason, NoMemory>
+    pub(crate) fn too_many(&self, excess: Excess) -> Result<WhyRefused, NoMemory>
         ensures { IfOk result (IsOf faults.TooMany) }
     {
         let (mut counted, mut most) = (Buffer::new(), Buffer::new());
@@ -140,6 +140,6 @@ impl<'a> Refused<'a> {
         things.push_str(counted.format(excess.count))?;
         things.push_str(kind_words(excess.kind))?;
         let most = most.format(u64::from(excess.kind.limit()));
-        Reason::of(self.alloc, Sentence::TooMany, &[things.as_str(), most])
+        WhyRefused::of(self.alloc, Sentence::TooMany, &[things.as_str(), most])
     }
 }

@@ -9,7 +9,7 @@ use Rattle.lft_ir.specs.Parts.{Parts}
 use Rattle.lft_resolve.proofs.Placing.{not_some}
 use Rattle.lft_record.specs.CardTables.{AreTold, CardsFail, FaultAt, IsAgain, IsCard, IsScript, card_tables, entries_of, entry_bodies, entry_of, entry_state, entry_step, header}
 use Rattle.lft_record.specs.{inner.Scripts.{Adds, is_taken, with_entry}, Scripts.blank}
-use Rattle.lft_record.specs.declared.cards.{card.{Card.Card, CardStep.CardStep, CardEntry.CardEntry}, Script.Script, expression.Term.Term}
+use Rattle.lft_record.specs.declared.cards.{card.{Card.Card, CardStep.CardStep, CardEntry.CardEntry}, Script.Script, expression.Summand.Summand}
 use Rattle.lft_record.specs.declared.cards.fault.CardFault.{CardFault}
 use Rattle.lft_trace.specs.{inner.Records.{IsNext, IsUnread}, Records.records_of, declared.records.Records.Records}
 use Rattle.lft_trace.proofs.TableFacts.{Read, Texts, bad as bad_record, one_more as read_more, start as first}
@@ -58,7 +58,7 @@ with_more entries script (entry.Step x) s free = record {
 with_more entries script (entry.State t) s free = record {
   bodies = filter_map-append entry_bodies entries (entry.State t ∷ []) ∙ append-nil (filter_map entry_bodies entries) ∙ s.bodies;
   steps = filter_map-append entry_step entries (entry.State t ∷ []) ∙ append-nil (filter_map entry_step entries) ∙ s.steps;
-  state = filter_map-append entry_state entries (entry.State t ∷ []) ∙ ap (λ (l : List (List Term)). l ++ (t ∷ [])) (s.state ∙ ap option_to_list (not_some script.state free));
+  state = filter_map-append entry_state entries (entry.State t ∷ []) ∙ ap (λ (l : List (List Summand)). l ++ (t ∷ [])) (s.state ∙ ap option_to_list (not_some script.state free));
 }
 
 not_false : (b : Bool) → true ≡ not b → b ≡ false

@@ -3,8 +3,8 @@ use Rattle.std.specs.Prelude.{◌≡◌, ◌≢◌, ◌==◌, ◌⊎◌, ℕ, Li
 use Rattle.lft_ir.specs.{Names.IsNamed, Parts.Parts, declared.parts.Name.Name}
 use Rattle.lft_trace.specs.{Numbers.{number, number_or_zero}, Tables.{Fails, Holds, TableKind}, Traces.{IsThing, is_empty}}
 use Rattle.lft_record.specs.Expressions.{IsExpression}
-use Rattle.lft_record.specs.declared.cards.{card.{Card.Card, CardStep.CardStep, CardValue.CardValue, CardEntry.CardEntry}, Script.Script, expression.Term.Term}
-use Rattle.lft_record.specs.declared.cards.{fault.CardFault.CardFault, kind.CardKind.CardKind}
+use Rattle.lft_record.specs.declared.cards.{card.{Card.Card, CardStep.CardStep, CardValue.CardValue, CardEntry.CardEntry}, Script.Script}
+use Rattle.lft_record.specs.declared.cards.{expression.Summand.Summand, fault.CardFault.CardFault, kind.CardKind.CardKind}
 use Rattle.lft_ir.specs.declared.found.Found.TheVariants as found
 use Rattle.lft_record.specs.declared.cards.card.CardStep.TheVariants as step
 use Rattle.lft_record.specs.declared.cards.card.CardValue.TheVariants as content
@@ -71,7 +71,7 @@ IsOfKind program kind.Bodies c r e = (n : ℕ) × (number 1000000 c.value ≡ So
 IsOfKind program kind.Write c r e = (n : Name) × (v : CardValue) × IsThing program c.name n × IsContent program r c.value v × (c.delay ≡ []) × (e ≡ entry.Step (step.Write n v))
 IsOfKind program kind.Schedule c r e = (n : Name) × (v : CardValue) × (d : ℕ) × IsThing program c.name n × IsContent program r c.value v × (number_or_zero 1000000000000000000 c.delay ≡ Some d) × (e ≡ entry.Step (step.Schedule n v d))
 IsOfKind program kind.Stop c r e = (c.name ≡ []) × (c.delay ≡ []) × (c.value ≡ []) × (e ≡ entry.Step step.Stop)
-IsOfKind program kind.State c r e = (terms : List Term) × IsExpression program r c.value terms × (c.name ≡ []) × (c.delay ≡ []) × (e ≡ entry.State terms)
+IsOfKind program kind.State c r e = (terms : List Summand) × IsExpression program r c.value terms × (c.name ≡ []) × (c.delay ≡ []) × (e ≡ entry.State terms)
 
 -- the card of a record
 pub record IsCard (program : Parts) (fields : List (List ℕ)) (card : Card) : Type 0 where
@@ -95,7 +95,7 @@ entry_step (entry.Step s) = Some s
 entry_step (entry.State terms) = None
 
 -- the word that a card gives, if it gives one
-abbrev pub entry_state : CardEntry → Option (List Term)
+abbrev pub entry_state : CardEntry → Option (List Summand)
 entry_state (entry.Bodies n) = None
 entry_state (entry.Step s) = None
 entry_state (entry.State terms) = Some terms
@@ -143,7 +143,7 @@ IsUnspelled program kind.Bodies r text = ⊥
 IsUnspelled program kind.Write r text = (v : CardValue) → IsContent program r text v → ⊥
 IsUnspelled program kind.Schedule r text = (v : CardValue) → IsContent program r text v → ⊥
 IsUnspelled program kind.Stop r text = ⊥
-IsUnspelled program kind.State r text = (terms : List Term) → IsExpression program r text terms → ⊥
+IsUnspelled program kind.State r text = (terms : List Summand) → IsExpression program r text terms → ⊥
 
 -- its value is no expression of its reaction, and not `bare` where that may be
 abbrev pub HasBadValue : Parts → CardKind → CardFields → Type 0
@@ -157,7 +157,7 @@ IsOf kind c fields = (fields ≡ in_order c) × (c.kind ≡ word kind)
 abbrev pub IsAgain : List Card → Card → Type 0
 IsAgain before card =
     ((n : ℕ) × (entry_bodies card.entry ≡ Some n) × (filter_map entry_bodies (entries_of card.reaction before) ≢ []))
-    ⊎ ((terms : List Term) × (entry_state card.entry ≡ Some terms) × (filter_map entry_state (entries_of card.reaction before) ≢ []))
+    ⊎ ((terms : List Summand) × (entry_state card.entry ≡ Some terms) × (filter_map entry_state (entries_of card.reaction before) ≢ []))
 
 -- the fault of a record after the cards before it: the first that it has, in the order count, kind, number, name, field in place, value, given before
 abbrev pub FaultAt : Parts → List Card → ℕ → List (List ℕ) → CardFault → Type 0

@@ -15,7 +15,7 @@ use crate::cards::card::{Card, CardEntry};
 pub use answer::card_answer;
 pub use card::{CardStep, CardSteps, CardValue};
 pub use card_table::read_cards;
-pub use expression::{Expression, Term};
+pub use expression::{Sum, Summand};
 pub use fault::CardFault;
 use lft_ir::Program;
 use lft_tag::NoMemory;
@@ -28,7 +28,7 @@ use std::marker::Model;
 pub struct Script {
     pub bodies: Option<u32>,
     pub steps: CardSteps,
-    pub state: Option<Expression>,
+    pub state: Option<Sum>,
 }
 
 impl Script {

@@ -14,8 +14,7 @@ mod recording;
 pub use answer::{record_answer, record_plan};
 pub use bodies::{CardCode, FollowsCards, Scripted, card_bodies};
 pub use cards::{
-    CardFault, CardStep, CardSteps, CardValue, Cards, Expression, Script, Term, card_answer,
-    read_cards,
+    CardFault, CardStep, CardSteps, CardValue, Cards, Script, Sum, Summand, card_answer, read_cards,
 };
 pub use fault::{cards_fault, stop_fault};
 pub use recording::record_to;

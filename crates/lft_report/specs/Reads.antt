@@ -2,7 +2,7 @@
 use Rattle.std.specs.Prelude.{ℕ, zero, suc, Bool, true, false, not, max, List, [], ◌∷◌, ◌++◌, length, codes, decimal, bytes_eq, fold, flat_map, if◌then◌else◌}
 use Rattle.lft_ir.specs.{Parts.Parts, Words.{Words.{value_words, name_words}, Columns.padded}}
 use Rattle.lft_facts.specs.declared.facts.Fact.{Fact}
-use Rattle.lft_report.specs.declared.reads.Widths.{Widths}
+use Rattle.lft_report.specs.declared.reads.ColumnWidths.{ColumnWidths}
 use Rattle.lft_facts.specs.declared.facts.Fact.TheVariants as fact
 
 -- the fact alone, or nothing
@@ -20,7 +20,7 @@ abbrev pub reads_so : Bool → List Fact → List Fact
 reads_so same facts = flat_map (read_so same) facts
 
 -- the widths of the columns with one more line
-abbrev pub widened : Parts → Widths → Fact → Widths
+abbrev pub widened : Parts → ColumnWidths → Fact → ColumnWidths
 widened program w (fact.Reads g r k n read present) = record {
   name = max w.name (length (name_words program n));
   read = max w.read (length (value_words read));
@@ -29,25 +29,25 @@ widened program w (fact.Reads g r k n read present) = record {
 widened program w _ = w
 
 -- the columns are as wide as their words, those of the head too
-abbrev pub widths_of : Parts → List Fact → Widths
+abbrev pub widths_of : Parts → List Fact → ColumnWidths
 widths_of program facts = fold (widened program) (record { name = 5; read = 4; present = 7 }) facts
 
 -- a line of three cells
-abbrev pub line_of : Widths → List ℕ → List ℕ → List ℕ → List ℕ
+abbrev pub line_of : ColumnWidths → List ℕ → List ℕ → List ℕ → List ℕ
 line_of w name read last = codes "  " ++ padded w.name name ++ codes "  " ++ padded w.read read ++ codes "  " ++ last ++ codes "\n"
 
 -- a line for an input
-abbrev pub read_line : Parts → Widths → Fact → List ℕ
+abbrev pub read_line : Parts → ColumnWidths → Fact → List ℕ
 read_line program w (fact.Reads g r k n read present) = line_of w (name_words program n) (value_words read) (value_words present)
 read_line program w _ = []
 
 -- lines below the head of the table, where there are some
-abbrev pub headed : Widths → List ℕ → List ℕ
+abbrev pub headed : ColumnWidths → List ℕ → List ℕ
 headed w [] = []
 headed w (byte ∷ bytes) = line_of w (codes "input") (codes "read") (codes "present") ++ byte ∷ bytes
 
 -- the lines of the inputs
-abbrev pub read_lines : Parts → Widths → List Fact → List ℕ
+abbrev pub read_lines : Parts → ColumnWidths → List Fact → List ℕ
 read_lines program w facts = flat_map (read_line program w) facts
 
 -- the table of the inputs of some facts

@@ -12,7 +12,7 @@ use std::alloc::{AllocError, Global};
 
 /// How wide the columns are.
 #[derive(Clone, Copy, Drop)]
-struct Widths {
+struct ColumnWidths {
     name: usize,
     read: usize,
     present: usize,
@@ -68,7 +68,12 @@ fn reads_so(alloc: Global, facts: &[Fact], same: bool) -> Result<Vec<Fact>, Allo
 }
 
 /// The widths with one more line.
-fn widen(alloc: Global, program: &Program, widths: Widths, fact: Fact) -> Result<Widths, AllocError>
+fn widen(
+    alloc: Global,
+    program: &Program,
+    widths: ColumnWidths,
+    fact: Fact,
+) -> Result<ColumnWidths, AllocError>
     ensures { IfOk result (λ w. w ≡ widened program.now widths fact) }
 {
     match fact {
@@ -81,7 +86,7 @@ fn widen(alloc: Global, program: &Program, widths: Widths, fact: Fact) -> Result
             let name = name_cell(alloc, program, name)?;
             let read = value_cell(alloc, read)?;
             let present = value_cell(alloc, present)?;
-            Ok(Widths {
+            Ok(ColumnWidths {
                 name: widths.name.max(name.len()),
                 read: widths.read.max(read.len()),
                 present: widths.present.max(present.len()),
@@ -92,11 +97,11 @@ fn widen(alloc: Global, program: &Program, widths: Widths, fact: Fact) -> Result
 }
 
 /// The columns as wide as their words.
-fn widest(alloc: Global, program: &Program, facts: &[Fact]) -> Result<Widths, AllocError>
+fn widest(alloc: Global, program: &Program, facts: &[Fact]) -> Result<ColumnWidths, AllocError>
     ensures { IfOk result (λ w. w ≡ widths_of program.now facts.now) }
 {
     // As wide as the words over the columns: `input`, `read`, `present`.
-    let mut widths = Widths {
+    let mut widths = ColumnWidths {
         name: 5,
         read: 4,
         present: 7,
@@ -110,7 +115,7 @@ fn widest(alloc: Global, program: &Program, facts: &[Fact]) -> Result<Widths, Al
 /// Puts a line of three cells at the end of the text.
 fn push_line(
     text: &mut String,
-    widths: Widths,
+    widths: ColumnWidths,
     name: &str,
     read: &str,
     last: &str,
@@ -132,7 +137,7 @@ fn push_read(
     alloc: Global,
     text: &mut String,
     program: &Program,
-    widths: Widths,
+    widths: ColumnWidths,
     fact: Fact,
 ) -> Result<(), AllocError>
     ensures { OnOk result (string_bytes text.new ≡ string_bytes text.old ++ read_line program.now widths fact) }
@@ -157,7 +162,7 @@ fn push_read(
 fn lines(
     alloc: Global,
     program: &Program,
-    widths: Widths,
+    widths: ColumnWidths,
     facts: &[Fact],
 ) -> Result<String, AllocError>
     ensures { IfOk result (λ text. string_bytes text ≡ read_lines program.now widths facts.now) }

@@ -3,7 +3,7 @@ use Rattle.std.proofs.Common.{◌≡◌, ◌≢◌, ℕ, ◌<◌, Bool, true, fa
 use Rattle.lft_tree.specs.Tree.{ReactorTree, ParameterTree, PortTree, TimerTree, ActionTree, InstanceTree, AssignmentTree, TimeTree, Written, Named, ports_of, timers_of, actions_of, instances_of, connections_of}
 use Rattle.lft_resolve.specs.Causes.{IsUnknownTime, IsMisplacedTime, LacksParameter, LacksReactor, Misplaces, NamesNothing, NoneHolds, SomeGivesUnknown, UnknownName, UnknownReactor, WrongPlace, first_causes, later_causes}
 use Rattle.lft_resolve.specs.Kinds.{or_else, own_kind, own_port, timer_times, times_in}
-use Rattle.lft_resolve.specs.{inner.{Lacking.{LacksName, LacksPlace, TimeLacksPlace}, Places.IsIndexOf, Sheets.parameter_place}, Places.place_in}
+use Rattle.lft_resolve.specs.inner.{Lacking.{LacksName, LacksPlace, TimeLacksPlace}, Places.{IsIndexOf, place_in}, Sheets.parameter_place}
 use Rattle.lft_resolve.specs.declared.{index.Index.Index, kinds.Kind.{Kind, TheVariants.{OwnParameter, OwnTimer, OwnAction, OwnInstance}}}
 use Rattle.lft_resolve.proofs.{Placing.{find-some, not_some}, Somes.{Any-nil, Any-head, Any-tail, Any-cases, Any-left, Any-right, Any-weaker, some_here}}
 

@@ -1,7 +1,6 @@
 pub mod Causes
 pub mod Instances
 pub mod Kinds
-pub mod Places
 pub mod Sheets
 pub mod Expansion
 pub mod inner

@@ -18,4 +18,4 @@ pub use joins::connections;
 pub use main_place::main_number;
 pub use numbers::contents;
 pub use settings::parameters;
-pub use sheets::{ActionSheet, Cue, Cues, Declarations, Reactions, Spot, TimerSheet};
+pub use sheets::{ActionSheet, Cue, Cues, Declarations, NamedThing, Reactions, TimerSheet};

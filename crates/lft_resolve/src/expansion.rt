@@ -13,7 +13,7 @@ mod walk;
 mod ways;
 
 pub use census::count_instances;
-pub use joins::{Connections, End, Join, Site, Sources, find_sources};
+pub use joins::{Connections, End, Join, PortSources, Site, find_sources};
 pub use nesting::Children;
 pub use numbering::{Thing, count_things, first_numbers, list_things};
 pub use origins::{OriginFault, Reached, find_origins};

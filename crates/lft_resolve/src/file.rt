@@ -64,14 +64,14 @@ impl<'a> Outside<'a> {
 
 /// The reactors of a file that have a name, by name.
 #[derive(Drop)]
-pub struct File<'a> {
+pub struct ReactorTable<'a> {
     names: Index<'a>,
     reactors: Vec<Outside<'a>>,
 }
 
-impl<'a> File<'a> {
+impl<'a> ReactorTable<'a> {
     /// Those among the reactors of a file.
-    pub fn of(alloc: Global, reactors: &[&'a Reactor]) -> Result<File<'a>, NoMemory>
+    pub fn of(alloc: Global, reactors: &[&'a Reactor]) -> Result<ReactorTable<'a>, NoMemory>
         ensures { IfOk result (IsFile (reactor_trees reactors.now)) }
     {
         let names = reactor_names(alloc, reactors)?;
@@ -81,7 +81,7 @@ impl<'a> File<'a> {
                 outsides.push(Outside::of(alloc, reactor)?)?;
             }
         }
-        Ok(File {
+        Ok(ReactorTable {
             names: Index::of(alloc, &names)?,
             reactors: outsides,
         })
@@ -99,7 +99,7 @@ impl<'a> File<'a> {
 }
 
 /// What a name is in a reactor of the file.
-pub fn kind_of(file: &File, own: &Own, reference: &Reference) -> Option<Kind>
+pub fn kind_of(file: &ReactorTable, own: &Own, reference: &Reference) -> Option<Kind>
     ensures { (rs : List ReactorTree) (r : ReactorTree) → IsFile rs file.now → IsOwn r own.now → result ≡ kind_of rs r (ref_view reference.now) }
 {
     match &reference.port {

@@ -2,7 +2,7 @@
 
 ghost use Rattle.std.specs.Prelude.{◌≡◌, ℕ, List, Some, None, cond, map, IfOk, OnOk, bytes_eq};
 ghost use Rattle.lft_tree.specs.View.{reactor_view};
-ghost use Rattle.lft_resolve.specs.{inner.{Tests.{member_names, texts}, Places.IsIndexOf}, Places.place_in};
+ghost use Rattle.lft_resolve.specs.inner.{Tests.{member_names, texts}, Places.{IsIndexOf, place_in}};
 
 use crate::hashing::NameHash;
 use crate::names::{Declared, parameter_names, push_names};

@@ -13,7 +13,7 @@ mod pairs;
 mod present;
 mod triggered;
 
-pub use causes::{Cause, cause_tag, moved, position, skip};
+pub use causes::{EventCause, cause_tag, moved, position, skip};
 pub use clashes::sooner;
 pub use events::{Presence, presence_of};
 pub use lookup::{first_after, first_cause, last_before, last_cause};

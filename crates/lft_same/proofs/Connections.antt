@@ -8,10 +8,10 @@ use Rattle.lft_tree.specs.declared.ast.Ast.{Ast}
 use Rattle.lft_resolve.specs.{Causes.{NoneHolds, causes}, Instances.{Inside as CoreInside, Thing, stands_for, time_in as core_time_in}}
 use Rattle.lft_program.specs.Flattening.{time_or_zero}
 use Rattle.lft_whole.specs.declared.{sources.source.SourceFile.SourceFile, tree.{Connection.Connection, Expression.Expression, Member.Member}}
-use Rattle.lft_elaborate.specs.Channels.Lowered.{AreJoined}
+use Rattle.lft_elaborate.specs.inner.Channels.Lowered.{AreJoined}
 use Rattle.lft_classes.specs.declared.shapes.Inherited.{Inherited}
-use Rattle.lft_lower.specs.Meanings.{Meanings.{all_places, named_in}, Places.names_of}
-use Rattle.lft_lower.specs.{Lowered.{AreConnected, IsLowered, IsRead, MeanSides, each_pair, time_at, whole}, Reactors.IsLowering}
+use Rattle.lft_lower.specs.inner.Meanings.{Meanings.{all_places, named_in}, Places.names_of}
+use Rattle.lft_lower.specs.inner.{Lowered.{AreConnected, IsLowered, IsRead, MeanSides, each_pair, time_at, whole}, Reactors.IsLowering}
 use Rattle.lft_same.specs.inner.Expanded.Core.{core_links}
 use Rattle.lft_same.specs.Expanded.{Expanded.Link, Instances.{Inside, Widths, time_in}, Reactors.members_of, Whole.{channels, link, links_at, links_of, pairs}}
 use Rattle.lft_same.proofs.{ExpandedLemmas.{Flattened.linked, Links.{joined_links, whole_links}}, Instances.{AreWidthsFound, StandsFor}, Inners.names_alike}

@@ -9,11 +9,11 @@ use Rattle.lft_tree.specs.{View.tree_view, declared.ast.Ast.Ast}
 use Rattle.lft_resolve.specs.{Causes.{NoneHolds, causes}, Instances.Inside as CoreInside, Kinds.{timer_times, times_in}}
 use Rattle.lft_program.specs.Flattening.{time_or_zero}
 use Rattle.lft_whole.specs.declared.{sources.source.SourceFile.SourceFile, tree.{Member.Member, Name.Name}}
-use Rattle.lft_elaborate.specs.{Channels.{Channels.below, Lowered.own}, Widths.found_width}
-use Rattle.lft_classes.specs.{declared.shapes.Inherited.Inherited, Shapes.{name_of, thing_named, width_of}}
-use Rattle.lft_lower.specs.Meanings.{Meanings.named_in, Places.{name_at, names_of}}
-use Rattle.lft_lower.specs.Lowered.{AreTriggers, IsAsleep, IsLowered, action_tree, added, asleep, known, period_at, reaction_tree, runs, sleeps, time_at, timer_tree}
-use Rattle.lft_lower.specs.Reactors.{IsLowering}
+use Rattle.lft_elaborate.specs.{Channels.Channels.below, inner.{Channels.Lowered.own, Widths.found_width}}
+use Rattle.lft_classes.specs.{declared.shapes.Inherited.Inherited, Shapes.{name_of, width_of}, inner.Shapes.thing_named}
+use Rattle.lft_lower.specs.inner.Meanings.{Meanings.named_in, Places.{name_at, names_of}}
+use Rattle.lft_lower.specs.inner.Lowered.{AreTriggers, IsAsleep, IsLowered, action_tree, added, asleep, known, period_at, reaction_tree, runs, sleeps, time_at, timer_tree}
+use Rattle.lft_lower.specs.inner.Reactors.{IsLowering}
 use Rattle.lft_same.specs.Expanded.{Expanded.{Action, Port, Timer}, Instances.{Inside, Widths, numbers, period_in, time_in, written}, Reactors.members_of}
 use Rattle.lft_same.specs.Expanded.Whole.{actions_at, ports_at, timers_at}
 use Rattle.lft_same.specs.inner.Times.{IsKnown}
@@ -21,7 +21,7 @@ use Rattle.lft_same.proofs.{ExpandedLemmas.Flattened.map_twice, Instances.{AreWi
 use Rattle.lft_same.proofs.{Listed.{all_mapped, none_mapped, unnumbered}, Lowered.{Appends, Becomes, never_added, of_connection, of_instance, of_reaction}}
 use Rattle.lft_same.proofs.{Members.{here, members_alike, never_of, numbers_are, of_class}, Times.{period_law, time_law}}
 use Rattle.lft_whole.specs.declared.tree.Member.TheVariants as member
-use Rattle.lft_classes.specs.declared.shapes.Thing.TheVariants as thing
+use Rattle.lft_classes.specs.declared.shapes.OwnThing.TheVariants as thing
 
 -- ---- lists by kind
 

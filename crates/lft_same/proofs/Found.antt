@@ -5,9 +5,9 @@ use Rattle.lft_lists.proofs.{Mapped.{mapped, mapped_from}, Places.Some_same}
 use Rattle.lft_program.proofs.Zipping.{then_some}
 use Rattle.lft_whole.specs.declared.tree.Width.{Width}
 use Rattle.lft_classes.specs.declared.shapes.Shape.{Shape}
-use Rattle.lft_elaborate.specs.{declared.settings.{Setting.Setting, Settings.Settings}, Noted.{AreSettings, noted_at, table}}
-use Rattle.lft_elaborate.specs.{Places.{IsWidth, sum_in, width_in, written_width}, inner.Settings.setting_at, Settings.{shape_at, valued}, Values.Valued}
-use Rattle.lft_elaborate.specs.Widths.{found_width}
+use Rattle.lft_elaborate.specs.declared.settings.{Setting.Setting, Settings.Settings}
+use Rattle.lft_elaborate.specs.inner.{Noted.{AreSettings, noted_at, table}, Places.{IsWidth, sum_in, width_in, written_width}}
+use Rattle.lft_elaborate.specs.inner.{Settings.{setting_at, shape_at, valued}, Values.Valued, Widths.found_width}
 
 -- the shape of a setting is the one of its number
 pub shape_of_setting : (s : Settings) (k : ℕ) (t : Valued) (shape : Shape) → setting_at s k ≡ Some t → shape_at s k ≡ Some shape → slice_get s.shapes.items t.shape ≡ Some shape

@@ -6,10 +6,11 @@ use Rattle.lft_lists.proofs.Mapped.{mapped}
 use Rattle.lft_tree.specs.{Tree.{InstanceTree, InstanceMember, MemberTree, PortMember, instance_in, instances_of}, declared.ast.Ast.Ast}
 use Rattle.lft_resolve.specs.Instances.{Inside as CoreInside}
 use Rattle.lft_whole.specs.declared.{sources.source.SourceFile.SourceFile, tree.{Instance.Instance, Member.Member}}
-use Rattle.lft_elaborate.specs.{Channels.Channels.below, Widths.found_width}
+use Rattle.lft_elaborate.specs.{Channels.Channels.below, inner.Widths.found_width}
 use Rattle.lft_classes.specs.{declared.shapes.Inherited.Inherited, Shapes.width_of}
-use Rattle.lft_lower.specs.Meanings.{Meanings.named_in, Places.{Several, name_at, names_of}}
-use Rattle.lft_lower.specs.{Lowered.{AreGiven, AreInstances, IsLowered, instances, no_instances, reactor_at, some_instances, time_at}, Reactors.IsLowering}
+use Rattle.lft_lower.specs.inner.Meanings.{Meanings.named_in, Places.{Several, name_at, names_of}}
+use Rattle.lft_lower.specs.inner.Lowered.{AreGiven, AreInstances, IsLowered, instances, no_instances, reactor_at, some_instances, time_at}
+use Rattle.lft_lower.specs.inner.Reactors.{IsLowering}
 use Rattle.lft_same.specs.Expanded.{Instances.{Inner, Inside, Widths, inners, inners_at, numbers, written}, Reactors.members_of}
 use Rattle.lft_same.proofs.{ExpandedLemmas.Flattened.map_twice, Instances.{AreWidthsFound, StandsFor}}
 use Rattle.lft_same.proofs.{Listed.{all_mapped, none_mapped, zipped_append, zipped_maps, zipped_same}, Lowered.{Appends, Becomes, of_connection, of_reaction}}

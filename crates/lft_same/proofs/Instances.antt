@@ -3,9 +3,9 @@ use Rattle.std.specs.Prelude.{◌≡◌, ℕ, List, Some, Contains}
 use Rattle.lft_tree.specs.{Tree.reactors_of, View.tree_view, declared.ast.Ast.Ast}
 use Rattle.lft_resolve.specs.Instances.{Inside as CoreInside}
 use Rattle.lft_whole.specs.declared.sources.source.SourceFile.{SourceFile}
-use Rattle.lft_classes.specs.{Walks.Has, declared.shapes.Shape.Shape}
-use Rattle.lft_elaborate.specs.{inner.Settings.setting_at, Settings.shape_at, Values.Valued, Widths.found_width}
-use Rattle.lft_lower.specs.Reactors.{IsLowering, IsReactor}
+use Rattle.lft_classes.specs.{inner.Walks.Has, declared.shapes.Shape.Shape}
+use Rattle.lft_elaborate.specs.inner.{Settings.{setting_at, shape_at}, Values.Valued, Widths.found_width}
+use Rattle.lft_lower.specs.inner.Reactors.{IsLowering, IsReactor}
 use Rattle.lft_same.specs.{Expanded.Instances.{Inside, Widths}, inner.{Fits.Fits.Fits, Times.HasTimes}}
 
 -- where a setting that instances have fits an instance, that one has the widths that lowering found

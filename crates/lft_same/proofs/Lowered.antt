@@ -6,9 +6,9 @@ use Rattle.lft_lists.proofs.Places.{Some_same, get_last, get_push, same_some}
 use Rattle.lft_tree.specs.Identifiers.{IsName}
 use Rattle.lft_tree.specs.Tree.{ConnectionMember, ConnectionTree, InstanceMember, InstanceTree, MemberTree, ReactionMember, RefTree, TimeTree, TriggerTree}
 use Rattle.lft_whole.specs.declared.tree.{Member.Member, Reaction.Reaction}
-use Rattle.lft_classes.specs.{declared.shapes.Inherited.Inherited, Built.located, Shapes.thing_named}
-use Rattle.lft_lower.specs.Meanings.{Meanings.{Here, named_in}, Places.names_of}
-use Rattle.lft_lower.specs.Lowered.{AreConnected, AreInstances, AreLowered, AreTriggers, IsAsleep, IsLowered, IsMeasured, IsReaction, added, asleep, each_pair, known, more_members, no_instances, no_members, reaction_tree, runs, sleeps, some_instances, whole}
+use Rattle.lft_classes.specs.{declared.shapes.Inherited.Inherited, inner.{Built.located, Shapes.thing_named}}
+use Rattle.lft_lower.specs.inner.Meanings.{Meanings.{Here, named_in}, Places.names_of}
+use Rattle.lft_lower.specs.inner.Lowered.{AreConnected, AreInstances, AreLowered, AreTriggers, IsAsleep, IsLowered, IsMeasured, IsReaction, added, asleep, each_pair, known, more_members, no_instances, no_members, reaction_tree, runs, sleeps, some_instances, whole}
 use Rattle.lft_same.proofs.Listed.{none_mapped}
 use Rattle.lft_whole.specs.declared.tree.Member.TheVariants as member
 

@@ -5,9 +5,9 @@ use Rattle.std.specs.List.{enumerate_from}
 use Rattle.lft_tree.specs.{Tree.MemberTree, declared.ast.Ast.Ast}
 use Rattle.lft_resolve.specs.Instances.{Inside as CoreInside}
 use Rattle.lft_whole.specs.declared.{sources.source.SourceFile.SourceFile, tree.Member.Member}
-use Rattle.lft_elaborate.specs.{Channels.Channels.below, Widths.found_width}
+use Rattle.lft_elaborate.specs.{Channels.Channels.below, inner.Widths.found_width}
 use Rattle.lft_classes.specs.{declared.shapes.Inherited.Inherited, Shapes.width_of}
-use Rattle.lft_lower.specs.{Meanings.Meanings.Here, Lowered.IsMeasured, Reactors.IsLowering}
+use Rattle.lft_lower.specs.inner.{Meanings.Meanings.Here, Lowered.IsMeasured, Reactors.IsLowering}
 use Rattle.lft_same.specs.{Expanded.{Instances.{Inside, Widths, numbers}, Reactors.members_of}, inner.Fits.Fits.IsShapeOf}
 use Rattle.lft_same.proofs.{Instances.{AreWidthsFound, StandsFor}, Lowered.{Appends, Becomes, all_become}}
 use Rattle.lft_same.proofs.Settings.{its_setting, numbers_are as numbers_found, of_class as class_found, same_shape as shape_found, unwritten as none_found}

@@ -6,16 +6,18 @@ use Rattle.std.proofs.lemmas.{List.{length-map, Elements.filter_map-append, From
 use Rattle.lft_resolve.proofs.ExpansionLemmas.Orders.{along_kid}
 use Rattle.lft_resolve.specs.{Causes.{NoneHolds, causes}, Instances.{Inside as CoreInside, IsInside, entered, given_in, main_instance, reactor_named}}
 use Rattle.lft_lists.proofs.{Mapped.{enumerate_at, mapped}, Members.{Mem, get_mem, mem_cases, mem_filter, mem_get}, Places.same_some}
-use Rattle.lft_elaborate.specs.{Channels.Channels.below, Places.{IsMany, IsWidth, how_many, many, member_in, width_in, written_width}}
-use Rattle.lft_elaborate.specs.{Used.{IsIn, IsReached, is_instance, is_instance_in, main, within}, Values.{Valued, inside, main_setting}, Widths.found_width}
+use Rattle.lft_elaborate.specs.Channels.Channels.{below}
+use Rattle.lft_elaborate.specs.inner.Places.{IsMany, IsWidth, how_many, many, member_in, width_in, written_width}
+use Rattle.lft_elaborate.specs.inner.{Used.{IsIn, IsReached, is_instance, is_instance_in, main, within}, Values.{Valued, inside, main_setting}}
+use Rattle.lft_elaborate.specs.inner.Widths.{found_width}
 use Rattle.lft_elaborate.proofs.Counting.{one_count}
 use Rattle.lft_tree.specs.Tree.{InstanceTree, InstanceMember, MemberTree, PortMember, PortTree, ReactorTree, instance_in, instances_of, port_in, ports_of, reactors_of}
 use Rattle.lft_tree.specs.{View.tree_view, declared.ast.Ast.Ast}
 use Rattle.lft_program.proofs.Zipping.{then_some}
 use Rattle.lft_whole.specs.declared.{sources.source.SourceFile.SourceFile, tree.{Instance.Instance, Member.Member, Width.Width}}
-use Rattle.lft_classes.specs.{declared.shapes.{Inherited.Inherited, Shape.Shape}, Built.located, Shapes.width_of}
-use Rattle.lft_lower.specs.Meanings.{Meanings.{Here, named_in}, Places.{name_at, names_of}}
-use Rattle.lft_lower.specs.{Lowered.{AreInstances, IsLowered, instances, no_instances, reactor_at, some_instances}, Reactors.IsLowering}
+use Rattle.lft_classes.specs.{declared.shapes.{Inherited.Inherited, Shape.Shape}, inner.Built.located, Shapes.width_of}
+use Rattle.lft_lower.specs.inner.Meanings.{Meanings.{Here, named_in}, Places.{name_at, names_of}}
+use Rattle.lft_lower.specs.inner.{Lowered.{AreInstances, IsLowered, instances, no_instances, reactor_at, some_instances}, Reactors.IsLowering}
 use Rattle.lft_same.specs.inner.Fits.Widths.{small}
 use Rattle.lft_same.proofs.{Found.{found_is_width, shape_of_setting, width_written}, Limits.{few_instances, few_ports}, Listed.all_mapped}
 use Rattle.lft_same.proofs.{Lowered.{Appends, Becomes, all_become, made_at, numbered}, Reactors.{IsCore, has_main, has_reactor, main_found, reactor_found}}

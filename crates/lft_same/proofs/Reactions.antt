@@ -10,11 +10,11 @@ use Rattle.lft_resolve.specs.Sheets.{is_timer as is_core_timer, without_timers}
 use Rattle.lft_whole.specs.declared.sources.source.SourceFile.{SourceFile}
 use Rattle.lft_whole.specs.declared.tree.{Effect.Effect, Member.Member, Reaction.Reaction as WrittenReaction, Reference.Reference}
 use Rattle.lft_whole.specs.declared.tree.Trigger.{Trigger as WrittenTrigger}
-use Rattle.lft_elaborate.specs.Channels.Lowered.{own}
+use Rattle.lft_elaborate.specs.inner.Channels.Lowered.{own}
 use Rattle.lft_classes.specs.declared.shapes.Inherited.{Inherited}
-use Rattle.lft_lower.specs.Meanings.{Meanings.{Means, all_places, named_in, places_in}, Places.names_of}
-use Rattle.lft_lower.specs.Lowered.{AreTriggers, IsAsleep, IsLowered, MeansAll, MeansEffect, MeansTrigger, added, all_triggers, asleep, effect_places, known, reaction_tree, runs, sleeps, time_at, trigger_places}
-use Rattle.lft_lower.specs.Reactors.{IsLowering}
+use Rattle.lft_lower.specs.inner.Meanings.{Meanings.{Means, all_places, named_in, places_in}, Places.names_of}
+use Rattle.lft_lower.specs.inner.Lowered.{AreTriggers, IsAsleep, IsLowered, MeansAll, MeansEffect, MeansTrigger, added, all_triggers, asleep, effect_places, known, reaction_tree, runs, sleeps, time_at, trigger_places}
+use Rattle.lft_lower.specs.inner.Reactors.{IsLowering}
 use Rattle.lft_same.specs.inner.Expanded.Core.{core_reaction, things_for, triggers_for}
 use Rattle.lft_same.specs.Expanded.{Expanded.{Reaction, Trigger, AtStartup, AtShutdown, OnThing}, Instances.{Inside, Widths}, Reactors.members_of}
 use Rattle.lft_same.specs.Expanded.{Same.{awake_reaction, is_other}, Whole.{channels, effects_in, reactions_at, triggers_in, uses_in}}

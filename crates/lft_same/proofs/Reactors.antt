@@ -9,11 +9,11 @@ use Rattle.lft_resolve.specs.{Causes.{LacksReactor, NoMain, NoneHolds, UnknownRe
 use Rattle.lft_resolve.proofs.Twice.{Any-at}
 use Rattle.lft_program.proofs.Zipping.{then_some}
 use Rattle.lft_whole.specs.declared.sources.source.SourceFile.{SourceFile}
-use Rattle.lft_classes.specs.{declared.shapes.Shape.Shape, Walks.Has}
-use Rattle.lft_elaborate.specs.{declared.settings.Settings.Settings, Noted.found_inside, inner.Settings.setting_at, Settings.shape_at}
-use Rattle.lft_elaborate.specs.Values.{Valued, inside, main_setting}
+use Rattle.lft_classes.specs.{declared.shapes.Shape.Shape, inner.Walks.Has}
+use Rattle.lft_elaborate.specs.declared.settings.Settings.{Settings}
+use Rattle.lft_elaborate.specs.inner.{Noted.found_inside, Settings.{setting_at, shape_at}, Values.{Valued, inside, main_setting}}
 use Rattle.lft_elaborate.proofs.Keeping.{found_is_inside}
-use Rattle.lft_lower.specs.{Lowered.reactor_at, Reactors.{AreReactors, IsLowering, IsReactor, more_reactors, no_reactors}}
+use Rattle.lft_lower.specs.inner.{Lowered.reactor_at, Reactors.{AreReactors, IsLowering, IsReactor, more_reactors, no_reactors}}
 use Rattle.lft_same.proofs.FitsLemmas.Giving.{find_some}
 
 -- a reactor is the core reactor of one of these settings

@@ -8,13 +8,16 @@ use Rattle.lft_program.proofs.{Singles.place_found, Zipping.then_some}
 use Rattle.lft_tree.specs.{Tree.{ReactorTree, RefTree, instances_of}, declared.ast.Ast.Ast}
 use Rattle.lft_resolve.specs.{Instances.{Thing, stands_for, thing_at}, inner.Places.place}
 use Rattle.lft_whole.specs.declared.{sources.source.SourceFile.SourceFile, tree.{Instance.Instance, Member.Member, Name.Name, Reference.Reference}}
-use Rattle.lft_elaborate.specs.{Channels.{Channels.below, Lowered.{inner, own}}, Names.name_in, Values.{Valued, inside, setting_of, values_inside}}
-use Rattle.lft_elaborate.specs.{Meanings.{meaning_named, shape_inside}, Widths.found_width, declared.meanings.Meaning.Meaning}
-use Rattle.lft_classes.specs.declared.shapes.{Child.Child, Inherited.Inherited, InheritedParameter.InheritedParameter, Shape.Shape, Thing.Thing as ShapeThing}
-use Rattle.lft_classes.specs.Shapes.{child_at, name_of, thing_named, width_of}
-use Rattle.lft_lower.specs.Meanings.Meanings.{Here, Means, all_places, inner_width, meaning_in, member_in, member_name, places_in, places_of, port_of, thing_in}
-use Rattle.lft_lower.specs.Meanings.Places.{Several, count_of, inner_places, name_at, names_of, own_places}
-use Rattle.lft_lower.specs.Reactors.{IsLowering}
+use Rattle.lft_elaborate.specs.Channels.Channels.{below}
+use Rattle.lft_elaborate.specs.inner.{Channels.Lowered.{inner, own}, Names.name_in, Values.{Valued, inside, setting_of, values_inside}}
+use Rattle.lft_elaborate.specs.inner.{Meanings.{meaning_named, shape_inside}, Widths.found_width}
+use Rattle.lft_elaborate.specs.declared.meanings.Meaning.{Meaning}
+use Rattle.lft_classes.specs.declared.shapes.{Child.Child, Inherited.Inherited, InheritedParameter.InheritedParameter, Shape.Shape}
+use Rattle.lft_classes.specs.declared.shapes.OwnThing.{OwnThing as ShapeThing}
+use Rattle.lft_classes.specs.{inner.Shapes.{child_at, thing_named}, Shapes.{name_of, width_of}}
+use Rattle.lft_lower.specs.inner.Meanings.Meanings.{Here, Means, all_places, inner_width, meaning_in, member_in, member_name, places_in, places_of, port_of, thing_in}
+use Rattle.lft_lower.specs.inner.Meanings.Places.{Several, count_of, inner_places, name_at, names_of, own_places}
+use Rattle.lft_lower.specs.inner.Reactors.{IsLowering}
 use Rattle.lft_same.specs.inner.Expanded.Core.{things_for}
 use Rattle.lft_same.specs.Expanded.Instances.{Inner as InnerInstance, Inside, Widths, inners, inside_of, numbers, numbers_at, numbers_named, place_named, written}
 use Rattle.lft_same.specs.Expanded.{Reactors.members_of, Whole.{channels, crossed, inner_thing, inside_named, new_in, things_named}}
@@ -24,7 +27,7 @@ use Rattle.lft_same.proofs.{Instances.AreWidthsFound, Kept.{kept_or, of_all, som
 use Rattle.lft_same.proofs.Settings.{HasSetting, IsFoundIn, found_in, here, nested, numbers_are, of_class, shape_there, member_of}
 use Rattle.lft_elaborate.specs.declared.meanings.Meaning.TheVariants as meaning
 use Rattle.lft_whole.specs.declared.tree.Member.TheVariants as member
-use Rattle.lft_classes.specs.declared.shapes.Thing.TheVariants as thing
+use Rattle.lft_classes.specs.declared.shapes.OwnThing.TheVariants as thing
 
 -- ---- names in the core
 

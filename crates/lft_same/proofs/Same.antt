@@ -6,7 +6,7 @@ use Rattle.lft_resolve.specs.Instances.{Inside as CoreInside, entered as core_en
 use Rattle.lft_lists.proofs.Places.{Some_same}
 use Rattle.lft_tree.specs.{Tree.ReactorTree, View.tree_view, declared.ast.Ast.Ast}
 use Rattle.lft_whole.specs.declared.sources.source.SourceFile.{SourceFile}
-use Rattle.lft_lower.specs.Reactors.{IsLowering}
+use Rattle.lft_lower.specs.inner.Reactors.{IsLowering}
 use Rattle.lft_same.specs.inner.{Expanded.Core.{core_contents, expanded_tree}, Laws.LoweredLaw}
 use Rattle.lft_same.specs.Expanded.{Expanded.Contents, Instances.{Inside, Widths, entered, main_instance}, Reactors.{Class, main_of}}
 use Rattle.lft_same.specs.Expanded.{Same.{IsNever, IsSame, awake}, Whole.{AreWidths, expanded_files, whole_contents}}

@@ -7,13 +7,14 @@ use Rattle.lft_program.proofs.Zipping.{then_some}
 use Rattle.lft_tree.specs.{Tree.{ItemTree, MemberTree, ReactorTree}, ItemView.item_views, declared.ast.Ast.Ast}
 use Rattle.lft_resolve.specs.Instances.{Inside as CoreInside}
 use Rattle.lft_whole.specs.declared.{sources.source.SourceFile.SourceFile, tree.{Instance.Instance, Member.Member, Width.Width}}
-use Rattle.lft_elaborate.specs.{Channels.Channels.below, declared.settings.{Setting.Setting, Settings.Settings}, Noted.{found_inside, noted_for}}
-use Rattle.lft_elaborate.specs.{Places.{IsMany, IsWidth, many, width_in, written_width}, inner.Settings.setting_at, Settings.{shape_at, valued}}
-use Rattle.lft_elaborate.specs.{Used.{IsReached, is_instance, is_instance_in, within}, Values.{Valued, inside}, Widths.found_width}
+use Rattle.lft_elaborate.specs.{Channels.Channels.below, declared.settings.{Setting.Setting, Settings.Settings}}
+use Rattle.lft_elaborate.specs.inner.{Noted.{found_inside, noted_for}, Places.{IsMany, IsWidth, many, width_in, written_width}}
+use Rattle.lft_elaborate.specs.inner.{Settings.{setting_at, shape_at, valued}, Used.{IsReached, is_instance, is_instance_in, within}, Values.{Valued, inside}}
+use Rattle.lft_elaborate.specs.inner.Widths.{found_width}
 use Rattle.lft_elaborate.proofs.Keeping.{found_is_inside}
-use Rattle.lft_classes.specs.{declared.shapes.{Inherited.Inherited, Shape.Shape}, Shapes.width_of, Walks.Has}
-use Rattle.lft_lower.specs.{Meanings.Meanings.Here, Lowered.{AreInstances, IsLowered, no_instances, some_instances}}
-use Rattle.lft_lower.specs.Reactors.{AreReactors, IsLowering, IsReactor, more_reactors, no_reactors}
+use Rattle.lft_classes.specs.{declared.shapes.{Inherited.Inherited, Shape.Shape}, Shapes.width_of, inner.Walks.Has}
+use Rattle.lft_lower.specs.inner.{Meanings.Meanings.Here, Lowered.{AreInstances, IsLowered, no_instances, some_instances}}
+use Rattle.lft_lower.specs.inner.Reactors.{AreReactors, IsLowering, IsReactor, more_reactors, no_reactors}
 use Rattle.lft_same.specs.{Expanded.{Instances.{Inside, Widths, inside_of, numbers}, Reactors.members_of}, inner.Fits.Fits.{Fits, IsShapeOf}}
 use Rattle.lft_same.proofs.FitsLemmas.{Nested.{exists_law, inside_law, instance_law}, Widths.{AreNested, width_is_written}}
 use Rattle.lft_same.proofs.{Instances.{AreWidthsFound, StandsFor}, Lowered.{Becomes, made_at as member_made}}

@@ -5,7 +5,8 @@ use Rattle.std.proofs.lemmas.{Option.slice_get_within, List.Elements.filter_map-
 use Rattle.lft_lists.proofs.Mapped.{option_map_some}
 use Rattle.lft_lists.proofs.Members.{Mem, contains_mem, get_mem, mem_cases, mem_contains, mem_filter, mem_from_filter, mem_from_flat, mem_from_map, mem_left, mem_map, mem_right}
 use Rattle.lft_lists.proofs.Places.{Some_same, at_contains, get_left, get_right}
-use Rattle.lft_elaborate.specs.{Channels.{Channels.{below, places}, Lowered.{inner, own}}, Meanings.meaning_named, Names.name_in, Widths.found_width}
+use Rattle.lft_elaborate.specs.Channels.Channels.{below}
+use Rattle.lft_elaborate.specs.inner.{Channels.{Channels.places, Lowered.{inner, own}}, Meanings.meaning_named, Names.name_in, Widths.found_width}
 use Rattle.lft_elaborate.specs.declared.meanings.Meaning.{Meaning}
 use Rattle.lft_tree.specs.Tree.{ActionTree, TriggerTree, InstanceTree, InstanceMember, MemberTree, PortTree, PortMember, ReactionTree, ReactorTree, RefTree, action_in, actions_of, instance_in, instances_of, port_in, ports_of, reaction_in, reactions_of, reactors_of, timers_of}
 use Rattle.lft_tree.specs.{View.tree_view, declared.ast.Ast.Ast}
@@ -15,11 +16,11 @@ use Rattle.lft_resolve.proofs.Twice.{Any-at, twice_left}
 use Rattle.lft_program.specs.Flattening.{time_or_zero}
 use Rattle.lft_whole.specs.declared.sources.source.SourceFile.{SourceFile}
 use Rattle.lft_whole.specs.declared.tree.{Effect.Effect, Member.Member, Name.Name, Reaction.Reaction as WrittenReaction, Reference.Reference}
-use Rattle.lft_classes.specs.declared.shapes.{Inherited.Inherited, InheritedParameter.InheritedParameter, Thing.Thing as ShapeThing}
-use Rattle.lft_classes.specs.Shapes.{name_of, thing_named, width_of}
-use Rattle.lft_lower.specs.Meanings.{Meanings.{named_in, places_in, places_of, port_of, thing_in}, Places.{Several, count_of, name_at, names_of}}
-use Rattle.lft_lower.specs.Lowered.{AreInstances, IsLowered, IsReaction, asleep, effect_places, no_instances, reaction_tree, some_instances, time_at}
-use Rattle.lft_lower.specs.Reactors.{IsLowering}
+use Rattle.lft_classes.specs.declared.shapes.{Inherited.Inherited, InheritedParameter.InheritedParameter, OwnThing.OwnThing as ShapeThing}
+use Rattle.lft_classes.specs.{Shapes.{name_of, width_of}, inner.Shapes.thing_named}
+use Rattle.lft_lower.specs.inner.Meanings.{Meanings.{named_in, places_in, places_of, port_of, thing_in}, Places.{Several, count_of, name_at, names_of}}
+use Rattle.lft_lower.specs.inner.Lowered.{AreInstances, IsLowered, IsReaction, asleep, effect_places, no_instances, reaction_tree, some_instances, time_at}
+use Rattle.lft_lower.specs.inner.Reactors.{IsLowering}
 use Rattle.lft_same.specs.inner.Expanded.Core.{core_contents, core_reaction}
 use Rattle.lft_same.specs.Expanded.{Expanded.{Action, Reaction}, Instances.Inside, Same.{IsNever, IsUnscheduled}}
 use Rattle.lft_same.proofs.{FitsLemmas.Ports.port_is, Instances.StandsFor, Listed.none_mapped}
@@ -28,7 +29,7 @@ use Rattle.lft_same.proofs.{Members.{here, never_of, of_class, unwritten}, Refer
 use Rattle.lft_elaborate.specs.declared.meanings.Meaning.TheVariants as meaning
 use Rattle.lft_whole.specs.declared.tree.Effect.TheVariants as effect
 use Rattle.lft_whole.specs.declared.tree.Member.TheVariants as member
-use Rattle.lft_classes.specs.declared.shapes.Thing.TheVariants as thing
+use Rattle.lft_classes.specs.declared.shapes.OwnThing.TheVariants as thing
 
 -- what stands in two lists stands twice in both together
 both_twice : {X : Type 0} (x : X) (xs ys : List X) → Mem x xs → Mem x ys → IsTwice (xs ++ ys)

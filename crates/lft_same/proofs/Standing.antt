@@ -8,8 +8,8 @@ use Rattle.lft_resolve.specs.Instances.{Inside as CoreInside, entered as core_en
 use Rattle.lft_program.proofs.{Ordered.AllZip-to, Zips.AllZip-from}
 use Rattle.lft_whole.specs.declared.sources.source.SourceFile.{SourceFile}
 use Rattle.lft_classes.specs.declared.shapes.Shape.{Shape}
-use Rattle.lft_elaborate.specs.{Meanings.shape_inside, Values.{Valued, main_setting, main_values}}
-use Rattle.lft_lower.specs.Reactors.{AreShapes, IsLowering}
+use Rattle.lft_elaborate.specs.inner.{Meanings.shape_inside, Values.{Valued, main_setting, main_values}}
+use Rattle.lft_lower.specs.inner.Reactors.{AreShapes, IsLowering}
 use Rattle.lft_same.specs.Expanded.{Instances.{Inner, Inside, Widths, entered, inners, inside_of, main_instance}, Reactors.{Class, main_of}}
 use Rattle.lft_same.specs.inner.{Fits.Fits.Fits, Times.IsKnown}
 use Rattle.lft_same.proofs.{FitsLemmas.{Nested.main_law, Ports.shape_is_inside}, Instances.{AreWidthsFound, StandsFor}, Found.shape_of_setting}

@@ -6,9 +6,10 @@ use Rattle.lft_lists.{proofs.{Mapped.{mapped, option_map_some}, Members.{Mem, me
 use Rattle.lft_tree.specs.{Identifiers.IsIdentifier, Tree.{MemberTree, RefTree, TimerTree, PortMember, TimerMember, timer_in, timers_of}, declared.ast.Ast.Ast}
 use Rattle.lft_resolve.specs.{Instances.Inside as CoreInside, Sheets.{is_timer as is_core_timer, without_timers}}
 use Rattle.lft_whole.specs.declared.{sources.source.SourceFile.SourceFile, tree.{Member.Member, Name.Name, Reference.Reference, Timer.Timer}}
-use Rattle.lft_elaborate.specs.{Channels.Lowered.{inner, own}, Meanings.meaning_named}
-use Rattle.lft_classes.specs.{declared.shapes.{Inherited.Inherited, Thing.Thing as ShapeThing}, Shapes.{name_of, thing_named, width_of}}
-use Rattle.lft_lower.specs.{Meanings.{Meanings.{Means, named_in, places_in}, Places.names_of}, Lowered.{IsLowered, time_at, timer_tree}, Reactors.IsLowering}
+use Rattle.lft_elaborate.specs.inner.{Channels.Lowered.{inner, own}, Meanings.meaning_named}
+use Rattle.lft_classes.specs.{declared.shapes.{Inherited.Inherited, OwnThing.OwnThing as ShapeThing}, Shapes.{name_of, width_of}, inner.Shapes.thing_named}
+use Rattle.lft_lower.specs.inner.{Meanings.{Meanings.{Means, named_in, places_in}, Places.names_of}, Lowered.{IsLowered, time_at, timer_tree}}
+use Rattle.lft_lower.specs.inner.Reactors.{IsLowering}
 use Rattle.lft_same.specs.inner.Expanded.Core.{things_for}
 use Rattle.lft_same.specs.Expanded.{Instances.{Inside, Widths, numbers, numbers_named, written}, Reactors.members_of}
 use Rattle.lft_same.specs.Expanded.Whole.{channels, crossed, is_timer, names_timer, uses_in}
@@ -18,7 +19,7 @@ use Rattle.lft_same.proofs.{Lowered.{Appends, Becomes, all_become, made_at, of_c
 use Rattle.lft_same.proofs.{References.{inner_numbers, numbers_there, places_channels, places_refs, refs_named, meaning_is}, Settings.its_setting}
 use Rattle.lft_elaborate.specs.declared.meanings.Meaning.TheVariants as meaning
 use Rattle.lft_whole.specs.declared.tree.Member.TheVariants as member
-use Rattle.lft_classes.specs.declared.shapes.Thing.TheVariants as thing
+use Rattle.lft_classes.specs.declared.shapes.OwnThing.TheVariants as thing
 
 -- a name with a number is no identifier
 bracketed : (q rest : List ℕ) → IsIdentifier (q ++ 91 ∷ rest) → ⊥

@@ -9,19 +9,21 @@ use Rattle.lft_resolve.specs.Causes.{longest}
 use Rattle.lft_resolve.specs.Instances.{Inside as CoreInside, given_in as core_given_in, given_or_default as core_given_or_default, main_instance as core_main, time_in as core_time_in, value_of}
 use Rattle.lft_program.{proofs.{FullNames.all_at, Zipping.then_some}, specs.Flattening.time_or_zero}
 use Rattle.lft_whole.specs.declared.{sources.source.SourceFile.SourceFile, tree.{Assignment.Assignment, Expression.Expression, Instance.Instance, Value.Value}}
-use Rattle.lft_classes.specs.{declared.shapes.{Child.Child, Given.Given, InheritedParameter.InheritedParameter, Shape.Shape}, Shapes.{child_at, thing_named}}
+use Rattle.lft_classes.specs.declared.shapes.{Child.Child, GivenValue.GivenValue, InheritedParameter.InheritedParameter, Shape.Shape}
+use Rattle.lft_classes.specs.inner.Shapes.{child_at, thing_named}
 use Rattle.lft_classes.proofs.Rows.{map_alike}
-use Rattle.lft_elaborate.specs.{Meanings.shape_inside, Values.{Valued, given_to, inside, main_setting, main_values, is_forever}, Channels.Channels.below}
-use Rattle.lft_lower.specs.{Meanings.Meanings.Here, Lowered.{AreGiven, IsGiven, IsPeriod, IsRead, assigned, given_times, period_at, time_at, time_given}}
-use Rattle.lft_lower.specs.{Needed.is_timed, Reactors.{AreShapes, default_time, parameter_tree, timed_parameter, timed_parameters}}
-use Rattle.lft_lower.specs.Times.{IsTime, time_for, time_in}
+use Rattle.lft_elaborate.specs.{inner.{Meanings.shape_inside, Values.{Valued, given_to, inside, main_setting, main_values}}, Values.is_forever}
+use Rattle.lft_elaborate.specs.Channels.Channels.{below}
+use Rattle.lft_lower.specs.inner.{Meanings.Meanings.Here, Lowered.{AreGiven, IsGiven, IsPeriod, IsRead, assigned, given_times, period_at, time_at, time_given}}
+use Rattle.lft_lower.specs.inner.{Needed.is_timed, Reactors.{AreShapes, default_time, parameter_tree, timed_parameter, timed_parameters}}
+use Rattle.lft_lower.specs.inner.Times.{IsTime, time_for, time_in}
 use Rattle.lft_same.specs.Expanded.Instances.{Inside, default_of, given_in, given_or_default, inside_of, main_instance, period_in, read_in, time_of, value_named, time_in as whole_time_in}
 use Rattle.lft_same.specs.Expanded.Reactors.{Class, class_named, is_named, main_of, members_of, parameters_of}
 use Rattle.lft_same.specs.inner.{Fits.Fits.{Fits, IsShapeOf}, Times.{HasTimes, IsKnown, time_named}}
 use Rattle.lft_same.proofs.FitsLemmas.{Fitting.parameter_is, Giving.{IsGivenBy, find_some}, MemberNames.value_found, Nested.{given_law, main_law}}
 use Rattle.lft_whole.specs.declared.tree.Member.TheVariants as member
 use Rattle.lft_whole.specs.declared.tree.Value.TheVariants as value
-use Rattle.lft_classes.specs.declared.shapes.Thing.TheVariants as thing
+use Rattle.lft_classes.specs.declared.shapes.OwnThing.TheVariants as thing
 
 -- ---- reading
 
@@ -97,7 +99,7 @@ module _ (outer inner : Shape) (n : ℕ) (ip : InheritedParameter) (at : slice_g
   IsFound (Some v) a = (t : TimeTree) × (time_for v ≡ Some t) × (a ≡ Some (given_tree ip t))
 
   -- a time is given to a parameter
-  of_parameter : (g : Given) (a : AssignmentTree) → time_given inner g ≡ Some a → (p : InheritedParameter) × (slice_get inner.parameters.items g.parameter ≡ Some p) × (a.name ≡ string_bytes p.parameter.now.name.text)
+  of_parameter : (g : GivenValue) (a : AssignmentTree) → time_given inner g ≡ Some a → (p : InheritedParameter) × (slice_get inner.parameters.items g.parameter ≡ Some p) × (a.name ≡ string_bytes p.parameter.now.name.text)
   of_parameter g a e = go (is_timed inner g.parameter) e
     where
       go : (b : Bool) → (if b then assigned inner g else None) ≡ Some a → (p : InheritedParameter) × (slice_get inner.parameters.items g.parameter ≡ Some p) × (a.name ≡ string_bytes p.parameter.now.name.text)
@@ -107,7 +109,7 @@ module _ (outer inner : Shape) (n : ℕ) (ip : InheritedParameter) (at : slice_g
           let t = option_map_some (given_tree p.0) (time_for g.value.now.value) a p.2 in
           (p.0, p.1, ap (λ (z : AssignmentTree). z.name) (sym t.2))
 
-  found : (gs : List Given) → ((g : Given) → Mem g gs → IsGiven outer inner g) → IsFound (given_to gs n) (find (λ a. bytes_eq q a.name) (filter_map (time_given inner) gs))
+  found : (gs : List GivenValue) → ((g : GivenValue) → Mem g gs → IsGiven outer inner g) → IsFound (given_to gs n) (find (λ a. bytes_eq q a.name) (filter_map (time_given inner) gs))
   found [] each = refl
   found (g ∷ gs) each = by (eqb_tells g.parameter n) (found gs (λ h m. each h (inr m)))
     where
@@ -201,7 +203,7 @@ abbrev made_of : List SourceFile → Inside → Instance → Class → Inside
 made_of files x i c = record { class = c; values = map (given_in files x i.given.items) (parameters_of files c) }
 
 -- the parameters of the reactor that `new` names have the times of what is given to them
-inner_times : (files : List SourceFile) (outer inner : Shape) (x : Inside) (core : CoreInside) (child : Child) (i : Instance) (c : Class) → IsShapeOf files inner c → HasTimes files x core → IsGivenBy inner child i → ((g : Given) → Mem g child.given.items → IsGiven outer inner g) → ((a : AssignmentTree) → Contains (given_times inner child) a → IsKnown core.reactor.parameters a.value) → (p : ParameterTree) → Mem p (timed_parameters inner) → core_given_in core (given_times inner child) p ≡ time_named files (made_of files x i c) p.name
+inner_times : (files : List SourceFile) (outer inner : Shape) (x : Inside) (core : CoreInside) (child : Child) (i : Instance) (c : Class) → IsShapeOf files inner c → HasTimes files x core → IsGivenBy inner child i → ((g : GivenValue) → Mem g child.given.items → IsGiven outer inner g) → ((a : AssignmentTree) → Contains (given_times inner child) a → IsKnown core.reactor.parameters a.value) → (p : ParameterTree) → Mem p (timed_parameters inner) → core_given_in core (given_times inner child) p ≡ time_named files (made_of files x i c) p.name
 inner_times files outer inner x core child i c of_inner has given_by gives known p stands = named ∙ picked (find (λ a. is_named (written_name one.ip) a.name) i.given.items) refl ∙ sym value_is
   where
     one : IsTimed inner p

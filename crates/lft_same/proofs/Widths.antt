@@ -6,8 +6,8 @@ use Rattle.lft_tree.specs.{View.tree_view, declared.ast.Ast.Ast}
 use Rattle.lft_resolve.specs.Causes.{NoneHolds, causes}
 use Rattle.lft_whole.specs.declared.sources.source.SourceFile.{SourceFile}
 use Rattle.lft_classes.specs.declared.shapes.Shape.{Shape}
-use Rattle.lft_elaborate.specs.{Places.width_in, inner.Settings.setting_at, Used.IsReached, Values.{Valued, main_setting}, Widths.found_width}
-use Rattle.lft_lower.specs.Reactors.{AreShapes, IsLowering}
+use Rattle.lft_elaborate.specs.inner.{Places.width_in, Settings.setting_at, Used.IsReached, Values.{Valued, main_setting}, Widths.found_width}
+use Rattle.lft_lower.specs.inner.Reactors.{AreShapes, IsLowering}
 use Rattle.lft_same.specs.{Expanded.{Instances.Widths, Whole.AreWidths}, inner.Fits.Widths.{AreFound, AreThose, small}}
 use Rattle.lft_same.proofs.{FitsLemmas.Found.widths_law, Instances.AreWidthsFound}
 use Rattle.lft_same.proofs.Reached.{HasInstance, found_at, found_small, found_written, reached_instance}

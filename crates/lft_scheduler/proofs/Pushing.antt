@@ -3,8 +3,7 @@ use Rattle.std.proofs.Common.{◌≡◌, ◌≢◌, ◌↔◌, ◌⊎◌, inl, i
 use Rattle.std.proofs.lemmas.Bool.{cases_eq}
 use Rattle.lft_ir.specs.declared.parts.{Name.TheVariants.{Port, Action}, Trigger.{Trigger, TheVariants.{Startup, Shutdown, Timer, On}}}
 use Rattle.lft_lists.proofs.Places.{get_written, get_unwritten, length_written}
-use Rattle.lft_queue.proofs.Marking.{contains_pushed}
-use Rattle.lft_queue.specs.inner.Coming.NumberLists.{list_at}
+use Rattle.lft_queue.{proofs.Marking.contains_pushed, specs.inner.Coming.NumberLists.list_at}
 use Rattle.lft_scheduler.specs.inner.Lists.{TriggerLists, list_of, HasList, IsPushed}
 
 pub at_written : (lists : List (List ℕ)) (n : ℕ) (list : List ℕ) → n < length lists → list_at (slice_set lists n list) n ≡ list

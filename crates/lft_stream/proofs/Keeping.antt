@@ -26,7 +26,7 @@ use Rattle.lft_queue.specs.inner.Coming.{Unread.{AreUnread, AreFree}, Listeners.
 use Rattle.lft_queue.specs.inner.Coming.Lanes.{held, first_events, IsMetAt, LaneGoesOn}
 use Rattle.lft_queue.specs.inner.Coming.{Coming.{to_come, AreTaken, IsClear, IsNoLater, IsReached, AreOver, AreComing}, Shown.{IsInLane, last_write}}
 use Rattle.lft_queue.specs.inner.Coming.Writes.{AreEarlier}
-use Rattle.lft_queue.specs.{Coming.AtTag.{AreBefore, AreAt}, declared.coming.{coming.Coming.Coming, listeners.Listeners.Listeners}, Pending.value_of}
+use Rattle.lft_queue.specs.{Coming.AtTag.{AreBefore, AreAt}, declared.coming.{coming.Coming.Coming, listeners.NameListeners.NameListeners}, Pending.value_of}
 use Rattle.lft_queue.proofs.ComingLemmas.AtOnce.{undelayed_way, delayed_way, origin_is, heard_there}
 use Rattle.lft_queue.proofs.ComingLemmas.{Carrying.{carried_is, one_held, held_one, none_after, none_now, at_once_held}, Writing.earlier_on, Clearing.clear_up}
 use Rattle.lft_queue.proofs.ComingLemmas.{Scheduled.none_at, ToCome.{only_queue, item_of, few_of}}
@@ -41,12 +41,12 @@ listened_way plan good p r l e =
     subst (λ (o : ℕ). Origin plan.program p o []) (sym own) (subst (λ (ds : List ℕ). Origin plan.program p x.0.origin ds) none kept.1)
 
 -- a name that triggers something has a list
-listed_there : (plan : PlanParts) → IsSound plan.program → (listeners : Listeners) → AreListeners plan listeners → (n : Name) (r : ℕ) → Listens plan r (On n) → (list : List ℕ) × (list_of listeners n ≡ Some list)
+listed_there : (plan : PlanParts) → IsSound plan.program → (listeners : NameListeners) → AreListeners plan listeners → (n : Name) (r : ℕ) → Listens plan r (On n) → (list : List ℕ) × (list_of listeners n ≡ Some list)
 listed_there plan good listeners are (Port p) r l = get_there listeners.ports p (let a : p < length plan.program.ports = (good.exist r l.reaction l.is_reaction).triggers (On (Port p)) l.is_trigger in let f = are.ports in omega arith)
 listed_there plan good listeners are (Action a) r l = get_there listeners.actions a (let b : a < length plan.program.actions = (good.exist r l.reaction l.is_reaction).triggers (On (Action a)) l.is_trigger in let f = are.actions in omega arith)
 
 -- of a name with events, the list has each reaction that it triggers
-listener_of : (plan : PlanParts) (listeners : Listeners) → AreListeners plan listeners → (n : Name) → HasEvents plan.program n → (r : ℕ) (list : List ℕ) → Listens plan r (On n) → list_of listeners n ≡ Some list → Contains list r
+listener_of : (plan : PlanParts) (listeners : NameListeners) → AreListeners plan listeners → (n : Name) → HasEvents plan.program n → (r : ℕ) (list : List ℕ) → Listens plan r (On n) → list_of listeners n ≡ Some list → Contains list r
 listener_of plan listeners are n has r list l e = are.each n r list l (ap (λ (m : Name). list_of listeners m) (heard_there plan.program n has) ∙ e)
 
 -- the first events are those that are to come first
@@ -55,7 +55,7 @@ first_to_come plan most (Port p) h = refl
 first_to_come plan most (Action a) h = held_first plan a h ∙ sym (append-nil (filter_map (given h a) plan.externals.events))
 
 -- an event of a name that triggers nothing is met
-unheard_met : (plan : PlanParts) (t : List Row) (h : Tag) (n : Name) (lane : List (Tag × Value)) (listeners : Listeners) → AreListeners plan listeners → ((p : ℕ) → n ≡ Port p → is_undelayed plan.program p ≡ true → held lane h ≡ []) → length (held lane h) < 2 → ((v : Value) → Contains (held lane h) v → IsUnheard listeners n) → IsMetAt plan t n h lane
+unheard_met : (plan : PlanParts) (t : List Row) (h : Tag) (n : Name) (lane : List (Tag × Value)) (listeners : NameListeners) → AreListeners plan listeners → ((p : ℕ) → n ≡ Port p → is_undelayed plan.program p ≡ true → held lane h ≡ []) → length (held lane h) < 2 → ((v : Value) → Contains (held lane h) v → IsUnheard listeners n) → IsMetAt plan t n h lane
 unheard_met plan t h n lane listeners are none alone unheard = record { alone = alone; met = λ v k r l. go n none (unheard v k) v k r l }
   where
     silent : (m : Name) → HasEvents plan.program m → IsUnheard listeners m → (r : ℕ) → Listens plan r (On m) → Ran t h r
@@ -397,7 +397,7 @@ module _ (plan : PlanParts) (done rows : List Row) (s : Slice) (slice : IsSlice 
   slice_grows good c reached ranked judged new is_judged coming heard_by stops tag runs tags dues starts writes listeners channels unread free sooner more next = subst (λ (t : List Row). IsStreamOf plan t new) together (grows_kept plan so_far own s.tag old is first.0 first.1 (are_at rows s slice) later reach own_kept good c reached is_judged.heard met ranked (λ r o. is_judged.triggered r (ran_of rows s slice r o)) own_reads new runs tags (rw dues is_judged.dues) stops tag (rw starts is_judged.starts) writes (rw listeners is_judged.listeners) (rw channels is.channels) unread free sooner more next)
     where
       met : (n : Name) → IsSome (value_of s.tag n c.queue) → AreStarted (so_far ++ own) s.tag old.listeners n
-      met n some = subst (λ (l : Listeners). AreStarted (so_far ++ own) s.tag l n) heard_by (is_judged.met n (subst (λ (k : Coming). IsSome (value_of s.tag n k.queue)) (sym coming) some))
+      met n some = subst (λ (l : NameListeners). AreStarted (so_far ++ own) s.tag l n) heard_by (is_judged.met n (subst (λ (k : Coming). IsSome (value_of s.tag n k.queue)) (sym coming) some))
 
       own_reads : (r : ℕ) → Ran own s.tag r → Inputs plan (so_far ++ own) s.tag r (reads_at plan own s.tag r)
       own_reads r o = subst (λ (steps : List Step). Inputs plan (so_far ++ own) s.tag r (map (read_of steps) (inputs_of plan.program r))) (steps_part rows s slice r) (is_judged.reads r (ran_of rows s slice r o))

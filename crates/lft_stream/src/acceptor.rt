@@ -9,8 +9,8 @@ ghost use Rattle.lft_model.specs.{Plans.PlanParts, Presence.stop};
 ghost use Rattle.lft_queue.specs.Coming.AtTag.{AreBefore};
 
 use crate::effort::Effort;
-use crate::order::Order;
-use crate::stream::{Counts, Stream};
+use crate::order::Precedence;
+use crate::stream::{RunCounts, Stream};
 use lft_ir::steps::Row;
 use lft_model::Plan;
 use lft_rows::{Marks, Pass};
@@ -25,7 +25,7 @@ pub struct Acceptor {
     stream: Stream,
     pass: Pass,
     marks: Marks,
-    order: Order,
+    order: Precedence,
 }
 
 impl Acceptor {
@@ -38,7 +38,7 @@ impl Acceptor {
             stream: Stream::new(alloc, plan, effort)?,
             pass: Pass::new(alloc, program)?,
             marks: Marks::new(alloc, program)?,
-            order: Order::new(alloc),
+            order: Precedence::new(alloc),
         })
     }
 
@@ -111,7 +111,7 @@ impl Acceptor {
     }
 
     /// The counts, where nothing is owed up to the stop.
-    pub fn finish(&mut self, plan: &Plan) -> Option<Counts>
+    pub fn finish(&mut self, plan: &Plan) -> Option<RunCounts>
         ensures { IfSome result (λ c. (t : List TheRow) → IsAcceptorOf plan.now t self.old → IsAccepted plan.now t c.runs c.tags) }
     {
         self.stream.finish(plan)

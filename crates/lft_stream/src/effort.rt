@@ -3,10 +3,10 @@
 ghost use Rattle.std.specs.Prelude.{◌≡◌, length};
 ghost use Rattle.lft_ir.specs.Steps.Fits.{RowFits, RowsFit};
 
-use crate::presence::Presence;
+use crate::presence::PresentNames;
 use lft_ir::Program;
 use lft_ir::steps::{Row, is_start, row_at};
-use lft_queue::coming::{Channels, Listeners, written_port};
+use lft_queue::coming::{Channels, NameListeners, written_port};
 
 /// So many inputs, listeners and ports behind delays may be looked at for each row. Most programs need a few.
 /// One in whose runs hundreds are looked at is judged sooner with an index of what the rows cause.
@@ -29,8 +29,8 @@ pub(crate) struct Effort {
 /// How many of them are looked at for a row.
 fn cost_of(
     program: &Program,
-    presence: &Presence,
-    listeners: &Listeners,
+    presence: &PresentNames,
+    listeners: &NameListeners,
     channels: &Channels,
     row: Row,
 ) -> usize
@@ -51,7 +51,7 @@ fn cost_of(
 }
 
 /// Whether no row of the program costs more than is added for it.
-fn is_cheap(program: &Program, listeners: &Listeners, channels: &Channels) -> bool
+fn is_cheap(program: &Program, listeners: &NameListeners, channels: &Channels) -> bool
     requires ports { length listeners.now.ports ≡ length program.now.ports }
     requires channels { length channels.now.delayed ≡ length program.now.ports }
 {
@@ -88,7 +88,7 @@ impl Effort {
     pub(crate) fn of_program(
         self,
         program: &Program,
-        listeners: &Listeners,
+        listeners: &NameListeners,
         channels: &Channels,
     ) -> Effort
         requires ports { length listeners.now.ports ≡ length program.now.ports }
@@ -113,8 +113,8 @@ impl Effort {
     pub(crate) fn allows(
         &mut self,
         program: &Program,
-        presence: &Presence,
-        listeners: &Listeners,
+        presence: &PresentNames,
+        listeners: &NameListeners,
         channels: &Channels,
         rows: &[Row],
     ) -> bool

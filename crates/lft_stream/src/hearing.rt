@@ -11,7 +11,7 @@ use lft_ir::Program;
 use lft_ir::steps::{Row, row_at};
 use lft_lists::item_at;
 use lft_model::Plan;
-use lft_queue::coming::{Coming, Listeners, written_port};
+use lft_queue::coming::{Coming, NameListeners, written_port};
 use lft_tag::Tag;
 
 /// Whether each of the reactions started last at the tag.
@@ -28,7 +28,13 @@ fn have_started(program: &Program, starts: &StartTags, reactions: &[u32], tag: T
 }
 
 /// Whether each reaction that one of the rows triggers at once, all at the tag, has a run there.
-fn are_heard(plan: &Plan, listeners: &Listeners, starts: &StartTags, own: &[Row], tag: Tag) -> bool
+fn are_heard(
+    plan: &Plan,
+    listeners: &NameListeners,
+    starts: &StartTags,
+    own: &[Row],
+    tag: Tag,
+) -> bool
     requires fit { RowsFit plan.now.program own.now }
     requires listeners { AreListeners plan.now listeners.now }
     requires long { length starts.now ≡ length plan.now.program.reactions }
@@ -50,7 +56,7 @@ fn are_heard(plan: &Plan, listeners: &Listeners, starts: &StartTags, own: &[Row]
 fn are_met(
     program: &Program,
     coming: &Coming,
-    listeners: &Listeners,
+    listeners: &NameListeners,
     starts: &StartTags,
     tag: Tag,
 ) -> bool
@@ -76,7 +82,7 @@ fn are_met(
 pub(crate) fn is_all_heard(
     plan: &Plan,
     coming: &Coming,
-    listeners: &Listeners,
+    listeners: &NameListeners,
     starts: &StartTags,
     own: &[Row],
     tag: Tag,

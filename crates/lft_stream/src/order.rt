@@ -18,12 +18,12 @@ use std::marker::Model;
 /// What precedes each reaction, once that was asked for.
 // Most runs follow each other by the levels of their reactions. The sets are made where some don't.
 #[derive(Drop)]
-pub(crate) struct Order {
+pub(crate) struct Precedence {
     alloc: Global,
     ancestors: Option<Ancestors>,
 }
 
-impl Model for Order {
+impl Model for Precedence {
     ghost use Rattle.std.specs.Prelude.{List, Option, ℕ};
 
     ghost Value = { Option (List (List ℕ)) };
@@ -54,12 +54,12 @@ fn is_ordered(alloc: Global, plan: &Plan, ancestors: &Ancestors, rows: &[Row]) -
     true
 }
 
-impl Order {
+impl Precedence {
     /// Nothing was asked for.
-    pub(crate) fn new(alloc: Global) -> Order
+    pub(crate) fn new(alloc: Global) -> Precedence
         ensures { result ≡ None }
     {
-        Order {
+        Precedence {
             alloc,
             ancestors: None,
         }

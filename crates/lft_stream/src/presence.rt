@@ -24,7 +24,7 @@ const SHARE: usize = 8;
 
 /// The names that may be present at the tag at hand.
 #[derive(Drop)]
-pub(crate) struct Presence {
+pub(crate) struct PresentNames {
     names: Vec<Name>,
     /// Whether all that are present are among them. That is found out only where a reaction with many inputs runs.
     is_known: bool,
@@ -133,14 +133,14 @@ fn list_present(
     add_written(names, channels, own, most) && add_waiting(names, coming, tag, most)
 }
 
-impl Presence {
+impl PresentNames {
     /// Nothing is known of any tag.
-    pub(crate) fn new(alloc: Global, program: &Program) -> Presence {
+    pub(crate) fn new(alloc: Global, program: &Program) -> PresentNames {
         let mut is_asked = false;
         for number in 0..program.reactions() as u32 {
             is_asked = is_asked || inputs_of(program, number) > MANY;
         }
-        Presence {
+        PresentNames {
             names: Vec::new(alloc),
             is_known: false,
             is_asked,

@@ -8,7 +8,7 @@ ghost use Rattle.lft_rows.specs.inner.{Marks.{AreMarks, IsLaid}, Slices.IsSlice}
 ghost use Rattle.lft_queue.specs.inner.Coming.AtOnce.{IsAwaited};
 ghost use Rattle.lft_stream.specs.inner.Present.{AreShown, IsKnown, AreReadsShown};
 
-use crate::presence::Presence;
+use crate::presence::PresentNames;
 use lft_ir::steps::{Row, Step, row_at};
 use lft_ir::{Name, Value};
 use lft_lists::item_at;
@@ -86,7 +86,7 @@ pub(crate) fn is_woken(
     writes: &Writes,
     coming: &Coming,
     marks: &Marks,
-    presence: &Presence,
+    presence: &PresentNames,
     plan: &Plan,
     tag: Tag,
     reaction: u32,
@@ -173,7 +173,7 @@ fn are_reads_shown(
     writes: &Writes,
     coming: &Coming,
     marks: &Marks,
-    presence: &Presence,
+    presence: &PresentNames,
     plan: &Plan,
     rows: &[Row],
     slice: Slice,
@@ -206,7 +206,7 @@ fn has_read(
     writes: &Writes,
     coming: &Coming,
     marks: &Marks,
-    presence: &Presence,
+    presence: &PresentNames,
     plan: &Plan,
     rows: &[Row],
     slice: Slice,
@@ -231,7 +231,7 @@ pub(crate) fn have_read(
     writes: &Writes,
     coming: &Coming,
     marks: &Marks,
-    presence: &Presence,
+    presence: &PresentNames,
     plan: &Plan,
     rows: &[Row],
     slice: Slice,

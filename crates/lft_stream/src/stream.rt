@@ -12,23 +12,23 @@ ghost use Rattle.lft_stream.specs.inner.{Kept.{KeepRules, IsLater, stopped_strea
 use crate::dues::Dues;
 use crate::effort::Effort;
 use crate::hearing::is_all_heard;
-use crate::order::Order;
+use crate::order::Precedence;
 use crate::outline::Outline;
-use crate::presence::Presence;
+use crate::presence::PresentNames;
 use crate::reads::{have_read, is_woken};
 use crate::start_tags::StartTags;
 use lft_ir::Program;
 use lft_ir::steps::{Row, is_stop, row_at};
 use lft_lists::item_at;
 use lft_model::Plan;
-use lft_queue::coming::{Channels, Coming, Listeners, Unread, Writes, pass_on};
+use lft_queue::coming::{Channels, Coming, NameListeners, UnreadPorts, Writes, pass_on};
 use lft_rows::{Marks, Slice};
 use lft_tag::{NoMemory, Tag};
 use std::alloc::Global;
 
 /// How many runs legal rows have, and at how many different tags.
 #[derive(Clone, Copy, PartialEq, Eq, Debug, Drop)]
-pub struct Counts {
+pub struct RunCounts {
     pub runs: u32,
     pub tags: u32,
 }
@@ -45,12 +45,12 @@ pub(crate) struct Stream {
     dues: Dues,
     starts: StartTags,
     writes: Writes,
-    listeners: Listeners,
+    listeners: NameListeners,
     channels: Channels,
     coming: Coming,
-    unread: Unread,
+    unread: UnreadPorts,
     effort: Effort,
-    presence: Presence,
+    presence: PresentNames,
     /// Of the rows at the tag at hand.
     outline: Outline,
 }
@@ -104,7 +104,7 @@ fn is_triggered(
     writes: &Writes,
     coming: &Coming,
     marks: &Marks,
-    presence: &Presence,
+    presence: &PresentNames,
     plan: &Plan,
     reaction: u32,
     tag: Tag,
@@ -129,7 +129,7 @@ fn are_triggered(
     writes: &Writes,
     coming: &Coming,
     marks: &Marks,
-    presence: &Presence,
+    presence: &PresentNames,
     plan: &Plan,
     started: &[u32],
     tag: Tag,
@@ -159,7 +159,7 @@ impl Stream {
         ensures { IfOk result (IsStreamOf plan.now []) }
     {
         let program = plan.program();
-        let listeners = Listeners::new(alloc, plan)?;
+        let listeners = NameListeners::new(alloc, plan)?;
         let channels = Channels::new(alloc, program)?;
         Ok(Stream {
             stop: plan.externals().stop(),
@@ -173,8 +173,8 @@ impl Stream {
             listeners,
             channels,
             coming: Coming::new(alloc, effort.most_events()),
-            unread: Unread::new(alloc, program)?,
-            presence: Presence::new(alloc, program),
+            unread: UnreadPorts::new(alloc, program)?,
+            presence: PresentNames::new(alloc, program),
             outline: Outline::new(alloc),
         })
     }
@@ -285,7 +285,7 @@ impl Stream {
     fn add_slice(
         &mut self,
         plan: &Plan,
-        order: &mut Order,
+        order: &mut Precedence,
         marks: &mut Marks,
         rows: &[Row],
         slice: Slice,
@@ -339,7 +339,7 @@ impl Stream {
     pub(crate) fn add_kept(
         &mut self,
         plan: &Plan,
-        order: &mut Order,
+        order: &mut Precedence,
         marks: &mut Marks,
         rows: &[Row],
     ) -> bool
@@ -385,14 +385,14 @@ impl Stream {
     }
 
     /// The counts, where nothing is owed up to the stop.
-    pub(crate) fn finish(&mut self, plan: &Plan) -> Option<Counts>
+    pub(crate) fn finish(&mut self, plan: &Plan) -> Option<RunCounts>
         ensures { IfSome result (λ c. (t : List TheRow) → IsStreamOf plan.now t self.old → IsAccepted plan.now t c.runs c.tags) }
     {
         let stop = self.stop;
         if self.dues.none_owed(stop)
             && self.coming.is_over(plan.externals(), &self.listeners, stop)
         {
-            Some(Counts {
+            Some(RunCounts {
                 runs: self.runs,
                 tags: self.tags,
             })

@@ -7,8 +7,8 @@ ghost use Rattle.lft_monitor.specs.inner.Follows.{IsFollowerOf};
 use crate::texts::{plan, rows};
 use lft_ir::steps::Row;
 use lft_model::Plan;
-use lft_monitor::{Ending, Follower, Found, Progress};
-use lft_stream::Counts;
+use lft_monitor::{BrokenRule, Ending, Follower, Progress};
+use lft_stream::RunCounts;
 use lft_tag::{NoMemory, Tag};
 use std::alloc::Global;
 use std::test::Fail;
@@ -124,7 +124,7 @@ fn shows(
 }
 
 /// The run of `OPEN`, and of `CUT`, without an end.
-const LOST: Found = Found {
+const LOST: BrokenRule = BrokenRule {
     rule: 5,
     tag: Tag { time: 1, micro: 0 },
     reaction: Some(0),
@@ -132,7 +132,7 @@ const LOST: Found = Found {
 };
 
 /// The run of `EARLY` that begins too early.
-const TOO_EARLY: Found = Found {
+const TOO_EARLY: BrokenRule = BrokenRule {
     rule: 9,
     tag: Tag { time: 0, micro: 0 },
     reaction: Some(1),
@@ -140,7 +140,7 @@ const TOO_EARLY: Found = Found {
 };
 
 /// The runs of `RUNS`.
-const ALL: Counts = Counts { runs: 4, tags: 2 };
+const ALL: RunCounts = RunCounts { runs: 4, tags: 2 };
 
 // a follower that gives up, and one that never tells of a run without an end, meet their contracts
 #[test]

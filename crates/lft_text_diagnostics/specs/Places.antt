@@ -1,7 +1,7 @@
 -- Where a byte of a text stands, for people.
 use Rattle.std.specs.Prelude.{◌≡◌, ℕ, ◌+◌, ◌<◌, ◌≤◌, ◌⊎◌, List, length, take, slice_index, slice_range, count_by, Bool, true, not, ◌==◌}
 use Rattle.lft_lists.specs.Bytes.{within, is_in_line}
-use Rattle.lft_text_diagnostics.specs.declared.place.Place.{Place}
+use Rattle.lft_text_diagnostics.specs.declared.place.LineColumn.{LineColumn}
 
 -- The byte is a line feed.
 abbrev pub is_feed : ℕ → Bool
@@ -25,7 +25,7 @@ pub record EndsLine (t : List ℕ) (i j : ℕ) : Type 0 where
   pub last : (j ≡ length t) ⊎ (slice_index t j ≡ 10)
 
 -- The place of i: lines count by the line feeds before it, columns by the letters that begin before it in its line.
-pub record IsPlace (t : List ℕ) (i : ℕ) (place : Place) : Type 0 where
+pub record IsPlace (t : List ℕ) (i : ℕ) (place : LineColumn) : Type 0 where
   pub line : place.line ≡ count_by is_feed (take i t) + 1
   pub column : place.column ≡ count_by begins_letter (slice_range t place.start i) + 1
   pub start : BeginsLine t place.start i

@@ -2,7 +2,7 @@
 use Rattle.std.specs.Prelude.{ℕ, Bool, ◌-◌, ◌==◌, ◌&&◌, not, if◌then◌else◌, nat_lt, nat_le, ◌||◌, List, [], ◌∷◌, ◌++◌, Option, Some, None, length, take, slice_range, count_by, flat_map, replicate, min, max, chars, codes, decimal}
 use Rattle.std.specs.{Char.{is_control, is_ascii_whitespace, encode_utf8, Escape.escape_unicode}, List.suffix_len, Str.Lossy.utf8_lossy}
 use Rattle.lft_ir.specs.Words.Columns.{blanks}
-use Rattle.lft_text_diagnostics.specs.{Places.begins_letter, declared.place.Place.Place}
+use Rattle.lft_text_diagnostics.specs.{Places.begins_letter, declared.place.LineColumn.LineColumn}
 
 -- A format character: U+200B to U+200F, U+2028 to U+202E, U+2060 to U+206F, U+FEFF, or from U+E0000 on.
 abbrev pub is_format : ℕ → Bool
@@ -41,7 +41,7 @@ abbrev pub trimmed : List ℕ → List ℕ
 trimmed bytes = take (length bytes - suffix_len is_ascii_whitespace bytes) bytes
 
 -- The line of a place, and below it a mark at the bytes from start up to end that are in the line; nothing where the line has more than 200 bytes.
-abbrev pub marked_line : List ℕ → Place → ℕ → ℕ → List ℕ
+abbrev pub marked_line : List ℕ → LineColumn → ℕ → ℕ → List ℕ
 marked_line t place start end =
     if nat_lt 200 (place.end - place.start) then []
     else margin place.line ++ quoted (trimmed (slice_range t place.start place.end))
@@ -49,7 +49,7 @@ marked_line t place start end =
     ++ codes "\n"
 
 -- `Program, line L, column C: `
-abbrev pub place_words : Place → List ℕ
+abbrev pub place_words : LineColumn → List ℕ
 place_words place = codes "Program, line " ++ decimal place.line ++ codes ", column " ++ decimal place.column ++ codes ": "
 
 -- A way out in a line of its own, where there is one.

@@ -2,16 +2,16 @@
 use Rattle.std.specs.Prelude.{ℕ, ◌+◌, List, Option, Some, None, slice_get}
 use Rattle.lft_tree.specs.declared.tree.{Reactor.Reactor, Reference.Reference, TimeExpression.TimeExpression}
 use Rattle.lft_syntax.specs.declared.token.Token.{Token}
-use Rattle.lft_text_diagnostics.specs.declared.spots.Spot.{Spot}
+use Rattle.lft_text_diagnostics.specs.declared.spots.Span.{Span}
 use Rattle.lft_tree.specs.declared.tree.TimeExpression.TheVariants as times
 
 -- The bytes from the start of the one token up to the end of the other, if both are there.
-abbrev pub span_of : Option Token → Option Token → Option Spot
+abbrev pub span_of : Option Token → Option Token → Option Span
 span_of (Some first) (Some last) = Some (record { start = first.start; end = last.end })
 span_of _ _ = None
 
 -- The bytes from the token with the one number up to the end of that with the other, or none where the text has fewer tokens.
-abbrev pub span : List Token → ℕ → ℕ → Option Spot
+abbrev pub span : List Token → ℕ → ℕ → Option Span
 span tokens first last = span_of (slice_get tokens first) (slice_get tokens last)
 
 -- So many tokens further, if there is something.

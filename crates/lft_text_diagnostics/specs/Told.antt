@@ -3,7 +3,8 @@ use Rattle.std.specs.Prelude.{◌≡◌, ℕ, ◌⊎◌, ◌++◌, List, codes, 
 use Rattle.lft_syntax.specs.declared.{fault.LexFault.LexFault, token.TokenKind.TokenKind}
 use Rattle.lft_text_diagnostics.specs.{Candidates.{CanStandAt, IsWholeHelp}, Places.IsPlace, Quotes.{marked_line, place_words, quoted}}
 use Rattle.lft_text_diagnostics.specs.Refusals.{IsLong, IsRefusal}
-use Rattle.lft_text_diagnostics.specs.declared.{place.Place.Place, refusal.{Refusal.Refusal, Why.{Why, TheVariants.{Lex, Token, End}}}}
+use Rattle.lft_text_diagnostics.specs.declared.place.LineColumn.{LineColumn}
+use Rattle.lft_text_diagnostics.specs.declared.refusal.{TextRefusal.TextRefusal, TextCause.{TextCause, TheVariants.{Lex, Token, End}}}
 use Rattle.lft_syntax.specs.declared.fault.LexFault.TheVariants as fault
 use Rattle.lft_syntax.specs.declared.token.TokenKind.TheVariants as kind
 
@@ -28,23 +29,23 @@ token_words kind.Text bytes = codes "this string"
 token_words _ bytes = spelled bytes
 
 -- What is wrong at some bytes.
-abbrev pub why_words : Why → List ℕ → List ℕ
+abbrev pub why_words : TextCause → List ℕ → List ℕ
 why_words (Lex e) bytes = fault_words e
 why_words (Token number k) bytes = token_words k bytes ++ codes " can't stand here."
 why_words (End number) bytes = codes "the text ends too soon."
 
 -- What is wrong where a text is refused, in a line.
-abbrev pub sentence : List ℕ → Refusal → List ℕ
+abbrev pub sentence : List ℕ → TextRefusal → List ℕ
 sentence t r = why_words r.why (slice_range t r.start r.end) ++ codes "\n"
 
 -- The words are the line and the column of the refusal, what is wrong there, the line with a mark, and the help.
-pub record SaysAt (t : List ℕ) (r : Refusal) (help words : List ℕ) : Type 0 where
-  pub place : Place
+pub record SaysAt (t : List ℕ) (r : TextRefusal) (help words : List ℕ) : Type 0 where
+  pub place : LineColumn
   pub is_place : IsPlace t r.start place
   pub whole : words ≡ place_words place ++ sentence t r ++ marked_line t place r.start r.end ++ help
 
 -- The words begin with the place of the refusal and what is wrong there. What they list behind the marked line as what could stand there can.
-abbrev pub IsToldAt : List ℕ → Refusal → List ℕ → Type 0
+abbrev pub IsToldAt : List ℕ → TextRefusal → List ℕ → Type 0
 IsToldAt t r words = (help : List ℕ) × IsWholeHelp (CanStandAt t r.why) help × SaysAt t r help words
 
 -- What is told of a text with so many bytes, which are too many.
@@ -53,4 +54,4 @@ long_words n = codes "Program: the text has " ++ decimal n ++ codes " bytes, and
 
 -- The words tell why the text has no tree: of a long one how long it is, of another one where it is refused.
 abbrev pub TellsProgram : List ℕ → List ℕ → Type 0
-TellsProgram t words = (IsLong t × (words ≡ long_words (length t))) ⊎ ((r : Refusal) × IsRefusal t r × IsToldAt t r words)
+TellsProgram t words = (IsLong t × (words ≡ long_words (length t))) ⊎ ((r : TextRefusal) × IsRefusal t r × IsToldAt t r words)

@@ -3,7 +3,7 @@
 ghost use Rattle.std.specs.Prelude.{◌≡◌, true, IfOk};
 ghost use Rattle.lft_text_diagnostics.specs.inner.Trying.{AreTokens, CanStandBehind};
 
-use crate::thing::Thing;
+use crate::thing::CoreTrial;
 use crate::ways::{BROADCAST, FEDERATION, GENERICS, SPACING, TYPE, VALUE, of_token, of_word};
 use lft_syntax::{Token, TokenKind, Tokens, can_stand};
 use lft_tag::NoMemory;
@@ -21,7 +21,7 @@ pub(crate) struct Before<'a> {
 
 impl<'a> Before<'a> {
     /// Whether the thing can stand behind them.
-    pub(crate) fn can_stand(&self, thing: Thing) -> Result<bool, NoMemory>
+    pub(crate) fn can_stand(&self, thing: CoreTrial) -> Result<bool, NoMemory>
         requires lexed { AreTokens self.now }
         ensures { IfOk result (λ can. can ≡ true → CanStandBehind self.now thing) }
     {
@@ -100,10 +100,10 @@ impl<'a> Before<'a> {
         if sign == b'@' {
             return Ok(None);
         }
-        if self.is(1, ":") && self.can_stand(Thing::Code)? {
+        if self.is(1, ":") && self.can_stand(CoreTrial::Code)? {
             return Ok(Some(TYPE));
         }
-        if !self.can_stand(Thing::Member)? {
+        if !self.can_stand(CoreTrial::Member)? {
             return Ok(None);
         }
         match sign {
@@ -127,7 +127,7 @@ impl<'a> Before<'a> {
             tokens: self.tokens,
             count,
         };
-        shorter.can_stand(Thing::Member)
+        shorter.can_stand(CoreTrial::Member)
     }
 
     /// What to write in place of the token that is refused, by those just before it.

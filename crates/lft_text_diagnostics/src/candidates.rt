@@ -5,34 +5,38 @@ ghost use Rattle.std.specs.List.{All};
 ghost use Rattle.lft_text_diagnostics.specs.inner.Trying.{AreTokens, CanStandBehind};
 
 use crate::before::Before;
-use crate::thing::Thing;
+use crate::thing::CoreTrial;
 use lft_tag::NoMemory;
 
 /// What is also a name elsewhere, and so isn't told where a name can stand.
-const WORDS: [Thing; 2] = [Thing::Unit, Thing::TypeTime];
+const WORDS: [CoreTrial; 2] = [CoreTrial::Unit, CoreTrial::TypeTime];
 
-const OTHERS: [Thing; 17] = [
-    Thing::Number,
-    Thing::Code,
-    Thing::OpenParenthesis,
-    Thing::CloseParenthesis,
-    Thing::OpenBrace,
-    Thing::CloseBrace,
-    Thing::Comma,
-    Thing::Colon,
-    Thing::Equals,
-    Thing::Point,
-    Thing::Arrow,
-    Thing::Member,
-    Thing::Reactor,
-    Thing::Action,
-    Thing::Startup,
-    Thing::New,
-    Thing::After,
+const OTHERS: [CoreTrial; 17] = [
+    CoreTrial::Number,
+    CoreTrial::Code,
+    CoreTrial::OpenParenthesis,
+    CoreTrial::CloseParenthesis,
+    CoreTrial::OpenBrace,
+    CoreTrial::CloseBrace,
+    CoreTrial::Comma,
+    CoreTrial::Colon,
+    CoreTrial::Equals,
+    CoreTrial::Point,
+    CoreTrial::Arrow,
+    CoreTrial::Member,
+    CoreTrial::Reactor,
+    CoreTrial::Action,
+    CoreTrial::Startup,
+    CoreTrial::New,
+    CoreTrial::After,
 ];
 
 /// Puts the thing behind what was found, if it can stand behind the tokens.
-fn try_thing(before: &Before<'_>, found: &mut Vec<Thing>, thing: Thing) -> Result<(), NoMemory>
+fn try_thing(
+    before: &Before<'_>,
+    found: &mut Vec<CoreTrial>,
+    thing: CoreTrial,
+) -> Result<(), NoMemory>
     requires lexed { AreTokens before.now }
     requires found { All (CanStandBehind before.now) found.old.items }
     ensures { OnOk result (All (CanStandBehind before.now) found.new.items) }
@@ -45,7 +49,11 @@ fn try_thing(before: &Before<'_>, found: &mut Vec<Thing>, thing: Thing) -> Resul
 }
 
 /// Puts those of the things that can stand behind the tokens behind what was found.
-fn find(before: &Before<'_>, found: &mut Vec<Thing>, things: &[Thing]) -> Result<(), NoMemory>
+fn find(
+    before: &Before<'_>,
+    found: &mut Vec<CoreTrial>,
+    things: &[CoreTrial],
+) -> Result<(), NoMemory>
     requires lexed { AreTokens before.now }
     requires found { All (CanStandBehind before.now) found.old.items }
     ensures { OnOk result (All (CanStandBehind before.now) found.new.items) }
@@ -57,13 +65,13 @@ fn find(before: &Before<'_>, found: &mut Vec<Thing>, things: &[Thing]) -> Result
 }
 
 /// A name, where one can stand behind the tokens; else the words that can.
-fn name_or_words(before: &Before<'_>) -> Result<Vec<Thing>, NoMemory>
+fn name_or_words(before: &Before<'_>) -> Result<Vec<CoreTrial>, NoMemory>
     requires lexed { AreTokens before.now }
     ensures { IfOk result (λ found. All (CanStandBehind before.now) found.items) }
 {
     let mut found = Vec::new(before.alloc);
-    if before.can_stand(Thing::Name)? {
-        found.push(Thing::Name)?;
+    if before.can_stand(CoreTrial::Name)? {
+        found.push(CoreTrial::Name)?;
         return Ok(found);
     }
     find(before, &mut found, &WORDS)?;
@@ -71,7 +79,7 @@ fn name_or_words(before: &Before<'_>) -> Result<Vec<Thing>, NoMemory>
 }
 
 /// What can stand behind the tokens.
-pub(crate) fn candidates(before: &Before<'_>) -> Result<Vec<Thing>, NoMemory>
+pub(crate) fn candidates(before: &Before<'_>) -> Result<Vec<CoreTrial>, NoMemory>
     requires lexed { AreTokens before.now }
     ensures { IfOk result (λ found. All (CanStandBehind before.now) found.items) }
 {

@@ -26,7 +26,7 @@ pub mod words;
 
 pub use code::has_code_with;
 pub use pages::{Page, place_words, push_marked};
-pub use place::{Place, begins_letter, place_of};
+pub use place::{LineColumn, begins_letter, place_of};
 pub use program_text::{tell_no_tokens, tell_no_tree, way_at};
 pub use quoting::{push_line, push_place};
-pub use spots::{Spot, name_spot, reactor_spot, time_spot, token_spot};
+pub use spots::{Span, name_spot, reactor_spot, time_spot, token_spot};

@@ -3,9 +3,9 @@
 ghost use Rattle.std.specs.Prelude.{◌≡◌, ◌↔◌, ◌≤◌, ◌++◌, ℕ, List, Contains, IfNone, IfOk, IfSome, IsTrue, OnOk, length, string_bytes};
 ghost use Rattle.lft_text_diagnostics.specs.{inner.Pages.{ArePages, HasBytes, MarksBytes, MarksSpot}, Pages.{HasByte, HasNone, SaysByte, SaysSpot, page_words}};
 
-use crate::place::{Place, place_of};
+use crate::place::{LineColumn, place_of};
 use crate::quoting::{push_line, push_place};
-use crate::spots::Spot;
+use crate::spots::Span;
 use lft_ir::words::push_number;
 use lft_tag::NoMemory;
 use std::alloc::Global;
@@ -27,7 +27,7 @@ impl Page {
     }
 
     /// Puts the path, the line and the column behind the text.
-    fn push_place(&self, out: &mut String, place: Place) -> Result<(), NoMemory>
+    fn push_place(&self, out: &mut String, place: LineColumn) -> Result<(), NoMemory>
         ensures { OnOk result (string_bytes out.new ≡ string_bytes out.old ++ page_words self.now place) }
     {
         out.push_str(self.path.as_str())?;
@@ -71,7 +71,7 @@ pub fn place_words(
     alloc: Global,
     text: &[u8],
     files: &[Page],
-    spot: Option<Spot>,
+    spot: Option<Span>,
 ) -> Result<String, NoMemory>
     requires { ArePages text.now files.now }
     ensures { IfOk result (λ words. SaysSpot text.now files.now spot (string_bytes words)) }
@@ -90,7 +90,7 @@ fn push_spot(
     out: &mut String,
     text: &[u8],
     files: &[Page],
-    spot: Spot,
+    spot: Span,
 ) -> Result<(), NoMemory>
     requires pages { ArePages text.now files.now }
     requires inside { HasBytes text.now spot }
@@ -120,7 +120,7 @@ pub fn push_marked(
     out: &mut String,
     text: &[u8],
     files: &[Page],
-    spot: Option<Spot>,
+    spot: Option<Span>,
 ) -> Result<(), NoMemory>
     requires { ArePages text.now files.now }
     ensures { OnOk result ((words : List ℕ) × MarksSpot text.now files.now spot words × (string_bytes out.new ≡ string_bytes out.old ++ words)) }

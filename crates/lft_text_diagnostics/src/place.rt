@@ -5,7 +5,7 @@ ghost use Rattle.lft_text_diagnostics.specs.Places.{is_feed, begins_letter, Begi
 
 /// Where a byte of a text stands, for people.
 #[derive(Clone, Copy)]
-pub struct Place {
+pub struct LineColumn {
     /// The number of its line, the first being 1.
     pub line: usize,
     /// How many letters stand before it in its line, and 1. A letter of several bytes counts once.
@@ -64,13 +64,13 @@ fn line_end(text: &[u8], at: usize) -> usize
 }
 
 /// The place of a byte, or of the end of the text.
-pub fn place_of(text: &[u8], at: usize) -> Place
+pub fn place_of(text: &[u8], at: usize) -> LineColumn
     requires { at ≤ length text.now }
     ensures { IsPlace text.now at result }
 {
     // Counted from the start of the text: this is asked of few bytes, and of refused texts alone.
     let start = line_start(text, at);
-    Place {
+    LineColumn {
         line: line_feeds(&text[..at]) + 1,
         column: letters(&text[start..at]) + 1,
         start,

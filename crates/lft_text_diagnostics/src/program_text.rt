@@ -12,8 +12,8 @@ use crate::headers;
 use crate::left_out::push_left_out;
 use crate::place::place_of;
 use crate::quoting::{push_line, push_place};
-use crate::refusal::{Refusal, Why, at_byte, at_token};
-use crate::thing::Thing;
+use crate::refusal::{TextCause, TextRefusal, at_byte, at_token};
+use crate::thing::CoreTrial;
 use crate::ways::{CODE, NO_CODE, of_candidates, of_fault, of_token};
 use crate::words::{push_bytes, push_way};
 use lft_ir::words::push_number;
@@ -85,15 +85,15 @@ fn push_sentence(
     alloc: Global,
     out: &mut String,
     text: &[u8],
-    refusal: Refusal,
+    refusal: TextRefusal,
 ) -> Result<(), NoMemory>
     requires { (refusal.start ≤ refusal.end) × (refusal.end ≤ length text.now) }
     ensures { OnOk result (string_bytes out.new ≡ string_bytes out.old ++ sentence text.now refusal) }
 {
     match refusal.why {
-        Why::Lex(fault) => out.push_str(lex_words(fault))?,
-        Why::End(_) => out.push_str("the text ends too soon.")?,
-        Why::Token(_, kind) => {
+        TextCause::Lex(fault) => out.push_str(lex_words(fault))?,
+        TextCause::End(_) => out.push_str("the text ends too soon.")?,
+        TextCause::Token(_, kind) => {
             push_token(alloc, out, kind, &text[refusal.start..refusal.end])?;
             out.push_str(" can't stand here.")?;
         }
@@ -103,7 +103,7 @@ fn push_sentence(
 }
 
 /// Puts one more thing behind the text that could stand there.
-fn push_other(out: &mut String, thing: Thing) -> Result<(), NoMemory>
+fn push_other(out: &mut String, thing: CoreTrial) -> Result<(), NoMemory>
     ensures { OnOk result (string_bytes out.new ≡ string_bytes out.old ++ other_words thing) }
 {
     out.push_str(", ")?;
@@ -112,7 +112,7 @@ fn push_other(out: &mut String, thing: Thing) -> Result<(), NoMemory>
 }
 
 /// Puts further things behind the text that could stand there.
-fn push_others(out: &mut String, things: &[Thing]) -> Result<(), NoMemory>
+fn push_others(out: &mut String, things: &[CoreTrial]) -> Result<(), NoMemory>
     ensures { OnOk result (string_bytes out.new ≡ string_bytes out.old ++ flat_map other_words things.now) }
 {
     for at in 0..things.len() {
@@ -122,7 +122,7 @@ fn push_others(out: &mut String, things: &[Thing]) -> Result<(), NoMemory>
 }
 
 /// Puts what could stand there behind the text, where that is few things.
-fn push_candidates(out: &mut String, found: &[Thing]) -> Result<(), NoMemory>
+fn push_candidates(out: &mut String, found: &[CoreTrial]) -> Result<(), NoMemory>
     ensures { OnOk result (string_bytes out.new ≡ string_bytes out.old ++ could_words (few found.now)) }
 {
     if found.len() > MOST_CANDIDATES {
@@ -201,7 +201,12 @@ fn long_words(alloc: Global, length: usize) -> Result<String, NoMemory>
 }
 
 /// The place, what is wrong there, the line with a mark, and the help, in lines.
-fn words_at(alloc: Global, text: &[u8], refusal: Refusal, help: &str) -> Result<String, NoMemory>
+fn words_at(
+    alloc: Global,
+    text: &[u8],
+    refusal: TextRefusal,
+    help: &str,
+) -> Result<String, NoMemory>
     requires inside { (refusal.start ≤ refusal.end) × (refusal.end ≤ length text.now) }
     ensures { IfOk result (λ words. SaysAt text.now refusal help.now (string_bytes words)) }
 {

@@ -3,7 +3,7 @@
 ghost use Rattle.std.specs.Prelude.{◌≡◌, ◌≤◌, ◌++◌, OnOk, length, min, string_bytes};
 ghost use Rattle.lft_text_diagnostics.specs.{Places.IsPlace, Quotes.{blank_margin, blanks_below, margin, marked_line, marks, place_words, quoted, trimmed}};
 
-use crate::place::Place;
+use crate::place::LineColumn;
 use crate::words::{
     push_blank_margin, push_blanks_below, push_bytes, push_margin, push_marks, quoted_text,
 };
@@ -15,7 +15,7 @@ use std::alloc::Global;
 const LONGEST_LINE: usize = 200;
 
 /// Puts the line and the column behind the text.
-pub fn push_place(out: &mut String, place: Place) -> Result<(), NoMemory>
+pub fn push_place(out: &mut String, place: LineColumn) -> Result<(), NoMemory>
     ensures { OnOk result (string_bytes out.new ≡ string_bytes out.old ++ place_words place) }
 {
     out.push_str("Program, line ")?;
@@ -59,7 +59,7 @@ pub fn push_line(
     alloc: Global,
     out: &mut String,
     text: &[u8],
-    place: Place,
+    place: LineColumn,
     start: usize,
     end: usize,
 ) -> Result<(), NoMemory>

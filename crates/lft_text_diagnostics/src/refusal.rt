@@ -2,13 +2,13 @@
 
 ghost use Rattle.std.specs.Prelude.{◌≢◌, ◌-◌, ◌<◌, ◌≤◌, length, IfSome, IfNone};
 ghost use Rattle.lft_syntax.specs.{declared.fault.LexFault.TheVariants.NoMemory as LexNoMemory, Lexes.LexFails};
-ghost use Rattle.lft_text_diagnostics.specs.{Candidates.{CanStand, CanStandAt}, Refusals.{HasNoTree, IsLong, IsRefusal}, declared.thing.Thing.Thing};
+ghost use Rattle.lft_text_diagnostics.specs.{Candidates.{CanStand, CanStandAt}, Refusals.{HasNoTree, IsLong, IsRefusal}, declared.thing.CoreTrial.CoreTrial};
 
 use lft_syntax::{LexFault, TokenKind, Tokens, refused_at};
 
 /// Why a text is refused.
 #[derive(Clone, Copy)]
-pub(crate) enum Why {
+pub(crate) enum TextCause {
     /// It can't be cut into tokens any further.
     Lex(LexFault),
     /// No tree has this token there. Tokens count from 1.
@@ -19,28 +19,28 @@ pub(crate) enum Why {
 
 /// Why a text is refused, and which of its bytes that is about.
 #[derive(Clone, Copy)]
-pub(crate) struct Refusal {
-    pub why: Why,
+pub(crate) struct TextRefusal {
+    pub why: TextCause,
     pub start: usize,
     pub end: usize,
 }
 
 /// The refusal at the token with that number, or at the end of the text. Tokens count from 1.
-pub(crate) fn at_token(text: &[u8], tokens: &Tokens, number: usize) -> Refusal
+pub(crate) fn at_token(text: &[u8], tokens: &Tokens, number: usize) -> TextRefusal
     requires number { 0 < number }
     requires none { HasNoTree text.now tokens.now number }
     ensures refusal { IsRefusal text.now result }
     ensures inside { (result.start ≤ result.end) × (result.end ≤ length text.now) }
-    ensures behind { (thing : Thing) → CanStand text.now (number - 1) thing → CanStandAt text.now result.why thing }
+    ensures behind { (thing : CoreTrial) → CanStand text.now (number - 1) thing → CanStandAt text.now result.why thing }
 {
     match tokens.as_slice().get(number - 1) {
-        Some(token) => Refusal {
-            why: Why::Token(number, token.kind),
+        Some(token) => TextRefusal {
+            why: TextCause::Token(number, token.kind),
             start: token.start,
             end: token.end,
         },
-        None => Refusal {
-            why: Why::End(number),
+        None => TextRefusal {
+            why: TextCause::End(number),
             start: text.len(),
             end: text.len(),
         },
@@ -48,7 +48,7 @@ pub(crate) fn at_token(text: &[u8], tokens: &Tokens, number: usize) -> Refusal
 }
 
 /// The refusal at the byte where a text stops being tokens. One that is too long is refused nowhere.
-pub(crate) fn at_byte(text: &[u8], fault: LexFault) -> Option<Refusal>
+pub(crate) fn at_byte(text: &[u8], fault: LexFault) -> Option<TextRefusal>
     requires fails { LexFails text.now fault }
     requires fault { fault ≢ LexNoMemory }
     ensures refusal { IfSome result (IsRefusal text.now) }
@@ -56,8 +56,8 @@ pub(crate) fn at_byte(text: &[u8], fault: LexFault) -> Option<Refusal>
     ensures none { IfNone result (IsLong text.now) }
 {
     match refused_at(text) {
-        Some(start) => Some(Refusal {
-            why: Why::Lex(fault),
+        Some(start) => Some(TextRefusal {
+            why: TextCause::Lex(fault),
             start,
             end: start + 1,
         }),

@@ -9,33 +9,33 @@ use lft_tree::{Reactor, Reference, TimeExpression};
 
 /// Bytes of a text, from the start up to the end.
 #[derive(Clone, Copy)]
-pub struct Spot {
+pub struct Span {
     pub start: usize,
     pub end: usize,
 }
 
 /// The bytes from the token with that number up to the end of the one so many behind it.
-fn spot_up_to(tokens: &[Token], at: usize, behind: usize) -> Option<Spot>
+fn spot_up_to(tokens: &[Token], at: usize, behind: usize) -> Option<Span>
     ensures { result ≡ span tokens.now at (at + behind) }
 {
     let first = tokens.get(at)?;
     let end = at.checked_add(behind)?;
     let last = tokens.get(end)?;
-    Some(Spot {
+    Some(Span {
         start: first.start,
         end: last.end,
     })
 }
 
 /// The bytes of a token. None where the text has fewer.
-pub fn token_spot(tokens: &[Token], at: usize) -> Option<Spot>
+pub fn token_spot(tokens: &[Token], at: usize) -> Option<Span>
     ensures { result ≡ span tokens.now at at }
 {
     spot_up_to(tokens, at, 0)
 }
 
 /// The bytes of a name, with those of its port.
-pub fn name_spot(tokens: &[Token], name: &Reference) -> Option<Spot>
+pub fn name_spot(tokens: &[Token], name: &Reference) -> Option<Span>
     ensures { result ≡ span tokens.now name.now.at (last_of_name name.now) }
 {
     match &name.port {
@@ -45,7 +45,7 @@ pub fn name_spot(tokens: &[Token], name: &Reference) -> Option<Spot>
 }
 
 /// The bytes of a time, with those of its unit.
-pub fn time_spot(tokens: &[Token], time: &TimeExpression) -> Option<Spot>
+pub fn time_spot(tokens: &[Token], time: &TimeExpression) -> Option<Span>
     ensures { result ≡ span tokens.now (token_of time.now) (last_of_time time.now) }
 {
     match time {
@@ -58,7 +58,7 @@ pub fn time_spot(tokens: &[Token], time: &TimeExpression) -> Option<Spot>
 }
 
 /// The bytes of a reactor's name, or of `main reactor` where it has none.
-pub fn reactor_spot(tokens: &[Token], reactor: &Reactor) -> Option<Spot>
+pub fn reactor_spot(tokens: &[Token], reactor: &Reactor) -> Option<Span>
     ensures { result ≡ span tokens.now reactor.now.at (last_of_head reactor.now) }
 {
     match &reactor.name {

@@ -8,7 +8,7 @@ use lft_syntax::Seen;
 
 /// What is tried.
 #[derive(Clone, Copy, PartialEq, Eq)]
-pub(crate) enum Thing {
+pub(crate) enum CoreTrial {
     Name,
     Unit,
     TypeTime,
@@ -32,34 +32,34 @@ pub(crate) enum Thing {
     After,
 }
 
-impl Thing {
+impl CoreTrial {
     /// A token of the thing.
     pub(crate) fn token(self) -> Seen<'static>
         ensures is { seen_as result ≡ token_of self }
         ensures ascii { letters_ascii result }
     {
         match self {
-            Thing::Name => Seen::Letters(b"x"),
-            Thing::Unit => Seen::Letters(b"ms"),
-            Thing::TypeTime => Seen::Letters(b"time"),
-            Thing::Number => Seen::Number(1),
-            Thing::Code => Seen::Code,
-            Thing::OpenParenthesis => Seen::Symbol(b'('),
-            Thing::CloseParenthesis => Seen::Symbol(b')'),
-            Thing::OpenBrace => Seen::Symbol(b'{'),
-            Thing::CloseBrace => Seen::Symbol(b'}'),
-            Thing::Comma => Seen::Symbol(b','),
-            Thing::Colon => Seen::Symbol(b':'),
-            Thing::Equals => Seen::Symbol(b'='),
-            Thing::Point => Seen::Symbol(b'.'),
-            Thing::Arrow => Seen::Arrow,
+            CoreTrial::Name => Seen::Letters(b"x"),
+            CoreTrial::Unit => Seen::Letters(b"ms"),
+            CoreTrial::TypeTime => Seen::Letters(b"time"),
+            CoreTrial::Number => Seen::Number(1),
+            CoreTrial::Code => Seen::Code,
+            CoreTrial::OpenParenthesis => Seen::Symbol(b'('),
+            CoreTrial::CloseParenthesis => Seen::Symbol(b')'),
+            CoreTrial::OpenBrace => Seen::Symbol(b'{'),
+            CoreTrial::CloseBrace => Seen::Symbol(b'}'),
+            CoreTrial::Comma => Seen::Symbol(b','),
+            CoreTrial::Colon => Seen::Symbol(b':'),
+            CoreTrial::Equals => Seen::Symbol(b'='),
+            CoreTrial::Point => Seen::Symbol(b'.'),
+            CoreTrial::Arrow => Seen::Arrow,
             // Where this word can begin a member the others can too.
-            Thing::Member => Seen::Letters(b"timer"),
-            Thing::Reactor => Seen::Letters(b"reactor"),
-            Thing::Action => Seen::Letters(b"action"),
-            Thing::Startup => Seen::Letters(b"startup"),
-            Thing::New => Seen::Letters(b"new"),
-            Thing::After => Seen::Letters(b"after"),
+            CoreTrial::Member => Seen::Letters(b"timer"),
+            CoreTrial::Reactor => Seen::Letters(b"reactor"),
+            CoreTrial::Action => Seen::Letters(b"action"),
+            CoreTrial::Startup => Seen::Letters(b"startup"),
+            CoreTrial::New => Seen::Letters(b"new"),
+            CoreTrial::After => Seen::Letters(b"after"),
         }
     }
 
@@ -68,26 +68,26 @@ impl Thing {
         ensures { result.now ≡ words_of self }
     {
         match self {
-            Thing::Name => "a name",
-            Thing::Unit => "a unit of time (ns us ms s min h d week)",
-            Thing::TypeTime => "the type `time`",
-            Thing::Number => "a number",
-            Thing::Code => "code, {= .. =}",
-            Thing::OpenParenthesis => "`(`",
-            Thing::CloseParenthesis => "`)`",
-            Thing::OpenBrace => "`{`",
-            Thing::CloseBrace => "`}`",
-            Thing::Comma => "`,`",
-            Thing::Colon => "`:`",
-            Thing::Equals => "`=`",
-            Thing::Point => "`.`",
-            Thing::Arrow => "`->`",
-            Thing::Member => "a member of the reactor, as `timer` or `reaction`",
-            Thing::Reactor => "`reactor`",
-            Thing::Action => "`action`",
-            Thing::Startup => "`startup`",
-            Thing::New => "`new`",
-            Thing::After => "`after`",
+            CoreTrial::Name => "a name",
+            CoreTrial::Unit => "a unit of time (ns us ms s min h d week)",
+            CoreTrial::TypeTime => "the type `time`",
+            CoreTrial::Number => "a number",
+            CoreTrial::Code => "code, {= .. =}",
+            CoreTrial::OpenParenthesis => "`(`",
+            CoreTrial::CloseParenthesis => "`)`",
+            CoreTrial::OpenBrace => "`{`",
+            CoreTrial::CloseBrace => "`}`",
+            CoreTrial::Comma => "`,`",
+            CoreTrial::Colon => "`:`",
+            CoreTrial::Equals => "`=`",
+            CoreTrial::Point => "`.`",
+            CoreTrial::Arrow => "`->`",
+            CoreTrial::Member => "a member of the reactor, as `timer` or `reaction`",
+            CoreTrial::Reactor => "`reactor`",
+            CoreTrial::Action => "`action`",
+            CoreTrial::Startup => "`startup`",
+            CoreTrial::New => "`new`",
+            CoreTrial::After => "`after`",
         }
     }
 }

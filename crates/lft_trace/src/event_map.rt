@@ -13,13 +13,13 @@ use std::collections::BTreeMap;
 use std::marker::Model;
 
 /// Values of events by time, microstep and action.
-type Values = BTreeMap<(u64, u32, u32), Value>;
+type EventValues = BTreeMap<(u64, u32, u32), Value>;
 
 /// Events. While they come in order, they stand in a list, and from the first one on that doesn't in a map.
 #[derive(Drop)]
 pub(crate) struct EventMap {
     list: Vec<Event>,
-    values: Values,
+    values: EventValues,
 }
 
 impl Model for EventMap {
@@ -54,7 +54,7 @@ fn comes_last(events: &[Event], event: Event) -> bool
 
 /// Puts an event into a map; false where one of its action at its tag is there already, whose value it then
 /// replaces.
-fn put(values: &mut Values, event: Event) -> Result<bool, NoMemory>
+fn put(values: &mut EventValues, event: Event) -> Result<bool, NoMemory>
     ensures there { IfOk result (λ new. new ≡ false → (d : TheEvent) × Has (map event_at values.old.entries) d × Clash d event) }
     ensures apart { IfOk result (λ new. new ≡ true → (d : TheEvent) → Has (map event_at values.old.entries) d → Clash d event → ⊥) }
     ensures added { IfOk result (λ new. new ≡ true → IsPermutation (event ∷ map event_at values.old.entries) (map event_at values.new.entries)) }
@@ -68,7 +68,7 @@ fn put(values: &mut Values, event: Event) -> Result<bool, NoMemory>
 }
 
 /// A map of these events.
-fn map_of(alloc: Global, events: &[Event]) -> Result<Values, NoMemory>
+fn map_of(alloc: Global, events: &[Event]) -> Result<EventValues, NoMemory>
     requires { InOrder events.now }
     ensures { IfOk result (λ values. IsPermutation events.now (map event_at values.entries)) }
 {

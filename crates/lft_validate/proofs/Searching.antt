@@ -5,7 +5,7 @@ use Rattle.lft_lists.proofs.Mapped.{option_map_some}
 use Rattle.lft_lists.proofs.Places.{get_there, get_written, get_unwritten, get_write_cases, length_written, get_push, get_last, get_push_cases, get_same, length_same, same_some}
 use Rattle.lft_resolve.specs.{inner.Expansion.Contents.contained, declared.expansion.walk.Contents.Contents}
 use Rattle.lft_validate.specs.inner.Circles.{Holds, IsDone, DoneBetween, OnlyDone, IsVisitAt, Founded, founded, AllFounded, IsSearched, KeepsNew, IsRound}
-use Rattle.lft_validate.specs.declared.circle.{Stage.{Stage, TheVariants.{New, Open, Done}}, Visit.Visit}
+use Rattle.lft_validate.specs.declared.circle.{Stage.{Stage, TheVariants.{New, Open, Done}}, OnPath.OnPath}
 
 -- how many reactors weren't met
 abbrev one_new : Stage → ℕ
@@ -31,13 +31,13 @@ no_more (s ∷ ss) zero = omega arith
 no_more (s ∷ ss) (suc i) = let rest = no_more ss i in omega (arith, rest)
 
 -- what the search has at each turn
-pub record Searching (table : List Contents) (before : List Stage) (start : ℕ) (stages : List Stage) (path : List Visit) : Type 0 where
+pub record Searching (table : List Contents) (before : List Stage) (start : ℕ) (stages : List Stage) (path : List OnPath) : Type 0 where
   pub as_long : length stages ≡ length table
   pub ends : (r : ℕ) → IsDone stages r → Founded table r
   pub open_on : (r : ℕ) → slice_get stages r ≡ Some Open → (i : ℕ) × IsVisitAt path i r
-  pub within : (i : ℕ) (v : Visit) → slice_get path i ≡ Some v → v.reactor < length table
-  pub links : (i : ℕ) (a b : Visit) → slice_get path i ≡ Some a → slice_get path (i + 1) ≡ Some b → Holds table a.reactor b.reactor
-  pub passed : (i : ℕ) (v : Visit) → slice_get path i ≡ Some v → (k r : ℕ) → k < v.next → contained table v.reactor k ≡ Some r → IsDone stages r
+  pub within : (i : ℕ) (v : OnPath) → slice_get path i ≡ Some v → v.reactor < length table
+  pub links : (i : ℕ) (a b : OnPath) → slice_get path i ≡ Some a → slice_get path (i + 1) ≡ Some b → Holds table a.reactor b.reactor
+  pub passed : (i : ℕ) (v : OnPath) → slice_get path i ≡ Some v → (k r : ℕ) → k < v.next → contained table v.reactor k ≡ Some r → IsDone stages r
   pub kept : KeepsNew before stages
   pub looked : slice_get stages start ≢ Some New
 
@@ -65,7 +65,7 @@ finished_done : (stages : List Stage) (i r : ℕ) → r ≢ i → IsDone (slice_
 finished_done stages i r n done s at = done s (get_unwritten stages i r Done n ∙ at)
 
 -- the last reactor of the path is done
-pub searching_done : (table : List Contents) (before stages : List Stage) (start : ℕ) (path : List Visit) (top : Visit) → Searching table before start stages (path ++ top ∷ []) → OnlyDone stages (contained table top.reactor) top.next → Searching table before start (slice_set stages top.reactor Done) path
+pub searching_done : (table : List Contents) (before stages : List Stage) (start : ℕ) (path : List OnPath) (top : OnPath) → Searching table before start stages (path ++ top ∷ []) → OnlyDone stages (contained table top.reactor) top.next → Searching table before start (slice_set stages top.reactor Done) path
 searching_done table before stages start path top s only = record {
   as_long = length_written stages top.reactor Done ∙ s.as_long;
   ends = λ r d. elim (cases_eq r top.reactor) [ inl q ↦ subst (Founded table) (sym q) (founded inside) | inr n ↦ s.ends r (finished_done stages top.reactor r n d) ];
@@ -93,7 +93,7 @@ searching_done table before stages start path top s only = record {
     ]
 
 -- the last visit of the path goes on to a place
-pub searching_on : (table : List Contents) (before stages : List Stage) (start : ℕ) (path : List Visit) (top again : Visit) → Searching table before start stages (path ++ top ∷ []) → again.reactor ≡ top.reactor → DoneBetween stages (contained table top.reactor) top.next again.next → Searching table before start stages (path ++ again ∷ [])
+pub searching_on : (table : List Contents) (before stages : List Stage) (start : ℕ) (path : List OnPath) (top again : OnPath) → Searching table before start stages (path ++ top ∷ []) → again.reactor ≡ top.reactor → DoneBetween stages (contained table top.reactor) top.next again.next → Searching table before start stages (path ++ again ∷ [])
 searching_on table before stages start path top again s same between = record {
   as_long = s.as_long;
   ends = s.ends;
@@ -118,7 +118,7 @@ searching_on table before stages start path top again s same between = record {
   looked = s.looked;
 }
   where
-    linked : (i : ℕ) (a b : Visit) → slice_get (path ++ again ∷ []) i ≡ Some a → slice_get (path ++ again ∷ []) (i + 1) ≡ Some b → Holds table a.reactor b.reactor
+    linked : (i : ℕ) (a b : OnPath) → slice_get (path ++ again ∷ []) i ≡ Some a → slice_get (path ++ again ∷ []) (i + 1) ≡ Some b → Holds table a.reactor b.reactor
     linked i a b at bt = elim (get_push_cases path again (i + 1) b bt) [
       | inl old ↦ (elim (get_push_cases path again i a at) [
         | inl older ↦ s.links i a b (get_push path top i a older) (get_push path top (i + 1) b old)
@@ -133,22 +133,22 @@ searching_on table before stages start path top again s same between = record {
       ])
     ]
 
-pub push_length : (xs : List Visit) (y : Visit) → length (xs ++ y ∷ []) ≡ length xs + 1
+pub push_length : (xs : List OnPath) (y : OnPath) → length (xs ++ y ∷ []) ≡ length xs + 1
 push_length [] y = refl
 push_length (x ∷ xs) y = let r = push_length xs y in omega (arith, r)
 
 -- a reactor that wasn't met is put at the end of the path, inside the last one
-module _ (table : List Contents) (before stages : List Stage) (start : ℕ) (path : List Visit) (top : Visit) (inner : ℕ) (s : Searching table before start stages (path ++ top ∷ [])) (held : Holds table top.reactor inner) (new : slice_get stages inner ≡ Some New) where
-  abbrev longer : List Visit
+module _ (table : List Contents) (before stages : List Stage) (start : ℕ) (path : List OnPath) (top : OnPath) (inner : ℕ) (s : Searching table before start stages (path ++ top ∷ [])) (held : Holds table top.reactor inner) (new : slice_get stages inner ≡ Some New) where
+  abbrev longer : List OnPath
   longer = path ++ top ∷ []
 
-  abbrev fresh : Visit
+  abbrev fresh : OnPath
   fresh = record { reactor = inner; next = 0 }
 
   met_within : inner < length stages
   met_within = slice_get_within stages inner New new
 
-  linked_on : (i : ℕ) (a b : Visit) → slice_get (longer ++ fresh ∷ []) i ≡ Some a → slice_get (longer ++ fresh ∷ []) (i + 1) ≡ Some b → Holds table a.reactor b.reactor
+  linked_on : (i : ℕ) (a b : OnPath) → slice_get (longer ++ fresh ∷ []) i ≡ Some a → slice_get (longer ++ fresh ∷ []) (i + 1) ≡ Some b → Holds table a.reactor b.reactor
   linked_on i a b at bt = elim (get_push_cases longer fresh (i + 1) b bt) [
     | inl old ↦ (elim (get_push_cases longer fresh i a at) [
       | inl older ↦ s.links i a b older old
@@ -199,14 +199,14 @@ length_map f [] = refl
 length_map f (x ∷ xs) = let r = length_map f xs in omega (arith, r)
 
 -- the path from a reactor that the last one contains is a circle
-module _ (table : List Contents) (before stages : List Stage) (start : ℕ) (path : List Visit) (top : Visit) (inner : ℕ) (s : Searching table before start stages (path ++ top ∷ [])) (held : Holds table top.reactor inner) (n : ℕ) (on : IsVisitAt (path ++ top ∷ []) n inner) where
-  abbrev whole : List Visit
+module _ (table : List Contents) (before stages : List Stage) (start : ℕ) (path : List OnPath) (top : OnPath) (inner : ℕ) (s : Searching table before start stages (path ++ top ∷ [])) (held : Holds table top.reactor inner) (n : ℕ) (on : IsVisitAt (path ++ top ∷ []) n inner) where
+  abbrev whole : List OnPath
   whole = path ++ top ∷ []
 
   abbrev places : List ℕ
   places = map (λ a. a.reactor) (drop n whole)
 
-  visit_at : (i a : ℕ) → slice_get places i ≡ Some a → (v : Visit) × (slice_get whole (n + i) ≡ Some v) × (v.reactor ≡ a)
+  visit_at : (i a : ℕ) → slice_get places i ≡ Some a → (v : OnPath) × (slice_get whole (n + i) ≡ Some v) × (v.reactor ≡ a)
   visit_at i a at =
       let m = option_map_some (λ w. w.reactor) (slice_get (drop n whole) i) a (sym (slice_get-map (λ w. w.reactor) (drop n whole) i) ∙ at) in
       (m.0, sym (at_drop n whole i) ∙ m.1, m.2)
@@ -243,7 +243,7 @@ module _ (table : List Contents) (before stages : List Stage) (start : ℕ) (pat
   round_some empty = let e : length places ≡ 0 = ap length empty in let many = as_many in let within = inside in absurd (omega (arith, e, many, within))
 
 -- the same of what the code made of the path
-pub round_of : (table : List Contents) (before stages : List Stage) (start : ℕ) (path : List Visit) (top : Visit) (inner : ℕ) → Searching table before start stages (path ++ top ∷ []) → Holds table top.reactor inner → (seen : List Visit) → seen ≡ path ++ top ∷ [] → (found : List ℕ) → (n : ℕ) × IsVisitAt seen n inner × (found ≡ map (λ a. a.reactor) (drop n seen)) → IsRound table found × (found ≢ [])
+pub round_of : (table : List Contents) (before stages : List Stage) (start : ℕ) (path : List OnPath) (top : OnPath) (inner : ℕ) → Searching table before start stages (path ++ top ∷ []) → Holds table top.reactor inner → (seen : List OnPath) → seen ≡ path ++ top ∷ [] → (found : List ℕ) → (n : ℕ) × IsVisitAt seen n inner × (found ≡ map (λ a. a.reactor) (drop n seen)) → IsRound table found × (found ≢ [])
 round_of table before stages start path top inner s held seen same found (n, on, is) =
     let there = subst (λ l. IsVisitAt l n inner) same on in
     let places : found ≡ map (λ a. a.reactor) (drop n (path ++ top ∷ [])) = is ∙ ap (λ l. map (λ a. a.reactor) (drop n l)) same in

@@ -12,7 +12,7 @@ use crate::members::first_member;
 use crate::scopes::Scopes;
 use crate::sources::two_sources;
 use crate::witness::Witness;
-use lft_resolve::file::File;
+use lft_resolve::file::ReactorTable;
 use lft_resolve::own::Own;
 use lft_tag::NoMemory;
 use lft_tree::Reactor;
@@ -22,7 +22,7 @@ use std::alloc::Global;
 fn duplicate_name(
     alloc: Global,
     reactors: &[&Reactor],
-    file: &File,
+    file: &ReactorTable,
     owns: &[Own],
 ) -> Result<Option<Witness>, NoMemory>
     requires { AreNames (reactor_trees reactors.now) file.now owns.now }
@@ -43,7 +43,7 @@ fn duplicate_name(
 fn first_of(
     alloc: Global,
     reactors: &[&Reactor],
-    file: &File,
+    file: &ReactorTable,
     owns: &[Own],
 ) -> Result<Option<Witness>, NoMemory>
     requires { AreNames (reactor_trees reactors.now) file.now owns.now }
@@ -73,7 +73,7 @@ pub fn check_first(alloc: Global, scopes: &Scopes) -> Result<Option<Witness>, No
 fn later_of(
     alloc: Global,
     reactors: &[&Reactor],
-    file: &File,
+    file: &ReactorTable,
     owns: &[Own],
 ) -> Result<Option<Witness>, NoMemory>
     requires { AreNames (reactor_trees reactors.now) file.now owns.now }
@@ -113,7 +113,7 @@ pub fn check_later(alloc: Global, scopes: &Scopes) -> Result<Option<Witness>, No
 fn times_of(
     alloc: Global,
     reactors: &[&Reactor],
-    file: &File,
+    file: &ReactorTable,
     owns: &[Own],
 ) -> Result<Option<Witness>, NoMemory>
     requires { AreNames (reactor_trees reactors.now) file.now owns.now }

@@ -24,7 +24,7 @@ enum Stage {
 
 /// A reactor on the path, and which of the reactors that it contains is looked at next.
 #[derive(Clone, Copy, Drop)]
-struct Visit {
+struct OnPath {
     reactor: usize,
     next: usize,
 }
@@ -51,7 +51,7 @@ fn first_left(numbers: &[u32], stages: &[Stage], start: usize) -> Option<(usize,
 }
 
 /// The next instance in a reactor of one that the search isn't done with: its place, and its reactor.
-fn next_inside(contents: &[Contents], stages: &[Stage], visit: Visit) -> Option<(usize, usize)>
+fn next_inside(contents: &[Contents], stages: &[Stage], visit: OnPath) -> Option<(usize, usize)>
     ensures some { IfSome result (λ p. (contained contents.now visit.reactor p.0 ≡ Some p.1) × (¬ IsDone stages.now p.1) × DoneBetween stages.now (contained contents.now visit.reactor) visit.next p.0) }
     ensures none { IfNone result (OnlyDone stages.now (contained contents.now visit.reactor) visit.next) }
 {
@@ -62,7 +62,7 @@ fn next_inside(contents: &[Contents], stages: &[Stage], visit: Visit) -> Option<
 }
 
 /// Where the reactor is on the path.
-fn place_on(path: &[Visit], reactor: usize) -> Option<usize>
+fn place_on(path: &[OnPath], reactor: usize) -> Option<usize>
     ensures some { IfSome result (λ n. IsVisitAt path.now n reactor) }
     ensures none { IfNone result ((n : ℕ) → ¬ IsVisitAt path.now n reactor) }
 {
@@ -75,7 +75,7 @@ fn place_on(path: &[Visit], reactor: usize) -> Option<usize>
 }
 
 /// The reactors of the path from that place on.
-fn reactors_from(alloc: Global, path: &[Visit], place: usize) -> Result<Vec<usize>, NoMemory>
+fn reactors_from(alloc: Global, path: &[OnPath], place: usize) -> Result<Vec<usize>, NoMemory>
     requires { place ≤ length path.now }
     ensures { IfOk result (λ v. v.items ≡ map (λ a. a.reactor) (drop place path.now)) }
 {
@@ -87,7 +87,7 @@ fn reactors_from(alloc: Global, path: &[Visit], place: usize) -> Result<Vec<usiz
 }
 
 /// The reactors of the path from the one with that number on.
-fn round_at(alloc: Global, path: &[Visit], reactor: usize) -> Result<Vec<usize>, NoMemory>
+fn round_at(alloc: Global, path: &[OnPath], reactor: usize) -> Result<Vec<usize>, NoMemory>
     requires { (n : ℕ) × IsVisitAt path.now n reactor }
     ensures { IfOk result (λ v. (n : ℕ) × IsVisitAt path.now n reactor × (v.items ≡ map (λ a. a.reactor) (drop n path.now))) }
 {
@@ -119,7 +119,7 @@ fn explore(
     // A list, so that no depth of calls grows with the input.
     let mut path = Vec::new(alloc);
     stages[start] = Stage::Open;
-    path.push(Visit {
+    path.push(OnPath {
         reactor: start,
         next: 0,
     })?;
@@ -129,7 +129,7 @@ fn explore(
                 stages[top.reactor] = Stage::Done;
             }
             Some((next, inner)) => {
-                path.push(Visit {
+                path.push(OnPath {
                     reactor: top.reactor,
                     next,
                 })?;
@@ -138,7 +138,7 @@ fn explore(
                     _ => return round_at(alloc, &path, inner),
                 }
                 stages[inner] = Stage::Open;
-                path.push(Visit {
+                path.push(OnPath {
                     reactor: inner,
                     next: 0,
                 })?;

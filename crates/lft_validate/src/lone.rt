@@ -8,14 +8,14 @@ ghost use Rattle.lft_validate.specs.declared.fault.ProgramFault.TheVariants as f
 
 use crate::finding::Finding;
 use crate::names::times_of;
-use lft_resolve::file::File;
+use lft_resolve::file::ReactorTable;
 use lft_resolve::times::nanoseconds;
 use lft_tag::NoMemory;
 use lft_tree::{Member, Reactor, TimeExpression};
 use std::alloc::Global;
 
 /// Whether the member is an instance of a reactor that isn't in the file.
-pub(crate) fn unknown_reactor(file: &File, member: &Member) -> Option<Finding>
+pub(crate) fn unknown_reactor(file: &ReactorTable, member: &Member) -> Option<Finding>
     ensures some { (rs : List ReactorTree) (r : ReactorTree) → IsFile rs file.now → IfSome result (IsFinding rs r (member_view member.now)) }
     ensures cause { IfSome result (λ f. fault_found f ≡ faults.UnknownReactor) }
     ensures none { (rs : List ReactorTree) (r : ReactorTree) → IsFile rs file.now → IfNone result (¬ ShowsCause rs r (member_view member.now) faults.UnknownReactor) }

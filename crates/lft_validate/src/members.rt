@@ -13,7 +13,7 @@ use crate::misplaced::misplaced;
 use crate::twice::{given_twice, named_twice};
 use crate::unknown::unknown;
 use crate::witness::Witness;
-use lft_resolve::file::File;
+use lft_resolve::file::ReactorTable;
 use lft_resolve::own::Own;
 use lft_tag::NoMemory;
 use lft_tree::{Member, Reactor};
@@ -23,7 +23,7 @@ use std::alloc::Global;
 fn in_member(
     alloc: Global,
     cause: ProgramFault,
-    file: &File,
+    file: &ReactorTable,
     own: &Own,
     reactor: &Reactor,
     member: &Member,
@@ -50,7 +50,7 @@ fn in_member(
 fn at_place(
     alloc: Global,
     cause: ProgramFault,
-    file: &File,
+    file: &ReactorTable,
     own: &Own,
     reactor: &Reactor,
     place: usize,
@@ -68,7 +68,7 @@ fn at_place(
 fn first_place(
     alloc: Global,
     cause: ProgramFault,
-    file: &File,
+    file: &ReactorTable,
     own: &Own,
     reactor: &Reactor,
 ) -> Result<Option<(usize, Finding)>, NoMemory>
@@ -89,7 +89,7 @@ pub(crate) fn first_member(
     alloc: Global,
     cause: ProgramFault,
     reactors: &[&Reactor],
-    file: &File,
+    file: &ReactorTable,
     owns: &[Own],
 ) -> Result<Option<Witness>, NoMemory>
     requires { AreNames (reactor_trees reactors.now) file.now owns.now }

@@ -9,7 +9,7 @@ ghost use Rattle.lft_validate.specs.declared.fault.ProgramFault.TheVariants as f
 
 use crate::finding::{Finding, ROLES};
 use crate::names::{names_of, times_of};
-use lft_resolve::file::{File, kind_of};
+use lft_resolve::file::{ReactorTable, kind_of};
 use lft_resolve::kinds::{Kind, Role, may_stand};
 use lft_resolve::own::Own;
 use lft_tag::NoMemory;
@@ -17,7 +17,7 @@ use lft_tree::{Member, Reference, TimeExpression};
 use std::alloc::Global;
 
 /// What the name is, if it may not have that role.
-fn wrong_kind(file: &File, own: &Own, role: Role, name: &Reference) -> Option<Kind>
+fn wrong_kind(file: &ReactorTable, own: &Own, role: Role, name: &Reference) -> Option<Kind>
     ensures some { (rs : List ReactorTree) (r : ReactorTree) → IsFile rs file.now → IsOwn r own.now → IfSome result (λ kind. IsWrong rs r role kind (ref_view name.now)) }
     ensures none { (rs : List ReactorTree) (r : ReactorTree) → IsFile rs file.now → IsOwn r own.now → IfNone result (¬ IsMisplaced rs r (role, ref_view name.now)) }
 {
@@ -30,7 +30,12 @@ fn wrong_kind(file: &File, own: &Own, role: Role, name: &Reference) -> Option<Ki
 }
 
 /// The first of the names that may not have that role, and what it is.
-fn first_wrong(file: &File, own: &Own, role: Role, names: &[&Reference]) -> Option<(usize, Kind)>
+fn first_wrong(
+    file: &ReactorTable,
+    own: &Own,
+    role: Role,
+    names: &[&Reference],
+) -> Option<(usize, Kind)>
     ensures some { (rs : List ReactorTree) (r : ReactorTree) → IsFile rs file.now → IsOwn r own.now → IfSome result (λ p. IsSomeAnd (slice_get (ref_trees names.now) p.0) (IsWrong rs r role p.1)) }
     ensures none { (rs : List ReactorTree) (r : ReactorTree) → IsFile rs file.now → IsOwn r own.now → IfNone result (¬ Any (λ ref. IsMisplaced rs r (role, ref)) (ref_trees names.now)) }
 {
@@ -45,7 +50,7 @@ fn first_wrong(file: &File, own: &Own, role: Role, names: &[&Reference]) -> Opti
 /// The first of the member's names in that role that may not have it.
 fn misplaced_in_role(
     alloc: Global,
-    file: &File,
+    file: &ReactorTable,
     own: &Own,
     member: &Member,
     role: Role,
@@ -64,7 +69,7 @@ fn misplaced_in_role(
 /// The first of the member's names that may not stand where it does.
 fn misplaced_name(
     alloc: Global,
-    file: &File,
+    file: &ReactorTable,
     own: &Own,
     member: &Member,
 ) -> Result<Option<Finding>, NoMemory>
@@ -114,7 +119,7 @@ fn first_wrong_time(own: &Own, times: &[&TimeExpression]) -> Option<(usize, Kind
 /// The first of the member's names and times that may not stand where it does.
 pub(crate) fn misplaced(
     alloc: Global,
-    file: &File,
+    file: &ReactorTable,
     own: &Own,
     member: &Member,
 ) -> Result<Option<Finding>, NoMemory>

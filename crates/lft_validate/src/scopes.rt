@@ -5,7 +5,7 @@ ghost use Rattle.std.specs.List.{AllZip};
 ghost use Rattle.lft_tree.specs.{Tree.reactors_of, View.tree_view};
 ghost use Rattle.lft_resolve.specs.inner.{References.reactor_trees, Tables.{IsFile, IsOwn}};
 
-use lft_resolve::file::File;
+use lft_resolve::file::ReactorTable;
 use lft_resolve::members;
 use lft_resolve::own::Own;
 use lft_tag::NoMemory;
@@ -18,7 +18,7 @@ use std::marker::Model;
 pub struct Scopes<'a> {
     ast: &'a Ast,
     reactors: Vec<&'a Reactor>,
-    file: File<'a>,
+    file: ReactorTable<'a>,
     owns: Vec<Own<'a>>,
 }
 
@@ -50,7 +50,7 @@ impl<'a> Scopes<'a> {
         ensures { IfOk result (λ s. s ≡ tree_view ast.now) }
     {
         let reactors = members::reactors(alloc, &ast.items)?;
-        let file = File::of(alloc, &reactors)?;
+        let file = ReactorTable::of(alloc, &reactors)?;
         let owns = owns_of(alloc, &reactors)?;
         Ok(Scopes {
             ast,
@@ -75,7 +75,7 @@ impl<'a> Scopes<'a> {
     }
 
     /// What they show to one another.
-    pub(crate) fn file(&self) -> &File<'a>
+    pub(crate) fn file(&self) -> &ReactorTable<'a>
         ensures { IsFile (reactors_of self.now) result.now }
     {
         &self.file

@@ -9,7 +9,7 @@ ghost use Rattle.lft_validate.specs.declared.fault.ProgramFault.TheVariants as f
 
 use crate::finding::{Finding, ROLES};
 use crate::names::{names_of, times_of};
-use lft_resolve::file::{File, Outside, kind_of};
+use lft_resolve::file::{Outside, ReactorTable, kind_of};
 use lft_resolve::kinds::Role;
 use lft_resolve::own::Own;
 use lft_tag::NoMemory;
@@ -17,7 +17,7 @@ use lft_tree::{Assignment, Instance, Member, Reference, TimeExpression};
 use std::alloc::Global;
 
 /// The first of the names that is nothing.
-fn first_nothing(file: &File, own: &Own, names: &[&Reference]) -> Option<usize>
+fn first_nothing(file: &ReactorTable, own: &Own, names: &[&Reference]) -> Option<usize>
     ensures some { (rs : List ReactorTree) (r : ReactorTree) → IsFile rs file.now → IsOwn r own.now → IfSome result (λ n. IsSomeAnd (slice_get (ref_trees names.now) n) (IsNothing rs r)) }
     ensures none { (rs : List ReactorTree) (r : ReactorTree) → IsFile rs file.now → IsOwn r own.now → IfNone result (¬ Any (IsNothing rs r) (ref_trees names.now)) }
 {
@@ -32,7 +32,7 @@ fn first_nothing(file: &File, own: &Own, names: &[&Reference]) -> Option<usize>
 /// The first of the member's names in that role that is nothing.
 fn unknown_in_role(
     alloc: Global,
-    file: &File,
+    file: &ReactorTable,
     own: &Own,
     member: &Member,
     role: Role,
@@ -51,7 +51,7 @@ fn unknown_in_role(
 /// The first of the member's names that is nothing.
 fn unknown_name(
     alloc: Global,
-    file: &File,
+    file: &ReactorTable,
     own: &Own,
     member: &Member,
 ) -> Result<Option<Finding>, NoMemory>
@@ -111,7 +111,7 @@ fn first_for_none(outside: &Outside, given: &[Assignment]) -> Option<usize>
 }
 
 /// The first value of a `new` that is for what isn't a parameter.
-fn unknown_value(file: &File, instance: &Instance) -> Option<usize>
+fn unknown_value(file: &ReactorTable, instance: &Instance) -> Option<usize>
     ensures some { (rs : List ReactorTree) → IsFile rs file.now → IfSome result (λ n. IsForNone rs n (instance_view instance.now)) }
     ensures none { (rs : List ReactorTree) → IsFile rs file.now → IfNone result (¬ GivesUnknown rs (instance_view instance.now)) }
 {
@@ -122,7 +122,7 @@ fn unknown_value(file: &File, instance: &Instance) -> Option<usize>
 }
 
 /// The first value of the member, if it is an instance, that is for what isn't a parameter.
-fn unknown_parameter(file: &File, member: &Member) -> Option<usize>
+fn unknown_parameter(file: &ReactorTable, member: &Member) -> Option<usize>
     ensures some { (rs : List ReactorTree) → IsFile rs file.now → IfSome result (λ n. IsSomeAnd (instance_in (member_view member.now)) (IsForNone rs n)) }
     ensures none { (rs : List ReactorTree) → IsFile rs file.now → IfNone result (¬ IsSomeAnd (instance_in (member_view member.now)) (GivesUnknown rs)) }
 {
@@ -136,7 +136,7 @@ fn unknown_parameter(file: &File, member: &Member) -> Option<usize>
 /// The first of the member's values and times in which a name is nothing.
 fn unknown_value_or_time(
     alloc: Global,
-    file: &File,
+    file: &ReactorTable,
     own: &Own,
     member: &Member,
 ) -> Result<Option<Finding>, NoMemory>
@@ -160,7 +160,7 @@ fn unknown_value_or_time(
 /// The first place of the member where a name is nothing.
 pub(crate) fn unknown(
     alloc: Global,
-    file: &File,
+    file: &ReactorTable,
     own: &Own,
     member: &Member,
 ) -> Result<Option<Finding>, NoMemory>

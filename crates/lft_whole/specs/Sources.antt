@@ -1,4 +1,3 @@
 pub mod Causes
 pub mod Shown
 pub mod Spots
-pub mod Tokens

@@ -7,5 +7,5 @@ mod why;
 
 pub use shown::{push_place, shown_path};
 pub use source::{SourceFile, Spot, number_of, place_of};
-pub use stop::{Place, Refusal, Stop};
+pub use stop::{FileRefusal, NoProgram, Place};
 pub use why::Why;

@@ -3,13 +3,13 @@ use Rattle.std.proofs.Common.{◌≡◌, ◌<◌, ℕ, inl, inr, List, [], ◌�
 use Rattle.std.specs.Prelude.{IfSome, IsSomeAnd, slice_get}
 use Rattle.std.proofs.lemmas.{List.length-map, Option.slice_get_within}
 use Rattle.lft_lists.proofs.Places.{get_push, get_push_cases, get_there, Some_same}
-use Rattle.lft_whole.specs.declared.sources.{source.SourceFile.SourceFile, stop.{Place.Place, Refusal.Refusal}}
+use Rattle.lft_whole.specs.declared.sources.{source.SourceFile.SourceFile, stop.{Place.Place, FileRefusal.FileRefusal}}
 use Rattle.lft_whole_parser.specs.inner.Imports.Files.{AreSources, HasOneMore, IsNamedBy, RefusesNext, next_path, paths_of}
 use Rattle.lft_whole_parser.specs.{Imports.{Files.{IsFileOf, IsImportOf, IsRefusedFor, paths_of_files}, Paths.normal}, declared.imports.sources.Sources.Sources}
 use Rattle.lft_whole_parser.proofs.ImportsLemmas.Known.{all_whole, path_at, read_more}
 use Rattle.lft_whole_driver.specs.{Lowered.{AreFilesOf, BeginWith, LeadTo}, inner.{Lowered.BeginsAs, Unlowered.{IsAt, IsOfUnread}}}
 use Rattle.lft_whole_driver.specs.Unlowered.{IsOfFirst, IsOfImported}
-use Rattle.lft_whole.specs.declared.sources.stop.Stop.TheVariants as stop
+use Rattle.lft_whole.specs.declared.sources.stop.NoProgram.TheVariants as stop
 
 module _ (path text : List ℕ) (s0 : Sources) (none : s0.files.items ≡ []) (paths : paths_of s0.asked ≡ normal path ∷ []) where
   wanted : next_path s0 ≡ Some (normal path)
@@ -23,7 +23,7 @@ module _ (path text : List ℕ) (s0 : Sources) (none : s0.files.items ≡ []) (p
       subst (BeginWith path text) (sym made) one.1
 
   -- the first is refused
-  pub first_refused : (files : List SourceFile) (r : Refusal) → RefusesNext text s0 files (stop.Refused r) → IsOfFirst path text files r
+  pub first_refused : (files : List SourceFile) (r : FileRefusal) → RefusesNext text s0 files (stop.Refused r) → IsOfFirst path text files r
   first_refused files r h =
       let same : string_bytes h.0.path ≡ normal path = Some_same _ _ (sym h.1 ∙ wanted) in
       let made : files ≡ h.0 ∷ [] = h.2 ∙ ap (λ fs. fs ++ h.0 ∷ []) none in
@@ -67,7 +67,7 @@ next_lead s sources path next =
       | inr last ↦ ap (slice_get paths) (last.0 ∙ length-map files (λ (file : SourceFile). string_bytes file.path)) ∙ next ∙ ap Some last.1
     ])
 
-module _ (text : List ℕ) (s : Sources) (files : List SourceFile) (r : Refusal) (h : RefusesNext text s files (stop.Refused r)) where
+module _ (text : List ℕ) (s : Sources) (files : List SourceFile) (r : FileRefusal) (h : RefusesNext text s files (stop.Refused r)) where
   -- a refusal leaves those that were read before
   pub begins_too : BeginsAs s.files.items files
   begins_too = grown s.files.items files h.0 h.2
@@ -89,7 +89,7 @@ module _ (text : List ℕ) (s : Sources) (files : List SourceFile) (r : Refusal)
       }
 
 -- the import of a file that can't be read
-pub unread_at : (s : Sources) (path : List ℕ) (place : Place) → AreSources s → next_path s ≡ Some path → IfSome (next_path s) (λ p. IsNamedBy s.files.items (length s.files.items) p (Some place)) → (files : List SourceFile) (first : List ℕ) (r : Refusal) → IsAt s.files.items place files first r → IsOfUnread s.files.items files first r
+pub unread_at : (s : Sources) (path : List ℕ) (place : Place) → AreSources s → next_path s ≡ Some path → IfSome (next_path s) (λ p. IsNamedBy s.files.items (length s.files.items) p (Some place)) → (files : List SourceFile) (first : List ℕ) (r : FileRefusal) → IsAt s.files.items place files first r → IsOfUnread s.files.items files first r
 unread_at s path place sources next named files first r is =
     let these = s.files.items in
     let import : IsImportOf these path place = (subst (λ o. IfSome o (λ p. IsNamedBy these (length these) p (Some place))) next named).1 in

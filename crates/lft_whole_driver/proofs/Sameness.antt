@@ -1,7 +1,7 @@
 -- Where files are lowered to a tree, the flat program of the tree is that of the whole program.
 use Rattle.std.proofs.Common.{List}
 use Rattle.lft_ir.specs.Parts.{Parts}
-use Rattle.lft_lower.specs.Reactors.{IsLowering}
+use Rattle.lft_lower.specs.inner.Reactors.{IsLowering}
 use Rattle.lft_program.specs.Flattening.{IsFlatOf}
 use Rattle.lft_whole.specs.declared.sources.source.SourceFile.{SourceFile}
 use Rattle.lft_tree.specs.{View.tree_view, declared.ast.Ast.Ast}

@@ -3,7 +3,7 @@ use Rattle.std.specs.Prelude.{◌≡◌, ◌⊎◌, ◌++◌, ◌-◌, ℕ, IfSo
 use Rattle.lft_load.specs.{Faults.words_of, declared.fault.Fault.Fault}
 use Rattle.lft_program_diagnostics.specs.Reasons.{IsToldIn}
 use Rattle.lft_whole.specs.Sources.{Causes.{names, number_of, sentence_of}, Shown.place_words}
-use Rattle.lft_whole.specs.declared.sources.{source.SourceFile.SourceFile, stop.{Place.Place, Refusal.Refusal}, why.Why.{Why, TheVariants.Unexpected}}
+use Rattle.lft_whole.specs.declared.sources.{source.SourceFile.SourceFile, stop.{Place.Place, FileRefusal.FileRefusal}, why.Why.{Why, TheVariants.Unexpected}}
 use Rattle.lft_tree.specs.declared.tree.Item.{Item}
 use Rattle.lft_whole_driver.specs.{Pages.AreJoined, declared.{pages.Joined.Joined, told.Unlowered.Unlowered}}
 use Rattle.lft_load.specs.declared.fault.Part.TheVariants as part
@@ -28,14 +28,14 @@ pub record TellsAt (place first : List ℕ) (why : Why) (words : List ℕ) : Typ
   pub whole : words ≡ place ++ codes ": " ++ sentence ++ codes "\n" ++ rest
 
 -- The fault has the number and the name of the cause, and tells its place.
-pub record IsLowerFault (files : List SourceFile) (refusal : Refusal) (fault : Fault) : Type 0 where
+pub record IsLowerFault (files : List SourceFile) (refusal : FileRefusal) (fault : Fault) : Type 0 where
   pub part : fault.part ≡ part.Lower
   pub number : fault.number ≡ number_of refusal.why
   pub name : slice_get names (number_of refusal.why - 1) ≡ Some fault.name.now
   pub place : words_of fault.detail ≡ Some (where_words files refusal.place)
 
 -- So it is, and what is told of it begins with the same place.
-pub record TellsRefusal (files : List SourceFile) (first : List ℕ) (refusal : Refusal) (u : Unlowered) : Type 0 where
+pub record TellsRefusal (files : List SourceFile) (first : List ℕ) (refusal : FileRefusal) (u : Unlowered) : Type 0 where
   pub fault : IsLowerFault files refusal u.failure.fault
   pub told : IfSome u.told (λ words. TellsAt (where_words files refusal.place) first refusal.why (string_bytes words))
 

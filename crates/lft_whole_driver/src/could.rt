@@ -14,120 +14,120 @@ const MOST: usize = 10;
 
 /// What is tried: how it is written, and what it is called.
 #[derive(Clone, Copy)]
-pub(crate) struct Thing {
+pub(crate) struct WholeTrial {
     pub(crate) spelling: &'static str,
     pub(crate) words: &'static str,
 }
 
-const NAME: Thing = Thing {
+const NAME: WholeTrial = WholeTrial {
     spelling: "x",
     words: "a name",
 };
 
-const UNIT: Thing = Thing {
+const UNIT: WholeTrial = WholeTrial {
     spelling: "ms",
     words: "a unit of time (ns us ms s min h d week)",
 };
 
 /// What is also a name elsewhere, and so isn't told where a name can stand.
-const WORDS: [Thing; 4] = [
+const WORDS: [WholeTrial; 4] = [
     UNIT,
-    Thing {
+    WholeTrial {
         spelling: "time",
         words: "the type `time`",
     },
-    Thing {
+    WholeTrial {
         spelling: "import",
         words: "`import`",
     },
-    Thing {
+    WholeTrial {
         spelling: "from",
         words: "`from`",
     },
 ];
 
-const OTHERS: [Thing; 14] = [
-    Thing {
+const OTHERS: [WholeTrial; 14] = [
+    WholeTrial {
         spelling: "1",
         words: "a number",
     },
-    Thing {
+    WholeTrial {
         spelling: "{= =}",
         words: "code, {= .. =}",
     },
-    Thing {
+    WholeTrial {
         spelling: "\"\"",
         words: "a string",
     },
-    Thing {
+    WholeTrial {
         spelling: "(",
         words: "`(`",
     },
-    Thing {
+    WholeTrial {
         spelling: ")",
         words: "`)`",
     },
-    Thing {
+    WholeTrial {
         spelling: "[",
         words: "`[`",
     },
-    Thing {
+    WholeTrial {
         spelling: "]",
         words: "`]`",
     },
-    Thing {
+    WholeTrial {
         spelling: "{",
         words: "`{`",
     },
-    Thing {
+    WholeTrial {
         spelling: "}",
         words: "`}`",
     },
-    Thing {
+    WholeTrial {
         spelling: ",",
         words: "`,`",
     },
-    Thing {
+    WholeTrial {
         spelling: ":",
         words: "`:`",
     },
-    Thing {
+    WholeTrial {
         spelling: "=",
         words: "`=`",
     },
-    Thing {
+    WholeTrial {
         spelling: ".",
         words: "`.`",
     },
-    Thing {
+    WholeTrial {
         spelling: "->",
         words: "`->`",
     },
 ];
 
 /// Words that begin something. Where each of them can stand any word can, and it is told as a name.
-const KEYS: [Thing; 6] = [
-    Thing {
+const KEYS: [WholeTrial; 6] = [
+    WholeTrial {
         spelling: "timer",
         words: "a member of the reactor, as `timer` or `reaction`",
     },
-    Thing {
+    WholeTrial {
         spelling: "reactor",
         words: "`reactor`",
     },
-    Thing {
+    WholeTrial {
         spelling: "action",
         words: "`action`",
     },
-    Thing {
+    WholeTrial {
         spelling: "startup",
         words: "`startup`",
     },
-    Thing {
+    WholeTrial {
         spelling: "new",
         words: "`new`",
     },
-    Thing {
+    WholeTrial {
         spelling: "after",
         words: "`after`",
     },
@@ -151,15 +151,15 @@ fn is_read_past(alloc: Global, text: &[u8], token: usize) -> Result<bool, NoMemo
 
 /// What stands before a token of a text, which is tried with others in place of that token.
 #[derive(Clone, Copy)]
-pub(crate) struct Front<'a> {
+pub(crate) struct Prefix<'a> {
     pub(crate) alloc: Global,
     pub(crate) text: &'a [u8],
     pub(crate) token: usize,
 }
 
-impl Front<'_> {
+impl Prefix<'_> {
     /// Whether the thing can stand behind it.
-    fn can_stand(self, thing: Thing) -> Result<bool, NoMemory>
+    fn can_stand(self, thing: WholeTrial) -> Result<bool, NoMemory>
         ensures { IfOk result (λ yes. yes ≡ true → CanStand self.entry.text.now self.entry.token thing) }
     {
         let mut text = Vec::from_slice(self.alloc, self.text)?;
@@ -170,7 +170,7 @@ impl Front<'_> {
     }
 
     /// Puts the thing at the end of a list, if it can stand behind it.
-    fn try_thing(self, found: &mut Vec<Thing>, thing: Thing) -> Result<(), NoMemory>
+    fn try_thing(self, found: &mut Vec<WholeTrial>, thing: WholeTrial) -> Result<(), NoMemory>
         requires { All (CanStand self.text.now self.token) found.old.items }
         ensures { OnOk result (All (CanStand self.entry.text.now self.entry.token) found.new.items) }
     {
@@ -182,7 +182,7 @@ impl Front<'_> {
     }
 
     /// Puts those of the things that can stand behind it at the end of a list.
-    fn find(self, found: &mut Vec<Thing>, things: &[Thing]) -> Result<(), NoMemory>
+    fn find(self, found: &mut Vec<WholeTrial>, things: &[WholeTrial]) -> Result<(), NoMemory>
         requires { All (CanStand self.text.now self.token) found.old.items }
         ensures { OnOk result (All (CanStand self.entry.text.now self.entry.token) found.new.items) }
     {
@@ -194,7 +194,7 @@ impl Front<'_> {
     }
 
     /// A name, where one can stand behind it; else the words that can.
-    fn name_or_words(self) -> Result<Vec<Thing>, NoMemory>
+    fn name_or_words(self) -> Result<Vec<WholeTrial>, NoMemory>
         ensures { IfOk result (λ found. All (CanStand self.entry.text.now self.entry.token) found.items) }
     {
         let mut found = Vec::new(self.alloc);
@@ -207,7 +207,7 @@ impl Front<'_> {
     }
 
     /// Puts those of the words that can stand behind it at the end of a list, unless any word can.
-    fn find_keys(self, found: &mut Vec<Thing>) -> Result<(), NoMemory>
+    fn find_keys(self, found: &mut Vec<WholeTrial>) -> Result<(), NoMemory>
         requires { All (CanStand self.text.now self.token) found.old.items }
         ensures { OnOk result (All (CanStand self.entry.text.now self.entry.token) found.new.items) }
     {
@@ -221,7 +221,7 @@ impl Front<'_> {
     }
 
     /// What can stand behind it: a name, or the words that can, and other things.
-    fn candidates(self) -> Result<Vec<Thing>, NoMemory>
+    fn candidates(self) -> Result<Vec<WholeTrial>, NoMemory>
         ensures { IfOk result (λ found. All (CanStand self.entry.text.now self.entry.token) found.items) }
     {
         let mut found = self.name_or_words()?;
@@ -232,7 +232,7 @@ impl Front<'_> {
 }
 
 /// Puts the line that lists things behind the text, where there are some, and few.
-fn push_things(out: &mut String, things: &[Thing]) -> Result<(), NoMemory> {
+fn push_things(out: &mut String, things: &[WholeTrial]) -> Result<(), NoMemory> {
     if things.is_empty() || MOST < things.len() {
         return Ok(());
     }
@@ -255,7 +255,7 @@ pub(crate) fn push_could(
     start: usize,
     token: usize,
 ) -> Result<(), NoMemory> {
-    let front = Front {
+    let front = Prefix {
         alloc,
         text: text.get(..start).unwrap_or(b""),
         token,
@@ -272,7 +272,7 @@ pub(crate) fn push_unit(
     end: usize,
     token: usize,
 ) -> Result<(), NoMemory> {
-    let front = Front {
+    let front = Prefix {
         alloc,
         text: text.get(..end).unwrap_or(b""),
         token: token.saturating_add(1),

@@ -1,7 +1,7 @@
 //! What helps where a whole program is refused at a name: which one was probably meant, and where the first of two stands.
 
 use crate::could::push_unit;
-use crate::names::{Declared, Kind, MOST_COMPARED, Names, Site};
+use crate::names::{DeclaredName, FileNames, MOST_COMPARED, NameKind, ReactorSite};
 use lft_program_diagnostics::{Sentence, nearest, push_link, push_question, way_of_code};
 use lft_tag::NoMemory;
 use lft_text_diagnostics::words::push_way;
@@ -13,8 +13,8 @@ use std::str::from_utf8;
 /// The names of one kind.
 fn names_of<'a>(
     alloc: Global,
-    declared: &[Declared<'a>],
-    kind: Kind,
+    declared: &[DeclaredName<'a>],
+    kind: NameKind,
 ) -> Result<Vec<&'a str>, NoMemory> {
     let mut names = Vec::new(alloc);
     for one in declared {
@@ -46,14 +46,14 @@ fn given_before(instance: &Instance, token: usize) -> Option<usize> {
 
 /// The name at the place of a refusal, in its file.
 #[derive(Clone, Copy)]
-pub(crate) struct Hint<'a> {
-    pub names: Names<'a>,
+pub(crate) struct SoughtName<'a> {
+    pub names: FileNames<'a>,
     pub file: &'a SourceFile,
     pub tokens: &'a Tokens,
     pub place: Place,
 }
 
-impl<'a> Hint<'a> {
+impl<'a> SoughtName<'a> {
     /// The letters of the token so many behind it.
     fn word(self, behind: usize) -> Option<&'a str> {
         let number = self.place.token.checked_add(behind)?;
@@ -71,7 +71,7 @@ impl<'a> Hint<'a> {
     }
 
     /// What the reactor declares in which it stands.
-    fn declared(self) -> Result<Vec<Declared<'a>>, NoMemory> {
+    fn declared(self) -> Result<Vec<DeclaredName<'a>>, NoMemory> {
         match self.names.around(self.place) {
             Some(site) => self.names.declared(site),
             None => Ok(Vec::new(self.names.alloc)),
@@ -79,7 +79,7 @@ impl<'a> Hint<'a> {
     }
 
     /// What the reactor of an instance declares.
-    fn inside(self, file: usize, instance: &Instance) -> Result<Vec<Declared<'a>>, NoMemory> {
+    fn inside(self, file: usize, instance: &Instance) -> Result<Vec<DeclaredName<'a>>, NoMemory> {
         match self.names.named(file, instance.reactor.text.as_str()) {
             Some(site) => self.names.declared(site),
             None => Ok(Vec::new(self.names.alloc)),
@@ -87,7 +87,11 @@ impl<'a> Hint<'a> {
     }
 
     /// The instances that have a port of this name.
-    fn with_port(self, declared: &[Declared<'a>], port: &str) -> Result<Vec<&'a str>, NoMemory> {
+    fn with_port(
+        self,
+        declared: &[DeclaredName<'a>],
+        port: &str,
+    ) -> Result<Vec<&'a str>, NoMemory> {
         let mut found = Vec::new(self.names.alloc);
         // Each instance may be of a reactor with many names, two lengths that a
         // text chooses. So what is compared has a limit.
@@ -100,7 +104,7 @@ impl<'a> Hint<'a> {
                 left = left
                     .saturating_sub(inner.len())
                     .saturating_sub(self.names.cost(one.file));
-                let has = inner.iter().any(|other| other.is(Kind::Port)
+                let has = inner.iter().any(|other| other.is(NameKind::Port)
                     && other.name.text.as_str() == port);
                 if has {
                     found.push(one.name.text.as_str())?;
@@ -113,7 +117,7 @@ impl<'a> Hint<'a> {
     /// Asks for a name alone: one of the reactor, or a port of an instance.
     fn ask_name(self, out: &mut String, wanted: &str) -> Result<(), NoMemory> {
         let declared = self.declared()?;
-        let names = names_of(self.names.alloc, &declared, Kind::Any)?;
+        let names = names_of(self.names.alloc, &declared, NameKind::Any)?;
         ask(out, &names, wanted)?;
         let instances = self.with_port(&declared, wanted)?;
         match instances.first() {
@@ -148,7 +152,7 @@ impl<'a> Hint<'a> {
             return Ok(());
         };
         let inner = self.inside(one.file, instance)?;
-        let ports = names_of(self.names.alloc, &inner, Kind::Port)?;
+        let ports = names_of(self.names.alloc, &inner, NameKind::Port)?;
         match nearest(&ports, port) {
             Some(near) => push_question(out, head, Some(near)),
             None => Ok(()),
@@ -156,14 +160,14 @@ impl<'a> Hint<'a> {
     }
 
     /// Asks for something of one kind that the reactor declares.
-    fn ask_own(self, out: &mut String, kind: Kind, wanted: &str) -> Result<(), NoMemory> {
+    fn ask_own(self, out: &mut String, kind: NameKind, wanted: &str) -> Result<(), NoMemory> {
         let declared = self.declared()?;
         let names = names_of(self.names.alloc, &declared, kind)?;
         ask(out, &names, wanted)
     }
 
     /// The instance that gives something at the place.
-    fn giving(self, declared: &[Declared<'a>]) -> Option<&'a Instance> {
+    fn giving(self, declared: &[DeclaredName<'a>]) -> Option<&'a Instance> {
         for one in declared {
             if let Some(instance) = one.instance
                 && one.file == self.place.file
@@ -182,7 +186,7 @@ impl<'a> Hint<'a> {
             return Ok(());
         };
         let inner = self.inside(self.place.file, instance)?;
-        let names = names_of(self.names.alloc, &inner, Kind::Parameter)?;
+        let names = names_of(self.names.alloc, &inner, NameKind::Parameter)?;
         ask(out, &names, wanted)
     }
 
@@ -236,7 +240,7 @@ impl<'a> Hint<'a> {
     }
 
     /// The reactor of the instance that is declared at the place.
-    fn inner(self, outer: Site<'a>) -> Option<Site<'a>> {
+    fn inner(self, outer: ReactorSite<'a>) -> Option<ReactorSite<'a>> {
         for member in &outer.reactor.members {
             if let Member::Instance(instance) = member
                 && instance.name.at == self.place.token
@@ -295,9 +299,9 @@ impl<'a> Hint<'a> {
             Why::UnknownName => self.ask_name(out, wanted),
             Why::UnknownInstance => self.ask_instance(out, wanted),
             Why::UnknownPort => self.ask_port(out, wanted),
-            Why::UnknownParameter => self.ask_own(out, Kind::Parameter, wanted),
+            Why::UnknownParameter => self.ask_own(out, NameKind::Parameter, wanted),
             Why::GivesNoParameter => self.ask_given(out, wanted),
-            Why::NoTime => self.ask_own(out, Kind::Time, wanted),
+            Why::NoTime => self.ask_own(out, NameKind::Time, wanted),
             _ => Ok(()),
         }
     }

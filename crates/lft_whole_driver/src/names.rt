@@ -20,7 +20,7 @@ pub(crate) const MOST_COMPARED: usize = 1 << 20;
 
 /// What is declared, or asked for.
 #[derive(Clone, Copy, PartialEq, Eq)]
-pub(crate) enum Kind {
+pub(crate) enum NameKind {
     /// Anything at all.
     Any,
     Parameter,
@@ -31,39 +31,39 @@ pub(crate) enum Kind {
 
 /// A name that a reactor declares, and the number of its file.
 #[derive(Clone, Copy)]
-pub(crate) struct Declared<'a> {
+pub(crate) struct DeclaredName<'a> {
     pub name: &'a Name,
-    pub kind: Kind,
+    pub kind: NameKind,
     pub file: usize,
     pub instance: Option<&'a Instance>,
 }
 
-impl Declared<'_> {
+impl DeclaredName<'_> {
     /// Whether it is of a kind. A time is a parameter too.
-    pub(crate) fn is(self, kind: Kind) -> bool {
+    pub(crate) fn is(self, kind: NameKind) -> bool {
         match kind {
-            Kind::Any => true,
-            Kind::Parameter => matches!(self.kind, Kind::Parameter | Kind::Time),
-            Kind::Time | Kind::Port => self.kind == kind,
+            NameKind::Any => true,
+            NameKind::Parameter => matches!(self.kind, NameKind::Parameter | NameKind::Time),
+            NameKind::Time | NameKind::Port => self.kind == kind,
         }
     }
 }
 
 /// A reactor, and the number of its file.
 #[derive(Clone, Copy)]
-pub(crate) struct Site<'a> {
+pub(crate) struct ReactorSite<'a> {
     pub file: usize,
     pub reactor: &'a Reactor,
 }
 
 /// What the parameter declares.
-fn of_parameter(file: usize, parameter: &Parameter) -> Declared<'_> {
+fn of_parameter(file: usize, parameter: &Parameter) -> DeclaredName<'_> {
     let kind = if parameter.is_time {
-        Kind::Time
+        NameKind::Time
     } else {
-        Kind::Parameter
+        NameKind::Parameter
     };
-    Declared {
+    DeclaredName {
         name: &parameter.name,
         kind,
         file,
@@ -72,15 +72,15 @@ fn of_parameter(file: usize, parameter: &Parameter) -> Declared<'_> {
 }
 
 /// What the member declares, if it has a name.
-fn of_member(file: usize, member: &Member) -> Option<Declared<'_>> {
+fn of_member(file: usize, member: &Member) -> Option<DeclaredName<'_>> {
     let (name, kind, instance) = match member {
-        Member::Port(port) => (&port.name, Kind::Port, None),
-        Member::Instance(instance) => (&instance.name, Kind::Any, Some(instance)),
-        Member::Timer(timer) => (&timer.name, Kind::Any, None),
-        Member::Action(action) => (&action.name, Kind::Any, None),
+        Member::Port(port) => (&port.name, NameKind::Port, None),
+        Member::Instance(instance) => (&instance.name, NameKind::Any, Some(instance)),
+        Member::Timer(timer) => (&timer.name, NameKind::Any, None),
+        Member::Action(action) => (&action.name, NameKind::Any, None),
         Member::Reaction(_) | Member::Connection(_) | Member::Foreign { .. } => return None,
     };
-    Some(Declared {
+    Some(DeclaredName {
         name,
         kind,
         file,
@@ -88,7 +88,7 @@ fn of_member(file: usize, member: &Member) -> Option<Declared<'_>> {
     })
 }
 
-impl<'a> Site<'a> {
+impl<'a> ReactorSite<'a> {
     /// The name of the reactor; nothing where it has none.
     pub(crate) fn name(self) -> &'a str {
         match &self.reactor.name {
@@ -98,12 +98,12 @@ impl<'a> Site<'a> {
     }
 
     /// Whether it is that of the other one, by its place.
-    fn is(self, other: Site<'a>) -> bool {
+    fn is(self, other: ReactorSite<'a>) -> bool {
         self.file == other.file && self.reactor.at == other.reactor.at
     }
 
     /// Puts what it declares at the end of a list.
-    fn push_declared(self, found: &mut Vec<Declared<'a>>) -> Result<(), NoMemory> {
+    fn push_declared(self, found: &mut Vec<DeclaredName<'a>>) -> Result<(), NoMemory> {
         for parameter in &self.reactor.parameters {
             found.push(of_parameter(self.file, parameter))?;
         }
@@ -118,13 +118,17 @@ impl<'a> Site<'a> {
 
 /// A reactor on a way of instances, and the number of the one that has an instance of it.
 #[derive(Clone, Copy)]
-struct Step<'a> {
-    site: Site<'a>,
+struct WayStep<'a> {
+    site: ReactorSite<'a>,
     outer: usize,
 }
 
 /// The reactors up to the one of this number, from that on outwards.
-fn outwards<'a>(alloc: Global, steps: &[Step<'a>], last: usize) -> Result<Vec<Site<'a>>, NoMemory> {
+fn outwards<'a>(
+    alloc: Global,
+    steps: &[WayStep<'a>],
+    last: usize,
+) -> Result<Vec<ReactorSite<'a>>, NoMemory> {
     let mut sites = Vec::new(alloc);
     let mut at = last;
     for _ in 0..steps.len() {
@@ -160,19 +164,19 @@ fn name_behind<'a>(import: &'a Import, alias: &str) -> Option<&'a str> {
 
 /// The files of a program.
 #[derive(Clone, Copy)]
-pub(crate) struct Names<'a> {
+pub(crate) struct FileNames<'a> {
     pub alloc: Global,
     pub files: &'a [SourceFile],
 }
 
-impl<'a> Names<'a> {
+impl<'a> FileNames<'a> {
     /// The reactor in which a token stands.
-    pub(crate) fn around(self, place: Place) -> Option<Site<'a>> {
+    pub(crate) fn around(self, place: Place) -> Option<ReactorSite<'a>> {
         let file = place.file;
         let mut found = None;
         for reactor in &self.files.get(file)?.tree.reactors {
             if reactor.at <= place.token {
-                found = Some(Site { file, reactor });
+                found = Some(ReactorSite { file, reactor });
             }
         }
         found
@@ -194,18 +198,18 @@ impl<'a> Names<'a> {
     }
 
     /// The reactor that an import of this number gives under a name.
-    fn imported(self, file: usize, import: usize, alias: &str) -> Option<Site<'a>> {
+    fn imported(self, file: usize, import: usize, alias: &str) -> Option<ReactorSite<'a>> {
         let name = name_behind(self.files.get(file)?.tree.imports.get(import)?, alias)?;
         let file = self.target(file, import)?;
         let reactor = own_named(self.files.get(file)?, name)?;
-        Some(Site { file, reactor })
+        Some(ReactorSite { file, reactor })
     }
 
     /// The reactor that a name means in a file.
-    pub(crate) fn named(self, file: usize, name: &str) -> Option<Site<'a>> {
+    pub(crate) fn named(self, file: usize, name: &str) -> Option<ReactorSite<'a>> {
         let here = self.files.get(file)?;
         if let Some(reactor) = own_named(here, name) {
-            return Some(Site { file, reactor });
+            return Some(ReactorSite { file, reactor });
         }
         for import in 0..here.tree.imports.len() {
             if let Some(found) = self.imported(file, import, name) {
@@ -216,7 +220,11 @@ impl<'a> Names<'a> {
     }
 
     /// Puts the bases of a reactor that aren't in a list at its end.
-    fn push_bases(self, found: &mut Vec<Site<'a>>, site: Site<'a>) -> Result<(), NoMemory> {
+    fn push_bases(
+        self,
+        found: &mut Vec<ReactorSite<'a>>,
+        site: ReactorSite<'a>,
+    ) -> Result<(), NoMemory> {
         for place in 0..MOST_BASES {
             let Some(base) = site.reactor.bases.get(place) else {
                 return Ok(());
@@ -231,7 +239,7 @@ impl<'a> Names<'a> {
     }
 
     /// What a reactor declares, and then its bases.
-    pub(crate) fn declared(self, site: Site<'a>) -> Result<Vec<Declared<'a>>, NoMemory> {
+    pub(crate) fn declared(self, site: ReactorSite<'a>) -> Result<Vec<DeclaredName<'a>>, NoMemory> {
         let mut found = Vec::new(self.alloc);
         let mut sites = Vec::new(self.alloc);
         sites.push(site)?;
@@ -246,7 +254,7 @@ impl<'a> Names<'a> {
     }
 
     /// Puts the reactors of which one has an instance, and that aren't in a list, at its end.
-    fn push_inner(self, steps: &mut Vec<Step<'a>>, outer: usize) -> Result<(), NoMemory> {
+    fn push_inner(self, steps: &mut Vec<WayStep<'a>>, outer: usize) -> Result<(), NoMemory> {
         let Some(step) = steps.get(outer).copied() else {
             return Ok(());
         };
@@ -260,16 +268,20 @@ impl<'a> Names<'a> {
                 && let Some(site) = self.named(one.file, instance.reactor.text.as_str())
                 && !steps.iter().any(|other| other.site.is(site))
             {
-                steps.push(Step { site, outer })?;
+                steps.push(WayStep { site, outer })?;
             }
         }
         Ok(())
     }
 
     /// The reactors on a way of instances from the first to the second, that one first; nothing where there is none.
-    pub(crate) fn way(self, first: Site<'a>, second: Site<'a>) -> Result<Vec<Site<'a>>, NoMemory> {
+    pub(crate) fn way(
+        self,
+        first: ReactorSite<'a>,
+        second: ReactorSite<'a>,
+    ) -> Result<Vec<ReactorSite<'a>>, NoMemory> {
         let mut steps = Vec::new(self.alloc);
-        steps.push(Step {
+        steps.push(WayStep {
             site: first,
             outer: usize::MAX,
         })?;

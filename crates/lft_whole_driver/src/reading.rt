@@ -8,7 +8,7 @@ ghost use Rattle.lft_whole_driver.specs.Unlowered.{IsOfReading, Says};
 use crate::told::{Unlowered, unlowered_by};
 use lft_load::files::{Failure, read_ordinary};
 use lft_load::{Fault, Part};
-use lft_whole::sources::{Place, Stop, Why, shown_path};
+use lft_whole::sources::{NoProgram, Place, Why, shown_path};
 use lft_whole_parser::imports::Sources;
 use std::alloc::{AllocError, Global};
 use std::rt::Files;
@@ -47,7 +47,7 @@ fn unread(
 {
     match about(alloc, path, failure) {
         Ok(about) => {
-            let stop = Stop::at(Why::NotRead, place.file, place.token);
+            let stop = NoProgram::at(Why::NotRead, place.file, place.token);
             unlowered_by(alloc, sources.files(), stop, about.as_str())
         }
         Err(error) => Unlowered::from(error),

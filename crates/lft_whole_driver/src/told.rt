@@ -11,8 +11,8 @@ ghost use Rattle.lft_load.specs.declared.fault.Detail.TheVariants as detail;
 ghost use Rattle.lft_load.specs.declared.fault.Part.TheVariants as part;
 
 use crate::could::push_could;
-use crate::hints::Hint;
-use crate::names::Names;
+use crate::hints::SoughtName;
+use crate::names::FileNames;
 use crate::pages::join_files;
 use lft_load::files::Failure;
 use lft_load::{Detail, Fault, Part};
@@ -20,9 +20,9 @@ use lft_program::Refusal as ProgramRefusal;
 use lft_program_diagnostics::tell_refusal_in;
 use lft_tag::NoMemory;
 use lft_text_diagnostics::words::{push_bytes, push_way};
-use lft_text_diagnostics::{Spot, push_marked, way_at};
+use lft_text_diagnostics::{Span, push_marked, way_at};
 use lft_tree::Ast;
-use lft_whole::sources::{Place, Refusal, SourceFile, Stop, Why, push_place};
+use lft_whole::sources::{FileRefusal, NoProgram, Place, SourceFile, Why, push_place};
 use lft_whole::{TextFault, lex};
 use std::alloc::{AllocError, Global};
 
@@ -92,7 +92,7 @@ fn where_words(alloc: Global, files: &[SourceFile], place: Place) -> Result<Stri
 }
 
 /// The fault of a refusal at a place in words.
-fn fault_of(refusal: Refusal, words: String) -> Fault
+fn fault_of(refusal: FileRefusal, words: String) -> Fault
     ensures part { result.part ≡ part.Lower }
     ensures number { result.number ≡ number_of refusal.why }
     ensures name { slice_get names (number_of refusal.why - 1) ≡ Some result.name.now }
@@ -108,19 +108,19 @@ fn fault_of(refusal: Refusal, words: String) -> Fault
 }
 
 /// The bytes of a token of a file, or its end. Of a text without tokens the byte that shows it.
-fn spot_in(alloc: Global, file: &SourceFile, token: usize) -> Result<Spot, NoMemory> {
+fn spot_in(alloc: Global, file: &SourceFile, token: usize) -> Result<Span, NoMemory> {
     let end = file.text.len();
     // Read into tokens once more: a file keeps lines and columns, no bytes,
     // and a refused one alone is asked for these.
     match lex(alloc, &file.text) {
         Ok(tokens) => match tokens.as_slice().get(token) {
-            Some(token) => Ok(Spot {
+            Some(token) => Ok(Span {
                 start: token.start,
                 end: token.end,
             }),
-            None => Ok(Spot { start: end, end }),
+            None => Ok(Span { start: end, end }),
         },
-        Err(TextFault::BadText(at)) => Ok(Spot {
+        Err(TextFault::BadText(at)) => Ok(Span {
             start: at,
             end: end.min(at.saturating_add(1)),
         }),
@@ -181,7 +181,7 @@ fn unexpected_words(alloc: Global, file: &SourceFile, token: usize) -> Result<St
 fn sentence(
     alloc: Global,
     files: &[SourceFile],
-    refusal: Refusal,
+    refusal: FileRefusal,
     first: &str,
 ) -> Result<String, NoMemory>
     ensures { IfOk result (λ words. IsSentence first.now refusal.why (string_bytes words)) }
@@ -232,7 +232,7 @@ fn push_help(
     alloc: Global,
     out: &mut String,
     file: &SourceFile,
-    refusal: Refusal,
+    refusal: FileRefusal,
 ) -> Result<(), NoMemory> {
     let token = refusal.place.token;
     let spot = spot_in(alloc, file, token)?;
@@ -244,7 +244,7 @@ fn push_help(
 }
 
 /// The line of a refusal with a mark, and what helps. Of two things of which the second is refused both lines.
-fn rest_of(alloc: Global, files: &[SourceFile], refusal: Refusal) -> Result<String, NoMemory> {
+fn rest_of(alloc: Global, files: &[SourceFile], refusal: FileRefusal) -> Result<String, NoMemory> {
     let mut out = String::new(alloc);
     let Some(file) = files.get(refusal.place.file) else {
         return Ok(out);
@@ -258,8 +258,8 @@ fn rest_of(alloc: Global, files: &[SourceFile], refusal: Refusal) -> Result<Stri
         // The cause is none of a text without tokens, so only memory can be refused.
         return Err(NoMemory);
     };
-    let hint = Hint {
-        names: Names { alloc, files },
+    let hint = SoughtName {
+        names: FileNames { alloc, files },
         file,
         tokens: &tokens,
         place: refusal.place,
@@ -276,7 +276,7 @@ fn rest_of(alloc: Global, files: &[SourceFile], refusal: Refusal) -> Result<Stri
 fn told_of(
     alloc: Global,
     files: &[SourceFile],
-    refusal: Refusal,
+    refusal: FileRefusal,
     first: &str,
     place: &str,
 ) -> Result<String, NoMemory>
@@ -297,7 +297,7 @@ fn told_of(
 fn refused(
     alloc: Global,
     files: &[SourceFile],
-    refusal: Refusal,
+    refusal: FileRefusal,
     first: &str,
 ) -> Result<Unlowered, NoMemory>
     ensures { IfOk result (TellsRefusal files.now first.now refusal) }
@@ -314,14 +314,14 @@ fn refused(
 pub(crate) fn unlowered_by(
     alloc: Global,
     files: &[SourceFile],
-    stop: Stop,
+    stop: NoProgram,
     first: &str,
 ) -> Unlowered
     ensures { IsTold files.now first.now stop result }
 {
     match stop {
-        Stop::NoMemory => Unlowered::from(Fault::no_memory()),
-        Stop::Refused(refusal) => match refused(alloc, files, refusal, first) {
+        NoProgram::NoMemory => Unlowered::from(Fault::no_memory()),
+        NoProgram::Refused(refusal) => match refused(alloc, files, refusal, first) {
             Ok(unlowered) => unlowered,
             Err(error) => Unlowered::from(error),
         },

@@ -171,7 +171,7 @@ pub fn is_reactor(input: &Input, at: usize) -> bool
 
 /// What is said before `reactor`.
 #[derive(Drop)]
-struct Kind {
+struct ReactorKind {
     is_main: bool,
     is_federated: bool,
 }
@@ -202,14 +202,14 @@ fn kind_words(input: &Input, at: usize) -> (bool, bool, usize)
 
 /// The words before `reactor`, which may be left out. A federated reactor is a main one.
 #[tactic(auto, unfolding(crate::specs::Grammar::kind))]
-fn kind_here(input: &Input, at: usize) -> (Kind, usize)
+fn kind_here(input: &Input, at: usize) -> (ReactorKind, usize)
     requires { Within input.now at }
     ensures gives { Grammar.kind (source input.now) at ≡ Ok ((result.0.is_main, result.0.is_federated), result.1) }
     ensures inside { NotBefore input.now at result.1 }
 {
     let (is_main, is_federated, end) = kind_words(input, at);
     (
-        Kind {
+        ReactorKind {
             is_main: is_main || is_federated,
             is_federated,
         },

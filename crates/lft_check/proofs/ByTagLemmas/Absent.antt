@@ -7,7 +7,7 @@ use Rattle.lft_ir.specs.{Sound.IsSound, declared.{parts.{Name.Name, Reaction.Rea
 use Rattle.lft_lists.proofs.Places.{get_write_cases, length_written, same_at, get_there}
 use Rattle.lft_model.{specs.{Plans.PlanParts, Presence.IsPresent}, proofs.Places.slice_get_within}
 use Rattle.lft_rows.specs.inner.{Marks.HasSeat, Presence.{Causes.{tag_of, IsCause, AreCauses, Leads, LiesBelow, IsPosition}, Traces.IsSooner}, Slices.IsSlice}
-use Rattle.lft_rows.specs.{declared.{presence.causes.Cause.Cause, slices.Slice.Slice}, Presence.Traces.TraceParts}
+use Rattle.lft_rows.specs.{declared.{presence.causes.EventCause.EventCause, slices.Slice.Slice}, Presence.Traces.TraceParts}
 use Rattle.lft_rows.proofs.{PresenceLemmas.{Presences.{IsKey, present_cause}, Skips.{leads_up, names_up}}, Marked.before_on}
 use Rattle.lft_check.specs.declared.by_tag.{absences.Absences.Absences, walk.Walk.Walk}
 use Rattle.lft_check.specs.inner.ByTag.{Absences.{IsEarlier, IsAbsentUntil, AreAbsences, AreAbsentUntil, IsUnknown}, Slices.IsCuttable}
@@ -20,8 +20,8 @@ none_earlier h (inl l) = let q : h.time < 0 = l in absurd (omega arith)
 none_earlier h (inr e) = let q : h.micro < 0 = e.1 in absurd (omega arith)
 
 -- the causes that lead to a tag or past it stand from a place on
-module _ (plan : PlanParts) (t : List Row) (causes : List Cause) (are : AreCauses plan t causes) (key : ℕ) (s : Folded) (g : Tag) (place : ℕ) (is : IsPosition causes key s g false place) where
-  stands : (h : Tag) (c : Cause) → UpTo g h → IsCause plan t c → Leads key s h c → (k : ℕ) × (place ≤ k) × (slice_get causes k ≡ Some c)
+module _ (plan : PlanParts) (t : List Row) (causes : List EventCause) (are : AreCauses plan t causes) (key : ℕ) (s : Folded) (g : Tag) (place : ℕ) (is : IsPosition causes key s g false place) where
+  stands : (h : Tag) (c : EventCause) → UpTo g h → IsCause plan t c → Leads key s h c → (k : ℕ) × (place ≤ k) × (slice_get causes k ≡ Some c)
   stands h c u i leads = go (are.just.each c i)
     where
       below : LiesBelow key s g false c → ⊥
@@ -36,17 +36,17 @@ module _ (plan : PlanParts) (t : List Row) (causes : List Cause) (are : AreCause
           by (inl l) = absurd (below (is.below k c l e))
           by (inr l) = (k, l, e)
 
-  pub led_by_none : place ≡ length causes → (h : Tag) (c : Cause) → UpTo g h → IsCause plan t c → ¬ Leads key s h c
+  pub led_by_none : place ≡ length causes → (h : Tag) (c : EventCause) → UpTo g h → IsCause plan t c → ¬ Leads key s h c
   led_by_none end h c u i leads = let k = stands h c u i leads in let w : k.0 < length causes = slice_get_within causes k.0 c k.2 in let l : place ≤ k.0 = k.1 in omega arith
 
-  module _ (here : Cause) (is_here : slice_get causes place ≡ Some here) where
-    pub led_later : here.name ≡ key → (h : Tag) (c : Cause) → UpTo g h → Before h (shifted (tag_of here) s) → IsCause plan t c → ¬ Leads key s h c
+  module _ (here : EventCause) (is_here : slice_get causes place ≡ Some here) where
+    pub led_later : here.name ≡ key → (h : Tag) (c : EventCause) → UpTo g h → Before h (shifted (tag_of here) s) → IsCause plan t c → ¬ Leads key s h c
     led_later q h c u b i leads =
         let k = stands h c u i leads in
         let up = leads_up causes are.ascending s place k.0 here c k.1 is_here k.2 (q ∙ sym leads.0) in
         UpTo-not (shifted (tag_of here) s) h (subst (λ (z : Tag). UpTo (shifted (tag_of here) s) z) leads.1 up) b
 
-    pub led_by_others : ¬ (here.name ≡ key) → (h : Tag) (c : Cause) → UpTo g h → IsCause plan t c → ¬ Leads key s h c
+    pub led_by_others : ¬ (here.name ≡ key) → (h : Tag) (c : EventCause) → UpTo g h → IsCause plan t c → ¬ Leads key s h c
     led_by_others d h c u i leads =
         let k = stands h c u i leads in
         let up : here.name ≤ c.name = names_up causes are.ascending place k.0 here c k.1 is_here k.2 in
@@ -59,7 +59,7 @@ module _ (plan : PlanParts) (t : List Row) (causes : List Cause) (are : AreCause
         go not (inr l) = d (let k = stands h c u i leads in let up : here.name ≤ c.name = names_up causes are.ascending place k.0 here c k.1 is_here k.2 in let e : c.name ≡ key = leads.0 in omega arith)
 
 -- a name is absent where none of its causes leads
-pub absent_by : (plan : PlanParts) (t : List Row) → IsSound plan.program → RowsFit plan.program t → (g : Tag) (n : Name) (key : ℕ) (s : Folded) → IsKey plan.program n key s → (until : Option Tag) → ((h : Tag) (c : Cause) → UpTo g h → IsEarlier h until → IsCause plan t c → ¬ Leads key s h c) → IsAbsentUntil plan t n g until
+pub absent_by : (plan : PlanParts) (t : List Row) → IsSound plan.program → RowsFit plan.program t → (g : Tag) (n : Name) (key : ℕ) (s : Folded) → IsKey plan.program n key s → (until : Option Tag) → ((h : Tag) (c : EventCause) → UpTo g h → IsEarlier h until → IsCause plan t c → ¬ Leads key s h c) → IsAbsentUntil plan t n g until
 absent_by plan t sound fit g n key s k until none h u e present = let c = present_cause plan t sound fit h n key s k present in none h c.0 u e c.1 c.2
 
 -- of two tags the earlier one

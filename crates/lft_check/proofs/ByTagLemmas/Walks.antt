@@ -4,17 +4,18 @@ use Rattle.std.proofs.lemmas.Bool.{cases_lt}
 use Rattle.lft_tag.{specs.{declared.Tag.Tag, Tags.{Before, UpTo}, Shifts.{Folded, shifted}}, proofs.Order.{UpTo-not, UpTo-trans}}
 use Rattle.lft_ir.specs.{Sound.IsSound, declared.parts.{Name.Name, Trigger.TheVariants.On}, Steps.Fits.RowsFit}
 use Rattle.lft_model.{specs.Presence.stop, proofs.Places.slice_get_within}
-use Rattle.lft_rows.specs.{declared.presence.causes.Cause.Cause, inner.Presence.Causes.{tag_of, AreCauses, IsSkip}, Presence.Traces.{TraceParts, LeastTag}}
+use Rattle.lft_rows.specs.{declared.presence.causes.EventCause.EventCause, inner.Presence.Causes.{tag_of, AreCauses, IsSkip}}
+use Rattle.lft_rows.specs.Presence.Traces.{TraceParts, LeastTag}
 use Rattle.lft_rows.proofs.PresenceLemmas.{Skips.{leads_up, names_up}, Leasts.least_as, Presences.{IsKey, present_cause, cause_present}}
 use Rattle.lft_check.specs.inner.ByTag.Least.{HasTag, IsPassed, LacksCause, LacksTrigger}
 
 -- the tag of each cause of the name before a place is passed; from there on no name is lesser, and those of the name lead to the low tag or behind it
-pub record IsWalked (cut : TraceParts) (causes : List Cause) (name : ℕ) (s : Folded) (low : Tag) (tags : List Tag) (place : ℕ) : Type 0 where
-  pub ran : (k : ℕ) (c : Cause) → k < place → slice_get causes k ≡ Some c → c.name ≡ name → IsPassed low tags (shifted (tag_of c) s)
-  pub least : (k : ℕ) (c : Cause) → place ≤ k → slice_get causes k ≡ Some c → name ≤ c.name
-  pub from : (k : ℕ) (c : Cause) → place ≤ k → slice_get causes k ≡ Some c → c.name ≡ name → UpTo low (shifted (tag_of c) s)
+pub record IsWalked (cut : TraceParts) (causes : List EventCause) (name : ℕ) (s : Folded) (low : Tag) (tags : List Tag) (place : ℕ) : Type 0 where
+  pub ran : (k : ℕ) (c : EventCause) → k < place → slice_get causes k ≡ Some c → c.name ≡ name → IsPassed low tags (shifted (tag_of c) s)
+  pub least : (k : ℕ) (c : EventCause) → place ≤ k → slice_get causes k ≡ Some c → name ≤ c.name
+  pub from : (k : ℕ) (c : EventCause) → place ≤ k → slice_get causes k ≡ Some c → c.name ≡ name → UpTo low (shifted (tag_of c) s)
 
-module _ (cut : TraceParts) (causes : List Cause) (are : AreCauses cut.plan cut.rows causes) (name : ℕ) (s : Folded) (low : Tag) (tags : List Tag) where
+module _ (cut : TraceParts) (causes : List EventCause) (are : AreCauses cut.plan cut.rows causes) (name : ℕ) (s : Folded) (low : Tag) (tags : List Tag) where
   module _ (place : ℕ) (h : IsWalked cut causes name s low tags place) where
     -- a lacked tag is that of a cause from the place on
     later : (g : Tag) (m : LacksCause cut name s low tags g) → (k : ℕ) × (place ≤ k) × (slice_get causes k ≡ Some m.cause)
@@ -30,7 +31,7 @@ module _ (cut : TraceParts) (causes : List Cause) (are : AreCauses cut.plan cut.
     pub walk_over : length causes ≤ place → LeastTag (LacksCause cut name s low tags) None
     walk_over l g m = let k = later g m in let a : k.0 < length causes = slice_get_within causes k.0 m.cause k.2 in let b : place ≤ k.0 = k.1 in omega arith
 
-    module _ (here : Cause) (is_here : slice_get causes place ≡ Some here) where
+    module _ (here : EventCause) (is_here : slice_get causes place ≡ Some here) where
       pub walk_past : ¬ (here.name ≡ name) → LeastTag (LacksCause cut name s low tags) None
       walk_past n g m =
           let k = later g m in
@@ -56,7 +57,7 @@ module _ (cut : TraceParts) (causes : List Cause) (are : AreCauses cut.plan cut.
       pub walk_goes_on : (next : ℕ) → HasTag tags (shifted (tag_of here) s) → IsSkip causes name s (shifted (tag_of here) s) place next → IsWalked cut causes name s low tags next
       walk_goes_on next ran skip = record { ran = all; least = λ k c l e. let m : place < next = skip.further in h.least k c (omega arith) e; from = λ k c l e. let m : place < next = skip.further in h.from k c (omega arith) e }
         where
-          all : (k : ℕ) (c : Cause) → k < next → slice_get causes k ≡ Some c → c.name ≡ name → IsPassed low tags (shifted (tag_of c) s)
+          all : (k : ℕ) (c : EventCause) → k < next → slice_get causes k ≡ Some c → c.name ≡ name → IsPassed low tags (shifted (tag_of c) s)
           all k c l e q = go (cases_lt k place)
             where
               go : (k < place) ⊎ (place ≤ k) → IsPassed low tags (shifted (tag_of c) s)

@@ -3,7 +3,8 @@
 
 ghost use Rattle.std.specs.Prelude.{◌≡◌, ◌↔◌, ◌≤◌, ◌<◌, ◌/◌, ℕ, Option, ◌⊎◌, ◌+◌, length, Some, IfOk, IsTrue, slice_get, slice_set};
 ghost use Rattle.lft_tag.specs.{declared.Tag.Tag as TheTag, Tags.UpTo};
-ghost use Rattle.lft_rows.specs.{declared.presence.causes.Cause.Cause as TheCause, inner.{Presence.Causes.{IsCause, Leads}, Marks.HasSeat, Slices.IsSlice}};
+ghost use Rattle.lft_rows.specs.declared.presence.causes.EventCause.{EventCause as TheCause};
+ghost use Rattle.lft_rows.specs.inner.{Presence.Causes.{IsCause, Leads}, Marks.HasSeat, Slices.IsSlice};
 ghost use Rattle.lft_ir.specs.{Parts.inputs, Sound.IsNameOf, declared.parts.{Name.Name as TheName, Reaction.Reaction as TheReaction}};
 ghost use Rattle.lft_model.specs.Presence.{IsPresent};
 ghost use Rattle.lft_check.specs.inner.ByTag.{Absences.{IsAbsentUntil, AreAbsentUntil, IsUnknown, IsEarlier}, Walks.HasWalked};

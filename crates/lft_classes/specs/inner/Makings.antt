@@ -1,8 +1,9 @@
 -- How shapes are made one after another. The contracts of the crate's own functions alone need this file.
 use Rattle.std.specs.Prelude.{◌≡◌, ◌≢◌, ◌⊎◌, ℕ, List, [], ◌∷◌, ◌++◌, Option, Some, length, option_map, slice_get}
 use Rattle.lft_whole.specs.declared.tree.Instance.{Instance}
-use Rattle.lft_classes.specs.{declared.{making.Making.Making, scopes.{Class.Class, Scopes.Scopes}, shapes.{Child.Child, Shape.Shape}}, inner.Below.IsBelow}
-use Rattle.lft_classes.specs.{Built.{Core, IsBuilt, AreBuilt, AreInside, cores}, Chains.extended, Shapes.{child_at, child_in, inside, tables}}
+use Rattle.lft_classes.specs.declared.{making.Making.Making, scopes.{Class.Class, ReactorNames.ReactorNames}, shapes.{Child.Child, Shape.Shape}}
+use Rattle.lft_classes.specs.inner.{Below.IsBelow, Built.{Core, IsBuilt, AreBuilt, AreInside, cores}, Chains.extended}
+use Rattle.lft_classes.specs.inner.Shapes.{child_at, child_in, inside, tables}
 
 -- the one of this number is of the reactor of that number
 pub record IsOfClass (cs : List Core) (s r : ℕ) : Type 0 where
@@ -11,18 +12,18 @@ pub record IsOfClass (cs : List Core) (s r : ℕ) : Type 0 where
   pub is_of : core.class.number ≡ r
 
 -- they are built, of reactors below the first one, and what is noted in them is in them
-pub record AreShapes (scopes : Scopes) (first : ℕ) (cs : List Core) (rows : List (List (Option Child))) : Type 0 where
+pub record AreShapes (scopes : ReactorNames) (first : ℕ) (cs : List Core) (rows : List (List (Option Child))) : Type 0 where
   pub built : AreBuilt scopes cs
   pub below : (i : ℕ) (c : Core) → slice_get cs i ≡ Some c → IsBelow scopes first c.class.number
   pub inside : AreInside scopes cs rows
 
 -- so are the shapes that are made, and what is known of reactors is so
-pub record AreMade (scopes : Scopes) (first : ℕ) (m : Making) : Type 0 where
+pub record AreMade (scopes : ReactorNames) (first : ℕ) (m : Making) : Type 0 where
   pub shapes : AreShapes scopes first (cores m.shapes.items) (tables m.shapes.items)
   pub known : (r s : ℕ) → slice_get m.known.items r ≡ Some (Some s) → IsOfClass (cores m.shapes.items) s r
 
 -- the reactor of which it is an instance is below the first one, if there is one
-abbrev pub IsNeeded : Scopes → ℕ → Instance → ℕ → Type 0
+abbrev pub IsNeeded : ReactorNames → ℕ → Instance → ℕ → Type 0
 IsNeeded scopes file instance first = (r : ℕ) → extended scopes file instance.reactor ≡ Some r → IsBelow scopes first r
 
 -- what is noted in the shape of this number alone differs

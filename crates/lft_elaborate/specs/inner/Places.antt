@@ -1,9 +1,112 @@
 -- Inside: what references mean, how many places they have, and how wide members are, told by the shapes alone.
-use Rattle.std.specs.Prelude.{◌≡◌, ℕ, List, map, Option, Some, None}
-use Rattle.lft_elaborate.specs.{Channels.Channels.joined, Values.Valued}
-use Rattle.lft_elaborate.specs.Places.{written_width, total, Widths, how_many_of, places_in, count_in, sum_in, width_in, IsWidth}
-use Rattle.lft_whole.specs.declared.tree.{Connection.Connection, Count.Count, Reference.Reference, Term.Term}
-use Rattle.lft_classes.specs.declared.shapes.{Shape.Shape, Thing.Thing}
+use Rattle.std.specs.Prelude.{◌≡◌, ℕ, zero, suc, ◌+◌, ◌*◌, ◌-◌, ◌^◌, ℤ, min, List, ◌∷◌, map, Option, Some, None, slice_get, string_bytes}
+use Rattle.std.specs.Option.{option_and_then}
+use Rattle.lft_elaborate.specs.{inner.{Values.{Valued, inside, number_named}, Meanings.meaning_of, Channels.Channels.joined}, declared.meanings.Meaning.Meaning}
+use Rattle.lft_elaborate.specs.Places.{natural}
+use Rattle.lft_whole.specs.declared.tree.{Count.Count, Reference.Reference, Term.Term, Width.Width, Connection.Connection}
+use Rattle.lft_classes.specs.{declared.shapes.{Inherited.Inherited, Shape.Shape, OwnThing.OwnThing}, Shapes.width_of}
+use Rattle.lft_whole.specs.declared.tree.Count.TheVariants as count
+use Rattle.lft_elaborate.specs.declared.meanings.Meaning.TheVariants as meaning
+use Rattle.lft_classes.specs.declared.shapes.OwnThing.TheVariants as thing
+
+-- ---- members and references
+-- the member of this number
+abbrev pub member_in : List Shape → Valued → ℕ → Option Inherited
+member_in shapes t m = option_and_then (λ shape. slice_get shape.members.items m) (slice_get shapes t.shape)
+
+-- the width that is written at it, if it has one
+abbrev pub written_width : List Shape → Valued → ℕ → Option Width
+written_width shapes t m = option_and_then (λ found. width_of found.member.now) (member_in shapes t m)
+
+-- what a reference means in a setting
+abbrev pub meaning_in : List Shape → Valued → Reference → Option Meaning
+meaning_in shapes t r = option_and_then (λ shape. meaning_of shapes shape r) (slice_get shapes t.shape)
+
+-- ---- counts
+-- a count of 2^64 or more is 2^64 - 1
+abbrev pub capped : ℕ → ℕ
+capped n = min n (2 ^ 64 - 1)
+
+-- two counts together
+abbrev pub plus : Option ℕ → Option ℕ → Option ℕ
+plus None b = None
+plus (Some a) None = None
+plus (Some a) (Some b) = Some (capped (a + b))
+
+-- so many for each of so many
+abbrev pub times : Option ℕ → Option ℕ → Option ℕ
+times None b = None
+times (Some a) None = None
+times (Some a) (Some b) = Some (capped (a * b))
+
+-- all counts together
+abbrev pub total : List (Option ℕ) → Option ℕ
+total [] = Some 0
+total (x ∷ xs) = plus x (total xs)
+
+-- widths of members, as far as they are known
+abbrev pub Widths : Type 0
+Widths = Valued → ℕ → Option ℕ
+
+-- how many things one is that has the width, if one is written
+abbrev pub many : Option ℕ → Option Width → Option ℕ
+many width None = Some 1
+many width (Some written) = width
+
+-- how many a member is
+abbrev pub how_many : List Shape → Widths → Valued → ℕ → Option ℕ
+how_many shapes widths t m = many (widths t m) (written_width shapes t m)
+
+-- how many a thing is
+abbrev pub how_many_of : List Shape → Widths → Valued → OwnThing → Option ℕ
+how_many_of shapes widths t (thing.Parameter p) = Some 1
+how_many_of shapes widths t (thing.Member m) = how_many shapes widths t m
+
+-- how many a port of an instance is
+abbrev pub how_many_inside : List Shape → Widths → Valued → ℕ → ℕ → Option ℕ
+how_many_inside shapes widths t instance port = option_and_then (λ u. how_many shapes widths u port) (inside shapes t instance)
+
+-- how many places there are of what a reference means
+abbrev pub places_of : List Shape → Widths → Valued → Meaning → Option ℕ
+places_of shapes widths t (meaning.Own thing) = how_many_of shapes widths t thing
+places_of shapes widths t (meaning.Port instance port) = times (how_many_inside shapes widths t instance port) (how_many shapes widths t instance)
+
+-- how many places a reference has
+abbrev pub places_in : List Shape → Widths → Valued → Reference → Option ℕ
+places_in shapes widths t r = option_and_then (places_of shapes widths t) (meaning_in shapes t r)
+
+-- the number of a parameter
+abbrev pub parameter_in : List Shape → Valued → List ℕ → Option ℤ
+parameter_in shapes t q = option_and_then (λ shape. number_named shape t.values q) (slice_get shapes t.shape)
+
+-- the count that a term is: a number, that of a parameter, or how many places a reference has
+abbrev pub count_in : List Shape → Widths → Valued → Count → Option ℕ
+count_in shapes widths t (count.Number n) = Some n
+count_in shapes widths t (count.Word word) = option_and_then natural (parameter_in shapes t (string_bytes word))
+count_in shapes widths t (count.WidthOf reference) = places_in shapes widths t reference
+count_in shapes widths t count.Code = None
+count_in shapes widths t count.Open = None
+
+-- what terms are together
+abbrev pub sum_in : List Shape → Widths → Valued → List Term → Option ℕ
+sum_in shapes widths t terms = total (map (λ term. count_in shapes widths t term.count) terms)
+
+-- the width of a member, where those that it hangs on are known
+abbrev pub width_by : List Shape → Widths → Valued → ℕ → Option ℕ
+width_by shapes widths t m = option_and_then (λ w. sum_in shapes widths t w.terms.items) (written_width shapes t m)
+
+-- the width of a member, where those that it hangs on go at most so deep
+abbrev pub width_in : List Shape → ℕ → Widths
+width_in shapes zero t m = None
+width_in shapes (suc depth) t m = width_by shapes (width_in shapes depth) t m
+
+-- the width of a member is the sum of its terms
+abbrev pub IsWidth : List Shape → Valued → ℕ → ℕ → Type 0
+IsWidth shapes t m n = (depth : ℕ) × (width_in shapes depth t m ≡ Some n)
+
+-- the member is so many
+abbrev pub IsMany : List Shape → Valued → ℕ → ℕ → Type 0
+IsMany shapes t m n = (depth : ℕ) × (how_many shapes (width_in shapes depth) t m ≡ Some n)
 
 -- how many references have together
 abbrev pub all_places : List Shape → Widths → Valued → List Reference → Option ℕ
@@ -32,7 +135,7 @@ pub record HasPairs (shapes : List Shape) (t : Valued) (c : Connection) (n : ℕ
 
 -- ---- for the crate's own contracts
 -- the thing is so many
-abbrev pub AreMany : List Shape → Valued → Thing → ℕ → Type 0
+abbrev pub AreMany : List Shape → Valued → OwnThing → ℕ → Type 0
 AreMany shapes t thing n = (depth : ℕ) × (how_many_of shapes (width_in shapes depth) t thing ≡ Some n)
 
 -- the term is so many

@@ -1,7 +1,39 @@
 -- Inside: the settings that the instances of a program have.
-use Rattle.std.specs.Prelude.{◌≡◌, ℕ, Bool, true, false, List, Some, slice_get, unwrap_or}
-use Rattle.lft_classes.specs.{declared.shapes.Shape.Shape, Walks.Has}
-use Rattle.lft_elaborate.specs.{declared.settings.Setting.Setting, Noted.Table, Settings.setting_in, Values.Valued, Used.IsIn}
+use Rattle.std.specs.Prelude.{◌≡◌, ℕ, ◌<◌, Bool, true, false, List, Some, option_map, slice_get, unwrap_or}
+use Rattle.lft_whole.specs.declared.tree.Member.{Member}
+use Rattle.lft_classes.specs.{declared.shapes.Shape.Shape, inner.Walks.Has}
+use Rattle.lft_elaborate.specs.inner.{Noted.Table, Places.{IsMany, member_in}, Settings.setting_in, Values.{Valued, inside, main_setting}}
+use Rattle.lft_elaborate.specs.declared.settings.Setting.{Setting}
+use Rattle.lft_whole.specs.declared.tree.Member.TheVariants as member
+
+-- a member is an instance
+abbrev pub is_instance : Member → Bool
+is_instance (member.Instance instance) = true
+is_instance _ = false
+
+-- the member of this number is one
+abbrev pub is_instance_in : List Shape → Valued → ℕ → Bool
+is_instance_in shapes t m = unwrap_or (option_map (λ found. is_instance found.member.now) (member_in shapes t m)) false
+
+-- the setting is that of the instance that is the member of this number of the other: of a plain one, or of a bank that has members
+pub record IsIn (shapes : List Shape) (t : Valued) (m : ℕ) (u : Valued) : Type 0 where
+  pub instance : is_instance_in shapes t m ≡ true
+  pub is_inside : inside shapes t m ≡ Some u
+  pub count : ℕ
+  pub many : IsMany shapes t m count
+  pub some : 0 < count
+
+-- the setting is that of the main reactor, or of an instance in one that is reached
+pub data IsReached (shapes : List Shape) : Valued → Type 0 where
+  main : {t : Valued} → main_setting shapes ≡ Some t → IsReached shapes t
+  within : {t u : Valued} (m : ℕ) → IsReached shapes t → IsIn shapes t m u → IsReached shapes u
+
+-- The numbers are those of all settings that are reached, and of no others, the main one first. Each stands once.
+pub record AreUsed (s : Table) (used : List ℕ) : Type 0 where
+  pub main : slice_get used 0 ≡ Some 0
+  pub reached : (k : ℕ) → Has used k → (t : Valued) × (setting_in s.settings k ≡ Some t) × IsReached s.shapes t
+  pub all : (t : Valued) → IsReached s.shapes t → (k : ℕ) × Has used k × (setting_in s.settings k ≡ Some t)
+  pub once : (i j k l : ℕ) (t : Valued) → slice_get used i ≡ Some k → slice_get used j ≡ Some l → setting_in s.settings k ≡ Some t → setting_in s.settings l ≡ Some t → i ≡ j
 
 -- ---- for the crate's own contracts
 -- a number has a mark

@@ -7,8 +7,8 @@ use Rattle.lft_ir.specs.{Parts.Parts, Sound.IsSound}
 use Rattle.lft_model.specs.Plans.{PlanParts}
 use Rattle.lft_load.specs.{Written.AppendsFront, declared.fault.Fault.Fault}
 use Rattle.lft_monitor.specs.Follows.{breach_of}
-use Rattle.lft_monitor.specs.declared.found.Found.{Found}
-use Rattle.lft_monitor.specs.declared.open.OpenRun.{OpenRun}
+use Rattle.lft_monitor.specs.declared.found.BrokenRule.{BrokenRule}
+use Rattle.lft_monitor.specs.declared.open.StillOpen.{StillOpen}
 use Rattle.lft_log.specs.{Logs.HasManyRows, Told.{AreOpenAtEnd, AreOpenIn, TellsOpen}}
 use Rattle.lft_log.specs.declared.told.{Ended.Ended, Told.TheVariants.{Broken, Odd, Reached}, Final.{Final, TheVariants.{Soon, AtEnd}}}
 use Rattle.lft_log.specs.declared.{follow.kept.Kept.{Kept, TheVariants.{All, Nothing, TooLong}}, explain.explaining.Unexplained.Unexplained}
@@ -60,24 +60,24 @@ lack_of A B f (AtEnd (ending.Unbroken r)) why x = x
 lack_of A B f (AtEnd (ending.Broken b)) why x = λ e. f (x e)
 
 -- the reactions of runs that are open at the end are of the program
-runs_of : (plan : PlanParts) (bytes : List ℕ) (runs : List OpenRun) → IsSound plan.program → AreOpenIn plan bytes runs → AreOf plan.program runs
+runs_of : (plan : PlanParts) (bytes : List ℕ) (runs : List StillOpen) → IsSound plan.program → AreOpenIn plan bytes runs → AreOf plan.program runs
 runs_of plan bytes runs sound (own, t, rest, tells, open_line, are) k run e =
     let x = are.each k run e in
     let l : x.row.reaction < length own.program.reactions = of_log plan own bytes [] rest t sound tells x.place x.row x.is_row in
-    subst (λ (r : OpenRun). r.reaction < length plan.program.reactions) (sym x.run_is) (subst (λ (p : Parts). x.row.reaction < length p.reactions) tells.told.program l)
+    subst (λ (r : StillOpen). r.reaction < length plan.program.reactions) (sym x.run_is) (subst (λ (p : Parts). x.row.reaction < length p.reactions) tells.told.program l)
 
-pub runs_known : (plan : PlanParts) (log : List ℕ) (runs : List OpenRun) → IsSound plan.program → AreOpenAtEnd plan log runs → AreOf plan.program runs
+pub runs_known : (plan : PlanParts) (log : List ℕ) (runs : List StillOpen) → IsSound plan.program → AreOpenAtEnd plan log runs → AreOf plan.program runs
 runs_known plan log runs sound (inl x) = runs_of plan (log ++ 10 ∷ []) runs sound x.1
 runs_known plan log runs sound (inr x) = runs_of plan log runs sound x.1
 
 -- what is to stand behind the line, of the log that is kept
-module _ (plan : PlanParts) (all : Bool) (kept : Kept) (log text : List ℕ) (explains : (at_end : Bool) (b : Found) → IsReasonOf at_end plan kept b all text → ExplainsCut all at_end plan log (breach_of b) text) where
-  stands : (told : Final) (runs : Result (Vec OpenRun) NoMemory) → TellsOpen plan log told runs → IsTextOf (λ at_end b. IsReasonOf at_end plan kept b all) (IsListOf plan runs) told text → IsToStand all plan log told text
+module _ (plan : PlanParts) (all : Bool) (kept : Kept) (log text : List ℕ) (explains : (at_end : Bool) (b : BrokenRule) → IsReasonOf at_end plan kept b all text → ExplainsCut all at_end plan log (breach_of b) text) where
+  stands : (told : Final) (runs : Result (Vec StillOpen) NoMemory) → TellsOpen plan log told runs → IsTextOf (λ at_end b. IsReasonOf at_end plan kept b all) (IsListOf plan runs) told text → IsToStand all plan log told text
   stands (Soon (Broken b)) runs opened x = explains false b x
   stands (Soon (Odd r line)) runs opened x = x
   stands (Soon (Reached r)) runs opened x = x
   stands (AtEnd (ending.Accepted c)) runs opened x = x
-  stands (AtEnd (ending.Unbroken r)) runs opened (known, is, words) = (known.items, subst (λ (o : Result (Vec OpenRun) NoMemory). IfOk o (λ (v : Vec OpenRun). AreOpenAtEnd plan log v.items)) is opened, words)
+  stands (AtEnd (ending.Unbroken r)) runs opened (known, is, words) = (known.items, subst (λ (o : Result (Vec StillOpen) NoMemory). IfOk o (λ (v : Vec StillOpen). AreOpenAtEnd plan log v.items)) is opened, words)
   stands (AtEnd (ending.Broken b)) runs opened x = explains true b x
 
 -- the line was written, and what stands behind it
@@ -88,7 +88,7 @@ module _ (plan : PlanParts) (until : Option Tag) (whole all : Bool) (first : Vec
   to_stand : (text : List ℕ) → IsTextBehind all plan kept e text → IsToStand all plan f.read.0 e.told text
   to_stand text x = stands plan all kept f.read.0 text explains e.told e.still_open f.read.3 x
     where
-      explains : (at_end : Bool) (b : Found) → IsReasonOf at_end plan kept b all text → ExplainsCut all at_end plan f.read.0 (breach_of b) text
+      explains : (at_end : Bool) (b : BrokenRule) → IsReasonOf at_end plan kept b all text → ExplainsCut all at_end plan f.read.0 (breach_of b) text
       explains at_end b (log, is_kept, so) = subst (λ (x : List ℕ). ExplainsCut all at_end plan x (breach_of b) text) (kept_all first empty (HasManyRows plan.program f.read.0) f.read.0 kept log f.read.2 is_kept) so
 
   line_and : (new : Option (List ℕ)) (unexplained : Option Unexplained) (rest : List ℕ) → IsBehindLine all plan f.read.0 (record { told = e.told; unexplained = unexplained }) rest → Appends mid new rest → IsExplainedUnder plan until whole all left right old new (record { told = e.told; unexplained = unexplained })

@@ -7,7 +7,7 @@ use Rattle.lft_ir.specs.{Parts.Parts, Sound.IsSound, declared.steps.row.Row.Row}
 use Rattle.lft_trace.specs.Traces.{IsRow}
 use Rattle.lft_model.{specs.{declared.breach.Breach.Breach, Plans.PlanParts, inner.Breaches.BreaksAt, Breaches.First}, proofs.Places.slice_get_take}
 use Rattle.lft_driver.specs.Lines.{HasReaction}
-use Rattle.lft_monitor.specs.{declared.found.Found.Found, Follows.{IsSureBehind, IsFirstBehind, breach_of}}
+use Rattle.lft_monitor.specs.{declared.found.BrokenRule.BrokenRule, Follows.{IsSureBehind, IsFirstBehind, breach_of}}
 use Rattle.lft_log.specs.{inner.{Logs.row_records, Follow.Lines.HasFound}, Told.{IsEnded, IsFinal, IsSaid, IsSoon, TellsPlan}}
 use Rattle.lft_log.specs.declared.told.{Told.TheVariants.{Broken, Odd, Reached}, Final.{Final, TheVariants.{Soon, AtEnd}}}
 use Rattle.lft_log.proofs.Behind.{rows_each}
@@ -43,7 +43,7 @@ of_log base plan bytes others rest t sound is i x e =
 of_base : (base plan : PlanParts) (bytes : List ℕ) (others : List (List (List ℕ))) (rest : List ℕ) (t : List Row) (o : Option ℕ) → TellsPlan base bytes plan t others rest → HasReaction plan.program o → HasReaction base.program o
 of_base base plan bytes others rest t o is x = subst (λ (p : Parts). HasReaction p o) is.told.program x
 
-of_found : (base : PlanParts) (until : Option Tag) (bytes : List ℕ) (b : Found) → IsSound base.program → IsSoon base until bytes (Broken b) → HasReaction base.program b.reaction
+of_found : (base : PlanParts) (until : Option Tag) (bytes : List ℕ) (b : BrokenRule) → IsSound base.program → IsSoon base until bytes (Broken b) → HasReaction base.program b.reaction
 of_found base until bytes b sound (plan, t, more, others, rest, is, within, said) = of_base base plan bytes others rest (t ++ more) b.reaction is (go said)
   where
     own : (i : ℕ) (x : Row) → slice_get t i ≡ Some x → x.reaction < length plan.program.reactions

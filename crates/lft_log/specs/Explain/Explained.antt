@@ -10,13 +10,13 @@ use Rattle.lft_log.specs.declared.told.{Told.TheVariants.Broken, Final.{Final, T
 use Rattle.lft_log.specs.declared.explain.explaining.{Explained.Explained, Unexplained.{Unexplained, TheVariants.{NoMemory, TooLong}}}
 use Rattle.lft_log.specs.Follow.{Lines.line_of_log, Followed.IsRead}
 use Rattle.lft_monitor.specs.Follows.{breach_of}
-use Rattle.lft_monitor.specs.declared.found.Found.{Found}
-use Rattle.lft_monitor.specs.declared.open.OpenRun.{OpenRun}
+use Rattle.lft_monitor.specs.declared.found.BrokenRule.{BrokenRule}
+use Rattle.lft_monitor.specs.declared.open.StillOpen.{StillOpen}
 use Rattle.lft_driver.specs.Explained.{Writes}
 use Rattle.lft_monitor.specs.declared.judged.Ending.TheVariants as ending
 
 -- of a breach, at the end or before it, the text is what explains it, where rows are missing it lists runs, else it is empty
-abbrev pub IsTextOf : (Bool → Found → List ℕ → Type 0) → (List ℕ → Type 0) → Final → List ℕ → Type 0
+abbrev pub IsTextOf : (Bool → BrokenRule → List ℕ → Type 0) → (List ℕ → Type 0) → Final → List ℕ → Type 0
 IsTextOf Explain Lists (Soon (Broken b)) text = Explain false b text
 IsTextOf Explain Lists (AtEnd (ending.Broken b)) text = Explain true b text
 IsTextOf Explain Lists (AtEnd (ending.Unbroken r)) text = Lists text
@@ -48,7 +48,7 @@ ExplainsCut all at_end base log b text = (plan : PlanParts) × (rows : List Row)
 
 -- the text has the lines of the runs that are open at the end of the log
 abbrev pub ListsOpen : PlanParts → List ℕ → List ℕ → Type 0
-ListsOpen base log text = (runs : List OpenRun) × AreOpenAtEnd base log runs × (text ≡ runs_words base.program runs)
+ListsOpen base log text = (runs : List StillOpen) × AreOpenAtEnd base log runs × (text ≡ runs_words base.program runs)
 
 -- what is to stand behind the line of what is told of a log
 abbrev pub IsToStand : Bool → PlanParts → List ℕ → Final → List ℕ → Type 0

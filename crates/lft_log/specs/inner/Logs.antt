@@ -5,7 +5,7 @@ use Rattle.csv.specs.Reading.{records}
 use Rattle.lft_ir.specs.{Parts.Parts, Steps.Fits.RowsFit}
 use Rattle.lft_trace.specs.{inner.LogTables.{InputsFit, inputs_behind}, LogTables.{IsLine, IsNoLine}, Records.records_of, Traces.{Table, header}}
 use Rattle.lft_trace.specs.declared.log_table.Line.{Line, TheVariants.{Row, Input}}
-use Rattle.lft_log.specs.declared.{fault.LogFault.{LogFault, TheVariants.{NoRow, NoInput}}, front.Front.Front}
+use Rattle.lft_log.specs.declared.{fault.LogFault.{LogFault, TheVariants.{NoRow, NoInput}}, front.LinesRead.LinesRead}
 use Rattle.lft_log.specs.Logs.{AreLines, ArePlain, IsOneLine, BeginsWithLine, fields, rows, inputs, records_below, HoldSoFar, BeginsWithRecord, IsOddLine}
 use Rattle.lft_trace.specs.declared.log_table.LineFault.TheVariants as none
 
@@ -39,7 +39,7 @@ abbrev pub IsFaultBehind : Parts → List (List (List ℕ)) → List ℕ → ℕ
 IsFaultBehind program records rest row input f = IsRecordFault program records row input f ⊎ (records ≡ []) × BeginsWithLine (IsOddLine row input f) rest
 
 -- the front has the rows and the external inputs of the first records of the plain lines, behind so many others; without a fault it is of all lines, and a fault is of the next record or of the line behind the plain ones
-pub record IsFront (program : Parts) (text : List ℕ) (rows_before inputs_before : ℕ) (front : Front) : Type 0 where
+pub record IsFront (program : Parts) (text : List ℕ) (rows_before inputs_before : ℕ) (front : LinesRead) : Type 0 where
   pub plain : ℕ
   pub within : plain ≤ length text
   pub are : AreLines (take plain text)

@@ -6,7 +6,7 @@ use Rattle.lft_model.specs.Plans.{PlanParts}
 use Rattle.lft_monitor.specs.{inner.Follows.IsFollowerOf, Follows.IsPassed}
 use Rattle.lft_trace.specs.{ExternalTables.IsEntry, declared.{external_table.Entry.Entry, log_table.Line.{Line, TheVariants.Input}}}
 use Rattle.lft_log.specs.Logs.{AreTimely, HasNoEnd, HoldSoFar, inputs, rows, HasManyRows}
-use Rattle.lft_log.specs.declared.{asked.Asked.Asked, fault.LogFault.{LogFault, TheVariants.{TooManyRows, NoMemory}}, front.Front.Front, log.Log.Log}
+use Rattle.lft_log.specs.declared.{asked.Asked.Asked, fault.LogFault.{LogFault, TheVariants.{TooManyRows, NoMemory}}, front.LinesRead.LinesRead, log.Log.Log}
 use Rattle.lft_log.specs.declared.{rows.LogRows.LogRows, telling.Taken.Taken, told.Told.Told}
 use Rattle.lft_log.specs.Told.{HasTold, TellsPlan, IsFirstFrom, IsSaid, StandsBehind, AreTooMany, IsFaultOf}
 
@@ -66,7 +66,7 @@ abbrev pub IsRefused : PlanParts → List Row → ℕ → List Line → Option L
 IsRefused plan t number lines fault = (entry : Entry) × (more : List Line) × (lines ≡ Input entry ∷ more) × ((f : LogFault) × (fault ≡ Some f) × IsInputFault plan t entry number f)
 
 -- behind these rows and so many external inputs the first lines of a front are taken: their external inputs are told to the plan in time; they are all, with the front's own fault, or the next is refused
-pub record IsTaken (old new : PlanParts) (t : List Row) (before : ℕ) (front : Front) (lines : List Line) (taken : Taken) : Type 0 where
+pub record IsTaken (old new : PlanParts) (t : List Row) (before : ℕ) (front : LinesRead) (lines : List Line) (taken : Taken) : Type 0 where
   pub first : List Line
   pub others : List Line
   pub parted : lines ≡ first ++ others

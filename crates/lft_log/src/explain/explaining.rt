@@ -19,7 +19,7 @@ use crate::rows_of_log;
 use lft_ir::steps::Rows;
 use lft_load::{Fault, load, write_text};
 use lft_model::{Breach, Plan};
-use lft_monitor::{Ending, Found, OpenRun};
+use lft_monitor::{BrokenRule, Ending, StillOpen};
 use lft_tag::NoMemory;
 use std::alloc::Global;
 use std::io::{Read, Write};
@@ -53,7 +53,7 @@ pub struct Explained {
 }
 
 /// The same breach, where its line is one of a table.
-fn breach_in_table(found: Found) -> Option<Breach>
+fn breach_in_table(found: BrokenRule) -> Option<Breach>
     ensures { IfSome result (λ breach. breach ≡ breach_of found) }
 {
     if found.line > u64::from(u32::MAX) {
@@ -118,7 +118,7 @@ fn reasons_of_log(
     alloc: Global,
     plan: &mut Plan,
     log: &[u8],
-    found: Found,
+    found: BrokenRule,
     at_end: bool,
     all: bool,
 ) -> Result<Vec<u8>, Unexplained>
@@ -139,7 +139,7 @@ fn reasons_of_kept(
     alloc: Global,
     plan: &mut Plan,
     kept: Kept,
-    found: Found,
+    found: BrokenRule,
     at_end: bool,
     all: bool,
 ) -> Result<Vec<u8>, Unexplained>
@@ -157,7 +157,7 @@ fn reasons_of_kept(
 fn lines_of_open(
     alloc: Global,
     plan: &Plan,
-    still_open: Result<Vec<OpenRun>, NoMemory>,
+    still_open: Result<Vec<StillOpen>, NoMemory>,
 ) -> Result<Vec<u8>, NoMemory>
     requires { IfOk still_open (λ runs. (log : List ℕ) × AreOpenAtEnd plan.now log runs.items) }
     ensures { IfOk result (λ text. IsListOf plan.now still_open text.items) }

@@ -6,11 +6,11 @@ ghost use Rattle.lft_log.specs.{inner.Explain.Listed.AreOf, Explain.Listed.{run_
 use lft_ir::Program;
 use lft_lists::item_at;
 use lft_load::{push_field, push_name};
-use lft_monitor::OpenRun;
+use lft_monitor::StillOpen;
 use std::alloc::{AllocError, Global};
 
 /// Puts the line of a run behind others.
-fn push_run(text: &mut String, program: &Program, run: OpenRun) -> Result<(), AllocError>
+fn push_run(text: &mut String, program: &Program, run: StillOpen) -> Result<(), AllocError>
     requires { run.reaction < length program.now.reactions }
     ensures { OnOk result (string_bytes text.new ≡ string_bytes text.old ++ run_words program.now run) }
 {
@@ -26,7 +26,7 @@ fn push_run(text: &mut String, program: &Program, run: OpenRun) -> Result<(), Al
 pub(crate) fn lines_of_runs(
     alloc: Global,
     program: &Program,
-    runs: &[OpenRun],
+    runs: &[StillOpen],
 ) -> Result<Vec<u8>, AllocError>
     requires { AreOf program.now runs.now }
     ensures { IfOk result (λ text. text.items ≡ runs_words program.now runs.now) }

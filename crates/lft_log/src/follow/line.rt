@@ -9,7 +9,7 @@ use crate::{Final, Told};
 use lft_driver::{accepted_line, broken_line};
 use lft_ir::Program;
 use lft_load::push_field;
-use lft_monitor::{Ending, Found, Reach};
+use lft_monitor::{BrokenRule, Ending, Reach};
 use lft_tag::Tag;
 use std::alloc::{AllocError, Global};
 
@@ -64,7 +64,7 @@ fn odd_line(alloc: Global, reach: Reach, last: u64) -> Result<String, AllocError
 }
 
 /// The line of a broken rule, with its line feed.
-fn found_line(alloc: Global, program: &Program, found: Found) -> Result<String, AllocError>
+fn found_line(alloc: Global, program: &Program, found: BrokenRule) -> Result<String, AllocError>
     requires { HasReaction program.now found.reaction }
     ensures { IfOk result (λ line. string_bytes line ≡ breach_words program.now (breach_of found)) }
 {

@@ -2,7 +2,7 @@
 use Rattle.std.proofs.Common.{◌≡◌, ℕ, ◌<◌, List, [], ◌∷◌, ◌++◌, zero, suc, Option, Some, None, Bool, true, false, cond, length, set, get_or, refl, ◌∙◌, ap, arith, get_or-set_other, get_or-set_same}
 use Rattle.std.specs.Prelude.{slice_index_or}
 use Rattle.std.specs.{Str.bytes_eq, Cmp.Lexicographic.nat_list_eq_equiv}
-use Rattle.lft_lower.specs.Meanings.Names.{AreApart}
+use Rattle.lft_lower.specs.inner.Meanings.Names.{AreApart}
 
 -- there is no name yet
 abbrev pub AreNone : List (Option (List ℕ)) → Type 0

@@ -4,8 +4,8 @@ use Rattle.std.specs.Prelude.{slice_get}
 use Rattle.std.specs.List.{flat_map, range_with_len}
 use Rattle.std.proofs.Math.{Nat.eq-or-lt_of_le, Seq.{take-append-add, take-suc}}
 use Rattle.std.proofs.lemmas.{List.{length-map, take_all, FromFn.length-map-range_with_len}, Option.{slice_get_within, get_or_from_slice_get}}
-use Rattle.lft_elaborate.specs.Channels.{Channels.{Place, places}, Lowered.{inner, own}}
-use Rattle.lft_lower.specs.Meanings.Places.{Several, count_of, inner_places, name_at, own_places}
+use Rattle.lft_elaborate.specs.inner.Channels.{Channels.{Place, places}, Lowered.{inner, own}}
+use Rattle.lft_lower.specs.inner.Meanings.Places.{Several, count_of, inner_places, name_at, own_places}
 
 -- one more
 pub cut_more : {X : Type 0} (old more : List X) (k : ℕ) (x : X) → slice_get more k ≡ Some x → (old ++ take k more) ++ x ∷ [] ≡ old ++ take (k + 1) more

@@ -3,7 +3,7 @@ use Rattle.std.proofs.Common.{◌≡◌, ℕ, ◌+◌, Bool, List, [], Some, tak
 use Rattle.std.specs.Prelude.{option_map, slice_get, unwrap_or}
 use Rattle.lft_whole.specs.declared.tree.Reference.{Reference}
 use Rattle.lft_elaborate.specs.declared.meanings.Meaning.{Meaning}
-use Rattle.lft_lower.{specs.Meanings.Meanings.{Here, all_places, meaning_in, places_in, places_of}, proofs.MeaningsLemmas.Growing.flat_next}
+use Rattle.lft_lower.{specs.inner.Meanings.Meanings.{Here, all_places, meaning_in, places_in, places_of}, proofs.MeaningsLemmas.Growing.flat_next}
 
 -- the places of a reference are those of what it means
 pub its_places : (h : Here) (r : Reference) (x : Meaning) → meaning_in h r ≡ Some x → places_in h r ≡ places_of h r.is_interleaved x

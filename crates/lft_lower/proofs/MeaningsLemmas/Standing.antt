@@ -6,8 +6,7 @@ use Rattle.std.proofs.lemmas.List.Elements.{All-append, All-cons, All-head, All-
 use Rattle.std.specs.List.{All}
 use Rattle.lft_tree.specs.{Tree.RefTree, View.{ref_view, ref_views}, declared.tree.Reference.Reference as Core}
 use Rattle.lft_whole.specs.declared.tree.Reference.{Reference}
-use Rattle.lft_lower.specs.Meanings.{Meanings.{Here, all_places, places_in}, Standing.{all_tokens, ref_tokens, tokens_of}}
-use Rattle.lft_lower.specs.inner.Meanings.{Places.up_to, Standing.AddsAt}
+use Rattle.lft_lower.specs.inner.Meanings.{Meanings.{Here, all_places, places_in}, Standing.{all_tokens, ref_tokens, tokens_of, AddsAt}, Places.up_to}
 
 abbrev At : ℕ → Core → Type 0
 At at r = r.at ≡ at

@@ -3,12 +3,12 @@
 ghost use Rattle.std.specs.Prelude.{◌≡◌, ℕ, List, IfErr, IfOk, OnOk, bytes_eq, cond, false, string_bytes, true};
 ghost use Rattle.std.specs.BTreeSet.{contains_text};
 ghost use Rattle.lft_elaborate.specs.inner.Refused.{IfRefused};
-ghost use Rattle.lft_lower.specs.{Meanings.Names.AreApart, inner.Meanings.{Names.{AreNames, texts}, Refused.IsPassed}};
+ghost use Rattle.lft_lower.specs.inner.Meanings.{Names.{AreApart, AreNames, texts}, Refused.IsPassed};
 
 use crate::meanings::room::Room;
 use lft_classes::Work;
 use lft_elaborate::{Numbered, Settings};
-use lft_whole::sources::{Stop, Why};
+use lft_whole::sources::{NoProgram, Why};
 use std::alloc::{AllocError, Global};
 use std::collections::BTreeSet;
 
@@ -54,7 +54,7 @@ impl CoreNames {
     }
 
     /// Takes such a name.
-    fn take(&mut self, name: &str, setting: usize, work: &Work) -> Result<String, Stop>
+    fn take(&mut self, name: &str, setting: usize, work: &Work) -> Result<String, NoProgram>
         ensures free { IfOk result (λ name. contains_text self.old.taken (string_bytes name) ≡ false) }
         ensures taken { IfOk result (λ name. (q : List ℕ) → contains_text self.new.taken q ≡ cond (bytes_eq (string_bytes name) q) true (contains_text self.old.taken q)) }
         ensures found { self.new.found ≡ self.old.found }
@@ -70,7 +70,7 @@ impl CoreNames {
     }
 
     /// Finds the name of a setting of a reactor.
-    fn put(&mut self, setting: usize, name: &str, work: &Work) -> Result<(), Stop>
+    fn put(&mut self, setting: usize, name: &str, work: &Work) -> Result<(), NoProgram>
         requires { AreNames self.old }
         ensures names { OnOk result (AreNames self.new) }
         ensures cause { IfErr result (IfRefused (IsPassed work.now.main)) }
@@ -90,7 +90,7 @@ pub fn names(
     settings: &Settings,
     used: &[usize],
     room: &mut Room,
-) -> Result<Vec<Option<String>>, Stop>
+) -> Result<Vec<Option<String>>, NoProgram>
     ensures apart { IfOk result (λ names. AreApart (texts names.items)) }
     ensures cause { IfErr result (IfRefused (IsPassed settings.now.work.main)) }
 {

@@ -3,20 +3,19 @@
 ghost use Rattle.std.specs.Prelude.{◌≡◌, ◌+◌, ◌*◌, ◌++◌, ◌⊎◌, Bool, Some, IfErr, IfOk, OnOk, is_some, length, option_map, string_bytes, take};
 ghost use Rattle.std.specs.List.{All};
 ghost use Rattle.lft_tree.specs.View.{ref_view, ref_views};
-ghost use Rattle.lft_elaborate.specs.{Meanings.shape_inside, inner.{Names.spelled, Refused.IfRefused}};
-ghost use Rattle.lft_lower.specs.Meanings.Meanings.{Means, all_places, inner_width, meaning_in, member_in, named_in, parameter_in, places_in, places_of, port_of, thing_in};
-ghost use Rattle.lft_lower.specs.Meanings.{Places.{count_of, inner_places, name_at, own_places}, Standing.{all_tokens, ref_tokens, tokens_of}};
-ghost use Rattle.lft_lower.specs.inner.Meanings.{Meanings.{here, is_wide, token_in}, Places.{several, up_to}, Refused.{IsOfOne, IsOfReference, IsPassed}};
-ghost use Rattle.lft_lower.specs.inner.Meanings.Standing.{AddsAt};
-ghost use Rattle.lft_classes.specs.declared.shapes.Thing.TheVariants as things;
+ghost use Rattle.lft_elaborate.specs.inner.{Meanings.shape_inside, Names.spelled, Refused.IfRefused};
+ghost use Rattle.lft_lower.specs.inner.Meanings.Meanings.{Means, all_places, inner_width, meaning_in, member_in, named_in, parameter_in, places_in, places_of, port_of, thing_in, here, is_wide, token_in};
+ghost use Rattle.lft_lower.specs.inner.Meanings.Places.{count_of, inner_places, name_at, own_places, several, up_to};
+ghost use Rattle.lft_lower.specs.inner.Meanings.{Standing.{all_tokens, ref_tokens, tokens_of, AddsAt}, Refused.{IsOfOne, IsOfReference, IsPassed}};
+ghost use Rattle.lft_classes.specs.declared.shapes.OwnThing.TheVariants as things;
 
 use crate::meanings::room::Room;
-use lft_classes::{Shape, Thing, Work};
+use lft_classes::{OwnThing, Shape, Work};
 use lft_elaborate::channels::place_at;
 use lft_elaborate::meanings::{Meaning, inner_shape, meaning_of};
 use lft_elaborate::{Numbered, Settings, name_of};
 use lft_tree::Reference;
-use lft_whole::sources::{Place, SourceFile, Stop, Why, number_of};
+use lft_whole::sources::{NoProgram, Place, SourceFile, Why, number_of};
 use lft_whole::{Name, Reference as Written};
 use std::alloc::Global;
 
@@ -117,12 +116,12 @@ impl<'s, 'a> Within<'s, 'a> {
     }
 
     /// A thing of the reactor.
-    fn thing(self, thing: Thing) -> Wide<'a>
+    fn thing(self, thing: OwnThing) -> Wide<'a>
         ensures { several result ≡ thing_in (here self.entry) thing }
     {
         match thing {
-            Thing::Parameter(number) => parameter(self.shape, number),
-            Thing::Member(number) => self.member(number),
+            OwnThing::Parameter(number) => parameter(self.shape, number),
+            OwnThing::Member(number) => self.member(number),
         }
     }
 
@@ -155,7 +154,7 @@ impl<'s, 'a> Within<'s, 'a> {
     }
 
     /// What a reference means.
-    pub fn meaning(self, reference: &Written) -> Result<Meaning, Stop>
+    pub fn meaning(self, reference: &Written) -> Result<Meaning, NoProgram>
         ensures meaning { IfOk result (λ meaning. meaning_in (here self.entry) reference.now ≡ Some meaning) }
         ensures cause { IfErr result (IfRefused (IsOfReference (here self.entry) self.entry.file reference.now)) }
     {
@@ -164,7 +163,7 @@ impl<'s, 'a> Within<'s, 'a> {
     }
 
     /// How many places what is meant has. More than can be counted are refused.
-    fn count(self, meaning: Meaning) -> Result<usize, Stop>
+    fn count(self, meaning: Meaning) -> Result<usize, NoProgram>
         ensures cause { IfErr result (IfRefused (IsPassed self.entry.settings.now.work.main)) }
         ensures count { IfOk result (λ count. (interleaved : Bool) → count ≡ length (places_of (here self.entry) interleaved meaning)) }
     {
@@ -193,7 +192,7 @@ impl<'s, 'a> Within<'s, 'a> {
 }
 
 /// The sum of two counts. One that can't be counted is refused.
-fn sum(work: &Work, left: usize, right: usize) -> Result<usize, Stop>
+fn sum(work: &Work, left: usize, right: usize) -> Result<usize, NoProgram>
     ensures sum { IfOk result (λ sum. sum ≡ left + right) }
     ensures cause { IfErr result (IfRefused (IsPassed work.now.main)) }
 {
@@ -204,7 +203,7 @@ fn sum(work: &Work, left: usize, right: usize) -> Result<usize, Stop>
 }
 
 /// The product of two counts. One that can't be counted is refused.
-fn product(work: &Work, left: usize, right: usize) -> Result<usize, Stop>
+fn product(work: &Work, left: usize, right: usize) -> Result<usize, NoProgram>
     ensures product { IfOk result (λ product. product ≡ left * right) }
     ensures cause { IfErr result (IfRefused (IsPassed work.now.main)) }
 {
@@ -215,7 +214,12 @@ fn product(work: &Work, left: usize, right: usize) -> Result<usize, Stop>
 }
 
 /// The text of a name, which is counted.
-pub fn counted(alloc: Global, room: &mut Room, work: &Work, name: Numbered) -> Result<String, Stop>
+pub fn counted(
+    alloc: Global,
+    room: &mut Room,
+    work: &Work,
+    name: Numbered,
+) -> Result<String, NoProgram>
     ensures text { IfOk result (λ text. string_bytes text ≡ spelled name.entry) }
     ensures cause { IfErr result (IfRefused (IsPassed work.now.main)) }
 {
@@ -230,7 +234,7 @@ fn counted_if(
     room: &mut Room,
     work: &Work,
     name: Option<Numbered>,
-) -> Result<Option<String>, Stop>
+) -> Result<Option<String>, NoProgram>
     ensures text { IfOk result (λ text. option_map (λ t. string_bytes t) text ≡ option_map spelled name.entry) }
     ensures cause { IfErr result (IfRefused (IsPassed work.now.main)) }
 {
@@ -248,7 +252,7 @@ fn made(
     at: usize,
     head: Numbered,
     port: Option<Numbered>,
-) -> Result<Reference, Stop>
+) -> Result<Reference, NoProgram>
     ensures made { IfOk result (λ made. ref_view made ≡ record { head = spelled head.entry; port = option_map spelled port.entry }) }
     ensures at { IfOk result (λ made. made.at ≡ at) }
     ensures cause { IfErr result (IfRefused (IsPassed work.now.main)) }
@@ -267,7 +271,7 @@ fn push_own(
     thing: Wide,
     most: usize,
     list: &mut Vec<Reference>,
-) -> Result<(), Stop>
+) -> Result<(), NoProgram>
     ensures places { OnOk result (ref_views list.new.items ≡ up_to most (ref_views list.old.items) (own_places (several thing.entry))) }
     ensures at { OnOk result (AddsAt list.old.items list.new.items at) }
     ensures cause { IfErr result (IfRefused (IsPassed work.now.main)) }
@@ -294,7 +298,7 @@ fn push_inner(
     is_interleaved: bool,
     most: usize,
     list: &mut Vec<Reference>,
-) -> Result<(), Stop>
+) -> Result<(), NoProgram>
     ensures places { OnOk result (ref_views list.new.items ≡ up_to most (ref_views list.old.items) (inner_places (several members.entry) (several channels.entry) is_interleaved)) }
     ensures at { OnOk result (AddsAt list.old.items list.new.items at) }
     ensures cause { IfErr result (IfRefused (IsPassed work.now.main)) }
@@ -316,7 +320,7 @@ fn push_inner(
 }
 
 /// How many places references have together.
-pub fn count(within: Within, references: &[Written]) -> Result<usize, Stop>
+pub fn count(within: Within, references: &[Written]) -> Result<usize, NoProgram>
     ensures count { IfOk result (λ count. count ≡ length (all_places (here within.entry) references.now)) }
     ensures means { OnOk result (All (Means (here within.entry)) references.now) }
     ensures cause { IfErr result (IfRefused (λ r. IsPassed within.entry.settings.now.work.main r ⊎ IsOfOne (here within.entry) within.entry.file references.now r)) }
@@ -341,7 +345,7 @@ fn push_meant(
     is_interleaved: bool,
     most: usize,
     list: &mut Vec<Reference>,
-) -> Result<(), Stop>
+) -> Result<(), NoProgram>
     ensures places { OnOk result (ref_views list.new.items ≡ up_to most (ref_views list.old.items) (places_of (here within.entry) is_interleaved meaning)) }
     ensures at { OnOk result (AddsAt list.old.items list.new.items at) }
     ensures cause { IfErr result (IfRefused (IsPassed within.entry.settings.now.work.main)) }
@@ -377,7 +381,7 @@ fn push_some(
     reference: &Written,
     most: usize,
     list: &mut Vec<Reference>,
-) -> Result<(), Stop>
+) -> Result<(), NoProgram>
     ensures places { OnOk result (ref_views list.new.items ≡ up_to most (ref_views list.old.items) (places_in (here within.entry) reference.now)) }
     ensures tokens { OnOk result (ref_tokens list.new.items ≡ up_to most (ref_tokens list.old.items) (tokens_of (token_in within.entry) (here within.entry) reference.now)) }
     ensures cause { IfErr result (IfRefused (λ r. IsPassed within.entry.settings.now.work.main r ⊎ IsOfReference (here within.entry) within.entry.file reference.now r)) }
@@ -404,7 +408,7 @@ pub fn some_places(
     within: Within,
     references: &[Written],
     most: usize,
-) -> Result<Vec<Reference>, Stop>
+) -> Result<Vec<Reference>, NoProgram>
     ensures places { IfOk result (λ list. ref_views list.items ≡ take most (all_places (here within.entry) references.now)) }
     ensures tokens { IfOk result (λ list. ref_tokens list.items ≡ take most (all_tokens (token_in within.entry) (here within.entry) references.now)) }
     ensures cause { IfErr result (IfRefused (λ r. IsPassed within.entry.settings.now.work.main r ⊎ IsOfOne (here within.entry) within.entry.file references.now r)) }
@@ -423,7 +427,7 @@ pub fn push_places(
     within: Within,
     reference: &Written,
     list: &mut Vec<Reference>,
-) -> Result<(), Stop>
+) -> Result<(), NoProgram>
     ensures places { OnOk result (ref_views list.new.items ≡ ref_views list.old.items ++ places_in (here within.entry) reference.now) }
     ensures tokens { OnOk result (ref_tokens list.new.items ≡ ref_tokens list.old.items ++ tokens_of (token_in within.entry) (here within.entry) reference.now) }
     ensures means { OnOk result (Means (here within.entry) reference.now) }
@@ -444,7 +448,7 @@ pub fn places(
     room: &mut Room,
     within: Within,
     references: &[Written],
-) -> Result<Vec<Reference>, Stop>
+) -> Result<Vec<Reference>, NoProgram>
     ensures places { IfOk result (λ list. ref_views list.items ≡ all_places (here within.entry) references.now) }
     ensures tokens { IfOk result (λ list. ref_tokens list.items ≡ all_tokens (token_in within.entry) (here within.entry) references.now) }
     ensures means { OnOk result (All (Means (here within.entry)) references.now) }

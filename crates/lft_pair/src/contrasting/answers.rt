@@ -70,13 +70,13 @@ fn count_of(counts: &BTreeMap<u32, usize>, action: u32) -> usize
 /// The schedulings of a run: how many each action has, and each under its action and its place among
 /// those of the action.
 #[derive(Drop)]
-struct Schedulings {
+struct ScheduledSteps {
     counts: BTreeMap<u32, usize>,
     items: BTreeMap<(u32, usize), Scheduling>,
 }
 
 /// The schedulings of the run.
-fn schedulings_of(alloc: Global, steps: &[Placed]) -> Result<Schedulings, NoMemory>
+fn schedulings_of(alloc: Global, steps: &[Placed]) -> Result<ScheduledSteps, NoMemory>
     ensures { IfOk result (λ all. AreSchedulings steps.now all.counts all.items) }
 {
     let mut counts = BTreeMap::new(alloc);
@@ -88,20 +88,20 @@ fn schedulings_of(alloc: Global, steps: &[Placed]) -> Result<Schedulings, NoMemo
             let _count = counts.insert(found.0, count + 1)?;
         }
     }
-    Ok(Schedulings { counts, items })
+    Ok(ScheduledSteps { counts, items })
 }
 
 /// What a run answered, to be looked up by port and by action.
 // A run may have thousands of rows, and its reaction thousands of effects. So the rows are gone
 // through once, and each effect is looked up.
 #[derive(Drop)]
-pub(crate) struct Answered<'a> {
+pub(crate) struct RunAnswers<'a> {
     steps: &'a [Placed],
     writes: BTreeMap<u32, LastWrite>,
-    schedulings: Schedulings,
+    schedulings: ScheduledSteps,
 }
 
-impl<'a> Model for Answered<'a> {
+impl<'a> Model for RunAnswers<'a> {
     ghost use Rattle.std.specs.Prelude.{List};
     ghost use Rattle.lft_pair.specs.{declared.contrasting.contrasts.Placed.Placed, inner.Answered.AreAnswers};
 
@@ -112,14 +112,14 @@ impl<'a> Model for Answered<'a> {
     ghost invariant = { λ a. AreAnswers a.steps.now a.writes a.schedulings.counts a.schedulings.items };
 }
 
-impl<'a> Answered<'a> {
+impl<'a> RunAnswers<'a> {
     /// What the run answered.
-    pub(crate) fn new(alloc: Global, steps: &'a [Placed]) -> Result<Answered<'a>, NoMemory>
+    pub(crate) fn new(alloc: Global, steps: &'a [Placed]) -> Result<RunAnswers<'a>, NoMemory>
         ensures { IfOk result (λ answered. answered ≡ steps.now) }
     {
         let writes = writes_of(alloc, steps)?;
         let schedulings = schedulings_of(alloc, steps)?;
-        Ok(Answered {
+        Ok(RunAnswers {
             steps,
             writes,
             schedulings,

@@ -6,7 +6,7 @@ ghost use Rattle.lft_pair.specs.Runs.{last_write as the_last_write, schedulings 
 ghost use Rattle.lft_pair.specs.{Contrasts.{value_of as the_value_of, event_of as the_event_of}, inner.{Contrasts.events, Enough.IsOfEffect}};
 ghost use Rattle.lft_pair.specs.Enough.{HaveSameOutcome, TellsOf, TellsStop, IsToldOf};
 
-use crate::contrasting::answers::{Answered, first_request};
+use crate::contrasting::answers::{RunAnswers, first_request};
 use crate::contrasting::contrasts::{Contrast, LastWrite, Placed, Scheduling};
 use lft_ir::{Name, Value};
 use lft_lists::item_at;
@@ -35,7 +35,7 @@ fn is_same_value(first: Option<LastWrite>, second: Option<LastWrite>) -> bool
 }
 
 /// What two runs wrote last to the port, where it isn't one value.
-fn written(port: u32, mine: &Answered, theirs: &Answered) -> Option<Contrast>
+fn written(port: u32, mine: &RunAnswers, theirs: &RunAnswers) -> Option<Contrast>
     ensures { MatchOption result (the_value_of (the_last_write mine.now port) ≡ the_value_of (the_last_write theirs.now port)) (TellsOf mine.now theirs.now (Port port)) }
 {
     let first = mine.last_write(port);
@@ -62,7 +62,7 @@ fn is_same_event(first: Option<Scheduling>, second: Option<Scheduling>) -> bool
 }
 
 /// The first place at which the schedulings of the action aren't the same in two runs.
-fn first_other(mine: &Answered, theirs: &Answered, action: u32) -> Option<usize>
+fn first_other(mine: &RunAnswers, theirs: &RunAnswers, action: u32) -> Option<usize>
     ensures { MatchOption result (events (the_schedulings mine.now action) ≡ events (the_schedulings theirs.now action)) (λ k. ¬ (the_event_of (slice_get (the_schedulings mine.now action) k) ≡ the_event_of (slice_get (the_schedulings theirs.now action) k))) }
 {
     for place in 0..mine.count(action).max(theirs.count(action)) {
@@ -77,7 +77,7 @@ fn first_other(mine: &Answered, theirs: &Answered, action: u32) -> Option<usize>
 }
 
 /// The first scheduling of the action that isn't the same in two runs.
-fn scheduled(action: u32, mine: &Answered, theirs: &Answered) -> Option<Contrast>
+fn scheduled(action: u32, mine: &RunAnswers, theirs: &RunAnswers) -> Option<Contrast>
     ensures { MatchOption result (events (the_schedulings mine.now action) ≡ events (the_schedulings theirs.now action)) (TellsOf mine.now theirs.now (Action action)) }
 {
     let place = first_other(mine, theirs, action)?;
@@ -90,7 +90,7 @@ fn scheduled(action: u32, mine: &Answered, theirs: &Answered) -> Option<Contrast
 }
 
 /// What two runs answered for the effect, where it isn't the same.
-fn effect(effect: Name, mine: &Answered, theirs: &Answered) -> Option<Contrast>
+fn effect(effect: Name, mine: &RunAnswers, theirs: &RunAnswers) -> Option<Contrast>
     ensures { MatchOption result (HaveSameOutcome mine.now theirs.now effect) (TellsOf mine.now theirs.now effect) }
 {
     match effect {
@@ -109,8 +109,8 @@ pub(crate) fn effect_contrasts(
     ensures right { IfOk result (λ list. All (IsOfEffect effects.now mine.now theirs.now) list.items) }
     ensures all { IfOk result (λ list. (n : TheName) → Contains effects.now n → IsToldOf mine.now theirs.now list.items n) }
 {
-    let first = Answered::new(alloc, mine)?;
-    let second = Answered::new(alloc, theirs)?;
+    let first = RunAnswers::new(alloc, mine)?;
+    let second = RunAnswers::new(alloc, theirs)?;
     let mut told = Vec::new(alloc);
     for place in 0..effects.len() {
         if let Some(contrast) = effect(item_at(effects, place), &first, &second) {

@@ -12,7 +12,7 @@ use std::alloc::{AllocError, Global};
 
 /// How wide the first two columns are.
 #[derive(Clone, Copy, Drop)]
-pub(crate) struct Widths {
+pub(crate) struct TableWidths {
     pub effect: usize,
     pub first: usize,
 }
@@ -63,13 +63,13 @@ pub(crate) fn widths_of(
     alloc: Global,
     program: &Program,
     contrasts: &[Contrast],
-) -> Result<Widths, AllocError>
+) -> Result<TableWidths, AllocError>
     ensures effect { IfOk result (λ widths. widths.effect ≡ widest (effect_words program.now) 6 contrasts.now) }
     ensures first { IfOk result (λ widths. widths.first ≡ widest first_words 5 contrasts.now) }
 {
     let effect = effect_width(alloc, program, contrasts)?;
     let first = first_width(alloc, contrasts)?;
-    Ok(Widths { effect, first })
+    Ok(TableWidths { effect, first })
 }
 
 /// Puts a line of the table at the end of the text.
@@ -77,7 +77,7 @@ pub(crate) fn push_row(
     alloc: Global,
     text: &mut String,
     program: &Program,
-    widths: Widths,
+    widths: TableWidths,
     contrast: Contrast,
 ) -> Result<(), AllocError>
     ensures { OnOk result (string_bytes text.new ≡ string_bytes text.old ++ row_words program.now widths.effect widths.first contrast) }

@@ -4,7 +4,7 @@ ghost use Rattle.std.specs.Prelude.{◌≡◌, ◌++◌, IfOk, OnOk, string_byte
 ghost use Rattle.lft_pair.specs.{Words.instance_words, Told.{starts_words, read_words, earlier_words, before_words, contrast_words, heading_words, told}};
 
 use crate::contrasting::contrasts::{Contrast, Contrasts};
-use crate::contrasting::table::{Widths, push_row, widths_of};
+use crate::contrasting::table::{TableWidths, push_row, widths_of};
 use lft_ir::words::{
     push_line, push_name, push_number, push_padded, push_reaction, push_tag, push_value,
 };
@@ -84,7 +84,7 @@ fn push_contrast(
     alloc: Global,
     text: &mut String,
     program: &Program,
-    widths: Widths,
+    widths: TableWidths,
     contrast: Contrast,
 ) -> Result<(), AllocError>
     ensures { OnOk result (string_bytes text.new ≡ string_bytes text.old ++ contrast_words program.now widths.effect widths.first contrast) }
@@ -110,7 +110,7 @@ fn push_heading(
     program: &Program,
     tag: Tag,
     reaction: u32,
-    widths: Widths,
+    widths: TableWidths,
 ) -> Result<(), AllocError>
     ensures { OnOk result (string_bytes text.new ≡ string_bytes text.old ++ heading_words program.now tag reaction widths.effect widths.first) }
 {

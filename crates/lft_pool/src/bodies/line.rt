@@ -12,13 +12,13 @@ use std::marker::Model;
 /// The bodies of a reaction that are left, in order. Contracts see the reaction and how many there
 /// are.
 #[derive(Drop)]
-pub(crate) struct Line<L: Law, C: Code + Drop> {
+pub(crate) struct BodiesLeft<L: Law, C: Code + Drop> {
     reaction: u32,
     left: u64,
     runs: VecDeque<SameBodies<L, C>>,
 }
 
-impl<L: Law, C: Code + Drop> Model for Line<L, C> {
+impl<L: Law, C: Code + Drop> Model for BodiesLeft<L, C> {
     ghost use Rattle.std.specs.Prelude.{◌≡◌, ◌<◌, ℕ, All};
     ghost use Rattle.std.specs.List.{sum_by};
 
@@ -29,12 +29,12 @@ impl<L: Law, C: Code + Drop> Model for Line<L, C> {
     ghost invariant = { λ b. (b.left ≡ sum_by (λ s. s.1) b.runs.items) × All (λ s. (s.0 ≡ b.reaction) × (0 < s.1)) b.runs.items };
 }
 
-impl<L: Law, C: Code + Drop> Line<L, C> {
+impl<L: Law, C: Code + Drop> BodiesLeft<L, C> {
     /// No bodies of the reaction.
-    pub(crate) fn new(alloc: Global, reaction: u32) -> Line<L, C>
+    pub(crate) fn new(alloc: Global, reaction: u32) -> BodiesLeft<L, C>
         ensures { result ≡ (reaction, 0) }
     {
-        Line {
+        BodiesLeft {
             reaction,
             left: 0,
             runs: VecDeque::new(alloc),

@@ -1,7 +1,7 @@
 -- Names that are put one after another, each made from one before it. The contracts of the crate's own functions alone need this file.
 use Rattle.std.specs.Prelude.{◌≡◌, ℕ, ◌+◌, ◌<◌, List, [], ◌∷◌, ◌++◌, map, slice_get, slice_index_or, Some, codes}
 use Rattle.std.specs.Fmt.{decimal}
-use Rattle.lft_program.specs.{inner.FullNames.members, declared.naming.{OwnName.OwnName, Placed.Placed}}
+use Rattle.lft_program.specs.{inner.FullNames.members, declared.naming.{OwnName.OwnName, PlacedReaction.PlacedReaction}}
 
 -- the number of an instance, and what a name has after that of the instance
 abbrev pub Ending : Type 0
@@ -12,11 +12,11 @@ abbrev pub dotted : OwnName → Ending
 dotted thing = (thing.instance, codes "." ++ thing.name.now)
 
 -- the ending of a reaction
-abbrev pub hashed : Placed → Ending
+abbrev pub hashed : PlacedReaction → Ending
 hashed reaction = (reaction.instance, codes "#" ++ decimal (reaction.place + 1))
 
 -- the endings of all things but the main instance, in the order of their kinds
-abbrev pub endings : List OwnName → List OwnName → List OwnName → List OwnName → List Placed → List Ending
+abbrev pub endings : List OwnName → List OwnName → List OwnName → List OwnName → List PlacedReaction → List Ending
 endings instances ports actions timers reactions = map dotted (members instances ports actions timers) ++ map hashed reactions
 
 -- the name of the instance with the ending

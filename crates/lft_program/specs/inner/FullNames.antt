@@ -3,18 +3,18 @@ use Rattle.std.specs.Prelude.{◌≡◌, ◌≢◌, ℕ, ◌+◌, ◌<◌, ◌�
 use Rattle.std.specs.{Fmt.decimal, List.AllZip}
 use Rattle.lft_tree.specs.Identifiers.{IsName}
 use Rattle.lft_ir.specs.Names.{ThingNames}
-use Rattle.lft_program.specs.declared.naming.{OwnName.OwnName, Placed.Placed}
+use Rattle.lft_program.specs.declared.naming.{OwnName.OwnName, PlacedReaction.PlacedReaction}
 
 -- the name of the instance that declares the thing, a dot and the thing's own name
 abbrev pub IsDotted : List (List ℕ) → OwnName → List ℕ → Type 0
 IsDotted instances thing name = (container : List ℕ) × (slice_get instances thing.instance ≡ Some container) × (name ≡ container ++ codes "." ++ thing.name.now)
 
 -- the name of the reaction's instance, `#` and the reaction's place there, counted from 1
-abbrev pub IsHashed : List (List ℕ) → Placed → List ℕ → Type 0
+abbrev pub IsHashed : List (List ℕ) → PlacedReaction → List ℕ → Type 0
 IsHashed instances reaction name = (container : List ℕ) × (slice_get instances reaction.instance ≡ Some container) × (name ≡ container ++ codes "#" ++ decimal (reaction.place + 1))
 
 -- the first instance, the main one, is `main`, whatever it is called, and all else has its own name or place after the name of its instance (ours: `main.a`, `main.a.out`, `main.a#1`)
-pub record AreFullNames (instances ports actions timers : List OwnName) (reactions : List Placed) (names : ThingNames) : Type 0 where
+pub record AreFullNames (instances ports actions timers : List OwnName) (reactions : List PlacedReaction) (names : ThingNames) : Type 0 where
   pub main_name : slice_get names.instances 0 ≡ Some (codes "main")
   pub instance_names : AllZip (IsDotted names.instances) (drop 1 instances) (drop 1 names.instances)
   pub port_names : AllZip (IsDotted names.instances) ports names.ports
@@ -32,7 +32,7 @@ pub record AreNested (instances : List OwnName) : Type 0 where
   pub order : (k : ℕ) (inner : OwnName) → slice_get instances k ≡ Some inner → 0 < k → inner.instance < k
 
 -- the things of one program: each belongs to one of the instances, in which no other has its name or its place; a reaction's place is counted from 0, so it is below the number of reactions
-pub record AreOfProgram (instances ports actions timers : List OwnName) (reactions : List Placed) : Type 0 where
+pub record AreOfProgram (instances ports actions timers : List OwnName) (reactions : List PlacedReaction) : Type 0 where
   pub nested : AreNested instances
   pub declared : All (λ d. d.instance < length instances) (ports ++ actions ++ timers)
   pub placed : All (λ r. (r.instance < length instances) × (r.place < length reactions)) reactions
@@ -41,7 +41,7 @@ pub record AreOfProgram (instances ports actions timers : List OwnName) (reactio
   pub places_once : AllPairs (λ a b. a.instance ≡ b.instance → a.place ≢ b.place) reactions
 
 -- the limits on what a program has
-pub record AreFew (instances ports actions timers : List OwnName) (reactions : List Placed) : Type 0 where
+pub record AreFew (instances ports actions timers : List OwnName) (reactions : List PlacedReaction) : Type 0 where
   pub few_instances : length instances ≤ 10000
   pub few_ports : length ports ≤ 100000
   pub few_actions : length actions ≤ 100000

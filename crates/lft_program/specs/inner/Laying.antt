@@ -3,13 +3,13 @@ use Rattle.std.specs.Prelude.{◌≡◌, ℕ, ◌≤◌, Bool, List, [], Option,
 use Rattle.std.specs.List.{AllZip}
 use Rattle.lft_resolve.specs.inner.Expansion.{Joins.{port_at, port_of}, Values.clock_in}
 use Rattle.lft_resolve.specs.declared.expansion.{numbering.Thing.Thing, settings.Clock.Clock}
-use Rattle.lft_resolve.specs.declared.by_number.sheets.{ActionSheet.ActionSheet, Cue.Cue, Cues.Cues, Declarations.Declarations, Spot.Spot}
+use Rattle.lft_resolve.specs.declared.by_number.sheets.{ActionSheet.ActionSheet, Cue.Cue, Cues.Cues, Declarations.Declarations, NamedThing.NamedThing}
 use Rattle.lft_resolve.specs.declared.by_number.sheets.TimerSheet.{TimerSheet}
 use Rattle.lft_program.specs.declared.nesting.{linking.Linked.Linked, nest.Nest.Nest, tables.Tables.Tables}
 use Rattle.lft_ir.specs.declared.parts.{Action.Action as ActionOf, Name.{Name, TheVariants.{Port, Action}}, Port.Port as PortOf, Reaction.Reaction}
 use Rattle.lft_ir.specs.declared.parts.{Timer.Timer as TimerOf, Trigger.{Trigger, TheVariants.{Startup, Shutdown, Timer, On}}}
 use Rattle.lft_resolve.specs.declared.by_number.sheets.Cue.TheVariants as cues
-use Rattle.lft_resolve.specs.declared.by_number.sheets.Spot.TheVariants as spots
+use Rattle.lft_resolve.specs.declared.by_number.sheets.NamedThing.TheVariants as spots
 
 -- ---- what each instance declares
 
@@ -40,7 +40,7 @@ abbrev pub clock_at : Nest → ℕ → Clock → ℕ
 clock_at nest n clock = clock_in (unwrap_or (slice_get nest.values n) []) clock
 
 -- the port or action that a spot is in instance n
-abbrev pub name_at : Nest → ℕ → Spot → Option Name
+abbrev pub name_at : Nest → ℕ → NamedThing → Option Name
 name_at nest n (spots.Port end) = option_map Port (port_of nest.ports.firsts.items nest.children n end)
 name_at nest n (spots.Action place) = option_map Action (port_at nest.actions.firsts.items n place)
 
@@ -56,7 +56,7 @@ abbrev pub IsFew : Option ℕ → Type 0
 IsFew number = (n : ℕ) × (number ≡ Some n) × (n ≤ 100000)
 
 -- the spot is something in instance n
-abbrev pub HasName : Nest → ℕ → Spot → Type 0
+abbrev pub HasName : Nest → ℕ → NamedThing → Type 0
 HasName nest n (spots.Port end) = IsFew (port_of nest.ports.firsts.items nest.children n end)
 HasName nest n (spots.Action place) = IsFew (port_at nest.actions.firsts.items n place)
 
@@ -78,7 +78,7 @@ pub record HasCues (nest : Nest) (n : ℕ) (c : Cues) : Type 0 where
   pub effects : Each (HasName nest n) c.effects.items
 
 -- the names, in order, that the spots are in instance n
-abbrev pub AreNames : Nest → ℕ → List Spot → List Name → Type 0
+abbrev pub AreNames : Nest → ℕ → List NamedThing → List Name → Type 0
 AreNames nest n spots names = AllZip (λ s x. name_at nest n s ≡ Some x) spots names
 
 -- the triggers, in order, that the cues are in instance n

@@ -4,7 +4,8 @@ use Rattle.std.specs.{List.AllZip, Option.option_and_then}
 use Rattle.lft_tree.specs.Tree.{FileTree, reactors_of, ports_of, actions_of, timers_of, reactions_of}
 use Rattle.lft_resolve.specs.declared.expansion.{numbering.Thing.Thing, walk.Instance.Instance}
 use Rattle.lft_program.specs.{Located.{Declared, declared}, inner.{Nests.IsNest, OwnNames.own_names}}
-use Rattle.lft_program.specs.declared.{nesting.{nest.Nest.Nest, tables.Tables.Tables}, naming.{OwnName.OwnName, Placed.Placed}, tree_lists.Lists.Lists}
+use Rattle.lft_program.specs.declared.{nesting.{nest.Nest.Nest, tables.Tables.Tables}, naming.{OwnName.OwnName, PlacedReaction.PlacedReaction}}
+use Rattle.lft_program.specs.declared.tree_lists.Lists.{Lists}
 use Rattle.lft_program.specs.declared.own_names.MemberKind.TheVariants as kinds
 
 -- the name at a place of the reactor of an instance, where each reactor has a list of names; an empty one where there is none
@@ -16,7 +17,7 @@ abbrev pub seen : OwnName → ℕ × List ℕ
 seen d = (d.instance, d.name.now)
 
 -- a reaction by its instance and its place
-abbrev pub placed_at : Thing → Placed
+abbrev pub placed_at : Thing → PlacedReaction
 placed_at t = record { instance = t.instance; place = t.place }
 
 -- the thing has the instance and the name of the declaration
@@ -24,7 +25,7 @@ abbrev pub Says : {X : Type 0} → (X → List ℕ) → Declared X → OwnName �
 Says name d x = (x.instance ≡ d.instance) × (x.name.now ≡ name d.item)
 
 -- the reaction has the instance and the place of the declaration
-abbrev pub IsPlacedAt : {X : Type 0} → Declared X → Placed → Type 0
+abbrev pub IsPlacedAt : {X : Type 0} → Declared X → PlacedReaction → Type 0
 IsPlacedAt d x = (x.instance ≡ d.instance) × (x.place ≡ d.place)
 
 -- each instance has the number of the one that contains it and its name there, and all else that of its instance, with its own name or its place

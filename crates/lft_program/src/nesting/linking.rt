@@ -10,7 +10,7 @@ use crate::nesting::nest::Nest;
 use crate::nesting::tables::Tables;
 use crate::refusal::Refusal;
 use lft_resolve::expansion::{
-    Instance, OriginFault, Reached, Site, Sources, find_origins, find_sources, way_back,
+    Instance, OriginFault, PortSources, Reached, Site, find_origins, find_sources, way_back,
 };
 use lft_tag::{NoMemory, Shift, Source};
 use lft_validate::{Scopes, check_times};
@@ -105,7 +105,7 @@ fn first_long(sources: &[Option<Source>], reached: &[Reached], port: usize) -> u
 }
 
 // the connections on the way back from a port
-fn way_to(alloc: Global, nest: &Nest, found: &Sources, port: usize) -> Result<Way, NoMemory>
+fn way_to(alloc: Global, nest: &Nest, found: &PortSources, port: usize) -> Result<Way, NoMemory>
     requires inside { AreInside found.now.sources.items }
     requires known { port < length found.now.sources.items }
     requires sites { HaveSites found.now.sources.items found.now.sites.items }

@@ -11,7 +11,7 @@ use Rattle.lft_model.{specs.Plans.PlanParts, proofs.Steps.both_true}
 use Rattle.lft_queue.proofs.Marking.{of_reads}
 use Rattle.lft_queue.specs.inner.Coming.{AtOnce.{is_undelayed, origin_of, HasEvents, IsAwaited, HaveGrown}, NumberLists.list_at}
 use Rattle.lft_queue.specs.inner.Coming.{Listeners.{list_of, heard_at, BothGrow, IsListed, AreListeners}, Listens.Listens}
-use Rattle.lft_queue.specs.declared.coming.listeners.Listeners.{Listeners}
+use Rattle.lft_queue.specs.declared.coming.listeners.NameListeners.{NameListeners}
 
 -- what the test asks of a port
 pub test_of : (program : Parts) (p : ℕ) (port : PortOf) → slice_get program.ports p ≡ Some port → is_undelayed program p ≡ ((port.shift.time == 0) && (port.shift.steps == 0))
@@ -121,15 +121,15 @@ heard_origin program sound p o way =
     let same : x.0.origin ≡ o = sym (origin_unique way kept.1).0 in
     ap (λ (b : Bool). Port (cond b (unwrap_or (option_map (λ (y : PortOf). y.origin) (slice_get program.ports p)) 0) p)) (is_undelayed_way program sound p o way) ∙ ap (λ (e : Option PortOf). Port (unwrap_or (option_map (λ (y : PortOf). y.origin) e) 0)) x.1 ∙ ap Port same
 
-pub both_on : (old new newer : Listeners) → BothGrow old new → BothGrow new newer → BothGrow old newer
+pub both_on : (old new newer : NameListeners) → BothGrow old new → BothGrow new newer → BothGrow old newer
 both_on old new newer first second = (grown_on old.ports new.ports newer.ports first.0 second.0, grown_on old.actions new.actions newer.actions first.1 second.1)
 
-pub both_there : (old new : Listeners) → BothGrow old new → (n : Name) (r : ℕ) (more : List ℕ) → list_of new n ≡ Some more → ((list : List ℕ) → list_of old n ≡ Some list → Contains list r) → Contains more r
+pub both_there : (old new : NameListeners) → BothGrow old new → (n : Name) (r : ℕ) (more : List ℕ) → list_of new n ≡ Some more → ((list : List ℕ) → list_of old n ≡ Some list → Contains list r) → Contains more r
 both_there old new grown (Port p) r more e there = still_there old.ports new.ports grown.0 p r more e there
 both_there old new grown (Action a) r more e there = still_there old.actions new.actions grown.1 a r more e there
 
 -- the lists of names in which each reaction stands for its triggers are the listeners
-pub listeners_of : (plan : PlanParts) (listeners : Listeners) → length listeners.ports ≡ length plan.program.ports → length listeners.actions ≡ length plan.program.actions → ((r : ℕ) (x : Reaction) → slice_get plan.program.reactions r ≡ Some x → IsListed plan.program (filter_map named x.triggers) r listeners) → AreListeners plan listeners
+pub listeners_of : (plan : PlanParts) (listeners : NameListeners) → length listeners.ports ≡ length plan.program.ports → length listeners.actions ≡ length plan.program.actions → ((r : ℕ) (x : Reaction) → slice_get plan.program.reactions r ≡ Some x → IsListed plan.program (filter_map named x.triggers) r listeners) → AreListeners plan listeners
 listeners_of plan listeners ports actions listed = record { ports = ports; actions = actions; each = each }
   where
     each : (n : Name) (r : ℕ) (list : List ℕ) → Listens plan r (On n) → list_of listeners (heard_at plan.program n) ≡ Some list → Contains list r

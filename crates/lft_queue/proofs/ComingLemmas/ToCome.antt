@@ -11,7 +11,8 @@ use Rattle.lft_ir.proofs.{Ranges.slice_get-drop, Naming.name_same}
 use Rattle.lft_ir.specs.{declared.{parts.{Value.Value, Name.{Name, TheVariants.{Port, Action}}}, steps.externals.Event.Event}, Naming.same_name}
 use Rattle.lft_ir.specs.Steps.Inputs.{InOrder}
 use Rattle.lft_model.{specs.Presence.given, proofs.{Steps.both_true, Places.slice_get_within}}
-use Rattle.lft_queue.specs.{Pending.{Pending, value_of, same_key, is_after, Becomes}, declared.coming.{coming.Coming.Coming, listeners.Listeners.Listeners}}
+use Rattle.lft_queue.specs.Pending.{Pending, value_of, same_key, is_after, Becomes}
+use Rattle.lft_queue.specs.declared.coming.{coming.Coming.Coming, listeners.NameListeners.NameListeners}
 use Rattle.lft_queue.specs.inner.Coming.Coming.{given_from, to_come, put_at, AreBrought, AreTaken, IsClear, ArePassed, IsReached, AreOver}
 use Rattle.lft_queue.specs.inner.Coming.Listeners.{IsUnheard}
 use Rattle.lft_queue.proofs.{Dropping.later_value, Tests.{not_before, tag_apart}}
@@ -44,7 +45,7 @@ pub dropped_fewer : (g : Tag) (x : Pending) (q : List Pending) → Mem x q → x
 dropped_fewer g x q m e = filter_fewer (λ d. is_after g d) x q m (not_before g x.tag (λ b. Before-irrefl g (subst (λ (k : Tag). Before g k) e b)))
 
 -- the queue once the events before g are gone
-module _ (listeners : Listeners) (g : Tag) where
+module _ (listeners : NameListeners) (g : Tag) where
   -- on the way there: those that are gone were of names that trigger nothing
   pub record OnTheWay (old new : List Pending) : Type 0 where
     pub gone : (h : Tag) (n : Name) (v : Value) → Before h g → value_of h n old ≡ Some v → IsUnheard listeners n ⊎ (value_of h n new ≡ Some v)
@@ -213,7 +214,7 @@ pub few_of : (o : Option Value) → length (option_to_list o) < 2
 few_of None = omega arith
 few_of (Some v) = omega arith
 
-module _ (events : List Event) (listeners : Listeners) (g : Tag) (old mid new : Coming) (same : (h : Tag) (n : Name) → to_come events mid h n ≡ to_come events old h n) (brought : AreBrought events mid.next g) (taken : AreTaken events old.next mid.next g) (next : new.next ≡ mid.next) (clear : IsClear old.clash g) (clash : new.clash ≡ old.clash) (passed : ArePassed listeners g mid.queue new.queue) where
+module _ (events : List Event) (listeners : NameListeners) (g : Tag) (old mid new : Coming) (same : (h : Tag) (n : Name) → to_come events mid h n ≡ to_come events old h n) (brought : AreBrought events mid.next g) (taken : AreTaken events old.next mid.next g) (next : new.next ≡ mid.next) (clear : IsClear old.clash g) (clash : new.clash ≡ old.clash) (passed : ArePassed listeners g mid.queue new.queue) where
   -- up to the tag all is in the queue
   in_queue : (h : Tag) (n : Name) → UpTo h g → to_come events old h n ≡ option_to_list (value_of h n mid.queue)
   in_queue h n up = sym (same h n) ∙ only_queue events mid g h n brought up
@@ -230,7 +231,7 @@ module _ (events : List Event) (listeners : Listeners) (g : Tag) (old mid new : 
   }
 
 -- and where what comes at the tag triggers nothing either, all up to the tag is over
-pub are_over : (events : List Event) (listeners : Listeners) (g : Tag) (old new : Coming) → IsReached events listeners g old new → ((n : Name) → IsUnheard listeners n ⊎ (value_of g n new.queue ≡ None)) → AreOver events listeners g old
+pub are_over : (events : List Event) (listeners : NameListeners) (g : Tag) (old new : Coming) → IsReached events listeners g old new → ((n : Name) → IsUnheard listeners n ⊎ (value_of g n new.queue ≡ None)) → AreOver events listeners g old
 are_over events listeners g old new reached last = record { unheard = λ h n v up c. by h n v c (split_up h g up); alone = λ h n up. few h n (split_up h g up); clear = reached.clear }
   where
     there : (n : Name) → to_come events old g n ≡ option_to_list (value_of g n new.queue)

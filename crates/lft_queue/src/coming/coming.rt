@@ -7,7 +7,7 @@ ghost use Rattle.lft_queue.specs.Pending.{value_of, Becomes};
 ghost use Rattle.lft_queue.specs.inner.Coming.Coming.{put_at, to_come, AreBrought, AreTaken, ArePassed, IsReached, AreOver, IsClear, IsNoLater};
 ghost use Rattle.lft_queue.specs.inner.Coming.Listeners.{IsUnheard};
 
-use crate::coming::listeners::Listeners;
+use crate::coming::listeners::NameListeners;
 use crate::{NamesAt, Queue, QueueFault};
 use lft_ir::steps::Externals;
 use lft_ir::{Name, Value};
@@ -148,7 +148,7 @@ impl Coming {
     }
 
     /// Whether the names of the queue's events at the tag trigger nothing.
-    fn are_unheard(&self, listeners: &Listeners, tag: Tag) -> bool
+    fn are_unheard(&self, listeners: &NameListeners, tag: Tag) -> bool
         ensures { IsTrue result → (n : TheName) → IsUnheard listeners.now n ⊎ (value_of tag n self.now.queue ≡ None) }
     {
         for name in self.queue.names_at(tag) {
@@ -161,7 +161,7 @@ impl Coming {
 
     /// Takes the queue's events before the tag out. It is false where one of them is of a name that
     /// triggers something: then a run is missing.
-    fn pass(&mut self, listeners: &Listeners, tag: Tag) -> bool
+    fn pass(&mut self, listeners: &NameListeners, tag: Tag) -> bool
         ensures next { self.new.next ≡ self.old.next }
         ensures clash { self.new.clash ≡ self.old.clash }
         ensures passed { IsTrue result → ArePassed listeners.now tag self.old.queue self.new.queue }
@@ -198,7 +198,7 @@ impl Coming {
     /// Goes on to a later tag: what comes at the tag is in the queue, and nothing that comes before it.
     /// It is false where an event before the tag is of a name that triggers something, where two meet up to
     /// the tag, or memory is refused.
-    pub fn reach(&mut self, externals: &Externals, listeners: &Listeners, tag: Tag) -> bool
+    pub fn reach(&mut self, externals: &Externals, listeners: &NameListeners, tag: Tag) -> bool
         ensures { IsTrue result → IsReached externals.now.events listeners.now tag self.old self.new }
     {
         if !self.is_clear(tag) {
@@ -210,7 +210,7 @@ impl Coming {
 
     /// Whether no event up to the stop is of a name that triggers something, and no two meet. Those up to
     /// the stop go.
-    pub fn is_over(&mut self, externals: &Externals, listeners: &Listeners, stop: Tag) -> bool
+    pub fn is_over(&mut self, externals: &Externals, listeners: &NameListeners, stop: Tag) -> bool
         ensures { IsTrue result → AreOver externals.now.events listeners.now stop self.old }
     {
         self.reach(externals, listeners, stop) && self.are_unheard(listeners, stop)

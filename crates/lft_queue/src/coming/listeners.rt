@@ -17,7 +17,7 @@ use std::alloc::Global;
 /// without a delay are its origin's.
 // Rows that write name origins, so a write finds its listeners in one look-up.
 #[derive(Drop)]
-pub struct Listeners {
+pub struct NameListeners {
     ports: NumberLists,
     actions: NumberLists,
 }
@@ -40,13 +40,13 @@ fn heard_at(program: &Program, name: Name) -> Name
     }
 }
 
-impl Listeners {
+impl NameListeners {
     /// Names that trigger nothing.
-    fn empty(alloc: Global, program: &Program) -> Result<Listeners, NoMemory>
+    fn empty(alloc: Global, program: &Program) -> Result<NameListeners, NoMemory>
         ensures ports { IfOk result (λ listeners. length listeners.ports ≡ length program.now.ports) }
         ensures actions { IfOk result (λ listeners. length listeners.actions ≡ length program.now.actions) }
     {
-        Ok(Listeners {
+        Ok(NameListeners {
             ports: NumberLists::empty(alloc, program.ports())?,
             actions: NumberLists::empty(alloc, program.actions())?,
         })
@@ -108,11 +108,11 @@ impl Listeners {
     }
 
     /// The listeners of each name.
-    pub fn new(alloc: Global, plan: &Plan) -> Result<Listeners, NoMemory>
+    pub fn new(alloc: Global, plan: &Plan) -> Result<NameListeners, NoMemory>
         ensures { IfOk result (AreListeners plan.now) }
     {
         let program = plan.program();
-        let mut listeners = Listeners::empty(alloc, program)?;
+        let mut listeners = NameListeners::empty(alloc, program)?;
         for number in 0..program.reactions() as u32 {
             let names = program.reaction(number).triggers.names();
             listeners.add(program, names, number)?;

@@ -22,7 +22,7 @@ use std::marker::Model;
 /// meet where the origin is written at two tags of one time.
 // So the tag of its last write is enough: tags rise. Events of these ports would be one for each write.
 #[derive(Drop)]
-pub struct Unread {
+pub struct UnreadPorts {
     /// For each port, as an origin, the way to such a port where a write of it arrives soonest, if it does at
     /// a later time.
     soonest: Vec<Option<Shift>>,
@@ -32,7 +32,7 @@ pub struct Unread {
     written: Vec<Option<Tag>>,
 }
 
-impl Model for Unread {
+impl Model for UnreadPorts {
     ghost use Rattle.lft_queue.specs.inner.Coming.Unread.{UnreadParts};
 
     ghost Value = { UnreadParts };
@@ -110,15 +110,15 @@ fn meet_at(way: Shift, earlier: Tag, tag: Tag) -> Option<Tag>
     }
 }
 
-impl Unread {
+impl UnreadPorts {
     /// No port is written.
-    pub fn new(alloc: Global, program: &Program) -> Result<Unread, NoMemory>
+    pub fn new(alloc: Global, program: &Program) -> Result<UnreadPorts, NoMemory>
         ensures { IfOk result (AreUnread program.now []) }
     {
         let soonest = soonest_of(alloc, program)?;
         let any = is_any(soonest.as_slice());
         let written = vec![in alloc; None; program.ports()]?;
-        Ok(Unread {
+        Ok(UnreadPorts {
             soonest,
             any,
             written,

@@ -1,6 +1,6 @@
 //! What one card tells.
 
-use crate::cards::expression::Expression;
+use crate::cards::expression::Sum;
 use lft_ir::Name;
 use lft_lists::List;
 
@@ -8,7 +8,7 @@ use lft_lists::List;
 #[derive(Drop)]
 pub enum CardValue {
     Bare,
-    Int(Expression),
+    Int(Sum),
 }
 
 /// A step of a body. A schedule has the extra delay in nanoseconds.
@@ -27,7 +27,7 @@ pub type CardSteps = List<CardStep>;
 pub(crate) enum CardEntry {
     Bodies(u32),
     Step(CardStep),
-    State(Expression),
+    State(Sum),
 }
 
 /// A card: a reaction, and what is told of its bodies.

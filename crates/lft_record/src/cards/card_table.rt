@@ -8,7 +8,7 @@ ghost use Rattle.lft_record.specs.{inner.Seen.{FieldFault, IsCardOf, card_fields
 
 use crate::cards::Cards;
 use crate::cards::card::{Card, CardEntry, CardStep, CardValue};
-use crate::cards::expression::{Expression, read_expression};
+use crate::cards::expression::{Sum, read_expression};
 use crate::cards::fault::CardFault;
 use crate::cards::fields::CardFields;
 use crate::cards::kind::{CardKind, read_card_kind};

@@ -15,7 +15,7 @@ use std::marker::Model;
 
 /// One summand of an expression.
 #[derive(Clone, Copy, PartialEq, Eq, Drop)]
-pub enum Term {
+pub enum Summand {
     Number(i64),
     /// The state word before the run.
     State,
@@ -27,29 +27,29 @@ pub enum Term {
 
 /// The terms that are added up, in order.
 #[derive(Drop)]
-pub struct Expression {
-    terms: Vec<Term>,
+pub struct Sum {
+    terms: Vec<Summand>,
 }
 
-impl Model for Expression {
+impl Model for Sum {
     ghost use Rattle.std.specs.Prelude.{List};
-    ghost use Rattle.lft_record.specs.declared.cards.expression.Term.{Term};
+    ghost use Rattle.lft_record.specs.declared.cards.expression.Summand.{Summand};
 
-    ghost Value = { List Term };
+    ghost Value = { List Summand };
 
     ghost view = { λ a. a.terms.items };
 }
 
-impl Expression {
+impl Sum {
     /// The expression of these terms. It takes no memory.
-    pub(crate) fn from_vec(terms: Vec<Term>) -> Expression
+    pub(crate) fn from_vec(terms: Vec<Summand>) -> Sum
         ensures { result ≡ terms.items }
     {
-        Expression { terms }
+        Sum { terms }
     }
 
     /// The terms in order.
-    pub fn as_slice(&self) -> &[Term]
+    pub fn as_slice(&self) -> &[Summand]
         ensures { result.now ≡ self.now }
     {
         self.terms.as_slice()
@@ -68,16 +68,16 @@ impl Expression {
     }
 }
 
-impl Term {
+impl Summand {
     // What the term adds to a sum that wraps.
     fn value(self, tag: Tag, state: i64, reads: &Reads) -> i64
         ensures { result ≡ int_wrap w64 (term_value tag state reads.now self) }
     {
         match self {
-            Term::Number(number) => number,
-            Term::State => state,
-            Term::Time => wrapped(tag.time),
-            Term::Input(place) => number_of(read_at(reads, place)),
+            Summand::Number(number) => number,
+            Summand::State => state,
+            Summand::Time => wrapped(tag.time),
+            Summand::Input(place) => number_of(read_at(reads, place)),
         }
     }
 }
@@ -118,10 +118,10 @@ pub(crate) fn read_expression(
     program: &Program,
     reaction: u32,
     text: &[u8],
-) -> Result<Option<Expression>, NoMemory>
+) -> Result<Option<Sum>, NoMemory>
     requires { reaction < length program.now.reactions }
     ensures some { IfOk result (λ found. IfSome found (IsExpression program.now reaction text.now)) }
-    ensures none { IfOk result (λ found. IfNone found ((terms : List Term) → IsExpression program.now reaction text.now terms → ⊥)) }
+    ensures none { IfOk result (λ found. IfNone found ((terms : List Summand) → IsExpression program.now reaction text.now terms → ⊥)) }
 {
     let mut terms = Vec::new(alloc);
     for piece in text.split(|byte| *byte == b'+') {
@@ -130,37 +130,37 @@ pub(crate) fn read_expression(
             None => return Ok(None),
         }
     }
-    Ok(Some(Expression::from_vec(terms)))
+    Ok(Some(Sum::from_vec(terms)))
 }
 
 // The term that a text spells for a reaction, if it spells one.
-fn read_term(program: &Program, reaction: u32, text: &[u8]) -> Option<Term>
+fn read_term(program: &Program, reaction: u32, text: &[u8]) -> Option<Summand>
     requires { reaction < length program.now.reactions }
     ensures some { IfSome result (IsTerm program.now reaction text.now) }
-    ensures none { IfNone result ((term : Term) → IsTerm program.now reaction text.now term → ⊥) }
+    ensures none { IfNone result ((term : Summand) → IsTerm program.now reaction text.now term → ⊥) }
 {
     // Before names, so that a text has one meaning whatever a program calls its inputs.
     match read_literal(text) {
         Some(term) => Some(term),
         None => match read_input(program, reaction, text) {
-            Some(place) => Some(Term::Input(place)),
+            Some(place) => Some(Summand::Input(place)),
             None => None,
         },
     }
 }
 
 // The term that a text spells whatever the program is.
-fn read_literal(text: &[u8]) -> Option<Term>
+fn read_literal(text: &[u8]) -> Option<Summand>
     ensures some { IfSome result (IsLiteral text.now) }
-    ensures none { IfNone result ((term : Term) → IsLiteral text.now term → ⊥) }
+    ensures none { IfNone result ((term : Summand) → IsLiteral text.now term → ⊥) }
 {
     if text == b"state".as_slice() {
-        Some(Term::State)
+        Some(Summand::State)
     } else if text == b"time".as_slice() {
-        Some(Term::Time)
+        Some(Summand::Time)
     } else {
         match read_value(text) {
-            Some(Value::Int(number)) => Some(Term::Number(number)),
+            Some(Value::Int(number)) => Some(Summand::Number(number)),
             _ => None,
         }
     }

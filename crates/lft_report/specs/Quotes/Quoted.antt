@@ -4,7 +4,8 @@ use Rattle.std.specs.List.{join_with_byte}
 use Rattle.lft_ir.specs.{Parts.Parts, declared.steps.row.Row.Row, Words.Columns.{blanks, fill, padded}}
 use Rattle.lft_trace.specs.Written.{row_fields}
 use Rattle.lft_facts.specs.declared.facts.Fact.{Fact}
-use Rattle.lft_report.specs.{declared.quotes.{marks.{RowMark.RowMark, Quote.Quote}, quoting.Widths.Widths}, Quotes.{Marks.mark_words, Picked.quotes_of}}
+use Rattle.lft_report.specs.declared.quotes.{marks.{RowMark.RowMark, Quote.Quote}, quoting.QuoteWidths.QuoteWidths}
+use Rattle.lft_report.specs.Quotes.{Marks.mark_words, Picked.quotes_of}
 
 -- the text of the row at a place, as a trace table has it
 abbrev pub row_text : Parts → List Row → ℕ → List ℕ
@@ -19,22 +20,22 @@ abbrev pub width_of : List ℕ → ℕ
 width_of text = if nat_le (length text) 200 then length text else 0
 
 -- the widths with one more row
-abbrev pub widened : Parts → List Row → Widths → Quote → Widths
+abbrev pub widened : Parts → List Row → QuoteWidths → Quote → QuoteWidths
 widened program t w q = record {
   line = max w.line (length (line_number q.row));
   row = max w.row (width_of (row_text program t q.row));
 }
 
 -- the greatest width of the line numbers, and of the rows
-abbrev pub widths_of : Parts → List Row → List Quote → Widths
+abbrev pub widths_of : Parts → List Row → List Quote → QuoteWidths
 widths_of program t quotes = fold (widened program t) (record { line = 0; row = 0 }) quotes
 
 -- a line: `  4 | start,0,0,0,main#1,,,  <- here`
-abbrev pub line_of : Widths → List ℕ → List ℕ → RowMark → List ℕ
+abbrev pub line_of : QuoteWidths → List ℕ → List ℕ → RowMark → List ℕ
 line_of w number row m = codes "  " ++ fill w.line number ++ number ++ codes " | " ++ padded w.row row ++ codes "  " ++ mark_words m ++ codes "\n"
 
 -- a row with its line number before it and its mark behind it
-abbrev pub quote_words : Parts → List Row → Widths → Quote → List ℕ
+abbrev pub quote_words : Parts → List Row → QuoteWidths → Quote → List ℕ
 quote_words program t w q = line_of w (line_number q.row) (row_text program t q.row) q.mark
 
 -- whether rows are left out between a quote and the one before it
@@ -43,11 +44,11 @@ is_apart None q = false
 is_apart (Some before) q = nat_lt (before.row + 1) q.row
 
 -- `..` where rows are left out before a quote
-abbrev pub gap_words : Widths → Option Quote → Quote → List ℕ
+abbrev pub gap_words : QuoteWidths → Option Quote → Quote → List ℕ
 gap_words w before q = if is_apart before q then blanks w.line ++ codes "   ..\n" else []
 
 -- the lines of quotes, which stand behind another one or none
-abbrev pub lines : Parts → List Row → Widths → Option Quote → List Quote → List ℕ
+abbrev pub lines : Parts → List Row → QuoteWidths → Option Quote → List Quote → List ℕ
 lines program t w before [] = []
 lines program t w before (q ∷ qs) = gap_words w before q ++ quote_words program t w q ++ lines program t w (Some q) qs
 

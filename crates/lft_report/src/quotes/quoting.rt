@@ -17,7 +17,7 @@ use std::alloc::{AllocError, Global};
 
 /// How wide line numbers and rows are written.
 #[derive(Clone, Copy, Drop)]
-struct Widths {
+struct QuoteWidths {
     line: usize,
     row: usize,
 }
@@ -44,14 +44,14 @@ fn widen(
     alloc: Global,
     program: &Program,
     rows: &[Row],
-    widths: Widths,
+    widths: QuoteWidths,
     quote: Quote,
-) -> Result<Widths, AllocError>
+) -> Result<QuoteWidths, AllocError>
     requires { RowsFit program.now rows.now }
     ensures { IfOk result (λ w. w ≡ widened program.now rows.now widths quote) }
 {
     let text = row_text(alloc, program, rows, quote.row)?;
-    Ok(Widths {
+    Ok(QuoteWidths {
         line: widths.line.max(digits(quote.row)),
         row: widths.row.max(width_of(text.as_str())),
     })
@@ -63,11 +63,11 @@ fn greatest(
     program: &Program,
     rows: &[Row],
     quotes: &[Quote],
-) -> Result<Widths, AllocError>
+) -> Result<QuoteWidths, AllocError>
     requires { RowsFit program.now rows.now }
     ensures { IfOk result (λ w. w ≡ widths_of program.now rows.now quotes.now) }
 {
-    let mut widths = Widths { line: 0, row: 0 };
+    let mut widths = QuoteWidths { line: 0, row: 0 };
     for place in 0..quotes.len() {
         widths = widen(alloc, program, rows, widths, item_at(quotes, place))?;
     }
@@ -77,7 +77,7 @@ fn greatest(
 /// Puts the line of a quote at the end of the text.
 fn push_line(
     text: &mut String,
-    widths: Widths,
+    widths: QuoteWidths,
     number: &str,
     row: &str,
     mark: RowMark,
@@ -101,7 +101,7 @@ fn push_quote(
     text: &mut String,
     program: &Program,
     rows: &[Row],
-    widths: Widths,
+    widths: QuoteWidths,
     quote: Quote,
 ) -> Result<(), AllocError>
     requires { RowsFit program.now rows.now }
@@ -117,7 +117,7 @@ fn push_quote(
 /// Puts that rows are left out before the quote, if they are, at the end of the text.
 fn push_gap(
     text: &mut String,
-    widths: Widths,
+    widths: QuoteWidths,
     before: Option<Quote>,
     quote: Quote,
 ) -> Result<(), AllocError>
@@ -138,7 +138,7 @@ fn lines_of(
     alloc: Global,
     program: &Program,
     rows: &[Row],
-    widths: Widths,
+    widths: QuoteWidths,
     quotes: &[Quote],
 ) -> Result<String, AllocError>
     requires { RowsFit program.now rows.now }

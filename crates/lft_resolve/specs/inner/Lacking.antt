@@ -1,8 +1,8 @@
 -- Names that have no place. The contracts of the crate's own functions alone need this file.
 use Rattle.std.specs.Prelude.{◌≡◌, ℕ, List, Option, None, Any}
 use Rattle.lft_tree.specs.Tree.{ReactorTree, InstanceTree, AssignmentTree, TimeTree, Written, Named}
-use Rattle.lft_resolve.specs.{Causes.GivesUnknown, Instances.reactor_named, Kinds.times_in, Places.place_in, inner.{Sheets.parameter_place, Tables.IsFile}}
-use Rattle.lft_resolve.specs.declared.{file.File.File, index.Index.Index}
+use Rattle.lft_resolve.specs.{Causes.GivesUnknown, Instances.reactor_named, Kinds.times_in, inner.{Places.place_in, Sheets.parameter_place, Tables.IsFile}}
+use Rattle.lft_resolve.specs.declared.{file.ReactorTable.ReactorTable, index.Index.Index}
 
 -- the name of the time has none of these places
 abbrev pub LacksPlace : (List ℕ → Option ℕ) → TimeTree → Type 0
@@ -18,7 +18,7 @@ abbrev pub TimeLacksPlace : ReactorTree → Type 0
 TimeLacksPlace r = Any (LacksPlace (parameter_place r)) (times_in r)
 
 -- the instances are of reactors of the file, and what they are given are parameters of those
-pub record AreOf (file : File) (instances : List InstanceTree) : Type 0 where
+pub record AreOf (file : ReactorTable) (instances : List InstanceTree) : Type 0 where
   pub reactors : List ReactorTree
   pub is_file : IsFile reactors file
   pub known : Any (λ i. reactor_named reactors i.reactor ≡ None) instances → ⊥

@@ -4,10 +4,10 @@ use Rattle.std.specs.List.{AllZip, zip}
 use Rattle.lft_tree.specs.Tree.{ReactorTree, ActionTree, TimerTree, ReactionTree, ConnectionTree, InstanceTree, AssignmentTree, TimeTree, Written, Named, RefTree, TriggerTree, AtStartup, AtShutdown, OnRef, nanoseconds, instances_of, connections_of, ports_of, actions_of, timers_of, reactions_of}
 use Rattle.lft_resolve.specs.declared.expansion.settings.{Clock.{Clock, TheVariants.{Fixed, Parameter}}, Given.Given, Parameters.Parameters}
 use Rattle.lft_resolve.specs.declared.expansion.joins.{End.{End, TheVariants.{Own, Inner}}, Join.Join, Connections.Connections}
-use Rattle.lft_resolve.specs.declared.by_number.sheets.{Spot.Spot, Cue.Cue, Cues.Cues, Reactions.Reactions, TimerSheet.TimerSheet, ActionSheet.ActionSheet}
-use Rattle.lft_resolve.specs.declared.by_number.sheets.Declarations.{Declarations}
+use Rattle.lft_resolve.specs.declared.by_number.sheets.{NamedThing.NamedThing, Cue.Cue, Cues.Cues, Reactions.Reactions, TimerSheet.TimerSheet}
+use Rattle.lft_resolve.specs.declared.by_number.sheets.{ActionSheet.ActionSheet, Declarations.Declarations}
 use Rattle.lft_resolve.specs.{Causes.longest, Instances.reactor_named, inner.Places.place, Sheets.without_timers}
-use Rattle.lft_resolve.specs.declared.by_number.sheets.Spot.TheVariants as spots
+use Rattle.lft_resolve.specs.declared.by_number.sheets.NamedThing.TheVariants as spots
 use Rattle.lft_resolve.specs.declared.by_number.sheets.Cue.TheVariants as cues
 
 -- ---- times
@@ -106,7 +106,7 @@ IsEnd rs r ref (Own port) = (ref.port ≡ None) × (port_place r ref.head ≡ So
 IsEnd rs r ref (Inner number port) = IsInner rs r ref number port
 
 -- the port or action that a name in the reactor stands for
-abbrev pub IsSpot : List ReactorTree → ReactorTree → RefTree → Spot → Type 0
+abbrev pub IsSpot : List ReactorTree → ReactorTree → RefTree → NamedThing → Type 0
 IsSpot rs r ref (spots.Port end) = IsEnd rs r ref end
 IsSpot rs r ref (spots.Action n) = (ref.port ≡ None) × (action_place r ref.head ≡ Some n)
 

@@ -4,7 +4,8 @@ use Rattle.std.specs.List.{AllZip}
 use Rattle.lft_tree.specs.Tree.{ReactorTree, MemberTree, instances_of, ports_of, port_in, timer_in, action_in, instance_in}
 use Rattle.lft_resolve.specs.{inner.{Kinds.kinds_in, Places.IsIndexOf, References.{instance_trees, port_trees}}, Kinds.{names_in, own_port}}
 use Rattle.lft_resolve.specs.declared.kinds.Kind.{Kind, TheVariants.{OwnTimer, OwnAction, OwnInstance}}
-use Rattle.lft_resolve.specs.declared.{names.Declared.{Declared, TheVariants.{Port, Timer, Action, Instance}}, own.Own.Own, file.{Outside.Outside, File.File}}
+use Rattle.lft_resolve.specs.declared.{names.Declared.{Declared, TheVariants.{Port, Timer, Action, Instance}}, own.Own.Own}
+use Rattle.lft_resolve.specs.declared.file.{Outside.Outside, ReactorTable.ReactorTable}
 
 -- what a member of the kind is
 abbrev pub kind_in : Declared → MemberTree → Option Kind
@@ -31,6 +32,6 @@ abbrev pub with_name : List ReactorTree → List ReactorTree
 with_name rs = filter (λ r. is_some r.name) rs
 
 -- the tables are those of these reactors
-pub record IsFile (rs : List ReactorTree) (file : File) : Type 0 where
+pub record IsFile (rs : List ReactorTree) (file : ReactorTable) : Type 0 where
   pub names : IsIndexOf file.names (filter_map (λ r. r.name) rs)
   pub each : AllZip IsOutside (with_name rs) file.reactors.items

@@ -2,7 +2,7 @@
 
 ghost use Rattle.std.specs.Prelude.{◌≡◌, map, option_map, option_to_list, Any};
 ghost use Rattle.lft_tree.specs.{Tree.{ReactorTree, nanoseconds}, View.time_view};
-ghost use Rattle.lft_resolve.specs.{inner.{Lacking.LacksPlace, Places.IsIndexOf, Sheets.{IsClock, IsClockOrZero, kept}}, Places.place_in};
+ghost use Rattle.lft_resolve.specs.inner.{Lacking.LacksPlace, Places.{IsIndexOf, place_in}, Sheets.{IsClock, IsClockOrZero, kept}};
 
 use crate::expansion::Clock;
 use crate::index::Index;

@@ -11,7 +11,7 @@ ghost use Rattle.lft_resolve.specs.declared.fault.ReactorFault.TheVariants as fa
 
 use crate::by_number::directory::Directory;
 use crate::by_number::ends::{narrow, spot, timer};
-use crate::by_number::sheets::{Cue, Cues, Reactions, Spot};
+use crate::by_number::sheets::{Cue, Cues, NamedThing, Reactions};
 use crate::{ReactorFault, members};
 use lft_tag::NoMemory;
 use lft_tree::{Ast, Reaction, Reactor, Reference, Trigger};
@@ -59,7 +59,7 @@ fn uses(
     directory: &Directory,
     number: usize,
     references: &[Reference],
-) -> Result<Vec<Spot>, ReactorFault>
+) -> Result<Vec<NamedThing>, ReactorFault>
     ensures ok { IfOk result (λ v. (rs : List ReactorTree) (r : ReactorTree) → IsAt rs directory.now number r → AllZip (IsSpot rs r) (without_timers r (ref_views references.now)) v.items) }
     ensures lost { IfErr result (λ f. f ≢ faults.NoMemory → (rs : List ReactorTree) (r : ReactorTree) → IsAt rs directory.now number r → Any (λ ref. IsLost rs r (Read, ref)) (ref_views references.now)) }
 {
@@ -79,7 +79,7 @@ fn effects(
     directory: &Directory,
     number: usize,
     references: &[Reference],
-) -> Result<Vec<Spot>, ReactorFault>
+) -> Result<Vec<NamedThing>, ReactorFault>
     ensures ok { IfOk result (λ v. (rs : List ReactorTree) (r : ReactorTree) → IsAt rs directory.now number r → AllZip (IsSpot rs r) (ref_views references.now) v.items) }
     ensures lost { IfErr result (λ f. f ≢ faults.NoMemory → (rs : List ReactorTree) (r : ReactorTree) → IsAt rs directory.now number r → Any (λ ref. IsLost rs r (Effect, ref)) (ref_views references.now)) }
 {

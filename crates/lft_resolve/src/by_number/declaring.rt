@@ -4,10 +4,9 @@ ghost use Rattle.std.specs.Prelude.{◌≡◌, map, flat_map, option_to_list, An
 ghost use Rattle.std.specs.List.{AllZip};
 ghost use Rattle.lft_tree.specs.{Tree.{ReactorTree, reactors_of}, View.{reactor_view, tree_view}};
 ghost use Rattle.lft_resolve.specs.{Causes.{NoneHolds, first_causes, later_causes}, Kinds.timer_times};
-ghost use Rattle.lft_resolve.specs.inner.{Lacking.{LacksPlace, TimeLacksPlace}, Places.IsIndexOf};
+ghost use Rattle.lft_resolve.specs.inner.{Lacking.{LacksPlace, TimeLacksPlace}, Places.{IsIndexOf, place_in}};
 ghost use Rattle.lft_resolve.specs.inner.References.{action_trees, port_trees, reactor_trees, timer_trees};
 ghost use Rattle.lft_resolve.specs.inner.Sheets.{AreDeclarations, IsActionSheet, IsDeclarations, IsTimerSheet};
-ghost use Rattle.lft_resolve.specs.Places.{place_in};
 
 use crate::by_number::clocks::clock_or_zero;
 use crate::by_number::sheets::{ActionSheet, Declarations, TimerSheet};

@@ -8,7 +8,7 @@ ghost use Rattle.lft_resolve.specs.declared.fault.ReactorFault.TheVariants as fa
 
 use crate::ReactorFault;
 use crate::by_number::directory::Directory;
-use crate::by_number::sheets::Spot;
+use crate::by_number::sheets::NamedThing;
 use crate::expansion::End;
 use lft_tag::NoMemory;
 use lft_tree::Reference;
@@ -65,21 +65,21 @@ pub(crate) fn spot(
     directory: &Directory,
     number: usize,
     reference: &Reference,
-) -> Result<Spot, ReactorFault>
+) -> Result<NamedThing, ReactorFault>
     ensures ok { IfOk result (λ spot. (rs : List ReactorTree) (r : ReactorTree) → IsAt rs directory.now number r → IsSpot rs r (ref_view reference.now) spot) }
     ensures lost { IfErr result (λ f. f ≢ faults.NoMemory → (rs : List ReactorTree) (r : ReactorTree) → IsAt rs directory.now number r → Lacks is_spot rs r (ref_view reference.now)) }
 {
     match &reference.port {
         None => match directory.port(number, reference.head.as_str()) {
-            Some(port) => Ok(Spot::Port(End::Own(narrow(port)?))),
+            Some(port) => Ok(NamedThing::Port(End::Own(narrow(port)?))),
             None => match directory.action(number, reference.head.as_str()) {
-                Some(action) => Ok(Spot::Action(narrow(action)?)),
+                Some(action) => Ok(NamedThing::Action(narrow(action)?)),
                 None => Err(ReactorFault::UnknownName),
             },
         },
         Some(name) => {
             match inner_end(directory, number, reference.head.as_str(), name.as_str()) {
-                Ok(end) => Ok(Spot::Port(end)),
+                Ok(end) => Ok(NamedThing::Port(end)),
                 Err(fault) => Err(fault),
             }
         }

@@ -4,13 +4,13 @@ ghost use Rattle.std.specs.Prelude.{◌≡◌, List, None, map, flat_map, Any, I
 ghost use Rattle.std.specs.List.{AllZip};
 ghost use Rattle.lft_tree.specs.{Tree.{ReactorTree, instances_of, nanoseconds, reactors_of}, View.{assignment_view, parameter_view, reactor_view, tree_view}};
 ghost use Rattle.lft_resolve.specs.Causes.{LacksReactor, NoneHolds, SomeGivesUnknown, first_causes, later_causes};
-ghost use Rattle.lft_resolve.specs.inner.{Lacking.{AreOf, LacksName, LacksPlace, TimeLacksPlace}, Places.IsIndexOf, References.{instance_trees, reactor_trees}};
-ghost use Rattle.lft_resolve.specs.inner.{Sheets.{AreGiven, AreParameters, IsGiven, IsParameters, kept}, Tables.IsFile};
-ghost use Rattle.lft_resolve.specs.Places.{place_in};
+ghost use Rattle.lft_resolve.specs.inner.{Lacking.{AreOf, LacksName, LacksPlace, TimeLacksPlace}, Places.{IsIndexOf, place_in}};
+ghost use Rattle.lft_resolve.specs.inner.{References.{instance_trees, reactor_trees}, Sheets.{AreGiven, AreParameters, IsGiven, IsParameters, kept}};
+ghost use Rattle.lft_resolve.specs.inner.Tables.{IsFile};
 
 use crate::by_number::clocks::{clock, kept};
 use crate::expansion::{Given, Parameters};
-use crate::file::File;
+use crate::file::ReactorTable;
 use crate::index::Index;
 use crate::members;
 use lft_tag::NoMemory;
@@ -66,7 +66,7 @@ fn given_all(
 /// What is given to the instances of a reactor whose parameters have these places.
 fn given_to_each(
     alloc: Global,
-    file: &File,
+    file: &ReactorTable,
     parameters: &Index,
     instances: &[&Instance],
 ) -> Result<Vec<Vec<Given>>, NoMemory>
@@ -87,7 +87,11 @@ fn given_to_each(
 }
 
 /// The defaults of the reactor's parameters and what it gives to those of its instances.
-fn parameters_of(alloc: Global, file: &File, reactor: &Reactor) -> Result<Parameters, NoMemory>
+fn parameters_of(
+    alloc: Global,
+    file: &ReactorTable,
+    reactor: &Reactor,
+) -> Result<Parameters, NoMemory>
     requires instances { AreOf file.now (instances_of (reactor_view reactor.now)) }
     requires times { TimeLacksPlace (reactor_view reactor.now) → ⊥ }
     ensures { IfOk result (λ p. (rs : List ReactorTree) → IsFile rs file.now → IsParameters rs (reactor_view reactor.now) p) }
@@ -105,7 +109,7 @@ fn parameters_among(alloc: Global, reactors: &[&Reactor]) -> Result<Vec<Paramete
     requires times { Any TimeLacksPlace (reactor_trees reactors.now) → ⊥ }
     ensures { IfOk result (λ v. AreParameters (reactor_trees reactors.now) v.items) }
 {
-    let file = File::of(alloc, reactors)?;
+    let file = ReactorTable::of(alloc, reactors)?;
     let mut table = Vec::new(alloc);
     for reactor in reactors {
         let made = parameters_of(alloc, &file, reactor)?;

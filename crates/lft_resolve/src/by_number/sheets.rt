@@ -5,7 +5,7 @@ use crate::expansion::{Clock, End};
 /// What a name in a reactor stands for: a port of its own or of an instance that it contains, or an
 /// action of its own by its place.
 #[derive(Clone, Copy, PartialEq, Eq, Drop)]
-pub enum Spot {
+pub enum NamedThing {
     Port(End),
     Action(u32),
 }
@@ -16,7 +16,7 @@ pub enum Cue {
     Startup,
     Shutdown,
     Timer(u32),
-    On(Spot),
+    On(NamedThing),
 }
 
 /// What the names of a reaction stand for, each list in order of declaration. A timer as a use isn't
@@ -24,8 +24,8 @@ pub enum Cue {
 #[derive(Drop)]
 pub struct Cues {
     pub triggers: Vec<Cue>,
-    pub uses: Vec<Spot>,
-    pub effects: Vec<Spot>,
+    pub uses: Vec<NamedThing>,
+    pub effects: Vec<NamedThing>,
 }
 
 /// The reactions of a reactor, in order of declaration.

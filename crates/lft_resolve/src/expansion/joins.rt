@@ -44,7 +44,7 @@ pub struct Site {
 /// The source of each port, in order, and the join that leads from there into it. Where a port has no source,
 /// its site means nothing.
 #[derive(Drop)]
-pub struct Sources {
+pub struct PortSources {
     pub sources: Vec<Option<Source>>,
     pub sites: Vec<Site>,
 }
@@ -106,7 +106,7 @@ pub fn find_sources(
     firsts: &[u32],
     children: &Children,
     values: &Values,
-) -> Result<Sources, NoMemory>
+) -> Result<PortSources, NoMemory>
     requires few_instances { length instances.now ≤ 10000 }
     requires few_ports { things counts.now instances.now ≤ 100000 }
     requires numbered { AreFirst counts.now instances.now firsts.now }
@@ -138,5 +138,5 @@ pub fn find_sources(
             };
         }
     }
-    Ok(Sources { sources, sites })
+    Ok(PortSources { sources, sites })
 }

@@ -3,14 +3,14 @@
 ghost use Rattle.std.specs.Prelude.{◌<◌, IfOk, length};
 ghost use Rattle.lft_resolve.specs.inner.Expansion.{Sources.AreInside, Ways.{HaveSites, IsWayBack}};
 
-use crate::expansion::joins::{Site, Sources};
+use crate::expansion::joins::{PortSources, Site};
 use lft_lists::item_at;
 use lft_tag::NoMemory;
 use std::alloc::Global;
 
 /// The joins on the way back from a port, the one into it first. The way ends at a port into which no join
 /// leads, or where it comes back to the first port. On a way that comes to another port twice it never ends.
-pub fn way_back(alloc: Global, found: &Sources, port: usize) -> Result<Vec<Site>, NoMemory>
+pub fn way_back(alloc: Global, found: &PortSources, port: usize) -> Result<Vec<Site>, NoMemory>
     requires inside { AreInside found.now.sources.items }
     requires known { port < length found.now.sources.items }
     requires sites { HaveSites found.now.sources.items found.now.sites.items }

@@ -7,7 +7,7 @@ use Rattle.lft_lists.proofs.Places.{get_push_cases}
 use Rattle.lft_ir.proofs.Origins.{origin_within}
 use Rattle.lft_ir.specs.{declared.{parts.{Port.Port as PortOf, Name.{Name, TheVariants.{Port, Action}}}, steps.row.Row.Row}, Steps.Fits.RowsFit}
 use Rattle.lft_model.specs.{Plans.PlanParts, Presence.{stop, PortClash, ClashesAt, Collision}}
-use Rattle.lft_rows.specs.declared.presence.causes.Cause.{Cause}
+use Rattle.lft_rows.specs.declared.presence.causes.EventCause.{EventCause}
 use Rattle.lft_rows.specs.inner.Presence.{Causes.{tag_of, AreCauses, AreNear, IsNear}, Traces.IsSooner}
 use Rattle.lft_rows.specs.inner.Presence.Clashes.{Among, IsPair, IsFirstPair, AreDoubles, HasTwo, PortsClash, ActionsClash}
 use Rattle.lft_rows.specs.Presence.{Traces.LeastTag, Clashes.IsClash}
@@ -22,15 +22,15 @@ same_time g h k (suc d, steps) e f n =
     let t : g.time ≡ h.time = omega arith in
     (omega arith, t, λ m. n (tag_from t m))
 
-module _ (plan : PlanParts) (t : List Row) (causes : List Cause) (are : AreCauses plan t causes) (p : ℕ) (port : PortOf) (chain : ChainOf plan.program p port) where
-  pair_of_clash : (g : Tag) → PortClash plan t g p → (0 < port.shift.time) × ((x y : Cause) × Among causes x × Among causes y × IsPair true port.origin x y × (shifted (tag_of x) (port.shift.time, port.shift.steps) ≡ g) × (shifted (tag_of y) (port.shift.time, port.shift.steps) ≡ g))
+module _ (plan : PlanParts) (t : List Row) (causes : List EventCause) (are : AreCauses plan t causes) (p : ℕ) (port : PortOf) (chain : ChainOf plan.program p port) where
+  pair_of_clash : (g : Tag) → PortClash plan t g p → (0 < port.shift.time) × ((x y : EventCause) × Among causes x × Among causes y × IsPair true port.origin x y × (shifted (tag_of x) (port.shift.time, port.shift.steps) ≡ g) × (shifted (tag_of y) (port.shift.time, port.shift.steps) ≡ g))
   pair_of_clash g c =
       let x = port_cause_at plan t g p port chain c.first c.first_value c.is_first in
       let y = port_cause_at plan t g p port chain c.second c.second_value c.is_second in
       let s = same_time (tag_of x.0) (tag_of y.0) g (port.shift.time, port.shift.steps) x.2.1 y.2.1 (λ e. c.differ (sym x.3 ∙ e ∙ y.3)) in
       (s.0, (x.0, y.0, are.just.each x.0 x.1, are.just.each y.0 y.1, (x.2.0, y.2.0, s.1, s.2), x.2.1, y.2.1))
 
-  clash_of_pair : (x y : Cause) → 0 < port.shift.time → Among causes x → Among causes y → IsPair true port.origin x y → PortClash plan t (shifted (tag_of y) (port.shift.time, port.shift.steps)) p
+  clash_of_pair : (x y : EventCause) → 0 < port.shift.time → Among causes x → Among causes y → IsPair true port.origin x y → PortClash plan t (shifted (tag_of y) (port.shift.time, port.shift.steps)) p
   clash_of_pair x y l i j q =
       let g = shifted (tag_of y) (port.shift.time, port.shift.steps) in
       let same : shifted (tag_of x) (port.shift.time, port.shift.steps) ≡ g = shifted_same (tag_of x) (tag_of y) (port.shift.time, port.shift.steps) l q.2 in
@@ -45,13 +45,13 @@ module _ (plan : PlanParts) (t : List Row) (causes : List Cause) (are : AreCause
   pub port_no_pair : IsFirstPair causes true port.origin None → LeastTag (λ g. PortClash plan t g p) None
   port_no_pair h g c = let q = (pair_of_clash g c).1 in h q.0 q.1 q.2 q.3 q.4
 
-  pub port_pair : (c : Cause) → 0 < port.shift.time → IsFirstPair causes true port.origin (Some c) → LeastTag (λ g. PortClash plan t g p) (Some (shifted (tag_of c) (port.shift.time, port.shift.steps)))
+  pub port_pair : (c : EventCause) → 0 < port.shift.time → IsFirstPair causes true port.origin (Some c) → LeastTag (λ g. PortClash plan t g p) (Some (shifted (tag_of c) (port.shift.time, port.shift.steps)))
   port_pair c l h = (clash_of_pair h.0.0 c l h.0.1 h.0.2 h.0.3, λ g k. first g (pair_of_clash g k).1)
     where
       s : Folded
       s = (port.shift.time, port.shift.steps)
 
-      first : (g : Tag) → (x y : Cause) × Among causes x × Among causes y × IsPair true port.origin x y × (shifted (tag_of x) (port.shift.time, port.shift.steps) ≡ g) × (shifted (tag_of y) (port.shift.time, port.shift.steps) ≡ g) → UpTo (shifted (tag_of c) (port.shift.time, port.shift.steps)) g
+      first : (g : Tag) → (x y : EventCause) × Among causes x × Among causes y × IsPair true port.origin x y × (shifted (tag_of x) (port.shift.time, port.shift.steps) ≡ g) × (shifted (tag_of y) (port.shift.time, port.shift.steps) ≡ g) → UpTo (shifted (tag_of c) (port.shift.time, port.shift.steps)) g
       first g (x, y, i, j, q, e, f) = go (h.1 x y i j q)
         where
           go : UpTo (tag_of c) (tag_of y) ⊎ UpTo (tag_of c) (tag_of x) → UpTo (shifted (tag_of c) (port.shift.time, port.shift.steps)) g
@@ -59,14 +59,14 @@ module _ (plan : PlanParts) (t : List Row) (causes : List Cause) (are : AreCause
           go (inr u) = subst (λ (z : Tag). UpTo (shifted (tag_of c) (port.shift.time, port.shift.steps)) z) e (shifted_mono (tag_of c) (tag_of x) (port.shift.time, port.shift.steps) u)
 
 -- the collisions of an action
-module _ (plan : PlanParts) (t : List Row) (fit : RowsFit plan.program t) (causes : List Cause) (are : AreCauses plan t causes) (a : ℕ) where
+module _ (plan : PlanParts) (t : List Row) (fit : RowsFit plan.program t) (causes : List EventCause) (are : AreCauses plan t causes) (a : ℕ) where
   pub action_no_pair : IsFirstPair causes false (length plan.program.ports + a) None → LeastTag (λ g. HasTwo plan t g a) None
   action_no_pair h g c = let q = two_causes plan t fit g a c in h q.first q.second (are.just.each q.first q.is_first) (are.just.each q.second q.is_second) (q.first_leads.0, q.second_leads.0, q.times, q.micros, q.differ)
 
-  pub action_pair : (c : Cause) → IsFirstPair causes false (length plan.program.ports + a) (Some c) → LeastTag (λ g. HasTwo plan t g a) (Some (tag_of c))
+  pub action_pair : (c : EventCause) → IsFirstPair causes false (length plan.program.ports + a) (Some c) → LeastTag (λ g. HasTwo plan t g a) (Some (tag_of c))
   action_pair c h = (two_events plan t fit (tag_of c) a x c (are.just.only h.0.1.0 x h.0.1.1) (are.just.only h.0.2.0 c h.0.2.1) h.0.3.0 h.0.3.1 (tag_from h.0.3.2 h.0.3.3) refl h.0.3.4, λ g k. first g (two_causes plan t fit g a k))
     where
-      x : Cause
+      x : EventCause
       x = h.0.0
 
       first : (g : Tag) → IsTwo plan t g a → UpTo (tag_of c) g
@@ -97,15 +97,15 @@ ports_more plan t n a b r h k e = below_more (λ p g. PortClash plan t g p) n a 
 pub actions_more : (plan : PlanParts) (t : List Row) (n : ℕ) (a b r : Option Tag) → LeastTag (ActionsClash plan t n) a → LeastTag (λ g. HasTwo plan t g n) b → IsSooner a b r → LeastTag (ActionsClash plan t (n + 1)) r
 actions_more plan t n a b r h k e = below_more (λ a g. HasTwo plan t g a) n a b r h k e
 
-pub doubles_more : (causes : List Cause) (n : ℕ) (doubles : List (Option Cause)) (o : Option Cause) → IsFirstPair causes true n o → AreDoubles causes n doubles → AreDoubles causes (n + 1) (doubles ++ o ∷ [])
+pub doubles_more : (causes : List EventCause) (n : ℕ) (doubles : List (Option EventCause)) (o : Option EventCause) → IsFirstPair causes true n o → AreDoubles causes n doubles → AreDoubles causes (n + 1) (doubles ++ o ∷ [])
 doubles_more causes n doubles o h d = record { as_long = length-append doubles (o ∷ []) ∙ ap (λ k. k + 1) d.as_long; each = λ p x e. each p x (get_push_cases doubles o p x e) }
   where
-    each : (p : ℕ) (x : Option Cause) → (slice_get doubles p ≡ Some x) ⊎ ((p ≡ length doubles) × (o ≡ x)) → IsFirstPair causes true p x
+    each : (p : ℕ) (x : Option EventCause) → (slice_get doubles p ≡ Some x) ⊎ ((p ≡ length doubles) × (o ≡ x)) → IsFirstPair causes true p x
     each p x (inl e) = d.each p x e
     each p x (inr e) = subst (λ z. IsFirstPair causes true p z) e.1 (subst (λ k. IsFirstPair causes true k o) (sym (e.0 ∙ d.as_long)) h)
 
 -- a shift can be added to the tag of a pair's later cause
-pub pair_near : (causes : List Cause) → AreNear causes → (b : Bool) (name : ℕ) (c : Cause) → IsFirstPair causes b name (Some c) → IsNear (tag_of c)
+pub pair_near : (causes : List EventCause) → AreNear causes → (b : Bool) (name : ℕ) (c : EventCause) → IsFirstPair causes b name (Some c) → IsNear (tag_of c)
 pair_near causes near b name c h = near h.0.2.0 c h.0.2.1
 
 -- the first collision is that of a port or of an action, up to the stop

@@ -6,19 +6,19 @@ use Rattle.lft_tag.{specs.{declared.Tag.Tag, Tags.{Before, UpTo}, Shifts.{Folded
 use Rattle.lft_lists.proofs.Places.{same_at}
 use Rattle.lft_ir.specs.declared.steps.row.Row.{Row}
 use Rattle.lft_model.{specs.Plans.PlanParts, proofs.Places.slice_get_within}
-use Rattle.lft_rows.specs.declared.presence.causes.Cause.{Cause}
+use Rattle.lft_rows.specs.declared.presence.causes.EventCause.{EventCause}
 use Rattle.lft_rows.specs.inner.Presence.Causes.{tag_of, ComesUpTo, AreCauses, LiesBelow, IsPosition, Leads, IsCause}
 use Rattle.lft_rows.specs.inner.Presence.Lookups.{IsFirstCause, LeadsBefore, IsLastBefore, LeadsAfter, IsFirstAfter}
 use Rattle.lft_rows.proofs.PresenceLemmas.{Positions.{shifted_mono, tag_up}, Presences.comes_self}
 
 -- the tags of causes of one name are in the order of these
-pub in_order : (x y : Cause) → x.name ≡ y.name → ComesUpTo x y → UpTo (tag_of x) (tag_of y)
+pub in_order : (x y : EventCause) → x.name ≡ y.name → ComesUpTo x y → UpTo (tag_of x) (tag_of y)
 in_order x y e (inl l) = let a : x.name < y.name = l in absurd (omega arith)
 in_order x y e (inr o) = tag_up x y o.1
 
 -- a cause that comes up to another one stands there or later
-module _ (plan : PlanParts) (t : List Row) (causes : List Cause) (are : AreCauses plan t causes) (key : ℕ) (s : Folded) (g : Tag) (past : Bool) (n : ℕ) (h : IsPosition causes key s g past n) where
-  stands_from : (c : Cause) → IsCause plan t c → ¬ LiesBelow key s g past c → (k : ℕ) × (n ≤ k) × (slice_get causes k ≡ Some c)
+module _ (plan : PlanParts) (t : List Row) (causes : List EventCause) (are : AreCauses plan t causes) (key : ℕ) (s : Folded) (g : Tag) (past : Bool) (n : ℕ) (h : IsPosition causes key s g past n) where
+  stands_from : (c : EventCause) → IsCause plan t c → ¬ LiesBelow key s g past c → (k : ℕ) × (n ≤ k) × (slice_get causes k ≡ Some c)
   stands_from c i b = go (are.just.each c i)
     where
       go : (k : ℕ) × (slice_get causes k ≡ Some c) → (k : ℕ) × (n ≤ k) × (slice_get causes k ≡ Some c)
@@ -28,7 +28,7 @@ module _ (plan : PlanParts) (t : List Row) (causes : List Cause) (are : AreCause
           by (inl m) = absurd (b (h.below k c m e))
           by (inr m) = (k, m, e)
 
-  stands_before : (c : Cause) → IsCause plan t c → LiesBelow key s g past c → (k : ℕ) × (k < n) × (slice_get causes k ≡ Some c)
+  stands_before : (c : EventCause) → IsCause plan t c → LiesBelow key s g past c → (k : ℕ) × (k < n) × (slice_get causes k ≡ Some c)
   stands_before c i b = go (are.just.each c i)
     where
       go : (k : ℕ) × (slice_get causes k ≡ Some c) → (k : ℕ) × (k < n) × (slice_get causes k ≡ Some c)
@@ -39,7 +39,7 @@ module _ (plan : PlanParts) (t : List Row) (causes : List Cause) (are : AreCause
           by (inr m) = absurd (h.rest k c m e b)
 
   -- the cause at the position comes up to each from there on
-  from_here : (c d : Cause) → slice_get causes n ≡ Some c → (k : ℕ) × (n ≤ k) × (slice_get causes k ≡ Some d) → ComesUpTo c d
+  from_here : (c d : EventCause) → slice_get causes n ≡ Some c → (k : ℕ) × (n ≤ k) × (slice_get causes k ≡ Some d) → ComesUpTo c d
   from_here c d e (k, l, f) = go (ℕ_discrete n k)
     where
       go : Dec (n ≡ k) → ComesUpTo c d
@@ -47,19 +47,19 @@ module _ (plan : PlanParts) (t : List Row) (causes : List Cause) (are : AreCause
       go (no m) = are.ascending n k c d (omega arith) e f
 
   -- each before the position comes up to the one that stands last there
-  to_last : (c d : Cause) (j : ℕ) → j + 1 ≡ n → slice_get causes j ≡ Some c → (k : ℕ) × (k < n) × (slice_get causes k ≡ Some d) → ComesUpTo d c
+  to_last : (c d : EventCause) (j : ℕ) → j + 1 ≡ n → slice_get causes j ≡ Some c → (k : ℕ) × (k < n) × (slice_get causes k ≡ Some d) → ComesUpTo d c
   to_last c d j is e (k, l, f) = go (ℕ_discrete k j)
     where
       go : Dec (k ≡ j) → ComesUpTo d c
       go (yes q) = subst (λ z. ComesUpTo z c) (same_at causes j k c d e f (sym q)) (comes_self c)
       go (no m) = are.ascending k j d c (omega arith) f e
 
-  none_from : n ≡ length causes → (c : Cause) → ¬ ((k : ℕ) × (n ≤ k) × (slice_get causes k ≡ Some c))
+  none_from : n ≡ length causes → (c : EventCause) → ¬ ((k : ℕ) × (n ≤ k) × (slice_get causes k ≡ Some c))
   none_from e c (k, l, f) = let m : k < length causes = slice_get_within causes k c f in absurd (omega arith)
 
 -- the first cause that leads to the tag
-module _ (plan : PlanParts) (t : List Row) (causes : List Cause) (are : AreCauses plan t causes) (key : ℕ) (s : Folded) (g : Tag) (n : ℕ) (h : IsPosition causes key s g false n) where
-  leads_from : (c : Cause) → Leads key s g c → ¬ LiesBelow key s g false c
+module _ (plan : PlanParts) (t : List Row) (causes : List EventCause) (are : AreCauses plan t causes) (key : ℕ) (s : Folded) (g : Tag) (n : ℕ) (h : IsPosition causes key s g false n) where
+  leads_from : (c : EventCause) → Leads key s g c → ¬ LiesBelow key s g false c
   leads_from c l (inl m) = let a : c.name < key = m in let b : c.name ≡ key = l.0 in omega arith
   leads_from c l (inr (q, inl b)) = Before-irrefl g (subst (λ (z : Tag). Before z g) l.1 b)
   leads_from c l (inr (q, inr e)) = let z : ◌≡◌ {A = Bool} false true = e.0 in absurd (cc)
@@ -67,8 +67,8 @@ module _ (plan : PlanParts) (t : List Row) (causes : List Cause) (are : AreCause
   pub first_end : n ≡ length causes → IsFirstCause plan t key s g None
   first_end e c i l = none_from plan t causes are key s g false n h e c (stands_from plan t causes are key s g false n h c i (leads_from c l))
 
-  module _ (first : Cause) (is_first : slice_get causes n ≡ Some first) where
-    up_to : (c : Cause) → IsCause plan t c → Leads key s g c → ComesUpTo first c
+  module _ (first : EventCause) (is_first : slice_get causes n ≡ Some first) where
+    up_to : (c : EventCause) → IsCause plan t c → Leads key s g c → ComesUpTo first c
     up_to c i l = from_here plan t causes are key s g false n h first c is_first (stands_from plan t causes are key s g false n h c i (leads_from c l))
 
     pub first_leads : Leads key s g first → IsFirstCause plan t key s g (Some first)
@@ -89,14 +89,14 @@ module _ (plan : PlanParts) (t : List Row) (causes : List Cause) (are : AreCause
             by (inr e) = d (m.0 ∙ l.0, e)
 
 -- the last cause that leads to an earlier tag
-module _ (plan : PlanParts) (t : List Row) (causes : List Cause) (are : AreCauses plan t causes) (key : ℕ) (s : Folded) (g : Tag) (n : ℕ) (h : IsPosition causes key s g false n) where
-  stands : (c : Cause) → IsCause plan t c → LeadsBefore key s g c → (k : ℕ) × (k < n) × (slice_get causes k ≡ Some c)
+module _ (plan : PlanParts) (t : List Row) (causes : List EventCause) (are : AreCauses plan t causes) (key : ℕ) (s : Folded) (g : Tag) (n : ℕ) (h : IsPosition causes key s g false n) where
+  stands : (c : EventCause) → IsCause plan t c → LeadsBefore key s g c → (k : ℕ) × (k < n) × (slice_get causes k ≡ Some c)
   stands c i l = stands_before plan t causes are key s g false n h c i (inr (l.0, inl l.1))
 
   pub before_none : n ≡ 0 → IsLastBefore plan t key s g None
   before_none z c i l = let b = stands c i l in let m : b.0 < n = b.1 in omega arith
 
-  module _ (last : Cause) (k : ℕ) (is : k + 1 ≡ n) (is_last : slice_get causes k ≡ Some last) where
+  module _ (last : EventCause) (k : ℕ) (is : k + 1 ≡ n) (is_last : slice_get causes k ≡ Some last) where
     pub before_last : last.name ≡ key → IsLastBefore plan t key s g (Some last)
     before_last q = (are.just.only k last is_last, (q, go (h.below k last (omega arith) is_last)), λ d i l. to_last plan t causes are key s g false n h last d k is is_last (stands d i l))
       where
@@ -114,19 +114,19 @@ module _ (plan : PlanParts) (t : List Row) (causes : List Cause) (are : AreCause
         go m (inr b) = d b.0
 
 -- the first cause that leads to a later tag
-module _ (plan : PlanParts) (t : List Row) (causes : List Cause) (are : AreCauses plan t causes) (key : ℕ) (s : Folded) (g : Tag) (n : ℕ) (h : IsPosition causes key s g true n) where
-  after_from : (c : Cause) → LeadsAfter key s g c → ¬ LiesBelow key s g true c
+module _ (plan : PlanParts) (t : List Row) (causes : List EventCause) (are : AreCauses plan t causes) (key : ℕ) (s : Folded) (g : Tag) (n : ℕ) (h : IsPosition causes key s g true n) where
+  after_from : (c : EventCause) → LeadsAfter key s g c → ¬ LiesBelow key s g true c
   after_from c l (inl m) = let a : c.name < key = m in let b : c.name ≡ key = l.0 in omega arith
   after_from c l (inr (q, inl b)) = Before-irrefl g (Before-trans g (shifted (tag_of c) s) g l.1 b)
   after_from c l (inr (q, inr e)) = Before-irrefl g (subst (λ (z : Tag). Before g z) e.1 l.1)
 
-  there : (c : Cause) → IsCause plan t c → LeadsAfter key s g c → (k : ℕ) × (n ≤ k) × (slice_get causes k ≡ Some c)
+  there : (c : EventCause) → IsCause plan t c → LeadsAfter key s g c → (k : ℕ) × (n ≤ k) × (slice_get causes k ≡ Some c)
   there c i l = stands_from plan t causes are key s g true n h c i (after_from c l)
 
   pub after_end : n ≡ length causes → IsFirstAfter plan t key s g None
   after_end e c i l = none_from plan t causes are key s g true n h e c (there c i l)
 
-  module _ (first : Cause) (is_first : slice_get causes n ≡ Some first) where
+  module _ (first : EventCause) (is_first : slice_get causes n ≡ Some first) where
     rest : ¬ LiesBelow key s g true first
     rest = h.rest n first (omega arith) is_first
 

@@ -14,17 +14,17 @@ use Rattle.lft_model.specs.Plans.{PlanParts}
 use Rattle.lft_model.specs.Presence.{value_written, written, value_scheduled, scheduled, given, min_delay, events_of, IsWrittenFrom, At, IsPresent}
 use Rattle.lft_model.proofs.{Places.slice_get_within, Ended.{Schedules, written_by, by_written, scheduled_by, by_scheduled}}
 use Rattle.lft_model.proofs.Steps.{written_some, some_written, scheduled_some, some_scheduled, both_true}
-use Rattle.lft_rows.specs.declared.presence.causes.Cause.{Cause}
+use Rattle.lft_rows.specs.declared.presence.causes.EventCause.{EventCause}
 use Rattle.lft_rows.specs.inner.Presence.Causes.{tag_of, cause, ComesUpTo, AreCauses, LiesBelow, IsPosition, Leads, IsLastCause, IsValueFrom, IsRowCause, IsEventCause, IsCause, Carries, value_of, write_cause, schedule_cause, step_cause, event_cause}
 use Rattle.lft_rows.proofs.PresenceLemmas.Positions.{shifted_mono, tag_up, same_cause}
 
-pub comes_self : (c : Cause) → ComesUpTo c c
+pub comes_self : (c : EventCause) → ComesUpTo c c
 comes_self c = inr (refl, inr (refl, omega arith))
 
 -- the cause that stands before a position is the last that leads to the tag, or none does
-module _ (plan : PlanParts) (t : List Row) (causes : List Cause) (are : AreCauses plan t causes) (name : ℕ) (s : Folded) (g : Tag) (n : ℕ) (h : IsPosition causes name s g true n) where
+module _ (plan : PlanParts) (t : List Row) (causes : List EventCause) (are : AreCauses plan t causes) (name : ℕ) (s : Folded) (g : Tag) (n : ℕ) (h : IsPosition causes name s g true n) where
   -- each cause that leads to the tag stands before the position
-  stands_before : (c : Cause) → IsCause plan t c → Leads name s g c → (k : ℕ) × (k < n) × (slice_get causes k ≡ Some c)
+  stands_before : (c : EventCause) → IsCause plan t c → Leads name s g c → (k : ℕ) × (k < n) × (slice_get causes k ≡ Some c)
   stands_before c i l = go (are.just.each c i)
     where
       go : (k : ℕ) × (slice_get causes k ≡ Some c) → (k : ℕ) × (k < n) × (slice_get causes k ≡ Some c)
@@ -37,9 +37,9 @@ module _ (plan : PlanParts) (t : List Row) (causes : List Cause) (are : AreCause
   pub none_stands : n ≡ 0 → IsLastCause plan t name s g None
   none_stands z c i l = let b = stands_before c i l in let m : b.0 < n = b.1 in omega arith
 
-  module _ (last : Cause) (k : ℕ) (is_before : k + 1 ≡ n) (is_last : slice_get causes k ≡ Some last) where
+  module _ (last : EventCause) (k : ℕ) (is_before : k + 1 ≡ n) (is_last : slice_get causes k ≡ Some last) where
     -- each cause that leads to the tag comes before the last one
-    up_to_last : (c : Cause) → IsCause plan t c → Leads name s g c → ComesUpTo c last
+    up_to_last : (c : EventCause) → IsCause plan t c → Leads name s g c → ComesUpTo c last
     up_to_last c i l = go (stands_before c i l)
       where
         go : (j : ℕ) × (j < n) × (slice_get causes j ≡ Some c) → ComesUpTo c last
@@ -67,15 +67,15 @@ module _ (plan : PlanParts) (t : List Row) (causes : List Cause) (are : AreCause
             by (inr f) = d (b.0, f.1)
 
 -- where a cause stands
-write_place : (g : Tag) (i : ℕ) (n : Name) (c : Cause) → write_cause g i n ≡ Some c → c.place ≡ i
-write_place g i (Port p) c e = let x : cause p g i ≡ c = cc in ap (λ (z : Cause). z.place) (sym x)
+write_place : (g : Tag) (i : ℕ) (n : Name) (c : EventCause) → write_cause g i n ≡ Some c → c.place ≡ i
+write_place g i (Port p) c e = let x : cause p g i ≡ c = cc in ap (λ (z : EventCause). z.place) (sym x)
 write_place g i (Action a) c e = absurd (cc)
 
-schedule_place : (program : Parts) (g : Tag) (i extra : ℕ) (n : Name) (c : Cause) → schedule_cause program g i extra n ≡ Some c → c.place ≡ i
+schedule_place : (program : Parts) (g : Tag) (i extra : ℕ) (n : Name) (c : EventCause) → schedule_cause program g i extra n ≡ Some c → c.place ≡ i
 schedule_place program g i extra (Port p) c e = absurd (cc)
-schedule_place program g i extra (Action a) c e = let x : cause (length program.ports + a) (after g (min_delay program a + extra)) i ≡ c = cc in ap (λ (z : Cause). z.place) (sym x)
+schedule_place program g i extra (Action a) c e = let x : cause (length program.ports + a) (after g (min_delay program a + extra)) i ≡ c = cc in ap (λ (z : EventCause). z.place) (sym x)
 
-pub step_place : (program : Parts) (g : Tag) (i : ℕ) (s : Step) (c : Cause) → step_cause program g i s ≡ Some c → c.place ≡ i
+pub step_place : (program : Parts) (g : Tag) (i : ℕ) (s : Step) (c : EventCause) → step_cause program g i s ≡ Some c → c.place ≡ i
 step_place program g i Start c e = absurd (cc)
 step_place program g i (Read n v) c e = absurd (cc)
 step_place program g i (Write n v) c e = write_place g i n c e
@@ -83,30 +83,30 @@ step_place program g i (Schedule n v d) c e = schedule_place program g i d n c e
 step_place program g i Stop c e = absurd (cc)
 step_place program g i End c e = absurd (cc)
 
-pub event_place : (program : Parts) (i : ℕ) (event : Event) (c : Cause) → event_cause program i event ≡ c → c.place ≡ i
-event_place program i event c e = ap (λ (z : Cause). z.place) (sym e)
+pub event_place : (program : Parts) (i : ℕ) (event : Event) (c : EventCause) → event_cause program i event ≡ c → c.place ≡ i
+event_place program i event c e = ap (λ (z : EventCause). z.place) (sym e)
 
 -- where the place of a cause is that of a row it is the row, else an external event
-pub row_there : (plan : PlanParts) (t : List Row) (c : Cause) → IsCause plan t c → c.place < length t → IsRowCause plan.program t c
+pub row_there : (plan : PlanParts) (t : List Row) (c : EventCause) → IsCause plan t c → c.place < length t → IsRowCause plan.program t c
 row_there plan t c (inl x) l = x
 row_there plan t c (inr x) l = let e : c.place ≡ length t + x.place = event_place plan.program (length t + x.place) x.event c x.gives in absurd (omega arith)
 
-pub event_there : (plan : PlanParts) (t : List Row) (c : Cause) → IsCause plan t c → ¬ (c.place < length t) → IsEventCause plan.program t plan.externals.events c
+pub event_there : (plan : PlanParts) (t : List Row) (c : EventCause) → IsCause plan t c → ¬ (c.place < length t) → IsEventCause plan.program t plan.externals.events c
 event_there plan t c (inl x) n = let l : x.place < length t = slice_get_within t x.place x.row x.is_row in let e : c.place ≡ x.place = step_place plan.program x.row.tag x.place x.row.step c x.gives in absurd (n (omega arith))
 event_there plan t c (inr x) n = x
 
 -- what a step that is a cause does
-step_writes : (program : Parts) (g : Tag) (i : ℕ) (s : Step) (c : Cause) (p : ℕ) (v : Value) → p < length program.ports → step_cause program g i s ≡ Some c → c.name ≡ p → value_of s ≡ Some v → (tag_of c ≡ g) × (value_written p s ≡ Some v)
+step_writes : (program : Parts) (g : Tag) (i : ℕ) (s : Step) (c : EventCause) (p : ℕ) (v : Value) → p < length program.ports → step_cause program g i s ≡ Some c → c.name ≡ p → value_of s ≡ Some v → (tag_of c ≡ g) × (value_written p s ≡ Some v)
 step_writes program g i Start c p v l e q f = absurd (cc)
 step_writes program g i (Read n w) c p v l e q f = absurd (cc)
 step_writes program g i (Write (Port o) w) c p v l e q f =
     let x : cause o g i ≡ c = cc in
-    let y : o ≡ p = ap (λ (z : Cause). z.name) x ∙ q in
+    let y : o ≡ p = ap (λ (z : EventCause). z.name) x ∙ q in
     let z : w ≡ v = cc in
     (ap tag_of (sym x), subst (λ k. value_written k (Write (Port o) w) ≡ Some v) y (some_written o w ∙ ap Some z))
 step_writes program g i (Write (Action a) w) c p v l e q f = absurd (cc)
 step_writes program g i (Schedule (Port o) w d) c p v l e q f = absurd (cc)
-step_writes program g i (Schedule (Action a) w d) c p v l e q f = let x : cause (length program.ports + a) (after g (min_delay program a + d)) i ≡ c = cc in let y : length program.ports + a ≡ p = ap (λ (z : Cause). z.name) x ∙ q in absurd (omega arith)
+step_writes program g i (Schedule (Action a) w d) c p v l e q f = let x : cause (length program.ports + a) (after g (min_delay program a + d)) i ≡ c = cc in let y : length program.ports + a ≡ p = ap (λ (z : EventCause). z.name) x ∙ q in absurd (omega arith)
 step_writes program g i Stop c p v l e q f = absurd (cc)
 step_writes program g i End c p v l e q f = absurd (cc)
 
@@ -114,15 +114,15 @@ step_writes program g i End c p v l e q f = absurd (cc)
 writes_step : (program : Parts) (g : Tag) (i : ℕ) (s : Step) (p : ℕ) (v : Value) → value_written p s ≡ Some v → step_cause program g i s ≡ Some (cause p g i)
 writes_step program g i s p v e = ap (step_cause program g i) (written_some p s v e)
 
-pub step_schedules : (program : Parts) (g h : Tag) (i : ℕ) (s : Step) (c : Cause) (a : ℕ) (v : Value) → StepFits program s → step_cause program h i s ≡ Some c → c.name ≡ length program.ports + a → tag_of c ≡ g → value_of s ≡ Some v → Schedules g a (min_delay program a) h s v
+pub step_schedules : (program : Parts) (g h : Tag) (i : ℕ) (s : Step) (c : EventCause) (a : ℕ) (v : Value) → StepFits program s → step_cause program h i s ≡ Some c → c.name ≡ length program.ports + a → tag_of c ≡ g → value_of s ≡ Some v → Schedules g a (min_delay program a) h s v
 step_schedules program g h i Start c a v k e q m f = absurd (cc)
 step_schedules program g h i (Read n w) c a v k e q m f = absurd (cc)
-step_schedules program g h i (Write (Port o) w) c a v k e q m f = let x : cause o h i ≡ c = cc in let y : o ≡ length program.ports + a = ap (λ (z : Cause). z.name) x ∙ q in let l : o < length program.ports = k in absurd (omega arith)
+step_schedules program g h i (Write (Port o) w) c a v k e q m f = let x : cause o h i ≡ c = cc in let y : o ≡ length program.ports + a = ap (λ (z : EventCause). z.name) x ∙ q in let l : o < length program.ports = k in absurd (omega arith)
 step_schedules program g h i (Write (Action b) w) c a v k e q m f = absurd (cc)
 step_schedules program g h i (Schedule (Port o) w d) c a v k e q m f = absurd (cc)
 step_schedules program g h i (Schedule (Action b) w d) c a v fits e q m f =
     let x : cause (length program.ports + b) (after h (min_delay program b + d)) i ≡ c = cc in
-    let y : length program.ports + b ≡ length program.ports + a = ap (λ (z : Cause). z.name) x ∙ q in
+    let y : length program.ports + b ≡ length program.ports + a = ap (λ (z : EventCause). z.name) x ∙ q in
     let z : b ≡ a = omega arith in
     let u : w ≡ v = cc in
     let k : after h (min_delay program b + d) ≡ g = ap tag_of x ∙ m in
@@ -138,7 +138,7 @@ pub none_leads : (g : Tag) → shifted g (0, 0) ≡ g
 none_leads g = tag_from refl (omega arith)
 
 -- a cause carries a value
-step_carries : (program : Parts) (g : Tag) (i : ℕ) (s : Step) (c : Cause) → step_cause program g i s ≡ Some c → ¬ (None ≡ value_of s)
+step_carries : (program : Parts) (g : Tag) (i : ℕ) (s : Step) (c : EventCause) → step_cause program g i s ≡ Some c → ¬ (None ≡ value_of s)
 step_carries program g i Start c e f = absurd (cc)
 step_carries program g i (Read n v) c e f = absurd (cc)
 step_carries program g i (Write n v) c e f = absurd (cc)
@@ -150,7 +150,7 @@ pub same_row : (t : List Row) (i j : ℕ) (x y : Row) → i ≡ j → slice_get 
 same_row t i j x y e p q = let a : Some x ≡ Some y = sym p ∙ ap (λ k. slice_get t k) e ∙ q in cc
 
 -- the row of a cause at whose place a row stands
-pub row_of : (plan : PlanParts) (t : List Row) (c : Cause) (row : Row) → IsCause plan t c → slice_get t c.place ≡ Some row → step_cause plan.program row.tag c.place row.step ≡ Some c
+pub row_of : (plan : PlanParts) (t : List Row) (c : EventCause) (row : Row) → IsCause plan t c → slice_get t c.place ≡ Some row → step_cause plan.program row.tag c.place row.step ≡ Some c
 row_of plan t c row i e =
     let x = row_there plan t c i (slice_get_within t c.place row e) in
     let p : c.place ≡ x.place = step_place plan.program x.row.tag x.place x.row.step c x.gives in
@@ -158,7 +158,7 @@ row_of plan t c row i e =
     ap (λ (z : Row). step_cause plan.program z.tag c.place z.step) r ∙ ap (λ k. step_cause plan.program x.row.tag k x.row.step) p ∙ x.gives
 
 -- the event of a cause at whose place an event stands
-pub event_of : (plan : PlanParts) (t : List Row) (c : Cause) (i : ℕ) (event : Event) → IsCause plan t c → length t + i ≡ c.place → slice_get plan.externals.events i ≡ Some event → event_cause plan.program c.place event ≡ c
+pub event_of : (plan : PlanParts) (t : List Row) (c : EventCause) (i : ℕ) (event : Event) → IsCause plan t c → length t + i ≡ c.place → slice_get plan.externals.events i ≡ Some event → event_cause plan.program c.place event ≡ c
 event_of plan t c i event k p e =
     let x = event_there plan t c k (λ l. omega arith) in
     let q : c.place ≡ length t + x.place = event_place plan.program (length t + x.place) x.event c x.gives in
@@ -167,13 +167,13 @@ event_of plan t c i event k p e =
     let b : event ≡ x.event = cc in
     ap (λ (z : Event). event_cause plan.program c.place z) b ∙ ap (λ j. event_cause plan.program j x.event) q ∙ x.gives
 
-pub value_from : (plan : PlanParts) (t : List Row) (name : ℕ) (s : Folded) (g : Tag) (c : Cause) (o : Option Value) → IsLastCause plan t name s g (Some c) → Carries plan t c o → IsValueFrom plan t name s g o
+pub value_from : (plan : PlanParts) (t : List Row) (name : ℕ) (s : Folded) (g : Tag) (c : EventCause) (o : Option Value) → IsLastCause plan t name s g (Some c) → Carries plan t c o → IsValueFrom plan t name s g o
 value_from plan t name s g c (Some v) last carries = (c, last, carries)
 value_from plan t name s g c None last (inl x) = absurd (step_carries plan.program x.0.tag c.place x.0.step c (row_of plan t c x.0 last.0 x.1) x.2)
 value_from plan t name s g c None last (inr x) = let e : None ≡ Some x.1.value = x.4 in absurd (cc)
 
 -- each cause carries a value
-pub carrier : (plan : PlanParts) (t : List Row) (c : Cause) → IsCause plan t c → (v : Value) × Carries plan t c (Some v)
+pub carrier : (plan : PlanParts) (t : List Row) (c : EventCause) → IsCause plan t c → (v : Value) × Carries plan t c (Some v)
 carrier plan t c (inr x) = (x.event.value, inr (x.place, x.event, sym (event_place plan.program (length t + x.place) x.event c x.gives), x.is_event, refl))
 carrier plan t c (inl x) = go (value_of x.row.step) refl
   where
@@ -206,8 +206,8 @@ module _ (plan : PlanParts) (t : List Row) (g : Tag) (p : ℕ) (port : PortOf) (
   written_cause : (i : ℕ) (row : Row) (v : Value) → slice_get t i ≡ Some row → value_written port.origin row.step ≡ Some v → IsCause plan t (cause port.origin row.tag i)
   written_cause i row v e w = inl (record { place = i; row = row; is_row = e; gives = writes_step plan.program row.tag i row.step port.origin v w })
 
-  port_last : (c : Cause) (v : Value) → IsLastCause plan t port.origin (port.shift.time, port.shift.steps) g (Some c) → Carries plan t c (Some v) → At plan t g (Port p) v
-  port_last c v last (inr x) = let q = event_of plan t c x.0 x.1 last.0 x.2 x.3 in let y : length plan.program.ports + x.1.action ≡ port.origin = ap (λ (z : Cause). z.name) q ∙ last.1.0 in let l : port.origin < length plan.program.ports = known in absurd (omega arith)
+  port_last : (c : EventCause) (v : Value) → IsLastCause plan t port.origin (port.shift.time, port.shift.steps) g (Some c) → Carries plan t c (Some v) → At plan t g (Port p) v
+  port_last c v last (inr x) = let q = event_of plan t c x.0 x.1 last.0 x.2 x.3 in let y : length plan.program.ports + x.1.action ≡ port.origin = ap (λ (z : EventCause). z.name) q ∙ last.1.0 in let l : port.origin < length plan.program.ports = known in absurd (omega arith)
   port_last c v last (inl x) = (row.tag, record { origin = port.origin; delays = chain.delays; is_origin = chain.is_origin; arrives = arrives; is_last = last_by_place (written row.tag port.origin) t v (record { place = c.place; item = row; is_item = x.1; gives = by_written row.tag port.origin row v refl writes.1; none_after = none_after }) })
     where
       row : Row
@@ -239,7 +239,7 @@ module _ (plan : PlanParts) (t : List Row) (g : Tag) (p : ℕ) (port : PortOf) (
   port_some (Some v) h = port_last h.0 v h.1 h.2
 
   -- what is present is of a cause
-  pub port_cause_at : (h : Tag) (v : Value) → IsWrittenFrom plan t g p h v → (c : Cause) × IsCause plan t c × Leads port.origin (port.shift.time, port.shift.steps) g c × (tag_of c ≡ h)
+  pub port_cause_at : (h : Tag) (v : Value) → IsWrittenFrom plan t g p h v → (c : EventCause) × IsCause plan t c × Leads port.origin (port.shift.time, port.shift.steps) g c × (tag_of c ≡ h)
   port_cause_at h v w =
       let same = origin_unique w.is_origin chain.is_origin in
       let last : last_or None (filter_map (written h port.origin) t) ≡ Some v = subst (λ (o : ℕ). last_or None (filter_map (written h o) t) ≡ Some v) same.0 w.is_last in
@@ -248,7 +248,7 @@ module _ (plan : PlanParts) (t : List Row) (g : Tag) (p : ℕ) (port : PortOf) (
       let leads : shifted r.item.tag (port.shift.time, port.shift.steps) ≡ g = ap (λ (k : Tag). shifted k (port.shift.time, port.shift.steps)) q.0 ∙ chain.leads h ∙ ap (λ ds. after_all h ds) (sym same.1) ∙ w.arrives in
       (cause port.origin r.item.tag r.place, written_cause r.place r.item v r.is_item q.1, (refl, leads), q.0)
 
-  pub port_cause : IsPresent plan t g (Port p) → (c : Cause) × IsCause plan t c × Leads port.origin (port.shift.time, port.shift.steps) g c
+  pub port_cause : IsPresent plan t g (Port p) → (c : EventCause) × IsCause plan t c × Leads port.origin (port.shift.time, port.shift.steps) g c
   port_cause x = let c = port_cause_at x.1.0 x.0 x.1.1 in (c.0, c.1, c.2)
 
   pub port_none : (o : Option Value) → IsValueFrom plan t port.origin (port.shift.time, port.shift.steps) g o → IfNone o (IsPresent plan t g (Port p) → ⊥)
@@ -256,18 +256,18 @@ module _ (plan : PlanParts) (t : List Row) (g : Tag) (p : ℕ) (port : PortOf) (
   port_none None h = λ x. let c = port_cause x in h c.0 c.1 c.2
 
   -- what a cause leads to is present: the last write at the tag of the cause
-  pub port_from : (c : Cause) → IsCause plan t c → Leads port.origin (port.shift.time, port.shift.steps) g c → (v : Value) × IsWrittenFrom plan t g p (tag_of c) v
+  pub port_from : (c : EventCause) → IsCause plan t c → Leads port.origin (port.shift.time, port.shift.steps) g c → (v : Value) × IsWrittenFrom plan t g p (tag_of c) v
   port_from c i l = go (carrier plan t c i)
     where
       go : (v : Value) × Carries plan t c (Some v) → (v : Value) × IsWrittenFrom plan t g p (tag_of c) v
-      go (v, inr x) = let q = event_of plan t c x.0 x.1 i x.2 x.3 in let y : length plan.program.ports + x.1.action ≡ port.origin = ap (λ (z : Cause). z.name) q ∙ l.0 in let m : port.origin < length plan.program.ports = known in absurd (omega arith)
+      go (v, inr x) = let q = event_of plan t c x.0 x.1 i x.2 x.3 in let y : length plan.program.ports + x.1.action ≡ port.origin = ap (λ (z : EventCause). z.name) q ∙ l.0 in let m : port.origin < length plan.program.ports = known in absurd (omega arith)
       go (v, inl x) =
           let writes = step_writes plan.program x.0.tag c.place x.0.step c port.origin v known (row_of plan t c x.0 i x.1) l.0 (sym x.2) in
           let arrives : after_all x.0.tag chain.delays ≡ g = sym (chain.leads x.0.tag) ∙ ap (λ (k : Tag). shifted k (port.shift.time, port.shift.steps)) (sym writes.0) ∙ l.1 in
           let w = last_of_mem v (filter_map (written x.0.tag port.origin) t) (mem_filter (written x.0.tag port.origin) x.0 v t (mem_get t c.place x.0 x.1) (by_written x.0.tag port.origin x.0 v refl writes.1)) in
           (w.0, subst (λ (h : Tag). IsWrittenFrom plan t g p h w.0) (sym writes.0) (record { origin = port.origin; delays = chain.delays; is_origin = chain.is_origin; arrives = arrives; is_last = w.1 }))
 
-  pub port_present : (c : Cause) → IsCause plan t c → Leads port.origin (port.shift.time, port.shift.steps) g c → IsPresent plan t g (Port p)
+  pub port_present : (c : EventCause) → IsCause plan t c → Leads port.origin (port.shift.time, port.shift.steps) g c → IsPresent plan t g (Port p)
   port_present c i l = let w = port_from c i l in (w.0, (tag_of c, w.1))
 
 -- the event of an action
@@ -275,7 +275,7 @@ module _ (plan : PlanParts) (t : List Row) (fit : RowsFit plan.program t) (g : T
   pub given_there : (event : Event) (v : Value) → g ≡ event.tag → a ≡ event.action → event.value ≡ v → given g a event ≡ Some v
   given_there event v e q w = ap (λ b. cond b (Some event.value) None) (and_from (same_tag g event.tag) (a == event.action) (same_tag_refl g event.tag e) (eq-eqb a event.action q)) ∙ ap Some w
 
-  action_last : (c : Cause) (v : Value) → IsCause plan t c → Leads (length plan.program.ports + a) (0, 0) g c → Carries plan t c (Some v) → At plan t g (Action a) v
+  action_last : (c : EventCause) (v : Value) → IsCause plan t c → Leads (length plan.program.ports + a) (0, 0) g c → Carries plan t c (Some v) → At plan t g (Action a) v
   action_last c v i l (inl x) =
       let there : tag_of c ≡ g = sym (none_leads (tag_of c)) ∙ l.1 in
       let does = step_schedules plan.program g x.0.tag c.place x.0.step c a v (fit.each c.place x.0 x.1).step (row_of plan t c x.0 i x.1) l.0 there (sym x.2) in
@@ -283,21 +283,21 @@ module _ (plan : PlanParts) (t : List Row) (fit : RowsFit plan.program t) (g : T
   action_last c v i l (inr x) =
       let q = event_of plan t c x.0 x.1 i x.2 x.3 in
       let there : tag_of c ≡ g = sym (none_leads (tag_of c)) ∙ l.1 in
-      let y : length plan.program.ports + x.1.action ≡ length plan.program.ports + a = ap (λ (z : Cause). z.name) q ∙ l.0 in
+      let y : length plan.program.ports + x.1.action ≡ length plan.program.ports + a = ap (λ (z : EventCause). z.name) q ∙ l.0 in
       let z : x.1.tag ≡ g = ap tag_of q ∙ there in
       let w : ◌≡◌ {A = Option Value} (Some v) (Some x.1.value) = x.4 in
       let u : x.1.value ≡ v = cc in
       mem_contains v (events_of plan t g a) (mem_right v (filter_map (scheduled g a (min_delay plan.program a)) t) (filter_map (given g a) plan.externals.events) (mem_filter (given g a) x.1 v plan.externals.events (mem_get plan.externals.events x.0 x.1 x.3) (given_there x.1 v (sym z) (omega arith) u)))
 
   -- each event of the action is of a cause
-  row_event : (v : Value) → Mem v (filter_map (scheduled g a (min_delay plan.program a)) t) → (c : Cause) × IsCause plan t c × Leads (length plan.program.ports + a) (0, 0) g c
+  row_event : (v : Value) → Mem v (filter_map (scheduled g a (min_delay plan.program a)) t) → (c : EventCause) × IsCause plan t c × Leads (length plan.program.ports + a) (0, 0) g c
   row_event v m =
       let f = mem_from_filter (scheduled g a (min_delay plan.program a)) t v m in
       let p = get_mem f.0 t f.1 in
       let d = scheduled_by g a (min_delay plan.program a) f.0 v f.2 in
       (cause (length plan.program.ports + a) g p.0, inl (record { place = p.0; row = f.0; is_row = p.1; gives = schedules_step plan.program g f.0.tag p.0 f.0.step a v d }), (refl, none_leads g))
 
-  given_event : (v : Value) → Mem v (filter_map (given g a) plan.externals.events) → (c : Cause) × IsCause plan t c × Leads (length plan.program.ports + a) (0, 0) g c
+  given_event : (v : Value) → Mem v (filter_map (given g a) plan.externals.events) → (c : EventCause) × IsCause plan t c × Leads (length plan.program.ports + a) (0, 0) g c
   given_event v m =
       let f = mem_from_filter (given g a) plan.externals.events v m in
       let p = get_mem f.0 plan.externals.events f.1 in
@@ -310,13 +310,13 @@ module _ (plan : PlanParts) (t : List Row) (fit : RowsFit plan.program t) (g : T
   action_some None h = tt
   action_some (Some v) h = action_last h.0 v h.1.0 h.1.1 h.2
 
-  pub action_present : (c : Cause) → IsCause plan t c → Leads (length plan.program.ports + a) (0, 0) g c → IsPresent plan t g (Action a)
+  pub action_present : (c : EventCause) → IsCause plan t c → Leads (length plan.program.ports + a) (0, 0) g c → IsPresent plan t g (Action a)
   action_present c i l = let v = carrier plan t c i in (v.0, action_last c v.0 i l v.1)
 
-  pub action_cause : IsPresent plan t g (Action a) → (c : Cause) × IsCause plan t c × Leads (length plan.program.ports + a) (0, 0) g c
+  pub action_cause : IsPresent plan t g (Action a) → (c : EventCause) × IsCause plan t c × Leads (length plan.program.ports + a) (0, 0) g c
   action_cause x = go x.0 (mem_cases x.0 (filter_map (scheduled g a (min_delay plan.program a)) t) (filter_map (given g a) plan.externals.events) (contains_mem x.0 (events_of plan t g a) x.1))
     where
-      go : (v : Value) → Mem v (filter_map (scheduled g a (min_delay plan.program a)) t) ⊎ Mem v (filter_map (given g a) plan.externals.events) → (c : Cause) × IsCause plan t c × Leads (length plan.program.ports + a) (0, 0) g c
+      go : (v : Value) → Mem v (filter_map (scheduled g a (min_delay plan.program a)) t) ⊎ Mem v (filter_map (given g a) plan.externals.events) → (c : EventCause) × IsCause plan t c × Leads (length plan.program.ports + a) (0, 0) g c
       go v (inl m) = row_event v m
       go v (inr m) = given_event v m
 
@@ -331,10 +331,10 @@ IsKey program (Action a) key s = (key ≡ length program.ports + a) × (s ≡ (0
 
 -- a port or action is present where a cause leads
 module _ (plan : PlanParts) (t : List Row) (sound : IsSound plan.program) (fit : RowsFit plan.program t) (g : Tag) where
-  pub present_cause : (n : Name) (key : ℕ) (s : Folded) → IsKey plan.program n key s → IsPresent plan t g n → (c : Cause) × IsCause plan t c × Leads key s g c
+  pub present_cause : (n : Name) (key : ℕ) (s : Folded) → IsKey plan.program n key s → IsPresent plan t g n → (c : EventCause) × IsCause plan t c × Leads key s g c
   present_cause (Port p) key s k x = let c = port_cause plan t g p k.0 (chain_of plan.program sound p k.0 k.1) x in (c.0, c.1, subst (λ z. Leads key z g c.0) (sym k.3) (subst (λ z. Leads z (k.0.shift.time, k.0.shift.steps) g c.0) (sym k.2) c.2))
   present_cause (Action a) key s k x = let c = action_cause plan t fit g a x in (c.0, c.1, subst (λ z. Leads key z g c.0) (sym k.1) (subst (λ z. Leads z (0, 0) g c.0) (sym k.0) c.2))
 
-  pub cause_present : (n : Name) (key : ℕ) (s : Folded) → IsKey plan.program n key s → (c : Cause) → IsCause plan t c → Leads key s g c → IsPresent plan t g n
+  pub cause_present : (n : Name) (key : ℕ) (s : Folded) → IsKey plan.program n key s → (c : EventCause) → IsCause plan t c → Leads key s g c → IsPresent plan t g n
   cause_present (Port p) key s k c i l = port_present plan t g p k.0 (chain_of plan.program sound p k.0 k.1) c i (subst (λ z. Leads z (k.0.shift.time, k.0.shift.steps) g c) k.2 (subst (λ z. Leads key z g c) k.3 l))
   cause_present (Action a) key s k c i l = action_present plan t fit g a c i (subst (λ z. Leads z (0, 0) g c) k.0 (subst (λ z. Leads key z g c) k.1 l))

@@ -7,7 +7,7 @@ use Rattle.lft_ir.specs.declared.steps.{row.{Row.Row, Step.{Step, TheVariants.{S
 use Rattle.lft_ir.specs.Steps.Fits.{RowsFit, StepFits}
 use Rattle.lft_model.specs.{Plans.{PlanParts, IsSoundPlan}, Presence.{scheduled, given, min_delay, events_of}}
 use Rattle.lft_model.proofs.{Places.slice_get_within, Ended.{scheduled_by, by_scheduled}, Steps.both_true}
-use Rattle.lft_rows.specs.{declared.presence.causes.Cause.Cause, inner.Presence.Causes.{tag_of, cause, Leads, IsCause, Carries, step_cause}}
+use Rattle.lft_rows.specs.{declared.presence.causes.EventCause.EventCause, inner.Presence.Causes.{tag_of, cause, Leads, IsCause, Carries, step_cause}}
 use Rattle.lft_rows.proofs.PresenceLemmas.Presences.{step_schedules, schedules_step, none_leads, row_of, event_of, carrier, given_there}
 
 -- an item of which a filter keeps something
@@ -76,8 +76,8 @@ count_two {X} {Y} h (z ∷ zs) (suc i) (suc j) x y v w l e f g k = go (h z) (cou
 
 -- two causes of an action's events at one tag
 pub record IsTwo (plan : PlanParts) (t : List Row) (g : Tag) (a : ℕ) : Type 0 where
-  pub first : Cause
-  pub second : Cause
+  pub first : EventCause
+  pub second : EventCause
   pub is_first : IsCause plan t first
   pub is_second : IsCause plan t second
   pub first_leads : Leads (length plan.program.ports + a) (0, 0) g first
@@ -118,20 +118,20 @@ module _ (plan : PlanParts) (t : List Row) (fit : RowsFit plan.program t) (g : T
           two_at r.place (length t + k.place) (row_kept r) (event_kept k) (λ e. omega arith)
 
   -- what stands at the place of a cause is kept
-  kept_there : (c : Cause) → IsCause plan t c → c.name ≡ length plan.program.ports + a → tag_of c ≡ g → ((row : Row) × (v : Value) × (slice_get t c.place ≡ Some row) × (scheduled g a (min_delay plan.program a) row ≡ Some v)) ⊎ ((i : ℕ) × (event : Event) × (v : Value) × (length t + i ≡ c.place) × (slice_get plan.externals.events i ≡ Some event) × (given g a event ≡ Some v))
+  kept_there : (c : EventCause) → IsCause plan t c → c.name ≡ length plan.program.ports + a → tag_of c ≡ g → ((row : Row) × (v : Value) × (slice_get t c.place ≡ Some row) × (scheduled g a (min_delay plan.program a) row ≡ Some v)) ⊎ ((i : ℕ) × (event : Event) × (v : Value) × (length t + i ≡ c.place) × (slice_get plan.externals.events i ≡ Some event) × (given g a event ≡ Some v))
   kept_there c i q there = go (carrier plan t c i)
     where
       go : (v : Value) × Carries plan t c (Some v) → ((row : Row) × (v : Value) × (slice_get t c.place ≡ Some row) × (scheduled g a (min_delay plan.program a) row ≡ Some v)) ⊎ ((i : ℕ) × (event : Event) × (v : Value) × (length t + i ≡ c.place) × (slice_get plan.externals.events i ≡ Some event) × (given g a event ≡ Some v))
       go (v, inl x) = inl (x.0, v, x.1, by_scheduled g a (min_delay plan.program a) x.0 v (step_schedules plan.program g x.0.tag c.place x.0.step c a v (fit.each c.place x.0 x.1).step (row_of plan t c x.0 i x.1) q there (sym x.2)))
       go (v, inr x) =
           let d = event_of plan t c x.0 x.1 i x.2 x.3 in
-          let y : length plan.program.ports + x.1.action ≡ length plan.program.ports + a = ap (λ (z : Cause). z.name) d ∙ q in
+          let y : length plan.program.ports + x.1.action ≡ length plan.program.ports + a = ap (λ (z : EventCause). z.name) d ∙ q in
           let z : x.1.tag ≡ g = ap tag_of d ∙ there in
           let w : ◌≡◌ {A = Option Value} (Some v) (Some x.1.value) = x.4 in
           let u : x.1.value ≡ v = cc in
           inr (x.0, x.1, v, x.2, x.3, given_there plan t fit g a x.1 v (sym z) (omega arith) u)
 
-  pub two_events : (x y : Cause) → IsCause plan t x → IsCause plan t y → x.name ≡ length plan.program.ports + a → y.name ≡ length plan.program.ports + a → tag_of x ≡ g → tag_of y ≡ g → x.place ≢ y.place → 1 < length (events_of plan t g a)
+  pub two_events : (x y : EventCause) → IsCause plan t x → IsCause plan t y → x.name ≡ length plan.program.ports + a → y.name ≡ length plan.program.ports + a → tag_of x ≡ g → tag_of y ≡ g → x.place ≢ y.place → 1 < length (events_of plan t g a)
   two_events x y i j e f p q n = go (kept_there x i e p) (kept_there y j f q)
     where
       both : length (events_of plan t g a) ≡ length (filter_map (scheduled g a (min_delay plan.program a)) t) + length (filter_map (given g a) plan.externals.events)
@@ -155,19 +155,19 @@ module _ (plan : PlanParts) (t : List Row) (fit : RowsFit plan.program t) (g : T
   pub action_known : IsSoundPlan plan → 1 < length (events_of plan t g a) → a < length plan.program.actions
   action_known sound l = go (two_causes l)
     where
-      schedules : (h : Tag) (i : ℕ) (s : Step) (c : Cause) → StepFits plan.program s → step_cause plan.program h i s ≡ Some c → c.name ≡ length plan.program.ports + a → a < length plan.program.actions
+      schedules : (h : Tag) (i : ℕ) (s : Step) (c : EventCause) → StepFits plan.program s → step_cause plan.program h i s ≡ Some c → c.name ≡ length plan.program.ports + a → a < length plan.program.actions
       schedules h i Start c f e q = absurd (cc)
       schedules h i (Read n v) c f e q = absurd (cc)
-      schedules h i (Write (Port o) v) c f e q = let x : cause o h i ≡ c = cc in let y : o ≡ length plan.program.ports + a = ap (λ (z : Cause). z.name) x ∙ q in let l : o < length plan.program.ports = f in absurd (omega arith)
+      schedules h i (Write (Port o) v) c f e q = let x : cause o h i ≡ c = cc in let y : o ≡ length plan.program.ports + a = ap (λ (z : EventCause). z.name) x ∙ q in let l : o < length plan.program.ports = f in absurd (omega arith)
       schedules h i (Write (Action b) v) c f e q = absurd (cc)
       schedules h i (Schedule (Port o) v d) c f e q = absurd (cc)
-      schedules h i (Schedule (Action b) v d) c f e q = let x : cause (length plan.program.ports + b) (after h (min_delay plan.program b + d)) i ≡ c = cc in let y : length plan.program.ports + b ≡ length plan.program.ports + a = ap (λ (z : Cause). z.name) x ∙ q in let l : b < length plan.program.actions = f.0 in omega arith
+      schedules h i (Schedule (Action b) v d) c f e q = let x : cause (length plan.program.ports + b) (after h (min_delay plan.program b + d)) i ≡ c = cc in let y : length plan.program.ports + b ≡ length plan.program.ports + a = ap (λ (z : EventCause). z.name) x ∙ q in let l : b < length plan.program.actions = f.0 in omega arith
       schedules h i Stop c f e q = absurd (cc)
       schedules h i End c f e q = absurd (cc)
 
-      of_cause : (c : Cause) → IsCause plan t c → c.name ≡ length plan.program.ports + a → a < length plan.program.actions
+      of_cause : (c : EventCause) → IsCause plan t c → c.name ≡ length plan.program.ports + a → a < length plan.program.actions
       of_cause c (inl x) q = schedules x.row.tag x.place x.row.step c (fit.each x.place x.row x.is_row).step x.gives q
-      of_cause c (inr x) q = let y : length plan.program.ports + x.event.action ≡ length plan.program.ports + a = ap (λ (z : Cause). z.name) x.gives ∙ q in let l : x.event.action < length plan.program.actions = (sound.fit.each x.place x.event x.is_event).action in omega arith
+      of_cause c (inr x) q = let y : length plan.program.ports + x.event.action ≡ length plan.program.ports + a = ap (λ (z : EventCause). z.name) x.gives ∙ q in let l : x.event.action < length plan.program.actions = (sound.fit.each x.place x.event x.is_event).action in omega arith
 
       go : IsTwo plan t g a → a < length plan.program.actions
       go k = of_cause k.first k.is_first k.first_leads.0

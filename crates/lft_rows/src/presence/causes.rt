@@ -2,7 +2,7 @@
 
 ghost use Rattle.std.specs.Prelude.{◌≡◌, Some, IsTrue, ◌↔◌, slice_get};
 ghost use Rattle.lft_tag.specs.Shifts.{shifted};
-ghost use Rattle.lft_rows.specs.declared.presence.causes.Cause.{Cause as TheCause};
+ghost use Rattle.lft_rows.specs.declared.presence.causes.EventCause.{EventCause as TheCause};
 ghost use Rattle.lft_rows.specs.inner.Presence.Causes.{IsNear, AreNear, AreAscending, LiesBelow, IsPosition, IsSkip, Leads, tag_of};
 
 use lft_lists::item_at;
@@ -12,7 +12,7 @@ use lft_tag::{Shift, Tag};
 /// of an event. Causes are ordered by their fields as these stand.
 // 24 bytes each: a cause tells where its value stands and not the value.
 #[derive(Clone, Copy, PartialEq, Eq, PartialOrd, Ord, Drop)]
-pub struct Cause {
+pub struct EventCause {
     /// The number of the port; for an action, the number of all ports and its own number.
     pub name: u32,
     /// The tag at which the port is written, or at which the action has its event.
@@ -23,7 +23,7 @@ pub struct Cause {
 }
 
 /// The tag at which the cause stands.
-pub fn cause_tag(cause: Cause) -> Tag
+pub fn cause_tag(cause: EventCause) -> Tag
     ensures { result ≡ tag_of cause }
 {
     Tag {
@@ -52,7 +52,7 @@ pub fn moved(tag: Tag, shift: Shift) -> Tag
 
 /// Whether the cause is of a lesser name, or is of the name and leads to an earlier tag; or to the
 /// tag itself, where `past` asks for these too.
-fn lies_below(cause: Cause, name: u32, shift: Shift, tag: Tag, past: bool) -> bool
+fn lies_below(cause: EventCause, name: u32, shift: Shift, tag: Tag, past: bool) -> bool
     requires { IsNear (tag_of cause) }
     ensures { IsTrue result ↔ LiesBelow name (shift.time, shift.steps) tag past cause }
 {
@@ -64,7 +64,7 @@ fn lies_below(cause: Cause, name: u32, shift: Shift, tag: Tag, past: bool) -> bo
 }
 
 /// Whether the cause is of the name and the shift leads from its tag to this one.
-pub(crate) fn leads(cause: Cause, name: u32, shift: Shift, tag: Tag) -> bool
+pub(crate) fn leads(cause: EventCause, name: u32, shift: Shift, tag: Tag) -> bool
     requires { IsNear (tag_of cause) }
     ensures { IsTrue result ↔ Leads name (shift.time, shift.steps) tag cause }
 {
@@ -73,7 +73,7 @@ pub(crate) fn leads(cause: Cause, name: u32, shift: Shift, tag: Tag) -> bool
 
 /// How many causes are of a lesser name, or of the name and lead to an earlier tag; or to the tag
 /// itself, where `past` asks for these too. They stand first.
-pub fn position(causes: &[Cause], name: u32, shift: Shift, tag: Tag, past: bool) -> usize
+pub fn position(causes: &[EventCause], name: u32, shift: Shift, tag: Tag, past: bool) -> usize
     requires ascending { AreAscending causes.now }
     requires near { AreNear causes.now }
     ensures { IsPosition causes.now name (shift.time, shift.steps) tag past result }
@@ -93,7 +93,7 @@ pub fn position(causes: &[Cause], name: u32, shift: Shift, tag: Tag, past: bool)
 
 /// The first place past this one at which the cause leads to another tag. The next one mostly
 /// does, and where many lead to one tag they are passed over by a search.
-pub fn skip(causes: &[Cause], place: usize, name: u32, shift: Shift, tag: Tag) -> usize
+pub fn skip(causes: &[EventCause], place: usize, name: u32, shift: Shift, tag: Tag) -> usize
     requires ascending { AreAscending causes.now }
     requires near { AreNear causes.now }
     requires here { (c : TheCause) × (slice_get causes.now place ≡ Some c) × Leads name (shift.time, shift.steps) tag c }

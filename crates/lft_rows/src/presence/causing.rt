@@ -5,7 +5,7 @@ ghost use Rattle.lft_tag.specs.Tags.{IsRecorded};
 ghost use Rattle.lft_ir.specs.{Sound.IsNameOf, Steps.Fits.{RowFits, RowsFit, EventFits}};
 ghost use Rattle.lft_rows.specs.inner.Presence.Causes.{HasJust, IsRowCause, IsCause, AreCauses, write_cause, schedule_cause, step_cause, event_cause};
 
-use crate::presence::causes::Cause;
+use crate::presence::causes::EventCause;
 use lft_ir::steps::{Event, Row, Step, row_at};
 use lft_ir::{Name, Program};
 use lft_lists::item_at;
@@ -14,11 +14,11 @@ use lft_tag::{NoMemory, Tag};
 use std::alloc::Global;
 
 /// The cause that a write of the name at the tag is: of a port alone.
-fn of_write(tag: Tag, place: u32, name: Name) -> Option<Cause>
+fn of_write(tag: Tag, place: u32, name: Name) -> Option<EventCause>
     ensures { result ≡ write_cause tag place name }
 {
     match name {
-        Name::Port(port) => Some(Cause {
+        Name::Port(port) => Some(EventCause {
             name: port,
             time: tag.time,
             micro: tag.micro,
@@ -29,7 +29,13 @@ fn of_write(tag: Tag, place: u32, name: Name) -> Option<Cause>
 }
 
 /// The cause that a scheduling of the name at the tag is: of an action alone.
-fn of_schedule(program: &Program, tag: Tag, place: u32, extra: u64, name: Name) -> Option<Cause>
+fn of_schedule(
+    program: &Program,
+    tag: Tag,
+    place: u32,
+    extra: u64,
+    name: Name,
+) -> Option<EventCause>
     requires recorded { IsRecorded tag }
     requires extra { extra ≤ 1000000000000000000 }
     requires name { IsNameOf program.now name }
@@ -39,7 +45,7 @@ fn of_schedule(program: &Program, tag: Tag, place: u32, extra: u64, name: Name) 
         Name::Port(_) => None,
         Name::Action(action) => {
             let to = tag.after(program.action(action).min_delay, extra);
-            Some(Cause {
+            Some(EventCause {
                 name: program.ports() as u32 + action,
                 time: to.time,
                 micro: to.micro,
@@ -50,7 +56,7 @@ fn of_schedule(program: &Program, tag: Tag, place: u32, extra: u64, name: Name) 
 }
 
 /// The cause that the row at the place is, if it is one.
-fn of_row(program: &Program, place: u32, row: Row) -> Option<Cause>
+fn of_row(program: &Program, place: u32, row: Row) -> Option<EventCause>
     requires { RowFits program.now row }
     ensures { result ≡ step_cause program.now row.tag place row.step }
 {
@@ -65,11 +71,11 @@ fn of_row(program: &Program, place: u32, row: Row) -> Option<Cause>
 }
 
 /// The cause that an external event is. Its place is counted on from the rows.
-fn of_event(program: &Program, place: u32, event: Event) -> Cause
+fn of_event(program: &Program, place: u32, event: Event) -> EventCause
     requires { EventFits program.now event }
     ensures { result ≡ event_cause program.now place event }
 {
-    Cause {
+    EventCause {
         name: program.ports() as u32 + event.action,
         time: event.tag.time,
         micro: event.tag.micro,
@@ -78,7 +84,7 @@ fn of_event(program: &Program, place: u32, event: Event) -> Cause
 }
 
 /// The causes that rows are, in order of the rows.
-fn of_rows(alloc: Global, program: &Program, rows: &[Row]) -> Result<Vec<Cause>, NoMemory>
+fn of_rows(alloc: Global, program: &Program, rows: &[Row]) -> Result<Vec<EventCause>, NoMemory>
     requires { RowsFit program.now rows.now }
     ensures { IfOk result (λ causes. HasJust (IsRowCause program.now rows.now) causes.items) }
 {
@@ -92,7 +98,7 @@ fn of_rows(alloc: Global, program: &Program, rows: &[Row]) -> Result<Vec<Cause>,
 }
 
 /// Adds the causes that external events are.
-fn add_events(plan: &Plan, rows: &[Row], causes: &mut Vec<Cause>) -> Result<(), NoMemory>
+fn add_events(plan: &Plan, rows: &[Row], causes: &mut Vec<EventCause>) -> Result<(), NoMemory>
     requires fit { RowsFit plan.now.program rows.now }
     requires rows { HasJust (IsRowCause plan.now.program rows.now) causes.old.items }
     ensures { OnOk result (HasJust (IsCause plan.now rows.now) causes.new.items) }
@@ -108,7 +114,11 @@ fn add_events(plan: &Plan, rows: &[Row], causes: &mut Vec<Cause>) -> Result<(), 
 }
 
 /// The causes of a trace and of the external inputs, by name, tag and place.
-pub(crate) fn causes_of(alloc: Global, plan: &Plan, rows: &[Row]) -> Result<Vec<Cause>, NoMemory>
+pub(crate) fn causes_of(
+    alloc: Global,
+    plan: &Plan,
+    rows: &[Row],
+) -> Result<Vec<EventCause>, NoMemory>
     requires { RowsFit plan.now.program rows.now }
     ensures { IfOk result (λ causes. AreCauses plan.now rows.now causes.items) }
 {

@@ -6,7 +6,7 @@ ghost use Rattle.lft_model.specs.Presence.{stop as the_stop, PortClash};
 ghost use Rattle.lft_rows.specs.inner.Presence.{Causes.AreCauses, Clashes.{AreDoubles, HasTwo, PortsClash, ActionsClash}, Traces.IsSooner};
 ghost use Rattle.lft_rows.specs.Presence.{Clashes.IsClash, Traces.LeastTag};
 
-use crate::presence::causes::{Cause, cause_tag, moved};
+use crate::presence::causes::{EventCause, cause_tag, moved};
 use crate::presence::pairs::first_pair;
 use lft_ir::steps::Row;
 use lft_lists::item_at;
@@ -30,8 +30,8 @@ fn doubles_of(
     alloc: Global,
     plan: &Plan,
     rows: &[Row],
-    causes: &[Cause],
-) -> Result<Vec<Option<Cause>>, NoMemory>
+    causes: &[EventCause],
+) -> Result<Vec<Option<EventCause>>, NoMemory>
     requires { AreCauses plan.now rows.now causes.now }
     ensures { IfOk result (λ doubles. AreDoubles causes.now (length plan.now.program.ports) doubles.items) }
 {
@@ -47,8 +47,8 @@ fn doubles_of(
 fn port_clash(
     plan: &Plan,
     rows: &[Row],
-    causes: &[Cause],
-    doubles: &[Option<Cause>],
+    causes: &[EventCause],
+    doubles: &[Option<EventCause>],
     number: u32,
 ) -> Option<Tag>
     requires causes { AreCauses plan.now rows.now causes.now }
@@ -67,7 +67,7 @@ fn port_clash(
 }
 
 /// The first tag at which two causes give the action an event.
-fn action_clash(plan: &Plan, rows: &[Row], causes: &[Cause], number: u32) -> Option<Tag>
+fn action_clash(plan: &Plan, rows: &[Row], causes: &[EventCause], number: u32) -> Option<Tag>
     requires causes { AreCauses plan.now rows.now causes.now }
     requires fit { RowsFit plan.now.program rows.now }
     requires number { number < length plan.now.program.actions }
@@ -84,8 +84,8 @@ fn action_clash(plan: &Plan, rows: &[Row], causes: &[Cause], number: u32) -> Opt
 fn ports_clash(
     plan: &Plan,
     rows: &[Row],
-    causes: &[Cause],
-    doubles: &[Option<Cause>],
+    causes: &[EventCause],
+    doubles: &[Option<EventCause>],
 ) -> Option<Tag>
     requires causes { AreCauses plan.now rows.now causes.now }
     requires doubles { AreDoubles causes.now (length plan.now.program.ports) doubles.now }
@@ -99,7 +99,7 @@ fn ports_clash(
 }
 
 /// The first tag at which two causes give an action an event.
-fn actions_clash(plan: &Plan, rows: &[Row], causes: &[Cause]) -> Option<Tag>
+fn actions_clash(plan: &Plan, rows: &[Row], causes: &[EventCause]) -> Option<Tag>
     requires causes { AreCauses plan.now rows.now causes.now }
     requires fit { RowsFit plan.now.program rows.now }
     ensures { LeastTag (ActionsClash plan.now rows.now (length plan.now.program.actions)) result }
@@ -117,7 +117,7 @@ pub(crate) fn clash_of(
     plan: &Plan,
     rows: &[Row],
     stop: Tag,
-    causes: &[Cause],
+    causes: &[EventCause],
 ) -> Result<Option<Tag>, NoMemory>
     requires causes { AreCauses plan.now rows.now causes.now }
     requires fit { RowsFit plan.now.program rows.now }

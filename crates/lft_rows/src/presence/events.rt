@@ -5,7 +5,7 @@ ghost use Rattle.lft_ir.specs.Steps.Fits.{RowsFit};
 ghost use Rattle.lft_model.specs.Presence.{stop as the_stop};
 ghost use Rattle.lft_rows.specs.{inner.Presence.{Causes.AreCauses, Traces.IsFitting}, Presence.Clashes.IsClash};
 
-use crate::presence::causes::Cause;
+use crate::presence::causes::EventCause;
 use crate::presence::causing::causes_of;
 use crate::presence::clashes::clash_of;
 use lft_ir::Program;
@@ -21,7 +21,7 @@ pub struct Presence<'a> {
     plan: &'a Plan,
     rows: &'a [Row],
     stop: Tag,
-    causes: Vec<Cause>,
+    causes: Vec<EventCause>,
     clash: Option<Tag>,
 }
 
@@ -45,7 +45,7 @@ impl<'a> Presence<'a> {
         plan: &'a Plan,
         rows: &'a [Row],
         stop: Tag,
-        causes: Vec<Cause>,
+        causes: Vec<EventCause>,
         clash: Option<Tag>,
     ) -> Presence<'a>
         requires { IsKept (record { plan = plan.now; rows = rows.now }) stop causes.items clash }
@@ -98,7 +98,7 @@ impl<'a> Presence<'a> {
     }
 
     /// The causes of events, by name, tag and place.
-    pub fn causes(&self) -> &[Cause]
+    pub fn causes(&self) -> &[EventCause]
         ensures { AreCauses self.now.plan self.now.rows result.now }
     {
         self.causes.as_slice()

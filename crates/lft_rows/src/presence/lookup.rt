@@ -7,12 +7,12 @@ ghost use Rattle.lft_model.specs.Plans.{PlanParts};
 ghost use Rattle.lft_rows.specs.inner.Presence.Causes.{tag_of, IsNear, AreAscending, AreNear, AreCauses, Leads, IsLastCause};
 ghost use Rattle.lft_rows.specs.inner.Presence.Lookups.{IsFirstCause, IsLastBefore, IsFirstAfter};
 
-use crate::presence::causes::{Cause, cause_tag, moved, position};
+use crate::presence::causes::{EventCause, cause_tag, moved, position};
 use lft_lists::item_at;
 use lft_tag::{Shift, Tag};
 
 /// Whether the cause is of the key and the shift leads from its tag to this one.
-fn leads(cause: Cause, key: u32, shift: Shift, tag: Tag) -> bool
+fn leads(cause: EventCause, key: u32, shift: Shift, tag: Tag) -> bool
     requires { IsNear (tag_of cause) }
     ensures { IsTrue result ↔ Leads key (shift.time, shift.steps) tag cause }
 {
@@ -20,7 +20,7 @@ fn leads(cause: Cause, key: u32, shift: Shift, tag: Tag) -> bool
 }
 
 /// Of the causes of the key from whose tags the shift leads to the tag the first.
-pub fn first_cause(causes: &[Cause], key: u32, shift: Shift, tag: Tag) -> Option<Cause>
+pub fn first_cause(causes: &[EventCause], key: u32, shift: Shift, tag: Tag) -> Option<EventCause>
     requires ascending { AreAscending causes.now }
     requires near { AreNear causes.now }
     ensures { (plan : PlanParts) (t : List TheRow) → AreCauses plan t causes.now → IsFirstCause plan t key (shift.time, shift.steps) tag result }
@@ -38,7 +38,7 @@ pub fn first_cause(causes: &[Cause], key: u32, shift: Shift, tag: Tag) -> Option
 }
 
 /// Of the causes of the key from whose tags the shift leads to the tag the last.
-pub fn last_cause(causes: &[Cause], key: u32, shift: Shift, tag: Tag) -> Option<Cause>
+pub fn last_cause(causes: &[EventCause], key: u32, shift: Shift, tag: Tag) -> Option<EventCause>
     requires ascending { AreAscending causes.now }
     requires near { AreNear causes.now }
     ensures { (plan : PlanParts) (t : List TheRow) → AreCauses plan t causes.now → IsLastCause plan t key (shift.time, shift.steps) tag result }
@@ -56,7 +56,7 @@ pub fn last_cause(causes: &[Cause], key: u32, shift: Shift, tag: Tag) -> Option<
 }
 
 /// Of the causes of the key from whose tags the shift leads to an earlier tag the last.
-pub fn last_before(causes: &[Cause], key: u32, shift: Shift, tag: Tag) -> Option<Cause>
+pub fn last_before(causes: &[EventCause], key: u32, shift: Shift, tag: Tag) -> Option<EventCause>
     requires ascending { AreAscending causes.now }
     requires near { AreNear causes.now }
     ensures { (plan : PlanParts) (t : List TheRow) → AreCauses plan t causes.now → IsLastBefore plan t key (shift.time, shift.steps) tag result }
@@ -70,7 +70,7 @@ pub fn last_before(causes: &[Cause], key: u32, shift: Shift, tag: Tag) -> Option
 }
 
 /// Of the causes of the key from whose tags the shift leads to a later tag the first.
-pub fn first_after(causes: &[Cause], key: u32, shift: Shift, tag: Tag) -> Option<Cause>
+pub fn first_after(causes: &[EventCause], key: u32, shift: Shift, tag: Tag) -> Option<EventCause>
     requires ascending { AreAscending causes.now }
     requires near { AreNear causes.now }
     ensures { (plan : PlanParts) (t : List TheRow) → AreCauses plan t causes.now → IsFirstAfter plan t key (shift.time, shift.steps) tag result }

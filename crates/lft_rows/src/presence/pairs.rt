@@ -4,13 +4,13 @@
 ghost use Rattle.std.specs.Prelude.{IsTrue, ◌↔◌};
 ghost use Rattle.lft_rows.specs.inner.Presence.{Causes.{AreAscending, AreNear}, Clashes.{IsPair, IsFirstPair}};
 
-use crate::presence::causes::{Cause, position};
+use crate::presence::causes::{EventCause, position};
 use lft_lists::item_at;
 use lft_tag::{Shift, Tag};
 
 /// Whether the two are causes of the name that lead to one tag: of a port two tags of one time, of
 /// an action two places of one tag.
-fn is_pair(x: Cause, y: Cause, name: u32, ports: bool) -> bool
+fn is_pair(x: EventCause, y: EventCause, name: u32, ports: bool) -> bool
     ensures { IsTrue result ↔ IsPair ports name x y }
 {
     if x.name != name || y.name != name || x.time != y.time {
@@ -24,7 +24,7 @@ fn is_pair(x: Cause, y: Cause, name: u32, ports: bool) -> bool
 
 /// The later cause of the first pair of causes of the name that lead to one tag. A port's causes
 /// are asked about their times alone, since a shift with a time leads all tags of one time to one.
-pub(crate) fn first_pair(causes: &[Cause], name: u32, ports: bool) -> Option<Cause>
+pub(crate) fn first_pair(causes: &[EventCause], name: u32, ports: bool) -> Option<EventCause>
     requires ascending { AreAscending causes.now }
     requires near { AreNear causes.now }
     ensures { IsFirstPair causes.now ports name result }

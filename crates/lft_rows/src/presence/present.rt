@@ -5,7 +5,7 @@ ghost use Rattle.lft_ir.specs.Sound.{IsNameOf};
 ghost use Rattle.lft_model.specs.Presence.{At, IsPresent};
 ghost use Rattle.lft_rows.specs.inner.Presence.Causes.{IsCause, IsLastCause, IsValueFrom, Carries, value_of as the_value_of};
 
-use crate::presence::causes::{Cause, leads, position};
+use crate::presence::causes::{EventCause, leads, position};
 use crate::presence::events::Presence;
 use lft_ir::steps::{Step, row_at};
 use lft_ir::{Name, Value};
@@ -28,7 +28,7 @@ fn value_of(step: &Step) -> Option<Value>
 
 impl<'a> Presence<'a> {
     /// The last of the causes of the name from whose tags the shift leads to the tag.
-    fn last_cause(&self, name: u32, shift: Shift, tag: Tag) -> Option<Cause>
+    fn last_cause(&self, name: u32, shift: Shift, tag: Tag) -> Option<EventCause>
         ensures { IsLastCause self.now.plan self.now.rows name (shift.time, shift.steps) tag result }
     {
         let causes = self.causes();
@@ -45,7 +45,7 @@ impl<'a> Presence<'a> {
     }
 
     /// The value that stands at the place of the cause.
-    fn carried(&self, cause: Cause) -> Option<Value>
+    fn carried(&self, cause: EventCause) -> Option<Value>
         requires { IsCause self.now.plan self.now.rows cause }
         ensures { Carries self.now.plan self.now.rows cause result }
     {

@@ -1,7 +1,7 @@
 -- The places of a bank's multiport, by numbers and by names.
 use Rattle.std.proofs.Common.{◌≡◌, ℕ, Bool, true, false, List, [], ◌∷◌, ◌++◌, map, refl, sym, ap, ◌∙◌}
 use Rattle.std.proofs.lemmas.List.{map-append}
-use Rattle.lft_elaborate.specs.Channels.Channels.{below, places}
+use Rattle.lft_elaborate.specs.{Channels.Channels.below, inner.Channels.Channels.places}
 use Rattle.lft_same.specs.Expanded.Whole.{crossed}
 
 -- of counts they are crossed numbers

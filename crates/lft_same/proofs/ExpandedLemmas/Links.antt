@@ -2,7 +2,7 @@
 use Rattle.std.proofs.Common.{◌≡◌, inl, inr, ℕ, Bool, true, false, List, [], ◌∷◌, ◌++◌, map, flat_map, filter_map, Option, Some, option_map, refl, sym, ap, ◌∙◌}
 use Rattle.std.{specs.{List.{zip, cons_option}, Option.option_and_then}, proofs.lemmas.List.append-nil}
 use Rattle.lft_lists.proofs.Members.{Mem, mem_from_flat, mem_get}
-use Rattle.lft_elaborate.specs.Channels.Lowered.{AreJoined, single}
+use Rattle.lft_elaborate.specs.inner.Channels.Lowered.{AreJoined, single}
 use Rattle.lft_tree.specs.Tree.{RefTree, TimeTree, ConnectionTree}
 use Rattle.lft_resolve.specs.Instances.{Inside, Thing, stands_for, time_in}
 use Rattle.lft_same.specs.{Expanded.{Expanded.Link, Whole.pairs}, inner.Expanded.Core.{link_of, core_links}}

@@ -4,7 +4,7 @@ use Rattle.std.specs.List.{flat_map, zip}
 use Rattle.std.proofs.lemmas.{Nat.{div_below, div-add-mod'}, List.{length-map, map-append}, Option.slice_get_within, Slice.Zip.length-zip}
 use Rattle.lft_lists.proofs.{Places.{get_left, get_right, same_items}, Mapped.{mapped, pair_at}}
 use Rattle.lft_tree.specs.Tree.{RefTree, TimeTree, ConnectionTree}
-use Rattle.lft_elaborate.specs.Channels.{Channels.{joined, source}, Lowered.{AreJoined, single}}
+use Rattle.lft_elaborate.specs.inner.Channels.{Channels.{joined, source}, Lowered.{AreJoined, single}}
 use Rattle.lft_same.specs.Expanded.Whole.{pairs}
 
 -- a list over and over

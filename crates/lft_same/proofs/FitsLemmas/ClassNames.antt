@@ -7,8 +7,8 @@ use Rattle.std.proofs.lemmas.{Option.{get_or_from_slice_get, slice_get-get_or, s
 use Rattle.lft_lists.proofs.Mapped.{mapped_from, option_map_some, pair_at}
 use Rattle.lft_lists.proofs.{Members.{mem_get, get_mem, mem_filter, mem_flat, mem_from_filter, mem_from_flat, Mem}, Places.Some_same}
 use Rattle.lft_whole.specs.declared.{sources.source.SourceFile.SourceFile, tree.{ImportedName.ImportedName, Name.Name, Reactor.Reactor}}
-use Rattle.lft_classes.specs.{declared.scopes.Class.Class, Scopes.{AreScopes, IsImport, IsImported, IsMeant, IsOf, IsOwn, meaning_in, number_in, reactors_in}}
-use Rattle.lft_classes.specs.inner.Scopes.{reactors_before}
+use Rattle.lft_classes.specs.declared.scopes.Class.{Class}
+use Rattle.lft_classes.specs.inner.Scopes.{AreScopes, IsImport, IsImported, IsMeant, IsOf, IsOwn, meaning_in, number_in, reactors_in, reactors_before}
 use Rattle.lft_classes.proofs.Numbering.{at_file, file_of}
 use Rattle.lft_same.specs.{Expanded.Reactors.{class_named, imported_by, imported_class, is_called, is_named, own_class, reactor_of}, inner.Fits.Fits.number_at}
 use Rattle.lft_same.proofs.ExpandedLemmas.Flattened.{unzip}

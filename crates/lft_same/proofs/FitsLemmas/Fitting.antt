@@ -5,17 +5,17 @@ use Rattle.std.specs.{Option.option_and_then, List.range_with_len}
 use Rattle.lft_lists.proofs.{Mapped.mapped, Places.{Some_same, get_there}}
 use Rattle.lft_whole.specs.declared.sources.source.SourceFile.{SourceFile}
 use Rattle.lft_whole.specs.declared.tree.{Assignment.Assignment, Expression.Expression, Instance.Instance, Parameter.Parameter, Value.Value}
-use Rattle.lft_classes.specs.{declared.shapes.{Child.Child, InheritedParameter.InheritedParameter, Shape.Shape, Thing.Thing}, Built.located_parameters}
-use Rattle.lft_classes.specs.Shapes.{child_at, thing_named}
+use Rattle.lft_classes.specs.declared.shapes.{Child.Child, InheritedParameter.InheritedParameter, Shape.Shape, OwnThing.OwnThing}
+use Rattle.lft_classes.specs.inner.{Built.located_parameters, Shapes.{child_at, thing_named}}
 use Rattle.lft_elaborate.specs.Channels.Channels.{below}
-use Rattle.lft_elaborate.specs.Values.{Valued, chosen, default_at, default_written, given_to, inside, is_sized, literal, main_setting, main_value, number_in, number_of, setting_of, value_inside}
+use Rattle.lft_elaborate.specs.inner.Values.{Valued, chosen, default_at, default_written, given_to, inside, is_sized, literal, main_setting, main_value, number_in, number_of, setting_of, value_inside}
 use Rattle.lft_same.specs.Expanded.Instances.{Inside, default_of, given_in, given_or_default, inside_of, main_instance, read_in, value_named}
 use Rattle.lft_same.specs.Expanded.Reactors.{class_named, is_named, parameters_of}
 use Rattle.lft_same.specs.inner.Fits.Fits.{Fits, IsShapeOf}
 use Rattle.lft_same.proofs.FitsLemmas.{Giving.IsGivenBy, MemberNames.value_found}
 use Rattle.lft_program.proofs.Zipping.{then_some}
 use Rattle.lft_whole.specs.declared.tree.Value.TheVariants as value
-use Rattle.lft_classes.specs.declared.shapes.Thing.TheVariants as thing
+use Rattle.lft_classes.specs.declared.shapes.OwnThing.TheVariants as thing
 
 -- a number that is written or named is that of the value that is read
 pub number_fits : (files : List SourceFile) (shapes : List Shape) (t : Valued) (x : Inside) (fits : Fits files shapes t x) (v : Value) (n : ℤ) → number_in fits.shape t.values v ≡ Some n → (w : Value) × (read_in files x v ≡ Some w) × (literal w ≡ Some n)
@@ -27,7 +27,7 @@ number_fits files shapes t x fits (value.Word q) n e =
     sized p false is f = absurd (cc)
     sized p true is f = let o = then_some (λ (v : Option ℤ). v) (slice_get t.values p) n f in (is, o.1 ∙ ap Some o.2)
 
-    go : (th : Thing) → thing_named fits.shape (string_bytes q) ≡ Some th → number_of fits.shape t.values th ≡ Some n → (w : Value) × (value_named files x (string_bytes q) ≡ Some w) × (literal w ≡ Some n)
+    go : (th : OwnThing) → thing_named fits.shape (string_bytes q) ≡ Some th → number_of fits.shape t.values th ≡ Some n → (w : Value) × (value_named files x (string_bytes q) ≡ Some w) × (literal w ≡ Some n)
     go (thing.Member m) is f = absurd (cc)
     go (thing.Parameter p) is f =
         let s = sized p (is_sized fits.shape p) refl f in

@@ -1,8 +1,8 @@
 -- Where each width of a program is found, its instances have these widths.
 use Rattle.std.proofs.Common.{◌≡◌, ℕ, List, Some}
 use Rattle.lft_whole.specs.declared.sources.source.SourceFile.{SourceFile}
-use Rattle.lft_classes.specs.{declared.nesting.Nesting.Nesting, Nestings.IsNesting}
-use Rattle.lft_elaborate.specs.{Used.main as reached_main, Values.{Valued, main_setting}}
+use Rattle.lft_classes.specs.{declared.nesting.Nesting.Nesting, inner.Nestings.IsNesting}
+use Rattle.lft_elaborate.specs.inner.{Used.main as reached_main, Values.{Valued, main_setting}}
 use Rattle.lft_same.specs.{Expanded.{Instances.Widths, Whole.AreWidths}, inner.Fits.Widths.{AreFound, AreThose}}
 use Rattle.lft_same.proofs.FitsLemmas.{Nested.{exists_law, inside_law, instance_law, main_law}, Widths.{AreNested, are_widths, width_is, widths_to}}
 

@@ -5,21 +5,21 @@ use native.Mathlib.Decide.{dec_lt}
 use Rattle.std.proofs.lemmas.{Bool.Decides.eqb_tells, Slice.Eq.bytes_eq-Decides}
 use Rattle.lft_lists.proofs.{Members.{Mem, contains_mem, get_mem, mem_contains}, Places.Some_same}
 use Rattle.lft_whole.specs.declared.{sources.source.SourceFile.SourceFile, tree.{Assignment.Assignment, Expression.Expression, Instance.Instance, Value.Value}}
-use Rattle.lft_classes.specs.{declared.shapes.{Child.Child, Given.Given, InheritedParameter.InheritedParameter, Shape.Shape}, Shapes.thing_named}
-use Rattle.lft_classes.specs.{Built.AreGiven, Circles.GivesOnce}
-use Rattle.lft_elaborate.specs.Values.{given_to}
+use Rattle.lft_classes.specs.declared.shapes.{Child.Child, GivenValue.GivenValue, InheritedParameter.InheritedParameter, Shape.Shape}
+use Rattle.lft_classes.specs.inner.{Shapes.thing_named, Built.AreGiven, Circles.GivesOnce}
+use Rattle.lft_elaborate.specs.inner.Values.{given_to}
 use Rattle.lft_same.{specs.{Expanded.Reactors.is_named, inner.Fits.Fits.IsShapeOf}, proofs.FitsLemmas.ClassNames.named_so}
-use Rattle.lft_classes.specs.declared.shapes.Thing.TheVariants as thing
+use Rattle.lft_classes.specs.declared.shapes.OwnThing.TheVariants as thing
 
 -- what is given to a parameter is noted
-to_some : (gs : List Given) (p : ℕ) (v : Value) → given_to gs p ≡ Some v → (g : Given) × Mem g gs × (g.parameter ≡ p) × (g.value.now.value ≡ v)
+to_some : (gs : List GivenValue) (p : ℕ) (v : Value) → given_to gs p ≡ Some v → (g : GivenValue) × Mem g gs × (g.parameter ≡ p) × (g.value.now.value ≡ v)
 to_some [] p v e = absurd (cc)
 to_some (g ∷ gs) p v e = elim (eqb_tells g.parameter p) [
   | inl same ↦ (g, inl refl, same.1, Some_same g.value.now.value v (sym (ap (λ (b : Bool). if b then Some g.value.now.value else given_to gs p) same.0) ∙ e))
   | inr other ↦ let r = to_some gs p v (sym (ap (λ (b : Bool). if b then Some g.value.now.value else given_to gs p) other.0) ∙ e) in (r.0, inr r.1, r.2, r.3)
 ]
 
-to_none : (gs : List Given) (p : ℕ) (g : Given) → given_to gs p ≡ None → Mem g gs → g.parameter ≡ p → ⊥
+to_none : (gs : List GivenValue) (p : ℕ) (g : GivenValue) → given_to gs p ≡ None → Mem g gs → g.parameter ≡ p → ⊥
 to_none [] p g e m is = absurd m
 to_none (h ∷ gs) p g e m is = elim (eqb_tells h.parameter p) [
   | inl same ↦ (let s : Some h.value.now.value ≡ None = sym (ap (λ (b : Bool). if b then Some h.value.now.value else given_to gs p) same.0) ∙ e in cc)
@@ -27,7 +27,7 @@ to_none (h ∷ gs) p g e m is = elim (eqb_tells h.parameter p) [
 ]
   where
     go : ((h.parameter ≡ p) → ⊥) → (Mem g gs → g.parameter ≡ p → ⊥) → (h ≡ g) ⊎ Mem g gs → ⊥
-    go differs rest (inl q) = differs (ap (λ (k : Given). k.parameter) q ∙ is)
+    go differs rest (inl q) = differs (ap (λ (k : GivenValue). k.parameter) q ∙ is)
     go differs rest (inr n) = rest n is
 
 -- what a search finds, and what it doesn't
@@ -72,7 +72,7 @@ given_by files inner c is child i once are p ip at = go (find (λ a. is_named (s
     means = (is.names (string_bytes ip.parameter.now.name.text) (thing.Parameter p)).1 (ip, at, refl)
 
     -- what is noted for the parameter is written for its name
-    named_p : (g : Given) → Mem g child.given.items → g.parameter ≡ p → (a : Assignment) × Mem a i.given.items × (string_bytes a.name.text ≡ string_bytes ip.parameter.now.name.text) × (g.value.now ≡ a.value)
+    named_p : (g : GivenValue) → Mem g child.given.items → g.parameter ≡ p → (a : Assignment) × Mem a i.given.items × (string_bytes a.name.text ≡ string_bytes ip.parameter.now.name.text) × (g.value.now ≡ a.value)
     named_p g m e =
         let a = are.each g (mem_contains g child.given.items m) in
         let h = (is.names (string_bytes a.0.name.text) (thing.Parameter g.parameter)).0 a.2.0 in

@@ -5,7 +5,7 @@ use Rattle.std.proofs.lemmas.{Bool.true≢false, List.{append-nil, map-append}, 
 use Rattle.lft_lists.proofs.Members.{Mem, get_mem, mem_cases, mem_from_flat, mem_from_map, mem_get, mem_left, mem_map, mem_right}
 use Rattle.lft_resolve.proofs.ExpansionLemmas.Pairs.{Pairs}
 use Rattle.lft_whole.specs.declared.sources.source.SourceFile.{SourceFile}
-use Rattle.lft_classes.specs.Walks.{Has, Lists, no_more, again, new}
+use Rattle.lft_classes.specs.inner.Walks.{Has, Lists, no_more, again, new}
 use Rattle.lft_same.specs.Expanded.Reactors.{Class, bases_of, each_once, lineage_to, same_class}
 
 -- ---- lists of numbers, in which each stands once

@@ -4,12 +4,12 @@ use Rattle.std.specs.Prelude.{if◌then◌else◌, string_bytes}
 use Rattle.std.{specs.{List.position, Option.option_map_or}, proofs.lemmas.Slice.Eq.bytes_eq-Decides}
 use Rattle.lft_lists.proofs.Mapped.{mapped, mapped_from}
 use Rattle.lft_whole.specs.declared.{sources.source.SourceFile.SourceFile, tree.{Member.Member, Name.Name, Parameter.Parameter, Value.Value}}
-use Rattle.lft_classes.specs.{declared.shapes.{Inherited.Inherited, InheritedParameter.InheritedParameter, Shape.Shape}, Built.located_parameters}
-use Rattle.lft_classes.specs.Shapes.{name_of, thing_named}
+use Rattle.lft_classes.specs.declared.shapes.{Inherited.Inherited, InheritedParameter.InheritedParameter, Shape.Shape}
+use Rattle.lft_classes.specs.{inner.{Built.located_parameters, Shapes.thing_named}, Shapes.name_of}
 use Rattle.lft_same.specs.Expanded.{Instances.{Inside, place_named, value_at, value_named}, Reactors.{is_named, members_of, parameters_of}}
 use Rattle.lft_same.specs.inner.Fits.Fits.{IsShapeOf}
 use Rattle.lft_same.proofs.FitsLemmas.ClassNames.{called, called_so, named_so, position_found, position_lost}
-use Rattle.lft_classes.specs.declared.shapes.Thing.TheVariants as thing
+use Rattle.lft_classes.specs.declared.shapes.OwnThing.TheVariants as thing
 
 -- the member has the name
 abbrev pub has_name : List ℕ → ℕ × Member → Bool

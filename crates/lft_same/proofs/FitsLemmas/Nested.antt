@@ -5,11 +5,11 @@ use Rattle.std.specs.{List.position, Option.option_and_then}
 use Rattle.lft_lists.proofs.{Mapped.{mapped, mapped_from, option_map_some}, Places.Some_same}
 use Rattle.lft_whole.specs.declared.{sources.source.SourceFile.SourceFile, tree.{Instance.Instance, Member.Member, Reactor.Reactor}}
 use Rattle.lft_classes.specs.declared.{nesting.Nesting.Nesting, scopes.Class.Class as ScopesClass, shapes.{Child.Child, Inherited.Inherited, Shape.Shape}}
-use Rattle.lft_classes.specs.{Built.{AreGiven, Core, IsInside, core, cores, instance_of}, Circles.GivesOnce, Nestings.IsNesting}
-use Rattle.lft_classes.specs.{Scopes.{AreScopes, IsMain, reactors_in}, inner.Scopes.reactors_before}
-use Rattle.lft_classes.specs.Shapes.{child_at, child_in, inside as noted_inside, tables, thing_named}
+use Rattle.lft_classes.specs.inner.{Built.{AreGiven, Core, IsInside, core, cores, instance_of}, Circles.GivesOnce, Nestings.IsNesting}
+use Rattle.lft_classes.specs.inner.Scopes.{AreScopes, IsMain, reactors_in, reactors_before}
+use Rattle.lft_classes.specs.inner.Shapes.{child_at, child_in, inside as noted_inside, tables, thing_named}
 use Rattle.lft_classes.proofs.Numbering.{at_file}
-use Rattle.lft_elaborate.specs.Values.{Valued, inside, main_setting, setting_of, values_inside}
+use Rattle.lft_elaborate.specs.inner.Values.{Valued, inside, main_setting, setting_of, values_inside}
 use Rattle.lft_program.proofs.Zipping.{then_some}
 use Rattle.lft_same.specs.Expanded.{Instances.{Inside, given_in, inside_of, main_instance}, Reactors.{Class, class_named, main_of, members_of, parameters_of}}
 use Rattle.lft_same.specs.inner.Fits.Fits.{Fits, IsShapeOf, number_at}

@@ -4,12 +4,13 @@ use Rattle.std.specs.Option.{option_and_then}
 use Rattle.lft_lists.proofs.{Mapped.option_map_some, Places.Some_same}
 use Rattle.lft_program.proofs.Zipping.{then_some}
 use Rattle.lft_whole.specs.declared.tree.Member.{Member}
-use Rattle.lft_classes.specs.{declared.shapes.{Child.Child, Inherited.Inherited, Shape.Shape, Thing.Thing}, Shapes.{child_at, thing_named}}
-use Rattle.lft_elaborate.specs.Meanings.{if_port, meaning_named, port_behind, port_in, port_number, port_of, shape_inside}
-use Rattle.lft_elaborate.specs.{Values.{Valued, inside, setting_of, values_inside}, declared.meanings.Meaning.Meaning}
+use Rattle.lft_classes.specs.{declared.shapes.{Child.Child, Inherited.Inherited, Shape.Shape, OwnThing.OwnThing}, inner.Shapes.{child_at, thing_named}}
+use Rattle.lft_elaborate.specs.inner.Meanings.{if_port, meaning_named, port_behind, port_in, port_number, port_of, shape_inside}
+use Rattle.lft_elaborate.specs.inner.Values.{Valued, inside, setting_of, values_inside}
+use Rattle.lft_elaborate.specs.declared.meanings.Meaning.{Meaning}
 use Rattle.lft_elaborate.specs.declared.meanings.Meaning.TheVariants as meaning
 use Rattle.lft_whole.specs.declared.tree.Member.TheVariants as member
-use Rattle.lft_classes.specs.declared.shapes.Thing.TheVariants as thing
+use Rattle.lft_classes.specs.declared.shapes.OwnThing.TheVariants as thing
 
 -- the shape in an instance is that of the setting in it
 pub shape_is_inside : (shapes : List Shape) (n : ℕ) (t u : Valued) (shape inner : Shape) → slice_get shapes t.shape ≡ Some shape → inside shapes t n ≡ Some u → slice_get shapes u.shape ≡ Some inner → shape_inside shapes shape n ≡ Some inner
@@ -38,7 +39,7 @@ named_port shape p port is = let t = then_some (port_number shape) (thing_named 
     numbered n (member.Connection q) e = absurd (cc)
     numbered n (member.Foreign what q) e = absurd (cc)
 
-    one : (t : Thing) → port_number shape t ≡ Some port → t ≡ thing.Member port
+    one : (t : OwnThing) → port_number shape t ≡ Some port → t ≡ thing.Member port
     one (thing.Parameter n) e = absurd (cc)
     one (thing.Member n) e = let r = then_some (λ (m : Inherited). if_port n m.member.now) (slice_get shape.members.items n) port e in ap thing.Member (numbered n r.0.member.now r.2)
 
@@ -55,7 +56,7 @@ pub record IsPort (shapes : List Shape) (shape : Shape) (q p : List ℕ) (z : Me
 pub port_is : (shapes : List Shape) (shape : Shape) (q p : List ℕ) (z : Meaning) → meaning_named shapes shape q (Some p) ≡ Some z → IsPort shapes shape q p z
 port_is shapes shape q p z e = let t = then_some (port_behind shapes shape p) (thing_named shape q) z e in by t.0 t.1 t.2
   where
-    by : (t : Thing) → thing_named shape q ≡ Some t → port_behind shapes shape p t ≡ Some z → IsPort shapes shape q p z
+    by : (t : OwnThing) → thing_named shape q ≡ Some t → port_behind shapes shape p t ≡ Some z → IsPort shapes shape q p z
     by (thing.Parameter n) is f = absurd (cc)
     by (thing.Member m) is f =
         let i = then_some (port_of m p) (shape_inside shapes shape m) z f in

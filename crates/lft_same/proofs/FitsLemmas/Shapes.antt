@@ -10,10 +10,10 @@ use Rattle.lft_resolve.proofs.ExpansionLemmas.{Pairs.Pairs, Unique.pairs_from}
 use Rattle.lft_program.proofs.Zipping.{then_some}
 use Rattle.lft_whole.specs.declared.{sources.source.SourceFile.SourceFile, tree.{Member.Member, Name.Name, Parameter.Parameter, Reactor.Reactor}}
 use Rattle.lft_classes.specs.declared.{scopes.Class.Class as ScopesClass, shapes.Shape.Shape}
-use Rattle.lft_classes.specs.Built.{IsBuilt, core, members_at, members_or_none, parameters_at, parameters_or_none}
-use Rattle.lft_classes.specs.Chains.{IsChain, base_in, base_of, bases_in, bases_of as numbered_bases, extended}
-use Rattle.lft_classes.specs.{Scopes.{AreScopes, class_at, reactors_in, reactors_of}, inner.Scopes.reactors_before}
-use Rattle.lft_classes.specs.Walks.{IsBehind, Reaches, Ways, nothing, one, itself, further}
+use Rattle.lft_classes.specs.inner.Built.{IsBuilt, core, members_at, members_or_none, parameters_at, parameters_or_none}
+use Rattle.lft_classes.specs.inner.Chains.{IsChain, base_in, base_of, bases_in, bases_of as numbered_bases, extended}
+use Rattle.lft_classes.specs.inner.Scopes.{AreScopes, class_at, reactors_in, reactors_of, reactors_before}
+use Rattle.lft_classes.specs.inner.Walks.{IsBehind, Reaches, Ways, nothing, one, itself, further}
 use Rattle.lft_classes.proofs.{Decided.listed_before, Numbering.at_file}
 use Rattle.lft_same.specs.Expanded.Reactors.{Class, bases_of, class_named, lineage, reactor_count, reactor_of, same_class}
 use Rattle.lft_same.specs.inner.Fits.Fits.{IsShapeOf, number_at}

@@ -7,10 +7,12 @@ use Rattle.lft_lists.proofs.{Mapped.{mapped, mapped_from, option_map_some}, Memb
 use Rattle.lft_program.proofs.{Listing.enumerate_from_at, Zipping.then_some}
 use Rattle.lft_whole.specs.declared.sources.source.SourceFile.{SourceFile}
 use Rattle.lft_whole.specs.declared.tree.{Count.Count, Instance.Instance, Member.Member, Name.Name, Reference.Reference, Term.Term, Value.Value, Width.Width}
-use Rattle.lft_elaborate.specs.{Channels.Channels.below, Used.{IsReached, is_instance, is_instance_in, within}}
-use Rattle.lft_elaborate.specs.Places.{IsMany, capped, count_in as settings_count, how_many, how_many_inside, how_many_of, many, member_in, natural, parameter_in, places_in, places_of, plus, sum_in, times, width_in, written_width}
-use Rattle.lft_elaborate.specs.{Meanings.{meaning_named, meaning_of}, Values.{Valued, inside, literal, number_named}, declared.meanings.Meaning.Meaning}
-use Rattle.lft_classes.specs.{declared.shapes.{Inherited.Inherited, Shape.Shape, Thing.Thing}, Shapes.{name_of, thing_named, width_of}}
+use Rattle.lft_elaborate.specs.Channels.Channels.{below}
+use Rattle.lft_elaborate.specs.inner.Used.{IsReached, is_instance, is_instance_in, within}
+use Rattle.lft_elaborate.specs.inner.Places.{IsMany, capped, count_in as settings_count, how_many, how_many_inside, how_many_of, many, member_in, parameter_in, places_in, places_of, plus, sum_in, times, width_in, written_width}
+use Rattle.lft_elaborate.specs.inner.{Meanings.{meaning_named, meaning_of}, Values.{Valued, inside, literal, number_named}}
+use Rattle.lft_elaborate.specs.{Places.natural, declared.meanings.Meaning.Meaning}
+use Rattle.lft_classes.specs.{declared.shapes.{Inherited.Inherited, Shape.Shape, OwnThing.OwnThing}, Shapes.{name_of, width_of}, inner.Shapes.thing_named}
 use Rattle.lft_same.specs.Expanded.Instances.{Inner, Inside, Widths, entered, inners, inners_at, inside_of, main_instance, number_of, numbers, numbers_at, numbers_named, place_named, written}
 use Rattle.lft_same.specs.Expanded.{Reactors.{Class, main_of, members_of}, Whole.{AreWidths, channels, count_in, things_named, total}}
 use Rattle.lft_same.specs.inner.Fits.{Fits.Fits, Widths.{AreFound, small}}
@@ -20,7 +22,7 @@ use Rattle.lft_elaborate.specs.declared.meanings.Meaning.TheVariants as meaning
 use Rattle.lft_whole.specs.declared.tree.Count.TheVariants as count
 use Rattle.lft_whole.specs.declared.tree.Member.TheVariants as member
 use Rattle.lft_whole.specs.declared.tree.Value.TheVariants as value
-use Rattle.lft_classes.specs.declared.shapes.Thing.TheVariants as thing
+use Rattle.lft_classes.specs.declared.shapes.OwnThing.TheVariants as thing
 
 -- ---- small numbers
 
@@ -128,7 +130,7 @@ module _ (files : List SourceFile) (shapes : List Shape) (nested : AreNested fil
       ∙ member_long t x fits m n i.0 i.1 e l
 
   -- a thing of the reactor itself
-  own_long : (t : Valued) (x : Inside) (fits : Fits files shapes t x) (q : List ℕ) (th : Thing) (n : ℕ) → thing_named fits.shape q ≡ Some th → how_many_of shapes (width_in shapes depth) t th ≡ Some n → n < small → length (numbers_named files w x q) ≡ n
+  own_long : (t : Valued) (x : Inside) (fits : Fits files shapes t x) (q : List ℕ) (th : OwnThing) (n : ℕ) → thing_named fits.shape q ≡ Some th → how_many_of shapes (width_in shapes depth) t th ≡ Some n → n < small → length (numbers_named files w x q) ≡ n
   own_long t x fits q (thing.Member m) n is e l = named_long t x fits q m n is e l
   own_long t x fits q (thing.Parameter p) n is e l = ap (λ o. length (option_map_or (numbers_at files w x) o (None ∷ []))) (member_lost files fits.shape x fits.of_class q none) ∙ Some_same 1 n e
     where

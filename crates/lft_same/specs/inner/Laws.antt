@@ -5,9 +5,9 @@ use Rattle.lft_resolve.specs.{Causes.{NoneHolds, causes}, Instances.{Inside as C
 use Rattle.lft_program.specs.Flattening.{time_or_zero}
 use Rattle.lft_whole.specs.declared.{sources.source.SourceFile.SourceFile, tree.Instance.Instance}
 use Rattle.lft_classes.specs.declared.shapes.Shape.{Shape}
-use Rattle.lft_elaborate.specs.{Meanings.shape_inside, Values.{Valued, inside}}
-use Rattle.lft_lower.specs.{Meanings.Meanings.Here, Lowered.{AreGiven, IsPeriod, IsRead, period_at, time_at}}
-use Rattle.lft_lower.specs.Reactors.{AreShapes, IsLowering, timed_parameters}
+use Rattle.lft_elaborate.specs.inner.{Meanings.shape_inside, Values.{Valued, inside}}
+use Rattle.lft_lower.specs.inner.{Meanings.Meanings.Here, Lowered.{AreGiven, IsPeriod, IsRead, period_at, time_at}}
+use Rattle.lft_lower.specs.inner.Reactors.{AreShapes, IsLowering, timed_parameters}
 use Rattle.lft_same.specs.Expanded.{Instances.{Inside, inside_of, main_instance, period_in, time_in}, Reactors.{Class, main_of, members_of}, Same.IsSame}
 use Rattle.lft_same.specs.inner.{Expanded.Core.expanded_tree, Fits.Fits.Fits, Times.{HasTimes, IsKnown}}
 use Rattle.lft_whole.specs.declared.tree.Member.TheVariants as member

@@ -4,8 +4,7 @@ use Rattle.std.specs.{BTreeMap.{BTreeMap, get}, Ordering.{nat_cmp, ordering_then
 use Rattle.lft_tag.specs.Tags.{Before}
 use Rattle.lft_ir.specs.{Parts.Parts, Sound.IsTriggerOf}
 use Rattle.lft_ir.specs.declared.parts.{Port.Port as PortOf, Reaction.Reaction, Timer.Timer as TimerOf, Trigger.{Trigger, TheVariants.Timer}}
-use Rattle.lft_queue.specs.inner.Reading.{AreMarked}
-use Rattle.lft_queue.specs.inner.Coming.NumberLists.{list_at}
+use Rattle.lft_queue.specs.inner.{Reading.AreMarked, Coming.NumberLists.list_at}
 use Rattle.lft_scheduler.specs.inner.Listeners.{beat, IsLeader, IsListener, IsArrival, IsWatched, arrival, IsDelayed, IsFirstDelayed}
 use Rattle.lft_scheduler.specs.inner.Lists.{TriggerLists, list_of, HasList}
 

@@ -2,8 +2,7 @@
 use Rattle.std.specs.Prelude.{◌≡◌, ◌≢◌, ◌↔◌, ◌⊎◌, ◌<◌, ◌≤◌, ◌%◌, ℕ, List, Some, Contains, AllPairs, slice_get, length}
 use Rattle.lft_tag.specs.{declared.Tag.Tag, Tags.UpTo}
 use Rattle.lft_ir.specs.{Parts.Parts, declared.parts.{Port.Port as PortOf, Reaction.Reaction, Timer.Timer as TimerOf, Trigger.{Trigger, TheVariants.Timer}}}
-use Rattle.lft_queue.specs.inner.Reading.{Reads}
-use Rattle.lft_queue.specs.inner.Coming.NumberLists.{list_at}
+use Rattle.lft_queue.specs.inner.{Reading.Reads, Coming.NumberLists.list_at}
 use Rattle.lft_scheduler.specs.inner.Lists.{TriggerLists, list_of}
 
 -- the trigger triggers reaction r

@@ -5,7 +5,7 @@ use Rattle.lft_ir.specs.{Sound.IsNameOf, declared.{parts.{Name.Name, Value.Value
 use Rattle.lft_model.specs.{Plans.PlanParts, Presence.Shows}
 use Rattle.lft_queue.specs.{Pending.{Pending, value_of}, declared.coming.writes.Written.Written, inner.Coming.{AtOnce.{HasEvents, IsAwaited}, Writes.AreWrites}}
 use Rattle.lft_queue.specs.Coming.AtTag.{AreBefore, AreAt}
-use Rattle.lft_stream.specs.declared.presence.Presence.{Presence}
+use Rattle.lft_stream.specs.declared.presence.PresentNames.{PresentNames}
 
 -- of the rows u at g behind rows d, the last writes are kept, and the queue has what each name with events that somebody waits for shows at g
 pub record AreShown (plan : PlanParts) (d u : List Row) (g : Tag) (writes : List (Option Written)) (queue : List Pending) : Type 0 where
@@ -19,7 +19,7 @@ abbrev pub AreAllPresent : PlanParts → List Row → Tag → List Pending → L
 AreAllPresent plan u g queue names = (d : List Row) (writes : List (Option Written)) (n : Name) → AreShown plan d u g writes queue → IsNameOf plan.program n → IsAwaited plan.program n → Contains names n ⊎ Shows plan (d ++ u) g n None
 
 -- if it is known which names are present at g, these are all
-abbrev pub IsKnown : PlanParts → List Row → Tag → List Pending → Presence → Type 0
+abbrev pub IsKnown : PlanParts → List Row → Tag → List Pending → PresentNames → Type 0
 IsKnown plan u g queue presence = presence.is_known ≡ true → AreAllPresent plan u g queue presence.names.items
 
 -- what the rows at g read is present there

@@ -5,7 +5,7 @@ ghost use Rattle.lft_ir.specs.{declared.steps.row.Row.Row as TheRow, Steps.Fits.
 ghost use Rattle.lft_rows.specs.Accepted.{IsAccepted};
 ghost use Rattle.lft_stream.specs.inner.Kept.{IsAcceptorOf};
 
-use crate::{Acceptor, Counts};
+use crate::{Acceptor, RunCounts};
 use lft_ir::steps::{Row, Rows, row_at};
 use lft_model::Plan;
 use std::alloc::Global;
@@ -56,7 +56,7 @@ fn add_part(
 /// The counts of rows that are legal. None says nothing of them: they may break a rule, or memory may be
 /// refused, or too much is to be looked at.
 // Where rows are given up, only those before and the part with them were looked at.
-pub fn accepts_rows(alloc: Global, plan: &Plan, rows: &Rows) -> Option<Counts>
+pub fn accepts_rows(alloc: Global, plan: &Plan, rows: &Rows) -> Option<RunCounts>
     requires { RowsFit plan.now.program rows.now }
     ensures { IfSome result (λ c. IsAccepted plan.now rows.now c.runs c.tags) }
 {

@@ -8,7 +8,7 @@ ghost use Rattle.lft_trace.specs.{Records.records_of, Traces.Table, inner.Parts.
 ghost use Rattle.lft_rows.specs.Accepted.{IsAccepted};
 ghost use Rattle.lft_stream.specs.inner.Batches.Fronts.{IsFront, IsNextBehind, judged_rows};
 
-use crate::Counts;
+use crate::RunCounts;
 use crate::batches::text::{Front, add_batch, batch_bytes, reaction_names};
 use lft_ir::steps::Row;
 use lft_model::Plan;
@@ -94,7 +94,7 @@ pub fn accepts_text_shared<R: Threads + Sync>(
     plan: &Plan,
     text: &[u8],
     workers: u32,
-) -> Option<Counts>
+) -> Option<RunCounts>
     ensures { IfSome result (λ c. (rows : List TheRow) × Table plan.now.program (records_of text.now) rows × IsAccepted plan.now rows c.runs c.tags) }
 {
     // Tags are judged one after another, since each needs what those before it leave behind. So reading

@@ -8,7 +8,7 @@ ghost use Rattle.lft_stream.specs.inner.{Kept.IsAcceptorOf, Batches.Fronts.{IsFr
 ghost use Rattle.lft_counts.specs.{inner.Counts.KeepsRows, Cover.CoversRows};
 
 use crate::batches::rows::rows_together;
-use crate::{Acceptor, Counts};
+use crate::{Acceptor, RunCounts};
 use lft_counts::Cover;
 use lft_ir::steps::{Row, row_at};
 use lft_model::Plan;
@@ -78,7 +78,7 @@ impl Front {
     }
 
     /// The counts, where nothing is owed up to the stop.
-    pub(crate) fn finish(&mut self, plan: &Plan) -> Option<Counts>
+    pub(crate) fn finish(&mut self, plan: &Plan) -> Option<RunCounts>
         ensures counts { IfSome result (λ c. (t : List TheRow) → IsAcceptorOf plan.now t self.old.acceptor → IsAccepted plan.now t c.runs c.tags) }
         ensures cover { self.new.cover ≡ self.old.cover }
     {
@@ -246,7 +246,7 @@ fn go_over(alloc: Global, plan: &Plan, text: &[u8], front: &mut Front) -> Option
 ///
 /// None says nothing of the text: it may be no table, or have a quotation mark or another header than
 /// the plain one; its rows may break a rule; memory may be refused, or too much is to be looked at.
-pub fn accepts_text(alloc: Global, plan: &Plan, text: &[u8]) -> Option<Counts>
+pub fn accepts_text(alloc: Global, plan: &Plan, text: &[u8]) -> Option<RunCounts>
     ensures { IfSome result (λ c. (rows : List TheRow) × Table plan.now.program (records_of text.now) rows × IsAccepted plan.now rows c.runs c.tags) }
 {
     // Most traces are right, and to accept one takes no index and no first breach. The price: a trace of
@@ -259,7 +259,7 @@ pub fn accepts_text(alloc: Global, plan: &Plan, text: &[u8]) -> Option<Counts>
 }
 
 /// What `accepts_text` does, and what the rows exercise, both in one pass.
-pub fn covers_text(alloc: Global, plan: &Plan, text: &[u8]) -> Option<(Counts, Cover)>
+pub fn covers_text(alloc: Global, plan: &Plan, text: &[u8]) -> Option<(RunCounts, Cover)>
     ensures { IfSome result (λ p. (rows : List TheRow) × Table plan.now.program (records_of text.now) rows × IsAccepted plan.now rows p.0.runs p.0.tags × CoversRows plan.now.program rows (length rows) p.1) }
 {
     let Ok(mut front) = Front::counting(alloc, plan) else {

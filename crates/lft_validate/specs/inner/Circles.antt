@@ -1,7 +1,7 @@
 -- How far the search for a circle has come. The contracts of the crate's own functions alone need this file.
 use Rattle.std.specs.Prelude.{◌≡◌, ◌≢◌, ℕ, ◌+◌, ◌<◌, ◌≤◌, List, Option, Some, length, slice_get}
 use Rattle.lft_resolve.specs.{inner.Expansion.Contents.contained, declared.expansion.walk.Contents.Contents}
-use Rattle.lft_validate.specs.declared.circle.{Stage.{Stage, TheVariants.{New, Open, Done}}, Visit.Visit}
+use Rattle.lft_validate.specs.declared.circle.{Stage.{Stage, TheVariants.{New, Open, Done}}, OnPath.OnPath}
 
 -- reactor a has an instance of reactor b
 abbrev pub Holds : List Contents → ℕ → ℕ → Type 0
@@ -20,8 +20,8 @@ abbrev pub OnlyDone : List Stage → (ℕ → Option ℕ) → ℕ → Type 0
 OnlyDone stages inside first = (k r : ℕ) → first ≤ k → inside k ≡ Some r → IsDone stages r
 
 -- the visit of the path at that place is of the reactor
-abbrev pub IsVisitAt : List Visit → ℕ → ℕ → Type 0
-IsVisitAt path n r = (v : Visit) × (slice_get path n ≡ Some v) × (v.reactor ≡ r)
+abbrev pub IsVisitAt : List OnPath → ℕ → ℕ → Type 0
+IsVisitAt path n r = (v : OnPath) × (slice_get path n ≡ Some v) × (v.reactor ≡ r)
 
 -- no way down from the reactor goes on for ever
 pub data Founded (table : List Contents) : ℕ → Type 0 where

@@ -1,7 +1,7 @@
 //! A file of a program, and the tokens of all files by number.
 
 ghost use Rattle.std.specs.Prelude.{◌≡◌, IfNone, IfSome};
-ghost use Rattle.lft_whole.specs.{inner.Sources.Tokens.StandsAt, Sources.Tokens.number_at};
+ghost use Rattle.lft_whole.specs.inner.Sources.Tokens.{StandsAt, number_at};
 
 use crate::File;
 use crate::sources::stop::Place;

@@ -13,61 +13,61 @@ pub struct Place {
 
 /// Why a program isn't lowered, and the token that shows it.
 #[derive(Clone, Copy, Debug, PartialEq, Eq)]
-pub struct Refusal {
+pub struct FileRefusal {
     pub why: Why,
     pub place: Place,
 }
 
 /// Why there is no program.
 #[derive(Clone, Copy, Debug, PartialEq, Eq)]
-pub enum Stop {
-    Refused(Refusal),
+pub enum NoProgram {
+    Refused(FileRefusal),
     NoMemory,
 }
 
-impl Stop {
+impl NoProgram {
     ghost use Rattle.std.specs.Prelude.{◌≡◌};
 
     /// The stop at a token of a file.
-    pub fn at(why: Why, file: usize, token: usize) -> Stop
-        ensures { result ≡ Stop.Refused (record { why = why; place = record { file = file; token = token } }) }
+    pub fn at(why: Why, file: usize, token: usize) -> NoProgram
+        ensures { result ≡ NoProgram.Refused (record { why = why; place = record { file = file; token = token } }) }
     {
-        Stop::Refused(Refusal {
+        NoProgram::Refused(FileRefusal {
             why,
             place: Place { file, token },
         })
     }
 }
 
-impl From<AllocError> for Stop {
+impl From<AllocError> for NoProgram {
     ghost use Rattle.std.specs.Prelude.{◌≡◌};
-    ghost use Rattle.lft_whole.specs.declared.sources.stop.Stop.TheVariants.{NoMemory};
+    ghost use Rattle.lft_whole.specs.declared.sources.stop.NoProgram.TheVariants.{NoMemory};
 
     ghost from_gives = { λ _ e. e ≡ NoMemory };
 
-    fn from(_error: AllocError) -> Stop {
-        Stop::NoMemory
+    fn from(_error: AllocError) -> NoProgram {
+        NoProgram::NoMemory
     }
 }
 
-impl<T: Drop> From<AllocFailed<T>> for Stop {
+impl<T: Drop> From<AllocFailed<T>> for NoProgram {
     ghost use Rattle.std.specs.Prelude.{◌≡◌};
-    ghost use Rattle.lft_whole.specs.declared.sources.stop.Stop.TheVariants.{NoMemory};
+    ghost use Rattle.lft_whole.specs.declared.sources.stop.NoProgram.TheVariants.{NoMemory};
 
     ghost from_gives = { λ _ e. e ≡ NoMemory };
 
-    fn from(_error: AllocFailed<T>) -> Stop {
-        Stop::NoMemory
+    fn from(_error: AllocFailed<T>) -> NoProgram {
+        NoProgram::NoMemory
     }
 }
 
-impl From<NoMemory> for Stop {
+impl From<NoMemory> for NoProgram {
     ghost use Rattle.std.specs.Prelude.{◌≡◌};
-    ghost use Rattle.lft_whole.specs.declared.sources.stop.Stop.TheVariants.{NoMemory};
+    ghost use Rattle.lft_whole.specs.declared.sources.stop.NoProgram.TheVariants.{NoMemory};
 
     ghost from_gives = { λ _ e. e ≡ NoMemory };
 
-    fn from(_error: NoMemory) -> Stop {
-        Stop::NoMemory
+    fn from(_error: NoMemory) -> NoProgram {
+        NoProgram::NoMemory
     }
 }

@@ -8,7 +8,7 @@ use Rattle.std.proofs.lemmas.Option.{get_or_from_slice_get, slice_get_within}
 use Rattle.lft_lists.proofs.Mapped.{mapped, mapped_from}
 use Rattle.lft_lists.proofs.Places.{get_append_cases, get_last, get_left, get_push, get_push_cases, get_there, same_some, Some_same}
 use Rattle.lft_whole.specs.declared.{tree.Import.Import, sources.{source.SourceFile.SourceFile, stop.Place.Place}}
-use Rattle.lft_whole_parser.specs.declared.imports.asked.Wanted.{Wanted}
+use Rattle.lft_whole_parser.specs.declared.imports.asked.WantedFile.{WantedFile}
 use Rattle.lft_whole_parser.specs.Imports.Paths.{meaning}
 use Rattle.lft_whole_parser.specs.Imports.Files.{AreNumbered, AreReached, EachOnce, HasImport, IsImportOf, IsNumbered, IsWhole, LeadsTo, further, itself, paths_of_files}
 use Rattle.lft_whole_parser.specs.inner.Imports.Files.{Adds, AreNamed, IsAskedBy, IsNamedBy}
@@ -142,36 +142,36 @@ all_whole paths files h n none =
 
 -- ---- which paths are asked for
 
-abbrev Path : Wanted → List ℕ
+abbrev Path : WantedFile → List ℕ
 Path wanted = string_bytes wanted.path
 
-pub adds_none : (ws : List Wanted) (Such : Wanted → Type 0) → Adds ws Such ws
+pub adds_none : (ws : List WantedFile) (Such : WantedFile → Type 0) → Adds ws Such ws
 adds_none ws Such = ([], All-nil Such, sym (append-nil ws))
 
-pub adds_one : (ws : List Wanted) (Such : Wanted → Type 0) (w : Wanted) → Such w → Adds ws Such (ws ++ w ∷ [])
+pub adds_one : (ws : List WantedFile) (Such : WantedFile → Type 0) (w : WantedFile) → Such w → Adds ws Such (ws ++ w ∷ [])
 adds_one ws Such w is = (w ∷ [], All-cons Such w [] is (All-nil Such), refl)
 
 -- what is added in two steps
-pub adds_more : (a b c : List Wanted) (Such : Wanted → Type 0) → Adds a Such b → Adds b Such c → Adds a Such c
-adds_more a b c Such first second = (first.0 ++ second.0, All-append Such first.0 second.0 first.1 second.1, second.2 ∙ ap (λ (ws : List Wanted). ws ++ second.0) first.2 ∙ append_assoc a first.0 second.0)
+pub adds_more : (a b c : List WantedFile) (Such : WantedFile → Type 0) → Adds a Such b → Adds b Such c → Adds a Such c
+adds_more a b c Such first second = (first.0 ++ second.0, All-append Such first.0 second.0 first.1 second.1, second.2 ∙ ap (λ (ws : List WantedFile). ws ++ second.0) first.2 ∙ append_assoc a first.0 second.0)
 
 -- what is weaker is added too
-pub adds_weaker : (a b : List Wanted) (Such Also : Wanted → Type 0) → ((w : Wanted) → Such w → Also w) → Adds a Such b → Adds a Also b
+pub adds_weaker : (a b : List WantedFile) (Such Also : WantedFile → Type 0) → ((w : WantedFile) → Such w → Also w) → Adds a Such b → Adds a Also b
 adds_weaker a b Such Also f h = (h.0, All-weaker Such Also f h.0 h.1, h.2)
 
 -- one that is wanted is old, or such
-pub added : (a b : List Wanted) (Such : Wanted → Type 0) (k : ℕ) (w : Wanted) → Adds a Such b → slice_get b k ≡ Some w → (slice_get a k ≡ Some w) ⊎ ((length a ≤ k) × Such w)
-added a b Such k w (more, all, is) at = of (get_append_cases a more k w (ap (λ (ws : List Wanted). slice_get ws k) (sym is) ∙ at))
+pub added : (a b : List WantedFile) (Such : WantedFile → Type 0) (k : ℕ) (w : WantedFile) → Adds a Such b → slice_get b k ≡ Some w → (slice_get a k ≡ Some w) ⊎ ((length a ≤ k) × Such w)
+added a b Such k w (more, all, is) at = of (get_append_cases a more k w (ap (λ (ws : List WantedFile). slice_get ws k) (sym is) ∙ at))
   where
     of : (slice_get a k ≡ Some w) ⊎ ((j : ℕ) × (k ≡ length a + j) × (slice_get more j ≡ Some w)) → (slice_get a k ≡ Some w) ⊎ ((length a ≤ k) × Such w)
     of (inl old) = inl old
     of (inr new) = inr (omega (arith, new.1), subst Such (get_or_from_slice_get more new.0 w w new.2) (All-get_or Such more new.0 w (slice_get_within more new.0 w new.2) all))
 
 -- paths stay where they are
-pub goes_on : (a b : List Wanted) (Such : Wanted → Type 0) → Adds a Such b → GoesOn (map Path a) (map Path b)
+pub goes_on : (a b : List WantedFile) (Such : WantedFile → Type 0) → Adds a Such b → GoesOn (map Path a) (map Path b)
 goes_on a b Such (more, all, is) k path at =
     let from = mapped_from Path a k path at in
-    mapped Path b k from.0 (ap (λ (ws : List Wanted). slice_get ws k) is ∙ get_left a more k from.0 from.1) ∙ ap Some from.2
+    mapped Path b k from.0 (ap (λ (ws : List WantedFile). slice_get ws k) is ∙ get_left a more k from.0 from.1) ∙ ap Some from.2
 
 some_from : {X : Type 0} (P : X → Type 0) (o : Option X) → IsSomeAnd o P → (x : X) × (o ≡ Some x) × P x
 some_from P None h = absurd h
@@ -181,14 +181,14 @@ some_and : {X : Type 0} (P : X → Type 0) (o : Option X) (x : X) → o ≡ Some
 some_and P o x e h = subst (λ o. IsSomeAnd o P) (sym e) h
 
 -- the path that an import means has an import
-has_import : (number : ℕ) (path : List ℕ) (imports : List Import) (w : Wanted) → IsAskedBy number path imports w → HasImport path imports (Path w)
+has_import : (number : ℕ) (path : List ℕ) (imports : List Import) (w : WantedFile) → IsAskedBy number path imports w → HasImport path imports (Path w)
 has_import number path imports w (i, h) =
     let one = some_from _ (slice_get imports i) h in
     (i, some_and _ (slice_get imports i) one.0 one.1 one.2.1)
 
 -- the path of an import is asked for by it
-pub asked_by : (number : ℕ) (path : List ℕ) (imports : List Import) (i : ℕ) (import : Import) (w v : Wanted) → slice_get imports i ≡ Some import → v.import ≡ Some (record { file = number; token = import.at }) → string_bytes v.path ≡ meaning path import.path.items → w ≡ v → IsAskedBy number path imports w
-asked_by number path imports i import w v at place means is = (i, some_and _ (slice_get imports i) import at (ap (λ (x : Wanted). x.import) is ∙ place, sym (ap Path is ∙ means)))
+pub asked_by : (number : ℕ) (path : List ℕ) (imports : List Import) (i : ℕ) (import : Import) (w v : WantedFile) → slice_get imports i ≡ Some import → v.import ≡ Some (record { file = number; token = import.at }) → string_bytes v.path ≡ meaning path import.path.items → w ≡ v → IsAskedBy number path imports w
+asked_by number path imports i import w v at place means is = (i, some_and _ (slice_get imports i) import at (ap (λ (x : WantedFile). x.import) is ∙ place, sym (ap Path is ∙ means)))
 
 -- with a file more the same is reached
 still_leads : (files : List SourceFile) (f : SourceFile) (from path : List ℕ) → LeadsTo files from path → LeadsTo (files ++ f ∷ []) from path
@@ -201,8 +201,8 @@ one_reached paths q files e zero first path begin at = subst (LeadsTo files firs
 one_reached paths q files e (suc k) first path begin at = let none : None ≡ Some path = sym (ap (λ (xs : List (List ℕ)). slice_get xs (suc k)) e) ∙ at in absurd (cc)
 
 -- a file more, whose imports are asked for
-module _ (a b : List Wanted) (files : List SourceFile) (f : SourceFile) (next : slice_get (map Path a) (length files) ≡ Some (string_bytes f.path)) (adds : Adds a (IsAskedBy (length files) (string_bytes f.path) f.tree.imports.items) b) where
-  abbrev Such : Wanted → Type 0
+module _ (a b : List WantedFile) (files : List SourceFile) (f : SourceFile) (next : slice_get (map Path a) (length files) ≡ Some (string_bytes f.path)) (adds : Adds a (IsAskedBy (length files) (string_bytes f.path) f.tree.imports.items) b) where
+  abbrev Such : WantedFile → Type 0
   Such = IsAskedBy (length files) (string_bytes f.path) f.tree.imports.items
 
   some : 0 < length a
@@ -232,7 +232,7 @@ module _ (a b : List Wanted) (files : List SourceFile) (f : SourceFile) (next : 
   named_old k path None h = h
   named_old k path (Some place) h = (h.0, kept _ files f place.file h.1)
 
-  named_new : (k : ℕ) (w : Wanted) → length a ≤ k → Such w → IsNamedBy (files ++ f ∷ []) k (Path w) w.import
+  named_new : (k : ℕ) (w : WantedFile) → length a ≤ k → Such w → IsNamedBy (files ++ f ∷ []) k (Path w) w.import
   named_new k w late (i, h) =
       let one = some_from _ (slice_get f.tree.imports.items i) h in
       let place : Place = record { file = length files; token = one.0.at } in
@@ -246,14 +246,14 @@ module _ (a b : List Wanted) (files : List SourceFile) (f : SourceFile) (next : 
   ]
 
 -- the program itself
-pub one_named : (files : List SourceFile) (ws : List Wanted) (w : Wanted) → ws ≡ w ∷ [] → w.import ≡ None → AreNamed files ws
+pub one_named : (files : List SourceFile) (ws : List WantedFile) (w : WantedFile) → ws ≡ w ∷ [] → w.import ≡ None → AreNamed files ws
 one_named files ws w e none zero one at =
-    let same : w ≡ one = Some_same w one (sym (ap (λ (xs : List Wanted). slice_get xs 0) e) ∙ at) in
-    subst (λ (x : Wanted). IsNamedBy files 0 (Path x) x.import) same (subst (IsNamedBy files 0 (Path w)) (sym none) refl)
-one_named files ws w e none (suc k) one at = let no : None ≡ Some one = sym (ap (λ (xs : List Wanted). slice_get xs (suc k)) e) ∙ at in absurd (cc)
+    let same : w ≡ one = Some_same w one (sym (ap (λ (xs : List WantedFile). slice_get xs 0) e) ∙ at) in
+    subst (λ (x : WantedFile). IsNamedBy files 0 (Path x) x.import) same (subst (IsNamedBy files 0 (Path w)) (sym none) refl)
+one_named files ws w e none (suc k) one at = let no : None ≡ Some one = sym (ap (λ (xs : List WantedFile). slice_get xs (suc k)) e) ∙ at in absurd (cc)
 
 -- what is asked for by the imports of a file
-pub adds_file : (a b : List Wanted) (files : List SourceFile) (f : SourceFile) (number : ℕ) (p : List ℕ) (imports : List Import) → number ≡ length files → string_bytes f.path ≡ p → f.tree.imports.items ≡ imports → Adds a (IsAskedBy number p imports) b → Adds a (IsAskedBy (length files) (string_bytes f.path) f.tree.imports.items) b
+pub adds_file : (a b : List WantedFile) (files : List SourceFile) (f : SourceFile) (number : ℕ) (p : List ℕ) (imports : List Import) → number ≡ length files → string_bytes f.path ≡ p → f.tree.imports.items ≡ imports → Adds a (IsAskedBy number p imports) b → Adds a (IsAskedBy (length files) (string_bytes f.path) f.tree.imports.items) b
 adds_file a b files f number p imports many path tree h = subst (λ n. Adds a (IsAskedBy n (string_bytes f.path) f.tree.imports.items) b) many (subst (λ q. Adds a (IsAskedBy number q f.tree.imports.items) b) (sym path) (subst (λ xs. Adds a (IsAskedBy number p xs) b) (sym tree) h))
 
 pub no_file : (files : List SourceFile) → files ≡ [] → (k : ℕ) (file : SourceFile) → slice_get files k ≡ Some file → ⊥

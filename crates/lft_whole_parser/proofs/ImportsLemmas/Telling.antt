@@ -3,11 +3,11 @@ use Rattle.std.proofs.Common.{◌≡◌, ℕ, ◌+◌, ◌⊎◌, inl, inr, List
 use Rattle.std.specs.Prelude.{IfErr, Result, Ok, Err, slice_get}
 use Rattle.std.proofs.lemmas.{List.{take-append-le, take_all, Sums.sum_by-append}, Option.slice_get_within}
 use Rattle.lft_lists.proofs.Places.{get_push_cases}
-use Rattle.lft_whole.specs.declared.sources.{source.SourceFile.SourceFile, stop.Stop.Stop, why.Why.{Why, TheVariants.NotRead}}
+use Rattle.lft_whole.specs.declared.sources.{source.SourceFile.SourceFile, stop.NoProgram.NoProgram, why.Why.{Why, TheVariants.NotRead}}
 use Rattle.lft_whole_parser.specs.declared.imports.{reading.Text.Text, sources.Sources.Sources}
 use Rattle.lft_whole_parser.specs.inner.Imports.{Files.{AreCounted, IsRefusalOf, IsUnread, RefusesNext, next_path, tokens_of}, Reads.{IsRead, IsReadAs}}
 use Rattle.lft_whole_parser.specs.Imports.{Files.{AreOfTexts, HasUnread, IsRefusedFor}, Reads.{HasNoTree, HasTree}}
-use Rattle.lft_whole.specs.declared.sources.stop.Stop.TheVariants as stop
+use Rattle.lft_whole.specs.declared.sources.stop.NoProgram.TheVariants as stop
 
 -- a file has the tree that is read of its text
 pub tree_of : (t : List ℕ) (f : SourceFile) (read : Text) → f.spots ≡ read.spots → f.tree ≡ read.tree → IsRead t read → read.refused ≡ None → HasTree t f.spots.items f.tree
@@ -40,12 +40,12 @@ refused_for t f read token why spots tree is (inl w) = inl (subst (λ v. HasNoTr
 refused_for t f read token why spots tree is (inr w) = inr (w.1, tree_of t f read spots tree is w.0, subst (λ x. HasUnread x.imports.items token) (sym tree) w.2)
 
 -- the refusal of the file that was to be read next
-pub refuses_next : (t : List ℕ) (before : Sources) (files : List SourceFile) (f : SourceFile) (number : ℕ) (read : Text) (s : Stop) → next_path before ≡ Some (string_bytes f.path) → files ≡ before.files.items ++ f ∷ [] → number ≡ length before.files.items → f.spots ≡ read.spots → f.tree ≡ read.tree → IsRead t read → IsRefusalOf number read s → RefusesNext t before files s
+pub refuses_next : (t : List ℕ) (before : Sources) (files : List SourceFile) (f : SourceFile) (number : ℕ) (read : Text) (s : NoProgram) → next_path before ≡ Some (string_bytes f.path) → files ≡ before.files.items ++ f ∷ [] → number ≡ length before.files.items → f.spots ≡ read.spots → f.tree ≡ read.tree → IsRead t read → IsRefusalOf number read s → RefusesNext t before files s
 refuses_next t before files f number read stop.NoMemory next more many spots tree is h = tt
 refuses_next t before files f number read (stop.Refused refusal) next more many spots tree is h = (f, next, more, h.0 ∙ many, refused_for t f read refusal.place.token refusal.why spots tree is h.1)
 
 -- that of a path
-pub unread_is_refusal : {X : Type 0} (r : Result X Stop) (number : ℕ) (read : Text) → read.refused ≡ None → IfErr r (IsUnread number read.tree.imports.items) → IfErr r (IsRefusalOf number read)
+pub unread_is_refusal : {X : Type 0} (r : Result X NoProgram) (number : ℕ) (read : Text) → read.refused ≡ None → IfErr r (IsUnread number read.tree.imports.items) → IfErr r (IsRefusalOf number read)
 unread_is_refusal (Ok x) number read none h = tt
 unread_is_refusal (Err (stop.Refused refusal)) number read none h = (h.1, inr (none, h.0, h.2))
 unread_is_refusal (Err stop.NoMemory) number read none h = tt

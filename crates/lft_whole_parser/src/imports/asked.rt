@@ -7,33 +7,33 @@ ghost use Rattle.lft_whole_parser.specs.{inner.Imports.Files.{Adds, IsAskedBy, I
 use crate::imports::paths::imported;
 use lft_tag::NoMemory;
 use lft_whole::Import;
-use lft_whole::sources::{Place, Stop, Why};
+use lft_whole::sources::{NoProgram, Place, Why};
 use std::alloc::Global;
 use std::collections::BTreeMap;
 use std::str::from_utf8;
 
 /// A file that is asked for, and the import that names it. The program itself has none.
 #[derive(Drop)]
-pub(crate) struct Wanted {
+pub(crate) struct WantedFile {
     pub(crate) path: String,
     pub(crate) import: Option<Place>,
 }
 
 /// The files that are asked for: by number, and the number of each path.
 #[derive(Drop)]
-pub(crate) struct Asked {
-    pub(crate) paths: Vec<Wanted>,
+pub(crate) struct FileNumbers {
+    pub(crate) paths: Vec<WantedFile>,
     pub(crate) known: BTreeMap<String, usize>,
 }
 
-impl Asked {
+impl FileNumbers {
     /// Nothing is asked for.
-    pub(crate) fn new(alloc: Global) -> Asked
+    pub(crate) fn new(alloc: Global) -> FileNumbers
         ensures known { IsKnown result }
         ensures none { (path : List ℕ) → get_by_text result.known path ≡ None }
         ensures empty { result.paths.items ≡ [] }
     {
-        Asked {
+        FileNumbers {
             paths: Vec::new(alloc),
             known: BTreeMap::new(alloc),
         }
@@ -47,7 +47,7 @@ impl Asked {
         ensures paths { OnOk result (self.new.paths.items ≡ self.old.paths.items ++ record { path = path; import = import } ∷ []) }
     {
         self.known.insert(path.clone()?, self.paths.len())?;
-        self.paths.push(Wanted { path, import })?;
+        self.paths.push(WantedFile { path, import })?;
         Ok(())
     }
 
@@ -75,7 +75,7 @@ impl Asked {
         file: usize,
         path: &str,
         imports: &[Import],
-    ) -> Result<Vec<usize>, Stop>
+    ) -> Result<Vec<usize>, NoProgram>
         requires { IsKnown self.old }
         ensures known { OnOk result (IsKnown self.new) }
         ensures added { OnOk result (Adds self.old.paths.items (IsAskedBy file path.now imports.now) self.new.paths.items) }
@@ -86,7 +86,7 @@ impl Asked {
         for place in 0..imports.len() {
             let import = &imports[place];
             let Ok(named) = from_utf8(import.path.as_slice()) else {
-                return Err(Stop::at(Why::NotRead, file, import.at));
+                return Err(NoProgram::at(Why::NotRead, file, import.at));
             };
             let wanted = imported(alloc, path, named)?;
             let token = import.at;

@@ -13,7 +13,7 @@ use std::alloc::Global;
 
 /// Why a text has no tree, and the token that shows it.
 #[derive(Clone, Copy)]
-pub(crate) struct Refused {
+pub(crate) struct NoTree {
     pub(crate) why: Why,
     pub(crate) token: usize,
 }
@@ -24,7 +24,7 @@ pub(crate) struct Refused {
 pub(crate) struct Text {
     pub(crate) tree: File,
     pub(crate) spots: Vec<Spot>,
-    pub(crate) refused: Option<Refused>,
+    pub(crate) refused: Option<NoTree>,
 }
 
 /// A file of nothing.
@@ -57,7 +57,7 @@ fn without_tree(alloc: Global, spots: Vec<Spot>, why: Why, token: usize) -> Text
     Text {
         tree: no_file(alloc),
         spots,
-        refused: Some(Refused { why, token }),
+        refused: Some(NoTree { why, token }),
     }
 }
 

@@ -4,21 +4,21 @@ ghost use Rattle.std.specs.Prelude.{◌≡◌, ◌+◌, [], ◌∷◌, None, IfE
 ghost use Rattle.lft_whole_parser.specs.Imports.{Paths.normal as normal_path, Files.{AreNumbered, EachOnce, IsWhole, paths_of_files}};
 ghost use Rattle.lft_whole_parser.specs.inner.Imports.Files.{Adds, AreApart, AreCounted, AreSources, HasOneMore, IsAskedBy, IsKnown, IsNamedBy, IsRefusalOf, RefusesNext, next_path, paths_of};
 
-use crate::imports::asked::Asked;
+use crate::imports::asked::FileNumbers;
 use crate::imports::paths::normal;
 use crate::imports::reading::{Text, read_text};
 use lft_tag::NoMemory;
-use lft_whole::sources::{Place, SourceFile, Stop};
+use lft_whole::sources::{NoProgram, Place, SourceFile};
 use std::alloc::Global;
 
 /// The numbers of the files that a file imports. Its text may be refused, or the path of an import.
 fn numbers_of(
     alloc: Global,
-    asked: &mut Asked,
+    asked: &mut FileNumbers,
     number: usize,
     path: &str,
     read: &Text,
-) -> Result<Vec<usize>, Stop>
+) -> Result<Vec<usize>, NoProgram>
     requires { IsKnown asked.old }
     ensures known { OnOk result (IsKnown asked.new) }
     ensures added { OnOk result (Adds asked.old.paths.items (IsAskedBy number path.now read.now.tree.imports.items) asked.new.paths.items) }
@@ -27,7 +27,7 @@ fn numbers_of(
     ensures refused { IfErr result (IsRefusalOf number read.now) }
 {
     match read.refused {
-        Some(refused) => Err(Stop::at(refused.why, number, refused.token)),
+        Some(refused) => Err(NoProgram::at(refused.why, number, refused.token)),
         None => asked.numbers(alloc, number, path, read.tree.imports.as_slice()),
     }
 }
@@ -62,7 +62,7 @@ pub struct Sources {
     files: Vec<SourceFile>,
     /// How many tokens the files have, with the end of each.
     tokens: usize,
-    asked: Asked,
+    asked: FileNumbers,
 }
 
 impl Sources {
@@ -72,7 +72,7 @@ impl Sources {
         ensures files { IfOk result (λ sources. sources.files.items ≡ []) }
         ensures paths { IfOk result (λ sources. paths_of sources.asked ≡ normal_path path.now ∷ []) }
     {
-        let mut asked = Asked::new(alloc);
+        let mut asked = FileNumbers::new(alloc);
         asked.ask(normal(alloc, path)?, None)?;
         Ok(Sources {
             alloc,
@@ -116,7 +116,7 @@ impl Sources {
 
     /// Takes the text of the file that is wanted. Where it is refused, the file is among those read, so that its
     /// place can be told, and no other is to be given. Where none is wanted, nothing happens.
-    pub fn give(&mut self, text: Vec<u8>) -> Result<(), Stop>
+    pub fn give(&mut self, text: Vec<u8>) -> Result<(), NoProgram>
         requires { AreSources self.old }
         ensures sources { OnOk result (AreSources self.new) }
         ensures read { OnOk result (HasOneMore text.items self.old self.new) }
@@ -133,7 +133,7 @@ impl Sources {
         let count = read.spots.len();
         // More tokens than there are numbers fit into no memory, so no cause is needed for them.
         let Some(tokens) = tokens_behind(first, count) else {
-            return Err(Stop::NoMemory);
+            return Err(NoProgram::NoMemory);
         };
         self.tokens = tokens;
         match numbers_of(self.alloc, &mut self.asked, number, path.as_str(), &read) {

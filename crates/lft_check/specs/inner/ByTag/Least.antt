@@ -3,7 +3,7 @@ use Rattle.std.specs.Prelude.{◌≡◌, ℕ, ◌+◌, ◌*◌, ◌<◌, ◌≤�
 use Rattle.lft_tag.specs.{declared.Tag.Tag, Tags.{Before, UpTo}, Shifts.Folded}
 use Rattle.lft_ir.specs.declared.parts.{Timer.Timer as TimerOf, Trigger.Trigger}
 use Rattle.lft_model.specs.Presence.{stop, Fires, Occurs, Triggered}
-use Rattle.lft_rows.specs.{declared.presence.causes.Cause.Cause, inner.Presence.Causes.{IsCause, Leads}, Presence.Traces.TraceParts}
+use Rattle.lft_rows.specs.{declared.presence.causes.EventCause.EventCause, inner.Presence.Causes.{IsCause, Leads}, Presence.Traces.TraceParts}
 
 -- the pair with the earlier tag of a pair and of a tag with a reaction, of those that are; at one tag the pair
 abbrev pub IsFirstOf : Option (Tag × ℕ) → Option Tag → ℕ → Option (Tag × ℕ) → Type 0
@@ -55,7 +55,7 @@ pub record LacksFiring (cut : TraceParts) (timer : TimerOf) (low : Tag) (tags : 
 
 -- a cause of the name leads to g, which is up to the stop and not passed
 pub record LacksCause (cut : TraceParts) (name : ℕ) (s : Folded) (low : Tag) (tags : List Tag) (g : Tag) : Type 0 where
-  pub cause : Cause
+  pub cause : EventCause
   pub is_cause : IsCause cut.plan cut.rows cause
   pub leads : Leads name s g cause
   pub in_time : UpTo g (stop cut.plan cut.rows)

@@ -1,5 +1,5 @@
 use Rattle.std.proofs.Common.{refl, ◌∙◌}
-use Rattle.lft_classes.specs.Chains.{base_of, bases_from}
+use Rattle.lft_classes.specs.inner.Chains.{base_of, bases_from}
 use Rattle.lft_classes.proofs.chains.chain.Goals as goal
 
 pub visits-preserved : goal.visits-preserved

@@ -1,5 +1,5 @@
 use Rattle.std.proofs.Common.{◌≡◌}
-use Rattle.lft_classes.specs.{Chains.{base_of, bases_from}, inner.Walks.{IsOrdered, IsWalk}}
+use Rattle.lft_classes.specs.inner.{Chains.{base_of, bases_from}, Walks.{IsOrdered, IsWalk}}
 use Rattle.lft_classes.proofs.chains.chain.Given as goal
 
 abbrev pub invariant-visits : goal.invariant-visits

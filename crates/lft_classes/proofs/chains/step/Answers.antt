@@ -1,6 +1,6 @@
 use Rattle.std.proofs.Common.{◌≡◌, ◌≤◌, ◌+◌, ◌⊎◌, ℕ, suc, inl, inr, Some, None, arith, sym, ◌∙◌}
 use Rattle.std.proofs.lemmas.{Bool.cases_eq, Option.{MatchOption-at_none, MatchOption-at_some}}
-use Rattle.lft_classes.specs.{declared.chains.Base.Base, Chains.{base_of, bases_from}, inner.Walks.is_done}
+use Rattle.lft_classes.specs.{declared.chains.Base.Base, inner.{Chains.{base_of, bases_from}, Walks.is_done}}
 use Rattle.lft_classes.proofs.{Listing.{base_more, no_base, one_done}, Walking.one_passed}
 use Rattle.lft_classes.proofs.chains.step.Goals as goal
 

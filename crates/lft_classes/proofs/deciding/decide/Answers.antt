@@ -1,7 +1,7 @@
 use Rattle.std.proofs.Common.{◌≡◌, ◌↔◌, ◌<◌, ℕ, Some, true, length, slice_get, refl, sym, subst, arith}
 use Rattle.std.proofs.lemmas.Option.{slice_get_read}
 use Rattle.lft_lists.proofs.Places.{same_some}
-use Rattle.lft_classes.specs.{declared.shapes.Shape.Shape, Built.core, inner.Needs.IsReady, Needs.{NeedsNumber, Times, Widths}}
+use Rattle.lft_classes.specs.{declared.shapes.Shape.Shape, inner.{Built.core, Needs.{IsReady, NeedsNumber, Times, Widths}}}
 use Rattle.lft_classes.proofs.{Rows.map_set, Decided.{both_decided, decided_but, decided_by, decided_none, decided_one}}
 use Rattle.lft_classes.proofs.deciding.decide.Goals as goal
 

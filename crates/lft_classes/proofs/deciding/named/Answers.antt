@@ -1,6 +1,6 @@
 use Rattle.std.proofs.Common.{string_bytes, refl, subst}
 use Rattle.std.proofs.lemmas.Option.{IfSome_then}
-use Rattle.lft_classes.specs.Needs.{IsParameter}
+use Rattle.lft_classes.specs.inner.Needs.{IsParameter}
 use Rattle.lft_classes.proofs.deciding.named.Goals as goal
 
 pub returns-in-Word-clause-some : goal.returns-in-Word-clause-some

@@ -1,7 +1,6 @@
 use Rattle.std.proofs.Common.{◌<◌, length, refl, arith}
 use Rattle.std.proofs.lemmas.Option.{slice_get_read}
-use Rattle.lft_classes.specs.{declared.shapes.Inherited.Inherited, inner.Needs.HasNeed, Needs.{Times, Widths}}
-use Rattle.lft_classes.proofs.{Marking.below_more, Passing.marked_all}
+use Rattle.lft_classes.{specs.{declared.shapes.Inherited.Inherited, inner.Needs.{HasNeed, Times, Widths}}, proofs.{Marking.below_more, Passing.marked_all}}
 use Rattle.lft_classes.proofs.deciding.needs_of.Goals as goal
 
 pub loop-number-preserved : goal.loop-number-preserved

@@ -1,4 +1,4 @@
-use Rattle.lft_classes.{specs.{inner.Needs.{HasNeed, Marks}, Needs.{Times, Widths}, declared.shapes.Inherited.Inherited}, proofs.Marking.AnyBelow}
+use Rattle.lft_classes.{specs.{inner.Needs.{HasNeed, Marks, Times, Widths}, declared.shapes.Inherited.Inherited}, proofs.Marking.AnyBelow}
 use Rattle.lft_classes.proofs.deciding.needs_of.Given as goal
 
 abbrev pub invariant-loop-number : goal.invariant-loop-number

@@ -1,7 +1,7 @@
 use Rattle.std.proofs.Common.{◌≡◌, Some, None, option_copied, slice_get, sym, ap, subst, ◌∙◌}
 use Rattle.lft_lists.proofs.Places.{same_some}
 use Rattle.lft_resolve.proofs.Placing.{lent}
-use Rattle.lft_classes.specs.{declared.shapes.Shape.Shape, Built.AreGiven, Shapes.thing_named}
+use Rattle.lft_classes.specs.{declared.shapes.Shape.Shape, inner.{Built.AreGiven, Shapes.thing_named}}
 use Rattle.lft_classes.proofs.making.given_inside.Goals as goal
 
 pub returns-clause-once : goal.returns-clause-once

@@ -2,9 +2,10 @@ use Rattle.std.proofs.Common.{◌≡◌, ◌+◌, ◌<◌, ℕ, List, Some, leng
 use Rattle.std.specs.Prelude.{unwrap_or}
 use Rattle.std.proofs.lemmas.{List.{length_push, Sorted.IsNonDecreasingBy-from_sort_by_key}, Option.{slice_get_read, slice_get_within}}
 use Rattle.lft_lists.proofs.Places.{Some_same}
-use Rattle.lft_resolve.specs.{inner.{Places.place, Tests.texts}, Places.place_in}
+use Rattle.lft_resolve.specs.inner.{Places.{place, place_in}, Tests.texts}
 use Rattle.lft_whole.specs.declared.tree.Assignment.{Assignment}
-use Rattle.lft_classes.{specs.{declared.shapes.Given.Given, Shapes.thing_named}, proofs.{Building.below_one, Giving.{given_moved, noted_more}, Naming.once}}
+use Rattle.lft_classes.specs.{declared.shapes.GivenValue.GivenValue, inner.Shapes.thing_named}
+use Rattle.lft_classes.proofs.{Building.below_one, Giving.{given_moved, noted_more}, Naming.once}
 use Rattle.lft_classes.proofs.making.given_of.Goals as goal
 
 pub loop-place-preserved : goal.loop-place-preserved
@@ -37,7 +38,7 @@ loop-place-init c = record {
 pub returns-clause-given : goal.returns-clause-given
 returns-clause-given c =
     let long = c.loop-place.invariant.long in
-    given_moved (thing_named c.args.inner.now) c.args.instance.now.given.items c.loop-place.given.items _ (omega (arith, long)) c.loop-place.invariant.given c.in_ok-sort_by_key.ensures.permutation (IsNonDecreasingBy-from_sort_by_key (λ (g : Given). g.parameter) _ c.in_ok-sort_by_key.ensures.sorted (λ a r q k. search rules))
+    given_moved (thing_named c.args.inner.now) c.args.instance.now.given.items c.loop-place.given.items _ (omega (arith, long)) c.loop-place.invariant.given c.in_ok-sort_by_key.ensures.permutation (IsNonDecreasingBy-from_sort_by_key (λ (g : GivenValue). g.parameter) _ c.in_ok-sort_by_key.ensures.sorted (λ a r q k. search rules))
 
 pub returns-clause-once : goal.returns-clause-once
 returns-clause-once c token twice =

@@ -1,5 +1,5 @@
 use Rattle.std.proofs.Common.{◌<◌, length, refl, arith}
-use Rattle.lft_classes.{specs.Built.core, proofs.{Goings.{sets_but, sets_children, sets_one}, Rows.map_set}}
+use Rattle.lft_classes.{specs.inner.Built.core, proofs.{Goings.{sets_but, sets_children, sets_one}, Rows.map_set}}
 use Rattle.lft_classes.proofs.making.set_children.Goals as goal
 
 pub returns-then-shape-len-clause-cores : goal.returns-then-shape-len-clause-cores

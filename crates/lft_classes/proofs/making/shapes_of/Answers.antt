@@ -1,5 +1,5 @@
 use Rattle.std.proofs.Common.{ap, subst, ◌∙◌}
-use Rattle.lft_classes.{specs.{Built.{AreNoted, cores}, Shapes.tables}, proofs.Goings.{made, made_first, none_made}}
+use Rattle.lft_classes.{specs.inner.{Built.{AreNoted, cores}, Shapes.tables}, proofs.Goings.{made, made_first, none_made}}
 use Rattle.lft_classes.proofs.making.shapes_of.Goals as goal
 
 pub returns-clause-shapes : goal.returns-clause-shapes

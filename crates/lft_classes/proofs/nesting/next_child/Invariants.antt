@@ -1,5 +1,5 @@
 use Rattle.std.proofs.Common.{◌≡◌, ℕ, ◌<◌, ◌≤◌, None}
-use Rattle.lft_classes.specs.Shapes.{child_at}
+use Rattle.lft_classes.specs.inner.Shapes.{child_at}
 use Rattle.lft_classes.proofs.nesting.next_child.Given as goal
 
 abbrev pub invariant-loop-number : goal.invariant-loop-number

@@ -1,5 +1,5 @@
 use Rattle.std.proofs.Common.{refl, ◌∙◌}
-use Rattle.lft_classes.specs.Shapes.{inside, tables}
+use Rattle.lft_classes.specs.inner.Shapes.{inside, tables}
 use Rattle.lft_classes.proofs.nesting.order_of.Goals as goal
 
 pub visits-preserved : goal.visits-preserved

@@ -1,5 +1,5 @@
 use Rattle.std.proofs.Common.{◌≡◌}
-use Rattle.lft_classes.specs.{Shapes.{inside, tables}, inner.Walks.IsWalk}
+use Rattle.lft_classes.specs.inner.{Shapes.{inside, tables}, Walks.IsWalk}
 use Rattle.lft_classes.proofs.nesting.order_of.Given as goal
 
 abbrev pub invariant-visits : goal.invariant-visits

@@ -1,6 +1,6 @@
 use Rattle.std.proofs.Common.{◌≡◌, ◌≤◌, ◌+◌, ℕ, None, arith, sym, ◌∙◌}
 use Rattle.lft_lists.proofs.Options.{lacking}
-use Rattle.lft_classes.{specs.{Shapes.{inside, tables}, inner.Walks.is_done}, proofs.Walking.gap_passed}
+use Rattle.lft_classes.{specs.inner.{Shapes.{inside, tables}, Walks.is_done}, proofs.Walking.gap_passed}
 use Rattle.lft_classes.proofs.nesting.step.Goals as goal
 
 pub returns-in_default-next_child-clause-walk : goal.returns-in_default-next_child-clause-walk

@@ -1,7 +1,7 @@
 use Rattle.std.proofs.Common.{◌≡◌, ◌+◌, ◌<◌, ◌++◌, ℕ, length, Some, map, take, option_map, string_bytes, slice_get, refl, sym, ap, subst, ◌∙◌, arith}
 use Rattle.std.proofs.lemmas.{Grind.common_steps, List.length-map, Option.{slice_get_read, slice_get_within}}
 use Rattle.lft_whole.specs.declared.tree.Reactor.{Reactor}
-use Rattle.lft_classes.specs.{declared.scopes.Class.Class, Scopes.{AreNumbered, placed}, inner.Scopes.{HasMeaning, IsOwnAt}}
+use Rattle.lft_classes.specs.{declared.scopes.Class.Class, inner.Scopes.{AreNumbered, placed, HasMeaning, IsOwnAt}}
 use Rattle.lft_classes.proofs.{Building.{below_one, pushed}, Meanings.{numbers_push, scope_has}, Numbering.{counted, next_stands, own_item}}
 use Rattle.lft_classes.proofs.scopes.own_scope.Goals as goal
 

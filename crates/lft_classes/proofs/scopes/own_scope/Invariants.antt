@@ -1,6 +1,6 @@
 use Rattle.std.proofs.Common.{◌≡◌, ◌+◌, ◌<◌, ◌++◌, ℕ, List, Some, length, map, option_map, slice_get, string_bytes, take}
 use Rattle.lft_whole.specs.declared.{sources.source.SourceFile.SourceFile, tree.Reactor.Reactor}
-use Rattle.lft_classes.specs.{Scopes.{AreNumbered, placed}, inner.Scopes.{EachMeans, HasMeaning, IsOwnAt, reactors_before}}
+use Rattle.lft_classes.specs.inner.Scopes.{AreNumbered, placed, EachMeans, HasMeaning, IsOwnAt, reactors_before}
 use Rattle.lft_classes.proofs.scopes.own_scope.Given as goal
 
 abbrev pub invariant-loop-place : goal.invariant-loop-place

@@ -1,6 +1,6 @@
 use Rattle.std.proofs.Common.{◌≡◌, ◌+◌, ◌++◌, length, Some, slice_get, refl, sym, ap, subst, ◌∙◌, arith}
 use Rattle.std.proofs.lemmas.{List.length_push, Option.slice_get_read}
-use Rattle.lft_classes.{specs.{inner.Scopes.IsOwnScope, Scopes.reactors_of}, proofs.{Meanings.scopes_push, Numbering.{before_all, before_more}}}
+use Rattle.lft_classes.{specs.inner.Scopes.{IsOwnScope, reactors_of}, proofs.{Meanings.scopes_push, Numbering.{before_all, before_more}}}
 use Rattle.lft_classes.proofs.scopes.own_scopes.Goals as goal
 
 pub loop-number-preserved : goal.loop-number-preserved

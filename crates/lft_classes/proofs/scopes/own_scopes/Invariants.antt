@@ -1,5 +1,5 @@
 use Rattle.std.proofs.Common.{◌≡◌, ℕ, [], length, Some, slice_get}
-use Rattle.lft_classes.specs.{declared.scopes.Scope.Scope, Scopes.{AreNumbered, placed}, inner.Scopes.{IsOwnScope, reactors_before}}
+use Rattle.lft_classes.specs.{declared.scopes.Scope.Scope, inner.Scopes.{AreNumbered, placed, IsOwnScope, reactors_before}}
 use Rattle.lft_classes.proofs.scopes.own_scopes.Given as goal
 
 abbrev pub invariant-loop-number : goal.invariant-loop-number

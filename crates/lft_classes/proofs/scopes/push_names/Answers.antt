@@ -1,6 +1,6 @@
 use Rattle.std.proofs.Common.{◌≡◌, ◌<◌, ℕ, List, inr, length, Some, slice_get, string_bytes, refl, sym, subst, arith}
 use Rattle.std.proofs.lemmas.Option.{slice_get_read, slice_get_within}
-use Rattle.lft_classes.specs.{inner.Scopes.{EachMeans, HasMeaning, IsGiven, MeansAt}, Scopes.IsOwn}
+use Rattle.lft_classes.specs.inner.Scopes.{EachMeans, HasMeaning, IsGiven, MeansAt, IsOwn}
 use Rattle.lft_classes.proofs.{Building.below_one, Meanings.{given_kept, has_last, has_push, means_push}}
 use Rattle.lft_classes.proofs.scopes.push_names.Goals as goal
 

@@ -1,6 +1,6 @@
 use Rattle.std.proofs.Common.{◌≡◌, ◌<◌, ℕ, List, Some, slice_get}
 use Rattle.lft_whole.specs.declared.{sources.source.SourceFile.SourceFile, tree.ImportedName.ImportedName}
-use Rattle.lft_classes.specs.{inner.Scopes.{AreOwnScopes, EachMeans, HasMeaning, IsGiven, MeansAt}, Scopes.IsImport}
+use Rattle.lft_classes.specs.inner.Scopes.{AreOwnScopes, EachMeans, HasMeaning, IsGiven, MeansAt, IsImport}
 use Rattle.lft_classes.proofs.scopes.push_names.Given as goal
 
 abbrev pub invariant-loop-place : goal.invariant-loop-place

@@ -3,7 +3,7 @@ use Rattle.std.proofs.lemmas.Option.{slice_get_within}
 use Rattle.lft_whole.specs.declared.tree.Name.{Name}
 use Rattle.lft_classes.specs.{declared.shapes.{Inherited.Inherited, InheritedParameter.InheritedParameter}, inner.Naming.{EachNamed, HasNamed}, Shapes.name_of}
 use Rattle.lft_classes.proofs.{Building.below_one, Naming.{all_noted, has_named_last, has_named_push, named_push}}
-use Rattle.lft_classes.specs.declared.shapes.Thing.TheVariants as thing
+use Rattle.lft_classes.specs.declared.shapes.OwnThing.TheVariants as thing
 use Rattle.lft_classes.proofs.shapes.all_named.Goals as goal
 
 pub loop-number-preserved : goal.loop-number-preserved

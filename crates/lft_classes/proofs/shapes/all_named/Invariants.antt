@@ -1,7 +1,7 @@
 use Rattle.std.proofs.Common.{◌≡◌, ◌<◌, ℕ, List, Some, option_map, slice_get, string_bytes}
 use Rattle.lft_whole.specs.declared.tree.Name.{Name}
 use Rattle.lft_classes.specs.{declared.shapes.{Inherited.Inherited, InheritedParameter.InheritedParameter}, inner.Naming.{EachNamed, HasNamed}, Shapes.name_of}
-use Rattle.lft_classes.specs.declared.shapes.Thing.TheVariants as thing
+use Rattle.lft_classes.specs.declared.shapes.OwnThing.TheVariants as thing
 use Rattle.lft_classes.proofs.shapes.all_named.Given as goal
 
 abbrev pub invariant-loop-number : goal.invariant-loop-number

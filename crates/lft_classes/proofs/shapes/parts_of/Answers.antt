@@ -1,6 +1,6 @@
 use Rattle.std.proofs.Common.{◌≡◌, ◌++◌, get_or, sym, ap, ◌∙◌}
 use Rattle.std.proofs.lemmas.Option.{get_or_from_slice_get}
-use Rattle.lft_classes.{specs.Built.{members_at, parameters_at}, proofs.Building.flat_more}
+use Rattle.lft_classes.{specs.inner.Built.{members_at, parameters_at}, proofs.Building.flat_more}
 use Rattle.lft_classes.proofs.shapes.parts_of.Goals as goal
 
 pub loop-place-preserved : goal.loop-place-preserved

@@ -1,6 +1,6 @@
 use Rattle.std.proofs.Common.{◌≡◌, take}
 use Rattle.std.specs.Prelude.{flat_map}
-use Rattle.lft_classes.specs.Built.{located, located_parameters, members_at, parameters_at}
+use Rattle.lft_classes.specs.inner.Built.{located, located_parameters, members_at, parameters_at}
 use Rattle.lft_classes.proofs.shapes.parts_of.Given as goal
 
 abbrev pub invariant-loop-place : goal.invariant-loop-place

@@ -1,6 +1,6 @@
 use Rattle.std.proofs.Common.{◌≡◌, ◌++◌, ◌<◌, map, take, length, refl, sym, ap, ◌∙◌, arith}
 use Rattle.std.proofs.lemmas.Grind.{common_steps}
-use Rattle.lft_classes.{specs.Built.located, proofs.Building.pushed}
+use Rattle.lft_classes.{specs.inner.Built.located, proofs.Building.pushed}
 use Rattle.lft_classes.proofs.shapes.push_members.Goals as goal
 
 pub loop-member-preserved : goal.loop-member-preserved

@@ -1,5 +1,5 @@
 use Rattle.std.proofs.Common.{◌≡◌, ◌++◌, map, take}
-use Rattle.lft_classes.specs.Built.{located}
+use Rattle.lft_classes.specs.inner.Built.{located}
 use Rattle.lft_classes.proofs.shapes.push_members.Given as goal
 
 abbrev pub invariant-loop-member : goal.invariant-loop-member

@@ -2,7 +2,7 @@ use Rattle.std.proofs.Common.{◌≡◌, ℕ, List, Some, None, option_map, stri
 use Rattle.lft_lists.proofs.Places.{Some_same}
 use Rattle.lft_whole.specs.declared.tree.Name.{Name}
 use Rattle.lft_classes.{specs.{inner.Naming.{EachNamed, HasNamed}, Shapes.name_of}, proofs.Naming.{has_named_last, has_named_push, named_push}}
-use Rattle.lft_classes.specs.declared.shapes.Thing.TheVariants as thing
+use Rattle.lft_classes.specs.declared.shapes.OwnThing.TheVariants as thing
 use Rattle.lft_classes.proofs.shapes.push_named.Goals as goal
 
 pub returns-clause-each : goal.returns-clause-each

@@ -1,5 +1,5 @@
 use Rattle.std.proofs.Common.{◌≡◌, ◌++◌, map, take}
-use Rattle.lft_classes.specs.Built.{located_parameters}
+use Rattle.lft_classes.specs.inner.Built.{located_parameters}
 use Rattle.lft_classes.proofs.shapes.push_parameters.Given as goal
 
 abbrev pub invariant-loop-parameter : goal.invariant-loop-parameter

@@ -1,7 +1,7 @@
 use Rattle.std.proofs.Common.{◌≡◌, ℕ, sym, ap, ◌∙◌, arith}
 use Rattle.std.specs.Prelude.{unwrap_or}
 use Rattle.std.proofs.lemmas.Option.{slice_get_within}
-use Rattle.lft_resolve.specs.Places.{place_in}
+use Rattle.lft_resolve.specs.inner.Places.{place_in}
 use Rattle.lft_classes.{specs.declared.shapes.Named.Named, proofs.{Building.below_one, Naming.once}}
 use Rattle.lft_classes.proofs.shapes.refuse_twice.Goals as goal
 

@@ -1,6 +1,6 @@
 use Rattle.std.proofs.Common.{◌≡◌, ◌<◌, ℕ, Some, slice_get}
 use Rattle.std.specs.Prelude.{unwrap_or}
-use Rattle.lft_resolve.specs.Places.{place_in}
+use Rattle.lft_resolve.specs.inner.Places.{place_in}
 use Rattle.lft_classes.specs.declared.shapes.Named.{Named}
 use Rattle.lft_classes.proofs.shapes.refuse_twice.Given as goal
 

@@ -1,5 +1,5 @@
 use Rattle.std.proofs.Common.{◌*◌, ◌<◌, slice_get, ap, ◌∙◌, arith}
-use Rattle.lft_elaborate.{specs.Channels.Channels.places, proofs.ChannelsLemmas.Grids.cell_at}
+use Rattle.lft_elaborate.{specs.inner.Channels.Channels.places, proofs.ChannelsLemmas.Grids.cell_at}
 use Rattle.lft_elaborate.proofs.channels.place_at.Goals as goal
 
 -- src/lib.rt:30:1

@@ -1,7 +1,7 @@
 use Rattle.std.proofs.Common.{◌≡◌, ◌<◌, ℕ, Bool, List, true, false, length, slice_set, Option, Some, refl, sym, ap, subst, ◌∙◌, arith, slice_get}
 use Rattle.std.specs.Prelude.{unwrap_or}
 use Rattle.std.proofs.lemmas.Option.{slice_get_read}
-use Rattle.lft_classes.specs.Walks.{Has}
+use Rattle.lft_classes.specs.inner.Walks.{Has}
 use Rattle.lft_elaborate.{specs.inner.Used.{AreMarked, Stay}, proofs.Marks.{last_has, marks_put, only_push, stay_push}}
 use Rattle.lft_elaborate.proofs.counts.mark.Goals as goal
 

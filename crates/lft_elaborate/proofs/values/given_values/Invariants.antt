@@ -1,5 +1,5 @@
 use Rattle.std.proofs.Common.{◌≡◌, ℕ, ◌<◌, drop, map, option_map, slice_get, Some, vec_len}
-use Rattle.lft_elaborate.specs.Values.{given_to}
+use Rattle.lft_elaborate.specs.inner.Values.{given_to}
 use Rattle.lft_elaborate.proofs.values.given_values.Given as goal
 
 abbrev pub invariant-loop-place : goal.invariant-loop-place

@@ -1,6 +1,6 @@
 use Rattle.std.proofs.Common.{◌<◌, Some, map, arith, rules, w64}
 use Rattle.std.specs.Prelude.{FitsSigned}
-use Rattle.lft_elaborate.{specs.Values.value_inside, proofs.Valuing.{given_read, number_pushed}}
+use Rattle.lft_elaborate.{specs.inner.Values.value_inside, proofs.Valuing.{given_read, number_pushed}}
 use Rattle.lft_elaborate.proofs.values.inner_values.Goals as goal
 
 pub loop-parameter-preserved : goal.loop-parameter-preserved

@@ -1,6 +1,6 @@
 use Rattle.std.proofs.Common.{rules, w64}
 use Rattle.std.specs.Prelude.{FitsSigned}
-use Rattle.lft_elaborate.{specs.Values.main_value, proofs.Valuing.number_pushed}
+use Rattle.lft_elaborate.{specs.inner.Values.main_value, proofs.Valuing.number_pushed}
 use Rattle.lft_elaborate.proofs.values.main_values.Goals as goal
 
 pub loop-parameter-preserved : goal.loop-parameter-preserved

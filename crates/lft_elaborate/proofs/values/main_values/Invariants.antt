@@ -1,5 +1,5 @@
 use Rattle.std.proofs.Common.{◌≡◌, map, Some}
-use Rattle.lft_elaborate.specs.{Channels.Channels.below, Values.main_value}
+use Rattle.lft_elaborate.specs.{Channels.Channels.below, inner.Values.main_value}
 use Rattle.lft_elaborate.proofs.values.main_values.Given as goal
 
 abbrev pub invariant-loop-parameter : goal.invariant-loop-parameter

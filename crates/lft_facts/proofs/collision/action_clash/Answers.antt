@@ -1,7 +1,7 @@
 use Rattle.std.proofs.Common.{◌≡◌, ◌+◌, ℕ, length, ap, ◌∙◌, subst, arith, Option, Some}
 use Rattle.lft_tag.specs.Shifts.{Folded}
 use Rattle.lft_ir.specs.{Parts.Parts, declared.parts.Name.TheVariants.Action}
-use Rattle.lft_rows.specs.{declared.presence.causes.Cause.Cause as Event, inner.Presence.{Causes.IsLastCause, Lookups.IsFirstCause}}
+use Rattle.lft_rows.specs.{declared.presence.causes.EventCause.EventCause as Event, inner.Presence.{Causes.IsLastCause, Lookups.IsFirstCause}}
 use Rattle.lft_facts.proofs.{Causes.action_holds, Clashes.{no_first_events, no_last_events, one_place_events, places_clash, places_apart, place_event}}
 use Rattle.lft_facts.proofs.collision.action_clash.Goals as goal
 

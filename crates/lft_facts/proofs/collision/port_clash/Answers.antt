@@ -1,7 +1,7 @@
 use Rattle.std.proofs.Common.{◌≡◌, Some, slice_get, subst, sym, ◌∙◌, refl, Option}
 use Rattle.lft_tag.specs.{declared.Tag.Tag, Shifts.Folded}
 use Rattle.lft_ir.specs.{Parts.Parts, declared.parts.Name.TheVariants.Port}
-use Rattle.lft_rows.specs.{declared.presence.causes.Cause.Cause as Event, inner.Presence.{Causes.{tag_of, IsLastCause}, Lookups.IsFirstCause}}
+use Rattle.lft_rows.specs.{declared.presence.causes.EventCause.EventCause as Event, inner.Presence.{Causes.{tag_of, IsLastCause}, Lookups.IsFirstCause}}
 use Rattle.lft_rows.proofs.PresenceLemmas.{Presences.chain_of, Lists.not_true}
 use Rattle.lft_facts.proofs.Causes.{last_written}
 use Rattle.lft_facts.proofs.Clashes.{two_written, written_apart, no_last_clash, no_first_clash, one_tag_clash, other_written, other_place}

@@ -1,6 +1,6 @@
 use Rattle.std.proofs.Common.{subst}
-use Rattle.lft_lower.specs.{Meanings.{Meanings.all_places, Standing.all_tokens}, inner.{Meanings.Meanings.{here, token_in}, Lowered.Adds}}
-use Rattle.lft_lower.specs.{Standing.{AddsAt, AreSidesAt}, Lowered.AreConnected}
+use Rattle.lft_lower.specs.inner.{Meanings.{Meanings.{all_places, here, token_in}, Standing.all_tokens}, Lowered.{Adds, AreConnected}}
+use Rattle.lft_lower.specs.inner.Standing.{AddsAt, AreSidesAt}
 use Rattle.lft_lower.proofs.connections.push_connection.Goals as goal
 
 pub returns-clause-joined : goal.returns-clause-joined

@@ -2,10 +2,10 @@ use Rattle.std.proofs.Common.{◌≡◌, ◌<◌, ◌++◌, [], ◌∷◌, true,
 use Rattle.std.specs.Prelude.{option_map, slice_get}
 use Rattle.std.proofs.lemmas.{List.{append-nil, length-map}, Option.slice_get-get_or}
 use Rattle.lft_lists.proofs.Mapped.{mapped}
-use Rattle.lft_elaborate.specs.Channels.{Channels.{below, joined, source}, Lowered.single}
+use Rattle.lft_elaborate.specs.{Channels.Channels.below, inner.Channels.{Channels.{joined, source}, Lowered.single}}
 use Rattle.lft_tree.specs.{Tree.ConnectionMember, View.{member_view, member_views, ref_view, ref_views, time_view}, declared.tree.Reference.Reference}
 use Rattle.lft_lower.proofs.{Joining.{added_next, joined_low, pairs_all, pairs_more, pairs_none}, Pairing.tokens_next, Standing.{at_as, at_more, at_none}}
-use Rattle.lft_lower.specs.{Standing.{pair_tokens, time_tokens}, Meanings.Standing.ref_tokens}
+use Rattle.lft_lower.specs.inner.{Standing.{pair_tokens, time_tokens}, Meanings.Standing.ref_tokens}
 use Rattle.lft_lower.proofs.connections.push_pairs.Goals as goal
 
 pub loop-pair-init : goal.loop-pair-init

@@ -1,7 +1,7 @@
 use Rattle.std.proofs.Common.{◌≡◌, ◌≤◌, ◌++◌, true, List, length, map, option_map}
 use Rattle.lft_tree.specs.{Tree.{ConnectionTree, ConnectionMember}, View.{member_views, ref_views, time_view}}
-use Rattle.lft_elaborate.specs.Channels.Channels.{below, joined}
-use Rattle.lft_lower.{specs.{Meanings.Standing.ref_tokens, Standing.{AddsAt, pair_tokens, time_tokens}}, proofs.Joining.ArePairs}
+use Rattle.lft_elaborate.specs.{Channels.Channels.below, inner.Channels.Channels.joined}
+use Rattle.lft_lower.{specs.inner.{Meanings.Standing.ref_tokens, Standing.{AddsAt, pair_tokens, time_tokens}}, proofs.Joining.ArePairs}
 use Rattle.lft_lower.proofs.connections.push_pairs.Given as goal
 
 abbrev pub invariant-loop-pair : goal.invariant-loop-pair

@@ -2,11 +2,10 @@ use Rattle.std.proofs.Common.{◌≡◌, ℕ, Bool, true, List, length, min, tak
 use Rattle.std.specs.Prelude.{option_map}
 use Rattle.std.proofs.lemmas.List.{map-append}
 use Rattle.lft_tree.specs.View.{member_view, member_views, ref_views, time_view}
-use Rattle.lft_lower.specs.{Meanings.{Meanings.{Here, all_places}, Standing.{all_tokens, ref_tokens}}, inner.Meanings.Meanings.{here, token_in}}
-use Rattle.lft_lower.specs.Standing.{AreSidesAt, time_tokens}
+use Rattle.lft_lower.specs.inner.{Meanings.{Meanings.{Here, all_places, here, token_in}, Standing.{all_tokens, ref_tokens}}, Standing.{AreSidesAt, time_tokens}}
 use Rattle.lft_lower.proofs.{MeaningsLemmas.Standing.tokens_long, Joining.{connected_pairs, connected_whole}, Pairing.{AreCut, sides_each, sides_whole}}
 use Rattle.lft_lower.proofs.Standing.{at_as, at_one, at_this}
-use Rattle.lft_elaborate.specs.Channels.Channels.{joined}
+use Rattle.lft_elaborate.specs.inner.Channels.Channels.{joined}
 use Rattle.lft_whole.specs.declared.tree.Reference.{Reference as Written}
 use Rattle.lft_lower.proofs.connections.push_sides.Goals as goal
 

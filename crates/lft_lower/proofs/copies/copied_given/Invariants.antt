@@ -1,7 +1,7 @@
 use Rattle.std.proofs.Common.{◌≡◌, map, take}
 use Rattle.lft_tree.specs.View.{assignment_view}
 use Rattle.std.specs.List.{flat_map}
-use Rattle.lft_lower.specs.Standing.{given_tokens}
+use Rattle.lft_lower.specs.inner.Standing.{given_tokens}
 use Rattle.lft_lower.proofs.copies.copied_given.Given as goal
 
 abbrev pub invariant-loop-place : goal.invariant-loop-place

@@ -2,8 +2,8 @@ use Rattle.std.proofs.Common.{◌≡◌, ◌≤◌, ℕ, List, [], Some, map, sl
 use Rattle.std.specs.Prelude.{option_map, unwrap_or}
 use Rattle.std.{specs.{Option.option_and_then, List.flat_map}, proofs.lemmas.Option.slice_get-map}
 use Rattle.lft_classes.specs.declared.shapes.{Shape.Shape, Child.Child}
-use Rattle.lft_elaborate.specs.{Meanings.shape_inside, declared.settings.Settings.Settings}
-use Rattle.lft_lower.{specs.{inner.{Meanings.Meanings.{here, token_in}, Needed.{needed_given, needed_in}}, Standing.given_token}, proofs.Needing.none_lacks}
+use Rattle.lft_elaborate.specs.{inner.Meanings.shape_inside, declared.settings.Settings.Settings}
+use Rattle.lft_lower.{specs.inner.{Meanings.Meanings.{here, token_in}, Needed.{needed_given, needed_in}, Standing.given_token}, proofs.Needing.none_lacks}
 use Rattle.lft_lower.proofs.instances.checked.Goals as goal
 
 -- so many parameters of the shape in an instance have to be given

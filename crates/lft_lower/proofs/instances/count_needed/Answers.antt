@@ -2,7 +2,7 @@ use Rattle.std.proofs.Common.{◌≡◌, ◌<◌, ◌≤◌, get_or, length, sym
 use Rattle.std.specs.Prelude.{count_by}
 use Rattle.std.proofs.lemmas.List.{take_all, FromFn.{get_or-range_with_len, length-range_with_len}, Sums.{count_by_more_no, count_by_more_yes}}
 use Rattle.lft_elaborate.specs.Channels.Channels.{below}
-use Rattle.lft_lower.{specs.Needed.is_needed, proofs.instances.count_needed.Goals.{then-is_needed, else-is_needed}}
+use Rattle.lft_lower.{specs.inner.Needed.is_needed, proofs.instances.count_needed.Goals.{then-is_needed, else-is_needed}}
 use Rattle.lft_lower.proofs.instances.count_needed.Goals as goal
 
 pub loop-parameter-preserved : goal.loop-parameter-preserved

@@ -1,7 +1,7 @@
 use Rattle.std.proofs.Common.{◌≡◌, ◌≤◌, length, take}
 use Rattle.std.specs.Prelude.{count_by}
 use Rattle.lft_elaborate.specs.Channels.Channels.{below}
-use Rattle.lft_lower.specs.Needed.{is_needed}
+use Rattle.lft_lower.specs.inner.Needed.{is_needed}
 use Rattle.lft_lower.proofs.instances.count_needed.Given as goal
 
 abbrev pub invariant-loop-parameter : goal.invariant-loop-parameter

@@ -3,7 +3,7 @@ use Rattle.std.specs.Prelude.{option_map}
 use Rattle.std.{specs.List.{cons_option, flat_map}, proofs.lemmas.{List.take_all, Option.slice_get_read}}
 use Rattle.lft_lists.proofs.Picked.{kept_more}
 use Rattle.lft_tree.specs.View.{assignment_view}
-use Rattle.lft_lower.specs.{Lowered.{IsGiven, time_given}, inner.Meanings.Meanings.token_in, Standing.{given_token, given_tokens}}
+use Rattle.lft_lower.specs.inner.{Lowered.{IsGiven, time_given}, Meanings.Meanings.token_in, Standing.{given_token, given_tokens}}
 use Rattle.lft_lower.proofs.MeaningsLemmas.Growing.{all_done, all_next, flat_all, flat_grown}
 use Rattle.lft_lower.proofs.instances.given_times.Goals as goal
 

@@ -1,6 +1,6 @@
 use Rattle.std.proofs.Common.{◌≡◌, filter_map, map, take}
 use Rattle.std.specs.List.{All, flat_map}
-use Rattle.lft_lower.specs.{inner.Meanings.Meanings.token_in, Standing.{given_token, given_tokens}, Lowered.{IsGiven, time_given}}
+use Rattle.lft_lower.specs.inner.{Meanings.Meanings.token_in, Standing.{given_token, given_tokens}, Lowered.{IsGiven, time_given}}
 use Rattle.lft_tree.specs.View.{assignment_view}
 use Rattle.lft_lower.proofs.instances.given_times.Given as goal
 

@@ -1,6 +1,6 @@
 use Rattle.std.proofs.Common.{◌≡◌, ◌∷◌, ◌<◌, ◌≤◌, List, ℕ, map, string_bytes, sym, ap, ◌∙◌, arith, refl, rules}
 use Rattle.std.{proofs.lemmas.List.{append-nil, Elements.{All-nil, All-push}}, specs.List.flat_map}
-use Rattle.lft_lower.specs.{Standing.given_tokens, Meanings.Places.{count_of, name_at}, inner.Meanings.Places.several}
+use Rattle.lft_lower.specs.inner.{Standing.given_tokens, Meanings.Places.{count_of, name_at, several}}
 use Rattle.lft_lower.proofs.{Named.{named_all, named_grown}, Standing.{AreThese, at_more, at_none}}
 use Rattle.lft_tree.specs.{Tree.{AssignmentTree, MemberTree, InstanceMember}, View.{assignment_view, member_view, member_views}}
 use Rattle.lft_lower.proofs.instances.push_each.Goals as goal

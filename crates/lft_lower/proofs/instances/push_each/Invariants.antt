@@ -1,7 +1,7 @@
 use Rattle.std.proofs.Common.{◌≡◌, ◌∷◌, ◌++◌, map, take}
 use Rattle.std.specs.List.{All, flat_map}
 use Rattle.lft_tree.specs.{Tree.InstanceMember, View.{assignment_view, member_views}}
-use Rattle.lft_lower.specs.{Meanings.Places.names_of, inner.Meanings.Places.several, Standing.{AddsAt, given_tokens}}
+use Rattle.lft_lower.specs.inner.{Meanings.Places.{names_of, several}, Standing.{AddsAt, given_tokens}}
 use Rattle.lft_lower.proofs.instances.push_each.Given as goal
 
 abbrev pub invariant-loop-number : goal.invariant-loop-number

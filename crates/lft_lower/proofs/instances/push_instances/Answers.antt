@@ -1,8 +1,8 @@
 use Rattle.std.proofs.Common.{◌≡◌, ◌∷◌, ◌++◌, map, string_bytes, sym, ap, ◌∙◌, arith}
 use Rattle.std.{specs.List.{All, flat_map}, proofs.lemmas.List.Elements.{All-nil, All-weaker}}
 use Rattle.lft_tree.specs.View.{assignment_view, member_views}
-use Rattle.lft_lower.specs.{inner.Meanings.{Meanings.{here, token_in}, Names.texts, Places.several}, Meanings.Places.count_of, Lowered.instances}
-use Rattle.lft_lower.specs.Standing.{given_tokens, instance_tokens}
+use Rattle.lft_lower.specs.inner.{Meanings.{Meanings.{here, token_in}, Names.texts, Places.{several, count_of}}, Lowered.instances}
+use Rattle.lft_lower.specs.inner.Standing.{given_tokens, instance_tokens}
 use Rattle.lft_lower.proofs.{Adding.{instances_none, instances_some}, Standing.{AreThese, at_as, at_none, at_this}}
 use Rattle.lft_lower.proofs.instances.push_instances.Goals as goal
 

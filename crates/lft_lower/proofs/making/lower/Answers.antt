@@ -1,8 +1,8 @@
 use Rattle.std.proofs.Common.{◌≡◌, ℕ, List, subst, sym, ap, ◌∙◌}
 use Rattle.lft_whole.specs.declared.sources.source.SourceFile.{SourceFile}
-use Rattle.lft_classes.specs.{Nestings.IsNesting, declared.work.Work.Work}
-use Rattle.lft_elaborate.specs.{declared.settings.Settings.Settings, Noted.{AreSettings, Table, table}, inner.Noted.GoesOn, Used.AreUsed, Values.main_setting}
-use Rattle.lft_lower.specs.Reactors.{IsProgram}
+use Rattle.lft_classes.specs.{inner.Nestings.IsNesting, declared.work.Work.Work}
+use Rattle.lft_elaborate.specs.{declared.settings.Settings.Settings, inner.{Noted.{AreSettings, Table, table, GoesOn}, Used.AreUsed, Values.main_setting}}
+use Rattle.lft_lower.specs.inner.Reactors.{IsProgram}
 use Rattle.lft_lower.proofs.making.lower.Goals as goal
 
 settings_stay : (old new : Table) → GoesOn old new → AreSettings old → AreSettings new

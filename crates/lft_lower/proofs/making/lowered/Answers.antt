@@ -2,7 +2,7 @@ use Rattle.std.proofs.Common.{◌≡◌, ℕ, List, Option, None, subst}
 use Rattle.std.specs.Prelude.{String}
 use Rattle.lft_tree.specs.{Tree.ItemTree, View.file_view}
 use Rattle.lft_elaborate.specs.declared.settings.Settings.{Settings}
-use Rattle.lft_lower.{specs.{inner.Meanings.Names.texts, Reactors.AreReactors}, proofs.Names.has_identifiers}
+use Rattle.lft_lower.{specs.inner.{Meanings.Names.texts, Reactors.AreReactors}, proofs.Names.has_identifiers}
 use Rattle.lft_lower.proofs.making.lowered.Goals as goal
 
 same_reactors : {Z : Type 0} (s : Settings) (names names_are : List (Option (String Z))) (used : List ℕ) (items : List ItemTree) → names ≡ names_are → AreReactors s (texts names) used items → AreReactors s (texts names_are) used items

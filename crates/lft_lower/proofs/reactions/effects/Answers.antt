@@ -1,6 +1,6 @@
 use Rattle.std.proofs.Common.{◌≡◌, Some, length, slice_get, refl, arith}
 use Rattle.std.proofs.lemmas.Option.{slice_get_read}
-use Rattle.lft_lower.specs.{inner.Meanings.Meanings.{here, token_in}, Lowered.{MeansEffect, effect_places}, Standing.tokens_of_effect}
+use Rattle.lft_lower.specs.inner.{Meanings.Meanings.{here, token_in}, Lowered.{MeansEffect, effect_places}, Standing.tokens_of_effect}
 use Rattle.lft_lower.proofs.MeaningsLemmas.Growing.{all_done, all_next, flat_all, flat_grown}
 use Rattle.lft_lower.proofs.reactions.effects.Goals as goal
 

@@ -1,8 +1,7 @@
 use Rattle.std.proofs.Common.{◌≡◌, take}
 use Rattle.std.specs.List.{All, flat_map}
 use Rattle.lft_tree.specs.View.{ref_views}
-use Rattle.lft_lower.specs.{inner.Meanings.Meanings.{here, token_in}, Meanings.Standing.ref_tokens, Standing.tokens_of_effect}
-use Rattle.lft_lower.specs.Lowered.{MeansEffect, effect_places}
+use Rattle.lft_lower.specs.inner.{Meanings.{Meanings.{here, token_in}, Standing.ref_tokens}, Standing.tokens_of_effect, Lowered.{MeansEffect, effect_places}}
 use Rattle.lft_lower.proofs.reactions.effects.Given as goal
 
 abbrev pub invariant-loop-place : goal.invariant-loop-place

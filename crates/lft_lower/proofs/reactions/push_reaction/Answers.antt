@@ -1,7 +1,7 @@
 use Rattle.std.proofs.Common.{◌≡◌, ◌++◌, map, subst, ap, ◌∙◌}
 use Rattle.std.specs.List.{All, flat_map}
-use Rattle.lft_lower.specs.{Meanings.{Meanings.{Means, all_places}, Standing.{all_tokens, ref_tokens}}, inner.Meanings.Meanings.{here, token_in}}
-use Rattle.lft_lower.specs.{Lowered.effect_places, Standing.{all_trigger_tokens, reaction_tokens, trigger_tokens}}
+use Rattle.lft_lower.specs.inner.{Meanings.{Meanings.{Means, all_places, here, token_in}, Standing.{all_tokens, ref_tokens}}, Lowered.effect_places}
+use Rattle.lft_lower.specs.inner.Standing.{all_trigger_tokens, reaction_tokens, trigger_tokens}
 use Rattle.lft_lower.proofs.{Adding.reaction_stands, Standing.{at_more, flat_one}}
 use Rattle.lft_tree.specs.{Tree.ReactionMember, View.{ref_views, trigger_view}}
 use Rattle.lft_lower.proofs.reactions.push_reaction.Goals as goal

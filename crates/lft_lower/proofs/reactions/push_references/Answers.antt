@@ -3,7 +3,7 @@ use Rattle.std.proofs.lemmas.{Iterator.{Adapters.YieldsList-from_vec, Consumers.
 use Rattle.std.proofs.lemmas.Grind.{flat_map-append}
 use Rattle.std.specs.List.{flat_map}
 use Rattle.lft_tree.specs.{declared.tree.Reference.Reference, Tree.OnRef, View.{ref_view, ref_views, trigger_view}}
-use Rattle.lft_lower.specs.{Meanings.Standing.ref_tokens, Standing.trigger_tokens}
+use Rattle.lft_lower.specs.inner.{Meanings.Standing.ref_tokens, Standing.trigger_tokens}
 use Rattle.lft_lower.proofs.reactions.push_references.Goals as goal
 
 pub loop-reference-init : goal.loop-reference-init

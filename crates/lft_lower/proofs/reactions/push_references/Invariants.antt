@@ -1,7 +1,7 @@
 use Rattle.std.proofs.Common.{◌≡◌, ◌++◌, map}
 use Rattle.lft_tree.specs.{Tree.OnRef, View.{ref_views, trigger_view}}
 use Rattle.std.specs.List.{flat_map}
-use Rattle.lft_lower.specs.{Meanings.Standing.ref_tokens, Standing.trigger_tokens}
+use Rattle.lft_lower.specs.inner.{Meanings.Standing.ref_tokens, Standing.trigger_tokens}
 use Rattle.lft_lower.proofs.reactions.push_references.Given as goal
 
 abbrev pub invariant-loop-reference : goal.invariant-loop-reference

@@ -2,8 +2,8 @@ use Rattle.std.proofs.Common.{◌≡◌, ℕ, [], ◌∷◌, ◌++◌, List, len
 use Rattle.std.specs.Prelude.{option_map}
 use Rattle.std.{specs.List.flat_map, proofs.lemmas.{Grind.flat_map-append, List.{length-map, map-append}}}
 use Rattle.lft_tree.specs.{Tree.{TriggerTree, OnRef}, View.trigger_view, declared.tree.Trigger.Trigger}
-use Rattle.lft_elaborate.specs.Channels.Lowered.{own}
-use Rattle.lft_lower.specs.{inner.Meanings.Meanings.{here, token_in}, Lowered.all_triggers, Standing.{or_at, tokens_of_trigger, trigger_tokens}}
+use Rattle.lft_elaborate.specs.inner.Channels.Lowered.{own}
+use Rattle.lft_lower.specs.inner.{Meanings.Meanings.{here, token_in}, Lowered.all_triggers, Standing.{or_at, tokens_of_trigger, trigger_tokens}}
 use Rattle.lft_lower.proofs.{Adding.{triggers_run, triggers_sleep}, Standing.{at_none, at_this}}
 use Rattle.lft_lower.proofs.reactions.some_triggers.Goals as goal
 

@@ -1,7 +1,7 @@
 use Rattle.std.proofs.Common.{◌≡◌, map, take}
 use Rattle.std.specs.List.{All, flat_map}
 use Rattle.lft_tree.specs.View.{trigger_view}
-use Rattle.lft_lower.specs.{inner.Meanings.Meanings.{here, token_in}, Standing.{tokens_of_trigger, trigger_tokens}, Lowered.{MeansTrigger, trigger_places}}
+use Rattle.lft_lower.specs.inner.{Meanings.Meanings.{here, token_in}, Standing.{tokens_of_trigger, trigger_tokens}, Lowered.{MeansTrigger, trigger_places}}
 use Rattle.lft_lower.proofs.reactions.triggers.Given as goal
 
 abbrev pub invariant-loop-place : goal.invariant-loop-place

@@ -1,7 +1,7 @@
 use Rattle.std.proofs.Common.{◌≡◌, [], Some, None, length, slice_get, refl, subst, sym, arith}
 use Rattle.std.proofs.lemmas.{List.take_all, Option.slice_get_read}
 use Rattle.lft_tree.specs.View.{member_views}
-use Rattle.lft_lower.specs.{inner.Meanings.Names.texts, Lowered.{AreLowered, no_members}, Standing.{AreAt, none_at}}
+use Rattle.lft_lower.specs.inner.{Meanings.Names.texts, Lowered.{AreLowered, no_members}, Standing.{AreAt, none_at}}
 use Rattle.lft_lower.proofs.{Turns.{lowered_all, lowered_next}, Standing.at_next}
 use Rattle.lft_lower.proofs.reactors.members.Goals as goal
 

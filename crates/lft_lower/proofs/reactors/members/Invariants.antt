@@ -1,7 +1,7 @@
 use Rattle.std.proofs.Common.{take, string_bytes}
 use Rattle.std.specs.Prelude.{option_map}
 use Rattle.lft_tree.specs.View.{member_views}
-use Rattle.lft_lower.specs.{inner.Meanings.Names.texts, Lowered.AreLowered, Standing.AreAt}
+use Rattle.lft_lower.specs.inner.{Meanings.Names.texts, Lowered.AreLowered, Standing.AreAt}
 use Rattle.lft_lower.proofs.reactors.members.Given as goal
 
 abbrev pub invariant-loop-number : goal.invariant-loop-number

@@ -4,7 +4,7 @@ use Rattle.std.{specs.List.cons_option, proofs.lemmas.{List.{take_all, FromFn.{g
 use Rattle.lft_lists.proofs.Picked.{kept_more}
 use Rattle.lft_tree.specs.{View.parameter_view, declared.tree.Parameter.Parameter}
 use Rattle.lft_elaborate.specs.Channels.Channels.{below}
-use Rattle.lft_lower.{specs.{Reactors.timed_parameter, Standing.parameter_token}, proofs.Defaults.{defaults_all, defaults_next}}
+use Rattle.lft_lower.{specs.inner.{Reactors.timed_parameter, Standing.parameter_token}, proofs.Defaults.{defaults_all, defaults_next}}
 use Rattle.lft_lower.proofs.reactors.parameters.Goals as goal
 
 pub loop-number-init : goal.loop-number-init

@@ -1,7 +1,7 @@
 use Rattle.std.proofs.Common.{◌≡◌, filter_map, length, map, take}
 use Rattle.lft_tree.specs.{View.parameter_view, declared.tree.Parameter.Parameter}
 use Rattle.lft_elaborate.specs.Channels.Channels.{below}
-use Rattle.lft_lower.{specs.{Reactors.timed_parameter, Standing.parameter_token}, proofs.Defaults.HaveDefaults}
+use Rattle.lft_lower.{specs.inner.{Reactors.timed_parameter, Standing.parameter_token}, proofs.Defaults.HaveDefaults}
 use Rattle.lft_lower.proofs.reactors.parameters.Given as goal
 
 abbrev pub invariant-loop-number : goal.invariant-loop-number

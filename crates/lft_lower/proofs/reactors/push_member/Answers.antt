@@ -2,8 +2,8 @@ use Rattle.std.proofs.Common.{◌≡◌, ℕ, List, string_bytes, refl, subst, s
 use Rattle.std.specs.Prelude.{option_map}
 use Rattle.lft_tree.specs.declared.tree.Member.{Member as Core}
 use Rattle.lft_whole.specs.declared.tree.Member.{Member}
-use Rattle.lft_lower.specs.{inner.Meanings.{Meanings.{here, token_in}, Names.texts}, declared.meanings.places.Within.Within, Lowered.ports}
-use Rattle.lft_lower.specs.Standing.{AddsAt, ArePartsAt, declared_at}
+use Rattle.lft_lower.specs.inner.{Meanings.{Meanings.{here, token_in}, Names.texts}, Lowered.ports, Standing.{AddsAt, ArePartsAt, declared_at}}
+use Rattle.lft_lower.specs.declared.meanings.places.Within.{Within}
 use Rattle.lft_lower.proofs.{Adding.lowered_as, Standing.at_this}
 use Rattle.lft_whole.specs.declared.tree.Member.TheVariants as member
 use Rattle.lft_lower.proofs.reactors.push_member.Goals as goal

@@ -1,8 +1,7 @@
 use Rattle.std.proofs.Common.{◌<◌, ◌≤◌, List, ℕ, refl, sym, ap, ◌∙◌, arith}
 use Rattle.std.proofs.lemmas.List.{append-nil}
 use Rattle.lft_tree.specs.{Tree.{MemberTree, PortMember}, View.{member_view, member_views}}
-use Rattle.lft_lower.specs.{Meanings.Places.{count_of, name_at}, inner.Meanings.Places.several}
-use Rattle.lft_lower.proofs.{Named.{named_all, named_grown}, Standing.{at_more, at_none}}
+use Rattle.lft_lower.{specs.inner.Meanings.Places.{count_of, name_at, several}, proofs.{Named.{named_all, named_grown}, Standing.{at_more, at_none}}}
 use Rattle.lft_lower.proofs.reactors.push_ports.Goals as goal
 
 pub loop-number-init : goal.loop-number-init

@@ -1,6 +1,6 @@
 use Rattle.std.proofs.Common.{◌≡◌, ◌++◌, map, take}
 use Rattle.lft_tree.specs.{Tree.PortMember, View.member_views}
-use Rattle.lft_lower.specs.{Meanings.Places.names_of, inner.Meanings.Places.several, Standing.AddsAt}
+use Rattle.lft_lower.specs.inner.{Meanings.Places.{names_of, several}, Standing.AddsAt}
 use Rattle.lft_lower.proofs.reactors.push_ports.Given as goal
 
 abbrev pub invariant-loop-number : goal.invariant-loop-number

@@ -1,7 +1,7 @@
 use Rattle.std.proofs.Common.{[], subst, sym, ap, ◌∙◌}
 use Rattle.std.proofs.lemmas.List.{map-append, take_all}
 use Rattle.lft_tree.specs.ItemView.{item_view, item_views}
-use Rattle.lft_lower.specs.{inner.Meanings.Names.texts, Reactors.{AreReactors, no_reactors}, Standing.{ArePlaced, none_placed}}
+use Rattle.lft_lower.specs.inner.{Meanings.Names.texts, Reactors.{AreReactors, no_reactors}, Standing.{ArePlaced, none_placed}}
 use Rattle.lft_lower.proofs.{Turns.reactors_next, Standing.placed_next}
 use Rattle.lft_lower.proofs.reactors.reactors.Goals as goal
 

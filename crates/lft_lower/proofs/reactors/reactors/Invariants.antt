@@ -1,6 +1,6 @@
 use Rattle.std.proofs.Common.{take}
 use Rattle.lft_tree.specs.ItemView.{item_views}
-use Rattle.lft_lower.specs.{inner.Meanings.Names.texts, Reactors.AreReactors, Standing.ArePlaced}
+use Rattle.lft_lower.specs.inner.{Meanings.Names.texts, Reactors.AreReactors, Standing.ArePlaced}
 use Rattle.lft_lower.proofs.reactors.reactors.Given as goal
 
 abbrev pub invariant-loop-place : goal.invariant-loop-place

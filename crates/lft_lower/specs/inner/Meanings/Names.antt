@@ -1,7 +1,11 @@
 -- Inside: names of reactors in the core.
-use Rattle.std.specs.Prelude.{◌≡◌, ℕ, List, Option, Some, None, map, option_map, slice_index_or, String, string_bytes, true}
+use Rattle.std.specs.Prelude.{◌≡◌, ℕ, List, Option, Some, None, slice_index_or, map, option_map, String, string_bytes, true}
 use Rattle.std.specs.BTreeSet.{contains_text}
-use Rattle.lft_lower.specs.{declared.meanings.naming.CoreNames.CoreNames, Meanings.Names.AreApart}
+use Rattle.lft_lower.specs.declared.meanings.naming.CoreNames.{CoreNames}
+
+-- no two of the names are the same
+abbrev pub AreApart : List (Option (List ℕ)) → Type 0
+AreApart names = (i j : ℕ) (q : List ℕ) → slice_index_or names i None ≡ Some q → slice_index_or names j None ≡ Some q → i ≡ j
 
 -- the names as texts, by number
 abbrev pub texts : {Z : Type 0} → List (Option (String Z)) → List (Option (List ℕ))

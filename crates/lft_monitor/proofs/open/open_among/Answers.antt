@@ -1,13 +1,13 @@
 use Rattle.std.proofs.Common.{◌∙◌, ◌+◌, ◌++◌, ◌∷◌, [], List, sym, subst, ap, arith}
 use Rattle.std.{specs.Global.Vec, proofs.lemmas.Bool.false≢true}
 use Rattle.lft_lists.proofs.Places.{get_there}
-use Rattle.lft_monitor.specs.declared.open.OpenRun.{OpenRun}
+use Rattle.lft_monitor.specs.declared.open.StillOpen.{StillOpen}
 use Rattle.lft_monitor.proofs.Opened.{AreOpenTo, open_all, open_more, open_none, open_same}
 use Rattle.lft_monitor.proofs.open.open_among.Goals.{then-is_open+in_ok-push, else-is_open}
 use Rattle.lft_monitor.proofs.open.open_among.Goals as goal
 
 pub loop-place-init : goal.loop-place-init
-loop-place-init c = subst (λ (runs : List OpenRun). AreOpenTo c.args.before c.args.rows.now 0 runs) (sym c.new-runs.ensures.items) (open_none c.args.before c.args.rows.now)
+loop-place-init c = subst (λ (runs : List StillOpen). AreOpenTo c.args.before c.args.rows.now 0 runs) (sym c.new-runs.ensures.items) (open_none c.args.before c.args.rows.now)
 
 pub loop-place-preserved : goal.loop-place-preserved
 loop-place-preserved c =
@@ -20,9 +20,9 @@ loop-place-preserved c =
     let exact = c.is_open.ensures row.0 row.1 in
     elim c.if-is_open.branch [
       | then-is_open+in_ok-push w ↦
-          let all = ap (λ (v : Vec OpenRun). v.items) w.runs-is ∙ w.in_ok-push.ensures.items ∙ ap (λ (run : OpenRun). runs ++ run ∷ []) (w.run_at.ensures row.0 row.1) in
-          subst (λ (xs : List OpenRun). AreOpenTo before t (place + 1) xs) (sym all) (open_more before t place runs is row.0 row.1 (exact.0 w.if-is_open.true))
-      | else-is_open w ↦ subst (λ (v : Vec OpenRun). AreOpenTo before t (place + 1) v.items) (sym w.runs-is) (open_same before t place runs is row.0 row.1 (λ o. false≢true (sym w.if-is_open.false ∙ exact.1 o)))
+          let all = ap (λ (v : Vec StillOpen). v.items) w.runs-is ∙ w.in_ok-push.ensures.items ∙ ap (λ (run : StillOpen). runs ++ run ∷ []) (w.run_at.ensures row.0 row.1) in
+          subst (λ (xs : List StillOpen). AreOpenTo before t (place + 1) xs) (sym all) (open_more before t place runs is row.0 row.1 (exact.0 w.if-is_open.true))
+      | else-is_open w ↦ subst (λ (v : Vec StillOpen). AreOpenTo before t (place + 1) v.items) (sym w.runs-is) (open_same before t place runs is row.0 row.1 (λ o. false≢true (sym w.if-is_open.false ∙ exact.1 o)))
     ]
 
 pub returns : goal.returns

@@ -1,7 +1,7 @@
 use Rattle.std.proofs.Common.{◌≡◌, ◌+◌, ℕ, Option, Some, length, sym, ap, ◌∙◌, subst, refl, arith, false, true}
 use Rattle.lft_tag.specs.declared.Tag.{Tag}
 use Rattle.lft_ir.specs.Parts.{Parts}
-use Rattle.lft_pair.specs.declared.difference.Kept.{Kept}
+use Rattle.lft_pair.specs.declared.difference.Carried.{Carried}
 use Rattle.lft_pair.proofs.Odd.{Compared, compared_begin, compared_on, compared_run, odd_stays, odd_agrees, odd_more, odd_over, odd_end, known_level}
 use Rattle.lft_pair.proofs.difference.first_odd.Goals.{then-is_start+in_ok-same+then-not-same, then-is_start+in_ok-same+else-not-same, else-is_start}
 use Rattle.lft_pair.proofs.difference.first_odd.Goals as goal
@@ -28,14 +28,14 @@ loop-place-preserved c =
       | then-is_start+in_ok-same+then-not-same w ↦
           let seen = w.in_ok-same.ensures in
           let odd = odd_more plan levels t s i row is_row (w.if-is_start.ensures.0 refl) (known_level plan c.graph-graph.result.now t i row c.graph-graph.ensures.graph c.requires.fit is_row) (λ a. let z : ◌≡◌ false true = sym w.if-not-same.true ∙ seen.same.1 a in absurd (cc)) least w.first_of.result w.first_of.ensures was.odd in
-          subst (λ (o : Option (Tag × ℕ)). Compared plan levels t s (i + 1) now.starts.read now.starts.places.items o) (sym w.least-is) (subst (λ (k : Kept). Compared plan levels t s (i + 1) k.starts.read k.starts.places.items (Some w.first_of.result)) (sym w.kept-is) (compared_run plan levels t s i _ _ (Some w.first_of.result) odd row c.requires.legal is_row (seen.as_long ∙ was.as_long) seen.starts seen.read))
+          subst (λ (o : Option (Tag × ℕ)). Compared plan levels t s (i + 1) now.starts.read now.starts.places.items o) (sym w.least-is) (subst (λ (k : Carried). Compared plan levels t s (i + 1) k.starts.read k.starts.places.items (Some w.first_of.result)) (sym w.kept-is) (compared_run plan levels t s i _ _ (Some w.first_of.result) odd row c.requires.legal is_row (seen.as_long ∙ was.as_long) seen.starts seen.read))
       | then-is_start+in_ok-same+else-not-same w ↦
           let seen = w.in_ok-same.ensures in
           let odd = odd_agrees plan levels t s i row is_row least (seen.same.0 w.if-not-same.false) was.odd in
-          subst (λ (o : Option (Tag × ℕ)). Compared plan levels t s (i + 1) now.starts.read now.starts.places.items o) (sym w.least-is) (subst (λ (k : Kept). Compared plan levels t s (i + 1) k.starts.read k.starts.places.items least) (sym w.kept-is) (compared_run plan levels t s i _ _ least odd row c.requires.legal is_row (seen.as_long ∙ was.as_long) seen.starts seen.read))
+          subst (λ (o : Option (Tag × ℕ)). Compared plan levels t s (i + 1) now.starts.read now.starts.places.items o) (sym w.least-is) (subst (λ (k : Carried). Compared plan levels t s (i + 1) k.starts.read k.starts.places.items least) (sym w.kept-is) (compared_run plan levels t s i _ _ least odd row c.requires.legal is_row (seen.as_long ∙ was.as_long) seen.starts seen.read))
       | else-is_start w ↦
           let odd = odd_stays plan levels t s i row is_row least (λ e. let z : ◌≡◌ false true = w.if-is_start.ensures.1 e in absurd (cc)) was.odd in
-          subst (λ (o : Option (Tag × ℕ)). Compared plan levels t s (i + 1) now.starts.read now.starts.places.items o) (sym w.least-is) (subst (λ (k : Kept). Compared plan levels t s (i + 1) k.starts.read k.starts.places.items least) (sym w.kept-is) (compared_on plan levels t s i _ _ least odd least was))
+          subst (λ (o : Option (Tag × ℕ)). Compared plan levels t s (i + 1) now.starts.read now.starts.places.items o) (sym w.least-is) (subst (λ (k : Carried). Compared plan levels t s (i + 1) k.starts.read k.starts.places.items least) (sym w.kept-is) (compared_on plan levels t s i _ _ least odd least was))
     ]
 
 pub returns : goal.returns

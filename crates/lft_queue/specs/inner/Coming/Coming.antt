@@ -3,7 +3,7 @@ use Rattle.std.specs.Prelude.{◌≡◌, ℕ, ◌<◌, ◌≤◌, cond, List, []
 use Rattle.lft_tag.specs.{declared.Tag.Tag, Tags.{Before, UpTo}}
 use Rattle.lft_ir.specs.declared.{parts.{Value.Value, Name.{Name, TheVariants.{Port, Action}}}, steps.{externals.Event.Event, row.Row.Row}}
 use Rattle.lft_model.specs.{Plans.PlanParts, Presence.given}
-use Rattle.lft_queue.specs.{Pending.{Pending, value_of, same_key}, declared.coming.{coming.Coming.Coming, listeners.Listeners.Listeners}}
+use Rattle.lft_queue.specs.{Pending.{Pending, value_of, same_key}, declared.coming.{coming.Coming.Coming, listeners.NameListeners.NameListeners}}
 use Rattle.lft_queue.specs.inner.Coming.{AtOnce.IsAwaited, Lanes.{held, made}, Listeners.IsUnheard}
 
 -- the values that the external events from the place on give a name at h
@@ -36,12 +36,12 @@ abbrev pub IsNoLater : Option Tag → Option Tag → Type 0
 IsNoLater old new = (h : Tag) → IsClear new h → IsClear old h
 
 -- the events before g are gone, and were of names that trigger nothing; all others are as they were
-pub record ArePassed (listeners : Listeners) (g : Tag) (old new : List Pending) : Type 0 where
+pub record ArePassed (listeners : NameListeners) (g : Tag) (old new : List Pending) : Type 0 where
   pub unheard : (h : Tag) (n : Name) (v : Value) → Before h g → value_of h n old ≡ Some v → IsUnheard listeners n
   pub same : (h : Tag) (n : Name) → UpTo g h → value_of h n new ≡ value_of h n old
 
 -- no two events are known to meet up to g; the events before g were of names that trigger nothing, each alone at its tag; from g on all is as it was, and the external events after g alone are outside the queue: those that went into it are up to g
-pub record IsReached (events : List Event) (listeners : Listeners) (g : Tag) (old new : Coming) : Type 0 where
+pub record IsReached (events : List Event) (listeners : NameListeners) (g : Tag) (old new : Coming) : Type 0 where
   pub unheard : (h : Tag) (n : Name) (v : Value) → Before h g → Contains (to_come events old h n) v → IsUnheard listeners n
   pub alone : (h : Tag) (n : Name) → Before h g → length (to_come events old h n) < 2
   pub same : (h : Tag) (n : Name) → UpTo g h → to_come events new h n ≡ to_come events old h n
@@ -51,7 +51,7 @@ pub record IsReached (events : List Event) (listeners : Listeners) (g : Tag) (ol
   pub clash : new.clash ≡ old.clash
 
 -- no two events are known to meet up to g, and the events up to there are of names that trigger nothing, each alone at its tag
-pub record AreOver (events : List Event) (listeners : Listeners) (g : Tag) (coming : Coming) : Type 0 where
+pub record AreOver (events : List Event) (listeners : NameListeners) (g : Tag) (coming : Coming) : Type 0 where
   pub unheard : (h : Tag) (n : Name) (v : Value) → UpTo h g → Contains (to_come events coming h n) v → IsUnheard listeners n
   pub alone : (h : Tag) (n : Name) → UpTo h g → length (to_come events coming h n) < 2
   pub clear : IsClear coming.clash g

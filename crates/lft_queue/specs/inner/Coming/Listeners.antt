@@ -3,15 +3,15 @@ use Rattle.std.specs.Prelude.{◌≡◌, ℕ, ◌<◌, cond, List, [], length, O
 use Rattle.lft_ir.specs.{Parts.Parts, declared.{parts.{Name.{Name, TheVariants.{Port, Action}}, Trigger.TheVariants.On}, steps.row.Row.Row}}
 use Rattle.lft_tag.specs.declared.Tag.{Tag}
 use Rattle.lft_model.specs.{Plans.PlanParts, Runs.Ran}
-use Rattle.lft_queue.specs.{declared.coming.listeners.Listeners.Listeners, inner.Coming.{AtOnce.{is_undelayed, origin_of, HaveGrown}, Listens.Listens}}
+use Rattle.lft_queue.specs.{declared.coming.listeners.NameListeners.NameListeners, inner.Coming.{AtOnce.{is_undelayed, origin_of, HaveGrown}, Listens.Listens}}
 
 -- the list of a name, if there is one
-abbrev pub list_of : Listeners → Name → Option (List ℕ)
+abbrev pub list_of : NameListeners → Name → Option (List ℕ)
 list_of listeners (Port p) = slice_get listeners.ports p
 list_of listeners (Action a) = slice_get listeners.actions a
 
 -- there is a list of the name
-abbrev pub IsIn : Listeners → Name → Type 0
+abbrev pub IsIn : NameListeners → Name → Type 0
 IsIn listeners (Port p) = p < length listeners.ports
 IsIn listeners (Action a) = a < length listeners.actions
 
@@ -21,23 +21,23 @@ heard_at program (Port p) = Port (cond (is_undelayed program p) (origin_of progr
 heard_at program (Action a) = Action a
 
 -- both have as many lists, each with all that it had
-abbrev pub BothGrow : Listeners → Listeners → Type 0
+abbrev pub BothGrow : NameListeners → NameListeners → Type 0
 BothGrow old new = HaveGrown old.ports new.ports × HaveGrown old.actions new.actions
 
 -- r stands in the list of each of the names
-abbrev pub IsListed : Parts → List Name → ℕ → Listeners → Type 0
+abbrev pub IsListed : Parts → List Name → ℕ → NameListeners → Type 0
 IsListed program names r listeners = (k : ℕ) (n : Name) (list : List ℕ) → slice_get names k ≡ Some n → list_of listeners (heard_at program n) ≡ Some list → Contains list r
 
 -- the list of a name has each reaction that the name triggers
-pub record AreListeners (plan : PlanParts) (listeners : Listeners) : Type 0 where
+pub record AreListeners (plan : PlanParts) (listeners : NameListeners) : Type 0 where
   pub ports : length listeners.ports ≡ length plan.program.ports
   pub actions : length listeners.actions ≡ length plan.program.actions
   pub each : (n : Name) (r : ℕ) (list : List ℕ) → Listens plan r (On n) → list_of listeners (heard_at plan.program n) ≡ Some list → Contains list r
 
 -- the name is known to trigger nothing
-abbrev pub IsUnheard : Listeners → Name → Type 0
+abbrev pub IsUnheard : NameListeners → Name → Type 0
 IsUnheard listeners n = list_of listeners n ≡ Some []
 
 -- each reaction in the list of a name has a run at g
-abbrev pub AreStarted : List Row → Tag → Listeners → Name → Type 0
+abbrev pub AreStarted : List Row → Tag → NameListeners → Name → Type 0
 AreStarted t g listeners n = (list : List ℕ) (r : ℕ) → list_of listeners n ≡ Some list → Contains list r → Ran t g r

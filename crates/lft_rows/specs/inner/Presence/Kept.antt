@@ -2,11 +2,11 @@
 use Rattle.std.specs.Prelude.{◌≡◌, ◌≤◌, List, Option}
 use Rattle.lft_tag.specs.declared.Tag.{Tag}
 use Rattle.lft_model.specs.Presence.{stop}
-use Rattle.lft_rows.specs.{declared.presence.causes.Cause.Cause, inner.Presence.{Causes.AreCauses, Traces.IsFitting}}
+use Rattle.lft_rows.specs.{declared.presence.causes.EventCause.EventCause, inner.Presence.{Causes.AreCauses, Traces.IsFitting}}
 use Rattle.lft_rows.specs.Presence.{Clashes.IsClash, Traces.TraceParts}
 
 -- the stop, the causes and the first collision that are kept are those of the plan and the rows
-pub record IsKept (cut : TraceParts) (last : Tag) (causes : List Cause) (clash : Option Tag) : Type 0 where
+pub record IsKept (cut : TraceParts) (last : Tag) (causes : List EventCause) (clash : Option Tag) : Type 0 where
   pub fits : IsFitting cut
   pub stop_is : last ≡ stop cut.plan cut.rows
   pub limit : last.time ≤ 1000000000000000000

@@ -1,7 +1,7 @@
 -- What follows of programs that are written out.
 use Rattle.std.specs.Prelude.{◌≡◌, ℕ, Bool, false, List, [], ◌∷◌, Option, Some, None, Contains, flat_map, map, option_map}
 use Rattle.lft_ir.specs.Parts.{Parts}
-use Rattle.lft_elaborate.specs.Channels.{Channels.{below, places}, Lowered.AreJoined}
+use Rattle.lft_elaborate.specs.{Channels.Channels.below, inner.Channels.{Channels.places, Lowered.AreJoined}}
 use Rattle.lft_program.specs.Flattening.{Flat, IsFlatOf}
 use Rattle.lft_resolve.specs.Instances.{Inside, Thing, stands_for, time_in}
 use Rattle.lft_whole.specs.declared.sources.source.SourceFile.{SourceFile}

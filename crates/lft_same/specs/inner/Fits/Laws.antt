@@ -1,8 +1,8 @@
 -- How what lowering finds out of files stands to what they mean.
 use Rattle.std.specs.Prelude.{◌≡◌, ℕ, List, Some, option_map, slice_get}
 use Rattle.lft_whole.specs.declared.{sources.source.SourceFile.SourceFile, tree.Instance.Instance}
-use Rattle.lft_classes.specs.{declared.nesting.Nesting.Nesting, Nestings.IsNesting, Scopes.{AreScopes, number_in}}
-use Rattle.lft_elaborate.specs.Values.{Valued, inside, main_setting}
+use Rattle.lft_classes.specs.{declared.nesting.Nesting.Nesting, inner.{Nestings.IsNesting, Scopes.{AreScopes, number_in}}}
+use Rattle.lft_elaborate.specs.inner.Values.{Valued, inside, main_setting}
 use Rattle.lft_same.specs.Expanded.{Instances.{Inside, Widths, inside_of, main_instance}, Reactors.{Class, class_named, main_of, members_of}, Whole.AreWidths}
 use Rattle.lft_same.specs.inner.Fits.{Fits.{Fits, number_at}, Widths.{AreFound, AreThose}}
 use Rattle.lft_whole.specs.declared.tree.Member.TheVariants as member

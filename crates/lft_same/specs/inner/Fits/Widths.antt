@@ -2,7 +2,7 @@
 use Rattle.std.specs.Prelude.{◌≡◌, ℕ, ◌<◌, ◌≤◌, List, Some}
 use Rattle.lft_whole.specs.declared.{tree.Width.Width, sources.source.SourceFile.SourceFile}
 use Rattle.lft_classes.specs.declared.shapes.Shape.{Shape}
-use Rattle.lft_elaborate.specs.{Places.{width_in, written_width}, Used.IsReached, Values.Valued}
+use Rattle.lft_elaborate.specs.inner.{Places.{width_in, written_width}, Used.IsReached, Values.Valued}
 use Rattle.lft_same.specs.{Expanded.Instances.{Inside, Widths}, inner.Fits.Fits.Fits}
 
 -- a width below this one is cut off nowhere, and no program has a greater one

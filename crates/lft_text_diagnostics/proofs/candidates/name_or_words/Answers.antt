@@ -1,7 +1,7 @@
 use Rattle.std.proofs.Common.{◌∷◌, [], ◌++◌}
 use Rattle.std.proofs.lemmas.List.Elements.{All-nil, All-same, All-push}
 use Rattle.lft_text_diagnostics.specs.inner.Trying.{CanStandBehind}
-use Rattle.lft_text_diagnostics.specs.declared.thing.Thing.TheVariants as thing
+use Rattle.lft_text_diagnostics.specs.declared.thing.CoreTrial.TheVariants as thing
 use Rattle.lft_text_diagnostics.proofs.candidates.name_or_words.Goals as goal
 
 pub returns-then-branch : goal.returns-then-branch

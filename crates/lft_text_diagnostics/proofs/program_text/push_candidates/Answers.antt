@@ -1,6 +1,6 @@
 use Rattle.std.proofs.Common.{◌≡◌, List, ◌∷◌, ◌++◌, codes, string_bytes, flat_map, sym, ap, ◌∙◌}
 use Rattle.lft_ir.proofs.WordsLemmas.Steps.{also}
-use Rattle.lft_text_diagnostics.specs.{Candidates.{could_words, other_words, words_of}, inner.Candidates.few, declared.thing.Thing.Thing}
+use Rattle.lft_text_diagnostics.specs.{Candidates.{could_words, other_words, words_of}, inner.Candidates.few, declared.thing.CoreTrial.CoreTrial}
 use Rattle.lft_text_diagnostics.proofs.Helping.{few_all}
 use Rattle.lft_text_diagnostics.proofs.program_text.push_candidates.Goals as goal
 
@@ -15,4 +15,4 @@ returns c =
     (also _ _ _ (head ++ first) others
     (also _ _ _ head first c.in_ok-push_str.ensures.bytes (c.in_ok-push_str-2.ensures.bytes ∙ ap (λ s. string_bytes c.push_str.new.self ++ s) c.words.ensures)) c.in_ok-push_others.ensures)
     c.in_ok-push_str-3.ensures.bytes
-    ∙ ap (λ (things : List Thing). string_bytes c.args.out.now ++ could_words things) (sym all)
+    ∙ ap (λ (things : List CoreTrial). string_bytes c.args.out.now ++ could_words things) (sym all)

@@ -1,5 +1,5 @@
 use Rattle.std.proofs.Common.{◌≡◌, ◌≢◌, ℕ, ◌+◌, ◌*◌, ◌<◌, [], ◌∷◌, ◌++◌, Some, length, slice_get, slice_set, vec_len, refl, sym, ap, subst, ◌∙◌, arith}
-use Rattle.lft_validate.specs.{inner.Circles.{IsRound, IsVisitAt}, declared.circle.{Stage.TheVariants.{New, Open, Done}, Visit.Visit}}
+use Rattle.lft_validate.specs.{inner.Circles.{IsRound, IsVisitAt}, declared.circle.{Stage.TheVariants.{New, Open, Done}, OnPath.OnPath}}
 use Rattle.lft_validate.proofs.Searching.{Searching, news, no_more, one_less, push_length, searching_done, searching_on, searching_enter, left_is_there, met_is_open, round_of}
 use Rattle.lft_validate.proofs.Turns.{weaker}
 use Rattle.lft_validate.proofs.circle.explore.Goals as goal
@@ -34,7 +34,7 @@ round_at-requires c =
     let next = c.in-Some-next_inside.next in
     let inner = c.in-Some-next_inside.inner in
     let inside = c.in-Some-next_inside.ensures.some in
-    let again : Visit = record { reactor = top.reactor; next = next } in
+    let again : OnPath = record { reactor = top.reactor; next = next } in
     let on = searching_on table c.args.stages.now stages c.args.start rest top again before refl inside.2 in
     let same : c.deref.result.now ≡ rest ++ again ∷ [] = c.deref.ensures.value ∙ c.in_ok-push-in-Some-next_inside.ensures.items in
     let there = on.open_on inner (met_is_open stages inner c.item_at-in-Some-next_inside.result c.item_at-in-Some-next_inside.ensures inside.1 c.in_default-item_at.not-New) in
@@ -50,7 +50,7 @@ returns-in_default-item_at c =
     let next = c.in-Some-next_inside.next in
     let inner = c.in-Some-next_inside.inner in
     let inside = c.in-Some-next_inside.ensures.some in
-    let again : Visit = record { reactor = top.reactor; next = next } in
+    let again : OnPath = record { reactor = top.reactor; next = next } in
     let on = searching_on table c.args.stages.now stages c.args.start rest top again before refl inside.2 in
     let same : c.deref.result.now ≡ rest ++ again ∷ [] = c.deref.ensures.value ∙ c.in_ok-push-in-Some-next_inside.ensures.items in
     let round = weaker _ (λ v. IsRound table v.items × (v.items ≢ [])) c.round_at.result (λ v. round_of table c.args.stages.now stages c.args.start rest again inner on (next, inside.0) c.deref.result.now same v.items) c.round_at.ensures in
@@ -89,9 +89,9 @@ visits-preserved c =
     let next = c.in-Some-next_inside.next in
     let inner = c.in-Some-next_inside.inner in
     let inside = c.in-Some-next_inside.ensures.some in
-    let again : Visit = record { reactor = top.reactor; next = next } in
+    let again : OnPath = record { reactor = top.reactor; next = next } in
     let on = searching_on table c.args.stages.now stages c.args.start rest top again before refl inside.2 in
     let new : slice_get stages inner ≡ Some New = c.item_at-in-Some-next_inside.ensures ∙ ap Some c.in-New-item_at.is in
-    let fresh : Visit = record { reactor = inner; next = 0 } in
+    let fresh : OnPath = record { reactor = inner; next = 0 } in
     let all : c.push-in-Some-next_inside-2.new.self.items ≡ (rest ++ again ∷ []) ++ fresh ∷ [] = c.in_ok-push-in-Some-next_inside-2.ensures.items ∙ ap (λ l. l ++ fresh ∷ []) c.in_ok-push-in-Some-next_inside.ensures.items in
     subst (Searching table c.args.stages.now c.args.start (slice_set stages inner Open)) (sym all) (searching_enter table c.args.stages.now stages c.args.start rest again inner on (next, inside.0) new)

@@ -1,9 +1,9 @@
 use Rattle.std.proofs.Common.{◌≡◌, inl, inr, get_or, sym, ap, ◌∙◌, arith}
 use Rattle.std.proofs.lemmas.{Bool.cases_lt, Option.{get_or_from_slice_get, slice_get_within}}
-use Rattle.lft_validate.specs.declared.circle.Visit.{Visit}
+use Rattle.lft_validate.specs.declared.circle.OnPath.{OnPath}
 use Rattle.lft_validate.proofs.circle.place_on.Goals as goal
 
-abbrev nowhere : Visit
+abbrev nowhere : OnPath
 nowhere = record { reactor = 0; next = 0 }
 
 pub loop-place-preserved : goal.loop-place-preserved

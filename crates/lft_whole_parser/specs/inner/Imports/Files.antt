@@ -1,18 +1,19 @@
 -- Inside: the files of a program: which paths are asked for, and which file each import names.
 use Rattle.std.specs.Prelude.{◌≡◌, ◌<◌, ◌↔◌, ◌⊎◌, ℕ, All, List, ◌∷◌, ◌++◌, Option, Some, None, IsSomeAnd, length, map, slice_get, string_bytes, take, []}
 use Rattle.std.specs.{BTreeMap.get_by_text, List.sum_by}
-use Rattle.lft_whole.specs.declared.{tree.Import.Import, sources.{source.SourceFile.SourceFile, stop.{Place.Place, Stop.Stop}, why.Why.TheVariants.NotRead}}
+use Rattle.lft_whole.specs.declared.tree.Import.{Import}
+use Rattle.lft_whole.specs.declared.sources.{source.SourceFile.SourceFile, stop.{Place.Place, NoProgram.NoProgram}, why.Why.TheVariants.NotRead}
 use Rattle.lft_whole.specs.inner.Sources.Tokens.{StandsAt}
-use Rattle.lft_whole_parser.specs.declared.imports.{asked.{Asked.Asked, Wanted.Wanted}, reading.Text.Text, sources.Sources.Sources}
+use Rattle.lft_whole_parser.specs.declared.imports.{asked.{FileNumbers.FileNumbers, WantedFile.WantedFile}, reading.Text.Text, sources.Sources.Sources}
 use Rattle.lft_whole_parser.specs.Imports.{Paths.meaning, Files.{IsNumbered, AreReached, IsImportOf, AreOfTexts, IsFileOf, HasUnread, IsRefusedFor}}
-use Rattle.lft_whole.specs.declared.sources.stop.Stop.TheVariants as stop
+use Rattle.lft_whole.specs.declared.sources.stop.NoProgram.TheVariants as stop
 
 -- The paths that are asked for, by number.
-abbrev pub paths_of : Asked → List (List ℕ)
+abbrev pub paths_of : FileNumbers → List (List ℕ)
 paths_of asked = map (λ wanted. string_bytes wanted.path) asked.paths.items
 
 -- A path is known by its number among those that are asked for.
-abbrev pub IsKnown : Asked → Type 0
+abbrev pub IsKnown : FileNumbers → Type 0
 IsKnown asked = (path : List ℕ) (number : ℕ) → (get_by_text asked.known path ≡ Some number) ↔ (slice_get (paths_of asked) number ≡ Some path)
 
 -- The program itself is named by no import. Any other file is named by one, which means its path.
@@ -21,8 +22,8 @@ IsNamedBy files number path None = number ≡ 0
 IsNamedBy files number path (Some place) = (0 < number) × IsImportOf files path place
 
 -- So are those that are wanted, each by the import that is kept with it.
-abbrev pub AreNamed : List SourceFile → List Wanted → Type 0
-AreNamed files wanted = (k : ℕ) (one : Wanted) → slice_get wanted k ≡ Some one → IsNamedBy files k (string_bytes one.path) one.import
+abbrev pub AreNamed : List SourceFile → List WantedFile → Type 0
+AreNamed files wanted = (k : ℕ) (one : WantedFile) → slice_get wanted k ≡ Some one → IsNamedBy files k (string_bytes one.path) one.import
 
 -- So many tokens the files have, with the end of each.
 abbrev pub tokens_of : List SourceFile → ℕ
@@ -56,7 +57,7 @@ abbrev pub HasOneMore : List ℕ → Sources → Sources → Type 0
 HasOneMore t before after = (path : List ℕ) → next_path before ≡ Some path → (file : SourceFile) × IsFileOf path t file × (after.files.items ≡ before.files.items ++ file ∷ [])
 
 -- A refusal is of the file that was to be read next. It stands behind those that were read before, and is refused for that text.
-abbrev pub RefusesNext : List ℕ → Sources → List SourceFile → Stop → Type 0
+abbrev pub RefusesNext : List ℕ → Sources → List SourceFile → NoProgram → Type 0
 RefusesNext t before files (stop.Refused refusal) = (file : SourceFile) × (next_path before ≡ Some (string_bytes file.path)) × (files ≡ before.files.items ++ file ∷ []) × (refusal.place.file ≡ length before.files.items) × IsRefusedFor t file refusal.place.token refusal.why
 RefusesNext t before files stop.NoMemory = Unit {0}
 
@@ -66,15 +67,15 @@ abbrev pub Adds : {X : Type 0} → List X → (X → Type 0) → List X → Type
 Adds {X} before Such after = (more : List X) × All Such more × (after ≡ before ++ more)
 
 -- An import in the file of that number and path means the path that is wanted, and is kept with it.
-abbrev pub IsAskedBy : ℕ → List ℕ → List Import → Wanted → Type 0
+abbrev pub IsAskedBy : ℕ → List ℕ → List Import → WantedFile → Type 0
 IsAskedBy number path imports wanted = (i : ℕ) × IsSomeAnd (slice_get imports i) (λ import. (wanted.import ≡ Some (record { file = number; token = import.at })) × (meaning path import.path.items ≡ string_bytes wanted.path))
 
 -- The refusal is of a path that is no UTF-8, of an import of the file of that number.
-abbrev pub IsUnread : ℕ → List Import → Stop → Type 0
+abbrev pub IsUnread : ℕ → List Import → NoProgram → Type 0
 IsUnread number imports (stop.Refused refusal) = (refusal.why ≡ NotRead) × (refusal.place.file ≡ number) × HasUnread imports refusal.place.token
 IsUnread number imports stop.NoMemory = Unit {0}
 
 -- The refusal is that of the text of the file of that number; or it has none, and the refusal is of a path in the file.
-abbrev pub IsRefusalOf : ℕ → Text → Stop → Type 0
+abbrev pub IsRefusalOf : ℕ → Text → NoProgram → Type 0
 IsRefusalOf number read (stop.Refused refusal) = (refusal.place.file ≡ number) × ((read.refused ≡ Some (record { why = refusal.why; token = refusal.place.token })) ⊎ ((read.refused ≡ None) × (refusal.why ≡ NotRead) × HasUnread read.tree.imports.items refusal.place.token))
 IsRefusalOf number read stop.NoMemory = Unit {0}

@@ -1,6 +1,6 @@
 use Rattle.std.proofs.Common.{◌≡◌, Some, None, option_map, option_copied, slice_get, sym, ap, subst, ◌∙◌}
 use Rattle.lft_resolve.proofs.Placing.{lent}
-use Rattle.lft_classes.specs.{inner.Needs.{HasNeed, IsPassedIn, Marks, NamesParameter}, Needs.{Times, Widths}, Shapes.child_at}
+use Rattle.lft_classes.specs.inner.{Needs.{HasNeed, IsPassedIn, Marks, NamesParameter, Times, Widths}, Shapes.child_at}
 use Rattle.lft_classes.proofs.{Marking.{marks_as, marks_none, marks_on}, Passing.{inside_times, inside_widths, none_inside, outside_times, outside_widths}}
 use Rattle.lft_whole.specs.declared.tree.Member.TheVariants as member
 use Rattle.lft_classes.proofs.deciding.Needs.note_instance.Goals as goal

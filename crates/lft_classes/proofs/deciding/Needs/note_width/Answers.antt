@@ -1,7 +1,7 @@
 use Rattle.std.proofs.Common.{◌≡◌, ◌↔◌, ◌<◌, ℕ, List, Some, length, slice_get, string_bytes, refl, sym, subst, arith}
 use Rattle.std.proofs.lemmas.Option.{slice_get_read}
 use Rattle.lft_whole.specs.declared.tree.Term.{Term}
-use Rattle.lft_classes.specs.{Needs.IsParameter, inner.Needs.NamesParameter}
+use Rattle.lft_classes.specs.inner.Needs.{IsParameter, NamesParameter}
 use Rattle.lft_classes.proofs.{Marking.{below_all, below_more, marks_as, marks_none}, Passing.{IsTermIn, term_one, terms_name}}
 use Rattle.lft_classes.proofs.deciding.Needs.note_width.Goals.{in-Word+in-Some-parameter, in_default-count}
 use Rattle.lft_classes.proofs.deciding.Needs.note_width.Goals as goal

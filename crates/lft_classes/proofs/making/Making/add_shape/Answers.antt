@@ -1,6 +1,6 @@
 use Rattle.std.proofs.Common.{[], ◌∷◌, ◌++◌, refl, ap, ◌∙◌}
 use Rattle.std.proofs.lemmas.List.{map-append}
-use Rattle.lft_classes.specs.{Built.{core, cores}, Shapes.tables}
+use Rattle.lft_classes.specs.inner.{Built.{core, cores}, Shapes.tables}
 use Rattle.lft_classes.proofs.making.Making.add_shape.Goals as goal
 
 pub returns : goal.returns

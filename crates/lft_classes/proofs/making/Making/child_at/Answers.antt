@@ -2,7 +2,8 @@ use Rattle.std.proofs.Common.{◌≡◌, ◌≢◌, Some, None, option_copied, s
 use Rattle.lft_lists.proofs.{Mapped.{mapped, mapped_from}, Options.lacking, Places.same_some}
 use Rattle.lft_resolve.proofs.Placing.{lent}
 use Rattle.lft_whole.specs.declared.tree.Instance.{Instance}
-use Rattle.lft_classes.specs.{declared.shapes.Inherited.Inherited, Built.{AreGiven, Core, core, cores, instance_of}, Circles.GivesOnce, inner.Makings.IsNeeded}
+use Rattle.lft_classes.specs.declared.shapes.Inherited.{Inherited}
+use Rattle.lft_classes.specs.inner.{Built.{AreGiven, Core, core, cores, instance_of}, Circles.GivesOnce, Makings.IsNeeded}
 use Rattle.lft_classes.proofs.{Goings.goes_weaker, Needing.{below_inside, is_instance}}
 use Rattle.lft_whole.specs.declared.tree.Member.TheVariants as member
 use Rattle.lft_classes.proofs.making.Making.child_at.Goals as goal

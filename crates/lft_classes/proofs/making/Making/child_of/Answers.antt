@@ -1,6 +1,6 @@
 use Rattle.std.proofs.Common.{◌≡◌, ℕ, Some, option_map, slice_get, sym, ap, ◌∙◌}
 use Rattle.lft_lists.proofs.Mapped.{mapped_from}
-use Rattle.lft_classes.specs.{declared.scopes.Class.Class, inner.{Below.IsBelow, Makings.IsNeeded}, Built.core, Chains.extended, Scopes.meaning_in}
+use Rattle.lft_classes.specs.{declared.scopes.Class.Class, inner.{Below.IsBelow, Makings.IsNeeded, Built.core, Chains.extended, Scopes.meaning_in}}
 use Rattle.lft_classes.proofs.Goings.{goes_weaker}
 use Rattle.lft_classes.proofs.making.Making.child_of.Goals as goal
 

@@ -1,8 +1,8 @@
 use Rattle.std.proofs.Common.{◌≡◌, ◌+◌, ℕ, length, Some, None, inl, inr, option_map, slice_get, refl, sym, ap, subst, ◌∙◌, arith}
 use Rattle.std.proofs.lemmas.{List.{length-map, length_push}, Option.slice_get_within}
 use Rattle.lft_lists.proofs.{Options.{found, lacking}, Places.get_push_cases}
-use Rattle.lft_classes.specs.{declared.shapes.{Child.Child, Inherited.Inherited}, Built.{Core, IsInside, core, cores, instance_of}, inner.Makings.AreMade}
-use Rattle.lft_classes.specs.Shapes.{child_at}
+use Rattle.lft_classes.specs.declared.shapes.{Child.Child, Inherited.Inherited}
+use Rattle.lft_classes.specs.inner.{Built.{Core, IsInside, core, cores, instance_of}, Makings.AreMade, Shapes.child_at}
 use Rattle.lft_classes.proofs.Goings.{child_push, goes_nowhere, goes_further, inside_kept, noted_in, set_made}
 use Rattle.lft_classes.proofs.making.Making.fill.Goals as goal
 

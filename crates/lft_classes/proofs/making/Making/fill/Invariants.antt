@@ -1,6 +1,6 @@
 use Rattle.std.proofs.Common.{◌≡◌, ℕ, length, Some, None, slice_get}
-use Rattle.lft_classes.specs.{declared.shapes.{Child.Child, Inherited.Inherited}, Built.{Core, IsInside, cores, instance_of}}
-use Rattle.lft_classes.specs.{inner.Makings.{AreMade, GoesOn, KeepsNoted}, Shapes.child_at}
+use Rattle.lft_classes.specs.declared.shapes.{Child.Child, Inherited.Inherited}
+use Rattle.lft_classes.specs.inner.{Built.{Core, IsInside, cores, instance_of}, Makings.{AreMade, GoesOn, KeepsNoted}, Shapes.child_at}
 use Rattle.lft_classes.proofs.making.Making.fill.Given as goal
 
 abbrev pub invariant-loop-number : goal.invariant-loop-number

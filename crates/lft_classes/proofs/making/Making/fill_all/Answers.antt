@@ -1,7 +1,7 @@
 use Rattle.std.proofs.Common.{◌≡◌, Some, option_copied, slice_get, sym, ap, subst, ◌∙◌, arith}
 use Rattle.lft_lists.proofs.Mapped.{mapped}
 use Rattle.lft_resolve.proofs.Placing.{lent}
-use Rattle.lft_classes.{specs.{Built.{IsNoted, core, cores}, Shapes.tables}, proofs.Goings.{goes_nowhere, goes_further, noted_all, noted_more}}
+use Rattle.lft_classes.{specs.inner.{Built.{IsNoted, core, cores}, Shapes.tables}, proofs.Goings.{goes_nowhere, goes_further, noted_all, noted_more}}
 use Rattle.lft_classes.proofs.making.Making.fill_all.Goals as goal
 
 pub loop-shape-init : goal.loop-shape-init

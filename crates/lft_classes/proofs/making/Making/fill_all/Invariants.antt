@@ -1,5 +1,5 @@
 use Rattle.std.proofs.Common.{◌≡◌, ◌<◌, ℕ, Some, slice_get}
-use Rattle.lft_classes.specs.{Built.{Core, IsNoted, cores}, inner.Makings.GoesOn, Shapes.tables}
+use Rattle.lft_classes.specs.inner.{Built.{Core, IsNoted, cores}, Makings.GoesOn, Shapes.tables}
 use Rattle.lft_classes.proofs.making.Making.fill_all.Given as goal
 
 abbrev pub invariant-loop-shape : goal.invariant-loop-shape

@@ -1,7 +1,7 @@
 use Rattle.std.proofs.Common.{◌≡◌, ◌<◌, Some, length, slice_get, refl, sym, ap, subst, ◌∙◌, arith}
 use Rattle.std.proofs.lemmas.Option.{slice_get_read, slice_get_within}
-use Rattle.lft_classes.specs.{declared.work.Work.Work, Built.{AreBuilt, AreInside, AreNoted, cores, first_class}, Shapes.{inside, tables}}
-use Rattle.lft_classes.specs.Walks.{IsBehind, IsList}
+use Rattle.lft_classes.specs.declared.work.Work.{Work}
+use Rattle.lft_classes.specs.inner.{Built.{AreBuilt, AreInside, AreNoted, cores, first_class}, Shapes.{inside, tables}, Walks.{IsBehind, IsList}}
 use Rattle.lft_classes.proofs.Decided.{decided_next, ready_next}
 use Rattle.lft_classes.proofs.nesting.Nesting.of.Goals as goal
 

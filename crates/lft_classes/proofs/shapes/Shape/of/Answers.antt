@@ -1,8 +1,8 @@
 use Rattle.std.proofs.Common.{◌≡◌, ℕ, List, Some, slice_get, map, ap, subst, ◌∙◌}
 use Rattle.std.specs.Prelude.{flat_map}
-use Rattle.lft_resolve.specs.{inner.{Places.IsIndexOf, Tests.texts}, Places.place_in}
-use Rattle.lft_classes.specs.{declared.shapes.{Named.Named, Thing.Thing}, inner.Naming.{EachNamed, HasNamed}}
-use Rattle.lft_classes.specs.Built.{HasName, HasNoForeign, members_at, parameters_at}
+use Rattle.lft_resolve.specs.inner.{Places.{IsIndexOf, place_in}, Tests.texts}
+use Rattle.lft_classes.specs.declared.shapes.{Named.Named, OwnThing.OwnThing}
+use Rattle.lft_classes.specs.inner.{Naming.{EachNamed, HasNamed}, Built.{HasName, HasNoForeign, members_at, parameters_at}}
 use Rattle.lft_classes.proofs.Naming.{is_thing, thing_of}
 use Rattle.lft_classes.proofs.shapes.Shape.of.Goals as goal
 
@@ -16,7 +16,7 @@ returns-clause-built c =
     let names : texts c.deref-5.result.now ≡ map (λ n. n.name.now) ns = ap texts c.deref-5.ensures.value ∙ c.in_ok-names.ensures ∙ ap (map (λ n. n.name.now)) c.deref-4.ensures.value in
     let is : IsIndexOf index (map (λ n. n.name.now) ns) = subst (IsIndexOf index) names c.in_ok-index.ensures in
     let each : EachNamed ps ms ns = subst (λ xs. EachNamed xs ms ns) c.deref-2.ensures.value (subst (λ xs. EachNamed c.deref-2.result.now xs ns) c.deref-3.ensures.value c.in_ok-named.ensures.each) in
-    let all : (q : List ℕ) (t : Thing) → HasName ps ms q t → HasNamed ns q t = subst (λ xs. (q : List ℕ) (t : Thing) → HasName xs ms q t → HasNamed ns q t) c.deref-2.ensures.value (subst (λ xs. (q : List ℕ) (t : Thing) → HasName c.deref-2.result.now xs q t → HasNamed ns q t) c.deref-3.ensures.value c.in_ok-named.ensures.all) in
+    let all : (q : List ℕ) (t : OwnThing) → HasName ps ms q t → HasNamed ns q t = subst (λ xs. (q : List ℕ) (t : OwnThing) → HasName xs ms q t → HasNamed ns q t) c.deref-2.ensures.value (subst (λ xs. (q : List ℕ) (t : OwnThing) → HasName c.deref-2.result.now xs q t → HasNamed ns q t) c.deref-3.ensures.value c.in_ok-named.ensures.all) in
     let once : (k : ℕ) (n : Named) → slice_get ns k ≡ Some n → place_in index n.name.now ≡ Some k = subst (λ xs. IsIndexOf index (map (λ n. n.name.now) xs) → (k : ℕ) (n : Named) → slice_get xs k ≡ Some n → place_in index n.name.now ≡ Some k) c.deref-6.ensures.value c.in_ok-refuse_twice.ensures.once is in
     record {
       chain = c.in_ok-chain.chain.items;

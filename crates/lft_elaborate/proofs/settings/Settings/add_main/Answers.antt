@@ -2,7 +2,7 @@ use Rattle.std.proofs.Common.{◌≡◌, ◌<◌, length, Some, sym, ap, ◌∙�
 use Rattle.std.specs.Prelude.{Vec, option_map}
 use Rattle.std.{proofs.lemmas.Option.slice_get_within, specs.Global.Global}
 use Rattle.lft_classes.specs.declared.shapes.Shape.{Shape}
-use Rattle.lft_elaborate.specs.{Settings.setting_in, Values.{Valued, main_values}}
+use Rattle.lft_elaborate.specs.inner.{Settings.setting_in, Values.{Valued, main_values}}
 use Rattle.lft_elaborate.proofs.settings.Settings.add_main.Goals as goal
 
 pub returns-in_ok-setting-clause-main : goal.returns-in_ok-setting-clause-main

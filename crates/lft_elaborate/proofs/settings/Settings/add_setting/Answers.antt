@@ -1,5 +1,5 @@
 use Rattle.std.proofs.Common.{refl, ap, ◌∙◌}
-use Rattle.lft_elaborate.{specs.Noted.{noted_at, table}, proofs.Keeping.none_noted}
+use Rattle.lft_elaborate.{specs.inner.Noted.{noted_at, table}, proofs.Keeping.none_noted}
 use Rattle.lft_elaborate.proofs.settings.Settings.add_setting.Goals as goal
 
 pub returns-clause-adds : goal.returns-clause-adds

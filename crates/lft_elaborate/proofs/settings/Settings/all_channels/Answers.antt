@@ -2,7 +2,7 @@ use Rattle.std.proofs.Common.{◌≡◌, ◌<◌, ◌+◌, ◌++◌, [], ◌∷�
 use Rattle.std.proofs.lemmas.Grind.{common_steps}
 use Rattle.lft_lists.proofs.Picked.{take_one_more}
 use Rattle.lft_whole.specs.declared.tree.Reference.{Reference}
-use Rattle.lft_elaborate.specs.{Noted.table, inner.Places.HavePlaces, Places.capped}
+use Rattle.lft_elaborate.specs.inner.{Noted.table, Places.{HavePlaces, capped}}
 use Rattle.lft_elaborate.proofs.{Counting.{no_places, places_push}, Keeping.{goes_further, goes_nowhere}, Standing.places_then}
 use Rattle.lft_elaborate.proofs.settings.Settings.all_channels.Goals as goal
 

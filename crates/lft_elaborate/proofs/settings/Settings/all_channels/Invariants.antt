@@ -1,5 +1,5 @@
 use Rattle.std.proofs.Common.{◌≡◌, take, Some}
-use Rattle.lft_elaborate.specs.{Noted.{AreMade, table}, inner.{Noted.GoesOn, Places.HavePlaces, Settings.setting_at}, Values.Valued}
+use Rattle.lft_elaborate.specs.inner.{Noted.{AreMade, table, GoesOn}, Places.HavePlaces, Settings.setting_at, Values.Valued}
 use Rattle.lft_elaborate.proofs.settings.Settings.all_channels.Given as goal
 
 abbrev pub invariant-loop-reference : goal.invariant-loop-reference

@@ -1,5 +1,5 @@
 use Rattle.std.proofs.Common.{Some, sym, ap, subst, ◌∙◌}
-use Rattle.lft_elaborate.specs.{Noted.table, inner.Places.HasPlaces}
+use Rattle.lft_elaborate.specs.inner.{Noted.table, Places.HasPlaces}
 use Rattle.lft_elaborate.proofs.{Counting.own_places, Keeping.goes_further, Standing.{places_then, port_channels}}
 use Rattle.lft_elaborate.proofs.settings.Settings.channels.Goals as goal
 

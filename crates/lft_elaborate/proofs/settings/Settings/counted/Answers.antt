@@ -1,4 +1,4 @@
-use Rattle.lft_elaborate.{specs.Noted.table, proofs.{Keeping.goes_further, Using.used_goes}}
+use Rattle.lft_elaborate.{specs.inner.Noted.table, proofs.{Keeping.goes_further, Using.used_goes}}
 use Rattle.lft_elaborate.proofs.settings.Settings.counted.Goals as goal
 
 pub returns-clause-goes : goal.returns-clause-goes

@@ -1,7 +1,7 @@
 use Rattle.std.proofs.Common.{◌≡◌, ℕ, List, Some, sym, subst}
 use Rattle.lft_lists.proofs.Options.{found}
 use Rattle.lft_whole.specs.declared.tree.Term.{Term}
-use Rattle.lft_elaborate.{specs.{inner.{Places.IsSum, Settings.setting_at}, Noted.{AreMade, table}, Values.Valued}, proofs.Standing.close_goes}
+use Rattle.lft_elaborate.{specs.inner.{Places.IsSum, Settings.setting_at, Noted.{AreMade, table}, Values.Valued}, proofs.Standing.close_goes}
 use Rattle.lft_elaborate.proofs.settings.Settings.find_width.Goals as goal
 
 pub returns-in-Some-all-clause-goes : goal.returns-in-Some-all-clause-goes

@@ -1,7 +1,7 @@
 use Rattle.std.proofs.Common.{◌≡◌, ◌<◌, ℕ, ℤ, length, map, Some, sym, ap, ◌∙◌, arith, rules}
 use Rattle.std.specs.Prelude.{Vec, option_map}
 use Rattle.std.{specs.Global.Global, proofs.lemmas.Grind.common_steps}
-use Rattle.lft_elaborate.{specs.{Noted.table, Settings.setting_in, Values.{Valued, inside}}, proofs.Keeping.{goes_same, inside_goes}}
+use Rattle.lft_elaborate.{specs.inner.{Noted.table, Settings.setting_in, Values.{Valued, inside}}, proofs.Keeping.{goes_same, inside_goes}}
 use Rattle.lft_elaborate.proofs.settings.Settings.inside.Goals as goal
 
 pub returns-clause-goes : goal.returns-clause-goes

@@ -1,5 +1,5 @@
 use Rattle.std.proofs.Common.{sym, ◌∙◌, ◌≡◌, Some}
-use Rattle.lft_elaborate.{specs.{Noted.{AreMade, IsNumberOf, table}, inner.Settings.setting_at, Values.{Valued, inside}}, proofs.Keeping.found_is_inside}
+use Rattle.lft_elaborate.{specs.inner.{Noted.{AreMade, IsNumberOf, table}, Settings.setting_at, Values.{Valued, inside}}, proofs.Keeping.found_is_inside}
 use Rattle.lft_classes.proofs.Walking.{some_of}
 use Rattle.lft_elaborate.proofs.settings.Settings.known_inside.Goals as goal
 

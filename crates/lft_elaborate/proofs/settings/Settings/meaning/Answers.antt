@@ -1,7 +1,7 @@
 use Rattle.std.proofs.Common.{sym, ap, ◌∙◌}
 use Rattle.std.specs.Option.{option_and_then}
 use Rattle.lft_classes.specs.declared.shapes.Shape.{Shape}
-use Rattle.lft_elaborate.{specs.Meanings.meaning_of, proofs.Standing.shape_there}
+use Rattle.lft_elaborate.{specs.inner.Meanings.meaning_of, proofs.Standing.shape_there}
 use Rattle.lft_elaborate.proofs.settings.Settings.meaning.Goals as goal
 
 pub returns : goal.returns

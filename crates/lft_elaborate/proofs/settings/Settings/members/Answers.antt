@@ -3,7 +3,7 @@ use Rattle.std.specs.Prelude.{option_map}
 use Rattle.std.specs.Borrow.{Bor}
 use Rattle.lft_lists.proofs.Places.{same_some}
 use Rattle.lft_classes.specs.declared.shapes.Shape.{Shape}
-use Rattle.lft_elaborate.{specs.Settings.shape_at, proofs.Using.instance_within}
+use Rattle.lft_elaborate.{specs.inner.Settings.shape_at, proofs.Using.instance_within}
 use Rattle.lft_elaborate.proofs.settings.Settings.members.Goals as goal
 
 pub returns-in_default : goal.returns-in_default

@@ -1,7 +1,7 @@
 use Rattle.std.proofs.Common.{◌≡◌, length, Some, inl, inr, refl, sym, ap, subst, ◌∙◌, arith, slice_get, slice_set}
 use Rattle.std.{proofs.lemmas.{List.with_items_is, Option.slice_get_read}, specs.Vec.with_items}
 use Rattle.lft_lists.proofs.Places.{length_written}
-use Rattle.lft_elaborate.specs.{declared.settings.Setting.Setting, Noted.{IsNumberOf, noted_at, table}, Settings.valued, Values.inside}
+use Rattle.lft_elaborate.specs.{declared.settings.Setting.Setting, inner.{Noted.{IsNumberOf, noted_at, table}, Settings.valued, Values.inside}}
 use Rattle.lft_elaborate.proofs.Keeping.{goes_written, noted_put, setting_of_number}
 use Rattle.lft_elaborate.proofs.settings.Settings.note_inside.Goals as goal
 

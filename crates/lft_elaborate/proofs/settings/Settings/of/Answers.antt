@@ -2,8 +2,8 @@ use Rattle.std.proofs.Common.{◌≡◌, length, None, sym, ap, subst, ◌∙◌
 use Rattle.std.specs.Prelude.{Vec}
 use Rattle.std.{proofs.lemmas.List.length_push, specs.Global.Global}
 use Rattle.lft_lists.proofs.Places.{length_same}
-use Rattle.lft_classes.specs.{declared.shapes.Shape.Shape, Nestings.IsNesting}
-use Rattle.lft_elaborate.{specs.Noted.{noted_at, noted_for}, proofs.Keeping.{first_shape, made_none, none_known, none_noted}}
+use Rattle.lft_classes.specs.{declared.shapes.Shape.Shape, inner.Nestings.IsNesting}
+use Rattle.lft_elaborate.{specs.inner.Noted.{noted_at, noted_for}, proofs.Keeping.{first_shape, made_none, none_known, none_noted}}
 use Rattle.lft_elaborate.proofs.settings.Settings.of.Goals as goal
 
 pub loop-preserved : goal.loop-preserved

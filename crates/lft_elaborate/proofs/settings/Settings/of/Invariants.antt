@@ -1,5 +1,5 @@
 use Rattle.std.proofs.Common.{◌≡◌, ℕ, ℤ, List, None, length}
-use Rattle.lft_elaborate.specs.Noted.{noted_for}
+use Rattle.lft_elaborate.specs.inner.Noted.{noted_for}
 use Rattle.lft_elaborate.proofs.settings.Settings.of.Given as goal
 
 abbrev pub invariant-loop : goal.invariant-loop

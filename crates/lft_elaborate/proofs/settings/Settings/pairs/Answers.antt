@@ -1,4 +1,4 @@
-use Rattle.lft_elaborate.{specs.Noted.table, proofs.{Keeping.goes_further, Standing.pairs_are}}
+use Rattle.lft_elaborate.{specs.inner.Noted.table, proofs.{Keeping.goes_further, Standing.pairs_are}}
 use Rattle.lft_elaborate.proofs.settings.Settings.pairs.Goals as goal
 
 pub returns-clause-goes : goal.returns-clause-goes

@@ -1,6 +1,6 @@
 use Rattle.std.proofs.Common.{List, inl, subst, arith}
 use Rattle.lft_classes.specs.declared.shapes.Shape.{Shape}
-use Rattle.lft_elaborate.{specs.{Used.IsIn, Noted.table}, proofs.{Keeping.{goes_further, goes_nowhere}, Using.{inner_step, only_step}}}
+use Rattle.lft_elaborate.{specs.inner.{Used.IsIn, Noted.table}, proofs.{Keeping.{goes_further, goes_nowhere}, Using.{inner_step, only_step}}}
 use Rattle.lft_elaborate.proofs.settings.Settings.push_inner.Goals as goal
 
 pub loop-member-init : goal.loop-member-init

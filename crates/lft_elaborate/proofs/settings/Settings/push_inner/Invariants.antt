@@ -1,7 +1,6 @@
 use Rattle.std.proofs.Common.{◌≡◌, ℕ, ◌<◌, ◌⊎◌, Some}
-use Rattle.lft_classes.specs.Walks.{Has}
-use Rattle.lft_elaborate.specs.{Noted.{AreMade, table}, inner.{Noted.GoesOn, Settings.setting_at, Used.{AreMarked, HasNumber, IsNumberIn, Stay}}, Used.IsIn}
-use Rattle.lft_elaborate.specs.Values.{Valued}
+use Rattle.lft_classes.specs.inner.Walks.{Has}
+use Rattle.lft_elaborate.specs.inner.{Noted.{AreMade, table, GoesOn}, Settings.setting_at, Used.{AreMarked, HasNumber, IsNumberIn, Stay, IsIn}, Values.Valued}
 use Rattle.lft_elaborate.proofs.settings.Settings.push_inner.Given as goal
 
 abbrev pub invariant-loop-member : goal.invariant-loop-member

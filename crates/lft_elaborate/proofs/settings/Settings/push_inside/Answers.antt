@@ -1,5 +1,5 @@
 use Rattle.std.proofs.Common.{◌≡◌, ℕ, Some, None, arith, rules}
-use Rattle.lft_elaborate.specs.{Noted.{AreMade, table}, inner.{Settings.setting_at, Used.IsNumberIn}, Used.IsIn, Values.Valued}
+use Rattle.lft_elaborate.specs.inner.{Noted.{AreMade, table}, Settings.setting_at, Used.{IsNumberIn, IsIn}, Values.Valued}
 use Rattle.lft_elaborate.proofs.Using.{has_inside, number_or}
 use Rattle.lft_lists.proofs.Options.{found, lacking}
 use Rattle.lft_elaborate.proofs.settings.Settings.push_inside.Goals as goal

@@ -1,6 +1,7 @@
 use Rattle.std.proofs.Common.{◌≡◌, length, map, Some, None, refl, sym, ap, subst, ◌∙◌, arith, slice_get}
 use Rattle.std.proofs.lemmas.Option.{slice_get_read}
-use Rattle.lft_elaborate.{specs.{Noted.{Table, noted_for, table}, Settings.setting_in}, proofs.Keeping.{IsPut, added_number, goes_added, goes_never, no_number}}
+use Rattle.lft_elaborate.specs.inner.{Noted.{Table, noted_for, table}, Settings.setting_in}
+use Rattle.lft_elaborate.proofs.Keeping.{IsPut, added_number, goes_added, goes_never, no_number}
 use Rattle.lft_elaborate.proofs.settings.Settings.setting.Goals as goal
 
 pub returns-in-Some-clause-first : goal.returns-in-Some-clause-first

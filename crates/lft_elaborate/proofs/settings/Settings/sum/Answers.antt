@@ -3,7 +3,7 @@ use Rattle.std.specs.Prelude.{IfSome}
 use Rattle.std.proofs.lemmas.Grind.{common_steps}
 use Rattle.lft_lists.proofs.Picked.{take_one_more}
 use Rattle.lft_whole.specs.declared.tree.Term.{Term}
-use Rattle.lft_elaborate.specs.{Noted.{AreMade, table}, inner.{Places.IsSum, Settings.setting_at}, Places.plus, Values.Valued}
+use Rattle.lft_elaborate.specs.inner.{Noted.{AreMade, table}, Places.{IsSum, plus}, Settings.setting_at, Values.Valued}
 use Rattle.lft_elaborate.proofs.{Counting.no_terms, Keeping.{goes_further, goes_nowhere}, Standing.terms_plus}
 use Rattle.lft_elaborate.proofs.settings.Settings.sum.Goals as goal
 

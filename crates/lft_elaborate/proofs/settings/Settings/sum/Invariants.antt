@@ -1,6 +1,6 @@
 use Rattle.std.proofs.Common.{◌≡◌, ◌≤◌, take, Some}
 use Rattle.std.specs.Prelude.{IfSome}
-use Rattle.lft_elaborate.specs.{inner.{Noted.GoesOn, Places.IsSum, Settings.setting_at}, Noted.{AreMade, table}, Values.Valued}
+use Rattle.lft_elaborate.specs.inner.{Noted.{GoesOn, AreMade, table}, Places.IsSum, Settings.setting_at, Values.Valued}
 use Rattle.lft_elaborate.proofs.settings.Settings.sum.Given as goal
 
 abbrev pub invariant-loop-term : goal.invariant-loop-term

@@ -1,6 +1,6 @@
 use Rattle.std.proofs.Common.{◌≡◌, Some, IfOk, IfSome, sym, subst}
 use Rattle.lft_whole.specs.declared.tree.Count.{Count}
-use Rattle.lft_elaborate.specs.{Noted.{AreMade, table}, inner.{Places.IsCount, Settings.setting_at}, Values.Valued}
+use Rattle.lft_elaborate.specs.inner.{Noted.{AreMade, table}, Places.IsCount, Settings.setting_at, Values.Valued}
 use Rattle.lft_elaborate.proofs.settings.Settings.term.Goals as goal
 
 pub returns-in-WidthOf-clause-count : goal.returns-in-WidthOf-clause-count

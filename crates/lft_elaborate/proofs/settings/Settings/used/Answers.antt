@@ -1,6 +1,7 @@
 use Rattle.std.proofs.Common.{◌≡◌, ◌∷◌, ◌++◌, [], Bool, List, ℕ, Some, true, length, refl, sym, ap, subst, ◌∙◌, arith, slice_get}
 use Rattle.std.proofs.lemmas.Option.{slice_get_read}
-use Rattle.lft_elaborate.{specs.Noted.table, proofs.{Keeping.{goes_further, goes_nowhere, goes_settings}, Using.{Using, using_all, using_begun, using_more}}}
+use Rattle.lft_elaborate.specs.inner.Noted.{table}
+use Rattle.lft_elaborate.proofs.{Keeping.{goes_further, goes_nowhere, goes_settings}, Using.{Using, using_all, using_begun, using_more}}
 use Rattle.lft_elaborate.proofs.settings.Settings.used.Goals as goal
 
 pub places-init : goal.places-init

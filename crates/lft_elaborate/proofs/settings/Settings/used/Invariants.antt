@@ -1,5 +1,5 @@
 use Rattle.std.proofs.Common.{◌≤◌, ◌-◌, vec_len}
-use Rattle.lft_elaborate.{specs.{Noted.{AreSettings, table}, inner.Noted.GoesOn}, proofs.Using.Using}
+use Rattle.lft_elaborate.{specs.inner.Noted.{AreSettings, table, GoesOn}, proofs.Using.Using}
 use Rattle.lft_elaborate.proofs.settings.Settings.used.Given as goal
 
 abbrev pub invariant-places : goal.invariant-places

@@ -1,5 +1,5 @@
 use Rattle.std.proofs.Common.{sym, ◌∙◌, arith}
-use Rattle.lft_elaborate.{specs.Noted.table, proofs.{Keeping.goes_further, Using.{inside_none, inside_some, none_in, not_instance}}}
+use Rattle.lft_elaborate.{specs.inner.Noted.table, proofs.{Keeping.goes_further, Using.{inside_none, inside_some, none_in, not_instance}}}
 use Rattle.lft_elaborate.proofs.settings.Settings.used_inside.Goals as goal
 
 pub returns-then-not-has_instance-clause-none : goal.returns-then-not-has_instance-clause-none

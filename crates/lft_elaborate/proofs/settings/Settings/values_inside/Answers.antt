@@ -1,7 +1,7 @@
 use Rattle.std.proofs.Common.{◌≡◌, map, Some, sym, ap, ◌∙◌, slice_get}
 use Rattle.std.proofs.lemmas.Option.{slice_get-get_or}
-use Rattle.lft_classes.specs.Shapes.{child_at}
-use Rattle.lft_elaborate.{specs.Values.values_inside, proofs.Keeping.is_inside}
+use Rattle.lft_classes.specs.inner.Shapes.{child_at}
+use Rattle.lft_elaborate.{specs.inner.Values.values_inside, proofs.Keeping.is_inside}
 use Rattle.lft_elaborate.proofs.settings.Settings.values_inside.Goals as goal
 
 pub returns-clause-inside : goal.returns-clause-inside

@@ -1,6 +1,6 @@
 use Rattle.std.proofs.Common.{List, subst, sym, ◌∙◌}
 use Rattle.lft_classes.specs.declared.shapes.Shape.{Shape}
-use Rattle.lft_elaborate.{specs.Places.IsWidth, proofs.{Keeping.{goes_further, goes_nowhere}, Standing.{found_is_width, none_written}}}
+use Rattle.lft_elaborate.{specs.inner.Places.IsWidth, proofs.{Keeping.{goes_further, goes_nowhere}, Standing.{found_is_width, none_written}}}
 use Rattle.lft_elaborate.proofs.settings.Settings.width.Goals as goal
 
 pub widths-init : goal.widths-init

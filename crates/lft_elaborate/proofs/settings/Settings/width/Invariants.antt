@@ -1,4 +1,4 @@
-use Rattle.lft_elaborate.specs.{inner.Noted.GoesOn, Noted.table}
+use Rattle.lft_elaborate.specs.inner.Noted.{GoesOn, table}
 use Rattle.lft_elaborate.proofs.settings.Settings.width.Given as goal
 
 abbrev pub invariant-widths : goal.invariant-widths

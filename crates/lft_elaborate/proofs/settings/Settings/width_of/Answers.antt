@@ -1,6 +1,6 @@
 use Rattle.std.proofs.Common.{◌≡◌, Some, sym, ap, subst, ◌∙◌}
 use Rattle.std.specs.Prelude.{IfSome}
-use Rattle.lft_elaborate.{specs.{Noted.{AreMade, table}, inner.{Places.HasPlaces, Settings.setting_at}, Values.Valued}, proofs.Standing.{own_count, port_times}}
+use Rattle.lft_elaborate.{specs.inner.{Noted.{AreMade, table}, Places.HasPlaces, Settings.setting_at, Values.Valued}, proofs.Standing.{own_count, port_times}}
 use Rattle.lft_elaborate.proofs.settings.Settings.width_of.Goals as goal
 
 pub returns-in_ok-count-in-Own-clause-places : goal.returns-in_ok-count-in-Own-clause-places

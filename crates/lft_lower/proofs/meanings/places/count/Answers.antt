@@ -1,8 +1,7 @@
 use Rattle.std.proofs.Common.{◌≡◌, Some, length, slice_get, sym, ap, ◌∙◌, arith}
 use Rattle.std.specs.Prelude.{is_some}
 use Rattle.std.proofs.lemmas.{List.take_all, Option.slice_get-get_or}
-use Rattle.lft_lower.specs.{Meanings.Meanings.{Means, all_places}, inner.Meanings.Meanings.here}
-use Rattle.lft_lower.proofs.MeaningsLemmas.{Growing.{all_done, all_next}, Placed.count_next}
+use Rattle.lft_lower.{specs.inner.Meanings.Meanings.{Means, all_places, here}, proofs.MeaningsLemmas.{Growing.{all_done, all_next}, Placed.count_next}}
 use Rattle.lft_lower.proofs.meanings.places.count.Goals as goal
 
 pub loop-place-preserved : goal.loop-place-preserved

@@ -1,6 +1,6 @@
 use Rattle.std.proofs.Common.{◌≡◌, length, take}
 use Rattle.std.specs.List.{All}
-use Rattle.lft_lower.specs.{Meanings.Meanings.{Means, all_places}, inner.Meanings.Meanings.here}
+use Rattle.lft_lower.specs.inner.Meanings.Meanings.{Means, all_places, here}
 use Rattle.lft_lower.proofs.meanings.places.count.Given as goal
 
 abbrev pub invariant-loop-place : goal.invariant-loop-place

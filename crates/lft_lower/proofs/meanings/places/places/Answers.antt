@@ -1,7 +1,6 @@
 use Rattle.std.proofs.Common.{◌≡◌, Some, slice_get, sym, ap, ◌∙◌, arith}
 use Rattle.std.proofs.lemmas.{Option.slice_get-get_or, Result.err_from_is_err_and}
-use Rattle.lft_lower.specs.Meanings.{Meanings.{Means, places_in}, Standing.tokens_of}
-use Rattle.lft_lower.specs.inner.Meanings.{Meanings.{here, token_in}, Refused.{IsOfReference, IsPassed}}
+use Rattle.lft_lower.specs.inner.Meanings.{Meanings.{Means, places_in, here, token_in}, Standing.tokens_of, Refused.{IsOfReference, IsPassed}}
 use Rattle.lft_lower.proofs.MeaningsLemmas.{Growing.{all_done, all_next, flat_all, flat_grown}, Refusing.of_this}
 use Rattle.lft_lower.proofs.meanings.places.places.Goals as goal
 

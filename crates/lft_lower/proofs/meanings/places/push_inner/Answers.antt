@@ -2,8 +2,8 @@ use Rattle.std.proofs.Common.{◌≡◌, ◌+◌, ◌*◌, ◌-◌, ◌^◌, ◌
 use Rattle.std.specs.Prelude.{option_map}
 use Rattle.std.proofs.lemmas.{List.{append-nil, length-map, length_push, map-append}, Option.slice_get-map}
 use Rattle.lft_tree.specs.View.{ref_view, ref_views}
-use Rattle.lft_elaborate.specs.{inner.Names.spelled, Channels.{Channels.{Place, places}, Lowered.inner}}
-use Rattle.lft_lower.specs.{Meanings.Places.{count_of, inner_places, name_at}, inner.Meanings.Places.several}
+use Rattle.lft_elaborate.specs.inner.{Names.spelled, Channels.{Channels.{Place, places}, Lowered.inner}}
+use Rattle.lft_lower.specs.inner.Meanings.Places.{count_of, inner_places, name_at, several}
 use Rattle.lft_lower.proofs.MeaningsLemmas.{Cuts.{cut_more, cut_full, cut_end, length_places}, Standing.{refs_more, refs_none}}
 use Rattle.lft_lower.proofs.meanings.places.push_inner.Goals as goal
 

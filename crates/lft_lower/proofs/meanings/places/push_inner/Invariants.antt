@@ -1,6 +1,6 @@
 use Rattle.std.proofs.Common.{◌≡◌, ◌+◌, ◌≤◌, ◌++◌, max, length, take}
 use Rattle.lft_tree.specs.View.{ref_views}
-use Rattle.lft_lower.specs.{Meanings.Places.inner_places, inner.Meanings.{Places.several, Standing.AddsAt}}
+use Rattle.lft_lower.specs.inner.Meanings.{Places.{inner_places, several}, Standing.AddsAt}
 use Rattle.lft_lower.proofs.meanings.places.push_inner.Given as goal
 
 abbrev pub invariant-loop-place : goal.invariant-loop-place

@@ -1,7 +1,6 @@
 use Rattle.std.proofs.Common.{sym, ap, ◌∙◌}
 use Rattle.lft_tree.specs.View.{ref_views}
-use Rattle.lft_lower.specs.Meanings.{Meanings.{places_of, port_of}, Places.{inner_places, own_places}}
-use Rattle.lft_lower.specs.inner.Meanings.{Meanings.here, Places.{several, up_to}}
+use Rattle.lft_lower.specs.inner.Meanings.{Meanings.{places_of, port_of, here}, Places.{inner_places, own_places, several, up_to}}
 use Rattle.lft_lower.proofs.meanings.places.push_meant.Goals as goal
 
 pub returns-in_ok-push_own-in-Own-clause-places : goal.returns-in_ok-push_own-in-Own-clause-places

@@ -1,8 +1,8 @@
 use Rattle.std.proofs.Common.{◌≡◌, ◌+◌, ◌<◌, ◌≤◌, [], ◌∷◌, ◌++◌, Some, max, length, slice_get, sym, ap, ◌∙◌, arith, zero-add}
 use Rattle.std.proofs.lemmas.List.{append-nil, length-map, length_push, map-append, FromFn.length-map-range_with_len}
 use Rattle.lft_tree.specs.View.{ref_view, ref_views}
-use Rattle.lft_elaborate.{specs.Channels.Lowered.own, proofs.ChannelsLemmas.Grids.row_at}
-use Rattle.lft_lower.specs.{Meanings.Places.{count_of, name_at, own_places}, inner.Meanings.Places.several}
+use Rattle.lft_elaborate.{specs.inner.Channels.Lowered.own, proofs.ChannelsLemmas.Grids.row_at}
+use Rattle.lft_lower.specs.inner.Meanings.Places.{count_of, name_at, own_places, several}
 use Rattle.lft_lower.proofs.MeaningsLemmas.{Cuts.{cut_more, cut_full, cut_all}, Standing.{refs_more, refs_none}}
 use Rattle.lft_lower.proofs.meanings.places.push_own.Goals as goal
 

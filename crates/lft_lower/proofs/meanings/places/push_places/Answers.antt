@@ -2,7 +2,7 @@ use Rattle.std.proofs.Common.{◌≡◌, ◌+◌, ◌++◌, length, map, sym, ap
 use Rattle.std.specs.Prelude.{is_some}
 use Rattle.std.proofs.lemmas.List.{length-map}
 use Rattle.lft_tree.specs.View.{ref_view, ref_views}
-use Rattle.lft_lower.specs.{inner.Meanings.{Meanings.here, Places.up_to}, Meanings.{Meanings.{places_in, places_of}, Standing.ref_tokens}}
+use Rattle.lft_lower.specs.inner.Meanings.{Meanings.{here, places_in, places_of}, Places.up_to, Standing.ref_tokens}
 use Rattle.lft_lower.proofs.MeaningsLemmas.{Growing.take_whole, Placed.its_places, Standing.tokens_put}
 use Rattle.lft_lower.proofs.meanings.places.push_places.Goals as goal
 

@@ -1,6 +1,6 @@
 use Rattle.std.proofs.Common.{◌≡◌, map, sym, ap, ◌∙◌}
 use Rattle.lft_tree.specs.View.{ref_views}
-use Rattle.lft_lower.specs.{inner.Meanings.{Meanings.here, Places.up_to}, Meanings.{Meanings.places_in, Standing.ref_tokens}}
+use Rattle.lft_lower.specs.inner.Meanings.{Meanings.{here, places_in}, Places.up_to, Standing.ref_tokens}
 use Rattle.lft_lower.proofs.MeaningsLemmas.{Placed.its_places, Standing.tokens_up_to}
 use Rattle.lft_lower.proofs.meanings.places.push_some.Goals as goal
 

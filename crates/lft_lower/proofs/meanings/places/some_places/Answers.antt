@@ -1,7 +1,7 @@
 use Rattle.std.proofs.Common.{◌≡◌, Some, slice_get, take, sym, ap, ◌∙◌, arith}
 use Rattle.std.proofs.lemmas.{List.take_all, Option.slice_get-get_or, Result.err_from_is_err_and}
-use Rattle.lft_lower.specs.Meanings.{Meanings.{all_places, places_in}, Standing.{all_tokens, tokens_of}}
-use Rattle.lft_lower.specs.inner.Meanings.{Meanings.{here, token_in}, Refused.{IsOfReference, IsPassed}}
+use Rattle.lft_lower.specs.inner.Meanings.{Meanings.{all_places, places_in, here, token_in}, Standing.{all_tokens, tokens_of}}
+use Rattle.lft_lower.specs.inner.Meanings.Refused.{IsOfReference, IsPassed}
 use Rattle.lft_lower.proofs.MeaningsLemmas.{Growing.cut_next, Refusing.of_this}
 use Rattle.lft_lower.proofs.meanings.places.some_places.Goals as goal
 

@@ -1,6 +1,6 @@
 use Rattle.std.proofs.Common.{◌≡◌, take}
 use Rattle.lft_tree.specs.View.{ref_views}
-use Rattle.lft_lower.specs.{Meanings.{Meanings.all_places, Standing.{all_tokens, ref_tokens}}, inner.Meanings.Meanings.{here, token_in}}
+use Rattle.lft_lower.specs.inner.Meanings.{Meanings.{all_places, here, token_in}, Standing.{all_tokens, ref_tokens}}
 use Rattle.lft_lower.proofs.meanings.places.some_places.Given as goal
 
 abbrev pub invariant-loop-place : goal.invariant-loop-place

@@ -1,4 +1,4 @@
-use Rattle.lft_record.specs.declared.cards.expression.Term.TheVariants as term
+use Rattle.lft_record.specs.declared.cards.expression.Summand.TheVariants as term
 use Rattle.lft_record.proofs.cards.expression.read_term.Goals as goal
 
 pub returns-in-None-read_input-clause-none : goal.returns-in-None-read_input-clause-none

@@ -1,6 +1,6 @@
 use Rattle.std.proofs.Common.{option_to_list, take, refl, sym}
 use Rattle.lft_tree.specs.View.{action_view}
-use Rattle.lft_resolve.specs.{inner.{Lacking.LacksPlace, References.action_trees, Sheets.IsActionSheet}, Places.place_in}
+use Rattle.lft_resolve.specs.inner.{Lacking.LacksPlace, References.action_trees, Sheets.IsActionSheet, Places.place_in}
 use Rattle.lft_resolve.proofs.{Files.AllZip-last, Lacking.none_at, Twice.map_last}
 use Rattle.lft_resolve.proofs.by_number.declaring.action_sheets.Goals as goal
 

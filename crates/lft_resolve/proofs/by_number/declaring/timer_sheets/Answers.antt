@@ -1,6 +1,6 @@
 use Rattle.std.proofs.Common.{take, sym}
 use Rattle.lft_tree.specs.View.{timer_view}
-use Rattle.lft_resolve.specs.{Kinds.timer_times, inner.{Lacking.LacksPlace, References.timer_trees, Sheets.IsTimerSheet}, Places.place_in}
+use Rattle.lft_resolve.specs.{Kinds.timer_times, inner.{Lacking.LacksPlace, References.timer_trees, Sheets.IsTimerSheet, Places.place_in}}
 use Rattle.lft_resolve.proofs.{Files.AllZip-last, Lacking.none_at, Somes.{Any-left, Any-right}, Twice.map_last}
 use Rattle.lft_resolve.proofs.by_number.declaring.timer_sheets.Goals as goal
 

@@ -1,6 +1,6 @@
 use Rattle.std.proofs.Common.{map, take, sym}
 use Rattle.lft_tree.specs.View.{assignment_view}
-use Rattle.lft_resolve.specs.{inner.{Lacking.{LacksName, LacksPlace}, Sheets.IsGiven}, Places.place_in}
+use Rattle.lft_resolve.specs.inner.{Lacking.{LacksName, LacksPlace}, Sheets.IsGiven, Places.place_in}
 use Rattle.lft_resolve.proofs.{Files.AllZip-last, Lacking.Any-map, Somes.some_here, Twice.map_last}
 use Rattle.lft_resolve.proofs.by_number.settings.given_all.Goals as goal
 

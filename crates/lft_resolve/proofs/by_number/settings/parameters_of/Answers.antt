@@ -1,6 +1,6 @@
 use Rattle.std.proofs.Common.{◌≡◌, Any, map, filter_map, flat_map, ap, subst, ◌∙◌}
 use Rattle.lft_tree.specs.{Tree.{instance_in, instances_of}, View.{member_view, reactor_view}}
-use Rattle.lft_resolve.{specs.{inner.{Lacking.LacksPlace, References.instance_trees}, Places.place_in}, proofs.Lacking.value_lacks}
+use Rattle.lft_resolve.{specs.inner.{Lacking.LacksPlace, References.instance_trees, Places.place_in}, proofs.Lacking.value_lacks}
 use Rattle.lft_resolve.proofs.by_number.settings.parameters_of.Goals as goal
 
 pub given_to_each-requires-clause-times : goal.given_to_each-requires-clause-times

@@ -1,7 +1,7 @@
 use Rattle.std.proofs.Common.{◌<◌, length, Some, sym, subst, arith, string_bytes}
 use Rattle.std.specs.Prelude.{option_map}
 use Rattle.std.{specs.BTreeSet.contains_text, proofs.lemmas.List.{length-map, map-set}}
-use Rattle.lft_lower.{specs.{Meanings.Names.AreApart, inner.Meanings.Names.texts}, proofs.MeaningsLemmas.Apart.{AreIn, apart_more, taken_more, taken_still}}
+use Rattle.lft_lower.{specs.inner.Meanings.Names.{AreApart, texts}, proofs.MeaningsLemmas.Apart.{AreIn, apart_more, taken_more, taken_still}}
 use Rattle.lft_lower.proofs.meanings.naming.CoreNames.put.Goals as goal
 
 pub returns-then-setting-len-clause-names : goal.returns-then-setting-len-clause-names

@@ -1,7 +1,7 @@
 use Rattle.std.proofs.Common.{◌*◌, length, sym, ap, ◌∙◌}
-use Rattle.lft_lower.specs.{Meanings.{Meanings.{places_of, port_of, thing_in}, Places.count_of}, inner.Meanings.Meanings.here}
+use Rattle.lft_lower.specs.inner.Meanings.{Meanings.{places_of, port_of, thing_in, here}, Places.count_of}
 use Rattle.lft_lower.proofs.MeaningsLemmas.Cuts.{length_inner, length_own}
-use Rattle.lft_classes.specs.declared.shapes.Thing.TheVariants as things
+use Rattle.lft_classes.specs.declared.shapes.OwnThing.TheVariants as things
 use Rattle.lft_lower.proofs.meanings.places.Within.count.Goals as goal
 
 pub returns-in-Own-clause-count : goal.returns-in-Own-clause-count

@@ -1,6 +1,6 @@
 use Rattle.std.proofs.Common.{◌↔◌, ℕ, List, sym, ap, ◌∙◌, subst, Contains}
 use Rattle.lft_queue.specs.inner.Coming.NumberLists.{list_at}
-use Rattle.lft_scheduler.specs.inner.{Listeners.{IsArrival, IsWatched}}
+use Rattle.lft_scheduler.specs.inner.Listeners.{IsArrival, IsWatched}
 use Rattle.lft_scheduler.proofs.listeners.arrivals.Arrivals.of.Goals as goal
 
 pub returns-clause-each : goal.returns-clause-each

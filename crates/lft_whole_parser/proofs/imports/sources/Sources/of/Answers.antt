@@ -1,12 +1,12 @@
 use Rattle.std.proofs.Common.{◌≡◌, None, [], ◌∷◌, ◌++◌, map, refl, sym, ap, ◌∙◌, string_bytes}
-use Rattle.lft_whole_parser.specs.{declared.imports.asked.Wanted.Wanted, inner.Imports.Files.{paths_of, tokens_of}}
+use Rattle.lft_whole_parser.specs.{declared.imports.asked.WantedFile.WantedFile, inner.Imports.Files.{paths_of, tokens_of}}
 use Rattle.lft_whole_parser.proofs.ImportsLemmas.Known.{no_file, one_named, one_reached}
 use Rattle.lft_whole_parser.proofs.imports.sources.Sources.of.Goals as goal
 
 pub returns-clause-sources : goal.returns-clause-sources
 returns-clause-sources c =
     let files = c.new.result.items in
-    let program : Wanted = record { path = c.in_ok-normal.field-0; import = None } in
+    let program : WantedFile = record { path = c.in_ok-normal.field-0; import = None } in
     let wanted : c.ask.new.self.paths.items ≡ program ∷ [] = c.in_ok-ask.ensures.paths ∙ ap (λ paths. paths ++ program ∷ []) c.new-asked.ensures.empty in
     record {
       known = c.in_ok-ask.ensures.known;
@@ -15,9 +15,9 @@ returns-clause-sources c =
       tokens = sym (ap tokens_of c.new.ensures.items);
       counted = λ k file at. absurd (no_file files c.new.ensures.items k file at);
       numbered = λ k file at. absurd (no_file files c.new.ensures.items k file at);
-      reached = one_reached (paths_of c.ask.new.self) (string_bytes program.path) files (ap (map (λ (w : Wanted). string_bytes w.path)) wanted);
+      reached = one_reached (paths_of c.ask.new.self) (string_bytes program.path) files (ap (map (λ (w : WantedFile). string_bytes w.path)) wanted);
       named = one_named files c.ask.new.self.paths.items program wanted refl;
     }
 
 pub returns-clause-paths : goal.returns-clause-paths
-returns-clause-paths c = ap (map (λ (w : Wanted). string_bytes w.path)) (c.in_ok-ask.ensures.paths ∙ ap (λ paths. paths ++ record { path = c.in_ok-normal.field-0; import = None } ∷ []) c.new-asked.ensures.empty) ∙ ap (λ p. p ∷ []) c.in_ok-normal.ensures
+returns-clause-paths c = ap (map (λ (w : WantedFile). string_bytes w.path)) (c.in_ok-ask.ensures.paths ∙ ap (λ paths. paths ++ record { path = c.in_ok-normal.field-0; import = None } ∷ []) c.new-asked.ensures.empty) ∙ ap (λ p. p ∷ []) c.in_ok-normal.ensures

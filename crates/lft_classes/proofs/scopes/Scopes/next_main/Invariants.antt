@@ -1,6 +1,0 @@
-use Rattle.std.proofs.Common.{ℕ, ◌<◌, ◌≤◌}
-use Rattle.lft_classes.specs.{declared.scopes.Class.Class, Scopes.IsMainAt}
-use Rattle.lft_classes.proofs.scopes.Scopes.next_main.Given as goal
-
-abbrev pub invariant-loop-place : goal.invariant-loop-place
-invariant-loop-place l = (number : ℕ) (c : Class) → l.fn.from ≤ number → number < l.place → IsMainAt l.self number c → ⊥
