@@ -1,5 +1,5 @@
 -- How the things that a name stands for are written.
-use Rattle.std.specs.Prelude.{ℕ, List, ◌++◌, Option, Some, None, codes, decimal}
+use Rattle.std.specs.Prelude.{[], ℕ, List, ◌++◌, Option, Some, None, codes, decimal}
 
 -- the number, if there is one, stands in brackets
 abbrev pub tail : Option ℕ → List ℕ

@@ -1,5 +1,5 @@
 -- Inside: how the things that a name stands for are written.
-use Rattle.std.specs.Prelude.{ℕ, List, string_bytes, ◌++◌}
+use Rattle.std.specs.Prelude.{[], ℕ, List, string_bytes, ◌++◌}
 use Rattle.lft_whole.specs.declared.tree.Member.{Member}
 use Rattle.lft_elaborate.specs.{declared.names.Numbered.Numbered, Names.tail}
 use Rattle.lft_whole.specs.declared.tree.Member.TheVariants as member

@@ -1,5 +1,5 @@
 -- Inside: what references mean, how many places they have, and how wide members are, told by the shapes alone.
-use Rattle.std.specs.Prelude.{◌≡◌, ℕ, zero, suc, ◌+◌, ◌*◌, ◌-◌, ◌^◌, ℤ, min, List, ◌∷◌, map, Option, Some, None, slice_get, string_bytes}
+use Rattle.std.specs.Prelude.{[], ◌≡◌, ℕ, zero, suc, ◌+◌, ◌*◌, ◌-◌, ◌^◌, ℤ, min, List, ◌∷◌, map, Option, Some, None, slice_get, string_bytes}
 use Rattle.std.specs.Option.{option_and_then}
 use Rattle.lft_elaborate.specs.{inner.{Values.{Valued, inside, number_named}, Meanings.meaning_of, Channels.Channels.joined}, declared.meanings.Meaning.Meaning}
 use Rattle.lft_elaborate.specs.Places.{natural}

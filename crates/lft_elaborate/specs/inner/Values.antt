@@ -1,5 +1,5 @@
 -- Inside: reactors with the numbers of their parameters, from the texts alone.
-use Rattle.std.specs.Prelude.{ℕ, ◌^◌, ℤ, pos, neg_ℤ, min, Bool, true, false, ◌==◌, List, ◌∷◌, map, length, Option, Some, None, option_map, slice_get, string_bytes, unwrap_or, if◌then◌else◌, ◌≡◌}
+use Rattle.std.specs.Prelude.{[], ℕ, ◌^◌, ℤ, pos, neg_ℤ, min, Bool, true, false, ◌==◌, List, ◌∷◌, map, length, Option, Some, None, option_map, slice_get, string_bytes, unwrap_or, if◌then◌else◌, ◌≡◌}
 use Rattle.std.specs.Option.{option_and_then, option_or}
 use Rattle.lft_elaborate.specs.Channels.Channels.{below}
 use Rattle.lft_whole.specs.declared.tree.Value.{Value}
