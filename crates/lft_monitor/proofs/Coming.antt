@@ -1,5 +1,5 @@
 -- What is kept shows that nothing is broken before the tag that it has come to.
-use Rattle.std.proofs.Common.{◌≡◌, ℕ, ◌<◌, inl, inr, List, refl, sym, ap, ◌∙◌, subst, arith, Option, Some, None, slice_get, filter_map}
+use Rattle.std.proofs.Common.{◌≡◌, ℕ, ◌<◌, inl, inr, List, refl, sym, ap, ◌∙◌, subst, arith, Option, Some, None, slice_get, filter_map, Contains, ⊎_elim}
 use native.Mathlib.Decide.{dec_lt}
 use Rattle.lft_tag.{specs.{declared.Tag.Tag, Tags.{Before, UpTo}}, proofs.Order.{Before-UpTo, UpTo-Before}}
 use Rattle.lft_lists.proofs.Places.{get_there, at_contains, contains_at, same_some}
@@ -9,8 +9,9 @@ use Rattle.lft_ir.specs.declared.steps.row.Row.{Row}
 use Rattle.lft_model.specs.{Plans.PlanParts, Presence.{stop, Fires, Occurs, Triggered, ClashesAt}, Runs.Ran, Breaches.{BreaksTagUntil, BreaksAtUntil}}
 use Rattle.lft_model.proofs.Places.{slice_get_within}
 use Rattle.lft_stream.specs.declared.due.Due.{Due, TheVariants.{AtTag, AtStop, Never}}
-use Rattle.lft_stream.specs.inner.{Dues.{firing, IsNextFiring, IsDue, timed, AreDue, IsDueBefore}, Streams.{State, IsStream}}
+use Rattle.lft_stream.specs.inner.{Dues.{firing, IsNextFiring, IsDue, timed, AreDueOf, IsDueBefore}, Streams.{State, IsStream}}
 use Rattle.lft_stream.proofs.Owing.{due_occurs, firing_up, timed_there, timed_from}
+use Rattle.lft_rows.{specs.inner.Presence.Needed.StandsFor, proofs.PresenceLemmas.Needing.{needed_triggers, stands_occurs}}
 use Rattle.lft_queue.specs.inner.Coming.Listens.{Listens}
 use Rattle.lft_monitor.specs.{Sure.IsUnbroken, inner.Timely.{HasComeTo, TimelyLaw, OverdueLaw}}
 
@@ -40,19 +41,31 @@ due_met plan t low r (On n) due timed is free h before o = absurd (cc)
 
 module _ (plan : PlanParts) (t : List Row) (low : Tag) (s : State) (stream : IsStream plan t s) (come : HasComeTo plan t low s) where
   timed_met : (x : Trigger) → timed x ≡ Some x → (h : Tag) (r : ℕ) → Before h low → Occurs plan t h x → Listens plan r x → Ran t h r
-  timed_met x is_timed h r before o l = due_met plan t low r x due.0 is_timed (own.each place.0 x due.0 place.1 due.1) (come.dues r place.0 list.0 due.0 list.1 due.1) h before o
+  timed_met x is_timed h r before o l = due_met plan t low r y due.0 y_timed (own.2.each place.0 y due.0 place.1 due.1) (come.dues r place.0 list.0 due.0 list.1 due.1) h before (stands_occurs (record { plan = plan; rows = t }) h y x stands.3 o)
     where
-      place : (k : ℕ) × (slice_get (filter_map timed l.reaction.triggers) k ≡ Some x)
-      place = at_contains (filter_map timed l.reaction.triggers) x (timed_there l.reaction.triggers x is_timed l.is_trigger)
-
       list : (list : List Due) × (slice_get s.dues r ≡ Some list)
       list = get_there s.dues r (let a = slice_get_within plan.program.reactions r l.reaction l.is_reaction in let b = stream.dues.as_long in omega arith)
 
-      own : AreDue plan t r (filter_map timed l.reaction.triggers) list.0
-      own = stream.dues.each r l.reaction list.0 l.is_reaction list.1
+      own : AreDueOf plan t r list.0
+      own = stream.dues.each r list.0 list.1
+
+      there : (k : ℕ) × (slice_get own.1.0.triggers k ≡ Some x)
+      there = at_contains own.1.0.triggers x (subst (λ (z : Reaction). Contains z.triggers x) (same_some (slice_get plan.program.reactions r) l.reaction own.1.0 l.is_reaction own.1.1) l.is_trigger)
+
+      stands : (k : ℕ) × (y : Trigger) × (slice_get own.0 k ≡ Some y) × StandsFor plan.program y x
+      stands = own.1.2.each there.0 x there.1
+
+      y : Trigger
+      y = stands.1
+
+      y_timed : timed y ≡ Some y
+      y_timed = ⊎_elim (λ e. subst (λ (z : Trigger). timed z ≡ Some z) (sym e) is_timed) (λ s. subst (λ (z : Trigger). timed z ≡ Some z) (sym s.2) refl) stands.3
+
+      place : (k : ℕ) × (slice_get (filter_map timed own.0) k ≡ Some y)
+      place = at_contains (filter_map timed own.0) y (timed_there own.0 y y_timed (contains_at own.0 stands.0 y stands.2))
 
       due : (due : Due) × (slice_get list.0 place.0 ≡ Some due)
-      due = get_there list.0 place.0 (let a = slice_get_within (filter_map timed l.reaction.triggers) place.0 x place.1 in let b = own.as_long in omega arith)
+      due = get_there list.0 place.0 (let a = slice_get_within (filter_map timed own.0) place.0 y place.1 in let b = own.2.as_long in omega arith)
 
   done : (n : Name) (h : Tag) → Before h low → Before h (s.lows n)
   done n h before = Before-UpTo h low (s.lows n) before (come.lows n)
@@ -94,14 +107,14 @@ timely_law plan t low s stream come = unbroken plan t low s stream come
 pub overdue_law : (plan : PlanParts) → OverdueLaw plan
 overdue_law plan t dues r k list g period are at due up not_ran = record { in_time = up; breaks = inl (refl, triggered, not_ran); row_is = refl }
   where
-    reaction : (x : Reaction) × (slice_get plan.program.reactions r ≡ Some x)
-    reaction = get_there plan.program.reactions r (let a = slice_get_within dues r list at in let b = are.as_long in omega arith)
+    own : AreDueOf plan t r list
+    own = are.each r list at
 
-    own : AreDue plan t r (filter_map timed reaction.0.triggers) list
-    own = are.each r reaction.0 list reaction.1 at
+    trigger : (x : Trigger) × (slice_get (filter_map timed own.0) k ≡ Some x)
+    trigger = get_there (filter_map timed own.0) k (let a = slice_get_within list k (AtTag g period) due in let b = own.2.as_long in omega arith)
 
-    trigger : (x : Trigger) × (slice_get (filter_map timed reaction.0.triggers) k ≡ Some x)
-    trigger = get_there (filter_map timed reaction.0.triggers) k (let a = slice_get_within list k (AtTag g period) due in let b = own.as_long in omega arith)
+    place : (j : ℕ) × (slice_get own.0 j ≡ Some trigger.0)
+    place = at_contains own.0 trigger.0 (timed_from own.0 trigger.0 (contains_at (filter_map timed own.0) k trigger.0 trigger.1))
 
     triggered : Triggered plan t g r
-    triggered = record { reaction = reaction.0; trigger = trigger.0; is_reaction = reaction.1; is_trigger = timed_from reaction.0.triggers trigger.0 (contains_at (filter_map timed reaction.0.triggers) k trigger.0 trigger.1); occurs = due_occurs plan t g r trigger.0 (AtTag g period) (own.each k trigger.0 (AtTag g period) trigger.1 due) refl }
+    triggered = needed_triggers (record { plan = plan; rows = t }) g r place.0 own.0 trigger.0 own.1 place.1 (due_occurs plan t g r trigger.0 (AtTag g period) (own.2.each k trigger.0 (AtTag g period) trigger.1 due) refl)

@@ -45,7 +45,7 @@ module _ (plan : PlanParts) (inputs : ExternalInputs) where
     pub dues_other : (dues : List (List Due)) → AreDues plan t dues → AreDues other t dues
     dues_other dues are = record {
       as_long = are.as_long;
-      each = λ r reaction list is at. let old = are.each r reaction list is at in record { as_long = old.as_long; each = λ k x due p q. due_other r x due (old.each k x due p q) };
+      each = λ r list at. let old = are.each r list at in (old.0, old.1, record { as_long = old.2.as_long; each = λ k x due p q. due_other r x due (old.2.each k x due p q) });
     }
 
   -- a run of which the same is asked is right still
