@@ -1,4 +1,0 @@
-pub mod Meanings
-pub mod Names
-pub mod Places
-pub mod Standing
