@@ -1,19 +1,19 @@
 -- What one more record does to a table of external inputs.
-use Rattle.std.proofs.Common.{◌≡◌, ◌∙◌, inl, inr, ◌≤◌, ◌++◌, ℕ, List, [], ◌∷◌, length, Option, Some, None, filter_map, refl, sym, ap, subst, arith, append-nil}
+use Rattle.std.proofs.Common.{Bor, ◌≡◌, ◌∙◌, inl, inr, ◌≤◌, ◌++◌, ℕ, List, [], ◌∷◌, length, Option, Some, None, filter_map, refl, sym, ap, subst, arith, append-nil}
 use Rattle.std.specs.Prelude.{option_to_list}
 use Rattle.std.{specs.List.Sorted.IsPermutation, proofs.lemmas.List.{Elements.filter_map-append, Sorted.{IsPermutation-push_more, IsPermutation-refl}}}
 use Rattle.csv.specs.Records.{fields_of}
 use Rattle.lft_ir.specs.{Parts.Parts, Steps.Inputs.{ExternalInputs, InOrder}, declared.steps.externals.Event.Event}
 use Rattle.lft_tag.specs.declared.Tag.{Tag}
 use Rattle.lft_trace.specs.ExternalTables.{AreApart, ExternalFails, ExternalTable, FaultAt, IsEntry, event_of, external_tables, header, stop_of}
-use Rattle.lft_trace.specs.{inner.{Records.{IsNext, IsPast, IsUnread, records_left}, SeenExternals.{Keeps, Refuses}}, Records.records_of}
+use Rattle.lft_trace.specs.{inner.{Records.{in_memory, IsNext, IsPast, IsUnread, records_left}, SeenExternals.{Keeps, Refuses}}, Records.records_of}
 use Rattle.lft_trace.specs.declared.{external_table.Entry.{Entry, TheVariants.{Happens, Stops}}, fault.TraceFault.TraceFault, records.Records.Records}
 use Rattle.lft_trace.proofs.Members.{apart_pushed, has_permuted, has_permuted_back}
 use Rattle.lft_trace.proofs.TableFacts.{Read, Texts, bad as bad_record, ended as all_read, one_more as read_more, past as past_last, start as first}
 use Rattle.lft_trace.specs.declared.fault.TraceFault.TheVariants as fault
 
 -- what is read up to a line: the header and the records of some entries, their stop, if any, and their events
-pub record Gathered (program : Parts) (records : Texts) (stop : Option Tag) (events : List Event) (r : Records) : Type 0 where
+pub record Gathered (program : Parts) (records : Texts) (stop : Option Tag) (events : List Event) (r : Records (Bor (List ℕ))) : Type 0 where
   pub entries : List Entry
   pub read : Read (external_tables program) records entries r
   pub stops : filter_map stop_of entries ≡ option_to_list stop
@@ -49,11 +49,11 @@ clash program line f (Happens x) entries stop events e is s p h = rw h.0 (refl, 
 clash program line f (Stops g) entries None events e is s p h = absurd (h.1 refl)
 clash program line f (Stops g) entries (Some o) events e is s p h = rw h.0 (refl, g, is, λ none. let q : ◌≡◌ {A = List Tag} [] (o ∷ []) = sym none ∙ s in cc (q))
 
-pub start : (program : Parts) (text : List ℕ) (old new : Records) → IsUnread old text 4000001 → IsNext old new → fields_of new.fields ≡ header → Gathered program (records_of text) None [] new
+pub start : (program : Parts) (text : List ℕ) (old new : Records (Bor (List ℕ))) → IsUnread in_memory old text 4000001 → IsNext in_memory old new → fields_of new.fields ≡ header → Gathered program (records_of text) None [] new
 start program text old new u g top = record { entries = []; read = first (external_tables program) text old new u g top (omega arith, λ i j x y a b same. cc (a)); stops = refl; same = IsPermutation-refl [] }
 
-module _ (program : Parts) (records : Texts) (stop : Option Tag) (events : List Event) (old : Records) (r : Gathered program records stop events old) where
-  pub one_more : (new : Records) (entry : Entry) (now : Option Tag) (events_now : List Event) → IsNext old new → IsEntry program (fields_of new.fields) entry → Keeps entry stop events now events_now → Gathered program records now events_now new
+module _ (program : Parts) (records : Texts) (stop : Option Tag) (events : List Event) (old : Records (Bor (List ℕ))) (r : Gathered program records stop events old) where
+  pub one_more : (new : Records (Bor (List ℕ))) (entry : Entry) (now : Option Tag) (events_now : List Event) → IsNext in_memory old new → IsEntry program (fields_of new.fields) entry → Keeps entry stop events now events_now → Gathered program records now events_now new
   one_more new entry now events_now g is k =
       let stops = stops_after r.entries entry stop now events events_now r.stops k in
       let apart = apart_after r.entries entry stop now events events_now r.read.begins.together.1 r.same k in
@@ -64,16 +64,16 @@ module _ (program : Parts) (records : Texts) (stop : Option Tag) (events : List 
         same = same_after r.entries entry stop now events events_now r.same k;
       }
 
-  pub bad : (new : Records) (e : TraceFault) → IsNext old new → ((before : List Entry) → FaultAt program before new.line (fields_of new.fields) e) → ExternalFails program records e
+  pub bad : (new : Records (Bor (List ℕ))) (e : TraceFault) → IsNext in_memory old new → ((before : List Entry) → FaultAt program before new.line (fields_of new.fields) e) → ExternalFails program records e
   bad new e g is = inl (bad_record (external_tables program) records r.entries old new e r.read g (is r.entries))
 
-  pub refused : (new : Records) (entry : Entry) (e : TraceFault) → IsNext old new → IsEntry program (fields_of new.fields) entry → Refuses entry stop events new.line e → ExternalFails program records e
+  pub refused : (new : Records (Bor (List ℕ))) (entry : Entry) (e : TraceFault) → IsNext in_memory old new → IsEntry program (fields_of new.fields) entry → Refuses entry stop events new.line e → ExternalFails program records e
   refused new entry e g is h = inl (bad_record (external_tables program) records r.entries old new e r.read g (clash program new.line (fields_of new.fields) entry r.entries stop events e is r.stops r.same h))
 
-  pub past : (new : Records) → IsPast old new → ExternalFails program records fault.TooManyRows
+  pub past : (new : Records (Bor (List ℕ))) → IsPast in_memory old new → ExternalFails program records fault.TooManyRows
   past new p = inl (past_last (external_tables program) records r.entries old new r.read p)
 
-  pub ended : (inputs : ExternalInputs) → records_left old ≡ [] → (stop ≡ Some inputs.stop) × (inputs.events ≡ events) × InOrder inputs.events → ExternalTable program records inputs
+  pub ended : (inputs : ExternalInputs) → records_left in_memory old ≡ [] → (stop ≡ Some inputs.stop) × (inputs.events ≡ events) × InOrder inputs.events → ExternalTable program records inputs
   ended inputs none h = record {
     entries = r.entries;
     holds = all_read (external_tables program) records r.entries old r.read none;
@@ -83,5 +83,5 @@ module _ (program : Parts) (records : Texts) (stop : Option Tag) (events : List 
     order = h.2;
   }
 
-  pub no_stop : (e : TraceFault) → records_left old ≡ [] → (e ≡ fault.NoStop) × (stop ≡ None) → ExternalFails program records e
+  pub no_stop : (e : TraceFault) → records_left in_memory old ≡ [] → (e ≡ fault.NoStop) × (stop ≡ None) → ExternalFails program records e
   no_stop e none h = inr (h.0, record { entries = r.entries; holds = all_read (external_tables program) records r.entries old r.read none; apart = r.read.begins.together.1; none = r.stops ∙ ap option_to_list h.1 })

@@ -1,5 +1,5 @@
 -- The records of a text don't depend on how many steps are allowed, where there are enough.
-use Rattle.std.proofs.Common.{◌≡◌, ◌∙◌, ◌+◌, ◌≤◌, ◌<◌, ◌∷◌, [], ℕ, zero, suc, List, length, Option, Some, None, true, false, Bor, refl, sym, ap, arith, inl, inr, ◌⊎◌}
+use Rattle.std.proofs.Common.{◌≡◌, ◌∙◌, ◌+◌, ◌≤◌, ◌<◌, ◌∷◌, [], ℕ, zero, suc, List, length, Option, Some, None, true, false, refl, sym, ap, arith, inl, inr, ◌⊎◌}
 use Rattle.std.specs.Prelude.{⊤}
 use Rattle.std.proofs.lemmas.Bool.{cases_Bool}
 use Rattle.csv.specs.Machine.{Read, next_record, step, is_end, fields_after, field_after, ends_at_end}
@@ -93,11 +93,11 @@ unfolding Reached
 reached-one s s2 f y z h = one-more default_config s y h.0 h.1 ∙ rw (h.2, h.3.0, h.3.1) refl
 
 -- a read that found a record leaves the others, and the reader as it was
-pub left-more : (a b : Records) (f : List (List ℕ)) → IsPlain a → Ready b.reader → ReadRecord (λ (s : Bor (List ℕ)). Some s.now) a.reader b.reader true f → IsPlain b × (records_left a ≡ f ∷ records_left b)
-left-more a b f p ready r =
-    let m = rows-more (λ (s : Bor (List ℕ)). Some s.now) a.reader b.reader f default_config a.reader.state p.3 p.3 [] p.2 p.4 (none-yet a.reader.state p.3) r in
+pub left-more : {R : Type 0} (remaining : R → Option (List ℕ)) (a b : Records R) (f : List (List ℕ)) → IsPlain remaining a → Ready b.reader → ReadRecord remaining a.reader b.reader true f → IsPlain remaining b × (records_left remaining a ≡ f ∷ records_left remaining b)
+left-more remaining a b f p ready r =
+    let m = rows-more remaining a.reader b.reader f default_config a.reader.state p.3 p.3 [] p.2 p.4 (none-yet a.reader.state p.3) r in
     ((r.3 ∙ p.0, ready, r.2 ∙ p.2, m.0, m.1), rw (p.4, m.1) (reached-one a.reader.state b.reader.state f p.3 m.0 m.2))
 
 -- a read that found none was at the end
-pub left-none : (a : Records) (b : Reader (Bor (List ℕ))) (f : List (List ℕ)) → IsPlain a → ReadRecord (λ (s : Bor (List ℕ)). Some s.now) a.reader b false f → records_left a ≡ []
-left-none a b f p r = rw p.4 (no-more default_config a.reader.state p.3 (rows-end (λ (s : Bor (List ℕ)). Some s.now) a.reader b f default_config p.3 p.2 p.4 r))
+pub left-none : {R : Type 0} (remaining : R → Option (List ℕ)) (a : Records R) (b : Reader R) (f : List (List ℕ)) → IsPlain remaining a → ReadRecord remaining a.reader b false f → records_left remaining a ≡ []
+left-none remaining a b f p r = rw p.4 (no-more default_config a.reader.state p.3 (rows-end remaining a.reader b f default_config p.3 p.2 p.4 r))

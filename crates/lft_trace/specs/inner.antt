@@ -1,3 +1,4 @@
+pub mod Batches
 pub mod Keys
 pub mod LogTables
 pub mod Parts

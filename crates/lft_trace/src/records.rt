@@ -1,6 +1,6 @@
-//! The records of a text, one at a time.
+//! The records that a reader gives, one at a time.
 
-ghost use Rattle.std.specs.Prelude.{◌≡◌, ◌<◌, [], true, false, IfOk, IfErr, length, slice_index_or};
+ghost use Rattle.std.specs.Prelude.{◌≡◌, ◌<◌, [], true, false, IfOk, IfErr, IfSome, length, slice_index_or};
 ghost use Rattle.csv.specs.Records.{fields_of};
 ghost use Rattle.lft_trace.specs.{Faults.is_told, inner.Records.{IsNext, IsPast, IsPlain, IsUnread, records_left}};
 
@@ -8,6 +8,7 @@ use crate::fault::TraceFault;
 use csv::{ByteRecord, ErrorKind, Reader, ReaderBuilder};
 use lft_tag::MAX_ROWS;
 use std::alloc::Global;
+use std::io::Read;
 
 /// The line of the last row that a table may have. The header is line 1.
 pub const LAST_LINE: u32 = MAX_ROWS as u32 + 1;
@@ -17,6 +18,7 @@ pub const LAST_LINE: u32 = MAX_ROWS as u32 + 1;
 pub enum Unread {
     /// There are more than there may be.
     TooMany,
+    /// The reader failed. A text in memory never does.
     NotCsv,
     NoMemory,
 }
@@ -32,10 +34,10 @@ pub(crate) fn stopped(unread: Unread) -> TraceFault
     }
 }
 
-/// The records of a text, the header included, one at a time. The first is line 1.
+/// The records that a reader gives, the header included, one at a time. The first is line 1.
 #[derive(Drop)]
-pub struct Records<'a> {
-    reader: Reader<&'a [u8]>,
+pub struct Records<R: Read + Drop> {
+    reader: Reader<R>,
     /// The record at hand.
     pub fields: ByteRecord,
     /// Its line.
@@ -43,17 +45,17 @@ pub struct Records<'a> {
     last: u32,
 }
 
-impl<'a> Records<'a> {
-    /// The records of a text, before the first one is read. More than `last` are too many. It takes
+impl<R: Read + Drop> Records<R> {
+    /// The records that a reader gives, before the first one is read. More than `last` are too many. It takes
     /// no memory.
-    pub fn new(alloc: Global, text: &'a [u8], last: u32) -> Records<'a>
-        ensures { IsUnread result text.now last }
+    pub fn new(alloc: Global, source: R, last: u32) -> Records<R>
+        ensures { IfSome (R.remaining source) (λ text. IsUnread R.remaining result text last) }
     {
         Records {
             reader: ReaderBuilder::new()
                 .has_headers(false)
                 .flexible(true)
-                .from_reader(alloc, text),
+                .from_reader(alloc, source),
             fields: ByteRecord::new(alloc),
             line: 0,
             last,
@@ -63,10 +65,9 @@ impl<'a> Records<'a> {
     /// Goes on to the next record, if there is one.
     #[inline(always)]
     pub fn next(&mut self) -> Result<bool, Unread>
-        requires { IsPlain self.old }
-        ensures found { IfOk result (λ found. found ≡ true → IsNext self.old self.new) }
-        ensures none { IfOk result (λ found. found ≡ false → records_left self.old ≡ []) }
-        ensures many { IfErr result (λ e. e ≡ Unread.TooMany → IsPast self.old self.new) }
+        ensures found { IfOk result (λ found. found ≡ true → IsPlain R.remaining self.old → IsNext R.remaining self.old self.new) }
+        ensures none { IfOk result (λ found. found ≡ false → IsPlain R.remaining self.old → records_left R.remaining self.old ≡ []) }
+        ensures many { IfErr result (λ e. e ≡ Unread.TooMany → IsPlain R.remaining self.old → IsPast R.remaining self.old self.new) }
     {
         match self.reader.read_byte_record(&mut self.fields) {
             Ok(true) => {}

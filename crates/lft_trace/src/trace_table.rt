@@ -106,8 +106,8 @@ pub fn read_part(alloc: Global, names: &ReactionNames, text: &[u8], most: u32) -
     }
 }
 
-// Whether the record is the header.
-fn is_header(fields: &ByteRecord) -> bool
+/// Whether the record is the header.
+pub(crate) fn is_header(fields: &ByteRecord) -> bool
     ensures { IsTrue result ↔ (fields_of fields.now ≡ header) }
 {
     match TraceFields::of(fields) {

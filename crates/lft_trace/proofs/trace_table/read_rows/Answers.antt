@@ -6,32 +6,29 @@ use Rattle.lft_trace.proofs.trace_table.read_rows.Goals as goal
 pub lines-init : goal.lines-init
 lines-init c =
     let top : fields_of c.next.new.self.fields ≡ header = search rules in
-    (rw c.new-rows.ensures.items (start (trace_tables c.args.names.now) c.args.text.now c.new-records.result c.next.new.self c.new-records.ensures (c.in-Ok-true.ensures.found c.in-Ok-true.field-0-test) top tt), tt)
-
-pub next-requires-in-lines : goal.next-requires-in-lines
-next-requires-in-lines c = c.lines.invariant.0.plain
+    (rw c.new-rows.ensures.items (start (trace_tables c.args.names.now) c.args.text.now c.new-records.result c.next.new.self c.new-records.ensures (c.in-Ok-true.ensures.found c.in-Ok-true.field-0-test c.new-records.ensures.plain) top tt), tt)
 
 pub read_row-requires : goal.read_row-requires
 read_row-requires c = c.lines.invariant.1
 
 pub returns-in-Ok-false-next-clause-table : goal.returns-in-Ok-false-next-clause-table
 returns-in-Ok-false-next-clause-table c =
-    ended (trace_tables c.args.names.now) (records_of c.args.text.now) c.lines.rows.items c.lines.records c.lines.invariant.0 (c.in-Ok-false-next.ensures.none c.in-Ok-false-next.field-0-test)
+    ended (trace_tables c.args.names.now) (records_of c.args.text.now) c.lines.rows.items c.lines.records c.lines.invariant.0 (c.in-Ok-false-next.ensures.none c.in-Ok-false-next.field-0-test c.lines.invariant.0.plain)
 
 pub returns-in-Err-next-clause-fault : goal.returns-in-Err-next-clause-fault
 returns-in-Err-next-clause-fault c told =
     let s = c.stopped-in-Err-next.ensures told in
-    rw s.1 (past (trace_tables c.args.names.now) (records_of c.args.text.now) c.lines.rows.items c.lines.records c.next-in-lines.new.self c.lines.invariant.0 (c.in-Err-next.ensures.many s.0))
+    rw s.1 (past (trace_tables c.args.names.now) (records_of c.args.text.now) c.lines.rows.items c.lines.records c.next-in-lines.new.self c.lines.invariant.0 (c.in-Err-next.ensures.many s.0 c.lines.invariant.0.plain))
 
 pub returns-in-Err-read_row-clause-fault : goal.returns-in-Err-read_row-clause-fault
 returns-in-Err-read_row-clause-fault c _ =
-    bad (trace_tables c.args.names.now) (records_of c.args.text.now) c.lines.rows.items c.lines.records c.next-in-lines.new.self c.in-Err-read_row.fault c.lines.invariant.0 (c.in-Ok-true-next.ensures.found c.in-Ok-true-next.field-0-test) c.in-Err-read_row.ensures.fault
+    bad (trace_tables c.args.names.now) (records_of c.args.text.now) c.lines.rows.items c.lines.records c.next-in-lines.new.self c.in-Err-read_row.fault c.lines.invariant.0 (c.in-Ok-true-next.ensures.found c.in-Ok-true-next.field-0-test c.lines.invariant.0.plain) c.in-Err-read_row.ensures.fault
 
 pub lines-smaller : goal.lines-smaller
-lines-smaller c = fewer c.lines.records c.next-in-lines.new.self (c.in-Ok-true-next.ensures.found c.in-Ok-true-next.field-0-test)
+lines-smaller c = fewer c.lines.records c.next-in-lines.new.self (c.in-Ok-true-next.ensures.found c.in-Ok-true-next.field-0-test c.lines.invariant.0.plain)
 
 pub lines-preserved : goal.lines-preserved
 lines-preserved c =
     let items : c.push.new.self.items ≡ c.lines.rows.items ++ (c.in-Ok.row ∷ []) = search rules in
-    let read = one_more (trace_tables c.args.names.now) (records_of c.args.text.now) c.lines.rows.items c.lines.records c.next-in-lines.new.self c.in-Ok.row c.lines.invariant.0 (c.in-Ok-true-next.ensures.found c.in-Ok-true-next.field-0-test) c.in-Ok.ensures.row tt in
+    let read = one_more (trace_tables c.args.names.now) (records_of c.args.text.now) c.lines.rows.items c.lines.records c.next-in-lines.new.self c.in-Ok.row c.lines.invariant.0 (c.in-Ok-true-next.ensures.found c.in-Ok-true-next.field-0-test c.lines.invariant.0.plain) c.in-Ok.ensures.row tt in
     (rw items read, c.in-Ok.ensures.within)

@@ -7,7 +7,7 @@ pub loop-before-preserved : goal.loop-before-preserved
 loop-before-preserved c =
     let all = records_of c.args.text.now in
     let n = c.loop-before._before in
-    let found = c.in-Ok-true.ensures.found c.in-Ok-true.field-0-test in
+    let found = c.in-Ok-true.ensures.found c.in-Ok-true.field-0-test c.loop-before.invariant.plain in
     let left = sym c.loop-before.invariant.left ∙ found.left in
     record {
       plain = found.plain;
@@ -17,4 +17,4 @@ loop-before-preserved c =
 
 pub returns-in-Ok-false-clause-none : goal.returns-in-Ok-false-clause-none
 returns-in-Ok-false-clause-none c fields (before, is, at) =
-    none_left (records_of c.args.text.now) c.loop-before._before before fields (sym c.loop-before.invariant.left ∙ c.in-Ok-false.ensures.none c.in-Ok-false.field-0-test) (omega arith) at
+    none_left (records_of c.args.text.now) c.loop-before._before before fields (sym c.loop-before.invariant.left ∙ c.in-Ok-false.ensures.none c.in-Ok-false.field-0-test c.loop-before.invariant.plain) (omega arith) at
