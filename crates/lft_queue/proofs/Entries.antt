@@ -1,7 +1,9 @@
 -- The entries of an ordered map, as a map from tag and name to value.
 use Rattle.std.proofs.Common.{◌≡◌, ◌∙◌, ◌⊎◌, inl, inr, ◌<◌, ℕ, zero, suc, List, [], ◌∷◌, length, map, get_or, Option, Some, slice_get, refl, sym, ap, subst, arith, Bool, true, false, cond, ◌&&◌, ◌==◌, Contains}
-use Rattle.std.specs.{List.{AllByRecursion, filter, Sorted.IsStrictlySortedBy}, BTreeMap.is_at, Map.{keys_of, lookup}}
-use Rattle.std.specs.{declared.cmp.Ordering.{Ordering, TheVariants.{Less, Equal, Greater}}, Ordering.{is_eq, nat_cmp, bool_cmp, ordering_then}}
+use Rattle.std.specs.{List.{AllByRecursion, filter, Sorted.IsStrictlySortedBy}, BTreeMap.{insert_entry, is_at}, Map.{keys_of, lookup}}
+use Rattle.std.specs.{Prelude.{Result, OnOk, OnErr}, Option.unwrap_or}
+use Rattle.std.specs.declared.{result.Result.TheVariants.{Ok, Err}, cmp.Ordering.{Ordering, TheVariants.{Less, Equal, Greater}}}
+use Rattle.std.specs.Ordering.{is_eq, match_ordering, nat_cmp, bool_cmp, ordering_then}
 use Rattle.std.proofs.lemmas.{Bool.Decides.nat_tests, Map.Lookups.exact_unsigned}
 use Rattle.lft_tag.{specs.{declared.Tag.Tag, Tags.UpTo}, proofs.Comparing.{less_nat, less_then, both_equal}}
 use Rattle.lft_ir.specs.declared.parts.{Value.Value, Name.{Name, TheVariants.{Port, Action}}}
@@ -55,6 +57,29 @@ value_found g n (e ∷ es) = ap (λ (b : Bool). cond b (Some e.1) (value_of g n 
 -- entries that change at one key change the map there
 pub becomes : (old new : List (Key × Value)) (g : Tag) (n : Name) (o : Option Value) → ((q : Key) → lookup (is_at (key_cmp q)) new ≡ cond (is_at (key_cmp (key_of g n)) q) o (lookup (is_at (key_cmp q)) old)) → Becomes (map pending_at old) (map pending_at new) g n o
 becomes old new g n o h t m = value_found t m new ∙ h (key_of t m) ∙ ap (λ (b : Bool). cond b o (lookup (is_at (key_cmp (key_of t m))) old)) (at_name g n t m) ∙ ap (λ (v : Option Value). cond (same_key g n t m) o v) (sym (value_found t m old))
+
+-- the same for the key of a tag and a name, and entries that are seen as some events
+module _ (key : Key) (g : Tag) (n : Name) (is : key ≡ key_of g n) (es : List (Key × Value)) (now : List Pending) (seen : map pending_at es ≡ now) where
+  pub found_at : lookup (is_at (key_cmp key)) es ≡ value_of g n now
+  found_at = ap (λ (k : Key). lookup (is_at (key_cmp k)) es) is ∙ sym (value_found g n es) ∙ ap (λ (xs : List Pending). value_of g n xs) seen
+
+  pub becomes_at : (new : List (Key × Value)) (o : Option Value) → ((q : Key) → lookup (is_at (key_cmp q)) new ≡ cond (is_at (key_cmp key) q) o (lookup (is_at (key_cmp q)) es)) → Becomes now (map pending_at new) g n o
+  becomes_at new o h = subst (λ (xs : List Pending). Becomes xs (map pending_at new) g n o) seen (becomes es new g n o (subst (λ (k : Key). (q : Key) → lookup (is_at (key_cmp q)) new ≡ cond (is_at (key_cmp k) q) o (lookup (is_at (key_cmp q)) es)) is h))
+
+-- an insertion where the key is there isn't refused
+pub inserted : {A E : Type 0} (r : Result A E) {P N : Type 0} → OnOk r P → OnErr r N → (N → ⊥) → P
+inserted (Ok a) p n there = p
+inserted (Err e) p n there = absurd (there n)
+
+-- where a key is there, its value from before puts all entries back as they were
+pub put_back : {K X : Type 0} (cmp : K → K → Ordering) (es : List (K × X)) (k : K) (v first : X) → lookup (is_at (cmp k)) es ≡ Some first → length (insert_entry cmp es k v) ≡ length es → insert_entry cmp (insert_entry cmp es k v) k first ≡ es
+put_back cmp [] k v first there same = cc (there)
+put_back {K = K} {X = X} cmp (e ∷ es) k v first there same = by (cmp k e.0) refl there same (put_back cmp es k v first)
+  where
+    by : (o : Ordering) → cmp k e.0 ≡ o → cond (is_eq o) (Some e.1) (lookup (is_at (cmp k)) es) ≡ Some first → length (match_ordering o ((k, v) ∷ e ∷ es) ((e.0, v) ∷ es) (e ∷ insert_entry cmp es k v)) ≡ suc (length es) → (lookup (is_at (cmp k)) es ≡ Some first → length (insert_entry cmp es k v) ≡ length es → insert_entry cmp (insert_entry cmp es k v) k first ≡ es) → insert_entry cmp (insert_entry cmp (e ∷ es) k v) k first ≡ e ∷ es
+    by Less q t s rest = absurd (omega arith)
+    by Equal q t s rest = rw q (rw q (ap (λ (x : X). (e.0, x) ∷ es) (ap (λ (o : Option X). unwrap_or o first) (sym t))))
+    by Greater q t s rest = rw q (rw q (ap (λ (xs : List (K × X)). e ∷ xs) (rest t (omega arith))))
 
 -- events that pass a test are those of the entries that do
 pub kept : (p : Pending → Bool) (es : List (Key × Value)) → map pending_at (filter (λ e. p (pending_at e)) es) ≡ filter p (map pending_at es)

@@ -87,12 +87,13 @@ impl Queue {
         ensures collision { IfErr result (λ e. e ≡ QueueFault.Collision → IsSome (value_of tag name self.old)) }
     {
         let key = key(tag, name);
-        // Asked first, as `insert` puts a new value in place of one that is there.
-        if self.values.contains_key(&key) {
-            return Err(QueueFault::Collision);
-        }
         match self.values.insert(key, value) {
-            Ok(_) => return Ok(()),
+            Ok(None) => return Ok(()),
+            Ok(Some(first)) => {
+                // Rare, so it isn't asked for before. The one that was there stays.
+                let _second = self.values.insert(key, first);
+                return Err(QueueFault::Collision);
+            }
             Err(_) => return Err(QueueFault::NoMemory),
         }
     }

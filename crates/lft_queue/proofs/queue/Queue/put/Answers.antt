@@ -1,41 +1,34 @@
-use Rattle.std.proofs.Common.{◌≡◌, ◌∙◌, List, Option, Some, None, IsSome, map, sym, ap, subst, cond, true, false, rules}
-use Rattle.std.specs.{Option.is_some, BTreeMap.is_at, Map.lookup}
+use Rattle.std.proofs.Common.{◌≡◌, ◌∙◌, ◌+◌, List, length, arith, Bool, true, false, Option, Some, None, IsSome, map, sym, ap, subst, cond, rules, if◌then◌else◌}
+use Rattle.std.specs.{BTreeMap.{insert_entry, is_at}, Map.lookup, Option.is_some}
 use Rattle.lft_ir.specs.declared.parts.Value.{Value}
-use Rattle.lft_queue.{specs.{Pending.{Pending, value_of, Becomes}, inner.Keys.{Key, key_of, pending_at, key_cmp}}, proofs.Entries.{value_found, becomes}}
+use Rattle.lft_queue.{specs.inner.Keys.{Key, key_cmp, pending_at}, proofs.Entries.{found_at, becomes_at, inserted, put_back}}
 use Rattle.lft_queue.proofs.queue.Queue.put.Goals as goal
 
-some : (o : Option Value) → is_some o ≡ true → IsSome o
-some (Some v) e = search rules
-some None e = cc (e)
+-- where a value was, one is left
+not_none : (o : Option Value) (b : Bool) (v w : Value) → o ≡ cond b (Some v) (Some w) → o ≡ None → ⊥
+not_none o true v w is none = cc (is, none)
+not_none o false v w is none = cc (is, none)
 
-none : (o : Option Value) → is_some o ≡ false → o ≡ None
-none (Some v) e = cc (e)
-none None e = search rules
+pub returns-in-Ok-None-clause-absent : goal.returns-in-Ok-None-clause-absent
+returns-in-Ok-None-clause-absent c = sym (found_at c.key-key.result c.args.tag c.args.name c.key-key.ensures c.self.inside.values.entries c.args.self.now c.self.view_is) ∙ sym c.in-Ok-None.ensures.old ∙ c.in-Ok-None.field-0-is
 
-pub returns-then-contains_key-clause-collision : goal.returns-then-contains_key-clause-collision
-returns-then-contains_key-clause-collision c = λ same.
+pub returns-in-Ok-None-clause-ok : goal.returns-in-Ok-None-clause-ok
+returns-in-Ok-None-clause-ok c = becomes_at c.key-key.result c.args.tag c.args.name c.key-key.ensures c.self.inside.values.entries c.args.self.now c.self.view_is c.insert.new.self.entries (Some c.args.value) c.in-Ok-None.ensures.updates.0
+
+pub returns-in-Ok-Some-clause-err : goal.returns-in-Ok-Some-clause-err
+returns-in-Ok-Some-clause-err c =
     let es = c.self.inside.values.entries in
-    let v : map pending_at es ≡ c.args.self.now = c.self.view_is in
-    let k : c.key-key.result ≡ key_of c.args.tag c.args.name = c.key-key.ensures in
-    let e : is_some (lookup (is_at (key_cmp c.key-key.result)) es) ≡ true = sym c.contains_key.ensures ∙ c.if-contains_key.true in
-    let f : lookup (is_at (key_cmp c.key-key.result)) es ≡ value_of c.args.tag c.args.name c.args.self.now = ap (λ (x : Key). lookup (is_at (key_cmp x)) es) k ∙ sym (value_found c.args.tag c.args.name es) ∙ ap (λ (xs : List Pending). value_of c.args.tag c.args.name xs) v in
-    subst (λ (o : Option Value). IsSome o) f (some (lookup (is_at (key_cmp c.key-key.result)) es) e)
+    let key = c.key-key.result in
+    let first = c.in-Ok-Some.first in
+    let there : lookup (is_at (key_cmp key)) es ≡ Some first = sym c.in-Ok-Some.ensures.old ∙ c.in-Ok-Some.field-0-is in
+    let updated : (q : Key) → lookup (is_at (key_cmp q)) c.insert.new.self.entries ≡ cond (is_at (key_cmp key) q) (Some c.args.value) (lookup (is_at (key_cmp q)) es) = c.in-Ok-Some.ensures.updates.0 in
+    let is = updated key ∙ ap (λ (o : Option Value). cond (is_at (key_cmp key) key) (Some c.args.value) o) there in
+    let back = inserted c.insert-second.result c.insert-second.ensures.entries c.insert-second.ensures.absent (not_none _ (is_at (key_cmp key) key) c.args.value first is) in
+    let long = subst (λ (o : Option Value). length c.insert.new.self.entries ≡ length es + (if is_some o then 0 else 1)) c.in-Ok-Some.field-0-is c.in-Ok-Some.ensures.len in
+    let same : length (insert_entry key_cmp es key c.args.value) ≡ length es = subst (λ (xs : List (Key × Value)). length xs ≡ length es) c.in-Ok-Some.ensures.entries (omega (arith, long)) in
+    ap (λ (xs : List (Key × Value)). map pending_at xs) (back ∙ ap (λ (xs : List (Key × Value)). insert_entry key_cmp xs key first) c.in-Ok-Some.ensures.entries ∙ put_back key_cmp es key c.args.value first there same) ∙ c.self.view_is
 
-pub returns-in-Ok-clause-absent : goal.returns-in-Ok-clause-absent
-returns-in-Ok-clause-absent c =
-    let es = c.self.inside.values.entries in
-    let v : map pending_at es ≡ c.args.self.now = c.self.view_is in
-    let k : c.key-key.result ≡ key_of c.args.tag c.args.name = c.key-key.ensures in
-    let e : is_some (lookup (is_at (key_cmp c.key-key.result)) es) ≡ false = sym c.contains_key.ensures ∙ c.if-contains_key.false in
-    let f : lookup (is_at (key_cmp c.key-key.result)) es ≡ value_of c.args.tag c.args.name c.args.self.now = ap (λ (x : Key). lookup (is_at (key_cmp x)) es) k ∙ sym (value_found c.args.tag c.args.name es) ∙ ap (λ (xs : List Pending). value_of c.args.tag c.args.name xs) v in
-    sym f ∙ none (lookup (is_at (key_cmp c.key-key.result)) es) e
-
-pub returns-in-Ok-clause-ok : goal.returns-in-Ok-clause-ok
-returns-in-Ok-clause-ok c =
-    let es = c.self.inside.values.entries in
-    let fs = c.insert.new.self.entries in
-    let v : map pending_at es ≡ c.args.self.now = c.self.view_is in
-    let k : c.key-key.result ≡ key_of c.args.tag c.args.name = c.key-key.ensures in
-    let u : (q : Key) → lookup (is_at (key_cmp q)) fs ≡ cond (is_at (key_cmp c.key-key.result) q) (Some c.args.value) (lookup (is_at (key_cmp q)) es) = c.in-Ok.ensures.updates.0 in
-    let w : (q : Key) → lookup (is_at (key_cmp q)) fs ≡ cond (is_at (key_cmp (key_of c.args.tag c.args.name)) q) (Some c.args.value) (lookup (is_at (key_cmp q)) es) = subst (λ (x : Key). (q : Key) → lookup (is_at (key_cmp q)) fs ≡ cond (is_at (key_cmp x) q) (Some c.args.value) (lookup (is_at (key_cmp q)) es)) k u in
-    subst (λ (xs : List Pending). Becomes xs (map pending_at fs) c.args.tag c.args.name (Some c.args.value)) v (becomes es fs c.args.tag c.args.name (Some c.args.value) w)
+pub returns-in-Ok-Some-clause-collision : goal.returns-in-Ok-Some-clause-collision
+returns-in-Ok-Some-clause-collision c = λ same.
+    let there : lookup (is_at (key_cmp c.key-key.result)) c.self.inside.values.entries ≡ Some c.in-Ok-Some.first = sym c.in-Ok-Some.ensures.old ∙ c.in-Ok-Some.field-0-is in
+    subst (λ (o : Option Value). IsSome o) (sym there ∙ found_at c.key-key.result c.args.tag c.args.name c.key-key.ensures c.self.inside.values.entries c.args.self.now c.self.view_is) (search rules)
