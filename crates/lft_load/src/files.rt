@@ -7,8 +7,8 @@ ghost use Rattle.lft_load.specs.declared.fault.Part.TheVariants as part;
 use crate::{Fault, Part, read_input};
 use std::alloc::Global;
 use std::fs;
-use std::fs::File;
-use std::io::ErrorKind;
+use std::fs::{File, OpenFile};
+use std::io::{ErrorKind, Seek};
 use std::rt::Files;
 
 /// What is said of a folder in the place of a file.
@@ -71,6 +71,14 @@ fn too_large(alloc: Global, path: &str) -> Failure
     }
 }
 
+/// How many bytes an open file has, if it is an ordinary one. Such a file can be read twice.
+pub fn ordinary_size<T: OpenFile>(file: &T) -> Option<usize> {
+    match file.metadata() {
+        Ok(found) if found.is_file() => usize::try_from(found.len()).ok(),
+        _ => None,
+    }
+}
+
 /// The file at a path, to be read.
 pub fn open_file<F: Files>(rt: &F, alloc: Global, path: &str) -> Result<F::File, Failure>
     ensures { IfErr result (λ failure. IsFaultOfPath failure.fault part.Read 1 path.now) }
@@ -87,13 +95,42 @@ pub fn read_file<F: Files>(rt: &F, alloc: Global, path: &str) -> Result<Vec<u8>,
     ensures refused { IfErr result (λ failure. IsFaultOfPath failure.fault part.Read 1 path.now ⊎ IsFaultOfPath failure.fault part.Read 2 path.now) }
 {
     let mut file = open_file(rt, alloc, path)?;
-    match read_input(alloc, path, &mut file) {
+    read_opened(rt, alloc, path, &mut file)
+}
+
+/// The bytes that the file that was opened at a path has left.
+pub fn read_opened<F: Files>(
+    rt: &F,
+    alloc: Global,
+    path: &str,
+    file: &mut F::File,
+) -> Result<Vec<u8>, Failure>
+    ensures limit { IfOk result (λ bytes. length bytes.items ≤ 2 ^ 30) }
+    ensures refused { IfErr result (λ failure. IsFaultOfPath failure.fault part.Read 1 path.now ⊎ IsFaultOfPath failure.fault part.Read 2 path.now) }
+{
+    match read_input(alloc, path, file) {
         Ok(bytes) => Ok(bytes),
         Err(fault) => Err(Failure {
             fault,
             // Asked only then: a folder can be opened, and it is the reading that fails.
             cause: is_folder(rt, path).then_some(FOLDER),
         }),
+    }
+}
+
+/// The bytes of an open file from its first one on, once some of them were read.
+pub fn read_again<F: Files>(
+    rt: &F,
+    alloc: Global,
+    path: &str,
+    file: &mut F::File,
+) -> Result<Vec<u8>, Failure>
+    ensures limit { IfOk result (λ bytes. length bytes.items ≤ 2 ^ 30) }
+    ensures refused { IfErr result (λ failure. IsFaultOfPath failure.fault part.Read 1 path.now ⊎ IsFaultOfPath failure.fault part.Read 2 path.now) }
+{
+    match file.rewind() {
+        Ok(()) => read_opened(rt, alloc, path, file),
+        Err(_) => Err(unread(alloc, path, None)),
     }
 }
 

@@ -1,15 +1,16 @@
 //! From files to a program, to a plan, and to what is answered under it. Where it is asked for, why a text is refused
 //! is told at the place where it is.
 
-use crate::words::{Behind, ProgramWords};
+use crate::words::{Behind, JudgeWords, ProgramWords};
 use lft_coverage::driver::cover_plan;
 use lft_driver::{
-    explain_pair_plan, explain_plan, is_accepted, is_same, judge_plan, pair_plan, refusal_of_graph,
-    refusal_of_plan, refusal_of_program, refusal_of_trace, refusal_of_traces, show_program,
+    check_plan, explain_pair_plan, explain_plan, is_accepted, is_same, judge_plan, judge_reader,
+    pair_plan, refusal_of_graph, refusal_of_plan, refusal_of_program, refusal_of_trace,
+    refusal_of_traces, show_program,
 };
 use lft_ir::Program;
-use lft_load::files::Failure;
-use lft_load::{Fault, Part, plan_of, read_program};
+use lft_load::files::{Failure, read_again, read_opened};
+use lft_load::{Fault, Part, SizedReader, plan_of, read_program};
 use lft_model::Plan;
 use lft_tag::NoMemory;
 use lft_whole_driver::{Whole, whole_program};
@@ -23,7 +24,7 @@ use std::thread::Threads;
 const SHORT: usize = 1 << 20;
 
 /// How many of so many workers judge traces of so many bytes.
-fn workers_for(workers: u32, bytes: usize) -> u32 {
+pub(crate) fn workers_for(workers: u32, bytes: usize) -> u32 {
     if bytes < SHORT { 1 } else { workers }
 }
 
@@ -179,6 +180,40 @@ impl<'w, F: Files + Threads + Sync, W: Write> Session<'w, F, W> {
             Behind::Counts { list } => cover_plan(rt, alloc, plan, trace, workers, list, self.out)?,
             Behind::Facts { all } => explain_plan(rt, alloc, plan, trace, workers, all, self.out)?,
         };
+        Ok(is_accepted(verdict))
+    }
+
+    /// Judges the trace of an ordinary file of this size by one worker. It is read a second time, whole, only where
+    /// it isn't accepted while it is read.
+    pub(crate) fn judge_file(
+        &mut self,
+        words: JudgeWords<'_>,
+        program: &[u8],
+        externals: &[u8],
+        file: F::File,
+        size: usize,
+    ) -> Result<bool, Failure> {
+        let (rt, alloc, path) = (self.rt, self.alloc, words.trace);
+        let mut file = file;
+        let plan = match self.plan(words.program, program, externals) {
+            Ok(plan) => plan,
+            Err(failure) => {
+                // That a file can't be read is told before what is wrong with the others.
+                read_opened(rt, alloc, path, &mut file)?;
+                return Err(failure);
+            }
+        };
+        let mut reader = SizedReader::new(&mut file, size);
+        let judged = judge_reader(alloc, &plan, path, &mut reader, self.out);
+        if reader.is_too_large() {
+            let fault = Fault::of_path(alloc, Part::Read, 2, "TooLarge", path);
+            return Err(Failure::from(fault));
+        }
+        if let Some(verdict) = judged? {
+            return Ok(is_accepted(verdict));
+        }
+        let trace = read_again(rt, alloc, path, &mut file)?;
+        let verdict = check_plan(rt, alloc, &plan, &trace, 1, self.out)?;
         Ok(is_accepted(verdict))
     }
 
