@@ -19,7 +19,7 @@ loop-rest-smaller g c =
     c.first_lines.ensures.shorter (omega arith)
 
 pub go_beside-requires-clause-stands : goal.go_beside-requires-clause-stands
-go_beside-requires-clause-stands g c = (c.loop-rest.invariant.read.t, c.loop-rest.invariant.read.stands)
+go_beside-requires-clause-stands g c _ _ = (c.loop-rest.invariant.read.t, c.loop-rest.invariant.read.stands)
 
 pub judge_parts-requires-clause-waiting_fit : goal.judge_parts-requires-clause-waiting_fit
 judge_parts-requires-clause-waiting_fit g c = c.loop-rest.invariant.fit

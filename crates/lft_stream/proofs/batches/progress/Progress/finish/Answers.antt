@@ -1,4 +1,4 @@
-use Rattle.std.proofs.Common.{◌++◌, length, refl, arith}
+use Rattle.std.proofs.Common.{◌++◌, refl, arith}
 use Rattle.std.proofs.lemmas.Option.{IfSome_then}
 use Rattle.lft_stream.proofs.batches.progress.Progress.finish.Goals as goal
 

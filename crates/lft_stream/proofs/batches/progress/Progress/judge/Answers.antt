@@ -1,4 +1,4 @@
-use Rattle.std.proofs.Common.{◌≡◌, ◌∙◌, ◌+◌, ◌++◌, length, length-append, refl, sym, arith}
+use Rattle.std.proofs.Common.{◌∙◌, length, length-append, refl, sym, arith}
 use Rattle.std.proofs.lemmas.Bool.{eqb-true}
 use Rattle.lft_stream.proofs.BatchesLemmas.Progressing.{none_judged}
 use Rattle.lft_stream.proofs.batches.progress.Progress.judge.Goals as goal
