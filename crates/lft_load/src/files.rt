@@ -1,14 +1,14 @@
 //! Files by their paths: their bytes, or why they can't be read or written.
 
-ghost use Rattle.std.specs.Prelude.{◌≤◌, ◌^◌, ◌⊎◌, IfErr, IfOk, length};
+ghost use Rattle.std.specs.Prelude.{◌≡◌, ◌≤◌, ◌^◌, ◌⊎◌, IfErr, IfOk, IfSome, length};
 ghost use Rattle.lft_load.specs.Faults.{IsFaultOfPath};
 ghost use Rattle.lft_load.specs.declared.fault.Part.TheVariants as part;
 
-use crate::{Fault, Part, read_input};
+use crate::{Fault, Part, SizedReader, read_input};
 use std::alloc::Global;
 use std::fs;
 use std::fs::{File, OpenFile};
-use std::io::{ErrorKind, Seek};
+use std::io::{ErrorKind, Read, Seek};
 use std::rt::Files;
 
 /// What is said of a folder in the place of a file.
@@ -62,7 +62,7 @@ fn unread(alloc: Global, path: &str, cause: Option<&'static str>) -> Failure
 }
 
 /// The failure of a file at a path that has more bytes than it may.
-fn too_large(alloc: Global, path: &str) -> Failure
+pub fn too_large(alloc: Global, path: &str) -> Failure
     ensures { IsFaultOfPath result.fault part.Read 2 path.now }
 {
     Failure {
@@ -71,10 +71,11 @@ fn too_large(alloc: Global, path: &str) -> Failure
     }
 }
 
-/// How many bytes an open file has, if it is an ordinary one. Such a file can be read twice.
+/// How many bytes an open file has, if it is an ordinary one with some. Such a file can be read twice.
 pub fn ordinary_size<T: OpenFile>(file: &T) -> Option<usize> {
+    // A file that the kernel makes up, as those below /proc, has a size of 0, and other bytes each time.
     match file.metadata() {
-        Ok(found) if found.is_file() => usize::try_from(found.len()).ok(),
+        Ok(found) if found.is_file() && found.len() > 0 => usize::try_from(found.len()).ok(),
         _ => None,
     }
 }
@@ -98,17 +99,18 @@ pub fn read_file<F: Files>(rt: &F, alloc: Global, path: &str) -> Result<Vec<u8>,
     read_opened(rt, alloc, path, &mut file)
 }
 
-/// The bytes that the file that was opened at a path has left.
-pub fn read_opened<F: Files>(
+/// The bytes that what was opened at a path gives.
+pub fn read_opened<F: Files, R: Read>(
     rt: &F,
     alloc: Global,
     path: &str,
-    file: &mut F::File,
+    opened: &mut R,
 ) -> Result<Vec<u8>, Failure>
+    ensures bytes { IfOk result (λ v. IfSome (R.remaining opened.old) (λ xs. v.items ≡ xs)) }
     ensures limit { IfOk result (λ bytes. length bytes.items ≤ 2 ^ 30) }
     ensures refused { IfErr result (λ failure. IsFaultOfPath failure.fault part.Read 1 path.now ⊎ IsFaultOfPath failure.fault part.Read 2 path.now) }
 {
-    match read_input(alloc, path, file) {
+    match read_input(alloc, path, opened) {
         Ok(bytes) => Ok(bytes),
         Err(fault) => Err(Failure {
             fault,
@@ -118,18 +120,20 @@ pub fn read_opened<F: Files>(
     }
 }
 
-/// The bytes of an open file from its first one on, once some of them were read.
-pub fn read_again<F: Files>(
+/// The bytes of the ordinary file of this size that was opened at a path, from its first one on. It fails where the
+/// file ends before its size.
+pub fn read_sized<F: Files>(
     rt: &F,
     alloc: Global,
     path: &str,
     file: &mut F::File,
+    size: usize,
 ) -> Result<Vec<u8>, Failure>
     ensures limit { IfOk result (λ bytes. length bytes.items ≤ 2 ^ 30) }
     ensures refused { IfErr result (λ failure. IsFaultOfPath failure.fault part.Read 1 path.now ⊎ IsFaultOfPath failure.fault part.Read 2 path.now) }
 {
     match file.rewind() {
-        Ok(()) => read_opened(rt, alloc, path, file),
+        Ok(()) => read_opened(rt, alloc, path, &mut SizedReader::new(file, size)),
         Err(_) => Err(unread(alloc, path, None)),
     }
 }

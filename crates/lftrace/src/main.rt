@@ -44,7 +44,7 @@ fn judge_files<F: Files + Threads + Sync, W: Write>(
         && let Some(size) = ordinary_size(&file)
         && workers_for(words.workers, size) == 1
     {
-        return session.judge_file(words, &program, &externals, file, size);
+        return session.judge_file(words, &program, &externals, &mut file, size);
     }
     let trace = read_opened(rt, alloc, words.trace, &mut file)?;
     let plan = session.plan(words.program, &program, &externals)?;

@@ -9,7 +9,7 @@ use lft_driver::{
     refusal_of_traces, show_program,
 };
 use lft_ir::Program;
-use lft_load::files::{Failure, read_again, read_opened};
+use lft_load::files::{Failure, read_sized, too_large};
 use lft_load::{Fault, Part, SizedReader, plan_of, read_program};
 use lft_model::Plan;
 use lft_tag::NoMemory;
@@ -183,36 +183,33 @@ impl<'w, F: Files + Threads + Sync, W: Write> Session<'w, F, W> {
         Ok(is_accepted(verdict))
     }
 
-    /// Judges the trace of an ordinary file of this size by one worker. It is read a second time, whole, only where
-    /// it isn't accepted while it is read.
+    /// Judges the trace of an ordinary file of this size by one worker. Its text is read whole only where it isn't
+    /// accepted while it is read.
     pub(crate) fn judge_file(
         &mut self,
         words: JudgeWords<'_>,
         program: &[u8],
         externals: &[u8],
-        file: F::File,
+        file: &mut F::File,
         size: usize,
     ) -> Result<bool, Failure> {
         let (rt, alloc, path) = (self.rt, self.alloc, words.trace);
-        let mut file = file;
         let plan = match self.plan(words.program, program, externals) {
             Ok(plan) => plan,
             Err(failure) => {
                 // That a file can't be read is told before what is wrong with the others.
-                read_opened(rt, alloc, path, &mut file)?;
+                read_sized(rt, alloc, path, file, size)?;
                 return Err(failure);
             }
         };
-        let mut reader = SizedReader::new(&mut file, size);
-        let judged = judge_reader(alloc, &plan, path, &mut reader, self.out);
-        if reader.is_too_large() {
-            let fault = Fault::of_path(alloc, Part::Read, 2, "TooLarge", path);
-            return Err(Failure::from(fault));
+        let mut reader = SizedReader::new(&mut *file, size);
+        match judge_reader(alloc, &plan, path, &mut reader, self.out) {
+            Ok(Some(verdict)) => return Ok(is_accepted(verdict)),
+            Ok(None) => {}
+            Err(_) if reader.is_too_large() => return Err(too_large(alloc, path)),
+            Err(fault) => return Err(Failure::from(fault)),
         }
-        if let Some(verdict) = judged? {
-            return Ok(is_accepted(verdict));
-        }
-        let trace = read_again(rt, alloc, path, &mut file)?;
+        let trace = read_sized(rt, alloc, path, file, size)?;
         let verdict = check_plan(rt, alloc, &plan, &trace, 1, self.out)?;
         Ok(is_accepted(verdict))
     }
