@@ -32,13 +32,13 @@ pub(crate) fn accepted(alloc: Global, plan: &Plan, rows: &Rows) -> Option<Verdic
     Some(accepted_by(counts))
 }
 
-/// The counts of a trace table that is accepted, by one worker. None says nothing of it: then the checker
-/// judges it.
-pub(crate) fn accepted_text(alloc: Global, plan: &Plan, trace: &[u8]) -> Option<RunCounts>
-    ensures { IfSome result (λ counts. IsRight plan.now trace.now (Accepted counts.runs counts.tags)) }
+/// The verdict on a trace table that is accepted from its text, by one worker. None says nothing of it: then
+/// the checker judges it.
+pub(crate) fn accepted_text(alloc: Global, plan: &Plan, trace: &[u8]) -> Option<Verdict>
+    ensures { IfSome result (IsRight plan.now trace.now) }
 {
     match accepts_reader(alloc, plan, trace) {
-        Ok(counts) => counts,
-        Err(_) => None,
+        Ok(Some(counts)) => Some(accepted_by(counts)),
+        _ => None,
     }
 }

@@ -10,7 +10,7 @@ ghost use Rattle.lft_driver.specs.Refusals.{IsRefusedGrowth, JudgeRefusal, Judge
 ghost use Rattle.lft_load.specs.Refusals.{is_of_text};
 ghost use Rattle.lft_load.specs.declared.fault.Part.TheVariants as part;
 
-use crate::accepting::{accepted_by, accepted_text};
+use crate::accepting::accepted_text;
 use crate::judge::tell;
 use lft_check::{NoWatch, Verdict, judge_alone};
 use lft_ir::steps::Rows;
@@ -39,8 +39,8 @@ fn verdict_on(alloc: Global, plan: &Plan, trace: &[u8]) -> Result<Verdict, Fault
     ensures refused { IfErr result (IsUnjudged plan.now trace.now 1) }
     ensures none { IfErr result (λ f. is_of_text f.part f.number ≡ true → IsNoTrace plan.now.program trace.now) }
 {
-    if let Some(counts) = accepted_text(alloc, plan, trace) {
-        return Ok(accepted_by(counts));
+    if let Some(verdict) = accepted_text(alloc, plan, trace) {
+        return Ok(verdict);
     }
     match read_trace(alloc, plan.program(), trace) {
         Ok(rows) => checked(alloc, plan, &rows),

@@ -1,10 +1,7 @@
-use Rattle.std.proofs.Common.{arith, inl, inr, sym, subst}
+use Rattle.std.proofs.Common.{arith, inl, inr}
 use Rattle.std.proofs.lemmas.Result.{IfErr-weaker, IfOk-weaker}
-use Rattle.lft_driver.{specs.{inner.Accepting.IsRight, Refusals.CheckRefusal.by_growth}, proofs.{Judging.growth_untold, Tables.{has_table, no_trace, unread}}}
+use Rattle.lft_driver.{specs.Refusals.CheckRefusal.by_growth, proofs.{Judging.growth_untold, Tables.{has_table, no_trace, unread}}}
 use Rattle.lft_driver.proofs.alone.verdict_on.Goals as goal
-
-pub returns-in-Some-clause-right : goal.returns-in-Some-clause-right
-returns-in-Some-clause-right c = subst (IsRight c.args.plan.now c.args.trace.now) (sym c.accepted_by.ensures) c.in-Some.ensures
 
 pub returns-in-Ok-clause-right : goal.returns-in-Ok-clause-right
 returns-in-Ok-clause-right c =

@@ -30,6 +30,12 @@ returns-in-Ok-clause-judged g c = λ trace right.
       written = subst (λ (p : Parts). Appends (g.W.Write.contents c.args.out.now) (g.W.Write.contents c.report.new.out) (line_of p verdict)) c.program.ensures.value c.in-Ok.ensures.written;
     }
 
+pub returns-in-Err-clause-fault : goal.returns-in-Err-clause-fault
+returns-in-Err-clause-fault g c = elim c.in-Err.ensures.front [
+  | inl x ↦ inl x
+  | inr x ↦ inr (x.0, x.1)
+]
+
 pub returns-in-Err-clause-refused : goal.returns-in-Err-clause-refused
 returns-in-Err-clause-refused g c = λ trace workers right lawful.
     let plan = c.args.plan.now in
