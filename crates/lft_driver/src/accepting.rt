@@ -3,13 +3,13 @@
 ghost use Rattle.std.specs.Prelude.{◌≡◌, IfSome};
 ghost use Rattle.lft_ir.specs.Steps.Fits.{RowsFit};
 ghost use Rattle.lft_check.specs.{declared.verdict.Verdict.TheVariants.Accepted, Verdicts.IsVerdict};
+ghost use Rattle.lft_driver.specs.inner.Accepting.{IsRight};
 
 use lft_check::Verdict;
 use lft_ir::steps::Rows;
 use lft_model::Plan;
 use lft_stream::RunCounts;
-use lft_stream::batches::accepts_rows;
-use lft_trace::below_header;
+use lft_stream::batches::{accepts_reader, accepts_rows};
 use std::alloc::Global;
 
 /// The verdict on rows that are accepted with these counts.
@@ -32,9 +32,13 @@ pub(crate) fn accepted(alloc: Global, plan: &Plan, rows: &Rows) -> Option<Verdic
     Some(accepted_by(counts))
 }
 
-/// Whether `accepts_text` gives a text up before it looks at its rows. Then these are still to be
-/// gone through, once they are read.
-pub(crate) fn is_odd(trace: &[u8]) -> bool {
-    // Parts are cut at line ends, and between quotation marks a line end is one of a field.
-    below_header(trace).is_none() || trace.contains(&b'"')
+/// The verdict on a trace table that is accepted from its text, by one worker. None says nothing of it: then
+/// the checker judges it.
+pub(crate) fn accepted_text(alloc: Global, plan: &Plan, trace: &[u8]) -> Option<Verdict>
+    ensures { IfSome result (IsRight plan.now trace.now) }
+{
+    match accepts_reader(alloc, plan, trace) {
+        Ok(Some(counts)) => Some(accepted_by(counts)),
+        _ => None,
+    }
 }

@@ -10,13 +10,12 @@ ghost use Rattle.lft_driver.specs.Refusals.{IsRefusedGrowth, JudgeRefusal, Judge
 ghost use Rattle.lft_load.specs.Refusals.{is_of_text};
 ghost use Rattle.lft_load.specs.declared.fault.Part.TheVariants as part;
 
-use crate::accepting::{accepted, accepted_by, is_odd};
+use crate::accepting::accepted_text;
 use crate::judge::tell;
 use lft_check::{NoWatch, Verdict, judge_alone};
 use lft_ir::steps::Rows;
 use lft_load::{Fault, Part, load};
 use lft_model::Plan;
-use lft_stream::batches::accepts_text;
 use lft_trace::read_trace;
 use std::alloc::Global;
 use std::io::Write;
@@ -33,21 +32,6 @@ fn checked(alloc: Global, plan: &Plan, rows: &Rows) -> Result<Verdict, Fault>
     }
 }
 
-/// The verdict on rows, which are gone through first where nobody has done so.
-fn verdict_of(alloc: Global, plan: &Plan, rows: &Rows, first_look: bool) -> Result<Verdict, Fault>
-    requires fit { RowsFit plan.now.program rows.now }
-    ensures verdict { IfOk result (IsVerdict plan.now rows.now) }
-    ensures growth { IfErr result IsRefusedGrowth }
-{
-    if first_look {
-        // Most traces are right, and of many programs this is known after a short look.
-        if let Some(verdict) = accepted(alloc, plan, rows) {
-            return Ok(verdict);
-        }
-    }
-    checked(alloc, plan, rows)
-}
-
 /// The verdict on a trace table of a plan. Of a table that is accepted from its text no list of rows is
 /// made.
 fn verdict_on(alloc: Global, plan: &Plan, trace: &[u8]) -> Result<Verdict, Fault>
@@ -55,11 +39,11 @@ fn verdict_on(alloc: Global, plan: &Plan, trace: &[u8]) -> Result<Verdict, Fault
     ensures refused { IfErr result (IsUnjudged plan.now trace.now 1) }
     ensures none { IfErr result (λ f. is_of_text f.part f.number ≡ true → IsNoTrace plan.now.program trace.now) }
 {
-    if let Some(counts) = accepts_text(alloc, plan, trace) {
-        return Ok(accepted_by(counts));
+    if let Some(verdict) = accepted_text(alloc, plan, trace) {
+        return Ok(verdict);
     }
     match read_trace(alloc, plan.program(), trace) {
-        Ok(rows) => verdict_of(alloc, plan, &rows, is_odd(trace)),
+        Ok(rows) => checked(alloc, plan, &rows),
         Err(fault) => Err(Fault::trace(fault)),
     }
 }

@@ -4,14 +4,14 @@ ghost use Rattle.std.specs.Prelude.{◌≡◌, ◌≢◌, ◌⊎◌, ℕ, true, 
 ghost use Rattle.std.specs.Io.KnownBytes.{Appends, Keeps};
 ghost use Rattle.lft_ir.specs.{Steps.Fits.RowsFit, declared.steps.row.Row.Row};
 ghost use Rattle.lft_model.specs.{Plans.PlanParts, declared.breach.Breach.Breach, Workers.IsWorkers};
-ghost use Rattle.lft_check.specs.{declared.verdict.Verdict.TheVariants.{Accepted, Broken}, Verdicts.IsVerdict};
+ghost use Rattle.lft_check.specs.{declared.verdict.Verdict.TheVariants.Broken, Verdicts.IsVerdict};
 ghost use Rattle.lft_driver.specs.{Lines.{line_of, HasReaction}, inner.Accepting.{IsRight, IsUnjudged}, Meaning.{HasTable, IsNoTrace, Mean}};
-ghost use Rattle.lft_driver.specs.Judged.{AcceptedRuns, IsJudged, IsJudgedUnder};
+ghost use Rattle.lft_driver.specs.Judged.{AcceptedRuns, Accepts, IsJudged, IsJudgedUnder};
 ghost use Rattle.lft_driver.specs.Refusals.{CheckRefusal, IsRefusedGrowth, JudgeRefusal, JudgeRefusalUnder, TraceRefusal};
 ghost use Rattle.lft_load.specs.{Refusals.is_of_text, Written.AppendsFront};
 ghost use Rattle.lft_load.specs.declared.fault.Part.TheVariants as part;
 
-use crate::accepting::{accepted, accepted_by, is_odd};
+use crate::accepting::{accepted, accepted_by, accepted_text};
 use crate::line::verdict_line;
 use lft_check::{CheckFault, NoWatch, Verdict, judge};
 use lft_ir::Program;
@@ -19,8 +19,7 @@ use lft_ir::steps::Rows;
 use lft_load::{Fault, Part, load, write_text};
 use lft_model::laws::law_one_worker;
 use lft_model::{Plan, is_workers};
-use lft_stream::RunCounts;
-use lft_stream::batches::{accepts_text, accepts_text_shared};
+use lft_stream::batches::accepts_text_shared;
 use lft_trace::read_trace_shared;
 use std::alloc::Global;
 use std::io::Write;
@@ -95,26 +94,6 @@ pub fn verdict_of<R: Threads + Sync>(
     checked(rt, alloc, plan, rows, workers)
 }
 
-/// The verdict on rows by so many workers. They are gone through first where nobody has done so.
-fn verdict_behind<R: Threads + Sync>(
-    rt: &R,
-    alloc: Global,
-    plan: &Plan,
-    rows: &Rows,
-    first_look: bool,
-    workers: u32,
-) -> Result<Verdict, Fault>
-    requires fit { RowsFit plan.now.program rows.now }
-    ensures verdict { IfOk result (IsVerdict plan.now rows.now) }
-    ensures workers { OnOk result (IsWorkers workers) }
-    ensures fault { IfErr result (CheckRefusal workers) }
-{
-    if first_look {
-        return verdict_of(rt, alloc, plan, rows, workers);
-    }
-    checked(rt, alloc, plan, rows, workers)
-}
-
 /// Writes the line of a verdict.
 pub(crate) fn report<W: Write>(
     alloc: Global,
@@ -133,15 +112,17 @@ pub(crate) fn report<W: Write>(
     }
 }
 
-/// Writes the line of a verdict on a trace table, and gives the verdict.
+/// Writes the line of a verdict on a trace table, or of one that accepts, and gives the verdict.
 pub(crate) fn tell<W: Write>(
     alloc: Global,
     plan: &Plan,
     verdict: Verdict,
     out: &mut W,
 ) -> Result<Verdict, Fault>
-    requires { (trace : List ℕ) × IsRight plan.now trace verdict }
+    requires { Accepts verdict ⊎ ((trace : List ℕ) × IsRight plan.now trace verdict) }
+    ensures same { IfOk result (λ told. told ≡ verdict) }
     ensures judged { (trace : List ℕ) → IsRight plan.now trace verdict → IfOk result (IsJudgedUnder plan.now trace (W.contents out.old) (W.contents out.new)) }
+    ensures fault { IfErr result (λ f. IsRefusedGrowth f ⊎ (f.part ≡ part.Write) × (f.number ≡ 1)) }
     ensures refused { (trace : List ℕ) (workers : ℕ) → IsRight plan.now trace verdict → IsWorkers workers → IfErr result (JudgeRefusalUnder plan.now trace workers (W.contents out.old) (W.contents out.new)) }
     ensures none { IfErr result (λ f. is_of_text f.part f.number ≡ true → ⊥) }
     ensures kept { IfErr result (λ f. f.part ≢ part.Write → Keeps (W.contents out.old) (W.contents out.new)) }
@@ -154,30 +135,31 @@ pub(crate) fn tell<W: Write>(
     }
 }
 
-/// The counts of a trace table that is accepted from its text, by a lawful number of workers.
+/// The verdict on a trace table that is accepted from its text, by a lawful number of workers. None says
+/// nothing of it.
 fn accepts<R: Threads + Sync>(
     rt: &R,
     alloc: Global,
     plan: &Plan,
     trace: &[u8],
     workers: u32,
-) -> Option<RunCounts>
-    ensures right { IfSome result (λ counts. IsRight plan.now trace.now (Accepted counts.runs counts.tags)) }
-    ensures workers { IfSome result (λ counts. IsWorkers workers) }
+) -> Option<Verdict>
+    ensures right { IfSome result (IsRight plan.now trace.now) }
+    ensures workers { IfSome result (λ verdict. IsWorkers workers) }
 {
     // A number out of range is a fault of the checker, and those of the table come before it.
     if !is_workers(workers) {
         return None;
     }
     if workers == 1 || trace.len() < SHORT {
-        return accepts_text(alloc, plan, trace);
+        return accepted_text(alloc, plan, trace);
     }
-    accepts_text_shared(rt, alloc, plan, trace, workers)
+    let counts = accepts_text_shared(rt, alloc, plan, trace, workers)?;
+    Some(accepted_by(counts))
 }
 
-/// The verdict on a trace table of a plan by so many workers. Of a table that is accepted from its text
-/// no list of rows is made.
-fn verdict_on<R: Threads + Sync>(
+/// The verdict of the checker on a trace table of a plan by so many workers.
+fn checked_table<R: Threads + Sync>(
     rt: &R,
     alloc: Global,
     plan: &Plan,
@@ -189,17 +171,35 @@ fn verdict_on<R: Threads + Sync>(
     ensures refused { IfErr result (IsUnjudged plan.now trace.now workers) }
     ensures none { IfErr result (λ f. is_of_text f.part f.number ≡ true → IsNoTrace plan.now.program trace.now) }
 {
-    if let Some(counts) = accepts(rt, alloc, plan, trace, workers) {
-        return Ok(accepted_by(counts));
-    }
     match read_table(rt, alloc, plan, trace, workers) {
-        Ok(rows) => verdict_behind(rt, alloc, plan, &rows, is_odd(trace), workers),
+        Ok(rows) => checked(rt, alloc, plan, &rows, workers),
+        Err(fault) => Err(fault),
+    }
+}
+
+/// What `judge_plan` does, by the checker alone: of a trace table that `judge_reader` doesn't accept.
+pub fn check_plan<W: Write, R: Threads + Sync>(
+    rt: &R,
+    alloc: Global,
+    plan: &Plan,
+    trace: &[u8],
+    workers: u32,
+    out: &mut W,
+) -> Result<Verdict, Fault>
+    ensures judged { IfOk result (IsJudgedUnder plan.now trace.now (W.contents out.old) (W.contents out.new)) }
+    ensures workers { OnOk result (IsWorkers workers) }
+    ensures refused { IfErr result (JudgeRefusalUnder plan.now trace.now workers (W.contents out.old) (W.contents out.new)) }
+    ensures none { IfErr result (λ f. is_of_text f.part f.number ≡ true → IsNoTrace plan.now.program trace.now) }
+    ensures kept { IfErr result (λ f. f.part ≢ part.Write → Keeps (W.contents out.old) (W.contents out.new)) }
+{
+    match checked_table(rt, alloc, plan, trace, workers) {
+        Ok(verdict) => tell(alloc, plan, verdict, out),
         Err(fault) => Err(fault),
     }
 }
 
 /// Judges a trace table of a plan by so many workers, and writes the verdict's line, as `judge_texts`
-/// does.
+/// does. Of a table that is accepted from its text no list of rows is made.
 pub fn judge_plan<W: Write, R: Threads + Sync>(
     rt: &R,
     alloc: Global,
@@ -214,9 +214,9 @@ pub fn judge_plan<W: Write, R: Threads + Sync>(
     ensures none { IfErr result (λ f. is_of_text f.part f.number ≡ true → IsNoTrace plan.now.program trace.now) }
     ensures kept { IfErr result (λ f. f.part ≢ part.Write → Keeps (W.contents out.old) (W.contents out.new)) }
 {
-    match verdict_on(rt, alloc, plan, trace, workers) {
-        Ok(verdict) => tell(alloc, plan, verdict, out),
-        Err(fault) => Err(fault),
+    match accepts(rt, alloc, plan, trace, workers) {
+        Some(verdict) => tell(alloc, plan, verdict, out),
+        None => check_plan(rt, alloc, plan, trace, workers, out),
     }
 }
 

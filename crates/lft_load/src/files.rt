@@ -1,14 +1,14 @@
 //! Files by their paths: their bytes, or why they can't be read or written.
 
-ghost use Rattle.std.specs.Prelude.{◌≤◌, ◌^◌, ◌⊎◌, IfErr, IfOk, length};
+ghost use Rattle.std.specs.Prelude.{◌≡◌, ◌≤◌, ◌^◌, ◌⊎◌, IfErr, IfOk, IfSome, length};
 ghost use Rattle.lft_load.specs.Faults.{IsFaultOfPath};
 ghost use Rattle.lft_load.specs.declared.fault.Part.TheVariants as part;
 
-use crate::{Fault, Part, read_input};
+use crate::{Fault, Part, SizedReader, read_input};
 use std::alloc::Global;
 use std::fs;
-use std::fs::File;
-use std::io::ErrorKind;
+use std::fs::{File, OpenFile};
+use std::io::{ErrorKind, Read, Seek};
 use std::rt::Files;
 
 /// What is said of a folder in the place of a file.
@@ -62,12 +62,21 @@ fn unread(alloc: Global, path: &str, cause: Option<&'static str>) -> Failure
 }
 
 /// The failure of a file at a path that has more bytes than it may.
-fn too_large(alloc: Global, path: &str) -> Failure
+pub fn too_large(alloc: Global, path: &str) -> Failure
     ensures { IsFaultOfPath result.fault part.Read 2 path.now }
 {
     Failure {
         fault: Fault::of_path(alloc, Part::Read, 2, "TooLarge", path),
         cause: None,
+    }
+}
+
+/// How many bytes an open file has, if it is an ordinary one with some. Such a file can be read twice.
+pub fn ordinary_size<T: OpenFile>(file: &T) -> Option<usize> {
+    // A file that the kernel makes up, as those below /proc, has a size of 0, and other bytes each time.
+    match file.metadata() {
+        Ok(found) if found.is_file() && found.len() > 0 => usize::try_from(found.len()).ok(),
+        _ => None,
     }
 }
 
@@ -87,13 +96,45 @@ pub fn read_file<F: Files>(rt: &F, alloc: Global, path: &str) -> Result<Vec<u8>,
     ensures refused { IfErr result (λ failure. IsFaultOfPath failure.fault part.Read 1 path.now ⊎ IsFaultOfPath failure.fault part.Read 2 path.now) }
 {
     let mut file = open_file(rt, alloc, path)?;
-    match read_input(alloc, path, &mut file) {
+    read_opened(rt, alloc, path, &mut file)
+}
+
+/// The bytes that what was opened at a path gives.
+pub fn read_opened<F: Files, R: Read>(
+    rt: &F,
+    alloc: Global,
+    path: &str,
+    opened: &mut R,
+) -> Result<Vec<u8>, Failure>
+    ensures bytes { IfOk result (λ v. IfSome (R.remaining opened.old) (λ xs. v.items ≡ xs)) }
+    ensures limit { IfOk result (λ bytes. length bytes.items ≤ 2 ^ 30) }
+    ensures refused { IfErr result (λ failure. IsFaultOfPath failure.fault part.Read 1 path.now ⊎ IsFaultOfPath failure.fault part.Read 2 path.now) }
+{
+    match read_input(alloc, path, opened) {
         Ok(bytes) => Ok(bytes),
         Err(fault) => Err(Failure {
             fault,
             // Asked only then: a folder can be opened, and it is the reading that fails.
             cause: is_folder(rt, path).then_some(FOLDER),
         }),
+    }
+}
+
+/// The bytes of the ordinary file of this size that was opened at a path, from its first one on. It fails where the
+/// file ends before its size.
+pub fn read_sized<F: Files>(
+    rt: &F,
+    alloc: Global,
+    path: &str,
+    file: &mut F::File,
+    size: usize,
+) -> Result<Vec<u8>, Failure>
+    ensures limit { IfOk result (λ bytes. length bytes.items ≤ 2 ^ 30) }
+    ensures refused { IfErr result (λ failure. IsFaultOfPath failure.fault part.Read 1 path.now ⊎ IsFaultOfPath failure.fault part.Read 2 path.now) }
+{
+    match file.rewind() {
+        Ok(()) => read_opened(rt, alloc, path, &mut SizedReader::new(file, size)),
+        Err(_) => Err(unread(alloc, path, None)),
     }
 }
 

@@ -12,7 +12,7 @@ mod status;
 mod words;
 
 pub use fault::{Detail, Fault, Part};
-pub use input::read_input;
+pub use input::{SizedReader, read_input};
 pub use layers::{Unplanned, graph_of, load, plan_of, read_program};
 pub use output::write_text;
 pub use status::finish;

@@ -1,4 +1,5 @@
-pub mod Fronting
+pub mod Cutting
 pub mod Reading
 pub mod Sharing
 pub mod Counting
+pub mod Progressing

@@ -1,9 +1,13 @@
 //! Trace tables and rows, accepted a batch at a time, and what they exercise.
 
+mod cut;
+mod progress;
+mod reader;
 mod rows;
 mod shared;
 mod text;
 
+pub use reader::accepts_reader;
 pub use rows::accepts_rows;
 pub use shared::accepts_text_shared;
-pub use text::{accepts_text, covers_text};
+pub use text::covers_text;

@@ -1,6 +1,5 @@
 -- What is counted of a text's rows, batch by batch.
-use Rattle.std.proofs.Common.{◌≡◌, ◌∙◌, ℕ, ◌+◌, ◌≤◌, List, ◌++◌, length, take, drop, slice_get, Some, Option, None, sym, ap, subst, arith, map}
-use Rattle.std.specs.Prelude.{IfSome}
+use Rattle.std.proofs.Common.{◌≡◌, ◌∙◌, ℕ, ◌+◌, ◌≤◌, List, ◌++◌, length, take, drop, slice_get, Some, sym, ap, subst, arith}
 use Rattle.std.proofs.{lemmas.List.{length-append, length-take-le, take-append-drop}, Math.Seq.take-append_seam}
 use Rattle.lft_ir.specs.{Parts.Parts, declared.steps.row.Row.Row}
 use Rattle.lft_lists.proofs.Places.{get_right}

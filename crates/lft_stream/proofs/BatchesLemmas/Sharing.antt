@@ -7,6 +7,8 @@ use Rattle.std.proofs.Math.Seq.{take-suc}
 use Rattle.lft_ir.specs.{Parts.Parts, Steps.Fits.RowsFit, declared.steps.row.Row.Row}
 use Rattle.lft_lists.proofs.Places.{get_left, get_right}
 use Rattle.lft_trace.specs.inner.Parts.{rows_of}
+use Rattle.lft_model.specs.Plans.{PlanParts}
+use Rattle.lft_stream.specs.{inner.Batches.Progresses.{IsGoneOn}, declared.batches.progress.Progress.Progress}
 
 module _ (parts : List (Vec Row Global)) (n : ℕ) (part : Vec Row Global) (at : slice_get parts n ≡ Some part) where
   before : take (n + 1) parts ≡ take n parts ++ (part ∷ [])
@@ -32,23 +34,12 @@ module _ (parts : List (Vec Row Global)) (n : ℕ) (part : Vec Row Global) (at :
         each = λ i row e. fit.each (length a + i) row (get_left (a ++ b) c (length a + i) row (get_right a b i ∙ e));
       }
 
-  module _ (j w k l : List Row) (so_far : k ++ l ≡ j ++ (w ++ rows_of (take n parts))) where
-    -- they come next behind those of the parts before
-    pub part_next : (r more : List Row) → r ≡ (j ++ (w ++ rows_of parts)) ++ more → r ≡ (k ++ (l ++ part.items)) ++ (rows_of (drop (n + 1) parts) ++ more)
-    part_next r more next =
-        next ∙ ap (λ (t : List Row). (j ++ (w ++ t)) ++ more) split ∙ regroup (rows_of (take n parts)) part.items (rows_of (drop (n + 1) parts)) ∙ ap (λ (t : List Row). (t ++ part.items) ++ (rows_of (drop (n + 1) parts) ++ more)) (sym so_far) ∙ ap (λ (t : List Row). t ++ (rows_of (drop (n + 1) parts) ++ more)) (append_assoc k l part.items)
-      where
-        regroup : (x y z : List Row) → (j ++ (w ++ ((x ++ y) ++ z))) ++ more ≡ ((j ++ (w ++ x)) ++ y) ++ (z ++ more)
-        regroup x y z = simp append_assoc
-
-    -- and are gone past with those
-    pub part_on : (new left : List Row) → new ++ left ≡ k ++ (l ++ part.items) → new ++ left ≡ j ++ (w ++ rows_of (take (n + 1) parts))
-    part_on new left gone =
-        gone ∙ sym (append_assoc k l part.items) ∙ ap (λ (t : List Row). t ++ part.items) so_far ∙ regroup (rows_of (take n parts)) part.items ∙ ap (λ (t : List Row). j ++ (w ++ t)) (sym rows_more)
-      where
-        regroup : (x y : List Row) → (j ++ (w ++ x)) ++ y ≡ j ++ (w ++ (x ++ y))
-        regroup x y = simp append_assoc
-
--- what is read meanwhile stands behind what waits
-pub rows_behind : (j w k l read : List Row) → k ++ l ≡ j ++ w → k ++ (l ++ read) ≡ j ++ (w ++ read)
-rows_behind j w k l read same = sym (append_assoc k l read) ∙ ap (λ (t : List Row). t ++ read) same ∙ append_assoc j w read
+-- a part behind others is gone past with those
+pub part_gone : (plan : PlanParts) (old mid new : Progress) (w x y l left : List Row) → IsGoneOn plan old mid (w ++ x) l → IsGoneOn plan mid new (l ++ y) left → IsGoneOn plan old new (w ++ (x ++ y)) left
+part_gone plan old mid new w x y l left one two t so =
+    let u = one t so in
+    let v = two u.0 u.1 in
+    (v.0, v.1, v.2 ∙ sym (append_assoc u.0 l y) ∙ ap (λ (r : List Row). r ++ y) u.2 ∙ regroup)
+  where
+    regroup : (t ++ (w ++ x)) ++ y ≡ t ++ (w ++ (x ++ y))
+    regroup = simp append_assoc

@@ -8,6 +8,7 @@ ghost use Rattle.lft_stream.specs.inner.Kept.{IsAcceptorOf};
 use crate::{Acceptor, RunCounts};
 use lft_ir::steps::{Row, Rows, row_at};
 use lft_model::Plan;
+use lft_tag::MAX_ROWS;
 use std::alloc::Global;
 
 /// At least so many rows are taken together. More wouldn't stay near the processor.
@@ -18,9 +19,10 @@ const FOR_EACH_REACTION: usize = 8;
 
 /// How many rows of a program are to be taken together.
 pub(crate) fn rows_together(plan: &Plan) -> usize
-    ensures { 0 < result }
+    ensures { (0 < result) × (result ≤ 4000000) }
 {
-    TOGETHER.max(plan.program().reactions().saturating_mul(FOR_EACH_REACTION))
+    let together = TOGETHER.max(plan.program().reactions().saturating_mul(FOR_EACH_REACTION));
+    together.min(MAX_ROWS)
 }
 
 /// Where the rows end that are taken together from the first on: behind a whole tag.

@@ -6,10 +6,11 @@ ghost use Rattle.std.specs.Thread.{IsSync};
 ghost use Rattle.lft_ir.specs.{Steps.Fits.RowsFit, declared.steps.row.Row.Row as TheRow};
 ghost use Rattle.lft_trace.specs.{Records.records_of, Traces.Table, inner.Parts.{HoldsRows, rows_of}};
 ghost use Rattle.lft_rows.specs.Accepted.{IsAccepted};
-ghost use Rattle.lft_stream.specs.inner.Batches.Fronts.{IsFront, IsNextBehind, judged_rows};
+ghost use Rattle.lft_stream.specs.inner.Batches.Progresses.{IsGoneOn, IsProgress};
 
 use crate::RunCounts;
-use crate::batches::text::{Front, add_batch, batch_bytes, reaction_names};
+use crate::batches::progress::{Progress, judge_batch};
+use crate::batches::text::{batch_bytes, reaction_names};
 use lft_ir::steps::Row;
 use lft_model::Plan;
 use lft_trace::{ReactionNames, below_header, first_lines, read_lines};
@@ -19,36 +20,26 @@ use std::thread::{Threads, join};
 /// The bytes of a batch for each worker that reads: some milliseconds, beside which a thread costs little.
 const SHARE: usize = 1 << 20;
 
-/// Goes on past the parts of a batch. The rows at its last tag are given back, as `add_batch` does.
-fn add_parts(
-    front: Front,
+/// Goes on past the parts of a batch. The rows at its last tag are given back, as `judge_batch` does.
+fn judge_parts(
+    progress: Progress,
     alloc: Global,
     plan: &Plan,
-    body: &[u8],
     waiting: Vec<Row>,
     parts: Vec<Vec<Row>>,
-) -> Option<(Front, Vec<Row>)>
+) -> Option<(Progress, Vec<Row>)>
     requires waiting_fit { RowsFit plan.now.program waiting.items }
     requires parts_fit { RowsFit plan.now.program (rows_of parts.items) }
-    requires stands { IsFront plan.now body.now front }
-    requires next { IsNextBehind plan.now body.now front (waiting.items ++ rows_of parts.items) }
-    ensures stands { IfSome result (λ p. IsFront plan.now body.now p.0) }
+    requires stands { (t : List TheRow) × IsProgress plan.now t progress }
     ensures fit { IfSome result (λ p. RowsFit plan.now.program p.1.items) }
-    ensures rows { IfSome result (λ p. judged_rows plan.now body.now p.0 ++ p.1.items ≡ judged_rows plan.now body.now front ++ (waiting.items ++ rows_of parts.items)) }
+    ensures gone { IfSome result (λ p. IsGoneOn plan.now progress p.0 (waiting.items ++ rows_of parts.items) p.1.items) }
 {
-    let mut front = front;
+    let mut progress = progress;
     let mut waiting = waiting;
     for place in 0..parts.len() {
-        waiting = add_batch(
-            &mut front,
-            alloc,
-            plan,
-            body,
-            waiting,
-            parts[place].as_slice(),
-        )?;
+        waiting = judge_batch(&mut progress, alloc, plan, waiting, parts[place].as_slice())?;
     }
-    Some((front, waiting))
+    Some((progress, waiting))
 }
 
 /// Goes on past the parts of a batch, while the next lines are read by so many workers.
@@ -57,27 +48,24 @@ fn go_beside<R: Threads + Sync>(
     alloc: Global,
     plan: &Plan,
     names: &ReactionNames,
-    body: &[u8],
-    front: Front,
+    progress: Progress,
     waiting: Vec<Row>,
     parts: Vec<Vec<Row>>,
     lines: &[u8],
     workers: u32,
-) -> Option<((Front, Vec<Row>), Vec<Vec<Row>>)>
+) -> Option<((Progress, Vec<Row>), Vec<Vec<Row>>)>
     requires waiting_fit { RowsFit plan.now.program waiting.items }
     requires parts_fit { RowsFit plan.now.program (rows_of parts.items) }
-    requires stands { IsFront plan.now body.now front }
-    requires next { IsNextBehind plan.now body.now front (waiting.items ++ rows_of parts.items) }
-    ensures stands { IfSome result (λ p. IsFront plan.now body.now p.0.0) }
+    requires stands { (t : List TheRow) × IsProgress plan.now t progress }
     ensures fit { IfSome result (λ p. RowsFit plan.now.program p.0.1.items) }
-    ensures rows { IfSome result (λ p. judged_rows plan.now body.now p.0.0 ++ p.0.1.items ≡ judged_rows plan.now body.now front ++ (waiting.items ++ rows_of parts.items)) }
+    ensures gone { IfSome result (λ p. IsGoneOn plan.now progress p.0.0 (waiting.items ++ rows_of parts.items) p.0.1.items) }
     ensures read { IfSome result (λ p. HoldsRows names.now lines.now (rows_of p.1.items)) }
     ensures read_fit { IfSome result (λ p. RowsFit names.now (rows_of p.1.items)) }
 {
-    let judging = move || -> Option<(Front, Vec<Row>)>
-        requires { RowsFit plan.now.program waiting.items × RowsFit plan.now.program (rows_of parts.items) × IsFront plan.now body.now front × IsNextBehind plan.now body.now front (waiting.items ++ rows_of parts.items) }
-        ensures { IfSome result (λ p. IsFront plan.entry.now body.entry.now p.0 × RowsFit plan.entry.now.program p.1.items × (judged_rows plan.entry.now body.entry.now p.0 ++ p.1.items ≡ judged_rows plan.entry.now body.entry.now front ++ (waiting.items ++ rows_of parts.items))) }
-    { add_parts(front, alloc, plan, body, waiting, parts) };
+    let judging = move || -> Option<(Progress, Vec<Row>)>
+        requires { RowsFit plan.now.program waiting.items × RowsFit plan.now.program (rows_of parts.items) × ((t : List TheRow) × IsProgress plan.now t progress) }
+        ensures { IfSome result (λ p. RowsFit plan.entry.now.program p.1.items × IsGoneOn plan.entry.now progress p.0 (waiting.items ++ rows_of parts.items) p.1.items) }
+    { judge_parts(progress, alloc, plan, waiting, parts) };
     let reading = move || -> Option<Vec<Vec<Row>>>
         requires { IsSync R.row }
         ensures { IfSome result (λ parts. HoldsRows names.entry.now lines.entry.now (rows_of parts.items) × RowsFit names.entry.now (rows_of parts.items)) }
@@ -86,8 +74,9 @@ fn go_beside<R: Threads + Sync>(
     Some((gone?, read?))
 }
 
-/// What `accepts_text` does, by so many workers: one judges, and the others read. With one worker or
-/// none they take turns. Beside what is kept, the rows of two batches are held.
+/// What `accepts_reader` does of a text, by so many workers: one judges, and the others read. With one worker
+/// or none they take turns. Beside what is kept, the rows of two batches are held. It says nothing of a text
+/// that has a quotation mark or another header than the plain one.
 pub fn accepts_text_shared<R: Threads + Sync>(
     rt: &R,
     alloc: Global,
@@ -100,7 +89,7 @@ pub fn accepts_text_shared<R: Threads + Sync>(
     // Tags are judged one after another, since each needs what those before it leave behind. So reading
     // alone is shared out.
     let body = below_header(text)?;
-    let Ok(mut front) = Front::new(alloc, plan) else {
+    let Ok(mut progress) = Progress::new(alloc, plan) else {
         return None;
     };
     let names = reaction_names(alloc, plan)?;
@@ -112,16 +101,13 @@ pub fn accepts_text_shared<R: Threads + Sync>(
     while !rest.is_empty() {
         let (lines, behind) = first_lines(rest, bytes);
         let ((gone, left), read) = go_beside(
-            rt, alloc, plan, &names, body, front, waiting, parts, lines, readers,
+            rt, alloc, plan, &names, progress, waiting, parts, lines, readers,
         )?;
-        front = gone;
+        progress = gone;
         waiting = left;
         parts = read;
         rest = behind;
     }
-    let (mut front, waiting) = add_parts(front, alloc, plan, body, waiting, parts)?;
-    if !front.judge(alloc, plan, body, waiting.as_slice()) {
-        return None;
-    }
-    front.finish(plan)
+    let (mut progress, waiting) = judge_parts(progress, alloc, plan, waiting, parts)?;
+    progress.finish(alloc, plan, waiting.as_slice())
 }

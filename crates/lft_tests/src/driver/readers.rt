@@ -1,7 +1,8 @@
 //! Readers that end, that are interrupted, that fail, and that never end.
 
 use crate::driver::texts::with_fault;
-use lft_driver::read_input;
+use lft_driver::{judge_reader, load, read_input};
+use lft_load::SizedReader;
 use std::alloc::Global;
 use std::io;
 use std::io::{ErrorKind, Read};
@@ -109,5 +110,91 @@ fn takes_two_to_the_thirty_bytes_and_no_more(rt: HostRuntime) {
     for (left, length) in [(1 << 30, 1 << 30), ((1 << 30) + 1, 26)] {
         let mut reader = Letters::plain(left, usize::MAX);
         assert!(rt; told(rt.alloc(), &mut reader).len() == length, "{left}");
+    }
+}
+
+// the same of a file that is read in pieces
+#[test]
+fn gives_two_to_the_thirty_bytes_and_no_more(rt: HostRuntime) {
+    for (left, is_past) in [(1 << 30, false), ((1 << 30) + 1, true)] {
+        let mut file = SizedReader::new(Letters::plain(left, usize::MAX), left);
+        let mut piece = [0u8; 65536];
+        for _ in 0..(1 << 14) + 2 {
+            let _ = file.read(&mut piece);
+        }
+        assert!(rt; file.is_too_large() == is_past, "{left}");
+    }
+}
+
+const PROGRAM: &[u8] = b"main reactor { reaction(startup) {= =} }";
+
+const EXTERNALS: &[u8] = b"kind,time,microstep,name,value\nstop,0,0,,\n";
+
+const TRACE: &[u8] =
+    b"event,worker,time,microstep,reaction,name,value,delay\nstart,0,0,0,main#1,,,\nend,0,0,0,main#1,,,\n";
+
+/// Gives a text by one byte a call. The call with this number, counted from 0, gives an error, or the end.
+#[derive(Drop)]
+struct Stumbling {
+    given: usize,
+    calls: usize,
+    at: usize,
+    kind: Option<ErrorKind>,
+}
+
+impl Read for Stumbling {
+    fn read(&mut self, buf: &mut [u8]) -> io::Result<usize> {
+        let call = self.calls;
+        self.calls = call.wrapping_add(1);
+        if call == self.at {
+            return match self.kind {
+                Some(kind) => Err(io::Error::from(kind)),
+                None => Ok(0),
+            };
+        }
+        match TRACE.get(self.given) {
+            Some(byte) if !buf.is_empty() => {
+                buf[0] = *byte;
+                self.given = self.given.wrapping_add(1);
+                Ok(1)
+            }
+            _ => Ok(0),
+        }
+    }
+}
+
+/// What is written of the trace of a file that stumbles at a call.
+fn told_of_file(alloc: Global, at: usize, kind: Option<ErrorKind>) -> Vec<u8> {
+    let mut out = Vec::new(alloc);
+    let Ok(plan) = load(alloc, PROGRAM, EXTERNALS) else {
+        return out;
+    };
+    let reader = Stumbling {
+        given: 0,
+        calls: 0,
+        at,
+        kind,
+    };
+    let file = SizedReader::new(reader, TRACE.len());
+    let answer = judge_reader(alloc, &plan, "a b", file, &mut out);
+    with_fault(out, answer.err())
+}
+
+// a trace is judged while it is read: an interrupted read is tried again, and where a read fails, or the file
+// ends before its size, that is told at once
+#[test]
+fn judges_what_a_file_gives(rt: HostRuntime) {
+    let accepted = b"accepted runs=1 tags=1\n".as_slice();
+    let failed = b"fault read 1 Failed a b\n".as_slice();
+    for at in 0..=TRACE.len() {
+        let interrupted = told_of_file(rt.alloc(), at, Some(ErrorKind::Interrupted));
+        assert!(rt; interrupted.as_slice() == accepted, "{at}");
+        assert!(rt;
+            told_of_file(rt.alloc(), at, Some(ErrorKind::TimedOut)).as_slice() == failed,
+            "{at}"
+        );
+        let ended = told_of_file(rt.alloc(), at, None);
+        let wanted = if at < TRACE.len() { failed } else { accepted };
+        assert!(rt; ended.as_slice() == wanted, "{at}");
     }
 }

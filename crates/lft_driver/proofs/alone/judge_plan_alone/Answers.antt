@@ -4,7 +4,7 @@ use Rattle.lft_driver.specs.Refusals.{JudgingRefusal.by_check, JudgeRefusalUnder
 use Rattle.lft_driver.proofs.alone.judge_plan_alone.Goals as goal
 
 pub tell-requires : goal.tell-requires
-tell-requires g c = (c.args.trace.now, c.in-Ok.ensures.right)
+tell-requires g c = inr (c.args.trace.now, c.in-Ok.ensures.right)
 
 pub returns-in-Ok-clause-judged : goal.returns-in-Ok-clause-judged
 returns-in-Ok-clause-judged g c = c.tell.ensures.judged c.args.trace.now c.in-Ok.ensures.right

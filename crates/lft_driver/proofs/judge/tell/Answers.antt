@@ -3,17 +3,20 @@ use Rattle.std.specs.Io.KnownBytes.{Appends}
 use Rattle.lft_ir.specs.Parts.{Parts}
 use Rattle.lft_trace.{specs.Records.records_of, proofs.TraceFacts.{one_table, table_fits}}
 use Rattle.lft_load.specs.Written.{AppendsFront}
-use Rattle.lft_driver.specs.{Lines.{HasReaction, line_of}, Meaning.HasTable}
+use Rattle.lft_driver.specs.{Judged.Accepts, Lines.{HasReaction, line_of}, Meaning.HasTable}
 use Rattle.lft_driver.specs.Refusals.{CheckRefusal.by_growth, JudgingRefusal.{by_check, by_writer}, JudgeRefusalUnder.by_judging}
 use Rattle.lft_driver.proofs.Judging.{accepted_runs, growth_untold, has_reaction, write_untold}
 use Rattle.lft_driver.proofs.judge.tell.Goals as goal
 
 pub report-requires : goal.report-requires
-report-requires g c = λ b e.
-    let plan = c.args.plan.now in
-    let right = c.requires.1 in
-    let fit = table_fits plan.program (records_of c.requires.0) right.0 c.program.ensures.sound.sound right.1 in
-    subst (λ (p : Parts). HasReaction p b.reaction) (sym c.program.ensures.value) (has_reaction plan right.0 fit c.args.verdict right.2 b e)
+report-requires g c = λ b e. elim c.requires [
+  | inl accepts ↦ absurd (subst Accepts e accepts)
+  | inr known ↦
+      let plan = c.args.plan.now in
+      let right = known.1 in
+      let fit = table_fits plan.program (records_of known.0) right.0 c.program.ensures.sound.sound right.1 in
+      subst (λ (p : Parts). HasReaction p b.reaction) (sym c.program.ensures.value) (has_reaction plan right.0 fit c.args.verdict right.2 b e)
+]
 
 pub returns-in-Ok-clause-judged : goal.returns-in-Ok-clause-judged
 returns-in-Ok-clause-judged g c = λ trace right.
@@ -26,6 +29,12 @@ returns-in-Ok-clause-judged g c = λ trace right.
       one_worker = accepted_runs plan right.0 c.law_one_worker.ensures.runs c.law_one_worker.ensures.precedence verdict right.2;
       written = subst (λ (p : Parts). Appends (g.W.Write.contents c.args.out.now) (g.W.Write.contents c.report.new.out) (line_of p verdict)) c.program.ensures.value c.in-Ok.ensures.written;
     }
+
+pub returns-in-Err-clause-fault : goal.returns-in-Err-clause-fault
+returns-in-Err-clause-fault g c = elim c.in-Err.ensures.front [
+  | inl x ↦ inl x
+  | inr x ↦ inr (x.0, x.1)
+]
 
 pub returns-in-Err-clause-refused : goal.returns-in-Err-clause-refused
 returns-in-Err-clause-refused g c = λ trace workers right lawful.

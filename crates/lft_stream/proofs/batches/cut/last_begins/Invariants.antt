@@ -1,5 +1,5 @@
 use Rattle.std.proofs.Common.{◌≤◌, length}
-use Rattle.lft_stream.proofs.batches.text.last_begins.Given as goal
+use Rattle.lft_stream.proofs.batches.cut.last_begins.Given as goal
 
 abbrev pub invariant-loop-begin : goal.invariant-loop-begin
 invariant-loop-begin l = record { from : l.from ≤ l.begin; within : l.begin ≤ length l.rows }

@@ -1,5 +1,5 @@
 use Rattle.std.proofs.Common.{◌-◌, ◌≤◌, length}
-use Rattle.lft_stream.proofs.batches.text.still_open.Given as goal
+use Rattle.lft_stream.proofs.batches.cut.still_open.Given as goal
 
 abbrev pub invariant-loop-end : goal.invariant-loop-end
 invariant-loop-end l = l.end ≤ length l.rows
