@@ -3,7 +3,8 @@ use Rattle.std.proofs.Common.{◌≡◌, ℕ, zero, suc, map, take, ◌+◌, ◌
 use native.Mathlib.Decide.{dec_lt}
 use Rattle.lft_lists.proofs.{Mapped.mapped_from, Places.{get_left, get_push_cases, get_append_cases, get_there, contains_at, get_same, length_same}}
 use Rattle.lft_model.proofs.Places.{slice_get_within}
-use Rattle.lft_counts.specs.{declared.orders.{Order.Order, Last.Last, Orders.Orders}, Counts.{Count, none}}
+use Rattle.lft_counts.specs.{declared.orders.{Order.Order, Last.Last, Orders.Orders}}
+use Rattle.lft_graph.specs.Counts.{Count, none}
 use Rattle.lft_counts.specs.Orders.{IsLast, MeetsAt, ApartAt, Stands, unmet, orders_from, cleared}
 use Rattle.lft_ir.specs.{Parts.Parts, declared.steps.row.Row.Row}
 use Rattle.lft_graph.specs.Before.{IsBefore, IsDeclaredJustBefore, FeedsLast}
