@@ -7,7 +7,7 @@ use Rattle.lft_model.specs.Breaches.{IsOpen}
 use Rattle.lft_counts.specs.declared.{orders.{Last.Last, Orders.Orders}, overlaps.Overlaps.Overlaps, cover.{Counting.Counting, Cover.Cover}}
 use Rattle.lft_counts.specs.{Counts.{StartsAt, StartsBy, WritesAt, Runs, MeetsRun, Widens}, Orders.{MeetsAt, ApartAt, IsLast, NoStart, Stands}}
 use Rattle.lft_counts.specs.{Overlaps.Overlap, Cover.{CoversRows, IsCounting, IsCover}}
-use Rattle.lft_counts.proofs.Numbers.{count_same}
+use Rattle.lft_graph.proofs.Counting.{count_same}
 
 -- two traces have the same rows before a place
 abbrev pub AreAlike : List Row → List Row → ℕ → Type 0

@@ -6,9 +6,8 @@ use Rattle.lft_lists.proofs.Places.{get_write_cases}
 use Rattle.lft_tag.specs.declared.Tag.{Tag}
 use Rattle.lft_ir.specs.declared.steps.row.{Row.Row, Step.TheVariants.{Start, End}}
 use Rattle.lft_model.{specs.Runs.{start_row, end_row}, proofs.{Places.slice_get_within, Ended.row_is}}
-use Rattle.lft_counts.specs.{declared.orders.{Last.Last, Order.Order, Orders.Orders}, Counts.same}
-use Rattle.lft_counts.specs.Orders.{NoStart, IsLast, IsCounted, IsLaidOut, Stands, cleared}
-use Rattle.lft_counts.proofs.Numbers.{count_within}
+use Rattle.lft_counts.specs.{declared.orders.{Last.Last, Order.Order, Orders.Orders}, Orders.{NoStart, IsLast, IsCounted, IsLaidOut, Stands, cleared}}
+use Rattle.lft_graph.{specs.Counts.same, proofs.Counting.count_within}
 
 -- those from place b to a place are counted behind the start, the others before it
 pub record Going (t : List Row) (n i b place : ℕ) (entry now : Orders) : Type 0 where

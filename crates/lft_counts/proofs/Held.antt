@@ -2,8 +2,8 @@
 use Rattle.std.proofs.Common.{◌≡◌, ℕ, ◌<◌, List, length, sym, ap, ◌∙◌, subst, arith, Some, slice_get}
 use native.Mathlib.Decide.{dec_lt}
 use Rattle.lft_ir.specs.declared.steps.row.Row.{Row}
-use Rattle.lft_counts.specs.{declared.orders.{Order.Order, Orders.Orders}, Counts.{Count, none, more, same}, Orders.{Stands, IsApart}, inner.Orders.IsHeld}
-use Rattle.lft_counts.proofs.Numbers.{count_same}
+use Rattle.lft_counts.specs.{declared.orders.{Order.Order, Orders.Orders}, Orders.{Stands, IsApart}, inner.Orders.IsHeld}
+use Rattle.lft_graph.{specs.Counts.{Count, none, more, same}, proofs.Counting.count_same}
 
 one_of : {P : ℕ → Type 0} {k n : ℕ} → Count P k n → 0 < n → (j : ℕ) × (j < k) × P j
 one_of none l = absurd (omega arith)

@@ -3,10 +3,9 @@ use Rattle.std.proofs.Common.{◌≡◌, ℕ, zero, suc, map, take, ◌+◌, ◌
 use native.Mathlib.Decide.{dec_lt}
 use Rattle.lft_lists.proofs.{Mapped.mapped_from, Places.{get_left, get_push_cases, get_append_cases, get_there, contains_at, get_same, length_same}}
 use Rattle.lft_model.proofs.Places.{slice_get_within}
-use Rattle.lft_counts.specs.{declared.orders.{Order.Order, Last.Last, Orders.Orders}, Counts.{Count, none}}
-use Rattle.lft_counts.specs.Orders.{IsLast, MeetsAt, ApartAt, Stands, unmet, orders_from, cleared}
+use Rattle.lft_counts.specs.{declared.orders.{Order.Order, Last.Last, Orders.Orders}, Orders.{IsLast, MeetsAt, ApartAt, Stands, unmet, orders_from, cleared}}
+use Rattle.lft_graph.specs.{Counts.{Count, none}, Before.{IsBefore, IsDeclaredJustBefore, FeedsLast}}
 use Rattle.lft_ir.specs.{Parts.Parts, declared.steps.row.Row.Row}
-use Rattle.lft_graph.specs.Before.{IsBefore, IsDeclaredJustBefore, FeedsLast}
 
 -- the orders of the reactions below r
 pub record Laying (n r : ℕ) (all : List Order) (begins : List ℕ) : Type 0 where
@@ -106,13 +105,6 @@ inside program r list is k a e = go ((is.members a).0 (contains_at list k a e))
     go : IsDeclaredJustBefore program a r ⊎ FeedsLast program a r → a < length program.reactions
     go (inl d) = slice_get_within program.reactions a d.first d.is_first
     go (inr f) = slice_get_within program.reactions a f.1.writes.writer f.1.writes.is_writer
-
--- all members
-pub take_whole : {X : Type 0} (xs : List X) (k : ℕ) → length xs ≤ k → take k xs ≡ xs
-take_whole [] zero l = refl
-take_whole [] (suc k) l = refl
-take_whole (x ∷ xs) zero l = absurd (omega arith)
-take_whole (x ∷ xs) (suc k) l = ap (λ zs. x ∷ zs) (take_whole xs k (omega arith))
 
 -- one member more
 pub map_next : {X Y : Type 0} (f : X → Y) (xs : List X) (k : ℕ) (x : X) → slice_get xs k ≡ Some x → map f (take (k + 1) xs) ≡ map f (take k xs) ++ f x ∷ []

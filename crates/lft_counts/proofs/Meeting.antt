@@ -4,7 +4,8 @@ use native.Mathlib.Decide.{dec_lt}
 use Rattle.lft_tag.{specs.declared.Tag.Tag, proofs.Order.UpTo_antisym}
 use Rattle.lft_ir.specs.declared.steps.row.Row.{Row}
 use Rattle.lft_model.{specs.{Breaches.WasStarted, Runs.start_row}, proofs.Legality.{KeepsFour, four, rising, one_start}}
-use Rattle.lft_counts.specs.{declared.orders.Last.Last, Counts.{Count, more, same}, inner.Counts.KeepsRows, Orders.{IsLast, MeetsAt, ApartAt}}
+use Rattle.lft_counts.specs.{declared.orders.Last.Last, inner.Counts.KeepsRows, Orders.{IsLast, MeetsAt, ApartAt}}
+use Rattle.lft_graph.specs.Counts.{Count, more, same}
 
 pub same_row : (w v : ℕ) (g h : Tag) (r q : ℕ) → Some (start_row w g r) ≡ Some (start_row v h q) → (w ≡ v) × (g ≡ h) × (r ≡ q)
 same_row w v g h r q e = let z : start_row w g r ≡ start_row v h q = cc in (ap (λ (y : Row). y.worker) z, ap (λ (y : Row). y.tag) z, ap (λ (y : Row). y.reaction) z)

@@ -4,11 +4,11 @@ use Rattle.std.specs.Prelude.{◌↔◌}
 use native.Mathlib.Decide.{ℕ_discrete}
 use Rattle.lft_lists.proofs.Places.{get_write_cases, length_written, length_same}
 use Rattle.lft_tag.specs.declared.Tag.{Tag}
-use Rattle.lft_graph.specs.Sets.{Has}
+use Rattle.lft_graph.{specs.{Sets.Has, Counts.{Count, none, same}}, proofs.Counting.{count_added, count_taken, count_same, count_one}}
 use Rattle.lft_ir.specs.declared.steps.row.{Row.Row, Step.TheVariants.{Start, End}}
 use Rattle.lft_model.{specs.Runs.{start_row, end_row}, proofs.Places.slice_get_within}
-use Rattle.lft_counts.specs.{Counts.{Count, none, same, StartsAt, Runs, MeetsRun, Widens}, inner.Counts.KeepsRows, Overlaps.{AreOpen, AreMet, AreWidths}}
-use Rattle.lft_counts.proofs.Numbers.{count_added, count_taken, count_same, count_one, counts_none, counts_more, counts_same}
+use Rattle.lft_counts.specs.{Counts.{StartsAt, Runs, MeetsRun, Widens}, inner.Counts.KeepsRows, Overlaps.{AreOpen, AreMet, AreWidths}}
+use Rattle.lft_counts.proofs.Numbers.{counts_none, counts_more, counts_same}
 use Rattle.lft_counts.proofs.Running.{start_is, not_running, runs_more, more_runs, ran, runs_no_more, runs_others, runs_kept}
 
 -- before the first row

@@ -5,9 +5,10 @@ use Rattle.lft_tag.specs.declared.Tag.{Tag}
 use Rattle.lft_ir.specs.{Parts.Parts, declared.{parts.{Value.Value, Name.TheVariants.Port}, steps.row.{Row.Row, Step.{Step, TheVariants.{Start, Write}}}}}
 use Rattle.lft_ir.specs.Steps.Fits.{RowFits, StepFits}
 use Rattle.lft_model.{specs.Runs.start_row, proofs.Places.slice_get_within}
-use Rattle.lft_counts.specs.{declared.{cover.Counting.Counting, workers.Workers.Workers}, Counts.{Count, none, more, same, StartsAt, StartsBy, WritesAt}}
-use Rattle.lft_counts.specs.{Cover.IsCounting, Workers.{runs_by, AllRun, AreByWorker}}
+use Rattle.lft_counts.specs.{declared.{cover.Counting.Counting, workers.Workers.Workers}, Counts.{StartsAt, StartsBy, WritesAt}, Cover.IsCounting}
+use Rattle.lft_counts.specs.Workers.{runs_by, AllRun, AreByWorker}
 use Rattle.lft_counts.proofs.{Numbers.{counts_none, counts_more, counts_same}, Going.started}
+use Rattle.lft_graph.specs.Counts.{Count, none, more, same}
 
 -- before the first row
 pub none_counted : (program : Parts) (t : List Row) (counting : Counting) → counting.runs ≡ replicate (length program.reactions) 0 → counting.writes ≡ replicate (length program.ports) 0 → ((w : ℕ) → runs_by counting.workers w ≡ 0) → AllRun counting.workers → IsCounting program t 0 counting

@@ -2,13 +2,8 @@
 use Rattle.std.specs.Prelude.{◌≡◌, ℕ, ◌+◌, ◌<◌, List, Some, slice_get}
 use Rattle.lft_tag.specs.declared.Tag.{Tag}
 use Rattle.lft_ir.specs.declared.{parts.{Value.Value, Name.TheVariants.Port}, steps.row.{Row.Row, Step.TheVariants.Write}}
+use Rattle.lft_graph.specs.Counts.{Count}
 use Rattle.lft_model.specs.{Breaches.IsOpen, Runs.start_row}
-
--- n is the number of the places below k at which P holds
-pub data Count (P : ℕ → Type 0) : ℕ → ℕ → Type 0 where
-  none : Count P 0 0
-  more : {k n : ℕ} → P k → Count P k n → Count P (k + 1) (n + 1)
-  same : {k n : ℕ} → (P k → ⊥) → Count P k n → Count P (k + 1) n
 
 -- the count of each number x is that of the places below i at which P x holds
 abbrev pub AreCounts : (ℕ → ℕ → Type 0) → ℕ → List ℕ → Type 0

@@ -3,7 +3,8 @@ use Rattle.std.specs.Prelude.{◌≡◌, ◌≢◌, ℕ, ◌+◌, ◌<◌, ◌�
 use Rattle.lft_tag.specs.declared.Tag.{Tag}
 use Rattle.lft_ir.specs.declared.steps.row.Row.{Row}
 use Rattle.lft_model.specs.{Breaches.WasStarted, Runs.start_row}
-use Rattle.lft_counts.specs.{declared.orders.{Last.Last, Order.Order, Orders.Orders}, Counts.Count}
+use Rattle.lft_counts.specs.declared.orders.{Last.Last, Order.Order, Orders.Orders}
+use Rattle.lft_graph.specs.Counts.{Count}
 
 -- the row at place i starts a run of r at a tag at which a has started before
 pub record MeetsAt (t : List Row) (a r i : ℕ) : Type 0 where

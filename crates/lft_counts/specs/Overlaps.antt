@@ -1,8 +1,8 @@
 -- Which reactions have open runs together, and how many.
 use Rattle.std.specs.Prelude.{◌≡◌, ◌↔◌, ℕ, ◌+◌, ◌/◌, List, [], Some, length, slice_get, unwrap_or}
-use Rattle.lft_graph.specs.Sets.{Has}
+use Rattle.lft_graph.specs.{Sets.Has, Counts.Count}
 use Rattle.lft_ir.specs.declared.steps.row.Row.{Row}
-use Rattle.lft_counts.specs.{declared.overlaps.Overlaps.Overlaps, Counts.{Count, AreCounts, Runs, MeetsRun, Widens}}
+use Rattle.lft_counts.specs.{declared.overlaps.Overlaps.Overlaps, Counts.{AreCounts, Runs, MeetsRun, Widens}}
 
 -- the set of the reactions that had an open run when a run of reaction r started
 abbrev pub met_by : Overlaps → ℕ → List ℕ

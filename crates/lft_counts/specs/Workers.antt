@@ -2,7 +2,8 @@
 use Rattle.std.specs.Prelude.{ℕ, ◌<◌, List, unwrap_or}
 use Rattle.std.specs.{List.AllByRecursion, Ordering.nat_cmp}
 use Rattle.lft_ir.specs.declared.steps.row.Row.{Row}
-use Rattle.lft_counts.specs.{declared.workers.Workers.Workers, Counts.{Count, StartsBy}}
+use Rattle.lft_counts.specs.{declared.workers.Workers.Workers, Counts.StartsBy}
+use Rattle.lft_graph.specs.Counts.{Count}
 use Rattle.std.specs.BTreeMap as map
 
 -- how many runs of a worker are kept: none where the map has no number

@@ -1,7 +1,8 @@
 //! How many members of a list aren't 0.
 
 ghost use Rattle.std.specs.Prelude.{length};
-ghost use Rattle.lft_counts.specs.Counts.{Count, IsOver};
+ghost use Rattle.lft_counts.specs.Counts.{IsOver};
+ghost use Rattle.lft_graph.specs.Counts.{Count};
 
 use lft_lists::item_at;
 

@@ -1,11 +1,10 @@
 //! How often both reactions of an order ran at one tag, and how often on two workers.
 
 ghost use Rattle.std.specs.Prelude.{IfOk, OnOk, None, replicate, map, ◌≡◌, ◌++◌, ◌+◌, ◌<◌, ℕ, List, Some, length, slice_get};
-ghost use Rattle.lft_graph.specs.Graph.{IsGraphOf};
+ghost use Rattle.lft_graph.specs.{Graph.IsGraphOf, Counts.Count};
 ghost use Rattle.lft_ir.specs.declared.steps.row.Row.{Row as TheRow};
 ghost use Rattle.lft_model.specs.Runs.{start_row};
-ghost use Rattle.lft_counts.specs.{Counts.Count, inner.{Counts.{Here, KeepsRows}, Orders.IsHeld}};
-ghost use Rattle.lft_counts.specs.Orders.{IsApart, IsCounted, IsLast, Stands, cleared, orders_from, unmet};
+ghost use Rattle.lft_counts.specs.{inner.{Counts.{Here, KeepsRows}, Orders.IsHeld}, Orders.{IsApart, IsCounted, IsLast, Stands, cleared, orders_from, unmet}};
 
 use lft_graph::Graph;
 use lft_ir::Program;

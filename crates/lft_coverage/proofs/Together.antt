@@ -4,10 +4,10 @@ use Rattle.std.specs.Prelude.{◌↔◌, unwrap_or, slice_index}
 use Rattle.std.specs.Int.{bit_at}
 use native.Mathlib.Decide.{ℕ_discrete}
 use Rattle.lft_lists.proofs.Places.{get_there}
-use Rattle.lft_graph.specs.Sets.{Has}
+use Rattle.lft_graph.{specs.{Sets.Has, Counts.CountPairs}, proofs.Once.{Rows, once, pairs_same}}
 use Rattle.lft_ir.specs.declared.steps.row.Row.{Row}
 use Rattle.lft_counts.specs.{declared.overlaps.Overlaps.Overlaps, Counts.MeetsRun, Overlaps.{Overlap, met_by}}
-use Rattle.lft_coverage.{specs.{Pairs.{AreTogether, CountPairs}, inner.Pairs.{HaveMet, IsCountedWith}}, proofs.Once.{Rows, once, pairs_same}}
+use Rattle.lft_coverage.specs.{Pairs.AreTogether, inner.Pairs.{HaveMet, IsCountedWith}}
 
 module _ (overlaps : Overlaps) where
   -- no reaction is counted with itself

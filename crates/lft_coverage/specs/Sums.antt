@@ -1,8 +1,9 @@
 -- The line of sums that people read first.
 use Rattle.std.specs.Prelude.{◌≡◌, ◌≢◌, ℕ, List, ◌++◌, length, slice_get, unwrap_or, option_map, codes, decimal}
 use Rattle.lft_ir.specs.{Parts.Parts, declared.steps.row.Row.Row}
-use Rattle.lft_counts.specs.{declared.cover.Cover.Cover, Counts.{Count, IsOver}, Orders.{Stands, IsApart}, Overlaps.Overlap}
-use Rattle.lft_coverage.specs.Pairs.{AreTogether, CountPairs}
+use Rattle.lft_counts.specs.{declared.cover.Cover.Cover, Counts.IsOver, Orders.{Stands, IsApart}, Overlaps.Overlap}
+use Rattle.lft_graph.specs.{Counts.{Count, CountPairs}, Precedence.HaveOrder}
+use Rattle.lft_coverage.specs.Pairs.{AreTogether}
 
 -- a word, a count, a word between, and the number that it is of
 abbrev pub share_words : List ℕ → ℕ → List ℕ → ℕ → List ℕ
@@ -26,7 +27,7 @@ IsFed program p = origin_of program p ≢ p
 abbrev pub IsReached : Parts → List ℕ → ℕ → Type 0
 IsReached program writes p = IsFed program p × IsOver writes (origin_of program p)
 
--- a text begins with the line of sums: R is how many reactions have a run, F how many of the fed ports have an origin that was written, A how many of the orders were met on two workers, and P how many pairs of reactions had open runs together
+-- a text begins with the line of sums: R is how many reactions have a run, F how many of the fed ports have an origin that was written, A how many of the orders were met on two workers, and P how many pairs of reactions had open runs together, where so many pairs have no order
 pub record TellsSums (program : Parts) (cover : Cover) (told : List ℕ) : Type 0 where
   pub ran : ℕ
   pub fed : ℕ
@@ -40,4 +41,5 @@ pub record TellsSums (program : Parts) (cover : Cover) (told : List ℕ) : Type 
   pub ports_are : Count (IsFed program) (length program.ports) ports
   pub apart_is : (t : List Row) (n i : ℕ) → Stands t n i cover.orders → Count (IsApart t i cover.orders.all.items) (length cover.orders.all.items) apart
   pub together_is : (t : List Row) (i : ℕ) → Overlap t (length program.reactions) i cover.overlaps → CountPairs (AreTogether t i) (length program.reactions) together
+  pub pairs_are : CountPairs (λ a b. HaveOrder program a b → ⊥) (length program.reactions) pairs
   pub text : told ≡ sum_line ran (length program.reactions) fed ports apart (length cover.orders.all.items) together pairs ++ more

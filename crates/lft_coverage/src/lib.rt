@@ -3,8 +3,7 @@
 //!
 //! - `driver`: the command `cover`, from texts or a plan to a verdict and that text.
 //!
-//! The clauses speak of each byte of the list. Of the text for people they speak of the line of sums alone,
-//! without its count of pairs that have no order.
+//! The clauses speak of each byte of the list. Of the text for people they speak of the line of sums alone.
 
 pub mod driver;
 mod inputs;

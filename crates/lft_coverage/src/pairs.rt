@@ -1,8 +1,8 @@
 //! How many pairs of reactions had open runs together.
 
 ghost use Rattle.std.specs.Prelude.{◌↔◌, ◌+◌, ◌<◌, ◌≤◌, ℕ, IsTrue, length, min};
-ghost use Rattle.lft_counts.specs.Counts.{Count};
-ghost use Rattle.lft_coverage.specs.{inner.{Facts.HasSets, Pairs.{HaveMet, IsCountedWith}}, Pairs.CountPairs};
+ghost use Rattle.lft_graph.specs.Counts.{Count, CountPairs};
+ghost use Rattle.lft_coverage.specs.inner.{Facts.HasSets, Pairs.{HaveMet, IsCountedWith}};
 
 use lft_counts::Overlaps;
 use lft_ir::Program;

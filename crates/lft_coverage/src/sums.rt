@@ -2,13 +2,13 @@
 
 ghost use Rattle.std.specs.Prelude.{◌≡◌, ◌<◌, ◌↔◌, ℕ, List, IfOk, IsTrue, length};
 ghost use Rattle.lft_ir.specs.declared.steps.row.Row.{Row as TheRow};
-ghost use Rattle.lft_graph.specs.Graph.{IsGraphOf};
-ghost use Rattle.lft_counts.specs.{Counts.{Count, IsOver}, Orders.{IsApart, Stands}, Overlaps.Overlap};
-ghost use Rattle.lft_coverage.specs.{inner.Facts.HasSets, Pairs.{AreTogether, CountPairs}, Sums.{IsFed, IsReached, origin_of}};
+ghost use Rattle.lft_graph.specs.{Counts.{Count, CountPairs}, Graph.IsGraphOf, Precedence.HaveOrder};
+ghost use Rattle.lft_counts.specs.{Counts.IsOver, Orders.{IsApart, Stands}, Overlaps.Overlap};
+ghost use Rattle.lft_coverage.specs.{inner.Facts.HasSets, Pairs.AreTogether, Sums.{IsFed, IsReached, origin_of}};
 
 use crate::pairs::met_pairs;
 use lft_counts::{Cover, how_many};
-use lft_graph::{Ancestors, Graph};
+use lft_graph::{Graph, unordered_pairs};
 use lft_ir::Program;
 use lft_lists::item_at;
 use lft_tag::NoMemory;
@@ -119,11 +119,6 @@ fn written_ports(writes: &[u64], is_writer: &Vec<bool>) -> Share {
     writers
 }
 
-/// How many pairs of reactions there are.
-fn all_pairs(reactions: u64) -> u64 {
-    reactions.saturating_mul(reactions.saturating_sub(1)) / 2
-}
-
 impl Sums {
     /// The sums of a cover of the program with this graph.
     pub(crate) fn of(
@@ -141,18 +136,18 @@ impl Sums {
         ensures orders { IfOk result (λ sums. sums.apart.of ≡ length cover.now.orders.all.items) }
         ensures apart { IfOk result (λ sums. (t : List TheRow) (n i : ℕ) → Stands t n i cover.now.orders → Count (IsApart t i cover.now.orders.all.items) (length cover.now.orders.all.items) sums.apart.count) }
         ensures together { IfOk result (λ sums. (t : List TheRow) (i : ℕ) → Overlap t (length program.now.reactions) i cover.now.overlaps → CountPairs (AreTogether t i) (length program.now.reactions) sums.together.count) }
+        ensures unordered { IfOk result (λ sums. CountPairs (λ a b. HaveOrder program.now a b → ⊥) (length program.now.reactions) sums.together.of) }
     {
         let runs = cover.counting.runs.as_slice();
         let writes = cover.counting.writes.as_slice();
         let orders = cover.orders.as_slice().len() as u64;
-        let reactions = program.reactions() as u64;
-        let ordered = Ancestors::new(alloc, program, graph)?.pairs();
+        let unordered = unordered_pairs(alloc, program, graph)? as u64;
         let mut is_writer = vec![in alloc; false; program.ports()]?;
         mark_writers(program, &mut is_writer);
         Ok(Sums {
             ran: Share {
                 count: how_many(runs) as u64,
-                of: reactions,
+                of: program.reactions() as u64,
             },
             fed: Share {
                 count: reached_ports(program, writes) as u64,
@@ -169,7 +164,7 @@ impl Sums {
             },
             together: Share {
                 count: met_pairs(program, &cover.overlaps) as u64,
-                of: all_pairs(reactions).saturating_sub(ordered),
+                of: unordered,
             },
         })
     }

@@ -162,7 +162,7 @@ module _ (program : Parts) (graph : GraphParts) (is_graph : IsGraphOf program gr
                   by (no d) = so_far.right j b s (omega arith) p x.1 a
 
   pub ancestors_end : (k : ℕ) (sets : List (List ℕ)) → length graph.by_level ≤ k → AreAncestorsTo program graph.by_level k sets → AreAncestors program sets
-  ancestors_end k sets l h = record { as_long = h.as_long; right = right }
+  ancestors_end k sets l h = record { as_long = h.as_long; room = h.room; right = right }
     where
       right : (r : ℕ) (set : List ℕ) → slice_get sets r ≡ Some set → (a : ℕ) → Has set a ↔ Precedes program a r
       right r set q =

@@ -83,7 +83,7 @@ pub record AreJoined (k : ℕ) (old other new : List ℕ) : Type 0 where
   pub joined : (j : ℕ) → j < k → slice_index new j ≡ bit_or (slice_index old j) (slice_index other j)
   pub kept : (j : ℕ) → k ≤ j → slice_index new j ≡ slice_index old j
 
-past : (words : List ℕ) (k : ℕ) → length words ≤ k → slice_index words k ≡ 0
+pub past : (words : List ℕ) (k : ℕ) → length words ≤ k → slice_index words k ≡ 0
 past [] k l = refl
 past (w ∷ ws) zero l = absurd (omega arith)
 past (w ∷ ws) (suc k) l = past ws k (omega arith)

@@ -11,6 +11,10 @@ pub snoc : (program : Parts) (a b c : ℕ) → Precedes program a b → Direct p
 snoc program a b c (one d) e = more d (one e)
 snoc program a b c (more d p) e = more d (snoc program _ b c p e)
 
+pub precedes_trans : {program : Parts} {a b c : ℕ} → Precedes program a b → Precedes program b c → Precedes program a c
+precedes_trans (one d) q = more d q
+precedes_trans (more d p) q = more d (precedes_trans p q)
+
 loop_along : (S T : ℕ → ℕ → Type 0) (loop : List ℕ) → ((a b : ℕ) → S a b → T a b) → IsLoopOf S loop → IsLoopOf T loop
 loop_along S T loop f w = record {
   some = w.some;

@@ -1,5 +1,5 @@
 -- The reactions one after another, and the levels that are marked.
-use Rattle.std.proofs.Common.{◌≡◌, ◌≢◌, ℕ, ◌+◌, ◌<◌, ◌⊎◌, List, ◌∷◌, ◌++◌, length, ◌∙◌, subst, arith, Some, slice_get, Contains}
+use Rattle.std.proofs.Common.{◌≡◌, ◌≢◌, ℕ, ◌+◌, ◌<◌, List, length, ◌∙◌, subst, arith, Some, slice_get, Contains}
 use Rattle.std.proofs.lemmas.Option.{slice_get_within}
 use Rattle.lft_graph.specs.{declared.levels.LevelMark.{LevelMark, TheVariants.{New, Done}}, Graph.AreLevels, inner.Walks.{IsSettled, NoneOpen, IsLevelOf}}
 use Rattle.lft_lists.proofs.Places.{get_there, at_contains, contains_at}

@@ -10,3 +10,6 @@ pub mod Arranging
 pub mod Bits
 mod Toggling
 pub mod Ancestry
+pub mod Counting
+pub mod Once
+mod Numbered

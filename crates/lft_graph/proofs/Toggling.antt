@@ -1,10 +1,10 @@
 -- A number put into a set, or taken out of it.
-use Rattle.std.proofs.Common.{zero, suc, [], ◌∷◌, ◌≤◌, ◌≡◌, ◌≢◌, ℕ, ◌+◌, ◌*◌, ◌/◌, ◌%◌, ◌^◌, ◌<◌, List, length, length-set, refl, sym, ap, ◌∙◌, subst, arith}
+use Rattle.std.proofs.Common.{◌≤◌, ◌≡◌, ◌≢◌, ℕ, ◌+◌, ◌*◌, ◌/◌, ◌%◌, ◌^◌, ◌<◌, List, length, length-set, refl, sym, ap, ◌∙◌, subst, arith}
 use Rattle.std.specs.Prelude.{◌↔◌, bit_or, bit_xor, slice_set, slice_index}
 use Rattle.std.specs.Int.{bit_at, Bits.or_zero_r}
 use Rattle.std.proofs.lemmas.{List.{get_or-set_same, get_or-set_other}, Nat.Bits.{bit_at_xor, bit_at-zero, bit_at-pow_same, bit_at-pow_other, bit_at-lt}}
 use Rattle.std.proofs.Math.Pow.{shl_exact}
-use native.Mathlib.Decide.{ℕ_discrete, dec_lt}
+use native.Mathlib.Decide.{ℕ_discrete}
 use Rattle.lft_graph.{specs.Sets.Has, proofs.Bits.AreJoined}
 
 module _ (words : List ℕ) (x word : ℕ) (there : x / 64 < length words) (is_word : slice_index words (x / 64) ≡ word) where

@@ -1,5 +1,5 @@
 -- Marks: their weights, and levels from them.
-use Rattle.std.proofs.Common.{◌≡◌, ℕ, zero, suc, ◌+◌, ◌<◌, ◌≤◌, List, [], ◌∷◌, length, ap, ◌∙◌, subst, arith, Some, slice_get, slice_set}
+use Rattle.std.proofs.Common.{◌≡◌, ℕ, zero, suc, ◌+◌, ◌≤◌, List, [], ◌∷◌, length, ap, ◌∙◌, subst, arith, Some, slice_get, slice_set}
 use Rattle.lft_graph.specs.{declared.levels.LevelMark.{LevelMark, TheVariants.{New, Open, Done}}, inner.Walks.{IsDone, IsLevelOf, tally, done_weight}}
 use Rattle.lft_lists.proofs.Places.{get_unwritten}
 

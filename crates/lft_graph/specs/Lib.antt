@@ -1,3 +1,4 @@
+pub mod Counts
 pub mod Precedence
 pub mod Before
 pub mod Graph

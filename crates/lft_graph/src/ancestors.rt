@@ -74,15 +74,6 @@ impl Ancestors {
         Ok(Ancestors { sets })
     }
 
-    /// How many pairs of reactions there are of which one precedes the other.
-    pub fn pairs(&self) -> u64 {
-        let mut many = 0u64;
-        for reaction in 0..self.sets.len() {
-            many = many.saturating_add(self.sets[reaction].count());
-        }
-        many
-    }
-
     /// What precedes the reaction.
     pub fn of(&self, reaction: u32) -> &Set
         requires { reaction < length self.now }

@@ -1,5 +1,6 @@
 #![tactic(auto)]
-//! Which reactions precede which at a tag: short lists and levels, or a causality loop.
+//! Which reactions precede which at a tag: short lists and levels, or a causality loop. How many pairs have
+//! no order.
 
 mod ancestors;
 mod before;
@@ -11,6 +12,7 @@ mod loops;
 mod members;
 mod order;
 mod sets;
+mod unordered;
 mod writers;
 
 pub use ancestors::Ancestors;
@@ -18,3 +20,4 @@ pub use fault::GraphFault;
 pub use graph::Graph;
 pub use lists::Loop;
 pub use sets::Set;
+pub use unordered::unordered_pairs;

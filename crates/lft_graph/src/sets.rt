@@ -1,7 +1,7 @@
 //! Sets of numbers, as of reactions, a bit for each.
 
-ghost use Rattle.std.specs.Prelude.{◌≡◌, ◌≢◌, ◌↔◌, ◌<◌, ◌≤◌, ◌⊎◌, ◌+◌, ◌*◌, ◌/◌, ℕ, [], length, IsTrue, IfOk};
-ghost use Rattle.lft_graph.specs.Sets.{Has};
+ghost use Rattle.std.specs.Prelude.{◌≡◌, ◌≢◌, ◌↔◌, ◌<◌, ◌≤◌, ◌⊎◌, ◌+◌, ◌*◌, ◌/◌, ◌^◌, ℕ, [], length, IsTrue, IfOk};
+ghost use Rattle.lft_graph.specs.{Counts.Count, Sets.Has};
 
 use lft_lists::item_at;
 use lft_tag::NoMemory;
@@ -97,11 +97,14 @@ impl Set {
     }
 
     /// How many numbers are in the set.
-    pub fn count(&self) -> u64 {
-        let mut many = 0u64;
+    pub(crate) fn count(&self) -> usize
+        requires { 64 * length self.now < 2 ^ 64 }
+        ensures { Count (Has self.now) (64 * length self.now) result }
+    {
+        let mut many = 0;
         for place in 0..self.words.len() {
             let word = item_at(self.words.as_slice(), place);
-            many = many.saturating_add(u64::from(word.count_ones()));
+            many += word.count_ones() as usize;
         }
         many
     }

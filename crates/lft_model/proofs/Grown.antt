@@ -14,11 +14,7 @@ use Rattle.lft_model.specs.{Runs.{Run, effects_of, rows_of_run, rows_of, Outcome
 use Rattle.lft_model.proofs.{Stops.{asker, stop_append, stop_added}, Steps.written_some, Ended.{written_by, scheduled_by, Schedules}, Kept.effect_of}
 use Rattle.lft_model.proofs.Reached.{input_of_trigger}
 use Rattle.lft_model.proofs.RunSteps.{StepOf, step_of_run, RowOfRun, in_rows, mem_zip, StepOf.{starts, reads, writes, schedules, stops, ends}}
-use Rattle.lft_graph.specs.Precedence.{Precedes, Precedes.{one, more}}
-
-pub precedes_trans : {program : Parts} {a b c : ℕ} → Precedes program a b → Precedes program b c → Precedes program a c
-precedes_trans (one d) q = more d q
-precedes_trans (more d p) q = more d (precedes_trans p q)
+use Rattle.lft_graph.{specs.Precedence.{Precedes, Precedes.one}, proofs.Chains.precedes_trans}
 
 pub added_none : {X Y : Type 0} (f : X → Option Y) (xs ys : List X) → ((x : X) → Mem x ys → f x ≡ None) → filter_map f (xs ++ ys) ≡ filter_map f xs
 added_none {X} {Y} f [] ys n = none_nil f ys (λ j y e. n y (mem_get ys j y e))

@@ -5,7 +5,7 @@ use Rattle.std.proofs.lemmas.Option.{slice_get_cases, slice_get_past}
 use Rattle.lft_syntax.specs.{declared.fault.SyntaxFault.SyntaxFault, Lexeme.{Lexeme, Letters, is, is_there}}
 use Rattle.lft_syntax.specs.inner.Reading.{Reading, ◌>>=◌, maybe, many_at, target_at, item_at, items_at, file_at, whole_at}
 use Rattle.lft_syntax.specs.Grammar.{file, file_of, Spells, BeginsTree}
-use Rattle.lft_syntax.proofs.{Options.some_is, Begun.{Agree, Begun}, Algebra.{near, Outcome, Test}, Files.{AtEnd, right_file}}
+use Rattle.lft_syntax.proofs.{Options.some_is, Begun.{Agree, Begun}, Algebra.{near, Outcome, Test}, Files.{AtEnd, right_file}, Loop.all_read}
 use Rattle.lft_tree.specs.{declared.ast.Ast.Ast, Tree.{FileTree, ItemTree, Range}}
 use Rattle.lft_syntax.specs.declared.fault.SyntaxFault.TheVariants as faults
 
@@ -46,13 +46,6 @@ file_stops : (ws : List Lexeme) → Stops is_there ws (file_at ws 0)
 unfolding file_at
 file_stops ws = file_stops_at ws (maybe (is (Letters (codes "target"))) target_at ws 0)
 
-there_within : (ws : List Lexeme) (j : ℕ) → j ≤ length ws → is_there (slice_get ws j) ≡ false → j ≡ length ws
-there_within ws j le e =
-    elim (slice_get_cases ws j).1 [
-      | inl a ↦ absurd (cc (ap is_there a.2, e))
-      | inr b ↦ omega (arith, le, b.0)
-    ]
-
 -- ---- the whole text
 
 -- what a reading of the whole text says
@@ -86,7 +79,7 @@ begun_text ws k le b =
 
 outcome_whole : (ws : List Lexeme) (r : Result (FileTree × ℕ) ℕ) → Outcome file AtEnd near near 0 ws 0 r → Stops is_there ws r → Whole ws (r >>= λ a. Ok a.0)
 outcome_whole ws (Ok a) k stops =
-    let whole : a.1 ≡ length ws = there_within ws a.1 k.within stops in
+    let whole : a.1 ≡ length ws = all_read ws a.1 k.within stops in
     (subst (λ (n : ℕ). file ws 0 n a.0) whole k.found, λ other s. (k.forced ws (length ws) other (λ i lt. refl) s (slice_get_past ws (length ws) (omega arith))).0)
 outcome_whole ws (Err t) k stops = (k.within, λ vs other agree s. k.none vs (length vs) other agree s (slice_get_past vs (length vs) (omega arith)), begun_text ws t k.within k.begun)
 

@@ -6,18 +6,12 @@ use Rattle.std.proofs.lemmas.Option.{get_or_from_slice_get, slice_get-get_or, sl
 use Rattle.std.specs.List.Sorted.{IsPermutation}
 use Rattle.lft_tag.proofs.Order.{Before-trans}
 use Rattle.lft_trace.{specs.ExternalTables.{Clash, Has}, proofs.{Ascending.not_itself, Members.has_permuted_back}}
-use Rattle.lft_ir.specs.{Steps.Inputs.{ComesBefore, InOrder}, declared.steps.externals.Event.Event}
+use Rattle.lft_ir.{specs.{Steps.Inputs.{ComesBefore, InOrder}, declared.steps.externals.Event.Event}, proofs.StepsLemmas.Placing.comes_before-trans}
 
 -- events of one action at one tag come in no order
 pub no_clash : (x y : Event) → ComesBefore x y → Clash x y → ⊥
 no_clash x y (inl a) same = not_itself x.tag y.tag a (sym same.0)
 no_clash x y (inr a) same = let less = a.1 in let is = same.1 in omega arith
-
-comes_before-trans : (x y z : Event) → ComesBefore x y → ComesBefore y z → ComesBefore x z
-comes_before-trans x y z (inl a) (inl b) = inl (Before-trans x.tag y.tag z.tag a b)
-comes_before-trans x y z (inl a) (inr b) = inl (rw (← b.0) a)
-comes_before-trans x y z (inr a) (inl b) = inl (rw (a.0) b)
-comes_before-trans x y z (inr a) (inr b) = inr (a.0 ∙ b.0, omega arith)
 
 -- where the last one comes before the event, all do
 pub all_before : (events : List Event) (event last : Event) → InOrder events → slice_get events (length events - 1) ≡ Some last → ComesBefore last event → (other : Event) → Has events other → ComesBefore other event

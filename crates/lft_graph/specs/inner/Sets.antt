@@ -3,14 +3,15 @@ use Rattle.std.specs.Prelude.{◌≡◌, ◌↔◌, ℕ, ◌+◌, ◌/◌, ◌<�
 use Rattle.lft_ir.specs.Parts.{Parts}
 use Rattle.lft_graph.specs.{Precedence.Precedes, Sets.Has}
 
--- the set of each reaction has just what precedes it
-pub record AreAncestors (program : Parts) (sets : List (List ℕ)) : Type 0 where
-  pub as_long : length sets ≡ length program.reactions
-  pub right : (r : ℕ) (set : List ℕ) → slice_get sets r ≡ Some set → (a : ℕ) → Has set a ↔ Precedes program a r
-
 -- no set has more words than n reactions need
 abbrev pub HaveRoom : ℕ → List (List ℕ) → Type 0
 HaveRoom n sets = (r : ℕ) (set : List ℕ) → slice_get sets r ≡ Some set → length set ≤ n / 64 + 1
+
+-- the set of each reaction has just what precedes it
+pub record AreAncestors (program : Parts) (sets : List (List ℕ)) : Type 0 where
+  pub as_long : length sets ≡ length program.reactions
+  pub room : HaveRoom (length sets) sets
+  pub right : (r : ℕ) (set : List ℕ) → slice_get sets r ≡ Some set → (a : ℕ) → Has set a ↔ Precedes program a r
 
 -- each member of the list has a set
 abbrev pub HasAll : List ℕ → List (List ℕ) → Type 0

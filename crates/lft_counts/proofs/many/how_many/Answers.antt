@@ -1,6 +1,6 @@
 use Rattle.std.proofs.Common.{◌+◌, sym, subst, arith}
-use Rattle.lft_counts.specs.Counts.{Count, none, more, same, IsOver}
-use Rattle.lft_counts.proofs.{Numbers.{count_within, is_over, not_over}, many.how_many.Goals.{then-item_at-ne0, else-item_at-ne0}}
+use Rattle.lft_counts.{specs.Counts.IsOver, proofs.{Numbers.{is_over, not_over}, many.how_many.Goals.{then-item_at-ne0, else-item_at-ne0}}}
+use Rattle.lft_graph.{specs.Counts.{Count, none, more, same}, proofs.Counting.count_within}
 use Rattle.lft_counts.proofs.many.how_many.Goals as goal
 
 pub loop-place-init : goal.loop-place-init

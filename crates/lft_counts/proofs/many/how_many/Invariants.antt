@@ -1,4 +1,5 @@
-use Rattle.lft_counts.specs.Counts.{Count, IsOver}
+use Rattle.lft_counts.specs.Counts.{IsOver}
+use Rattle.lft_graph.specs.Counts.{Count}
 use Rattle.lft_counts.proofs.many.how_many.Given as goal
 
 abbrev pub invariant-loop-place : goal.invariant-loop-place

@@ -1,6 +1,6 @@
 use Rattle.std.proofs.Common.{◌≡◌, length, subst, arith}
-use Rattle.lft_counts.proofs.Numbers.{count_within}
-use Rattle.lft_coverage.{specs.inner.Pairs.IsCountedWith, proofs.{Once.{Rows, and_row, no_rows, rows_within}, Together.met_once}}
+use Rattle.lft_graph.proofs.{Counting.count_within, Once.{Rows, and_row, no_rows, rows_within}}
+use Rattle.lft_coverage.{specs.inner.Pairs.IsCountedWith, proofs.Together.met_once}
 use Rattle.lft_coverage.proofs.pairs.met_pairs.Goals as goal
 
 pub loop-reaction-init : goal.loop-reaction-init

@@ -1,5 +1,6 @@
 use Rattle.std.proofs.Common.{length}
-use Rattle.lft_coverage.{specs.inner.Pairs.IsCountedWith, proofs.Once.Rows}
+use Rattle.lft_graph.proofs.Once.{Rows}
+use Rattle.lft_coverage.specs.inner.Pairs.{IsCountedWith}
 use Rattle.lft_coverage.proofs.pairs.met_pairs.Given as goal
 
 abbrev pub invariant-loop-reaction : goal.invariant-loop-reaction

@@ -1,5 +1,5 @@
 use Rattle.std.proofs.Common.{◌≡◌, ◌+◌, true, false, length, min, refl, subst, arith}
-use Rattle.lft_counts.specs.Counts.{Count, more, same}
+use Rattle.lft_graph.specs.Counts.{Count, more, same}
 use Rattle.lft_coverage.{specs.inner.Pairs.IsCountedWith, proofs.pairs.pairs_from.Goals.{then-is_counted, else-is_counted}}
 use Rattle.lft_coverage.proofs.pairs.pairs_from.Goals as goal
 

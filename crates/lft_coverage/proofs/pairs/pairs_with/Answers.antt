@@ -1,7 +1,6 @@
 use Rattle.std.proofs.Common.{◌≡◌, ◌+◌, ◌-◌, ◌*◌, length, min, refl, sym, subst, arith}
-use Rattle.lft_counts.{specs.Counts.{Count, none}, proofs.Numbers.count_within}
-use Rattle.lft_coverage.specs.inner.Pairs.{IsCountedWith}
-use Rattle.lft_coverage.proofs.{Once.none_from, Tests.has_room, pairs.pairs_with.Goals.{then-not-has_none, else-not-has_none}}
+use Rattle.lft_graph.{proofs.Counting.{count_within, none_from}, specs.Counts.{Count, none}}
+use Rattle.lft_coverage.{specs.inner.Pairs.IsCountedWith, proofs.{Tests.has_room, pairs.pairs_with.Goals.{then-not-has_none, else-not-has_none}}}
 use Rattle.lft_coverage.proofs.pairs.pairs_with.Goals as goal
 
 pub loop-word-init : goal.loop-word-init

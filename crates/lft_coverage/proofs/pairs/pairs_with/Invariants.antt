@@ -1,5 +1,5 @@
 use Rattle.std.proofs.Common.{◌*◌, length, min}
-use Rattle.lft_counts.specs.Counts.{Count}
+use Rattle.lft_graph.specs.Counts.{Count}
 use Rattle.lft_coverage.specs.inner.Pairs.{IsCountedWith}
 use Rattle.lft_coverage.proofs.pairs.pairs_with.Given as goal
 

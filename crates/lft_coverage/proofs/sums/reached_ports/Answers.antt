@@ -1,5 +1,5 @@
 use Rattle.std.proofs.Common.{◌≡◌, ◌+◌, true, false, refl, sym, subst, arith}
-use Rattle.lft_counts.{specs.Counts.{Count, none, more, same}, proofs.Numbers.count_within}
+use Rattle.lft_graph.{proofs.Counting.count_within, specs.Counts.{Count, none, more, same}}
 use Rattle.lft_coverage.{specs.Sums.IsReached, proofs.sums.reached_ports.Goals.{then-is_reached, else-is_reached}}
 use Rattle.lft_coverage.proofs.sums.reached_ports.Goals as goal
 

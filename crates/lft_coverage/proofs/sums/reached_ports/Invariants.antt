@@ -1,4 +1,4 @@
-use Rattle.lft_counts.specs.Counts.{Count}
+use Rattle.lft_graph.specs.Counts.{Count}
 use Rattle.lft_coverage.specs.Sums.{IsReached}
 use Rattle.lft_coverage.proofs.sums.reached_ports.Given as goal
 

@@ -1,6 +1,7 @@
 use Rattle.std.proofs.Common.{◌≡◌, refl, arith, true, false}
 use Rattle.lft_lists.proofs.Places.{get_there}
-use Rattle.lft_counts.proofs.{Numbers.count_within, Tallied.{counted_start, counted_write, counted_none, is_port}}
+use Rattle.lft_counts.proofs.Tallied.{counted_start, counted_write, counted_none, is_port}
+use Rattle.lft_graph.proofs.Counting.{count_within}
 use Rattle.lft_counts.proofs.cover.Counting.add.Goals as goal
 
 pub add-requires-clause-few : goal.add-requires-clause-few

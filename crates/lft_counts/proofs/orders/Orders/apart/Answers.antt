@@ -1,6 +1,7 @@
 use Rattle.std.proofs.Common.{◌≡◌, ◌+◌, List, Some, length, slice_get, sym, subst, arith}
-use Rattle.lft_counts.specs.{declared.orders.Order.Order, Counts.{Count, none, more, same}}
-use Rattle.lft_counts.proofs.{Numbers.count_within, Held.{Has, has, has_not, apart_all}, orders.Orders.apart.Goals.{then-item_at-ne0, else-item_at-ne0}}
+use Rattle.lft_counts.specs.declared.orders.Order.{Order}
+use Rattle.lft_counts.proofs.{Held.{Has, has, has_not, apart_all}, orders.Orders.apart.Goals.{then-item_at-ne0, else-item_at-ne0}}
+use Rattle.lft_graph.{specs.Counts.{Count, none, more, same}, proofs.Counting.count_within}
 use Rattle.lft_counts.proofs.orders.Orders.apart.Goals as goal
 
 pub loop-place-init : goal.loop-place-init

@@ -1,4 +1,5 @@
-use Rattle.lft_counts.{specs.Counts.Count, proofs.Held.Has}
+use Rattle.lft_counts.proofs.Held.{Has}
+use Rattle.lft_graph.specs.Counts.{Count}
 use Rattle.lft_counts.proofs.orders.Orders.held.Given as goal
 
 abbrev pub invariant-loop-place : goal.invariant-loop-place

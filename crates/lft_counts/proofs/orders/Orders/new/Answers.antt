@@ -1,6 +1,7 @@
 use Rattle.std.proofs.Common.{◌≡◌, ◌++◌, ◌+◌, length, replicate, None, ap, ◌∙◌, sym, subst, arith, List, ℕ, take, map}
+use Rattle.std.proofs.lemmas.List.{take_all}
 use Rattle.lft_counts.specs.{declared.orders.Order.Order, Orders.{orders_from, unmet}}
-use Rattle.lft_counts.proofs.Laying.{IsPushed, inside, pushed, laying_more, orders_more, stand_so, take_whole}
+use Rattle.lft_counts.proofs.Laying.{IsPushed, inside, pushed, laying_more, orders_more, stand_so}
 use Rattle.lft_counts.proofs.orders.Orders.new.Goals as goal
 
 pub loop-reaction-preserved : goal.loop-reaction-preserved
@@ -19,4 +20,4 @@ pub returns-clause-stands : goal.returns-clause-stands
 returns-clause-stands c t = stand_so t (length c.args.program.now.reactions) c.loop-reaction.reaction _ (omega arith) c.loop-reaction.invariant.0 (c.in_ok-lasts.ensures ∙ ap (λ n. replicate n None) c.reactions-2.ensures.count)
 
 pub returns-clause-all : goal.returns-clause-all
-returns-clause-all c = c.loop-reaction.invariant.1 ∙ ap (λ (z : List (List ℕ)). orders_from 0 z) (take_whole c.args.graph.now.before c.loop-reaction.reaction (let l = c.requires.as_long in omega (arith, l)))
+returns-clause-all c = c.loop-reaction.invariant.1 ∙ ap (λ (z : List (List ℕ)). orders_from 0 z) (take_all c.loop-reaction.reaction c.args.graph.now.before (let l = c.requires.as_long in omega (arith, l)))

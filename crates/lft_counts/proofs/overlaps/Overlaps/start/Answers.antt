@@ -1,7 +1,8 @@
 use Rattle.std.proofs.Common.{◌≡◌, ◌+◌, length, List, ℕ, Some, slice_get, sym, ap, ◌∙◌, subst, arith}
 use Rattle.std.proofs.lemmas.Option.{slice_get-get_or}
 use Rattle.lft_lists.proofs.Places.{get_there}
-use Rattle.lft_counts.{specs.Overlaps.AreWidths, proofs.{Numbers.count_within, Going.started, Overlapping.{open_more, met_more, widths_more}}}
+use Rattle.lft_counts.{specs.Overlaps.AreWidths, proofs.{Going.started, Overlapping.{open_more, met_more, widths_more}}}
+use Rattle.lft_graph.proofs.Counting.{count_within}
 use Rattle.lft_counts.proofs.overlaps.Overlaps.start.Goals as goal
 
 pub overflow_add-self : goal.overflow_add-self

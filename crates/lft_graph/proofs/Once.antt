@@ -1,36 +1,6 @@
 -- Pairs of numbers, each counted with one of the two.
 use Rattle.std.proofs.Common.{◌≡◌, ℕ, zero, suc, ◌+◌, ◌*◌, ◌<◌, ◌≤◌, ◌⊎◌, inl, inr, refl, sym, subst, arith}
-use Rattle.lft_counts.{specs.Counts.{Count, none, more, same}, proofs.Numbers.{count_within, count_same}}
-use Rattle.lft_coverage.specs.Pairs.{CountPairs, no_pairs, and_of}
-
--- the last place, and the count of those before it
-last : {P : ℕ → Type 0} {k l m : ℕ} → l ≡ k + 1 → Count P l m → (j : ℕ) × Count P k j × (((m ≡ j + 1) × P k) ⊎ ((m ≡ j) × (P k → ⊥)))
-last e none = absurd (omega arith)
-last {P} {k} e (more {k = q} {n = n} p c) = let s : q ≡ k = omega arith in (n, subst (λ z. Count P z n) s c, inl (refl, subst P s p))
-last {P} {k} e (same {k = q} {n = n} p c) = let s : q ≡ k = omega arith in (n, subst (λ z. Count P z n) s c, inr (refl, λ x. p (subst P (sym s) x)))
-
--- no more places between two numbers at which nothing holds
-pub none_from : {P : ℕ → Type 0} (d from n : ℕ) → ((i : ℕ) → from ≤ i → i < from + d → P i → ⊥) → Count P from n → Count P (from + d) n
-none_from {P} zero from n never c = subst (λ z. Count P z n) (let e : from ≡ from + zero = omega arith in e) c
-none_from {P} (suc d) from n never c = subst (λ z. Count P z n) (let e : from + d + 1 ≡ from + suc d = omega arith in e) (same (never (from + d) (omega arith) (omega arith)) (none_from d from n (λ i l m. never i l (omega arith)) c))
-
--- the places of two kinds that never meet
-either : {P Q : ℕ → Type 0} {k m : ℕ} → Count P k m → (n : ℕ) → ((i : ℕ) → i < k → P i → Q i → ⊥) → Count Q k n → Count (λ i. P i ⊎ Q i) k (m + n)
-either {P} {Q} none n apart d = let l = count_within d in subst (λ z. Count (λ i. P i ⊎ Q i) 0 z) (let e : 0 ≡ 0 + n = omega (arith, l) in e) none
-either {P} {Q} (more {k = k} {n = m} p c) n apart d = go (λ j f. either c j (λ i l. apart i (omega arith)) f) (last refl d)
-  where
-    go : ((j : ℕ) → Count Q k j → Count (λ i. P i ⊎ Q i) k (m + j)) → (j : ℕ) × Count Q k j × (((n ≡ j + 1) × Q k) ⊎ ((n ≡ j) × (Q k → ⊥))) → Count (λ i. P i ⊎ Q i) (k + 1) (m + 1 + n)
-    go below (j, f, inl x) = absurd (apart k (omega arith) p x.1)
-    go below (j, f, inr x) = let e = x.0 in subst (λ z. Count (λ i. P i ⊎ Q i) (k + 1) z) (let s : m + j + 1 ≡ m + 1 + n = omega (arith, e) in s) (more (inl p) (below j f))
-either {P} {Q} (same {k = k} {n = m} p c) n apart d = go (λ j f. either c j (λ i l. apart i (omega arith)) f) (last refl d)
-  where
-    out : (Q k → ⊥) → P k ⊎ Q k → ⊥
-    out q (inl x) = p x
-    out q (inr x) = q x
-
-    go : ((j : ℕ) → Count Q k j → Count (λ i. P i ⊎ Q i) k (m + j)) → (j : ℕ) × Count Q k j × (((n ≡ j + 1) × Q k) ⊎ ((n ≡ j) × (Q k → ⊥))) → Count (λ i. P i ⊎ Q i) (k + 1) (m + n)
-    go below (j, f, inl x) = let e = x.0 in subst (λ z. Count (λ i. P i ⊎ Q i) (k + 1) z) (let s : m + j + 1 ≡ m + n = omega (arith, e) in s) (more (inr x.1) (below j f))
-    go below (j, f, inr x) = let e = x.0 in subst (λ z. Count (λ i. P i ⊎ Q i) (k + 1) z) (let s : m + j ≡ m + n = omega (arith, e) in s) (same (out x.1) (below j f))
+use Rattle.lft_graph.{specs.Counts.{Count, none, more, same, CountPairs, no_pairs, and_of}, proofs.Counting.{last, either, count_within, count_same, count_not}}
 
 -- s is the sum of the counts at the numbers below k, each of those below n of which C a b holds
 pub data Rows (C : ℕ → ℕ → Type 0) (n : ℕ) : ℕ → ℕ → Type 0 where
@@ -82,3 +52,11 @@ module _ (C : ℕ → ℕ → Type 0) where
 pub pairs_same : {P Q : ℕ → ℕ → Type 0} {k n : ℕ} → ((a b : ℕ) → a < b → b < k → P a b → Q a b) → ((a b : ℕ) → a < b → b < k → Q a b → P a b) → CountPairs P k n → CountPairs Q k n
 pairs_same f g no_pairs = no_pairs
 pairs_same f g (and_of {k = k} c d) = and_of (pairs_same (λ a b l m. f a b l (omega arith)) (λ a b l m. g a b l (omega arith)) c) (count_same (λ a l. f a k l (omega arith)) (λ a l. g a k l (omega arith)) d)
+
+-- the other pairs: there are n * (n - 1) / 2 in all
+pub pairs_not : {P : ℕ → ℕ → Type 0} {k s : ℕ} → CountPairs P k s → (t : ℕ) × CountPairs (λ a b. P a b → ⊥) k t × (2 * (s + t) + k ≡ k * k)
+pairs_not no_pairs = (0, no_pairs, refl)
+pairs_not {P} (and_of {k = k} {n = n} {m = m} c d) = go (pairs_not c) (count_not d)
+  where
+    go : (t : ℕ) × CountPairs (λ a b. P a b → ⊥) k t × (2 * (n + t) + k ≡ k * k) → (j : ℕ) × Count (λ a. P a k → ⊥) k j × (m + j ≡ k) → (t : ℕ) × CountPairs (λ a b. P a b → ⊥) (k + 1) t × (2 * (n + m + t) + (k + 1) ≡ (k + 1) * (k + 1))
+    go (t, u, e) (j, f, g) = (t + j, and_of u f, omega (arith, e, g))
