@@ -8,7 +8,7 @@ use Rattle.lft_lists.proofs.{Picked.take_one_more, Places.{at_contains, contains
 use Rattle.lft_ir.specs.{Origins.Origin, declared.{parts.{Value.Value, Name.TheVariants.Port}, steps.row.{Row.Row, Step.{Step, TheVariants.Write}}}}
 use Rattle.lft_ir.proofs.Origins.{origin_unique}
 use Rattle.lft_model.specs.{Fitting.EachFits, Plans.PlanParts}
-use Rattle.lft_model.specs.Presence.{asked, scheduled, stop, value_written, value_scheduled, written, min_delay, Last, IsWrittenFrom, PortClash}
+use Rattle.lft_model.specs.Presence.{asked, requests, scheduled, stop, value_written, value_scheduled, written, min_delay, Last, IsWrittenFrom, PortClash}
 use Rattle.lft_model.proofs.{Ended.written_by, Places.slice_get_within, Steps.written_some, Stops.stop_append}
 use Rattle.lft_queue.specs.{Coming.AtTag.AreBefore, inner.Reading.is_read}
 use Rattle.lft_stream.specs.inner.Owed.{MeetNowhere}
@@ -166,9 +166,17 @@ module _ (last : Tag) (plan : PlanParts) (t : List Row) where
       go h p o g (inl q) (inr m) = inr m
 
 -- rows that are kept fit as all do, are before a tag as all are, and ask for the stop that all ask for
+-- rows that ask for the stop are kept
+pub stop_kept : (plan : PlanParts) (t rows kept : List Row) → requests rows ≡ requests kept → stop plan (t ++ kept) ≡ stop plan (t ++ rows)
+stop_kept plan t rows kept asks = ap (λ (gs : List Tag). earliest plan.externals.stop gs) (over (λ row. asked row.tag row.step) t t kept rows refl (sym asks))
+
+-- some of rows that fit do
+pub some_fit : (plan : PlanParts) (rows kept : List Row) → ((row : Row) → Contains kept row → Contains rows row) → EachFits plan.program rows → EachFits plan.program kept
+some_fit plan rows kept own fit i x e = let p = at_contains rows x (own x (contains_at kept i x e)) in fit p.0 x p.1
+
 module _ (last : Tag) (plan : PlanParts) (t kept : List Row) (low : Tag) (is : IsKept last plan t t kept low) where
   pub kept_fit : EachFits plan.program t → EachFits plan.program kept
-  kept_fit fit i x e = let p = at_contains t x (is.own x (contains_at kept i x e)) in fit p.0 x p.1
+  kept_fit = some_fit plan t kept is.own
 
   pub kept_before : AreBefore t low → AreBefore kept low
   kept_before under i x e = let p = at_contains t x (is.own x (contains_at kept i x e)) in under p.0 x p.1

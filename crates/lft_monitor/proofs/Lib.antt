@@ -21,6 +21,7 @@ pub mod OneMore
 pub mod Gaining
 pub mod Sooner
 pub mod Following
+pub mod AtOnce
 pub mod Furthest
 pub mod Behind
 pub mod First

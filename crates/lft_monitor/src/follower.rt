@@ -13,6 +13,7 @@ ghost use Rattle.lft_monitor.specs.{Follows.{IsPassed, HasManyLater, IsJudged}, 
 use crate::found::{BrokenRule, found_at, found_of};
 use crate::gone::{Going, Halt};
 use crate::judged::{Closing, Ending, Judged, Unjudged};
+use crate::last::{begin_of_last, last_begins};
 use crate::open::{StillOpen, open_among};
 use crate::reach::Reach;
 use lft_ir::steps::{Event, Row, row_at};
@@ -66,23 +67,6 @@ pub struct Follower {
     rows: Vec<Row>,
 }
 
-/// Where the rows begin that are at the tag of the last one before the end.
-fn last_begins(rows: &[Row], end: usize) -> usize
-    requires { end ≤ length rows.now }
-    ensures { BeginsLast rows.now end result }
-{
-    if end == 0 {
-        return 0;
-    }
-    let tag = row_at(rows, end - 1).tag;
-    for passed in 1..end {
-        if !row_at(rows, end - 1 - passed).tag.is_same(tag) {
-            return end - passed;
-        }
-    }
-    0
-}
-
 /// Judges the rows before the place, at which the first row of a later tag stands. It is what is told,
 /// where they may break a rule. They are known to break none of the rules 1 to 5.
 fn judge_before(
@@ -118,18 +102,6 @@ fn has_many_later(events: &[Event], tag: Tag) -> bool
     ensures { IsTrue result → HasManyLater events.now tag }
 {
     events.len() > MOST_LATER && tag.is_before(events[events.len() - 1 - MOST_LATER].tag)
-}
-
-/// Whether rows that rise are all at one tag.
-fn are_at_one(rows: &[Row]) -> bool
-    requires { Rises rows.now }
-    ensures { IsTrue result → (g : TheTag) × AreAt rows.now g }
-{
-    if rows.is_empty() {
-        return true;
-    }
-    let last = row_at(rows, rows.len() - 1).tag;
-    row_at(rows, 0).tag.is_same(last)
 }
 
 impl Follower {
@@ -168,11 +140,7 @@ impl Follower {
         ensures { IfOk result (λ p. (t more : List TheRow) → IsAtHand plan.now (t ++ more) self.old → AreDone plan.now t (done_of (t ++ more) self.old) self.old.judged.reach → IsProgress plan.now t more self.new p) }
     {
         let rows = self.rows.as_slice();
-        // Asked first: rows of one tag that come one by one are not all gone over each time.
-        if are_at_one(rows) {
-            return Ok(Progress::GoesOn);
-        }
-        let begin = last_begins(rows, rows.len());
+        let begin = begin_of_last(rows);
         if begin == 0 {
             return Ok(Progress::GoesOn);
         }
@@ -223,7 +191,8 @@ impl Follower {
         if self.rows.as_slice().len() > MAX_ROWS || self.judged.count > MOST {
             return Ok(Progress::TooMany);
         }
-        match self.going.go_over(plan, self.rows.as_slice())? {
+        let last = self.judged.past.stop;
+        match self.going.go_over(alloc, plan, last, self.rows.as_slice())? {
             Halt::AtEnd => self.go_on(alloc, plan),
             Halt::AtRow(place, rule) => self.tell(alloc, plan, place, place, rule),
             Halt::AtLater(start, place) => self.tell(alloc, plan, start, place, 5),

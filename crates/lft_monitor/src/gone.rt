@@ -1,11 +1,14 @@
 //! The rows at hand, gone over for the rules 1 to 5 as they come.
 
-ghost use Rattle.std.specs.Prelude.{◌≡◌, ◌+◌, ◌-◌, ◌<◌, ◌≤◌, ◌↔◌, List, ◌++◌, ◌∷◌, [], length, IfOk, IsTrue, Some, OnOk, MatchOption, slice_get};
+ghost use Rattle.std.specs.Prelude.{◌≡◌, ◌+◌, ◌-◌, ◌<◌, ◌≤◌, ◌↔◌, List, ◌++◌, ◌∷◌, [], length, take, IfOk, IsTrue, Some, OnOk, MatchOption, slice_get};
 ghost use Rattle.lft_tag.specs.Tags.{Before, IsRecorded, earlier};
 ghost use Rattle.lft_ir.specs.{Parts.Parts, declared.steps.row.Row.Row as TheRow, Steps.Fits.RowsFit};
-ghost use Rattle.lft_model.specs.{Plans.PlanParts, Presence.stop as stop_of};
+ghost use Rattle.lft_model.specs.{Fitting.EachFits, Plans.PlanParts, Presence.stop as stop_of};
+ghost use Rattle.lft_rows.specs.inner.Passes.{IsPass};
 ghost use Rattle.lft_monitor.specs.inner.Going.{IsGoing, IsFirstBad, IsLost, HasEnded, HasGone, opened};
+ghost use Rattle.lft_monitor.specs.declared.gone.Halt.TheVariants.{AtEnd};
 
+use crate::last::begin_of_last;
 use lft_ir::steps::{Row, is_end, is_start, is_stop, row_at};
 use lft_model::Plan;
 use lft_rows::Pass;
@@ -30,7 +33,7 @@ pub(crate) struct Going {
     pass: Pass,
     /// What the rows so far ask for, with those that stand before the rows at hand.
     stop: Tag,
-    /// How many runs are open, so that a look for one without an end is seldom made.
+    /// At most so many runs are open, so that a look for one without an end is seldom made.
     runs: usize,
     passed: usize,
 }
@@ -49,7 +52,7 @@ fn stop_behind(last: Tag, row: Row) -> Tag
 
 /// The stop, where rows come behind others with this stop.
 pub(crate) fn stop_over(last: Tag, rows: &[Row]) -> Tag
-    requires { (program : Parts) × RowsFit program rows.now }
+    requires { (program : Parts) × EachFits program rows.now }
     ensures { (plan : PlanParts) (t : List TheRow) → last ≡ stop_of plan t → result ≡ stop_of plan (t ++ rows.now) }
 {
     let mut stop = last;
@@ -57,6 +60,19 @@ pub(crate) fn stop_over(last: Tag, rows: &[Row]) -> Tag
         stop = stop_behind(stop, row_at(rows, place));
     }
     stop
+}
+
+/// Whether none of the rows from the place on asks for the stop.
+fn ask_for_none(rows: &[Row], from: usize) -> bool
+    requires { from ≤ length rows.now }
+    ensures { IsTrue result → (plan : PlanParts) (t : List TheRow) → stop_of plan (t ++ rows.now) ≡ stop_of plan (t ++ take from rows.now) }
+{
+    for place in from..rows.len() {
+        if is_stop(&row_at(rows, place).step) {
+            return false;
+        }
+    }
+    true
 }
 
 /// Whether the row at the place is at a later tag than the one before it.
@@ -93,7 +109,7 @@ impl Going {
 
     /// Begins anew, before rows that stand behind others with this stop.
     pub(crate) fn begin(&mut self, alloc: Global, plan: &Plan, last: Tag) -> Result<(), NoMemory>
-        requires { (d t : List TheRow) × IsGoing plan.now d t self.old }
+        requires { IsPass plan.now.program self.old.pass }
         ensures { OnOk result ((done rows : List TheRow) → last ≡ stop_of plan.now done → IsGoing plan.now done rows self.new) }
     {
         self.pass.begin(alloc, plan)?;
@@ -158,9 +174,9 @@ impl Going {
         Ok(None)
     }
 
-    /// Goes on over the rows at hand, up to the first that breaks one of the rules 1 to 4, or behind which
-    /// a run without an end is sure.
-    pub(crate) fn go_over(&mut self, plan: &Plan, rows: &[Row]) -> Result<Halt, NoMemory>
+    /// Goes on over the rows at hand one by one, up to the first that breaks one of the rules 1 to 4, or behind
+    /// which a run without an end is sure.
+    fn go_by_rows(&mut self, plan: &Plan, rows: &[Row]) -> Result<Halt, NoMemory>
         requires fit { RowsFit plan.now.program rows.now }
         requires stands { (d : List TheRow) × IsGoing plan.now d rows.now self.old }
         ensures { IfOk result (λ halt. (done : List TheRow) → IsGoing plan.now done rows.now self.old → HasGone plan.now done rows.now self.new halt) }
@@ -174,5 +190,50 @@ impl Going {
             }
         }
         Ok(Halt::AtEnd)
+    }
+
+    /// Goes on over the rows at hand at once, of which none from there on asks for the stop. It is false where
+    /// one of them breaks one of the rules 1 to 5, and how far they are gone over isn't known then.
+    fn go_at_once(&mut self, plan: &Plan, rows: &[Row]) -> Result<bool, NoMemory>
+        requires fit { RowsFit plan.now.program rows.now }
+        requires stands { (d : List TheRow) × IsGoing plan.now d rows.now self.old }
+        requires stays { (plan : PlanParts) (t : List TheRow) → stop_of plan (t ++ rows.now) ≡ stop_of plan (t ++ take self.old.passed rows.now) }
+        ensures gone { IfOk result (λ yes. IsTrue yes → (done : List TheRow) → IsGoing plan.now done rows.now self.old → HasGone plan.now done rows.now self.new AtEnd) }
+        ensures pass { IfOk result (λ yes. IsPass plan.now.program self.new.pass) }
+    {
+        if let Some(_found) = self.pass.go_on(plan, self.stop, rows, self.passed)? {
+            return Ok(false);
+        }
+        // No row behind its tag ends a run, so one that is open still before the last tag was lost.
+        if let Some(_start) = self.pass.first_open(rows, begin_of_last(rows)) {
+            return Ok(false);
+        }
+        self.passed = rows.len();
+        self.runs = rows.len();
+        Ok(true)
+    }
+
+    /// Goes on over the rows at hand, which stand behind others with this stop, up to the first that breaks one
+    /// of the rules 1 to 4, or behind which a run without an end is sure.
+    // Mostly none does, and then they cost less together than one by one.
+    pub(crate) fn go_over(
+        &mut self,
+        alloc: Global,
+        plan: &Plan,
+        last: Tag,
+        rows: &[Row],
+    ) -> Result<Halt, NoMemory>
+        requires fit { RowsFit plan.now.program rows.now }
+        requires stands { (d : List TheRow) × IsGoing plan.now d rows.now self.old × (last ≡ stop_of plan.now d) }
+        ensures { IfOk result (λ halt. (done : List TheRow) → last ≡ stop_of plan.now done → IsGoing plan.now done rows.now self.old → HasGone plan.now done rows.now self.new halt) }
+    {
+        if !ask_for_none(rows, self.passed) {
+            return self.go_by_rows(plan, rows);
+        }
+        if self.go_at_once(plan, rows)? {
+            return Ok(Halt::AtEnd);
+        }
+        self.begin(alloc, plan, last)?;
+        self.go_by_rows(plan, rows)
     }
 }

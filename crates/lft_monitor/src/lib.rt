@@ -9,6 +9,7 @@ mod found;
 mod gone;
 mod judged;
 mod kept;
+mod last;
 mod laws;
 mod monitor;
 mod open;

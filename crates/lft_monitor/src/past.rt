@@ -103,7 +103,8 @@ impl Past {
             return Err(NoMemory);
         };
         self.low = low;
-        self.stop = stop_over(self.stop, rows);
+        // Rows that ask for the stop are kept.
+        self.stop = stop_over(self.stop, more.as_slice());
         self.drop_some(alloc, plan, is_apart)?;
         Ok(())
     }

@@ -1,9 +1,9 @@
 //! Rows with external inputs among them.
 
-ghost use Rattle.std.specs.Prelude.{◌↔◌, ◌<◌, ◌≤◌, length, IfSome, IfOk, IfErr, IsTrue};
+ghost use Rattle.std.specs.Prelude.{◌↔◌, ◌≤◌, length, IfOk, IsTrue};
 ghost use Rattle.csv.specs.Records.{fields_of};
 ghost use Rattle.lft_ir.specs.Steps.Fits.{RowsFit};
-ghost use Rattle.lft_trace.specs.{inner.LogTables.{InputsFit, IsWithin, ReadsLines}, LogTables.{BeginsAsInput, IsLine, IsNoLine}, Records.records_of};
+ghost use Rattle.lft_trace.specs.{inner.LogTables.{InputsFit, ReadsLines}, LogTables.BeginsAsInput, Records.records_of};
 
 use crate::external_table::{Entry, read_entry};
 use crate::fault::TraceFault;
@@ -22,8 +22,8 @@ use std::alloc::Global;
 /// The line that a record has in a table of its own. The header is line 1.
 const ONLY_LINE: u32 = 2;
 
-/// Most rows have more bytes.
-const BYTES_OF_A_ROW: usize = 32;
+/// Few rows have fewer bytes.
+const BYTES_OF_A_ROW: usize = 22;
 
 /// What a record tells that stands among rows.
 #[derive(Clone, Copy, PartialEq, Eq, Drop)]
@@ -74,32 +74,6 @@ fn begins_as_input(fields: &ByteRecord) -> bool
     }
 }
 
-/// What a record tells. `last` is the reaction of the row before, `next` where the names of a row are
-/// looked for first.
-#[inline(always)]
-fn read_line(
-    names: &ReactionNames,
-    last: Option<u32>,
-    next: NextNames,
-    fields: &ByteRecord,
-) -> Result<Line, LineFault>
-    requires { IfSome last (λ r. r < length names.now.reactions) }
-    ensures line { IfOk result (λ line. IsLine names.now (fields_of fields.now) line) }
-    ensures fault { IfErr result (λ e. IsNoLine names.now (fields_of fields.now) e) }
-    ensures within { IfOk result (λ line. IsWithin names.now line) }
-{
-    if begins_as_input(fields) {
-        return match read_entry(names.program(), fields, ONLY_LINE) {
-            Ok(entry) => Ok(Line::Input(entry)),
-            Err(fault) => Err(LineFault::NoInput(fault)),
-        };
-    }
-    match read_row(names, last, next, fields, ONLY_LINE) {
-        Ok(row) => Ok(Line::Row(row)),
-        Err(fault) => Err(LineFault::NoRow(fault)),
-    }
-}
-
 fn read_lines_of(alloc: Global, names: &ReactionNames, text: &[u8]) -> Result<LogLines, Unread>
     ensures read { IfOk result (λ read. ReadsLines names.now (records_of text.now) read) }
     ensures few { IfOk result (λ read. length read.rows.items ≤ 4000000) }
@@ -124,25 +98,40 @@ fn read_lines_of(alloc: Global, names: &ReactionNames, text: &[u8]) -> Result<Lo
             }
             Err(stop) => return Err(stop),
         }
-        match read_line(names, last, next, &records.fields) {
-            Ok(Line::Row(row)) => {
+        if begins_as_input(&records.fields) {
+            match read_entry(names.program(), &records.fields, ONLY_LINE) {
+                Ok(entry) => {
+                    let rows_before = rows.len();
+                    if inputs.push(Among { rows_before, entry }).is_err() {
+                        return Err(Unread::NoMemory);
+                    }
+                }
+                Err(fault) => {
+                    let fault = Some(LineFault::NoInput(fault));
+                    return Ok(LogLines {
+                        rows,
+                        inputs,
+                        fault,
+                    });
+                }
+            }
+            continue 'lines;
+        }
+        // The row goes to its place at once: it is long, and put into a `Line` it would be moved twice more.
+        match read_row(names, last, next, &records.fields, ONLY_LINE) {
+            Ok(row) => {
                 if rows.push(row).is_err() {
                     return Err(Unread::NoMemory);
                 }
                 last = Some(row.reaction);
                 next = next.after(names.program(), row);
             }
-            Ok(Line::Input(entry)) => {
-                let rows_before = rows.len();
-                if inputs.push(Among { rows_before, entry }).is_err() {
-                    return Err(Unread::NoMemory);
-                }
-            }
             Err(fault) => {
+                let fault = Some(LineFault::NoRow(fault));
                 return Ok(LogLines {
                     rows,
                     inputs,
-                    fault: Some(fault),
+                    fault,
                 });
             }
         }

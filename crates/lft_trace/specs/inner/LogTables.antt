@@ -1,16 +1,11 @@
 -- Inside: tables of rows with external inputs among them: the lines of their records, and why a record is none.
-use Rattle.std.specs.Prelude.{◌≡◌, ◌+◌, ◌<◌, ℕ, length, List, ◌∷◌, ◌++◌, filter_map, All, Option, Some, None, []}
+use Rattle.std.specs.Prelude.{◌≡◌, ◌+◌, ℕ, List, ◌∷◌, ◌++◌, filter_map, All, Option, Some, None, []}
 use Rattle.std.specs.List.{AllZip}
 use Rattle.lft_ir.specs.{Parts.Parts, Steps.Fits.EventFits}
 use Rattle.lft_tag.specs.Tags.{IsRecorded}
 use Rattle.lft_trace.specs.declared.external_table.Entry.{Entry, TheVariants.{Happens, Stops}}
 use Rattle.lft_trace.specs.declared.log_table.{Among.Among, Line.{Line, TheVariants.{Row, Input}}, LineFault.LineFault, LogLines.LogLines}
 use Rattle.lft_trace.specs.LogTables.{IsLine, IsNoLine, row_of}
-
--- a row's reaction is one of the program
-abbrev pub IsWithin : Parts → Line → Type 0
-IsWithin program (Row row) = row.reaction < length program.reactions
-IsWithin program (Input entry) = Unit {0}
 
 -- the external inputs among lines, each with the number of rows before it, of which so many stand before all lines
 abbrev pub inputs_behind : ℕ → List Line → List Among

@@ -9,7 +9,7 @@ pub loop-place-init : goal.loop-place-init
 loop-place-init c = λ plan t is. is ∙ ap (λ (x : List Row). stop plan x) (sym (append-nil t))
 
 pub stop_behind-stop-requires : goal.stop_behind-stop-requires
-stop_behind-stop-requires c = (c.requires.1.each c.loop-place.place c.row_at.result c.row_at.ensures).recorded
+stop_behind-stop-requires c = (c.requires.1 c.loop-place.place c.row_at.result c.row_at.ensures).recorded
 
 pub loop-place-preserved : goal.loop-place-preserved
 loop-place-preserved c = λ plan t is. c.stop_behind-stop.ensures plan (t ++ take c.loop-place.place c.args.rows.now) (c.loop-place.invariant plan t is) ∙ stop_row plan t c.args.rows.now c.loop-place.place c.row_at.result c.row_at.ensures

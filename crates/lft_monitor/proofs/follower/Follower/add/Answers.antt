@@ -31,7 +31,7 @@ go_over-requires-clause-stands c =
     let t = c.requires.stands.0 in
     let is = c.requires.stands.1 in
     let hand = held_more plan t more old now is c.requires.fit refl refl c.in-Ok.ensures.items few in
-    (done_of (t ++ more) now, going_over plan t more old now is hand s rows)
+    (done_of (t ++ more) now, going_over plan t more old now is hand s rows, hand.held.judged.past.stop_is)
 
 pub go_on-requires : goal.go_on-requires
 go_on-requires c =
@@ -45,7 +45,7 @@ go_on-requires c =
     let t = c.requires.stands.0 in
     let is = c.requires.stands.1 in
     let hand = held_more plan t more old now is c.requires.fit refl refl c.in-Ok.ensures.items few in
-    let gone = c.in_ok-go_over.ensures (done_of (t ++ more) now) (going_over plan t more old now is hand s rows) in
+    let gone = c.in_ok-go_over.ensures (done_of (t ++ more) now) hand.held.judged.past.stop_is (going_over plan t more old now is hand s rows) in
     let e = over_end plan t more old now is hand s rows c.go_over.new.self (rw c.in-AtEnd.is at gone) in
     record { few = c.if-self-gt-MOST.false; hand = (t ++ more, e.0); gone = e.1 }
 
@@ -61,7 +61,7 @@ tell-requires c =
     let t = c.requires.stands.0 in
     let is = c.requires.stands.1 in
     let hand = held_more plan t more old now is c.requires.fit refl refl c.in-Ok.ensures.items few in
-    let gone = c.in_ok-go_over.ensures (done_of (t ++ more) now) (going_over plan t more old now is hand s rows) in
+    let gone = c.in_ok-go_over.ensures (done_of (t ++ more) now) hand.held.judged.past.stop_is (going_over plan t more old now is hand s rows) in
     let e = over_row plan t more old now is hand s rows c.go_over.new.self c.in-AtRow.place c.in-AtRow.rule (rw c.in-AtRow.is at gone) in
     let held = held_over plan t more old now is hand s rows c.go_over.new.self in
     let inside : c.in-AtRow.place < length c.extend_from_slice.new.self.items = e.0 in
@@ -79,7 +79,7 @@ tell-requires-in-AtLater c =
     let t = c.requires.stands.0 in
     let is = c.requires.stands.1 in
     let hand = held_more plan t more old now is c.requires.fit refl refl c.in-Ok.ensures.items few in
-    let gone = c.in_ok-go_over.ensures (done_of (t ++ more) now) (going_over plan t more old now is hand s rows) in
+    let gone = c.in_ok-go_over.ensures (done_of (t ++ more) now) hand.held.judged.past.stop_is (going_over plan t more old now is hand s rows) in
     let e = over_later plan t more old now is hand s rows c.go_over.new.self c.in-AtLater.start c.in-AtLater.place (rw c.in-AtLater.is at gone) in
     let held = held_over plan t more old now is hand s rows c.go_over.new.self in
     record { few = c.if-self-gt-MOST.false; place = (e.0, e.1); halt = (t ++ more, held, e.2) }
@@ -94,7 +94,7 @@ returns-in-AtEnd c = IfOk-weaker c.go_on.result _ _ (λ p told t is.
     let s = c.as_slice-2.result.now in
     let rows = c.as_slice-2.ensures.value in
     let hand = held_more plan t more old now is c.requires.fit refl refl c.in-Ok.ensures.items few in
-    let gone = c.in_ok-go_over.ensures (done_of (t ++ more) now) (going_over plan t more old now is hand s rows) in
+    let gone = c.in_ok-go_over.ensures (done_of (t ++ more) now) hand.held.judged.past.stop_is (going_over plan t more old now is hand s rows) in
     let e = over_end plan t more old now is hand s rows c.go_over.new.self (rw c.in-AtEnd.is at gone) in
     told t more e.0 (still_done plan t more old now is hand refl)) c.go_on.ensures
 
@@ -108,7 +108,7 @@ returns-in-AtRow c = IfOk-weaker c.tell.result _ _ (λ p told t is.
     let s = c.as_slice-2.result.now in
     let rows = c.as_slice-2.ensures.value in
     let hand = held_more plan t more old now is c.requires.fit refl refl c.in-Ok.ensures.items few in
-    let gone = c.in_ok-go_over.ensures (done_of (t ++ more) now) (going_over plan t more old now is hand s rows) in
+    let gone = c.in_ok-go_over.ensures (done_of (t ++ more) now) hand.held.judged.past.stop_is (going_over plan t more old now is hand s rows) in
     let e = over_row plan t more old now is hand s rows c.go_over.new.self c.in-AtRow.place c.in-AtRow.rule (rw c.in-AtRow.is at gone) in
     let held = held_over plan t more old now is hand s rows c.go_over.new.self in
     told t more held (still_done plan t more old now is hand refl) e.1) c.tell.ensures
@@ -123,7 +123,7 @@ returns-in-AtLater c = IfOk-weaker c.tell-in-AtLater.result _ _ (λ p told t is.
     let s = c.as_slice-2.result.now in
     let rows = c.as_slice-2.ensures.value in
     let hand = held_more plan t more old now is c.requires.fit refl refl c.in-Ok.ensures.items few in
-    let gone = c.in_ok-go_over.ensures (done_of (t ++ more) now) (going_over plan t more old now is hand s rows) in
+    let gone = c.in_ok-go_over.ensures (done_of (t ++ more) now) hand.held.judged.past.stop_is (going_over plan t more old now is hand s rows) in
     let e = over_later plan t more old now is hand s rows c.go_over.new.self c.in-AtLater.start c.in-AtLater.place (rw c.in-AtLater.is at gone) in
     let held = held_over plan t more old now is hand s rows c.go_over.new.self in
     told t more held (still_done plan t more old now is hand refl) e.2) c.tell-in-AtLater.ensures

@@ -6,6 +6,9 @@ use Rattle.std.proofs.lemmas.Option.{IfSome_then}
 use Rattle.lft_monitor.proofs.Ended.{first_of_rows, keeps_both}
 use Rattle.lft_monitor.proofs.judged.Judged.first_of.Goals as goal
 
+pub stop_over-stop-requires : goal.stop_over-stop-requires
+stop_over-stop-requires c = (c.args.plan.now.program, c.requires.fit.each)
+
 pub returns-in-Ok-Some : goal.returns-in-Ok-Some
 returns-in-Ok-Some c = λ t are earlier.
     let plan = c.args.plan.now in

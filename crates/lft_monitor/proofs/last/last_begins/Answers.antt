@@ -1,7 +1,7 @@
 use Rattle.std.proofs.Common.{arith, refl}
 use Rattle.std.proofs.lemmas.Bool.{false≢true}
 use Rattle.lft_monitor.proofs.Judging.{begins_before, begins_none, begins_other, begins_all, last_one}
-use Rattle.lft_monitor.proofs.follower.last_begins.Goals as goal
+use Rattle.lft_monitor.proofs.last.last_begins.Goals as goal
 
 pub returns-then-end-eq0 : goal.returns-then-end-eq0
 returns-then-end-eq0 c = begins_none c.args.rows.now c.args.end c.if-end-eq0.true
