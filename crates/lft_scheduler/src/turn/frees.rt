@@ -30,14 +30,13 @@ pub(crate) fn least_below(set: &Set, bound: usize) -> Option<u32>
     ensures least { (x y : ℕ) → result ≡ Some x → Has set.now y → x ≤ y }
     ensures none { (y : ℕ) → result ≡ None → y < bound → ¬ Has set.now y }
 {
-    let mut number = 0;
-    'numbers: while number < bound {
-        if number % 64 == 0 && set.has_none(number / 64) {
-            number += 64;
-        } else if set.has(number as u32) {
+    let mut word = 0;
+    'words: while word < bound / 64 && set.has_none(word) {
+        word += 1;
+    }
+    'numbers: for number in word * 64..bound {
+        if set.has(number as u32) {
             return Some(number as u32);
-        } else {
-            number += 1;
         }
     }
     None
