@@ -2,8 +2,7 @@ use Rattle.std.proofs.Common.{◌<◌, ◌≤◌, ◌⊎◌, ℕ, length, sym, �
 use Rattle.std.proofs.lemmas.List.{length-map}
 use Rattle.lft_graph.specs.Graph.{IsGraphOf}
 use Rattle.lft_scheduler.specs.{declared.turn.seats.Seat.Seat, inner.{Turns.{TurnParts, IsReady, IsLeastReady, NoneOpen, NonePending}, Seats.phases_of}}
-use Rattle.lft_scheduler.proofs.{Blocked.IsFree, Blocking.{least_ready, ready_free, none_pending}}
-use Rattle.lft_scheduler.proofs.Spreading.{IsHeld, spreads, has_free, free_has, held_or_not}
+use Rattle.lft_scheduler.proofs.{Blocked.IsFree, Blocking.{least_ready, ready_free, none_pending}, Spreading.{IsHeld, spreads, has_free, free_has, held_or_not}}
 use Rattle.lft_scheduler.proofs.turn.Turn.first.Goals as goal
 
 pub returns-clause-ready : goal.returns-clause-ready
