@@ -20,6 +20,7 @@ pub mod Mirroring
 pub mod Spreading
 pub mod Changing
 pub mod Starting
+pub mod Frees
 pub mod RunsOpen
 pub mod Stops
 pub mod LedFirings

@@ -1,9 +1,10 @@
 -- The short lists turned round.
-use Rattle.std.proofs.Common.{◌≡◌, ◌≢◌, ℕ, suc, ◌+◌, ◌<◌, ◌≤◌, ◌⊎◌, inl, inr, List, [], ◌∷◌, ◌++◌, length, sym, ap, ◌∙◌, subst, arith, Some, slice_get, slice_set, slice_index_or, drop, AllPairs}
+use Rattle.std.proofs.Common.{◌≡◌, ◌≢◌, ℕ, suc, ◌+◌, ◌<◌, ◌≤◌, ◌⊎◌, inl, inr, List, [], ◌∷◌, ◌++◌, length, sym, ap, ◌∙◌, subst, arith, Option, Some, unwrap_or, slice_get, slice_set, slice_index_or, drop, AllPairs}
 use Rattle.std.proofs.lemmas.{Option.{slice_get_within, slice_get-get_or}, Bool.{cases_eq, cases_lt, cases_order}}
 use Rattle.lft_ir.specs.Parts.{Parts}
 use Rattle.lft_graph.specs.Graph.{GraphParts, IsGraphOf}
 use Rattle.lft_lists.proofs.Places.{get_there, get_write_cases, length_written, same_at}
+use Rattle.lft_queue.specs.inner.Coming.NumberLists.{list_at}
 use Rattle.lft_scheduler.specs.inner.Seats.{hit, times, AreInside, AreOnce, IsNoted, IsMirrored, IsMirror}
 use Rattle.lft_scheduler.proofs.Adding.{hit_same, hit_apart, times_drop, times_at, times_back}
 
@@ -42,6 +43,14 @@ noted_more r place member mine l old new w e f = record {
         let h = hit_apart x r n in
         omega arith
     others a x k m g n (inr c) = w.others a x k m g c.1 n
+
+-- of no reaction, all lists are empty
+pub mirrored_none : (before after : List (List ℕ)) → length after ≡ length before → ((a : ℕ) → list_at after a ≡ []) → IsMirrored before 0 after
+mirrored_none before after long none = record {
+  as_long = long;
+  there = λ a r list own f g l. absurd (omega arith);
+  none = λ a r list f l. ap (times r) (sym (ap (λ (o : Option (List ℕ)). unwrap_or o []) f) ∙ none a);
+}
 
 pub mirrored_more : (before : List (List ℕ)) (count : ℕ) (mine : List ℕ) (after new : List (List ℕ)) → IsMirrored before count after → slice_get before count ≡ Some mine → IsNoted count mine [] after new → IsMirrored before (count + 1) new
 mirrored_more before count mine after new w e n = record {

@@ -1,10 +1,11 @@
 -- Seats at rest tell which reactions are blocked and which are free.
 use Rattle.std.proofs.Common.{◌≡◌, ℕ, zero, suc, ◌<◌, ◌≤◌, ◌⊎◌, inl, inr, List, length, refl, sym, ap, ◌∙◌, subst, arith, Option, Some, slice_get, Contains, option_map}
 use Rattle.std.proofs.lemmas.{Option.{slice_get_within, slice_get-map}, Bool.{false≢true, cases_lt}}
-use mathlib.Core.Bool.{Bool, true}
+use mathlib.Core.Bool.{true}
+use Rattle.lft_graph.specs.Sets.{Has}
 use Rattle.lft_lists.proofs.Places.{get_there, same_at, contains_at, at_contains}
 use Rattle.lft_scheduler.specs.declared.turn.{phase.Phase.{Phase, TheVariants.{Idle, Waiting, Open}}, seats.Seat.Seat}
-use Rattle.lft_scheduler.specs.inner.{Flags.IsFlagged, Seats.{busy_at, busy, free_at, free, IsAtRest, IsMirror, phases_of}}
+use Rattle.lft_scheduler.specs.inner.Seats.{busy_at, busy, free_at, IsAtRest, IsMirror, AreFree, phases_of}
 use Rattle.lft_scheduler.proofs.{Blocked.{IsBusy, IsFree, SpreadsAlong}, Adding.{times_at, times_back, load_some, load_back}, ToldSeats.busy_waits}
 
 -- some of the short list of r are busy
@@ -61,7 +62,7 @@ held_or_not seats r l = at (get_there seats r l)
     at : (s : Seat) × (slice_get seats r ≡ Some s) → IsHeld seats r ⊎ (¬ IsHeld seats r)
     at s = elim (cases_lt 0 s.0.waits) [ inl w ↦ inl (s.0, s.1, w) | inr w ↦ inr (λ h. (let n : h.0 ≡ s.0 = same_at seats r r h.0 s.0 h.1 s.1 refl in let m : 0 < s.0.waits = subst (λ (x : Seat). 0 < x.waits) n h.2 in absurd (omega arith))) ]
 
-module _ (before after : List (List ℕ)) (seats : List Seat) (flags : List Bool) (w : IsAtRest after seats flags) (m : IsMirror before after) where
+module _ (before after : List (List ℕ)) (seats : List Seat) (w : IsAtRest after seats) (m : IsMirror before after) where
   pub spreads : SpreadsAlong before (phases_of seats) (IsHeld seats)
   spreads r mine e = (forth, back)
     where
@@ -96,23 +97,19 @@ module _ (before after : List (List ℕ)) (seats : List Seat) (flags : List Bool
           let v = w.waits r z.0 z.1 in
           (z.0, z.1, omega arith)
 
-  pub flag_free : (r : ℕ) → IsFlagged flags r → IsFree (phases_of seats) (IsHeld seats) r
-  flag_free r f =
-      let i = slice_get_within flags r true f in
-      let a = w.as_long in
-      let b = w.flags_as_long in
-      let s = get_there seats r (omega arith) in
-      let g = w.frees r s.0 s.1 in
-      let q : free s.0 ≡ true = cc in
-      let p = free_parts s.0.phase s.0.waits q in
+module _ (seats : List Seat) (frees : List ℕ) (w : AreFree seats frees) where
+  pub has_free : (r : ℕ) → r < length seats → Has frees r → IsFree (phases_of seats) (IsHeld seats) r
+  has_free r l h =
+      let s = get_there seats r l in
+      let p = free_parts s.0.phase s.0.waits ((w.each r s.0 s.1).1 h) in
       let z = p.1 in
       (phase_there seats r s.0 s.1 ∙ ap Some p.0, λ h. (let n : h.0 ≡ s.0 = same_at seats r r h.0 s.0 h.1 s.1 refl in let l : 0 < s.0.waits = subst (λ (x : Seat). 0 < x.waits) n h.2 in omega arith))
 
-  pub free_flag : (r : ℕ) → IsFree (phases_of seats) (IsHeld seats) r → IsFlagged flags r
-  free_flag r f =
+  pub free_has : (r : ℕ) → IsFree (phases_of seats) (IsHeld seats) r → (r < length seats) × Has frees r
+  free_has r f =
       let s = phase_back seats r Waiting f.0 in
       let z : s.0.waits ≡ 0 = at s.0 s.1 (cases_lt 0 s.0.waits) in
-      w.frees r s.0 s.1 ∙ ap Some (ap (λ p. free_at p s.0.waits) s.2 ∙ free_made s.0.waits z)
+      (slice_get_within seats r s.0 s.1, (w.each r s.0 s.1).0 (ap (λ p. free_at p s.0.waits) s.2 ∙ free_made s.0.waits z))
     where
       at : (s : Seat) → slice_get seats r ≡ Some s → (0 < s.waits) ⊎ (s.waits ≤ 0) → s.waits ≡ 0
       at s e (inl l) = absurd (f.1 (s, e, l))

@@ -1,9 +1,8 @@
 -- Seats where no reaction is triggered.
-use Rattle.std.proofs.Common.{◌≡◌, ℕ, zero, suc, List, [], ◌∷◌, length, refl, sym, ap, ◌∙◌, arith, Some, replicate}
-use Rattle.std.proofs.lemmas.Option.{slice_get_within}
+use Rattle.std.proofs.Common.{◌≡◌, ℕ, zero, suc, List, [], ◌∷◌, length, refl, sym, ap, ◌∙◌, arith, replicate}
 use mathlib.Core.Bool.{false}
-use Rattle.lft_lists.proofs.Places.{get_there, get_same, length_same}
-use Rattle.lft_scheduler.specs.{declared.turn.{phase.Phase.TheVariants.Idle, seats.Seat.Seat}, inner.Seats.{busy, free, load, IsAtRest, phases_of}}
+use Rattle.lft_lists.proofs.Places.{get_same, length_same}
+use Rattle.lft_scheduler.specs.{declared.turn.{phase.Phase.TheVariants.Idle, seats.Seat.Seat}, inner.Seats.{busy, load, IsAtRest, phases_of}}
 
 abbrev pub idle_seat : Seat
 idle_seat = record { phase = Idle; waits = 0; counted = false }
@@ -17,11 +16,9 @@ pub phases_idle : (n : ℕ) → phases_of (replicate n idle_seat) ≡ replicate 
 phases_idle zero = refl
 phases_idle (suc n) = ap (λ l. Idle ∷ l) (phases_idle n)
 
-pub idle_rest : (n : ℕ) (after : List (List ℕ)) → length after ≡ n → IsAtRest after (replicate n idle_seat) (replicate n false)
+pub idle_rest : (n : ℕ) (after : List (List ℕ)) → length after ≡ n → IsAtRest after (replicate n idle_seat)
 idle_rest n after l = record {
   as_long = length_same n idle_seat ∙ sym l;
-  flags_as_long = length_same n false ∙ sym l;
   waits = λ r s e. ap (λ (x : Seat). x.waits) (get_same n r idle_seat s e) ∙ sym (load_idle n after r);
   counted = λ r s e. (let q = get_same n r idle_seat s e in ap busy q ∙ ap (λ (x : Seat). x.counted) (sym q));
-  frees = λ r s e. (let i = slice_get_within (replicate n idle_seat) r s e in let m = length_same n idle_seat in let k = length_same n false in let g = get_there (replicate n false) r (omega arith) in g.1 ∙ ap Some (get_same n r false g.0 g.1 ∙ ap free (sym (get_same n r idle_seat s e))));
 }

@@ -4,31 +4,26 @@ use Rattle.std.proofs.lemmas.{Option.slice_get_within, Bool.cases_eq}
 use mathlib.Core.Bool.{Bool, not}
 use Rattle.lft_lists.proofs.Places.{get_written, get_unwritten, get_write_cases, length_written, same_at}
 use Rattle.lft_scheduler.specs.declared.turn.seats.Seat.{Seat}
-use Rattle.lft_scheduler.specs.inner.Seats.{busy_at, busy, free_at, free, differ, tally, times, load, gain, loss, IsAtRest, IsMoving, IsStacked, IsPushed}
+use Rattle.lft_scheduler.specs.inner.Seats.{busy_at, busy, differ, tally, times, load, gain, loss, IsAtRest, IsMoving, IsStacked, IsPushed}
 use Rattle.lft_scheduler.proofs.Adding.{not_self, differ_same, differ_not, gain_none, loss_none, tally_written, tally_some, tally_same, tally_small, load_flip, load_same}
 
 same_busy : (s y : Seat) → y.phase ≡ s.phase → y.waits ≡ s.waits → busy y ≡ busy s
 same_busy s y e f = ap (λ p. busy_at p y.waits) e ∙ ap (busy_at s.phase) f
 
-same_free : (s y : Seat) → y.phase ≡ s.phase → y.waits ≡ s.waits → free y ≡ free s
-same_free s y e f = ap (λ p. free_at p y.waits) e ∙ ap (free_at s.phase) f
-
 -- at rest nothing is on the stack
-pub rest_moving : (up : Bool) (after : List (List ℕ)) (seats : List Seat) (flags : List Bool) (stack : List ℕ) → IsAtRest after seats flags → length stack ≡ length after → IsMoving up after seats flags stack 0 []
-rest_moving up after seats flags stack w l = record {
+pub rest_moving : (up : Bool) (after : List (List ℕ)) (seats : List Seat) (stack : List ℕ) → IsAtRest after seats → length stack ≡ length after → IsMoving up after seats stack 0 []
+rest_moving up after seats stack w l = record {
   as_long = w.as_long;
-  flags_as_long = w.flags_as_long;
   room = l;
   waits = λ r s e. (let a = w.waits r s e in let g = gain_none up in let h = loss_none up in omega arith);
   stacked = λ i r m e. absurd (omega arith);
   once = λ i j r m n e f. absurd (omega arith);
   counted = λ r s e. inl (w.counted r s e);
   total = (let t = tally_same (λ s. differ up (busy s)) (λ s. differ up s.counted) seats (λ i x e. ap (differ up) (w.counted i x e)) in omega arith);
-  frees = w.frees;
 }
 
 -- one is taken off the stack, and counts as it is
-module _ (up : Bool) (after : List (List ℕ)) (seats : List Seat) (flags : List Bool) (stack : List ℕ) (top a : ℕ) (s y : Seat) (list : List ℕ) (w : IsMoving up after seats flags stack (top + 1) []) (es : slice_get stack top ≡ Some a) (e : slice_get seats a ≡ Some s) (el : slice_get after a ≡ Some list) (phase : y.phase ≡ s.phase) (waits : y.waits ≡ s.waits) (now : y.counted ≡ up) where
+module _ (up : Bool) (after : List (List ℕ)) (seats : List Seat) (stack : List ℕ) (top a : ℕ) (s y : Seat) (list : List ℕ) (w : IsMoving up after seats stack (top + 1) []) (es : slice_get stack top ≡ Some a) (e : slice_get seats a ≡ Some s) (el : slice_get after a ≡ Some list) (phase : y.phase ≡ s.phase) (waits : y.waits ≡ s.waits) (now : y.counted ≡ up) where
   was_stacked : (x : Seat) × (slice_get seats a ≡ Some x) × (x.counted ≡ not up) × (busy x ≡ up)
   was_stacked = w.stacked top a (omega arith) es
 
@@ -77,10 +72,6 @@ module _ (up : Bool) (after : List (List ℕ)) (seats : List Seat) (flags : List
       at (inl b) = inl b
       at (inr t) = inr (t.0, (let l : t.0 < top + 1 = t.1 in let n : t.0 ≢ top = λ j. c.0 (same_at stack t.0 top r a t.2 es j) in omega arith), t.2)
 
-  popped_frees : (r : ℕ) (q : Seat) → ((r ≡ a) × (y ≡ q)) ⊎ ((r ≢ a) × (slice_get seats r ≡ Some q)) → slice_get flags r ≡ Some (free q)
-  popped_frees r q (inl c) = subst (λ j. slice_get flags j ≡ Some (free q)) (sym c.0) (w.frees a s e ∙ ap Some (sym (same_free s y phase waits) ∙ ap free c.1))
-  popped_frees r q (inr c) = w.frees r q c.1
-
   pub popped_fewer : tally (λ x. differ up x.counted) (slice_set seats a y) + 1 ≡ tally (λ x. differ up x.counted) seats
   popped_fewer =
       let t = tally_written (λ x. differ up x.counted) seats a s y e in
@@ -88,21 +79,19 @@ module _ (up : Bool) (after : List (List ℕ)) (seats : List Seat) (flags : List
       let n : differ up y.counted ≡ 0 = ap (differ up) now ∙ differ_same up in
       omega arith
 
-  pub popped : IsMoving up after (slice_set seats a y) flags stack top list
+  pub popped : IsMoving up after (slice_set seats a y) stack top list
   popped = record {
     as_long = length_written seats a y ∙ w.as_long;
-    flags_as_long = w.flags_as_long;
     room = w.room;
     waits = λ r q f. popped_waits r q (cases r q f);
     stacked = popped_stacked;
     once = λ i j r l m f g. w.once i j r (omega arith) (omega arith) f g;
     counted = λ r q f. popped_counted r q (cases r q f);
     total = (let f = popped_fewer in let o = w.total in let t = tally_written (λ x. differ up (busy x)) seats a s y e in let b : differ up (busy y) ≡ differ up (busy s) = ap (differ up) same in omega arith);
-    frees = λ r q f. popped_frees r q (cases r q f);
   }
 
 -- what is kept for a reaction changes, and whether it counts doesn't
-module _ (up : Bool) (after : List (List ℕ)) (seats : List Seat) (flags : List Bool) (stack : List ℕ) (top r : ℕ) (s y : Seat) (rest more : List ℕ) (w : IsMoving up after seats flags stack top rest) (e : slice_get seats r ≡ Some s) (same : y.counted ≡ s.counted) (own : y.waits + gain up (times r more) ≡ load seats after r + loss up (times r more)) (others : (q : ℕ) → q ≢ r → times q more ≡ times q rest) where
+module _ (up : Bool) (after : List (List ℕ)) (seats : List Seat) (stack : List ℕ) (top r : ℕ) (s y : Seat) (rest more : List ℕ) (w : IsMoving up after seats stack top rest) (e : slice_get seats r ≡ Some s) (same : y.counted ≡ s.counted) (own : y.waits + gain up (times r more) ≡ load seats after r + loss up (times r more)) (others : (q : ℕ) → q ≢ r → times q more ≡ times q rest) where
   IsOneOf : ℕ → Seat → Type 0
   IsOneOf q x = ((q ≡ r) × (y ≡ x)) ⊎ ((q ≢ r) × (slice_get seats q ≡ Some x))
 
@@ -124,11 +113,6 @@ module _ (up : Bool) (after : List (List ℕ)) (seats : List Seat) (flags : List
       let o : x.waits + gain up (times q more) ≡ load seats after q + loss up (times q more) = subst (λ (n : ℕ). x.waits + gain up n ≡ load seats after q + loss up n) (sym (others q c.0)) (w.waits q x c.1) in
       omega arith
 
-  written_frees : (q : ℕ) (x : Seat) → IsOneOf q x → slice_get (slice_set flags r (free y)) q ≡ Some (free x)
-  unfolding IsOneOf
-  written_frees q x (inl c) = subst (λ j. slice_get (slice_set flags r (free y)) j ≡ Some (free x)) (sym c.0) (get_written flags r (free y) (let l = slice_get_within seats r s e in let m = w.as_long in let n = w.flags_as_long in omega arith) ∙ ap (λ t. Some (free t)) c.1)
-  written_frees q x (inr c) = get_unwritten flags r q (free y) c.0 ∙ w.frees q x c.1
-
   module _ (kept : busy y ≡ busy s) where
     stay_stacked : (i q : ℕ) → i < top → slice_get stack i ≡ Some q → (x : Seat) × (slice_get (slice_set seats r y) q ≡ Some x) × (x.counted ≡ not up) × (busy x ≡ up)
     stay_stacked i q l f = at (w.stacked i q l f) (cases_eq q r)
@@ -148,17 +132,15 @@ module _ (up : Bool) (after : List (List ℕ)) (seats : List Seat) (flags : List
         at (inr t) = inr (t.0, t.1, t.2 ∙ ap Some (sym c.0))
     stay_counted q x (inr c) = w.counted q x c.1
 
-    pub written_stays : IsMoving up after (slice_set seats r y) (slice_set flags r (free y)) stack top more
+    pub written_stays : IsMoving up after (slice_set seats r y) stack top more
     written_stays = record {
       as_long = length_written seats r y ∙ w.as_long;
-      flags_as_long = length_written flags r (free y) ∙ w.flags_as_long;
       room = w.room;
       waits = λ q x f. written_waits q x (one_of q x f);
       stacked = stay_stacked;
       once = w.once;
       counted = λ q x f. stay_counted q x (one_of q x f);
       total = (let o = w.total in let t = tally_written (λ x. differ up (busy x)) seats r s y e in let b : differ up (busy y) ≡ differ up (busy s) = ap (differ up) kept in let u = tally_written (λ x. differ up x.counted) seats r s y e in let c : differ up y.counted ≡ differ up s.counted = ap (differ up) same in omega arith);
-      frees = λ q x f. written_frees q x (one_of q x f);
     }
 
   module _ (before : busy s ≡ not up) (now : busy y ≡ up) where
@@ -212,17 +194,15 @@ module _ (up : Bool) (after : List (List ℕ)) (seats : List Seat) (flags : List
         at (inl b) = inl b
         at (inr t) = let l : t.0 < top = t.1 in inr (t.0, omega arith, get_unwritten stack top t.0 r (λ z. absurd (omega arith)) ∙ t.2)
 
-    pub written_goes : IsMoving up after (slice_set seats r y) (slice_set flags r (free y)) (slice_set stack top r) (top + 1) more
+    pub written_goes : IsMoving up after (slice_set seats r y) (slice_set stack top r) (top + 1) more
     written_goes = record {
       as_long = length_written seats r y ∙ w.as_long;
-      flags_as_long = length_written flags r (free y) ∙ w.flags_as_long;
       room = length_written stack top r ∙ w.room;
       waits = λ q x f. written_waits q x (one_of q x f);
       stacked = λ i q l f. push_stacked i q l (push_cases i q f);
       once = λ i j q l m f g. push_once i j q l m (push_cases i q f) (push_cases j q g);
       counted = λ q x f. push_counted q x (one_of q x f);
       total = (let o = w.total in let t = tally_written (λ x. differ up (busy x)) seats r s y e in let a : differ up (busy y) ≡ 0 = ap (differ up) now ∙ differ_same up in let b : differ up (busy s) ≡ 1 = ap (differ up) before ∙ differ_not up in let u = tally_written (λ x. differ up x.counted) seats r s y e in let c : differ up y.counted ≡ differ up s.counted = ap (differ up) same in omega arith);
-      frees = λ q x f. written_frees q x (one_of q x f);
     }
 
   -- either it stays as busy as it was, or it goes the way of the others
@@ -233,10 +213,10 @@ module _ (up : Bool) (after : List (List ℕ)) (seats : List Seat) (flags : List
   room_to_turn (inl k) n = absurd (n k)
   room_to_turn (inr k) n = has_room k.0 k.1
 
-  pub written_moves : (stack_after : List ℕ) (top_after : ℕ) → Turns → IsPushed (busy s) (busy y) stack top r stack_after top_after → IsMoving up after (slice_set seats r y) (slice_set flags r (free y)) stack_after top_after more
+  pub written_moves : (stack_after : List ℕ) (top_after : ℕ) → Turns → IsPushed (busy s) (busy y) stack top r stack_after top_after → IsMoving up after (slice_set seats r y) stack_after top_after more
   written_moves stack_after top_after (inl k) p =
       let q = p.same k in
-      subst (λ t. IsMoving up after (slice_set seats r y) (slice_set flags r (free y)) stack_after t more) (sym q.1) (subst (λ l. IsMoving up after (slice_set seats r y) (slice_set flags r (free y)) l top more) (sym q.0) (written_stays k))
+      subst (λ t. IsMoving up after (slice_set seats r y) stack_after t more) (sym q.1) (subst (λ l. IsMoving up after (slice_set seats r y) l top more) (sym q.0) (written_stays k))
   written_moves stack_after top_after (inr k) p =
       let q = p.pushed (λ z. not_self up (sym k.1 ∙ z ∙ k.0)) in
-      subst (λ t. IsMoving up after (slice_set seats r y) (slice_set flags r (free y)) stack_after t more) (sym q.1) (subst (λ l. IsMoving up after (slice_set seats r y) (slice_set flags r (free y)) l (top + 1) more) (sym q.0) (written_goes k.0 k.1))
+      subst (λ t. IsMoving up after (slice_set seats r y) stack_after t more) (sym q.1) (subst (λ l. IsMoving up after (slice_set seats r y) l (top + 1) more) (sym q.0) (written_goes k.0 k.1))

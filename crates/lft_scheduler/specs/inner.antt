@@ -2,7 +2,6 @@ pub mod Agendas
 pub mod Events
 pub mod Filling
 pub mod Firings
-pub mod Flags
 pub mod Listeners
 pub mod Lists
 pub mod OpenRuns

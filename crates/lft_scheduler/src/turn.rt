@@ -6,21 +6,20 @@ ghost use Rattle.lft_graph.specs.Graph.{IsGraphOf};
 ghost use Rattle.lft_scheduler.specs.declared.turn.phase.Phase.TheVariants.{Idle, Waiting, Open};
 ghost use Rattle.lft_scheduler.specs.inner.Turns.{IsPending, IsReady, IsLeastReady, NoneOpen, NonePending};
 
-mod members;
+mod frees;
 mod mirror;
 mod moving;
-mod numbers;
 mod phase;
 mod seats;
 
-use crate::turn::members::ReactionList;
+use crate::turn::frees::least_below;
 use crate::turn::mirror::mirror;
 use crate::turn::moving::change;
-use crate::turn::numbers::NumberSet;
 use crate::turn::phase::is_pending;
 use crate::turn::seats::{Seat, seat_at};
-use lft_graph::Graph;
+use lft_graph::{Graph, Set};
 use lft_ir::Program;
+use lft_queue::coming::NumberLists;
 use lft_tag::NoMemory;
 pub(crate) use phase::Phase;
 use std::alloc::Global;
@@ -37,9 +36,9 @@ use std::marker::Model;
 #[derive(Drop)]
 pub(crate) struct Turn {
     graph: Graph,
-    after: Vec<ReactionList>,
+    after: NumberLists,
     seats: Vec<Seat>,
-    frees: NumberSet,
+    frees: Set,
     stack: Vec<u32>,
 }
 
@@ -50,7 +49,7 @@ impl Model for Turn {
 
     ghost view = { λ a. record { graph = a.graph; phases = phases_of a.seats.items } };
 
-    ghost invariant = { λ a. IsKept a.graph a.after.items a.seats.items a.frees a.stack.items };
+    ghost invariant = { λ a. IsKept a.graph a.after a.seats.items a.frees a.stack.items };
 }
 
 impl Turn {
@@ -69,7 +68,7 @@ impl Turn {
             counted: false,
         };
         let seats = vec![in alloc; idle; count]?;
-        let frees = NumberSet::new(alloc, count)?;
+        let frees = Set::with_room(alloc, count)?;
         let stack = vec![in alloc; 0; count]?;
         Ok(Turn {
             graph,
@@ -132,7 +131,7 @@ impl Turn {
         ensures none { (program : Parts) (r : ℕ) → IsGraphOf program self.now.graph → result ≡ None → ¬ IsReady program self.now.phases r }
         ensures over { (program : Parts) → IsGraphOf program self.now.graph → result ≡ None → NoneOpen self.now.phases → NonePending self.now.phases }
     {
-        self.frees.first()
+        least_below(&self.frees, self.seats.len())
     }
 
     /// The run of the reaction starts.

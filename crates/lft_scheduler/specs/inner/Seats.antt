@@ -1,7 +1,7 @@
 -- What is kept for each reaction, and what is told on. The contracts of private functions alone need this file.
-use Rattle.std.specs.Prelude.{◌≡◌, ◌≢◌, ◌⊎◌, ℕ, zero, suc, ◌+◌, ◌*◌, ◌<◌, ◌≤◌, List, [], ◌∷◌, Bool, true, false, not, Some, slice_get, slice_set, length, map}
+use Rattle.std.specs.Prelude.{◌≡◌, ◌≢◌, ◌↔◌, ◌⊎◌, ℕ, zero, suc, ◌+◌, ◌*◌, ◌<◌, ◌≤◌, List, [], ◌∷◌, Bool, true, false, not, IsTrue, Some, slice_get, slice_set, length, map}
 use Rattle.lft_scheduler.specs.{declared.turn.{phase.Phase.{Phase, TheVariants.{Idle, Waiting, Open}}, seats.Seat.Seat}, inner.Turns.HasProgram}
-use Rattle.lft_graph.specs.Graph.{GraphParts}
+use Rattle.lft_graph.specs.{Graph.GraphParts, Sets.Has}
 
 -- a reaction as far as this, with so many busy ones before it, is busy
 abbrev pub busy_at : Phase → ℕ → Bool
@@ -24,6 +24,11 @@ free_at Open n = false
 -- the reaction is triggered, and neither started nor held up
 abbrev pub free : Seat → Bool
 free s = free_at s.phase s.waits
+
+-- the set has the reactions that may start, and room for all
+pub record AreFree (seats : List Seat) (frees : List ℕ) : Type 0 where
+  pub room : length seats ≤ 64 * length frees
+  pub each : (r : ℕ) (s : Seat) → slice_get seats r ≡ Some s → IsTrue (free s) ↔ Has frees r
 
 -- 1 for true, 0 for false
 abbrev pub one : Bool → ℕ
@@ -81,28 +86,24 @@ abbrev pub AreOnce : List (List ℕ) → Type 0
 AreOnce after = (a r : ℕ) (list : List ℕ) → slice_get after a ≡ Some list → times r list ≤ 1
 
 -- the seats at rest: each reaction knows how many of its short list are busy, and counts as busy where it is
-pub record IsAtRest (after : List (List ℕ)) (seats : List Seat) (flags : List Bool) : Type 0 where
+pub record IsAtRest (after : List (List ℕ)) (seats : List Seat) : Type 0 where
   pub as_long : length seats ≡ length after
-  pub flags_as_long : length flags ≡ length after
   pub waits : (r : ℕ) (s : Seat) → slice_get seats r ≡ Some s → s.waits ≡ load seats after r
   pub counted : (r : ℕ) (s : Seat) → slice_get seats r ≡ Some s → busy s ≡ s.counted
-  pub frees : (r : ℕ) (s : Seat) → slice_get seats r ≡ Some s → slice_get flags r ≡ Some (free s)
 
 -- r is one of the first in the stack
 abbrev pub IsStacked : List ℕ → ℕ → ℕ → Type 0
 IsStacked stack top r = (i : ℕ) × (i < top) × (slice_get stack i ≡ Some r)
 
 -- seats on the way to rest: the reactions in the stack became busy (up) or no longer busy, and don't count as it yet; the last one that was taken off has still to tell the rest of its list
-pub record IsMoving (up : Bool) (after : List (List ℕ)) (seats : List Seat) (flags : List Bool) (stack : List ℕ) (top : ℕ) (rest : List ℕ) : Type 0 where
+pub record IsMoving (up : Bool) (after : List (List ℕ)) (seats : List Seat) (stack : List ℕ) (top : ℕ) (rest : List ℕ) : Type 0 where
   pub as_long : length seats ≡ length after
-  pub flags_as_long : length flags ≡ length after
   pub room : length stack ≡ length after
   pub waits : (r : ℕ) (s : Seat) → slice_get seats r ≡ Some s → s.waits + gain up (times r rest) ≡ load seats after r + loss up (times r rest)
   pub stacked : (i r : ℕ) → i < top → slice_get stack i ≡ Some r → (s : Seat) × (slice_get seats r ≡ Some s) × (s.counted ≡ not up) × (busy s ≡ up)
   pub once : (i j r : ℕ) → i < top → j < top → slice_get stack i ≡ Some r → slice_get stack j ≡ Some r → i ≡ j
   pub counted : (r : ℕ) (s : Seat) → slice_get seats r ≡ Some s → (busy s ≡ s.counted) ⊎ IsStacked stack top r
   pub total : top + tally (λ s. differ up (busy s)) seats ≡ uncounted up seats
-  pub frees : (r : ℕ) (s : Seat) → slice_get seats r ≡ Some s → slice_get flags r ≡ Some (free s)
 
 -- r is put on the stack where it became busy or no longer busy
 pub record IsPushed (was now : Bool) (stack : List ℕ) (top r : ℕ) (stack_after : List ℕ) (top_after : ℕ) : Type 0 where
@@ -134,8 +135,9 @@ pub record IsNoted (r : ℕ) (mine rest : List ℕ) (old new : List (List ℕ)) 
   pub others : (a x : ℕ) (l m : List ℕ) → slice_get old a ≡ Some l → slice_get new a ≡ Some m → x ≢ r → times x m ≡ times x l
 
 -- what is kept between two changes
-pub record IsKept (graph : GraphParts) (after : List (List ℕ)) (seats : List Seat) (flags : List Bool) (stack : List ℕ) : Type 0 where
+pub record IsKept (graph : GraphParts) (after : List (List ℕ)) (seats : List Seat) (set stack : List ℕ) : Type 0 where
   pub program : HasProgram graph
   pub mirror : IsMirror graph.before after
-  pub rest : IsAtRest after seats flags
+  pub rest : IsAtRest after seats
+  pub frees : AreFree seats set
   pub room : length stack ≡ length after

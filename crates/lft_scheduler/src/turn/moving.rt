@@ -3,48 +3,40 @@
 
 ghost use Rattle.std.specs.Prelude.{◌≡◌, ◌≢◌, ℕ, List, [], true, false, ◌+◌, ◌<◌, ◌≤◌, length, slice_get, slice_set, Some};
 ghost use Rattle.lft_scheduler.specs.declared.turn.seats.Seat.{Seat};
-ghost use Rattle.lft_scheduler.specs.inner.Seats.{busy, free, IsAtRest, IsPushed, IsMoving, AreInside, AreOnce, KeepsPhases, phases_of, uncounted};
+ghost use Rattle.lft_scheduler.specs.inner.Seats.{busy, IsAtRest, IsPushed, IsMoving, AreFree, AreInside, AreOnce, KeepsPhases, phases_of, uncounted};
 
-use crate::turn::members::ReactionList;
-use crate::turn::numbers::NumberSet;
+use crate::turn::frees::mark;
 use crate::turn::phase::{Phase, is_pending};
-use crate::turn::seats::{Seat, is_busy, is_free, seat_at};
+use crate::turn::seats::{Seat, is_busy, seat_at};
+use lft_graph::Set;
 use lft_lists::item_at;
+use lft_queue::coming::NumberLists;
 
 /// Writes what is kept for a reaction. Where it became busy, or no longer busy, it goes on the
 /// stack.
 pub(crate) fn write(
     seats: &mut [Seat],
-    frees: &mut NumberSet,
+    frees: &mut Set,
     stack: &mut [u32],
     top: usize,
     reaction: u32,
     seat: Seat,
 ) -> usize
     requires known { reaction < length seats.old }
-    requires few { length seats.old ≤ 10000 }
-    requires frees { length frees.old ≡ length seats.old }
+    requires frees { AreFree seats.old frees.old }
     requires room { (s : Seat) → slice_get seats.old reaction ≡ Some s → busy seat ≢ busy s → top < length stack.old }
     ensures seats { seats.new ≡ slice_set seats.old reaction seat }
-    ensures frees { frees.new ≡ slice_set frees.old reaction (free seat) }
+    ensures frees { AreFree seats.new frees.new }
     ensures pushed { (s : Seat) → slice_get seats.old reaction ≡ Some s → IsPushed (busy s) (busy seat) stack.old top reaction stack.new result }
 {
-    let was = is_busy(seat_at(seats, reaction));
+    let was = seat_at(seats, reaction);
     seats[reaction as usize] = seat;
-    frees.set(reaction, is_free(seat));
-    if is_busy(seat) == was {
+    mark(frees, reaction, was, seat);
+    if is_busy(seat) == is_busy(was) {
         return top;
     }
     stack[top] = reaction;
     top + 1
-}
-
-// the list of a reaction
-fn list_at(after: &[ReactionList], reaction: u32) -> &[u32]
-    requires { reaction < length after.now }
-    ensures { slice_get after.now reaction ≡ Some result.now }
-{
-    after[reaction as usize].as_slice()
 }
 
 // one more waits for the reaction, or one less
@@ -62,10 +54,10 @@ fn told(seat: Seat, up: bool) -> Seat
 
 // a reaction that became busy, or no longer busy, tells those in whose short list it is
 fn tell(
-    after: &[ReactionList],
+    after: &NumberLists,
     reaction: u32,
     seats: &mut [Seat],
-    frees: &mut NumberSet,
+    frees: &mut Set,
     stack: &mut [u32],
     top: usize,
     up: bool,
@@ -74,12 +66,14 @@ fn tell(
     requires inside { AreInside after.now }
     requires once { AreOnce after.now }
     requires few { length after.now ≤ 10000 }
-    requires moving { (list : List ℕ) → slice_get after.now reaction ≡ Some list → IsMoving up after.now seats.old frees.old stack.old top list }
-    ensures moving { IsMoving up after.now seats.new frees.new stack.new result [] }
+    requires frees { AreFree seats.old frees.old }
+    requires moving { (list : List ℕ) → slice_get after.now reaction ≡ Some list → IsMoving up after.now seats.old stack.old top list }
+    ensures frees { AreFree seats.new frees.new }
+    ensures moving { IsMoving up after.now seats.new stack.new result [] }
     ensures as_many { uncounted up seats.new ≡ uncounted up seats.old }
     ensures phases { KeepsPhases seats.old seats.new }
 {
-    let list = list_at(after, reaction);
+    let list = after.of(reaction);
     let mut left = top;
     'members: for place in 0..list.len() {
         let member = item_at(list, place);
@@ -92,9 +86,9 @@ fn tell(
 /// Takes the reactions off the stack one after another, and with them those that they put there,
 /// until all are at rest. Each is taken once.
 pub(crate) fn settle(
-    after: &[ReactionList],
+    after: &NumberLists,
     seats: &mut [Seat],
-    frees: &mut NumberSet,
+    frees: &mut Set,
     stack: &mut [u32],
     top: usize,
     up: bool,
@@ -102,8 +96,10 @@ pub(crate) fn settle(
     requires inside { AreInside after.now }
     requires once { AreOnce after.now }
     requires few { length after.now ≤ 10000 }
-    requires moving { IsMoving up after.now seats.old frees.old stack.old top [] }
-    ensures rest { IsAtRest after.now seats.new frees.new }
+    requires frees { AreFree seats.old frees.old }
+    requires moving { IsMoving up after.now seats.old stack.old top [] }
+    ensures frees { AreFree seats.new frees.new }
+    ensures rest { IsAtRest after.now seats.new }
     ensures phases { KeepsPhases seats.old seats.new }
 {
     let mut left = top;
@@ -121,9 +117,9 @@ pub(crate) fn settle(
 
 /// Writes the phase of a reaction, and tells on what became busy, or no longer busy, by it.
 pub(crate) fn change(
-    after: &[ReactionList],
+    after: &NumberLists,
     seats: &mut [Seat],
-    frees: &mut NumberSet,
+    frees: &mut Set,
     stack: &mut [u32],
     reaction: u32,
     phase: Phase,
@@ -133,8 +129,10 @@ pub(crate) fn change(
     requires few { length after.now ≤ 10000 }
     requires known { reaction < length seats.old }
     requires room { length stack.old ≡ length after.now }
-    requires rest { IsAtRest after.now seats.old frees.old }
-    ensures rest { IsAtRest after.now seats.new frees.new }
+    requires frees { AreFree seats.old frees.old }
+    requires rest { IsAtRest after.now seats.old }
+    ensures frees { AreFree seats.new frees.new }
+    ensures rest { IsAtRest after.now seats.new }
     ensures phases { phases_of seats.new ≡ slice_set (phases_of seats.old) reaction phase }
 {
     let up = is_pending(phase);

@@ -1,9 +1,8 @@
 use Rattle.std.proofs.Common.{◌≡◌, List, length, replicate, sym, ap, ◌∙◌, subst, arith}
-use mathlib.Core.Bool.{Bool}
 use Rattle.lft_graph.specs.Graph.{IsGraphOf}
 use Rattle.lft_lists.proofs.Places.{length_same}
-use Rattle.lft_scheduler.specs.{declared.turn.{phase.Phase.TheVariants.Idle, seats.Seat.Seat}, inner.Seats.{IsAtRest, phases_of}}
-use Rattle.lft_scheduler.proofs.Starting.{idle_seat, idle_rest, phases_idle}
+use Rattle.lft_scheduler.specs.{declared.turn.{phase.Phase.TheVariants.Idle, seats.Seat.Seat}, inner.Seats.{IsAtRest, AreFree, phases_of}}
+use Rattle.lft_scheduler.proofs.{Starting.{idle_rest, phases_idle}, Frees.frees_idle}
 use Rattle.lft_scheduler.proofs.turn.Turn.new.Goals as goal
 
 pub invariant_of-result : goal.invariant_of-result
@@ -14,12 +13,12 @@ invariant_of-result c =
     let m = c.in_ok-after.ensures.as_long in
     let a = is.as_long in
     let n = c.reactions-count.ensures.count in
-    let l : length c.in_ok-after.after.items ≡ c.reactions-count.result = omega arith in
-    let r = subst (λ (k : List Bool). IsAtRest c.in_ok-after.after.items (replicate c.reactions-count.result idle_seat) k) (sym c.in_ok-frees.ensures) (idle_rest c.reactions-count.result c.in_ok-after.after.items l) in
+    let l : length c.in_ok-after.after ≡ c.reactions-count.result = omega arith in
     record {
       program = (c.args.program.now, c.reactions-count.ensures.sound, is);
       mirror = c.in_ok-after.ensures;
-      rest = subst (λ (k : List Seat). IsAtRest c.in_ok-after.after.items k c.in_ok-frees.frees) (sym s) r;
+      rest = subst (λ (k : List Seat). IsAtRest c.in_ok-after.after k) (sym s) (idle_rest c.reactions-count.result c.in_ok-after.after l);
+      frees = subst (λ (k : List Seat). AreFree k c.in_ok-frees.frees) (sym s) (frees_idle c.reactions-count.result c.in_ok-frees.frees c.in_ok-frees.ensures.room c.in_ok-frees.ensures.none);
       room = t ∙ length_same c.reactions-count.result 0 ∙ sym l;
     }
 
