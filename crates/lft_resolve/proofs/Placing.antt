@@ -1,5 +1,5 @@
 -- Places of names, as lists grow, and what stands at a place.
-use Rattle.std.proofs.Common.{◌≡◌, ℕ, ◌<◌, suc, Bool, true, false, cond, not, List, [], ◌∷◌, ◌++◌, map, length, slice_get, find, Option, Some, None, option_map, option_copied, Bor, bytes_eq, refl, sym, ap, subst, ◌∙◌}
+use Rattle.std.proofs.Common.{◌≡◌, ℕ, suc, Bool, true, false, cond, not, List, [], ◌∷◌, ◌++◌, map, length, slice_get, find, Option, Some, None, option_map, option_copied, Bor, bytes_eq, refl, sym, ap, subst, ◌∙◌}
 use Rattle.std.specs.{Option.{option_and_then, is_none, is_some}, Slice.IsItemAt}
 use Rattle.std.proofs.lemmas.{Option.{slice_get-get_or, slice_get_past}, Slice.Eq.bytes_eq-Decides}
 use Rattle.lft_resolve.specs.{Kinds.or_else, inner.Places.place}

@@ -25,12 +25,7 @@ pub(crate) fn narrow(place: usize) -> Result<u32, NoMemory>
 }
 
 /// The port of a contained instance that a name with a point stands for.
-fn inner_end(
-    file: &ReactorTable,
-    own: &Own,
-    head: &str,
-    name: &str,
-) -> Result<End, ReactorFault>
+fn inner_end(file: &ReactorTable, own: &Own, head: &str, name: &str) -> Result<End, ReactorFault>
     ensures ok { IfOk result (λ end. (rs : List ReactorTree) (r : ReactorTree) → IsFile rs file.now → IsOwn r own.now → IsEnd rs r (inner_ref head.now name.now) end) }
     ensures lost { IfErr result (λ f. f ≢ faults.NoMemory → (rs : List ReactorTree) (r : ReactorTree) → IsFile rs file.now → IsOwn r own.now → inner_kind rs r head.now name.now ≡ None) }
 {

@@ -1,8 +1,8 @@
-use Rattle.std.proofs.Common.{◌≡◌, ◌<◌, take, length, sym, ap, subst, ◌∙◌, arith}
+use Rattle.std.proofs.Common.{◌≡◌, ◌<◌, take, length, sym, ap, ◌∙◌, arith}
 use Rattle.std.proofs.lemmas.Grind.{common_steps}
 use Rattle.lft_tree.specs.View.{reactor_view}
-use Rattle.lft_resolve.specs.inner.{Numbers.numbers_of, Places.IsIndexOf, References.reactor_trees, Tests.texts}
-use Rattle.lft_resolve.proofs.{Files.named_some, Numbered.{number_more, number_kept}, NamedReactors.named}
+use Rattle.lft_resolve.specs.inner.{Numbers.numbers_of, References.reactor_trees}
+use Rattle.lft_resolve.proofs.{Files.named_some, Numbered.{number_more, number_kept}}
 use Rattle.lft_resolve.proofs.file.numbers_of.Goals.{then-is_some+in_ok-push, else-is_some}
 use Rattle.lft_resolve.proofs.file.numbers_of.Goals as goal
 
@@ -15,10 +15,4 @@ loop-number-preserved c =
     ]
 
 pub returns : goal.returns
-returns c =
-    let names : texts c.deref.result.now ≡ named (reactor_trees c.args.reactors.now) = ap texts c.deref.ensures.value ∙ c.in_ok-names.ensures in
-    let whole : take c.loop-number.number c.args.reactors.now ≡ c.args.reactors.now = grind (arith, common_steps) in
-    record {
-      names = subst (IsIndexOf c.in_ok-of.field-0) names c.in_ok-of.ensures;
-      numbers = c.loop-number.invariant ∙ ap (λ l. numbers_of 0 (reactor_trees l)) whole;
-    }
+returns c = let whole : take c.loop-number.number c.args.reactors.now ≡ c.args.reactors.now = grind (arith, common_steps) in c.loop-number.invariant ∙ ap (λ l. numbers_of 0 (reactor_trees l)) whole

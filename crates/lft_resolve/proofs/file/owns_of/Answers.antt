@@ -1,5 +1,4 @@
-use Rattle.std.proofs.Common.{take, sym, subst}
-use Rattle.std.specs.List.{AllZip}
+use Rattle.std.proofs.Common.{take, sym}
 use Rattle.lft_tree.specs.View.{reactor_view}
 use Rattle.lft_resolve.{specs.inner.{References.reactor_trees, Tables.IsOwn}, proofs.{Files.AllZip-last, Twice.map_last}}
 use Rattle.lft_resolve.proofs.file.owns_of.Goals as goal

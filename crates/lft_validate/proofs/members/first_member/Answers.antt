@@ -17,7 +17,7 @@ returns-in-Some-clause-shows c =
     let rs = reactor_trees c.args.reactors.now in
     let item = c.index-reactors-reactor.result in
     let at = mapped_at (λ r. reactor_view r.now) c.args.reactors.now c.loop-reactor.reactor item c.loop-reactor-test.true (sym c.index-reactors-reactor.is) in
-    let own = own_at rs c.args.file.now.owns.items c.loop-reactor.reactor (reactor_view item.now) c.index-file-reactor.result c.requires.owns at (omega (arith, c.loop-reactor.invariant.as_long, c.loop-reactor-test.true)) (sym c.index-file-reactor.is) in
+    let own = own_at rs c.args.file.now.owns.items c.loop-reactor.reactor (reactor_view item.now) c.index-own.result.now c.requires.owns at (omega (arith, c.loop-reactor.invariant.as_long, c.loop-reactor-test.true)) (sym c.index-own.ensures) in
     let shows = found (λ p. HasFinding rs (reactor_view item.now) p.0 p.1) c.in_ok-member.field-0 _ (c.in_ok-member.ensures.some rs c.requires own) c.in-Some.is in
     let there : IsSomeAnd (slice_get rs c.loop-reactor.reactor) (λ r. HasFinding rs r c.in-Some.member c.in-Some.finding) = subst (λ o. IsSomeAnd o (λ r. HasFinding rs r c.in-Some.member c.in-Some.finding)) (sym at) shows in
     search rules
@@ -27,7 +27,7 @@ loop-reactor-preserved c =
     let rs = reactor_trees c.args.reactors.now in
     let item = c.index-reactors-reactor.result in
     let at = mapped_at (λ r. reactor_view r.now) c.args.reactors.now c.loop-reactor.reactor item c.loop-reactor-test.true (sym c.index-reactors-reactor.is) in
-    let own = own_at rs c.args.file.now.owns.items c.loop-reactor.reactor (reactor_view item.now) c.index-file-reactor.result c.requires.owns at (omega (arith, c.loop-reactor.invariant.as_long, c.loop-reactor-test.true)) (sym c.index-file-reactor.is) in
+    let own = own_at rs c.args.file.now.owns.items c.loop-reactor.reactor (reactor_view item.now) c.index-own.result.now c.requires.owns at (omega (arith, c.loop-reactor.invariant.as_long, c.loop-reactor-test.true)) (sym c.index-own.ensures) in
     record {
       as_long = c.loop-reactor.invariant.as_long;
       none = none_more (λ r. reactor_view r.now) (λ r. Any (λ m. ShowsCause rs r m c.args.cause) r.members) c.args.reactors.now c.loop-reactor.reactor item c.loop-reactor-test.true (sym c.index-reactors-reactor.is) c.loop-reactor.invariant.none (lacking (Any (λ m. ShowsCause rs (reactor_view item.now) m c.args.cause) (reactor_view item.now).members → ⊥) c.in_ok-member.field-0 (c.in_ok-member.ensures.none rs c.requires own) c.in_default.is);

@@ -1,4 +1,4 @@
-use Rattle.std.proofs.Common.{◌≡◌, map, slice_get, option_map, option_copied, Some, None, string_bytes, sym, ap, ◌∙◌}
+use Rattle.std.proofs.Common.{◌≡◌, slice_get, option_map, option_copied, Some, None, sym, ap, ◌∙◌}
 use Rattle.std.{specs.Option.option_and_then, proofs.lemmas.Option.slice_get-map}
 use Rattle.lft_tree.specs.{Tree.{ReactorTree, instances_of}, View.instance_view}
 use Rattle.lft_resolve.specs.{Instances.reactor_named, inner.{References.instance_trees, Sheets.instance_place, Tables.IsOwn}}

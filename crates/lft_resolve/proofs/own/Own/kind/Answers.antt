@@ -1,4 +1,4 @@
-use Rattle.std.proofs.Common.{◌≡◌, true, false, Some, option_map, is_some, sym, ap, ◌∙◌}
+use Rattle.std.proofs.Common.{true, false, option_map, is_some, sym, ap, ◌∙◌}
 use Rattle.lft_tree.specs.{Tree.{timers_of, actions_of, instances_of}, View.port_view}
 use Rattle.lft_resolve.{specs.Kinds.own_port, proofs.Owned.{as_action, as_instance, as_nothing, as_parameter, as_port, as_timer, indexed}}
 use Rattle.lft_resolve.proofs.own.Own.kind.Goals as goal

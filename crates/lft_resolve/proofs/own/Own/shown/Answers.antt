@@ -1,4 +1,4 @@
-use Rattle.std.proofs.Common.{◌≡◌, Some, None, find, option_map, bytes_eq, sym, ap, ◌∙◌}
+use Rattle.std.proofs.Common.{◌≡◌, Some, find, option_map, bytes_eq, sym, ap, ◌∙◌}
 use Rattle.lft_tree.specs.{Tree.ports_of, View.port_view}
 use Rattle.lft_resolve.specs.Kinds.{inner_port}
 use Rattle.lft_resolve.proofs.own.Own.shown.Goals as goal
