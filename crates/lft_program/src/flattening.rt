@@ -15,22 +15,22 @@ use crate::nesting::{Linked, Nest, Tables, links};
 use crate::refusal::Refusal;
 use crate::tree_names::tree_names;
 use lft_ir::Program;
-use lft_resolve::ReactorFault;
 use lft_resolve::by_number::{
     connections, contents, declarations, main_number, parameters, reactions,
 };
 use lft_resolve::expansion::Contents;
+use lft_resolve::{ReactorFault, Scopes};
 use lft_tag::NoMemory;
 use lft_tree::Ast;
-use lft_validate::{ProgramFault, Scopes, check_first, check_later, circle_of};
+use lft_validate::{ProgramFault, check_first, check_later, circle_of};
 use std::alloc::Global;
 
 /// What each reactor of the file contains.
-fn known_contents(alloc: Global, ast: &Ast) -> Result<Vec<Contents>, NoMemory>
-    requires { NoneHolds (first_causes (reactors_of (tree_view ast.now))) }
-    ensures { IfOk result (λ v. AreContents (reactors_of (tree_view ast.now)) v.items) }
+fn known_contents(alloc: Global, scopes: &Scopes) -> Result<Vec<Contents>, NoMemory>
+    requires { NoneHolds (first_causes (reactors_of scopes.now)) }
+    ensures { IfOk result (λ v. AreContents (reactors_of scopes.now) v.items) }
 {
-    match contents(alloc, ast) {
+    match contents(alloc, scopes) {
         Ok(contents) => Ok(contents),
         Err(fault) => match fault {
             ReactorFault::NoMemory => Err(NoMemory),
@@ -49,7 +49,7 @@ fn checked_contents(alloc: Global, scopes: &Scopes) -> Result<Vec<Contents>, Ref
     if let Some(witness) = check_first(alloc, scopes)? {
         return Err(Refusal::Shown(witness));
     }
-    let contents = known_contents(alloc, scopes.ast())?;
+    let contents = known_contents(alloc, scopes)?;
     if let Some(circle) = circle_of(alloc, &contents)? {
         return Err(Refusal::Recursive(circle));
     }
@@ -60,19 +60,19 @@ fn checked_contents(alloc: Global, scopes: &Scopes) -> Result<Vec<Contents>, Ref
 }
 
 /// The tables of the tree's reactors, which contain this.
-fn tables_with(alloc: Global, ast: &Ast, contents: Vec<Contents>) -> Result<Tables, NoMemory>
-    requires first { NoneHolds (first_causes (reactors_of (tree_view ast.now))) }
-    requires later { NoneHolds (later_causes (reactors_of (tree_view ast.now))) }
-    requires contents { AreContents (reactors_of (tree_view ast.now)) contents.items }
-    ensures { IfOk result (AreTables (tree_view ast.now)) }
+fn tables_with(alloc: Global, scopes: &Scopes, contents: Vec<Contents>) -> Result<Tables, NoMemory>
+    requires first { NoneHolds (first_causes (reactors_of scopes.now)) }
+    requires later { NoneHolds (later_causes (reactors_of scopes.now)) }
+    requires contents { AreContents (reactors_of scopes.now) contents.items }
+    ensures { IfOk result (AreTables scopes.now) }
 {
     Ok(Tables {
-        main: main_number(alloc, ast)?,
+        main: main_number(scopes)?,
         contents,
-        parameters: parameters(alloc, ast)?,
-        connections: connections(alloc, ast)?,
-        declarations: declarations(alloc, ast)?,
-        reactions: reactions(alloc, ast)?,
+        parameters: parameters(alloc, scopes)?,
+        connections: connections(alloc, scopes)?,
+        declarations: declarations(alloc, scopes)?,
+        reactions: reactions(alloc, scopes)?,
     })
 }
 
@@ -84,9 +84,9 @@ fn tables_of(alloc: Global, scopes: &Scopes) -> Result<Tables, Refusal>
     ensures tells { IfErr result (Tells scopes.now) }
 {
     // The causes are tested first, so to make the tables has no fault of its own. The price is that
-    // names are looked up twice.
+    // names are looked up twice, in the same tables.
     let contents = checked_contents(alloc, scopes)?;
-    Ok(tables_with(alloc, scopes.ast(), contents)?)
+    Ok(tables_with(alloc, scopes, contents)?)
 }
 
 /// The program of the tree with these tables, nest and links.

@@ -1,10 +1,10 @@
--- The tables of a reactor by its number, and what its names stand for.
-use Rattle.std.proofs.Common.{◌≡◌, ℕ, zero, suc, Bool, true, false, cond, List, [], ◌∷◌, map, slice_get, find, Option, Some, None, option_map, IsSomeAnd, MatchOption, Bor, bytes_eq, refl, sym, ap, subst, ◌∙◌}
+-- The item that an element goes with, and what `x.y` is.
+use Rattle.std.proofs.Common.{◌≡◌, ℕ, zero, suc, List, [], ◌∷◌, map, slice_get, find, Option, Some, None, option_map, IsSomeAnd, Bor, bytes_eq, refl, sym, ap, subst, ◌∙◌}
 use Rattle.std.specs.{List.AllZip, Option.option_and_then}
 use Rattle.lft_tree.specs.Tree.{ReactorTree, InstanceTree, instances_of, ports_of}
-use Rattle.lft_resolve.specs.inner.{Directories.inner_ref, Numbers.IsNumberOf, Places.place, Sheets.{IsInner, instance_place, port_place}}
-use Rattle.lft_resolve.specs.{Instances.reactor_named, Kinds.inner_kind}
-use Rattle.lft_resolve.proofs.{Files.{AllZip-past, inner_nowhere}, Placing.{find-place, place_found}}
+use Rattle.lft_resolve.specs.inner.{Lost.inner_ref, Places.place, Sheets.{IsInner, port_place}, Tables.IsHeld}
+use Rattle.lft_resolve.specs.{Instances.reactor_named, Kinds.{inner_kind, inner_port}, declared.{kinds.Kind.Kind, own.Own.Own}}
+use Rattle.lft_resolve.proofs.Placing.{find-place, place_found}
 
 module _ {A B : Type 0} (R : A → B → Type 0) where
   -- the item that an element goes with
@@ -19,46 +19,27 @@ module _ {A B : Type 0} (R : A → B → Type 0) where
   AllZip-there xs ys None k x all at is = let to = AllZip-to xs ys all k x at in let e : None ≡ Some to.0 = is ∙ to.1 in absurd (cc)
   AllZip-there xs ys (Some b) k x all at is = let to = AllZip-to xs ys all k x at in let e : to.0 ≡ b.now = (let f : Some b.now ≡ Some to.0 = is ∙ to.1 in cc) in subst (R x) e to.2
 
--- something stands at the place of a name
-pub place_there : {X : Type 0} (name : X → List ℕ) (q : List ℕ) (xs : List X) (k : ℕ) → place q (map name xs) ≡ Some k → (x : X) × (slice_get xs k ≡ Some x)
-place_there name q [] k at = absurd (cc)
-place_there {X} name q (x ∷ xs) k at = by (bytes_eq q (name x)) (place q (map name xs)) refl at (λ n e. place_there name q xs n e)
-  where
-    by : (b : Bool) (o : Option ℕ) → place q (map name xs) ≡ o → cond b (Some 0) (option_map suc o) ≡ Some k → ((n : ℕ) → place q (map name xs) ≡ Some n → (y : X) × (slice_get xs n ≡ Some y)) → (y : X) × (slice_get (x ∷ xs) k ≡ Some y)
-    by true o e is go = let z : 0 ≡ k = cc in (x, subst (λ n. slice_get (x ∷ xs) n ≡ Some x) z refl)
-    by false None e is go = absurd (cc)
-    by false (Some n) e is go = let z : suc n ≡ k = cc in let rest = go n e in (rest.0, subst (λ m. slice_get (x ∷ xs) m ≡ Some rest.0) z rest.1)
-
 -- what has no place isn't found
 pub place_none : {X : Type 0} (name : X → List ℕ) (q : List ℕ) (xs : List X) → place q (map name xs) ≡ None → find (λ x. bytes_eq q (name x)) xs ≡ None
 place_none name q xs none = find-place name q xs ∙ ap (option_and_then (slice_get xs)) none
 
--- the number that a list of numbers has at a place
-pub number_there : (rs : List ReactorTree) (is : List InstanceTree) (ns : List ℕ) (k : ℕ) (o : Option ℕ) → AllZip (IsNumberOf rs) is ns → o ≡ slice_get ns k → MatchOption o (slice_get is k ≡ None) (λ n. (i : InstanceTree) × (slice_get is k ≡ Some i) × IsNumberOf rs i n)
-number_there rs is ns k None all at = AllZip-past (IsNumberOf rs) is ns all k (sym at)
-number_there rs is ns k (Some n) all at = from is ns k all (sym at)
-  where
-    from : (is : List InstanceTree) (ns : List ℕ) (k : ℕ) → AllZip (IsNumberOf rs) is ns → slice_get ns k ≡ Some n → (i : InstanceTree) × (slice_get is k ≡ Some i) × IsNumberOf rs i n
-    from [] [] k all at = absurd (cc)
-    from [] (z ∷ ns) k all at = absurd all
-    from (i ∷ is) [] k all at = absurd all
-    from (i ∷ is) (z ∷ ns) zero all at = let e : z ≡ n = cc in (i, refl, subst (IsNumberOf rs i) e all.0)
-    from (i ∷ is) (z ∷ ns) (suc k) all at = from is ns k all.1 at
+-- what `x.y` is
+module _ (rs : List ReactorTree) (r : ReactorTree) (head name : List ℕ) where
+  -- nothing, where x is no instance of a reactor of the file
+  pub inner_nowhere : option_and_then (λ i. reactor_named rs i.reactor) (find (λ i. bytes_eq head i.name) (instances_of r)) ≡ None → inner_kind rs r head name ≡ None
+  inner_nowhere none = by (find (λ i. bytes_eq head i.name) (instances_of r)) none
+    where
+      by : (o : Option InstanceTree) → option_and_then (λ i. reactor_named rs i.reactor) o ≡ None → option_and_then (λ i. option_and_then (λ inner. option_map (λ x. inner_port x.is_input) (find (λ x. bytes_eq name x.name) (ports_of inner))) (reactor_named rs i.reactor)) o ≡ None
+      by None e = refl
+      by (Some i) e = ap (option_and_then (λ inner. option_map (λ x. inner_port x.is_input) (find (λ x. bytes_eq name x.name) (ports_of inner)))) e
 
--- `x.y` is nothing where the reactor of x has no port y
-pub inner_portless : (rs : List ReactorTree) (r : ReactorTree) (head name : List ℕ) (i : InstanceTree) (inner : ReactorTree) → find (λ i. bytes_eq head i.name) (instances_of r) ≡ Some i → reactor_named rs i.reactor ≡ Some inner → find (λ x. bytes_eq name x.name) (ports_of inner) ≡ None → inner_kind rs r head name ≡ None
-inner_portless rs r head name i inner a b c = rw (a, b, c) refl
+  -- else what y is in that reactor
+  module _ (number : ℕ) (own : Own) (held : IsHeld rs r head number own) where
+    pub inner_shown : (o : Option Kind) → o ≡ option_map (λ x. inner_port x.is_input) (find (λ x. bytes_eq name x.name) (ports_of held.inner)) → o ≡ inner_kind rs r head name
+    inner_shown o is = rw (place_found (λ i. i.name) head (instances_of r) number held.i held.is_place held.is_instance, held.is_inner) is
 
--- what `x.y` stands for, from the place of x, its reactor and the place of y
-module _ (rs : List ReactorTree) (r : ReactorTree) (head name : List ℕ) (k : ℕ) (at : instance_place r head ≡ Some k) where
-  pub inner_there : (n port : ℕ) → (i : InstanceTree) × (slice_get (instances_of r) k ≡ Some i) × IsNumberOf rs i n → ((inner : ReactorTree) → slice_get rs n ≡ Some inner → port_place inner name ≡ Some port) → IsInner rs r (inner_ref head name) k port
-  inner_there n port (i, is, (inner, named, number)) go = record { name = name; i = i; inner = inner; is_name = refl; is_place = at; is_instance = is; is_inner = named; is_port = go inner number }
+    pub inner_portless : port_place held.inner name ≡ None → inner_kind rs r head name ≡ None
+    inner_portless none = sym (inner_shown None (sym (ap (option_map (λ x. inner_port x.is_input)) (place_none (λ x. x.name) name (ports_of held.inner) none))))
 
-  pub inner_lacking : (n : ℕ) → (i : InstanceTree) × (slice_get (instances_of r) k ≡ Some i) × IsNumberOf rs i n → ((inner : ReactorTree) → slice_get rs n ≡ Some inner → port_place inner name ≡ None) → inner_kind rs r head name ≡ None
-  inner_lacking n (i, is, (inner, named, number)) go = inner_portless rs r head name i inner (place_found (λ x. x.name) head (instances_of r) k i at is) named (place_none (λ x. x.name) name (ports_of inner) (go inner number))
-
-  pub inner_missing : slice_get (instances_of r) k ≡ None → inner_kind rs r head name ≡ None
-  inner_missing none = let there = place_there (λ x. x.name) head (instances_of r) k at in let e : Some there.0 ≡ None = sym there.1 ∙ none in absurd (cc)
-
-pub inner_headless : (rs : List ReactorTree) (r : ReactorTree) (head name : List ℕ) → instance_place r head ≡ None → inner_kind rs r head name ≡ None
-inner_headless rs r head name none = inner_nowhere rs r head name (place_none (λ x. x.name) head (instances_of r) none)
+    pub inner_there : (port : ℕ) → port_place held.inner name ≡ Some port → IsInner rs r (inner_ref head name) number port
+    inner_there port at = record { name = name; i = held.i; inner = held.inner; is_name = refl; is_place = held.is_place; is_instance = held.is_instance; is_inner = held.is_inner; is_port = at }

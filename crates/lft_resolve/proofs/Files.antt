@@ -1,10 +1,9 @@
--- The reactors of a file that have a name, and what names are.
-use Rattle.std.proofs.Common.{◌≡◌, ℕ, zero, suc, Bool, true, false, cond, List, [], ◌∷◌, ◌++◌, slice_get, find, is_some, Option, Some, None, option_map, MatchOption, Bor, String, string_bytes, bytes_eq, refl, sym, ap, subst, ◌∙◌}
+-- The reactors of a file that have a name, and loops over tables of reactors.
+use Rattle.std.proofs.Common.{◌≡◌, ℕ, ◌+◌, ◌<◌, ◌≤◌, zero, suc, Bool, true, false, cond, List, [], ◌∷◌, ◌++◌, take, length, get_or, slice_get, is_some, Option, Some, None, option_map, String, string_bytes, bytes_eq, refl, sym, ap, subst, ◌∙◌, arith}
 use Rattle.std.specs.{List.{AllZip, cons_option}, Option.option_and_then}
-use Rattle.lft_tree.specs.Tree.{ReactorTree, InstanceTree, instances_of, ports_of}
-use Rattle.lft_resolve.specs.{Instances.{is_called, reactor_named}, Kinds.{inner_kind, inner_port}, inner.{Places.place, Tables.{IsOutside, with_name}}}
-use Rattle.lft_resolve.specs.declared.{file.Outside.Outside, kinds.Kind.Kind}
-use Rattle.lft_resolve.proofs.NamedReactors.{named}
+use Rattle.lft_tree.specs.Tree.{ReactorTree}
+use Rattle.lft_resolve.specs.{Instances.{is_called, reactor_named}, inner.{Places.place, Tables.{IsFile, IsOwn}}, declared.{file.ReactorTable.ReactorTable, own.Own.Own}}
+use Rattle.lft_resolve.proofs.NamedReactors.{named, with_name}
 
 -- the reactor of a name is the one at the name's place
 pub named-place : (rs : List ReactorTree) (q : List ℕ) → reactor_named rs q ≡ option_and_then (slice_get (with_name rs)) (place q (named rs))
@@ -38,29 +37,32 @@ module _ {A B : Type 0} (R : A → B → Type 0) where
   AllZip-from (x ∷ xs) (z ∷ ys) all zero y at = let e : z ≡ y = cc in (x, refl, subst (R x) e all.0)
   AllZip-from (x ∷ xs) (z ∷ ys) all (suc k) y at = AllZip-from xs ys all.1 k y at
 
-  pub AllZip-past : (xs : List A) (ys : List B) → AllZip R xs ys → (k : ℕ) → slice_get ys k ≡ None → slice_get xs k ≡ None
-  AllZip-past [] ys all k at = refl
-  AllZip-past (x ∷ xs) [] all k at = absurd all
-  AllZip-past (x ∷ xs) (z ∷ ys) all zero at = absurd (cc)
-  AllZip-past (x ∷ xs) (z ∷ ys) all (suc k) at = AllZip-past xs ys all.1 k at
+  -- one turn of a loop over the items: the element that this one goes with
+  pub AllZip-turn : (xs : List A) (ys : List B) → AllZip R xs ys → (k : ℕ) (y : B) → k < length ys → get_or ys k y ≡ y → (x : A) × (slice_get xs k ≡ Some x) × R x y × (take (k + 1) xs ≡ take k xs ++ x ∷ [])
+  AllZip-turn [] [] all k y within is = absurd (omega arith)
+  AllZip-turn [] (z ∷ ys) all k y within is = absurd all
+  AllZip-turn (x ∷ xs) [] all k y within is = absurd all
+  AllZip-turn (x ∷ xs) (z ∷ ys) all zero y within is = (x, refl, subst (R x) is all.0, refl)
+  AllZip-turn (x ∷ xs) (z ∷ ys) all (suc k) y within is =
+      let next : suc k + 1 ≡ suc (k + 1) = omega arith in
+      let turn = AllZip-turn xs ys all.1 k y (omega arith) is in
+      (turn.0, turn.1, turn.2, ap (λ n. take n (x ∷ xs)) next ∙ ap (λ l. x ∷ l) turn.3)
 
--- the table at the place of a name is that of its reactor
-pub table_at : (rs : List ReactorTree) (tables : List Outside) (q : List ℕ) (k : ℕ) (o : Option (Bor Outside)) → AllZip IsOutside (with_name rs) tables → place q (named rs) ≡ Some k → option_map (λ b. b.now) o ≡ slice_get tables k → MatchOption o (reactor_named rs q ≡ None) (λ b. (r : ReactorTree) × (reactor_named rs q ≡ Some r) × IsOutside r b.now)
-table_at rs tables q k None all at is = named-place rs q ∙ ap (option_and_then (slice_get (with_name rs))) at ∙ AllZip-past IsOutside (with_name rs) tables all k (sym is)
-table_at rs tables q k (Some b) all at is =
-    let from = AllZip-from IsOutside (with_name rs) tables all k b.now (sym is) in
-    (from.0, named-place rs q ∙ ap (option_and_then (slice_get (with_name rs))) at ∙ from.1, from.2)
-
--- what `x.y` is, from what x and its reactor are
-pub inner_found : (rs : List ReactorTree) (r : ReactorTree) (head name : List ℕ) (i : InstanceTree) (inner : ReactorTree) (k : Option Kind) → find (λ i. bytes_eq head i.name) (instances_of r) ≡ Some i → reactor_named rs i.reactor ≡ Some inner → k ≡ option_map (λ x. inner_port x.is_input) (find (λ x. bytes_eq name x.name) (ports_of inner)) → k ≡ inner_kind rs r head name
-inner_found rs r head name i inner k a b c = rw (a, b) c
-
-pub inner_lost : (rs : List ReactorTree) (r : ReactorTree) (head name : List ℕ) (i : InstanceTree) → find (λ i. bytes_eq head i.name) (instances_of r) ≡ Some i → reactor_named rs i.reactor ≡ None → inner_kind rs r head name ≡ None
-inner_lost rs r head name i a b = rw (a, b) refl
-
-pub inner_nowhere : (rs : List ReactorTree) (r : ReactorTree) (head name : List ℕ) → find (λ i. bytes_eq head i.name) (instances_of r) ≡ None → inner_kind rs r head name ≡ None
-inner_nowhere rs r head name a = rw a refl
+  pub AllZip-done : (xs : List A) (ys : List B) → AllZip R xs ys → (k : ℕ) → length ys ≤ k → take k xs ≡ xs
+  AllZip-done [] ys all zero past = refl
+  AllZip-done [] ys all (suc k) past = refl
+  AllZip-done (x ∷ xs) [] all k past = absurd all
+  AllZip-done (x ∷ xs) (z ∷ ys) all zero past = absurd (omega arith)
+  AllZip-done (x ∷ xs) (z ∷ ys) all (suc k) past = ap (λ l. x ∷ l) (AllZip-done xs ys all.1 k (omega arith))
 
 pub named_some : {Z : Type 0} (o : Option (String Z)) → is_some (option_map string_bytes o) ≡ is_some o
 named_some None = refl
 named_some (Some s) = refl
+
+-- one turn of a loop over the tables of a file's reactors: the reactor, and what it is put behind
+module _ (rs : List ReactorTree) (file : ReactorTable) (is_file : IsFile rs file) (items : List Own) (same : items ≡ file.owns.items) (k : ℕ) where
+  pub own_turn : (own : Own) → k < length items → get_or items k own ≡ own → (r : ReactorTree) × (slice_get rs k ≡ Some r) × IsOwn r own × (take (k + 1) rs ≡ take k rs ++ r ∷ [])
+  own_turn own within is = AllZip-turn IsOwn rs items (subst (AllZip IsOwn rs) (sym same) is_file.owns) k own within is
+
+  pub own_done : length items ≤ k → take k rs ≡ rs
+  own_done past = AllZip-done IsOwn rs items (subst (AllZip IsOwn rs) (sym same) is_file.owns) k past

@@ -2,7 +2,7 @@
 use Rattle.std.proofs.Common.{◌≡◌, ℕ, ◌+◌, ◌<◌, Bool, true, false, cond, List, [], ◌∷◌, ◌++◌, map, flat_map, filter, take, length, get_or, Any, inl, append-nil, sym, ap, subst, ◌∙◌}
 use Rattle.std.{specs.List.AllZip, proofs.lemmas.List.Elements.filter-append}
 use Rattle.lft_resolve.proofs.{Lacking.Any-flat_map, Files.AllZip-last, Somes.Any-left, Twice.map_last}
-use Rattle.lft_resolve.specs.{inner.Directories.{HasLost, IsLost}, Kinds.{connection_refs, reaction_refs}}
+use Rattle.lft_resolve.specs.{inner.Lost.{HasLost, IsLost}, Kinds.{connection_refs, reaction_refs}}
 use Rattle.lft_tree.specs.Tree.{ReactorTree, connections_of, reactions_of}
 
 -- one more element, that passes or not

@@ -3,7 +3,7 @@ use Rattle.std.proofs.Common.{◌≡◌, ℕ, ◌+◌, ◌<◌, zero, suc, min, 
 use Rattle.std.specs.List.{AllZip, zip}
 use Rattle.lft_resolve.proofs.{Lacking.Any-flat_map, Files.AllZip-last, Somes.{Any-nil, Any-head, Any-tail, Any-cases, Any-right, some_here}}
 use Rattle.lft_resolve.specs.Causes.{IsMisplaced, IsMisplacedTime, IsUnknownTime, UnknownName, WrongPlace}
-use Rattle.lft_resolve.specs.inner.{Directories.{HasLost, IsLost, IsLostTime, LosesIn}, Sheets.Single}
+use Rattle.lft_resolve.specs.inner.{Lost.{HasLost, IsLost, IsLostTime, LosesIn}, Sheets.Single}
 use Rattle.lft_resolve.specs.{Kinds.{connection_refs, in_role, kind_of, reaction_refs, refs_in, timer_times, times_in}, declared.kinds.Role.Role}
 use Rattle.lft_tree.specs.Tree.{ReactorTree, ConnectionTree, RefTree, TimeTree, actions_of, connections_of, instances_of, reactions_of, timers_of}
 

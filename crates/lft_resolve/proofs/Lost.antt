@@ -2,7 +2,7 @@
 use Rattle.std.proofs.Common.{◌≡◌, ◌≢◌, ℕ, Bool, true, false, List, Option, Some, None, inl, inr, find, is_some, option_map, MatchOption, bytes_eq, refl, sym, ap, subst, ◌∙◌}
 use Rattle.std.specs.Option.{option_and_then}
 use Rattle.lft_tree.specs.Tree.{ReactorTree, ParameterTree, PortTree, TimerTree, ActionTree, InstanceTree, RefTree, Named, ports_of, timers_of, actions_of, instances_of}
-use Rattle.lft_resolve.specs.inner.Directories.{IsLost, IsLostTime, IsTimerAt, Lacks, is_port, is_spot}
+use Rattle.lft_resolve.specs.inner.Lost.{IsLost, IsLostTime, IsTimerAt, Lacks, is_port, is_spot}
 use Rattle.lft_resolve.specs.inner.Sheets.{action_place, parameter_place, port_place, timer_place}
 use Rattle.lft_resolve.specs.{Instances.reactor_named, Kinds.{inner_port, kind_inside, kind_of, may_stand, or_else, own_kind, own_port}, Sheets.is_timer}
 use Rattle.lft_resolve.specs.declared.kinds.Kind.{Kind}

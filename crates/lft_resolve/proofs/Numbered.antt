@@ -2,8 +2,8 @@
 use Rattle.std.proofs.Common.{◌≡◌, ℕ, ◌+◌, ◌<◌, zero, suc, Bool, true, false, cond, List, [], ◌∷◌, ◌++◌, map, take, length, get_or, slice_get, is_some, Option, Some, None, MatchOption, append-nil, refl, sym, ap, subst, ◌∙◌, arith}
 use Rattle.std.{specs.Option.option_and_then, proofs.lemmas.Grind.common_steps}
 use Rattle.lft_tree.specs.Tree.{ReactorTree}
-use Rattle.lft_resolve.specs.{Instances.reactor_named, inner.{Numbers.numbers_of, Places.place, Tables.with_name}}
-use Rattle.lft_resolve.proofs.{Files.named-place, NamedReactors.named, Twice.map_last}
+use Rattle.lft_resolve.specs.{Instances.reactor_named, inner.{Numbers.numbers_of, Places.place}}
+use Rattle.lft_resolve.proofs.{Files.named-place, NamedReactors.{named, with_name}, Twice.map_last}
 
 pub numbers_of-push : (n m : ℕ) (rs : List ReactorTree) (r : ReactorTree) → m ≡ n + length rs → numbers_of n (rs ++ r ∷ []) ≡ numbers_of n rs ++ cond (is_some r.name) (m ∷ []) []
 numbers_of-push n m [] r is = by (is_some r.name)

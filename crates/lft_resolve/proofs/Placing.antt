@@ -1,5 +1,5 @@
 -- Places of names, as lists grow, and what stands at a place.
-use Rattle.std.proofs.Common.{◌≡◌, ℕ, ◌<◌, suc, Bool, true, false, cond, not, List, [], ◌∷◌, ◌++◌, map, length, slice_get, find, Option, Some, None, option_map, option_copied, Bor, bytes_eq, refl, sym, ap, subst, ◌∙◌}
+use Rattle.std.proofs.Common.{◌≡◌, ℕ, suc, Bool, true, false, cond, not, List, [], ◌∷◌, ◌++◌, map, length, slice_get, find, Option, Some, None, option_map, option_copied, Bor, bytes_eq, refl, sym, ap, subst, ◌∙◌}
 use Rattle.std.specs.{Option.{option_and_then, is_none, is_some}, Slice.IsItemAt}
 use Rattle.std.proofs.lemmas.{Option.{slice_get-get_or, slice_get_past}, Slice.Eq.bytes_eq-Decides}
 use Rattle.lft_resolve.specs.{Kinds.or_else, inner.Places.place}
@@ -80,19 +80,6 @@ find-place {X} name q (x ∷ xs) = by (bytes_eq q (name x)) (find-place name q x
     by : (b : Bool) → find (λ x. bytes_eq q (name x)) xs ≡ option_and_then (slice_get xs) (place q (map name xs)) → cond b (Some x) (find (λ x. bytes_eq q (name x)) xs) ≡ option_and_then (slice_get (x ∷ xs)) (cond b (Some 0) (option_map suc (place q (map name xs))))
     by true e = refl
     by false e = e ∙ over (place q (map name xs))
-
--- the same of what each is, with further names behind
-pub find-places : {X K : Type 0} (name : X → List ℕ) (kind : X → K) (q : List ℕ) (xs : List X) (names : List (List ℕ)) (kinds : List K) → option_and_then (slice_get (map kind xs ++ kinds)) (place q (map name xs ++ names)) ≡ or_else (option_map kind (find (λ x. bytes_eq q (name x)) xs)) (option_and_then (slice_get kinds) (place q names))
-find-places name kind q [] names kinds = refl
-find-places {X} {K} name kind q (x ∷ xs) names kinds = by (bytes_eq q (name x)) (find-places name kind q xs names kinds)
-  where
-    over : (o : Option ℕ) → option_and_then (slice_get (map kind (x ∷ xs) ++ kinds)) (option_map suc o) ≡ option_and_then (slice_get (map kind xs ++ kinds)) o
-    over None = refl
-    over (Some k) = refl
-
-    by : (b : Bool) → option_and_then (slice_get (map kind xs ++ kinds)) (place q (map name xs ++ names)) ≡ or_else (option_map kind (find (λ x. bytes_eq q (name x)) xs)) (option_and_then (slice_get kinds) (place q names)) → option_and_then (slice_get (map kind (x ∷ xs) ++ kinds)) (cond b (Some 0) (option_map suc (place q (map name xs ++ names)))) ≡ or_else (option_map kind (cond b (Some x) (find (λ x. bytes_eq q (name x)) xs))) (option_and_then (slice_get kinds) (place q names))
-    by true e = refl
-    by false e = over (place q (map name xs ++ names)) ∙ e
 
 pub same_test : {X : Type 0} (o : Option X) (r b : Bool) → is_some o ≡ not r → r ≡ b → is_none o ≡ b
 same_test None r b is e = by r b is e

@@ -1,5 +1,5 @@
 -- Loops that look for some element of a list, and tests that answer.
-use Rattle.std.proofs.Common.{◌≡◌, ℕ, ◌+◌, ◌<◌, ◌≤◌, zero, suc, Bool, true, false, IsTrue, ◌↔◌, List, [], ◌∷◌, ◌++◌, map, filter_map, filter, cond, take, length, get_or, Option, Some, None, Any, Contains, IsSomeAnd, ◌≢◌, ◌⊎◌, inl, inr, ⊎_elim, refl, sym, ap, subst, ◌∙◌, arith}
+use Rattle.std.proofs.Common.{◌≡◌, ℕ, ◌+◌, ◌<◌, ◌≤◌, zero, suc, Bool, true, false, IsTrue, ◌↔◌, List, [], ◌∷◌, ◌++◌, map, filter_map, filter, cond, take, length, get_or, Option, Some, None, Any, Contains, IsSomeAnd, ◌≢◌, ◌⊎◌, inl, inr, ⊎_elim, refl, sym, ap, subst, arith}
 use Rattle.std.{specs.List.cons_option, proofs.lemmas.Grind.common_steps}
 
 -- what an answer says

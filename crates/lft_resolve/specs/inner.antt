@@ -1,11 +1,11 @@
-pub mod Directories
 pub mod Expansion
 pub mod Hashing
-pub mod Kinds
 pub mod Lacking
+pub mod Lost
 pub mod Numbers
 pub mod Places
 pub mod References
+pub mod Scopes
 pub mod Sheets
 pub mod Tables
 pub mod Tests

@@ -4,7 +4,6 @@
 mod clocks;
 mod cues;
 mod declaring;
-mod directory;
 mod ends;
 mod joins;
 mod main_place;

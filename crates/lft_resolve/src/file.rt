@@ -1,98 +1,101 @@
-//! What the reactors of a file show to those that contain them, and what names are.
+//! The names of the reactors of a file, and what the names in them are.
 
-ghost use Rattle.std.specs.Prelude.{◌≡◌, List, IfOk, MatchOption, Some, None, find, is_some, option_map, bytes_eq};
-ghost use Rattle.lft_tree.specs.{Tree.{ReactorTree, ports_of}, View.{reactor_view, ref_view}};
-ghost use Rattle.lft_resolve.specs.{Instances.reactor_named, Kinds.{inner_port, kind_of}, inner.{References.reactor_trees, Tables.{IsFile, IsOutside, IsOwn}}};
+ghost use Rattle.std.specs.Prelude.{◌≡◌, List, IfOk, MatchOption, Some, None, find, option_and_then, slice_get, bytes_eq};
+ghost use Rattle.std.specs.List.{AllZip};
+ghost use Rattle.lft_tree.specs.{Tree.{ReactorTree, instances_of}, View.ref_view};
+ghost use Rattle.lft_resolve.specs.{Instances.reactor_named, Kinds.kind_of, inner.{Numbers.numbers_of, References.reactor_trees, Tables.{IsFile, IsHeld, IsOwn}}};
 
 use crate::index::Index;
 use crate::kinds::Kind;
-use crate::members;
-use crate::names::{Declared, reactor_names};
+use crate::names::reactor_names;
 use crate::own::Own;
 use lft_tag::NoMemory;
-use lft_tree::{Port, Reactor, Reference};
+use lft_tree::{Reactor, Reference};
 use std::alloc::Global;
 
-/// What a reactor shows to those that contain it: its ports and its parameters by name.
+/// What the reactors of a file declare, by number, and the numbers of those that have a name.
+/// Reactors are numbered from 0 in the order of the file.
 #[derive(Drop)]
-pub struct Outside<'a> {
+pub struct ReactorTable<'a> {
     names: Index<'a>,
-    ports: Vec<&'a Port>,
-    parameters: Index<'a>,
+    numbers: Vec<u32>,
+    pub owns: Vec<Own<'a>>,
 }
 
-impl<'a> Outside<'a> {
-    /// What the reactor shows.
-    fn of(alloc: Global, reactor: &'a Reactor) -> Result<Outside<'a>, NoMemory>
-        ensures { IfOk result (IsOutside (reactor_view reactor.now)) }
+/// The numbers of the reactors that have a name.
+fn numbers_of(alloc: Global, reactors: &[&Reactor]) -> Result<Vec<u32>, NoMemory>
+    ensures { IfOk result (λ v. v.items ≡ numbers_of 0 (reactor_trees reactors.now)) }
+{
+    // No text within the limit has so many, but a tree alone doesn't say so.
+    if reactors.len() > u32::MAX as usize {
+        return Err(NoMemory);
+    }
+    let mut numbers = Vec::new(alloc);
+    for (number, reactor) in reactors.iter().enumerate() {
+        if reactor.name.is_some() {
+            numbers.push(number as u32)?;
+        }
+    }
+    Ok(numbers)
+}
+
+/// What each reactor declares.
+fn owns_of<'a>(alloc: Global, reactors: &[&'a Reactor]) -> Result<Vec<Own<'a>>, NoMemory>
+    ensures { IfOk result (λ v. AllZip IsOwn (reactor_trees reactors.now) v.items) }
+{
+    let mut owns = Vec::new(alloc);
+    for reactor in reactors {
+        owns.push(Own::of(alloc, reactor)?)?;
+    }
+    Ok(owns)
+}
+
+impl<'a> ReactorTable<'a> {
+    /// The table of the reactors of a file.
+    pub(crate) fn of(alloc: Global, reactors: &[&'a Reactor]) -> Result<ReactorTable<'a>, NoMemory>
+        ensures { IfOk result (IsFile (reactor_trees reactors.now)) }
     {
-        Ok(Outside {
-            names: Index::of_members(alloc, reactor, Declared::Port)?,
-            ports: members::ports(alloc, &reactor.members)?,
-            parameters: Index::of_parameters(alloc, reactor)?,
+        let names = reactor_names(alloc, reactors)?;
+        Ok(ReactorTable {
+            names: Index::of(alloc, &names)?,
+            numbers: numbers_of(alloc, reactors)?,
+            owns: owns_of(alloc, reactors)?,
         })
     }
 
-    /// What the port of this name is to a reactor that contains an instance.
-    fn port(&self, name: &str) -> Option<Kind>
-        ensures { (r : ReactorTree) → IsOutside r self.now → result ≡ option_map (λ x. inner_port x.is_input) (find (λ x. bytes_eq name.now x.name) (ports_of r)) }
+    /// The number of the reactor of this name.
+    pub(crate) fn number(&self, name: &str) -> Option<u32>
+        ensures { (rs : List ReactorTree) → IsFile rs self.now → MatchOption result (reactor_named rs name.now ≡ None) (λ n. (r : ReactorTree) × (reactor_named rs name.now ≡ Some r) × (slice_get rs n ≡ Some r)) }
     {
         match self.names.get(name) {
-            Some(place) => match self.ports.get(place) {
-                Some(port) if port.is_input => Some(Kind::InnerInput),
-                Some(_) => Some(Kind::InnerOutput),
-                None => None,
-            },
+            Some(place) => self.numbers.get(place).copied(),
             None => None,
         }
     }
 
-    /// Whether there is a parameter of this name.
-    pub fn has_parameter(&self, name: &str) -> bool
-        ensures { (r : ReactorTree) → IsOutside r self.now → result ≡ is_some (find (λ p. bytes_eq name.now p.name) r.parameters) }
+    /// What the reactor of this name declares.
+    pub fn reactor(&self, name: &str) -> Option<&Own<'a>>
+        ensures { (rs : List ReactorTree) → IsFile rs self.now → MatchOption result (reactor_named rs name.now ≡ None) (λ o. (r : ReactorTree) × (reactor_named rs name.now ≡ Some r) × IsOwn r o.now) }
     {
-        self.parameters.get(name).is_some()
-    }
-
-    /// The places of the parameters.
-    pub fn parameters(&self) -> &Index<'a>
-        ensures { result.now ≡ self.now.parameters }
-    {
-        &self.parameters
-    }
-}
-
-/// The reactors of a file that have a name, by name.
-#[derive(Drop)]
-pub struct ReactorTable<'a> {
-    names: Index<'a>,
-    reactors: Vec<Outside<'a>>,
-}
-
-impl<'a> ReactorTable<'a> {
-    /// Those among the reactors of a file.
-    pub fn of(alloc: Global, reactors: &[&'a Reactor]) -> Result<ReactorTable<'a>, NoMemory>
-        ensures { IfOk result (IsFile (reactor_trees reactors.now)) }
-    {
-        let names = reactor_names(alloc, reactors)?;
-        let mut outsides = Vec::new(alloc);
-        for reactor in reactors {
-            if reactor.name.is_some() {
-                outsides.push(Outside::of(alloc, reactor)?)?;
-            }
+        match self.number(name) {
+            Some(number) => self.owns.get(number as usize),
+            None => None,
         }
-        Ok(ReactorTable {
-            names: Index::of(alloc, &names)?,
-            reactors: outsides,
-        })
     }
 
-    /// What the reactor of this name shows.
-    pub fn reactor(&self, name: &str) -> Option<&Outside<'a>>
-        ensures { (rs : List ReactorTree) → IsFile rs self.now → MatchOption result (reactor_named rs name.now ≡ None) (λ o. (r : ReactorTree) × (reactor_named rs name.now ≡ Some r) × IsOutside r o.now) }
+    /// The place of the instance of this name in a reactor, and what the reactor of that instance
+    /// declares.
+    pub(crate) fn inside(&self, own: &Own, name: &str) -> Option<(usize, &Own<'a>)>
+        ensures { (rs : List ReactorTree) (r : ReactorTree) → IsFile rs self.now → IsOwn r own.now → MatchOption result (option_and_then (λ i. reactor_named rs i.reactor) (find (λ i. bytes_eq name.now i.name) (instances_of r)) ≡ None) (λ p. IsHeld rs r name.now p.0 p.1.now) }
     {
-        match self.names.get(name) {
-            Some(place) => self.reactors.get(place),
+        match own.instances.get(name) {
+            Some(place) => match own.contained.get(place) {
+                Some(instance) => match self.reactor(instance.reactor.as_str()) {
+                    Some(inner) => Some((place, inner)),
+                    None => None,
+                },
+                None => None,
+            },
             None => None,
         }
     }
@@ -104,11 +107,8 @@ pub fn kind_of(file: &ReactorTable, own: &Own, reference: &Reference) -> Option<
 {
     match &reference.port {
         None => own.kind(reference.head.as_str()),
-        Some(port) => match own.instance(reference.head.as_str()) {
-            Some(instance) => match file.reactor(instance.reactor.as_str()) {
-                Some(outside) => outside.port(port.as_str()),
-                None => None,
-            },
+        Some(port) => match file.inside(own, reference.head.as_str()) {
+            Some((_, inner)) => inner.shown(port.as_str()),
             None => None,
         },
     }

@@ -15,6 +15,8 @@ pub mod kinds;
 pub mod members;
 pub mod names;
 pub mod own;
+mod scopes;
 pub mod times;
 
 pub use fault::ReactorFault;
+pub use scopes::Scopes;

@@ -2,18 +2,17 @@
 
 ghost use Rattle.std.specs.Prelude.{◌≡◌, IfOk, IfSome, IfNone};
 ghost use Rattle.lft_tree.specs.Tree.{reactors_of};
-ghost use Rattle.lft_resolve.specs.{Causes.{DuplicateName, first_causes, later_causes}, inner.References.reactor_trees};
-ghost use Rattle.lft_validate.specs.{inner.{Scopes.AreNames, Witnesses.{IsFirstShown, time_causes}}, Witnesses.{Shows, fault_shown}};
+ghost use Rattle.lft_resolve.specs.{Causes.{DuplicateName, first_causes, later_causes}, inner.{References.reactor_trees, Tables.IsFile}};
+ghost use Rattle.lft_validate.specs.{inner.Witnesses.{IsFirstShown, time_causes}, Witnesses.{Shows, fault_shown}};
 
 use crate::declared::{same_reactors, some_declared_twice};
 use crate::fault::ProgramFault;
 use crate::mains::{long_default, no_main, two_mains};
 use crate::members::first_member;
-use crate::scopes::Scopes;
 use crate::sources::two_sources;
 use crate::witness::Witness;
+use lft_resolve::Scopes;
 use lft_resolve::file::ReactorTable;
-use lft_resolve::own::Own;
 use lft_tag::NoMemory;
 use lft_tree::Reactor;
 use std::alloc::Global;
@@ -23,9 +22,8 @@ fn duplicate_name(
     alloc: Global,
     reactors: &[&Reactor],
     file: &ReactorTable,
-    owns: &[Own],
 ) -> Result<Option<Witness>, NoMemory>
-    requires { AreNames (reactor_trees reactors.now) file.now owns.now }
+    requires { IsFile (reactor_trees reactors.now) file.now }
     ensures shows { IfOk result (λ found. IfSome found (Shows (reactor_trees reactors.now))) }
     ensures cause { IfOk result (λ found. IfSome found (λ w. fault_shown w ≡ ProgramFault.DuplicateName)) }
     ensures none { IfOk result (λ found. IfNone found (¬ DuplicateName (reactor_trees reactors.now))) }
@@ -36,7 +34,7 @@ fn duplicate_name(
     if let Some(found) = some_declared_twice(alloc, reactors)? {
         return Ok(Some(found));
     }
-    first_member(alloc, ProgramFault::DuplicateName, reactors, file, owns)
+    first_member(alloc, ProgramFault::DuplicateName, reactors, file)
 }
 
 // Each cause is looked for once: what is found shows it.
@@ -44,9 +42,8 @@ fn first_of(
     alloc: Global,
     reactors: &[&Reactor],
     file: &ReactorTable,
-    owns: &[Own],
 ) -> Result<Option<Witness>, NoMemory>
-    requires { AreNames (reactor_trees reactors.now) file.now owns.now }
+    requires { IsFile (reactor_trees reactors.now) file.now }
     ensures { IfOk result (IsFirstShown (reactor_trees reactors.now) (first_causes (reactor_trees reactors.now))) }
 {
     if let Some(found) = no_main(reactors) {
@@ -55,10 +52,10 @@ fn first_of(
     if let Some(found) = two_mains(reactors) {
         return Ok(Some(found));
     }
-    if let Some(found) = duplicate_name(alloc, reactors, file, owns)? {
+    if let Some(found) = duplicate_name(alloc, reactors, file)? {
         return Ok(Some(found));
     }
-    first_member(alloc, ProgramFault::UnknownReactor, reactors, file, owns)
+    first_member(alloc, ProgramFault::UnknownReactor, reactors, file)
 }
 
 /// Looks for a main reactor, for a second one, for a name that is declared twice, and for a `new` of a
@@ -67,37 +64,36 @@ fn first_of(
 pub fn check_first(alloc: Global, scopes: &Scopes) -> Result<Option<Witness>, NoMemory>
     ensures { IfOk result (IsFirstShown (reactors_of scopes.now) (first_causes (reactors_of scopes.now))) }
 {
-    first_of(alloc, scopes.reactors(), scopes.file(), scopes.owns())
+    first_of(alloc, scopes.reactors(), scopes.file())
 }
 
 fn later_of(
     alloc: Global,
     reactors: &[&Reactor],
     file: &ReactorTable,
-    owns: &[Own],
 ) -> Result<Option<Witness>, NoMemory>
-    requires { AreNames (reactor_trees reactors.now) file.now owns.now }
+    requires { IsFile (reactor_trees reactors.now) file.now }
     ensures { IfOk result (IsFirstShown (reactor_trees reactors.now) (later_causes (reactor_trees reactors.now))) }
 {
-    if let Some(found) = first_member(alloc, ProgramFault::UnknownName, reactors, file, owns)? {
+    if let Some(found) = first_member(alloc, ProgramFault::UnknownName, reactors, file)? {
         return Ok(Some(found));
     }
-    if let Some(found) = first_member(alloc, ProgramFault::WrongPlace, reactors, file, owns)? {
+    if let Some(found) = first_member(alloc, ProgramFault::WrongPlace, reactors, file)? {
         return Ok(Some(found));
     }
-    if let Some(found) = first_member(alloc, ProgramFault::MainHasPorts, reactors, file, owns)? {
+    if let Some(found) = first_member(alloc, ProgramFault::MainHasPorts, reactors, file)? {
         return Ok(Some(found));
     }
     if let Some(found) = two_sources(alloc, reactors)? {
         return Ok(Some(found));
     }
-    if let Some(found) = first_member(alloc, ProgramFault::WidthMismatch, reactors, file, owns)? {
+    if let Some(found) = first_member(alloc, ProgramFault::WidthMismatch, reactors, file)? {
         return Ok(Some(found));
     }
-    if let Some(found) = first_member(alloc, ProgramFault::NoTrigger, reactors, file, owns)? {
+    if let Some(found) = first_member(alloc, ProgramFault::NoTrigger, reactors, file)? {
         return Ok(Some(found));
     }
-    first_member(alloc, ProgramFault::DuplicateInput, reactors, file, owns)
+    first_member(alloc, ProgramFault::DuplicateInput, reactors, file)
 }
 
 /// Looks in each reactor of the file for a name that is nothing, for one that may not stand in its place,
@@ -107,22 +103,21 @@ fn later_of(
 pub fn check_later(alloc: Global, scopes: &Scopes) -> Result<Option<Witness>, NoMemory>
     ensures { IfOk result (IsFirstShown (reactors_of scopes.now) (later_causes (reactors_of scopes.now))) }
 {
-    later_of(alloc, scopes.reactors(), scopes.file(), scopes.owns())
+    later_of(alloc, scopes.reactors(), scopes.file())
 }
 
 fn times_of(
     alloc: Global,
     reactors: &[&Reactor],
     file: &ReactorTable,
-    owns: &[Own],
 ) -> Result<Option<Witness>, NoMemory>
-    requires { AreNames (reactor_trees reactors.now) file.now owns.now }
+    requires { IsFile (reactor_trees reactors.now) file.now }
     ensures { IfOk result (IsFirstShown (reactor_trees reactors.now) (time_causes (reactor_trees reactors.now))) }
 {
     if let Some(found) = long_default(reactors) {
         return Ok(Some(found));
     }
-    first_member(alloc, ProgramFault::DelayTooLong, reactors, file, owns)
+    first_member(alloc, ProgramFault::DelayTooLong, reactors, file)
 }
 
 /// Looks for a time in some reactor that is past 10^18 nanoseconds: a default of a parameter, or any other
@@ -130,5 +125,5 @@ fn times_of(
 pub fn check_times(alloc: Global, scopes: &Scopes) -> Result<Option<Witness>, NoMemory>
     ensures { IfOk result (IsFirstShown (reactors_of scopes.now) (time_causes (reactors_of scopes.now))) }
 {
-    times_of(alloc, scopes.reactors(), scopes.file(), scopes.owns())
+    times_of(alloc, scopes.reactors(), scopes.file())
 }

@@ -3,7 +3,7 @@
 ghost use Rattle.std.specs.Prelude.{◌≡◌, ◌<◌, List, Any, IfOk, IfSome, IfNone, length, slice_get, IsSomeAnd};
 ghost use Rattle.lft_tree.specs.{Tree.ReactorTree, View.{member_view, reactor_view}};
 ghost use Rattle.lft_resolve.specs.inner.{References.reactor_trees, Tables.{IsFile, IsOwn}};
-ghost use Rattle.lft_validate.specs.{Findings.{IsFinding, fault_found}, inner.{Scopes.AreNames, Shown.{ShowsCause, SomeShows}}};
+ghost use Rattle.lft_validate.specs.{Findings.{IsFinding, fault_found}, inner.Shown.{ShowsCause, SomeShows}};
 ghost use Rattle.lft_validate.specs.Witnesses.{HasFinding, Shows, fault_shown};
 
 use crate::fault::ProgramFault;
@@ -84,28 +84,21 @@ fn first_place(
     Ok(None)
 }
 
-/// The first member of the file that shows the cause. The tables are those of the names of its reactors.
+/// The first member of the file that shows the cause. The table has the names of its reactors.
 pub(crate) fn first_member(
     alloc: Global,
     cause: ProgramFault,
     reactors: &[&Reactor],
     file: &ReactorTable,
-    owns: &[Own],
 ) -> Result<Option<Witness>, NoMemory>
-    requires { AreNames (reactor_trees reactors.now) file.now owns.now }
+    requires { IsFile (reactor_trees reactors.now) file.now }
     ensures shows { IfOk result (λ found. IfSome found (Shows (reactor_trees reactors.now))) }
     ensures cause { IfOk result (λ found. IfSome found (λ w. fault_shown w ≡ cause)) }
     ensures none { IfOk result (λ found. IfNone found (¬ SomeShows (reactor_trees reactors.now) cause)) }
 {
     for reactor in 0..reactors.len() {
-        let names = &owns[reactor];
-        if let Some((member, finding)) = first_place(
-            alloc,
-            cause,
-            file,
-            names,
-            reactors[reactor],
-        )? {
+        let own = &file.owns[reactor];
+        if let Some((member, finding)) = first_place(alloc, cause, file, own, reactors[reactor])? {
             return Ok(Some(Witness::Member {
                 reactor,
                 member,

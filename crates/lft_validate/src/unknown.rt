@@ -2,14 +2,14 @@
 
 ghost use Rattle.std.specs.Prelude.{◌≡◌, ◌↔◌, List, None, Any, IfOk, IfSome, IfNone, IsTrue, IsSomeAnd, map, slice_get};
 ghost use Rattle.lft_tree.specs.{Tree.{ReactorTree, instance_in}, View.{assignment_view, instance_view, member_view, time_view}};
-ghost use Rattle.lft_resolve.specs.{Causes.{GivesUnknown, IsUnknownTime, LacksParameter}, inner.{References.ref_trees, Tables.{IsFile, IsOutside, IsOwn}}};
+ghost use Rattle.lft_resolve.specs.{Causes.{GivesUnknown, IsUnknownTime, LacksParameter}, inner.{References.ref_trees, Tables.{IsFile, IsOwn}}};
 ghost use Rattle.lft_validate.specs.{Members.{names_of, times_of}, inner.{Members.time_trees, Shown.{ShowsUnknown, SomeName}}};
 ghost use Rattle.lft_validate.specs.Findings.{IsFinding, IsForNone, IsNothing, fault_found};
 ghost use Rattle.lft_validate.specs.declared.fault.ProgramFault.TheVariants as faults;
 
 use crate::finding::{Finding, ROLES};
 use crate::names::{names_of, times_of};
-use lft_resolve::file::{Outside, ReactorTable, kind_of};
+use lft_resolve::file::{ReactorTable, kind_of};
 use lft_resolve::kinds::Role;
 use lft_resolve::own::Own;
 use lft_tag::NoMemory;
@@ -91,19 +91,19 @@ fn first_unknown_time(own: &Own, times: &[&TimeExpression]) -> Option<usize>
 }
 
 /// Whether the value is for what isn't a parameter.
-fn is_for_none(outside: &Outside, assignment: &Assignment) -> bool
-    ensures { (r : ReactorTree) → IsOutside r outside.now → IsTrue result ↔ LacksParameter r (assignment_view assignment.now) }
+fn is_for_none(inner: &Own, assignment: &Assignment) -> bool
+    ensures { (r : ReactorTree) → IsOwn r inner.now → IsTrue result ↔ LacksParameter r (assignment_view assignment.now) }
 {
-    !outside.has_parameter(assignment.name.as_str())
+    !inner.has_parameter(assignment.name.as_str())
 }
 
 /// The first of the values that is for what isn't a parameter.
-fn first_for_none(outside: &Outside, given: &[Assignment]) -> Option<usize>
-    ensures some { (r : ReactorTree) → IsOutside r outside.now → IfSome result (λ n. IsSomeAnd (slice_get (map assignment_view given.now) n) (LacksParameter r)) }
-    ensures none { (r : ReactorTree) → IsOutside r outside.now → IfNone result (¬ Any (LacksParameter r) (map assignment_view given.now)) }
+fn first_for_none(inner: &Own, given: &[Assignment]) -> Option<usize>
+    ensures some { (r : ReactorTree) → IsOwn r inner.now → IfSome result (λ n. IsSomeAnd (slice_get (map assignment_view given.now) n) (LacksParameter r)) }
+    ensures none { (r : ReactorTree) → IsOwn r inner.now → IfNone result (¬ Any (LacksParameter r) (map assignment_view given.now)) }
 {
     for value in 0..given.len() {
-        if is_for_none(outside, &given[value]) {
+        if is_for_none(inner, &given[value]) {
             return Some(value);
         }
     }
@@ -116,7 +116,7 @@ fn unknown_value(file: &ReactorTable, instance: &Instance) -> Option<usize>
     ensures none { (rs : List ReactorTree) → IsFile rs file.now → IfNone result (¬ GivesUnknown rs (instance_view instance.now)) }
 {
     match file.reactor(instance.reactor.as_str()) {
-        Some(outside) => first_for_none(outside, &instance.given),
+        Some(inner) => first_for_none(inner, &instance.given),
         None => None,
     }
 }

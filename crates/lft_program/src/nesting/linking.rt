@@ -9,11 +9,12 @@ ghost use Rattle.lft_program.specs.declared.refusal.Refusal.TheVariants as refus
 use crate::nesting::nest::Nest;
 use crate::nesting::tables::Tables;
 use crate::refusal::Refusal;
+use lft_resolve::Scopes;
 use lft_resolve::expansion::{
     Instance, OriginFault, PortSources, Reached, Site, find_origins, find_sources, way_back,
 };
 use lft_tag::{NoMemory, Shift, Source};
-use lft_validate::{Scopes, check_times};
+use lft_validate::check_times;
 use std::alloc::Global;
 
 /// How a port is reached: the port before it with the delay of the connection from it in

@@ -1,7 +1,7 @@
 -- What going back along joins keeps.
-use Rattle.std.proofs.Common.{◌≡◌, ◌≢◌, ℕ, ◌<◌, ◌⊎◌, inl, inr, List, [], ◌∷◌, ◌++◌, refl, sym, subst, Option, Some, None, slice_get}
+use Rattle.std.proofs.Common.{◌≡◌, ◌≢◌, ℕ, ◌⊎◌, inl, inr, List, [], ◌∷◌, ◌++◌, refl, sym, subst, Option, Some, None, slice_get}
 use Rattle.lft_tag.specs.declared.Source.{Source}
-use Rattle.lft_resolve.specs.{declared.expansion.joins.Site.Site, inner.Expansion.{Sources.{Leads, one, more, AreInside}, Ways.{IsWayBack, LeadsBack}}}
+use Rattle.lft_resolve.specs.{declared.expansion.joins.Site.Site, inner.Expansion.{Sources.{Leads, one, more}, Ways.{IsWayBack, LeadsBack}}}
 use Rattle.lft_resolve.proofs.ExpansionLemmas.Settled.{leads_next}
 
 -- one join more

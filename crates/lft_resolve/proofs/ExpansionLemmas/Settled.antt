@@ -1,5 +1,5 @@
 -- The ports one after another.
-use Rattle.std.proofs.Common.{◌≡◌, ◌≢◌, ℕ, ◌+◌, ◌<◌, ◌⊎◌, inl, inr, List, ◌∷◌, ◌++◌, length, refl, sym, ap, ◌∙◌, subst, arith, Option, Some, slice_get}
+use Rattle.std.proofs.Common.{◌≡◌, ◌≢◌, ℕ, ◌<◌, ◌⊎◌, inl, inr, List, length, refl, sym, ap, ◌∙◌, subst, arith, Option, Some, slice_get}
 use Rattle.std.proofs.lemmas.Option.{slice_get_within}
 use Rattle.lft_resolve.proofs.ExpansionLemmas.Settling.{leads_on}
 use Rattle.lft_resolve.specs.declared.expansion.origins.{Reached.Reached, Mark.{Mark, TheVariants.{New, Done}}}

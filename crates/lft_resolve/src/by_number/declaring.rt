@@ -2,18 +2,20 @@
 
 ghost use Rattle.std.specs.Prelude.{◌≡◌, map, flat_map, option_to_list, Any, IfOk};
 ghost use Rattle.std.specs.List.{AllZip};
-ghost use Rattle.lft_tree.specs.{Tree.{ReactorTree, reactors_of}, View.{reactor_view, tree_view}};
-ghost use Rattle.lft_resolve.specs.{Causes.{NoneHolds, first_causes, later_causes}, Kinds.timer_times};
+ghost use Rattle.lft_tree.specs.Tree.{ReactorTree, reactors_of};
+ghost use Rattle.lft_resolve.specs.{Causes.{NoneHolds, later_causes}, Kinds.timer_times};
 ghost use Rattle.lft_resolve.specs.inner.{Lacking.{LacksPlace, TimeLacksPlace}, Places.{IsIndexOf, place_in}};
-ghost use Rattle.lft_resolve.specs.inner.References.{action_trees, port_trees, reactor_trees, timer_trees};
+ghost use Rattle.lft_resolve.specs.inner.{References.{action_trees, port_trees, timer_trees}, Tables.IsOwn};
 ghost use Rattle.lft_resolve.specs.inner.Sheets.{AreDeclarations, IsActionSheet, IsDeclarations, IsTimerSheet};
 
 use crate::by_number::clocks::clock_or_zero;
 use crate::by_number::sheets::{ActionSheet, Declarations, TimerSheet};
 use crate::index::Index;
 use crate::members;
+use crate::own::Own;
+use crate::scopes::Scopes;
 use lft_tag::NoMemory;
-use lft_tree::{Action, Ast, Port, Reactor, Timer};
+use lft_tree::{Action, Port, Timer};
 use std::alloc::Global;
 
 /// Whether each of the ports is an input.
@@ -66,43 +68,28 @@ fn action_sheets(
 }
 
 /// What the reactor declares.
-fn declarations_of(alloc: Global, reactor: &Reactor) -> Result<Declarations, NoMemory>
-    requires { TimeLacksPlace (reactor_view reactor.now) → ⊥ }
-    ensures { IfOk result (IsDeclarations (reactor_view reactor.now)) }
+fn declarations_of(alloc: Global, own: &Own) -> Result<Declarations, NoMemory>
+    requires { (r : ReactorTree) × IsOwn r own.now × (TimeLacksPlace r → ⊥) }
+    ensures { IfOk result (λ made. (r : ReactorTree) → IsOwn r own.now → IsDeclarations r made) }
 {
-    let parameters = Index::of_parameters(alloc, reactor)?;
-    let own_ports = members::ports(alloc, &reactor.members)?;
-    let own_timers = members::timers(alloc, &reactor.members)?;
-    let own_actions = members::actions(alloc, &reactor.members)?;
-    let inputs = port_inputs(alloc, &own_ports)?;
-    let timers = timer_sheets(alloc, &parameters, &own_timers)?;
-    let actions = action_sheets(alloc, &parameters, &own_actions)?;
+    let own_timers = members::timers(alloc, &own.reactor.members)?;
+    let own_actions = members::actions(alloc, &own.reactor.members)?;
     Ok(Declarations {
-        inputs,
-        timers,
-        actions,
+        inputs: port_inputs(alloc, &own.declared_ports)?,
+        timers: timer_sheets(alloc, &own.parameters, &own_timers)?,
+        actions: action_sheets(alloc, &own.parameters, &own_actions)?,
     })
-}
-
-fn declarations_among(alloc: Global, reactors: &[&Reactor]) -> Result<Vec<Declarations>, NoMemory>
-    requires { Any TimeLacksPlace (reactor_trees reactors.now) → ⊥ }
-    ensures { IfOk result (λ v. AreDeclarations (reactor_trees reactors.now) v.items) }
-{
-    let mut table = Vec::new(alloc);
-    for reactor in reactors {
-        let made = declarations_of(alloc, reactor)?;
-        table.push(made)?;
-    }
-    Ok(table)
 }
 
 /// The ports, timers and actions of each reactor, where reactors are numbered from 0 in the order
 /// of the file. A named time is the place of the reactor's parameter of that name.
-pub fn declarations(alloc: Global, ast: &Ast) -> Result<Vec<Declarations>, NoMemory>
-    requires first { NoneHolds (first_causes (reactors_of (tree_view ast.now))) }
-    requires later { NoneHolds (later_causes (reactors_of (tree_view ast.now))) }
-    ensures { IfOk result (λ v. AreDeclarations (reactors_of (tree_view ast.now)) v.items) }
+pub fn declarations(alloc: Global, scopes: &Scopes) -> Result<Vec<Declarations>, NoMemory>
+    requires { NoneHolds (later_causes (reactors_of scopes.now)) }
+    ensures { IfOk result (λ v. AreDeclarations (reactors_of scopes.now) v.items) }
 {
-    let reactors = members::reactors(alloc, &ast.items)?;
-    declarations_among(alloc, &reactors)
+    let mut table = Vec::new(alloc);
+    for own in &scopes.file().owns {
+        table.push(declarations_of(alloc, own)?)?;
+    }
+    Ok(table)
 }

@@ -2,14 +2,15 @@
 
 ghost use Rattle.std.specs.Prelude.{◌≡◌, ◌≢◌, List, None, false, IfOk, IfErr, MatchOption};
 ghost use Rattle.lft_tree.specs.{Tree.ReactorTree, View.ref_view};
-ghost use Rattle.lft_resolve.specs.{inner.{Directories.{IsAt, IsTimerAt, Lacks, inner_ref, is_port, is_spot}, Sheets.{IsEnd, IsSpot}}, Kinds.inner_kind};
+ghost use Rattle.lft_resolve.specs.{inner.{Lost.{IsTimerAt, Lacks, inner_ref, is_port, is_spot}, Sheets.{IsEnd, IsSpot}, Tables.{IsFile, IsOwn}}, Kinds.inner_kind};
 ghost use Rattle.lft_resolve.specs.Sheets.{is_timer};
 ghost use Rattle.lft_resolve.specs.declared.fault.ReactorFault.TheVariants as faults;
 
 use crate::ReactorFault;
-use crate::by_number::directory::Directory;
 use crate::by_number::sheets::NamedThing;
 use crate::expansion::End;
+use crate::file::ReactorTable;
+use crate::own::Own;
 use lft_tag::NoMemory;
 use lft_tree::Reference;
 
@@ -24,61 +25,59 @@ pub(crate) fn narrow(place: usize) -> Result<u32, NoMemory>
 }
 
 /// The port of a contained instance that a name with a point stands for.
-fn inner_end(
-    directory: &Directory,
-    number: usize,
-    head: &str,
-    name: &str,
-) -> Result<End, ReactorFault>
-    ensures ok { IfOk result (λ end. (rs : List ReactorTree) (r : ReactorTree) → IsAt rs directory.now number r → IsEnd rs r (inner_ref head.now name.now) end) }
-    ensures lost { IfErr result (λ f. f ≢ faults.NoMemory → (rs : List ReactorTree) (r : ReactorTree) → IsAt rs directory.now number r → inner_kind rs r head.now name.now ≡ None) }
+fn inner_end(file: &ReactorTable, own: &Own, head: &str, name: &str) -> Result<End, ReactorFault>
+    ensures ok { IfOk result (λ end. (rs : List ReactorTree) (r : ReactorTree) → IsFile rs file.now → IsOwn r own.now → IsEnd rs r (inner_ref head.now name.now) end) }
+    ensures lost { IfErr result (λ f. f ≢ faults.NoMemory → (rs : List ReactorTree) (r : ReactorTree) → IsFile rs file.now → IsOwn r own.now → inner_kind rs r head.now name.now ≡ None) }
 {
-    match directory.inner(number, head, name) {
-        Some((instance, port)) => Ok(End::Inner {
-            instance,
-            port: narrow(port)?,
-        }),
+    match file.inside(own, head) {
+        Some((instance, inner)) => match inner.ports.get(name) {
+            Some(port) => Ok(End::Inner {
+                instance,
+                port: narrow(port)?,
+            }),
+            None => Err(ReactorFault::UnknownName),
+        },
         None => Err(ReactorFault::UnknownName),
     }
 }
 
-/// The port that a name in the reactor of this number stands for.
+/// The port that a name in a reactor stands for.
 pub(crate) fn end(
-    directory: &Directory,
-    number: usize,
+    file: &ReactorTable,
+    own: &Own,
     reference: &Reference,
 ) -> Result<End, ReactorFault>
-    ensures ok { IfOk result (λ end. (rs : List ReactorTree) (r : ReactorTree) → IsAt rs directory.now number r → IsEnd rs r (ref_view reference.now) end) }
-    ensures lost { IfErr result (λ f. f ≢ faults.NoMemory → (rs : List ReactorTree) (r : ReactorTree) → IsAt rs directory.now number r → Lacks is_port rs r (ref_view reference.now)) }
+    ensures ok { IfOk result (λ end. (rs : List ReactorTree) (r : ReactorTree) → IsFile rs file.now → IsOwn r own.now → IsEnd rs r (ref_view reference.now) end) }
+    ensures lost { IfErr result (λ f. f ≢ faults.NoMemory → (rs : List ReactorTree) (r : ReactorTree) → IsFile rs file.now → IsOwn r own.now → Lacks is_port rs r (ref_view reference.now)) }
 {
     match &reference.port {
-        None => match directory.port(number, reference.head.as_str()) {
+        None => match own.ports.get(reference.head.as_str()) {
             Some(port) => Ok(End::Own(narrow(port)?)),
             None => Err(ReactorFault::UnknownName),
         },
-        Some(name) => inner_end(directory, number, reference.head.as_str(), name.as_str()),
+        Some(name) => inner_end(file, own, reference.head.as_str(), name.as_str()),
     }
 }
 
-/// The port or action that a name in the reactor of this number stands for.
+/// The port or action that a name in a reactor stands for.
 pub(crate) fn spot(
-    directory: &Directory,
-    number: usize,
+    file: &ReactorTable,
+    own: &Own,
     reference: &Reference,
 ) -> Result<NamedThing, ReactorFault>
-    ensures ok { IfOk result (λ spot. (rs : List ReactorTree) (r : ReactorTree) → IsAt rs directory.now number r → IsSpot rs r (ref_view reference.now) spot) }
-    ensures lost { IfErr result (λ f. f ≢ faults.NoMemory → (rs : List ReactorTree) (r : ReactorTree) → IsAt rs directory.now number r → Lacks is_spot rs r (ref_view reference.now)) }
+    ensures ok { IfOk result (λ spot. (rs : List ReactorTree) (r : ReactorTree) → IsFile rs file.now → IsOwn r own.now → IsSpot rs r (ref_view reference.now) spot) }
+    ensures lost { IfErr result (λ f. f ≢ faults.NoMemory → (rs : List ReactorTree) (r : ReactorTree) → IsFile rs file.now → IsOwn r own.now → Lacks is_spot rs r (ref_view reference.now)) }
 {
     match &reference.port {
-        None => match directory.port(number, reference.head.as_str()) {
+        None => match own.ports.get(reference.head.as_str()) {
             Some(port) => Ok(NamedThing::Port(End::Own(narrow(port)?))),
-            None => match directory.action(number, reference.head.as_str()) {
+            None => match own.actions.get(reference.head.as_str()) {
                 Some(action) => Ok(NamedThing::Action(narrow(action)?)),
                 None => Err(ReactorFault::UnknownName),
             },
         },
         Some(name) => {
-            match inner_end(directory, number, reference.head.as_str(), name.as_str()) {
+            match inner_end(file, own, reference.head.as_str(), name.as_str()) {
                 Ok(end) => Ok(NamedThing::Port(end)),
                 Err(fault) => Err(fault),
             }
@@ -86,12 +85,12 @@ pub(crate) fn spot(
     }
 }
 
-/// The place of the timer that a name in the reactor of this number stands for, if it is one.
-pub(crate) fn timer(directory: &Directory, number: usize, reference: &Reference) -> Option<usize>
-    ensures { (rs : List ReactorTree) (r : ReactorTree) → IsAt rs directory.now number r → MatchOption result (is_timer r (ref_view reference.now).head (ref_view reference.now).port ≡ false) (IsTimerAt r (ref_view reference.now)) }
+/// The place of the timer that a name in a reactor stands for, if it is one.
+pub(crate) fn timer(own: &Own, reference: &Reference) -> Option<usize>
+    ensures { (r : ReactorTree) → IsOwn r own.now → MatchOption result (is_timer r (ref_view reference.now).head (ref_view reference.now).port ≡ false) (IsTimerAt r (ref_view reference.now)) }
 {
     match &reference.port {
-        None => directory.timer(number, reference.head.as_str()),
+        None => own.timers.get(reference.head.as_str()),
         Some(_) => None,
     }
 }

@@ -1,13 +1,12 @@
 //! Where the main reactor stands.
 
 ghost use Rattle.std.specs.Prelude.{◌≡◌, ◌<◌, ◌^◌, Some, find, length, slice_get, IfOk, MatchOption};
-ghost use Rattle.lft_tree.specs.{Tree.{ReactorTree, reactors_of}, View.tree_view};
+ghost use Rattle.lft_tree.specs.Tree.{ReactorTree, reactors_of};
 ghost use Rattle.lft_resolve.specs.{Causes.{NoMain, NoneHolds, first_causes}, Instances.main_of, inner.References.reactor_trees};
 
-use crate::members;
+use crate::scopes::Scopes;
 use lft_tag::NoMemory;
-use lft_tree::{Ast, Reactor};
-use std::alloc::Global;
+use lft_tree::Reactor;
 
 /// The number of the first main reactor.
 fn number_of_main(reactors: &[&Reactor]) -> Option<u32>
@@ -23,16 +22,16 @@ fn number_of_main(reactors: &[&Reactor]) -> Option<u32>
 }
 
 /// The number of the main reactor, where reactors are numbered from 0 in the order of the file.
-pub fn main_number(alloc: Global, ast: &Ast) -> Result<u32, NoMemory>
-    requires { NoneHolds (first_causes (reactors_of (tree_view ast.now))) }
-    ensures { IfOk result (λ n. (r : ReactorTree) × (main_of (tree_view ast.now) ≡ Some r) × (slice_get (reactors_of (tree_view ast.now)) n ≡ Some r)) }
+pub fn main_number(scopes: &Scopes) -> Result<u32, NoMemory>
+    requires { NoneHolds (first_causes (reactors_of scopes.now)) }
+    ensures { IfOk result (λ n. (r : ReactorTree) × (main_of scopes.now ≡ Some r) × (slice_get (reactors_of scopes.now) n ≡ Some r)) }
 {
-    let reactors = members::reactors(alloc, &ast.items)?;
+    let reactors = scopes.reactors();
     // No text within the limit has so many, but a tree alone doesn't say so.
     if reactors.len() > u32::MAX as usize {
         return Err(NoMemory);
     }
-    match number_of_main(&reactors) {
+    match number_of_main(reactors) {
         Some(number) => Ok(number),
         None => unreachable!(),
     }

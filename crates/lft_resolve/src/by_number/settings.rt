@@ -2,19 +2,20 @@
 
 ghost use Rattle.std.specs.Prelude.{◌≡◌, List, None, map, flat_map, Any, IfOk};
 ghost use Rattle.std.specs.List.{AllZip};
-ghost use Rattle.lft_tree.specs.{Tree.{ReactorTree, instances_of, nanoseconds, reactors_of}, View.{assignment_view, parameter_view, reactor_view, tree_view}};
-ghost use Rattle.lft_resolve.specs.Causes.{LacksReactor, NoneHolds, SomeGivesUnknown, first_causes, later_causes};
+ghost use Rattle.lft_tree.specs.{Tree.{ReactorTree, nanoseconds, reactors_of}, View.{assignment_view, parameter_view}};
+ghost use Rattle.lft_resolve.specs.Causes.{NoneHolds, first_causes, later_causes};
 ghost use Rattle.lft_resolve.specs.inner.{Lacking.{AreOf, LacksName, LacksPlace, TimeLacksPlace}, Places.{IsIndexOf, place_in}};
-ghost use Rattle.lft_resolve.specs.inner.{References.{instance_trees, reactor_trees}, Sheets.{AreGiven, AreParameters, IsGiven, IsParameters, kept}};
-ghost use Rattle.lft_resolve.specs.inner.Tables.{IsFile};
+ghost use Rattle.lft_resolve.specs.inner.{References.instance_trees, Sheets.{AreGiven, AreParameters, IsGiven, IsParameters, kept}};
+ghost use Rattle.lft_resolve.specs.inner.Tables.{IsFile, IsOwn};
 
 use crate::by_number::clocks::{clock, kept};
 use crate::expansion::{Given, Parameters};
 use crate::file::ReactorTable;
 use crate::index::Index;
-use crate::members;
+use crate::own::Own;
+use crate::scopes::Scopes;
 use lft_tag::NoMemory;
-use lft_tree::{Assignment, Ast, Instance, Parameter, Reactor};
+use lft_tree::{Assignment, Instance, Parameter};
 use std::alloc::Global;
 
 /// The defaults of the parameters.
@@ -76,56 +77,40 @@ fn given_to_each(
 {
     let mut given = Vec::new(alloc);
     for instance in instances {
-        let outside = match file.reactor(instance.reactor.as_str()) {
-            Some(outside) => outside,
+        let inner = match file.reactor(instance.reactor.as_str()) {
+            Some(inner) => inner,
             None => unreachable!(),
         };
-        let one = given_all(alloc, parameters, outside.parameters(), &instance.given)?;
+        let one = given_all(alloc, parameters, &inner.parameters, &instance.given)?;
         given.push(one)?;
     }
     Ok(given)
 }
 
-/// The defaults of the reactor's parameters and what it gives to those of its instances.
-fn parameters_of(
-    alloc: Global,
-    file: &ReactorTable,
-    reactor: &Reactor,
-) -> Result<Parameters, NoMemory>
-    requires instances { AreOf file.now (instances_of (reactor_view reactor.now)) }
-    requires times { TimeLacksPlace (reactor_view reactor.now) → ⊥ }
-    ensures { IfOk result (λ p. (rs : List ReactorTree) → IsFile rs file.now → IsParameters rs (reactor_view reactor.now) p) }
+/// The defaults of a reactor's parameters and what it gives to those of its instances.
+fn parameters_of(alloc: Global, file: &ReactorTable, own: &Own) -> Result<Parameters, NoMemory>
+    requires instances { AreOf file.now (instance_trees own.now.contained.items) }
+    requires times { (r : ReactorTree) × IsOwn r own.now × (TimeLacksPlace r → ⊥) }
+    ensures { IfOk result (λ p. (rs : List ReactorTree) (r : ReactorTree) → IsFile rs file.now → IsOwn r own.now → IsParameters rs r p) }
 {
-    let places = Index::of_parameters(alloc, reactor)?;
-    let instances = members::instances(alloc, &reactor.members)?;
-    let defaults = default_times(alloc, &reactor.parameters)?;
-    let given = given_to_each(alloc, file, &places, &instances)?;
-    Ok(Parameters { defaults, given })
-}
-
-fn parameters_among(alloc: Global, reactors: &[&Reactor]) -> Result<Vec<Parameters>, NoMemory>
-    requires known { Any (LacksReactor (reactor_trees reactors.now)) (reactor_trees reactors.now) → ⊥ }
-    requires named { Any (SomeGivesUnknown (reactor_trees reactors.now)) (reactor_trees reactors.now) → ⊥ }
-    requires times { Any TimeLacksPlace (reactor_trees reactors.now) → ⊥ }
-    ensures { IfOk result (λ v. AreParameters (reactor_trees reactors.now) v.items) }
-{
-    let file = ReactorTable::of(alloc, reactors)?;
-    let mut table = Vec::new(alloc);
-    for reactor in reactors {
-        let made = parameters_of(alloc, &file, reactor)?;
-        table.push(made)?;
-    }
-    Ok(table)
+    Ok(Parameters {
+        defaults: default_times(alloc, &own.reactor.parameters)?,
+        given: given_to_each(alloc, file, &own.parameters, &own.contained)?,
+    })
 }
 
 /// The defaults of each reactor's parameters in nanoseconds and what it gives to those of its
 /// instances, where reactors are numbered from 0 in the order of the file. A time that is too long
 /// is kept as one nanosecond more than the greatest.
-pub fn parameters(alloc: Global, ast: &Ast) -> Result<Vec<Parameters>, NoMemory>
-    requires first { NoneHolds (first_causes (reactors_of (tree_view ast.now))) }
-    requires later { NoneHolds (later_causes (reactors_of (tree_view ast.now))) }
-    ensures { IfOk result (λ v. AreParameters (reactors_of (tree_view ast.now)) v.items) }
+pub fn parameters(alloc: Global, scopes: &Scopes) -> Result<Vec<Parameters>, NoMemory>
+    requires first { NoneHolds (first_causes (reactors_of scopes.now)) }
+    requires later { NoneHolds (later_causes (reactors_of scopes.now)) }
+    ensures { IfOk result (λ v. AreParameters (reactors_of scopes.now) v.items) }
 {
-    let reactors = members::reactors(alloc, &ast.items)?;
-    parameters_among(alloc, &reactors)
+    let file = scopes.file();
+    let mut table = Vec::new(alloc);
+    for own in &file.owns {
+        table.push(parameters_of(alloc, file, own)?)?;
+    }
+    Ok(table)
 }

@@ -1,6 +1,6 @@
 use Rattle.std.proofs.Common.{List, ◌∷◌, inl, inr, refl, sym, subst}
-use Rattle.lft_tree.specs.{Tree.{ReactorTree, reactors_of}, View.tree_view}
-use Rattle.lft_resolve.specs.{Causes.{NoneHolds, RecursiveReactor, first_causes, later_causes}, inner.Numbers.AreContents}
+use Rattle.lft_tree.specs.Tree.{ReactorTree, reactors_of}
+use Rattle.lft_resolve.specs.{Causes.{RecursiveReactor, first_causes, later_causes}, inner.Numbers.AreContents}
 use Rattle.lft_validate.{specs.inner.Witnesses.IsCircle, proofs.Sound.{first_shown, none_shown}}
 use Rattle.lft_lists.proofs.Options.{found, lacking}
 use Rattle.lft_program.proofs.Firsts.{IsFirst-left, IsFirst-right, NoneHolds-both}
@@ -19,27 +19,27 @@ returns-in-Some-clause-tells c =
 pub known_contents-requires : goal.known_contents-requires
 known_contents-requires c =
     let rs = reactors_of c.args.scopes.now in
-    subst (λ t. NoneHolds (first_causes (reactors_of t))) (sym c.ast.ensures) (none_shown rs (first_causes rs) c.in_ok-witness.field-0 c.in_ok-witness.ensures c.in_default.is)
+    none_shown rs (first_causes rs) c.in_ok-witness.field-0 c.in_ok-witness.ensures c.in_default.is
 
 pub returns-in-Some-2-clause-first : goal.returns-in-Some-2-clause-first
 returns-in-Some-2-clause-first c _ =
     let rs = reactors_of c.args.scopes.now in
     let none = none_shown rs (first_causes rs) c.in_ok-witness.field-0 c.in_ok-witness.ensures c.in_default.is in
-    let are = subst (λ t. AreContents (reactors_of t) c.deref.result.now) c.ast.ensures (subst (AreContents (reactors_of (tree_view c.ast.result.now))) (sym c.deref.ensures.value) c.in_ok-contents.ensures) in
+    let are = subst (AreContents rs) (sym c.deref.ensures.value) c.in_ok-contents.ensures in
     let recursive = found (λ _. (rs : List ReactorTree) → AreContents rs c.deref.result.now → RecursiveReactor rs) c.in_ok-circle.field-0 c.in-Some-2.circle c.in_ok-circle.ensures.some c.in-Some-2.is in
     IsFirst-right (first_causes rs) ((5, RecursiveReactor rs) ∷ later_causes rs) 5 none (inl (refl, recursive rs are))
 
 pub returns-in-Some-2-clause-tells : goal.returns-in-Some-2-clause-tells
 returns-in-Some-2-clause-tells c =
     let rs = reactors_of c.args.scopes.now in
-    let are = subst (λ t. AreContents (reactors_of t) c.deref.result.now) c.ast.ensures (subst (AreContents (reactors_of (tree_view c.ast.result.now))) (sym c.deref.ensures.value) c.in_ok-contents.ensures) in
+    let are = subst (AreContents rs) (sym c.deref.ensures.value) c.in_ok-contents.ensures in
     found (λ v. (rs : List ReactorTree) → AreContents rs c.deref.result.now → IsCircle rs v.items) c.in_ok-circle.field-0 c.in-Some-2.circle c.in_ok-circle.ensures.circle c.in-Some-2.is rs are
 
 pub returns-in-Some-3-clause-first : goal.returns-in-Some-3-clause-first
 returns-in-Some-3-clause-first c _ =
     let rs = reactors_of c.args.scopes.now in
     let none = none_shown rs (first_causes rs) c.in_ok-witness.field-0 c.in_ok-witness.ensures c.in_default.is in
-    let are = subst (λ t. AreContents (reactors_of t) c.deref.result.now) c.ast.ensures (subst (AreContents (reactors_of (tree_view c.ast.result.now))) (sym c.deref.ensures.value) c.in_ok-contents.ensures) in
+    let are = subst (AreContents rs) (sym c.deref.ensures.value) c.in_ok-contents.ensures in
     let not_recursive = lacking ((rs : List ReactorTree) → AreContents rs c.deref.result.now → RecursiveReactor rs → ⊥) c.in_ok-circle.field-0 c.in_ok-circle.ensures.none c.in_default-2.is in
     let later = first_shown rs (later_causes rs) c.in_ok-witness-2.field-0 c.in-Some-3.witness c.in_ok-witness-2.ensures c.in-Some-3.is in
     IsFirst-right (first_causes rs) ((5, RecursiveReactor rs) ∷ later_causes rs) _ none (inr (not_recursive rs are, later.1))
@@ -49,14 +49,11 @@ returns-in-Some-3-clause-tells c =
     let rs = reactors_of c.args.scopes.now in
     (first_shown rs (later_causes rs) c.in_ok-witness-2.field-0 c.in-Some-3.witness c.in_ok-witness-2.ensures c.in-Some-3.is).0
 
-pub returns-clause-contents : goal.returns-clause-contents
-returns-clause-contents c = subst (λ t. AreContents (reactors_of t) c.in_ok-contents.contents.items) c.ast.ensures c.in_ok-contents.ensures
-
 pub returns-clause-none : goal.returns-clause-none
 returns-clause-none c =
     let rs = reactors_of c.args.scopes.now in
     let none = none_shown rs (first_causes rs) c.in_ok-witness.field-0 c.in_ok-witness.ensures c.in_default.is in
-    let are = subst (λ t. AreContents (reactors_of t) c.deref.result.now) c.ast.ensures (subst (AreContents (reactors_of (tree_view c.ast.result.now))) (sym c.deref.ensures.value) c.in_ok-contents.ensures) in
+    let are = subst (AreContents rs) (sym c.deref.ensures.value) c.in_ok-contents.ensures in
     let not_recursive = lacking ((rs : List ReactorTree) → AreContents rs c.deref.result.now → RecursiveReactor rs → ⊥) c.in_ok-circle.field-0 c.in_ok-circle.ensures.none c.in_default-2.is in
     let later = none_shown rs (later_causes rs) c.in_ok-witness-2.field-0 c.in_ok-witness-2.ensures c.in_default-3.is in
     NoneHolds-both (first_causes rs) ((5, RecursiveReactor rs) ∷ later_causes rs) none (not_recursive rs are, later)

@@ -8,7 +8,7 @@ use Rattle.lft_validate.proofs.members.first_member.Goals as goal
 
 pub loop-reactor-init : goal.loop-reactor-init
 loop-reactor-init c = record {
-  as_long = sym (long IsOwn (reactor_trees c.args.reactors.now) c.args.owns.now c.requires.1) ∙ length-map c.args.reactors.now (λ r. reactor_view r.now);
+  as_long = sym (long IsOwn (reactor_trees c.args.reactors.now) c.args.file.now.owns.items c.requires.owns) ∙ length-map c.args.reactors.now (λ r. reactor_view r.now);
   none = Any-nil _;
 }
 
@@ -17,8 +17,8 @@ returns-in-Some-clause-shows c =
     let rs = reactor_trees c.args.reactors.now in
     let item = c.index-reactors-reactor.result in
     let at = mapped_at (λ r. reactor_view r.now) c.args.reactors.now c.loop-reactor.reactor item c.loop-reactor-test.true (sym c.index-reactors-reactor.is) in
-    let own = own_at rs c.args.owns.now c.loop-reactor.reactor (reactor_view item.now) c.index-owns-reactor.result c.requires.1 at (omega (arith, c.loop-reactor.invariant.as_long, c.loop-reactor-test.true)) (sym c.index-owns-reactor.is) in
-    let shows = found (λ p. HasFinding rs (reactor_view item.now) p.0 p.1) c.in_ok-member.field-0 _ (c.in_ok-member.ensures.some rs c.requires.0 own) c.in-Some.is in
+    let own = own_at rs c.args.file.now.owns.items c.loop-reactor.reactor (reactor_view item.now) c.index-own.result.now c.requires.owns at (omega (arith, c.loop-reactor.invariant.as_long, c.loop-reactor-test.true)) (sym c.index-own.ensures) in
+    let shows = found (λ p. HasFinding rs (reactor_view item.now) p.0 p.1) c.in_ok-member.field-0 _ (c.in_ok-member.ensures.some rs c.requires own) c.in-Some.is in
     let there : IsSomeAnd (slice_get rs c.loop-reactor.reactor) (λ r. HasFinding rs r c.in-Some.member c.in-Some.finding) = subst (λ o. IsSomeAnd o (λ r. HasFinding rs r c.in-Some.member c.in-Some.finding)) (sym at) shows in
     search rules
 
@@ -27,10 +27,10 @@ loop-reactor-preserved c =
     let rs = reactor_trees c.args.reactors.now in
     let item = c.index-reactors-reactor.result in
     let at = mapped_at (λ r. reactor_view r.now) c.args.reactors.now c.loop-reactor.reactor item c.loop-reactor-test.true (sym c.index-reactors-reactor.is) in
-    let own = own_at rs c.args.owns.now c.loop-reactor.reactor (reactor_view item.now) c.index-owns-reactor.result c.requires.1 at (omega (arith, c.loop-reactor.invariant.as_long, c.loop-reactor-test.true)) (sym c.index-owns-reactor.is) in
+    let own = own_at rs c.args.file.now.owns.items c.loop-reactor.reactor (reactor_view item.now) c.index-own.result.now c.requires.owns at (omega (arith, c.loop-reactor.invariant.as_long, c.loop-reactor-test.true)) (sym c.index-own.ensures) in
     record {
       as_long = c.loop-reactor.invariant.as_long;
-      none = none_more (λ r. reactor_view r.now) (λ r. Any (λ m. ShowsCause rs r m c.args.cause) r.members) c.args.reactors.now c.loop-reactor.reactor item c.loop-reactor-test.true (sym c.index-reactors-reactor.is) c.loop-reactor.invariant.none (lacking (Any (λ m. ShowsCause rs (reactor_view item.now) m c.args.cause) (reactor_view item.now).members → ⊥) c.in_ok-member.field-0 (c.in_ok-member.ensures.none rs c.requires.0 own) c.in_default.is);
+      none = none_more (λ r. reactor_view r.now) (λ r. Any (λ m. ShowsCause rs r m c.args.cause) r.members) c.args.reactors.now c.loop-reactor.reactor item c.loop-reactor-test.true (sym c.index-reactors-reactor.is) c.loop-reactor.invariant.none (lacking (Any (λ m. ShowsCause rs (reactor_view item.now) m c.args.cause) (reactor_view item.now).members → ⊥) c.in_ok-member.field-0 (c.in_ok-member.ensures.none rs c.requires own) c.in_default.is);
     }
 
 pub returns-clause-none : goal.returns-clause-none

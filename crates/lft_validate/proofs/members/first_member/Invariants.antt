@@ -5,6 +5,6 @@ use Rattle.lft_validate.proofs.members.first_member.Given as goal
 
 abbrev pub invariant-loop-reactor : goal.invariant-loop-reactor
 invariant-loop-reactor l = record {
-  as_long : length l.owns ≡ length l.reactors;
+  as_long : length l.file.owns.items ≡ length l.reactors;
   none : Any (λ r. Any (λ m. ShowsCause (reactor_trees l.reactors) r m l.cause) r.members) (reactor_trees (take l.reactor l.reactors)) → ⊥;
 }

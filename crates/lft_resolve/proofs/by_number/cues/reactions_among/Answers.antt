@@ -1,24 +1,20 @@
-use Rattle.std.proofs.Common.{◌<◌, take, length, sym, arith}
-use Rattle.std.proofs.lemmas.Result.{err_from_is_err_and}
-use Rattle.lft_lists.proofs.Mapped.{mapped_at}
-use Rattle.lft_tree.specs.View.{reactor_view}
-use Rattle.lft_resolve.specs.inner.{Directories.HasLost, References.reactor_trees, Sheets.IsReactions}
-use Rattle.lft_resolve.proofs.{Files.AllZip-last, Somes.some_here, Twice.map_last}
+use Rattle.std.proofs.Common.{take, sym, subst}
+use Rattle.std.{specs.List.AllZip, proofs.lemmas.Result.err_from_is_err_and}
+use Rattle.lft_resolve.specs.inner.{Lost.HasLost, Sheets.IsReactions}
+use Rattle.lft_resolve.proofs.{Files.{AllZip-last, own_done, own_turn}, Twice.Any-at}
 use Rattle.lft_resolve.proofs.by_number.cues.reactions_among.Goals as goal
 
 pub returns-in_err-reactions_in-clause-lost : goal.returns-in_err-reactions_in-clause-lost
 returns-in_err-reactions_in-clause-lost c =
-    let p = err_from_is_err_and c.from_residual-in_err-reactions_in.result c.from_residual-in_err-reactions_in.ensures.1 in
-    let rs = reactor_trees c.args.reactors.now in
-    let within : c.loop-number.number < length c.args.reactors.now = omega arith in
-    let number = mapped_at (λ x. reactor_view x.now) c.args.reactors.now c.loop-number.number c.index-reactors-number.result within (sym c.index-reactors-number.is) in
+    let p = err_from_is_err_and c.from_residual.result c.from_residual.ensures.1 in
     rw (p.1, p.2)
-    (λ other. some_here (λ x. reactor_view x.now) (HasLost rs) c.args.reactors.now c.loop-number.number c.index-reactors-number.result within (sym c.index-reactors-number.is) (c.in_err-reactions_in.ensures.lost other rs (record { directory = c.in_ok-directory.ensures; is_number = number })))
+    (λ other rs file. (let turn = own_turn rs c.args.file.now file c.deref-own-items.result.now c.deref-own-items.ensures.value c.loop-own.own-index c.own-item.result c.loop-own-test.true (sym c.own-item.is) in Any-at (HasLost rs) rs c.loop-own.own-index turn.0 turn.1 (c.in_err-reactions_in.ensures.lost other rs turn.0 file turn.2)))
 
-pub loop-number-preserved : goal.loop-number-preserved
-loop-number-preserved c =
-    let rs = reactor_trees c.args.reactors.now in
-    let within : c.loop-number.number < length c.args.reactors.now = omega arith in
-    let number = mapped_at (λ x. reactor_view x.now) c.args.reactors.now c.loop-number.number c.index-reactors-number.result within (sym c.index-reactors-number.is) in
-    rw (c.in_ok-push.ensures.items, map_last (λ x. reactor_view x.now) c.args.reactors.now c.loop-number.number c.index-reactors-number.result within (sym c.index-reactors-number.is))
-    (AllZip-last (IsReactions rs) (reactor_trees (take c.loop-number.number c.args.reactors.now)) c.loop-number.table.items (reactor_view c.index-reactors-number.result.now) _ c.loop-number.invariant (c.in_ok-reactions_in.ensures.ok rs (record { directory = c.in_ok-directory.ensures; is_number = number })))
+pub loop-own-preserved : goal.loop-own-preserved
+loop-own-preserved c rs file =
+    let turn = own_turn rs c.args.file.now file c.deref-own-items.result.now c.deref-own-items.ensures.value c.loop-own.own-index c.own-item.result c.loop-own-test.true (sym c.own-item.is) in
+    rw (c.in_ok-push.ensures.items, turn.3)
+    (AllZip-last (IsReactions rs) (take c.loop-own.own-index rs) c.loop-own.table.items turn.0 _ (c.loop-own.invariant rs file) (c.in_ok-reactions_in.ensures.ok rs turn.0 file turn.2))
+
+pub returns-clause-ok : goal.returns-clause-ok
+returns-clause-ok c rs file = subst (λ l. AllZip (IsReactions rs) l c.loop-own.table.items) (own_done rs c.args.file.now file c.deref-own-items.result.now c.deref-own-items.ensures.value c.loop-own.own-index c.loop-own-test.false) (c.loop-own.invariant rs file)

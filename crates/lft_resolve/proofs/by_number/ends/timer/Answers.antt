@@ -4,4 +4,4 @@ use Rattle.lft_resolve.{specs.inner.Sheets.timer_place, proofs.Lost.timer_there}
 use Rattle.lft_resolve.proofs.by_number.ends.timer.Goals as goal
 
 pub returns-in-None : goal.returns-in-None
-returns-in-None c rs r at = timer_there r (ref_view c.args.reference.now) c.timer.result (ap (option_map string_bytes) c.in-None.is) (c.timer.ensures rs r at ∙ ap (timer_place r) c.as_str.ensures.value)
+returns-in-None c r own = timer_there r (ref_view c.args.reference.now) c.get.result (ap (option_map string_bytes) c.in-None.is) (c.get.ensures ∙ own.timers _ ∙ ap (timer_place r) c.as_str.ensures.value)

@@ -1,7 +1,8 @@
-use Rattle.std.proofs.Common.{take}
+use Rattle.std.proofs.Common.{List, take}
 use Rattle.std.specs.List.{AllZip}
-use Rattle.lft_resolve.specs.inner.{References.reactor_trees, Sheets.IsConnections}
+use Rattle.lft_tree.specs.Tree.{ReactorTree}
+use Rattle.lft_resolve.specs.inner.{Sheets.IsConnections, Tables.IsFile}
 use Rattle.lft_resolve.proofs.by_number.joins.connections_among.Given as goal
 
-abbrev pub invariant-loop-number : goal.invariant-loop-number
-invariant-loop-number l = AllZip (IsConnections (reactor_trees l.reactors)) (reactor_trees (take l.number l.reactors)) l.table.items
+abbrev pub invariant-loop-own : goal.invariant-loop-own
+invariant-loop-own l = (rs : List ReactorTree) → IsFile rs l.file → AllZip (IsConnections rs) (take l.own-index rs) l.table.items

@@ -1,18 +1,33 @@
-use Rattle.std.proofs.Common.{◌≡◌, Any, filter_map, ap, subst, ◌∙◌}
-use Rattle.lft_tree.specs.{Tree.{reactor_in, reactors_of}, View.{item_views, tree_view}}
-use Rattle.lft_resolve.specs.{Causes.{LacksReactor, SomeGivesUnknown}, inner.{Lacking.TimeLacksPlace, References.reactor_trees}}
-use Rattle.lft_resolve.proofs.{Lacking.{none_given, none_lacks, none_unknown}, by_number.settings.parameters.Goals.After-deref-2}
+use Rattle.std.proofs.Common.{◌≡◌, None, Any, take, sym, subst}
+use Rattle.std.specs.List.{AllZip}
+use Rattle.lft_tree.specs.Tree.{reactors_of}
+use Rattle.lft_resolve.specs.{Causes.{GivesUnknown, LacksReactor, SomeGivesUnknown}, Instances.reactor_named, inner.{Lacking.TimeLacksPlace, Sheets.IsParameters}}
+use Rattle.lft_resolve.proofs.{Files.{AllZip-last, own_done, own_turn}, Lacking.{none_given, none_lacks, none_unknown}, Twice.Any-at}
 use Rattle.lft_resolve.proofs.by_number.settings.parameters.Goals as goal
 
--- the reactors of the tree
-reactors : (c : After-deref-2) → reactor_trees c.deref-2.result.now ≡ reactors_of (tree_view c.args.ast.now)
-reactors c = ap reactor_trees c.deref-2.ensures.value ∙ c.in_ok-reactors.ensures ∙ ap (λ is. filter_map reactor_in (item_views is)) c.deref.ensures.value
+pub parameters_of-requires-clause-instances : goal.parameters_of-requires-clause-instances
+parameters_of-requires-clause-instances c =
+    let rs = reactors_of c.args.scopes.now in
+    let turn = own_turn rs c.file-file.result.now c.file-file.ensures c.deref-own-items.result.now c.deref-own-items.ensures.value c.loop-own.own-index c.own-item.result c.loop-own-test.true (sym c.own-item.is) in
+    record {
+      reactors = rs;
+      is_file = c.file-file.ensures;
+      known = λ lacks. none_unknown rs c.requires.first (Any-at (LacksReactor rs) rs c.loop-own.own-index turn.0 turn.1 (subst (Any (λ i. reactor_named rs i.reactor ≡ None)) turn.2.contained lacks));
+      named = λ gives. none_given rs c.requires.later (Any-at (SomeGivesUnknown rs) rs c.loop-own.own-index turn.0 turn.1 (subst (Any (GivesUnknown rs)) turn.2.contained gives));
+    }
 
-pub parameters_among-requires-clause-known : goal.parameters_among-requires-clause-known
-parameters_among-requires-clause-known c lacks = none_unknown (reactors_of (tree_view c.args.ast.now)) c.requires.first (subst (λ rs. Any (LacksReactor rs) rs) (reactors c) lacks)
+pub parameters_of-requires-clause-times : goal.parameters_of-requires-clause-times
+parameters_of-requires-clause-times c =
+    let rs = reactors_of c.args.scopes.now in
+    let turn = own_turn rs c.file-file.result.now c.file-file.ensures c.deref-own-items.result.now c.deref-own-items.ensures.value c.loop-own.own-index c.own-item.result c.loop-own-test.true (sym c.own-item.is) in
+    (turn.0, turn.2, λ lacks. none_lacks rs c.requires.later (Any-at TimeLacksPlace rs c.loop-own.own-index turn.0 turn.1 lacks))
 
-pub parameters_among-requires-clause-named : goal.parameters_among-requires-clause-named
-parameters_among-requires-clause-named c gives = none_given (reactors_of (tree_view c.args.ast.now)) c.requires.later (subst (λ rs. Any (SomeGivesUnknown rs) rs) (reactors c) gives)
+pub loop-own-preserved : goal.loop-own-preserved
+loop-own-preserved c =
+    let rs = reactors_of c.args.scopes.now in
+    let turn = own_turn rs c.file-file.result.now c.file-file.ensures c.deref-own-items.result.now c.deref-own-items.ensures.value c.loop-own.own-index c.own-item.result c.loop-own-test.true (sym c.own-item.is) in
+    rw (c.in_ok-push.ensures.items, turn.3)
+    (AllZip-last (IsParameters rs) (take c.loop-own.own-index rs) c.loop-own.table.items turn.0 _ c.loop-own.invariant (c.in_ok-parameters_of.ensures rs turn.0 c.file-file.ensures turn.2))
 
-pub parameters_among-requires-clause-times : goal.parameters_among-requires-clause-times
-parameters_among-requires-clause-times c lacks = none_lacks (reactors_of (tree_view c.args.ast.now)) c.requires.later (subst (Any TimeLacksPlace) (reactors c) lacks)
+pub returns : goal.returns
+returns c = let rs = reactors_of c.args.scopes.now in subst (λ l. AllZip (IsParameters rs) l c.loop-own.table.items) (own_done rs c.file-file.result.now c.file-file.ensures c.deref-own-items.result.now c.deref-own-items.ensures.value c.loop-own.own-index c.loop-own-test.false) c.loop-own.invariant

@@ -1,4 +1,4 @@
-use Rattle.std.proofs.Common.{rules, ◌≡◌, ℕ, List, ◌∷◌, [], ◌++◌, ◌+◌, ◌<◌, length, refl, sym, ap, subst, ◌∙◌, arith}
+use Rattle.std.proofs.Common.{rules, ◌≡◌, ℕ, List, ◌∷◌, [], ◌++◌, ◌+◌, ◌<◌, length, refl, sym, subst, arith}
 use Rattle.lft_resolve.proofs.ExpansionLemmas.Counting.{Counting, counted_more, counted_there, counting_drop, counting_turn, held, held_at}
 use Rattle.lft_resolve.proofs.expansion.census.count_instances.Goals.{then-reactor-contents+then-len-counted+in_ok-extend_from_slice, else-reactor-contents}
 use Rattle.lft_resolve.proofs.expansion.census.count_instances.Goals as goal

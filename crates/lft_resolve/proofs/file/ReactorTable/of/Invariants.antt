@@ -1,7 +1,0 @@
-use Rattle.std.proofs.Common.{take}
-use Rattle.std.specs.List.{AllZip}
-use Rattle.lft_resolve.specs.inner.{References.reactor_trees, Tables.{IsOutside, with_name}}
-use Rattle.lft_resolve.proofs.file.ReactorTable.of.Given as goal
-
-abbrev pub invariant-loop-reactor : goal.invariant-loop-reactor
-invariant-loop-reactor l = AllZip IsOutside (with_name (reactor_trees (take l.reactor-index l.reactors))) l.outsides.items
