@@ -5,8 +5,7 @@ ghost use Rattle.lft_tag.specs.Tags.{Before, IsRecorded, earlier};
 ghost use Rattle.lft_ir.specs.{Parts.Parts, declared.steps.row.Row.Row as TheRow, Steps.Fits.RowsFit};
 ghost use Rattle.lft_model.specs.{Fitting.EachFits, Plans.PlanParts, Presence.stop as stop_of};
 ghost use Rattle.lft_rows.specs.inner.Passes.{IsPass};
-ghost use Rattle.lft_monitor.specs.inner.Going.{IsGoing, IsFirstBad, IsLost, HasEnded, HasGone, opened};
-ghost use Rattle.lft_monitor.specs.declared.gone.Halt.TheVariants.{AtEnd};
+ghost use Rattle.lft_monitor.specs.{inner.Going.{IsGoing, IsFirstBad, IsLost, HasEnded, HasGone, opened}, declared.gone.Halt.TheVariants.AtEnd};
 
 use crate::last::begin_of_last;
 use lft_ir::steps::{Row, is_end, is_start, is_stop, row_at};

@@ -2,8 +2,8 @@
 use Rattle.std.proofs.Common.{◌≡◌, ℕ, zero, suc, List, [], ◌∷◌, map, slice_get, find, Option, Some, None, option_map, IsSomeAnd, Bor, bytes_eq, refl, sym, ap, subst, ◌∙◌}
 use Rattle.std.specs.{List.AllZip, Option.option_and_then}
 use Rattle.lft_tree.specs.Tree.{ReactorTree, InstanceTree, instances_of, ports_of}
-use Rattle.lft_resolve.specs.inner.{Lost.inner_ref, Places.place, Sheets.{IsInner, port_place}, Tables.IsHeld}
-use Rattle.lft_resolve.specs.{Instances.reactor_named, Kinds.{inner_kind, inner_port}, declared.{kinds.Kind.Kind, own.Own.Own}}
+use Rattle.lft_resolve.specs.{inner.{Lost.inner_ref, Places.place, Sheets.{IsInner, port_place}, Tables.IsHeld}, Instances.reactor_named}
+use Rattle.lft_resolve.specs.{Kinds.{inner_kind, inner_port}, declared.{kinds.Kind.Kind, own.Own.Own}}
 use Rattle.lft_resolve.proofs.Placing.{find-place, place_found}
 
 module _ {A B : Type 0} (R : A → B → Type 0) where

@@ -2,7 +2,8 @@
 use Rattle.std.proofs.Common.{◌≡◌, ℕ, ◌+◌, ◌<◌, ◌≤◌, zero, suc, Bool, true, false, cond, List, [], ◌∷◌, ◌++◌, take, length, get_or, slice_get, is_some, Option, Some, None, option_map, String, string_bytes, bytes_eq, refl, sym, ap, subst, ◌∙◌, arith}
 use Rattle.std.specs.{List.{AllZip, cons_option}, Option.option_and_then}
 use Rattle.lft_tree.specs.Tree.{ReactorTree}
-use Rattle.lft_resolve.specs.{Instances.{is_called, reactor_named}, inner.{Places.place, Tables.{IsFile, IsOwn}}, declared.{file.ReactorTable.ReactorTable, own.Own.Own}}
+use Rattle.lft_resolve.specs.{Instances.{is_called, reactor_named}, inner.{Places.place, Tables.{IsFile, IsOwn}}}
+use Rattle.lft_resolve.specs.declared.{file.ReactorTable.ReactorTable, own.Own.Own}
 use Rattle.lft_resolve.proofs.NamedReactors.{named, with_name}
 
 -- the reactor of a name is the one at the name's place

@@ -1,8 +1,8 @@
 -- What a plain name is, by the kind under which it is found first.
 use Rattle.std.proofs.Common.{◌≡◌, ℕ, Bool, true, false, List, map, find, is_some, Option, Some, None, option_map, bytes_eq, refl, sym, ap, ◌∙◌}
 use Rattle.lft_tree.specs.Tree.{ReactorTree, ParameterTree, PortTree, TimerTree, ActionTree, InstanceTree, ports_of, timers_of, actions_of, instances_of}
-use Rattle.lft_resolve.specs.{Kinds.{or_else, own_kind, own_port}, inner.Places.{IsIndexOf, place_in}, declared.index.Index.Index}
-use Rattle.lft_resolve.specs.declared.kinds.Kind.{Kind, TheVariants.{OwnParameter, OwnTimer, OwnAction, OwnInstance}}
+use Rattle.lft_resolve.specs.{Kinds.{or_else, own_kind, own_port}, inner.Places.{IsIndexOf, place_in}}
+use Rattle.lft_resolve.specs.declared.{index.Index.Index, kinds.Kind.{Kind, TheVariants.{OwnParameter, OwnTimer, OwnAction, OwnInstance}}}
 use Rattle.lft_resolve.proofs.Placing.{find-some}
 
 -- something of this name is found where the index has a place for it

@@ -3,7 +3,8 @@
 ghost use Rattle.std.specs.Prelude.{◌≡◌, List, IfOk, MatchOption, Some, None, find, option_and_then, slice_get, bytes_eq};
 ghost use Rattle.std.specs.List.{AllZip};
 ghost use Rattle.lft_tree.specs.{Tree.{ReactorTree, instances_of}, View.ref_view};
-ghost use Rattle.lft_resolve.specs.{Instances.reactor_named, Kinds.kind_of, inner.{Numbers.numbers_of, References.reactor_trees, Tables.{IsFile, IsHeld, IsOwn}}};
+ghost use Rattle.lft_resolve.specs.{Instances.reactor_named, Kinds.kind_of};
+ghost use Rattle.lft_resolve.specs.inner.{Numbers.numbers_of, References.reactor_trees, Tables.{IsFile, IsHeld, IsOwn}};
 
 use crate::index::Index;
 use crate::kinds::Kind;

@@ -3,8 +3,7 @@
 ghost use Rattle.std.specs.Prelude.{◌≡◌, ◌<◌, List, Any, IfOk, IfSome, IfNone, length, slice_get, IsSomeAnd};
 ghost use Rattle.lft_tree.specs.{Tree.ReactorTree, View.{member_view, reactor_view}};
 ghost use Rattle.lft_resolve.specs.inner.{References.reactor_trees, Tables.{IsFile, IsOwn}};
-ghost use Rattle.lft_validate.specs.{Findings.{IsFinding, fault_found}, inner.Shown.{ShowsCause, SomeShows}};
-ghost use Rattle.lft_validate.specs.Witnesses.{HasFinding, Shows, fault_shown};
+ghost use Rattle.lft_validate.specs.{Findings.{IsFinding, fault_found}, inner.Shown.{ShowsCause, SomeShows}, Witnesses.{HasFinding, Shows, fault_shown}};
 
 use crate::fault::ProgramFault;
 use crate::finding::Finding;

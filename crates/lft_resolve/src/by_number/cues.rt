@@ -4,8 +4,7 @@ ghost use Rattle.std.specs.Prelude.{◌≢◌, List, Any, IfOk, IfErr, IsSomeAnd
 ghost use Rattle.std.specs.List.{AllZip};
 ghost use Rattle.lft_tree.specs.{Tree.{ReactorTree, reactors_of}, View.{reaction_view, ref_views, trigger_view}};
 ghost use Rattle.lft_resolve.specs.Causes.{NoneHolds, later_causes};
-ghost use Rattle.lft_resolve.specs.inner.{Lost.{HasLost, IsLost}, Tables.{IsFile, IsOwn}};
-ghost use Rattle.lft_resolve.specs.inner.Sheets.{AreCues, AreReactions, IsCue, IsReactions, IsSpot};
+ghost use Rattle.lft_resolve.specs.inner.{Lost.{HasLost, IsLost}, Tables.{IsFile, IsOwn}, Sheets.{AreCues, AreReactions, IsCue, IsReactions, IsSpot}};
 ghost use Rattle.lft_resolve.specs.{Kinds.{reaction_refs, ref_in}, Sheets.without_timers, declared.kinds.Role.TheVariants.{Effect, Read}};
 ghost use Rattle.lft_resolve.specs.declared.fault.ReactorFault.TheVariants as faults;
 

@@ -2,8 +2,8 @@
 
 ghost use Rattle.std.specs.Prelude.{◌≡◌, ◌≢◌, List, None, false, IfOk, IfErr, MatchOption};
 ghost use Rattle.lft_tree.specs.{Tree.ReactorTree, View.ref_view};
-ghost use Rattle.lft_resolve.specs.{inner.{Lost.{IsTimerAt, Lacks, inner_ref, is_port, is_spot}, Sheets.{IsEnd, IsSpot}, Tables.{IsFile, IsOwn}}, Kinds.inner_kind};
-ghost use Rattle.lft_resolve.specs.Sheets.{is_timer};
+ghost use Rattle.lft_resolve.specs.inner.{Lost.{IsTimerAt, Lacks, inner_ref, is_port, is_spot}, Sheets.{IsEnd, IsSpot}, Tables.{IsFile, IsOwn}};
+ghost use Rattle.lft_resolve.specs.{Kinds.inner_kind, Sheets.is_timer};
 ghost use Rattle.lft_resolve.specs.declared.fault.ReactorFault.TheVariants as faults;
 
 use crate::ReactorFault;

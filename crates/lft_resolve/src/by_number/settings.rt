@@ -4,9 +4,8 @@ ghost use Rattle.std.specs.Prelude.{◌≡◌, List, None, map, flat_map, Any, I
 ghost use Rattle.std.specs.List.{AllZip};
 ghost use Rattle.lft_tree.specs.{Tree.{ReactorTree, nanoseconds, reactors_of}, View.{assignment_view, parameter_view}};
 ghost use Rattle.lft_resolve.specs.Causes.{NoneHolds, first_causes, later_causes};
-ghost use Rattle.lft_resolve.specs.inner.{Lacking.{AreOf, LacksName, LacksPlace, TimeLacksPlace}, Places.{IsIndexOf, place_in}};
-ghost use Rattle.lft_resolve.specs.inner.{References.instance_trees, Sheets.{AreGiven, AreParameters, IsGiven, IsParameters, kept}};
-ghost use Rattle.lft_resolve.specs.inner.Tables.{IsFile, IsOwn};
+ghost use Rattle.lft_resolve.specs.inner.{Lacking.{AreOf, LacksName, LacksPlace, TimeLacksPlace}, Places.{IsIndexOf, place_in}, References.instance_trees};
+ghost use Rattle.lft_resolve.specs.inner.{Sheets.{AreGiven, AreParameters, IsGiven, IsParameters, kept}, Tables.{IsFile, IsOwn}};
 
 use crate::by_number::clocks::{clock, kept};
 use crate::expansion::{Given, Parameters};

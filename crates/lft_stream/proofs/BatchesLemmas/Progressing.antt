@@ -1,8 +1,7 @@
 -- A trace that is read and judged batch by batch.
 use Rattle.std.proofs.Common.{◌≡◌, ◌∙◌, ℕ, ◌≤◌, List, [], ◌∷◌, ◌++◌, Option, length, sym, ap, subst, arith}
 use Rattle.std.specs.Prelude.{IfSome}
-use Rattle.std.specs.List.{AllZip}
-use Rattle.std.proofs.lemmas.{List.{append_assoc, append-nil}, Option.IfSome_then}
+use Rattle.std.{specs.List.AllZip, proofs.lemmas.{List.{append_assoc, append-nil}, Option.IfSome_then}}
 use Rattle.lft_ir.specs.declared.steps.row.Row.{Row}
 use Rattle.lft_model.specs.Plans.{PlanParts}
 use Rattle.lft_trace.specs.{Records.records_of, Traces.{IsRow, Table, header}, declared.records.Records.Records}

@@ -5,7 +5,8 @@ use Rattle.lft_ir.specs.{Parts.Parts, Sound.IsSound, declared.steps.row.Row.Row}
 use Rattle.lft_trace.specs.{Records.records_of, inner.{Telling.rows_in, Parts.BeginsWith}, Traces.{Table, header}}
 use Rattle.lft_trace.proofs.{Beginning.{begins_all, begins_more, begins_none}, FirstTold.tells}
 use Rattle.lft_model.specs.Plans.{PlanParts}
-use Rattle.lft_stream.specs.{inner.Batches.{Fronts.{IsNextBehind, judged_rows}, Progresses.{IsGoneOn, IsProgress, IsReadUpTo}}, declared.batches.{progress.Progress.Progress, text.Front.Front}}
+use Rattle.lft_stream.specs.inner.Batches.{Fronts.{IsNextBehind, judged_rows}, Progresses.{IsGoneOn, IsProgress, IsReadUpTo}}
+use Rattle.lft_stream.specs.declared.batches.{progress.Progress.Progress, text.Front.Front}
 
 module _ (plan : PlanParts) (body : List ℕ) (front : Front) (waiting : List Row) where
   -- before anything is judged, all rows are next

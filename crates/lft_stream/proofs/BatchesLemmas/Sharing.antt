@@ -8,7 +8,7 @@ use Rattle.lft_ir.specs.{Parts.Parts, Steps.Fits.RowsFit, declared.steps.row.Row
 use Rattle.lft_lists.proofs.Places.{get_left, get_right}
 use Rattle.lft_trace.specs.inner.Parts.{rows_of}
 use Rattle.lft_model.specs.Plans.{PlanParts}
-use Rattle.lft_stream.specs.{inner.Batches.Progresses.{IsGoneOn}, declared.batches.progress.Progress.Progress}
+use Rattle.lft_stream.specs.{inner.Batches.Progresses.IsGoneOn, declared.batches.progress.Progress.Progress}
 
 module _ (parts : List (Vec Row Global)) (n : ℕ) (part : Vec Row Global) (at : slice_get parts n ≡ Some part) where
   before : take (n + 1) parts ≡ take n parts ++ (part ∷ [])

@@ -2,8 +2,7 @@
 use Rattle.std.specs.Prelude.{◌≡◌, ◌++◌, ◌∷◌, ℕ, List, Option, Bool, true, false}
 use Rattle.std.specs.List.{AllZip}
 use Rattle.lft_ir.specs.{Parts.Parts, declared.steps.row.Row.Row}
-use Rattle.lft_trace.specs.{Records.records_of, Traces.{IsRow, header}, declared.records.Records.Records}
-use Rattle.lft_trace.specs.inner.Records.{IsPlain, records_left}
+use Rattle.lft_trace.specs.{Records.records_of, Traces.{IsRow, header}, declared.records.Records.Records, inner.Records.{IsPlain, records_left}}
 
 -- all records of the text but the header are left
 abbrev pub IsBelowHeader : {R : Type 0} → (R → Option (List ℕ)) → Records R → List ℕ → Type 0

@@ -1,8 +1,7 @@
 use Rattle.std.proofs.Common.{◌≡◌, option_map, find, string_bytes, bytes_eq, sym, ap, subst, ◌∙◌}
 use Rattle.std.specs.Option.{option_and_then}
 use Rattle.lft_tree.specs.Tree.{instances_of, ports_of}
-use Rattle.lft_resolve.specs.{Instances.reactor_named, Kinds.{inner_port, kind_inside}, inner.Tables.IsHeld}
-use Rattle.lft_resolve.proofs.Directed.{inner_nowhere, inner_shown}
+use Rattle.lft_resolve.{specs.{Instances.reactor_named, Kinds.{inner_port, kind_inside}, inner.Tables.IsHeld}, proofs.Directed.{inner_nowhere, inner_shown}}
 use Rattle.lft_resolve.proofs.file.kind_of.Goals as goal
 
 pub returns-in-Some-inside : goal.returns-in-Some-inside

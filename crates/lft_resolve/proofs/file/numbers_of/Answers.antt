@@ -2,8 +2,7 @@ use Rattle.std.proofs.Common.{◌≡◌, ◌<◌, take, length, sym, ap, ◌∙�
 use Rattle.std.proofs.lemmas.Grind.{common_steps}
 use Rattle.lft_tree.specs.View.{reactor_view}
 use Rattle.lft_resolve.specs.inner.{Numbers.numbers_of, References.reactor_trees}
-use Rattle.lft_resolve.proofs.{Files.named_some, Numbered.{number_more, number_kept}}
-use Rattle.lft_resolve.proofs.file.numbers_of.Goals.{then-is_some+in_ok-push, else-is_some}
+use Rattle.lft_resolve.proofs.{Files.named_some, Numbered.{number_more, number_kept}, file.numbers_of.Goals.{then-is_some+in_ok-push, else-is_some}}
 use Rattle.lft_resolve.proofs.file.numbers_of.Goals as goal
 
 pub loop-number-preserved : goal.loop-number-preserved

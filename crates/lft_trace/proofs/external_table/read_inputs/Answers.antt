@@ -2,8 +2,8 @@ use Rattle.std.proofs.Common.{Bor, ℕ, rules, ◌≡◌, [], List, Option, Some
 use Rattle.csv.specs.Records.{fields_of}
 use Rattle.lft_ir.specs.{Parts.Parts, Steps.Inputs.{ExternalInputs, InOrder}, declared.steps.externals.Event.Event}
 use Rattle.lft_tag.specs.declared.Tag.{Tag}
-use Rattle.lft_trace.specs.{Faults.is_told, inner.Records.{in_memory, IsNext, records_left}, Records.records_of, ExternalTables.{ExternalFails, ExternalTable, header}}
-use Rattle.lft_trace.specs.declared.{fault.TraceFault.TraceFault, records.Records.Records}
+use Rattle.lft_trace.specs.{Faults.is_told, inner.Records.{in_memory, IsNext, records_left}, Records.records_of}
+use Rattle.lft_trace.specs.{ExternalTables.{ExternalFails, ExternalTable, header}, declared.{fault.TraceFault.TraceFault, records.Records.Records}}
 use Rattle.lft_trace.proofs.{ExternalFacts.{Gathered, bad, ended, no_stop, one_more, past, refused, start}, TableFacts.{Texts, fewer}}
 use Rattle.lft_trace.specs.declared.fault.TraceFault.TheVariants as fault
 use Rattle.lft_trace.proofs.external_table.read_inputs.Goals as goal

@@ -5,7 +5,8 @@ use Rattle.lft_tag.specs.declared.Tag.{Tag}
 use Rattle.lft_queue.specs.Coming.AtTag.{AreAt}
 use Rattle.lft_stream.specs.inner.Kept.{KeepRules}
 use Rattle.lft_monitor.specs.{declared.follower.Follower.Follower, inner.Follows.{done_of, IsJudgedOf, IsTurn, BeginsLast}}
-use Rattle.lft_monitor.proofs.{Front.keeps_first, Passing.is_pass, Following.{at_one_tag, begins_of, gone_all, judged_on, quiet_all, quiet_at_one, rises_at_hand, turn_to}}
+use Rattle.lft_monitor.proofs.{Front.keeps_first, Passing.is_pass}
+use Rattle.lft_monitor.proofs.Following.{at_one_tag, begins_of, gone_all, judged_on, quiet_all, quiet_at_one, rises_at_hand, turn_to}
 use Rattle.lft_monitor.proofs.follower.Follower.go_on.Goals as goal
 
 pub begin_of_last-begin-requires : goal.begin_of_last-begin-requires

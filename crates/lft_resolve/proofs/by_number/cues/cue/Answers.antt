@@ -1,7 +1,6 @@
 use Rattle.std.proofs.Common.{IsSomeAnd, Some, ap, subst, sym, ◌∙◌}
 use Rattle.lft_tree.specs.View.{ref_view, trigger_view}
-use Rattle.lft_resolve.specs.{inner.{Lost.IsLost, Sheets.IsCue}, Kinds.ref_in}
-use Rattle.lft_resolve.specs.declared.{by_number.sheets.Cue.TheVariants.Timer, kinds.Role.TheVariants.Read}
+use Rattle.lft_resolve.specs.{inner.{Lost.IsLost, Sheets.IsCue}, Kinds.ref_in, declared.{by_number.sheets.Cue.TheVariants.Timer, kinds.Role.TheVariants.Read}}
 use Rattle.lft_resolve.proofs.Lost.{lost_read}
 use Rattle.lft_resolve.proofs.by_number.cues.cue.Goals as goal
 

@@ -1,7 +1,6 @@
 use Rattle.std.proofs.Common.{take, sym, subst}
 use Rattle.std.{specs.List.AllZip, proofs.lemmas.Result.err_from_is_err_and}
-use Rattle.lft_resolve.specs.inner.{Lost.HasLost, Sheets.IsReactions}
-use Rattle.lft_resolve.proofs.{Files.{AllZip-last, own_done, own_turn}, Twice.Any-at}
+use Rattle.lft_resolve.{specs.inner.{Lost.HasLost, Sheets.IsReactions}, proofs.{Files.{AllZip-last, own_done, own_turn}, Twice.Any-at}}
 use Rattle.lft_resolve.proofs.by_number.cues.reactions_among.Goals as goal
 
 pub returns-in_err-reactions_in-clause-lost : goal.returns-in_err-reactions_in-clause-lost

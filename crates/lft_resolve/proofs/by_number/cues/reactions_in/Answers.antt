@@ -2,7 +2,8 @@ use Rattle.std.proofs.Common.{◌≡◌, Any, map, filter_map, take, sym, ap, su
 use Rattle.std.{specs.List.AllZip, proofs.lemmas.{Grind.common_steps, Result.err_from_is_err_and}}
 use Rattle.lft_tree.specs.{Tree.{ReactorTree, reaction_in, reactions_of}, View.{member_view, reaction_view}}
 use Rattle.lft_resolve.specs.{inner.{Lost.IsLost, References.reaction_trees, Sheets.AreCues, Tables.IsOwn}, Kinds.reaction_refs}
-use Rattle.lft_resolve.proofs.{Files.AllZip-last, Filtered.lost_reaction, Somes.some_here, Twice.map_last, by_number.cues.reactions_in.Goals.After-deref-reaction-items}
+use Rattle.lft_resolve.proofs.{Files.AllZip-last, Filtered.lost_reaction, Somes.some_here, Twice.map_last}
+use Rattle.lft_resolve.proofs.by_number.cues.reactions_in.Goals.{After-deref-reaction-items}
 use Rattle.lft_resolve.proofs.by_number.cues.reactions_in.Goals as goal
 
 all : (c : After-deref-reaction-items) (r : ReactorTree) → IsOwn r c.args.own.now → reaction_trees c.deref-reaction-items.result.now ≡ reactions_of r

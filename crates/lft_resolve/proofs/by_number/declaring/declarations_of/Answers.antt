@@ -1,7 +1,9 @@
 use Rattle.std.proofs.Common.{◌≡◌, Any, map, filter_map, flat_map, option_to_list, ap, subst, ◌∙◌}
 use Rattle.std.specs.List.{AllZip}
 use Rattle.lft_tree.specs.{Tree.{timer_in, action_in, timers_of, actions_of}, View.member_view}
-use Rattle.lft_resolve.specs.{Kinds.timer_times, inner.{Lacking.LacksPlace, References.{action_trees, port_trees, timer_trees}, Places.place_in, Sheets.{IsActionSheet, IsTimerSheet}}}
+use Rattle.lft_resolve.specs.Kinds.{timer_times}
+use Rattle.lft_resolve.specs.inner.{Lacking.LacksPlace, References.{action_trees, port_trees, timer_trees}, Places.place_in}
+use Rattle.lft_resolve.specs.inner.Sheets.{IsActionSheet, IsTimerSheet}
 use Rattle.lft_resolve.proofs.Lacking.{timer_lacks, action_lacks}
 use Rattle.lft_resolve.proofs.by_number.declaring.declarations_of.Goals as goal
 

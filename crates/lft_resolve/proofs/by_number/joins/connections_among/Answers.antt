@@ -1,7 +1,6 @@
 use Rattle.std.proofs.Common.{take, sym, subst}
 use Rattle.std.{specs.List.AllZip, proofs.lemmas.Result.err_from_is_err_and}
-use Rattle.lft_resolve.specs.inner.{Lost.HasLost, Sheets.IsConnections}
-use Rattle.lft_resolve.proofs.{Files.{AllZip-last, own_done, own_turn}, Twice.Any-at}
+use Rattle.lft_resolve.{specs.inner.{Lost.HasLost, Sheets.IsConnections}, proofs.{Files.{AllZip-last, own_done, own_turn}, Twice.Any-at}}
 use Rattle.lft_resolve.proofs.by_number.joins.connections_among.Goals as goal
 
 pub returns-in_err-joins_of-clause-lost : goal.returns-in_err-joins_of-clause-lost

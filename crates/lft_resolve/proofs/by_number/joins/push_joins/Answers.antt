@@ -1,8 +1,7 @@
 use Rattle.std.proofs.Common.{◌++◌, take, length, inl, inr, option_map, append-nil, sym, ap, subst, ◌∙◌, rules}
 use Rattle.std.{specs.List.AllZip, proofs.lemmas.{List.length_push, Result.err_from_is_err_and, Slice.Zip.{zip_turn, zip_end}}}
 use Rattle.lft_tree.specs.View.{connection_view, ref_view, ref_views, time_view}
-use Rattle.lft_resolve.specs.{inner.{Lost.{IsLost, is_port}, Sheets.{IsJoin, singles_in}}, Kinds.in_role}
-use Rattle.lft_resolve.specs.declared.kinds.Role.TheVariants.{Source, Destination}
+use Rattle.lft_resolve.specs.{inner.{Lost.{IsLost, is_port}, Sheets.{IsJoin, singles_in}}, Kinds.in_role, declared.kinds.Role.TheVariants.{Source, Destination}}
 use Rattle.lft_resolve.proofs.{Joined.{singles_more, singles_all, single, joined_more, Any-role, some_at}, Lost.{lost, source_port, destination_port}}
 use Rattle.lft_resolve.proofs.Somes.{Any-left, Any-right}
 use Rattle.lft_resolve.proofs.by_number.joins.push_joins.Goals as goal

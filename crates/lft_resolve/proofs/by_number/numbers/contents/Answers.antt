@@ -1,8 +1,7 @@
 use Rattle.std.proofs.Common.{take, sym, subst}
 use Rattle.std.specs.List.{AllZip}
 use Rattle.lft_tree.specs.Tree.{reactors_of}
-use Rattle.lft_resolve.specs.{Causes.{LacksReactor, UnknownReactor}, inner.Numbers.IsContents}
-use Rattle.lft_resolve.proofs.{Files.{AllZip-last, own_done, own_turn}, Twice.Any-at}
+use Rattle.lft_resolve.{specs.{Causes.{LacksReactor, UnknownReactor}, inner.Numbers.IsContents}, proofs.{Files.{AllZip-last, own_done, own_turn}, Twice.Any-at}}
 use Rattle.lft_resolve.proofs.by_number.numbers.contents.Goals as goal
 
 pub returns-in-Err-clause-unknown : goal.returns-in-Err-clause-unknown

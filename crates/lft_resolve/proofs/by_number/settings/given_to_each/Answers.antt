@@ -3,7 +3,8 @@ use Rattle.std.{proofs.lemmas.List.map-append, specs.List.AllZip}
 use Rattle.lft_tree.specs.{Tree.ReactorTree, View.{assignment_view, instance_view}}
 use Rattle.lft_resolve.specs.{Causes.{GivesUnknown, LacksParameter}, Instances.reactor_named}
 use Rattle.lft_resolve.specs.inner.{Lacking.{LacksName, LacksPlace}, Places.{IsIndexOf, place_in}, References.instance_trees, Sheets.{AreGiven, IsGiven}}
-use Rattle.lft_resolve.specs.{inner.Tables.IsOwn, declared.own.Own.Own}
+use Rattle.lft_resolve.specs.inner.Tables.{IsOwn}
+use Rattle.lft_resolve.specs.declared.own.Own.{Own}
 use Rattle.lft_resolve.proofs.{Files.AllZip-last, Lacking.{lacks_parameter, none_at}, Somes.{Any-weaker, some_here}, Twice.map_last}
 use Rattle.lft_resolve.proofs.by_number.settings.given_to_each.Goals as goal
 

@@ -1,7 +1,8 @@
 use Rattle.std.proofs.Common.{◌≡◌, None, Any, take, sym, subst}
 use Rattle.std.specs.List.{AllZip}
 use Rattle.lft_tree.specs.Tree.{reactors_of}
-use Rattle.lft_resolve.specs.{Causes.{GivesUnknown, LacksReactor, SomeGivesUnknown}, Instances.reactor_named, inner.{Lacking.TimeLacksPlace, Sheets.IsParameters}}
+use Rattle.lft_resolve.specs.{Causes.{GivesUnknown, LacksReactor, SomeGivesUnknown}, Instances.reactor_named}
+use Rattle.lft_resolve.specs.inner.{Lacking.TimeLacksPlace, Sheets.IsParameters}
 use Rattle.lft_resolve.proofs.{Files.{AllZip-last, own_done, own_turn}, Lacking.{none_given, none_lacks, none_unknown}, Twice.Any-at}
 use Rattle.lft_resolve.proofs.by_number.settings.parameters.Goals as goal
 

@@ -1,6 +1,5 @@
 use Rattle.std.proofs.Common.{◌≡◌, ap, subst, ◌∙◌}
-use Rattle.lft_resolve.specs.inner.{Places.IsIndexOf, References.reactor_trees, Tests.texts}
-use Rattle.lft_resolve.proofs.NamedReactors.{named}
+use Rattle.lft_resolve.{specs.inner.{Places.IsIndexOf, References.reactor_trees, Tests.texts}, proofs.NamedReactors.named}
 use Rattle.lft_resolve.proofs.file.ReactorTable.of.Goals as goal
 
 pub returns : goal.returns

@@ -1,7 +1,6 @@
 use Rattle.std.proofs.Common.{◌≡◌, ℕ, List, slice_get, Option, Some, None, MatchOption, IsSomeAnd, Bor, ap, ◌∙◌}
 use Rattle.lft_tree.specs.Tree.{ReactorTree}
-use Rattle.lft_resolve.specs.{Instances.reactor_named, inner.Tables.IsOwn, declared.own.Own.Own}
-use Rattle.lft_resolve.proofs.{Directed.AllZip-there, Placing.lent}
+use Rattle.lft_resolve.{specs.{Instances.reactor_named, inner.Tables.IsOwn, declared.own.Own.Own}, proofs.{Directed.AllZip-there, Placing.lent}}
 use Rattle.lft_resolve.proofs.file.ReactorTable.reactor.Goals as goal
 
 -- the table of a reactor that is there

@@ -1,7 +1,6 @@
 use Rattle.std.proofs.Common.{◌++◌, List, refl, sym, subst}
 use Rattle.lft_ir.specs.{Steps.Fits.RowsFit, declared.steps.row.Row.Row}
-use Rattle.lft_stream.specs.inner.Batches.Progresses.{IsProgress}
-use Rattle.lft_stream.proofs.BatchesLemmas.{Cutting.{first_fits, left_fits, next_fits}, Progressing.gone_on}
+use Rattle.lft_stream.{specs.inner.Batches.Progresses.IsProgress, proofs.BatchesLemmas.{Cutting.{first_fits, left_fits, next_fits}, Progressing.gone_on}}
 use Rattle.lft_stream.proofs.batches.progress.judge_batch.Goals as goal
 
 pub judge-requires-clause-fit : goal.judge-requires-clause-fit

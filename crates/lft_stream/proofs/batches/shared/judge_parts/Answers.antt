@@ -1,6 +1,5 @@
 use Rattle.std.proofs.Common.{◌≡◌, ◌∙◌, ◌++◌, List, Vec, ap, append-nil, arith, length, refl, subst, sym, take}
-use Rattle.std.specs.declared.alloc.Global.{Global}
-use Rattle.std.proofs.{lemmas.Option.slice_get_read, Math.Seq.take-length}
+use Rattle.std.{specs.declared.alloc.Global.Global, proofs.{lemmas.Option.slice_get_read, Math.Seq.take-length}}
 use Rattle.lft_ir.specs.{Steps.Fits.RowsFit, declared.steps.row.Row.Row}
 use Rattle.lft_trace.specs.inner.Parts.{rows_of}
 use Rattle.lft_stream.{specs.inner.Batches.Progresses.IsGoneOn, proofs.BatchesLemmas.Sharing.{part_fits, part_gone, rows_more}}

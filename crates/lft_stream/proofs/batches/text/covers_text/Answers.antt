@@ -2,7 +2,8 @@ use Rattle.std.proofs.Common.{◌≢◌, ◌≤◌, ◌++◌, ◌∙◌, List, l
 use Rattle.std.proofs.lemmas.Bool.{eqb-false, eqb-true}
 use Rattle.lft_ir.specs.{Parts.Parts, Steps.Fits.RowsFit, declared.steps.row.Row.Row}
 use Rattle.lft_trace.specs.inner.{Parts.BeginsWith, Telling.rows_in}
-use Rattle.lft_stream.{specs.inner.Batches.Fronts.{IsNextBehind, judged_rows}, proofs.BatchesLemmas.{Counting.counts_whole, Reading.{batch_next, gone_on, nothing_read, read_all}}}
+use Rattle.lft_stream.specs.inner.Batches.Fronts.{IsNextBehind, judged_rows}
+use Rattle.lft_stream.proofs.BatchesLemmas.{Counting.counts_whole, Reading.{batch_next, gone_on, nothing_read, read_all}}
 use Rattle.lft_stream.proofs.batches.text.covers_text.Goals as goal
 
 pub loop-rest-init : goal.loop-rest-init

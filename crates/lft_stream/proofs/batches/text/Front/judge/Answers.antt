@@ -3,7 +3,8 @@ use Rattle.std.proofs.lemmas.List.{length-take-le}
 use Rattle.lft_ir.specs.declared.steps.row.Row.{Row}
 use Rattle.lft_trace.specs.inner.Telling.{rows_in}
 use Rattle.lft_counts.specs.Cover.{CoversRows}
-use Rattle.lft_stream.{specs.inner.Batches.Progresses.IsProgress, proofs.BatchesLemmas.Counting.{comes_next, counts_before, counts_behind, judged_more, keeps, within_more}}
+use Rattle.lft_stream.specs.inner.Batches.Progresses.{IsProgress}
+use Rattle.lft_stream.proofs.BatchesLemmas.Counting.{comes_next, counts_before, counts_behind, judged_more, keeps, within_more}
 use Rattle.lft_stream.proofs.batches.text.Front.judge.Goals as goal
 
 pub count_rows-requires : goal.count_rows-requires
