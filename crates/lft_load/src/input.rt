@@ -1,7 +1,7 @@
 //! Reading a file or standard input.
 
 ghost use Rattle.std.specs.Prelude.{◌≡◌, ◌≤◌, ◌<◌, ◌^◌, ◌+◌, ◌⊎◌, ◌↔◌, IsTrue, IfOk, IfErr, OnOk, IfSome, length};
-ghost use Rattle.std.specs.Io.{KnownBytes.{IsAtEnd, ReadConsumes}, ReadsAtMost};
+ghost use Rattle.std.specs.Io.{ReadsAtMost, KnownBytes.{IsAtEnd, ReadConsumes}};
 ghost use Rattle.lft_load.specs.Faults.{IsFaultOfPath};
 ghost use Rattle.lft_load.specs.declared.fault.Part.TheVariants as part;
 
