@@ -8,14 +8,14 @@ mod session;
 mod words;
 
 use crate::follow::end_followed;
-use crate::session::{Session, is_known};
+use crate::session::{Session, is_known, workers_for};
 use crate::words::{
     Behind, Job, JudgeWords, PairWords, Question, RecordWords, ShowWords, read_words,
 };
 use lft_driver::{
     Fault, Part, bundle_answer, explain_bundle_answer, finish, read_input, refusal_of_bundle,
 };
-use lft_load::files::{Failure, read_file};
+use lft_load::files::{Failure, open_file, ordinary_size, read_file, read_opened};
 use lft_record::record_plan;
 use lft_tag::NoMemory;
 use lft_text_diagnostics::words::push_bytes;
@@ -27,7 +27,8 @@ use std::sync::Wait;
 use std::thread::Threads;
 use std::{env, io};
 
-/// Judges the trace of three files, all of which are read first.
+/// Judges the trace of three files. All are read first, but for an ordinary file of a trace that one worker
+/// judges while it reads.
 fn judge_files<F: Files + Threads + Sync, W: Write>(
     rt: &F,
     alloc: Global,
@@ -37,8 +38,15 @@ fn judge_files<F: Files + Threads + Sync, W: Write>(
 ) -> Result<bool, Failure> {
     let program = read_file(rt, alloc, words.program.path)?;
     let externals = read_file(rt, alloc, words.externals)?;
-    let trace = read_file(rt, alloc, words.trace)?;
+    let mut file = open_file(rt, alloc, words.trace)?;
     let mut session = Session::of(rt, alloc, out, behind.is_told());
+    if matches!(behind, Behind::Nothing)
+        && let Some(size) = ordinary_size(&file)
+        && workers_for(words.workers, size) == 1
+    {
+        return session.judge_file(words, &program, &externals, &mut file, size);
+    }
+    let trace = read_opened(rt, alloc, words.trace, &mut file)?;
     let plan = session.plan(words.program, &program, &externals)?;
     session.judge(&plan, &trace, words.workers, behind)
 }

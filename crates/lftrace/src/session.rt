@@ -1,20 +1,21 @@
 //! From files to a program, to a plan, and to what is answered under it. Where it is asked for, why a text is refused
 //! is told at the place where it is.
 
-use crate::words::{Behind, ProgramWords};
+use crate::words::{Behind, JudgeWords, ProgramWords};
 use lft_coverage::driver::cover_plan;
 use lft_driver::{
-    explain_pair_plan, explain_plan, is_accepted, is_same, judge_plan, pair_plan, refusal_of_graph,
-    refusal_of_plan, refusal_of_program, refusal_of_trace, refusal_of_traces, show_program,
+    check_plan, explain_pair_plan, explain_plan, is_accepted, is_same, judge_plan, judge_reader,
+    pair_plan, refusal_of_graph, refusal_of_plan, refusal_of_program, refusal_of_trace,
+    refusal_of_traces, show_program,
 };
 use lft_ir::Program;
-use lft_load::files::Failure;
-use lft_load::{Fault, Part, plan_of, read_program};
+use lft_load::files::{Failure, read_sized, too_large};
+use lft_load::{Fault, Part, SizedReader, plan_of, read_program};
 use lft_model::Plan;
 use lft_tag::NoMemory;
 use lft_whole_driver::{Whole, whole_program};
 use std::alloc::Global;
-use std::io::{BufWriter, Write};
+use std::io::{BufWriter, Read, Write};
 use std::rt::Files;
 use std::thread::Threads;
 
@@ -23,7 +24,7 @@ use std::thread::Threads;
 const SHORT: usize = 1 << 20;
 
 /// How many of so many workers judge traces of so many bytes.
-fn workers_for(workers: u32, bytes: usize) -> u32 {
+pub(crate) fn workers_for(workers: u32, bytes: usize) -> u32 {
     if bytes < SHORT { 1 } else { workers }
 }
 
@@ -37,6 +38,22 @@ pub(crate) fn is_known(fault: &Fault) -> bool {
 fn is_no_core(fault: &Fault) -> bool {
     // A text that has a core tree is core, also where its program is refused.
     matches!(fault.part, Part::Lex | Part::Syntax) && is_known(fault)
+}
+
+/// Whether the trace that a reader of a file gives is accepted. None says nothing of it.
+// Apart, so that no type that is handed on names two borrows.
+fn judge_sized<R: Read + Drop, W: Write>(
+    alloc: Global,
+    plan: &Plan,
+    path: &str,
+    reader: &mut SizedReader<R>,
+    out: &mut W,
+) -> Result<Option<bool>, Fault> {
+    match judge_reader(alloc, plan, path, reader, out) {
+        Ok(Some(verdict)) => Ok(Some(is_accepted(verdict))),
+        Ok(None) => Ok(None),
+        Err(fault) => Err(fault),
+    }
 }
 
 /// What a session writes to, and whether it tells there why a text is refused.
@@ -179,6 +196,37 @@ impl<'w, F: Files + Threads + Sync, W: Write> Session<'w, F, W> {
             Behind::Counts { list } => cover_plan(rt, alloc, plan, trace, workers, list, self.out)?,
             Behind::Facts { all } => explain_plan(rt, alloc, plan, trace, workers, all, self.out)?,
         };
+        Ok(is_accepted(verdict))
+    }
+
+    /// Judges the trace of an ordinary file of this size by one worker. Its text is read whole only where it isn't
+    /// accepted while it is read.
+    pub(crate) fn judge_file(
+        &mut self,
+        words: JudgeWords<'_>,
+        program: &[u8],
+        externals: &[u8],
+        file: &mut F::File,
+        size: usize,
+    ) -> Result<bool, Failure> {
+        let (rt, alloc, path) = (self.rt, self.alloc, words.trace);
+        let plan = match self.plan(words.program, program, externals) {
+            Ok(plan) => plan,
+            Err(failure) => {
+                // That a file can't be read is told before what is wrong with the others.
+                read_sized(rt, alloc, path, file, size)?;
+                return Err(failure);
+            }
+        };
+        let mut reader = SizedReader::new(&mut *file, size);
+        match judge_sized(alloc, &plan, path, &mut reader, self.out) {
+            Ok(Some(answer)) => return Ok(answer),
+            Ok(None) => {}
+            Err(_) if reader.is_too_large() => return Err(too_large(alloc, path)),
+            Err(fault) => return Err(Failure::from(fault)),
+        }
+        let trace = read_sized(rt, alloc, path, file, size)?;
+        let verdict = check_plan(rt, alloc, &plan, &trace, 1, self.out)?;
         Ok(is_accepted(verdict))
     }
 
