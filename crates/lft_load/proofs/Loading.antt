@@ -2,17 +2,16 @@
 use Rattle.std.proofs.Common.{◌≡◌, ℕ, List, Result, Err, true, refl, sym, ◌∙◌, subst, inl, inr}
 use Rattle.lft_syntax.specs.{declared.{token.Token.Token, fault.SyntaxFault.SyntaxFault}, Lexes.Lexes, View.lexemes, Grammar.Spells}
 use Rattle.lft_tree.specs.Tree.{FileTree}
-use Rattle.lft_validate.specs.{declared.fault.ProgramFault.ProgramFault, Faults.number_of as program_number}
+use Rattle.lft_resolve.specs.{declared.causes.ProgramFault.ProgramFault, Causes.{number_of as program_number, causes}}
 use Rattle.lft_program.{specs.Flattening.IsFlatOf, proofs.Firsts.first_holds}
 use Rattle.lft_ir.specs.{Parts.Parts, Steps.Inputs.ExternalInputs}
-use Rattle.lft_resolve.specs.Causes.{causes}
 use Rattle.lft_trace.specs.{declared.fault.TraceFault.TraceFault, Faults.is_told, Records.records_of, ExternalTables.ExternalTable}
 use Rattle.lft_model.specs.Plans.{PlanParts}
 use Rattle.lft_load.specs.{Faults.{syntax_number, graph_number, table_number, IsFault}, Meaning.{IsTreeOf, IsProgramOf, IsPlanOf, IsPlanUnder, IsOnly}}
 use Rattle.lft_load.specs.{Refusals.{SyntaxFails, ProgramFails, GraphFails, GraphRefusal, is_of_text}, declared.fault.{Fault.Fault, Part.Part}}
 use Rattle.lft_graph.{specs.{Precedence.HasNoLoop, declared.fault.GraphFault.GraphFault}, proofs.Cycles.is_cycle}
 use Rattle.lft_syntax.specs.declared.fault.SyntaxFault.TheVariants as syntax
-use Rattle.lft_validate.specs.declared.fault.ProgramFault.TheVariants as program
+use Rattle.lft_resolve.specs.declared.causes.ProgramFault.TheVariants as program
 use Rattle.lft_trace.specs.declared.fault.TraceFault.TheVariants as table
 use Rattle.lft_graph.specs.declared.fault.GraphFault.TheVariants as graph
 use Rattle.lft_load.specs.declared.fault.Part.TheVariants as part

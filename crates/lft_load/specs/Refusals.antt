@@ -3,15 +3,14 @@ use Rattle.std.specs.Prelude.{◌≡◌, ◌≢◌, ℕ, ◌+◌, ◌≤◌, ◌
 use Rattle.lft_syntax.specs.{declared.{token.Token.Token, fault.{LexFault.LexFault, SyntaxFault.SyntaxFault}}, Lexes.{Lexes, LexFails}, Lexeme.Lexeme}
 use Rattle.lft_syntax.specs.{View.lexemes, Grammar.Spells}
 use Rattle.lft_tree.specs.Tree.{FileTree}
-use Rattle.lft_validate.specs.{declared.fault.ProgramFault.ProgramFault, Faults.number_of as program_number}
+use Rattle.lft_resolve.specs.{declared.causes.ProgramFault.ProgramFault, Causes.{number_of as program_number, IsFirst, causes}}
 use Rattle.lft_ir.specs.{Parts.Parts, Steps.Inputs.ExternalInputs}
-use Rattle.lft_resolve.specs.Causes.{IsFirst, causes}
 use Rattle.lft_trace.specs.{declared.fault.TraceFault.TraceFault, Faults.is_told, Records.records_of, ExternalTables.{ExternalTable, ExternalFails}}
 use Rattle.lft_graph.specs.{Loops.IsLoop, declared.fault.GraphFault.GraphFault}
 use Rattle.lft_load.specs.{Faults.{lex_number, syntax_number, graph_number, table_number, IsFault}, Meaning.{IsTreeOf, IsProgramOf}}
 use Rattle.lft_load.specs.declared.fault.{Fault.Fault, Part.Part}
 use Rattle.lft_syntax.specs.declared.fault.SyntaxFault.TheVariants as syntax
-use Rattle.lft_validate.specs.declared.fault.ProgramFault.TheVariants as program
+use Rattle.lft_resolve.specs.declared.causes.ProgramFault.TheVariants as program
 use Rattle.lft_graph.specs.declared.fault.GraphFault.TheVariants as graph
 use Rattle.lft_load.specs.declared.fault.Part.TheVariants as part
 

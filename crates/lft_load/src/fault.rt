@@ -3,7 +3,7 @@
 ghost use Rattle.std.specs.Prelude.{◌≡◌, ◌<◌, ◌++◌, ℕ, List, Some, IfOk, OnOk, flat_map, length, slice_get, string_bytes};
 ghost use Rattle.std.specs.Char.{encode_utf8, Escape.escape_default};
 ghost use Rattle.lft_graph.specs.{Loops.IsLoop, declared.fault.GraphFault.TheVariants.CausalityLoop};
-ghost use Rattle.lft_validate.specs.Faults.{number_of as program_number};
+ghost use Rattle.lft_resolve.specs.Causes.{number_of as program_number};
 ghost use Rattle.lft_load.specs.Faults.{lex_number, syntax_number, graph_number, table_number, IsFault, IsFaultOfPath};
 ghost use Rattle.lft_load.specs.Words.{in_line, names_words, one_line};
 ghost use Rattle.lft_load.specs.declared.fault.Part.TheVariants as part;

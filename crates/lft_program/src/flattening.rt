@@ -2,11 +2,10 @@
 
 ghost use Rattle.std.specs.Prelude.{◌≡◌, ◌≢◌, IfOk, IfErr, OnOk};
 ghost use Rattle.lft_tree.specs.{Tree.reactors_of, View.tree_view};
-ghost use Rattle.lft_resolve.specs.{Causes.{IsFirst, NoneHolds, causes, first_causes, later_causes}, inner.Numbers.AreContents};
-ghost use Rattle.lft_validate.specs.Faults.{number_of};
+ghost use Rattle.lft_resolve.specs.{Causes.{IsFirst, NoneHolds, causes, first_causes, later_causes, number_of}, inner.Numbers.AreContents};
 ghost use Rattle.lft_program.specs.{inner.{Tables.AreTables, Faults.reactor_causes, OfTree.AreOfTree, Refusals.{Tells, cause_of}}, Flattening.{Flat, IsFlatOf}};
 ghost use Rattle.lft_ir.specs.Parts.{Parts};
-ghost use Rattle.lft_validate.specs.declared.fault.ProgramFault.TheVariants as faults;
+ghost use Rattle.lft_resolve.specs.declared.causes.ProgramFault.TheVariants as faults;
 ghost use Rattle.lft_program.specs.declared.refusal.Refusal.TheVariants as refusals;
 
 use crate::assembly::assembled;
@@ -19,10 +18,10 @@ use lft_resolve::by_number::{
     connections, contents, declarations, main_number, parameters, reactions,
 };
 use lft_resolve::expansion::Contents;
-use lft_resolve::{ReactorFault, Scopes};
+use lft_resolve::{ProgramFault, ReactorFault, Scopes};
 use lft_tag::NoMemory;
 use lft_tree::Ast;
-use lft_validate::{ProgramFault, check_first, check_later, circle_of};
+use lft_validate::{check_first, check_later, circle_of};
 use std::alloc::Global;
 
 /// What each reactor of the file contains.

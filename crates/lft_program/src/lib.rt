@@ -20,6 +20,6 @@ pub use flattening::{flatten, flattened};
 pub use lft_ir::{
     Action, Found, Name, Names, Port, Program, Reaction, Source, Timer, Trigger, Triggers, Value,
 };
-pub use lft_validate::ProgramFault;
+pub use lft_resolve::ProgramFault;
 pub use nesting::{Excess, LimitedKind, Way};
 pub use refusal::Refusal;

@@ -5,7 +5,8 @@ ghost use Rattle.lft_program.specs.inner.Refusals.{fault_of};
 ghost use Rattle.lft_program.specs.declared.refusal.Refusal.TheVariants as refusals;
 
 use crate::nesting::{Excess, NestFault, Way};
-use lft_validate::{ProgramFault, Witness};
+use lft_resolve::ProgramFault;
+use lft_validate::Witness;
 
 /// Why a tree has no flat program, with what shows it.
 #[derive(Drop)]

@@ -5,7 +5,8 @@ use Rattle.lft_tree.specs.{Tree.{MemberTree, ReactorTree, reactors_of}, View.{fi
 use Rattle.lft_tree.specs.declared.tree.{Item.Item, Member.Member, Reactor.Reactor, TokenRange.TokenRange}
 use Rattle.lft_syntax.specs.declared.token.Token.{Token}
 use Rattle.lft_text_diagnostics.specs.declared.spots.Span.{Span}
-use Rattle.lft_validate.specs.{Faults.number_of, Witnesses.{Shows, fault_shown}, declared.witness.Witness.Witness}
+use Rattle.lft_resolve.specs.Causes.{number_of}
+use Rattle.lft_validate.specs.{Witnesses.{Shows, fault_shown}, declared.witness.Witness.Witness}
 use Rattle.lft_program_diagnostics.specs.{inner.Spots.behind, Spots.{member_of, reactors_among, witness_spot}, Reasons.IsShownAt}
 use Rattle.lft_tree.specs.declared.tree.Item.TheVariants as items
 

@@ -2,9 +2,9 @@
 use Rattle.std.specs.Prelude.{◌≡◌, ℕ, ◌⊎◌, List, ◌++◌, Option, codes, map, []}
 use Rattle.lft_tree.specs.{View.{file_view, reactor_view}, declared.tree.{Item.Item, Reactor.Reactor, TokenRange.TokenRange}}
 use Rattle.lft_syntax.specs.{declared.token.Token.Token, Lexes.Lexes, Placed.FileStands, Grammar.Spells, View.lexemes}
-use Rattle.lft_resolve.specs.Causes.{IsFirst, causes}
+use Rattle.lft_resolve.specs.Causes.{IsFirst, causes, number_of}
 use Rattle.lft_text_diagnostics.specs.{Pages.SaysSpot, declared.{pages.Page.Page, spots.Span.Span}}
-use Rattle.lft_validate.specs.{Faults.number_of, Witnesses.{Shows, fault_shown}, declared.witness.Witness.Witness}
+use Rattle.lft_validate.specs.{Witnesses.{Shows, fault_shown}, declared.witness.Witness.Witness}
 use Rattle.lft_program_diagnostics.specs.{Sentences.{fault_told, said, words_in}, declared.sentence.Sentence.Sentence, Spots.{reactors_among, witness_spot}}
 
 -- the words begin with where the bytes stand, and then with this sentence

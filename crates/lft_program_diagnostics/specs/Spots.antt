@@ -78,10 +78,6 @@ name_spot tokens x = span tokens x.at (last_of_name x)
 abbrev pub time_spot : List Token → TimeExpression → Option Span
 time_spot tokens x = span tokens (token_of x) (last_of_time x)
 
--- the bytes of a reactor's name, or of `main reactor` where it has none
-abbrev pub head_spot : List Token → Reactor → Option Span
-head_spot tokens r = span tokens r.at (last_of_head r)
-
 -- the token of a reactor's name, if it has one
 abbrev pub named_at : Reactor → Option ℕ
 named_at r = option_map (λ name. r.at) r.name
@@ -118,10 +114,10 @@ parameter_at reactors r p = option_and_then (λ x. option_map (λ y. y.at) (slic
 abbrev pub declaration_at : List Reactor → ℕ → ℕ → Option ℕ
 declaration_at reactors r n = option_and_then (λ x. slice_get (declared_in x) n) (slice_get reactors r)
 
--- where what the witness shows of these reactors stands: of two that are one, or that write one port, the second
+-- where what the witness shows of these reactors stands: of two that are one, or that write one port, the second; of a reactor its name, or `main reactor` where it has none
 abbrev pub witness_spot : List Token → List Reactor → Witness → Option Span
 witness_spot tokens reactors witness.NoMain = None
-witness_spot tokens reactors (witness.TwoMains first second) = option_and_then (head_spot tokens) (slice_get reactors second)
+witness_spot tokens reactors (witness.TwoMains first second) = option_and_then (λ r. span tokens r.at (last_of_head r)) (slice_get reactors second)
 witness_spot tokens reactors (witness.SameReactors first second) = option_and_then (token_spot tokens) (slice_get (filter_map named_at reactors) second)
 witness_spot tokens reactors (witness.DeclaredTwice r first second) = option_and_then (token_spot tokens) (declaration_at reactors r second)
 witness_spot tokens reactors (witness.Member r m f) = option_and_then (λ x. part_spot tokens x (part_found f)) (member_of reactors r m)

@@ -4,7 +4,7 @@ ghost use Rattle.std.specs.Prelude.{◌≡◌, IfOk, IsSome, map};
 ghost use Rattle.lft_tree.specs.View.{reactor_view};
 ghost use Rattle.lft_validate.specs.{Findings.fault_found, Witnesses.{Shows, fault_shown}};
 ghost use Rattle.lft_program_diagnostics.specs.{inner.{Sentences.IsOf, Spots.behind}, Spots.member_of};
-ghost use Rattle.lft_validate.specs.declared.fault.ProgramFault.TheVariants as faults;
+ghost use Rattle.lft_resolve.specs.declared.causes.ProgramFault.TheVariants as faults;
 
 use crate::reason::WhyRefused;
 use crate::refused::Refused;

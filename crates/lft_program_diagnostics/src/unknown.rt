@@ -3,7 +3,7 @@
 ghost use Rattle.std.specs.Prelude.{◌≡◌, IfOk, IfSome, codes};
 ghost use Rattle.lft_text_diagnostics.specs.inner.Codes.{HasCodeWith};
 ghost use Rattle.lft_program_diagnostics.specs.inner.Sentences.{IsOf};
-ghost use Rattle.lft_validate.specs.declared.fault.ProgramFault.TheVariants as faults;
+ghost use Rattle.lft_resolve.specs.declared.causes.ProgramFault.TheVariants as faults;
 
 use crate::reason::WhyRefused;
 use crate::refused::{MemberSite, Refused};

@@ -6,7 +6,7 @@ use Rattle.lft_resolve.specs.{Expansion.Paths.along, Instances.{main_instance, m
 use Rattle.lft_resolve.specs.Kinds.{kind_of, may_stand, own_kind, refs_in, times_in, names_in}
 use Rattle.lft_resolve.specs.declared.kinds.Kind.TheVariants.{OwnParameter, OwnTimer, InnerOutput, OwnOutput, OwnInstance}
 use Rattle.lft_resolve.specs.declared.kinds.Role.TheVariants.{Read, Source, Destination}
-use Rattle.lft_resolve.specs.Causes.{mains, TwoMains, WritesTwice, DiffersInWidth, LacksReactor, GivesUnknown, causes}
+use Rattle.lft_resolve.specs.Causes.{mains, TwoMains, WritesTwice, DiffersInWidth, LacksReactor, GivesUnknown}
 
 abbrev own : List ℕ → RefTree
 own x = record { head = x; port = None }
@@ -119,6 +119,3 @@ lacking = (1, record { name = codes "b"; reactor = codes "B"; given = [] }, omeg
 
 gives_unknown : GivesUnknown all (record { name = codes "a"; reactor = codes "A"; given = record { name = codes "z"; value = Named (codes "q") } ∷ [] })
 gives_unknown = (a, refl, (0, record { name = codes "z"; value = Named (codes "q") }, omega arith, refl, refl))
-
-order : map (λ c. c.0) (causes tree) ≡ 1 ∷ 2 ∷ 3 ∷ 4 ∷ 5 ∷ 6 ∷ 7 ∷ 8 ∷ 9 ∷ 11 ∷ 12 ∷ 13 ∷ 15 ∷ 10 ∷ 14 ∷ []
-order = refl

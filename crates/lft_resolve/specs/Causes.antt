@@ -2,8 +2,9 @@
 use Rattle.std.specs.Prelude.{◌≡◌, ◌≢◌, ℕ, ◌<◌, ◌⊎◌, false, List, [], ◌∷◌, ◌++◌, Some, None, map, filter, filter_map, flat_map, find, slice_get, length, sum, Any, Contains, bytes_eq}
 use Rattle.lft_tree.specs.Tree.{FileTree, ReactorTree, ReactionTree, InstanceTree, AssignmentTree, TimeTree, Written, Named, RefTree, nanoseconds, reactors_of, instances_of, connections_of, ports_of, actions_of, timers_of, reactions_of}
 use Rattle.lft_resolve.specs.{Expansion.Paths.IsMoreThan, Instances.{Inside, reactor_named, IsInside, Thing, Chain}}
-use Rattle.lft_resolve.specs.declared.kinds.{Kind.{Kind, TheVariants.OwnParameter}, Role.Role}
+use Rattle.lft_resolve.specs.declared.{causes.ProgramFault.ProgramFault, kinds.{Kind.{Kind, TheVariants.OwnParameter}, Role.Role}}
 use Rattle.lft_resolve.specs.Kinds.{own_kind, kind_of, may_stand, reads_of, refs_in, times_in, names_in, destinations_in, effects_in}
+use Rattle.lft_resolve.specs.declared.causes.ProgramFault.TheVariants as faults
 
 -- something stands twice in the list
 abbrev pub IsTwice : {X : Type 0} → List X → Type 0
@@ -214,7 +215,26 @@ TooMany tree =
     ⊎ IsMoreThan (IsDeclaredAt tree actions_of) 100000
     ⊎ IsMoreThan (IsDeclaredAt tree timers_of) 100000
 
--- ---- their order
+-- ---- their numbers and their order
+
+-- the number of each cause; want of memory has 16
+abbrev pub number_of : ProgramFault → ℕ
+number_of faults.NoMain = 1
+number_of faults.TwoMains = 2
+number_of faults.DuplicateName = 3
+number_of faults.UnknownReactor = 4
+number_of faults.RecursiveReactor = 5
+number_of faults.UnknownName = 6
+number_of faults.WrongPlace = 7
+number_of faults.MainHasPorts = 8
+number_of faults.TwoSources = 9
+number_of faults.ConnectionCycle = 10
+number_of faults.WidthMismatch = 11
+number_of faults.NoTrigger = 12
+number_of faults.DuplicateInput = 13
+number_of faults.DelayTooLong = 14
+number_of faults.TooMany = 15
+number_of faults.NoMemory = 16
 
 -- the causes of the names of reactors and of what they declare, with their numbers, in the order in which they are answered
 abbrev pub first_causes : List ReactorTree → List (ℕ × Type 0)

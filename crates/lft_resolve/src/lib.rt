@@ -6,6 +6,7 @@
 //! - `expansion`: the instances of a main reactor, over these numbers alone.
 
 pub mod by_number;
+mod causes;
 pub mod expansion;
 mod fault;
 pub mod file;
@@ -18,5 +19,6 @@ pub mod own;
 mod scopes;
 pub mod times;
 
+pub use causes::{FIRST_CAUSES, LATER_CAUSES, ProgramFault};
 pub use fault::ReactorFault;
 pub use scopes::Scopes;

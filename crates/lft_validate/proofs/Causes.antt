@@ -1,97 +1,151 @@
--- Where a cause of refusal holds, some member of some reactor shows it.
-use Rattle.std.proofs.Common.{◌≡◌, ◌≢◌, ◌<◌, true, List, [], ◌∷◌, ◌++◌, map, flat_map, filter_map, option_to_list, Option, Some, None, Any, IsSome, IsSomeAnd, ◌⊎◌, inl, inr, ⊎_elim, length, refl}
-use Rattle.lft_tree.specs.Tree.{ReactorTree, MemberTree, TimerMember, ActionMember, ReactionMember, InstanceMember, ConnectionMember, RefTree, TimeTree, PortTree, nanoseconds, port_in, timer_in, action_in, reaction_in, instance_in, connection_in, ports_of, timers_of, actions_of, reactions_of, instances_of, connections_of}
-use Rattle.lft_resolve.specs.{Instances.reactor_named, Kinds.{kind_of, reads_of, reaction_refs, connection_refs, refs_in, timer_times, times_in, in_role}}
-use Rattle.lft_resolve.specs.Causes.{GivesTwice, GivesUnknown, LacksReactor, IsUnknownTime, IsMisplaced, IsMisplacedTime, NamesTwice, NamesNothing, Misplaces, IsLongTime, HasLongTime, UnknownReactor, UnknownName, WrongPlace, MainHasPorts, WidthMismatch, NoTrigger, DuplicateInput, DiffersInWidth, LacksTrigger, RepeatsName, SomeGivesTwice, longest}
-use Rattle.lft_resolve.specs.declared.kinds.Role.{Role, TheVariants.{Read, Effect, Source, Destination}}
-use Rattle.lft_resolve.proofs.{Somes.{Any-nil, Any-head, Any-tail, Any-cases, Any-append_cases, Any-weaker, unpicked, unkept, some_of}, Lacking.Any-either}
-use Rattle.lft_validate.specs.{Members.times_of, inner.Shown.{SomeName, SomeShows, ShowsCause, ShowsUnknown, ShowsMisplaced}}
-use Rattle.lft_validate.specs.declared.fault.ProgramFault.TheVariants as faults
+-- Where a cause of refusal holds, some member of some reactor shows it, and it holds where one does.
+use Rattle.std.proofs.Common.{◌≡◌, ◌≢◌, ◌<◌, ℕ, true, List, [], map, Option, Some, None, Any, IfNone, IsSome, IsSomeAnd, ◌⊎◌, inl, inr, ⊎_elim, length, refl, sym, subst}
+use Rattle.std.specs.Prelude.{slice_get}
+use Rattle.lft_tree.specs.Tree.{ReactorTree, MemberTree, ReactionMember, InstanceMember, InstanceTree, ConnectionTree, ReactionTree, RefTree, TimeTree, Written, Named, PortTree, nanoseconds, port_in, reaction_in, instance_in, connection_in, ports_of}
+use Rattle.lft_resolve.specs.Kinds.{kind_of, reads_of, times_in}
+use Rattle.lft_resolve.specs.Causes.{IsTwice, GivesTwice, GivesUnknown, LacksReactor, LacksParameter, IsUnknownTime, IsMisplaced, IsMisplacedTime, NamesTwice, NamesNothing, Misplaces, DeclaresTwice, DuplicateName, IsLongTime, HasLongTime, UnknownReactor, UnknownName, WrongPlace, MainHasPorts, WidthMismatch, NoTrigger, DuplicateInput, DiffersInWidth, LacksTrigger, RepeatsName, SomeGivesTwice, longest}
+use Rattle.lft_resolve.specs.declared.{causes.ProgramFault.ProgramFault, kinds.{Kind.Kind, Role.{Role, TheVariants.{Read, Effect, Source, Destination}}}}
+use Rattle.lft_resolve.proofs.{Somes.{Any-weaker, picked, unpicked, kept, unkept, something, some_of}, Lacking.Any-either}
+use Rattle.lft_validate.specs.Members.{names_of, times_of, given_of}
+use Rattle.lft_validate.specs.Findings.{IsFinding, IsTwiceAt, IsOfNone, IsNothing, IsForNone, IsWrong, IsWrongTime, fault_found}
+use Rattle.lft_validate.specs.{inner.{Shown.{SomeName, SomeShows, ShowsCause, ShowsUnknown, ShowsMisplaced}, Witnesses.Says}, declared.finding.Finding.Finding}
+use Rattle.lft_validate.proofs.{InMembers.{there, so_too, at_place, some_name, its_name, some_time, its_time}, Turns.some_place}
+use Rattle.lft_lists.proofs.Options.{none_weaker}
+use Rattle.lft_resolve.specs.declared.causes.ProgramFault.TheVariants as faults
+use Rattle.lft_validate.specs.declared.finding.Finding.TheVariants as finding
 
--- ---- lists
+-- ---- what one member shows, in the words of the cause
 
-pub unmapped : {X Y : Type 0} (P : Y → Type 0) (f : X → Y) (xs : List X) → Any P (map f xs) → Any (λ x. P (f x)) xs
-unmapped P f [] a = absurd (Any-nil P a)
-unmapped P f (x ∷ xs) a = ⊎_elim (λ p. Any-head (λ y. P (f y)) x xs p) (λ r. Any-tail (λ y. P (f y)) x xs (unmapped P f xs r)) (Any-cases P (f x) (map f xs) a)
+-- what stands twice in the list
+pub twice_there : {X : Type 0} (xs : List X) (i j : ℕ) → IsTwiceAt xs i j → IsTwice xs
+twice_there xs i j (x, lt, first, second) = (i, j, x, lt, first, second)
 
-pub unflat : {X Y : Type 0} (P : Y → Type 0) (f : X → List Y) (xs : List X) → Any P (flat_map f xs) → Any (λ x. Any P (f x)) xs
-unflat P f [] a = absurd (Any-nil P a)
-unflat P f (x ∷ xs) a = ⊎_elim (λ p. Any-head (λ y. Any P (f y)) x xs p) (λ r. Any-tail (λ y. Any P (f y)) x xs (unflat P f xs r)) (Any-append_cases P (f x) (flat_map f xs) a)
+gives_twice : (m : MemberTree) (i j : ℕ) → IsTwiceAt (map (λ a. a.name) (given_of m)) i j → IsSomeAnd (instance_in m) GivesTwice
+gives_twice (InstanceMember x) i j two = twice_there (map (λ a. a.name) x.given) i j two
+gives_twice _ i j (x, lt, first, second) = absurd (cc)
 
--- what stands in the lists of members of one kind stands in the lists of members
-of_kind : {Y Z : Type 0} (h : MemberTree → Option Y) (f : Y → List Z) (P : Z → Type 0) (ms : List MemberTree) → Any P (flat_map f (filter_map h ms)) → Any (λ m. IsSomeAnd (h m) (λ y. Any P (f y))) ms
-of_kind h f P ms a = unpicked h (λ y. Any P (f y)) ms (unflat P f (filter_map h ms) a)
+no_two : (i j : ℕ) → IsTwiceAt {X = RefTree} [] i j → ⊥
+no_two i j (x, lt, first, second) = absurd (cc)
 
--- ---- names
+names_twice : (role : Role) (m : MemberTree) (i j : ℕ) → IsSome (reaction_in m) → IsTwiceAt (names_of role m) i j → IsSomeAnd (reaction_in m) NamesTwice
+names_twice Read (ReactionMember x) i j is two = inl (twice_there (reads_of x) i j two)
+names_twice Effect (ReactionMember x) i j is two = inr (twice_there x.effects i j two)
+names_twice Source (ReactionMember x) i j is two = absurd (no_two i j two)
+names_twice Destination (ReactionMember x) i j is two = absurd (no_two i j two)
+names_twice role _ i j is two = absurd (cc)
 
-module _ (P : Role × RefTree → Type 0) where
-  in_reaction : (m : MemberTree) → IsSomeAnd (reaction_in m) (λ x. Any P (reaction_refs x)) → SomeName P m
-  in_reaction (ReactionMember x) a = ⊎_elim (λ l. (Read, unmapped P (λ ref. (Read, ref)) (reads_of x) l)) (λ r. (Effect, unmapped P (λ ref. (Effect, ref)) x.effects r)) (Any-append_cases P (in_role Read (reads_of x)) (in_role Effect x.effects) a)
-  in_reaction _ a = absurd a
+misplaced : (r : ReactorTree) (kind : Kind) (t : TimeTree) → IsWrongTime r kind t → IsMisplacedTime r t
+misplaced r kind (Written t) w = absurd w
+misplaced r kind (Named name) w = (kind, w.0, w.1)
 
-  in_connection : (m : MemberTree) → IsSomeAnd (connection_in m) (λ x. Any P (connection_refs x)) → SomeName P m
-  in_connection (ConnectionMember x) a = ⊎_elim (λ l. (Source, unmapped P (λ ref. (Source, ref)) x.sources l)) (λ r. (Destination, unmapped P (λ ref. (Destination, ref)) x.destinations r)) (Any-append_cases P (in_role Source x.sources) (in_role Destination x.destinations) a)
-  in_connection _ a = absurd a
+wrong : (r : ReactorTree) (t : TimeTree) → IsMisplacedTime r t → (kind : Kind) × IsWrongTime r kind t
+wrong r (Written t) w = absurd w
+wrong r (Named name) (kind, is, other) = (kind, (is, other))
 
-  pub some_name : (r : ReactorTree) → Any P (refs_in r) → Any (SomeName P) r.members
-  some_name r a = ⊎_elim
-      (λ l. Any-weaker (λ m. IsSomeAnd (reaction_in m) (λ x. Any P (reaction_refs x))) (SomeName P) in_reaction r.members (of_kind reaction_in reaction_refs P r.members l))
-      (λ l. Any-weaker (λ m. IsSomeAnd (connection_in m) (λ x. Any P (connection_refs x))) (SomeName P) in_connection r.members (of_kind connection_in connection_refs P r.members l))
-      (Any-append_cases P (flat_map reaction_refs (reactions_of r)) (flat_map connection_refs (connections_of r)) a)
+module _ (rs : List ReactorTree) (r : ReactorTree) where
+  unknown_value : (o : Option InstanceTree) → IsSomeAnd o (GivesUnknown rs) → (n : ℕ) × IsSomeAnd o (IsForNone rs n)
+  unknown_value None g = absurd g
+  unknown_value (Some i) (inner, is, a) = let at = some_place (LacksParameter inner) i.given a in (at.0, (inner, is, at.1))
 
--- ---- times
+  module _ (m : MemberTree) where
+    -- what a member that shows the cause has, in the words of the cause
+    abbrev pub InWords : ProgramFault → Type 0
+    InWords faults.DuplicateName = IsSomeAnd (instance_in m) GivesTwice
+    InWords faults.UnknownReactor = IsFinding rs r m finding.UnknownReactor
+    InWords faults.UnknownName = ShowsUnknown rs r m
+    InWords faults.WrongPlace = ShowsMisplaced rs r m
+    InWords faults.MainHasPorts = IsFinding rs r m finding.MainHasPort
+    InWords faults.WidthMismatch = IsFinding rs r m finding.WidthMismatch
+    InWords faults.NoTrigger = IsFinding rs r m finding.NoTrigger
+    InWords faults.DuplicateInput = IsSomeAnd (reaction_in m) NamesTwice
+    InWords faults.DelayTooLong = Any IsLongTime (times_of m)
+    InWords _ = ⊥
 
-module _ (P : TimeTree → Type 0) where
-  abbrev HasTime : MemberTree → Type 0
-  HasTime m = Any P (times_of m)
+    in_words : (f : Finding) → IsFinding rs r m f → InWords (fault_found f)
+    in_words (finding.GivenTwice i j) is = gives_twice m i j is
+    in_words finding.UnknownReactor is = is
+    in_words (finding.UnknownName role n) is = inl (role, at_place (IsNothing rs r) (names_of role m) n is)
+    in_words (finding.UnknownTime n) is = inr (inl (at_place (IsUnknownTime r) (times_of m) n is))
+    in_words (finding.UnknownParameter n) is = inr (inr (so_too (IsForNone rs n) (GivesUnknown rs) (λ i g. (g.0, g.1, at_place (LacksParameter g.0) i.given n g.2)) (instance_in m) is))
+    in_words (finding.WrongPlace role n kind) is = inl (role, at_place (λ ref. IsMisplaced rs r (role, ref)) (names_of role m) n (so_too (IsWrong rs r role kind) (λ ref. IsMisplaced rs r (role, ref)) (λ ref w. (kind, w.0, w.1)) (slice_get (names_of role m) n) is))
+    in_words (finding.WrongTime n kind) is = inr (at_place (IsMisplacedTime r) (times_of m) n (so_too (IsWrongTime r kind) (IsMisplacedTime r) (misplaced r kind) (slice_get (times_of m) n) is))
+    in_words finding.MainHasPort is = is
+    in_words finding.WidthMismatch is = is
+    in_words finding.NoTrigger is = is
+    in_words (finding.NamedTwice role i j) is = names_twice role m i j is.0 is.1
+    in_words (finding.LongTime n) is = at_place IsLongTime (times_of m) n is
 
-  at_timer : (m : MemberTree) → IsSomeAnd (timer_in m) (λ x. Any P (timer_times x)) → HasTime m
-  at_timer (TimerMember x) a = a
-  at_timer _ a = absurd a
+    -- where nothing in the words of a cause is found, the member doesn't show it
+    pub unshown : (c : ProgramFault) (o : Option Finding) → IfNone o (InWords c → ⊥) → IfNone o (ShowsCause rs r m c → ⊥)
+    unshown c o = none_weaker (InWords c → ⊥) (ShowsCause rs r m c → ⊥) o (λ no s. no (subst InWords s.1 (in_words s.0 s.2)))
 
-  at_action : (m : MemberTree) → IsSomeAnd (action_in m) (λ x. Any P (option_to_list x.min_delay)) → HasTime m
-  at_action (ActionMember x) a = a
-  at_action _ a = absurd a
+    -- a member alone shows no other cause
+    pub no_other : (c : ProgramFault) → c ≢ faults.DuplicateName → c ≢ faults.UnknownReactor → c ≢ faults.UnknownName → c ≢ faults.WrongPlace → c ≢ faults.MainHasPorts → c ≢ faults.WidthMismatch → c ≢ faults.NoTrigger → c ≢ faults.DuplicateInput → c ≢ faults.DelayTooLong → InWords c → ⊥
+    no_other faults.DuplicateName n _ _ _ _ _ _ _ _ w = n refl
+    no_other faults.UnknownReactor _ n _ _ _ _ _ _ _ w = n refl
+    no_other faults.UnknownName _ _ n _ _ _ _ _ _ w = n refl
+    no_other faults.WrongPlace _ _ _ n _ _ _ _ _ w = n refl
+    no_other faults.MainHasPorts _ _ _ _ n _ _ _ _ w = n refl
+    no_other faults.WidthMismatch _ _ _ _ _ n _ _ _ w = n refl
+    no_other faults.NoTrigger _ _ _ _ _ _ n _ _ w = n refl
+    no_other faults.DuplicateInput _ _ _ _ _ _ _ n _ w = n refl
+    no_other faults.DelayTooLong _ _ _ _ _ _ _ _ n w = n refl
+    no_other _ _ _ _ _ _ _ _ _ _ w = w
 
-  at_instance : (m : MemberTree) → IsSomeAnd (instance_in m) (λ x. Any P (map (λ a. a.value) x.given)) → HasTime m
-  at_instance (InstanceMember x) a = a
-  at_instance _ a = absurd a
+  found_unknown : (m : MemberTree) → ShowsUnknown rs r m → ShowsCause rs r m faults.UnknownName
+  found_unknown m (inl (role, a)) = let at = some_place (IsNothing rs r) (names_of role m) a in (finding.UnknownName role at.0, refl, at.1)
+  found_unknown m (inr (inl t)) = let at = some_place (IsUnknownTime r) (times_of m) t in (finding.UnknownTime at.0, refl, at.1)
+  found_unknown m (inr (inr g)) = let at = unknown_value (instance_in m) g in (finding.UnknownParameter at.0, refl, at.1)
 
-  at_connection : (m : MemberTree) → IsSomeAnd (connection_in m) (λ x. Any P (option_to_list x.delay)) → HasTime m
-  at_connection (ConnectionMember x) a = a
-  at_connection _ a = absurd a
+  found_misplaced : (m : MemberTree) → ShowsMisplaced rs r m → ShowsCause rs r m faults.WrongPlace
+  found_misplaced m (inl (role, a)) =
+      let at = some_place (λ ref. IsMisplaced rs r (role, ref)) (names_of role m) a in
+      let (ref, is, (kind, of, not)) = there (λ ref. IsMisplaced rs r (role, ref)) (slice_get (names_of role m) at.0) at.1 in
+      (finding.WrongPlace role at.0 kind, refl, subst (λ o. IsSomeAnd o (IsWrong rs r role kind)) (sym is) (of, not))
+  found_misplaced m (inr t) =
+      let at = some_place (IsMisplacedTime r) (times_of m) t in
+      let (time, is, w) = there (IsMisplacedTime r) (slice_get (times_of m) at.0) at.1 in
+      let (kind, of) = wrong r time w in
+      (finding.WrongTime at.0 kind, refl, subst (λ o. IsSomeAnd o (IsWrongTime r kind)) (sym is) of)
 
-  module _ (r : ReactorTree) where
-    abbrev timers : List TimeTree
-    timers = flat_map timer_times (timers_of r)
+  found_given_twice : (m : MemberTree) → IsSomeAnd (instance_in m) GivesTwice → ShowsCause rs r m faults.DuplicateName
+  found_given_twice (InstanceMember x) (i, j, y, lt, first, second) = (finding.GivenTwice i j, refl, (y, lt, first, second))
+  found_given_twice _ two = absurd two
 
-    abbrev actions : List TimeTree
-    actions = flat_map (λ a. option_to_list a.min_delay) (actions_of r)
+  found_named_twice : (m : MemberTree) → IsSomeAnd (reaction_in m) NamesTwice → ShowsCause rs r m faults.DuplicateInput
+  found_named_twice (ReactionMember x) (inl (i, j, y, lt, first, second)) = (finding.NamedTwice Read i j, refl, (refl, (y, lt, first, second)))
+  found_named_twice (ReactionMember x) (inr (i, j, y, lt, first, second)) = (finding.NamedTwice Effect i j, refl, (refl, (y, lt, first, second)))
+  found_named_twice _ two = absurd two
 
-    abbrev values : List TimeTree
-    values = flat_map (λ i. map (λ a. a.value) i.given) (instances_of r)
+  found_long : (m : MemberTree) → Any IsLongTime (times_of m) → ShowsCause rs r m faults.DelayTooLong
+  found_long m a = let at = some_place IsLongTime (times_of m) a in (finding.LongTime at.0, refl, at.1)
 
-    abbrev delays : List TimeTree
-    delays = flat_map (λ c. option_to_list c.delay) (connections_of r)
+  -- what a member has in the words of a cause is a finding of it
+  pub finding_of : (c : ProgramFault) (m : MemberTree) → InWords m c → ShowsCause rs r m c
+  finding_of faults.DuplicateName m w = found_given_twice m w
+  finding_of faults.UnknownReactor m w = (finding.UnknownReactor, refl, w)
+  finding_of faults.UnknownName m w = found_unknown m w
+  finding_of faults.WrongPlace m w = found_misplaced m w
+  finding_of faults.MainHasPorts m w = (finding.MainHasPort, refl, w)
+  finding_of faults.WidthMismatch m w = (finding.WidthMismatch, refl, w)
+  finding_of faults.NoTrigger m w = (finding.NoTrigger, refl, w)
+  finding_of faults.DuplicateInput m w = found_named_twice m w
+  finding_of faults.DelayTooLong m w = found_long m w
+  finding_of _ m w = absurd w
 
-    pub some_time : Any P (times_in r) → Any (λ m. Any P (times_of m)) r.members
-    some_time a = ⊎_elim
-        (λ b. ⊎_elim
-        (λ c. ⊎_elim
-        (λ d. Any-weaker (λ m. IsSomeAnd (timer_in m) (λ x. Any P (timer_times x))) HasTime at_timer r.members (of_kind timer_in timer_times P r.members d))
-        (λ d. Any-weaker (λ m. IsSomeAnd (action_in m) (λ x. Any P (option_to_list x.min_delay))) HasTime at_action r.members (of_kind action_in (λ x. option_to_list x.min_delay) P r.members d))
-        (Any-append_cases P timers actions c))
-        (λ c. Any-weaker (λ m. IsSomeAnd (instance_in m) (λ x. Any P (map (λ a. a.value) x.given))) HasTime at_instance r.members (of_kind instance_in (λ x. map (λ a. a.value) x.given) P r.members c))
-        (Any-append_cases P (timers ++ actions) values b))
-        (λ b. Any-weaker (λ m. IsSomeAnd (connection_in m) (λ x. Any P (option_to_list x.delay))) HasTime at_connection r.members (of_kind connection_in (λ x. option_to_list x.delay) P r.members b))
-        (Any-append_cases P (timers ++ actions ++ values) delays a)
-
--- ---- causes
+-- ---- what the reactors show
 
 module _ (rs : List ReactorTree) where
-  pub shows_unknown_reactor : UnknownReactor rs → SomeShows rs faults.UnknownReactor
-  unfolding UnknownReactor
-  shows_unknown_reactor a = Any-weaker (LacksReactor rs) (λ r. Any (λ m. ShowsCause rs r m faults.UnknownReactor) r.members) (λ r b. unpicked instance_in (λ i. reactor_named rs i.reactor ≡ None) r.members b) rs a
+  -- some member of some reactor has what the cause says
+  abbrev Somewhere : ProgramFault → Type 0
+  Somewhere c = Any (λ r. Any (λ m. InWords rs r m c) r.members) rs
+
+  -- what is so of each reactor is so of some
+  to : (c : ProgramFault) (P : ReactorTree → Type 0) → ((r : ReactorTree) → P r → Any (λ m. InWords rs r m c) r.members) → Any P rs → Somewhere c
+  to c P follows = Any-weaker P (λ r. Any (λ m. InWords rs r m c) r.members) follows rs
+
+  from : (c : ProgramFault) (P : ReactorTree → Type 0) → ((r : ReactorTree) → Any (λ m. InWords rs r m c) r.members → P r) → Somewhere c → Any P rs
+  from c P follows = Any-weaker (λ r. Any (λ m. InWords rs r m c) r.members) P follows rs
 
   nothing : (r : ReactorTree) → NamesNothing rs r → Any (ShowsUnknown rs r) r.members
   nothing r a = ⊎_elim
@@ -102,9 +156,14 @@ module _ (rs : List ReactorTree) where
       b)
       a
 
-  pub shows_unknown_name : UnknownName rs → SomeShows rs faults.UnknownName
-  unfolding UnknownName
-  shows_unknown_name a = Any-weaker (NamesNothing rs) (λ r. Any (λ m. ShowsCause rs r m faults.UnknownName) r.members) nothing rs a
+  names_nothing : (r : ReactorTree) → Any (ShowsUnknown rs r) r.members → NamesNothing rs r
+  names_nothing r a = ⊎_elim
+      (λ n. inl (its_name (λ n. kind_of rs r n.1 ≡ None) r n))
+      (λ b. ⊎_elim
+      (λ t. inr (inl (its_time (IsUnknownTime r) r t)))
+      (λ g. inr (inr (picked instance_in (GivesUnknown rs) r.members g)))
+      (Any-either (λ m. Any (IsUnknownTime r) (times_of m)) (λ m. IsSomeAnd (instance_in m) (GivesUnknown rs)) r.members b))
+      (Any-either (SomeName (λ n. kind_of rs r n.1 ≡ None)) (λ m. Any (IsUnknownTime r) (times_of m) ⊎ IsSomeAnd (instance_in m) (GivesUnknown rs)) r.members a)
 
   misplaces : (r : ReactorTree) → Misplaces rs r → Any (ShowsMisplaced rs r) r.members
   misplaces r a = ⊎_elim
@@ -112,35 +171,78 @@ module _ (rs : List ReactorTree) where
       (λ t. Any-weaker (λ m. Any (IsMisplacedTime r) (times_of m)) (ShowsMisplaced rs r) (λ m h. inr h) r.members (some_time (IsMisplacedTime r) r t))
       a
 
-  pub shows_wrong_place : WrongPlace rs → SomeShows rs faults.WrongPlace
-  unfolding WrongPlace
-  shows_wrong_place a = Any-weaker (Misplaces rs) (λ r. Any (λ m. ShowsCause rs r m faults.WrongPlace) r.members) misplaces rs a
+  misplaces_some : (r : ReactorTree) → Any (ShowsMisplaced rs r) r.members → Misplaces rs r
+  misplaces_some r a = ⊎_elim (λ n. inl (its_name (IsMisplaced rs r) r n)) (λ t. inr (its_time (IsMisplacedTime r) r t)) (Any-either (SomeName (IsMisplaced rs r)) (λ m. Any (IsMisplacedTime r) (times_of m)) r.members a)
 
   is_some : (o : Option PortTree) → IsSomeAnd o (λ _. Unit {0}) → IsSome o
   is_some None a = absurd a
   is_some (Some x) a = refl
 
-  has_port : (r : ReactorTree) → (r.is_main ≡ true) × (ports_of r ≢ []) → Any (λ m. ShowsCause rs r m faults.MainHasPorts) r.members
-  has_port r (main, some) = Any-weaker (λ m. IsSomeAnd (port_in m) (λ _. Unit {0})) (λ m. ShowsCause rs r m faults.MainHasPorts) (λ m h. (main, is_some (port_in m) h)) r.members (unpicked port_in (λ _. Unit {0}) r.members (some_of (ports_of r) some))
+  port_there : (o : Option PortTree) → IsSome o → IsSomeAnd o (λ _. Unit {0})
+  port_there None is = absurd (cc)
+  port_there (Some x) is = tt
 
-  pub shows_main_port : MainHasPorts rs → SomeShows rs faults.MainHasPorts
-  unfolding MainHasPorts
-  shows_main_port a = Any-weaker (λ r. (r.is_main ≡ true) × (ports_of r ≢ [])) (λ r. Any (λ m. ShowsCause rs r m faults.MainHasPorts) r.members) has_port rs (unkept (λ r. r.is_main) (λ r. ports_of r ≢ []) rs a)
+  abbrev IsMainWithPorts : ReactorTree → Type 0
+  IsMainWithPorts r = (r.is_main ≡ true) × (ports_of r ≢ [])
 
-  pub shows_width : WidthMismatch rs → SomeShows rs faults.WidthMismatch
-  unfolding WidthMismatch
-  shows_width a = Any-weaker DiffersInWidth (λ r. Any (λ m. ShowsCause rs r m faults.WidthMismatch) r.members) (λ r b. unpicked connection_in (λ c. length c.sources ≢ length c.destinations) r.members b) rs a
+  has_port : (r : ReactorTree) → IsMainWithPorts r → Any (λ m. InWords rs r m faults.MainHasPorts) r.members
+  has_port r (main, some) = Any-weaker (λ m. IsSomeAnd (port_in m) (λ _. Unit {0})) (λ m. InWords rs r m faults.MainHasPorts) (λ m h. (main, is_some (port_in m) h)) r.members (unpicked port_in (λ _. Unit {0}) r.members (some_of (ports_of r) some))
 
-  pub shows_no_trigger : NoTrigger rs → SomeShows rs faults.NoTrigger
-  unfolding NoTrigger
-  shows_no_trigger a = Any-weaker LacksTrigger (λ r. Any (λ m. ShowsCause rs r m faults.NoTrigger) r.members) (λ r b. unpicked reaction_in (λ x. x.triggers ≡ []) r.members b) rs a
+  some_port : (r : ReactorTree) → Any (λ m. InWords rs r m faults.MainHasPorts) r.members → IsMainWithPorts r
+  some_port r a = (a.4.0, something (ports_of r) (picked port_in (λ _. Unit {0}) r.members (Any-weaker (λ m. InWords rs r m faults.MainHasPorts) (λ m. IsSomeAnd (port_in m) (λ _. Unit {0})) (λ m h. port_there (port_in m) h.1) r.members a)))
 
-  pub shows_duplicate_input : DuplicateInput rs → SomeShows rs faults.DuplicateInput
-  unfolding DuplicateInput
-  shows_duplicate_input a = Any-weaker RepeatsName (λ r. Any (λ m. ShowsCause rs r m faults.DuplicateInput) r.members) (λ r b. unpicked reaction_in NamesTwice r.members b) rs a
+  abbrev DiffersAt : ConnectionTree → Type 0
+  DiffersAt c = length c.sources ≢ length c.destinations
+
+  abbrev HasNone : ReactionTree → Type 0
+  HasNone x = x.triggers ≡ []
+
+  -- where a cause that is looked for in members holds, some member has what it says
+  shows : (c : ProgramFault) → c ≢ faults.NoMain → c ≢ faults.TwoMains → c ≢ faults.DuplicateName → c ≢ faults.TwoSources → c ≢ faults.DelayTooLong → Says rs c → Somewhere c
+  unfolding UnknownReactor UnknownName WrongPlace MainHasPorts WidthMismatch NoTrigger DuplicateInput
+  shows faults.NoMain n _ _ _ _ a = absurd (n refl)
+  shows faults.TwoMains _ n _ _ _ a = absurd (n refl)
+  shows faults.DuplicateName _ _ n _ _ a = absurd (n refl)
+  shows faults.TwoSources _ _ _ n _ a = absurd (n refl)
+  shows faults.DelayTooLong _ _ _ _ n a = absurd (n refl)
+  shows faults.UnknownReactor _ _ _ _ _ a = to faults.UnknownReactor (LacksReactor rs) (λ r. unpicked instance_in (IsOfNone rs) r.members) a
+  shows faults.UnknownName _ _ _ _ _ a = to faults.UnknownName (NamesNothing rs) nothing a
+  shows faults.WrongPlace _ _ _ _ _ a = to faults.WrongPlace (Misplaces rs) misplaces a
+  shows faults.MainHasPorts _ _ _ _ _ a = to faults.MainHasPorts IsMainWithPorts has_port (unkept (λ r. r.is_main) (λ r. ports_of r ≢ []) rs a)
+  shows faults.WidthMismatch _ _ _ _ _ a = to faults.WidthMismatch DiffersInWidth (λ r. unpicked connection_in DiffersAt r.members) a
+  shows faults.NoTrigger _ _ _ _ _ a = to faults.NoTrigger LacksTrigger (λ r. unpicked reaction_in HasNone r.members) a
+  shows faults.DuplicateInput _ _ _ _ _ a = to faults.DuplicateInput RepeatsName (λ r. unpicked reaction_in NamesTwice r.members) a
+  shows _ _ _ _ _ _ a = absurd a
+
+  -- where some member has what a cause says, it holds
+  holds : (c : ProgramFault) → Somewhere c → Says rs c
+  unfolding DuplicateName UnknownReactor UnknownName WrongPlace MainHasPorts WidthMismatch NoTrigger DuplicateInput
+  holds faults.DuplicateName a = inr (from faults.DuplicateName DeclaresTwice (λ r b. inr (picked instance_in GivesTwice r.members b)) a)
+  holds faults.UnknownReactor a = from faults.UnknownReactor (LacksReactor rs) (λ r. picked instance_in (IsOfNone rs) r.members) a
+  holds faults.UnknownName a = from faults.UnknownName (NamesNothing rs) names_nothing a
+  holds faults.WrongPlace a = from faults.WrongPlace (Misplaces rs) misplaces_some a
+  holds faults.MainHasPorts a = kept (λ r. r.is_main) (λ r. ports_of r ≢ []) rs (from faults.MainHasPorts IsMainWithPorts some_port a)
+  holds faults.WidthMismatch a = from faults.WidthMismatch DiffersInWidth (λ r. picked connection_in DiffersAt r.members) a
+  holds faults.NoTrigger a = from faults.NoTrigger LacksTrigger (λ r. picked reaction_in HasNone r.members) a
+  holds faults.DuplicateInput a = from faults.DuplicateInput RepeatsName (λ r. picked reaction_in NamesTwice r.members) a
+  holds faults.DelayTooLong a = from faults.DelayTooLong HasLongTime (λ r b. inr (its_time IsLongTime r b)) a
+  holds _ a = absurd (a.4.4)
+
+  some_shows : (c : ProgramFault) → Somewhere c → SomeShows rs c
+  some_shows c = Any-weaker (λ r. Any (λ m. InWords rs r m c) r.members) (λ r. Any (λ m. ShowsCause rs r m c) r.members) (λ r. Any-weaker (λ m. InWords rs r m c) (λ m. ShowsCause rs r m c) (finding_of rs r c) r.members) rs
+
+  pub by_member : (c : ProgramFault) → c ≢ faults.NoMain → c ≢ faults.TwoMains → c ≢ faults.DuplicateName → c ≢ faults.TwoSources → c ≢ faults.DelayTooLong → Says rs c → SomeShows rs c
+  by_member c n o p q s a = some_shows c (shows c n o p q s a)
 
   pub shows_given_twice : Any SomeGivesTwice rs → SomeShows rs faults.DuplicateName
-  shows_given_twice a = Any-weaker SomeGivesTwice (λ r. Any (λ m. ShowsCause rs r m faults.DuplicateName) r.members) (λ r b. unpicked instance_in GivesTwice r.members b) rs a
+  shows_given_twice a = some_shows faults.DuplicateName (to faults.DuplicateName SomeGivesTwice (λ r. unpicked instance_in GivesTwice r.members) a)
 
-  pub long : Any HasLongTime rs → Any (λ r. Any (λ p. longest < nanoseconds p.default) r.parameters) rs ⊎ SomeShows rs faults.DelayTooLong
-  long a = Any-either (λ r. Any (λ p. longest < nanoseconds p.default) r.parameters) (λ r. Any (λ m. ShowsCause rs r m faults.DelayTooLong) r.members) rs (Any-weaker HasLongTime (λ r. Any (λ p. longest < nanoseconds p.default) r.parameters ⊎ Any (λ m. ShowsCause rs r m faults.DelayTooLong) r.members) (λ r h. ⊎_elim (λ d. inl d) (λ t. inr (some_time IsLongTime r t)) h) rs a)
+  abbrev HasLongDefault : ReactorTree → Type 0
+  HasLongDefault r = Any (λ p. longest < nanoseconds p.default) r.parameters
+
+  pub long : Any HasLongTime rs → Any HasLongDefault rs ⊎ SomeShows rs faults.DelayTooLong
+  long a = ⊎_elim (λ d. inl d) (λ t. inr (some_shows faults.DelayTooLong (to faults.DelayTooLong (λ r. Any IsLongTime (times_in r)) (λ r. some_time IsLongTime r) t))) (Any-either HasLongDefault (λ r. Any IsLongTime (times_in r)) rs a)
+
+  -- the cause of a finding holds
+  pub found : (f : Finding) → Any (λ r. Any (λ m. IsFinding rs r m f) r.members) rs → Says rs (fault_found f)
+  found f a = holds (fault_found f) (Any-weaker (λ r. Any (λ m. IsFinding rs r m f) r.members) (λ r. Any (λ m. InWords rs r m (fault_found f)) r.members) (λ r. Any-weaker (λ m. IsFinding rs r m f) (λ m. InWords rs r m (fault_found f)) (λ m. in_words rs r m f) r.members) rs a)

@@ -2,6 +2,7 @@ pub mod Causes
 pub mod Circles
 pub mod DeclaredNames
 pub mod Founding
+pub mod InMembers
 pub mod Roles
 pub mod SameRefs
 pub mod Searching

@@ -2,10 +2,9 @@
 use Rattle.std.specs.Prelude.{◌≡◌, ◌≢◌, ℕ, ◌<◌, List, length, Some, None, true, false, slice_get, map, IsSome, IsSomeAnd, []}
 use Rattle.lft_tree.specs.Tree.{ReactorTree, MemberTree, InstanceTree, RefTree, TimeTree, Named, port_in, instance_in, reaction_in, connection_in}
 use Rattle.lft_resolve.specs.{Instances.reactor_named, Kinds.{kind_of, own_kind, may_stand}, Causes.{IsUnknownTime, LacksParameter, IsLongTime}}
-use Rattle.lft_resolve.specs.declared.kinds.{Kind.{Kind, TheVariants.OwnParameter}, Role.Role}
-use Rattle.lft_validate.specs.Members.{names_of, times_of, given_of}
-use Rattle.lft_validate.specs.declared.{fault.ProgramFault.ProgramFault, finding.{Finding.Finding, MemberPart.MemberPart}}
-use Rattle.lft_validate.specs.declared.fault.ProgramFault.TheVariants as faults
+use Rattle.lft_resolve.specs.declared.{kinds.{Kind.{Kind, TheVariants.OwnParameter}, Role.Role}, causes.ProgramFault.ProgramFault}
+use Rattle.lft_validate.specs.{Members.{names_of, times_of, given_of}, declared.finding.{Finding.Finding, MemberPart.MemberPart}}
+use Rattle.lft_resolve.specs.declared.causes.ProgramFault.TheVariants as faults
 use Rattle.lft_validate.specs.declared.finding.Finding.TheVariants as finding
 use Rattle.lft_validate.specs.declared.finding.MemberPart.TheVariants as parts
 

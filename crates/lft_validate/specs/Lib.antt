@@ -1,4 +1,3 @@
-pub mod Faults
 pub mod Findings
 pub mod Members
 pub mod Witnesses

@@ -1,10 +1,10 @@
 -- What each witness shows of the reactors of a file.
 use Rattle.std.specs.Prelude.{◌≡◌, ℕ, ◌<◌, ◌⊎◌, List, Some, true, slice_get, filter_map, IsSomeAnd}
 use Rattle.lft_tree.specs.Tree.{ReactorTree, RefTree, nanoseconds}
-use Rattle.lft_resolve.specs.{Causes.{NoMain, longest}, declared.kinds.Role.{Role, TheVariants.{Effect, Destination}}}
+use Rattle.lft_resolve.specs.{Causes.{NoMain, longest}, declared.{causes.ProgramFault.ProgramFault, kinds.Role.{Role, TheVariants.{Effect, Destination}}}}
 use Rattle.lft_validate.specs.{Members.{names_of, declarations}, Findings.{IsFinding, IsTwiceAt, fault_found}}
-use Rattle.lft_validate.specs.declared.{fault.ProgramFault.ProgramFault, finding.Finding.Finding, witness.{Naming.Naming, Witness.Witness}}
-use Rattle.lft_validate.specs.declared.fault.ProgramFault.TheVariants as faults
+use Rattle.lft_validate.specs.declared.{finding.Finding.Finding, witness.{Naming.Naming, Witness.Witness}}
+use Rattle.lft_resolve.specs.declared.causes.ProgramFault.TheVariants as faults
 use Rattle.lft_validate.specs.declared.witness.Witness.TheVariants as witness
 
 -- the finding is true of the reactor's member at that place

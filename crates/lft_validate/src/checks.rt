@@ -1,18 +1,17 @@
 //! The first cause of refusal, in the order of the answers, with what shows it.
 
-ghost use Rattle.std.specs.Prelude.{◌≡◌, IfOk, IfSome, IfNone};
+ghost use Rattle.std.specs.Prelude.{◌≡◌, Any, IfOk, IfSome, IfNone};
 ghost use Rattle.lft_tree.specs.Tree.{reactors_of};
-ghost use Rattle.lft_resolve.specs.{Causes.{DuplicateName, first_causes, later_causes}, inner.{References.reactor_trees, Tables.IsFile}};
-ghost use Rattle.lft_validate.specs.{inner.Witnesses.{IsFirstShown, time_causes}, Witnesses.{Shows, fault_shown}};
+ghost use Rattle.lft_resolve.specs.{Causes.{DuplicateName, HasLongTime, first_causes, later_causes}, inner.{References.reactor_trees, Tables.IsFile}};
+ghost use Rattle.lft_validate.specs.{inner.Witnesses.{IsFirstShown, Says, in_order, time_causes}, Witnesses.{Shows, fault_shown}};
 
 use crate::declared::{same_reactors, some_declared_twice};
-use crate::fault::ProgramFault;
 use crate::mains::{long_default, no_main, two_mains};
 use crate::members::first_member;
 use crate::sources::two_sources;
 use crate::witness::Witness;
-use lft_resolve::Scopes;
 use lft_resolve::file::ReactorTable;
+use lft_resolve::{FIRST_CAUSES, LATER_CAUSES, ProgramFault, Scopes};
 use lft_tag::NoMemory;
 use lft_tree::Reactor;
 use std::alloc::Global;
@@ -37,25 +36,61 @@ fn duplicate_name(
     first_member(alloc, ProgramFault::DuplicateName, reactors, file)
 }
 
-// Each cause is looked for once: what is found shows it.
-fn first_of(
+/// A default that is past the greatest time, or a time in a member that is.
+fn long_time(
     alloc: Global,
     reactors: &[&Reactor],
     file: &ReactorTable,
 ) -> Result<Option<Witness>, NoMemory>
     requires { IsFile (reactor_trees reactors.now) file.now }
-    ensures { IfOk result (IsFirstShown (reactor_trees reactors.now) (first_causes (reactor_trees reactors.now))) }
+    ensures shows { IfOk result (λ found. IfSome found (Shows (reactor_trees reactors.now))) }
+    ensures cause { IfOk result (λ found. IfSome found (λ w. fault_shown w ≡ ProgramFault.DelayTooLong)) }
+    ensures none { IfOk result (λ found. IfNone found (¬ Any HasLongTime (reactor_trees reactors.now))) }
 {
-    if let Some(found) = no_main(reactors) {
+    if let Some(found) = long_default(reactors) {
         return Ok(Some(found));
     }
-    if let Some(found) = two_mains(reactors) {
-        return Ok(Some(found));
+    first_member(alloc, ProgramFault::DelayTooLong, reactors, file)
+}
+
+/// What shows that the reactors have the cause, if they have it. Most causes are shown by one member.
+fn shown(
+    alloc: Global,
+    cause: ProgramFault,
+    reactors: &[&Reactor],
+    file: &ReactorTable,
+) -> Result<Option<Witness>, NoMemory>
+    requires { IsFile (reactor_trees reactors.now) file.now }
+    ensures shows { IfOk result (λ found. IfSome found (Shows (reactor_trees reactors.now))) }
+    ensures cause { IfOk result (λ found. IfSome found (λ w. fault_shown w ≡ cause)) }
+    ensures none { IfOk result (λ found. IfNone found (¬ Says (reactor_trees reactors.now) cause)) }
+{
+    match cause {
+        ProgramFault::NoMain => Ok(no_main(reactors)),
+        ProgramFault::TwoMains => Ok(two_mains(reactors)),
+        ProgramFault::DuplicateName => duplicate_name(alloc, reactors, file),
+        ProgramFault::TwoSources => two_sources(alloc, reactors),
+        ProgramFault::DelayTooLong => long_time(alloc, reactors, file),
+        _ => first_member(alloc, cause, reactors, file),
     }
-    if let Some(found) = duplicate_name(alloc, reactors, file)? {
-        return Ok(Some(found));
+}
+
+// Each cause is looked for once: what is found shows it.
+fn first_of(
+    alloc: Global,
+    causes: &[ProgramFault],
+    reactors: &[&Reactor],
+    file: &ReactorTable,
+) -> Result<Option<Witness>, NoMemory>
+    requires { IsFile (reactor_trees reactors.now) file.now }
+    ensures { IfOk result (IsFirstShown (reactor_trees reactors.now) (in_order (reactor_trees reactors.now) causes.now)) }
+{
+    for place in 0..causes.len() {
+        if let Some(found) = shown(alloc, causes[place], reactors, file)? {
+            return Ok(Some(found));
+        }
     }
-    first_member(alloc, ProgramFault::UnknownReactor, reactors, file)
+    Ok(None)
 }
 
 /// Looks for a main reactor, for a second one, for a name that is declared twice, and for a `new` of a
@@ -64,36 +99,7 @@ fn first_of(
 pub fn check_first(alloc: Global, scopes: &Scopes) -> Result<Option<Witness>, NoMemory>
     ensures { IfOk result (IsFirstShown (reactors_of scopes.now) (first_causes (reactors_of scopes.now))) }
 {
-    first_of(alloc, scopes.reactors(), scopes.file())
-}
-
-fn later_of(
-    alloc: Global,
-    reactors: &[&Reactor],
-    file: &ReactorTable,
-) -> Result<Option<Witness>, NoMemory>
-    requires { IsFile (reactor_trees reactors.now) file.now }
-    ensures { IfOk result (IsFirstShown (reactor_trees reactors.now) (later_causes (reactor_trees reactors.now))) }
-{
-    if let Some(found) = first_member(alloc, ProgramFault::UnknownName, reactors, file)? {
-        return Ok(Some(found));
-    }
-    if let Some(found) = first_member(alloc, ProgramFault::WrongPlace, reactors, file)? {
-        return Ok(Some(found));
-    }
-    if let Some(found) = first_member(alloc, ProgramFault::MainHasPorts, reactors, file)? {
-        return Ok(Some(found));
-    }
-    if let Some(found) = two_sources(alloc, reactors)? {
-        return Ok(Some(found));
-    }
-    if let Some(found) = first_member(alloc, ProgramFault::WidthMismatch, reactors, file)? {
-        return Ok(Some(found));
-    }
-    if let Some(found) = first_member(alloc, ProgramFault::NoTrigger, reactors, file)? {
-        return Ok(Some(found));
-    }
-    first_member(alloc, ProgramFault::DuplicateInput, reactors, file)
+    first_of(alloc, &FIRST_CAUSES, scopes.reactors(), scopes.file())
 }
 
 /// Looks in each reactor of the file for a name that is nothing, for one that may not stand in its place,
@@ -103,21 +109,7 @@ fn later_of(
 pub fn check_later(alloc: Global, scopes: &Scopes) -> Result<Option<Witness>, NoMemory>
     ensures { IfOk result (IsFirstShown (reactors_of scopes.now) (later_causes (reactors_of scopes.now))) }
 {
-    later_of(alloc, scopes.reactors(), scopes.file())
-}
-
-fn times_of(
-    alloc: Global,
-    reactors: &[&Reactor],
-    file: &ReactorTable,
-) -> Result<Option<Witness>, NoMemory>
-    requires { IsFile (reactor_trees reactors.now) file.now }
-    ensures { IfOk result (IsFirstShown (reactor_trees reactors.now) (time_causes (reactor_trees reactors.now))) }
-{
-    if let Some(found) = long_default(reactors) {
-        return Ok(Some(found));
-    }
-    first_member(alloc, ProgramFault::DelayTooLong, reactors, file)
+    first_of(alloc, &LATER_CAUSES, scopes.reactors(), scopes.file())
 }
 
 /// Looks for a time in some reactor that is past 10^18 nanoseconds: a default of a parameter, or any other
@@ -125,5 +117,10 @@ fn times_of(
 pub fn check_times(alloc: Global, scopes: &Scopes) -> Result<Option<Witness>, NoMemory>
     ensures { IfOk result (IsFirstShown (reactors_of scopes.now) (time_causes (reactors_of scopes.now))) }
 {
-    times_of(alloc, scopes.reactors(), scopes.file())
+    first_of(
+        alloc,
+        &[ProgramFault::DelayTooLong],
+        scopes.reactors(),
+        scopes.file(),
+    )
 }

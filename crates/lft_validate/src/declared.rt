@@ -4,7 +4,7 @@ ghost use Rattle.std.specs.Prelude.{◌≡◌, ◌++◌, Any, IfOk, OnOk, IfSome
 ghost use Rattle.lft_tree.specs.View.{member_view, member_views, reactor_view};
 ghost use Rattle.lft_resolve.specs.{Causes.IsTwice, Kinds.names_in, inner.{References.reactor_trees, Tests.texts}};
 ghost use Rattle.lft_validate.specs.{Findings.IsTwiceAt, Members.{declared_name, declarations}, Witnesses.{Shows, fault_shown}};
-ghost use Rattle.lft_validate.specs.declared.fault.ProgramFault.TheVariants as faults;
+ghost use Rattle.lft_resolve.specs.declared.causes.ProgramFault.TheVariants as faults;
 
 use crate::twice::first_twice;
 use crate::witness::Witness;

@@ -3,7 +3,7 @@
 ghost use Rattle.std.specs.Prelude.{◌≡◌};
 ghost use Rattle.lft_validate.specs.Findings.{fault_found, part_found};
 
-use crate::fault::ProgramFault;
+use lft_resolve::ProgramFault;
 use lft_resolve::kinds::{Kind, Role};
 
 /// The roles in the order in which they stand in a member.

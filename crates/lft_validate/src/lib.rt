@@ -1,14 +1,13 @@
 #![tactic(auto)]
-//! The causes of refusal of a core program, and those that places of a file show, each with the reactor, the
-//! member and the name that show it.
+//! Which cause of refusal the reactors of a core program show, with the reactor, the member and the name that
+//! show it. The causes themselves are in `lft_resolve`.
 
 mod checks;
 mod circle;
 mod declared;
-mod fault;
 mod finding;
-mod lone;
 mod mains;
+mod member;
 mod members;
 mod misplaced;
 pub mod names;
@@ -21,6 +20,5 @@ mod witness;
 pub use checks::{check_first, check_later, check_times};
 pub use circle::circle_of;
 pub use declared::declared_name;
-pub use fault::ProgramFault;
 pub use finding::{Finding, MemberPart};
 pub use witness::{Naming, Witness};

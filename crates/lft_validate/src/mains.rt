@@ -4,7 +4,7 @@ ghost use Rattle.std.specs.Prelude.{◌≡◌, ◌<◌, ◌≤◌, ℕ, Some, An
 ghost use Rattle.lft_tree.specs.{Tree.nanoseconds, View.parameter_view};
 ghost use Rattle.lft_resolve.specs.{Causes.{NoMain, TwoMains, longest}, inner.References.reactor_trees};
 ghost use Rattle.lft_validate.specs.Witnesses.{IsMainAt, Shows, fault_shown};
-ghost use Rattle.lft_validate.specs.declared.fault.ProgramFault.TheVariants as faults;
+ghost use Rattle.lft_resolve.specs.declared.causes.ProgramFault.TheVariants as faults;
 
 use crate::witness::Witness;
 use lft_resolve::times::nanoseconds;

@@ -1,49 +1,19 @@
 //! The first member of a file that shows a cause.
 
 ghost use Rattle.std.specs.Prelude.{◌≡◌, ◌<◌, List, Any, IfOk, IfSome, IfNone, length, slice_get, IsSomeAnd};
-ghost use Rattle.lft_tree.specs.{Tree.ReactorTree, View.{member_view, reactor_view}};
+ghost use Rattle.lft_tree.specs.{Tree.ReactorTree, View.reactor_view};
 ghost use Rattle.lft_resolve.specs.inner.{References.reactor_trees, Tables.{IsFile, IsOwn}};
-ghost use Rattle.lft_validate.specs.{Findings.{IsFinding, fault_found}, inner.Shown.{ShowsCause, SomeShows}, Witnesses.{HasFinding, Shows, fault_shown}};
+ghost use Rattle.lft_validate.specs.{Findings.fault_found, inner.Shown.{ShowsCause, SomeShows}, Witnesses.{HasFinding, Shows, fault_shown}};
 
-use crate::fault::ProgramFault;
 use crate::finding::Finding;
-use crate::lone::{long_time, main_port, no_trigger, unknown_reactor, width};
-use crate::misplaced::misplaced;
-use crate::twice::{given_twice, named_twice};
-use crate::unknown::unknown;
+use crate::member::in_member;
 use crate::witness::Witness;
+use lft_resolve::ProgramFault;
 use lft_resolve::file::ReactorTable;
 use lft_resolve::own::Own;
 use lft_tag::NoMemory;
-use lft_tree::{Member, Reactor};
+use lft_tree::Reactor;
 use std::alloc::Global;
-
-/// How the member shows the cause, if it does. Alone it shows no other than these.
-fn in_member(
-    alloc: Global,
-    cause: ProgramFault,
-    file: &ReactorTable,
-    own: &Own,
-    reactor: &Reactor,
-    member: &Member,
-) -> Result<Option<Finding>, NoMemory>
-    ensures some { IfOk result (λ found. (rs : List ReactorTree) → IsFile rs file.now → IsOwn (reactor_view reactor.now) own.now → IfSome found (IsFinding rs (reactor_view reactor.now) (member_view member.now))) }
-    ensures cause { IfOk result (λ found. IfSome found (λ f. fault_found f ≡ cause)) }
-    ensures none { IfOk result (λ found. (rs : List ReactorTree) → IsFile rs file.now → IsOwn (reactor_view reactor.now) own.now → IfNone found (¬ ShowsCause rs (reactor_view reactor.now) (member_view member.now) cause)) }
-{
-    match cause {
-        ProgramFault::DuplicateName => given_twice(alloc, member),
-        ProgramFault::UnknownReactor => Ok(unknown_reactor(file, member)),
-        ProgramFault::UnknownName => unknown(alloc, file, own, member),
-        ProgramFault::WrongPlace => misplaced(alloc, file, own, member),
-        ProgramFault::MainHasPorts => Ok(main_port(reactor, member)),
-        ProgramFault::WidthMismatch => Ok(width(member)),
-        ProgramFault::NoTrigger => Ok(no_trigger(member)),
-        ProgramFault::DuplicateInput => named_twice(alloc, member),
-        ProgramFault::DelayTooLong => long_time(alloc, member),
-        _ => Ok(None),
-    }
-}
 
 /// How the member with that place shows the cause, if it does.
 fn at_place(

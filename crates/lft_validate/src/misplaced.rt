@@ -5,7 +5,7 @@ ghost use Rattle.lft_tree.specs.{Tree.ReactorTree, View.{member_view, ref_view, 
 ghost use Rattle.lft_resolve.specs.{Causes.{IsMisplaced, IsMisplacedTime}, inner.{References.ref_trees, Tables.{IsFile, IsOwn}}};
 ghost use Rattle.lft_validate.specs.{Members.names_of, inner.{Members.time_trees, Shown.{ShowsMisplaced, SomeName}}};
 ghost use Rattle.lft_validate.specs.Findings.{IsFinding, IsWrong, IsWrongTime, fault_found};
-ghost use Rattle.lft_validate.specs.declared.fault.ProgramFault.TheVariants as faults;
+ghost use Rattle.lft_resolve.specs.declared.causes.ProgramFault.TheVariants as faults;
 
 use crate::finding::{Finding, ROLES};
 use crate::names::{names_of, times_of};

@@ -6,7 +6,7 @@ ghost use Rattle.lft_validate.specs.{inner.{Seen.has_seen, Shown.all_names, Witn
 ghost use Rattle.lft_validate.specs.Witnesses.{IsWrittenTwice, Shows, fault_shown};
 ghost use Rattle.lft_resolve.specs.{Causes.{TwoSources, WritesTwice}, inner.{References.{reactor_trees, ref_trees}, Tests.IsTestOf}};
 ghost use Rattle.lft_resolve.specs.declared.kinds.Role.TheVariants as roles;
-ghost use Rattle.lft_validate.specs.declared.fault.ProgramFault.TheVariants as faults;
+ghost use Rattle.lft_resolve.specs.declared.causes.ProgramFault.TheVariants as faults;
 
 use crate::names::names_of;
 use crate::seen::SeenNames;

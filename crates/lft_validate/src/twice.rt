@@ -6,7 +6,7 @@ ghost use Rattle.std.specs.Prelude.{◌≡◌, ◌<◌, ◌↔◌, ℕ, List, So
 ghost use Rattle.lft_tree.specs.{Tree.{ReactorTree, RefTree, instance_in, reaction_in}, View.{assignment_view, member_view, ref_view}};
 ghost use Rattle.lft_resolve.specs.{Causes.{GivesTwice, IsTwice, NamesTwice}, inner.{References.ref_trees, Tests.texts}};
 ghost use Rattle.lft_validate.specs.{Members.{given_of, names_of}, Findings.{IsFinding, IsTwiceAt, fault_found}};
-ghost use Rattle.lft_validate.specs.declared.fault.ProgramFault.TheVariants as faults;
+ghost use Rattle.lft_resolve.specs.declared.causes.ProgramFault.TheVariants as faults;
 
 use crate::finding::Finding;
 use crate::names::names_of;

@@ -5,7 +5,7 @@ ghost use Rattle.lft_tree.specs.{Tree.{ReactorTree, instance_in}, View.{assignme
 ghost use Rattle.lft_resolve.specs.{Causes.{GivesUnknown, IsUnknownTime, LacksParameter}, inner.{References.ref_trees, Tables.{IsFile, IsOwn}}};
 ghost use Rattle.lft_validate.specs.{Members.{names_of, times_of}, inner.{Members.time_trees, Shown.{ShowsUnknown, SomeName}}};
 ghost use Rattle.lft_validate.specs.Findings.{IsFinding, IsForNone, IsNothing, fault_found};
-ghost use Rattle.lft_validate.specs.declared.fault.ProgramFault.TheVariants as faults;
+ghost use Rattle.lft_resolve.specs.declared.causes.ProgramFault.TheVariants as faults;
 
 use crate::finding::{Finding, ROLES};
 use crate::names::{names_of, times_of};

@@ -3,8 +3,8 @@
 ghost use Rattle.std.specs.Prelude.{◌≡◌};
 ghost use Rattle.lft_validate.specs.Witnesses.{fault_shown};
 
-use crate::fault::ProgramFault;
 use crate::finding::Finding;
+use lft_resolve::ProgramFault;
 use lft_resolve::kinds::Role;
 
 /// The place of a name in a reactor: the member, and the name's place among those of its role there.

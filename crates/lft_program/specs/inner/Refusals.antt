@@ -1,9 +1,10 @@
 -- Why a tree has no flat program, with what shows it.
 use Rattle.std.specs.Prelude.{ℕ}
 use Rattle.lft_tree.specs.Tree.{FileTree, reactors_of}
-use Rattle.lft_validate.specs.{Faults.number_of, Witnesses.{Shows, fault_shown}, inner.Witnesses.IsCircle, declared.fault.ProgramFault.ProgramFault}
+use Rattle.lft_resolve.specs.{Causes.number_of, declared.causes.ProgramFault.ProgramFault}
+use Rattle.lft_validate.specs.{Witnesses.{Shows, fault_shown}, inner.Witnesses.IsCircle}
 use Rattle.lft_program.specs.{inner.{Limits.IsExcess, Ways.{IsLongChain, IsRing}}, declared.{nesting.nest.NestFault.NestFault, refusal.Refusal.Refusal}}
-use Rattle.lft_validate.specs.declared.fault.ProgramFault.TheVariants as faults
+use Rattle.lft_resolve.specs.declared.causes.ProgramFault.TheVariants as faults
 use Rattle.lft_program.specs.declared.nesting.nest.NestFault.TheVariants as nests
 use Rattle.lft_program.specs.declared.refusal.Refusal.TheVariants as refusals
 

@@ -1,8 +1,9 @@
 -- Inside: what each witness shows of the reactors of a file.
-use Rattle.std.specs.Prelude.{◌≡◌, ℕ, ◌+◌, ◌<◌, List, ◌∷◌, Option, Some, None, length, slice_get, flat_map, take, Any, []}
+use Rattle.std.specs.Prelude.{◌≡◌, ◌==◌, ℕ, ◌+◌, ◌<◌, Bool, true, false, List, ◌∷◌, ◌++◌, Option, Some, None, length, slice_get, map, flat_map, take, Any, []}
 use Rattle.lft_tree.specs.Tree.{ReactorTree, MemberTree, RefTree}
-use Rattle.lft_resolve.specs.{Causes.{HasLongTime, Holds, IsFirst, NoneHolds}, declared.kinds.Role.Role}
-use Rattle.lft_validate.specs.{Faults.number_of, Members.names_of, declared.witness.{Naming.Naming, Witness.Witness}, Witnesses.{Shows, fault_shown}}
+use Rattle.lft_resolve.specs.Causes.{HasLongTime, Holds, IsFirst, NoneHolds, first_causes, later_causes, number_of}
+use Rattle.lft_resolve.specs.declared.{causes.ProgramFault.ProgramFault, kinds.Role.Role}
+use Rattle.lft_validate.specs.{Members.names_of, declared.witness.{Naming.Naming, Witness.Witness}, Witnesses.{Shows, fault_shown}}
 
 -- the name at that place among those that have the role in the reactor stands there
 pub record IsPlaceOf (r : ReactorTree) (role : Role) (place : ℕ) (n : Naming) : Type 0 where
@@ -19,6 +20,24 @@ IsSharedAt xs i ys j = (x : RefTree) × (slice_get xs i ≡ Some x) × (slice_ge
 -- the cause that a time alone shows, with its number
 abbrev pub time_causes : List ReactorTree → List (ℕ × Type 0)
 time_causes reactors = (14, Any HasLongTime reactors) ∷ []
+
+-- the one, if the test holds, else the other
+abbrev pub either : Bool → Type 0 → Type 0 → Type 0
+either true A B = A
+either false A B = B
+
+-- the cause of this number among these
+abbrev pub numbered : List (ℕ × Type 0) → ℕ → Type 0
+numbered [] n = ⊥
+numbered ((k, C) ∷ rest) n = either (k == n) C (numbered rest n)
+
+-- what the cause says of the reactors; of instances it isn't asked here
+abbrev pub Says : List ReactorTree → ProgramFault → Type 0
+Says reactors cause = numbered (first_causes reactors ++ later_causes reactors ++ time_causes reactors) (number_of cause)
+
+-- these causes with their numbers, in this order
+abbrev pub in_order : List ReactorTree → List ProgramFault → List (ℕ × Type 0)
+in_order reactors = map (λ c. (number_of c, Says reactors c))
 
 -- the witness shows the first of the causes that holds; where there is none, no cause holds
 abbrev pub IsFirstShown : List ReactorTree → List (ℕ × Type 0) → Option Witness → Type 0

@@ -1,6 +1,6 @@
 use Rattle.lft_tree.specs.View.{tree_view}
 use Rattle.lft_load.{specs.Refusals.ProgramRefusal.{by_tree, by_flat}, proofs.Loading.{flat_of, only_program, program_none, told_at}}
-use Rattle.lft_validate.specs.Faults.{number_of as program_number}
+use Rattle.lft_resolve.specs.Causes.{number_of as program_number}
 use Rattle.lft_load.specs.declared.fault.Part.TheVariants as part
 use Rattle.lft_load.proofs.layers.read_program.Goals as goal
 

@@ -1,7 +1,6 @@
 use Rattle.std.proofs.Common.{ap, subst, sym, ◌∙◌}
 use Rattle.lft_tree.specs.View.{tree_view}
-use Rattle.lft_resolve.specs.Causes.{IsFirst, causes}
-use Rattle.lft_validate.specs.Faults.{number_of}
+use Rattle.lft_resolve.specs.Causes.{IsFirst, causes, number_of}
 use Rattle.lft_program.specs.inner.Refusals.{fault_of}
 use Rattle.lft_program.proofs.flattening.flatten.Goals as goal
 

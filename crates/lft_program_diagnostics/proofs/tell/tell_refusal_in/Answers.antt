@@ -1,6 +1,6 @@
 use Rattle.std.proofs.Common.{ap, map, string_bytes}
 use Rattle.std.proofs.lemmas.Result.{IfOk-weaker}
-use Rattle.lft_validate.specs.Faults.{number_of}
+use Rattle.lft_resolve.specs.Causes.{number_of}
 use Rattle.lft_program.specs.inner.Refusals.{cause_of}
 use Rattle.lft_program_diagnostics.specs.{Reasons.{BeginsAt, IsToldIn}, inner.Sentences.sentence_of}
 use Rattle.lft_program_diagnostics.proofs.tell.tell_refusal_in.Goals as goal

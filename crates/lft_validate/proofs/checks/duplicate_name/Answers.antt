@@ -2,7 +2,7 @@ use Rattle.std.proofs.Common.{Any, filter_map, ⊎_elim}
 use Rattle.lft_resolve.{specs.{inner.References.reactor_trees, Causes.{DuplicateName, IsTwice, SomeGivesTwice}, Kinds.names_in}, proofs.Lacking.Any-either}
 use Rattle.lft_validate.{specs.inner.Shown.SomeShows, proofs.Causes.shows_given_twice}
 use Rattle.lft_lists.proofs.Options.{lacking, ok_none}
-use Rattle.lft_validate.specs.declared.fault.ProgramFault.TheVariants as faults
+use Rattle.lft_resolve.specs.declared.causes.ProgramFault.TheVariants as faults
 use Rattle.lft_validate.proofs.checks.duplicate_name.Goals as goal
 
 pub returns-clause-none : goal.returns-clause-none

@@ -1,31 +1,36 @@
-use Rattle.std.proofs.Common.{inl, inr}
-use Rattle.lft_resolve.specs.{inner.References.reactor_trees, Causes.{NoMain, TwoMains, DuplicateName, UnknownReactor, first_causes}}
-use Rattle.lft_validate.{specs.inner.Shown.SomeShows, proofs.{Causes.shows_unknown_reactor, Sound.{last_asked, shown_by}}}
-use Rattle.lft_lists.proofs.Options.{lacking}
-use Rattle.lft_validate.specs.declared.fault.ProgramFault.TheVariants as faults
+use Rattle.std.proofs.Common.{◌≡◌, get_or, subst, sym}
+use Rattle.std.proofs.lemmas.Option.{get_or_from_slice_get, slice_get-get_or}
+use Rattle.lft_resolve.specs.{Causes.{IsFirst, number_of}, inner.References.reactor_trees, declared.causes.ProgramFault.TheVariants.NoMain}
+use Rattle.lft_resolve.proofs.Somes.{Any-nil, none_done, none_more}
+use Rattle.lft_validate.{specs.{Witnesses.{Shows, fault_shown}, inner.Witnesses.{Says, in_order}}, proofs.Sound.{first_there, held, none_says}}
+use Rattle.lft_lists.proofs.Options.{found, lacking}
 use Rattle.lft_validate.proofs.checks.first_of.Goals as goal
+
+pub loop-place-init : goal.loop-place-init
+loop-place-init c = Any-nil _
 
 pub returns-in-Some : goal.returns-in-Some
 returns-in-Some c =
     let rs = reactor_trees c.args.reactors.now in
-    let w = shown_by rs faults.NoMain c.no_main.result c.in-Some.found c.no_main.ensures.shows c.no_main.ensures.cause c.in-Some.is in
-    (w.0, inl (w.1, w.2))
+    let causes = c.args.causes.now in
+    let place = c.loop-place.place in
+    let cause = get_or causes place NoMain in
+    let is : get_or causes place cause ≡ cause = get_or_from_slice_get causes place cause cause (slice_get-get_or causes place NoMain c.loop-place-test.true) in
+    let w = c.in-Some.found in
+    let shows = found (Shows rs) c.in_ok-found.field-0 w c.in_ok-found.ensures.shows c.in-Some.is in
+    let of = found (λ w. fault_shown w ≡ cause) c.in_ok-found.field-0 w c.in_ok-found.ensures.cause c.in-Some.is in
+    (shows, subst (λ f. IsFirst (in_order rs causes) (number_of f)) (sym of) (first_there rs causes place cause c.loop-place-test.true is c.loop-place.invariant (subst (Says rs) of (held rs w shows))))
 
-pub returns-in-Some-two_mains : goal.returns-in-Some-two_mains
-returns-in-Some-two_mains c =
+pub loop-place-preserved : goal.loop-place-preserved
+loop-place-preserved c =
     let rs = reactor_trees c.args.reactors.now in
-    let w = shown_by rs faults.TwoMains c.two_mains.result c.in-Some-two_mains.found c.two_mains.ensures.shows c.two_mains.ensures.cause c.in-Some-two_mains.is in
-    (w.0, inr (lacking (NoMain rs → ⊥) c.no_main.result c.no_main.ensures.none c.in_default.is, inl (w.1, w.2)))
-
-pub returns-in-Some-2 : goal.returns-in-Some-2
-returns-in-Some-2 c =
-    let rs = reactor_trees c.args.reactors.now in
-    let w = shown_by rs faults.DuplicateName c.in_ok-found.field-0 c.in-Some-2.found c.in_ok-found.ensures.shows c.in_ok-found.ensures.cause c.in-Some-2.is in
-    (w.0, inr (lacking (NoMain rs → ⊥) c.no_main.result c.no_main.ensures.none c.in_default.is, inr (lacking (TwoMains rs → ⊥) c.two_mains.result c.two_mains.ensures.none c.in_default-two_mains.is, inl (w.1, w.2))))
+    let causes = c.args.causes.now in
+    let place = c.loop-place.place in
+    let cause = get_or causes place NoMain in
+    let is : get_or causes place cause ≡ cause = get_or_from_slice_get causes place cause cause (slice_get-get_or causes place NoMain c.loop-place-test.true) in
+    none_more (λ c. c) (Says rs) causes place cause c.loop-place-test.true is c.loop-place.invariant (lacking (Says rs cause → ⊥) c.in_ok-found.field-0 c.in_ok-found.ensures.none c.in_default.is)
 
 pub returns : goal.returns
 returns c =
     let rs = reactor_trees c.args.reactors.now in
-    last_asked rs faults.UnknownReactor (SomeShows rs faults.UnknownReactor → ⊥) (first_causes rs) c.first_member.result c.first_member.ensures.shows c.first_member.ensures.cause c.first_member.ensures.none
-    (λ w shown. inr (lacking (NoMain rs → ⊥) c.no_main.result c.no_main.ensures.none c.in_default.is, inr (lacking (TwoMains rs → ⊥) c.two_mains.result c.two_mains.ensures.none c.in_default-two_mains.is, inr (lacking (DuplicateName rs → ⊥) c.in_ok-found.field-0 c.in_ok-found.ensures.none c.in_default-2.is, inl (shown.1, shown.2)))))
-    (λ none. (lacking (NoMain rs → ⊥) c.no_main.result c.no_main.ensures.none c.in_default.is, ((lacking (TwoMains rs → ⊥) c.two_mains.result c.two_mains.ensures.none c.in_default-two_mains.is), (lacking (DuplicateName rs → ⊥) c.in_ok-found.field-0 c.in_ok-found.ensures.none c.in_default-2.is, (λ so. none (shows_unknown_reactor rs so), tt)))))
+    none_says rs c.args.causes.now (none_done (λ c. c) (Says rs) c.args.causes.now c.loop-place.place c.loop-place-test.false c.loop-place.invariant)

@@ -1,4 +1,4 @@
-use Rattle.std.proofs.Common.{rules, Any, IsSomeAnd, length, slice_get, sym, subst, ◌∙◌, arith}
+use Rattle.std.proofs.Common.{rules, Any, IsSomeAnd, slice_get, sym, subst, ◌∙◌, arith}
 use Rattle.std.proofs.lemmas.List.{length-map}
 use Rattle.lft_tree.specs.View.{reactor_view}
 use Rattle.lft_resolve.{specs.inner.{References.reactor_trees, Tables.IsOwn}, proofs.Somes.{Any-nil, none_more, none_done}}

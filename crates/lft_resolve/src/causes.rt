@@ -1,7 +1,7 @@
-//! The causes for which a tree has no flat program: numbers and names.
+//! The causes for which a tree has no flat program: numbers, names and order.
 
 ghost use Rattle.std.specs.Prelude.{◌≡◌};
-ghost use Rattle.lft_validate.specs.Faults.{number_of};
+ghost use Rattle.lft_resolve.specs.Causes.{number_of};
 
 /// Why a tree has no flat program.
 #[derive(Clone, Copy, PartialEq, Eq, Debug, Drop)]
@@ -39,6 +39,25 @@ pub enum ProgramFault {
     /// A growth of memory was refused.
     NoMemory,
 }
+
+/// The causes of the names of reactors and of what they declare, in the order in which they are answered.
+pub const FIRST_CAUSES: [ProgramFault; 4] = [
+    ProgramFault::NoMain,
+    ProgramFault::TwoMains,
+    ProgramFault::DuplicateName,
+    ProgramFault::UnknownReactor,
+];
+
+/// The causes of what stands in each reactor, which are answered after `RecursiveReactor`.
+pub const LATER_CAUSES: [ProgramFault; 7] = [
+    ProgramFault::UnknownName,
+    ProgramFault::WrongPlace,
+    ProgramFault::MainHasPorts,
+    ProgramFault::TwoSources,
+    ProgramFault::WidthMismatch,
+    ProgramFault::NoTrigger,
+    ProgramFault::DuplicateInput,
+];
 
 impl ProgramFault {
     /// The number and the name of the cause. Want of memory is told so too.

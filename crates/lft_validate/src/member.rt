@@ -1,24 +1,30 @@
-//! What one member shows without the names around it.
+//! How one member of a reactor shows a cause.
 
 ghost use Rattle.std.specs.Prelude.{◌≡◌, ◌↔◌, List, None, Any, IfOk, IfSome, IfNone, IsTrue, IsSomeAnd, slice_get};
 ghost use Rattle.lft_tree.specs.{Tree.ReactorTree, View.{member_view, reactor_view, time_view}};
-ghost use Rattle.lft_resolve.specs.{Causes.IsLongTime, inner.Tables.IsFile};
-ghost use Rattle.lft_validate.specs.{inner.{Members.time_trees, Shown.ShowsCause}, Findings.{IsFinding, fault_found}};
-ghost use Rattle.lft_validate.specs.declared.fault.ProgramFault.TheVariants as faults;
+ghost use Rattle.lft_resolve.specs.{Causes.IsLongTime, inner.Tables.{IsFile, IsOwn}};
+ghost use Rattle.lft_validate.specs.{inner.{Members.time_trees, Shown.ShowsCause}, Members.times_of, Findings.{IsFinding, fault_found}};
+ghost use Rattle.lft_resolve.specs.declared.causes.ProgramFault.TheVariants as faults;
+ghost use Rattle.lft_validate.specs.declared.finding.Finding.TheVariants as findings;
 
 use crate::finding::Finding;
+use crate::misplaced::misplaced;
 use crate::names::times_of;
+use crate::twice::{given_twice, named_twice};
+use crate::unknown::unknown;
+use lft_resolve::ProgramFault;
 use lft_resolve::file::ReactorTable;
+use lft_resolve::own::Own;
 use lft_resolve::times::nanoseconds;
 use lft_tag::NoMemory;
 use lft_tree::{Member, Reactor, TimeExpression};
 use std::alloc::Global;
 
 /// Whether the member is an instance of a reactor that isn't in the file.
-pub(crate) fn unknown_reactor(file: &ReactorTable, member: &Member) -> Option<Finding>
+fn unknown_reactor(file: &ReactorTable, member: &Member) -> Option<Finding>
     ensures some { (rs : List ReactorTree) (r : ReactorTree) → IsFile rs file.now → IfSome result (IsFinding rs r (member_view member.now)) }
     ensures cause { IfSome result (λ f. fault_found f ≡ faults.UnknownReactor) }
-    ensures none { (rs : List ReactorTree) (r : ReactorTree) → IsFile rs file.now → IfNone result (¬ ShowsCause rs r (member_view member.now) faults.UnknownReactor) }
+    ensures none { (rs : List ReactorTree) (r : ReactorTree) → IsFile rs file.now → IfNone result (¬ IsFinding rs r (member_view member.now) findings.UnknownReactor) }
 {
     match member {
         Member::Instance(instance) => match file.reactor(instance.reactor.as_str()) {
@@ -31,10 +37,10 @@ pub(crate) fn unknown_reactor(file: &ReactorTable, member: &Member) -> Option<Fi
 }
 
 /// Whether the member is a port of a main reactor.
-pub(crate) fn main_port(reactor: &Reactor, member: &Member) -> Option<Finding>
+fn main_port(reactor: &Reactor, member: &Member) -> Option<Finding>
     ensures some { (rs : List ReactorTree) → IfSome result (IsFinding rs (reactor_view reactor.now) (member_view member.now)) }
     ensures cause { IfSome result (λ f. fault_found f ≡ faults.MainHasPorts) }
-    ensures none { (rs : List ReactorTree) → IfNone result (¬ ShowsCause rs (reactor_view reactor.now) (member_view member.now) faults.MainHasPorts) }
+    ensures none { (rs : List ReactorTree) → IfNone result (¬ IsFinding rs (reactor_view reactor.now) (member_view member.now) findings.MainHasPort) }
 {
     if !reactor.is_main {
         return None;
@@ -47,10 +53,10 @@ pub(crate) fn main_port(reactor: &Reactor, member: &Member) -> Option<Finding>
 }
 
 /// Whether the member is a connection whose two lists differ in length.
-pub(crate) fn width(member: &Member) -> Option<Finding>
+fn width(member: &Member) -> Option<Finding>
     ensures some { (rs : List ReactorTree) (r : ReactorTree) → IfSome result (IsFinding rs r (member_view member.now)) }
     ensures cause { IfSome result (λ f. fault_found f ≡ faults.WidthMismatch) }
-    ensures none { (rs : List ReactorTree) (r : ReactorTree) → IfNone result (¬ ShowsCause rs r (member_view member.now) faults.WidthMismatch) }
+    ensures none { (rs : List ReactorTree) (r : ReactorTree) → IfNone result (¬ IsFinding rs r (member_view member.now) findings.WidthMismatch) }
 {
     match member {
         Member::Connection(connection) => {
@@ -66,10 +72,10 @@ pub(crate) fn width(member: &Member) -> Option<Finding>
 }
 
 /// Whether the member is a reaction without a trigger.
-pub(crate) fn no_trigger(member: &Member) -> Option<Finding>
+fn no_trigger(member: &Member) -> Option<Finding>
     ensures some { (rs : List ReactorTree) (r : ReactorTree) → IfSome result (IsFinding rs r (member_view member.now)) }
     ensures cause { IfSome result (λ f. fault_found f ≡ faults.NoTrigger) }
-    ensures none { (rs : List ReactorTree) (r : ReactorTree) → IfNone result (¬ ShowsCause rs r (member_view member.now) faults.NoTrigger) }
+    ensures none { (rs : List ReactorTree) (r : ReactorTree) → IfNone result (¬ IsFinding rs r (member_view member.now) findings.NoTrigger) }
 {
     match member {
         Member::Reaction(reaction) => {
@@ -108,14 +114,41 @@ fn first_long(times: &[&TimeExpression]) -> Option<usize>
 }
 
 /// The first time of the member that is past the greatest.
-pub(crate) fn long_time(alloc: Global, member: &Member) -> Result<Option<Finding>, NoMemory>
+fn long_time(alloc: Global, member: &Member) -> Result<Option<Finding>, NoMemory>
     ensures some { IfOk result (λ found. (rs : List ReactorTree) (r : ReactorTree) → IfSome found (IsFinding rs r (member_view member.now))) }
     ensures cause { IfOk result (λ found. IfSome found (λ f. fault_found f ≡ faults.DelayTooLong)) }
-    ensures none { IfOk result (λ found. (rs : List ReactorTree) (r : ReactorTree) → IfNone found (¬ ShowsCause rs r (member_view member.now) faults.DelayTooLong)) }
+    ensures none { IfOk result (λ found. IfNone found (¬ Any IsLongTime (times_of (member_view member.now)))) }
 {
     let times = times_of(alloc, member)?;
     match first_long(&times) {
         Some(time) => Ok(Some(Finding::LongTime { time })),
         None => Ok(None),
+    }
+}
+
+/// How the member shows the cause, if it does. Alone it shows no other than these.
+pub(crate) fn in_member(
+    alloc: Global,
+    cause: ProgramFault,
+    file: &ReactorTable,
+    own: &Own,
+    reactor: &Reactor,
+    member: &Member,
+) -> Result<Option<Finding>, NoMemory>
+    ensures some { IfOk result (λ found. (rs : List ReactorTree) → IsFile rs file.now → IsOwn (reactor_view reactor.now) own.now → IfSome found (IsFinding rs (reactor_view reactor.now) (member_view member.now))) }
+    ensures cause { IfOk result (λ found. IfSome found (λ f. fault_found f ≡ cause)) }
+    ensures none { IfOk result (λ found. (rs : List ReactorTree) → IsFile rs file.now → IsOwn (reactor_view reactor.now) own.now → IfNone found (¬ ShowsCause rs (reactor_view reactor.now) (member_view member.now) cause)) }
+{
+    match cause {
+        ProgramFault::DuplicateName => given_twice(alloc, member),
+        ProgramFault::UnknownReactor => Ok(unknown_reactor(file, member)),
+        ProgramFault::UnknownName => unknown(alloc, file, own, member),
+        ProgramFault::WrongPlace => misplaced(alloc, file, own, member),
+        ProgramFault::MainHasPorts => Ok(main_port(reactor, member)),
+        ProgramFault::WidthMismatch => Ok(width(member)),
+        ProgramFault::NoTrigger => Ok(no_trigger(member)),
+        ProgramFault::DuplicateInput => named_twice(alloc, member),
+        ProgramFault::DelayTooLong => long_time(alloc, member),
+        _ => Ok(None),
     }
 }
