@@ -84,12 +84,29 @@ impl Marks {
         &self.inputs[reaction as usize]
     }
 
+    /// Where the seats of the reaction end at most.
+    fn end_of(&self, program: &Program, reaction: u32) -> usize
+        requires laid { IsLaid program.now self.now }
+        requires reaction { reaction < length program.now.reactions }
+        ensures { (x : TheReaction) (f : ℕ) → slice_get program.now.reactions reaction ≡ Some x → slice_get self.now.firsts.items reaction ≡ Some f → f + width x ≤ result }
+    {
+        let next = reaction as usize + 1;
+        if next < self.firsts.len() {
+            return self.firsts[next];
+        }
+        self.places.len()
+    }
+
     /// The inputs of the reaction, in order.
     pub fn inputs(&self, program: &Program, reaction: u32) -> &[Name]
         requires laid { IsLaid program.now self.now }
         requires reaction { reaction < length program.now.reactions }
         ensures { (x : TheReaction) × (slice_get program.now.reactions reaction ≡ Some x) × (result.now ≡ the_inputs x) }
     {
+        // The seats are close together. The inputs aren't, and many reactions have none.
+        if self.firsts[reaction as usize] >= self.end_of(program, reaction) {
+            return &[];
+        }
         self.known(program, reaction).as_slice()
     }
 
