@@ -5,9 +5,9 @@ use Rattle.lft_lists.proofs.Mapped.{mapped, mapped_from}
 use Rattle.lft_lists.proofs.Places.{Some_same, contains_at, get_push, get_push_cases, get_there, get_unwritten, get_write_cases, same_some}
 use Rattle.lft_whole.specs.declared.tree.{Instance.Instance, Member.Member}
 use Rattle.lft_classes.specs.declared.{scopes.ReactorNames.ReactorNames, shapes.{Child.Child, Inherited.Inherited, Shape.Shape}}
-use Rattle.lft_classes.specs.inner.{Built.{AreNoted, Core, IsBuilt, core, cores, instance_of}, Chains.extended, Makings.AreShapes}
-use Rattle.lft_classes.specs.inner.Needs.{AreMarks, HasNeed, IsReady, IsReadyAt, PassesOn, Gives, HasMember, IsDecided, IsMarked, IsParameter, NamedFor, Need, NeedsName, NeedsNumber, Times, Widths, by_instance, by_member}
-use Rattle.lft_classes.specs.inner.{Shapes.{child_at, inside, tables}, Walks.{IsBehind, Ways, nothing, one}}
+use Rattle.lft_classes.specs.inner.{Built.{AreNoted, Core, IsBuilt, core, cores, instance_of}, Chains.extended_reactor, Makings.AreShapes}
+use Rattle.lft_classes.specs.inner.Needs.{AreNeedMarks, HasNeed, IsReadyToDecide, IsReadyAt, PassesOn, Gives, HasMember, IsDecided, IsMarkedNeeded, IsParameter, NamedFor, Need, NeedsName, NeedsNumber, Times, Widths, by_instance, by_member}
+use Rattle.lft_classes.specs.inner.{Shapes.{child_at, inside, tables}, Walks.{IsTopologicalOrder, Ways, nothing, one}}
 use Rattle.lft_classes.proofs.{Building.below_one, Goings.noted_child, Needing.{declared, member_of, one_name}}
 use Rattle.lft_whole.specs.declared.tree.Member.TheVariants as member
 use Rattle.lft_classes.specs.declared.shapes.OwnThing.TheVariants as thing
@@ -32,7 +32,7 @@ child_inside shapes s k shape child at there =
     ap (λ o. option_map number_of (option_and_then (λ (l : List (Option Child)). child_at l k) o)) (mapped rows shapes s shape at) ∙ ap (option_map number_of) there
 
 -- what is marked is needed, by its name
-pub needs_name : (scopes : ReactorNames) (need : Need) (shapes : List Shape) (t : ℕ) (inner : Shape) (q : List ℕ) (n : ℕ) → IsBuilt scopes (core inner) → IsDecided scopes shapes t → slice_get shapes t ≡ Some inner → IsParameter inner q n → IsMarked need inner n → NeedsName scopes need inner.class.number q
+pub needs_name : (scopes : ReactorNames) (need : Need) (shapes : List Shape) (t : ℕ) (inner : Shape) (q : List ℕ) (n : ℕ) → IsBuilt scopes (core inner) → IsDecided scopes shapes t → slice_get shapes t ≡ Some inner → IsParameter inner q n → IsMarkedNeeded need inner n → NeedsName scopes need inner.class.number q
 needs_name scopes need shapes t inner q n built decided at is marked =
     let s = (decided inner at need n).0 marked in
     subst (NeedsName scopes need inner.class.number) (one_name scopes (core inner) s.0 q n built s.1 is) s.2
@@ -57,7 +57,7 @@ member_needs scopes first shapes s k shape m need n at (inr passes) =
     (value.0, value.2, by_instance m.file passes.instance has means (record { which = h.0; assignment = h.1.0; is_given = h.1.1; has_name = refl; is_word = value.1 }) needed)
 
 -- an instance passes on what it gives
-pub instance_passes : (scopes : ReactorNames) (first : ℕ) (shapes : List Shape) (s k : ℕ) (shape : Shape) (m : Inherited) (instance : Instance) (inner : ℕ) (need : Need) (p q : List ℕ) (n : ℕ) → IsReadyAt scopes first shapes s shape k m → m.member.now ≡ member.Instance instance → extended scopes m.file instance.reactor ≡ Some inner → Gives instance p q → NeedsName scopes need inner p → IsParameter shape q n → PassesOn need shapes shape k m.member.now n
+pub instance_passes : (scopes : ReactorNames) (first : ℕ) (shapes : List Shape) (s k : ℕ) (shape : Shape) (m : Inherited) (instance : Instance) (inner : ℕ) (need : Need) (p q : List ℕ) (n : ℕ) → IsReadyAt scopes first shapes s shape k m → m.member.now ≡ member.Instance instance → extended_reactor scopes m.file instance.reactor ≡ Some inner → Gives instance p q → NeedsName scopes need inner p → IsParameter shape q n → PassesOn need shapes shape k m.member.now n
 instance_passes scopes first shapes s k shape m instance inner need p q n at is extends gives needs is_parameter =
     let all = at.ready.are_shapes in
     let outer = mapped core shapes s shape at.is_shape in
@@ -88,7 +88,7 @@ instance_passes scopes first shapes s k shape m instance inner need p q n at is 
     }
 
 -- what is needed a member needs
-pub needed_by : (scopes : ReactorNames) (first : ℕ) (shapes : List Shape) (s : ℕ) (shape : Shape) (need : Need) (n : ℕ) → IsReady scopes first shapes s → slice_get shapes s ≡ Some shape → (r : ℕ) (q : List ℕ) → NeedsName scopes need r q → r ≡ shape.class.number → IsParameter shape q n → (k : ℕ) × ((m : Inherited) × (slice_get shape.members.items k ≡ Some m) × HasNeed need shapes shape k m.member.now n)
+pub needed_by : (scopes : ReactorNames) (first : ℕ) (shapes : List Shape) (s : ℕ) (shape : Shape) (need : Need) (n : ℕ) → IsReadyToDecide scopes first shapes s → slice_get shapes s ≡ Some shape → (r : ℕ) (q : List ℕ) → NeedsName scopes need r q → r ≡ shape.class.number → IsParameter shape q n → (k : ℕ) × ((m : Inherited) × (slice_get shape.members.items k ≡ Some m) × HasNeed need shapes shape k m.member.now n)
 needed_by scopes first shapes s shape need n ready at _ _ (by_member {r = r} {q = q} m has named) same is =
     let built = ready.are_shapes.built s (core shape) (mapped core shapes s shape at) in
     let there = member_of scopes (core shape) m built (subst (λ x. HasMember scopes x m) same has) in
@@ -99,11 +99,11 @@ needed_by scopes first shapes s shape need n ready at _ _ (by_instance {r = r} {
     let m = there.1.0 in
     let in_file : m.file ≡ file = ap (λ (x : ℕ × Member). x.0) there.1.2 in
     let is_instance : m.member.now ≡ member.Instance instance = ap (λ (x : ℕ × Member). x.1) there.1.2 in
-    let extends : extended scopes m.file instance.reactor ≡ Some inner = ap (λ f. extended scopes f instance.reactor) in_file ∙ means in
+    let extends : extended_reactor scopes m.file instance.reactor ≡ Some inner = ap (λ f. extended_reactor scopes f instance.reactor) in_file ∙ means in
     (there.0, (m, there.1.1, inr (instance_passes scopes first shapes s there.0 shape m instance inner need p q n (record { ready = ready; is_shape = at; is_member = there.1.1 }) is_instance extends gives needs is)))
 
 -- so what the members of a shape need is marked, and that alone
-pub decided_by : (scopes : ReactorNames) (first : ℕ) (shapes : List Shape) (s : ℕ) (shape : Shape) (need : Need) (list : List Bool) → IsReady scopes first shapes s → slice_get shapes s ≡ Some shape → AreMarks need shapes shape list → (n : ℕ) → (slice_get list n ≡ Some true) ↔ NeedsNumber scopes need shape n
+pub decided_by : (scopes : ReactorNames) (first : ℕ) (shapes : List Shape) (s : ℕ) (shape : Shape) (need : Need) (list : List Bool) → IsReadyToDecide scopes first shapes s → slice_get shapes s ≡ Some shape → AreNeedMarks need shapes shape list → (n : ℕ) → (slice_get list n ≡ Some true) ↔ NeedsNumber scopes need shape n
 decided_by scopes first shapes s shape need list ready at are n = (there, back)
   where
     there : slice_get list n ≡ Some true → NeedsNumber scopes need shape n
@@ -121,7 +121,7 @@ decided_by scopes first shapes s shape need list ready at are n = (there, back)
         are.all n h.0 h.1.0 was.0 was.1 h.1.1 h.1.2
 
 -- what a listed one leads to is listed before it
-pub listed_before : (next : Ways) (list : List ℕ) → IsBehind next list → (i x k r : ℕ) → slice_get list i ≡ Some x → next x k ≡ Some r → (j : ℕ) × (j < i) × (slice_get list j ≡ Some r)
+pub listed_before : (next : Ways) (list : List ℕ) → IsTopologicalOrder next list → (i x k r : ℕ) → slice_get list i ≡ Some x → next x k ≡ Some r → (j : ℕ) × (j < i) × (slice_get list j ≡ Some r)
 listed_before next _ nothing i x k r at way = absurd (cc)
 listed_before next _ (one xs y behind new below) i x k r at way = elim (get_push_cases xs y i x at) [
   | inl old ↦ (let h = listed_before next xs behind i x k r old way in (h.0, h.1, get_push xs y h.0 r h.2))
@@ -134,14 +134,14 @@ listed_before next _ (one xs y behind new below) i x k r at way = elim (get_push
 ]
 
 -- a shape with what is decided
-pub both_decided : (scopes : ReactorNames) (shape : Shape) (sized timed : Vec Bool Global) → ((n : ℕ) → (slice_get sized.items n ≡ Some true) ↔ NeedsNumber scopes Widths shape n) → ((n : ℕ) → (slice_get timed.items n ≡ Some true) ↔ NeedsNumber scopes Times shape n) → (need : Need) (n : ℕ) → IsMarked need (record shape { sized = sized; timed = timed }) n ↔ NeedsNumber scopes need (record shape { sized = sized; timed = timed }) n
+pub both_decided : (scopes : ReactorNames) (shape : Shape) (sized timed : Vec Bool Global) → ((n : ℕ) → (slice_get sized.items n ≡ Some true) ↔ NeedsNumber scopes Widths shape n) → ((n : ℕ) → (slice_get timed.items n ≡ Some true) ↔ NeedsNumber scopes Times shape n) → (need : Need) (n : ℕ) → IsMarkedNeeded need (record shape { sized = sized; timed = timed }) n ↔ NeedsNumber scopes need (record shape { sized = sized; timed = timed }) n
 both_decided scopes shape sized timed widths times Widths = widths
 both_decided scopes shape sized timed widths times Times = times
 
 -- a shape that is written
-pub decided_one : (scopes : ReactorNames) (shapes : List Shape) (i : ℕ) (y : Shape) → i < length shapes → ((need : Need) (n : ℕ) → IsMarked need y n ↔ NeedsNumber scopes need y n) → IsDecided scopes (slice_set shapes i y) i
+pub decided_one : (scopes : ReactorNames) (shapes : List Shape) (i : ℕ) (y : Shape) → i < length shapes → ((need : Need) (n : ℕ) → IsMarkedNeeded need y n ↔ NeedsNumber scopes need y n) → IsDecided scopes (slice_set shapes i y) i
 decided_one scopes shapes i y within is shape at = elim (get_write_cases shapes i i y shape within at) [
-  | inl this ↦ subst (λ (x : Shape). (need : Need) (n : ℕ) → IsMarked need x n ↔ NeedsNumber scopes need x n) this.1 is
+  | inl this ↦ subst (λ (x : Shape). (need : Need) (n : ℕ) → IsMarkedNeeded need x n ↔ NeedsNumber scopes need x n) this.1 is
   | inr other ↦ absurd (other.0 refl)
 ]
 
@@ -154,7 +154,7 @@ pub decided_none : (scopes : ReactorNames) (shapes : List Shape) (s : ℕ) → (
 decided_none scopes shapes s none shape at = absurd (none (slice_get_within shapes s shape at))
 
 -- where what came before is decided, the next one can be
-pub ready_next : (scopes : ReactorNames) (first : ℕ) (was now : List Shape) (order : List ℕ) (place node : ℕ) → AreShapes scopes first (cores was) (tables was) → AreNoted scopes (cores was) (tables was) → IsBehind (inside (tables was)) order → tables now ≡ tables was → cores now ≡ cores was → slice_get order place ≡ Some node → ((j t : ℕ) → j < place → slice_get order j ≡ Some t → IsDecided scopes now t) → IsReady scopes first now node
+pub ready_next : (scopes : ReactorNames) (first : ℕ) (was now : List Shape) (order : List ℕ) (place node : ℕ) → AreShapes scopes first (cores was) (tables was) → AreNoted scopes (cores was) (tables was) → IsTopologicalOrder (inside (tables was)) order → tables now ≡ tables was → cores now ≡ cores was → slice_get order place ≡ Some node → ((j t : ℕ) → j < place → slice_get order j ≡ Some t → IsDecided scopes now t) → IsReadyToDecide scopes first now node
 ready_next scopes first was now order place node all noted behind rows same at before = record {
   are_shapes = subst (λ cs. AreShapes scopes first cs (tables now)) (sym same) (subst (AreShapes scopes first (cores was)) (sym rows) all);
   all_noted = subst (λ cs. AreNoted scopes cs (tables now)) (sym same) (subst (AreNoted scopes (cores was)) (sym rows) noted);

@@ -5,8 +5,8 @@ use Rattle.lft_lists.proofs.Mapped.{mapped, mapped_from, option_map_some}
 use Rattle.lft_lists.proofs.Places.{get_last, get_left, get_push, get_there, get_unwritten, get_written, get_push_cases, get_write_cases, same_some}
 use Rattle.lft_classes.specs.declared.{making.Making.Making, scopes.{Class.Class, ReactorNames.ReactorNames}, shapes.{Child.Child, Shape.Shape}}
 use Rattle.lft_classes.specs.inner.Below.{IsBelow, itself}
-use Rattle.lft_classes.specs.inner.Makings.{AddsShape, AreMade, AreShapes, GoesOn, HasChildren, IsOfClass, KeepsBut, KeepsNoted, SetsOne}
-use Rattle.lft_classes.specs.inner.Built.{Core, IsBuilt, AreBuilt, AreInside, AreNoted, IsInside, IsNoted, core, cores, first_class}
+use Rattle.lft_classes.specs.inner.Makings.{AddsShape, AreMadeShapes, AreShapes, GoesOnMaking, HasChildren, IsOfClass, KeepsBut, KeepsNoted, SetsOne}
+use Rattle.lft_classes.specs.inner.Built.{Core, IsBuilt, AreBuilt, AreInside, AreNoted, IsChildInstance, IsNoted, core, cores, first_class}
 use Rattle.lft_classes.specs.inner.Shapes.{child_at, child_in, inside, tables}
 
 -- the shapes of the one are among those of the other, at the same places
@@ -16,7 +16,7 @@ Kept cs ds = (i : ℕ) (c : Core) → slice_get cs i ≡ Some c → slice_get ds
 pub class_kept : (cs ds : List Core) (s r : ℕ) → Kept cs ds → IsOfClass cs s r → IsOfClass ds s r
 class_kept cs ds s r kept is = record { core = is.core; is_core = kept s is.core is.is_core; is_of = is.is_of }
 
-pub inside_kept : (scopes : ReactorNames) (cs ds : List Core) (s k : ℕ) (child : Child) → Kept cs ds → IsInside scopes cs s k child → IsInside scopes ds s k child
+pub inside_kept : (scopes : ReactorNames) (cs ds : List Core) (s k : ℕ) (child : Child) → Kept cs ds → IsChildInstance scopes cs s k child → IsChildInstance scopes ds s k child
 inside_kept scopes cs ds s k child kept is = record {
   outer = is.outer;
   is_outer = kept s is.outer is.is_outer;
@@ -39,10 +39,10 @@ inside_push rows s k child e = option_and_then_some (λ (children : List (Option
 pub noted_child : (rows : List (List (Option Child))) (s k t : ℕ) → inside rows s k ≡ Some t → (child : Child) × (child_in rows s k ≡ Some child) × (child.shape ≡ t)
 noted_child rows s k t e = option_map_some (λ (c : Child). c.shape) (child_in rows s k) t e
 
-pub goes_nowhere : (needs : ℕ → Type 0) (m : Making) → GoesOn needs m m
+pub goes_nowhere : (needs : ℕ → Type 0) (m : Making) → GoesOnMaking needs m m
 goes_nowhere needs m = record { scopes = refl; main = refl; made = λ first n all. all; kept = λ i c e. e }
 
-pub goes_weaker : (needs more : ℕ → Type 0) (old new : Making) → ((first : ℕ) → more first → AreMade old.scopes first old → needs first) → GoesOn needs old new → GoesOn more old new
+pub goes_weaker : (needs more : ℕ → Type 0) (old new : Making) → ((first : ℕ) → more first → AreMadeShapes old.scopes first old → needs first) → GoesOnMaking needs old new → GoesOnMaking more old new
 goes_weaker needs more old new f g = record { scopes = g.scopes; main = g.main; made = λ first m all. g.made first (f first m all) all; kept = g.kept }
 
 module _ (old new : Making) (class : Class) (number : ℕ) (a : AddsShape old new class number) where
@@ -57,7 +57,7 @@ module _ (old new : Making) (class : Class) (number : ℕ) (a : AddsShape old ne
   split : (i : ℕ) (c : Core) → slice_get (cores new.shapes.items) i ≡ Some c → (slice_get (cores old.shapes.items) i ≡ Some c) ⊎ ((i ≡ length (cores old.shapes.items)) × (a.fresh ≡ c))
   split i c at = get_push_cases (cores old.shapes.items) a.fresh i c (ap (λ l. slice_get l i) (sym a.shapes) ∙ at)
 
-  added_made : (first : ℕ) → IsBelow old.scopes first class.number → AreMade old.scopes first old → AreMade old.scopes first new
+  added_made : (first : ℕ) → IsBelow old.scopes first class.number → AreMadeShapes old.scopes first old → AreMadeShapes old.scopes first new
   added_made first below all = record {
     shapes = record {
       built = λ i c at. elim (split i c at) [ inl was ↦ all.shapes.built i c was | inr last ↦ subst (IsBuilt old.scopes) last.1 a.built ];
@@ -70,15 +70,15 @@ module _ (old new : Making) (class : Class) (number : ℕ) (a : AddsShape old ne
     ];
   }
 
-  pub goes_added : GoesOn (λ first. IsBelow old.scopes first class.number) old new
+  pub goes_added : GoesOnMaking (λ first. IsBelow old.scopes first class.number) old new
   goes_added = record { scopes = a.scopes; main = a.main; made = added_made; kept = added_kept }
 
 -- one step after the other
-pub goes_further : (needs : ℕ → Type 0) (one two three : Making) → GoesOn needs one two → GoesOn needs two three → GoesOn needs one three
+pub goes_further : (needs : ℕ → Type 0) (one two three : Making) → GoesOnMaking needs one two → GoesOnMaking needs two three → GoesOnMaking needs one three
 goes_further needs one two three a b = record {
   scopes = b.scopes ∙ a.scopes;
   main = b.main ∙ a.main;
-  made = λ first n all. subst (λ s. AreMade s first three) a.scopes (b.made first n (subst (λ s. AreMade s first two) (sym a.scopes) (a.made first n all)));
+  made = λ first n all. subst (λ s. AreMadeShapes s first three) a.scopes (b.made first n (subst (λ s. AreMadeShapes s first two) (sym a.scopes) (a.made first n all)));
   kept = λ i c e. b.kept i c (a.kept i c e);
 }
 
@@ -93,14 +93,14 @@ sets_one old number y children within is s k child e =
       | inr other ↦ inl (ap (option_and_then (λ (l : List (Option Child)). child_at l k)) (mapped rows old s from.0 other.1 ∙ ap Some from.2) ∙ there)
     ])
 
-pub set_made : (scopes : ReactorNames) (first : ℕ) (old new : Making) (number : ℕ) (children : List (Option Child)) → new.known ≡ old.known → cores new.shapes.items ≡ cores old.shapes.items → SetsOne old.shapes.items new.shapes.items number children → AreMade scopes first old → ((k : ℕ) (child : Child) → child_at children k ≡ Some child → IsInside scopes (cores old.shapes.items) number k child) → AreMade scopes first new
+pub set_made : (scopes : ReactorNames) (first : ℕ) (old new : Making) (number : ℕ) (children : List (Option Child)) → new.known ≡ old.known → cores new.shapes.items ≡ cores old.shapes.items → SetsOne old.shapes.items new.shapes.items number children → AreMadeShapes scopes first old → ((k : ℕ) (child : Child) → child_at children k ≡ Some child → IsChildInstance scopes (cores old.shapes.items) number k child) → AreMadeShapes scopes first new
 set_made scopes first old new number children known same sets all is = record {
   shapes = record {
     built = subst (AreBuilt scopes) (sym same) all.shapes.built;
     below = λ i c at. all.shapes.below i c (ap (λ l. slice_get l i) (sym same) ∙ at);
-    inside = λ s k child e. subst (λ cs. IsInside scopes cs s k child) (sym same) (elim (sets s k child e) [
+    inside = λ s k child e. subst (λ cs. IsChildInstance scopes cs s k child) (sym same) (elim (sets s k child e) [
       | inl was ↦ all.shapes.inside s k child was
-      | inr this ↦ subst (λ m. IsInside scopes (cores old.shapes.items) m k child) (sym this.0) (is k child this.1)
+      | inr this ↦ subst (λ m. IsChildInstance scopes (cores old.shapes.items) m k child) (sym this.0) (is k child this.1)
     ]);
   };
   known = λ r s e. subst (λ cs. IsOfClass cs s r) (sym same) (all.known r s (ap (λ v. slice_get v.items r) (sym known) ∙ e));
@@ -114,7 +114,7 @@ child_push Q children o number long before is k child e = option_and_then_some (
 ])
 
 -- of none all are made
-pub none_made : (m : Making) (first : ℕ) → cores m.shapes.items ≡ [] → tables m.shapes.items ≡ [] → ((r s : ℕ) → slice_get m.known.items r ≡ Some (Some s) → ⊥) → AreMade m.scopes first m
+pub none_made : (m : Making) (first : ℕ) → cores m.shapes.items ≡ [] → tables m.shapes.items ≡ [] → ((r s : ℕ) → slice_get m.known.items r ≡ Some (Some s) → ⊥) → AreMadeShapes m.scopes first m
 none_made m first empty bare none = record {
   shapes = record {
     built = subst (AreBuilt m.scopes) (sym empty) (λ i c at. absurd (cc));
@@ -125,13 +125,13 @@ none_made m first empty bare none = record {
 }
 
 -- after the first one others are made
-pub made : (before one all : Making) (class : Class) (number : ℕ) → AreMade before.scopes class.number before → AddsShape before one class number → GoesOn (λ first. Unit {0}) one all → AreShapes before.scopes class.number (cores all.shapes.items) (tables all.shapes.items)
+pub made : (before one all : Making) (class : Class) (number : ℕ) → AreMadeShapes before.scopes class.number before → AddsShape before one class number → GoesOnMaking (λ first. Unit {0}) one all → AreShapes before.scopes class.number (cores all.shapes.items) (tables all.shapes.items)
 made before one all class number given a g =
     let begun = (goes_added before one class number a).made class.number itself given in
-    let ended = g.made class.number tt (subst (λ s. AreMade s class.number one) (sym a.scopes) begun) in
+    let ended = g.made class.number tt (subst (λ s. AreMadeShapes s class.number one) (sym a.scopes) begun) in
     subst (λ s. AreShapes s class.number (cores all.shapes.items) (tables all.shapes.items)) a.scopes ended.shapes
 
-pub made_first : (before one all : Making) (class : Class) (number : ℕ) → cores before.shapes.items ≡ [] → AddsShape before one class number → GoesOn (λ first. Unit {0}) one all → first_class (cores all.shapes.items) ≡ Some class
+pub made_first : (before one all : Making) (class : Class) (number : ℕ) → cores before.shapes.items ≡ [] → AddsShape before one class number → GoesOnMaking (λ first. Unit {0}) one all → first_class (cores all.shapes.items) ≡ Some class
 made_first before one all class number empty a g =
     let one_is : slice_get (cores one.shapes.items) 0 ≡ Some a.fresh = ap (λ l. slice_get l 0) (a.shapes ∙ ap (λ l. l ++ a.fresh ∷ []) empty) in
     ap (option_map (λ (c : Core). c.class)) (g.kept 0 a.fresh one_is) ∙ ap Some a.is_of

@@ -3,7 +3,8 @@ use Rattle.std.proofs.Common.{◌≡◌, ℕ, zero, suc, ◌≤◌, ◌⊎◌, i
 use Rattle.std.{specs.{List.cons_option, Option.option_and_then}, proofs.lemmas.List.reverse-append}
 use Rattle.lft_lists.proofs.Places.{get_last, get_push_cases}
 use Rattle.lft_classes.specs.declared.{scopes.{Class.Class, ReactorNames.ReactorNames}, walk.Visit.Visit}
-use Rattle.lft_classes.specs.inner.{Chains.{base_in, base_of, bases_from, bases_in, extended}, Scopes.class_at, Walks.{EndsIn, Has, Lists, again, new, no_more}}
+use Rattle.lft_classes.specs.inner.{Chains.{base_in, base_of, bases_from, bases_in, extended_reactor}, Scopes.class_at}
+use Rattle.lft_classes.specs.inner.Walks.{EndsIn, Has, Lists, again, new, no_more}
 use Rattle.lft_classes.proofs.Walking.{same_last}
 
 -- one that stands already adds nothing
@@ -88,7 +89,7 @@ base_more scopes r k b e = of (class_at scopes r) e
   where
     of : (o : Option Class) → option_and_then (λ c. base_in scopes c k) o ≡ Some b → bases_in scopes o k ≡ b ∷ bases_in scopes o (suc k)
     of None e = absurd (cc)
-    of (Some c) e = one_more (extended scopes c.file) c.reactor.now.bases.items k b e
+    of (Some c) e = one_more (extended_reactor scopes c.file) c.reactor.now.bases.items k b e
 
 -- there is none from the place on
 pub no_base : (scopes : ReactorNames) (r k : ℕ) → ((j : ℕ) → k ≤ j → base_of scopes r j ≡ None) → bases_from scopes r k ≡ []
@@ -96,7 +97,7 @@ no_base scopes r k none = of (class_at scopes r) none
   where
     of : (o : Option Class) → ((j : ℕ) → k ≤ j → option_and_then (λ c. base_in scopes c j) o ≡ None) → bases_in scopes o k ≡ []
     of None none = refl
-    of (Some c) none = none_more (extended scopes c.file) c.reactor.now.bases.items k none
+    of (Some c) none = none_more (extended_reactor scopes c.file) c.reactor.now.bases.items k none
 
 -- what a reactor extends up to the next place is done
 pub one_done : (scopes : ReactorNames) (done : ℕ → Bool) (r k number b : ℕ) → base_of scopes r k ≡ Some b → done b ≡ true → (number ≡ suc k) ⊎ (number ≡ k) → (passed : List ℕ) × (bases_from scopes r k ≡ passed ++ bases_from scopes r number) × ((x : ℕ) → Has passed x → done x ≡ true)

@@ -5,7 +5,7 @@ use Rattle.lft_lists.proofs.{Mapped.option_map_some, Places.{get_last, get_push,
 use Rattle.lft_resolve.specs.inner.Places.{place, place_in}
 use Rattle.lft_whole.specs.declared.{tree.{Import.Import, ImportedName.ImportedName}, sources.source.SourceFile.SourceFile}
 use Rattle.lft_classes.specs.declared.scopes.{Class.Class, NamedReactor.NamedReactor, Scope.Scope, ReactorNames.ReactorNames}
-use Rattle.lft_classes.specs.inner.Scopes.{in_scope, meaning_in, number_in, AreNumbered, IsExported, IsImport, IsMeant, IsOwn, AreMeantScopes, AreOwnScopes, EachMeans, HasImports, HasMeaning, IsGiven, IsMeantScope, IsOnce, IsScope, IsScopeOf, MeansAt}
+use Rattle.lft_classes.specs.inner.Scopes.{in_scope, meaning_in, number_in, AreNumberedClasses, IsExported, IsImport, IsMeant, IsOwn, AreMeantScopes, AreOwnScopes, EachMeans, HasImports, HasMeaning, IsGiven, IsMeantScope, IsOnce, IsScope, IsScopeOf, MeansAt}
 use Rattle.lft_classes.proofs.{Naming.{place_is, place_least}, Numbering.file_of}
 
 -- what a name means in a scope is one of its meanings
@@ -55,7 +55,7 @@ scope_has P ms scope is each = record {
 }
 
 -- a reactor more
-pub numbers_push : (cs : List Class) (c : Class) → AreNumbered cs → c.number ≡ length cs → AreNumbered (cs ++ c ∷ [])
+pub numbers_push : (cs : List Class) (c : Class) → AreNumberedClasses cs → c.number ≡ length cs → AreNumberedClasses (cs ++ c ∷ [])
 numbers_push cs c all number i d at = elim (get_push_cases cs c i d at) [
   | inl old ↦ all i d old
   | inr last ↦ ap (λ (x : Class). x.number) (sym last.1) ∙ number ∙ sym last.0

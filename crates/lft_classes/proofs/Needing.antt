@@ -6,13 +6,13 @@ use Rattle.lft_lists.proofs.{Mapped.{mapped, mapped_from}, Members.{get_mem, mem
 use Rattle.lft_whole.specs.declared.tree.{Instance.Instance, Member.Member}
 use Rattle.lft_classes.specs.declared.{scopes.ReactorNames.ReactorNames, shapes.{Inherited.Inherited, InheritedParameter.InheritedParameter}}
 use Rattle.lft_classes.specs.inner.{Below.{IsBelow, base, inner, instance_at}, Built.{Core, IsBuilt, instance_of, members_at}, Chains.base_of, Needs.HasMember}
-use Rattle.lft_classes.specs.inner.Walks.{Has, IsBehind, IsList, Reaches, Ways, further, itself, nothing, one}
+use Rattle.lft_classes.specs.inner.Walks.{Has, IsTopologicalOrder, IsList, IsReachable, Ways, further, itself, nothing, one}
 use Rattle.lft_classes.proofs.Refusing.{listed_of}
 use Rattle.lft_whole.specs.declared.tree.Member.TheVariants as member
 use Rattle.lft_classes.specs.declared.shapes.OwnThing.TheVariants as thing
 
 -- a list has what those in it lead to
-pub closed_under : (next : Ways) (list : List ℕ) → IsBehind next list → (x k r : ℕ) → Has list x → next x k ≡ Some r → Has list r
+pub closed_under : (next : Ways) (list : List ℕ) → IsTopologicalOrder next list → (x k r : ℕ) → Has list x → next x k ≡ Some r → Has list r
 closed_under next _ nothing x k r has at = absurd (let e = has.1 in cc)
 closed_under next _ (one xs y behind new below) x k r has at = elim (get_push_cases xs y has.0 x has.1) [
   | inl old ↦ (let h = closed_under next xs behind x k r (has.0, old) at in (h.0, get_push xs y h.0 r h.1))
@@ -20,12 +20,12 @@ closed_under next _ (one xs y behind new below) x k r has at = elim (get_push_ca
 ]
 
 -- what is reached is listed
-pub listed_all : (next : Ways) (first : ℕ) (list : List ℕ) → IsList next first list → (r : ℕ) → Reaches next first r → Has list r
+pub listed_all : (next : Ways) (first : ℕ) (list : List ℕ) → IsList next first list → (r : ℕ) → IsReachable next first r → Has list r
 listed_all next first list is _ itself = is.has_first
 listed_all next first list is _ (further {r = a} {s = b} k way at) = closed_under next list is.behind a k b (listed_all next first list is a way) at
 
 -- what one below extends is below too
-pub below_reached : (scopes : ReactorNames) (first a : ℕ) → IsBelow scopes first a → (b : ℕ) → Reaches (base_of scopes) a b → IsBelow scopes first b
+pub below_reached : (scopes : ReactorNames) (first a : ℕ) → IsBelow scopes first a → (b : ℕ) → IsReachable (base_of scopes) a b → IsBelow scopes first b
 below_reached scopes first a is _ itself = is
 below_reached scopes first a is _ (further {r = c} k way at) = base k (below_reached scopes first a is c way) at
 
@@ -37,7 +37,7 @@ declared scopes c k m is at =
     record { class = from.1.0; reached = is.extends.all.reached from.1.0 (from.0, from.1.1); which = from.1.2.0; is_there = from.1.2.1 }
 
 -- what one of the reactors that it extends has, it has
-reached_there : {X Y : Type 0} (scopes : ReactorNames) (c : Core) (f : ℕ → List Y) (locate : X → Y) (xs : List X) (class which : ℕ) (y : Y) → (is : IsBuilt scopes c) → map locate xs ≡ flat_map f is.chain → Reaches (base_of scopes) c.class.number class → slice_get (f class) which ≡ Some y → (k : ℕ) × ((x : X) × (slice_get xs k ≡ Some x) × (locate x ≡ y))
+reached_there : {X Y : Type 0} (scopes : ReactorNames) (c : Core) (f : ℕ → List Y) (locate : X → Y) (xs : List X) (class which : ℕ) (y : Y) → (is : IsBuilt scopes c) → map locate xs ≡ flat_map f is.chain → IsReachable (base_of scopes) c.class.number class → slice_get (f class) which ≡ Some y → (k : ℕ) × ((x : X) × (slice_get xs k ≡ Some x) × (locate x ≡ y))
 reached_there scopes c f locate xs class which y is all reached at =
     let has = listed_all (base_of scopes) c.class.number is.chain is.extends.all class reached in
     let mem = mem_flat f class y is.chain (mem_get is.chain has.0 class has.1) (mem_get (f class) which y at) in

@@ -7,7 +7,7 @@ use Rattle.std.proofs.lemmas.Option.{get_or_from_slice_get, slice_get_within}
 use Rattle.lft_lists.proofs.{Mapped.{enumerate_at, mapped, mapped_from}, Members.{get_mem, mem_from_flat, mem_from_map, mem_get}, Picked.take_one_more}
 use Rattle.lft_lists.proofs.Places.{get_append_cases, get_left, get_right, same_at, Some_same}
 use Rattle.lft_whole.specs.declared.{sources.source.SourceFile.SourceFile, tree.Reactor.Reactor}
-use Rattle.lft_classes.specs.{declared.scopes.Class.Class, inner.Scopes.{IsOf, placed, reactors_in, reactors_of, reactors_before}}
+use Rattle.lft_classes.specs.{declared.scopes.Class.Class, inner.Scopes.{IsOf, placed, reactors_in, reactors_of_file, reactors_before}}
 
 -- an item of the part of one stands behind the parts of those before it
 pub flat_at : {X Y : Type 0} (f : X → List Y) (xs : List X) (n : ℕ) (x : X) (j : ℕ) (y : Y) → slice_get xs n ≡ Some x → slice_get (f x) j ≡ Some y → slice_get (flat_map f xs) (length (flat_map f (take n xs)) + j) ≡ Some y
@@ -30,7 +30,7 @@ enumerated i (x ∷ xs) (suc n) p at = let rest = enumerated (i + 1) xs n p at i
 pub file_of : (files : List SourceFile) (k f : ℕ) (r : Reactor) → slice_get (reactors_in files) k ≡ Some (f, r) → (file : SourceFile) × (slice_get files f ≡ Some file) × ((j : ℕ) × (slice_get file.tree.reactors.items j ≡ Some r))
 file_of files k f r at =
     let all = enumerate_from 0 files in
-    let from = mem_from_flat reactors_of all (f, r) (mem_get (reactors_in files) k (f, r) at) in
+    let from = mem_from_flat reactors_of_file all (f, r) (mem_get (reactors_in files) k (f, r) at) in
     let x = from.0 in
     let there = get_mem x all from.1 in
     let numbered = enumerated 0 files there.0 x there.1 in
@@ -44,7 +44,7 @@ file_of files k f r at =
 pub at_file : (files : List SourceFile) (n : ℕ) (file : SourceFile) (j : ℕ) (r : Reactor) → slice_get files n ≡ Some file → slice_get file.tree.reactors.items j ≡ Some r → slice_get (reactors_in files) (length (reactors_before files n) + j) ≡ Some (n, r)
 at_file files n file j r at is =
     let pair : Reactor → ℕ × Reactor = λ s. (n, s) in
-    flat_at reactors_of (enumerate_from 0 files) n (n, file) j (n, r) (enumerate_at 0 files n file at ∙ ap (λ k. Some (k, file)) (omega arith)) (mapped pair file.tree.reactors.items j r is)
+    flat_at reactors_of_file (enumerate_from 0 files) n (n, file) j (n, r) (enumerate_at 0 files n file at ∙ ap (λ k. Some (k, file)) (omega arith)) (mapped pair file.tree.reactors.items j r is)
 
 -- how many reactors there are with the first ones of a file
 pub counted : (n : ℕ) (items : List Reactor) (old classes : List Class) (j : ℕ) → placed classes ≡ placed old ++ map (λ s. (n, s)) (take j items) → j < length items → length classes ≡ length old + j
@@ -71,12 +71,12 @@ next_stands files n file old classes j number r at before now within is e =
     ap (slice_get (reactors_in files)) there ∙ at_file files n file j r at is
 
 -- one file more
-pub before_more : (files : List SourceFile) (n : ℕ) (file : SourceFile) → slice_get files n ≡ Some file → reactors_before files (n + 1) ≡ reactors_before files n ++ reactors_of (n, file)
+pub before_more : (files : List SourceFile) (n : ℕ) (file : SourceFile) → slice_get files n ≡ Some file → reactors_before files (n + 1) ≡ reactors_before files n ++ reactors_of_file (n, file)
 before_more files n file at =
     let all = enumerate_from 0 files in
     let there : slice_get all n ≡ Some (n, file) = enumerate_at 0 files n file at ∙ ap (λ k. Some (k, file)) (omega arith) in
     let more : take (n + 1) all ≡ take n all ++ (n, file) ∷ [] = take_one_more all n (n, file) (slice_get_within all n (n, file) there) (get_or_from_slice_get all n (n, file) (n, file) there) in
-    ap (flat_map reactors_of) more ∙ flat_map-append reactors_of (take n all) ((n, file) ∷ []) ∙ ap (λ l. reactors_before files n ++ l) (append-nil (reactors_of (n, file)))
+    ap (flat_map reactors_of_file) more ∙ flat_map-append reactors_of_file (take n all) ((n, file) ∷ []) ∙ ap (λ l. reactors_before files n ++ l) (append-nil (reactors_of_file (n, file)))
 
 -- what stands in all parts stands in one of them, behind those before it
 flat_from : {X Y : Type 0} (f : X → List Y) (xs : List X) (k : ℕ) (y : Y) → slice_get (flat_map f xs) k ≡ Some y → (i : ℕ) × ((x : X) × (slice_get xs i ≡ Some x) × ((j : ℕ) × (slice_get (f x) j ≡ Some y) × (k ≡ length (flat_map f (take i xs)) + j)))
@@ -97,7 +97,7 @@ flat_from f (x ∷ xs) k y at = elim (get_append_cases (f x) (flat_map f xs) k y
 pub own_item : (files : List SourceFile) (n : ℕ) (file : SourceFile) (c : Class) → slice_get files n ≡ Some file → IsOf files c → c.file ≡ n → (j : ℕ) × (slice_get file.tree.reactors.items j ≡ Some c.reactor.now) × (c.number ≡ length (reactors_before files n) + j)
 own_item files n file c at is e =
     let all = enumerate_from 0 files in
-    let from = flat_from reactors_of all c.number (c.file, c.reactor.now) is in
+    let from = flat_from reactors_of_file all c.number (c.file, c.reactor.now) is in
     let x = from.1.0 in
     let numbered = enumerated 0 files from.0 x from.1.1 in
     let pair : Reactor → ℕ × Reactor = λ s. (x.0, s) in
@@ -105,11 +105,11 @@ own_item files n file c at is e =
     let there : from.0 ≡ n = (let i = numbered.0 in let d : x.0 ≡ c.file = ap (λ (q : ℕ × Reactor). q.0) one.2 in omega (arith, i, d, e)) in
     let same : x.1 ≡ file = same_at files from.0 n x.1 file numbered.1 at there in
     let item : slice_get x.1.tree.reactors.items from.1.2.0 ≡ Some c.reactor.now = one.1 ∙ ap (λ (q : ℕ × Reactor). Some q.1) one.2 in
-    (from.1.2.0, subst (λ f. slice_get f.tree.reactors.items from.1.2.0 ≡ Some c.reactor.now) same item, subst (λ i. c.number ≡ length (flat_map reactors_of (take i all)) + from.1.2.0) there from.1.2.2)
+    (from.1.2.0, subst (λ f. slice_get f.tree.reactors.items from.1.2.0 ≡ Some c.reactor.now) same item, subst (λ i. c.number ≡ length (flat_map reactors_of_file (take i all)) + from.1.2.0) there from.1.2.2)
 
 -- before the end stand all
 pub before_all : (files : List SourceFile) (n : ℕ) → length files ≤ n → reactors_before files n ≡ reactors_in files
-before_all files n long = ap (flat_map reactors_of) (whole (length-enumerate_from 0 files))
+before_all files n long = ap (flat_map reactors_of_file) (whole (length-enumerate_from 0 files))
   where
     whole : length (enumerate_from 0 files) ≡ length files → take n (enumerate_from 0 files) ≡ enumerate_from 0 files
     whole same = grind (arith, common_steps, long, same)

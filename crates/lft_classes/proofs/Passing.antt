@@ -5,7 +5,7 @@ use Rattle.lft_lists.proofs.Places.{at_contains, contains_at, get_same, get_ther
 use Rattle.lft_whole.specs.declared.tree.{Assignment.Assignment, Expression.Expression, Instance.Instance, Member.Member, Term.Term, Width.Width}
 use Rattle.lft_classes.specs.declared.shapes.{Child.Child, Inherited.Inherited, Shape.Shape}
 use Rattle.lft_classes.specs.inner.Circles.{NamesAt}
-use Rattle.lft_classes.specs.inner.Needs.{AreMarks, HasNeed, IsParameterIn, IsPassed, IsPassedIn, IsTimeIn, Marks, NamesNumber, NamesParameter, PassesOn, IsMarked, IsParameter, IsWord, Need, Times, Widths, times_of}
+use Rattle.lft_classes.specs.inner.Needs.{AreNeedMarks, HasNeed, IsParameterIn, IsPassed, IsPassedIn, IsTimeIn, Marks, NamesNumber, NamesParameter, PassesOn, IsMarkedNeeded, IsParameter, IsWord, Need, Times, Widths, times_of_member}
 use Rattle.lft_classes.specs.inner.Shapes.{child_at}
 use Rattle.lft_classes.specs.Shapes.{width_of}
 use Rattle.lft_classes.proofs.Marking.{AnyBelow}
@@ -66,10 +66,10 @@ terms_name shape width w is n = (
 )
 
 -- what is given to one that is marked, or isn't
-pub passed_one : (need : Need) (shape inner : Shape) (assignment : Assignment) (needed parameter : ℕ) (flag : Bool) → IsParameter inner (string_bytes assignment.name.text) needed → IsParameterIn shape assignment.value parameter → (flag ≡ true) ↔ IsMarked need inner needed → (n : ℕ) → ((flag ≡ true) × (n ≡ parameter)) ↔ IsPassed need shape inner assignment n
+pub passed_one : (need : Need) (shape inner : Shape) (assignment : Assignment) (needed parameter : ℕ) (flag : Bool) → IsParameter inner (string_bytes assignment.name.text) needed → IsParameterIn shape assignment.value parameter → (flag ≡ true) ↔ IsMarkedNeeded need inner needed → (n : ℕ) → ((flag ≡ true) × (n ≡ parameter)) ↔ IsPassed need shape inner assignment n
 passed_one need shape inner assignment needed parameter flag is means same n = (
   λ h. (needed, is, same.0 h.0, subst (IsParameterIn shape assignment.value) (sym h.1) means),
-  λ g. (same.1 (subst (IsMarked need inner) (one_number inner (string_bytes assignment.name.text) g.0 needed g.1 is) g.2), one_meant shape assignment.value n parameter g.3 means),
+  λ g. (same.1 (subst (IsMarkedNeeded need inner) (one_number inner (string_bytes assignment.name.text) g.0 needed g.1 is) g.2), one_meant shape assignment.value n parameter g.3 means),
 )
 
 -- what a width names is named by the member
@@ -81,7 +81,7 @@ abbrev pub IsAmong : Shape → List (Option Expression) → ℕ → Type 0
 IsAmong shape times n = (time : Expression) × Contains times (Some time) × IsParameterIn shape time n
 
 -- of the times of a member
-time_named : (shape : Shape) (m : Member) (times : List (Option Expression)) (n : ℕ) → times_of m ≡ times → IsAmong shape times n ↔ NamesNumber Times shape m n
+time_named : (shape : Shape) (m : Member) (times : List (Option Expression)) (n : ℕ) → times_of_member m ≡ times → IsAmong shape times n ↔ NamesNumber Times shape m n
 time_named shape m times n has = (
   λ h. (h.2.0, h.2.2, (h.0, subst (λ ts. Contains ts (Some h.0)) (sym has) h.1, h.2.1)),
   λ g. (g.2.0, subst (λ ts. Contains ts (Some g.2.0)) has g.2.1, (g.0, g.2.2, g.1)),
@@ -179,14 +179,14 @@ width_needed shapes shape k m width has none n =
     (λ h. b.0 (a.0 h), λ g. a.1 (b.1 g))
 
 -- by its times
-pub time_needed : (shapes : List Shape) (shape : Shape) (k : ℕ) (m : Member) (times : List (Option Expression)) → times_of m ≡ times → ((i : Instance) → m ≡ member.Instance i → ⊥) → (n : ℕ) → IsAmong shape times n ↔ HasNeed Times shapes shape k m n
+pub time_needed : (shapes : List Shape) (shape : Shape) (k : ℕ) (m : Member) (times : List (Option Expression)) → times_of_member m ≡ times → ((i : Instance) → m ≡ member.Instance i → ⊥) → (n : ℕ) → IsAmong shape times n ↔ HasNeed Times shapes shape k m n
 time_needed shapes shape k m times has none n =
     let a = time_named shape m times n has in
     let b = named_alone Times shapes shape k m n none in
     (λ h. b.0 (a.0 h), λ g. a.1 (b.1 g))
 
 -- what is marked, where nothing was
-pub marked_all : (need : Need) (shapes : List Shape) (shape : Shape) (count bound : ℕ) (old new : List Bool) → count ≡ length shape.parameters.items → old ≡ replicate count false → length shape.members.items ≤ bound → Marks (AnyBelow (λ k (m : Inherited). HasNeed need shapes shape k m.member.now) shape.members.items bound) old new → AreMarks need shapes shape new
+pub marked_all : (need : Need) (shapes : List Shape) (shape : Shape) (count bound : ℕ) (old new : List Bool) → count ≡ length shape.parameters.items → old ≡ replicate count false → length shape.members.items ≤ bound → Marks (AnyBelow (λ k (m : Inherited). HasNeed need shapes shape k m.member.now) shape.members.items bound) old new → AreNeedMarks need shapes shape new
 marked_all need shapes shape count bound old new long none all a = record {
   count = a.count ∙ ap length none ∙ length_same count false ∙ long;
   each = λ n at. (elim (a.each n at) [

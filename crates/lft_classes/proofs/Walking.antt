@@ -2,7 +2,7 @@
 use Rattle.std.proofs.Common.{◌≡◌, ℕ, suc, ◌+◌, ◌-◌, ◌<◌, ◌≤◌, ◌⊎◌, inl, inr, Bool, true, false, List, [], ◌∷◌, ◌++◌, length, Option, Some, None, IfSome, IfNone, slice_get, refl, sym, ap, subst, ◌∙◌, arith}
 use Rattle.std.proofs.lemmas.{Bool.cases_lt, List.length_push, Option.slice_get_within}
 use Rattle.lft_lists.proofs.Places.{get_there, get_push, get_last, get_push_cases, same_some, Some_same}
-use Rattle.lft_classes.specs.{inner.Walks.{Ways, Has, Reaches, itself, further, nothing, one, IsList, IsVisitAt, Walking}, declared.walk.Visit.Visit}
+use Rattle.lft_classes.specs.{inner.Walks.{Ways, Has, IsReachable, itself, further, nothing, one, IsList, IsVisitOfNode, Walking}, declared.walk.Visit.Visit}
 
 abbrev at_first : ℕ → Visit
 at_first node = record { node = node; next = 0 }
@@ -34,10 +34,10 @@ begun next first done met none known alone = record {
   apart = λ i j v w a b e. (let p = slice_get_within (at_first first ∷ []) i v a in let q = slice_get_within (at_first first ∷ []) j w b in omega (arith, p, q));
   passed = λ i v at k r lt is. (let e : v.next ≡ 0 = ap (λ x. x.next) (only i v at) in absurd (omega (arith, e, lt)));
   reached_list = λ r h. absurd (nothing_there r h);
-  reached_path = λ i v at. subst (Reaches next first) (node i v at) itself;
+  reached_path = λ i v at. subst (IsReachable next first) (node i v at) itself;
   held = inr (0, (at_first first, refl, refl));
   met_is = λ r m. inr (0, (at_first first, refl, sym (alone r m)));
-  leads = λ i j v w a b le. subst (λ n. Reaches next n w.node) (node i v a) (subst (Reaches next first) (node j w b) itself);
+  leads = λ i j v w a b le. subst (λ n. IsReachable next n w.node) (node i v a) (subst (IsReachable next first) (node j w b) itself);
 }
   where
     only : (i : ℕ) (v : Visit) → slice_get (at_first first ∷ []) i ≡ Some v → v ≡ at_first first
@@ -66,7 +66,7 @@ module _ (next : Ways) (first : ℕ) (listed : List ℕ) (done met more : ℕ �
     | inr e ↦ (let same = s.apart (length front) i top v top_at (older i v at) e in let l = slice_get_within front i v at in absurd (omega (arith, same, l)))
   ]
 
-  still_held : Has (listed ++ top.node ∷ []) first ⊎ ((i : ℕ) × IsVisitAt front i first)
+  still_held : Has (listed ++ top.node ∷ []) first ⊎ ((i : ℕ) × IsVisitOfNode front i first)
   still_held = elim s.held [
     | inl h ↦ inl (has_push listed top.node first h)
     | inr on ↦ (elim (get_push_cases front top on.0 on.1.0 on.1.1) [
@@ -75,7 +75,7 @@ module _ (next : Ways) (first : ℕ) (listed : List ℕ) (done met more : ℕ �
     ])
   ]
 
-  still_met : (r : ℕ) → met r ≡ true → (more r ≡ true) ⊎ ((i : ℕ) × IsVisitAt front i r)
+  still_met : (r : ℕ) → met r ≡ true → (more r ≡ true) ⊎ ((i : ℕ) × IsVisitOfNode front i r)
   still_met r m = elim (s.met_is r m) [
     | inl d ↦ inl (kept r d)
     | inr on ↦ (elim (get_push_cases front top on.0 on.1.0 on.1.1) [
@@ -93,7 +93,7 @@ module _ (next : Ways) (first : ℕ) (listed : List ℕ) (done met more : ℕ �
     left = still_left;
     apart = λ i j v w a b e. s.apart i j v w (older i v a) (older j w b) e;
     passed = λ i v at k r lt is. has_push listed top.node r (s.passed i v (older i v at) k r lt is);
-    reached_list = λ r h. elim (has_cases listed top.node r h) [ inl o ↦ s.reached_list r o | inr e ↦ subst (Reaches next first) e (s.reached_path (length front) top top_at) ];
+    reached_list = λ r h. elim (has_cases listed top.node r h) [ inl o ↦ s.reached_list r o | inr e ↦ subst (IsReachable next first) e (s.reached_path (length front) top top_at) ];
     reached_path = λ i v at. s.reached_path i v (older i v at);
     held = still_held;
     met_is = still_met;
@@ -131,7 +131,7 @@ module _ (next : Ways) (first : ℕ) (listed : List ℕ) (done met : ℕ → Boo
     apart = λ i j v u a b e. (let w = before i v a in let x = before j u b in s.apart i j w.0 x.0 w.1 x.1 (w.2 ∙ e ∙ sym x.2));
     passed = all_passed;
     reached_list = s.reached_list;
-    reached_path = λ i v at. (let w = before i v at in subst (Reaches next first) w.2 (s.reached_path i w.0 w.1));
+    reached_path = λ i v at. (let w = before i v at in subst (IsReachable next first) w.2 (s.reached_path i w.0 w.1));
     held = elim s.held [
       | inl h ↦ inl h
       | inr on ↦ (elim (get_push_cases front top on.0 on.1.0 on.1.1) [
@@ -146,11 +146,11 @@ module _ (next : Ways) (first : ℕ) (listed : List ℕ) (done met : ℕ → Boo
         | inr last ↦ inr (length front, (again, get_last front again, same ∙ ap (λ x. x.node) last.1 ∙ on.1.2))
       ])
     ];
-    leads = λ i j v u a b le. (let w = before i v a in let x = before j u b in subst (λ n. Reaches next n u.node) w.2 (subst (Reaches next w.0.node) x.2 (s.leads i j w.0 x.0 w.1 x.1 le)));
+    leads = λ i j v u a b le. (let w = before i v a in let x = before j u b in subst (λ n. IsReachable next n u.node) w.2 (subst (IsReachable next w.0.node) x.2 (s.leads i j w.0 x.0 w.1 x.1 le)));
   }
 
 -- one that wasn't met is gone over next
-module _ (next : Ways) (first : ℕ) (listed : List ℕ) (done met more : ℕ → Bool) (path : List Visit) (node : ℕ) (s : Walking next first listed done met path) (new : met node ≡ false) (reached : Reaches next first node) (onto : (i : ℕ) (v : Visit) → slice_get path i ≡ Some v → Reaches next v.node node) (now : more node ≡ true) (kept : (r : ℕ) → met r ≡ true → more r ≡ true) (only : (r : ℕ) → more r ≡ true → (r ≡ node) ⊎ (met r ≡ true)) where
+module _ (next : Ways) (first : ℕ) (listed : List ℕ) (done met more : ℕ → Bool) (path : List Visit) (node : ℕ) (s : Walking next first listed done met path) (new : met node ≡ false) (reached : IsReachable next first node) (onto : (i : ℕ) (v : Visit) → slice_get path i ≡ Some v → IsReachable next v.node node) (now : more node ≡ true) (kept : (r : ℕ) → met r ≡ true → more r ≡ true) (only : (r : ℕ) → more r ≡ true → (r ≡ node) ⊎ (met r ≡ true)) where
   not_met : (r : ℕ) → node ≡ r → met r ≡ true → ⊥
   not_met r e h = let f : false ≡ true = sym new ∙ ap met e ∙ h in absurd (cc)
 
@@ -169,7 +169,7 @@ module _ (next : Ways) (first : ℕ) (listed : List ℕ) (done met more : ℕ �
     ])
   ]
 
-  new_met : (r : ℕ) → more r ≡ true → (done r ≡ true) ⊎ ((i : ℕ) × IsVisitAt (path ++ at_first node ∷ []) i r)
+  new_met : (r : ℕ) → more r ≡ true → (done r ≡ true) ⊎ ((i : ℕ) × IsVisitOfNode (path ++ at_first node ∷ []) i r)
   new_met r m = elim (only r m) [
     | inl e ↦ inr (length path, (at_first node, get_last path (at_first node), sym e))
     | inr o ↦ (elim (s.met_is r o) [
@@ -178,15 +178,15 @@ module _ (next : Ways) (first : ℕ) (listed : List ℕ) (done met more : ℕ �
     ])
   ]
 
-  new_leads : (i j : ℕ) (v w : Visit) → slice_get (path ++ at_first node ∷ []) i ≡ Some v → slice_get (path ++ at_first node ∷ []) j ≡ Some w → i ≤ j → Reaches next v.node w.node
+  new_leads : (i j : ℕ) (v w : Visit) → slice_get (path ++ at_first node ∷ []) i ≡ Some v → slice_get (path ++ at_first node ∷ []) j ≡ Some w → i ≤ j → IsReachable next v.node w.node
   new_leads i j v w a b le = elim (split i v a) [
     | inl old ↦ (elim (split j w b) [
       | inl older ↦ s.leads i j v w old older le
-      | inr last ↦ subst (Reaches next v.node) (ap (λ x. x.node) last.1) (onto i v old)
+      | inr last ↦ subst (IsReachable next v.node) (ap (λ x. x.node) last.1) (onto i v old)
     ])
     | inr last ↦ (elim (split j w b) [
       | inl older ↦ absurd (let l = slice_get_within path j w older in let e = last.0 in omega (arith, l, e, le))
-      | inr also ↦ subst (λ n. Reaches next n w.node) (ap (λ x. x.node) last.1) (subst (Reaches next node) (ap (λ x. x.node) also.1) itself)
+      | inr also ↦ subst (λ n. IsReachable next n w.node) (ap (λ x. x.node) last.1) (subst (IsReachable next node) (ap (λ x. x.node) also.1) itself)
     ])
   ]
 
@@ -200,7 +200,7 @@ module _ (next : Ways) (first : ℕ) (listed : List ℕ) (done met more : ℕ �
     apart = new_apart;
     passed = λ i v at k r lt is. elim (split i v at) [ inl old ↦ s.passed i v old k r lt is | inr last ↦ absurd (let e : 0 ≡ v.next = ap (λ x. x.next) last.1 in omega (arith, lt, e)) ];
     reached_list = s.reached_list;
-    reached_path = λ i v at. elim (split i v at) [ inl old ↦ s.reached_path i v old | inr last ↦ subst (Reaches next first) (ap (λ x. x.node) last.1) reached ];
+    reached_path = λ i v at. elim (split i v at) [ inl old ↦ s.reached_path i v old | inr last ↦ subst (IsReachable next first) (ap (λ x. x.node) last.1) reached ];
     held = elim s.held [ inl h ↦ inl h | inr on ↦ inr (on.0, (on.1.0, get_push path (at_first node) on.0 on.1.0 on.1.1, on.1.2)) ];
     met_is = new_met;
     leads = new_leads;
@@ -260,8 +260,8 @@ moved_as next first listed done met path rest now top again number passes s popp
 pub entered_as : (next : Ways) (first : ℕ) (listed : List ℕ) (done met more : ℕ → Bool) (path now : List Visit) (node : ℕ) → (v : Visit) × ((front : List Visit) × (path ≡ front ++ v ∷ [])) × ((k : ℕ) × (next v.node k ≡ Some node)) → Walking next first listed done met path → met node ≡ false → now ≡ path ++ record { node = node; next = 0 } ∷ [] → more node ≡ true → ((r : ℕ) → met r ≡ true → more r ≡ true) → ((r : ℕ) → more r ≡ true → (r ≡ node) ⊎ (met r ≡ true)) → Walking next first listed done more now
 entered_as next first listed done met more path now node leads s new pushed known kept only =
     let at : slice_get path (length leads.1.0) ≡ Some leads.0 = ap (λ l. slice_get l (length leads.1.0)) leads.1.1 ∙ get_last leads.1.0 leads.0 in
-    let reached : Reaches next first node = further leads.2.0 (s.reached_path (length leads.1.0) leads.0 at) leads.2.1 in
-    let onto : (i : ℕ) (v : Visit) → slice_get path i ≡ Some v → Reaches next v.node node = λ i v is. (
+    let reached : IsReachable next first node = further leads.2.0 (s.reached_path (length leads.1.0) leads.0 at) leads.2.1 in
+    let onto : (i : ℕ) (v : Visit) → slice_get path i ≡ Some v → IsReachable next v.node node = λ i v is. (
     let within = slice_get_within path i v is in
     let long = length_push leads.1.0 leads.0 in
     let same = ap length leads.1.1 in

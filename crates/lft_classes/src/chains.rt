@@ -1,7 +1,7 @@
 //! A reactor behind all that it extends.
 
 ghost use Rattle.std.specs.Prelude.{◌≡◌, ◌≤◌, ◌<◌, ℕ, Some, None, IfOk, OnOk, MatchOption, IsTrue, true, false};
-ghost use Rattle.lft_classes.specs.inner.{Chains.{IsChain, base_of, bases_from}, Walks.{IsOrdered, IsOver, IsWalk}};
+ghost use Rattle.lft_classes.specs.inner.{Chains.{IsChain, base_of, bases_from}, Walks.{IsOrdered, IsWalkOver, IsWalk}};
 
 use crate::scopes::ReactorNames;
 use crate::walk::Traversal;
@@ -50,7 +50,7 @@ fn base_at(
 fn step(scopes: &ReactorNames, work: &mut Work, walk: &mut Traversal) -> Result<bool, NoProgram>
     ensures walk { OnOk result ((first : ℕ) → IsWalk (base_of scopes.now) first walk.old → IsWalk (base_of scopes.now) first walk.new) }
     ensures order { OnOk result ((first : ℕ) → IsWalk (base_of scopes.now) first walk.old → IsOrdered (bases_from scopes.now) first walk.old → IsOrdered (bases_from scopes.now) first walk.new) }
-    ensures over { IfOk result (λ more. more ≡ false → IsOver walk.new) }
+    ensures over { IfOk result (λ more. more ≡ false → IsWalkOver walk.new) }
     ensures main { OnOk result (work.new.main ≡ work.old.main) }
     ensures work { IfOk result (λ more. IsTrue more → work.new.left < work.old.left) }
 {

@@ -3,7 +3,7 @@
 ghost use Rattle.std.specs.Prelude.{◌≡◌, ◌≢◌, ℕ, Some, IfNone, IfOk, IfSome, OnOk, true};
 ghost use Rattle.lft_classes.specs.declared.scopes.ReactorNames.{ReactorNames};
 ghost use Rattle.lft_classes.specs.inner.{Built.cores, Shapes.tables};
-ghost use Rattle.lft_classes.specs.inner.Needs.{AreMarks, HasNeed, IsParameterIn, IsPassed, IsPassedIn, IsReady, IsTimeIn, Marks, NamesParameter, IsDecided, Times, Widths};
+ghost use Rattle.lft_classes.specs.inner.Needs.{AreNeedMarks, HasNeed, IsParameterIn, IsPassed, IsPassedIn, IsReadyToDecide, IsTimeIn, Marks, NamesParameter, IsDecided, Times, Widths};
 
 use crate::shapes::{Inherited, Shape};
 use lft_whole::sources::{NoProgram, Why};
@@ -185,8 +185,8 @@ impl Needs {
 
 /// What a shape needs of its parameters, where that is known of the shapes in it.
 fn needs_of(alloc: Global, shapes: &[Shape], shape: &Shape) -> Result<Needs, NoProgram>
-    ensures sized { IfOk result (λ needs. AreMarks Widths shapes.now shape.now needs.sized.items) }
-    ensures timed { IfOk result (λ needs. AreMarks Times shapes.now shape.now needs.timed.items) }
+    ensures sized { IfOk result (λ needs. AreNeedMarks Widths shapes.now shape.now needs.sized.items) }
+    ensures timed { IfOk result (λ needs. AreNeedMarks Times shapes.now shape.now needs.timed.items) }
 {
     let count = shape.parameters.len();
     let mut needs = Needs {
@@ -203,7 +203,7 @@ fn needs_of(alloc: Global, shapes: &[Shape], shape: &Shape) -> Result<Needs, NoP
 pub(crate) fn decide(alloc: Global, shapes: &mut Vec<Shape>, number: usize) -> Result<(), NoProgram>
     ensures tables { OnOk result (tables shapes.new.items ≡ tables shapes.old.items) }
     ensures cores { OnOk result (cores shapes.new.items ≡ cores shapes.old.items) }
-    ensures decided { OnOk result ((scopes : ReactorNames) (first : ℕ) → IsReady scopes first shapes.old.items number → IsDecided scopes shapes.new.items number) }
+    ensures decided { OnOk result ((scopes : ReactorNames) (first : ℕ) → IsReadyToDecide scopes first shapes.old.items number → IsDecided scopes shapes.new.items number) }
     ensures kept { OnOk result ((scopes : ReactorNames) (s : ℕ) → s ≢ number → IsDecided scopes shapes.old.items s → IsDecided scopes shapes.new.items s) }
 {
     if number >= shapes.len() {

@@ -4,8 +4,8 @@ ghost use Rattle.std.specs.Prelude.{◌≡◌, ◌<◌, ℕ, Some, OnOk, IfNone,
 ghost use Rattle.lft_resolve.specs.inner.Tests.{texts};
 ghost use Rattle.lft_classes.specs.declared.shapes.{Inherited.Inherited, Shape.Shape};
 ghost use Rattle.lft_classes.specs.inner.Below.{IsBelow};
-ghost use Rattle.lft_classes.specs.inner.Makings.{AddsShape, AreMade, AreShapes, GoesOn, HasChildren, IsNeeded, IsOfClass, KeepsBut, KeepsNoted, KnowsNone, KnowsOne, SetsOne};
-ghost use Rattle.lft_classes.specs.inner.{Built.{AreGiven, AreNoted, Core, IsInside, IsNoted, cores, first_class, instance_of}, Chains.extended};
+ghost use Rattle.lft_classes.specs.inner.Makings.{AddsShape, AreMadeShapes, AreShapes, GoesOnMaking, HasChildren, IsNeeded, IsOfClass, KeepsBut, KeepsNoted, KnowsNone, KnowsOne, SetsOne};
+ghost use Rattle.lft_classes.specs.inner.{Built.{AreGiven, AreNoted, Core, IsChildInstance, IsNoted, cores, first_class, instance_of}, Chains.extended_reactor};
 ghost use Rattle.lft_classes.specs.inner.{Circles.GivesOnce, Shapes.{tables, thing_named}};
 
 use crate::scopes::{Class, ReactorNames};
@@ -138,8 +138,8 @@ impl<'a> Making<'a> {
 
     /// The number of the shape of a reactor.
     fn shape_of(&mut self, class: Class<'a>) -> Result<usize, NoProgram>
-        ensures goes { OnOk result (GoesOn (λ first. IsBelow self.old.scopes first class.entry.number) self.old self.new) }
-        ensures shape { IfOk result (λ shape. (first : ℕ) → IsBelow self.old.scopes first class.entry.number → AreMade self.old.scopes first self.old → IsOfClass (cores self.new.shapes.items) shape class.entry.number) }
+        ensures goes { OnOk result (GoesOnMaking (λ first. IsBelow self.old.scopes first class.entry.number) self.old self.new) }
+        ensures shape { IfOk result (λ shape. (first : ℕ) → IsBelow self.old.scopes first class.entry.number → AreMadeShapes self.old.scopes first self.old → IsOfClass (cores self.new.shapes.items) shape class.entry.number) }
         ensures noted { OnOk result (KeepsNoted self.old.shapes.items self.new.shapes.items) }
     {
         if let Some(Some(known)) = self.known.get(class.number).copied() {
@@ -151,9 +151,9 @@ impl<'a> Making<'a> {
 
     /// What is in an instance.
     fn child_of(&mut self, file: usize, instance: &'a Instance) -> Result<Child<'a>, NoProgram>
-        ensures goes { OnOk result (GoesOn (IsNeeded self.old.scopes file instance.now) self.old self.new) }
-        ensures child { IfOk result (λ child. (first : ℕ) → IsNeeded self.old.scopes file instance.now first → AreMade self.old.scopes first self.old → (r : ℕ) × (extended self.old.scopes file instance.now.reactor ≡ Some r) × IsOfClass (cores self.new.shapes.items) child.shape r) }
-        ensures once { OnOk result ((first : ℕ) → IsNeeded self.old.scopes file instance.now first → AreMade self.old.scopes first self.old → GivesOnce instance.now.given.items) }
+        ensures goes { OnOk result (GoesOnMaking (IsNeeded self.old.scopes file instance.now) self.old self.new) }
+        ensures child { IfOk result (λ child. (first : ℕ) → IsNeeded self.old.scopes file instance.now first → AreMadeShapes self.old.scopes first self.old → (r : ℕ) × (extended_reactor self.old.scopes file instance.now.reactor ≡ Some r) × IsOfClass (cores self.new.shapes.items) child.shape r) }
+        ensures once { OnOk result ((first : ℕ) → IsNeeded self.old.scopes file instance.now first → AreMadeShapes self.old.scopes first self.old → GivesOnce instance.now.given.items) }
         ensures given { IfOk result (λ child. (inner : Shape) → slice_get self.new.shapes.items child.shape ≡ Some inner → AreGiven (thing_named inner) instance.now.given.items child.given.items) }
         ensures noted { OnOk result (KeepsNoted self.old.shapes.items self.new.shapes.items) }
     {
@@ -167,8 +167,8 @@ impl<'a> Making<'a> {
 
     /// What is in the member of this number of a shape, if it is an instance.
     fn child_at(&mut self, shape: usize, number: usize) -> Result<Option<Child<'a>>, NoProgram>
-        ensures goes { OnOk result (GoesOn (λ first. Unit {0}) self.old self.new) }
-        ensures child { IfOk result (λ o. IfSome o (λ child. (first : ℕ) → AreMade self.old.scopes first self.old → IsInside self.old.scopes (cores self.new.shapes.items) shape number child)) }
+        ensures goes { OnOk result (GoesOnMaking (λ first. Unit {0}) self.old self.new) }
+        ensures child { IfOk result (λ o. IfSome o (λ child. (first : ℕ) → AreMadeShapes self.old.scopes first self.old → IsChildInstance self.old.scopes (cores self.new.shapes.items) shape number child)) }
         ensures noted { OnOk result (KeepsNoted self.old.shapes.items self.new.shapes.items) }
         ensures none { IfOk result (λ o. IfNone o ((c : Core) (m : Inherited) (n : ℕ) → slice_get (cores self.old.shapes.items) shape ≡ Some c → slice_get c.members number ≡ Some m → instance_of self.old.scopes (m.file, m.member.now) ≡ Some n → ⊥)) }
     {
@@ -187,7 +187,7 @@ impl<'a> Making<'a> {
 
     /// Notes what is in each instance of a shape, which has so many members.
     fn fill(&mut self, shape: usize, count: usize) -> Result<(), NoProgram>
-        ensures goes { OnOk result (GoesOn (λ first. Unit {0}) self.old self.new) }
+        ensures goes { OnOk result (GoesOnMaking (λ first. Unit {0}) self.old self.new) }
         ensures others { OnOk result (KeepsBut self.old.shapes.items self.new.shapes.items shape) }
         ensures noted { OnOk result ((c : Core) → slice_get (cores self.old.shapes.items) shape ≡ Some c → length c.members ≡ count → IsNoted self.old.scopes (tables self.new.shapes.items) shape c) }
     {
@@ -202,7 +202,7 @@ impl<'a> Making<'a> {
 
     /// Notes what is in each instance of each shape, also of those that are made meanwhile.
     fn fill_all(&mut self) -> Result<(), NoProgram>
-        ensures goes { OnOk result (GoesOn (λ first. Unit {0}) self.old self.new) }
+        ensures goes { OnOk result (GoesOnMaking (λ first. Unit {0}) self.old self.new) }
         ensures noted { OnOk result (AreNoted self.old.scopes (cores self.new.shapes.items) (tables self.new.shapes.items)) }
     {
         // The list grows meanwhile. A call for each instance would need a stack

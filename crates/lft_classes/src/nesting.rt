@@ -2,7 +2,7 @@
 
 ghost use Rattle.std.specs.Prelude.{◌≡◌, ◌≤◌, ◌<◌, ℕ, Some, None, IfOk, IfSome, IfNone, OnOk, IsTrue, true, false};
 ghost use Rattle.lft_classes.specs.declared.scopes.ReactorNames.{ReactorNames};
-ghost use Rattle.lft_classes.specs.inner.{Causes.last_token, Walks.{IsWalk, IsOver, IsList}, Nestings.IsNesting, Shapes.{inside, tables}};
+ghost use Rattle.lft_classes.specs.inner.{Causes.last_token, Walks.{IsWalk, IsWalkOver, IsList}, Nestings.IsNesting, Shapes.{inside, tables}};
 
 use crate::deciding::decide;
 use crate::making::shapes_of;
@@ -54,7 +54,7 @@ fn contains_itself(shapes: &[Shape], shape: usize, member: usize) -> NoProgram {
 /// Goes on with the instances of the shape that is gone over; whether there was one.
 fn step(shapes: &[Shape], work: &mut Work, walk: &mut Traversal) -> Result<bool, NoProgram>
     ensures walk { OnOk result ((first : ℕ) → IsWalk (inside (tables shapes.now)) first walk.old → IsWalk (inside (tables shapes.now)) first walk.new) }
-    ensures over { IfOk result (λ more. more ≡ false → IsOver walk.new) }
+    ensures over { IfOk result (λ more. more ≡ false → IsWalkOver walk.new) }
     ensures main { OnOk result (work.new.main ≡ work.old.main) }
     ensures work { IfOk result (λ more. IsTrue more → work.new.left < work.old.left) }
 {

@@ -3,7 +3,7 @@
 ghost use Rattle.std.specs.Prelude.{◌≡◌, ◌≤◌, ◌<◌, ◌++◌, ℕ, List, [], Some, false, IfNone, IfOk, IfSome, OnOk, map, slice_get};
 ghost use Rattle.lft_resolve.specs.inner.Tests.{texts};
 ghost use Rattle.lft_whole.specs.declared.{sources.source.SourceFile.SourceFile, tree.{Import.Import, ImportedName.ImportedName}};
-ghost use Rattle.lft_classes.specs.inner.Scopes.{in_scope, meaning_in, class_at, name_in, IsOf, AreNumbered, IsOwn, IsImport, IsMain, IsMainAt, AreScopes, placed, reactors_in, reactors_of, EachMeans, HasImports, HasMeaning, HasOwn, IsGiven, IsMeantScope, IsOnce, IsOwnScope, IsScopeOf, IsOwnAt, AreOwnScopes, MeansAt, AreMeantScopes, reactors_before};
+ghost use Rattle.lft_classes.specs.inner.Scopes.{in_scope, meaning_in, class_at, name_in, IsOf, AreNumberedClasses, IsOwn, IsImport, IsMain, IsMainClassAt, AreScopes, placed, reactors_in, reactors_of_file, EachMeans, HasImports, HasMeaning, HasOwn, IsGiven, IsMeantScope, IsOnce, IsOwnScope, IsScopeOf, IsOwnAt, AreOwnScopes, MeansAt, AreMeantScopes, reactors_before};
 
 use lft_lists::item_at;
 use lft_resolve::index::Index;
@@ -102,8 +102,8 @@ fn own_scope<'a>(
     classes: &mut Vec<Class<'a>>,
 ) -> Result<Scope<'a>, NoMemory>
     ensures own { IfOk result (λ scope. (files : List SourceFile) → slice_get files number ≡ Some file.now → placed classes.old.items ≡ reactors_before files number → IsOwnScope files number scope) }
-    ensures classes { OnOk result (placed classes.new.items ≡ placed classes.old.items ++ reactors_of (number, file.now)) }
-    ensures numbers { OnOk result (AreNumbered classes.old.items → AreNumbered classes.new.items) }
+    ensures classes { OnOk result (placed classes.new.items ≡ placed classes.old.items ++ reactors_of_file (number, file.now)) }
+    ensures numbers { OnOk result (AreNumberedClasses classes.old.items → AreNumberedClasses classes.new.items) }
 {
     let mut meanings = Vec::new(alloc);
     for place in 0..file.tree.reactors.len() {
@@ -233,7 +233,7 @@ fn own_scopes<'a>(
 ) -> Result<Vec<Scope<'a>>, NoMemory>
     ensures own { IfOk result (λ own. placed classes.old.items ≡ [] → AreOwnScopes files.now own.items) }
     ensures classes { OnOk result (placed classes.old.items ≡ [] → placed classes.new.items ≡ reactors_in files.now) }
-    ensures numbers { OnOk result (AreNumbered classes.old.items → AreNumbered classes.new.items) }
+    ensures numbers { OnOk result (AreNumberedClasses classes.old.items → AreNumberedClasses classes.new.items) }
 {
     let mut own = Vec::new(alloc);
     for number in 0..files.len() {
@@ -295,9 +295,9 @@ impl<'a> ReactorNames<'a> {
 
     /// The next main reactor of the first file, from this number on.
     fn next_main(&self, from: usize) -> Option<(usize, Class<'a>)>
-        ensures some { IfSome result (λ found. IsMainAt self.now found.0 found.1 × (from ≤ found.0) × (found.0 < usize.MAX)) }
-        ensures first { IfSome result (λ found. (number : ℕ) (c : Class) → from ≤ number → number < found.0 → IsMainAt self.now number c → ⊥) }
-        ensures none { IfNone result ((number : ℕ) (c : Class) → from ≤ number → IsMainAt self.now number c → ⊥) }
+        ensures some { IfSome result (λ found. IsMainClassAt self.now found.0 found.1 × (from ≤ found.0) × (found.0 < usize.MAX)) }
+        ensures first { IfSome result (λ found. (number : ℕ) (c : Class) → from ≤ number → number < found.0 → IsMainClassAt self.now number c → ⊥) }
+        ensures none { IfNone result ((number : ℕ) (c : Class) → from ≤ number → IsMainClassAt self.now number c → ⊥) }
     {
         for place in from..self.classes.len() {
             let class = item_at(&self.classes, place);

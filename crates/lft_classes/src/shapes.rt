@@ -3,8 +3,8 @@
 ghost use Rattle.std.specs.Prelude.{◌≡◌, ◌≢◌, ◌++◌, ◌↔◌, ℕ, List, [], Some, IfErr, IfOk, IfSome, IfNone, OnOk, IsTrue, flat_map, map, slice_get, option_map, string_bytes, true};
 ghost use Rattle.lft_resolve.specs.inner.{Places.{IsIndexOf, place_in}, Tests.texts};
 ghost use Rattle.lft_whole.specs.declared.tree.{Foreign.Foreign, Instance.Instance, Name.Name, Port.Port};
-ghost use Rattle.lft_classes.specs.inner.Shapes.{thing_named, child_at, is_at};
-ghost use Rattle.lft_classes.specs.inner.Built.{HasName, HasNoForeign, IsBuilt, core, located, located_parameters, members_of, members_at, parameters_of, parameters_at};
+ghost use Rattle.lft_classes.specs.inner.Shapes.{thing_named, child_at, name_token};
+ghost use Rattle.lft_classes.specs.inner.Built.{HasName, HasNoForeign, IsBuilt, core, located, located_parameters, declared_members, members_at, declared_parameters, parameters_at};
 ghost use Rattle.lft_classes.specs.inner.{Naming.{EachNamed, HasNamed}, Refused.{IsTooMuch, why_of}};
 ghost use Rattle.lft_classes.specs.Shapes.{name_of, width_of};
 
@@ -154,7 +154,7 @@ impl<'a> Inherited<'a> {
 
     /// The token of its name, or 0 if it has none.
     pub fn at(self) -> usize
-        ensures { result ≡ is_at self.entry.member.now }
+        ensures { result ≡ name_token self.entry.member.now }
     {
         match self.member {
             Member::Port(port) => port.name.at,
@@ -180,7 +180,7 @@ fn push_members<'a>(
     work: &mut Work,
     class: Class<'a>,
 ) -> Result<u64, NoProgram>
-    ensures members { OnOk result (located members.new.items ≡ located members.old.items ++ members_of class.entry) }
+    ensures members { OnOk result (located members.new.items ≡ located members.old.items ++ declared_members class.entry) }
     ensures main { OnOk result (work.new.main ≡ work.old.main) }
     ensures cause { IfErr result IsTooMuch }
 {
@@ -205,7 +205,7 @@ fn push_parameters<'a>(
     work: &mut Work,
     class: Class<'a>,
 ) -> Result<u64, NoProgram>
-    ensures parameters { OnOk result (located_parameters parameters.new.items ≡ located_parameters parameters.old.items ++ parameters_of class.entry) }
+    ensures parameters { OnOk result (located_parameters parameters.new.items ≡ located_parameters parameters.old.items ++ declared_parameters class.entry) }
     ensures main { OnOk result (work.new.main ≡ work.old.main) }
     ensures cause { IfErr result IsTooMuch }
 {

@@ -1,7 +1,7 @@
 //! A walk that lists all that is reached from a first one, each behind all that it leads to.
 
 ghost use Rattle.std.specs.Prelude.{◌≡◌, ℕ, List, [], ◌∷◌, Option, true, false, IfOk, IfSome, IfNone, OnOk};
-ghost use Rattle.lft_classes.specs.inner.Walks.{IsWalk, IsOrdered, IsTop, IsOver, EndsAt, LeadsFirst, LeadsNoFurther, LeadsTo, PassesDone, PassesTo, is_done, IsList, Lists};
+ghost use Rattle.lft_classes.specs.inner.Walks.{IsWalk, IsOrdered, IsTop, IsWalkOver, LeadsToNoMore, LeadsFirst, LeadsNoFurther, LeadsToNode, PassesDone, PassesTo, is_done, IsList, Lists};
 
 use std::alloc::{AllocError, Global};
 use std::collections::BTreeSet;
@@ -51,7 +51,7 @@ impl Traversal {
     /// The one that is gone over now; None at the end of the walk.
     pub(crate) fn top(&self) -> Option<Visit>
         ensures some { IfSome result (IsTop self.now) }
-        ensures none { IfNone result (IsOver self.now) }
+        ensures none { IfNone result (IsWalkOver self.now) }
     {
         self.path.last().copied()
     }
@@ -65,7 +65,7 @@ impl Traversal {
 
     /// The one that is gone over now leads to no more: it is listed.
     pub(crate) fn end(&mut self) -> Result<(), AllocError>
-        ensures walk { OnOk result ((next : ℕ → ℕ → Option ℕ) (first : ℕ) → EndsAt next self.old → IsWalk next first self.old → IsWalk next first self.new) }
+        ensures walk { OnOk result ((next : ℕ → ℕ → Option ℕ) (first : ℕ) → LeadsToNoMore next self.old → IsWalk next first self.old → IsWalk next first self.new) }
         ensures order { OnOk result ((from : ℕ → ℕ → List ℕ) (first : ℕ) → LeadsNoFurther from self.old → IsOrdered from first self.old → IsOrdered from first self.new) }
     {
         let Some(top) = self.path.pop() else {
@@ -93,7 +93,7 @@ impl Traversal {
 
     /// Goes on with one that the one leads to which is gone over now. False if it was met before.
     pub(crate) fn enter(&mut self, node: usize) -> Result<bool, AllocError>
-        ensures new { IfOk result (λ is_new. is_new ≡ true → (next : ℕ → ℕ → Option ℕ) (first : ℕ) → LeadsTo next self.old node → IsWalk next first self.old → IsWalk next first self.new) }
+        ensures new { IfOk result (λ is_new. is_new ≡ true → (next : ℕ → ℕ → Option ℕ) (first : ℕ) → LeadsToNode next self.old node → IsWalk next first self.old → IsWalk next first self.new) }
         ensures order { IfOk result (λ is_new. is_new ≡ true → (next : ℕ → ℕ → Option ℕ) (from : ℕ → ℕ → List ℕ) (first : ℕ) → LeadsFirst from self.old node → IsWalk next first self.old → IsOrdered from first self.old → IsOrdered from first self.new) }
     {
         let is_new = self.met.insert(node)?;
@@ -106,8 +106,8 @@ impl Traversal {
 
     /// All that was listed.
     pub(crate) fn into_listed(self) -> Vec<usize>
-        ensures list { (next : ℕ → ℕ → Option ℕ) (first : ℕ) → IsOver self → IsWalk next first self → IsList next first result.items }
-        ensures order { (from : ℕ → ℕ → List ℕ) (first : ℕ) → IsOver self → IsOrdered from first self → Lists (λ r. from r 0) [] (first ∷ []) result.items }
+        ensures list { (next : ℕ → ℕ → Option ℕ) (first : ℕ) → IsWalkOver self → IsWalk next first self → IsList next first result.items }
+        ensures order { (from : ℕ → ℕ → List ℕ) (first : ℕ) → IsWalkOver self → IsOrdered from first self → Lists (λ r. from r 0) [] (first ∷ []) result.items }
     {
         let Traversal {
             listed,

@@ -5,7 +5,7 @@ use Rattle.lft_tag.specs.declared.Tag.{Tag}
 use Rattle.lft_ir.specs.{Parts.Parts, declared.steps.row.Row.Row}
 use Rattle.lft_model.specs.Breaches.{IsOpen}
 use Rattle.lft_counts.specs.declared.{orders.{Last.Last, Orders.Orders}, overlaps.Overlaps.Overlaps, cover.{Counting.Counting, Cover.Cover}}
-use Rattle.lft_counts.specs.{Counts.{StartsAt, StartsBy, WritesAt, Runs, MeetsRun, Widens}, Orders.{MeetsAt, ApartAt, IsLast, NoStart, Stands}}
+use Rattle.lft_counts.specs.{Counts.{StartsRun, StartsBy, WritesAt, Runs, MeetsRun, Widens}, Orders.{MeetsAt, ApartAt, IsLast, NoStart, Stands}}
 use Rattle.lft_counts.specs.{Overlaps.Overlap, Cover.{CoversRows, IsCounting, IsCover}}
 use Rattle.lft_graph.proofs.Counting.{count_same}
 
@@ -18,7 +18,7 @@ back t s i alike k l = sym (alike k l)
 
 -- what holds of the one holds of the other
 module _ (t s : List Row) (i : ℕ) (alike : AreAlike t s i) where
-  starts_too : (r j : ℕ) → j < i → StartsAt t r j → StartsAt s r j
+  starts_too : (r j : ℕ) → j < i → StartsRun t r j → StartsRun s r j
   starts_too r j l x = (x.0, x.1, sym (alike j l) ∙ x.2)
 
   by_too : (w j : ℕ) → j < i → StartsBy t w j → StartsBy s w j

@@ -5,7 +5,7 @@ use Rattle.lft_tag.specs.declared.Tag.{Tag}
 use Rattle.lft_ir.specs.{Parts.Parts, declared.{parts.{Value.Value, Name.TheVariants.Port}, steps.row.{Row.Row, Step.{Step, TheVariants.{Start, Write}}}}}
 use Rattle.lft_ir.specs.Steps.Fits.{RowFits, StepFits}
 use Rattle.lft_model.{specs.Runs.start_row, proofs.Places.slice_get_within}
-use Rattle.lft_counts.specs.{declared.{cover.Counting.Counting, workers.Workers.Workers}, Counts.{StartsAt, StartsBy, WritesAt}, Cover.IsCounting}
+use Rattle.lft_counts.specs.{declared.{cover.Counting.Counting, workers.Workers.Workers}, Counts.{StartsRun, StartsBy, WritesAt}, Cover.IsCounting}
 use Rattle.lft_counts.specs.Workers.{runs_by, AllRun, AreByWorker}
 use Rattle.lft_counts.proofs.{Numbers.{counts_none, counts_more, counts_same}, Going.started}
 use Rattle.lft_graph.specs.Counts.{Count, none, more, same}
@@ -14,7 +14,7 @@ use Rattle.lft_graph.specs.Counts.{Count, none, more, same}
 pub none_counted : (program : Parts) (t : List Row) (counting : Counting) → counting.runs ≡ replicate (length program.reactions) 0 → counting.writes ≡ replicate (length program.ports) 0 → ((w : ℕ) → runs_by counting.workers w ≡ 0) → AllRun counting.workers → IsCounting program t 0 counting
 none_counted program t counting runs writes workers listed = record {
   reactions = ap (λ (z : List ℕ). length z) runs ∙ length_same (length program.reactions) 0;
-  runs = subst (λ (z : List ℕ). (x n : ℕ) → slice_get z x ≡ Some n → Count (StartsAt t x) 0 n) (sym runs) (counts_none (StartsAt t) (length program.reactions));
+  runs = subst (λ (z : List ℕ). (x n : ℕ) → slice_get z x ≡ Some n → Count (StartsRun t x) 0 n) (sym runs) (counts_none (StartsRun t) (length program.reactions));
   ports = ap (λ (z : List ℕ). length z) writes ∙ length_same (length program.ports) 0;
   writes = subst (λ (z : List ℕ). (x n : ℕ) → slice_get z x ≡ Some n → Count (WritesAt t x) 0 n) (sym writes) (counts_none (WritesAt t) (length program.ports));
   workers = λ w. subst (λ k. Count (StartsBy t w) 0 k) (sym (workers w)) none;
@@ -63,7 +63,7 @@ module _ (t : List Row) (i : ℕ) (row : Row) (here : slice_get t i ≡ Some row
     pub counted_start : (n : ℕ) (new : Counting) → row.step ≡ Start → slice_get old.runs row.reaction ≡ Some n → new.runs ≡ slice_set old.runs row.reaction (n + 1) → new.writes ≡ old.writes → ((w : ℕ) → runs_by new.workers w ≡ cond (row.worker == w) (runs_by old.workers row.worker + 1) (runs_by old.workers w)) → (AllRun old.workers → AllRun new.workers) → IsCounting program t (i + 1) new
     counted_start n new s was runs writes law listed = record {
       reactions = ap (λ (z : List ℕ). length z) runs ∙ length_written old.runs row.reaction (n + 1) ∙ so.reactions;
-      runs = subst (λ (z : List ℕ). (x k : ℕ) → slice_get z x ≡ Some k → Count (StartsAt t x) (i + 1) k) (sym runs) (counts_more (StartsAt t) i old.runs row.reaction n was (slice_get_within old.runs row.reaction n was) (row.worker, row.tag, started t i row s here) (λ x y. (started_row y.0 y.1 x y.2).1) so.runs);
+      runs = subst (λ (z : List ℕ). (x k : ℕ) → slice_get z x ≡ Some k → Count (StartsRun t x) (i + 1) k) (sym runs) (counts_more (StartsRun t) i old.runs row.reaction n was (slice_get_within old.runs row.reaction n was) (row.worker, row.tag, started t i row s here) (λ x y. (started_row y.0 y.1 x y.2).1) so.runs);
       ports = ap (λ (z : List ℕ). length z) writes ∙ so.ports;
       writes = subst (λ (z : List ℕ). (x k : ℕ) → slice_get z x ≡ Some k → Count (WritesAt t x) (i + 1) k) (sym writes) (counts_same (WritesAt t) i old.writes (none_written (start_no_write s)) so.writes);
       workers = workers_more s old.workers new.workers law so.workers;
@@ -74,7 +74,7 @@ module _ (t : List Row) (i : ℕ) (row : Row) (here : slice_get t i ≡ Some row
     pub counted_write : (p n : ℕ) (v : Value) (new : Counting) → row.step ≡ Write (Port p) v → slice_get old.writes p ≡ Some n → new.writes ≡ slice_set old.writes p (n + 1) → new.runs ≡ old.runs → new.workers ≡ old.workers → IsCounting program t (i + 1) new
     counted_write p n v new s was writes runs workers = record {
       reactions = ap (λ (z : List ℕ). length z) runs ∙ so.reactions;
-      runs = subst (λ (z : List ℕ). (x k : ℕ) → slice_get z x ≡ Some k → Count (StartsAt t x) (i + 1) k) (sym runs) (counts_same (StartsAt t) i old.runs (λ x y. write_no_start p v s (started_row y.0 y.1 x y.2).0) so.runs);
+      runs = subst (λ (z : List ℕ). (x k : ℕ) → slice_get z x ≡ Some k → Count (StartsRun t x) (i + 1) k) (sym runs) (counts_same (StartsRun t) i old.runs (λ x y. write_no_start p v s (started_row y.0 y.1 x y.2).0) so.runs);
       ports = ap (λ (z : List ℕ). length z) writes ∙ length_written old.writes p (n + 1) ∙ so.ports;
       writes = subst (λ (z : List ℕ). (x k : ℕ) → slice_get z x ≡ Some k → Count (WritesAt t x) (i + 1) k) (sym writes) (counts_more (WritesAt t) i old.writes p n was (slice_get_within old.writes p n was) (row, v, here, s) (one_written p v s) so.writes);
       workers = subst (λ (z : Workers). AreByWorker t (i + 1) z) (sym workers) (workers_same (write_no_start p v s) old.workers so.workers);
@@ -85,7 +85,7 @@ module _ (t : List Row) (i : ℕ) (row : Row) (here : slice_get t i ≡ Some row
     pub counted_none : ¬ (row.step ≡ Start) → ((p : ℕ) (v : Value) → row.step ≡ Write (Port p) v → ⊥) → IsCounting program t (i + 1) old
     counted_none n never = record {
       reactions = so.reactions;
-      runs = counts_same (StartsAt t) i old.runs (λ x y. n (started_row y.0 y.1 x y.2).0) so.runs;
+      runs = counts_same (StartsRun t) i old.runs (λ x y. n (started_row y.0 y.1 x y.2).0) so.runs;
       ports = so.ports;
       writes = counts_same (WritesAt t) i old.writes (none_written never) so.writes;
       workers = workers_same n old.workers so.workers;

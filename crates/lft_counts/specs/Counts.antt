@@ -10,8 +10,8 @@ abbrev pub AreCounts : (ℕ → ℕ → Type 0) → ℕ → List ℕ → Type 0
 AreCounts P i counts = (x n : ℕ) → slice_get counts x ≡ Some n → Count (P x) i n
 
 -- the row at place i starts a run of reaction r
-abbrev pub StartsAt : List Row → ℕ → ℕ → Type 0
-StartsAt t r i = (w : ℕ) × (g : Tag) × (slice_get t i ≡ Some (start_row w g r))
+abbrev pub StartsRun : List Row → ℕ → ℕ → Type 0
+StartsRun t r i = (w : ℕ) × (g : Tag) × (slice_get t i ≡ Some (start_row w g r))
 
 -- the row at place i starts a run by worker w
 abbrev pub StartsBy : List Row → ℕ → ℕ → Type 0
@@ -27,11 +27,11 @@ Runs t i r = (w : ℕ) × (g : Tag) × IsOpen t i w g r
 
 -- at a place before i a run of reaction b starts while a has an open run
 abbrev pub MeetsRun : List Row → ℕ → ℕ → ℕ → Type 0
-MeetsRun t i a b = (j : ℕ) × StartsAt t b j × Runs t j a × (j < i)
+MeetsRun t i a b = (j : ℕ) × StartsRun t b j × Runs t j a × (j < i)
 
 -- the row at place i starts a run, and so many of m reactions have an open run behind it
 abbrev pub Widens : List Row → ℕ → ℕ → ℕ → Type 0
-Widens t m n i = (r : ℕ) × StartsAt t r i × Count (Runs t (i + 1)) m n
+Widens t m n i = (r : ℕ) × StartsRun t r i × Count (Runs t (i + 1)) m n
 
 -- the count at place k isn't 0
 abbrev pub IsOver : List ℕ → ℕ → Type 0

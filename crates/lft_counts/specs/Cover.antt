@@ -2,13 +2,13 @@
 use Rattle.std.specs.Prelude.{◌≡◌, ℕ, List, map, length}
 use Rattle.lft_ir.specs.{Parts.Parts, declared.steps.row.Row.Row}
 use Rattle.lft_graph.specs.Graph.{GraphParts, IsGraphOf}
-use Rattle.lft_counts.specs.{declared.cover.{Counting.Counting, Cover.Cover}, Counts.{AreCounts, StartsAt, WritesAt}, Orders.{Stands, orders_from, cleared}}
+use Rattle.lft_counts.specs.{declared.cover.{Counting.Counting, Cover.Cover}, Counts.{AreCounts, StartsRun, WritesAt}, Orders.{Stands, orders_from, cleared}}
 use Rattle.lft_counts.specs.{Overlaps.Overlap, Workers.{AllRun, AreByWorker}}
 
 -- the counts of reactions, ports and workers are those of the rows before place i
 pub record IsCounting (program : Parts) (t : List Row) (i : ℕ) (counting : Counting) : Type 0 where
   pub reactions : length counting.runs ≡ length program.reactions
-  pub runs : AreCounts (StartsAt t) i counting.runs
+  pub runs : AreCounts (StartsRun t) i counting.runs
   pub ports : length counting.writes ≡ length program.ports
   pub writes : AreCounts (WritesAt t) i counting.writes
   pub workers : AreByWorker t i counting.workers
@@ -22,8 +22,8 @@ pub record IsCover (program : Parts) (t : List Row) (cover : Cover) : Type 0 whe
   pub inputs : length cover.inputs.items ≡ length program.reactions
 
 -- the orders are those of the short lists of a graph, in order
-abbrev pub IsListed : GraphParts → Cover → Type 0
-IsListed graph cover = map cleared cover.orders.all.items ≡ orders_from 0 graph.before
+abbrev pub ListsOrders : GraphParts → Cover → Type 0
+ListsOrders graph cover = map cleared cover.orders.all.items ≡ orders_from 0 graph.before
 
 -- the counts are those of the first n rows, and the orders are those of the program's graph
 pub record CoversRows (program : Parts) (t : List Row) (n : ℕ) (cover : Cover) : Type 0 where
@@ -31,4 +31,4 @@ pub record CoversRows (program : Parts) (t : List Row) (n : ℕ) (cover : Cover)
   pub rows : cover.rows ≡ n
   pub graph : GraphParts
   pub is_graph : IsGraphOf program graph
-  pub listed : IsListed graph cover
+  pub listed : ListsOrders graph cover

@@ -4,7 +4,7 @@ ghost use Rattle.std.specs.Prelude.{◌≡◌, ◌+◌, ◌≤◌, ◌<◌, ℕ,
 ghost use Rattle.lft_graph.specs.Graph.{IsGraphOf};
 ghost use Rattle.lft_ir.specs.{Parts.Parts, declared.{parts.{Value.Value, Name.TheVariants.Port}, steps.row.{Row.Row as TheRow, Step.TheVariants.Write}}};
 ghost use Rattle.lft_ir.specs.Steps.Fits.{RowFits, RowsFit};
-ghost use Rattle.lft_counts.specs.{inner.Counts.{Here, KeepsRows}, Orders.cleared, Cover.{IsCounting, IsCover, IsListed}};
+ghost use Rattle.lft_counts.specs.{inner.Counts.{Here, KeepsRows}, Orders.cleared, Cover.{IsCounting, IsCover, ListsOrders}};
 
 use crate::inputs::{ReadInputs, add_row, all_inputs};
 use crate::orders::Orders;
@@ -93,7 +93,7 @@ impl Cover {
         requires { IsGraphOf program.now graph.now }
         ensures covers { IfOk result (λ cover. (t : List TheRow) → IsCover program.now t cover) }
         ensures rows { IfOk result (λ cover. cover.rows ≡ 0) }
-        ensures listed { IfOk result (IsListed graph.now) }
+        ensures listed { IfOk result (ListsOrders graph.now) }
     {
         let counting = Counting::new(alloc, program)?;
         let orders = Orders::new(alloc, program, graph)?;

@@ -4,7 +4,8 @@ ghost use Rattle.std.specs.Prelude.{IfOk, OnOk, None, replicate, map, ◌≡◌,
 ghost use Rattle.lft_graph.specs.{Graph.IsGraphOf, Counts.Count};
 ghost use Rattle.lft_ir.specs.declared.steps.row.Row.{Row as TheRow};
 ghost use Rattle.lft_model.specs.Runs.{start_row};
-ghost use Rattle.lft_counts.specs.{inner.{Counts.{Here, KeepsRows}, Orders.IsHeld}, Orders.{IsApart, IsCounted, IsLast, Stands, cleared, orders_from, unmet}};
+ghost use Rattle.lft_counts.specs.inner.{Counts.{Here, KeepsRows}, Orders.IsOrderMet};
+ghost use Rattle.lft_counts.specs.Orders.{IsApart, IsCounted, IsLast, Stands, cleared, orders_from, unmet};
 
 use lft_graph::Graph;
 use lft_ir::Program;
@@ -154,7 +155,7 @@ impl Orders {
 
     /// Of how many orders both reactions ran at one tag.
     pub fn held(&self) -> usize
-        ensures { (t : List TheRow) (n i : ℕ) → Stands t n i self.now → Count (IsHeld t i self.now.all.items) (length self.now.all.items) result }
+        ensures { (t : List TheRow) (n i : ℕ) → Stands t n i self.now → Count (IsOrderMet t i self.now.all.items) (length self.now.all.items) result }
     {
         let mut many = 0;
         for place in 0..self.all.len() {

@@ -7,7 +7,7 @@ use Rattle.lft_lists.proofs.Places.{get_there}
 use Rattle.lft_graph.{specs.{Sets.Has, Counts.CountPairs}, proofs.Once.{Rows, once, pairs_same}}
 use Rattle.lft_ir.specs.declared.steps.row.Row.{Row}
 use Rattle.lft_counts.specs.{declared.overlaps.Overlaps.Overlaps, Counts.MeetsRun, Overlaps.{Overlap, met_by}}
-use Rattle.lft_coverage.specs.{Pairs.AreTogether, inner.Pairs.{HaveMet, IsCountedWith}}
+use Rattle.lft_coverage.specs.{Pairs.AreOpenTogether, inner.Pairs.{HaveMet, IsCountedWith}}
 
 module _ (overlaps : Overlaps) where
   -- no reaction is counted with itself
@@ -38,7 +38,7 @@ module _ (overlaps : Overlaps) where
   met_once n s rows = pairs_same (λ a b l m. out a b) (λ a b l m. back a b l) (once (IsCountedWith overlaps) alone apart n s rows)
 
   -- what is kept as met had open runs together
-  pub met_together : (t : List Row) (n i s : ℕ) → Overlap t n i overlaps → CountPairs (HaveMet overlaps) n s → CountPairs (AreTogether t i) n s
+  pub met_together : (t : List Row) (n i s : ℕ) → Overlap t n i overlaps → CountPairs (HaveMet overlaps) n s → CountPairs (AreOpenTogether t i) n s
   met_together t n i s so c = pairs_same (λ a b l m. there a b (omega arith) m) (λ a b l m. here a b (omega arith) m) c
     where
       met : (a b : ℕ) → b < n → Has (met_by overlaps b) a ↔ MeetsRun t i a b
@@ -46,10 +46,10 @@ module _ (overlaps : Overlaps) where
           let x = get_there overlaps.met.items b (let e = so.met.as_long in omega (arith, e)) in
           subst (λ (set : List ℕ). Has set a ↔ MeetsRun t i a b) (sym (ap (λ o. unwrap_or o []) x.1)) (so.met.right b x.0 x.1 a)
 
-      there : (a b : ℕ) → a < n → b < n → HaveMet overlaps a b → AreTogether t i a b
+      there : (a b : ℕ) → a < n → b < n → HaveMet overlaps a b → AreOpenTogether t i a b
       there a b l m (inl h) = inl ((met a b m).0 h)
       there a b l m (inr h) = inr ((met b a l).0 h)
 
-      here : (a b : ℕ) → a < n → b < n → AreTogether t i a b → HaveMet overlaps a b
+      here : (a b : ℕ) → a < n → b < n → AreOpenTogether t i a b → HaveMet overlaps a b
       here a b l m (inl x) = inl ((met a b m).1 x)
       here a b l m (inr x) = inr ((met b a l).1 x)

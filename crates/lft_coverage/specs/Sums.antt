@@ -3,7 +3,7 @@ use Rattle.std.specs.Prelude.{◌≡◌, ◌≢◌, ℕ, List, ◌++◌, length,
 use Rattle.lft_ir.specs.{Parts.Parts, declared.steps.row.Row.Row}
 use Rattle.lft_counts.specs.{declared.cover.Cover.Cover, Counts.IsOver, Orders.{Stands, IsApart}, Overlaps.Overlap}
 use Rattle.lft_graph.specs.{Counts.{Count, CountPairs}, Precedence.HaveOrder}
-use Rattle.lft_coverage.specs.Pairs.{AreTogether}
+use Rattle.lft_coverage.specs.Pairs.{AreOpenTogether}
 
 -- a word, a count, a word between, and the number that it is of
 abbrev pub share_words : List ℕ → ℕ → List ℕ → ℕ → List ℕ
@@ -40,6 +40,6 @@ pub record TellsSums (program : Parts) (cover : Cover) (told : List ℕ) : Type 
   pub fed_is : Count (IsReached program cover.counting.writes) (length program.ports) fed
   pub ports_are : Count (IsFed program) (length program.ports) ports
   pub apart_is : (t : List Row) (n i : ℕ) → Stands t n i cover.orders → Count (IsApart t i cover.orders.all.items) (length cover.orders.all.items) apart
-  pub together_is : (t : List Row) (i : ℕ) → Overlap t (length program.reactions) i cover.overlaps → CountPairs (AreTogether t i) (length program.reactions) together
+  pub together_is : (t : List Row) (i : ℕ) → Overlap t (length program.reactions) i cover.overlaps → CountPairs (AreOpenTogether t i) (length program.reactions) together
   pub pairs_are : CountPairs (λ a b. HaveOrder program a b → ⊥) (length program.reactions) pairs
   pub text : told ≡ sum_line ran (length program.reactions) fed ports apart (length cover.orders.all.items) together pairs ++ more

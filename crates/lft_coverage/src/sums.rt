@@ -4,7 +4,7 @@ ghost use Rattle.std.specs.Prelude.{◌≡◌, ◌<◌, ◌↔◌, ℕ, List, If
 ghost use Rattle.lft_ir.specs.declared.steps.row.Row.{Row as TheRow};
 ghost use Rattle.lft_graph.specs.{Counts.{Count, CountPairs}, Graph.IsGraphOf, Precedence.HaveOrder};
 ghost use Rattle.lft_counts.specs.{Counts.IsOver, Orders.{IsApart, Stands}, Overlaps.Overlap};
-ghost use Rattle.lft_coverage.specs.{inner.Facts.HasSets, Pairs.AreTogether, Sums.{IsFed, IsReached, origin_of}};
+ghost use Rattle.lft_coverage.specs.{inner.Facts.HasSets, Pairs.AreOpenTogether, Sums.{IsFed, IsReached, origin_of}};
 
 use crate::pairs::met_pairs;
 use lft_counts::{Cover, how_many};
@@ -135,7 +135,7 @@ impl Sums {
         ensures ports { IfOk result (λ sums. Count (IsFed program.now) (length program.now.ports) sums.fed.of) }
         ensures orders { IfOk result (λ sums. sums.apart.of ≡ length cover.now.orders.all.items) }
         ensures apart { IfOk result (λ sums. (t : List TheRow) (n i : ℕ) → Stands t n i cover.now.orders → Count (IsApart t i cover.now.orders.all.items) (length cover.now.orders.all.items) sums.apart.count) }
-        ensures together { IfOk result (λ sums. (t : List TheRow) (i : ℕ) → Overlap t (length program.now.reactions) i cover.now.overlaps → CountPairs (AreTogether t i) (length program.now.reactions) sums.together.count) }
+        ensures together { IfOk result (λ sums. (t : List TheRow) (i : ℕ) → Overlap t (length program.now.reactions) i cover.now.overlaps → CountPairs (AreOpenTogether t i) (length program.now.reactions) sums.together.count) }
         ensures unordered { IfOk result (λ sums. CountPairs (λ a b. HaveOrder program.now a b → ⊥) (length program.now.reactions) sums.together.of) }
     {
         let runs = cover.counting.runs.as_slice();

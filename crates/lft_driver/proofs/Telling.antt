@@ -4,7 +4,7 @@ use Rattle.lft_ir.specs.Parts.{Parts}
 use Rattle.lft_trace.specs.{Records.records_of, Traces.Table, declared.fault.TraceFault.TraceFault}
 use Rattle.lft_graph.{specs.{Precedence.HasNoLoop, Loops.IsLoop}, proofs.Cycles.is_cycle}
 use Rattle.lft_load.{specs.Meaning.{IsProgramOf, IsOnly}, proofs.Loading.under}
-use Rattle.lft_text_diagnostics.specs.Tables.Tables.{Begins, field_line, heading, line_words}
+use Rattle.lft_text_diagnostics.specs.Tables.Tables.{ContinuesFrom, field_line, heading, table_line_words}
 use Rattle.lft_driver.specs.{Meaning.{IsNoTrace, IsTrace, Mean}, Told.{HasNoOrder, HaveMeaning, HaveNoMeaning, IsNoTable, IsPlanned, IsUnplanned, TellsLoop}}
 use Rattle.lft_trace.specs.declared.fault.TraceFault.TheVariants as fault
 
@@ -74,15 +74,15 @@ of_none (Ok (Some x)) P Q f h = tt
 of_none (Err e) P Q f h = tt
 
 -- words that begin with a line aren't empty
-line_begins : (word : List ℕ) (n : ℕ) (rest : List ℕ) → line_words word n ++ rest ≢ []
+line_begins : (word : List ℕ) (n : ℕ) (rest : List ℕ) → table_line_words word n ++ rest ≢ []
 line_begins [] n rest e = absurd (cc)
 line_begins (x ∷ word) n rest e = absurd (cc)
 
-begun : (word : List ℕ) (n : ℕ) (words : List ℕ) → Begins (line_words word n) words → words ≢ []
+begun : (word : List ℕ) (n : ℕ) (words : List ℕ) → ContinuesFrom (table_line_words word n) words → words ≢ []
 begun word n words b e = line_begins word n b.0 (sym b.1 ∙ e)
 
 -- a fault of one field begins with its line
-begins_line : (word : List ℕ) (e : TraceFault) (n : ℕ) (words : List ℕ) → field_line e ≡ Some n → Begins (heading word e) words → words ≢ []
+begins_line : (word : List ℕ) (e : TraceFault) (n : ℕ) (words : List ℕ) → field_line e ≡ Some n → ContinuesFrom (heading word e) words → words ≢ []
 begins_line word (fault.BadEvent m) n words q b = begun word m words b
 begins_line word (fault.BadNumber m) n words q b = begun word m words b
 begins_line word (fault.UnknownName m) n words q b = begun word m words b
@@ -97,6 +97,6 @@ begins_line word fault.NotCsv n words q b = absurd (cc)
 begins_line word fault.NoMemory n words q b = absurd (cc)
 
 -- so a field is named, where none might be named if there were no words
-pub named : (word : List ℕ) (e : TraceFault) (n : ℕ) (words : List ℕ) (N : Type 0) → field_line e ≡ Some n → Begins (heading word e) words → (words ≡ []) ⊎ N → N
+pub named : (word : List ℕ) (e : TraceFault) (n : ℕ) (words : List ℕ) (N : Type 0) → field_line e ≡ Some n → ContinuesFrom (heading word e) words → (words ≡ []) ⊎ N → N
 named word e n words N q b (inl z) = absurd (begins_line word e n words q b z)
 named word e n words N q b (inr x) = x

@@ -2,7 +2,7 @@
 use Rattle.std.proofs.Common.{◌≡◌, ℕ, ◌+◌, ◌-◌, ◌<◌, ◌≤◌, List, ◌++◌, length, take, drop, refl, sym, ap, ◌∙◌, subst, arith}
 use native.Mathlib.Decide.{dec_lt}
 use Rattle.std.proofs.lemmas.List.{take-append-drop, drop-drop, length-take-le, take_at, drop_at}
-use Rattle.lft_driver.specs.Bundles.{IsLine, IsCut}
+use Rattle.lft_driver.specs.Bundles.{IsMarkerLine, IsCut}
 
 -- what stands round a marker
 pub parts_at : (text marker : List ℕ) (n : ℕ) → take (length marker) (drop n text) ≡ marker → text ≡ take n text ++ (marker ++ drop (n + length marker) text)
@@ -34,7 +34,7 @@ cut_once text marker before after other rest p q = (front, back)
     back = sym (drop_at marker after (length marker) refl) ∙ ap (λ x. drop (length marker) x) tails ∙ drop_at marker rest (length marker) refl
 
 -- a marker line gives the parts round it
-pub cut_at : (text marker : List ℕ) (n : ℕ) → n < length text → ((i : ℕ) → i < n → IsLine text marker i → ⊥) → IsLine text marker n → IsCut text marker (take n text) (drop (n + length marker) text)
+pub cut_at : (text marker : List ℕ) (n : ℕ) → n < length text → ((i : ℕ) → i < n → IsMarkerLine text marker i → ⊥) → IsMarkerLine text marker n → IsCut text marker (take n text) (drop (n + length marker) text)
 cut_at text marker n l first line =
     let e : length (take n text) ≡ n = length-take-le n text (omega arith) in
-    record { parts = parts_at text marker n line.is_marker; line = subst (λ k. IsLine text marker k) (sym e) line; first = λ i b. first i (subst (λ k. i < k) e b) }
+    record { parts = parts_at text marker n line.is_marker; line = subst (λ k. IsMarkerLine text marker k) (sym e) line; first = λ i b. first i (subst (λ k. i < k) e b) }

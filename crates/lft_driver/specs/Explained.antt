@@ -19,7 +19,7 @@ abbrev pub Guesses : PlanParts → List Row → Breach → List ℕ → Type 0
 Guesses plan rows b guess = ((guess ≡ []) × ((hint : Hint) → IsHint plan rows b hint → ⊥)) ⊎ IsGuess plan rows b guess
 
 -- the text tells the facts behind the breach, and behind them a guess exactly where a hint holds
-pub record Tells (all : Bool) (plan : PlanParts) (rows : List Row) (b : Breach) (text : List ℕ) : Type 0 where
+pub record TellsBreach (all : Bool) (plan : PlanParts) (rows : List Row) (b : Breach) (text : List ℕ) : Type 0 where
   pub why : List ℕ
   pub guess : List ℕ
   pub explains : Explains all plan rows b why
@@ -28,7 +28,7 @@ pub record Tells (all : Bool) (plan : PlanParts) (rows : List Row) (b : Breach) 
 
 -- an empty line and what explains the breach
 abbrev pub AreReasons : Bool → PlanParts → List Row → Breach → List ℕ → Type 0
-AreReasons all plan rows b text = (why : List ℕ) × Tells all plan rows b why × (text ≡ codes "\n" ++ why)
+AreReasons all plan rows b text = (why : List ℕ) × TellsBreach all plan rows b why × (text ≡ codes "\n" ++ why)
 
 -- what stands behind the line of a verdict: for a broken rule what explains the breach, else nothing
 abbrev pub StandsBehind : Bool → PlanParts → List Row → Verdict → List ℕ → Type 0

@@ -30,9 +30,9 @@ abbrev pub IsJudged : List ℕ → List ℕ → List ℕ → Option (List ℕ) �
 IsJudged program externals trace old new verdict = OfOnly (IsPlanOf program externals) (λ plan. IsJudgedUnder plan trace old new verdict)
 
 -- true is the answer where the verdict on the three texts, whose line was written, accepts, and false where it doesn't
-abbrev pub IsAccepted : List ℕ → List ℕ → List ℕ → Option (List ℕ) → Option (List ℕ) → Bool → Type 0
-IsAccepted program externals trace old new answer = (verdict : Verdict) × IsJudged program externals trace old new verdict × (IsTrue answer ↔ Accepts verdict)
+abbrev pub IsAcceptedAnswer : List ℕ → List ℕ → List ℕ → Option (List ℕ) → Option (List ℕ) → Bool → Type 0
+IsAcceptedAnswer program externals trace old new answer = (verdict : Verdict) × IsJudged program externals trace old new verdict × (IsTrue answer ↔ Accepts verdict)
 
 -- the three texts of a bundle are judged, and true is answered exactly where they are accepted
 abbrev pub IsBundleAccepted : List ℕ → Option (List ℕ) → Option (List ℕ) → Bool → Type 0
-IsBundleAccepted text old new answer = (program externals trace : List ℕ) × IsBundle text program externals trace × IsAccepted program externals trace old new answer
+IsBundleAccepted text old new answer = (program externals trace : List ℕ) × IsBundle text program externals trace × IsAcceptedAnswer program externals trace old new answer

@@ -24,19 +24,19 @@ rule_name rule =
     else []
 
 -- the line of the table, where a rule is broken at a row
-abbrev pub row_words : ℕ → List ℕ
-row_words row = if nat_eq row 0 then [] else field (codes " line=") row
+abbrev pub broken_row_words : ℕ → List ℕ
+broken_row_words row = if nat_eq row 0 then [] else field (codes " line=") row
 
 -- the reaction that breaks a rule, by its name; a collision is of none
-abbrev pub reaction_words : Parts → Option ℕ → List ℕ
-reaction_words program None = codes " (outside the profile)"
-reaction_words program (Some r) = codes " reaction=" ++ reaction_name program r
+abbrev pub breaking_reaction_words : Parts → Option ℕ → List ℕ
+breaking_reaction_words program None = codes " (outside the profile)"
+breaking_reaction_words program (Some r) = codes " reaction=" ++ reaction_name program r
 
 -- a broken rule: its number and name, the line or none, the tag, and the reaction
 abbrev pub breach_words : Parts → Breach → List ℕ
 breach_words program b =
-    field (codes "broken rule=") b.rule ++ codes " " ++ rule_name b.rule ++ row_words b.row
-    ++ field (codes " time=") b.tag.time ++ field (codes " microstep=") b.tag.micro ++ reaction_words program b.reaction ++ codes "\n"
+    field (codes "broken rule=") b.rule ++ codes " " ++ rule_name b.rule ++ broken_row_words b.row
+    ++ field (codes " time=") b.tag.time ++ field (codes " microstep=") b.tag.micro ++ breaking_reaction_words program b.reaction ++ codes "\n"
 
 -- a trace without a breach: how many runs and how many tags with a run
 abbrev pub accepted_words : ℕ → ℕ → List ℕ

@@ -6,7 +6,7 @@ use Rattle.lft_ir.specs.declared.steps.row.Row.{Row}
 use Rattle.lft_model.specs.Plans.{PlanParts}
 use Rattle.lft_driver.specs.{Explained.{AreReasons, Writes}, declared.paired.Paired.Paired, Lines.line_of_pair, PairRefusals.TracesRefusal}
 use Rattle.lft_driver.specs.{Pairs.{HaveTables, IsPairing, SaysSame}, Refusals.CheckRefusal}
-use Rattle.lft_report.specs.Shortened.{shown}
+use Rattle.lft_report.specs.Shortened.{shown_part}
 use Rattle.lft_pair.specs.Shown.{ShowsDifference}
 use Rattle.lft_load.specs.{Meaning.{IsPlanOf, OfOnly}, Refusals.LoadRefusal, Written.AppendsFront, declared.fault.Fault.Fault}
 use Rattle.lft_load.specs.declared.fault.Part.TheVariants as part
@@ -14,7 +14,7 @@ use Rattle.lft_driver.specs.declared.paired.Paired.TheVariants as paired
 
 -- an empty line and what shows a difference: all of it, or the first 60 lines and how many others there are
 abbrev pub AreAnswers : Bool → PlanParts → List Row → List Row → Tag → ℕ → List ℕ → Type 0
-AreAnswers all plan rows others g r text = (what : List ℕ) × ShowsDifference plan rows others g r what × (text ≡ codes "\n" ++ shown all what)
+AreAnswers all plan rows others g r text = (what : List ℕ) × ShowsDifference plan rows others g r what × (text ≡ codes "\n" ++ shown_part all what)
 
 -- what stands behind the line of two traces: for a broken rule what explains the breach of that trace, for a difference what shows it, else nothing
 abbrev pub StandsBehind : Bool → PlanParts → List Row → List Row → Paired → List ℕ → Type 0

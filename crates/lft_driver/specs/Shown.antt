@@ -13,8 +13,8 @@ abbrev pub port_name : Parts → ℕ → List ℕ
 port_name program p = unwrap_or (slice_get program.names.ports p) []
 
 -- a port of this number: its name, where its chain of connections begins, and the folded delays of that chain
-abbrev pub port_words : Parts → ℕ × PortOf → List ℕ
-port_words program d =
+abbrev pub shown_port_words : Parts → ℕ × PortOf → List ℕ
+shown_port_words program d =
     codes "port " ++ port_name program d.0 ++ codes " origin=" ++ port_name program d.1.origin
     ++ field (codes " after=") d.1.shift.time ++ field (codes "+") d.1.shift.steps ++ codes "\n"
 
@@ -24,18 +24,18 @@ before_words program [] = codes "-"
 before_words program (r ∷ rs) = names_words program (r ∷ rs)
 
 -- a reaction: its name, its level, and the reactions just before it
-abbrev pub reaction_words : Parts → ℕ → ℕ → List ℕ → List ℕ
-reaction_words program r level before =
+abbrev pub shown_reaction_words : Parts → ℕ → ℕ → List ℕ → List ℕ
+shown_reaction_words program r level before =
     codes "reaction " ++ reaction_name program r ++ field (codes " level=") level
     ++ codes " before=" ++ before_words program before ++ codes "\n"
 
 -- a reaction of this number, by the graph
 abbrev pub reaction_line : Parts → GraphParts → ℕ × Reaction → List ℕ
-reaction_line program graph d = reaction_words program d.0 (get_or graph.levels d.0 0) (get_or graph.before d.0 [])
+reaction_line program graph d = shown_reaction_words program d.0 (get_or graph.levels d.0 0) (get_or graph.before d.0 [])
 
 -- a line for each port, in the order of their numbers
 abbrev pub port_lines : Parts → List ℕ
-port_lines program = flat_map (port_words program) (enumerate_from 0 program.ports)
+port_lines program = flat_map (shown_port_words program) (enumerate_from 0 program.ports)
 
 -- a line for each port, then a line for each reaction, in the order of their numbers
 abbrev pub show_words : Parts → GraphParts → List ℕ
@@ -46,13 +46,13 @@ abbrev pub instance_line : List ℕ → List ℕ
 instance_line name = codes "instance " ++ name ++ codes "\n"
 
 -- the kind of an action
-abbrev pub kind_words : Bool → List ℕ
-kind_words physical = if physical then codes "physical" else codes "logical"
+abbrev pub action_kind_words : Bool → List ℕ
+action_kind_words physical = if physical then codes "physical" else codes "logical"
 
 -- an action of this number: its name, its kind and its least delay
 abbrev pub action_line : Parts → ℕ × ActionOf → List ℕ
 action_line program d =
-    codes "action " ++ action_words program d.0 ++ codes " kind=" ++ kind_words d.1.physical
+    codes "action " ++ action_words program d.0 ++ codes " kind=" ++ action_kind_words d.1.physical
     ++ field (codes " least=") d.1.min_delay ++ codes "\n"
 
 -- a timer of this number: its name, its offset and its period
@@ -115,5 +115,5 @@ pub record IsShownProgram (all : Bool) (program : Parts) (old new : Option (List
   pub written : Appends old new (lines_of all program graph)
 
 -- the one program of the text was shown, its ports and its reactions
-abbrev pub IsShown : List ℕ → Option (List ℕ) → Option (List ℕ) → Type 0
-IsShown text old new = OfOnly (IsProgramOf text) (λ program. IsShownProgram false program old new)
+abbrev pub IsTextShown : List ℕ → Option (List ℕ) → Option (List ℕ) → Type 0
+IsTextShown text old new = OfOnly (IsProgramOf text) (λ program. IsShownProgram false program old new)

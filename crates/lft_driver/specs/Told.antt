@@ -5,7 +5,7 @@ use Rattle.lft_graph.specs.{Loops.IsLoop, Precedence.HasNoLoop}
 use Rattle.lft_trace.specs.{ExternalTables.{ExternalTable, ExternalFails}, Records.records_of, Traces.TraceFails, declared.fault.TraceFault.TraceFault}
 use Rattle.lft_model.specs.Plans.{PlanParts}
 use Rattle.lft_load.specs.Meaning.{IsPlanUnder, IsProgramOf, OfOnly}
-use Rattle.lft_text_diagnostics.specs.{Told.TellsProgram, Tables.Tables.{Begins, IsWrong, IsWrongThere, NamesField, field_line, heading}}
+use Rattle.lft_text_diagnostics.specs.{Told.TellsProgram, Tables.Tables.{ContinuesFrom, IsWrong, IsWrongThere, NamesField, field_line, heading}}
 use Rattle.lft_program_diagnostics.specs.{Reasons.IsToldOf, Loops.loop_words}
 use Rattle.lft_driver.specs.{Bundles.IsBundle, Markers.IsMissing, Meaning.{IsTrace, Mean}, declared.bundle.Marker.Marker}
 use Rattle.lft_driver.specs.declared.bundle.Marker.TheVariants as markers
@@ -52,14 +52,14 @@ pub record TellsLoop (program : Parts) (words : List ℕ) : Type 0 where
 pub record TellsExternals (program : Parts) (text words : List ℕ) : Type 0 where
   pub fault : TraceFault
   pub fails : ExternalFails program (records_of text) fault
-  pub heads : Begins (heading (codes "External inputs") fault) words
+  pub heads : ContinuesFrom (heading (codes "External inputs") fault) words
   pub field : (n : ℕ) → field_line fault ≡ Some n → NamesField (records_of text) (codes "External inputs") n (IsWrongThere fault) words
 
 -- the words begin with the first fault of a trace table, which is called by the word: its line, and the field where it is of one
 pub record TellsTrace (program : Parts) (text word words : List ℕ) : Type 0 where
   pub fault : TraceFault
   pub fails : TraceFails program (records_of text) fault
-  pub heads : Begins (heading word fault) words
+  pub heads : ContinuesFrom (heading word fault) words
   pub field : (n : ℕ) → field_line fault ≡ Some n → NamesField (records_of text) word n (IsWrong program fault) words
 
 -- the words tell why a program's text is refused, or of a loop of its reactions
@@ -79,8 +79,8 @@ abbrev pub IsPlanned : Parts → List ℕ → Type 0
 IsPlanned program externals = IsTable program externals × HasNoLoop program
 
 -- the words tell of the first of three texts that is refused; of a loop of the reactions before the trace
-abbrev pub TellsRefusal : List ℕ → List ℕ → List ℕ → List ℕ → Type 0
-TellsRefusal text externals trace words = TellsNoPlan text externals words ⊎ OfOnly (IsProgramOf text) (λ program. IsPlanned program externals × TellsTrace program trace (codes "Trace") words)
+abbrev pub TellsFirstRefused : List ℕ → List ℕ → List ℕ → List ℕ → Type 0
+TellsFirstRefused text externals trace words = TellsNoPlan text externals words ⊎ OfOnly (IsProgramOf text) (λ program. IsPlanned program externals × TellsTrace program trace (codes "Trace") words)
 
 -- the words tell why the first of two traces that is refused is
 abbrev pub TellsOneTrace : Parts → List ℕ → List ℕ → List ℕ → Type 0
@@ -106,7 +106,7 @@ pub record HasNoMeaning (text words : List ℕ) : Type 0 where
   pub trace : List ℕ
   pub is_bundle : IsBundle text program externals trace
   pub none : HaveNoMeaning program externals trace
-  pub tells : TellsRefusal program externals trace words
+  pub tells : TellsFirstRefused program externals trace words
 
 -- the words tell which marker the text lacks, or of a bundle whose three texts have no meaning
 abbrev pub IsBundleRefusal : List ℕ → List ℕ → Type 0

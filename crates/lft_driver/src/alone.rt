@@ -5,7 +5,7 @@ ghost use Rattle.std.specs.Io.KnownBytes.{Keeps};
 ghost use Rattle.lft_ir.specs.{Steps.Fits.RowsFit, declared.steps.row.Row.Row};
 ghost use Rattle.lft_model.specs.Plans.{PlanParts};
 ghost use Rattle.lft_check.specs.Verdicts.{IsVerdict};
-ghost use Rattle.lft_driver.specs.{inner.Accepting.{IsRight, IsUnjudged}, Meaning.{IsNoTrace, Mean}, Judged.{IsJudged, IsJudgedUnder}};
+ghost use Rattle.lft_driver.specs.{inner.Accepting.{IsRight, IsUnjudgedText}, Meaning.{IsNoTrace, Mean}, Judged.{IsJudged, IsJudgedUnder}};
 ghost use Rattle.lft_driver.specs.Refusals.{IsRefusedGrowth, JudgeRefusal, JudgeRefusalUnder};
 ghost use Rattle.lft_load.specs.Refusals.{is_of_text};
 ghost use Rattle.lft_load.specs.declared.fault.Part.TheVariants as part;
@@ -36,7 +36,7 @@ fn checked(alloc: Global, plan: &Plan, rows: &Rows) -> Result<Verdict, Fault>
 /// made.
 fn verdict_on(alloc: Global, plan: &Plan, trace: &[u8]) -> Result<Verdict, Fault>
     ensures right { IfOk result (IsRight plan.now trace.now) }
-    ensures refused { IfErr result (IsUnjudged plan.now trace.now 1) }
+    ensures refused { IfErr result (IsUnjudgedText plan.now trace.now 1) }
     ensures none { IfErr result (λ f. is_of_text f.part f.number ≡ true → IsNoTrace plan.now.program trace.now) }
 {
     if let Some(verdict) = accepted_text(alloc, plan, trace) {

@@ -1,7 +1,7 @@
 //! The three texts of a bundle.
 
 ghost use Rattle.std.specs.Prelude.{◌≡◌, ◌≢◌, ◌<◌, ◌↔◌, ◌++◌, ℕ, IsTrue, IfErr, IfOk, IfSome, IfNone, List, length, take, drop, codes};
-ghost use Rattle.lft_driver.specs.{Bundles.{BeginsLine, IsBundle, IsCut, IsLine}, Markers.IsMissing};
+ghost use Rattle.lft_driver.specs.{Bundles.{StartsLine, IsBundle, IsCut, IsMarkerLine}, Markers.IsMissing};
 
 const PROGRAM: &[u8] = b"--- program\n";
 
@@ -28,7 +28,7 @@ fn stands_at(text: &[u8], marker: &[u8], place: usize) -> bool
 /// Whether a line begins at the place: at the head of the text, or after a line feed.
 fn begins_line(text: &[u8], place: usize) -> bool
     requires { place < length text.now }
-    ensures { IsTrue result ↔ BeginsLine text.now place }
+    ensures { IsTrue result ↔ StartsLine text.now place }
 {
     place == 0 || text[place - 1] == b'\n'
 }
@@ -36,7 +36,7 @@ fn begins_line(text: &[u8], place: usize) -> bool
 /// Whether the line that begins at the place is the marker, which has its line feed.
 fn is_marker_line(text: &[u8], marker: &[u8], place: usize) -> bool
     requires { place < length text.now }
-    ensures { IsTrue result ↔ IsLine text.now marker.now place }
+    ensures { IsTrue result ↔ IsMarkerLine text.now marker.now place }
 {
     begins_line(text, place) && stands_at(text, marker, place)
 }

@@ -5,7 +5,7 @@ ghost use Rattle.std.specs.Io.KnownBytes.{Appends, Keeps};
 ghost use Rattle.lft_ir.specs.{Steps.Fits.RowsFit, declared.steps.row.Row.Row};
 ghost use Rattle.lft_model.specs.{Plans.PlanParts, declared.breach.Breach.Breach, Workers.IsWorkers};
 ghost use Rattle.lft_check.specs.{declared.verdict.Verdict.TheVariants.Broken, Verdicts.IsVerdict};
-ghost use Rattle.lft_driver.specs.{Lines.{line_of, HasReaction}, inner.Accepting.{IsRight, IsUnjudged}, Meaning.{HasTable, IsNoTrace, Mean}};
+ghost use Rattle.lft_driver.specs.{Lines.{line_of, HasReaction}, inner.Accepting.{IsRight, IsUnjudgedText}, Meaning.{HasTable, IsNoTrace, Mean}};
 ghost use Rattle.lft_driver.specs.Judged.{AcceptedRuns, Accepts, IsJudged, IsJudgedUnder};
 ghost use Rattle.lft_driver.specs.Refusals.{CheckRefusal, IsRefusedGrowth, JudgeRefusal, JudgeRefusalUnder, TraceRefusal};
 ghost use Rattle.lft_load.specs.{Refusals.is_of_text, Written.AppendsFront};
@@ -168,7 +168,7 @@ fn checked_table<R: Threads + Sync>(
 ) -> Result<Verdict, Fault>
     ensures right { IfOk result (IsRight plan.now trace.now) }
     ensures workers { OnOk result (IsWorkers workers) }
-    ensures refused { IfErr result (IsUnjudged plan.now trace.now workers) }
+    ensures refused { IfErr result (IsUnjudgedText plan.now trace.now workers) }
     ensures none { IfErr result (λ f. is_of_text f.part f.number ≡ true → IsNoTrace plan.now.program trace.now) }
 {
     match read_table(rt, alloc, plan, trace, workers) {

@@ -1,7 +1,7 @@
 //! The lines that are printed.
 
 ghost use Rattle.std.specs.Prelude.{◌≡◌, ◌++◌, ◌<◌, ℕ, IfOk, OnOk, Some, length, string_bytes};
-ghost use Rattle.lft_driver.specs.Lines.{accepted_words, breach_words, differ_words, line_of, line_of_pair, reaction_words, row_words, rule_name, same_words, HasReaction};
+ghost use Rattle.lft_driver.specs.Lines.{accepted_words, breach_words, differ_words, line_of, line_of_pair, breaking_reaction_words, broken_row_words, rule_name, same_words, HasReaction};
 ghost use Rattle.lft_driver.specs.inner.Pairs.{NamesReaction};
 ghost use Rattle.lft_model.specs.declared.breach.Breach.{Breach as TheBreach};
 ghost use Rattle.lft_check.specs.declared.verdict.Verdict.TheVariants.{Broken};
@@ -35,7 +35,7 @@ fn name_of_rule(rule: u8) -> &'static str
 
 /// Puts the line of the table at the end of a line, where a rule is broken at a row.
 fn push_row(line: &mut String, row: u64) -> Result<(), AllocError>
-    ensures { OnOk result (string_bytes line.new ≡ string_bytes line.old ++ row_words row) }
+    ensures { OnOk result (string_bytes line.new ≡ string_bytes line.old ++ broken_row_words row) }
 {
     if row != 0 {
         push_field(line, " line=", row)?;
@@ -50,7 +50,7 @@ fn push_reaction(
     reaction: Option<u32>,
 ) -> Result<(), AllocError>
     requires { HasReaction program.now reaction }
-    ensures { OnOk result (string_bytes line.new ≡ string_bytes line.old ++ reaction_words program.now reaction) }
+    ensures { OnOk result (string_bytes line.new ≡ string_bytes line.old ++ breaking_reaction_words program.now reaction) }
 {
     match reaction {
         Some(number) => {

@@ -4,7 +4,7 @@ ghost use Rattle.std.specs.Prelude.{◌≡◌, ◌++◌, ◌<◌, ℕ, Some, IfO
 ghost use Rattle.std.specs.List.{enumerate_from};
 ghost use Rattle.lft_ir.specs.declared.parts.{Action.Action as ActionOf, Reaction.Reaction as ReactionOf, Timer.Timer as TimerOf};
 ghost use Rattle.lft_graph.specs.Graph.{IsGraphOf};
-ghost use Rattle.lft_driver.specs.Shown.{action_line, all_words, effect_line, effect_word, instance_line, kind_words, link_words, reaction_lines, timer_line, trigger_line, trigger_name, use_line};
+ghost use Rattle.lft_driver.specs.Shown.{action_line, all_words, effect_line, effect_word, instance_line, action_kind_words, link_words, reaction_lines, timer_line, trigger_line, trigger_name, use_line};
 
 use crate::show::{push_line, push_ports};
 use lft_graph::Graph;
@@ -36,7 +36,7 @@ fn push_instances(text: &mut String, program: &Program) -> Result<(), AllocError
 
 /// The kind of an action.
 fn kind(physical: bool) -> &'static str
-    ensures { result.now ≡ kind_words physical }
+    ensures { result.now ≡ action_kind_words physical }
 {
     if physical { "physical" } else { "logical" }
 }

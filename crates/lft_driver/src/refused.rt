@@ -4,8 +4,8 @@ ghost use Rattle.std.specs.Prelude.{◌≡◌, ◌++◌, ◌⊎◌, ℕ, List, I
 ghost use Rattle.lft_graph.specs.Precedence.{HasNoLoop};
 ghost use Rattle.lft_trace.specs.Faults.{is_told};
 ghost use Rattle.lft_driver.specs.Meaning.{IsNoTrace, IsTrace};
-ghost use Rattle.lft_driver.specs.Told.{HasNoOrder, HasOrder, HaveMeaning, HaveNoMeaning, IsBundleRefusal, IsNoTable, IsPlanned, IsReadBundle, IsTable, IsUnplanned, TellsExternals, TellsInputsOrLoop, TellsLoop, TellsNoOrder, TellsOneTrace, TellsRefusal, TellsTrace, missing_words};
-ghost use Rattle.lft_driver.specs.inner.Told.{Reads};
+ghost use Rattle.lft_driver.specs.Told.{HasNoOrder, HasOrder, HaveMeaning, HaveNoMeaning, IsBundleRefusal, IsNoTable, IsPlanned, IsReadBundle, IsTable, IsUnplanned, TellsExternals, TellsInputsOrLoop, TellsLoop, TellsNoOrder, TellsOneTrace, TellsFirstRefused, TellsTrace, missing_words};
+ghost use Rattle.lft_driver.specs.inner.Told.{ReadsProgram};
 
 use crate::bundle::{Marker, has_returned_marker, read_bundle};
 use lft_graph::{Graph, GraphFault};
@@ -28,7 +28,7 @@ enum Start {
 
 /// What a program's text gives. It is read once: what is told is told of the fault at hand.
 fn read(alloc: Global, text: &[u8]) -> Result<Start, NoMemory>
-    ensures { IfOk result (Reads text.now) }
+    ensures { IfOk result (ReadsProgram text.now) }
 {
     let tokens = match lex(alloc, text) {
         Ok(tokens) => tokens,
@@ -159,7 +159,7 @@ pub fn refusal_of_texts(
     trace: &[u8],
 ) -> Result<Option<String>, NoMemory>
     ensures no_meaning { IfOk result (λ told. IfSome told (λ _. HaveNoMeaning program.now externals.now trace.now)) }
-    ensures tells { IfOk result (λ told. IfSome told (λ words. TellsRefusal program.now externals.now trace.now (string_bytes words))) }
+    ensures tells { IfOk result (λ told. IfSome told (λ words. TellsFirstRefused program.now externals.now trace.now (string_bytes words))) }
     ensures none { IfOk result (λ told. IfNone told (HaveMeaning program.now externals.now trace.now)) }
 {
     let flat = match read(alloc, program)? {

@@ -6,7 +6,7 @@ ghost use Rattle.lft_ir.specs.{Parts.Parts, declared.parts.{Port.Port as PortOf,
 ghost use Rattle.lft_graph.specs.{Graph.IsGraphOf, Precedence.HasNoLoop};
 ghost use Rattle.lft_load.specs.{Meaning.IsProgramOf, Refusals.is_of_text};
 ghost use Rattle.lft_driver.specs.Refusals.{ShowProgramRefusal, ShowRefusal};
-ghost use Rattle.lft_driver.specs.Shown.{IsShown, IsShownProgram, before_words, lines_of, port_lines, port_words, reaction_line, reaction_words, show_words};
+ghost use Rattle.lft_driver.specs.Shown.{IsTextShown, IsShownProgram, before_words, lines_of, port_lines, shown_port_words, reaction_line, shown_reaction_words, show_words};
 ghost use Rattle.lft_load.specs.declared.fault.Part.TheVariants as part;
 
 use crate::listing::all_lines;
@@ -19,7 +19,7 @@ use std::io::Write;
 /// Puts the line of a port at the end of a text.
 fn push_port(text: &mut String, program: &Program, number: u32) -> Result<(), AllocError>
     requires { number < length program.now.ports }
-    ensures { OnOk result ((port : PortOf) → slice_get program.now.ports number ≡ Some port → string_bytes text.new ≡ string_bytes text.old ++ port_words program.now (number, port)) }
+    ensures { OnOk result ((port : PortOf) → slice_get program.now.ports number ≡ Some port → string_bytes text.new ≡ string_bytes text.old ++ shown_port_words program.now (number, port)) }
 {
     let port = program.port(number);
     text.push_str("port ")?;
@@ -55,7 +55,7 @@ fn push_reaction(
 ) -> Result<(), AllocError>
     requires reaction { number < length program.now.reactions }
     requires before { (i r : ℕ) → slice_get before.now i ≡ Some r → r < length program.now.reactions }
-    ensures { OnOk result (string_bytes text.new ≡ string_bytes text.old ++ reaction_words program.now number level before.now) }
+    ensures { OnOk result (string_bytes text.new ≡ string_bytes text.old ++ shown_reaction_words program.now number level before.now) }
 {
     text.push_str("reaction ")?;
     push_name(text, program, number)?;
@@ -159,7 +159,7 @@ pub fn show_program<W: Write>(
 /// each reaction, with its level and the reactions just before it. The fault is that of the first
 /// layer that refuses, in the order lex, syntax, program, graph, write.
 pub fn show_text<W: Write>(alloc: Global, program: &[u8], out: &mut W) -> Result<(), Fault>
-    ensures shown { OnOk result (IsShown program.now (W.contents out.old) (W.contents out.new)) }
+    ensures shown { OnOk result (IsTextShown program.now (W.contents out.old) (W.contents out.new)) }
     ensures refused { IfErr result (ShowRefusal program.now (W.contents out.old) (W.contents out.new)) }
     ensures none { IfErr result (λ f. is_of_text f.part f.number ≡ true → (parts : Parts) → IsProgramOf program.now parts → HasNoLoop parts → ⊥) }
     ensures kept { IfErr result (λ f. f.part ≢ part.Write → Keeps (W.contents out.old) (W.contents out.new)) }

@@ -3,7 +3,7 @@ use Rattle.std.proofs.Common.{◌≡◌, ℕ, zero, suc, ◌+◌, ◌-◌, ◌*�
 use Rattle.std.{specs.Option.option_and_then, proofs.lemmas.List.map_push}
 use Rattle.lft_whole.specs.declared.tree.{Count.Count, Reference.Reference, Term.Term, Width.Width}
 use Rattle.lft_classes.specs.declared.shapes.{Shape.Shape, OwnThing.OwnThing}
-use Rattle.lft_elaborate.specs.inner.Places.{AreMany, HasPlaces, HavePlaces, IsCount, IsSum, IsMany, IsWidth, Widths, capped, count_in, how_many, how_many_inside, how_many_of, many, meaning_in, places_in, places_of, plus, sum_in, times, total, width_by, width_in, written_width}
+use Rattle.lft_elaborate.specs.inner.Places.{AreMany, HasPlaces, HavePlaces, IsCount, IsSum, IsMany, IsWidth, KnownWidths, capped, known_count, how_many, how_many_inside, how_many_of, many, meaning_in_setting, how_many_places, how_many_meant, plus, sum_in, capped_product, total_count, width_by, width_in, written_width}
 use Rattle.lft_elaborate.specs.inner.Values.{Valued, inside}
 use Rattle.lft_elaborate.specs.declared.meanings.Meaning.{Meaning}
 use Rattle.lft_whole.specs.declared.tree.Count.TheVariants as count
@@ -21,21 +21,21 @@ many_more : (a b : Option ℕ) (w : Option Width) (n : ℕ) → (a ≡ Some n �
 many_more a b None n h e = e
 many_more a b (Some w) n h e = h e
 
-times_more : (a b c d : Option ℕ) (n : ℕ) → ((k : ℕ) → a ≡ Some k → c ≡ Some k) → ((k : ℕ) → b ≡ Some k → d ≡ Some k) → times a b ≡ Some n → times c d ≡ Some n
+times_more : (a b c d : Option ℕ) (n : ℕ) → ((k : ℕ) → a ≡ Some k → c ≡ Some k) → ((k : ℕ) → b ≡ Some k → d ≡ Some k) → capped_product a b ≡ Some n → capped_product c d ≡ Some n
 times_more None b c d n h i e = absurd (cc)
 times_more (Some x) None c d n h i e = absurd (cc)
-times_more (Some x) (Some y) c d n h i e = ap (λ o. times o d) (h x refl) ∙ ap (times (Some x)) (i y refl) ∙ e
+times_more (Some x) (Some y) c d n h i e = ap (λ o. capped_product o d) (h x refl) ∙ ap (capped_product (Some x)) (i y refl) ∙ e
 
 plus_more : (a b c d : Option ℕ) (n : ℕ) → ((k : ℕ) → a ≡ Some k → c ≡ Some k) → ((k : ℕ) → b ≡ Some k → d ≡ Some k) → plus a b ≡ Some n → plus c d ≡ Some n
 plus_more None b c d n h i e = absurd (cc)
 plus_more (Some x) None c d n h i e = absurd (cc)
 plus_more (Some x) (Some y) c d n h i e = ap (λ o. plus o d) (h x refl) ∙ ap (plus (Some x)) (i y refl) ∙ e
 
-total_more : {X : Type 0} (f g : X → Option ℕ) (xs : List X) (n : ℕ) → ((x : X) (k : ℕ) → f x ≡ Some k → g x ≡ Some k) → total (map f xs) ≡ Some n → total (map g xs) ≡ Some n
+total_more : {X : Type 0} (f g : X → Option ℕ) (xs : List X) (n : ℕ) → ((x : X) (k : ℕ) → f x ≡ Some k → g x ≡ Some k) → total_count (map f xs) ≡ Some n → total_count (map g xs) ≡ Some n
 total_more f g [] n h e = e
-total_more f g (x ∷ xs) n h e = plus_more (f x) (total (map f xs)) (g x) (total (map g xs)) n (h x) (λ k q. total_more f g xs k h q) e
+total_more f g (x ∷ xs) n h e = plus_more (f x) (total_count (map f xs)) (g x) (total_count (map g xs)) n (h x) (λ k q. total_more f g xs k h q) e
 
-module _ (shapes : List Shape) (f g : Widths) (h : (t : Valued) (m n : ℕ) → f t m ≡ Some n → g t m ≡ Some n) where
+module _ (shapes : List Shape) (f g : KnownWidths) (h : (t : Valued) (m n : ℕ) → f t m ≡ Some n → g t m ≡ Some n) where
   how_many_more : (t : Valued) (m n : ℕ) → how_many shapes f t m ≡ Some n → how_many shapes g t m ≡ Some n
   how_many_more t m n e = many_more (f t m) (g t m) (written_width shapes t m) n (h t m n) e
 
@@ -46,14 +46,14 @@ module _ (shapes : List Shape) (f g : Widths) (h : (t : Valued) (m n : ℕ) → 
   inside_more : (t : Valued) (instance port n : ℕ) → how_many_inside shapes f t instance port ≡ Some n → how_many_inside shapes g t instance port ≡ Some n
   inside_more t instance port n e = and_then_more (λ u. how_many shapes f u port) (λ u. how_many shapes g u port) (inside shapes t instance) n (λ u. how_many_more u port n) e
 
-  places_of_more : (t : Valued) (m : Meaning) (n : ℕ) → places_of shapes f t m ≡ Some n → places_of shapes g t m ≡ Some n
+  places_of_more : (t : Valued) (m : Meaning) (n : ℕ) → how_many_meant shapes f t m ≡ Some n → how_many_meant shapes g t m ≡ Some n
   places_of_more t (meaning.Own x) n e = how_many_of_more t x n e
   places_of_more t (meaning.Port i p) n e = times_more (how_many_inside shapes f t i p) (how_many shapes f t i) (how_many_inside shapes g t i p) (how_many shapes g t i) n (inside_more t i p) (how_many_more t i) e
 
-  places_more : (t : Valued) (r : Reference) (n : ℕ) → places_in shapes f t r ≡ Some n → places_in shapes g t r ≡ Some n
-  places_more t r n e = and_then_more (places_of shapes f t) (places_of shapes g t) (meaning_in shapes t r) n (λ m. places_of_more t m n) e
+  places_more : (t : Valued) (r : Reference) (n : ℕ) → how_many_places shapes f t r ≡ Some n → how_many_places shapes g t r ≡ Some n
+  places_more t r n e = and_then_more (how_many_meant shapes f t) (how_many_meant shapes g t) (meaning_in_setting shapes t r) n (λ m. places_of_more t m n) e
 
-  count_more : (t : Valued) (c : Count) (n : ℕ) → count_in shapes f t c ≡ Some n → count_in shapes g t c ≡ Some n
+  count_more : (t : Valued) (c : Count) (n : ℕ) → known_count shapes f t c ≡ Some n → known_count shapes g t c ≡ Some n
   count_more t (count.Number k) n e = e
   count_more t (count.Word w) n e = e
   count_more t (count.WidthOf r) n e = places_more t r n e
@@ -61,7 +61,7 @@ module _ (shapes : List Shape) (f g : Widths) (h : (t : Valued) (m n : ℕ) → 
   count_more t count.Open n e = absurd (cc)
 
   sum_more : (t : Valued) (terms : List Term) (n : ℕ) → sum_in shapes f t terms ≡ Some n → sum_in shapes g t terms ≡ Some n
-  sum_more t terms n e = total_more (λ (term : Term). count_in shapes f t term.count) (λ (term : Term). count_in shapes g t term.count) terms n (λ term. count_more t term.count) e
+  sum_more t terms n e = total_more (λ (term : Term). known_count shapes f t term.count) (λ (term : Term). known_count shapes g t term.count) terms n (λ term. count_more t term.count) e
 
   width_by_more : (t : Valued) (m n : ℕ) → width_by shapes f t m ≡ Some n → width_by shapes g t m ≡ Some n
   width_by_more t m n e = and_then_more (λ (w : Width). sum_in shapes f t w.terms.items) (λ (w : Width). sum_in shapes g t w.terms.items) (written_width shapes t m) n (λ w. sum_more t w.terms.items n) e
@@ -93,12 +93,12 @@ plus_none None n e = cc
 plus_none (Some x) n e = cc
 
 -- a count more at the end
-pub total_push : (xs : List (Option ℕ)) (a n : ℕ) → total xs ≡ Some a → total (xs ++ Some n ∷ []) ≡ Some (capped (a + n))
+pub total_push : (xs : List (Option ℕ)) (a n : ℕ) → total_count xs ≡ Some a → total_count (xs ++ Some n ∷ []) ≡ Some (capped (a + n))
 total_push [] a n e = let z : 0 ≡ a = cc in let s : n + 0 ≡ a + n = omega arith in ap (λ k. Some (capped k)) s
 total_push (None ∷ xs) a n e = absurd (cc)
-total_push (Some b ∷ xs) a n e = go (λ c q. total_push xs c n q) (total xs) refl e
+total_push (Some b ∷ xs) a n e = go (λ c q. total_push xs c n q) (total_count xs) refl e
   where
-    go : ((c : ℕ) → total xs ≡ Some c → total (xs ++ Some n ∷ []) ≡ Some (capped (c + n))) → (o : Option ℕ) → total xs ≡ o → plus (Some b) o ≡ Some a → plus (Some b) (total (xs ++ Some n ∷ [])) ≡ Some (capped (a + n))
+    go : ((c : ℕ) → total_count xs ≡ Some c → total_count (xs ++ Some n ∷ []) ≡ Some (capped (c + n))) → (o : Option ℕ) → total_count xs ≡ o → plus (Some b) o ≡ Some a → plus (Some b) (total_count (xs ++ Some n ∷ [])) ≡ Some (capped (a + n))
     go more None q p = absurd (plus_none (Some b) a p)
     go more (Some c) q p =
         let is : capped (b + c) ≡ a = cc in
@@ -107,35 +107,35 @@ total_push (Some b ∷ xs) a n e = go (λ c q. total_push xs c n q) (total xs) r
 -- ---- places, terms and widths
 
 -- of a thing of the reactor itself
-pub own_places : (shapes : List Shape) (t : Valued) (r : Reference) (x : OwnThing) (n : ℕ) → meaning_in shapes t r ≡ Some (meaning.Own x) → AreMany shapes t x n → HasPlaces shapes t r n
-own_places shapes t r x n is (d, p) = (d, ap (option_and_then (places_of shapes (width_in shapes d) t)) is ∙ p)
+pub own_places : (shapes : List Shape) (t : Valued) (r : Reference) (x : OwnThing) (n : ℕ) → meaning_in_setting shapes t r ≡ Some (meaning.Own x) → AreMany shapes t x n → HasPlaces shapes t r n
+own_places shapes t r x n is (d, p) = (d, ap (option_and_then (how_many_meant shapes (width_in shapes d) t)) is ∙ p)
 
 -- of a port of an instance
-pub port_places : (shapes : List Shape) (t u : Valued) (r : Reference) (i p n k : ℕ) → meaning_in shapes t r ≡ Some (meaning.Port i p) → inside shapes t i ≡ Some u → IsMany shapes u p n → IsMany shapes t i k → HasPlaces shapes t r (capped (n * k))
+pub port_places : (shapes : List Shape) (t u : Valued) (r : Reference) (i p n k : ℕ) → meaning_in_setting shapes t r ≡ Some (meaning.Port i p) → inside shapes t i ≡ Some u → IsMany shapes u p n → IsMany shapes t i k → HasPlaces shapes t r (capped (n * k))
 port_places shapes t u r i p n k is is_inside (d, a) (e, b) =
     let x : how_many shapes (width_in shapes (d + e)) u p ≡ Some n = how_many_more shapes (width_in shapes d) (width_in shapes (d + e)) (deeper shapes d e) u p n a in
     let y : how_many shapes (width_in shapes (d + e)) t i ≡ Some k = how_many_more shapes (width_in shapes e) (width_in shapes (d + e)) (deeper_right shapes d e) t i k b in
-    (d + e, ap (option_and_then (places_of shapes (width_in shapes (d + e)) t)) is ∙ ap (λ o. times (option_and_then (λ v. how_many shapes (width_in shapes (d + e)) v p) o) (how_many shapes (width_in shapes (d + e)) t i)) is_inside ∙ ap (λ o. times o (how_many shapes (width_in shapes (d + e)) t i)) x ∙ ap (times (Some n)) y)
+    (d + e, ap (option_and_then (how_many_meant shapes (width_in shapes (d + e)) t)) is ∙ ap (λ o. capped_product (option_and_then (λ v. how_many shapes (width_in shapes (d + e)) v p) o) (how_many shapes (width_in shapes (d + e)) t i)) is_inside ∙ ap (λ o. capped_product o (how_many shapes (width_in shapes (d + e)) t i)) x ∙ ap (capped_product (Some n)) y)
 
 pub no_places : (shapes : List Shape) (t : Valued) → HavePlaces shapes t [] 0
 no_places shapes t = (0, refl)
 
 pub places_push : (shapes : List Shape) (t : Valued) (rs : List Reference) (r : Reference) (a n : ℕ) → HavePlaces shapes t rs a → HasPlaces shapes t r n → HavePlaces shapes t (rs ++ r ∷ []) (capped (a + n))
 places_push shapes t rs r a n (d, p) (e, q) =
-    let f : Reference → Option ℕ = places_in shapes (width_in shapes (d + e)) t in
-    let x : total (map f rs) ≡ Some a = total_more (places_in shapes (width_in shapes d) t) f rs a (places_more shapes (width_in shapes d) (width_in shapes (d + e)) (deeper shapes d e) t) p in
+    let f : Reference → Option ℕ = how_many_places shapes (width_in shapes (d + e)) t in
+    let x : total_count (map f rs) ≡ Some a = total_more (how_many_places shapes (width_in shapes d) t) f rs a (places_more shapes (width_in shapes d) (width_in shapes (d + e)) (deeper shapes d e) t) p in
     let y : f r ≡ Some n = places_more shapes (width_in shapes e) (width_in shapes (d + e)) (deeper_right shapes d e) t r n q in
-    (d + e, ap total (map_push f rs r) ∙ ap (λ o. total (map f rs ++ o ∷ [])) y ∙ total_push (map f rs) a n x)
+    (d + e, ap total_count (map_push f rs r) ∙ ap (λ o. total_count (map f rs ++ o ∷ [])) y ∙ total_push (map f rs) a n x)
 
 pub no_terms : (shapes : List Shape) (t : Valued) → IsSum shapes t [] 0
 no_terms shapes t = (0, refl)
 
 pub terms_push : (shapes : List Shape) (t : Valued) (terms : List Term) (term : Term) (a n : ℕ) → IsSum shapes t terms a → IsCount shapes t term.count n → IsSum shapes t (terms ++ term ∷ []) (capped (a + n))
 terms_push shapes t terms term a n (d, p) (e, q) =
-    let f : Term → Option ℕ = λ x. count_in shapes (width_in shapes (d + e)) t x.count in
-    let x : total (map f terms) ≡ Some a = sum_more shapes (width_in shapes d) (width_in shapes (d + e)) (deeper shapes d e) t terms a p in
+    let f : Term → Option ℕ = λ x. known_count shapes (width_in shapes (d + e)) t x.count in
+    let x : total_count (map f terms) ≡ Some a = sum_more shapes (width_in shapes d) (width_in shapes (d + e)) (deeper shapes d e) t terms a p in
     let y : f term ≡ Some n = count_more shapes (width_in shapes e) (width_in shapes (d + e)) (deeper_right shapes d e) t term.count n q in
-    (d + e, ap total (map_push f terms term) ∙ ap (λ o. total (map f terms ++ o ∷ [])) y ∙ total_push (map f terms) a n x)
+    (d + e, ap total_count (map_push f terms term) ∙ ap (λ o. total_count (map f terms ++ o ∷ [])) y ∙ total_push (map f terms) a n x)
 
 pub sum_width : (shapes : List Shape) (t : Valued) (m : ℕ) (w : Width) (n : ℕ) → written_width shapes t m ≡ Some w → IsSum shapes t w.terms.items n → IsWidth shapes t m n
 sum_width shapes t m w n is (d, e) = (suc d, ap (option_and_then (λ (v : Width). sum_in shapes (width_in shapes d) t v.terms.items)) is ∙ e)

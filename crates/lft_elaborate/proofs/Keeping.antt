@@ -10,7 +10,7 @@ use Rattle.lft_lists.proofs.Places.{get_last, get_push, get_push_cases, get_ther
 use Rattle.lft_classes.specs.{declared.{shapes.{Child.Child, Shape.Shape}, scopes.Class.Class}, inner.{Built.{cores, first_class}, Shapes.child_at}}
 use Rattle.lft_classes.proofs.Rows.{map_written}
 use Rattle.lft_elaborate.specs.declared.settings.{Setting.Setting, Settings.Settings}
-use Rattle.lft_elaborate.specs.inner.Noted.{Adds, GoesOn, GoesOnIf, AreMade, AreSettings, IsNoted, IsNumberOf, Known, Table, found_inside, noted_at, noted_for, only_inside, table}
+use Rattle.lft_elaborate.specs.inner.Noted.{Adds, GoesOn, GoesOnIf, AreMade, AreSettings, IsNoted, IsNumberOf, Known, SettingsTable, found_inside, noted_at, noted_for, only_inside, table}
 use Rattle.lft_elaborate.specs.inner.{Values.{IsUnsized, Valued, inside, main_setting, setting_of, values_inside}, Settings.{setting_in, valued}}
 use Rattle.lft_elaborate.proofs.Valuing.{alike, is_given}
 
@@ -27,10 +27,10 @@ number_stays old new stays t (Some k) n = (n.0, n.1, stays k n.0 n.2)
 pub noted_stays : (shapes : List Shape) (old new : List Setting) (s : Setting) → Stays old new → IsNoted shapes old s → IsNoted shapes new s
 noted_stays shapes old new s stays n = record { widths = n.widths; inner = λ m k e. number_stays old new stays (inside shapes (valued s) m) (Some k) (n.inner m k e) }
 
-pub goes_nowhere : (t : Table) → GoesOn t t
+pub goes_nowhere : (t : SettingsTable) → GoesOn t t
 goes_nowhere t = record { shapes = refl; stays = λ k u e. e; made = λ a. a }
 
-pub goes_further : (one two three : Table) → GoesOn one two → GoesOn two three → GoesOn one three
+pub goes_further : (one two three : SettingsTable) → GoesOn one two → GoesOn two three → GoesOn one three
 goes_further one two three a b = record {
   shapes = b.shapes ∙ a.shapes;
   stays = λ k t e. b.stays k t (a.stays k t e);
@@ -38,11 +38,11 @@ goes_further one two three a b = record {
 }
 
 -- where nothing in the table differs
-pub goes_same : (old new : Table) → new ≡ old → GoesOn old new
+pub goes_same : (old new : SettingsTable) → new ≡ old → GoesOn old new
 goes_same old new e = subst (GoesOn old) (sym e) (goes_nowhere old)
 
 -- where what is noted now is so
-pub goes_if : (P : Type 0) (one two three : Table) → GoesOn one two → GoesOnIf P two three → (AreMade one → P) → GoesOn one three
+pub goes_if : (P : Type 0) (one two three : SettingsTable) → GoesOn one two → GoesOnIf P two three → (AreMade one → P) → GoesOn one three
 goes_if P one two three a b holds = record {
   shapes = b.shapes ∙ a.shapes;
   stays = λ k t e. b.stays k t (a.stays k t e);
@@ -50,7 +50,7 @@ goes_if P one two three a b holds = record {
 }
 
 -- the settings stay those of a program
-pub goes_settings : (old new : Table) → GoesOn old new → AreSettings old → AreSettings new
+pub goes_settings : (old new : SettingsTable) → GoesOn old new → AreSettings old → AreSettings new
 goes_settings old new g a = record {
   main = subst (λ shapes. IsNumberOf new.settings (main_setting shapes) (Some 0)) (sym g.shapes) (number_stays old.settings new.settings g.stays (main_setting old.shapes) (Some 0) a.main);
   made = g.made a.made;
@@ -65,7 +65,7 @@ setting_of_number settings k s e = mapped valued settings k s e
 
 -- ---- a setting is written over, with the same shape and values
 
-module _ (P : Type 0) (old : Table) (k : ℕ) (s new_s : Setting) (is : slice_get old.settings k ≡ Some s) (shape : new_s.shape ≡ s.shape) (values : new_s.values ≡ s.values) (noted : P → IsNoted old.shapes old.settings s → IsNoted old.shapes old.settings new_s) where
+module _ (P : Type 0) (old : SettingsTable) (k : ℕ) (s new_s : Setting) (is : slice_get old.settings k ≡ Some s) (shape : new_s.shape ≡ s.shape) (values : new_s.values ≡ s.values) (noted : P → IsNoted old.shapes old.settings s → IsNoted old.shapes old.settings new_s) where
   written : List Setting
   written = slice_set old.settings k new_s
 
@@ -121,7 +121,7 @@ under values m = get_by (λ k. slice_cmp int_cmp values k.items) m
 abbrev pub IsPut : BTreeMap (Vec ℤ Global) ℕ → BTreeMap (Vec ℤ Global) ℕ → List ℤ → ℕ → Type 0
 IsPut m n values number = (q : Vec ℤ Global) → get_by (λ k. slice_cmp int_cmp q.items k.items) n ≡ cond (is_eq (slice_cmp int_cmp values q.items)) (Some number) (get_by (λ k. slice_cmp int_cmp q.items k.items) m)
 
-module _ (old mid : Table) (shape : ℕ) (values : List ℤ) (adds : Adds old mid shape values) (m n : BTreeMap (Vec ℤ Global) ℕ) (there : slice_get old.known shape ≡ Some m) (put : IsPut m n values (length old.settings)) (new : noted_for old.known shape values ≡ None) where
+module _ (old mid : SettingsTable) (shape : ℕ) (values : List ℤ) (adds : Adds old mid shape values) (m n : BTreeMap (Vec ℤ Global) ℕ) (there : slice_get old.known shape ≡ Some m) (put : IsPut m n values (length old.settings)) (new : noted_for old.known shape values ≡ None) where
   more : List Setting
   more = old.settings ++ adds.fresh ∷ []
 
@@ -211,20 +211,20 @@ module _ (old mid : Table) (shape : ℕ) (values : List ℤ) (adds : Adds old mi
   pub goes_added : GoesOn old (record mid { known = slice_set mid.known shape n })
   unfolding more known
   goes_added =
-      let is : record mid { known = slice_set mid.known shape n } ≡ record old { settings = more; known = known } = ap (λ (t : Table). record t { known = slice_set t.known shape n }) adds.settings in
+      let is : record mid { known = slice_set mid.known shape n } ≡ record old { settings = more; known = known } = ap (λ (t : SettingsTable). record t { known = slice_set t.known shape n }) adds.settings in
       subst (GoesOn old) (sym is) (record { shapes = refl; stays = stays_more; made = made_more })
 
-pub added_number : (old mid : Table) (shape : ℕ) (values : List ℤ) → Adds old mid shape values → setting_in mid.settings (length old.settings) ≡ Some (record { shape = shape; values = map (λ v. Some v) values })
+pub added_number : (old mid : SettingsTable) (shape : ℕ) (values : List ℤ) → Adds old mid shape values → setting_in mid.settings (length old.settings) ≡ Some (record { shape = shape; values = map (λ v. Some v) values })
 added_number old mid shape values adds =
     let last = setting_of_number (old.settings ++ adds.fresh ∷ []) (length old.settings) adds.fresh (get_last old.settings adds.fresh) in
     let is : valued adds.fresh ≡ record { shape = shape; values = map (λ v. Some v) values } = ap (λ k. record { shape = k; values = map (λ v. Some v) adds.fresh.values.items }) adds.shape_is ∙ ap (λ vs. record { shape = shape; values = map (λ v. Some v) vs }) adds.values_are in
-    ap (λ (t : Table). setting_in t.settings (length old.settings)) adds.settings ∙ last ∙ ap Some is
+    ap (λ (t : SettingsTable). setting_in t.settings (length old.settings)) adds.settings ∙ last ∙ ap Some is
 
 -- one setting more, where that can't be
-pub goes_never : (old mid : Table) (shape : ℕ) (values : List ℤ) → Adds old mid shape values → (AreMade old → ⊥) → GoesOn old mid
+pub goes_never : (old mid : SettingsTable) (shape : ℕ) (values : List ℤ) → Adds old mid shape values → (AreMade old → ⊥) → GoesOn old mid
 goes_never old mid shape values adds never = record {
-  shapes = ap (λ (t : Table). t.shapes) adds.settings;
-  stays = λ k u e. ap (λ (t : Table). setting_in t.settings k) adds.settings ∙ ap (λ l. slice_get l k) (map_push valued old.settings adds.fresh) ∙ get_push (map valued old.settings) (valued adds.fresh) k u e;
+  shapes = ap (λ (t : SettingsTable). t.shapes) adds.settings;
+  stays = λ k u e. ap (λ (t : SettingsTable). setting_in t.settings k) adds.settings ∙ ap (λ l. slice_get l k) (map_push valued old.settings adds.fresh) ∙ get_push (map valued old.settings) (valued adds.fresh) k u e;
   made = λ a. absurd (never a);
 }
 
@@ -244,7 +244,7 @@ none_known [] m empty h (suc shape) q = refl
 none_known (n ∷ ns) m empty h zero q = h zero q
 none_known (n ∷ ns) m empty h (suc shape) q = none_known ns m empty (λ s. h (suc s)) shape q
 
-pub made_none : (t : Table) → t.settings ≡ [] → length t.known ≡ length t.shapes → length t.only ≡ length t.shapes → ((shape : ℕ) (q : List ℤ) → noted_for t.known shape q ≡ None) → ((shape : ℕ) → noted_at t.only shape ≡ None) → AreMade t
+pub made_none : (t : SettingsTable) → t.settings ≡ [] → length t.known ≡ length t.shapes → length t.only ≡ length t.shapes → ((shape : ℕ) (q : List ℤ) → noted_for t.known shape q ≡ None) → ((shape : ℕ) → noted_at t.only shape ≡ None) → AreMade t
 made_none t empty known_long only_long known only = record {
   noted = λ k s e. let f : slice_get {X = Setting} [] k ≡ Some s = subst (λ l. slice_get l k ≡ Some s) empty e in absurd (cc);
   known_long = known_long;
@@ -272,7 +272,7 @@ noted_below : (list : List (Option ℕ)) (n k : ℕ) → noted_at list n ≡ Som
 noted_below list n k e = option_and_then_some (λ (o : Option ℕ). o) (slice_get list n) k e (λ o at _. slice_get_within list n o at)
 
 -- what is noted for a shape is the setting of each instance of it
-pub only_is_inside : (t : Table) (around : Valued) (m k : ℕ) (outer : Shape) (child : Child) → AreMade t → slice_get t.shapes around.shape ≡ Some outer → child_at outer.children.items m ≡ Some child → noted_at t.only child.shape ≡ Some k → IsNumberOf t.settings (inside t.shapes around m) (Some k)
+pub only_is_inside : (t : SettingsTable) (around : Valued) (m k : ℕ) (outer : Shape) (child : Child) → AreMade t → slice_get t.shapes around.shape ≡ Some outer → child_at outer.children.items m ≡ Some child → noted_at t.only child.shape ≡ Some k → IsNumberOf t.settings (inside t.shapes around m) (Some k)
 only_is_inside t around m k outer child a there is e =
     let low : child.shape < length t.shapes = (let l : child.shape < length t.only = noted_below t.only child.shape k e in let s = a.only_long in omega arith) in
     let inner = get_there t.shapes child.shape low in
@@ -327,7 +327,7 @@ pub first_shape : (shapes : List Shape) (class : Class) → first_class (cores s
 first_shape [] class e = absurd (cc)
 first_shape (x ∷ xs) class e = (x, refl)
 
-module _ (t0 t1 t2 t3 t4 : Table) (setting member inner : ℕ) (v : Valued) (g01 : GoesOn t0 t1) (g12 : GoesOn t1 t2) (low : setting < length t0.settings) (is : (t : Valued) → setting_in t0.settings setting ≡ Some t → Some v ≡ inside t0.shapes t member) (number : AreMade t1 → setting_in t2.settings inner ≡ Some v) (g23 : GoesOnIf ((t u : Valued) (m : ℕ) → inside t2.shapes t m ≡ Some u → u.shape ≡ v.shape → IsUnsized t2.shapes v.shape → setting_in t2.settings inner ≡ Some u) t2 t3) (g34 : GoesOnIf ((t : Valued) → setting_in t3.settings setting ≡ Some t → IsNumberOf t3.settings (inside t3.shapes t member) (Some inner)) t3 t4) where
+module _ (t0 t1 t2 t3 t4 : SettingsTable) (setting member inner : ℕ) (v : Valued) (g01 : GoesOn t0 t1) (g12 : GoesOn t1 t2) (low : setting < length t0.settings) (is : (t : Valued) → setting_in t0.settings setting ≡ Some t → Some v ≡ inside t0.shapes t member) (number : AreMade t1 → setting_in t2.settings inner ≡ Some v) (g23 : GoesOnIf ((t u : Valued) (m : ℕ) → inside t2.shapes t m ≡ Some u → u.shape ≡ v.shape → IsUnsized t2.shapes v.shape → setting_in t2.settings inner ≡ Some u) t2 t3) (g34 : GoesOnIf ((t : Valued) → setting_in t3.settings setting ≡ Some t → IsNumberOf t3.settings (inside t3.shapes t member) (Some inner)) t3 t4) where
   around : (x : Setting) × (slice_get t0.settings setting ≡ Some x)
   around = get_there t0.settings setting low
 

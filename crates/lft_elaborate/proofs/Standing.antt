@@ -2,8 +2,8 @@
 use Rattle.std.proofs.Common.{◌≡◌, ℕ, zero, suc, ◌*◌, List, [], ◌∷◌, ◌++◌, Option, Some, None, slice_get, refl, sym, ap, subst, ◌∙◌}
 use Rattle.std.specs.Prelude.{IfSome, is_some, false, unwrap_or}
 use Rattle.std.specs.Option.{option_and_then}
-use Rattle.lft_elaborate.specs.inner.{Channels.Channels.joined, Noted.{AreMade, IsNumberOf, Table, noted_at, table, GoesOn, GoesOnIf}}
-use Rattle.lft_elaborate.specs.inner.Places.{AreMany, HasPlaces, HasWidth, HavePlaces, IsCount, IsSum, HasPairs, IsMany, IsWidth, capped, many, meaning_in, member_in, plus, sum_in, times, width_in, written_width}
+use Rattle.lft_elaborate.specs.inner.{Channels.Channels.joined, Noted.{AreMade, IsNumberOf, SettingsTable, noted_at, table, GoesOn, GoesOnIf}}
+use Rattle.lft_elaborate.specs.inner.Places.{AreMany, HasPlaces, HasWidth, HavePlaces, IsCount, IsSum, HasPairs, IsMany, IsWidth, capped, many, meaning_in_setting, member_in, plus, sum_in, capped_product, width_in, written_width}
 use Rattle.lft_elaborate.specs.inner.{Settings.{setting_at, setting_in, shape_at, valued}, Widths.{member_at, width_at, found_width}, Values.{Valued, inside}}
 use Rattle.lft_elaborate.specs.declared.settings.{Setting.Setting, Settings.Settings}
 use Rattle.lft_elaborate.proofs.{Counting.{own_places, port_places, sum_width, terms_push}, Keeping.{goes_if, setting_from, setting_of_number}}
@@ -67,7 +67,7 @@ standing s k m i e = go (slice_get s.settings.items k) refl e
     go None q f = absurd (cc)
     go (Some x) q f = (valued x, setting_of_number s.settings.items k x q)
 
-module _ (t0 t1 : Table) (goes : GoesOn t0 t1) (setting : ℕ) (t : Valued) (made : AreMade t0) (at : setting_in t0.settings setting ≡ Some t) where
+module _ (t0 t1 : SettingsTable) (goes : GoesOn t0 t1) (setting : ℕ) (t : Valued) (made : AreMade t0) (at : setting_in t0.settings setting ≡ Some t) where
   -- what is counted later is counted of the same shapes
   pub many_then : (thing : OwnThing) (n : ℕ) → ((u : Valued) → AreMade t1 → setting_in t1.settings setting ≡ Some u → AreMany t1.shapes u thing n) → AreMany t0.shapes t thing n
   many_then thing n many = subst (λ shapes. AreMany shapes t thing n) goes.shapes (many t (goes.made made) (goes.stays setting t at))
@@ -82,7 +82,7 @@ module _ (t0 t1 : Table) (goes : GoesOn t0 t1) (setting : ℕ) (t : Valued) (mad
   count_then c n count = subst (λ shapes. IsCount shapes t c n) goes.shapes (count t (goes.made made) (goes.stays setting t at))
 
 -- a width that was found is one in the settings that there are then
-pub width_then : (t0 t1 : Table) → GoesOn t0 t1 → (setting m n : ℕ) (w : Width) (t : Valued) → setting_in t0.settings setting ≡ Some t → written_width t0.shapes t m ≡ Some w → AreMade t0 → (AreMade t0 → setting_in t0.settings setting ≡ Some t → IsSum t0.shapes t w.terms.items n) → (u : Valued) → setting_in t1.settings setting ≡ Some u → IsWidth t1.shapes u m n
+pub width_then : (t0 t1 : SettingsTable) → GoesOn t0 t1 → (setting m n : ℕ) (w : Width) (t : Valued) → setting_in t0.settings setting ≡ Some t → written_width t0.shapes t m ≡ Some w → AreMade t0 → (AreMade t0 → setting_in t0.settings setting ≡ Some t → IsSum t0.shapes t w.terms.items n) → (u : Valued) → setting_in t1.settings setting ≡ Some u → IsWidth t1.shapes u m n
 width_then t0 t1 goes setting m n w t at is made sum u there =
     let same : t ≡ u = same_some (setting_in t1.settings setting) t u (goes.stays setting t at) there in
     subst (λ (v : Valued). IsWidth t1.shapes v m n) same (subst (λ shapes. IsWidth shapes t m n) (sym goes.shapes) (sum_width t0.shapes t m w n is (sum made at)))
@@ -90,12 +90,12 @@ width_then t0 t1 goes setting m n w t at is made sum u there =
 -- ---- counts that may not be known yet
 
 -- how many places a thing of the reactor itself has, if its count is known
-pub own_count : (t0 t1 : Table) → GoesOn t0 t1 → (setting : ℕ) (r : Reference) (x : OwnThing) (a : Option ℕ) → ((u : Valued) → setting_in t1.settings setting ≡ Some u → meaning_in t1.shapes u r ≡ Some (meaning.Own x)) → IfSome a (λ n. (u : Valued) → AreMade t1 → setting_in t1.settings setting ≡ Some u → AreMany t1.shapes u x n) → IfSome a (λ n. (t : Valued) → AreMade t0 → setting_in t0.settings setting ≡ Some t → HasPlaces t0.shapes t r n)
+pub own_count : (t0 t1 : SettingsTable) → GoesOn t0 t1 → (setting : ℕ) (r : Reference) (x : OwnThing) (a : Option ℕ) → ((u : Valued) → setting_in t1.settings setting ≡ Some u → meaning_in_setting t1.shapes u r ≡ Some (meaning.Own x)) → IfSome a (λ n. (u : Valued) → AreMade t1 → setting_in t1.settings setting ≡ Some u → AreMany t1.shapes u x n) → IfSome a (λ n. (t : Valued) → AreMade t0 → setting_in t0.settings setting ≡ Some t → HasPlaces t0.shapes t r n)
 own_count t0 t1 goes setting r x None is many = tt
 own_count t0 t1 goes setting r x (Some n) is many = λ t made at. places_then t0 t1 goes setting t made at r n (λ u made_one there. own_places t1.shapes u r x n (is u there) (many u made_one there))
 
 -- how many a port of an instance has, if both counts are known
-pub port_times : (t0 t1 : Table) → GoesOn t0 t1 → (setting inner : ℕ) (r : Reference) (i p : ℕ) (a b : Option ℕ) → ((u : Valued) → setting_in t1.settings setting ≡ Some u → meaning_in t1.shapes u r ≡ Some (meaning.Port i p)) → ((u : Valued) → AreMade t1 → setting_in t1.settings setting ≡ Some u → IsNumberOf t1.settings (inside t1.shapes u i) (Some inner)) → IfSome a (λ n. (v : Valued) → AreMade t1 → setting_in t1.settings inner ≡ Some v → IsMany t1.shapes v p n) → IfSome b (λ k. (u : Valued) → AreMade t1 → setting_in t1.settings setting ≡ Some u → IsMany t1.shapes u i k) → IfSome (times a b) (λ n. (t : Valued) → AreMade t0 → setting_in t0.settings setting ≡ Some t → HasPlaces t0.shapes t r n)
+pub port_times : (t0 t1 : SettingsTable) → GoesOn t0 t1 → (setting inner : ℕ) (r : Reference) (i p : ℕ) (a b : Option ℕ) → ((u : Valued) → setting_in t1.settings setting ≡ Some u → meaning_in_setting t1.shapes u r ≡ Some (meaning.Port i p)) → ((u : Valued) → AreMade t1 → setting_in t1.settings setting ≡ Some u → IsNumberOf t1.settings (inside t1.shapes u i) (Some inner)) → IfSome a (λ n. (v : Valued) → AreMade t1 → setting_in t1.settings inner ≡ Some v → IsMany t1.shapes v p n) → IfSome b (λ k. (u : Valued) → AreMade t1 → setting_in t1.settings setting ≡ Some u → IsMany t1.shapes u i k) → IfSome (capped_product a b) (λ n. (t : Valued) → AreMade t0 → setting_in t0.settings setting ≡ Some t → HasPlaces t0.shapes t r n)
 port_times t0 t1 goes setting inner r i p None b is enters ports members = tt
 port_times t0 t1 goes setting inner r i p (Some n) None is enters ports members = tt
 port_times t0 t1 goes setting inner r i p (Some n) (Some k) is enters ports members = λ t made at. places_then t0 t1 goes setting t made at r (capped (n * k)) (λ u made_one there.
@@ -103,13 +103,13 @@ port_times t0 t1 goes setting inner r i p (Some n) (Some k) is enters ports memb
     port_places t1.shapes u e.0 r i p n k (is u there) e.1 (ports e.0 made_one e.2) (members u made_one there))
 
 -- how many terms are together with one more, if both counts are known
-pub terms_plus : (t0 t1 : Table) → GoesOn t0 t1 → (setting : ℕ) (terms : List Term) (term : Term) (a b : Option ℕ) → IfSome a (λ n. (t : Valued) → AreMade t0 → setting_in t0.settings setting ≡ Some t → IsSum t0.shapes t terms n) → IfSome b (λ n. (u : Valued) → AreMade t1 → setting_in t1.settings setting ≡ Some u → IsCount t1.shapes u term.count n) → IfSome (plus a b) (λ n. (t : Valued) → AreMade t0 → setting_in t0.settings setting ≡ Some t → IsSum t0.shapes t (terms ++ term ∷ []) n)
+pub terms_plus : (t0 t1 : SettingsTable) → GoesOn t0 t1 → (setting : ℕ) (terms : List Term) (term : Term) (a b : Option ℕ) → IfSome a (λ n. (t : Valued) → AreMade t0 → setting_in t0.settings setting ≡ Some t → IsSum t0.shapes t terms n) → IfSome b (λ n. (u : Valued) → AreMade t1 → setting_in t1.settings setting ≡ Some u → IsCount t1.shapes u term.count n) → IfSome (plus a b) (λ n. (t : Valued) → AreMade t0 → setting_in t0.settings setting ≡ Some t → IsSum t0.shapes t (terms ++ term ∷ []) n)
 terms_plus t0 t1 goes setting terms term None b sum count = tt
 terms_plus t0 t1 goes setting terms term (Some a) None sum count = tt
 terms_plus t0 t1 goes setting terms term (Some a) (Some n) sum count = λ t made at. terms_push t0.shapes t terms term a n (sum t made at) (count_then t0 t1 goes setting t made at term.count n count)
 
 -- a width is noted once its terms are counted
-pub close_goes : (s : Settings) (t1 t2 : Table) → GoesOn (table s) t1 → (k m : ℕ) (i : Inherited) (w : Width) (all : Option ℕ) → member_at s k m ≡ Some i → width_of i.member.now ≡ Some w → IfSome all (λ n. (t : Valued) → AreMade (table s) → setting_at s k ≡ Some t → IsSum s.shapes.items t w.terms.items n) → GoesOnIf (IfSome all (λ n. (u : Valued) → setting_in t1.settings k ≡ Some u → IsWidth t1.shapes u m n)) t1 t2 → GoesOn (table s) t2
+pub close_goes : (s : Settings) (t1 t2 : SettingsTable) → GoesOn (table s) t1 → (k m : ℕ) (i : Inherited) (w : Width) (all : Option ℕ) → member_at s k m ≡ Some i → width_of i.member.now ≡ Some w → IfSome all (λ n. (t : Valued) → AreMade (table s) → setting_at s k ≡ Some t → IsSum s.shapes.items t w.terms.items n) → GoesOnIf (IfSome all (λ n. (u : Valued) → setting_in t1.settings k ≡ Some u → IsWidth t1.shapes u m n)) t1 t2 → GoesOn (table s) t2
 close_goes s t1 t2 goes k m i w all there wide sum closes = goes_if _ (table s) t1 t2 goes closes (λ made. holds made all sum)
   where
     t : (t : Valued) × (setting_at s k ≡ Some t)
@@ -124,12 +124,12 @@ close_goes s t1 t2 goes k m i w all there wide sum closes = goes_if _ (table s) 
 
 -- ---- how many places and pairs there are
 
-pub port_channels : (t0 t1 t2 : Table) → GoesOn t0 t1 → GoesOn t1 t2 → (setting inner : ℕ) (t : Valued) → AreMade t0 → setting_in t0.settings setting ≡ Some t → (r : Reference) (i p n k : ℕ) → ((u : Valued) → setting_in t1.settings setting ≡ Some u → meaning_in t1.shapes u r ≡ Some (meaning.Port i p)) → ((u : Valued) → AreMade t1 → setting_in t1.settings setting ≡ Some u → IsNumberOf t1.settings (inside t1.shapes u i) (Some inner)) → ((v : Valued) → AreMade t1 → setting_in t1.settings inner ≡ Some v → IsMany t1.shapes v p n) → ((u : Valued) → AreMade t2 → setting_in t2.settings setting ≡ Some u → IsMany t2.shapes u i k) → HasPlaces t0.shapes t r (capped (n * k))
+pub port_channels : (t0 t1 t2 : SettingsTable) → GoesOn t0 t1 → GoesOn t1 t2 → (setting inner : ℕ) (t : Valued) → AreMade t0 → setting_in t0.settings setting ≡ Some t → (r : Reference) (i p n k : ℕ) → ((u : Valued) → setting_in t1.settings setting ≡ Some u → meaning_in_setting t1.shapes u r ≡ Some (meaning.Port i p)) → ((u : Valued) → AreMade t1 → setting_in t1.settings setting ≡ Some u → IsNumberOf t1.settings (inside t1.shapes u i) (Some inner)) → ((v : Valued) → AreMade t1 → setting_in t1.settings inner ≡ Some v → IsMany t1.shapes v p n) → ((u : Valued) → AreMade t2 → setting_in t2.settings setting ≡ Some u → IsMany t2.shapes u i k) → HasPlaces t0.shapes t r (capped (n * k))
 port_channels t0 t1 t2 one two setting inner t made at r i p n k is enters ports members = places_then t0 t1 one setting t made at r (capped (n * k)) (λ u made_one there.
     let e = enters u made_one there in
     port_places t1.shapes u e.0 r i p n k (is u there) e.1 (ports e.0 made_one e.2) (many_then t1 t2 two setting u made_one there (thing.Member i) k members))
 
-pub pairs_are : (t0 t1 : Table) → GoesOn t0 t1 → (setting : ℕ) (t : Valued) → AreMade t0 → setting_in t0.settings setting ≡ Some t → (c : Connection) (ls rs : List Reference) (left right n : ℕ) → ls ≡ c.sources.items → rs ≡ c.destinations.items → ((u : Valued) → AreMade t0 → setting_in t0.settings setting ≡ Some u → HavePlaces t0.shapes u ls left) → ((u : Valued) → AreMade t1 → setting_in t1.settings setting ≡ Some u → HavePlaces t1.shapes u rs right) → n ≡ joined left right c.is_broadcast → HasPairs t0.shapes t c n
+pub pairs_are : (t0 t1 : SettingsTable) → GoesOn t0 t1 → (setting : ℕ) (t : Valued) → AreMade t0 → setting_in t0.settings setting ≡ Some t → (c : Connection) (ls rs : List Reference) (left right n : ℕ) → ls ≡ c.sources.items → rs ≡ c.destinations.items → ((u : Valued) → AreMade t0 → setting_in t0.settings setting ≡ Some u → HavePlaces t0.shapes u ls left) → ((u : Valued) → AreMade t1 → setting_in t1.settings setting ≡ Some u → HavePlaces t1.shapes u rs right) → n ≡ joined left right c.is_broadcast → HasPairs t0.shapes t c n
 pairs_are t0 t1 goes setting t made at c ls rs left right n ls_are rs_are sources destinations pairs = record {
   left = left;
   right = right;

@@ -4,7 +4,7 @@ use Rattle.std.specs.Prelude.{IfNone, IfSome, option_map, unwrap_or}
 use Rattle.std.{specs.Option.option_and_then, proofs.lemmas.{Bool.cases_lt, Option.slice_get_within}}
 use Rattle.lft_lists.proofs.Places.{Some_same, get_there, same_some}
 use Rattle.lft_classes.{specs.{declared.shapes.{Shape.Shape, Inherited.Inherited}, inner.Walks.Has}, proofs.Walking.some_of}
-use Rattle.lft_elaborate.specs.inner.{Places.{AreMany, member_in}, Widths.member_at, Noted.{GoesOn, AreMade, AreSettings, IsNumberOf, Table, noted_for}}
+use Rattle.lft_elaborate.specs.inner.{Places.{AreMany, member_in}, Widths.member_at, Noted.{GoesOn, AreMade, AreSettings, IsNumberOf, SettingsTable, noted_for}}
 use Rattle.lft_elaborate.specs.inner.Settings.{setting_at, setting_in, shape_at, valued}
 use Rattle.lft_elaborate.specs.inner.Used.{AreMarked, HasInner, IsNumberIn, HasNumber, Stay, is_marked, AreUsed, IsIn, IsReached, main, within, is_instance, is_instance_in}
 use Rattle.lft_elaborate.specs.inner.Values.{Valued, inside, main_setting}
@@ -14,7 +14,7 @@ use Rattle.lft_whole.specs.declared.tree.Member.{Member}
 use Rattle.lft_classes.specs.declared.shapes.OwnThing.TheVariants as thing
 
 -- how far the list of those that are reached has come: what is in the first ones stands in it
-pub record Using (s : Table) (used : List ℕ) (marks : List Bool) (done : ℕ) : Type 0 where
+pub record Using (s : SettingsTable) (used : List ℕ) (marks : List Bool) (done : ℕ) : Type 0 where
   pub main : slice_get used 0 ≡ Some 0
   pub marked : AreMarked used marks
   pub reached : (k : ℕ) → Has used k → (t : Valued) × (setting_in s.settings k ≡ Some t) × IsReached s.shapes t
@@ -31,7 +31,7 @@ same_numbers {X} (x ∷ xs) (y ∷ ys) e =
     let tail : xs ≡ ys = same_numbers xs ys rest in
     cc
 
-pub one_number : (s : Table) → AreMade s → (k l : ℕ) (t : Valued) → setting_in s.settings k ≡ Some t → setting_in s.settings l ≡ Some t → k ≡ l
+pub one_number : (s : SettingsTable) → AreMade s → (k l : ℕ) (t : Valued) → setting_in s.settings k ≡ Some t → setting_in s.settings l ≡ Some t → k ≡ l
 one_number s a k l t p q =
     let x = setting_from s.settings k t p in
     let y = setting_from s.settings l t q in
@@ -58,7 +58,7 @@ begun_marked = record { listed = listed; marked = marked; once = once }
     once zero (suc j) k e f = absurd (cc)
     once (suc i) j k e f = absurd (cc)
 
-pub using_begun : (s : Table) → AreSettings s → Using s (0 ∷ []) (true ∷ []) 0
+pub using_begun : (s : SettingsTable) → AreSettings s → Using s (0 ∷ []) (true ∷ []) 0
 using_begun s a = record {
   main = refl;
   marked = begun_marked;
@@ -71,7 +71,7 @@ using_begun s a = record {
     only k (suc i) e = absurd (cc)
 
 -- the settings in one more stand in the list
-module _ (old new : Table) (used more : List ℕ) (marks new_marks : List Bool) (place setting : ℕ) (goes : GoesOn old new) (u : Using old used marks place) (at : slice_get used place ≡ Some setting) (marked : AreMarked more new_marks) (stay : Stay used more) (all : (t : Valued) → setting_in old.settings setting ≡ Some t → HasInner new more t) (only : (t : Valued) → setting_in old.settings setting ≡ Some t → (k : ℕ) → Has more k → Has used k ⊎ ((m : ℕ) × IsNumberIn old.shapes new.settings t m k)) where
+module _ (old new : SettingsTable) (used more : List ℕ) (marks new_marks : List Bool) (place setting : ℕ) (goes : GoesOn old new) (u : Using old used marks place) (at : slice_get used place ≡ Some setting) (marked : AreMarked more new_marks) (stay : Stay used more) (all : (t : Valued) → setting_in old.settings setting ≡ Some t → HasInner new more t) (only : (t : Valued) → setting_in old.settings setting ≡ Some t → (k : ℕ) → Has more k → Has used k ⊎ ((m : ℕ) × IsNumberIn old.shapes new.settings t m k)) where
   old_reached : (t : Valued) → IsReached old.shapes t → IsReached new.shapes t
   old_reached t r = subst (λ shapes. IsReached shapes t) (sym goes.shapes) r
 
@@ -109,7 +109,7 @@ module _ (old new : Table) (used more : List ℕ) (marks new_marks : List Bool) 
   using_more = record { main = stay 0 0 u.main; marked = marked; reached = reached_more; inner = inner_more }
 
 -- at the end all are there
-module _ (s : Table) (used : List ℕ) (marks : List Bool) (done : ℕ) (a : AreSettings s) (u : Using s used marks done) (end : length used ≤ done) where
+module _ (s : SettingsTable) (used : List ℕ) (marks : List Bool) (done : ℕ) (a : AreSettings s) (u : Using s used marks done) (end : length used ≤ done) where
   all_reached : (t : Valued) → IsReached s.shapes t → (k : ℕ) × Has used k × (setting_in s.settings k ≡ Some t)
   all_reached t (main e) = let same : a.main.0 ≡ t = same_some (main_setting s.shapes) a.main.0 t a.main.1 e in (0, (0, u.main), subst (λ v. setting_in s.settings 0 ≡ Some v) same a.main.2)
   all_reached t (within {t = around} m r is) =
@@ -137,7 +137,7 @@ none_in shapes t u m count many empty is =
     let some = is.some in
     omega (arith, same, empty, some)
 
-module _ (t0 t1 t2 : Table) (one : GoesOn t0 t1) (setting m count : ℕ) (inner : Option ℕ) (instance : (t : Valued) → setting_in t0.settings setting ≡ Some t → is_instance_in t0.shapes t m ≡ true) (many : (t : Valued) → AreMade t0 → setting_in t0.settings setting ≡ Some t → AreMany t0.shapes t (thing.Member m) count) (inside_is : (t : Valued) → AreMade t1 → setting_in t1.settings setting ≡ Some t → IsNumberOf t2.settings (inside t1.shapes t m) inner) where
+module _ (t0 t1 t2 : SettingsTable) (one : GoesOn t0 t1) (setting m count : ℕ) (inner : Option ℕ) (instance : (t : Valued) → setting_in t0.settings setting ≡ Some t → is_instance_in t0.shapes t m ≡ true) (many : (t : Valued) → AreMade t0 → setting_in t0.settings setting ≡ Some t → AreMany t0.shapes t (thing.Member m) count) (inside_is : (t : Valued) → AreMade t1 → setting_in t1.settings setting ≡ Some t → IsNumberOf t2.settings (inside t1.shapes t m) inner) where
   number_is : (t : Valued) → AreMade t0 → setting_in t0.settings setting ≡ Some t → IsNumberOf t2.settings (inside t0.shapes t m) inner
   number_is t made at = subst (λ shapes. IsNumberOf t2.settings (inside shapes t m) inner) one.shapes (inside_is t (one.made made) (one.stays setting t at))
 
@@ -147,7 +147,7 @@ module _ (t0 t1 t2 : Table) (one : GoesOn t0 t1) (setting m count : ℕ) (inner 
   pub inside_none : IfNone inner ((t u : Valued) → AreMade t0 → setting_in t0.settings setting ≡ Some t → IsIn t0.shapes t m u → ⊥)
   inside_none = none_if ((t u : Valued) → AreMade t0 → setting_in t0.settings setting ≡ Some t → IsIn t0.shapes t m u → ⊥) inner (λ none t u made at is. let n : inside t0.shapes t m ≡ None = subst (IsNumberOf t2.settings (inside t0.shapes t m)) none (number_is t made at) in let e = is.is_inside in cc)
 
-pub has_inside : (t0 t1 : Table) (t u : Valued) (m inner : ℕ) (used : List ℕ) → IsNumberIn t0.shapes t1.settings t m inner → IsIn t0.shapes t m u → (inner < length t1.settings → Has used inner) → HasNumber t1 used u
+pub has_inside : (t0 t1 : SettingsTable) (t u : Valued) (m inner : ℕ) (used : List ℕ) → IsNumberIn t0.shapes t1.settings t m inner → IsIn t0.shapes t m u → (inner < length t1.settings → Has used inner) → HasNumber t1 used u
 has_inside t0 t1 t u m inner used (v, is_v, at) is has =
     let same : v ≡ u = same_some (inside t0.shapes t m) v u is_v.is_inside is.is_inside in
     let x = setting_from t1.settings inner v at in
@@ -183,7 +183,7 @@ not_instance shapes t u m e is = let i = is.instance in cc
 
 -- ---- one member more
 
-module _ (t0 t1 t2 : Table) (one : GoesOn t0 t1) (two : GoesOn t1 t2) where
+module _ (t0 t1 t2 : SettingsTable) (one : GoesOn t0 t1) (two : GoesOn t1 t2) where
   pub inner_step : (used more : List ℕ) (t : Valued) (n : ℕ) → Stay used more → ((m : ℕ) (u : Valued) → m < n → IsIn t0.shapes t m u → HasNumber t1 used u) → ((u : Valued) → IsIn t1.shapes t n u → HasNumber t2 more u) → (m : ℕ) (u : Valued) → m < n + 1 → IsIn t0.shapes t m u → HasNumber t2 more u
   inner_step used more t n stay before here m u low is = elim (cases_lt m n) [
     | inl less ↦ let k = before m u less is in (k.0, (k.1.0, stay k.1.0 k.0 k.1.1), two.stays k.0 u k.2)
@@ -200,7 +200,7 @@ module _ (t0 t1 t2 : Table) (one : GoesOn t0 t1) (two : GoesOn t1 t2) where
   ]
 
 -- the settings that are used stay so
-pub used_goes : (t0 t1 : Table) → GoesOn t0 t1 → (used : List ℕ) → AreUsed t0 used → AreUsed t1 used
+pub used_goes : (t0 t1 : SettingsTable) → GoesOn t0 t1 → (used : List ℕ) → AreUsed t0 used → AreUsed t1 used
 used_goes t0 t1 g used u = record {
   main = u.main;
   reached = λ k h. let r = u.reached k h in (r.0, g.stays k r.0 r.1, subst (λ shapes. IsReached shapes r.0) (sym g.shapes) r.2);

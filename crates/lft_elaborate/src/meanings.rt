@@ -1,7 +1,7 @@
 //! What references of a reactor mean.
 
 ghost use Rattle.std.specs.Prelude.{◌≡◌, Some, IfErr, IfOk, option_map, string_bytes};
-ghost use Rattle.lft_elaborate.specs.inner.{Meanings.{meaning_of, port_in, port_of, shape_inside}, Refused.{IfRefused, IsAt, IsNoPort, IsUnmeant}};
+ghost use Rattle.lft_elaborate.specs.inner.{Meanings.{meaning_of, port_number_in, port_of, shape_inside}, Refused.{IfRefused, IsAt, IsNoPort, IsUnmeant}};
 ghost use Rattle.std.specs.Option.{option_and_then};
 
 use lft_classes::{OwnThing, Shape};
@@ -18,7 +18,7 @@ pub enum Meaning {
 
 /// The port of this name in a shape, by its number.
 fn port(shape: &Shape, name: &str) -> Option<usize>
-    ensures { result ≡ port_in shape.now name.now }
+    ensures { result ≡ port_number_in shape.now name.now }
 {
     match shape.find(name) {
         Some(OwnThing::Member(number)) => match shape.member(number) {

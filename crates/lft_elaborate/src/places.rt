@@ -1,7 +1,7 @@
 //! How many things references mean in a setting.
 
 ghost use Rattle.std.specs.Prelude.{◌≡◌, ◌≤◌, IfOk, OnOk, Some, option_map};
-ghost use Rattle.lft_elaborate.specs.inner.{Noted.{GoesOn, AreMade, IsNumberOf, table}, Places.{AreMany, HasPlaces, HavePlaces, meaning_in}};
+ghost use Rattle.lft_elaborate.specs.inner.{Noted.{GoesOn, AreMade, IsNumberOf, table}, Places.{AreMany, HasPlaces, HavePlaces, meaning_in_setting}};
 ghost use Rattle.lft_elaborate.specs.inner.{Settings.setting_at, Widths.member_at, Values.{Valued, inside}};
 
 use crate::meanings::{Meaning, meaning_of};
@@ -49,7 +49,7 @@ impl<'a> Settings<'a> {
         file: usize,
         reference: &Reference,
     ) -> Result<Meaning, NoProgram>
-        ensures { IfOk result (λ meaning. (t : Valued) → setting_at self.now setting ≡ Some t → meaning_in self.now.shapes.items t reference.now ≡ Some meaning) }
+        ensures { IfOk result (λ meaning. (t : Valued) → setting_at self.now setting ≡ Some t → meaning_in_setting self.now.shapes.items t reference.now ≡ Some meaning) }
     {
         let Some(shape) = self.shape_of(setting) else {
             return Err(NoProgram::at(Why::UnknownName, file, reference.head.at));

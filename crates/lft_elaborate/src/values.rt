@@ -2,7 +2,7 @@
 
 ghost use Rattle.std.specs.Prelude.{◌≡◌, ◌<◌, ℕ, IfErr, IfOk, map, None, Some, option_map, replicate, slice_get, vec_len};
 ghost use Rattle.lft_elaborate.specs.inner.Refused.{IsLacking, SaysNoNumber};
-ghost use Rattle.lft_elaborate.specs.inner.Values.{value_written, default_at, default_written, given_to, literal, main_value, main_values, number_in, number_named, signed, value_inside, values_inside};
+ghost use Rattle.lft_elaborate.specs.inner.Values.{value_for_parameter, default_at, default_written, given_to, literal, main_value, main_values, number_in, number_named, signed, value_inside, values_inside};
 
 use lft_classes::{Child, Shape};
 use lft_whole::sources::{NoProgram, Why};
@@ -156,7 +156,7 @@ fn inner_value(
     missing: NoProgram,
 ) -> Result<i64, NoProgram>
     ensures found { IfOk result (λ found. (option_map (λ value. value.now.value) value.entry ≡ given_to given.entry.child.now.given.items parameter) → value_inside given.entry.outer.now (map (λ v. Some v) given.entry.values.now) given.entry.child.now.given.items inner.now parameter ≡ Some found) }
-    ensures lacking { IfErr result (λ stop. SaysNoNumber None missing → (option_map (λ value. value.now.value) value.entry ≡ given_to given.entry.child.now.given.items parameter) → IsLacking (value_inside given.entry.outer.now (map (λ v. Some v) given.entry.values.now) given.entry.child.now.given.items inner.now parameter) (value_written given.entry.child.now.given.items inner.now parameter) stop) }
+    ensures lacking { IfErr result (λ stop. SaysNoNumber None missing → (option_map (λ value. value.now.value) value.entry ≡ given_to given.entry.child.now.given.items parameter) → IsLacking (value_inside given.entry.outer.now (map (λ v. Some v) given.entry.values.now) given.entry.child.now.given.items inner.now parameter) (value_for_parameter given.entry.child.now.given.items inner.now parameter) stop) }
 {
     // Instances that differ in such parameters alone share a setting, and a reactor of the core.
     if !inner.is_sized(parameter) {

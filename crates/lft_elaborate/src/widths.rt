@@ -2,7 +2,7 @@
 
 ghost use Rattle.std.specs.Prelude.{◌≡◌, ◌≤◌, ◌↔◌, ℕ, Some, IfErr, IfOk, IfSome, IsSome, OnOk, is_some, option_and_then};
 ghost use Rattle.lft_elaborate.specs.inner.Noted.{GoesOn, GoesOnIf, AreMade, table};
-ghost use Rattle.lft_elaborate.specs.inner.Places.{AreMany, HasPlaces, HasWidth, IsCount, IsSum, IsMany, IsWidth, parameter_in, plus, times};
+ghost use Rattle.lft_elaborate.specs.inner.Places.{AreMany, HasPlaces, HasWidth, IsCount, IsSum, IsMany, IsWidth, parameter_in, plus, capped_product};
 ghost use Rattle.lft_elaborate.specs.inner.{Refused.{IfRefused, IsOfWord}, Settings.setting_at, Widths.{member_at, width_at, found_width}, Values.Valued};
 ghost use Rattle.lft_elaborate.specs.Places.{natural};
 
@@ -24,7 +24,7 @@ fn plus(one: Option<u64>, other: Option<u64>) -> Option<u64>
 
 /// So many for each of so many, if both are known.
 fn times(one: Option<u64>, other: Option<u64>) -> Option<u64>
-    ensures { result ≡ times one other }
+    ensures { result ≡ capped_product one other }
 {
     Some(one?.saturating_mul(other?))
 }

@@ -54,19 +54,19 @@ impl Law for Stateless {
 
 /// What a run does.
 #[derive(Clone, Copy)]
-enum Work {
+enum RunWork {
     Measure(i64),
     Control,
     Heat,
 }
 
-impl Work {
+impl RunWork {
     /// The number that the run writes. The reads are the reaction's inputs in their order, triggers
     /// before uses, each with its value or absent.
     fn output(self, reads: &Reads) -> Option<i64> {
         match (self, reads.as_slice().first()) {
-            (Work::Measure(temperature), _) => Some(temperature),
-            (Work::Control, Some(Some(Value::Int(temperature)))) => {
+            (RunWork::Measure(temperature), _) => Some(temperature),
+            (RunWork::Control, Some(Some(Value::Int(temperature)))) => {
                 Some(22i64.saturating_sub(*temperature).max(0))
             }
             _ => None,
@@ -79,7 +79,7 @@ impl Work {
 #[derive(Drop)]
 struct Task {
     alloc: Global,
-    work: Work,
+    work: RunWork,
     output: Option<Name>,
 }
 
@@ -118,9 +118,9 @@ fn bodies_of(alloc: Global, program: &Program) -> Result<Bodies<Stateless, Task>
         let output = program.reaction(number).effects.as_slice().first().copied();
         for temperature in MEASURED {
             let work = match program.name_of_reaction(number) {
-                "main.sensor#1" => Work::Measure(temperature),
-                "main.control#1" => Work::Control,
-                _ => Work::Heat,
+                "main.sensor#1" => RunWork::Measure(temperature),
+                "main.control#1" => RunWork::Control,
+                _ => RunWork::Heat,
             };
             let task = Task {
                 alloc,

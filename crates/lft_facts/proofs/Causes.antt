@@ -16,7 +16,7 @@ use Rattle.lft_model.proofs.{Ended.{written_by, by_written, by_scheduled, schedu
 use Rattle.lft_rows.specs.declared.presence.causes.EventCause.{EventCause as Event}
 use Rattle.lft_rows.specs.inner.Presence.Causes.{tag_of, cause as cause_of, ComesUpTo, Leads, IsLastCause, IsCause, Carries, step_cause}
 use Rattle.lft_rows.proofs.PresenceLemmas.Presences.{ChainOf, port_cause, action_cause, carrier, row_of, event_of, step_place, step_schedules, none_leads}
-use Rattle.lft_facts.specs.{declared.facts.Cause.Cause, Facts.{IsCause as IsFactCause, IsWrittenIn, IsScheduledIn, IsGiven, FiresAfter}}
+use Rattle.lft_facts.specs.{declared.facts.Cause.Cause, Facts.{CauseHolds as IsFactCause, IsWrittenIn, IsScheduledIn, IsGiven, FiresAfter}}
 use Rattle.lft_facts.specs.inner.Enough.{GivesTrigger}
 use Rattle.lft_facts.specs.declared.facts.Cause.TheVariants as cause
 

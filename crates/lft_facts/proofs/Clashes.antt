@@ -12,7 +12,7 @@ use Rattle.lft_model.specs.{Plans.PlanParts, Presence.{value_written, scheduled,
 use Rattle.lft_rows.specs.declared.presence.causes.EventCause.{EventCause as Event}
 use Rattle.lft_rows.specs.inner.Presence.{Causes.{tag_of, ComesUpTo, AreCauses, Leads, IsLastCause, IsCause as IsEventCause}, Lookups.IsFirstCause}
 use Rattle.lft_rows.proofs.PresenceLemmas.{Presences.{ChainOf, port_cause_at, none_leads}, Twice.two_causes, Lookups.in_order}
-use Rattle.lft_facts.specs.{declared.facts.{Fact.Fact, Cause.Cause}, Facts.{IsShown, AreShown, IsWrittenIn, event_of}}
+use Rattle.lft_facts.specs.{declared.facts.{Fact.Fact, Cause.Cause}, Facts.{IsShown, AreShown, IsWrittenIn, event_of_cause}}
 use Rattle.lft_facts.specs.{inner.Enough.{Gives, GivesClash, AreOwnAt}, Enough.{IsOwn, AreOwn}}
 use Rattle.lft_facts.proofs.Causes.{written_from, scheduled_at, given_at, written_in}
 use Rattle.lft_facts.specs.declared.facts.Fact.TheVariants as fact
@@ -99,12 +99,12 @@ places_apart n g a x y f h xr xe yr ye apart e = go (cases_lt x n) (cases_lt y n
     go (inr l) (inl m) = let p : cause.Given g a (x - n) ≡ cause.Scheduled g a y = sym (xe l) ∙ e ∙ yr m in absurd (cc)
     go (inr l) (inr m) = let p : cause.Given g a (x - n) ≡ cause.Given g a (y - n) = sym (xe l) ∙ e ∙ ye m in let q : x - n ≡ y - n = cc in apart (omega arith)
 
-pub place_event : (n : ℕ) (g : Tag) (a x : ℕ) (f : Cause) → (x < n → f ≡ cause.Scheduled g a x) → (n ≤ x → f ≡ cause.Given g a (x - n)) → event_of f ≡ Some (g, Action a)
+pub place_event : (n : ℕ) (g : Tag) (a x : ℕ) (f : Cause) → (x < n → f ≡ cause.Scheduled g a x) → (n ≤ x → f ≡ cause.Given g a (x - n)) → event_of_cause f ≡ Some (g, Action a)
 place_event n g a x f xr xe = go (cases_lt x n)
   where
-    go : (x < n) ⊎ (n ≤ x) → event_of f ≡ Some (g, Action a)
-    go (inl l) = ap event_of (xr l)
-    go (inr l) = ap event_of (xe l)
+    go : (x < n) ⊎ (n ≤ x) → event_of_cause f ≡ Some (g, Action a)
+    go (inl l) = ap event_of_cause (xr l)
+    go (inr l) = ap event_of_cause (xe l)
 
 pub written_apart : (g : Tag) (p i j : ℕ) → i ≢ j → cause.Written g p i ≢ cause.Written g p j
 written_apart g p i j apart e = let q : i ≡ j = cc in apart q

@@ -6,15 +6,16 @@ use Rattle.lft_model.proofs.Places.{slice_get_within}
 use Rattle.lft_ir.specs.{Parts.{Parts, inputs}, Naming.named, Sound.{IsSound, IsNameOf, IsTriggerOf as IsKnown}}
 use Rattle.lft_ir.specs.declared.parts.{Reaction.Reaction, Name.{Name, TheVariants.Port}, Trigger.{Trigger, TheVariants.On}}
 use Rattle.lft_graph.{specs.Precedence.Feeds, proofs.Feeding.{from_trigger, to_trigger}}
-use Rattle.lft_facts.{specs.{Facts.{FeedsBy, IsTriggerOf}, inner.Ways.IsFed}, proofs.Giving.same_reaction}
+use Rattle.lft_facts.{specs.{Facts.FeedsBy, inner.Ways.IsFedUndelayed}, proofs.Giving.same_reaction}
+use Rattle.lft_races.specs.Hints.Hints.{HasTrigger}
 
 -- a reaction that may write and one that may read
 module _ (program : Parts) (sound : IsSound program) (a b : ℕ) (writer reader : Reaction) (is_writer : slice_get program.reactions a ≡ Some writer) (is_reader : slice_get program.reactions b ≡ Some reader) (effects : List Name) (are_effects : effects ≡ writer.effects) where
   -- what was found of an input
-  pub fed_by : (name : Name) → Contains (inputs reader) name → (o : Option ℕ) → IfSome o (λ p. (name ≡ Port p) × IsFed program effects name) → IfSome o (λ p. FeedsBy program a b p)
+  pub fed_by : (name : Name) → Contains (inputs reader) name → (o : Option ℕ) → IfSome o (λ p. (name ≡ Port p) × IsFedUndelayed program effects name) → IfSome o (λ p. FeedsBy program a b p)
   fed_by name m None f = f
   fed_by name m (Some p) f =
-      let fed : IsFed program effects (Port p) = subst (λ (n : Name). IsFed program effects n) f.0 f.1 in
+      let fed : IsFedUndelayed program effects (Port p) = subst (λ (n : Name). IsFedUndelayed program effects n) f.0 f.1 in
       record { writer = writer; reader = reader; is_writer = is_writer; is_reader = is_reader; origin = fed.0; is_effect = subst (λ (ns : List Name). Contains ns (Port fed.0)) are_effects fed.2; is_input = subst (λ (n : Name). Contains (inputs reader) n) f.0 m; undelayed = fed.1 }
 
   -- an input among the triggers
@@ -32,7 +33,7 @@ module _ (program : Parts) (sound : IsSound program) (a b : ℕ) (writer reader 
   use_known uses are k n e = (sound.exist b reader is_reader).uses n (contains_at reader.uses k n (ap (λ (xs : List Name). slice_get xs k) (sym are) ∙ e))
 
   -- no input is fed by the writer
-  pub not_fed : (triggers : List Trigger) → triggers ≡ reader.triggers → ((k : ℕ) (n : Name) → k < length triggers → slice_get triggers k ≡ Some (On n) → ¬ IsFed program effects n) → (uses : List Name) → uses ≡ reader.uses → ((k : ℕ) (n : Name) → k < length uses → slice_get uses k ≡ Some n → ¬ IsFed program effects n) → ¬ Feeds program a b
+  pub not_fed : (triggers : List Trigger) → triggers ≡ reader.triggers → ((k : ℕ) (n : Name) → k < length triggers → slice_get triggers k ≡ Some (On n) → ¬ IsFedUndelayed program effects n) → (uses : List Name) → uses ≡ reader.uses → ((k : ℕ) (n : Name) → k < length uses → slice_get uses k ≡ Some n → ¬ IsFedUndelayed program effects n) → ¬ Feeds program a b
   not_fed triggers are none uses are_uses none_used f = go (Contains-append_cases (filter_map named reader.triggers) reader.uses (Port f.port) input)
     where
       input : Contains (inputs reader) (Port f.port)
@@ -62,7 +63,7 @@ module _ (own program : Parts) (same : program ≡ own) (sound : IsSound program
   pub any_trigger_known : (k : ℕ) (y : Trigger) → slice_get xs k ≡ Some y → IsKnown own y
   any_trigger_known k y e = subst (λ (z : Parts). IsKnown z y) same ((sound.exist r x is_reaction).triggers y (contains_at x.triggers k y (its k y e)))
 
-  pub is_trigger_of : (k : ℕ) (y : Trigger) → slice_get xs k ≡ Some y → IsTriggerOf own r y
+  pub is_trigger_of : (k : ℕ) (y : Trigger) → slice_get xs k ≡ Some y → HasTrigger own r y
   is_trigger_of k y e = record { reaction = x; is_reaction = own_reaction; is_trigger = contains_at x.triggers k y (its k y e) }
 
   pub triggered_at : (z : Reaction) → slice_get own.reactions r ≡ Some z → (y : Trigger) → Contains z.triggers y → (k : ℕ) × (k < length xs) × (slice_get xs k ≡ Some y)

@@ -10,7 +10,7 @@ use Rattle.lft_model.{specs.{declared.breach.Breach.Breach, Plans.PlanParts}, pr
 use Rattle.lft_graph.specs.Precedence.{Precedes}
 use Rattle.lft_races.{specs.{Runs.{StartsAt, EndsAt}, Races.{IsUnfinished, IsRace, StandBefore, EndLater}}, proofs.{Ending.starts_here, Standing.end_behind}}
 use Rattle.lft_facts.specs.{declared.facts.Fact.Fact, Facts.{IsChosen, IsFact, AreFacts, AreShown, IsShown}, inner.{Enough.Adds, Ways.{IsMarked, EndsMarked}}}
-use Rattle.lft_facts.specs.Enough.{AreOwn, IsOwn, IsBefore, GivesChain, EndWithRace, Proves, ProvesTag}
+use Rattle.lft_facts.specs.Enough.{AreOwn, IsOwn, StartsBeforeBreach, GivesChain, EndWithRace, Proves, ProvesTag}
 use Rattle.lft_facts.proofs.{Lists.all_left, Giving.all_shown, Added.adds_row}
 use Rattle.lft_facts.specs.declared.facts.Fact.TheVariants as fact
 
@@ -60,14 +60,14 @@ module _ (g : Tag) (a r start end : ℕ) (steps facts : List Fact) (is : facts �
   pub race_holds : (plan : PlanParts) (t : List Row) → StartsAt t g r start → EndsAt t g a end → start < end → IsUnfinished t g a start → AreFacts plan t steps → GivesChain steps a r → AreFacts plan t facts
   race_holds plan t starts ends l u each chain = subst (λ (fs : List Fact). AreFacts plan t fs) (sym is) (All-cons (IsFact plan t) (fact.Race g a r start end) steps (record { precedes = chain plan t (all_shown plan t steps each); race = record { rows = record { starts = starts; ends = ends; before = l }; unfinished = u } }) each)
 
-  pub race_own : (b : Breach) → IsBefore b g start → AreOwn b steps → AreOwn b facts
+  pub race_own : (b : Breach) → StartsBeforeBreach b g start → AreOwn b steps → AreOwn b facts
   race_own b before own = subst (λ (fs : List Fact). AreOwn b fs) (sym is) (All-cons (IsOwn b) (fact.Race g a r start end) steps before own)
 
   pub race_ends : (program : Parts) (rows : List Row) → IsChosen program rows g a r start → GivesChain steps a r → EndWithRace program rows facts start
   race_ends program rows chosen chain = record { tag = g; earlier = a; later = r; end = end; before = []; steps = steps; are = is; chain = chain; chosen = chosen }
 
 -- a row before the breach is so
-pub is_before : (t : List Row) (b : Breach) (n start : ℕ) (row : Row) → StandBefore t b n → start < n → slice_get t start ≡ Some row → IsBefore b row.tag start
+pub is_before : (t : List Row) (b : Breach) (n start : ℕ) (row : Row) → StandBefore t b n → start < n → slice_get t start ≡ Some row → StartsBeforeBreach b row.tag start
 is_before t b n start row stand l e = record { of_row = by; of_tag = λ z. (stand.of_tag z start row e).0 l }
   where
     by : 0 < b.row → start + 2 < b.row

@@ -11,10 +11,10 @@ use Rattle.lft_model.specs.Breaches.{EndsBefore, IsTooEarly}
 use Rattle.lft_model.proofs.{Places.slice_get_within, Legality.{four, ran_at, one_start, one_end, ended}}
 use Rattle.lft_rows.specs.Answers.Answers.{KeepsRows}
 use Rattle.lft_facts.specs.declared.facts.{Fact.Fact, Cause.Cause}
-use Rattle.lft_facts.specs.Facts.{IsChosen, IsFact, IsShown, IsCause, AreFacts, AreShown, StartsBefore, IsTriggerOf, HasTriggers, IsUntriggered}
+use Rattle.lft_facts.specs.Facts.{IsChosen, IsFact, IsShown, CauseHolds, AreFacts, AreShown, StartsBeforeEnd, HasTriggers, IsUntriggered}
 use Rattle.lft_facts.specs.{inner.{Enough.{Gives, GivesTrigger, AreOwnAt}, Ways.{IsMarked, EndsMarked}}, Enough.{GivesChain, IsOwn, AreOwn}}
 use Rattle.lft_facts.proofs.Lists.{all_right}
-use Rattle.lft_races.specs.Runs.{StartsAt, EndsAt}
+use Rattle.lft_races.specs.{Hints.Hints.HasTrigger, Runs.{StartsAt, EndsAt}}
 use Rattle.lft_facts.specs.declared.facts.Fact.TheVariants as fact
 
 -- a start row of r at g makes a run
@@ -57,7 +57,7 @@ late_gives g a r start end steps facts is chain plan t all kept = inr (inr (inl 
     each : AreShown plan t ((fact.StartsEarly g a r start end ∷ []) ++ steps)
     each = subst (λ (fs : List Fact). AreShown plan t fs) is all
 
-    early : StartsBefore t g a r start end
+    early : StartsBeforeEnd t g a r start end
     early = All-head (IsShown plan t) (fact.StartsEarly g a r start end) steps each
 
     early_run : IsTooEarly plan t g r
@@ -96,17 +96,17 @@ not_run_gives g r x c facts is gives plan t all kept = inl (refl, record { react
     rest : AreShown plan t (fact.HasTrigger r x ∷ fact.Cause c ∷ [])
     rest = All-tail (IsShown plan t) (fact.NoRun g r) (fact.HasTrigger r x ∷ fact.Cause c ∷ []) each
 
-    has : IsTriggerOf plan.program r x
+    has : HasTrigger plan.program r x
     has = All-head (IsShown plan t) (fact.HasTrigger r x) (fact.Cause c ∷ []) rest
 
-    why : IsCause plan t c
+    why : CauseHolds plan t c
     why = All-head (IsShown plan t) (fact.Cause c) [] (All-tail (IsShown plan t) (fact.HasTrigger r x) (fact.Cause c ∷ []) rest)
 
 pub not_run_own : (g : Tag) (r : ℕ) (x : Trigger) (c : Cause) (facts : List Fact) → facts ≡ fact.NoRun g r ∷ fact.HasTrigger r x ∷ fact.Cause c ∷ [] → AreOwnAt g (Some r) facts
 not_run_own g r x c facts is b p q = subst (λ (fs : List Fact). AreOwn b fs) (sym is) (All-cons (IsOwn b) (fact.NoRun g r) (fact.HasTrigger r x ∷ fact.Cause c ∷ []) (p, q) (All-cons (IsOwn b) (fact.HasTrigger r x) (fact.Cause c ∷ []) q (All-cons (IsOwn b) (fact.Cause c) [] tt (All-nil (IsOwn b)))))
 
 -- the facts of rule 7 hold
-pub not_run_holds : (plan : PlanParts) (t : List Row) (g : Tag) (r : ℕ) (x : Trigger) (c : Cause) (facts : List Fact) → facts ≡ fact.NoRun g r ∷ fact.HasTrigger r x ∷ fact.Cause c ∷ [] → Triggered plan t g r → ¬ Ran t g r → IsTriggerOf plan.program r x → IsCause plan t c → AreFacts plan t facts
+pub not_run_holds : (plan : PlanParts) (t : List Row) (g : Tag) (r : ℕ) (x : Trigger) (c : Cause) (facts : List Fact) → facts ≡ fact.NoRun g r ∷ fact.HasTrigger r x ∷ fact.Cause c ∷ [] → Triggered plan t g r → ¬ Ran t g r → HasTrigger plan.program r x → CauseHolds plan t c → AreFacts plan t facts
 not_run_holds plan t g r x c facts is triggered none of why = subst (λ (fs : List Fact). AreFacts plan t fs) (sym is) (All-cons (IsFact plan t) (fact.NoRun g r) (fact.HasTrigger r x ∷ fact.Cause c ∷ []) (record { triggered = triggered; none = none }) (All-cons (IsFact plan t) (fact.HasTrigger r x) (fact.Cause c ∷ []) of (All-cons (IsFact plan t) (fact.Cause c) [] why (All-nil (IsFact plan t)))))
 
 -- a reaction of this number is one

@@ -5,9 +5,9 @@ use Rattle.lft_ir.specs.{Sound.IsSound, declared.{parts.{Name.Name, Trigger.TheV
 use Rattle.lft_model.specs.{Plans.PlanParts, Presence.IsPresent}
 use Rattle.lft_rows.specs.{declared.presence.causes.EventCause.EventCause as Event, inner.Presence.{Causes.tag_of, Lookups.{IsLastBefore, IsFirstAfter}}}
 use Rattle.lft_rows.proofs.PresenceLemmas.{Positions.shifted_mono, Presences.{present_cause, cause_present}, Lookups.in_order}
-use Rattle.lft_facts.specs.{Reasons.IsNearest, inner.Causes.StandsFor}
+use Rattle.lft_facts.specs.{Reasons.IsNearest, inner.Causes.StandsForName}
 
-module _ (plan : PlanParts) (t : List Row) (sound : IsSound plan.program) (fit : RowsFit plan.program t) (g : Tag) (n : Name) (key : ℕ) (s : Folded) (stands : StandsFor plan.program n key s) (c : Event) where
+module _ (plan : PlanParts) (t : List Row) (sound : IsSound plan.program) (fit : RowsFit plan.program t) (g : Tag) (n : Name) (key : ℕ) (s : Folded) (stands : StandsForName plan.program n key s) (c : Event) where
   pub nearest_before : IsLastBefore plan t key s g (Some c) → IsNearest plan t g (On n) (shifted (tag_of c) s)
   nearest_before last = record { present = cause_present plan t sound fit (shifted (tag_of c) s) n key s stands c last.0 (last.1.0, refl); apart = λ e. Before-irrefl g (subst (λ (z : Tag). Before z g) e last.1.1); none_before = none_before; none_after = λ k a b x. Before-irrefl g (Before-trans g k g a (Before-trans k (shifted (tag_of c) s) g b last.1.1)) }
     where

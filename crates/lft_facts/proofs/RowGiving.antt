@@ -6,7 +6,7 @@ use Rattle.lft_tag.specs.declared.Tag.{Tag}
 use Rattle.lft_ir.specs.declared.steps.row.Row.{Row}
 use Rattle.lft_model.specs.{declared.breach.Breach.Breach, Plans.PlanParts, Breaches.{IsUndeclared, RowBreach}, inner.Breaches.BreaksRow}
 use Rattle.lft_facts.specs.{declared.facts.{Fact.Fact, RowFact.RowFact}, Facts.{IsFact, IsShown, IsRowFact, AreFacts, AreShown, IsRowOf}, inner.Enough.GivesRow}
-use Rattle.lft_facts.specs.Enough.{ProvesRow, IsOwn, AreOwn, row_of}
+use Rattle.lft_facts.specs.Enough.{ProvesRow, IsOwn, AreOwn, wrong_row}
 use Rattle.lft_facts.specs.declared.facts.Fact.TheVariants as fact
 
 pub breaks_4 : (plan : PlanParts) (t : List Row) (i : ℕ) (row : Row) → BreaksRow plan t i row 4 → IsUndeclared plan.program t i row row.step
@@ -28,7 +28,7 @@ row_proves b g r i f facts is tag reaction line gives plan t all =
 pub row_holds : (plan : PlanParts) (t : List Row) (g : Tag) (r i : ℕ) (f : RowFact) (facts : List Fact) → facts ≡ fact.RowIs g r i ∷ fact.Row f ∷ [] → IsRowOf t g r i → IsRowFact plan t f → AreFacts plan t facts
 row_holds plan t g r i f facts is of holds = subst (λ (fs : List Fact). AreFacts plan t fs) (sym is) (All-cons (IsFact plan t) (fact.RowIs g r i) (fact.Row f ∷ []) of (All-cons (IsFact plan t) (fact.Row f) [] holds (All-nil (IsFact plan t))))
 
-pub row_own : (b : Breach) (g : Tag) (r i : ℕ) (f : RowFact) (facts : List Fact) → facts ≡ fact.RowIs g r i ∷ fact.Row f ∷ [] → b.row ≡ i + 2 → row_of f ≡ i → AreOwn b facts
+pub row_own : (b : Breach) (g : Tag) (r i : ℕ) (f : RowFact) (facts : List Fact) → facts ≡ fact.RowIs g r i ∷ fact.Row f ∷ [] → b.row ≡ i + 2 → wrong_row f ≡ i → AreOwn b facts
 row_own b g r i f facts is line same = subst (λ (fs : List Fact). AreOwn b fs) (sym is) (All-cons (IsOwn b) (fact.RowIs g r i) (fact.Row f ∷ []) line (All-cons (IsOwn b) (fact.Row f) [] (omega arith) (All-nil (IsOwn b))))
 
 -- the row of a breach is the one that its line names

@@ -12,16 +12,16 @@ use Rattle.lft_facts.specs.declared.facts.Reason.TheVariants as reason
 use Rattle.lft_facts.specs.declared.facts.RowFact.TheVariants as row_fact
 
 -- the row that is wrong
-abbrev pub row_of : RowFact → ℕ
-row_of (row_fact.Late i j) = i
-row_of (row_fact.AfterStop i) = i
-row_of (row_fact.StartsAgain i j) = i
-row_of (row_fact.Busy i j) = i
-row_of (row_fact.NotOpen i) = i
-row_of (row_fact.NotInput i) = i
-row_of (row_fact.ReadAgain i j) = i
-row_of (row_fact.NotEffect i) = i
-row_of (row_fact.Unended i) = i
+abbrev pub wrong_row : RowFact → ℕ
+wrong_row (row_fact.Late i j) = i
+wrong_row (row_fact.AfterStop i) = i
+wrong_row (row_fact.StartsAgain i j) = i
+wrong_row (row_fact.Busy i j) = i
+wrong_row (row_fact.NotOpen i) = i
+wrong_row (row_fact.NotInput i) = i
+wrong_row (row_fact.ReadAgain i j) = i
+wrong_row (row_fact.NotEffect i) = i
+wrong_row (row_fact.Unended i) = i
 
 -- the breach is of r at g
 abbrev pub IsOf : Breach → Tag → ℕ → Type 0
@@ -51,14 +51,14 @@ IsOwnReason b (reason.KindOf n k) = Unit {0}
 IsOwnReason b (reason.FedBy p o) = Unit {0}
 
 -- a run that starts at g in the row at place i does so before the breach: in a row before its own, or where it has none, at a tag up to its own
-pub record IsBefore (b : Breach) (g : Tag) (i : ℕ) : Type 0 where
+pub record StartsBeforeBreach (b : Breach) (g : Tag) (i : ℕ) : Type 0 where
   pub of_row : 0 < b.row → i + 2 < b.row
   pub of_tag : b.row ≡ 0 → UpTo g b.tag
 
 -- the same of a fact: what is wrong is so with the row of the breach, or with its reaction at its tag; causes and steps name all that they speak of, and a race is before the breach
 abbrev pub IsOwn : Breach → Fact → Type 0
 IsOwn b (fact.RowIs g r i) = b.row ≡ i + 2
-IsOwn b (fact.Row f) = b.row ≡ row_of f + 2
+IsOwn b (fact.Row f) = b.row ≡ wrong_row f + 2
 IsOwn b (fact.Clash g c d) = b.tag ≡ g
 IsOwn b (fact.NoRun g r) = IsOf b g r
 IsOwn b (fact.HasTrigger r x) = b.reaction ≡ Some r
@@ -66,7 +66,7 @@ IsOwn b (fact.Runs g r start) = IsOf b g r
 IsOwn b (fact.TriggerCount r count) = b.reaction ≡ Some r
 IsOwn b (fact.Untriggered g r k x) = IsOf b g r
 IsOwn b (fact.StartsEarly g a r start end) = IsOf b g r
-IsOwn b (fact.Race g a r start end) = IsBefore b g start
+IsOwn b (fact.Race g a r start end) = StartsBeforeBreach b g start
 IsOwn b (fact.Reads g r k n read present) = IsOf b g r
 IsOwn b (fact.DeclaredFirst a c) = Unit {0}
 IsOwn b (fact.Feeds a c p) = Unit {0}

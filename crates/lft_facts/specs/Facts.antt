@@ -7,14 +7,14 @@ use Rattle.lft_ir.specs.declared.steps.{row.{Row.Row, Step.{Step, TheVariants.{S
 use Rattle.lft_graph.specs.{Before.{IsDeclaredJustBefore, FeedsLast}, Precedence.{IsDeclaredFirst, Precedes}}
 use Rattle.lft_model.specs.{Plans.PlanParts, Presence.{stop, value_written, min_delay, Occurs, Triggered, Shows}, Runs.{Ran, steps_of, read_of, inputs_of}}
 use Rattle.lft_model.specs.Breaches.{IsOpen, IsUnended, EndsBefore, MayWrite, MaySchedule}
-use Rattle.lft_races.specs.{Runs.{StartsAt, EndsAt, IsOpenSince}, Across.{StartsTwice, ReadsAt}, Races.IsUnfinished}
+use Rattle.lft_races.specs.{Runs.{StartsAt, EndsAt, IsOpenSince}, Across.{StartsTwice, ReadsAt}, Races.IsUnfinished, Hints.Hints.HasTrigger}
 use Rattle.lft_facts.specs.{Reasons.IsReason, declared.facts.{Fact.Fact, Cause.Cause, RowFact.RowFact}}
 use Rattle.lft_facts.specs.declared.facts.Fact.TheVariants as fact
 use Rattle.lft_facts.specs.declared.facts.Cause.TheVariants as cause
 use Rattle.lft_facts.specs.declared.facts.RowFact.TheVariants as row_fact
 
 -- r starts at g in one row, and a ends at g in a later row
-pub record StartsBefore (t : List Row) (g : Tag) (a r start end : ℕ) : Type 0 where
+pub record StartsBeforeEnd (t : List Row) (g : Tag) (a r start end : ℕ) : Type 0 where
   pub starts : StartsAt t g r start
   pub ends : EndsAt t g a end
   pub before : start < end
@@ -32,21 +32,21 @@ pub record IsChosen (program : Parts) (t : List Row) (g : Tag) (a r i : ℕ) : T
 pub record IsEarlyStart (plan : PlanParts) (t : List Row) (g : Tag) (a r start end : ℕ) : Type 0 where
   pub precedes : Precedes plan.program a r
   pub not_ended : ¬ EndsBefore t g a r
-  pub rows : StartsBefore t g a r start end
+  pub rows : StartsBeforeEnd t g a r start end
   pub chosen : IsChosen plan.program t g a r start
 
 -- a has a run at g that no row before the start of r there ends, and a later row does
-pub record HasRace (t : List Row) (g : Tag) (a r start end : ℕ) : Type 0 where
-  pub rows : StartsBefore t g a r start end
+pub record HasUnfinishedRun (t : List Row) (g : Tag) (a r start end : ℕ) : Type 0 where
+  pub rows : StartsBeforeEnd t g a r start end
   pub unfinished : IsUnfinished t g a start
 
 -- so it is with a reaction that precedes r
 pub record IsRaceOf (plan : PlanParts) (t : List Row) (g : Tag) (a r start end : ℕ) : Type 0 where
   pub precedes : Precedes plan.program a r
-  pub race : HasRace t g a r start end
+  pub race : HasUnfinishedRun t g a r start end
 
 -- r is triggered at g and has no run there
-pub record IsMissing (plan : PlanParts) (t : List Row) (g : Tag) (r : ℕ) : Type 0 where
+pub record HasNoRun (plan : PlanParts) (t : List Row) (g : Tag) (r : ℕ) : Type 0 where
   pub triggered : Triggered plan t g r
   pub none : ¬ Ran t g r
 
@@ -60,12 +60,6 @@ pub record FeedsBy (program : Parts) (a b p : ℕ) : Type 0 where
   pub is_effect : Contains writer.effects (Port origin)
   pub is_input : Contains (inputs reader) (Port p)
   pub undelayed : Origin program p origin []
-
--- x is one of the triggers of r
-pub record IsTriggerOf (program : Parts) (r : ℕ) (x : Trigger) : Type 0 where
-  pub reaction : Reaction
-  pub is_reaction : slice_get program.reactions r ≡ Some reaction
-  pub is_trigger : Contains reaction.triggers x
 
 -- r has so many triggers
 pub record HasTriggers (program : Parts) (r count : ℕ) : Type 0 where
@@ -131,7 +125,7 @@ pub record IsRowOf (t : List Row) (g : Tag) (r i : ℕ) : Type 0 where
   pub reaction_is : row.reaction ≡ r
 
 -- the row at place i is at a lesser tag than the one at place j before it
-pub record IsBehind (t : List Row) (i j : ℕ) : Type 0 where
+pub record IsAtLesserTag (t : List Row) (i j : ℕ) : Type 0 where
   pub row : Row
   pub earlier : Row
   pub is_row : slice_get t i ≡ Some row
@@ -200,35 +194,35 @@ pub record IsNeverEnded (t : List Row) (i : ℕ) : Type 0 where
   pub unended : IsUnended t i row
 
 -- what makes something present is so in the plan and the rows
-abbrev pub IsCause : PlanParts → List Row → Cause → Type 0
-IsCause plan t (cause.AtStartup g) = g ≡ record { time = 0; micro = 0 }
-IsCause plan t (cause.AtShutdown g) = g ≡ stop plan t
-IsCause plan t (cause.Fires g n count) = FiresAfter plan.program g n count
-IsCause plan t (cause.Written g p i) = IsWrittenIn plan t g p i
-IsCause plan t (cause.Scheduled g a i) = IsScheduledIn plan t g a i
-IsCause plan t (cause.Given g a i) = IsGiven plan g a i
+abbrev pub CauseHolds : PlanParts → List Row → Cause → Type 0
+CauseHolds plan t (cause.AtStartup g) = g ≡ record { time = 0; micro = 0 }
+CauseHolds plan t (cause.AtShutdown g) = g ≡ stop plan t
+CauseHolds plan t (cause.Fires g n count) = FiresAfter plan.program g n count
+CauseHolds plan t (cause.Written g p i) = IsWrittenIn plan t g p i
+CauseHolds plan t (cause.Scheduled g a i) = IsScheduledIn plan t g a i
+CauseHolds plan t (cause.Given g a i) = IsGiven plan g a i
 
 -- the port or action to which a cause gives an event, and the tag of the event
-abbrev pub event_of : Cause → Option (Tag × Name)
-event_of (cause.Written g p i) = Some (g, Port p)
-event_of (cause.Scheduled g a i) = Some (g, Action a)
-event_of (cause.Given g a i) = Some (g, Action a)
-event_of (cause.AtStartup g) = None
-event_of (cause.AtShutdown g) = None
-event_of (cause.Fires g n count) = None
+abbrev pub event_of_cause : Cause → Option (Tag × Name)
+event_of_cause (cause.Written g p i) = Some (g, Port p)
+event_of_cause (cause.Scheduled g a i) = Some (g, Action a)
+event_of_cause (cause.Given g a i) = Some (g, Action a)
+event_of_cause (cause.AtStartup g) = None
+event_of_cause (cause.AtShutdown g) = None
+event_of_cause (cause.Fires g n count) = None
 
 -- two causes give one port or action an event at g
 pub record AreTwoCauses (plan : PlanParts) (t : List Row) (g : Tag) (c d : Cause) : Type 0 where
   pub name : Name
-  pub first : IsCause plan t c
-  pub second : IsCause plan t d
-  pub first_event : event_of c ≡ Some (g, name)
-  pub second_event : event_of d ≡ Some (g, name)
+  pub first : CauseHolds plan t c
+  pub second : CauseHolds plan t d
+  pub first_event : event_of_cause c ≡ Some (g, name)
+  pub second_event : event_of_cause d ≡ Some (g, name)
   pub apart : c ≢ d
 
 -- what is wrong with a row is so in the plan and the rows
 abbrev pub IsRowFact : PlanParts → List Row → RowFact → Type 0
-IsRowFact plan t (row_fact.Late i j) = IsBehind t i j
+IsRowFact plan t (row_fact.Late i j) = IsAtLesserTag t i j
 IsRowFact plan t (row_fact.AfterStop i) = IsAfterStop plan t i
 IsRowFact plan t (row_fact.StartsAgain i j) = StartsTwice t i j
 IsRowFact plan t (row_fact.Busy i j) = StartsBusy t i j
@@ -244,12 +238,12 @@ IsFact plan t (fact.StartsEarly g a r start end) = IsEarlyStart plan t g a r sta
 IsFact plan t (fact.Race g a r start end) = IsRaceOf plan t g a r start end
 IsFact plan t (fact.DeclaredFirst a b) = IsDeclaredFirst plan.program a b
 IsFact plan t (fact.Feeds a b p) = FeedsBy plan.program a b p
-IsFact plan t (fact.NoRun g r) = IsMissing plan t g r
+IsFact plan t (fact.NoRun g r) = HasNoRun plan t g r
 IsFact plan t (fact.Runs g r start) = StartsAt t g r start
-IsFact plan t (fact.HasTrigger r x) = IsTriggerOf plan.program r x
+IsFact plan t (fact.HasTrigger r x) = HasTrigger plan.program r x
 IsFact plan t (fact.TriggerCount r count) = HasTriggers plan.program r count
 IsFact plan t (fact.Untriggered g r k x) = IsUntriggered plan t g r k x
-IsFact plan t (fact.Cause c) = IsCause plan t c
+IsFact plan t (fact.Cause c) = CauseHolds plan t c
 IsFact plan t (fact.Clash g c d) = AreTwoCauses plan t g c d
 IsFact plan t (fact.RowIs g r i) = IsRowOf t g r i
 IsFact plan t (fact.Row f) = IsRowFact plan t f
@@ -262,8 +256,8 @@ AreFacts plan t facts = All (IsFact plan t) facts
 
 -- what the plan and the rows show of a fact by itself: of an early start and of a race not that the one reaction precedes the other, and of a run that is missing not that it is triggered. Other facts are to give that
 abbrev pub IsShown : PlanParts → List Row → Fact → Type 0
-IsShown plan t (fact.StartsEarly g a r start end) = StartsBefore t g a r start end
-IsShown plan t (fact.Race g a r start end) = HasRace t g a r start end
+IsShown plan t (fact.StartsEarly g a r start end) = StartsBeforeEnd t g a r start end
+IsShown plan t (fact.Race g a r start end) = HasUnfinishedRun t g a r start end
 IsShown plan t (fact.DeclaredFirst a b) = IsFact plan t (fact.DeclaredFirst a b)
 IsShown plan t (fact.Feeds a b p) = IsFact plan t (fact.Feeds a b p)
 IsShown plan t (fact.NoRun g r) = ¬ Ran t g r

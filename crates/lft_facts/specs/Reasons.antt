@@ -63,7 +63,7 @@ pub record EndedIn (t : List Row) (i k : ℕ) : Type 0 where
   pub ends : slice_get t k ≡ Some (end_row row.worker row.tag row.reaction)
 
 -- at the row at place i its worker has a run open, which it started in the one at place j
-pub record HasOpen (t : List Row) (i j : ℕ) : Type 0 where
+pub record WorkerHasOpen (t : List Row) (i j : ℕ) : Type 0 where
   pub row : Row
   pub is_row : slice_get t i ≡ Some row
   pub open_since : IsOpenSince t i row.worker j
@@ -97,17 +97,17 @@ pub record HasEffects (program : Parts) (r : ℕ) (names : List Name) : Type 0 w
   pub are : reaction.effects ≡ names
 
 -- the action is a physical one, or a logical one
-abbrev pub IsAction : Parts → ℕ → Bool → Type 0
-IsAction program a physical = (action : ActionOf) × (slice_get program.actions a ≡ Some action) × (action.physical ≡ physical)
+abbrev pub IsActionOfKind : Parts → ℕ → Bool → Type 0
+IsActionOfKind program a physical = (action : ActionOf) × (slice_get program.actions a ≡ Some action) × (action.physical ≡ physical)
 
 -- the name is of a thing of that kind
-abbrev pub IsOfKind : Parts → Name → ThingKind → Type 0
-IsOfKind program (Port p) kind.Port = p < length program.ports
-IsOfKind program (Action a) kind.Logical = IsAction program a false
-IsOfKind program (Action a) kind.Physical = IsAction program a true
-IsOfKind program (Port p) kind.Logical = ⊥
-IsOfKind program (Port p) kind.Physical = ⊥
-IsOfKind program (Action a) kind.Port = ⊥
+abbrev pub IsThingOfKind : Parts → Name → ThingKind → Type 0
+IsThingOfKind program (Port p) kind.Port = p < length program.ports
+IsThingOfKind program (Action a) kind.Logical = IsActionOfKind program a false
+IsThingOfKind program (Action a) kind.Physical = IsActionOfKind program a true
+IsThingOfKind program (Port p) kind.Logical = ⊥
+IsThingOfKind program (Port p) kind.Physical = ⊥
+IsThingOfKind program (Action a) kind.Port = ⊥
 
 -- port o, another one, is the origin of port p
 pub record IsFedBy (program : Parts) (p o : ℕ) : Type 0 where
@@ -154,12 +154,12 @@ IsReason plan t (reason.LastRow i g s) = IsLastRow plan t i g s
 IsReason plan t (reason.StopGiven g) = IsGivenStop plan t g
 IsReason plan t (reason.StopAsked g i) = IsAskedStop plan t g i
 IsReason plan t (reason.EndedIn i k) = EndedIn t i k
-IsReason plan t (reason.HasOpen i j) = HasOpen t i j
+IsReason plan t (reason.HasOpen i j) = WorkerHasOpen t i j
 IsReason plan t (reason.OpenOn i j) = IsOpenOn t i j
 IsReason plan t (reason.StartsIn i j) = StartsIn t i j
 IsReason plan t (reason.Inputs r) = HasInputs plan.program r (inputs_of plan.program r)
 IsReason plan t (reason.Effects r) = HasEffects plan.program r (effects_of plan.program r)
-IsReason plan t (reason.KindOf n k) = IsOfKind plan.program n k
+IsReason plan t (reason.KindOf n k) = IsThingOfKind plan.program n k
 IsReason plan t (reason.FedBy p o) = IsFedBy plan.program p o
 IsReason plan t (reason.EndsOther i k) = EndsOther t i k
 IsReason plan t (reason.LastOfWorker i k) = IsLastOfWorker t i k

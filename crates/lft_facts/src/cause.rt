@@ -5,7 +5,7 @@ ghost use Rattle.lft_ir.specs.Sound.{IsNameOf, IsTriggerOf as IsKnown};
 ghost use Rattle.lft_ir.specs.{declared.parts.{Name.TheVariants.{Port as ThePort, Action as TheAction}, Trigger.TheVariants.On as TheName}, Steps.Fits.RowsFit};
 ghost use Rattle.lft_model.specs.Presence.{stop as the_stop, IsPresent, Occurs};
 ghost use Rattle.lft_rows.specs.inner.Presence.Causes.{AreCauses};
-ghost use Rattle.lft_facts.specs.{Facts.{IsCause, IsWrittenIn, FiresAfter}, inner.Enough.GivesTrigger};
+ghost use Rattle.lft_facts.specs.{Facts.{CauseHolds, IsWrittenIn, FiresAfter}, inner.Enough.GivesTrigger};
 
 use crate::facts::Cause;
 use lft_ir::steps::Row;
@@ -69,7 +69,7 @@ fn action_cause(
     requires fit { RowsFit plan.now.program rows.now }
     requires causes { AreCauses plan.now rows.now causes.now }
     requires action { action < length plan.now.program.actions }
-    ensures holds { IfSome result (IsCause plan.now rows.now) }
+    ensures holds { IfSome result (CauseHolds plan.now rows.now) }
     ensures gives { IfSome result (λ c. GivesTrigger c tag (TheName (TheAction action))) }
     ensures none { IfNone result (¬ IsPresent plan.now rows.now tag (TheAction action)) }
 {
@@ -91,7 +91,7 @@ fn port_cause(
 ) -> Option<Cause>
     requires causes { AreCauses plan.now rows.now causes.now }
     requires port { port < length plan.now.program.ports }
-    ensures holds { IfSome result (IsCause plan.now rows.now) }
+    ensures holds { IfSome result (CauseHolds plan.now rows.now) }
     ensures gives { IfSome result (λ c. GivesTrigger c tag (TheName (ThePort port))) }
     ensures none { IfNone result (¬ IsPresent plan.now rows.now tag (ThePort port)) }
 {
@@ -112,7 +112,7 @@ pub(crate) fn name_cause(
     requires fit { RowsFit plan.now.program rows.now }
     requires causes { AreCauses plan.now rows.now causes.now }
     requires name { IsNameOf plan.now.program name }
-    ensures holds { IfSome result (IsCause plan.now rows.now) }
+    ensures holds { IfSome result (CauseHolds plan.now rows.now) }
     ensures gives { IfSome result (λ c. GivesTrigger c tag (TheName name)) }
     ensures none { IfNone result (¬ IsPresent plan.now rows.now tag name) }
 {
@@ -152,7 +152,7 @@ pub(crate) fn trigger_cause(
     requires causes { AreCauses plan.now rows.now causes.now }
     requires trigger { IsKnown plan.now.program trigger }
     requires stop { stop ≡ the_stop plan.now rows.now }
-    ensures holds { IfSome result (IsCause plan.now rows.now) }
+    ensures holds { IfSome result (CauseHolds plan.now rows.now) }
     ensures gives { IfSome result (λ c. GivesTrigger c tag trigger) }
     ensures none { IfNone result (¬ Occurs plan.now rows.now tag trigger) }
 {

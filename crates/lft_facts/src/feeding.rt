@@ -3,7 +3,7 @@
 ghost use Rattle.std.specs.Prelude.{◌≡◌, ◌↔◌, ◌<◌, ℕ, Some, length, Contains, IfSome, IfNone, IsTrue};
 ghost use Rattle.lft_ir.specs.{Sound.IsNameOf, declared.parts.Name.TheVariants.Port as ThePort};
 ghost use Rattle.lft_graph.specs.Precedence.{Feeds};
-ghost use Rattle.lft_facts.specs.{Facts.FeedsBy, inner.Ways.IsFed};
+ghost use Rattle.lft_facts.specs.{Facts.FeedsBy, inner.Ways.IsFedUndelayed};
 
 use lft_ir::{Name, Program, Trigger};
 use lft_lists::item_at;
@@ -25,8 +25,8 @@ fn has_port(names: &[Name], port: u32) -> bool
 /// The port of the name, where its origin is among the effects and leads to it without a delay.
 fn fed_port(program: &Program, effects: &[Name], name: Name) -> Option<u32>
     requires { IsNameOf program.now name }
-    ensures some { IfSome result (λ p. (name ≡ ThePort p) × IsFed program.now effects.now name) }
-    ensures none { IfNone result (¬ IsFed program.now effects.now name) }
+    ensures some { IfSome result (λ p. (name ≡ ThePort p) × IsFedUndelayed program.now effects.now name) }
+    ensures none { IfNone result (¬ IsFedUndelayed program.now effects.now name) }
 {
     match name {
         Name::Port(number) => {

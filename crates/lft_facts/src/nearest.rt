@@ -3,7 +3,7 @@
 ghost use Rattle.std.specs.Prelude.{◌≡◌, IfSome};
 ghost use Rattle.lft_ir.specs.{Sound.IsNameOf, declared.parts.Trigger.TheVariants.On as TheName, Steps.Fits.RowsFit};
 ghost use Rattle.lft_rows.specs.inner.Presence.Causes.{AreCauses};
-ghost use Rattle.lft_facts.specs.{Reasons.IsNearest, inner.Causes.StandsFor};
+ghost use Rattle.lft_facts.specs.{Reasons.IsNearest, inner.Causes.StandsForName};
 
 use lft_ir::steps::Row;
 use lft_ir::{Name, Program};
@@ -15,7 +15,7 @@ use lft_tag::{Shift, Tag};
 /// its events.
 fn key_of(program: &Program, name: Name) -> (u32, Shift)
     requires { IsNameOf program.now name }
-    ensures { StandsFor program.now name result.0 (result.1.time, result.1.steps) }
+    ensures { StandsForName program.now name result.0 (result.1.time, result.1.steps) }
 {
     match name {
         Name::Port(number) => {

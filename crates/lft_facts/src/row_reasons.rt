@@ -3,7 +3,7 @@
 ghost use Rattle.std.specs.Prelude.{◌≡◌, ◌+◌, ◌<◌, ◌≤◌, List, length, IfSome, OnOk};
 ghost use Rattle.lft_ir.specs.{declared.{parts.Name.TheVariants.Action as TheAction, steps.row.Row.Row as TheRow}, Steps.Fits.{RowsFit, StepFits}};
 ghost use Rattle.lft_model.specs.{declared.breach.Breach.Breach as TheBreach, Plans.PlanParts};
-ghost use Rattle.lft_facts.specs.{Facts.IsRowFact, Reasons.{IsReason, IsOfKind}, inner.Enough.Adds, Enough.{IsOwnReason, row_of}};
+ghost use Rattle.lft_facts.specs.{Facts.IsRowFact, Reasons.{IsReason, IsThingOfKind}, inner.Enough.Adds, Enough.{IsOwnReason, wrong_row}};
 
 use crate::across::{across, later_tag};
 use crate::adding::add;
@@ -155,7 +155,7 @@ fn named_feed(program: &Program, step: Step) -> Option<Reason>
 /// What the action is.
 fn kind_of(program: &Program, action: u32) -> ThingKind
     requires { action < length program.now.actions }
-    ensures { IsOfKind program.now (TheAction action) result }
+    ensures { IsThingOfKind program.now (TheAction action) result }
 {
     if program.action(action).physical {
         ThingKind::Physical
@@ -258,7 +258,7 @@ pub(crate) fn add_row_reasons(
 ) -> Result<(), NoMemory>
     requires fit { RowsFit plan.now.program rows.now }
     requires fact { IsRowFact plan.now rows.now fact }
-    ensures { OnOk result ((b : TheBreach) → b.row ≡ row_of fact + 2 → Adds b plan.now rows.now facts.old.items facts.new.items) }
+    ensures { OnOk result ((b : TheBreach) → b.row ≡ wrong_row fact + 2 → Adds b plan.now rows.now facts.old.items facts.new.items) }
 {
     match fact {
         RowFact::AfterStop { .. } => add(facts, stop_reason(plan, rows)),

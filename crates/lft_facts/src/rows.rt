@@ -3,7 +3,7 @@
 ghost use Rattle.std.specs.Prelude.{◌≡◌, Some, slice_get, IfOk};
 ghost use Rattle.lft_ir.specs.{Parts.Parts, Steps.Fits.RowsFit};
 ghost use Rattle.lft_model.specs.{Plans.PlanParts, inner.Breaches.BreaksRow, Breaches.{IsOutOfOrder, IsUndeclared, RowBreach}};
-ghost use Rattle.lft_facts.specs.{Facts.{IsRowFact, AreFacts}, inner.Enough.GivesRow, Enough.{ProvesRow, AreOwn, row_of}};
+ghost use Rattle.lft_facts.specs.{Facts.{IsRowFact, AreFacts}, inner.Enough.GivesRow, Enough.{ProvesRow, AreOwn, wrong_row}};
 
 use crate::facts::{Fact, RowFact};
 use crate::row_reasons::add_row_reasons;
@@ -19,7 +19,7 @@ fn order_fact(rows: &[Row], place: u32, row: Row) -> RowFact
     requires breaks { IsOutOfOrder rows.now place row row.step }
     ensures holds { (plan : PlanParts) → IsRowFact plan rows.now result }
     ensures gives { GivesRow result place 3 }
-    ensures row { row_of result ≡ place }
+    ensures row { wrong_row result ≡ place }
 {
     if !is_start(&row.step) {
         return RowFact::NotOpen { row: place };
@@ -39,7 +39,7 @@ fn undeclared_fact(rows: &[Row], place: u32, row: Row) -> RowFact
     requires breaks { (program : Parts) × IsUndeclared program rows.now place row row.step }
     ensures holds { (plan : PlanParts) → IsUndeclared plan.program rows.now place row row.step → IsRowFact plan rows.now result }
     ensures gives { GivesRow result place 4 }
-    ensures row { row_of result ≡ place }
+    ensures row { wrong_row result ≡ place }
 {
     match row.step {
         Step::Read(name, _) => match first_read(rows, place, row.tag, row.reaction, name) {
@@ -56,7 +56,7 @@ fn row_fact(rows: &[Row], rule: u8, place: u32, row: Row) -> RowFact
     requires breaks { (plan : PlanParts) × BreaksRow plan rows.now place row rule }
     ensures holds { (plan : PlanParts) → BreaksRow plan rows.now place row rule → IsRowFact plan rows.now result }
     ensures gives { GivesRow result place rule }
-    ensures row { row_of result ≡ place }
+    ensures row { wrong_row result ≡ place }
 {
     match rule {
         1 => RowFact::Late {

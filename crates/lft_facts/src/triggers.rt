@@ -4,7 +4,8 @@ ghost use Rattle.std.specs.Prelude.{◌≡◌, ◌<◌, ◌≤◌, Some, length,
 ghost use Rattle.lft_ir.specs.Steps.Fits.{RowsFit};
 ghost use Rattle.lft_model.specs.{Presence.Triggered, Runs.Ran};
 ghost use Rattle.lft_rows.specs.inner.Presence.Causes.{AreCauses};
-ghost use Rattle.lft_facts.specs.{Facts.{IsCause, AreFacts, IsTriggerOf}, inner.Enough.{Gives, GivesTrigger, AreOwnAt}};
+ghost use Rattle.lft_facts.specs.{Facts.{CauseHolds, AreFacts}, inner.Enough.{Gives, GivesTrigger, AreOwnAt}};
+ghost use Rattle.lft_races.specs.Hints.Hints.{HasTrigger};
 
 use crate::cause::trigger_cause;
 use crate::facts::{Cause, Fact};
@@ -28,8 +29,8 @@ fn present_trigger(
     requires fit { RowsFit plan.now.program rows.now }
     requires causes { AreCauses plan.now rows.now causes.now }
     requires triggered { Triggered plan.now rows.now tag reaction }
-    ensures trigger { IsTriggerOf plan.now.program reaction result.0 }
-    ensures holds { IsCause plan.now rows.now result.1 }
+    ensures trigger { HasTrigger plan.now.program reaction result.0 }
+    ensures holds { CauseHolds plan.now rows.now result.1 }
     ensures gives { GivesTrigger result.1 tag result.0 }
 {
     let stop = trace_stop(plan, rows);

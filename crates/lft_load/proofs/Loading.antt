@@ -7,7 +7,7 @@ use Rattle.lft_program.{specs.Flattening.IsFlatOf, proofs.Firsts.first_holds}
 use Rattle.lft_ir.specs.{Parts.Parts, Steps.Inputs.ExternalInputs}
 use Rattle.lft_trace.specs.{declared.fault.TraceFault.TraceFault, Faults.is_told, Records.records_of, ExternalTables.ExternalTable}
 use Rattle.lft_model.specs.Plans.{PlanParts}
-use Rattle.lft_load.specs.{Faults.{syntax_number, graph_number, table_number, IsFault}, Meaning.{IsTreeOf, IsProgramOf, IsPlanOf, IsPlanUnder, IsOnly}}
+use Rattle.lft_load.specs.{Faults.{syntax_number, graph_number, table_number, IsFaultOfPart}, Meaning.{IsTreeOf, IsProgramOf, IsPlanOf, IsPlanUnder, IsOnly}}
 use Rattle.lft_load.specs.{Refusals.{SyntaxFails, ProgramFails, GraphFails, GraphRefusal, is_of_text}, declared.fault.{Fault.Fault, Part.Part}}
 use Rattle.lft_graph.{specs.{Precedence.HasNoLoop, declared.fault.GraphFault.GraphFault}, proofs.Cycles.is_cycle}
 use Rattle.lft_syntax.specs.declared.fault.SyntaxFault.TheVariants as syntax
@@ -103,7 +103,7 @@ memory_untold p n e t = let q : is_of_text part.Memory n ≡ true = subst (λ k.
 pub graph_none : (program : Parts) (f : Fault) → GraphRefusal program f → is_of_text f.part f.number ≡ true → HasNoLoop program → ⊥
 graph_none program f x t n = go x.0 x.1 x.2
   where
-    go : (e : GraphFault) → IsFault f part.Graph (graph_number e) → GraphFails program e → ⊥
+    go : (e : GraphFault) → IsFaultOfPart f part.Graph (graph_number e) → GraphFails program e → ⊥
     go (graph.CausalityLoop loop) i h = let c = is_cycle program loop h in n c.0 c.1
     go graph.NoMemory (inl i) h = graph_untold f.part f.number i.0 i.1 t
     go graph.NoMemory (inr i) h = memory_untold f.part f.number i.0 t

@@ -47,8 +47,8 @@ table_number table.NotCsv = 11
 table_number table.NoMemory = 12
 
 -- a fault of this part and number, or of want of memory for its words
-abbrev pub IsFault : Fault → Part → ℕ → Type 0
-IsFault f p n = (f.part ≡ p) × (f.number ≡ n) ⊎ (f.part ≡ part.Memory) × (f.number ≡ 1)
+abbrev pub IsFaultOfPart : Fault → Part → ℕ → Type 0
+IsFaultOfPart f p n = (f.part ≡ p) × (f.number ≡ n) ⊎ (f.part ≡ part.Memory) × (f.number ≡ 1)
 
 -- the words that a fault tells beside its name, if it tells some
 abbrev pub words_of : Detail → Option (List ℕ)

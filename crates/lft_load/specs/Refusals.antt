@@ -7,7 +7,7 @@ use Rattle.lft_resolve.specs.{declared.causes.ProgramFault.ProgramFault, Causes.
 use Rattle.lft_ir.specs.{Parts.Parts, Steps.Inputs.ExternalInputs}
 use Rattle.lft_trace.specs.{declared.fault.TraceFault.TraceFault, Faults.is_told, Records.records_of, ExternalTables.{ExternalTable, ExternalFails}}
 use Rattle.lft_graph.specs.{Loops.IsLoop, declared.fault.GraphFault.GraphFault}
-use Rattle.lft_load.specs.{Faults.{lex_number, syntax_number, graph_number, table_number, IsFault}, Meaning.{IsTreeOf, IsProgramOf}}
+use Rattle.lft_load.specs.{Faults.{lex_number, syntax_number, graph_number, table_number, IsFaultOfPart}, Meaning.{IsTreeOf, IsProgramOf}}
 use Rattle.lft_load.specs.declared.fault.{Fault.Fault, Part.Part}
 use Rattle.lft_syntax.specs.declared.fault.SyntaxFault.TheVariants as syntax
 use Rattle.lft_resolve.specs.declared.causes.ProgramFault.TheVariants as program
@@ -57,7 +57,7 @@ pub data ProgramRefusal (text : List ℕ) (f : Fault) : Type 0 where
 
 -- the flat program has no graph: it has a loop, whose reactions the fault names if there is memory for their names, or a growth was refused
 abbrev pub GraphRefusal : Parts → Fault → Type 0
-GraphRefusal program f = (e : GraphFault) × IsFault f part.Graph (graph_number e) × GraphFails program e
+GraphRefusal program f = (e : GraphFault) × IsFaultOfPart f part.Graph (graph_number e) × GraphFails program e
 
 -- a program has no plan under external inputs: they are no table, or it has no graph
 pub data PlanRefusal (program : Parts) (externals : List ℕ) (f : Fault) : Type 0 where

@@ -4,7 +4,7 @@ ghost use Rattle.std.specs.Prelude.{◌≡◌, ◌<◌, ◌++◌, ℕ, List, Som
 ghost use Rattle.std.specs.Char.{encode_utf8, Escape.escape_default};
 ghost use Rattle.lft_graph.specs.{Loops.IsLoop, declared.fault.GraphFault.TheVariants.CausalityLoop};
 ghost use Rattle.lft_resolve.specs.Causes.{number_of as program_number};
-ghost use Rattle.lft_load.specs.Faults.{lex_number, syntax_number, graph_number, table_number, IsFault, IsFaultOfPath};
+ghost use Rattle.lft_load.specs.Faults.{lex_number, syntax_number, graph_number, table_number, IsFaultOfPart, IsFaultOfPath};
 ghost use Rattle.lft_load.specs.Words.{in_line, names_words, one_line};
 ghost use Rattle.lft_load.specs.declared.fault.Part.TheVariants as part;
 
@@ -242,7 +242,7 @@ impl Fault {
     /// can't be kept, it is want of memory.
     pub fn graph(alloc: Global, program: &Program, fault: &GraphFault) -> Fault
         requires { (loop : List ℕ) → fault.now ≡ CausalityLoop loop → IsLoop program.now loop }
-        ensures { IsFault result part.Graph (graph_number fault.now) }
+        ensures { IsFaultOfPart result part.Graph (graph_number fault.now) }
     {
         match fault {
             GraphFault::CausalityLoop(reactions) => {

@@ -7,7 +7,7 @@ use Rattle.lft_tag.{specs.{declared.Tag.Tag, Tags.{Before, UpTo}}, proofs.Order.
 use Rattle.lft_lists.proofs.{Picked.take_next, Places.{get_append_cases, get_last, get_left, get_push_cases, same_at}}
 use Rattle.lft_ir.specs.declared.steps.row.Row.{Row}
 use Rattle.lft_model.proofs.Places.{slice_get_within}
-use Rattle.lft_log.specs.{inner.Told.{ComeTo, IsAskedOf}, Told.{IsFirstFrom, IsPastEnd, IsWithin, KeepTo}, declared.asked.Asked.Asked}
+use Rattle.lft_log.specs.{inner.Told.{ComeTo, IsAskedOf}, Told.{IsFirstFrom, IsPastEnd, IsWithinAsked, KeepTo}, declared.asked.Asked.Asked}
 
 -- each row is before the tag
 abbrev pub AreBefore : List Row → Tag → Type 0
@@ -73,7 +73,7 @@ kept_before until t first behind rows parted keeps i x e = go until (keeps i x (
     longer : (i : ℕ) (x : Row) → slice_get (t ++ first) i ≡ Some x → slice_get (t ++ rows) i ≡ Some x
     longer i x e = ap (λ (u : List Row). slice_get u i) (sym whole) ∙ get_left (t ++ first) behind i x e
 
-    go : (until : Option Tag) → IsWithin until (t ++ rows) x.tag → IsWithin until (t ++ first) x.tag
+    go : (until : Option Tag) → IsWithinAsked until (t ++ rows) x.tag → IsWithinAsked until (t ++ first) x.tag
     go None within = tt
     go (Some asked) within = λ place row is. within place row (record {
       there = longer place row is.there;

@@ -3,13 +3,13 @@ use Rattle.std.proofs.Common.{◌≡◌, ◌+◌, ℕ, List, [], ◌∷◌, ◌+
 use Rattle.std.{specs.List.AllZip, proofs.lemmas.List.{append_assoc, append-nil, Elements.filter_map-append}}
 use Rattle.lft_ir.specs.{Parts.Parts, declared.steps.row.Row.Row as TheRow}
 use Rattle.lft_trace.specs.{LogTables.{IsLine, row_of}, inner.LogTables.inputs_behind, Traces.IsRow, declared.log_table.Line.{Line, TheVariants.{Row, Input}}}
-use Rattle.lft_log.specs.{Logs.{AreTimely, entry_of, inputs, rows}, inner.Logs.row_records}
+use Rattle.lft_log.specs.{Logs.{AreTimely, entry_of_line, inputs, rows}, inner.Logs.row_records}
 
 pub rows_both : (xs ys : List Line) → rows (xs ++ ys) ≡ rows xs ++ rows ys
 rows_both xs ys = filter_map-append row_of xs ys
 
 pub inputs_both : (xs ys : List Line) → inputs (xs ++ ys) ≡ inputs xs ++ inputs ys
-inputs_both xs ys = filter_map-append entry_of xs ys
+inputs_both xs ys = filter_map-append entry_of_line xs ys
 
 pub timely_both : (t : List TheRow) (xs ys : List Line) → AreTimely t xs → AreTimely (t ++ rows xs) ys → AreTimely t (xs ++ ys)
 timely_both t [] ys are more = subst (λ (u : List TheRow). AreTimely u ys) (append-nil t) more

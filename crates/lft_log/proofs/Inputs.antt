@@ -9,8 +9,8 @@ use Rattle.lft_monitor.specs.Follows.{IsPassed}
 use Rattle.lft_trace.specs.{ExternalTables.IsEntry, inner.LogTables.{EntryFits, InputsFit, inputs_behind}}
 use Rattle.lft_trace.specs.declared.{external_table.Entry.Entry, log_table.{Among.Among, Line.{Line, TheVariants.{Row, Input}}}}
 use Rattle.lft_log.specs.declared.{fault.LogFault.{LogFault, TheVariants.LateInput}, front.LinesRead.LinesRead, telling.Taken.Taken}
-use Rattle.lft_log.specs.{Logs.{AreTimely, inputs, rows, tag_of}, Told.{HasTold, IsFaultOf, StandsBehind}}
-use Rattle.lft_log.specs.inner.Told.{IsBeforeLatest, IsInputFault, IsLatest, IsTaken}
+use Rattle.lft_log.specs.{Logs.{AreTimely, inputs, rows, tag_of_entry}, Told.{HasTold, IsFaultOf, RecordStandsBehind}}
+use Rattle.lft_log.specs.inner.Told.{IsBeforeLatest, IsInputFault, IsLatestTag, IsTaken}
 use Rattle.lft_log.proofs.Behind.{inputs_both, length_inputs, rows_both, timely_both}
 
 -- ---- rows that pass a tag
@@ -25,29 +25,29 @@ pub passed_either : (t u : List TheRow) (g : Tag) → IsPassed (t ++ u) g → Is
 passed_either t u g p = ⊎_elim (λ q. inl (p.0, p.1, q, p.3)) (λ q. inr (q.0, p.1, q.2, p.3)) (get_append_cases t u p.0 p.1 p.2)
 
 -- the latest tag of no rows, and of one row more
-pub latest_none : IsLatest [] None
+pub latest_none : IsLatestTag [] None
 latest_none g = ((λ p. absurd (cc (p.2))), λ n. absurd n)
 
 one_passed : (x : TheRow) (g : Tag) → IsPassed (x ∷ []) g → Before g x.tag
 one_passed x g (zero, y, e, b) = let same : x ≡ y = cc e in subst (λ (z : TheRow). Before g z.tag) (sym same) b
 one_passed x g (suc i, y, e, b) = absurd (cc e)
 
-pub latest_higher : (t : List TheRow) (x : TheRow) (old : Option Tag) → IsLatest t old → ((g : Tag) → old ≡ Some g → Before g x.tag) → IsLatest (t ++ x ∷ []) (Some x.tag)
+pub latest_higher : (t : List TheRow) (x : TheRow) (old : Option Tag) → IsLatestTag t old → ((g : Tag) → old ≡ Some g → Before g x.tag) → IsLatestTag (t ++ x ∷ []) (Some x.tag)
 latest_higher t x old is higher g = (λ p. ⊎_elim (λ q. go old is higher q) (λ q. one_passed x g q) (passed_either t (x ∷ []) g p), λ b. (length t, x, get_last t x, b))
   where
-    go : (old : Option Tag) → IsLatest t old → ((h : Tag) → old ≡ Some h → Before h x.tag) → IsPassed t g → Before g x.tag
+    go : (old : Option Tag) → IsLatestTag t old → ((h : Tag) → old ≡ Some h → Before h x.tag) → IsPassed t g → Before g x.tag
     go None is higher p = absurd ((is g).0 p)
     go (Some h) is higher p = let b = (is g).0 p in let c = higher h refl in grind (arith, b, c)
 
-pub latest_stays : (t : List TheRow) (x : TheRow) (h : Tag) → IsLatest t (Some h) → ¬ Before h x.tag → IsLatest (t ++ x ∷ []) (Some h)
+pub latest_stays : (t : List TheRow) (x : TheRow) (h : Tag) → IsLatestTag t (Some h) → ¬ Before h x.tag → IsLatestTag (t ++ x ∷ []) (Some h)
 latest_stays t x h is not g = (λ p. ⊎_elim (λ q. (is g).0 q) (λ q. up (one_passed x g q)) (passed_either t (x ∷ []) g p), λ b. passed_left t (x ∷ []) g ((is g).1 b))
   where
     up : Before g x.tag → Before g h
     up b = let n = not in grind (arith, order_cases h x.tag)
 
 -- an external input is late where a row at a later tag stands before it
-pub late_behind : (base : PlanParts) (bytes : List ℕ) (lines : List Line) (t u : List TheRow) (latest : Option Tag) (entry : Entry) (number : ℕ) → StandsBehind base.program bytes lines (λ f. IsEntry base.program f entry) → IsLatest u latest → IsBeforeLatest (tag_of entry) latest → rows lines ≡ t ++ u → number ≡ length (inputs lines) + 2 → IsFaultOf base bytes (LateInput number)
-late_behind base bytes lines t u latest entry number stands is before same numbered = (lines, entry, stands, subst (λ (r : List TheRow). IsPassed r (tag_of entry)) (sym same) (passed_right t u (tag_of entry) ((is (tag_of entry)).1 before)), numbered)
+pub late_behind : (base : PlanParts) (bytes : List ℕ) (lines : List Line) (t u : List TheRow) (latest : Option Tag) (entry : Entry) (number : ℕ) → RecordStandsBehind base.program bytes lines (λ f. IsEntry base.program f entry) → IsLatestTag u latest → IsBeforeLatest (tag_of_entry entry) latest → rows lines ≡ t ++ u → number ≡ length (inputs lines) + 2 → IsFaultOf base bytes (LateInput number)
+late_behind base bytes lines t u latest entry number stands is before same numbered = (lines, entry, stands, subst (λ (r : List TheRow). IsPassed r (tag_of_entry entry)) (sym same) (passed_right t u (tag_of_entry entry) ((is (tag_of_entry entry)).1 before)), numbered)
 
 -- ---- lines gone over
 
@@ -59,7 +59,7 @@ pub record IsGone (old now : PlanParts) (t : List TheRow) (lines : List Line) (l
   pub left_is : left ≡ inputs_behind gone others
   pub counted : place ≡ length (inputs first)
   pub gone_is : gone ≡ length (rows first)
-  pub latest_is : IsLatest (rows first) latest
+  pub latest_is : IsLatestTag (rows first) latest
   pub timely : AreTimely t first
   pub told : (base : PlanParts) (earlier : List Entry) → HasTold base earlier old → HasTold base (earlier ++ inputs first) now
 
@@ -162,7 +162,7 @@ module _ (old now : PlanParts) (t : List TheRow) (lines : List Line) (a : Among)
   gone_short all e = let w = gone_within in let l = ap (λ (u : List TheRow). length u) e in omega (arith, w, l)
 
   -- the rows before it are gone over
-  pub rows_gone : (all : List TheRow) → all ≡ rows lines → (after : Option Tag) → ((u : List TheRow) → IsLatest u latest → IsLatest (u ++ slice_range all gone a.rows_before) after) → IsAt old now t lines a more place after
+  pub rows_gone : (all : List TheRow) → all ≡ rows lines → (after : Option Tag) → ((u : List TheRow) → IsLatestTag u latest → IsLatestTag (u ++ slice_range all gone a.rows_before) after) → IsAt old now t lines a more place after
   rows_gone all e after latest_after = record {
     gone = record {
       first = first;
@@ -171,7 +171,7 @@ module _ (old now : PlanParts) (t : List TheRow) (lines : List Line) (a : Among)
       left_is = ap (λ (l : List Among). a ∷ l) n.more_is;
       counted = is.counted ∙ ap (λ (l : List Entry). length l) (sym same_inputs);
       gone_is = let b = n.rows_before in let g = is.gone_is in let l = ap (λ (u : List TheRow). length u) (rows_both is.first n.run) in let l1 = length-append (rows is.first) (rows n.run) in omega (arith, b, g, l, l1);
-      latest_is = subst (λ (u : List TheRow). IsLatest u after) (ap (λ (u : List TheRow). rows is.first ++ u) run_is ∙ sym (rows_both is.first n.run)) (latest_after (rows is.first) is.latest_is);
+      latest_is = subst (λ (u : List TheRow). IsLatestTag u after) (ap (λ (u : List TheRow). rows is.first ++ u) run_is ∙ sym (rows_both is.first n.run)) (latest_after (rows is.first) is.latest_is);
       timely = timely_both t is.first n.run is.timely (n.timely (t ++ rows is.first));
       told = λ base earlier told. subst (λ (l : List Entry). HasTold base (earlier ++ l) now) (sym same_inputs) (is.told base earlier told);
     };
@@ -193,7 +193,7 @@ module _ (old now : PlanParts) (t : List TheRow) (lines : List Line) (a : Among)
   here = at.gone
 
   -- it is told
-  pub input_gone : (new : PlanParts) → ((base : PlanParts) (before : List Entry) → HasTold base before now → HasTold base (before ++ a.entry ∷ []) new) → ((u : List TheRow) → IsLatest u latest → ¬ IsPassed (t ++ u) (tag_of a.entry)) → IsGone old new t lines more (place + 1) a.rows_before latest
+  pub input_gone : (new : PlanParts) → ((base : PlanParts) (before : List Entry) → HasTold base before now → HasTold base (before ++ a.entry ∷ []) new) → ((u : List TheRow) → IsLatestTag u latest → ¬ IsPassed (t ++ u) (tag_of_entry a.entry)) → IsGone old new t lines more (place + 1) a.rows_before latest
   input_gone new told timely = record {
     first = first;
     others = at.behind;
@@ -201,7 +201,7 @@ module _ (old now : PlanParts) (t : List TheRow) (lines : List Line) (a : Among)
     left_is = let e : a ∷ more ≡ a ∷ inputs_behind a.rows_before at.behind = here.left_is ∙ ap (λ (l : List Line). inputs_behind a.rows_before l) at.next in cc e;
     counted = let c = here.counted in let l = ap (λ (es : List Entry). length es) more_inputs in let l1 = length-append (inputs here.first) (a.entry ∷ []) in omega (arith, c, l, l1);
     gone_is = here.gone_is ∙ ap (λ (u : List TheRow). length u) (sym same_rows);
-    latest_is = subst (λ (u : List TheRow). IsLatest u latest) (sym same_rows) here.latest_is;
+    latest_is = subst (λ (u : List TheRow). IsLatestTag u latest) (sym same_rows) here.latest_is;
     timely = timely_both t here.first (Input a.entry ∷ []) here.timely (timely (rows here.first) here.latest_is, tt);
     told = λ base earlier before. subst (λ (l : List Entry). HasTold base l new) (append_assoc earlier (inputs here.first) (a.entry ∷ []) ∙ ap (λ (l : List Entry). earlier ++ l) (sym more_inputs)) (told base (earlier ++ inputs here.first) (here.told base earlier before));
   }
@@ -216,7 +216,7 @@ module _ (old now : PlanParts) (t : List TheRow) (lines : List Line) (a : Among)
       same_rows = rows_both here.first (Input a.entry ∷ []) ∙ append-nil (rows here.first)
 
   -- it is refused
-  pub input_refused : (before : ℕ) (new : PlanParts) (front : LinesRead) (taken : Taken) (f : LogFault) → new ≡ now → taken.rows ≡ a.rows_before → taken.inputs ≡ place → taken.fault ≡ Some f → ((u : List TheRow) → IsLatest u latest → IsInputFault now (t ++ u) a.entry (before + place + 2) f) → IsTaken old new t before front lines taken
+  pub input_refused : (before : ℕ) (new : PlanParts) (front : LinesRead) (taken : Taken) (f : LogFault) → new ≡ now → taken.rows ≡ a.rows_before → taken.inputs ≡ place → taken.fault ≡ Some f → ((u : List TheRow) → IsLatestTag u latest → IsInputFault now (t ++ u) a.entry (before + place + 2) f) → IsTaken old new t before front lines taken
   input_refused before new front taken f stays rows_are inputs_are named of = record {
     first = here.first;
     others = here.others;

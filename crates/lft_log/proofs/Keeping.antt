@@ -14,7 +14,7 @@ use Rattle.lft_log.specs.declared.fault.LogFault.TheVariants.{NoHeader, NoRow, N
 use Rattle.lft_log.specs.declared.{front.LinesRead.LinesRead, log.Log.Log, telling.Taken.Taken, told.Told.Told}
 use Rattle.lft_log.specs.Logs.{BeginsLong, HoldSoFar, IsHead, IsOddLine, inputs, rows}
 use Rattle.lft_log.specs.inner.{Logs.IsFront, Told.{IsAskedOf, IsBegun, IsFaultOfRows, IsLog, IsLogOf, IsSaidOfSome, IsTaken}}
-use Rattle.lft_log.specs.Told.{IsFaultOf, IsOddBehind, IsSaid, IsSoon, KeepTo, StandsBehind}
+use Rattle.lft_log.specs.Told.{IsFaultOf, IsOddLineBehind, IsSaid, IsSoon, KeepTo, RecordStandsBehind}
 use Rattle.lft_log.proofs.{Asking.{asked_within, kept_before}, Holding.{header_there, hold_longer}, Odd.{line_longer, long_longer}}
 use Rattle.lft_log.proofs.Taking.{all_held, fault_held, fault_of_rows, grown, grown_numbered, grown_rows, grown_tells, grown_timely, grown_told, taken_rows}
 use Rattle.lft_trace.specs.declared.log_table.LineFault.TheVariants as none
@@ -134,10 +134,10 @@ soon_longer base until bytes more told (plan, t, later, others, rest, is, keeps,
   said,
 )
 
-behind_longer : (program : Parts) (bytes more : List ℕ) (lines : List Line) (P : List (List ℕ) → Type 0) → StandsBehind program bytes lines P → StandsBehind program (bytes ++ more) lines P
+behind_longer : (program : Parts) (bytes more : List ℕ) (lines : List Line) (P : List (List ℕ) → Type 0) → RecordStandsBehind program bytes lines P → RecordStandsBehind program (bytes ++ more) lines P
 behind_longer program bytes more lines P (others, rest, held, b) = (others, rest ++ more, (hold_longer program bytes rest more lines others held.0, held.1), b)
 
-odd_longer : (base : PlanParts) (bytes more : List ℕ) (f : LogFault) → IsOddBehind base bytes f → IsOddBehind base (bytes ++ more) f
+odd_longer : (base : PlanParts) (bytes more : List ℕ) (f : LogFault) → IsOddLineBehind base bytes f → IsOddLineBehind base (bytes ++ more) f
 odd_longer base bytes more f (lines, rest, held, x) = (lines, rest ++ more, (hold_longer base.program bytes rest more lines [] held.0, held.1), line_longer (IsOddLine (length (rows lines) + 2) (length (inputs lines) + 2) f) rest more x)
 
 pub fault_longer : (base : PlanParts) (bytes more : List ℕ) (f : LogFault) → IsFaultOf base bytes f → IsFaultOf base (bytes ++ more) f

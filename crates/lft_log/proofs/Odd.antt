@@ -8,7 +8,7 @@ use Rattle.memchr.specs.Find.{FindsNeedle, OccursAt}
 use Rattle.lft_ir.proofs.Ranges.{slice_get-drop, slice_get-take}
 use Rattle.lft_lists.proofs.{Picked.take_next, Places.{get_append_cases, get_last, get_left}}
 use Rattle.lft_trace.specs.Parts.{EndsLine}
-use Rattle.lft_log.specs.Logs.{ArePlain, BeginsLong, BeginsWithLine, HasNoEnd, IsHead, IsOddLine, IsOneLine, HasWords, header_words}
+use Rattle.lft_log.specs.Logs.{ArePlain, BeginsLong, BeginsWithLine, HasNoEnd, IsHead, IsOddLine, IsOneLine, HasHeaderWords, header_words}
 use Rattle.lft_log.specs.{inner.Logs.{BeginsOdd, IsLoneReturn}, declared.fault.LogFault.LogFault}
 use Rattle.lft_log.proofs.{Ends.{never_both, range_take}, Plain.words_line}
 
@@ -119,7 +119,7 @@ odd_line lines n row input f one is odd =
     (take n lines, drop n lines, parted, one, subst (IsOddLine row input f) (range_take lines n) (is (λ plain. odd (take n lines) (drop n lines) parted one (subst ArePlain (range_take lines n) plain))))
 
 -- a search for the header's words
-pub words_there : (line : List ℕ) (r : Option ℕ) (b : Bool) → b ≡ is_some r → FindsNeedle line header_words 0 r → IsTrue b ↔ HasWords line
+pub words_there : (line : List ℕ) (r : Option ℕ) (b : Bool) → b ≡ is_some r → FindsNeedle line header_words 0 r → IsTrue b ↔ HasHeaderWords line
 words_there line None b e none = ((λ yes. absurd (false≢true (sym e ∙ yes))), λ h. absurd (none h.0 (omega arith) (let fits = h.1.fits in omega (arith, fits)) h.1))
 words_there line (Some k) b e found = ((λ yes. (k, found.1)), λ h. e)
 

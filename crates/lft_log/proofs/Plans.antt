@@ -6,7 +6,7 @@ use Rattle.std.proofs.lemmas.List.Sorted.{IsPermutation-insert, IsPermutation-re
 use Rattle.lft_tag.specs.{declared.Tag.Tag, Tags.{earlier, earliest}}
 use Rattle.lft_ir.specs.{declared.steps.externals.Event.Event as EventOf, Steps.Inputs.InOrder}
 use Rattle.lft_model.specs.Plans.{PlanParts}
-use Rattle.lft_monitor.{specs.inner.Follows.{HasOneMore, stopped_at}, proofs.Sooner.swapped}
+use Rattle.lft_monitor.{specs.inner.Follows.{HasOneMoreEvent, stopped_at}, proofs.Sooner.swapped}
 use Rattle.lft_log.specs.Told.{HasTold}
 use Rattle.lft_trace.specs.{ExternalTables.{event_of, stop_of}, declared.external_table.Entry.{Entry, TheVariants.{Happens, Stops}}}
 
@@ -25,7 +25,7 @@ told_none base order = record {
 }
 
 -- an event is put at its place
-pub told_event : (base : PlanParts) (before : List Entry) (old new : PlanParts) (e : EventOf) → HasOneMore old new e → InOrder new.externals.events → HasTold base before old → HasTold base (before ++ Happens e ∷ []) new
+pub told_event : (base : PlanParts) (before : List Entry) (old new : PlanParts) (e : EventOf) → HasOneMoreEvent old new e → InOrder new.externals.events → HasTold base before old → HasTold base (before ++ Happens e ∷ []) new
 told_event base before old new e more order told = record {
   program = more.program ∙ told.program;
   events = subst (λ xs. IsPermutation xs new.externals.events) whole (subst (λ zs. IsPermutation ((first ++ mine) ++ e ∷ []) zs) (sym more.events) (IsPermutation-push_more (first ++ mine) old.externals.events (insert old.externals.events more.place e) e told.events (IsPermutation-insert old.externals.events more.place e)));

@@ -8,8 +8,8 @@ use Rattle.lft_log.specs.declared.fault.LogFault.{LogFault}
 use Rattle.lft_log.specs.declared.fault.LogFault.TheVariants.{NoHeader, NoRow, NotPlain, SecondHeader, LongLine, TooManyRows, NoInput, NotPlainInput, LateInput, InputAgain, ManyLater, TooManyInputs, NoMemory}
 use Rattle.lft_log.specs.declared.{front.LinesRead.LinesRead, telling.Taken.Taken}
 use Rattle.lft_log.specs.Logs.{AreTimely, BeginsWithLine, HoldSoFar, IsOddLine, inputs, rows}
-use Rattle.lft_log.specs.inner.{Logs.{IsFaultBehind, IsFront}, Told.{IsFaultOfRows, IsRefused, IsTaken}}
-use Rattle.lft_log.specs.Told.{AreTooMany, HasTold, IsFaultOf, IsOddBehind, StandsBehind, TellsPlan}
+use Rattle.lft_log.specs.inner.{Logs.{IsFaultBehind, IsFront}, Told.{IsFaultOfRows, IsInputRefused, IsTaken}}
+use Rattle.lft_log.specs.Told.{AreTooMany, HasTold, IsFaultOf, IsOddLineBehind, RecordStandsBehind, TellsPlan}
 use Rattle.lft_log.proofs.{Ends.range_take, Fronts.all_dropped, Holding.{hold_cut, hold_front}, Odd.line_longer, Behind.{inputs_both, rows_both, timely_both}}
 
 -- no records tell no lines
@@ -20,7 +20,7 @@ zip_none R (f ∷ fs) (x ∷ xs) e h = absurd (cc e)
 
 -- the fault of a record behind lines, or of the line behind them, is one of the log
 module _ (base : PlanParts) (bytes : List ℕ) (lines : List Line) (others : List (List (List ℕ))) (rest behind : List ℕ) (h : HoldSoFar base.program bytes lines others (rest ++ behind)) (timely : AreTimely [] lines) where
-  odd_behind : (f : LogFault) → (others ≡ []) × BeginsWithLine (IsOddLine (length (rows lines) + 2) (length (inputs lines) + 2) f) rest → IsOddBehind base bytes f
+  odd_behind : (f : LogFault) → (others ≡ []) × BeginsWithLine (IsOddLine (length (rows lines) + 2) (length (inputs lines) + 2) f) rest → IsOddLineBehind base bytes f
   odd_behind f (none, x) = (lines, rest ++ behind, (subst (λ r. HoldSoFar base.program bytes lines r (rest ++ behind)) none h, timely), line_longer (IsOddLine (length (rows lines) + 2) (length (inputs lines) + 2) f) rest behind x)
 
   neither : ⊥ ⊎ (others ≡ []) × BeginsWithLine (λ line. ⊥) rest → ⊥
@@ -48,7 +48,7 @@ module _ (base : PlanParts) (bytes : List ℕ) (lines : List Line) (others : Lis
   fault_behind NoMemory x = absurd (neither x)
 
 -- the next line is that of an external input
-behind_cut : (program : Parts) (bytes : List ℕ) (lines : List Line) (cut others : List (List (List ℕ))) (rest : List ℕ) (left : List Line) (entry : Entry) (more : List Line) → HoldSoFar program bytes lines (cut ++ others) rest → AreTimely [] lines → left ≡ Input entry ∷ more → AllZip (IsLine program) cut left → StandsBehind program bytes lines (λ f. IsEntry program f entry)
+behind_cut : (program : Parts) (bytes : List ℕ) (lines : List Line) (cut others : List (List (List ℕ))) (rest : List ℕ) (left : List Line) (entry : Entry) (more : List Line) → HoldSoFar program bytes lines (cut ++ others) rest → AreTimely [] lines → left ≡ Input entry ∷ more → AllZip (IsLine program) cut left → RecordStandsBehind program bytes lines (λ f. IsEntry program f entry)
 behind_cut program bytes lines [] others rest left entry more h timely next each = absurd (subst (λ (l : List Line). AllZip (IsLine program) [] l) next each)
 behind_cut program bytes lines (f ∷ cut) others rest left entry more h timely next each =
     let e = subst (λ (l : List Line). AllZip (IsLine program) (f ∷ cut) l) next each in
@@ -91,7 +91,7 @@ module _ (base old new : PlanParts) (bytes text behind : List ℕ) (before : Lis
   pub all_held : taken.fault ≡ None → HoldSoFar base.program bytes grown [] behind
   all_held none = go is.ends
     where
-      go : (is.others ≡ []) × (taken.fault ≡ front.fault) ⊎ IsRefused new (rows before ++ rows is.first) (inputs_before + taken.inputs + 2) is.others taken.fault → HoldSoFar base.program bytes grown [] behind
+      go : (is.others ≡ []) × (taken.fault ≡ front.fault) ⊎ IsInputRefused new (rows before ++ rows is.first) (inputs_before + taken.inputs + 2) is.others taken.fault → HoldSoFar base.program bytes grown [] behind
       go (inl (end, same)) =
           let all = fronts.all (sym same ∙ none) in
           let no_cut : cut.0 ≡ [] = zip_none (IsLine base.program) cut.0 is.others end cut.2 in
@@ -136,7 +136,7 @@ module _ (base old new : PlanParts) (bytes text behind : List ℕ) (before : Lis
     pub fault_held : (f : LogFault) → taken.fault ≡ Some f → rows_before ≡ length (rows before) → inputs_before ≡ length (inputs before) → IsFaultOf base bytes f
     fault_held f named counted numbered = go is.ends
       where
-        go : (is.others ≡ []) × (taken.fault ≡ front.fault) ⊎ IsRefused new (rows before ++ rows is.first) (inputs_before + taken.inputs + 2) is.others taken.fault → IsFaultOf base bytes f
+        go : (is.others ≡ []) × (taken.fault ≡ front.fault) ⊎ IsInputRefused new (rows before ++ rows is.first) (inputs_before + taken.inputs + 2) is.others taken.fault → IsFaultOf base bytes f
         go (inl (end, same)) =
             let all = before ++ fronts.lines in
             let left = drop fronts.plain text in

@@ -45,8 +45,8 @@ pub record ArePlain (text : List ℕ) : Type 0 where
   pub headless : (i : ℕ) → ¬ OccursAt text header_words i
 
 -- the header's words stand in the line
-abbrev pub HasWords : List ℕ → Type 0
-HasWords line = (i : ℕ) × OccursAt line header_words i
+abbrev pub HasHeaderWords : List ℕ → Type 0
+HasHeaderWords line = (i : ℕ) × OccursAt line header_words i
 
 -- the text is one line, with its end
 abbrev pub IsOneLine : List ℕ → Type 0
@@ -65,24 +65,24 @@ abbrev pub fields : List ℕ → ℕ
 fields line = length (places (is_byte 44) line) + 1
 
 -- the line begins with the word
-abbrev pub BeginsWith : List ℕ → List ℕ → Type 0
-BeginsWith word line = (rest : List ℕ) × (line ≡ word ++ rest)
+abbrev pub LineBeginsWith : List ℕ → List ℕ → Type 0
+LineBeginsWith word line = (rest : List ℕ) × (line ≡ word ++ rest)
 
 -- the line ends with the word
-abbrev pub EndsWith : List ℕ → List ℕ → Type 0
-EndsWith word line = (front : List ℕ) × (line ≡ front ++ word)
+abbrev pub LineEndsWith : List ℕ → List ℕ → Type 0
+LineEndsWith word line = (front : List ℕ) × (line ≡ front ++ word)
 
 -- the line begins with the word of an external input, and has the fields of one
 abbrev pub IsOfInput : List ℕ → Type 0
-IsOfInput line = (BeginsWith (codes "event,") line ⊎ BeginsWith (codes "stop,") line) × (fields line ≡ 5)
+IsOfInput line = (LineBeginsWith (codes "event,") line ⊎ LineBeginsWith (codes "stop,") line) × (fields line ≡ 5)
 
 -- the line has the fields of a row, of which the last is empty, and isn't that of a `schedule`, whose last field may be longer
 abbrev pub IsWholeRow : List ℕ → Type 0
-IsWholeRow line = (fields line ≡ 8) × EndsWith (codes ",") line × ¬ BeginsWith (codes "schedule,") line
+IsWholeRow line = (fields line ≡ 8) × LineEndsWith (codes ",") line × ¬ LineBeginsWith (codes "schedule,") line
 
 -- the line has the fields of a stop, of which the last two are empty
 abbrev pub IsWholeStop : List ℕ → Type 0
-IsWholeStop line = (fields line ≡ 5) × EndsWith (codes ",,") line × BeginsWith (codes "stop,") line
+IsWholeStop line = (fields line ≡ 5) × LineEndsWith (codes ",,") line × LineBeginsWith (codes "stop,") line
 
 -- nothing can be missing of the line but its line feed: it is the header, or a row or a stop whose last fields are empty
 abbrev pub IsWholeLine : List ℕ → Type 0
@@ -108,24 +108,24 @@ abbrev pub rows : List Line → List TheRow
 rows lines = filter_map row_of lines
 
 -- the external input of a line, if it is one
-abbrev pub entry_of : Line → Option Entry
-entry_of (Row row) = None
-entry_of (Input entry) = Some entry
+abbrev pub entry_of_line : Line → Option Entry
+entry_of_line (Row row) = None
+entry_of_line (Input entry) = Some entry
 
 -- the external inputs among lines, in their order
 abbrev pub inputs : List Line → List Entry
-inputs lines = filter_map entry_of lines
+inputs lines = filter_map entry_of_line lines
 
 -- the tag of an event or a stop
-abbrev pub tag_of : Entry → Tag
-tag_of (Happens e) = e.tag
-tag_of (Stops g) = g
+abbrev pub tag_of_entry : Entry → Tag
+tag_of_entry (Happens e) = e.tag
+tag_of_entry (Stops g) = g
 
 -- behind these rows, no external input among the lines stands behind a row at a later tag
 abbrev pub AreTimely : List TheRow → List Line → Type 0
 AreTimely t [] = Unit {0}
 AreTimely t (Row row ∷ lines) = AreTimely (t ++ row ∷ []) lines
-AreTimely t (Input entry ∷ lines) = ¬ IsPassed t (tag_of entry) × AreTimely t lines
+AreTimely t (Input entry ∷ lines) = ¬ IsPassed t (tag_of_entry entry) × AreTimely t lines
 
 -- the records of a text that stands below others: no byte order mark is taken off
 abbrev pub records_below : List ℕ → List (List (List ℕ))
@@ -153,7 +153,7 @@ BeginsWithRecord P records = (next : List (List ℕ)) × (more : List (List (Lis
 
 -- the fault is of a line that isn't plain, which has this number among rows, or that among external inputs
 abbrev pub IsOddLine : ℕ → ℕ → LogFault → List ℕ → Type 0
-IsOddLine row input (SecondHeader n) line = (n ≡ row) × HasWords line
-IsOddLine row input (NotPlainInput n) line = (n ≡ input) × ¬ ArePlain line × ¬ HasWords line × IsOfInput line
-IsOddLine row input (NotPlain n) line = (n ≡ row) × ¬ ArePlain line × ¬ HasWords line × ¬ IsOfInput line
+IsOddLine row input (SecondHeader n) line = (n ≡ row) × HasHeaderWords line
+IsOddLine row input (NotPlainInput n) line = (n ≡ input) × ¬ ArePlain line × ¬ HasHeaderWords line × IsOfInput line
+IsOddLine row input (NotPlain n) line = (n ≡ row) × ¬ ArePlain line × ¬ HasHeaderWords line × ¬ IsOfInput line
 IsOddLine row input f line = ⊥

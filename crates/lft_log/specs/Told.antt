@@ -6,10 +6,10 @@ use Rattle.lft_tag.specs.{declared.{NoMemory.NoMemory as WantOfMemory, Tag.Tag},
 use Rattle.lft_model.specs.{Plans.PlanParts, Breaches.First}
 use Rattle.lft_rows.specs.Accepted.{IsAccepted}
 use Rattle.lft_monitor.specs.{declared.open.StillOpen.StillOpen, OpenRuns.AreOpenRuns}
-use Rattle.lft_monitor.specs.Follows.{HasManyAtLast, HasManyLater, IsSureSoFar, IsOddSoFar, IsClean, IsFirstUpToLast, IsJudged, IsPassed, IsQuiet, breach_of}
+use Rattle.lft_monitor.specs.Follows.{HasManyAtLast, HasManyLater, IsSureSoFar, IsOddSoFar, IsCleanSoFar, IsFirstUpToLast, IsJudged, IsPassed, IsQuiet, breach_of}
 use Rattle.lft_trace.specs.{ExternalTables.{IsEntry, event_of, stop_of}, LogTables.IsNoLine}
 use Rattle.lft_trace.specs.declared.{external_table.Entry.{Entry, TheVariants.Happens}, log_table.Line.Line}
-use Rattle.lft_log.specs.Logs.{AreTimely, BeginsLong, BeginsWithLine, BeginsWithRecord, HasNoEnd, HoldSoFar, IsHead, IsOddLine, LastCounts, LastIsLeft, inputs, rows, tag_of}
+use Rattle.lft_log.specs.Logs.{AreTimely, BeginsLong, BeginsWithLine, BeginsWithRecord, HasNoEnd, HoldSoFar, IsHead, IsOddLine, LastCounts, LastIsLeft, inputs, rows, tag_of_entry}
 use Rattle.lft_log.specs.declared.fault.LogFault.{LogFault}
 use Rattle.lft_log.specs.declared.fault.LogFault.TheVariants.{NoHeader, NoRow, NoInput, LateInput, InputAgain, ManyLater, LongLine, TooManyRows, TooManyInputs, NoMemory}
 use Rattle.lft_log.specs.declared.told.{Told.{Told, TheVariants.{Broken, Odd, Reached}}, Final.{Final, TheVariants.{Soon, AtEnd}}}
@@ -38,13 +38,13 @@ pub record IsFirstFrom (asked : Tag) (t : List Row) (place : ℕ) (row : Row) : 
   pub first : (i : ℕ) (x : Row) → i < place → slice_get t i ≡ Some x → Before x.tag asked
 
 -- the tag isn't past the end of what is asked for, which is the tag of the first row at or past it
-abbrev pub IsWithin : Option Tag → List Row → Tag → Type 0
-IsWithin None t g = Unit {0}
-IsWithin (Some asked) t g = (place : ℕ) (row : Row) → IsFirstFrom asked t place row → UpTo g row.tag
+abbrev pub IsWithinAsked : Option Tag → List Row → Tag → Type 0
+IsWithinAsked None t g = Unit {0}
+IsWithinAsked (Some asked) t g = (place : ℕ) (row : Row) → IsFirstFrom asked t place row → UpTo g row.tag
 
 -- no row is past the end of what is asked for
 abbrev pub KeepTo : Option Tag → List Row → Type 0
-KeepTo until t = (i : ℕ) (x : Row) → slice_get t i ≡ Some x → IsWithin until t x.tag
+KeepTo until t = (i : ℕ) (x : Row) → slice_get t i ≡ Some x → IsWithinAsked until t x.tag
 
 -- the tag is past the end of what is asked for
 abbrev pub IsPastEnd : Option Tag → List Row → Tag → Type 0
@@ -59,7 +59,7 @@ AreAll until t more = (next : Row) × (slice_get more 0 ≡ Some next) × IsPast
 abbrev pub IsSaid : PlanParts → Option Tag → List Row → List Row → Told → Type 0
 IsSaid plan until t more (Broken b) = IsSureSoFar plan t (breach_of b) ⊎ AreAll until t more × IsQuiet plan t × IsFirstUpToLast plan t (breach_of b)
 IsSaid plan until t more (Odd r line) = IsOddSoFar plan t r line
-IsSaid plan until t more (Reached r) = AreAll until t more × IsClean plan t r
+IsSaid plan until t more (Reached r) = AreAll until t more × IsCleanSoFar plan t r
 
 -- what is told before the end is so of the first rows of the bytes, none of which is past the end of what is asked for, for the plan that they tell
 abbrev pub IsSoon : PlanParts → Option Tag → List ℕ → Told → Type 0
@@ -69,7 +69,7 @@ IsSoon base until bytes told = (plan : PlanParts) × (t : List Row) × (more : L
 abbrev pub IsFinal : PlanParts → Option Tag → Bool → List ℕ → Final → Type 0
 IsFinal base until whole bytes (Soon told) = IsSoon base until bytes told
 IsFinal base until whole bytes (AtEnd (ending.Accepted c)) = (plan : PlanParts) × (t : List Row) × TellsPlan base bytes plan t [] [] × KeepTo until t × IsAccepted plan t c.runs c.tags
-IsFinal base until whole bytes (AtEnd (ending.Unbroken r)) = (plan : PlanParts) × (t : List Row) × (rest : List ℕ) × TellsPlan base bytes plan t [] rest × KeepTo until t × HasNoEnd rest × (IsJudged plan t r ⊎ IsClean plan t r)
+IsFinal base until whole bytes (AtEnd (ending.Unbroken r)) = (plan : PlanParts) × (t : List Row) × (rest : List ℕ) × TellsPlan base bytes plan t [] rest × KeepTo until t × HasNoEnd rest × (IsJudged plan t r ⊎ IsCleanSoFar plan t r)
 IsFinal base until whole bytes (AtEnd (ending.Broken b)) = (whole ≡ true) × ((plan : PlanParts) × (t : List Row) × TellsPlan base bytes plan t [] [] × KeepTo until t × First plan t (breach_of b))
 
 -- what is told of bytes behind which no more come, or before the end: at the end it is so of all that counts
@@ -95,12 +95,12 @@ TellsOpen base bytes (Soon told) runs = Unit {0}
 TellsOpen base bytes (AtEnd ending) runs = IfOk runs (λ v. AreOpenAtEnd base bytes v.items)
 
 -- behind the lines of a log stands a record of which this is so
-abbrev pub StandsBehind : Parts → List ℕ → List Line → (List (List ℕ) → Type 0) → Type 0
-StandsBehind program bytes lines P = (others : List (List (List ℕ))) × (rest : List ℕ) × HoldInTime program bytes lines others rest × BeginsWithRecord P others
+abbrev pub RecordStandsBehind : Parts → List ℕ → List Line → (List (List ℕ) → Type 0) → Type 0
+RecordStandsBehind program bytes lines P = (others : List (List (List ℕ))) × (rest : List ℕ) × HoldInTime program bytes lines others rest × BeginsWithRecord P others
 
 -- behind the lines of a log stands one that isn't plain, of which the fault is told
-abbrev pub IsOddBehind : PlanParts → List ℕ → LogFault → Type 0
-IsOddBehind base bytes f = (lines : List Line) × (rest : List ℕ) × HoldInTime base.program bytes lines [] rest × BeginsWithLine (IsOddLine (length (rows lines) + 2) (length (inputs lines) + 2) f) rest
+abbrev pub IsOddLineBehind : PlanParts → List ℕ → LogFault → Type 0
+IsOddLineBehind base bytes f = (lines : List Line) × (rest : List ℕ) × HoldInTime base.program bytes lines [] rest × BeginsWithLine (IsOddLine (length (rows lines) + 2) (length (inputs lines) + 2) f) rest
 
 -- behind 4,000,000 rows at one tag another row stands, or more than 2^62 rows are there
 abbrev pub AreTooMany : List Row → Type 0
@@ -113,16 +113,16 @@ AreAllEvents base told = (plan : PlanParts) × HasTold base told plan × (400000
 -- what in the bytes shows the fault, with the number of its line among rows or among external inputs; want of memory shows nowhere
 abbrev pub IsFaultOf : PlanParts → List ℕ → LogFault → Type 0
 IsFaultOf base bytes NoHeader = BeginsWithLine (λ line. ¬ IsHead line) bytes
-IsFaultOf base bytes (NoRow e line) = (lines : List Line) × StandsBehind base.program bytes lines (λ f. IsNoLine base.program f (none.NoRow e)) × (line ≡ length (rows lines) + 2)
-IsFaultOf base bytes (NoInput e line) = (lines : List Line) × StandsBehind base.program bytes lines (λ f. IsNoLine base.program f (none.NoInput e)) × (line ≡ length (inputs lines) + 2)
-IsFaultOf base bytes (LateInput line) = (lines : List Line) × (entry : Entry) × StandsBehind base.program bytes lines (λ f. IsEntry base.program f entry) × IsPassed (rows lines) (tag_of entry) × (line ≡ length (inputs lines) + 2)
-IsFaultOf base bytes (InputAgain line) = (lines : List Line) × (event : EventOf) × StandsBehind base.program bytes lines (λ f. IsEntry base.program f (Happens event)) × ((plan : PlanParts) × HasTold base (inputs lines) plan × IsTold plan.externals.events event) × (line ≡ length (inputs lines) + 2)
-IsFaultOf base bytes (ManyLater line) = (lines : List Line) × (event : EventOf) × StandsBehind base.program bytes lines (λ f. IsEntry base.program f (Happens event)) × ((plan : PlanParts) × HasTold base (inputs lines) plan × HasManyLater plan.externals.events event.tag) × (line ≡ length (inputs lines) + 2)
+IsFaultOf base bytes (NoRow e line) = (lines : List Line) × RecordStandsBehind base.program bytes lines (λ f. IsNoLine base.program f (none.NoRow e)) × (line ≡ length (rows lines) + 2)
+IsFaultOf base bytes (NoInput e line) = (lines : List Line) × RecordStandsBehind base.program bytes lines (λ f. IsNoLine base.program f (none.NoInput e)) × (line ≡ length (inputs lines) + 2)
+IsFaultOf base bytes (LateInput line) = (lines : List Line) × (entry : Entry) × RecordStandsBehind base.program bytes lines (λ f. IsEntry base.program f entry) × IsPassed (rows lines) (tag_of_entry entry) × (line ≡ length (inputs lines) + 2)
+IsFaultOf base bytes (InputAgain line) = (lines : List Line) × (event : EventOf) × RecordStandsBehind base.program bytes lines (λ f. IsEntry base.program f (Happens event)) × ((plan : PlanParts) × HasTold base (inputs lines) plan × IsTold plan.externals.events event) × (line ≡ length (inputs lines) + 2)
+IsFaultOf base bytes (ManyLater line) = (lines : List Line) × (event : EventOf) × RecordStandsBehind base.program bytes lines (λ f. IsEntry base.program f (Happens event)) × ((plan : PlanParts) × HasTold base (inputs lines) plan × HasManyLater plan.externals.events event.tag) × (line ≡ length (inputs lines) + 2)
 IsFaultOf base bytes (LongLine line) = BeginsLong bytes × (line ≡ 1) ⊎ ((lines : List Line) × (rest : List ℕ) × HoldInTime base.program bytes lines [] rest × BeginsLong rest × (line ≡ length (rows lines) + 2))
 IsFaultOf base bytes TooManyRows = (lines : List Line) × (others : List (List (List ℕ))) × (rest : List ℕ) × HoldInTime base.program bytes lines others rest × AreTooMany (rows lines)
-IsFaultOf base bytes TooManyInputs = ((lines : List Line) × (event : EventOf) × StandsBehind base.program bytes lines (λ f. IsEntry base.program f (Happens event)) × AreAllEvents base (inputs lines)) ⊎ ((lines : List Line) × (rest : List ℕ) × HoldInTime base.program bytes lines [] rest × (2 ^ 62 < length (inputs lines)))
+IsFaultOf base bytes TooManyInputs = ((lines : List Line) × (event : EventOf) × RecordStandsBehind base.program bytes lines (λ f. IsEntry base.program f (Happens event)) × AreAllEvents base (inputs lines)) ⊎ ((lines : List Line) × (rest : List ℕ) × HoldInTime base.program bytes lines [] rest × (2 ^ 62 < length (inputs lines)))
 IsFaultOf base bytes NoMemory = Unit {0}
-IsFaultOf base bytes f = IsOddBehind base bytes f
+IsFaultOf base bytes f = IsOddLineBehind base bytes f
 
 -- what shows a fault where no more bytes come: it is of all that counts; or a half line that doesn't count is all there is, and there is no header
 abbrev pub IsFaultAtEnd : PlanParts → List ℕ → LogFault → Type 0

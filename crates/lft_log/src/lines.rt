@@ -3,7 +3,7 @@
 ghost use Rattle.std.specs.Prelude.{◌≡◌, ◌≢◌, ◌↔◌, ◌⊎◌, ◌<◌, ◌≤◌, ◌+◌, ◌++◌, ◌∷◌, ℕ, List, [], Some, length, take, drop, slice_get, IfNone, IfSome, IsTrue, false, MatchOption};
 ghost use Rattle.memchr.specs.Find.{OccursAt};
 ghost use Rattle.lft_trace.specs.Parts.{EndsLine};
-ghost use Rattle.lft_log.specs.Logs.{AreLines, ArePlain, BeginsWith, EndsWith, HasNoEnd, HasWords, IsHead, IsHeaderThen, IsOfInput, IsOneLine, IsWholeLine, IsWholeRow, IsWholeStop, fields, header_words};
+ghost use Rattle.lft_log.specs.Logs.{AreLines, ArePlain, LineBeginsWith, LineEndsWith, HasNoEnd, HasHeaderWords, IsHead, IsHeaderThen, IsOfInput, IsOneLine, IsWholeLine, IsWholeRow, IsWholeStop, fields, header_words};
 ghost use Rattle.lft_log.specs.inner.Logs.{BeginsOdd, IsLoneReturn};
 
 use memchr::{memchr, memchr_iter, memmem, memrchr};
@@ -86,7 +86,7 @@ pub(crate) fn is_input(line: &[u8]) -> bool
 
 /// Whether the header's words stand in the line.
 pub(crate) fn has_words(line: &[u8]) -> bool
-    ensures { IsTrue result ↔ HasWords line.now }
+    ensures { IsTrue result ↔ HasHeaderWords line.now }
 {
     // Anywhere in it: a second log may begin with a byte order mark.
     memmem::find(line, WORDS).is_some()
@@ -178,14 +178,14 @@ fn is_header(line: &[u8]) -> bool
 
 /// Whether the line begins with the word.
 fn begins_with(line: &[u8], word: &[u8]) -> bool
-    ensures { IsTrue result ↔ BeginsWith word.now line.now }
+    ensures { IsTrue result ↔ LineBeginsWith word.now line.now }
 {
     line.starts_with(word)
 }
 
 /// Whether the line ends with the word.
 fn ends_with(line: &[u8], word: &[u8]) -> bool
-    ensures { IsTrue result ↔ EndsWith word.now line.now }
+    ensures { IsTrue result ↔ LineEndsWith word.now line.now }
 {
     line.ends_with(word)
 }

@@ -7,7 +7,7 @@ ghost use Rattle.lft_model.specs.Plans.{PlanParts};
 ghost use Rattle.lft_monitor.specs.{inner.Follows.IsFollowerOf, Follows.IsPassed};
 ghost use Rattle.lft_trace.specs.declared.{external_table.Entry.Entry as TheEntry, log_table.Line.Line as TheLine};
 ghost use Rattle.lft_trace.specs.inner.LogTables.{EntryFits, InputsFit, inputs_behind};
-ghost use Rattle.lft_log.specs.{Logs.{rows, tag_of}, Told.HasTold, inner.Told.{IsBeforeLatest, IsInputFault, IsLatest, IsTaken}};
+ghost use Rattle.lft_log.specs.{Logs.{rows, tag_of_entry}, Told.HasTold, inner.Told.{IsBeforeLatest, IsInputFault, IsLatestTag, IsTaken}};
 
 use crate::fault::LogFault;
 use crate::front::LinesRead;
@@ -73,7 +73,7 @@ fn tell(follower: &mut Follower, plan: &mut Plan, entry: Entry, number: u64) -> 
     requires fit { EntryFits plan.old.program entry }
     ensures program { plan.new.program ≡ plan.old.program }
     ensures told { IfOk result (λ _. (base : PlanParts) (before : List TheEntry) → HasTold base before plan.old → HasTold base (before ++ entry ∷ []) plan.new) }
-    ensures timely { IfOk result (λ _. (t : List TheRow) → IsFollowerOf plan.old t follower.old → ¬ IsPassed t (tag_of entry)) }
+    ensures timely { IfOk result (λ _. (t : List TheRow) → IsFollowerOf plan.old t follower.old → ¬ IsPassed t (tag_of_entry entry)) }
     ensures stands { (t : List TheRow) → IsFollowerOf plan.old t follower.old → IsFollowerOf plan.new t follower.new }
     ensures stays { OnErr result (plan.new ≡ plan.old) }
     ensures fault { IfErr result (λ f. (t u : List TheRow) → IsFollowerOf plan.old t follower.old → IsInputFault plan.old (t ++ u) entry number f) }
@@ -86,7 +86,7 @@ fn tell(follower: &mut Follower, plan: &mut Plan, entry: Entry, number: u64) -> 
 
 /// The latest tag of rows and one more, where this is that of the others.
 fn latest_with(latest: Option<Tag>, row: Row) -> Option<Tag>
-    ensures { (t : List TheRow) → IsLatest t latest → IsLatest (t ++ row ∷ []) result }
+    ensures { (t : List TheRow) → IsLatestTag t latest → IsLatestTag (t ++ row ∷ []) result }
 {
     match latest {
         None => Some(row.tag),
@@ -102,7 +102,7 @@ fn latest_with(latest: Option<Tag>, row: Row) -> Option<Tag>
 
 /// The latest tag of rows and some more, where this is that of the others.
 fn latest_of(before: Option<Tag>, rows: &[Row]) -> Option<Tag>
-    ensures { (t : List TheRow) → IsLatest t before → IsLatest (t ++ rows.now) result }
+    ensures { (t : List TheRow) → IsLatestTag t before → IsLatestTag (t ++ rows.now) result }
 {
     let mut latest = before;
     for place in 0..rows.len() {
@@ -123,7 +123,7 @@ fn is_before_latest(tag: Tag, latest: Option<Tag>) -> bool
 
 /// The tag of an external input.
 fn tag_of(entry: Entry) -> Tag
-    ensures { result ≡ tag_of entry }
+    ensures { result ≡ tag_of_entry entry }
 {
     match entry {
         Entry::Happens(event) => event.tag,
@@ -142,10 +142,10 @@ fn tell_behind(
     requires fit { EntryFits plan.old.program entry }
     ensures program { plan.new.program ≡ plan.old.program }
     ensures told { IfOk result (λ _. (base : PlanParts) (before : List TheEntry) → HasTold base before plan.old → HasTold base (before ++ entry ∷ []) plan.new) }
-    ensures timely { IfOk result (λ _. (t u : List TheRow) → IsFollowerOf plan.old t follower.old → IsLatest u latest → ¬ IsPassed (t ++ u) (tag_of entry)) }
+    ensures timely { IfOk result (λ _. (t u : List TheRow) → IsFollowerOf plan.old t follower.old → IsLatestTag u latest → ¬ IsPassed (t ++ u) (tag_of_entry entry)) }
     ensures stands { (t : List TheRow) → IsFollowerOf plan.old t follower.old → IsFollowerOf plan.new t follower.new }
     ensures stays { OnErr result (plan.new ≡ plan.old) }
-    ensures fault { IfErr result (λ f. (t u : List TheRow) → IsFollowerOf plan.old t follower.old → IsLatest u latest → IsInputFault plan.old (t ++ u) entry number f) }
+    ensures fault { IfErr result (λ f. (t u : List TheRow) → IsFollowerOf plan.old t follower.old → IsLatestTag u latest → IsInputFault plan.old (t ++ u) entry number f) }
 {
     // Rows at its own tag may stand before it: only one at a later tag makes it late.
     if is_before_latest(tag_of(entry), latest) {

@@ -6,7 +6,7 @@ use Rattle.lft_tree.specs.declared.tree.Member.{Member as Core}
 use Rattle.lft_whole.specs.declared.tree.{Member.Member, Reaction.Reaction}
 use Rattle.lft_elaborate.specs.inner.Channels.Lowered.{own}
 use Rattle.lft_lower.specs.inner.Meanings.{Meanings.{Here, named_in}, Places.{Several, count_of}}
-use Rattle.lft_lower.specs.inner.Lowered.{Adds, AreGiven, AreInstances, AreTriggers, IsAsleep, IsLowered, IsReaction, added, all_triggers, asleep, instances, known, no_instances, reaction_tree, reactor_at, runs, sleeps, some_instances}
+use Rattle.lft_lower.specs.inner.Lowered.{Adds, AreTimesGiven, AreInstances, AreTriggers, IsAsleep, IsLowered, IsLoweredReaction, added, all_triggers, asleep, instances, known, no_instances, reaction_tree, reactor_at, runs, sleeps, some_instances}
 use Rattle.lft_classes.specs.inner.Shapes.{thing_named}
 
 -- none
@@ -43,8 +43,8 @@ pub triggers_sleep : (h : Here) (r : Reaction) (name : List ℕ) (before after :
 triggers_sleep h r name before after old now ts some none adds is one = adds_as old now (IsAsleep h name before) (λ more. AreTriggers h r before more after ts) adds (λ more are. subst (λ a. AreTriggers h r before more a ts) (sym is) (subst (AreTriggers h r before more (Some name)) (sym one) (sleeps name before more some none are)))
 
 -- a reaction stands behind what its triggers add
-pub reaction_stands : (h : Here) (r : Reaction) (before after : Option (List ℕ)) (old mid now : List Core) (x : Core) (ts : List TriggerTree) → Adds old mid (λ more. AreTriggers h r before more after ts) → now ≡ mid ++ x ∷ [] → member_view x ≡ ReactionMember (reaction_tree h r ts) → Adds old now (λ more. IsReaction h r before more after)
-reaction_stands h r before after old mid now x ts adds one is = adds_then old mid now x (λ more. AreTriggers h r before more after ts) (λ more. IsReaction h r before more after) adds one (λ more are. (ts, more, are, ap (λ m. more ++ m ∷ []) is))
+pub reaction_stands : (h : Here) (r : Reaction) (before after : Option (List ℕ)) (old mid now : List Core) (x : Core) (ts : List TriggerTree) → Adds old mid (λ more. AreTriggers h r before more after ts) → now ≡ mid ++ x ∷ [] → member_view x ≡ ReactionMember (reaction_tree h r ts) → Adds old now (λ more. IsLoweredReaction h r before more after)
+reaction_stands h r before after old mid now x ts adds one is = adds_then old mid now x (λ more. AreTriggers h r before more after ts) (λ more. IsLoweredReaction h r before more after) adds one (λ more are. (ts, more, are, ap (λ m. more ++ m ∷ []) is))
 
 -- ---- instances
 
@@ -53,7 +53,7 @@ pub instances_none : (names : List (Option (List ℕ))) (h : Here) (n : ℕ) (na
 instances_none names h n name old none = adds_none old (AreInstances names h n name) (no_instances none)
 
 -- an instance, or those of a bank
-pub instances_some : (names : List (Option (List ℕ))) (h : Here) (n : ℕ) (name : List ℕ) (old now : List Core) (thing : Several) (reactor : List ℕ) (given : List AssignmentTree) → thing ≡ named_in h name n → reactor_at names h n ≡ Some reactor → AreGiven h n given → member_views now ≡ member_views old ++ instances thing reactor given → Adds old now (AreInstances names h n name)
+pub instances_some : (names : List (Option (List ℕ))) (h : Here) (n : ℕ) (name : List ℕ) (old now : List Core) (thing : Several) (reactor : List ℕ) (given : List AssignmentTree) → thing ≡ named_in h name n → reactor_at names h n ≡ Some reactor → AreTimesGiven h n given → member_views now ≡ member_views old ++ instances thing reactor given → Adds old now (AreInstances names h n name)
 instances_some names h n name old now thing reactor given is named gives made = (instances (named_in h name n) reactor given, some_instances reactor given named gives, made ∙ ap (λ t. member_views old ++ instances t reactor given) is)
 
 -- ---- members

@@ -5,11 +5,11 @@ use Rattle.std.proofs.{Math.Nat.{eq-or-lt_of_le, mod-eq_of_lt}, lemmas.List.{len
 use Rattle.lft_lower.{specs.inner.Lowered.{AreConnected, AreEach, each_pair, whole}, proofs.MeaningsLemmas.Growing.either}
 use Rattle.lft_lists.proofs.Places.{get_last, get_push}
 use Rattle.lft_tree.specs.Tree.{TimeTree, RefTree, ConnectionTree, ConnectionMember, MemberTree}
-use Rattle.lft_elaborate.specs.inner.Channels.{Channels.{joined, source}, Lowered.{AreJoined, single}}
+use Rattle.lft_elaborate.specs.inner.Channels.{Channels.{joined, left_channel}, Lowered.{AreJoinedPlaces, single}}
 
 -- this connection joins the place of this number on the right
 abbrev pub Joins : List RefTree → List RefTree → Bool → Option TimeTree → List ConnectionTree → ℕ → Type 0
-Joins left right b delay cs k = (from : RefTree) × (to : RefTree) × (slice_get left (source (length left) b k) ≡ Some from) × (slice_get right k ≡ Some to) × (slice_get cs k ≡ Some (single delay from to))
+Joins left right b delay cs k = (from : RefTree) × (to : RefTree) × (slice_get left (left_channel (length left) b k) ≡ Some from) × (slice_get right k ≡ Some to) × (slice_get cs k ≡ Some (single delay from to))
 
 -- the first of them are
 pub record ArePairs (left right : List RefTree) (b : Bool) (delay : Option TimeTree) (n : ℕ) (cs : List ConnectionTree) : Type 0 where
@@ -23,7 +23,7 @@ still : (left right : List RefTree) (b : Bool) (delay : Option TimeTree) (cs : L
 still left right b delay cs c k (from, to, at_left, at_right, at) = (from, to, at_left, at_right, get_push cs c k (single delay from to) at)
 
 -- one more
-pub pairs_more : (left right : List RefTree) (b : Bool) (delay : Option TimeTree) (n : ℕ) (cs : List ConnectionTree) (from to : RefTree) → ArePairs left right b delay n cs → slice_get left (source (length left) b n) ≡ Some from → slice_get right n ≡ Some to → ArePairs left right b delay (n + 1) (cs ++ single delay from to ∷ [])
+pub pairs_more : (left right : List RefTree) (b : Bool) (delay : Option TimeTree) (n : ℕ) (cs : List ConnectionTree) (from to : RefTree) → ArePairs left right b delay n cs → slice_get left (left_channel (length left) b n) ≡ Some from → slice_get right n ≡ Some to → ArePairs left right b delay (n + 1) (cs ++ single delay from to ∷ [])
 pairs_more left right b delay n cs from to pairs at_left at_right = record {
   many = length_push cs (single delay from to) ∙ (omega (arith, pairs.many));
   each = λ k less. let low : k ≤ n = omega arith in elim (eq-or-lt_of_le low) [
@@ -33,7 +33,7 @@ pairs_more left right b delay n cs from to pairs at_left at_right = record {
 }
 
 -- all of them
-pub pairs_all : (left right : List RefTree) (b : Bool) (delay : Option TimeTree) (n : ℕ) (cs : List ConnectionTree) → n ≡ joined (length left) (length right) b → ArePairs left right b delay n cs → AreJoined left right b delay cs
+pub pairs_all : (left right : List RefTree) (b : Bool) (delay : Option TimeTree) (n : ℕ) (cs : List ConnectionTree) → n ≡ joined (length left) (length right) b → ArePairs left right b delay n cs → AreJoinedPlaces left right b delay cs
 pairs_all left right b delay n cs all pairs = (pairs.many ∙ all, λ k less. pairs.each k (subst (λ m. k < m) pairs.many less))
 
 -- ---- sides that are cut
@@ -46,7 +46,7 @@ take_at (y ∷ ys) (suc n) zero x at = at
 take_at (y ∷ ys) (suc n) (suc k) x at = take_at ys n k x at
 
 -- of one of the cut lists of places, the pair is one of the whole lists
-uncut : (left right : List RefTree) (delay : Option TimeTree) (cs : List ConnectionTree) (most pairs i k : ℕ) (b : Bool) → source (length (take most left)) true k ≡ i → source (length left) b k ≡ i → Joins (take most left) (take pairs right) true delay cs k → Joins left right b delay cs k
+uncut : (left right : List RefTree) (delay : Option TimeTree) (cs : List ConnectionTree) (most pairs i k : ℕ) (b : Bool) → left_channel (length (take most left)) true k ≡ i → left_channel (length left) b k ≡ i → Joins (take most left) (take pairs right) true delay cs k → Joins left right b delay cs k
 uncut left right delay cs most pairs i k b short long (from, to, at_left, at_right, at) = (
   from,
   to,
@@ -64,7 +64,7 @@ joined_low zero right k less = absurd (omega (arith, less))
 joined_low (suc l) right k less = subst (λ n. k < n) (joined_wide l right) less
 
 -- which place on the left stands for a pair
-pub same_source : (left right pairs k : ℕ) (b : Bool) → pairs ≡ joined left right b → k < pairs → source (min (min pairs left) left) true k ≡ source left b k
+pub same_source : (left right pairs k : ℕ) (b : Bool) → pairs ≡ joined left right b → k < pairs → left_channel (min (min pairs left) left) true k ≡ left_channel left b k
 same_source left right pairs k false all less =
     let few : min (min pairs left) left ≡ pairs = omega (arith, all) in
     ap (λ m. k % m) few ∙ mod-eq_of_lt less
@@ -97,7 +97,7 @@ same_joined (suc l) right (suc p) true all =
     ap (λ l. joined l (min (suc p) right) true) some ∙ joined_wide (min p l) (min (suc p) right) ∙ far
 
 -- the pairs of the cut lists are those of the whole ones
-pub whole_pairs : (left right : List RefTree) (b : Bool) (delay : Option TimeTree) (pairs : ℕ) (cs : List ConnectionTree) → pairs ≡ joined (length left) (length right) b → AreJoined (take (min pairs (length left)) left) (take pairs right) true delay cs → AreJoined left right b delay cs
+pub whole_pairs : (left right : List RefTree) (b : Bool) (delay : Option TimeTree) (pairs : ℕ) (cs : List ConnectionTree) → pairs ≡ joined (length left) (length right) b → AreJoinedPlaces (take (min pairs (length left)) left) (take pairs right) true delay cs → AreJoinedPlaces left right b delay cs
 whole_pairs left right b delay pairs cs all (many, each) =
     let most = min pairs (length left) in
     let short : length (take most left) ≡ min most (length left) = length-take most left in
@@ -106,7 +106,7 @@ whole_pairs left right b delay pairs cs all (many, each) =
       count ∙ all,
       λ k less.
           let low : k < pairs = subst (λ m. k < m) count less in
-          uncut left right delay cs most pairs (source (length left) b k) k b (ap (λ l. source l true k) short ∙ same_source (length left) (length right) pairs k b all low) refl (each k less),
+          uncut left right delay cs most pairs (left_channel (length left) b k) k b (ap (λ l. left_channel l true k) short ∙ same_source (length left) (length right) pairs k b all low) refl (each k less),
     )
 
 -- connections of the cut lists, each of one pair, are those of the whole ones
@@ -114,7 +114,7 @@ pub connected_pairs : (left right : List RefTree) (b : Bool) (delay : Option Tim
 connected_pairs left right b delay l r pairs most ls rs ms many far all cut lefts rights (cs, pairs_are, made) =
     let all_joined : pairs ≡ joined (length left) (length right) b = all ∙ ap (λ n. joined n r b) many ∙ ap (λ n. joined (length left) n b) far in
     let lefts_are : ls ≡ take (min pairs (length left)) left = lefts ∙ ap (λ n. take n left) (cut ∙ ap (min pairs) many) in
-    let short : AreJoined (take (min pairs (length left)) left) (take pairs right) true delay cs = subst (λ xs. AreJoined xs (take pairs right) true delay cs) lefts_are (subst (λ xs. AreJoined ls xs true delay cs) rights pairs_are) in
+    let short : AreJoinedPlaces (take (min pairs (length left)) left) (take pairs right) true delay cs = subst (λ xs. AreJoinedPlaces xs (take pairs right) true delay cs) lefts_are (subst (λ xs. AreJoinedPlaces ls xs true delay cs) rights pairs_are) in
     each_pair ms (cs, whole_pairs left right b delay pairs cs all_joined short, made)
 
 -- one connection of all places, where there are as many on each side

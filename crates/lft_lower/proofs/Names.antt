@@ -9,7 +9,7 @@ use Rattle.lft_whole.specs.declared.tree.{Member.Member, Reaction.Reaction}
 use Rattle.lft_classes.specs.declared.shapes.Inherited.{Inherited}
 use Rattle.lft_elaborate.{specs.{declared.settings.Settings.Settings, Channels.Channels.below}, proofs.Spelling.IsName-spelled}
 use Rattle.lft_lower.specs.inner.Meanings.{Meanings.{Here, named_in}, Places.{count_of, name_at, names_of}}
-use Rattle.lft_lower.specs.inner.Lowered.{AreConnected, AreInstances, AreLowered, AreTriggers, IsAsleep, IsLowered, IsReaction, added, each_pair, instances, known, more_members, no_instances, no_members, ports, runs, sleeps, some_instances, whole}
+use Rattle.lft_lower.specs.inner.Lowered.{AreConnected, AreInstances, AreLowered, AreTriggers, IsAsleep, IsLowered, IsLoweredReaction, added, each_pair, instances, known, more_members, no_instances, no_members, ports, runs, sleeps, some_instances, whole}
 use Rattle.lft_lower.specs.inner.Reactors.{AreReactors, more_reactors, no_reactors}
 use Rattle.lft_whole.specs.declared.tree.Member.TheVariants as member
 
@@ -83,7 +83,7 @@ are_triggers : (h : Here) (r : Reaction) (before after : Option (List ℕ)) (ms 
 are_triggers h r _ _ _ _ (runs before some) = All-nil IsNamed
 are_triggers h r _ _ _ _ (sleeps name before more some none asleep) = is_asleep h name before more asleep
 
-is_reaction : (h : Here) (r : Reaction) (before after : Option (List ℕ)) (ms : List MemberTree) → IsReaction h r before ms after → All IsNamed ms
+is_reaction : (h : Here) (r : Reaction) (before after : Option (List ℕ)) (ms : List MemberTree) → IsLoweredReaction h r before ms after → All IsNamed ms
 is_reaction h r before after ms (ts, more, are, is) = subst (All IsNamed) (sym is) (All-append IsNamed more _ (are_triggers h r before after more ts are) (one_named _ (tt, tt, tt, tt)))
 
 is_lowered : (names : List (Option (List ℕ))) (h : Here) (n : ℕ) (before after : Option (List ℕ)) (ms : List MemberTree) (m : Member) → IsLowered names h n before ms after m → All IsNamed ms

@@ -4,7 +4,7 @@ use Rattle.std.specs.Prelude.{count_by, if◌then◌else◌, option_map, unwrap_
 use Rattle.std.{specs.List.range_with_len, proofs.lemmas.{Bool.Decides.{eqb_tells, leb_tells}, List.Sums.sum_by-cons, Option.slice_get_within}}
 use Rattle.lft_classes.specs.declared.shapes.{Child.Child, GivenValue.GivenValue, InheritedParameter.InheritedParameter, Shape.Shape}
 use Rattle.lft_elaborate.specs.inner.Values.{given_to}
-use Rattle.lft_lower.specs.inner.Needed.{GivesNeeded, GivesOnce, is_bare, is_needed, is_timed, needed_given, needed_in}
+use Rattle.lft_lower.specs.inner.Needed.{GivesNeeded, GivesEachOnce, is_bare, is_needed, is_timed, needed_given, needed_in}
 
 -- one, if it is so
 abbrev tick : Bool → ℕ
@@ -64,7 +64,7 @@ no_more false c = omega arith
 no_more true false = omega arith
 no_more true true = omega arith
 
-at_most_one : (f : ℕ → Bool) (s : ℕ) (gs : List GivenValue) → GivesOnce gs → from_on f s gs ≤ tick (f s) + from_on f (s + 1) gs
+at_most_one : (f : ℕ → Bool) (s : ℕ) (gs : List GivenValue) → GivesEachOnce gs → from_on f s gs ≤ tick (f s) + from_on f (s + 1) gs
 at_most_one f s [] once = omega arith
 at_most_one f s (g ∷ gs) (first, once) = elim (eqb_tells g.parameter s) [
   | inl same ↦
@@ -85,13 +85,13 @@ all_before : (f : ℕ → Bool) (s : ℕ) (gs : List GivenValue) → ((p : ℕ) 
 all_before f s [] low = omega arith
 all_before f s (g ∷ gs) low = omega (arith, counted f s g gs, before (f g.parameter) s g.parameter (low g.parameter), all_before f s gs low)
 
-not_more : (f : ℕ → Bool) (gs : List GivenValue) → GivesOnce gs → (n s : ℕ) → ((p : ℕ) → f p ≡ true → p < s + n) → from_on f s gs ≤ count_by f (range_with_len s n)
+not_more : (f : ℕ → Bool) (gs : List GivenValue) → GivesEachOnce gs → (n s : ℕ) → ((p : ℕ) → f p ≡ true → p < s + n) → from_on f s gs ≤ count_by f (range_with_len s n)
 not_more f gs once zero s low = omega (arith, all_before f s gs (λ p is. let l = low p is in omega (arith, l)))
 not_more f gs once (suc n) s low =
     let rest = not_more f gs once n (s + 1) (λ p is. let l = low p is in omega (arith, l)) in
     omega (arith, sum_by-cons (λ p. tick (f p)) s (range_with_len (s + 1) n), at_most_one f s gs once, rest)
 
-one_fewer : (f : ℕ → Bool) (gs : List GivenValue) → GivesOnce gs → (p : ℕ) → f p ≡ true → given_to gs p ≡ None → (n s : ℕ) → ((q : ℕ) → f q ≡ true → q < s + n) → s ≤ p → from_on f s gs < count_by f (range_with_len s n)
+one_fewer : (f : ℕ → Bool) (gs : List GivenValue) → GivesEachOnce gs → (p : ℕ) → f p ≡ true → given_to gs p ≡ None → (n s : ℕ) → ((q : ℕ) → f q ≡ true → q < s + n) → s ≤ p → from_on f s gs < count_by f (range_with_len s n)
 one_fewer f gs once p need none zero s low from = let l = low p need in absurd (omega (arith, l, from))
 one_fewer f gs once p need none (suc n) s low from =
     let low_on : (q : ℕ) → f q ≡ true → q < s + 1 + n = λ q is. let l = low q is in omega (arith, l) in

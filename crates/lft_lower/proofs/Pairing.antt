@@ -3,15 +3,15 @@ use Rattle.std.proofs.Common.{◌≡◌, ℕ, zero, suc, ◌+◌, ◌%◌, ◌<�
 use Rattle.std.specs.Prelude.{slice_get, slice_index}
 use Rattle.std.specs.List.{range_with_len}
 use Rattle.std.proofs.lemmas.{List.{get_or-take, length-take, take_all, FromFn.map-range_with_len_more}, Nat.mod_below, Option.get_or_from_slice_get}
-use Rattle.lft_elaborate.specs.{Channels.Channels.below, inner.Channels.Channels.{joined, source}}
+use Rattle.lft_elaborate.specs.{Channels.Channels.below, inner.Channels.Channels.{joined, left_channel}}
 use Rattle.lft_lower.{specs.inner.Standing.{AreSidesAt, pair_tokens, pairs_tokens}, proofs.Joining.{same_joined, same_source}}
 
 -- one more pair
-pub tokens_next : (left right delay : List ℕ) (parts : List (List ℕ)) (one : List ℕ) (pair place from to : ℕ) → slice_get left place ≡ Some from → place ≡ source (length left) true pair → slice_get right pair ≡ Some to → one ≡ from ∷ to ∷ delay → parts ≡ map (pair_tokens left right true delay) (below pair) → parts ++ one ∷ [] ≡ map (pair_tokens left right true delay) (below (pair + 1))
+pub tokens_next : (left right delay : List ℕ) (parts : List (List ℕ)) (one : List ℕ) (pair place from to : ℕ) → slice_get left place ≡ Some from → place ≡ left_channel (length left) true pair → slice_get right pair ≡ Some to → one ≡ from ∷ to ∷ delay → parts ≡ map (pair_tokens left right true delay) (below pair) → parts ++ one ∷ [] ≡ map (pair_tokens left right true delay) (below (pair + 1))
 tokens_next left right delay parts one pair place from to at_left is at_right made so_far =
-    let of_left : from ≡ slice_index left (source (length left) true pair) = sym (get_or_from_slice_get left place from 0 at_left) ∙ ap (slice_index left) is in
+    let of_left : from ≡ slice_index left (left_channel (length left) true pair) = sym (get_or_from_slice_get left place from 0 at_left) ∙ ap (slice_index left) is in
     let of_right : to ≡ slice_index right pair = sym (get_or_from_slice_get right pair to 0 at_right) in
-    let last : one ≡ pair_tokens left right true delay pair = made ∙ ap (λ t. t ∷ to ∷ delay) of_left ∙ ap (λ t. slice_index left (source (length left) true pair) ∷ t ∷ delay) of_right in
+    let last : one ≡ pair_tokens left right true delay pair = made ∙ ap (λ t. t ∷ to ∷ delay) of_left ∙ ap (λ t. slice_index left (left_channel (length left) true pair) ∷ t ∷ delay) of_right in
     ap (λ ps. ps ++ one ∷ []) so_far
     ∙ ap (λ t. map (pair_tokens left right true delay) (below pair) ++ t ∷ []) last
     ∙ sym (map-range_with_len_more (pair_tokens left right true delay) 0 pair pair (zero-add pair))
@@ -27,7 +27,7 @@ same_of_each f g a (suc n) same =
     let rest = λ (k : ℕ) (less : k < n). let next : a + suc k ≡ a + 1 + k = omega arith in subst (λ i. f i ≡ g i) next (same (suc k) (omega (arith, less))) in
     ap (λ x. x ∷ map f (range_with_len (a + 1) n)) here ∙ ap (λ xs. g a ∷ xs) (same_of_each f g (a + 1) n rest)
 
-low_source : (left right pairs k : ℕ) (b : Bool) → pairs ≡ joined left right b → k < pairs → source left b k < min pairs left
+low_source : (left right pairs k : ℕ) (b : Bool) → pairs ≡ joined left right b → k < pairs → left_channel left b k < min pairs left
 low_source left right pairs k false all less = omega (arith, all)
 low_source zero right pairs k true all less = absurd (omega (arith, all))
 low_source (suc l) right pairs k true all less =
@@ -39,8 +39,8 @@ low_source (suc l) right pairs k true all less =
 cut_pair : (left right delay : List ℕ) (b : Bool) (pairs k : ℕ) → pairs ≡ joined (length left) (length right) b → k < pairs → pair_tokens (take (min pairs (length left)) left) (take pairs right) true delay k ≡ pair_tokens left right b delay k
 cut_pair left right delay b pairs k all less =
     let most = min pairs (length left) in
-    let place = source (length left) b k in
-    let same : source (length (take most left)) true k ≡ place = ap (λ l. source l true k) (length-take most left) ∙ same_source (length left) (length right) pairs k b all less in
+    let place = left_channel (length left) b k in
+    let same : left_channel (length (take most left)) true k ≡ place = ap (λ l. left_channel l true k) (length-take most left) ∙ same_source (length left) (length right) pairs k b all less in
     let low : place < most = low_source (length left) (length right) pairs k b all less in
     ap (λ t. t ∷ slice_index (take pairs right) k ∷ delay) (ap (slice_index (take most left)) same ∙ get_or-take most left place 0 low)
     ∙ ap (λ t. slice_index left place ∷ t ∷ delay) (get_or-take pairs right k 0 less)

@@ -8,7 +8,7 @@ use Rattle.lft_whole.specs.declared.sources.source.SourceFile.{SourceFile}
 use Rattle.lft_classes.specs.declared.shapes.{Inherited.Inherited, Shape.Shape}
 use Rattle.lft_elaborate.specs.{inner.Settings.shape_at, declared.settings.Settings.Settings}
 use Rattle.lft_lower.specs.inner.Meanings.Meanings.{Here}
-use Rattle.lft_lower.specs.inner.Standing.{AddsAt, AreAt, ArePartsAt, ArePlaced, IsPlaced, declared_at, more_at, more_placed, number_in, parts_at, stands_at}
+use Rattle.lft_lower.specs.inner.Standing.{AddsAt, StandAtTokens, ArePartsAt, ArePlaced, IsPlaced, declared_at, more_at, more_placed, number_in, parts_at, stands_at}
 use Rattle.lft_lower.proofs.MeaningsLemmas.Growing.{one_more}
 use Rattle.lft_tree.specs.declared.tree.Item.TheVariants as items
 
@@ -49,13 +49,13 @@ pub flat_one : (parts : List (List ℕ)) (one all : List ℕ) → one ≡ all �
 flat_one parts one all is none = flat_map-append (λ (tokens : List ℕ). tokens) parts (one ∷ []) ∙ ap (λ ts. ts ++ (one ++ [])) none ∙ append-nil one ∙ is
 
 -- what one more member becomes
-pub at_next : (files : List SourceFile) (h : Here) (members : List Inherited) (n : ℕ) (m : Inherited) (old new : List Core) → slice_get members n ≡ Some m → AreAt files h (take n members) old → AddsAt old new (number_in files m.file (declared_at m.member.now)) (ArePartsAt (number_in files m.file) h n m.member.now) → AreAt files h (take (n + 1) members) new
+pub at_next : (files : List SourceFile) (h : Here) (members : List Inherited) (n : ℕ) (m : Inherited) (old new : List Core) → slice_get members n ≡ Some m → StandAtTokens files h (take n members) old → AddsAt old new (number_in files m.file (declared_at m.member.now)) (ArePartsAt (number_in files m.file) h n m.member.now) → StandAtTokens files h (take (n + 1) members) new
 at_next files h members n m old new at so_far adds =
     let within = slice_get_within members n m at in
     let low : n ≤ length members = omega (arith, within) in
     let long : length (take n members) ≡ n = length-take-le n members low in
     let last = subst (λ k. AddsAt old new (number_in files m.file (declared_at m.member.now)) (ArePartsAt (number_in files m.file) h k m.member.now)) (sym long) adds in
-    subst (λ ms. AreAt files h ms new) (sym (one_more members n m at)) (more_at (take n members) m old new so_far last)
+    subst (λ ms. StandAtTokens files h ms new) (sym (one_more members n m at)) (more_at (take n members) m old new so_far last)
 
 -- one more reactor
 pub placed_next : (files : List SourceFile) (s : Settings) (settings : List ℕ) (n k : ℕ) (shape : Shape) (old now : List Item) (r : Reactor) → slice_get settings n ≡ Some k → ArePlaced files s (take n settings) old → shape_at s k ≡ Some shape → IsPlaced files s k shape r → now ≡ old ++ items.Reactor r ∷ [] → ArePlaced files s (take (n + 1) settings) now

@@ -5,7 +5,7 @@ ghost use Rattle.std.specs.List.{All, cons_option};
 ghost use Rattle.lft_tree.specs.ItemView.{assignment_view, member_views};
 ghost use Rattle.lft_elaborate.specs.inner.Refused.{IfRefused};
 ghost use Rattle.lft_lower.specs.inner.Meanings.{Meanings.{here, token_in}, Names.texts, Places.several, Refused.IsPassed};
-ghost use Rattle.lft_lower.specs.inner.Lowered.{Adds, AreGiven, AreInstances, IsGiven, given_times, instances, reactor_at, time_given};
+ghost use Rattle.lft_lower.specs.inner.Lowered.{Adds, AreTimesGiven, AreInstances, IsGiven, given_times, instances, reactor_at, time_given};
 ghost use Rattle.lft_lower.specs.inner.{Needed.{needed_given, needed_in, is_needed}, Refused.IsOfGiven};
 ghost use Rattle.lft_lower.specs.inner.Standing.{AddsAt, given_token, given_tokens, instance_tokens, tokens_of_given};
 
@@ -137,7 +137,7 @@ fn checked(
     member: usize,
     at: usize,
 ) -> Result<Vec<Assignment>, NoProgram>
-    ensures given { maker.entry.settings.now ≡ within.entry.settings.now → IfOk result (λ given. AreGiven (here within.entry) member (map assignment_view given.items)) }
+    ensures given { maker.entry.settings.now ≡ within.entry.settings.now → IfOk result (λ given. AreTimesGiven (here within.entry) member (map assignment_view given.items)) }
     ensures at { IfOk result (λ given. flat_map given_tokens given.items ≡ tokens_of_given (token_in within.entry) (here within.entry) member) }
 {
     let Some(child) = within.shape.child(member) else {

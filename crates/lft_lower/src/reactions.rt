@@ -6,9 +6,9 @@ ghost use Rattle.lft_tree.specs.{Identifiers.IsName, ItemView.{member_views, ref
 ghost use Rattle.lft_classes.specs.inner.Shapes.{thing_named};
 ghost use Rattle.lft_elaborate.specs.inner.Refused.{IfRefused};
 ghost use Rattle.lft_lower.specs.inner.Meanings.{Meanings.{here, token_in}, Refused.IsPassed, Standing.ref_tokens};
-ghost use Rattle.lft_lower.specs.inner.Lowered.{Adds, AreTriggers, IsAsleep, IsReaction, MeansAll, MeansEffect, MeansTrigger, all_triggers, asleep, effect_places, trigger_places};
-ghost use Rattle.lft_lower.specs.inner.Refused.{IsOfEffect, IsOfTrigger};
-ghost use Rattle.lft_lower.specs.inner.Standing.{AddsAt, all_trigger_tokens, reaction_tokens, tokens_of_effect, tokens_of_trigger, trigger_tokens};
+ghost use Rattle.lft_lower.specs.inner.Lowered.{Adds, AreTriggers, IsAsleep, IsLoweredReaction, MeansAll, MeansEffect, MeansTrigger, all_triggers, asleep, effect_places, trigger_places};
+ghost use Rattle.lft_lower.specs.inner.Refused.{IsEffectRefused, IsOfTrigger};
+ghost use Rattle.lft_lower.specs.inner.Standing.{AddsAt, all_trigger_tokens, reaction_tokens, tokens_of_effect, tokens_of_trigger, token_of_trigger};
 ghost use Rattle.lft_whole.specs.declared.sources.stop.NoProgram.TheVariants.{NoMemory};
 
 use crate::meanings::places::{Within, places, push_places};
@@ -41,7 +41,7 @@ fn never(alloc: Global, within: Within) -> Result<String, NoProgram>
 /// Puts references at the end of a list of triggers.
 fn push_references(list: &mut Vec<Trigger>, references: Vec<Reference>) -> Result<(), NoProgram>
     ensures places { OnOk result (map trigger_view list.new.items ≡ map trigger_view list.old.items ++ map OnRef (ref_views references.items)) }
-    ensures at { OnOk result (flat_map trigger_tokens list.new.items ≡ flat_map trigger_tokens list.old.items ++ ref_tokens references.items) }
+    ensures at { OnOk result (flat_map token_of_trigger list.new.items ≡ flat_map token_of_trigger list.old.items ++ ref_tokens references.items) }
     ensures cause { IfErr result (λ stop. stop ≡ NoMemory) }
 {
     for reference in references {
@@ -59,7 +59,7 @@ fn push_trigger(
     list: &mut Vec<Trigger>,
 ) -> Result<(), NoProgram>
     ensures places { OnOk result (map trigger_view list.new.items ≡ map trigger_view list.old.items ++ trigger_places (here within.entry) trigger.now) }
-    ensures at { OnOk result (flat_map trigger_tokens list.new.items ≡ flat_map trigger_tokens list.old.items ++ tokens_of_trigger (token_in within.entry) (here within.entry) trigger.now) }
+    ensures at { OnOk result (flat_map token_of_trigger list.new.items ≡ flat_map token_of_trigger list.old.items ++ tokens_of_trigger (token_in within.entry) (here within.entry) trigger.now) }
     ensures means { OnOk result (MeansTrigger (here within.entry) trigger.now) }
     ensures cause { IfErr result (IfRefused (λ r. IsPassed within.entry.settings.now.work.main r ⊎ IsOfTrigger (here within.entry) within.entry.file trigger.now r)) }
 {
@@ -84,7 +84,7 @@ fn triggers(
     reaction: &Written,
 ) -> Result<Vec<Trigger>, NoProgram>
     ensures places { IfOk result (λ list. map trigger_view list.items ≡ all_triggers (here within.entry) reaction.now) }
-    ensures at { IfOk result (λ list. flat_map trigger_tokens list.items ≡ flat_map (tokens_of_trigger (token_in within.entry) (here within.entry)) reaction.now.triggers.items) }
+    ensures at { IfOk result (λ list. flat_map token_of_trigger list.items ≡ flat_map (tokens_of_trigger (token_in within.entry) (here within.entry)) reaction.now.triggers.items) }
     ensures some { OnOk result (reaction.now.triggers.items ≢ []) }
     ensures means { OnOk result (All (MeansTrigger (here within.entry)) reaction.now.triggers.items) }
 {
@@ -109,7 +109,7 @@ fn push_effect(
     ensures places { OnOk result (ref_views list.new.items ≡ ref_views list.old.items ++ effect_places (here within.entry) effect.now) }
     ensures at { OnOk result (ref_tokens list.new.items ≡ ref_tokens list.old.items ++ tokens_of_effect (token_in within.entry) (here within.entry) effect.now) }
     ensures means { OnOk result (MeansEffect (here within.entry) effect.now) }
-    ensures cause { IfErr result (IfRefused (λ r. IsPassed within.entry.settings.now.work.main r ⊎ IsOfEffect (here within.entry) within.entry.file effect.now r)) }
+    ensures cause { IfErr result (IfRefused (λ r. IsPassed within.entry.settings.now.work.main r ⊎ IsEffectRefused (here within.entry) within.entry.file effect.now r)) }
 {
     match effect {
         Effect::Mode { at } => Err(NoProgram::at(Why::Mode, within.file, *at)),
@@ -197,7 +197,7 @@ fn some_triggers(
 ) -> Result<Vec<Trigger>, NoProgram>
     ensures means { OnOk result (All (MeansTrigger (here within.entry)) reaction.now.triggers.items) }
     ensures triggers { IfOk result (λ found. Adds list.old.items list.new.items (λ more. AreTriggers (here within.entry) reaction.now (option_map string_bytes never.old) more (option_map string_bytes never.new) (map trigger_view found.items))) }
-    ensures tokens { IfOk result (λ found. flat_map trigger_tokens found.items ≡ all_trigger_tokens (token_in within.entry) (here within.entry) reaction.now) }
+    ensures tokens { IfOk result (λ found. flat_map token_of_trigger found.items ≡ all_trigger_tokens (token_in within.entry) (here within.entry) reaction.now) }
     ensures at { OnOk result (AddsAt list.old.items list.new.items (token_in within.entry reaction.now.at) (λ parts. flat_map (λ tokens. tokens) parts ≡ [])) }
 {
     let mut triggers = triggers(alloc, room, within, reaction)?;
@@ -226,7 +226,7 @@ pub(crate) fn push_reaction(
     list: &mut Vec<Member>,
 ) -> Result<(), NoProgram>
     ensures means { OnOk result (MeansAll (here within.entry) reaction.now) }
-    ensures lowered { OnOk result (Adds list.old.items list.new.items (λ more. IsReaction (here within.entry) reaction.now (option_map string_bytes never.old) more (option_map string_bytes never.new))) }
+    ensures lowered { OnOk result (Adds list.old.items list.new.items (λ more. IsLoweredReaction (here within.entry) reaction.now (option_map string_bytes never.old) more (option_map string_bytes never.new))) }
     ensures at { OnOk result (AddsAt list.old.items list.new.items (token_in within.entry reaction.now.at) (λ parts. flat_map (λ tokens. tokens) parts ≡ reaction_tokens (token_in within.entry) (here within.entry) reaction.now)) }
 {
     let triggers = some_triggers(alloc, room, within, reaction, never, list)?;

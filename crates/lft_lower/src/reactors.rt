@@ -8,7 +8,7 @@ ghost use Rattle.lft_lower.specs.inner.Meanings.{Meanings.{here, token_in}, Name
 ghost use Rattle.lft_lower.specs.inner.Lowered.{Adds, IsLowered, IsMeasured, IsPeriod, IsRead, action_tree, is_spaced, period_at, ports, timer_tree};
 ghost use Rattle.lft_lower.specs.inner.Refused.{IsOfAction, IsOfDefault, IsOfParameter, IsOfPeriod, IsOfTimer};
 ghost use Rattle.lft_lower.specs.inner.Reactors.{AreMembers, AreReactors, HasDefault, IsDefault, IsReactor, default_time, timed_parameter, timed_parameters};
-ghost use Rattle.lft_lower.specs.inner.Standing.{AddsAt, AreAt, ArePartsAt, ArePlaced, IsPlaced, declared_at, head_at, parameter_token, period_tokens, time_tokens, written_tokens};
+ghost use Rattle.lft_lower.specs.inner.Standing.{AddsAt, StandAtTokens, ArePartsAt, ArePlaced, IsPlaced, declared_at, head_at, parameter_token, period_tokens, time_tokens, written_tokens};
 ghost use Rattle.lft_elaborate.specs.{Channels.Channels.below, inner.Refused.IfRefused};
 
 use crate::connections::push_connection;
@@ -320,7 +320,7 @@ fn members<'s, 'a>(
     shape: &'s Shape<'a>,
 ) -> Result<Vec<Member>, NoProgram>
     ensures made { IfOk result (λ list. AreMembers maker.entry.settings.now (texts maker.entry.names.now) setting shape.now (member_views list.items)) }
-    ensures at { IfOk result (λ list. AreAt maker.entry.files.now (record { settings = maker.entry.settings.now; setting = setting; shape = shape.now }) shape.now.members.items list.items) }
+    ensures at { IfOk result (λ list. StandAtTokens maker.entry.files.now (record { settings = maker.entry.settings.now; setting = setting; shape = shape.now }) shape.now.members.items list.items) }
 {
     let mut list = Vec::new(maker.alloc);
     let mut never = None;

@@ -3,7 +3,7 @@
 ghost use Rattle.std.specs.Prelude.{◌≡◌, Some, IfErr, IfOk, OnOk, not, option_map};
 ghost use Rattle.lft_tree.specs.ItemView.{time_view};
 ghost use Rattle.lft_lower.specs.inner.{Meanings.Meanings.token_in, Refused.{IsNoTime, IsNoWritten, IsOfTime}, Lowered.{IsRead, is_some_time, time_at}};
-ghost use Rattle.lft_lower.specs.inner.{Standing.{time_token, time_tokens, written_tokens}, Times.{IsTime, IsWritten, named_by, time_for, time_in}};
+ghost use Rattle.lft_lower.specs.inner.{Standing.{time_token, time_tokens, written_tokens}, Times.{IsTime, IsWrittenTime, named_by, time_for, time_of_value}};
 ghost use Rattle.lft_elaborate.specs.{Values.is_forever, inner.Refused.{IfRefused, IsAt}};
 
 use crate::meanings::places::Within;
@@ -16,7 +16,7 @@ use std::alloc::Global;
 
 /// The time that a value writes out, if it is one.
 fn time_in(value: &Value) -> Option<Time>
-    ensures { result ≡ time_in value.now }
+    ensures { result ≡ time_of_value value.now }
 {
     match value {
         Value::Number {
@@ -41,8 +41,8 @@ fn time_in(value: &Value) -> Option<Time>
 
 /// A time that is written out: a whole number with a unit, or 0.
 pub(crate) fn written(file: usize, value: &Expression) -> Result<Time, NoProgram>
-    ensures time { IfOk result (λ time. time_in value.now.value ≡ Some time) }
-    ensures short { OnOk result (IsWritten value.now.value) }
+    ensures time { IfOk result (λ time. time_of_value value.now.value ≡ Some time) }
+    ensures short { OnOk result (IsWrittenTime value.now.value) }
     ensures cause { IfErr result (IfRefused (λ r. IsAt file value.now.at r × IsNoWritten value.now.value r.why)) }
 {
     let Some(time) = time_in(&value.value) else {

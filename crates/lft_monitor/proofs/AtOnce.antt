@@ -8,7 +8,7 @@ use Rattle.lft_ir.specs.declared.steps.row.Row.{Row}
 use Rattle.lft_model.{specs.{Plans.PlanParts, Presence.stop}, proofs.Places.slice_get_within}
 use Rattle.lft_rows.specs.{declared.pass.Pass.Pass, inner.{Passes.{FirstUnended, HasPassed, IsPass}, Slices.Rises}}
 use Rattle.lft_rows.proofs.{Growing.grown_law, Rereads.rises_to}
-use Rattle.lft_monitor.specs.{declared.gone.Going.Going, inner.{Follows.BeginsLast, Going.{AreEnded, AreOpen, IsGoing}}}
+use Rattle.lft_monitor.specs.{declared.gone.Going.Going, inner.{Follows.BeginsLast, Going.{AreEnded, AreFewOpenRuns, IsGoing}}}
 
 -- what a pass goes by is of the program
 pub pass_of : (last : Tag) (plan : PlanParts) (t : List Row) (i : ℕ) (pass : Pass) → HasPassed last plan t i pass → IsPass plan.program pass
@@ -19,7 +19,7 @@ pub passed_rise : (last : Tag) (plan : PlanParts) (t : List Row) (pass : Pass) �
 passed_rise last plan t pass is j k x y l p q = (rises_to last plan t (length t) pass.known.last pass.known.last is.kept is.known.latest (UpTo-refl pass.known.last)).rows j k x y l (slice_get_within t k y q) p q
 
 -- of so many rows no more runs are open
-open_few : (t : List Row) → AreOpen t (length t)
+open_few : (t : List Row) → AreFewOpenRuns t (length t)
 open_few t = (places, let l : length places ≡ length t = length-range_with_len 0 (length t) in omega arith, λ i x e o. (i, let l : length places ≡ length t = length-range_with_len 0 (length t) in let m : i < length t = slice_get_within t i x e in omega arith, let z : 0 + i ≡ i = omega arith in get_or-range_with_len 0 (length t) i i (slice_get_within t i x e) ∙ z))
   where
     places : List ℕ
@@ -38,7 +38,7 @@ module _ (plan : PlanParts) (done rows : List Row) (g : Going) (is : IsGoing pla
     passes = subst (λ (last : Tag). HasPassed last plan (take new.passed rows) new.passed new.pass) (sym same) (subst (λ (t : List Row). HasPassed g.stop plan t new.passed new.pass) (sym whole) (subst (λ (n : ℕ). HasPassed g.stop plan rows n new.pass) (sym all) passes));
     ended = λ z e. subst (λ (t : List Row). AreEnded t z.tag) (sym whole) (ended z (subst (λ (n : ℕ). slice_get rows (n - 1) ≡ Some z) all e));
     few = let a : new.passed ≡ length rows = all in let b : new.runs ≡ length rows = many in omega arith;
-    runs = subst (λ (t : List Row). AreOpen t new.runs) (sym whole) (subst (λ (n : ℕ). AreOpen rows n) (sym many) (open_few rows));
+    runs = subst (λ (t : List Row). AreFewOpenRuns t new.runs) (sym whole) (subst (λ (n : ℕ). AreFewOpenRuns rows n) (sym many) (open_few rows));
   }
     where
       whole : take new.passed rows ≡ rows

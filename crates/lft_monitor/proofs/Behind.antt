@@ -7,7 +7,7 @@ use Rattle.lft_ir.specs.{declared.steps.row.Row.Row, Steps.Fits.{RowFits, RowsFi
 use Rattle.lft_model.{specs.{Plans.PlanParts, Presence.stop}, proofs.Places.slice_get_within}
 use Rattle.lft_rows.specs.inner.Slices.{Rises}
 use Rattle.lft_queue.specs.Coming.AtTag.{AreBefore}
-use Rattle.lft_monitor.specs.{Sure.IsUnbroken, inner.Kept.{AreWays, IsKept, IsPast}, declared.{kept.Ways.Ways, past.Past.Past}}
+use Rattle.lft_monitor.specs.{Sure.IsUnbroken, inner.Kept.{AreWaysOfWrites, IsKept, IsPastOfRows}, declared.{kept.CarriedWrites.CarriedWrites, past.Past.Past}}
 use Rattle.lft_monitor.proofs.Keeping.{AreLate, time_up, kept_both, kept_fit, kept_later, kept_more, kept_self, kept_through}
 
 -- the tag behind another is the first one behind it
@@ -30,7 +30,7 @@ module _ (plan : PlanParts) (t rows : List Row) (x : Row) (some : 0 < length row
           let b : length (t ++ rows) ≡ length t + length rows = length-append t rows in
           subst (λ (r : Row). UpTo y.tag r.tag) (same_at (t ++ rows) i (length t + (length rows - 1)) y x e final (omega arith)) (UpTo-refl y.tag)
 
-  pub past_more : (old new : Past) → IsPast plan t old → RowsFit plan.program rows → IsUnbroken plan (t ++ rows) (after x.tag 0) → new.low ≡ after x.tag 0 → new.stop ≡ stop plan (t ++ rows) → new.ways ≡ old.ways → (more : List Row) → IsKept (stop plan (t ++ rows)) plan (t ++ rows) rows more new.low → new.kept.items ≡ old.kept.items ++ more → IsPast plan (t ++ rows) new
+  pub past_more : (old new : Past) → IsPastOfRows plan t old → RowsFit plan.program rows → IsUnbroken plan (t ++ rows) (after x.tag 0) → new.low ≡ after x.tag 0 → new.stop ≡ stop plan (t ++ rows) → new.ways ≡ old.ways → (more : List Row) → IsKept (stop plan (t ++ rows)) plan (t ++ rows) rows more new.low → new.kept.items ≡ old.kept.items ++ more → IsPastOfRows plan (t ++ rows) new
   past_more old new is fit clean low stops ways more keeps kept = record {
     stop_is = stops;
     near = subst (λ (g : Tag). g.time ≤ 1000000000000000000) (sym low) (fit.each (length rows - 1) x last).recorded.0;
@@ -38,7 +38,7 @@ module _ (plan : PlanParts) (t rows : List Row) (x : Row) (some : 0 < length row
     least = λ g b. subst (λ (h : Tag). UpTo h g) (sym low) (after_least x.tag g (b (length t + (length rows - 1)) x final));
     fit = λ i y e. each i y (get_append_cases t rows i y e);
     unbroken = subst (λ (g : Tag). IsUnbroken plan (t ++ rows) g) (sym low) clean;
-    ways = subst (λ (w : Ways). AreWays plan.program w) (sym ways) is.ways;
+    ways = subst (λ (w : CarriedWrites). AreWaysOfWrites plan.program w) (sym ways) is.ways;
     kept = subst (λ (k : List Row). IsKept (stop plan (t ++ rows)) plan (t ++ rows) (t ++ rows) k new.low) (sym kept) (kept_both (stop plan (t ++ rows)) plan (t ++ rows) t old.kept.items rows more new.low (kept_later (stop plan (t ++ rows)) plan (t ++ rows) t old.kept.items old.low new.low (is.least new.low (λ i y e. under i y (get_left t rows i y e))) (kept_more plan t rows t old.kept.items old.low late is.kept)) keeps);
   }
     where
@@ -54,7 +54,7 @@ module _ (plan : PlanParts) (t rows : List Row) (x : Row) (some : 0 < length row
       each i y (inr e) = fit.each e.0 y e.2
 
 -- rows are kept that are enough of those that were kept
-pub past_less : (plan : PlanParts) (t : List Row) (old new : Past) → IsPast plan t old → IsKept (stop plan t) plan t old.kept.items new.kept.items old.low → new.low ≡ old.low → new.stop ≡ old.stop → new.ways ≡ old.ways → IsPast plan t new
+pub past_less : (plan : PlanParts) (t : List Row) (old new : Past) → IsPastOfRows plan t old → IsKept (stop plan t) plan t old.kept.items new.kept.items old.low → new.low ≡ old.low → new.stop ≡ old.stop → new.ways ≡ old.ways → IsPastOfRows plan t new
 past_less plan t old new is keeps low stops ways = record {
   stop_is = stops ∙ is.stop_is;
   near = subst (λ (g : Tag). g.time ≤ 1000000000000000000) (sym low) is.near;
@@ -62,12 +62,12 @@ past_less plan t old new is keeps low stops ways = record {
   least = λ g b. subst (λ (h : Tag). UpTo h g) (sym low) (is.least g b);
   fit = is.fit;
   unbroken = subst (λ (g : Tag). IsUnbroken plan t g) (sym low) is.unbroken;
-  ways = subst (λ (w : Ways). AreWays plan.program w) (sym ways) is.ways;
+  ways = subst (λ (w : CarriedWrites). AreWaysOfWrites plan.program w) (sym ways) is.ways;
   kept = subst (λ (g : Tag). IsKept (stop plan t) plan t t new.kept.items g) (sym low) (kept_through (stop plan t) plan t t old.kept.items new.kept.items old.low is.kept keeps);
 }
 
 -- before the first row
-pub past_begins : (plan : PlanParts) (p : Past) → p.stop ≡ stop plan [] → p.low ≡ record { time = 0; micro = 0 } → p.kept.items ≡ [] → AreWays plan.program p.ways → IsPast plan [] p
+pub past_begins : (plan : PlanParts) (p : Past) → p.stop ≡ stop plan [] → p.low ≡ record { time = 0; micro = 0 } → p.kept.items ≡ [] → AreWaysOfWrites plan.program p.ways → IsPastOfRows plan [] p
 past_begins plan p stops low none ways = record {
   stop_is = stops;
   near = let e : p.low.time ≡ 0 = ap (λ (g : Tag). g.time) low in omega arith;
@@ -99,7 +99,7 @@ from_more rows low place row at late from i x l e = go (dec_lt i place)
     go (no m) = subst (λ (r : Row). UpTo low r.tag) (same_at rows place i row x at e (omega arith)) (up (order_cases row.tag low))
 
 -- rows that are kept and more behind them fit
-pub all_fit : (plan : PlanParts) (t rows all : List Row) (p : Past) → IsPast plan t p → RowsFit plan.program rows → all ≡ p.kept.items ++ rows → length all ≤ 4000000 → RowsFit plan.program all
+pub all_fit : (plan : PlanParts) (t rows all : List Row) (p : Past) → IsPastOfRows plan t p → RowsFit plan.program rows → all ≡ p.kept.items ++ rows → length all ≤ 4000000 → RowsFit plan.program all
 all_fit plan t rows all p is fit parts few = record { few = few; each = λ i x e. go i x (get_append_cases p.kept.items rows i x (subst (λ (u : List Row). slice_get u i ≡ Some x) parts e)) }
   where
     go : (i : ℕ) (x : Row) → (slice_get p.kept.items i ≡ Some x) ⊎ ((j : ℕ) × (i ≡ length p.kept.items + j) × (slice_get rows j ≡ Some x)) → RowFits plan.program x

@@ -7,10 +7,10 @@ use Rattle.lft_ir.specs.declared.steps.row.Row.{Row}
 use Rattle.lft_model.specs.{declared.breach.Breach.Breach, Plans.PlanParts, Presence.stop}
 use Rattle.lft_model.specs.Breaches.{BreaksRowUntil, RowBreach, TagBreach, TagOrder, RowOrder, First}
 use Rattle.lft_model.proofs.Places.{slice_get_within}
-use Rattle.lft_rows.{specs.inner.{Firsts.FirstRow, Parts.AreEarlier}, proofs.Together.together}
+use Rattle.lft_rows.{specs.{inner.{Firsts.FirstRow, Parts.AreEarlier}, Answers.Answers.KeepsRows}, proofs.Together.together}
 use Rattle.lft_stream.proofs.{Behind.in_time_added, Settling.{rows_in_time, rows_until}}
 use Rattle.lft_monitor.specs.{Sure.IsFirstBefore, declared.{follower.Follower.Follower, judged.Judged.Judged, past.Past.Past}}
-use Rattle.lft_monitor.specs.{inner.{Kept.IsPast, Follows.{AreJudged, done_of, IsFollowerOf, IsJudgedOf, KeepsRows}}, Follows.IsJudged}
+use Rattle.lft_monitor.specs.{inner.{Kept.IsPastOfRows, Follows.{AreJudged, done_of, IsFollowerOf, IsJudgedOf}}, Follows.IsJudged}
 use Rattle.lft_monitor.proofs.{Following.judged_so_far, Hand.{breaks_own, breaks_whole, unended_whole}, Rows.breaks_back}
 
 module _ (plan : PlanParts) (d v : List Row) (settled : FirstRow (stop plan d) plan d None) (earlier : AreEarlier d v) where
@@ -64,7 +64,7 @@ module _ (plan : PlanParts) (d v : List Row) (settled : FirstRow (stop plan d) p
 
 -- what is known of judged rows where the acceptor went on alone
 pub still_judged : (plan : PlanParts) (d : List Row) (old new : Judged) → IsJudgedOf plan d old → new.past ≡ old.past → new.count ≡ old.count → AreJudged plan d new
-still_judged plan d old new is past count = record { past = subst (λ (p : Past). IsPast plan d p) (sym past) is.past; counted = count ∙ is.counted; few = subst (λ (n : ℕ). n ≤ 2 ^ 62 + 4000000) (sym count) is.few; rows = is.acceptor.stands.state.settled.rows }
+still_judged plan d old new is past count = record { past = subst (λ (p : Past). IsPastOfRows plan d p) (sym past) is.past; counted = count ∙ is.counted; few = subst (λ (n : ℕ). n ≤ 2 ^ 62 + 4000000) (sym count) is.few; rows = is.acceptor.stands.state.settled.rows }
 
 -- the rows that a follower holds are later than those that it has judged
 pub hand_later : (plan : PlanParts) (t : List Row) (f : Follower) → IsFollowerOf plan t f → AreEarlier (done_of t f) f.rows.items

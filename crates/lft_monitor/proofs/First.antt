@@ -8,11 +8,11 @@ use Rattle.lft_model.specs.{declared.breach.Breach.Breach, Plans.PlanParts, Pres
 use Rattle.lft_model.proofs.Stops.{stop_append}
 use Rattle.lft_check.specs.inner.Verdicts.{LeastOf, BreachFrom}
 use Rattle.lft_stream.proofs.Parting.{up_to_second}
-use Rattle.lft_monitor.specs.{inner.{Sure.AreFrom, Kept.IsPast, Follows.BeginsLast}, Sure.IsFirstBefore, declared.past.Past.Past}
+use Rattle.lft_monitor.specs.{inner.{Sure.AreRowsFrom, Kept.IsPastOfRows, Follows.BeginsLast}, Sure.IsFirstBefore, declared.past.Past.Past}
 use Rattle.lft_monitor.specs.Follows.{IsFirstBehind, KeepsButLast}
 use Rattle.lft_monitor.proofs.{Dropped.dropped_alike, Finished.finished_law, Keeping.{alike_nearer, from_late, kept_before, kept_stop}}
 
-module _ (plan : PlanParts) (d u v : List Row) (p : Past) (is : IsPast plan d p) (high : Tag) (from : AreFrom u p.low) (later : AreFrom v high) where
+module _ (plan : PlanParts) (d u v : List Row) (p : Past) (is : IsPastOfRows plan d p) (high : Tag) (from : AreRowsFrom u p.low) (later : AreRowsFrom v high) where
   abbrev kept : List Row
   kept = p.kept.items
 
@@ -35,7 +35,7 @@ module _ (plan : PlanParts) (d u v : List Row) (p : Past) (is : IsPast plan d p)
       least c x (inr up) = found.1 c (subst (λ (g : Tag). TagBreachUntil g plan (kept ++ u) c) (sym same) ((dropped c up).0 x), up)
 
 -- where the rows of the last tag begin at a place, what is first before that tag is sure
-pub first_behind : (plan : PlanParts) (d rows : List Row) (begin end : ℕ) (x : Row) (b : Breach) → BeginsLast rows end begin → 0 < begin → end ≤ length rows → slice_get rows begin ≡ Some x → ((v : List Row) → AreFrom v x.tag → IsFirstBefore plan ((d ++ slice_range rows 0 begin) ++ v) x.tag b) → KeepsButLast plan (d ++ take end rows) → IsFirstBehind plan (d ++ rows) b (length d + end)
+pub first_behind : (plan : PlanParts) (d rows : List Row) (begin end : ℕ) (x : Row) (b : Breach) → BeginsLast rows end begin → 0 < begin → end ≤ length rows → slice_get rows begin ≡ Some x → ((v : List Row) → AreRowsFrom v x.tag → IsFirstBefore plan ((d ++ slice_range rows 0 begin) ++ v) x.tag b) → KeepsButLast plan (d ++ take end rows) → IsFirstBehind plan (d ++ rows) b (length d + end)
 first_behind plan d rows begin end x b begins more within here first keeps = record {
   within = let l : length (d ++ rows) ≡ length d + length rows = length-append d rows in omega arith;
   some = omega arith;
@@ -57,7 +57,7 @@ first_behind plan d rows begin end x b begins more within here first keeps = rec
     at_tag : (i : ℕ) (y : Row) → begin ≤ i → i < end → slice_get rows i ≡ Some y → y.tag ≡ z.0.tag
     at_tag i y l m e = begins.last.at_one i y z.0 l m e z.1
 
-    from : AreFrom (slice_range rows begin end) x.tag
+    from : AreRowsFrom (slice_range rows begin end) x.tag
     from i y e =
         let l = range-within rows begin end i y within e in
         let same : y.tag ≡ x.tag = at_tag (begin + i) y (omega arith) (omega (arith, l)) (sym (range-get rows begin end i l) ∙ e) ∙ sym (at_tag begin x (omega arith) some here) in

@@ -11,9 +11,9 @@ use Rattle.lft_queue.specs.Coming.AtTag.{AreAt, AreBefore}
 use Rattle.lft_stream.proofs.Parting.{range_fits}
 use Rattle.lft_monitor.specs.declared.{gone.{Going.Going, Halt.TheVariants.{AtEnd, AtRow, AtLater}}, follower.Follower.Follower}
 use Rattle.lft_monitor.specs.declared.{judged.{Judged.Judged, Unjudged.Unjudged}, reach.Reach.Reach}
-use Rattle.lft_monitor.specs.inner.Going.{AreEnded, AreOpen, IsGoing, IsGoneTo, IsFirstBad, IsLost, HasGone}
-use Rattle.lft_monitor.specs.inner.Follows.{done_of, AreDone, IsAtHand, IsFollowerOf, IsHalt, IsHeld, IsJudgedOf, IsOdd, IsTurn, IsUnjudged, BeginsLast}
-use Rattle.lft_monitor.specs.Follows.{IsClean, IsCleanTo, IsJudged, IsOddSoFar, IsQuiet, IsSureBehind, IsSureSoFar}
+use Rattle.lft_monitor.specs.inner.Going.{AreEnded, AreFewOpenRuns, IsGoing, IsGoneTo, IsFirstBad, IsRunLost, HasGone}
+use Rattle.lft_monitor.specs.inner.Follows.{done_of, AreCleanRows, IsGoneOver, IsFollowerOf, IsHalt, IsHeld, IsJudgedOf, IsOdd, IsTurn, IsUnjudged, BeginsLast}
+use Rattle.lft_monitor.specs.Follows.{IsCleanSoFar, IsCleanTo, IsJudged, IsOddSoFar, IsQuiet, IsSureBehind, IsSureSoFar}
 use Rattle.lft_monitor.proofs.{Judging.{accepted_rise, all_at, parted, rest_at}, Over.{apart, keeps_but_last, quiet}, Telling.{IsOf, bad_is_sure, lost_is_sure}}
 
 -- what is gone over is gone over still when more rows come behind
@@ -24,7 +24,7 @@ going_more plan done rows more g is = record {
   passes = subst (λ (t : List Row). HasPassed g.stop plan t g.passed g.pass) (sym same) is.passes;
   ended = λ z e. subst (λ (t : List Row). AreEnded t z.tag) (sym same) (ended z e (dec_lt 0 g.passed));
   few = is.few;
-  runs = subst (λ (t : List Row). AreOpen t g.runs) (sym same) is.runs;
+  runs = subst (λ (t : List Row). AreFewOpenRuns t g.runs) (sym same) is.runs;
 }
   where
     same : take g.passed (rows ++ more) ≡ take g.passed rows
@@ -84,7 +84,7 @@ first_later [] ys d x some earlier e = subst (λ (u : List Row). AreBefore u x.t
 first_later (z ∷ xs) ys d x some earlier e = earlier x e
 
 -- more rows are held
-pub held_more : (plan : PlanParts) (t more : List Row) (old new : Follower) → IsFollowerOf plan t old → RowsFit plan.program more → new.judged ≡ old.judged → new.going ≡ old.going → new.rows.items ≡ old.rows.items ++ more → length new.rows.items ≤ 4000000 → IsAtHand plan (t ++ more) new
+pub held_more : (plan : PlanParts) (t more : List Row) (old new : Follower) → IsFollowerOf plan t old → RowsFit plan.program more → new.judged ≡ old.judged → new.going ≡ old.going → new.rows.items ≡ old.rows.items ++ more → length new.rows.items ≤ 4000000 → IsGoneOver plan (t ++ more) new
 held_more plan t more old new is fit judged going rows few = record {
   held = record {
     parts = parts ∙ ap (λ (x : List Row). x ++ new.rows.items) (sym same);
@@ -162,7 +162,7 @@ module _ (plan : PlanParts) (t : List Row) (f : Follower) (h : IsHeld plan t f) 
       told = go halt
 
   -- what rows at hand are that are gone over up to an end, of which the last tag begins at a place
-  pub turn_to : (before more : List Row) → t ≡ before ++ more → AreDone plan before done f.judged.reach → (end begin : ℕ) → IsGoneTo plan done items end → BeginsLast items end begin → IsTurn plan before more done items f.judged.reach begin end
+  pub turn_to : (before more : List Row) → t ≡ before ++ more → AreCleanRows plan before done f.judged.reach → (end begin : ℕ) → IsGoneTo plan done items end → BeginsLast items end begin → IsTurn plan before more done items f.judged.reach begin end
   turn_to before more whole is end begin gone begins = record { parts = sym whole ∙ h.parts; judged = is; gone = gone; begins = begins; kept = keeps_but_last plan done items end gone settled first }
 
   -- the rows but those at the last tag are judged
@@ -250,8 +250,8 @@ odd_of plan t more done rows r begin end turn some inside = record {
     next = get_there rows begin inside
 
 -- some rows of all are clean
-clean_to : (plan : PlanParts) (t d u : List Row) (r : Reach) → t ≡ d ++ u → IsClean plan d r → IsCleanTo plan t r (length d)
-clean_to plan t d u r parts clean = record { within = let a : length t ≡ length d + length u = ap (λ (x : List Row). length x) parts ∙ length-append d u in omega arith; clean = subst (λ (x : List Row). IsClean plan x r) (sym (done_is t d u (length d) refl parts)) clean }
+clean_to : (plan : PlanParts) (t d u : List Row) (r : Reach) → t ≡ d ++ u → IsCleanSoFar plan d r → IsCleanTo plan t r (length d)
+clean_to plan t d u r parts clean = record { within = let a : length t ≡ length d + length u = ap (λ (x : List Row). length x) parts ∙ length-append d u in omega arith; clean = subst (λ (x : List Row). IsCleanSoFar plan x r) (sym (done_is t d u (length d) refl parts)) clean }
 
 pub odd_so_far : (plan : PlanParts) (t more : List Row) (r : Reach) (line : ℕ) → IsOdd plan t more r line → IsOddSoFar plan (t ++ more) r line
 odd_so_far plan t more r line o = (length o.judged.done, clean_to plan (t ++ more) o.judged.done (o.judged.left ++ more) r (ap (λ (x : List Row). x ++ more) o.judged.parts ∙ append_assoc o.judged.done o.judged.left more) o.judged.clean, (let a : length o.judged.done ≤ o.place = o.behind in let b : line ≡ o.place + 2 = o.line_is in omega arith), let a : o.place + 1 < length (t ++ more) = slice_get_within (t ++ more) (o.place + 1) o.next o.is_next in let b : line ≡ o.place + 2 = o.line_is in omega arith)
@@ -261,7 +261,7 @@ unjudged_so_far plan t u (inl judged, line) = (length judged.done, clean_to plan
 unjudged_so_far plan t u (inr clean, line) = (length t, clean_to plan t t [] u.reach (sym (append-nil t)) clean, (let b : u.line ≡ length t + 1 = line in omega arith), let b : u.line ≡ length t + 1 = line in omega arith)
 
 -- all rows that are held are gone over, and those before the last of them are judged: nothing is to be told
-module _ (plan : PlanParts) (t : List Row) (f : Follower) (hand : IsAtHand plan t f) (all : f.going.passed ≡ length f.rows.items) where
+module _ (plan : PlanParts) (t : List Row) (f : Follower) (hand : IsGoneOver plan t f) (all : f.going.passed ≡ length f.rows.items) where
   pub quiet_all : (begin : ℕ) → BeginsLast f.rows.items (length f.rows.items) begin → (j : Judged) → IsJudgedOf plan (done_of t f ++ slice_range f.rows.items 0 begin) j → IsQuiet plan t
   quiet_all begin begins j judged = subst (λ (x : List Row). IsQuiet plan x) (ap (λ (x : List Row). done_of t f ++ x) (take-length f.rows.items) ∙ sym hand.held.parts) (quiet_to plan t f hand.held (length f.rows.items) begin (gone_all plan (done_of t f) f.rows.items f.going hand.going all) begins j judged)
 
@@ -269,11 +269,11 @@ module _ (plan : PlanParts) (t : List Row) (f : Follower) (hand : IsAtHand plan 
   quiet_at_one g at = quiet_all 0 (begins_at f.rows.items g at) f.judged (subst (λ (x : List Row). IsJudgedOf plan x f.judged) (sym (append-nil (done_of t f))) hand.held.judged)
 
 -- all rows are at one tag
-pub at_one_tag : (plan : PlanParts) (t : List Row) (f : Follower) → IsAtHand plan t f → BeginsLast f.rows.items (length f.rows.items) 0 → IsFollowerOf plan t f
+pub at_one_tag : (plan : PlanParts) (t : List Row) (f : Follower) → IsGoneOver plan t f → BeginsLast f.rows.items (length f.rows.items) 0 → IsFollowerOf plan t f
 at_one_tag plan t f hand begins = record { hand = hand; at_one = all_at f.rows.items begins.last }
 
 -- how far the rows are judged, and which
-pub done_so_far : (plan : PlanParts) (t : List Row) (f : Follower) → IsFollowerOf plan t f → AreDone plan t (done_of t f) f.judged.reach
+pub done_so_far : (plan : PlanParts) (t : List Row) (f : Follower) → IsFollowerOf plan t f → AreCleanRows plan t (done_of t f) f.judged.reach
 done_so_far plan t f is = (record { done = done_of t f; left = f.rows.items; parts = h.parts; at_one = at_one f.rows.items h.some h.earlier is.at_one; some = h.some; clean = h.judged.clean }, refl)
   where
     h : IsHeld plan t f
@@ -323,7 +323,7 @@ begins_within rows end begin begins within some = go (dec_lt 0 end)
     go (yes l) = let b : begin < end = begins.some l in omega (arith, b)
     go (no n) = omega (arith, up)
 
-module _ (plan : PlanParts) (t more : List Row) (old now : Follower) (is : IsFollowerOf plan t old) (hand : IsAtHand plan (t ++ more) now) where
+module _ (plan : PlanParts) (t more : List Row) (old now : Follower) (is : IsFollowerOf plan t old) (hand : IsGoneOver plan (t ++ more) now) where
   module _ (s : List Row) (rows : s ≡ now.rows.items) where
     pub fit_over : RowsFit plan.program s
     fit_over = subst (RowsFit plan.program) (sym rows) hand.held.fit
@@ -338,20 +338,20 @@ module _ (plan : PlanParts) (t more : List Row) (old now : Follower) (is : IsFol
       pub held_over : IsHeld plan (t ++ more) then
       held_over = let h = hand.held in record { parts = h.parts; judged = h.judged; fit = h.fit; earlier = h.earlier; some = h.some }
 
-      pub over_end : HasGone plan (done_of (t ++ more) now) s g AtEnd → IsAtHand plan (t ++ more) then × (g.passed ≡ length now.rows.items)
+      pub over_end : HasGone plan (done_of (t ++ more) now) s g AtEnd → IsGoneOver plan (t ++ more) then × (g.passed ≡ length now.rows.items)
       over_end gone = (record { held = held_over; going = subst (λ (x : List Row). IsGoing plan (done_of (t ++ more) now) x g) rows gone.0 }, gone.1 ∙ ap (λ (x : List Row). length x) rows)
 
       pub over_row : (i k : ℕ) → HasGone plan (done_of (t ++ more) now) s g (AtRow i k) → (i < length now.rows.items) × IsHalt plan (done_of (t ++ more) now) now.rows.items i i k
       over_row i k gone = let o = subst (λ (x : List Row). IsFirstBad plan (done_of (t ++ more) now) x i k) rows gone in (slice_get_within now.rows.items i o.row o.is_row, inl (refl, o))
 
       pub over_later : (b i : ℕ) → HasGone plan (done_of (t ++ more) now) s g (AtLater b i) → (b < length now.rows.items) × (i < length now.rows.items) × IsHalt plan (done_of (t ++ more) now) now.rows.items b i 5
-      over_later b i gone = let o = subst (λ (x : List Row). IsLost plan (done_of (t ++ more) now) x b i) rows gone in (slice_get_within now.rows.items b o.row o.is_row, slice_get_within now.rows.items i o.later o.is_later, inr (refl, o))
+      over_later b i gone = let o = subst (λ (x : List Row). IsRunLost plan (done_of (t ++ more) now) x b i) rows gone in (slice_get_within now.rows.items b o.row o.is_row, slice_get_within now.rows.items i o.later o.is_later, inr (refl, o))
 
   -- what was judged before is what is done
-  pub still_done : now.judged ≡ old.judged → AreDone plan t (done_of (t ++ more) now) now.judged.reach
-  still_done same = subst (λ (j : Judged). AreDone plan t (take j.count (t ++ more)) j.reach) (sym same) (before.0, before.1 ∙ sym (take-append-le old.judged.count t more few))
+  pub still_done : now.judged ≡ old.judged → AreCleanRows plan t (done_of (t ++ more) now) now.judged.reach
+  still_done same = subst (λ (j : Judged). AreCleanRows plan t (take j.count (t ++ more)) j.reach) (sym same) (before.0, before.1 ∙ sym (take-append-le old.judged.count t more few))
     where
-      before : AreDone plan t (done_of t old) old.judged.reach
+      before : AreCleanRows plan t (done_of t old) old.judged.reach
       before = done_so_far plan t old is
 
       few : old.judged.count ≤ length t

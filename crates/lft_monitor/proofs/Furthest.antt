@@ -7,7 +7,7 @@ use Rattle.lft_ir.{specs.{Parts.Parts, Sound.IsSound, Origins.Origin, declared.p
 use Rattle.lft_lists.proofs.Places.{get_there, get_written, get_unwritten, same_at, same_some}
 use Rattle.lft_model.proofs.Places.{slice_get_within}
 use Rattle.lft_queue.{specs.inner.{Reading.is_read, Coming.Unread.GoesAsFar}, proofs.ComingLemmas.Ways.{moved_up, far_trans}}
-use Rattle.lft_monitor.specs.{inner.Kept.{AreFurthest, AreWays}, declared.kept.Ways.Ways}
+use Rattle.lft_monitor.specs.{inner.Kept.{AreFurthest, AreWaysOfWrites}, declared.kept.CarriedWrites.CarriedWrites}
 
 -- a port is marked
 abbrev pub IsMarked : List Bool → ℕ → Type 0
@@ -80,7 +80,7 @@ heard_before program sound heard are origin f tag low there before p delays way 
     go false e = inr e
 
 -- so each way of a write arrives before low, or no reaction reads the port; that is said only where the time is over
-pub leads_of : (program : Parts) → IsSound program → (ways : Ways) → AreWays program ways → (over : Bool) (P Q : Type 0) → (over ≡ true → P × Q) → (list : List Shift) → list ≡ cond over ways.heard.items ways.furthest.items → (origin : ℕ) (f : Shift) (tag low : Tag) → slice_get list origin ≡ Some f → Before (shifted tag (f.time, f.steps)) low → (p : ℕ) (delays : List ℕ) → Origin program p origin delays → Before (after_all tag delays) low ⊎ (is_read program p ≡ false) × P × Q
+pub leads_of : (program : Parts) → IsSound program → (ways : CarriedWrites) → AreWaysOfWrites program ways → (over : Bool) (P Q : Type 0) → (over ≡ true → P × Q) → (list : List Shift) → list ≡ cond over ways.heard.items ways.furthest.items → (origin : ℕ) (f : Shift) (tag low : Tag) → slice_get list origin ≡ Some f → Before (shifted tag (f.time, f.steps)) low → (p : ℕ) (delays : List ℕ) → Origin program p origin delays → Before (after_all tag delays) low ⊎ (is_read program p ≡ false) × P × Q
 leads_of program sound ways are true P Q apart list same origin f tag low there before p delays way = go (heard_before program sound ways.heard.items are.heard origin f tag low (subst (λ (xs : List Shift). slice_get xs origin ≡ Some f) same there) before p delays way)
   where
     go : Before (after_all tag delays) low ⊎ (is_read program p ≡ false) → Before (after_all tag delays) low ⊎ (is_read program p ≡ false) × P × Q
@@ -88,6 +88,6 @@ leads_of program sound ways are true P Q apart list same origin f tag low there 
     go (inr e) = inr (e, (apart refl).0, (apart refl).1)
 leads_of program sound ways are false P Q apart list same origin f tag low there before p delays way = inl (leads_before program sound (λ k. Unit {0}) ways.furthest.items are.furthest origin f tag low (subst (λ (xs : List Shift). slice_get xs origin ≡ Some f) same there) before p delays tt way)
 
-pub ways_long : (program : Parts) (ways : Ways) → AreWays program ways → (over : Bool) (list : List Shift) → list ≡ cond over ways.heard.items ways.furthest.items → length list ≡ length program.ports
+pub ways_long : (program : Parts) (ways : CarriedWrites) → AreWaysOfWrites program ways → (over : Bool) (list : List Shift) → list ≡ cond over ways.heard.items ways.furthest.items → length list ≡ length program.ports
 ways_long program ways are true list same = ap (λ (xs : List Shift). length xs) same ∙ are.heard.as_long
 ways_long program ways are false list same = ap (λ (xs : List Shift). length xs) same ∙ are.furthest.as_long

@@ -14,10 +14,11 @@ use Rattle.lft_ir.specs.declared.steps.{externals.Event.Event, row.Row.Row}
 use Rattle.lft_ir.specs.Steps.Inputs.{ExternalInputs, ComesBefore, InOrder}
 use Rattle.lft_model.specs.{Plans.PlanParts, Presence.{stop, scheduled, given, min_delay, IsWrittenFrom}, Runs.{Ran, start_row}}
 use Rattle.lft_model.proofs.Places.{slice_get_within}
-use Rattle.lft_queue.specs.{Coming.AtTag.AreBefore, inner.Coming.{Coming.AreComing, Lanes.{held, given_to, IsDone, IsKept, IsLane}}}
+use Rattle.lft_queue.specs.{Coming.AtTag.AreBefore, inner.Coming.{Coming.AreComing, Lanes.{held, event_given_to, IsTagDone, IsKept, IsLane}}}
 use Rattle.lft_stream.specs.declared.{acceptor.Acceptor.Acceptor, stream.Stream.Stream}
-use Rattle.lft_stream.specs.{inner.{Settled.IsRightRun, Kept.{AreUpTo, HaveCome, IsLater, IsOfRow, IsStreamOf, IsAcceptorOf}}, Kept.low_of}
-use Rattle.lft_monitor.specs.{Sure.IsUnbroken, inner.{Sure.{with_inputs, GiveSame}, Kept.IsPast, Going.IsGoing, Follows.{IsJudgedOf, IsFollowerOf, done_of}}}
+use Rattle.lft_stream.specs.{inner.{Settled.IsRightRun, Kept.{AreUpToLast, HaveCome, IsLater, IsOfRow, IsStreamOf, IsAcceptorOf}}, Kept.low_of}
+use Rattle.lft_monitor.specs.Sure.{IsUnbroken}
+use Rattle.lft_monitor.specs.inner.{Sure.{with_inputs, GiveSame}, Kept.IsPastOfRows, Going.IsGoing, Follows.{IsJudgedOf, IsFollowerOf, done_of}}
 use Rattle.lft_monitor.specs.declared.{past.Past.Past, gone.Going.Going, judged.Judged.Judged, follower.Follower.Follower}
 use Rattle.lft_monitor.proofs.{Behind.after_least, Later.{later_law, same_alike, at_alike, clash_alike}}
 use Rattle.lft_monitor.proofs.{OtherInputs.{row_other, listens_back, listeners_other, dues_other, right_other, kept_other}, Passed.{reach_up, done_before}}
@@ -98,7 +99,7 @@ module _ (plan : PlanParts) (event : Event) (place : ℕ) (within : place ≤ le
       same = record { given_same = λ h a before. sym (alike h (Before-UpTo h low event.tag before up) a); stop_same = inl refl }
 
   -- before its tag what is done with stays so
-  done_more : (t : List Row) (n : Name) (h : Tag) → Before h event.tag → IsDone plan t n h → IsDone more t n h
+  done_more : (t : List Row) (n : Name) (h : Tag) → Before h event.tag → IsTagDone plan t n h → IsTagDone more t n h
   done_more t n h before o = record {
     met = λ v x r l. o.met v (at_alike plan inputs plan.externals t h (alike h before) n v x) r (listens_back plan inputs r (On n) l);
     apart = λ c. o.apart (clash_alike plan inputs plan.externals t h (alike h before) n c);
@@ -114,7 +115,7 @@ module _ (plan : PlanParts) (event : Event) (place : ℕ) (within : place ≤ le
     clash = λ c. k.clash (record { first = c.first; second = c.second; first_value = c.first_value; second_value = c.second_value; is_first = written_back inputs plan.externals t h p c.first c.first_value c.is_first; is_second = written_back inputs plan.externals t h p c.second c.second_value c.is_second; differ = c.differ });
   }
 
-  kept_action : (t : List Row) (a : ℕ) (h : Tag) (queue : List (Tag × Value)) → IsKept plan t (Action a) h queue → IsKept more t (Action a) h (option_to_list (given_to a event) ++ queue)
+  kept_action : (t : List Row) (a : ℕ) (h : Tag) (queue : List (Tag × Value)) → IsKept plan t (Action a) h queue → IsKept more t (Action a) h (option_to_list (event_given_to a event) ++ queue)
   kept_action t a h queue k = record {
     there = λ v c. subst (λ (vs : List Value). Contains vs v) (sym now_held) (there_front own out (held queue h) k.there k.back k.clash new v (subst (λ (vs : List Value). Contains (own ++ vs) v) now_given c));
     back = λ v c. subst (λ (vs : List Value). Contains (own ++ vs) v) (sym now_given) (back_front own out (held queue h) k.there k.back k.clash new v (subst (λ (vs : List Value). Contains vs v) now_held c));
@@ -130,7 +131,7 @@ module _ (plan : PlanParts) (event : Event) (place : ℕ) (within : place ≤ le
       new : Option Value
       new = given h a event
 
-      now_held : held (option_to_list (given_to a event) ++ queue) h ≡ cons_option new (held queue h)
+      now_held : held (option_to_list (event_given_to a event) ++ queue) h ≡ cons_option new (held queue h)
       now_held = held_given h a event queue
 
       now_given : filter_map (given h a) inputs.events ≡ cons_option new out
@@ -166,7 +167,7 @@ module _ (plan : PlanParts) (event : Event) (place : ℕ) (within : place ≤ le
 
   -- a state that has come no further than its tag
   module _ (t : List Row) (s : Stream) (up : UpTo (low_of s.tag) event.tag) (next : s.coming.next ≤ place) (is : IsStreamOf plan t s) where
-    past : (x : Row) (o : Option Tag) → Mem x t → AreUpTo t o → UpTo (low_of o) event.tag → Before x.tag event.tag
+    past : (x : Row) (o : Option Tag) → Mem x t → AreUpToLast t o → UpTo (low_of o) event.tag → Before x.tag event.tag
     past x None m none l = absurd (subst (λ (rows : List Row). Mem x rows) none m)
     past x (Some g) m upto l = go m
       where
@@ -181,7 +182,7 @@ module _ (plan : PlanParts) (event : Event) (place : ℕ) (within : place ≤ le
 
     abbrev lanes : Name → List (Tag × Value)
     lanes (Port p) = is.lanes (Port p)
-    lanes (Action a) = option_to_list (given_to a event) ++ is.lanes (Action a)
+    lanes (Action a) = option_to_list (event_given_to a event) ++ is.lanes (Action a)
 
     lane_port : (p o : ℕ) (delays : List ℕ) → Origin plan.program p o delays → IsLane more t (Port p) (low_of s.tag) (is.lanes (Port p))
     lane_port p o delays way = let old = is.state.ports p o delays way in record { past = λ h b. done_more t (Port p) h (Before-UpTo h (low_of s.tag) event.tag b up) (old.past h b); ahead = λ h l. kept_port t p h (is.lanes (Port p)) (old.ahead h l) }
@@ -229,7 +230,7 @@ module _ (plan : PlanParts) (event : Event) (place : ℕ) (within : place ≤ le
   pub acceptor_more : (t : List Row) (a : Acceptor) → UpTo (low_of a.stream.tag) event.tag → a.stream.coming.next ≤ place → IsAcceptorOf plan t a → IsAcceptorOf more t a
   acceptor_more t a up next is = record { stands = stream_more t a.stream up next is.stands; pass = is.pass; laid = is.laid; order = is.order }
 
-  past_more : (t : List Row) (p : Past) → AreBefore t event.tag → IsPast plan t p → IsPast more t p
+  past_more : (t : List Row) (p : Past) → AreBefore t event.tag → IsPastOfRows plan t p → IsPastOfRows more t p
   past_more t p before is = record {
     stop_is = is.stop_is;
     near = is.near;

@@ -4,7 +4,7 @@ use Rattle.lft_tag.specs.{declared.Tag.Tag, Tags.{UpTo, after}}
 use Rattle.lft_lists.proofs.Places.{get_right}
 use Rattle.lft_model.{proofs.Places.slice_get_within, specs.Plans.PlanParts}
 use Rattle.lft_ir.specs.declared.steps.row.Row.{Row}
-use Rattle.lft_stream.specs.{declared.stream.Stream.Stream, inner.{Dues.NoneDueBefore, Kept.{AreUpTo, state_of, IsStreamOf}}, Kept.low_of}
+use Rattle.lft_stream.specs.{declared.stream.Stream.Stream, inner.{Dues.NoneDueBefore, Kept.{AreUpToLast, state_of, IsStreamOf}}, Kept.low_of}
 use Rattle.lft_monitor.{specs.Sure.IsUnbroken, proofs.Coming.timely_law}
 
 pub shown : (plan : PlanParts) (t : List Row) (low : Tag) (s : Stream) → IsStreamOf plan t s → UpTo low (low_of s.tag) → NoneDueBefore s.stop low s.dues → IsUnbroken plan t low
@@ -15,7 +15,7 @@ next_up g h (inl l) = inl l
 next_up g h (inr x) = inr (x.0, (let a = x.1 in omega arith))
 
 -- behind the last row, what is kept has come to its tag
-pub behind_last : (d u : List Row) (x : Row) (k : ℕ) (tag : Option Tag) → slice_get u k ≡ Some x → AreUpTo (d ++ u) tag → UpTo (after x.tag 0) (low_of tag)
+pub behind_last : (d u : List Row) (x : Row) (k : ℕ) (tag : Option Tag) → slice_get u k ≡ Some x → AreUpToLast (d ++ u) tag → UpTo (after x.tag 0) (low_of tag)
 behind_last d u x k None e none = absurd (nothing (d ++ u) (length d + k) none (get_right d u k ∙ e))
   where
     nothing : (t : List Row) (i : ℕ) → t ≡ [] → slice_get t i ≡ Some x → ⊥

@@ -10,7 +10,7 @@ use Rattle.lft_rows.specs.inner.Slices.{Rises}
 use Rattle.lft_queue.specs.Coming.AtTag.{AreAt}
 use Rattle.lft_stream.{specs.{declared.acceptor.Acceptor.Acceptor, inner.Kept.IsAcceptorOf, Kept.low_of}, proofs.Parting.{rises_from, up_to_second}}
 use Rattle.lft_monitor.specs.{Sure.IsUnbroken, Reach.{IsLastOf, IsReach}, declared.{reach.Reach.Reach, judged.Judged.Judged}}
-use Rattle.lft_monitor.specs.inner.{Kept.IsPast, Follows.{IsJudgedOf, AreLast, BeginsLast}}
+use Rattle.lft_monitor.specs.inner.{Kept.IsPastOfRows, Follows.{IsJudgedOf, AreAtLastTag, BeginsLast}}
 use Rattle.lft_monitor.proofs.Going.{next_up}
 
 -- where nothing is broken before a tag, nothing is before an earlier one
@@ -48,7 +48,7 @@ last_up t r x n rises is at long = go r.tag is.last
             subst (λ (y : Row). UpTo g y.tag) q (UpTo-refl g)
 
 -- more rows are judged
-pub judged_more : (plan : PlanParts) (d u : List Row) (old new : Judged) → IsJudgedOf plan d old → 0 < length u → old.count ≤ 2 ^ 62 → length u ≤ 4000000 → IsAcceptorOf plan (d ++ u) new.acceptor → ((x : Row) → slice_get u (length u - 1) ≡ Some x → IsUnbroken plan (d ++ u) (after x.tag 0)) → IsPast plan (d ++ u) new.past → new.count ≡ old.count + length u → IsReach (d ++ u) new.reach → IsJudgedOf plan (d ++ u) new
+pub judged_more : (plan : PlanParts) (d u : List Row) (old new : Judged) → IsJudgedOf plan d old → 0 < length u → old.count ≤ 2 ^ 62 → length u ≤ 4000000 → IsAcceptorOf plan (d ++ u) new.acceptor → ((x : Row) → slice_get u (length u - 1) ≡ Some x → IsUnbroken plan (d ++ u) (after x.tag 0)) → IsPastOfRows plan (d ++ u) new.past → new.count ≡ old.count + length u → IsReach (d ++ u) new.reach → IsJudgedOf plan (d ++ u) new
 judged_more plan d u old new is some few short acceptor clean past count reach = record {
   acceptor = acceptor;
   past = past;
@@ -72,17 +72,17 @@ pub judged_none : (plan : PlanParts) (d u : List Row) (j : Judged) → length u 
 judged_none plan d u j none is = subst (λ (t : List Row). IsJudgedOf plan t j) (sym (ap (λ (t : List Row). d ++ t) (no_rows u none) ∙ append-nil d)) is
 
 -- rows from a place on are at one tag
-last_at : (u : List Row) (n : ℕ) → AreLast u (length u) n → (g : Tag) × ((i : ℕ) (x : Row) → n ≤ i → i < length u → slice_get u i ≡ Some x → x.tag ≡ g)
+last_at : (u : List Row) (n : ℕ) → AreAtLastTag u (length u) n → (g : Tag) × ((i : ℕ) (x : Row) → n ≤ i → i < length u → slice_get u i ≡ Some x → x.tag ≡ g)
 last_at u n begins = go (dec_lt n (length u))
   where
     go : Dec (n < length u) → (g : Tag) × ((i : ℕ) (x : Row) → n ≤ i → i < length u → slice_get u i ≡ Some x → x.tag ≡ g)
     go (yes l) = let z = get_there u (length u - 1) (omega arith) in (z.0.tag, λ i x a b e. begins.at_one i x z.0 a b e z.1)
     go (no m) = (record { time = 0; micro = 0 }, λ i x a b e. absurd (omega arith))
 
-pub all_at : (u : List Row) → AreLast u (length u) 0 → (g : Tag) × AreAt u g
+pub all_at : (u : List Row) → AreAtLastTag u (length u) 0 → (g : Tag) × AreAt u g
 all_at u begins = let g = last_at u 0 begins in (g.0, λ i x e. g.1 i x (omega arith) (slice_get_within u i x e) e)
 
-pub rest_at : (u : List Row) (n : ℕ) → AreLast u (length u) n → (g : Tag) × AreAt (slice_range u n (length u)) g
+pub rest_at : (u : List Row) (n : ℕ) → AreAtLastTag u (length u) n → (g : Tag) × AreAt (slice_range u n (length u)) g
 rest_at u n begins = let g = last_at u n begins in (g.0, λ i x e. let l = range-within u n (length u) i x (omega arith) e in g.1 (n + i) x (omega arith) (omega (arith, l)) (sym (range-get u n (length u) i l) ∙ e))
 
 -- rows that are held are parted where the last tag begins
@@ -97,12 +97,12 @@ pub begins_none : (rows : List Row) (end : ℕ) → end ≡ 0 → BeginsLast row
 begins_none rows end none = record { last = record { up = omega arith; at_one = λ i x z a b. absurd (omega arith) }; some = λ l. l; other = λ x z l. absurd (omega arith) }
 
 -- the last row alone
-pub last_one : (rows : List Row) (end : ℕ) → AreLast rows end (end - 1)
+pub last_one : (rows : List Row) (end : ℕ) → AreAtLastTag rows end (end - 1)
 last_one rows end = record { up = omega arith; at_one = λ i x z a b e f. ap (λ (r : Row). r.tag) (same_at rows i (end - 1) x z e f (omega arith)) }
 
 module _ (rows : List Row) (end passed : ℕ) (x y : Row) where
   -- one row more is at the same tag
-  pub begins_before : passed < end → AreLast rows end (end - passed) → slice_get rows (end - 1 - passed) ≡ Some x → slice_get rows (end - 1) ≡ Some y → x.tag ≡ y.tag → AreLast rows end (end - (passed + 1))
+  pub begins_before : passed < end → AreAtLastTag rows end (end - passed) → slice_get rows (end - 1 - passed) ≡ Some x → slice_get rows (end - 1) ≡ Some y → x.tag ≡ y.tag → AreAtLastTag rows end (end - (passed + 1))
   begins_before inside begins at last same = record { up = omega arith; at_one = at_one }
     where
       at_one : (i : ℕ) (w z : Row) → end - (passed + 1) ≤ i → i < end → slice_get rows i ≡ Some w → slice_get rows (end - 1) ≡ Some z → w.tag ≡ z.tag
@@ -113,7 +113,7 @@ module _ (rows : List Row) (end passed : ℕ) (x y : Row) where
           go (no m) = begins.at_one i w z (omega arith) b e f
 
   -- the row before is at another tag
-  pub begins_other : 0 < passed → passed < end → AreLast rows end (end - passed) → slice_get rows (end - 1 - passed) ≡ Some x → slice_get rows (end - 1) ≡ Some y → (x.tag ≡ y.tag → ⊥) → BeginsLast rows end (end - passed)
+  pub begins_other : 0 < passed → passed < end → AreAtLastTag rows end (end - passed) → slice_get rows (end - 1 - passed) ≡ Some x → slice_get rows (end - 1) ≡ Some y → (x.tag ≡ y.tag → ⊥) → BeginsLast rows end (end - passed)
   begins_other more inside begins at last differ = record {
     last = begins;
     some = λ l. omega arith;
@@ -121,5 +121,5 @@ module _ (rows : List Row) (end passed : ℕ) (x y : Row) where
   }
 
 -- all rows are at the tag
-pub begins_all : (rows : List Row) (end passed : ℕ) → 0 < end → end ≤ passed → AreLast rows end (end - passed) → BeginsLast rows end 0
-begins_all rows end passed some all begins = record { last = subst (λ (n : ℕ). AreLast rows end n) (let e : end - passed ≡ 0 = omega arith in e) begins; some = λ l. l; other = λ x z l. absurd (omega arith) }
+pub begins_all : (rows : List Row) (end passed : ℕ) → 0 < end → end ≤ passed → AreAtLastTag rows end (end - passed) → BeginsLast rows end 0
+begins_all rows end passed some all begins = record { last = subst (λ (n : ℕ). AreAtLastTag rows end n) (let e : end - passed ≡ 0 = omega arith in e) begins; some = λ l. l; other = λ x z l. absurd (omega arith) }

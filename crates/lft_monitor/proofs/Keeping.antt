@@ -12,7 +12,7 @@ use Rattle.lft_model.specs.Presence.{asked, requests, scheduled, stop, value_wri
 use Rattle.lft_model.proofs.{Ended.written_by, Places.slice_get_within, Steps.written_some, Stops.stop_append}
 use Rattle.lft_queue.specs.{Coming.AtTag.AreBefore, inner.Reading.is_read}
 use Rattle.lft_stream.specs.inner.Owed.{MeetNowhere}
-use Rattle.lft_monitor.specs.inner.{Sure.AreFrom, Kept.{GoesUnheard, CauseAlike, IsIdle, IsKept}}
+use Rattle.lft_monitor.specs.inner.{Sure.AreRowsFrom, Kept.{GoesUnheard, CauseAlike, IsIdle, IsKept}}
 
 -- what two lists pick of theirs, one behind the other
 over : {X : Type 0} (f : Row → Option X) (d e u v : List Row) → filter_map f d ≡ filter_map f e → filter_map f u ≡ filter_map f v → filter_map f (d ++ u) ≡ filter_map f (e ++ v)
@@ -33,7 +33,7 @@ same_time g h (suc d ∷ delays) e = let q : g.time + suc d ≡ h.time + suc d =
 abbrev pub AreLate : List Row → Tag → Type 0
 AreLate u low = (i : ℕ) (x : Row) → slice_get u i ≡ Some x → low.time ≤ x.tag.time
 
-pub from_late : (u : List Row) (low : Tag) → AreFrom u low → AreLate u low
+pub from_late : (u : List Row) (low : Tag) → AreRowsFrom u low → AreLate u low
 from_late u low from i x e = time_up low x.tag (from i x e)
 
 -- writes that meet where one of a time before low arrives are by the rows before

@@ -9,7 +9,7 @@ use Rattle.lft_tag.{specs.{declared.Tag.Tag, Tags.{Before, same_tag}}, proofs.Or
 use Rattle.lft_lists.proofs.Members.{none_nil}
 use Rattle.lft_ir.specs.{declared.{parts.Value.Value, steps.externals.Event.Event}, Steps.Inputs.{ComesBefore, InOrder}}
 use Rattle.lft_model.specs.Presence.{given}
-use Rattle.lft_queue.specs.inner.Coming.Lanes.{held, given_to}
+use Rattle.lft_queue.specs.inner.Coming.Lanes.{held, event_given_to}
 
 nothing_put : {Y : Type 0} (o : Option Y) (vs : List Y) → cons_option o vs ≡ [] → (o ≡ None) × (vs ≡ [])
 nothing_put None vs e = (refl, e)
@@ -75,7 +75,7 @@ comes_apart x y (inl b) e q = Before-irrefl y.tag (subst (λ (g : Tag). Before g
 comes_apart x y (inr p) e q = let l : x.action < y.action = p.1 in omega arith
 
 -- the one event that a lane has in front
-pub held_given : (h : Tag) (a : ℕ) (event : Event) (queue : List (Tag × Value)) → held (option_to_list (given_to a event) ++ queue) h ≡ cons_option (given h a event) (held queue h)
+pub held_given : (h : Tag) (a : ℕ) (event : Event) (queue : List (Tag × Value)) → held (option_to_list (event_given_to a event) ++ queue) h ≡ cons_option (given h a event) (held queue h)
 held_given h a event queue = go (same_tag h event.tag) (a == event.action) refl
   where
     go : (b c : Bool) → same_tag h event.tag ≡ b → held (option_to_list (cond c (Some (event.tag, event.value)) None) ++ queue) h ≡ cons_option (cond (b && c) (Some event.value) None) (held queue h)

@@ -5,7 +5,7 @@ use Rattle.lft_lists.proofs.{Members.{Mem, contains_mem, mem_contains}, Places.s
 use Rattle.lft_ir.specs.declared.steps.row.{Row.Row, Step.{Step, TheVariants.{Start, Read, Write, Schedule, Stop, End}}}
 use Rattle.lft_model.{specs.{Runs.{start_row, end_row}, Breaches.{IsOpen, IsUnended}}, proofs.Places.{slice_get_take, slice_get_taken}}
 use Rattle.lft_rows.specs.inner.Passes.{IsOnlyOpen, OpenPlace, Unended}
-use Rattle.lft_monitor.specs.inner.Going.{AreOpen, opened}
+use Rattle.lft_monitor.specs.inner.Going.{AreFewOpenRuns, opened}
 
 -- the other members of a list, of which one is left out
 less_more : (y s j : ℕ) (xs ys : List ℕ) → (Mem j xs → (j ≡ s) ⊎ Mem j ys) → (y ≡ j) ⊎ Mem j xs → (j ≡ s) ⊎ Mem j (y ∷ ys)
@@ -51,15 +51,15 @@ module _ (rows : List Row) (place : ℕ) (row : Row) (at : slice_get rows place 
           let q : i ≡ place = omega arith in
           inr (q, ap (λ (y : Row). y.step) (same_at rows place i row x at p.1 (sym q)) ∙ o.0)
 
-  module _ (n : ℕ) (old : AreOpen front n) where
-    same : (row.step ≡ Start → ⊥) → AreOpen more n
+  module _ (n : ℕ) (old : AreFewOpenRuns front n) where
+    same : (row.step ≡ Start → ⊥) → AreFewOpenRuns more n
     same never = (old.0, old.1, λ i x e o. go i x (cases i x e o))
       where
         go : (i : ℕ) (x : Row) → ((slice_get front i ≡ Some x) × IsUnended front i x) ⊎ ((i ≡ place) × (row.step ≡ Start)) → Contains old.0 i
         go i x (inl p) = old.2 i x p.0 p.1
         go i x (inr p) = absurd (never p.1)
 
-    begun : AreOpen more (n + 1)
+    begun : AreFewOpenRuns more (n + 1)
     begun = (place ∷ old.0, let l : length old.0 ≤ n = old.1 in omega arith, λ i x e o. mem_contains i (place ∷ old.0) (go i x (cases i x e o)))
       where
         go : (i : ℕ) (x : Row) → ((slice_get front i ≡ Some x) × IsUnended front i x) ⊎ ((i ≡ place) × (row.step ≡ Start)) → (place ≡ i) ⊎ Mem i old.0
@@ -77,7 +77,7 @@ module _ (rows : List Row) (place : ℕ) (row : Row) (at : slice_get rows place 
         not_ended = λ k l m e. q.not_ended k l m (slice_get_taken (place + 1) rows k (end_row row.worker row.tag row.reaction) (omega arith) (slice_get_take place rows k (end_row row.worker row.tag row.reaction) e).1);
       }
 
-      ended_by : (s : ℕ) → IsOnlyOpen front place place row.worker s → AreOpen more (n - 1)
+      ended_by : (s : ℕ) → IsOnlyOpen front place place row.worker s → AreFewOpenRuns more (n - 1)
       ended_by s only = (rest.0, let a : length old.0 ≤ n = old.1 in let b : length old.0 ≡ suc (length rest.0) = rest.1 in omega arith, λ i x e u. mem_contains i rest.0 (go i x e u (cases i x e u)))
         where
           first : Row
@@ -107,18 +107,18 @@ module _ (rows : List Row) (place : ℕ) (row : Row) (at : slice_get rows place 
               by (inr m) = m
           go i x e u (inr p) = let a : row.step ≡ Start = p.1 in let b : row.step ≡ End = ends in absurd (cc)
 
-      ended : AreOpen more (n - 1)
+      ended : AreFewOpenRuns more (n - 1)
       ended = go o held
         where
-          go : (o : Option ℕ) → OpenPlace front place place row.worker o → AreOpen more (n - 1)
+          go : (o : Option ℕ) → OpenPlace front place place row.worker o → AreFewOpenRuns more (n - 1)
           go None none = absurd (still (λ q. none q.start row.tag row.reaction q.before (unended q)))
           go (Some s) only = ended_by s only
 
     -- where the row doesn't end what isn't open
-    pub next_open : (o : Option ℕ) → OpenPlace front place place row.worker o → (row.step ≡ End → ¬ (¬ IsOpen more place row.worker row.tag row.reaction)) → AreOpen more (opened n row.step)
+    pub next_open : (o : Option ℕ) → OpenPlace front place place row.worker o → (row.step ≡ End → ¬ (¬ IsOpen more place row.worker row.tag row.reaction)) → AreFewOpenRuns more (opened n row.step)
     next_open o held still = go row.step refl
       where
-        go : (s : Step) → row.step ≡ s → AreOpen more (opened n s)
+        go : (s : Step) → row.step ≡ s → AreFewOpenRuns more (opened n s)
         go Start is = begun
         go (Read m v) is = same (λ q. absurd (cc))
         go (Write m v) is = same (λ q. absurd (cc))

@@ -5,7 +5,7 @@ use Rattle.lft_ir.specs.declared.{parts.{Value.Value, Trigger.{Trigger, TheVaria
 use Rattle.lft_ir.specs.Steps.Inputs.{ExternalInputs}
 use Rattle.lft_model.specs.{declared.breach.Breach.Breach, Plans.PlanParts, Presence.{stop, written, IsWrittenFrom, PortClash}, Runs.Ran}
 use Rattle.lft_model.specs.Breaches.{BreaksRowUntil, RowBreachUntil}
-use Rattle.lft_queue.specs.{inner.Coming.{Listens.Listens, Listeners.AreListeners}, declared.coming.listeners.NameListeners.NameListeners}
+use Rattle.lft_queue.specs.{inner.Coming.{Listens.Listens, Listeners.AreNameListeners}, declared.coming.listeners.NameListeners.NameListeners}
 use Rattle.lft_stream.specs.{declared.due.Due.{Due, TheVariants.{AtTag, AtStop, Never}}, inner.{Dues.{IsDue, AreDues}, Settled.IsRightRun}}
 use Rattle.lft_monitor.{specs.inner.{Sure.with_inputs, Kept.{GoesUnheard, IsKept}}, proofs.Same.SameAt}
 
@@ -25,7 +25,7 @@ module _ (plan : PlanParts) (inputs : ExternalInputs) where
   pub listens_back : (r : ℕ) (x : Trigger) → Listens other r x → Listens plan r x
   listens_back r x l = record { reaction = l.reaction; is_reaction = l.is_reaction; is_trigger = l.is_trigger }
 
-  pub listeners_other : (l : NameListeners) → AreListeners plan l → AreListeners other l
+  pub listeners_other : (l : NameListeners) → AreNameListeners plan l → AreNameListeners other l
   listeners_other l are = record { ports = are.ports; actions = are.actions; each = λ n r list x. are.each n r list (listens_back r (On n) x) }
 
   -- what is due is so still, where whoever ran at the stop runs at the stop now

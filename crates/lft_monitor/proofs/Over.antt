@@ -11,7 +11,8 @@ use Rattle.lft_model.proofs.Places.{slice_get_within, slice_get_take, slice_get_
 use Rattle.lft_rows.specs.inner.{Firsts.FirstRow, Parts.AreEarlier, Passes.{FirstUnended, KeepsEarly}}
 use Rattle.lft_queue.specs.Coming.AtTag.{AreBefore}
 use Rattle.lft_stream.proofs.{Parting.up_to_second, Settling.rows_until}
-use Rattle.lft_monitor.specs.{inner.{Sure.AreFrom, Going.IsGoneTo, Kept.IsPast, Follows.BeginsLast}, declared.past.Past.Past, Follows.{IsQuiet, KeepsButLast}}
+use Rattle.lft_monitor.specs.{inner.{Sure.AreRowsFrom, Going.IsGoneTo, Kept.IsPastOfRows, Follows.BeginsLast}, declared.past.Past.Past}
+use Rattle.lft_monitor.specs.Follows.{IsQuiet, KeepsButLast}
 use Rattle.lft_monitor.proofs.{Finished.finished_law, Hand.breaks_own, Rows.breaks_back}
 
 module _ (plan : PlanParts) (done rows : List Row) (i : ℕ) (gone : IsGoneTo plan done rows i) where
@@ -155,7 +156,7 @@ module _ (plan : PlanParts) (done rows : List Row) (i : ℕ) (gone : IsGoneTo pl
             by m z before (inr (k, q, at)) = open_last c o k z at before
 
     -- where the rows before those at the last tag are judged, nothing is to be told
-    module _ (begin : ℕ) (begins : BeginsLast rows i begin) (past : Past) (is : IsPast plan (done ++ slice_range rows 0 begin) past) where
+    module _ (begin : ℕ) (begins : BeginsLast rows i begin) (past : Past) (is : IsPastOfRows plan (done ++ slice_range rows 0 begin) past) where
       abbrev front : List Row
       front = done ++ slice_range rows 0 begin
 
@@ -183,7 +184,7 @@ module _ (plan : PlanParts) (done rows : List Row) (i : ℕ) (gone : IsGoneTo pl
               let l : 0 + j < begin = range-within rows 0 begin j x (let w : i ≤ length rows = gone.within in omega (arith, up)) p in
               apart begin begins j (begin + k) x y (omega (arith, l)) (omega arith) own.0 (ap (λ (n : ℕ). slice_get rows n) (let z : j ≡ 0 + j = omega arith in z) ∙ sym (range-get rows 0 begin j l) ∙ p) own.1
 
-      from : AreFrom rest past.low
+      from : AreRowsFrom rest past.low
       from k y e = is.least y.tag (before_rest k y e)
 
       -- no row of them all is later than the last ones

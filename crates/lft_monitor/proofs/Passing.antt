@@ -11,7 +11,7 @@ use Rattle.lft_model.proofs.{Places.{slice_get_within, slice_get_take, slice_get
 use Rattle.lft_rows.specs.{inner.{Passes.{KeepsEarly, EarlyRule, FirstUnended, HasPassed, HasGoneOn, IsPass}, Places.place_of}, declared.pass.Pass.Pass}
 use Rattle.lft_rows.proofs.Growing.{grown_law, nearer_law}
 use Rattle.lft_stream.proofs.Parting.{up_to_second}
-use Rattle.lft_monitor.specs.{declared.gone.Going.Going, inner.Going.{AreEnded, AreOpen, HasEnded, IsGoing, IsGoneTo, IsFirstBad, IsLost, opened}}
+use Rattle.lft_monitor.specs.{declared.gone.Going.Going, inner.Going.{AreEnded, AreFewOpenRuns, HasEnded, IsGoing, IsGoneTo, IsFirstBad, IsRunLost, opened}}
 use Rattle.lft_monitor.proofs.{Opening.{next_open, opened_few, unended_front}, Stops.stop_row}
 
 -- what a pass goes by is of the program
@@ -103,7 +103,7 @@ module _ (rows : List Row) (place : ℕ) (row : Row) (at : slice_get rows place 
       passes = subst (λ (n : ℕ). HasPassed new.stop plan (take n rows) n new.pass) (sym on) nearer;
       ended = λ z e. subst (λ (n : ℕ). AreEnded (take n rows) z.tag) (sym on) (subst (λ (y : Row). AreEnded (take (place + 1) rows) y.tag) (same_at rows place (new.passed - 1) row z at e (let a : new.passed ≡ place + 1 = on in omega arith)) ended_here);
       few = let a : new.runs ≡ opened g.runs row.step = counts in let b = opened_few g.runs row.step in let l : g.runs ≤ g.passed = is.few in let q : place ≡ g.passed = here in let c : new.passed ≡ place + 1 = on in omega (arith, b);
-      runs = subst (λ (n : ℕ). AreOpen (take n rows) new.runs) (sym on) (subst (λ (n : ℕ). AreOpen (take (place + 1) rows) n) (sym counts) open_here);
+      runs = subst (λ (n : ℕ). AreFewOpenRuns (take n rows) new.runs) (sym on) (subst (λ (n : ℕ). AreFewOpenRuns (take (place + 1) rows) n) (sym counts) open_here);
     }
       where
         is_stop : new.stop ≡ stop plan ((done ++ take place rows) ++ row ∷ [])
@@ -159,8 +159,8 @@ module _ (rows : List Row) (place : ℕ) (row : Row) (at : slice_get rows place 
             go (no n) = let l : i < place + 1 = got.0 in Before-irrefl row.tag (subst (λ (y : Row). Before y.tag row.tag) (same_at rows i place x row got.1 at (omega arith)) before)
 
         -- the runs that are open
-        open_here : AreOpen (take (place + 1) rows) (opened g.runs row.step)
-        open_here = next_open rows place row at g.runs (subst (λ (n : ℕ). AreOpen (take n rows) g.runs) (sym here) is.runs) (place_of g.pass.known.runs row.worker) (passes.known.held row.worker) in_order
+        open_here : AreFewOpenRuns (take (place + 1) rows) (opened g.runs row.step)
+        open_here = next_open rows place row at g.runs (subst (λ (n : ℕ). AreFewOpenRuns (take n rows) g.runs) (sym here) is.runs) (place_of g.pass.known.runs row.worker) (passes.known.held row.worker) in_order
           where
             in_order : row.step ≡ End → ¬ (¬ IsOpen (take (place + 1) rows) place row.worker row.tag row.reaction)
             in_order ends none = whole.kept place row 3 (omega arith) there (omega arith) (inr (inr (inl (refl, subst (λ (s : Step). IsOutOfOrder (take (place + 1) rows) place row s) (sym ends) none))))
@@ -180,7 +180,7 @@ module _ (rows : List Row) (place : ℕ) (inside : place < length rows) where
   pub none_open : (plan : PlanParts) (done : List Row) (g : Going) → place ≡ g.passed → IsGoing plan done rows g → g.runs ≡ 0 → HasEnded rows place
   none_open plan done g here is shut row at i x e before o = go is.runs
     where
-      go : AreOpen (take g.passed rows) g.runs → ⊥
+      go : AreFewOpenRuns (take g.passed rows) g.runs → ⊥
       go (places, few, each) =
           let c = each i x (subst (λ (n : ℕ). slice_get (take n rows) i ≡ Some x) here e) (subst (λ (n : ℕ). IsUnended (take n rows) i x) here o) in
           let l : c.0 < length places = c.1 in
@@ -208,7 +208,7 @@ module _ (rows : List Row) (place : ℕ) (inside : place < length rows) where
   none_lost none row at i x e before o = subst (λ (t : List Row). FirstUnended t place None) front none i x (slice_get_take place rows i x e).0 e o
 
   -- the first that is found is at the tag of the row before, or at an earlier one
-  pub lost_here : (plan : PlanParts) (done : List Row) (g : Going) → place ≡ g.passed → IsGoing plan done rows g → 0 < place → ((x y : Row) → slice_get rows (place - 1) ≡ Some x → slice_get rows place ≡ Some y → Before x.tag y.tag) → (s : ℕ) → FirstUnended (slice_range rows 0 place) place (Some s) → IsLost plan done rows s place
+  pub lost_here : (plan : PlanParts) (done : List Row) (g : Going) → place ≡ g.passed → IsGoing plan done rows g → 0 < place → ((x y : Row) → slice_get rows (place - 1) ≡ Some x → slice_get rows place ≡ Some y → Before x.tag y.tag) → (s : ℕ) → FirstUnended (slice_range rows 0 place) place (Some s) → IsRunLost plan done rows s place
   lost_here plan done g here is some rises s found = record { row = first.0; later = later.0; is_row = got.1; is_later = later.1; before = UpTo-Before first.0.tag z.0.tag later.0.tag up (rises z.0 later.0 z.1 later.1); gone = gone; first = first }
     where
       first : FirstUnended (take place rows) place (Some s)
@@ -238,6 +238,6 @@ module _ (rows : List Row) (place : ℕ) (inside : place < length rows) where
           go (no n) (inl b) = subst (λ (y : Row). UpTo first.0.tag y.tag) (same_at rows s (place - 1) first.0 z.0 got.1 z.1 (omega (arith, some, l))) (UpTo-refl first.0.tag)
 
   -- what is found or not, where the tag rises
-  pub lost_or_none : (plan : PlanParts) (done : List Row) (g : Going) → place ≡ g.passed → IsGoing plan done rows g → 0 < place → ((x y : Row) → slice_get rows (place - 1) ≡ Some x → slice_get rows place ≡ Some y → Before x.tag y.tag) → (o : Option ℕ) → FirstUnended (slice_range rows 0 place) place o → MatchOption o (HasEnded rows place) (λ s. IsLost plan done rows s place)
+  pub lost_or_none : (plan : PlanParts) (done : List Row) (g : Going) → place ≡ g.passed → IsGoing plan done rows g → 0 < place → ((x y : Row) → slice_get rows (place - 1) ≡ Some x → slice_get rows place ≡ Some y → Before x.tag y.tag) → (o : Option ℕ) → FirstUnended (slice_range rows 0 place) place o → MatchOption o (HasEnded rows place) (λ s. IsRunLost plan done rows s place)
   lost_or_none plan done g here is some rises None none = none_lost none
   lost_or_none plan done g here is some rises (Some s) found = lost_here plan done g here is some rises s found

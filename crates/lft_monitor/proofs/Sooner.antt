@@ -10,7 +10,7 @@ use Rattle.lft_rows.{specs.inner.Passes.HasPassed, proofs.Growing.nearer_law}
 use Rattle.lft_queue.specs.{Coming.AtTag.AreBefore, inner.Coming.Lanes.IsLane}
 use Rattle.lft_stream.specs.{declared.stream.Stream.Stream, inner.{Settled.IsRightRun, Kept.{stopped_stream, IsStreamOf}}, Kept.low_of}
 use Rattle.lft_monitor.specs.Sure.{IsUnbroken}
-use Rattle.lft_monitor.specs.inner.{Sure.GiveSame, Kept.IsPast, Going.IsGoing, Follows.{IsJudgedOf, IsFollowerOf, done_of, stopped_at, stopped_judged}}
+use Rattle.lft_monitor.specs.inner.{Sure.GiveSame, Kept.IsPastOfRows, Going.IsGoing, Follows.{IsJudgedOf, IsFollowerOf, done_of, stopped_at, stopped_judged}}
 use Rattle.lft_monitor.specs.declared.{past.Past.Past, gone.Going.Going, judged.Judged.Judged, follower.Follower.Follower}
 use Rattle.lft_monitor.proofs.{Same.SameAt, Later.{later_law, same_alike, same_time, same_stop, turned_stop, at_alike, clash_alike}}
 use Rattle.lft_monitor.proofs.Passed.{reach_up, hand_up, done_before}
@@ -143,7 +143,7 @@ module _ (plan : PlanParts) (g : Tag) where
       unread = is.unread;
     }
 
-    past_sooner : (p : Past) → IsPast plan t p → IsPast sooner t (record p { stop = earlier g p.stop })
+    past_sooner : (p : Past) → IsPastOfRows plan t p → IsPastOfRows sooner t (record p { stop = earlier g p.stop })
     past_sooner p is = record {
       stop_is = ap (λ (k : Tag). earlier g k) is.stop_is ∙ sym (stop_sooner t);
       near = is.near;

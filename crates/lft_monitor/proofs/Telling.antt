@@ -12,7 +12,7 @@ use Rattle.lft_model.proofs.{Places.{slice_get_within, slice_get_take, slice_get
 use Rattle.lft_rows.specs.inner.{Firsts.FirstRow, Parts.AreEarlier}
 use Rattle.lft_queue.specs.Coming.AtTag.{AreBefore}
 use Rattle.lft_stream.proofs.{Behind.in_time_added, Settling.{rows_in_time, rows_until}}
-use Rattle.lft_monitor.specs.{Follows.{IsQuiet, IsSureBehind}, inner.Going.{IsFirstBad, IsLost}}
+use Rattle.lft_monitor.specs.{Follows.{IsQuiet, IsSureBehind}, inner.Going.{IsFirstBad, IsRunLost}}
 use Rattle.lft_monitor.proofs.{Hand.{breaks_own, breaks_whole, ended}, Over.{earlier, first_open}}
 
 -- what a breach says of a row
@@ -221,7 +221,7 @@ module _ (plan : PlanParts) (d u : List Row) (settled : FirstRow (stop plan d) p
             subst (λ (n : ℕ). n ≤ c.rule) (sym rule) (least c.rule b2)
 
   -- a run without an end, once a row is there at a later tag
-  pub lost_is_sure : (s i : ℕ) → IsLost plan d u s i → IsQuiet plan (d ++ take i u) → (b : Breach) → b.rule ≡ 5 → b.row ≡ length d + s + 2 → ((x : Row) → slice_get u s ≡ Some x → IsOf b x) → (n : ℕ) × IsSureBehind plan (d ++ u) b n
+  pub lost_is_sure : (s i : ℕ) → IsRunLost plan d u s i → IsQuiet plan (d ++ take i u) → (b : Breach) → b.rule ≡ 5 → b.row ≡ length d + s + 2 → ((x : Row) → slice_get u s ≡ Some x → IsOf b x) → (n : ℕ) × IsSureBehind plan (d ++ u) b n
   lost_is_sure s i o quiet b rule row is = (
     length d + i,
     record {

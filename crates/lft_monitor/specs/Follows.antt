@@ -8,14 +8,14 @@ use Rattle.lft_stream.specs.Kept.{low_of}
 use Rattle.lft_monitor.specs.{Sure.{IsUnbroken, IsFirstBefore}, Reach.IsReach, declared.{reach.Reach.Reach, found.BrokenRule.BrokenRule}}
 
 -- the rows reach so far, and no rule is broken in them before the tag behind their last
-pub record IsClean (plan : PlanParts) (t : List Row) (r : Reach) : Type 0 where
+pub record IsCleanSoFar (plan : PlanParts) (t : List Row) (r : Reach) : Type 0 where
   pub reach : IsReach t r
   pub unbroken : IsUnbroken plan t (low_of r.tag)
 
 -- the first rows, up to the place, are clean, and reach so far
 pub record IsCleanTo (plan : PlanParts) (t : List Row) (r : Reach) (n : ℕ) : Type 0 where
   pub within : n ≤ length t
-  pub clean : IsClean plan (take n t) r
+  pub clean : IsCleanSoFar plan (take n t) r
 
 -- the rows but those at the last tag are clean, and reach so far
 pub record IsJudged (plan : PlanParts) (t : List Row) (r : Reach) : Type 0 where
@@ -24,7 +24,7 @@ pub record IsJudged (plan : PlanParts) (t : List Row) (r : Reach) : Type 0 where
   pub parts : t ≡ done ++ left
   pub at_one : (g : Tag) × AreAt left g × AreBefore done g
   pub some : left ≡ [] → done ≡ []
-  pub clean : IsClean plan done r
+  pub clean : IsCleanSoFar plan done r
 
 -- some row is at a later tag
 abbrev pub IsPassed : List Row → Tag → Type 0

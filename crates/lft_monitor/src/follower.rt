@@ -7,7 +7,7 @@ ghost use Rattle.lft_model.specs.Plans.{PlanParts};
 ghost use Rattle.lft_rows.specs.inner.Slices.{Rises};
 ghost use Rattle.lft_queue.specs.Coming.AtTag.{AreAt};
 ghost use Rattle.lft_stream.specs.inner.Kept.{KeepRules};
-ghost use Rattle.lft_monitor.specs.inner.Follows.{AreDone, IsAtHand, IsHeld, IsFollowerOf, IsHalt, IsReceipt, stopped_at, IsProgress, IsClosing, IsEnding, IsJudgedOf, IsTurn, IsUnjudged, BeginsLast, done_of};
+ghost use Rattle.lft_monitor.specs.inner.Follows.{AreCleanRows, IsGoneOver, IsHeld, IsFollowerOf, IsHalt, IsReceipt, stopped_at, TellsProgress, IsClosing, IsEnding, IsJudgedOf, IsTurn, IsUnjudged, BeginsLast, done_of};
 ghost use Rattle.lft_monitor.specs.{Follows.{IsPassed, HasManyLater, IsJudged}, OpenRuns.AreOpenRuns, declared.follower.Follower.Follower as TheFollower};
 
 use crate::found::{BrokenRule, found_at, found_of};
@@ -81,7 +81,7 @@ fn judge_before(
     requires begin { begin < length rows.now }
     requires kept { KeepRules plan.now (slice_range rows.now 0 begin) }
     requires stands { (done : List TheRow) × IsJudgedOf plan.now done judged.old }
-    ensures { IfOk result (λ o. (done : List TheRow) → IsJudgedOf plan.now done judged.old → MatchOption o (IsJudgedOf plan.now (done ++ slice_range rows.now 0 begin) judged.new) (λ told. (t more : List TheRow) (end : ℕ) (follower : TheFollower) → IsTurn plan.now t more done rows.now judged.old.reach begin end → IsProgress plan.now t more follower told)) }
+    ensures { IfOk result (λ o. (done : List TheRow) → IsJudgedOf plan.now done judged.old → MatchOption o (IsJudgedOf plan.now (done ++ slice_range rows.now 0 begin) judged.new) (λ told. (t more : List TheRow) (end : ℕ) (follower : TheFollower) → IsTurn plan.now t more done rows.now judged.old.reach begin end → TellsProgress plan.now t more follower told)) }
 {
     let is_clean = judged.judge(alloc, plan, &rows[0..begin], true)?;
     if is_clean {
@@ -135,9 +135,9 @@ impl Follower {
     /// Judges the rows at hand but those at the last tag, all of which are gone over.
     fn go_on(&mut self, alloc: Global, plan: &Plan) -> Result<Progress, NoMemory>
         requires few { self.old.judged.count ≤ 2 ^ 62 }
-        requires hand { (t : List TheRow) × IsAtHand plan.now t self.old }
+        requires hand { (t : List TheRow) × IsGoneOver plan.now t self.old }
         requires gone { self.old.going.passed ≡ length self.old.rows.items }
-        ensures { IfOk result (λ p. (t more : List TheRow) → IsAtHand plan.now (t ++ more) self.old → AreDone plan.now t (done_of (t ++ more) self.old) self.old.judged.reach → IsProgress plan.now t more self.new p) }
+        ensures { IfOk result (λ p. (t more : List TheRow) → IsGoneOver plan.now (t ++ more) self.old → AreCleanRows plan.now t (done_of (t ++ more) self.old) self.old.judged.reach → TellsProgress plan.now t more self.new p) }
     {
         let rows = self.rows.as_slice();
         let begin = begin_of_last(rows);
@@ -168,7 +168,7 @@ impl Follower {
         requires few { self.old.judged.count ≤ 2 ^ 62 }
         requires place { (place < length self.old.rows.items) × (end < length self.old.rows.items) }
         requires halt { (t : List TheRow) × IsHeld plan.now t self.old × IsHalt plan.now (done_of t self.old) self.old.rows.items place end rule }
-        ensures { IfOk result (λ p. (t more : List TheRow) → IsHeld plan.now (t ++ more) self.old → AreDone plan.now t (done_of (t ++ more) self.old) self.old.judged.reach → IsHalt plan.now (done_of (t ++ more) self.old) self.old.rows.items place end rule → IsProgress plan.now t more self.new p) }
+        ensures { IfOk result (λ p. (t more : List TheRow) → IsHeld plan.now (t ++ more) self.old → AreCleanRows plan.now t (done_of (t ++ more) self.old) self.old.judged.reach → IsHalt plan.now (done_of (t ++ more) self.old) self.old.rows.items place end rule → TellsProgress plan.now t more self.new p) }
     {
         let rows = self.rows.as_slice();
         let found = found_at(rows, place, self.judged.count, rule);
@@ -183,7 +183,7 @@ impl Follower {
     pub fn add(&mut self, alloc: Global, plan: &Plan, more: &[Row]) -> Result<Progress, NoMemory>
         requires fit { RowsFit plan.now.program more.now }
         requires stands { (t : List TheRow) × IsFollowerOf plan.now t self.old }
-        ensures { IfOk result (λ p. (t : List TheRow) → IsFollowerOf plan.now t self.old → IsProgress plan.now t more.now self.new p) }
+        ensures { IfOk result (λ p. (t : List TheRow) → IsFollowerOf plan.now t self.old → TellsProgress plan.now t more.now self.new p) }
     {
         let Ok(()) = self.rows.extend_from_slice(more) else {
             return Err(NoMemory);

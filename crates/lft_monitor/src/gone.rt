@@ -5,7 +5,7 @@ ghost use Rattle.lft_tag.specs.Tags.{Before, IsRecorded, earlier};
 ghost use Rattle.lft_ir.specs.{Parts.Parts, declared.steps.row.Row.Row as TheRow, Steps.Fits.RowsFit};
 ghost use Rattle.lft_model.specs.{Fitting.EachFits, Plans.PlanParts, Presence.stop as stop_of};
 ghost use Rattle.lft_rows.specs.inner.Passes.{IsPass};
-ghost use Rattle.lft_monitor.specs.{inner.Going.{IsGoing, IsFirstBad, IsLost, HasEnded, HasGone, opened}, declared.gone.Halt.TheVariants.AtEnd};
+ghost use Rattle.lft_monitor.specs.{inner.Going.{IsGoing, IsFirstBad, IsRunLost, HasEnded, HasGone, opened}, declared.gone.Halt.TheVariants.AtEnd};
 
 use crate::last::begin_of_last;
 use lft_ir::steps::{Row, is_end, is_start, is_stop, row_at};
@@ -123,7 +123,7 @@ impl Going {
         requires place { place < length rows.now }
         requires passed { place ≡ self.now.passed }
         requires stands { (plan : PlanParts) × (done : List TheRow) × IsGoing plan done rows.now self.now }
-        ensures { (plan : PlanParts) (done : List TheRow) → IsGoing plan done rows.now self.now → MatchOption result (HasEnded rows.now place) (λ start. IsLost plan done rows.now start place) }
+        ensures { (plan : PlanParts) (done : List TheRow) → IsGoing plan done rows.now self.now → MatchOption result (HasEnded rows.now place) (λ start. IsRunLost plan done rows.now start place) }
     {
         if self.runs == 0 || place == 0 {
             return None;

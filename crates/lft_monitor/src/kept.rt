@@ -6,7 +6,7 @@ ghost use Rattle.lft_ir.specs.{Origins.Origin, declared.steps.row.Row.Row as The
 ghost use Rattle.lft_model.specs.Fitting.{EachFits};
 ghost use Rattle.lft_queue.specs.inner.{Coming.Unread.GoesAsFar, Reading.is_read};
 ghost use Rattle.lft_stream.specs.inner.Owed.{MeetNowhere};
-ghost use Rattle.lft_monitor.specs.inner.Kept.{AreFurthest, AreWays, IsIdle, AreMarked, IsKept};
+ghost use Rattle.lft_monitor.specs.inner.Kept.{AreFurthest, AreWaysOfWrites, IsIdle, AreMarkedRows, IsKept};
 
 use lft_ir::steps::{Row, Step, is_end, is_start, row_at};
 use lft_ir::{Name, Program};
@@ -47,7 +47,7 @@ fn furthest_of(alloc: Global, program: &Program, marked: &[bool]) -> Result<Vec<
 
 /// How far writes are carried.
 #[derive(Drop)]
-pub(crate) struct Ways {
+pub(crate) struct CarriedWrites {
     /// For each port the furthest, to any port.
     furthest: Vec<Shift>,
     /// For each port the furthest, to ports that some reaction reads.
@@ -71,16 +71,16 @@ fn is_over(tag: Tag, low: Tag, is_apart: bool) -> bool
     is_apart && tag.time < low.time
 }
 
-impl Ways {
+impl CarriedWrites {
     /// The ways of a program.
-    pub(crate) fn new(alloc: Global, program: &Program) -> Result<Ways, NoMemory>
-        ensures { IfOk result (AreWays program.now) }
+    pub(crate) fn new(alloc: Global, program: &Program) -> Result<CarriedWrites, NoMemory>
+        ensures { IfOk result (AreWaysOfWrites program.now) }
     {
         let all = vec![in alloc; true; program.ports()]?;
         let read = read_ports(alloc, program)?;
         let furthest = furthest_of(alloc, program, all.as_slice())?;
         let heard = furthest_of(alloc, program, read.as_slice())?;
-        Ok(Ways { furthest, heard })
+        Ok(CarriedWrites { furthest, heard })
     }
 
     /// For each port the furthest way that matters, where its time is over or not.
@@ -100,7 +100,7 @@ impl Ways {
     fn lead_on(&self, program: &Program, origin: u32, tag: Tag, low: Tag, is_apart: bool) -> bool
         requires recorded { IsRecorded tag }
         requires port { origin < length program.now.ports }
-        requires ways { AreWays program.now self.now }
+        requires ways { AreWaysOfWrites program.now self.now }
         ensures { result ≡ false → (p : ℕ) (delays : List ℕ) → Origin program.now p origin delays → Before (after_all tag delays) low ⊎ (is_read program.now p ≡ false) × IsTrue is_apart × (tag.time < low.time) }
     {
         // Asked for what a program keeps: its ports have their origins and their ways.
@@ -111,9 +111,9 @@ impl Ways {
 
 /// Whether the row causes something from the low tag on, or asks for the stop. With `is_apart` no two writes of
 /// all rows meet from there on where no reaction reads.
-fn causes_from(plan: &Plan, ways: &Ways, row: Row, low: Tag, is_apart: bool) -> bool
+fn causes_from(plan: &Plan, ways: &CarriedWrites, row: Row, low: Tag, is_apart: bool) -> bool
     requires fit { RowFits plan.now.program row }
-    requires ways { AreWays plan.now.program ways.now }
+    requires ways { AreWaysOfWrites plan.now.program ways.now }
     ensures { result ≡ false → (last : TheTag) (t : List TheRow) → (IsTrue is_apart → MeetNowhere last plan.now t low) → IsIdle last plan.now t low row }
 {
     match row.step {
@@ -138,15 +138,15 @@ fn causes_from(plan: &Plan, ways: &Ways, row: Row, low: Tag, is_apart: bool) -> 
 fn marks_of(
     alloc: Global,
     plan: &Plan,
-    ways: &Ways,
+    ways: &CarriedWrites,
     rows: &[Row],
     low: Tag,
     is_apart: bool,
 ) -> Result<Vec<bool>, NoMemory>
     requires fit { EachFits plan.now.program rows.now }
-    requires ways { AreWays plan.now.program ways.now }
+    requires ways { AreWaysOfWrites plan.now.program ways.now }
     ensures long { IfOk result (λ marks. length marks.items ≡ length rows.now) }
-    ensures idle { IfOk result (λ marks. (last : TheTag) (t : List TheRow) → (IsTrue is_apart → MeetNowhere last plan.now t low) → AreMarked last plan.now t rows.now low marks.items) }
+    ensures idle { IfOk result (λ marks. (last : TheTag) (t : List TheRow) → (IsTrue is_apart → MeetNowhere last plan.now t low) → AreMarkedRows last plan.now t rows.now low marks.items) }
 {
     let mut marks = vec![in alloc; false; rows.len()]?;
     // Where the last run of each reaction started. A run is over before its reaction has another one.
@@ -171,13 +171,13 @@ fn marks_of(
 pub(crate) fn keep_rows(
     alloc: Global,
     plan: &Plan,
-    ways: &Ways,
+    ways: &CarriedWrites,
     rows: &[Row],
     low: Tag,
     is_apart: bool,
 ) -> Result<Vec<Row>, NoMemory>
     requires fit { EachFits plan.now.program rows.now }
-    requires ways { AreWays plan.now.program ways.now }
+    requires ways { AreWaysOfWrites plan.now.program ways.now }
     ensures { IfOk result (λ kept. (last : TheTag) (t : List TheRow) → (IsTrue is_apart → MeetNowhere last plan.now t low) → IsKept last plan.now t rows.now kept.items low) }
 {
     let marks = marks_of(alloc, plan, ways, rows, low, is_apart)?;

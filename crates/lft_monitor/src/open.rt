@@ -3,7 +3,7 @@
 ghost use Rattle.std.specs.Prelude.{◌≡◌, ◌↔◌, ◌+◌, ◌<◌, ◌≤◌, ◌^◌, ℕ, Some, length, slice_get, IfOk, IsTrue};
 ghost use Rattle.lft_ir.specs.declared.steps.row.Row.{Row as TheRow};
 ghost use Rattle.lft_model.specs.{Breaches.IsUnended, Runs.end_row};
-ghost use Rattle.lft_monitor.specs.{inner.OpenRuns.{AreBelow, EndBefore}, OpenRuns.{AreOpenRuns, run_in}};
+ghost use Rattle.lft_monitor.specs.{inner.OpenRuns.{AreOfReactionsBelow, EndBefore}, OpenRuns.{AreOpenRuns, run_in}};
 
 use lft_ir::steps::{Row, is_end, is_start, row_at};
 use lft_lists::item_at;
@@ -22,7 +22,7 @@ pub struct StillOpen {
 /// Notes the place past the row, where it ends a run.
 fn note_end(rows: &[Row], place: usize, last: &mut [usize])
     requires place { place < length rows.now }
-    requires known { AreBelow rows.now (length last.old) }
+    requires known { AreOfReactionsBelow rows.now (length last.old) }
     requires so_far { EndBefore rows.now place last.old }
     ensures long { length last.new ≡ length last.old }
     ensures noted { EndBefore rows.now (place + 1) last.new }
@@ -35,7 +35,7 @@ fn note_end(rows: &[Row], place: usize, last: &mut [usize])
 
 /// Of each reaction, counted from 0, the place past the last row that ends a run of it, or 0.
 fn last_ends(alloc: Global, rows: &[Row], reactions: usize) -> Result<Vec<usize>, NoMemory>
-    requires known { AreBelow rows.now reactions }
+    requires known { AreOfReactionsBelow rows.now reactions }
     ensures long { IfOk result (λ last. length last.items ≡ reactions) }
     ensures last { IfOk result (λ last. EndBefore rows.now (length rows.now) last.items) }
 {
@@ -76,7 +76,7 @@ fn is_ended(rows: &[Row], place: usize, end: usize) -> bool
 /// Whether the row at the place starts a run that no row ends.
 fn is_open(rows: &[Row], place: usize, last: &[usize]) -> bool
     requires place { place < length rows.now }
-    requires known { AreBelow rows.now (length last.now) }
+    requires known { AreOfReactionsBelow rows.now (length last.now) }
     requires last { EndBefore rows.now (length rows.now) last.now }
     ensures { (row : TheRow) → slice_get rows.now place ≡ Some row → IsTrue result ↔ IsUnended rows.now place row }
 {
@@ -110,7 +110,7 @@ pub(crate) fn open_among(
     before: u64,
     reactions: usize,
 ) -> Result<Vec<StillOpen>, NoMemory>
-    requires known { AreBelow rows.now reactions }
+    requires known { AreOfReactionsBelow rows.now reactions }
     requires few { before + length rows.now ≤ 2 ^ 63 }
     ensures { IfOk result (λ runs. AreOpenRuns before rows.now runs.items) }
 {

@@ -5,12 +5,12 @@ ghost use Rattle.lft_tag.specs.Tags.{after};
 ghost use Rattle.lft_ir.specs.{declared.steps.row.Row.Row as TheRow, Steps.Fits.RowsFit};
 ghost use Rattle.lft_model.specs.{Presence.stop, Breaches.First};
 ghost use Rattle.lft_stream.specs.inner.Owed.{MeetNowhere};
-ghost use Rattle.lft_rows.specs.inner.Slices.{Rises};
-ghost use Rattle.lft_monitor.specs.{inner.{Sure.AreFrom, Kept.IsPast, Follows.KeepsRows}, Sure.{IsUnbroken, IsFirstBefore}, Follows.breach_of};
+ghost use Rattle.lft_rows.specs.{inner.Slices.Rises, Answers.Answers.KeepsRows};
+ghost use Rattle.lft_monitor.specs.{inner.{Sure.AreRowsFrom, Kept.IsPastOfRows}, Sure.{IsUnbroken, IsFirstBefore}, Follows.breach_of};
 
 use crate::found::{BrokenRule, found_of};
 use crate::gone::stop_over;
-use crate::kept::{Ways, keep_rows};
+use crate::kept::{CarriedWrites, keep_rows};
 use lft_check::first_from;
 use lft_ir::steps::{Row, Rows, row_at};
 use lft_model::{Breach, Plan};
@@ -38,12 +38,12 @@ pub(crate) struct Past {
     /// How many of these were left when they were last gone over.
     left: usize,
     /// How far writes are carried.
-    ways: Ways,
+    ways: CarriedWrites,
 }
 
 /// Whether no row is before the tag.
 fn are_from(rows: &[Row], low: Tag) -> bool
-    ensures { IsTrue result → AreFrom rows.now low }
+    ensures { IsTrue result → AreRowsFrom rows.now low }
 {
     for place in 0..rows.len() {
         if row_at(rows, place).tag.is_before(low) {
@@ -56,22 +56,22 @@ fn are_from(rows: &[Row], low: Tag) -> bool
 impl Past {
     /// Before the first row.
     pub(crate) fn new(alloc: Global, plan: &Plan) -> Result<Past, NoMemory>
-        ensures { IfOk result (IsPast plan.now []) }
+        ensures { IfOk result (IsPastOfRows plan.now []) }
     {
         Ok(Past {
             stop: plan.externals().stop(),
             low: Tag { time: 0, micro: 0 },
             kept: Vec::new(alloc),
             left: 0,
-            ways: Ways::new(alloc, plan.program())?,
+            ways: CarriedWrites::new(alloc, plan.program())?,
         })
     }
 
     /// Drops kept rows of runs that cause nothing from the low tag on, where many rows are kept. With
     /// `is_apart` no two writes of all rows meet from there on where no reaction reads.
     fn drop_some(&mut self, alloc: Global, plan: &Plan, is_apart: bool) -> Result<(), NoMemory>
-        requires { (t : List TheRow) × IsPast plan.now t self.old }
-        ensures { OnOk result ((t : List TheRow) → IsPast plan.now t self.old → (IsTrue is_apart → MeetNowhere (stop plan.now t) plan.now t self.old.low) → IsPast plan.now t self.new) }
+        requires { (t : List TheRow) × IsPastOfRows plan.now t self.old }
+        ensures { OnOk result ((t : List TheRow) → IsPastOfRows plan.now t self.old → (IsTrue is_apart → MeetNowhere (stop plan.now t) plan.now t self.old.low) → IsPastOfRows plan.now t self.new) }
     {
         let rows = self.kept.as_slice();
         if rows.len() / 2 <= self.left.saturating_add(SLACK) {
@@ -94,8 +94,8 @@ impl Past {
     ) -> Result<(), NoMemory>
         requires fit { RowsFit plan.now.program rows.now }
         requires some { 0 < length rows.now }
-        requires stands { (t : List TheRow) × IsPast plan.now t self.old × Rises (t ++ rows.now) × ((x : TheRow) → slice_get rows.now (length rows.now - 1) ≡ Some x → IsUnbroken plan.now (t ++ rows.now) (after x.tag 0)) × ((x : TheRow) → slice_get rows.now (length rows.now - 1) ≡ Some x → IsTrue is_apart → MeetNowhere (stop plan.now (t ++ rows.now)) plan.now (t ++ rows.now) (after x.tag 0)) }
-        ensures { OnOk result ((t : List TheRow) → IsPast plan.now t self.old → Rises (t ++ rows.now) → ((x : TheRow) → slice_get rows.now (length rows.now - 1) ≡ Some x → IsUnbroken plan.now (t ++ rows.now) (after x.tag 0)) → ((x : TheRow) → slice_get rows.now (length rows.now - 1) ≡ Some x → IsTrue is_apart → MeetNowhere (stop plan.now (t ++ rows.now)) plan.now (t ++ rows.now) (after x.tag 0)) → IsPast plan.now (t ++ rows.now) self.new) }
+        requires stands { (t : List TheRow) × IsPastOfRows plan.now t self.old × Rises (t ++ rows.now) × ((x : TheRow) → slice_get rows.now (length rows.now - 1) ≡ Some x → IsUnbroken plan.now (t ++ rows.now) (after x.tag 0)) × ((x : TheRow) → slice_get rows.now (length rows.now - 1) ≡ Some x → IsTrue is_apart → MeetNowhere (stop plan.now (t ++ rows.now)) plan.now (t ++ rows.now) (after x.tag 0)) }
+        ensures { OnOk result ((t : List TheRow) → IsPastOfRows plan.now t self.old → Rises (t ++ rows.now) → ((x : TheRow) → slice_get rows.now (length rows.now - 1) ≡ Some x → IsUnbroken plan.now (t ++ rows.now) (after x.tag 0)) → ((x : TheRow) → slice_get rows.now (length rows.now - 1) ≡ Some x → IsTrue is_apart → MeetNowhere (stop plan.now (t ++ rows.now)) plan.now (t ++ rows.now) (after x.tag 0)) → IsPastOfRows plan.now (t ++ rows.now) self.new) }
     {
         let low = row_at(rows, rows.len() - 1).tag.after(0, 0);
         let more = keep_rows(alloc, plan, &self.ways, rows, low, is_apart)?;
@@ -138,8 +138,8 @@ impl Past {
         high: Tag,
     ) -> Option<Breach>
         requires fit { RowsFit plan.now.program rows.now }
-        requires stands { (t : List TheRow) × IsPast plan.now t self.now }
-        ensures { IfSome result (λ b. (t u : List TheRow) → IsPast plan.now t self.now → AreFrom u high → IsFirstBefore plan.now ((t ++ rows.now) ++ u) high b) }
+        requires stands { (t : List TheRow) × IsPastOfRows plan.now t self.now }
+        ensures { IfSome result (λ b. (t u : List TheRow) → IsPastOfRows plan.now t self.now → AreRowsFrom u high → IsFirstBefore plan.now ((t ++ rows.now) ++ u) high b) }
     {
         let all = self.with_rows(alloc, rows)?;
         if !are_from(rows, self.low) {
@@ -167,8 +167,8 @@ impl Past {
         rows: &[Row],
     ) -> Option<BrokenRule>
         requires fit { RowsFit plan.now.program rows.now }
-        requires stands { (t : List TheRow) × IsPast plan.now t self.now }
-        ensures { IfSome result (λ b. (t : List TheRow) → IsPast plan.now t self.now → KeepsRows plan.now (t ++ rows.now) → First plan.now (t ++ rows.now) (breach_of b)) }
+        requires stands { (t : List TheRow) × IsPastOfRows plan.now t self.now }
+        ensures { IfSome result (λ b. (t : List TheRow) → IsPastOfRows plan.now t self.now → KeepsRows plan.now (t ++ rows.now) → First plan.now (t ++ rows.now) (breach_of b)) }
     {
         let breach = self.first_breach(alloc, plan, rows, NEVER)?;
         Some(found_of(breach))

@@ -6,7 +6,7 @@ use Rattle.lft_lists.proofs.{Picked.kept_more, Places.get_last}
 use Rattle.lft_tag.proofs.Comparing.{not_equal}
 use Rattle.lft_ir.specs.declared.{parts.Name.TheVariants.{Port, Action}, steps.row.Step.{Step, TheVariants.{Start, Read, Write, Schedule, Stop, End}}}
 use Rattle.lft_rows.proofs.AnswersLemmas.Stepping.{last_stays, last_changes}
-use Rattle.lft_pair.specs.inner.{Answering.place_cmp, Answered.{writing, scheduled}}
+use Rattle.lft_pair.specs.inner.{Answering.place_cmp, Answered.{writing, action_scheduled}}
 use Rattle.lft_pair.specs.declared.contrasting.contrasts.{Placed.Placed, LastWrite.LastWrite, Scheduling.Scheduling}
 use Rattle.lft_pair.specs.Runs.{write, write_of, last_write, scheduling, scheduling_of, schedulings}
 
@@ -31,10 +31,10 @@ write_is p x = by x.row x.step
     by i Stop = refl
     by i End = refl
 
-scheduling_is : (a : ℕ) (x : Placed) → scheduling_of a x ≡ under a (scheduled x)
+scheduling_is : (a : ℕ) (x : Placed) → scheduling_of a x ≡ under a (action_scheduled x)
 scheduling_is a x = by x.row x.step
   where
-    by : (i : ℕ) (s : Step) → scheduling_of a (record { row = i; step = s }) ≡ under a (scheduled (record { row = i; step = s }))
+    by : (i : ℕ) (s : Step) → scheduling_of a (record { row = i; step = s }) ≡ under a (action_scheduled (record { row = i; step = s }))
     by i Start = refl
     by i (Read n v) = refl
     by i (Write n v) = refl
@@ -63,15 +63,15 @@ module _ (run : List Placed) (i : ℕ) (x : Placed) (here : slice_get run i ≡ 
           let now : None ≡ write_of p x = sym (write_is p x ∙ ap (under p) e ∙ ap (λ (c : Bool). cond c (Some w) None) b) in
           put ∙ ap (λ (c : Bool). cond c (Some w) old) t ∙ last_stays (write_of p) run i x old None here now refl so_far
 
-  pub scheduling_none : (a : ℕ) → scheduled x ≡ None → schedulings (take (i + 1) run) a ≡ schedulings (take i run) a
+  pub scheduling_none : (a : ℕ) → action_scheduled x ≡ None → schedulings (take (i + 1) run) a ≡ schedulings (take i run) a
   scheduling_none a e = kept_more (scheduling_of a) run i x None here (sym (scheduling_is a x ∙ ap (under a) e)) ∙ append-nil (schedulings (take i run) a)
 
-  scheduling_same : (a b : ℕ) (y : Scheduling) → scheduled x ≡ Some (b, y) → a ≡ b → schedulings (take (i + 1) run) a ≡ schedulings (take i run) a ++ y ∷ []
+  scheduling_same : (a b : ℕ) (y : Scheduling) → action_scheduled x ≡ Some (b, y) → a ≡ b → schedulings (take (i + 1) run) a ≡ schedulings (take i run) a ++ y ∷ []
   scheduling_same a b y e z =
       let t : (a == b) ≡ true = eq-eqb a b z in
       kept_more (scheduling_of a) run i x (Some y) here (sym (scheduling_is a x ∙ ap (under a) e ∙ ap (λ (c : Bool). cond c (Some y) None) t))
 
-  scheduling_other : (a b : ℕ) (y : Scheduling) → scheduled x ≡ Some (b, y) → (a ≡ b → ⊥) → schedulings (take (i + 1) run) a ≡ schedulings (take i run) a
+  scheduling_other : (a b : ℕ) (y : Scheduling) → action_scheduled x ≡ Some (b, y) → (a ≡ b → ⊥) → schedulings (take (i + 1) run) a ≡ schedulings (take i run) a
   scheduling_other a b y e d =
       let t : (a == b) ≡ false = false_from_ne_true (a == b) (λ z. d (eqb-true a b z)) in
       kept_more (scheduling_of a) run i x None here (sym (scheduling_is a x ∙ ap (under a) e ∙ ap (λ (c : Bool). cond c (Some y) None) t)) ∙ append-nil (schedulings (take i run) a)
@@ -86,7 +86,7 @@ longer : {X : Type 0} (xs : List X) (y : X) → length (xs ++ y ∷ []) ≡ leng
 longer [] y = refl
 longer (z ∷ xs) y = let q = longer xs y in omega arith
 
-module _ (run : List Placed) (i : ℕ) (x : Placed) (here : slice_get run i ≡ Some x) (b j : ℕ) (y : Scheduling) (e : scheduled x ≡ Some (b, y)) (count : j ≡ length (schedulings (take i run) b)) where
+module _ (run : List Placed) (i : ℕ) (x : Placed) (here : slice_get run i ≡ Some x) (b j : ℕ) (y : Scheduling) (e : action_scheduled x ≡ Some (b, y)) (count : j ≡ length (schedulings (take i run) b)) where
   -- a scheduling is put under its action, and the place past those before
   pub scheduling_put : (a k : ℕ) (old new : Option Scheduling) → new ≡ cond (is_eq (place_cmp (b, j) (a, k))) (Some y) old → old ≡ slice_get (schedulings (take i run) a) k → new ≡ slice_get (schedulings (take (i + 1) run) a) k
   scheduling_put a k old new put so_far = go (cases_eq a b) (cases_eq k j)

@@ -6,11 +6,12 @@ use Rattle.lft_lists.proofs.Members.{mem_contains, contains_mem, mem_get, get_me
 use Rattle.lft_ir.specs.declared.parts.Name.{Name, TheVariants.{Port, Action}}
 use Rattle.lft_model.{specs.Runs.Outcome.{Written, Scheduled}, proofs.Places.slice_get_within}
 use Rattle.lft_pair.specs.{declared.contrasting.contrasts.{Placed.Placed, Scheduling.Scheduling, Contrast.Contrast}, Runs.{last_write, schedulings}}
-use Rattle.lft_pair.specs.{Contrasts.{value_of, event, event_of}, inner.{Contrasts.events, Enough.IsOfEffect}, Enough.{HaveSameOutcome, TellsOf, IsToldOf}}
+use Rattle.lft_pair.specs.{Contrasts.{value_of, event, event_of_scheduling}, inner.{Contrasts.events, Enough.IsOfEffect}}
+use Rattle.lft_pair.specs.Enough.{HaveSameOutcome, TellsOf, IsOutcomeTold}
 use Rattle.lft_pair.proofs.Outcomes.{write_outcome, schedule_outcome}
 
 -- lists with the same events at each place have the same events
-pub same_events : (xs ys : List Scheduling) (n : ℕ) → length xs ≤ n → length ys ≤ n → ((k : ℕ) → k < n → event_of (slice_get xs k) ≡ event_of (slice_get ys k)) → map event xs ≡ map event ys
+pub same_events : (xs ys : List Scheduling) (n : ℕ) → length xs ≤ n → length ys ≤ n → ((k : ℕ) → k < n → event_of_scheduling (slice_get xs k) ≡ event_of_scheduling (slice_get ys k)) → map event xs ≡ map event ys
 same_events [] [] n l m f = refl
 same_events [] (y ∷ ys) n l m f = let e = f 0 (omega arith) in absurd (cc)
 same_events (x ∷ xs) [] n l m f = let e = f 0 (omega arith) in absurd (cc)
@@ -56,7 +57,7 @@ of_runs n mine theirs first second o p q m = subst (λ (xs : List Placed). Match
 -- what is told of the first effects
 pub record ToldTo (effects : List Name) (mine theirs : List Placed) (place : ℕ) (told : List Contrast) : Type 0 where
   pub right : All (IsOfEffect effects mine theirs) told
-  pub all : (k : ℕ) (n : Name) → k < place → slice_get effects k ≡ Some n → IsToldOf mine theirs told n
+  pub all : (k : ℕ) (n : Name) → k < place → slice_get effects k ≡ Some n → IsOutcomeTold mine theirs told n
 
 module _ (effects : List Name) (mine theirs : List Placed) where
   pub told_none : (told : List Contrast) → told ≡ [] → ToldTo effects mine theirs 0 told
@@ -69,22 +70,22 @@ module _ (effects : List Name) (mine theirs : List Placed) where
     pub told_same : (told : List Contrast) → HaveSameOutcome mine theirs n → ToldTo effects mine theirs place told → ToldTo effects mine theirs (place + 1) told
     told_same told same so_far = record { right = so_far.right; all = λ k m l e. go k m l e (ℕ_discrete k place) }
       where
-        go : (k : ℕ) (m : Name) → k < place + 1 → slice_get effects k ≡ Some m → Dec (k ≡ place) → IsToldOf mine theirs told m
-        go k m l e (yes q) = subst (λ (z : Name). IsToldOf mine theirs told z) (here_is k m q e) (inl same)
+        go : (k : ℕ) (m : Name) → k < place + 1 → slice_get effects k ≡ Some m → Dec (k ≡ place) → IsOutcomeTold mine theirs told m
+        go k m l e (yes q) = subst (λ (z : Name). IsOutcomeTold mine theirs told z) (here_is k m q e) (inl same)
         go k m l e (no q) = so_far.all k m (omega arith) e
 
     pub told_other : (told new : List Contrast) (c : Contrast) → TellsOf mine theirs n c → new ≡ told ++ c ∷ [] → ToldTo effects mine theirs place told → ToldTo effects mine theirs (place + 1) new
     told_other told new c tells is so_far = subst (λ (cs : List Contrast). ToldTo effects mine theirs (place + 1) cs) (sym is) (record { right = All-push (IsOfEffect effects mine theirs) told c so_far.right (n, mem_contains n effects (mem_get effects place n here), tells); all = λ k m l e. go k m l e (ℕ_discrete k place) })
       where
-        more : (m : Name) → IsToldOf mine theirs told m → IsToldOf mine theirs (told ++ c ∷ []) m
+        more : (m : Name) → IsOutcomeTold mine theirs told m → IsOutcomeTold mine theirs (told ++ c ∷ []) m
         more m (inl same) = inl same
         more m (inr x) = inr (x.0, Contains-append_left told (c ∷ []) x.0 x.1, x.2)
 
-        go : (k : ℕ) (m : Name) → k < place + 1 → slice_get effects k ≡ Some m → Dec (k ≡ place) → IsToldOf mine theirs (told ++ c ∷ []) m
-        go k m l e (yes q) = subst (λ (z : Name). IsToldOf mine theirs (told ++ c ∷ []) z) (here_is k m q e) (inr (c, Contains-append_right told (c ∷ []) c (0, omega arith, refl), tells))
+        go : (k : ℕ) (m : Name) → k < place + 1 → slice_get effects k ≡ Some m → Dec (k ≡ place) → IsOutcomeTold mine theirs (told ++ c ∷ []) m
+        go k m l e (yes q) = subst (λ (z : Name). IsOutcomeTold mine theirs (told ++ c ∷ []) z) (here_is k m q e) (inr (c, Contains-append_right told (c ∷ []) c (0, omega arith, refl), tells))
         go k m l e (no q) = more m (so_far.all k m (omega arith) e)
 
-  pub told_end : (place : ℕ) (told : List Contrast) → length effects ≤ place → ToldTo effects mine theirs place told → (n : Name) → Contains effects n → IsToldOf mine theirs told n
+  pub told_end : (place : ℕ) (told : List Contrast) → length effects ≤ place → ToldTo effects mine theirs place told → (n : Name) → Contains effects n → IsOutcomeTold mine theirs told n
   told_end place told l so_far n c =
       let i = get_mem n effects (contains_mem n effects c) in
       so_far.all i.0 n (let z = slice_get_within effects i.0 n i.1 in omega arith) i.1

@@ -6,14 +6,15 @@ use Rattle.lft_tag.specs.declared.Tag.{Tag}
 use Rattle.lft_ir.specs.{declared.{parts.{Name.{Name, TheVariants.{Port, Action}}, Reaction.Reaction}, steps.row.{Row.Row, Step.Step}}, Parts.Parts}
 use Rattle.lft_model.specs.{Plans.PlanParts, Runs.{Answer, Outcome, answer_at, effects_of, outcome_of, request_of, steps_of, Outcome.{Written, Scheduled}}}
 use Rattle.lft_pair.specs.declared.contrasting.contrasts.{Placed.Placed, LastWrite.LastWrite, Scheduling.Scheduling, Contrast.Contrast}
-use Rattle.lft_pair.specs.{Runs.{placed_steps, last_write, schedulings, first_request}, Contrasts.{IsContrast, AreContrasts, value_of, event, event_of}}
-use Rattle.lft_pair.specs.Enough.{GiveOther, HaveSameOutcome, TellsOf, TellsStop, IsToldOf, IsStopTold, TellsAnswers, steps, TellsAll, TellsReads}
+use Rattle.lft_pair.specs.Runs.{placed_steps, last_write, schedulings, first_request}
+use Rattle.lft_pair.specs.Contrasts.{IsContrast, AreContrasts, value_of, event, event_of_scheduling}
+use Rattle.lft_pair.specs.Enough.{GiveOther, HaveSameOutcome, TellsOf, TellsStop, IsOutcomeTold, IsStopTold, TellsAnswers, steps, TellsAll, TellsReads}
 use Rattle.lft_pair.specs.inner.Enough.{IsOfEffect, Adds}
 use Rattle.lft_pair.proofs.{Placing.placed_are, Outcomes.{write_outcome, schedule_outcome, request_outcome}}
 use Rattle.lft_pair.proofs.Added.{adds_keeps, adds_one, adds_holds, last_contained}
 use Rattle.lft_pair.specs.declared.contrasting.contrasts.Contrast.TheVariants as contrast
 
-event_at : (xs : List Scheduling) (k : ℕ) → event_of (slice_get xs k) ≡ slice_get (map event xs) k
+event_at : (xs : List Scheduling) (k : ℕ) → event_of_scheduling (slice_get xs k) ≡ slice_get (map event xs) k
 event_at [] k = refl
 event_at (x ∷ xs) zero = refl
 event_at (x ∷ xs) (suc k) = event_at xs k
@@ -38,7 +39,7 @@ module _ (plan : PlanParts) (t s : List Row) (g : Tag) (r : ℕ) (alike : answer
       let theirs = schedulings (placed_steps s g r) a in
       let e : Scheduled (map event mine) ≡ Scheduled (map event theirs) = sym (schedule_outcome (placed_steps t g r) a) ∙ same_outcome (Action a) x.0 ∙ schedule_outcome (placed_steps s g r) a in
       let q : map event mine ≡ map event theirs = cc in
-      x.1.other (ap event_of x.1.first_is ∙ event_at mine k ∙ ap (λ l. slice_get l k) q ∙ sym (event_at theirs k) ∙ sym (ap event_of x.1.second_is))
+      x.1.other (ap event_of_scheduling x.1.first_is ∙ event_at mine k ∙ ap (λ l. slice_get l k) q ∙ sym (event_at theirs k) ∙ sym (ap event_of_scheduling x.1.second_is))
 
   not_requested : (first second : Option ℕ) → ¬ IsContrast plan t s g r (contrast.Requested first second)
   not_requested first second x =
@@ -64,12 +65,12 @@ told_gives plan t s g r told other tells = go (search_in (effects_of plan.progra
     theirs : List Placed
     theirs = placed_steps s g r
 
-    first_of : (n : Name) (ns : List Name) → IsToldOf mine theirs told n → (map (outcome_of (steps mine)) ns ≡ map (outcome_of (steps theirs)) ns) ⊎ GiveOther told g r → (map (outcome_of (steps mine)) (n ∷ ns) ≡ map (outcome_of (steps theirs)) (n ∷ ns)) ⊎ GiveOther told g r
+    first_of : (n : Name) (ns : List Name) → IsOutcomeTold mine theirs told n → (map (outcome_of (steps mine)) ns ≡ map (outcome_of (steps theirs)) ns) ⊎ GiveOther told g r → (map (outcome_of (steps mine)) (n ∷ ns) ≡ map (outcome_of (steps theirs)) (n ∷ ns)) ⊎ GiveOther told g r
     first_of n ns (inr x) y = inr (gives_effect told g r mine theirs n x.0 x.1 x.2)
     first_of n ns (inl e) (inr y) = inr y
     first_of n ns (inl e) (inl q) = inl (ap (λ (o : Outcome). o ∷ map (outcome_of (steps mine)) ns) e ∙ ap (λ (os : List Outcome). outcome_of (steps theirs) n ∷ os) q)
 
-    search_in : (ns : List Name) → ((n : Name) → Mem n ns → IsToldOf mine theirs told n) → (map (outcome_of (steps mine)) ns ≡ map (outcome_of (steps theirs)) ns) ⊎ GiveOther told g r
+    search_in : (ns : List Name) → ((n : Name) → Mem n ns → IsOutcomeTold mine theirs told n) → (map (outcome_of (steps mine)) ns ≡ map (outcome_of (steps theirs)) ns) ⊎ GiveOther told g r
     search_in [] f = inl refl
     search_in (n ∷ ns) f = first_of n ns (f n (inl refl)) (search_in ns (λ k m. f k (inr m)))
 
@@ -99,7 +100,7 @@ stop_holds plan t s g r c x = subst (λ (d : Contrast). IsContrast plan t s g r 
 pub answers_kept : (plan : PlanParts) (t s : List Row) (g : Tag) (r : ℕ) (old new : List Contrast) → Adds plan t s g r old new → TellsAnswers plan t s g r old → TellsAnswers plan t s g r new
 answers_kept plan t s g r old new a tells = record { effects = λ n m. effect n (tells.effects n m); stop = stop tells.stop }
   where
-    effect : (n : Name) → IsToldOf (placed_steps t g r) (placed_steps s g r) old n → IsToldOf (placed_steps t g r) (placed_steps s g r) new n
+    effect : (n : Name) → IsOutcomeTold (placed_steps t g r) (placed_steps s g r) old n → IsOutcomeTold (placed_steps t g r) (placed_steps s g r) new n
     effect n (inl e) = inl e
     effect n (inr x) = inr (x.0, adds_keeps plan t s g r old new a x.0 x.1, x.2)
 
@@ -108,12 +109,12 @@ answers_kept plan t s g r old new a tells = record { effects = λ n m. effect n 
     stop (inr x) = inr (x.0, adds_keeps plan t s g r old new a x.0 x.1, x.2)
 
 -- what is told of the effects of two runs, and then of their stop requests
-module _ (plan : PlanParts) (t s : List Row) (g : Tag) (r : ℕ) (ns : List Name) (mine theirs : List Placed) (en : ns ≡ effects_of plan.program r) (em : mine ≡ placed_steps t g r) (et : theirs ≡ placed_steps s g r) (told : List Contrast) (right : All (IsOfEffect ns mine theirs) told) (all : (n : Name) → Contains ns n → IsToldOf mine theirs told n) where
+module _ (plan : PlanParts) (t s : List Row) (g : Tag) (r : ℕ) (ns : List Name) (mine theirs : List Placed) (en : ns ≡ effects_of plan.program r) (em : mine ≡ placed_steps t g r) (et : theirs ≡ placed_steps s g r) (told : List Contrast) (right : All (IsOfEffect ns mine theirs) told) (all : (n : Name) → Contains ns n → IsOutcomeTold mine theirs told n) where
   right_here : All (IsOfEffect (effects_of plan.program r) (placed_steps t g r) (placed_steps s g r)) told
   right_here = subst (λ (ms : List Name). All (IsOfEffect ms (placed_steps t g r) (placed_steps s g r)) told) en (subst (λ (x : List Placed). All (IsOfEffect ns (placed_steps t g r) x) told) et (subst (λ (x : List Placed). All (IsOfEffect ns x theirs) told) em right))
 
-  all_here : (n : Name) → Contains (effects_of plan.program r) n → IsToldOf (placed_steps t g r) (placed_steps s g r) told n
-  all_here = subst (λ (ms : List Name). (n : Name) → Contains ms n → IsToldOf (placed_steps t g r) (placed_steps s g r) told n) en (subst (λ (x : List Placed). (n : Name) → Contains ns n → IsToldOf (placed_steps t g r) x told n) et (subst (λ (x : List Placed). (n : Name) → Contains ns n → IsToldOf x theirs told n) em all))
+  all_here : (n : Name) → Contains (effects_of plan.program r) n → IsOutcomeTold (placed_steps t g r) (placed_steps s g r) told n
+  all_here = subst (λ (ms : List Name). (n : Name) → Contains ms n → IsOutcomeTold (placed_steps t g r) (placed_steps s g r) told n) en (subst (λ (x : List Placed). (n : Name) → Contains ns n → IsOutcomeTold (placed_steps t g r) x told n) et (subst (λ (x : List Placed). (n : Name) → Contains ns n → IsOutcomeTold x theirs told n) em all))
 
   holds_effects : AreContrasts plan t s g r told
   holds_effects k d l = effect_holds plan t s g r _ (right_here k d l)
@@ -137,7 +138,7 @@ module _ (plan : PlanParts) (t s : List Row) (g : Tag) (r : ℕ) (ns : List Name
     pub tells_with : TellsAnswers plan t s g r new
     tells_with = record { effects = λ n m. more n (all_here n m); stop = inr (stop, last_contained told new stop is, tells_here) }
       where
-        more : (n : Name) → IsToldOf (placed_steps t g r) (placed_steps s g r) told n → IsToldOf (placed_steps t g r) (placed_steps s g r) new n
+        more : (n : Name) → IsOutcomeTold (placed_steps t g r) (placed_steps s g r) told n → IsOutcomeTold (placed_steps t g r) (placed_steps s g r) new n
         more n (inl e) = inl e
         more n (inr x) = inr (x.0, adds_keeps plan t s g r told new adds_stop x.0 x.1, x.2)
 

@@ -5,7 +5,8 @@ use Rattle.lft_tag.{specs.{declared.Tag.Tag, Tags.{Before, UpTo}}, proofs.Order.
 use Rattle.lft_ir.specs.declared.steps.row.{Row.Row, Step.TheVariants.Start}
 use Rattle.lft_lists.proofs.Places.{get_write_cases}
 use Rattle.lft_model.{specs.{Plans.PlanParts, Breaches.Legal, Runs.{start_row, Ran}}, proofs.{Legality.{four, rising}, Places.slice_get_within, Ended.row_is}}
-use Rattle.lft_pair.specs.inner.Places.{StartsAt, IsLastStart, AreLastStarts, AreUpTo, AreAfter}
+use Rattle.lft_races.specs.Runs.{StartsAt}
+use Rattle.lft_pair.specs.inner.Places.{IsLastStart, AreLastStarts, AreRowsUpTo, AreRowsAfter}
 
 -- a row starts a run exactly where it is its start row
 module _ (t : List Row) (i : ℕ) (row : Row) (is_row : slice_get t i ≡ Some row) where
@@ -47,7 +48,7 @@ module _ (t : List Row) (i : ℕ) (row : Row) (is_row : slice_get t i ≡ Some r
           last j g l y (no d) = (so_far r p x.1).last j g (omega arith) y
 
   -- no row of the first ones is after a tag, with one row more
-  pub up_to_more : (g : Tag) → ¬ Before g row.tag → AreUpTo t i g → AreUpTo t (i + 1) g
+  pub up_to_more : (g : Tag) → ¬ Before g row.tag → AreRowsUpTo t i g → AreRowsUpTo t (i + 1) g
   up_to_more g n so_far j x l e = go (ℕ_discrete j i)
     where
       here : Before g row.tag ⊎ UpTo row.tag g → UpTo row.tag g
@@ -59,7 +60,7 @@ module _ (t : List Row) (i : ℕ) (row : Row) (is_row : slice_get t i ≡ Some r
       go (no d) = so_far j x (omega arith) e
 
   -- from the first row on that is after a tag, all are
-  pub after_from : (plan : PlanParts) → Legal plan t → (g : Tag) → Before g row.tag → AreAfter t i g
+  pub after_from : (plan : PlanParts) → Legal plan t → (g : Tag) → Before g row.tag → AreRowsAfter t i g
   after_from plan legal g b j x l e = go (ℕ_discrete j i)
     where
       go : Dec (j ≡ i) → Before g x.tag
@@ -71,14 +72,14 @@ pub record ReadTo (t : List Row) (g : Tag) (n i read : ℕ) (places : List ℕ) 
   pub at : read ≡ i
   pub as_long : length places ≡ n
   pub kept : AreLastStarts t read places
-  pub up_to : AreUpTo t read g
+  pub up_to : AreRowsUpTo t read g
 
 module _ (t : List Row) (i : ℕ) (row : Row) (is_row : slice_get t i ≡ Some row) (g : Tag) (late : ¬ Before g row.tag) (n read : ℕ) (places now : List ℕ) (so_far : ReadTo t g n i read places) where
   kept_here : AreLastStarts t i places
   kept_here = subst (λ (k : ℕ). AreLastStarts t k places) so_far.at so_far.kept
 
-  up_to_here : AreUpTo t (i + 1) g
-  up_to_here = up_to_more t i row is_row g late (subst (λ (k : ℕ). AreUpTo t k g) so_far.at so_far.up_to)
+  up_to_here : AreRowsUpTo t (i + 1) g
+  up_to_here = up_to_more t i row is_row g late (subst (λ (k : ℕ). AreRowsUpTo t k g) so_far.at so_far.up_to)
 
   -- a row that starts no run is read
   pub read_other : ¬ (row.step ≡ Start) → now ≡ places → ReadTo t g n (i + 1) (i + 1) now
@@ -89,11 +90,11 @@ module _ (t : List Row) (i : ℕ) (row : Row) (is_row : slice_get t i ≡ Some r
   read_start starts known e = record { at = refl; as_long = ap length e ∙ length-set places row.reaction i ∙ so_far.as_long; kept = subst (λ (zs : List ℕ). AreLastStarts t (i + 1) zs) (sym e) (starts_more t i row is_row places starts (let l = so_far.as_long in omega arith) kept_here); up_to = up_to_here }
 
 -- no row stands behind the last
-pub after_end : (t : List Row) (i : ℕ) (g : Tag) → length t ≤ i → AreAfter t i g
+pub after_end : (t : List Row) (i : ℕ) (g : Tag) → length t ≤ i → AreRowsAfter t i g
 after_end t i g l j x m e = let k : j < length t = slice_get_within t j x e in absurd (omega arith)
 
 -- where the last start of r isn't one at g, r has no run at g
-module _ (plan : PlanParts) (t : List Row) (legal : Legal plan t) (i : ℕ) (g : Tag) (read : AreUpTo t i g) (rest : AreAfter t i g) (r p : ℕ) (kept : IsLastStart t i r p) where
+module _ (plan : PlanParts) (t : List Row) (legal : Legal plan t) (i : ℕ) (g : Tag) (read : AreRowsUpTo t i g) (rest : AreRowsAfter t i g) (r p : ℕ) (kept : IsLastStart t i r p) where
   at_last : Ran t g r → StartsAt t g r p
   at_last o = go (dec_lt o.place i)
     where

@@ -9,8 +9,9 @@ use Rattle.lft_graph.specs.Graph.{GraphParts, IsGraphOf}
 use Rattle.lft_lists.proofs.Places.{get_there}
 use Rattle.lft_model.specs.{Plans.{PlanParts, IsSoundPlan}, Breaches.Legal, Runs.{Ran, start_row, steps_of, effects_of}}
 use Rattle.lft_model.proofs.{Legality.{four, rising}, Places.slice_get_within, Ended.row_is}
-use Rattle.lft_pair.specs.{inner.{Answering.SameAnswers, Places.{StartsAt, AreLastStarts, AreUpTo}, Pairs.{Agrees, FirstOdd}}, Pairs.ComesFirst}
+use Rattle.lft_pair.specs.{inner.{Answering.SameAnswers, Places.{AreLastStarts, AreRowsUpTo}, Pairs.{Agrees, FirstOdd}}, Pairs.ComesFirst}
 use Rattle.lft_pair.proofs.{Kept.start_is, Answering.{same_effects, same_from_effects}}
+use Rattle.lft_races.specs.Runs.{StartsAt}
 
 -- the order of runs
 module _ (levels : List ℕ) where
@@ -187,10 +188,10 @@ pub record Compared (plan : PlanParts) (levels : List ℕ) (t s : List Row) (i :
   pub odd : FirstOddTo plan levels t s i o
   pub as_long : length places ≡ length plan.program.reactions
   pub kept : AreLastStarts s read places
-  pub up_to : (j : ℕ) (x : Row) → i ≤ j → slice_get t j ≡ Some x → AreUpTo s read x.tag
+  pub up_to : (j : ℕ) (x : Row) → i ≤ j → slice_get t j ≡ Some x → AreRowsUpTo s read x.tag
 
 -- what was read up to a row's tag is up to the tag of each later row
-pub read_on : (plan : PlanParts) (t s : List Row) → Legal plan t → (i : ℕ) (row : Row) → slice_get t i ≡ Some row → (read : ℕ) → AreUpTo s read row.tag → (j : ℕ) (x : Row) → i + 1 ≤ j → slice_get t j ≡ Some x → AreUpTo s read x.tag
+pub read_on : (plan : PlanParts) (t s : List Row) → Legal plan t → (i : ℕ) (row : Row) → slice_get t i ≡ Some row → (read : ℕ) → AreRowsUpTo s read row.tag → (j : ℕ) (x : Row) → i + 1 ≤ j → slice_get t j ≡ Some x → AreRowsUpTo s read x.tag
 read_on plan t s legal i row is_row read u j x l e k y m q = UpTo-trans y.tag row.tag x.tag (u k y m q) (rising plan t (four plan t legal.rows) i j row x (omega arith) is_row e)
 
 pub compared_begin : (plan : PlanParts) (levels : List ℕ) (t s : List Row) (read : ℕ) (places : List ℕ) → read ≡ 0 → length places ≡ length plan.program.reactions → AreLastStarts s read places → Compared plan levels t s 0 read places None
@@ -202,5 +203,5 @@ module _ (plan : PlanParts) (levels : List ℕ) (t s : List Row) (i read : ℕ) 
   compared_on before m = record { odd = odd; as_long = m.as_long; kept = m.kept; up_to = λ j x l e. m.up_to j x (omega arith) e }
 
   -- after a row that starts a run
-  pub compared_run : (row : Row) → Legal plan t → slice_get t i ≡ Some row → length places ≡ length plan.program.reactions → AreLastStarts s read places → AreUpTo s read row.tag → Compared plan levels t s (i + 1) read places o
+  pub compared_run : (row : Row) → Legal plan t → slice_get t i ≡ Some row → length places ≡ length plan.program.reactions → AreLastStarts s read places → AreRowsUpTo s read row.tag → Compared plan levels t s (i + 1) read places o
   compared_run row legal is_row long kept up_to = record { odd = odd; as_long = long; kept = kept; up_to = read_on plan t s legal i row is_row read up_to }

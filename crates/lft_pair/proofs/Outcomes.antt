@@ -6,7 +6,7 @@ use Rattle.lft_ir.specs.declared.parts.{Name.TheVariants.{Port, Action}, Value.V
 use Rattle.lft_ir.specs.declared.steps.row.Step.{Step, TheVariants.{Start, Read, Write, Schedule, Stop, End}}
 use Rattle.lft_model.specs.{Presence.{value_written, value_scheduled}, Runs.{outcome_of, request_of, is_stop, Outcome.{Written, Scheduled}}}
 use Rattle.lft_pair.specs.declared.contrasting.contrasts.{Placed.Placed, LastWrite.LastWrite, Scheduling.Scheduling}
-use Rattle.lft_pair.specs.Runs.{write, write_of, last_write, scheduling, scheduling_of, schedulings, request_at, request_of as placed_request, first_request}
+use Rattle.lft_pair.specs.Runs.{write, write_of, last_write, scheduling, scheduling_of, schedulings, request_at, request_of_step as placed_request, first_request}
 use Rattle.lft_pair.specs.{Contrasts.value_of, Enough.steps}
 
 same_filter : {X Y : Type 0} (f h : X → Option Y) (xs : List X) → ((x : X) → f x ≡ h x) → filter_map f xs ≡ filter_map h xs

@@ -16,8 +16,8 @@ value_of o = option_map (λ w. w.value) o
 abbrev pub event : Scheduling → ℕ × Value
 event y = (y.delay, y.value)
 
-abbrev pub event_of : Option Scheduling → Option (ℕ × Value)
-event_of o = option_map event o
+abbrev pub event_of_scheduling : Option Scheduling → Option (ℕ × Value)
+event_of_scheduling o = option_map event o
 
 -- the last writes of port p in two runs, which haven't the same value
 pub record IsWritten (mine theirs : List Placed) (p : ℕ) (first second : Option LastWrite) : Type 0 where
@@ -29,7 +29,7 @@ pub record IsWritten (mine theirs : List Placed) (p : ℕ) (first second : Optio
 pub record IsScheduled (mine theirs : List Placed) (a k : ℕ) (first second : Option Scheduling) : Type 0 where
   pub first_is : first ≡ slice_get (schedulings mine a) k
   pub second_is : second ≡ slice_get (schedulings theirs a) k
-  pub other : event_of first ≢ event_of second
+  pub other : event_of_scheduling first ≢ event_of_scheduling second
 
 -- the first stop requests of two runs, of which one has none
 pub record IsRequested (mine theirs : List Placed) (first second : Option ℕ) : Type 0 where

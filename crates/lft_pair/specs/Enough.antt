@@ -29,8 +29,8 @@ abbrev pub HaveSameOutcome : List Placed → List Placed → Name → Type 0
 HaveSameOutcome mine theirs n = outcome_of (steps mine) n ≡ outcome_of (steps theirs) n
 
 -- they did, or one of the contrasts tells of it
-abbrev pub IsToldOf : List Placed → List Placed → List Contrast → Name → Type 0
-IsToldOf mine theirs contrasts n = HaveSameOutcome mine theirs n ⊎ ((c : Contrast) × Contains contrasts c × TellsOf mine theirs n c)
+abbrev pub IsOutcomeTold : List Placed → List Placed → List Contrast → Name → Type 0
+IsOutcomeTold mine theirs contrasts n = HaveSameOutcome mine theirs n ⊎ ((c : Contrast) × Contains contrasts c × TellsOf mine theirs n c)
 
 -- both requested a stop or neither did, or one of the contrasts tells of it
 abbrev pub IsStopTold : List Placed → List Placed → List Contrast → Type 0
@@ -38,7 +38,7 @@ IsStopTold mine theirs contrasts = (request_of (steps mine) ≡ request_of (step
 
 -- each effect for which the runs of r at g answered otherwise is told of, and a stop request of one of them
 pub record TellsAnswers (plan : PlanParts) (t s : List Row) (g : Tag) (r : ℕ) (contrasts : List Contrast) : Type 0 where
-  pub effects : (n : Name) → Contains (effects_of plan.program r) n → IsToldOf (placed_steps t g r) (placed_steps s g r) contrasts n
+  pub effects : (n : Name) → Contains (effects_of plan.program r) n → IsOutcomeTold (placed_steps t g r) (placed_steps s g r) contrasts n
   pub stop : IsStopTold (placed_steps t g r) (placed_steps s g r) contrasts
 
 -- each input of r is told of

@@ -29,9 +29,9 @@ pub record IsDifference (plan : PlanParts) (t s : List Row) (g : Tag) (r : ℕ) 
   pub same_before : (h : Tag) (a : ℕ) → ComesFirst graph.levels h a g r → IsSameRun plan t s h a
 
 -- same: they have the same runs; differ: the run of that tag and reaction is the difference
-abbrev pub IsPair : PlanParts → List Row → List Row → Pair → Type 0
-IsPair plan t s Same = SameRuns plan t s
-IsPair plan t s (Differ g r) = IsDifference plan t s g r
+abbrev pub TellsPair : PlanParts → List Row → List Row → Pair → Type 0
+TellsPair plan t s Same = SameRuns plan t s
+TellsPair plan t s (Differ g r) = IsDifference plan t s g r
 
 -- each port and action has the same values at each tag
 abbrev pub HaveSameValues : PlanParts → List Row → List Row → Type 0
@@ -39,6 +39,6 @@ HaveSameValues plan t s = (g : Tag) (n : Name) (v : Value) → At plan t g n v �
 
 -- what the answer says: the same exactly where the traces have the same runs, and then the same values
 pub record IsComparison (plan : PlanParts) (t s : List Row) (p : Pair) : Type 0 where
-  pub is_pair : IsPair plan t s p
+  pub is_pair : TellsPair plan t s p
   pub exact : (p ≡ Same) ↔ SameRuns plan t s
   pub values : p ≡ Same → HaveSameValues plan t s

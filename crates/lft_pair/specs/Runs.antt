@@ -6,12 +6,12 @@ use Rattle.lft_ir.specs.declared.{parts.Value.Value, steps.row.{Row.Row, Step.{S
 use Rattle.lft_model.specs.{Presence.{value_written, value_scheduled}, Runs.step_of}
 use Rattle.lft_pair.specs.declared.contrasting.contrasts.{Placed.Placed, LastWrite.LastWrite, Scheduling.Scheduling}
 
-abbrev pub placed : ℕ → Step → Placed
-placed i s = record { row = i; step = s }
+abbrev pub step_in_row : ℕ → Step → Placed
+step_in_row i s = record { row = i; step = s }
 
 -- the step of the row at a place, where it is of r at g
 abbrev pub placed_step : Tag → ℕ → ℕ × Row → Option Placed
-placed_step g r x = option_map (placed x.0) (step_of g r x.1)
+placed_step g r x = option_map (step_in_row x.0) (step_of g r x.1)
 
 -- the steps of the run of r at g in order, each with the place of its row
 abbrev pub placed_steps : List Row → Tag → ℕ → List Placed
@@ -48,9 +48,9 @@ request_at i (Write n v) = None
 request_at i (Schedule n v d) = None
 request_at i End = None
 
-abbrev pub request_of : Placed → Option ℕ
-request_of x = request_at x.row x.step
+abbrev pub request_of_step : Placed → Option ℕ
+request_of_step x = request_at x.row x.step
 
 -- the place of the first stop request in a run
 abbrev pub first_request : List Placed → Option ℕ
-first_request steps = slice_get (filter_map request_of steps) 0
+first_request steps = slice_get (filter_map request_of_step steps) 0

@@ -9,13 +9,13 @@ abbrev pub instance_words : Parts → ℕ → List ℕ
 instance_words program i = unwrap_or (slice_get program.names.instances i) []
 
 -- how many schedulings stand before it; nothing for none
-abbrev pub place_words : ℕ → List ℕ
-place_words k = if nat_eq k 0 then [] else codes " (" ++ decimal k ++ codes " before)"
+abbrev pub schedulings_before_words : ℕ → List ℕ
+schedulings_before_words k = if nat_eq k 0 then [] else codes " (" ++ decimal k ++ codes " before)"
 
 -- the effect; nothing for what tells of none
 abbrev pub effect_words : Parts → Contrast → List ℕ
 effect_words program (contrast.Written p first second) = port_words program p
-effect_words program (contrast.Scheduled a k first second) = action_words program a ++ place_words k
+effect_words program (contrast.Scheduled a k first second) = action_words program a ++ schedulings_before_words k
 effect_words program (contrast.Requested first second) = codes "stop request"
 effect_words program (contrast.Starts first second) = []
 effect_words program (contrast.Read k n read) = []

@@ -6,7 +6,7 @@ ghost use Rattle.lft_tag.specs.Tags.{Before};
 ghost use Rattle.lft_graph.specs.Graph.{GraphParts, IsGraphOf};
 ghost use Rattle.lft_ir.specs.{Steps.Fits.RowsFit, declared.steps.row.Step.TheVariants.Start, Parts.Parts};
 ghost use Rattle.lft_model.specs.Breaches.{Legal};
-ghost use Rattle.lft_pair.specs.{Pairs.ComesFirst, inner.{Pairs.{Agrees, FirstOdd}, Places.{AreLastStarts, AreUpTo}}};
+ghost use Rattle.lft_pair.specs.{Pairs.ComesFirst, inner.{Pairs.{Agrees, FirstOdd}, Places.{AreLastStarts, AreRowsUpTo}}};
 
 use crate::answers::same_answers;
 use crate::starts::{StartPlaces, no_starts};
@@ -44,13 +44,13 @@ fn agrees(
     requires others { Legal plan.now others.now }
     requires as_long { length kept.old.starts.places.items ≡ length plan.now.program.reactions }
     requires starts { AreLastStarts others.now kept.old.starts.read kept.old.starts.places.items }
-    requires read { AreUpTo others.now kept.old.starts.read row.tag }
+    requires read { AreRowsUpTo others.now kept.old.starts.read row.tag }
     requires row { slice_get rows.now place ≡ Some row }
     requires begins { row.step ≡ Start }
     ensures same { IfOk result (λ same. Decides same (Agrees plan.now rows.now others.now row.tag row.reaction)) }
     ensures as_long { length kept.new.starts.places.items ≡ length kept.old.starts.places.items }
     ensures starts { AreLastStarts others.now kept.new.starts.read kept.new.starts.places.items }
-    ensures read { AreUpTo others.now kept.new.starts.read row.tag }
+    ensures read { AreRowsUpTo others.now kept.new.starts.read row.tag }
 {
     match kept.starts.find(others, row.tag, row.reaction) {
         Some(other) => {

@@ -3,7 +3,8 @@
 ghost use Rattle.std.specs.Prelude.{◌≡◌, ◌↔◌, ◌<◌, length, List, IsTrue, MatchOption, IfOk};
 ghost use Rattle.lft_ir.specs.{Parts.Parts, declared.steps.row.Row.Row as TheRow, Steps.Fits.RowsFit};
 ghost use Rattle.lft_model.specs.{Plans.PlanParts, Breaches.Legal, Runs.Ran};
-ghost use Rattle.lft_pair.specs.inner.Places.{StartsAt, AreLastStarts, AreUpTo, AreAfter};
+ghost use Rattle.lft_races.specs.Runs.{StartsAt};
+ghost use Rattle.lft_pair.specs.inner.Places.{AreLastStarts, AreRowsUpTo, AreRowsAfter};
 
 use lft_ir::steps::{Row, is_start, row_at};
 use lft_lists::item_at;
@@ -47,11 +48,11 @@ impl StartPlaces {
         requires fit { (program : Parts) × RowsFit program rows.now × (length self.old.places.items ≡ length program.reactions) }
         requires legal { (plan : PlanParts) × Legal plan rows.now }
         requires kept { AreLastStarts rows.now self.old.read self.old.places.items }
-        requires read { AreUpTo rows.now self.old.read tag }
+        requires read { AreRowsUpTo rows.now self.old.read tag }
         ensures as_long { length self.new.places.items ≡ length self.old.places.items }
         ensures kept { AreLastStarts rows.now self.new.read self.new.places.items }
-        ensures read { AreUpTo rows.now self.new.read tag }
-        ensures rest { AreAfter rows.now self.new.read tag }
+        ensures read { AreRowsUpTo rows.now self.new.read tag }
+        ensures rest { AreRowsAfter rows.now self.new.read tag }
     {
         for place in self.read..rows.len() {
             let row = row_at(rows, place);
@@ -71,11 +72,11 @@ impl StartPlaces {
         requires fit { (program : Parts) × RowsFit program rows.now × (length self.old.places.items ≡ length program.reactions) }
         requires legal { (plan : PlanParts) × Legal plan rows.now }
         requires kept { AreLastStarts rows.now self.old.read self.old.places.items }
-        requires read { AreUpTo rows.now self.old.read tag }
+        requires read { AreRowsUpTo rows.now self.old.read tag }
         requires reaction { reaction < length self.old.places.items }
         ensures as_long { length self.new.places.items ≡ length self.old.places.items }
         ensures kept { AreLastStarts rows.now self.new.read self.new.places.items }
-        ensures read { AreUpTo rows.now self.new.read tag }
+        ensures read { AreRowsUpTo rows.now self.new.read tag }
         ensures found { MatchOption result (¬ Ran rows.now tag reaction) (StartsAt rows.now tag reaction) }
     {
         self.read_to(rows, tag);

@@ -5,7 +5,7 @@ use Rattle.lft_pool.specs.declared.stop.Stop.{Stop}
 use Rattle.lft_pool.specs.declared.stop.Stop.TheVariants.{NoBody, Collision, UndeclaredEffect, TooManyRuns, Stranger, BodyNoMemory, NoMemory, NoWorker, PlanChanged, BadWorkers, TooManyRows, LimitTag}
 use Rattle.lft_pool.specs.declared.bodies.{ticket.Ticket.Ticket, done.Done.Done}
 use Rattle.lft_pool.specs.{Begun.MatchBegin, Books.{BookParts, LacksBody}, Reasons.{StopHolds, ReasonHolds, StopHolds.{by_begin, by_commit}}}
-use Rattle.lft_pool.specs.{inner.Endings.{IsUnfinished, ReasonIs}, Endings.WhyStopped}
+use Rattle.lft_pool.specs.{inner.Endings.{HasLeftToRun, ReasonIs}, Endings.WhyStopped}
 use Rattle.lft_tag.specs.declared.Tag.{Tag}
 use Rattle.lft_ir.specs.declared.parts.Value.{Value}
 use Rattle.lft_scheduler.specs.Starts.{SomethingLeft, started_count}
@@ -18,7 +18,7 @@ finished_says (Ok Finished) run wait P done ok says = says
 finished_says (Err s) run wait P done ok says = absurd (cc)
 
 -- an answer that something is left says so
-pub unfinished_says : {L C : Type 0} (last : Result (Begin L C) Stop) (P : Type 0) → IsUnfinished last → IfOk last (λ b. MatchBegin b (λ _ _. P) P (Unit {0})) → P
+pub unfinished_says : {L C : Type 0} (last : Result (Begin L C) Stop) (P : Type 0) → HasLeftToRun last → IfOk last (λ b. MatchBegin b (λ _ _. P) P (Unit {0})) → P
 unfinished_says (Ok (Run t b)) P u says = says
 unfinished_says (Ok Wait) P u says = says
 unfinished_says (Ok Finished) P u says = absurd u.0

@@ -9,7 +9,7 @@ use Rattle.lft_model.specs.{Plans.PlanParts, Recorded.{MayAnswer, SoFar, committ
 use Rattle.lft_tag.specs.declared.Tag.{Tag}
 use Rattle.lft_lists.proofs.Members.{Mem, get_mem}
 use Rattle.lft_scheduler.specs.{inner.Agendas.{AgendaParts, IsAgenda, EndsWith}, Collisions.IsClean, Starts.{IsBusy, MayStartFirst}}
-use Rattle.lft_scheduler.specs.Answering.{MayAll, IsLong, HasLongDelay}
+use Rattle.lft_scheduler.specs.Answering.{MayAll, IsLongDelay, HasLongDelay}
 use Rattle.lft_pool.specs.declared.bodies.{done.Done.Done, ticket.Ticket.Ticket}
 use Rattle.lft_pool.specs.declared.stop.Stop.{Stop}
 use Rattle.lft_pool.specs.declared.stop.Stop.TheVariants.{NoBody, Collision, UndeclaredEffect, TooManyRuns, Stranger, BodyNoMemory, NoMemory, NoWorker, PlanChanged, BadWorkers, TooManyRows, LimitTag}
@@ -65,11 +65,11 @@ before_it law b s e h = subst (λ (o : Option Stop). StopHolds law (record b { r
 pub may_mem : (plan : PlanParts) (r : ℕ) (steps : List Step) → MayAll plan r steps → (s : Step) → Mem s steps → MayAnswer plan r s
 may_mem plan r steps may s m = let p = get_mem s steps m in may p.0 s p.1
 
-pub short_mem : (steps : List Step) → ¬ HasLongDelay steps → (s : Step) → Mem s steps → ¬ IsLong s
+pub short_mem : (steps : List Step) → ¬ HasLongDelay steps → (s : Step) → Mem s steps → ¬ IsLongDelay s
 short_mem steps short s m l = let p = get_mem s steps m in short (p.0, s, p.1, l)
 
 -- a step that may be made, without a long delay, is of the program
-pub answer_fits : (plan : PlanParts) → IsSound plan.program → (r : ℕ) (x : Reaction) → slice_get plan.program.reactions r ≡ Some x → (s : Step) → MayAnswer plan r s → ¬ IsLong s → StepFits plan.program s
+pub answer_fits : (plan : PlanParts) → IsSound plan.program → (r : ℕ) (x : Reaction) → slice_get plan.program.reactions r ≡ Some x → (s : Step) → MayAnswer plan r s → ¬ IsLongDelay s → StepFits plan.program s
 answer_fits plan sound r x e Start m n = absurd m
 answer_fits plan sound r x e (Read k v) m n = absurd m
 answer_fits plan sound r x e (Write (Port p) v) m n = (sound.exist r x e).effects (Port p) (subst (λ (ns : List Name). Contains ns (Port p)) (ap (λ (o : Option Reaction). unwrap_or (option_map (λ y. y.effects) o) []) e) m)

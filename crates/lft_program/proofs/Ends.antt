@@ -3,7 +3,7 @@ use Rattle.std.proofs.Common.{◌≡◌, ℕ, ◌+◌, List, [], ◌∷◌, ◌+
 use Rattle.std.{specs.Option.option_and_then, proofs.lemmas.Option.slice_get_within}
 use Rattle.lft_tree.specs.Tree.{FileTree, ReactorTree, PortTree, InstanceTree, RefTree, reactors_of, ports_of, instances_of}
 use Rattle.lft_resolve.specs.{declared.expansion.joins.End.{End, TheVariants.{Own, Inner}}, Expansion.Paths.along}
-use Rattle.lft_resolve.specs.inner.{Expansion.{Children.child_of, Joins.{port_at, port_of, Declares, IsPort}}, Sheets.{IsEnd, IsInner}}
+use Rattle.lft_resolve.specs.inner.{Expansion.{Children.child_of, Joins.{port_at, port_of, Declares, IsDeclaredPort}}, Sheets.{IsEnd, IsInner}}
 use Rattle.lft_resolve.specs.Instances.{Inside, thing_at, stands_for, stands_inside, entered, main_instance, reactor_named, given_in}
 use Rattle.lft_resolve.proofs.ExpansionLemmas.Orders.{along_kid}
 use Rattle.lft_program.specs.{Located.{Located, ports_in}, inner.Nests.IsNest, declared.nesting.{nest.Nest.Nest, tables.Tables.Tables}}
@@ -38,7 +38,7 @@ module _ (tree : FileTree) (tables : Tables) (nest : Nest) (n : IsNest tree tabl
     pub stands : stands_for l.inside.reactor l.path ref ≡ Some (thing_at instance.path port.name)
     pub is_number : port_of nest.ports.firsts.items nest.children k end ≡ Some (base ports_of n.located owner + place_at end)
     pub is_thing : slice_get (ports_in n.located) (base ports_of n.located owner + place_at end) ≡ Some (thing_at instance.path port.name)
-    pub is_port : IsPort nest.ports.counts.items nest.instances.items nest.children k end
+    pub is_port : IsDeclaredPort nest.ports.counts.items nest.instances.items nest.children k end
 
   declares : (k port : ℕ) (l : Located) (x : PortTree) → slice_get n.located k ≡ Some l → slice_get (ports_of l.inside.reactor) port ≡ Some x → Declares nest.ports.counts.items nest.instances.items k port
   declares k port l x e f =

@@ -4,10 +4,10 @@ use Rattle.std.proofs.lemmas.{List.length-map, Option.slice_get_within}
 use Rattle.lft_lists.proofs.Places.{at_contains, Some_same}
 use Rattle.lft_tree.specs.Tree.{FileTree, PortTree, RefTree, TriggerTree, AtStartup, AtShutdown, OnRef, reactors_of, ports_of, actions_of, timers_of, reactions_of}
 use Rattle.lft_resolve.proofs.{Effects.{Any-flat, reads_once, effects_once}, Somes.{Any-left, Any-right}}
-use Rattle.lft_resolve.specs.{Causes.{HasLongTime, IsLongTime}, Instances.{stands_for, thing_at}, Kinds.{reads_of, ref_in, timer_times}}
+use Rattle.lft_resolve.specs.{Causes.{HasLongTime, IsLongTime}, Instances.{stands_for, thing_at}, Kinds.{names_read, ref_in, timer_times}}
 use Rattle.lft_resolve.specs.Sheets.{is_timer, without_timers}
 use Rattle.lft_program.specs.{Located.{Located, Declared, declared, ports_in, actions_in, timers_in}, inner.Tables.IsLawful}
-use Rattle.lft_program.specs.Flattening.{Flat, IsPort, IsAction, IsTimer, IsReaction, IsName, IsTrigger, name_of_thing, name_of_reaction}
+use Rattle.lft_program.specs.Flattening.{Flat, IsPort, IsAction, IsTimer, IsReaction, IsFlatName, IsTrigger, name_of_thing, name_of_reaction}
 use Rattle.lft_program.proofs.{Placed.{declared_from, thing_from, path_once}, Entered.{IsUsual, all_usual, option_short, in_timers, in_actions}}
 use Rattle.lft_program.proofs.{OneWriter.{Writes, writes, same_path}, Ordered.{reaction_at, is_numbered, is_consecutive}}
 use Rattle.lft_program.proofs.Standing.{Some_of, all_of, some_kept, some_append, some_distinct, once_apart, apart_pairs, name_once, trigger_names}
@@ -32,7 +32,7 @@ module _ (tree : FileTree) (program : Parts) (flat : Flat tree program) where
   many_reactions : length (declared reactions_of flat.instances) ≡ length program.reactions
   many_reactions = sym (AllZip-length (IsReaction flat.instances) (declared reactions_of flat.instances) program.reactions flat.reactions)
 
-  name_there : (at : Located) (ref : RefTree) (n : Name) → IsName flat.instances at ref n → IsNameOf program n
+  name_there : (at : Located) (ref : RefTree) (n : Name) → IsFlatName flat.instances at ref n → IsNameOf program n
   name_there at ref (Port p) is = subst (λ k. p < k) many_ports (slice_get_within (ports_in flat.instances) p is.0 is.2)
   name_there at ref (Action a) is = subst (λ k. a < k) many_actions (slice_get_within (actions_in flat.instances) a is.0 is.2)
 
@@ -52,8 +52,8 @@ module _ (tree : FileTree) (program : Parts) (flat : Flat tree program) where
       let d = o.declaration in
       record {
         triggers = λ t has. (let k = at_contains x.triggers t has in let z = AllZip-from (IsTrigger flat.instances d.located) d.item.triggers x.triggers o.is.triggers k.0 t k.1 in trigger_there d.located z.0 t z.2);
-        uses = λ n has. (let k = at_contains x.uses n has in let z = AllZip-from (IsName flat.instances d.located) (without_timers d.located.inside.reactor d.item.uses) x.uses o.is.uses k.0 n k.1 in name_there d.located z.0 n z.2);
-        effects = λ n has. (let k = at_contains x.effects n has in let z = AllZip-from (IsName flat.instances d.located) d.item.effects x.effects o.is.effects k.0 n k.1 in name_there d.located z.0 n z.2);
+        uses = λ n has. (let k = at_contains x.uses n has in let z = AllZip-from (IsFlatName flat.instances d.located) (without_timers d.located.inside.reactor d.item.uses) x.uses o.is.uses k.0 n k.1 in name_there d.located z.0 n z.2);
+        effects = λ n has. (let k = at_contains x.effects n has in let z = AllZip-from (IsFlatName flat.instances d.located) d.item.effects x.effects o.is.effects k.0 n k.1 in name_there d.located z.0 n z.2);
       }
 
   well_named : AreDistinct program.names → AreWords program.names → IsWellNamed program
@@ -76,16 +76,16 @@ module _ (tree : FileTree) (program : Parts) (flat : Flat tree program) where
         let d = o.declaration in
         let r = d.located.inside.reactor in
         let u = usual d.instance d.located o.at.located in
-        let R = IsName flat.instances d.located in
-        let reads : Some_of R (reads_of d.item) (inputs x) =
+        let R = IsFlatName flat.instances d.located in
+        let reads : Some_of R (names_read d.item) (inputs x) =
         some_append R (filter_map ref_in d.item.triggers) d.item.uses (filter_map named x.triggers) x.uses
         (trigger_names flat.instances d.located d.item.triggers x.triggers o.is.triggers)
         (some_kept R (λ ref. not (is_timer r ref.head ref.port)) d.item.uses x.uses (all_of R (without_timers r d.item.uses) x.uses o.is.uses)) in
         let written : Some_of R d.item.effects x.effects = all_of R d.item.effects x.effects o.is.effects in
-        let once = once_apart (reads_of d.item) (reads_once (reactors_of tree) u.number r u.reactor lawful.later d.place d.item o.at.item) in
+        let once = once_apart (names_read d.item) (reads_once (reactors_of tree) u.number r u.reactor lawful.later d.place d.item o.at.item) in
         let effects = once_apart d.item.effects (effects_once (reactors_of tree) u.number r u.reactor lawful.later d.place d.item o.at.item) in
         let one = name_once flat.instances d.located in
-        (apart_pairs (inputs x) (some_distinct R one (reads_of d.item) (inputs x) once reads), apart_pairs x.effects (some_distinct R one d.item.effects x.effects effects written))
+        (apart_pairs (inputs x) (some_distinct R one (names_read d.item) (inputs x) once reads), apart_pairs x.effects (some_distinct R one d.item.effects x.effects effects written))
 
     -- a reaction that writes a port does so as its declaration and the port's allow
     writes_it : (a : ℕ) (x : Reaction) (p : ℕ) (at : slice_get program.reactions a ≡ Some x) (q : Declared PortTree) → slice_get (declared ports_of flat.instances) p ≡ Some q → Contains x.effects (Port p) → Writes (reaction_at tree program flat a x at).declaration q
@@ -93,8 +93,8 @@ module _ (tree : FileTree) (program : Parts) (flat : Flat tree program) where
         let o = reaction_at tree program flat a x at in
         let d = o.declaration in
         let k = at_contains x.effects (Port p) has in
-        let z = AllZip-from (IsName flat.instances d.located) d.item.effects x.effects o.is.effects k.0 (Port p) k.1 in
-        let n : IsName flat.instances d.located z.0 (Port p) = z.2 in
+        let z = AllZip-from (IsFlatName flat.instances d.located) d.item.effects x.effects o.is.effects k.0 (Port p) k.1 in
+        let n : IsFlatName flat.instances d.located z.0 (Port p) = z.2 in
         let t = thing_from (λ y. y.name) (declared ports_of flat.instances) p n.0 n.2 in
         let same : t.0 ≡ q = Some_same t.0 q (sym t.1 ∙ at_q) in
         let whole : stands_for d.located.inside.reactor d.located.path z.0 ≡ Some (thing_at q.located.path q.item.name) = n.1 ∙ ap Some (sym t.2) ∙ ap (λ w. Some (thing_at w.located.path w.item.name)) same in
@@ -105,8 +105,8 @@ module _ (tree : FileTree) (program : Parts) (flat : Flat tree program) where
         let o = reaction_at tree program flat a x at_a in
         let e = reaction_at tree program flat b y at_b in
         let k = at_contains x.effects (Port p) has in
-        let z = AllZip-from (IsName flat.instances o.declaration.located) o.declaration.item.effects x.effects o.is.effects k.0 (Port p) k.1 in
-        let n : IsName flat.instances o.declaration.located z.0 (Port p) = z.2 in
+        let z = AllZip-from (IsFlatName flat.instances o.declaration.located) o.declaration.item.effects x.effects o.is.effects k.0 (Port p) k.1 in
+        let n : IsFlatName flat.instances o.declaration.located z.0 (Port p) = z.2 in
         let t = thing_from (λ w. w.name) (declared ports_of flat.instances) p n.0 n.2 in
         let path = same_path o.declaration e.declaration t.0 (writes_it a x p at_a t.0 t.1 has) (writes_it b y p at_b t.0 t.1 other) in
         let one = path_once tree flat.instances flat.are_located o.declaration.instance e.declaration.instance o.declaration.located e.declaration.located o.at.located e.at.located path in

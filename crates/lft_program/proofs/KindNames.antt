@@ -5,7 +5,8 @@ use Rattle.lft_lists.proofs.{Places.Some_same, Mapped.mapped, Picked.map-filter_
 use Rattle.lft_tree.specs.Tree.{ReactorTree, InstanceTree, instances_of, ports_of, actions_of, timers_of, instance_in, port_in, action_in, timer_in}
 use Rattle.lft_resolve.specs.declared.expansion.{numbering.Thing.Thing, walk.Instance.Instance}
 use Rattle.lft_program.specs.Located.{Located, declared, Declared}
-use Rattle.lft_program.specs.inner.{Nests.{IsInstanceOf, IsNumbering, IsThingOf}, OwnNames.own_names, TreeLists.{name_at, placed_at, seen, Says, IsPlacedAt}}
+use Rattle.lft_program.specs.inner.{Nests.{IsInstanceOf, IsNumbering, IsThingOf}, OwnNames.own_names}
+use Rattle.lft_program.specs.inner.TreeLists.{name_at, placed_at, seen, SaysDeclaration, IsPlacedAt}
 use Rattle.lft_program.specs.declared.{nesting.nest.Numbering.Numbering, naming.{OwnName.OwnName, PlacedReaction.PlacedReaction}}
 use Rattle.lft_program.proofs.{Counting.base, Listing.{declared_from, declared-length}, Zipping.{zip_at, zip_back, zip_long, zip_of}, Sites.AreSites}
 use Rattle.lft_program.specs.declared.own_names.MemberKind.TheVariants as kinds
@@ -58,13 +59,13 @@ module _ (rs : List ReactorTree) (located : List Located) (instances : List Inst
 
       pub told : (things : List Thing) → AllZip IsThingOf (declared kind located) things
           → (xs : List OwnName) → map seen xs ≡ map (λ t. (t.instance, name_at (map names rs) instances t.instance t.place)) things
-          → AllZip (Says name) (declared kind located) xs
-      told things all xs is = zip_of (Says name) (declared kind located) xs long each
+          → AllZip (SaysDeclaration name) (declared kind located) xs
+      told things all xs is = zip_of (SaysDeclaration name) (declared kind located) xs long each
         where
           long : length (declared kind located) ≡ length xs
           long = zip_long IsThingOf (declared kind located) things all ∙ sym (length-map things (λ t. (t.instance, name_at (map names rs) instances t.instance t.place))) ∙ sym (ap length is) ∙ length-map xs seen
 
-          each : (k : ℕ) (d : Declared X) (x : OwnName) → slice_get (declared kind located) k ≡ Some d → slice_get xs k ≡ Some x → Says name d x
+          each : (k : ℕ) (d : Declared X) (x : OwnName) → slice_get (declared kind located) k ≡ Some d → slice_get xs k ≡ Some x → SaysDeclaration name d x
           each k d x at_d at_x =
               let stands = declared_from kind located k d at_d in
               let t = zip_at IsThingOf (declared kind located) things all k d at_d in
@@ -77,17 +78,17 @@ module _ (rs : List ReactorTree) (located : List Located) (instances : List Inst
       -- the same of lists that are these
       pub told_as : (trees : List ReactorTree) → trees ≡ rs → (made : List Instance) → made ≡ instances → (listed things : List Thing) → listed ≡ things → AllZip IsThingOf (declared kind located) things
           → (xs : List OwnName) → map seen xs ≡ map (λ t. (t.instance, name_at (map names trees) made t.instance t.place)) listed
-          → AllZip (Says name) (declared kind located) xs
+          → AllZip (SaysDeclaration name) (declared kind located) xs
       told_as trees same_trees made same_made listed things same_listed all xs is =
           told things all xs (is
           ∙ ap (λ l. map (λ t. (t.instance, name_at (map names l) made t.instance t.place)) listed) same_trees
           ∙ ap (λ l. map (λ t. (t.instance, name_at (map names rs) l t.instance t.place)) listed) same_made
           ∙ ap (λ l. map (λ t. (t.instance, name_at (map names rs) instances t.instance t.place)) l) same_listed)
 
-      pub sites : (xs : List OwnName) → AllZip (Says name) (declared kind located) xs → AreSites located names xs
+      pub sites : (xs : List OwnName) → AllZip (SaysDeclaration name) (declared kind located) xs → AreSites located names xs
       sites xs all = record {
         site = λ i x at.
-            let d = zip_back (Says name) (declared kind located) xs all i x at in
+            let d = zip_back (SaysDeclaration name) (declared kind located) xs all i x at in
             let stands = declared_from kind located i d.0 d.1 in
             record {
               at = d.0.located;
@@ -96,14 +97,14 @@ module _ (rs : List ReactorTree) (located : List Located) (instances : List Inst
               name = item_name d.0.located.inside.reactor d.0.place d.0.item stands.place ∙ ap Some (sym d.2.1);
             };
         one = λ i j a b at_a at_b instance place.
-            let c = zip_back (Says name) (declared kind located) xs all i a at_a in
-            let d = zip_back (Says name) (declared kind located) xs all j b at_b in
+            let c = zip_back (SaysDeclaration name) (declared kind located) xs all i a at_a in
+            let d = zip_back (SaysDeclaration name) (declared kind located) xs all j b at_b in
             one_declared i j c.0 d.0 c.1 d.1 (sym c.2.0 ∙ instance ∙ d.2.0) place;
       }
 
-      pub few_told : (limit : ℕ) (n : Numbering) → IsNumbering kind rs instances limit n → (xs : List OwnName) → AllZip (Says name) (declared kind located) xs → length xs ≤ limit
+      pub few_told : (limit : ℕ) (n : Numbering) → IsNumbering kind rs instances limit n → (xs : List OwnName) → AllZip (SaysDeclaration name) (declared kind located) xs → length xs ≤ limit
       few_told limit n numbering xs all =
-          let a = zip_long (Says name) (declared kind located) xs all in
+          let a = zip_long (SaysDeclaration name) (declared kind located) xs all in
           let b = declared-length kind rs located instances limit n zipped numbering in
           let c = numbering.few in
           omega arith

@@ -4,7 +4,7 @@ use Rattle.std.proofs.lemmas.{List.Sums.sum_by-cons, Option.slice_get_within}
 use Rattle.lft_lists.proofs.Places.{get_there}
 use Rattle.lft_tree.specs.Tree.{FileTree, reactors_of}
 use Rattle.lft_tag.specs.{Shifts.{join_all, none}, declared.{Shift.Shift, Source.Source}}
-use Rattle.lft_resolve.specs.{inner.Expansion.Sources.{Origin, itself, over, IsFolded, IsReached, AreReached}, declared.expansion.origins.Reached.Reached}
+use Rattle.lft_resolve.specs.{inner.Expansion.Sources.{ChainOrigin, itself, over, IsFolded, IsReached, AreReached}, declared.expansion.origins.Reached.Reached}
 use Rattle.lft_resolve.specs.{Causes.{DelayTooLong, HasLongChain, HasLongTime}, Instances.{Thing, Chain, Connects, one as one_step, more as more_steps}}
 use Rattle.lft_resolve.proofs.ExpansionLemmas.Folding.{time_sum}
 use Rattle.lft_program.{specs.inner.Linking.IsTooLong, proofs.Connected.{NoLongTime, TreeSources}}
@@ -15,7 +15,7 @@ sum_append (x ∷ xs) ys = let a = sum_append xs ys in let e : sum (x ∷ xs) �
 
 module _ (tree : FileTree) (ports : List Thing) (sources : List (Option Source)) (w : TreeSources tree ports sources) (short : NoLongTime tree) where
   -- the delays of a port's sources are those of a chain of connections, if there are any
-  chain_from : (p o : ℕ) (t : Thing) (ds : List ℕ) → Origin sources p o ds → slice_get ports p ≡ Some t → (ds ≡ []) ⊎ ((a : Thing) × Chain tree a t ds)
+  chain_from : (p o : ℕ) (t : Thing) (ds : List ℕ) → ChainOrigin sources p o ds → slice_get ports p ≡ Some t → (ds ≡ []) ⊎ ((a : Thing) × Chain tree a t ds)
   chain_from p o t ds (itself e) f = inl refl
   chain_from p o t ds (over source first e rest d) f = by (chain_from source.port o j.0 first rest j.2)
     where
@@ -30,14 +30,14 @@ module _ (tree : FileTree) (ports : List Thing) (sources : List (Option Source))
       by (inr c) = inr (c.0, more_steps first j.1 c.1 j.3 (d ∙ ap (λ l. first ++ l) (sym delay)))
 
   -- the last delay of a port's sources is that of its source
-  pub last_of : (p o : ℕ) (s : Source) (all : List ℕ) → slice_get sources p ≡ Some (Some s) → Origin sources p o all → (first : List ℕ) × Origin sources s.port o first × (all ≡ first ++ option_to_list s.delay)
+  pub last_of : (p o : ℕ) (s : Source) (all : List ℕ) → slice_get sources p ≡ Some (Some s) → ChainOrigin sources p o all → (first : List ℕ) × ChainOrigin sources s.port o first × (all ≡ first ++ option_to_list s.delay)
   last_of p o s all e (itself f) = absurd (cc)
   last_of p o s all e (over source first f rest d) =
       let z : source ≡ s = (let y : Some (Some source) ≡ Some (Some s) = sym f ∙ e in cc) in
-      (first, subst (λ (x : Source). Origin sources x.port o first) z rest, d ∙ ap (λ (x : Source). first ++ option_to_list x.delay) z)
+      (first, subst (λ (x : Source). ChainOrigin sources x.port o first) z rest, d ∙ ap (λ (x : Source). first ++ option_to_list x.delay) z)
 
   -- a chain of connections into a port is a part of the chain of its sources
-  pub part_of : (a t : Thing) (ds : List ℕ) → Chain tree a t ds → (p : ℕ) × (slice_get ports p ≡ Some t) × ((o : ℕ) (all : List ℕ) → Origin sources p o all → (before : List ℕ) × (all ≡ before ++ ds))
+  pub part_of : (a t : Thing) (ds : List ℕ) → Chain tree a t ds → (p : ℕ) × (slice_get ports p ≡ Some t) × ((o : ℕ) (all : List ℕ) → ChainOrigin sources p o all → (before : List ℕ) × (all ≡ before ++ ds))
   part_of a t ds (one_step d c e) =
       let j = w.complete a t d c in
       (j.0, j.2, λ o all r. let l = last_of j.0 o j.1 all j.3 r in (l.0, l.2 ∙ ap (λ x. l.0 ++ x) (sym (ap option_to_list (j.5 short)) ∙ sym e)))
@@ -49,7 +49,7 @@ module _ (tree : FileTree) (ports : List Thing) (sources : List (Option Source))
         j.2,
         λ o all g.
             let l = last_of j.0 o j.1 all j.3 g in
-            let m = r.2 o l.0 (subst (λ k. Origin sources k o l.0) same l.1) in
+            let m = r.2 o l.0 (subst (λ k. ChainOrigin sources k o l.0) same l.1) in
             (m.0, l.2 ∙ ap (λ x. x ++ option_to_list j.1.delay) m.1 ∙ append_assoc m.0 first (option_to_list j.1.delay) ∙ ap (λ x. m.0 ++ x) (ap (λ x. first ++ x) (sym (ap option_to_list (j.5 short))) ∙ sym e)),
       )
 
@@ -77,7 +77,7 @@ module _ (tree : FileTree) (ports : List Thing) (sources : List (Option Source))
   no_long_no_cause all reached folded (inl time) = short time
   no_long_no_cause all reached folded (inr (a, t, ds, chain, long)) = let limit : s.0.time ≤ 1000000000000000000 = s.0.in_time in absurd (omega (arith, whole, time))
     where
-      p : (p : ℕ) × (slice_get ports p ≡ Some t) × ((o : ℕ) (all : List ℕ) → Origin sources p o all → (before : List ℕ) × (all ≡ before ++ ds))
+      p : (p : ℕ) × (slice_get ports p ≡ Some t) × ((o : ℕ) (all : List ℕ) → ChainOrigin sources p o all → (before : List ℕ) × (all ≡ before ++ ds))
       p = part_of a t ds chain
 
       r : (r : Reached) × (slice_get all p.0 ≡ Some r)

@@ -3,7 +3,7 @@ use Rattle.std.proofs.Common.{◌≡◌, ℕ, List, length, sym, ◌∙◌, subs
 use Rattle.std.proofs.lemmas.Option.{slice_get_within}
 use Rattle.lft_lists.proofs.Places.{get_there}
 use Rattle.lft_tree.specs.Tree.{FileTree, ReactorTree, reactors_of}
-use Rattle.lft_resolve.specs.inner.{Expansion.{Contents.contained, Numbers.{HasMoreThings, IsThing}}, Numbers.AreContents}
+use Rattle.lft_resolve.specs.inner.{Expansion.{Contents.contained, Numbers.{HasMoreThings, IsThingByPath}}, Numbers.AreContents}
 use Rattle.lft_resolve.specs.{Expansion.Paths.{Exists, IsMoreThan, along}, declared.expansion.walk.Contents.Contents, Causes.IsDeclaredAt}
 use Rattle.lft_resolve.specs.Instances.{Inside, IsInside, entered, main_instance, main_of}
 use Rattle.lft_resolve.proofs.ExpansionLemmas.Simulation.{along_back, along_forth}
@@ -36,14 +36,14 @@ module _ (tree : FileTree) (table : List Contents) (main : ℕ) (first : Reactor
   more_numbers limit w = more_so (LeadsIn tree) (Exists (contained table) main) limit (λ p e. let b = leads_forth p e.0 e.1 in (b.0, b.1)) w
 
   module _ {X : Type 0} (kind : ReactorTree → List X) (counts : List ℕ) (counted : counts ≡ map (λ r. length (kind r)) (reactors_of tree)) (limit : ℕ) where
-    declared_back : (d : List ℕ × ℕ) → IsThing table main counts d → IsDeclaredAt tree kind d
+    declared_back : (d : List ℕ × ℕ) → IsThingByPath table main counts d → IsDeclaredAt tree kind d
     declared_back d (n, e, l) =
         let b = leads_back d.0 n e in
         let c = count_is kind (reactors_of tree) counts counted n b.0.reactor b.2 in
         let item = get_there (kind b.0.reactor) d.1 (omega arith) in
         (b.0, item.0, b.1, item.1)
 
-    declared_forth : (d : List ℕ × ℕ) → IsDeclaredAt tree kind d → IsThing table main counts d
+    declared_forth : (d : List ℕ × ℕ) → IsDeclaredAt tree kind d → IsThingByPath table main counts d
     declared_forth d (x, item, is, at) =
         let b = leads_forth d.0 x is in
         let c = count_is kind (reactors_of tree) counts counted b.0 x.reactor b.2 in
@@ -51,7 +51,7 @@ module _ (tree : FileTree) (table : List Contents) (main : ℕ) (first : Reactor
         (b.0, b.1, omega arith)
 
     pub more_declared : HasMoreThings table main counts limit → IsMoreThan (IsDeclaredAt tree kind) limit
-    more_declared w = more_so (IsThing table main counts) (IsDeclaredAt tree kind) limit declared_back w
+    more_declared w = more_so (IsThingByPath table main counts) (IsDeclaredAt tree kind) limit declared_back w
 
     pub more_things : IsMoreThan (IsDeclaredAt tree kind) limit → HasMoreThings table main counts limit
-    more_things w = more_so (IsDeclaredAt tree kind) (IsThing table main counts) limit declared_forth w
+    more_things w = more_so (IsDeclaredAt tree kind) (IsThingByPath table main counts) limit declared_forth w

@@ -3,7 +3,7 @@ use Rattle.std.proofs.Common.{◌≡◌, ℕ, zero, suc, ◌+◌, ◌<◌, ◌�
 use Rattle.std.{specs.List.{AllZip, enumerate_from}, proofs.lemmas.{Option.slice_get_within, List.{length-map, FromFn.length-enumerate_from}}}
 use Rattle.lft_lists.proofs.{Mapped.{mapped, mapped_from}, Places.get_append_cases}
 use Rattle.lft_tree.specs.Tree.{FileTree, ReactorTree, reactors_of}
-use Rattle.lft_resolve.specs.inner.Expansion.{Listing.AreListed, Numbers.{count_of, things}}
+use Rattle.lft_resolve.specs.inner.Expansion.{Listing.AreThingsListed, Numbers.{count_of_things, things}}
 use Rattle.lft_resolve.specs.declared.expansion.{numbering.Thing.Thing, walk.Instance.Instance}
 use Rattle.lft_program.specs.{Located.{Located, Declared, declared, declared_in}, inner.Nests.{IsInstanceOf, IsNest, IsNumbering, IsThingOf}}
 use Rattle.lft_program.specs.declared.nesting.{nest.{Nest.Nest, Numbering.Numbering}, tables.Tables.Tables}
@@ -51,10 +51,10 @@ declared_from {X} kind located k d at =
 -- ---- counted by reactor and counted by declaration
 
 module _ {X : Type 0} (kind : ReactorTree → List X) (rs : List ReactorTree) (counts : List ℕ) (are : counts ≡ map (λ r. length (kind r)) rs) where
-  pub count_is : (n : ℕ) (r : ReactorTree) → slice_get rs n ≡ Some r → count_of counts n ≡ length (kind r)
+  pub count_is : (n : ℕ) (r : ReactorTree) → slice_get rs n ≡ Some r → count_of_things counts n ≡ length (kind r)
   count_is n r at = ap (λ l. unwrap_or (slice_get l n) 0) are ∙ ap (λ o. unwrap_or o 0) (mapped (λ r. length (kind r)) rs n r at)
 
-  own : (i : ℕ) (l : Located) (instance : Instance) → IsInstanceOf rs l instance → length (declared_in kind (i, l)) ≡ count_of counts instance.reactor
+  own : (i : ℕ) (l : Located) (instance : Instance) → IsInstanceOf rs l instance → length (declared_in kind (i, l)) ≡ count_of_things counts instance.reactor
   own i l instance is = length-map (enumerate_from 0 (kind l.inside.reactor)) _ ∙ length-enumerate_from 0 (kind l.inside.reactor) ∙ sym (count_is instance.reactor l.inside.reactor is)
 
   before : (i : ℕ) (located : List Located) (instances : List Instance) (n : ℕ) → AllZip (IsInstanceOf rs) located instances → total (declared_in kind) n (enumerate_from i located) ≡ things counts (take n instances)
@@ -63,9 +63,9 @@ module _ {X : Type 0} (kind : ReactorTree → List X) (rs : List ReactorTree) (c
   before i [] (x ∷ instances) (suc n) all = absurd all
   before i (l ∷ located) [] (suc n) all = absurd all
   before i (l ∷ located) (x ∷ instances) (suc n) all =
-      let a : length (declared_in kind (i, l)) ≡ count_of counts x.reactor = own i l x all.0 in
+      let a : length (declared_in kind (i, l)) ≡ count_of_things counts x.reactor = own i l x all.0 in
       let b : total (declared_in kind) n (enumerate_from (i + 1) located) ≡ things counts (take n instances) = before (i + 1) located instances n all.1 in
-      ap (λ k. k + total (declared_in kind) n (enumerate_from (i + 1) located)) a ∙ ap (λ k. count_of counts x.reactor + k) b
+      ap (λ k. k + total (declared_in kind) n (enumerate_from (i + 1) located)) a ∙ ap (λ k. count_of_things counts x.reactor + k) b
 
   pub base_is : (located : List Located) (instances : List Instance) (n : ℕ) → AllZip (IsInstanceOf rs) located instances → base kind located n ≡ things counts (take n instances)
   base_is located instances n all = before 0 located instances n all
@@ -75,9 +75,9 @@ module _ {X : Type 0} (kind : ReactorTree → List X) (rs : List ReactorTree) (c
   whole i [] (x ∷ instances) all = absurd all
   whole i (l ∷ located) [] all = absurd all
   whole i (l ∷ located) (x ∷ instances) all =
-      let a : length (declared_in kind (i, l)) ≡ count_of counts x.reactor = own i l x all.0 in
+      let a : length (declared_in kind (i, l)) ≡ count_of_things counts x.reactor = own i l x all.0 in
       let b = whole (i + 1) located instances all.1 in
-      length-append (declared_in kind (i, l)) (flat_map (declared_in kind) (enumerate_from (i + 1) located)) ∙ ap (λ k. k + length (flat_map (declared_in kind) (enumerate_from (i + 1) located))) a ∙ ap (λ k. count_of counts x.reactor + k) b
+      length-append (declared_in kind (i, l)) (flat_map (declared_in kind) (enumerate_from (i + 1) located)) ∙ ap (λ k. k + length (flat_map (declared_in kind) (enumerate_from (i + 1) located))) a ∙ ap (λ k. count_of_things counts x.reactor + k) b
 
   pub declared_long : (located : List Located) (instances : List Instance) → AllZip (IsInstanceOf rs) located instances → length (declared kind located) ≡ things counts instances
   declared_long located instances all = whole 0 located instances all
@@ -87,20 +87,20 @@ module _ {X : Type 0} (kind : ReactorTree → List X) (rs : List ReactorTree) (c
 pub declared-length : {X : Type 0} (kind : ReactorTree → List X) (rs : List ReactorTree) (located : List Located) (instances : List Instance) (limit : ℕ) (n : Numbering) → AllZip (IsInstanceOf rs) located instances → IsNumbering kind rs instances limit n → length (declared kind located) ≡ things n.counts.items instances
 declared-length kind rs located instances limit n all is = declared_long kind rs n.counts.items is.counts located instances all
 
-pub listed : {X : Type 0} (kind : ReactorTree → List X) (rs : List ReactorTree) (located : List Located) (instances : List Instance) (limit : ℕ) (n : Numbering) (all : List Thing) → AllZip (IsInstanceOf rs) located instances → IsNumbering kind rs instances limit n → AreListed n.counts.items instances all → AllZip IsThingOf (declared kind located) all
+pub listed : {X : Type 0} (kind : ReactorTree → List X) (rs : List ReactorTree) (located : List Located) (instances : List Instance) (limit : ℕ) (n : Numbering) (all : List Thing) → AllZip (IsInstanceOf rs) located instances → IsNumbering kind rs instances limit n → AreThingsListed n.counts.items instances all → AllZip IsThingOf (declared kind located) all
 listed {X} kind rs located instances limit n all zipped is are = zip_of IsThingOf (declared kind located) all (declared-length kind rs located instances limit n zipped is ∙ sym are.as_long) each
   where
     each : (k : ℕ) (d : Declared X) (t : Thing) → slice_get (declared kind located) k ≡ Some d → slice_get all k ≡ Some t → IsThingOf d t
     each k d t at there =
         let s = declared_from kind located k d at in
         let i = zip_at (IsInstanceOf rs) located instances zipped d.instance d.located s.instance in
-        let within : d.place < count_of n.counts.items i.0.reactor = (let l = slice_get_within (kind d.located.inside.reactor) d.place d.item s.place in let c = count_is kind rs n.counts.items is.counts i.0.reactor d.located.inside.reactor i.2 in omega arith) in
+        let within : d.place < count_of_things n.counts.items i.0.reactor = (let l = slice_get_within (kind d.located.inside.reactor) d.place d.item s.place in let c = count_is kind rs n.counts.items is.counts i.0.reactor d.located.inside.reactor i.2 in omega arith) in
         let number : k ≡ things n.counts.items (take d.instance instances) + d.place = s.number ∙ ap (λ b. b + d.place) (base_is kind rs n.counts.items is.counts located instances d.instance zipped) in
         let e : Some t ≡ Some (record { instance = d.instance; place = d.place }) = sym there ∙ ap (slice_get all) number ∙ are.each d.instance d.place i.0 i.1 within in
         let same : t ≡ record { instance = d.instance; place = d.place } = cc in
         (ap (λ x. x.instance) same, ap (λ x. x.place) same)
 
 -- the same of what a call answered about lists that are the nest's
-pub listed_ok : {X V E : Type 0} (items : V → List Thing) (kind : ReactorTree → List X) (limit : ℕ) (nest : Nest) (n : Numbering) (instances : List Instance) (counts : List ℕ) (r : Result V E) → ((tree : FileTree) (tables : Tables) → IsNest tree tables nest → IsNumbering kind (reactors_of tree) nest.instances.items limit n) → instances ≡ nest.instances.items → counts ≡ n.counts.items → IfOk r (λ v. AreListed counts instances (items v)) → IfOk r (λ v. (tree : FileTree) → (tables : Tables) → (w : IsNest tree tables nest) → AllZip IsThingOf (declared kind w.located) (items v))
-listed_ok items kind limit nest n instances counts (Ok v) is e f are = λ tree tables w. listed kind (reactors_of tree) w.located nest.instances.items limit n (items v) w.instances (is tree tables w) (subst (λ l. AreListed n.counts.items l (items v)) e (subst (λ l. AreListed l instances (items v)) f are))
+pub listed_ok : {X V E : Type 0} (items : V → List Thing) (kind : ReactorTree → List X) (limit : ℕ) (nest : Nest) (n : Numbering) (instances : List Instance) (counts : List ℕ) (r : Result V E) → ((tree : FileTree) (tables : Tables) → IsNest tree tables nest → IsNumbering kind (reactors_of tree) nest.instances.items limit n) → instances ≡ nest.instances.items → counts ≡ n.counts.items → IfOk r (λ v. AreThingsListed counts instances (items v)) → IfOk r (λ v. (tree : FileTree) → (tables : Tables) → (w : IsNest tree tables nest) → AllZip IsThingOf (declared kind w.located) (items v))
+listed_ok items kind limit nest n instances counts (Ok v) is e f are = λ tree tables w. listed kind (reactors_of tree) w.located nest.instances.items limit n (items v) w.instances (is tree tables w) (subst (λ l. AreThingsListed n.counts.items l (items v)) e (subst (λ l. AreThingsListed l instances (items v)) f are))
 listed_ok items kind limit nest n instances counts (Err x) is e f are = are

@@ -3,8 +3,8 @@ use Rattle.std.proofs.Common.{◌≡◌, ℕ, ◌<◌, ◌≤◌, ◌⊎◌, inl
 use Rattle.std.proofs.lemmas.Bool.{cases_lt}
 use Rattle.lft_lists.proofs.{Places.push_apart, Mapped.{mapped, mapped_from}}
 use Rattle.lft_tree.specs.Tree.{FileTree, reactors_of}
-use Rattle.lft_resolve.specs.{declared.expansion.walk.Instance.Instance, Expansion.Paths.along, inner.Expansion.{Children.{child_of, IsChild}, Contents.IsAt}}
-use Rattle.lft_resolve.specs.Instances.{Inside, IsInside, entered, main_instance}
+use Rattle.lft_resolve.specs.{declared.expansion.walk.Instance.Instance, Expansion.Paths.along}
+use Rattle.lft_resolve.specs.{inner.Expansion.{Children.{child_of, IsChild}, Contents.IsInstanceAtPath}, Instances.{Inside, IsInside, entered, main_instance}}
 use Rattle.lft_resolve.proofs.ExpansionLemmas.Orders.{before_itself}
 use Rattle.lft_program.specs.{Located.Located, inner.Nests.{IsNest, IsInstanceOf}, declared.nesting.{nest.Nest.Nest, tables.Tables.Tables}}
 use Rattle.lft_program.proofs.{Elements.some_step, Zipping.{zip_at, zip_back}}
@@ -65,7 +65,7 @@ module _ (tree : FileTree) (tables : Tables) (nest : Nest) (n : IsNest tree tabl
       made : (i : Instance) × (slice_get nest.instances.items k ≡ Some i) × (slice_get (reactors_of tree) i.reactor ≡ Some m.inside.reactor)
       made = instance_of k m b
 
-      is_at : IsAt tables.contents.items tables.main n.walk.paths k made.0 m.path
+      is_at : IsInstanceAtPath tables.contents.items tables.main n.walk.paths k made.0 m.path
       is_at = n.walk.each k made.0 m.path made.1 (path_of k m b)
 
       later : (k < 1) ⊎ (1 ≤ k) → 0 < k

@@ -3,7 +3,7 @@ use Rattle.std.proofs.Common.{◌≡◌, ℕ, suc, ◌+◌, ⊎_elim, List, [], 
 use Rattle.std.proofs.lemmas.{Bool.cases_lt, List.length-map, Option.slice_get_within}
 use Rattle.lft_program.proofs.{NamesOnce.{port_names, timer_names, action_names, instance_names}, Placed.path_once, Counting.base}
 use Rattle.lft_program.proofs.{Listing.{Stands, declared_from}, OneInstances.{in_file, inside_at}}
-use Rattle.lft_program.specs.{Located.{Located, AreLocated, Declared, declared, things, ports_in, actions_in, timers_in}, inner.Tables.IsLawful}
+use Rattle.lft_program.specs.{Located.{Located, AreLocated, Declared, declared, declared_things, ports_in, actions_in, timers_in}, inner.Tables.IsLawful}
 use Rattle.lft_lists.proofs.{Mapped.{mapped, mapped_from}, Places.{get_left, Some_same}}
 use Rattle.lft_tree.specs.Tree.{FileTree, ReactorTree, PortTree, TimerTree, ActionTree, reactors_of, ports_of, timers_of, actions_of}
 use Rattle.lft_resolve.{specs.{Causes.IsTwice, Instances.{Thing, thing_at}, Kinds.names_in}, proofs.Effects.names_once}
@@ -69,7 +69,7 @@ module _ (tree : FileTree) (lawful : IsLawful tree) (all : List Located) (are : 
       item : slice_get (other first.located.inside.reactor) second.place ≡ Some second.item
       places : before first.located.inside.reactor + first.place ≡ after first.located.inside.reactor + second.place
 
-    meets : ((r : ReactorTree) (k : ℕ) (x : X) → slice_get (kind r) k ≡ Some x → slice_get (names_in r) (before r + k) ≡ Some (name x)) → ((r : ReactorTree) (k : ℕ) (y : Y) → slice_get (other r) k ≡ Some y → slice_get (names_in r) (after r + k) ≡ Some (called y)) → (t : Thing) (p q : ℕ) → slice_get (things name (declared kind all)) p ≡ Some t → slice_get (things called (declared other all)) q ≡ Some t → Meets p q
+    meets : ((r : ReactorTree) (k : ℕ) (x : X) → slice_get (kind r) k ≡ Some x → slice_get (names_in r) (before r + k) ≡ Some (name x)) → ((r : ReactorTree) (k : ℕ) (y : Y) → slice_get (other r) k ≡ Some y → slice_get (names_in r) (after r + k) ≡ Some (called y)) → (t : Thing) (p q : ℕ) → slice_get (declared_things name (declared kind all)) p ≡ Some t → slice_get (declared_things called (declared other all)) q ≡ Some t → Meets p q
     meets name_at called_at t p q at_p at_q =
         let d = mapped_from (λ (d : Declared X). thing_at d.located.path (name d.item)) (declared kind all) p t at_p in
         let e = mapped_from (λ (d : Declared Y). thing_at d.located.path (called d.item)) (declared other all) q t at_q in

@@ -3,7 +3,7 @@ use Rattle.std.proofs.Common.{◌≡◌, ◌<◌, ℕ, List, Some, None, map, le
 use Rattle.std.proofs.lemmas.Option.{slice_get_within}
 use Rattle.lft_lists.proofs.{Mapped.mapped_from, Places.get_there}
 use Rattle.lft_tree.specs.Tree.{FileTree}
-use Rattle.lft_resolve.specs.inner.Expansion.Sources.{Origin as OriginBefore, itself as itself_before, over as over_before}
+use Rattle.lft_resolve.specs.inner.Expansion.Sources.{ChainOrigin as OriginBefore, itself as itself_before, over as over_before}
 use Rattle.lft_resolve.specs.declared.expansion.numbering.Thing.{Thing}
 use Rattle.lft_program.specs.{declared.nesting.{linking.Linked.Linked, nest.Nest.Nest, tables.Tables.Tables}, inner.OfTree.AreOfTree}
 use Rattle.lft_program.proofs.{Making.Made, PortsLaid.IsLinkedPort}

@@ -4,21 +4,21 @@ use Rattle.std.specs.{List.{AllZip, enumerate_from}, Option.option_map}
 use Rattle.std.proofs.lemmas.{Option.slice_get_within, List.{length-map, FromFn.length-enumerate_from}}
 use Rattle.lft_lists.proofs.{Mapped.{mapped, mapped_from}, Places.get_there}
 use Rattle.lft_tree.specs.Tree.{FileTree, ReactorTree, reactors_of}
-use Rattle.lft_resolve.specs.{declared.expansion.walk.Instance.Instance, inner.Expansion.{Joins.port_at, Numbers.{count_of, things as how_many}}}
+use Rattle.lft_resolve.specs.{declared.expansion.walk.Instance.Instance, inner.Expansion.{Joins.port_at, Numbers.{count_of_things, things as how_many}}}
 use Rattle.lft_resolve.specs.Instances.{Thing, thing_at}
-use Rattle.lft_program.specs.{Located.{Located, Declared, declared, declared_in, things}, inner.Nests.{IsNest, IsNumbering, IsInstanceOf}}
+use Rattle.lft_program.specs.{Located.{Located, Declared, declared, declared_in, declared_things}, inner.Nests.{IsNest, IsNumbering, IsInstanceOf}}
 use Rattle.lft_program.specs.declared.nesting.{nest.{Nest.Nest, Numbering.Numbering}, tables.Tables.Tables}
 use Rattle.lft_program.proofs.{Counting.{total, base, declared_at}, Elements.{From, flat_back, enumerate_back}, Nested.{one_number, instance_of}}
 
 -- how many each instance declares
 module _ {X : Type 0} (kind : ReactorTree → List X) (rs : List ReactorTree) (counts : List ℕ) (is_counts : counts ≡ map (λ r. length (kind r)) rs) where
-  pub count_is : (n : ℕ) (r : ReactorTree) → slice_get rs n ≡ Some r → count_of counts n ≡ length (kind r)
+  pub count_is : (n : ℕ) (r : ReactorTree) → slice_get rs n ≡ Some r → count_of_things counts n ≡ length (kind r)
   count_is n r e = ap (λ c. unwrap_or (slice_get c n) 0) is_counts ∙ ap (λ o. unwrap_or o 0) (mapped (λ x. length (kind x)) rs n r e)
 
   length_in : (n : ℕ) (l : Located) → length (declared_in kind (n, l)) ≡ length (kind l.inside.reactor)
   length_in n l = length-map (enumerate_from 0 (kind l.inside.reactor)) _ ∙ length-enumerate_from 0 (kind l.inside.reactor)
 
-  one : (n : ℕ) (l : Located) (i : Instance) → IsInstanceOf rs l i → count_of counts i.reactor ≡ length (declared_in kind (n, l))
+  one : (n : ℕ) (l : Located) (i : Instance) → IsInstanceOf rs l i → count_of_things counts i.reactor ≡ length (declared_in kind (n, l))
   one n l i e = count_is i.reactor l.inside.reactor e ∙ sym (length_in n l)
 
   some : (n : ℕ) (ls : List Located) (is : List Instance) → AllZip (IsInstanceOf rs) ls is → (k : ℕ) → how_many counts (take k is) ≡ total (declared_in kind) k (enumerate_from n ls)
@@ -95,15 +95,15 @@ declared_back {X} kind located p d e = subst Stands g.2 (instance, item, number)
     number = f.is_at ∙ ap (λ k. base kind located k + f.place) same ∙ ap (λ k. base kind located f.element.0 + k) same_place
 
 module _ {X : Type 0} (kind : ReactorTree → List X) (name : X → List ℕ) where
-  pub thing_forth : (located : List Located) (k place : ℕ) (l : Located) (x : X) → slice_get located k ≡ Some l → slice_get (kind l.inside.reactor) place ≡ Some x → slice_get (things name (declared kind located)) (base kind located k + place) ≡ Some (thing_at l.path (name x))
+  pub thing_forth : (located : List Located) (k place : ℕ) (l : Located) (x : X) → slice_get located k ≡ Some l → slice_get (kind l.inside.reactor) place ≡ Some x → slice_get (declared_things name (declared kind located)) (base kind located k + place) ≡ Some (thing_at l.path (name x))
   thing_forth located k place l x e f = mapped (λ d. thing_at d.located.path (name d.item)) (declared kind located) (base kind located k + place) (record { instance = k; located = l; place = place; item = x }) (declared_at kind located k place l x e f)
 
   -- what is declared under the number of a thing
-  pub thing_back : (located : List Located) (p : ℕ) (t : Thing) → slice_get (things name (declared kind located)) p ≡ Some t → (d : Declared X) × (slice_get (declared kind located) p ≡ Some d) × (thing_at d.located.path (name d.item) ≡ t)
+  pub thing_back : (located : List Located) (p : ℕ) (t : Thing) → slice_get (declared_things name (declared kind located)) p ≡ Some t → (d : Declared X) × (slice_get (declared kind located) p ≡ Some d) × (thing_at d.located.path (name d.item) ≡ t)
   thing_back located p t e = mapped_from (λ d. thing_at d.located.path (name d.item)) (declared kind located) p t e
 
   -- where no reactor declares a name twice, no thing has two numbers
-  pub distinct : (tree : FileTree) (tables : Tables) (nest : Nest) (n : IsNest tree tables nest) → ((k i j : ℕ) (l : Located) (x y : X) → slice_get n.located k ≡ Some l → slice_get (kind l.inside.reactor) i ≡ Some x → slice_get (kind l.inside.reactor) j ≡ Some y → name x ≡ name y → i ≡ j) → (p q : ℕ) (t : Thing) → slice_get (things name (declared kind n.located)) p ≡ Some t → slice_get (things name (declared kind n.located)) q ≡ Some t → p ≡ q
+  pub distinct : (tree : FileTree) (tables : Tables) (nest : Nest) (n : IsNest tree tables nest) → ((k i j : ℕ) (l : Located) (x y : X) → slice_get n.located k ≡ Some l → slice_get (kind l.inside.reactor) i ≡ Some x → slice_get (kind l.inside.reactor) j ≡ Some y → name x ≡ name y → i ≡ j) → (p q : ℕ) (t : Thing) → slice_get (declared_things name (declared kind n.located)) p ≡ Some t → slice_get (declared_things name (declared kind n.located)) q ≡ Some t → p ≡ q
   distinct tree tables nest n once p q t e f =
       let a = thing_back n.located p t e in
       let b = thing_back n.located q t f in

@@ -4,7 +4,7 @@ use Rattle.std.proofs.lemmas.{Option.slice_get_within, List.length-map}
 use Rattle.lft_lists.proofs.{Mapped.mapped_from, Places.{get_there, get_push_cases}}
 use Rattle.lft_tree.specs.Tree.{FileTree}
 use Rattle.lft_tag.specs.declared.{Shift.Shift, Source.Source}
-use Rattle.lft_resolve.specs.{inner.Expansion.Sources.{AreReached, Leads, Origin}, declared.expansion.origins.Reached.Reached}
+use Rattle.lft_resolve.specs.{inner.Expansion.Sources.{AreReached, LeadsBackwards, ChainOrigin}, declared.expansion.origins.Reached.Reached}
 use Rattle.lft_resolve.specs.{Causes.{DelayTooLong as HasLongDelay, IsFirst, NoneHolds}, Instances.{Thing, Connects}}
 use Rattle.lft_program.specs.{inner.{Linking.{IsLinked, IsTooLong, AreLinked}, Links.{AreLinks, last_causes}}, Links.IsSource, Located.{Located, ports_in}}
 use Rattle.lft_program.specs.declared.nesting.linking.Linked.{Linked}
@@ -40,10 +40,10 @@ same_list (x ∷ xs) (y ∷ ys) e h =
 
 module _ {tree : FileTree} (located : List Located) {sources : List (Option Source)} (w : TreeSources tree (ports_in located) sources) where
   -- the answer for a cycle
-  pub first_cycle : (p : ℕ) → Leads sources p p → IsFirst (last_causes tree) 10
+  pub first_cycle : (p : ℕ) → LeadsBackwards sources p p → IsFirst (last_causes tree) 10
   first_cycle p l = inl (refl, cycle_is_cause tree (ports_in located) sources w p l)
 
-  module _ (ends : (p : ℕ) → Leads sources p p → ⊥) where
+  module _ (ends : (p : ℕ) → LeadsBackwards sources p p → ⊥) where
     -- and for what is too long
     pub first_long : HasLongDelay tree → IsFirst (last_causes tree) 14
     first_long long = inr (no_cycle_no_cause tree (ports_in located) sources w ends, inl (refl, long))
@@ -83,5 +83,5 @@ module _ {tree : FileTree} (located : List Located) {sources : List (Option Sour
           sources = λ p t l e f. source p t e l.source (linked.each p l f).0;
           origins = λ p l f.
               let r = reached.each p (record { origin = l.origin; shift = Some l.shift }) (linked.each p l f).1 in
-              (r.delays, subst (λ ss. Origin ss p l.origin r.delays) (sym sources_are) r.origin, r.folded);
+              (r.delays, subst (λ ss. ChainOrigin ss p l.origin r.delays) (sym sources_are) r.origin, r.folded);
         }

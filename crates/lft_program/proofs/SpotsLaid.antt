@@ -6,11 +6,11 @@ use Rattle.lft_lists.proofs.Mapped.{option_map_some}
 use Rattle.lft_resolve.specs.inner.{Expansion.Joins.port_at, Places.place, Sheets.{AreCues, IsCue, IsReactions, IsSpot}}
 use Rattle.lft_resolve.specs.declared.{expansion.numbering.Thing.Thing, by_number.sheets.{Cue.Cue, Cues.Cues, NamedThing.NamedThing}}
 use Rattle.lft_resolve.specs.{Instances.{Thing as Spoken, thing_at, stands_inside, stands_for}, Sheets.without_timers}
-use Rattle.lft_program.specs.Located.{Located, Declared, declared, things}
-use Rattle.lft_program.specs.inner.{Nests.{IsNumbering, IsThingOf}, Laying.{Each, HasCues, HasName, HasTrigger, IsReactionAt, cues_at, name_at, trigger_at}}
+use Rattle.lft_program.specs.Located.{Located, Declared, declared, declared_things}
+use Rattle.lft_program.specs.inner.{Nests.{IsNumbering, IsThingOf}, Laying.{Each, HasCues, HasNamedThing, HasCue, IsReactionAt, cues_at, name_at, trigger_at}}
 use Rattle.lft_program.specs.inner.OfTree.{AreOfTree}
 use Rattle.lft_program.specs.declared.nesting.{linking.Linked.Linked, nest.{Nest.Nest, Numbering.Numbering}, tables.Tables.Tables}
-use Rattle.lft_program.specs.Flattening.{IsName, IsReaction, IsTrigger}
+use Rattle.lft_program.specs.Flattening.{IsFlatName, IsReaction, IsTrigger}
 use Rattle.lft_program.proofs.{Counting.base, Declared.declared_from, Ends.{place_at, standing}, Ports.{as_many, number_at, thing_forth}, Singles.place_forth}
 use Rattle.lft_program.proofs.{Zipping.zip_at, LaidOut.row_there, Making.{Made, made_zip}, Zips.AllZip-from}
 use Rattle.lft_ir.specs.declared.parts.{Name.{Name, TheVariants.{Port, Action}}, Reaction.Reaction}
@@ -41,15 +41,15 @@ module _ (tree : FileTree) (tables : Tables) (nest : Nest) (links : List Linked)
         let most = w.few in
         omega arith
 
-    few : (p : ℕ) (t : Spoken) → slice_get (things name (declared kind all)) p ≡ Some t → p ≤ limit
+    few : (p : ℕ) (t : Spoken) → slice_get (declared_things name (declared kind all)) p ≡ Some t → p ≤ limit
     few p t at =
-        let within = slice_get_within (things name (declared kind all)) p t at in
+        let within = slice_get_within (declared_things name (declared kind all)) p t at in
         let same = length-map (declared kind all) (λ d. thing_at d.located.path (name d.item)) in
         let most = declared_few in
         omega arith
 
     -- the thing of a name of the instance's own
-    own : (k : ℕ) (l : Located) → slice_get all k ≡ Some l → (ref : RefTree) (n : ℕ) → ref.port ≡ None → place ref.head (map name (kind l.inside.reactor)) ≡ Some n → (p : ℕ) × (t : Spoken) × (port_at numbers.firsts.items k n ≡ Some p) × (stands_for l.inside.reactor l.path ref ≡ Some t) × (slice_get (things name (declared kind all)) p ≡ Some t)
+    own : (k : ℕ) (l : Located) → slice_get all k ≡ Some l → (ref : RefTree) (n : ℕ) → ref.port ≡ None → place ref.head (map name (kind l.inside.reactor)) ≡ Some n → (p : ℕ) × (t : Spoken) × (port_at numbers.firsts.items k n ≡ Some p) × (stands_for l.inside.reactor l.path ref ≡ Some t) × (slice_get (declared_things name (declared kind all)) p ≡ Some t)
     own k l at ref n plain is =
         let x = place_forth name ref.head (kind l.inside.reactor) n is in (
           base kind all k + n,
@@ -61,7 +61,7 @@ module _ (tree : FileTree) (tables : Tables) (nest : Nest) (links : List Linked)
 
   module _ (k : ℕ) (l : Located) (at : slice_get all k ≡ Some l) where
     -- the number of what a spot is, and what it stands for
-    name_of : (ref : RefTree) (spot : NamedThing) → IsSpot (reactors_of tree) l.inside.reactor ref spot → HasName nest k spot × (x : Name) × (name_at nest k spot ≡ Some x) × IsName all l ref x
+    name_of : (ref : RefTree) (spot : NamedThing) → IsSpot (reactors_of tree) l.inside.reactor ref spot → HasNamedThing nest k spot × (x : Name) × (name_at nest k spot ≡ Some x) × IsFlatName all l ref x
     name_of ref (spots.Port end) is =
         let s = standing tree tables nest of.is_nest k l at ref end is in
         let p = base ports_of all s.owner + place_at end in (
@@ -78,18 +78,18 @@ module _ (tree : FileTree) (tables : Tables) (nest : Nest) (links : List Linked)
           (a.1, a.3, a.4),
         )
 
-    has_name : (ref : RefTree) (spot : NamedThing) → IsSpot (reactors_of tree) l.inside.reactor ref spot → HasName nest k spot
+    has_name : (ref : RefTree) (spot : NamedThing) → IsSpot (reactors_of tree) l.inside.reactor ref spot → HasNamedThing nest k spot
     has_name ref spot is = (name_of ref spot is).0
 
-    is_name : (ref : RefTree) (spot : NamedThing) (x : Name) → IsSpot (reactors_of tree) l.inside.reactor ref spot → name_at nest k spot ≡ Some x → IsName all l ref x
+    is_name : (ref : RefTree) (spot : NamedThing) (x : Name) → IsSpot (reactors_of tree) l.inside.reactor ref spot → name_at nest k spot ≡ Some x → IsFlatName all l ref x
     is_name ref spot x is made =
         let n = name_of ref spot is in
         let same : n.1 ≡ x = (let e : Some n.1 ≡ Some x = sym n.2 ∙ made in cc) in
-        subst (IsName all l ref) same n.3
+        subst (IsFlatName all l ref) same n.3
 
-    has_trigger : (t : TriggerTree) (cue : Cue) → IsCue (reactors_of tree) l.inside.reactor t cue → HasTrigger nest k cue
-    has_trigger AtStartup cue is = subst (HasTrigger nest k) (sym is) tt
-    has_trigger AtShutdown cue is = subst (HasTrigger nest k) (sym is) tt
+    has_trigger : (t : TriggerTree) (cue : Cue) → IsCue (reactors_of tree) l.inside.reactor t cue → HasCue nest k cue
+    has_trigger AtStartup cue is = subst (HasCue nest k) (sym is) tt
+    has_trigger AtShutdown cue is = subst (HasCue nest k) (sym is) tt
     has_trigger (OnRef ref) cues.Startup is = absurd is
     has_trigger (OnRef ref) cues.Shutdown is = absurd is
     has_trigger (OnRef ref) (cues.Timer n) is =
@@ -113,9 +113,9 @@ module _ (tree : FileTree) (tables : Tables) (nest : Nest) (links : List Linked)
     -- the same of all names of a reaction
     has_cues : (r : ReactionTree) (c : Cues) → AreCues (reactors_of tree) l.inside.reactor r c → HasCues nest k c
     has_cues r c is = record {
-      triggers = each_of (IsCue (reactors_of tree) l.inside.reactor) (HasTrigger nest k) has_trigger r.triggers c.triggers.items is.triggers;
-      uses = each_of (IsSpot (reactors_of tree) l.inside.reactor) (HasName nest k) has_name (without_timers l.inside.reactor r.uses) c.uses.items is.uses;
-      effects = each_of (IsSpot (reactors_of tree) l.inside.reactor) (HasName nest k) has_name r.effects c.effects.items is.effects;
+      triggers = each_of (IsCue (reactors_of tree) l.inside.reactor) (HasCue nest k) has_trigger r.triggers c.triggers.items is.triggers;
+      uses = each_of (IsSpot (reactors_of tree) l.inside.reactor) (HasNamedThing nest k) has_name (without_timers l.inside.reactor r.uses) c.uses.items is.uses;
+      effects = each_of (IsSpot (reactors_of tree) l.inside.reactor) (HasNamedThing nest k) has_name r.effects c.effects.items is.effects;
     }
 
   module _ (k : ℕ) (d : Declared ReactionTree) (thing : Thing) (is : slice_get (declared reactions_of all) k ≡ Some d) (same : IsThingOf d thing) where
@@ -134,13 +134,13 @@ module _ (tree : FileTree) (tables : Tables) (nest : Nest) (links : List Linked)
         let r = d.located.inside.reactor in
         let cues : made.cues ≡ cues_there.0 = (let e : Some made.cues ≡ Some cues_there.0 = sym made.is_cues ∙ cues_there.1 in cc) in
         let are : AreCues (reactors_of tree) r d.item made.cues = subst (AreCues (reactors_of tree) r d.item) (sym cues) cues_there.2 in
-        let names : (ref : RefTree) (spot : NamedThing) (x : Name) → IsSpot (reactors_of tree) r ref spot → name_at nest thing.instance spot ≡ Some x → IsName all d.located ref x = is_name thing.instance d.located here in
+        let names : (ref : RefTree) (spot : NamedThing) (x : Name) → IsSpot (reactors_of tree) r ref spot → name_at nest thing.instance spot ≡ Some x → IsFlatName all d.located ref x = is_name thing.instance d.located here in
         record {
           instance = made.instance ∙ same.0;
           place = made.place ∙ same.1;
           triggers = zip_along (IsCue (reactors_of tree) r) (λ c t. trigger_at nest thing.instance c ≡ Some t) (IsTrigger all d.located) (is_trigger thing.instance d.located here) d.item.triggers made.cues.triggers.items reaction.triggers are.triggers made.triggers;
-          uses = zip_along (IsSpot (reactors_of tree) r) (λ s x. name_at nest thing.instance s ≡ Some x) (IsName all d.located) names (without_timers r d.item.uses) made.cues.uses.items reaction.uses are.uses made.uses;
-          effects = zip_along (IsSpot (reactors_of tree) r) (λ s x. name_at nest thing.instance s ≡ Some x) (IsName all d.located) names d.item.effects made.cues.effects.items reaction.effects are.effects made.effects;
+          uses = zip_along (IsSpot (reactors_of tree) r) (λ s x. name_at nest thing.instance s ≡ Some x) (IsFlatName all d.located) names (without_timers r d.item.uses) made.cues.uses.items reaction.uses are.uses made.uses;
+          effects = zip_along (IsSpot (reactors_of tree) r) (λ s x. name_at nest thing.instance s ≡ Some x) (IsFlatName all d.located) names d.item.effects made.cues.effects.items reaction.effects are.effects made.effects;
         }
 
   module _ (list : List Thing) (zipped : AllZip IsThingOf (declared reactions_of all) list) where

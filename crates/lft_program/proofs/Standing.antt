@@ -5,7 +5,7 @@ use Rattle.lft_lists.proofs.{Places.{push_apart, Some_same}, Members.Mem}
 use Rattle.lft_tree.specs.Tree.{ReactorTree, InstanceTree, RefTree, TriggerTree, AtStartup, AtShutdown, OnRef, instances_of}
 use Rattle.lft_resolve.proofs.ExpansionLemmas.{Unique.pairs_from, Pairs.{Pairs, pairs_at}}
 use Rattle.lft_resolve.specs.{Causes.IsTwice, Instances.{Thing, thing_at, stands_for, stands_inside}, Kinds.ref_in}
-use Rattle.lft_program.specs.{Located.Located, Flattening.{IsName, IsTrigger, Means}}
+use Rattle.lft_program.specs.{Located.Located, Flattening.{IsFlatName, IsTrigger, NamesThing}}
 use Rattle.lft_ir.specs.{Naming.named, declared.parts.{Name.{Name, TheVariants.{Port, Action}}, Trigger.{Trigger, TheVariants.{Startup, Shutdown, Timer, On}}}}
 use Rattle.lft_ir.proofs.Positions.{somewhere}
 
@@ -108,15 +108,15 @@ stands_once r path a b t e f = by a.port refl b.port refl e f
         let n : m ≡ n = ap (λ x. x.name) w in
         same (u.called ∙ ap (λ x. x.name) i ∙ sym v.called) (c ∙ ap Some n ∙ sym d)
 
-means_one : (all : List Located) (n : Name) (t u : Thing) → Means all t n → Means all u n → t ≡ u
+means_one : (all : List Located) (n : Name) (t u : Thing) → NamesThing all t n → NamesThing all u n → t ≡ u
 means_one all (Port p) t u a b = Some_same t u (sym a ∙ b)
 means_one all (Action p) t u a b = Some_same t u (sym a ∙ b)
 
-pub name_once : (all : List Located) (at : Located) (a b : RefTree) (n : Name) → IsName all at a n → IsName all at b n → a ≡ b
+pub name_once : (all : List Located) (at : Located) (a b : RefTree) (n : Name) → IsFlatName all at a n → IsFlatName all at b n → a ≡ b
 name_once all at a b n x y = stands_once at.inside.reactor at.path a b x.0 x.1 (y.1 ∙ ap Some (means_one all n y.0 x.0 y.2 x.2))
 
 -- the names of triggers go with those that the text has
-pub trigger_names : (all : List Located) (at : Located) (ds : List TriggerTree) (ts : List Trigger) → AllZip (IsTrigger all at) ds ts → Some_of (IsName all at) (filter_map ref_in ds) (filter_map named ts)
+pub trigger_names : (all : List Located) (at : Located) (ds : List TriggerTree) (ts : List Trigger) → AllZip (IsTrigger all at) ds ts → Some_of (IsFlatName all at) (filter_map ref_in ds) (filter_map named ts)
 trigger_names all at [] [] zip = refl
 trigger_names all at [] (t ∷ ts) zip = absurd zip
 trigger_names all at (d ∷ ds) [] zip = absurd zip

@@ -6,7 +6,8 @@ use Rattle.lft_tree.specs.Tree.{FileTree}
 use Rattle.lft_tag.specs.declared.Source.{Source}
 use Rattle.lft_resolve.specs.declared.expansion.{joins.{Connections.Connections, Site.Site, PortSources.PortSources}, origins.Reached.Reached}
 use Rattle.lft_resolve.specs.declared.expansion.walk.Instance.{Instance}
-use Rattle.lft_resolve.specs.inner.Expansion.{Joins.{AreSites, AreSources}, Sources.{AreReached, IsFolded, IsReached, Leads, Origin, itself, over}}
+use Rattle.lft_resolve.specs.inner.Expansion.Joins.{AreSites, AreSources}
+use Rattle.lft_resolve.specs.inner.Expansion.Sources.{AreReached, IsFolded, IsReached, LeadsBackwards, ChainOrigin, itself, over}
 use Rattle.lft_resolve.specs.inner.Expansion.Ways.{HaveSites, IsWayBack, LeadsBack}
 use Rattle.lft_resolve.specs.{Causes.longest, Instances.Thing}
 use Rattle.lft_resolve.proofs.ExpansionLemmas.{Settled.leads_from, Backwards.{end_back, ring_back}}
@@ -15,7 +16,7 @@ use Rattle.lft_program.specs.{Located.{Located, ports_in}, declared.nesting.{lin
 use Rattle.lft_program.proofs.{Connected.{NoLongTime, TreeSources, joined_by, tree_sources}, Lengths.last_of}
 
 -- nothing delays what no join leads into
-no_delays : (sources : List (Option Source)) (p o : ℕ) (all : List ℕ) → Origin sources p o all → slice_get sources p ≡ Some None → [] ≡ all
+no_delays : (sources : List (Option Source)) (p o : ℕ) (all : List ℕ) → ChainOrigin sources p o all → slice_get sources p ≡ Some None → [] ≡ all
 no_delays sources p o all (itself e) f = refl
 no_delays sources p o all (over source first e rest d) f = absurd (cc)
 
@@ -42,7 +43,7 @@ module _ (tree : FileTree) (tables : Tables) (nest : Nest) (made : AreTables tre
       (r.0, r.1, r.2, subst (λ z. IsJoined tree nest.instances.items z r.0 t r.1) same r.3, r.4)
 
   -- with its delays, if no time is too long
-  back : (p : ℕ) (t : Thing) (way : List Site) (q : ℕ) → slice_get ports p ≡ Some t → LeadsBack sources sites p way q → (a : Thing) × (ds : List ℕ) × (slice_get ports q ≡ Some a) × LeadBack tree nest.instances.items t way a ds × (NoLongTime tree → (o : ℕ) (all : List ℕ) → slice_get sources q ≡ Some None → Origin sources p o all → ds ≡ all)
+  back : (p : ℕ) (t : Thing) (way : List Site) (q : ℕ) → slice_get ports p ≡ Some t → LeadsBack sources sites p way q → (a : Thing) × (ds : List ℕ) × (slice_get ports q ≡ Some a) × LeadBack tree nest.instances.items t way a ds × (NoLongTime tree → (o : ℕ) (all : List ℕ) → slice_get sources q ≡ Some None → ChainOrigin sources p o all → ds ≡ all)
   back p t [] q e l = (t, [], subst (λ k. slice_get ports k ≡ Some t) l e, (refl, refl), λ short o all none g. no_delays sources p o all g (subst (λ k. slice_get sources k ≡ Some None) (sym l) none))
   back p t (x ∷ way) q e l =
       let j = joined_at p t l.0 x e l.1 l.2 in
@@ -56,7 +57,7 @@ module _ (tree : FileTree) (tables : Tables) (nest : Nest) (made : AreTables tre
             ap (λ ds. ds ++ option_to_list j.1) (r.4 short o d.0 none d.1) ∙ ap (λ k. d.0 ++ option_to_list k) (j.4 short) ∙ sym d.2,
       )
 
-  pub ring : (p : ℕ) → Leads sources p p → (told : Way) → told.instances.items ≡ nest.instances.items → IsWayBack sources sites p told.joins.items → IsRing tree told
+  pub ring : (p : ℕ) → LeadsBackwards sources p p → (told : Way) → told.instances.items ≡ nest.instances.items → IsWayBack sources sites p told.joins.items → IsRing tree told
   ring p l told same is =
       let t = port p (leads_from sources p p l) in
       let way = told.joins.items in
@@ -65,7 +66,7 @@ module _ (tree : FileTree) (tables : Tables) (nest : Nest) (made : AreTables tre
       let here : b.0 ≡ t.0 = same_some (slice_get ports p) b.0 t.0 b.2 t.1 in
       (t.0, b.1, subst (λ i. LeadBack tree i t.0 way t.0 b.1) (sym same) (subst (λ a. LeadBack tree nest.instances.items t.0 way a b.1) here b.3), r.1)
 
-  pub long : ((p : ℕ) → Leads sources p p → ⊥) → NoLongTime tree → (all : List Reached) → AreReached sources all → (p : ℕ) → IsTooLong all p → (told : Way) → told.instances.items ≡ nest.instances.items → IsWayBack sources sites p told.joins.items → IsLongChain tree told
+  pub long : ((p : ℕ) → LeadsBackwards sources p p → ⊥) → NoLongTime tree → (all : List Reached) → AreReached sources all → (p : ℕ) → IsTooLong all p → (told : Way) → told.instances.items ≡ nest.instances.items → IsWayBack sources sites p told.joins.items → IsLongChain tree told
   long none short all reached p (r, e, no_shift) told same is = (t.0, b.0, b.1, subst (λ i. LeadBack tree i t.0 way b.0 b.1) (sym same) b.3, subst (λ ds. longest < sum ds) (sym delays) (subst (IsFolded i.delays) no_shift i.folded))
     where
       way : List Site
@@ -77,7 +78,7 @@ module _ (tree : FileTree) (tables : Tables) (nest : Nest) (made : AreTables tre
       t : (t : Thing) × (slice_get ports p ≡ Some t)
       t = port p (let l = slice_get_within all p r e in let s = reached.as_long in omega (arith, l, s))
 
-      b : (a : Thing) × (ds : List ℕ) × (slice_get ports is.last ≡ Some a) × LeadBack tree nest.instances.items t.0 way a ds × (NoLongTime tree → (o : ℕ) (all : List ℕ) → slice_get sources is.last ≡ Some None → Origin sources p o all → ds ≡ all)
+      b : (a : Thing) × (ds : List ℕ) × (slice_get ports is.last ≡ Some a) × LeadBack tree nest.instances.items t.0 way a ds × (NoLongTime tree → (o : ℕ) (all : List ℕ) → slice_get sources is.last ≡ Some None → ChainOrigin sources p o all → ds ≡ all)
       b = back p t.0 way is.last t.1 is.leads
 
       delays : b.1 ≡ i.delays
@@ -94,8 +95,8 @@ module _ {tree : FileTree} {tables : Tables} {nest : Nest} (made : AreTables tre
   beside_nest : AreSites tables.connections.items nest.instances.items nest.ports.firsts.items nest.children nest.values found.sources.items found.sites.items
   beside_nest = rw (← as_table, ← as_instances, ← as_firsts) beside
 
-  pub ring_read : (p : ℕ) → Leads found.sources.items p p → (told : Way) → told.instances.items ≡ nest.instances.items → IsWayBack found.sources.items found.sites.items p told.joins.items → IsRing tree told
+  pub ring_read : (p : ℕ) → LeadsBackwards found.sources.items p p → (told : Way) → told.instances.items ≡ nest.instances.items → IsWayBack found.sources.items found.sites.items p told.joins.items → IsRing tree told
   ring_read = ring tree tables nest made lawful n found.sources.items by_nest found.sites.items beside_nest
 
-  pub long_read : ((p : ℕ) → Leads found.sources.items p p → ⊥) → NoLongTime tree → (all : List Reached) → AreReached found.sources.items all → (p : ℕ) → IsTooLong all p → (told : Way) → told.instances.items ≡ nest.instances.items → IsWayBack found.sources.items found.sites.items p told.joins.items → IsLongChain tree told
+  pub long_read : ((p : ℕ) → LeadsBackwards found.sources.items p p → ⊥) → NoLongTime tree → (all : List Reached) → AreReached found.sources.items all → (p : ℕ) → IsTooLong all p → (told : Way) → told.instances.items ≡ nest.instances.items → IsWayBack found.sources.items found.sites.items p told.joins.items → IsLongChain tree told
   long_read = long tree tables nest made lawful n found.sources.items by_nest found.sites.items beside_nest

@@ -4,9 +4,9 @@ use Rattle.std.{specs.{Fmt.decimal, List.AllZip}, proofs.lemmas.{List.length-map
 use Rattle.lft_lists.proofs.{Places.Some_same, Mapped.{mapped, mapped_from}}
 use Rattle.lft_tree.specs.{Identifiers.{IsName, HasIdentifiers}, Tree.{FileTree, ReactorTree, reactors_of, ports_of, actions_of, timers_of, reactions_of}}
 use Rattle.lft_resolve.specs.{Kinds.names_in, Causes.IsTwice}
-use Rattle.lft_program.specs.Located.{Located, declared, things}
+use Rattle.lft_program.specs.Located.{Located, declared, declared_things}
 use Rattle.lft_program.specs.inner.{Nests.IsNest, Tables.IsLawful, FullNames.{IsDotted, IsHashed, AreFullNames, AreNested, AreOfProgram, AreFew, members}}
-use Rattle.lft_program.specs.inner.TreeLists.{AreLists, IsPlacedAt, Says}
+use Rattle.lft_program.specs.inner.TreeLists.{AreLists, IsPlacedAt, SaysDeclaration}
 use Rattle.lft_program.specs.declared.{nesting.{nest.Nest.Nest, tables.Tables.Tables}, naming.{OwnName.OwnName, PlacedReaction.PlacedReaction}}
 use Rattle.lft_program.specs.declared.tree_lists.Lists.{Lists}
 use Rattle.lft_program.specs.Flattening.{name_of_path, name_of_thing, name_of_reaction, names_of}
@@ -127,19 +127,19 @@ module _ (tree : FileTree) (tables : Tables) (nest : Nest) (is : IsNest tree tab
   text_at : (n : ℕ) (l : Located) → slice_get is.located n ≡ Some l → slice_get instance_texts n ≡ Some (name_of_path tree is.are_located.main l.path)
   text_at n l at = mapped (λ i. name_of_path tree is.are_located.main i.path) is.located n l at
 
-  names_of_kind : {X : Type 0} (kind : ReactorTree → List X) (name : X → List ℕ) (xs : List OwnName) → AllZip (Says name) (declared kind is.located) xs → AllZip (IsDotted instance_texts) xs (map (name_of_thing tree is.are_located.main) (things name (declared kind is.located)))
+  names_of_kind : {X : Type 0} (kind : ReactorTree → List X) (name : X → List ℕ) (xs : List OwnName) → AllZip (SaysDeclaration name) (declared kind is.located) xs → AllZip (IsDotted instance_texts) xs (map (name_of_thing tree is.are_located.main) (declared_things name (declared kind is.located)))
   names_of_kind {X} kind name xs all = zip_of (IsDotted instance_texts) xs _ same each
     where
-      same : length xs ≡ length (map (name_of_thing tree is.are_located.main) (things name (declared kind is.located)))
-      same = sym (zip_long (Says name) (declared kind is.located) xs all) ∙ sym (length-map (declared kind is.located) _) ∙ sym (length-map (things name (declared kind is.located)) (name_of_thing tree is.are_located.main))
+      same : length xs ≡ length (map (name_of_thing tree is.are_located.main) (declared_things name (declared kind is.located)))
+      same = sym (zip_long (SaysDeclaration name) (declared kind is.located) xs all) ∙ sym (length-map (declared kind is.located) _) ∙ sym (length-map (declared_things name (declared kind is.located)) (name_of_thing tree is.are_located.main))
 
-      each : (k : ℕ) (x : OwnName) (y : List ℕ) → slice_get xs k ≡ Some x → slice_get (map (name_of_thing tree is.are_located.main) (things name (declared kind is.located))) k ≡ Some y → IsDotted instance_texts x y
+      each : (k : ℕ) (x : OwnName) (y : List ℕ) → slice_get xs k ≡ Some x → slice_get (map (name_of_thing tree is.are_located.main) (declared_things name (declared kind is.located))) k ≡ Some y → IsDotted instance_texts x y
       each k x y at_x at_y =
-          let t = mapped_from (name_of_thing tree is.are_located.main) (things name (declared kind is.located)) k y at_y in
+          let t = mapped_from (name_of_thing tree is.are_located.main) (declared_things name (declared kind is.located)) k y at_y in
           let d = mapped_from _ (declared kind is.located) k t.0 t.1 in
-          let s = zip_at (Says name) (declared kind is.located) xs all k d.0 d.1 in
+          let s = zip_at (SaysDeclaration name) (declared kind is.located) xs all k d.0 d.1 in
           let one : s.0 ≡ x = Some_same s.0 x (sym s.1 ∙ at_x) in
-          let says : Says name d.0 x = subst (Says name d.0) one s.2 in
+          let says : SaysDeclaration name d.0 x = subst (SaysDeclaration name d.0) one s.2 in
           let stands = declared_from kind is.located k d.0 d.1 in (
             name_of_path tree is.are_located.main d.0.located.path,
             text_at x.instance d.0.located (ap (slice_get is.located) says.0 ∙ stands.instance),

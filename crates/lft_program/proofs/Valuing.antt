@@ -4,7 +4,7 @@ use Rattle.std.specs.{List.AllZip, Option.option_map_or}
 use Rattle.lft_lists.proofs.Mapped.{mapped_from, option_map_some}
 use Rattle.lft_tree.specs.Tree.{FileTree, ReactorTree, InstanceTree, nanoseconds, reactors_of, instances_of}
 use Rattle.lft_resolve.specs.inner.Expansion.{Contents.contained, Values.{defaults_of, entered as entered_by_number, given_by, values_in}}
-use Rattle.lft_resolve.specs.inner.{Numbers.AreContents, Sheets.{AreGiven, AreParameters, IsGiven, IsParameters}}
+use Rattle.lft_resolve.specs.inner.{Numbers.AreContents, Sheets.{AreValuesGiven, AreParameters, IsGiven, IsParameters}}
 use Rattle.lft_resolve.specs.{declared.expansion.{settings.Parameters.Parameters, walk.Contents.Contents}, Causes.{HasLongTime, NoneHolds, first_causes}}
 use Rattle.lft_resolve.specs.Instances.{Inside, entered, given_in, main_instance, reactor_named}
 use Rattle.lft_resolve.proofs.{ExpansionLemmas.Simulation.Simulates, Twice.Any-at}
@@ -27,7 +27,7 @@ module _ (rs : List ReactorTree) (table : List Parameters) (are : AreParameters 
   given_are : (n k : ℕ) (o : ReactorTree) (i : InstanceTree) (r : ReactorTree) → slice_get rs n ≡ Some o → slice_get (instances_of o) k ≡ Some i → reactor_named rs i.reactor ≡ Some r → AllZip (IsGiven o r) i.given (given_by table n k)
   given_are n k o i r at e named =
       let p = zip_at (IsParameters rs) rs table are n o at in
-      let g = zip_at (AreGiven rs o) (instances_of o) (map (λ g. g.items) p.0.given.items) p.2.given k i e in
+      let g = zip_at (AreValuesGiven rs o) (instances_of o) (map (λ g. g.items) p.0.given.items) p.2.given k i e in
       let v = mapped_from (λ g. g.items) p.0.given.items k g.0 g.1 in
       let same : g.2.0 ≡ r = (let f : Some g.2.0 ≡ Some r = sym g.2.1 ∙ named in cc) in
       let is : given_by table n k ≡ g.0 = ap (λ o. option_map_or (λ given. given.items) (option_and_then (λ p. slice_get p.given.items k) o) []) p.1 ∙ ap (λ o. option_map_or (λ given. given.items) o []) v.1 ∙ v.2 in

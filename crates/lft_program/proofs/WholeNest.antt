@@ -1,7 +1,7 @@
 -- The nest of a tree, and the limits that it keeps.
 use Rattle.std.proofs.Common.{◌≡◌, ℕ, ◌-◌, ◌<◌, ◌≤◌, arith, inl, inr, List, length, refl, sym, ◌∙◌, subst, Result, Err, IsErrAnd, map}
 use Rattle.lft_tree.specs.Tree.{FileTree, ReactorTree, actions_of, ports_of, reactions_of, reactors_of, timers_of}
-use Rattle.lft_resolve.specs.inner.Expansion.{Children.AreChildren, Contents.{IsWalk, contained}, Numbers.{AreFirst, HasMoreThings, things}}
+use Rattle.lft_resolve.specs.inner.Expansion.{Children.AreChildren, Contents.{IsWalk, contained}, Numbers.{AreFirstNumbers, HasMoreThings, things}}
 use Rattle.lft_resolve.specs.inner.Expansion.Values.{HaveValues, LeadToValues}
 use Rattle.lft_resolve.specs.{Expansion.Paths.{Exists, IsMoreThan}, declared.expansion.walk.{Contents.Contents, Instance.Instance}}
 use Rattle.lft_resolve.specs.Causes.{IsDeclaredAt, TooMany, joins_of}
@@ -33,13 +33,13 @@ timer_counts tables = map (λ x. length x.timers.items) tables.declarations.item
 -- what a call numbered
 pub record WasNumbered (counts : List ℕ) (instances : List Instance) (limit : ℕ) (n : Numbering) : Type 0 where
   pub same : n.counts.items ≡ counts
-  pub firsts : AreFirst counts instances n.firsts.items
+  pub firsts : AreFirstNumbers counts instances n.firsts.items
   pub few : things counts instances ≤ limit
 
 pub numbering_is : {X : Type 0} (kind : ReactorTree → List X) (rs : List ReactorTree) (counts : List ℕ) (instances : List Instance) (limit : ℕ) (n : Numbering) → counts ≡ map (λ r. length (kind r)) rs → WasNumbered counts instances limit n → IsNumbering kind rs instances limit n
 numbering_is kind rs counts instances limit n e w = record {
   counts = w.same ∙ e;
-  firsts = subst (λ l. AreFirst l instances n.firsts.items) (sym w.same) w.firsts;
+  firsts = subst (λ l. AreFirstNumbers l instances n.firsts.items) (sym w.same) w.firsts;
   few = subst (λ l. things l instances ≤ limit) (sym w.same) w.few;
 }
 
@@ -55,10 +55,10 @@ passed_here kind instances theirs counts counted x e f w = subst (λ l. IsPassed
 pub none_here : (contents : List Contents) (main limit : ℕ) (instances theirs : List Instance) (counts counted : List ℕ) → IsWalk contents main instances → theirs ≡ instances → counted ≡ counts → ((table : List Contents) → (main : ℕ) → IsWalk table main theirs → HasMoreThings table main counted limit → ⊥) → HasMoreThings contents main counts limit → ⊥
 none_here contents main limit instances theirs counts counted w e f none more = none contents main (subst (IsWalk contents main) (sym e) w) (subst (λ l. HasMoreThings contents main l limit) (sym f) more)
 
-pub numbered_here : (instances theirs : List Instance) (counts counted : List ℕ) (limit : ℕ) (n : Numbering) → theirs ≡ instances → counted ≡ counts → n.counts.items ≡ counted → AreFirst counted theirs n.firsts.items → things counted theirs ≤ limit → WasNumbered counts instances limit n
+pub numbered_here : (instances theirs : List Instance) (counts counted : List ℕ) (limit : ℕ) (n : Numbering) → theirs ≡ instances → counted ≡ counts → n.counts.items ≡ counted → AreFirstNumbers counted theirs n.firsts.items → things counted theirs ≤ limit → WasNumbered counts instances limit n
 numbered_here instances theirs counts counted limit n e f same firsts few = record {
   same = same ∙ f;
-  firsts = subst (λ l. AreFirst l instances n.firsts.items) f (subst (λ l. AreFirst counted l n.firsts.items) e firsts);
+  firsts = subst (λ l. AreFirstNumbers l instances n.firsts.items) f (subst (λ l. AreFirstNumbers counted l n.firsts.items) e firsts);
   few = subst (λ l. things l instances ≤ limit) f (subst (λ l. things counted l ≤ limit) e few);
 }
 

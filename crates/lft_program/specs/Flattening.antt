@@ -17,13 +17,13 @@ time_or_zero x None = 0
 time_or_zero x (Some t) = time_in x t
 
 -- the port or action of this number is the thing
-abbrev pub Means : List Located → Thing → Name → Type 0
-Means all t (Port p) = slice_get (ports_in all) p ≡ Some t
-Means all t (Action a) = slice_get (actions_in all) a ≡ Some t
+abbrev pub NamesThing : List Located → Thing → Name → Type 0
+NamesThing all t (Port p) = slice_get (ports_in all) p ≡ Some t
+NamesThing all t (Action a) = slice_get (actions_in all) a ≡ Some t
 
 -- the port or action that a name in the instance stands for
-abbrev pub IsName : List Located → Located → RefTree → Name → Type 0
-IsName all at ref n = (t : Thing) × (stands_for at.inside.reactor at.path ref ≡ Some t) × Means all t n
+abbrev pub IsFlatName : List Located → Located → RefTree → Name → Type 0
+IsFlatName all at ref n = (t : Thing) × (stands_for at.inside.reactor at.path ref ≡ Some t) × NamesThing all t n
 
 -- what a trigger in the instance stands for
 abbrev pub IsTrigger : List Located → Located → TriggerTree → Trigger → Type 0
@@ -32,7 +32,7 @@ IsTrigger all at AtShutdown t = t ≡ Shutdown
 IsTrigger all at (OnRef ref) Startup = ⊥
 IsTrigger all at (OnRef ref) Shutdown = ⊥
 IsTrigger all at (OnRef ref) (Timer n) = (t : Thing) × (stands_for at.inside.reactor at.path ref ≡ Some t) × (slice_get (timers_in all) n ≡ Some t)
-IsTrigger all at (OnRef ref) (On n) = IsName all at ref n
+IsTrigger all at (OnRef ref) (On n) = IsFlatName all at ref n
 
 -- ---- parts
 
@@ -59,8 +59,8 @@ pub record IsReaction (all : List Located) (d : Declared ReactionTree) (reaction
   pub instance : reaction.instance ≡ d.instance
   pub place : reaction.place ≡ d.place
   pub triggers : AllZip (IsTrigger all d.located) d.item.triggers reaction.triggers
-  pub uses : AllZip (IsName all d.located) (without_timers d.located.inside.reactor d.item.uses) reaction.uses
-  pub effects : AllZip (IsName all d.located) d.item.effects reaction.effects
+  pub uses : AllZip (IsFlatName all d.located) (without_timers d.located.inside.reactor d.item.uses) reaction.uses
+  pub effects : AllZip (IsFlatName all d.located) d.item.effects reaction.effects
 
 -- ---- full names
 

@@ -32,15 +32,15 @@ abbrev pub declared : {X : Type 0} → (ReactorTree → List X) → List Located
 declared {X} kind instances = flat_map (declared_in kind) (enumerate_from 0 instances)
 
 -- the same as things, where each has a name
-abbrev pub things : {X : Type 0} → (X → List ℕ) → List (Declared X) → List Thing
-things {X} name all = map (λ d. thing_at d.located.path (name d.item)) all
+abbrev pub declared_things : {X : Type 0} → (X → List ℕ) → List (Declared X) → List Thing
+declared_things {X} name all = map (λ d. thing_at d.located.path (name d.item)) all
 
 -- the ports, actions and timers of the instances as things, each at its number
 abbrev pub ports_in : List Located → List Thing
-ports_in instances = things (λ x. x.name) (declared ports_of instances)
+ports_in instances = declared_things (λ x. x.name) (declared ports_of instances)
 
 abbrev pub actions_in : List Located → List Thing
-actions_in instances = things (λ x. x.name) (declared actions_of instances)
+actions_in instances = declared_things (λ x. x.name) (declared actions_of instances)
 
 abbrev pub timers_in : List Located → List Thing
-timers_in instances = things (λ x. x.name) (declared timers_of instances)
+timers_in instances = declared_things (λ x. x.name) (declared timers_of instances)

@@ -3,7 +3,7 @@
 
 ghost use Rattle.std.specs.Prelude.{◌≡◌, Some, IfOk};
 ghost use Rattle.lft_resolve.specs.inner.Expansion.Joins.{port_at, port_of};
-ghost use Rattle.lft_program.specs.inner.Laying.{AreNames, AreTriggers, Each, HasName, HasTrigger, IsFew, name_at, trigger_at};
+ghost use Rattle.lft_program.specs.inner.Laying.{AreNames, AreTriggersOfCues, Each, HasNamedThing, HasCue, IsFew, name_at, trigger_at};
 
 use crate::nesting::{Nest, Numbering};
 use lft_ir::{Name, Names, Trigger, Triggers};
@@ -39,7 +39,7 @@ fn port_number(nest: &Nest, instance: u32, end: End) -> u32
 
 // the port or action that a spot is in an instance
 fn name(nest: &Nest, instance: u32, spot: NamedThing) -> Name
-    requires { HasName nest.now instance spot }
+    requires { HasNamedThing nest.now instance spot }
     ensures { name_at nest.now instance spot ≡ Some result }
 {
     match spot {
@@ -50,7 +50,7 @@ fn name(nest: &Nest, instance: u32, spot: NamedThing) -> Name
 
 // what a cue is in an instance
 fn trigger(nest: &Nest, instance: u32, cue: Cue) -> Trigger
-    requires { HasTrigger nest.now instance cue }
+    requires { HasCue nest.now instance cue }
     ensures { trigger_at nest.now instance cue ≡ Some result }
 {
     match cue {
@@ -68,7 +68,7 @@ pub(crate) fn names(
     instance: u32,
     spots: &[NamedThing],
 ) -> Result<Names, NoMemory>
-    requires { Each (HasName nest.now instance) spots.now }
+    requires { Each (HasNamedThing nest.now instance) spots.now }
     ensures { IfOk result (AreNames nest.now instance spots.now) }
 {
     let mut names = Vec::new(alloc);
@@ -85,8 +85,8 @@ pub(crate) fn triggers(
     instance: u32,
     cues: &[Cue],
 ) -> Result<Triggers, NoMemory>
-    requires { Each (HasTrigger nest.now instance) cues.now }
-    ensures { IfOk result (AreTriggers nest.now instance cues.now) }
+    requires { Each (HasCue nest.now instance) cues.now }
+    ensures { IfOk result (AreTriggersOfCues nest.now instance cues.now) }
 {
     let mut triggers = Vec::new(alloc);
     for cue in cues {

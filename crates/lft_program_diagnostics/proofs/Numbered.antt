@@ -5,7 +5,7 @@ use Rattle.std.proofs.lemmas.{Grind.flat_map-append, List.{length-map, take-appe
 use Rattle.lft_lists.proofs.{Mapped.{mapped, pair_at}, Picked.kept_more, Places.{get_left, get_right, get_there}}
 use Rattle.lft_tree.specs.Tree.{ConnectionTree, MemberTree, RefTree, connection_in}
 use Rattle.lft_resolve.specs.inner.Sheets.{Single, singles_in}
-use Rattle.lft_program_diagnostics.specs.inner.Singles.{StandsAt}
+use Rattle.lft_program_diagnostics.specs.inner.Singles.{IsSingleAt}
 
 -- the single connections of these members
 abbrev pub singles_among : List MemberTree → List Single
@@ -31,7 +31,7 @@ module _ (ms : List MemberTree) (k : ℕ) (m : MemberTree) (at : slice_get ms k 
     this_member = ap length with_this ∙ length-append (singles_among (take k ms)) (singles_in c) ∙ ap (λ n. length (singles_among (take k ms)) + n) (width c)
 
     -- one of this connection is found at its place
-    pub found_here : (place : ℕ) → place < length c.sources → place < length c.destinations → (s : Single) × (slice_get (singles_among ms) (length (singles_among (take k ms)) + place) ≡ Some s) × StandsAt s c place
+    pub found_here : (place : ℕ) → place < length c.sources → place < length c.destinations → (s : Single) × (slice_get (singles_among ms) (length (singles_among (take k ms)) + place) ≡ Some s) × IsSingleAt s c place
     found_here place low less = (single, subst (λ l. slice_get l (length before + place) ≡ Some single) (sym whole) there, record { is_from = from.1; is_to = to.1; is_delay = refl })
       where
         before : List Single

@@ -5,13 +5,13 @@ use Rattle.lft_ir.specs.{Parts.{Parts, inputs}, declared.parts.{Name.{Name, TheV
 use Rattle.lft_ir.specs.Words.Words.{reaction_words, name_words}
 
 -- the name is of that port
-abbrev pub is_port : ℕ → Name → Bool
-is_port p (Port q) = q == p
-is_port p (Action a) = false
+abbrev pub is_port_name : ℕ → Name → Bool
+is_port_name p (Port q) = q == p
+is_port_name p (Action a) = false
 
 -- the port is among the names
 abbrev pub has_port : List Name → ℕ → Bool
-has_port names p = list_any (is_port p) names
+has_port names p = list_any (is_port_name p) names
 
 -- the port gets what stands at its origin at once, and the origin is among the effects
 abbrev pub is_led : List Name → PortOf → Bool
@@ -44,12 +44,12 @@ abbrev pub step_words : Parts → ℕ → ℕ → List ℕ
 step_words program a b = told_step program a b (fed_of program a b)
 
 -- the list with its first item at the end
-abbrev pub turned : List ℕ → List ℕ
-turned xs = drop 1 xs ++ take 1 xs
+abbrev pub turned_by_one : List ℕ → List ℕ
+turned_by_one xs = drop 1 xs ++ take 1 xs
 
 -- a heading, how each of the reactions comes before the next one and the last one before the first, and a way out
 abbrev pub loop_words : Parts → List ℕ → List ℕ
 loop_words program reactions =
     codes "Program: these reactions wait for one another at one tag.\n"
-    ++ flat_map (λ p. step_words program p.0 p.1) (zip reactions (turned reactions))
+    ++ flat_map (λ p. step_words program p.0 p.1) (zip reactions (turned_by_one reactions))
     ++ codes "  A delay on one of these connections, as `after 0`, breaks the loop.\n"

@@ -27,44 +27,44 @@ name_among (triggers.Reference x) = Some x
 name_among _ = None
 
 -- the names of a member that have the role, in order
-abbrev pub names_in : Role → Member → List Reference
-names_in Read (members.Reaction x) = filter_map name_among x.triggers.items ++ x.uses.items
-names_in Effect (members.Reaction x) = x.effects.items
-names_in Source (members.Connection x) = x.sources.items
-names_in Destination (members.Connection x) = x.destinations.items
-names_in _ _ = []
+abbrev pub names_with_role : Role → Member → List Reference
+names_with_role Read (members.Reaction x) = filter_map name_among x.triggers.items ++ x.uses.items
+names_with_role Effect (members.Reaction x) = x.effects.items
+names_with_role Source (members.Connection x) = x.sources.items
+names_with_role Destination (members.Connection x) = x.destinations.items
+names_with_role _ _ = []
 
 -- the times of a member, in order
-abbrev pub times_in : Member → List TimeExpression
-times_in (members.Timer x) = option_to_list x.offset ++ option_to_list x.period
-times_in (members.Action x) = option_to_list x.min_delay
-times_in (members.Instance x) = map (λ a. a.value) x.given.items
-times_in (members.Connection x) = option_to_list x.delay
-times_in _ = []
+abbrev pub member_times : Member → List TimeExpression
+member_times (members.Timer x) = option_to_list x.offset ++ option_to_list x.period
+member_times (members.Action x) = option_to_list x.min_delay
+member_times (members.Instance x) = map (λ a. a.value) x.given.items
+member_times (members.Connection x) = option_to_list x.delay
+member_times _ = []
 
 -- the values that a member gives to parameters, in order
-abbrev pub given_in : Member → List Assignment
-given_in (members.Instance x) = x.given.items
-given_in _ = []
+abbrev pub assignments_in : Member → List Assignment
+assignments_in (members.Instance x) = x.given.items
+assignments_in _ = []
 
 -- the token of the name that a member declares, if it declares one
-abbrev pub declared_at : Member → Option ℕ
-declared_at (members.Port x) = Some x.at
-declared_at (members.Timer x) = Some x.at
-declared_at (members.Action x) = Some x.at
-declared_at (members.Instance x) = Some x.at
-declared_at _ = None
+abbrev pub declared_token : Member → Option ℕ
+declared_token (members.Port x) = Some x.at
+declared_token (members.Timer x) = Some x.at
+declared_token (members.Action x) = Some x.at
+declared_token (members.Instance x) = Some x.at
+declared_token _ = None
 
 -- the tokens of the names that a reactor declares, parameters first
-abbrev pub declared_in : Reactor → List ℕ
-declared_in r = map (λ p. p.at) r.parameters.items ++ filter_map declared_at r.members.items
+abbrev pub declared_tokens : Reactor → List ℕ
+declared_tokens r = map (λ p. p.at) r.parameters.items ++ filter_map declared_token r.members.items
 
 -- the token that tells a whole member: the reactor that an instance is of, the arrow of a connection, the word `reaction`
-abbrev pub member_at : Member → Option ℕ
-member_at (members.Instance x) = Some x.reactor_at
-member_at (members.Connection x) = Some x.arrow
-member_at (members.Reaction x) = Some x.at
-member_at _ = None
+abbrev pub member_token : Member → Option ℕ
+member_token (members.Instance x) = Some x.reactor_at
+member_token (members.Connection x) = Some x.arrow
+member_token (members.Reaction x) = Some x.at
+member_token _ = None
 
 -- the bytes of a token
 abbrev pub token_spot : List Token → ℕ → Option Span
@@ -84,20 +84,20 @@ named_at r = option_map (λ name. r.at) r.name
 
 -- the bytes of the name with that role and place in a member
 abbrev pub named_spot : List Token → Member → Role → ℕ → Option Span
-named_spot tokens m role n = option_and_then (name_spot tokens) (slice_get (names_in role m) n)
+named_spot tokens m role n = option_and_then (name_spot tokens) (slice_get (names_with_role role m) n)
 
 -- the bytes of the time with that place in a member
 abbrev pub timed_spot : List Token → Member → ℕ → Option Span
-timed_spot tokens m n = option_and_then (time_spot tokens) (slice_get (times_in m) n)
+timed_spot tokens m n = option_and_then (time_spot tokens) (slice_get (member_times m) n)
 
 -- the bytes of the parameter's name in the value with that place in a member
 abbrev pub given_spot : List Token → Member → ℕ → Option Span
-given_spot tokens m n = option_and_then (λ a. token_spot tokens a.at) (slice_get (given_in m) n)
+given_spot tokens m n = option_and_then (λ a. token_spot tokens a.at) (slice_get (assignments_in m) n)
 
 -- the bytes of a part of a member
 abbrev pub part_spot : List Token → Member → MemberPart → Option Span
-part_spot tokens m parts.Whole = option_and_then (token_spot tokens) (member_at m)
-part_spot tokens m parts.Declared = option_and_then (token_spot tokens) (declared_at m)
+part_spot tokens m parts.Whole = option_and_then (token_spot tokens) (member_token m)
+part_spot tokens m parts.Declared = option_and_then (token_spot tokens) (declared_token m)
 part_spot tokens m (parts.Name role n) = named_spot tokens m role n
 part_spot tokens m (parts.Time n) = timed_spot tokens m n
 part_spot tokens m (parts.Value n) = given_spot tokens m n
@@ -112,7 +112,7 @@ parameter_at reactors r p = option_and_then (λ x. option_map (λ y. y.at) (slic
 
 -- the token of what the reactor with that place declares with that number
 abbrev pub declaration_at : List Reactor → ℕ → ℕ → Option ℕ
-declaration_at reactors r n = option_and_then (λ x. slice_get (declared_in x) n) (slice_get reactors r)
+declaration_at reactors r n = option_and_then (λ x. slice_get (declared_tokens x) n) (slice_get reactors r)
 
 -- where what the witness shows of these reactors stands: of two that are one, or that write one port, the second; of a reactor its name, or `main reactor` where it has none
 abbrev pub witness_spot : List Token → List Reactor → Witness → Option Span

@@ -2,7 +2,7 @@
 
 ghost use Rattle.std.specs.Prelude.{◌≡◌, ◌<◌, ◌++◌, ℕ, Some, IfOk, OnOk, find, length, slice_get, string_bytes};
 ghost use Rattle.lft_ir.specs.Parts.{inputs};
-ghost use Rattle.lft_program_diagnostics.specs.Loops.{between, fed, has_port as has_that_port, is_fed as is_fed_by, is_port as is_that_port, loop_words, step_words, told_step, turned};
+ghost use Rattle.lft_program_diagnostics.specs.Loops.{between, fed, has_port as has_that_port, is_fed as is_fed_by, is_port_name as is_that_port, loop_words, step_words, told_step, turned_by_one};
 
 use lft_ir::words::{push_name, push_reaction};
 use lft_ir::{Name, Program, Reaction};
@@ -132,7 +132,7 @@ fn push_step(
 /// The number behind that place, or the first where none is.
 fn next_of(reactions: &[u32], place: usize) -> u32
     requires { place < length reactions.now }
-    ensures next { slice_get (turned reactions.now) place ≡ Some result }
+    ensures next { slice_get (turned_by_one reactions.now) place ≡ Some result }
     ensures among { (i : ℕ) × (slice_get reactions.now i ≡ Some result) }
 {
     if place + 1 < reactions.len() {

@@ -3,7 +3,7 @@
 ghost use Rattle.std.specs.Prelude.{◌≡◌, ◌≤◌, Some, IfSome, IfNone, length, option_map, slice_get};
 ghost use Rattle.lft_tree.specs.{Tree.connection_in, View.{connection_view, member_view, reactor_view}};
 ghost use Rattle.lft_resolve.specs.inner.Sheets.{Single, singles_of};
-ghost use Rattle.lft_program_diagnostics.specs.inner.Singles.{StandsAt};
+ghost use Rattle.lft_program_diagnostics.specs.inner.Singles.{IsSingleAt};
 
 use lft_tree::{Connection, Member, Reactor};
 
@@ -20,7 +20,7 @@ fn as_connection(member: &Member) -> Option<&Connection>
 /// The connection that has the single one with that number among those of the reactor, and the place of both
 /// names in its lists.
 pub(crate) fn single_in(reactor: &Reactor, number: usize) -> Option<(&Connection, usize)>
-    ensures some { IfSome result (λ r. (s : Single) × (slice_get (singles_of (reactor_view reactor.now)) number ≡ Some s) × StandsAt s (connection_view r.0.now) r.1) }
+    ensures some { IfSome result (λ r. (s : Single) × (slice_get (singles_of (reactor_view reactor.now)) number ≡ Some s) × IsSingleAt s (connection_view r.0.now) r.1) }
     ensures none { IfNone result (length (singles_of (reactor_view reactor.now)) ≤ number) }
 {
     let mut left = number;

@@ -2,7 +2,7 @@
 
 ghost use Rattle.std.specs.Prelude.{◌≡◌, IfOk, filter_map, option_map, option_to_list, slice_get};
 ghost use Rattle.lft_program_diagnostics.specs.inner.Spots.{behind};
-ghost use Rattle.lft_program_diagnostics.specs.Spots.{declared_at as the_declared_at, declaration_at as the_declaration_at, declared_in, given_spot as the_given_spot, member_at as the_member_at, member_of as the_member_of, name_among as the_name_among, named_at as the_named_at, named_spot as the_named_spot, names_in, parameter_at as the_parameter_at, part_spot as the_part_spot, reactor_of as the_reactor_of, reactors_among as the_reactors_among, timed_spot as the_timed_spot, times_in, witness_spot};
+ghost use Rattle.lft_program_diagnostics.specs.Spots.{declared_token as the_declared_at, declaration_at as the_declaration_at, declared_tokens, given_spot as the_given_spot, member_token as the_member_at, member_of as the_member_of, name_among as the_name_among, named_at as the_named_at, named_spot as the_named_spot, names_with_role, parameter_at as the_parameter_at, part_spot as the_part_spot, reactor_of as the_reactor_of, reactors_among as the_reactors_among, timed_spot as the_timed_spot, member_times, witness_spot};
 
 use lft_resolve::kinds::Role;
 use lft_syntax::Token;
@@ -55,7 +55,7 @@ fn use_at(reaction: &Reaction, place: usize) -> Option<&Reference>
 
 /// The name with that place among those that a reaction reads.
 fn read_at(reaction: &Reaction, place: usize) -> Option<&Reference>
-    ensures { option_map (λ r. r.now) result ≡ slice_get (names_in Role.Read (Member.Reaction reaction.now)) place }
+    ensures { option_map (λ r. r.now) result ≡ slice_get (names_with_role Role.Read (Member.Reaction reaction.now)) place }
 {
     let mut left = place;
     for trigger in &reaction.triggers {
@@ -71,7 +71,7 @@ fn read_at(reaction: &Reaction, place: usize) -> Option<&Reference>
 
 /// The name of the member with that role and place.
 pub(crate) fn name_at(member: &Member, role: Role, place: usize) -> Option<&Reference>
-    ensures { option_map (λ r. r.now) result ≡ slice_get (names_in role member.now) place }
+    ensures { option_map (λ r. r.now) result ≡ slice_get (names_with_role role member.now) place }
 {
     match (role, member) {
         (Role::Read, Member::Reaction(reaction)) => read_at(reaction, place),
@@ -94,7 +94,7 @@ fn time_alone(time: &Option<TimeExpression>, place: usize) -> Option<&TimeExpres
 
 /// The time of a timer with that place.
 fn time_of_timer(timer: &Timer, place: usize) -> Option<&TimeExpression>
-    ensures { option_map (λ t. t.now) result ≡ slice_get (times_in (Member.Timer timer.now)) place }
+    ensures { option_map (λ t. t.now) result ≡ slice_get (member_times (Member.Timer timer.now)) place }
 {
     match &timer.offset {
         Some(offset) => {
@@ -110,7 +110,7 @@ fn time_of_timer(timer: &Timer, place: usize) -> Option<&TimeExpression>
 
 /// The time of the member with that place.
 pub(crate) fn time_at(member: &Member, place: usize) -> Option<&TimeExpression>
-    ensures { option_map (λ t. t.now) result ≡ slice_get (times_in member.now) place }
+    ensures { option_map (λ t. t.now) result ≡ slice_get (member_times member.now) place }
 {
     match member {
         Member::Timer(timer) => time_of_timer(timer, place),
@@ -138,7 +138,7 @@ fn declared_at(member: &Member) -> Option<usize>
 
 /// The token of what the reactor declares with that number, parameters first.
 fn declared_with(reactor: &Reactor, number: usize) -> Option<usize>
-    ensures { result ≡ slice_get (declared_in reactor.now) number }
+    ensures { result ≡ slice_get (declared_tokens reactor.now) number }
 {
     if let Some(parameter) = reactor.parameters.get(number) {
         return Some(parameter.at);

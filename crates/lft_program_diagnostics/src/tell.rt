@@ -7,7 +7,7 @@ ghost use Rattle.lft_resolve.specs.Causes.{IsFirst, causes};
 ghost use Rattle.lft_validate.specs.Witnesses.{Shows, fault_shown};
 ghost use Rattle.lft_program.specs.inner.Refusals.{Tells, cause_of, fault_of};
 ghost use Rattle.lft_text_diagnostics.specs.inner.Pages.{ArePages};
-ghost use Rattle.lft_program_diagnostics.specs.{Reasons.{BeginsAt, IsShownAt, IsToldIn, IsToldOf}, inner.{Sentences.{IsOf, sentence_of}, Spots.behind}};
+ghost use Rattle.lft_program_diagnostics.specs.{Reasons.{BeginsAt, IsShownAt, IsToldIn, IsToldOf}, inner.{Sentences.{IsOf, reason_sentence}, Spots.behind}};
 ghost use Rattle.lft_program_diagnostics.specs.Spots.{reactors_among as the_reactors_among, witness_spot};
 ghost use Rattle.lft_program.specs.declared.refusal.Refusal.TheVariants as refusals;
 
@@ -130,7 +130,7 @@ fn head_of(
     reason: &WhyRefused,
 ) -> Result<String, NoMemory>
     requires { ArePages text.now files.now }
-    ensures { IfOk result (λ words. BeginsAt text.now files.now reason.now.at (sentence_of reason.now) (string_bytes words)) }
+    ensures { IfOk result (λ words. BeginsAt text.now files.now reason.now.at (reason_sentence reason.now) (string_bytes words)) }
 {
     let mut out = place_words(alloc, text, files, reason.at)?;
     push_said(&mut out, reason.sentence.words(), &reason.names)?;
@@ -163,7 +163,7 @@ fn lines(
     reason: &WhyRefused,
 ) -> Result<String, NoMemory>
     requires { ArePages text.now files.now }
-    ensures { IfOk result (λ words. BeginsAt text.now files.now reason.now.at (sentence_of reason.now) (string_bytes words)) }
+    ensures { IfOk result (λ words. BeginsAt text.now files.now reason.now.at (reason_sentence reason.now) (string_bytes words)) }
 {
     let rest = rest_of(alloc, text, files, reason)?;
     let mut out = head_of(alloc, text, files, reason)?;

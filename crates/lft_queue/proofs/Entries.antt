@@ -7,7 +7,7 @@ use Rattle.std.specs.Ordering.{is_eq, match_ordering, nat_cmp, bool_cmp, orderin
 use Rattle.std.proofs.lemmas.{Bool.Decides.nat_tests, Map.Lookups.exact_unsigned}
 use Rattle.lft_tag.{specs.{declared.Tag.Tag, Tags.UpTo}, proofs.Comparing.{less_nat, less_then, both_equal}}
 use Rattle.lft_ir.specs.declared.parts.{Value.Value, Name.{Name, TheVariants.{Port, Action}}}
-use Rattle.lft_queue.specs.{Pending.{Pending, same_key, value_of, Becomes, IsMap}, inner.Keys.{Key, key_of, tag_of, name_of, pending_at, key_cmp}}
+use Rattle.lft_queue.specs.{Pending.{Pending, same_key, value_of, Becomes, IsMap}, inner.Keys.{Key, key_of, key_tag, name_of, pending_at, key_cmp}}
 
 eq_nat : (a b : ℕ) → is_eq (nat_cmp a b) ≡ (a == b)
 eq_nat a b = grind (arith, nat_tests)
@@ -33,15 +33,15 @@ parts_then : (a b c d : ℕ) (o q : Ordering) → is_eq (ordering_then (ordering
 parts_then a b c d o q = rw (eq_then (ordering_then (ordering_then (nat_cmp a c) (nat_cmp b d)) o) q, eq_then (ordering_then (nat_cmp a c) (nat_cmp b d)) o, same_parts a b c d) refl
 
 -- two keys are the same where tag and name are
-pub at_key : (g : Tag) (n : Name) (k : Key) → is_at (key_cmp (key_of g n)) k ≡ same_key g n (tag_of k) (name_of k.2 k.3)
+pub at_key : (g : Tag) (n : Name) (k : Key) → is_at (key_cmp (key_of g n)) k ≡ same_key g n (key_tag k) (name_of k.2 k.3)
 at_key g (Port p) k = parts_then g.time g.micro k.0 k.1 (bool_cmp false k.2) (nat_cmp p k.3) ∙ by k.2
   where
-    by : (b : Bool) → (((g.time == k.0) && (g.micro == k.1)) && is_eq (bool_cmp false b)) && is_eq (nat_cmp p k.3) ≡ same_key g (Port p) (tag_of k) (name_of b k.3)
+    by : (b : Bool) → (((g.time == k.0) && (g.micro == k.1)) && is_eq (bool_cmp false b)) && is_eq (nat_cmp p k.3) ≡ same_key g (Port p) (key_tag k) (name_of b k.3)
     by true = both_false ((g.time == k.0) && (g.micro == k.1)) (is_eq (nat_cmp p k.3))
     by false = both_last ((g.time == k.0) && (g.micro == k.1)) (is_eq (nat_cmp p k.3)) ∙ ap (λ (c : Bool). ((g.time == k.0) && (g.micro == k.1)) && c) (eq_nat p k.3)
 at_key g (Action a) k = parts_then g.time g.micro k.0 k.1 (bool_cmp true k.2) (nat_cmp a k.3) ∙ by k.2
   where
-    by : (b : Bool) → (((g.time == k.0) && (g.micro == k.1)) && is_eq (bool_cmp true b)) && is_eq (nat_cmp a k.3) ≡ same_key g (Action a) (tag_of k) (name_of b k.3)
+    by : (b : Bool) → (((g.time == k.0) && (g.micro == k.1)) && is_eq (bool_cmp true b)) && is_eq (nat_cmp a k.3) ≡ same_key g (Action a) (key_tag k) (name_of b k.3)
     by true = both_last ((g.time == k.0) && (g.micro == k.1)) (is_eq (nat_cmp a k.3)) ∙ ap (λ (c : Bool). ((g.time == k.0) && (g.micro == k.1)) && c) (eq_nat a k.3)
     by false = both_false ((g.time == k.0) && (g.micro == k.1)) (is_eq (nat_cmp a k.3))
 
@@ -91,10 +91,10 @@ kept p (e ∷ es) = go (p (pending_at e)) (kept p es)
     go false q = q
 
 -- a key is that of its tag and name
-key_back : (k : Key) → key_of (tag_of k) (name_of k.2 k.3) ≡ k
+key_back : (k : Key) → key_of (key_tag k) (name_of k.2 k.3) ≡ k
 key_back k = go k.2 refl
   where
-    go : (b : Bool) → k.2 ≡ b → key_of (tag_of k) (name_of b k.3) ≡ k
+    go : (b : Bool) → k.2 ≡ b → key_of (key_tag k) (name_of b k.3) ≡ k
     go true e = λ i. (k.0, k.1, sym e i, k.3)
     go false e = λ i. (k.0, k.1, sym e i, k.3)
 
@@ -105,7 +105,7 @@ less_apart Greater e = refl
 
 -- keys in order differ
 apart : (p q : Key × Value) → key_cmp p.0 q.0 ≡ Less → same_key (pending_at p).tag (pending_at p).name (pending_at q).tag (pending_at q).name ≡ false
-apart p q h = sym (at_key (tag_of p.0) (name_of p.0.2 p.0.3) q.0) ∙ ap (λ (k : Key). is_eq (key_cmp k q.0)) (key_back p.0) ∙ less_apart (key_cmp p.0 q.0) h
+apart p q h = sym (at_key (key_tag p.0) (name_of p.0.2 p.0.3) q.0) ∙ ap (λ (k : Key). is_eq (key_cmp k q.0)) (key_back p.0) ∙ less_apart (key_cmp p.0 q.0) h
 
 all_apart : (p : Key × Value) (es : List (Key × Value)) → AllByRecursion (λ y. key_cmp p.0 y ≡ Less) (keys_of es) → (j : ℕ) (d : Pending) → j < length (map pending_at es) → same_key (pending_at p).tag (pending_at p).name (get_or (map pending_at es) j d).tag (get_or (map pending_at es) j d).name ≡ false
 all_apart p [] h j d lt = absurd (omega arith)
@@ -122,30 +122,30 @@ is_map (p ∷ es) h (suc i) zero d lt len = absurd (omega arith)
 is_map (p ∷ es) h (suc i) (suc j) d lt len = is_map es h.1 i j d (omega arith) (omega arith)
 
 -- keys in order have tags in order
-pub follows : (j k : Key) → key_cmp j k ≡ Less → UpTo (tag_of j) (tag_of k)
+pub follows : (j k : Key) → key_cmp j k ≡ Less → UpTo (key_tag j) (key_tag k)
 follows j k h = by_last (less_then (ordering_then (ordering_then (nat_cmp j.0 k.0) (nat_cmp j.1 k.1)) (bool_cmp j.2 k.2)) (nat_cmp j.3 k.3) h)
   where
-    equal : ordering_then (nat_cmp j.0 k.0) (nat_cmp j.1 k.1) ≡ Equal → UpTo (tag_of j) (tag_of k)
+    equal : ordering_then (nat_cmp j.0 k.0) (nat_cmp j.1 k.1) ≡ Equal → UpTo (key_tag j) (key_tag k)
     equal e = let p = both_equal (nat_cmp j.0 k.0) (nat_cmp j.1 k.1) e in let a : j.0 ≡ k.0 = exact_unsigned j.0 k.0 p.0 in let b : j.1 ≡ k.1 = exact_unsigned j.1 k.1 p.1 in inr (a, omega arith)
 
-    less : ordering_then (nat_cmp j.0 k.0) (nat_cmp j.1 k.1) ≡ Less → UpTo (tag_of j) (tag_of k)
+    less : ordering_then (nat_cmp j.0 k.0) (nat_cmp j.1 k.1) ≡ Less → UpTo (key_tag j) (key_tag k)
     less e = elim (less_then (nat_cmp j.0 k.0) (nat_cmp j.1 k.1) e) [
       | inl a ↦ inl (less_nat j.0 k.0 a)
       | inr b ↦ let c : j.1 < k.1 = less_nat j.1 k.1 b.1 in inr (exact_unsigned j.0 k.0 b.0, omega arith)
     ]
 
-    by_kind : ordering_then (ordering_then (nat_cmp j.0 k.0) (nat_cmp j.1 k.1)) (bool_cmp j.2 k.2) ≡ Less → UpTo (tag_of j) (tag_of k)
+    by_kind : ordering_then (ordering_then (nat_cmp j.0 k.0) (nat_cmp j.1 k.1)) (bool_cmp j.2 k.2) ≡ Less → UpTo (key_tag j) (key_tag k)
     by_kind e = elim (less_then (ordering_then (nat_cmp j.0 k.0) (nat_cmp j.1 k.1)) (bool_cmp j.2 k.2) e) [
       | inl a ↦ less a
       | inr b ↦ equal b.0
     ]
 
-    by_last : (ordering_then (ordering_then (nat_cmp j.0 k.0) (nat_cmp j.1 k.1)) (bool_cmp j.2 k.2) ≡ Less) ⊎ ((ordering_then (ordering_then (nat_cmp j.0 k.0) (nat_cmp j.1 k.1)) (bool_cmp j.2 k.2) ≡ Equal) × (nat_cmp j.3 k.3 ≡ Less)) → UpTo (tag_of j) (tag_of k)
+    by_last : (ordering_then (ordering_then (nat_cmp j.0 k.0) (nat_cmp j.1 k.1)) (bool_cmp j.2 k.2) ≡ Less) ⊎ ((ordering_then (ordering_then (nat_cmp j.0 k.0) (nat_cmp j.1 k.1)) (bool_cmp j.2 k.2) ≡ Equal) × (nat_cmp j.3 k.3 ≡ Less)) → UpTo (key_tag j) (key_tag k)
     by_last (inl a) = by_kind a
     by_last (inr b) = equal (both_equal (ordering_then (nat_cmp j.0 k.0) (nat_cmp j.1 k.1)) (bool_cmp j.2 k.2) b.0).0
 
 -- and so have keys that are the same
-pub equal_up : (j k : Key) → key_cmp j k ≡ Equal → UpTo (tag_of j) (tag_of k)
+pub equal_up : (j k : Key) → key_cmp j k ≡ Equal → UpTo (key_tag j) (key_tag k)
 equal_up j k e =
     let p = both_equal (ordering_then (ordering_then (nat_cmp j.0 k.0) (nat_cmp j.1 k.1)) (bool_cmp j.2 k.2)) (nat_cmp j.3 k.3) e in
     let q = both_equal (ordering_then (nat_cmp j.0 k.0) (nat_cmp j.1 k.1)) (bool_cmp j.2 k.2) p.0 in
@@ -156,23 +156,23 @@ equal_up j k e =
 up_to_self : (g : Tag) → UpTo g g
 up_to_self g = inr (refl, omega arith)
 
-all_later : (k : Key) (es : List (Key × Value)) → AllByRecursion (λ y. key_cmp k y ≡ Less) (keys_of es) → (j : ℕ) (d : Pending) → j < length (map pending_at es) → UpTo (tag_of k) (get_or (map pending_at es) j d).tag
+all_later : (k : Key) (es : List (Key × Value)) → AllByRecursion (λ y. key_cmp k y ≡ Less) (keys_of es) → (j : ℕ) (d : Pending) → j < length (map pending_at es) → UpTo (key_tag k) (get_or (map pending_at es) j d).tag
 all_later k [] h j d lt = absurd (omega arith)
 all_later k (q ∷ es) h zero d lt = follows k q.0 h.0
 all_later k (q ∷ es) h (suc j) d lt = all_later k es h.1 j d (omega arith)
 
 -- the first entry has the least tag
-pub first_least : (es : List (Key × Value)) (k : Key) (v : Value) → slice_get es 0 ≡ Some (k, v) → IsStrictlySortedBy key_cmp (keys_of es) → (e : Pending) → Contains (map pending_at es) e → UpTo (tag_of k) e.tag
+pub first_least : (es : List (Key × Value)) (k : Key) (v : Value) → slice_get es 0 ≡ Some (k, v) → IsStrictlySortedBy key_cmp (keys_of es) → (e : Pending) → Contains (map pending_at es) e → UpTo (key_tag k) e.tag
 unfolding IsStrictlySortedBy
 first_least [] k v f h e c = cc (f)
-first_least (p ∷ es) k v f h e c = subst (λ (j : Key). UpTo (tag_of j) e.tag) is_first (at c.0 c.1 c.2)
+first_least (p ∷ es) k v f h e c = subst (λ (j : Key). UpTo (key_tag j) e.tag) is_first (at c.0 c.1 c.2)
   where
     is_first : p.0 ≡ k
     is_first = let q : p ≡ (k, v) = cc (f) in ap (λ (x : Key × Value). x.0) q
 
-    at : (j : ℕ) → j < length (map pending_at (p ∷ es)) → get_or (map pending_at (p ∷ es)) j e ≡ e → UpTo (tag_of p.0) e.tag
-    at zero lt q = subst (λ (x : Pending). UpTo (tag_of p.0) x.tag) q (up_to_self (tag_of p.0))
-    at (suc j) lt q = subst (λ (x : Pending). UpTo (tag_of p.0) x.tag) q (all_later p.0 es h.0 j e (omega arith))
+    at : (j : ℕ) → j < length (map pending_at (p ∷ es)) → get_or (map pending_at (p ∷ es)) j e ≡ e → UpTo (key_tag p.0) e.tag
+    at zero lt q = subst (λ (x : Pending). UpTo (key_tag p.0) x.tag) q (up_to_self (key_tag p.0))
+    at (suc j) lt q = subst (λ (x : Pending). UpTo (key_tag p.0) x.tag) q (all_later p.0 es h.0 j e (omega arith))
 
 -- and is one of the events
 pub first_there : (es : List (Key × Value)) (k : Key) (v : Value) → slice_get es 0 ≡ Some (k, v) → Contains (map pending_at es) (pending_at (k, v))

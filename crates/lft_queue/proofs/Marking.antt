@@ -8,7 +8,7 @@ use Rattle.lft_ir.specs.declared.parts.{Name.{Name, TheVariants.{Port, Action}},
 use Rattle.lft_ir.proofs.Naming.{named_on}
 use Rattle.lft_lists.proofs.{Members.{Mem, mem_cases, mem_left, mem_right, mem_contains, contains_mem, mem_from_filter}, Picked.take_one_more}
 use Rattle.lft_lists.proofs.Places.{get_there, at_contains, get_same, length_same, get_written, get_unwritten, get_write_cases, same_at}
-use Rattle.lft_queue.specs.inner.Reading.{Reads, is_read, AreMarked}
+use Rattle.lft_queue.specs.inner.Reading.{ReadsPort, is_read, AreReadPortsMarked}
 
 -- the members of a list with one more at its end
 pub contains_pushed : {X : Type 0} (xs : List X) (y x : X) → Contains (xs ++ y ∷ []) x ↔ (Contains xs x ⊎ (x ≡ y))
@@ -90,28 +90,28 @@ triggers_inside program sound n x here p c =
     (sound.exist n x here).triggers (On (Port p)) (subst (λ (t : Trigger). Contains x.triggers t) (named_on m.0 (Port p) m.2) (mem_contains m.0 x.triggers m.1))
 
 -- no reaction yet
-pub marked_start : (program : Parts) (n : ℕ) (marked : List Bool) → marked ≡ replicate n false → n ≡ length program.ports → AreMarked program 0 marked
+pub marked_start : (program : Parts) (n : ℕ) (marked : List Bool) → marked ≡ replicate n false → n ≡ length program.ports → AreReadPortsMarked program 0 marked
 marked_start program n marked same count = record { as_long = ap length same ∙ length_same n false ∙ count; each = λ p. (λ e. absurd (none p e), λ r. (let l : r.0 < 0 = r.1 in absurd (omega arith))) }
   where
     none : (p : ℕ) → slice_get marked p ≡ Some true → ⊥
     none p e = let z : true ≡ false = get_same n p false true (subst (λ (ms : List Bool). slice_get ms p ≡ Some true) same e) in absurd (cc)
 
 -- one reaction more
-pub marked_more : (program : Parts) (n : ℕ) (x : Reaction) (old mid new : List Bool) → slice_get program.reactions n ≡ Some x → AreMarked program n old → length new ≡ length old → ((p : ℕ) → (slice_get mid p ≡ Some true) ↔ ((slice_get old p ≡ Some true) ⊎ Contains (filter_map named x.triggers) (Port p))) → ((p : ℕ) → (slice_get new p ≡ Some true) ↔ ((slice_get mid p ≡ Some true) ⊎ Contains x.uses (Port p))) → AreMarked program (n + 1) new
+pub marked_more : (program : Parts) (n : ℕ) (x : Reaction) (old mid new : List Bool) → slice_get program.reactions n ≡ Some x → AreReadPortsMarked program n old → length new ≡ length old → ((p : ℕ) → (slice_get mid p ≡ Some true) ↔ ((slice_get old p ≡ Some true) ⊎ Contains (filter_map named x.triggers) (Port p))) → ((p : ℕ) → (slice_get new p ≡ Some true) ↔ ((slice_get mid p ≡ Some true) ⊎ Contains x.uses (Port p))) → AreReadPortsMarked program (n + 1) new
 marked_more program n x old mid new here before as_long triggers uses = record { as_long = as_long ∙ before.as_long; each = λ p. (λ e. to p ((uses p).0 e), λ r. from p r (cases_eq r.0 n)) }
   where
-    read : (p : ℕ) → Contains (inputs x) (Port p) → (r : ℕ) × (r < n + 1) × Reads program r p
+    read : (p : ℕ) → Contains (inputs x) (Port p) → (r : ℕ) × (r < n + 1) × ReadsPort program r p
     read p c = (n, omega arith, (x, here, c))
 
-    to : (p : ℕ) → (slice_get mid p ≡ Some true) ⊎ Contains x.uses (Port p) → (r : ℕ) × (r < n + 1) × Reads program r p
+    to : (p : ℕ) → (slice_get mid p ≡ Some true) ⊎ Contains x.uses (Port p) → (r : ℕ) × (r < n + 1) × ReadsPort program r p
     to p (inr c) = read p (mem_contains (Port p) (inputs x) (mem_right (Port p) (filter_map named x.triggers) x.uses (contains_mem (Port p) x.uses c)))
     to p (inl e) = by ((triggers p).0 e)
       where
-        by : (slice_get old p ≡ Some true) ⊎ Contains (filter_map named x.triggers) (Port p) → (r : ℕ) × (r < n + 1) × Reads program r p
+        by : (slice_get old p ≡ Some true) ⊎ Contains (filter_map named x.triggers) (Port p) → (r : ℕ) × (r < n + 1) × ReadsPort program r p
         by (inl f) = let r = (before.each p).0 f in let l : r.0 < n = r.1 in (r.0, omega arith, r.2)
         by (inr c) = read p (mem_contains (Port p) (inputs x) (mem_left (Port p) (filter_map named x.triggers) x.uses (contains_mem (Port p) (filter_map named x.triggers) c)))
 
-    from : (p : ℕ) → (r : (k : ℕ) × (k < n + 1) × Reads program k p) → (r.0 ≡ n) ⊎ (r.0 ≡ n → ⊥) → slice_get new p ≡ Some true
+    from : (p : ℕ) → (r : (k : ℕ) × (k < n + 1) × ReadsPort program k p) → (r.0 ≡ n) ⊎ (r.0 ≡ n → ⊥) → slice_get new p ≡ Some true
     from p r (inr d) = (uses p).1 (inl ((triggers p).1 (inl ((before.each p).1 (r.0, (let l : r.0 < n + 1 = r.1 in omega arith), r.2)))))
     from p r (inl e) = by (mem_cases (Port p) (filter_map named x.triggers) x.uses (contains_mem (Port p) (inputs x) (subst (λ (y : Reaction). Contains (inputs y) (Port p)) (same_at program.reactions r.0 n r.2.0 x r.2.1 here e) r.2.2)))
       where
@@ -124,18 +124,18 @@ port_there : (p : ℕ) (n : Name) → is_port p n ≡ true → n ≡ Port p
 port_there p (Port q) e = ap Port (sym (eqb-true p q e))
 port_there p (Action a) e = absurd (false≢true e)
 
-reads_of : (program : Parts) (p : ℕ) → is_read program p ≡ true → (r : ℕ) × Reads program r p
+reads_of : (program : Parts) (p : ℕ) → is_read program p ≡ true → (r : ℕ) × ReadsPort program r p
 reads_of program p e =
     let x = Any-from_list_any (λ y. list_any (is_port p) (inputs y)) program.reactions e in
     let n = Any-from_list_any (is_port p) (inputs x.1) x.4 in
     let here : Contains (inputs x.1) n.1 = (n.0, n.2, n.3) in
     (x.0, (x.1, slice_get-get_or program.reactions x.0 x.1 x.2 ∙ ap Some x.3, subst (λ (m : Name). Contains (inputs x.1) m) (port_there p n.1 n.4) here))
 
-pub of_reads : (program : Parts) (r p : ℕ) → Reads program r p → is_read program p ≡ true
+pub of_reads : (program : Parts) (r p : ℕ) → ReadsPort program r p → is_read program p ≡ true
 of_reads program r p (x, is, c) = let i = at_contains (inputs x) (Port p) c in any_passes_from_place (λ y. list_any (is_port p) (inputs y)) program.reactions r x is (any_passes_from_place (is_port p) (inputs x) i.0 (Port p) i.1 (eq-eqb p p refl))
 
 -- what is marked of a port is whether it is read
-pub marked_is : (program : Parts) (marked : List Bool) → AreMarked program (length program.reactions) marked → (p : ℕ) → p < length program.ports → slice_get marked p ≡ Some (is_read program p)
+pub marked_is : (program : Parts) (marked : List Bool) → AreReadPortsMarked program (length program.reactions) marked → (p : ℕ) → p < length program.ports → slice_get marked p ≡ Some (is_read program p)
 marked_is program marked are p l = go there.0 (is_read program p) there.1 refl
   where
     there : (b : Bool) × (slice_get marked p ≡ Some b)

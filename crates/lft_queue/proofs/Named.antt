@@ -5,7 +5,7 @@ use Rattle.std.specs.{declared.cmp.Ordering.{Ordering, TheVariants.{Less, Equal,
 use Rattle.std.proofs.lemmas.{Bool.{false≢true, Decides.nat_tests}, List.Kept.IsStrictlySortedBy-filter}
 use Rattle.lft_tag.{specs.{declared.Tag.Tag, Tags.{Before, UpTo, same_tag}}, proofs.Order.Before-UpTo}
 use Rattle.lft_ir.{specs.{declared.parts.{Value.Value, Name.{Name, TheVariants.Port}}, Naming.same_name}, proofs.Naming.{name_same, name_self}}
-use Rattle.lft_queue.specs.{Pending.{Pending, value_of, is_at}, inner.{Pending.names_at, Keys.{Key, key_of, tag_of, pending_at, key_cmp, AreFrom}}}
+use Rattle.lft_queue.specs.{Pending.{Pending, value_of, is_at}, inner.{Pending.names_at, Keys.{Key, key_of, key_tag, pending_at, key_cmp, AreFrom}}}
 use Rattle.lft_queue.proofs.{Entries.{follows, equal_up}, Tests.{tag_apart, past}}
 
 contains_first : {X : Type 0} (x : X) (xs : List X) → Contains (x ∷ xs) x
@@ -49,15 +49,15 @@ least_zero n = grind (arith, nat_tests)
 equal_nat : (a b : ℕ) → a ≡ b → nat_cmp a b ≡ Equal
 equal_nat a b e = grind (arith, nat_tests)
 
-from_up : (g : Tag) (k : Key) → is_from g k ≡ true → UpTo g (tag_of k)
+from_up : (g : Tag) (k : Key) → is_from g k ≡ true → UpTo g (key_tag k)
 from_up g k = go (key_cmp (key_of g (Port 0)) k) refl
   where
-    go : (o : Ordering) → key_cmp (key_of g (Port 0)) k ≡ o → is_le o && true ≡ true → UpTo g (tag_of k)
+    go : (o : Ordering) → key_cmp (key_of g (Port 0)) k ≡ o → is_le o && true ≡ true → UpTo g (key_tag k)
     go Less e q = follows (key_of g (Port 0)) k e
     go Equal e q = equal_up (key_of g (Port 0)) k e
     go Greater e q = absurd (cc)
 
-at_from : (g : Tag) (k : Key) → same_tag g (tag_of k) ≡ true → is_from g k ≡ true
+at_from : (g : Tag) (k : Key) → same_tag g (key_tag k) ≡ true → is_from g k ≡ true
 at_from g k e = by_time (g.time == k.0) (g.micro == k.1) refl refl e
   where
     by_last : (b : Bool) → is_le (ordering_then (bool_cmp false b) (nat_cmp 0 k.3)) && true ≡ true
@@ -82,18 +82,18 @@ keys_kept p (e ∷ es) = go (p e.0) (keys_kept p es)
 
 -- the entries from the first key of the tag on
 module _ (g : Tag) where
-  all_from : (ks : List Key) → AllByRecursion (λ k. UpTo g (tag_of k)) (filter (is_from g) ks)
+  all_from : (ks : List Key) → AllByRecursion (λ k. UpTo g (key_tag k)) (filter (is_from g) ks)
   all_from [] = tt
   all_from (k ∷ ks) = go (is_from g k) refl (all_from ks)
     where
-      go : (b : Bool) → is_from g k ≡ b → AllByRecursion (λ x. UpTo g (tag_of x)) (filter (is_from g) ks) → AllByRecursion (λ x. UpTo g (tag_of x)) (cond b (k ∷ filter (is_from g) ks) (filter (is_from g) ks))
+      go : (b : Bool) → is_from g k ≡ b → AllByRecursion (λ x. UpTo g (key_tag x)) (filter (is_from g) ks) → AllByRecursion (λ x. UpTo g (key_tag x)) (cond b (k ∷ filter (is_from g) ks) (filter (is_from g) ks))
       go true e a = (from_up g k e, a)
       go false e a = a
 
   pub are_from : (es : List (Key × Value)) → IsStrictlySortedBy key_cmp (keys_of es) → AreFrom g (from_on g es)
   are_from es s = record {
     ordered = subst (λ (ks : List Key). IsStrictlySortedBy key_cmp ks) (sym (keys_kept (is_from g) es)) (IsStrictlySortedBy-filter key_cmp (is_from g) (keys_of es) s);
-    from = subst (λ (ks : List Key). AllByRecursion (λ k. UpTo g (tag_of k)) ks) (sym (keys_kept (is_from g) es)) (all_from (keys_of es));
+    from = subst (λ (ks : List Key). AllByRecursion (λ k. UpTo g (key_tag k)) ks) (sym (keys_kept (is_from g) es)) (all_from (keys_of es));
   }
 
   -- those before it name nothing at the tag
@@ -105,13 +105,13 @@ module _ (g : Tag) where
       by_tag true q = ap (λ (ns : List Name). (pending_at e).name ∷ ns) q
       by_tag false q = q
 
-      apart : (b : Bool) → same_tag g (tag_of e.0) ≡ b → is_from g e.0 ≡ false → names_at g (map pending_at (from_on g es)) ≡ names_at g (map pending_at es) → names_at g (map pending_at (from_on g es)) ≡ map (λ (x : Pending). x.name) (cond b (pending_at e ∷ filter (is_at g) (map pending_at es)) (filter (is_at g) (map pending_at es)))
+      apart : (b : Bool) → same_tag g (key_tag e.0) ≡ b → is_from g e.0 ≡ false → names_at g (map pending_at (from_on g es)) ≡ names_at g (map pending_at es) → names_at g (map pending_at (from_on g es)) ≡ map (λ (x : Pending). x.name) (cond b (pending_at e ∷ filter (is_at g) (map pending_at es)) (filter (is_at g) (map pending_at es)))
       apart true s f q = absurd (false≢true (sym f ∙ at_from g e.0 s))
       apart false s f q = q
 
       by_start : (b : Bool) → is_from g e.0 ≡ b → names_at g (map pending_at (from_on g es)) ≡ names_at g (map pending_at es) → names_at g (map pending_at (cond b (e ∷ from_on g es) (from_on g es))) ≡ names_at g (map pending_at (e ∷ es))
-      by_start true f q = by_tag (same_tag g (tag_of e.0)) q
-      by_start false f q = apart (same_tag g (tag_of e.0)) refl f q
+      by_start true f q = by_tag (same_tag g (key_tag e.0)) q
+      by_start false f q = apart (same_tag g (key_tag e.0)) refl f q
 
 -- the first of the events from a tag on
 module _ (g : Tag) (k : Key) (v : Value) (es : List (Key × Value)) (are : AreFrom g ((k, v) ∷ es)) where
@@ -120,13 +120,13 @@ module _ (g : Tag) (k : Key) (v : Value) (es : List (Key × Value)) (are : AreFr
   rest_from = record { ordered = are.ordered.1; from = are.from.1 }
 
   -- or after it, as all others are then
-  pub none_named : ¬ (g ≡ tag_of k) → (names_at g (map pending_at ((k, v) ∷ es)) ≡ []) × (names_at g (map pending_at es) ≡ [])
+  pub none_named : ¬ (g ≡ key_tag k) → (names_at g (map pending_at ((k, v) ∷ es)) ≡ []) × (names_at g (map pending_at es) ≡ [])
   unfolding IsStrictlySortedBy
-  none_named n = (ap (λ (b : Bool). map (λ (x : Pending). x.name) (cond b (pending_at (k, v) ∷ filter (is_at g) (map pending_at es)) (filter (is_at g) (map pending_at es)))) (tag_apart g (tag_of k) later) ∙ none es are.ordered.0, none es are.ordered.0)
+  none_named n = (ap (λ (b : Bool). map (λ (x : Pending). x.name) (cond b (pending_at (k, v) ∷ filter (is_at g) (map pending_at es)) (filter (is_at g) (map pending_at es)))) (tag_apart g (key_tag k) later) ∙ none es are.ordered.0, none es are.ordered.0)
     where
-      later : Before g (tag_of k)
-      later = past g (tag_of k) are.from.0 n
+      later : Before g (key_tag k)
+      later = past g (key_tag k) are.from.0 n
 
       none : (fs : List (Key × Value)) → AllByRecursion (λ y. key_cmp k y ≡ Less) (keys_of fs) → names_at g (map pending_at fs) ≡ []
       none [] s = refl
-      none (f ∷ fs) s = ap (λ (b : Bool). map (λ (x : Pending). x.name) (cond b (pending_at f ∷ filter (is_at g) (map pending_at fs)) (filter (is_at g) (map pending_at fs)))) (tag_apart g (tag_of f.0) (Before-UpTo g (tag_of k) (tag_of f.0) later (follows k f.0 s.0))) ∙ none fs s.1
+      none (f ∷ fs) s = ap (λ (b : Bool). map (λ (x : Pending). x.name) (cond b (pending_at f ∷ filter (is_at g) (map pending_at fs)) (filter (is_at g) (map pending_at fs)))) (tag_apart g (key_tag f.0) (Before-UpTo g (key_tag k) (key_tag f.0) later (follows k f.0 s.0))) ∙ none fs s.1

@@ -1,7 +1,7 @@
 //! Tags and names as keys of an ordered map.
 
 ghost use Rattle.std.specs.Prelude.{◌≡◌, ◌↔◌};
-ghost use Rattle.lft_queue.specs.inner.Keys.{key_of, tag_of, name_of};
+ghost use Rattle.lft_queue.specs.inner.Keys.{key_of, key_tag, name_of};
 
 use lft_ir::Name;
 use lft_tag::Tag;
@@ -22,7 +22,7 @@ pub(crate) fn key(tag: Tag, name: Name) -> Key
 
 /// The tag of a key.
 pub(crate) fn tag_of_key(key: Key) -> Tag
-    ensures { result ≡ tag_of key }
+    ensures { result ≡ key_tag key }
 {
     Tag {
         time: key.0,

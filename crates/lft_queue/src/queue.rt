@@ -3,7 +3,7 @@
 ghost use Rattle.std.specs.Prelude.{◌≡◌, ◌↔◌, ◌+◌, ◌-◌, ◌∷◌, [], List, length, map, filter, not, false, Some, None, IsSome, IfSome, IfNone, IfErr, OnOk, IsTrue, Contains, slice_get};
 ghost use Rattle.lft_tag.specs.Tags.{Before, UpTo};
 ghost use Rattle.lft_ir.specs.declared.parts.{Name.Name as NameOf, Value.Value as Carried};
-ghost use Rattle.lft_queue.specs.{Pending.{Pending, value_of, Becomes, IsMap, is_at, is_after}, inner.Keys.{Key as KeyOf, tag_of, pending_at}};
+ghost use Rattle.lft_queue.specs.{Pending.{Pending, value_of, Becomes, IsMap, is_at, is_after}, inner.Keys.{Key as KeyOf, key_tag, pending_at}};
 
 use crate::keys::{Key, key, tag_of_key};
 use crate::names::NamesAt;
@@ -39,7 +39,7 @@ impl Model for Queue {
 
 // Whether the first event is there and not after the tag.
 fn begins_by(values: &BTreeMap<Key, Value>, tag: Tag) -> bool
-    ensures begins { IsTrue result → (k : KeyOf) × (v : Carried) × (slice_get values.now.entries 0 ≡ Some (k, v)) × ¬ Before tag (tag_of k) }
+    ensures begins { IsTrue result → (k : KeyOf) × (v : Carried) × (slice_get values.now.entries 0 ≡ Some (k, v)) × ¬ Before tag (key_tag k) }
     ensures over { result ≡ false → map pending_at values.now.entries ≡ filter (λ e. is_after tag e) (map pending_at values.now.entries) }
 {
     // Asked for its clause that the keys ascend.
@@ -52,7 +52,7 @@ fn begins_by(values: &BTreeMap<Key, Value>, tag: Tag) -> bool
 
 // Whether the last event is there and after the tag.
 fn ends_after(values: &BTreeMap<Key, Value>, tag: Tag) -> bool
-    ensures ends { IsTrue result → (k : KeyOf) × (v : Carried) × (slice_get values.now.entries (length values.now.entries - 1) ≡ Some (k, v)) × Before tag (tag_of k) }
+    ensures ends { IsTrue result → (k : KeyOf) × (v : Carried) × (slice_get values.now.entries (length values.now.entries - 1) ≡ Some (k, v)) × Before tag (key_tag k) }
     ensures over { result ≡ false → map pending_at values.now.entries ≡ filter (λ e. not (is_after tag e)) (map pending_at values.now.entries) }
 {
     match values.last_key_value() {

@@ -2,7 +2,7 @@
 
 ghost use Rattle.std.specs.Prelude.{◌≡◌, ◌↔◌, ◌⊎◌, ◌<◌, ℕ, true, length, slice_get, Some, IfOk, Contains};
 ghost use Rattle.lft_ir.specs.declared.parts.Name.{Name as NameOf};
-ghost use Rattle.lft_queue.specs.inner.Reading.{is_read, AreMarked};
+ghost use Rattle.lft_queue.specs.inner.Reading.{is_read, AreReadPortsMarked};
 
 use lft_ir::{Name, Program};
 use lft_lists::item_at;
@@ -34,7 +34,7 @@ fn mark_all(marked: &mut [bool], names: &[Name])
 
 /// For each port whether a reaction reads it.
 pub fn read_ports(alloc: Global, program: &Program) -> Result<Vec<bool>, NoMemory>
-    ensures marked { IfOk result (λ marked. AreMarked program.now (length program.now.reactions) marked.items) }
+    ensures marked { IfOk result (λ marked. AreReadPortsMarked program.now (length program.now.reactions) marked.items) }
     ensures read { IfOk result (λ marked. (p : ℕ) → p < length program.now.ports → slice_get marked.items p ≡ Some (is_read program.now p)) }
 {
     let mut marked = vec![in alloc; false; program.ports()]?;

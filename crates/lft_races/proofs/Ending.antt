@@ -9,7 +9,7 @@ use Rattle.lft_ir.specs.declared.steps.row.{Row.Row, Step.TheVariants.{Start, En
 use Rattle.lft_rows.{specs.{declared.slices.Slice.Slice, inner.Slices.IsSlice}, proofs.Steps.row_eq}
 use Rattle.lft_model.specs.Runs.{start_row, end_row}
 use Rattle.lft_races.specs.Runs.{StartsAt, EndsAt}
-use Rattle.lft_races.specs.inner.{Runs.HaveRun, Races.AreUnfinished, Noted.{EndRuns, AreUpTo, IsNoted, AreNoted, HasUnfinished, HasOpen}}
+use Rattle.lft_races.specs.inner.{Runs.HaveRun, Races.AreUnfinished, Noted.{EndRuns, AreUpTo, IsNoted, AreNoted, HasUnfinished, HasOpenReactions}}
 use Rattle.lft_races.specs.Races.{NotEnded, IsUnfinished}
 
 -- a row of a step and a tag
@@ -89,21 +89,21 @@ module _ (t : List Row) (s : Slice) (slice : IsSlice t s) (i : ℕ) (row : Row) 
       go (inl p) = inr (i, p.1, from, omega arith, subst (λ k. EndsAt t s.tag k i) (sym p.0) (here d), subst (λ k. NotEnded t s.tag k i) (sym p.0) (first (so_far row.reaction x at)))
       go (inr p) = noted_stays t s i a y (λ q. p.0 ((end_here t i row is_row s.tag a q).0)) (so_far a y p.1)
 
-  back_start : (set : List ℕ) (a : ℕ) → ¬ StartsAt t s.tag a i → HasOpen t s i set → ((k : ℕ) × (k < i + 1) × StartsAt t s.tag a k) × NotEnded t s.tag a s.end → Has set a
+  back_start : (set : List ℕ) (a : ℕ) → ¬ StartsAt t s.tag a i → HasOpenReactions t s i set → ((k : ℕ) × (k < i + 1) × StartsAt t s.tag a k) × NotEnded t s.tag a s.end → Has set a
   back_start set a none so_far x = go (ℕ_discrete x.0.0 i)
     where
       go : Dec (x.0.0 ≡ i) → Has set a
       go (yes z) = absurd (none (subst (λ k. StartsAt t s.tag a k) z x.0.2))
       go (no n) = let l : x.0.0 < i + 1 = x.0.1 in (so_far a).1 ((x.0.0, omega arith, x.0.2), x.1)
 
-  on_start : (set : List ℕ) (a : ℕ) → HasOpen t s i set → Has set a → ((k : ℕ) × (k < i + 1) × StartsAt t s.tag a k) × NotEnded t s.tag a s.end
+  on_start : (set : List ℕ) (a : ℕ) → HasOpenReactions t s i set → Has set a → ((k : ℕ) × (k < i + 1) × StartsAt t s.tag a k) × NotEnded t s.tag a s.end
   on_start set a so_far h = let x = (so_far a).0 h in let l : x.0.0 < i = x.0.1 in ((x.0.0, omega arith, x.0.2), x.1)
 
-  pub open_stays : (set : List ℕ) → ¬ (row.step ≡ Start) → HasOpen t s i set → HasOpen t s (i + 1) set
+  pub open_stays : (set : List ℕ) → ¬ (row.step ≡ Start) → HasOpenReactions t s i set → HasOpenReactions t s (i + 1) set
   open_stays set n so_far a = (on_start set a so_far, back_start set a (not_start n a) so_far)
 
   -- the run that starts here ends in the slice
-  pub open_kept : (ends set : List ℕ) (x : ℕ) → slice_get ends row.reaction ≡ Some x → s.first < x → AreNoted t s s.end ends → HasOpen t s i set → HasOpen t s (i + 1) set
+  pub open_kept : (ends set : List ℕ) (x : ℕ) → slice_get ends row.reaction ≡ Some x → s.first < x → AreNoted t s s.end ends → HasOpenReactions t s i set → HasOpenReactions t s (i + 1) set
   open_kept ends set x at above noted so_far a = (on_start set a so_far, λ y. back y (ℕ_discrete a row.reaction))
     where
       ended : IsNoted t s s.end row.reaction x → ¬ NotEnded t s.tag row.reaction s.end
@@ -115,7 +115,7 @@ module _ (t : List Row) (s : Slice) (slice : IsSlice t s) (i : ℕ) (row : Row) 
       back y (no n) = back_start set a (λ q. n ((start_here t i row is_row s.tag a q).0)) so_far y
 
   -- no row ends the run that starts here
-  pub open_more : (ends set new : List ℕ) (x : ℕ) → row.step ≡ Start → slice_get ends row.reaction ≡ Some x → x ≤ s.first → AreNoted t s s.end ends → ((a : ℕ) → Has new a ↔ ((a ≡ row.reaction) ⊎ Has set a)) → HasOpen t s i set → HasOpen t s (i + 1) new
+  pub open_more : (ends set new : List ℕ) (x : ℕ) → row.step ≡ Start → slice_get ends row.reaction ≡ Some x → x ≤ s.first → AreNoted t s s.end ends → ((a : ℕ) → Has new a ↔ ((a ≡ row.reaction) ⊎ Has set a)) → HasOpenReactions t s i set → HasOpenReactions t s (i + 1) new
   open_more ends set new x st at low noted inserted so_far a = (λ h. fore ((inserted a).0 h), λ y. (inserted a).1 (back y (ℕ_discrete a row.reaction)))
     where
       never : IsNoted t s s.end row.reaction x → NotEnded t s.tag row.reaction s.end
@@ -168,13 +168,13 @@ module _ (t : List Row) (s : Slice) (slice : IsSlice t s) (i : ℕ) (row : Row) 
       back u (yes e) = inl e
       back u (no n) = inr ((so_far a).1 (unfinished_more t s.tag a i (λ q. n ((end_here t i row is_row s.tag a q).0)) u))
 
-pub open_none : (t : List Row) (s : Slice) → IsSlice t s → (set : List ℕ) → ((r : ℕ) → Has set r → ⊥) → HasOpen t s s.first set
+pub open_none : (t : List Row) (s : Slice) → IsSlice t s → (set : List ℕ) → ((r : ℕ) → Has set r → ⊥) → HasOpenReactions t s s.first set
 open_none t s slice set none a = (λ h. absurd (none a h), λ x. absurd (early x))
   where
     early : ¬ (((k : ℕ) × (k < s.first) × StartsAt t s.tag a k) × NotEnded t s.tag a s.end)
     early x = let r : s.first ≤ x.0.0 = (slice.all x.0.0 (start_row x.0.2.0 s.tag a) x.0.2.1 refl).0 in let l : x.0.0 < s.first = x.0.1 in absurd (omega arith)
 
-pub open_all : (t : List Row) (s : Slice) → IsSlice t s → (place : ℕ) → s.end ≤ place → (set : List ℕ) → HasOpen t s place set → HasUnfinished t s.tag s.end set
+pub open_all : (t : List Row) (s : Slice) → IsSlice t s → (place : ℕ) → s.end ≤ place → (set : List ℕ) → HasOpenReactions t s place set → HasUnfinished t s.tag s.end set
 open_all t s slice place all set open_to a = (λ h. let x = (open_to a).0 h in record { ran = record { place = x.0.0; worker = x.0.2.0; starts = x.0.2.1 }; not_ended = x.1 }, back)
   where
     back : IsUnfinished t s.tag a s.end → Has set a

@@ -2,7 +2,7 @@
 
 ghost use Rattle.std.specs.Prelude.{◌≡◌, ◌+◌, ◌/◌, ◌<◌, ◌≤◌, length, IfOk};
 ghost use Rattle.lft_rows.specs.inner.Slices.{IsSlice};
-ghost use Rattle.lft_races.specs.inner.Noted.{AreBelow, AreNoted, AreUpTo, EndRuns, HasOpen, HasUnfinished};
+ghost use Rattle.lft_races.specs.inner.Noted.{AreBelow, AreNoted, AreUpTo, EndRuns, HasOpenReactions, HasUnfinished};
 
 use lft_graph::Set;
 use lft_ir::steps::{Row, is_end, is_start, row_at};
@@ -58,9 +58,9 @@ fn add_open(rows: &[Row], slice: Slice, ends: &[u32], place: usize, left: &mut S
     requires known { AreBelow rows.now (length ends.now) }
     requires noted { AreNoted rows.now slice slice.end ends.now }
     requires room { length left.old ≡ length ends.now / 64 + 1 }
-    requires so_far { HasOpen rows.now slice place left.old }
+    requires so_far { HasOpenReactions rows.now slice place left.old }
     ensures room { length left.new ≡ length left.old }
-    ensures more { HasOpen rows.now slice (place + 1) left.new }
+    ensures more { HasOpenReactions rows.now slice (place + 1) left.new }
 {
     let row = row_at(rows, place);
     if !is_start(&row.step) {

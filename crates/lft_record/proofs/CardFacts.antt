@@ -7,7 +7,7 @@ use Rattle.std.proofs.lemmas.Option.{slice_get-get_or, slice_get_within, get_or_
 use Rattle.csv.specs.Records.{fields_of}
 use Rattle.lft_ir.specs.Parts.{Parts}
 use Rattle.lft_resolve.proofs.Placing.{not_some}
-use Rattle.lft_record.specs.CardTables.{AreTold, CardsFail, FaultAt, IsAgain, IsCard, IsScript, card_tables, entries_of, entry_bodies, entry_of, entry_state, entry_step, header}
+use Rattle.lft_record.specs.CardTables.{AreTold, CardsFail, FaultAt, IsAgain, IsCard, IsScript, card_tables, entries_of, entry_bodies, entry_of, entry_state, entry_step, cards_header}
 use Rattle.lft_record.specs.{inner.Scripts.{Adds, is_taken, with_entry}, Scripts.blank}
 use Rattle.lft_record.specs.declared.cards.{card.{Card.Card, CardStep.CardStep, CardEntry.CardEntry}, Script.Script, expression.Summand.Summand}
 use Rattle.lft_record.specs.declared.cards.fault.CardFault.{CardFault}
@@ -25,7 +25,7 @@ pub record Gathered (program : Parts) (records : Texts) (scripts : List Script) 
 blank_told : (r : ℕ) (script : Script) → script ≡ blank → IsScript [] script
 blank_told r script e = rw e (record { bodies = refl; steps = refl; state = refl })
 
-pub start : (program : Parts) (text : List ℕ) (scripts : List Script) (old new : Records (Bor (List ℕ))) → IsUnread in_memory old text 4000001 → IsNext in_memory old new → fields_of new.fields ≡ header → length scripts ≡ length program.reactions → All (λ script. script ≡ blank) scripts → Gathered program (records_of text) scripts new
+pub start : (program : Parts) (text : List ℕ) (scripts : List Script) (old new : Records (Bor (List ℕ))) → IsUnread in_memory old text 4000001 → IsNext in_memory old new → fields_of new.fields ≡ cards_header → length scripts ≡ length program.reactions → All (λ script. script ≡ blank) scripts → Gathered program (records_of text) scripts new
 start program text scripts old new u g top l b =
     let told : AreTold program [] scripts = record {
       long = l;

@@ -3,7 +3,7 @@ use Rattle.std.proofs.Common.{◌≡◌, ◌≢◌, ◌∙◌, ◌⊎◌, inl, i
 use Rattle.std.specs.Prelude.{codes, if◌then◌else◌}
 use Rattle.std.specs.Str.{bytes_eq}
 use Rattle.lft_ir.specs.{Names.IsNamed, Parts.Parts, Sound.IsSound}
-use Rattle.lft_record.specs.CardTables.{CardFields, HasBadValue, IsCard, IsContent, IsOf, IsOfKind, IsUnknown, IsUnspelled, has_numbers, in_order, is_filled, word}
+use Rattle.lft_record.specs.CardTables.{CardFields, HasBadValue, IsCard, IsContent, IsOf, IsCardOfKind, IsUnknown, IsUnspelled, has_numbers_in_limits, card_columns, is_wrongly_filled, word}
 use Rattle.lft_record.specs.declared.cards.{card.{Card.Card, CardValue.CardValue, CardEntry.CardEntry}, kind.CardKind.CardKind}
 use Rattle.lft_record.proofs.TermsDiffer.{one_expression, one_thing}
 use Rattle.lft_ir.specs.declared.found.Found.TheVariants as found
@@ -16,7 +16,7 @@ use Rattle.lft_record.specs.declared.cards.kind.CardKind.TheVariants as kind
 abbrev of_list : List (List ℕ) → CardFields
 of_list xs = record { kind = get_or xs 0 []; reaction = get_or xs 1 []; name = get_or xs 2 []; delay = get_or xs 3 []; value = get_or xs 4 [] }
 
-same_fields : (c d : CardFields) → in_order c ≡ in_order d → c ≡ d
+same_fields : (c d : CardFields) → card_columns c ≡ card_columns d → c ≡ d
 same_fields c d h = ap of_list h
 
 abbrev kind_of : List ℕ → CardKind
@@ -41,7 +41,7 @@ one_content program r text content.Bare (content.Int t) sound x y = absurd (y.0 
 one_content program r text (content.Int s) content.Bare sound x y = absurd (x.0 y)
 one_content program r text (content.Int s) (content.Int t) sound x y = ap content.Int (one_expression program r text s t sound x.1 y.1)
 
-one_of_kind : (program : Parts) (k : CardKind) (c : CardFields) (r : ℕ) (a b : CardEntry) → IsSound program → IsOfKind program k c r a → IsOfKind program k c r b → a ≡ b
+one_of_kind : (program : Parts) (k : CardKind) (c : CardFields) (r : ℕ) (a b : CardEntry) → IsSound program → IsCardOfKind program k c r a → IsCardOfKind program k c r b → a ≡ b
 one_of_kind program kind.Bodies c r a b sound x y = let e : Some x.0 ≡ Some y.0 = sym x.1 ∙ y.1 in let n : x.0 ≡ y.0 = cc e in x.4 ∙ ap entry.Bodies n ∙ sym y.4
 one_of_kind program kind.Write c r a b sound x y =
     let n = one_thing program c.name x.0 y.0 sound.well_named.distinct x.2 y.2 in
@@ -62,14 +62,14 @@ one_card program fields a b sound x y =
     let kinds : x.kind ≡ y.kind = same_kind x.kind y.kind (sym x.is_kind ∙ ap (λ (c : CardFields). c.kind) same ∙ y.is_kind) in
     let named : IsNamed program.names (found.Reaction b.reaction) x.columns.reaction = rw same y.reaction in
     let r : a.reaction ≡ b.reaction = one_reaction program x.columns.reaction a.reaction b.reaction sound x.reaction named in
-    let other : IsOfKind program x.kind x.columns a.reaction b.entry = rw (kinds, same, r) y.entry in
+    let other : IsCardOfKind program x.kind x.columns a.reaction b.entry = rw (kinds, same, r) y.entry in
     let e : a.entry ≡ b.entry = one_of_kind program x.kind x.columns a.reaction a.entry b.entry sound x.entry other in
     λ i. record { reaction = r i; entry = e i }
 
 -- a card told of its record, with the kind and the fields that a fault has
 record Told (program : Parts) (k : CardKind) (c : CardFields) (card : Card) : Type 0 where
   reaction : IsNamed program.names (found.Reaction card.reaction) c.reaction
-  entry : IsOfKind program k c card.reaction card.entry
+  entry : IsCardOfKind program k c card.reaction card.entry
 
 told_as : (program : Parts) (fields : List (List ℕ)) (card : Card) (k : CardKind) (c : CardFields) → IsOf k c fields → IsCard program fields card → Told program k c card
 told_as program fields card k c o h =
@@ -78,7 +78,7 @@ told_as program fields card k c o h =
     rw (kinds, same) (record { reaction = h.reaction; entry = h.entry })
 
 module _ (program : Parts) (c : CardFields) (card : Card) where
-  numbers_there : (k : CardKind) → Told program k c card → has_numbers k c ≡ true
+  numbers_there : (k : CardKind) → Told program k c card → has_numbers_in_limits k c ≡ true
   numbers_there kind.Bodies h = rw h.entry.1 refl
   numbers_there kind.Write h = refl
   numbers_there kind.Schedule h = rw h.entry.5 refl
@@ -93,7 +93,7 @@ module _ (program : Parts) (c : CardFields) (card : Card) where
   names_there kind.Stop h (inr none) = cc (none.0)
   names_there kind.State h (inr none) = cc (none.0)
 
-  nothing_filled : (k : CardKind) → Told program k c card → is_filled k c ≡ false
+  nothing_filled : (k : CardKind) → Told program k c card → is_wrongly_filled k c ≡ false
   nothing_filled kind.Bodies h = rw (h.entry.2, h.entry.3) refl
   nothing_filled kind.Write h = rw h.entry.4 refl
   nothing_filled kind.Schedule h = refl
@@ -111,16 +111,16 @@ module _ (program : Parts) (fields : List (List ℕ)) (card : Card) (r : IsCard 
   pub count_there : length fields ≢ 5 → ⊥
   count_there h = h (ap length r.in_columns)
 
-  pub kind_there : (c : CardFields) → fields ≡ in_order c → ((k : CardKind) → c.kind ≢ word k) → ⊥
+  pub kind_there : (c : CardFields) → fields ≡ card_columns c → ((k : CardKind) → c.kind ≢ word k) → ⊥
   kind_there c f none = none r.kind (ap (λ (d : CardFields). d.kind) (same_fields c r.columns (sym f ∙ r.in_columns)) ∙ r.is_kind)
 
-  pub number_there : (c : CardFields) (k : CardKind) → IsOf k c fields → has_numbers k c ≡ false → ⊥
+  pub number_there : (c : CardFields) (k : CardKind) → IsOf k c fields → has_numbers_in_limits k c ≡ false → ⊥
   number_there c k o h = let a = numbers_there program c card k (told_as program fields card k c o r) in let q : true ≡ false = sym a ∙ h in cc q
 
   pub name_there : (c : CardFields) (k : CardKind) → IsOf k c fields → IsUnknown program k c → ⊥
   name_there c k o h = names_there program c card k (told_as program fields card k c o r) h
 
-  pub empty_there : (c : CardFields) (k : CardKind) → IsOf k c fields → is_filled k c ≡ true → ⊥
+  pub empty_there : (c : CardFields) (k : CardKind) → IsOf k c fields → is_wrongly_filled k c ≡ true → ⊥
   empty_there c k o h = let a = nothing_filled program c card k (told_as program fields card k c o r) in let q : false ≡ true = sym a ∙ h in cc q
 
   pub value_there : (c : CardFields) (k : CardKind) → IsSound program → IsOf k c fields → HasBadValue program k c → ⊥

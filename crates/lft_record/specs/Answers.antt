@@ -4,7 +4,7 @@ use Rattle.std.specs.Io.KnownBytes.{Keeps}
 use Rattle.lft_trace.specs.Records.{records_of}
 use Rattle.lft_model.specs.Plans.{PlanParts}
 use Rattle.lft_record.specs.{CardTables.{CardTable, CardsFail}, CardFaults.is_told, declared.cards.{Script.Script, fault.CardFault.CardFault}}
-use Rattle.lft_record.specs.{Faults.card_number, Recordings.{IsRecorded, RecordRefusal}, Scripts.card_law}
+use Rattle.lft_record.specs.{Faults.card_number, Recordings.{IsPlanRecorded, RecordRefusal}, Scripts.card_law}
 use Rattle.lft_load.specs.{Meaning.{IsPlanOf, OfOnly}, Refusals.LoadRefusal, declared.fault.Fault.Fault}
 use Rattle.lft_load.specs.declared.fault.Part.TheVariants as part
 
@@ -12,11 +12,11 @@ use Rattle.lft_load.specs.declared.fault.Part.TheVariants as part
 pub record IsAnswerUnder (plan : PlanParts) (cards : List ℕ) (workers max_runs : ℕ) (old new : Option (List ℕ)) : Type 0 where
   pub scripts : List Script
   pub are_cards : CardTable plan.program (records_of cards) scripts
-  pub recorded : IsRecorded (card_law scripts) plan workers max_runs old new
+  pub recorded : IsPlanRecorded (card_law scripts) plan workers max_runs old new
 
 -- so was the one plan of the first two texts
-abbrev pub IsAnswer : List ℕ → List ℕ → List ℕ → ℕ → ℕ → Option (List ℕ) → Option (List ℕ) → Type 0
-IsAnswer program externals cards workers max_runs old new = OfOnly (IsPlanOf program externals) (λ plan. IsAnswerUnder plan cards workers max_runs old new)
+abbrev pub IsRecordingAnswer : List ℕ → List ℕ → List ℕ → ℕ → ℕ → Option (List ℕ) → Option (List ℕ) → Type 0
+IsRecordingAnswer program externals cards workers max_runs old new = OfOnly (IsPlanOf program externals) (λ plan. IsAnswerUnder plan cards workers max_runs old new)
 
 -- the plan wasn't recorded: the text is no table of cards, a growth was refused, or the recording ended before, and each run that had ended answered what the cards say
 pub data AnswerRefusalUnder (plan : PlanParts) (cards : List ℕ) (workers max_runs : ℕ) (old new : Option (List ℕ)) (f : Fault) : Type 0 where

@@ -21,12 +21,12 @@ pub record CardFields : Type 0 where
   pub value : List ℕ
 
 -- the fields in the order of the columns
-abbrev pub in_order : CardFields → List (List ℕ)
-in_order c = c.kind ∷ c.reaction ∷ c.name ∷ c.delay ∷ c.value ∷ []
+abbrev pub card_columns : CardFields → List (List ℕ)
+card_columns c = c.kind ∷ c.reaction ∷ c.name ∷ c.delay ∷ c.value ∷ []
 
 -- the first record
-abbrev pub header : List (List ℕ)
-header = codes "kind" ∷ codes "reaction" ∷ codes "name" ∷ codes "delay" ∷ codes "value" ∷ []
+abbrev pub cards_header : List (List ℕ)
+cards_header = codes "kind" ∷ codes "reaction" ∷ codes "name" ∷ codes "delay" ∷ codes "value" ∷ []
 
 -- how a kind is written
 abbrev pub word : CardKind → List ℕ
@@ -37,20 +37,20 @@ word kind.Stop = codes "stop"
 word kind.State = codes "state"
 
 -- whether records of a kind name a port or an action
-abbrev pub has_name : CardKind → Bool
-has_name kind.Bodies = false
-has_name kind.Write = true
-has_name kind.Schedule = true
-has_name kind.Stop = false
-has_name kind.State = false
+abbrev pub kind_has_name : CardKind → Bool
+kind_has_name kind.Bodies = false
+kind_has_name kind.Write = true
+kind_has_name kind.Schedule = true
+kind_has_name kind.Stop = false
+kind_has_name kind.State = false
 
 -- whether records of a kind have a delay
-abbrev pub has_delay : CardKind → Bool
-has_delay kind.Bodies = false
-has_delay kind.Write = false
-has_delay kind.Schedule = true
-has_delay kind.Stop = false
-has_delay kind.State = false
+abbrev pub kind_has_delay : CardKind → Bool
+kind_has_delay kind.Bodies = false
+kind_has_delay kind.Write = false
+kind_has_delay kind.Schedule = true
+kind_has_delay kind.Stop = false
+kind_has_delay kind.State = false
 
 -- whether records of a kind have a value
 abbrev pub has_value : CardKind → Bool
@@ -66,21 +66,21 @@ IsContent program r text content.Bare = text ≡ codes "bare"
 IsContent program r text (content.Int terms) = (text ≢ codes "bare") × IsExpression program r text terms
 
 -- what a card of a kind tells of reaction r
-abbrev pub IsOfKind : Parts → CardKind → CardFields → ℕ → CardEntry → Type 0
-IsOfKind program kind.Bodies c r e = (n : ℕ) × (number 1000000 c.value ≡ Some n) × (c.name ≡ []) × (c.delay ≡ []) × (e ≡ entry.Bodies n)
-IsOfKind program kind.Write c r e = (n : Name) × (v : CardValue) × IsThing program c.name n × IsContent program r c.value v × (c.delay ≡ []) × (e ≡ entry.Step (step.Write n v))
-IsOfKind program kind.Schedule c r e = (n : Name) × (v : CardValue) × (d : ℕ) × IsThing program c.name n × IsContent program r c.value v × (number_or_zero 1000000000000000000 c.delay ≡ Some d) × (e ≡ entry.Step (step.Schedule n v d))
-IsOfKind program kind.Stop c r e = (c.name ≡ []) × (c.delay ≡ []) × (c.value ≡ []) × (e ≡ entry.Step step.Stop)
-IsOfKind program kind.State c r e = (terms : List Summand) × IsExpression program r c.value terms × (c.name ≡ []) × (c.delay ≡ []) × (e ≡ entry.State terms)
+abbrev pub IsCardOfKind : Parts → CardKind → CardFields → ℕ → CardEntry → Type 0
+IsCardOfKind program kind.Bodies c r e = (n : ℕ) × (number 1000000 c.value ≡ Some n) × (c.name ≡ []) × (c.delay ≡ []) × (e ≡ entry.Bodies n)
+IsCardOfKind program kind.Write c r e = (n : Name) × (v : CardValue) × IsThing program c.name n × IsContent program r c.value v × (c.delay ≡ []) × (e ≡ entry.Step (step.Write n v))
+IsCardOfKind program kind.Schedule c r e = (n : Name) × (v : CardValue) × (d : ℕ) × IsThing program c.name n × IsContent program r c.value v × (number_or_zero 1000000000000000000 c.delay ≡ Some d) × (e ≡ entry.Step (step.Schedule n v d))
+IsCardOfKind program kind.Stop c r e = (c.name ≡ []) × (c.delay ≡ []) × (c.value ≡ []) × (e ≡ entry.Step step.Stop)
+IsCardOfKind program kind.State c r e = (terms : List Summand) × IsExpression program r c.value terms × (c.name ≡ []) × (c.delay ≡ []) × (e ≡ entry.State terms)
 
 -- the card of a record
 pub record IsCard (program : Parts) (fields : List (List ℕ)) (card : Card) : Type 0 where
   pub columns : CardFields
   pub kind : CardKind
-  pub in_columns : fields ≡ in_order columns
+  pub in_columns : fields ≡ card_columns columns
   pub is_kind : columns.kind ≡ word kind
   pub reaction : IsNamed program.names (found.Reaction card.reaction) columns.reaction
-  pub entry : IsOfKind program kind columns card.reaction card.entry
+  pub entry : IsCardOfKind program kind columns card.reaction card.entry
 
 -- the number of bodies that a card gives, if it gives one
 abbrev pub entry_bodies : CardEntry → Option ℕ
@@ -120,22 +120,22 @@ pub record AreTold (program : Parts) (cards : List Card) (scripts : List Script)
   pub each : (r : ℕ) (script : Script) → slice_get scripts r ≡ Some script → IsScript (entries_of r cards) script
 
 -- the number that a record of this kind has, if it has one, is within its limit
-abbrev pub has_numbers : CardKind → CardFields → Bool
-has_numbers kind.Bodies c = is_some (number 1000000 c.value)
-has_numbers kind.Write c = true
-has_numbers kind.Schedule c = is_some (number_or_zero 1000000000000000000 c.delay)
-has_numbers kind.Stop c = true
-has_numbers kind.State c = true
+abbrev pub has_numbers_in_limits : CardKind → CardFields → Bool
+has_numbers_in_limits kind.Bodies c = is_some (number 1000000 c.value)
+has_numbers_in_limits kind.Write c = true
+has_numbers_in_limits kind.Schedule c = is_some (number_or_zero 1000000000000000000 c.delay)
+has_numbers_in_limits kind.Stop c = true
+has_numbers_in_limits kind.State c = true
 
 -- its reaction isn't one of the program, or the name that it has is of no port and no action
 abbrev pub IsUnknown : Parts → CardKind → CardFields → Type 0
 IsUnknown program kind c =
-    ((r : ℕ) → IsNamed program.names (found.Reaction r) c.reaction → ⊥) ⊎ ((has_name kind ≡ true) × ((n : Name) → IsThing program c.name n → ⊥))
+    ((r : ℕ) → IsNamed program.names (found.Reaction r) c.reaction → ⊥) ⊎ ((kind_has_name kind ≡ true) × ((n : Name) → IsThing program c.name n → ⊥))
 
 -- a field that must be empty isn't
-abbrev pub is_filled : CardKind → CardFields → Bool
-is_filled kind c =
-    (not (has_name kind) && not (is_empty c.name)) || (not (has_delay kind) && not (is_empty c.delay)) || (not (has_value kind) && not (is_empty c.value))
+abbrev pub is_wrongly_filled : CardKind → CardFields → Bool
+is_wrongly_filled kind c =
+    (not (kind_has_name kind) && not (is_empty c.name)) || (not (kind_has_delay kind) && not (is_empty c.delay)) || (not (has_value kind) && not (is_empty c.value))
 
 -- what is written, scheduled or left as the state word is spelled by nothing
 abbrev pub IsUnspelled : Parts → CardKind → ℕ → List ℕ → Type 0
@@ -151,7 +151,7 @@ HasBadValue program kind c = (r : ℕ) × IsNamed program.names (found.Reaction 
 
 -- a record of this kind
 abbrev pub IsOf : CardKind → CardFields → List (List ℕ) → Type 0
-IsOf kind c fields = (fields ≡ in_order c) × (c.kind ≡ word kind)
+IsOf kind c fields = (fields ≡ card_columns c) × (c.kind ≡ word kind)
 
 -- the card tells a number of bodies or a word of a reaction that one was told of before
 abbrev pub IsAgain : List Card → Card → Type 0
@@ -162,17 +162,17 @@ IsAgain before card =
 -- the fault of a record after the cards before it: the first that it has, in the order count, kind, number, name, field in place, value, given before
 abbrev pub FaultAt : Parts → List Card → ℕ → List (List ℕ) → CardFault → Type 0
 FaultAt program before line fields (fault.BadFieldCount n) = (n ≡ line) × (length fields ≢ 5)
-FaultAt program before line fields (fault.BadKind n) = (n ≡ line) × (c : CardFields) × (fields ≡ in_order c) × ((k : CardKind) → c.kind ≢ word k)
-FaultAt program before line fields (fault.BadNumber n) = (n ≡ line) × (c : CardFields) × (k : CardKind) × IsOf k c fields × (has_numbers k c ≡ false)
-FaultAt program before line fields (fault.UnknownName n) = (n ≡ line) × (c : CardFields) × (k : CardKind) × IsOf k c fields × (has_numbers k c ≡ true) × IsUnknown program k c
-FaultAt program before line fields (fault.FieldInPlace n) = (n ≡ line) × (c : CardFields) × (k : CardKind) × IsOf k c fields × (has_numbers k c ≡ true) × (IsUnknown program k c → ⊥) × (is_filled k c ≡ true)
-FaultAt program before line fields (fault.BadValue n) = (n ≡ line) × (c : CardFields) × (k : CardKind) × IsOf k c fields × (has_numbers k c ≡ true) × (IsUnknown program k c → ⊥) × (is_filled k c ≡ false) × HasBadValue program k c
+FaultAt program before line fields (fault.BadKind n) = (n ≡ line) × (c : CardFields) × (fields ≡ card_columns c) × ((k : CardKind) → c.kind ≢ word k)
+FaultAt program before line fields (fault.BadNumber n) = (n ≡ line) × (c : CardFields) × (k : CardKind) × IsOf k c fields × (has_numbers_in_limits k c ≡ false)
+FaultAt program before line fields (fault.UnknownName n) = (n ≡ line) × (c : CardFields) × (k : CardKind) × IsOf k c fields × (has_numbers_in_limits k c ≡ true) × IsUnknown program k c
+FaultAt program before line fields (fault.FieldInPlace n) = (n ≡ line) × (c : CardFields) × (k : CardKind) × IsOf k c fields × (has_numbers_in_limits k c ≡ true) × (IsUnknown program k c → ⊥) × (is_wrongly_filled k c ≡ true)
+FaultAt program before line fields (fault.BadValue n) = (n ≡ line) × (c : CardFields) × (k : CardKind) × IsOf k c fields × (has_numbers_in_limits k c ≡ true) × (IsUnknown program k c → ⊥) × (is_wrongly_filled k c ≡ false) × HasBadValue program k c
 FaultAt program before line fields (fault.GivenTwice n) = (n ≡ line) × (card : Card) × IsCard program fields card × IsAgain before card
 FaultAt program before line fields e = ⊥
 
 -- tables of cards: those stand together that can be told together
 abbrev pub card_tables : Parts → TableKind Card CardFault
-card_tables program = record { header = header; Tells = IsCard program; Together = λ cards. (scripts : List Script) × AreTold program cards scripts; FaultAt = FaultAt program; no_header = fault.BadHeader; too_many = fault.TooManyRows }
+card_tables program = record { header = cards_header; Tells = IsCard program; Together = λ cards. (scripts : List Script) × AreTold program cards scripts; FaultAt = FaultAt program; no_header = fault.BadHeader; too_many = fault.TooManyRows }
 
 -- the records are the header and those of cards, which tell what the bodies of each reaction answer
 pub record CardTable (program : Parts) (records : List (List (List ℕ))) (scripts : List Script) : Type 0 where

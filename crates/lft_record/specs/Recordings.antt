@@ -24,7 +24,7 @@ pub record Writes (program : Parts) (rows : List Row) (old new : Option (List �
   pub written : Appends old new text
 
 -- the plan was recorded to its stop as legal rows by a lawful number of workers, in no more runs than are allowed, and the ended runs follow the law
-pub record IsWhole (law : AnswerLaw) (plan : PlanParts) (workers max_runs : ℕ) (rows : List Row) : Type 0 where
+pub record IsWholeRecording (law : AnswerLaw) (plan : PlanParts) (workers max_runs : ℕ) (rows : List Row) : Type 0 where
   pub states : List (ℤ × ℤ)
   pub workers_are : IsWorkers workers
   pub legal : Legal plan rows
@@ -32,13 +32,13 @@ pub record IsWhole (law : AnswerLaw) (plan : PlanParts) (workers max_runs : ℕ)
   pub few : started_count rows ≤ max_runs
 
 -- the plan was recorded to its stop, and the table of the rows was written
-pub record IsRecorded (law : AnswerLaw) (plan : PlanParts) (workers max_runs : ℕ) (old new : Option (List ℕ)) : Type 0 where
+pub record IsPlanRecorded (law : AnswerLaw) (plan : PlanParts) (workers max_runs : ℕ) (old new : Option (List ℕ)) : Type 0 where
   pub rows : List Row
-  pub whole : IsWhole law plan workers max_runs rows
+  pub whole : IsWholeRecording law plan workers max_runs rows
   pub written : Writes plan.program rows old new
 
 -- the recording stopped at these rows, for this reason, with so many bodies of each reaction left; the rows are of the plan unless the reason is that it isn't the one given, and there are none where the number of workers isn't lawful, which is told exactly then; a reaction that has no body left may start, and other reasons hold as well
-pub record StopsAt (law : AnswerLaw) (plan : PlanParts) (workers max_runs : ℕ) (reason : Stop) (end : PlanParts) (rows : List Row) : Type 0 where
+pub record StopsRecording (law : AnswerLaw) (plan : PlanParts) (workers max_runs : ℕ) (reason : Stop) (end : PlanParts) (rows : List Row) : Type 0 where
   pub states : List (ℤ × ℤ)
   pub left : List ℕ
   pub recording : IsRecording law end rows states
@@ -52,7 +52,7 @@ pub record StopsAt (law : AnswerLaw) (plan : PlanParts) (workers max_runs : ℕ)
 
 -- the plan wasn't recorded to its stop, or its table wasn't written: the recording stopped and the table of its rows so far was written, or a growth was refused and nothing was, or the writer failed, and took a front of the table of the whole recording or of the rows so far
 pub data RecordRefusal (law : AnswerLaw) (plan : PlanParts) (workers max_runs : ℕ) (old new : Option (List ℕ)) (f : Fault) : Type 0 where
-  by_stop : (reason : Stop) (end : PlanParts) (rows : List Row) → f.part ≡ part.Pool → f.number ≡ stop_number reason → StopsAt law plan workers max_runs reason end rows → Writes end.program rows old new → RecordRefusal law plan workers max_runs old new f
+  by_stop : (reason : Stop) (end : PlanParts) (rows : List Row) → f.part ≡ part.Pool → f.number ≡ stop_number reason → StopsRecording law plan workers max_runs reason end rows → Writes end.program rows old new → RecordRefusal law plan workers max_runs old new f
   by_growth : f.part ≡ part.Memory → f.number ≡ 1 → Keeps old new → RecordRefusal law plan workers max_runs old new f
-  by_writer : (rows : List Row) → f.part ≡ part.Write → f.number ≡ 1 → IsWhole law plan workers max_runs rows → AppendsFront old new (table_text plan.program rows) → RecordRefusal law plan workers max_runs old new f
-  by_stop_and_writer : (reason : Stop) (end : PlanParts) (rows : List Row) → f.part ≡ part.Write → f.number ≡ 1 → StopsAt law plan workers max_runs reason end rows → AppendsFront old new (table_text end.program rows) → RecordRefusal law plan workers max_runs old new f
+  by_writer : (rows : List Row) → f.part ≡ part.Write → f.number ≡ 1 → IsWholeRecording law plan workers max_runs rows → AppendsFront old new (table_text plan.program rows) → RecordRefusal law plan workers max_runs old new f
+  by_stop_and_writer : (reason : Stop) (end : PlanParts) (rows : List Row) → f.part ≡ part.Write → f.number ≡ 1 → StopsRecording law plan workers max_runs reason end rows → AppendsFront old new (table_text end.program rows) → RecordRefusal law plan workers max_runs old new f

@@ -1,7 +1,7 @@
 //! From texts to a recording.
 
 ghost use Rattle.std.specs.Prelude.{◌≡◌, IfOk, IfErr, OnOk, true};
-ghost use Rattle.lft_record.specs.{Answers.{AnswerRefusal, AnswerRefusalUnder, IsAnswer, IsAnswerUnder}, Recordings.{IsRecorded, RecordRefusal}};
+ghost use Rattle.lft_record.specs.{Answers.{AnswerRefusal, AnswerRefusalUnder, IsRecordingAnswer, IsAnswerUnder}, Recordings.{IsPlanRecorded, RecordRefusal}};
 ghost use Rattle.lft_record.specs.Scripts.{card_law};
 
 use crate::bodies::{FollowsCards, Scripted, card_bodies};
@@ -56,7 +56,7 @@ pub fn record_answer<R: Threads + Wait + Sync, W: Write>(
     out: &mut W,
 ) -> Result<bool, Fault>
     ensures yes { IfOk result (λ recorded. recorded ≡ true) }
-    ensures recorded { IfOk result (λ recorded. IsAnswer program.now externals.now cards.now workers max_runs (W.contents out.old) (W.contents out.new)) }
+    ensures recorded { IfOk result (λ recorded. IsRecordingAnswer program.now externals.now cards.now workers max_runs (W.contents out.old) (W.contents out.new)) }
     ensures refused { IfErr result (AnswerRefusal program.now externals.now cards.now workers max_runs (W.contents out.old) (W.contents out.new)) }
 {
     match load(alloc, program, externals) {
@@ -76,7 +76,7 @@ fn record_cards<S: Scripted + Send, R: Threads + Wait + Sync, W: Write>(
     out: &mut W,
 ) -> Result<(), Fault>
     requires { cards.now ≡ S.scripts }
-    ensures recorded { OnOk result (IsRecorded (card_law cards.now) plan workers max_runs (W.contents out.old) (W.contents out.new)) }
+    ensures recorded { OnOk result (IsPlanRecorded (card_law cards.now) plan workers max_runs (W.contents out.old) (W.contents out.new)) }
     ensures refused { IfErr result (RecordRefusal (card_law cards.now) plan workers max_runs (W.contents out.old) (W.contents out.new)) }
 {
     match card_bodies::<S>(alloc, plan.program(), cards, max_runs) {

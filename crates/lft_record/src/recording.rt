@@ -2,7 +2,7 @@
 
 ghost use Rattle.std.specs.Prelude.{◌≡◌, OnOk, IfErr, length};
 ghost use Rattle.lft_ir.specs.Steps.Fits.{RowsFit};
-ghost use Rattle.lft_record.specs.{Recordings.{IsRecorded, RecordRefusal, Writes}, inner.Recordings.TableRefusal};
+ghost use Rattle.lft_record.specs.{Recordings.{IsPlanRecorded, RecordRefusal, Writes}, inner.Recordings.TableRefusal};
 
 use crate::fault::stop_fault;
 use lft_ir::steps::Rows;
@@ -30,7 +30,7 @@ pub fn record_to<L: Law + Send, C: Code + Drop + Send, R: Threads + Wait + Sync,
     out: &mut W,
 ) -> Result<(), Fault>
     requires { length bodies ≡ length plan.program.reactions }
-    ensures recorded { OnOk result (IsRecorded L.holds plan workers max_runs (W.contents out.old) (W.contents out.new)) }
+    ensures recorded { OnOk result (IsPlanRecorded L.holds plan workers max_runs (W.contents out.old) (W.contents out.new)) }
     ensures refused { IfErr result (RecordRefusal L.holds plan workers max_runs (W.contents out.old) (W.contents out.new)) }
 {
     match record_run(rt, alloc, plan, bodies, workers, max_runs) {

@@ -9,8 +9,8 @@ abbrev pub no_run_words : Parts → Tag → ℕ → List ℕ
 no_run_words program g r = reaction_words program r ++ codes " is triggered at " ++ tag_words g ++ codes " and has no run there.\n"
 
 -- `X runs at G, from line L on.`
-abbrev pub runs_words : Parts → Tag → ℕ → ℕ → List ℕ
-runs_words program g r start = reaction_words program r ++ codes " runs at " ++ tag_words g ++ codes ", from " ++ line_words start ++ codes " on.\n"
+abbrev pub runs_at_words : Parts → Tag → ℕ → ℕ → List ℕ
+runs_at_words program g r start = reaction_words program r ++ codes " runs at " ++ tag_words g ++ codes ", from " ++ line_words start ++ codes " on.\n"
 
 -- `T is a trigger of X.`
 abbrev pub trigger_of_words : Parts → ℕ → Trigger → List ℕ

@@ -3,7 +3,7 @@ use Rattle.std.specs.Prelude.{ℕ, List, [], ◌++◌, flat_map, codes}
 use Rattle.lft_tag.specs.declared.Tag.{Tag}
 use Rattle.lft_ir.specs.{Parts.Parts, declared.steps.row.Row.Row, Words.Words.{tag_words, port_words, action_words}}
 use Rattle.lft_facts.specs.declared.facts.{Cause.Cause, Fact.Fact}
-use Rattle.lft_report.specs.{Rows.row_words, Runs.{no_run_words, runs_words}, Orders.early_race_words}
+use Rattle.lft_report.specs.{Rows.row_words, Runs.{no_run_words, runs_at_words}, Orders.early_race_words}
 use Rattle.lft_facts.specs.declared.facts.Cause.TheVariants as cause
 use Rattle.lft_facts.specs.declared.facts.Fact.TheVariants as fact
 
@@ -32,7 +32,7 @@ abbrev pub head_words : Parts → List Row → Fact → List ℕ
 head_words program t (fact.Row f) = row_words program t f
 head_words program t (fact.Clash g c d) = clash_words program c
 head_words program t (fact.NoRun g r) = no_run_words program g r
-head_words program t (fact.Runs g r start) = runs_words program g r start
+head_words program t (fact.Runs g r start) = runs_at_words program g r start
 head_words program t (fact.StartsEarly g a r start end) = early_race_words program g a r start end
 head_words program t _ = []
 

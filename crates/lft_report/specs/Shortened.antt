@@ -17,6 +17,6 @@ shortened (suc n) [] = []
 shortened (suc n) (byte ∷ bytes) = byte ∷ shortened (if nat_eq byte 10 then n else suc n) bytes
 
 -- what is printed of a part: all of it, or the first 60 lines and how many others there are
-abbrev pub shown : Bool → List ℕ → List ℕ
-shown true bytes = bytes
-shown false bytes = shortened 60 bytes
+abbrev pub shown_part : Bool → List ℕ → List ℕ
+shown_part true bytes = bytes
+shown_part false bytes = shortened 60 bytes

@@ -2,8 +2,9 @@
 use Rattle.std.specs.Prelude.{ℕ, Bool, List, [], ◌∷◌, ◌++◌, flat_map}
 use Rattle.lft_ir.specs.{Parts.Parts, declared.steps.row.Row.Row}
 use Rattle.lft_facts.specs.declared.facts.Fact.{Fact}
-use Rattle.lft_report.specs.{Quotes.Quoted.quoted, Causes.cause_words, Reasons.reason_words, Reads.table, Runs.{trigger_of_words, count_words, absent_words}}
-use Rattle.lft_report.specs.{Orders.{race_words, precedes_words, declared_words, feeds_words}, Sentences.sentence, Shortened.shown}
+use Rattle.lft_report.specs.{Quotes.Quoted.quoted_rows, Causes.cause_words, Reasons.reason_words, Reads.inputs_table}
+use Rattle.lft_report.specs.{Runs.{trigger_of_words, count_words, absent_words}, Orders.{race_words, precedes_words, declared_words, feeds_words}}
+use Rattle.lft_report.specs.{Sentences.sentence, Shortened.shown_part}
 use Rattle.lft_facts.specs.declared.facts.Fact.TheVariants as fact
 
 -- what a fact says beside what is wrong
@@ -31,8 +32,8 @@ details program t facts = flat_map (fact_words program t) facts
 -- what is printed of a part of the text, behind an empty line, where there is such a part
 abbrev pub part : Bool → List ℕ → List ℕ
 part all [] = []
-part all (byte ∷ bytes) = 10 ∷ shown all (byte ∷ bytes)
+part all (byte ∷ bytes) = 10 ∷ shown_part all (byte ∷ bytes)
 
 -- the text of facts: what is wrong, what was read, the rows that they name, and what else they say; of each of the last three all, or the first 60 lines and how many others there are
 abbrev pub told : Bool → Parts → List Row → List Fact → List ℕ
-told all program t facts = sentence program t facts ++ part all (table program facts) ++ part all (quoted program t facts) ++ part all (details program t facts)
+told all program t facts = sentence program t facts ++ part all (inputs_table program facts) ++ part all (quoted_rows program t facts) ++ part all (details program t facts)

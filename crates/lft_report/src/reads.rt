@@ -2,7 +2,7 @@
 
 ghost use Rattle.std.specs.Prelude.{◌≡◌, ◌++◌, max, IfOk, OnOk, string_bytes};
 ghost use Rattle.lft_ir.specs.Words.Words.{value_words, name_words};
-ghost use Rattle.lft_report.specs.Reads.{read_so, reads_so as the_reads_so, widened, widths_of, line_of, read_line, read_lines, headed, lines_of, others_words, table as the_table};
+ghost use Rattle.lft_report.specs.Reads.{read_so, reads_so as the_reads_so, widened, widths_of, input_line, read_line, read_lines, headed, input_lines, others_words, inputs_table as the_table};
 
 use lft_facts::Fact;
 use lft_ir::words::{push_name, push_number, push_padded, push_value};
@@ -120,7 +120,7 @@ fn push_line(
     read: &str,
     last: &str,
 ) -> Result<(), AllocError>
-    ensures { OnOk result (string_bytes text.new ≡ string_bytes text.old ++ line_of widths name.now read.now last.now) }
+    ensures { OnOk result (string_bytes text.new ≡ string_bytes text.old ++ input_line widths name.now read.now last.now) }
 {
     text.push_str("  ")?;
     push_padded(text, widths.name, name)?;
@@ -181,7 +181,7 @@ fn push_lines(
     program: &Program,
     facts: &[Fact],
 ) -> Result<(), AllocError>
-    ensures { OnOk result (string_bytes text.new ≡ string_bytes text.old ++ lines_of program.now facts.now) }
+    ensures { OnOk result (string_bytes text.new ≡ string_bytes text.old ++ input_lines program.now facts.now) }
 {
     let widths = widest(alloc, program, facts)?;
     let lines = lines(alloc, program, widths, facts)?;

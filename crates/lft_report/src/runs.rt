@@ -1,7 +1,7 @@
 //! The text of runs, of triggers and of what was read.
 
 ghost use Rattle.std.specs.Prelude.{◌≡◌, ◌++◌, OnOk, string_bytes};
-ghost use Rattle.lft_report.specs.Runs.{no_run_words, runs_words, trigger_of_words, count_words, absent_words};
+ghost use Rattle.lft_report.specs.Runs.{no_run_words, runs_at_words, trigger_of_words, count_words, absent_words};
 
 use lft_ir::words::{
     push_line, push_name, push_number, push_reaction, push_tag, push_timer, push_trigger,
@@ -34,7 +34,7 @@ pub(crate) fn push_runs(
     reaction: u32,
     start: u32,
 ) -> Result<(), AllocError>
-    ensures { OnOk result (string_bytes text.new ≡ string_bytes text.old ++ runs_words program.now tag reaction start) }
+    ensures { OnOk result (string_bytes text.new ≡ string_bytes text.old ++ runs_at_words program.now tag reaction start) }
 {
     push_reaction(text, program, reaction)?;
     text.push_str(" runs at ")?;

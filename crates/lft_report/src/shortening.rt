@@ -1,7 +1,7 @@
 //! Which lines of a part of a text are printed.
 
 ghost use Rattle.std.specs.Prelude.{◌≡◌, ◌++◌, ◌≤◌, length, take, drop, IfOk, OnOk, string_bytes};
-ghost use Rattle.lft_report.specs.Shortened.{line_ends as the_line_ends, left_out, shortened, shown};
+ghost use Rattle.lft_report.specs.Shortened.{line_ends as the_line_ends, left_out, shortened, shown_part};
 
 use lft_ir::words::push_number;
 use lft_lists::item_at;
@@ -56,7 +56,7 @@ pub fn push_shown(
     part: &[u8],
     all: bool,
 ) -> Result<(), AllocError>
-    ensures { OnOk result (text.new.items ≡ text.old.items ++ shown all part.now) }
+    ensures { OnOk result (text.new.items ≡ text.old.items ++ shown_part all part.now) }
 {
     if all {
         text.extend_from_slice(part)?;

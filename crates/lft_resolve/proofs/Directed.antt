@@ -2,7 +2,7 @@
 use Rattle.std.proofs.Common.{◌≡◌, ℕ, zero, suc, List, [], ◌∷◌, map, slice_get, find, Option, Some, None, option_map, IsSomeAnd, Bor, bytes_eq, refl, sym, ap, subst, ◌∙◌}
 use Rattle.std.specs.{List.AllZip, Option.option_and_then}
 use Rattle.lft_tree.specs.Tree.{ReactorTree, InstanceTree, instances_of, ports_of}
-use Rattle.lft_resolve.specs.{inner.{Lost.inner_ref, Places.place, Sheets.{IsInner, port_place}, Tables.IsHeld}, Instances.reactor_named}
+use Rattle.lft_resolve.specs.{inner.{Lost.inner_ref, Places.place, Sheets.{IsInner, port_place}, Tables.IsInstanceTable}, Instances.reactor_named}
 use Rattle.lft_resolve.specs.{Kinds.{inner_kind, inner_port}, declared.{kinds.Kind.Kind, own.Own.Own}}
 use Rattle.lft_resolve.proofs.Placing.{find-place, place_found}
 
@@ -34,7 +34,7 @@ module _ (rs : List ReactorTree) (r : ReactorTree) (head name : List ℕ) where
       by (Some i) e = ap (option_and_then (λ inner. option_map (λ x. inner_port x.is_input) (find (λ x. bytes_eq name x.name) (ports_of inner)))) e
 
   -- else what y is in that reactor
-  module _ (number : ℕ) (own : Own) (held : IsHeld rs r head number own) where
+  module _ (number : ℕ) (own : Own) (held : IsInstanceTable rs r head number own) where
     pub inner_shown : (o : Option Kind) → o ≡ option_map (λ x. inner_port x.is_input) (find (λ x. bytes_eq name x.name) (ports_of held.inner)) → o ≡ inner_kind rs r head name
     inner_shown o is = rw (place_found (λ i. i.name) head (instances_of r) number held.i held.is_place held.is_instance, held.is_inner) is
 

@@ -5,7 +5,7 @@ use Rattle.lft_lists.proofs.Mapped.{mapped}
 use Rattle.lft_tree.specs.Tree.{ReactorTree, ReactionTree, InstanceTree, ParameterTree, RefTree, PortTree, ports_of, timers_of, actions_of, instances_of, reactions_of, connections_of}
 use Rattle.lft_resolve.specs.Causes.{IsTwice, NoneHolds, DuplicateName, DeclaresTwice, WrongPlace, Misplaces, IsMisplaced, DuplicateInput, RepeatsName, NamesTwice, first_causes, later_causes}
 use Rattle.lft_resolve.specs.Instances.{reactor_named}
-use Rattle.lft_resolve.specs.Kinds.{kind_of, kind_inside, inner_kind, own_port, inner_port, or_else, may_stand, refs_in, names_in, reads_of, reaction_refs, connection_refs, in_role}
+use Rattle.lft_resolve.specs.Kinds.{kind_of, kind_inside, inner_kind, own_port, inner_port, first_or_second, may_stand, refs_in, names_in, names_read, reaction_refs, connection_refs, in_role}
 use Rattle.lft_resolve.specs.declared.kinds.{Kind.{Kind, TheVariants.{OwnParameter, OwnTimer, OwnAction, OwnInstance}}, Role.{Role, TheVariants.{Read, Effect}}}
 use Rattle.lft_resolve.proofs.{Somes.{Any-left, Any-right}, Twice.{Any-at, twice_left}}
 
@@ -40,11 +40,11 @@ ports_twice r two =
 
 -- what a plain name is that is no parameter and no port
 abbrev others_of : ReactorTree → List ℕ → Option Kind
-others_of r name = or_else (option_map (λ x. OwnTimer) (find (λ x. bytes_eq name x.name) (timers_of r))) (or_else (option_map (λ x. OwnAction) (find (λ x. bytes_eq name x.name) (actions_of r))) (option_map (λ x. OwnInstance) (find (λ x. bytes_eq name x.name) (instances_of r))))
+others_of r name = first_or_second (option_map (λ x. OwnTimer) (find (λ x. bytes_eq name x.name) (timers_of r))) (first_or_second (option_map (λ x. OwnAction) (find (λ x. bytes_eq name x.name) (actions_of r))) (option_map (λ x. OwnInstance) (find (λ x. bytes_eq name x.name) (instances_of r))))
 
 -- what it is by the parameter, or else the port, that it finds
 abbrev kind_by : Option Kind → Option ParameterTree → Option PortTree → Option Kind
-kind_by others o p = or_else (option_map (λ x. OwnParameter) o) (or_else (option_map (λ x. own_port x.is_input) p) others)
+kind_by others o p = first_or_second (option_map (λ x. OwnParameter) o) (first_or_second (option_map (λ x. own_port x.is_input) p) others)
 
 may_be_own : (b : Bool) → may_stand Effect (own_port b) ≡ true → b ≡ false
 may_be_own true e = absurd (cc)
@@ -92,7 +92,7 @@ module _ (rs : List ReactorTree) (n : ℕ) (r : ReactorTree) (there : slice_get 
     unfolding DuplicateInput
     repeats two = no_repeated rs lawful (Any-at RepeatsName rs n r there (Any-at NamesTwice (reactions_of r) k x at two))
 
-    pub reads_once : IsTwice (reads_of x) → ⊥
+    pub reads_once : IsTwice (names_read x) → ⊥
     reads_once two = repeats (inl two)
 
     pub effects_once : IsTwice x.effects → ⊥
@@ -103,7 +103,7 @@ module _ (rs : List ReactorTree) (n : ℕ) (r : ReactorTree) (there : slice_get 
       some_ref P p =
           Any-left P (flat_map reaction_refs (reactions_of r)) (flat_map connection_refs (connections_of r))
           (Any-flat P reaction_refs (reactions_of r) k x at
-          (Any-right P (in_role Read (reads_of x)) (in_role Effect x.effects)
+          (Any-right P (in_role Read (names_read x)) (in_role Effect x.effects)
           (Any-at P (in_role Effect x.effects) j (Effect, ref) (mapped (λ s. (Effect, s)) x.effects j ref among) p)))
 
       is_placed : IsMisplaced rs r (Effect, ref) → ⊥

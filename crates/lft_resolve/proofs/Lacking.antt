@@ -2,7 +2,7 @@
 use Rattle.std.proofs.Common.{◌≡◌, ◌≢◌, ℕ, ◌<◌, Bool, true, false, List, [], ◌∷◌, ◌++◌, map, flat_map, length, get_or, find, is_some, Option, Some, None, option_map, option_to_list, Any, ◌⊎◌, inl, inr, ⊎_elim, bytes_eq, refl, sym, ap, ◌∙◌}
 use Rattle.lft_tree.specs.Tree.{ReactorTree, ParameterTree, PortTree, TimerTree, ActionTree, InstanceTree, AssignmentTree, TimeTree, Written, Named, ports_of, timers_of, actions_of, instances_of, connections_of}
 use Rattle.lft_resolve.specs.Causes.{IsUnknownTime, IsMisplacedTime, LacksParameter, LacksReactor, Misplaces, NamesNothing, NoneHolds, SomeGivesUnknown, UnknownName, UnknownReactor, WrongPlace, first_causes, later_causes}
-use Rattle.lft_resolve.specs.Kinds.{or_else, own_kind, own_port, timer_times, times_in}
+use Rattle.lft_resolve.specs.Kinds.{first_or_second, own_kind, own_port, timer_times, times_in}
 use Rattle.lft_resolve.specs.inner.{Lacking.{LacksName, LacksPlace, TimeLacksPlace}, Places.{IsIndexOf, place_in}, Sheets.parameter_place}
 use Rattle.lft_resolve.specs.declared.{index.Index.Index, kinds.Kind.{Kind, TheVariants.{OwnParameter, OwnTimer, OwnAction, OwnInstance}}}
 use Rattle.lft_resolve.proofs.{Placing.{find-some, not_some}, Somes.{Any-nil, Any-head, Any-tail, Any-cases, Any-left, Any-right, Any-weaker, some_here}}
@@ -70,7 +70,7 @@ port_kind : (b : Bool) → Some (own_port b) ≡ Some OwnParameter → ⊥
 port_kind true e = absurd (cc)
 port_kind false e = absurd (cc)
 
-other_kind : (q : Option ParameterTree) (p : Option PortTree) (t : Option TimerTree) (a : Option ActionTree) (i : Option InstanceTree) → q ≡ None → or_else (option_map (λ x. OwnParameter) q) (or_else (option_map (λ x. own_port x.is_input) p) (or_else (option_map (λ x. OwnTimer) t) (or_else (option_map (λ x. OwnAction) a) (option_map (λ x. OwnInstance) i)))) ≡ Some OwnParameter → ⊥
+other_kind : (q : Option ParameterTree) (p : Option PortTree) (t : Option TimerTree) (a : Option ActionTree) (i : Option InstanceTree) → q ≡ None → first_or_second (option_map (λ x. OwnParameter) q) (first_or_second (option_map (λ x. own_port x.is_input) p) (first_or_second (option_map (λ x. OwnTimer) t) (first_or_second (option_map (λ x. OwnAction) a) (option_map (λ x. OwnInstance) i)))) ≡ Some OwnParameter → ⊥
 other_kind (Some q) p t a i none e = absurd (cc)
 other_kind None (Some p) t a i none e = port_kind p.is_input e
 other_kind None None (Some t) a i none e = absurd (cc)

@@ -2,9 +2,10 @@
 use Rattle.std.proofs.Common.{◌≡◌, ◌≢◌, ℕ, Bool, true, false, List, Option, Some, None, inl, inr, find, is_some, option_map, MatchOption, bytes_eq, refl, sym, ap, subst, ◌∙◌}
 use Rattle.std.specs.Option.{option_and_then}
 use Rattle.lft_tree.specs.Tree.{ReactorTree, ParameterTree, PortTree, TimerTree, ActionTree, InstanceTree, RefTree, Named, ports_of, timers_of, actions_of, instances_of}
-use Rattle.lft_resolve.specs.inner.Lost.{IsLost, IsLostTime, IsTimerAt, Lacks, is_port, is_spot}
+use Rattle.lft_resolve.specs.inner.Lost.{IsLost, IsLostTime, IsNamedTimer, LacksKind, is_port_kind, is_spot}
 use Rattle.lft_resolve.specs.inner.Sheets.{action_place, parameter_place, port_place, timer_place}
-use Rattle.lft_resolve.specs.{Instances.reactor_named, Kinds.{inner_port, kind_inside, kind_of, may_stand, or_else, own_kind, own_port}, Sheets.is_timer}
+use Rattle.lft_resolve.specs.{Instances.reactor_named, Kinds.{inner_port, kind_inside, kind_of, may_stand, first_or_second, own_kind, own_port}}
+use Rattle.lft_resolve.specs.Sheets.{is_timer}
 use Rattle.lft_resolve.specs.declared.kinds.Kind.{Kind}
 use Rattle.lft_resolve.specs.declared.kinds.Kind.TheVariants.{OwnParameter, OwnInput, OwnOutput, OwnTimer, OwnAction, OwnInstance, InnerInput, InnerOutput}
 use Rattle.lft_resolve.specs.declared.kinds.Role.{Role, TheVariants.{Read, Effect, Source, Destination}}
@@ -12,18 +13,18 @@ use Rattle.lft_resolve.proofs.{Directed.place_none, Placing.find-some}
 
 -- what a plain name is, from what is found of each kind
 abbrev kind_among : Option ParameterTree → Option PortTree → Option TimerTree → Option ActionTree → Option InstanceTree → Option Kind
-kind_among p q t a i = or_else (option_map (λ x. OwnParameter) p) (or_else (option_map (λ x. own_port x.is_input) q) (or_else (option_map (λ x. OwnTimer) t) (or_else (option_map (λ x. OwnAction) a) (option_map (λ x. OwnInstance) i))))
+kind_among p q t a i = first_or_second (option_map (λ x. OwnParameter) p) (first_or_second (option_map (λ x. own_port x.is_input) q) (first_or_second (option_map (λ x. OwnTimer) t) (first_or_second (option_map (λ x. OwnAction) a) (option_map (λ x. OwnInstance) i))))
 
 -- what fails of the only kind that it may be
 only : (test : Kind → Bool) (x k : Kind) → test x ≡ false → Some x ≡ Some k → test k ≡ false
 only test x k fails is = let e : x ≡ k = cc in subst (λ y. test y ≡ false) e fails
 
-portless : (p : Option ParameterTree) (q : Option PortTree) (t : Option TimerTree) (a : Option ActionTree) (i : Option InstanceTree) (k : Kind) → q ≡ None → kind_among p q t a i ≡ Some k → is_port k ≡ false
-portless (Some x) q t a i k none is = only is_port OwnParameter k refl is
+portless : (p : Option ParameterTree) (q : Option PortTree) (t : Option TimerTree) (a : Option ActionTree) (i : Option InstanceTree) (k : Kind) → q ≡ None → kind_among p q t a i ≡ Some k → is_port_kind k ≡ false
+portless (Some x) q t a i k none is = only is_port_kind OwnParameter k refl is
 portless None (Some y) t a i k none is = absurd (cc)
-portless None None (Some x) a i k none is = only is_port OwnTimer k refl is
-portless None None None (Some x) i k none is = only is_port OwnAction k refl is
-portless None None None None (Some x) k none is = only is_port OwnInstance k refl is
+portless None None (Some x) a i k none is = only is_port_kind OwnTimer k refl is
+portless None None None (Some x) i k none is = only is_port_kind OwnAction k refl is
+portless None None None None (Some x) k none is = only is_port_kind OwnInstance k refl is
 portless None None None None None k none is = absurd (cc)
 
 spotless : (p : Option ParameterTree) (q : Option PortTree) (t : Option TimerTree) (a : Option ActionTree) (i : Option InstanceTree) (k : Kind) → q ≡ None → a ≡ None → kind_among p q t a i ≡ Some k → is_spot k ≡ false
@@ -35,7 +36,7 @@ spotless None None None None (Some x) k none nor is = only is_spot OwnInstance k
 spotless None None None None None k none nor is = absurd (cc)
 
 -- a name without a place among the ports is no port
-pub own_portless : (r : ReactorTree) (head : List ℕ) (k : Kind) → port_place r head ≡ None → own_kind r head ≡ Some k → is_port k ≡ false
+pub own_portless : (r : ReactorTree) (head : List ℕ) (k : Kind) → port_place r head ≡ None → own_kind r head ≡ Some k → is_port_kind k ≡ false
 own_portless r head k none is = portless (find (λ x. bytes_eq head x.name) r.parameters) (find (λ x. bytes_eq head x.name) (ports_of r)) (find (λ x. bytes_eq head x.name) (timers_of r)) (find (λ x. bytes_eq head x.name) (actions_of r)) (find (λ x. bytes_eq head x.name) (instances_of r)) k (place_none (λ x. x.name) head (ports_of r) none) is
 
 -- and one without a place among the actions neither is no port and no action
@@ -66,7 +67,7 @@ lost_time r name none = by (own_kind r name) refl
     by (Some k) e = inr (k, e, parameterless (find (λ x. bytes_eq name x.name) r.parameters) (find (λ x. bytes_eq name x.name) (ports_of r)) (find (λ x. bytes_eq name x.name) (timers_of r)) (find (λ x. bytes_eq name x.name) (actions_of r)) (find (λ x. bytes_eq name x.name) (instances_of r)) k (place_none (λ x. x.name) name r.parameters none) e)
 
 -- a name of no kind that its role allows
-pub lost : (test : Kind → Bool) (rs : List ReactorTree) (r : ReactorTree) (role : Role) (ref : RefTree) → ((k : Kind) → test k ≡ false → may_stand role k ≡ false) → Lacks test rs r ref → IsLost rs r (role, ref)
+pub lost : (test : Kind → Bool) (rs : List ReactorTree) (r : ReactorTree) (role : Role) (ref : RefTree) → ((k : Kind) → test k ≡ false → may_stand role k ≡ false) → LacksKind test rs r ref → IsLost rs r (role, ref)
 lost test rs r role ref allows lacks = by (kind_of rs r ref) refl
   where
     by : (o : Option Kind) → kind_of rs r ref ≡ o → IsLost rs r (role, ref)
@@ -74,7 +75,7 @@ lost test rs r role ref allows lacks = by (kind_of rs r ref) refl
     by (Some k) e = inr (k, e, allows k (lacks k e))
 
 -- what is no port may not be a source, nor a destination
-pub source_port : (k : Kind) → is_port k ≡ false → may_stand Source k ≡ false
+pub source_port : (k : Kind) → is_port_kind k ≡ false → may_stand Source k ≡ false
 source_port OwnInput e = absurd (cc)
 source_port OwnOutput e = absurd (cc)
 source_port InnerInput e = absurd (cc)
@@ -84,7 +85,7 @@ source_port OwnTimer e = refl
 source_port OwnAction e = refl
 source_port OwnInstance e = refl
 
-pub destination_port : (k : Kind) → is_port k ≡ false → may_stand Destination k ≡ false
+pub destination_port : (k : Kind) → is_port_kind k ≡ false → may_stand Destination k ≡ false
 destination_port OwnInput e = absurd (cc)
 destination_port OwnOutput e = absurd (cc)
 destination_port InnerInput e = absurd (cc)
@@ -150,7 +151,7 @@ untimed rs r head None none is = timerless (find (λ x. bytes_eq head x.name) r.
 untimed rs r head (Some name) none is = instance_untimed rs name (find (λ i. bytes_eq head i.name) (instances_of r)) is
 
 -- a name that is no timer, no port and no action is lost where it is read
-pub lost_read : (rs : List ReactorTree) (r : ReactorTree) (ref : RefTree) → is_timer r ref.head ref.port ≡ false → Lacks is_spot rs r ref → IsLost rs r (Read, ref)
+pub lost_read : (rs : List ReactorTree) (r : ReactorTree) (ref : RefTree) → is_timer r ref.head ref.port ≡ false → LacksKind is_spot rs r ref → IsLost rs r (Read, ref)
 lost_read rs r ref none lacks = by (kind_of rs r ref) refl
   where
     by : (o : Option Kind) → kind_of rs r ref ≡ o → IsLost rs r (Read, ref)
@@ -158,6 +159,6 @@ lost_read rs r ref none lacks = by (kind_of rs r ref) refl
     by (Some k) e = inr (k, e, read_spot k (λ same. untimed rs r ref.head ref.port none (e ∙ ap Some same)) (lacks k e))
 
 -- a plain name is a timer where it has a place among them
-pub timer_there : (r : ReactorTree) (ref : RefTree) (o : Option ℕ) → ref.port ≡ None → o ≡ timer_place r ref.head → MatchOption o (is_timer r ref.head ref.port ≡ false) (IsTimerAt r ref)
+pub timer_there : (r : ReactorTree) (ref : RefTree) (o : Option ℕ) → ref.port ≡ None → o ≡ timer_place r ref.head → MatchOption o (is_timer r ref.head ref.port ≡ false) (IsNamedTimer r ref)
 timer_there r ref None plain is = ap (is_timer r ref.head) plain ∙ find-some (λ x. x.name) ref.head (timers_of r) ∙ ap is_some (sym is)
 timer_there r ref (Some n) plain is = record { is_one = ap (is_timer r ref.head) plain ∙ find-some (λ x. x.name) ref.head (timers_of r) ∙ ap is_some (sym is); is_plain = plain; is_place = sym is }

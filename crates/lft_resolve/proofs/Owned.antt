@@ -1,7 +1,7 @@
 -- What a plain name is, by the kind under which it is found first.
 use Rattle.std.proofs.Common.{◌≡◌, ℕ, Bool, true, false, List, map, find, is_some, Option, Some, None, option_map, bytes_eq, refl, sym, ap, ◌∙◌}
 use Rattle.lft_tree.specs.Tree.{ReactorTree, ParameterTree, PortTree, TimerTree, ActionTree, InstanceTree, ports_of, timers_of, actions_of, instances_of}
-use Rattle.lft_resolve.specs.{Kinds.{or_else, own_kind, own_port}, inner.Places.{IsIndexOf, place_in}}
+use Rattle.lft_resolve.specs.{Kinds.{first_or_second, own_kind, own_port}, inner.Places.{IsIndexOf, place_in}}
 use Rattle.lft_resolve.specs.declared.{index.Index.Index, kinds.Kind.{Kind, TheVariants.{OwnParameter, OwnTimer, OwnAction, OwnInstance}}}
 use Rattle.lft_resolve.proofs.Placing.{find-some}
 
@@ -10,11 +10,11 @@ pub indexed : {X : Type 0} (name : X → List ℕ) (q : List ℕ) (xs : List X) 
 indexed name q xs index b is e = find-some name q xs ∙ ap is_some (sym (is q)) ∙ e
 
 -- the kind of the first that is found, and what stands for nothing
-first_kind : {X : Type 0} (k : Kind) (o : Option X) (rest : Option Kind) → is_some o ≡ true → Some k ≡ or_else (option_map (λ x. k) o) rest
+first_kind : {X : Type 0} (k : Kind) (o : Option X) (rest : Option Kind) → is_some o ≡ true → Some k ≡ first_or_second (option_map (λ x. k) o) rest
 first_kind k None rest e = absurd (cc)
 first_kind k (Some x) rest e = refl
 
-next_kind : {X : Type 0} (k : X → Kind) (o : Option X) (rest found : Option Kind) → is_some o ≡ false → found ≡ rest → found ≡ or_else (option_map k o) rest
+next_kind : {X : Type 0} (k : X → Kind) (o : Option X) (rest found : Option Kind) → is_some o ≡ false → found ≡ rest → found ≡ first_or_second (option_map k o) rest
 next_kind k None rest found e is = is
 next_kind k (Some x) rest found e is = absurd (cc)
 
@@ -39,10 +39,10 @@ module _ (r : ReactorTree) (q : List ℕ) where
 
   module _ (no_parameter : is_some parameter ≡ false) where
     pub as_port : (p : PortTree) (k : Kind) → k ≡ own_port p.is_input → Some p ≡ port → Some k ≡ own_kind r q
-    as_port p k kind is = next_kind (λ x. OwnParameter) parameter _ (Some k) no_parameter (ap Some kind ∙ ap (λ o. or_else (option_map (λ x. own_port x.is_input) o) (or_else (option_map (λ x. OwnTimer) timer) (or_else (option_map (λ x. OwnAction) action) (option_map (λ x. OwnInstance) instance)))) is)
+    as_port p k kind is = next_kind (λ x. OwnParameter) parameter _ (Some k) no_parameter (ap Some kind ∙ ap (λ o. first_or_second (option_map (λ x. own_port x.is_input) o) (first_or_second (option_map (λ x. OwnTimer) timer) (first_or_second (option_map (λ x. OwnAction) action) (option_map (λ x. OwnInstance) instance)))) is)
 
     module _ (no_port : None ≡ port) where
-      beside : (found : Option Kind) → found ≡ or_else (option_map (λ x. OwnTimer) timer) (or_else (option_map (λ x. OwnAction) action) (option_map (λ x. OwnInstance) instance)) → found ≡ own_kind r q
+      beside : (found : Option Kind) → found ≡ first_or_second (option_map (λ x. OwnTimer) timer) (first_or_second (option_map (λ x. OwnAction) action) (option_map (λ x. OwnInstance) instance)) → found ≡ own_kind r q
       beside found is = next_kind (λ x. OwnParameter) parameter _ found no_parameter (next_kind (λ x. own_port x.is_input) port _ found (sym (ap is_some no_port)) is)
 
       pub as_timer : is_some timer ≡ true → Some OwnTimer ≡ own_kind r q

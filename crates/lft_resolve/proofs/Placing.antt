@@ -2,7 +2,7 @@
 use Rattle.std.proofs.Common.{◌≡◌, ℕ, suc, Bool, true, false, cond, not, List, [], ◌∷◌, ◌++◌, map, length, slice_get, find, Option, Some, None, option_map, option_copied, Bor, bytes_eq, refl, sym, ap, subst, ◌∙◌}
 use Rattle.std.specs.{Option.{option_and_then, is_none, is_some}, Slice.IsItemAt}
 use Rattle.std.proofs.lemmas.{Option.{slice_get-get_or, slice_get_past}, Slice.Eq.bytes_eq-Decides}
-use Rattle.lft_resolve.specs.{Kinds.or_else, inner.Places.place}
+use Rattle.lft_resolve.specs.{Kinds.first_or_second, inner.Places.place}
 
 abbrev pub here : Bool → ℕ → Option ℕ
 here b n = cond b (Some n) None
@@ -11,12 +11,12 @@ suc_here : (b : Bool) (n : ℕ) → option_map suc (here b n) ≡ here b (suc n)
 suc_here true n = refl
 suc_here false n = refl
 
-or_else_suc : (o p : Option ℕ) → option_map suc (or_else o p) ≡ or_else (option_map suc o) (option_map suc p)
+or_else_suc : (o p : Option ℕ) → option_map suc (first_or_second o p) ≡ first_or_second (option_map suc o) (option_map suc p)
 or_else_suc None p = refl
 or_else_suc (Some n) p = refl
 
 -- with one more name at the end
-pub place-push : (q : List ℕ) (xs : List (List ℕ)) (t : List ℕ) → place q (xs ++ t ∷ []) ≡ or_else (place q xs) (here (bytes_eq q t) (length xs))
+pub place-push : (q : List ℕ) (xs : List (List ℕ)) (t : List ℕ) → place q (xs ++ t ∷ []) ≡ first_or_second (place q xs) (here (bytes_eq q t) (length xs))
 place-push q [] t = by (bytes_eq q t)
   where
     by : (b : Bool) → cond b (Some 0) None ≡ here b 0
@@ -24,15 +24,15 @@ place-push q [] t = by (bytes_eq q t)
     by false = refl
 place-push q (x ∷ xs) t = by (bytes_eq q x) (place-push q xs t)
   where
-    by : (b : Bool) → place q (xs ++ t ∷ []) ≡ or_else (place q xs) (here (bytes_eq q t) (length xs)) → cond b (Some 0) (option_map suc (place q (xs ++ t ∷ []))) ≡ or_else (cond b (Some 0) (option_map suc (place q xs))) (here (bytes_eq q t) (suc (length xs)))
+    by : (b : Bool) → place q (xs ++ t ∷ []) ≡ first_or_second (place q xs) (here (bytes_eq q t) (length xs)) → cond b (Some 0) (option_map suc (place q (xs ++ t ∷ []))) ≡ first_or_second (cond b (Some 0) (option_map suc (place q xs))) (here (bytes_eq q t) (suc (length xs)))
     by true e = refl
-    by false e = ap (option_map suc) e ∙ or_else_suc (place q xs) (here (bytes_eq q t) (length xs)) ∙ ap (or_else (option_map suc (place q xs))) (suc_here (bytes_eq q t) (length xs))
+    by false e = ap (option_map suc) e ∙ or_else_suc (place q xs) (here (bytes_eq q t) (length xs)) ∙ ap (first_or_second (option_map suc (place q xs))) (suc_here (bytes_eq q t) (length xs))
 
-pub or_else-none : {X : Type 0} (o : Option X) → or_else o None ≡ o
+pub or_else-none : {X : Type 0} (o : Option X) → first_or_second o None ≡ o
 or_else-none None = refl
 or_else-none (Some x) = refl
 
-pub or_else-there : {X : Type 0} (o p : Option X) → is_none o ≡ false → or_else o p ≡ o
+pub or_else-there : {X : Type 0} (o p : Option X) → is_none o ≡ false → first_or_second o p ≡ o
 or_else-there None p e = absurd (cc)
 or_else-there (Some x) p e = refl
 
@@ -52,7 +52,7 @@ turned s t e = by (bytes_eq t s) refl
 pub place_put : (xs : List (List ℕ)) (t : List ℕ) (n : ℕ) → place t xs ≡ None → n ≡ length xs → (q : List ℕ) → cond (bytes_eq t q) (Some n) (place q xs) ≡ place q (xs ++ t ∷ [])
 place_put xs t n none is q = by (bytes_eq t q) refl ∙ sym (place-push q xs t)
   where
-    by : (b : Bool) → bytes_eq t q ≡ b → cond (bytes_eq t q) (Some n) (place q xs) ≡ or_else (place q xs) (here (bytes_eq q t) (length xs))
+    by : (b : Bool) → bytes_eq t q ≡ b → cond (bytes_eq t q) (Some n) (place q xs) ≡ first_or_second (place q xs) (here (bytes_eq q t) (length xs))
     by true e =
         let same : t ≡ q = (bytes_eq-Decides t q).0 e in
         let back : bytes_eq q t ≡ true = (bytes_eq-Decides q t).1 (sym same) in
@@ -64,7 +64,7 @@ place_put xs t n none is q = by (bytes_eq t q) refl ∙ sym (place-push q xs t)
 pub place_kept : (xs : List (List ℕ)) (t : List ℕ) → is_none (place t xs) ≡ false → (q : List ℕ) → place q xs ≡ place q (xs ++ t ∷ [])
 place_kept xs t there q = by (bytes_eq q t) refl ∙ sym (place-push q xs t)
   where
-    by : (b : Bool) → bytes_eq q t ≡ b → place q xs ≡ or_else (place q xs) (here (bytes_eq q t) (length xs))
+    by : (b : Bool) → bytes_eq q t ≡ b → place q xs ≡ first_or_second (place q xs) (here (bytes_eq q t) (length xs))
     by true e = let same : q ≡ t = (bytes_eq-Decides q t).0 e in sym (or_else-there (place q xs) (here (bytes_eq q t) (length xs)) (subst (λ s. is_none (place s xs) ≡ false) (sym same) there))
     by false e = rw e (sym (or_else-none (place q xs)))
 

@@ -3,7 +3,7 @@ use Rattle.std.proofs.Common.{◌≡◌, ℕ, Bool, true, false, List, refl, sym
 use Rattle.std.specs.Option.{option_map, option_and_then}
 use Rattle.lft_resolve.proofs.{Effects.Any-flat, Placing.place_found, Somes.Any-right, Twice.Any-at}
 use Rattle.lft_resolve.specs.{Causes.{UnknownName, NamesNothing, WrongPlace, Misplaces, IsMisplaced}, Instances.reactor_named}
-use Rattle.lft_resolve.specs.Kinds.{inner_kind, own_port, inner_port, or_else, kind_of, kind_inside, refs_in, in_role, may_stand, reaction_refs, connection_refs}
+use Rattle.lft_resolve.specs.Kinds.{inner_kind, own_port, inner_port, first_or_second, kind_of, kind_inside, refs_in, in_role, may_stand, reaction_refs, connection_refs}
 use Rattle.lft_resolve.specs.inner.Sheets.{IsInner, port_place}
 use Rattle.lft_resolve.specs.declared.kinds.Kind.{Kind, TheVariants.{OwnParameter, OwnTimer, OwnAction, OwnInstance}}
 use Rattle.lft_resolve.specs.declared.kinds.Role.{Role, TheVariants.{Source, Destination}}
@@ -11,7 +11,7 @@ use Rattle.lft_lists.proofs.Mapped.{mapped}
 use Rattle.lft_tree.specs.Tree.{ReactorTree, ParameterTree, PortTree, InstanceTree, ConnectionTree, RefTree, connections_of, reactions_of, ports_of, timers_of, actions_of, instances_of}
 
 -- an own name that may be a destination is an output
-own_output : (a : Option ParameterTree) (b : Bool) (rest : Option Kind) (kind : Kind) → or_else (option_map (λ x. OwnParameter) a) (or_else (Some (own_port b)) rest) ≡ Some kind → may_stand Destination kind ≡ true → b ≡ false
+own_output : (a : Option ParameterTree) (b : Bool) (rest : Option Kind) (kind : Kind) → first_or_second (option_map (λ x. OwnParameter) a) (first_or_second (Some (own_port b)) rest) ≡ Some kind → may_stand Destination kind ≡ true → b ≡ false
 own_output (Some x) b rest kind e f = let q : OwnParameter ≡ kind = cc in absurd (let z : may_stand Destination OwnParameter ≡ true = subst (λ k. may_stand Destination k ≡ true) (sym q) f in cc)
 own_output None true rest kind e f = let q : own_port true ≡ kind = cc in absurd (let z : may_stand Destination (own_port true) ≡ true = subst (λ k. may_stand Destination k ≡ true) (sym q) f in cc)
 own_output None false rest kind e f = refl
@@ -49,9 +49,9 @@ module _ (rs : List ReactorTree) (known : UnknownName rs → ⊥) (placed : Wron
   own_written port x own e f =
       let a = allowed in
       let is : find (λ y. bytes_eq ref.head y.name) (ports_of r) ≡ Some x = place_found (λ y. y.name) ref.head (ports_of r) port x e f in
-      let rest : Option Kind = or_else (option_map (λ y. OwnTimer) (find (λ y. bytes_eq ref.head y.name) (timers_of r))) (or_else (option_map (λ y. OwnAction) (find (λ y. bytes_eq ref.head y.name) (actions_of r))) (option_map (λ y. OwnInstance) (find (λ y. bytes_eq ref.head y.name) (instances_of r)))) in
+      let rest : Option Kind = first_or_second (option_map (λ y. OwnTimer) (find (λ y. bytes_eq ref.head y.name) (timers_of r))) (first_or_second (option_map (λ y. OwnAction) (find (λ y. bytes_eq ref.head y.name) (actions_of r))) (option_map (λ y. OwnInstance) (find (λ y. bytes_eq ref.head y.name) (instances_of r)))) in
       let params : Option ParameterTree = find (λ y. bytes_eq ref.head y.name) r.parameters in
-      let kind : or_else (option_map (λ y. OwnParameter) params) (or_else (option_map (λ (y : PortTree). own_port y.is_input) (Some x)) rest) ≡ Some a.0 = ap (λ (o : Option PortTree). or_else (option_map (λ y. OwnParameter) params) (or_else (option_map (λ (y : PortTree). own_port y.is_input) o) rest)) (sym is) ∙ sym (ap (kind_inside rs r ref.head) own) ∙ a.1 in
+      let kind : first_or_second (option_map (λ y. OwnParameter) params) (first_or_second (option_map (λ (y : PortTree). own_port y.is_input) (Some x)) rest) ≡ Some a.0 = ap (λ (o : Option PortTree). first_or_second (option_map (λ y. OwnParameter) params) (first_or_second (option_map (λ (y : PortTree). own_port y.is_input) o) rest)) (sym is) ∙ sym (ap (kind_inside rs r ref.head) own) ∙ a.1 in
       own_output params x.is_input rest a.0 kind a.2
 
   pub inner_written : (number port : ℕ) (w : IsInner rs r ref number port) (x : PortTree) → slice_get (ports_of w.inner) port ≡ Some x → x.is_input ≡ true

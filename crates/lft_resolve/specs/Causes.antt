@@ -3,7 +3,7 @@ use Rattle.std.specs.Prelude.{◌≡◌, ◌≢◌, ℕ, ◌<◌, ◌⊎◌, fal
 use Rattle.lft_tree.specs.Tree.{FileTree, ReactorTree, ReactionTree, InstanceTree, AssignmentTree, TimeTree, Written, Named, RefTree, nanoseconds, reactors_of, instances_of, connections_of, ports_of, actions_of, timers_of, reactions_of}
 use Rattle.lft_resolve.specs.{Expansion.Paths.IsMoreThan, Instances.{Inside, reactor_named, IsInside, Thing, Chain}}
 use Rattle.lft_resolve.specs.declared.{causes.ProgramFault.ProgramFault, kinds.{Kind.{Kind, TheVariants.OwnParameter}, Role.Role}}
-use Rattle.lft_resolve.specs.Kinds.{own_kind, kind_of, may_stand, reads_of, refs_in, times_in, names_in, destinations_in, effects_in}
+use Rattle.lft_resolve.specs.Kinds.{own_kind, kind_of, may_stand, names_read, refs_in, times_in, names_in, destinations_in, effects_in}
 use Rattle.lft_resolve.specs.declared.causes.ProgramFault.TheVariants as faults
 
 -- something stands twice in the list
@@ -162,7 +162,7 @@ NoTrigger reactors = Any LacksTrigger reactors
 
 -- a name stands twice among the reaction's triggers and uses, or twice among its effects
 abbrev pub NamesTwice : ReactionTree → Type 0
-NamesTwice x = IsTwice (reads_of x) ⊎ IsTwice x.effects
+NamesTwice x = IsTwice (names_read x) ⊎ IsTwice x.effects
 
 -- the reactor has such a reaction
 abbrev pub RepeatsName : ReactorTree → Type 0

@@ -17,17 +17,17 @@ inner_port true = InnerInput
 inner_port false = InnerOutput
 
 -- the first, if there is one, else the second
-abbrev pub or_else : {X : Type 0} → Option X → Option X → Option X
-or_else None y = y
-or_else (Some x) y = Some x
+abbrev pub first_or_second : {X : Type 0} → Option X → Option X → Option X
+first_or_second None y = y
+first_or_second (Some x) y = Some x
 
 -- what a plain name is in the reactor
 abbrev pub own_kind : ReactorTree → List ℕ → Option Kind
 own_kind r name =
-    or_else (option_map (λ x. OwnParameter) (find (λ x. bytes_eq name x.name) r.parameters))
-    (or_else (option_map (λ x. own_port x.is_input) (find (λ x. bytes_eq name x.name) (ports_of r)))
-    (or_else (option_map (λ x. OwnTimer) (find (λ x. bytes_eq name x.name) (timers_of r)))
-    (or_else (option_map (λ x. OwnAction) (find (λ x. bytes_eq name x.name) (actions_of r)))
+    first_or_second (option_map (λ x. OwnParameter) (find (λ x. bytes_eq name x.name) r.parameters))
+    (first_or_second (option_map (λ x. own_port x.is_input) (find (λ x. bytes_eq name x.name) (ports_of r)))
+    (first_or_second (option_map (λ x. OwnTimer) (find (λ x. bytes_eq name x.name) (timers_of r)))
+    (first_or_second (option_map (λ x. OwnAction) (find (λ x. bytes_eq name x.name) (actions_of r)))
     (option_map (λ x. OwnInstance) (find (λ x. bytes_eq name x.name) (instances_of r))))))
 
 -- what `x.y` is: a port y of the reactor, among these, of the contained instance x
@@ -66,8 +66,8 @@ ref_in AtShutdown = None
 ref_in (OnRef ref) = Some ref
 
 -- the names among a reaction's triggers and uses
-abbrev pub reads_of : ReactionTree → List RefTree
-reads_of x = filter_map ref_in x.triggers ++ x.uses
+abbrev pub names_read : ReactionTree → List RefTree
+names_read x = filter_map ref_in x.triggers ++ x.uses
 
 -- a name with the role that it has
 abbrev pub in_role : Role → List RefTree → List (Role × RefTree)
@@ -75,7 +75,7 @@ in_role role refs = map (λ ref. (role, ref)) refs
 
 -- the names of a reaction and of a connection with their roles
 abbrev pub reaction_refs : ReactionTree → List (Role × RefTree)
-reaction_refs x = in_role Read (reads_of x) ++ in_role Effect x.effects
+reaction_refs x = in_role Read (names_read x) ++ in_role Effect x.effects
 
 abbrev pub connection_refs : ConnectionTree → List (Role × RefTree)
 connection_refs c = in_role Source c.sources ++ in_role Destination c.destinations

@@ -4,7 +4,7 @@ ghost use Rattle.std.specs.Prelude.{◌≡◌, List, IfOk, MatchOption, Some, No
 ghost use Rattle.std.specs.List.{AllZip};
 ghost use Rattle.lft_tree.specs.{Tree.{ReactorTree, instances_of}, View.ref_view};
 ghost use Rattle.lft_resolve.specs.{Instances.reactor_named, Kinds.kind_of};
-ghost use Rattle.lft_resolve.specs.inner.{Numbers.numbers_of, References.reactor_trees, Tables.{IsFile, IsHeld, IsOwn}};
+ghost use Rattle.lft_resolve.specs.inner.{Numbers.numbers_of, References.reactor_trees, Tables.{IsFile, IsInstanceTable, IsOwn}};
 
 use crate::index::Index;
 use crate::kinds::Kind;
@@ -87,7 +87,7 @@ impl<'a> ReactorTable<'a> {
     /// The place of the instance of this name in a reactor, and what the reactor of that instance
     /// declares.
     pub(crate) fn inside(&self, own: &Own, name: &str) -> Option<(usize, &Own<'a>)>
-        ensures { (rs : List ReactorTree) (r : ReactorTree) → IsFile rs self.now → IsOwn r own.now → MatchOption result (option_and_then (λ i. reactor_named rs i.reactor) (find (λ i. bytes_eq name.now i.name) (instances_of r)) ≡ None) (λ p. IsHeld rs r name.now p.0 p.1.now) }
+        ensures { (rs : List ReactorTree) (r : ReactorTree) → IsFile rs self.now → IsOwn r own.now → MatchOption result (option_and_then (λ i. reactor_named rs i.reactor) (find (λ i. bytes_eq name.now i.name) (instances_of r)) ≡ None) (λ p. IsInstanceTable rs r name.now p.0 p.1.now) }
     {
         match own.instances.get(name) {
             Some(place) => match own.contained.get(place) {

@@ -22,13 +22,13 @@ pub struct Scopes<'a> {
 
 impl<'a> Model for Scopes<'a> {
     ghost use Rattle.lft_tree.specs.{Tree.FileTree, View.tree_view};
-    ghost use Rattle.lft_resolve.specs.inner.Scopes.{AreScopes};
+    ghost use Rattle.lft_resolve.specs.inner.Scopes.{AreScopesOfTree};
 
     ghost Value = { FileTree };
 
     ghost view = { λ s. tree_view s.ast.now };
 
-    ghost invariant = { λ s. AreScopes (tree_view s.ast.now) s.reactors.items s.file };
+    ghost invariant = { λ s. AreScopesOfTree (tree_view s.ast.now) s.reactors.items s.file };
 }
 
 impl<'a> Scopes<'a> {

@@ -8,12 +8,13 @@ use Rattle.lft_tree.specs.declared.ast.Ast.{Ast}
 use Rattle.lft_resolve.specs.{Causes.{NoneHolds, causes}, Instances.{Inside as CoreInside, Thing, stands_for, time_in as core_time_in}}
 use Rattle.lft_program.specs.Flattening.{time_or_zero}
 use Rattle.lft_whole.specs.declared.{sources.source.SourceFile.SourceFile, tree.{Connection.Connection, Expression.Expression, Member.Member}}
-use Rattle.lft_elaborate.specs.inner.Channels.Lowered.{AreJoined}
+use Rattle.lft_elaborate.specs.inner.Channels.Lowered.{AreJoinedPlaces}
 use Rattle.lft_classes.specs.declared.shapes.Inherited.{Inherited}
 use Rattle.lft_lower.specs.inner.Meanings.{Meanings.{all_places, named_in}, Places.names_of}
 use Rattle.lft_lower.specs.inner.{Lowered.{AreConnected, IsLowered, IsRead, MeanSides, each_pair, time_at, whole}, Reactors.IsLowering}
 use Rattle.lft_same.specs.inner.Expanded.Core.{core_links}
-use Rattle.lft_same.specs.Expanded.{Expanded.Link, Instances.{Inside, Widths, time_in}, Reactors.members_of, Whole.{channels, link, links_at, links_of, pairs}}
+use Rattle.lft_same.specs.Expanded.{Expanded.Link, Instances.{Inside, Widths, time_written_in}, Reactors.members_of}
+use Rattle.lft_same.specs.Expanded.Whole.{channels, channel_link, links_at, links_of, pairs}
 use Rattle.lft_same.proofs.{ExpandedLemmas.{Flattened.linked, Links.{joined_links, whole_links}}, Instances.{AreWidthsFound, StandsFor}, Inners.names_alike}
 use Rattle.lft_same.proofs.{Known.{delay_time, known_law}, Listed.{all_mapped, none_mapped, unnumbered}, Lowered.{Appends, Becomes, of_instance, of_reaction}}
 use Rattle.lft_same.proofs.{Members.{here, members_alike, never_of}, References.{all_things, each_stands, thing_for}, Settings.its_setting}
@@ -32,7 +33,7 @@ module _ (files : List SourceFile) (tree : Ast) (low : IsLowering files tree) (w
   links = flat_map (core_links path core)
 
   -- the delay of a connection in the core is that of the connection
-  delay_is : (cn : ConnectionTree) (o : Option Expression) → Mem cn (connections_of core.reactor) → cn.delay ≡ time_at o → IsRead s.shape o → option_map (core_time_in core) (time_at o) ≡ option_map (λ e. time_in files x (Some e)) o
+  delay_is : (cn : ConnectionTree) (o : Option Expression) → Mem cn (connections_of core.reactor) → cn.delay ≡ time_at o → IsRead s.shape o → option_map (core_time_in core) (time_at o) ≡ option_map (λ e. time_written_in files x (Some e)) o
   delay_is cn None k is read = refl
   delay_is cn (Some e) k is read =
       let t = becomes s.shape e.value read in
@@ -67,11 +68,11 @@ module _ (files : List SourceFile) (tree : Ast) (low : IsLowering files tree) (w
     delayed : (cn : ConnectionTree) → Mem cn (connections_of core.reactor) → cn.delay ≡ time_at c.delay → map core_link joined ≡ links_of files w path x c
     delayed cn k is = ap (λ d. map (λ (p : Thing × Thing). linked d p.0 p.1) joined) (delay_is cn c.delay k is read)
 
-    each_links : (cs : List ConnectionTree) → AreJoined left right c.is_broadcast (time_at c.delay) cs → ((cn : ConnectionTree) → Mem cn cs → Mem cn (connections_of core.reactor)) → links cs ≡ links_of files w path x c
+    each_links : (cs : List ConnectionTree) → AreJoinedPlaces left right c.is_broadcast (time_at c.delay) cs → ((cn : ConnectionTree) → Mem cn cs → Mem cn (connections_of core.reactor)) → links cs ≡ links_of files w path x c
     each_links cs joins stand = by cs joins (joined_links path core (time_at c.delay) stands left right c.is_broadcast cs joins left_stands right_stands ∙ ap (map core_link) joined_is) stand
       where
-        by : (cs : List ConnectionTree) → AreJoined left right c.is_broadcast (time_at c.delay) cs → links cs ≡ map core_link joined → ((cn : ConnectionTree) → Mem cn cs → Mem cn (connections_of core.reactor)) → links cs ≡ links_of files w path x c
-        by [] joins e stand = ap (map (link files x c)) (sym (map_nil core_link joined e))
+        by : (cs : List ConnectionTree) → AreJoinedPlaces left right c.is_broadcast (time_at c.delay) cs → links cs ≡ map core_link joined → ((cn : ConnectionTree) → Mem cn cs → Mem cn (connections_of core.reactor)) → links cs ≡ links_of files w path x c
+        by [] joins e stand = ap (map (channel_link files x c)) (sym (map_nil core_link joined e))
         by (cn ∷ cs) joins e stand =
             let one = joins.1 0 (omega arith) in
             let is : cn.delay ≡ time_at c.delay = ap (λ (k : ConnectionTree). k.delay) (Some_same cn _ one.4) in

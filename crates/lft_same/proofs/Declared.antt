@@ -14,8 +14,8 @@ use Rattle.lft_classes.specs.{declared.shapes.Inherited.Inherited, Shapes.{name_
 use Rattle.lft_lower.specs.inner.Meanings.{Meanings.named_in, Places.{name_at, names_of}}
 use Rattle.lft_lower.specs.inner.Lowered.{AreTriggers, IsAsleep, IsLowered, action_tree, added, asleep, known, period_at, reaction_tree, runs, sleeps, time_at, timer_tree}
 use Rattle.lft_lower.specs.inner.Reactors.{IsLowering}
-use Rattle.lft_same.specs.Expanded.{Expanded.{Action, Port, Timer}, Instances.{Inside, Widths, numbers, period_in, time_in, written}, Reactors.members_of}
-use Rattle.lft_same.specs.Expanded.Whole.{actions_at, ports_at, timers_at}
+use Rattle.lft_same.specs.Expanded.{Expanded.{Action, Port, Timer}, Instances.{Inside, Widths, numbers, period_in, time_written_in, name_with_number}}
+use Rattle.lft_same.specs.Expanded.{Reactors.members_of, Whole.{actions_at, ports_at, timers_at}}
 use Rattle.lft_same.specs.inner.Times.{IsKnown}
 use Rattle.lft_same.proofs.{ExpandedLemmas.Flattened.map_twice, Instances.{AreWidthsFound, StandsFor}, Known.{action_time, known_law, listed, timer_time}}
 use Rattle.lft_same.proofs.{Listed.{all_mapped, none_mapped, unnumbered}, Lowered.{Appends, Becomes, never_added, of_connection, of_instance, of_reaction}}
@@ -83,9 +83,9 @@ module _ (files : List SourceFile) (tree : Ast) (low : IsLowering files tree) (x
             ∙ ap (map port_of) (all_mapped port_in (λ name. PortMember (tree_of name)) tree_of (λ name. refl) (names_of (named_in (here files tree low x core s) (string_bytes p.name.text) n)))
             ∙ map_twice tree_of port_of (names_of (named_in (here files tree low x core s) (string_bytes p.name.text) n))
             ∙ map_twice (name_at (named_in (here files tree low x core s) (string_bytes p.name.text) n)) whole_of (below (unwrap_or f 1))
-            ∙ sym (map_twice (λ k. option_map (λ _. k) f) (λ o. whole_of (written (string_bytes p.name.text) o)) (below (unwrap_or f 1)))
-            ∙ ap (map (λ o. whole_of (written (string_bytes p.name.text) o))) (sym numbers_is)
-            ∙ sym (append-nil (map (λ o. whole_of (written (string_bytes p.name.text) o)) (numbers p.width (w x n))))
+            ∙ sym (map_twice (λ k. option_map (λ _. k) f) (λ o. whole_of (name_with_number (string_bytes p.name.text) o)) (below (unwrap_or f 1)))
+            ∙ ap (map (λ o. whole_of (name_with_number (string_bytes p.name.text) o))) (sym numbers_is)
+            ∙ sym (append-nil (map (λ o. whole_of (name_with_number (string_bytes p.name.text) o)) (numbers p.width (w x n))))
           where
             tree_of : List ℕ → PortTree
             tree_of name = record { name = name; is_input = p.is_input }
@@ -123,7 +123,7 @@ module _ (files : List SourceFile) (tree : Ast) (low : IsLowering files tree) (x
             known : (z : TimeTree) → Mem z (timer_times (timer_tree t)) → IsKnown core.reactor.parameters z
             known z k = known_time z (timer_time core.reactor (timer_tree t) z stands k)
 
-            offset : time_or_zero core (time_at t.offset) ≡ time_in files x t.offset
+            offset : time_or_zero core (time_at t.offset) ≡ time_written_in files x t.offset
             offset = time_law files x core s.shape t.offset s.times l.1 (λ z e. known z (mem_left z (option_to_list (time_at t.offset)) (option_to_list (period_at t.period)) (listed (time_at t.offset) z e)))
 
             period : time_or_zero core (period_at t.period) ≡ period_in files x t.period
@@ -132,8 +132,8 @@ module _ (files : List SourceFile) (tree : Ast) (low : IsLowering files tree) (x
             timer : ℕ → ℕ → Timer
             timer offset period = record { name = string_bytes t.name.text; offset = offset; period = period }
 
-            same : timer (time_or_zero core (time_at t.offset)) (time_or_zero core (period_at t.period)) ∷ [] ≡ timer (time_in files x t.offset) (period_in files x t.period) ∷ []
-            same = ap (λ o. timer o (time_or_zero core (period_at t.period)) ∷ []) offset ∙ ap (λ p. timer (time_in files x t.offset) p ∷ []) period
+            same : timer (time_or_zero core (time_at t.offset)) (time_or_zero core (period_at t.period)) ∷ [] ≡ timer (time_written_in files x t.offset) (period_in files x t.period) ∷ []
+            same = ap (λ o. timer o (time_or_zero core (period_at t.period)) ∷ []) offset ∙ ap (λ p. timer (time_written_in files x t.offset) p ∷ []) period
         of (member.Port p) l = ap (λ a. map timer_of (filter_map timer_in a)) l.1 ∙ ap (map timer_of) (none_mapped timer_in (λ name. PortMember (record { name = name; is_input = p.is_input })) (λ name. refl) (names_of (named_in (here files tree low x core s) (string_bytes p.name.text) n)))
         of (member.Action a) l = ap (λ a. map timer_of (filter_map timer_in a)) l.3
         of (member.Reaction r) l = ap (map timer_of) (of_reaction timer_in (λ q. refl) (here files tree low x core s) r made.before new made.after l.1).1
@@ -164,7 +164,7 @@ module _ (files : List SourceFile) (tree : Ast) (low : IsLowering files tree) (x
     action_at n m new made = of m.member.now refl made.lowered
       where
         of : (y : Member) → m.member.now ≡ y → IsLowered low.names (here files tree low x core s) n made.before new made.after y → AreAwake new ((n, (m.file, y)) ∷ [])
-        of (member.Action a) is l = ap (λ a. awake_actions never (map action_of (filter_map action_in a))) l.3 ∙ ap (λ d. awake_actions never (action d ∷ [])) delay ∙ stays never (action (time_in files x a.min_delay)) apart
+        of (member.Action a) is l = ap (λ a. awake_actions never (map action_of (filter_map action_in a))) l.3 ∙ ap (λ d. awake_actions never (action d ∷ [])) delay ∙ stays never (action (time_written_in files x a.min_delay)) apart
           where
             action : ℕ → Action
             action d = record { name = string_bytes a.name.text; is_physical = a.is_physical; min_delay = d }
@@ -172,7 +172,7 @@ module _ (files : List SourceFile) (tree : Ast) (low : IsLowering files tree) (x
             stands : Mem (action_tree a) (actions_of core.reactor)
             stands = mem_filter action_in (ActionMember (action_tree a)) (action_tree a) core.reactor.members (made.among (ActionMember (action_tree a)) (subst (Mem (ActionMember (action_tree a))) (sym l.3) (inl refl))) refl
 
-            delay : time_or_zero core (time_at a.min_delay) ≡ time_in files x a.min_delay
+            delay : time_or_zero core (time_at a.min_delay) ≡ time_written_in files x a.min_delay
             delay = time_law files x core s.shape a.min_delay s.times l.1 (λ z e. known_time z (action_time core.reactor (action_tree a) z stands e))
 
             apart : never ≡ Some (string_bytes a.name.text) → ⊥

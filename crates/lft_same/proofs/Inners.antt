@@ -9,9 +9,9 @@ use Rattle.lft_whole.specs.declared.{sources.source.SourceFile.SourceFile, tree.
 use Rattle.lft_elaborate.specs.{Channels.Channels.below, inner.Widths.found_width}
 use Rattle.lft_classes.specs.{declared.shapes.Inherited.Inherited, Shapes.width_of}
 use Rattle.lft_lower.specs.inner.Meanings.{Meanings.named_in, Places.{Several, name_at, names_of}}
-use Rattle.lft_lower.specs.inner.Lowered.{AreGiven, AreInstances, IsLowered, instances, no_instances, reactor_at, some_instances, time_at}
+use Rattle.lft_lower.specs.inner.Lowered.{AreTimesGiven, AreInstances, IsLowered, instances, no_instances, reactor_at, some_instances, time_at}
 use Rattle.lft_lower.specs.inner.Reactors.{IsLowering}
-use Rattle.lft_same.specs.Expanded.{Instances.{Inner, Inside, Widths, inners, inners_at, numbers, written}, Reactors.members_of}
+use Rattle.lft_same.specs.Expanded.{Instances.{Inner, Inside, Widths, inners, inners_at, numbers, name_with_number}, Reactors.members_of}
 use Rattle.lft_same.proofs.{ExpandedLemmas.Flattened.map_twice, Instances.{AreWidthsFound, StandsFor}}
 use Rattle.lft_same.proofs.{Listed.{all_mapped, none_mapped, zipped_append, zipped_maps, zipped_same}, Lowered.{Appends, Becomes, of_connection, of_reaction}}
 use Rattle.lft_same.proofs.Members.{here, members_alike, never_of, numbers_are, of_class}
@@ -27,7 +27,7 @@ module _ (files : List SourceFile) (tree : Ast) (low : IsLowering files tree) (x
     pub at : slice_get (members_of files x.class) number ≡ Some (file, member.Instance instance)
     pub new : ◌≡◌ {A = ℕ × Instance} j.new (file, instance)
     pub reactor : reactor_at low.names (here files tree low x core s) number ≡ Some i.reactor
-    pub given : AreGiven (here files tree low x core s) number i.given
+    pub given : AreTimesGiven (here files tree low x core s) number i.given
 
   -- so it is of the instances in both, in order
   abbrev AreInners : Widths → List MemberTree → List (ℕ × (ℕ × Member)) → Type 0
@@ -62,7 +62,7 @@ module _ (files : List SourceFile) (tree : Ast) (low : IsLowering files tree) (x
             thing = named_in (here files tree low x core s) (string_bytes i.name.text) n
 
             inner_of : Option ℕ → Inner
-            inner_of number = record { name = written (string_bytes i.name.text) number; new = (m.file, i) }
+            inner_of number = record { name = name_with_number (string_bytes i.name.text) number; new = (m.file, i) }
 
             number_of : ℕ → Option ℕ
             number_of k = option_map (λ _. k) f

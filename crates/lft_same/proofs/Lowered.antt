@@ -8,7 +8,7 @@ use Rattle.lft_tree.specs.Tree.{ConnectionMember, ConnectionTree, InstanceMember
 use Rattle.lft_whole.specs.declared.tree.{Member.Member, Reaction.Reaction}
 use Rattle.lft_classes.specs.{declared.shapes.Inherited.Inherited, inner.{Built.located, Shapes.thing_named}}
 use Rattle.lft_lower.specs.inner.Meanings.{Meanings.{Here, named_in}, Places.names_of}
-use Rattle.lft_lower.specs.inner.Lowered.{AreConnected, AreInstances, AreLowered, AreTriggers, IsAsleep, IsLowered, IsMeasured, IsReaction, added, asleep, each_pair, known, more_members, no_instances, no_members, reaction_tree, runs, sleeps, some_instances, whole}
+use Rattle.lft_lower.specs.inner.Lowered.{AreConnected, AreInstances, AreLowered, AreTriggers, IsAsleep, IsLowered, IsMeasured, IsLoweredReaction, added, asleep, each_pair, known, more_members, no_instances, no_members, reaction_tree, runs, sleeps, some_instances, whole}
 use Rattle.lft_same.proofs.Listed.{none_mapped}
 use Rattle.lft_whole.specs.declared.tree.Member.TheVariants as member
 
@@ -29,7 +29,7 @@ enumerate_last {X} i (y ∷ xs) x =
 -- ---- what is of no kind that is asked for
 
 -- what a reaction becomes: itself, behind an action that may be added
-pub of_reaction : {K : Type 0} (kind : MemberTree → Option K) → ((q : List ℕ) → kind (asleep q) ≡ None) → (h : Here) (r : Reaction) (before : Option (List ℕ)) (new : List MemberTree) (after : Option (List ℕ)) → IsReaction h r before new after → (triggers : List TriggerTree) × (filter_map kind new ≡ cons_option (kind (ReactionMember (reaction_tree h r triggers))) [])
+pub of_reaction : {K : Type 0} (kind : MemberTree → Option K) → ((q : List ℕ) → kind (asleep q) ≡ None) → (h : Here) (r : Reaction) (before : Option (List ℕ)) (new : List MemberTree) (after : Option (List ℕ)) → IsLoweredReaction h r before new after → (triggers : List TriggerTree) × (filter_map kind new ≡ cons_option (kind (ReactionMember (reaction_tree h r triggers))) [])
 of_reaction {K} kind lost h r before new after (triggers, more, are, is) =
     (triggers, ap (filter_map kind) is ∙ filter_map-append kind more (ReactionMember (reaction_tree h r triggers) ∷ []) ∙ ap (λ (l : List K). l ++ cons_option (kind (ReactionMember (reaction_tree h r triggers))) []) (behind before more after triggers are))
   where

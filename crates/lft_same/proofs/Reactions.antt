@@ -17,7 +17,7 @@ use Rattle.lft_lower.specs.inner.Lowered.{AreTriggers, IsAsleep, IsLowered, Mean
 use Rattle.lft_lower.specs.inner.Reactors.{IsLowering}
 use Rattle.lft_same.specs.inner.Expanded.Core.{core_reaction, things_for, triggers_for}
 use Rattle.lft_same.specs.Expanded.{Expanded.{Reaction, Trigger, AtStartup, AtShutdown, OnThing}, Instances.{Inside, Widths}, Reactors.members_of}
-use Rattle.lft_same.specs.Expanded.{Same.{awake_reaction, is_other}, Whole.{channels, effects_in, reactions_at, triggers_in, uses_in}}
+use Rattle.lft_same.specs.Expanded.{Same.{awake_reaction, is_other}, Whole.{channels, channels_of_effect, reactions_at, triggers_in, uses_in}}
 use Rattle.lft_same.proofs.{FitsLemmas.Shapes.{flat_alike, flat_mapped}, Instances.{AreWidthsFound, StandsFor}, Inners.names_alike}
 use Rattle.lft_same.proofs.{Kept.{all_pass, filter-flat_map, flat_kept, flat_map-flat_map, of_all}, Listed.{none_mapped, unnumbered}}
 use Rattle.lft_same.proofs.{Lowered.{Appends, Becomes, of_connection, of_instance}, Members.{here, members_alike, never_of}, References.places_channels}
@@ -136,13 +136,13 @@ module _ (files : List SourceFile) (tree : Ast) (low : IsLowering files tree) (w
 
   -- ---- a reaction
 
-  effect_alike : (f : Effect) → MeansEffect (here files tree low x core s) f → things_for path core.reactor (effect_places (here files tree low x core s) f) ≡ effects_in files w path x f
+  effect_alike : (f : Effect) → MeansEffect (here files tree low x core s) f → things_for path core.reactor (effect_places (here files tree low x core s) f) ≡ channels_of_effect files w path x f
   effect_alike (effect.Mode at) means = absurd means
   effect_alike (effect.Reference ref) means = its_channels ref means
 
   module _ (r : WrittenReaction) (mean : MeansAll (here files tree low x core s) r) where
     abbrev its_reaction : Reaction
-    its_reaction = record { triggers = flat_map (triggers_in files w path x) r.triggers.items; uses = flat_map (uses_in files w path x) r.uses.items; effects = flat_map (effects_in files w path x) r.effects.items }
+    its_reaction = record { triggers = flat_map (triggers_in files w path x) r.triggers.items; uses = flat_map (uses_in files w path x) r.uses.items; effects = flat_map (channels_of_effect files w path x) r.effects.items }
 
     uses_alike : things_for path core.reactor (without_timers core.reactor (all_places (here files tree low x core s) r.uses.items)) ≡ flat_map (uses_in files w path x) r.uses.items
     uses_alike =
@@ -150,13 +150,13 @@ module _ (files : List SourceFile) (tree : Ast) (low : IsLowering files tree) (w
         ∙ filter_map-flat_map (λ ref. without_timers core.reactor (places_in (here files tree low x core s) ref)) (stands_for core.reactor path) r.uses.items
         ∙ flat_alike (λ ref. things_for path core.reactor (without_timers core.reactor (places_in (here files tree low x core s) ref))) (uses_in files w path x) r.uses.items (λ ref k. use_alike files tree low x core s w found path ref (of_all (Means (here files tree low x core s)) r.uses.items mean.uses ref k))
 
-    effects_alike : things_for path core.reactor (flat_map (effect_places (here files tree low x core s)) r.effects.items) ≡ flat_map (effects_in files w path x) r.effects.items
+    effects_alike : things_for path core.reactor (flat_map (effect_places (here files tree low x core s)) r.effects.items) ≡ flat_map (channels_of_effect files w path x) r.effects.items
     effects_alike =
         filter_map-flat_map (effect_places (here files tree low x core s)) (stands_for core.reactor path) r.effects.items
-        ∙ flat_alike (λ f. things_for path core.reactor (effect_places (here files tree low x core s) f)) (effects_in files w path x) r.effects.items (λ f k. effect_alike f (of_all (MeansEffect (here files tree low x core s)) r.effects.items mean.effects f k))
+        ∙ flat_alike (λ f. things_for path core.reactor (effect_places (here files tree low x core s) f)) (channels_of_effect files w path x) r.effects.items (λ f k. effect_alike f (of_all (MeansEffect (here files tree low x core s)) r.effects.items mean.effects f k))
 
     woken : (ts : List TriggerTree) → awake_triggers path never (flat_map (triggers_for path core.reactor) ts) ≡ flat_map (triggers_in files w path x) r.triggers.items → awake_reactions path never (core_reaction path core.reactor (reaction_tree (here files tree low x core s) r ts) ∷ []) ≡ its_reaction ∷ []
-    woken ts same = awoken path never (core_reaction path core.reactor (reaction_tree (here files tree low x core s) r ts)) (flat_map (triggers_in files w path x) r.triggers.items) (flat_map (uses_in files w path x) r.uses.items) (flat_map (effects_in files w path x) r.effects.items) same uses_alike effects_alike
+    woken ts same = awoken path never (core_reaction path core.reactor (reaction_tree (here files tree low x core s) r ts)) (flat_map (triggers_in files w path x) r.triggers.items) (flat_map (uses_in files w path x) r.uses.items) (flat_map (channels_of_effect files w path x) r.effects.items) same uses_alike effects_alike
 
     -- what it becomes is the reaction
     reaction_alike : (before : Option (List ℕ)) (more : List MemberTree) (after : Option (List ℕ)) (triggers : List TriggerTree) → AreTriggers (here files tree low x core s) r before more after triggers → ((q : List ℕ) → after ≡ Some q → never ≡ Some q) → awake_reactions path never (map (core_reaction path core.reactor) (filter_map reaction_in (more ++ ReactionMember (reaction_tree (here files tree low x core s) r triggers) ∷ []))) ≡ its_reaction ∷ []

@@ -15,11 +15,11 @@ use Rattle.lft_elaborate.specs.declared.meanings.Meaning.{Meaning}
 use Rattle.lft_classes.specs.declared.shapes.{Child.Child, Inherited.Inherited, InheritedParameter.InheritedParameter, Shape.Shape}
 use Rattle.lft_classes.specs.declared.shapes.OwnThing.{OwnThing as ShapeThing}
 use Rattle.lft_classes.specs.{inner.Shapes.{child_at, thing_named}, Shapes.{name_of, width_of}}
-use Rattle.lft_lower.specs.inner.Meanings.Meanings.{Here, Means, all_places, inner_width, meaning_in, member_in, member_name, places_in, places_of, port_of, thing_in}
+use Rattle.lft_lower.specs.inner.Meanings.Meanings.{Here, Means, all_places, inner_width, meaning_of_reference, member_with_width, member_name, places_in, places_of, port_of, thing_in}
 use Rattle.lft_lower.specs.inner.Meanings.Places.{Several, count_of, inner_places, name_at, names_of, own_places}
 use Rattle.lft_lower.specs.inner.Reactors.{IsLowering}
 use Rattle.lft_same.specs.inner.Expanded.Core.{things_for}
-use Rattle.lft_same.specs.Expanded.Instances.{Inner as InnerInstance, Inside, Widths, inners, inside_of, numbers, numbers_at, numbers_named, place_named, written}
+use Rattle.lft_same.specs.Expanded.Instances.{Inner as InnerInstance, Inside, Widths, inners, inside_of, numbers, numbers_at, numbers_named, place_named, name_with_number}
 use Rattle.lft_same.specs.Expanded.{Reactors.members_of, Whole.{channels, crossed, inner_thing, inside_named, new_in, things_named}}
 use Rattle.lft_same.proofs.ExpandedLemmas.{Crossed.{crossed_map, crossed_nil, places_crossed}, Flattened.map_twice}
 use Rattle.lft_same.proofs.FitsLemmas.{Channels.{crossed_first, is_found}, MemberNames.{member_found, member_lost}, Ports.port_is, Shapes.flat_alike}
@@ -61,8 +61,8 @@ inner_numbers files w x b p = flat_map (λ y. numbers_named files w y p) (option
 
 -- the core names of all that a name stands for, or that of a port behind an instance's
 abbrev pub refs_named : List SourceFile → Widths → Inside → Bool → List ℕ → Option (List ℕ) → List RefTree
-refs_named files w x interleaved q None = map (λ n. own (written q n)) (numbers_named files w x q)
-refs_named files w x interleaved b (Some p) = map (λ n. inner (written b n.0) (written p n.1)) (crossed interleaved (numbers_named files w x b) (inner_numbers files w x b p))
+refs_named files w x interleaved q None = map (λ n. own (name_with_number q n)) (numbers_named files w x q)
+refs_named files w x interleaved b (Some p) = map (λ n. inner (name_with_number b n.0) (name_with_number p n.1)) (crossed interleaved (numbers_named files w x b) (inner_numbers files w x b p))
 
 module _ (files : List SourceFile) (tree : Ast) (low : IsLowering files tree) (w : Widths) (found : AreWidthsFound files tree low w) where
   module _ (x : Inside) (s : HasSetting files tree low x) where
@@ -73,14 +73,14 @@ module _ (files : List SourceFile) (tree : Ast) (low : IsLowering files tree) (w
         ∙ ap (λ o. option_map_or (λ (y : ℕ × Member). numbers (width_of y.1) (w x m)) o (None ∷ [])) (ap (λ l. slice_get l m) (sym (of_class files tree low x s).members) ∙ mapped (λ (i : Inherited). (i.file, i.member.now)) s.shape.members.items m i at)
 
     -- the names in the core of what a name stands for are its numbers behind it
-    pub own_names : (q : List ℕ) (th : ShapeThing) → thing_named s.shape q ≡ Some th → names_of (thing_in (here files tree low x s) th) ≡ map (written q) (numbers_named files w x q)
+    pub own_names : (q : List ℕ) (th : ShapeThing) → thing_named s.shape q ≡ Some th → names_of (thing_in (here files tree low x s) th) ≡ map (name_with_number q) (numbers_named files w x q)
     own_names q (thing.Member m) is =
         let i = ((of_class files tree low x s).names q (thing.Member m)).0 is in
         let name : unwrap_or (option_map (λ (m : Inherited). name_in m.member.now) (slice_get s.shape.members.items m)) [] ≡ q = ap (λ o. unwrap_or (option_map (λ (m : Inherited). name_in m.member.now) o) []) i.1 ∙ named i.0.member.now q i.2 in
         ap (λ z. names_of (several z)) name
-        ∙ sym (map_twice number (written q) (below (count_of (several q))))
-        ∙ ap (map (written q)) (sym (numbers_are files tree low x s w found m i.0 i.1))
-        ∙ ap (map (written q)) (sym (numbers_there q m i.0 is i.1))
+        ∙ sym (map_twice number (name_with_number q) (below (count_of (several q))))
+        ∙ ap (map (name_with_number q)) (sym (numbers_are files tree low x s w found m i.0 i.1))
+        ∙ ap (map (name_with_number q)) (sym (numbers_there q m i.0 is i.1))
       where
         number : ℕ → Option ℕ
         number k = option_map (λ _. k) (found_width low.settings s.number m)
@@ -90,18 +90,18 @@ module _ (files : List SourceFile) (tree : Ast) (low : IsLowering files tree) (w
     own_names q (thing.Parameter p) is =
         let i = ((of_class files tree low x s).names q (thing.Parameter p)).0 is in
         let name : unwrap_or (option_map (λ (p : InheritedParameter). string_bytes p.parameter.now.name.text) (slice_get s.shape.parameters.items p)) [] ≡ q = ap (λ o. unwrap_or (option_map (λ (p : InheritedParameter). string_bytes p.parameter.now.name.text) o) []) i.1 ∙ i.2 in
-        ap (λ z. written z None ∷ []) name
-        ∙ ap (λ o. map (written q) (option_map_or (numbers_at files w x) o (None ∷ []))) (sym (member_lost files s.shape x (of_class files tree low x s) q none))
+        ap (λ z. name_with_number z None ∷ []) name
+        ∙ ap (λ o. map (name_with_number q) (option_map_or (numbers_at files w x) o (None ∷ []))) (sym (member_lost files s.shape x (of_class files tree low x s) q none))
       where
         none : (m : ℕ) → thing_named s.shape q ≡ Some (thing.Member m) → ⊥
         none m f = let e : Some (thing.Parameter p) ≡ Some (thing.Member m) = sym is ∙ f in absurd (cc)
 
     -- the places of a thing of the reactor itself
-    own_refs : (q : List ℕ) (th : ShapeThing) → thing_named s.shape q ≡ Some th → own_places (thing_in (here files tree low x s) th) ≡ map (λ n. own (written q n)) (numbers_named files w x q)
+    own_refs : (q : List ℕ) (th : ShapeThing) → thing_named s.shape q ≡ Some th → own_places (thing_in (here files tree low x s) th) ≡ map (λ n. own (name_with_number q n)) (numbers_named files w x q)
     own_refs q th is =
         sym (map_twice (name_at (thing_in (here files tree low x s) th)) own (below (count_of (thing_in (here files tree low x s) th))))
         ∙ ap (map own) (own_names q th is)
-        ∙ map_twice (written q) own (numbers_named files w x q)
+        ∙ map_twice (name_with_number q) own (numbers_named files w x q)
 
   module _ (x : Inside) (s : HasSetting files tree low x) (b p : List ℕ) (m : ℕ) (is : thing_named s.shape b ≡ Some (thing.Member m)) (shape : Shape) (is_shape : shape_inside low.settings.shapes.items s.shape m ≡ Some shape) (port : ℕ) (is_port : thing_named shape p ≡ Some (thing.Member port)) where
     abbrev h : Here
@@ -140,13 +140,13 @@ module _ (files : List SourceFile) (tree : Ast) (low : IsLowering files tree) (w
     abbrev ports : Several
     ports = port_of h m port
 
-    port_names : (c : ℕ) → unwrap_or (found_width low.settings s.number m) 1 ≡ suc c → names_of ports ≡ map (written p) (inner_numbers files w x b p)
+    port_names : (c : ℕ) → unwrap_or (found_width low.settings s.number m) 1 ≡ suc c → names_of ports ≡ map (name_with_number p) (inner_numbers files w x b p)
     port_names c some =
         ap (λ (o : Option Shape). names_of (record { name = unwrap_or (option_map (λ (z : Shape). member_name z port) o) []; width = inner_width h m port })) is_shape
-        ∙ ap (λ (o : Option ℕ). names_of (member_in shape port (option_and_then (λ k. found_width low.settings k port) o))) f.is_number
-        ∙ ap (λ (z : Shape). names_of (member_in z port (found_width low.settings f.setting.number port))) (sym same)
+        ∙ ap (λ (o : Option ℕ). names_of (member_with_width shape port (option_and_then (λ k. found_width low.settings k port) o))) f.is_number
+        ∙ ap (λ (z : Shape). names_of (member_with_width z port (found_width low.settings f.setting.number port))) (sym same)
         ∙ own_names y.0 f.setting p (thing.Member port) (ap (λ (z : Shape). thing_named z p) same ∙ is_port)
-        ∙ ap (map (written p)) (sym (ap (λ o. flat_map (λ y. numbers_named files w y p) (option_to_list o)) inside_is ∙ append-nil (numbers_named files w y.0 p)))
+        ∙ ap (map (name_with_number p)) (sym (ap (λ o. flat_map (λ y. numbers_named files w y p) (option_to_list o)) inside_is ∙ append-nil (numbers_named files w y.0 p)))
       where
         f : IsFoundIn files tree low x s m y.0
         f = found_in files tree low x s m its_instance.0 c its_instance.1 y.0 its_instance.2 y.1 some
@@ -160,29 +160,29 @@ module _ (files : List SourceFile) (tree : Ast) (low : IsLowering files tree) (w
     pub inner_refs : (interleaved : Bool) → inner_places (thing_in h (thing.Member m)) ports interleaved ≡ refs_named files w x interleaved b (Some p)
     inner_refs interleaved =
         crossed_places (thing_in h (thing.Member m)) ports interleaved
-        ∙ ap (map inner_ref) (crossed_names ∙ crossed_map (written b) (written p) interleaved (numbers_named files w x b) (inner_numbers files w x b p))
-        ∙ map_twice (λ (n : Option ℕ × Option ℕ). pair (written b n.0) (written p n.1)) inner_ref (crossed interleaved (numbers_named files w x b) (inner_numbers files w x b p))
+        ∙ ap (map inner_ref) (crossed_names ∙ crossed_map (name_with_number b) (name_with_number p) interleaved (numbers_named files w x b) (inner_numbers files w x b p))
+        ∙ map_twice (λ (n : Option ℕ × Option ℕ). pair (name_with_number b n.0) (name_with_number p n.1)) inner_ref (crossed interleaved (numbers_named files w x b) (inner_numbers files w x b p))
       where
         pair : List ℕ → List ℕ → List ℕ × List ℕ
         pair a b = (a, b)
 
-        instances_are : names_of (thing_in h (thing.Member m)) ≡ map (written b) (numbers_named files w x b)
+        instances_are : names_of (thing_in h (thing.Member m)) ≡ map (name_with_number b) (numbers_named files w x b)
         instances_are = own_names x s b (thing.Member m) is
 
-        crossed_names : crossed interleaved (names_of (thing_in h (thing.Member m))) (names_of ports) ≡ crossed interleaved (map (written b) (numbers_named files w x b)) (map (written p) (inner_numbers files w x b p))
+        crossed_names : crossed interleaved (names_of (thing_in h (thing.Member m))) (names_of ports) ≡ crossed interleaved (map (name_with_number b) (numbers_named files w x b)) (map (name_with_number p) (inner_numbers files w x b p))
         crossed_names = by (unwrap_or (found_width low.settings s.number m) 1) refl
           where
-            by : (c : ℕ) → unwrap_or (found_width low.settings s.number m) 1 ≡ c → crossed interleaved (names_of (thing_in h (thing.Member m))) (names_of ports) ≡ crossed interleaved (map (written b) (numbers_named files w x b)) (map (written p) (inner_numbers files w x b p))
+            by : (c : ℕ) → unwrap_or (found_width low.settings s.number m) 1 ≡ c → crossed interleaved (names_of (thing_in h (thing.Member m))) (names_of ports) ≡ crossed interleaved (map (name_with_number b) (numbers_named files w x b)) (map (name_with_number p) (inner_numbers files w x b p))
             by zero e =
                 let none : names_of (thing_in h (thing.Member m)) ≡ [] = ap (λ c. map (name_at (thing_in h (thing.Member m))) (below c)) e in
-                let nor : map (written b) (numbers_named files w x b) ≡ [] = sym instances_are ∙ none in
+                let nor : map (name_with_number b) (numbers_named files w x b) ≡ [] = sym instances_are ∙ none in
                 ap (λ (l : List (List ℕ)). crossed interleaved l (names_of ports)) none
                 ∙ crossed_nil interleaved (names_of ports)
-                ∙ sym (crossed_nil interleaved (map (written p) (inner_numbers files w x b p)))
-                ∙ ap (λ (l : List (List ℕ)). crossed interleaved l (map (written p) (inner_numbers files w x b p))) (sym nor)
+                ∙ sym (crossed_nil interleaved (map (name_with_number p) (inner_numbers files w x b p)))
+                ∙ ap (λ (l : List (List ℕ)). crossed interleaved l (map (name_with_number p) (inner_numbers files w x b p))) (sym nor)
             by (suc c) e =
                 ap (λ (l : List (List ℕ)). crossed interleaved l (names_of ports)) instances_are
-                ∙ ap (crossed interleaved (map (written b) (numbers_named files w x b))) (port_names c e)
+                ∙ ap (crossed interleaved (map (name_with_number b) (numbers_named files w x b))) (port_names c e)
 
     -- the name of the member
     is_named : string_bytes its_instance.1.name.text ≡ b
@@ -214,36 +214,36 @@ module _ (files : List SourceFile) (tree : Ast) (low : IsLowering files tree) (w
       place_same : (q : List ℕ) → position (λ i. bytes_eq q i.name) (instances_of r) ≡ position (λ (i : InnerInstance). bytes_eq q i.name) (inners files w x)
       place_same q = place_found (λ i. i.name) q (instances_of r) ∙ ap (place q) same ∙ sym (place_found (λ (i : InnerInstance). i.name) q (inners files w x))
 
-      inner_same : (b p : List ℕ) (n : Option ℕ × Option ℕ) → stands_for r path (inner (written b n.0) (written p n.1)) ≡ inner_thing files w path x b p n
-      inner_same b p n = ap (option_map (λ k. thing_at (path ++ k ∷ []) (written p n.1))) (place_same (written b n.0))
+      inner_same : (b p : List ℕ) (n : Option ℕ × Option ℕ) → stands_for r path (inner (name_with_number b n.0) (name_with_number p n.1)) ≡ inner_thing files w path x b p n
+      inner_same b p n = ap (option_map (λ k. thing_at (path ++ k ∷ []) (name_with_number p n.1))) (place_same (name_with_number b n.0))
 
       -- names in the core stand for what the names in the language stand for
       refs_things : (interleaved : Bool) (q : List ℕ) (port : Option (List ℕ)) → things_for path r (refs_named files w x interleaved q port) ≡ things_named files w path x interleaved q port
       refs_things interleaved q None = own_kept (numbers_named files w x q)
         where
-          own_kept : (ns : List (Option ℕ)) → filter_map (stands_for r path) (map (λ n. own (written q n)) ns) ≡ map (λ n. thing_at path (written q n)) ns
+          own_kept : (ns : List (Option ℕ)) → filter_map (stands_for r path) (map (λ n. own (name_with_number q n)) ns) ≡ map (λ n. thing_at path (name_with_number q n)) ns
           own_kept [] = refl
-          own_kept (n ∷ ns) = ap (λ (l : List Thing). thing_at path (written q n) ∷ l) (own_kept ns)
+          own_kept (n ∷ ns) = ap (λ (l : List Thing). thing_at path (name_with_number q n) ∷ l) (own_kept ns)
       refs_things interleaved b (Some p) =
           let ns = crossed interleaved (numbers_named files w x b) (inner_numbers files w x b p) in
-          filter_map-map (λ (n : Option ℕ × Option ℕ). inner (written b n.0) (written p n.1)) (stands_for r path) ns
+          filter_map-map (λ (n : Option ℕ × Option ℕ). inner (name_with_number b n.0) (name_with_number p n.1)) (stands_for r path) ns
           ∙ ap (λ (f : Option ℕ × Option ℕ → Option Thing). filter_map f ns) (λ i n. inner_same b p n i)
 
       -- each of them stands for something
       refs_stand : (interleaved : Bool) (q : List ℕ) (port : Option (List ℕ)) (z : Meaning) → meaning_named low.settings.shapes.items s.shape q port ≡ Some z → (ref : RefTree) → Mem ref (refs_named files w x interleaved q port) → stands_for r path ref ≡ None → ⊥
       refs_stand interleaved q None z e ref k none =
-          let n = mem_from_map (λ n. own (written q n)) (numbers_named files w x q) ref k in
-          let f : Some (thing_at path (written q n.0)) ≡ None = ap (stands_for r path) n.2 ∙ none in absurd (cc)
+          let n = mem_from_map (λ n. own (name_with_number q n)) (numbers_named files w x q) ref k in
+          let f : Some (thing_at path (name_with_number q n.0)) ≡ None = ap (stands_for r path) n.2 ∙ none in absurd (cc)
       refs_stand interleaved q (Some p) z e ref k none =
           let b = port_is low.settings.shapes.items s.shape q p z e in
-          let n = mem_from_map (λ (n : Option ℕ × Option ℕ). inner (written q n.0) (written p n.1)) (crossed interleaved (numbers_named files w x q) (inner_numbers files w x q p)) ref k in
+          let n = mem_from_map (λ (n : Option ℕ × Option ℕ). inner (name_with_number q n.0) (name_with_number p n.1)) (crossed interleaved (numbers_named files w x q) (inner_numbers files w x q p)) ref k in
           inner_found x s q p b.instance b.is_instance b.inner b.is_inner b.port b.is_port path interleaved n.0 n.1 (sym (inner_same q p n.0) ∙ ap (stands_for r path) n.2 ∙ none)
 
       -- what a reference means
-      pub meaning_is : (ref : Reference) → Means (here files tree low x s) ref → (z : Meaning) × (meaning_in (here files tree low x s) ref ≡ Some z)
-      meaning_is ref means = of (meaning_in (here files tree low x s) ref) refl
+      pub meaning_is : (ref : Reference) → Means (here files tree low x s) ref → (z : Meaning) × (meaning_of_reference (here files tree low x s) ref ≡ Some z)
+      meaning_is ref means = of (meaning_of_reference (here files tree low x s) ref) refl
         where
-          of : (o : Option Meaning) → meaning_in (here files tree low x s) ref ≡ o → (z : Meaning) × (meaning_in (here files tree low x s) ref ≡ Some z)
+          of : (o : Option Meaning) → meaning_of_reference (here files tree low x s) ref ≡ o → (z : Meaning) × (meaning_of_reference (here files tree low x s) ref ≡ Some z)
           of None e = absurd (let f : false ≡ true = sym (ap is_some e) ∙ means in cc)
           of (Some z) e = (z, e)
 

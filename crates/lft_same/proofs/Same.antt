@@ -8,7 +8,7 @@ use Rattle.lft_tree.specs.{Tree.ReactorTree, View.tree_view, declared.ast.Ast.As
 use Rattle.lft_whole.specs.declared.sources.source.SourceFile.{SourceFile}
 use Rattle.lft_lower.specs.inner.Reactors.{IsLowering}
 use Rattle.lft_same.specs.inner.{Expanded.Core.{core_contents, expanded_tree}, Laws.LoweredLaw}
-use Rattle.lft_same.specs.Expanded.{Expanded.Contents, Instances.{Inside, Widths, entered, main_instance}, Reactors.{Class, main_of}}
+use Rattle.lft_same.specs.Expanded.{Expanded.Contents, Instances.{Inside, Widths, entered_instance, main_class_instance}, Reactors.{Class, main_of}}
 use Rattle.lft_same.specs.Expanded.{Same.{IsNever, IsSame, awake}, Whole.{AreWidths, expanded_files, whole_contents}}
 use Rattle.lft_same.proofs.{Instances.{AreWidthsFound, StandsFor}, Connections.links_alike, Declared.{actions_alike, awake_actions, ports_alike, timers_alike}}
 use Rattle.lft_same.proofs.{Inners.names_alike, Members.never_of, Paths.{Both, both, neither, together}, Reactions.{awake_reactions, reactions_alike}}
@@ -37,11 +37,11 @@ module _ (files : List SourceFile) (tree : Ast) (low : IsLowering files tree) (n
   main : (r : ReactorTree) × (core_main_of (tree_view tree) ≡ Some r)
   main = has_main tree none
 
-  stands : (c : Class) × (main_of files ≡ Some c) × StandsFor files tree low (main_instance files c) (core_main main.0)
+  stands : (c : Class) × (main_of files ≡ Some c) × StandsFor files tree low (main_class_instance files c) (core_main main.0)
   stands = main_stands files tree low main.0 main.1
 
-  at_path : (path : List ℕ) → Both Stand (along (core_entered (tree_view tree)) (core_main main.0) path) (along (entered files w) (main_instance files stands.0) path)
-  at_path path = together Stand (core_entered (tree_view tree)) (entered files w) (λ core x k s. step_stands files tree low none w found x core s k) path (core_main main.0) (main_instance files stands.0) stands.2
+  at_path : (path : List ℕ) → Both Stand (along (core_entered (tree_view tree)) (core_main main.0) path) (along (entered_instance files w) (main_class_instance files stands.0) path)
+  at_path path = together Stand (core_entered (tree_view tree)) (entered_instance files w) (λ core x k s. step_stands files tree low none w found x core s k) path (core_main main.0) (main_class_instance files stands.0) stands.2
 
   -- the action without events of the core instance, if there is one
   never_in : (o : Option CoreInside) (p : Option Inside) → Both Stand o p → Option (List ℕ)
@@ -49,17 +49,17 @@ module _ (files : List SourceFile) (tree : Ast) (low : IsLowering files tree) (n
   never_in _ _ (both core x s) = never_of files tree low x core s
 
   never_at : List ℕ → Option (List ℕ)
-  never_at path = never_in (along (core_entered (tree_view tree)) (core_main main.0) path) (along (entered files w) (main_instance files stands.0) path) (at_path path)
+  never_at path = never_in (along (core_entered (tree_view tree)) (core_main main.0) path) (along (entered_instance files w) (main_class_instance files stands.0) path) (at_path path)
 
   tree_at : (path : List ℕ) → expanded_tree (tree_view tree) path ≡ option_map (core_contents path) (along (core_entered (tree_view tree)) (core_main main.0) path)
   tree_at path = ap (option_and_then (λ main. option_map (core_contents path) (along (core_entered (tree_view tree)) (core_main main) path))) main.1
 
-  files_at : (path : List ℕ) → expanded_files files w path ≡ option_map (whole_contents files w path) (along (entered files w) (main_instance files stands.0) path)
-  files_at path = ap (option_and_then (λ main. option_map (whole_contents files w path) (along (entered files w) (main_instance files main) path))) stands.1
+  files_at : (path : List ℕ) → expanded_files files w path ≡ option_map (whole_contents files w path) (along (entered_instance files w) (main_class_instance files stands.0) path)
+  files_at path = ap (option_and_then (λ main. option_map (whole_contents files w path) (along (entered_instance files w) (main_class_instance files main) path))) stands.1
 
   never_is : (path : List ℕ) (c : Contents) → expanded_tree (tree_view tree) path ≡ Some c → IsNever path (never_at path) c
   unfolding never_at never_in
-  never_is path c e = go (along (core_entered (tree_view tree)) (core_main main.0) path) (along (entered files w) (main_instance files stands.0) path) (at_path path) (sym (tree_at path) ∙ e)
+  never_is path c e = go (along (core_entered (tree_view tree)) (core_main main.0) path) (along (entered_instance files w) (main_class_instance files stands.0) path) (at_path path) (sym (tree_at path) ∙ e)
     where
       known : (never : Option (List ℕ)) (core : CoreInside) (x : Inside) (s : StandsFor files tree low x core) → never_of files tree low x core s ≡ never → IsNever path never (core_contents path core)
       known None core x s e = tt
@@ -71,7 +71,7 @@ module _ (files : List SourceFile) (tree : Ast) (low : IsLowering files tree) (n
 
   same_at : (path : List ℕ) → option_map (awake path (never_at path)) (expanded_tree (tree_view tree) path) ≡ expanded_files files w path
   unfolding never_at never_in
-  same_at path = ap (option_map (awake path (never_at path))) (tree_at path) ∙ go (along (core_entered (tree_view tree)) (core_main main.0) path) (along (entered files w) (main_instance files stands.0) path) (at_path path) ∙ sym (files_at path)
+  same_at path = ap (option_map (awake path (never_at path))) (tree_at path) ∙ go (along (core_entered (tree_view tree)) (core_main main.0) path) (along (entered_instance files w) (main_class_instance files stands.0) path) (at_path path) ∙ sym (files_at path)
     where
       go : (o : Option CoreInside) (p : Option Inside) (b : Both Stand o p) → option_map (awake path (never_in o p b)) (option_map (core_contents path) o) ≡ option_map (whole_contents files w path) p
       go _ _ neither = refl

@@ -19,7 +19,7 @@ use Rattle.lft_whole.specs.declared.tree.{Effect.Effect, Member.Member, Name.Nam
 use Rattle.lft_classes.specs.declared.shapes.{Inherited.Inherited, InheritedParameter.InheritedParameter, OwnThing.OwnThing as ShapeThing}
 use Rattle.lft_classes.specs.{Shapes.{name_of, width_of}, inner.Shapes.thing_named}
 use Rattle.lft_lower.specs.inner.Meanings.{Meanings.{named_in, places_in, places_of, port_of, thing_in}, Places.{Several, count_of, name_at, names_of}}
-use Rattle.lft_lower.specs.inner.Lowered.{AreInstances, IsLowered, IsReaction, asleep, effect_places, no_instances, reaction_tree, some_instances, time_at}
+use Rattle.lft_lower.specs.inner.Lowered.{AreInstances, IsLowered, IsLoweredReaction, asleep, effect_places, no_instances, reaction_tree, some_instances, time_at}
 use Rattle.lft_lower.specs.inner.Reactors.{IsLowering}
 use Rattle.lft_same.specs.inner.Expanded.Core.{core_contents, core_reaction}
 use Rattle.lft_same.specs.Expanded.{Expanded.{Action, Reaction}, Instances.Inside, Same.{IsNever, IsUnscheduled}}
@@ -205,7 +205,7 @@ module _ (files : List SourceFile) (tree : Ast) (none : NoneHolds (causes (tree_
       lost : filter_map reaction_in new ≡ [] → Unscheduled new ((n, (m.file, m.member.now)) ∷ [])
       lost e t k = absurd (subst (Mem t) e k)
 
-      reacts : (r : WrittenReaction) → IsReaction (here files tree low x core s) r made.before new made.after → Unscheduled new ((n, (m.file, m.member.now)) ∷ [])
+      reacts : (r : WrittenReaction) → IsLoweredReaction (here files tree low x core s) r made.before new made.after → Unscheduled new ((n, (m.file, m.member.now)) ∷ [])
       reacts r is t k ref among own_port own_head =
           let made_of = of_reaction reaction_in (λ q. refl) (here files tree low x core s) r made.before new made.after is in
           one made_of.0 (subst (Mem t) made_of.1 k)

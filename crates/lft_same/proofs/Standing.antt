@@ -9,20 +9,20 @@ use Rattle.lft_program.proofs.{Ordered.AllZip-to, Zips.AllZip-from}
 use Rattle.lft_whole.specs.declared.sources.source.SourceFile.{SourceFile}
 use Rattle.lft_classes.specs.declared.shapes.Shape.{Shape}
 use Rattle.lft_elaborate.specs.inner.{Meanings.shape_inside, Values.{Valued, main_setting, main_values}}
-use Rattle.lft_lower.specs.inner.Reactors.{AreShapes, IsLowering}
-use Rattle.lft_same.specs.Expanded.{Instances.{Inner, Inside, Widths, entered, inners, inside_of, main_instance}, Reactors.{Class, main_of}}
+use Rattle.lft_lower.specs.inner.Reactors.{AreShapesOfFiles, IsLowering}
+use Rattle.lft_same.specs.Expanded.{Instances.{Inner, Inside, Widths, entered_instance, inners, inside_of, main_class_instance}, Reactors.{Class, main_of}}
 use Rattle.lft_same.specs.inner.{Fits.Fits.Fits, Times.IsKnown}
 use Rattle.lft_same.proofs.{FitsLemmas.{Nested.main_law, Ports.shape_is_inside}, Instances.{AreWidthsFound, StandsFor}, Found.shape_of_setting}
 use Rattle.lft_same.proofs.{Inners.{IsInner, instances_alike}, Known.{given_time, known_law}, Members.here, Paths.{Both, both_at, neither}}
 use Rattle.lft_same.proofs.{Reactors.{has_reactor, main_found, reactor_found}, Settings.nested, Times.{inside_times, main_times}}
 
 -- the law of the main setting, of the shapes of a program
-main_fits_at : (files : List SourceFile) (shapes : List Shape) → AreShapes files shapes → (t : Valued) → main_setting shapes ≡ Some t → (c : Class) × (main_of files ≡ Some c) × Fits files shapes t (main_instance files c)
-main_fits_at files shapes (scopes, n, is, same) = subst (λ l. (t : Valued) → main_setting l ≡ Some t → (c : Class) × (main_of files ≡ Some c) × Fits files l t (main_instance files c)) same (main_law files scopes n is)
+main_fits_at : (files : List SourceFile) (shapes : List Shape) → AreShapesOfFiles files shapes → (t : Valued) → main_setting shapes ≡ Some t → (c : Class) × (main_of files ≡ Some c) × Fits files shapes t (main_class_instance files c)
+main_fits_at files shapes (scopes, n, is, same) = subst (λ l. (t : Valued) → main_setting l ≡ Some t → (c : Class) × (main_of files ≡ Some c) × Fits files l t (main_class_instance files c)) same (main_law files scopes n is)
 
 module _ (files : List SourceFile) (tree : Ast) (low : IsLowering files tree) where
   -- the main core instance stands for the main instance
-  pub main_stands : (r : ReactorTree) → core_main_of (tree_view tree) ≡ Some r → (c : Class) × (main_of files ≡ Some c) × StandsFor files tree low (main_instance files c) (core_main r)
+  pub main_stands : (r : ReactorTree) → core_main_of (tree_view tree) ≡ Some r → (c : Class) × (main_of files ≡ Some c) × StandsFor files tree low (main_class_instance files c) (core_main r)
   main_stands r found =
       let (t, set, is) = main_found files tree low r found in
       let (c, main, fits) = main_fits_at files low.settings.shapes.items low.program.shapes t set in
@@ -88,7 +88,7 @@ module _ (files : List SourceFile) (tree : Ast) (low : IsLowering files tree) wh
     inners_stand : (k : ℕ) (i : InstanceTree) (j : Inner) → slice_get (instances_of core.reactor) k ≡ Some i → IsInner files tree low x core s i j → Both Stand (option_map (made_of i) (reactor_named (reactors_of (tree_view tree)) i.reactor)) (inside_of files x j.new)
     inners_stand k i j at one = let t = inner_stands k i j at one in both_at Stand (option_map (made_of i) (reactor_named (reactors_of (tree_view tree)) i.reactor)) (inside_of files x j.new) t.0 t.1 t.2 t.3 t.4
 
-    pub step_stands : (k : ℕ) → Both Stand (core_entered (tree_view tree) core k) (entered files w x k)
+    pub step_stands : (k : ℕ) → Both Stand (core_entered (tree_view tree) core k) (entered_instance files w x k)
     step_stands k = go (slice_get (instances_of core.reactor) k) (slice_get (inners files w x) k) refl refl
       where
         all : AllZip (IsInner files tree low x core s) (instances_of core.reactor) (inners files w x)

@@ -11,8 +11,8 @@ use Rattle.lft_classes.specs.{declared.shapes.{Inherited.Inherited, OwnThing.Own
 use Rattle.lft_lower.specs.inner.{Meanings.{Meanings.{Means, named_in, places_in}, Places.names_of}, Lowered.{IsLowered, time_at, timer_tree}}
 use Rattle.lft_lower.specs.inner.Reactors.{IsLowering}
 use Rattle.lft_same.specs.inner.Expanded.Core.{things_for}
-use Rattle.lft_same.specs.Expanded.{Instances.{Inside, Widths, numbers, numbers_named, written}, Reactors.members_of}
-use Rattle.lft_same.specs.Expanded.Whole.{channels, crossed, is_timer, names_timer, uses_in}
+use Rattle.lft_same.specs.Expanded.{Instances.{Inside, Widths, numbers, numbers_named, name_with_number}, Reactors.members_of}
+use Rattle.lft_same.specs.Expanded.Whole.{channels, crossed, is_timer_member, names_timer, uses_in}
 use Rattle.lft_same.proofs.{FitsLemmas.{Giving.{find_none, find_some}, MemberNames.{member_found, member_lost}}, Instances.{AreWidthsFound, StandsFor}}
 use Rattle.lft_same.proofs.{Inners.names_alike, Kept.all_pass, Listed.none_mapped}
 use Rattle.lft_same.proofs.{Lowered.{Appends, Becomes, all_become, made_at, of_connection, of_instance, of_reaction}, Members.{here, never_of, of_class}}
@@ -29,10 +29,10 @@ bracketed (c ∷ cs) rest is =
     let e : false ≡ true = ap is_word (sym (get_or_at cs 91 rest 0 (length cs) refl)) ∙ is.1 (length cs) 0 (omega (arith, long)) in absurd (cc)
 
 -- a member that isn't a timer
-untimed : (y : Member) (t : Timer) → is_timer y ≡ false → y ≡ member.Timer t → ⊥
-untimed y t other is = let e : false ≡ true = sym other ∙ ap is_timer is in cc
+untimed : (y : Member) (t : Timer) → is_timer_member y ≡ false → y ≡ member.Timer t → ⊥
+untimed y t other is = let e : false ≡ true = sym other ∙ ap is_timer_member is in cc
 
-timer_is : (y : Member) → is_timer y ≡ true → (t : Timer) × (y ≡ member.Timer t)
+timer_is : (y : Member) → is_timer_member y ≡ true → (t : Timer) × (y ≡ member.Timer t)
 timer_is (member.Timer t) e = (t, refl)
 timer_is (member.Port p) e = absurd (cc)
 timer_is (member.Action a) e = absurd (cc)
@@ -107,14 +107,14 @@ module _ (files : List SourceFile) (tree : Ast) (low : IsLowering files tree) (x
       go (Some z) f = refl
 
   -- the name of nothing else is a timer's in the core
-  not_timer : (q : List ℕ) (th : ShapeThing) → thing_named s.shape q ≡ Some th → ((n : ℕ) (m : Inherited) (t : Timer) → th ≡ thing.Member n → slice_get s.shape.members.items n ≡ Some m → m.member.now ≡ member.Timer t → ⊥) → (n : Option ℕ) → is_core_timer core.reactor (written q n) None ≡ true → ⊥
+  not_timer : (q : List ℕ) (th : ShapeThing) → thing_named s.shape q ≡ Some th → ((n : ℕ) (m : Inherited) (t : Timer) → th ≡ thing.Member n → slice_get s.shape.members.items n ≡ Some m → m.member.now ≡ member.Timer t → ⊥) → (n : Option ℕ) → is_core_timer core.reactor (name_with_number q n) None ≡ true → ⊥
   not_timer q th named other None e =
       let t = timer_named (q ++ []) e in
       let called : option_map (λ (n : Name). string_bytes n.text) (name_of t.item.member.now) ≡ Some (q ++ []) = ap (λ (y : Member). option_map (λ (n : Name). string_bytes n.text) (name_of y)) t.is ∙ ap Some t.name in
       let there : thing_named s.shape (q ++ []) ≡ Some (thing.Member t.number) = ((of_class files tree low x core s).names (q ++ []) (thing.Member t.number)).1 (t.item, t.at, called) in
       other t.number t.item t.timer (Some_same th (thing.Member t.number) (sym named ∙ ap (thing_named s.shape) (sym (append-nil q)) ∙ there)) t.at t.is
   not_timer q th named other (Some k) e =
-      let t = timer_named (written q (Some k)) e in
+      let t = timer_named (name_with_number q (Some k)) e in
       bracketed q (decimal k ++ 93 ∷ []) (subst IsIdentifier t.name t.timer.name.free.0)
 
   module _ (w : Widths) (found : AreWidthsFound files tree low w) (path : List ℕ) (ref : Reference) (means : Means (here files tree low x core s) ref) where
@@ -143,7 +143,7 @@ module _ (files : List SourceFile) (tree : Ast) (low : IsLowering files tree) (x
       where
         none : (z : RefTree) → Mem z (places_in (here files tree low x core s) ref) → is_core_timer core.reactor z.head z.port ≡ false
         none z k =
-            let n = mem_from_map (λ (n : Option ℕ × Option ℕ). inner (written q n.0) (written (string_bytes p.text) n.1)) (crossed ref.is_interleaved (numbers_named files w x q) (inner_numbers files w x q (string_bytes p.text))) z (subst (Mem z) (by_names (Some p) e) k) in
+            let n = mem_from_map (λ (n : Option ℕ × Option ℕ). inner (name_with_number q n.0) (name_with_number (string_bytes p.text) n.1)) (crossed ref.is_interleaved (numbers_named files w x q) (inner_numbers files w x q (string_bytes p.text))) z (subst (Mem z) (by_names (Some p) e) k) in
             ap (λ (r : RefTree). is_core_timer core.reactor r.head r.port) (sym n.2)
 
     module _ (plain : ref.port ≡ None) where
@@ -156,10 +156,10 @@ module _ (files : List SourceFile) (tree : Ast) (low : IsLowering files tree) (x
         where
           none : (z : RefTree) → Mem z (places_in (here files tree low x core s) ref) → is_core_timer core.reactor z.head z.port ≡ false
           none z k =
-              let n = mem_from_map (λ n. own (written q n)) (numbers_named files w x q) z (subst (Mem z) (by_names None plain) k) in
-              ap (λ (r : RefTree). is_core_timer core.reactor r.head r.port) (sym n.2) ∙ go n.0 (is_core_timer core.reactor (written q n.0) None) refl
+              let n = mem_from_map (λ n. own (name_with_number q n)) (numbers_named files w x q) z (subst (Mem z) (by_names None plain) k) in
+              ap (λ (r : RefTree). is_core_timer core.reactor r.head r.port) (sym n.2) ∙ go n.0 (is_core_timer core.reactor (name_with_number q n.0) None) refl
             where
-              go : (n : Option ℕ) (b : Bool) → is_core_timer core.reactor (written q n) None ≡ b → is_core_timer core.reactor (written q n) None ≡ false
+              go : (n : Option ℕ) (b : Bool) → is_core_timer core.reactor (name_with_number q n) None ≡ b → is_core_timer core.reactor (name_with_number q n) None ≡ false
               go n true g = absurd (not_timer q th named other n g)
               go n false g = g
 
@@ -167,15 +167,15 @@ module _ (files : List SourceFile) (tree : Ast) (low : IsLowering files tree) (x
       parameter_used p named =
           input_used (thing.Parameter p) named
           (λ n m t same at is. let f : thing.Parameter p ≡ thing.Member n = same in cc)
-          (ap (λ o. option_map_or (λ (m : ℕ × Member). is_timer m.1) (option_and_then (slice_get (members_of files x.class)) o) false) (member_lost files s.shape x (of_class files tree low x core s) q (λ n g. let f : Some (thing.Parameter p) ≡ Some (thing.Member n) = sym named ∙ g in cc)))
+          (ap (λ o. option_map_or (λ (m : ℕ × Member). is_timer_member m.1) (option_and_then (slice_get (members_of files x.class)) o) false) (member_lost files s.shape x (of_class files tree low x core s) q (λ n g. let f : Some (thing.Parameter p) ≡ Some (thing.Member n) = sym named ∙ g in cc)))
 
       module _ (n : ℕ) (named : thing_named s.shape q ≡ Some (thing.Member n)) (m : Inherited) (at : slice_get s.shape.members.items n ≡ Some m) where
-        timer_or : names_timer files x q None ≡ is_timer m.member.now
+        timer_or : names_timer files x q None ≡ is_timer_member m.member.now
         timer_or =
-            ap (λ o. option_map_or (λ (m : ℕ × Member). is_timer m.1) (option_and_then (slice_get (members_of files x.class)) o) false) (member_found files s.shape x (of_class files tree low x core s) q n named)
-            ∙ ap (λ o. option_map_or (λ (m : ℕ × Member). is_timer m.1) o false) (ap (λ l. slice_get l n) (sym (of_class files tree low x core s).members) ∙ mapped (λ (m : Inherited). (m.file, m.member.now)) s.shape.members.items n m at)
+            ap (λ o. option_map_or (λ (m : ℕ × Member). is_timer_member m.1) (option_and_then (slice_get (members_of files x.class)) o) false) (member_found files s.shape x (of_class files tree low x core s) q n named)
+            ∙ ap (λ o. option_map_or (λ (m : ℕ × Member). is_timer_member m.1) o false) (ap (λ l. slice_get l n) (sym (of_class files tree low x core s).members) ∙ mapped (λ (m : Inherited). (m.file, m.member.now)) s.shape.members.items n m at)
 
-        other_used : is_timer m.member.now ≡ false → things_for path core.reactor inputs ≡ uses_in files w path x ref
+        other_used : is_timer_member m.member.now ≡ false → things_for path core.reactor inputs ≡ uses_in files w path x ref
         other_used f =
             input_used (thing.Member n) named
             (λ k z t same there is.
@@ -187,24 +187,24 @@ module _ (files : List SourceFile) (tree : Ast) (low : IsLowering files tree) (x
         -- a timer is no input
         timer_used : (t : Timer) → m.member.now ≡ member.Timer t → string_bytes t.name.text ≡ q → things_for path core.reactor inputs ≡ uses_in files w path x ref
         timer_used t is called =
-            ap (λ ps. things_for path core.reactor (without_timers core.reactor ps)) (by_names None plain ∙ ap (map (λ n. own (written q n))) alone)
-            ∙ ap (λ (b : Bool). things_for path core.reactor (if not b then own (written q None) ∷ [] else [])) stands
-            ∙ sym (uses_are true (timer_or ∙ ap is_timer is))
+            ap (λ ps. things_for path core.reactor (without_timers core.reactor ps)) (by_names None plain ∙ ap (map (λ n. own (name_with_number q n))) alone)
+            ∙ ap (λ (b : Bool). things_for path core.reactor (if not b then own (name_with_number q None) ∷ [] else [])) stands
+            ∙ sym (uses_are true (timer_or ∙ ap is_timer_member is))
           where
             alone : numbers_named files w x q ≡ None ∷ []
             alone = numbers_there files tree low w found x (its_setting files tree low x core s) q n m named at ∙ ap (λ y. numbers (width_of y) (w x n)) is
 
-            stands : is_core_timer core.reactor (written q None) None ≡ true
+            stands : is_core_timer core.reactor (name_with_number q None) None ≡ true
             stands = ap (λ z. is_core_timer core.reactor z None) (append-nil q ∙ sym called) ∙ timer_stands n m t at is
 
       plain_used : (th : ShapeThing) → thing_named s.shape q ≡ Some th → things_for path core.reactor inputs ≡ uses_in files w path x ref
       plain_used (thing.Parameter p) named = parameter_used p named
-      plain_used (thing.Member n) named = go (is_timer m.0.member.now) refl
+      plain_used (thing.Member n) named = go (is_timer_member m.0.member.now) refl
         where
           m : (m : Inherited) × (slice_get s.shape.members.items n ≡ Some m) × (option_map (λ (z : Name). string_bytes z.text) (name_of m.member.now) ≡ Some q)
           m = ((of_class files tree low x core s).names q (thing.Member n)).0 named
 
-          go : (b : Bool) → is_timer m.0.member.now ≡ b → things_for path core.reactor inputs ≡ uses_in files w path x ref
+          go : (b : Bool) → is_timer_member m.0.member.now ≡ b → things_for path core.reactor inputs ≡ uses_in files w path x ref
           go false f = other_used n named m.0 m.1 f
           go true f =
               let t = timer_is m.0.member.now f in

@@ -14,12 +14,13 @@ use Rattle.lft_classes.specs.inner.Shapes.{child_at, thing_named}
 use Rattle.lft_classes.proofs.Rows.{map_alike}
 use Rattle.lft_elaborate.specs.{inner.{Meanings.shape_inside, Values.{Valued, given_to, inside, main_setting, main_values}}, Values.is_forever}
 use Rattle.lft_elaborate.specs.Channels.Channels.{below}
-use Rattle.lft_lower.specs.inner.{Meanings.Meanings.Here, Lowered.{AreGiven, IsGiven, IsPeriod, IsRead, assigned, given_times, period_at, time_at, time_given}}
-use Rattle.lft_lower.specs.inner.{Needed.is_timed, Reactors.{AreShapes, default_time, parameter_tree, timed_parameter, timed_parameters}}
-use Rattle.lft_lower.specs.inner.Times.{IsTime, time_for, time_in}
-use Rattle.lft_same.specs.Expanded.Instances.{Inside, default_of, given_in, given_or_default, inside_of, main_instance, period_in, read_in, time_of, value_named, time_in as whole_time_in}
+use Rattle.lft_lower.specs.inner.Meanings.Meanings.{Here}
+use Rattle.lft_lower.specs.inner.{Lowered.{AreTimesGiven, IsGiven, IsPeriod, IsRead, assigned, given_times, period_at, time_at, time_given}, Needed.is_timed}
+use Rattle.lft_lower.specs.inner.Reactors.{AreShapesOfFiles, default_time, parameter_tree, timed_parameter, timed_parameters}
+use Rattle.lft_lower.specs.inner.Times.{IsTime, time_for, time_of_value}
+use Rattle.lft_same.specs.Expanded.Instances.{Inside, default_of, value_given_in, value_or_default, inside_of, main_class_instance, period_in, read_in, time_of, value_named, time_written_in as whole_time_in}
 use Rattle.lft_same.specs.Expanded.Reactors.{Class, class_named, is_named, main_of, members_of, parameters_of}
-use Rattle.lft_same.specs.inner.{Fits.Fits.{Fits, IsShapeOf}, Times.{HasTimes, IsKnown, time_named}}
+use Rattle.lft_same.specs.inner.{Fits.Fits.{Fits, IsShapeOf}, Times.{HasParameterTimes, IsKnown, time_named}}
 use Rattle.lft_same.proofs.FitsLemmas.{Fitting.parameter_is, Giving.{IsGivenBy, find_some}, MemberNames.value_found, Nested.{given_law, main_law}}
 use Rattle.lft_whole.specs.declared.tree.Member.TheVariants as member
 use Rattle.lft_whole.specs.declared.tree.Value.TheVariants as value
@@ -38,7 +39,7 @@ value_by f (p ∷ ps) q m = go (bytes_eq q p.name) refl m (value_by f ps q)
     go false e (inr n) rest = rest n
 
 -- a time that is written out
-time_is : (v : Value) (t : Time) → time_in v ≡ Some t → nanoseconds t ≡ time_of v
+time_is : (v : Value) (t : Time) → time_of_value v ≡ Some t → nanoseconds t ≡ time_of v
 time_is (value.Number false count (Some unit)) t e = let s : Some (record { count = count; unit = Some unit }) ≡ Some t = e in ap nanoseconds (sym (Some_same (record { count = count; unit = Some unit }) t s))
 time_is (value.Number false zero None) t e = let s : Some (record { count = 0; unit = None }) ≡ Some t = e in ap nanoseconds (sym (Some_same (record { count = 0; unit = None }) t s))
 time_is (value.Number false (suc n) None) t e = absurd (cc)
@@ -48,13 +49,13 @@ time_is value.Code t e = absurd (cc)
 time_is value.Other t e = absurd (cc)
 
 -- what becomes of a value is read as its time
-read_time : (files : List SourceFile) (x : Inside) (core : CoreInside) (v : Value) (t : TimeTree) → HasTimes files x core → time_for v ≡ Some t → IsKnown core.reactor.parameters t → core_time_in core t ≡ option_map_or time_of (read_in files x v) 0
+read_time : (files : List SourceFile) (x : Inside) (core : CoreInside) (v : Value) (t : TimeTree) → HasParameterTimes files x core → time_for v ≡ Some t → IsKnown core.reactor.parameters t → core_time_in core t ≡ option_map_or time_of (read_in files x v) 0
 read_time files x core (value.Word q) t has e known =
     let s : Named (string_bytes q) ≡ t = Some_same (Named (string_bytes q)) t e in
     let k : Contains (map (λ p. p.name) core.reactor.parameters) (string_bytes q) = subst (IsKnown core.reactor.parameters) (sym s) known in
     ap (core_time_in core) (sym s) ∙ ap (λ vs. value_of core.reactor.parameters vs (string_bytes q)) has ∙ value_by (time_named files x) core.reactor.parameters (string_bytes q) (contains_mem (string_bytes q) (map (λ p. p.name) core.reactor.parameters) k)
 read_time files x core (value.Number negative n unit) t has e known =
-    let w = option_map_some Written (time_in (value.Number negative n unit)) t e in
+    let w = option_map_some Written (time_of_value (value.Number negative n unit)) t e in
     ap (core_time_in core) (sym w.2) ∙ time_is (value.Number negative n unit) w.0 w.1
 read_time files x core value.Code t has e known = absurd (cc)
 read_time files x core value.Other t has e known = absurd (cc)
@@ -62,7 +63,7 @@ read_time files x core value.Other t has e known = absurd (cc)
 -- what can be read as a time becomes one
 pub becomes : (shape : Shape) (v : Value) → IsTime shape v → (t : TimeTree) × (time_for v ≡ Some t)
 becomes shape (value.Word q) is = (Named (string_bytes q), refl)
-becomes shape (value.Number negative n unit) is = go (time_in (value.Number negative n unit)) is
+becomes shape (value.Number negative n unit) is = go (time_of_value (value.Number negative n unit)) is
   where
     go : (o : Option Time) → IsSomeAnd o (λ time. nanoseconds time ≤ longest) → (t : TimeTree) × (option_map Written o ≡ Some t)
     go None is = absurd is
@@ -70,13 +71,13 @@ becomes shape (value.Number negative n unit) is = go (time_in (value.Number nega
 becomes shape value.Code is = absurd is
 becomes shape value.Other is = absurd is
 
-pub time_law : (files : List SourceFile) (x : Inside) (core : CoreInside) (shape : Shape) (e : Option Expression) → HasTimes files x core → IsRead shape e → ((t : TimeTree) → time_at e ≡ Some t → IsKnown core.reactor.parameters t) → time_or_zero core (time_at e) ≡ whole_time_in files x e
+pub time_law : (files : List SourceFile) (x : Inside) (core : CoreInside) (shape : Shape) (e : Option Expression) → HasParameterTimes files x core → IsRead shape e → ((t : TimeTree) → time_at e ≡ Some t → IsKnown core.reactor.parameters t) → time_or_zero core (time_at e) ≡ whole_time_in files x e
 time_law files x core shape None has is known = refl
 time_law files x core shape (Some e) has is known =
     let t = becomes shape e.value is in
     ap (time_or_zero core) t.1 ∙ read_time files x core e.value t.0 has t.1 (known t.0 t.1)
 
-pub period_law : (files : List SourceFile) (x : Inside) (core : CoreInside) (shape : Shape) (e : Option Expression) → HasTimes files x core → IsPeriod shape e → ((t : TimeTree) → period_at e ≡ Some t → IsKnown core.reactor.parameters t) → time_or_zero core (period_at e) ≡ period_in files x e
+pub period_law : (files : List SourceFile) (x : Inside) (core : CoreInside) (shape : Shape) (e : Option Expression) → HasParameterTimes files x core → IsPeriod shape e → ((t : TimeTree) → period_at e ≡ Some t → IsKnown core.reactor.parameters t) → time_or_zero core (period_at e) ≡ period_in files x e
 period_law files x core shape None has is known = refl
 period_law files x core shape (Some e) has is known = go (is_forever e.value) refl is known
   where
@@ -200,10 +201,10 @@ written_name ip = string_bytes ip.parameter.now.name.text
 
 -- the instance of a reactor that `new` makes
 abbrev made_of : List SourceFile → Inside → Instance → Class → Inside
-made_of files x i c = record { class = c; values = map (given_in files x i.given.items) (parameters_of files c) }
+made_of files x i c = record { class = c; values = map (value_given_in files x i.given.items) (parameters_of files c) }
 
 -- the parameters of the reactor that `new` names have the times of what is given to them
-inner_times : (files : List SourceFile) (outer inner : Shape) (x : Inside) (core : CoreInside) (child : Child) (i : Instance) (c : Class) → IsShapeOf files inner c → HasTimes files x core → IsGivenBy inner child i → ((g : GivenValue) → Mem g child.given.items → IsGiven outer inner g) → ((a : AssignmentTree) → Contains (given_times inner child) a → IsKnown core.reactor.parameters a.value) → (p : ParameterTree) → Mem p (timed_parameters inner) → core_given_in core (given_times inner child) p ≡ time_named files (made_of files x i c) p.name
+inner_times : (files : List SourceFile) (outer inner : Shape) (x : Inside) (core : CoreInside) (child : Child) (i : Instance) (c : Class) → IsShapeOf files inner c → HasParameterTimes files x core → IsGivenBy inner child i → ((g : GivenValue) → Mem g child.given.items → IsGiven outer inner g) → ((a : AssignmentTree) → Contains (given_times inner child) a → IsKnown core.reactor.parameters a.value) → (p : ParameterTree) → Mem p (timed_parameters inner) → core_given_in core (given_times inner child) p ≡ time_named files (made_of files x i c) p.name
 inner_times files outer inner x core child i c of_inner has given_by gives known p stands = named ∙ picked (find (λ a. is_named (written_name one.ip) a.name) i.given.items) refl ∙ sym value_is
   where
     one : IsTimed inner p
@@ -212,26 +213,26 @@ inner_times files outer inner x core child i c of_inner has given_by gives known
     named : core_given_in core (given_times inner child) p ≡ core_given_or_default core p (find (λ a. bytes_eq (written_name one.ip) a.name) (given_times inner child))
     named = ap (λ n. core_given_or_default core p (find (λ (a : AssignmentTree). bytes_eq n a.name) (given_times inner child))) one.name
 
-    value_is : time_named files (made_of files x i c) p.name ≡ option_map_or time_of (given_in files x i.given.items one.ip.parameter.now) 0
-    value_is = value_there files inner (made_of files x i c) of_inner p one (given_in files x i.given.items one.ip.parameter.now) (mapped (given_in files x i.given.items) (parameters_of files c) one.n one.ip.parameter.now (parameter_is files inner c of_inner one.n one.ip one.at))
+    value_is : time_named files (made_of files x i c) p.name ≡ option_map_or time_of (value_given_in files x i.given.items one.ip.parameter.now) 0
+    value_is = value_there files inner (made_of files x i c) of_inner p one (value_given_in files x i.given.items one.ip.parameter.now) (mapped (value_given_in files x i.given.items) (parameters_of files c) one.n one.ip.parameter.now (parameter_is files inner c of_inner one.n one.ip one.at))
 
     is_found : IsFound outer inner one.n one.ip one.at one.timed (alone files inner (made_of files x i c) of_inner one.n one.ip one.at) (given_to child.given.items one.n) (find (λ a. bytes_eq (written_name one.ip) a.name) (given_times inner child))
     is_found = found outer inner one.n one.ip one.at one.timed (alone files inner (made_of files x i c) of_inner one.n one.ip one.at) child.given.items gives
 
-    picked : (o : Option Assignment) → find (λ a. is_named (written_name one.ip) a.name) i.given.items ≡ o → core_given_or_default core p (find (λ a. bytes_eq (written_name one.ip) a.name) (given_times inner child)) ≡ option_map_or time_of (given_or_default files x one.ip.parameter.now (find (λ a. is_named (written_name one.ip) a.name) i.given.items)) 0
+    picked : (o : Option Assignment) → find (λ a. is_named (written_name one.ip) a.name) i.given.items ≡ o → core_given_or_default core p (find (λ a. bytes_eq (written_name one.ip) a.name) (given_times inner child)) ≡ option_map_or time_of (value_or_default files x one.ip.parameter.now (find (λ a. is_named (written_name one.ip) a.name) i.given.items)) 0
     picked None e =
         let g : given_to child.given.items one.n ≡ None = given_by one.n one.ip one.at ∙ ap (option_map (λ (a : Assignment). a.value.value)) e in
         let f : find (λ a. bytes_eq (written_name one.ip) a.name) (given_times inner child) ≡ None = subst (λ o. IsFound outer inner one.n one.ip one.at one.timed (alone files inner (made_of files x i c) of_inner one.n one.ip one.at) o (find (λ a. bytes_eq (written_name one.ip) a.name) (given_times inner child))) g is_found in
-        ap (core_given_or_default core p) f ∙ one.default ∙ ap (λ o. option_map_or time_of (given_or_default files x one.ip.parameter.now o) 0) (sym e)
+        ap (core_given_or_default core p) f ∙ one.default ∙ ap (λ o. option_map_or time_of (value_or_default files x one.ip.parameter.now o) 0) (sym e)
     picked (Some a) e =
         let g : given_to child.given.items one.n ≡ Some a.value.value = given_by one.n one.ip one.at ∙ ap (option_map (λ (a : Assignment). a.value.value)) e in
         let f : (t : TimeTree) × (time_for a.value.value ≡ Some t) × (find (λ a. bytes_eq (written_name one.ip) a.name) (given_times inner child) ≡ Some (given_tree outer inner one.n one.ip one.at one.timed (alone files inner (made_of files x i c) of_inner one.n one.ip one.at) one.ip t)) = subst (λ o. IsFound outer inner one.n one.ip one.at one.timed (alone files inner (made_of files x i c) of_inner one.n one.ip one.at) o (find (λ a. bytes_eq (written_name one.ip) a.name) (given_times inner child))) g is_found in
         let b : AssignmentTree = record { name = (written_name one.ip); value = f.0 } in
         let k : IsKnown core.reactor.parameters f.0 = known b (mem_contains b (given_times inner child) (find_some (λ (a : AssignmentTree). bytes_eq (written_name one.ip) a.name) (given_times inner child) b f.2).0) in
-        ap (core_given_or_default core p) f.2 ∙ read_time files x core a.value.value f.0 has f.1 k ∙ ap (λ o. option_map_or time_of (given_or_default files x one.ip.parameter.now o) 0) (sym e)
+        ap (core_given_or_default core p) f.2 ∙ read_time files x core a.value.value f.0 has f.1 k ∙ ap (λ o. option_map_or time_of (value_or_default files x one.ip.parameter.now o) 0) (sym e)
 
-pub main_times : (files : List SourceFile) (shapes : List Shape) (shape : Shape) (c : Class) (r : ReactorTree) → AreShapes files shapes → slice_get shapes 0 ≡ Some shape → main_of files ≡ Some c → r.parameters ≡ timed_parameters shape → HasTimes files (main_instance files c) (core_main r)
-main_times files shapes shape c r (scopes, n, is, same) first main parameters = map_alike (λ (p : ParameterTree). nanoseconds p.default) (λ p. time_named files (main_instance files c) p.name) r.parameters (λ p m. each p (subst (Mem p) parameters m))
+pub main_times : (files : List SourceFile) (shapes : List Shape) (shape : Shape) (c : Class) (r : ReactorTree) → AreShapesOfFiles files shapes → slice_get shapes 0 ≡ Some shape → main_of files ≡ Some c → r.parameters ≡ timed_parameters shape → HasParameterTimes files (main_class_instance files c) (core_main r)
+main_times files shapes shape c r (scopes, n, is, same) first main parameters = map_alike (λ (p : ParameterTree). nanoseconds p.default) (λ p. time_named files (main_class_instance files c) p.name) r.parameters (λ p m. each p (subst (Mem p) parameters m))
   where
     at_first : slice_get n.shapes.items 0 ≡ Some shape
     at_first = ap (λ l. slice_get l 0) same ∙ first
@@ -239,18 +240,18 @@ main_times files shapes shape c r (scopes, n, is, same) first main parameters = 
     t : (t : Valued) × (main_setting n.shapes.items ≡ Some t)
     t = (record { shape = 0; values = main_values shape }, ap (option_map (λ main. record { shape = 0; values = main_values main })) at_first)
 
-    fits : (d : Class) × (main_of files ≡ Some d) × Fits files n.shapes.items t.0 (main_instance files d)
+    fits : (d : Class) × (main_of files ≡ Some d) × Fits files n.shapes.items t.0 (main_class_instance files d)
     fits = main_law files scopes n is t.0 t.1
 
     of_main : IsShapeOf files shape c
     of_main = subst (λ d. IsShapeOf files shape d) (same_some (main_of files) fits.0 c fits.1 main) (subst (λ s. IsShapeOf files s fits.0) (same_some (slice_get n.shapes.items 0) fits.2.shape shape fits.2.is_shape at_first) fits.2.of_class)
 
-    each : (p : ParameterTree) → Mem p (timed_parameters shape) → nanoseconds p.default ≡ time_named files (main_instance files c) p.name
+    each : (p : ParameterTree) → Mem p (timed_parameters shape) → nanoseconds p.default ≡ time_named files (main_class_instance files c) p.name
     each p m =
         let one = is_timed_one shape p m in
-        one.default ∙ sym (value_there files shape (main_instance files c) of_main p one (default_of one.ip.parameter.now) (mapped default_of (parameters_of files c) one.n one.ip.parameter.now (parameter_is files shape c of_main one.n one.ip one.at)))
+        one.default ∙ sym (value_there files shape (main_class_instance files c) of_main p one (default_of one.ip.parameter.now) (mapped default_of (parameters_of files c) one.n one.ip.parameter.now (parameter_is files shape c of_main one.n one.ip one.at)))
 
-pub inside_times : (files : List SourceFile) (h : Here) (t u : Valued) (x y : Inside) (core : CoreInside) (m file : ℕ) (i : Instance) (inner : Shape) (r : ReactorTree) (given : List AssignmentTree) → AreShapes files h.settings.shapes.items → slice_get h.settings.shapes.items t.shape ≡ Some h.shape → Fits files h.settings.shapes.items t x → slice_get (members_of files x.class) m ≡ Some (file, member.Instance i) → inside h.settings.shapes.items t m ≡ Some u → inside_of files x (file, i) ≡ Some y → HasTimes files x core → AreGiven h m given → ((a : AssignmentTree) → Contains given a → IsKnown core.reactor.parameters a.value) → shape_inside h.settings.shapes.items h.shape m ≡ Some inner → r.parameters ≡ timed_parameters inner → HasTimes files y (record { reactor = r; values = map (core_given_in core given) r.parameters })
+pub inside_times : (files : List SourceFile) (h : Here) (t u : Valued) (x y : Inside) (core : CoreInside) (m file : ℕ) (i : Instance) (inner : Shape) (r : ReactorTree) (given : List AssignmentTree) → AreShapesOfFiles files h.settings.shapes.items → slice_get h.settings.shapes.items t.shape ≡ Some h.shape → Fits files h.settings.shapes.items t x → slice_get (members_of files x.class) m ≡ Some (file, member.Instance i) → inside h.settings.shapes.items t m ≡ Some u → inside_of files x (file, i) ≡ Some y → HasParameterTimes files x core → AreTimesGiven h m given → ((a : AssignmentTree) → Contains given a → IsKnown core.reactor.parameters a.value) → shape_inside h.settings.shapes.items h.shape m ≡ Some inner → r.parameters ≡ timed_parameters inner → HasParameterTimes files y (record { reactor = r; values = map (core_given_in core given) r.parameters })
 inside_times files h t u x y core m file i inner r given (scopes, n, is, same) is_shape fits at in_u is_y has (child, shape, is_child, is_inner, needed, gives, given_is) known inner_is parameters =
     subst (λ z. map (core_given_in core given) r.parameters ≡ map (λ p. time_named files z p.name) r.parameters) made_is (map_alike (core_given_in core given) (λ p. time_named files (made_of files x i law.4) p.name) r.parameters (λ p k. ap (λ l. core_given_in core l p) given_is ∙ inner_times files h.shape shape x core child i law.4 of_inner has given_by (λ g k. let j = get_mem g child.given.items k in all_at (IsGiven h.shape shape) child.given.items gives j.0 g j.1) (subst (λ l. (a : AssignmentTree) → Contains l a → IsKnown core.reactor.parameters a.value) given_is known) p (subst (Mem p) (parameters ∙ ap timed_parameters inner_same) k)))
   where

@@ -7,7 +7,7 @@ use Rattle.lft_resolve.specs.Causes.{NoneHolds, causes}
 use Rattle.lft_whole.specs.declared.sources.source.SourceFile.{SourceFile}
 use Rattle.lft_classes.specs.declared.shapes.Shape.{Shape}
 use Rattle.lft_elaborate.specs.inner.{Places.width_in, Settings.setting_at, Used.IsReached, Values.{Valued, main_setting}, Widths.found_width}
-use Rattle.lft_lower.specs.inner.Reactors.{AreShapes, IsLowering}
+use Rattle.lft_lower.specs.inner.Reactors.{AreShapesOfFiles, IsLowering}
 use Rattle.lft_same.specs.{Expanded.{Instances.Widths, Whole.AreWidths}, inner.Fits.Widths.{AreFound, AreThose, small}}
 use Rattle.lft_same.proofs.{FitsLemmas.Found.widths_law, Instances.AreWidthsFound}
 use Rattle.lft_same.proofs.Reached.{HasInstance, found_at, found_small, found_written, reached_instance}
@@ -22,7 +22,7 @@ most (suc n) P grows each = let rest = most n P grows (λ i l. each i (omega (ar
     all d rest e last i (inr l) = grows i d (max d e) (le-max_left d e) (rest i l)
 
 -- the law of widths, of the shapes of a program
-widths_at : (files : List SourceFile) (shapes : List Shape) → AreShapes files shapes → (t : Valued) (depth : ℕ) → main_setting shapes ≡ Some t → AreFound shapes depth → (w : Widths) × AreWidths files w × AreThose files shapes depth w
+widths_at : (files : List SourceFile) (shapes : List Shape) → AreShapesOfFiles files shapes → (t : Valued) (depth : ℕ) → main_setting shapes ≡ Some t → AreFound shapes depth → (w : Widths) × AreWidths files w × AreThose files shapes depth w
 widths_at files shapes (scopes, n, is, same) = subst (λ l. (t : Valued) (depth : ℕ) → main_setting l ≡ Some t → AreFound l depth → (w : Widths) × AreWidths files w × AreThose files l depth w) same (widths_law files scopes n is)
 
 module _ (files : List SourceFile) (tree : Ast) (low : IsLowering files tree) (none : NoneHolds (causes (tree_view tree))) where

@@ -3,7 +3,7 @@
 //! A core tree has the flat program of the tree written out. Where that is a whole program of which each
 //! reaction has a trigger, the flat program is that of the whole program too, names included.
 
-ghost use Rattle.lft_same.specs.inner.Expanded.Laws.{CoreLaw, JoinedLaw, OnlyLaw, PlacesLaw, SameLaw, WholeLaw};
+ghost use Rattle.lft_same.specs.inner.Expanded.Laws.{CoreLaw, JoinedLaw, OnlyLaw, PlacesLaw, SameLaw, WholeJoinLaw};
 
 /// Definitions that are proved to agree. It does no work.
 pub fn laws_of_programs()
@@ -11,6 +11,6 @@ pub fn laws_of_programs()
     ensures only { OnlyLaw }
     ensures same { SameLaw }
     ensures joined { JoinedLaw }
-    ensures whole { WholeLaw }
+    ensures whole { WholeJoinLaw }
     ensures places { PlacesLaw }
 {}

@@ -2,7 +2,7 @@
 use Rattle.std.proofs.Common.{◌≡◌, ◌≢◌, ℕ, zero, suc, ◌+◌, ◌*◌, ◌<◌, ◌≤◌, ◌⊎◌, inl, inr, List, [], ◌∷◌, length, refl, sym, ap, ◌∙◌, subst, arith, Some, slice_get, slice_set, drop, get_or}
 use Rattle.std.proofs.lemmas.{Option.{slice_get_within, slice_get-get_or}, List.drop_more, Bool.{true≢false, false≢true, cases_eq, cases_lt}}
 use mathlib.Core.Bool.{Bool, true, false, not}
-use Rattle.lft_scheduler.specs.{declared.turn.seats.Seat.Seat, inner.Seats.{one, differ, tally, hit, times, load, gain, loss, AreOnce}}
+use Rattle.lft_scheduler.specs.{declared.turn.seats.Seat.Seat, inner.Seats.{one, differ, tally_of_seats, hit, times, load, gain, loss, AreOnce}}
 
 pub not_self : (b : Bool) → b ≡ not b → ⊥
 not_self true e = true≢false e
@@ -55,17 +55,17 @@ times_back (y ∷ ys) r l = go (cases_eq r y) (times_back ys r)
     go (inl e) h = (0, ap Some (sym e))
     go (inr n) h = let z = hit_apart r y n in let t = h (omega arith) in (suc t.0, t.1)
 
-pub tally_written : (f : Seat → ℕ) (xs : List Seat) (i : ℕ) (x y : Seat) → slice_get xs i ≡ Some x → tally f (slice_set xs i y) + f x ≡ tally f xs + f y
+pub tally_written : (f : Seat → ℕ) (xs : List Seat) (i : ℕ) (x y : Seat) → slice_get xs i ≡ Some x → tally_of_seats f (slice_set xs i y) + f x ≡ tally_of_seats f xs + f y
 tally_written f [] i x y e = absurd (cc)
 tally_written f (z ∷ xs) zero x y e = let q : z ≡ x = cc in let r : f z ≡ f x = ap f q in omega arith
 tally_written f (z ∷ xs) (suc i) x y e = let r = tally_written f xs i x y e in omega arith
 
-pub tally_some : (f : Seat → ℕ) (xs : List Seat) (i : ℕ) (x : Seat) → slice_get xs i ≡ Some x → f x ≤ tally f xs
+pub tally_some : (f : Seat → ℕ) (xs : List Seat) (i : ℕ) (x : Seat) → slice_get xs i ≡ Some x → f x ≤ tally_of_seats f xs
 tally_some f [] i x e = absurd (cc)
 tally_some f (z ∷ xs) zero x e = let q : z ≡ x = cc in let r : f z ≡ f x = ap f q in omega arith
 tally_some f (z ∷ xs) (suc i) x e = let r = tally_some f xs i x e in omega arith
 
-pub tally_same : (f g : Seat → ℕ) (xs : List Seat) → ((i : ℕ) (x : Seat) → slice_get xs i ≡ Some x → f x ≡ g x) → tally f xs ≡ tally g xs
+pub tally_same : (f g : Seat → ℕ) (xs : List Seat) → ((i : ℕ) (x : Seat) → slice_get xs i ≡ Some x → f x ≡ g x) → tally_of_seats f xs ≡ tally_of_seats g xs
 tally_same f g [] h = refl
 tally_same f g (z ∷ xs) h = let a = h 0 z refl in let b = tally_same f g xs (λ i x e. h (suc i) x e) in omega arith
 
@@ -75,7 +75,7 @@ differ_small true false = omega arith
 differ_small false true = omega arith
 differ_small false false = omega arith
 
-pub tally_small : (up : Bool) (xs : List Seat) → tally (λ s. differ up s.counted) xs ≤ length xs
+pub tally_small : (up : Bool) (xs : List Seat) → tally_of_seats (λ s. differ up s.counted) xs ≤ length xs
 tally_small up [] = omega arith
 tally_small up (z ∷ xs) = let a = differ_small up z.counted in let b = tally_small up xs in omega arith
 

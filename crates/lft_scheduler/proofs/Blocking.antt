@@ -4,7 +4,7 @@ use Rattle.std.proofs.lemmas.Option.{slice_get_within}
 use Rattle.lft_ir.specs.Parts.{Parts}
 use Rattle.lft_graph.specs.{Precedence.Precedes, Before.{IsDeclaredJustBefore, FeedsLast}, Graph.{GraphParts, IsGraphOf}}
 use Rattle.lft_lists.proofs.Places.{get_there}
-use Rattle.lft_scheduler.specs.{declared.turn.phase.Phase.{Phase, TheVariants.{Waiting, Open}}, inner.Turns.{IsPending, IsReady, IsLeastReady}}
+use Rattle.lft_scheduler.specs.{declared.turn.phase.Phase.{Phase, TheVariants.{Waiting, Open}}, inner.Turns.{IsPhasePending, IsReady, IsLeastReady}}
 use Rattle.lft_scheduler.proofs.Blocked.{IsBusy, IsFree, SpreadsAlong}
 
 module _ (program : Parts) (graph : GraphParts) (is : IsGraphOf program graph) where
@@ -38,43 +38,43 @@ module _ (program : Parts) (graph : GraphParts) (is : IsGraphOf program graph) w
   climb P up r w = let k = level_there r w in below P up (k.0 + 1) r k.0 w k.1 (omega arith)
 
   module _ (phases : List Phase) (IsBlocked : ℕ → Type 0) (spreads : SpreadsAlong graph.before phases IsBlocked) where
-    forth : Climbs (λ r. IsBlocked r → (a : ℕ) × Precedes program a r × IsPending phases a)
+    forth : Climbs (λ r. IsBlocked r → (a : ℕ) × Precedes program a r × IsPhasePending phases a)
     forth r list e under i = let t = (spreads r list e).0 i in at t.0 t.1 t.2
       where
-        at : (b : ℕ) → Contains list b → IsBusy phases IsBlocked b → (a : ℕ) × Precedes program a r × IsPending phases a
+        at : (b : ℕ) → Contains list b → IsBusy phases IsBlocked b → (a : ℕ) × Precedes program a r × IsPhasePending phases a
         at b c (inl p) = (b, (is.chains b r list e).1 (b, c, inl refl), p)
         at b c (inr j) = let f = under b c j in (f.0, (is.chains f.0 r list e).1 (b, c, inr f.1), f.2)
 
     -- each blocked reaction is preceded by a pending one
-    pub blocked_preceded : (r : ℕ) → r < length graph.before → IsBlocked r → (a : ℕ) × Precedes program a r × IsPending phases a
-    blocked_preceded = climb (λ r. IsBlocked r → (a : ℕ) × Precedes program a r × IsPending phases a) forth
+    pub blocked_preceded : (r : ℕ) → r < length graph.before → IsBlocked r → (a : ℕ) × Precedes program a r × IsPhasePending phases a
+    blocked_preceded = climb (λ r. IsBlocked r → (a : ℕ) × Precedes program a r × IsPhasePending phases a) forth
 
-    back : (a : ℕ) → IsPending phases a → Climbs (λ r. Precedes program a r → IsBlocked r)
+    back : (a : ℕ) → IsPhasePending phases a → Climbs (λ r. Precedes program a r → IsBlocked r)
     back a q r list e under p = let t = (is.chains a r list e).0 p in at t.0 t.1 t.2
       where
         at : (b : ℕ) → Contains list b → (a ≡ b) ⊎ Precedes program a b → IsBlocked r
-        at b c (inl s) = (spreads r list e).1 (b, c, inl (subst (IsPending phases) s q))
+        at b c (inl s) = (spreads r list e).1 (b, c, inl (subst (IsPhasePending phases) s q))
         at b c (inr s) = (spreads r list e).1 (b, c, inr (under b c s))
 
     -- and each that a pending one precedes is blocked
-    pub preceded_blocked : (r a : ℕ) → r < length graph.before → Precedes program a r → IsPending phases a → IsBlocked r
+    pub preceded_blocked : (r a : ℕ) → r < length graph.before → Precedes program a r → IsPhasePending phases a → IsBlocked r
     preceded_blocked r a w p q = climb (λ k. Precedes program a k → IsBlocked k) (back a q) r w p
 
     module _ (decide : (a : ℕ) → a < length graph.before → IsBlocked a ⊎ (¬ IsBlocked a)) where
-      search_down : Climbs (λ r. IsBusy phases IsBlocked r → (a : ℕ) × IsPending phases a × (¬ IsBlocked a))
+      search_down : Climbs (λ r. IsBusy phases IsBlocked r → (a : ℕ) × IsPhasePending phases a × (¬ IsBlocked a))
       search_down r list e under b = at b (decide r (slice_get_within graph.before r list e))
         where
-          behind : IsBlocked r → (a : ℕ) × IsPending phases a × (¬ IsBlocked a)
+          behind : IsBlocked r → (a : ℕ) × IsPhasePending phases a × (¬ IsBlocked a)
           behind i = let t = (spreads r list e).0 i in under t.0 t.1 t.2
 
-          at : IsBusy phases IsBlocked r → IsBlocked r ⊎ (¬ IsBlocked r) → (a : ℕ) × IsPending phases a × (¬ IsBlocked a)
+          at : IsBusy phases IsBlocked r → IsBlocked r ⊎ (¬ IsBlocked r) → (a : ℕ) × IsPhasePending phases a × (¬ IsBlocked a)
           at (inl p) (inr n) = (r, p, n)
           at (inl p) (inl i) = behind i
           at (inr i) d = behind i
 
       -- where a reaction is busy, one is pending and not blocked
-      found : (r : ℕ) → r < length graph.before → IsBusy phases IsBlocked r → (a : ℕ) × IsPending phases a × (¬ IsBlocked a)
-      found = climb (λ r. IsBusy phases IsBlocked r → (a : ℕ) × IsPending phases a × (¬ IsBlocked a)) search_down
+      found : (r : ℕ) → r < length graph.before → IsBusy phases IsBlocked r → (a : ℕ) × IsPhasePending phases a × (¬ IsBlocked a)
+      found = climb (λ r. IsBusy phases IsBlocked r → (a : ℕ) × IsPhasePending phases a × (¬ IsBlocked a)) search_down
 
     module _ (long : length phases ≡ length graph.before) where
       there : (r : ℕ) → slice_get phases r ≡ Some Waiting → r < length graph.before
@@ -91,13 +91,13 @@ module _ (program : Parts) (graph : GraphParts) (is : IsGraphOf program graph) w
       least_ready r f least = record { ready = free_ready r f; least = λ b d. least b (ready_free b d) }
 
       -- where nothing is ready and no run is open, nothing is pending
-      pub none_pending : ((a : ℕ) → a < length graph.before → IsBlocked a ⊎ (¬ IsBlocked a)) → ((b : ℕ) → ¬ IsFree phases IsBlocked b) → ((b : ℕ) → slice_get phases b ≢ Some Open) → (r : ℕ) → ¬ IsPending phases r
+      pub none_pending : ((a : ℕ) → a < length graph.before → IsBlocked a ⊎ (¬ IsBlocked a)) → ((b : ℕ) → ¬ IsFree phases IsBlocked b) → ((b : ℕ) → slice_get phases b ≢ Some Open) → (r : ℕ) → ¬ IsPhasePending phases r
       none_pending decide none closed r p = let t = found decide r (within p) (inl p) in which t.0 t.1 t.2
         where
-          within : IsPending phases r → r < length graph.before
+          within : IsPhasePending phases r → r < length graph.before
           within (inl e) = there r e
           within (inr e) = let w = slice_get_within phases r Open e in omega arith
 
-          which : (a : ℕ) → IsPending phases a → ¬ IsBlocked a → ⊥
+          which : (a : ℕ) → IsPhasePending phases a → ¬ IsBlocked a → ⊥
           which a (inl e) n = none a (e, n)
           which a (inr e) n = closed a e

@@ -11,7 +11,7 @@ use Rattle.lft_ir.proofs.Naming.{name_self}
 use Rattle.lft_lists.proofs.Picked.{take_one_more}
 use Rattle.lft_queue.specs.Pending.{Pending, value_of, same_key, Becomes}
 use Rattle.lft_model.{specs.{Plans.{PlanParts, IsSoundPlan}, Presence.{Last, IsWrittenFrom, At, PortClash, ClashesAt}}, proofs.Places.tag_discrete}
-use Rattle.lft_scheduler.specs.inner.{Listeners.IsWatched, Events.{IsWanted, IsPut, seen_by, IsFedTo, WasWritten}}
+use Rattle.lft_scheduler.specs.inner.{Listeners.IsWatched, Events.{IsWanted, IsEventPut, seen_by, IsFedTo, WasWritten}}
 use Rattle.lft_scheduler.proofs.{Heard.heard, Written.{shifts_on, from_written, to_written, elsewhere_at, elsewhere_clash, more_clash, one_event, two_events}}
 
 -- the ports of a list that have heard so far, and the next one
@@ -54,7 +54,7 @@ some_there (Some u) s = (u, refl)
 
 -- a watched port that hasn't heard of a write of its origin hears of it
 module _ (plan : PlanParts) (good : IsSoundPlan plan) (t : List Row) (x : Row) (o : ℕ) (v : Value) (writes : x.step ≡ Write (Port o) v) (p : ℕ) (port : PortOf) (is_port : slice_get plan.program.ports p ≡ Some port) (watched : IsWatched plan.program p) (last : Tag) (ports : List ℕ) (unmet : ¬ Contains ports p) (clash : Option Tag) (q0 : List Pending) (is : IsFedTo plan t x last ports clash q0) where
-  module _ (its : port.origin ≡ o) (q1 q2 : List Pending) (found : Option Tag) (put : IsPut last clash (shifted x.tag (port.shift.time, port.shift.steps)) (Port p) v q1 q2 found) where
+  module _ (its : port.origin ≡ o) (q1 q2 : List Pending) (found : Option Tag) (put : IsEventPut last clash (shifted x.tag (port.shift.time, port.shift.steps)) (Port p) v q1 q2 found) where
     clean_old : IsWanted last clash (shifted x.tag (port.shift.time, port.shift.steps)) → ¬ PortClash plan t (shifted x.tag (port.shift.time, port.shift.steps)) p
     clean_old w = subst (λ (s : List Row). ¬ ClashesAt plan s (shifted x.tag (port.shift.time, port.shift.steps)) (Port p)) (among_old (t ++ x ∷ []) t ports p unmet) (is.clean (shifted x.tag (port.shift.time, port.shift.steps)) (Port p) w.0 w.1)
 

@@ -10,8 +10,8 @@ use Rattle.lft_lists.proofs.Members.{Mem, mem_contains, contains_mem, mem_map, m
 use Rattle.lft_lists.proofs.Places.{same_some, same_at, at_contains}
 use Rattle.lft_model.{proofs.Places.slice_get_within, specs.Presence.Fires}
 use Rattle.lft_queue.specs.Pending.{Pending}
-use Rattle.lft_scheduler.specs.inner.{Listeners.IsLive, Waits.{IsBetween, IsCovered}, Telling.{FiresAt, TriggeredByQueue}}
-use Rattle.lft_scheduler.specs.inner.Firings.{tag_of_firing, sooner_first, IsFirstOf, AreFirst}
+use Rattle.lft_scheduler.specs.inner.{Listeners.IsLive, Waits.{IsBetween, IsFoundUpTo}, Telling.{FiresAt, TriggeredByQueue}}
+use Rattle.lft_scheduler.specs.inner.Firings.{tag_of_firing, sooner_first, IsFirstOf, AreFirstFirings}
 use Rattle.lft_scheduler.specs.declared.firings.Firing.{Firing}
 use Rattle.lft_scheduler.proofs.NextTags.{covered_after}
 
@@ -24,14 +24,14 @@ pub first_after : (program : Parts) (g : Tag) (f : Firing) → IsFirstOf program
 first_after program g f first b = (first.0, first.1, record { fires = first.2.fires; holds = b; least = λ h fires p. first.2.least h fires (Before-weaken g h p) })
 
 -- where the first firings after one tag aren't before a later one, they are the first from there on
-pub first_from : (program : Parts) (from next : Tag) (fs : List Firing) → AreFirst program (λ h. Before from h) fs → Before from next → ((f : Firing) → Contains fs f → UpTo next (tag_of_firing f)) → AreFirst program (λ h. UpTo next h) fs
+pub first_from : (program : Parts) (from next : Tag) (fs : List Firing) → AreFirstFirings program (λ h. Before from h) fs → Before from next → ((f : Firing) → Contains fs f → UpTo next (tag_of_firing f)) → AreFirstFirings program (λ h. UpTo next h) fs
 first_from program from next fs are b up = record {
   all = λ n h live fires u. are.all n h live fires (Before-UpTo from next h b u);
   only = λ f c. (let o = are.only f c in (o.0, (o.1.0, o.1.1, record { fires = o.1.2.fires; holds = up f c; least = λ h fires u. o.1.2.least h fires (Before-UpTo from next h b u) })));
 }
 
 -- the next tag is up to each of them
-pub none_skipped : (program : Parts) (q : List Pending) (last from next : Tag) (fs : List Firing) → AreFirst program (λ h. Before from h) fs → UpTo next last → ((h : Tag) (r : ℕ) → TriggeredByQueue program q last h r → Before from h → UpTo h last → IsCovered (Some next) h) → (f : Firing) → Contains fs f → UpTo next (tag_of_firing f)
+pub none_skipped : (program : Parts) (q : List Pending) (last from next : Tag) (fs : List Firing) → AreFirstFirings program (λ h. Before from h) fs → UpTo next last → ((h : Tag) (r : ℕ) → TriggeredByQueue program q last h r → Before from h → UpTo h last → IsFoundUpTo (Some next) h) → (f : Firing) → Contains fs f → UpTo next (tag_of_firing f)
 none_skipped program q last from next fs are u covers f c = go (order_cases last (tag_of_firing f))
   where
     o : IsLive program f.timer × IsFirstOf program (λ h. Before from h) f
@@ -45,7 +45,7 @@ none_skipped program q last from next fs are u covers f c = go (order_cases last
         subst (λ (g : Tag). UpTo g (tag_of_firing f)) (sym e) k.2
 
 -- where the least tag of a list is covered, what is after one of its tags is covered
-pub least_covers : {X : Type 0} (at : X → Tag) (xs : List X) (o found : Option Tag) (from last h : Tag) (x : X) → IfSome o (λ g. (e : X) × Contains xs e × (at e ≡ g)) → IfSome o (λ g. (e : X) → Contains xs e → UpTo g (at e)) → IfNone o (xs ≡ []) → ((e : X) → Contains xs e → Before from (at e)) → ((g : Tag) → o ≡ Some g → IsBetween from last g → IsCovered found g) → Contains xs x → UpTo (at x) h → UpTo h last → IsCovered found h
+pub least_covers : {X : Type 0} (at : X → Tag) (xs : List X) (o found : Option Tag) (from last h : Tag) (x : X) → IfSome o (λ g. (e : X) × Contains xs e × (at e ≡ g)) → IfSome o (λ g. (e : X) → Contains xs e → UpTo g (at e)) → IfNone o (xs ≡ []) → ((e : X) → Contains xs e → Before from (at e)) → ((g : Tag) → o ≡ Some g → IsBetween from last g → IsFoundUpTo found g) → Contains xs x → UpTo (at x) h → UpTo h last → IsFoundUpTo found h
 least_covers {X} at xs None found from last h x some least none later covers c u v = absurd (subst (λ (ys : List X). Mem x ys) none (contains_mem x xs c))
 least_covers at xs (Some g) found from last h x some least none later covers c u v =
     let w : UpTo g h = UpTo-trans g (at x) h (least x c) u in
@@ -92,7 +92,7 @@ module _ (program : Parts) (P : Tag → Type 0) (timers : List ℕ) where
       only x (inr (inl e)) = subst (λ (y : Reverse Firing). IsLive program y.0.timer × IsFirstOf program P y.0) e (live, first)
       only x (inr (inr m)) = absurd m
 
-  pub all_put : (n : ℕ) (fs hs : List (Reverse Firing)) → AreFirstOf n fs → length timers ≤ n → ((m : ℕ) → Contains timers m ↔ IsLive program m) → IsPermutation fs hs → AreFirst program P (map (λ r. r.0) hs)
+  pub all_put : (n : ℕ) (fs hs : List (Reverse Firing)) → AreFirstOf n fs → length timers ≤ n → ((m : ℕ) → Contains timers m ↔ IsLive program m) → IsPermutation fs hs → AreFirstFirings program P (map (λ r. r.0) hs)
   all_put n fs hs are enough live same = record { all = λ m h l fires p. all m l; only = λ f c. only f c }
     where
       all : (m : ℕ) → IsLive program m → (f : Firing) × Contains (map (λ r. r.0) hs) f × (f.timer ≡ m)

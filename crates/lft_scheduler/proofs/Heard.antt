@@ -4,7 +4,7 @@ use Rattle.lft_tag.{specs.{declared.Tag.Tag, Tags.{Before, UpTo, same_tag}}, pro
 use Rattle.lft_ir.{specs.{declared.{parts.{Value.Value, Name.Name}, steps.row.Row.Row}, Naming.same_name}, proofs.Naming.{name_same, name_self}}
 use Rattle.lft_queue.specs.Pending.{Pending, value_of, same_key}
 use Rattle.lft_model.{specs.{Plans.PlanParts, Presence.{At, ClashesAt}}, proofs.Steps.both_true}
-use Rattle.lft_scheduler.specs.inner.Events.{IsEarlier, IsWanted, IsPut, IsWatchedName, HasEventsOf}
+use Rattle.lft_scheduler.specs.inner.Events.{IsEarlier, IsWanted, IsEventPut, IsWatchedName, HasEventsOf}
 
 pub iff_trans : {A B C : Type 0} → A ↔ B → B ↔ C → A ↔ C
 iff_trans f g = (λ a. g.0 (f.0 a), λ c. f.1 (g.1 c))
@@ -33,7 +33,7 @@ module _ (plan : PlanParts) (seen now : Name → List Row) (from last : Tag) (cl
     (clash_elsewhere_old : (k : Tag) → ¬ (k ≡ h) → ClashesAt plan new k n → ClashesAt plan old k n)
     (more_old : (k : Tag) → ClashesAt plan old k n → ClashesAt plan new k n)
     (taken : (k : Tag) (m : Name) → same_key h n k m ≡ false → value_of k m q1 ≡ value_of k m q0)
-    (put : IsPut last clash h n v q1 q2 found)
+    (put : IsEventPut last clash h n v q1 q2 found)
     (fresh_old : IsWanted last clash h → value_of h n q1 ≡ None → ((u : Value) → At plan new h n u ↔ (u ≡ v)) × ¬ ClashesAt plan new h n)
     (twice_old : IsWanted last clash h → IsSome (value_of h n q1) → Before from h × ClashesAt plan new h n) where
   elsewhere : (k : Tag) (u : Value) → ¬ (k ≡ h) → At plan (now n) k n u ↔ At plan (seen n) k n u
@@ -84,7 +84,7 @@ module _ (plan : PlanParts) (seen now : Name → List Row) (from last : Tag) (cl
   queue_other : (k : Tag) (m : Name) → same_key h n k m ≡ false → IsEarlier found k → (value_of k m q2 ≡ value_of k m q0) × IsEarlier clash k
   queue_other k m e earlier = go put
     where
-      go : IsPut last clash h n v q1 q2 found → (value_of k m q2 ≡ value_of k m q0) × IsEarlier clash k
+      go : IsEventPut last clash h n v q1 q2 found → (value_of k m q2 ≡ value_of k m q0) × IsEarlier clash k
       go (inl p) = (ap (λ (q : List Pending). value_of k m q) p.1 ∙ taken k m e, subst (λ (o : Option Tag). IsEarlier o k) p.2 earlier)
       go (inr (inl p)) = (p.2 k m ∙ ap (λ (b : Bool). cond b (Some v) (value_of k m q1)) e ∙ taken k m e, subst (λ (o : Option Tag). IsEarlier o k) p.3 earlier)
       go (inr (inr p)) = (ap (λ (q : List Pending). value_of k m q) p.2 ∙ taken k m e, earlier_down clash h k p.0.1 (subst (λ (o : Option Tag). IsEarlier o k) p.3 earlier))
@@ -93,7 +93,7 @@ module _ (plan : PlanParts) (seen now : Name → List Row) (from last : Tag) (cl
   at_event : (u : Value) → UpTo h last → IsEarlier found h → (value_of h n q2 ≡ Some u) ↔ At plan (now n) h n u
   at_event u b earlier = go put
     where
-      go : IsPut last clash h n v q1 q2 found → (value_of h n q2 ≡ Some u) ↔ At plan (now n) h n u
+      go : IsEventPut last clash h n v q1 q2 found → (value_of h n q2 ≡ Some u) ↔ At plan (now n) h n u
       go (inl p) = absurd (p.0 (b, subst (λ (o : Option Tag). IsEarlier o h) p.2 earlier))
       go (inr (inl p)) =
           let a : same_tag h h ≡ true = same_tag_refl h h refl in
@@ -107,7 +107,7 @@ module _ (plan : PlanParts) (seen now : Name → List Row) (from last : Tag) (cl
   clean_event : UpTo h last → IsEarlier found h → ¬ ClashesAt plan (now n) h n
   clean_event b earlier = go put
     where
-      go : IsPut last clash h n v q1 q2 found → ¬ ClashesAt plan (now n) h n
+      go : IsEventPut last clash h n v q1 q2 found → ¬ ClashesAt plan (now n) h n
       go (inl p) = absurd (p.0 (b, subst (λ (o : Option Tag). IsEarlier o h) p.2 earlier))
       go (inr (inl p)) = (fresh p.0 p.1).1
       go (inr (inr p)) = absurd (Before-irrefl h (subst (λ (o : Option Tag). IsEarlier o h) p.3 earlier))
@@ -143,7 +143,7 @@ module _ (plan : PlanParts) (seen now : Name → List Row) (from last : Tag) (cl
           before : found ≡ clash → Before from c × UpTo c last × ((m : Name) × ClashesAt plan (now m) c m)
           before s = let f = is.found c (sym s ∙ e) in (f.0, f.1, (f.2.0, clash_stays c f.2.0 f.2.1))
 
-          go : IsPut last clash h n v q1 q2 found → Before from c × UpTo c last × ((m : Name) × ClashesAt plan (now m) c m)
+          go : IsEventPut last clash h n v q1 q2 found → Before from c × UpTo c last × ((m : Name) × ClashesAt plan (now m) c m)
           go (inl p) = before p.2
           go (inr (inl p)) = before p.3
           go (inr (inr p)) =

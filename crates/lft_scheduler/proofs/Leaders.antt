@@ -7,7 +7,7 @@ use native.Mathlib.Decide.{dec_lt}
 use Rattle.lft_ir.specs.{Parts.Parts, declared.parts.{Reaction.Reaction, Timer.Timer as TimerOf, Trigger.{Trigger, TheVariants.Timer}}}
 use Rattle.lft_lists.proofs.Picked.{take_one_more}
 use Rattle.lft_lists.proofs.Places.{get_same, length_same, get_written, get_unwritten, get_write_cases, length_written, same_at, same_some}
-use Rattle.lft_scheduler.specs.inner.{Listeners.{beat, IsLeader, IsLive}, Filling.{beat_cmp, StartsBefore, HaveLeaders, AreLeading}}
+use Rattle.lft_scheduler.specs.inner.{Listeners.{beat, IsLeader, IsLive}, Filling.{beat_cmp, TimerStartsBefore, HaveLeaders, AreLeading}}
 use Rattle.lft_queue.proofs.Marking.{contains_pushed, none_contained}
 use Rattle.lft_tag.proofs.Comparing.{not_equal}
 
@@ -90,7 +90,7 @@ module _ (program : Parts) (triggers : List Trigger) (place : ℕ) (trigger : Tr
     same_timer m other z e = same_some (slice_get program.timers n) other timer (subst (λ (k : ℕ). slice_get program.timers k ≡ Some other) (same_number m z) e) is
 
     -- the leader of its beat starts before it
-    leaders_kept : (map : BTreeMap (ℕ × ℕ) ℕ) (o : ℕ) → get beat_cmp map (beat timer) ≡ Some o → ¬ StartsBefore program n (Some o) → HaveLeaders program (take place triggers) map → HaveLeaders program (take (place + 1) triggers) map
+    leaders_kept : (map : BTreeMap (ℕ × ℕ) ℕ) (o : ℕ) → get beat_cmp map (beat timer) ≡ Some o → ¬ TimerStartsBefore program n (Some o) → HaveLeaders program (take place triggers) map → HaveLeaders program (take (place + 1) triggers) map
     leaders_kept map o leads not have = record { each = each; all = λ m other c e. all m other (shrunk (Timer m) c) e }
       where
         behind : (leader : IsLeader program (take place triggers) o) → (leader.timer.offset < timer.offset) ⊎ ((leader.timer.offset ≡ timer.offset) × (o ≤ n))
@@ -120,12 +120,12 @@ module _ (program : Parts) (triggers : List Trigger) (place : ℕ) (trigger : Tr
         all m other (inl c) e = have.all m other c e
         all m other (inr z) e = (o, subst (λ (y : TimerOf). get beat_cmp map (beat y) ≡ Some o) (sym (same_timer m other z e)) leads)
 
-    pub leaders_stay : (map : BTreeMap (ℕ × ℕ) ℕ) (o : Option ℕ) → get beat_cmp map (beat timer) ≡ o → ¬ StartsBefore program n o → HaveLeaders program (take place triggers) map → HaveLeaders program (take (place + 1) triggers) map
+    pub leaders_stay : (map : BTreeMap (ℕ × ℕ) ℕ) (o : Option ℕ) → get beat_cmp map (beat timer) ≡ o → ¬ TimerStartsBefore program n o → HaveLeaders program (take place triggers) map → HaveLeaders program (take (place + 1) triggers) map
     leaders_stay map None leads not have = absurd (not _)
     leaders_stay map (Some o) leads not have = leaders_kept map o leads not have
 
     -- it leads now
-    pub leaders_new : (old new : BTreeMap (ℕ × ℕ) ℕ) → StartsBefore program n (get beat_cmp old (beat timer)) → ((q : ℕ × ℕ) → get beat_cmp new q ≡ cond (is_eq (beat_cmp (beat timer) q)) (Some n) (get beat_cmp old q)) → HaveLeaders program (take place triggers) old → HaveLeaders program (take (place + 1) triggers) new
+    pub leaders_new : (old new : BTreeMap (ℕ × ℕ) ℕ) → TimerStartsBefore program n (get beat_cmp old (beat timer)) → ((q : ℕ × ℕ) → get beat_cmp new q ≡ cond (is_eq (beat_cmp (beat timer) q)) (Some n) (get beat_cmp old q)) → HaveLeaders program (take place triggers) old → HaveLeaders program (take (place + 1) triggers) new
     leaders_new old new before put have = record { each = each; all = λ m other c e. all m other (shrunk (Timer m) c) e }
       where
         at_its : (q : ℕ × ℕ) → q ≡ beat timer → get beat_cmp new q ≡ Some n
@@ -135,7 +135,7 @@ module _ (program : Parts) (triggers : List Trigger) (place : ℕ) (trigger : Tr
         at_other q d = put q ∙ ap (λ (c : Bool). cond c (Some n) (get beat_cmp old q)) (beat_other (beat timer) q d)
 
         -- it starts before all of its beat so far
-        sooner : (o : Option ℕ) → get beat_cmp old (beat timer) ≡ o → StartsBefore program n o → (m : ℕ) (other : TimerOf) → Contains (take place triggers) (Timer m) → slice_get program.timers m ≡ Some other → beat other ≡ beat timer → (timer.offset < other.offset) ⊎ ((timer.offset ≡ other.offset) × (n ≤ m))
+        sooner : (o : Option ℕ) → get beat_cmp old (beat timer) ≡ o → TimerStartsBefore program n o → (m : ℕ) (other : TimerOf) → Contains (take place triggers) (Timer m) → slice_get program.timers m ≡ Some other → beat other ≡ beat timer → (timer.offset < other.offset) ⊎ ((timer.offset ≡ other.offset) × (n ≤ m))
         sooner None leads first m other c e b = let q = have.all m other c e in let z : None ≡ Some q.0 = sym leads ∙ subst (λ (y : ℕ × ℕ). get beat_cmp old y ≡ Some q.0) b q.1 in absurd (cc)
         sooner (Some o) leads first m other c e b =
             let l = have.each (beat timer) o leads in

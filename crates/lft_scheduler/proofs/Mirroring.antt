@@ -2,10 +2,10 @@
 use Rattle.std.proofs.Common.{◌≡◌, ◌≢◌, ℕ, suc, ◌+◌, ◌<◌, ◌≤◌, ◌⊎◌, inl, inr, List, [], ◌∷◌, ◌++◌, length, sym, ap, ◌∙◌, subst, arith, Option, Some, unwrap_or, slice_get, slice_set, slice_index_or, drop, AllPairs}
 use Rattle.std.proofs.lemmas.{Option.{slice_get_within, slice_get-get_or}, Bool.{cases_eq, cases_lt, cases_order}}
 use Rattle.lft_ir.specs.Parts.{Parts}
-use Rattle.lft_graph.specs.Graph.{GraphParts, IsGraphOf}
+use Rattle.lft_graph.specs.{Graph.{GraphParts, IsGraphOf}, inner.Walks.AreInside}
 use Rattle.lft_lists.proofs.Places.{get_there, get_write_cases, length_written, same_at}
 use Rattle.lft_queue.specs.inner.Coming.NumberLists.{list_at}
-use Rattle.lft_scheduler.specs.inner.Seats.{hit, times, AreInside, AreOnce, IsNoted, IsMirrored, IsMirror}
+use Rattle.lft_scheduler.specs.inner.Seats.{hit, times, AreOnce, IsNoted, IsMirrored, IsMirror}
 use Rattle.lft_scheduler.proofs.Adding.{hit_same, hit_apart, times_drop, times_at, times_back}
 
 times_append : (xs : List ℕ) (r x : ℕ) → times x (xs ++ r ∷ []) ≡ times x xs + hit x r

@@ -8,7 +8,7 @@ use Rattle.lft_ir.specs.Naming.{same_name}
 use Rattle.lft_queue.{specs.Pending.{Pending, value_of, same_key, is_after}, proofs.{Dropping.later_value, Tests.before_test}}
 use Rattle.lft_scheduler.specs.declared.turn.phase.Phase.{Phase, TheVariants.{Idle, Waiting, Open}}
 use Rattle.lft_scheduler.specs.inner.{Turns.{TurnParts, NonePending}, Events.{IsWatchedName, HasEvents}, Listeners.IsListener}
-use Rattle.lft_scheduler.specs.inner.{Waits.{IsBetween, IsCovered, PhaseIs, IsTurnOf}, Telling.{IsTold, OccursBy, TriggeredByQueue}}
+use Rattle.lft_scheduler.specs.inner.{Waits.{IsBetween, IsFoundUpTo, PhaseIs, IsTurnOf}, Telling.{IsTold, OccursBy, TriggeredByQueue}}
 use Rattle.lft_scheduler.specs.inner.Agendas.{MayAdvance, IsReached, IsCurrent}
 use Rattle.lft_scheduler.specs.Starts.{SomethingLeft}
 use Rattle.lft_scheduler.proofs.{Given.listened_watched, Fed.some_there, RunsOpen.filter_mem, Told.{pending_back, none_waits, all_idle}}
@@ -24,7 +24,7 @@ none_before_first g h e (inl b) = absurd (let k : h.time ≡ 0 = ap (λ (z : Tag
 none_before_first g h e (inr b) = absurd (let k : h.micro ≡ 0 = ap (λ (z : Tag). z.micro) e in let c = b.1 in omega arith)
 
 -- a tag that is covered covers what is after it
-pub covered_after : (found : Option Tag) (g h : Tag) → UpTo g h → IsCovered found g → IsCovered found h
+pub covered_after : (found : Option Tag) (g h : Tag) → UpTo g h → IsFoundUpTo found g → IsFoundUpTo found h
 covered_after found g h u o = (o.0, o.1, UpTo-trans o.0 g h o.2 u)
 
 -- an event of the queue is one at its tag
@@ -129,8 +129,8 @@ module _ (plan : PlanParts) (good : IsSoundPlan plan) (t : List Row) (last : Tag
     pending_called : (h : Tag) (r : ℕ) → IsPending plan (by_ends plan t) h r → TriggeredByQueue plan.program rest last h r
     pending_called h r p = called plan t last may.stop_is rest h (λ n v w. (has_rest h (all_later h r p)).values h n v w (UpTo-refl h) (early h r p) tt) r (pending_triggered plan good t may.so_far may.quiet h r p)
 
-    module _ (found : Option Tag) (covers : (h : Tag) (r : ℕ) → TriggeredByQueue plan.program rest last h r → Before from h → UpTo h last → IsCovered found h) where
-      pending_covered : (h : Tag) (r : ℕ) → IsPending plan (by_ends plan t) h r → IsCovered found h
+    module _ (found : Option Tag) (covers : (h : Tag) (r : ℕ) → TriggeredByQueue plan.program rest last h r → Before from h → UpTo h last → IsFoundUpTo found h) where
+      pending_covered : (h : Tag) (r : ℕ) → IsPending plan (by_ends plan t) h r → IsFoundUpTo found h
       pending_covered h r p = covers h r (pending_called h r p) (all_later h r p) (early h r p)
 
       -- no tag was found: nothing is left

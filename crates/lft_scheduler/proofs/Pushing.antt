@@ -4,7 +4,7 @@ use Rattle.std.proofs.lemmas.Bool.{cases_eq}
 use Rattle.lft_ir.specs.declared.parts.{Name.TheVariants.{Port, Action}, Trigger.{Trigger, TheVariants.{Startup, Shutdown, Timer, On}}}
 use Rattle.lft_lists.proofs.Places.{get_written, get_unwritten, length_written}
 use Rattle.lft_queue.{proofs.Marking.contains_pushed, specs.inner.Coming.NumberLists.list_at}
-use Rattle.lft_scheduler.specs.inner.Lists.{TriggerLists, list_of, HasList, IsPushed}
+use Rattle.lft_scheduler.specs.inner.Lists.{TriggerLists, list_of_trigger, HasList, IsPushed}
 
 pub at_written : (lists : List (List ℕ)) (n : ℕ) (list : List ℕ) → n < length lists → list_at (slice_set lists n list) n ≡ list
 at_written lists n list l = ap (λ (o : Option (List ℕ)). unwrap_or o []) (get_written lists n list l)
@@ -79,7 +79,7 @@ module _ (old : TriggerLists) (k : ℕ) where
       room (On (Port m)) h = h
       room (On (Action m)) h = h
 
-      each : (t : Trigger) (r : ℕ) → Contains (list_of (record old { startup = old.startup ++ k ∷ [] }) t) r ↔ (Contains (list_of old t) r ⊎ ((t ≡ Startup) × (r ≡ k)))
+      each : (t : Trigger) (r : ℕ) → Contains (list_of_trigger (record old { startup = old.startup ++ k ∷ [] }) t) r ↔ (Contains (list_of_trigger old t) r ⊎ ((t ≡ Startup) × (r ≡ k)))
       each Startup r = with_same Startup (contains_pushed old.startup k r)
       each Shutdown r = kept (λ p. (let z : Shutdown ≡ Startup = p.0 in cc))
       each (Timer m) r = kept (λ p. (let z : Timer m ≡ Startup = p.0 in cc))
@@ -96,7 +96,7 @@ module _ (old : TriggerLists) (k : ℕ) where
       room (On (Port m)) h = h
       room (On (Action m)) h = h
 
-      each : (t : Trigger) (r : ℕ) → Contains (list_of (record old { shutdown = old.shutdown ++ k ∷ [] }) t) r ↔ (Contains (list_of old t) r ⊎ ((t ≡ Shutdown) × (r ≡ k)))
+      each : (t : Trigger) (r : ℕ) → Contains (list_of_trigger (record old { shutdown = old.shutdown ++ k ∷ [] }) t) r ↔ (Contains (list_of_trigger old t) r ⊎ ((t ≡ Shutdown) × (r ≡ k)))
       each Startup r = kept (λ p. (let z : Startup ≡ Shutdown = p.0 in cc))
       each Shutdown r = with_same Shutdown (contains_pushed old.shutdown k r)
       each (Timer m) r = kept (λ p. (let z : Timer m ≡ Shutdown = p.0 in cc))
@@ -113,7 +113,7 @@ module _ (old : TriggerLists) (k : ℕ) where
       room (On (Port m)) h = h
       room (On (Action m)) h = h
 
-      each : (t : Trigger) (r : ℕ) → Contains (list_of (record old { timers = slice_set old.timers n (list_at old.timers n ++ k ∷ []) }) t) r ↔ (Contains (list_of old t) r ⊎ ((t ≡ Timer n) × (r ≡ k)))
+      each : (t : Trigger) (r : ℕ) → Contains (list_of_trigger (record old { timers = slice_set old.timers n (list_at old.timers n ++ k ∷ []) }) t) r ↔ (Contains (list_of_trigger old t) r ⊎ ((t ≡ Timer n) × (r ≡ k)))
       each Startup r = kept (λ p. (let z : Startup ≡ Timer n = p.0 in cc))
       each Shutdown r = kept (λ p. (let z : Shutdown ≡ Timer n = p.0 in cc))
       each (Timer m) r = said (λ e. ap Timer e) (λ e. (let z : Timer m ≡ Timer n = e in cc)) (list_pushed old.timers n k within m r)
@@ -130,7 +130,7 @@ module _ (old : TriggerLists) (k : ℕ) where
       room (On (Port m)) h = subst (λ (l : ℕ). m < l) (sym (length_written old.ports n (list_at old.ports n ++ k ∷ []))) h
       room (On (Action m)) h = h
 
-      each : (t : Trigger) (r : ℕ) → Contains (list_of (record old { ports = slice_set old.ports n (list_at old.ports n ++ k ∷ []) }) t) r ↔ (Contains (list_of old t) r ⊎ ((t ≡ On (Port n)) × (r ≡ k)))
+      each : (t : Trigger) (r : ℕ) → Contains (list_of_trigger (record old { ports = slice_set old.ports n (list_at old.ports n ++ k ∷ []) }) t) r ↔ (Contains (list_of_trigger old t) r ⊎ ((t ≡ On (Port n)) × (r ≡ k)))
       each Startup r = kept (λ p. (let z : Startup ≡ On (Port n) = p.0 in cc))
       each Shutdown r = kept (λ p. (let z : Shutdown ≡ On (Port n) = p.0 in cc))
       each (Timer m) r = kept (λ p. (let z : Timer m ≡ On (Port n) = p.0 in cc))
@@ -147,7 +147,7 @@ module _ (old : TriggerLists) (k : ℕ) where
       room (On (Port m)) h = h
       room (On (Action m)) h = subst (λ (l : ℕ). m < l) (sym (length_written old.actions n (list_at old.actions n ++ k ∷ []))) h
 
-      each : (t : Trigger) (r : ℕ) → Contains (list_of (record old { actions = slice_set old.actions n (list_at old.actions n ++ k ∷ []) }) t) r ↔ (Contains (list_of old t) r ⊎ ((t ≡ On (Action n)) × (r ≡ k)))
+      each : (t : Trigger) (r : ℕ) → Contains (list_of_trigger (record old { actions = slice_set old.actions n (list_at old.actions n ++ k ∷ []) }) t) r ↔ (Contains (list_of_trigger old t) r ⊎ ((t ≡ On (Action n)) × (r ≡ k)))
       each Startup r = kept (λ p. (let z : Startup ≡ On (Action n) = p.0 in cc))
       each Shutdown r = kept (λ p. (let z : Shutdown ≡ On (Action n) = p.0 in cc))
       each (Timer m) r = kept (λ p. (let z : Timer m ≡ On (Action n) = p.0 in cc))

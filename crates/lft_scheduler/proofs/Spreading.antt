@@ -5,7 +5,7 @@ use mathlib.Core.Bool.{true}
 use Rattle.lft_graph.specs.Sets.{Has}
 use Rattle.lft_lists.proofs.Places.{get_there, same_at, contains_at, at_contains}
 use Rattle.lft_scheduler.specs.declared.turn.{phase.Phase.{Phase, TheVariants.{Idle, Waiting, Open}}, seats.Seat.Seat}
-use Rattle.lft_scheduler.specs.inner.Seats.{busy_at, busy, free_at, IsAtRest, IsMirror, AreFree, phases_of}
+use Rattle.lft_scheduler.specs.inner.Seats.{busy_at, busy, free_at, IsAtRest, IsMirror, AreFreeSeats, phases_of}
 use Rattle.lft_scheduler.proofs.{Blocked.{IsBusy, IsFree, SpreadsAlong}, Adding.{times_at, times_back, load_some, load_back}, ToldSeats.busy_waits}
 
 -- some of the short list of r are busy
@@ -97,7 +97,7 @@ module _ (before after : List (List ℕ)) (seats : List Seat) (w : IsAtRest afte
           let v = w.waits r z.0 z.1 in
           (z.0, z.1, omega arith)
 
-module _ (seats : List Seat) (frees : List ℕ) (w : AreFree seats frees) where
+module _ (seats : List Seat) (frees : List ℕ) (w : AreFreeSeats seats frees) where
   pub has_free : (r : ℕ) → r < length seats → Has frees r → IsFree (phases_of seats) (IsHeld seats) r
   has_free r l h =
       let s = get_there seats r l in

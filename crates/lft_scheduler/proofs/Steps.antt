@@ -10,7 +10,7 @@ use Rattle.lft_ir.specs.declared.steps.row.{Row.Row, Step.{Step, TheVariants.{Wr
 use Rattle.lft_ir.specs.Naming.{same_name}
 use Rattle.lft_queue.specs.Pending.{Pending, value_of}
 use Rattle.lft_scheduler.specs.inner.Listeners.{IsArrival, IsWatched}
-use Rattle.lft_scheduler.specs.inner.Events.{IsEarlier, IsWanted, IsPut, IsWatchedName, HasEvents, HasEventsOf, seen_by, IsFedTo, WasWritten, KnowsAgain}
+use Rattle.lft_scheduler.specs.inner.Events.{IsEarlier, IsWanted, IsEventPut, IsWatchedName, HasEvents, HasEventsOf, seen_by, IsFedTo, WasWritten, KnowsAgain}
 use Rattle.lft_scheduler.proofs.{Heard.{heard, unheard, iff_trans, iff_sym}, Written.{origin_at, its_origin, unheard_at, unheard_clash, more_clash}}
 use Rattle.lft_scheduler.proofs.{Carried.{carried, earlier_up}, Fed.{none_there, some_there, among_new}}
 use Rattle.lft_model.specs.Plans.{PlanParts, IsSoundPlan}
@@ -206,7 +206,7 @@ module _ (plan : PlanParts) (t : List Row) (x : Row) (a d : ℕ) (v : Value) (sc
   grown : (k : Tag) → length (events_of plan t k a) ≤ length (events_of plan (t ++ x ∷ []) k a)
   grown k = omega (arith, length-append (filter_map (scheduled k a (min_delay plan.program a)) t) (filter_map (given k a) plan.externals.events), length-append (filter_map (scheduled k a (min_delay plan.program a)) (t ++ x ∷ [])) (filter_map (given k a) plan.externals.events), ap length (filter_map-append (scheduled k a (min_delay plan.program a)) t (x ∷ [])), length-append (filter_map (scheduled k a (min_delay plan.program a)) t) (filter_map (scheduled k a (min_delay plan.program a)) (x ∷ [])))
 
-  module _ (last : Tag) (clash found : Option Tag) (q0 q2 : List Pending) (is : HasEvents plan t x.tag last clash q0) (put : IsPut last clash (after x.tag (min_delay plan.program a + d)) (Action a) v q0 q2 found) where
+  module _ (last : Tag) (clash found : Option Tag) (q0 q2 : List Pending) (is : HasEvents plan t x.tag last clash q0) (put : IsEventPut last clash (after x.tag (min_delay plan.program a + d)) (Action a) v q0 q2 found) where
     one_heard : HasEventsOf plan (λ m. cond (same_name (Action a) m) (t ++ x ∷ []) t) x.tag last found q2
     one_heard = heard plan (λ n. t) (λ m. cond (same_name (Action a) m) (t ++ x ∷ []) t) x.tag last clash found q0 q0 q2 is (Action a) (after x.tag (min_delay plan.program a + d)) v (λ m e. ap (λ (b : Bool). cond b (t ++ x ∷ []) t) e) t (t ++ x ∷ []) refl (ap (λ (b : Bool). cond b (t ++ x ∷ []) t) (name_self (Action a))) (λ k u n. action_at plan (t ++ x ∷ []) t k a (same_events k a (λ z. n (sym z.1))) u) (λ k n. (action_clash plan (t ++ x ∷ []) t k a (same_events k a (λ z. n (sym z.1)))).0) (λ k c. (let l : 2 ≤ length (events_of plan t k a) = c in let m = grown k in omega arith)) (λ k m e. refl) put fresh twice
       where

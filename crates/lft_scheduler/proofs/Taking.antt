@@ -6,7 +6,7 @@ use Rattle.lft_ir.specs.{Parts.Parts, declared.parts.Trigger.TheVariants.Timer}
 use Rattle.lft_lists.proofs.Members.{Mem, mem_contains, contains_mem}
 use Rattle.lft_model.specs.Presence.{Fires}
 use Rattle.lft_scheduler.specs.inner.{Listeners.{IsListener, IsLive}, Turns.TurnParts, Telling.{IsTold, FiresAt}}
-use Rattle.lft_scheduler.specs.inner.Firings.{tag_of_firing, IsFirstOf, AreFirst, IsMoved, how_many_until}
+use Rattle.lft_scheduler.specs.inner.Firings.{tag_of_firing, IsFirstOf, AreFirstFirings, IsMoved, how_many_until}
 use Rattle.lft_scheduler.specs.declared.firings.Firing.{Firing}
 use Rattle.lft_scheduler.proofs.{ToldTurns.{told_none, told_as, told_more}, LedFirings.live_fires, FirstFirings.{first_up_to, first_after}}
 use Rattle.lft_queue.proofs.Tests.{test_before, not_before}
@@ -73,7 +73,7 @@ module _ (program : Parts) (g : Tag) where
     pub all : (n : ℕ) (h : Tag) → IsLive program n → FiresAt program h n → Before g h → (f : Firing) × Contains fs f × (f.timer ≡ n)
     pub only : (f : Firing) → Contains fs f → IsLive program f.timer × (IsFirstOf program (λ h. UpTo g h) f ⊎ IsFirstOf program (λ h. Before g h) f)
 
-  pub none_taken : (fs : List Firing) → AreFirst program (λ h. UpTo g h) fs → AreTaken [] fs
+  pub none_taken : (fs : List Firing) → AreFirstFirings program (λ h. UpTo g h) fs → AreTaken [] fs
   none_taken fs are = record {
     fired = λ n m. absurd m;
     left = λ n live fires. inr (let k = are.all n g live fires (UpTo-refl g) in (k.0, k.1, k.2, first_up_to program (λ h. UpTo g h) k.0 n g (are.only k.0 k.1).1 k.2 fires (UpTo-refl g)));
@@ -118,7 +118,7 @@ module _ (program : Parts) (g : Tag) where
 
   -- where none is left that isn't after the tag, the first ones after it are kept
   module _ (taken : List ℕ) (fs : List Firing) (are : AreTaken taken fs) (over : (f : Firing) → Contains fs f → Before g (tag_of_firing f)) where
-    pub all_taken : AreFirst program (λ h. Before g h) fs
+    pub all_taken : AreFirstFirings program (λ h. Before g h) fs
     all_taken = record { all = are.all; only = λ f c. ((are.only f c).0, go f (over f c) (are.only f c).1) }
       where
         go : (f : Firing) → Before g (tag_of_firing f) → IsFirstOf program (λ h. UpTo g h) f ⊎ IsFirstOf program (λ h. Before g h) f → IsFirstOf program (λ h. Before g h) f

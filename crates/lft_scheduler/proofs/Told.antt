@@ -7,7 +7,7 @@ use Rattle.lft_model.proofs.Places.{slice_get_within}
 use Rattle.lft_model.specs.{Plans.{PlanParts, IsSoundPlan}, Runs.{Ran, by_ends}, OneWorker.IsPending, Recorded.{SoFar, OnlyEndedAnswer}}
 use Rattle.lft_scheduler.specs.declared.turn.phase.Phase.{Phase, TheVariants.{Idle, Waiting, Open}}
 use Rattle.lft_scheduler.specs.declared.open.OpenRun.{OpenRun}
-use Rattle.lft_scheduler.specs.inner.{Turns.{TurnParts, IsReady, IsLeastReady, NoneOpen, NonePending, IsPending as IsBusyThere}, OpenRuns.AreOpen}
+use Rattle.lft_scheduler.specs.inner.{Turns.{TurnParts, IsReady, IsLeastReady, NoRunOpen, NonePending, IsPhasePending as IsBusyThere}, OpenRuns.AreOpen}
 use Rattle.lft_scheduler.specs.inner.{Waits.{Awaits, IsLeastTag, PhaseIs, IsTurnOf}, Agendas.{AgendaParts, IsAgenda, MayFind}}
 use Rattle.lft_scheduler.specs.Starts.{MayStart, MayStartFirst, NoneMayStart, NothingLeft, IsAnyOpen}
 use Rattle.lft_scheduler.proofs.Awaiting.{pending_within, ran_open, any_left}
@@ -59,7 +59,7 @@ module _ (plan : PlanParts) (good : IsSoundPlan plan) (t : List Row) (so_far : S
       go Open e h = e
 
   -- where no run is open, none is open there
-  pub none_open_there : ¬ IsAnyOpen t → NoneOpen turn.phases
+  pub none_open_there : ¬ IsAnyOpen t → NoRunOpen turn.phases
   none_open_there n r e = let h : PhaseIs plan t g r Open = is.phases r Open e in n (ran_open plan good t so_far quiet g r h.0 h.1)
 
   -- where none is pending there, all are idle
@@ -106,7 +106,7 @@ module _ (plan : PlanParts) (t : List Row) (may : MayFind plan t) (a : AgendaPar
   pub finds_blocked : ((r : ℕ) → ¬ IsReady plan.program a.turn.phases r) → IsAnyOpen t → NoneMayStart plan t × IsAnyOpen t
   finds_blocked none o = (none_starts plan may.sound t may.so_far may.quiet a.from a.turn is.current.turn_is (is.current.least (any_left plan may.sound t may.so_far o)) none, o)
 
-  pub finds_nothing : (NoneOpen a.turn.phases → NonePending a.turn.phases) → ¬ IsAnyOpen t → NothingLeft plan t
+  pub finds_nothing : (NoRunOpen a.turn.phases → NonePending a.turn.phases) → ¬ IsAnyOpen t → NothingLeft plan t
   finds_nothing over n h r p =
       let least = is.current.least (h, r, p) in
       none_waits plan may.sound t may.so_far may.quiet a.from a.turn is.current.turn_is (over (none_open_there plan may.sound t may.so_far may.quiet a.from a.turn is.current.turn_is n)) least.awaits

@@ -4,7 +4,7 @@ use native.Mathlib.Decide.{dec_lt}
 use Rattle.lft_tag.specs.declared.Tag.{Tag}
 use Rattle.lft_ir.specs.{Parts.Parts, declared.parts.{Name.Name, Trigger.{Trigger, TheVariants.{Startup, Shutdown, Timer, On}}}}
 use Rattle.lft_queue.specs.Pending.{Pending, value_of}
-use Rattle.lft_scheduler.specs.inner.{Listeners.{IsListener, IsLive}, Turns.{TurnParts, IsPending}}
+use Rattle.lft_scheduler.specs.inner.{Listeners.{IsListener, IsLive}, Turns.{TurnParts, IsPhasePending}}
 use Rattle.lft_scheduler.specs.inner.Telling.{IsTold, FiresAt, OccursBy, TriggeredByQueue, OfFirst}
 use Rattle.lft_scheduler.specs.declared.turn.phase.Phase.{Phase, TheVariants.{Idle, Waiting, Open}}
 use Rattle.lft_lists.proofs.Places.{get_there, get_written, get_unwritten, length_written, get_write_cases, same_at}
@@ -89,18 +89,18 @@ module _ (a b : TurnParts) (r : ℕ) (within : r < length a.phases) (same : b.gr
           go (inr q) = inl (let z : Some Idle ≡ Some x = sym e ∙ q.1 in let y : x ≡ Idle = cc in y)
 
   -- a pending one stays as it is
-  told_pending : IsPending a.phases r → b.phases ≡ a.phases → IsTold (λ k. k ≡ r) a b
+  told_pending : IsPhasePending a.phases r → b.phases ≡ a.phases → IsTold (λ k. k ≡ r) a b
   told_pending busy now = record { graph = same; count = ap length now; kept = λ k x n e. here k ∙ e; all = λ k q e. not_idle busy (ap (λ (i : ℕ). slice_get a.phases i) (sym q) ∙ sym (here k) ∙ e); only = λ k x e f. inl (let z : Some Idle ≡ Some x = sym e ∙ sym (here k) ∙ f in let y : x ≡ Idle = cc in y) }
     where
       here : (k : ℕ) → slice_get b.phases k ≡ slice_get a.phases k
       here k = ap (λ (ps : List Phase). slice_get ps k) now
 
-      not_idle : IsPending a.phases r → slice_get a.phases r ≢ Some Idle
+      not_idle : IsPhasePending a.phases r → slice_get a.phases r ≢ Some Idle
       not_idle (inl q) e = let z : Some Waiting ≡ Some Idle = sym q ∙ e in absurd (cc)
       not_idle (inr q) e = let z : Some Open ≡ Some Idle = sym q ∙ e in absurd (cc)
 
   -- one reaction is told
-  pub told_one : (slice_get a.phases r ≡ Some Idle → b.phases ≡ slice_set a.phases r Waiting) → (IsPending a.phases r → b.phases ≡ a.phases) → IsTold (λ k. k ≡ r) a b
+  pub told_one : (slice_get a.phases r ≡ Some Idle → b.phases ≡ slice_set a.phases r Waiting) → (IsPhasePending a.phases r → b.phases ≡ a.phases) → IsTold (λ k. k ≡ r) a b
   told_one idle pending = let k = get_there a.phases r within in go k.0 k.1
     where
       go : (x : Phase) → slice_get a.phases r ≡ Some x → IsTold (λ k. k ≡ r) a b

@@ -4,7 +4,7 @@ use Rattle.std.proofs.lemmas.{Option.slice_get_within, Bool.cases_eq}
 use mathlib.Core.Bool.{Bool, not}
 use Rattle.lft_lists.proofs.Places.{get_written, get_unwritten, get_write_cases, length_written, same_at}
 use Rattle.lft_scheduler.specs.declared.turn.seats.Seat.{Seat}
-use Rattle.lft_scheduler.specs.inner.Seats.{busy_at, busy, differ, tally, times, load, gain, loss, IsAtRest, IsMoving, IsStacked, IsPushed}
+use Rattle.lft_scheduler.specs.inner.Seats.{busy_at, busy, differ, tally_of_seats, times, load, gain, loss, IsAtRest, IsMoving, IsStacked, IsPushed}
 use Rattle.lft_scheduler.proofs.Adding.{not_self, differ_same, differ_not, gain_none, loss_none, tally_written, tally_some, tally_same, tally_small, load_flip, load_same}
 
 same_busy : (s y : Seat) → y.phase ≡ s.phase → y.waits ≡ s.waits → busy y ≡ busy s
@@ -72,7 +72,7 @@ module _ (up : Bool) (after : List (List ℕ)) (seats : List Seat) (stack : List
       at (inl b) = inl b
       at (inr t) = inr (t.0, (let l : t.0 < top + 1 = t.1 in let n : t.0 ≢ top = λ j. c.0 (same_at stack t.0 top r a t.2 es j) in omega arith), t.2)
 
-  pub popped_fewer : tally (λ x. differ up x.counted) (slice_set seats a y) + 1 ≡ tally (λ x. differ up x.counted) seats
+  pub popped_fewer : tally_of_seats (λ x. differ up x.counted) (slice_set seats a y) + 1 ≡ tally_of_seats (λ x. differ up x.counted) seats
   popped_fewer =
       let t = tally_written (λ x. differ up x.counted) seats a s y e in
       let m : differ up s.counted ≡ 1 = ap (differ up) was ∙ differ_not up in

@@ -8,14 +8,14 @@ abbrev pub MayAll : PlanParts → ℕ → List Step → Type 0
 MayAll plan r steps = (k : ℕ) (s : Step) → slice_get steps k ≡ Some s → MayAnswer plan r s
 
 -- the step schedules with an extra delay past 10^18
-abbrev pub IsLong : Step → Type 0
-IsLong (Schedule n v d) = 1000000000000000000 < d
-IsLong (Write n v) = ⊥
-IsLong (Read n v) = ⊥
-IsLong Start = ⊥
-IsLong Stop = ⊥
-IsLong End = ⊥
+abbrev pub IsLongDelay : Step → Type 0
+IsLongDelay (Schedule n v d) = 1000000000000000000 < d
+IsLongDelay (Write n v) = ⊥
+IsLongDelay (Read n v) = ⊥
+IsLongDelay Start = ⊥
+IsLongDelay Stop = ⊥
+IsLongDelay End = ⊥
 
 -- one of the steps schedules with an extra delay past 10^18
 abbrev pub HasLongDelay : List Step → Type 0
-HasLongDelay steps = (k : ℕ) × (s : Step) × (slice_get steps k ≡ Some s) × IsLong s
+HasLongDelay steps = (k : ℕ) × (s : Step) × (slice_get steps k ≡ Some s) × IsLongDelay s

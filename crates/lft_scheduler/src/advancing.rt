@@ -4,7 +4,7 @@ ghost use Rattle.std.specs.Prelude.{◌≡◌, ◌≤◌, ◌<◌, length, Some,
 ghost use Rattle.lft_tag.specs.{declared.Tag.Tag as TagOf, Tags.{Before, UpTo}};
 ghost use Rattle.lft_ir.specs.{Parts.Parts, declared.steps.row.Row.Row as RowOf};
 ghost use Rattle.lft_queue.specs.Pending.{Pending};
-ghost use Rattle.lft_scheduler.specs.inner.{Listeners.AreListeners, Waits.{IsBetween, IsCovered}, Telling.TriggeredByQueue, Firings.AreFirst};
+ghost use Rattle.lft_scheduler.specs.inner.{Listeners.AreListeners, Waits.{IsBetween, IsFoundUpTo}, Telling.TriggeredByQueue, Firings.AreFirstFirings};
 ghost use Rattle.lft_scheduler.specs.inner.Agendas.{MayAdvance, IsReached, IsCurrent};
 
 use crate::firings::Firings;
@@ -19,8 +19,8 @@ use lft_tag::Tag;
 fn sooner(least: Option<Tag>, from: Tag, stop: Tag, other: Option<Tag>) -> Option<Tag>
     requires between { IfSome least (IsBetween from stop) }
     ensures between { IfSome result (IsBetween from stop) }
-    ensures covers { (g : TagOf) → other ≡ Some g → IsBetween from stop g → IsCovered result g }
-    ensures more { (h : TagOf) → IsCovered least h → IsCovered result h }
+    ensures covers { (g : TagOf) → other ≡ Some g → IsBetween from stop g → IsFoundUpTo result g }
+    ensures more { (h : TagOf) → IsFoundUpTo least h → IsFoundUpTo result h }
 {
     let Some(tag) = other else {
         return least;
@@ -46,7 +46,7 @@ fn sooner(least: Option<Tag>, from: Tag, stop: Tag, other: Option<Tag>) -> Optio
 fn next_tag(firings: &Firings, queue: &Queue, from: Tag, stop: Tag) -> Option<Tag>
     requires later { (e : Pending) → Contains queue.now e → Before from e.tag }
     ensures between { IfSome result (IsBetween from stop) }
-    ensures covers { (program : Parts) → AreFirst program (λ h. Before from h) firings.now → (h : TagOf) (r : _) → TriggeredByQueue program queue.now stop h r → Before from h → UpTo h stop → IsCovered result h }
+    ensures covers { (program : Parts) → AreFirstFirings program (λ h. Before from h) firings.now → (h : TagOf) (r : _) → TriggeredByQueue program queue.now stop h r → Before from h → UpTo h stop → IsFoundUpTo result h }
 {
     let by_stop = sooner(None, from, stop, Some(stop));
     let by_events = sooner(by_stop, from, stop, queue.first_tag());
@@ -77,9 +77,9 @@ pub(crate) fn advance(
     requires phases { length turn.old.phases ≡ length plan.now.program.reactions }
     requires from { from.time ≤ 1000000000000000000 }
     requires stop { stop.time ≤ 1000000000000000000 }
-    requires firings { AreFirst plan.now.program (λ h. Before from h) firings.old }
+    requires firings { AreFirstFirings plan.now.program (λ h. Before from h) firings.old }
     ensures time { result.time ≤ 1000000000000000000 }
-    ensures firings { AreFirst plan.now.program (λ h. Before result h) firings.new }
+    ensures firings { AreFirstFirings plan.now.program (λ h. Before result h) firings.new }
     ensures phases { length turn.new.phases ≡ length turn.old.phases }
     ensures current { (t : List RowOf) → MayAdvance plan.now t stop → IsReached plan.now t from stop turn.old queue.old → IsCurrent plan.now t result stop turn.new queue.new }
 {

@@ -3,7 +3,7 @@
 ghost use Rattle.std.specs.Prelude.{◌≡◌, ◌≤◌, ◌<◌, [], length, IfOk, IfSome, IfNone, Contains};
 ghost use Rattle.lft_tag.specs.Tags.{Before, UpTo};
 ghost use Rattle.lft_model.specs.Presence.{Fires};
-ghost use Rattle.lft_scheduler.specs.inner.{Listeners.AreListeners, Firings.{tag_of_firing, IsFirstFiring, AreFirst, IsMoved}};
+ghost use Rattle.lft_scheduler.specs.inner.{Listeners.AreListeners, Firings.{tag_of_firing, IsFirstFiring, AreFirstFirings, IsMoved}};
 ghost use Rattle.lft_scheduler.specs.declared.firings.Firing.{Firing as FiringOf};
 
 use crate::listeners::Listeners;
@@ -85,7 +85,7 @@ impl Firings {
         program: &Program,
     ) -> Result<Firings, NoMemory>
         requires { AreListeners program.now listeners.now }
-        ensures { IfOk result (AreFirst program.now (λ h. UpTo (record { time = 0; micro = 0 }) h)) }
+        ensures { IfOk result (AreFirstFirings program.now (λ h. UpTo (record { time = 0; micro = 0 }) h)) }
     {
         // Asked for what every program keeps: these are timers of the program.
         program.keeps();

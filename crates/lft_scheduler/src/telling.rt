@@ -3,7 +3,7 @@
 ghost use Rattle.std.specs.Prelude.{◌≡◌, ◌≤◌, length, IsSome, IsTrue};
 ghost use Rattle.lft_tag.specs.Tags.{Before, UpTo};
 ghost use Rattle.lft_ir.specs.declared.parts.Name.{Name as NameOf};
-ghost use Rattle.lft_scheduler.specs.inner.{Listeners.{IsListener, AreListeners}, Telling.{IsTold, FiresAt, TriggeredByQueue}, Firings.AreFirst};
+ghost use Rattle.lft_scheduler.specs.inner.{Listeners.{IsListener, AreListeners}, Telling.{IsTold, FiresAt, TriggeredByQueue}, Firings.AreFirstFirings};
 ghost use Rattle.lft_queue.specs.Pending.{value_of};
 
 use crate::firings::Firings;
@@ -41,9 +41,9 @@ fn tell_timers(turn: &mut Turn, firings: &mut Firings, listeners: &Listeners, pl
     requires listeners { AreListeners plan.now.program listeners.now }
     requires phases { length turn.old.phases ≡ length plan.now.program.reactions }
     requires time { tag.time ≤ 1000000000000000000 }
-    requires firings { AreFirst plan.now.program (λ h. UpTo tag h) firings.old }
+    requires firings { AreFirstFirings plan.now.program (λ h. UpTo tag h) firings.old }
     ensures told { IsTold (λ r. (n : _) × FiresAt plan.now.program tag n × IsListener plan.now.program (Trigger.Timer n) r) turn.old turn.new }
-    ensures firings { AreFirst plan.now.program (λ h. Before tag h) firings.new }
+    ensures firings { AreFirstFirings plan.now.program (λ h. Before tag h) firings.new }
 {
     // Asked for what every plan keeps: it is sound, so that these are timers of the program.
     plan.keeps();
@@ -77,9 +77,9 @@ pub(crate) fn tell(
     requires listeners { AreListeners plan.now.program listeners.now }
     requires phases { length turn.old.phases ≡ length plan.now.program.reactions }
     requires time { tag.time ≤ 1000000000000000000 }
-    requires firings { AreFirst plan.now.program (λ h. UpTo tag h) firings.old }
+    requires firings { AreFirstFirings plan.now.program (λ h. UpTo tag h) firings.old }
     ensures told { IsTold (TriggeredByQueue plan.now.program queue.now stop tag) turn.old turn.new }
-    ensures firings { AreFirst plan.now.program (λ h. Before tag h) firings.new }
+    ensures firings { AreFirstFirings plan.now.program (λ h. Before tag h) firings.new }
 {
     let is_first = tag.is_same(Tag { time: 0, micro: 0 });
     tell_of(turn, listeners, plan, Trigger::Startup, is_first);

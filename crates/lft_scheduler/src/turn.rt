@@ -4,7 +4,7 @@ ghost use Rattle.std.specs.Prelude.{◌≡◌, ℕ, false, ◌<◌, ◌≤◌, l
 ghost use Rattle.lft_ir.specs.Parts.{Parts};
 ghost use Rattle.lft_graph.specs.Graph.{IsGraphOf};
 ghost use Rattle.lft_scheduler.specs.declared.turn.phase.Phase.TheVariants.{Idle, Waiting, Open};
-ghost use Rattle.lft_scheduler.specs.inner.Turns.{IsPending, IsReady, IsLeastReady, NoneOpen, NonePending};
+ghost use Rattle.lft_scheduler.specs.inner.Turns.{IsPhasePending, IsReady, IsLeastReady, NoRunOpen, NonePending};
 
 mod frees;
 mod mirror;
@@ -116,7 +116,7 @@ impl Turn {
         requires { reaction < length self.old.phases }
         ensures graph { self.new.graph ≡ self.old.graph }
         ensures idle { slice_get self.old.phases reaction ≡ Some Idle → self.new.phases ≡ slice_set self.old.phases reaction Waiting }
-        ensures pending { IsPending self.old.phases reaction → self.new.phases ≡ self.old.phases }
+        ensures pending { IsPhasePending self.old.phases reaction → self.new.phases ≡ self.old.phases }
     {
         if !is_pending(self.phase(reaction)) {
             self.change(reaction, Phase::Waiting);
@@ -129,7 +129,7 @@ impl Turn {
     pub(crate) fn first(&self) -> Option<u32>
         ensures ready { (program : Parts) (r : ℕ) → IsGraphOf program self.now.graph → result ≡ Some r → IsLeastReady program self.now.phases r }
         ensures none { (program : Parts) (r : ℕ) → IsGraphOf program self.now.graph → result ≡ None → ¬ IsReady program self.now.phases r }
-        ensures over { (program : Parts) → IsGraphOf program self.now.graph → result ≡ None → NoneOpen self.now.phases → NonePending self.now.phases }
+        ensures over { (program : Parts) → IsGraphOf program self.now.graph → result ≡ None → NoRunOpen self.now.phases → NonePending self.now.phases }
     {
         least_below(&self.frees, self.seats.len())
     }

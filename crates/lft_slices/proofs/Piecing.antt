@@ -12,7 +12,7 @@ use Rattle.lft_lists.proofs.Members.{mem_get, get_mem, mem_contains, contains_me
 use Rattle.lft_model.specs.{Plans.PlanParts, Runs.{start_row, end_row, Ran}}
 use Rattle.lft_model.proofs.{Blocks.put_right, Ended.row_is, Legality.{four, one_start, one_end, ended, ran_at}, Places.slice_get_within}
 use Rattle.lft_rows.specs.{declared.slices.Slice.Slice, inner.Slices.IsSlice, Slices.AreTags}
-use Rattle.lft_slices.specs.{declared.pieces.{Piece.Piece, Pieces.Pieces}, Pieces.{IsPiece, AreRuns, IsTagAt}}
+use Rattle.lft_slices.specs.{declared.pieces.{Piece.Piece, Pieces.Pieces}, Pieces.{IsRunPiece, AreRuns, IsTagAt}}
 use Rattle.lft_slices.specs.inner.Pieces.{AreEndsTo, AreStartsTo, AreRunsIn, ArePiecesTo, ArePieces}
 use Rattle.lft_check.specs.inner.ByTag.Slices.{IsCuttable, AreSlices}
 
@@ -103,7 +103,7 @@ module _ (plan : PlanParts) (t : List Row) (rules : IsCuttable (record { plan = 
         go (no n) (inr k) = absurd (n (sym (ap (λ (z : Row). z.reaction) k.1)))
 
     -- the starts
-    later : (xs : List Piece) → AreStartsTo t s i xs → (k : ℕ) (x : Piece) → slice_get xs k ≡ Some x → IsPiece t s.tag x × (x.start < i + 1)
+    later : (xs : List Piece) → AreStartsTo t s i xs → (k : ℕ) (x : Piece) → slice_get xs k ≡ Some x → IsRunPiece t s.tag x × (x.start < i + 1)
     later xs so_far k x e = let p = so_far.is_run k x e in let l : x.start < i = p.1 in (p.0, omega arith)
 
     pub starts_stay : (xs : List Piece) → ¬ (row.step ≡ Start) → AreStartsTo t s i xs → AreStartsTo t s (i + 1) xs
@@ -120,7 +120,7 @@ module _ (plan : PlanParts) (t : List Row) (rules : IsCuttable (record { plan = 
       starts : slice_get t i ≡ Some (start_row row.worker s.tag row.reaction)
       starts = as_step Start begins
 
-      is_piece : IsPiece t s.tag piece
+      is_piece : IsRunPiece t s.tag piece
       unfolding piece
       is_piece =
           let x : (k : ℕ) × (i < k) × (slice_get t k ≡ Some (end_row row.worker s.tag row.reaction)) = ended plan t rules.kept i row.worker s.tag row.reaction starts in
@@ -133,9 +133,9 @@ module _ (plan : PlanParts) (t : List Row) (rules : IsCuttable (record { plan = 
       unfolding piece
       starts_more xs so_far = record { is_run = λ k x q. run x (get_push_cases xs piece k x q); each = λ j w r l m q. each j w r l q (last_or_before j (start_row w s.tag r) m q); apart = λ j k x y p q same. apart x y same (get_push_cases xs piece j x p) (get_push_cases xs piece k y q) }
         where
-          run : (x : Piece) → {k : ℕ} → (slice_get xs k ≡ Some x) ⊎ ((k ≡ length xs) × (piece ≡ x)) → IsPiece t s.tag x × (x.start < i + 1)
+          run : (x : Piece) → {k : ℕ} → (slice_get xs k ≡ Some x) ⊎ ((k ≡ length xs) × (piece ≡ x)) → IsRunPiece t s.tag x × (x.start < i + 1)
           run x {k} (inl q) = later xs so_far k x q
-          run x {k} (inr q) = subst (λ (z : Piece). IsPiece t s.tag z × (z.start < i + 1)) q.1 (is_piece, omega arith)
+          run x {k} (inr q) = subst (λ (z : Piece). IsRunPiece t s.tag z × (z.start < i + 1)) q.1 (is_piece, omega arith)
 
           each : (j w r : ℕ) → s.first ≤ j → slice_get t j ≡ Some (start_row w s.tag r) → (j < i) ⊎ ((j ≡ i) × (row ≡ start_row w s.tag r)) → (k : ℕ) × (x : Piece) × (slice_get (xs ++ piece ∷ []) k ≡ Some x) × (x.reaction ≡ r)
           each j w r l q (inl k) = let y = so_far.each j w r l k q in (y.0, y.1, get_push xs piece y.0 y.1 y.2, y.3)

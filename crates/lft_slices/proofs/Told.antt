@@ -4,14 +4,14 @@ use Rattle.lft_tag.specs.declared.Tag.{Tag}
 use Rattle.lft_ir.specs.{declared.steps.row.{Row.Row, Step.TheVariants.Start}, Steps.Fits.RowsFit}
 use Rattle.lft_model.{specs.{Plans.PlanParts, Runs.{start_row, reads_at, answer_at}}, proofs.Places.slice_get_within}
 use Rattle.lft_rows.specs.{Answers.Answers.KeepsRows, Presence.Traces.TraceParts}
-use Rattle.lft_slices.specs.{declared.pieces.Piece.Piece, Pieces.IsPiece}
+use Rattle.lft_slices.specs.{declared.pieces.Piece.Piece, Pieces.IsRunPiece}
 use Rattle.lft_check.specs.inner.ByTag.Slices.{IsCuttable}
 
 module _ (cut : TraceParts) (rows : List Row) (are_rows : rows ≡ cut.rows) where
-  pub starts_within : (g : Tag) (x : Piece) → IsPiece cut.rows g x → x.start < length rows
+  pub starts_within : (g : Tag) (x : Piece) → IsRunPiece cut.rows g x → x.start < length rows
   starts_within g x is_piece = subst (λ (ts : List Row). x.start < length ts) (sym are_rows) (slice_get_within cut.rows x.start (start_row is_piece.worker g x.reaction) is_piece.starts)
 
-  module _ (x : Piece) (start : Row) (is_start : slice_get rows x.start ≡ Some start) (g : Tag) (is_piece : IsPiece cut.rows g x) where
+  module _ (x : Piece) (start : Row) (is_start : slice_get rows x.start ≡ Some start) (g : Tag) (is_piece : IsRunPiece cut.rows g x) where
     start_is : start ≡ start_row is_piece.worker g x.reaction
     start_is = let z : Some start ≡ Some (start_row is_piece.worker g x.reaction) = sym is_start ∙ ap (λ (ts : List Row). slice_get ts x.start) are_rows ∙ is_piece.starts in cc
 

@@ -3,7 +3,7 @@
 ghost use Rattle.std.specs.Prelude.{◌≡◌, IfOk};
 ghost use Rattle.lft_tag.specs.declared.Tag.{Tag as TheTag};
 ghost use Rattle.lft_model.specs.Runs.{reads_at, answer_at};
-ghost use Rattle.lft_slices.specs.Pieces.{IsPiece};
+ghost use Rattle.lft_slices.specs.Pieces.{IsRunPiece};
 
 use crate::cuts::Cut;
 use crate::pieces::Piece;
@@ -17,8 +17,8 @@ impl<'a> Cut<'a> {
     /// What the run read. It looks at the rows from the start row of the run to its end row once, and
     /// then at the run's own steps once for each input.
     pub fn reads(&self, alloc: Global, piece: Piece) -> Result<Reads, NoMemory>
-        requires { (g : TheTag) × IsPiece self.now.rows g piece }
-        ensures { (g : TheTag) → IsPiece self.now.rows g piece → IfOk result (λ reads. reads ≡ reads_at self.now.plan self.now.rows g piece.reaction) }
+        requires { (g : TheTag) × IsRunPiece self.now.rows g piece }
+        ensures { (g : TheTag) → IsRunPiece self.now.rows g piece → IfOk result (λ reads. reads ≡ reads_at self.now.plan self.now.rows g piece.reaction) }
     {
         let rows = self.sliced().rows();
         let place = piece.start as usize;
@@ -29,8 +29,8 @@ impl<'a> Cut<'a> {
     /// What the run answered. It looks at the rows from the start row of the run to its end row once,
     /// and then at the run's own steps once for each effect.
     pub fn answer(&self, alloc: Global, piece: Piece) -> Result<Answer, NoMemory>
-        requires { (g : TheTag) × IsPiece self.now.rows g piece }
-        ensures { (g : TheTag) → IsPiece self.now.rows g piece → IfOk result (λ answer. answer ≡ answer_at self.now.plan self.now.rows g piece.reaction) }
+        requires { (g : TheTag) × IsRunPiece self.now.rows g piece }
+        ensures { (g : TheTag) → IsRunPiece self.now.rows g piece → IfOk result (λ answer. answer ≡ answer_at self.now.plan self.now.rows g piece.reaction) }
     {
         let rows = self.sliced().rows();
         let place = piece.start as usize;

@@ -7,11 +7,11 @@ use Rattle.lft_ir.specs.declared.steps.row.Row.{Row}
 use Rattle.lft_model.{specs.Runs.{start_row, Ran}, proofs.Places.slice_get_within}
 use Rattle.lft_rows.specs.Slices.{begins, runs_in, AreTags}
 use Rattle.lft_queue.specs.Coming.AtTag.{AreBefore, AreAt}
-use Rattle.lft_stream.specs.inner.Counted.{IsCounted}
+use Rattle.lft_stream.specs.inner.Counted.{AreRunsCounted}
 
 -- a later tag with a run adds its runs, and one tag
 abbrev pub CountLaw : Type 0
-CountLaw = (d u : List Row) (g : Tag) (r runs tags : ℕ) → AreBefore d g → AreAt u g → Ran u g r → IsCounted d runs tags → IsCounted (d ++ u) (runs + runs_in u) (tags + 1)
+CountLaw = (d u : List Row) (g : Tag) (r runs tags : ℕ) → AreBefore d g → AreAt u g → Ran u g r → AreRunsCounted d runs tags → AreRunsCounted (d ++ u) (runs + runs_in u) (tags + 1)
 
 count_append : {X : Type 0} (p : X → Bool) (xs ys : List X) → count_by p (xs ++ ys) ≡ count_by p xs + count_by p ys
 count_append p xs ys = sum_by-append (λ x. cond (p x) 1 0) xs ys

@@ -15,17 +15,18 @@ use Rattle.lft_model.proofs.Stops.{stop_append}
 use Rattle.lft_rows.specs.{inner.{Firsts.FirstRow, Slices.IsSlice}, declared.slices.Slice.Slice, Slices.runs_in, Accepted.IsAccepted}
 use Rattle.lft_stream.specs.declared.stream.Stream.{Stream}
 use Rattle.lft_stream.specs.inner.{Settled.IsRightBehind, Owed.MeetNowhere, StartTags.AreStartTags, Dues.{AreDues, NoneOwed}}
-use Rattle.lft_stream.specs.inner.{Kept.{KeepRules, IsLater, AreUpTo, IsOfRow, HaveCome, state_of, IsStreamOf, IsAtHand, IsJudged}, Streams.{IsStream, IsGrown}}
+use Rattle.lft_stream.specs.inner.Kept.{KeepRules, IsLater, AreUpToLast, IsOfRow, HaveCome, state_of, IsStreamOf, IsAtHand, IsJudged}
+use Rattle.lft_stream.specs.inner.Streams.{IsStream, IsGrown}
 use Rattle.lft_stream.specs.Kept.{low_of}
 use Rattle.lft_stream.proofs.{Before.ran_whole, Lanes.{held_append, held_first}, Lone.{unread_met, still_alone}, Owing.{due_law, ran_grows}}
 use Rattle.lft_stream.proofs.{Parting.{rows_of, are_at, ran_part, ran_of, steps_part, up_to_end, part_kept}, Stopping.stop_law, Ruling.rows_law}
 use Rattle.lft_stream.proofs.{Streaming.{stream_law, move_law}, Showing.shows_law}
 use Rattle.lft_queue.specs.inner.Reading.{is_read}
-use Rattle.lft_queue.specs.inner.Coming.{AtOnce.{is_undelayed, origin_of, HasEvents, IsAwaited, AreHeard}, Channels.{AreReadChannels, caused_by}}
-use Rattle.lft_queue.specs.inner.Coming.{Unread.{AreUnread, AreFree}, Listeners.{list_of, AreListeners, AreStarted, IsUnheard}, Listens.Listens}
+use Rattle.lft_queue.specs.inner.Coming.{AtOnce.{is_undelayed, origin_of, MayHaveEvents, IsAwaited, AreHeard}, Channels.{AreReadChannels, caused_by}}
+use Rattle.lft_queue.specs.inner.Coming.{Unread.{AreUnread, AreFree}, Listeners.{list_of, AreNameListeners, AreStarted, IsUnheard}, Listens.Listens}
 use Rattle.lft_queue.specs.inner.Coming.Lanes.{held, first_events, IsMetAt, LaneGoesOn}
 use Rattle.lft_queue.specs.inner.Coming.{Coming.{to_come, AreTaken, IsClear, IsNoLater, IsReached, AreOver, AreComing}, Shown.{IsInLane, last_write}}
-use Rattle.lft_queue.specs.inner.Coming.Writes.{AreEarlier}
+use Rattle.lft_queue.specs.inner.Coming.Writes.{AreEarlierWrites}
 use Rattle.lft_queue.specs.{Coming.AtTag.{AreBefore, AreAt}, declared.coming.{coming.Coming.Coming, listeners.NameListeners.NameListeners}, Pending.value_of}
 use Rattle.lft_queue.proofs.ComingLemmas.AtOnce.{undelayed_way, delayed_way, origin_is, heard_there}
 use Rattle.lft_queue.proofs.ComingLemmas.{Carrying.{carried_is, one_held, held_one, none_after, none_now, at_once_held}, Writing.earlier_on, Clearing.clear_up}
@@ -41,12 +42,12 @@ listened_way plan good p r l e =
     subst (λ (o : ℕ). Origin plan.program p o []) (sym own) (subst (λ (ds : List ℕ). Origin plan.program p x.0.origin ds) none kept.1)
 
 -- a name that triggers something has a list
-listed_there : (plan : PlanParts) → IsSound plan.program → (listeners : NameListeners) → AreListeners plan listeners → (n : Name) (r : ℕ) → Listens plan r (On n) → (list : List ℕ) × (list_of listeners n ≡ Some list)
+listed_there : (plan : PlanParts) → IsSound plan.program → (listeners : NameListeners) → AreNameListeners plan listeners → (n : Name) (r : ℕ) → Listens plan r (On n) → (list : List ℕ) × (list_of listeners n ≡ Some list)
 listed_there plan good listeners are (Port p) r l = get_there listeners.ports p (let a : p < length plan.program.ports = (good.exist r l.reaction l.is_reaction).triggers (On (Port p)) l.is_trigger in let f = are.ports in omega arith)
 listed_there plan good listeners are (Action a) r l = get_there listeners.actions a (let b : a < length plan.program.actions = (good.exist r l.reaction l.is_reaction).triggers (On (Action a)) l.is_trigger in let f = are.actions in omega arith)
 
 -- of a name with events, the list has each reaction that it triggers
-listener_of : (plan : PlanParts) (listeners : NameListeners) → AreListeners plan listeners → (n : Name) → HasEvents plan.program n → (r : ℕ) (list : List ℕ) → Listens plan r (On n) → list_of listeners n ≡ Some list → Contains list r
+listener_of : (plan : PlanParts) (listeners : NameListeners) → AreNameListeners plan listeners → (n : Name) → MayHaveEvents plan.program n → (r : ℕ) (list : List ℕ) → Listens plan r (On n) → list_of listeners n ≡ Some list → Contains list r
 listener_of plan listeners are n has r list l e = are.each n r list l (ap (λ (m : Name). list_of listeners m) (heard_there plan.program n has) ∙ e)
 
 -- the first events are those that are to come first
@@ -55,10 +56,10 @@ first_to_come plan most (Port p) h = refl
 first_to_come plan most (Action a) h = held_first plan a h ∙ sym (append-nil (filter_map (given h a) plan.externals.events))
 
 -- an event of a name that triggers nothing is met
-unheard_met : (plan : PlanParts) (t : List Row) (h : Tag) (n : Name) (lane : List (Tag × Value)) (listeners : NameListeners) → AreListeners plan listeners → ((p : ℕ) → n ≡ Port p → is_undelayed plan.program p ≡ true → held lane h ≡ []) → length (held lane h) < 2 → ((v : Value) → Contains (held lane h) v → IsUnheard listeners n) → IsMetAt plan t n h lane
+unheard_met : (plan : PlanParts) (t : List Row) (h : Tag) (n : Name) (lane : List (Tag × Value)) (listeners : NameListeners) → AreNameListeners plan listeners → ((p : ℕ) → n ≡ Port p → is_undelayed plan.program p ≡ true → held lane h ≡ []) → length (held lane h) < 2 → ((v : Value) → Contains (held lane h) v → IsUnheard listeners n) → IsMetAt plan t n h lane
 unheard_met plan t h n lane listeners are none alone unheard = record { alone = alone; met = λ v k r l. go n none (unheard v k) v k r l }
   where
-    silent : (m : Name) → HasEvents plan.program m → IsUnheard listeners m → (r : ℕ) → Listens plan r (On m) → Ran t h r
+    silent : (m : Name) → MayHaveEvents plan.program m → IsUnheard listeners m → (r : ℕ) → Listens plan r (On m) → Ran t h r
     silent m has un r l = absurd (contains_mem r [] (listener_of plan listeners are m has r [] l un))
 
     port : (p : ℕ) (b : Bool) → is_undelayed plan.program p ≡ b → (is_undelayed plan.program p ≡ true → held lane h ≡ []) → IsUnheard listeners (Port p) → (v : Value) → Contains (held lane h) v → (r : ℕ) → Listens plan r (On (Port p)) → Ran t h r
@@ -86,7 +87,7 @@ next_up : (g h : Tag) → Before g h → UpTo (after g 0) h
 next_up g h (inl l) = inl l
 next_up g h (inr p) = let l : g.micro < h.micro = p.1 in inr (p.0, omega arith)
 
-pub begins_kept : (plan : PlanParts) (s : Stream) (most : ℕ) → s.stop ≡ plan.externals.stop → s.tag ≡ None → s.runs ≡ 0 → s.tags ≡ 0 → AreDues plan [] s.dues → AreStartTags plan.program [] s.starts → ((g : Tag) → AreEarlier plan.program g s.writes) → AreListeners plan s.listeners → AreReadChannels plan.program s.channels → s.coming ≡ record { queue = []; most = most; next = 0; clash = None } → AreUnread plan.program [] s.unread → IsStreamOf plan [] s
+pub begins_kept : (plan : PlanParts) (s : Stream) (most : ℕ) → s.stop ≡ plan.externals.stop → s.tag ≡ None → s.runs ≡ 0 → s.tags ≡ 0 → AreDues plan [] s.dues → AreStartTags plan.program [] s.starts → ((g : Tag) → AreEarlierWrites plan.program g s.writes) → AreNameListeners plan s.listeners → AreReadChannels plan.program s.channels → s.coming ≡ record { queue = []; most = most; next = 0; clash = None } → AreUnread plan.program [] s.unread → IsStreamOf plan [] s
 begins_kept plan s most stops none runs tags dues starts writes listeners channels begins unread = record {
   lanes = first_events plan;
   none = λ p h e up. refl;
@@ -149,7 +150,7 @@ module _ (plan : PlanParts) (d u : List Row) (g : Tag) (old : Stream) (is : IsSt
   pub before : AreBefore d g
   before i x e = go old.tag is.up_to later
     where
-      go : (last : Option Tag) → AreUpTo d last → IsLater last g → Before x.tag g
+      go : (last : Option Tag) → AreUpToLast d last → IsLater last g → Before x.tag g
       go None none l = absurd (let a : None ≡ Some x = ap (λ (t : List Row). slice_get t i) (sym none) ∙ e in cc)
       go (Some h) up l = UpTo-Before x.tag h g (up i x e) l
 
@@ -191,7 +192,7 @@ module _ (plan : PlanParts) (d u : List Row) (g : Tag) (old : Stream) (is : IsSt
     there : IsStream plan d (state_of is.lanes g old)
     there = move_law plan d (state_of is.lanes (low_of old.tag) old) (state_of is.lanes g old) is.state (record { lanes = goes_up; dues = refl; runs = refl; tags = refl })
 
-    pub shows : (n : Name) → HasEvents plan.program n → IsAwaited plan.program n → Shows plan (d ++ u) g n (value_of g n c.queue)
+    pub shows : (n : Name) → MayHaveEvents plan.program n → IsAwaited plan.program n → Shows plan (d ++ u) g n (value_of g n c.queue)
     shows (Action a) has waited = (shows_law plan).action d u g g a (is.lanes (Action a)) (value_of g (Action a) c.queue) before at (UpTo-refl g) (there.actions a) (in_lane (is.lanes (Action a)) g (value_of g (Action a) c.queue) (in_queue (Action a) waited))
     shows (Port p) has waited =
         let way = delayed_way plan.program good p has in
@@ -202,17 +203,17 @@ module _ (plan : PlanParts) (d u : List Row) (g : Tag) (old : Stream) (is : IsSt
     lanes_at n = is.lanes n ++ caused_by plan u g n
 
     -- what the rows cause for a name with events is later
-    none_yet : (n : Name) → HasEvents plan.program n → held (caused_by plan u g n) g ≡ []
+    none_yet : (n : Name) → MayHaveEvents plan.program n → held (caused_by plan u g n) g ≡ []
     none_yet (Port p) has = none_now plan.program good u g p has
     none_yet (Action a) has = none_at plan u g g (Action a) at (UpTo-refl g)
 
     module _ (heard : AreHeard plan (d ++ u) u g) (met : (n : Name) → IsSome (value_of g n c.queue) → AreStarted (d ++ u) g old.listeners n) where
       -- what was to come at the tag is what is there
-      at_once : (n : Name) → HasEvents plan.program n → held (lanes_at n) g ≡ held (is.lanes n) g
+      at_once : (n : Name) → MayHaveEvents plan.program n → held (lanes_at n) g ≡ held (is.lanes n) g
       at_once n has = held_append (is.lanes n) (caused_by plan u g n) g ∙ ap (λ (vs : List Value). held (is.lanes n) g ++ vs) (none_yet n has) ∙ append-nil (held (is.lanes n) g)
 
       -- the event at the tag is met
-      event_met : (n : Name) → HasEvents plan.program n → IsAwaited plan.program n → IsMetAt plan (d ++ u) n g (lanes_at n)
+      event_met : (n : Name) → MayHaveEvents plan.program n → IsAwaited plan.program n → IsMetAt plan (d ++ u) n g (lanes_at n)
       event_met n has waited = record { alone = rw own (few_of (value_of g n c.queue)); met = λ v k r l. ran v (item_of (value_of g n c.queue) v (subst (λ (vs : List Value). Contains vs v) own k)) r l }
         where
           own : held (lanes_at n) g ≡ option_to_list (value_of g n c.queue)
@@ -272,7 +273,7 @@ module _ (plan : PlanParts) (d u : List Row) (g : Tag) (old : Stream) (is : IsSt
           stands = move_law plan (d ++ u) (state_of lanes_at g new) (state_of lanes_at (after g 0) new) ((stream_law plan).grows d u g first.reaction (state_of is.lanes g old) (state_of lanes_at g new) there right some_ran grown) (record { lanes = goes_past; dues = refl; runs = refl; tags = refl })
 
           -- the state over the rows of a later tag
-          pub grows_kept : new.stop ≡ earliest old.stop (requests u) → new.tag ≡ Some g → AreStartTags plan.program (d ++ u) new.starts → AreEarlier plan.program (after g 0) new.writes → AreListeners plan new.listeners → AreReadChannels plan.program new.channels → AreUnread plan.program (d ++ u) new.unread → ((h : Tag) → IsClear new.coming.clash h → AreFree plan.program d u g h) → IsNoLater c.clash new.coming.clash → ((h : Tag) (n : Name) → IsAwaited plan.program n → Before g h → UpTo h new.stop → IsClear new.coming.clash h → to_come plan.externals.events new.coming h n ≡ to_come plan.externals.events c h n ++ held (caused_by plan u g n) h) → new.coming.next ≡ c.next → IsStreamOf plan (d ++ u) new
+          pub grows_kept : new.stop ≡ earliest old.stop (requests u) → new.tag ≡ Some g → AreStartTags plan.program (d ++ u) new.starts → AreEarlierWrites plan.program (after g 0) new.writes → AreNameListeners plan new.listeners → AreReadChannels plan.program new.channels → AreUnread plan.program (d ++ u) new.unread → ((h : Tag) → IsClear new.coming.clash h → AreFree plan.program d u g h) → IsNoLater c.clash new.coming.clash → ((h : Tag) (n : Name) → IsAwaited plan.program n → Before g h → UpTo h new.stop → IsClear new.coming.clash h → to_come plan.externals.events new.coming h n ≡ to_come plan.externals.events c h n ++ held (caused_by plan u g n) h) → new.coming.next ≡ c.next → IsStreamOf plan (d ++ u) new
           grows_kept stops tag starts writes listeners channels unread free sooner more next = record {
             lanes = lanes_at;
             none = λ p h e up. none p h e (past h up);
@@ -281,9 +282,9 @@ module _ (plan : PlanParts) (d u : List Row) (g : Tag) (old : Stream) (is : IsSt
             come = subst (λ (last : Option Tag). HaveCome plan.externals.events last new.coming.next) (sym tag) (subst (λ (k : ℕ). AreTaken plan.externals.events 0 k g) (sym next) (come_on plan.externals.events old.tag g old.coming.next c.next later is.come reached.taken));
             state = subst (λ (last : Option Tag). IsStream plan (d ++ u) (state_of lanes_at (low_of last) new)) (sym tag) stands;
             stop_is = stops ∙ stop_now;
-            up_to = subst (λ (last : Option Tag). AreUpTo (d ++ u) last) (sym tag) up_to;
+            up_to = subst (λ (last : Option Tag). AreUpToLast (d ++ u) last) (sym tag) up_to;
             of_row = subst (λ (last : Option Tag). IsOfRow (d ++ u) last) (sym tag) (length d + 0, first, get_right d u 0 ∙ is_first, at 0 first is_first);
-            writes = subst (λ (last : Option Tag). AreEarlier plan.program (low_of last) new.writes) (sym tag) writes;
+            writes = subst (λ (last : Option Tag). AreEarlierWrites plan.program (low_of last) new.writes) (sym tag) writes;
             starts = starts;
             listeners = listeners;
             channels = channels;
@@ -393,7 +394,7 @@ module _ (plan : PlanParts) (done rows : List Row) (s : Slice) (slice : IsSlice 
   }
 
   -- and what is kept is right for them too, once they are judged
-  pub slice_grows : IsSound plan.program → (c : Coming) → IsReached plan.externals.events old.listeners s.tag old.coming c → ((r : ℕ) → Ran own s.tag r → ¬ IsTooEarly plan own s.tag r) → (judged new : Stream) → IsJudged plan so_far rows s judged → judged.coming ≡ c → judged.listeners ≡ old.listeners → new.stop ≡ earliest old.stop (requests own) → new.tag ≡ Some s.tag → new.runs ≡ old.runs + runs_in own → new.tags ≡ old.tags + 1 → new.dues ≡ judged.dues → new.starts ≡ judged.starts → AreEarlier plan.program (after s.tag 0) new.writes → new.listeners ≡ judged.listeners → new.channels ≡ old.channels → AreUnread plan.program (so_far ++ own) new.unread → ((h : Tag) → IsClear new.coming.clash h → AreFree plan.program so_far own s.tag h) → IsNoLater c.clash new.coming.clash → ((h : Tag) (n : Name) → IsAwaited plan.program n → Before s.tag h → UpTo h new.stop → IsClear new.coming.clash h → to_come plan.externals.events new.coming h n ≡ to_come plan.externals.events c h n ++ held (caused_by plan own s.tag n) h) → new.coming.next ≡ c.next → IsStreamOf plan (done ++ take s.end rows) new
+  pub slice_grows : IsSound plan.program → (c : Coming) → IsReached plan.externals.events old.listeners s.tag old.coming c → ((r : ℕ) → Ran own s.tag r → ¬ IsTooEarly plan own s.tag r) → (judged new : Stream) → IsJudged plan so_far rows s judged → judged.coming ≡ c → judged.listeners ≡ old.listeners → new.stop ≡ earliest old.stop (requests own) → new.tag ≡ Some s.tag → new.runs ≡ old.runs + runs_in own → new.tags ≡ old.tags + 1 → new.dues ≡ judged.dues → new.starts ≡ judged.starts → AreEarlierWrites plan.program (after s.tag 0) new.writes → new.listeners ≡ judged.listeners → new.channels ≡ old.channels → AreUnread plan.program (so_far ++ own) new.unread → ((h : Tag) → IsClear new.coming.clash h → AreFree plan.program so_far own s.tag h) → IsNoLater c.clash new.coming.clash → ((h : Tag) (n : Name) → IsAwaited plan.program n → Before s.tag h → UpTo h new.stop → IsClear new.coming.clash h → to_come plan.externals.events new.coming h n ≡ to_come plan.externals.events c h n ++ held (caused_by plan own s.tag n) h) → new.coming.next ≡ c.next → IsStreamOf plan (done ++ take s.end rows) new
   slice_grows good c reached ranked judged new is_judged coming heard_by stops tag runs tags dues starts writes listeners channels unread free sooner more next = subst (λ (t : List Row). IsStreamOf plan t new) together (grows_kept plan so_far own s.tag old is first.0 first.1 (are_at rows s slice) later reach own_kept good c reached is_judged.heard met ranked (λ r o. is_judged.triggered r (ran_of rows s slice r o)) own_reads new runs tags (rw dues is_judged.dues) stops tag (rw starts is_judged.starts) writes (rw listeners is_judged.listeners) (rw channels is.channels) unread free sooner more next)
     where
       met : (n : Name) → IsSome (value_of s.tag n c.queue) → AreStarted (so_far ++ own) s.tag old.listeners n

@@ -12,8 +12,8 @@ use Rattle.lft_model.specs.Plans.{PlanParts}
 use Rattle.lft_model.specs.Presence.{stop, value_scheduled, scheduled, given, min_delay, events_of, written, Last, IsWrittenFrom, At, PortClash}
 use Rattle.lft_model.proofs.Ended.{written_by}
 use Rattle.lft_queue.specs.Coming.AtTag.{AreBefore, AreAt}
-use Rattle.lft_queue.specs.inner.Coming.Lanes.{at_tag, held, coming, given_to, first_events, made, carried, IsDone, IsKept, IsLane, LaneGoesOn}
-use Rattle.lft_stream.specs.inner.Owed.{IsMet, IsApart}
+use Rattle.lft_queue.specs.inner.Coming.Lanes.{at_tag, held, coming, event_given_to, first_events, made, carried, IsTagDone, IsKept, IsLane, LaneGoesOn}
+use Rattle.lft_stream.specs.inner.Owed.{IsMet, AreCausesApart}
 use Rattle.lft_stream.proofs.{Behind.{at_back, clash_back}, Hand.{last_old, last_whole, last_now, last_then}, Owing.ran_grows}
 
 -- how a lane goes: it begins with the external inputs; more rows put their events behind; it goes on to a later tag where what it had before that is met; and where it is done with up to the stop, its name is met and apart
@@ -22,7 +22,7 @@ pub record LaneLaw (plan : PlanParts) : Type 0 where
   pub schedules : (t u : List Row) (a : ℕ) (low : Tag) (queue : List (Tag × Value)) → ((i : ℕ) (x : Row) → slice_get u i ≡ Some x → UpTo low x.tag) → IsLane plan t (Action a) low queue → IsLane plan (t ++ u) (Action a) low (queue ++ made plan u a)
   pub writes : (t u : List Row) (g : Tag) (p o : ℕ) (delays : List ℕ) (low : Tag) (queue : List (Tag × Value)) → Origin plan.program p o delays → AreBefore t g → AreAt u g → UpTo low g → IsLane plan t (Port p) low queue → IsLane plan (t ++ u) (Port p) low (queue ++ carried u g o delays)
   pub goes : (t : List Row) (n : Name) (low high : Tag) (queue rest : List (Tag × Value)) → LaneGoesOn plan t n low queue high rest → IsLane plan t n low queue → IsLane plan t n high rest
-  pub ends : (t : List Row) (n : Name) (low : Tag) (queue : List (Tag × Value)) → Before (stop plan t) low → IsLane plan t n low queue → IsMet plan t (On n) × IsApart plan t n
+  pub ends : (t : List Row) (n : Name) (low : Tag) (queue : List (Tag × Value)) → Before (stop plan t) low → IsLane plan t n low queue → IsMet plan t (On n) × AreCausesApart plan t n
 
 -- an event of a list at its tag
 item_at : (h : Tag) (x : Tag × Value) (v : Value) → at_tag h x ≡ Some v → (x.0 ≡ h) × (x.1 ≡ v)
@@ -56,7 +56,7 @@ coming_at h a min row = go (value_scheduled a row.step)
     go None = refl
     go (Some x) = refl
 
-given_at : (h : Tag) (a : ℕ) (event : Event) → given h a event ≡ option_and_then (at_tag h) (given_to a event)
+given_at : (h : Tag) (a : ℕ) (event : Event) → given h a event ≡ option_and_then (at_tag h) (event_given_to a event)
 given_at h a event = go (same_tag h event.tag) (a == event.action) refl
   where
     go : (b c : Bool) → same_tag h event.tag ≡ b → cond (b && c) (Some event.value) None ≡ option_and_then (at_tag h) (cond c (Some (event.tag, event.value)) None)
@@ -69,10 +69,10 @@ held_made : (plan : PlanParts) (u : List Row) (a : ℕ) (h : Tag) → held (made
 held_made plan u a h = filter_map-filter_map (coming a (min_delay plan.program a)) (at_tag h) (scheduled h a (min_delay plan.program a)) (coming_at h a (min_delay plan.program a)) u
 
 pub held_first : (plan : PlanParts) (a : ℕ) (h : Tag) → held (first_events plan (Action a)) h ≡ filter_map (given h a) plan.externals.events
-held_first plan a h = filter_map-filter_map (given_to a) (at_tag h) (given h a) (given_at h a) plan.externals.events
+held_first plan a h = filter_map-filter_map (event_given_to a) (at_tag h) (given h a) (given_at h a) plan.externals.events
 
 -- what is done with stays so with later rows
-done_grows : (plan : PlanParts) (t u : List Row) (n : Name) (h : Tag) → ((x : Row) → Mem x u → Before h x.tag) → IsDone plan t n h → IsDone plan (t ++ u) n h
+done_grows : (plan : PlanParts) (t u : List Row) (n : Name) (h : Tag) → ((x : Row) → Mem x u → Before h x.tag) → IsTagDone plan t n h → IsTagDone plan (t ++ u) n h
 done_grows plan t u n h later o = record { met = λ v x r l. ran_grows t u h r (o.met v (at_back plan t u h later n v x) r l); apart = λ c. o.apart (clash_back plan t u h later n c) }
 
 begins_lane : (plan : PlanParts) (n : Name) → IsLane plan [] n (record { time = 0; micro = 0 }) (first_events plan n)
@@ -266,10 +266,10 @@ module _ (plan : PlanParts) (t : List Row) (n : Name) (low : Tag) (queue : List 
   goes_lane : (high : Tag) (rest : List (Tag × Value)) → LaneGoesOn plan t n low queue high rest → IsLane plan t n high rest
   goes_lane high rest on = record { past = past; ahead = ahead }
     where
-      past : (h : Tag) → Before h high → IsDone plan t n h
+      past : (h : Tag) → Before h high → IsTagDone plan t n h
       past h b = go (order_cases h low)
         where
-          go : Before h low ⊎ UpTo low h → IsDone plan t n h
+          go : Before h low ⊎ UpTo low h → IsTagDone plan t n h
           go (inl c) = lane.past h c
           go (inr far) =
               let here = on.met h far b in
@@ -281,7 +281,7 @@ module _ (plan : PlanParts) (t : List Row) (n : Name) (low : Tag) (queue : List 
           let kept = lane.ahead h (UpTo-trans low high h on.up far) in
           record { there = λ v x. subst (λ (vs : List Value). Contains vs v) (sym (on.same h far)) (kept.there v x); back = λ v c. kept.back v (subst (λ (vs : List Value). Contains vs v) (on.same h far) c); clash = λ c. rw (on.same h far) (kept.clash c) }
 
-  ends_lane : Before (stop plan t) low → IsMet plan t (On n) × IsApart plan t n
+  ends_lane : Before (stop plan t) low → IsMet plan t (On n) × AreCausesApart plan t n
   ends_lane past = (λ h r up z l. (lane.past h (UpTo-Before h (stop plan t) low up past)).met z.0 z.1 r l, λ h up c. (lane.past h (UpTo-Before h (stop plan t) low up past)).apart c)
 
 pub lane_law : (plan : PlanParts) → LaneLaw plan

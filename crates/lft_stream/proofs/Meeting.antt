@@ -9,7 +9,8 @@ use Rattle.lft_ir.specs.declared.steps.row.{Row.Row, Step.TheVariants.Write}
 use Rattle.lft_ir.proofs.Origins.{origin_inside}
 use Rattle.lft_model.specs.{Plans.PlanParts, Presence.{written, Shows, Inputs}, Runs.{read_of, steps_of, reads_at}}
 use Rattle.lft_model.proofs.{Ended.written_by, Steps.written_some}
-use Rattle.lft_queue.specs.{Pending.{Pending, value_of}, inner.Coming.{AtOnce.{is_undelayed, HasEvents, IsAwaited}, Channels.AreReadChannels, Shown.last_write}}
+use Rattle.lft_queue.specs.Pending.{Pending, value_of}
+use Rattle.lft_queue.specs.inner.Coming.{AtOnce.{is_undelayed, MayHaveEvents, IsAwaited}, Channels.AreReadChannels, Shown.last_write}
 use Rattle.lft_queue.specs.declared.coming.{channels.Channels.Channels, writes.Written.Written}
 use Rattle.lft_queue.proofs.ComingLemmas.AtOnce.{way_at_once}
 use Rattle.lft_rows.proofs.RunReads.{read_there}
@@ -17,7 +18,7 @@ use Rattle.lft_stream.{specs.inner.Present.{AreShown, AreReadsShown}, proofs.{Pr
 
 -- all that is present is listed, where what the rows reach without a delay and what waits at the tag is
 module _ (plan : PlanParts) (sound : IsSound plan.program) (channels : Channels) (are : AreReadChannels plan.program channels) (u : List Row) (g : Tag) (queue : List Pending) (names : List Name) (reached : (i o p : ℕ) (x : Row) (v : Value) (list : List ℕ) → slice_get u i ≡ Some x → x.step ≡ Write (Port o) v → slice_get channels.at_once o ≡ Some list → Contains list p → Contains names (Port p)) (waiting : (n : Name) → IsSome (value_of g n queue) → Contains names n) (d : List Row) (writes : List (Option Written)) (shown : AreShown plan d u g writes queue) where
-  from_queue : (n : Name) → HasEvents plan.program n → IsAwaited plan.program n → Contains names n ⊎ Shows plan (d ++ u) g n None
+  from_queue : (n : Name) → MayHaveEvents plan.program n → IsAwaited plan.program n → Contains names n ⊎ Shows plan (d ++ u) g n None
   from_queue n has awaited = go (value_of g n queue) refl (shown.queued n has awaited)
     where
       go : (o : Option Value) → value_of g n queue ≡ o → Shows plan (d ++ u) g n (value_of g n queue) → Contains names n ⊎ Shows plan (d ++ u) g n None

@@ -18,8 +18,8 @@ use Rattle.lft_rows.proofs.{Steps.row_eq, Counted.{count_start, count_inner}}
 use Rattle.lft_queue.specs.inner.Coming.{AtOnce.{AreHeard, origin_of}, Channels.{arrives_at, caused_by}, Lanes.coming, Shown.last_write}
 use Rattle.lft_queue.specs.inner.Coming.{Unread.{UnreadParts, AreUnread, AreFree, IsWrittenAt, IsLastTag}, Writes.AreWrites}
 use Rattle.lft_queue.specs.{Coming.AtTag.AreAt, declared.coming.writes.Written.Written}
-use Rattle.lft_stream.specs.inner.Outlines.{started_by, starters, has_effect, effect_of, effects_in, IsSpan, AreReadsBefore, IsOutlineTo, IsOutline, AreEffectsOf}
-use Rattle.lft_stream.specs.declared.outline.{Span.Span, Outline.Outline}
+use Rattle.lft_stream.specs.inner.Outlines.{started_by, starters, has_effect, effect_of, effect_rows, IsSpan, AreReadsBefore, IsOutlineTo, IsOutline, AreEffectsOf}
+use Rattle.lft_stream.specs.declared.outline.{PlaceRange.PlaceRange, Outline.Outline}
 use Rattle.lft_stream.proofs.Parting.{up_to_second, range_fits}
 
 -- what is found by effects alone is found in rows with the same effects
@@ -31,7 +31,7 @@ module _ {Y : Type 0} (k : Row → Option Y) (quiet : (x : Row) → has_effect x
       go true e = refl
       go false e = quiet x e
 
-  same_found : (u v : List Row) → effects_in u ≡ effects_in v → filter_map k u ≡ filter_map k v
+  same_found : (u v : List Row) → effect_rows u ≡ effect_rows v → filter_map k u ≡ filter_map k v
   same_found u v e = sym (filter_map-filter_map effect_of k k by_effect u) ∙ ap (λ (t : List Row). filter_map k t) e ∙ filter_map-filter_map effect_of k k by_effect v
 
 quiet_stop : (g : Tag) (s : Step) → has_effect s ≡ false → asked g s ≡ None
@@ -66,7 +66,7 @@ quiet_row g p x e = go (same_tag g x.tag)
     go false = refl
 
 -- a row that has an effect is among all rows with the same effects
-effect_there : (u v : List Row) → effects_in u ≡ effects_in v → (i : ℕ) (x : Row) → slice_get u i ≡ Some x → has_effect x.step ≡ true → (j : ℕ) × (slice_get v j ≡ Some x)
+effect_there : (u v : List Row) → effect_rows u ≡ effect_rows v → (i : ℕ) (x : Row) → slice_get u i ≡ Some x → has_effect x.step ≡ true → (j : ℕ) × (slice_get v j ≡ Some x)
 effect_there u v same i x e has =
     let kept : effect_of x ≡ Some x = ap (λ b. cond b (Some x) None) has in
     let back = mem_from_filter effect_of v x (subst (λ (t : List Row). Mem x t) same (mem_filter effect_of x x u (mem_get u i x e) kept)) in
@@ -76,7 +76,7 @@ effect_there u v same i x e has =
     own true y q = cc
     own false y q = absurd (cc)
 
-module _ (u v : List Row) (same : effects_in u ≡ effects_in v) where
+module _ (u v : List Row) (same : effect_rows u ≡ effect_rows v) where
   pub requests_same : requests u ≡ requests v
   requests_same = same_found (λ row. asked row.tag row.step) (λ x e. quiet_stop x.tag x.step e) u v same
 
@@ -96,14 +96,14 @@ module _ (u v : List Row) (same : effects_in u ≡ effects_in v) where
   written_same : (o : ℕ) (g : Tag) → IsWrittenAt u o g → IsWrittenAt v o g
   written_same o g w = let there = effect_there u v same w.place w.row w.is_row (ap has_effect w.writes) in record { place = there.0; row = w.row; value = w.value; is_row = there.1; writes = w.writes; tag_is = w.tag_is }
 
-pub free_same : (program : Parts) (t u v : List Row) (g last : Tag) → effects_in u ≡ effects_in v → AreFree program t u g last → AreFree program t v g last
+pub free_same : (program : Parts) (t u v : List Row) (g last : Tag) → effect_rows u ≡ effect_rows v → AreFree program t u g last → AreFree program t v g last
 free_same program t u v g last same free o w = free o (written_same v u (sym same) o g w)
 
-pub unread_same : (program : Parts) (t u v : List Row) (unread : UnreadParts) → effects_in u ≡ effects_in v → AreUnread program (t ++ u) unread → AreUnread program (t ++ v) unread
+pub unread_same : (program : Parts) (t u v : List Row) (unread : UnreadParts) → effect_rows u ≡ effect_rows v → AreUnread program (t ++ u) unread → AreUnread program (t ++ v) unread
 unread_same program t u v unread same are = record { soonest = are.soonest; none = are.none; as_long = are.as_long; last = λ any o k e. tag_same o k (are.last any o k e) }
   where
-    all : effects_in (t ++ u) ≡ effects_in (t ++ v)
-    all = filter_map-append effect_of t u ∙ ap (λ (s : List Row). effects_in t ++ s) same ∙ sym (filter_map-append effect_of t v)
+    all : effect_rows (t ++ u) ≡ effect_rows (t ++ v)
+    all = filter_map-append effect_of t u ∙ ap (λ (s : List Row). effect_rows t ++ s) same ∙ sym (filter_map-append effect_of t v)
 
     tag_same : (o : ℕ) (k : Option Tag) → IsLastTag (t ++ u) o k → IsLastTag (t ++ v) o k
     tag_same o None none = λ g w. none g (written_same (t ++ v) (t ++ u) (sym all) o g w)
@@ -125,7 +125,7 @@ pub all_runs : (u : List Row) (o : Outline) → IsOutline u o → length o.start
 all_runs u o is = is.runs ∙ ap runs_in (take_all (length u) u (omega arith))
 
 -- with more rows that have no effect the span is right still
-pub span_stays : (u : List Row) (n : ℕ) (s : Span) (x : Row) → slice_get u n ≡ Some x → has_effect x.step ≡ false → IsSpan u n s → IsSpan u (n + 1) s
+pub span_stays : (u : List Row) (n : ℕ) (s : PlaceRange) (x : Row) → slice_get u n ≡ Some x → has_effect x.step ≡ false → IsSpan u n s → IsSpan u (n + 1) s
 span_stays u n s x here quiet is = record {
   in_order = is.in_order;
   within = let w = is.within in omega (arith, w);
@@ -169,7 +169,7 @@ starts_stay u n started x here other is = is ∙ sym (append-nil (starters (take
     go false e = refl
 
 -- the span with one more row that has an effect: the first one, or a further one
-pub span_first : (u : List Row) (n : ℕ) (s : Span) → s.end ≡ 0 → IsSpan u n s → IsSpan u (n + 1) (record { first = n; end = n + 1 })
+pub span_first : (u : List Row) (n : ℕ) (s : PlaceRange) → s.end ≡ 0 → IsSpan u n s → IsSpan u (n + 1) (record { first = n; end = n + 1 })
 span_first u n s none is = record {
   in_order = omega arith;
   within = omega arith;
@@ -179,7 +179,7 @@ span_first u n s none is = record {
   ];
 }
 
-pub span_more : (u : List Row) (n : ℕ) (s : Span) → IsSpan u n s → IsSpan u (n + 1) (record { first = s.first; end = n + 1 })
+pub span_more : (u : List Row) (n : ℕ) (s : PlaceRange) → IsSpan u n s → IsSpan u (n + 1) (record { first = s.first; end = n + 1 })
 span_more u n s is = record {
   in_order = let a = is.in_order in let b = is.within in omega (arith, a, b);
   within = omega arith;
@@ -240,8 +240,8 @@ pub outline_none : (u : List Row) (o : Outline) → o.started.items ≡ [] → o
 outline_none u o started reads effects = record { started = started; runs = ap length started; reads = rw reads (record { within = omega arith; each = λ i x m v l e s. absurd (omega (arith, l)) }); effects = effects }
 
 -- the rows of the span have all effects
-pub span_effects : (u : List Row) (s : Span) → IsSpan u (length u) s → effects_in (slice_range u s.first s.end) ≡ effects_in u
-span_effects u s is = sym (ap effects_in (sym (take-append-drop s.end u)) ∙ filter_map-append effect_of (take s.end u) (drop s.end u) ∙ ap (λ (t : List Row). effects_in (take s.end u) ++ t) (none_nil effect_of (drop s.end u) behind) ∙ append-nil (effects_in (take s.end u)) ∙ ap effects_in (sym (up_to_second u s.first s.end is.in_order)) ∙ filter_map-append effect_of (take s.first u) (slice_range u s.first s.end) ∙ ap (λ (t : List Row). t ++ effects_in (slice_range u s.first s.end)) (none_nil effect_of (take s.first u) before))
+pub span_effects : (u : List Row) (s : PlaceRange) → IsSpan u (length u) s → effect_rows (slice_range u s.first s.end) ≡ effect_rows u
+span_effects u s is = sym (ap effect_rows (sym (take-append-drop s.end u)) ∙ filter_map-append effect_of (take s.end u) (drop s.end u) ∙ ap (λ (t : List Row). effect_rows (take s.end u) ++ t) (none_nil effect_of (drop s.end u) behind) ∙ append-nil (effect_rows (take s.end u)) ∙ ap effect_rows (sym (up_to_second u s.first s.end is.in_order)) ∙ filter_map-append effect_of (take s.first u) (slice_range u s.first s.end) ∙ ap (λ (t : List Row). t ++ effect_rows (slice_range u s.first s.end)) (none_nil effect_of (take s.first u) before))
   where
     quiet : (k : ℕ) (x : Row) → slice_get u k ≡ Some x → ((s.first ≤ k) × (k < s.end) → ⊥) → effect_of x ≡ None
     quiet k x e out = go (has_effect x.step) refl

@@ -6,8 +6,8 @@ use Rattle.lft_ir.specs.declared.parts.{Value.Value, Name.{Name, TheVariants.{Po
 use Rattle.lft_ir.specs.declared.steps.row.Row.{Row}
 use Rattle.lft_model.{specs.{Plans.PlanParts, Runs.{start_row, Ran}}, proofs.Places.slice_get_within}
 use Rattle.lft_rows.specs.{Accepted.IsAccepted, Slices.runs_in}
-use Rattle.lft_stream.specs.inner.{Settled.IsRightBehind, Counted.IsCounted, Owed.{IsMet, IsApart}, Dues.{AreDues, timed}}
-use Rattle.lft_stream.specs.inner.Streams.{State, first_state, IsStream, IsEnded, IsGrown}
+use Rattle.lft_stream.specs.inner.{Settled.IsRightBehind, Counted.AreRunsCounted, Owed.{IsMet, AreCausesApart}, Dues.{AreDues, timed}}
+use Rattle.lft_stream.specs.inner.Streams.{State, first_state, IsStream, IsMetUpToStop, IsGrown}
 use Rattle.lft_stream.specs.declared.due.Due.{Due}
 use Rattle.lft_stream.proofs.{Settling.{step_law, legal_of}, Counting.count_law, Owing.{parts_law, due_law}, Lanes.{LaneLaw, lane_law}}
 use Rattle.lft_queue.specs.inner.Coming.Lanes.{made, carried, IsLane, LaneGoesOn}
@@ -16,7 +16,7 @@ use Rattle.lft_queue.specs.inner.Coming.Lanes.{made, carried, IsLane, LaneGoesOn
 pub record StreamLaw (plan : PlanParts) : Type 0 where
   pub begins : (dues : List (List Due)) → AreDues plan [] dues → IsStream plan [] (first_state plan dues)
   pub grows : (d u : List Row) (g : Tag) (r : ℕ) (old new : State) → IsStream plan d old → IsRightBehind plan d u g → Ran u g r → IsGrown plan d u g old new → IsStream plan (d ++ u) new
-  pub accepts : (t : List Row) (s : State) → IsStream plan t s → IsEnded plan t s → IsAccepted plan t s.runs s.tags
+  pub accepts : (t : List Row) (s : State) → IsStream plan t s → IsMetUpToStop plan t s → IsAccepted plan t s.runs s.tags
 
 -- no rows have none
 no_place : {X : Type 0} (i : ℕ) (x : X) → ¬ (slice_get [] i ≡ Some x)
@@ -51,24 +51,24 @@ module _ (plan : PlanParts) where
     stream_grows : (r : ℕ) → Ran u g r → IsStream plan (d ++ u) new
     stream_grows r o = record {
       settled = step_law plan d u g stream.settled right;
-      counted = subst (λ (k : ℕ). IsCounted (d ++ u) k new.tags) (sym grown.runs) (subst (λ (k : ℕ). IsCounted (d ++ u) (old.runs + runs_in u) k) (sym grown.tags) (count_law d u g r old.runs old.tags right.earlier right.at_tag o stream.counted));
+      counted = subst (λ (k : ℕ). AreRunsCounted (d ++ u) k new.tags) (sym grown.runs) (subst (λ (k : ℕ). AreRunsCounted (d ++ u) (old.runs + runs_in u) k) (sym grown.tags) (count_law d u g r old.runs old.tags right.earlier right.at_tag o stream.counted));
       actions = action_grows;
       ports = port_grows;
       dues = grown.dues;
     }
 
-  module _ (t : List Row) (s : State) (stream : IsStream plan t s) (ended : IsEnded plan t s) where
-    port_ends : (p o : ℕ) (ds : List ℕ) → Origin plan.program p o ds → IsMet plan t (On (Port p)) × IsApart plan t (Port p)
+  module _ (t : List Row) (s : State) (stream : IsStream plan t s) (ended : IsMetUpToStop plan t s) where
+    port_ends : (p o : ℕ) (ds : List ℕ) → Origin plan.program p o ds → IsMet plan t (On (Port p)) × AreCausesApart plan t (Port p)
     port_ends p o ds way = laws.ends t (Port p) (s.lows (Port p)) (s.queues (Port p)) (ended.lows (Port p)) (stream.ports p o ds way)
 
-    action_ends : (a : ℕ) → IsMet plan t (On (Action a)) × IsApart plan t (Action a)
+    action_ends : (a : ℕ) → IsMet plan t (On (Action a)) × AreCausesApart plan t (Action a)
     action_ends a = laws.ends t (Action a) (s.lows (Action a)) (s.queues (Action a)) (ended.lows (Action a)) (stream.actions a)
 
     name_met : (n : Name) → IsMet plan t (On n)
     name_met (Port p) = λ h r up z l. (port_ends p z.1.1.origin z.1.1.delays z.1.1.is_origin).0 h r up z l
     name_met (Action a) = (action_ends a).0
 
-    name_apart : (n : Name) → IsApart plan t n
+    name_apart : (n : Name) → AreCausesApart plan t n
     name_apart (Port p) = λ h up c. (port_ends p c.is_first.origin c.is_first.delays c.is_first.is_origin).1 h up c
     name_apart (Action a) = (action_ends a).1
 
@@ -109,7 +109,7 @@ module _ (plan : PlanParts) (t : List Row) (old new : State) (stream : IsStream 
   stream_moves : IsStream plan t new
   stream_moves = record {
     settled = stream.settled;
-    counted = subst (λ (k : ℕ). IsCounted t k new.tags) (sym moved.runs) (subst (λ (k : ℕ). IsCounted t old.runs k) (sym moved.tags) stream.counted);
+    counted = subst (λ (k : ℕ). AreRunsCounted t k new.tags) (sym moved.runs) (subst (λ (k : ℕ). AreRunsCounted t old.runs k) (sym moved.tags) stream.counted);
     actions = λ a. lane_moves (Action a) (stream.actions a);
     ports = λ p o ds way. lane_moves (Port p) (stream.ports p o ds way);
     dues = subst (λ (dues : List (List Due)). AreDues plan t dues) (sym moved.dues) stream.dues;

@@ -4,7 +4,7 @@ ghost use Rattle.std.specs.Prelude.{◌≡◌, ℕ, List, [], ◌<◌, ◌≤◌
 ghost use Rattle.lft_ir.specs.{Sound.IsTriggerOf, declared.{parts.Trigger.Trigger as TheTrigger, steps.row.Row.Row as TheRow}};
 ghost use Rattle.lft_model.specs.{Presence.{stop, Triggered}, Runs.Ran};
 ghost use Rattle.lft_stream.specs.declared.due.Due.{Due as TheDue};
-ghost use Rattle.lft_stream.specs.inner.Dues.{timed as the_timed, AreDue, AreDues, IsOwed, NoneOwed, IsDueBefore, NoneDueBefore, GoOn, IsSomePresent};
+ghost use Rattle.lft_stream.specs.inner.Dues.{timed as the_timed, AreTriggersDue, AreDues, IsOwed, NoneOwed, IsDueBefore, NoneDueBefore, GoOn, IsSomePresent};
 
 use crate::due::Due;
 use crate::turns::Turns;
@@ -65,7 +65,7 @@ fn timed(trigger: Trigger) -> Option<Trigger>
 /// When those of some triggers that wait for no event are due before the first row.
 fn first_dues(alloc: Global, plan: &Plan, triggers: &[Trigger]) -> Result<Vec<Due>, NoMemory>
     requires { (k : ℕ) (x : TheTrigger) → slice_get triggers.now k ≡ Some x → IsTriggerOf plan.now.program x }
-    ensures { IfOk result (λ dues. (r : ℕ) → AreDue plan.now [] r (filter_map the_timed triggers.now) dues.items) }
+    ensures { IfOk result (λ dues. (r : ℕ) → AreTriggersDue plan.now [] r (filter_map the_timed triggers.now) dues.items) }
 {
     let mut dues = Vec::new(alloc);
     for place in 0..triggers.len() {

@@ -3,7 +3,7 @@
 ghost use Rattle.std.specs.Prelude.{◌≡◌, ℕ, List, length, IsSome, IsTrue, Contains};
 ghost use Rattle.lft_ir.specs.{declared.{steps.row.Row.Row as TheRow, parts.Name.Name as TheName}, Steps.Fits.RowsFit};
 ghost use Rattle.lft_model.specs.Runs.{Ran};
-ghost use Rattle.lft_queue.specs.{inner.Coming.{AtOnce.AreHeard, Listeners.{AreListeners, AreStarted}}, Pending.value_of};
+ghost use Rattle.lft_queue.specs.{inner.Coming.{AtOnce.AreHeard, Listeners.{AreNameListeners, AreStarted}}, Pending.value_of};
 ghost use Rattle.lft_stream.specs.inner.StartTags.{AreStartTags};
 
 use crate::start_tags::StartTags;
@@ -36,7 +36,7 @@ fn are_heard(
     tag: Tag,
 ) -> bool
     requires fit { RowsFit plan.now.program own.now }
-    requires listeners { AreListeners plan.now listeners.now }
+    requires listeners { AreNameListeners plan.now listeners.now }
     requires long { length starts.now ≡ length plan.now.program.reactions }
     ensures { IsTrue result → (whole : List TheRow) → AreStartTags plan.now.program whole starts.now → AreHeard plan.now whole own.now tag }
 {
@@ -88,7 +88,7 @@ pub(crate) fn is_all_heard(
     tag: Tag,
 ) -> bool
     requires fit { RowsFit plan.now.program own.now }
-    requires listeners { AreListeners plan.now listeners.now }
+    requires listeners { AreNameListeners plan.now listeners.now }
     requires long { length starts.now ≡ length plan.now.program.reactions }
     ensures heard { IsTrue result → (whole : List TheRow) → AreStartTags plan.now.program whole starts.now → AreHeard plan.now whole own.now tag }
     ensures met { IsTrue result → (whole : List TheRow) → AreStartTags plan.now.program whole starts.now → (n : TheName) → IsSome (value_of tag n coming.now.queue) → AreStarted whole tag listeners.now n }

@@ -10,7 +10,7 @@ use std::alloc::Global;
 
 /// The places from the first up to, without, the end.
 #[derive(Clone, Copy, PartialEq, Eq, Drop)]
-struct Span {
+struct PlaceRange {
     first: usize,
     end: usize,
 }
@@ -24,7 +24,7 @@ pub(crate) struct Outline {
     /// The place past the last row that reads, or 0.
     reads: usize,
     /// From the first row that writes, schedules or asks for the stop up to the last.
-    effects: Span,
+    effects: PlaceRange,
 }
 
 /// Adds the reaction. It is false where memory is refused.
@@ -37,24 +37,24 @@ fn add(started: &mut Vec<u32>, reaction: u32) -> bool
     }
 }
 
-impl Span {
+impl PlaceRange {
     /// No place.
-    fn none() -> Span
+    fn none() -> PlaceRange
         ensures { (u : List TheRow) → IsSpan u 0 result }
     {
-        Span { first: 0, end: 0 }
+        PlaceRange { first: 0, end: 0 }
     }
 
     /// With the next effect, which is at the place.
-    fn up_to(self, place: usize) -> Span
+    fn up_to(self, place: usize) -> PlaceRange
         requires { place < 9223372036854775807 }
         ensures { (u : List TheRow) → IsSpan u place self → IsSpan u (place + 1) result }
     {
         let end = place + 1;
         if self.end == 0 {
-            return Span { first: place, end };
+            return PlaceRange { first: place, end };
         }
-        Span {
+        PlaceRange {
             first: self.first,
             end,
         }
@@ -69,7 +69,7 @@ impl Outline {
         Outline {
             started: Vec::new(alloc),
             reads: 0,
-            effects: Span::none(),
+            effects: PlaceRange::none(),
         }
     }
 
@@ -96,7 +96,7 @@ impl Outline {
     {
         self.started.clear();
         self.reads = 0;
-        self.effects = Span::none();
+        self.effects = PlaceRange::none();
         for place in 0..own.len() {
             if !self.pass(own, place) {
                 return false;

@@ -3,7 +3,7 @@ use Rattle.std.proofs.Common.{◌≡◌, ℕ, ◌≤◌, Bool, true, false, List
 use Rattle.std.specs.Prelude.{nat_lt}
 use Rattle.std.{specs.List.All, proofs.lemmas.{Bool.Decides.nat_tests, List.Elements.{All-nil, All-weaker}}}
 use Rattle.lft_ir.proofs.WordsLemmas.Steps.{also}
-use Rattle.lft_text_diagnostics.specs.{Candidates.{CanStandAt, IsHelp, IsLeftOut, IsWholeHelp, could_words}, inner.Candidates.few, Quotes.way_words}
+use Rattle.lft_text_diagnostics.specs.{Candidates.{CanStandAt, IsHelp, IsLeftOut, IsWholeHelp, could_words}, inner.Candidates.few, Quotes.way_through_words}
 use Rattle.lft_text_diagnostics.specs.{Told.{IsToldAt, SaysAt}, declared.{refusal.TextRefusal.TextRefusal, thing.CoreTrial.CoreTrial}}
 
 -- ---- few things
@@ -25,10 +25,10 @@ module _ (Can : CoreTrial → Type 0) where
   abbrev pub PutsHelp : List ℕ → List ℕ → Type 0
   PutsHelp old new = (help : List ℕ) × IsHelp Can help × (new ≡ old ++ help)
 
-  pub helps : (things : List CoreTrial) → All Can things → (way : Option (List ℕ)) (old mid new : List ℕ) → mid ≡ old ++ could_words things → new ≡ mid ++ way_words way → PutsHelp old new
-  helps things each way old mid new e f = (could_words things ++ way_words way, (things, each, (way, refl)), also old mid new (could_words things) (way_words way) e f)
+  pub helps : (things : List CoreTrial) → All Can things → (way : Option (List ℕ)) (old mid new : List ℕ) → mid ≡ old ++ could_words things → new ≡ mid ++ way_through_words way → PutsHelp old new
+  helps things each way old mid new e f = (could_words things ++ way_through_words way, (things, each, (way, refl)), also old mid new (could_words things) (way_through_words way) e f)
 
-  pub helps_by_way : (way : Option (List ℕ)) (old new : List ℕ) → new ≡ old ++ way_words way → PutsHelp old new
+  pub helps_by_way : (way : Option (List ℕ)) (old new : List ℕ) → new ≡ old ++ way_through_words way → PutsHelp old new
   helps_by_way way old new f = helps [] (All-nil Can) way old old new (sym (append-nil old)) f
 
   pub helps_by_list : (things : List CoreTrial) → All Can things → (old new : List ℕ) → new ≡ old ++ could_words things → PutsHelp old new

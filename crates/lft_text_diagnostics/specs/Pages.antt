@@ -1,6 +1,6 @@
 -- Where a byte of a program's text stands: in one of its files, or in the text as a whole.
 use Rattle.std.specs.Prelude.{◌≡◌, ◌⊎◌, ◌≤◌, ◌-◌, ◌++◌, ℕ, List, Option, Some, None, Contains, codes, decimal, length, slice_get, slice_range, string_bytes}
-use Rattle.lft_text_diagnostics.specs.{Places.IsPlace, Quotes.place_words, declared.{pages.Page.Page, place.LineColumn.LineColumn, spots.Span.Span}}
+use Rattle.lft_text_diagnostics.specs.{Places.IsPlace, Quotes.program_place_words, declared.{pages.Page.Page, place.LineColumn.LineColumn, spots.Span.Span}}
 
 -- The byte stands in the file, or at its end.
 abbrev pub HasByte : ℕ → Page → Type 0
@@ -28,7 +28,7 @@ pub record SaysLine (t : List ℕ) (files : List Page) (at : ℕ) (words : List 
   pub none : HasNone files at
   pub place : LineColumn
   pub is_place : IsPlace t at place
-  pub whole : words ≡ place_words place
+  pub whole : words ≡ program_place_words place
 
 -- The words are where the byte stands: in a file that has it, or else in the text.
 abbrev pub SaysByte : List ℕ → List Page → ℕ → List ℕ → Type 0

@@ -18,7 +18,7 @@ pub record BeginsLine (t : List ℕ) (j i : ℕ) : Type 0 where
   pub first : (j ≡ 0) ⊎ ((k : ℕ) × (j ≡ k + 1) × (slice_index t k ≡ 10))
 
 -- The line in which i stands ends at j: no line feed stands from i up to j, and one at j, or nothing.
-pub record EndsLine (t : List ℕ) (i j : ℕ) : Type 0 where
+pub record EndsLineAt (t : List ℕ) (i j : ℕ) : Type 0 where
   pub order : i ≤ j
   pub within_text : j ≤ length t
   pub whole : (k : ℕ) → i ≤ k → k < j → is_in_line (slice_index t k) ≡ true
@@ -29,4 +29,4 @@ pub record IsPlace (t : List ℕ) (i : ℕ) (place : LineColumn) : Type 0 where
   pub line : place.line ≡ count_by is_feed (take i t) + 1
   pub column : place.column ≡ count_by begins_letter (slice_range t place.start i) + 1
   pub start : BeginsLine t place.start i
-  pub end : EndsLine t i place.end
+  pub end : EndsLineAt t i place.end

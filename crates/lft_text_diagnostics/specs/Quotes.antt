@@ -9,12 +9,12 @@ abbrev pub is_format : ℕ → Bool
 is_format c = nat_le 8203 c && nat_le c 8207 || nat_le 8232 c && nat_le c 8238 || nat_le 8288 c && nat_le c 8303 || (c == 65279) || nat_le 917504 c
 
 -- A letter as it is shown: a format character by its escape, and for a control character that isn't a tab the replacement character.
-abbrev pub shown : ℕ → List ℕ
-shown c = if is_format c then escape_unicode c else if is_control c && not (c == 9) then 65533 ∷ [] else c ∷ []
+abbrev pub letter_shown : ℕ → List ℕ
+letter_shown c = if is_format c then escape_unicode c else if is_control c && not (c == 9) then 65533 ∷ [] else c ∷ []
 
 -- Bytes of a text as they are quoted: what is no UTF-8 is replaced, and each letter is shown.
 abbrev pub quoted : List ℕ → List ℕ
-quoted bytes = flat_map (λ c. flat_map encode_utf8 (shown c)) (chars (utf8_lossy bytes))
+quoted bytes = flat_map (λ c. flat_map encode_utf8 (letter_shown c)) (chars (utf8_lossy bytes))
 
 -- What stands below a byte where a mark follows: a tab below a tab, and a blank below the first byte of another letter.
 abbrev pub blank_below : ℕ → List ℕ
@@ -49,10 +49,10 @@ marked_line t place start end =
     ++ codes "\n"
 
 -- `Program, line L, column C: `
-abbrev pub place_words : LineColumn → List ℕ
-place_words place = codes "Program, line " ++ decimal place.line ++ codes ", column " ++ decimal place.column ++ codes ": "
+abbrev pub program_place_words : LineColumn → List ℕ
+program_place_words place = codes "Program, line " ++ decimal place.line ++ codes ", column " ++ decimal place.column ++ codes ": "
 
 -- A way out in a line of its own, where there is one.
-abbrev pub way_words : Option (List ℕ) → List ℕ
-way_words None = []
-way_words (Some words) = codes "  " ++ words ++ codes "\n"
+abbrev pub way_through_words : Option (List ℕ) → List ℕ
+way_through_words None = []
+way_through_words (Some words) = codes "  " ++ words ++ codes "\n"

@@ -14,11 +14,11 @@ abbrev pub IsLong : List ℕ → Type 0
 IsLong t = 1048576 < length t
 
 -- What is said of the bytes from start up to end: the text is cut into tokens up to there and no further; or they are the token with that number, and no tree begins with so many; or the text ends there, before its tree does.
-abbrev pub Tells : List ℕ → ℕ → ℕ → TextCause → Type 0
-Tells t start end (Lex fault) = IsRefusedAt t start × LexFails t fault × (end ≡ start + 1)
-Tells t start end (AtToken number kind) = (tokens : List Token) × HasNoTree t tokens number × (slice_get tokens (number - 1) ≡ Some (record { kind = kind; start = start; end = end }))
-Tells t start end (End number) = (tokens : List Token) × HasNoTree t tokens number × (length tokens < number) × (start ≡ length t) × (end ≡ length t)
+abbrev pub TellsCause : List ℕ → ℕ → ℕ → TextCause → Type 0
+TellsCause t start end (Lex fault) = IsRefusedAt t start × LexFails t fault × (end ≡ start + 1)
+TellsCause t start end (AtToken number kind) = (tokens : List Token) × HasNoTree t tokens number × (slice_get tokens (number - 1) ≡ Some (record { kind = kind; start = start; end = end }))
+TellsCause t start end (End number) = (tokens : List Token) × HasNoTree t tokens number × (length tokens < number) × (start ≡ length t) × (end ≡ length t)
 
 -- It tells why the text has no tree.
 abbrev pub IsRefusal : List ℕ → TextRefusal → Type 0
-IsRefusal t refusal = Tells t refusal.start refusal.end refusal.why
+IsRefusal t refusal = TellsCause t refusal.start refusal.end refusal.why

@@ -1,7 +1,7 @@
 //! The headers of tables. A program's text that begins with one is exchanged with a table.
 
 ghost use Rattle.std.specs.Prelude.{IfSome, IsTrue};
-ghost use Rattle.lft_text_diagnostics.specs.inner.Refusals.{BeginsTable, BeginsWith};
+ghost use Rattle.lft_text_diagnostics.specs.{inner.Refusals.BeginsTable, Tables.Tables.ContinuesFrom};
 
 /// The header of a trace.
 pub const TRACE: &str = "event,worker,time,microstep,reaction,name,value,delay";
@@ -14,7 +14,7 @@ pub const CARDS: &str = "kind,reaction,name,delay,value";
 
 /// Whether a text begins with a header.
 fn begins_with(text: &[u8], header: &str) -> bool
-    ensures { IsTrue result → BeginsWith header.now text.now }
+    ensures { IsTrue result → ContinuesFrom header.now text.now }
 {
     text.starts_with(header.as_bytes())
 }

@@ -1,7 +1,7 @@
 //! Places of a text, by line and column.
 
 ghost use Rattle.std.specs.Prelude.{◌≡◌, ◌≤◌, length, count_by};
-ghost use Rattle.lft_text_diagnostics.specs.Places.{is_feed, begins_letter, BeginsLine, EndsLine, IsPlace};
+ghost use Rattle.lft_text_diagnostics.specs.Places.{is_feed, begins_letter, BeginsLine, EndsLineAt, IsPlace};
 
 /// Where a byte of a text stands, for people.
 #[derive(Clone, Copy)]
@@ -53,7 +53,7 @@ fn line_start(text: &[u8], at: usize) -> usize
 /// Where the line of the byte ends.
 fn line_end(text: &[u8], at: usize) -> usize
     requires { at ≤ length text.now }
-    ensures { EndsLine text.now at result }
+    ensures { EndsLineAt text.now at result }
 {
     for end in at..text.len() {
         if text[end] == b'\n' {

@@ -2,9 +2,9 @@
 
 ghost use Rattle.std.specs.Prelude.{◌≡◌, ◌≢◌, ℕ, ◌+◌, ◌<◌, ◌≤◌, ◌++◌, List, flat_map, length, string_bytes, IfOk, IfSome, OnOk};
 ghost use Rattle.lft_syntax.specs.{declared.fault.LexFault.TheVariants.NoMemory as LexNoMemory, Lexes.{LexFails, Lexes}};
-ghost use Rattle.lft_text_diagnostics.specs.Candidates.{IsHelp, IsWholeHelp, could_words, other_words};
+ghost use Rattle.lft_text_diagnostics.specs.Candidates.{IsHelp, IsWholeHelp, could_words, other_trial_words};
 ghost use Rattle.lft_text_diagnostics.specs.{inner.{Candidates.few, Refusals.{IsRefusedFrom, MayHelp}, Trying.{AreTokens, CanStandBehind}}, Refusals.HasNoTree};
-ghost use Rattle.lft_text_diagnostics.specs.Told.{SaysAt, TellsProgram, fault_words, long_words as words_of_long, sentence, spelled, token_words};
+ghost use Rattle.lft_text_diagnostics.specs.Told.{SaysAt, TellsProgram, fault_words, long_words as words_of_long, refusal_sentence, spelled_bytes, token_words};
 
 use crate::before::Before;
 use crate::candidates::candidates;
@@ -46,7 +46,7 @@ fn lex_words(fault: LexFault) -> &'static str
 
 /// Puts the bytes of a token behind the text, if they aren't too many.
 fn push_spelled(alloc: Global, out: &mut String, spelling: &[u8]) -> Result<(), NoMemory>
-    ensures { OnOk result (string_bytes out.new ≡ string_bytes out.old ++ spelled spelling.now) }
+    ensures { OnOk result (string_bytes out.new ≡ string_bytes out.old ++ spelled_bytes spelling.now) }
 {
     if spelling.len() > LONGEST_TOKEN {
         out.push_str("this")?;
@@ -88,7 +88,7 @@ fn push_sentence(
     refusal: TextRefusal,
 ) -> Result<(), NoMemory>
     requires { (refusal.start ≤ refusal.end) × (refusal.end ≤ length text.now) }
-    ensures { OnOk result (string_bytes out.new ≡ string_bytes out.old ++ sentence text.now refusal) }
+    ensures { OnOk result (string_bytes out.new ≡ string_bytes out.old ++ refusal_sentence text.now refusal) }
 {
     match refusal.why {
         TextCause::Lex(fault) => out.push_str(lex_words(fault))?,
@@ -104,7 +104,7 @@ fn push_sentence(
 
 /// Puts one more thing behind the text that could stand there.
 fn push_other(out: &mut String, thing: CoreTrial) -> Result<(), NoMemory>
-    ensures { OnOk result (string_bytes out.new ≡ string_bytes out.old ++ other_words thing) }
+    ensures { OnOk result (string_bytes out.new ≡ string_bytes out.old ++ other_trial_words thing) }
 {
     out.push_str(", ")?;
     out.push_str(thing.words())?;
@@ -113,7 +113,7 @@ fn push_other(out: &mut String, thing: CoreTrial) -> Result<(), NoMemory>
 
 /// Puts further things behind the text that could stand there.
 fn push_others(out: &mut String, things: &[CoreTrial]) -> Result<(), NoMemory>
-    ensures { OnOk result (string_bytes out.new ≡ string_bytes out.old ++ flat_map other_words things.now) }
+    ensures { OnOk result (string_bytes out.new ≡ string_bytes out.old ++ flat_map other_trial_words things.now) }
 {
     for at in 0..things.len() {
         push_other(out, things[at])?;

@@ -1,7 +1,8 @@
 //! A place of a program's text for people: its line and column, and the line with a mark.
 
 ghost use Rattle.std.specs.Prelude.{◌≡◌, ◌≤◌, ◌++◌, OnOk, length, min, string_bytes};
-ghost use Rattle.lft_text_diagnostics.specs.{Places.IsPlace, Quotes.{blank_margin, blanks_below, margin, marked_line, marks, place_words, quoted, trimmed}};
+ghost use Rattle.lft_text_diagnostics.specs.Places.{IsPlace};
+ghost use Rattle.lft_text_diagnostics.specs.Quotes.{blank_margin, blanks_below, margin, marked_line, marks, program_place_words, quoted, trimmed};
 
 use crate::place::LineColumn;
 use crate::words::{
@@ -16,7 +17,7 @@ const LONGEST_LINE: usize = 200;
 
 /// Puts the line and the column behind the text.
 pub fn push_place(out: &mut String, place: LineColumn) -> Result<(), NoMemory>
-    ensures { OnOk result (string_bytes out.new ≡ string_bytes out.old ++ place_words place) }
+    ensures { OnOk result (string_bytes out.new ≡ string_bytes out.old ++ program_place_words place) }
 {
     out.push_str("Program, line ")?;
     push_number(out, place.line as u64)?;

@@ -2,7 +2,7 @@
 
 ghost use Rattle.std.specs.Prelude.{◌≡◌};
 ghost use Rattle.lft_syntax.specs.inner.Seen.{seen_as, letters_ascii};
-ghost use Rattle.lft_text_diagnostics.specs.Candidates.{token_of, words_of};
+ghost use Rattle.lft_text_diagnostics.specs.Candidates.{trial_token, words_of_trial};
 
 use lft_syntax::Seen;
 
@@ -35,7 +35,7 @@ pub(crate) enum CoreTrial {
 impl CoreTrial {
     /// A token of the thing.
     pub(crate) fn token(self) -> Seen<'static>
-        ensures is { seen_as result ≡ token_of self }
+        ensures is { seen_as result ≡ trial_token self }
         ensures ascii { letters_ascii result }
     {
         match self {
@@ -65,7 +65,7 @@ impl CoreTrial {
 
     /// What it is called.
     pub(crate) fn words(self) -> &'static str
-        ensures { result.now ≡ words_of self }
+        ensures { result.now ≡ words_of_trial self }
     {
         match self {
             CoreTrial::Name => "a name",

@@ -2,7 +2,7 @@
 
 ghost use Rattle.std.specs.Prelude.{◌≡◌, ◌++◌, IfOk, OnOk, flat_map, option_map, string_bytes};
 ghost use Rattle.std.specs.Char.{encode_utf8, Escape.escape_unicode};
-ghost use Rattle.lft_text_diagnostics.specs.Quotes.{blank_below, blank_margin, blanks_below, is_format as is_of_format, margin, marks, quoted, shown, way_words};
+ghost use Rattle.lft_text_diagnostics.specs.Quotes.{blank_below, blank_margin, blanks_below, is_format as is_of_format, margin, marks, quoted, letter_shown, way_through_words};
 
 use crate::place::{begins_letter, letters};
 use itoa::Buffer;
@@ -35,7 +35,7 @@ fn push_escape(out: &mut String, letter: char) -> Result<(), NoMemory>
 
 /// Puts a letter behind the text, or what stands for it where it isn't to reach a terminal.
 fn push_letter(out: &mut String, letter: char) -> Result<(), NoMemory>
-    ensures { OnOk result (string_bytes out.new ≡ string_bytes out.old ++ flat_map encode_utf8 (shown letter)) }
+    ensures { OnOk result (string_bytes out.new ≡ string_bytes out.old ++ flat_map encode_utf8 (letter_shown letter)) }
 {
     if is_format(letter) {
         push_escape(out, letter)?;
@@ -125,7 +125,7 @@ pub fn push_blank_margin(out: &mut String, line: usize) -> Result<(), NoMemory>
 
 /// Puts a way out behind the text, where there is one.
 pub fn push_way(out: &mut String, way: Option<&'static str>) -> Result<(), NoMemory>
-    ensures { OnOk result (string_bytes out.new ≡ string_bytes out.old ++ way_words (option_map (λ w. w.now) way.entry)) }
+    ensures { OnOk result (string_bytes out.new ≡ string_bytes out.old ++ way_through_words (option_map (λ w. w.now) way.entry)) }
 {
     if let Some(words) = way {
         out.push_str("  ")?;

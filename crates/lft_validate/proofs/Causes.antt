@@ -2,13 +2,14 @@
 use Rattle.std.proofs.Common.{◌≡◌, ◌≢◌, ◌<◌, ℕ, true, List, [], map, Option, Some, None, Any, IfNone, IsSome, IsSomeAnd, ◌⊎◌, inl, inr, ⊎_elim, length, refl, sym, subst}
 use Rattle.std.specs.Prelude.{slice_get}
 use Rattle.lft_tree.specs.Tree.{ReactorTree, MemberTree, ReactionMember, InstanceMember, InstanceTree, ConnectionTree, ReactionTree, RefTree, TimeTree, Written, Named, PortTree, nanoseconds, port_in, reaction_in, instance_in, connection_in, ports_of}
-use Rattle.lft_resolve.specs.Kinds.{kind_of, reads_of, times_in}
+use Rattle.lft_resolve.specs.Kinds.{kind_of, names_read, times_in}
 use Rattle.lft_resolve.specs.Causes.{IsTwice, GivesTwice, GivesUnknown, LacksReactor, LacksParameter, IsUnknownTime, IsMisplaced, IsMisplacedTime, NamesTwice, NamesNothing, Misplaces, DeclaresTwice, DuplicateName, IsLongTime, HasLongTime, UnknownReactor, UnknownName, WrongPlace, MainHasPorts, WidthMismatch, NoTrigger, DuplicateInput, DiffersInWidth, LacksTrigger, RepeatsName, SomeGivesTwice, longest}
 use Rattle.lft_resolve.specs.declared.{causes.ProgramFault.ProgramFault, kinds.{Kind.Kind, Role.{Role, TheVariants.{Read, Effect, Source, Destination}}}}
 use Rattle.lft_resolve.proofs.{Somes.{Any-weaker, picked, unpicked, kept, unkept, something, some_of}, Lacking.Any-either}
 use Rattle.lft_validate.specs.Members.{names_of, times_of, given_of}
-use Rattle.lft_validate.specs.Findings.{IsFinding, IsTwiceAt, IsOfNone, IsNothing, IsForNone, IsWrong, IsWrongTime, fault_found}
-use Rattle.lft_validate.specs.{inner.{Shown.{SomeName, SomeShows, ShowsCause, ShowsUnknown, ShowsMisplaced}, Witnesses.Says}, declared.finding.Finding.Finding}
+use Rattle.lft_validate.specs.Findings.{IsFinding, IsTwiceAt, IsOfNone, IsNothing, IsForNone, IsWrongKind, IsWrongTime, fault_found}
+use Rattle.lft_validate.specs.inner.{Shown.{SomeName, SomeShows, ShowsCause, ShowsUnknown, ShowsMisplaced}, Witnesses.CauseSays}
+use Rattle.lft_validate.specs.declared.finding.Finding.{Finding}
 use Rattle.lft_validate.proofs.{InMembers.{there, so_too, at_place, some_name, its_name, some_time, its_time}, Turns.some_place}
 use Rattle.lft_lists.proofs.Options.{none_weaker}
 use Rattle.lft_resolve.specs.declared.causes.ProgramFault.TheVariants as faults
@@ -28,7 +29,7 @@ no_two : (i j : ℕ) → IsTwiceAt {X = RefTree} [] i j → ⊥
 no_two i j (x, lt, first, second) = absurd (cc)
 
 names_twice : (role : Role) (m : MemberTree) (i j : ℕ) → IsSome (reaction_in m) → IsTwiceAt (names_of role m) i j → IsSomeAnd (reaction_in m) NamesTwice
-names_twice Read (ReactionMember x) i j is two = inl (twice_there (reads_of x) i j two)
+names_twice Read (ReactionMember x) i j is two = inl (twice_there (names_read x) i j two)
 names_twice Effect (ReactionMember x) i j is two = inr (twice_there x.effects i j two)
 names_twice Source (ReactionMember x) i j is two = absurd (no_two i j two)
 names_twice Destination (ReactionMember x) i j is two = absurd (no_two i j two)
@@ -67,7 +68,7 @@ module _ (rs : List ReactorTree) (r : ReactorTree) where
     in_words (finding.UnknownName role n) is = inl (role, at_place (IsNothing rs r) (names_of role m) n is)
     in_words (finding.UnknownTime n) is = inr (inl (at_place (IsUnknownTime r) (times_of m) n is))
     in_words (finding.UnknownParameter n) is = inr (inr (so_too (IsForNone rs n) (GivesUnknown rs) (λ i g. (g.0, g.1, at_place (LacksParameter g.0) i.given n g.2)) (instance_in m) is))
-    in_words (finding.WrongPlace role n kind) is = inl (role, at_place (λ ref. IsMisplaced rs r (role, ref)) (names_of role m) n (so_too (IsWrong rs r role kind) (λ ref. IsMisplaced rs r (role, ref)) (λ ref w. (kind, w.0, w.1)) (slice_get (names_of role m) n) is))
+    in_words (finding.WrongPlace role n kind) is = inl (role, at_place (λ ref. IsMisplaced rs r (role, ref)) (names_of role m) n (so_too (IsWrongKind rs r role kind) (λ ref. IsMisplaced rs r (role, ref)) (λ ref w. (kind, w.0, w.1)) (slice_get (names_of role m) n) is))
     in_words (finding.WrongTime n kind) is = inr (at_place (IsMisplacedTime r) (times_of m) n (so_too (IsWrongTime r kind) (IsMisplacedTime r) (misplaced r kind) (slice_get (times_of m) n) is))
     in_words finding.MainHasPort is = is
     in_words finding.WidthMismatch is = is
@@ -101,7 +102,7 @@ module _ (rs : List ReactorTree) (r : ReactorTree) where
   found_misplaced m (inl (role, a)) =
       let at = some_place (λ ref. IsMisplaced rs r (role, ref)) (names_of role m) a in
       let (ref, is, (kind, of, not)) = there (λ ref. IsMisplaced rs r (role, ref)) (slice_get (names_of role m) at.0) at.1 in
-      (finding.WrongPlace role at.0 kind, refl, subst (λ o. IsSomeAnd o (IsWrong rs r role kind)) (sym is) (of, not))
+      (finding.WrongPlace role at.0 kind, refl, subst (λ o. IsSomeAnd o (IsWrongKind rs r role kind)) (sym is) (of, not))
   found_misplaced m (inr t) =
       let at = some_place (IsMisplacedTime r) (times_of m) t in
       let (time, is, w) = there (IsMisplacedTime r) (slice_get (times_of m) at.0) at.1 in
@@ -198,7 +199,7 @@ module _ (rs : List ReactorTree) where
   HasNone x = x.triggers ≡ []
 
   -- where a cause that is looked for in members holds, some member has what it says
-  shows : (c : ProgramFault) → c ≢ faults.NoMain → c ≢ faults.TwoMains → c ≢ faults.DuplicateName → c ≢ faults.TwoSources → c ≢ faults.DelayTooLong → Says rs c → Somewhere c
+  shows : (c : ProgramFault) → c ≢ faults.NoMain → c ≢ faults.TwoMains → c ≢ faults.DuplicateName → c ≢ faults.TwoSources → c ≢ faults.DelayTooLong → CauseSays rs c → Somewhere c
   unfolding UnknownReactor UnknownName WrongPlace MainHasPorts WidthMismatch NoTrigger DuplicateInput
   shows faults.NoMain n _ _ _ _ a = absurd (n refl)
   shows faults.TwoMains _ n _ _ _ a = absurd (n refl)
@@ -215,7 +216,7 @@ module _ (rs : List ReactorTree) where
   shows _ _ _ _ _ _ a = absurd a
 
   -- where some member has what a cause says, it holds
-  holds : (c : ProgramFault) → Somewhere c → Says rs c
+  holds : (c : ProgramFault) → Somewhere c → CauseSays rs c
   unfolding DuplicateName UnknownReactor UnknownName WrongPlace MainHasPorts WidthMismatch NoTrigger DuplicateInput
   holds faults.DuplicateName a = inr (from faults.DuplicateName DeclaresTwice (λ r b. inr (picked instance_in GivesTwice r.members b)) a)
   holds faults.UnknownReactor a = from faults.UnknownReactor (LacksReactor rs) (λ r. picked instance_in (IsOfNone rs) r.members) a
@@ -231,7 +232,7 @@ module _ (rs : List ReactorTree) where
   some_shows : (c : ProgramFault) → Somewhere c → SomeShows rs c
   some_shows c = Any-weaker (λ r. Any (λ m. InWords rs r m c) r.members) (λ r. Any (λ m. ShowsCause rs r m c) r.members) (λ r. Any-weaker (λ m. InWords rs r m c) (λ m. ShowsCause rs r m c) (finding_of rs r c) r.members) rs
 
-  pub by_member : (c : ProgramFault) → c ≢ faults.NoMain → c ≢ faults.TwoMains → c ≢ faults.DuplicateName → c ≢ faults.TwoSources → c ≢ faults.DelayTooLong → Says rs c → SomeShows rs c
+  pub by_member : (c : ProgramFault) → c ≢ faults.NoMain → c ≢ faults.TwoMains → c ≢ faults.DuplicateName → c ≢ faults.TwoSources → c ≢ faults.DelayTooLong → CauseSays rs c → SomeShows rs c
   by_member c n o p q s a = some_shows c (shows c n o p q s a)
 
   pub shows_given_twice : Any SomeGivesTwice rs → SomeShows rs faults.DuplicateName
@@ -244,5 +245,5 @@ module _ (rs : List ReactorTree) where
   long a = ⊎_elim (λ d. inl d) (λ t. inr (some_shows faults.DelayTooLong (to faults.DelayTooLong (λ r. Any IsLongTime (times_in r)) (λ r. some_time IsLongTime r) t))) (Any-either HasLongDefault (λ r. Any IsLongTime (times_in r)) rs a)
 
   -- the cause of a finding holds
-  pub found : (f : Finding) → Any (λ r. Any (λ m. IsFinding rs r m f) r.members) rs → Says rs (fault_found f)
+  pub found : (f : Finding) → Any (λ r. Any (λ m. IsFinding rs r m f) r.members) rs → CauseSays rs (fault_found f)
   found f a = holds (fault_found f) (Any-weaker (λ r. Any (λ m. IsFinding rs r m f) r.members) (λ r. Any (λ m. InWords rs r m (fault_found f)) r.members) (λ r. Any-weaker (λ m. IsFinding rs r m f) (λ m. InWords rs r m (fault_found f)) (λ m. in_words rs r m f) r.members) rs a)

@@ -3,7 +3,7 @@ use Rattle.std.proofs.Common.{◌≡◌, ◌≢◌, ℕ, zero, suc, ◌+◌, ◌
 use Rattle.std.{specs.Option.option_and_then, proofs.lemmas.Option.slice_get_within}
 use Rattle.lft_tree.specs.Tree.{ReactorTree, InstanceTree, instances_of}
 use Rattle.lft_resolve.specs.{declared.expansion.walk.Contents.Contents, Causes.{Holds as HoldsIn, HoldsDeep, directly, RecursiveReactor}}
-use Rattle.lft_resolve.specs.{Instances.reactor_named, inner.Numbers.{IsNumberOf, IsContents, AreContents}}
+use Rattle.lft_resolve.specs.{Instances.reactor_named, inner.Numbers.{IsReactorNumberOf, IsContents, AreContents}}
 use Rattle.lft_resolve.proofs.{Files.AllZip-from, Twice.Any-at}
 use Rattle.lft_lists.proofs.Places.{get_there, same_some}
 use Rattle.lft_validate.{specs.inner.{Circles.{Holds, IsRound}, Witnesses.{HoldsAt, IsCircle}}, proofs.Founding.deeper}
@@ -12,7 +12,7 @@ module _ (rs : List ReactorTree) (table : List Contents) (all : AreContents rs t
   is_held : (a k b : ℕ) (c : Contents) → slice_get table a ≡ Some c → slice_get c.instances.items k ≡ Some b → HoldsAt rs a b
   is_held a k b c at there =
       let outer : (r : ReactorTree) × (slice_get rs a ≡ Some r) × IsContents rs r c = AllZip-from (IsContents rs) rs table all a c at in
-      let held : (i : InstanceTree) × (slice_get (instances_of outer.0) k ≡ Some i) × IsNumberOf rs i b = AllZip-from (IsNumberOf rs) (instances_of outer.0) c.instances.items outer.2 k b there in
+      let held : (i : InstanceTree) × (slice_get (instances_of outer.0) k ≡ Some i) × IsReactorNumberOf rs i b = AllZip-from (IsReactorNumberOf rs) (instances_of outer.0) c.instances.items outer.2 k b there in
       record {
         outer = outer.0;
         inner = held.2.0;

@@ -1,7 +1,8 @@
 -- Where no way down goes on for ever, no reactor contains itself.
 use Rattle.std.proofs.Common.{◌≡◌, ℕ, List, Some, slice_get, sym, ap, ◌∙◌}
 use Rattle.lft_tree.specs.Tree.{ReactorTree, instances_of}
-use Rattle.lft_resolve.specs.{declared.expansion.walk.Contents.Contents, inner.{Expansion.Contents.contained, Numbers.{IsNumberOf, IsContents, AreContents}}}
+use Rattle.lft_resolve.specs.declared.expansion.walk.Contents.{Contents}
+use Rattle.lft_resolve.specs.inner.{Expansion.Contents.contained, Numbers.{IsReactorNumberOf, IsContents, AreContents}}
 use Rattle.lft_resolve.specs.{Causes.{Holds, HoldsDeep, directly, through, RecursiveReactor}, Instances.reactor_named}
 use Rattle.lft_resolve.proofs.{Directed.AllZip-to, Twice.at-Any}
 use Rattle.std.specs.Option.{option_and_then}
@@ -18,7 +19,7 @@ module _ (rs : List ReactorTree) (table : List Contents) (all : AreContents rs t
   numbered n outer inner at held =
       let one = at-Any (λ i. reactor_named rs i.reactor ≡ Some inner) (instances_of outer) held in
       let made = AllZip-to (IsContents rs) rs table all n outer at in
-      let number = AllZip-to (IsNumberOf rs) (instances_of outer) made.0.instances.items made.2 one.0 one.1 one.2 in
+      let number = AllZip-to (IsReactorNumberOf rs) (instances_of outer) made.0.instances.items made.2 one.0 one.1 one.2 in
       let there : contained table n one.0 ≡ Some number.0 = ap (option_and_then (λ c. slice_get c.instances.items one.0)) made.1 ∙ number.1 in
       let same : number.2.0 ≡ inner = (let e : Some number.2.0 ≡ Some inner = sym number.2.1 ∙ one.3 in cc) in
       (number.0, (one.0, there), number.2.2 ∙ ap Some same)

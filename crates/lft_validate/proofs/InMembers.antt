@@ -2,7 +2,7 @@
 use Rattle.std.proofs.Common.{◌≡◌, ℕ, List, [], ◌∷◌, ◌++◌, map, flat_map, filter_map, option_to_list, Option, Some, None, Any, IsSomeAnd, ◌⊎◌, inl, inr, ⊎_elim, refl}
 use Rattle.std.specs.Prelude.{slice_get}
 use Rattle.lft_tree.specs.Tree.{ReactorTree, MemberTree, TimerMember, ActionMember, ReactionMember, InstanceMember, ConnectionMember, RefTree, TimeTree, timer_in, action_in, instance_in, reaction_in, connection_in, timers_of, actions_of, instances_of, reactions_of, connections_of}
-use Rattle.lft_resolve.specs.Kinds.{reads_of, reaction_refs, connection_refs, refs_in, in_role, timer_times, times_in}
+use Rattle.lft_resolve.specs.Kinds.{names_read, reaction_refs, connection_refs, refs_in, in_role, timer_times, times_in}
 use Rattle.lft_resolve.specs.declared.kinds.Role.{Role, TheVariants.{Read, Effect, Source, Destination}}
 use Rattle.lft_resolve.proofs.Somes.{Any-nil, Any-head, Any-tail, Any-cases, Any-append_cases, Any-left, Any-right, Any-weaker, picked, unpicked}
 use Rattle.lft_resolve.proofs.{Lacking.{Any-either, Any-flat_map, Any-map}, Twice.Any-at}
@@ -47,7 +47,7 @@ module _ (P : Role × RefTree → Type 0) where
   InConnection m = IsSomeAnd (connection_in m) (λ x. Any P (connection_refs x))
 
   in_reaction : (m : MemberTree) → InReaction m → SomeName P m
-  in_reaction (ReactionMember x) a = ⊎_elim (λ l. (Read, unmapped P (λ ref. (Read, ref)) (reads_of x) l)) (λ r. (Effect, unmapped P (λ ref. (Effect, ref)) x.effects r)) (Any-append_cases P (in_role Read (reads_of x)) (in_role Effect x.effects) a)
+  in_reaction (ReactionMember x) a = ⊎_elim (λ l. (Read, unmapped P (λ ref. (Read, ref)) (names_read x) l)) (λ r. (Effect, unmapped P (λ ref. (Effect, ref)) x.effects r)) (Any-append_cases P (in_role Read (names_read x)) (in_role Effect x.effects) a)
   in_reaction _ a = absurd a
 
   in_connection : (m : MemberTree) → InConnection m → SomeName P m
@@ -61,8 +61,8 @@ module _ (P : Role × RefTree → Type 0) where
       (Any-append_cases P (flat_map reaction_refs (reactions_of r)) (flat_map connection_refs (connections_of r)) a)
 
   in_either : (role : Role) (m : MemberTree) → Any (λ ref. P (role, ref)) (names_of role m) → InReaction m ⊎ InConnection m
-  in_either Read (ReactionMember x) a = inl (Any-left P (in_role Read (reads_of x)) (in_role Effect x.effects) (Any-map P (λ ref. (Read, ref)) (reads_of x) a))
-  in_either Effect (ReactionMember x) a = inl (Any-right P (in_role Read (reads_of x)) (in_role Effect x.effects) (Any-map P (λ ref. (Effect, ref)) x.effects a))
+  in_either Read (ReactionMember x) a = inl (Any-left P (in_role Read (names_read x)) (in_role Effect x.effects) (Any-map P (λ ref. (Read, ref)) (names_read x) a))
+  in_either Effect (ReactionMember x) a = inl (Any-right P (in_role Read (names_read x)) (in_role Effect x.effects) (Any-map P (λ ref. (Effect, ref)) x.effects a))
   in_either Source (ConnectionMember x) a = inr (Any-left P (in_role Source x.sources) (in_role Destination x.destinations) (Any-map P (λ ref. (Source, ref)) x.sources a))
   in_either Destination (ConnectionMember x) a = inr (Any-right P (in_role Source x.sources) (in_role Destination x.destinations) (Any-map P (λ ref. (Destination, ref)) x.destinations a))
   in_either role _ a = absurd (Any-nil (λ ref. P (role, ref)) a)

@@ -4,7 +4,7 @@ use Rattle.std.{specs.Option.option_and_then, proofs.lemmas.{Bool.{cases_lt, cas
 use Rattle.lft_lists.proofs.Mapped.{option_map_some}
 use Rattle.lft_lists.proofs.Places.{get_there, get_written, get_unwritten, get_write_cases, length_written, get_push, get_last, get_push_cases, get_same, length_same, same_some}
 use Rattle.lft_resolve.specs.{inner.Expansion.Contents.contained, declared.expansion.walk.Contents.Contents}
-use Rattle.lft_validate.specs.inner.Circles.{Holds, IsDone, DoneBetween, OnlyDone, IsVisitAt, Founded, founded, AllFounded, IsSearched, KeepsNew, IsRound}
+use Rattle.lft_validate.specs.inner.Circles.{Holds, IsReactorDone, DoneBetween, OnlyDone, IsVisitAt, Founded, founded, AllFounded, IsSearched, KeepsNew, IsRound}
 use Rattle.lft_validate.specs.declared.circle.{Stage.{Stage, TheVariants.{New, Open, Done}}, OnPath.OnPath}
 
 -- how many reactors weren't met
@@ -33,35 +33,35 @@ no_more (s ∷ ss) (suc i) = let rest = no_more ss i in omega (arith, rest)
 -- what the search has at each turn
 pub record Searching (table : List Contents) (before : List Stage) (start : ℕ) (stages : List Stage) (path : List OnPath) : Type 0 where
   pub as_long : length stages ≡ length table
-  pub ends : (r : ℕ) → IsDone stages r → Founded table r
+  pub ends : (r : ℕ) → IsReactorDone stages r → Founded table r
   pub open_on : (r : ℕ) → slice_get stages r ≡ Some Open → (i : ℕ) × IsVisitAt path i r
   pub within : (i : ℕ) (v : OnPath) → slice_get path i ≡ Some v → v.reactor < length table
   pub links : (i : ℕ) (a b : OnPath) → slice_get path i ≡ Some a → slice_get path (i + 1) ≡ Some b → Holds table a.reactor b.reactor
-  pub passed : (i : ℕ) (v : OnPath) → slice_get path i ≡ Some v → (k r : ℕ) → k < v.next → contained table v.reactor k ≡ Some r → IsDone stages r
+  pub passed : (i : ℕ) (v : OnPath) → slice_get path i ≡ Some v → (k r : ℕ) → k < v.next → contained table v.reactor k ≡ Some r → IsReactorDone stages r
   pub kept : KeepsNew before stages
   pub looked : slice_get stages start ≢ Some New
 
-done_not_new : (stages : List Stage) (r : ℕ) → slice_get stages r ≡ Some New → IsDone stages r → ⊥
+done_not_new : (stages : List Stage) (r : ℕ) → slice_get stages r ≡ Some New → IsReactorDone stages r → ⊥
 done_not_new stages r new done = let e : New ≡ Done = done New new in cc
 
 -- what is done stays so where a new reactor is met, and no other becomes so
-done_opened : (stages : List Stage) (i r : ℕ) → slice_get stages i ≡ Some New → IsDone stages r → IsDone (slice_set stages i Open) r
+done_opened : (stages : List Stage) (i r : ℕ) → slice_get stages i ≡ Some New → IsReactorDone stages r → IsReactorDone (slice_set stages i Open) r
 done_opened stages i r new done s at = elim (get_write_cases stages i r Open s (slice_get_within stages i New new) at) [
   | inl q ↦ absurd (done_not_new stages r (subst (λ k. slice_get stages k ≡ Some New) (sym q.0) new) done)
   | inr q ↦ done s q.1
 ]
 
-opened_done : (stages : List Stage) (i r : ℕ) → slice_get stages i ≡ Some New → IsDone (slice_set stages i Open) r → IsDone stages r
+opened_done : (stages : List Stage) (i r : ℕ) → slice_get stages i ≡ Some New → IsReactorDone (slice_set stages i Open) r → IsReactorDone stages r
 opened_done stages i r new done s at = elim (cases_eq r i) [
   | inl q ↦ absurd (let e : Open ≡ Done = done Open (subst (λ k. slice_get (slice_set stages i Open) k ≡ Some Open) (sym q) (get_written stages i Open (slice_get_within stages i New new))) in cc)
   | inr n ↦ done s (get_unwritten stages i r Open n ∙ at)
 ]
 
 -- what is done stays so where one more is
-done_finished : (stages : List Stage) (i r : ℕ) → i < length stages → IsDone stages r → IsDone (slice_set stages i Done) r
+done_finished : (stages : List Stage) (i r : ℕ) → i < length stages → IsReactorDone stages r → IsReactorDone (slice_set stages i Done) r
 done_finished stages i r within done s at = elim (get_write_cases stages i r Done s within at) [ inl q ↦ sym q.1 | inr q ↦ done s q.1 ]
 
-finished_done : (stages : List Stage) (i r : ℕ) → r ≢ i → IsDone (slice_set stages i Done) r → IsDone stages r
+finished_done : (stages : List Stage) (i r : ℕ) → r ≢ i → IsReactorDone (slice_set stages i Done) r → IsReactorDone stages r
 finished_done stages i r n done s at = done s (get_unwritten stages i r Done n ∙ at)
 
 -- the last reactor of the path is done
@@ -251,7 +251,7 @@ round_of table before stages start path top inner s held seen same found (n, on,
     (subst (IsRound table) (sym places) round, λ empty. round_some table before stages start path top inner s held n there (sym places ∙ empty))
 
 -- a reactor that isn't done, and was met, is open
-pub met_is_open : (stages : List Stage) (r : ℕ) (x : Stage) → slice_get stages r ≡ Some x → (IsDone stages r → ⊥) → (x ≡ New → ⊥) → slice_get stages r ≡ Some Open
+pub met_is_open : (stages : List Stage) (r : ℕ) (x : Stage) → slice_get stages r ≡ Some x → (IsReactorDone stages r → ⊥) → (x ≡ New → ⊥) → slice_get stages r ≡ Some Open
 met_is_open stages r New at left met = absurd (met refl)
 met_is_open stages r Open at left met = at
 met_is_open stages r Done at left met = absurd (left (λ st is. same_some (slice_get stages r) st Done is at))
@@ -266,7 +266,7 @@ all_founded table stages is looked r = is.ends r (λ st at. by st at)
     by Done at = refl
 
 -- a reactor that isn't done, and wasn't met last, is on the path
-pub left_is_there : (stages : List Stage) (r : ℕ) → (IsDone stages r → ⊥) → r < length stages
+pub left_is_there : (stages : List Stage) (r : ℕ) → (IsReactorDone stages r → ⊥) → r < length stages
 left_is_there stages r left = elim (cases_lt r (length stages)) [
   | inl l ↦ l
   | inr g ↦ absurd (left (λ st at. (let l = slice_get_within stages r st at in absurd (omega (arith, l, g)))))
@@ -280,7 +280,7 @@ searched_start table = record {
   rests = λ r at. (let e : Open ≡ New = get_same (length table) r New Open at in absurd (cc));
 }
   where
-    never : (r : ℕ) → IsDone (replicate (length table) New) r → (inner : ℕ) → Holds table r inner → ⊥
+    never : (r : ℕ) → IsReactorDone (replicate (length table) New) r → (inner : ℕ) → Holds table r inner → ⊥
     never r d inner (k, is) = elim (cases_lt r (length table)) [
       | inl l ↦ (let m = length_same (length table) New in let at = get_there (replicate (length table) New) r (omega (arith, l, m)) in let new = get_same (length table) r New at.0 at.1 in let done = d at.0 at.1 in let e : New ≡ Done = sym new ∙ done in absurd (cc))
       | inr g ↦ (let e : contained table r k ≡ None = ap (option_and_then (λ c. slice_get c.instances.items k)) (slice_get_past table r g) in let f : Some inner ≡ None = sym is ∙ e in absurd (cc))

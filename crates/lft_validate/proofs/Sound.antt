@@ -9,7 +9,7 @@ use Rattle.lft_resolve.specs.declared.{causes.ProgramFault.ProgramFault, kinds.R
 use Rattle.lft_resolve.proofs.{Somes.{Any-head, Any-tail, Any-weaker, Any-Contains}, Lacking.Any-flat_map, Twice.Any-at}
 use Rattle.lft_lists.proofs.Places.{get_left, get_right}
 use Rattle.lft_validate.specs.{Members.{names_of, declarations}, Findings.{IsTwiceAt, IsFinding}}
-use Rattle.lft_validate.specs.inner.{Shown.all_names, Witnesses.{IsFirstShown, Says, in_order}}
+use Rattle.lft_validate.specs.inner.{Shown.all_names, Witnesses.{IsFirstShown, CauseSays, causes_in_order}}
 use Rattle.lft_validate.specs.Witnesses.{HasFinding, IsNamedAt, IsEarlier, IsWriting, IsWrittenTwice, Shows, fault_shown}
 use Rattle.lft_validate.specs.declared.witness.{Naming.Naming, Witness.Witness}
 use Rattle.lft_validate.proofs.{Causes.{found, twice_there}, InMembers.{so_too, at_place}, DeclaredNames.named_twice, Standing.{all_destinations, all_effects}}
@@ -89,7 +89,7 @@ module _ (rs : List ReactorTree) where
   long_default k n a = at_place HasLongTime rs k (so_too (λ r. IsSomeAnd (slice_get r.parameters n) (λ p. longest < nanoseconds p.default)) HasLongTime (λ r x. inl (at_place (λ p. longest < nanoseconds p.default) r.parameters n x)) (slice_get rs k) a)
 
   -- the cause holds that a witness shows
-  pub held : (w : Witness) → Shows rs w → Says rs (fault_shown w)
+  pub held : (w : Witness) → Shows rs w → CauseSays rs (fault_shown w)
   held witness.NoMain a = a
   held (witness.TwoMains i j) a = both_main rs i j a.0 a.1 a.2
   held (witness.SameReactors i j) a = same_reactors i j a
@@ -99,14 +99,14 @@ module _ (rs : List ReactorTree) where
   held (witness.LongDefault k n) a = long_default k n a
 
   -- none of the causes before the place is so, and the one there is: it is the first
-  pub first_there : (cs : List ProgramFault) (i : ℕ) (c : ProgramFault) → i < length cs → get_or cs i c ≡ c → (Any (Says rs) (map (λ c. c) (take i cs)) → ⊥) → Says rs c → IsFirst (in_order rs cs) (number_of c)
+  pub first_there : (cs : List ProgramFault) (i : ℕ) (c : ProgramFault) → i < length cs → get_or cs i c ≡ c → (Any (CauseSays rs) (map (λ c. c) (take i cs)) → ⊥) → CauseSays rs c → IsFirst (causes_in_order rs cs) (number_of c)
   first_there [] i c within is none says = absurd (omega arith)
-  first_there (d ∷ cs) zero c within is none says = inl (subst (λ x. (number_of c ≡ number_of x) × Says rs x) (sym is) (refl, says))
-  first_there (d ∷ cs) (suc i) c within is none says = inr ((λ s. none (Any-head (Says rs) d (map (λ c. c) (take i cs)) s)), first_there cs i c (omega arith) is (λ a. none (Any-tail (Says rs) d (map (λ c. c) (take i cs)) a)) says)
+  first_there (d ∷ cs) zero c within is none says = inl (subst (λ x. (number_of c ≡ number_of x) × CauseSays rs x) (sym is) (refl, says))
+  first_there (d ∷ cs) (suc i) c within is none says = inr ((λ s. none (Any-head (CauseSays rs) d (map (λ c. c) (take i cs)) s)), first_there cs i c (omega arith) is (λ a. none (Any-tail (CauseSays rs) d (map (λ c. c) (take i cs)) a)) says)
 
-  pub none_says : (cs : List ProgramFault) → (Any (Says rs) (map (λ c. c) cs) → ⊥) → NoneHolds (in_order rs cs)
+  pub none_says : (cs : List ProgramFault) → (Any (CauseSays rs) (map (λ c. c) cs) → ⊥) → NoneHolds (causes_in_order rs cs)
   none_says [] none = tt
-  none_says (c ∷ cs) none = ((λ s. none (Any-head (Says rs) c (map (λ c. c) cs) s)), none_says cs (λ a. none (Any-tail (Says rs) c (map (λ c. c) cs) a)))
+  none_says (c ∷ cs) none = ((λ s. none (Any-head (CauseSays rs) c (map (λ c. c) cs) s)), none_says cs (λ a. none (Any-tail (CauseSays rs) c (map (λ c. c) cs) a)))
 
 -- ---- answers
 

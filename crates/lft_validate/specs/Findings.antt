@@ -25,8 +25,8 @@ abbrev pub IsForNone : List ReactorTree → ℕ → InstanceTree → Type 0
 IsForNone reactors n i = (inner : ReactorTree) × (reactor_named reactors i.reactor ≡ Some inner) × IsSomeAnd (slice_get i.given n) (LacksParameter inner)
 
 -- the name is something of this kind, which may not have the role
-abbrev pub IsWrong : List ReactorTree → ReactorTree → Role → Kind → RefTree → Type 0
-IsWrong reactors r role kind ref = (kind_of reactors r ref ≡ Some kind) × (may_stand role kind ≡ false)
+abbrev pub IsWrongKind : List ReactorTree → ReactorTree → Role → Kind → RefTree → Type 0
+IsWrongKind reactors r role kind ref = (kind_of reactors r ref ≡ Some kind) × (may_stand role kind ≡ false)
 
 -- the time names something of this kind, which is no parameter
 abbrev pub IsWrongTime : ReactorTree → Kind → TimeTree → Type 0
@@ -40,7 +40,7 @@ IsFinding reactors r m finding.UnknownReactor = IsSomeAnd (instance_in m) (IsOfN
 IsFinding reactors r m (finding.UnknownName role n) = IsSomeAnd (slice_get (names_of role m) n) (IsNothing reactors r)
 IsFinding reactors r m (finding.UnknownTime n) = IsSomeAnd (slice_get (times_of m) n) (IsUnknownTime r)
 IsFinding reactors r m (finding.UnknownParameter n) = IsSomeAnd (instance_in m) (IsForNone reactors n)
-IsFinding reactors r m (finding.WrongPlace role n kind) = IsSomeAnd (slice_get (names_of role m) n) (IsWrong reactors r role kind)
+IsFinding reactors r m (finding.WrongPlace role n kind) = IsSomeAnd (slice_get (names_of role m) n) (IsWrongKind reactors r role kind)
 IsFinding reactors r m (finding.WrongTime n kind) = IsSomeAnd (slice_get (times_of m) n) (IsWrongTime r kind)
 IsFinding reactors r m finding.MainHasPort = (r.is_main ≡ true) × IsSome (port_in m)
 IsFinding reactors r m finding.WidthMismatch = IsSomeAnd (connection_in m) (λ c. length c.sources ≢ length c.destinations)

@@ -1,11 +1,11 @@
 -- The names, times and values of one member of a reactor, and what a reactor declares, in the order of the text.
 use Rattle.std.specs.Prelude.{ℕ, List, ◌++◌, Option, Some, None, map, filter_map, option_to_list, []}
 use Rattle.lft_tree.specs.Tree.{ReactorTree, MemberTree, PortMember, TimerMember, ActionMember, ReactionMember, InstanceMember, ConnectionMember, RefTree, TimeTree, AssignmentTree}
-use Rattle.lft_resolve.specs.{Kinds.{reads_of, timer_times}, declared.kinds.Role.{Role, TheVariants.{Read, Effect, Source, Destination}}}
+use Rattle.lft_resolve.specs.{Kinds.{names_read, timer_times}, declared.kinds.Role.{Role, TheVariants.{Read, Effect, Source, Destination}}}
 
 -- the names of the member that have the role, in order
 abbrev pub names_of : Role → MemberTree → List RefTree
-names_of Read (ReactionMember x) = reads_of x
+names_of Read (ReactionMember x) = names_read x
 names_of Effect (ReactionMember x) = x.effects
 names_of Source (ConnectionMember x) = x.sources
 names_of Destination (ConnectionMember x) = x.destinations

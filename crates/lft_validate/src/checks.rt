@@ -3,7 +3,7 @@
 ghost use Rattle.std.specs.Prelude.{◌≡◌, Any, IfOk, IfSome, IfNone};
 ghost use Rattle.lft_tree.specs.Tree.{reactors_of};
 ghost use Rattle.lft_resolve.specs.{Causes.{DuplicateName, HasLongTime, first_causes, later_causes}, inner.{References.reactor_trees, Tables.IsFile}};
-ghost use Rattle.lft_validate.specs.{inner.Witnesses.{IsFirstShown, Says, in_order, time_causes}, Witnesses.{Shows, fault_shown}};
+ghost use Rattle.lft_validate.specs.{inner.Witnesses.{IsFirstShown, CauseSays, causes_in_order, time_causes}, Witnesses.{Shows, fault_shown}};
 
 use crate::declared::{same_reactors, some_declared_twice};
 use crate::mains::{long_default, no_main, two_mains};
@@ -63,7 +63,7 @@ fn shown(
     requires { IsFile (reactor_trees reactors.now) file.now }
     ensures shows { IfOk result (λ found. IfSome found (Shows (reactor_trees reactors.now))) }
     ensures cause { IfOk result (λ found. IfSome found (λ w. fault_shown w ≡ cause)) }
-    ensures none { IfOk result (λ found. IfNone found (¬ Says (reactor_trees reactors.now) cause)) }
+    ensures none { IfOk result (λ found. IfNone found (¬ CauseSays (reactor_trees reactors.now) cause)) }
 {
     match cause {
         ProgramFault::NoMain => Ok(no_main(reactors)),
@@ -83,7 +83,7 @@ fn first_of(
     file: &ReactorTable,
 ) -> Result<Option<Witness>, NoMemory>
     requires { IsFile (reactor_trees reactors.now) file.now }
-    ensures { IfOk result (IsFirstShown (reactor_trees reactors.now) (in_order (reactor_trees reactors.now) causes.now)) }
+    ensures { IfOk result (IsFirstShown (reactor_trees reactors.now) (causes_in_order (reactor_trees reactors.now) causes.now)) }
 {
     for place in 0..causes.len() {
         if let Some(found) = shown(alloc, causes[place], reactors, file)? {

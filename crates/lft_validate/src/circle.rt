@@ -6,7 +6,8 @@
 ghost use Rattle.std.specs.Prelude.{◌≡◌, ◌≢◌, ◌≤◌, ◌<◌, ◌↔◌, ℕ, List, [], Some, IfOk, IfSome, IfNone, IsTrue, drop, length, map, slice_get};
 ghost use Rattle.lft_tree.specs.Tree.{ReactorTree};
 ghost use Rattle.lft_resolve.specs.{inner.{Expansion.Contents.contained, Numbers.AreContents}, Causes.RecursiveReactor};
-ghost use Rattle.lft_validate.specs.inner.{Circles.{AllFounded, DoneBetween, IsDone, IsRound, IsSearched, IsVisitAt, KeepsNew, OnlyDone}, Witnesses.IsCircle};
+ghost use Rattle.lft_validate.specs.inner.Circles.{AllFounded, DoneBetween, IsReactorDone, IsRound, IsSearched, IsVisitAt, KeepsNew, OnlyDone};
+ghost use Rattle.lft_validate.specs.inner.Witnesses.{IsCircle};
 ghost use Rattle.lft_validate.specs.declared.circle.Stage.TheVariants.{New};
 
 use lft_lists::item_at;
@@ -31,14 +32,14 @@ struct OnPath {
 
 /// Whether the search is done with the reactor. A number past the end stands for none.
 fn is_done(stages: &[Stage], reactor: usize) -> bool
-    ensures { IsTrue result ↔ IsDone stages.now reactor }
+    ensures { IsTrue result ↔ IsReactorDone stages.now reactor }
 {
     reactor >= stages.len() || stages[reactor] == Stage::Done
 }
 
 /// The first of the numbers, from that place on, of a reactor that the search isn't done with.
 fn first_left(numbers: &[u32], stages: &[Stage], start: usize) -> Option<(usize, usize)>
-    ensures some { IfSome result (λ p. (slice_get numbers.now p.0 ≡ Some p.1) × (¬ IsDone stages.now p.1) × DoneBetween stages.now (slice_get numbers.now) start p.0) }
+    ensures some { IfSome result (λ p. (slice_get numbers.now p.0 ≡ Some p.1) × (¬ IsReactorDone stages.now p.1) × DoneBetween stages.now (slice_get numbers.now) start p.0) }
     ensures none { IfNone result (OnlyDone stages.now (slice_get numbers.now) start) }
 {
     for place in start..numbers.len() {
@@ -52,7 +53,7 @@ fn first_left(numbers: &[u32], stages: &[Stage], start: usize) -> Option<(usize,
 
 /// The next instance in a reactor of one that the search isn't done with: its place, and its reactor.
 fn next_inside(contents: &[Contents], stages: &[Stage], visit: OnPath) -> Option<(usize, usize)>
-    ensures some { IfSome result (λ p. (contained contents.now visit.reactor p.0 ≡ Some p.1) × (¬ IsDone stages.now p.1) × DoneBetween stages.now (contained contents.now visit.reactor) visit.next p.0) }
+    ensures some { IfSome result (λ p. (contained contents.now visit.reactor p.0 ≡ Some p.1) × (¬ IsReactorDone stages.now p.1) × DoneBetween stages.now (contained contents.now visit.reactor) visit.next p.0) }
     ensures none { IfNone result (OnlyDone stages.now (contained contents.now visit.reactor) visit.next) }
 {
     if visit.reactor >= contents.len() {

@@ -4,7 +4,7 @@ ghost use Rattle.std.specs.Prelude.{◌≡◌, List, Any, IfOk, IfSome, IfNone, 
 ghost use Rattle.lft_tree.specs.{Tree.ReactorTree, View.{member_view, ref_view, time_view}};
 ghost use Rattle.lft_resolve.specs.{Causes.{IsMisplaced, IsMisplacedTime}, inner.{References.ref_trees, Tables.{IsFile, IsOwn}}};
 ghost use Rattle.lft_validate.specs.{Members.names_of, inner.{Members.time_trees, Shown.{ShowsMisplaced, SomeName}}};
-ghost use Rattle.lft_validate.specs.Findings.{IsFinding, IsWrong, IsWrongTime, fault_found};
+ghost use Rattle.lft_validate.specs.Findings.{IsFinding, IsWrongKind, IsWrongTime, fault_found};
 ghost use Rattle.lft_resolve.specs.declared.causes.ProgramFault.TheVariants as faults;
 
 use crate::finding::{Finding, ROLES};
@@ -18,7 +18,7 @@ use std::alloc::Global;
 
 /// What the name is, if it may not have that role.
 fn wrong_kind(file: &ReactorTable, own: &Own, role: Role, name: &Reference) -> Option<Kind>
-    ensures some { (rs : List ReactorTree) (r : ReactorTree) → IsFile rs file.now → IsOwn r own.now → IfSome result (λ kind. IsWrong rs r role kind (ref_view name.now)) }
+    ensures some { (rs : List ReactorTree) (r : ReactorTree) → IsFile rs file.now → IsOwn r own.now → IfSome result (λ kind. IsWrongKind rs r role kind (ref_view name.now)) }
     ensures none { (rs : List ReactorTree) (r : ReactorTree) → IsFile rs file.now → IsOwn r own.now → IfNone result (¬ IsMisplaced rs r (role, ref_view name.now)) }
 {
     let kind = kind_of(file, own, name)?;
@@ -36,7 +36,7 @@ fn first_wrong(
     role: Role,
     names: &[&Reference],
 ) -> Option<(usize, Kind)>
-    ensures some { (rs : List ReactorTree) (r : ReactorTree) → IsFile rs file.now → IsOwn r own.now → IfSome result (λ p. IsSomeAnd (slice_get (ref_trees names.now) p.0) (IsWrong rs r role p.1)) }
+    ensures some { (rs : List ReactorTree) (r : ReactorTree) → IsFile rs file.now → IsOwn r own.now → IfSome result (λ p. IsSomeAnd (slice_get (ref_trees names.now) p.0) (IsWrongKind rs r role p.1)) }
     ensures none { (rs : List ReactorTree) (r : ReactorTree) → IsFile rs file.now → IsOwn r own.now → IfNone result (¬ Any (λ ref. IsMisplaced rs r (role, ref)) (ref_trees names.now)) }
 {
     for name in 0..names.len() {

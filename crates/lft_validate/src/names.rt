@@ -2,7 +2,7 @@
 
 ghost use Rattle.std.specs.Prelude.{◌≡◌, ◌++◌, IfOk, OnOk, option_map, filter_map, option_to_list, map};
 ghost use Rattle.lft_tree.specs.View.{assignment_view, member_view, ref_view, ref_views, trigger_view, reaction_view, time_view};
-ghost use Rattle.lft_resolve.specs.{Kinds.{ref_in, reads_of}, inner.References.ref_trees};
+ghost use Rattle.lft_resolve.specs.{Kinds.{ref_in, names_read}, inner.References.ref_trees};
 ghost use Rattle.lft_validate.specs.{Members.{names_of, times_of}, inner.Members.time_trees};
 
 use lft_resolve::kinds::Role;
@@ -46,7 +46,7 @@ fn trigger_names(alloc: Global, triggers: &[Trigger]) -> Result<Vec<&Reference>,
 
 /// The names among a reaction's triggers and uses.
 fn reads(alloc: Global, reaction: &Reaction) -> Result<Vec<&Reference>, NoMemory>
-    ensures { IfOk result (λ v. ref_trees v.items ≡ reads_of (reaction_view reaction.now)) }
+    ensures { IfOk result (λ v. ref_trees v.items ≡ names_read (reaction_view reaction.now)) }
 {
     let mut found = trigger_names(alloc, &reaction.triggers)?;
     push_all(&mut found, &reaction.uses)?;

@@ -7,7 +7,7 @@ use Rattle.lft_whole.specs.declared.sources.{source.SourceFile.SourceFile, stop.
 use Rattle.lft_whole_parser.specs.inner.Imports.Files.{AreSources, HasOneMore, IsNamedBy, RefusesNext, next_path, paths_of}
 use Rattle.lft_whole_parser.specs.{Imports.{Files.{IsFileOf, IsImportOf, IsRefusedFor, paths_of_files}, Paths.normal}, declared.imports.sources.Sources.Sources}
 use Rattle.lft_whole_parser.proofs.ImportsLemmas.Known.{all_whole, path_at, read_more}
-use Rattle.lft_whole_driver.specs.{Lowered.{AreFilesOf, BeginWith, LeadTo}, inner.{Lowered.BeginsAs, Unlowered.{IsAt, IsOfUnread}}}
+use Rattle.lft_whole_driver.specs.{Lowered.{AreFilesOf, BeginWith, LeadTo}, inner.{Lowered.BeginsAs, Unlowered.{IsImportRefusedAt, IsOfUnread}}}
 use Rattle.lft_whole_driver.specs.Unlowered.{IsOfFirst, IsOfImported}
 use Rattle.lft_whole.specs.declared.sources.stop.NoProgram.TheVariants as stop
 
@@ -89,7 +89,7 @@ module _ (text : List ℕ) (s : Sources) (files : List SourceFile) (r : FileRefu
       }
 
 -- the import of a file that can't be read
-pub unread_at : (s : Sources) (path : List ℕ) (place : Place) → AreSources s → next_path s ≡ Some path → IfSome (next_path s) (λ p. IsNamedBy s.files.items (length s.files.items) p (Some place)) → (files : List SourceFile) (first : List ℕ) (r : FileRefusal) → IsAt s.files.items place files first r → IsOfUnread s.files.items files first r
+pub unread_at : (s : Sources) (path : List ℕ) (place : Place) → AreSources s → next_path s ≡ Some path → IfSome (next_path s) (λ p. IsNamedBy s.files.items (length s.files.items) p (Some place)) → (files : List SourceFile) (first : List ℕ) (r : FileRefusal) → IsImportRefusedAt s.files.items place files first r → IsOfUnread s.files.items files first r
 unread_at s path place sources next named files first r is =
     let these = s.files.items in
     let import : IsImportOf these path place = (subst (λ o. IfSome o (λ p. IsNamedBy these (length these) p (Some place))) next named).1 in

@@ -6,8 +6,8 @@ use Rattle.lft_text_diagnostics.specs.{inner.Pages.ArePages, declared.pages.Page
 use Rattle.lft_whole.specs.{Sources.Shown.shown_path, declared.sources.source.SourceFile.SourceFile, Pieces.tokens_of, inner.Tokens.{AreTokens, IsToken}}
 use Rattle.lft_whole.proofs.Between.{each_token}
 use Rattle.lft_syntax.specs.declared.token.Token.{Token}
-use Rattle.lft_whole_driver.specs.{Pages.{AreJoined, Join, cut, end_at, end_of, file_tokens, is_page, moved, Join.{no_files, file_more}}, inner.Pages.JoinsFile}
-use Rattle.lft_whole_driver.specs.declared.pages.Joined.{Joined}
+use Rattle.lft_whole_driver.specs.Pages.{AreJoined, Join, cut, end_at, end_of, file_tokens, is_page, token_moved, Join.{no_files, file_more}}
+use Rattle.lft_whole_driver.specs.{inner.Pages.JoinsFile, declared.pages.Joined.Joined}
 
 -- a token of a text
 pub token_at : (t : List ℕ) (tokens these : List Token) (at : ℕ) (d : Token) → AreTokens t tokens → these ≡ tokens → at < length these → IsToken t (get_or these at d)
@@ -15,16 +15,16 @@ token_at t tokens these at d are same lt =
     each_token t these (subst (AreTokens t) (sym same) are) at (get_or these at d) (slice_get-get_or these at d lt)
 
 -- a file behind those that are there: its text, its tokens with its end, and a line feed
-pub joins_file : (file : SourceFile) (old new : Joined) (page : Page) (tokens : List Token) (text : List ℕ) (moved_tokens : List Token) → tokens_of file.text.items ≡ Ok tokens → text ≡ old.text.items ++ file.text.items → new.text.items ≡ text ++ 10 ∷ [] → moved_tokens ≡ old.tokens.items ++ map (moved page.start) tokens → new.tokens.items ≡ moved_tokens ++ end_at page.end ∷ [] → string_bytes page.path ≡ shown_path (string_bytes file.path) → page.start ≡ length old.text.items → page.end ≡ length text → new.pages.items ≡ old.pages.items ++ page ∷ [] → JoinsFile file old new
+pub joins_file : (file : SourceFile) (old new : Joined) (page : Page) (tokens : List Token) (text : List ℕ) (moved_tokens : List Token) → tokens_of file.text.items ≡ Ok tokens → text ≡ old.text.items ++ file.text.items → new.text.items ≡ text ++ 10 ∷ [] → moved_tokens ≡ old.tokens.items ++ map (token_moved page.start) tokens → new.tokens.items ≡ moved_tokens ++ end_at page.end ∷ [] → string_bytes page.path ≡ shown_path (string_bytes file.path) → page.start ≡ length old.text.items → page.end ≡ length text → new.pages.items ≡ old.pages.items ++ page ∷ [] → JoinsFile file old new
 joins_file file old new page tokens text moved_tokens read behind feed moved_are end_more path start end pages =
     let n = length old.text.items in
     let end_is : page.end ≡ end_of n file = end ∙ ap length behind ∙ length-append old.text.items file.text.items in
-    let these : map (moved page.start) tokens ++ end_at page.end ∷ [] ≡ file_tokens n file = ap (λ s. map (moved s) tokens ++ end_at page.end ∷ []) start ∙ ap (λ e. map (moved n) tokens ++ end_at e ∷ []) end_is ∙ ap (λ r. map (moved n) (cut r) ++ end_at (end_of n file) ∷ []) (sym read) in
+    let these : map (token_moved page.start) tokens ++ end_at page.end ∷ [] ≡ file_tokens n file = ap (λ s. map (token_moved s) tokens ++ end_at page.end ∷ []) start ∙ ap (λ e. map (token_moved n) tokens ++ end_at e ∷ []) end_is ∙ ap (λ r. map (token_moved n) (cut r) ++ end_at (end_of n file) ∷ []) (sym read) in
     record {
       page = page;
       is_page = (path, start, end_is);
       text = feed ∙ ap (λ t. t ++ 10 ∷ []) behind ∙ append_assoc old.text.items file.text.items (10 ∷ []);
-      tokens = end_more ∙ ap (λ ts. ts ++ end_at page.end ∷ []) moved_are ∙ append_assoc old.tokens.items (map (moved page.start) tokens) (end_at page.end ∷ []) ∙ ap (λ ts. old.tokens.items ++ ts) these;
+      tokens = end_more ∙ ap (λ ts. ts ++ end_at page.end ∷ []) moved_are ∙ append_assoc old.tokens.items (map (token_moved page.start) tokens) (end_at page.end ∷ []) ∙ ap (λ ts. old.tokens.items ++ ts) these;
       pages = pages;
     }
 

@@ -1,7 +1,7 @@
 -- What the files of a program are, and which program they are.
 use Rattle.std.specs.Prelude.{ℕ, IsSomeAnd, List, slice_get}
 use Rattle.lft_ir.specs.Parts.{Parts}
-use Rattle.lft_whole_parser.specs.Imports.{Files.{AreOfTexts, AreReached, EachOnce, IsFileOf, IsWhole, paths_of_files}, Paths.normal}
+use Rattle.lft_whole_parser.specs.Imports.{Files.{AreOfTexts, AreReachedFiles, EachOnce, IsFileOf, IsWhole, paths_of_files}, Paths.normal}
 use Rattle.lft_load.specs.Meaning.{IsOnly}
 use Rattle.lft_same.specs.Expanded.{Expanded.Expanded, Flat.IsFlat, Same.IsSame}
 use Rattle.lft_whole.specs.declared.sources.source.SourceFile.{SourceFile}
@@ -13,7 +13,7 @@ BeginWith path text files = IsSomeAnd (slice_get files 0) (IsFileOf (normal path
 -- The files have the trees of texts. Imports of them lead to each of the paths from the first, and each stands there once.
 pub record LeadTo (files : List SourceFile) (paths : List (List ℕ)) : Type 0 where
   pub trees : AreOfTexts files
-  pub reached : AreReached files paths
+  pub reached : AreReachedFiles files paths
   pub once : EachOnce paths
 
 -- The first of the files has this path, and is read from this text; imports of them lead to each, and each import of them names one of them.
@@ -27,5 +27,5 @@ abbrev pub IsOfFiles : List SourceFile → Parts → Type 0
 IsOfFiles files program = (expanded : Expanded) × IsSame files expanded × IsOnly (IsFlat expanded) program
 
 -- So it is of the files of this path and this text.
-abbrev pub IsProgramOf : List ℕ → List ℕ → Parts → Type 0
-IsProgramOf path text program = (files : List SourceFile) × AreFilesOf path text files × IsOfFiles files program
+abbrev pub IsProgramOfFiles : List ℕ → List ℕ → Parts → Type 0
+IsProgramOfFiles path text program = (files : List SourceFile) × AreFilesOf path text files × IsOfFiles files program

@@ -7,8 +7,8 @@ use Rattle.lft_whole_driver.specs.declared.pages.Joined.{Joined}
 use Rattle.lft_syntax.specs.declared.token.TokenKind.TheVariants as kinds
 
 -- A token of a file, where its text begins there in the text of all.
-abbrev pub moved : ℕ → Token → Token
-moved start token = record { kind = token.kind; start = start + token.start; end = start + token.end }
+abbrev pub token_moved : ℕ → Token → Token
+token_moved start token = record { kind = token.kind; start = start + token.start; end = start + token.end }
 
 -- What stands at a byte alone: the end of a file.
 abbrev pub end_at : ℕ → Token
@@ -25,7 +25,7 @@ cut (Err fault) = []
 
 -- The tokens of a file, and one for its end.
 abbrev pub file_tokens : ℕ → SourceFile → List Token
-file_tokens start file = map (moved start) (cut (tokens_of file.text.items)) ++ end_at (end_of start file) ∷ []
+file_tokens start file = map (token_moved start) (cut (tokens_of file.text.items)) ++ end_at (end_of start file) ∷ []
 
 -- The path of a file as it is shown, and which bytes it has.
 abbrev pub is_page : ℕ → SourceFile → Page → Type 0

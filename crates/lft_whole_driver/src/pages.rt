@@ -3,7 +3,7 @@
 ghost use Rattle.std.specs.Prelude.{◌≡◌, ◌+◌, ◌≤◌, ◌<◌, ◌^◌, IfOk, OnOk, length};
 ghost use Rattle.lft_whole.specs.inner.Tokens.{AreTokens};
 ghost use Rattle.lft_whole_parser.specs.Imports.{Files.AreOfTexts, Reads.HasTree};
-ghost use Rattle.lft_whole_driver.specs.{Pages.{AreJoined, moved as moved_token}, inner.Pages.{JoinsFile, JoinsTokens}};
+ghost use Rattle.lft_whole_driver.specs.{Pages.{AreJoined, token_moved as moved_token}, inner.Pages.{JoinsFile, JoinsTokens}};
 
 use lft_syntax::{Token, TokenKind, Tokens};
 use lft_tag::NoMemory;

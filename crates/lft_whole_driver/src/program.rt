@@ -2,7 +2,7 @@
 
 ghost use Rattle.std.specs.Prelude.{◌≡◌, ◌≢◌, IfErr, IfOk, false};
 ghost use Rattle.lft_whole_parser.specs.Imports.Files.{AreOfTexts};
-ghost use Rattle.lft_whole_driver.specs.{Lowered.{IsOfFiles, IsProgramOf}, inner.Unlowered.IsUnloweredFrom, Unlowered.IsUnloweredOf};
+ghost use Rattle.lft_whole_driver.specs.{Lowered.{IsOfFiles, IsProgramOfFiles}, inner.Unlowered.IsUnloweredFrom, Unlowered.IsUnloweredOf};
 ghost use Rattle.lft_program.specs.declared.refusal.Refusal.TheVariants as refusals;
 
 use crate::reading::read_sources;
@@ -61,7 +61,7 @@ pub fn whole_program<F: Files>(
     path: &str,
     text: &[u8],
 ) -> Result<Whole, Unlowered>
-    ensures program { IfOk result (λ whole. IsProgramOf path.now text.now whole.program) }
+    ensures program { IfOk result (λ whole. IsProgramOfFiles path.now text.now whole.program) }
     ensures refused { IfErr result (IsUnloweredOf path.now text.now) }
 {
     let sources = read_sources(rt, alloc, path, text)?;

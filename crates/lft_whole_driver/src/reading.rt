@@ -2,7 +2,7 @@
 
 ghost use Rattle.std.specs.Prelude.{◌≡◌, ◌<◌, IfErr, IfOk, None, OnOk, Some, length};
 ghost use Rattle.lft_whole_parser.specs.inner.Imports.Files.{AreSources, HasOneMore, next_path};
-ghost use Rattle.lft_whole_driver.specs.{Lowered.AreFilesOf, inner.{Lowered.BeginsAs, Unlowered.{IsAt, IsOfNext, IsOfRest, IsOfUnread}}};
+ghost use Rattle.lft_whole_driver.specs.{Lowered.AreFilesOf, inner.{Lowered.BeginsAs, Unlowered.{IsImportRefusedAt, IsOfNext, IsOfRest, IsOfUnread}}};
 ghost use Rattle.lft_whole_driver.specs.Unlowered.{IsOfReading, Says};
 
 use crate::told::{Unlowered, unlowered_by};
@@ -43,7 +43,7 @@ fn unread(
     place: Place,
     failure: &Failure,
 ) -> Unlowered
-    ensures { Says (IsAt sources.now.files.items place) result }
+    ensures { Says (IsImportRefusedAt sources.now.files.items place) result }
 {
     match about(alloc, path, failure) {
         Ok(about) => {

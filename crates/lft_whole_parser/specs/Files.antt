@@ -21,13 +21,13 @@ unfoldable pub imported_names : Reader (List ImportedTree)
 imported_names = separated 44 imported
 
 -- without the first byte and the last
-abbrev pub inner : List ℕ → List ℕ
-inner bytes = slice_range bytes 1 (length bytes - 1)
+abbrev pub inner_bytes : List ℕ → List ℕ
+inner_bytes bytes = slice_range bytes 1 (length bytes - 1)
 
 -- what is between the quotes of a token
 abbrev pub unquoted : List ℕ → Option Token → List ℕ
 unquoted text None = []
-unquoted text (Some t) = inner (slice_range text t.start t.end)
+unquoted text (Some t) = inner_bytes (slice_range text t.start t.end)
 
 -- TEXT: a `<` begins the name of a package
 unfoldable pub path_text : Reader (List ℕ × ℕ)
@@ -57,17 +57,17 @@ abbrev pub decentralized_at : Source → ℕ → ℕ → Bool
 decentralized_at s end i = word (codes "coordination") s i && nat_lt (i + 2) end && word (codes "decentralized") s (i + 2)
 
 -- the places from one on, so many
-abbrev pub places : ℕ → ℕ → List ℕ
-places i zero = []
-places i (suc n) = i ∷ places (i + 1) n
+abbrev pub places_from : ℕ → ℕ → List ℕ
+places_from i zero = []
+places_from i (suc n) = i ∷ places_from (i + 1) n
 
 -- all times behind `timeout`
 abbrev pub timeouts : Source → ℕ → ℕ → List Timeout
-timeouts s i end = filter_map (timeout_at s end) (places i (end - i))
+timeouts s i end = filter_map (timeout_at s end) (places_from i (end - i))
 
 -- the first place of a decentralized coordination
 abbrev pub decentralized : Source → ℕ → ℕ → Option ℕ
-decentralized s i end = find (decentralized_at s end) (places i (end - i))
+decentralized s i end = find (decentralized_at s end) (places_from i (end - i))
 
 -- ---- what stands at the top of a file, behind what is known of it
 

@@ -12,8 +12,8 @@ use Rattle.lft_whole.specs.declared.tree.Foreign.TheVariants as foreigns
 -- ---- ports, timers, actions
 
 -- a port of this direction, width and name
-abbrev pub port_of : (Bool × Option (List TermTree)) × NameTree → PortTree
-port_of x = record { name = x.1; is_input = x.0.0; width = x.0.1 }
+abbrev pub port_tree_of : (Bool × Option (List TermTree)) × NameTree → PortTree
+port_tree_of x = record { name = x.1; is_input = x.0.0; width = x.0.1 }
 
 -- "input" | "output"
 unfoldable pub direction : Reader Bool
@@ -21,19 +21,19 @@ direction = choice (word (codes "input")) (made (λ _. true) (key (codes "input"
 
 -- ["mutable"] direction [width] NAME [":" type]
 unfoldable pub port : Reader PortTree
-port = made port_of (flag (word (codes "mutable")) >> (direction & width & name << typed))
+port = made port_tree_of (flag (word (codes "mutable")) >> (direction & width & name << typed))
 
 -- a timer of this name and these two values
-abbrev pub timer_of : NameTree × (Option ExpressionTree × Option ExpressionTree) → TimerTree
-timer_of x = record { name = x.0; offset = x.1.0; period = x.1.1 }
+abbrev pub timer_tree_of : NameTree × (Option ExpressionTree × Option ExpressionTree) → TimerTree
+timer_tree_of x = record { name = x.0; offset = x.1.0; period = x.1.1 }
 
 -- "timer" NAME [two_values]
 unfoldable pub timer : Reader TimerTree
-timer = made timer_of (key (codes "timer") >> name & two_values)
+timer = made timer_tree_of (key (codes "timer") >> name & two_values)
 
 -- an action of this origin, name and these two values
-abbrev pub action_of : (Bool × NameTree) × (Option ExpressionTree × Option ExpressionTree) → ActionTree
-action_of x = record { name = x.0.1; is_physical = x.0.0; min_delay = x.1.0; spacing = x.1.1 }
+abbrev pub action_tree_of : (Bool × NameTree) × (Option ExpressionTree × Option ExpressionTree) → ActionTree
+action_tree_of x = record { name = x.0.1; is_physical = x.0.0; min_delay = x.1.0; spacing = x.1.1 }
 
 -- "physical" | "logical"
 unfoldable pub origin : Reader Bool
@@ -41,7 +41,7 @@ origin = choice (word (codes "physical")) (made (λ _. true) (key (codes "physic
 
 -- origin "action" NAME [two_values] [":" type]
 unfoldable pub action : Reader ActionTree
-action = made action_of (origin << key (codes "action") & name & two_values << typed)
+action = made action_tree_of (origin << key (codes "action") & name & two_values << typed)
 
 -- ---- what has no part in the tree
 
@@ -118,12 +118,12 @@ unfoldable pub own_name : Reader (Unit {0})
 own_name = passed (on is_word) (ignored name)
 
 -- a reaction at this place, of these triggers, uses and effects
-abbrev pub reaction_of : ℕ → (List TriggerTree × List ReferenceTree) × List EffectTree → ReactionTree
-reaction_of i x = record { triggers = x.0.0; uses = x.0.1; effects = x.1; at = i }
+abbrev pub reaction_tree_of : ℕ → (List TriggerTree × List ReferenceTree) × List EffectTree → ReactionTree
+reaction_tree_of i x = record { triggers = x.0.0; uses = x.0.1; effects = x.1; at = i }
 
 -- WORD [NAME] "(" triggers [references] ["->" effects] [CODE] {handler}
 unfoldable pub reaction : List ℕ → Reader ReactionTree
-reaction letters = made_at reaction_of (key letters >> own_name >> symbol 40 >> triggers & uses & written << flag (on (is Code)) << handlers)
+reaction letters = made_at reaction_tree_of (key letters >> own_name >> symbol 40 >> triggers & uses & written << flag (on (is Code)) << handlers)
 
 -- "watchdog" NAME group of ( ) ["->" effects] CODE
 unfoldable pub watchdog : Reader (Unit {0})
@@ -132,12 +132,12 @@ watchdog = key (codes "watchdog") >> ignored name >> group 40 41 >> written >> o
 -- ---- instances
 
 -- this value for the parameter of this name
-abbrev pub assignment_of : NameTree × ExpressionTree → AssignmentTree
-assignment_of x = record { name = x.0; value = x.1 }
+abbrev pub assignment_tree_of : NameTree × ExpressionTree → AssignmentTree
+assignment_tree_of x = record { name = x.0; value = x.1 }
 
 -- NAME initial
 unfoldable pub assignment : Reader AssignmentTree
-assignment = made assignment_of (name & needed initial)
+assignment = made assignment_tree_of (name & needed initial)
 
 -- [assignment {"," assignment} [","]] ")"
 unfoldable pub assignments : Reader (List AssignmentTree)
@@ -165,12 +165,12 @@ unfoldable pub host : Reader (Unit {0})
 host = passed (word (codes "at")) (key (codes "at") >> flag (on is_there) >> host_rest)
 
 -- an instance of this name, width, reactor and these assignments
-abbrev pub instance_of : Bool → ((NameTree × Option (List TermTree)) × NameTree) × List AssignmentTree → InstanceTree
-instance_of enclave x = record { name = x.0.0.0; width = x.0.0.1; reactor = x.0.1; given = x.1; is_enclave = enclave }
+abbrev pub instance_tree_of : Bool → ((NameTree × Option (List TermTree)) × NameTree) × List AssignmentTree → InstanceTree
+instance_tree_of enclave x = record { name = x.0.0.0; width = x.0.0.1; reactor = x.0.1; given = x.1; is_enclave = enclave }
 
 -- NAME "=" "new" [width] NAME [group of < >] "(" assignments [host]
 unfoldable pub instance : Bool → Reader InstanceTree
-instance enclave = made (instance_of enclave) (name << symbol 61 << key (codes "new") & width & name << past_group 60 62 << symbol 40 & assignments << host)
+instance enclave = made (instance_tree_of enclave) (name << symbol 61 << key (codes "new") & width & name << past_group 60 62 << symbol 40 & assignments << host)
 
 -- ---- connections
 
@@ -199,12 +199,12 @@ unfoldable pub serializer : Reader (Unit {0})
 serializer = passed (word (codes "serializer")) (key (codes "serializer") >> ignored (flag (on is_there)))
 
 -- a connection that begins at this place, of these two sides, this arrow and this delay
-abbrev pub connection_of : ℕ → (((List ReferenceTree × Bool) × (ℕ × Bool)) × List ReferenceTree) × Option ExpressionTree → ConnectionTree
-connection_of i x = record { sources = x.0.0.0.0; is_broadcast = x.0.0.0.1; is_physical = x.0.0.1.1; destinations = x.0.1; delay = x.1; at = i; arrow = x.0.0.1.0 }
+abbrev pub connection_tree_of : ℕ → (((List ReferenceTree × Bool) × (ℕ × Bool)) × List ReferenceTree) × Option ExpressionTree → ConnectionTree
+connection_tree_of i x = record { sources = x.0.0.0.0; is_broadcast = x.0.0.0.1; is_physical = x.0.0.1.1; destinations = x.0.1; delay = x.1; at = i; arrow = x.0.0.1.0 }
 
 -- left_side arrow references [delay] [serializer]
 unfoldable pub connection : Reader ConnectionTree
-connection = made_at connection_of (left_side & made_at (λ i p. (i, p)) arrow & references & delay << serializer)
+connection = made_at connection_tree_of (left_side & made_at (λ i p. (i, p)) arrow & references & delay << serializer)
 
 -- ---- members
 
@@ -304,14 +304,14 @@ body = symbol 123 >> members
 -- ---- reactors
 
 -- whether a value has a unit of time
-abbrev pub is_timed : ValueTree → Bool
-is_timed (NumberValue _ _ (Some _)) = true
-is_timed _ = false
+abbrev pub has_time_unit : ValueTree → Bool
+has_time_unit (NumberValue _ _ (Some _)) = true
+has_time_unit _ = false
 
 -- whether there is a value, and it has a unit of time
 abbrev pub has_unit : Option ExpressionTree → Bool
 has_unit None = false
-has_unit (Some e) = is_timed e.value
+has_unit (Some e) = has_time_unit e.value
 
 -- whether a parameter is a time: by its type, or without a type by its default
 abbrev pub is_time : Option Bool → Option ExpressionTree → Bool
@@ -319,12 +319,12 @@ is_time (Some by_type) default = by_type
 is_time None default = has_unit default
 
 -- a parameter of this name, type and default
-abbrev pub parameter_of : (NameTree × Option Bool) × Option ExpressionTree → ParameterTree
-parameter_of x = record { name = x.0.0; is_time = is_time x.0.1 x.1; default = x.1 }
+abbrev pub parameter_tree_of : (NameTree × Option Bool) × Option ExpressionTree → ParameterTree
+parameter_tree_of x = record { name = x.0.0; is_time = is_time x.0.1 x.1; default = x.1 }
 
 -- {attribute} NAME [":" type] [initial]
 unfoldable pub parameter : Reader ParameterTree
-parameter = made parameter_of (attributes >> name & typed & initial)
+parameter = made parameter_tree_of (attributes >> name & typed & initial)
 
 -- [parameter {"," parameter} [","]] ")"
 unfoldable pub parameter_list : Reader (List ParameterTree)
@@ -375,9 +375,9 @@ unfoldable pub reactor_name : Reader (Option NameTree)
 reactor_name = optional on_own_name name
 
 -- a reactor that begins at this place, of these parts
-abbrev pub reactor_of : ℕ → ((((Bool × Bool) × Option NameTree) × List ParameterTree) × List NameTree) × List MemberTree → ReactorTree
-reactor_of i x = record { is_main = x.0.0.0.0.0; is_federated = x.0.0.0.0.1; name = x.0.0.0.1; parameters = x.0.0.1; bases = x.0.1; members = x.1; at = i }
+abbrev pub reactor_tree_of : ℕ → ((((Bool × Bool) × Option NameTree) × List ParameterTree) × List NameTree) × List MemberTree → ReactorTree
+reactor_tree_of i x = record { is_main = x.0.0.0.0.0; is_federated = x.0.0.0.0.1; name = x.0.0.0.1; parameters = x.0.0.1; bases = x.0.1; members = x.1; at = i }
 
 -- kind "reactor" [NAME] [group of < >] [parameters] ["at" host] [bases] body
 unfoldable pub reactor : Reader ReactorTree
-reactor = made_at reactor_of (kind << key (codes "reactor") & reactor_name << past_group 60 62 & parameters << host & bases & body)
+reactor = made_at reactor_tree_of (kind << key (codes "reactor") & reactor_name << past_group 60 62 & parameters << host & bases & body)

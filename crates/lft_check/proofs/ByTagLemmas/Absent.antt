@@ -11,7 +11,7 @@ use Rattle.lft_rows.specs.{declared.{presence.causes.EventCause.EventCause, slic
 use Rattle.lft_rows.proofs.{PresenceLemmas.{Presences.{IsKey, present_cause}, Skips.{leads_up, names_up}}, Marked.before_on}
 use Rattle.lft_check.specs.declared.by_tag.{absences.Absences.Absences, walk.Walk.Walk}
 use Rattle.lft_check.specs.inner.ByTag.{Absences.{IsEarlier, IsAbsentUntil, AreAbsences, AreAbsentUntil, IsUnknown}, Slices.IsCuttable}
-use Rattle.lft_check.specs.inner.ByTag.Walks.{IsPast, IsBefore, HasWalked}
+use Rattle.lft_check.specs.inner.ByTag.Walks.{IsTagPast, IsWalkBefore, HasWalked}
 use Rattle.lft_check.proofs.ByTagLemmas.Indexed.{rises_of}
 
 -- no tag is before the first one
@@ -111,7 +111,7 @@ in_block k b e =
     (omega (arith, whole, e), omega (arith, whole, rest, e))
 
 -- the tag of a slice is past the rows before it
-pub slice_past : (cut : TraceParts) → IsCuttable cut → (s : Slice) → IsSlice cut.rows s → IsPast cut.rows s.first s.tag
+pub slice_past : (cut : TraceParts) → IsCuttable cut → (s : Slice) → IsSlice cut.rows s → IsTagPast cut.rows s.first s.tag
 slice_past cut rules s is j row l e = go (order_cases row.tag s.tag)
   where
     first : (row : Row) × (slice_get cut.rows s.first ≡ Some row) × (row.tag ≡ s.tag)
@@ -129,10 +129,10 @@ slice_past cut rules s is j row l e = go (order_cases row.tag s.tag)
     go (inr u) = (let q : row.tag ≡ s.tag = UpTo_antisym row.tag s.tag up u in let w = is.all j row e q in let z : s.first ≤ j = w.0 in absurd (omega arith))
 
 -- a walk that has gone over the rows of a slice knows of none but rows before its end
-pub walked_before : (cut : TraceParts) (s : Slice) (walk : Walk) → IsSlice cut.rows s → HasWalked cut s walk → IsBefore cut s.end walk
+pub walked_before : (cut : TraceParts) (s : Slice) (walk : Walk) → IsSlice cut.rows s → HasWalked cut s walk → IsWalkBefore cut s.end walk
 walked_before cut s walk is walked = record { marks = walked.marks.are_before; absences = λ h past. absences_on cut s.tag h walk.absences.items (up h past) walked.absences }
   where
-    up : (h : Tag) → IsPast cut.rows s.end h → UpTo s.tag h
+    up : (h : Tag) → IsTagPast cut.rows s.end h → UpTo s.tag h
     up h past =
         let a : s.first < s.end = is.some in
         let b : s.end ≤ length cut.rows = is.within in
@@ -140,5 +140,5 @@ walked_before cut s walk is walked = record { marks = walked.marks.are_before; a
         Before-weaken s.tag h (subst (λ (z : Tag). Before z h) (is.at_tag s.first r.0 r.1 (let z : s.first ≤ s.first = omega arith in z) a) (past s.first r.0 a r.1))
 
 -- and of none but rows before a later place
-pub before_later : (cut : TraceParts) (i k : ℕ) (walk : Walk) → i ≤ k → IsBefore cut i walk → IsBefore cut k walk
+pub before_later : (cut : TraceParts) (i k : ℕ) (walk : Walk) → i ≤ k → IsWalkBefore cut i walk → IsWalkBefore cut k walk
 before_later cut i k walk l before = record { marks = before_on cut.plan.program i k walk.marks l before.marks; absences = λ h past. before.absences h (λ j row m e. past j row (omega (arith, l, m)) e) }

@@ -8,8 +8,8 @@ use Rattle.lft_model.specs.{Plans.PlanParts, Presence.Triggered, Runs.{start_row
 use Rattle.lft_model.proofs.{Ended.row_is, Legality.{four, rising, one_start}, Places.{slice_get_within, slice_get_take}}
 use Rattle.lft_rows.{specs.{Presence.Traces.{TraceParts, LeastTag}, Slices.AreTags}, proofs.PresenceLemmas.Leasts.least_as}
 use Rattle.lft_check.specs.declared.by_tag.started.Started.{Started}
-use Rattle.lft_check.specs.inner.ByTag.{Slices.{IsCuttable, IsMissing}, Least.{HasTag, IsPassed, AreTriggered, Lacks}}
-use Rattle.lft_check.specs.inner.ByTag.Indexes.{AreStartsOf, HasRunsTo, HasRuns, AreDue, AreMarkedTo}
+use Rattle.lft_check.specs.inner.ByTag.{Slices.{IsCuttable, IsMissingRun}, Least.{HasTag, IsPassed, AreTriggered, Lacks}}
+use Rattle.lft_check.specs.inner.ByTag.Indexes.{AreStartsOf, HasRunsTo, HasRuns, AreTriggeredRows, AreMarkedTo}
 use Rattle.lft_check.specs.ByTag.Slices.{IsVacant}
 
 pub starts_begin : (t : List Row) (n : ℕ) (tags : List (List Tag)) (places : List (List ℕ)) → length tags ≡ n → length places ≡ n → ((r : ℕ) (gs : List Tag) → slice_get tags r ≡ Some gs → gs ≡ []) → ((r : ℕ) (ps : List ℕ) → slice_get places r ≡ Some ps → ps ≡ []) → HasRunsTo t 0 n tags places
@@ -119,7 +119,7 @@ pub ran_tag : (t : List Row) (r : ℕ) (gs : List Tag) (ps : List ℕ) → AreSt
 ran_tag t r gs ps h g x = h.each x.place x.worker g (slice_get_within t x.place (start_row x.worker g r) x.starts) x.starts
 
 -- one more start row marked
-pub due_more : (cut : TraceParts) (r : ℕ) (gs : List Tag) (ps : List ℕ) (known : List Bool) → AreStartsOf cut.rows (length cut.rows) r gs ps → AreTriggered cut r gs known → (k p : ℕ) → slice_get known k ≡ Some true → slice_get ps k ≡ Some p → (due new : List Bool) → new ≡ slice_set due p true → AreDue cut due → AreDue cut new
+pub due_more : (cut : TraceParts) (r : ℕ) (gs : List Tag) (ps : List ℕ) (known : List Bool) → AreStartsOf cut.rows (length cut.rows) r gs ps → AreTriggered cut r gs known → (k p : ℕ) → slice_get known k ≡ Some true → slice_get ps k ≡ Some p → (due new : List Bool) → new ≡ slice_set due p true → AreTriggeredRows cut due → AreTriggeredRows cut new
 due_more cut r gs ps known starts triggered k p e q due new is so_far i row there is_row = go (ℕ_discrete i p)
   where
     tag : (g : Tag) × (slice_get gs k ≡ Some g)
@@ -175,10 +175,10 @@ from_low low gs g n = go (order_cases g low)
     go (inr u) = u
 
 -- what is lacked of the tags of its runs is missing, from the low tag on
-pub missing_of : (cut : TraceParts) (r : ℕ) (low : Tag) (gs : List Tag) (ps : List ℕ) (o : Option Tag) → AreStartsOf cut.rows (length cut.rows) r gs ps → LeastTag (Lacks cut low gs r) o → LeastTag (λ g. IsMissing cut r g × UpTo low g) o
-missing_of cut r low gs ps o starts h = least_as (Lacks cut low gs r) (λ g. IsMissing cut r g × UpTo low g) o h (λ g m. (record { triggered = m.triggered; in_time = m.in_time; no_run = λ ran. m.not_there (inr (ran_tag cut.rows r gs ps starts g ran)) }, from_low low gs g m.not_there)) (λ g m. record { triggered = m.0.triggered; in_time = m.0.in_time; not_there = not_there g m })
+pub missing_of : (cut : TraceParts) (r : ℕ) (low : Tag) (gs : List Tag) (ps : List ℕ) (o : Option Tag) → AreStartsOf cut.rows (length cut.rows) r gs ps → LeastTag (Lacks cut low gs r) o → LeastTag (λ g. IsMissingRun cut r g × UpTo low g) o
+missing_of cut r low gs ps o starts h = least_as (Lacks cut low gs r) (λ g. IsMissingRun cut r g × UpTo low g) o h (λ g m. (record { triggered = m.triggered; in_time = m.in_time; no_run = λ ran. m.not_there (inr (ran_tag cut.rows r gs ps starts g ran)) }, from_low low gs g m.not_there)) (λ g m. record { triggered = m.0.triggered; in_time = m.0.in_time; not_there = not_there g m })
   where
-    not_there : (g : Tag) → IsMissing cut r g × UpTo low g → ¬ IsPassed low gs g
+    not_there : (g : Tag) → IsMissingRun cut r g × UpTo low g → ¬ IsPassed low gs g
     not_there g m (inl b) = UpTo-not low g m.1 b
     not_there g m (inr there) = m.0.no_run (tag_ran cut.rows r gs ps starts g there)
 
@@ -212,7 +212,7 @@ marks_over cut r gs new old n none h k g p q = go (written_over new old n k p)
     go (inl e) = h k g e q
     go (inr e) = absurd (none k e)
 
-pub due_over : (cut : TraceParts) (new old : List Bool) (n : ℕ) → NoneMarked old → AreDue cut new → AreDue cut (take n (new ++ drop (length new) old))
+pub due_over : (cut : TraceParts) (new old : List Bool) (n : ℕ) → NoneMarked old → AreTriggeredRows cut new → AreTriggeredRows cut (take n (new ++ drop (length new) old))
 due_over cut new old n none due i row p q = go (written_over new old n i p)
   where
     go : (slice_get new i ≡ Some true) ⊎ (slice_get old i ≡ Some true) → Triggered cut.plan cut.rows row.tag row.reaction

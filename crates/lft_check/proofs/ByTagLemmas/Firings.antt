@@ -6,7 +6,7 @@ use Rattle.lft_tag.{specs.{declared.Tag.Tag, Tags.{Before, UpTo}}, proofs.{Chain
 use Rattle.lft_ir.specs.declared.parts.Timer.{Timer as TimerOf}
 use Rattle.lft_model.{specs.Presence.{stop, Fires}, proofs.Firings.{firing, time_of}}
 use Rattle.lft_rows.specs.Presence.Traces.{TraceParts, LeastTag}
-use Rattle.lft_check.specs.inner.ByTag.Least.{HasTag, IsPassed, IsFirstFiring, IsFirstTime, LacksFiring}
+use Rattle.lft_check.specs.inner.ByTag.Least.{HasTag, IsPassed, IsFirstFiringFrom, IsFirstTime, LacksFiring}
 
 -- the firings before this time are each there
 pub record WalkedTo (cut : TraceParts) (timer : TimerOf) (low : Tag) (tags : List Tag) (time : ℕ) : Type 0 where
@@ -81,7 +81,7 @@ module _ (cut : TraceParts) (timer : TimerOf) (low : Tag) (tags : List Tag) (tim
       each j l (no m) = so_far.ran j (omega arith)
 
 -- the first firing of all is from the low tag on
-pub first_at_offset : (timer : TimerOf) (low : Tag) → UpTo low (record { time = timer.offset; micro = 0 }) → IsFirstFiring timer low timer.offset
+pub first_at_offset : (timer : TimerOf) (low : Tag) → UpTo low (record { time = timer.offset; micro = 0 }) → IsFirstFiringFrom timer low timer.offset
 first_at_offset timer low up = record { count = 0; is_at = omega arith; once = λ e. refl; from = up; before = λ j l. absurd (omega arith) }
 
 -- the first time at the low tag or behind it
@@ -114,7 +114,7 @@ firing_near offset due period l =
     omega arith
 
 -- the first firing at or behind a time that is past the first of all
-pub first_behind : (timer : TimerOf) (low : Tag) (due : ℕ) → IsFirstTime low due → timer.offset < due → ¬ (timer.period ≡ 0) → IsFirstFiring timer low (timer.offset + ((due - timer.offset - 1) / timer.period + 1) * timer.period)
+pub first_behind : (timer : TimerOf) (low : Tag) (due : ℕ) → IsFirstTime low due → timer.offset < due → ¬ (timer.period ≡ 0) → IsFirstFiringFrom timer low (timer.offset + ((due - timer.offset - 1) / timer.period + 1) * timer.period)
 first_behind timer low due is l some = record {
   count = quotient + 1;
   is_at = refl;

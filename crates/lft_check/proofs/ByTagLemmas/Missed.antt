@@ -8,7 +8,7 @@ use Rattle.lft_lists.proofs.Places.{at_contains}
 use Rattle.lft_rows.specs.{Presence.Traces.{TraceParts, LeastTag}, inner.Presence.{Traces.IsSooner, Needed.AreNeededOf}}
 use Rattle.lft_rows.proofs.PresenceLemmas.{Leasts.{least_as, least_of_both}, Needing.{stands_occurs, needed_triggers}}
 use Rattle.lft_check.specs.ByTag.Slices.{LeastPair}
-use Rattle.lft_check.specs.inner.ByTag.{Slices.{IsFirstMissing, IsFirstMissingFrom}, Least.{IsFirstOf, LacksAt, LacksFiring, LacksTrigger, Lacks}}
+use Rattle.lft_check.specs.inner.ByTag.{Slices.{IsFirstMissing, IsFirstMissingFrom}, Least.{IsEarlierLack, LacksAt, LacksFiring, LacksTriggerAt, Lacks}}
 
 -- one of the triggers before place k is lacked at g
 pub record LacksBefore (cut : TraceParts) (xs : List Trigger) (k : ℕ) (low : Tag) (tags : List Tag) (g : Tag) : Type 0 where
@@ -16,17 +16,17 @@ pub record LacksBefore (cut : TraceParts) (xs : List Trigger) (k : ℕ) (low : T
   pub trigger : Trigger
   pub before : place < k
   pub is_trigger : slice_get xs place ≡ Some trigger
-  pub lacks : LacksTrigger cut trigger low tags g
+  pub lacks : LacksTriggerAt cut trigger low tags g
 
-pub lacked_more : (cut : TraceParts) (xs : List Trigger) (k : ℕ) (low : Tag) (tags : List Tag) (trigger : Trigger) (a b o : Option Tag) → slice_get xs k ≡ Some trigger → LeastTag (LacksBefore cut xs k low tags) a → LeastTag (LacksTrigger cut trigger low tags) b → IsSooner a b o → LeastTag (LacksBefore cut xs (k + 1) low tags) o
-lacked_more cut xs k low tags trigger a b o e p q s = least_as (λ g. LacksBefore cut xs k low tags g ⊎ LacksTrigger cut trigger low tags g) (LacksBefore cut xs (k + 1) low tags) o (least_of_both (LacksBefore cut xs k low tags) (LacksTrigger cut trigger low tags) a b o p q s) to (λ g x. from g x (ℕ_discrete x.place k))
+pub lacked_more : (cut : TraceParts) (xs : List Trigger) (k : ℕ) (low : Tag) (tags : List Tag) (trigger : Trigger) (a b o : Option Tag) → slice_get xs k ≡ Some trigger → LeastTag (LacksBefore cut xs k low tags) a → LeastTag (LacksTriggerAt cut trigger low tags) b → IsSooner a b o → LeastTag (LacksBefore cut xs (k + 1) low tags) o
+lacked_more cut xs k low tags trigger a b o e p q s = least_as (λ g. LacksBefore cut xs k low tags g ⊎ LacksTriggerAt cut trigger low tags g) (LacksBefore cut xs (k + 1) low tags) o (least_of_both (LacksBefore cut xs k low tags) (LacksTriggerAt cut trigger low tags) a b o p q s) to (λ g x. from g x (ℕ_discrete x.place k))
   where
-    to : (g : Tag) → LacksBefore cut xs k low tags g ⊎ LacksTrigger cut trigger low tags g → LacksBefore cut xs (k + 1) low tags g
+    to : (g : Tag) → LacksBefore cut xs k low tags g ⊎ LacksTriggerAt cut trigger low tags g → LacksBefore cut xs (k + 1) low tags g
     to g (inl x) = let l : x.place < k = x.before in record { place = x.place; trigger = x.trigger; before = omega arith; is_trigger = x.is_trigger; lacks = x.lacks }
     to g (inr x) = record { place = k; trigger = trigger; before = omega arith; is_trigger = e; lacks = x }
 
-    from : (g : Tag) (x : LacksBefore cut xs (k + 1) low tags g) → Dec (x.place ≡ k) → LacksBefore cut xs k low tags g ⊎ LacksTrigger cut trigger low tags g
-    from g x (yes d) = let y : Some x.trigger ≡ Some trigger = sym x.is_trigger ∙ ap (λ j. slice_get xs j) d ∙ e in let z : x.trigger ≡ trigger = cc in inr (subst (λ t. LacksTrigger cut t low tags g) z x.lacks)
+    from : (g : Tag) (x : LacksBefore cut xs (k + 1) low tags g) → Dec (x.place ≡ k) → LacksBefore cut xs k low tags g ⊎ LacksTriggerAt cut trigger low tags g
+    from g x (yes d) = let y : Some x.trigger ≡ Some trigger = sym x.is_trigger ∙ ap (λ j. slice_get xs j) d ∙ e in let z : x.trigger ≡ trigger = cc in inr (subst (λ t. LacksTriggerAt cut t low tags g) z x.lacks)
     from g x (no n) = let l : x.place < k + 1 = x.before in inl (record { place = x.place; trigger = x.trigger; before = omega arith; is_trigger = x.is_trigger; lacks = x.lacks })
 
 -- over triggers that stand for all of a reaction
@@ -54,7 +54,7 @@ last_or_less : (a n : ℕ) → a < n + 1 → Dec (a ≡ n) → (a < n) ⊎ (a �
 last_or_less a n l (yes e) = inr e
 last_or_less a n l (no m) = inl (omega arith)
 
-pub first_more : (P : ℕ → Tag → Type 0) (n : ℕ) (x : Option (Tag × ℕ)) (o : Option Tag) (r : Option (Tag × ℕ)) → FirstBelow P n x → LeastTag (P n) o → IsFirstOf x o n r → FirstBelow P (n + 1) r
+pub first_more : (P : ℕ → Tag → Type 0) (n : ℕ) (x : Option (Tag × ℕ)) (o : Option Tag) (r : Option (Tag × ℕ)) → FirstBelow P n x → LeastTag (P n) o → IsEarlierLack x o n r → FirstBelow P (n + 1) r
 first_more P n None None r h p e = subst (λ z. FirstBelow P (n + 1) z) (sym e) (λ g a l m. go g a m (last_or_less a n l (ℕ_discrete a n)))
   where
     go : (g : Tag) (a : ℕ) → P a g → (a < n) ⊎ (a ≡ n) → ⊥
@@ -111,20 +111,20 @@ pub known_reaction : (cut : TraceParts) (g : Tag) (r n : ℕ) → n ≡ length c
 known_reaction cut g r n e x = let l : r < length cut.plan.program.reactions = slice_get_within cut.plan.program.reactions r x.reaction x.is_reaction in omega arith
 
 -- where the trigger is at one tag
-pub lacked_once : (cut : TraceParts) (x : Trigger) (low : Tag) (tags : List Tag) (tag : Tag) (o : Option Tag) → ((g : Tag) → Occurs cut.plan cut.rows g x → g ≡ tag) → ((g : Tag) → g ≡ tag → Occurs cut.plan cut.rows g x) → LeastTag (LacksAt cut low tags tag) o → LeastTag (LacksTrigger cut x low tags) o
-lacked_once cut x low tags tag o to from h = least_as (LacksAt cut low tags tag) (LacksTrigger cut x low tags) o h (λ g m. record { occurs = from g m.same; in_time = m.in_time; not_there = m.not_there }) (λ g m. record { same = to g m.occurs; in_time = m.in_time; not_there = m.not_there })
+pub lacked_once : (cut : TraceParts) (x : Trigger) (low : Tag) (tags : List Tag) (tag : Tag) (o : Option Tag) → ((g : Tag) → Occurs cut.plan cut.rows g x → g ≡ tag) → ((g : Tag) → g ≡ tag → Occurs cut.plan cut.rows g x) → LeastTag (LacksAt cut low tags tag) o → LeastTag (LacksTriggerAt cut x low tags) o
+lacked_once cut x low tags tag o to from h = least_as (LacksAt cut low tags tag) (LacksTriggerAt cut x low tags) o h (λ g m. record { occurs = from g m.same; in_time = m.in_time; not_there = m.not_there }) (λ g m. record { same = to g m.occurs; in_time = m.in_time; not_there = m.not_there })
 
-pub lacked_startup : (cut : TraceParts) (x : Trigger) (low : Tag) (tags : List Tag) (o : Option Tag) → x ≡ Startup → LeastTag (LacksAt cut low tags (record { time = 0; micro = 0 })) o → LeastTag (LacksTrigger cut x low tags) o
-lacked_startup cut x low tags o e h = subst (λ z. LeastTag (LacksTrigger cut z low tags) o) (sym e) (lacked_once cut Startup low tags (record { time = 0; micro = 0 }) o (λ g q. q) (λ g q. q) h)
+pub lacked_startup : (cut : TraceParts) (x : Trigger) (low : Tag) (tags : List Tag) (o : Option Tag) → x ≡ Startup → LeastTag (LacksAt cut low tags (record { time = 0; micro = 0 })) o → LeastTag (LacksTriggerAt cut x low tags) o
+lacked_startup cut x low tags o e h = subst (λ z. LeastTag (LacksTriggerAt cut z low tags) o) (sym e) (lacked_once cut Startup low tags (record { time = 0; micro = 0 }) o (λ g q. q) (λ g q. q) h)
 
-pub lacked_shutdown : (cut : TraceParts) (x : Trigger) (low : Tag) (tags : List Tag) (last : Tag) (o : Option Tag) → x ≡ Shutdown → last ≡ stop cut.plan cut.rows → LeastTag (LacksAt cut low tags last) o → LeastTag (LacksTrigger cut x low tags) o
-lacked_shutdown cut x low tags last o e s h = subst (λ z. LeastTag (LacksTrigger cut z low tags) o) (sym e) (lacked_once cut Shutdown low tags last o (λ g q. q ∙ sym s) (λ g q. q ∙ s) h)
+pub lacked_shutdown : (cut : TraceParts) (x : Trigger) (low : Tag) (tags : List Tag) (last : Tag) (o : Option Tag) → x ≡ Shutdown → last ≡ stop cut.plan cut.rows → LeastTag (LacksAt cut low tags last) o → LeastTag (LacksTriggerAt cut x low tags) o
+lacked_shutdown cut x low tags last o e s h = subst (λ z. LeastTag (LacksTriggerAt cut z low tags) o) (sym e) (lacked_once cut Shutdown low tags last o (λ g q. q ∙ sym s) (λ g q. q ∙ s) h)
 
-pub lacked_timer : (cut : TraceParts) (x : Trigger) (low : Tag) (tags : List Tag) (n : ℕ) (timer : TimerOf) (o : Option Tag) → x ≡ Timer n → slice_get cut.plan.program.timers n ≡ Some timer → LeastTag (LacksFiring cut timer low tags) o → LeastTag (LacksTrigger cut x low tags) o
-lacked_timer cut x low tags n timer o e t h = subst (λ z. LeastTag (LacksTrigger cut z low tags) o) (sym e) (least_as (LacksFiring cut timer low tags) (LacksTrigger cut (Timer n) low tags) o h (λ g m. record { occurs = (timer, t, m.fires); in_time = m.in_time; not_there = m.not_there }) from)
+pub lacked_timer : (cut : TraceParts) (x : Trigger) (low : Tag) (tags : List Tag) (n : ℕ) (timer : TimerOf) (o : Option Tag) → x ≡ Timer n → slice_get cut.plan.program.timers n ≡ Some timer → LeastTag (LacksFiring cut timer low tags) o → LeastTag (LacksTriggerAt cut x low tags) o
+lacked_timer cut x low tags n timer o e t h = subst (λ z. LeastTag (LacksTriggerAt cut z low tags) o) (sym e) (least_as (LacksFiring cut timer low tags) (LacksTriggerAt cut (Timer n) low tags) o h (λ g m. record { occurs = (timer, t, m.fires); in_time = m.in_time; not_there = m.not_there }) from)
   where
-    from : (g : Tag) → LacksTrigger cut (Timer n) low tags g → LacksFiring cut timer low tags g
+    from : (g : Tag) → LacksTriggerAt cut (Timer n) low tags g → LacksFiring cut timer low tags g
     from g m = let y : Some m.occurs.0 ≡ Some timer = sym m.occurs.1 ∙ t in let z : m.occurs.0 ≡ timer = cc in record { fires = subst (λ (v : TimerOf). (k : ℕ) × (g ≡ record { time = v.offset + k * v.period; micro = 0 }) × (v.period ≡ 0 → k ≡ 0)) z m.occurs.2; in_time = m.in_time; not_there = m.not_there }
 
-pub lacked_trigger_name : (cut : TraceParts) (x : Trigger) (n : Name) (low : Tag) (tags : List Tag) (o : Option Tag) → x ≡ On n → LeastTag (LacksTrigger cut (On n) low tags) o → LeastTag (LacksTrigger cut x low tags) o
-lacked_trigger_name cut x n low tags o e h = subst (λ z. LeastTag (LacksTrigger cut z low tags) o) (sym e) h
+pub lacked_trigger_name : (cut : TraceParts) (x : Trigger) (n : Name) (low : Tag) (tags : List Tag) (o : Option Tag) → x ≡ On n → LeastTag (LacksTriggerAt cut (On n) low tags) o → LeastTag (LacksTriggerAt cut x low tags) o
+lacked_trigger_name cut x n low tags o e h = subst (λ z. LeastTag (LacksTriggerAt cut z low tags) o) (sym e) h

@@ -10,7 +10,7 @@ use Rattle.lft_model.specs.{Plans.PlanParts, Presence.{At, IsPresent, Shows, Inp
 use Rattle.lft_model.specs.Runs.{read_of, steps_of, inputs_of, reads_at}
 use Rattle.lft_model.proofs.Places.{tag_discrete}
 use Rattle.lft_lists.proofs.Members.{Mem, mem_get, get_mem, contains_mem}
-use Rattle.lft_check.specs.inner.ByTag.Reads.{IsRight, MissesInput, TellsWrongRead}
+use Rattle.lft_check.specs.inner.ByTag.Reads.{IsRightRead, MissesInput, TellsWrongRead}
 
 -- without a collision a name shows one thing
 module _ (plan : PlanParts) (t : List Row) (g : Tag) (no_clash : ¬ Collision plan t g) where
@@ -63,13 +63,13 @@ module _ (plan : PlanParts) (t : List Row) (g : Tag) (r : ℕ) (names : List Nam
   not_each (n ∷ ns) h none = h n (inl refl) (λ p. not_each ns (λ m e. h m (inr e)) (λ ps. none (p, ps)))
 
   -- where no input is read wrongly, all are read rightly, as far as what follows from it is false
-  pub not_all_right : ((k : ℕ) (n : Name) → slice_get names k ≡ Some n → ¬ ¬ IsRight plan t g r n) → ¬ ¬ Inputs plan t g r (reads_at plan t g r)
+  pub not_all_right : ((k : ℕ) (n : Name) → slice_get names k ≡ Some n → ¬ ¬ IsRightRead plan t g r n) → ¬ ¬ Inputs plan t g r (reads_at plan t g r)
   not_all_right h none = not_each (inputs x) each (λ ps. none (record { reaction = x; is_reaction = is_reaction; each = subst (λ (ns : List Name). AllZip (Shows plan t g) (inputs x) (map (read_of (steps_of t g r)) ns)) (sym own_inputs) ps }))
     where
       each : (n : Name) → Mem n (inputs x) → ¬ ¬ Shows plan t g n (read_of (steps_of t g r) n)
       each n e = let p = get_mem n names (subst (λ xs. Mem n xs) (sym own) e) in h p.0 n p.1
 
-  pub wrong_read : (k : ℕ) (n : Name) → slice_get names k ≡ Some n → ¬ IsRight plan t g r n → ¬ Inputs plan t g r (reads_at plan t g r)
+  pub wrong_read : (k : ℕ) (n : Name) → slice_get names k ≡ Some n → ¬ IsRightRead plan t g r n → ¬ Inputs plan t g r (reads_at plan t g r)
   wrong_read k n e d o =
       let a : Some o.reaction ≡ Some x = sym o.is_reaction ∙ is_reaction in
       let b : o.reaction ≡ x = cc in

@@ -7,7 +7,7 @@ use Rattle.lft_model.{specs.Presence.stop, proofs.Places.slice_get_within}
 use Rattle.lft_rows.specs.{declared.presence.causes.EventCause.EventCause, inner.Presence.Causes.{tag_of, AreCauses, IsSkip}}
 use Rattle.lft_rows.specs.Presence.Traces.{TraceParts, LeastTag}
 use Rattle.lft_rows.proofs.PresenceLemmas.{Skips.{leads_up, names_up}, Leasts.least_as, Presences.{IsKey, present_cause, cause_present}}
-use Rattle.lft_check.specs.inner.ByTag.Least.{HasTag, IsPassed, LacksCause, LacksTrigger}
+use Rattle.lft_check.specs.inner.ByTag.Least.{HasTag, IsPassed, LacksCause, LacksTriggerAt}
 
 -- the tag of each cause of the name before a place is passed; from there on no name is lesser, and those of the name lead to the low tag or behind it
 pub record IsWalked (cut : TraceParts) (causes : List EventCause) (name : ℕ) (s : Folded) (low : Tag) (tags : List Tag) (place : ℕ) : Type 0 where
@@ -65,11 +65,11 @@ module _ (cut : TraceParts) (causes : List EventCause) (are : AreCauses cut.plan
               go (inr m) = subst (λ (z : Tag). IsPassed low tags z) (sym ((skip.same k c m l e).1)) (inr ran)
 
 -- what is lacked of a name is what is lacked of its causes
-pub lacked_key : (cut : TraceParts) → IsSound cut.plan.program → RowsFit cut.plan.program cut.rows → (n : Name) (key : ℕ) (s : Folded) (low : Tag) (tags : List Tag) (o : Option Tag) → IsKey cut.plan.program n key s → LeastTag (LacksCause cut key s low tags) o → LeastTag (LacksTrigger cut (On n) low tags) o
-lacked_key cut sound fit n key s low tags o k h = least_as (LacksCause cut key s low tags) (LacksTrigger cut (On n) low tags) o h to from
+pub lacked_key : (cut : TraceParts) → IsSound cut.plan.program → RowsFit cut.plan.program cut.rows → (n : Name) (key : ℕ) (s : Folded) (low : Tag) (tags : List Tag) (o : Option Tag) → IsKey cut.plan.program n key s → LeastTag (LacksCause cut key s low tags) o → LeastTag (LacksTriggerAt cut (On n) low tags) o
+lacked_key cut sound fit n key s low tags o k h = least_as (LacksCause cut key s low tags) (LacksTriggerAt cut (On n) low tags) o h to from
   where
-    to : (g : Tag) → LacksCause cut key s low tags g → LacksTrigger cut (On n) low tags g
+    to : (g : Tag) → LacksCause cut key s low tags g → LacksTriggerAt cut (On n) low tags g
     to g m = record { occurs = cause_present cut.plan cut.rows sound fit g n key s k m.cause m.is_cause m.leads; in_time = m.in_time; not_there = m.not_there }
 
-    from : (g : Tag) → LacksTrigger cut (On n) low tags g → LacksCause cut key s low tags g
+    from : (g : Tag) → LacksTriggerAt cut (On n) low tags g → LacksCause cut key s low tags g
     from g m = let c = present_cause cut.plan cut.rows sound fit g n key s k m.occurs in record { cause = c.0; is_cause = c.1; leads = c.2; in_time = m.in_time; not_there = m.not_there }

@@ -5,8 +5,8 @@ ghost use Rattle.lft_tag.specs.{declared.Tag.Tag as TheTag, Tags.Before};
 ghost use Rattle.lft_ir.specs.{Sound.{IsNameOf, IsTriggerOf}, declared.parts.Trigger.TheVariants.On};
 ghost use Rattle.lft_model.specs.Presence.{Fires, IsPresent, Occurs, Triggered};
 ghost use Rattle.lft_rows.specs.{inner.Presence.{Causes.{IsCause, Leads}, Needed.AreNeededOf}, Presence.Traces.LeastTag};
-ghost use Rattle.lft_check.specs.inner.ByTag.{Indexes.{AreStartsOf, HasRuns, AreDue, AreMarkedTo}, Slices.{IsCuttable, IsFirstMissingFrom}};
-ghost use Rattle.lft_check.specs.inner.ByTag.Least.{AreUp, HasTag, IsFirstFiring, IsFirstTime, AreTriggered, IsFirstOf, LacksAt, LacksFiring, LacksCause, LacksTrigger, Lacks};
+ghost use Rattle.lft_check.specs.inner.ByTag.{Indexes.{AreStartsOf, HasRuns, AreTriggeredRows, AreMarkedTo}, Slices.{IsCuttable, IsFirstMissingFrom}};
+ghost use Rattle.lft_check.specs.inner.ByTag.Least.{AreUp, HasTag, IsFirstFiringFrom, IsFirstTime, AreTriggered, IsEarlierLack, LacksAt, LacksFiring, LacksCause, LacksTriggerAt, Lacks};
 
 use crate::by_tag::started::Started;
 use lft_ir::{Name, Timer, Trigger};
@@ -21,7 +21,7 @@ pub(crate) fn first_of(
     tag: Option<Tag>,
     reaction: u32,
 ) -> Option<(Tag, u32)>
-    ensures { IsFirstOf first tag reaction result }
+    ensures { IsEarlierLack first tag reaction result }
 {
     match (first, tag) {
         (Some((a, number)), Some(b)) => {
@@ -125,7 +125,7 @@ fn first_time(low: Tag) -> u64
 fn first_firing(timer: &Timer, low: Tag) -> Option<u64>
     requires period { timer.now.period ≤ 1000000000000000000 }
     requires low { low.time ≤ 1000000000000000000 }
-    ensures { MatchOption result ((g : TheTag) → Fires timer.now g → Before g low) (IsFirstFiring timer.now low) }
+    ensures { MatchOption result ((g : TheTag) → Fires timer.now g → Before g low) (IsFirstFiringFrom timer.now low) }
 {
     let due = first_time(low);
     if timer.offset >= due {
@@ -231,7 +231,7 @@ fn lacked_name(
     requires triggers { (g : TheTag) → IsPresent presence.now.plan presence.now.rows g name → Triggered presence.now.plan presence.now.rows g reaction }
     requires known { AreTriggered presence.now reaction tags.now known.old }
     ensures known { AreTriggered presence.now reaction tags.now known.new }
-    ensures least { LeastTag (LacksTrigger presence.now (On name) low tags.now) result }
+    ensures least { LeastTag (LacksTriggerAt presence.now (On name) low tags.now) result }
 {
     let program = presence.program();
     match name {
@@ -269,7 +269,7 @@ fn lacked_trigger(
     requires triggers { (g : TheTag) → Occurs presence.now.plan presence.now.rows g trigger → Triggered presence.now.plan presence.now.rows g reaction }
     requires known { AreTriggered presence.now reaction tags.now known.old }
     ensures known { AreTriggered presence.now reaction tags.now known.new }
-    ensures least { LeastTag (LacksTrigger presence.now trigger low tags.now) result }
+    ensures least { LeastTag (LacksTriggerAt presence.now trigger low tags.now) result }
 {
     match trigger {
         Trigger::Startup => {
@@ -338,8 +338,8 @@ fn keep_due(
 )
     requires starts { AreStartsOf presence.now.rows (length presence.now.rows) reaction tags.now places.now }
     requires known { AreTriggered presence.now reaction tags.now known.now }
-    requires due { AreDue presence.now due.old }
-    ensures due { AreDue presence.now due.new }
+    requires due { AreTriggeredRows presence.now due.old }
+    ensures due { AreTriggeredRows presence.now due.new }
     ensures marked { AreMarkedTo places.now known.now (length known.now) due.old due.new }
 {
     for number in 0..known.len() {
@@ -365,8 +365,8 @@ pub(crate) fn first_missing(
     requires rules { IsCuttable presence.now }
     requires low { low.time ≤ 1000000000000000000 }
     requires started { HasRuns presence.now.rows (length presence.now.plan.program.reactions) started.now }
-    requires due { AreDue presence.now due.old }
-    ensures due { OnOk result (AreDue presence.now due.new) }
+    requires due { AreTriggeredRows presence.now due.old }
+    ensures due { OnOk result (AreTriggeredRows presence.now due.new) }
     ensures missing { IfOk result (IsFirstMissingFrom presence.now low) }
 {
     let mut first = None;

@@ -4,7 +4,7 @@ ghost use Rattle.std.specs.Prelude.{◌≡◌, ◌<◌, IfOk, Some, slice_get};
 ghost use Rattle.lft_ir.specs.declared.parts.{Reaction.Reaction as TheReaction, Name.Name as TheName};
 ghost use Rattle.lft_model.specs.Runs.{read_of, steps_of};
 ghost use Rattle.lft_rows.specs.inner.{Marks.{HasSeat, width}, Slices.IsSlice};
-ghost use Rattle.lft_check.specs.inner.ByTag.Walks.{IsBefore, HasWalked};
+ghost use Rattle.lft_check.specs.inner.ByTag.Walks.{IsWalkBefore, HasWalked};
 
 use crate::by_tag::absences::{Absences, absences_of};
 use crate::by_tag::sliced::Sliced;
@@ -23,7 +23,7 @@ pub struct Walk {
 impl<'a> Sliced<'a> {
     /// A walk that hasn't begun.
     pub fn walk(&self, alloc: Global) -> Result<Walk, NoMemory>
-        ensures { IfOk result (IsBefore self.now 0) }
+        ensures { IfOk result (IsWalkBefore self.now 0) }
     {
         let marks = Marks::new(alloc, self.program())?;
         let absences = absences_of(alloc, self.program())?;
@@ -33,7 +33,7 @@ impl<'a> Sliced<'a> {
     /// Goes over the rows at one more tag.
     pub fn walk_over(&self, walk: &mut Walk, slice: Slice)
         requires slice { IsSlice self.now.rows slice }
-        requires before { IsBefore self.now slice.first walk.old }
+        requires before { IsWalkBefore self.now slice.first walk.old }
         ensures { HasWalked self.now slice walk.new }
     {
         walk.marks

@@ -5,7 +5,8 @@ use Rattle.lft_whole.specs.declared.tree.{Assignment.Assignment, Foreign.Foreign
 use Rattle.lft_classes.specs.declared.scopes.{Class.Class, ReactorNames.ReactorNames}
 use Rattle.lft_classes.specs.declared.shapes.{Child.Child, GivenValue.GivenValue, Inherited.Inherited, InheritedParameter.InheritedParameter, Shape.Shape}
 use Rattle.lft_classes.specs.declared.shapes.OwnThing.{OwnThing}
-use Rattle.lft_classes.specs.{inner.{Chains.{IsChain, extended}, Circles.GivesOnce, Scopes.class_at, Shapes.{child_in, inside, thing_named}}, Shapes.name_of}
+use Rattle.lft_classes.specs.inner.{Chains.{IsChain, extended_reactor}, Circles.GivesOnce, Scopes.class_at, Shapes.{child_in, inside, thing_named}}
+use Rattle.lft_classes.specs.Shapes.{name_of}
 use Rattle.lft_whole.specs.declared.tree.Member.TheVariants as member
 use Rattle.lft_classes.specs.declared.shapes.OwnThing.TheVariants as thing
 
@@ -18,22 +19,22 @@ abbrev pub located_parameters : List InheritedParameter → List (ℕ × Paramet
 located_parameters ps = map (λ p. (p.file, p.parameter.now)) ps
 
 -- the members that a reactor declares
-abbrev pub members_of : Class → List (ℕ × Member)
-members_of c = map (λ m. (c.file, m)) c.reactor.now.members.items
+abbrev pub declared_members : Class → List (ℕ × Member)
+declared_members c = map (λ m. (c.file, m)) c.reactor.now.members.items
 
 -- the parameters that a reactor declares
-abbrev pub parameters_of : Class → List (ℕ × Parameter)
-parameters_of c = map (λ p. (c.file, p)) c.reactor.now.parameters.items
+abbrev pub declared_parameters : Class → List (ℕ × Parameter)
+declared_parameters c = map (λ p. (c.file, p)) c.reactor.now.parameters.items
 
 -- the members that a reactor declares, if there is one
 abbrev pub members_or_none : Option Class → List (ℕ × Member)
 members_or_none None = []
-members_or_none (Some c) = members_of c
+members_or_none (Some c) = declared_members c
 
 -- the parameters that a reactor declares, if there is one
 abbrev pub parameters_or_none : Option Class → List (ℕ × Parameter)
 parameters_or_none None = []
-parameters_or_none (Some c) = parameters_of c
+parameters_or_none (Some c) = declared_parameters c
 
 -- the members that the reactor of this number declares
 abbrev pub members_at : ReactorNames → ℕ → List (ℕ × Member)
@@ -86,7 +87,7 @@ first_class cs = option_map (λ c. c.class) (slice_get cs 0)
 
 -- the number of the reactor of which a member of the file is an instance
 abbrev pub instance_of : ReactorNames → ℕ × Member → Option ℕ
-instance_of scopes (file, member.Instance instance) = extended scopes file instance.reactor
+instance_of scopes (file, member.Instance instance) = extended_reactor scopes file instance.reactor
 instance_of scopes _ = None
 
 -- what is written is given to the parameter that has the name
@@ -105,7 +106,7 @@ abbrev pub NotesGiven : (List ℕ → Option OwnThing) → Member → List Given
 NotesGiven things m given = (instance : Instance) → m ≡ member.Instance instance → GivesOnce instance.given.items × AreGiven things instance.given.items given
 
 -- the member of that number of that reactor is an instance of the reactor of the child's shape, and gives its parameters what the child has
-pub record IsInside (scopes : ReactorNames) (cs : List Core) (s k : ℕ) (child : Child) : Type 0 where
+pub record IsChildInstance (scopes : ReactorNames) (cs : List Core) (s k : ℕ) (child : Child) : Type 0 where
   pub outer : Core
   pub is_outer : slice_get cs s ≡ Some outer
   pub member : Inherited
@@ -117,7 +118,7 @@ pub record IsInside (scopes : ReactorNames) (cs : List Core) (s k : ℕ) (child 
 
 -- so it is wherever a shape is noted
 abbrev pub AreInside : ReactorNames → List Core → List (List (Option Child)) → Type 0
-AreInside scopes cs rows = (s k : ℕ) (child : Child) → child_in rows s k ≡ Some child → IsInside scopes cs s k child
+AreInside scopes cs rows = (s k : ℕ) (child : Child) → child_in rows s k ≡ Some child → IsChildInstance scopes cs s k child
 
 -- in each instance of the reactor of that number a shape is noted
 abbrev pub IsNoted : ReactorNames → List (List (Option Child)) → ℕ → Core → Type 0

@@ -15,7 +15,7 @@ pub record NamesAt (width : Width) (name : List ℕ) (token : ℕ) : Type 0 wher
   pub stands : token ≡ term.at
 
 -- a value is given at the token to a name to which one is given before
-pub record GivesTwice (given : List Assignment) (token : ℕ) : Type 0 where
+pub record IsGivenAgain (given : List Assignment) (token : ℕ) : Type 0 where
   pub one : ℕ
   pub first : Assignment
   pub is_first : slice_get given one ≡ Some first
@@ -28,4 +28,4 @@ pub record GivesTwice (given : List Assignment) (token : ℕ) : Type 0 where
 
 -- each name is given one value
 abbrev pub GivesOnce : List Assignment → Type 0
-GivesOnce given = (token : ℕ) → GivesTwice given token → ⊥
+GivesOnce given = (token : ℕ) → IsGivenAgain given token → ⊥

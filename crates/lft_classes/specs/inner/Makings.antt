@@ -2,7 +2,7 @@
 use Rattle.std.specs.Prelude.{◌≡◌, ◌≢◌, ◌⊎◌, ℕ, List, [], ◌∷◌, ◌++◌, Option, Some, length, option_map, slice_get}
 use Rattle.lft_whole.specs.declared.tree.Instance.{Instance}
 use Rattle.lft_classes.specs.declared.{making.Making.Making, scopes.{Class.Class, ReactorNames.ReactorNames}, shapes.{Child.Child, Shape.Shape}}
-use Rattle.lft_classes.specs.inner.{Below.IsBelow, Built.{Core, IsBuilt, AreBuilt, AreInside, cores}, Chains.extended}
+use Rattle.lft_classes.specs.inner.{Below.IsBelow, Built.{Core, IsBuilt, AreBuilt, AreInside, cores}, Chains.extended_reactor}
 use Rattle.lft_classes.specs.inner.Shapes.{child_at, child_in, inside, tables}
 
 -- the one of this number is of the reactor of that number
@@ -18,13 +18,13 @@ pub record AreShapes (scopes : ReactorNames) (first : ℕ) (cs : List Core) (row
   pub inside : AreInside scopes cs rows
 
 -- so are the shapes that are made, and what is known of reactors is so
-pub record AreMade (scopes : ReactorNames) (first : ℕ) (m : Making) : Type 0 where
+pub record AreMadeShapes (scopes : ReactorNames) (first : ℕ) (m : Making) : Type 0 where
   pub shapes : AreShapes scopes first (cores m.shapes.items) (tables m.shapes.items)
   pub known : (r s : ℕ) → slice_get m.known.items r ≡ Some (Some s) → IsOfClass (cores m.shapes.items) s r
 
 -- the reactor of which it is an instance is below the first one, if there is one
 abbrev pub IsNeeded : ReactorNames → ℕ → Instance → ℕ → Type 0
-IsNeeded scopes file instance first = (r : ℕ) → extended scopes file instance.reactor ≡ Some r → IsBelow scopes first r
+IsNeeded scopes file instance first = (r : ℕ) → extended_reactor scopes file instance.reactor ≡ Some r → IsBelow scopes first r
 
 -- what is noted in the shape of this number alone differs
 abbrev pub SetsOne : List Shape → List Shape → ℕ → List (Option Child) → Type 0
@@ -51,10 +51,10 @@ pub record AddsShape (old new : Making) (class : Class) (number : ℕ) : Type 0 
   pub empty : tables new.shapes.items ≡ tables old.shapes.items ++ [] ∷ []
 
 -- from shapes that are made others are made, and those that were are still the same
-pub record GoesOn (needs : ℕ → Type 0) (old new : Making) : Type 0 where
+pub record GoesOnMaking (needs : ℕ → Type 0) (old new : Making) : Type 0 where
   pub scopes : new.scopes ≡ old.scopes
   pub main : new.work.main ≡ old.work.main
-  pub made : (first : ℕ) → needs first → AreMade old.scopes first old → AreMade old.scopes first new
+  pub made : (first : ℕ) → needs first → AreMadeShapes old.scopes first old → AreMadeShapes old.scopes first new
   pub kept : (i : ℕ) (c : Core) → slice_get (cores old.shapes.items) i ≡ Some c → slice_get (cores new.shapes.items) i ≡ Some c
 
 -- what is noted stays, but in the shape of that number

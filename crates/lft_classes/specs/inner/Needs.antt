@@ -3,8 +3,8 @@ use Rattle.std.specs.Prelude.{◌≡◌, ◌↔◌, ℕ, Bool, true, Contains, L
 use Rattle.std.specs.Global.{Global}
 use Rattle.lft_whole.specs.declared.tree.{Assignment.Assignment, Expression.Expression, Instance.Instance, Member.Member, Width.Width}
 use Rattle.lft_classes.specs.declared.{scopes.ReactorNames.ReactorNames, shapes.{Shape.Shape, Child.Child, Inherited.Inherited}}
-use Rattle.lft_classes.specs.inner.{Built.{members_at, AreNoted, cores}, Chains.{base_of, extended}, Circles.NamesAt}
-use Rattle.lft_classes.specs.inner.{Shapes.{thing_named, child_at, inside, tables}, Walks.Reaches, Makings.AreShapes}
+use Rattle.lft_classes.specs.inner.{Built.{members_at, AreNoted, cores}, Chains.{base_of, extended_reactor}, Circles.NamesAt}
+use Rattle.lft_classes.specs.inner.{Shapes.{thing_named, child_at, inside, tables}, Walks.IsReachable, Makings.AreShapes}
 use Rattle.lft_classes.specs.Shapes.{width_of}
 use Rattle.lft_whole.specs.declared.tree.Member.TheVariants as member
 use Rattle.lft_whole.specs.declared.tree.Value.TheVariants as value
@@ -18,7 +18,7 @@ pub data Need : Type 0 where
 -- the reactor has the member of the file, its own one or one of a reactor that it extends
 pub record HasMember (scopes : ReactorNames) (r : ℕ) (m : ℕ × Member) : Type 0 where
   pub class : ℕ
-  pub reached : Reaches (base_of scopes) r class
+  pub reached : IsReachable (base_of scopes) r class
   pub which : ℕ
   pub is_there : slice_get (members_at scopes class) which ≡ Some m
 
@@ -33,16 +33,16 @@ pub record IsWord (expression : Expression) (q : List ℕ) : Type 0 where
   pub is_name : string_bytes word ≡ q
 
 -- what stands in a member where a time does
-abbrev pub times_of : Member → List (Option Expression)
-times_of (member.Timer timer) = timer.offset ∷ timer.period ∷ []
-times_of (member.Action action) = action.min_delay ∷ []
-times_of (member.Connection connection) = connection.delay ∷ []
-times_of _ = []
+abbrev pub times_of_member : Member → List (Option Expression)
+times_of_member (member.Timer timer) = timer.offset ∷ timer.period ∷ []
+times_of_member (member.Action action) = action.min_delay ∷ []
+times_of_member (member.Connection connection) = connection.delay ∷ []
+times_of_member _ = []
 
 -- a term of the member's width is this name, or one of its times is
 abbrev pub NamedFor : Need → Member → List ℕ → Type 0
 NamedFor Widths m q = (width : Width) × (width_of m ≡ Some width) × Names width q
-NamedFor Times m q = (time : Expression) × Contains (times_of m) (Some time) × IsWord time q
+NamedFor Times m q = (time : Expression) × Contains (times_of_member m) (Some time) × IsWord time q
 
 -- the instance gives to the first name the second one
 pub record Gives (instance : Instance) (p q : List ℕ) : Type 0 where
@@ -55,7 +55,7 @@ pub record Gives (instance : Instance) (p q : List ℕ) : Type 0 where
 -- The reactor needs the parameter of this name: a member names it, or an instance gives it to one that the instance's reactor needs.
 pub data NeedsName (scopes : ReactorNames) (need : Need) : ℕ → List ℕ → Type 0 where
   by_member : {r : ℕ} {q : List ℕ} (m : ℕ × Member) → HasMember scopes r m → NamedFor need m.1 q → NeedsName scopes need r q
-  by_instance : {r inner : ℕ} {p q : List ℕ} (file : ℕ) (instance : Instance) → HasMember scopes r (file, member.Instance instance) → extended scopes file instance.reactor ≡ Some inner → Gives instance p q → NeedsName scopes need inner p → NeedsName scopes need r q
+  by_instance : {r inner : ℕ} {p q : List ℕ} (file : ℕ) (instance : Instance) → HasMember scopes r (file, member.Instance instance) → extended_reactor scopes file instance.reactor ≡ Some inner → Gives instance p q → NeedsName scopes need inner p → NeedsName scopes need r q
 
 -- the name is that of the parameter of this number
 abbrev pub IsParameter : Shape → List ℕ → ℕ → Type 0
@@ -66,17 +66,17 @@ abbrev pub NeedsNumber : ReactorNames → Need → Shape → ℕ → Type 0
 NeedsNumber scopes need shape n = (q : List ℕ) × IsParameter shape q n × NeedsName scopes need shape.class.number q
 
 -- for each parameter whether it is marked as needed
-abbrev pub marks : Need → Shape → List Bool
-marks Widths shape = shape.sized.items
-marks Times shape = shape.timed.items
+abbrev pub need_marks : Need → Shape → List Bool
+need_marks Widths shape = shape.sized.items
+need_marks Times shape = shape.timed.items
 
 -- the parameter of this number is
-abbrev pub IsMarked : Need → Shape → ℕ → Type 0
-IsMarked need shape n = slice_get (marks need shape) n ≡ Some true
+abbrev pub IsMarkedNeeded : Need → Shape → ℕ → Type 0
+IsMarkedNeeded need shape n = slice_get (need_marks need shape) n ≡ Some true
 
 -- in the shape of this number those parameters are marked that its reactor needs, and no others
 abbrev pub IsDecided : ReactorNames → List Shape → ℕ → Type 0
-IsDecided scopes shapes s = (shape : Shape) → slice_get shapes s ≡ Some shape → (need : Need) (n : ℕ) → IsMarked need shape n ↔ NeedsNumber scopes need shape n
+IsDecided scopes shapes s = (shape : Shape) → slice_get shapes s ≡ Some shape → (need : Need) (n : ℕ) → IsMarkedNeeded need shape n ↔ NeedsNumber scopes need shape n
 
 -- ---- for the crate's own contracts
 -- such numbers are marked more, and no others
@@ -100,7 +100,7 @@ IsTimeIn shape time n = (e : Expression) × (time ≡ Some e) × IsParameterIn s
 
 -- the parameter of this number is given to one of the inner shape that is marked
 abbrev pub IsPassed : Need → Shape → Shape → Assignment → ℕ → Type 0
-IsPassed need shape inner assignment n = (p : ℕ) × IsParameter inner (string_bytes assignment.name.text) p × IsMarked need inner p × IsParameterIn shape assignment.value n
+IsPassed need shape inner assignment n = (p : ℕ) × IsParameter inner (string_bytes assignment.name.text) p × IsMarkedNeeded need inner p × IsParameterIn shape assignment.value n
 
 -- so it is by one of these
 abbrev pub IsPassedIn : Need → Shape → Shape → List Assignment → ℕ → Type 0
@@ -125,19 +125,19 @@ abbrev pub HasNeed : Need → List Shape → Shape → ℕ → Member → ℕ �
 HasNeed need shapes shape k m n = NamesNumber need shape m n ⊎ PassesOn need shapes shape k m n
 
 -- those parameters of the shape are marked that one of its members needs, and no others
-pub record AreMarks (need : Need) (shapes : List Shape) (shape : Shape) (list : List Bool) : Type 0 where
+pub record AreNeedMarks (need : Need) (shapes : List Shape) (shape : Shape) (list : List Bool) : Type 0 where
   pub count : length list ≡ length shape.parameters.items
   pub each : (n : ℕ) → slice_get list n ≡ Some true → (k : ℕ) × ((m : Inherited) × (slice_get shape.members.items k ≡ Some m) × HasNeed need shapes shape k m.member.now n)
   pub all : (n k : ℕ) (m : Inherited) (was : Bool) → slice_get list n ≡ Some was → slice_get shape.members.items k ≡ Some m → HasNeed need shapes shape k m.member.now n → slice_get list n ≡ Some true
 
 -- the shapes are of reactors below the first one, and those inside the one of this number are decided
-pub record IsReady (scopes : ReactorNames) (first : ℕ) (shapes : List Shape) (s : ℕ) : Type 0 where
+pub record IsReadyToDecide (scopes : ReactorNames) (first : ℕ) (shapes : List Shape) (s : ℕ) : Type 0 where
   pub are_shapes : AreShapes scopes first (cores shapes) (tables shapes)
   pub all_noted : AreNoted scopes (cores shapes) (tables shapes)
   pub inner : (k t : ℕ) → inside (tables shapes) s k ≡ Some t → IsDecided scopes shapes t
 
 -- so it is of this shape of that number, which has the member
 pub record IsReadyAt (scopes : ReactorNames) (first : ℕ) (shapes : List Shape) (s : ℕ) (shape : Shape) (k : ℕ) (m : Inherited) : Type 0 where
-  pub ready : IsReady scopes first shapes s
+  pub ready : IsReadyToDecide scopes first shapes s
   pub is_shape : slice_get shapes s ≡ Some shape
   pub is_member : slice_get shape.members.items k ≡ Some m

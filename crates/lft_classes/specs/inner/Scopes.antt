@@ -22,12 +22,12 @@ abbrev pub name_in : Class → Option (List ℕ)
 name_in c = option_map (λ n. string_bytes n.text) c.reactor.now.name
 
 -- the reactors of a file, with its number
-abbrev pub reactors_of : ℕ × SourceFile → List (ℕ × Reactor)
-reactors_of f = map (λ r. (f.0, r)) f.1.tree.reactors.items
+abbrev pub reactors_of_file : ℕ × SourceFile → List (ℕ × Reactor)
+reactors_of_file f = map (λ r. (f.0, r)) f.1.tree.reactors.items
 
 -- the reactors of the files, with the numbers of these
 abbrev pub reactors_in : List SourceFile → List (ℕ × Reactor)
-reactors_in files = flat_map reactors_of (enumerate_from 0 files)
+reactors_in files = flat_map reactors_of_file (enumerate_from 0 files)
 
 -- the reactor stands in its file, and has its number among those of all files
 abbrev pub IsOf : List SourceFile → Class → Type 0
@@ -38,8 +38,8 @@ abbrev pub placed : List Class → List (ℕ × Reactor)
 placed classes = map (λ c. (c.file, c.reactor.now)) classes
 
 -- the number of each is its place
-abbrev pub AreNumbered : List Class → Type 0
-AreNumbered classes = (i : ℕ) (c : Class) → slice_get classes i ≡ Some c → c.number ≡ i
+abbrev pub AreNumberedClasses : List Class → Type 0
+AreNumberedClasses classes = (i : ℕ) (c : Class) → slice_get classes i ≡ Some c → c.number ≡ i
 
 -- the reactor stands in the file of this number, under this name
 pub record IsOwn (files : List SourceFile) (file : ℕ) (q : List ℕ) (c : Class) : Type 0 where
@@ -82,7 +82,7 @@ IsExported files file q c = IsOwn files file q c × (c.reactor.now.is_main ≡ f
 -- The reactors are those of the files, in order. What a name means in a file is what it may mean there, and it may mean no other reactor. For each name that is imported the other file has a reactor.
 pub record AreScopes (files : List SourceFile) (scopes : ReactorNames) : Type 0 where
   pub reactors : placed scopes.classes.items ≡ reactors_in files
-  pub numbers : AreNumbered scopes.classes.items
+  pub numbers : AreNumberedClasses scopes.classes.items
   pub meanings : (file : ℕ) (q : List ℕ) (c : Class) → meaning_in scopes file q ≡ Some c → IsMeant files file q c
   pub once : (file : ℕ) (q : List ℕ) (c : Class) → IsMeant files file q c → number_in scopes file q ≡ Some c.number
   pub imports : (file other : ℕ) (what : Import) (which : ℕ) (name : ImportedName) → IsImport files file other what → slice_get what.names.items which ≡ Some name → (c : Class) × IsExported files other (string_bytes name.name.text) c
@@ -92,7 +92,7 @@ abbrev pub begins_at : Class → Place
 begins_at c = record { file = c.file; token = c.reactor.now.at }
 
 -- the reactor of this number is a main one of the first file
-pub record IsMainAt (scopes : ReactorNames) (number : ℕ) (c : Class) : Type 0 where
+pub record IsMainClassAt (scopes : ReactorNames) (number : ℕ) (c : Class) : Type 0 where
   pub is_known : class_at scopes number ≡ Some c
   pub in_first_file : c.file ≡ 0
   pub is_main : c.reactor.now.is_main ≡ true
@@ -100,12 +100,12 @@ pub record IsMainAt (scopes : ReactorNames) (number : ℕ) (c : Class) : Type 0 
 -- the main reactor of the first file, which has no other one
 pub record IsMain (scopes : ReactorNames) (c : Class) : Type 0 where
   pub number : ℕ
-  pub is_there : IsMainAt scopes number c
-  pub alone : (other : ℕ) (d : Class) → IsMainAt scopes other d → other ≡ number
+  pub is_there : IsMainClassAt scopes number c
+  pub alone : (other : ℕ) (d : Class) → IsMainClassAt scopes other d → other ≡ number
 
 -- the reactors of the files before this one, with the numbers of these
 abbrev pub reactors_before : List SourceFile → ℕ → List (ℕ × Reactor)
-reactors_before files n = flat_map reactors_of (take n (enumerate_from 0 files))
+reactors_before files n = flat_map reactors_of_file (take n (enumerate_from 0 files))
 
 -- the name means the class in the file, and the token says it: that at which the reactor begins, or that of the name that the import gives
 abbrev pub MeansAt : List SourceFile → ℕ → List ℕ → Class → ℕ → Type 0

@@ -7,12 +7,12 @@ use Rattle.lft_classes.specs.declared.shapes.{Child.Child, Shape.Shape, OwnThing
 use Rattle.lft_whole.specs.declared.tree.Member.TheVariants as member
 
 -- the token of a member's name, or 0
-abbrev pub is_at : Member → ℕ
-is_at (member.Port port) = port.name.at
-is_at (member.Timer timer) = timer.name.at
-is_at (member.Action action) = action.name.at
-is_at (member.Instance instance) = instance.name.at
-is_at _ = 0
+abbrev pub name_token : Member → ℕ
+name_token (member.Port port) = port.name.at
+name_token (member.Timer timer) = timer.name.at
+name_token (member.Action action) = action.name.at
+name_token (member.Instance instance) = instance.name.at
+name_token _ = 0
 
 -- what the name is in the shape
 abbrev pub thing_named : Shape → List ℕ → Option OwnThing

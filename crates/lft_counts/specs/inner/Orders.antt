@@ -4,5 +4,5 @@ use Rattle.lft_ir.specs.declared.steps.row.Row.{Row}
 use Rattle.lft_counts.specs.{declared.orders.Order.Order, Orders.MeetsAt}
 
 -- the order at place k of a list is met at a place before i
-abbrev pub IsHeld : List Row → ℕ → List Order → ℕ → Type 0
-IsHeld t i all k = (x : Order) × (j : ℕ) × (slice_get all k ≡ Some x) × (j < i) × MeetsAt t x.first x.then j
+abbrev pub IsOrderMet : List Row → ℕ → List Order → ℕ → Type 0
+IsOrderMet t i all k = (x : Order) × (j : ℕ) × (slice_get all k ≡ Some x) × (j < i) × MeetsAt t x.first x.then j

@@ -7,7 +7,7 @@ use Rattle.lft_model.specs.{Plans.PlanParts, declared.breach.Breach.Breach, OneW
 use Rattle.lft_check.specs.Verdicts.{IsVerdict}
 use Rattle.lft_counts.specs.{Cover.CoversRows, declared.cover.Cover.Cover}
 use Rattle.lft_coverage.specs.{inner.{Facts.HasCounts, Driver.Covered.{IsCovered, IsCoveredTable, IsCoverText, verdict_in}}, Facts.fact_lines, Sums.TellsSums}
-use Rattle.lft_coverage.specs.Driver.Covered.{CoverRefusalUnder, IsBehind, IsJudgedCoverUnder, IsTold, IsUnread}
+use Rattle.lft_coverage.specs.Driver.Covered.{CoverRefusalUnder, IsBehind, IsJudgedCoverUnder, IsTold, IsUnreadTrace}
 use Rattle.lft_coverage.specs.Driver.Covered.CoverRefusalUnder.{by_check, by_trace, by_writer}
 use Rattle.lft_coverage.specs.declared.driver.covered.Covered.{Covered, TheVariants.{Accepted, Broken}}
 use Rattle.lft_load.specs.{Faults.table_number, Refusals.is_of_text, Written.AppendsFront, declared.fault.Fault.Fault}
@@ -80,12 +80,12 @@ module _ (list : Bool) (plan : PlanParts) (trace : List ℕ) (workers : ℕ) (ol
         by_writer x.0 (verdict_in covered) y.0 p n x.1 (right_verdict plan x.0 covered x.2) y.2 (subst (λ bytes. AppendsFront old new bytes) y.1 front)
 
   -- the table has no verdict
-  pub refused : (f : Fault) → CheckRefusal workers f ⊎ IsUnread plan trace f → CoverRefusalUnder list plan trace workers old new f
+  pub refused : (f : Fault) → CheckRefusal workers f ⊎ IsUnreadTrace plan trace f → CoverRefusalUnder list plan trace workers old new f
   refused f (inl x) = by_check x
   refused f (inr x) = by_trace x
 
   -- a fault that is of the text
-  pub refused_none : (f : Fault) → CheckRefusal workers f ⊎ IsUnread plan trace f → is_of_text f.part f.number ≡ true → (rows : List Row) → Table plan.program (records_of trace) rows → ⊥
+  pub refused_none : (f : Fault) → CheckRefusal workers f ⊎ IsUnreadTrace plan trace f → is_of_text f.part f.number ≡ true → (rows : List Row) → Table plan.program (records_of trace) rows → ⊥
   refused_none f (inl x) t rows table = refusal_untold workers f x t
   refused_none f (inr x) t rows table = (x.3 (trace_told x.0 (told_at f.part part.Trace f.number (table_number x.0) x.1 x.2 t))).1 rows table
 

@@ -5,7 +5,7 @@ ghost use Rattle.lft_ir.specs.{Parts.Parts, Steps.Fits.RowsFit, declared.steps.r
 ghost use Rattle.lft_model.specs.Workers.{IsWorkers};
 ghost use Rattle.lft_counts.specs.{inner.Counts.KeepsRows, Cover.CoversRows};
 ghost use Rattle.lft_driver.specs.Refusals.{CheckRefusal};
-ghost use Rattle.lft_coverage.specs.{inner.Driver.Covered.{IsCovered, IsCoveredTable, verdict_in}, Driver.Covered.IsUnread};
+ghost use Rattle.lft_coverage.specs.{inner.Driver.Covered.{IsCovered, IsCoveredTable, verdict_in}, Driver.Covered.IsUnreadTrace};
 
 use lft_check::{CheckFault, NoWatch, Verdict, judge};
 use lft_counts::Cover;
@@ -90,7 +90,7 @@ pub(crate) fn cover_table<R: Threads + Sync>(
 ) -> Result<Covered, Fault>
     ensures covered { IfOk result (IsCoveredTable plan.now trace.now) }
     ensures workers { OnOk result (IsWorkers workers) }
-    ensures refused { IfErr result (λ f. CheckRefusal workers f ⊎ IsUnread plan.now trace.now f) }
+    ensures refused { IfErr result (λ f. CheckRefusal workers f ⊎ IsUnreadTrace plan.now trace.now f) }
 {
     let program = plan.program();
     // A number out of range is a fault of the checker, and those of the table come before it.

@@ -12,5 +12,5 @@ abbrev pub IsRight : PlanParts → List ℕ → Verdict → Type 0
 IsRight plan trace verdict = (rows : List Row) × Table plan.program (records_of trace) rows × IsVerdict plan rows verdict
 
 -- a text gets no verdict under a plan: it is no trace table, or its rows get none by so many workers
-abbrev pub IsUnjudged : PlanParts → List ℕ → ℕ → Fault → Type 0
-IsUnjudged plan trace workers f = TraceRefusal plan.program trace f ⊎ ((rows : List Row) × HasTable plan.program trace rows × CheckRefusal workers f)
+abbrev pub IsUnjudgedText : PlanParts → List ℕ → ℕ → Fault → Type 0
+IsUnjudgedText plan trace workers f = TraceRefusal plan.program trace f ⊎ ((rows : List Row) × HasTable plan.program trace rows × CheckRefusal workers f)

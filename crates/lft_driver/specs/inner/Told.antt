@@ -10,6 +10,6 @@ abbrev pub HasNoProgram : List ℕ → Type 0
 HasNoProgram text = (parts : Parts) → IsProgramOf text parts → ⊥
 
 -- what a program's text gives: its one program; where it has none, the words tell why
-abbrev pub Reads : List ℕ → Start → Type 0
-Reads text (start.Program parts) = IsOnly (IsProgramOf text) parts
-Reads text (start.Refused words) = HasNoProgram text × TellsText text (string_bytes words)
+abbrev pub ReadsProgram : List ℕ → Start → Type 0
+ReadsProgram text (start.Program parts) = IsOnly (IsProgramOf text) parts
+ReadsProgram text (start.Refused words) = HasNoProgram text × TellsText text (string_bytes words)

@@ -19,8 +19,8 @@ port_number shape (things.Parameter n) = None
 port_number shape (things.Member n) = option_and_then (λ m. if_port n m.member.now) (slice_get shape.members.items n)
 
 -- the number of the port of this name
-abbrev pub port_in : Shape → List ℕ → Option ℕ
-port_in shape name = option_and_then (port_number shape) (thing_named shape name)
+abbrev pub port_number_in : Shape → List ℕ → Option ℕ
+port_number_in shape name = option_and_then (port_number shape) (thing_named shape name)
 
 -- the shape of the reactor of the instance of this number
 abbrev pub shape_inside : List Shape → Shape → ℕ → Option Shape
@@ -28,7 +28,7 @@ shape_inside shapes shape instance = option_and_then (λ child. slice_get shapes
 
 -- the port of this name in the shape of an instance
 abbrev pub port_of : ℕ → List ℕ → Shape → Option Meaning
-port_of instance name inner = option_map (λ port. meaning.Port instance port) (port_in inner name)
+port_of instance name inner = option_map (λ port. meaning.Port instance port) (port_number_in inner name)
 
 -- the port of this name of an instance, if the thing is one
 abbrev pub port_behind : List Shape → Shape → List ℕ → OwnThing → Option Meaning

@@ -28,18 +28,18 @@ pub record IsNoted (shapes : List Shape) (settings : List Setting) (t : Setting)
   pub inner : (m k : ℕ) → noted_at t.inner.items m ≡ Some k → IsNumberOf settings (inside shapes (valued t) m) (Some k)
 
 -- the shapes, the settings that were made, and what is noted of them
-pub record Table : Type 0 where
+pub record SettingsTable : Type 0 where
   pub shapes : List Shape
   pub settings : List Setting
   pub known : Known
   pub only : List (Option ℕ)
 
 -- those of a program
-abbrev pub table : Settings → Table
+abbrev pub table : Settings → SettingsTable
 table s = record { shapes = s.shapes.items; settings = s.settings.items; known = s.known.items; only = s.only.items }
 
 -- each setting stands once, and what is noted is so
-pub record AreMade (t : Table) : Type 0 where
+pub record AreMade (t : SettingsTable) : Type 0 where
   pub noted : (k : ℕ) (s : Setting) → slice_get t.settings k ≡ Some s → IsNoted t.shapes t.settings s
   pub known_long : length t.known ≡ length t.shapes
   pub only_long : length t.only ≡ length t.shapes
@@ -48,7 +48,7 @@ pub record AreMade (t : Table) : Type 0 where
   pub only : (around u : Valued) (m k : ℕ) → inside t.shapes around m ≡ Some u → noted_at t.only u.shape ≡ Some k → setting_in t.settings k ≡ Some u
 
 -- and the first setting is that of the main reactor
-pub record AreSettings (t : Table) : Type 0 where
+pub record AreSettings (t : SettingsTable) : Type 0 where
   pub main : IsNumberOf t.settings (main_setting t.shapes) (Some 0)
   pub made : AreMade t
 
@@ -61,14 +61,14 @@ abbrev pub found_inside : Settings → ℕ → ℕ → Option ℕ
 found_inside s setting member = option_and_then (λ t. option_or (noted_at t.inner.items member) (only_inside s t.shape member)) (slice_get s.settings.items setting)
 
 -- settings that were made stay, and what is noted stays so
-pub record GoesOn (old new : Table) : Type 0 where
+pub record GoesOn (old new : SettingsTable) : Type 0 where
   pub shapes : new.shapes ≡ old.shapes
   pub stays : (k : ℕ) (t : Valued) → setting_in old.settings k ≡ Some t → setting_in new.settings k ≡ Some t
   pub made : AreMade old → AreMade new
 
 -- ---- for the crate's own contracts
 -- one setting more, of which nothing is noted
-pub record Adds (old new : Table) (shape : ℕ) (values : List ℤ) : Type 0 where
+pub record Adds (old new : SettingsTable) (shape : ℕ) (values : List ℤ) : Type 0 where
   pub fresh : Setting
   pub settings : new ≡ record old { settings = old.settings ++ fresh ∷ [] }
   pub shape_is : fresh.shape ≡ shape
@@ -77,7 +77,7 @@ pub record Adds (old new : Table) (shape : ℕ) (values : List ℤ) : Type 0 whe
   pub no_inner : (m : ℕ) → noted_at fresh.inner.items m ≡ None
 
 -- settings that were made stay, and what is noted stays so if P holds
-pub record GoesOnIf (P : Type 0) (old new : Table) : Type 0 where
+pub record GoesOnIf (P : Type 0) (old new : SettingsTable) : Type 0 where
   pub shapes : new.shapes ≡ old.shapes
   pub stays : (k : ℕ) (t : Valued) → setting_in old.settings k ≡ Some t → setting_in new.settings k ≡ Some t
   pub made : P → AreMade old → AreMade new

@@ -19,8 +19,8 @@ abbrev pub written_width : List Shape → Valued → ℕ → Option Width
 written_width shapes t m = option_and_then (λ found. width_of found.member.now) (member_in shapes t m)
 
 -- what a reference means in a setting
-abbrev pub meaning_in : List Shape → Valued → Reference → Option Meaning
-meaning_in shapes t r = option_and_then (λ shape. meaning_of shapes shape r) (slice_get shapes t.shape)
+abbrev pub meaning_in_setting : List Shape → Valued → Reference → Option Meaning
+meaning_in_setting shapes t r = option_and_then (λ shape. meaning_of shapes shape r) (slice_get shapes t.shape)
 
 -- ---- counts
 -- a count of 2^64 or more is 2^64 - 1
@@ -34,19 +34,19 @@ plus (Some a) None = None
 plus (Some a) (Some b) = Some (capped (a + b))
 
 -- so many for each of so many
-abbrev pub times : Option ℕ → Option ℕ → Option ℕ
-times None b = None
-times (Some a) None = None
-times (Some a) (Some b) = Some (capped (a * b))
+abbrev pub capped_product : Option ℕ → Option ℕ → Option ℕ
+capped_product None b = None
+capped_product (Some a) None = None
+capped_product (Some a) (Some b) = Some (capped (a * b))
 
 -- all counts together
-abbrev pub total : List (Option ℕ) → Option ℕ
-total [] = Some 0
-total (x ∷ xs) = plus x (total xs)
+abbrev pub total_count : List (Option ℕ) → Option ℕ
+total_count [] = Some 0
+total_count (x ∷ xs) = plus x (total_count xs)
 
 -- widths of members, as far as they are known
-abbrev pub Widths : Type 0
-Widths = Valued → ℕ → Option ℕ
+abbrev pub KnownWidths : Type 0
+KnownWidths = Valued → ℕ → Option ℕ
 
 -- how many things one is that has the width, if one is written
 abbrev pub many : Option ℕ → Option Width → Option ℕ
@@ -54,49 +54,49 @@ many width None = Some 1
 many width (Some written) = width
 
 -- how many a member is
-abbrev pub how_many : List Shape → Widths → Valued → ℕ → Option ℕ
+abbrev pub how_many : List Shape → KnownWidths → Valued → ℕ → Option ℕ
 how_many shapes widths t m = many (widths t m) (written_width shapes t m)
 
 -- how many a thing is
-abbrev pub how_many_of : List Shape → Widths → Valued → OwnThing → Option ℕ
+abbrev pub how_many_of : List Shape → KnownWidths → Valued → OwnThing → Option ℕ
 how_many_of shapes widths t (thing.Parameter p) = Some 1
 how_many_of shapes widths t (thing.Member m) = how_many shapes widths t m
 
 -- how many a port of an instance is
-abbrev pub how_many_inside : List Shape → Widths → Valued → ℕ → ℕ → Option ℕ
+abbrev pub how_many_inside : List Shape → KnownWidths → Valued → ℕ → ℕ → Option ℕ
 how_many_inside shapes widths t instance port = option_and_then (λ u. how_many shapes widths u port) (inside shapes t instance)
 
 -- how many places there are of what a reference means
-abbrev pub places_of : List Shape → Widths → Valued → Meaning → Option ℕ
-places_of shapes widths t (meaning.Own thing) = how_many_of shapes widths t thing
-places_of shapes widths t (meaning.Port instance port) = times (how_many_inside shapes widths t instance port) (how_many shapes widths t instance)
+abbrev pub how_many_meant : List Shape → KnownWidths → Valued → Meaning → Option ℕ
+how_many_meant shapes widths t (meaning.Own thing) = how_many_of shapes widths t thing
+how_many_meant shapes widths t (meaning.Port instance port) = capped_product (how_many_inside shapes widths t instance port) (how_many shapes widths t instance)
 
 -- how many places a reference has
-abbrev pub places_in : List Shape → Widths → Valued → Reference → Option ℕ
-places_in shapes widths t r = option_and_then (places_of shapes widths t) (meaning_in shapes t r)
+abbrev pub how_many_places : List Shape → KnownWidths → Valued → Reference → Option ℕ
+how_many_places shapes widths t r = option_and_then (how_many_meant shapes widths t) (meaning_in_setting shapes t r)
 
 -- the number of a parameter
 abbrev pub parameter_in : List Shape → Valued → List ℕ → Option ℤ
 parameter_in shapes t q = option_and_then (λ shape. number_named shape t.values q) (slice_get shapes t.shape)
 
 -- the count that a term is: a number, that of a parameter, or how many places a reference has
-abbrev pub count_in : List Shape → Widths → Valued → Count → Option ℕ
-count_in shapes widths t (count.Number n) = Some n
-count_in shapes widths t (count.Word word) = option_and_then natural (parameter_in shapes t (string_bytes word))
-count_in shapes widths t (count.WidthOf reference) = places_in shapes widths t reference
-count_in shapes widths t count.Code = None
-count_in shapes widths t count.Open = None
+abbrev pub known_count : List Shape → KnownWidths → Valued → Count → Option ℕ
+known_count shapes widths t (count.Number n) = Some n
+known_count shapes widths t (count.Word word) = option_and_then natural (parameter_in shapes t (string_bytes word))
+known_count shapes widths t (count.WidthOf reference) = how_many_places shapes widths t reference
+known_count shapes widths t count.Code = None
+known_count shapes widths t count.Open = None
 
 -- what terms are together
-abbrev pub sum_in : List Shape → Widths → Valued → List Term → Option ℕ
-sum_in shapes widths t terms = total (map (λ term. count_in shapes widths t term.count) terms)
+abbrev pub sum_in : List Shape → KnownWidths → Valued → List Term → Option ℕ
+sum_in shapes widths t terms = total_count (map (λ term. known_count shapes widths t term.count) terms)
 
 -- the width of a member, where those that it hangs on are known
-abbrev pub width_by : List Shape → Widths → Valued → ℕ → Option ℕ
+abbrev pub width_by : List Shape → KnownWidths → Valued → ℕ → Option ℕ
 width_by shapes widths t m = option_and_then (λ w. sum_in shapes widths t w.terms.items) (written_width shapes t m)
 
 -- the width of a member, where those that it hangs on go at most so deep
-abbrev pub width_in : List Shape → ℕ → Widths
+abbrev pub width_in : List Shape → ℕ → KnownWidths
 width_in shapes zero t m = None
 width_in shapes (suc depth) t m = width_by shapes (width_in shapes depth) t m
 
@@ -109,8 +109,8 @@ abbrev pub IsMany : List Shape → Valued → ℕ → ℕ → Type 0
 IsMany shapes t m n = (depth : ℕ) × (how_many shapes (width_in shapes depth) t m ≡ Some n)
 
 -- how many references have together
-abbrev pub all_places : List Shape → Widths → Valued → List Reference → Option ℕ
-all_places shapes widths t rs = total (map (places_in shapes widths t) rs)
+abbrev pub places_together : List Shape → KnownWidths → Valued → List Reference → Option ℕ
+places_together shapes widths t rs = total_count (map (how_many_places shapes widths t) rs)
 
 -- the member has that width, or none where none is written
 abbrev pub HasWidth : List Shape → Valued → ℕ → Option ℕ → Type 0
@@ -119,11 +119,11 @@ HasWidth shapes t m (Some n) = IsWidth shapes t m n
 
 -- the reference has so many places
 abbrev pub HasPlaces : List Shape → Valued → Reference → ℕ → Type 0
-HasPlaces shapes t r n = (depth : ℕ) × (places_in shapes (width_in shapes depth) t r ≡ Some n)
+HasPlaces shapes t r n = (depth : ℕ) × (how_many_places shapes (width_in shapes depth) t r ≡ Some n)
 
 -- the references have so many together
 abbrev pub HavePlaces : List Shape → Valued → List Reference → ℕ → Type 0
-HavePlaces shapes t rs n = (depth : ℕ) × (all_places shapes (width_in shapes depth) t rs ≡ Some n)
+HavePlaces shapes t rs n = (depth : ℕ) × (places_together shapes (width_in shapes depth) t rs ≡ Some n)
 
 -- the connection joins so many pairs
 pub record HasPairs (shapes : List Shape) (t : Valued) (c : Connection) (n : ℕ) : Type 0 where
@@ -140,7 +140,7 @@ AreMany shapes t thing n = (depth : ℕ) × (how_many_of shapes (width_in shapes
 
 -- the term is so many
 abbrev pub IsCount : List Shape → Valued → Count → ℕ → Type 0
-IsCount shapes t c n = (depth : ℕ) × (count_in shapes (width_in shapes depth) t c ≡ Some n)
+IsCount shapes t c n = (depth : ℕ) × (known_count shapes (width_in shapes depth) t c ≡ Some n)
 
 -- the terms are so many together
 abbrev pub IsSum : List Shape → Valued → List Term → ℕ → Type 0

@@ -3,7 +3,7 @@ use Rattle.std.specs.Prelude.{◌≡◌, ◌⊎◌, ℕ, ℤ, List, IsSomeAnd, O
 use Rattle.std.specs.Option.{option_and_then}
 use Rattle.lft_whole.specs.declared.{sources.{stop.{FileRefusal.FileRefusal, NoProgram.NoProgram}, why.Why.Why}, tree.{Reference.Reference, Value.Value}}
 use Rattle.lft_classes.specs.{declared.shapes.{Shape.Shape, OwnThing.OwnThing}, inner.Shapes.thing_named}
-use Rattle.lft_elaborate.specs.{inner.{Meanings.{port_in, shape_inside}, Places.parameter_in, Values.Valued}, Places.natural}
+use Rattle.lft_elaborate.specs.{inner.{Meanings.{port_number_in, shape_inside}, Places.parameter_in, Values.Valued}, Places.natural}
 use Rattle.lft_classes.specs.declared.shapes.OwnThing.TheVariants as things
 use Rattle.lft_whole.specs.declared.sources.stop.NoProgram.TheVariants as stop
 use Rattle.lft_whole.specs.declared.sources.why.Why.TheVariants as why
@@ -18,9 +18,9 @@ abbrev pub IsAt : ℕ → ℕ → FileRefusal → Type 0
 IsAt file token r = r.place ≡ record { file = file; token = token }
 
 -- nothing is written for a number, or what is written is no whole number
-abbrev pub IsNoNumber : Option Value → Why → Type 0
-IsNoNumber None w = w ≡ why.MissingNumber
-IsNoNumber (Some value) w = w ≡ why.NoWholeNumber
+abbrev pub HasNoWholeNumber : Option Value → Why → Type 0
+HasNoWholeNumber None w = w ≡ why.MissingNumber
+HasNoWholeNumber (Some value) w = w ≡ why.NoWholeNumber
 
 -- the refusal is of a term that is a word: no parameter whose number is known has this name, or the number is below 0
 abbrev pub IsOfWord : List Shape → Valued → ℕ → ℕ → List ℕ → FileRefusal → Type 0
@@ -36,7 +36,7 @@ shape_behind shapes shape (things.Parameter n) = None
 -- there is no instance, or it has no port of the name
 abbrev pub IsNoPort : Option Shape → List ℕ → Why → Type 0
 IsNoPort None port w = w ≡ why.UnknownInstance
-IsNoPort (Some shape) port w = (w ≡ why.UnknownPort) × (port_in shape port ≡ None)
+IsNoPort (Some shape) port w = (w ≡ why.UnknownPort) × (port_number_in shape port ≡ None)
 
 -- what stands there means nothing: there is no thing of the name, or no port of the instance of the name
 abbrev pub IsUnknown : List Shape → Shape → List ℕ → Option (List ℕ) → Why → Type 0
@@ -51,7 +51,7 @@ IsUnmeant shapes shape file r refusal = IsAt file r.head.at refusal × IsUnknown
 
 -- the refusal says that nothing is written for a number, or that this is no whole one
 abbrev pub SaysNoNumber : Option Value → NoProgram → Type 0
-SaysNoNumber value = IfRefused (λ r. IsNoNumber value r.why)
+SaysNoNumber value = IfRefused (λ r. HasNoWholeNumber value r.why)
 
 -- so it says of this number, and there is none
 abbrev pub IsLacking : Option ℤ → Option Value → NoProgram → Type 0

@@ -2,7 +2,7 @@
 use Rattle.std.specs.Prelude.{◌≡◌, ℕ, ◌<◌, Bool, true, false, List, Some, option_map, slice_get, unwrap_or}
 use Rattle.lft_whole.specs.declared.tree.Member.{Member}
 use Rattle.lft_classes.specs.{declared.shapes.Shape.Shape, inner.Walks.Has}
-use Rattle.lft_elaborate.specs.inner.{Noted.Table, Places.{IsMany, member_in}, Settings.setting_in, Values.{Valued, inside, main_setting}}
+use Rattle.lft_elaborate.specs.inner.{Noted.SettingsTable, Places.{IsMany, member_in}, Settings.setting_in, Values.{Valued, inside, main_setting}}
 use Rattle.lft_elaborate.specs.declared.settings.Setting.{Setting}
 use Rattle.lft_whole.specs.declared.tree.Member.TheVariants as member
 
@@ -29,7 +29,7 @@ pub data IsReached (shapes : List Shape) : Valued → Type 0 where
   within : {t u : Valued} (m : ℕ) → IsReached shapes t → IsIn shapes t m u → IsReached shapes u
 
 -- The numbers are those of all settings that are reached, and of no others, the main one first. Each stands once.
-pub record AreUsed (s : Table) (used : List ℕ) : Type 0 where
+pub record AreUsed (s : SettingsTable) (used : List ℕ) : Type 0 where
   pub main : slice_get used 0 ≡ Some 0
   pub reached : (k : ℕ) → Has used k → (t : Valued) × (setting_in s.settings k ≡ Some t) × IsReached s.shapes t
   pub all : (t : Valued) → IsReached s.shapes t → (k : ℕ) × Has used k × (setting_in s.settings k ≡ Some t)
@@ -55,9 +55,9 @@ abbrev pub IsNumberIn : List Shape → List Setting → Valued → ℕ → ℕ �
 IsNumberIn shapes settings t m k = (u : Valued) × IsIn shapes t m u × (setting_in settings k ≡ Some u)
 
 -- the list has the number of the setting
-abbrev pub HasNumber : Table → List ℕ → Valued → Type 0
+abbrev pub HasNumber : SettingsTable → List ℕ → Valued → Type 0
 HasNumber s used u = (k : ℕ) × Has used k × (setting_in s.settings k ≡ Some u)
 
 -- the list has the numbers of the settings that are in one
-abbrev pub HasInner : Table → List ℕ → Valued → Type 0
+abbrev pub HasInner : SettingsTable → List ℕ → Valued → Type 0
 HasInner s used t = (m : ℕ) (u : Valued) → IsIn s.shapes t m u → HasNumber s used u

@@ -93,5 +93,5 @@ abbrev pub IsUnsized : List Shape → ℕ → Type 0
 IsUnsized shapes k = (shape : Shape) (p : ℕ) → slice_get shapes k ≡ Some shape → is_sized shape p ≡ false
 
 -- what is written for the parameter of this number: what `new` gives to it, or else its default
-abbrev pub value_written : List GivenValue → Shape → ℕ → Option Value
-value_written gs inner p = option_or (given_to gs p) (default_written inner p)
+abbrev pub value_for_parameter : List GivenValue → Shape → ℕ → Option Value
+value_for_parameter gs inner p = option_or (given_to gs p) (default_written inner p)

@@ -5,7 +5,7 @@ use Rattle.lft_ir.specs.declared.{parts.Trigger.Trigger, steps.row.Row.Row}
 use Rattle.lft_graph.specs.Precedence.{Direct}
 use Rattle.lft_model.specs.{declared.breach.Breach.Breach, Plans.PlanParts, Presence.{Occurs, Collision}, inner.Breaches.{BreaksRow, BreaksAt}}
 use Rattle.lft_rows.specs.Answers.Answers.{KeepsRows}
-use Rattle.lft_facts.specs.{declared.facts.{Fact.Fact, Cause.Cause, RowFact.RowFact}, Facts.{IsShown, IsCause, IsRowFact, AreFacts, AreShown}, Enough.AreOwn}
+use Rattle.lft_facts.specs.{declared.facts.{Fact.Fact, Cause.Cause, RowFact.RowFact}, Facts.{IsShown, CauseHolds, IsRowFact, AreFacts, AreShown}, Enough.AreOwn}
 
 -- of whatever plan and rows show the facts: where no row breaks one of the rules 1 to 5, the rule is broken at g
 abbrev pub Gives : List Fact → Tag → Option ℕ → ℕ → Type 0
@@ -34,7 +34,7 @@ GivesRow f i k = (plan : PlanParts) (t : List Row) → IsRowFact plan t f → (r
 
 -- of whatever plan and rows the cause holds: the trigger is present at g
 abbrev pub GivesTrigger : Cause → Tag → Trigger → Type 0
-GivesTrigger c g x = (plan : PlanParts) (t : List Row) → IsCause plan t c → Occurs plan t g x
+GivesTrigger c g x = (plan : PlanParts) (t : List Row) → CauseHolds plan t c → Occurs plan t g x
 
 -- of whatever plan and rows show the fact: a directly precedes b
 abbrev pub GivesDirect : Fact → ℕ → ℕ → Type 0
@@ -42,4 +42,4 @@ GivesDirect f a b = (plan : PlanParts) (t : List Row) → IsShown plan t f → D
 
 -- of whatever plan and rows the two causes hold: some port or action has two causes at g
 abbrev pub GivesClash : Cause → Cause → Tag → Type 0
-GivesClash c d g = (plan : PlanParts) (t : List Row) → IsCause plan t c → IsCause plan t d → Collision plan t g
+GivesClash c d g = (plan : PlanParts) (t : List Row) → CauseHolds plan t c → CauseHolds plan t d → Collision plan t g

@@ -6,9 +6,9 @@ use Rattle.lft_graph.specs.Graph.{GraphParts}
 use Rattle.lft_races.specs.Runs.{EndsAt}
 
 -- the name is a port that is reached without a delay from an origin among the effects
-abbrev pub IsFed : Parts → List Name → Name → Type 0
-IsFed program effects (Port p) = (o : ℕ) × Origin program p o [] × Contains effects (Port o)
-IsFed program effects (Action a) = ⊥
+abbrev pub IsFedUndelayed : Parts → List Name → Name → Type 0
+IsFedUndelayed program effects (Port p) = (o : ℕ) × Origin program p o [] × Contains effects (Port o)
+IsFedUndelayed program effects (Action a) = ⊥
 
 -- each of the numbers is below the limit
 abbrev pub AreThere : ℕ → List ℕ → Type 0

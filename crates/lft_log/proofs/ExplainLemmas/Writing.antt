@@ -14,7 +14,7 @@ use Rattle.lft_log.specs.declared.told.{Ended.Ended, Told.TheVariants.{Broken, O
 use Rattle.lft_log.specs.declared.{follow.kept.Kept.{Kept, TheVariants.{All, Nothing, TooLong}}, explain.explaining.Unexplained.Unexplained}
 use Rattle.lft_log.specs.Follow.{Lines.line_of_log, Followed.IsFollowedUnder, Kept.IsKeptOn}
 use Rattle.lft_log.specs.inner.Explain.{Listed.AreOf, Explained.{IsListOf, IsLongKept, IsReasonOf, IsTextBehind}}
-use Rattle.lft_log.specs.Explain.Explained.{ExplainsCut, IsBehindLine, IsExplainedUnder, IsLack, IsTextOf, IsToStand, IsTooLong}
+use Rattle.lft_log.specs.Explain.Explained.{ExplainsCut, IsBehindLine, IsLogExplainedUnder, IsLack, IsTextOf, IsToStand, IsLogTooLong}
 use Rattle.lft_log.specs.Explain.Refusals.{ExplainLogRefusalUnder, ExplainLogRefusalUnder.by_writer_behind}
 use Rattle.lft_log.proofs.FollowLemmas.{Keeping.many_longer, Telling.of_log}
 use Rattle.lft_driver.proofs.Behind.{writes_both}
@@ -42,10 +42,10 @@ module _ (first : Vec ℕ) (empty : first.items ≡ []) (M : Type 0) (bytes : Li
   kept_long TooLong (inr (u, is, inl long)) e = inl (subst (λ (s : List ℕ). 2 ^ 30 < length (s ++ bytes)) (sym (ap items_of is) ∙ empty) long)
   kept_long TooLong (inr (u, is, inr many)) e = inr many
 
-pub too_long : (plan : PlanParts) (first : Vec ℕ) (kept : Kept) (bytes : List ℕ) → first.items ≡ [] → IsKeptOn (HasManyRows plan.program bytes) (All first) kept bytes → IsLongKept plan kept → IsTooLong plan.program bytes
+pub too_long : (plan : PlanParts) (first : Vec ℕ) (kept : Kept) (bytes : List ℕ) → first.items ≡ [] → IsKeptOn (HasManyRows plan.program bytes) (All first) kept bytes → IsLongKept plan kept → IsLogTooLong plan.program bytes
 too_long plan first kept bytes empty is (inl e) = go (kept_long first empty (HasManyRows plan.program bytes) bytes kept is e)
   where
-    go : (2 ^ 30 < length bytes) ⊎ HasManyRows plan.program bytes → IsTooLong plan.program bytes
+    go : (2 ^ 30 < length bytes) ⊎ HasManyRows plan.program bytes → IsLogTooLong plan.program bytes
     go (inl long) = inl long
     go (inr many) = inr (many_longer plan.program bytes (10 ∷ []) many)
 too_long plan first kept bytes empty is (inr (log, e, many)) = inr (subst (λ (s : List ℕ). HasManyRows plan.program (s ++ 10 ∷ [])) (kept_all first empty (HasManyRows plan.program bytes) bytes kept log is e) many)
@@ -91,7 +91,7 @@ module _ (plan : PlanParts) (until : Option Tag) (whole all : Bool) (first : Vec
       explains : (at_end : Bool) (b : BrokenRule) → IsReasonOf at_end plan kept b all text → ExplainsCut all at_end plan f.read.0 (breach_of b) text
       explains at_end b (log, is_kept, so) = subst (λ (x : List ℕ). ExplainsCut all at_end plan x (breach_of b) text) (kept_all first empty (HasManyRows plan.program f.read.0) f.read.0 kept log f.read.2 is_kept) so
 
-  line_and : (new : Option (List ℕ)) (unexplained : Option Unexplained) (rest : List ℕ) → IsBehindLine all plan f.read.0 (record { told = e.told; unexplained = unexplained }) rest → Appends mid new rest → IsExplainedUnder plan until whole all left right old new (record { told = e.told; unexplained = unexplained })
+  line_and : (new : Option (List ℕ)) (unexplained : Option Unexplained) (rest : List ℕ) → IsBehindLine all plan f.read.0 (record { told = e.told; unexplained = unexplained }) rest → Appends mid new rest → IsLogExplainedUnder plan until whole all left right old new (record { told = e.told; unexplained = unexplained })
   line_and new unexplained rest behind h = record {
     log = f.read.0;
     read = f.read.1;
@@ -100,12 +100,12 @@ module _ (plan : PlanParts) (until : Option Tag) (whole all : Bool) (first : Vec
     written = writes_both (λ x. x ≡ rest) (λ x. x ≡ line ++ rest) line (λ x same. ap (λ (s : List ℕ). line ++ s) same) old mid new f.written (rest, refl, h);
   }
 
-  pub line_and_text : (new : Option (List ℕ)) (text : List ℕ) → IsTextBehind all plan kept e text → Appends mid new text → IsExplainedUnder plan until whole all left right old new (record { told = e.told; unexplained = None })
+  pub line_and_text : (new : Option (List ℕ)) (text : List ℕ) → IsTextBehind all plan kept e text → Appends mid new text → IsLogExplainedUnder plan until whole all left right old new (record { told = e.told; unexplained = None })
   line_and_text new text x h = line_and new None text (to_stand text x) h
 
   -- nothing does, and why is told
-  pub line_alone : (why : Unexplained) → IsLack (IsLongKept plan kept) e.told why → IsExplainedUnder plan until whole all left right old mid (record { told = e.told; unexplained = Some why })
-  line_alone why lack = line_and mid (Some why) [] (lack_of (IsLongKept plan kept) (IsTooLong plan.program f.read.0) (too_long plan first kept f.read.0 empty f.read.2) e.told why lack, refl) (Appends-nil mid)
+  pub line_alone : (why : Unexplained) → IsLack (IsLongKept plan kept) e.told why → IsLogExplainedUnder plan until whole all left right old mid (record { told = e.told; unexplained = Some why })
+  line_alone why lack = line_and mid (Some why) [] (lack_of (IsLongKept plan kept) (IsLogTooLong plan.program f.read.0) (too_long plan first kept f.read.0 empty f.read.2) e.told why lack, refl) (Appends-nil mid)
 
   -- the writer failed behind the line
   pub line_and_front : (path : List ℕ) (new : Option (List ℕ)) (text : List ℕ) (fault : Fault) → fault.part ≡ part.Write → fault.number ≡ 1 → IsTextBehind all plan kept e text → AppendsFront mid new text → ExplainLogRefusalUnder plan path until whole all left right old new fault

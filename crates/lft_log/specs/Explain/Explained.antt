@@ -55,15 +55,15 @@ abbrev pub IsToStand : Bool → PlanParts → List ℕ → Final → List ℕ �
 IsToStand all base log told text = IsTextOf (λ at_end found. ExplainsCut all at_end base log (breach_of found)) (ListsOpen base log) told text
 
 -- the log has more bytes than are kept, or more rows than a table may have: a last line without its end may count
-abbrev pub IsTooLong : Parts → List ℕ → Type 0
-IsTooLong program log = (2 ^ 30 < length log) ⊎ HasManyRows program (log ++ 10 ∷ [])
+abbrev pub IsLogTooLong : Parts → List ℕ → Type 0
+IsLogTooLong program log = (2 ^ 30 < length log) ⊎ HasManyRows program (log ++ 10 ∷ [])
 
 -- it stands there; or nothing does, and why is told
 abbrev pub IsBehindLine : Bool → PlanParts → List ℕ → Explained → List ℕ → Type 0
-IsBehindLine all base log e text = MatchOption e.unexplained (IsToStand all base log e.told text) (λ why. IsLack (IsTooLong base.program log) e.told why × (text ≡ []))
+IsBehindLine all base log e text = MatchOption e.unexplained (IsToStand all base log e.told text) (λ why. IsLack (IsLogTooLong base.program log) e.told why × (text ≡ []))
 
 -- what is told is so of the log that the reader gave under the plan, and its line was written, with what stands behind it
-pub record IsExplainedUnder (plan : PlanParts) (until : Option Tag) (whole all : Bool) (old new out_old out_new : Option (List ℕ)) (e : Explained) : Type 0 where
+pub record IsLogExplainedUnder (plan : PlanParts) (until : Option Tag) (whole all : Bool) (old new out_old out_new : Option (List ℕ)) (e : Explained) : Type 0 where
   pub log : List ℕ
   pub read : IsRead plan until whole log old new e.told
   pub rest : List ℕ
@@ -71,5 +71,5 @@ pub record IsExplainedUnder (plan : PlanParts) (until : Option Tag) (whole all :
   pub written : Writes (λ text. text ≡ line_of_log plan.program e.told ++ rest) out_old out_new
 
 -- the two texts have one plan, and under it the same is so
-abbrev pub IsExplained : List ℕ → List ℕ → Option Tag → Bool → Bool → Option (List ℕ) → Option (List ℕ) → Option (List ℕ) → Option (List ℕ) → Explained → Type 0
-IsExplained program externals until whole all old new out_old out_new e = OfOnly (IsPlanOf program externals) (λ plan. IsExplainedUnder plan until whole all old new out_old out_new e)
+abbrev pub IsLogExplained : List ℕ → List ℕ → Option Tag → Bool → Bool → Option (List ℕ) → Option (List ℕ) → Option (List ℕ) → Option (List ℕ) → Explained → Type 0
+IsLogExplained program externals until whole all old new out_old out_new e = OfOnly (IsPlanOf program externals) (λ plan. IsLogExplainedUnder plan until whole all old new out_old out_new e)

@@ -5,10 +5,10 @@ use Rattle.lft_load.specs.Words.{field, reaction_name}
 use Rattle.lft_monitor.specs.declared.open.StillOpen.{StillOpen}
 
 -- the line of a run: its reaction, its worker, and the line that starts it
-abbrev pub run_words : Parts → StillOpen → List ℕ
-run_words program run = codes "open at the end: " ++ reaction_name program run.reaction ++ field (codes ", worker ") run.worker ++ field (codes ", since line ") run.line ++ codes "\n"
+abbrev pub open_run_words : Parts → StillOpen → List ℕ
+open_run_words program run = codes "open at the end: " ++ reaction_name program run.reaction ++ field (codes ", worker ") run.worker ++ field (codes ", since line ") run.line ++ codes "\n"
 
 -- the lines of runs behind an empty one; nothing where there are none
 abbrev pub runs_words : Parts → List StillOpen → List ℕ
 runs_words program [] = []
-runs_words program (run ∷ runs) = codes "\n" ++ flat_map (run_words program) (run ∷ runs)
+runs_words program (run ∷ runs) = codes "\n" ++ flat_map (open_run_words program) (run ∷ runs)

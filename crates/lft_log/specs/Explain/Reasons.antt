@@ -28,8 +28,8 @@ abbrev pub GuessesSoFar : PlanParts → List Row → Breach → List ℕ → Typ
 GuessesSoFar plan t b guess = IsGuessSoFar plan t b guess ⊎ (guess ≡ []) × HasNoGuess plan t b
 
 -- up to which line the trace is told of, between empty lines: that of the last row
-abbrev pub heading_words : List Row → List ℕ
-heading_words t = field (codes "\nOf the trace up to line ") (length t + 1) ++ codes ":\n\n"
+abbrev pub trace_heading_words : List Row → List ℕ
+trace_heading_words t = field (codes "\nOf the trace up to line ") (length t + 1) ++ codes ":\n\n"
 
 -- a heading, the facts behind the breach of these rows, and a guess where rows may stand behind them
 pub record AreReasonsSoFar (all : Bool) (plan : PlanParts) (t : List Row) (b : Breach) (text : List ℕ) : Type 0 where
@@ -37,4 +37,4 @@ pub record AreReasonsSoFar (all : Bool) (plan : PlanParts) (t : List Row) (b : B
   pub guess : List ℕ
   pub explains : Explains all plan t b why
   pub is_guess : GuessesSoFar plan t b guess
-  pub is_text : text ≡ heading_words t ++ why ++ guess
+  pub is_text : text ≡ trace_heading_words t ++ why ++ guess

@@ -9,13 +9,13 @@ use Rattle.lft_log.specs.declared.told.{Told.TheVariants.{Broken, Odd, Reached},
 use Rattle.lft_monitor.specs.declared.judged.Ending.TheVariants as ending
 
 -- a tag
-abbrev pub tag_words : Tag → List ℕ
-tag_words g = field (codes " time=") g.time ++ field (codes " microstep=") g.micro
+abbrev pub tag_fields : Tag → List ℕ
+tag_fields g = field (codes " time=") g.time ++ field (codes " microstep=") g.micro
 
 -- the last tag, if there is one
 abbrev pub last_words : Option Tag → List ℕ
 last_words None = []
-last_words (Some g) = tag_words g
+last_words (Some g) = tag_fields g
 
 -- how many runs there are, at how many tags, and the last of these tags
 abbrev pub reach_words : Reach → List ℕ

@@ -16,27 +16,27 @@ TellsLine None d = d ≡ detail.Nothing
 TellsLine (Some line) d = (d ≡ detail.Line line) ⊎ (words_of d ≡ Some (field (codes "line=") line))
 
 -- a fault of this part, number, name and line, or of want of memory for its words
-abbrev pub IsNamed : Part → ℕ → List ℕ → Option ℕ → Fault → Type 0
-IsNamed p n name line f = (f.part ≡ p) × (f.number ≡ n) × (f.name.now ≡ name) × TellsLine line f.detail ⊎ (f.part ≡ part.Memory) × (f.number ≡ 1)
+abbrev pub IsFaultNamed : Part → ℕ → List ℕ → Option ℕ → Fault → Type 0
+IsFaultNamed p n name line f = (f.part ≡ p) × (f.number ≡ n) × (f.name.now ≡ name) × TellsLine line f.detail ⊎ (f.part ≡ part.Memory) × (f.number ≡ 1)
 
 -- a fault of this part, number and line, by whatever name
-abbrev pub IsNumbered : Part → ℕ → ℕ → Fault → Type 0
-IsNumbered p n line f = (name : List ℕ) × IsNamed p n name (Some line) f
+abbrev pub IsFaultNumbered : Part → ℕ → ℕ → Fault → Type 0
+IsFaultNumbered p n line f = (name : List ℕ) × IsFaultNamed p n name (Some line) f
 
 -- how each fault of a log is told; of a line that is no row, or no external input, the number is that of a table's fault
 abbrev pub IsToldAs : LogFault → Fault → Type 0
-IsToldAs log.NoHeader f = IsNamed part.Trace 1 (codes "BadHeader") None f
-IsToldAs (log.NoRow e line) f = IsNumbered part.Trace (table_number e) line f
-IsToldAs log.TooManyRows f = IsNamed part.Trace 10 (codes "TooManyRows") None f
-IsToldAs (log.LongLine line) f = IsNamed part.Trace 13 (codes "LongLine") (Some line) f
-IsToldAs (log.NotPlain line) f = IsNamed part.Trace 14 (codes "NotPlain") (Some line) f
-IsToldAs (log.SecondHeader line) f = IsNamed part.Trace 15 (codes "SecondHeader") (Some line) f
-IsToldAs (log.NoInput e line) f = IsNumbered part.Externals (table_number e) line f
-IsToldAs (log.InputAgain line) f = IsNamed part.Externals 7 (codes "DuplicateExternal") (Some line) f
-IsToldAs log.TooManyInputs f = IsNamed part.Externals 10 (codes "TooManyRows") None f
-IsToldAs (log.LateInput line) f = IsNamed part.Externals 13 (codes "LateExternal") (Some line) f
-IsToldAs (log.NotPlainInput line) f = IsNamed part.Externals 14 (codes "NotPlain") (Some line) f
-IsToldAs (log.ManyLater line) f = IsNamed part.Externals 15 (codes "ManyLater") (Some line) f
+IsToldAs log.NoHeader f = IsFaultNamed part.Trace 1 (codes "BadHeader") None f
+IsToldAs (log.NoRow e line) f = IsFaultNumbered part.Trace (table_number e) line f
+IsToldAs log.TooManyRows f = IsFaultNamed part.Trace 10 (codes "TooManyRows") None f
+IsToldAs (log.LongLine line) f = IsFaultNamed part.Trace 13 (codes "LongLine") (Some line) f
+IsToldAs (log.NotPlain line) f = IsFaultNamed part.Trace 14 (codes "NotPlain") (Some line) f
+IsToldAs (log.SecondHeader line) f = IsFaultNamed part.Trace 15 (codes "SecondHeader") (Some line) f
+IsToldAs (log.NoInput e line) f = IsFaultNumbered part.Externals (table_number e) line f
+IsToldAs (log.InputAgain line) f = IsFaultNamed part.Externals 7 (codes "DuplicateExternal") (Some line) f
+IsToldAs log.TooManyInputs f = IsFaultNamed part.Externals 10 (codes "TooManyRows") None f
+IsToldAs (log.LateInput line) f = IsFaultNamed part.Externals 13 (codes "LateExternal") (Some line) f
+IsToldAs (log.NotPlainInput line) f = IsFaultNamed part.Externals 14 (codes "NotPlain") (Some line) f
+IsToldAs (log.ManyLater line) f = IsFaultNamed part.Externals 15 (codes "ManyLater") (Some line) f
 IsToldAs log.NoMemory f = (f.part ≡ part.Memory) × (f.number ≡ 1)
 
 -- a fault of the log of these bytes

@@ -8,7 +8,7 @@ use Rattle.lft_trace.specs.{ExternalTables.IsEntry, declared.{external_table.Ent
 use Rattle.lft_log.specs.Logs.{AreTimely, HasNoEnd, HoldSoFar, inputs, rows, HasManyRows}
 use Rattle.lft_log.specs.declared.{asked.Asked.Asked, fault.LogFault.{LogFault, TheVariants.{TooManyRows, NoMemory}}, front.LinesRead.LinesRead, log.Log.Log}
 use Rattle.lft_log.specs.declared.{rows.LogRows.LogRows, telling.Taken.Taken, told.Told.Told}
-use Rattle.lft_log.specs.Told.{HasTold, TellsPlan, IsFirstFrom, IsSaid, StandsBehind, AreTooMany, IsFaultOf}
+use Rattle.lft_log.specs.Told.{HasTold, TellsPlan, IsFirstFrom, IsSaid, RecordStandsBehind, AreTooMany, IsFaultOf}
 
 -- the first row at or past the asked tag is at the last tag of the rows
 pub record ComeTo (asked : Tag) (t : List Row) (last : Tag) : Type 0 where
@@ -50,7 +50,7 @@ IsBegun base plan until bytes rest log = IsLogOf base plan until bytes rest log 
 
 -- the fault is that of a log behind whose lines stands a record of the external input, with this number
 abbrev pub IsInputFault : PlanParts → List Row → Entry → ℕ → LogFault → Type 0
-IsInputFault plan t entry number f = (base : PlanParts) (bytes : List ℕ) (lines : List Line) → StandsBehind base.program bytes lines (λ f. IsEntry base.program f entry) → HasTold base (inputs lines) plan → rows lines ≡ t → number ≡ length (inputs lines) + 2 → IsFaultOf base bytes f
+IsInputFault plan t entry number f = (base : PlanParts) (bytes : List ℕ) (lines : List Line) → RecordStandsBehind base.program bytes lines (λ f. IsEntry base.program f entry) → HasTold base (inputs lines) plan → rows lines ≡ t → number ≡ length (inputs lines) + 2 → IsFaultOf base bytes f
 
 -- the tag is before this one, where there is one
 abbrev pub IsBeforeLatest : Tag → Option Tag → Type 0
@@ -58,12 +58,12 @@ IsBeforeLatest g None = ⊥
 IsBeforeLatest g (Some latest) = Before g latest
 
 -- the latest tag of rows, where there are some: a tag is passed where it is before it
-abbrev pub IsLatest : List Row → Option Tag → Type 0
-IsLatest t latest = (g : Tag) → IsPassed t g ↔ IsBeforeLatest g latest
+abbrev pub IsLatestTag : List Row → Option Tag → Type 0
+IsLatestTag t latest = (g : Tag) → IsPassed t g ↔ IsBeforeLatest g latest
 
 -- the next line is an external input of which the fault is told, behind these rows and so many external inputs, where the plan has these
-abbrev pub IsRefused : PlanParts → List Row → ℕ → List Line → Option LogFault → Type 0
-IsRefused plan t number lines fault = (entry : Entry) × (more : List Line) × (lines ≡ Input entry ∷ more) × ((f : LogFault) × (fault ≡ Some f) × IsInputFault plan t entry number f)
+abbrev pub IsInputRefused : PlanParts → List Row → ℕ → List Line → Option LogFault → Type 0
+IsInputRefused plan t number lines fault = (entry : Entry) × (more : List Line) × (lines ≡ Input entry ∷ more) × ((f : LogFault) × (fault ≡ Some f) × IsInputFault plan t entry number f)
 
 -- behind these rows and so many external inputs the first lines of a front are taken: their external inputs are told to the plan in time; they are all, with the front's own fault, or the next is refused
 pub record IsTaken (old new : PlanParts) (t : List Row) (before : ℕ) (front : LinesRead) (lines : List Line) (taken : Taken) : Type 0 where
@@ -74,7 +74,7 @@ pub record IsTaken (old new : PlanParts) (t : List Row) (before : ℕ) (front : 
   pub numbered : taken.inputs ≡ length (inputs first)
   pub timely : AreTimely t first
   pub told : (base : PlanParts) (earlier : List Entry) → HasTold base earlier old → HasTold base (earlier ++ inputs first) new
-  pub ends : (others ≡ []) × (taken.fault ≡ front.fault) ⊎ IsRefused new (t ++ rows first) (before + taken.inputs + 2) others taken.fault
+  pub ends : (others ≡ []) × (taken.fault ≡ front.fault) ⊎ IsInputRefused new (t ++ rows first) (before + taken.inputs + 2) others taken.fault
 
 -- what is kept is right for the bytes, and the rest is that of a line whose end hasn't come
 pub record IsLog (base plan : PlanParts) (until : Option Tag) (bytes : List ℕ) (log : Log) : Type 0 where

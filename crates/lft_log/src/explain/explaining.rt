@@ -5,7 +5,7 @@ ghost use Rattle.std.specs.Io.KnownBytes.{Keeps};
 ghost use Rattle.lft_ir.specs.Steps.Fits.{RowsFit};
 ghost use Rattle.lft_monitor.specs.Follows.{breach_of};
 ghost use Rattle.lft_log.specs.{Logs.HasManyRows, Told.{AreOpenAtEnd, TellsOpen}, Follow.Reaches.{OfReadReaches, OfTextReaches, WritesOrFails}};
-ghost use Rattle.lft_log.specs.Explain.Explained.{ExplainsCut, ExplainsFirst, IsExplained, IsExplainedUnder, IsLack, IsLogCut};
+ghost use Rattle.lft_log.specs.Explain.Explained.{ExplainsCut, ExplainsFirst, IsLogExplained, IsLogExplainedUnder, IsLack, IsLogCut};
 ghost use Rattle.lft_log.specs.Explain.Refusals.{ExplainLogRefusal, ExplainLogRefusalUnder};
 ghost use Rattle.lft_log.specs.inner.Explain.Explained.{IsListOf, IsLongKept, IsReasonOf, IsTextBehind};
 ghost use Rattle.lft_load.specs.declared.fault.Part.TheVariants as part;
@@ -209,7 +209,7 @@ pub fn explain_log_plan<R: Read, W: Write, E: Write>(
     out: &mut W,
     errors: &mut E,
 ) -> Result<Explained, Fault>
-    ensures explained { IfOk result (IsExplainedUnder plan following.until following.whole all (R.remaining reader.old) (R.remaining reader.new) (W.contents out.old) (W.contents out.new)) }
+    ensures explained { IfOk result (IsLogExplainedUnder plan following.until following.whole all (R.remaining reader.old) (R.remaining reader.new) (W.contents out.old) (W.contents out.new)) }
     ensures refused { IfErr result (ExplainLogRefusalUnder plan path.now following.until following.whole all (R.remaining reader.old) (R.remaining reader.new) (W.contents out.old) (W.contents out.new)) }
     ensures kept { IfErr result (λ f. f.part ≢ part.Write → Keeps (W.contents out.old) (W.contents out.new)) }
     ensures every { OfReadReaches plan following.every (R.remaining reader.old) (R.remaining reader.new) (WritesOrFails result (E.contents errors.old) (E.contents errors.new)) }
@@ -257,7 +257,7 @@ pub fn explain_log<R: Read, W: Write, E: Write>(
     out: &mut W,
     errors: &mut E,
 ) -> Result<Explained, Fault>
-    ensures explained { IfOk result (IsExplained program.now externals.now following.until following.whole all (R.remaining reader.old) (R.remaining reader.new) (W.contents out.old) (W.contents out.new)) }
+    ensures explained { IfOk result (IsLogExplained program.now externals.now following.until following.whole all (R.remaining reader.old) (R.remaining reader.new) (W.contents out.old) (W.contents out.new)) }
     ensures refused { IfErr result (ExplainLogRefusal program.now externals.now path.now following.until following.whole all (R.remaining reader.old) (R.remaining reader.new) (W.contents out.old) (W.contents out.new)) }
     ensures kept { IfErr result (λ f. f.part ≢ part.Write → Keeps (W.contents out.old) (W.contents out.new)) }
     ensures every { OfTextReaches program.now externals.now following.every (R.remaining reader.old) (R.remaining reader.new) (WritesOrFails result (E.contents errors.old) (E.contents errors.new)) }

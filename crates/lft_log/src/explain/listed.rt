@@ -1,7 +1,7 @@
 //! The lines of the runs that are open at the end of a log.
 
 ghost use Rattle.std.specs.Prelude.{◌≡◌, ◌++◌, ◌<◌, IfOk, OnOk, length, string_bytes};
-ghost use Rattle.lft_log.specs.{inner.Explain.Listed.AreOf, Explain.Listed.{run_words, runs_words}};
+ghost use Rattle.lft_log.specs.{inner.Explain.Listed.AreOf, Explain.Listed.{open_run_words, runs_words}};
 
 use lft_ir::Program;
 use lft_lists::item_at;
@@ -12,7 +12,7 @@ use std::alloc::{AllocError, Global};
 /// Puts the line of a run behind others.
 fn push_run(text: &mut String, program: &Program, run: StillOpen) -> Result<(), AllocError>
     requires { run.reaction < length program.now.reactions }
-    ensures { OnOk result (string_bytes text.new ≡ string_bytes text.old ++ run_words program.now run) }
+    ensures { OnOk result (string_bytes text.new ≡ string_bytes text.old ++ open_run_words program.now run) }
 {
     text.push_str("open at the end: ")?;
     push_name(text, program, run.reaction)?;

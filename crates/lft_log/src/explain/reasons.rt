@@ -3,7 +3,7 @@
 ghost use Rattle.std.specs.Prelude.{◌≡◌, ◌≤◌, IfOk, length, string_bytes};
 ghost use Rattle.lft_ir.specs.Steps.Fits.{RowsFit};
 ghost use Rattle.lft_races.specs.Races.{FirstSoFar};
-ghost use Rattle.lft_log.specs.Explain.Reasons.{AreReasonsSoFar, GuessesSoFar, heading_words, is_of_end};
+ghost use Rattle.lft_log.specs.Explain.Reasons.{AreReasonsSoFar, GuessesSoFar, trace_heading_words, is_of_end};
 
 use lft_ir::steps::Rows;
 use lft_load::push_field;
@@ -42,7 +42,7 @@ fn guess(alloc: Global, plan: &Plan, rows: &Rows, breach: Breach) -> Result<Stri
 /// The heading: up to which line the trace is told of.
 fn heading(alloc: Global, rows: &Rows) -> Result<String, AllocError>
     requires { length rows.now ≤ 4000000 }
-    ensures { IfOk result (λ text. string_bytes text ≡ heading_words rows.now) }
+    ensures { IfOk result (λ text. string_bytes text ≡ trace_heading_words rows.now) }
 {
     let mut text = String::new(alloc);
     let line = rows.as_slice().len() as u64 + 1;

@@ -8,7 +8,7 @@ ghost use Rattle.lft_driver.specs.inner.Explained.{WriteRefusal};
 ghost use Rattle.lft_log.specs.{inner.{Told.IsLog, Follow.Lines.HasFound}, Told.IsSoon};
 ghost use Rattle.lft_log.specs.Follow.{Lines.{line_of_log, log_status, unbroken_words}, Followed.{IsFollowed, IsFollowedUnder, IsReadKept, until_words}};
 ghost use Rattle.lft_log.specs.Follow.Reaches.{OfReaches, OfReadReaches, OfTextReaches, WritesOrFails};
-ghost use Rattle.lft_log.specs.Follow.Refusals.{FollowRefusal, FollowRefusalUnder, IsFaultOfLog, IsNamed, IsOutside, IsToldAs, ReadRefusal, TellsLine};
+ghost use Rattle.lft_log.specs.Follow.Refusals.{FollowRefusal, FollowRefusalUnder, IsFaultOfLog, IsFaultNamed, IsOutside, IsToldAs, ReadRefusal, TellsLine};
 ghost use Rattle.lft_load.specs.declared.fault.Part.TheVariants as part;
 
 use crate::follow::kept::{Kept, keep};
@@ -82,7 +82,7 @@ fn detail_of(alloc: Global, line: u64) -> Result<Detail, AllocError>
 
 /// A fault of a line of a table.
 fn fault_at(alloc: Global, table: Part, number: u32, name: &'static str, line: u64) -> Fault
-    ensures { IsNamed table number name.now (Some line) result }
+    ensures { IsFaultNamed table number name.now (Some line) result }
 {
     match detail_of(alloc, line) {
         Ok(detail) => Fault {
@@ -97,7 +97,7 @@ fn fault_at(alloc: Global, table: Part, number: u32, name: &'static str, line: u
 
 /// A fault of a table, and of no line of it.
 fn fault_of_all(table: Part, number: u32, name: &'static str) -> Fault
-    ensures { IsNamed table number name.now None result }
+    ensures { IsFaultNamed table number name.now None result }
 {
     Fault {
         part: table,
@@ -109,14 +109,14 @@ fn fault_of_all(table: Part, number: u32, name: &'static str) -> Fault
 
 /// The fault of a line that is no row.
 fn fault_of_row(alloc: Global, number: u32, name: &'static str, line: u64) -> Fault
-    ensures { IsNamed part.Trace number name.now (Some line) result }
+    ensures { IsFaultNamed part.Trace number name.now (Some line) result }
 {
     fault_at(alloc, Part::Trace, number, name, line)
 }
 
 /// The fault of a line of an external input.
 fn fault_of_input(alloc: Global, number: u32, name: &'static str, line: u64) -> Fault
-    ensures { IsNamed part.Externals number name.now (Some line) result }
+    ensures { IsFaultNamed part.Externals number name.now (Some line) result }
 {
     fault_at(alloc, Part::Externals, number, name, line)
 }

@@ -3,7 +3,7 @@
 ghost use Rattle.std.specs.Prelude.{◌≡◌, ◌<◌, ◌++◌, IfOk, OnOk, length, string_bytes};
 ghost use Rattle.lft_monitor.specs.Follows.{breach_of};
 ghost use Rattle.lft_driver.specs.Lines.{HasReaction, breach_words};
-ghost use Rattle.lft_log.specs.{inner.Follow.Lines.HasFound, Follow.Lines.{last_words, line_of_log, odd_words, reach_words, tag_words, unbroken_words}};
+ghost use Rattle.lft_log.specs.{inner.Follow.Lines.HasFound, Follow.Lines.{last_words, line_of_log, odd_words, reach_words, tag_fields, unbroken_words}};
 
 use crate::{Final, Told};
 use lft_driver::{accepted_line, broken_line};
@@ -15,7 +15,7 @@ use std::alloc::{AllocError, Global};
 
 /// Puts a tag at the end of a line.
 fn push_tag(line: &mut String, tag: Tag) -> Result<(), AllocError>
-    ensures { OnOk result (string_bytes line.new ≡ string_bytes line.old ++ tag_words tag) }
+    ensures { OnOk result (string_bytes line.new ≡ string_bytes line.old ++ tag_fields tag) }
 {
     push_field(line, " time=", tag.time)?;
     push_field(line, " microstep=", u64::from(tag.micro))?;

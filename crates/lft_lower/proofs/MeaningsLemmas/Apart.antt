@@ -2,7 +2,7 @@
 use Rattle.std.proofs.Common.{◌≡◌, ℕ, ◌<◌, List, [], ◌∷◌, ◌++◌, zero, suc, Option, Some, None, Bool, true, false, cond, length, set, get_or, refl, ◌∙◌, ap, arith, get_or-set_other, get_or-set_same}
 use Rattle.std.specs.Prelude.{slice_index_or}
 use Rattle.std.specs.{Str.bytes_eq, Cmp.Lexicographic.nat_list_eq_equiv}
-use Rattle.lft_lower.specs.inner.Meanings.Names.{AreApart}
+use Rattle.lft_lower.specs.inner.Meanings.Names.{AreNamesApart}
 
 -- there is no name yet
 abbrev pub AreNone : List (Option (List ℕ)) → Type 0
@@ -26,7 +26,7 @@ not_in : (names : List (Option (List ℕ))) (taken : List ℕ → Bool) (q : Lis
 not_in names taken q known free i at = grind (arith, known i q at)
 
 -- one more name, which isn't taken, is apart from the others
-pub apart_more : (names : List (Option (List ℕ))) (taken : List ℕ → Bool) (k : ℕ) (q : List ℕ) → k < length names → AreApart names → AreIn names taken → taken q ≡ false → AreApart (set names k (Some q))
+pub apart_more : (names : List (Option (List ℕ))) (taken : List ℕ → Bool) (k : ℕ) (q : List ℕ) → k < length names → AreNamesApart names → AreIn names taken → taken q ≡ false → AreNamesApart (set names k (Some q))
 apart_more names taken k q within apart known free i j p at_i at_j =
     let out : (m : ℕ) → get_or names m None ≡ Some q → ⊥ = not_in names taken q known free in
     grind (arith, get_or-set_other, get_or-set_same)

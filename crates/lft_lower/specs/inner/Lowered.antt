@@ -8,7 +8,8 @@ use Rattle.lft_whole.specs.declared.tree.{Action.Action, Connection.Connection, 
 use Rattle.lft_whole.specs.declared.tree.{Timer.Timer, Trigger.Trigger, Value.Value}
 use Rattle.lft_classes.specs.{declared.shapes.{Child.Child, GivenValue.GivenValue, Inherited.Inherited, Shape.Shape}, inner.Shapes.{child_at, thing_named}}
 use Rattle.lft_classes.specs.Shapes.{width_of}
-use Rattle.lft_elaborate.specs.{inner.{Channels.Lowered.{AreJoined, own}, Meanings.shape_inside, Noted.found_inside, Widths.found_width}, Values.is_forever}
+use Rattle.lft_elaborate.specs.inner.{Channels.Lowered.{AreJoinedPlaces, own}, Meanings.shape_inside, Noted.found_inside, Widths.found_width}
+use Rattle.lft_elaborate.specs.Values.{is_forever}
 use Rattle.lft_lower.specs.inner.Meanings.{Meanings.{Here, Means, all_places, named_in, places_in}, Places.{Several, count_of, names_of}}
 use Rattle.lft_lower.specs.inner.{Needed.{GivesNeeded, is_timed}, Times.{IsTime, time_for}}
 use Rattle.lft_lower.specs.declared.connections.Sides.{Sides}
@@ -81,8 +82,8 @@ abbrev pub given_times : Shape → Child → List AssignmentTree
 given_times shape child = filter_map (time_given shape) child.given.items
 
 -- the times that the instance of this number gives, which can all be read; none is lacking
-abbrev pub AreGiven : Here → ℕ → List AssignmentTree → Type 0
-AreGiven h n given = (child : Child) × (shape : Shape) × (child_at h.shape.children.items n ≡ Some child) × (shape_inside h.settings.shapes.items h.shape n ≡ Some shape) × GivesNeeded shape child × All (IsGiven h.shape shape) child.given.items × (given ≡ given_times shape child)
+abbrev pub AreTimesGiven : Here → ℕ → List AssignmentTree → Type 0
+AreTimesGiven h n given = (child : Child) × (shape : Shape) × (child_at h.shape.children.items n ≡ Some child) × (shape_inside h.settings.shapes.items h.shape n ≡ Some shape) × GivesNeeded shape child × All (IsGiven h.shape shape) child.given.items × (given ≡ given_times shape child)
 
 -- the name of the core reactor of the setting that is in the instance of this number
 abbrev pub reactor_at : List (Option (List ℕ)) → Here → ℕ → Option (List ℕ)
@@ -91,12 +92,12 @@ reactor_at names h n = option_and_then (λ inner. slice_index_or names inner Non
 -- an instance of this name becomes one for each of its names, of the reactor of its setting, with the times that it gives
 pub data AreInstances (names : List (Option (List ℕ))) (h : Here) (n : ℕ) (name : List ℕ) : List MemberTree → Type 0 where
   no_instances : count_of (named_in h name n) ≡ 0 → AreInstances names h n name []
-  some_instances : (reactor : List ℕ) (given : List AssignmentTree) → reactor_at names h n ≡ Some reactor → AreGiven h n given → AreInstances names h n name (instances (named_in h name n) reactor given)
+  some_instances : (reactor : List ℕ) (given : List AssignmentTree) → reactor_at names h n ≡ Some reactor → AreTimesGiven h n given → AreInstances names h n name (instances (named_in h name n) reactor given)
 
 -- ---- connections
 -- each pair is a connection of its own
 abbrev pub AreEach : List RefTree → List RefTree → Bool → Option TimeTree → List MemberTree → Type 0
-AreEach left right broadcast delay ms = (cs : List ConnectionTree) × AreJoined left right broadcast delay cs × (ms ≡ map ConnectionMember cs)
+AreEach left right broadcast delay ms = (cs : List ConnectionTree) × AreJoinedPlaces left right broadcast delay cs × (ms ≡ map ConnectionMember cs)
 
 -- each pair is a connection of its own; or one joins them all, where there are as many places on each side
 pub data AreConnected (left right : List RefTree) (broadcast : Bool) (delay : Option TimeTree) : List MemberTree → Type 0 where
@@ -160,8 +161,8 @@ pub data AreTriggers (h : Here) (r : Reaction) : Option (List ℕ) → List Memb
   sleeps : (name : List ℕ) (before : Option (List ℕ)) (more : List MemberTree) → r.triggers.items ≢ [] → all_triggers h r ≡ [] → IsAsleep h name before more → AreTriggers h r before more (Some name) (OnRef (own name) ∷ [])
 
 -- a reaction stands behind what its triggers add
-abbrev pub IsReaction : Here → Reaction → Option (List ℕ) → List MemberTree → Option (List ℕ) → Type 0
-IsReaction h r before new after = (triggers : List TriggerTree) × (more : List MemberTree) × AreTriggers h r before more after triggers × (new ≡ more ++ ReactionMember (reaction_tree h r triggers) ∷ [])
+abbrev pub IsLoweredReaction : Here → Reaction → Option (List ℕ) → List MemberTree → Option (List ℕ) → Type 0
+IsLoweredReaction h r before new after = (triggers : List TriggerTree) × (more : List MemberTree) × AreTriggers h r before more after triggers × (new ≡ more ++ ReactionMember (reaction_tree h r triggers) ∷ [])
 
 -- ---- members
 -- what the member of this number becomes; the name of the action without events, if there is one, before and after; a mode, a mutation or a watchdog becomes nothing at all
@@ -169,7 +170,7 @@ abbrev pub IsLowered : List (Option (List ℕ)) → Here → ℕ → Option (Lis
 IsLowered names h n before new after (member.Port port) = (after ≡ before) × (new ≡ ports (named_in h (string_bytes port.name.text) n) port.is_input)
 IsLowered names h n before new after (member.Timer timer) = (after ≡ before) × IsRead h.shape timer.offset × IsPeriod h.shape timer.period × (new ≡ TimerMember (timer_tree timer) ∷ [])
 IsLowered names h n before new after (member.Action action) = (after ≡ before) × IsRead h.shape action.min_delay × (is_spaced action ≡ false) × (new ≡ ActionMember (action_tree action) ∷ [])
-IsLowered names h n before new after (member.Reaction reaction) = MeansAll h reaction × IsReaction h reaction before new after
+IsLowered names h n before new after (member.Reaction reaction) = MeansAll h reaction × IsLoweredReaction h reaction before new after
 IsLowered names h n before new after (member.Instance instance) = (after ≡ before) × AreInstances names h n (string_bytes instance.name.text) new
 IsLowered names h n before new after (member.Connection c) = (after ≡ before) × (c.is_physical ≡ false) × MeanSides h c × IsRead h.shape c.delay × AreConnected (all_places h c.sources.items) (all_places h c.destinations.items) c.is_broadcast (time_at c.delay) new
 IsLowered names h n before new after (member.Foreign what at) = ⊥

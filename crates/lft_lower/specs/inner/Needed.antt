@@ -20,13 +20,13 @@ abbrev pub LacksGiven : Shape → Child → Type 0
 LacksGiven inner child = (p : ℕ) × (is_needed inner p ≡ true) × (given_to child.given.items p ≡ None)
 
 -- no parameter is given a value twice
-abbrev pub GivesOnce : List GivenValue → Type 0
-GivesOnce [] = Unit {0}
-GivesOnce (g ∷ gs) = (given_to gs g.parameter ≡ None) × GivesOnce gs
+abbrev pub GivesEachOnce : List GivenValue → Type 0
+GivesEachOnce [] = Unit {0}
+GivesEachOnce (g ∷ gs) = (given_to gs g.parameter ≡ None) × GivesEachOnce gs
 
 -- an instance gives a value to each such parameter, if it gives none twice
 abbrev pub GivesNeeded : Shape → Child → Type 0
-GivesNeeded inner child = GivesOnce child.given.items → LacksGiven inner child → ⊥
+GivesNeeded inner child = GivesEachOnce child.given.items → LacksGiven inner child → ⊥
 
 -- ---- for the crate's own contracts
 -- so many such parameters the shape has

@@ -6,13 +6,13 @@ use Rattle.lft_whole.specs.declared.{tree.Expression.Expression, sources.source.
 use Rattle.lft_classes.specs.{inner.Nestings.IsNesting, declared.{nesting.Nesting.Nesting, shapes.{InheritedParameter.InheritedParameter, Shape.Shape}}}
 use Rattle.lft_elaborate.specs.{Channels.Channels.below, declared.settings.Settings.Settings}
 use Rattle.lft_elaborate.specs.inner.{Noted.{AreSettings, table}, Settings.shape_at, Used.AreUsed}
-use Rattle.lft_lower.specs.inner.{Meanings.Names.AreApart, Lowered.AreLowered, Needed.is_timed, Programs.IsCentralized, Standing.ArePlaced}
-use Rattle.lft_lower.specs.inner.Times.{IsWritten, time_in}
+use Rattle.lft_lower.specs.inner.{Meanings.Names.AreNamesApart, Lowered.AreLowered, Needed.is_timed, Programs.IsCentralized, Standing.ArePlaced}
+use Rattle.lft_lower.specs.inner.Times.{IsWrittenTime, time_of_value}
 
 -- the time of a default; where none is written, each instance gives one, and this one is never read
 abbrev pub default_time : Option Expression → Option Time
 default_time None = Some (record { count = 0; unit = None })
-default_time (Some e) = time_in e.value
+default_time (Some e) = time_of_value e.value
 
 -- a parameter with its default
 abbrev pub parameter_tree : InheritedParameter → Option ParameterTree
@@ -29,7 +29,7 @@ timed_parameters shape = filter_map (timed_parameter shape) (below (length shape
 -- a default writes out a time; it may be left out where the reactor isn't the main one
 abbrev pub IsDefault : Bool → Option Expression → Type 0
 IsDefault main None = main ≡ false
-IsDefault main (Some e) = IsWritten e.value
+IsDefault main (Some e) = IsWrittenTime e.value
 
 -- the parameter of this number is a time and has a default, if a time is read from it
 abbrev pub HasDefault : Bool → Shape → ℕ → Type 0
@@ -53,12 +53,12 @@ pub data AreReactors (s : Settings) (names : List (Option (List ℕ))) : List �
   more_reactors : (front : List ℕ) (setting : ℕ) (shape : Shape) (items : List ItemTree) (r : ReactorTree) → AreReactors s names front items → shape_at s setting ≡ Some shape → IsReactor s names setting shape r → AreReactors s names (front ++ setting ∷ []) (items ++ ReactorItem r ∷ [])
 
 -- the shapes are of the main reactor of these files and of all that it contains
-abbrev pub AreShapes : List SourceFile → List Shape → Type 0
-AreShapes files shapes = (scopes : _) × (nesting : Nesting) × IsNesting files scopes nesting × (nesting.shapes.items ≡ shapes)
+abbrev pub AreShapesOfFiles : List SourceFile → List Shape → Type 0
+AreShapesOfFiles files shapes = (scopes : _) × (nesting : Nesting) × IsNesting files scopes nesting × (nesting.shapes.items ≡ shapes)
 
 -- The settings are those of the program of these files, and those of these numbers are all that its instances have.
 pub record IsProgram (files : List SourceFile) (s : Settings) (used : List ℕ) : Type 0 where
-  pub shapes : AreShapes files s.shapes.items
+  pub shapes : AreShapesOfFiles files s.shapes.items
   pub settings : AreSettings (table s)
   pub are_used : AreUsed (table s) used
 
@@ -69,6 +69,6 @@ pub record IsLowering (files : List SourceFile) (tree : Ast) : Type 0 where
   pub program : IsProgram files settings used
   pub centralized : IsCentralized files settings
   pub names : List (Option (List ℕ))
-  pub apart : AreApart names
+  pub apart : AreNamesApart names
   pub reactors : AreReactors settings names used (item_views tree.items.items)
   pub placed : ArePlaced files settings used tree.items.items

@@ -7,7 +7,7 @@ use Rattle.lft_whole.specs.declared.tree.{Action.Action, Connection.Connection, 
 use Rattle.lft_classes.specs.declared.shapes.{GivenValue.GivenValue, InheritedParameter.InheritedParameter, Shape.Shape}
 use Rattle.lft_elaborate.specs.{declared.settings.Settings.Settings, inner.{Settings.shape_at, Refused.IsAt}, Values.is_forever}
 use Rattle.lft_lower.specs.inner.{Meanings.{Meanings.Here, Refused.{IsOfOne, IsOfReference}}, Lowered.is_spaced, Needed.is_timed, Programs.decentralized_in}
-use Rattle.lft_lower.specs.inner.Times.{named_by, time_in}
+use Rattle.lft_lower.specs.inner.Times.{named_by, time_of_value}
 use Rattle.lft_whole.specs.declared.sources.why.Why.TheVariants as why
 use Rattle.lft_whole.specs.declared.tree.Effect.TheVariants as effects
 use Rattle.lft_whole.specs.declared.tree.Trigger.TheVariants as triggers
@@ -17,7 +17,7 @@ use Rattle.lft_whole.specs.declared.tree.Value.TheVariants as value
 
 -- the value writes out no time, or one past the greatest
 abbrev pub IsNoWritten : Value → Why → Type 0
-IsNoWritten v w = ((w ≡ why.NoTime) × (time_in v ≡ None)) ⊎ ((w ≡ why.TimeTooLong) × IsSomeAnd (time_in v) (λ time. longest < nanoseconds time))
+IsNoWritten v w = ((w ≡ why.NoTime) × (time_of_value v ≡ None)) ⊎ ((w ≡ why.TimeTooLong) × IsSomeAnd (time_of_value v) (λ time. longest < nanoseconds time))
 
 -- the value is a parameter that is no time; or it is no parameter, and writes out no time
 abbrev pub IsNoTime : Shape → Value → Why → Type 0
@@ -73,9 +73,9 @@ IsOfTrigger h file (triggers.Reference r) refusal = IsOfReference h file r refus
 IsOfTrigger h file _ refusal = ⊥
 
 -- the refusal is of an effect: it is of a mode, or means nothing
-abbrev pub IsOfEffect : Here → ℕ → Effect → FileRefusal → Type 0
-IsOfEffect h file (effects.Mode at) refusal = IsAt file at refusal × (refusal.why ≡ why.Mode)
-IsOfEffect h file (effects.Reference r) refusal = IsOfReference h file r refusal
+abbrev pub IsEffectRefused : Here → ℕ → Effect → FileRefusal → Type 0
+IsEffectRefused h file (effects.Mode at) refusal = IsAt file at refusal × (refusal.why ≡ why.Mode)
+IsEffectRefused h file (effects.Reference r) refusal = IsOfReference h file r refusal
 
 -- ---- connections
 

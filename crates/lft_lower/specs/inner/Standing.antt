@@ -8,8 +8,8 @@ use Rattle.lft_whole.specs.declared.tree.{Effect.Effect, Expression.Expression, 
 use Rattle.lft_whole.specs.declared.tree.Trigger.{Trigger}
 use Rattle.lft_whole.specs.declared.sources.source.SourceFile.{SourceFile}
 use Rattle.lft_whole.specs.inner.Sources.Tokens.{number_at}
-use Rattle.lft_classes.specs.{inner.Shapes.{child_at, is_at}, declared.shapes.{GivenValue.GivenValue, Inherited.Inherited, Shape.Shape}}
-use Rattle.lft_elaborate.specs.{Channels.Channels.below, inner.{Channels.Channels.{joined, source}, Meanings.shape_inside, Settings.shape_at}}
+use Rattle.lft_classes.specs.{inner.Shapes.{child_at, name_token}, declared.shapes.{GivenValue.GivenValue, Inherited.Inherited, Shape.Shape}}
+use Rattle.lft_elaborate.specs.{Channels.Channels.below, inner.{Channels.Channels.{joined, left_channel}, Meanings.shape_inside, Settings.shape_at}}
 use Rattle.lft_elaborate.specs.{declared.settings.Settings.Settings, Values.is_forever}
 use Rattle.lft_lower.specs.inner.{Meanings.{Meanings.Here, Standing.{all_tokens, ref_tokens, tokens_of}}, Lowered.{all_triggers, time_given}, Needed.is_timed}
 use Rattle.lft_tree.specs.declared.tree.Item.TheVariants as items
@@ -44,9 +44,9 @@ time_tokens None = []
 time_tokens (Some time) = time_token time ∷ []
 
 -- the token of a trigger that is a reference
-abbrev pub trigger_tokens : CoreTrigger → List ℕ
-trigger_tokens (core_triggers.Reference r) = r.at ∷ []
-trigger_tokens t = []
+abbrev pub token_of_trigger : CoreTrigger → List ℕ
+token_of_trigger (core_triggers.Reference r) = r.at ∷ []
+token_of_trigger t = []
 
 -- the tokens of a value that is given and of its time
 abbrev pub given_tokens : Assignment → List ℕ
@@ -56,7 +56,7 @@ given_tokens a = a.at ∷ time_token a.value ∷ []
 abbrev pub parts_at : Core → List ℕ
 parts_at (kinds.Timer t) = time_tokens t.offset ++ time_tokens t.period
 parts_at (kinds.Action a) = time_tokens a.min_delay
-parts_at (kinds.Reaction r) = flat_map trigger_tokens r.triggers.items ++ (ref_tokens r.uses.items ++ ref_tokens r.effects.items)
+parts_at (kinds.Reaction r) = flat_map token_of_trigger r.triggers.items ++ (ref_tokens r.uses.items ++ ref_tokens r.effects.items)
 parts_at (kinds.Instance i) = i.reactor_at ∷ flat_map given_tokens i.given.items
 parts_at (kinds.Connection c) = ref_tokens c.sources.items ++ (ref_tokens c.destinations.items ++ time_tokens c.delay)
 parts_at m = []
@@ -110,7 +110,7 @@ instance_tokens number h n i = number i.reactor.at ∷ tokens_of_given number h 
 
 -- the tokens of a pair of two sides, and of the delay
 abbrev pub pair_tokens : List ℕ → List ℕ → Bool → List ℕ → ℕ → List ℕ
-pair_tokens left right broadcast delay k = slice_index left (source (length left) broadcast k) ∷ slice_index right k ∷ delay
+pair_tokens left right broadcast delay k = slice_index left (left_channel (length left) broadcast k) ∷ slice_index right k ∷ delay
 
 -- the same of each pair
 abbrev pub pairs_tokens : List ℕ → List ℕ → Bool → List ℕ → List (List ℕ)
@@ -135,7 +135,7 @@ ArePartsAt number h n m parts = Unit {0}
 abbrev pub declared_at : Member → ℕ
 declared_at (member.Reaction x) = x.at
 declared_at (member.Connection x) = x.arrow
-declared_at m = is_at m
+declared_at m = name_token m
 
 -- the number of a token of this file, among those of all files
 abbrev pub number_in : List SourceFile → ℕ → ℕ → ℕ
@@ -149,9 +149,9 @@ pub record AddsAt (old new : List Core) (at : ℕ) (Are : List (List ℕ) → Ty
   pub put : new ≡ old ++ more
 
 -- the core members are what these members become, one after another; each stands at the token of its member, and its parts at those of theirs
-pub data AreAt (files : List SourceFile) (h : Here) : List Inherited → List Core → Type 0 where
-  none_at : AreAt files h [] []
-  more_at : (front : List Inherited) (m : Inherited) (old new : List Core) → AreAt files h front old → AddsAt old new (number_in files m.file (declared_at m.member.now)) (ArePartsAt (number_in files m.file) h (length front) m.member.now) → AreAt files h (front ++ m ∷ []) new
+pub data StandAtTokens (files : List SourceFile) (h : Here) : List Inherited → List Core → Type 0 where
+  none_at : StandAtTokens files h [] []
+  more_at : (front : List Inherited) (m : Inherited) (old new : List Core) → StandAtTokens files h front old → AddsAt old new (number_in files m.file (declared_at m.member.now)) (ArePartsAt (number_in files m.file) h (length front) m.member.now) → StandAtTokens files h (front ++ m ∷ []) new
 
 -- ---- reactors
 
@@ -167,7 +167,7 @@ parameter_token files shape n = if is_timed shape n then option_map (λ p. numbe
 pub record IsPlaced (files : List SourceFile) (s : Settings) (setting : ℕ) (shape : Shape) (r : CoreReactor) : Type 0 where
   pub reactor : r.at ≡ number_in files shape.class.file (head_at shape.class.reactor.now)
   pub parameters : map (λ p. p.at) r.parameters.items ≡ filter_map (parameter_token files shape) (below (length shape.parameters.items))
-  pub members : AreAt files (record { settings = s; setting = setting; shape = shape }) shape.members.items r.members.items
+  pub members : StandAtTokens files (record { settings = s; setting = setting; shape = shape }) shape.members.items r.members.items
 
 -- the core reactor of each setting and all that is in it stand at the tokens of the source that they come from
 pub data ArePlaced (files : List SourceFile) (s : Settings) : List ℕ → List Item → Type 0 where

@@ -9,31 +9,31 @@ use Rattle.lft_classes.specs.declared.shapes.OwnThing.TheVariants as things
 use Rattle.lft_whole.specs.declared.tree.Value.TheVariants as value
 
 -- the time that a value writes out: a whole number with a unit, or 0
-abbrev pub time_in : Value → Option Time
-time_in (value.Number false count (Some unit)) = Some (record { count = count; unit = Some unit })
-time_in (value.Number false zero None) = Some (record { count = 0; unit = None })
-time_in _ = None
+abbrev pub time_of_value : Value → Option Time
+time_of_value (value.Number false count (Some unit)) = Some (record { count = count; unit = Some unit })
+time_of_value (value.Number false zero None) = Some (record { count = 0; unit = None })
+time_of_value _ = None
 
 -- what becomes of a value that is read as a time: the name that it is, or the time that it writes out
 abbrev pub time_for : Value → Option TimeTree
 time_for (value.Word name) = Some (Named (string_bytes name))
-time_for v = option_map Written (time_in v)
+time_for v = option_map Written (time_of_value v)
 
 -- the parameter that a thing is
-abbrev pub parameter_of : Shape → OwnThing → Option InheritedParameter
-parameter_of shape (things.Parameter n) = slice_get shape.parameters.items n
-parameter_of shape (things.Member n) = None
+abbrev pub parameter_of_thing : Shape → OwnThing → Option InheritedParameter
+parameter_of_thing shape (things.Parameter n) = slice_get shape.parameters.items n
+parameter_of_thing shape (things.Member n) = None
 
 -- the parameter whose name a value is
 abbrev pub named_by : Shape → Value → Option InheritedParameter
-named_by shape (value.Word word) = option_and_then (parameter_of shape) (thing_named shape (string_bytes word))
+named_by shape (value.Word word) = option_and_then (parameter_of_thing shape) (thing_named shape (string_bytes word))
 named_by shape _ = None
 
 -- the value writes out a time that isn't past the greatest
-abbrev pub IsWritten : Value → Type 0
-IsWritten v = IsSomeAnd (time_in v) (λ time. nanoseconds time ≤ longest)
+abbrev pub IsWrittenTime : Value → Type 0
+IsWrittenTime v = IsSomeAnd (time_of_value v) (λ time. nanoseconds time ≤ longest)
 
 -- the value can be read as a time: it is the name of a parameter that is one, or it writes one out
 abbrev pub IsTime : Shape → Value → Type 0
 IsTime shape (value.Word word) = IsSomeAnd (named_by shape (value.Word word)) (λ p. p.parameter.now.is_time ≡ true)
-IsTime shape v = IsWritten v
+IsTime shape v = IsWrittenTime v

@@ -3,7 +3,7 @@
 ghost use Rattle.std.specs.Prelude.{◌≡◌, ℕ, List, IfErr, IfOk, OnOk, bytes_eq, cond, false, string_bytes, true};
 ghost use Rattle.std.specs.BTreeSet.{contains_text};
 ghost use Rattle.lft_elaborate.specs.inner.Refused.{IfRefused};
-ghost use Rattle.lft_lower.specs.inner.Meanings.{Names.{AreApart, AreNames, texts}, Refused.IsPassed};
+ghost use Rattle.lft_lower.specs.inner.Meanings.{Names.{AreNamesApart, AreNamesTaken, texts}, Refused.IsPassed};
 
 use crate::meanings::room::Room;
 use lft_classes::Work;
@@ -23,7 +23,7 @@ struct CoreNames {
 impl CoreNames {
     /// No names yet, for so many settings.
     fn of(alloc: Global, count: usize) -> Result<CoreNames, AllocError>
-        ensures { IfOk result AreNames }
+        ensures { IfOk result AreNamesTaken }
     {
         let mut found = Vec::new(alloc);
         for _ in 0..count {
@@ -71,8 +71,8 @@ impl CoreNames {
 
     /// Finds the name of a setting of a reactor.
     fn put(&mut self, setting: usize, name: &str, work: &Work) -> Result<(), NoProgram>
-        requires { AreNames self.old }
-        ensures names { OnOk result (AreNames self.new) }
+        requires { AreNamesTaken self.old }
+        ensures names { OnOk result (AreNamesTaken self.new) }
         ensures cause { IfErr result (IfRefused (IsPassed work.now.main)) }
     {
         let name = self.take(name, setting, work)?;
@@ -91,7 +91,7 @@ pub fn names(
     used: &[usize],
     room: &mut Room,
 ) -> Result<Vec<Option<String>>, NoProgram>
-    ensures apart { IfOk result (λ names. AreApart (texts names.items)) }
+    ensures apart { IfOk result (λ names. AreNamesApart (texts names.items)) }
     ensures cause { IfErr result (IfRefused (IsPassed settings.now.work.main)) }
 {
     let mut names = CoreNames::of(alloc, settings.settings.len())?;

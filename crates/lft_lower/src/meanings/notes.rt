@@ -4,7 +4,7 @@ ghost use Rattle.std.specs.Prelude.{◌≡◌, ◌≤◌, ◌<◌, ◌++◌, ℕ
 ghost use Rattle.std.specs.BTreeSet.{contains_text};
 ghost use Rattle.lft_tree.specs.Tree.{nanoseconds as nanoseconds_of};
 ghost use Rattle.lft_resolve.specs.Causes.{longest};
-ghost use Rattle.lft_lower.specs.inner.Meanings.Notes.{IsSaid, default_words, differ_words, divide_words, note_begin, stop_words};
+ghost use Rattle.lft_lower.specs.inner.Meanings.Notes.{IsSaid, default_words, widths_differ_words, divide_words, note_begin, stop_words};
 
 use lft_ir::words::push_number;
 use lft_resolve::times::nanoseconds;
@@ -43,7 +43,7 @@ fn push_divide(line: &mut String, left: u64, right: u64) -> Result<(), AllocErro
 
 /// Puts at the end of a line that the two sides of a connection differ.
 fn push_differ(line: &mut String, left: u64, right: u64) -> Result<(), AllocError>
-    ensures { OnOk result (string_bytes line.new ≡ string_bytes line.old ++ differ_words left right) }
+    ensures { OnOk result (string_bytes line.new ≡ string_bytes line.old ++ widths_differ_words left right) }
 {
     push_counted(line, "the widths differ: ", left)?;
     push_counted(line, " on the left, ", right)?;
@@ -153,7 +153,7 @@ impl<'a> Notes<'a> {
         left: u64,
         right: u64,
     ) -> Result<(), AllocError>
-        ensures { OnOk result (IsSaid (note_begin self.old.files.now file token ++ differ_words left right) self.old self.new) }
+        ensures { OnOk result (IsSaid (note_begin self.old.files.now file token ++ widths_differ_words left right) self.old self.new) }
     {
         let mut line = self.line(file, token)?;
         push_differ(&mut line, left, right)?;

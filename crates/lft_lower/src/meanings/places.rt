@@ -4,7 +4,7 @@ ghost use Rattle.std.specs.Prelude.{◌≡◌, ◌+◌, ◌*◌, ◌++◌, ◌�
 ghost use Rattle.std.specs.List.{All};
 ghost use Rattle.lft_tree.specs.View.{ref_view, ref_views};
 ghost use Rattle.lft_elaborate.specs.inner.{Meanings.shape_inside, Names.spelled, Refused.IfRefused};
-ghost use Rattle.lft_lower.specs.inner.Meanings.Meanings.{Means, all_places, inner_width, meaning_in, member_in, named_in, parameter_in, places_in, places_of, port_of, thing_in, here, is_wide, token_in};
+ghost use Rattle.lft_lower.specs.inner.Meanings.Meanings.{Means, all_places, inner_width, meaning_of_reference, member_with_width, named_in, parameter_alone, places_in, places_of, port_of, thing_in, here, is_wide, token_in};
 ghost use Rattle.lft_lower.specs.inner.Meanings.Places.{count_of, inner_places, name_at, own_places, several, up_to};
 ghost use Rattle.lft_lower.specs.inner.Meanings.{Standing.{all_tokens, ref_tokens, tokens_of, AddsAt}, Refused.{IsOfOne, IsOfReference, IsPassed}};
 ghost use Rattle.lft_classes.specs.declared.shapes.OwnThing.TheVariants as things;
@@ -68,7 +68,7 @@ pub struct Within<'s, 'a> {
 
 /// The member of this number of a shape, with its width.
 fn wide_member<'a>(shape: &Shape<'a>, number: usize, width: Option<u64>) -> Wide<'a>
-    ensures { several result ≡ member_in shape.now number width }
+    ensures { several result ≡ member_with_width shape.now number width }
 {
     let name = match shape.member(number) {
         Some(inherited) => name_of(inherited.member),
@@ -79,7 +79,7 @@ fn wide_member<'a>(shape: &Shape<'a>, number: usize, width: Option<u64>) -> Wide
 
 /// The parameter of this number of a shape.
 fn parameter<'a>(shape: &Shape<'a>, number: usize) -> Wide<'a>
-    ensures { several result ≡ parameter_in shape.now number }
+    ensures { several result ≡ parameter_alone shape.now number }
 {
     let name = match shape.parameters.get(number) {
         Some(found) => found.parameter.name.text.as_str(),
@@ -155,7 +155,7 @@ impl<'s, 'a> Within<'s, 'a> {
 
     /// What a reference means.
     pub fn meaning(self, reference: &Written) -> Result<Meaning, NoProgram>
-        ensures meaning { IfOk result (λ meaning. meaning_in (here self.entry) reference.now ≡ Some meaning) }
+        ensures meaning { IfOk result (λ meaning. meaning_of_reference (here self.entry) reference.now ≡ Some meaning) }
         ensures cause { IfErr result (IfRefused (IsOfReference (here self.entry) self.entry.file reference.now)) }
     {
         let meaning = meaning_of(&self.settings.shapes, self.shape, self.file, reference)?;

@@ -3,14 +3,14 @@ use Rattle.std.specs.Prelude.{◌≡◌, ℕ, Bool, true, false, ◌+◌, ◌-�
 use Rattle.std.specs.List.{insert}
 use Rattle.lft_tag.specs.{declared.Tag.Tag, Tags.{Before, earlier}}
 use Rattle.lft_ir.specs.{declared.steps.{externals.Event.Event, row.Row.Row}, Steps.{Fits.RowsFit, Inputs.IsTold}}
-use Rattle.lft_model.specs.{declared.breach.Breach.Breach, Plans.PlanParts, Presence.stop, Breaches.{RowBreach, First}}
+use Rattle.lft_model.specs.{Plans.PlanParts, Presence.stop, Breaches.First}
 use Rattle.lft_rows.specs.{Accepted.IsAccepted, inner.Firsts.FirstRow}
 use Rattle.lft_queue.specs.Coming.AtTag.{AreAt, AreBefore}
 use Rattle.lft_stream.specs.inner.Kept.{IsAcceptorOf, stopped_stream}
-use Rattle.lft_monitor.specs.inner.{Sure.with_inputs, Kept.IsPast, Going.{IsFirstBad, IsGoing, IsGoneTo, IsLost}}
+use Rattle.lft_monitor.specs.inner.{Sure.with_inputs, Kept.IsPastOfRows, Going.{IsFirstBad, IsGoing, IsGoneTo, IsRunLost}}
 use Rattle.lft_monitor.specs.declared.{reach.Reach.Reach, judged.{Judged.Judged, Closing.Closing, Ending.Ending, Unjudged.Unjudged}}
 use Rattle.lft_monitor.specs.declared.follower.{Follower.Follower, Progress.{Progress, TheVariants.{GoesOn, Broken, Odd, TooMany}}, Receipt.Receipt}
-use Rattle.lft_monitor.specs.Follows.{IsClean, IsJudged, HasManyLater, breach_of, IsQuiet, KeepsButLast, IsSureSoFar, HasManyAtLast, IsFirstUpToLast}
+use Rattle.lft_monitor.specs.Follows.{IsCleanSoFar, IsJudged, HasManyLater, breach_of, IsQuiet, KeepsButLast, IsSureSoFar, HasManyAtLast, IsFirstUpToLast}
 use Rattle.lft_monitor.specs.declared.judged.Closing.TheVariants as closing
 use Rattle.lft_monitor.specs.declared.judged.Ending.TheVariants as ending
 use Rattle.lft_monitor.specs.declared.follower.Receipt.TheVariants as receipt
@@ -18,14 +18,14 @@ use Rattle.lft_monitor.specs.declared.follower.Receipt.TheVariants as receipt
 -- what is kept of rows that are judged is right for them, and they are clean
 pub record IsJudgedOf (plan : PlanParts) (t : List Row) (j : Judged) : Type 0 where
   pub acceptor : IsAcceptorOf plan t j.acceptor
-  pub past : IsPast plan t j.past
+  pub past : IsPastOfRows plan t j.past
   pub counted : j.count ≡ length t
   pub few : j.count ≤ 2 ^ 62 + 4000000
-  pub clean : IsClean plan t j.reach
+  pub clean : IsCleanSoFar plan t j.reach
 
 -- of rows that are judged what is kept is right but for their acceptor, which may have gone on
 pub record AreJudged (plan : PlanParts) (t : List Row) (j : Judged) : Type 0 where
-  pub past : IsPast plan t j.past
+  pub past : IsPastOfRows plan t j.past
   pub counted : j.count ≡ length t
   pub few : j.count ≤ 2 ^ 62 + 4000000
   pub rows : FirstRow (stop plan t) plan t None
@@ -47,17 +47,17 @@ pub record IsHeld (plan : PlanParts) (t : List Row) (f : Follower) : Type 0 wher
   pub some : f.rows.items ≡ [] → done_of t f ≡ []
 
 -- of those that it holds it has gone over some
-pub record IsAtHand (plan : PlanParts) (t : List Row) (f : Follower) : Type 0 where
+pub record IsGoneOver (plan : PlanParts) (t : List Row) (f : Follower) : Type 0 where
   pub held : IsHeld plan t f
   pub going : IsGoing plan (done_of t f) f.rows.items f.going
 
 -- the follower has judged all rows but those at the last tag
 pub record IsFollowerOf (plan : PlanParts) (t : List Row) (f : Follower) : Type 0 where
-  pub hand : IsAtHand plan t f
+  pub hand : IsGoneOver plan t f
   pub at_one : (g : Tag) × AreAt f.rows.items g
 
 -- the new plan has one more external event, put at a place among the others
-pub record HasOneMore (old new : PlanParts) (event : Event) : Type 0 where
+pub record HasOneMoreEvent (old new : PlanParts) (event : Event) : Type 0 where
   pub program : new.program ≡ old.program
   pub stop : new.externals.stop ≡ old.externals.stop
   pub place : ℕ
@@ -66,7 +66,7 @@ pub record HasOneMore (old new : PlanParts) (event : Event) : Type 0 where
 
 -- what is said of an event that is told: the plan has it now, or stays as it was since an event of its action is at its tag already, or there are too many, too many are later, or it is late
 abbrev pub IsReceipt : PlanParts → PlanParts → Event → Receipt → Type 0
-IsReceipt old new event receipt.Taken = HasOneMore old new event
+IsReceipt old new event receipt.Taken = HasOneMoreEvent old new event
 IsReceipt old new event receipt.Late = new ≡ old
 IsReceipt old new event receipt.Again = (new ≡ old) × IsTold old.externals.events event
 IsReceipt old new event receipt.TooMany = (new ≡ old) × (4000000 ≤ length old.externals.events)
@@ -77,13 +77,13 @@ abbrev pub stopped_at : PlanParts → Tag → PlanParts
 stopped_at plan g = with_inputs plan (record { stop = earlier g plan.externals.stop; events = plan.externals.events })
 
 -- the rows from the first place up to the end are at the tag of the last of them
-pub record AreLast (rows : List Row) (end first : ℕ) : Type 0 where
+pub record AreAtLastTag (rows : List Row) (end first : ℕ) : Type 0 where
   pub up : first ≤ end
   pub at_one : (i : ℕ) (x z : Row) → first ≤ i → i < end → slice_get rows i ≡ Some x → slice_get rows (end - 1) ≡ Some z → x.tag ≡ z.tag
 
 -- and the row before is at another tag
 pub record BeginsLast (rows : List Row) (end first : ℕ) : Type 0 where
-  pub last : AreLast rows end first
+  pub last : AreAtLastTag rows end first
   pub some : 0 < end → first < end
   pub other : (x z : Row) → 0 < first → slice_get rows (first - 1) ≡ Some x → slice_get rows (end - 1) ≡ Some z → ¬ (x.tag ≡ z.tag)
 
@@ -100,19 +100,15 @@ pub record IsOdd (plan : PlanParts) (t more : List Row) (r : Reach) (line : ℕ)
   pub line_is : line ≡ place + 2
 
 -- what is told of rows and more behind them: nothing is to be told, and all are followed on; a breach is sure behind some of them; they are odd; or the rows behind are too many with the last ones at one tag, or too many came
-abbrev pub IsProgress : PlanParts → List Row → List Row → Follower → Progress → Type 0
-IsProgress plan t more f GoesOn = IsFollowerOf plan (t ++ more) f × IsQuiet plan (t ++ more)
-IsProgress plan t more f (Broken b) = IsSureSoFar plan (t ++ more) (breach_of b)
-IsProgress plan t more f (Odd r line) = IsOdd plan t more r line
-IsProgress plan t more f TooMany = HasManyAtLast t more ⊎ (2 ^ 62 < length t)
-
--- no row breaks one of the rules 1 to 5
-abbrev pub KeepsRows : PlanParts → List Row → Type 0
-KeepsRows plan t = (b : Breach) → ¬ RowBreach plan t b
+abbrev pub TellsProgress : PlanParts → List Row → List Row → Follower → Progress → Type 0
+TellsProgress plan t more f GoesOn = IsFollowerOf plan (t ++ more) f × IsQuiet plan (t ++ more)
+TellsProgress plan t more f (Broken b) = IsSureSoFar plan (t ++ more) (breach_of b)
+TellsProgress plan t more f (Odd r line) = IsOdd plan t more r line
+TellsProgress plan t more f TooMany = HasManyAtLast t more ⊎ (2 ^ 62 < length t)
 
 -- the rows are clean, all or but those at the last tag, and reach so far
 abbrev pub IsReached : PlanParts → List Row → Reach → Type 0
-IsReached plan t r = IsJudged plan t r ⊎ IsClean plan t r
+IsReached plan t r = IsJudged plan t r ⊎ IsCleanSoFar plan t r
 
 -- what is told of the rows where no more come: they are accepted; or, where some may be missing, they are clean, all or but those at the last tag; or this is their first breach, where none is missing
 abbrev pub IsEnding : PlanParts → Bool → List Row → Ending → Type 0
@@ -122,7 +118,7 @@ IsEnding plan whole t (ending.Broken b) = (whole ≡ true) × First plan t (brea
 
 -- what is told of rows that are all up to their last tag: they are clean, and reach so far; or this is their first breach, and not behind that tag
 abbrev pub IsClosing : PlanParts → List Row → Closing → Type 0
-IsClosing plan t (closing.Unbroken r) = IsClean plan t r
+IsClosing plan t (closing.Unbroken r) = IsCleanSoFar plan t r
 IsClosing plan t (closing.Broken b) = IsFirstUpToLast plan t (breach_of b)
 
 -- the rows can't be judged up to their last line, and reach so far
@@ -131,16 +127,16 @@ IsUnjudged plan t u = IsReached plan t u.reach × (u.line ≡ length t + 1)
 
 -- going over the rows at hand ended before the end: the row there breaks the rule and is the one at the place, or is at a later tag than the run without an end that starts at the place
 abbrev pub IsHalt : PlanParts → List Row → List Row → ℕ → ℕ → ℕ → Type 0
-IsHalt plan done rows place end rule = (end ≡ place) × IsFirstBad plan done rows place rule ⊎ (rule ≡ 5) × IsLost plan done rows place end
+IsHalt plan done rows place end rule = (end ≡ place) × IsFirstBad plan done rows place rule ⊎ (rule ≡ 5) × IsRunLost plan done rows place end
 
 -- the rows but those at the last tag are clean, reach so far, and are these
-abbrev pub AreDone : PlanParts → List Row → List Row → Reach → Type 0
-AreDone plan t done r = (judged : IsJudged plan t r) × (judged.done ≡ done)
+abbrev pub AreCleanRows : PlanParts → List Row → List Row → Reach → Type 0
+AreCleanRows plan t done r = (judged : IsJudged plan t r) × (judged.done ≡ done)
 
 -- rows and more behind them are those that are done and those at hand; of these some are gone over up to an end, and their last tag begins at a place
 pub record IsTurn (plan : PlanParts) (t more done rows : List Row) (r : Reach) (begin end : ℕ) : Type 0 where
   pub parts : t ++ more ≡ done ++ rows
-  pub judged : AreDone plan t done r
+  pub judged : AreCleanRows plan t done r
   pub gone : IsGoneTo plan done rows end
   pub begins : BeginsLast rows end begin
   pub kept : KeepsButLast plan (done ++ take end rows)

@@ -15,8 +15,8 @@ abbrev pub HasEnded : List Row → ℕ → Type 0
 HasEnded rows place = (row : Row) → slice_get rows place ≡ Some row → AreEnded (take place rows) row.tag
 
 -- each run of the rows without an end among them starts at one of so many places
-abbrev pub AreOpen : List Row → ℕ → Type 0
-AreOpen t n = (places : List ℕ) × (length places ≤ n) × ((i : ℕ) (x : Row) → slice_get t i ≡ Some x → IsUnended t i x → Contains places i)
+abbrev pub AreFewOpenRuns : List Row → ℕ → Type 0
+AreFewOpenRuns t n = (places : List ℕ) × (length places ≤ n) × ((i : ℕ) (x : Row) → slice_get t i ≡ Some x → IsUnended t i x → Contains places i)
 
 -- how many runs are open behind a step, where so many were before it
 abbrev pub opened : ℕ → Step → ℕ
@@ -40,7 +40,7 @@ pub record IsGoing (plan : PlanParts) (done rows : List Row) (g : Going) : Type 
   pub passes : HasPassed g.stop plan (take g.passed rows) g.passed g.pass
   pub ended : (z : Row) → slice_get rows (g.passed - 1) ≡ Some z → AreEnded (take g.passed rows) z.tag
   pub few : g.runs ≤ g.passed
-  pub runs : AreOpen (take g.passed rows) g.runs
+  pub runs : AreFewOpenRuns (take g.passed rows) g.runs
 
 -- the row at place i is the first at hand that breaks one of the rules 1 to 4, and k is the least of these, where the stop is what the rows before it ask for
 pub record IsFirstBad (plan : PlanParts) (done rows : List Row) (i k : ℕ) : Type 0 where
@@ -51,7 +51,7 @@ pub record IsFirstBad (plan : PlanParts) (done rows : List Row) (i k : ℕ) : Ty
   pub rule : EarlyRule (stop plan (done ++ take i rows)) plan (take (i + 1) rows) i row (Some k)
 
 -- the row at place s is the first of those before place i that starts a run without an end among them, and the row at place i is at a later tag
-pub record IsLost (plan : PlanParts) (done rows : List Row) (s i : ℕ) : Type 0 where
+pub record IsRunLost (plan : PlanParts) (done rows : List Row) (s i : ℕ) : Type 0 where
   pub row : Row
   pub later : Row
   pub is_row : slice_get rows s ≡ Some row
@@ -64,4 +64,4 @@ pub record IsLost (plan : PlanParts) (done rows : List Row) (s i : ℕ) : Type 0
 abbrev pub HasGone : PlanParts → List Row → List Row → Going → Halt → Type 0
 HasGone plan done rows g AtEnd = IsGoing plan done rows g × (g.passed ≡ length rows)
 HasGone plan done rows g (AtRow i k) = IsFirstBad plan done rows i k
-HasGone plan done rows g (AtLater s i) = IsLost plan done rows s i
+HasGone plan done rows g (AtLater s i) = IsRunLost plan done rows s i

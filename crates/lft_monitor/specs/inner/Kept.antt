@@ -4,7 +4,7 @@ use Rattle.lft_tag.specs.{declared.{Tag.Tag, Shift.Shift}, Tags.{UpTo, after_all
 use Rattle.lft_ir.specs.{Parts.Parts, Origins.Origin, declared.{parts.Port.Port, steps.row.Row.Row}}
 use Rattle.lft_model.specs.{Plans.PlanParts, Presence.{asked, requests, scheduled, written, min_delay, stop, PortClash}, Fitting.EachFits}
 use Rattle.lft_queue.specs.{Coming.AtTag.AreBefore, inner.{Coming.Unread.GoesAsFar, Reading.is_read}}
-use Rattle.lft_monitor.specs.{Sure.IsUnbroken, declared.{kept.Ways.Ways, past.Past.Past}}
+use Rattle.lft_monitor.specs.{Sure.IsUnbroken, declared.{kept.CarriedWrites.CarriedWrites, past.Past.Past}}
 
 -- there is a way for each port, and the way of a port that passes the test is no further than that at the place of its origin
 pub record AreFurthest (program : Parts) (Passes : ℕ → Type 0) (furthest : List Shift) : Type 0 where
@@ -12,7 +12,7 @@ pub record AreFurthest (program : Parts) (Passes : ℕ → Type 0) (furthest : L
   pub each : (p : ℕ) (port : Port) → Passes p → slice_get program.ports p ≡ Some port → (f : Shift) × (slice_get furthest port.origin ≡ Some f) × GoesAsFar port.shift f
 
 -- how far writes are carried to any port, and to ports that some reaction reads
-pub record AreWays (program : Parts) (ways : Ways) : Type 0 where
+pub record AreWaysOfWrites (program : Parts) (ways : CarriedWrites) : Type 0 where
   pub furthest : AreFurthest program (λ p. Unit {0}) ways.furthest.items
   pub heard : AreFurthest program (λ p. is_read program p ≡ true) ways.heard.items
 
@@ -34,8 +34,8 @@ pub record IsIdle (last : Tag) (plan : PlanParts) (t : List Row) (low : Tag) (ro
   pub asks : asked row.tag row.step ≡ None
 
 -- of rows that are of the rows t each that isn't marked is idle
-abbrev pub AreMarked : Tag → PlanParts → List Row → List Row → Tag → List Bool → Type 0
-AreMarked last plan t rows low marks = (i : ℕ) (row : Row) → slice_get marks i ≡ Some false → slice_get rows i ≡ Some row → IsIdle last plan t low row
+abbrev pub AreMarkedRows : Tag → PlanParts → List Row → List Row → Tag → List Bool → Type 0
+AreMarkedRows last plan t rows low marks = (i : ℕ) (row : Row) → slice_get marks i ≡ Some false → slice_get rows i ≡ Some row → IsIdle last plan t low row
 
 -- the rows that are kept are some of these rows, which are of the rows t, cause alike from the tag on, and ask for the same stops
 pub record IsKept (last : Tag) (plan : PlanParts) (t rows kept : List Row) (low : Tag) : Type 0 where
@@ -44,12 +44,12 @@ pub record IsKept (last : Tag) (plan : PlanParts) (t rows kept : List Row) (low 
   pub own : (row : Row) → Contains kept row → Contains rows row
 
 -- the low tag is the first behind all rows, nothing is broken before it, and what is kept is right from there on
-pub record IsPast (plan : PlanParts) (t : List Row) (p : Past) : Type 0 where
+pub record IsPastOfRows (plan : PlanParts) (t : List Row) (p : Past) : Type 0 where
   pub stop_is : p.stop ≡ stop plan t
   pub near : p.low.time ≤ 1000000000000000000
   pub before : AreBefore t p.low
   pub least : (g : Tag) → AreBefore t g → UpTo p.low g
   pub fit : EachFits plan.program t
   pub unbroken : IsUnbroken plan t p.low
-  pub ways : AreWays plan.program p.ways
+  pub ways : AreWaysOfWrites plan.program p.ways
   pub kept : IsKept (stop plan t) plan t t p.kept.items p.low

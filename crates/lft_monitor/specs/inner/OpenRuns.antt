@@ -3,8 +3,8 @@ use Rattle.std.specs.Prelude.{◌≡◌, ℕ, ◌<◌, List, Some, slice_get}
 use Rattle.lft_ir.specs.declared.steps.row.{Row.Row, Step.TheVariants.End}
 
 -- each row is of a reaction below the number
-abbrev pub AreBelow : List Row → ℕ → Type 0
-AreBelow t n = (i : ℕ) (row : Row) → slice_get t i ≡ Some row → row.reaction < n
+abbrev pub AreOfReactionsBelow : List Row → ℕ → Type 0
+AreOfReactionsBelow t n = (i : ℕ) (row : Row) → slice_get t i ≡ Some row → row.reaction < n
 
 -- of the first n rows each that ends a run stands before the place that is kept of its reaction. This serves the proof alone
 abbrev pub EndBefore : List Row → ℕ → List ℕ → Type 0

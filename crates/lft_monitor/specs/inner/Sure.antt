@@ -8,16 +8,16 @@ use Rattle.lft_queue.specs.Coming.AtTag.{AreBefore}
 use Rattle.lft_monitor.specs.Sure.{IsSure, IsUnbroken, IsFirstBefore}
 
 -- no row is before the tag
-abbrev pub AreFrom : List Row → Tag → Type 0
-AreFrom t low = (i : ℕ) (x : Row) → slice_get t i ≡ Some x → UpTo low x.tag
+abbrev pub AreRowsFrom : List Row → Tag → Type 0
+AreRowsFrom t low = (i : ℕ) (x : Row) → slice_get t i ≡ Some x → UpTo low x.tag
 
 -- rows from low on change nothing of what the rules 6 to 10 ask for before low
 abbrev pub FinishedLaw : PlanParts → Type 0
-FinishedLaw plan = (d u : List Row) (low : Tag) (b : Breach) → AreFrom u low → Before b.tag low → TagBreach plan (d ++ u) b ↔ TagBreach plan d b
+FinishedLaw plan = (d u : List Row) (low : Tag) (b : Breach) → AreRowsFrom u low → Before b.tag low → TagBreach plan (d ++ u) b ↔ TagBreach plan d b
 
 -- what is told of the rows so far is the first breach of all rows, where none of these breaks one of the rules 1 to 5
 abbrev pub ToldLaw : PlanParts → Type 0
-ToldLaw plan = (d u : List Row) (low : Tag) (b : Breach) → AreFrom u low → IsFirstBefore plan d low b → ((c : Breach) → ¬ RowBreach plan (d ++ u) c) → First plan (d ++ u) b
+ToldLaw plan = (d u : List Row) (low : Tag) (b : Breach) → AreRowsFrom u low → IsFirstBefore plan d low b → ((c : Breach) → ¬ RowBreach plan (d ++ u) c) → First plan (d ++ u) b
 
 -- a row that breaks one of the rules 1 to 4 breaks it still, whatever comes behind
 abbrev pub RowLaw : PlanParts → Type 0
@@ -29,7 +29,7 @@ WholeLaw plan = (t : List Row) → IsUnbroken plan t (after (stop plan t) 0) ↔
 
 -- what is sure stays sure, whatever rows come from low on
 abbrev pub SureLaw : PlanParts → Type 0
-SureLaw plan = (d u : List Row) (low high : Tag) (b : Breach) → AreFrom u low → UpTo low high → IsSure plan d low b → IsSure plan (d ++ u) high b
+SureLaw plan = (d u : List Row) (low high : Tag) (b : Breach) → AreRowsFrom u low → UpTo low high → IsSure plan d low b → IsSure plan (d ++ u) high b
 
 -- two lists of rows cause the same from low on: the same is scheduled for each tag from there on, the same is written wherever delays lead there
 pub record CauseSame (plan : PlanParts) (d e : List Row) (low : Tag) : Type 0 where

@@ -19,12 +19,12 @@ scheduled_at i None = None
 scheduled_at i (Some x) = Some (x.0, scheduling i x.1)
 
 -- the action that a row schedules, with the scheduling
-abbrev pub scheduled : Placed → Option (ℕ × Scheduling)
-scheduled x = scheduled_at x.row (step_scheduling x.step)
+abbrev pub action_scheduled : Placed → Option (ℕ × Scheduling)
+action_scheduled x = scheduled_at x.row (step_scheduling x.step)
 
 -- the map has the last write of each port
-abbrev pub AreWrites : List Placed → BTreeMap ℕ LastWrite → Type 0
-AreWrites run map = (p : ℕ) → get nat_cmp map p ≡ last_write run p
+abbrev pub AreLastWrites : List Placed → BTreeMap ℕ LastWrite → Type 0
+AreLastWrites run map = (p : ℕ) → get nat_cmp map p ≡ last_write run p
 
 -- the one map has how many schedulings each action has, the other has each under its action and its place among these
 pub record AreSchedulings (run : List Placed) (counts : BTreeMap ℕ ℕ) (items : BTreeMap (ℕ × ℕ) Scheduling) : Type 0 where
@@ -32,6 +32,6 @@ pub record AreSchedulings (run : List Placed) (counts : BTreeMap ℕ ℕ) (items
   pub each : (a k : ℕ) → get place_cmp items (a, k) ≡ slice_get (schedulings run a) k
 
 -- the writes and the schedulings of a run
-pub record AreAnswers (run : List Placed) (writes : BTreeMap ℕ LastWrite) (counts : BTreeMap ℕ ℕ) (items : BTreeMap (ℕ × ℕ) Scheduling) : Type 0 where
-  pub written : AreWrites run writes
+pub record AreEffectsOfRun (run : List Placed) (writes : BTreeMap ℕ LastWrite) (counts : BTreeMap ℕ ℕ) (items : BTreeMap (ℕ × ℕ) Scheduling) : Type 0 where
+  pub written : AreLastWrites run writes
   pub scheduled : AreSchedulings run counts items

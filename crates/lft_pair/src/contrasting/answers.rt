@@ -2,8 +2,8 @@
 
 ghost use Rattle.std.specs.Prelude.{◌≡◌, IfOk, length, slice_get, unwrap_or};
 ghost use Rattle.std.specs.{BTreeMap.get, Ordering.nat_cmp};
-ghost use Rattle.lft_pair.specs.Runs.{request_of as the_request_of, last_write as the_last_write, schedulings as the_schedulings, first_request as the_first_request};
-ghost use Rattle.lft_pair.specs.inner.Answered.{writing as the_writing, scheduled as the_scheduled, AreWrites, AreSchedulings};
+ghost use Rattle.lft_pair.specs.Runs.{request_of_step as the_request_of, last_write as the_last_write, schedulings as the_schedulings, first_request as the_first_request};
+ghost use Rattle.lft_pair.specs.inner.Answered.{writing as the_writing, action_scheduled as the_scheduled, AreLastWrites, AreSchedulings};
 
 use crate::contrasting::contrasts::{LastWrite, Placed, Scheduling};
 use lft_ir::Name;
@@ -32,7 +32,7 @@ fn writing(placed: Placed) -> Option<(u32, LastWrite)>
 
 /// The last write of each port in the run.
 fn writes_of(alloc: Global, steps: &[Placed]) -> Result<BTreeMap<u32, LastWrite>, NoMemory>
-    ensures { IfOk result (AreWrites steps.now) }
+    ensures { IfOk result (AreLastWrites steps.now) }
 {
     let mut writes = BTreeMap::new(alloc);
     for place in 0..steps.len() {
@@ -103,13 +103,13 @@ pub(crate) struct RunAnswers<'a> {
 
 impl<'a> Model for RunAnswers<'a> {
     ghost use Rattle.std.specs.Prelude.{List};
-    ghost use Rattle.lft_pair.specs.{declared.contrasting.contrasts.Placed.Placed, inner.Answered.AreAnswers};
+    ghost use Rattle.lft_pair.specs.{declared.contrasting.contrasts.Placed.Placed, inner.Answered.AreEffectsOfRun};
 
     ghost Value = { List Placed };
 
     ghost view = { λ a. a.steps.now };
 
-    ghost invariant = { λ a. AreAnswers a.steps.now a.writes a.schedulings.counts a.schedulings.items };
+    ghost invariant = { λ a. AreEffectsOfRun a.steps.now a.writes a.schedulings.counts a.schedulings.items };
 }
 
 impl<'a> RunAnswers<'a> {

@@ -1,7 +1,7 @@
 //! The words of the table: which effect, and what the two runs answered for it.
 
 ghost use Rattle.std.specs.Prelude.{◌≡◌, ◌++◌, IfOk, OnOk, string_bytes};
-ghost use Rattle.lft_pair.specs.Words.{place_words, effect_words, write_words, scheduling_words, request_words, first_words, second_words};
+ghost use Rattle.lft_pair.specs.Words.{schedulings_before_words, effect_words, write_words, scheduling_words, request_words, first_words, second_words};
 
 use crate::contrasting::contrasts::{Contrast, LastWrite, Scheduling};
 use lft_ir::Program;
@@ -10,7 +10,7 @@ use std::alloc::{AllocError, Global};
 
 /// Puts how many schedulings stand before one at the end of the text, if there are any.
 fn push_place(text: &mut String, place: usize) -> Result<(), AllocError>
-    ensures { OnOk result (string_bytes text.new ≡ string_bytes text.old ++ place_words place) }
+    ensures { OnOk result (string_bytes text.new ≡ string_bytes text.old ++ schedulings_before_words place) }
 {
     if place != 0 {
         text.push_str(" (")?;

@@ -3,8 +3,8 @@
 ghost use Rattle.std.specs.Prelude.{◌≡◌, ◌↔◌, All, Contains, IsTrue, MatchOption, IfOk, slice_get, is_some};
 ghost use Rattle.lft_ir.specs.declared.parts.Name.{Name as TheName, TheVariants.{Port, Action}};
 ghost use Rattle.lft_pair.specs.Runs.{last_write as the_last_write, schedulings as the_schedulings, first_request as the_first_request};
-ghost use Rattle.lft_pair.specs.{Contrasts.{value_of as the_value_of, event_of as the_event_of}, inner.{Contrasts.events, Enough.IsOfEffect}};
-ghost use Rattle.lft_pair.specs.Enough.{HaveSameOutcome, TellsOf, TellsStop, IsToldOf};
+ghost use Rattle.lft_pair.specs.{Contrasts.{value_of as the_value_of, event_of_scheduling as the_event_of}, inner.{Contrasts.events, Enough.IsOfEffect}};
+ghost use Rattle.lft_pair.specs.Enough.{HaveSameOutcome, TellsOf, TellsStop, IsOutcomeTold};
 
 use crate::contrasting::answers::{RunAnswers, first_request};
 use crate::contrasting::contrasts::{Contrast, LastWrite, Placed, Scheduling};
@@ -107,7 +107,7 @@ pub(crate) fn effect_contrasts(
     theirs: &[Placed],
 ) -> Result<Vec<Contrast>, NoMemory>
     ensures right { IfOk result (λ list. All (IsOfEffect effects.now mine.now theirs.now) list.items) }
-    ensures all { IfOk result (λ list. (n : TheName) → Contains effects.now n → IsToldOf mine.now theirs.now list.items n) }
+    ensures all { IfOk result (λ list. (n : TheName) → Contains effects.now n → IsOutcomeTold mine.now theirs.now list.items n) }
 {
     let first = RunAnswers::new(alloc, mine)?;
     let second = RunAnswers::new(alloc, theirs)?;

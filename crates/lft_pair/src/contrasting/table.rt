@@ -1,7 +1,7 @@
 //! Both answers in columns.
 
 ghost use Rattle.std.specs.Prelude.{◌≡◌, ◌++◌, length, max, IfOk, OnOk, string_bytes};
-ghost use Rattle.lft_pair.specs.{Words.{effect_words, first_words}, Told.{widest, row_words}};
+ghost use Rattle.lft_pair.specs.{Words.{effect_words, first_words}, Told.{widest, contrast_row_words}};
 
 use crate::contrasting::cells::{effect_cell, first_cell, push_second};
 use crate::contrasting::contrasts::Contrast;
@@ -80,7 +80,7 @@ pub(crate) fn push_row(
     widths: TableWidths,
     contrast: Contrast,
 ) -> Result<(), AllocError>
-    ensures { OnOk result (string_bytes text.new ≡ string_bytes text.old ++ row_words program.now widths.effect widths.first contrast) }
+    ensures { OnOk result (string_bytes text.new ≡ string_bytes text.old ++ contrast_row_words program.now widths.effect widths.first contrast) }
 {
     let effect = effect_cell(alloc, program, contrast)?;
     let first = first_cell(alloc, contrast)?;

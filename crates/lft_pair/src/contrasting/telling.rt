@@ -1,7 +1,8 @@
 //! The text of contrasts.
 
 ghost use Rattle.std.specs.Prelude.{◌≡◌, ◌++◌, IfOk, OnOk, string_bytes};
-ghost use Rattle.lft_pair.specs.{Words.instance_words, Told.{starts_words, read_words, earlier_words, before_words, contrast_words, heading_words, told}};
+ghost use Rattle.lft_pair.specs.Words.{instance_words};
+ghost use Rattle.lft_pair.specs.Told.{two_starts_words, read_words, earlier_words, earlier_runs_words, contrast_words, heading_words, told_contrasts};
 
 use crate::contrasting::contrasts::{Contrast, Contrasts};
 use crate::contrasting::table::{TableWidths, push_row, widths_of};
@@ -15,7 +16,7 @@ use std::alloc::{AllocError, Global};
 
 /// Puts where a run starts at the end of the text.
 fn push_starts(text: &mut String, first: u32, second: u32) -> Result<(), AllocError>
-    ensures { OnOk result (string_bytes text.new ≡ string_bytes text.old ++ starts_words first second) }
+    ensures { OnOk result (string_bytes text.new ≡ string_bytes text.old ++ two_starts_words first second) }
 {
     text.push_str("\n  It starts in ")?;
     push_line(text, first)?;
@@ -71,7 +72,7 @@ fn push_earlier(
 
 /// Puts how many runs are at earlier tags at the end of the text.
 fn push_before(text: &mut String, count: u32) -> Result<(), AllocError>
-    ensures { OnOk result (string_bytes text.new ≡ string_bytes text.old ++ before_words count) }
+    ensures { OnOk result (string_bytes text.new ≡ string_bytes text.old ++ earlier_runs_words count) }
 {
     text.push_str("  Runs at earlier tags, the same in both: ")?;
     push_number(text, u64::from(count))?;
@@ -134,7 +135,7 @@ pub fn tell(
     reaction: u32,
     contrasts: &Contrasts,
 ) -> Result<String, AllocError>
-    ensures { IfOk result (λ text. string_bytes text ≡ told program.now tag reaction contrasts.now) }
+    ensures { IfOk result (λ text. string_bytes text ≡ told_contrasts program.now tag reaction contrasts.now) }
 {
     let contrasts = contrasts.as_slice();
     let widths = widths_of(alloc, program, contrasts)?;

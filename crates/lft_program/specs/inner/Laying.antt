@@ -56,16 +56,16 @@ abbrev pub IsFew : Option ℕ → Type 0
 IsFew number = (n : ℕ) × (number ≡ Some n) × (n ≤ 100000)
 
 -- the spot is something in instance n
-abbrev pub HasName : Nest → ℕ → NamedThing → Type 0
-HasName nest n (spots.Port end) = IsFew (port_of nest.ports.firsts.items nest.children n end)
-HasName nest n (spots.Action place) = IsFew (port_at nest.actions.firsts.items n place)
+abbrev pub HasNamedThing : Nest → ℕ → NamedThing → Type 0
+HasNamedThing nest n (spots.Port end) = IsFew (port_of nest.ports.firsts.items nest.children n end)
+HasNamedThing nest n (spots.Action place) = IsFew (port_at nest.actions.firsts.items n place)
 
 -- the cue is something in instance n
-abbrev pub HasTrigger : Nest → ℕ → Cue → Type 0
-HasTrigger nest n cues.Startup = Unit {0}
-HasTrigger nest n cues.Shutdown = Unit {0}
-HasTrigger nest n (cues.Timer place) = IsFew (port_at nest.timers.firsts.items n place)
-HasTrigger nest n (cues.On spot) = HasName nest n spot
+abbrev pub HasCue : Nest → ℕ → Cue → Type 0
+HasCue nest n cues.Startup = Unit {0}
+HasCue nest n cues.Shutdown = Unit {0}
+HasCue nest n (cues.Timer place) = IsFew (port_at nest.timers.firsts.items n place)
+HasCue nest n (cues.On spot) = HasNamedThing nest n spot
 
 -- each of these is so
 abbrev pub Each : {X : Type 0} → (X → Type 0) → List X → Type 0
@@ -73,17 +73,17 @@ Each {X} P xs = (k : ℕ) (x : X) → slice_get xs k ≡ Some x → P x
 
 -- all names of a reaction are something in instance n
 pub record HasCues (nest : Nest) (n : ℕ) (c : Cues) : Type 0 where
-  pub triggers : Each (HasTrigger nest n) c.triggers.items
-  pub uses : Each (HasName nest n) c.uses.items
-  pub effects : Each (HasName nest n) c.effects.items
+  pub triggers : Each (HasCue nest n) c.triggers.items
+  pub uses : Each (HasNamedThing nest n) c.uses.items
+  pub effects : Each (HasNamedThing nest n) c.effects.items
 
 -- the names, in order, that the spots are in instance n
 abbrev pub AreNames : Nest → ℕ → List NamedThing → List Name → Type 0
 AreNames nest n spots names = AllZip (λ s x. name_at nest n s ≡ Some x) spots names
 
 -- the triggers, in order, that the cues are in instance n
-abbrev pub AreTriggers : Nest → ℕ → List Cue → List Trigger → Type 0
-AreTriggers nest n cues triggers = AllZip (λ c t. trigger_at nest n c ≡ Some t) cues triggers
+abbrev pub AreTriggersOfCues : Nest → ℕ → List Cue → List Trigger → Type 0
+AreTriggersOfCues nest n cues triggers = AllZip (λ c t. trigger_at nest n c ≡ Some t) cues triggers
 
 -- ---- parts
 
@@ -117,6 +117,6 @@ pub record IsReactionAt (tables : Tables) (nest : Nest) (thing : Thing) (reactio
   pub is_cues : cues_at tables nest thing ≡ Some cues
   pub instance : reaction.instance ≡ thing.instance
   pub place : reaction.place ≡ thing.place
-  pub triggers : AreTriggers nest thing.instance cues.triggers.items reaction.triggers
+  pub triggers : AreTriggersOfCues nest thing.instance cues.triggers.items reaction.triggers
   pub uses : AreNames nest thing.instance cues.uses.items reaction.uses
   pub effects : AreNames nest thing.instance cues.effects.items reaction.effects

@@ -2,7 +2,7 @@
 use Rattle.std.specs.Prelude.{◌≡◌, ℕ, ◌≤◌, List, Any, map, length, slice_get, Some}
 use Rattle.std.specs.List.{AllZip}
 use Rattle.lft_tree.specs.Tree.{FileTree, ReactorTree, reactors_of, ports_of, timers_of, actions_of, reactions_of}
-use Rattle.lft_resolve.specs.inner.Expansion.{Children.AreChildren, Contents.IsWalk, Numbers.{AreFirst, things}}
+use Rattle.lft_resolve.specs.inner.Expansion.{Children.AreChildren, Contents.IsWalk, Numbers.{AreFirstNumbers, things}}
 use Rattle.lft_resolve.specs.{declared.expansion.{numbering.Thing.Thing, walk.Instance.Instance}, Causes.HasLongTime}
 use Rattle.lft_program.specs.{Located.{Located, AreLocated, Declared}, declared.nesting.{nest.{Nest.Nest, Numbering.Numbering}, tables.Tables.Tables}}
 
@@ -13,7 +13,7 @@ IsInstanceOf rs located instance = slice_get rs instance.reactor ≡ Some locate
 -- how many things of a kind each reactor declares, and the numbers of the instances' first ones; there are no more than the limit
 pub record IsNumbering {X : Type 0} (kind : ReactorTree → List X) (rs : List ReactorTree) (instances : List Instance) (limit : ℕ) (n : Numbering) : Type 0 where
   pub counts : n.counts.items ≡ map (λ r. length (kind r)) rs
-  pub firsts : AreFirst n.counts.items instances n.firsts.items
+  pub firsts : AreFirstNumbers n.counts.items instances n.firsts.items
   pub few : things n.counts.items instances ≤ limit
 
 -- the instances of the tree by number, with their children, the values of their parameters, and the numbers of what they declare

@@ -21,8 +21,8 @@ abbrev pub placed_at : Thing → PlacedReaction
 placed_at t = record { instance = t.instance; place = t.place }
 
 -- the thing has the instance and the name of the declaration
-abbrev pub Says : {X : Type 0} → (X → List ℕ) → Declared X → OwnName → Type 0
-Says name d x = (x.instance ≡ d.instance) × (x.name.now ≡ name d.item)
+abbrev pub SaysDeclaration : {X : Type 0} → (X → List ℕ) → Declared X → OwnName → Type 0
+SaysDeclaration name d x = (x.instance ≡ d.instance) × (x.name.now ≡ name d.item)
 
 -- the reaction has the instance and the place of the declaration
 abbrev pub IsPlacedAt : {X : Type 0} → Declared X → PlacedReaction → Type 0
@@ -31,7 +31,7 @@ IsPlacedAt d x = (x.instance ≡ d.instance) × (x.place ≡ d.place)
 -- each instance has the number of the one that contains it and its name there, and all else that of its instance, with its own name or its place
 pub record AreLists (tree : FileTree) (tables : Tables) (nest : Nest) (is : IsNest tree tables nest) (lists : Lists) : Type 0 where
   pub instances : map seen lists.instances.items ≡ map (λ i. (i.parent, name_at (map (own_names kinds.Instance) (reactors_of tree)) nest.instances.items i.parent i.place)) nest.instances.items
-  pub ports : AllZip (Says (λ x. x.name)) (declared ports_of is.located) lists.ports.items
-  pub actions : AllZip (Says (λ x. x.name)) (declared actions_of is.located) lists.actions.items
-  pub timers : AllZip (Says (λ x. x.name)) (declared timers_of is.located) lists.timers.items
+  pub ports : AllZip (SaysDeclaration (λ x. x.name)) (declared ports_of is.located) lists.ports.items
+  pub actions : AllZip (SaysDeclaration (λ x. x.name)) (declared actions_of is.located) lists.actions.items
+  pub timers : AllZip (SaysDeclaration (λ x. x.name)) (declared timers_of is.located) lists.timers.items
   pub reactions : AllZip IsPlacedAt (declared reactions_of is.located) lists.reactions.items

@@ -2,7 +2,7 @@
 
 ghost use Rattle.std.specs.Prelude.{◌≡◌, ◌≤◌, ℕ, List, Err, IfOk, OnOk, length};
 ghost use Rattle.lft_tree.specs.Tree.{FileTree};
-ghost use Rattle.lft_resolve.specs.inner.Expansion.{Contents.{IsWalk, contained}, Numbers.{AreFirst, HasMoreThings, things}};
+ghost use Rattle.lft_resolve.specs.inner.Expansion.{Contents.{IsWalk, contained}, Numbers.{AreFirstNumbers, HasMoreThings, things}};
 ghost use Rattle.lft_resolve.specs.{Expansion.Paths.{Exists, IsMoreThan}, declared.expansion.walk.Contents.Contents as TheContents, Causes.TooMany};
 ghost use Rattle.lft_program.specs.inner.{Limits.{IsExcess, IsFull, IsPassed, limit_of}, Nests.IsNest, Tables.{AreTables, IsLawful}};
 ghost use Rattle.lft_program.specs.declared.nesting.limits.Excess.{Excess as TheExcess};
@@ -84,7 +84,7 @@ fn numbered(
     kind: LimitedKind,
 ) -> Result<Numbering, NestFault>
     ensures counts { IfOk result (λ n. n.counts ≡ counts) }
-    ensures firsts { IfOk result (λ n. AreFirst counts.items instances.now n.firsts.items) }
+    ensures firsts { IfOk result (λ n. AreFirstNumbers counts.items instances.now n.firsts.items) }
     ensures few { IfOk result (λ _. things counts.items instances.now ≤ limit_of kind) }
     ensures within { OnOk result ((table : List TheContents) → (main : ℕ) → IsWalk table main instances.now → HasMoreThings table main counts.items (limit_of kind) → ⊥) }
     ensures too_many { (e : TheExcess) → result ≡ Err (NestFault.TooMany e) → IsPassed kind (things counts.items instances.now) e }

@@ -9,8 +9,8 @@ use Rattle.lft_ir.specs.declared.parts.{Name.{Name, TheVariants.{Port, Action}},
 use Rattle.lft_ir.proofs.Origins.{origin_unique, port_of}
 use Rattle.lft_model.{specs.Plans.PlanParts, proofs.Steps.both_true}
 use Rattle.lft_queue.proofs.Marking.{of_reads}
-use Rattle.lft_queue.specs.inner.Coming.{AtOnce.{is_undelayed, origin_of, HasEvents, IsAwaited, HaveGrown}, NumberLists.list_at}
-use Rattle.lft_queue.specs.inner.Coming.{Listeners.{list_of, heard_at, BothGrow, IsListed, AreListeners}, Listens.Listens}
+use Rattle.lft_queue.specs.inner.Coming.{AtOnce.{is_undelayed, origin_of, MayHaveEvents, IsAwaited, HaveGrown}, NumberLists.list_at}
+use Rattle.lft_queue.specs.inner.Coming.{Listeners.{list_of, heard_at, BothGrow, IsListed, AreNameListeners}, Listens.Listens}
 use Rattle.lft_queue.specs.declared.coming.listeners.NameListeners.{NameListeners}
 
 -- what the test asks of a port
@@ -63,7 +63,7 @@ origin_is program sound p o delays way =
     ap (λ (e : Option PortOf). unwrap_or (option_map (λ (y : PortOf). y.origin) e) 0) x.1 ∙ sym (origin_unique way kept.1).0
 
 -- what has events is heard under its own name
-pub heard_there : (program : Parts) (n : Name) → HasEvents program n → heard_at program n ≡ n
+pub heard_there : (program : Parts) (n : Name) → MayHaveEvents program n → heard_at program n ≡ n
 heard_there program (Port p) h = ap (λ (b : Bool). Port (cond b (origin_of program p) p)) h
 heard_there program (Action a) h = refl
 
@@ -129,7 +129,7 @@ both_there old new grown (Port p) r more e there = still_there old.ports new.por
 both_there old new grown (Action a) r more e there = still_there old.actions new.actions grown.1 a r more e there
 
 -- the lists of names in which each reaction stands for its triggers are the listeners
-pub listeners_of : (plan : PlanParts) (listeners : NameListeners) → length listeners.ports ≡ length plan.program.ports → length listeners.actions ≡ length plan.program.actions → ((r : ℕ) (x : Reaction) → slice_get plan.program.reactions r ≡ Some x → IsListed plan.program (filter_map named x.triggers) r listeners) → AreListeners plan listeners
+pub listeners_of : (plan : PlanParts) (listeners : NameListeners) → length listeners.ports ≡ length plan.program.ports → length listeners.actions ≡ length plan.program.actions → ((r : ℕ) (x : Reaction) → slice_get plan.program.reactions r ≡ Some x → IsListed plan.program (filter_map named x.triggers) r listeners) → AreNameListeners plan listeners
 listeners_of plan listeners ports actions listed = record { ports = ports; actions = actions; each = each }
   where
     each : (n : Name) (r : ℕ) (list : List ℕ) → Listens plan r (On n) → list_of listeners (heard_at plan.program n) ≡ Some list → Contains list r

@@ -14,8 +14,8 @@ use Rattle.lft_model.specs.Presence.{value_written, written}
 use Rattle.lft_model.proofs.{Ended.{written_by, by_written}, Places.slice_get_within, Steps.{both_true, written_some, some_written}}
 use Rattle.lft_queue.specs.Pending.{value_of}
 use Rattle.lft_queue.specs.inner.Coming.AtOnce.{is_undelayed, origin_of, Passes}
-use Rattle.lft_queue.specs.inner.Coming.Channels.{is_behind, arrives_at, arrival, AreChannelsTo, carried_to, carried_by, IsCarried, IsUncarried, AreCarried}
-use Rattle.lft_queue.specs.inner.Coming.{Coming.to_come, Lanes.{held, carried}, Shown.last_write, Writes.value_at}
+use Rattle.lft_queue.specs.inner.Coming.Channels.{is_behind, arrives_at, value_at_arrival, AreChannelsTo, carried_to, carried_by, IsCarried, IsUncarried, AreCarried}
+use Rattle.lft_queue.specs.inner.Coming.{Coming.to_come, Lanes.{held, carried}, Shown.last_write, Writes.value_at_tag}
 use Rattle.lft_queue.specs.declared.coming.{coming.Coming.Coming, writes.Written.Written}
 use Rattle.lft_queue.proofs.ComingLemmas.{AtOnce.{test_of, origin_is, port_behind, delayed_way}, ToCome.few_of}
 
@@ -118,9 +118,9 @@ only_one v (x ∷ y ∷ ys) m same l = absurd (omega arith)
 -- what a write of origin o carries to a name
 module _ (program : Parts) (o : ℕ) (g : Tag) (v : Value) (targets : List ℕ) (h : Tag) where
   abbrev arrived : Name → List Value
-  arrived n = filter_map (arrival program o g v h n) targets
+  arrived n = filter_map (value_at_arrival program o g v h n) targets
 
-  arrival_of : (n : Name) (p : ℕ) (w : Value) → arrival program o g v h n p ≡ Some w → (w ≡ v) × (Port p ≡ n) × (is_behind program o p ≡ true) × (arrives_at program g p ≡ h)
+  arrival_of : (n : Name) (p : ℕ) (w : Value) → value_at_arrival program o g v h n p ≡ Some w → (w ≡ v) × (Port p ≡ n) × (is_behind program o p ≡ true) × (arrives_at program g p ≡ h)
   arrival_of n p w e =
       let c = cond_some (is_behind program o p && (same_tag (arrives_at program g p) h && same_name (Port p) n)) v w e in
       let b = both_true (is_behind program o p) (same_tag (arrives_at program g p) h && same_name (Port p) n) c.0 in
@@ -128,7 +128,7 @@ module _ (program : Parts) (o : ℕ) (g : Tag) (v : Value) (targets : List ℕ) 
       (sym c.1, name_same (Port p) n k.1, b.0, same_tag_true (arrives_at program g p) h k.0)
 
   none_arrived : (n : Name) → ((p : ℕ) → Port p ≡ n → is_behind program o p ≡ true → arrives_at program g p ≡ h → ⊥) → arrived n ≡ []
-  none_arrived n never = nil_of_none (arrived n) (λ w m. let x = mem_from_filter (arrival program o g v h n) targets w m in let y = arrival_of n x.0 w x.2 in never x.0 y.1 y.2 y.3)
+  none_arrived n never = nil_of_none (arrived n) (λ w m. let x = mem_from_filter (value_at_arrival program o g v h n) targets w m in let y = arrival_of n x.0 w x.2 in never x.0 y.1 y.2 y.3)
 
   pub no_action : (a : ℕ) → arrived (Action a) ≡ []
   no_action a = none_arrived (Action a) (λ p e b t. absurd (cc))
@@ -145,9 +145,9 @@ module _ (program : Parts) (o : ℕ) (g : Tag) (v : Value) (targets : List ℕ) 
 
       here : is_behind program o p ≡ true → Contains targets p → (z : Bool) → same_tag h (arrives_at program g p) ≡ z → arrived (Port p) ≡ cons_option (cond z (Some v) None) []
       here behind c false e = none_arrived (Port p) (λ q s k t. false≢true (sym e ∙ same_tag_refl h (arrives_at program g p) (sym t ∙ ap (λ (j : ℕ). arrives_at program g j) (same_port q s))))
-      here behind c true e = only_one v (arrived (Port p)) (mem_filter (arrival program o g v h (Port p)) p v targets (contains_mem p targets c) gives) (λ w m. let x = mem_from_filter (arrival program o g v h (Port p)) targets w m in (arrival_of (Port p) x.0 w x.2).0) few
+      here behind c true e = only_one v (arrived (Port p)) (mem_filter (value_at_arrival program o g v h (Port p)) p v targets (contains_mem p targets c) gives) (λ w m. let x = mem_from_filter (value_at_arrival program o g v h (Port p)) targets w m in (arrival_of (Port p) x.0 w x.2).0) few
         where
-          gives : arrival program o g v h (Port p) p ≡ Some v
+          gives : value_at_arrival program o g v h (Port p) p ≡ Some v
           gives =
               let t : same_tag (arrives_at program g p) h ≡ true = same_tag_refl (arrives_at program g p) h (sym (same_tag_true h (arrives_at program g p) e)) in
               let s : (p == p) ≡ true = eq-eqb p p refl in
@@ -188,11 +188,11 @@ module _ (program : Parts) (test : ℕ → Bool) (u : List Row) (count : ℕ) (r
         let l = last_of_mem v (filter_map (written row.tag o) u) m in
         none-some l.0 (sym e ∙ l.1)
 
-    gone : (p : ℕ) → origin_of program p ≡ o → (x : Option Written) → slice_get rest (origin_of program p) ≡ Some x → value_at row.tag x ≡ None
+    gone : (p : ℕ) → origin_of program p ≡ o → (x : Option Written) → slice_get rest (origin_of program p) ≡ Some x → value_at_tag row.tag x ≡ None
     gone p q x e =
         let same : Some None ≡ Some x = sym (get_written writes o None within) ∙ ap (λ (k : ℕ). slice_get rest k) (sym q) ∙ e in
         let y : None ≡ x = cc in
-        ap (value_at row.tag) (sym y)
+        ap (value_at_tag row.tag) (sym y)
 
     here : (p : ℕ) → origin_of program p ≡ o → slice_get writes (origin_of program p) ≡ Some w
     here p q = ap (λ (k : ℕ). slice_get writes k) q ∙ is
@@ -221,7 +221,7 @@ module _ (program : Parts) (test : ℕ → Bool) (u : List Row) (count : ℕ) (r
       stepped = record { as_long = length_written writes o None ∙ are.as_long; up_to = still_up_to; actions = λ events h a up. actions events h a up ∙ are.actions events h a up; ports = port }
 
     -- a write that is kept no more is carried already
-    pub carried_again : value_at row.tag w ≡ None → AreCarried program test u row.tag last (count + 1) start old rest
+    pub carried_again : value_at_tag row.tag w ≡ None → AreCarried program test u row.tag last (count + 1) start old rest
     carried_again none = stepped old (λ events h a up. refl) (λ p n events h up. refl) (λ p k q. own p q)
       where
         own : (p : ℕ) → origin_of program p ≡ o → IsCarried program u row.tag last p start old writes ⊎ IsUncarried program u row.tag last count p start old writes → (events : List Event) (h : Tag) → Before row.tag h → UpTo h last → to_come events old h (Port p) ≡ to_come events start h (Port p) ++ held (carried_to program u row.tag p) h
@@ -229,7 +229,7 @@ module _ (program : Parts) (test : ℕ → Bool) (u : List Row) (count : ℕ) (r
         own p q (inr r) events h b up = absurd (some_last (ap (λ (k : ℕ). last_write u row.tag k) (sym q) ∙ sym (r.kept w (here p q)) ∙ none))
 
     -- and one that is kept is carried now
-    pub carried_now : (lists : List (List ℕ)) → AreChannelsTo program test false lists → (targets : List ℕ) → slice_get lists o ≡ Some targets → (value : Value) → value_at row.tag w ≡ Some value → (new : Coming) → ((events : List Event) (h : Tag) (n : Name) → UpTo h last → to_come events new h n ≡ to_come events old h n ++ filter_map (arrival program o row.tag value h n) targets) → AreCarried program test u row.tag last (count + 1) start new rest
+    pub carried_now : (lists : List (List ℕ)) → AreChannelsTo program test false lists → (targets : List ℕ) → slice_get lists o ≡ Some targets → (value : Value) → value_at_tag row.tag w ≡ Some value → (new : Coming) → ((events : List Event) (h : Tag) (n : Name) → UpTo h last → to_come events new h n ≡ to_come events old h n ++ filter_map (value_at_arrival program o row.tag value h n) targets) → AreCarried program test u row.tag last (count + 1) start new rest
     carried_now lists channels targets list value some new put = stepped new (λ events h a up. put events h (Action a) up ∙ ap (λ (vs : List Value). to_come events old h (Action a) ++ vs) (no_action program o row.tag value targets h a) ∙ append-nil (to_come events old h (Action a))) (λ p n events h up. put events h (Port p) up ∙ ap (λ (vs : List Value). to_come events old h (Port p) ++ vs) (no_other program o row.tag value targets h p n) ∙ append-nil (to_come events old h (Port p))) (λ p k q. own p k q)
       where
         listed : (p : ℕ) → test p ≡ true → origin_of program p ≡ o → (z : Bool) → is_undelayed program p ≡ z → Contains targets p ⊎ (is_undelayed program p ≡ true)
@@ -238,12 +238,12 @@ module _ (program : Parts) (test : ℕ → Bool) (u : List Row) (count : ℕ) (r
 
         own : (p : ℕ) → test p ≡ true → origin_of program p ≡ o → IsCarried program u row.tag last p start old writes ⊎ IsUncarried program u row.tag last count p start old writes → (events : List Event) (h : Tag) → Before row.tag h → UpTo h last → to_come events new h (Port p) ≡ to_come events start h (Port p) ++ held (carried_to program u row.tag p) h
         own p k q (inl c) events h b up = absurd (none-some value (sym (c.gone w (here p q)) ∙ some))
-        own p k q (inr r) events h b up = put events h (Port p) up ∙ ap (λ (vs : List Value). vs ++ filter_map (arrival program o row.tag value h (Port p)) targets) (r.same events h up) ∙ ap (λ (vs : List Value). to_come events start h (Port p) ++ vs) (own_event program o row.tag value targets h u p q (sym (r.kept w (here p q)) ∙ some) b (listed p k q (is_undelayed program p) refl) few)
+        own p k q (inr r) events h b up = put events h (Port p) up ∙ ap (λ (vs : List Value). vs ++ filter_map (value_at_arrival program o row.tag value h (Port p)) targets) (r.same events h up) ∙ ap (λ (vs : List Value). to_come events start h (Port p) ++ vs) (own_event program o row.tag value targets h u p q (sym (r.kept w (here p q)) ∙ some) b (listed p k q (is_undelayed program p) refl) few)
           where
-            few : length (filter_map (arrival program o row.tag value h (Port p)) targets) < 2
+            few : length (filter_map (value_at_arrival program o row.tag value h (Port p)) targets) < 2
             few =
                 let a : length (to_come events new h (Port p)) < 2 = few_of (value_of h (Port p) new.queue) in
-                let c : length (to_come events new h (Port p)) ≡ length (to_come events old h (Port p)) + length (filter_map (arrival program o row.tag value h (Port p)) targets) = ap (λ (vs : List Value). length vs) (put events h (Port p) up) ∙ length-append (to_come events old h (Port p)) (filter_map (arrival program o row.tag value h (Port p)) targets) in
+                let c : length (to_come events new h (Port p)) ≡ length (to_come events old h (Port p)) + length (filter_map (value_at_arrival program o row.tag value h (Port p)) targets) = ap (λ (vs : List Value). length vs) (put events h (Port p) up) ∙ length-append (to_come events old h (Port p)) (filter_map (value_at_arrival program o row.tag value h (Port p)) targets) in
                 omega arith
 
 -- once all rows of a tag have carried what they write

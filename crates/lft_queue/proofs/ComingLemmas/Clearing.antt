@@ -6,7 +6,7 @@ use Rattle.lft_ir.specs.{Parts.Parts, declared.steps.row.Row.Row}
 use Rattle.lft_tag.{specs.{declared.Tag.Tag, Tags.{UpTo, after}}, proofs.Order.{UpTo-Before, after_past}}
 use Rattle.lft_queue.specs.inner.Reading.{is_read}
 use Rattle.lft_queue.specs.inner.Coming.{AtOnce.origin_of, Channels.{AreCarried, AreCarriedClear}, Coming.{IsClear, IsNoLater}}
-use Rattle.lft_queue.specs.inner.Coming.Writes.{AreWrites, AreEarlier, AreFewer}
+use Rattle.lft_queue.specs.inner.Coming.Writes.{AreWrites, AreEarlierWrites, AreFewer}
 use Rattle.lft_queue.specs.declared.coming.{coming.Coming.Coming, writes.Written.Written}
 
 -- a tag up to a clear one is clear
@@ -44,5 +44,5 @@ clear_more program u g last count row start old new writes rest is at no_later f
   carried = λ h up clear. subst (λ (k : Tag). AreCarried program (is_read program) u k h (count + 1) start new rest) at (step h up clear (subst (λ (k : Tag). AreCarried program (is_read program) u k h count start old writes) (sym at) (are.carried h up (no_later h clear))));
 }
 
-pub clear_earlier : (program : Parts) (u : List Row) (g last : Tag) (count : ℕ) (start new : Coming) (writes : List (Option Written)) → AreCarriedClear program u g last count start new writes → AreEarlier program (after g 0) writes
+pub clear_earlier : (program : Parts) (u : List Row) (g last : Tag) (count : ℕ) (start new : Coming) (writes : List (Option Written)) → AreCarriedClear program u g last count start new writes → AreEarlierWrites program (after g 0) writes
 clear_earlier program u g last count start new writes are = record { as_long = are.as_long; each = λ p w e. UpTo-Before w.tag g (after g 0) (are.up_to p w e) (after_past g 0) }

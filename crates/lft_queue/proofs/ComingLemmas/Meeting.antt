@@ -8,7 +8,8 @@ use Rattle.lft_ir.specs.Parts.{Parts}
 use Rattle.lft_ir.specs.declared.{parts.{Port.Port as PortOf, Value.Value, Name.TheVariants.Port}, steps.row.{Row.Row, Step.{Step, TheVariants.Write}}}
 use Rattle.lft_ir.specs.Steps.Fits.{StepFits, RowsFit}
 use Rattle.lft_model.{specs.Presence.value_written, proofs.{Places.slice_get_within, Steps.some_written}}
-use Rattle.lft_queue.specs.inner.{Reading.is_read, Coming.Unread.{GoesAsFar, UnreadParts, AreSoonest, IsWrittenAt, IsLastTag, AreUnread, IsFree, AreFree}}
+use Rattle.lft_queue.specs.inner.Reading.{is_read}
+use Rattle.lft_queue.specs.inner.Coming.Unread.{GoesAsFar, UnreadParts, AreSoonest, IsWrittenAt, IsLastTag, AreUnread, MeetsPastLast, AreFree}
 use Rattle.lft_queue.specs.Coming.AtTag.{AreBefore, AreAt}
 use Rattle.lft_queue.proofs.{Tests.together, ComingLemmas.Ways.{moved_up, far_trans}}
 
@@ -136,7 +137,7 @@ module _ (t : List Row) (row : Row) where
       between h k g (inr l) (inl m) e = let z : h.time ≡ k.time = l.0 in absurd (omega (arith, z, m, e))
       between h k g (inr l) (inr m) e = m.0
 
-      free_of : (k : Tag) → slice_get written o ≡ Some (Some k) → ((g : Tag) → IsWrittenAt t o g → UpTo g k) → Before k row.tag → IsFree program t row.tag last o
+      free_of : (k : Tag) → slice_get written o ≡ Some (Some k) → ((g : Tag) → IsWrittenAt t o g → UpTo g k) → Before k row.tag → MeetsPastLast program t row.tag last o
       free_of k there upto before p port h is own un w b same =
           let both = together h row.tag (port.shift.time, port.shift.steps) same (λ e. Before-irrefl row.tag (subst (λ (z : Tag). Before z row.tag) e b)) in
           let time : k.time ≡ row.tag.time = between h k row.tag (upto h w) before both.1 in
@@ -149,14 +150,14 @@ module _ (t : List Row) (row : Row) where
           go (Some s) e l f less =
               Before-UpTo last (shifted row.tag (s.time, s.steps)) (shifted row.tag (port.shift.time, port.shift.steps)) (test s k e there f (other_micro k row.tag before f)) (moved_up row.tag s.time s.steps port.shift.time port.shift.steps less)
 
-      pub free_or_written : IsFree program t row.tag last o ⊎ IsWrittenAt t o row.tag
+      pub free_or_written : MeetsPastLast program t row.tag last o ⊎ IsWrittenAt t o row.tag
       free_or_written = let long = are.as_long in let k = get_there written o (omega (arith, within, long)) in go k.0 k.1 (are.last some o k.0 k.1)
         where
-          by : (k : Tag) → slice_get written o ≡ Some (Some k) → IsLastTag t o (Some k) → Before k row.tag ⊎ (k ≡ row.tag) → IsFree program t row.tag last o ⊎ IsWrittenAt t o row.tag
+          by : (k : Tag) → slice_get written o ≡ Some (Some k) → IsLastTag t o (Some k) → Before k row.tag ⊎ (k ≡ row.tag) → MeetsPastLast program t row.tag last o ⊎ IsWrittenAt t o row.tag
           by k e is (inl b) = inl (free_of k e is.1 b)
           by k e is (inr q) = inr (subst (λ (z : Tag). IsWrittenAt t o z) q is.0)
 
-          go : (z : Option Tag) → slice_get written o ≡ Some z → IsLastTag t o z → IsFree program t row.tag last o ⊎ IsWrittenAt t o row.tag
+          go : (z : Option Tag) → slice_get written o ≡ Some z → IsLastTag t o z → MeetsPastLast program t row.tag last o ⊎ IsWrittenAt t o row.tag
           go None e none = inl (λ p port h is own un w b same. absurd (none h w))
           go (Some k) e is = by k e is (split_up k row.tag (no_later k is.0))
 
@@ -173,7 +174,7 @@ all_up_to t u g before at i x e = go (get_append_cases t u i x e)
     go (inr (j, q, p)) = subst (λ (k : Tag). UpTo k g) (sym (at j x p)) (UpTo-refl g)
 
 -- what is free of more rows is free of these
-free_fewer : (program : Parts) (t u : List Row) (g last : Tag) (o : ℕ) → IsFree program (t ++ u) g last o → IsFree program t g last o
+free_fewer : (program : Parts) (t u : List Row) (g last : Tag) (o : ℕ) → MeetsPastLast program (t ++ u) g last o → MeetsPastLast program t g last o
 free_fewer program t u g last o free p port h is own un w b same = free p port h is own un (record { place = w.place; row = w.row; value = w.value; is_row = get_left t u w.place w.row w.is_row; writes = w.writes; tag_is = w.tag_is }) b same
 
 -- a write at the tag is none of earlier rows
@@ -185,14 +186,14 @@ in_second t u g o before w = go (get_append_cases t u w.place w.row w.is_row)
     go (inr (j, q, e)) = record { place = j; row = w.row; value = w.value; is_row = e; writes = w.writes; tag_is = w.tag_is }
 
 -- one more row of the tag
-pub free_more : (program : Parts) (t u : List Row) (g last : Tag) (row : Row) → AreBefore t g → row.tag ≡ g → AreFree program t u g last → ((o : ℕ) (v : Value) → row.step ≡ Write (Port o) v → IsFree program (t ++ u) row.tag last o ⊎ IsWrittenAt (t ++ u) o row.tag) → AreFree program t (u ++ row ∷ []) g last
+pub free_more : (program : Parts) (t u : List Row) (g last : Tag) (row : Row) → AreBefore t g → row.tag ≡ g → AreFree program t u g last → ((o : ℕ) (v : Value) → row.step ≡ Write (Port o) v → MeetsPastLast program (t ++ u) row.tag last o ⊎ IsWrittenAt (t ++ u) o row.tag) → AreFree program t (u ++ row ∷ []) g last
 free_more program t u g last row before here free own o w = go (written_cases u row o g w)
   where
-    by : IsFree program (t ++ u) row.tag last o ⊎ IsWrittenAt (t ++ u) o row.tag → IsFree program t g last o
-    by (inl f) = subst (λ (k : Tag). IsFree program t k last o) here (free_fewer program t u row.tag last o f)
+    by : MeetsPastLast program (t ++ u) row.tag last o ⊎ IsWrittenAt (t ++ u) o row.tag → MeetsPastLast program t g last o
+    by (inl f) = subst (λ (k : Tag). MeetsPastLast program t k last o) here (free_fewer program t u row.tag last o f)
     by (inr x) = free o (in_second t u g o before (subst (λ (k : Tag). IsWrittenAt (t ++ u) o k) here x))
 
-    go : IsWrittenAt u o g ⊎ ((v : Value) × (row.step ≡ Write (Port o) v) × (row.tag ≡ g)) → IsFree program t g last o
+    go : IsWrittenAt u o g ⊎ ((v : Value) × (row.step ≡ Write (Port o) v) × (row.tag ≡ g)) → MeetsPastLast program t g last o
     go (inl x) = free o x
     go (inr x) = by (own o x.0 x.1)
 
@@ -218,5 +219,5 @@ pub free_none : (program : Parts) (t : List Row) (g last : Tag) → AreFree prog
 free_none program t g last o w = let l : w.place < 0 = slice_get_within [] w.place w.row w.is_row in absurd (omega arith)
 
 -- a row writes one port
-pub same_write : (t : List Row) (row : Row) (program : Parts) (last : Tag) (q : ℕ) (w : Value) (o : ℕ) (v : Value) → row.step ≡ Write (Port q) w → row.step ≡ Write (Port o) v → IsFree program t row.tag last q ⊎ IsWrittenAt t q row.tag → IsFree program t row.tag last o ⊎ IsWrittenAt t o row.tag
-same_write t row program last q w o v e f x = let both : Write (Port q) w ≡ Write (Port o) v = sym e ∙ f in let same : q ≡ o = cc in subst (λ (k : ℕ). IsFree program t row.tag last k ⊎ IsWrittenAt t k row.tag) same x
+pub same_write : (t : List Row) (row : Row) (program : Parts) (last : Tag) (q : ℕ) (w : Value) (o : ℕ) (v : Value) → row.step ≡ Write (Port q) w → row.step ≡ Write (Port o) v → MeetsPastLast program t row.tag last q ⊎ IsWrittenAt t q row.tag → MeetsPastLast program t row.tag last o ⊎ IsWrittenAt t o row.tag
+same_write t row program last q w o v e f x = let both : Write (Port q) w ≡ Write (Port o) v = sym e ∙ f in let same : q ≡ o = cc in subst (λ (k : ℕ). MeetsPastLast program t row.tag last k ⊎ IsWrittenAt t k row.tag) same x

@@ -6,16 +6,16 @@ use Rattle.lft_tag.proofs.Order.{Before-irrefl, Before-weaken, Before-UpTo, UpTo
 use Rattle.lft_lists.proofs.{Members.{last-append_nil, last-append_some}, Places.{get_write_cases, length_written}}
 use Rattle.lft_ir.specs.{Parts.Parts, declared.{parts.{Value.Value, Name.TheVariants.Port}, steps.row.{Row.Row, Step.{Step, TheVariants.Write}}}}
 use Rattle.lft_model.{specs.Presence.{value_written, written}, proofs.Ended.by_written}
-use Rattle.lft_queue.specs.{declared.coming.writes.Written.Written, inner.Coming.Writes.{value_at, AreWrites, AreEarlier}}
+use Rattle.lft_queue.specs.{declared.coming.writes.Written.Written, inner.Coming.Writes.{value_at_tag, AreWrites, AreEarlierWrites}}
 
 -- what is of earlier tags than one is so of a later one, and says nothing of its rows
-pub earlier_on : (program : Parts) (g h : Tag) (writes : List (Option Written)) → UpTo g h → AreEarlier program g writes → AreEarlier program h writes
+pub earlier_on : (program : Parts) (g h : Tag) (writes : List (Option Written)) → UpTo g h → AreEarlierWrites program g writes → AreEarlierWrites program h writes
 earlier_on program g h writes up are = record { as_long = are.as_long; each = λ p w e. Before-UpTo w.tag g h (are.each p w e) up }
 
-pub none_yet : (program : Parts) (g : Tag) (writes : List (Option Written)) → AreEarlier program g writes → AreWrites program [] g writes
+pub none_yet : (program : Parts) (g : Tag) (writes : List (Option Written)) → AreEarlierWrites program g writes → AreWrites program [] g writes
 none_yet program g writes are = record { as_long = are.as_long; up_to = λ p w e. Before-weaken w.tag g (are.each p w e); each = each }
   where
-    each : (p : ℕ) (w : Option Written) → slice_get writes p ≡ Some w → value_at g w ≡ None
+    each : (p : ℕ) (w : Option Written) → slice_get writes p ≡ Some w → value_at_tag g w ≡ None
     each p None e = refl
     each p (Some w) e = go (same_tag g w.tag) refl
       where
@@ -64,14 +64,14 @@ module _ (program : Parts) (t : List Row) (row : Row) (writes : List (Option Wri
       go (inl (s, h)) = let e : newest ≡ w = cc in subst (λ (x : Written). UpTo x.tag row.tag) e (UpTo-refl row.tag)
       go (inr (n, h)) = are.up_to p w h
 
-  each : (p : ℕ) (w : Option Written) → slice_get (slice_set writes q (Some newest)) p ≡ Some w → value_at row.tag w ≡ last_or None (filter_map (written row.tag p) (t ++ row ∷ []))
+  each : (p : ℕ) (w : Option Written) → slice_get (slice_set writes q (Some newest)) p ≡ Some w → value_at_tag row.tag w ≡ last_or None (filter_map (written row.tag p) (t ++ row ∷ []))
   each p w f = go (get_write_cases writes q p (Some newest) w within f)
     where
-      here : value_at row.tag (Some newest) ≡ Some v
+      here : value_at_tag row.tag (Some newest) ≡ Some v
       here = ap (λ b. cond b (Some v) None) (same_tag_refl row.tag row.tag refl)
 
-      go : ((p ≡ q) × (Some newest ≡ w)) ⊎ ((p ≢ q) × (slice_get writes p ≡ Some w)) → value_at row.tag w ≡ last_or None (filter_map (written row.tag p) (t ++ row ∷ []))
-      go (inl (s, h)) = ap (value_at row.tag) (sym h) ∙ here ∙ sym (subst (λ (k : ℕ). last_or None (filter_map (written row.tag k) (t ++ row ∷ [])) ≡ Some v) (sym s) (last_given (written row.tag q) t row v (by_written row.tag q row v refl own)))
+      go : ((p ≡ q) × (Some newest ≡ w)) ⊎ ((p ≢ q) × (slice_get writes p ≡ Some w)) → value_at_tag row.tag w ≡ last_or None (filter_map (written row.tag p) (t ++ row ∷ []))
+      go (inl (s, h)) = ap (value_at_tag row.tag) (sym h) ∙ here ∙ sym (subst (λ (k : ℕ). last_or None (filter_map (written row.tag k) (t ++ row ∷ [])) ≡ Some v) (sym s) (last_given (written row.tag q) t row v (by_written row.tag q row v refl own)))
       go (inr (n, h)) = are.each p w h ∙ sym (last_ungiven (written row.tag p) t row (unwritten row.tag p row (ap (λ (s : Step). value_written p s) step ∙ other_port p q v n)))
 
   pub writes_set : AreWrites program (t ++ row ∷ []) row.tag (slice_set writes q (Some (record { tag = row.tag; value = v })))

@@ -16,8 +16,8 @@ key_of g (Port p) = (g.time, g.micro, false, p)
 key_of g (Action a) = (g.time, g.micro, true, a)
 
 -- the tag of a key
-abbrev pub tag_of : Key → Tag
-tag_of k = record { time = k.0; micro = k.1 }
+abbrev pub key_tag : Key → Tag
+key_tag k = record { time = k.0; micro = k.1 }
 
 -- the name of a key: of an action, or of a port
 abbrev pub name_of : Bool → ℕ → Name
@@ -26,7 +26,7 @@ name_of false p = Port p
 
 -- the event of an entry
 abbrev pub pending_at : Key × Value → Pending
-pending_at entry = record { tag = tag_of entry.0; name = name_of entry.0.2 entry.0.3; value = entry.1 }
+pending_at entry = record { tag = key_tag entry.0; name = name_of entry.0.2 entry.0.3; value = entry.1 }
 
 -- the order of keys
 abbrev pub key_cmp : Key → Key → Ordering
@@ -35,4 +35,4 @@ key_cmp x y = ordering_then (ordering_then (ordering_then (nat_cmp x.0 y.0) (nat
 -- entries in the order of their keys, none before the tag
 pub record AreFrom (g : Tag) (es : List (Key × Value)) : Type 0 where
   pub ordered : IsStrictlySortedBy key_cmp (keys_of es)
-  pub from : AllByRecursion (λ k. UpTo g (tag_of k)) (keys_of es)
+  pub from : AllByRecursion (λ k. UpTo g (key_tag k)) (keys_of es)

@@ -4,9 +4,9 @@ ghost use Rattle.std.specs.Prelude.{◌≡◌, ◌≢◌, ◌+◌, ◌<◌, ◌+
 ghost use Rattle.lft_tag.specs.{declared.Tag.Tag as TheTag, Tags.{IsRecorded, Before, UpTo, after}};
 ghost use Rattle.lft_ir.specs.declared.{parts.Name.Name as TheName, steps.{externals.Event.Event as TheEvent, row.Row.Row as TheRow}};
 ghost use Rattle.lft_ir.specs.Steps.Fits.{RowFits, RowsFit};
-ghost use Rattle.lft_queue.specs.inner.Coming.Channels.{is_behind as lies_behind, arrival, AreChannelsTo, AreReadChannels, AreCarried, carried_by};
+ghost use Rattle.lft_queue.specs.inner.Coming.Channels.{is_behind as lies_behind, value_at_arrival, AreChannelsTo, AreReadChannels, AreCarried, carried_by};
 ghost use Rattle.lft_queue.specs.inner.Coming.{AtOnce.{IsAwaited, is_undelayed as is_reached}, Coming.{to_come, IsClear, IsNoLater}, Lanes.held};
-ghost use Rattle.lft_queue.specs.inner.Coming.Writes.{AreWrites, AreEarlier, AreFewer};
+ghost use Rattle.lft_queue.specs.inner.Coming.Writes.{AreWrites, AreEarlierWrites, AreFewer};
 ghost use Rattle.lft_queue.specs.inner.Reading.{is_read};
 ghost use Rattle.lft_queue.specs.{Coming.AtTag.AreAt, declared.coming.coming.Coming.Coming as TheComing};
 
@@ -113,7 +113,7 @@ fn carry(
     requires { IsRecorded tag }
     ensures next { coming.new.next ≡ coming.old.next }
     ensures no_later { IsNoLater coming.old.clash coming.new.clash }
-    ensures put { IsTrue result → (events : List TheEvent) (h : TheTag) (n : TheName) → UpTo h last → IsClear coming.new.clash h → to_come events coming.new h n ≡ to_come events coming.old h n ++ filter_map (arrival program.now origin tag value h n) targets.now }
+    ensures put { IsTrue result → (events : List TheEvent) (h : TheTag) (n : TheName) → UpTo h last → IsClear coming.new.clash h → to_come events coming.new h n ≡ to_come events coming.old h n ++ filter_map (value_at_arrival program.now origin tag value h n) targets.now }
 {
     for place in 0..targets.len() {
         let target = item_at(targets, place);
@@ -181,7 +181,7 @@ pub(crate) fn carry_all(
     requires writes { AreWrites program.now rows.now tag writes.old }
     ensures next { coming.new.next ≡ coming.old.next }
     ensures no_later { IsNoLater coming.old.clash coming.new.clash }
-    ensures earlier { IsTrue result → AreEarlier program.now (after tag 0) writes.new }
+    ensures earlier { IsTrue result → AreEarlierWrites program.now (after tag 0) writes.new }
     ensures carried { IsTrue result → (events : List TheEvent) (h : TheTag) (n : TheName) → IsAwaited program.now n → Before tag h → UpTo h last → IsClear coming.new.clash h → to_come events coming.new h n ≡ to_come events coming.old h n ++ held (carried_by program.now rows.now tag n) h }
 {
     for place in 0..rows.len() {

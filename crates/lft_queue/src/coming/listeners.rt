@@ -3,7 +3,7 @@
 ghost use Rattle.std.specs.Prelude.{◌≡◌, ℕ, List, ◌<◌, length, Some, None, IfSome, IfNone, IfOk, OnOk, IsTrue, Contains, slice_get};
 ghost use Rattle.lft_ir.specs.{Sound.IsNameOf, declared.parts.Name.Name as TheName};
 ghost use Rattle.lft_queue.specs.inner.Coming.AtOnce.{is_undelayed};
-ghost use Rattle.lft_queue.specs.inner.Coming.Listeners.{list_of, heard_at as is_heard_at, IsIn, BothGrow, IsListed, IsUnheard, AreListeners};
+ghost use Rattle.lft_queue.specs.inner.Coming.Listeners.{list_of, heard_at as is_heard_at, HasListOf, BothGrow, IsListed, IsUnheard, AreNameListeners};
 
 use crate::coming::at_once::is_undelayed;
 use crate::coming::number_lists::NumberLists;
@@ -83,7 +83,7 @@ impl NameListeners {
 
     /// Adds a listener to the list of the name.
     fn push(&mut self, name: Name, reaction: u32) -> Result<(), NoMemory>
-        requires { IsIn self.old name }
+        requires { HasListOf self.old name }
         ensures grown { OnOk result (BothGrow self.old self.new) }
         ensures listed { OnOk result ((list : List ℕ) → list_of self.new name ≡ Some list → Contains list reaction) }
     {
@@ -109,7 +109,7 @@ impl NameListeners {
 
     /// The listeners of each name.
     pub fn new(alloc: Global, plan: &Plan) -> Result<NameListeners, NoMemory>
-        ensures { IfOk result (AreListeners plan.now) }
+        ensures { IfOk result (AreNameListeners plan.now) }
     {
         let program = plan.program();
         let mut listeners = NameListeners::empty(alloc, program)?;

@@ -4,7 +4,7 @@ ghost use Rattle.std.specs.Prelude.{◌≡◌, ◌++◌, [], ◌∷◌, List, Is
 ghost use Rattle.lft_tag.specs.{declared.Tag.Tag as TheTag, Tags.{Before, UpTo, after}};
 ghost use Rattle.lft_ir.specs.{declared.{parts.Name.Name as TheName, steps.externals.Event.Event as TheEvent}, Steps.Fits.{RowFits, RowsFit}};
 ghost use Rattle.lft_queue.specs.inner.Coming.{Channels.{AreReadChannels, caused_by}, AtOnce.IsAwaited, Coming.{to_come, scheduled_by, IsClear, IsNoLater}};
-ghost use Rattle.lft_queue.specs.inner.Coming.{Lanes.held, Writes.{AreWrites, AreEarlier}};
+ghost use Rattle.lft_queue.specs.inner.Coming.{Lanes.held, Writes.{AreWrites, AreEarlierWrites}};
 ghost use Rattle.lft_queue.specs.Coming.AtTag.{AreAt};
 
 use crate::coming::channels::{Channels, carry_all};
@@ -71,7 +71,7 @@ pub fn pass_on(
     requires writes { AreWrites plan.now.program rows.now tag writes.old }
     ensures next { coming.new.next ≡ coming.old.next }
     ensures no_later { IsNoLater coming.old.clash coming.new.clash }
-    ensures earlier { IsTrue result → AreEarlier plan.now.program (after tag 0) writes.new }
+    ensures earlier { IsTrue result → AreEarlierWrites plan.now.program (after tag 0) writes.new }
     ensures caused { IsTrue result → (events : List TheEvent) (h : TheTag) (n : TheName) → IsAwaited plan.now.program n → Before tag h → UpTo h last → IsClear coming.new.clash h → to_come events coming.new h n ≡ to_come events coming.old h n ++ held (caused_by plan.now rows.now tag n) h }
 {
     schedule_all(coming, plan, rows, last)

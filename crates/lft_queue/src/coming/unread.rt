@@ -6,7 +6,7 @@ ghost use Rattle.lft_ir.specs.declared.parts.{Name.TheVariants.Port as PortName,
 ghost use Rattle.lft_ir.specs.declared.steps.row.{Row.Row as TheRow, Step.TheVariants.Write};
 ghost use Rattle.lft_ir.specs.Steps.Fits.{RowFits, RowsFit};
 ghost use Rattle.lft_queue.specs.Coming.AtTag.{AreBefore, AreAt};
-ghost use Rattle.lft_queue.specs.inner.Coming.{Coming.IsClear, Unread.{GoesAsFar, AreSoonest, IsWrittenAt, AreUnread, IsFree, AreFree}};
+ghost use Rattle.lft_queue.specs.inner.Coming.{Coming.IsClear, Unread.{GoesAsFar, AreSoonest, IsWrittenAt, AreUnread, MeetsPastLast, AreFree}};
 
 use crate::coming::coming::earlier_of;
 use crate::coming::writes::written_port;
@@ -151,7 +151,7 @@ impl UnreadPorts {
         ensures soonest { self.new.soonest ≡ self.old.soonest }
         ensures written { length self.new.written ≡ length self.old.written }
         ensures unread { (t : List TheRow) → ((i : ℕ) (x : TheRow) → slice_get t i ≡ Some x → UpTo x.tag row.tag) → AreUnread program.now t self.old → AreUnread program.now (t ++ row ∷ []) self.new }
-        ensures free { (t : List TheRow) (o : ℕ) (v : TheValue) (h : TheTag) → IsClear result h → ((i : ℕ) (x : TheRow) → slice_get t i ≡ Some x → UpTo x.tag row.tag) → AreUnread program.now t self.old → row.step ≡ Write (PortName o) v → IsFree program.now t row.tag h o ⊎ IsWrittenAt t o row.tag }
+        ensures free { (t : List TheRow) (o : ℕ) (v : TheValue) (h : TheTag) → IsClear result h → ((i : ℕ) (x : TheRow) → slice_get t i ≡ Some x → UpTo x.tag row.tag) → AreUnread program.now t self.old → row.step ≡ Write (PortName o) v → MeetsPastLast program.now t row.tag h o ⊎ IsWrittenAt t o row.tag }
     {
         let Some((port, _)) = written_port(&row.step) else {
             return None;

@@ -4,7 +4,7 @@ ghost use Rattle.std.specs.Prelude.{◌≡◌, ℕ, List, Option, [], ◌∷◌,
 ghost use Rattle.lft_tag.specs.declared.Tag.{Tag as TheTag};
 ghost use Rattle.lft_ir.specs.{declared.{parts.Name.TheVariants.Port, steps.row.{Step.TheVariants.Write, Row.Row as TheRow}}, Steps.Fits.{RowFits, RowsFit}};
 ghost use Rattle.lft_model.specs.Presence.{value_written};
-ghost use Rattle.lft_queue.specs.{Coming.AtTag.AreAt, inner.Coming.Writes.{value_at, AreWrites, AreEarlier}};
+ghost use Rattle.lft_queue.specs.{Coming.AtTag.AreAt, inner.Coming.Writes.{value_at_tag, AreWrites, AreEarlierWrites}};
 ghost use Rattle.lft_queue.specs.declared.coming.writes.Written.{Written as TheWritten};
 
 use lft_ir::steps::{Row, Step, row_at};
@@ -54,7 +54,7 @@ pub fn written_port(step: &Step) -> Option<(u32, Value)>
 impl Writes {
     /// No port is written.
     pub fn new(alloc: Global, program: &Program) -> Result<Writes, NoMemory>
-        ensures { IfOk result (λ writes. (g : TheTag) → AreEarlier program.now g writes) }
+        ensures { IfOk result (λ writes. (g : TheTag) → AreEarlierWrites program.now g writes) }
     {
         let last = vec![in alloc; None; program.ports()]?;
         Ok(Writes { last })
@@ -77,7 +77,7 @@ impl Writes {
     pub fn pass_all(&mut self, program: &Program, more: &[Row], tag: Tag)
         requires fit { RowsFit program.now more.now }
         requires at { AreAt more.now tag }
-        requires writes { AreEarlier program.now tag self.old }
+        requires writes { AreEarlierWrites program.now tag self.old }
         ensures { AreWrites program.now more.now tag self.new }
     {
         for place in 0..more.len() {
@@ -88,7 +88,7 @@ impl Writes {
     /// The value that is written last to the port, if that is at the tag.
     pub fn value_at(&self, tag: Tag, port: u32) -> Option<Value>
         requires { port < length self.now }
-        ensures { (w : Option TheWritten) → slice_get self.now port ≡ Some w → result ≡ value_at tag w }
+        ensures { (w : Option TheWritten) → slice_get self.now port ≡ Some w → result ≡ value_at_tag tag w }
     {
         match item_at(self.last.as_slice(), port as usize) {
             Some(write) => {
@@ -107,7 +107,7 @@ impl Writes {
     /// The same, and the write is kept no more.
     pub(crate) fn take(&mut self, tag: Tag, port: u32) -> Option<Value>
         requires { port < length self.old }
-        ensures value { (w : Option TheWritten) → slice_get self.old port ≡ Some w → result ≡ value_at tag w }
+        ensures value { (w : Option TheWritten) → slice_get self.old port ≡ Some w → result ≡ value_at_tag tag w }
         ensures taken { self.new ≡ slice_set self.old port None }
     {
         let value = self.value_at(tag, port);

@@ -19,8 +19,8 @@ abbrev pub AllBefore : List Row → Tag → Type 0
 AllBefore t g = (i : ℕ) (row : Row) → slice_get t i ≡ Some row → Before row.tag g
 
 -- no row reads
-abbrev pub NoneReads : List Row → Type 0
-NoneReads t = (i : ℕ) (row : Row) (n : Name) (v : Value) → slice_get t i ≡ Some row → row.step ≢ Read n v
+abbrev pub NoRowReads : List Row → Type 0
+NoRowReads t = (i : ℕ) (row : Row) (n : Name) (v : Value) → slice_get t i ≡ Some row → row.step ≢ Read n v
 
 -- no row writes
 abbrev pub NoneWrites : List Row → Type 0
@@ -93,8 +93,8 @@ abbrev pub HasRace : PlanParts → List Row → Breach → Type 0
 HasRace plan t b = (i : ℕ) × IsRaceBefore plan t b (Some i)
 
 -- the breach is of the first row of a worker
-abbrev pub IsOfFirst : List Row → Breach → Type 0
-IsOfFirst t b = (i : ℕ) × (b.row ≡ i + 2) × IsFirstOfWorker t i
+abbrev pub IsOfFirstRow : List Row → Breach → Type 0
+IsOfFirstRow t b = (i : ℕ) × (b.row ≡ i + 2) × IsFirstOfWorker t i
 
 -- the breach is of a row that starts a run
 abbrev pub IsOfStart : List Row → Breach → Type 0
@@ -128,13 +128,13 @@ IsPassed t g = (i : ℕ) × (row : Row) × (slice_get t i ≡ Some row) × Befor
 abbrev pub IsHint : PlanParts → List Row → Breach → Hint → Type 0
 IsHint plan t b hint.Scheduler = IsOfOrder t b × HasRace plan t b
 IsHint plan t b hint.NextTag = (b.rule ≡ 1) × (¬ IsOfStart t b) × IsOfOpen t b
-IsHint plan t b hint.FirstOfWorker = (b.rule ≡ 1) × IsLateByRecorder plan t b × IsOfFirst t b
-IsHint plan t b hint.LateRow = (b.rule ≡ 1) × IsLateByRecorder plan t b × (¬ IsOfFirst t b)
+IsHint plan t b hint.FirstOfWorker = (b.rule ≡ 1) × IsLateByRecorder plan t b × IsOfFirstRow t b
+IsHint plan t b hint.LateRow = (b.rule ≡ 1) × IsLateByRecorder plan t b × (¬ IsOfFirstRow t b)
 IsHint plan t b hint.FirstRow = (b.rule ≡ 3) × (¬ HasRace plan t b) × (b.row ≡ 2)
 IsHint plan t b hint.StartedTwice = (b.rule ≡ 3) × (¬ HasRace plan t b) × (b.row ≢ 2) × IsOfSecond t b
 IsHint plan t b hint.OneNumber = (b.rule ≡ 3) × (¬ HasRace plan t b) × (b.row ≢ 2) × (¬ IsOfSecond t b)
 IsHint plan t b hint.TraceEnds = (b.rule ≡ 7) × (0 < length t) × AllBefore t b.tag × (stop plan t ≡ plan.externals.stop)
-IsHint plan t b hint.NoReads = (b.rule ≡ 10) × NoneReads t
+IsHint plan t b hint.NoReads = (b.rule ≡ 10) × NoRowReads t
 IsHint plan t b hint.NoRows = (b.rule ≡ 7) × (length t ≡ 0)
 IsHint plan t b hint.NoEnds = (b.rule ≡ 5) × NoneEnds t
 IsHint plan t b hint.LateEnd = (b.rule ≡ 5) × (¬ NoneEnds t) × IsPassed t b.tag

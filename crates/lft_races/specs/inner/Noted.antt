@@ -36,8 +36,8 @@ abbrev pub HasUnfinished : List Row → Tag → ℕ → List ℕ → Type 0
 HasUnfinished t g i set = (a : ℕ) → Has set a ↔ IsUnfinished t g a i
 
 -- the set has just the reactions that start at the tag of the slice in a row before the place, and end there in no row of it
-abbrev pub HasOpen : List Row → Slice → ℕ → List ℕ → Type 0
-HasOpen t s place set = (a : ℕ) → Has set a ↔ (((k : ℕ) × (k < place) × StartsAt t s.tag a k) × NotEnded t s.tag a s.end)
+abbrev pub HasOpenReactions : List Row → Slice → ℕ → List ℕ → Type 0
+HasOpenReactions t s place set = (a : ℕ) → Has set a ↔ (((k : ℕ) × (k < place) × StartsAt t s.tag a k) × NotEnded t s.tag a s.end)
 
 -- the first race at the places from low on below high, if there is one
 abbrev pub IsFirstIn : Parts → List Row → ℕ → ℕ → Option ℕ → Type 0

@@ -1,7 +1,7 @@
 //! Conditions on rows.
 
 ghost use Rattle.std.specs.Prelude.{◌↔◌, ◌<◌, length, IsTrue};
-ghost use Rattle.lft_races.specs.Hints.Hints.{AllBefore, IsFirstOfWorker, IsPassed, IsSecond, NoneEnds, NoneReads, NoneWrites};
+ghost use Rattle.lft_races.specs.Hints.Hints.{AllBefore, IsFirstOfWorker, IsPassed, IsSecond, NoneEnds, NoRowReads, NoneWrites};
 
 use crate::is_start_at;
 use lft_ir::steps::{Row, Step, is_start, row_at};
@@ -35,7 +35,7 @@ pub(crate) fn all_before(rows: &[Row], tag: Tag) -> bool
 
 /// Whether no row reads.
 pub(crate) fn none_reads(rows: &[Row]) -> bool
-    ensures { IsTrue result ↔ NoneReads rows.now }
+    ensures { IsTrue result ↔ NoRowReads rows.now }
 {
     for place in 0..rows.len() {
         if matches!(row_at(rows, place).step, Step::Read(_, _)) {

@@ -3,7 +3,7 @@
 ghost use Rattle.std.specs.Prelude.{◌≡◌, ◌≢◌, ◌↔◌, ◌<◌, ℕ, List, length, IfOk, IfErr, IfSome, IfNone, IsTrue, true, false};
 ghost use Rattle.csv.specs.Records.{fields_of};
 ghost use Rattle.lft_trace.specs.Records.{records_of};
-ghost use Rattle.lft_record.specs.{CardTables.{CardTable, CardsFail, FaultAt, IsCard, IsContent, header}, CardFaults.is_told};
+ghost use Rattle.lft_record.specs.{CardTables.{CardTable, CardsFail, FaultAt, IsCard, IsContent, cards_header}, CardFaults.is_told};
 ghost use Rattle.lft_record.specs.{inner.Seen.{FieldFault, IsCardOf, card_fields}, declared.cards.{card.Card.Card as TheCard, Script.Script}};
 
 use crate::cards::Cards;
@@ -86,7 +86,7 @@ fn read_records(alloc: Global, program: &Program, text: &[u8]) -> Result<Cards, 
 
 // Whether the record is the header.
 fn is_header(fields: &ByteRecord) -> bool
-    ensures { IsTrue result ↔ (fields_of fields.now ≡ header) }
+    ensures { IsTrue result ↔ (fields_of fields.now ≡ cards_header) }
 {
     match CardFields::of(fields) {
         Some(fields) => fields.is_header(),

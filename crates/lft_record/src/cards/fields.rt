@@ -2,7 +2,7 @@
 
 ghost use Rattle.std.specs.Prelude.{◌≡◌, ◌≢◌, ◌↔◌, IfSome, IfNone, IsTrue, length};
 ghost use Rattle.csv.specs.Records.{fields_of};
-ghost use Rattle.lft_record.specs.{CardTables.{header, in_order, is_filled}, inner.Seen.card_fields};
+ghost use Rattle.lft_record.specs.{CardTables.{cards_header, card_columns, is_wrongly_filled}, inner.Seen.card_fields};
 
 use crate::cards::kind::CardKind;
 use csv::ByteRecord;
@@ -21,7 +21,7 @@ pub(crate) struct CardFields<'a> {
 impl<'a> CardFields<'a> {
     /// The fields of a record, if there are five.
     pub(crate) fn of(fields: &'a ByteRecord) -> Option<CardFields<'a>>
-        ensures some { IfSome result (λ c. fields_of fields.now ≡ in_order (card_fields c)) }
+        ensures some { IfSome result (λ c. fields_of fields.now ≡ card_columns (card_fields c)) }
         ensures none { IfNone result (length (fields_of fields.now) ≢ 5) }
     {
         if fields.len() != 5 {
@@ -38,7 +38,7 @@ impl<'a> CardFields<'a> {
 
     /// Whether the record is the header.
     pub(crate) fn is_header(&self) -> bool
-        ensures { IsTrue result ↔ (in_order (card_fields self.now) ≡ header) }
+        ensures { IsTrue result ↔ (card_columns (card_fields self.now) ≡ cards_header) }
     {
         self.kind == b"kind".as_slice()
             && self.reaction == b"reaction".as_slice()
@@ -49,7 +49,7 @@ impl<'a> CardFields<'a> {
 
     /// Whether a field that must be empty isn't.
     pub(crate) fn is_filled(&self, kind: CardKind) -> bool
-        ensures { result ≡ is_filled kind (card_fields self.now) }
+        ensures { result ≡ is_wrongly_filled kind (card_fields self.now) }
     {
         (!kind.has_name() && !self.name.is_empty())
             || (!kind.has_delay() && !self.delay.is_empty())

@@ -1,7 +1,7 @@
 //! The kinds of cards.
 
 ghost use Rattle.std.specs.Prelude.{◌≡◌, ◌≢◌, IfSome, IfNone};
-ghost use Rattle.lft_record.specs.CardTables.{has_delay, has_name, has_value, word};
+ghost use Rattle.lft_record.specs.CardTables.{kind_has_delay, kind_has_name, has_value, word};
 
 /// The kind of a record of a table of cards.
 #[derive(Clone, Copy, PartialEq, Eq, Drop)]
@@ -36,14 +36,14 @@ pub(crate) fn read_card_kind(field: &[u8]) -> Option<CardKind>
 impl CardKind {
     /// Whether its records name a port or an action.
     pub(crate) fn has_name(self) -> bool
-        ensures { result ≡ has_name self }
+        ensures { result ≡ kind_has_name self }
     {
         matches!(self, CardKind::Write | CardKind::Schedule)
     }
 
     /// Whether its records have a delay.
     pub(crate) fn has_delay(self) -> bool
-        ensures { result ≡ has_delay self }
+        ensures { result ≡ kind_has_delay self }
     {
         self == CardKind::Schedule
     }

@@ -57,16 +57,16 @@ reason_names (reason.OpenAcross i j k) = (record { row = j; mark = mark.OpenStar
 reason_names (reason.LaterTag i k) = marked k mark.Greater
 
 -- the rows that a fact names
-abbrev pub names : Fact → List Quote
-names (fact.RowIs g r i) = marked i mark.Here
-names (fact.Row f) = row_fact_names f
-names (fact.Cause c) = cause_names c
-names (fact.Clash g c d) = cause_names c ++ cause_names d
-names (fact.Runs g r start) = marked start mark.Here
-names (fact.StartsEarly g a r start end) = (record { row = start; mark = mark.Here }) ∷ marked end mark.LateEnd
-names (fact.Race g a r start end) = (record { row = start; mark = mark.EarlyStart }) ∷ marked end mark.LateEnd
-names (fact.Reason x) = reason_names x
-names _ = []
+abbrev pub named_rows : Fact → List Quote
+named_rows (fact.RowIs g r i) = marked i mark.Here
+named_rows (fact.Row f) = row_fact_names f
+named_rows (fact.Cause c) = cause_names c
+named_rows (fact.Clash g c d) = cause_names c ++ cause_names d
+named_rows (fact.Runs g r start) = marked start mark.Here
+named_rows (fact.StartsEarly g a r start end) = (record { row = start; mark = mark.Here }) ∷ marked end mark.LateEnd
+named_rows (fact.Race g a r start end) = (record { row = start; mark = mark.EarlyStart }) ∷ marked end mark.LateEnd
+named_rows (fact.Reason x) = reason_names x
+named_rows _ = []
 
 -- what stands behind a row
 abbrev pub mark_words : RowMark → List ℕ

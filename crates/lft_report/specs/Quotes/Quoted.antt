@@ -16,14 +16,14 @@ abbrev pub line_number : ℕ → List ℕ
 line_number place = decimal (place + 2)
 
 -- the width of a row to which others are filled: a row of more than 200 bytes counts for nothing
-abbrev pub width_of : List ℕ → ℕ
-width_of text = if nat_le (length text) 200 then length text else 0
+abbrev pub quote_width : List ℕ → ℕ
+quote_width text = if nat_le (length text) 200 then length text else 0
 
 -- the widths with one more row
 abbrev pub widened : Parts → List Row → QuoteWidths → Quote → QuoteWidths
 widened program t w q = record {
   line = max w.line (length (line_number q.row));
-  row = max w.row (width_of (row_text program t q.row));
+  row = max w.row (quote_width (row_text program t q.row));
 }
 
 -- the greatest width of the line numbers, and of the rows
@@ -31,12 +31,12 @@ abbrev pub widths_of : Parts → List Row → List Quote → QuoteWidths
 widths_of program t quotes = fold (widened program t) (record { line = 0; row = 0 }) quotes
 
 -- a line: `  4 | start,0,0,0,main#1,,,  <- here`
-abbrev pub line_of : QuoteWidths → List ℕ → List ℕ → RowMark → List ℕ
-line_of w number row m = codes "  " ++ fill w.line number ++ number ++ codes " | " ++ padded w.row row ++ codes "  " ++ mark_words m ++ codes "\n"
+abbrev pub quote_line : QuoteWidths → List ℕ → List ℕ → RowMark → List ℕ
+quote_line w number row m = codes "  " ++ fill w.line number ++ number ++ codes " | " ++ padded w.row row ++ codes "  " ++ mark_words m ++ codes "\n"
 
 -- a row with its line number before it and its mark behind it
 abbrev pub quote_words : Parts → List Row → QuoteWidths → Quote → List ℕ
-quote_words program t w q = line_of w (line_number q.row) (row_text program t q.row) q.mark
+quote_words program t w q = quote_line w (line_number q.row) (row_text program t q.row) q.mark
 
 -- whether rows are left out between a quote and the one before it
 abbrev pub is_apart : Option Quote → Quote → Bool
@@ -53,5 +53,5 @@ lines program t w before [] = []
 lines program t w before (q ∷ qs) = gap_words w before q ++ quote_words program t w q ++ lines program t w (Some q) qs
 
 -- the rows that facts name, a line each
-abbrev pub quoted : Parts → List Row → List Fact → List ℕ
-quoted program t facts = lines program t (widths_of program t (quotes_of facts)) None (quotes_of facts)
+abbrev pub quoted_rows : Parts → List Row → List Fact → List ℕ
+quoted_rows program t facts = lines program t (widths_of program t (quotes_of facts)) None (quotes_of facts)

@@ -1,7 +1,7 @@
 //! Which rows a fact names, and what they are to it.
 
 ghost use Rattle.std.specs.Prelude.{◌≡◌, ◌++◌, ◌∷◌, [], OnOk};
-ghost use Rattle.lft_report.specs.Quotes.Marks.{cause_names, row_fact_names, reason_names, names, mark_words};
+ghost use Rattle.lft_report.specs.Quotes.Marks.{cause_names, row_fact_names, reason_names, named_rows, mark_words};
 
 use lft_facts::{Cause, Fact, Reason, RowFact};
 use std::alloc::AllocError;
@@ -144,7 +144,7 @@ fn push_reason(quotes: &mut Vec<Quote>, reason: Reason) -> Result<(), AllocError
 
 /// Puts the rows that the fact names behind the quotes.
 pub(crate) fn push_named(quotes: &mut Vec<Quote>, fact: Fact) -> Result<(), AllocError>
-    ensures { OnOk result (quotes.new.items ≡ quotes.old.items ++ names fact) }
+    ensures { OnOk result (quotes.new.items ≡ quotes.old.items ++ named_rows fact) }
 {
     match fact {
         Fact::RowIs { row, .. } => push(quotes, row, RowMark::Here),

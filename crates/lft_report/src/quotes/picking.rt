@@ -1,7 +1,7 @@
 //! The rows that facts name, in order.
 
 ghost use Rattle.std.specs.Prelude.{◌≡◌, ◌++◌, ◌<◌, ◌≤◌, length, take, drop, slice_get, Some, IfOk, OnOk, [], fold, flat_map};
-ghost use Rattle.lft_report.specs.{declared.quotes.marks.Quote.Quote as TheQuote, Quotes.{Marks.names, Picked.{inserted, quotes_of}}};
+ghost use Rattle.lft_report.specs.{declared.quotes.marks.Quote.Quote as TheQuote, Quotes.{Marks.named_rows, Picked.{inserted, quotes_of}}};
 
 use crate::quotes::marks::{Quote, push_named};
 use lft_facts::Fact;
@@ -40,7 +40,7 @@ fn insert(quotes: &mut Vec<Quote>, quote: Quote) -> Result<(), AllocError>
 
 /// The rows that the facts name, as often as they name them.
 fn named(alloc: Global, facts: &[Fact]) -> Result<Vec<Quote>, AllocError>
-    ensures { IfOk result (λ quotes. quotes.items ≡ flat_map names facts.now) }
+    ensures { IfOk result (λ quotes. quotes.items ≡ flat_map named_rows facts.now) }
 {
     let mut quotes = Vec::new(alloc);
     for place in 0..facts.len() {

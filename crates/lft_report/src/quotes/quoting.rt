@@ -2,7 +2,7 @@
 
 ghost use Rattle.std.specs.Prelude.{◌≡◌, ◌++◌, length, IfOk, OnOk, string_bytes};
 ghost use Rattle.lft_ir.specs.Steps.Fits.{RowsFit};
-ghost use Rattle.lft_report.specs.Quotes.Quoted.{line_number, width_of as the_width_of, widened, widths_of, line_of, quote_words, gap_words, lines, quoted};
+ghost use Rattle.lft_report.specs.Quotes.Quoted.{line_number, quote_width as the_width_of, widened, widths_of, quote_line, quote_words, gap_words, lines, quoted_rows};
 
 use crate::quotes::marks::{Quote, RowMark};
 use crate::quotes::picking::pick;
@@ -82,7 +82,7 @@ fn push_line(
     row: &str,
     mark: RowMark,
 ) -> Result<(), AllocError>
-    ensures { OnOk result (string_bytes text.new ≡ string_bytes text.old ++ line_of widths number.now row.now mark) }
+    ensures { OnOk result (string_bytes text.new ≡ string_bytes text.old ++ quote_line widths number.now row.now mark) }
 {
     text.push_str("  ")?;
     push_fill(text, widths.line, number)?;
@@ -163,7 +163,7 @@ pub fn quote(
     facts: &[Fact],
 ) -> Result<String, AllocError>
     requires { RowsFit program.now rows.now }
-    ensures { IfOk result (λ text. string_bytes text ≡ quoted program.now rows.now facts.now) }
+    ensures { IfOk result (λ text. string_bytes text ≡ quoted_rows program.now rows.now facts.now) }
 {
     let quotes = pick(alloc, facts)?;
     let widths = greatest(alloc, program, rows, quotes.as_slice())?;

@@ -2,7 +2,7 @@
 use Rattle.std.proofs.Common.{◌≡◌, ℕ, zero, suc, ◌+◌, ◌≤◌, ◌<◌, ◌⊎◌, inl, inr, List, [], ◌∷◌, ◌++◌, Option, Some, None, get_or, length, map, slice_get, length-append, refl, sym, ap, subst, ◌∙◌, arith}
 use Rattle.std.{specs.Option.option_and_then, proofs.lemmas.{Bool.cases_lt, List.length-map}}
 use Rattle.lft_lists.proofs.Members.{Mem, mem_cases, mem_from_map, mem_get}
-use Rattle.lft_resolve.specs.{inner.Expansion.Contents.contained, Expansion.Paths.{along, Before, Exists, IsMoreThan}}
+use Rattle.lft_resolve.specs.{inner.Expansion.Contents.contained, Expansion.Paths.{along, PathBefore, Exists, IsMoreThan}}
 use Rattle.lft_resolve.specs.declared.expansion.walk.Contents.{Contents}
 use Rattle.lft_resolve.proofs.ExpansionLemmas.{Orders.before_itself, Pairs.{Pairs, pairs_append, pairs_at}}
 
@@ -49,24 +49,24 @@ exist table (suc d) r p m = elim m [ inl e ↦ (r, ap (along (contained table) r
         (inner.0, ap (along (contained table) r) (sym e ∙ ap (λ i. i ∷ q) here) ∙ ap (option_and_then (λ y. along (contained table) y q)) step ∙ inner.1)
 
 -- they are in order, so none stands there twice
-pairs_step : (k : ℕ) (ps : List (List ℕ)) → Pairs Before ps → Pairs Before (map (λ p. k ∷ p) ps)
+pairs_step : (k : ℕ) (ps : List (List ℕ)) → Pairs PathBefore ps → Pairs PathBefore (map (λ p. k ∷ p) ps)
 pairs_step k [] w = tt
-pairs_step k (p ∷ ps) w = ((λ y m. let g = mem_from_map (λ q. k ∷ q) ps y m in subst (λ z. Before (k ∷ p) z) g.2 (inr (refl, w.0 g.0 g.1))), pairs_step k ps w.1)
+pairs_step k (p ∷ ps) w = ((λ y m. let g = mem_from_map (λ q. k ∷ q) ps y m in subst (λ z. PathBefore (k ∷ p) z) g.2 (inr (refl, w.0 g.0 g.1))), pairs_step k ps w.1)
 
-pairs_branches : (f : ℕ → List (List ℕ)) → ((c : ℕ) → Pairs Before (f c)) → (k : ℕ) (cs : List ℕ) → Pairs Before (branches f k cs)
+pairs_branches : (f : ℕ → List (List ℕ)) → ((c : ℕ) → Pairs PathBefore (f c)) → (k : ℕ) (cs : List ℕ) → Pairs PathBefore (branches f k cs)
 pairs_branches f each k [] = tt
-pairs_branches f each k (c ∷ cs) = pairs_append Before (map (λ p. k ∷ p) (f c)) (branches f (suc k) cs) (pairs_step k (f c) (each c)) (pairs_branches f each (suc k) cs) across
+pairs_branches f each k (c ∷ cs) = pairs_append PathBefore (map (λ p. k ∷ p) (f c)) (branches f (suc k) cs) (pairs_step k (f c) (each c)) (pairs_branches f each (suc k) cs) across
   where
-    across : (x y : List ℕ) → Mem x (map (λ p. k ∷ p) (f c)) → Mem y (branches f (suc k) cs) → Before x y
+    across : (x y : List ℕ) → Mem x (map (λ p. k ∷ p) (f c)) → Mem y (branches f (suc k) cs) → PathBefore x y
     across x y a b =
         let g = mem_from_map (λ p. k ∷ p) (f c) x a in
         let h = mem_branches f (suc k) cs y b in
         let later : k < suc k + h.0 = omega arith in
-        subst (λ z. Before z y) g.2 (subst (λ z. Before (k ∷ g.0) z) h.5 (inl later))
+        subst (λ z. PathBefore z y) g.2 (subst (λ z. PathBefore (k ∷ g.0) z) h.5 (inl later))
 
-ordered : (table : List Contents) (d r : ℕ) → Pairs Before (paths table d r)
+ordered : (table : List Contents) (d r : ℕ) → Pairs PathBefore (paths table d r)
 ordered table zero r = ((λ y m. absurd m), tt)
-ordered table (suc d) r = ((λ y m. let h = mem_branches (paths table d) 0 (held table r) y m in subst (λ z. Before [] z) h.5 tt), pairs_branches (paths table d) (ordered table d) 0 (held table r))
+ordered table (suc d) r = ((λ y m. let h = mem_branches (paths table d) 0 (held table r) y m in subst (λ z. PathBefore [] z) h.5 tt), pairs_branches (paths table d) (ordered table d) 0 (held table r))
 
 pub more_paths : (table : List Contents) (d r n : ℕ) → n < length (paths table d r) → IsMoreThan (Exists (contained table) r) n
 more_paths table d r n more = record {
@@ -77,8 +77,8 @@ more_paths table d r n more = record {
 }
   where
     same : (i j : ℕ) (p : List ℕ) → slice_get (paths table d r) i ≡ Some p → slice_get (paths table d r) j ≡ Some p → (i < j) ⊎ (j ≤ i) → (j < i) ⊎ (i ≤ j) → i ≡ j
-    same i j p a b (inl l) k = absurd (before_itself p (pairs_at Before (paths table d r) (ordered table d r) i j p p a b l))
-    same i j p a b (inr l) (inl k) = absurd (before_itself p (pairs_at Before (paths table d r) (ordered table d r) j i p p b a k))
+    same i j p a b (inl l) k = absurd (before_itself p (pairs_at PathBefore (paths table d r) (ordered table d r) i j p p a b l))
+    same i j p a b (inr l) (inl k) = absurd (before_itself p (pairs_at PathBefore (paths table d r) (ordered table d r) j i p p b a k))
     same i j p a b (inr l) (inr k) = omega arith
 
 -- ---- their number

@@ -5,7 +5,7 @@ use Rattle.std.proofs.lemmas.{Bool.{cases_lt, Decides.eqb_tells}, Option.slice_g
 use Rattle.lft_lists.proofs.{Mapped.{mapped, enumerate_at}, Places.{get_there, get_written, get_unwritten, length_written, get_push_cases, same_some}}
 use Rattle.lft_resolve.specs.declared.expansion.{walk.{Contents.Contents, Instance.Instance}, settings.{Given.Given, Parameters.Parameters}}
 use Rattle.lft_resolve.specs.Expansion.Paths.{along}
-use Rattle.lft_resolve.specs.inner.Expansion.Contents.{contained, IsAt}
+use Rattle.lft_resolve.specs.inner.Expansion.Contents.{contained, IsInstanceAtPath}
 use Rattle.lft_resolve.specs.inner.Expansion.Values.{clock_in, value_in, values_in, defaults_of, given_by, entered, HaveValues, LeadToValues}
 use Rattle.lft_resolve.proofs.ExpansionLemmas.Orders.{along_at, along_kid}
 
@@ -140,7 +140,7 @@ lead_to_values contents table main instances values h w n i path own e p r = bel
     below zero n i path own l e p r = absurd (omega arith)
     below (suc bound) n i path own l e p r = go (cases_lt 0 n) (λ m. below bound m)
       where
-        at : IsAt contents main w.paths n i path
+        at : IsInstanceAtPath contents main w.paths n i path
         at = w.each n i path e p
 
         go : (0 < n) ⊎ (n ≤ 0) → ((m : ℕ) (j : Instance) (q mine : List ℕ) → m < bound → slice_get instances m ≡ Some j → slice_get w.paths m ≡ Some q → slice_get values m ≡ Some mine → along (entered contents table) Root q ≡ Some (j.reactor, mine)) → along (entered contents table) Root path ≡ Some (i.reactor, own)

@@ -4,8 +4,8 @@ use Rattle.std.{specs.Option.{option_map, option_and_then}, proofs.lemmas.{Bool.
 use Rattle.lft_lists.proofs.Places.{get_there, get_written, get_unwritten, get_write_cases, length_written, same_some}
 use Rattle.lft_resolve.specs.declared.expansion.walk.Instance.{Instance}
 use Rattle.lft_resolve.specs.declared.expansion.joins.{End.{End, TheVariants.{Own, Inner}}, Join.Join, Connections.Connections, Site.Site}
-use Rattle.lft_resolve.specs.inner.Expansion.{Numbers.{things, AreFirst}, Values.clock_in, Sources.AreInside}
-use Rattle.lft_resolve.specs.inner.Expansion.Joins.{port_at, port_of, Declares, IsAt, IsPort, joins_of, HasJoin, JoinPorts, LeadApart, Joins, AreSites, AreSources}
+use Rattle.lft_resolve.specs.inner.Expansion.{Numbers.{things, AreFirstNumbers}, Values.clock_in, Sources.AreInside}
+use Rattle.lft_resolve.specs.inner.Expansion.Joins.{port_at, port_of, Declares, IsJoinAt, IsDeclaredPort, joins_of, HasJoin, JoinPorts, LeadApart, Joins, AreSites, AreSources}
 use Rattle.lft_resolve.proofs.ExpansionLemmas.Things.{things_more, things_some}
 use Rattle.lft_tag.specs.declared.Source.{Source}
 
@@ -13,7 +13,7 @@ use Rattle.lft_tag.specs.declared.Source.{Source}
 abbrev pub Number : ℕ → Option ℕ → Type 0
 Number total o = (p : ℕ) × (o ≡ Some p) × (p < total)
 
-declared_number : (counts : List ℕ) (instances : List Instance) (firsts : List ℕ) → AreFirst counts instances firsts → (n port : ℕ) → Declares counts instances n port → Number (things counts instances) (port_at firsts n port)
+declared_number : (counts : List ℕ) (instances : List Instance) (firsts : List ℕ) → AreFirstNumbers counts instances firsts → (n port : ℕ) → Declares counts instances n port → Number (things counts instances) (port_at firsts n port)
 declared_number counts instances firsts w n port d =
     let f = get_there firsts n (let l = slice_get_within instances n d.0 d.1 in let s = w.as_long in omega arith) in
     let e = w.each n f.0 f.1 in
@@ -22,7 +22,7 @@ declared_number counts instances firsts w n port d =
     let l = d.2 in
     (f.0 + port, ap (option_map (λ first. first + port)) f.1, omega arith)
 
-pub port_number : (counts : List ℕ) (instances : List Instance) (firsts : List ℕ) (children : List (List ℕ)) → AreFirst counts instances firsts → (n : ℕ) (end : End) → IsPort counts instances children n end → Number (things counts instances) (port_of firsts children n end)
+pub port_number : (counts : List ℕ) (instances : List Instance) (firsts : List ℕ) (children : List (List ℕ)) → AreFirstNumbers counts instances firsts → (n : ℕ) (end : End) → IsDeclaredPort counts instances children n end → Number (things counts instances) (port_of firsts children n end)
 port_number counts instances firsts children w n (Own port) d = declared_number counts instances firsts w n port d
 port_number counts instances firsts children w n (Inner place port) d =
     let r = declared_number counts instances firsts w d.0 port d.2 in
@@ -134,7 +134,7 @@ sourced_end counts table instances firsts children values number place sources w
   each = λ b s. (w.right b s, λ j. w.all b s j (inl (let h = j.has_join in let k = slice_get_within instances j.number h.0 h.1 in omega arith)));
 }
 
-pub sources_inside : (counts : List ℕ) (table : List Connections) (instances : List Instance) (firsts : List ℕ) (children values : List (List ℕ)) (sources : List (Option Source)) → AreFirst counts instances firsts → JoinPorts counts table instances children → AreSources counts table instances firsts children values sources → AreInside sources
+pub sources_inside : (counts : List ℕ) (table : List Connections) (instances : List Instance) (firsts : List ℕ) (children values : List (List ℕ)) (sources : List (Option Source)) → AreFirstNumbers counts instances firsts → JoinPorts counts table instances children → AreSources counts table instances firsts children values sources → AreInside sources
 sources_inside counts table instances firsts children values sources first ports w b s e =
     let j = (w.each b s).0 e in
     let r = port_number counts instances firsts children first j.number j.join.from (ports j.number j.place j.join j.has_join).0 in
@@ -149,17 +149,17 @@ pub record Sited (table : List Connections) (instances : List Instance) (firsts 
   pub as_long : length sites ≡ length sources
   pub are_sites : AreSites table instances firsts children values sources sites
 
-pub sited_more : (table : List Connections) (instances : List Instance) (firsts : List ℕ) (children values : List (List ℕ)) (sources : List (Option Source)) (sites : List Site) (b : ℕ) (s : Source) (x : Site) → Sited table instances firsts children values sources sites → (j : Joins table instances firsts children values s.port b s.delay) × IsAt x j.number j.place → b < length sources → Sited table instances firsts children values (slice_set sources b (Some s)) (slice_set sites b x)
+pub sited_more : (table : List Connections) (instances : List Instance) (firsts : List ℕ) (children values : List (List ℕ)) (sources : List (Option Source)) (sites : List Site) (b : ℕ) (s : Source) (x : Site) → Sited table instances firsts children values sources sites → (j : Joins table instances firsts children values s.port b s.delay) × IsJoinAt x j.number j.place → b < length sources → Sited table instances firsts children values (slice_set sources b (Some s)) (slice_set sites b x)
 sited_more table instances firsts children values sources sites b s x w this low = record {
   as_long = length_written sites b x ∙ w.as_long ∙ sym (length_written sources b (Some s));
   are_sites = λ c t e. by c t (get_write_cases sources b c (Some s) (Some t) low e);
 }
   where
-    by : (c : ℕ) (t : Source) → ((c ≡ b) × (Some s ≡ Some t)) ⊎ ((c ≢ b) × (slice_get sources c ≡ Some (Some t))) → (y : Site) × (slice_get (slice_set sites b x) c ≡ Some y) × ((j : Joins table instances firsts children values t.port c t.delay) × IsAt y j.number j.place)
+    by : (c : ℕ) (t : Source) → ((c ≡ b) × (Some s ≡ Some t)) ⊎ ((c ≢ b) × (slice_get sources c ≡ Some (Some t))) → (y : Site) × (slice_get (slice_set sites b x) c ≡ Some y) × ((j : Joins table instances firsts children values t.port c t.delay) × IsJoinAt y j.number j.place)
     by c t (inl a) =
         let same : s ≡ t = (let e = a.1 in cc) in (
           x,
           subst (λ k. slice_get (slice_set sites b x) k ≡ Some x) (sym a.0) (get_written sites b x (let l = w.as_long in omega arith)),
-          subst (λ k. (j : Joins table instances firsts children values t.port k t.delay) × IsAt x j.number j.place) (sym a.0) (subst (λ (u : Source). (j : Joins table instances firsts children values u.port b u.delay) × IsAt x j.number j.place) same this),
+          subst (λ k. (j : Joins table instances firsts children values t.port k t.delay) × IsJoinAt x j.number j.place) (sym a.0) (subst (λ (u : Source). (j : Joins table instances firsts children values u.port b u.delay) × IsJoinAt x j.number j.place) same this),
         )
     by c t (inr a) = let old = w.are_sites c t a.1 in (old.0, get_unwritten sites b c x a.0 ∙ old.1, old.2)

@@ -2,7 +2,7 @@
 use Rattle.std.proofs.Common.{◌≡◌, ℕ, zero, suc, ◌+◌, ◌<◌, ◌≤◌, ◌⊎◌, inl, inr, List, [], ◌∷◌, ◌++◌, refl, sym, ap, ◌∙◌, subst, arith, Option, Some, None, append_assoc, append-nil}
 use Rattle.std.{proofs.lemmas.Bool.cases_lt, specs.Option.option_and_then}
 use Rattle.lft_lists.proofs.Members.{Mem, mem_get, get_mem, mem_left, mem_right, mem_cases}
-use Rattle.lft_resolve.{specs.Expansion.Paths.{along, Before, Exists, IsPreOrder}, proofs.ExpansionLemmas.Pairs.{Pairs, pairs_append, pairs_at}}
+use Rattle.lft_resolve.{specs.Expansion.Paths.{along, PathBefore, Exists, IsPreOrder}, proofs.ExpansionLemmas.Pairs.{Pairs, pairs_append, pairs_at}}
 
 -- p and q part, and p goes to the earlier place
 abbrev pub Apart : List ℕ → List ℕ → Type 0
@@ -10,7 +10,7 @@ Apart [] q = ⊥
 Apart (j ∷ p) [] = ⊥
 Apart (j ∷ p) (k ∷ q) = (j < k) ⊎ ((j ≡ k) × Apart p q)
 
-pub apart_before : (p q : List ℕ) → Apart p q → Before p q
+pub apart_before : (p q : List ℕ) → Apart p q → PathBefore p q
 apart_before [] q a = absurd a
 apart_before (j ∷ p) [] a = absurd a
 apart_before (j ∷ p) (k ∷ q) (inl l) = inl l
@@ -26,17 +26,17 @@ pub apart_kids : (p : List ℕ) (j k : ℕ) → j < k → Apart (p ++ j ∷ []) 
 apart_kids [] j k l = inl l
 apart_kids (i ∷ p) j k l = inr (refl, apart_kids p j k l)
 
-pub before_longer : (m p r : List ℕ) → Before m p → Before m (p ++ r)
+pub before_longer : (m p r : List ℕ) → PathBefore m p → PathBefore m (p ++ r)
 before_longer m [] r b = absurd b
 before_longer [] (k ∷ p) r b = tt
 before_longer (j ∷ m) (k ∷ p) r (inl l) = inl l
 before_longer (j ∷ m) (k ∷ p) r (inr e) = inr (e.0, before_longer m p r e.1)
 
-pub before_kid : (p : List ℕ) (k : ℕ) → Before p (p ++ k ∷ [])
+pub before_kid : (p : List ℕ) (k : ℕ) → PathBefore p (p ++ k ∷ [])
 before_kid [] k = tt
 before_kid (j ∷ p) k = inr (refl, before_kid p k)
 
-pub before_itself : (p : List ℕ) → Before p p → ⊥
+pub before_itself : (p : List ℕ) → PathBefore p p → ⊥
 before_itself [] b = b
 before_itself (k ∷ p) (inl l) = absurd (omega arith)
 before_itself (k ∷ p) (inr e) = before_itself p e.1
@@ -86,8 +86,8 @@ pairs_kids p k (suc n) = (later, pairs_kids p (suc k) n)
 
 -- what is made so far, in order, and where the rest begins: each path yet to come is one of the pending, or inside one
 pub record Halfway {X : Type 0} (step : X → ℕ → Option X) (root : X) (made pending : List (List ℕ)) : Type 0 where
-  pub order : Pairs Before made
-  pub ahead : (m q : List ℕ) → Mem m made → Mem q pending → Before m q
+  pub order : Pairs PathBefore made
+  pub ahead : (m q : List ℕ) → Mem m made → Mem q pending → PathBefore m q
   pub apart : Pairs Apart pending
   pub made_exist : (m : List ℕ) → Mem m made → Exists step root m
   pub pending_exist : (q : List ℕ) → Mem q pending → Exists step root q
@@ -111,7 +111,7 @@ halfway_start step root = record {
 -- the first of the pending is made, and the paths one step longer stand in its place
 pub halfway_turn : {X : Type 0} (step : X → ℕ → Option X) (root x : X) (made later : List (List ℕ)) (p : List ℕ) (n : ℕ) → Halfway step root made (p ∷ later) → along step root p ≡ Some x → HasKids step x n → Halfway step root (made ++ p ∷ []) (kids p 0 n ++ later)
 halfway_turn {X} step root x made later p n h e has = record {
-  order = pairs_append Before made (p ∷ []) h.order ((λ y m. absurd m), tt) (λ u v a b. elim b [ inl f ↦ subst (λ w. Before u w) f (h.ahead u p a (inl refl)) | inr z ↦ absurd z ]);
+  order = pairs_append PathBefore made (p ∷ []) h.order ((λ y m. absurd m), tt) (λ u v a b. elim b [ inl f ↦ subst (λ w. PathBefore u w) f (h.ahead u p a (inl refl)) | inr z ↦ absurd z ]);
   ahead = λ m q a b. ahead m q (mem_cases m made (p ∷ []) a) (mem_cases q (kids p 0 n) later b);
   apart = pairs_append Apart (kids p 0 n) later (pairs_kids p 0 n) h.apart.1 (λ u v a b. let r = kid_of u p 0 n a in subst (λ w. Apart w v) r.3 (apart_longer p v (r.0 ∷ []) (h.apart.0 v b)));
   made_exist = λ m a. elim (mem_cases m made (p ∷ []) a) [ inl b ↦ h.made_exist m b | inr b ↦ elim b [ inl f ↦ (x, ap (along step root) (sym f) ∙ e) | inr z ↦ absurd z ] ];
@@ -119,11 +119,11 @@ halfway_turn {X} step root x made later p n h e has = record {
   covered = λ q ex. covered q ex (h.covered q ex);
 }
   where
-    ahead : (m q : List ℕ) → Mem m made ⊎ Mem m (p ∷ []) → Mem q (kids p 0 n) ⊎ Mem q later → Before m q
-    ahead m q (inl a) (inl b) = let r = kid_of q p 0 n b in subst (λ w. Before m w) r.3 (before_longer m p (r.0 ∷ []) (h.ahead m p a (inl refl)))
+    ahead : (m q : List ℕ) → Mem m made ⊎ Mem m (p ∷ []) → Mem q (kids p 0 n) ⊎ Mem q later → PathBefore m q
+    ahead m q (inl a) (inl b) = let r = kid_of q p 0 n b in subst (λ w. PathBefore m w) r.3 (before_longer m p (r.0 ∷ []) (h.ahead m p a (inl refl)))
     ahead m q (inl a) (inr b) = h.ahead m q a (inr b)
-    ahead m q (inr (inl f)) (inl b) = let r = kid_of q p 0 n b in subst (λ w. Before w q) f (subst (λ w. Before p w) r.3 (before_kid p r.0))
-    ahead m q (inr (inl f)) (inr b) = subst (λ w. Before w q) f (apart_before p q (h.apart.0 q b))
+    ahead m q (inr (inl f)) (inl b) = let r = kid_of q p 0 n b in subst (λ w. PathBefore w q) f (subst (λ w. PathBefore p w) r.3 (before_kid p r.0))
+    ahead m q (inr (inl f)) (inr b) = subst (λ w. PathBefore w q) f (apart_before p q (h.apart.0 q b))
     ahead m q (inr (inr z)) b = absurd z
 
     pending : (q : List ℕ) → Mem q (kids p 0 n) ⊎ Mem q later → Exists step root q
@@ -152,7 +152,7 @@ halfway_turn {X} step root x made later p n h e has = record {
 -- with nothing pending, what is made is all there is
 pub halfway_end : {X : Type 0} (step : X → ℕ → Option X) (root : X) (made : List (List ℕ)) → Halfway step root made [] → IsPreOrder step root made
 halfway_end {X} step root made h = record {
-  in_order = λ i j p q a b l. pairs_at Before made h.order i j p q a b l;
+  in_order = λ i j p q a b l. pairs_at PathBefore made h.order i j p q a b l;
   each = λ i p a. h.made_exist p (mem_get made i p a);
   all = λ p ex. get_mem p made (elim (h.covered p ex) [ inl m ↦ m | inr r ↦ absurd r.2 ]);
 }

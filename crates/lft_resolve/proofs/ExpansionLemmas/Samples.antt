@@ -2,7 +2,7 @@
 use Rattle.std.proofs.Common.{◌≡◌, ℕ, List, [], ◌∷◌, Some, None, refl}
 use Rattle.lft_resolve.specs.declared.expansion.{walk.Instance.Instance, settings.{Clock.TheVariants.{Fixed, Parameter}, Given.Given}}
 use Rattle.lft_resolve.specs.declared.expansion.joins.End.TheVariants.{Own, Inner}
-use Rattle.lft_resolve.specs.inner.Expansion.{Numbers.{count_of, things}, Children.child_of, Values.{clock_in, values_in}, Joins.{port_of, joins_of}}
+use Rattle.lft_resolve.specs.inner.Expansion.{Numbers.{count_of_things, things}, Children.child_of, Values.{clock_in, values_in}, Joins.{port_of, joins_of}}
 
 abbrev of_reactor : ℕ → Instance
 of_reactor r = record { reactor = r; parent = 0; place = 0 }
@@ -11,7 +11,7 @@ of_reactor r = record { reactor = r; parent = 0; place = 0 }
 counted : things (4 ∷ 10 ∷ []) (of_reactor 0 ∷ of_reactor 1 ∷ of_reactor 7 ∷ of_reactor 1 ∷ []) ≡ 24
 counted = refl
 
-not_counted : count_of (4 ∷ 10 ∷ []) 7 ≡ 0
+not_counted : count_of_things (4 ∷ 10 ∷ []) 7 ≡ 0
 not_counted = refl
 
 abbrev rows : List (List ℕ)

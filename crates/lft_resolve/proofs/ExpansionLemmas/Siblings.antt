@@ -2,7 +2,7 @@
 use Rattle.std.proofs.Common.{◌≡◌, ◌≢◌, ℕ, zero, suc, ◌+◌, ◌<◌, ◌≤◌, ◌⊎◌, inl, inr, List, [], ◌∷◌, ◌++◌, length, refl, sym, ap, ◌∙◌, subst, arith, Option, Some, None, slice_get, slice_set, length-append, map}
 use Rattle.std.{specs.Option.option_and_then, proofs.lemmas.{Bool.{cases_lt, cases_eq}, Option.slice_get_within}}
 use Rattle.lft_lists.proofs.Places.{get_there, get_written, get_unwritten, get_write_cases, length_written, get_push, get_last, get_push_cases, push_apart, same_some}
-use Rattle.lft_resolve.specs.{declared.expansion.walk.{Contents.Contents, Instance.Instance}, Expansion.Paths.{along, Before}}
+use Rattle.lft_resolve.specs.{declared.expansion.walk.{Contents.Contents, Instance.Instance}, Expansion.Paths.{along, PathBefore}}
 use Rattle.lft_resolve.specs.inner.Expansion.{Contents.{contained, IsWalk}, Children.{IsChild, AreChildren, child_of}}
 use Rattle.lft_resolve.proofs.ExpansionLemmas.{Orders.{before_itself, apart_before, apart_kids, along_at, along_kid}, Walks.{count, has_kids}}
 use Rattle.lft_resolve.proofs.ExpansionLemmas.Unique.{before_both}
@@ -82,7 +82,7 @@ earlier_child table main made w n place m earlier c l = (at.0, before (cases_lt 
     at : (k : ℕ) × (slice_get w.paths k ≡ Some (b.0 ++ earlier ∷ []))
     at = w.in_order.all (b.0 ++ earlier ∷ []) (there.0, along_kid (contained table) main outer.0.reactor there.0 b.0 earlier leads there.1)
 
-    sooner : Before (b.0 ++ earlier ∷ []) (b.0 ++ place ∷ [])
+    sooner : PathBefore (b.0 ++ earlier ∷ []) (b.0 ++ place ∷ [])
     sooner = apart_before (b.0 ++ earlier ∷ []) (b.0 ++ place ∷ []) (apart_kids b.0 earlier place l)
 
     before : (at.0 < m) ⊎ (m ≤ at.0) → (at.0 ≡ m) ⊎ (at.0 ≡ m → ⊥) → at.0 < m

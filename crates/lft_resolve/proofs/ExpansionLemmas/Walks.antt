@@ -2,8 +2,8 @@
 use Rattle.std.proofs.Common.{◌≡◌, ℕ, zero, suc, ◌+◌, ◌-◌, ◌<◌, ◌≤◌, ◌⊎◌, inl, inr, List, [], ◌∷◌, ◌++◌, length, refl, sym, ap, ◌∙◌, subst, arith, Option, Some, None, slice_get, append_assoc, length-append, add-one, append-nil}
 use Rattle.std.{specs.Option.option_and_then, proofs.lemmas.{Bool.cases_lt, Option.slice_get_within}}
 use Rattle.lft_lists.proofs.{Places.{get_there, get_push, get_last, get_push_cases}, Members.{Mem, mem_get, mem_left, mem_right, mem_cases}}
-use Rattle.lft_resolve.specs.{declared.expansion.walk.{Contents.Contents, Instance.Instance, Frame.Frame}, Expansion.Paths.{along, Before, Exists, IsMoreThan}}
-use Rattle.lft_resolve.specs.inner.Expansion.Contents.{contained, IsAt, IsWalk}
+use Rattle.lft_resolve.specs.declared.expansion.walk.{Contents.Contents, Instance.Instance, Frame.Frame}
+use Rattle.lft_resolve.specs.{Expansion.Paths.{along, PathBefore, Exists, IsMoreThan}, inner.Expansion.Contents.{contained, IsInstanceAtPath, IsWalk}}
 use Rattle.lft_resolve.proofs.ExpansionLemmas.Orders.{Halfway, HasKids, kids, halfway_start, halfway_turn, halfway_end, before_itself, along_kid}
 use Rattle.lft_resolve.proofs.ExpansionLemmas.Pairs.{pairs_at}
 
@@ -47,7 +47,7 @@ IsOpen table main paths f = (p : List ℕ) × (slice_get paths f.number ≡ Some
 pub record Walking (table : List Contents) (main : ℕ) (made : List Instance) (frames : List Frame) : Type 0 where
   pub paths : List (List ℕ)
   pub as_long : length made ≡ length paths
-  pub each : (n : ℕ) (m : Instance) (p : List ℕ) → slice_get made n ≡ Some m → slice_get paths n ≡ Some p → IsAt table main paths n m p
+  pub each : (n : ℕ) (m : Instance) (p : List ℕ) → slice_get made n ≡ Some m → slice_get paths n ≡ Some p → IsInstanceAtPath table main paths n m p
   pub are_open : (f : Frame) → Mem f frames → IsOpen table main paths f
   pub halfway : Halfway (contained table) main paths (pending table paths frames)
 
@@ -83,7 +83,7 @@ walking_start table main = record {
   halfway = subst (λ l. Halfway (contained table) main ([] ∷ []) l) (append-nil (kids [] 0 (count table main)) ∙ ap (kids [] 0) (sym (sub-zero (count table main)))) (halfway_turn (contained table) main main [] [] [] (count table main) (halfway_start (contained table) main) refl (has_kids table main));
 }
   where
-    at : (n : ℕ) (m : Instance) (p : List ℕ) → slice_get (root_instance main ∷ []) n ≡ Some m → slice_get ([] ∷ []) n ≡ Some p → IsAt table main ([] ∷ []) n m p
+    at : (n : ℕ) (m : Instance) (p : List ℕ) → slice_get (root_instance main ∷ []) n ≡ Some m → slice_get ([] ∷ []) n ≡ Some p → IsInstanceAtPath table main ([] ∷ []) n m p
     at zero m p a b = let e : root_instance main ≡ m = cc in let f : [] ≡ p = cc in record { leads = subst (λ w. along (contained table) main p ≡ Some w.reactor) e (ap (along (contained table) main) (sym f)); first = λ z. sym f; later = λ l. absurd (omega arith) }
     at (suc n) m p a b = absurd (cc)
 
@@ -174,21 +174,21 @@ walking_make table main made fs f again inner m w e parent place again_is inner_
         of_older g (inr (inl b)) = (p, subst (λ h. slice_get paths2 h.number ≡ Some p) (sym again_is ∙ b) number_p, subst (λ h. along (contained table) main p ≡ Some h.reactor) (sym again_is ∙ b) open_f.2)
         of_older g (inr (inr z)) = absurd z
 
-    wider : (k : ℕ) (x : Instance) (y : List ℕ) → IsAt table main w.paths k x y → IsAt table main paths2 k x y
+    wider : (k : ℕ) (x : Instance) (y : List ℕ) → IsInstanceAtPath table main w.paths k x y → IsInstanceAtPath table main paths2 k x y
     wider k x y i = record { leads = i.leads; first = i.first; later = λ l. let r = i.later l in (r.0, r.1, get_push w.paths q x.parent r.0 r.2, r.3) }
 
-    new : IsAt table main paths2 (length made) m q
+    new : IsInstanceAtPath table main paths2 (length made) m q
     new = record {
       leads = leads_q;
       first = λ z. let l = slice_get_within w.paths f.number p open_f.1 in let s = w.as_long in absurd (omega arith);
       later = λ l. (p, (let a = slice_get_within w.paths f.number p open_f.1 in let s = w.as_long in omega arith), subst (λ k. slice_get paths2 k ≡ Some p) (sym parent) number_p, ap (λ k. p ++ k ∷ []) place);
     }
 
-    at : (k : ℕ) (x : Instance) (y : List ℕ) → (slice_get made k ≡ Some x) ⊎ ((k ≡ length made) × (m ≡ x)) → (slice_get w.paths k ≡ Some y) ⊎ ((k ≡ length w.paths) × (q ≡ y)) → IsAt table main paths2 k x y
+    at : (k : ℕ) (x : Instance) (y : List ℕ) → (slice_get made k ≡ Some x) ⊎ ((k ≡ length made) × (m ≡ x)) → (slice_get w.paths k ≡ Some y) ⊎ ((k ≡ length w.paths) × (q ≡ y)) → IsInstanceAtPath table main paths2 k x y
     at k x y (inl a) (inl b) = wider k x y (w.each k x y a b)
     at k x y (inl a) (inr b) = let l = slice_get_within made k x a in let s = w.as_long in let z = b.0 in absurd (omega arith)
     at k x y (inr a) (inl b) = let l = slice_get_within w.paths k y b in let s = w.as_long in let z = a.0 in absurd (omega arith)
-    at k x y (inr a) (inr b) = subst (λ v. IsAt table main paths2 k x v) b.1 (subst (λ u. IsAt table main paths2 k u q) a.1 (subst (λ j. IsAt table main paths2 j m q) (sym a.0) new))
+    at k x y (inr a) (inr b) = subst (λ v. IsInstanceAtPath table main paths2 k x v) b.1 (subst (λ u. IsInstanceAtPath table main paths2 k u q) a.1 (subst (λ j. IsInstanceAtPath table main paths2 j m q) (sym a.0) new))
 
 pub walking_end : (table : List Contents) (main : ℕ) (made : List Instance) → Walking table main made [] → IsWalk table main made
 walking_end table main made w = record { paths = w.paths; in_order = halfway_end (contained table) main w.paths w.halfway; as_long = w.as_long; each = w.each }
@@ -203,6 +203,6 @@ walking_more table main made frames limit w l = record {
 }
   where
     same : (i j : ℕ) (x : List ℕ) → slice_get w.paths i ≡ Some x → slice_get w.paths j ≡ Some x → (i < j) ⊎ (j ≤ i) → (j < i) ⊎ (i ≤ j) → i ≡ j
-    same i j x a b (inl k) r = absurd (before_itself x (pairs_at Before w.paths w.halfway.order i j x x a b k))
-    same i j x a b (inr k) (inl r) = absurd (before_itself x (pairs_at Before w.paths w.halfway.order j i x x b a r))
+    same i j x a b (inl k) r = absurd (before_itself x (pairs_at PathBefore w.paths w.halfway.order i j x x a b k))
+    same i j x a b (inr k) (inl r) = absurd (before_itself x (pairs_at PathBefore w.paths w.halfway.order j i x x b a r))
     same i j x a b (inr k) (inr r) = omega arith

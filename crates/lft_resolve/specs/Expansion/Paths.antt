@@ -8,10 +8,10 @@ along step x [] = Some x
 along step x (k ∷ path) = option_and_then (λ y. along step y path) (step x k)
 
 -- p stands before q: it is a shorter front of q, or it goes to the earlier place where they part
-abbrev pub Before : List ℕ → List ℕ → Type 0
-Before p [] = ⊥
-Before [] (k ∷ q) = Unit {0}
-Before (j ∷ p) (k ∷ q) = (j < k) ⊎ ((j ≡ k) × Before p q)
+abbrev pub PathBefore : List ℕ → List ℕ → Type 0
+PathBefore p [] = ⊥
+PathBefore [] (k ∷ q) = Unit {0}
+PathBefore (j ∷ p) (k ∷ q) = (j < k) ⊎ ((j ≡ k) × PathBefore p q)
 
 -- the path leads somewhere
 abbrev pub Exists : {X : Type 0} → (X → ℕ → Option X) → X → List ℕ → Type 0
@@ -19,7 +19,7 @@ Exists {X} step root path = (x : X) × (along step root path ≡ Some x)
 
 -- the list is in pre-order: it has the paths that exist, each once, what contains before what it contains, and what one thing contains in order of declaration (handbook)
 pub record IsPreOrder {X : Type 0} (step : X → ℕ → Option X) (root : X) (paths : List (List ℕ)) : Type 0 where
-  pub in_order : (i j : ℕ) (p q : List ℕ) → slice_get paths i ≡ Some p → slice_get paths j ≡ Some q → i < j → Before p q
+  pub in_order : (i j : ℕ) (p q : List ℕ) → slice_get paths i ≡ Some p → slice_get paths j ≡ Some q → i < j → PathBefore p q
   pub each : (i : ℕ) (p : List ℕ) → slice_get paths i ≡ Some p → Exists step root p
   pub all : (p : List ℕ) → Exists step root p → (i : ℕ) × (slice_get paths i ≡ Some p)
 

@@ -18,7 +18,7 @@ abbrev pub TimeLacksPlace : ReactorTree → Type 0
 TimeLacksPlace r = Any (LacksPlace (parameter_place r)) (times_in r)
 
 -- the instances are of reactors of the file, and what they are given are parameters of those
-pub record AreOf (file : ReactorTable) (instances : List InstanceTree) : Type 0 where
+pub record AreInstancesOf (file : ReactorTable) (instances : List InstanceTree) : Type 0 where
   pub reactors : List ReactorTree
   pub is_file : IsFile reactors file
   pub known : Any (λ i. reactor_named reactors i.reactor ≡ None) instances → ⊥

@@ -12,7 +12,7 @@ abbrev pub inner_ref : List ℕ → List ℕ → RefTree
 inner_ref head name = record { head = head; port = Some name }
 
 -- the name is that of the timer at this place
-pub record IsTimerAt (r : ReactorTree) (ref : RefTree) (n : ℕ) : Type 0 where
+pub record IsNamedTimer (r : ReactorTree) (ref : RefTree) (n : ℕ) : Type 0 where
   pub is_one : is_timer r ref.head ref.port ≡ true
   pub is_plain : ref.port ≡ None
   pub is_place : timer_place r ref.head ≡ Some n
@@ -20,15 +20,15 @@ pub record IsTimerAt (r : ReactorTree) (ref : RefTree) (n : ℕ) : Type 0 where
 -- ---- names that stand for nothing that is wanted
 
 -- the kinds of ports
-abbrev pub is_port : Kind → Bool
-is_port OwnInput = true
-is_port OwnOutput = true
-is_port InnerInput = true
-is_port InnerOutput = true
-is_port OwnParameter = false
-is_port OwnTimer = false
-is_port OwnAction = false
-is_port OwnInstance = false
+abbrev pub is_port_kind : Kind → Bool
+is_port_kind OwnInput = true
+is_port_kind OwnOutput = true
+is_port_kind InnerInput = true
+is_port_kind InnerOutput = true
+is_port_kind OwnParameter = false
+is_port_kind OwnTimer = false
+is_port_kind OwnAction = false
+is_port_kind OwnInstance = false
 
 -- the kinds of ports and actions
 abbrev pub is_spot : Kind → Bool
@@ -42,8 +42,8 @@ is_spot OwnTimer = false
 is_spot OwnInstance = false
 
 -- the name isn't one of a kind that passes the test
-abbrev pub Lacks : (Kind → Bool) → List ReactorTree → ReactorTree → RefTree → Type 0
-Lacks test rs r ref = (kind : Kind) → kind_of rs r ref ≡ Some kind → test kind ≡ false
+abbrev pub LacksKind : (Kind → Bool) → List ReactorTree → ReactorTree → RefTree → Type 0
+LacksKind test rs r ref = (kind : Kind) → kind_of rs r ref ≡ Some kind → test kind ≡ false
 
 -- the name is nothing, or something that may not have this role
 abbrev pub IsLost : List ReactorTree → ReactorTree → Role × RefTree → Type 0

@@ -5,12 +5,12 @@ use Rattle.lft_tree.specs.Tree.{ReactorTree, InstanceTree, instances_of}
 use Rattle.lft_resolve.specs.{declared.expansion.walk.Contents.Contents, Instances.reactor_named}
 
 -- the instance is one of the reactor of this number
-abbrev pub IsNumberOf : List ReactorTree → InstanceTree → ℕ → Type 0
-IsNumberOf reactors i n = (r : ReactorTree) × (reactor_named reactors i.reactor ≡ Some r) × (slice_get reactors n ≡ Some r)
+abbrev pub IsReactorNumberOf : List ReactorTree → InstanceTree → ℕ → Type 0
+IsReactorNumberOf reactors i n = (r : ReactorTree) × (reactor_named reactors i.reactor ≡ Some r) × (slice_get reactors n ≡ Some r)
 
 -- what the reactor contains, by number
 abbrev pub IsContents : List ReactorTree → ReactorTree → Contents → Type 0
-IsContents reactors r contents = AllZip (IsNumberOf reactors) (instances_of r) contents.instances.items
+IsContents reactors r contents = AllZip (IsReactorNumberOf reactors) (instances_of r) contents.instances.items
 
 -- what each reactor contains, in order
 abbrev pub AreContents : List ReactorTree → List Contents → Type 0

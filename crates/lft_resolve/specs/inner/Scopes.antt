@@ -5,6 +5,6 @@ use Rattle.lft_tree.specs.{Tree.{FileTree, reactors_of}, declared.tree.Reactor.R
 use Rattle.lft_resolve.specs.{inner.{References.reactor_trees, Tables.IsFile}, declared.file.ReactorTable.ReactorTable}
 
 -- the reactors are those of the tree, and the tables theirs
-pub record AreScopes (tree : FileTree) (items : List (Bor Reactor)) (table : ReactorTable) : Type 0 where
+pub record AreScopesOfTree (tree : FileTree) (items : List (Bor Reactor)) (table : ReactorTable) : Type 0 where
   pub reactors : reactor_trees items ≡ reactors_of tree
   pub file : IsFile (reactors_of tree) table

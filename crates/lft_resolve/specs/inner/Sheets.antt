@@ -44,13 +44,13 @@ pub record IsGiven (outer inner : ReactorTree) (a : AssignmentTree) (given : Giv
   pub clock : IsClock outer a.value given.clock
 
 -- what `new` gives to the parameters of the new reactor
-abbrev pub AreGiven : List ReactorTree → ReactorTree → InstanceTree → List Given → Type 0
-AreGiven rs outer i given = (inner : ReactorTree) × (reactor_named rs i.reactor ≡ Some inner) × AllZip (IsGiven outer inner) i.given given
+abbrev pub AreValuesGiven : List ReactorTree → ReactorTree → InstanceTree → List Given → Type 0
+AreValuesGiven rs outer i given = (inner : ReactorTree) × (reactor_named rs i.reactor ≡ Some inner) × AllZip (IsGiven outer inner) i.given given
 
 -- the defaults of the reactor's parameters, and what it gives to those of its instances
 pub record IsParameters (rs : List ReactorTree) (r : ReactorTree) (p : Parameters) : Type 0 where
   pub defaults : p.defaults.items ≡ map (λ x. kept (nanoseconds x.default)) r.parameters
-  pub given : AllZip (AreGiven rs r) (instances_of r) (map (λ g. g.items) p.given.items)
+  pub given : AllZip (AreValuesGiven rs r) (instances_of r) (map (λ g. g.items) p.given.items)
 
 -- for each reactor in order: the defaults of its parameters, and what it gives to those of its instances
 abbrev pub AreParameters : List ReactorTree → List Parameters → Type 0

@@ -23,7 +23,7 @@ pub record IsFile (rs : List ReactorTree) (file : ReactorTable) : Type 0 where
   pub owns : AllZip IsOwn rs file.owns.items
 
 -- the instance of this name in the reactor has this place, and the table is that of its reactor
-pub record IsHeld (rs : List ReactorTree) (r : ReactorTree) (name : List ℕ) (number : ℕ) (own : Own) : Type 0 where
+pub record IsInstanceTable (rs : List ReactorTree) (r : ReactorTree) (name : List ℕ) (number : ℕ) (own : Own) : Type 0 where
   pub i : InstanceTree
   pub inner : ReactorTree
   pub is_place : instance_place r name ≡ Some number

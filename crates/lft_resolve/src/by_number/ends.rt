@@ -2,7 +2,7 @@
 
 ghost use Rattle.std.specs.Prelude.{◌≡◌, ◌≢◌, List, None, false, IfOk, IfErr, MatchOption};
 ghost use Rattle.lft_tree.specs.{Tree.ReactorTree, View.ref_view};
-ghost use Rattle.lft_resolve.specs.inner.{Lost.{IsTimerAt, Lacks, inner_ref, is_port, is_spot}, Sheets.{IsEnd, IsSpot}, Tables.{IsFile, IsOwn}};
+ghost use Rattle.lft_resolve.specs.inner.{Lost.{IsNamedTimer, LacksKind, inner_ref, is_port_kind, is_spot}, Sheets.{IsEnd, IsSpot}, Tables.{IsFile, IsOwn}};
 ghost use Rattle.lft_resolve.specs.{Kinds.inner_kind, Sheets.is_timer};
 ghost use Rattle.lft_resolve.specs.declared.fault.ReactorFault.TheVariants as faults;
 
@@ -48,7 +48,7 @@ pub(crate) fn end(
     reference: &Reference,
 ) -> Result<End, ReactorFault>
     ensures ok { IfOk result (λ end. (rs : List ReactorTree) (r : ReactorTree) → IsFile rs file.now → IsOwn r own.now → IsEnd rs r (ref_view reference.now) end) }
-    ensures lost { IfErr result (λ f. f ≢ faults.NoMemory → (rs : List ReactorTree) (r : ReactorTree) → IsFile rs file.now → IsOwn r own.now → Lacks is_port rs r (ref_view reference.now)) }
+    ensures lost { IfErr result (λ f. f ≢ faults.NoMemory → (rs : List ReactorTree) (r : ReactorTree) → IsFile rs file.now → IsOwn r own.now → LacksKind is_port_kind rs r (ref_view reference.now)) }
 {
     match &reference.port {
         None => match own.ports.get(reference.head.as_str()) {
@@ -66,7 +66,7 @@ pub(crate) fn spot(
     reference: &Reference,
 ) -> Result<NamedThing, ReactorFault>
     ensures ok { IfOk result (λ spot. (rs : List ReactorTree) (r : ReactorTree) → IsFile rs file.now → IsOwn r own.now → IsSpot rs r (ref_view reference.now) spot) }
-    ensures lost { IfErr result (λ f. f ≢ faults.NoMemory → (rs : List ReactorTree) (r : ReactorTree) → IsFile rs file.now → IsOwn r own.now → Lacks is_spot rs r (ref_view reference.now)) }
+    ensures lost { IfErr result (λ f. f ≢ faults.NoMemory → (rs : List ReactorTree) (r : ReactorTree) → IsFile rs file.now → IsOwn r own.now → LacksKind is_spot rs r (ref_view reference.now)) }
 {
     match &reference.port {
         None => match own.ports.get(reference.head.as_str()) {
@@ -87,7 +87,7 @@ pub(crate) fn spot(
 
 /// The place of the timer that a name in a reactor stands for, if it is one.
 pub(crate) fn timer(own: &Own, reference: &Reference) -> Option<usize>
-    ensures { (r : ReactorTree) → IsOwn r own.now → MatchOption result (is_timer r (ref_view reference.now).head (ref_view reference.now).port ≡ false) (IsTimerAt r (ref_view reference.now)) }
+    ensures { (r : ReactorTree) → IsOwn r own.now → MatchOption result (is_timer r (ref_view reference.now).head (ref_view reference.now).port ≡ false) (IsNamedTimer r (ref_view reference.now)) }
 {
     match &reference.port {
         None => own.timers.get(reference.head.as_str()),

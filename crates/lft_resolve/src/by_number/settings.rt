@@ -4,8 +4,9 @@ ghost use Rattle.std.specs.Prelude.{◌≡◌, List, None, map, flat_map, Any, I
 ghost use Rattle.std.specs.List.{AllZip};
 ghost use Rattle.lft_tree.specs.{Tree.{ReactorTree, nanoseconds, reactors_of}, View.{assignment_view, parameter_view}};
 ghost use Rattle.lft_resolve.specs.Causes.{NoneHolds, first_causes, later_causes};
-ghost use Rattle.lft_resolve.specs.inner.{Lacking.{AreOf, LacksName, LacksPlace, TimeLacksPlace}, Places.{IsIndexOf, place_in}, References.instance_trees};
-ghost use Rattle.lft_resolve.specs.inner.{Sheets.{AreGiven, AreParameters, IsGiven, IsParameters, kept}, Tables.{IsFile, IsOwn}};
+ghost use Rattle.lft_resolve.specs.inner.{Lacking.{AreInstancesOf, LacksName, LacksPlace, TimeLacksPlace}, Places.{IsIndexOf, place_in}};
+ghost use Rattle.lft_resolve.specs.inner.{References.instance_trees, Sheets.{AreValuesGiven, AreParameters, IsGiven, IsParameters, kept}};
+ghost use Rattle.lft_resolve.specs.inner.Tables.{IsFile, IsOwn};
 
 use crate::by_number::clocks::{clock, kept};
 use crate::expansion::{Given, Parameters};
@@ -70,9 +71,9 @@ fn given_to_each(
     parameters: &Index,
     instances: &[&Instance],
 ) -> Result<Vec<Vec<Given>>, NoMemory>
-    requires instances { AreOf file.now (instance_trees instances.now) }
+    requires instances { AreInstancesOf file.now (instance_trees instances.now) }
     requires times { Any (LacksPlace (place_in parameters.now)) (flat_map (λ i. map (λ a. a.value) i.given) (instance_trees instances.now)) → ⊥ }
-    ensures { IfOk result (λ v. (rs : List ReactorTree) (r : ReactorTree) → IsFile rs file.now → IsIndexOf parameters.now (map (λ p. p.name) r.parameters) → AllZip (AreGiven rs r) (instance_trees instances.now) (map (λ g. g.items) v.items)) }
+    ensures { IfOk result (λ v. (rs : List ReactorTree) (r : ReactorTree) → IsFile rs file.now → IsIndexOf parameters.now (map (λ p. p.name) r.parameters) → AllZip (AreValuesGiven rs r) (instance_trees instances.now) (map (λ g. g.items) v.items)) }
 {
     let mut given = Vec::new(alloc);
     for instance in instances {
@@ -88,7 +89,7 @@ fn given_to_each(
 
 /// The defaults of a reactor's parameters and what it gives to those of its instances.
 fn parameters_of(alloc: Global, file: &ReactorTable, own: &Own) -> Result<Parameters, NoMemory>
-    requires instances { AreOf file.now (instance_trees own.now.contained.items) }
+    requires instances { AreInstancesOf file.now (instance_trees own.now.contained.items) }
     requires times { (r : ReactorTree) × IsOwn r own.now × (TimeLacksPlace r → ⊥) }
     ensures { IfOk result (λ p. (rs : List ReactorTree) (r : ReactorTree) → IsFile rs file.now → IsOwn r own.now → IsParameters rs r p) }
 {

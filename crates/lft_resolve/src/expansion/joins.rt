@@ -1,8 +1,8 @@
 //! Which connection leads into each port.
 
 ghost use Rattle.std.specs.Prelude.{◌≡◌, ℕ, ◌≤◌, [], Some, length, slice_get, unwrap_or, option_map, IfOk};
-ghost use Rattle.lft_resolve.specs.inner.Expansion.{Joins.{AreSites, AreSources, JoinPorts, LeadApart, joins_of, port_at, port_of}, Numbers.{AreFirst, things}};
-ghost use Rattle.lft_resolve.specs.inner.Expansion.{Sources.AreInside, Values.clock_in};
+ghost use Rattle.lft_resolve.specs.inner.Expansion.Joins.{AreSites, AreSources, JoinPorts, LeadApart, joins_of, port_at, port_of};
+ghost use Rattle.lft_resolve.specs.inner.Expansion.{Numbers.{AreFirstNumbers, things}, Sources.AreInside, Values.clock_in};
 
 use crate::expansion::nesting::Children;
 use crate::expansion::numbering::count_things;
@@ -109,7 +109,7 @@ pub fn find_sources(
 ) -> Result<PortSources, NoMemory>
     requires few_instances { length instances.now ≤ 10000 }
     requires few_ports { things counts.now instances.now ≤ 100000 }
-    requires numbered { AreFirst counts.now instances.now firsts.now }
+    requires numbered { AreFirstNumbers counts.now instances.now firsts.now }
     requires ports { JoinPorts counts.now table.now instances.now children.now }
     requires apart { LeadApart table.now instances.now firsts.now children.now }
     ensures sources { IfOk result (λ v. AreSources counts.now table.now instances.now firsts.now children.now values.now v.sources.items) }

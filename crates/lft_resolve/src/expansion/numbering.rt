@@ -1,7 +1,8 @@
 //! The numbers of what instances declare.
 
 ghost use Rattle.std.specs.Prelude.{◌≡◌, ℕ, ◌<◌, ◌≤◌, List, length, IfOk, IfSome, IfNone, MatchOption, min};
-ghost use Rattle.lft_resolve.specs.inner.Expansion.{Contents.IsWalk, Listing.AreListed, Numbers.{AreFirst, HasMoreThings, count_of, things}};
+ghost use Rattle.lft_resolve.specs.inner.Expansion.{Contents.IsWalk, Listing.AreThingsListed};
+ghost use Rattle.lft_resolve.specs.inner.Expansion.Numbers.{AreFirstNumbers, HasMoreThings, count_of_things, things};
 ghost use Rattle.lft_resolve.specs.declared.expansion.walk.Contents.{Contents};
 
 use crate::expansion::walk::Instance;
@@ -19,7 +20,7 @@ pub struct Thing {
 
 // how many things a reactor declares
 fn count_at(counts: &[u32], reactor: u32) -> u32
-    ensures { result ≡ count_of counts.now reactor }
+    ensures { result ≡ count_of_things counts.now reactor }
 {
     counts.get(reactor as usize).copied().unwrap_or(0)
 }
@@ -46,7 +47,7 @@ pub fn first_numbers(
     counts: &[u32],
     limit: u32,
 ) -> Result<Option<Vec<u32>>, NoMemory>
-    ensures numbers { IfOk result (λ o. IfSome o (λ v. AreFirst counts.now instances.now v.items)) }
+    ensures numbers { IfOk result (λ o. IfSome o (λ v. AreFirstNumbers counts.now instances.now v.items)) }
     ensures within { IfOk result (λ o. IfSome o (λ _. things counts.now instances.now ≤ limit)) }
     ensures passed { IfOk result (λ o. IfNone o (limit < things counts.now instances.now)) }
     // of a walk's instances, the limit is passed exactly where it is in the tree
@@ -76,7 +77,7 @@ pub fn list_things(
     counts: &[u32],
 ) -> Result<Vec<Thing>, NoMemory>
     requires { length instances.now ≤ 10000 }
-    ensures { IfOk result (λ v. AreListed counts.now instances.now v.items) }
+    ensures { IfOk result (λ v. AreThingsListed counts.now instances.now v.items) }
 {
     let mut all = Vec::new(alloc);
     'instances: for number in 0..instances.len() {

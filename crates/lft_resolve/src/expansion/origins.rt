@@ -1,8 +1,8 @@
 //! Where the chain of connections into each port begins, and its delays folded.
 
 ghost use Rattle.std.specs.Prelude.{◌≡◌, ◌≢◌, ℕ, ◌+◌, ◌<◌, ◌≤◌, ◌++◌, length, slice_get, Some, Err, IfOk, OnOk, List, option_to_list};
-ghost use Rattle.lft_resolve.specs.inner.Expansion.Sources.{AreInside, AreReached, IsFolded, Leads};
-ghost use Rattle.lft_resolve.specs.inner.Expansion.Marks.{IsNext, IsSettled, KeepsLooked, NoneOpen, done_weight, steps_of, tally};
+ghost use Rattle.lft_resolve.specs.inner.Expansion.Sources.{AreInside, AreReached, IsFolded, LeadsBackwards};
+ghost use Rattle.lft_resolve.specs.inner.Expansion.Marks.{IsNext, AreMarksSettled, KeepsPortsLooked, NoPortOpen, done_mark_weight, shift_steps, tally_of_marks};
 ghost use Rattle.lft_resolve.specs.declared.expansion.origins.Mark.TheVariants.{New};
 
 use lft_tag::{Shift, Source};
@@ -66,9 +66,9 @@ pub enum Next {
 
 // one more delay at the end of a chain
 fn extended(shift: Option<Shift>, delay: Option<u64>) -> Option<Shift>
-    requires { steps_of shift < 100000 }
+    requires { shift_steps shift < 100000 }
     ensures folded { (delays : List ℕ) → IsFolded delays shift → IsFolded (delays ++ option_to_list delay) result }
-    ensures steps { steps_of result ≤ steps_of shift + 1 }
+    ensures steps { shift_steps result ≤ shift_steps shift + 1 }
 {
     match shift {
         Some(shift) => match delay {
@@ -100,8 +100,8 @@ fn look(sources: &[Option<Source>], marks: &[Mark], port: u32) -> Next
     requires inside { AreInside sources.now }
     requires known { port < length sources.now }
     requires as_long { length marks.now ≡ length sources.now }
-    requires settled { IsSettled sources.now marks.now }
-    requires few { tally done_weight marks.now < 100000 }
+    requires settled { AreMarksSettled sources.now marks.now }
+    requires few { tally_of_marks done_mark_weight marks.now < 100000 }
     ensures { IsNext sources.now marks.now port result }
 {
     match source_at(sources, port) {
@@ -131,13 +131,13 @@ fn settle(
     requires known { port < length sources.now }
     requires as_long { length marks.old ≡ length sources.now }
     requires few { length sources.now ≤ 100000 }
-    requires settled { IsSettled sources.now marks.old }
-    requires none_open { NoneOpen marks.old }
-    ensures settled { OnOk result (IsSettled sources.now marks.new) }
-    ensures none_open { OnOk result (NoneOpen marks.new) }
-    ensures kept { KeepsLooked marks.old marks.new }
+    requires settled { AreMarksSettled sources.now marks.old }
+    requires none_open { NoPortOpen marks.old }
+    ensures settled { OnOk result (AreMarksSettled sources.now marks.new) }
+    ensures none_open { OnOk result (NoPortOpen marks.new) }
+    ensures kept { KeepsPortsLooked marks.old marks.new }
     ensures looked { OnOk result (slice_get marks.new port ≢ Some New) }
-    ensures cycle { (p : ℕ) → result ≡ Err (OriginFault.Cycle p) → Leads sources.now p p }
+    ensures cycle { (p : ℕ) → result ≡ Err (OriginFault.Cycle p) → LeadsBackwards sources.now p p }
 {
     match mark_at(marks, port) {
         Mark::New => {}
@@ -168,8 +168,8 @@ pub fn find_origins(alloc: Global, sources: &[Option<Source>]) -> Result<Vec<Rea
     requires inside { AreInside sources.now }
     requires few { length sources.now ≤ 100000 }
     ensures reached { IfOk result (λ v. AreReached sources.now v.items) }
-    ensures ends { OnOk result ((p : ℕ) → Leads sources.now p p → ⊥) }
-    ensures cycle { (p : ℕ) → result ≡ Err (OriginFault.Cycle p) → Leads sources.now p p }
+    ensures ends { OnOk result ((p : ℕ) → LeadsBackwards sources.now p p → ⊥) }
+    ensures cycle { (p : ℕ) → result ≡ Err (OriginFault.Cycle p) → LeadsBackwards sources.now p p }
 {
     let mut marks = vec![in alloc; Mark::New; sources.len()]?;
     'ports: for port in 0..sources.len() {

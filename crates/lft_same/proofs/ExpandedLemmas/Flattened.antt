@@ -5,7 +5,7 @@ use Rattle.std.proofs.lemmas.List.{append-nil, map-append}
 use Rattle.lft_lists.proofs.Mapped.{mapped, mapped_from, option_map_some, pair_at}
 use Rattle.lft_lists.proofs.Members.{Mem, mem_get, get_mem, mem_flat, mem_from_map, mem_from_flat, mem_filter, mem_from_filter}
 use Rattle.lft_tree.specs.Tree.{FileTree, ReactorTree, PortTree, ActionTree, TimerTree, ReactionTree, RefTree, TriggerTree, AtStartup as StartupTrigger, AtShutdown as ShutdownTrigger, OnRef, actions_of, connections_of, instances_of, ports_of, reactions_of, reactors_of, timers_of}
-use Rattle.lft_resolve.specs.Expansion.Paths.{along, Before}
+use Rattle.lft_resolve.specs.Expansion.Paths.{along, PathBefore}
 use Rattle.lft_resolve.specs.Instances.{Inside, Thing, thing_at, entered, given_in, main_instance, main_of, reactor_named, stands_for, time_in, Connects as TreeConnects}
 use Rattle.lft_resolve.specs.Sheets.{without_timers}
 use Rattle.lft_ir.specs.Parts.{Parts}
@@ -13,35 +13,35 @@ use Rattle.lft_ir.specs.declared.parts.{Name.{Name, TheVariants.{Port as PortNam
 use Rattle.lft_ir.specs.declared.parts.{Timer.Timer as FlatTimer, Reaction.Reaction as FlatReaction}
 use Rattle.lft_ir.specs.declared.parts.Trigger.{Trigger, TheVariants.{Startup, Shutdown, Timer as TimerTrigger, On}}
 use Rattle.lft_tag.specs.declared.Source.{Source}
-use Rattle.lft_program.specs.Located.{Located as TreeLocated, AreLocated, Declared as TreeDeclared, declared as tree_declared, declared_in as tree_declared_in, ports_in as tree_ports, actions_in as tree_actions, timers_in as tree_timers, things as tree_things}
+use Rattle.lft_program.specs.Located.{Located as TreeLocated, AreLocated, Declared as TreeDeclared, declared as tree_declared, declared_in as tree_declared_in, ports_in as tree_ports, actions_in as tree_actions, timers_in as tree_timers, declared_things as tree_things}
 use Rattle.lft_program.specs.Links.{IsSource as IsTreeSource}
-use Rattle.lft_program.specs.Flattening.{Flat, time_or_zero, IsName as IsTreeName, IsTrigger as IsTreeTrigger, IsPort as IsTreePort, IsAction as IsTreeAction, IsTimer as IsTreeTimer, IsReaction as IsTreeReaction, Means as TreeMeans, name_under, name_of_path as tree_name_of_path, name_of_thing as tree_name_of_thing, name_of_reaction as tree_name_of_reaction, names_of as tree_names_of}
+use Rattle.lft_program.specs.Flattening.{Flat, time_or_zero, IsFlatName as IsTreeName, IsTrigger as IsTreeTrigger, IsPort as IsTreePort, IsAction as IsTreeAction, IsTimer as IsTreeTimer, IsReaction as IsTreeReaction, NamesThing as TreeMeans, name_under, name_of_path as tree_name_of_path, name_of_thing as tree_name_of_thing, name_of_reaction as tree_name_of_reaction, names_of as tree_names_of}
 use Rattle.lft_program.proofs.{Listing.enumerate_from_at, Zipping.then_some}
 use Rattle.lft_classes.proofs.Rows.{map_alike}
 use Rattle.lft_same.specs.Expanded.Expanded.{Action, Contents, OnThing, Link, Port, Reaction, Timer}
-use Rattle.lft_same.specs.Expanded.Flat.{AreAll, Connects, Declared, IsAction, IsFlat, IsPort, IsReaction, IsSource, IsTimer, Located, Means, MeansTrigger, actions_in, declared, declared_in, name_behind, name_of_path, name_of_reaction, name_of_thing, names_along, names_of, ports_in, things, timers_in}
+use Rattle.lft_same.specs.Expanded.Flat.{AreAllInstances, JoinsThings, ExpandedItem, IsExpandedAction, IsFlat, IsExpandedPort, IsExpandedReaction, IsExpandedSource, IsExpandedTimer, LocatedContents, NamesExpandedThing, IsExpandedTrigger, expanded_actions, expanded_items, items_of_instance, name_behind, expanded_path_name, expanded_reaction_name, expanded_thing_name, names_along, names_of, expanded_ports, expanded_things, expanded_timers}
 use Rattle.lft_same.specs.inner.Expanded.Core.{things_for, triggers_for, expanded_tree, core_contents, link_of, core_links, core_reaction}
 
 -- ---- instances
 
 -- an instance of the tree, written out
-abbrev pub written_out : TreeLocated → Located
+abbrev pub written_out : TreeLocated → LocatedContents
 written_out x = record { path = x.path; contents = core_contents x.path x.inside }
 
 module _ (tree : FileTree) (all : List TreeLocated) (are : AreLocated tree all) where
   pub bodies_of : (path : List ℕ) → expanded_tree tree path ≡ option_map (core_contents path) (along (entered tree) (main_instance are.main) path)
   bodies_of path = ap (option_and_then (λ main. option_map (core_contents path) (along (entered tree) (main_instance main) path))) are.is_main
 
-  pub all_out : AreAll (expanded_tree tree) (map written_out all)
+  pub all_out : AreAllInstances (expanded_tree tree) (map written_out all)
   all_out = record {
     in_order = λ i j x y a b l.
         let u = mapped_from written_out all i x a in
         let v = mapped_from written_out all j y b in
-        let h : Before u.0.path v.0.path = are.in_order.in_order i j u.0.path v.0.path (mapped (λ (z : TreeLocated). z.path) all i u.0 u.1) (mapped (λ (z : TreeLocated). z.path) all j v.0 v.1) l in
-        subst (λ p. Before p y.path) (ap (λ (z : Located). z.path) u.2) (subst (λ q. Before u.0.path q) (ap (λ (z : Located). z.path) v.2) h);
+        let h : PathBefore u.0.path v.0.path = are.in_order.in_order i j u.0.path v.0.path (mapped (λ (z : TreeLocated). z.path) all i u.0 u.1) (mapped (λ (z : TreeLocated). z.path) all j v.0 v.1) l in
+        subst (λ p. PathBefore p y.path) (ap (λ (z : LocatedContents). z.path) u.2) (subst (λ q. PathBefore u.0.path q) (ap (λ (z : LocatedContents). z.path) v.2) h);
     each = λ i x a.
         let u = mapped_from written_out all i x a in
-        subst (λ (z : Located). expanded_tree tree z.path ≡ Some z.contents) u.2 (bodies_of u.0.path ∙ ap (option_map (core_contents u.0.path)) (are.inside i u.0 u.1));
+        subst (λ (z : LocatedContents). expanded_tree tree z.path ≡ Some z.contents) u.2 (bodies_of u.0.path ∙ ap (option_map (core_contents u.0.path)) (are.inside i u.0 u.1));
     every = λ path b at.
         let x = option_map_some (core_contents path) (along (entered tree) (main_instance are.main) path) b (sym (bodies_of path) ∙ at) in
         let k = are.in_order.all path (x.0, x.1) in
@@ -52,10 +52,10 @@ module _ (tree : FileTree) (all : List TreeLocated) (are : AreLocated tree all) 
 -- ---- what is declared
 
 module _ {X Y : Type 0} (kind : ReactorTree → List Y) (own : Contents → List X) (f : List ℕ → Inside → Y → X) (seen : (path : List ℕ) (x : Inside) → own (core_contents path x) ≡ map (f path x) (kind x.reactor)) where
-  abbrev pub turned : TreeDeclared Y → Declared X
+  abbrev pub turned : TreeDeclared Y → ExpandedItem X
   turned d = record { instance = d.instance; path = d.located.path; place = d.place; item = f d.located.path d.located.inside d.item }
 
-  abbrev pub made : ℕ → List ℕ → ℕ × X → Declared X
+  abbrev pub made : ℕ → List ℕ → ℕ × X → ExpandedItem X
   made n path d = record { instance = n; path = path; place = d.0; item = d.1 }
 
   abbrev pub tree_made : ℕ → TreeLocated → ℕ × Y → TreeDeclared Y
@@ -63,29 +63,29 @@ module _ {X Y : Type 0} (kind : ReactorTree → List Y) (own : Contents → List
 
   rows : (n k : ℕ) (x : TreeLocated) (ys : List Y) → map (made n x.path) (enumerate_from k (map (f x.path x.inside) ys)) ≡ map turned (map (tree_made n x) (enumerate_from k ys))
   rows n k x [] = refl
-  rows n k x (y ∷ ys) = ap (λ (l : List (Declared X)). made n x.path (k, f x.path x.inside y) ∷ l) (rows n (k + 1) x ys)
+  rows n k x (y ∷ ys) = ap (λ (l : List (ExpandedItem X)). made n x.path (k, f x.path x.inside y) ∷ l) (rows n (k + 1) x ys)
 
-  in_turned : (n : ℕ) (x : TreeLocated) → declared_in own (n, written_out x) ≡ map turned (tree_declared_in kind (n, x))
+  in_turned : (n : ℕ) (x : TreeLocated) → items_of_instance own (n, written_out x) ≡ map turned (tree_declared_in kind (n, x))
   in_turned n x = ap (λ l. map (made n x.path) (enumerate_from 0 l)) (seen x.path x.inside) ∙ rows n 0 x (kind x.inside.reactor)
 
-  all_turned : (k : ℕ) (xs : List TreeLocated) → flat_map (declared_in own) (enumerate_from k (map written_out xs)) ≡ map turned (flat_map (tree_declared_in kind) (enumerate_from k xs))
+  all_turned : (k : ℕ) (xs : List TreeLocated) → flat_map (items_of_instance own) (enumerate_from k (map written_out xs)) ≡ map turned (flat_map (tree_declared_in kind) (enumerate_from k xs))
   all_turned k [] = refl
   all_turned k (x ∷ xs) =
-      ap (λ l. l ++ flat_map (declared_in own) (enumerate_from (k + 1) (map written_out xs))) (in_turned k x)
+      ap (λ l. l ++ flat_map (items_of_instance own) (enumerate_from (k + 1) (map written_out xs))) (in_turned k x)
       ∙ ap (λ l. map turned (tree_declared_in kind (k, x)) ++ l) (all_turned (k + 1) xs)
       ∙ sym (map-append turned (tree_declared_in kind (k, x)) (flat_map (tree_declared_in kind) (enumerate_from (k + 1) xs)))
 
-  pub declared_turned : (xs : List TreeLocated) → declared own (map written_out xs) ≡ map turned (tree_declared kind xs)
+  pub declared_turned : (xs : List TreeLocated) → expanded_items own (map written_out xs) ≡ map turned (tree_declared kind xs)
   declared_turned xs = all_turned 0 xs
 
-  things_rows : (name : X → List ℕ) (called : Y → List ℕ) → ((path : List ℕ) (x : Inside) (y : Y) → name (f path x y) ≡ called y) → (ds : List (TreeDeclared Y)) → things name (map turned ds) ≡ tree_things called ds
+  things_rows : (name : X → List ℕ) (called : Y → List ℕ) → ((path : List ℕ) (x : Inside) (y : Y) → name (f path x y) ≡ called y) → (ds : List (TreeDeclared Y)) → expanded_things name (map turned ds) ≡ tree_things called ds
   things_rows name called same [] = refl
   things_rows name called same (d ∷ ds) =
-      ap (λ n. thing_at d.located.path n ∷ things name (map turned ds)) (same d.located.path d.located.inside d.item)
+      ap (λ n. thing_at d.located.path n ∷ expanded_things name (map turned ds)) (same d.located.path d.located.inside d.item)
       ∙ ap (λ (l : List Thing). thing_at d.located.path (called d.item) ∷ l) (things_rows name called same ds)
 
-  pub things_turned : (name : X → List ℕ) (called : Y → List ℕ) → ((path : List ℕ) (x : Inside) (y : Y) → name (f path x y) ≡ called y) → (xs : List TreeLocated) → things name (declared own (map written_out xs)) ≡ tree_things called (tree_declared kind xs)
-  things_turned name called same xs = ap (things name) (declared_turned xs) ∙ things_rows name called same (tree_declared kind xs)
+  pub things_turned : (name : X → List ℕ) (called : Y → List ℕ) → ((path : List ℕ) (x : Inside) (y : Y) → name (f path x y) ≡ called y) → (xs : List TreeLocated) → expanded_things name (expanded_items own (map written_out xs)) ≡ tree_things called (tree_declared kind xs)
+  things_turned name called same xs = ap (expanded_things name) (declared_turned xs) ∙ things_rows name called same (tree_declared kind xs)
 
 abbrev pub port_out : List ℕ → Inside → PortTree → Port
 port_out path x p = record { name = p.name; is_input = p.is_input }
@@ -99,13 +99,13 @@ timer_out path x t = record { name = t.name; offset = time_or_zero x t.offset; p
 abbrev pub reaction_out : List ℕ → Inside → ReactionTree → Reaction
 reaction_out path x r = core_reaction path x.reactor r
 
-pub ports_out : (all : List TreeLocated) → ports_in (map written_out all) ≡ tree_ports all
+pub ports_out : (all : List TreeLocated) → expanded_ports (map written_out all) ≡ tree_ports all
 ports_out all = things_turned ports_of (λ c. c.ports) port_out (λ path x. refl) (λ p. p.name) (λ p. p.name) (λ path x y. refl) all
 
-pub actions_out : (all : List TreeLocated) → actions_in (map written_out all) ≡ tree_actions all
+pub actions_out : (all : List TreeLocated) → expanded_actions (map written_out all) ≡ tree_actions all
 actions_out all = things_turned actions_of (λ c. c.actions) action_out (λ path x. refl) (λ p. p.name) (λ p. p.name) (λ path x y. refl) all
 
-pub timers_out : (all : List TreeLocated) → timers_in (map written_out all) ≡ tree_timers all
+pub timers_out : (all : List TreeLocated) → expanded_timers (map written_out all) ≡ tree_timers all
 timers_out all = things_turned timers_of (λ c. c.timers) timer_out (λ path x. refl) (λ p. p.name) (λ p. p.name) (λ path x y. refl) all
 
 -- ---- connections
@@ -120,7 +120,7 @@ abbrev pub linked : Option ℕ → Thing → Thing → Link
 linked d s t = record { from = s; to = t; delay = d }
 
 module _ (tree : FileTree) where
-  pub forth : (a b : Thing) (delay : Option ℕ) → TreeConnects tree a b delay → Connects (expanded_tree tree) a b delay
+  pub forth : (a b : Thing) (delay : Option ℕ) → TreeConnects tree a b delay → JoinsThings (expanded_tree tree) a b delay
   forth a b delay c =
       let x : Inside = c.inside in
       let at : expanded_tree tree c.path ≡ Some (core_contents c.path x) = ap (option_and_then (λ main. option_map (core_contents c.path) (along (entered tree) (main_instance main) c.path))) c.is_inside.1 ∙ ap (option_map (core_contents c.path)) c.is_inside.2 in
@@ -134,7 +134,7 @@ module _ (tree : FileTree) where
       let k = get_mem (linked delay a b) (flat_map (core_links c.path x) (connections_of x.reactor)) in_all in
       (c.path, core_contents c.path x, k.0, at, k.1)
 
-  pub back : (a b : Thing) (delay : Option ℕ) → Connects (expanded_tree tree) a b delay → TreeConnects tree a b delay
+  pub back : (a b : Thing) (delay : Option ℕ) → JoinsThings (expanded_tree tree) a b delay → TreeConnects tree a b delay
   back a b delay c =
       let main = then_some (λ main. option_map (core_contents c.0) (along (entered tree) (main_instance main) c.0)) (main_of tree) c.1 c.3 in
       let x = option_map_some (core_contents c.0) (along (entered tree) (main_instance main.0) c.0) c.1 main.2 in
@@ -165,23 +165,23 @@ module _ (tree : FileTree) where
         is_delay = ap (λ (l : Link). l.delay) t.2;
       }
 
-  source_out : (ports : List Thing) (t : Thing) (s : Option Source) → IsTreeSource tree ports t s → IsSource (expanded_tree tree) ports t s
+  source_out : (ports : List Thing) (t : Thing) (s : Option Source) → IsTreeSource tree ports t s → IsExpandedSource (expanded_tree tree) ports t s
   source_out ports t None none = λ from delay c. none from delay (back from t delay c)
   source_out ports t (Some s) one = (one.0, one.1, forth one.0 t s.delay one.2)
 
 -- ---- reactions
 
-means_out : (all : List TreeLocated) (t : Thing) (n : Name) → TreeMeans all t n → Means (map written_out all) t n
+means_out : (all : List TreeLocated) (t : Thing) (n : Name) → TreeMeans all t n → NamesExpandedThing (map written_out all) t n
 means_out all t (PortName p) h = ap (λ l. slice_get l p) (ports_out all) ∙ h
 means_out all t (ActionName a) h = ap (λ l. slice_get l a) (actions_out all) ∙ h
 
-names_out : (all : List TreeLocated) (at : TreeLocated) (refs : List RefTree) (ns : List Name) → AllZip (IsTreeName all at) refs ns → AllZip (Means (map written_out all)) (things_for at.path at.inside.reactor refs) ns
+names_out : (all : List TreeLocated) (at : TreeLocated) (refs : List RefTree) (ns : List Name) → AllZip (IsTreeName all at) refs ns → AllZip (NamesExpandedThing (map written_out all)) (things_for at.path at.inside.reactor refs) ns
 names_out all at [] [] h = h
 names_out all at [] (n ∷ ns) h = absurd h
 names_out all at (ref ∷ refs) [] h = absurd h
-names_out all at (ref ∷ refs) (n ∷ ns) h = subst (λ o. AllZip (Means (map written_out all)) (cons_option o (things_for at.path at.inside.reactor refs)) (n ∷ ns)) (sym h.0.1) (means_out all h.0.0 n h.0.2, names_out all at refs ns h.1)
+names_out all at (ref ∷ refs) (n ∷ ns) h = subst (λ o. AllZip (NamesExpandedThing (map written_out all)) (cons_option o (things_for at.path at.inside.reactor refs)) (n ∷ ns)) (sym h.0.1) (means_out all h.0.0 n h.0.2, names_out all at refs ns h.1)
 
-triggers_out : (all : List TreeLocated) (at : TreeLocated) (ts : List TriggerTree) (us : List Trigger) → AllZip (IsTreeTrigger all at) ts us → AllZip (MeansTrigger (map written_out all)) (flat_map (triggers_for at.path at.inside.reactor) ts) us
+triggers_out : (all : List TreeLocated) (at : TreeLocated) (ts : List TriggerTree) (us : List Trigger) → AllZip (IsTreeTrigger all at) ts us → AllZip (IsExpandedTrigger (map written_out all)) (flat_map (triggers_for at.path at.inside.reactor) ts) us
 triggers_out all at [] [] h = h
 triggers_out all at [] (u ∷ us) h = absurd h
 triggers_out all at (t ∷ ts) [] h = absurd h
@@ -189,22 +189,22 @@ triggers_out all at (StartupTrigger ∷ ts) (u ∷ us) h = (h.0, triggers_out al
 triggers_out all at (ShutdownTrigger ∷ ts) (u ∷ us) h = (h.0, triggers_out all at ts us h.1)
 triggers_out all at (OnRef ref ∷ ts) (Startup ∷ us) h = absurd h.0
 triggers_out all at (OnRef ref ∷ ts) (Shutdown ∷ us) h = absurd h.0
-triggers_out all at (OnRef ref ∷ ts) (TimerTrigger n ∷ us) h = subst (λ o. AllZip (MeansTrigger (map written_out all)) (map OnThing (option_to_list o) ++ flat_map (triggers_for at.path at.inside.reactor) ts) (TimerTrigger n ∷ us)) (sym h.0.1) (ap (λ l. slice_get l n) (timers_out all) ∙ h.0.2, triggers_out all at ts us h.1)
-triggers_out all at (OnRef ref ∷ ts) (On n ∷ us) h = subst (λ o. AllZip (MeansTrigger (map written_out all)) (map OnThing (option_to_list o) ++ flat_map (triggers_for at.path at.inside.reactor) ts) (On n ∷ us)) (sym h.0.1) (means_out all h.0.0 n h.0.2, triggers_out all at ts us h.1)
+triggers_out all at (OnRef ref ∷ ts) (TimerTrigger n ∷ us) h = subst (λ o. AllZip (IsExpandedTrigger (map written_out all)) (map OnThing (option_to_list o) ++ flat_map (triggers_for at.path at.inside.reactor) ts) (TimerTrigger n ∷ us)) (sym h.0.1) (ap (λ l. slice_get l n) (timers_out all) ∙ h.0.2, triggers_out all at ts us h.1)
+triggers_out all at (OnRef ref ∷ ts) (On n ∷ us) h = subst (λ o. AllZip (IsExpandedTrigger (map written_out all)) (map OnThing (option_to_list o) ++ flat_map (triggers_for at.path at.inside.reactor) ts) (On n ∷ us)) (sym h.0.1) (means_out all h.0.0 n h.0.2, triggers_out all at ts us h.1)
 
 -- ---- the whole
 
 module _ (tree : FileTree) (all : List TreeLocated) where
-  port_is : (d : TreeDeclared PortTree) (port : FlatPort) → Mem d (tree_declared ports_of all) → IsTreePort tree all d port → IsPort (expanded_tree tree) (map written_out all) (turned ports_of (λ c. c.ports) port_out (λ path x. refl) d) port
-  port_is d port m h = record { instance = h.instance; direction = h.direction; source = subst (λ l. IsSource (expanded_tree tree) l (thing_at d.located.path d.item.name) port.source) (sym (ports_out all)) (source_out tree (tree_ports all) (thing_at d.located.path d.item.name) port.source h.source) }
+  port_is : (d : TreeDeclared PortTree) (port : FlatPort) → Mem d (tree_declared ports_of all) → IsTreePort tree all d port → IsExpandedPort (expanded_tree tree) (map written_out all) (turned ports_of (λ c. c.ports) port_out (λ path x. refl) d) port
+  port_is d port m h = record { instance = h.instance; direction = h.direction; source = subst (λ l. IsExpandedSource (expanded_tree tree) l (thing_at d.located.path d.item.name) port.source) (sym (ports_out all)) (source_out tree (tree_ports all) (thing_at d.located.path d.item.name) port.source h.source) }
 
-  action_is : (d : TreeDeclared ActionTree) (a : FlatAction) → Mem d (tree_declared actions_of all) → IsTreeAction d a → IsAction (turned actions_of (λ c. c.actions) action_out (λ path x. refl) d) a
+  action_is : (d : TreeDeclared ActionTree) (a : FlatAction) → Mem d (tree_declared actions_of all) → IsTreeAction d a → IsExpandedAction (turned actions_of (λ c. c.actions) action_out (λ path x. refl) d) a
   action_is d a m h = record { instance = h.instance; physical = h.physical; min_delay = h.min_delay }
 
-  timer_is : (d : TreeDeclared TimerTree) (t : FlatTimer) → Mem d (tree_declared timers_of all) → IsTreeTimer d t → IsTimer (turned timers_of (λ c. c.timers) timer_out (λ path x. refl) d) t
+  timer_is : (d : TreeDeclared TimerTree) (t : FlatTimer) → Mem d (tree_declared timers_of all) → IsTreeTimer d t → IsExpandedTimer (turned timers_of (λ c. c.timers) timer_out (λ path x. refl) d) t
   timer_is d t m h = record { instance = h.instance; offset = h.offset; period = h.period }
 
-  reaction_is : (d : TreeDeclared ReactionTree) (r : FlatReaction) → Mem d (tree_declared reactions_of all) → IsTreeReaction all d r → IsReaction (map written_out all) (turned reactions_of (λ c. c.reactions) reaction_out (λ path x. refl) d) r
+  reaction_is : (d : TreeDeclared ReactionTree) (r : FlatReaction) → Mem d (tree_declared reactions_of all) → IsTreeReaction all d r → IsExpandedReaction (map written_out all) (turned reactions_of (λ c. c.reactions) reaction_out (λ path x. refl) d) r
   reaction_is d r m h = record {
     instance = h.instance;
     place = h.place;
@@ -260,37 +260,37 @@ module _ (tree : FileTree) (all : List TreeLocated) (are : AreLocated tree all) 
       let inner : flat_map (λ w. name_under tree w path) (option_to_list (entered tree x k)) ≡ name_under tree n.0 path = ap (λ v. flat_map (λ w. name_under tree w path) (option_to_list v)) n.1 ∙ append-nil (name_under tree n.0 path) in
       ap (λ v. v ++ names_along (expanded_tree tree) (front ++ k ∷ []) path) (mine ∙ sym own) ∙ ap (λ v. flat_map (λ j. codes "." ++ j.name) (option_to_list (slice_get (instances_of x.reactor) k)) ++ v) (rest ∙ sym inner)
 
-  path_named : (x : TreeLocated) → Mem x all → name_of_path (expanded_tree tree) x.path ≡ tree_name_of_path tree are.main x.path
+  path_named : (x : TreeLocated) → Mem x all → expanded_path_name (expanded_tree tree) x.path ≡ tree_name_of_path tree are.main x.path
   path_named x m = let i = get_mem x all m in ap (λ v. codes "main" ++ v) (under [] x.path (main_instance are.main) x.inside refl (are.inside i.0 x i.1))
 
-  thing_named : {Y : Type 0} (kind : ReactorTree → List Y) (called : Y → List ℕ) (t : Thing) → Mem t (tree_things called (tree_declared kind all)) → name_of_thing (expanded_tree tree) t ≡ tree_name_of_thing tree are.main t
+  thing_named : {Y : Type 0} (kind : ReactorTree → List Y) (called : Y → List ℕ) (t : Thing) → Mem t (tree_things called (tree_declared kind all)) → expanded_thing_name (expanded_tree tree) t ≡ tree_name_of_thing tree are.main t
   thing_named {Y} kind called t m =
       let d = mem_from_map (λ (d : TreeDeclared Y). thing_at d.located.path (called d.item)) (tree_declared kind all) t m in
-      let n : name_of_path (expanded_tree tree) d.0.located.path ≡ tree_name_of_path tree are.main d.0.located.path = path_named d.0.located (located_of kind all d.0 d.1) in
+      let n : expanded_path_name (expanded_tree tree) d.0.located.path ≡ tree_name_of_path tree are.main d.0.located.path = path_named d.0.located (located_of kind all d.0 d.1) in
       let p : d.0.located.path ≡ t.path = ap (λ (v : Thing). v.path) d.2 in
-      ap (λ v. v ++ codes "." ++ t.name) (subst (λ q. name_of_path (expanded_tree tree) q ≡ tree_name_of_path tree are.main q) p n)
+      ap (λ v. v ++ codes "." ++ t.name) (subst (λ q. expanded_path_name (expanded_tree tree) q ≡ tree_name_of_path tree are.main q) p n)
 
-  things_named : {Y : Type 0} (kind : ReactorTree → List Y) (called : Y → List ℕ) (ts : List Thing) → ts ≡ tree_things called (tree_declared kind all) → map (name_of_thing (expanded_tree tree)) ts ≡ map (tree_name_of_thing tree are.main) (tree_things called (tree_declared kind all))
-  things_named kind called ts e = ap (map (name_of_thing (expanded_tree tree))) e ∙ map_alike (name_of_thing (expanded_tree tree)) (tree_name_of_thing tree are.main) (tree_things called (tree_declared kind all)) (thing_named kind called)
+  things_named : {Y : Type 0} (kind : ReactorTree → List Y) (called : Y → List ℕ) (ts : List Thing) → ts ≡ tree_things called (tree_declared kind all) → map (expanded_thing_name (expanded_tree tree)) ts ≡ map (tree_name_of_thing tree are.main) (tree_things called (tree_declared kind all))
+  things_named kind called ts e = ap (map (expanded_thing_name (expanded_tree tree))) e ∙ map_alike (expanded_thing_name (expanded_tree tree)) (tree_name_of_thing tree are.main) (tree_things called (tree_declared kind all)) (thing_named kind called)
 
-  abbrev pub reaction_turned : TreeDeclared ReactionTree → Declared Reaction
+  abbrev pub reaction_turned : TreeDeclared ReactionTree → ExpandedItem Reaction
   reaction_turned = turned reactions_of (λ c. c.reactions) reaction_out (λ path x. refl)
 
-  reactions_named : map (name_of_reaction (expanded_tree tree)) (declared (λ c. c.reactions) (map written_out all)) ≡ map (tree_name_of_reaction tree are.main) (tree_declared reactions_of all)
+  reactions_named : map (expanded_reaction_name (expanded_tree tree)) (expanded_items (λ c. c.reactions) (map written_out all)) ≡ map (tree_name_of_reaction tree are.main) (tree_declared reactions_of all)
   reactions_named =
-      ap (map (name_of_reaction (expanded_tree tree))) (declared_turned reactions_of (λ c. c.reactions) reaction_out (λ path x. refl) all)
-      ∙ map_twice reaction_turned (name_of_reaction (expanded_tree tree)) (tree_declared reactions_of all)
-      ∙ map_alike (λ d. name_of_reaction (expanded_tree tree) (reaction_turned d)) (tree_name_of_reaction tree are.main) (tree_declared reactions_of all) (λ d m. ap (λ v. v ++ codes "#" ++ decimal (d.place + 1)) (path_named d.located (located_of reactions_of all d m)))
+      ap (map (expanded_reaction_name (expanded_tree tree))) (declared_turned reactions_of (λ c. c.reactions) reaction_out (λ path x. refl) all)
+      ∙ map_twice reaction_turned (expanded_reaction_name (expanded_tree tree)) (tree_declared reactions_of all)
+      ∙ map_alike (λ d. expanded_reaction_name (expanded_tree tree) (reaction_turned d)) (tree_name_of_reaction tree are.main) (tree_declared reactions_of all) (λ d m. ap (λ v. v ++ codes "#" ++ decimal (d.place + 1)) (path_named d.located (located_of reactions_of all d m)))
 
-  paths_named : map (λ x. name_of_path (expanded_tree tree) x.path) (map written_out all) ≡ map (λ x. tree_name_of_path tree are.main x.path) all
-  paths_named = map_twice written_out (λ x. name_of_path (expanded_tree tree) x.path) all ∙ map_alike (λ x. name_of_path (expanded_tree tree) x.path) (λ x. tree_name_of_path tree are.main x.path) all path_named
+  paths_named : map (λ x. expanded_path_name (expanded_tree tree) x.path) (map written_out all) ≡ map (λ x. tree_name_of_path tree are.main x.path) all
+  paths_named = map_twice written_out (λ x. expanded_path_name (expanded_tree tree) x.path) all ∙ map_alike (λ x. expanded_path_name (expanded_tree tree) x.path) (λ x. tree_name_of_path tree are.main x.path) all path_named
 
   names_same : names_of (expanded_tree tree) (map written_out all) ≡ tree_names_of tree are.main all
   names_same = λ i. record {
     instances = paths_named i;
-    ports = things_named ports_of (λ p. p.name) (ports_in (map written_out all)) (ports_out all) i;
-    actions = things_named actions_of (λ a. a.name) (actions_in (map written_out all)) (actions_out all) i;
-    timers = things_named timers_of (λ t. t.name) (timers_in (map written_out all)) (timers_out all) i;
+    ports = things_named ports_of (λ p. p.name) (expanded_ports (map written_out all)) (ports_out all) i;
+    actions = things_named actions_of (λ a. a.name) (expanded_actions (map written_out all)) (actions_out all) i;
+    timers = things_named timers_of (λ t. t.name) (expanded_timers (map written_out all)) (timers_out all) i;
     reactions = reactions_named i;
   }
 
@@ -301,10 +301,10 @@ flat_out tree p flat =
     record {
       all = map written_out all;
       are_all = all_out tree all flat.are_located;
-      ports = subst (λ ds. AllZip (IsPort (expanded_tree tree) (map written_out all)) ds p.ports) (sym (declared_turned ports_of (λ c. c.ports) port_out (λ path x. refl) all)) (zip_from (turned ports_of (λ c. c.ports) port_out (λ path x. refl)) (IsTreePort tree all) (IsPort (expanded_tree tree) (map written_out all)) (tree_declared ports_of all) p.ports (port_is tree all) flat.ports);
+      ports = subst (λ ds. AllZip (IsExpandedPort (expanded_tree tree) (map written_out all)) ds p.ports) (sym (declared_turned ports_of (λ c. c.ports) port_out (λ path x. refl) all)) (zip_from (turned ports_of (λ c. c.ports) port_out (λ path x. refl)) (IsTreePort tree all) (IsExpandedPort (expanded_tree tree) (map written_out all)) (tree_declared ports_of all) p.ports (port_is tree all) flat.ports);
       origins = flat.origins;
-      actions = subst (λ ds. AllZip IsAction ds p.actions) (sym (declared_turned actions_of (λ c. c.actions) action_out (λ path x. refl) all)) (zip_from (turned actions_of (λ c. c.actions) action_out (λ path x. refl)) IsTreeAction IsAction (tree_declared actions_of all) p.actions (action_is tree all) flat.actions);
-      timers = subst (λ ds. AllZip IsTimer ds p.timers) (sym (declared_turned timers_of (λ c. c.timers) timer_out (λ path x. refl) all)) (zip_from (turned timers_of (λ c. c.timers) timer_out (λ path x. refl)) IsTreeTimer IsTimer (tree_declared timers_of all) p.timers (timer_is tree all) flat.timers);
-      reactions = subst (λ ds. AllZip (IsReaction (map written_out all)) ds p.reactions) (sym (declared_turned reactions_of (λ c. c.reactions) reaction_out (λ path x. refl) all)) (zip_from (turned reactions_of (λ c. c.reactions) reaction_out (λ path x. refl)) (IsTreeReaction all) (IsReaction (map written_out all)) (tree_declared reactions_of all) p.reactions (reaction_is tree all) flat.reactions);
+      actions = subst (λ ds. AllZip IsExpandedAction ds p.actions) (sym (declared_turned actions_of (λ c. c.actions) action_out (λ path x. refl) all)) (zip_from (turned actions_of (λ c. c.actions) action_out (λ path x. refl)) IsTreeAction IsExpandedAction (tree_declared actions_of all) p.actions (action_is tree all) flat.actions);
+      timers = subst (λ ds. AllZip IsExpandedTimer ds p.timers) (sym (declared_turned timers_of (λ c. c.timers) timer_out (λ path x. refl) all)) (zip_from (turned timers_of (λ c. c.timers) timer_out (λ path x. refl)) IsTreeTimer IsExpandedTimer (tree_declared timers_of all) p.timers (timer_is tree all) flat.timers);
+      reactions = subst (λ ds. AllZip (IsExpandedReaction (map written_out all)) ds p.reactions) (sym (declared_turned reactions_of (λ c. c.reactions) reaction_out (λ path x. refl) all)) (zip_from (turned reactions_of (λ c. c.reactions) reaction_out (λ path x. refl)) (IsTreeReaction all) (IsExpandedReaction (map written_out all)) (tree_declared reactions_of all) p.reactions (reaction_is tree all) flat.reactions);
       names = flat.names ∙ sym (names_same tree all flat.are_located);
     }

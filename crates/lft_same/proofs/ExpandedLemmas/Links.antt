@@ -2,7 +2,7 @@
 use Rattle.std.proofs.Common.{◌≡◌, inl, inr, ℕ, Bool, true, false, List, [], ◌∷◌, ◌++◌, map, flat_map, filter_map, Option, Some, option_map, refl, sym, ap, ◌∙◌}
 use Rattle.std.{specs.{List.{zip, cons_option}, Option.option_and_then}, proofs.lemmas.List.append-nil}
 use Rattle.lft_lists.proofs.Members.{Mem, mem_from_flat, mem_get}
-use Rattle.lft_elaborate.specs.inner.Channels.Lowered.{AreJoined, single}
+use Rattle.lft_elaborate.specs.inner.Channels.Lowered.{AreJoinedPlaces, single}
 use Rattle.lft_tree.specs.Tree.{RefTree, TimeTree, ConnectionTree}
 use Rattle.lft_resolve.specs.Instances.{Inside, Thing, stands_for, time_in}
 use Rattle.lft_same.specs.{Expanded.{Expanded.Link, Whole.pairs}, inner.Expanded.Core.{link_of, core_links}}
@@ -43,7 +43,7 @@ module _ (path : List ℕ) (x : Inside) (delay : Option TimeTree) (th : RefTree 
       ∙ ap (λ (l : List Link). link_at p ∷ l) (singles_linked ps (λ q m. stand q (inr m)))
 
   -- as many connections as pairs have the links of the pairs, in order
-  pub joined_links : (left right : List RefTree) (broadcast : Bool) (cs : List ConnectionTree) → AreJoined left right broadcast delay cs → Stand left → Stand right → flat_map (core_links path x) cs ≡ map (λ (p : Thing × Thing). linked (option_map (time_in x) delay) p.0 p.1) (pairs broadcast (map th left) (map th right))
+  pub joined_links : (left right : List RefTree) (broadcast : Bool) (cs : List ConnectionTree) → AreJoinedPlaces left right broadcast delay cs → Stand left → Stand right → flat_map (core_links path x) cs ≡ map (λ (p : Thing × Thing). linked (option_map (time_in x) delay) p.0 p.1) (pairs broadcast (map th left) (map th right))
   joined_links left right broadcast cs joins f t =
       ap (flat_map (core_links path x)) (joined_pairs left right broadcast delay cs joins)
       ∙ singles_linked (pairs broadcast left right) (λ p m. let r = pairs_mem broadcast left right p m in (f p.0 r.0, t p.1 r.1))

@@ -4,7 +4,7 @@ use Rattle.std.specs.List.{flat_map, zip}
 use Rattle.std.proofs.lemmas.{Nat.{div_below, div-add-mod'}, List.{length-map, map-append}, Option.slice_get_within, Slice.Zip.length-zip}
 use Rattle.lft_lists.proofs.{Places.{get_left, get_right, same_items}, Mapped.{mapped, pair_at}}
 use Rattle.lft_tree.specs.Tree.{RefTree, TimeTree, ConnectionTree}
-use Rattle.lft_elaborate.specs.inner.Channels.{Channels.{joined, source}, Lowered.{AreJoined, single}}
+use Rattle.lft_elaborate.specs.inner.Channels.{Channels.{joined, left_channel}, Lowered.{AreJoinedPlaces, single}}
 use Rattle.lft_same.specs.Expanded.Whole.{pairs}
 
 -- a list over and over
@@ -53,12 +53,12 @@ pairs_length {X} true (x ∷ xs) right =
     all a n = grind arith
 
 -- the pair at a place
-pub pairs_at : {X : Type 0} (broadcast : Bool) (left right : List X) (k : ℕ) (from to : X) → slice_get left (source (length left) broadcast k) ≡ Some from → slice_get right k ≡ Some to → slice_get (pairs broadcast left right) k ≡ Some (from, to)
+pub pairs_at : {X : Type 0} (broadcast : Bool) (left right : List X) (k : ℕ) (from to : X) → slice_get left (left_channel (length left) broadcast k) ≡ Some from → slice_get right k ≡ Some to → slice_get (pairs broadcast left right) k ≡ Some (from, to)
 pairs_at false left right k from to a b = pair_at left right k from to a b
 pairs_at true left right k from to a b = pair_at (flat_map (λ r. left) right) right k from to (over_mod left right k from (slice_get_within right k to b) a) b
 
 -- connections one by one are those of the pairs, in order
-pub joined_pairs : (left right : List RefTree) (broadcast : Bool) (delay : Option TimeTree) (cs : List ConnectionTree) → AreJoined left right broadcast delay cs → cs ≡ map (λ p. single delay p.0 p.1) (pairs broadcast left right)
+pub joined_pairs : (left right : List RefTree) (broadcast : Bool) (delay : Option TimeTree) (cs : List ConnectionTree) → AreJoinedPlaces left right broadcast delay cs → cs ≡ map (λ p. single delay p.0 p.1) (pairs broadcast left right)
 joined_pairs left right broadcast delay cs joins = same_items cs made long same
   where
     made : List ConnectionTree

@@ -6,7 +6,7 @@ use Rattle.std.proofs.lemmas.{List.{append-nil, length-map}, Slice.Eq.bytes_eq-D
 use Rattle.lft_lists.proofs.{Mapped.enumerate_at, Members.{Mem, mem_flat, mem_from_flat, mem_from_map, mem_get, get_mem, mem_map}}
 use Rattle.lft_resolve.specs.Instances.{thing_at}
 use Rattle.lft_whole.specs.declared.{sources.source.SourceFile.SourceFile, tree.Instance.Instance}
-use Rattle.lft_same.specs.Expanded.Instances.{Inner, Inside, Widths, inners, inners_at, inside_of, numbers, numbers_at, numbers_named, place_named, written}
+use Rattle.lft_same.specs.Expanded.Instances.{Inner, Inside, Widths, inners, inners_at, inside_of, numbers, numbers_at, numbers_named, place_named, name_with_number}
 use Rattle.lft_same.specs.Expanded.{Reactors.members_of, Whole.{crossed, inner_thing, inside_named, new_in, things_named}}
 use Rattle.lft_same.proofs.FitsLemmas.ClassNames.{position_lost}
 use Rattle.lft_classes.specs.Shapes.{width_of}
@@ -61,7 +61,7 @@ all_kept {X} {Y} f (x ∷ xs) kept = go (f x) refl (all_kept f xs (λ z m. kept 
 
 module _ (files : List SourceFile) (w : Widths) (x : Inside) (m file : ℕ) (i : Instance) (is_member : slice_get (members_of files x.class) m ≡ Some (file, member.Instance i)) where
   abbrev pub inner_at : Option ℕ → Inner
-  inner_at n = record { name = written (string_bytes i.name.text) n; new = (file, i) }
+  inner_at n = record { name = name_with_number (string_bytes i.name.text) n; new = (file, i) }
 
   -- each one of a bank stands among the instances
   pub is_inner : (n : Option ℕ) → Mem n (numbers i.width (w x m)) → Mem (inner_at n) (inners files w x)
@@ -75,9 +75,9 @@ module _ (files : List SourceFile) (w : Widths) (x : Inside) (m file : ℕ) (i :
   pub is_found : (path p : List ℕ) (n : Option ℕ × Option ℕ) → Mem n.0 (numbers i.width (w x m)) → inner_thing files w path x (string_bytes i.name.text) p n ≡ None → ⊥
   is_found path p n k none =
       let at = get_mem (inner_at n.0) (inners files w x) (is_inner n.0 k) in
-      position_lost (λ (j : Inner). bytes_eq (written (string_bytes i.name.text) n.0) j.name) (inners files w x) at.0 (inner_at n.0) at.1 ((bytes_eq-Decides (written (string_bytes i.name.text) n.0) (written (string_bytes i.name.text) n.0)).1 refl) (unmapped (position (λ (j : Inner). bytes_eq (written (string_bytes i.name.text) n.0) j.name) (inners files w x)) none)
+      position_lost (λ (j : Inner). bytes_eq (name_with_number (string_bytes i.name.text) n.0) j.name) (inners files w x) at.0 (inner_at n.0) at.1 ((bytes_eq-Decides (name_with_number (string_bytes i.name.text) n.0) (name_with_number (string_bytes i.name.text) n.0)).1 refl) (unmapped (position (λ (j : Inner). bytes_eq (name_with_number (string_bytes i.name.text) n.0) j.name) (inners files w x)) none)
     where
-      unmapped : (o : Option ℕ) → option_map (λ k. thing_at (path ++ k ∷ []) (written p n.1)) o ≡ None → o ≡ None
+      unmapped : (o : Option ℕ) → option_map (λ k. thing_at (path ++ k ∷ []) (name_with_number p n.1)) o ≡ None → o ≡ None
       unmapped None e = refl
       unmapped (Some y) e = absurd (cc)
 

@@ -10,7 +10,8 @@ use Rattle.lft_whole.specs.declared.{sources.source.SourceFile.SourceFile, tree.
 use Rattle.lft_classes.specs.declared.scopes.Class.{Class}
 use Rattle.lft_classes.specs.inner.Scopes.{AreScopes, IsImport, IsImported, IsMeant, IsOf, IsOwn, meaning_in, number_in, reactors_in, reactors_before}
 use Rattle.lft_classes.proofs.Numbering.{at_file, file_of}
-use Rattle.lft_same.specs.{Expanded.Reactors.{class_named, imported_by, imported_class, is_called, is_named, own_class, reactor_of}, inner.Fits.Fits.number_at}
+use Rattle.lft_same.specs.Expanded.Reactors.{class_named, imported_by, imported_class, is_reactor_called, is_named, own_class, reactor_of}
+use Rattle.lft_same.specs.inner.Fits.Fits.{number_at}
 use Rattle.lft_same.proofs.ExpandedLemmas.Flattened.{unzip}
 use Rattle.lft_program.proofs.Zipping.{then_some}
 
@@ -47,9 +48,9 @@ own_place files file c stands is = let f = file_of files c.number c.file c.react
 -- the reactor of this name that stands in a file
 pub own_is : (files : List SourceFile) (scopes : _) → AreScopes files scopes → (file : ℕ) (q : List ℕ) (at : ℕ × ℕ) → own_class files file q ≡ Some at → (c : Class) × IsOwn files file q c × IsAt files c at
 own_is files scopes are file q at e =
-    let s = then_some (λ (f : SourceFile). option_map (λ k. (file, k)) (position (is_called q) f.tree.reactors.items)) (slice_get files file) at e in
-    let k = option_map_some (λ k. (file, k)) (position (is_called q) s.0.tree.reactors.items) at s.2 in
-    let r = position_found (is_called q) s.0.tree.reactors.items k.0 k.1 in
+    let s = then_some (λ (f : SourceFile). option_map (λ k. (file, k)) (position (is_reactor_called q) f.tree.reactors.items)) (slice_get files file) at e in
+    let k = option_map_some (λ k. (file, k)) (position (is_reactor_called q) s.0.tree.reactors.items) at s.2 in
+    let r = position_found (is_reactor_called q) s.0.tree.reactors.items k.0 k.1 in
     let number : ℕ = length (reactors_before files file) + k.0 in
     let stands : slice_get (reactors_in files) number ≡ Some (file, r.0) = at_file files file s.0 k.0 r.0 s.1 r.1 in
     let c = mapped_from (λ (c : Class). (c.file, c.reactor.now)) scopes.classes.items number (file, r.0) (ap (λ l. slice_get l number) are.reactors ∙ stands) in
@@ -156,8 +157,8 @@ paired file k = (file, k)
 own_found : (files : List SourceFile) (file : ℕ) (q : List ℕ) (c : Class) → IsOwn files file q c → own_class files file q ≡ None → ⊥
 own_found files file q c own none =
     let j = own_place files file c own.stands own.in_file in
-    let n : option_map (paired file) (position (is_called q) j.0.tree.reactors.items) ≡ None = sym (ap (option_and_then (λ (f : SourceFile). option_map (paired file) (position (is_called q) f.tree.reactors.items))) j.1) ∙ none in
-    position_lost (is_called q) j.0.tree.reactors.items j.2 c.reactor.now j.3 (called q c.reactor.now.name own.has_name) (no_map (position (is_called q) j.0.tree.reactors.items) n)
+    let n : option_map (paired file) (position (is_reactor_called q) j.0.tree.reactors.items) ≡ None = sym (ap (option_and_then (λ (f : SourceFile). option_map (paired file) (position (is_reactor_called q) f.tree.reactors.items))) j.1) ∙ none in
+    position_lost (is_reactor_called q) j.0.tree.reactors.items j.2 c.reactor.now j.3 (called q c.reactor.now.name own.has_name) (no_map (position (is_reactor_called q) j.0.tree.reactors.items) n)
   where
     no_map : (o : Option ℕ) → option_map (paired file) o ≡ None → o ≡ None
     no_map None e = refl

@@ -9,7 +9,7 @@ use Rattle.lft_classes.specs.declared.shapes.{Child.Child, InheritedParameter.In
 use Rattle.lft_classes.specs.inner.{Built.located_parameters, Shapes.{child_at, thing_named}}
 use Rattle.lft_elaborate.specs.Channels.Channels.{below}
 use Rattle.lft_elaborate.specs.inner.Values.{Valued, chosen, default_at, default_written, given_to, inside, is_sized, literal, main_setting, main_value, number_in, number_of, setting_of, value_inside}
-use Rattle.lft_same.specs.Expanded.Instances.{Inside, default_of, given_in, given_or_default, inside_of, main_instance, read_in, value_named}
+use Rattle.lft_same.specs.Expanded.Instances.{Inside, default_of, value_given_in, value_or_default, inside_of, main_class_instance, read_in, value_named}
 use Rattle.lft_same.specs.Expanded.Reactors.{class_named, is_named, parameters_of}
 use Rattle.lft_same.specs.inner.Fits.Fits.{Fits, IsShapeOf}
 use Rattle.lft_same.proofs.FitsLemmas.{Giving.IsGivenBy, MemberNames.value_found}
@@ -64,13 +64,13 @@ pub inside_fits : (files : List SourceFile) (shapes : List Shape) (t u : Valued)
 inside_fits files shapes t u x fits m child inner file i c in_u is_child is_inner means of_inner given = (y, is_y, record { shape = inner; is_shape = ap (λ (v : Valued). slice_get shapes v.shape) (sym is_u) ∙ is_inner; of_class = of_inner; numbers = numbers })
   where
     made : ℕ × ℕ → Inside
-    made c = record { class = c; values = map (given_in files x i.given.items) (parameters_of files c) }
+    made c = record { class = c; values = map (value_given_in files x i.given.items) (parameters_of files c) }
 
     y : Inside
-    y = record { class = c; values = map (given_in files x i.given.items) (parameters_of files c) }
+    y = record { class = c; values = map (value_given_in files x i.given.items) (parameters_of files c) }
 
     is_y : inside_of files x (file, i) ≡ Some y
-    is_y = ap (option_map (λ c. record { class = c; values = map (given_in files x i.given.items) (parameters_of files c) })) means
+    is_y = ap (option_map (λ c. record { class = c; values = map (value_given_in files x i.given.items) (parameters_of files c) })) means
 
     v : Valued
     v = record { shape = child.shape; values = map (value_inside fits.shape t.values child.given.items inner) (below (length inner.parameters.items)) }
@@ -82,7 +82,7 @@ inside_fits files shapes t u x fits m child inner file i c in_u is_child is_inne
     sized p n true is e = e
     sized p n false is e = absurd (cc)
 
-    picked : (p : ℕ) (n : ℤ) (ip : InheritedParameter) → slice_get inner.parameters.items p ≡ Some ip → (o : Option Assignment) → given_to child.given.items p ≡ option_map (λ a. a.value.value) o → chosen fits.shape t.values (given_to child.given.items p) (default_at inner p) ≡ Some n → (w : Value) × (given_or_default files x ip.parameter.now o ≡ Some w) × (literal w ≡ Some n)
+    picked : (p : ℕ) (n : ℤ) (ip : InheritedParameter) → slice_get inner.parameters.items p ≡ Some ip → (o : Option Assignment) → given_to child.given.items p ≡ option_map (λ a. a.value.value) o → chosen fits.shape t.values (given_to child.given.items p) (default_at inner p) ≡ Some n → (w : Value) × (value_or_default files x ip.parameter.now o ≡ Some w) × (literal w ≡ Some n)
     picked p n ip at None g e = default_is inner p ip n at (sym (ap (λ o. chosen fits.shape t.values o (default_at inner p)) g) ∙ e)
     picked p n ip at (Some a) g e = number_fits files shapes t x fits a.value.value n (sym (ap (λ o. chosen fits.shape t.values o (default_at inner p)) g) ∙ e)
 
@@ -92,10 +92,10 @@ inside_fits files shapes t u x fits m child inner file i c in_u is_child is_inne
         let ip = get_there inner.parameters.items p r.0 in
         let e : chosen fits.shape t.values (given_to child.given.items p) (default_at inner p) ≡ Some n = sized p n (is_sized inner p) is r.1 in
         let w = picked p n ip.0 ip.1 (find (λ a. is_named (string_bytes ip.0.parameter.now.name.text) a.name) i.given.items) (given p ip.0 ip.1) e in
-        (w.0, mapped (given_in files x i.given.items) (parameters_of files c) p ip.0.parameter.now (parameter_is files inner c of_inner p ip.0 ip.1) ∙ ap Some w.1, w.2)
+        (w.0, mapped (value_given_in files x i.given.items) (parameters_of files c) p ip.0.parameter.now (parameter_is files inner c of_inner p ip.0 ip.1) ∙ ap Some w.1, w.2)
 
 -- the setting of the main reactor fits the main instance
-pub main_fits : (files : List SourceFile) (shapes : List Shape) (t : Valued) (main : Shape) (c : ℕ × ℕ) → main_setting shapes ≡ Some t → slice_get shapes 0 ≡ Some main → IsShapeOf files main c → Fits files shapes t (main_instance files c)
+pub main_fits : (files : List SourceFile) (shapes : List Shape) (t : Valued) (main : Shape) (c : ℕ × ℕ) → main_setting shapes ≡ Some t → slice_get shapes 0 ≡ Some main → IsShapeOf files main c → Fits files shapes t (main_class_instance files c)
 main_fits files shapes t main c is_t is_main of_main = record { shape = main; is_shape = ap (λ (z : Valued). slice_get shapes z.shape) (sym is_v) ∙ is_main; of_class = of_main; numbers = numbers }
   where
     v : Valued

@@ -6,7 +6,7 @@ use Rattle.lft_lists.proofs.Mapped.{mapped, mapped_from}
 use Rattle.lft_whole.specs.declared.{sources.source.SourceFile.SourceFile, tree.{Member.Member, Name.Name, Parameter.Parameter, Value.Value}}
 use Rattle.lft_classes.specs.declared.shapes.{Inherited.Inherited, InheritedParameter.InheritedParameter, Shape.Shape}
 use Rattle.lft_classes.specs.{inner.{Built.located_parameters, Shapes.thing_named}, Shapes.name_of}
-use Rattle.lft_same.specs.Expanded.{Instances.{Inside, place_named, value_at, value_named}, Reactors.{is_named, members_of, parameters_of}}
+use Rattle.lft_same.specs.Expanded.{Instances.{Inside, place_named, value_by_name, value_named}, Reactors.{is_named, members_of, parameters_of}}
 use Rattle.lft_same.specs.inner.Fits.Fits.{IsShapeOf}
 use Rattle.lft_same.proofs.FitsLemmas.ClassNames.{called, called_so, named_so, position_found, position_lost}
 use Rattle.lft_classes.specs.declared.shapes.OwnThing.TheVariants as thing
@@ -65,15 +65,15 @@ module _ (files : List SourceFile) (shape : Shape) (x : Inside) (is : IsShapeOf 
           let t : thing_named shape q ≡ Some (thing.Parameter j) = (is.names q (thing.Parameter j)).1 (i.0, i.1, ap (λ (w : Parameter). string_bytes w.name.text) same ∙ named_so q r.name has) in
           let s : Some (thing.Parameter j) ≡ Some (thing.Parameter p) = sym t ∙ e in cc
 
-      value_first : (ps : List Parameter) (vs : List (Option Value)) (p : ℕ) (r : Parameter) → ((j : ℕ) (s : Parameter) → slice_get ps j ≡ Some s → is_named q s.name ≡ true → j ≡ p) → slice_get ps p ≡ Some r → is_named q r.name ≡ true → (v : Option Value) → slice_get vs p ≡ Some v → value_at ps vs q ≡ v
+      value_first : (ps : List Parameter) (vs : List (Option Value)) (p : ℕ) (r : Parameter) → ((j : ℕ) (s : Parameter) → slice_get ps j ≡ Some s → is_named q s.name ≡ true → j ≡ p) → slice_get ps p ≡ Some r → is_named q r.name ≡ true → (v : Option Value) → slice_get vs p ≡ Some v → value_by_name ps vs q ≡ v
       value_first [] vs p r alone at has v is = absurd (cc)
       value_first (s ∷ ps) [] p r alone at has v is = absurd (cc)
       value_first (s ∷ ps) (w ∷ vs) zero r alone at has v is =
           let one : s ≡ r = cc in
           let two : w ≡ v = cc in
-          ap (λ (b : Bool). if b then w else value_at ps vs q) (ap (λ (z : Parameter). is_named q z.name) one ∙ has) ∙ two
+          ap (λ (b : Bool). if b then w else value_by_name ps vs q) (ap (λ (z : Parameter). is_named q z.name) one ∙ has) ∙ two
       value_first (s ∷ ps) (w ∷ vs) (suc p) r alone at has v is = go (is_named q s.name) refl (value_first ps vs p r (λ j t f g. let n : suc j ≡ suc p = alone (suc j) t f g in omega arith) at has v is)
         where
-          go : (b : Bool) → is_named q s.name ≡ b → value_at ps vs q ≡ v → (if b then w else value_at ps vs q) ≡ v
+          go : (b : Bool) → is_named q s.name ≡ b → value_by_name ps vs q ≡ v → (if b then w else value_by_name ps vs q) ≡ v
           go true e rest = absurd (let n : 0 ≡ suc p = alone 0 s refl e in omega arith)
           go false e rest = rest

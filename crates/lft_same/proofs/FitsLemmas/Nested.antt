@@ -5,13 +5,14 @@ use Rattle.std.specs.{List.position, Option.option_and_then}
 use Rattle.lft_lists.proofs.{Mapped.{mapped, mapped_from, option_map_some}, Places.Some_same}
 use Rattle.lft_whole.specs.declared.{sources.source.SourceFile.SourceFile, tree.{Instance.Instance, Member.Member, Reactor.Reactor}}
 use Rattle.lft_classes.specs.declared.{nesting.Nesting.Nesting, scopes.Class.Class as ScopesClass, shapes.{Child.Child, Inherited.Inherited, Shape.Shape}}
-use Rattle.lft_classes.specs.inner.{Built.{AreGiven, Core, IsInside, core, cores, instance_of}, Circles.GivesOnce, Nestings.IsNesting}
+use Rattle.lft_classes.specs.inner.{Built.{AreGiven, Core, IsChildInstance, core, cores, instance_of}, Circles.GivesOnce, Nestings.IsNesting}
 use Rattle.lft_classes.specs.inner.Scopes.{AreScopes, IsMain, reactors_in, reactors_before}
 use Rattle.lft_classes.specs.inner.Shapes.{child_at, child_in, inside as noted_inside, tables, thing_named}
 use Rattle.lft_classes.proofs.Numbering.{at_file}
 use Rattle.lft_elaborate.specs.inner.Values.{Valued, inside, main_setting, setting_of, values_inside}
 use Rattle.lft_program.proofs.Zipping.{then_some}
-use Rattle.lft_same.specs.Expanded.{Instances.{Inside, given_in, inside_of, main_instance}, Reactors.{Class, class_named, main_of, members_of, parameters_of}}
+use Rattle.lft_same.specs.Expanded.Instances.{Inside, value_given_in, inside_of, main_class_instance}
+use Rattle.lft_same.specs.Expanded.Reactors.{Class, class_named, main_of, members_of, parameters_of}
 use Rattle.lft_same.specs.inner.Fits.Fits.{Fits, IsShapeOf, number_at}
 use Rattle.lft_same.proofs.FitsLemmas.{ClassNames.{IsAt, names_law, own_place, position_found, position_lost}, Fitting.{inside_fits, main_fits}}
 use Rattle.lft_same.proofs.FitsLemmas.{Giving.{IsGivenBy, given_by}, Shapes.{named_here, shape_is}}
@@ -54,7 +55,7 @@ main_is files scopes are c main = go (position (λ (r : Reactor). r.is_main) j.0
 
 module _ (files : List SourceFile) (scopes : _) (n : Nesting) (is : IsNesting files scopes n) where
   -- the main setting fits the main instance
-  pub main_law : (t : Valued) → main_setting n.shapes.items ≡ Some t → (c : Class) × (main_of files ≡ Some c) × Fits files n.shapes.items t (main_instance files c)
+  pub main_law : (t : Valued) → main_setting n.shapes.items ≡ Some t → (c : Class) × (main_of files ≡ Some c) × Fits files n.shapes.items t (main_class_instance files c)
   main_law t set = (at.0, at.1, main_fits files n.shapes.items t shape.0 at.0 set shape.1 (shape_is files scopes is.scopes_are shape.0 at.0 (is.main.reactor.now, at.2.reactor) (ap (λ (c : Core). c.class.number) shape.2 ∙ ap (λ (c : ScopesClass). c.number) first.2 ∙ at.2.number) (is.built 0 (core shape.0) (mapped core n.shapes.items 0 shape.0 shape.1))))
     where
       at : (at : ℕ × ℕ) × (main_of files ≡ Some at) × IsAt files is.main at
@@ -82,7 +83,7 @@ module _ (files : List SourceFile) (scopes : _) (n : Nesting) (is : IsNesting fi
       inner : (s : Shape) × (slice_get n.shapes.items child.0.shape ≡ Some s) × (made s ≡ u)
       inner = option_map_some made (slice_get n.shapes.items child.0.shape) u child.2
 
-      noted : IsInside scopes (cores n.shapes.items) t.shape m child.0
+      noted : IsChildInstance scopes (cores n.shapes.items) t.shape m child.0
       noted = is.inside_are t.shape m child.0 (ap (option_and_then (λ children. child_at children m)) (mapped (λ (s : Shape). s.children.items) n.shapes.items t.shape fits.shape fits.is_shape) ∙ child.1)
 
       same_outer : noted.outer ≡ core fits.shape
@@ -116,13 +117,13 @@ module _ (files : List SourceFile) (scopes : _) (n : Nesting) (is : IsNesting fi
       inside_fits files n.shapes.items t u x fits m child inner file i c in_u is_child is_inner means of_inner given
 
   -- what is noted in a member, which is an instance
-  child_inside : (t u : Valued) (shape : Shape) (m : ℕ) → slice_get n.shapes.items t.shape ≡ Some shape → inside n.shapes.items t m ≡ Some u → (child : Child) × (child_at shape.children.items m ≡ Some child) × IsInside scopes (cores n.shapes.items) t.shape m child
+  child_inside : (t u : Valued) (shape : Shape) (m : ℕ) → slice_get n.shapes.items t.shape ≡ Some shape → inside n.shapes.items t m ≡ Some u → (child : Child) × (child_at shape.children.items m ≡ Some child) × IsChildInstance scopes (cores n.shapes.items) t.shape m child
   child_inside t u shape m is_shape in_u =
       let e : option_and_then (setting_of n.shapes.items shape t.values) (child_at shape.children.items m) ≡ Some u = sym (ap (option_and_then (λ outer. option_and_then (setting_of n.shapes.items outer t.values) (child_at outer.children.items m))) is_shape) ∙ in_u in
       let c = then_some (setting_of n.shapes.items shape t.values) (child_at shape.children.items m) u e in
       (c.0, c.1, is.inside_are t.shape m c.0 (ap (option_and_then (λ children. child_at children m)) (mapped (λ (s : Shape). s.children.items) n.shapes.items t.shape shape is_shape) ∙ c.1))
 
-  noted_member : (t : Valued) (x : Inside) (fits : Fits files n.shapes.items t x) (m : ℕ) (child : Child) (noted : IsInside scopes (cores n.shapes.items) t.shape m child) → slice_get (members_of files x.class) m ≡ Some (noted.member.file, noted.member.member.now)
+  noted_member : (t : Valued) (x : Inside) (fits : Fits files n.shapes.items t x) (m : ℕ) (child : Child) (noted : IsChildInstance scopes (cores n.shapes.items) t.shape m child) → slice_get (members_of files x.class) m ≡ Some (noted.member.file, noted.member.member.now)
   noted_member t x fits m child noted =
       let same = Some_same noted.outer (core fits.shape) (sym noted.is_outer ∙ mapped core n.shapes.items t.shape fits.shape fits.is_shape) in
       ap (λ l. slice_get l m) (sym fits.of_class.members) ∙ mapped (λ (k : Inherited). (k.file, k.member.now)) fits.shape.members.items m noted.member (ap (λ (c : Core). slice_get c.members m) (sym same) ∙ noted.is_member)
@@ -130,10 +131,10 @@ module _ (files : List SourceFile) (scopes : _) (n : Nesting) (is : IsNesting fi
   pub instance_law : (t u : Valued) (x : Inside) (m : ℕ) → Fits files n.shapes.items t x → inside n.shapes.items t m ≡ Some u → (file : ℕ) × (i : Instance) × (slice_get (members_of files x.class) m ≡ Some (file, member.Instance i))
   instance_law t u x m fits in_u = of noted.member.member.now noted.means (noted_member t x fits m child.0 noted)
     where
-      child : (child : Child) × (child_at fits.shape.children.items m ≡ Some child) × IsInside scopes (cores n.shapes.items) t.shape m child
+      child : (child : Child) × (child_at fits.shape.children.items m ≡ Some child) × IsChildInstance scopes (cores n.shapes.items) t.shape m child
       child = child_inside t u fits.shape m fits.is_shape in_u
 
-      noted : IsInside scopes (cores n.shapes.items) t.shape m child.0
+      noted : IsChildInstance scopes (cores n.shapes.items) t.shape m child.0
       noted = child.2
 
       of : (y : Member) → instance_of scopes (noted.member.file, y) ≡ Some noted.inner.class.number → slice_get (members_of files x.class) m ≡ Some (noted.member.file, y) → (file : ℕ) × (i : Instance) × (slice_get (members_of files x.class) m ≡ Some (file, member.Instance i))
@@ -154,7 +155,7 @@ module _ (files : List SourceFile) (scopes : _) (n : Nesting) (is : IsNesting fi
       own = mapped_from (λ (k : Inherited). (k.file, k.member.now)) fits.shape.members.items m (file, member.Instance i) (ap (λ l. slice_get l m) fits.of_class.members ∙ at)
 
       of_class : Class → Inside
-      of_class c = record { class = c; values = map (given_in files x i.given.items) (parameters_of files c) }
+      of_class c = record { class = c; values = map (value_given_in files x i.given.items) (parameters_of files c) }
 
       c : (c : Class) × (class_named files file (string_bytes i.reactor.text) ≡ Some c) × (of_class c ≡ y)
       c = option_map_some of_class (class_named files file (string_bytes i.reactor.text)) y is_y
@@ -171,7 +172,7 @@ module _ (files : List SourceFile) (scopes : _) (n : Nesting) (is : IsNesting fi
       is_child : child_at fits.shape.children.items m ≡ Some child.0
       is_child = sym (ap (option_and_then (λ children. child_at children m)) (mapped (λ (s : Shape). s.children.items) n.shapes.items t.shape fits.shape fits.is_shape)) ∙ child.1
 
-      there : IsInside scopes (cores n.shapes.items) t.shape m child.0
+      there : IsChildInstance scopes (cores n.shapes.items) t.shape m child.0
       there = is.inside_are t.shape m child.0 child.1
 
       made : Shape → Valued

@@ -5,7 +5,7 @@ use Rattle.lft_lists.proofs.{Mapped.option_map_some, Places.Some_same}
 use Rattle.lft_program.proofs.Zipping.{then_some}
 use Rattle.lft_whole.specs.declared.tree.Member.{Member}
 use Rattle.lft_classes.specs.{declared.shapes.{Child.Child, Inherited.Inherited, Shape.Shape, OwnThing.OwnThing}, inner.Shapes.{child_at, thing_named}}
-use Rattle.lft_elaborate.specs.inner.Meanings.{if_port, meaning_named, port_behind, port_in, port_number, port_of, shape_inside}
+use Rattle.lft_elaborate.specs.inner.Meanings.{if_port, meaning_named, port_behind, port_number_in, port_number, port_of, shape_inside}
 use Rattle.lft_elaborate.specs.inner.Values.{Valued, inside, setting_of, values_inside}
 use Rattle.lft_elaborate.specs.declared.meanings.Meaning.{Meaning}
 use Rattle.lft_elaborate.specs.declared.meanings.Meaning.TheVariants as meaning
@@ -27,7 +27,7 @@ shape_is_inside shapes n t u shape inner is_shape in_u is_inner =
     made = option_map_some valued (slice_get shapes child.0.shape) u child.2
 
 -- the port of a name is the member of that name
-named_port : (shape : Shape) (p : List ℕ) (port : ℕ) → port_in shape p ≡ Some port → thing_named shape p ≡ Some (thing.Member port)
+named_port : (shape : Shape) (p : List ℕ) (port : ℕ) → port_number_in shape p ≡ Some port → thing_named shape p ≡ Some (thing.Member port)
 named_port shape p port is = let t = then_some (port_number shape) (thing_named shape p) port is in t.1 ∙ ap Some (one t.0 t.2)
   where
     numbered : (n : ℕ) (m : Member) → if_port n m ≡ Some port → n ≡ port
@@ -60,5 +60,5 @@ port_is shapes shape q p z e = let t = then_some (port_behind shapes shape p) (t
     by (thing.Parameter n) is f = absurd (cc)
     by (thing.Member m) is f =
         let i = then_some (port_of m p) (shape_inside shapes shape m) z f in
-        let r = option_map_some (λ port. meaning.Port m port) (port_in i.0 p) z i.2 in
+        let r = option_map_some (λ port. meaning.Port m port) (port_number_in i.0 p) z i.2 in
         record { instance = m; is_instance = is; inner = i.0; is_inner = i.1; port = r.0; is_port = named_port i.0 p r.0 r.1; is_meant = r.2 }

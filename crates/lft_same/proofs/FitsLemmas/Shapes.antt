@@ -11,9 +11,9 @@ use Rattle.lft_program.proofs.Zipping.{then_some}
 use Rattle.lft_whole.specs.declared.{sources.source.SourceFile.SourceFile, tree.{Member.Member, Name.Name, Parameter.Parameter, Reactor.Reactor}}
 use Rattle.lft_classes.specs.declared.{scopes.Class.Class as ScopesClass, shapes.Shape.Shape}
 use Rattle.lft_classes.specs.inner.Built.{IsBuilt, core, members_at, members_or_none, parameters_at, parameters_or_none}
-use Rattle.lft_classes.specs.inner.Chains.{IsChain, base_in, base_of, bases_in, bases_of as numbered_bases, extended}
-use Rattle.lft_classes.specs.inner.Scopes.{AreScopes, class_at, reactors_in, reactors_of, reactors_before}
-use Rattle.lft_classes.specs.inner.Walks.{IsBehind, Reaches, Ways, nothing, one, itself, further}
+use Rattle.lft_classes.specs.inner.Chains.{IsChain, base_in, base_of, bases_in, all_bases as numbered_bases, extended_reactor}
+use Rattle.lft_classes.specs.inner.Scopes.{AreScopes, class_at, reactors_in, reactors_of_file, reactors_before}
+use Rattle.lft_classes.specs.inner.Walks.{IsTopologicalOrder, IsReachable, Ways, nothing, one, itself, further}
 use Rattle.lft_classes.proofs.{Decided.listed_before, Numbering.at_file}
 use Rattle.lft_same.specs.Expanded.Reactors.{Class, bases_of, class_named, lineage, reactor_count, reactor_of, same_class}
 use Rattle.lft_same.specs.inner.Fits.Fits.{IsShapeOf, number_at}
@@ -21,7 +21,7 @@ use Rattle.lft_same.proofs.FitsLemmas.{ClassNames.{names_law, named_is}, Lineage
 
 -- ---- lists
 
-behind_alone : (next : Ways) (list : List ℕ) → IsBehind next list → (i j x : ℕ) → slice_get list i ≡ Some x → slice_get list j ≡ Some x → i ≡ j
+behind_alone : (next : Ways) (list : List ℕ) → IsTopologicalOrder next list → (i j x : ℕ) → slice_get list i ≡ Some x → slice_get list j ≡ Some x → i ≡ j
 behind_alone next _ nothing i j x at there = absurd (cc)
 behind_alone next _ (one xs y before none all) i j x at there = by (behind_alone next xs before i j x) (get_push_cases xs y i x at) (get_push_cases xs y j x there)
   where
@@ -110,11 +110,11 @@ differ files c d here there apart e =
 all_counted : (files : List SourceFile) → length (reactors_in files) ≡ reactor_count files
 all_counted files = go 0 files
   where
-    go : (n : ℕ) (fs : List SourceFile) → length (flat_map reactors_of (enumerate_from n fs)) ≡ length (flat_map (λ (f : SourceFile). f.tree.reactors.items) fs)
+    go : (n : ℕ) (fs : List SourceFile) → length (flat_map reactors_of_file (enumerate_from n fs)) ≡ length (flat_map (λ (f : SourceFile). f.tree.reactors.items) fs)
     go n [] = refl
     go n (f ∷ fs) =
         let pair : Reactor → ℕ × Reactor = λ s. (n, s) in
-        let a = length-append (map pair f.tree.reactors.items) (flat_map reactors_of (enumerate_from (n + 1) fs)) in
+        let a = length-append (map pair f.tree.reactors.items) (flat_map reactors_of_file (enumerate_from (n + 1) fs)) in
         let b = length-append f.tree.reactors.items (flat_map (λ (f : SourceFile). f.tree.reactors.items) fs) in
         let c : length (map pair f.tree.reactors.items) ≡ length f.tree.reactors.items = length-map f.tree.reactors.items pair in
         let d = go (n + 1) fs in
@@ -141,7 +141,7 @@ module _ (files : List SourceFile) (scopes : _) (are : AreScopes files scopes) w
   bases_num c here =
       let d = class_is c here in
       let own : bases_of files c ≡ filter_map means here.0.bases.items = ap (λ o. flat_map (λ (r : Reactor). filter_map means r.bases.items) (option_to_list o)) here.1 ∙ append-nil (filter_map means here.0.bases.items) in
-      let there : numbered_bases scopes (number_at files c) ≡ filter_map (extended scopes c.0) here.0.bases.items = ap (λ o. bases_in scopes o 0) d.1 ∙ ap (λ n. filter_map (extended scopes n) d.0.reactor.now.bases.items) d.2 ∙ ap (λ (r : Reactor). filter_map (extended scopes c.0) r.bases.items) d.3 in
+      let there : numbered_bases scopes (number_at files c) ≡ filter_map (extended_reactor scopes c.0) here.0.bases.items = ap (λ o. bases_in scopes o 0) d.1 ∙ ap (λ n. filter_map (extended_reactor scopes n) d.0.reactor.now.bases.items) d.2 ∙ ap (λ (r : Reactor). filter_map (extended_reactor scopes c.0) r.bases.items) d.3 in
       ap (map (number_at files)) own ∙ map-filter_map (number_at files) means here.0.bases.items ∙ (λ i. filter_map (λ (b : Name). sym (names_law files scopes are c.0 (string_bytes b.text)) i) here.0.bases.items) ∙ sym there
     where
       means : Name → Option Class
@@ -153,16 +153,16 @@ module _ (files : List SourceFile) (scopes : _) (are : AreScopes files scopes) w
       go : (o : Option ScopesClass) → Mem s (bases_in scopes o 0) → (k : ℕ) × (option_and_then (λ c. base_in scopes c k) o ≡ Some s)
       go None m = absurd m
       go (Some c) m =
-          let b = mem_from_filter (extended scopes c.file) c.reactor.now.bases.items s m in
+          let b = mem_from_filter (extended_reactor scopes c.file) c.reactor.now.bases.items s m in
           let k = get_mem b.0 c.reactor.now.bases.items b.1 in
-          (k.0, ap (option_and_then (extended scopes c.file)) k.1 ∙ b.2)
+          (k.0, ap (option_and_then (extended_reactor scopes c.file)) k.1 ∙ b.2)
 
   -- a number that is reached is one of a reactor
-  reached_below : (c : Class) (here : IsHere files c) (r : ℕ) → Reaches (base_of scopes) (number_at files c) r → r < length (reactors_in files)
+  reached_below : (c : Class) (here : IsHere files c) (r : ℕ) → IsReachable (base_of scopes) (number_at files c) r → r < length (reactors_in files)
   reached_below c here _ itself = slice_get_within (reactors_in files) (number_at files c) (c.0, here.0) (stands files c here)
   reached_below c here s (further {r} k before leads) =
       let d = then_some (λ c. base_in scopes c k) (class_at scopes r) s leads in
-      let b = then_some (extended scopes d.0.file) (slice_get d.0.reactor.now.bases.items k) s d.2 in
+      let b = then_some (extended_reactor scopes d.0.file) (slice_get d.0.reactor.now.bases.items k) s d.2 in
       let n : option_map (number_at files) (class_named files d.0.file (string_bytes b.0.text)) ≡ Some s = sym (names_law files scopes are d.0.file (string_bytes b.0.text)) ∙ b.2 in
       let e = option_map_some (number_at files) (class_named files d.0.file (string_bytes b.0.text)) s n in
       let h = named_here d.0.file (string_bytes b.0.text) e.0 e.1 in

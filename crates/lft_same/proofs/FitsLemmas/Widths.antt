@@ -9,12 +9,12 @@ use Rattle.lft_whole.specs.declared.sources.source.SourceFile.{SourceFile}
 use Rattle.lft_whole.specs.declared.tree.{Count.Count, Instance.Instance, Member.Member, Name.Name, Reference.Reference, Term.Term, Value.Value, Width.Width}
 use Rattle.lft_elaborate.specs.Channels.Channels.{below}
 use Rattle.lft_elaborate.specs.inner.Used.{IsReached, is_instance, is_instance_in, within}
-use Rattle.lft_elaborate.specs.inner.Places.{IsMany, capped, count_in as settings_count, how_many, how_many_inside, how_many_of, many, member_in, parameter_in, places_in, places_of, plus, sum_in, times, width_in, written_width}
+use Rattle.lft_elaborate.specs.inner.Places.{IsMany, capped, known_count as settings_count, how_many, how_many_inside, how_many_of, many, member_in, parameter_in, how_many_places, how_many_meant, plus, sum_in, capped_product, width_in, written_width}
 use Rattle.lft_elaborate.specs.inner.{Meanings.{meaning_named, meaning_of}, Values.{Valued, inside, literal, number_named}}
 use Rattle.lft_elaborate.specs.{Places.natural, declared.meanings.Meaning.Meaning}
 use Rattle.lft_classes.specs.{declared.shapes.{Inherited.Inherited, Shape.Shape, OwnThing.OwnThing}, Shapes.{name_of, width_of}, inner.Shapes.thing_named}
-use Rattle.lft_same.specs.Expanded.Instances.{Inner, Inside, Widths, entered, inners, inners_at, inside_of, main_instance, number_of, numbers, numbers_at, numbers_named, place_named, written}
-use Rattle.lft_same.specs.Expanded.{Reactors.{Class, main_of, members_of}, Whole.{AreWidths, channels, count_in, things_named, total}}
+use Rattle.lft_same.specs.Expanded.Instances.{Inner, Inside, Widths, entered_instance, inners, inners_at, inside_of, main_class_instance, number_of, numbers, numbers_at, numbers_named, place_named, name_with_number}
+use Rattle.lft_same.specs.Expanded.{Reactors.{Class, main_of, members_of}, Whole.{AreWidths, channels, term_of_width, things_named, total_width}}
 use Rattle.lft_same.specs.inner.Fits.{Fits.Fits, Widths.{AreFound, small}}
 use Rattle.lft_same.proofs.FitsLemmas.{Channels.channels_length, Fitting.number_fits, MemberNames.{member_found, member_lost}}
 use Rattle.lft_same.proofs.FitsLemmas.Ports.{IsPort, port_is, shape_is_inside}
@@ -53,7 +53,7 @@ number_is (value.Word q) z k e f l = absurd (cc)
 number_is value.Code z k e f l = absurd (cc)
 number_is value.Other z k e f l = absurd (cc)
 
-times_some : (a b : Option ℕ) (n : ℕ) → times a b ≡ Some n → (i : ℕ) × (j : ℕ) × (a ≡ Some i) × (b ≡ Some j) × (capped (i * j) ≡ n)
+times_some : (a b : Option ℕ) (n : ℕ) → capped_product a b ≡ Some n → (i : ℕ) × (j : ℕ) × (a ≡ Some i) × (b ≡ Some j) × (capped (i * j) ≡ n)
 times_some None b n e = absurd (cc)
 times_some (Some i) None n e = absurd (cc)
 times_some (Some i) (Some j) n e = (i, j, refl, refl, Some_same (capped (i * j)) n e)
@@ -137,24 +137,24 @@ module _ (files : List SourceFile) (shapes : List Shape) (nested : AreNested fil
       none : (m : ℕ) → thing_named fits.shape q ≡ Some (thing.Member m) → ⊥
       none m f = let s : Some (thing.Parameter p) ≡ Some (thing.Member m) = sym is ∙ f in absurd (cc)
 
-  places_long : (t : Valued) (x : Inside) (fits : Fits files shapes t x) (path : List ℕ) (interleaved : Bool) (q : List ℕ) (port : Option (List ℕ)) (n : ℕ) → option_and_then (places_of shapes (width_in shapes depth) t) (meaning_named shapes fits.shape q port) ≡ Some n → n < small → length (things_named files w path x interleaved q port) ≡ n
+  places_long : (t : Valued) (x : Inside) (fits : Fits files shapes t x) (path : List ℕ) (interleaved : Bool) (q : List ℕ) (port : Option (List ℕ)) (n : ℕ) → option_and_then (how_many_meant shapes (width_in shapes depth) t) (meaning_named shapes fits.shape q port) ≡ Some n → n < small → length (things_named files w path x interleaved q port) ≡ n
   places_long t x fits path interleaved q None n e l =
-      let meant = then_some (places_of shapes (width_in shapes depth) t) (option_map (λ th. meaning.Own th) (thing_named fits.shape q)) n e in
+      let meant = then_some (how_many_meant shapes (width_in shapes depth) t) (option_map (λ th. meaning.Own th) (thing_named fits.shape q)) n e in
       let th = option_map_some (λ th. meaning.Own th) (thing_named fits.shape q) meant.0 meant.1 in
-      length-map (numbers_named files w x q) _ ∙ own_long t x fits q th.0 n th.1 (ap (places_of shapes (width_in shapes depth) t) th.2 ∙ meant.2) l
+      length-map (numbers_named files w x q) _ ∙ own_long t x fits q th.0 n th.1 (ap (how_many_meant shapes (width_in shapes depth) t) th.2 ∙ meant.2) l
   places_long t x fits path interleaved q (Some p) n e l =
       ap (λ z. length (things_named files w path x interleaved z (Some p))) (sym called)
       ∙ channels_length files w x b.instance at.0 at.1 at.2 (ap (place_named files x) called ∙ member_found files fits.shape x fits.of_class q b.instance b.is_instance) path p interleaved y.0 y.1
       ∙ product both.0 both.1 n (length (numbers_named files w y.0 p)) (length (numbers at.1.width (w x b.instance))) both.4 l ports_long members_long
     where
-      meant : (z : Meaning) × (meaning_named shapes fits.shape q (Some p) ≡ Some z) × (places_of shapes (width_in shapes depth) t z ≡ Some n)
-      meant = then_some (places_of shapes (width_in shapes depth) t) (meaning_named shapes fits.shape q (Some p)) n e
+      meant : (z : Meaning) × (meaning_named shapes fits.shape q (Some p) ≡ Some z) × (how_many_meant shapes (width_in shapes depth) t z ≡ Some n)
+      meant = then_some (how_many_meant shapes (width_in shapes depth) t) (meaning_named shapes fits.shape q (Some p)) n e
 
       b : IsPort shapes fits.shape q p meant.0
       b = port_is shapes fits.shape q p meant.0 meant.1
 
       both : (i : ℕ) × (j : ℕ) × (how_many_inside shapes (width_in shapes depth) t b.instance b.port ≡ Some i) × (how_many shapes (width_in shapes depth) t b.instance ≡ Some j) × (capped (i * j) ≡ n)
-      both = times_some (how_many_inside shapes (width_in shapes depth) t b.instance b.port) (how_many shapes (width_in shapes depth) t b.instance) n (ap (places_of shapes (width_in shapes depth) t) b.is_meant ∙ meant.2)
+      both = times_some (how_many_inside shapes (width_in shapes depth) t b.instance b.port) (how_many shapes (width_in shapes depth) t b.instance) n (ap (how_many_meant shapes (width_in shapes depth) t) b.is_meant ∙ meant.2)
 
       u : (u : Valued) × (inside shapes t b.instance ≡ Some u) × (how_many shapes (width_in shapes depth) u b.port ≡ Some both.0)
       u = then_some (λ u. how_many shapes (width_in shapes depth) u b.port) (inside shapes t b.instance) both.0 both.2
@@ -186,10 +186,10 @@ module _ (files : List SourceFile) (shapes : List Shape) (nested : AreNested fil
       ports_long few = named_long u.0 y.0 y.2 p b.port both.0 (ap (λ (z : Shape). thing_named z p) (sym inner_is) ∙ b.is_port) u.2 few
 
   -- a reference has as many channels as places
-  pub channels_long : (t : Valued) (x : Inside) (fits : Fits files shapes t x) (path : List ℕ) (r : Reference) (n : ℕ) → places_in shapes (width_in shapes depth) t r ≡ Some n → n < small → length (channels files w path x r) ≡ n
-  channels_long t x fits path r n e l = places_long t x fits path r.is_interleaved (string_bytes r.head.text) (option_map (λ (p : Name). string_bytes p.text) r.port) n (sym (ap (λ o. option_and_then (places_of shapes (width_in shapes depth) t) (option_and_then (λ (z : Shape). meaning_of shapes z r) o)) fits.is_shape) ∙ e) l
+  pub channels_long : (t : Valued) (x : Inside) (fits : Fits files shapes t x) (path : List ℕ) (r : Reference) (n : ℕ) → how_many_places shapes (width_in shapes depth) t r ≡ Some n → n < small → length (channels files w path x r) ≡ n
+  channels_long t x fits path r n e l = places_long t x fits path r.is_interleaved (string_bytes r.head.text) (option_map (λ (p : Name). string_bytes p.text) r.port) n (sym (ap (λ o. option_and_then (how_many_meant shapes (width_in shapes depth) t) (option_and_then (λ (z : Shape). meaning_of shapes z r) o)) fits.is_shape) ∙ e) l
 
-  count_is : (t : Valued) (x : Inside) (fits : Fits files shapes t x) (c : Count) (n : ℕ) → settings_count shapes (width_in shapes depth) t c ≡ Some n → n < small → count_in files w x c ≡ Some n
+  count_is : (t : Valued) (x : Inside) (fits : Fits files shapes t x) (c : Count) (n : ℕ) → settings_count shapes (width_in shapes depth) t c ≡ Some n → n < small → term_of_width files w x c ≡ Some n
   count_is t x fits (count.Number k) n e l = e
   count_is t x fits (count.Word q) n e l =
       let z = then_some natural (parameter_in shapes t (string_bytes q)) n e in
@@ -201,15 +201,15 @@ module _ (files : List SourceFile) (shapes : List Shape) (nested : AreNested fil
   count_is t x fits count.Open n e l = absurd (cc)
 
   -- the terms of a width have their sum
-  pub sum_is : (t : Valued) (x : Inside) (fits : Fits files shapes t x) (terms : List Term) (n : ℕ) → sum_in shapes (width_in shapes depth) t terms ≡ Some n → n < small → total (map (λ (z : Term). count_in files w x z.count) terms) ≡ Some n
+  pub sum_is : (t : Valued) (x : Inside) (fits : Fits files shapes t x) (terms : List Term) (n : ℕ) → sum_in shapes (width_in shapes depth) t terms ≡ Some n → n < small → total_width (map (λ (z : Term). term_of_width files w x z.count) terms) ≡ Some n
   sum_is t x fits [] n e l = e
   sum_is t x fits (z ∷ zs) n e l =
       let p = plus_some (settings_count shapes (width_in shapes depth) t z.count) (sum_in shapes (width_in shapes depth) t zs) n e in
       let u : capped (p.0 + p.1) ≡ p.0 + p.1 = uncapped (p.0 + p.1) (let f = p.4 in omega (arith, f, l)) in
       let s : p.0 + p.1 ≡ n = sym u ∙ p.4 in
-      let a : count_in files w x z.count ≡ Some p.0 = count_is t x fits z.count p.0 p.2 (omega (arith, s, l)) in
-      let b : total (map (λ (z : Term). count_in files w x z.count) zs) ≡ Some p.1 = sum_is t x fits zs p.1 p.3 (omega (arith, s, l)) in
-      ap (λ o. option_and_then (λ a. option_map (λ b. a + b) (total (map (λ (z : Term). count_in files w x z.count) zs))) o) a
+      let a : term_of_width files w x z.count ≡ Some p.0 = count_is t x fits z.count p.0 p.2 (omega (arith, s, l)) in
+      let b : total_width (map (λ (z : Term). term_of_width files w x z.count) zs) ≡ Some p.1 = sum_is t x fits zs p.1 p.3 (omega (arith, s, l)) in
+      ap (λ o. option_and_then (λ a. option_map (λ b. a + b) (total_width (map (λ (z : Term). term_of_width files w x z.count) zs))) o) a
       ∙ ap (option_map (λ b. p.0 + b)) b
       ∙ ap Some s
 
@@ -217,7 +217,7 @@ module _ (files : List SourceFile) (shapes : List Shape) (nested : AreNested fil
 
 -- the sum of the terms at a member, where the widths that these hang on are so
 abbrev pub next_width : List SourceFile → Widths → Inside → ℕ → ℕ
-next_width files w x m = unwrap_or (option_and_then (λ (y : ℕ × Member). option_and_then (λ (width : Width). total (map (λ (z : Term). count_in files w x z.count) width.terms.items)) (width_of y.1)) (slice_get (members_of files x.class) m)) 0
+next_width files w x m = unwrap_or (option_and_then (λ (y : ℕ × Member). option_and_then (λ (width : Width). total_width (map (λ (z : Term). term_of_width files w x z.count) width.terms.items)) (width_of y.1)) (slice_get (members_of files x.class) m)) 0
 
 -- the widths that are found in so many steps
 abbrev pub widths_to : List SourceFile → ℕ → Widths
@@ -238,8 +238,8 @@ module _ (files : List SourceFile) (shapes : List Shape) (nested : AreNested fil
       let width = then_some (λ (v : Width). sum_in shapes (width_in shapes d) t v.terms.items) (written_width shapes t m) n is in
       let i = written_at t x fits m width.0 width.1 in
       let s = sum_is files shapes nested d (widths_to files e) (width_is d e (omega (arith, le))) t x fits width.0.terms.items n width.2 l in
-      ap (λ o. unwrap_or (option_and_then (λ (y : ℕ × Member). option_and_then (λ (v : Width). total (map (λ (z : Term). count_in files (widths_to files e) x z.count) v.terms.items)) (width_of y.1)) o) 0) (member_is files shapes t x fits m i.0 i.1)
-      ∙ ap (λ o. unwrap_or (option_and_then (λ (v : Width). total (map (λ (z : Term). count_in files (widths_to files e) x z.count) v.terms.items)) o) 0) i.2
+      ap (λ o. unwrap_or (option_and_then (λ (y : ℕ × Member). option_and_then (λ (v : Width). total_width (map (λ (z : Term). term_of_width files (widths_to files e) x z.count) v.terms.items)) (width_of y.1)) o) 0) (member_is files shapes t x fits m i.0 i.1)
+      ∙ ap (λ o. unwrap_or (option_and_then (λ (v : Width). total_width (map (λ (z : Term). term_of_width files (widths_to files e) x z.count) v.terms.items)) o) 0) i.2
       ∙ ap (λ o. unwrap_or o 0) s
 
   module _ (depth : ℕ) (found : AreFound shapes depth) where
@@ -247,7 +247,7 @@ module _ (files : List SourceFile) (shapes : List Shape) (nested : AreNested fil
     is_one b e = omega (arith, e)
 
     -- what is in an instance has a setting that is reached
-    pub step_fits : (t : Valued) (x y : Inside) (k : ℕ) → IsReached shapes t → Fits files shapes t x → entered files (widths_to files depth) x k ≡ Some y → (u : Valued) × IsReached shapes u × Fits files shapes u y
+    pub step_fits : (t : Valued) (x y : Inside) (k : ℕ) → IsReached shapes t → Fits files shapes t x → entered_instance files (widths_to files depth) x k ≡ Some y → (u : Valued) × IsReached shapes u × Fits files shapes u y
     step_fits t x y k reached fits e = go inner.0 j.1 inner.2 from.2
       where
         inner : (i : Inner) × (slice_get (inners files (widths_to files depth) x) k ≡ Some i) × (inside_of files x i.new ≡ Some y)
@@ -279,7 +279,7 @@ module _ (files : List SourceFile) (shapes : List Shape) (nested : AreNested fil
                 (u.0, within m reached (record { instance = is_inst; is_inside = u.1; count = many.0; many = many.1; some = many.2 }), subst (Fits files shapes u.0) same f.2)
               where
                 named : Option ℕ → Inner
-                named n = record { name = written (string_bytes p.name.text) n; new = (file, p) }
+                named n = record { name = name_with_number (string_bytes p.name.text) n; new = (file, p) }
 
                 own : (i : Inherited) × (slice_get fits.shape.members.items m ≡ Some i) × (◌≡◌ {A = ℕ × Member} (i.file, i.member.now) (file, member.Instance p))
                 own = mapped_from (λ (i : Inherited). (i.file, i.member.now)) fits.shape.members.items m (file, member.Instance p) (ap (λ l. slice_get l m) fits.of_class.members ∙ at)
@@ -306,21 +306,21 @@ module _ (files : List SourceFile) (shapes : List Shape) (nested : AreNested fil
                     some (suc a) b c e k = omega (arith, e)
 
     -- so has each instance
-    pub path_fits : (path : List ℕ) (t : Valued) (x y : Inside) → IsReached shapes t → Fits files shapes t x → along (entered files (widths_to files depth)) x path ≡ Some y → (u : Valued) × IsReached shapes u × Fits files shapes u y
+    pub path_fits : (path : List ℕ) (t : Valued) (x y : Inside) → IsReached shapes t → Fits files shapes t x → along (entered_instance files (widths_to files depth)) x path ≡ Some y → (u : Valued) × IsReached shapes u × Fits files shapes u y
     path_fits [] t x y reached fits e = (t, reached, subst (Fits files shapes t) (Some_same x y e) fits)
     path_fits (k ∷ path) t x y reached fits e =
-        let z = then_some (λ z. along (entered files (widths_to files depth)) z path) (entered files (widths_to files depth) x k) y e in
+        let z = then_some (λ z. along (entered_instance files (widths_to files depth)) z path) (entered_instance files (widths_to files depth) x k) y e in
         let u = step_fits t x z.0 k reached fits z.1 in
         path_fits path u.0 z.0 y u.1 u.2 z.2
 
     -- the widths are the sums of their terms
-    pub are_widths : (t : Valued) (c : Class) → main_of files ≡ Some c → IsReached shapes t → Fits files shapes t (main_instance files c) → AreWidths files (widths_to files depth)
+    pub are_widths : (t : Valued) (c : Class) → main_of files ≡ Some c → IsReached shapes t → Fits files shapes t (main_class_instance files c) → AreWidths files (widths_to files depth)
     are_widths t c is_main reached fits path x k m width inside at wide =
         let same : c ≡ inside.0 = Some_same c inside.0 (sym is_main ∙ inside.1) in
-        let u = path_fits path t (main_instance files c) x reached fits (ap (λ d. along (entered files (widths_to files depth)) (main_instance files d) path) same ∙ inside.2) in
+        let u = path_fits path t (main_class_instance files c) x reached fits (ap (λ d. along (entered_instance files (widths_to files depth)) (main_class_instance files d) path) same ∙ inside.2) in
         of u.0 u.1 u.2
       where
-        of : (u : Valued) → IsReached shapes u → Fits files shapes u x → total (map (λ z. count_in files (widths_to files depth) x z.count) width.terms.items) ≡ Some (widths_to files depth x k)
+        of : (u : Valued) → IsReached shapes u → Fits files shapes u x → total_width (map (λ z. term_of_width files (widths_to files depth) x z.count) width.terms.items) ≡ Some (widths_to files depth x k)
         of u reached fits = steps h.0 h.2 h.3
           where
             own : (i : Inherited) × (slice_get fits.shape.members.items k ≡ Some i) × (◌≡◌ {A = ℕ × Member} (i.file, i.member.now) m)
@@ -332,7 +332,7 @@ module _ (files : List SourceFile) (shapes : List Shape) (nested : AreNested fil
             h : (d : ℕ) × (n : ℕ) × (d ≤ depth) × (width_in shapes d u k ≡ Some n) × (n < small)
             h = found u k width reached written
 
-            steps : (d : ℕ) → d ≤ depth → width_in shapes d u k ≡ Some h.1 → total (map (λ z. count_in files (widths_to files depth) x z.count) width.terms.items) ≡ Some (widths_to files depth x k)
+            steps : (d : ℕ) → d ≤ depth → width_in shapes d u k ≡ Some h.1 → total_width (map (λ z. term_of_width files (widths_to files depth) x z.count) width.terms.items) ≡ Some (widths_to files depth x k)
             steps zero le e = absurd (cc)
             steps (suc d) le e =
                 let s : sum_in shapes (width_in shapes d) u width.terms.items ≡ Some h.1 = sym (ap (option_and_then (λ (v : Width). sum_in shapes (width_in shapes d) u v.terms.items)) written) ∙ e in

@@ -19,14 +19,14 @@ pub record Inside : Type 0 where
   pub values : List (Option Value)
 
 -- the value of the parameter of this name
-abbrev pub value_at : List Parameter → List (Option Value) → List ℕ → Option Value
-value_at [] vs q = None
-value_at (p ∷ ps) [] q = None
-value_at (p ∷ ps) (v ∷ vs) q = if is_named q p.name then v else value_at ps vs q
+abbrev pub value_by_name : List Parameter → List (Option Value) → List ℕ → Option Value
+value_by_name [] vs q = None
+value_by_name (p ∷ ps) [] q = None
+value_by_name (p ∷ ps) (v ∷ vs) q = if is_named q p.name then v else value_by_name ps vs q
 
 -- the value that the parameter of this name has in an instance
 abbrev pub value_named : List SourceFile → Inside → List ℕ → Option Value
-value_named files x q = value_at (parameters_of files x.class) x.values q
+value_named files x q = value_by_name (parameters_of files x.class) x.values q
 
 -- a value, read in an instance: that of a parameter, if it is the name of one
 abbrev pub read_in : List SourceFile → Inside → Value → Option Value
@@ -38,21 +38,21 @@ abbrev pub default_of : Parameter → Option Value
 default_of p = option_map (λ e. e.value) p.default
 
 -- what `new` gives to a parameter, read in the instance around; else its default
-abbrev pub given_or_default : List SourceFile → Inside → Parameter → Option Assignment → Option Value
-given_or_default files outer p None = default_of p
-given_or_default files outer p (Some a) = read_in files outer a.value.value
+abbrev pub value_or_default : List SourceFile → Inside → Parameter → Option Assignment → Option Value
+value_or_default files outer p None = default_of p
+value_or_default files outer p (Some a) = read_in files outer a.value.value
 
 -- the value of a parameter of an instance to which `new` gives these
-abbrev pub given_in : List SourceFile → Inside → List Assignment → Parameter → Option Value
-given_in files outer given p = given_or_default files outer p (find (λ a. is_named (string_bytes p.name.text) a.name) given)
+abbrev pub value_given_in : List SourceFile → Inside → List Assignment → Parameter → Option Value
+value_given_in files outer given p = value_or_default files outer p (find (λ a. is_named (string_bytes p.name.text) a.name) given)
 
 -- the instance that a `new` in a file makes
 abbrev pub inside_of : List SourceFile → Inside → ℕ × Instance → Option Inside
-inside_of files outer (file, i) = option_map (λ c. record { class = c; values = map (given_in files outer i.given.items) (parameters_of files c) }) (class_named files file (string_bytes i.reactor.text))
+inside_of files outer (file, i) = option_map (λ c. record { class = c; values = map (value_given_in files outer i.given.items) (parameters_of files c) }) (class_named files file (string_bytes i.reactor.text))
 
 -- the main instance: its parameters have their defaults
-abbrev pub main_instance : List SourceFile → Class → Inside
-main_instance files c = record { class = c; values = map default_of (parameters_of files c) }
+abbrev pub main_class_instance : List SourceFile → Class → Inside
+main_class_instance files c = record { class = c; values = map default_of (parameters_of files c) }
 
 -- the whole number that a value is
 abbrev pub number_of : Value → Option ℤ
@@ -66,14 +66,14 @@ time_of (value.Number negative n unit) = nanoseconds (record { count = n; unit =
 time_of v = 0
 
 -- a time as it is written, read in an instance; one that is left out is 0
-abbrev pub time_in : List SourceFile → Inside → Option Expression → ℕ
-time_in files x None = 0
-time_in files x (Some e) = option_map_or time_of (read_in files x e.value) 0
+abbrev pub time_written_in : List SourceFile → Inside → Option Expression → ℕ
+time_written_in files x None = 0
+time_written_in files x (Some e) = option_map_or time_of (read_in files x e.value) 0
 
 -- the period of a timer, read in an instance
 abbrev pub period_in : List SourceFile → Inside → Option Expression → ℕ
 period_in files x None = 0
-period_in files x (Some e) = if is_forever e.value then 0 else time_in files x (Some e)
+period_in files x (Some e) = if is_forever e.value then 0 else time_written_in files x (Some e)
 
 -- ---- banks and multiports
 
@@ -87,8 +87,8 @@ numbers None n = None ∷ []
 numbers (Some width) n = map Some (below n)
 
 -- how it is written: `b`, or `b[2]`
-abbrev pub written : List ℕ → Option ℕ → List ℕ
-written q n = q ++ tail n
+abbrev pub name_with_number : List ℕ → Option ℕ → List ℕ
+name_with_number q n = q ++ tail n
 
 -- the place of the member of this name
 abbrev pub place_named : List SourceFile → Inside → List ℕ → Option ℕ
@@ -109,7 +109,7 @@ pub record Inner : Type 0 where
 
 -- the instances that the member at a place is
 abbrev pub inners_at : Widths → Inside → ℕ × (ℕ × Member) → List Inner
-inners_at w x (k, (file, member.Instance i)) = map (λ n. record { name = written (string_bytes i.name.text) n; new = (file, i) }) (numbers i.width (w x k))
+inners_at w x (k, (file, member.Instance i)) = map (λ n. record { name = name_with_number (string_bytes i.name.text) n; new = (file, i) }) (numbers i.width (w x k))
 inners_at w x m = []
 
 -- the instances in an instance, in order of declaration, a bank's in order of their numbers
@@ -117,5 +117,5 @@ abbrev pub inners : List SourceFile → Widths → Inside → List Inner
 inners files w x = flat_map (inners_at w x) (enumerate_from 0 (members_of files x.class))
 
 -- the instance at a place among them
-abbrev pub entered : List SourceFile → Widths → Inside → ℕ → Option Inside
-entered files w x k = option_and_then (λ i. inside_of files x i.new) (slice_get (inners files w x) k)
+abbrev pub entered_instance : List SourceFile → Widths → Inside → ℕ → Option Inside
+entered_instance files w x k = option_and_then (λ i. inside_of files x i.new) (slice_get (inners files w x) k)

@@ -16,12 +16,12 @@ abbrev pub is_named : List ℕ → Name → Bool
 is_named q name = bytes_eq q (string_bytes name.text)
 
 -- the test of a reactor having this name
-abbrev pub is_called : List ℕ → Reactor → Bool
-is_called q r = option_map_or (is_named q) r.name false
+abbrev pub is_reactor_called : List ℕ → Reactor → Bool
+is_reactor_called q r = option_map_or (is_named q) r.name false
 
 -- the reactor of this name that stands in a file
 abbrev pub own_class : List SourceFile → ℕ → List ℕ → Option Class
-own_class files file q = option_and_then (λ f. option_map (λ k. (file, k)) (position (is_called q) f.tree.reactors.items)) (slice_get files file)
+own_class files file q = option_and_then (λ f. option_map (λ k. (file, k)) (position (is_reactor_called q) f.tree.reactors.items)) (slice_get files file)
 
 -- the reactors of another file to which an import gives the name
 abbrev pub imported_by : List SourceFile → List ℕ → ℕ × Import → List Class

@@ -11,8 +11,8 @@ abbrev pub time_named : List SourceFile → Inside → List ℕ → ℕ
 time_named files x q = option_map_or time_of (value_named files x q) 0
 
 -- each parameter of the core instance has the time of the value in the instance
-abbrev pub HasTimes : List SourceFile → Inside → CoreInside → Type 0
-HasTimes files x core = core.values ≡ map (λ p. time_named files x p.name) core.reactor.parameters
+abbrev pub HasParameterTimes : List SourceFile → Inside → CoreInside → Type 0
+HasParameterTimes files x core = core.values ≡ map (λ p. time_named files x p.name) core.reactor.parameters
 
 -- the time is written out, or it names one of the parameters
 abbrev pub IsKnown : List ParameterTree → TimeTree → Type 0

@@ -4,7 +4,7 @@ use Rattle.lft_tag.specs.{declared.Tag.Tag, Tags.{Before, UpTo}}
 use Rattle.lft_ir.specs.{Parts.Parts, declared.{parts.Value.Value, steps.row.{Row.Row, Step.{Step, TheVariants.Stop}}}}
 use Rattle.lft_queue.specs.Pending.{Pending}
 use Rattle.lft_scheduler.specs.inner.{Turns.TurnParts, Listeners.{ListenerParts, AreListeners, AreArrivals}, Events.HasEvents, OpenRuns.AreOpen}
-use Rattle.lft_scheduler.specs.inner.{Waits.{IsLeastTag, IsTurnOf}, Firings.AreFirst}
+use Rattle.lft_scheduler.specs.inner.{Waits.{IsLeastTag, IsTurnOf}, Firings.AreFirstFirings}
 use Rattle.lft_scheduler.specs.{Answering.MayAll, Collisions.{CollidesFirst, IsClean}}
 use Rattle.lft_scheduler.specs.Starts.{MayStart, MayStartFirst, NoneMayStart, NothingLeft, SomethingLeft, IsAnyOpen, IsBusy}
 use Rattle.lft_scheduler.specs.declared.found.NextRun.{NextRun, TheVariants.{Ready, Blocked, Nothing}}
@@ -29,7 +29,7 @@ pub record IsOf (program : Parts) (a : AgendaParts) : Type 0 where
   pub listeners : AreListeners program a.listeners
   pub arrivals : AreArrivals program a.arrivals
   pub phases : length a.turn.phases ≡ length program.reactions
-  pub firings : AreFirst program (λ h. Before a.from h) a.firings
+  pub firings : AreFirstFirings program (λ h. Before a.from h) a.firings
   pub reached : a.from.time ≤ 1000000000000000000
   pub recorded : a.stop.time ≤ 1000000000000000000
 

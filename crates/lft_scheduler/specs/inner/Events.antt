@@ -37,8 +37,8 @@ abbrev pub IsWanted : Tag → Option Tag → Tag → Type 0
 IsWanted last clash h = UpTo h last × IsEarlier clash h
 
 -- an event is put in where it is wanted and there was none; where there was one, its tag is the one that is found
-abbrev pub IsPut : Tag → Option Tag → Tag → Name → Value → List Pending → List Pending → Option Tag → Type 0
-IsPut last clash h n v old new found =
+abbrev pub IsEventPut : Tag → Option Tag → Tag → Name → Value → List Pending → List Pending → Option Tag → Type 0
+IsEventPut last clash h n v old new found =
     (¬ IsWanted last clash h) × (new ≡ old) × (found ≡ clash)
     ⊎ IsWanted last clash h × (value_of h n old ≡ None) × Becomes old new h n (Some v) × (found ≡ clash)
     ⊎ IsWanted last clash h × IsSome (value_of h n old) × (new ≡ old) × (found ≡ Some h)

@@ -4,9 +4,9 @@ use Rattle.std.specs.{BTreeMap.{BTreeMap, get}, Ordering.{nat_cmp, ordering_then
 use Rattle.lft_tag.specs.Tags.{Before}
 use Rattle.lft_ir.specs.{Parts.Parts, Sound.IsTriggerOf}
 use Rattle.lft_ir.specs.declared.parts.{Port.Port as PortOf, Reaction.Reaction, Timer.Timer as TimerOf, Trigger.{Trigger, TheVariants.Timer}}
-use Rattle.lft_queue.specs.inner.{Reading.AreMarked, Coming.NumberLists.list_at}
+use Rattle.lft_queue.specs.inner.{Reading.AreReadPortsMarked, Coming.NumberLists.list_at}
 use Rattle.lft_scheduler.specs.inner.Listeners.{beat, IsLeader, IsListener, IsArrival, IsWatched, arrival, IsDelayed, IsFirstDelayed}
-use Rattle.lft_scheduler.specs.inner.Lists.{TriggerLists, list_of, HasList}
+use Rattle.lft_scheduler.specs.inner.Lists.{TriggerLists, list_of_trigger, HasList}
 
 -- beats by the period, then by the rest
 abbrev pub beat_cmp : ℕ × ℕ → ℕ × ℕ → Ordering
@@ -15,7 +15,7 @@ beat_cmp x y = ordering_then (nat_cmp x.0 y.0) (nat_cmp x.1 y.1)
 -- each trigger of the program has those of its listeners that are below a number
 pub record AreListed (program : Parts) (below : ℕ) (lists : TriggerLists) : Type 0 where
   pub room : (t : Trigger) → IsTriggerOf program t → HasList lists t
-  pub each : (t : Trigger) (r : ℕ) → Contains (list_of lists t) r ↔ ((r < below) × IsListener program t r)
+  pub each : (t : Trigger) (r : ℕ) → Contains (list_of_trigger lists t) r ↔ ((r < below) × IsListener program t r)
 
 -- each port has those of its watched arrivals that are below a number, ascending
 pub record AreArriving (program : Parts) (below : ℕ) (lists : List (List ℕ)) : Type 0 where
@@ -24,19 +24,19 @@ pub record AreArriving (program : Parts) (below : ℕ) (lists : List (List ℕ))
   pub ascends : (o : ℕ) → AllPairs (λ p q. p < q) (list_at lists o)
 
 -- the port is delayed, and a write arrives there sooner than at another one, if there is one
-abbrev pub Precedes : Parts → PortOf → Option ℕ → Type 0
-Precedes program port None = 0 < port.shift.time
-Precedes program port (Some n) = (0 < port.shift.time) × ((other : PortOf) → slice_get program.ports n ≡ Some other → Before (arrival port) (arrival other))
+abbrev pub ArrivesSooner : Parts → PortOf → Option ℕ → Type 0
+ArrivesSooner program port None = 0 < port.shift.time
+ArrivesSooner program port (Some n) = (0 < port.shift.time) × ((other : PortOf) → slice_get program.ports n ≡ Some other → Before (arrival port) (arrival other))
 
 -- it is the first delayed port of the origin below a number, or there is none
-abbrev pub IsFirst : Parts → ℕ → ℕ → Option ℕ → Type 0
-IsFirst program below o None = (q : ℕ) (other : PortOf) → q < below → IsDelayed program o q other → ⊥
-IsFirst program below o (Some p) = (p < below) × IsFirstDelayed program below o p
+abbrev pub IsFirstOfOrigin : Parts → ℕ → ℕ → Option ℕ → Type 0
+IsFirstOfOrigin program below o None = (q : ℕ) (other : PortOf) → q < below → IsDelayed program o q other → ⊥
+IsFirstOfOrigin program below o (Some p) = (p < below) × IsFirstDelayed program below o p
 
 -- each port has the first delayed one of those that it is the origin of, below a number
-pub record AreFirst (program : Parts) (below : ℕ) (firsts : List (Option ℕ)) : Type 0 where
+pub record AreFirstDelayedPorts (program : Parts) (below : ℕ) (firsts : List (Option ℕ)) : Type 0 where
   pub as_long : length firsts ≡ length program.ports
-  pub each : (o : ℕ) (first : Option ℕ) → slice_get firsts o ≡ Some first → IsFirst program below o first
+  pub each : (o : ℕ) (first : Option ℕ) → slice_get firsts o ≡ Some first → IsFirstOfOrigin program below o first
 
 -- what is known of the watched ports: whether a reaction reads each, and the first delayed one of each
 pub record WatchedParts : Type 0 where
@@ -45,13 +45,13 @@ pub record WatchedParts : Type 0 where
 
 -- they are those of the program
 pub record AreWatched (program : Parts) (watched : WatchedParts) : Type 0 where
-  pub read : AreMarked program (length program.reactions) watched.read
-  pub firsts : AreFirst program (length program.ports) watched.firsts
+  pub read : AreReadPortsMarked program (length program.reactions) watched.read
+  pub firsts : AreFirstDelayedPorts program (length program.ports) watched.firsts
 
 -- timer n starts before the other one, if there is one, or as soon and has the lesser number
-abbrev pub StartsBefore : Parts → ℕ → Option ℕ → Type 0
-StartsBefore program n None = Unit {0}
-StartsBefore program n (Some m) = (timer other : TimerOf) → slice_get program.timers n ≡ Some timer → slice_get program.timers m ≡ Some other → (timer.offset < other.offset) ⊎ ((timer.offset ≡ other.offset) × (n < m))
+abbrev pub TimerStartsBefore : Parts → ℕ → Option ℕ → Type 0
+TimerStartsBefore program n None = Unit {0}
+TimerStartsBefore program n (Some m) = (timer other : TimerOf) → slice_get program.timers n ≡ Some timer → slice_get program.timers m ≡ Some other → (timer.offset < other.offset) ⊎ ((timer.offset ≡ other.offset) × (n < m))
 
 -- the map has the leader of each beat of the timers among the triggers
 pub record HaveLeaders (program : Parts) (triggers : List Trigger) (map : BTreeMap (ℕ × ℕ) ℕ) : Type 0 where

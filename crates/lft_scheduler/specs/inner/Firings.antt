@@ -25,7 +25,7 @@ abbrev pub IsFirstOf : Parts → (Tag → Type 0) → Firing → Type 0
 IsFirstOf program P f = (timer : TimerOf) × (slice_get program.timers f.timer ≡ Some timer) × IsFirstFiring timer P (tag_of_firing f)
 
 -- each live timer has its first firing with a property, where it has one, and nothing else is kept
-pub record AreFirst (program : Parts) (P : Tag → Type 0) (fs : List Firing) : Type 0 where
+pub record AreFirstFirings (program : Parts) (P : Tag → Type 0) (fs : List Firing) : Type 0 where
   pub all : (n : ℕ) (h : Tag) → IsLive program n → FiresAt program h n → P h → (f : Firing) × Contains fs f × (f.timer ≡ n)
   pub only : (f : Firing) → Contains fs f → IsLive program f.timer × IsFirstOf program P f
 

@@ -2,8 +2,8 @@
 use Rattle.std.specs.Prelude.{◌≡◌, ◌≢◌, ◌↔◌, ◌⊎◌, ◌<◌, ◌≤◌, ◌%◌, ℕ, List, Some, Contains, AllPairs, slice_get, length}
 use Rattle.lft_tag.specs.{declared.Tag.Tag, Tags.UpTo}
 use Rattle.lft_ir.specs.{Parts.Parts, declared.parts.{Port.Port as PortOf, Reaction.Reaction, Timer.Timer as TimerOf, Trigger.{Trigger, TheVariants.Timer}}}
-use Rattle.lft_queue.specs.inner.{Reading.Reads, Coming.NumberLists.list_at}
-use Rattle.lft_scheduler.specs.inner.Lists.{TriggerLists, list_of}
+use Rattle.lft_queue.specs.inner.{Reading.ReadsPort, Coming.NumberLists.list_at}
+use Rattle.lft_scheduler.specs.inner.Lists.{TriggerLists, list_of_trigger}
 
 -- the trigger triggers reaction r
 abbrev pub IsListener : Parts → Trigger → ℕ → Type 0
@@ -47,7 +47,7 @@ pub record IsFirstDelayed (program : Parts) (below origin p : ℕ) : Type 0 wher
 
 -- the events of port p are watched: some reaction reads it, or it is an origin, whose events tell where it was written, or the first delayed port of an origin, where two writes of it collide if they do at any port
 abbrev pub IsWatched : Parts → ℕ → Type 0
-IsWatched program p = ((r : ℕ) × Reads program r p) ⊎ IsArrival program p p ⊎ ((o : ℕ) × IsFirstDelayed program (length program.ports) o p)
+IsWatched program p = ((r : ℕ) × ReadsPort program r p) ⊎ IsArrival program p p ⊎ ((o : ℕ) × IsFirstDelayed program (length program.ports) o p)
 
 -- what is kept of the listeners of a program: a list for each trigger, and the timers that lead
 pub record ListenerParts : Type 0 where
@@ -56,7 +56,7 @@ pub record ListenerParts : Type 0 where
 
 -- they are the listeners of the program
 pub record AreListeners (program : Parts) (listeners : ListenerParts) : Type 0 where
-  pub each : (t : Trigger) (r : ℕ) → Contains (list_of listeners.by_trigger t) r ↔ IsListener program t r
+  pub each : (t : Trigger) (r : ℕ) → Contains (list_of_trigger listeners.by_trigger t) r ↔ IsListener program t r
   pub live : (n : ℕ) → Contains listeners.live_timers n ↔ IsLive program n
 
 -- they are the watched arrivals of the program, by origin

@@ -12,12 +12,12 @@ pub record TriggerLists : Type 0 where
   pub actions : List (List ℕ)
 
 -- the list of a trigger
-abbrev pub list_of : TriggerLists → Trigger → List ℕ
-list_of lists Startup = lists.startup
-list_of lists Shutdown = lists.shutdown
-list_of lists (Timer t) = list_at lists.timers t
-list_of lists (On (Port p)) = list_at lists.ports p
-list_of lists (On (Action a)) = list_at lists.actions a
+abbrev pub list_of_trigger : TriggerLists → Trigger → List ℕ
+list_of_trigger lists Startup = lists.startup
+list_of_trigger lists Shutdown = lists.shutdown
+list_of_trigger lists (Timer t) = list_at lists.timers t
+list_of_trigger lists (On (Port p)) = list_at lists.ports p
+list_of_trigger lists (On (Action a)) = list_at lists.actions a
 
 -- there is a list for the trigger
 abbrev pub HasList : TriggerLists → Trigger → Type 0
@@ -30,9 +30,9 @@ HasList lists (On (Action a)) = a < length lists.actions
 -- one trigger has a reaction more
 pub record IsPushed (trigger : Trigger) (reaction : ℕ) (old new : TriggerLists) : Type 0 where
   pub room : (t : Trigger) → HasList old t → HasList new t
-  pub each : (t : Trigger) (r : ℕ) → Contains (list_of new t) r ↔ (Contains (list_of old t) r ⊎ ((t ≡ trigger) × (r ≡ reaction)))
+  pub each : (t : Trigger) (r : ℕ) → Contains (list_of_trigger new t) r ↔ (Contains (list_of_trigger old t) r ⊎ ((t ≡ trigger) × (r ≡ reaction)))
 
 -- some triggers have a reaction more
 pub record ArePushed (triggers : List Trigger) (reaction : ℕ) (old new : TriggerLists) : Type 0 where
   pub room : (t : Trigger) → HasList old t → HasList new t
-  pub each : (t : Trigger) (r : ℕ) → Contains (list_of new t) r ↔ (Contains (list_of old t) r ⊎ (Contains triggers t × (r ≡ reaction)))
+  pub each : (t : Trigger) (r : ℕ) → Contains (list_of_trigger new t) r ↔ (Contains (list_of_trigger old t) r ⊎ (Contains triggers t × (r ≡ reaction)))

@@ -26,7 +26,7 @@ abbrev pub free : Seat → Bool
 free s = free_at s.phase s.waits
 
 -- the set has the reactions that may start, and room for all
-pub record AreFree (seats : List Seat) (frees : List ℕ) : Type 0 where
+pub record AreFreeSeats (seats : List Seat) (frees : List ℕ) : Type 0 where
   pub room : length seats ≤ 64 * length frees
   pub each : (r : ℕ) (s : Seat) → slice_get seats r ≡ Some s → IsTrue (free s) ↔ Has frees r
 
@@ -41,9 +41,9 @@ differ true b = one (not b)
 differ false b = one b
 
 -- a weight of each seat, added up
-abbrev pub tally : (Seat → ℕ) → List Seat → ℕ
-tally f [] = 0
-tally f (s ∷ ss) = f s + tally f ss
+abbrev pub tally_of_seats : (Seat → ℕ) → List Seat → ℕ
+tally_of_seats f [] = 0
+tally_of_seats f (s ∷ ss) = f s + tally_of_seats f ss
 
 -- 1 where two numbers are the same, else 0
 abbrev pub hit : ℕ → ℕ → ℕ
@@ -54,7 +54,7 @@ hit (suc a) (suc b) = hit a b
 
 -- how many seats don't count as up says
 abbrev pub uncounted : Bool → List Seat → ℕ
-uncounted up seats = tally (λ s. differ up s.counted) seats
+uncounted up seats = tally_of_seats (λ s. differ up s.counted) seats
 
 -- how many times a number stands in a list
 abbrev pub times : ℕ → List ℕ → ℕ
@@ -76,10 +76,6 @@ gain false n = 0
 abbrev pub loss : Bool → ℕ → ℕ
 loss true n = 0
 loss false n = n
-
--- the members of each list are reactions
-abbrev pub AreInside : List (List ℕ) → Type 0
-AreInside after = (a i r : ℕ) (list : List ℕ) → slice_get after a ≡ Some list → slice_get list i ≡ Some r → r < length after
 
 -- no number stands in a list twice
 abbrev pub AreOnce : List (List ℕ) → Type 0
@@ -103,7 +99,7 @@ pub record IsMoving (up : Bool) (after : List (List ℕ)) (seats : List Seat) (s
   pub stacked : (i r : ℕ) → i < top → slice_get stack i ≡ Some r → (s : Seat) × (slice_get seats r ≡ Some s) × (s.counted ≡ not up) × (busy s ≡ up)
   pub once : (i j r : ℕ) → i < top → j < top → slice_get stack i ≡ Some r → slice_get stack j ≡ Some r → i ≡ j
   pub counted : (r : ℕ) (s : Seat) → slice_get seats r ≡ Some s → (busy s ≡ s.counted) ⊎ IsStacked stack top r
-  pub total : top + tally (λ s. differ up (busy s)) seats ≡ uncounted up seats
+  pub total : top + tally_of_seats (λ s. differ up (busy s)) seats ≡ uncounted up seats
 
 -- r is put on the stack where it became busy or no longer busy
 pub record IsPushed (was now : Bool) (stack : List ℕ) (top r : ℕ) (stack_after : List ℕ) (top_after : ℕ) : Type 0 where
@@ -139,5 +135,5 @@ pub record IsKept (graph : GraphParts) (after : List (List ℕ)) (seats : List S
   pub program : HasProgram graph
   pub mirror : IsMirror graph.before after
   pub rest : IsAtRest after seats
-  pub frees : AreFree seats set
+  pub frees : AreFreeSeats seats set
   pub room : length stack ≡ length after

@@ -14,21 +14,21 @@ abbrev pub HasProgram : GraphParts → Type 0
 HasProgram graph = (program : Parts) × IsSound program × IsGraphOf program graph
 
 -- r is pending: triggered, and its run hasn't ended
-abbrev pub IsPending : List Phase → ℕ → Type 0
-IsPending phases r = (slice_get phases r ≡ Some Waiting) ⊎ (slice_get phases r ≡ Some Open)
+abbrev pub IsPhasePending : List Phase → ℕ → Type 0
+IsPhasePending phases r = (slice_get phases r ≡ Some Waiting) ⊎ (slice_get phases r ≡ Some Open)
 
 -- no run is open
-abbrev pub NoneOpen : List Phase → Type 0
-NoneOpen phases = (r : ℕ) → slice_get phases r ≢ Some Open
+abbrev pub NoRunOpen : List Phase → Type 0
+NoRunOpen phases = (r : ℕ) → slice_get phases r ≢ Some Open
 
 -- nothing is left to run
 abbrev pub NonePending : List Phase → Type 0
-NonePending phases = (r : ℕ) → ¬ IsPending phases r
+NonePending phases = (r : ℕ) → ¬ IsPhasePending phases r
 
 -- r may start: it is triggered, its run hasn't started, and none that precedes it is pending
 pub record IsReady (program : Parts) (phases : List Phase) (r : ℕ) : Type 0 where
   pub waiting : slice_get phases r ≡ Some Waiting
-  pub none_before : (a : ℕ) → Precedes program a r → ¬ IsPending phases a
+  pub none_before : (a : ℕ) → Precedes program a r → ¬ IsPhasePending phases a
 
 -- the least number of a ready reaction
 pub record IsLeastReady (program : Parts) (phases : List Phase) (r : ℕ) : Type 0 where

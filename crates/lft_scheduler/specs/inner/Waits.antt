@@ -20,8 +20,8 @@ abbrev pub IsBetween : Tag → Tag → Tag → Type 0
 IsBetween from last g = Before from g × UpTo g last
 
 -- the tag that was found is h or an earlier one
-abbrev pub IsCovered : Option Tag → Tag → Type 0
-IsCovered o h = (g : Tag) × (o ≡ Some g) × UpTo g h
+abbrev pub IsFoundUpTo : Option Tag → Tag → Type 0
+IsFoundUpTo o h = (g : Tag) × (o ≡ Some g) × UpTo g h
 
 -- how far r is at g
 abbrev pub PhaseIs : PlanParts → List Row → Tag → ℕ → Phase → Type 0

@@ -2,7 +2,7 @@
 
 ghost use Rattle.std.specs.Prelude.{◌≡◌, ◌<◌, ◌≤◌, ◌+◌, ◌++◌, ◌∷◌, [], ℕ, List, length, slice_get, Some, None, IfOk, Contains};
 ghost use Rattle.lft_tag.specs.Tags.{UpTo, IsRecorded};
-ghost use Rattle.lft_scheduler.specs.inner.{Listeners.{IsArrival, IsWatched, AreArrivals}, Events.{HasEvents, IsPut, IsFedTo, KnowsAgain}};
+ghost use Rattle.lft_scheduler.specs.inner.{Listeners.{IsArrival, IsWatched, AreArrivals}, Events.{HasEvents, IsEventPut, IsFedTo, KnowsAgain}};
 ghost use Rattle.lft_ir.specs.{declared.steps.row.{Row.Row as RowOf, Step.Step as StepOf}, Steps.Fits.StepFits};
 ghost use Rattle.lft_model.specs.Recorded.{run_row, committed_rows};
 
@@ -24,7 +24,7 @@ fn put(
     name: Name,
     value: Value,
 ) -> Result<Option<Tag>, NoMemory>
-    ensures { IfOk result (λ found. IsPut last clash tag name value queue.old queue.new found) }
+    ensures { IfOk result (λ found. IsEventPut last clash tag name value queue.old queue.new found) }
 {
     if last.is_before(tag) {
         return Ok(clash);

@@ -2,7 +2,7 @@
 
 ghost use Rattle.std.specs.Prelude.{◌≡◌, [], IfOk, OnOk};
 ghost use Rattle.lft_ir.specs.{declared.parts.Trigger.Trigger as TriggerOf, Sound.IsTriggerOf};
-ghost use Rattle.lft_scheduler.specs.inner.Lists.{list_of, HasList, IsPushed};
+ghost use Rattle.lft_scheduler.specs.inner.Lists.{list_of_trigger, HasList, IsPushed};
 
 use lft_ir::{Name, Program, Trigger};
 use lft_queue::coming::NumberLists;
@@ -32,7 +32,7 @@ impl ByTrigger {
     // an empty list for each trigger of the program
     pub(crate) fn new(alloc: Global, program: &Program) -> Result<ByTrigger, NoMemory>
         ensures room { IfOk result (λ lists. (t : TriggerOf) → IsTriggerOf program.now t → HasList lists t) }
-        ensures empty { IfOk result (λ lists. (t : TriggerOf) → list_of lists t ≡ []) }
+        ensures empty { IfOk result (λ lists. (t : TriggerOf) → list_of_trigger lists t ≡ []) }
     {
         Ok(ByTrigger {
             startup: Vec::new(alloc),
@@ -60,7 +60,7 @@ impl ByTrigger {
 
     // the list of a trigger, empty for one of another program
     pub(crate) fn at(&self, trigger: Trigger) -> &[u32]
-        ensures { result.now ≡ list_of self.now trigger }
+        ensures { result.now ≡ list_of_trigger self.now trigger }
     {
         match trigger {
             Trigger::Startup => self.startup.as_slice(),

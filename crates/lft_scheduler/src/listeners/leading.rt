@@ -2,7 +2,7 @@
 
 ghost use Rattle.std.specs.Prelude.{◌≡◌, ◌↔◌, ◌⊎◌, ◌<◌, ℕ, true, length, slice_get, Some, IfOk, OnOk, IfSome, IsTrue, Contains};
 ghost use Rattle.lft_ir.specs.declared.parts.Trigger.{Trigger as TriggerOf};
-ghost use Rattle.lft_scheduler.specs.inner.{Listeners.{beat as the_beat, IsLeader, IsLive}, Filling.{HaveLeaders, AreLeading, StartsBefore}};
+ghost use Rattle.lft_scheduler.specs.inner.{Listeners.{beat as the_beat, IsLeader, IsLive}, Filling.{HaveLeaders, AreLeading, TimerStartsBefore}};
 
 use lft_ir::{Program, Timer, Trigger};
 use lft_lists::item_at;
@@ -25,7 +25,7 @@ fn beat(timer: &Timer) -> (u64, u64)
 fn starts_before(program: &Program, number: u32, other: Option<u32>) -> bool
     requires number { number < length program.now.timers }
     requires other { IfSome other (λ m. m < length program.now.timers) }
-    ensures { IsTrue result ↔ StartsBefore program.now number other }
+    ensures { IsTrue result ↔ TimerStartsBefore program.now number other }
 {
     let Some(leader) = other else {
         return true;

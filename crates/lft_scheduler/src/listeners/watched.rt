@@ -1,7 +1,7 @@
 //! The ports whose events are watched.
 
 ghost use Rattle.std.specs.Prelude.{◌≡◌, ◌↔◌, ◌<◌, length, IfOk, IfSome, IsTrue};
-ghost use Rattle.lft_scheduler.specs.inner.{Listeners.{IsWatched, arrival as arrival_of}, Filling.{AreFirst, Precedes, AreWatched}};
+ghost use Rattle.lft_scheduler.specs.inner.{Listeners.{IsWatched, arrival as arrival_of}, Filling.{AreFirstDelayedPorts, ArrivesSooner, AreWatched}};
 
 use lft_ir::{Port, Program};
 use lft_queue::read_ports;
@@ -22,7 +22,7 @@ fn arrival(port: &Port) -> Tag
 // Whether the port is delayed, and a write arrives there sooner than at the other one, if there is one.
 fn precedes(program: &Program, port: &Port, other: Option<u32>) -> bool
     requires { IfSome other (λ p. p < length program.now.ports) }
-    ensures { IsTrue result ↔ Precedes program.now port.now other }
+    ensures { IsTrue result ↔ ArrivesSooner program.now port.now other }
 {
     if port.shift.time == 0 {
         return false;
@@ -35,7 +35,7 @@ fn precedes(program: &Program, port: &Port, other: Option<u32>) -> bool
 
 // The first delayed port of each origin, where it has one.
 fn first_delayed(alloc: Global, program: &Program) -> Result<Vec<Option<u32>>, NoMemory>
-    ensures { IfOk result (λ firsts. AreFirst program.now (length program.now.ports) firsts.items) }
+    ensures { IfOk result (λ firsts. AreFirstDelayedPorts program.now (length program.now.ports) firsts.items) }
 {
     let mut firsts = vec![in alloc; None; program.ports()]?;
     'ports: for number in 0..program.ports() {

@@ -3,7 +3,8 @@
 
 ghost use Rattle.std.specs.Prelude.{◌≡◌, ◌≢◌, ℕ, List, [], true, false, ◌+◌, ◌<◌, ◌≤◌, length, slice_get, slice_set, Some};
 ghost use Rattle.lft_scheduler.specs.declared.turn.seats.Seat.{Seat};
-ghost use Rattle.lft_scheduler.specs.inner.Seats.{busy, IsAtRest, IsPushed, IsMoving, AreFree, AreInside, AreOnce, KeepsPhases, phases_of, uncounted};
+ghost use Rattle.lft_scheduler.specs.inner.Seats.{busy, IsAtRest, IsPushed, IsMoving, AreFreeSeats, AreOnce, KeepsPhases, phases_of, uncounted};
+ghost use Rattle.lft_graph.specs.inner.Walks.{AreInside};
 
 use crate::turn::frees::mark;
 use crate::turn::phase::{Phase, is_pending};
@@ -23,10 +24,10 @@ pub(crate) fn write(
     seat: Seat,
 ) -> usize
     requires known { reaction < length seats.old }
-    requires frees { AreFree seats.old frees.old }
+    requires frees { AreFreeSeats seats.old frees.old }
     requires room { (s : Seat) → slice_get seats.old reaction ≡ Some s → busy seat ≢ busy s → top < length stack.old }
     ensures seats { seats.new ≡ slice_set seats.old reaction seat }
-    ensures frees { AreFree seats.new frees.new }
+    ensures frees { AreFreeSeats seats.new frees.new }
     ensures pushed { (s : Seat) → slice_get seats.old reaction ≡ Some s → IsPushed (busy s) (busy seat) stack.old top reaction stack.new result }
 {
     let was = seat_at(seats, reaction);
@@ -66,9 +67,9 @@ fn tell(
     requires inside { AreInside after.now }
     requires once { AreOnce after.now }
     requires few { length after.now ≤ 10000 }
-    requires frees { AreFree seats.old frees.old }
+    requires frees { AreFreeSeats seats.old frees.old }
     requires moving { (list : List ℕ) → slice_get after.now reaction ≡ Some list → IsMoving up after.now seats.old stack.old top list }
-    ensures frees { AreFree seats.new frees.new }
+    ensures frees { AreFreeSeats seats.new frees.new }
     ensures moving { IsMoving up after.now seats.new stack.new result [] }
     ensures as_many { uncounted up seats.new ≡ uncounted up seats.old }
     ensures phases { KeepsPhases seats.old seats.new }
@@ -96,9 +97,9 @@ pub(crate) fn settle(
     requires inside { AreInside after.now }
     requires once { AreOnce after.now }
     requires few { length after.now ≤ 10000 }
-    requires frees { AreFree seats.old frees.old }
+    requires frees { AreFreeSeats seats.old frees.old }
     requires moving { IsMoving up after.now seats.old stack.old top [] }
-    ensures frees { AreFree seats.new frees.new }
+    ensures frees { AreFreeSeats seats.new frees.new }
     ensures rest { IsAtRest after.now seats.new }
     ensures phases { KeepsPhases seats.old seats.new }
 {
@@ -129,9 +130,9 @@ pub(crate) fn change(
     requires few { length after.now ≤ 10000 }
     requires known { reaction < length seats.old }
     requires room { length stack.old ≡ length after.now }
-    requires frees { AreFree seats.old frees.old }
+    requires frees { AreFreeSeats seats.old frees.old }
     requires rest { IsAtRest after.now seats.old }
-    ensures frees { AreFree seats.new frees.new }
+    ensures frees { AreFreeSeats seats.new frees.new }
     ensures rest { IsAtRest after.now seats.new }
     ensures phases { phases_of seats.new ≡ slice_set (phases_of seats.old) reaction phase }
 {

@@ -4,7 +4,7 @@ use Rattle.lft_tag.specs.declared.Tag.{Tag}
 use Rattle.lft_ir.specs.declared.steps.row.Row.{Row}
 use Rattle.lft_model.specs.Runs.{start_row, end_row, Ran}
 use Rattle.lft_rows.specs.{declared.slices.Slice.Slice, Slices.AreTags}
-use Rattle.lft_slices.specs.{declared.pieces.{Piece.Piece, Pieces.Pieces}, Pieces.IsPiece}
+use Rattle.lft_slices.specs.{declared.pieces.{Piece.Piece, Pieces.Pieces}, Pieces.IsRunPiece}
 
 -- what follows serves the proof that a cut has the runs
 -- for each reaction that ends in a row of the slice before place i, the place of that row
@@ -13,7 +13,7 @@ AreEndsTo t s i ends = (j w r : ℕ) → s.first ≤ j → j < i → slice_get t
 
 -- the runs that start in the rows of the slice before place i, each once
 pub record AreStartsTo (t : List Row) (s : Slice) (i : ℕ) (pieces : List Piece) : Type 0 where
-  pub is_run : (k : ℕ) (x : Piece) → slice_get pieces k ≡ Some x → IsPiece t s.tag x × (x.start < i)
+  pub is_run : (k : ℕ) (x : Piece) → slice_get pieces k ≡ Some x → IsRunPiece t s.tag x × (x.start < i)
   pub each : (j w r : ℕ) → s.first ≤ j → j < i → slice_get t j ≡ Some (start_row w s.tag r) → (k : ℕ) × (x : Piece) × (slice_get pieces k ≡ Some x) × (x.reaction ≡ r)
   pub apart : (j k : ℕ) (x y : Piece) → slice_get pieces j ≡ Some x → slice_get pieces k ≡ Some y → x.reaction ≡ y.reaction → j ≡ k
 
@@ -22,7 +22,7 @@ pub record AreRunsIn (t : List Row) (g : Tag) (pieces : List Piece) (a b : ℕ) 
   pub order : a ≤ b
   pub within : b ≤ length pieces
   pub ascending : (j k : ℕ) (x y : Piece) → a ≤ j → j < k → k < b → slice_get pieces j ≡ Some x → slice_get pieces k ≡ Some y → x.reaction < y.reaction
-  pub is_run : (k : ℕ) (x : Piece) → a ≤ k → k < b → slice_get pieces k ≡ Some x → IsPiece t g x
+  pub is_run : (k : ℕ) (x : Piece) → a ≤ k → k < b → slice_get pieces k ≡ Some x → IsRunPiece t g x
   pub each : (r : ℕ) → Ran t g r → (k : ℕ) × (x : Piece) × (a ≤ k) × (k < b) × (slice_get pieces k ≡ Some x) × (x.reaction ≡ r)
 
 -- the pieces of the first k slices, those of a slice side by side: firsts tells where those at each tag begin

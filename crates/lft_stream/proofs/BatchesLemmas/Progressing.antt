@@ -7,15 +7,15 @@ use Rattle.lft_model.specs.Plans.{PlanParts}
 use Rattle.lft_trace.specs.{Records.records_of, Traces.{IsRow, Table, header}, declared.records.Records.Records}
 use Rattle.lft_trace.specs.inner.{Batches.{AreNext, AreLast}, Records.records_left}
 use Rattle.lft_trace.proofs.{TableFacts.Texts, Together.zipped}
-use Rattle.lft_stream.specs.{inner.Batches.Progresses.{AreGone, IsGoneOn, IsProgress}, declared.batches.progress.Progress.Progress}
+use Rattle.lft_stream.specs.{inner.Batches.Progresses.{AreGone, IsGoneOn, IsProgress}, declared.batches.progress.JudgedRows.JudgedRows}
 
 -- no rows are judged at once
-pub none_judged : (plan : PlanParts) (t rows : List Row) (progress : Progress) → length rows ≡ 0 → IsProgress plan t progress → IsProgress plan (t ++ rows) progress
+pub none_judged : (plan : PlanParts) (t rows : List Row) (progress : JudgedRows) → length rows ≡ 0 → IsProgress plan t progress → IsProgress plan (t ++ rows) progress
 none_judged plan t [] progress none so = subst (λ (r : List Row). IsProgress plan r progress) (sym (append-nil t)) so
 none_judged plan t (x ∷ rows) progress none so = absurd (omega arith)
 
 -- rows that are judged in two parts, with what then waits
-pub gone_on : (plan : PlanParts) (old mid new : Progress) (first second next waiting : List Row) → (first ++ second) ++ waiting ≡ next → ((t : List Row) → IsProgress plan t old → IsProgress plan (t ++ first) mid) → ((t : List Row) → IsProgress plan t mid → IsProgress plan (t ++ second) new) → IsGoneOn plan old new next waiting
+pub gone_on : (plan : PlanParts) (old mid new : JudgedRows) (first second next waiting : List Row) → (first ++ second) ++ waiting ≡ next → ((t : List Row) → IsProgress plan t old → IsProgress plan (t ++ first) mid) → ((t : List Row) → IsProgress plan t mid → IsProgress plan (t ++ second) new) → IsGoneOn plan old new next waiting
 gone_on plan old mid new first second next waiting is one other t so = ((t ++ first) ++ second, other (t ++ first) (one t so), regroup ∙ ap (λ (x : List Row). t ++ x) is)
   where
     regroup : ((t ++ first) ++ second) ++ waiting ≡ t ++ ((first ++ second) ++ waiting)
@@ -28,7 +28,7 @@ module _ {R : Type 0} (remaining : R → Option (List ℕ)) (plan : PlanParts) (
     each_more so is same = subst (λ (r : List Row). AllZip (IsRow plan.program) (first ++ next) r) (append_assoc t waiting batch ∙ sym same) (zipped (IsRow plan.program) first next (t ++ waiting) batch so is)
 
   -- a batch that is read and judged
-  module _ (old new : Records R) (before after : Progress) (waiting batch left : List Row) (gone : AreGone remaining plan source old before waiting) (on : IsGoneOn plan before after (waiting ++ batch) left) where
+  module _ (old new : Records R) (before after : JudgedRows) (waiting batch left : List Row) (gone : AreGone remaining plan source old before waiting) (on : IsGoneOn plan before after (waiting ++ batch) left) where
     -- where more may follow, what was read goes on
     pub batch_gone : AreNext remaining plan.program old new batch → AreGone remaining plan source new after left
     batch_gone b =

@@ -6,7 +6,7 @@ use Rattle.lft_trace.specs.{Records.records_of, inner.{Telling.rows_in, Parts.Be
 use Rattle.lft_trace.proofs.{Beginning.{begins_all, begins_more, begins_none}, FirstTold.tells}
 use Rattle.lft_model.specs.Plans.{PlanParts}
 use Rattle.lft_stream.specs.inner.Batches.{Fronts.{IsNextBehind, judged_rows}, Progresses.{IsGoneOn, IsProgress, IsReadUpTo}}
-use Rattle.lft_stream.specs.declared.batches.{progress.Progress.Progress, text.Front.Front}
+use Rattle.lft_stream.specs.declared.batches.{progress.JudgedRows.JudgedRows, text.Front.Front}
 
 module _ (plan : PlanParts) (body : List ℕ) (front : Front) (waiting : List Row) where
   -- before anything is judged, all rows are next
@@ -33,7 +33,7 @@ read_all program text body [] rows under begins none few = record { rest = recor
 read_all program text body (x ∷ xs) rows under begins none few = absurd (omega arith)
 
 -- rows that wait are gone past
-module _ (plan : PlanParts) (text rest : List ℕ) (old new : Progress) (waiting left : List Row) (so : IsReadUpTo plan text old waiting rest) (gone : IsGoneOn plan old new waiting left) where
+module _ (plan : PlanParts) (text rest : List ℕ) (old new : JudgedRows) (waiting left : List Row) (so : IsReadUpTo plan text old waiting rest) (gone : IsGoneOn plan old new waiting left) where
   -- what is read meanwhile stands behind those that are left
   pub reads_on : (behind : List ℕ) (read : List Row) → BeginsWith plan.program rest read behind → IsReadUpTo plan text new (left ++ read) behind
   reads_on behind read more =

@@ -8,7 +8,7 @@ use Rattle.lft_ir.specs.{Parts.Parts, Steps.Fits.RowsFit, declared.steps.row.Row
 use Rattle.lft_lists.proofs.Places.{get_left, get_right}
 use Rattle.lft_trace.specs.inner.Parts.{rows_of}
 use Rattle.lft_model.specs.Plans.{PlanParts}
-use Rattle.lft_stream.specs.{inner.Batches.Progresses.IsGoneOn, declared.batches.progress.Progress.Progress}
+use Rattle.lft_stream.specs.{inner.Batches.Progresses.IsGoneOn, declared.batches.progress.JudgedRows.JudgedRows}
 
 module _ (parts : List (Vec Row Global)) (n : ℕ) (part : Vec Row Global) (at : slice_get parts n ≡ Some part) where
   before : take (n + 1) parts ≡ take n parts ++ (part ∷ [])
@@ -35,7 +35,7 @@ module _ (parts : List (Vec Row Global)) (n : ℕ) (part : Vec Row Global) (at :
       }
 
 -- a part behind others is gone past with those
-pub part_gone : (plan : PlanParts) (old mid new : Progress) (w x y l left : List Row) → IsGoneOn plan old mid (w ++ x) l → IsGoneOn plan mid new (l ++ y) left → IsGoneOn plan old new (w ++ (x ++ y)) left
+pub part_gone : (plan : PlanParts) (old mid new : JudgedRows) (w x y l left : List Row) → IsGoneOn plan old mid (w ++ x) l → IsGoneOn plan mid new (l ++ y) left → IsGoneOn plan old new (w ++ (x ++ y)) left
 part_gone plan old mid new w x y l left one two t so =
     let u = one t so in
     let v = two u.0 u.1 in

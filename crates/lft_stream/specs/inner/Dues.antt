@@ -34,7 +34,7 @@ IsDue plan t r (On n) AtStop = ⊥
 IsDue plan t r (On n) Never = Unit {0}
 
 -- one by one, when some triggers of r are due
-pub record AreDue (plan : PlanParts) (t : List Row) (r : ℕ) (triggers : List Trigger) (dues : List Due) : Type 0 where
+pub record AreTriggersDue (plan : PlanParts) (t : List Row) (r : ℕ) (triggers : List Trigger) (dues : List Due) : Type 0 where
   pub as_long : length dues ≡ length triggers
   pub each : (k : ℕ) (x : Trigger) (due : Due) → slice_get triggers k ≡ Some x → slice_get dues k ≡ Some due → IsDue plan t r x due
 
@@ -47,7 +47,7 @@ timed (On n) = None
 
 -- when those triggers of r are due that wait for no event and stand for all such
 abbrev pub AreDueOf : PlanParts → List Row → ℕ → List Due → Type 0
-AreDueOf plan t r dues = (needed : List Trigger) × AreNeededOf plan.program r needed × AreDue plan t r (filter_map timed needed) dues
+AreDueOf plan t r dues = (needed : List Trigger) × AreNeededOf plan.program r needed × AreTriggersDue plan t r (filter_map timed needed) dues
 
 -- the same of each reaction
 pub record AreDues (plan : PlanParts) (t : List Row) (dues : List (List Due)) : Type 0 where
@@ -92,8 +92,8 @@ SomeOccurs plan t g triggers = (x : Trigger) × Contains triggers x × Occurs pl
 
 -- where a reaction has a run at g, and last is the stop, its triggers that were due by the old list are so by the new one
 abbrev pub GoOn : Tag → Tag → List Due → List Due → Type 0
-GoOn last g old new = (plan : PlanParts) (t : List Row) (r : ℕ) (triggers : List Trigger) → last ≡ stop plan t → Ran t g r → AreDue plan t r triggers old → AreDue plan t r triggers new
+GoOn last g old new = (plan : PlanParts) (t : List Row) (r : ℕ) (triggers : List Trigger) → last ≡ stop plan t → Ran t g r → AreTriggersDue plan t r triggers old → AreTriggersDue plan t r triggers new
 
 -- there some trigger that is due by the list is present at g
 abbrev pub IsSomePresent : Tag → Tag → List Due → Type 0
-IsSomePresent last g dues = (plan : PlanParts) (t : List Row) (r : ℕ) (triggers : List Trigger) → last ≡ stop plan t → Ran t g r → AreDue plan t r triggers dues → SomeOccurs plan t g triggers
+IsSomePresent last g dues = (plan : PlanParts) (t : List Row) (r : ℕ) (triggers : List Trigger) → last ≡ stop plan t → Ran t g r → AreTriggersDue plan t r triggers dues → SomeOccurs plan t g triggers

@@ -7,8 +7,8 @@ use Rattle.lft_graph.specs.inner.Sets.{AreAncestors}
 use Rattle.lft_rows.specs.{inner.{Firsts.FirstRow, Marks.IsLaid, Passes.IsPass}, declared.slices.Slice.Slice}
 use Rattle.lft_stream.specs.declared.{acceptor.Acceptor.Acceptor, stream.Stream.Stream}
 use Rattle.lft_stream.specs.{inner.{Dues.AreDues, StartTags.AreStartTags, Streams.{State, IsStream}}, Kept.low_of}
-use Rattle.lft_queue.specs.inner.Coming.{AtOnce.{is_undelayed, HasEvents, IsAwaited, AreHeard}, Channels.AreReadChannels, Unread.AreUnread, Lanes.held}
-use Rattle.lft_queue.specs.inner.Coming.{Listeners.{AreListeners, AreStarted}, Coming.{AreComing, AreTaken, IsClear}, Writes.{AreWrites, AreEarlier}}
+use Rattle.lft_queue.specs.inner.Coming.{AtOnce.{is_undelayed, MayHaveEvents, IsAwaited, AreHeard}, Channels.AreReadChannels, Unread.AreUnread, Lanes.held}
+use Rattle.lft_queue.specs.inner.Coming.{Listeners.{AreNameListeners, AreStarted}, Coming.{AreComing, AreTaken, IsClear}, Writes.{AreWrites, AreEarlierWrites}}
 use Rattle.lft_queue.specs.inner.Reading.{is_read}
 use Rattle.lft_queue.specs.{Coming.AtTag.AreBefore, Pending.value_of}
 
@@ -21,8 +21,8 @@ abbrev pub IsLater : Option Tag → Tag → Type 0
 IsLater last g = MatchOption last (Unit {0}) (λ h. Before h g)
 
 -- no row is past the tag; where there is none, there is no row
-abbrev pub AreUpTo : List Row → Option Tag → Type 0
-AreUpTo t last = MatchOption last (t ≡ []) (λ g. (i : ℕ) (x : Row) → slice_get t i ≡ Some x → UpTo x.tag g)
+abbrev pub AreUpToLast : List Row → Option Tag → Type 0
+AreUpToLast t last = MatchOption last (t ≡ []) (λ g. (i : ℕ) (x : Row) → slice_get t i ≡ Some x → UpTo x.tag g)
 
 -- the tag, if there is one, is that of a row
 abbrev pub IsOfRow : List Row → Option Tag → Type 0
@@ -49,11 +49,11 @@ pub record IsStreamOf (plan : PlanParts) (t : List Row) (s : Stream) : Type 0 wh
   pub alone : (p : ℕ) (h : Tag) → is_read plan.program p ≡ false → UpTo (low_of s.tag) h → UpTo h s.stop → IsClear s.coming.clash h → length (held (lanes (Port p)) h) < 2
   pub state : IsStream plan t (state_of lanes (low_of s.tag) s)
   pub stop_is : s.stop ≡ stop plan t
-  pub up_to : AreUpTo t s.tag
+  pub up_to : AreUpToLast t s.tag
   pub of_row : IsOfRow t s.tag
-  pub writes : AreEarlier plan.program (low_of s.tag) s.writes
+  pub writes : AreEarlierWrites plan.program (low_of s.tag) s.writes
   pub starts : AreStartTags plan.program t s.starts
-  pub listeners : AreListeners plan s.listeners
+  pub listeners : AreNameListeners plan s.listeners
   pub channels : AreReadChannels plan.program s.channels
   pub unread : AreUnread plan.program t s.unread
 
@@ -74,11 +74,11 @@ pub record IsAtHand (plan : PlanParts) (done rows : List Row) (s : Slice) (strea
   pub ran : (r : ℕ) → Ran rows s.tag r → Ran (done ++ slice_range rows s.first s.end) s.tag r
   pub stop_is : stream.stop ≡ stop plan (done ++ slice_range rows s.first s.end)
   pub dues : AreDues plan (done ++ slice_range rows s.first s.end) stream.dues
-  pub writes : AreEarlier plan.program s.tag stream.writes
+  pub writes : AreEarlierWrites plan.program s.tag stream.writes
   pub starts : AreStartTags plan.program (done ++ slice_range rows s.first s.end) stream.starts
-  pub listeners : AreListeners plan stream.listeners
+  pub listeners : AreNameListeners plan stream.listeners
   pub channels : AreReadChannels plan.program stream.channels
-  pub queued : (n : Name) → HasEvents plan.program n → IsAwaited plan.program n → Shows plan (done ++ slice_range rows s.first s.end) s.tag n (value_of s.tag n stream.coming.queue)
+  pub queued : (n : Name) → MayHaveEvents plan.program n → IsAwaited plan.program n → Shows plan (done ++ slice_range rows s.first s.end) s.tag n (value_of s.tag n stream.coming.queue)
 
 -- the runs of the slice are triggered and read what is present, the ports that it writes and the events of the queue at its tag are heard, and what is kept is right for the slice too
 pub record IsJudged (plan : PlanParts) (done rows : List Row) (s : Slice) (stream : Stream) : Type 0 where
@@ -88,5 +88,5 @@ pub record IsJudged (plan : PlanParts) (done rows : List Row) (s : Slice) (strea
   pub dues : AreDues plan (done ++ slice_range rows s.first s.end) stream.dues
   pub writes : AreWrites plan.program (slice_range rows s.first s.end) s.tag stream.writes
   pub starts : AreStartTags plan.program (done ++ slice_range rows s.first s.end) stream.starts
-  pub listeners : AreListeners plan stream.listeners
+  pub listeners : AreNameListeners plan stream.listeners
   pub met : (n : Name) → IsSome (value_of s.tag n stream.coming.queue) → AreStarted (done ++ slice_range rows s.first s.end) s.tag stream.listeners n

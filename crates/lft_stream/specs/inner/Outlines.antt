@@ -2,7 +2,7 @@
 use Rattle.std.specs.Prelude.{◌≡◌, ℕ, ◌<◌, ◌≤◌, Bool, true, false, cond, List, length, take, Option, Some, None, slice_get, slice_range, filter_map}
 use Rattle.lft_ir.specs.declared.{parts.{Name.Name, Value.Value}, steps.row.{Row.Row, Step.{Step, TheVariants.{Start, Read, Write, Schedule, Stop, End}}}}
 use Rattle.lft_rows.specs.Slices.{begins, runs_in}
-use Rattle.lft_stream.specs.declared.outline.{Span.Span, Outline.Outline}
+use Rattle.lft_stream.specs.declared.outline.{PlaceRange.PlaceRange, Outline.Outline}
 
 -- the reaction that the row starts, if it starts one
 abbrev pub started_by : Row → Option ℕ
@@ -26,11 +26,11 @@ abbrev pub effect_of : Row → Option Row
 effect_of row = cond (has_effect row.step) (Some row) None
 
 -- the rows that have an effect, in order
-abbrev pub effects_in : List Row → List Row
-effects_in u = filter_map effect_of u
+abbrev pub effect_rows : List Row → List Row
+effect_rows u = filter_map effect_of u
 
 -- of the first n rows those that have an effect stand in the span
-pub record IsSpan (u : List Row) (n : ℕ) (span : Span) : Type 0 where
+pub record IsSpan (u : List Row) (n : ℕ) (span : PlaceRange) : Type 0 where
   pub in_order : span.first ≤ span.end
   pub within : span.end ≤ n
   pub each : (i : ℕ) (x : Row) → i < n → slice_get u i ≡ Some x → has_effect x.step ≡ true → (span.first ≤ i) × (i < span.end)
@@ -58,4 +58,4 @@ pub record AreEffectsOf (u effects : List Row) : Type 0 where
   pub in_order : first ≤ end
   pub within : end ≤ length u
   pub is_part : effects ≡ slice_range u first end
-  pub same : effects_in effects ≡ effects_in u
+  pub same : effect_rows effects ≡ effect_rows u

@@ -10,8 +10,8 @@ abbrev pub IsMet : PlanParts → List Row → Trigger → Type 0
 IsMet plan t x = (h : Tag) (r : ℕ) → UpTo h (stop plan t) → Occurs plan t h x → Listens plan r x → Ran t h r
 
 -- no two causes of the name meet at a tag up to the stop
-abbrev pub IsApart : PlanParts → List Row → Name → Type 0
-IsApart plan t n = (h : Tag) → UpTo h (stop plan t) → ¬ ClashesAt plan t h n
+abbrev pub AreCausesApart : PlanParts → List Row → Name → Type 0
+AreCausesApart plan t n = (h : Tag) → UpTo h (stop plan t) → ¬ ClashesAt plan t h n
 
 -- no two writes meet at a port that no reaction reads, from low on up to the last tag
 abbrev pub MeetNowhere : Tag → PlanParts → List Row → Tag → Type 0

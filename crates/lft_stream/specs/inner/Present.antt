@@ -3,8 +3,8 @@ use Rattle.std.specs.Prelude.{◌≡◌, ◌⊎◌, ℕ, true, List, ◌++◌, O
 use Rattle.lft_tag.specs.declared.Tag.{Tag}
 use Rattle.lft_ir.specs.{Sound.IsNameOf, declared.{parts.{Name.Name, Value.Value}, steps.row.{Row.Row, Step.TheVariants.Read}}}
 use Rattle.lft_model.specs.{Plans.PlanParts, Presence.Shows}
-use Rattle.lft_queue.specs.{Pending.{Pending, value_of}, declared.coming.writes.Written.Written, inner.Coming.{AtOnce.{HasEvents, IsAwaited}, Writes.AreWrites}}
-use Rattle.lft_queue.specs.Coming.AtTag.{AreBefore, AreAt}
+use Rattle.lft_queue.specs.{Pending.{Pending, value_of}, declared.coming.writes.Written.Written}
+use Rattle.lft_queue.specs.{inner.Coming.{AtOnce.{MayHaveEvents, IsAwaited}, Writes.AreWrites}, Coming.AtTag.{AreBefore, AreAt}}
 use Rattle.lft_stream.specs.declared.presence.PresentNames.{PresentNames}
 
 -- of the rows u at g behind rows d, the last writes are kept, and the queue has what each name with events that somebody waits for shows at g
@@ -12,7 +12,7 @@ pub record AreShown (plan : PlanParts) (d u : List Row) (g : Tag) (writes : List
   pub earlier : AreBefore d g
   pub at_tag : AreAt u g
   pub written : AreWrites plan.program u g writes
-  pub queued : (n : Name) → HasEvents plan.program n → IsAwaited plan.program n → Shows plan (d ++ u) g n (value_of g n queue)
+  pub queued : (n : Name) → MayHaveEvents plan.program n → IsAwaited plan.program n → Shows plan (d ++ u) g n (value_of g n queue)
 
 -- each name that somebody waits for is in the list, or absent at g, the tag of the rows u
 abbrev pub AreAllPresent : PlanParts → List Row → Tag → List Pending → List Name → Type 0

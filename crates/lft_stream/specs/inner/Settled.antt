@@ -13,7 +13,7 @@ pub record IsRightRun (plan : PlanParts) (t : List Row) (g : Tag) (r : ℕ) : Ty
   pub reads : Inputs plan t g r (reads_at plan t g r)
 
 -- rows whose tags are finished: none breaks one of the rules 1 to 5, and each run is right
-pub record IsSettled (plan : PlanParts) (t : List Row) : Type 0 where
+pub record AreRowsSettled (plan : PlanParts) (t : List Row) : Type 0 where
   pub rows : FirstRow (stop plan t) plan t None
   pub runs : (g : Tag) (r : ℕ) → Ran t g r → IsRightRun plan t g r
 
@@ -37,4 +37,4 @@ pub record IsRightBehind (plan : PlanParts) (d u : List Row) (g : Tag) : Type 0 
 
 -- a trace is legal exactly where no row breaks one of the rules 1 to 5, each run is right, and nothing is owed up to the stop
 abbrev pub EndLaw : PlanParts → Type 0
-EndLaw plan = (t : List Row) → Legal plan t ↔ IsSettled plan t × OwesNothing plan t
+EndLaw plan = (t : List Row) → Legal plan t ↔ AreRowsSettled plan t × OwesNothing plan t

@@ -4,7 +4,7 @@ use Rattle.lft_tag.specs.{declared.Tag.Tag, Tags.{Before, UpTo}}
 use Rattle.lft_ir.specs.{Origins.Origin, declared.{parts.{Value.Value, Name.{Name, TheVariants.{Port, Action}}}, steps.row.Row.Row}}
 use Rattle.lft_model.specs.{Plans.PlanParts, Presence.stop}
 use Rattle.lft_rows.specs.Slices.{runs_in}
-use Rattle.lft_stream.specs.{inner.{Settled.IsSettled, Counted.IsCounted, Dues.{AreDues, NoneOwed}}, declared.due.Due.Due}
+use Rattle.lft_stream.specs.{inner.{Settled.AreRowsSettled, Counted.AreRunsCounted, Dues.{AreDues, NoneOwed}}, declared.due.Due.Due}
 use Rattle.lft_queue.specs.inner.Coming.Lanes.{first_events, made, carried, IsLane}
 
 -- what is kept: of each name its lane and the tag up to which it is done with, when each trigger is due, and the numbers of runs and tags
@@ -21,14 +21,14 @@ first_state plan dues = record { lows = λ n. record { time = 0; micro = 0 }; qu
 
 -- the state is right for the rows so far, all at finished tags
 pub record IsStream (plan : PlanParts) (t : List Row) (s : State) : Type 0 where
-  pub settled : IsSettled plan t
-  pub counted : IsCounted t s.runs s.tags
+  pub settled : AreRowsSettled plan t
+  pub counted : AreRunsCounted t s.runs s.tags
   pub actions : (a : ℕ) → IsLane plan t (Action a) (s.lows (Action a)) (s.queues (Action a))
   pub ports : (p o : ℕ) (delays : List ℕ) → Origin plan.program p o delays → IsLane plan t (Port p) (s.lows (Port p)) (s.queues (Port p))
   pub dues : AreDues plan t s.dues
 
 -- nothing is left to be met up to the stop
-pub record IsEnded (plan : PlanParts) (t : List Row) (s : State) : Type 0 where
+pub record IsMetUpToStop (plan : PlanParts) (t : List Row) (s : State) : Type 0 where
   pub dues : NoneOwed (stop plan t) s.dues
   pub lows : (n : Name) → Before (stop plan t) (s.lows n)
 

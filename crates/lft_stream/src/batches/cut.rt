@@ -51,7 +51,7 @@ fn put_behind(rows: Vec<Row>, more: &[Row]) -> Option<Vec<Row>>
 
 /// Rows that waited and a batch behind them, cut where tags end.
 #[derive(Drop)]
-pub(crate) struct Cut<'b> {
+pub(crate) struct CutBatch<'b> {
     /// The rows that waited, with those at their last tag.
     pub(crate) first: Vec<Row>,
     /// Those at later tags that are finished.
@@ -61,14 +61,18 @@ pub(crate) struct Cut<'b> {
 }
 
 /// Cuts rows that wait and a batch behind them.
-pub(crate) fn cut_batch<'b>(alloc: Global, waiting: Vec<Row>, batch: &'b [Row]) -> Option<Cut<'b>>
+pub(crate) fn cut_batch<'b>(
+    alloc: Global,
+    waiting: Vec<Row>,
+    batch: &'b [Row],
+) -> Option<CutBatch<'b>>
     ensures rows { IfSome result (λ cut. (cut.first.items ++ cut.next.now) ++ cut.waiting.items ≡ waiting.items ++ batch.now) }
     ensures few { IfSome result (λ cut. (length cut.first.items ≤ 4000000) × (length cut.next.now ≤ length batch.now) × (length cut.waiting.items ≤ 4000000)) }
 {
     let same = still_open(waiting.as_slice(), batch);
     let first = put_behind(waiting, &batch[0..same])?;
     if same == batch.len() {
-        return Some(Cut {
+        return Some(CutBatch {
             first: Vec::new(alloc),
             next: &batch[0..0],
             waiting: first,
@@ -76,7 +80,7 @@ pub(crate) fn cut_batch<'b>(alloc: Global, waiting: Vec<Row>, batch: &'b [Row]) 
     }
     let begin = last_begins(batch, same);
     let waiting = put_behind(Vec::new(alloc), &batch[begin..batch.len()])?;
-    Some(Cut {
+    Some(CutBatch {
         first,
         next: &batch[same..begin],
         waiting,

@@ -14,18 +14,18 @@ use std::alloc::Global;
 
 /// How far the rows of a trace are judged.
 #[derive(Drop)]
-pub(crate) struct Progress {
+pub(crate) struct JudgedRows {
     acceptor: Acceptor,
     /// So many more rows a table may have.
     left: usize,
 }
 
-impl Progress {
+impl JudgedRows {
     /// Before the first row.
-    pub(crate) fn new(alloc: Global, plan: &Plan) -> Result<Progress, NoMemory>
+    pub(crate) fn new(alloc: Global, plan: &Plan) -> Result<JudgedRows, NoMemory>
         ensures { IfOk result (IsProgress plan.now []) }
     {
-        Ok(Progress {
+        Ok(JudgedRows {
             acceptor: Acceptor::new(alloc, plan)?,
             left: MAX_ROWS,
         })
@@ -71,7 +71,7 @@ impl Progress {
 /// Goes on past a batch of rows. Those at its last tag are given back: more may follow at that tag,
 /// and so they are judged with the next batch that has a later one.
 pub(crate) fn judge_batch(
-    progress: &mut Progress,
+    progress: &mut JudgedRows,
     alloc: Global,
     plan: &Plan,
     waiting: Vec<Row>,

@@ -6,7 +6,7 @@ ghost use Rattle.lft_trace.specs.{Records.records_of, Traces.Table};
 ghost use Rattle.lft_rows.specs.Accepted.{IsAccepted};
 
 use crate::RunCounts;
-use crate::batches::progress::{Progress, judge_batch};
+use crate::batches::progress::{JudgedRows, judge_batch};
 use crate::batches::rows::rows_together;
 use crate::batches::text::reaction_names;
 use lft_model::Plan;
@@ -35,7 +35,7 @@ pub fn accepts_reader<R: Read + Drop>(
     let Some(names) = reaction_names(alloc, plan) else {
         return Ok(None);
     };
-    let Ok(mut progress) = Progress::new(alloc, plan) else {
+    let Ok(mut progress) = JudgedRows::new(alloc, plan) else {
         return Ok(None);
     };
     let together = rows_together(plan);

@@ -9,7 +9,7 @@ ghost use Rattle.lft_rows.specs.Accepted.{IsAccepted};
 ghost use Rattle.lft_stream.specs.inner.Batches.Progresses.{IsGoneOn, IsProgress};
 
 use crate::RunCounts;
-use crate::batches::progress::{Progress, judge_batch};
+use crate::batches::progress::{JudgedRows, judge_batch};
 use crate::batches::text::{batch_bytes, reaction_names};
 use lft_ir::steps::Row;
 use lft_model::Plan;
@@ -22,12 +22,12 @@ const SHARE: usize = 1 << 20;
 
 /// Goes on past the parts of a batch. The rows at its last tag are given back, as `judge_batch` does.
 fn judge_parts(
-    progress: Progress,
+    progress: JudgedRows,
     alloc: Global,
     plan: &Plan,
     waiting: Vec<Row>,
     parts: Vec<Vec<Row>>,
-) -> Option<(Progress, Vec<Row>)>
+) -> Option<(JudgedRows, Vec<Row>)>
     requires waiting_fit { RowsFit plan.now.program waiting.items }
     requires parts_fit { RowsFit plan.now.program (rows_of parts.items) }
     requires stands { (t : List TheRow) × IsProgress plan.now t progress }
@@ -48,12 +48,12 @@ fn go_beside<R: Threads + Sync>(
     alloc: Global,
     plan: &Plan,
     names: &ReactionNames,
-    progress: Progress,
+    progress: JudgedRows,
     waiting: Vec<Row>,
     parts: Vec<Vec<Row>>,
     lines: &[u8],
     workers: u32,
-) -> Option<((Progress, Vec<Row>), Vec<Vec<Row>>)>
+) -> Option<((JudgedRows, Vec<Row>), Vec<Vec<Row>>)>
     requires waiting_fit { RowsFit plan.now.program waiting.items }
     requires parts_fit { RowsFit plan.now.program (rows_of parts.items) }
     requires stands { (t : List TheRow) × IsProgress plan.now t progress }
@@ -62,7 +62,7 @@ fn go_beside<R: Threads + Sync>(
     ensures read { IfSome result (λ p. HoldsRows names.now lines.now (rows_of p.1.items)) }
     ensures read_fit { IfSome result (λ p. RowsFit names.now (rows_of p.1.items)) }
 {
-    let judging = move || -> Option<(Progress, Vec<Row>)>
+    let judging = move || -> Option<(JudgedRows, Vec<Row>)>
         requires { RowsFit plan.now.program waiting.items × RowsFit plan.now.program (rows_of parts.items) × ((t : List TheRow) × IsProgress plan.now t progress) }
         ensures { IfSome result (λ p. RowsFit plan.entry.now.program p.1.items × IsGoneOn plan.entry.now progress p.0 (waiting.items ++ rows_of parts.items) p.1.items) }
     { judge_parts(progress, alloc, plan, waiting, parts) };
@@ -89,7 +89,7 @@ pub fn accepts_text_shared<R: Threads + Sync>(
     // Tags are judged one after another, since each needs what those before it leave behind. So reading
     // alone is shared out.
     let body = below_header(text)?;
-    let Ok(mut progress) = Progress::new(alloc, plan) else {
+    let Ok(mut progress) = JudgedRows::new(alloc, plan) else {
         return None;
     };
     let names = reaction_names(alloc, plan)?;

@@ -4,12 +4,12 @@ ghost use Rattle.std.specs.Prelude.{◌≡◌, ◌++◌, ◌+◌, ◌≤◌, ℕ
 ghost use Rattle.lft_ir.specs.{Parts.Parts, Sound.IsSound, Steps.Fits.RowsFit, declared.steps.row.Row.Row as TheRow};
 ghost use Rattle.lft_trace.specs.{Records.records_of, inner.Telling.rows_in, Traces.Table};
 ghost use Rattle.lft_rows.specs.Accepted.{IsAccepted};
-ghost use Rattle.lft_stream.specs.inner.Batches.Fronts.{IsFront, IsNextBehind, judged_rows};
+ghost use Rattle.lft_stream.specs.inner.Batches.Fronts.{IsFrontOfText, IsNextBehind, judged_rows};
 ghost use Rattle.lft_counts.specs.{inner.Counts.KeepsRows, Cover.CoversRows};
 
 use crate::RunCounts;
 use crate::batches::cut::cut_batch;
-use crate::batches::progress::Progress;
+use crate::batches::progress::JudgedRows;
 use crate::batches::rows::rows_together;
 use lft_counts::Cover;
 use lft_ir::steps::Row;
@@ -24,19 +24,19 @@ const BYTES_OF_A_ROW: usize = 32;
 /// How far a text's rows are judged, and what they exercise.
 #[derive(Drop)]
 struct Front {
-    progress: Progress,
+    progress: JudgedRows,
     cover: Cover,
 }
 
 impl Front {
     /// Before the first row of any text.
     fn new(alloc: Global, plan: &Plan) -> Result<Front, NoMemory>
-        ensures stands { IfOk result (λ front. (body : List ℕ) → IsFront plan.now body front) }
+        ensures stands { IfOk result (λ front. (body : List ℕ) → IsFrontOfText plan.now body front) }
         ensures none { IfOk result (λ front. front.cover.rows ≡ 0) }
     {
         let cover = Cover::new(alloc, plan.program(), plan.graph())?;
         Ok(Front {
-            progress: Progress::new(alloc, plan)?,
+            progress: JudgedRows::new(alloc, plan)?,
             cover,
         })
     }
@@ -46,9 +46,9 @@ impl Front {
     /// not have as many.
     fn judge(&mut self, alloc: Global, plan: &Plan, body: &[u8], rows: &[Row]) -> bool
         requires fit { RowsFit plan.now.program rows.now }
-        requires stands { IsFront plan.now body.now self.old }
+        requires stands { IsFrontOfText plan.now body.now self.old }
         requires next { IsNextBehind plan.now body.now self.old rows.now }
-        ensures stands { IsTrue result → IsFront plan.now body.now self.new }
+        ensures stands { IsTrue result → IsFrontOfText plan.now body.now self.new }
         ensures rows { IsTrue result → judged_rows plan.now body.now self.new ≡ judged_rows plan.now body.now self.old ++ rows.now }
     {
         if !self.progress.judge(alloc, plan, rows) {
@@ -100,9 +100,9 @@ fn add_batch(
 ) -> Option<Vec<Row>>
     requires open_fit { RowsFit plan.now.program waiting.items }
     requires batch_fit { RowsFit plan.now.program batch.now }
-    requires stands { IsFront plan.now body.now front.old }
+    requires stands { IsFrontOfText plan.now body.now front.old }
     requires next { IsNextBehind plan.now body.now front.old (waiting.items ++ batch.now) }
-    ensures stands { IfSome result (λ left. IsFront plan.now body.now front.new) }
+    ensures stands { IfSome result (λ left. IsFrontOfText plan.now body.now front.new) }
     ensures fit { IfSome result (λ left. RowsFit plan.now.program left.items) }
     ensures rows { IfSome result (λ left. judged_rows plan.now body.now front.new ++ left.items ≡ judged_rows plan.now body.now front.old ++ (waiting.items ++ batch.now)) }
 {

@@ -80,23 +80,23 @@ field_line (fault.FieldInPlace n) = Some n
 field_line e = None
 
 -- `TABLE, line L`
-abbrev pub line_words : List ℕ → ℕ → List ℕ
-line_words word line = word ++ codes ", line " ++ decimal line
+abbrev pub table_line_words : List ℕ → ℕ → List ℕ
+table_line_words word line = word ++ codes ", line " ++ decimal line
 
 -- the words go on from these
-abbrev pub Begins : List ℕ → List ℕ → Type 0
-Begins start words = (rest : List ℕ) × (words ≡ start ++ rest)
+abbrev pub ContinuesFrom : List ℕ → List ℕ → Type 0
+ContinuesFrom start words = (rest : List ℕ) × (words ≡ start ++ rest)
 
 -- How the words of a fault begin: with the table, and the line of its record where it is of one.
 abbrev pub heading : List ℕ → TraceFault → List ℕ
-heading word fault.BadHeader = line_words word 1
-heading word (fault.BadFieldCount n) = line_words word n
-heading word (fault.BadEvent n) = line_words word n
-heading word (fault.BadNumber n) = line_words word n
-heading word (fault.UnknownName n) = line_words word n
-heading word (fault.FieldInPlace n) = line_words word n
-heading word (fault.DuplicateExternal n) = line_words word n
-heading word (fault.TwoStops n) = line_words word n
+heading word fault.BadHeader = table_line_words word 1
+heading word (fault.BadFieldCount n) = table_line_words word n
+heading word (fault.BadEvent n) = table_line_words word n
+heading word (fault.BadNumber n) = table_line_words word n
+heading word (fault.UnknownName n) = table_line_words word n
+heading word (fault.FieldInPlace n) = table_line_words word n
+heading word (fault.DuplicateExternal n) = table_line_words word n
+heading word (fault.TwoStops n) = table_line_words word n
 heading word fault.NoStop = word
 heading word fault.TooManyRows = word
 heading word fault.NotCsv = []
@@ -104,7 +104,7 @@ heading word fault.NoMemory = []
 
 -- `TABLE, line L, field K (NAME): `
 abbrev pub field_words : List ℕ → ℕ → Wrong → List ℕ
-field_words word line w = line_words word line ++ codes ", field " ++ decimal (w.at + 1) ++ codes " (" ++ w.name.now ++ codes "): "
+field_words word line w = table_line_words word line ++ codes ", field " ++ decimal (w.at + 1) ++ codes " (" ++ w.name.now ++ codes "): "
 
 -- The words begin with a field of the record with that number of which this holds.
 pub record NamesField (records : List (List (List ℕ))) (word : List ℕ) (line : ℕ) (Holds : List (List ℕ) → Wrong → Type 0) (words : List ℕ) : Type 0 where

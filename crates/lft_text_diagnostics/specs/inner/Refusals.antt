@@ -1,19 +1,15 @@
 -- Inside: why a program's text has no tree.
-use Rattle.std.specs.Prelude.{◌≡◌, ◌⊎◌, ℕ, ◌-◌, ◌++◌, ◌≤◌, List, codes, slice_get, Some}
+use Rattle.std.specs.Prelude.{◌≡◌, ◌⊎◌, ℕ, ◌-◌, ◌≤◌, List, codes, slice_get, Some}
 use Rattle.std.specs.Str.Iter.{HasSubslice}
 use Rattle.lft_syntax.specs.{declared.token.Token.Token, Lexes.IsRefusedAt}
-use Rattle.lft_text_diagnostics.specs.Refusals.{HasNoTree}
-
--- The text begins with these bytes.
-abbrev pub BeginsWith : List ℕ → List ℕ → Type 0
-BeginsWith bytes t = (rest : List ℕ) × (t ≡ bytes ++ rest)
+use Rattle.lft_text_diagnostics.specs.{Refusals.HasNoTree, Tables.Tables.ContinuesFrom}
 
 -- The text begins with the header of a trace, of external inputs, or of cards.
 abbrev pub BeginsTable : List ℕ → Type 0
 BeginsTable t =
-    BeginsWith (codes "event,worker,time,microstep,reaction,name,value,delay") t
-    ⊎ BeginsWith (codes "kind,time,microstep,name,value") t
-    ⊎ BeginsWith (codes "kind,reaction,name,delay,value") t
+    ContinuesFrom (codes "event,worker,time,microstep,reaction,name,value,delay") t
+    ⊎ ContinuesFrom (codes "kind,time,microstep,name,value") t
+    ⊎ ContinuesFrom (codes "kind,reaction,name,delay,value") t
 
 -- The token that begins at the byte k shows that the text has no tree.
 abbrev pub IsRefusedWith : List ℕ → ℕ → Type 0

@@ -3,7 +3,7 @@
 ghost use Rattle.std.specs.Prelude.{◌≡◌, ◌++◌, [], ℕ, List, Some, false, ◌⊎◌, IfOk, IfSome, IfNone, OnOk, codes, string_bytes};
 ghost use Rattle.csv.specs.Records.{fields_of};
 ghost use Rattle.lft_trace.specs.{Faults.is_told, Records.records_of, ExternalTables.ExternalFails, Traces.TraceFails};
-ghost use Rattle.lft_text_diagnostics.specs.Tables.Tables.{Begins, HasRecord, IsWrong, IsWrongThere, NamesField, field_line, field_words, heading, line_words};
+ghost use Rattle.lft_text_diagnostics.specs.Tables.Tables.{ContinuesFrom, HasRecord, IsWrong, IsWrongThere, NamesField, field_line, field_words, heading, table_line_words};
 ghost use Rattle.lft_text_diagnostics.specs.inner.Tables.Tables.{Fails, FailsThere, IsWrongIn, word_of};
 
 use crate::headers::{EXTERNALS, TRACE};
@@ -73,7 +73,7 @@ pub fn tell_trace(
 ) -> Result<String, NoMemory>
     ensures untold { IfOk result (λ words. is_told fault ≡ false → string_bytes words ≡ []) }
     ensures field { IfOk result (λ words. (n : ℕ) → field_line fault ≡ Some n → (string_bytes words ≡ []) ⊎ NamesField (records_of text.now) word.now n (IsWrong program.now fault) (string_bytes words)) }
-    ensures told { IfOk result (λ words. TraceFails program.now (records_of text.now) fault → Begins (heading word.now fault) (string_bytes words)) }
+    ensures told { IfOk result (λ words. TraceFails program.now (records_of text.now) fault → ContinuesFrom (heading word.now fault) (string_bytes words)) }
 {
     tell(alloc, program, text, fault, Table::Trace(word))
 }
@@ -87,7 +87,7 @@ pub fn tell_externals(
 ) -> Result<String, NoMemory>
     ensures untold { IfOk result (λ words. is_told fault ≡ false → string_bytes words ≡ []) }
     ensures field { IfOk result (λ words. (n : ℕ) → field_line fault ≡ Some n → (string_bytes words ≡ []) ⊎ NamesField (records_of text.now) (codes "External inputs") n (IsWrongThere fault) (string_bytes words)) }
-    ensures told { IfOk result (λ words. ExternalFails program.now (records_of text.now) fault → Begins (heading (codes "External inputs") fault) (string_bytes words)) }
+    ensures told { IfOk result (λ words. ExternalFails program.now (records_of text.now) fault → ContinuesFrom (heading (codes "External inputs") fault) (string_bytes words)) }
 {
     tell(alloc, program, text, fault, Table::Externals)
 }
@@ -102,7 +102,7 @@ fn tell(
 ) -> Result<String, NoMemory>
     ensures untold { IfOk result (λ words. is_told fault ≡ false → string_bytes words ≡ []) }
     ensures field { IfOk result (λ words. (n : ℕ) → field_line fault ≡ Some n → (string_bytes words ≡ []) ⊎ NamesField (records_of text.now) (word_of table) n (IsWrongIn program.now table fault) (string_bytes words)) }
-    ensures told { IfOk result (λ words. Fails program.now table (records_of text.now) fault → Begins (heading (word_of table) fault) (string_bytes words)) }
+    ensures told { IfOk result (λ words. Fails program.now table (records_of text.now) fault → ContinuesFrom (heading (word_of table) fault) (string_bytes words)) }
 {
     match fault {
         // These say nothing of the text.
@@ -130,7 +130,7 @@ fn tell_field(
     table: Table,
 ) -> Result<String, NoMemory>
     ensures field { IfOk result (λ words. (string_bytes words ≡ []) ⊎ NamesField (records_of text.now) (word_of table) line (IsWrongIn program.now table fault) (string_bytes words)) }
-    ensures told { IfOk result (λ words. field_line fault ≡ Some line → (fields : List (List ℕ)) → HasRecord (records_of text.now) line fields → FailsThere program.now table (records_of text.now) fields fault → Begins (line_words (word_of table) line) (string_bytes words)) }
+    ensures told { IfOk result (λ words. field_line fault ≡ Some line → (fields : List (List ℕ)) → HasRecord (records_of text.now) line fields → FailsThere program.now table (records_of text.now) fields fault → ContinuesFrom (table_line_words (word_of table) line) (string_bytes words)) }
 {
     let Some(fields) = record_of(alloc, text, line)? else {
         return Ok(String::new(alloc));
@@ -155,7 +155,7 @@ fn tell_record(
     fault: TraceFault,
     table: Table,
 ) -> Result<String, NoMemory>
-    ensures { IfOk result (λ words. (fields : List (List ℕ)) → HasRecord (records_of text.now) line fields → Begins (line_words (word_of table) line) (string_bytes words)) }
+    ensures { IfOk result (λ words. (fields : List (List ℕ)) → HasRecord (records_of text.now) line fields → ContinuesFrom (table_line_words (word_of table) line) (string_bytes words)) }
 {
     let Some(fields) = record_of(alloc, text, line)? else {
         return Ok(String::new(alloc));
@@ -179,7 +179,7 @@ fn tell_whole(alloc: Global, table: Table, is_wrong: &str) -> Result<String, NoM
 
 /// The same of a table that begins with another record than its header.
 fn tell_header(alloc: Global, text: &[u8], table: Table) -> Result<String, NoMemory>
-    ensures { IfOk result (λ words. Begins (line_words (word_of table) 1) (string_bytes words)) }
+    ensures { IfOk result (λ words. ContinuesFrom (table_line_words (word_of table) 1) (string_bytes words)) }
 {
     let mut out = String::new(alloc);
     push_line(&mut out, 1, table)?;
@@ -257,7 +257,7 @@ const KIND: Wrong = Wrong {
 
 /// Puts the table and the line of a record behind the text.
 fn push_line(out: &mut String, line: u32, table: Table) -> Result<(), NoMemory>
-    ensures { OnOk result (string_bytes out.new ≡ string_bytes out.old ++ line_words (word_of table) line) }
+    ensures { OnOk result (string_bytes out.new ≡ string_bytes out.old ++ table_line_words (word_of table) line) }
 {
     out.push_str(table.word())?;
     out.push_str(", line ")?;

@@ -8,16 +8,16 @@ abbrev pub Holds : List Contents → ℕ → ℕ → Type 0
 Holds table a b = (k : ℕ) × (contained table a k ≡ Some b)
 
 -- the reactor is done, or isn't in the list
-abbrev pub IsDone : List Stage → ℕ → Type 0
-IsDone stages r = (s : Stage) → slice_get stages r ≡ Some s → s ≡ Done
+abbrev pub IsReactorDone : List Stage → ℕ → Type 0
+IsReactorDone stages r = (s : Stage) → slice_get stages r ≡ Some s → s ≡ Done
 
 -- each reactor that is inside, from this place on and before that one, is done
 abbrev pub DoneBetween : List Stage → (ℕ → Option ℕ) → ℕ → ℕ → Type 0
-DoneBetween stages inside first last = (k r : ℕ) → first ≤ k → k < last → inside k ≡ Some r → IsDone stages r
+DoneBetween stages inside first last = (k r : ℕ) → first ≤ k → k < last → inside k ≡ Some r → IsReactorDone stages r
 
 -- each reactor that is inside, from this place on, is done
 abbrev pub OnlyDone : List Stage → (ℕ → Option ℕ) → ℕ → Type 0
-OnlyDone stages inside first = (k r : ℕ) → first ≤ k → inside k ≡ Some r → IsDone stages r
+OnlyDone stages inside first = (k r : ℕ) → first ≤ k → inside k ≡ Some r → IsReactorDone stages r
 
 -- the visit of the path at that place is of the reactor
 abbrev pub IsVisitAt : List OnPath → ℕ → ℕ → Type 0
@@ -34,7 +34,7 @@ AllFounded table = (r : ℕ) → Founded table r
 -- from reactors that are done no way down goes on for ever, and there is no path
 pub record IsSearched (table : List Contents) (stages : List Stage) : Type 0 where
   pub as_long : length stages ≡ length table
-  pub ends : (r : ℕ) → IsDone stages r → Founded table r
+  pub ends : (r : ℕ) → IsReactorDone stages r → Founded table r
   pub rests : (r : ℕ) → slice_get stages r ≢ Some Open
 
 -- a reactor that was met stays so

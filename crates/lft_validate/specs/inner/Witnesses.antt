@@ -32,12 +32,12 @@ numbered [] n = ⊥
 numbered ((k, C) ∷ rest) n = either (k == n) C (numbered rest n)
 
 -- what the cause says of the reactors; of instances it isn't asked here
-abbrev pub Says : List ReactorTree → ProgramFault → Type 0
-Says reactors cause = numbered (first_causes reactors ++ later_causes reactors ++ time_causes reactors) (number_of cause)
+abbrev pub CauseSays : List ReactorTree → ProgramFault → Type 0
+CauseSays reactors cause = numbered (first_causes reactors ++ later_causes reactors ++ time_causes reactors) (number_of cause)
 
 -- these causes with their numbers, in this order
-abbrev pub in_order : List ReactorTree → List ProgramFault → List (ℕ × Type 0)
-in_order reactors = map (λ c. (number_of c, Says reactors c))
+abbrev pub causes_in_order : List ReactorTree → List ProgramFault → List (ℕ × Type 0)
+causes_in_order reactors = map (λ c. (number_of c, CauseSays reactors c))
 
 -- the witness shows the first of the causes that holds; where there is none, no cause holds
 abbrev pub IsFirstShown : List ReactorTree → List (ℕ × Type 0) → Option Witness → Type 0
@@ -53,8 +53,8 @@ pub record HoldsAt (reactors : List ReactorTree) (a b : ℕ) : Type 0 where
   pub holds : Holds reactors outer inner
 
 -- each of the reactors has an instance of the next
-abbrev pub LeadsOn : List ReactorTree → List ℕ → Type 0
-LeadsOn reactors places = (i a b : ℕ) → slice_get places i ≡ Some a → slice_get places (i + 1) ≡ Some b → HoldsAt reactors a b
+abbrev pub EachHoldsNext : List ReactorTree → List ℕ → Type 0
+EachHoldsNext reactors places = (i a b : ℕ) → slice_get places i ≡ Some a → slice_get places (i + 1) ≡ Some b → HoldsAt reactors a b
 
 -- the last of the reactors has an instance of the first
 abbrev pub Closes : List ReactorTree → List ℕ → Type 0
@@ -62,4 +62,4 @@ Closes reactors places = (i a b : ℕ) → i + 1 ≡ length places → slice_get
 
 -- there is a reactor, each has an instance of the next, and the last of the first
 abbrev pub IsCircle : List ReactorTree → List ℕ → Type 0
-IsCircle reactors places = (0 < length places) × LeadsOn reactors places × Closes reactors places
+IsCircle reactors places = (0 < length places) × EachHoldsNext reactors places × Closes reactors places

@@ -3,12 +3,12 @@ use Rattle.std.specs.Prelude.{◌≡◌, ◌++◌, ℕ, List, ◌∷◌, length,
 use Rattle.lft_text_diagnostics.specs.declared.pages.Page.{Page}
 use Rattle.lft_whole.specs.declared.sources.source.SourceFile.{SourceFile}
 use Rattle.lft_syntax.specs.declared.token.Token.{Token}
-use Rattle.lft_whole_driver.specs.{declared.pages.Joined.Joined, Pages.{moved, file_tokens, is_page}}
+use Rattle.lft_whole_driver.specs.{declared.pages.Joined.Joined, Pages.{token_moved, file_tokens, is_page}}
 
 -- ---- for the crate's own contracts
 -- The tokens are put behind those that were there.
 abbrev pub JoinsTokens : ℕ → List Token → List Token → List Token → Type 0
-JoinsTokens start tokens old new = new ≡ old ++ map (moved start) tokens
+JoinsTokens start tokens old new = new ≡ old ++ map (token_moved start) tokens
 
 -- The file is put behind those that were there.
 pub record JoinsFile (file : SourceFile) (old new : Joined) : Type 0 where

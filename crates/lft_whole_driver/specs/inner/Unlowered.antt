@@ -13,8 +13,8 @@ IsUnloweredFrom files u = Says (AreRefused files) u ⊎ IsRefusedTree files u
 
 -- ---- for the crate's own contracts
 -- the refusal is of the import at this place in these files: the file that it names can't be read
-abbrev pub IsAt : List SourceFile → Place → List SourceFile → List ℕ → FileRefusal → Type 0
-IsAt these place files first r = (files ≡ these) × (r.why ≡ why.NotRead) × (r.place ≡ place)
+abbrev pub IsImportRefusedAt : List SourceFile → Place → List SourceFile → List ℕ → FileRefusal → Type 0
+IsImportRefusedAt these place files first r = (files ≡ these) × (r.why ≡ why.NotRead) × (r.place ≡ place)
 
 -- so it is of an import of these files
 abbrev pub IsOfUnread : List SourceFile → List SourceFile → List ℕ → FileRefusal → Type 0

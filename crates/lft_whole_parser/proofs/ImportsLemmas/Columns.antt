@@ -7,7 +7,7 @@ use Rattle.lft_lists.{specs.Bytes.is_in_line, proofs.Places.{get_last, same_some
 use Rattle.lft_text_diagnostics.specs.Places.{BeginsLine, begins_letter, is_feed}
 use Rattle.lft_syntax.specs.declared.token.Token.{Token}
 use Rattle.lft_whole.specs.{declared.sources.source.Spot.Spot, inner.Tokens.{IsToken, StandBetween}}
-use Rattle.lft_whole_parser.specs.Imports.Places.{AreSpots, IsSpot}
+use Rattle.lft_whole_parser.specs.Imports.Places.{AreSpots, IsSpotOfByte}
 
 not_feed : (b : ℕ) → (b ≡ 10 → ⊥) → is_in_line b ≡ true
 not_feed b n = grind (arith, nat_tests)
@@ -44,7 +44,7 @@ range_none p t i = ap (λ (z : ℕ). count_by p (take z (drop i t))) (none_minus
 
 -- ---- a byte further
 
-pub spot_first : (t : List ℕ) → IsSpot t 0 (record { line = 1; column = 1 })
+pub spot_first : (t : List ℕ) → IsSpotOfByte t 0 (record { line = 1; column = 1 })
 spot_first t = record {
   start = 0;
   begins = record { order = omega arith; whole = λ k a b. absurd (omega (arith, b)); first = inl refl };
@@ -64,7 +64,7 @@ in_line t s at h n k a b = of (cases_lt k at)
 further : (t : List ℕ) (s at : ℕ) → BeginsLine t s at → (get_or t at 0 ≡ 10 → ⊥) → BeginsLine t s (at + 1)
 further t s at h n = record { order = omega (arith, h.order); whole = in_line t s at h n; first = h.first }
 
-pub spot_feed : (t : List ℕ) (at : ℕ) (spot : Spot) → at < length t → get_or t at 0 ≡ 10 → IsSpot t at spot → IsSpot t (at + 1) (record { line = spot.line + 1; column = 1 })
+pub spot_feed : (t : List ℕ) (at : ℕ) (spot : Spot) → at < length t → get_or t at 0 ≡ 10 → IsSpotOfByte t at spot → IsSpotOfByte t (at + 1) (record { line = spot.line + 1; column = 1 })
 spot_feed t at spot l e h = record {
   start = at + 1;
   begins = record { order = omega arith; whole = λ k a b. absurd (omega (arith, a, b)); first = inr (at, refl, e) };
@@ -72,10 +72,10 @@ spot_feed t at spot l e h = record {
   column = sym (ap (λ (z : ℕ). z + 1) (range_none begins_letter t (at + 1)));
 }
 
-line_on : (t : List ℕ) (at : ℕ) (spot : Spot) → at < length t → (get_or t at 0 ≡ 10 → ⊥) → IsSpot t at spot → spot.line ≡ count_by is_feed (take (at + 1) t) + 1
+line_on : (t : List ℕ) (at : ℕ) (spot : Spot) → at < length t → (get_or t at 0 ≡ 10 → ⊥) → IsSpotOfByte t at spot → spot.line ≡ count_by is_feed (take (at + 1) t) + 1
 line_on t at spot l n h = h.line ∙ ap (λ (z : ℕ). z + 1) (sym (count_by_more_no is_feed t at 0 l (no_feed (get_or t at 0) n)))
 
-pub spot_letter : (t : List ℕ) (at : ℕ) (spot : Spot) → at < length t → (get_or t at 0 ≡ 10 → ⊥) → begins_letter (get_or t at 0) ≡ true → IsSpot t at spot → IsSpot t (at + 1) (record { line = spot.line; column = spot.column + 1 })
+pub spot_letter : (t : List ℕ) (at : ℕ) (spot : Spot) → at < length t → (get_or t at 0 ≡ 10 → ⊥) → begins_letter (get_or t at 0) ≡ true → IsSpotOfByte t at spot → IsSpotOfByte t (at + 1) (record { line = spot.line; column = spot.column + 1 })
 spot_letter t at spot l n b h = record {
   start = h.start;
   begins = further t h.start at h.begins n;
@@ -83,7 +83,7 @@ spot_letter t at spot l n b h = record {
   column = ap (λ (z : ℕ). z + 1) (h.column ∙ sym (range_yes begins_letter t h.start at h.begins.order l b));
 }
 
-pub spot_same : (t : List ℕ) (at : ℕ) (spot : Spot) → at < length t → (get_or t at 0 ≡ 10 → ⊥) → begins_letter (get_or t at 0) ≡ false → IsSpot t at spot → IsSpot t (at + 1) spot
+pub spot_same : (t : List ℕ) (at : ℕ) (spot : Spot) → at < length t → (get_or t at 0 ≡ 10 → ⊥) → begins_letter (get_or t at 0) ≡ false → IsSpotOfByte t at spot → IsSpotOfByte t (at + 1) spot
 spot_same t at spot l n b h = record {
   start = h.start;
   begins = further t h.start at h.begins n;
@@ -92,10 +92,10 @@ spot_same t at spot l n b h = record {
 }
 
 -- both numbers are small
-pub line_bound : (t : List ℕ) (at : ℕ) (spot : Spot) → at ≤ length t → IsSpot t at spot → spot.line ≤ length t + 1
+pub line_bound : (t : List ℕ) (at : ℕ) (spot : Spot) → at ≤ length t → IsSpotOfByte t at spot → spot.line ≤ length t + 1
 line_bound t at spot l h = omega (arith, h.line, count_by-le-length is_feed (take at t), length-take at t)
 
-pub column_bound : (t : List ℕ) (at : ℕ) (spot : Spot) → at ≤ length t → IsSpot t at spot → spot.column ≤ length t + 1
+pub column_bound : (t : List ℕ) (at : ℕ) (spot : Spot) → at ≤ length t → IsSpotOfByte t at spot → spot.column ≤ length t + 1
 column_bound t at spot l h = omega (arith, h.column, count_by-le-length begins_letter (slice_range t h.start at), length-take (at - h.start) (drop h.start t), length-drop h.start t)
 
 -- ---- tokens
@@ -128,7 +128,7 @@ next text ts i t from e h =
 
 -- the spots of the first tokens
 abbrev pub SoFar : List ℕ → List Token → ℕ → List Spot → Type 0
-SoFar text ts i spots = (k : ℕ) (t : Token) → k < i → slice_get ts k ≡ Some t → IsSomeAnd (slice_get spots k) (IsSpot text t.start)
+SoFar text ts i spots = (k : ℕ) (t : Token) → k < i → slice_get ts k ≡ Some t → IsSomeAnd (slice_get spots k) (IsSpotOfByte text t.start)
 
 pub some_and : {X : Type 0} (P : X → Type 0) (xs : List X) (k : ℕ) (x : X) → slice_get xs k ≡ Some x → P x → IsSomeAnd (slice_get xs k) P
 some_and P xs k x e h = subst (λ o. IsSomeAnd o P) (sym e) h
@@ -139,23 +139,23 @@ kept P (x ∷ xs) y zero h = h
 kept P (x ∷ xs) y (suc k) h = kept P xs y k h
 
 -- one more
-pub more : (text : List ℕ) (ts : List Token) (i : ℕ) (t : Token) (spots : List Spot) (spot : Spot) → slice_get ts i ≡ Some t → length spots ≡ i → IsSpot text t.start spot → SoFar text ts i spots → SoFar text ts (i + 1) (spots ++ spot ∷ [])
+pub more : (text : List ℕ) (ts : List Token) (i : ℕ) (t : Token) (spots : List Spot) (spot : Spot) → slice_get ts i ≡ Some t → length spots ≡ i → IsSpotOfByte text t.start spot → SoFar text ts i spots → SoFar text ts (i + 1) (spots ++ spot ∷ [])
 more text ts i t spots spot e n h so k u l at = of (cases_lt k i)
   where
-    of : (k < i) ⊎ (i ≤ k) → IsSomeAnd (slice_get (spots ++ spot ∷ []) k) (IsSpot text u.start)
-    of (inl lt) = kept (IsSpot text u.start) spots spot k (so k u lt at)
+    of : (k < i) ⊎ (i ≤ k) → IsSomeAnd (slice_get (spots ++ spot ∷ []) k) (IsSpotOfByte text u.start)
+    of (inl lt) = kept (IsSpotOfByte text u.start) spots spot k (so k u lt at)
     of (inr ge) =
         let same : length spots ≡ k = omega (arith, l, ge, n) in
         let there : i ≡ k = omega (arith, l, ge) in
         let token : t ≡ u = same_some (slice_get ts i) t u e (ap (slice_get ts) there ∙ at) in
-        some_and (IsSpot text u.start) (spots ++ spot ∷ []) k spot (ap (slice_get (spots ++ spot ∷ [])) (sym same) ∙ get_last spots spot) (subst (λ (z : Token). IsSpot text z.start spot) token h)
+        some_and (IsSpotOfByte text u.start) (spots ++ spot ∷ []) k spot (ap (slice_get (spots ++ spot ∷ [])) (sym same) ∙ get_last spots spot) (subst (λ (z : Token). IsSpotOfByte text z.start spot) token h)
 
 -- all of them, and the end
-pub spots_all : (text : List ℕ) (ts : List Token) (i : ℕ) (spots : List Spot) (spot : Spot) → length ts ≤ i → i ≤ length ts → length spots ≡ i → IsSpot text (length text) spot → SoFar text ts i spots → AreSpots text ts (spots ++ spot ∷ [])
+pub spots_all : (text : List ℕ) (ts : List Token) (i : ℕ) (spots : List Spot) (spot : Spot) → length ts ≤ i → i ≤ length ts → length spots ≡ i → IsSpotOfByte text (length text) spot → SoFar text ts i spots → AreSpots text ts (spots ++ spot ∷ [])
 spots_all text ts i spots spot a b n h so =
     let same : length spots ≡ length ts = omega (arith, a, b, n) in
     record {
       many = omega (arith, length_push spots spot, same);
-      begin = λ k t at. kept (IsSpot text t.start) spots spot k (so k t (omega (arith, slice_get_within ts k t at, a)) at);
-      end = some_and (IsSpot text (length text)) (spots ++ spot ∷ []) (length ts) spot (ap (slice_get (spots ++ spot ∷ [])) (sym same) ∙ get_last spots spot) h;
+      begin = λ k t at. kept (IsSpotOfByte text t.start) spots spot k (so k t (omega (arith, slice_get_within ts k t at, a)) at);
+      end = some_and (IsSpotOfByte text (length text)) (spots ++ spot ∷ []) (length ts) spot (ap (slice_get (spots ++ spot ∷ [])) (sym same) ∙ get_last spots spot) h;
     }

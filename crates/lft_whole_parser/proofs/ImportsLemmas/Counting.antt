@@ -3,21 +3,21 @@ use Rattle.std.proofs.Common.{◌≡◌, ℕ, zero, suc, ◌+◌, ◌<◌, ◌�
 use Rattle.std.specs.Prelude.{IsSomeAnd, slice_get}
 use Rattle.std.proofs.lemmas.List.Sums.{sum_by-append}
 use Rattle.lft_whole.specs.{inner.Sources.Tokens.HasToken, declared.sources.{source.SourceFile.SourceFile, stop.Place.Place}}
-use Rattle.lft_whole_parser.specs.inner.Imports.Files.{AreApart, AreCounted, tokens_of}
+use Rattle.lft_whole_parser.specs.inner.Imports.Files.{AreTokensApart, AreCounted, how_many_tokens}
 
 -- so many tokens stand before these files
 abbrev CountedFrom : List SourceFile → ℕ → Type 0
-CountedFrom files offset = (k : ℕ) (file : SourceFile) → slice_get files k ≡ Some file → file.first ≡ offset + tokens_of (take k files)
+CountedFrom files offset = (k : ℕ) (file : SourceFile) → slice_get files k ≡ Some file → file.first ≡ offset + how_many_tokens (take k files)
 
 -- the file has the token of this number
 abbrev Has : List SourceFile → ℕ → ℕ → ℕ → Type 0
 Has files number k token = IsSomeAnd (slice_get files k) (λ file. HasToken file number token)
 
-one_first : (file : SourceFile) (files : List SourceFile) → tokens_of (file ∷ files) ≡ length file.spots.items + tokens_of files
-one_first file files = sum_by-append (λ (x : SourceFile). length x.spots.items) (file ∷ []) files ∙ ap (λ n. n + tokens_of files) (zero-add (length file.spots.items))
+one_first : (file : SourceFile) (files : List SourceFile) → how_many_tokens (file ∷ files) ≡ length file.spots.items + how_many_tokens files
+one_first file files = sum_by-append (λ (x : SourceFile). length x.spots.items) (file ∷ []) files ∙ ap (λ n. n + how_many_tokens files) (zero-add (length file.spots.items))
 
 counted_rest : (file : SourceFile) (files : List SourceFile) (offset : ℕ) → CountedFrom (file ∷ files) offset → CountedFrom files (offset + length file.spots.items)
-counted_rest file files offset counted k other at = let here : other.first ≡ offset + (length file.spots.items + tokens_of (take k files)) = counted (suc k) other at ∙ ap (λ n. offset + n) (one_first file (take k files)) in omega (arith, here)
+counted_rest file files offset counted k other at = let here : other.first ≡ offset + (length file.spots.items + how_many_tokens (take k files)) = counted (suc k) other at ∙ ap (λ n. offset + n) (one_first file (take k files)) in omega (arith, here)
 
 behind : (files : List SourceFile) (offset number k token : ℕ) → CountedFrom files offset → Has files number k token → offset ≤ number
 behind files offset number k token counted has = of (slice_get files k) refl has
@@ -43,5 +43,5 @@ same_place : (i j s t : ℕ) → (i ≡ j) × (s ≡ t) → at_place i s ≡ at_
 same_place i j s t (a, b) = ap (λ n. at_place n s) a ∙ ap (at_place j) b
 
 -- no two tokens of such files have one number
-pub are_apart : (files : List SourceFile) → AreCounted files → AreApart files
-are_apart files counted number one other a b = same_place one.file other.file one.token other.token (same files 0 number one.file other.file one.token other.token (λ k file at. counted k file at ∙ sym (zero-add (tokens_of (take k files)))) a b)
+pub are_apart : (files : List SourceFile) → AreCounted files → AreTokensApart files
+are_apart files counted number one other a b = same_place one.file other.file one.token other.token (same files 0 number one.file other.file one.token other.token (λ k file at. counted k file at ∙ sym (zero-add (how_many_tokens (take k files)))) a b)

@@ -10,7 +10,7 @@ use Rattle.lft_lists.proofs.Places.{get_append_cases, get_last, get_left, get_pu
 use Rattle.lft_whole.specs.declared.{tree.Import.Import, sources.{source.SourceFile.SourceFile, stop.Place.Place}}
 use Rattle.lft_whole_parser.specs.declared.imports.asked.WantedFile.{WantedFile}
 use Rattle.lft_whole_parser.specs.Imports.Paths.{meaning}
-use Rattle.lft_whole_parser.specs.Imports.Files.{AreNumbered, AreReached, EachOnce, HasImport, IsImportOf, IsNumbered, IsWhole, LeadsTo, further, itself, paths_of_files}
+use Rattle.lft_whole_parser.specs.Imports.Files.{AreNumbered, AreReachedFiles, EachOnce, HasImport, IsImportOf, HasNumberedImports, IsWhole, LeadsTo, further, itself, paths_of_files}
 use Rattle.lft_whole_parser.specs.inner.Imports.Files.{Adds, AreNamed, IsAskedBy, IsNamedBy}
 
 -- each path by its number, and no other
@@ -90,7 +90,7 @@ abbrev pub AreRead : List (List ℕ) → List SourceFile → Type 0
 AreRead paths files = (k : ℕ) (file : SourceFile) → slice_get files k ≡ Some file → slice_get paths k ≡ Some (string_bytes file.path)
 
 abbrev pub AllNumbered : List (List ℕ) → List SourceFile → Type 0
-AllNumbered paths files = (k : ℕ) (file : SourceFile) → slice_get files k ≡ Some file → IsNumbered paths file
+AllNumbered paths files = (k : ℕ) (file : SourceFile) → slice_get files k ≡ Some file → HasNumberedImports paths file
 
 pub read_more : (a b : List (List ℕ)) (files : List SourceFile) (f : SourceFile) → GoesOn a b → AreRead a files → slice_get a (length files) ≡ Some (string_bytes f.path) → AreRead b (files ++ f ∷ [])
 read_more a b files f go h e k file at = of (get_push_cases files f k file at)
@@ -99,14 +99,14 @@ read_more a b files f go h e k file at = of (get_push_cases files f k file at)
     of (inl old) = go k (string_bytes file.path) (h k file old)
     of (inr new) = go k (string_bytes file.path) (ap (slice_get a) new.0 ∙ e ∙ ap (λ (z : SourceFile). Some (string_bytes z.path)) new.1)
 
-pub numbered_more : (a b : List (List ℕ)) (files : List SourceFile) (f : SourceFile) → GoesOn a b → AllNumbered a files → IsNumbered b f → AllNumbered b (files ++ f ∷ [])
+pub numbered_more : (a b : List (List ℕ)) (files : List SourceFile) (f : SourceFile) → GoesOn a b → AllNumbered a files → HasNumberedImports b f → AllNumbered b (files ++ f ∷ [])
 numbered_more a b files f go h n k file at = of (get_push_cases files f k file at)
   where
-    of : (slice_get files k ≡ Some file) ⊎ ((k ≡ length files) × (f ≡ file)) → IsNumbered b file
+    of : (slice_get files k ≡ Some file) ⊎ ((k ≡ length files) × (f ≡ file)) → HasNumberedImports b file
     of (inl old) = wider a b (string_bytes file.path) file.tree.imports.items file.imports.items go (h k file old)
-    of (inr new) = subst (IsNumbered b) new.1 n
+    of (inr new) = subst (HasNumberedImports b) new.1 n
 
-pub numbered_file : (paths : List (List ℕ)) (p : List ℕ) (imports : List Import) (ns : List ℕ) (f : SourceFile) → string_bytes f.path ≡ p → f.tree.imports.items ≡ imports → f.imports.items ≡ ns → AreNumbered paths p imports ns → IsNumbered paths f
+pub numbered_file : (paths : List (List ℕ)) (p : List ℕ) (imports : List Import) (ns : List ℕ) (f : SourceFile) → string_bytes f.path ≡ p → f.tree.imports.items ≡ imports → f.imports.items ≡ ns → AreNumbered paths p imports ns → HasNumberedImports paths f
 numbered_file paths p imports ns f a b c h = subst (λ (q : List ℕ). AreNumbered paths q f.tree.imports.items f.imports.items) (sym a) (subst (λ (xs : List Import). AreNumbered paths p xs f.imports.items) (sym b) (subst (AreNumbered paths p imports) (sym c) h))
 
 -- a path of a file is among the paths, at its number
@@ -196,7 +196,7 @@ still_leads files f from _ itself = itself
 still_leads files f from _ (further {path = p} k file way at has) = further k file (still_leads files f from (string_bytes file.path) way) (get_push files f k file at) has
 
 -- of one path alone there is no way
-pub one_reached : (paths : List (List ℕ)) (q : List ℕ) (files : List SourceFile) → paths ≡ q ∷ [] → AreReached files paths
+pub one_reached : (paths : List (List ℕ)) (q : List ℕ) (files : List SourceFile) → paths ≡ q ∷ [] → AreReachedFiles files paths
 one_reached paths q files e zero first path begin at = subst (LeadsTo files first) (Some_same first path (sym begin ∙ at)) itself
 one_reached paths q files e (suc k) first path begin at = let none : None ≡ Some path = sym (ap (λ (xs : List (List ℕ)). slice_get xs (suc k)) e) ∙ at in absurd (cc)
 
@@ -218,7 +218,7 @@ module _ (a b : List WantedFile) (files : List SourceFile) (f : SourceFile) (nex
       let old : slice_get (map Path a) 0 ≡ Some (Path there.0) = mapped Path a 0 there.0 there.1 in
       old ∙ ap Some (Some_same (Path there.0) first (sym (goes_on a b Such adds 0 (Path there.0) old) ∙ at))
 
-  pub reached_more : AreReached files (map Path a) → AreReached (files ++ f ∷ []) (map Path b)
+  pub reached_more : AreReachedFiles files (map Path a) → AreReachedFiles (files ++ f ∷ []) (map Path b)
   reached_more h k first path begin at =
       let from = mapped_from Path b k path at in
       let begun = begins first begin in

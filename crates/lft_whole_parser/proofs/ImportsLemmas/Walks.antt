@@ -2,7 +2,7 @@
 use Rattle.std.proofs.Common.{◌≡◌, ℕ, ◌<◌, ◌-◌, Bool, true, false, cond, List, [], ◌∷◌, ◌++◌, length, take, sym, ap, ◌∙◌, append_assoc, arith}
 use Rattle.std.specs.Prelude.{slice_get}
 use Rattle.std.proofs.lemmas.{Bool.{cond-true, cond-false}, List.{append-nil, Concat.flat_map-append}}
-use Rattle.lft_whole_parser.specs.Imports.Paths.{back, is_back, is_folder, joined, root, slashed, stays, step}
+use Rattle.lft_whole_parser.specs.Imports.Paths.{back, is_back, is_folder, joined_path, root, slashed, stays, step}
 
 pub step_stays : (r : Bool) (fs : List (List ℕ)) (p : List ℕ) → stays p ≡ true → step r fs p ≡ fs
 step_stays r fs p e = cond-true (stays p) fs (cond (is_back p) (back r fs p) (fs ++ p ∷ [])) e
@@ -26,6 +26,6 @@ slashed_more : (xs : List (List ℕ)) (f : List ℕ) → slashed (xs ++ f ∷ []
 slashed_more xs f = flat_map-append (λ folder. 47 ∷ folder) xs (f ∷ []) ∙ ap (λ z. slashed xs ++ z) (append-nil (47 ∷ f))
 
 -- one folder more behind others
-pub joined_more : (r : Bool) (xs : List (List ℕ)) (f : List ℕ) → 0 < length xs → joined r (xs ++ f ∷ []) ≡ joined r xs ++ 47 ∷ f
+pub joined_more : (r : Bool) (xs : List (List ℕ)) (f : List ℕ) → 0 < length xs → joined_path r (xs ++ f ∷ []) ≡ joined_path r xs ++ 47 ∷ f
 joined_more r [] f l = absurd (omega arith)
 joined_more r (x ∷ xs) f l = ap (λ z. (root r ++ x) ++ z) (slashed_more xs f) ∙ sym (append_assoc (root r ++ x) (slashed xs) (47 ∷ f))

@@ -2,7 +2,7 @@
 use Rattle.std.specs.Prelude.{◌≡◌, ◌⊎◌, ℕ, List, Some, IsSomeAnd, length, map, slice_get, string_bytes}
 use Rattle.std.specs.Str.{IsUtf8}
 use Rattle.lft_whole.specs.declared.{tree.Import.Import, sources.{source.SourceFile.SourceFile, stop.Place.Place, why.Why.{Why, TheVariants.NotRead}}}
-use Rattle.lft_whole_parser.specs.Imports.{Paths.meaning, Reads.{HasNoTree, HasTree}}
+use Rattle.lft_whole_parser.specs.Imports.{Paths.meaning, Reads.{HasNoFileTree, HasTree}}
 
 -- The paths of files.
 abbrev pub paths_of_files : List SourceFile → List (List ℕ)
@@ -17,8 +17,8 @@ abbrev pub AreNumbered : List (List ℕ) → List ℕ → List Import → List �
 AreNumbered paths path imports numbers = (length numbers ≡ length imports) × ((i : ℕ) (import : Import) → slice_get imports i ≡ Some import → IsSomeAnd (slice_get numbers i) (λ number. slice_get paths number ≡ Some (meaning path import.path.items)))
 
 -- Each import of the file has the number of the path that it means.
-abbrev pub IsNumbered : List (List ℕ) → SourceFile → Type 0
-IsNumbered paths file = AreNumbered paths (string_bytes file.path) file.tree.imports.items file.imports.items
+abbrev pub HasNumberedImports : List (List ℕ) → SourceFile → Type 0
+HasNumberedImports paths file = AreNumbered paths (string_bytes file.path) file.tree.imports.items file.imports.items
 
 -- An import in a file of the one path means the other.
 abbrev pub HasImport : List ℕ → List Import → List ℕ → Type 0
@@ -30,8 +30,8 @@ pub data LeadsTo (files : List SourceFile) (from : List ℕ) : List ℕ → Type
   further : {path : List ℕ} (k : ℕ) (file : SourceFile) → LeadsTo files from (string_bytes file.path) → slice_get files k ≡ Some file → HasImport (string_bytes file.path) file.tree.imports.items path → LeadsTo files from path
 
 -- Imports of the files lead from the first of the paths to each.
-abbrev pub AreReached : List SourceFile → List (List ℕ) → Type 0
-AreReached files paths = (k : ℕ) (first path : List ℕ) → slice_get paths 0 ≡ Some first → slice_get paths k ≡ Some path → LeadsTo files first path
+abbrev pub AreReachedFiles : List SourceFile → List (List ℕ) → Type 0
+AreReachedFiles files paths = (k : ℕ) (first path : List ℕ) → slice_get paths 0 ≡ Some first → slice_get paths k ≡ Some path → LeadsTo files first path
 
 -- The import at this place, in one of the files, means the path.
 abbrev pub IsImportOf : List SourceFile → List ℕ → Place → Type 0
@@ -49,7 +49,7 @@ pub record IsFileOf (path t : List ℕ) (file : SourceFile) : Type 0 where
 
 -- Each import of the files names one of them, by number.
 abbrev pub IsWhole : List SourceFile → Type 0
-IsWhole files = (k : ℕ) (file : SourceFile) → slice_get files k ≡ Some file → IsNumbered (paths_of_files files) file
+IsWhole files = (k : ℕ) (file : SourceFile) → slice_get files k ≡ Some file → HasNumberedImports (paths_of_files files) file
 
 -- An import at that token has a path that is no UTF-8.
 abbrev pub HasUnread : List Import → ℕ → Type 0
@@ -57,4 +57,4 @@ HasUnread imports token = (i : ℕ) × IsSomeAnd (slice_get imports i) (λ impor
 
 -- The file is refused for that text, at that token: the text has no tree, or it has, and the path of an import there is no UTF-8.
 abbrev pub IsRefusedFor : List ℕ → SourceFile → ℕ → Why → Type 0
-IsRefusedFor t file token why = HasNoTree t file.spots.items token why ⊎ ((why ≡ NotRead) × HasTree t file.spots.items file.tree × HasUnread file.tree.imports.items token)
+IsRefusedFor t file token why = HasNoFileTree t file.spots.items token why ⊎ ((why ≡ NotRead) × HasTree t file.spots.items file.tree × HasUnread file.tree.imports.items token)

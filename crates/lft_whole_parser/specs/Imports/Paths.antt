@@ -48,13 +48,13 @@ abbrev pub slashed : List (List ℕ) → List ℕ
 slashed folders = flat_map (λ folder. 47 ∷ folder) folders
 
 -- The path of folders; without one it is the root, or `.`.
-abbrev pub joined : Bool → List (List ℕ) → List ℕ
-joined from_root [] = if from_root then codes "/" else codes "."
-joined from_root (folder ∷ folders) = root from_root ++ folder ++ slashed folders
+abbrev pub joined_path : Bool → List (List ℕ) → List ℕ
+joined_path from_root [] = if from_root then codes "/" else codes "."
+joined_path from_root (folder ∷ folders) = root from_root ++ folder ++ slashed folders
 
 -- The normal form of a path: `..` stands only at its front, and `.` only alone.
 abbrev pub normal : List ℕ → List ℕ
-normal path = joined (is_absolute path) (walked (is_absolute path) [] path)
+normal path = joined_path (is_absolute path) (walked (is_absolute path) [] path)
 
 -- All but the last.
 abbrev pub without_last : List (List ℕ) → List (List ℕ)
@@ -68,4 +68,4 @@ folders_of path = without_last (walked (is_absolute path) [] path)
 abbrev pub meaning : List ℕ → List ℕ → List ℕ
 meaning importer path =
     if is_absolute path then normal path
-    else joined (is_absolute importer) (walked (is_absolute importer) (folders_of importer) path)
+    else joined_path (is_absolute importer) (walked (is_absolute importer) (folders_of importer) path)

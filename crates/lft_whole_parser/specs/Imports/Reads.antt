@@ -4,7 +4,7 @@ use Rattle.lft_whole.specs.{Pieces.tokens_of, Places.IsAmong}
 use Rattle.lft_whole.specs.declared.{fault.{TextFault.TheVariants.BadText, TreeFault.TreeFault}, tree.File.File, sources.{source.Spot.Spot, why.Why.Why}}
 use Rattle.lft_whole.specs.Parts.{Tree.FileTree, View.file_view}
 use Rattle.lft_syntax.specs.declared.token.Token.{Token}
-use Rattle.lft_whole_parser.specs.{Files.reads, Imports.Places.{AreSpots, IsSpot}}
+use Rattle.lft_whole_parser.specs.{Files.reads, Imports.Places.{AreSpots, IsSpotOfByte}}
 use Rattle.lft_whole.specs.declared.fault.TreeFault.TheVariants as faults
 use Rattle.lft_whole.specs.declared.sources.why.Why.TheVariants as why
 
@@ -22,11 +22,11 @@ HasTree t spots tree = ReadsAs t spots (Ok (file_view tree))
 
 -- A byte of the text begins no token, and stands at this spot.
 abbrev pub IsNotCut : List ℕ → Spot → Type 0
-IsNotCut t spot = (at : ℕ) × (tokens_of t ≡ Err (BadText at)) × IsSpot t at spot
+IsNotCut t spot = (at : ℕ) × (tokens_of t ≡ Err (BadText at)) × IsSpotOfByte t at spot
 
 -- The text has no tree: a byte begins no token, a token can't stand where it does, or it is the `<` of a package.
-abbrev pub HasNoTree : List ℕ → List Spot → ℕ → Why → Type 0
-HasNoTree t spots token why.NotText = IsSomeAnd (slice_get spots token) (IsNotCut t)
-HasNoTree t spots token why.Unexpected = ReadsAs t spots (Err (faults.Unexpected token))
-HasNoTree t spots token why.Package = ReadsAs t spots (Err (faults.Package token))
-HasNoTree t spots token _ = ⊥
+abbrev pub HasNoFileTree : List ℕ → List Spot → ℕ → Why → Type 0
+HasNoFileTree t spots token why.NotText = IsSomeAnd (slice_get spots token) (IsNotCut t)
+HasNoFileTree t spots token why.Unexpected = ReadsAs t spots (Err (faults.Unexpected token))
+HasNoFileTree t spots token why.Package = ReadsAs t spots (Err (faults.Package token))
+HasNoFileTree t spots token _ = ⊥

@@ -2,7 +2,7 @@
 
 ghost use Rattle.std.specs.Prelude.{◌≡◌, ℕ, List, ◌∷◌, ◌++◌, None, Some, [], IfErr, IfOk, OnOk, slice_get, string_bytes};
 ghost use Rattle.std.specs.BTreeMap.{get_by_text};
-ghost use Rattle.lft_whole_parser.specs.{inner.Imports.Files.{Adds, IsAskedBy, IsKnown, IsUnread, paths_of}, Imports.Files.AreNumbered};
+ghost use Rattle.lft_whole_parser.specs.{inner.Imports.Files.{Adds, IsAskedBy, IsKnown, IsUnreadPath, paths_of}, Imports.Files.AreNumbered};
 
 use crate::imports::paths::imported;
 use lft_tag::NoMemory;
@@ -80,7 +80,7 @@ impl FileNumbers {
         ensures known { OnOk result (IsKnown self.new) }
         ensures added { OnOk result (Adds self.old.paths.items (IsAskedBy file path.now imports.now) self.new.paths.items) }
         ensures numbers { IfOk result (λ numbers. AreNumbered (paths_of self.new) path.now imports.now numbers.items) }
-        ensures refused { IfErr result (IsUnread file imports.now) }
+        ensures refused { IfErr result (IsUnreadPath file imports.now) }
     {
         let mut numbers = Vec::new(alloc);
         for place in 0..imports.len() {

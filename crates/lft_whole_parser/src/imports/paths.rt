@@ -1,7 +1,7 @@
 //! Paths of files, in their normal form.
 
 ghost use Rattle.std.specs.Prelude.{◌≡◌, ◌-◌, [], IfOk, OnOk, length, map, slice_get, string_bytes};
-ghost use Rattle.lft_whole_parser.specs.Imports.Paths.{back, is_absolute as is_from_root, is_back as leads_back, is_folder, joined as path_of, meaning, normal as normal_path, root as root_of, stays as leads_nowhere, step, walked};
+ghost use Rattle.lft_whole_parser.specs.Imports.Paths.{back, is_absolute as is_from_root, is_back as leads_back, is_folder, joined_path as path_of, meaning, normal as normal_path, root as root_of, stays as leads_nowhere, step, walked};
 
 use std::alloc::{AllocError, Global};
 

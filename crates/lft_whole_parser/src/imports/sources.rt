@@ -2,7 +2,7 @@
 
 ghost use Rattle.std.specs.Prelude.{◌≡◌, ◌+◌, [], ◌∷◌, None, IfErr, IfOk, IfSome, OnOk, option_and_then, option_map, length, slice_get};
 ghost use Rattle.lft_whole_parser.specs.Imports.{Paths.normal as normal_path, Files.{AreNumbered, EachOnce, IsWhole, paths_of_files}};
-ghost use Rattle.lft_whole_parser.specs.inner.Imports.Files.{Adds, AreApart, AreCounted, AreSources, HasOneMore, IsAskedBy, IsKnown, IsNamedBy, IsRefusalOf, RefusesNext, next_path, paths_of};
+ghost use Rattle.lft_whole_parser.specs.inner.Imports.Files.{Adds, AreTokensApart, AreCounted, AreSources, HasOneMore, IsAskedBy, IsKnown, IsNamedBy, IsRefusalOf, RefusesNext, next_path, paths_of};
 
 use crate::imports::asked::FileNumbers;
 use crate::imports::paths::normal;
@@ -108,7 +108,7 @@ impl Sources {
         ensures files { result.now ≡ self.now.files.items }
         ensures once { AreSources self.now → EachOnce (paths_of_files result.now) }
         ensures counted { AreSources self.now → AreCounted result.now }
-        ensures apart { AreSources self.now → AreApart result.now }
+        ensures apart { AreSources self.now → AreTokensApart result.now }
         ensures whole { AreSources self.now → next_path self.now ≡ None → IsWhole result.now }
     {
         self.files.as_slice()

@@ -1,7 +1,7 @@
 //! Where the tokens of a text stand, by line and column.
 
 ghost use Rattle.std.specs.Prelude.{◌≡◌, ◌+◌, ◌<◌, ◌≤◌, IfOk, length};
-ghost use Rattle.lft_whole_parser.specs.Imports.Places.{AreSpots, IsSpot};
+ghost use Rattle.lft_whole_parser.specs.Imports.Places.{AreSpots, IsSpotOfByte};
 ghost use Rattle.lft_whole.specs.inner.Tokens.{AreTokens};
 
 use lft_text_diagnostics::{begins_letter, place_of};
@@ -11,7 +11,7 @@ use std::alloc::{AllocError, Global};
 
 /// The spot of the first byte.
 fn first(text: &[u8]) -> Spot
-    ensures { IsSpot text.now 0 result }
+    ensures { IsSpotOfByte text.now 0 result }
 {
     Spot { line: 1, column: 1 }
 }
@@ -19,8 +19,8 @@ fn first(text: &[u8]) -> Spot
 /// The spot behind a byte.
 fn after(text: &[u8], at: usize, spot: Spot) -> Spot
     requires inside { at < length text.now }
-    requires spot { IsSpot text.now at spot }
-    ensures { IsSpot text.now (at + 1) result }
+    requires spot { IsSpotOfByte text.now at spot }
+    ensures { IsSpotOfByte text.now (at + 1) result }
 {
     let byte = text[at];
     if byte == b'\n' {
@@ -42,8 +42,8 @@ fn after(text: &[u8], at: usize, spot: Spot) -> Spot
 fn spot_at(text: &[u8], from: usize, spot: Spot, to: usize) -> Spot
     requires order { from ≤ to }
     requires inside { to ≤ length text.now }
-    requires spot { IsSpot text.now from spot }
-    ensures { IsSpot text.now to result }
+    requires spot { IsSpotOfByte text.now from spot }
+    ensures { IsSpotOfByte text.now to result }
 {
     let mut here = spot;
     for at in from..to {
@@ -74,7 +74,7 @@ pub(crate) fn spots(alloc: Global, text: &[u8], tokens: &[Token]) -> Result<Vec<
 /// Where a byte of a text stands.
 pub(crate) fn spot_of(text: &[u8], at: usize) -> Spot
     requires { at ≤ length text.now }
-    ensures { IsSpot text.now at result }
+    ensures { IsSpotOfByte text.now at result }
 {
     let place = place_of(text, at);
     Spot {

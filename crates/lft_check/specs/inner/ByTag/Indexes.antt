@@ -25,13 +25,13 @@ pub record HasRuns (t : List Row) (n : ℕ) (started : Started) : Type 0 where
   pub runs_are : started.runs ≡ runs_in t
 
 -- the reaction of a row that is marked is triggered at the tag of the row
-abbrev pub AreDue : TraceParts → List Bool → Type 0
-AreDue cut due = (i : ℕ) (row : Row) → slice_get due i ≡ Some true → slice_get cut.rows i ≡ Some row → Triggered cut.plan cut.rows row.tag row.reaction
+abbrev pub AreTriggeredRows : TraceParts → List Bool → Type 0
+AreTriggeredRows cut due = (i : ℕ) (row : Row) → slice_get due i ≡ Some true → slice_get cut.rows i ≡ Some row → Triggered cut.plan cut.rows row.tag row.reaction
 
 -- what is kept of what the rows cause is right
 pub record IsCaused (caused : Caused) : Type 0 where
   pub missing_is : IsFirstMissing caused.presence caused.missing
-  pub are_due : AreDue caused.presence caused.due.items
+  pub are_due : AreTriggeredRows caused.presence caused.due.items
   pub runs_are : caused.runs ≡ runs_in caused.presence.rows
 
 -- the places of those of the first k runs that are marked are marked now, and so is what was marked before
@@ -45,5 +45,5 @@ pub record IsIndexed (cut : TraceParts) (slices : List Slice) (missing : Option 
   pub rules : IsCuttable cut
   pub sliced : AreSlices cut.rows slices
   pub missing_is : IsFirstMissing cut missing
-  pub are_due : AreDue cut due
+  pub are_due : AreTriggeredRows cut due
   pub runs_are : runs ≡ runs_in cut.rows

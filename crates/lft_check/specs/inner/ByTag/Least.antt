@@ -6,11 +6,11 @@ use Rattle.lft_model.specs.Presence.{stop, Fires, Occurs, Triggered}
 use Rattle.lft_rows.specs.{declared.presence.causes.EventCause.EventCause, inner.Presence.Causes.{IsCause, Leads}, Presence.Traces.TraceParts}
 
 -- the pair with the earlier tag of a pair and of a tag with a reaction, of those that are; at one tag the pair
-abbrev pub IsFirstOf : Option (Tag × ℕ) → Option Tag → ℕ → Option (Tag × ℕ) → Type 0
-IsFirstOf None None n r = r ≡ None
-IsFirstOf None (Some b) n r = r ≡ Some (b, n)
-IsFirstOf (Some x) None n r = r ≡ Some x
-IsFirstOf (Some x) (Some b) n r = (r ≡ Some x) × UpTo x.0 b ⊎ (r ≡ Some (b, n)) × Before b x.0
+abbrev pub IsEarlierLack : Option (Tag × ℕ) → Option Tag → ℕ → Option (Tag × ℕ) → Type 0
+IsEarlierLack None None n r = r ≡ None
+IsEarlierLack None (Some b) n r = r ≡ Some (b, n)
+IsEarlierLack (Some x) None n r = r ≡ Some x
+IsEarlierLack (Some x) (Some b) n r = (r ≡ Some x) × UpTo x.0 b ⊎ (r ≡ Some (b, n)) × Before b x.0
 
 -- the tags are ascending
 abbrev pub AreUp : List Tag → Type 0
@@ -30,7 +30,7 @@ pub record IsFirstTime (low : Tag) (due : ℕ) : Type 0 where
   pub from : (time : ℕ) → due ≤ time → UpTo low (record { time = time; micro = 0 })
 
 -- the timer fires at the time, which is from the low tag on, and each of its earlier firings is before that tag
-pub record IsFirstFiring (timer : TimerOf) (low : Tag) (time : ℕ) : Type 0 where
+pub record IsFirstFiringFrom (timer : TimerOf) (low : Tag) (time : ℕ) : Type 0 where
   pub count : ℕ
   pub is_at : time ≡ timer.offset + count * timer.period
   pub once : timer.period ≡ 0 → count ≡ 0
@@ -62,7 +62,7 @@ pub record LacksCause (cut : TraceParts) (name : ℕ) (s : Folded) (low : Tag) (
   pub not_there : ¬ IsPassed low tags g
 
 -- the trigger is present at g, which is up to the stop and not passed
-pub record LacksTrigger (cut : TraceParts) (x : Trigger) (low : Tag) (tags : List Tag) (g : Tag) : Type 0 where
+pub record LacksTriggerAt (cut : TraceParts) (x : Trigger) (low : Tag) (tags : List Tag) (g : Tag) : Type 0 where
   pub occurs : Occurs cut.plan cut.rows g x
   pub in_time : UpTo g (stop cut.plan cut.rows)
   pub not_there : ¬ IsPassed low tags g

@@ -5,8 +5,8 @@ use Rattle.lft_ir.specs.{declared.{parts.{Value.Value, Name.Name, Reaction.React
 use Rattle.lft_model.specs.{Plans.PlanParts, Presence.{Shows, IsPresent, At}, Runs.{read_of, steps_of}}
 
 -- the run of r at g read of the name what is present there
-abbrev pub IsRight : PlanParts → List Row → Tag → ℕ → Name → Type 0
-IsRight plan t g r n = Shows plan t g n (read_of (steps_of t g r) n)
+abbrev pub IsRightRead : PlanParts → List Row → Tag → ℕ → Name → Type 0
+IsRightRead plan t g r n = Shows plan t g n (read_of (steps_of t g r) n)
 
 -- the name is present at g, and the run of r there didn't read it
 abbrev pub IsMissed : PlanParts → List Row → Tag → ℕ → Name → Type 0

@@ -23,15 +23,15 @@ pub record AreSlices (t : List Row) (slices : List Slice) : Type 0 where
   pub each : (i : ℕ) (row : Row) → slice_get t i ≡ Some row → (k : ℕ) × (x : Slice) × (slice_get slices k ≡ Some x) × (row.tag ≡ x.tag)
 
 -- r is triggered at g, which is up to the stop, and has no run there
-pub record IsMissing (cut : TraceParts) (r : ℕ) (g : Tag) : Type 0 where
+pub record IsMissingRun (cut : TraceParts) (r : ℕ) (g : Tag) : Type 0 where
   pub triggered : Triggered cut.plan cut.rows g r
   pub in_time : UpTo g (stop cut.plan cut.rows)
   pub no_run : ¬ Ran cut.rows g r
 
 -- the least tag up to the stop at which a reaction is triggered and has no run, and the least such reaction
 abbrev pub IsFirstMissing : TraceParts → Option (Tag × ℕ) → Type 0
-IsFirstMissing cut o = LeastPair (IsMissing cut) o
+IsFirstMissing cut o = LeastPair (IsMissingRun cut) o
 
 -- the least tag from low on, up to the stop, at which a triggered reaction has no run, and the least such reaction
 abbrev pub IsFirstMissingFrom : TraceParts → Tag → Option (Tag × ℕ) → Type 0
-IsFirstMissingFrom cut low o = LeastPair (λ r g. IsMissing cut r g × UpTo low g) o
+IsFirstMissingFrom cut low o = LeastPair (λ r g. IsMissingRun cut r g × UpTo low g) o

@@ -1,7 +1,7 @@
 use Rattle.std.proofs.Common.{◌≡◌, ◌↔◌, ◌<◌, ℕ, Some, true, length, slice_get, refl, sym, subst, arith}
 use Rattle.std.proofs.lemmas.Option.{slice_get_read}
 use Rattle.lft_lists.proofs.Places.{same_some}
-use Rattle.lft_classes.specs.{declared.shapes.Shape.Shape, inner.{Built.core, Needs.{IsReady, NeedsNumber, Times, Widths}}}
+use Rattle.lft_classes.specs.{declared.shapes.Shape.Shape, inner.{Built.core, Needs.{IsReadyToDecide, NeedsNumber, Times, Widths}}}
 use Rattle.lft_classes.proofs.{Rows.map_set, Decided.{both_decided, decided_but, decided_by, decided_none, decided_one}}
 use Rattle.lft_classes.proofs.deciding.decide.Goals as goal
 
@@ -25,7 +25,7 @@ returns-clause-decided c scopes first ready =
     let after = slice_get_read shapes (length shapes) number c.index_mut-shape.result.now refl within c.index_mut-shape.ensures.value in
     let one = same_some (slice_get shapes number) c.index.result.now c.index_mut-shape.result.now before after in
     let found = c.in_ok-sized.ensures in
-    let at = subst (λ l. IsReady scopes first l number) same ready in
+    let at = subst (λ l. IsReadyToDecide scopes first l number) same ready in
     let is = subst (λ l. slice_get l number ≡ Some c.index.result.now) same before in
     let sized = decided_by scopes first c.deref.result.now number c.index.result.now Widths c.in_ok-sized.field-0.sized.items at is found.sized in
     let timed = decided_by scopes first c.deref.result.now number c.index.result.now Times c.in_ok-sized.field-0.timed.items at is found.timed in

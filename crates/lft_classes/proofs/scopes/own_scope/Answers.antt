@@ -1,7 +1,7 @@
 use Rattle.std.proofs.Common.{◌≡◌, ◌+◌, ◌<◌, ◌++◌, ℕ, length, Some, map, take, option_map, string_bytes, slice_get, refl, sym, ap, subst, ◌∙◌, arith}
 use Rattle.std.proofs.lemmas.{Grind.common_steps, List.length-map, Option.{slice_get_read, slice_get_within}}
 use Rattle.lft_whole.specs.declared.tree.Reactor.{Reactor}
-use Rattle.lft_classes.specs.{declared.scopes.Class.Class, inner.Scopes.{AreNumbered, placed, HasMeaning, IsOwnAt}}
+use Rattle.lft_classes.specs.{declared.scopes.Class.Class, inner.Scopes.{AreNumberedClasses, placed, HasMeaning, IsOwnAt}}
 use Rattle.lft_classes.proofs.{Building.{below_one, pushed}, Meanings.{numbers_push, scope_has}, Numbering.{counted, next_stands, own_item}}
 use Rattle.lft_classes.proofs.scopes.own_scope.Goals as goal
 
@@ -20,7 +20,7 @@ loop-place-preserved c =
       own = λ files at before. c.in_ok-push_named.ensures.own files (next_stands files c.args.number c.args.file.now c.args.classes.now.items classes k _ reactor at before c.loop-place.invariant.classes within there (c.len.ensures ∙ c.loop-place.classes.ok.0)) (c.loop-place.invariant.own files at before);
       has = λ j r q lt at is. below_one (λ i s. option_map (λ n. string_bytes n.text) s.name ≡ Some q → HasMeaning c.push_named.new.meanings.items q (length before + i)) items k reactor there (λ i s l e h. c.in_ok-push_named.ensures.kept q (length before + i) (c.loop-place.invariant.has i s q l e h)) (λ h. subst (HasMeaning c.push_named.new.meanings.items q) number (c.in_ok-push_named.ensures.has q h)) j r lt at is;
       classes = ap placed c.in_ok-push.ensures.items ∙ pushed (λ x. (x.file, x.reactor.now)) pair (placed c.args.classes.now.items) classes items k _ reactor within (sym c.index.ensures) refl c.loop-place.invariant.classes;
-      numbers = λ all. subst AreNumbered (sym c.in_ok-push.ensures.items) (numbers_push classes _ (c.loop-place.invariant.numbers all) (c.len.ensures ∙ c.loop-place.classes.ok.0));
+      numbers = λ all. subst AreNumberedClasses (sym c.in_ok-push.ensures.items) (numbers_push classes _ (c.loop-place.invariant.numbers all) (c.len.ensures ∙ c.loop-place.classes.ok.0));
     }
 
 pub returns-clause-own : goal.returns-clause-own

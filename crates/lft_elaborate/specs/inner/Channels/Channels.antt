@@ -17,6 +17,6 @@ joined left right false = min left right
 joined left right true = if left == 0 then 0 else right
 
 -- which channel on the left is joined to the one of this number on the right
-abbrev pub source : ℕ → Bool → ℕ → ℕ
-source left false k = k
-source left true k = k % left
+abbrev pub left_channel : ℕ → Bool → ℕ → ℕ
+left_channel left false k = k
+left_channel left true k = k % left

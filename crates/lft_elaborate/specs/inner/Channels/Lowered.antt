@@ -1,7 +1,7 @@
 -- References of the core program, and the connections between them.
 use Rattle.std.specs.Prelude.{◌≡◌, ℕ, ◌<◌, Bool, List, [], ◌∷◌, length, Option, Some, None, slice_get}
 use Rattle.lft_tree.specs.Tree.{TimeTree, RefTree, ConnectionTree}
-use Rattle.lft_elaborate.specs.inner.Channels.Channels.{joined, source}
+use Rattle.lft_elaborate.specs.inner.Channels.Channels.{joined, left_channel}
 
 -- a port, an action, a timer or an instance by its name
 abbrev pub Name : Type 0
@@ -20,7 +20,7 @@ abbrev pub single : Option TimeTree → RefTree → RefTree → ConnectionTree
 single delay from to = record { sources = from ∷ []; destinations = to ∷ []; delay = delay }
 
 -- the k-th of them joins the k-th place on the right
-abbrev pub AreJoined : List RefTree → List RefTree → Bool → Option TimeTree → List ConnectionTree → Type 0
-AreJoined left right broadcast delay cs =
+abbrev pub AreJoinedPlaces : List RefTree → List RefTree → Bool → Option TimeTree → List ConnectionTree → Type 0
+AreJoinedPlaces left right broadcast delay cs =
     (length cs ≡ joined (length left) (length right) broadcast)
-    × ((k : ℕ) → k < length cs → (from : RefTree) × (to : RefTree) × (slice_get left (source (length left) broadcast k) ≡ Some from) × (slice_get right k ≡ Some to) × (slice_get cs k ≡ Some (single delay from to)))
+    × ((k : ℕ) → k < length cs → (from : RefTree) × (to : RefTree) × (slice_get left (left_channel (length left) broadcast k) ≡ Some from) × (slice_get right k ≡ Some to) × (slice_get cs k ≡ Some (single delay from to)))

@@ -1,6 +1,6 @@
 use Rattle.std.proofs.Common.{◌≡◌, ◌∙◌, ◌++◌, ◌≤◌, List, drop, length, refl, ap, subst, arith}
 use Rattle.lft_ir.specs.declared.steps.row.Row.{Row}
-use Rattle.lft_log.specs.inner.Told.{IsLatest}
+use Rattle.lft_log.specs.inner.Told.{IsLatestTag}
 use Rattle.lft_log.proofs.{Fronts.all_dropped, Inputs.{all_gone, fits_at, gone_at, gone_none, gone_short, gone_up, input_gone, input_refused, rows_gone}}
 use Rattle.lft_log.proofs.telling.tell_all.Goals as goal
 
@@ -22,7 +22,7 @@ loop-place-preserved c =
       stands = λ t is. c.tell_behind.ensures.stands t (inv.stands t is);
       gone = λ t lines is rows_are inputs_are.
           let gone = gone_at c.args.plan.now c.loop-place.plan t lines c.as_slice-inputs.result.now c.args.front.now.inputs.items c.loop-place.place c.loop-place.gone c.loop-place.latest _ c.as_slice-inputs.ensures.value c.loop-place-test.true (inv.gone t lines is rows_are inputs_are) in
-          let at = rows_gone c.args.plan.now c.loop-place.plan t lines _ _ c.loop-place.place c.loop-place.gone c.loop-place.latest gone c.as_slice-rows.result.now (c.as_slice-rows.ensures.value ∙ rows_are) c.latest_of-latest.result (λ u latest. subst (λ (x : List Row). IsLatest (u ++ x) c.latest_of-latest.result) c.rows_between.ensures (c.latest_of-latest.ensures u latest)) in
+          let at = rows_gone c.args.plan.now c.loop-place.plan t lines _ _ c.loop-place.place c.loop-place.gone c.loop-place.latest gone c.as_slice-rows.result.now (c.as_slice-rows.ensures.value ∙ rows_are) c.latest_of-latest.result (λ u latest. subst (λ (x : List Row). IsLatestTag (u ++ x) c.latest_of-latest.result) c.rows_between.ensures (c.latest_of-latest.ensures u latest)) in
           input_gone c.args.plan.now c.loop-place.plan t lines _ _ c.loop-place.place c.latest_of-latest.result at c.tell_behind.new.plan c.in_default.ensures.told (λ u latest. c.in_default.ensures.timely t u (inv.stands t is) latest);
     }
 
@@ -30,7 +30,7 @@ pub returns-in-Err-clause-taken : goal.returns-in-Err-clause-taken
 returns-in-Err-clause-taken c = λ t lines is rows_are inputs_are.
     let inv = c.loop-place.invariant in
     let gone = gone_at c.args.plan.now c.loop-place.plan t lines c.as_slice-inputs.result.now c.args.front.now.inputs.items c.loop-place.place c.loop-place.gone c.loop-place.latest _ c.as_slice-inputs.ensures.value c.loop-place-test.true (inv.gone t lines is rows_are inputs_are) in
-    let at = rows_gone c.args.plan.now c.loop-place.plan t lines _ _ c.loop-place.place c.loop-place.gone c.loop-place.latest gone c.as_slice-rows.result.now (c.as_slice-rows.ensures.value ∙ rows_are) c.latest_of-latest.result (λ u latest. subst (λ (x : List Row). IsLatest (u ++ x) c.latest_of-latest.result) c.rows_between.ensures (c.latest_of-latest.ensures u latest)) in
+    let at = rows_gone c.args.plan.now c.loop-place.plan t lines _ _ c.loop-place.place c.loop-place.gone c.loop-place.latest gone c.as_slice-rows.result.now (c.as_slice-rows.ensures.value ∙ rows_are) c.latest_of-latest.result (λ u latest. subst (λ (x : List Row). IsLatestTag (u ++ x) c.latest_of-latest.result) c.rows_between.ensures (c.latest_of-latest.ensures u latest)) in
     input_refused c.args.plan.now c.loop-place.plan t lines _ _ c.loop-place.place c.latest_of-latest.result at c.args.before c.tell_behind.new.plan c.args.front.now _ c.in-Err.fault c.in-Err.ensures.stays refl refl refl (λ u latest. c.in-Err.ensures.fault t u (inv.stands t is) latest)
 
 pub rows_between-requires : goal.rows_between-requires

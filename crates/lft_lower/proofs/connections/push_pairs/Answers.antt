@@ -2,7 +2,7 @@ use Rattle.std.proofs.Common.{◌≡◌, ◌<◌, ◌++◌, [], ◌∷◌, true,
 use Rattle.std.specs.Prelude.{option_map, slice_get}
 use Rattle.std.proofs.lemmas.{List.{append-nil, length-map}, Option.slice_get-get_or}
 use Rattle.lft_lists.proofs.Mapped.{mapped}
-use Rattle.lft_elaborate.specs.{Channels.Channels.below, inner.Channels.{Channels.{joined, source}, Lowered.single}}
+use Rattle.lft_elaborate.specs.{Channels.Channels.below, inner.Channels.{Channels.{joined, left_channel}, Lowered.single}}
 use Rattle.lft_tree.specs.{Tree.ConnectionMember, View.{member_view, member_views, ref_view, ref_views, time_view}, declared.tree.Reference.Reference}
 use Rattle.lft_lower.proofs.{Joining.{added_next, joined_low, pairs_all, pairs_more, pairs_none}, Pairing.tokens_next, Standing.{at_as, at_more, at_none}}
 use Rattle.lft_lower.specs.inner.{Standing.{pair_tokens, time_tokens}, Meanings.Standing.ref_tokens}
@@ -23,13 +23,13 @@ loop-pair-preserved c =
     let place = c.source-place.result in
     let test = c.loop-pair-test.true in
     let of_left : slice_get lefts place ≡ Some from = slice_get-get_or lefts place from c.source-place.ensures.there ∙ ap Some (sym c.index-sources-place.is) in
-    let there : place ≡ source (length (ref_views lefts)) true pair = c.source-place.ensures.result ∙ ap (λ n. source n true pair) (sym (length-map lefts ref_view)) in
-    let at_left : slice_get (ref_views lefts) (source (length (ref_views lefts)) true pair) ≡ Some (ref_view from) = ap (slice_get (ref_views lefts)) (sym there) ∙ mapped ref_view lefts place from of_left in
+    let there : place ≡ left_channel (length (ref_views lefts)) true pair = c.source-place.ensures.result ∙ ap (λ n. left_channel n true pair) (sym (length-map lefts ref_view)) in
+    let at_left : slice_get (ref_views lefts) (left_channel (length (ref_views lefts)) true pair) ≡ Some (ref_view from) = ap (slice_get (ref_views lefts)) (sym there) ∙ mapped ref_view lefts place from of_left in
     let under : pair < joined (length lefts) (length rights) true = omega (arith, c.joined-pairs.ensures) in
     let low : pair < length rights = joined_low (length lefts) (length rights) pair under in
     let of_right : slice_get rights pair ≡ Some to = slice_get-get_or rights pair to low ∙ ap Some (sym c.index-destinations-pair.is) in
     let at_right : slice_get (ref_views rights) pair ≡ Some (ref_view to) = mapped ref_view rights pair to of_right in
-    let so_far : place ≡ source (length (ref_tokens lefts)) true pair = c.source-place.ensures.result ∙ ap (λ n. source n true pair) (sym (length-map lefts (λ (r : Reference). r.at))) in
+    let so_far : place ≡ left_channel (length (ref_tokens lefts)) true pair = c.source-place.ensures.result ∙ ap (λ n. left_channel n true pair) (sym (length-map lefts (λ (r : Reference). r.at))) in
     let one = single delay (ref_view from) (ref_view to) in (
       cs ++ one ∷ [],
       pairs_more (ref_views lefts) (ref_views rights) true delay pair cs (ref_view from) (ref_view to) c.loop-pair.invariant.1 at_left at_right,

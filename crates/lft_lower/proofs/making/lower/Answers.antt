@@ -1,11 +1,12 @@
 use Rattle.std.proofs.Common.{◌≡◌, ℕ, List, subst, sym, ap, ◌∙◌}
 use Rattle.lft_whole.specs.declared.sources.source.SourceFile.{SourceFile}
 use Rattle.lft_classes.specs.{inner.Nestings.IsNesting, declared.work.Work.Work}
-use Rattle.lft_elaborate.specs.{declared.settings.Settings.Settings, inner.{Noted.{AreSettings, Table, table, GoesOn}, Used.AreUsed, Values.main_setting}}
+use Rattle.lft_elaborate.specs.declared.settings.Settings.{Settings}
+use Rattle.lft_elaborate.specs.inner.{Noted.{AreSettings, SettingsTable, table, GoesOn}, Used.AreUsed, Values.main_setting}
 use Rattle.lft_lower.specs.inner.Reactors.{IsProgram}
 use Rattle.lft_lower.proofs.making.lower.Goals as goal
 
-settings_stay : (old new : Table) → GoesOn old new → AreSettings old → AreSettings new
+settings_stay : (old new : SettingsTable) → GoesOn old new → AreSettings old → AreSettings new
 settings_stay old new goes all = record {
   main = (all.main.0, ap main_setting goes.shapes ∙ all.main.1, goes.stays 0 all.main.0 all.main.2);
   made = goes.made all.made;

@@ -1,7 +1,7 @@
 use Rattle.std.proofs.Common.{◌≡◌, ◌++◌, map, subst, ap, ◌∙◌}
 use Rattle.std.specs.List.{All, flat_map}
 use Rattle.lft_lower.specs.inner.{Meanings.{Meanings.{Means, all_places, here, token_in}, Standing.{all_tokens, ref_tokens}}, Lowered.effect_places}
-use Rattle.lft_lower.specs.inner.Standing.{all_trigger_tokens, reaction_tokens, trigger_tokens}
+use Rattle.lft_lower.specs.inner.Standing.{all_trigger_tokens, reaction_tokens, token_of_trigger}
 use Rattle.lft_lower.proofs.{Adding.reaction_stands, Standing.{at_more, flat_one}}
 use Rattle.lft_tree.specs.{Tree.ReactionMember, View.{ref_views, trigger_view}}
 use Rattle.lft_lower.proofs.reactions.push_reaction.Goals as goal
@@ -29,7 +29,7 @@ returns-clause-at c =
     let r = c.args.reaction.now in
     let uses = ref_tokens c.in_ok-uses.uses.items in
     let effects = ref_tokens c.in_ok-effects.effects.items in
-    let tokens : flat_map trigger_tokens c.in_ok-triggers.triggers.items ++ (uses ++ effects) ≡ reaction_tokens number h r = ap (λ ts. ts ++ (uses ++ effects)) c.in_ok-triggers.ensures.tokens
+    let tokens : flat_map token_of_trigger c.in_ok-triggers.triggers.items ++ (uses ++ effects) ≡ reaction_tokens number h r = ap (λ ts. ts ++ (uses ++ effects)) c.in_ok-triggers.ensures.tokens
     ∙ ap (λ us. all_trigger_tokens number h r ++ (us ++ effects)) (c.in_ok-uses.ensures.tokens ∙ ap (all_tokens number h) c.deref.ensures.value)
     ∙ ap (λ es. all_trigger_tokens number h r ++ (all_tokens number h r.uses.items ++ es)) c.in_ok-effects.ensures.at in
     at_more c.args.list.now.items _ _ _ _ _ _ c.in_ok-triggers.ensures.at c.in_ok-push.ensures.items c.token-at.ensures (λ parts none. flat_one parts _ (reaction_tokens number h r) tokens none)

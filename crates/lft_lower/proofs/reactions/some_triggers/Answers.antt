@@ -3,7 +3,7 @@ use Rattle.std.specs.Prelude.{option_map}
 use Rattle.std.{specs.List.flat_map, proofs.lemmas.{Grind.flat_map-append, List.{length-map, map-append}}}
 use Rattle.lft_tree.specs.{Tree.{TriggerTree, OnRef}, View.trigger_view, declared.tree.Trigger.Trigger}
 use Rattle.lft_elaborate.specs.inner.Channels.Lowered.{own}
-use Rattle.lft_lower.specs.inner.{Meanings.Meanings.{here, token_in}, Lowered.all_triggers, Standing.{or_at, tokens_of_trigger, trigger_tokens}}
+use Rattle.lft_lower.specs.inner.{Meanings.Meanings.{here, token_in}, Lowered.all_triggers, Standing.{or_at, tokens_of_trigger, token_of_trigger}}
 use Rattle.lft_lower.proofs.{Adding.{triggers_run, triggers_sleep}, Standing.{at_none, at_this}}
 use Rattle.lft_lower.proofs.reactions.some_triggers.Goals as goal
 
@@ -42,7 +42,7 @@ returns-then-count-ne0-clause-tokens c =
     let some = λ (e : all_triggers h r ≡ []). absurd (omega (arith, ap length (c.in_ok-triggers.ensures.places ∙ e), length-map items trigger_view)) in
     c.in_ok-triggers.ensures.at ∙ sym (triggers_stand (number r.at) (all_triggers h r) (flat_map (tokens_of_trigger number h) r.triggers.items) some)
 
-no_tokens : (items : List Trigger) → length items ≡ 0 → flat_map trigger_tokens items ≡ []
+no_tokens : (items : List Trigger) → length items ≡ 0 → flat_map token_of_trigger items ≡ []
 no_tokens [] none = refl
 no_tokens (x ∷ xs) none = absurd (omega arith)
 
@@ -54,8 +54,8 @@ returns-clause-tokens c =
     let r = c.args.reaction.now in
     let all = flat_map (tokens_of_trigger (token_in c.args.within) h) r.triggers.items in
     let none : all_triggers h r ≡ [] = none_of items _ c.in_ok-triggers.ensures.places zero in
-    ap (flat_map trigger_tokens) c.in_ok-push.ensures.items
-    ∙ flat_map-append trigger_tokens items _
+    ap (flat_map token_of_trigger) c.in_ok-push.ensures.items
+    ∙ flat_map-append token_of_trigger items _
     ∙ ap (λ ts. ts ++ c.token-at.result ∷ []) (no_tokens items zero)
     ∙ ap (λ at. at ∷ []) c.token-at.ensures
     ∙ ap (λ ts. or_at (token_in c.args.within r.at) ts all) (sym none)

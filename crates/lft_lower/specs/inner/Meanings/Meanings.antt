@@ -21,17 +21,17 @@ abbrev pub member_name : Shape → ℕ → List ℕ
 member_name shape n = unwrap_or (option_map (λ m. name_in m.member.now) (slice_get shape.members.items n)) []
 
 -- the member of this number of a shape, with its width
-abbrev pub member_in : Shape → ℕ → Option ℕ → Several
-member_in shape n width = record { name = member_name shape n; width = width }
+abbrev pub member_with_width : Shape → ℕ → Option ℕ → Several
+member_with_width shape n width = record { name = member_name shape n; width = width }
 
 -- the parameter of this number of a shape
-abbrev pub parameter_in : Shape → ℕ → Several
-parameter_in shape n = record { name = unwrap_or (option_map (λ p. string_bytes p.parameter.now.name.text) (slice_get shape.parameters.items n)) []; width = None }
+abbrev pub parameter_alone : Shape → ℕ → Several
+parameter_alone shape n = record { name = unwrap_or (option_map (λ p. string_bytes p.parameter.now.name.text) (slice_get shape.parameters.items n)) []; width = None }
 
 -- a thing of the reactor of a setting, with its width there
 abbrev pub thing_in : Here → OwnThing → Several
-thing_in h (things.Parameter n) = parameter_in h.shape n
-thing_in h (things.Member n) = member_in h.shape n (found_width h.settings h.setting n)
+thing_in h (things.Parameter n) = parameter_alone h.shape n
+thing_in h (things.Member n) = member_with_width h.shape n (found_width h.settings h.setting n)
 
 -- the member of this number by its name, with its width there
 abbrev pub named_in : Here → List ℕ → ℕ → Several
@@ -51,16 +51,16 @@ places_of h interleaved (meaning.Own thing) = own_places (thing_in h thing)
 places_of h interleaved (meaning.Port instance port) = inner_places (thing_in h (things.Member instance)) (port_of h instance port) interleaved
 
 -- what a reference means
-abbrev pub meaning_in : Here → Reference → Option Meaning
-meaning_in h r = meaning_of h.settings.shapes.items h.shape r
+abbrev pub meaning_of_reference : Here → Reference → Option Meaning
+meaning_of_reference h r = meaning_of h.settings.shapes.items h.shape r
 
 -- a reference means something
 abbrev pub Means : Here → Reference → Type 0
-Means h r = is_some (meaning_in h r) ≡ true
+Means h r = is_some (meaning_of_reference h r) ≡ true
 
 -- the places of a reference, in order
 abbrev pub places_in : Here → Reference → List RefTree
-places_in h r = unwrap_or (option_map (places_of h r.is_interleaved) (meaning_in h r)) []
+places_in h r = unwrap_or (option_map (places_of h r.is_interleaved) (meaning_of_reference h r)) []
 
 -- the places of references, one after another
 abbrev pub all_places : Here → List Reference → List RefTree

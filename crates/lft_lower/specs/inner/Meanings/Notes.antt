@@ -18,8 +18,8 @@ abbrev pub divide_words : ℕ → ℕ → List ℕ
 divide_words left right = (codes "the width on the left, " ++ decimal left) ++ (codes ", doesn't divide the width on the right, " ++ decimal right) ++ codes "."
 
 -- the two sides of a connection differ
-abbrev pub differ_words : ℕ → ℕ → List ℕ
-differ_words left right = (codes "the widths differ: " ++ decimal left) ++ (codes " on the left, " ++ decimal right) ++ codes " on the right. The rest stays unconnected."
+abbrev pub widths_differ_words : ℕ → ℕ → List ℕ
+widths_differ_words left right = (codes "the widths differ: " ++ decimal left) ++ (codes " on the left, " ++ decimal right) ++ codes " on the right. The rest stays unconnected."
 
 -- which row stands for a timeout of so many nanoseconds
 abbrev pub stop_words : ℕ → List ℕ
@@ -32,13 +32,13 @@ default_words name = codes "the parameter " ++ name ++ codes " of the main react
 -- ---- what is said
 
 -- the lines, in the order in which they were said
-abbrev pub lines_of : Notes → List (List ℕ)
-lines_of notes = map (λ line. string_bytes line) notes.lines.items
+abbrev pub noted_lines : Notes → List (List ℕ)
+noted_lines notes = map (λ line. string_bytes line) notes.lines.items
 
 -- the line, which wasn't said, stands behind the others and counts as said
-abbrev pub IsNew : List ℕ → Notes → Notes → Type 0
-IsNew line old new = (contains_text old.said line ≡ false) × (new.files ≡ old.files) × (lines_of new ≡ lines_of old ++ line ∷ []) × ((other : List ℕ) → contains_text new.said other ≡ cond (bytes_eq line other) true (contains_text old.said other))
+abbrev pub AddsLine : List ℕ → Notes → Notes → Type 0
+AddsLine line old new = (contains_text old.said line ≡ false) × (new.files ≡ old.files) × (noted_lines new ≡ noted_lines old ++ line ∷ []) × ((other : List ℕ) → contains_text new.said other ≡ cond (bytes_eq line other) true (contains_text old.said other))
 
 -- The line is said; one that was said before isn't said again.
 abbrev pub IsSaid : List ℕ → Notes → Notes → Type 0
-IsSaid line old new = IsNew line old new ⊎ ((contains_text old.said line ≡ true) × (new ≡ old))
+IsSaid line old new = AddsLine line old new ⊎ ((contains_text old.said line ≡ true) × (new ≡ old))

@@ -2,7 +2,8 @@ use Rattle.std.proofs.Common.{◌≡◌, ◌+◌, ◌-◌, ◌<◌, ◌++◌, �
 use Rattle.lft_ir.{specs.declared.steps.row.Row.Row, proofs.Ranges.length-range}
 use Rattle.lft_stream.proofs.Parting.{range_fits}
 use Rattle.lft_model.specs.declared.breach.Breach.{Breach}
-use Rattle.lft_monitor.specs.{declared.{past.Past.Past, reach.Reach.Reach}, inner.{Kept.IsPast, Follows.IsOdd}, Follows.{breach_of, IsFirstBehind, IsSureSoFar}}
+use Rattle.lft_monitor.specs.{declared.{past.Past.Past, reach.Reach.Reach}, inner.{Kept.IsPastOfRows, Follows.IsOdd}}
+use Rattle.lft_monitor.specs.Follows.{breach_of, IsFirstBehind, IsSureSoFar}
 use Rattle.lft_monitor.proofs.{First.first_behind, Following.odd_of}
 use Rattle.lft_monitor.proofs.follower.judge_before.Goals as goal
 
@@ -16,7 +17,7 @@ pub first_breach-requires-clause-fit : goal.first_breach-requires-clause-fit
 first_breach-requires-clause-fit c = range_fits c.args.rows.now 0 c.args.begin (omega arith) (let l = c.requires.begin in omega arith) c.args.plan.now.program c.requires.fit
 
 pub first_breach-requires-clause-stands : goal.first_breach-requires-clause-stands
-first_breach-requires-clause-stands c = (c.requires.stands.0, subst (λ (p : Past). IsPast c.args.plan.now c.requires.stands.0 p) (sym (c.in_ok-is_clean.ensures.past c.if-is_clean.false)) c.requires.stands.1.past)
+first_breach-requires-clause-stands c = (c.requires.stands.0, subst (λ (p : Past). IsPastOfRows c.args.plan.now c.requires.stands.0 p) (sym (c.in_ok-is_clean.ensures.past c.if-is_clean.false)) c.requires.stands.1.past)
 
 pub returns-then-is_clean : goal.returns-then-is_clean
 returns-then-is_clean c = λ done is. c.in_ok-is_clean.ensures.stands c.if-is_clean.true done is
@@ -26,7 +27,7 @@ returns-in-Some c = λ done is t more end follower turn.
     let plan = c.args.plan.now in
     let rows = c.args.rows.now in
     let begin = c.args.begin in
-    let past = subst (λ (p : Past). IsPast plan done p) (sym (c.in_ok-is_clean.ensures.past c.if-is_clean.false)) is.past in
+    let past = subst (λ (p : Past). IsPastOfRows plan done p) (sym (c.in_ok-is_clean.ensures.past c.if-is_clean.false)) is.past in
     let long : length (slice_range rows 0 begin) ≡ begin - 0 = length-range rows 0 begin (let l = c.requires.begin in omega arith) in
     let some : 0 < length (slice_range rows 0 begin) = c.in_ok-is_clean.ensures.some c.if-is_clean.false in
     let first = first_behind plan done rows begin end c.row_at.result c.in-Some.breach turn.begins (omega (arith, long, some)) turn.gone.within c.row_at.ensures (λ v later. c.in-Some.ensures done v past later) turn.kept in

@@ -2,11 +2,11 @@ use Rattle.std.proofs.Common.{◌≡◌, ◌<◌, ◌⊎◌, ℕ, List, IsTrue, 
 use Rattle.lft_tag.specs.Tags.{Before, after_all}
 use Rattle.lft_ir.specs.{Parts.Parts, Origins.Origin, declared.{parts.Name.TheVariants.Port, steps.row.Step.TheVariants.Write}}
 use Rattle.lft_queue.specs.inner.Reading.{is_read}
-use Rattle.lft_monitor.{specs.inner.Kept.AreWays, proofs.Keeping.idle_write}
+use Rattle.lft_monitor.{specs.inner.Kept.AreWaysOfWrites, proofs.Keeping.idle_write}
 use Rattle.lft_monitor.proofs.kept.causes_from.Goals as goal
 
 pub lead_on-requires-clause-ways : goal.lead_on-requires-clause-ways
-lead_on-requires-clause-ways c = subst (λ (p : Parts). AreWays p c.args.ways.now) (sym c.program-in-Write-Port-default.ensures.value) c.requires.ways
+lead_on-requires-clause-ways c = subst (λ (p : Parts). AreWaysOfWrites p c.args.ways.now) (sym c.program-in-Write-Port-default.ensures.value) c.requires.ways
 
 pub returns-in-Write-Port-default : goal.returns-in-Write-Port-default
 returns-in-Write-Port-default c = λ unheard.

@@ -1,7 +1,7 @@
 use Rattle.std.proofs.Common.{◌≡◌, ◌↔◌, ◌⊎◌, ◌<◌, ◌+◌, ◌++◌, ℕ, List, Bool, true, Some, Contains, filter_map, ap, length, slice_get, drop, take, sym, ◌∙◌, subst, arith}
 use Rattle.lft_ir.specs.{Naming.named, declared.parts.Name.{Name, TheVariants.Port}}
 use Rattle.lft_lists.proofs.Places.{written_back}
-use Rattle.lft_queue.{specs.inner.Reading.AreMarked, proofs.Marking.{marked_start, marked_more, triggers_inside, marked_is}}
+use Rattle.lft_queue.{specs.inner.Reading.AreReadPortsMarked, proofs.Marking.{marked_start, marked_more, triggers_inside, marked_is}}
 use Rattle.lft_queue.proofs.reading.read_ports.Goals as goal
 
 pub reactions-init : goal.reactions-init
@@ -41,10 +41,10 @@ reactions-preserved c =
     let was : c.deref_mut-in-reactions.result.now ≡ mid = c.deref_mut-in-reactions.ensures.value ∙ first in
     let triggers : (p : ℕ) → (slice_get mid p ≡ Some true) ↔ ((slice_get old p ≡ Some true) ⊎ Contains (filter_map named x.triggers) (Port p)) = subst (λ (ns : List Name). (p : ℕ) → (slice_get mid p ≡ Some true) ↔ ((slice_get old p ≡ Some true) ⊎ Contains ns (Port p))) c.names.ensures (subst (λ (ms : List Bool). (p : ℕ) → (slice_get mid p ≡ Some true) ↔ ((slice_get ms p ≡ Some true) ⊎ Contains c.names.result.now (Port p))) same c.mark_all.ensures.each) in
     let uses : (p : ℕ) → (slice_get new p ≡ Some true) ↔ ((slice_get mid p ≡ Some true) ⊎ Contains x.uses (Port p)) = subst (λ (ns : List Name). (p : ℕ) → (slice_get new p ≡ Some true) ↔ ((slice_get mid p ≡ Some true) ⊎ Contains ns (Port p))) c.as_slice.ensures (subst (λ (ms : List Bool). (p : ℕ) → (slice_get new p ≡ Some true) ↔ ((slice_get ms p ≡ Some true) ⊎ Contains c.as_slice.result.now (Port p))) was c.mark_all-in-reactions.ensures.each) in
-    subst (λ (ms : List Bool). AreMarked program (c.reactions.number + 1) ms) (sym then) (marked_more program c.reactions.number x old mid new c.reaction-reaction.ensures.value c.reactions.invariant (omega (arith, ap length was, ap length same)) triggers uses)
+    subst (λ (ms : List Bool). AreReadPortsMarked program (c.reactions.number + 1) ms) (sym then) (marked_more program c.reactions.number x old mid new c.reaction-reaction.ensures.value c.reactions.invariant (omega (arith, ap length was, ap length same)) triggers uses)
 
 pub returns-clause-marked : goal.returns-clause-marked
-returns-clause-marked c = subst (λ (k : ℕ). AreMarked c.args.program.now k c.reactions.marked.items) (let a = c.reactions-test.false in let b = c.reactions.auto.number-end in let e = c.reactions-number-end.ensures.count in let z : c.reactions.number ≡ length c.args.program.now.reactions = omega arith in z) c.reactions.invariant
+returns-clause-marked c = subst (λ (k : ℕ). AreReadPortsMarked c.args.program.now k c.reactions.marked.items) (let a = c.reactions-test.false in let b = c.reactions.auto.number-end in let e = c.reactions-number-end.ensures.count in let z : c.reactions.number ≡ length c.args.program.now.reactions = omega arith in z) c.reactions.invariant
 
 pub returns-clause-read : goal.returns-clause-read
 returns-clause-read c = marked_is c.args.program.now c.reactions.marked.items (returns-clause-marked c)

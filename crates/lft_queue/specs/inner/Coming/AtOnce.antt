@@ -15,9 +15,9 @@ abbrev pub origin_of : Parts → ℕ → ℕ
 origin_of program p = unwrap_or (option_map (λ x. x.origin) (slice_get program.ports p)) 0
 
 -- a name that has events: a port behind a delay, or an action
-abbrev pub HasEvents : Parts → Name → Type 0
-HasEvents program (Port p) = is_undelayed program p ≡ false
-HasEvents program (Action a) = Unit {0}
+abbrev pub MayHaveEvents : Parts → Name → Type 0
+MayHaveEvents program (Port p) = is_undelayed program p ≡ false
+MayHaveEvents program (Action a) = Unit {0}
 
 -- an action, or a port that passes the test
 abbrev pub Passes : (ℕ → Bool) → Name → Type 0

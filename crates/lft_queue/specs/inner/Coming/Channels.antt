@@ -8,7 +8,7 @@ use Rattle.lft_model.specs.Plans.{PlanParts}
 use Rattle.lft_queue.specs.Pending.{same_key}
 use Rattle.lft_queue.specs.inner.Reading.{is_read}
 use Rattle.lft_queue.specs.inner.Coming.{AtOnce.{is_undelayed, origin_of}, Coming.{to_come, IsClear, IsNoLater}, Lanes.{held, made}, Shown.last_write}
-use Rattle.lft_queue.specs.inner.Coming.Writes.{value_at}
+use Rattle.lft_queue.specs.inner.Coming.Writes.{value_at_tag}
 use Rattle.lft_queue.specs.declared.coming.{channels.Channels.Channels, coming.Coming.Coming, writes.Written.Written}
 
 -- the test of a port that lies behind a delay of origin o
@@ -20,8 +20,8 @@ abbrev pub arrives_at : Parts → Tag → ℕ → Tag
 arrives_at program g p = unwrap_or (option_map (λ x. shifted g (x.shift.time, x.shift.steps)) (slice_get program.ports p)) g
 
 -- the value that a write of origin o at g carries to a port, if that is name n and the write arrives at h
-abbrev pub arrival : Parts → ℕ → Tag → Value → Tag → Name → ℕ → Option Value
-arrival program o g v h n p = cond (is_behind program o p && same_key (arrives_at program g p) (Port p) h n) (Some v) None
+abbrev pub value_at_arrival : Parts → ℕ → Tag → Value → Tag → Name → ℕ → Option Value
+value_at_arrival program o g v h n p = cond (is_behind program o p && same_key (arrives_at program g p) (Port p) h n) (Some v) None
 
 -- the list of each origin has all ports of it that pass the test and are reached without a delay, or all that pass it and lie behind one
 pub record AreChannelsTo (program : Parts) (test : ℕ → Bool) (at_once : Bool) (lists : List (List ℕ)) : Type 0 where
@@ -50,12 +50,12 @@ caused_by plan u g (Action a) = made plan u a
 -- the event of port p is put, where it is up to the stop tag, and the write that makes it is kept no more
 pub record IsCarried (program : Parts) (u : List Row) (g last : Tag) (p : ℕ) (old new : Coming) (writes : List (Option Written)) : Type 0 where
   pub put : (events : List Event) (h : Tag) → Before g h → UpTo h last → to_come events new h (Port p) ≡ to_come events old h (Port p) ++ held (carried_to program u g p) h
-  pub gone : (w : Option Written) → slice_get writes (origin_of program p) ≡ Some w → value_at g w ≡ None
+  pub gone : (w : Option Written) → slice_get writes (origin_of program p) ≡ Some w → value_at_tag g w ≡ None
 
 -- no event of port p up to the stop tag is put yet: none of so many first rows writes its origin, and the last write is kept
 pub record IsUncarried (program : Parts) (u : List Row) (g last : Tag) (count p : ℕ) (old new : Coming) (writes : List (Option Written)) : Type 0 where
   pub same : (events : List Event) (h : Tag) → UpTo h last → to_come events new h (Port p) ≡ to_come events old h (Port p)
-  pub kept : (w : Option Written) → slice_get writes (origin_of program p) ≡ Some w → value_at g w ≡ last_write u g (origin_of program p)
+  pub kept : (w : Option Written) → slice_get writes (origin_of program p) ≡ Some w → value_at_tag g w ≡ last_write u g (origin_of program p)
   pub unwritten : (i : ℕ) (x : Row) (v : Value) → i < count → slice_get u i ≡ Some x → x.step ≢ Write (Port (origin_of program p)) v
 
 -- so many first rows of u, all at g, have carried what they write up to the stop tag: each port that passes the test has its event, or none yet

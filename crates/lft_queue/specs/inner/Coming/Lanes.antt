@@ -20,13 +20,13 @@ abbrev pub coming : ℕ → ℕ → Row → Option (Tag × Value)
 coming a min row = option_map (λ x. (after row.tag (min + x.0), x.1)) (value_scheduled a row.step)
 
 -- the event of action a that an external input is
-abbrev pub given_to : ℕ → Event → Option (Tag × Value)
-given_to a event = cond (a == event.action) (Some (event.tag, event.value)) None
+abbrev pub event_given_to : ℕ → Event → Option (Tag × Value)
+event_given_to a event = cond (a == event.action) (Some (event.tag, event.value)) None
 
 -- the events before the first row: the external inputs of an action
 abbrev pub first_events : PlanParts → Name → List (Tag × Value)
 first_events plan (Port p) = []
-first_events plan (Action a) = filter_map (given_to a) plan.externals.events
+first_events plan (Action a) = filter_map (event_given_to a) plan.externals.events
 
 -- the events that the rows u make of action a
 abbrev pub made : PlanParts → List Row → ℕ → List (Tag × Value)
@@ -37,7 +37,7 @@ abbrev pub carried : List Row → Tag → ℕ → List ℕ → List (Tag × Valu
 carried u g o delays = option_to_list (option_map (λ v. (after_all g delays, v)) (last_or None (filter_map (written g o) u)))
 
 -- h is done with: where the name is present there, each reaction that it triggers has a run, and no two causes of it meet
-pub record IsDone (plan : PlanParts) (t : List Row) (n : Name) (h : Tag) : Type 0 where
+pub record IsTagDone (plan : PlanParts) (t : List Row) (n : Name) (h : Tag) : Type 0 where
   pub met : (v : Value) → At plan t h n v → (r : ℕ) → Listens plan r (On n) → Ran t h r
   pub apart : ¬ ClashesAt plan t h n
 
@@ -49,7 +49,7 @@ pub record IsKept (plan : PlanParts) (t : List Row) (n : Name) (h : Tag) (queue 
 
 -- the lane of a name: all tags before one are done with, and the queue has the events from there on
 pub record IsLane (plan : PlanParts) (t : List Row) (n : Name) (low : Tag) (queue : List (Tag × Value)) : Type 0 where
-  pub past : (h : Tag) → Before h low → IsDone plan t n h
+  pub past : (h : Tag) → Before h low → IsTagDone plan t n h
   pub ahead : (h : Tag) → UpTo low h → IsKept plan t n h queue
 
 -- what a queue has of a name at h is met: it is one event at most, and if there is one, each reaction that the name triggers has a run

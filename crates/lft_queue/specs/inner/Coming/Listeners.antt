@@ -11,9 +11,9 @@ list_of listeners (Port p) = slice_get listeners.ports p
 list_of listeners (Action a) = slice_get listeners.actions a
 
 -- there is a list of the name
-abbrev pub IsIn : NameListeners → Name → Type 0
-IsIn listeners (Port p) = p < length listeners.ports
-IsIn listeners (Action a) = a < length listeners.actions
+abbrev pub HasListOf : NameListeners → Name → Type 0
+HasListOf listeners (Port p) = p < length listeners.ports
+HasListOf listeners (Action a) = a < length listeners.actions
 
 -- the name whose list has a name's listeners: a port that is reached without a delay is heard at its origin
 abbrev pub heard_at : Parts → Name → Name
@@ -29,7 +29,7 @@ abbrev pub IsListed : Parts → List Name → ℕ → NameListeners → Type 0
 IsListed program names r listeners = (k : ℕ) (n : Name) (list : List ℕ) → slice_get names k ≡ Some n → list_of listeners (heard_at program n) ≡ Some list → Contains list r
 
 -- the list of a name has each reaction that the name triggers
-pub record AreListeners (plan : PlanParts) (listeners : NameListeners) : Type 0 where
+pub record AreNameListeners (plan : PlanParts) (listeners : NameListeners) : Type 0 where
   pub ports : length listeners.ports ≡ length plan.program.ports
   pub actions : length listeners.actions ≡ length plan.program.actions
   pub each : (n : Name) (r : ℕ) (list : List ℕ) → Listens plan r (On n) → list_of listeners (heard_at plan.program n) ≡ Some list → Contains list r

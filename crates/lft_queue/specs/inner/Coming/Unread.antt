@@ -40,9 +40,9 @@ pub record AreUnread (program : Parts) (t : List Row) (unread : UnreadParts) : T
   pub last : unread.any ≡ true → (o : ℕ) (k : Option Tag) → slice_get unread.written o ≡ Some k → IsLastTag t o k
 
 -- wherever a write of origin o by the rows t, before g, and one at g arrive at an unread port at one tag, that tag is past the last one
-abbrev pub IsFree : Parts → List Row → Tag → Tag → ℕ → Type 0
-IsFree program t g last o = (p : ℕ) (port : PortOf) (h : Tag) → slice_get program.ports p ≡ Some port → port.origin ≡ o → is_read program p ≡ false → IsWrittenAt t o h → Before h g → shifted h (port.shift.time, port.shift.steps) ≡ shifted g (port.shift.time, port.shift.steps) → Before last (shifted g (port.shift.time, port.shift.steps))
+abbrev pub MeetsPastLast : Parts → List Row → Tag → Tag → ℕ → Type 0
+MeetsPastLast program t g last o = (p : ℕ) (port : PortOf) (h : Tag) → slice_get program.ports p ≡ Some port → port.origin ≡ o → is_read program p ≡ false → IsWrittenAt t o h → Before h g → shifted h (port.shift.time, port.shift.steps) ≡ shifted g (port.shift.time, port.shift.steps) → Before last (shifted g (port.shift.time, port.shift.steps))
 
 -- each write of the rows u at g is free of all earlier ones by the rows t
 abbrev pub AreFree : Parts → List Row → List Row → Tag → Tag → Type 0
-AreFree program t u g last = (o : ℕ) → IsWrittenAt u o g → IsFree program t g last o
+AreFree program t u g last = (o : ℕ) → IsWrittenAt u o g → MeetsPastLast program t g last o

@@ -3,19 +3,19 @@ use Rattle.lft_ir.specs.declared.steps.row.Row.{Row}
 use Rattle.lft_model.specs.Plans.{PlanParts}
 use Rattle.lft_pool.specs.declared.stop.Stop.{Stop}
 use Rattle.lft_load.specs.declared.fault.Fault.{Fault}
-use Rattle.lft_record.specs.Recordings.{AnswerLaw, IsWhole, IsRecorded, RecordRefusal, StopsAt, Writes}
+use Rattle.lft_record.specs.Recordings.{AnswerLaw, IsWholeRecording, IsPlanRecorded, RecordRefusal, StopsRecording, Writes}
 use Rattle.lft_record.specs.Recordings.RecordRefusal.{by_stop, by_growth, by_writer, by_stop_and_writer}
 use Rattle.lft_record.specs.inner.Recordings.{TableRefusal, TableRefusal.{by_growth as no_growth, by_writer as no_writer}}
 use Rattle.lft_record.proofs.recording.record_to.Goals as goal
 
 recorded : {A E : Type 0} (law : AnswerLaw) (plan : PlanParts) (workers max_runs : ℕ) (old new : Option (List ℕ)) (rows : List Row) (r : Result A E)
-    → IsWhole law plan workers max_runs rows → OnOk r (Writes plan.program rows old new) → OnOk r (IsRecorded law plan workers max_runs old new)
+    → IsWholeRecording law plan workers max_runs rows → OnOk r (Writes plan.program rows old new) → OnOk r (IsPlanRecorded law plan workers max_runs old new)
 recorded law plan workers max_runs old new rows (Ok x) whole h = record { rows = rows; whole = whole; written = h }
 recorded law plan workers max_runs old new rows (Err e) whole h = tt
 
 -- a table of a whole recording that wasn't written
 unwritten : {A : Type 0} (law : AnswerLaw) (plan : PlanParts) (workers max_runs : ℕ) (old new : Option (List ℕ)) (rows : List Row) (r : Result A Fault)
-    → IsWhole law plan workers max_runs rows → IfErr r (TableRefusal plan.program rows old new) → IfErr r (RecordRefusal law plan workers max_runs old new)
+    → IsWholeRecording law plan workers max_runs rows → IfErr r (TableRefusal plan.program rows old new) → IfErr r (RecordRefusal law plan workers max_runs old new)
 unwritten law plan workers max_runs old new rows (Ok x) whole h = tt
 unwritten law plan workers max_runs old new rows (Err f) whole h = go h
   where
@@ -25,20 +25,20 @@ unwritten law plan workers max_runs old new rows (Err f) whole h = go h
 
 -- a table of rows so far that wasn't written
 untold : (law : AnswerLaw) (plan : PlanParts) (workers max_runs : ℕ) (old new : Option (List ℕ)) (reason : Stop) (end : PlanParts) (rows : List Row) (f : Fault)
-    → StopsAt law plan workers max_runs reason end rows → TableRefusal end.program rows old new f → RecordRefusal law plan workers max_runs old new f
+    → StopsRecording law plan workers max_runs reason end rows → TableRefusal end.program rows old new f → RecordRefusal law plan workers max_runs old new f
 untold law plan workers max_runs old new reason end rows f stops (no_growth p n k) = by_growth p n k
 untold law plan workers max_runs old new reason end rows f stops (no_writer p n k) = by_stop_and_writer reason end rows p n stops k
 
 pub returns-in-Ok-clause-recorded : goal.returns-in-Ok-clause-recorded
 returns-in-Ok-clause-recorded g c =
     let contents = g.W.Write.contents in
-    let whole : IsWhole g.L.Law.holds c.args.plan c.args.workers c.args.max_runs c.in-Ok.recorded.rows = record { states = c.in-Ok.recorded.states; workers_are = c.in-Ok.ensures.workers; legal = rw c.in-Ok.ensures.plan at c.in-Ok.ensures.legal; recording = rw c.in-Ok.ensures.plan at c.in-Ok.ensures.recording; few = c.in-Ok.ensures.few.0 } in
+    let whole : IsWholeRecording g.L.Law.holds c.args.plan c.args.workers c.args.max_runs c.in-Ok.recorded.rows = record { states = c.in-Ok.recorded.states; workers_are = c.in-Ok.ensures.workers; legal = rw c.in-Ok.ensures.plan at c.in-Ok.ensures.legal; recording = rw c.in-Ok.ensures.plan at c.in-Ok.ensures.recording; few = c.in-Ok.ensures.few.0 } in
     recorded g.L.Law.holds c.args.plan c.args.workers c.args.max_runs (contents c.args.out.now) (contents c.write_rows.new.out) c.in-Ok.recorded.rows c.write_rows.result whole (rw c.in-Ok.ensures.plan at c.write_rows.ensures.written)
 
 pub returns-in-Ok-clause-refused : goal.returns-in-Ok-clause-refused
 returns-in-Ok-clause-refused g c =
     let contents = g.W.Write.contents in
-    let whole : IsWhole g.L.Law.holds c.args.plan c.args.workers c.args.max_runs c.in-Ok.recorded.rows = record { states = c.in-Ok.recorded.states; workers_are = c.in-Ok.ensures.workers; legal = rw c.in-Ok.ensures.plan at c.in-Ok.ensures.legal; recording = rw c.in-Ok.ensures.plan at c.in-Ok.ensures.recording; few = c.in-Ok.ensures.few.0 } in
+    let whole : IsWholeRecording g.L.Law.holds c.args.plan c.args.workers c.args.max_runs c.in-Ok.recorded.rows = record { states = c.in-Ok.recorded.states; workers_are = c.in-Ok.ensures.workers; legal = rw c.in-Ok.ensures.plan at c.in-Ok.ensures.legal; recording = rw c.in-Ok.ensures.plan at c.in-Ok.ensures.recording; few = c.in-Ok.ensures.few.0 } in
     unwritten g.L.Law.holds c.args.plan c.args.workers c.args.max_runs (contents c.args.out.now) (contents c.write_rows.new.out) c.in-Ok.recorded.rows c.write_rows.result whole (rw c.in-Ok.ensures.plan at c.write_rows.ensures.refused)
 
 pub returns-in-Err-stop_fault-clause-refused : goal.returns-in-Err-stop_fault-clause-refused
@@ -47,7 +47,7 @@ returns-in-Err-stop_fault-clause-refused g c = by_growth c.no_memory.ensures.par
 pub returns-in-Ok-write_rows-clause-refused : goal.returns-in-Ok-write_rows-clause-refused
 returns-in-Ok-write_rows-clause-refused g c =
     let s = c.in-Err.stopped in
-    let stops : StopsAt g.L.Law.holds c.args.plan c.args.workers c.args.max_runs s.reason s.plan s.rows = record {
+    let stops : StopsRecording g.L.Law.holds c.args.plan c.args.workers c.args.max_runs s.reason s.plan s.rows = record {
       states = s.states;
       left = s.left;
       recording = c.in-Err.ensures.so_far;
@@ -65,7 +65,7 @@ pub returns-clause-refused : goal.returns-clause-refused
 returns-clause-refused g c =
     let contents = g.W.Write.contents in
     let s = c.in-Err.stopped in
-    let stops : StopsAt g.L.Law.holds c.args.plan c.args.workers c.args.max_runs s.reason s.plan s.rows = record {
+    let stops : StopsRecording g.L.Law.holds c.args.plan c.args.workers c.args.max_runs s.reason s.plan s.rows = record {
       states = s.states;
       left = s.left;
       recording = c.in-Err.ensures.so_far;

@@ -1,7 +1,7 @@
 -- What connections join, by the numbers of ports. Ports are numbered by instance and then by place.
 use Rattle.std.specs.Prelude.{◌≡◌, ℕ, ◌+◌, ◌<◌, ◌↔◌, List, [], Option, Some, slice_get, length, unwrap_or, option_map}
 use Rattle.std.specs.Option.{option_and_then, option_map_or}
-use Rattle.lft_resolve.specs.inner.Expansion.{Numbers.{count_of, things}, Children.child_of, Values.clock_in}
+use Rattle.lft_resolve.specs.inner.Expansion.{Numbers.{count_of_things, things}, Children.child_of, Values.clock_in}
 use Rattle.lft_resolve.specs.declared.expansion.walk.Instance.{Instance}
 use Rattle.lft_resolve.specs.declared.expansion.joins.{End.{End, TheVariants.{Own, Inner}}, Join.Join, Connections.Connections, Site.Site}
 use Rattle.lft_tag.specs.declared.Source.{Source}
@@ -17,12 +17,12 @@ port_of firsts children n (Inner place port) = option_and_then (λ m. port_at fi
 
 -- the reactor of instance n declares a port at this place
 abbrev pub Declares : List ℕ → List Instance → ℕ → ℕ → Type 0
-Declares counts instances n port = (i : Instance) × (slice_get instances n ≡ Some i) × (port < count_of counts i.reactor)
+Declares counts instances n port = (i : Instance) × (slice_get instances n ≡ Some i) × (port < count_of_things counts i.reactor)
 
 -- in instance n, an end is a port that some reactor declares
-abbrev pub IsPort : List ℕ → List Instance → List (List ℕ) → ℕ → End → Type 0
-IsPort counts instances children n (Own port) = Declares counts instances n port
-IsPort counts instances children n (Inner place port) = (m : ℕ) × (child_of children n place ≡ Some m) × Declares counts instances m port
+abbrev pub IsDeclaredPort : List ℕ → List Instance → List (List ℕ) → ℕ → End → Type 0
+IsDeclaredPort counts instances children n (Own port) = Declares counts instances n port
+IsDeclaredPort counts instances children n (Inner place port) = (m : ℕ) × (child_of children n place ≡ Some m) × Declares counts instances m port
 
 -- what a reactor joins
 abbrev pub joins_of : List Connections → ℕ → List Join
@@ -34,7 +34,7 @@ HasJoin table instances n place join = (i : Instance) × (slice_get instances n 
 
 -- both ends of each join are ports, in each instance
 abbrev pub JoinPorts : List ℕ → List Connections → List Instance → List (List ℕ) → Type 0
-JoinPorts counts table instances children = (n place : ℕ) (join : Join) → HasJoin table instances n place join → IsPort counts instances children n join.from × IsPort counts instances children n join.to
+JoinPorts counts table instances children = (n place : ℕ) (join : Join) → HasJoin table instances n place join → IsDeclaredPort counts instances children n join.from × IsDeclaredPort counts instances children n join.to
 
 -- the join at this place leads into port b, in instance n
 abbrev pub LeadsInto : List Connections → List Instance → List ℕ → List (List ℕ) → ℕ → ℕ → ℕ → Type 0
@@ -60,9 +60,9 @@ pub record AreSources (counts : List ℕ) (table : List Connections) (instances 
   pub each : (b : ℕ) (s : Source) → (slice_get sources b ≡ Some (Some s)) ↔ Joins table instances firsts children values s.port b s.delay
 
 -- this join is the one that the site tells
-abbrev pub IsAt : Site → (number place : ℕ) → Type 0
-IsAt x number place = (x.number ≡ number) × (x.place ≡ place)
+abbrev pub IsJoinAt : Site → (number place : ℕ) → Type 0
+IsJoinAt x number place = (x.number ≡ number) × (x.place ≡ place)
 
 -- beside each source the join stands that leads from there into the port
 abbrev pub AreSites : List Connections → List Instance → List ℕ → List (List ℕ) → List (List ℕ) → List (Option Source) → List Site → Type 0
-AreSites table instances firsts children values sources sites = (b : ℕ) (s : Source) → slice_get sources b ≡ Some (Some s) → (x : Site) × (slice_get sites b ≡ Some x) × ((j : Joins table instances firsts children values s.port b s.delay) × IsAt x j.number j.place)
+AreSites table instances firsts children values sources sites = (b : ℕ) (s : Source) → slice_get sources b ≡ Some (Some s) → (x : Site) × (slice_get sites b ≡ Some x) × ((j : Joins table instances firsts children values s.port b s.delay) × IsJoinAt x j.number j.place)

@@ -4,23 +4,23 @@ use Rattle.lft_resolve.specs.{Expansion.Paths.{along, IsMoreThan}, inner.Expansi
 use Rattle.lft_resolve.specs.declared.expansion.walk.{Contents.Contents, Instance.Instance}
 
 -- how many things a reactor declares
-abbrev pub count_of : List ℕ → ℕ → ℕ
-count_of counts r = unwrap_or (slice_get counts r) 0
+abbrev pub count_of_things : List ℕ → ℕ → ℕ
+count_of_things counts r = unwrap_or (slice_get counts r) 0
 
 -- how many things the instances have, each those that its reactor declares
 abbrev pub things : List ℕ → List Instance → ℕ
 things counts [] = 0
-things counts (i ∷ rest) = count_of counts i.reactor + things counts rest
+things counts (i ∷ rest) = count_of_things counts i.reactor + things counts rest
 
 -- the number of each instance's first thing: how many things the instances before it have
-pub record AreFirst (counts : List ℕ) (instances : List Instance) (firsts : List ℕ) : Type 0 where
+pub record AreFirstNumbers (counts : List ℕ) (instances : List Instance) (firsts : List ℕ) : Type 0 where
   pub as_long : length firsts ≡ length instances
   pub each : (n first : ℕ) → slice_get firsts n ≡ Some first → first ≡ things counts (take n instances)
 
 -- a thing by the path of its instance and its place: the path leads to a reactor that declares more things than the place
-abbrev pub IsThing : List Contents → ℕ → List ℕ → List ℕ × ℕ → Type 0
-IsThing table main counts thing = (r : ℕ) × (along (contained table) main thing.0 ≡ Some r) × (thing.1 < count_of counts r)
+abbrev pub IsThingByPath : List Contents → ℕ → List ℕ → List ℕ × ℕ → Type 0
+IsThingByPath table main counts thing = (r : ℕ) × (along (contained table) main thing.0 ≡ Some r) × (thing.1 < count_of_things counts r)
 
 -- there are more things than the limit
 abbrev pub HasMoreThings : List Contents → ℕ → List ℕ → ℕ → Type 0
-HasMoreThings table main counts limit = IsMoreThan (IsThing table main counts) limit
+HasMoreThings table main counts limit = IsMoreThan (IsThingByPath table main counts) limit

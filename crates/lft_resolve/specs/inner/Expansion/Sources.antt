@@ -8,14 +8,14 @@ abbrev pub AreInside : List (Option Source) → Type 0
 AreInside sources = (p : ℕ) (s : Source) → slice_get sources p ≡ Some (Some s) → s.port < length sources
 
 -- the chain into port p, walked backwards, ends at port o; the delays are those of the chain from o on
-pub data Origin (sources : List (Option Source)) : ℕ → ℕ → List ℕ → Type 0 where
-  itself : {p : ℕ} → slice_get sources p ≡ Some None → Origin sources p p []
-  over : {p o : ℕ} {delays : List ℕ} (source : Source) (first : List ℕ) → slice_get sources p ≡ Some (Some source) → Origin sources source.port o first → delays ≡ first ++ option_to_list source.delay → Origin sources p o delays
+pub data ChainOrigin (sources : List (Option Source)) : ℕ → ℕ → List ℕ → Type 0 where
+  itself : {p : ℕ} → slice_get sources p ≡ Some None → ChainOrigin sources p p []
+  over : {p o : ℕ} {delays : List ℕ} (source : Source) (first : List ℕ) → slice_get sources p ≡ Some (Some source) → ChainOrigin sources source.port o first → delays ≡ first ++ option_to_list source.delay → ChainOrigin sources p o delays
 
 -- from port p backwards one comes to port q, in one or more steps
-pub data Leads (sources : List (Option Source)) : ℕ → ℕ → Type 0 where
-  one : {p q : ℕ} (source : Source) → slice_get sources p ≡ Some (Some source) → source.port ≡ q → Leads sources p q
-  more : {p q : ℕ} (source : Source) → slice_get sources p ≡ Some (Some source) → Leads sources source.port q → Leads sources p q
+pub data LeadsBackwards (sources : List (Option Source)) : ℕ → ℕ → Type 0 where
+  one : {p q : ℕ} (source : Source) → slice_get sources p ≡ Some (Some source) → source.port ≡ q → LeadsBackwards sources p q
+  more : {p q : ℕ} (source : Source) → slice_get sources p ≡ Some (Some source) → LeadsBackwards sources source.port q → LeadsBackwards sources p q
 
 -- the shift is the delays folded; none is for delays that sum to more than 10^18 nanoseconds
 abbrev pub IsFolded : List ℕ → Option Shift → Type 0
@@ -25,7 +25,7 @@ IsFolded delays (Some s) = join_all none delays ≡ (s.time, s.steps)
 -- the origin is the end of the port's chain, and the shift is the chain's delays folded
 pub record IsReached (sources : List (Option Source)) (p : ℕ) (r : Reached) : Type 0 where
   pub delays : List ℕ
-  pub origin : Origin sources p r.origin delays
+  pub origin : ChainOrigin sources p r.origin delays
   pub folded : IsFolded delays r.shift
 
 -- for each port in order the end of its chain and the folded delays, or none where they sum past 10^18

@@ -1,7 +1,7 @@
 -- What follows of programs that are written out.
 use Rattle.std.specs.Prelude.{◌≡◌, ℕ, Bool, false, List, [], ◌∷◌, Option, Some, None, Contains, flat_map, map, option_map}
 use Rattle.lft_ir.specs.Parts.{Parts}
-use Rattle.lft_elaborate.specs.{Channels.Channels.below, inner.Channels.{Channels.places, Lowered.AreJoined}}
+use Rattle.lft_elaborate.specs.{Channels.Channels.below, inner.Channels.{Channels.places, Lowered.AreJoinedPlaces}}
 use Rattle.lft_program.specs.Flattening.{Flat, IsFlatOf}
 use Rattle.lft_resolve.specs.Instances.{Inside, Thing, stands_for, time_in}
 use Rattle.lft_whole.specs.declared.sources.source.SourceFile.{SourceFile}
@@ -31,11 +31,11 @@ StandFor path x thing refs = (ref : RefTree) → Contains refs ref → stands_fo
 
 -- Connections that join both sides one by one have the links of the pairs, in order.
 abbrev pub JoinedLaw : Type 0
-JoinedLaw = (path : List ℕ) (x : Inside) (delay : Option TimeTree) (thing : RefTree → Thing) (left right : List RefTree) (broadcast : Bool) (cs : List ConnectionTree) → AreJoined left right broadcast delay cs → StandFor path x thing left → StandFor path x thing right → flat_map (core_links path x) cs ≡ map (linked (option_map (time_in x) delay)) (pairs broadcast (map thing left) (map thing right))
+JoinedLaw = (path : List ℕ) (x : Inside) (delay : Option TimeTree) (thing : RefTree → Thing) (left right : List RefTree) (broadcast : Bool) (cs : List ConnectionTree) → AreJoinedPlaces left right broadcast delay cs → StandFor path x thing left → StandFor path x thing right → flat_map (core_links path x) cs ≡ map (linked (option_map (time_in x) delay)) (pairs broadcast (map thing left) (map thing right))
 
 -- So has one that joins both sides whole.
-abbrev pub WholeLaw : Type 0
-WholeLaw = (path : List ℕ) (x : Inside) (delay : Option TimeTree) (thing : RefTree → Thing) (left right : List RefTree) → StandFor path x thing left → StandFor path x thing right → flat_map (core_links path x) (record { sources = left; destinations = right; delay = delay } ∷ []) ≡ map (linked (option_map (time_in x) delay)) (pairs false (map thing left) (map thing right))
+abbrev pub WholeJoinLaw : Type 0
+WholeJoinLaw = (path : List ℕ) (x : Inside) (delay : Option TimeTree) (thing : RefTree → Thing) (left right : List RefTree) → StandFor path x thing left → StandFor path x thing right → flat_map (core_links path x) (record { sources = left; destinations = right; delay = delay } ∷ []) ≡ map (linked (option_map (time_in x) delay)) (pairs false (map thing left) (map thing right))
 
 -- The places of a bank's multiport, by number, are all pairs of a member and a channel.
 abbrev pub PlacesLaw : Type 0

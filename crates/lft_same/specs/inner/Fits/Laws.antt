@@ -3,7 +3,8 @@ use Rattle.std.specs.Prelude.{◌≡◌, ℕ, List, Some, option_map, slice_get}
 use Rattle.lft_whole.specs.declared.{sources.source.SourceFile.SourceFile, tree.Instance.Instance}
 use Rattle.lft_classes.specs.{declared.nesting.Nesting.Nesting, inner.{Nestings.IsNesting, Scopes.{AreScopes, number_in}}}
 use Rattle.lft_elaborate.specs.inner.Values.{Valued, inside, main_setting}
-use Rattle.lft_same.specs.Expanded.{Instances.{Inside, Widths, inside_of, main_instance}, Reactors.{Class, class_named, main_of, members_of}, Whole.AreWidths}
+use Rattle.lft_same.specs.Expanded.{Instances.{Inside, Widths, inside_of, main_class_instance}, Reactors.{Class, class_named, main_of, members_of}}
+use Rattle.lft_same.specs.Expanded.Whole.{AreWidths}
 use Rattle.lft_same.specs.inner.Fits.{Fits.{Fits, number_at}, Widths.{AreFound, AreThose}}
 use Rattle.lft_whole.specs.declared.tree.Member.TheVariants as member
 
@@ -13,7 +14,7 @@ NamesLaw files = (scopes : _) → AreScopes files scopes → (file : ℕ) (q : L
 
 -- The setting of the main reactor fits the main instance.
 abbrev pub MainLaw : List SourceFile → Type 0
-MainLaw files = (scopes : _) (n : Nesting) (t : Valued) → IsNesting files scopes n → main_setting n.shapes.items ≡ Some t → (c : Class) × (main_of files ≡ Some c) × Fits files n.shapes.items t (main_instance files c)
+MainLaw files = (scopes : _) (n : Nesting) (t : Valued) → IsNesting files scopes n → main_setting n.shapes.items ≡ Some t → (c : Class) × (main_of files ≡ Some c) × Fits files n.shapes.items t (main_class_instance files c)
 
 -- Where a setting fits an instance, the setting in a member fits what its `new` makes.
 abbrev pub InsideLaw : List SourceFile → Type 0

@@ -2,7 +2,7 @@ use Rattle.std.proofs.Common.{◌≡◌, ◌∙◌, ℕ, List, Option, None, Con
 use Rattle.lft_tag.specs.{declared.Tag.Tag, Tags.{Before, UpTo}}
 use Rattle.lft_ir.specs.declared.steps.row.Row.{Row}
 use Rattle.lft_queue.specs.Pending.{Pending}
-use Rattle.lft_scheduler.specs.inner.{Turns.NonePending, Waits.IsCovered, Telling.TriggeredByQueue, Agendas.{MayAdvance, IsReached}}
+use Rattle.lft_scheduler.specs.inner.{Turns.NonePending, Waits.IsFoundUpTo, Telling.TriggeredByQueue, Agendas.{MayAdvance, IsReached}}
 use Rattle.lft_scheduler.proofs.{Told.none_open_there, NextTags.{some_number, later_event, reached_current, finished_current, moved_on, nearer}}
 use Rattle.lft_scheduler.proofs.FirstFirings.{first_from, none_skipped}
 use Rattle.lft_scheduler.proofs.advancing.advance.Goals as goal
@@ -33,7 +33,7 @@ tell-requires-clause-firings c =
     let is = c.tags.invariant.firings in
     let q = c.drop_until.new.self in
     let between = c.in-Some.ensures.between in
-    let covers = subst (λ (o : Option Tag). (h : Tag) (r : ℕ) → TriggeredByQueue program q c.args.stop h r → Before c.tags.reached h → UpTo h c.args.stop → IsCovered o h) c.in-Some.is (c.next_tag.ensures.covers program is) in
+    let covers = subst (λ (o : Option Tag). (h : Tag) (r : ℕ) → TriggeredByQueue program q c.args.stop h r → Before c.tags.reached h → UpTo h c.args.stop → IsFoundUpTo o h) c.in-Some.is (c.next_tag.ensures.covers program is) in
     first_from program c.tags.reached c.in-Some.next fs is between.0 (none_skipped program q c.args.stop c.tags.reached c.in-Some.next fs is between.1 covers)
 
 pub tags-preserved : goal.tags-preserved

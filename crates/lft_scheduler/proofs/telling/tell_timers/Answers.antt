@@ -1,7 +1,7 @@
 use Rattle.std.proofs.Common.{◌<◌, ◌∷◌, [], List, IsTrue, true, refl, sym, subst, length}
 use Rattle.lft_tag.specs.Tags.{Before}
 use Rattle.lft_ir.specs.{Parts.Parts, declared.parts.Trigger.TheVariants.Timer}
-use Rattle.lft_scheduler.specs.{inner.{Listeners.IsListener, Firings.{AreFirst, IsMoved}}, declared.firings.Firing.Firing}
+use Rattle.lft_scheduler.specs.{inner.{Listeners.IsListener, Firings.{AreFirstFirings, IsMoved}}, declared.firings.Firing.Firing}
 use Rattle.lft_scheduler.proofs.{ToldTurns.{told_as, live_within}, Taking.{none_taken, taken_more, all_taken, told_taken, told_at_first, told_one_timer}}
 use Rattle.lft_scheduler.proofs.telling.tell_timers.Goals as goal
 
@@ -24,4 +24,4 @@ pub returns-clause-told : goal.returns-clause-told
 returns-clause-told c = told_taken c.args.plan.now.program c.args.tag c.due.invariant.0 c.due.firings c.due.invariant.1 c.in_default.ensures.over c.args.turn.now c.due.turn c.due.invariant.2
 
 pub returns-clause-firings : goal.returns-clause-firings
-returns-clause-firings c = subst (λ (fs : List Firing). AreFirst c.args.plan.now.program (λ h. Before c.args.tag h) fs) (sym c.in_default.ensures.none) (all_taken c.args.plan.now.program c.args.tag c.due.invariant.0 c.due.firings c.due.invariant.1 c.in_default.ensures.over)
+returns-clause-firings c = subst (λ (fs : List Firing). AreFirstFirings c.args.plan.now.program (λ h. Before c.args.tag h) fs) (sym c.in_default.ensures.none) (all_taken c.args.plan.now.program c.args.tag c.due.invariant.0 c.due.firings c.due.invariant.1 c.in_default.ensures.over)

@@ -11,7 +11,7 @@ abbrev pub judged_rows : PlanParts → List ℕ → Front → List Row
 judged_rows plan body front = take front.cover.rows (rows_in plan.program body)
 
 -- what is kept and what is counted is right for the rows that are judged, which are no more than the text has
-pub record IsFront (plan : PlanParts) (body : List ℕ) (front : Front) : Type 0 where
+pub record IsFrontOfText (plan : PlanParts) (body : List ℕ) (front : Front) : Type 0 where
   pub stands : IsProgress plan (judged_rows plan body front) front.progress
   pub within : front.cover.rows ≤ length (rows_in plan.program body)
   pub covers : CoversRows plan.program (rows_in plan.program body) front.cover.rows front.cover

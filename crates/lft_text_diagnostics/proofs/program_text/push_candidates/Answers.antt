@@ -1,13 +1,13 @@
 use Rattle.std.proofs.Common.{◌≡◌, List, ◌∷◌, ◌++◌, codes, string_bytes, flat_map, sym, ap, ◌∙◌}
 use Rattle.lft_ir.proofs.WordsLemmas.Steps.{also}
-use Rattle.lft_text_diagnostics.specs.{Candidates.{could_words, other_words, words_of}, inner.Candidates.few, declared.thing.CoreTrial.CoreTrial}
+use Rattle.lft_text_diagnostics.specs.{Candidates.{could_words, other_trial_words, words_of_trial}, inner.Candidates.few, declared.thing.CoreTrial.CoreTrial}
 use Rattle.lft_text_diagnostics.proofs.Helping.{few_all}
 use Rattle.lft_text_diagnostics.proofs.program_text.push_candidates.Goals as goal
 
 pub returns : goal.returns
 returns c =
-    let first = words_of c.in-Some.first.now in
-    let others = flat_map other_words c.in-Some.others.now in
+    let first = words_of_trial c.in-Some.first.now in
+    let others = flat_map other_trial_words c.in-Some.others.now in
     let head = codes "  There could stand: " in
     let parts : c.args.found.now ≡ c.in-Some.first.now ∷ c.in-Some.others.now = let cases = c.in-Some.ensures.cases in cases.0 in
     let all : few c.args.found.now ≡ c.in-Some.first.now ∷ c.in-Some.others.now = few_all c.args.found.now c.if-found-gt-MOST_CANDIDATES.false ∙ parts in

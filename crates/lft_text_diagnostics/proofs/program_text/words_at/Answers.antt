@@ -1,14 +1,14 @@
 use Rattle.std.proofs.Common.{◌++◌, ap, ◌∙◌}
 use Rattle.lft_ir.proofs.WordsLemmas.Steps.{also}
-use Rattle.lft_text_diagnostics.specs.{Quotes.{marked_line, place_words}, Told.sentence}
+use Rattle.lft_text_diagnostics.specs.{Quotes.{marked_line, program_place_words}, Told.refusal_sentence}
 use Rattle.lft_text_diagnostics.proofs.program_text.words_at.Goals as goal
 
 pub returns : goal.returns
 returns c =
     let r = c.args.refusal in
     let place = c.place_of-place.result in
-    let where_ = place_words place in
-    let what = sentence c.args.text.now r in
+    let where_ = program_place_words place in
+    let what = refusal_sentence c.args.text.now r in
     let line = marked_line c.args.text.now place r.start r.end in
     record {
       place = place;

@@ -1,7 +1,7 @@
 use Rattle.std.proofs.Common.{◌≡◌, ℕ, Some, slice_get, sym, ap, ◌∙◌}
 use Rattle.std.{specs.Option.option_and_then, proofs.lemmas.Option.slice_get-get_or}
 use Rattle.lft_resolve.specs.inner.Expansion.Contents.{contained}
-use Rattle.lft_validate.{specs.inner.Circles.{DoneBetween, IsDone, OnlyDone}, proofs.Turns.some_weaker}
+use Rattle.lft_validate.{specs.inner.Circles.{DoneBetween, IsReactorDone, OnlyDone}, proofs.Turns.some_weaker}
 use Rattle.lft_lists.proofs.Options.{none_weaker}
 use Rattle.lft_validate.proofs.circle.next_inside.Goals as goal
 
@@ -23,8 +23,8 @@ returns-clause-some c =
     let inside = contained table c.args.visit.reactor in
     let numbers = slice_get c.deref.result.now in
     some_weaker
-    (λ p. (numbers p.0 ≡ Some p.1) × (IsDone stages p.1 → ⊥) × DoneBetween stages numbers c.args.visit.next p.0)
-    (λ p. (inside p.0 ≡ Some p.1) × (IsDone stages p.1 → ⊥) × DoneBetween stages inside c.args.visit.next p.0)
+    (λ p. (numbers p.0 ≡ Some p.1) × (IsReactorDone stages p.1 → ⊥) × DoneBetween stages numbers c.args.visit.next p.0)
+    (λ p. (inside p.0 ≡ Some p.1) × (IsReactorDone stages p.1 → ⊥) × DoneBetween stages inside c.args.visit.next p.0)
     c.first_left.result
     (λ p h. (same c p.0 ∙ h.0, h.1, λ k r low high is. h.2 k r low high (sym (same c k) ∙ is)))
     c.first_left.ensures.some

@@ -5,7 +5,8 @@ use Rattle.lft_whole.specs.declared.tree.Import.{Import}
 use Rattle.lft_whole.specs.declared.sources.{source.SourceFile.SourceFile, stop.{Place.Place, NoProgram.NoProgram}, why.Why.TheVariants.NotRead}
 use Rattle.lft_whole.specs.inner.Sources.Tokens.{StandsAt}
 use Rattle.lft_whole_parser.specs.declared.imports.{asked.{FileNumbers.FileNumbers, WantedFile.WantedFile}, reading.Text.Text, sources.Sources.Sources}
-use Rattle.lft_whole_parser.specs.Imports.{Paths.meaning, Files.{IsNumbered, AreReached, IsImportOf, AreOfTexts, IsFileOf, HasUnread, IsRefusedFor}}
+use Rattle.lft_whole_parser.specs.Imports.Paths.{meaning}
+use Rattle.lft_whole_parser.specs.Imports.Files.{HasNumberedImports, AreReachedFiles, IsImportOf, AreOfTexts, IsFileOf, HasUnread, IsRefusedFor}
 use Rattle.lft_whole.specs.declared.sources.stop.NoProgram.TheVariants as stop
 
 -- The paths that are asked for, by number.
@@ -26,26 +27,26 @@ abbrev pub AreNamed : List SourceFile → List WantedFile → Type 0
 AreNamed files wanted = (k : ℕ) (one : WantedFile) → slice_get wanted k ≡ Some one → IsNamedBy files k (string_bytes one.path) one.import
 
 -- So many tokens the files have, with the end of each.
-abbrev pub tokens_of : List SourceFile → ℕ
-tokens_of files = sum_by (λ file. length file.spots.items) files
+abbrev pub how_many_tokens : List SourceFile → ℕ
+how_many_tokens files = sum_by (λ file. length file.spots.items) files
 
 -- The number of the first token of each is that of the tokens of the files before it.
 abbrev pub AreCounted : List SourceFile → Type 0
-AreCounted files = (k : ℕ) (file : SourceFile) → slice_get files k ≡ Some file → file.first ≡ tokens_of (take k files)
+AreCounted files = (k : ℕ) (file : SourceFile) → slice_get files k ≡ Some file → file.first ≡ how_many_tokens (take k files)
 
 -- Of all files no two tokens have one number.
-abbrev pub AreApart : List SourceFile → Type 0
-AreApart files = (number : ℕ) (one other : Place) → StandsAt files number one → StandsAt files number other → one ≡ other
+abbrev pub AreTokensApart : List SourceFile → Type 0
+AreTokensApart files = (number : ℕ) (one other : Place) → StandsAt files number one → StandsAt files number other → one ≡ other
 
 -- The files that are read are the first of the paths that are asked for, and have the trees of texts; their tokens are counted; each import of them has its number, and imports of them lead to each path, and name it.
 pub record AreSources (sources : Sources) : Type 0 where
   pub known : IsKnown sources.asked
   pub read : (k : ℕ) (file : SourceFile) → slice_get sources.files.items k ≡ Some file → slice_get (paths_of sources.asked) k ≡ Some (string_bytes file.path)
   pub trees : AreOfTexts sources.files.items
-  pub tokens : sources.tokens ≡ tokens_of sources.files.items
+  pub tokens : sources.tokens ≡ how_many_tokens sources.files.items
   pub counted : AreCounted sources.files.items
-  pub numbered : (k : ℕ) (file : SourceFile) → slice_get sources.files.items k ≡ Some file → IsNumbered (paths_of sources.asked) file
-  pub reached : AreReached sources.files.items (paths_of sources.asked)
+  pub numbered : (k : ℕ) (file : SourceFile) → slice_get sources.files.items k ≡ Some file → HasNumberedImports (paths_of sources.asked) file
+  pub reached : AreReachedFiles sources.files.items (paths_of sources.asked)
   pub named : AreNamed sources.files.items sources.asked.paths.items
 
 -- The path that is to be read next, if not all are read.
@@ -71,9 +72,9 @@ abbrev pub IsAskedBy : ℕ → List ℕ → List Import → WantedFile → Type 
 IsAskedBy number path imports wanted = (i : ℕ) × IsSomeAnd (slice_get imports i) (λ import. (wanted.import ≡ Some (record { file = number; token = import.at })) × (meaning path import.path.items ≡ string_bytes wanted.path))
 
 -- The refusal is of a path that is no UTF-8, of an import of the file of that number.
-abbrev pub IsUnread : ℕ → List Import → NoProgram → Type 0
-IsUnread number imports (stop.Refused refusal) = (refusal.why ≡ NotRead) × (refusal.place.file ≡ number) × HasUnread imports refusal.place.token
-IsUnread number imports stop.NoMemory = Unit {0}
+abbrev pub IsUnreadPath : ℕ → List Import → NoProgram → Type 0
+IsUnreadPath number imports (stop.Refused refusal) = (refusal.why ≡ NotRead) × (refusal.place.file ≡ number) × HasUnread imports refusal.place.token
+IsUnreadPath number imports stop.NoMemory = Unit {0}
 
 -- The refusal is that of the text of the file of that number; or it has none, and the refusal is of a path in the file.
 abbrev pub IsRefusalOf : ℕ → Text → NoProgram → Type 0

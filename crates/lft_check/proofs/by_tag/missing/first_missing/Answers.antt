@@ -2,7 +2,7 @@ use Rattle.std.proofs.Common.{◌≡◌, ℕ, length, sym, subst, arith}
 use Rattle.lft_tag.specs.{declared.Tag.Tag, Tags.UpTo}
 use Rattle.lft_ir.specs.Parts.{Parts}
 use Rattle.lft_rows.specs.inner.Presence.Needed.{AreNeededOf}
-use Rattle.lft_check.specs.inner.ByTag.{Slices.IsMissing, Least.AreTriggered}
+use Rattle.lft_check.specs.inner.ByTag.{Slices.IsMissingRun, Least.AreTriggered}
 use Rattle.lft_check.proofs.ByTagLemmas.{Begun.{starts_of, none_marked, none_in, marks_over, missing_of}, Missed.{first_more, first_all, known_reaction}}
 use Rattle.lft_check.proofs.by_tag.missing.first_missing.Goals as goal
 
@@ -19,14 +19,14 @@ loop-reaction-preserved c =
     let s = starts_of cut.rows (length cut.plan.program.reactions) c.args.started.now c.requires.started r c.at-tags.result.now c.at-tags.ensures in
     record {
       due = c.keep_due.ensures.due;
-      first = first_more (λ (r : ℕ) (g : Tag). IsMissing cut r g × UpTo c.args.low g) r c.loop-reaction.first c.lacked-missed.result c.first_of-first.result c.loop-reaction.invariant.first (missing_of cut r c.args.low c.at-tags.result.now s.0 c.lacked-missed.result s.2 c.lacked-missed.ensures.least) c.first_of-first.ensures;
+      first = first_more (λ (r : ℕ) (g : Tag). IsMissingRun cut r g × UpTo c.args.low g) r c.loop-reaction.first c.lacked-missed.result c.first_of-first.result c.loop-reaction.invariant.first (missing_of cut r c.args.low c.at-tags.result.now s.0 c.lacked-missed.result s.2 c.lacked-missed.ensures.least) c.first_of-first.ensures;
     }
 
 pub returns-clause-missing : goal.returns-clause-missing
 returns-clause-missing c =
     let cut = c.args.presence.now in
     let count : c.reactions-reaction-end.result ≡ length cut.plan.program.reactions = c.reactions-reaction-end.ensures.count in
-    first_all (λ (r : ℕ) (g : Tag). IsMissing cut r g × UpTo c.args.low g) c.loop-reaction.reaction c.loop-reaction.first (λ r g x. known_reaction cut g r c.loop-reaction.reaction (omega arith) x.0.triggered) c.loop-reaction.invariant.first
+    first_all (λ (r : ℕ) (g : Tag). IsMissingRun cut r g × UpTo c.args.low g) c.loop-reaction.reaction c.loop-reaction.first (λ r g x. known_reaction cut g r c.loop-reaction.reaction (omega arith) x.0.triggered) c.loop-reaction.invariant.first
 
 pub keep_due-requires-clause-known : goal.keep_due-requires-clause-known
 keep_due-requires-clause-known c = subst (λ bs. AreTriggered c.args.presence.now c.loop-reaction.reaction c.at-tags.result.now bs) (sym c.as_slice-in-loop-reaction.ensures.value) (marks_over c.args.presence.now c.loop-reaction.reaction c.at-tags.result.now c.lacked-missed.new.known c.in_ok-known.known.items c.in_ok-known.known.len (none_in (length c.at-tags.result.now) c.in_ok-known.known.items (c.in_ok-known.ensures.items_if_clones_equal (λ y e. e))) c.lacked-missed.ensures.known)

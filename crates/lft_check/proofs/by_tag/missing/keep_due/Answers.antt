@@ -1,5 +1,5 @@
 use Rattle.std.proofs.Common.{List, Bool, ◌+◌, sym, ◌∙◌, subst}
-use Rattle.lft_check.specs.inner.ByTag.Indexes.{AreDue, AreMarkedTo}
+use Rattle.lft_check.specs.inner.ByTag.Indexes.{AreTriggeredRows, AreMarkedTo}
 use Rattle.lft_check.proofs.{ByTagLemmas.Begun.{due_more, marked_more, marked_stay}, by_tag.missing.keep_due.Goals.{in-Some, in_default}}
 use Rattle.lft_check.proofs.by_tag.missing.keep_due.Goals as goal
 
@@ -15,7 +15,7 @@ loop-number-preserved c =
         marked = marked_more places known number c.args.due.now c.loop-number.due c.match-marked_start.due w.in-Some.place w.in-Some.ensures.1 (w.due-is ∙ w.mark.ensures) c.loop-number.invariant.marked;
       }
       | in_default w ↦ record {
-        due = subst (λ (bs : List Bool). AreDue cut bs) (sym w.due-is) c.loop-number.invariant.due;
+        due = subst (λ (bs : List Bool). AreTriggeredRows cut bs) (sym w.due-is) c.loop-number.invariant.due;
         marked = subst (λ (bs : List Bool). AreMarkedTo places known (number + 1) c.args.due.now bs) (sym w.due-is) (marked_stay places known number c.args.due.now c.loop-number.due w.in_default.ensures c.loop-number.invariant.marked);
       }
     ]

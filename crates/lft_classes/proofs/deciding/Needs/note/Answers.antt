@@ -1,5 +1,5 @@
 use Rattle.std.proofs.Common.{[], ◌∷◌, sym, ap, ◌∙◌}
-use Rattle.lft_classes.specs.{inner.Needs.{HasNeed, IsTimeIn, NamesParameter, Times, Widths, times_of}, Shapes.width_of}
+use Rattle.lft_classes.specs.{inner.Needs.{HasNeed, IsTimeIn, NamesParameter, Times, Widths, times_of_member}, Shapes.width_of}
 use Rattle.lft_classes.proofs.{Marking.{marks_as, marks_on}, Passing.{among_two, time_needed, width_needed}}
 use Rattle.lft_classes.proofs.deciding.Needs.note.Goals as goal
 
@@ -17,6 +17,6 @@ returns-in-Timer-clause-timed c =
     let shape = c.args.shape.now in
     let m = c.args.inherited.member.now in
     let timer = c.in-Timer.timer in
-    let needed = time_needed shapes shape c.args.number m (timer.offset ∷ timer.period ∷ []) (ap times_of c.in-Timer.is) (λ i e. (let f = sym c.in-Timer.is ∙ e in absurd (cc))) in
+    let needed = time_needed shapes shape c.args.number m (timer.offset ∷ timer.period ∷ []) (ap times_of_member c.in-Timer.is) (λ i e. (let f = sym c.in-Timer.is ∙ e in absurd (cc))) in
     let both = among_two shape timer.offset timer.period in
     marks_on (IsTimeIn shape timer.offset) (IsTimeIn shape timer.period) (HasNeed Times shapes shape c.args.number m) _ _ _ c.note_time.ensures.timed c.note_time-in-Timer.ensures.timed (λ n. (λ h. (needed n).0 ((both n).0 h), λ g. (both n).1 ((needed n).1 g)))

@@ -2,7 +2,7 @@ use Rattle.std.proofs.Common.{◌≡◌, ◌+◌, ℕ, length, Some, None, inl, 
 use Rattle.std.proofs.lemmas.{List.{length-map, length_push}, Option.slice_get_within}
 use Rattle.lft_lists.proofs.{Options.{found, lacking}, Places.get_push_cases}
 use Rattle.lft_classes.specs.declared.shapes.{Child.Child, Inherited.Inherited}
-use Rattle.lft_classes.specs.inner.{Built.{Core, IsInside, core, cores, instance_of}, Makings.AreMade, Shapes.child_at}
+use Rattle.lft_classes.specs.inner.{Built.{Core, IsChildInstance, core, cores, instance_of}, Makings.AreMadeShapes, Shapes.child_at}
 use Rattle.lft_classes.proofs.Goings.{child_push, goes_nowhere, goes_further, inside_kept, noted_in, set_made}
 use Rattle.lft_classes.proofs.making.Making.fill.Goals as goal
 
@@ -22,7 +22,7 @@ loop-number-preserved c =
     let scopes = c.args.self.now.scopes in
     let children = c.loop-number.children.items in
     let cs = cores c.child_at.new.self.shapes.items in
-    let Q : ℕ → Child → Type 0 = λ k child. IsInside scopes cs c.args.shape k child in
+    let Q : ℕ → Child → Type 0 = λ k child. IsChildInstance scopes cs c.args.shape k child in
     record {
       goes = goes_further _ _ _ _ before.goes c.in_ok-child.ensures.goes;
       noted = λ s k t e. c.in_ok-child.ensures.noted s k t (before.noted s k t e);
@@ -32,8 +32,8 @@ loop-number-preserved c =
       ];
       count = ap length c.in_ok-push.ensures.items ∙ length_push children c.in_ok-child.child ∙ ap (λ n. n + 1) before.count;
       children = λ first all. subst (λ l. (k : ℕ) (child : Child) → child_at l k ≡ Some child → Q k child) (sym c.in_ok-push.ensures.items) (child_push Q children c.in_ok-child.child c.loop-number.number before.count (λ k child at. inside_kept scopes (cores old.shapes.items) cs c.args.shape k child c.in_ok-child.ensures.goes.kept (before.children first all k child at)) (λ child is.
-          let P : Child → Type 0 = λ x. (n : ℕ) → AreMade old.scopes n old → IsInside old.scopes cs c.args.shape c.loop-number.number x in
-          subst (λ s. IsInside s cs c.args.shape c.loop-number.number child) before.goes.scopes (found P c.in_ok-child.child child c.in_ok-child.ensures.child is first (subst (λ s. AreMade s first old) (sym before.goes.scopes) (before.goes.made first tt all)))));
+          let P : Child → Type 0 = λ x. (n : ℕ) → AreMadeShapes old.scopes n old → IsChildInstance old.scopes cs c.args.shape c.loop-number.number x in
+          subst (λ s. IsChildInstance s cs c.args.shape c.loop-number.number child) before.goes.scopes (found P c.in_ok-child.child child c.in_ok-child.ensures.child is first (subst (λ s. AreMadeShapes s first old) (sym before.goes.scopes) (before.goes.made first tt all)))));
     }
 
 pub returns-clause-goes : goal.returns-clause-goes

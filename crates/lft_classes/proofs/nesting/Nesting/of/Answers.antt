@@ -1,7 +1,7 @@
 use Rattle.std.proofs.Common.{◌≡◌, ◌<◌, Some, length, slice_get, refl, sym, ap, subst, ◌∙◌, arith}
 use Rattle.std.proofs.lemmas.Option.{slice_get_read, slice_get_within}
 use Rattle.lft_classes.specs.declared.work.Work.{Work}
-use Rattle.lft_classes.specs.inner.{Built.{AreBuilt, AreInside, AreNoted, cores, first_class}, Shapes.{inside, tables}, Walks.{IsBehind, IsList}}
+use Rattle.lft_classes.specs.inner.{Built.{AreBuilt, AreInside, AreNoted, cores, first_class}, Shapes.{inside, tables}, Walks.{IsTopologicalOrder, IsList}}
 use Rattle.lft_classes.proofs.Decided.{decided_next, ready_next}
 use Rattle.lft_classes.proofs.nesting.Nesting.of.Goals as goal
 
@@ -13,7 +13,7 @@ returns c =
     let shapes = c.in_ok-made.made.1.items in
     let now = c.loop-place.shapes.items in
     let order = c.in_ok-order.order.items in
-    let behind : IsBehind (inside (tables shapes)) order = subst (λ l. IsBehind (inside (tables l)) order) c.deref.ensures.value c.in_ok-order.ensures.order.behind in
+    let behind : IsTopologicalOrder (inside (tables shapes)) order = subst (λ l. IsTopologicalOrder (inside (tables l)) order) c.deref.ensures.value c.in_ok-order.ensures.order.behind in
     record {
       nesting = (
         scopes,

@@ -1,7 +1,7 @@
 use Rattle.std.proofs.Common.{◌≡◌, ◌+◌, length, List, ℕ, Some, slice_get, sym, ap, ◌∙◌, subst, arith}
 use Rattle.std.proofs.lemmas.Option.{slice_get-get_or}
 use Rattle.lft_lists.proofs.Places.{get_there}
-use Rattle.lft_counts.{specs.Overlaps.AreWidths, proofs.{Going.started, Overlapping.{open_more, met_more, widths_more}}}
+use Rattle.lft_counts.{specs.Overlaps.AreWidthCounts, proofs.{Going.started, Overlapping.{open_more, met_more, widths_more}}}
 use Rattle.lft_graph.proofs.Counting.{count_within}
 use Rattle.lft_counts.proofs.overlaps.Overlaps.start.Goals as goal
 
@@ -36,5 +36,5 @@ returns g c =
     record {
       running = running;
       met = met_more t m i c.requires.0 row.worker row.tag row.reaction here known old.running old.many met set c.add_all.new.self was c.add_all.ensures.room c.add_all.ensures.members so.running so.met;
-      widths = subst (λ (z : List ℕ). AreWidths t m (i + 1) z) (sym (c.add.ensures n.0 n.1)) (widths_more t m i c.requires.0 row.worker row.tag row.reaction here known old.widths (old.many + 1) n.0 n.1 running.number so.widths);
+      widths = subst (λ (z : List ℕ). AreWidthCounts t m (i + 1) z) (sym (c.add.ensures n.0 n.1)) (widths_more t m i c.requires.0 row.worker row.tag row.reaction here known old.widths (old.many + 1) n.0 n.1 running.number so.widths);
     }

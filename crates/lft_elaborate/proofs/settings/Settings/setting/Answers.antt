@@ -1,6 +1,6 @@
 use Rattle.std.proofs.Common.{◌≡◌, length, map, Some, None, refl, sym, ap, subst, ◌∙◌, arith, slice_get}
 use Rattle.std.proofs.lemmas.Option.{slice_get_read}
-use Rattle.lft_elaborate.specs.inner.{Noted.{Table, noted_for, table}, Settings.setting_in}
+use Rattle.lft_elaborate.specs.inner.{Noted.{SettingsTable, noted_for, table}, Settings.setting_in}
 use Rattle.lft_elaborate.proofs.Keeping.{IsPut, added_number, goes_added, goes_never, no_number}
 use Rattle.lft_elaborate.proofs.settings.Settings.setting.Goals as goal
 
@@ -17,7 +17,7 @@ returns-in_ok-insert-clause-goes c within =
     let values = c.args.values.items in
     let adds = c.in_ok-add_setting.ensures.adds in
     let m = c.index_mut.result.now in
-    let there : slice_get old.known c.args.shape ≡ Some m = ap (λ (t : Table). slice_get t.known c.args.shape) (sym adds.settings) ∙ slice_get_read mid.known (length mid.known) c.args.shape m refl (omega arith) c.index_mut.ensures.value in
+    let there : slice_get old.known c.args.shape ≡ Some m = ap (λ (t : SettingsTable). slice_get t.known c.args.shape) (sym adds.settings) ∙ slice_get_read mid.known (length mid.known) c.args.shape m refl (omega arith) c.index_mut.ensures.value in
     let key : c.in_ok-key.key.items ≡ values = c.in_ok-key.ensures.items ∙ c.as_slice-2.ensures.value in
     let number : c.len-number.result ≡ length old.settings = omega arith in
     let raw : IsPut m c.insert.new.self c.in_ok-key.key.items c.len-number.result = c.in_ok-insert.ensures.updates.0 in
@@ -34,5 +34,5 @@ pub returns-else-shape-len-clause-goes : goal.returns-else-shape-len-clause-goes
 returns-else-shape-len-clause-goes c within =
     let old = table c.args.self.now in
     let adds = c.in_ok-add_setting.ensures.adds in
-    let same : length c.add_setting.new.self.known.items ≡ length old.known = ap (λ (t : Table). length t.known) adds.settings in
+    let same : length c.add_setting.new.self.known.items ≡ length old.known = ap (λ (t : SettingsTable). length t.known) adds.settings in
     goes_never old (table c.add_setting.new.self) c.args.shape c.args.values.items adds (λ made. let long = made.known_long in let past = c.if-shape-len.false in omega (arith, same, long, within, past))

@@ -1,5 +1,5 @@
-use Rattle.lft_lower.specs.inner.Meanings.Names.{AreNames}
+use Rattle.lft_lower.specs.inner.Meanings.Names.{AreNamesTaken}
 use Rattle.lft_lower.proofs.meanings.naming.names.Given as goal
 
 abbrev pub invariant-loop-setting : goal.invariant-loop-setting
-invariant-loop-setting l = AreNames l.names
+invariant-loop-setting l = AreNamesTaken l.names

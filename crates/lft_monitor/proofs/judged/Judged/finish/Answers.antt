@@ -1,7 +1,7 @@
 use Rattle.std.proofs.Common.{◌≡◌, ◌++◌, inr, List, length-append, slice_range, sym, subst, arith}
 use Rattle.std.proofs.lemmas.{List.append-nil, Result.{IfOk-weaker, IfErr-weaker}}
 use Rattle.lft_ir.specs.declared.steps.row.Row.{Row}
-use Rattle.lft_monitor.specs.{declared.judged.Unjudged.Unjudged, Follows.IsClean, inner.Follows.{IsEnding, IsUnjudged}}
+use Rattle.lft_monitor.specs.{declared.judged.Unjudged.Unjudged, Follows.IsCleanSoFar, inner.Follows.{IsEnding, IsUnjudged}}
 use Rattle.lft_monitor.proofs.judged.Judged.finish.Goals as goal
 
 pub judge-requires-clause-kept : goal.judge-requires-clause-kept
@@ -13,7 +13,7 @@ returns-then-whole-clause-ended c = IfOk-weaker c.end.result _ _ (λ ending told
     let all = t ++ c.args.rows.now in
     let more = c.in-Ok-true.ensures.stands c.in-Ok-true.field-0-test t is in
     let same : all ++ slice_range c.args.rows.now 0 0 ≡ all = append-nil all in
-    let clean = subst (λ (u : List Row). IsClean plan u c.judge.new.self.reach) (sym same) more.clean in
+    let clean = subst (λ (u : List Row). IsCleanSoFar plan u c.judge.new.self.reach) (sym same) more.clean in
     subst (λ (u : List Row). IsEnding plan c.args.whole u ending) same (told all (record { past = more.past; counted = more.counted; few = more.few; rows = more.acceptor.stands.state.settled.rows }) (λ i j x y p q. absurd (cc)) (inr clean))) c.end.ensures.ended
 
 pub returns-then-whole-clause-unjudged : goal.returns-then-whole-clause-unjudged

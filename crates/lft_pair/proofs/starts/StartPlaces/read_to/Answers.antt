@@ -1,10 +1,10 @@
 use Rattle.std.proofs.Common.{◌≡◌, ℕ, sym, ap, subst, refl, arith, false, true}
-use Rattle.lft_pair.specs.inner.Places.{AreAfter}
+use Rattle.lft_pair.specs.inner.Places.{AreRowsAfter}
 use Rattle.lft_pair.proofs.{Kept.{read_start, read_other, after_from, after_end}, starts.StartPlaces.read_to.Goals.{then-is_start, else-is_start}}
 use Rattle.lft_pair.proofs.starts.StartPlaces.read_to.Goals as goal
 
 pub returns-then-is_before-clause-rest : goal.returns-then-is_before-clause-rest
-returns-then-is_before-clause-rest c = subst (λ (k : ℕ). AreAfter c.args.rows.now k c.args.tag) (sym c.loop-place.invariant.at) (after_from c.args.rows.now c.loop-place.place c.row_at-row.result c.row_at-row.ensures c.requires.legal.0 c.requires.legal.1 c.args.tag (c.if-is_before.ensures.0 refl))
+returns-then-is_before-clause-rest c = subst (λ (k : ℕ). AreRowsAfter c.args.rows.now k c.args.tag) (sym c.loop-place.invariant.at) (after_from c.args.rows.now c.loop-place.place c.row_at-row.result c.row_at-row.ensures c.requires.legal.0 c.requires.legal.1 c.args.tag (c.if-is_before.ensures.0 refl))
 
 pub loop-place-preserved : goal.loop-place-preserved
 loop-place-preserved c =

@@ -1,12 +1,12 @@
 use Rattle.std.proofs.Common.{rules, ◌≡◌}
 use Rattle.csv.specs.Records.{fields_of}
 use Rattle.lft_trace.{specs.Records.records_of, proofs.TableFacts.{ended, fewer, past}}
-use Rattle.lft_record.{specs.CardTables.{card_tables, header}, proofs.CardFacts.{bad, one_more, refused, start}}
+use Rattle.lft_record.{specs.CardTables.{card_tables, cards_header}, proofs.CardFacts.{bad, one_more, refused, start}}
 use Rattle.lft_record.proofs.cards.card_table.read_records.Goals as goal
 
 pub lines-init : goal.lines-init
 lines-init c =
-    let top : fields_of c.next.new.self.fields ≡ header = search rules in
+    let top : fields_of c.next.new.self.fields ≡ cards_header = search rules in
     start c.args.program.now c.args.text.now c.in-Ok.cards c.new-records.result c.next.new.self c.new-records.ensures (c.in-Ok-true.ensures.found c.in-Ok-true.field-0-test c.new-records.ensures.plain) top c.in-Ok.ensures.long c.in-Ok.ensures.blank
 
 pub returns-in-Ok-false-next-clause-table : goal.returns-in-Ok-false-next-clause-table

@@ -1,7 +1,8 @@
 use Rattle.std.proofs.Common.{◌++◌, take, length, inl, inr, option_map, append-nil, sym, ap, subst, ◌∙◌, rules}
 use Rattle.std.{specs.List.AllZip, proofs.lemmas.{List.length_push, Result.err_from_is_err_and, Slice.Zip.{zip_turn, zip_end}}}
 use Rattle.lft_tree.specs.View.{connection_view, ref_view, ref_views, time_view}
-use Rattle.lft_resolve.specs.{inner.{Lost.{IsLost, is_port}, Sheets.{IsJoin, singles_in}}, Kinds.in_role, declared.kinds.Role.TheVariants.{Source, Destination}}
+use Rattle.lft_resolve.specs.{inner.{Lost.{IsLost, is_port_kind}, Sheets.{IsJoin, singles_in}}, Kinds.in_role}
+use Rattle.lft_resolve.specs.declared.kinds.Role.TheVariants.{Source, Destination}
 use Rattle.lft_resolve.proofs.{Joined.{singles_more, singles_all, single, joined_more, Any-role, some_at}, Lost.{lost, source_port, destination_port}}
 use Rattle.lft_resolve.proofs.Somes.{Any-left, Any-right}
 use Rattle.lft_resolve.proofs.by_number.joins.push_joins.Goals as goal
@@ -23,7 +24,7 @@ returns-in_err-from-clause-lost c =
     rw (p.1, p.2)
     (λ other rs r file own. inl (Any-left (IsLost rs r) (in_role Source (ref_views from)) (in_role Destination (ref_views to))
     (Any-role rs r Source (ref_views from) (some_at ref_view (λ ref. IsLost rs r (Source, ref)) from (length c.loop-from.yielded) c.in-Some.from.now turn.0 turn.2
-    (lost is_port rs r Source (ref_view c.in-Some.from.now) source_port (c.in_err-from.ensures.lost other rs r file own))))))
+    (lost is_port_kind rs r Source (ref_view c.in-Some.from.now) source_port (c.in_err-from.ensures.lost other rs r file own))))))
 
 pub returns-in_err-to-clause-lost : goal.returns-in_err-to-clause-lost
 returns-in_err-to-clause-lost c =
@@ -34,7 +35,7 @@ returns-in_err-to-clause-lost c =
     rw (p.1, p.2)
     (λ other rs r file own. inl (Any-right (IsLost rs r) (in_role Source (ref_views from)) (in_role Destination (ref_views to))
     (Any-role rs r Destination (ref_views to) (some_at ref_view (λ ref. IsLost rs r (Destination, ref)) to (length c.loop-from.yielded) c.in-Some.to.now turn.1 turn.3
-    (lost is_port rs r Destination (ref_view c.in-Some.to.now) destination_port (c.in_err-to.ensures.lost other rs r file own))))))
+    (lost is_port_kind rs r Destination (ref_view c.in-Some.to.now) destination_port (c.in_err-to.ensures.lost other rs r file own))))))
 
 pub loop-from-preserved : goal.loop-from-preserved
 loop-from-preserved c rs r file own before all =

@@ -2,7 +2,7 @@ use Rattle.std.proofs.Common.{◌≡◌, ℕ, List, Some, None, [], ◌∷◌, A
 use Rattle.std.{proofs.lemmas.List.map-append, specs.List.AllZip}
 use Rattle.lft_tree.specs.{Tree.ReactorTree, View.{assignment_view, instance_view}}
 use Rattle.lft_resolve.specs.{Causes.{GivesUnknown, LacksParameter}, Instances.reactor_named}
-use Rattle.lft_resolve.specs.inner.{Lacking.{LacksName, LacksPlace}, Places.{IsIndexOf, place_in}, References.instance_trees, Sheets.{AreGiven, IsGiven}}
+use Rattle.lft_resolve.specs.inner.{Lacking.{LacksName, LacksPlace}, Places.{IsIndexOf, place_in}, References.instance_trees, Sheets.{AreValuesGiven, IsGiven}}
 use Rattle.lft_resolve.specs.inner.Tables.{IsOwn}
 use Rattle.lft_resolve.specs.declared.own.Own.{Own}
 use Rattle.lft_resolve.proofs.{Files.AllZip-last, Lacking.{lacks_parameter, none_at}, Somes.{Any-weaker, some_here}, Twice.map_last}
@@ -36,4 +36,4 @@ loop-instance-preserved c rs r file outer =
     let there = named rs _ (string_bytes c.instance-item.result.now.reactor) c.in-Some.inner.now c.as_str.ensures.value (c.in-Some.ensures rs file) in
     let one = subst (λ l. AllZip (IsGiven r there.0) (map assignment_view l) c.in_ok-one.one.items) c.deref.ensures.value (c.in_ok-one.ensures r there.0 outer there.2) in
     rw (c.in_ok-push.ensures.items, map_last (λ i. instance_view i.now) c.args.instances.now c.loop-instance.instance-index c.instance-item.result c.loop-instance-test.true (sym c.instance-item.is), map-append (λ g. g.items) c.loop-instance.given.items (c.in_ok-one.one ∷ []))
-    (AllZip-last (AreGiven rs r) (instance_trees (take c.loop-instance.instance-index c.args.instances.now)) (map (λ g. g.items) c.loop-instance.given.items) (instance_view c.instance-item.result.now) c.in_ok-one.one.items (c.loop-instance.invariant rs r file outer) (there.0, there.1, one))
+    (AllZip-last (AreValuesGiven rs r) (instance_trees (take c.loop-instance.instance-index c.args.instances.now)) (map (λ g. g.items) c.loop-instance.given.items) (instance_view c.instance-item.result.now) c.in_ok-one.one.items (c.loop-instance.invariant rs r file outer) (there.0, there.1, one))

@@ -1,5 +1,5 @@
 use Rattle.std.proofs.Common.{◌≡◌, ◌+◌, ◌<◌, ◌≤◌, length, arith}
-use Rattle.lft_resolve.specs.inner.Expansion.Numbers.{count_of, things}
+use Rattle.lft_resolve.specs.inner.Expansion.Numbers.{count_of_things, things}
 use Rattle.lft_resolve.proofs.ExpansionLemmas.Things.{numbering_more, numbering_passed, numbering_total, walk_more_things, walk_not_more_things}
 use Rattle.lft_resolve.proofs.expansion.numbering.first_numbers.Goals.{Then-count-limit}
 use Rattle.lft_resolve.proofs.expansion.numbering.first_numbers.Goals as goal
@@ -7,7 +7,7 @@ use Rattle.lft_resolve.proofs.expansion.numbering.first_numbers.Goals as goal
 -- the instance whose things pass the limit
 passes : (c : goal.Then-count-limit) → c.args.limit < things c.args.counts.now c.args.instances.now
 passes c =
-    let n : c.count_at-count.result ≡ count_of c.args.counts.now c.item_at.result.reactor = c.count_at-count.ensures in
+    let n : c.count_at-count.result ≡ count_of_things c.args.counts.now c.item_at.result.reactor = c.count_at-count.ensures in
     let t : c.args.limit < c.instances.total + c.count_at-count.result = omega arith in
     numbering_passed c.args.counts.now c.args.instances.now c.instances.firsts.items c.instances.number c.instances.total c.args.limit c.item_at.result c.instances.invariant.0 c.item_at.ensures (omega arith)
 
@@ -19,7 +19,7 @@ returns-then-count-limit-clause-tree c table main w = walk_more_things c.args.co
 
 pub instances-preserved : goal.instances-preserved
 instances-preserved c =
-    let n : c.count_at-count.result ≡ count_of c.args.counts.now c.item_at.result.reactor = c.count_at-count.ensures in
+    let n : c.count_at-count.result ≡ count_of_things c.args.counts.now c.item_at.result.reactor = c.count_at-count.ensures in
     (rw (c.in_ok-push.ensures.items, n) (numbering_more c.args.counts.now c.args.instances.now c.instances.firsts.items c.instances.number c.instances.total c.item_at.result c.instances.invariant.0 c.item_at.ensures), omega arith)
 
 pub returns-clause-tree : goal.returns-clause-tree

@@ -2,7 +2,7 @@ use Rattle.std.proofs.Common.{◌≡◌, ◌+◌, inl, length, [], ◌∷◌, �
 use Rattle.std.proofs.lemmas.Option.{slice_get_within}
 use Rattle.lft_lists.proofs.Members.{mem_right}
 use Rattle.lft_resolve.specs.declared.expansion.origins.{Mark.TheVariants.{New, Open, Done}, Next.TheVariants.First}
-use Rattle.lft_resolve.specs.inner.Expansion.{Marks.{IsNext, tally}, Sources.Leads}
+use Rattle.lft_resolve.specs.inner.Expansion.{Marks.{IsNext, tally_of_marks}, Sources.LeadsBackwards}
 use Rattle.lft_resolve.proofs.ExpansionLemmas.Settling.{new_weight, Settling, settling_start, settling_done, settling_first, settling_cycle, tally_below, tally_written}
 use Rattle.lft_resolve.proofs.expansion.origins.settle.Goals.{In-Some, In-First}
 use Rattle.lft_resolve.proofs.expansion.origins.settle.Goals as goal
@@ -33,7 +33,7 @@ bounds-marks-top c = slice_get_within c.chain.marks c.in-Some.top Open (top_open
 
 pub chain-smaller-in-Known : goal.chain-smaller-in-Known
 chain-smaller-in-Known c =
-    let t : tally new_weight (slice_set c.chain.marks c.in-Some.top (Done c.in-Known.reached)) + 0 ≡ tally new_weight c.chain.marks + 0 = tally_written new_weight c.chain.marks c.in-Some.top Open (Done c.in-Known.reached) (top_open ((goal.at.chain-smaller-in-Known c).In-Some)) in
+    let t : tally_of_marks new_weight (slice_set c.chain.marks c.in-Some.top (Done c.in-Known.reached)) + 0 ≡ tally_of_marks new_weight c.chain.marks + 0 = tally_written new_weight c.chain.marks c.in-Some.top Open (Done c.in-Known.reached) (top_open ((goal.at.chain-smaller-in-Known c).In-Some)) in
     let n : length c.chain.stack.items ≡ length c.pop.new.self.items + 1 = ap length c.in-Some.ensures.items ∙ length-append c.pop.new.self.items (c.in-Some.top ∷ []) in
     omega arith
 
@@ -44,7 +44,7 @@ chain-preserved-in-Known c =
 pub returns-in-Cycle-clause-cycle : goal.returns-in-Cycle-clause-cycle
 returns-in-Cycle-clause-cycle c p is =
     let same : c.in-Some.top ≡ p = cc in
-    subst (λ k. Leads c.args.sources.now k k) same
+    subst (λ k. LeadsBackwards c.args.sources.now k k) same
     (settling_cycle c.args.sources.now c.args.marks.now c.chain.marks c.args.port c.in-Some.top c.pop.new.self.items (before ((goal.at.returns-in-Cycle-clause-cycle c).In-Some)) (subst (λ x. IsNext c.args.sources.now c.chain.marks c.in-Some.top x) c.in-Cycle.is c.look.ensures))
 
 firsts : (c : goal.In-First) → IsNext c.args.sources.now c.chain.marks c.in-Some.top (First c.in-First.before)
@@ -52,7 +52,7 @@ firsts c = subst (λ x. IsNext c.args.sources.now c.chain.marks c.in-Some.top x)
 
 pub chain-smaller : goal.chain-smaller
 chain-smaller c =
-    let t : tally new_weight (slice_set c.chain.marks c.in-First.before Open) + 1 ≡ tally new_weight c.chain.marks + 0 = tally_written new_weight c.chain.marks c.in-First.before New Open (firsts ((goal.at.chain-smaller c).In-First)).3 in
+    let t : tally_of_marks new_weight (slice_set c.chain.marks c.in-First.before Open) + 1 ≡ tally_of_marks new_weight c.chain.marks + 0 = tally_written new_weight c.chain.marks c.in-First.before New Open (firsts ((goal.at.chain-smaller c).In-First)).3 in
     let n : length c.chain.stack.items ≡ length c.pop.new.self.items + 1 = ap length c.in-Some.ensures.items ∙ length-append c.pop.new.self.items (c.in-Some.top ∷ []) in
     let b : c.push-in-First-2.new.self.items ≡ (c.pop.new.self.items ++ c.in-Some.top ∷ []) ++ c.in-First.before ∷ [] = c.in_ok-push-in-First-2.ensures.items ∙ ap (λ l. l ++ c.in-First.before ∷ []) c.in_ok-push-in-First.ensures.items in
     let m : length c.push-in-First-2.new.self.items ≡ length c.pop.new.self.items + 1 + 1 = ap length b ∙ length-append (c.pop.new.self.items ++ c.in-Some.top ∷ []) (c.in-First.before ∷ []) ∙ ap (λ k. k + 1) (length-append c.pop.new.self.items (c.in-Some.top ∷ [])) in

@@ -4,14 +4,14 @@ use Rattle.lft_ir.specs.{Parts.Parts, Steps.Inputs.ExternalInputs}
 use Rattle.lft_graph.specs.Graph.{GraphParts, IsGraphOf}
 use Rattle.lft_scheduler.specs.declared.turn.phase.Phase.TheVariants.{Idle}
 use Rattle.lft_scheduler.specs.declared.open.OpenRun.{OpenRun}
-use Rattle.lft_scheduler.specs.inner.{Listeners.{AreListeners, AreArrivals}, OpenRuns.AreOpen, Telling.{IsTold, TriggeredByQueue}, Firings.AreFirst}
+use Rattle.lft_scheduler.specs.inner.{Listeners.{AreListeners, AreArrivals}, OpenRuns.AreOpen, Telling.{IsTold, TriggeredByQueue}, Firings.AreFirstFirings}
 use Rattle.lft_scheduler.specs.inner.Agendas.{IsCurrent, IsReached, MayAdvance}
 use Rattle.lft_scheduler.proofs.Beginning.{none_are_open, no_rows_yet, first_reached}
 use Rattle.lft_lists.proofs.Places.{length_same}
 use Rattle.lft_scheduler.proofs.agenda.Agenda.new.Goals as goal
 
 pub tell-requires-clause-firings : goal.tell-requires-clause-firings
-tell-requires-clause-firings c = subst (λ (p : Parts). AreFirst p (λ h. UpTo (record { time = 0; micro = 0 }) h) c.in_ok-firings.firings) c.program-program.ensures.value c.in_ok-firings.ensures
+tell-requires-clause-firings c = subst (λ (p : Parts). AreFirstFirings p (λ h. UpTo (record { time = 0; micro = 0 }) h) c.in_ok-firings.firings) c.program-program.ensures.value c.in_ok-firings.ensures
 
 pub returns : goal.returns
 returns c =

@@ -5,7 +5,8 @@ use Rattle.lft_ir.specs.{Parts.Parts, declared.{parts.{Port.Port as PortOf, Name
 use Rattle.lft_lists.proofs.Places.{same_some}
 use Rattle.lft_queue.specs.Pending.{Pending, Becomes}
 use Rattle.lft_model.specs.Recorded.{run_row}
-use Rattle.lft_scheduler.{specs.inner.Events.{IsPut, IsFedTo}, proofs.{Fed.{again_fed, first_fed}, events.feeding.feed_port.Goals.{then-again, else-again}}}
+use Rattle.lft_scheduler.specs.inner.Events.{IsEventPut, IsFedTo}
+use Rattle.lft_scheduler.proofs.{Fed.{again_fed, first_fed}, events.feeding.feed_port.Goals.{then-again, else-again}}
 use Rattle.lft_scheduler.proofs.events.feeding.feed_port.Goals as goal
 
 pub returns : goal.returns
@@ -16,8 +17,8 @@ returns c = λ t w r o ports arrives watched unmet is was.
     let its : port.origin ≡ o = ap (λ (z : PortOf). z.origin) (same_some (slice_get plan.program.ports c.args.number) port arrives.0 there arrives.1) ∙ arrives.2 in
     let x = run_row w c.args.tag r (Write (Port o) c.args.value) in
     let at : c.plus-at.result ≡ shifted c.args.tag (port.shift.time, port.shift.steps) = c.plus-at.ensures.folded in
-    IfOk-weaker c.put.result (λ found. IsPut c.args.last c.args.clash c.plus-at.result (Port c.args.number) c.args.value c.if-again.queue c.put.new.queue found) (λ found. IsFedTo plan t x c.args.last (ports ++ c.args.number ∷ []) found c.put.new.queue) (λ found put0.
-    let put : IsPut c.args.last c.args.clash (shifted c.args.tag (port.shift.time, port.shift.steps)) (Port c.args.number) c.args.value c.if-again.queue c.put.new.queue found = subst (λ (g : Tag). IsPut c.args.last c.args.clash g (Port c.args.number) c.args.value c.if-again.queue c.put.new.queue found) at put0 in
+    IfOk-weaker c.put.result (λ found. IsEventPut c.args.last c.args.clash c.plus-at.result (Port c.args.number) c.args.value c.if-again.queue c.put.new.queue found) (λ found. IsFedTo plan t x c.args.last (ports ++ c.args.number ∷ []) found c.put.new.queue) (λ found put0.
+    let put : IsEventPut c.args.last c.args.clash (shifted c.args.tag (port.shift.time, port.shift.steps)) (Port c.args.number) c.args.value c.if-again.queue c.put.new.queue found = subst (λ (g : Tag). IsEventPut c.args.last c.args.clash g (Port c.args.number) c.args.value c.if-again.queue c.put.new.queue found) at put0 in
     elim c.if-again.branch [
       | then-again k ↦
           let out0 : Becomes c.args.queue.now c.if-again.queue c.plus-at.result (Port c.args.number) None = subst (λ (q : List Pending). Becomes c.args.queue.now q c.plus-at.result (Port c.args.number) None) (sym k.queue-is) k.remove-replaced.ensures.removed in

@@ -1,6 +1,6 @@
 use Rattle.std.proofs.Common.{◌≡◌, ◌+◌, ℕ, None, replicate, length, refl, sym, ◌∙◌, subst, arith, rules}
 use Rattle.std.proofs.lemmas.{Bool.false≢true, Option.slice_get_read}
-use Rattle.lft_scheduler.specs.inner.Filling.{AreFirst}
+use Rattle.lft_scheduler.specs.inner.Filling.{AreFirstDelayedPorts}
 use Rattle.lft_scheduler.proofs.{Arriving.origin_known, Watching.{first_start, first_stays, first_changes, first_inside}}
 use Rattle.lft_scheduler.proofs.listeners.watched.first_delayed.Goals.{then-precedes, else-precedes}
 use Rattle.lft_scheduler.proofs.listeners.watched.first_delayed.Goals as goal
@@ -33,9 +33,9 @@ ports-preserved c =
     let a = c.ports.invariant.as_long in
     let there = slice_get_read c.ports.firsts.items (length c.ports.firsts.items) port.origin c.index.result.now refl (omega arith) c.index.ensures in
     elim c.if-precedes.branch [
-      | then-precedes w ↦ (let y = first_changes program n port here c.ports.firsts.items c.ports.invariant c.index.result.now there (c.precedes.ensures.0 w.if-precedes.true) in subst (λ fs. AreFirst program (n + 1) fs.items) (sym w.firsts-is) y)
-      | else-precedes w ↦ (let y = first_stays program n port here c.ports.firsts.items c.ports.invariant c.index.result.now there (λ p. false≢true (sym w.if-precedes.false ∙ c.precedes.ensures.1 p)) in subst (λ fs. AreFirst program (n + 1) fs.items) (sym w.firsts-is) y)
+      | then-precedes w ↦ (let y = first_changes program n port here c.ports.firsts.items c.ports.invariant c.index.result.now there (c.precedes.ensures.0 w.if-precedes.true) in subst (λ fs. AreFirstDelayedPorts program (n + 1) fs.items) (sym w.firsts-is) y)
+      | else-precedes w ↦ (let y = first_stays program n port here c.ports.firsts.items c.ports.invariant c.index.result.now there (λ p. false≢true (sym w.if-precedes.false ∙ c.precedes.ensures.1 p)) in subst (λ fs. AreFirstDelayedPorts program (n + 1) fs.items) (sym w.firsts-is) y)
     ]
 
 pub returns : goal.returns
-returns c = subst (λ (k : ℕ). AreFirst c.args.program.now k c.ports.firsts.items) (let a = c.ports-test.false in let b = c.ports.auto.number-end in let e = c.ports-number-end.ensures.count in let z : c.ports.number ≡ length c.args.program.now.ports = omega arith in z) c.ports.invariant
+returns c = subst (λ (k : ℕ). AreFirstDelayedPorts c.args.program.now k c.ports.firsts.items) (let a = c.ports-test.false in let b = c.ports.auto.number-end in let e = c.ports-number-end.ensures.count in let z : c.ports.number ≡ length c.args.program.now.ports = omega arith in z) c.ports.invariant

@@ -1,5 +1,5 @@
-use Rattle.lft_scheduler.specs.inner.Filling.{AreFirst}
+use Rattle.lft_scheduler.specs.inner.Filling.{AreFirstDelayedPorts}
 use Rattle.lft_scheduler.proofs.listeners.watched.first_delayed.Given as goal
 
 abbrev pub invariant-ports : goal.invariant-ports
-invariant-ports l = AreFirst l.program l.number l.firsts.items
+invariant-ports l = AreFirstDelayedPorts l.program l.number l.firsts.items

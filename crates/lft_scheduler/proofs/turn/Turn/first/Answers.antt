@@ -1,7 +1,7 @@
 use Rattle.std.proofs.Common.{◌<◌, ◌≤◌, ◌⊎◌, ℕ, length, sym, ◌∙◌, subst, arith}
 use Rattle.std.proofs.lemmas.List.{length-map}
 use Rattle.lft_graph.specs.Graph.{IsGraphOf}
-use Rattle.lft_scheduler.specs.{declared.turn.seats.Seat.Seat, inner.{Turns.{TurnParts, IsReady, IsLeastReady, NoneOpen, NonePending}, Seats.phases_of}}
+use Rattle.lft_scheduler.specs.{declared.turn.seats.Seat.Seat, inner.{Turns.{TurnParts, IsReady, IsLeastReady, NoRunOpen, NonePending}, Seats.phases_of}}
 use Rattle.lft_scheduler.proofs.{Blocked.IsFree, Blocking.{least_ready, ready_free, none_pending}, Spreading.{IsHeld, spreads, has_free, free_has, held_or_not}}
 use Rattle.lft_scheduler.proofs.turn.Turn.first.Goals as goal
 
@@ -39,5 +39,5 @@ returns-clause-over c program is e closed =
     let n = length-map c.self.inside.seats.items (λ (x : Seat). x.phase) ∙ k.rest.as_long ∙ k.mirror.as_long in
     let d : (a : ℕ) → a < length c.self.inside.graph.before → IsHeld c.self.inside.seats.items a ⊎ (¬ IsHeld c.self.inside.seats.items a) = λ a l. held_or_not c.self.inside.seats.items a (let x = k.rest.as_long in let y = k.mirror.as_long in omega arith) in
     let f : (b : ℕ) → ¬ IsFree p (IsHeld c.self.inside.seats.items) b = λ b i. (let x = free_has c.self.inside.seats.items c.self.inside.frees k.frees b i in let w = x.0 in c.least_below.ensures.none b e (omega arith) x.1) in
-    let h = subst (λ (t : TurnParts). NoneOpen t.phases) (sym c.self.view_is) closed in
+    let h = subst (λ (t : TurnParts). NoRunOpen t.phases) (sym c.self.view_is) closed in
     subst (λ (t : TurnParts). NonePending t.phases) c.self.view_is (none_pending program c.self.inside.graph g p (IsHeld c.self.inside.seats.items) s n d f h)

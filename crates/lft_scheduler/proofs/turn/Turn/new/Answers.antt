@@ -1,7 +1,7 @@
 use Rattle.std.proofs.Common.{◌≡◌, List, length, replicate, sym, ap, ◌∙◌, subst, arith}
 use Rattle.lft_graph.specs.Graph.{IsGraphOf}
 use Rattle.lft_lists.proofs.Places.{length_same}
-use Rattle.lft_scheduler.specs.{declared.turn.{phase.Phase.TheVariants.Idle, seats.Seat.Seat}, inner.Seats.{IsAtRest, AreFree, phases_of}}
+use Rattle.lft_scheduler.specs.{declared.turn.{phase.Phase.TheVariants.Idle, seats.Seat.Seat}, inner.Seats.{IsAtRest, AreFreeSeats, phases_of}}
 use Rattle.lft_scheduler.proofs.{Starting.{idle_rest, phases_idle}, Frees.frees_idle}
 use Rattle.lft_scheduler.proofs.turn.Turn.new.Goals as goal
 
@@ -18,7 +18,7 @@ invariant_of-result c =
       program = (c.args.program.now, c.reactions-count.ensures.sound, is);
       mirror = c.in_ok-after.ensures;
       rest = subst (λ (k : List Seat). IsAtRest c.in_ok-after.after k) (sym s) (idle_rest c.reactions-count.result c.in_ok-after.after l);
-      frees = subst (λ (k : List Seat). AreFree k c.in_ok-frees.frees) (sym s) (frees_idle c.reactions-count.result c.in_ok-frees.frees c.in_ok-frees.ensures.room c.in_ok-frees.ensures.none);
+      frees = subst (λ (k : List Seat). AreFreeSeats k c.in_ok-frees.frees) (sym s) (frees_idle c.reactions-count.result c.in_ok-frees.frees c.in_ok-frees.ensures.room c.in_ok-frees.ensures.none);
       room = t ∙ length_same c.reactions-count.result 0 ∙ sym l;
     }
 

@@ -1,7 +1,7 @@
 use Rattle.std.proofs.Common.{◌≡◌, ℕ, List, [], ◌∷◌, ◌++◌, length, length-append, filter_map, refl, sym, ap, ◌∙◌, subst, arith, Some, slice_get}
 use Rattle.lft_ir.specs.{Parts.Parts, declared.parts.Trigger.Trigger}
 use Rattle.lft_rows.{specs.inner.Presence.Needed.AreNeededOf, proofs.PresenceLemmas.Needing.needed_known}
-use Rattle.lft_stream.{specs.{declared.due.Due.Due, inner.Dues.{timed, AreDue, AreDueOf}}, proofs.Owing.dues_push}
+use Rattle.lft_stream.{specs.{declared.due.Due.Due, inner.Dues.{timed, AreTriggersDue, AreDueOf}}, proofs.Owing.dues_push}
 use Rattle.lft_stream.proofs.dues.Dues.new.Goals as goal
 
 pub first_dues-requires : goal.first_dues-requires
@@ -18,7 +18,7 @@ loop-number-preserved c =
     let needed = c.in_ok-needed.needed.items in
     let list = c.in_ok-dues.dues.items in
     let is_needed : AreNeededOf plan.program c.loop-number.number needed = subst (λ (p : Parts). AreNeededOf p c.loop-number.number needed) c.program-program.ensures.value c.in_ok-needed.ensures in
-    let due : (r : ℕ) → AreDue plan [] r (filter_map timed needed) list = subst (λ (xs : List Trigger). (r : ℕ) → AreDue plan [] r (filter_map timed xs) list) c.as_slice.ensures.value c.in_ok-dues.ensures in
+    let due : (r : ℕ) → AreTriggersDue plan [] r (filter_map timed needed) list = subst (λ (xs : List Trigger). (r : ℕ) → AreTriggersDue plan [] r (filter_map timed xs) list) c.as_slice.ensures.value c.in_ok-dues.ensures in
     let own : AreDueOf plan [] c.loop-number.number list = (needed, is_needed, due c.loop-number.number) in
     let more : c.push.new.self.items ≡ old ++ list ∷ [] = c.in_ok-push.ensures.items ∙ ap (λ (z : List Due). old ++ z ∷ []) c.in_ok-new.ensures in
     record {

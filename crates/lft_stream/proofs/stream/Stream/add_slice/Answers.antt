@@ -3,7 +3,7 @@ use Rattle.lft_tag.specs.{declared.Tag.Tag, Tags.{UpTo, after, earliest}}
 use Rattle.lft_ir.{specs.{Parts.Parts, declared.parts.Value.Value, Steps.{Fits.RowsFit, Inputs.ExternalInputs}}, proofs.Ranges.length-range}
 use Rattle.lft_rows.specs.inner.Marks.{AreMarks}
 use Rattle.lft_queue.specs.inner.Coming.{Channels.caused_by, Unread.{UnreadParts, AreUnread, AreFree}, Coming.{to_come, IsReached, IsClear, IsNoLater}}
-use Rattle.lft_queue.specs.inner.Coming.{Lanes.held, Writes.AreEarlier}
+use Rattle.lft_queue.specs.inner.Coming.{Lanes.held, Writes.AreEarlierWrites}
 use Rattle.lft_queue.specs.declared.coming.{coming.Coming.Coming, writes.Written.Written}
 use Rattle.lft_model.specs.Presence.{requests}
 use Rattle.lft_stream.specs.inner.Outlines.{AreReadsBefore}
@@ -93,6 +93,6 @@ returns-then-pass_on-clause-stands c = λ z d stands.
     let free : (h : Tag) → IsClear c.count.new.self.coming.clash h → AreFree plan.program done here s.tag h = λ h clear. free_same plan.program done effects here s.tag h found.same (subst (λ (p : Parts). AreFree p done effects s.tag h) is (passed.free done h (cleared h clear).1 before unread)) in
     let runs = counted.runs z ∙ ap (λ (n : ℕ). n + c.runs-runs.result) own.runs ∙ ap (λ (n : ℕ). old.runs + n) c.runs-runs.ensures in
     let tags = counted.tags z ∙ ap (λ (n : ℕ). n + 1) own.tags in
-    let writes = subst (λ (ws : List (Option Written)). AreEarlier plan.program (after s.tag 0) ws) (sym counted.writes) (caused.earlier refl) in
+    let writes = subst (λ (ws : List (Option Written)). AreEarlierWrites plan.program (after s.tag 0) ws) (sym counted.writes) (caused.earlier refl) in
     let no_later : IsNoLater c.reach.new.self.clash c.count.new.self.coming.clash = λ h clear. subst (λ (k : Coming). IsClear k.clash h) own.coming (subst (λ (k : Option Tag). IsClear k h) c.drop_until.ensures.clash (cleared h clear).0) in
     slice_grows plan d rows s slice old stands later reach kept c.program-program.ensures.sound.sound c.reach.new.self reached ordered judged c.count.new.self (c.if-not-judge_slice.ensures.judged refl done hand) own.coming own.listeners (counted.stop ∙ own.stop ∙ stops) (counted.tag z) runs tags counted.dues counted.starts writes counted.listeners (counted.channels ∙ own.channels) goes_on free no_later (λ h n waited b up clear. ap (λ (k : Coming). to_come events k h n) counted.coming ∙ caused.caused refl events h n waited b (subst (λ (k : Tag). UpTo h k) counted.stop up) (subst (λ (k : Coming). IsClear k.clash h) counted.coming clear) ∙ ap (λ (es : List (Tag × Value)). to_come events c.note.new.self h n ++ held es h) (caused_same effects here found.same plan s.tag n) ∙ ap (λ (vs : List Value). vs ++ held (caused_by plan here s.tag n) h) (c.note.ensures.same events h n ∙ c.drop_until.ensures.same events h n b ∙ ap (λ (k : Coming). to_come events k h n) own.coming)) (ap (λ (k : Coming). k.next) counted.coming ∙ caused.next ∙ c.note.ensures.next ∙ c.drop_until.ensures.next ∙ ap (λ (k : Coming). k.next) own.coming)

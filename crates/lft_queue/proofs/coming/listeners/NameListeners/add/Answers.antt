@@ -3,13 +3,13 @@ use Rattle.std.proofs.lemmas.Bool.{cases_eq}
 use Rattle.lft_ir.specs.{Sound.IsNameOf, declared.parts.Name.{Name, TheVariants.{Port, Action}}}
 use Rattle.lft_lists.proofs.Places.{same_at}
 use Rattle.lft_model.proofs.Places.{slice_get_within}
-use Rattle.lft_queue.{specs.inner.Coming.Listeners.{list_of, heard_at, IsIn}, proofs.ComingLemmas.AtOnce.{both_on, both_there}}
+use Rattle.lft_queue.{specs.inner.Coming.Listeners.{list_of, heard_at, HasListOf}, proofs.ComingLemmas.AtOnce.{both_on, both_there}}
 use Rattle.lft_queue.proofs.coming.listeners.NameListeners.add.Goals as goal
 
 pub push-requires : goal.push-requires
 push-requires c = within c.heard_at.result c.heard_at.ensures.known
   where
-    within : (n : Name) → IsNameOf c.args.program.now n → IsIn c.loop-place.self n
+    within : (n : Name) → IsNameOf c.args.program.now n → HasListOf c.loop-place.self n
     within (Port p) l = let a = c.loop-place.invariant.grown.0.as_long in let d = c.requires.ports in omega arith
     within (Action a) l = let b = c.loop-place.invariant.grown.1.as_long in let d = c.requires.actions in omega arith
 

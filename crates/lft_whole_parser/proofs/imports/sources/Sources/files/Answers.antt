@@ -1,6 +1,6 @@
 use Rattle.std.proofs.Common.{sym, subst}
 use Rattle.std.specs.BTreeMap.{get_by_text}
-use Rattle.lft_whole_parser.specs.{inner.Imports.Files.{AreApart, AreCounted, paths_of}, Imports.Files.{EachOnce, IsWhole, paths_of_files}}
+use Rattle.lft_whole_parser.specs.{inner.Imports.Files.{AreTokensApart, AreCounted, paths_of}, Imports.Files.{EachOnce, IsWhole, paths_of_files}}
 use Rattle.lft_whole_parser.proofs.ImportsLemmas.{Counting.are_apart, Known.{all_whole, each_once}}
 use Rattle.lft_whole_parser.proofs.imports.sources.Sources.files.Goals as goal
 
@@ -14,4 +14,4 @@ pub returns-clause-counted : goal.returns-clause-counted
 returns-clause-counted c = λ h. subst AreCounted (sym c.as_slice.ensures.value) h.counted
 
 pub returns-clause-apart : goal.returns-clause-apart
-returns-clause-apart c = λ h. subst AreApart (sym c.as_slice.ensures.value) (are_apart c.args.self.now.files.items h.counted)
+returns-clause-apart c = λ h. subst AreTokensApart (sym c.as_slice.ensures.value) (are_apart c.args.self.now.files.items h.counted)

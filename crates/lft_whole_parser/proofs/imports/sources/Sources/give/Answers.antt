@@ -2,8 +2,8 @@ use Rattle.std.proofs.Common.{◌≡◌, ◌+◌, Some, length, sym, subst, ap, 
 use Rattle.std.specs.Prelude.{slice_get}
 use Rattle.lft_lists.proofs.Places.{Some_same}
 use Rattle.lft_whole.specs.declared.sources.source.SourceFile.{SourceFile}
-use Rattle.lft_whole_parser.specs.inner.Imports.{Files.{IsAskedBy, AreCounted, AreNamed, paths_of, tokens_of}, Reads.IsRead}
-use Rattle.lft_whole_parser.specs.Imports.Files.{AreOfTexts, AreReached}
+use Rattle.lft_whole_parser.specs.inner.Imports.{Files.{IsAskedBy, AreCounted, AreNamed, paths_of, how_many_tokens}, Reads.IsRead}
+use Rattle.lft_whole_parser.specs.Imports.Files.{AreOfTexts, AreReachedFiles}
 use Rattle.lft_whole_parser.proofs.ImportsLemmas.Known.{AllNumbered, AreRead, adds_file, goes_on, named_more, numbered_file, numbered_more, reached_more, read_more}
 use Rattle.lft_whole_parser.proofs.ImportsLemmas.Telling.{counted_more, refuses_next, tokens_more, tree_of, trees_more}
 use Rattle.lft_whole_parser.proofs.imports.sources.Sources.give.Goals as goal
@@ -32,10 +32,10 @@ returns-in_ok-push-in-Ok-clause-sources c =
       known = c.in-Ok.ensures.known;
       read = subst (AreRead after) (sym c.in_ok-push-in-Ok.ensures.items) (read_more before after old.files.items file kept c.requires.read at);
       trees = subst AreOfTexts (sym c.in_ok-push-in-Ok.ensures.items) (trees_more old.files.items file c.requires.trees (tree_of file.text.items file c.in_ok-read.read (ap (λ (f : SourceFile). f.spots) c.file_of.ensures) (ap (λ (f : SourceFile). f.tree) c.file_of.ensures) (subst (λ t. IsRead t c.in_ok-read.read) text whole) c.in-Ok.ensures.read));
-      tokens = c.in-Some-tokens_behind.ensures ∙ ap (λ n. old.tokens + n) count ∙ ap (λ n. n + length file.spots.items) c.requires.tokens ∙ sym (tokens_more old.files.items file) ∙ ap tokens_of (sym c.in_ok-push-in-Ok.ensures.items);
+      tokens = c.in-Some-tokens_behind.ensures ∙ ap (λ n. old.tokens + n) count ∙ ap (λ n. n + length file.spots.items) c.requires.tokens ∙ sym (tokens_more old.files.items file) ∙ ap how_many_tokens (sym c.in_ok-push-in-Ok.ensures.items);
       counted = subst AreCounted (sym c.in_ok-push-in-Ok.ensures.items) (counted_more old.files.items file c.requires.counted (first ∙ c.requires.tokens));
       numbered = subst (AllNumbered after) (sym c.in_ok-push-in-Ok.ensures.items) (numbered_more before after old.files.items file kept c.requires.numbered numbers);
-      reached = subst (λ fs. AreReached fs after) (sym c.in_ok-push-in-Ok.ensures.items) (reached_more wanted more old.files.items file at adds c.requires.reached);
+      reached = subst (λ fs. AreReachedFiles fs after) (sym c.in_ok-push-in-Ok.ensures.items) (reached_more wanted more old.files.items file at adds c.requires.reached);
       named = subst (λ fs. AreNamed fs more) (sym c.in_ok-push-in-Ok.ensures.items) (named_more wanted more old.files.items file at adds c.requires.named);
     }
 

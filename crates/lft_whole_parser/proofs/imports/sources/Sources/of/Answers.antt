@@ -1,5 +1,5 @@
 use Rattle.std.proofs.Common.{◌≡◌, None, [], ◌∷◌, ◌++◌, map, refl, sym, ap, ◌∙◌, string_bytes}
-use Rattle.lft_whole_parser.specs.{declared.imports.asked.WantedFile.WantedFile, inner.Imports.Files.{paths_of, tokens_of}}
+use Rattle.lft_whole_parser.specs.{declared.imports.asked.WantedFile.WantedFile, inner.Imports.Files.{paths_of, how_many_tokens}}
 use Rattle.lft_whole_parser.proofs.ImportsLemmas.Known.{no_file, one_named, one_reached}
 use Rattle.lft_whole_parser.proofs.imports.sources.Sources.of.Goals as goal
 
@@ -12,7 +12,7 @@ returns-clause-sources c =
       known = c.in_ok-ask.ensures.known;
       read = λ k file at. absurd (no_file files c.new.ensures.items k file at);
       trees = λ k file at. absurd (no_file files c.new.ensures.items k file at);
-      tokens = sym (ap tokens_of c.new.ensures.items);
+      tokens = sym (ap how_many_tokens c.new.ensures.items);
       counted = λ k file at. absurd (no_file files c.new.ensures.items k file at);
       numbered = λ k file at. absurd (no_file files c.new.ensures.items k file at);
       reached = one_reached (paths_of c.ask.new.self) (string_bytes program.path) files (ap (map (λ (w : WantedFile). string_bytes w.path)) wanted);

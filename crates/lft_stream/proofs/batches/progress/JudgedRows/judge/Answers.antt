@@ -1,7 +1,7 @@
 use Rattle.std.proofs.Common.{◌∙◌, length, length-append, refl, sym, arith}
 use Rattle.std.proofs.lemmas.Bool.{eqb-true}
 use Rattle.lft_stream.proofs.BatchesLemmas.Progressing.{none_judged}
-use Rattle.lft_stream.proofs.batches.progress.Progress.judge.Goals as goal
+use Rattle.lft_stream.proofs.batches.progress.JudgedRows.judge.Goals as goal
 
 pub returns-then-is_empty : goal.returns-then-is_empty
 returns-then-is_empty c _ t so = none_judged c.args.plan.now t c.args.rows.now c.args.self.now (eqb-true (length c.args.rows.now) 0 (sym c.is_empty.ensures ∙ c.if-is_empty.true)) so

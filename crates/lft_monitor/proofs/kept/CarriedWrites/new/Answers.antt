@@ -1,7 +1,7 @@
 use Rattle.std.proofs.Common.{◌≡◌, ◌<◌, ◌∙◌, Bool, List, true, Some, length, replicate, slice_get, ap, subst, arith, rules}
 use Rattle.lft_lists.proofs.Places.{get_same, get_there}
 use Rattle.lft_model.proofs.Places.{slice_get_within}
-use Rattle.lft_monitor.proofs.kept.Ways.new.Goals as goal
+use Rattle.lft_monitor.proofs.kept.CarriedWrites.new.Goals as goal
 
 pub returns : goal.returns
 returns c =

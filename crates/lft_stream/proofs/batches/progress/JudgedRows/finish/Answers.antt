@@ -1,6 +1,6 @@
 use Rattle.std.proofs.Common.{◌++◌, refl, arith}
 use Rattle.std.proofs.lemmas.Option.{IfSome_then}
-use Rattle.lft_stream.proofs.batches.progress.Progress.finish.Goals as goal
+use Rattle.lft_stream.proofs.batches.progress.JudgedRows.finish.Goals as goal
 
 pub returns : goal.returns
 returns c =

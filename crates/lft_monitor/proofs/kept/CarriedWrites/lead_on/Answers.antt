@@ -1,6 +1,6 @@
 use Rattle.std.proofs.Common.{◌≡◌, ◌<◌, IsTrue, length, arith}
 use Rattle.lft_monitor.proofs.Furthest.{leads_of, ways_long}
-use Rattle.lft_monitor.proofs.kept.Ways.lead_on.Goals as goal
+use Rattle.lft_monitor.proofs.kept.CarriedWrites.lead_on.Goals as goal
 
 pub leads_on-requires-clause-port : goal.leads_on-requires-clause-port
 leads_on-requires-clause-port c =
