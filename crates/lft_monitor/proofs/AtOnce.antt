@@ -1,5 +1,5 @@
 -- Rows at hand that are gone over at once.
-use Rattle.std.proofs.Common.{◌≡◌, ℕ, ◌+◌, ◌-◌, ◌<◌, List, ◌++◌, length, take, drop, refl, sym, ap, ◌∙◌, subst, arith, Some, None, Contains, slice_get}
+use Rattle.std.proofs.Common.{◌≡◌, ℕ, ◌+◌, ◌-◌, ◌<◌, List, ◌++◌, length, take, drop, sym, ap, ◌∙◌, subst, arith, Some, None, slice_get}
 use Rattle.std.specs.List.{range_with_len}
 use Rattle.std.proofs.{Math.Seq.take-length, lemmas.List.{take-append-drop, length-take-le, FromFn.{length-range_with_len, get_or-range_with_len}}}
 use native.Mathlib.Decide.{dec_lt}

@@ -70,7 +70,7 @@ still_judged plan d old new is past count = record { past = subst (λ (p : Past)
 pub hand_later : (plan : PlanParts) (t : List Row) (f : Follower) → IsFollowerOf plan t f → AreEarlier (done_of t f) f.rows.items
 hand_later plan t f is i j x y p q =
     let z = get_there f.rows.items 0 (let l : j < length f.rows.items = slice_get_within f.rows.items j y q in omega arith) in
-    subst (λ (k : Tag). Before x.tag k) (is.at_one.1 0 z.0 z.1 ∙ sym (is.at_one.1 j y q)) (is.hand.held.earlier z.0 z.1 i x p)
+    subst (λ (k : Tag). Before x.tag k) (is.at_one.1 0 z.0 z.1 ∙ sym (is.at_one.1 j y q)) (is.held.earlier z.0 z.1 i x p)
 
 -- the first breach of the rules 6 to 10 before some tag is the first of all, where no row breaks another rule
 pub first_of_tags : (plan : PlanParts) (t : List Row) (high : Tag) (b : Breach) → IsFirstBefore plan (t ++ []) high b → KeepsRows plan t → First plan t b
@@ -88,7 +88,7 @@ first_of_tags plan t high b before keeps = inr (keeps, first.breaks, least)
 
 -- what is so of the rows at hand behind those that are judged is so of all
 pub at_end : (plan : PlanParts) (t : List Row) (f : Follower) → IsFollowerOf plan t f → (s : List Row) → s ≡ f.rows.items → (P : List Row → Type 0) → ((d : List Row) → IsJudgedOf plan d f.judged → AreEarlier d s → IsJudged plan (d ++ s) f.judged.reach → P (d ++ s)) → P t
-at_end plan t f is s rows P ends = subst P same (ends (done_of t f) is.hand.held.judged (subst (λ (u : List Row). AreEarlier (done_of t f) u) (sym rows) (hand_later plan t f is)) (subst (λ (u : List Row). IsJudged plan u f.judged.reach) (sym same) (judged_so_far plan t f is)))
+at_end plan t f is s rows P ends = subst P same (ends (done_of t f) is.held.judged (subst (λ (u : List Row). AreEarlier (done_of t f) u) (sym rows) (hand_later plan t f is)) (subst (λ (u : List Row). IsJudged plan u f.judged.reach) (sym same) (judged_so_far plan t f is)))
   where
     same : done_of t f ++ s ≡ t
-    same = ap (λ (u : List Row). done_of t f ++ u) rows ∙ sym is.hand.held.parts
+    same = ap (λ (u : List Row). done_of t f ++ u) rows ∙ sym is.parts

@@ -1,20 +1,24 @@
 -- What a follower holds, over more rows and over rows that are judged.
-use Rattle.std.proofs.Common.{◌≡◌, ℕ, ◌+◌, ◌-◌, ◌∷◌, ◌<◌, ◌≤◌, ◌⊎◌, inl, inr, List, [], ◌++◌, length, take, length-append, refl, sym, ap, ◌∙◌, subst, arith, Some, None, slice_get, slice_range}
+use Rattle.std.proofs.Common.{◌≡◌, ℕ, ◌+◌, ◌-◌, ◌∷◌, ◌<◌, ◌≤◌, ◌⊎◌, inl, inr, List, [], ◌++◌, length, take, length-append, refl, sym, ap, ◌∙◌, subst, arith, Option, Some, None, slice_get, slice_range}
+use Rattle.std.specs.Prelude.{MatchOption}
 use Rattle.std.proofs.{Math.Seq.{take-append_seam, take-length}, lemmas.List.{append_assoc, append-nil, take-append-le}}
 use native.Mathlib.Decide.{dec_lt}
 use Rattle.lft_tag.{specs.{declared.Tag.Tag, Tags.{Before, UpTo}}, proofs.Order.{UpTo-Before, UpTo-refl, UpTo_antisym, order_cases, split_up}}
 use Rattle.lft_ir.{proofs.Ranges.{length-range, range-get}, specs.{declared.steps.row.Row.Row, Steps.Fits.{RowFits, RowsFit}}}
-use Rattle.lft_lists.proofs.Places.{get_append_cases, get_right, get_there, same_at}
-use Rattle.lft_model.{specs.{declared.breach.Breach.Breach, Plans.PlanParts, Presence.stop}, proofs.Places.{slice_get_within, slice_get_take}}
+use Rattle.lft_lists.proofs.Places.{get_append_cases, get_left, get_right, get_there, same_at}
+use Rattle.lft_model.specs.{declared.breach.Breach.Breach, Plans.PlanParts, Presence.stop, Breaches.RowBreach}
+use Rattle.lft_model.proofs.Places.{slice_get_within, slice_get_take}
 use Rattle.lft_rows.specs.inner.{Firsts.FirstRow, Slices.Rises, Passes.{HasPassed, KeepsEarly}}
 use Rattle.lft_queue.specs.Coming.AtTag.{AreAt, AreBefore}
-use Rattle.lft_stream.proofs.Parting.{range_fits}
-use Rattle.lft_monitor.specs.declared.{gone.{Going.Going, Halt.TheVariants.{AtEnd, AtRow, AtLater}}, follower.Follower.Follower}
-use Rattle.lft_monitor.specs.declared.{judged.{Judged.Judged, Unjudged.Unjudged}, reach.Reach.Reach}
-use Rattle.lft_monitor.specs.inner.Going.{AreEnded, AreFewOpenRuns, IsGoing, IsGoneTo, IsFirstBad, IsRunLost, HasGone}
-use Rattle.lft_monitor.specs.inner.Follows.{done_of, AreCleanRows, IsGoneOver, IsFollowerOf, IsHalt, IsHeld, IsJudgedOf, IsOdd, IsTurn, IsUnjudged, BeginsLast}
-use Rattle.lft_monitor.specs.Follows.{IsCleanSoFar, IsCleanTo, IsJudged, IsOddSoFar, IsQuiet, IsSureBehind, IsSureSoFar}
-use Rattle.lft_monitor.proofs.{Judging.{accepted_rise, all_at, parted, rest_at}, Over.{apart, keeps_but_last, quiet}, Telling.{IsOf, bad_is_sure, lost_is_sure}}
+use Rattle.lft_stream.proofs.Parting.{range_fits, up_to_second}
+use Rattle.lft_monitor.specs.declared.{gone.{Going.Going, Halt.Halt}, follower.{Follower.Follower, Hitch.Hitch}, judged.{Judged.Judged, Unjudged.Unjudged}}
+use Rattle.lft_monitor.specs.declared.reach.Reach.{Reach}
+use Rattle.lft_monitor.specs.inner.Going.{AreEnded, AreFewOpenRuns, IsGoing, IsGoneTo, IsHalt}
+use Rattle.lft_monitor.specs.inner.Follows.{done_of, IsFollowedOn, IsFollowerOf, IsHeld, IsHitch, IsJudgedOf, IsJudgedTo, IsOdd, IsOddBehind, IsTurn, IsUnjudged, BeginsLast}
+use Rattle.lft_monitor.specs.Sure.{IsFirstBefore}
+use Rattle.lft_monitor.specs.Follows.{breach_of, IsBadRow, IsCleanSoFar, IsCleanTo, IsJudged, IsLostRun, IsOddSoFar, IsQuiet, IsSureBehind, IsSureSoFar, KeepsButLast}
+use Rattle.lft_monitor.proofs.{Judging.{accepted_rise, parted, rest_at}, Over.{apart, keeps_but_last, quiet}, Telling.{IsOf, bad_is_sure, lost_is_sure}}
+use Rattle.lft_monitor.specs.declared.follower.Hitch.TheVariants as hitch
 
 -- what is gone over is gone over still when more rows come behind
 pub going_more : (plan : PlanParts) (done rows more : List Row) (g : Going) → IsGoing plan done rows g → IsGoing plan done (rows ++ more) g
@@ -83,42 +87,19 @@ first_later : (xs ys d : List Row) (x : Row) → (xs ≡ [] → d ≡ []) → ((
 first_later [] ys d x some earlier e = subst (λ (u : List Row). AreBefore u x.tag) (sym (some refl)) (λ i y f. absurd (cc))
 first_later (z ∷ xs) ys d x some earlier e = earlier x e
 
--- more rows are held
-pub held_more : (plan : PlanParts) (t more : List Row) (old new : Follower) → IsFollowerOf plan t old → RowsFit plan.program more → new.judged ≡ old.judged → new.going ≡ old.going → new.rows.items ≡ old.rows.items ++ more → length new.rows.items ≤ 4000000 → IsGoneOver plan (t ++ more) new
-held_more plan t more old new is fit judged going rows few = record {
-  held = record {
-    parts = parts ∙ ap (λ (x : List Row). x ++ new.rows.items) (sym same);
-    judged = subst (λ (x : List Row). IsJudgedOf plan x new.judged) (sym same) (subst (IsJudgedOf plan done) (sym judged) h.judged);
-    fit = record { few = few; each = λ i x e. each i x (get_append_cases old.rows.items more i x (subst (λ (u : List Row). slice_get u i ≡ Some x) rows e)) };
-    earlier = λ x e. subst (λ (u : List Row). AreBefore u x.tag) (sym same) (earlier x (subst (λ (u : List Row). slice_get u 0 ≡ Some x) rows e));
-    some = λ none. same ∙ h.some (front_none old.rows.items more (sym rows ∙ none));
-  };
-  going = subst (λ (x : List Row). IsGoing plan x new.rows.items new.going) (sym same) (subst (λ (u : List Row). IsGoing plan done u new.going) (sym rows) (subst (λ (g : Going). IsGoing plan done (old.rows.items ++ more) g) (sym going) (going_more plan done old.rows.items more old.going is.hand.going)));
-}
-  where
-    h : IsHeld plan t old
-    h = is.hand.held
-
-    done : List Row
-    done = done_of t old
-
-    parts : t ++ more ≡ done ++ new.rows.items
-    parts = ap (λ (x : List Row). x ++ more) h.parts ∙ append_assoc done old.rows.items more ∙ ap (λ (x : List Row). done ++ x) (sym rows)
-
-    same : done_of (t ++ more) new ≡ done
-    same = done_is (t ++ more) done new.rows.items new.judged.count (ap (λ (j : Judged). j.count) judged ∙ h.judged.counted) parts
-
-    earlier : (x : Row) → slice_get (old.rows.items ++ more) 0 ≡ Some x → AreBefore done x.tag
-    earlier x e = first_later old.rows.items more done x h.some h.earlier e
-
-    each : (i : ℕ) (x : Row) → (slice_get old.rows.items i ≡ Some x) ⊎ ((j : ℕ) × (i ≡ length old.rows.items + j) × (slice_get more j ≡ Some x)) → RowFits plan.program x
-    each i x (inl e) = h.fit.each i x e
-    each i x (inr e) = fit.each e.0 x e.2
+-- more rows are at hand behind others
+pub held_more : (plan : PlanParts) (done held more : List Row) (j : Judged) → IsHeld plan done held j → RowsFit plan.program (held ++ more) → IsHeld plan done (held ++ more) j
+held_more plan done held more j h fit = record { judged = h.judged; fit = fit; earlier = λ x e. first_later held more done x h.some h.earlier e; some = λ none. h.some (front_none held more none) }
 
 -- the rows before the end of what is gone over
-pub gone_at : (plan : PlanParts) (done rows : List Row) (place end rule : ℕ) → IsHalt plan done rows place end rule → IsGoneTo plan done rows end
-gone_at plan done rows place end rule (inl (q, bad)) = subst (λ (n : ℕ). IsGoneTo plan done rows n) (sym q) bad.gone
-gone_at plan done rows place end rule (inr (q, lost)) = lost.gone
+pub gone_at : (plan : PlanParts) (done rows : List Row) (h : Halt) → IsHalt plan done rows h → IsGoneTo plan done rows h.end
+gone_at plan done rows h (inl (q, bad)) = subst (λ (n : ℕ). IsGoneTo plan done rows n) (sym q) bad.gone
+gone_at plan done rows h (inr (q, lost)) = lost.gone
+
+-- and its place are places of rows
+pub halts_within : (plan : PlanParts) (done rows : List Row) (h : Halt) → IsHalt plan done rows h → (h.place < length rows) × (h.end < length rows)
+halts_within plan done rows h (inl (q, bad)) = let l = slice_get_within rows h.place bad.row bad.is_row in (l, omega (arith, q, l))
+halts_within plan done rows h (inr (q, lost)) = (slice_get_within rows h.place lost.row lost.is_row, slice_get_within rows h.end lost.later lost.is_later)
 
 pub gone_all : (plan : PlanParts) (done rows : List Row) (g : Going) → IsGoing plan done rows g → g.passed ≡ length rows → IsGoneTo plan done rows (length rows)
 gone_all plan done rows g is all = subst (λ (n : ℕ). IsGoneTo plan done rows n) all (record { within = is.within; kept = subst (λ (k : Tag). KeepsEarly k plan (take g.passed rows) g.passed) is.stop_is is.passes.kept; ended = is.ended })
@@ -127,86 +108,76 @@ gone_all plan done rows g is all = subst (λ (n : ℕ). IsGoneTo plan done rows 
 pub begins_at : (rows : List Row) (g : Tag) → AreAt rows g → BeginsLast rows (length rows) 0
 begins_at rows g at = record { last = record { up = omega arith; at_one = λ i x z a b e f. at i x e ∙ sym (at (length rows - 1) z f) }; some = λ l. l; other = λ x z l. absurd (omega arith) }
 
-module _ (plan : PlanParts) (t : List Row) (f : Follower) (h : IsHeld plan t f) where
-  abbrev done : List Row
-  done = done_of t f
+-- rows are all from the first on
+pub whole_range : (rows : List Row) → rows ≡ slice_range rows 0 (length rows)
+whole_range rows = sym (up_to_second rows 0 (length rows) (omega arith) ∙ take-length rows)
 
+module _ (plan : PlanParts) (done rows : List Row) (j : Judged) (h : IsHeld plan done rows j) where
   settled : FirstRow (stop plan done) plan done None
   settled = h.judged.acceptor.stands.state.settled.rows
 
-  counted : (b : Breach) (place : ℕ) → b.row ≡ f.judged.count + place + 2 → b.row ≡ length done + place + 2
-  counted b place row = let a : f.judged.count ≡ length done = h.judged.counted in omega (arith, row, a)
-
-  abbrev items : List Row
-  items = f.rows.items
-
-  first : (x : Row) → slice_get items 0 ≡ Some x → AreBefore done x.tag
-  first = h.earlier
+  counted : (b : Breach) (place : ℕ) → b.row ≡ j.count + place + 2 → b.row ≡ length done + place + 2
+  counted b place row = let a : j.count ≡ length done = h.judged.counted in omega (arith, row, a)
 
   -- where rows at hand are gone over, and those before the last of them are judged, nothing is to be told of them
-  pub quiet_to : (i begin : ℕ) → IsGoneTo plan done items i → BeginsLast items i begin → (j : Judged) → IsJudgedOf plan (done ++ slice_range items 0 begin) j → IsQuiet plan (done ++ take i items)
-  quiet_to i begin gone begins j judged = quiet plan done items i gone settled first begin begins j.past judged.past
+  pub quiet_to : (i begin : ℕ) → IsGoneTo plan done rows i → BeginsLast rows i begin → (k : Judged) → IsJudgedOf plan (done ++ slice_range rows 0 begin) k → IsQuiet plan (done ++ take i rows)
+  quiet_to i begin gone begins k judged = quiet plan done rows i gone settled h.earlier begin begins k.past judged.past
 
   -- and what is found behind them is the first to be told
-  pub told_sure : (place end rule : ℕ) → IsHalt plan done items place end rule → (begin : ℕ) → BeginsLast items end begin → (j : Judged) → IsJudgedOf plan (done ++ slice_range items 0 begin) j → (b : Breach) → b.rule ≡ rule → b.row ≡ f.judged.count + place + 2 → ((x : Row) → slice_get items place ≡ Some x → IsOf b x) → IsSureSoFar plan t b
-  told_sure place end rule halt begin begins j judged b rule_is row is = (told.0, inl (subst (λ (x : List Row). IsSureBehind plan x b told.0) (sym h.parts) told.1))
+  pub told_sure : (halt : Halt) → IsHalt plan done rows halt → (begin : ℕ) → BeginsLast rows halt.end begin → (k : Judged) → IsJudgedOf plan (done ++ slice_range rows 0 begin) k → (b : Breach) → b.rule ≡ halt.rule → b.row ≡ j.count + halt.place + 2 → ((x : Row) → slice_get rows halt.place ≡ Some x → IsOf b x) → IsSureSoFar plan (done ++ rows) b
+  told_sure halt halts begin begins k judged b rule_is row is = (told.0, inl told.1)
     where
-      still : IsQuiet plan (done ++ take end items)
-      still = quiet_to end begin (gone_at plan done items place end rule halt) begins j judged
+      still : IsQuiet plan (done ++ take halt.end rows)
+      still = quiet_to halt.end begin (gone_at plan done rows halt halts) begins k judged
 
-      go : IsHalt plan done items place end rule → (n : ℕ) × IsSureBehind plan (done ++ items) b n
-      go (inl (q, bad)) = bad_is_sure plan done items settled first place rule bad (subst (λ (n : ℕ). IsQuiet plan (done ++ take n items)) q still) b rule_is (counted b place row) is
-      go (inr (q, lost)) = lost_is_sure plan done items settled first place end lost still b (rule_is ∙ q) (counted b place row) is
+      go : IsHalt plan done rows halt → (n : ℕ) × IsSureBehind plan (done ++ rows) b n
+      go (inl (q, bad)) = bad_is_sure plan done rows settled h.earlier halt.place halt.rule bad (subst (λ (n : ℕ). IsQuiet plan (done ++ take n rows)) q still) b rule_is (counted b halt.place row) is
+      go (inr (q, lost)) = lost_is_sure plan done rows settled h.earlier halt.place halt.end lost still b (rule_is ∙ q) (counted b halt.place row) is
 
-      told : (n : ℕ) × IsSureBehind plan (done ++ items) b n
-      told = go halt
+      told : (n : ℕ) × IsSureBehind plan (done ++ rows) b n
+      told = go halts
 
   -- what rows at hand are that are gone over up to an end, of which the last tag begins at a place
-  pub turn_to : (before more : List Row) → t ≡ before ++ more → AreCleanRows plan before done f.judged.reach → (end begin : ℕ) → IsGoneTo plan done items end → BeginsLast items end begin → IsTurn plan before more done items f.judged.reach begin end
-  turn_to before more whole is end begin gone begins = record { parts = sym whole ∙ h.parts; judged = is; gone = gone; begins = begins; kept = keeps_but_last plan done items end gone settled first }
+  pub turn_to : (end begin : ℕ) → IsGoneTo plan done rows end → BeginsLast rows end begin → IsTurn plan done rows begin end
+  turn_to end begin gone begins = record { gone = gone; begins = begins; kept = keeps_but_last plan done rows end gone settled h.earlier }
 
-  -- the rows but those at the last tag are judged
-  pub judged_on : IsGoing plan done f.rows.items f.going → f.going.passed ≡ length f.rows.items → (new : Follower) (begin : ℕ) → 0 < begin → BeginsLast f.rows.items (length f.rows.items) begin → IsJudgedOf plan (done ++ slice_range f.rows.items 0 begin) new.judged → ((rows : List Row) → IsGoing plan (done ++ slice_range f.rows.items 0 begin) rows new.going) → new.rows.items ≡ slice_range f.rows.items begin (length f.rows.items) → IsFollowerOf plan t new
-  judged_on gone all new begin some begins judged going rows = record {
-    hand = record {
-      held = record {
-        parts = parts ∙ ap (λ (x : List Row). x ++ new.rows.items) (sym same);
-        judged = subst (λ (x : List Row). IsJudgedOf plan x new.judged) (sym same) judged;
-        fit = subst (RowsFit plan.program) (sym rows) (range_fits f.rows.items begin (length f.rows.items) begins.last.up (omega arith) plan.program h.fit);
-        earlier = λ x e. subst (λ (u : List Row). AreBefore u x.tag) (sym same) (earlier x (subst (λ (u : List Row). slice_get u 0 ≡ Some x) rows e));
-        some = λ none. absurd (left (sym rows ∙ none));
-      };
-      going = subst (λ (x : List Row). IsGoing plan x new.rows.items new.going) (sym same) (going new.rows.items);
-    };
-    at_one = subst (λ (x : List Row). (g : Tag) × AreAt x g) (sym rows) (rest_at f.rows.items begin begins.last);
-  }
-    where
-      now : List Row
-      now = done ++ slice_range f.rows.items 0 begin
+  -- all rows at hand are gone over
+  module _ (g : Going) (going : IsGoing plan done rows g) (all : g.passed ≡ length rows) where
+    quiet_all : (begin : ℕ) → BeginsLast rows (length rows) begin → (k : Judged) → IsJudgedOf plan (done ++ slice_range rows 0 begin) k → IsQuiet plan (done ++ rows)
+    quiet_all begin begins k judged = subst (λ (x : List Row). IsQuiet plan (done ++ x)) (take-length rows) (quiet_to (length rows) begin (gone_all plan done rows g going all) begins k judged)
 
-      parts : t ≡ now ++ new.rows.items
-      parts = parted t done f.rows.items begin begins.last.up h.parts ∙ ap (λ (x : List Row). now ++ x) (sym rows)
+    -- and are at one tag
+    pub judged_none : BeginsLast rows (length rows) 0 → IsJudgedTo plan done rows j g 0
+    judged_none begins = record {
+      within = omega arith;
+      held = subst (λ (d : List Row). IsHeld plan d (slice_range rows 0 (length rows)) j) (sym (append-nil done)) (subst (λ (u : List Row). IsHeld plan done u j) (whole_range rows) h);
+      going = subst (λ (d : List Row). IsGoing plan d (slice_range rows 0 (length rows)) g) (sym (append-nil done)) (subst (λ (u : List Row). IsGoing plan done u g) (whole_range rows) going);
+      at_one = rest_at rows 0 begins.last;
+      quiet = quiet_all 0 begins j (subst (λ (d : List Row). IsJudgedOf plan d j) (sym (append-nil done)) h.judged);
+    }
 
-      same : done_of t new ≡ now
-      same = done_is t now new.rows.items new.judged.count judged.counted parts
+    -- or those before the last tag are judged
+    module _ (begin : ℕ) (some : 0 < begin) (begins : BeginsLast rows (length rows) begin) (k : Judged) (judged : IsJudgedOf plan (done ++ slice_range rows 0 begin) k) where
+      abbrev now : List Row
+      now = done ++ slice_range rows 0 begin
 
-      inside : begin < length items
-      inside = begins.some (let a : begin ≤ length items = begins.last.up in let b : 0 < begin = some in omega arith)
+      inside : begin < length rows
+      inside = begins.some (let a : begin ≤ length rows = begins.last.up in let b : 0 < begin = some in omega arith)
 
-      left : ¬ (slice_range items begin (length items) ≡ [])
-      left none = let a : length (slice_range items begin (length items)) ≡ length items - begin = length-range items begin (length items) (omega arith) in let b : length (slice_range items begin (length items)) ≡ 0 = ap (λ (x : List Row). length x) none in let l : begin < length items = inside in absurd (omega arith)
+      left : ¬ (slice_range rows begin (length rows) ≡ [])
+      left none = let a : length (slice_range rows begin (length rows)) ≡ length rows - begin = length-range rows begin (length rows) (omega arith) in let b : length (slice_range rows begin (length rows)) ≡ 0 = ap (λ (x : List Row). length x) none in let l : begin < length rows = inside in absurd (omega arith)
 
       -- the last of the rows that are judged, and the first of the others
-      last : (x : Row) × (slice_get items (begin - 1) ≡ Some x)
-      last = get_there items (begin - 1) (let l : begin < length items = inside in omega arith)
+      last : (x : Row) × (slice_get rows (begin - 1) ≡ Some x)
+      last = get_there rows (begin - 1) (let l : begin < length rows = inside in omega arith)
 
-      final : (x : Row) × (slice_get items (length items - 1) ≡ Some x)
-      final = get_there items (length items - 1) (let l : begin < length items = inside in omega arith)
+      final : (x : Row) × (slice_get rows (length rows - 1) ≡ Some x)
+      final = get_there rows (length rows - 1) (let l : begin < length rows = inside in omega arith)
 
-      rising : (j k : ℕ) (x y : Row) → j < k → slice_get items j ≡ Some x → slice_get items k ≡ Some y → UpTo x.tag y.tag
-      rising = rises_at_hand plan done items f.going gone all
+      rising : (i k : ℕ) (x y : Row) → i < k → slice_get rows i ≡ Some x → slice_get rows k ≡ Some y → UpTo x.tag y.tag
+      rising = rises_at_hand plan done rows g going all
 
-      last_before : (x : Row) → slice_get items begin ≡ Some x → Before last.0.tag x.tag
+      last_before : (x : Row) → slice_get rows begin ≡ Some x → Before last.0.tag x.tag
       last_before x e = go (split_up last.0.tag x.tag (rising (begin - 1) begin last.0 x (omega arith) last.1 e))
         where
           go : Before last.0.tag x.tag ⊎ (last.0.tag ≡ x.tag) → Before last.0.tag x.tag
@@ -214,32 +185,45 @@ module _ (plan : PlanParts) (t : List Row) (f : Follower) (h : IsHeld plan t f) 
           go (inr q) = absurd (begins.other last.0 final.0 some last.1 final.1 (q ∙ begins.last.at_one begin x final.0 (omega arith) inside e final.1))
 
       in_now : slice_get now (length done + (begin - 1)) ≡ Some last.0
-      in_now = get_right done (slice_range items 0 begin) (begin - 1) ∙ range-get items 0 begin (begin - 1) (omega arith) ∙ ap (λ (n : ℕ). slice_get items n) (let e : 0 + (begin - 1) ≡ begin - 1 = omega arith in e) ∙ last.1
+      in_now = get_right done (slice_range rows 0 begin) (begin - 1) ∙ range-get rows 0 begin (begin - 1) (omega arith) ∙ ap (λ (n : ℕ). slice_get rows n) (let e : 0 + (begin - 1) ≡ begin - 1 = omega arith in e) ∙ last.1
 
       long : length now ≡ length done + begin
-      long = let a : length now ≡ length done + length (slice_range items 0 begin) = length-append done (slice_range items 0 begin) in let b : length (slice_range items 0 begin) ≡ begin - 0 = length-range items 0 begin (let l : begin < length items = inside in omega arith) in omega arith
+      long = let a : length now ≡ length done + length (slice_range rows 0 begin) = length-append done (slice_range rows 0 begin) in let b : length (slice_range rows 0 begin) ≡ begin - 0 = length-range rows 0 begin (let l : begin < length rows = inside in omega arith) in omega arith
 
       up_to_last : (i : ℕ) (y : Row) → slice_get now i ≡ Some y → UpTo y.tag last.0.tag
       up_to_last i y e = go (dec_lt i (length done + (begin - 1)))
         where
           go : Dec (i < length done + (begin - 1)) → UpTo y.tag last.0.tag
-          go (yes l) = accepted_rise plan now new.judged.acceptor judged.acceptor i (length done + (begin - 1)) y last.0 l e in_now
+          go (yes l) = accepted_rise plan now k.acceptor judged.acceptor i (length done + (begin - 1)) y last.0 l e in_now
           go (no m) = let a : i < length now = slice_get_within now i y e in let b : length now ≡ length done + begin = long in let q : y ≡ last.0 = same_at now i (length done + (begin - 1)) y last.0 e in_now (omega arith) in subst (λ (z : Row). UpTo y.tag z.tag) q (UpTo-refl y.tag)
 
-      earlier : (x : Row) → slice_get (slice_range items begin (length items)) 0 ≡ Some x → AreBefore now x.tag
-      earlier x e i y f = UpTo-Before y.tag last.0.tag x.tag (up_to_last i y f) (last_before x (ap (λ (n : ℕ). slice_get items n) (let z : begin ≡ begin + 0 = omega arith in z) ∙ sym (range-get items begin (length items) 0 (let l : begin < length items = inside in omega arith)) ∙ e))
+      behind : (x : Row) → slice_get (slice_range rows begin (length rows)) 0 ≡ Some x → AreBefore now x.tag
+      behind x e i y f = UpTo-Before y.tag last.0.tag x.tag (up_to_last i y f) (last_before x (ap (λ (n : ℕ). slice_get rows n) (let z : begin ≡ begin + 0 = omega arith in z) ∙ sym (range-get rows begin (length rows) 0 (let l : begin < length rows = inside in omega arith)) ∙ e))
+
+      pub judged_on : (new : Going) → ((u : List Row) → IsGoing plan now u new) → IsJudgedTo plan done rows k new begin
+      judged_on new anew = record {
+        within = begins.last.up;
+        held = record {
+          judged = judged;
+          fit = range_fits rows begin (length rows) begins.last.up (omega arith) plan.program h.fit;
+          earlier = behind;
+          some = λ none. absurd (left none);
+        };
+        going = anew (slice_range rows begin (length rows));
+        at_one = rest_at rows begin begins.last;
+        quiet = quiet_all begin begins k judged;
+      }
 
 -- what is told of rows that can't be judged further
-pub odd_of : (plan : PlanParts) (t more done rows : List Row) (r : Reach) (begin end : ℕ) → IsTurn plan t more done rows r begin end → 0 < begin → begin < length rows → IsOdd plan t more r (length done + begin + 1)
-odd_of plan t more done rows r begin end turn some inside = record {
-  judged = turn.judged.0;
+pub odd_of : (plan : PlanParts) (done rows : List Row) (begin end : ℕ) → IsTurn plan done rows begin end → 0 < begin → begin < length rows → IsOddBehind (done ++ rows) (length done) (length done + begin + 1)
+odd_of plan done rows begin end turn some inside = record {
   place = length done + (begin - 1);
   row = last.0;
   next = next.0;
-  is_row = subst (λ (x : List Row). slice_get x (length done + (begin - 1)) ≡ Some last.0) (sym turn.parts) (get_right done rows (begin - 1) ∙ last.1);
-  is_next = subst (λ (x : List Row). slice_get x (length done + (begin - 1) + 1) ≡ Some next.0) (sym turn.parts) (ap (λ (n : ℕ). slice_get (done ++ rows) n) (let e : length done + (begin - 1) + 1 ≡ length done + begin = omega arith in e) ∙ get_right done rows begin ∙ next.1);
+  is_row = get_right done rows (begin - 1) ∙ last.1;
+  is_next = ap (λ (n : ℕ). slice_get (done ++ rows) n) (let e : length done + (begin - 1) + 1 ≡ length done + begin = omega arith in e) ∙ get_right done rows begin ∙ next.1;
   before = apart plan done rows end turn.gone begin turn.begins (begin - 1) begin last.0 next.0 (omega arith) (omega arith) (turn.begins.some (let l : begin ≤ end = turn.begins.last.up in omega arith)) last.1 next.1;
-  behind = let e : length turn.judged.0.done ≡ length done = ap (λ (x : List Row). length x) turn.judged.1 in omega arith;
+  behind = omega arith;
   line_is = omega arith;
 }
   where
@@ -254,31 +238,16 @@ clean_to : (plan : PlanParts) (t d u : List Row) (r : Reach) → t ≡ d ++ u �
 clean_to plan t d u r parts clean = record { within = let a : length t ≡ length d + length u = ap (λ (x : List Row). length x) parts ∙ length-append d u in omega arith; clean = subst (λ (x : List Row). IsCleanSoFar plan x r) (sym (done_is t d u (length d) refl parts)) clean }
 
 pub odd_so_far : (plan : PlanParts) (t more : List Row) (r : Reach) (line : ℕ) → IsOdd plan t more r line → IsOddSoFar plan (t ++ more) r line
-odd_so_far plan t more r line o = (length o.judged.done, clean_to plan (t ++ more) o.judged.done (o.judged.left ++ more) r (ap (λ (x : List Row). x ++ more) o.judged.parts ∙ append_assoc o.judged.done o.judged.left more) o.judged.clean, (let a : length o.judged.done ≤ o.place = o.behind in let b : line ≡ o.place + 2 = o.line_is in omega arith), let a : o.place + 1 < length (t ++ more) = slice_get_within (t ++ more) (o.place + 1) o.next o.is_next in let b : line ≡ o.place + 2 = o.line_is in omega arith)
+odd_so_far plan t more r line o = (length o.judged.done, clean_to plan (t ++ more) o.judged.done (o.judged.left ++ more) r (ap (λ (x : List Row). x ++ more) o.judged.parts ∙ append_assoc o.judged.done o.judged.left more) o.judged.clean, (let a : length o.judged.done ≤ o.odd.place = o.odd.behind in let b : line ≡ o.odd.place + 2 = o.odd.line_is in omega arith), let a : o.odd.place + 1 < length (t ++ more) = slice_get_within (t ++ more) (o.odd.place + 1) o.odd.next o.odd.is_next in let b : line ≡ o.odd.place + 2 = o.odd.line_is in omega arith)
 
 pub unjudged_so_far : (plan : PlanParts) (t : List Row) (u : Unjudged) → IsUnjudged plan t u → IsOddSoFar plan t u.reach u.line
 unjudged_so_far plan t u (inl judged, line) = (length judged.done, clean_to plan t judged.done judged.left u.reach judged.parts judged.clean, (let a : length t ≡ length judged.done + length judged.left = ap (λ (x : List Row). length x) judged.parts ∙ length-append judged.done judged.left in let b : u.line ≡ length t + 1 = line in omega arith), let b : u.line ≡ length t + 1 = line in omega arith)
 unjudged_so_far plan t u (inr clean, line) = (length t, clean_to plan t t [] u.reach (sym (append-nil t)) clean, (let b : u.line ≡ length t + 1 = line in omega arith), let b : u.line ≡ length t + 1 = line in omega arith)
 
--- all rows that are held are gone over, and those before the last of them are judged: nothing is to be told
-module _ (plan : PlanParts) (t : List Row) (f : Follower) (hand : IsGoneOver plan t f) (all : f.going.passed ≡ length f.rows.items) where
-  pub quiet_all : (begin : ℕ) → BeginsLast f.rows.items (length f.rows.items) begin → (j : Judged) → IsJudgedOf plan (done_of t f ++ slice_range f.rows.items 0 begin) j → IsQuiet plan t
-  quiet_all begin begins j judged = subst (λ (x : List Row). IsQuiet plan x) (ap (λ (x : List Row). done_of t f ++ x) (take-length f.rows.items) ∙ sym hand.held.parts) (quiet_to plan t f hand.held (length f.rows.items) begin (gone_all plan (done_of t f) f.rows.items f.going hand.going all) begins j judged)
-
-  pub quiet_at_one : (g : Tag) → AreAt f.rows.items g → IsQuiet plan t
-  quiet_at_one g at = quiet_all 0 (begins_at f.rows.items g at) f.judged (subst (λ (x : List Row). IsJudgedOf plan x f.judged) (sym (append-nil (done_of t f))) hand.held.judged)
-
--- all rows are at one tag
-pub at_one_tag : (plan : PlanParts) (t : List Row) (f : Follower) → IsGoneOver plan t f → BeginsLast f.rows.items (length f.rows.items) 0 → IsFollowerOf plan t f
-at_one_tag plan t f hand begins = record { hand = hand; at_one = all_at f.rows.items begins.last }
-
--- how far the rows are judged, and which
-pub done_so_far : (plan : PlanParts) (t : List Row) (f : Follower) → IsFollowerOf plan t f → AreCleanRows plan t (done_of t f) f.judged.reach
-done_so_far plan t f is = (record { done = done_of t f; left = f.rows.items; parts = h.parts; at_one = at_one f.rows.items h.some h.earlier is.at_one; some = h.some; clean = h.judged.clean }, refl)
+-- how far the rows are judged
+pub judged_so_far : (plan : PlanParts) (t : List Row) (f : Follower) → IsFollowerOf plan t f → IsJudged plan t f.judged.reach
+judged_so_far plan t f is = record { done = d; left = f.rows.items; parts = is.parts; at_one = at_one f.rows.items is.held.some is.held.earlier is.at_one; some = is.held.some; clean = is.held.judged.clean }
   where
-    h : IsHeld plan t f
-    h = is.hand.held
-
     d : List Row
     d = done_of t f
 
@@ -286,22 +255,22 @@ done_so_far plan t f is = (record { done = done_of t f; left = f.rows.items; par
     at_one [] some earlier g = (g.0, g.1, subst (λ (x : List Row). AreBefore x g.0) (sym (some refl)) (λ i x e. absurd (cc)))
     at_one (y ∷ u) some earlier g = (g.0, g.1, subst (λ (k : Tag). AreBefore d k) (g.1 0 y refl) (earlier y refl))
 
-pub judged_so_far : (plan : PlanParts) (t : List Row) (f : Follower) → IsFollowerOf plan t f → IsJudged plan t f.judged.reach
-judged_so_far plan t f is = (done_so_far plan t f is).0
+-- and the rows behind them are odd
+pub odd_of_first : (plan : PlanParts) (t more : List Row) (f : Follower) → IsFollowerOf plan t f → (line : ℕ) → IsOddBehind (t ++ more) (length (done_of t f)) line → IsOdd plan t more f.judged.reach line
+unfolding judged_so_far
+odd_of_first plan t more f is line odd = record { judged = judged_so_far plan t f is; odd = odd }
 
 -- before the first row
 pub new_follower : (plan : PlanParts) (f : Follower) → IsJudgedOf plan [] f.judged → ((rows : List Row) → IsGoing plan [] rows f.going) → f.rows.items ≡ [] → IsFollowerOf plan [] f
 new_follower plan f judged going none = record {
-  hand = record {
-    held = record {
-      parts = sym (none) ∙ ap (λ (x : List Row). x ++ f.rows.items) (sym same);
-      judged = subst (λ (x : List Row). IsJudgedOf plan x f.judged) (sym same) judged;
-      fit = subst (RowsFit plan.program) (sym none) (record { few = omega arith; each = λ i x e. absurd (cc) });
-      earlier = λ x e. subst (λ (u : List Row). AreBefore u x.tag) (sym same) (λ i y g. absurd (cc));
-      some = λ e. same;
-    };
-    going = subst (λ (x : List Row). IsGoing plan x f.rows.items f.going) (sym same) (going f.rows.items);
+  parts = sym (none) ∙ ap (λ (x : List Row). x ++ f.rows.items) (sym same);
+  held = record {
+    judged = subst (λ (x : List Row). IsJudgedOf plan x f.judged) (sym same) judged;
+    fit = subst (RowsFit plan.program) (sym none) (record { few = omega arith; each = λ i x e. absurd (cc) });
+    earlier = λ x e. subst (λ (u : List Row). AreBefore u x.tag) (sym same) (λ i y g. absurd (cc));
+    some = λ e. same;
   };
+  going = subst (λ (x : List Row). IsGoing plan x f.rows.items f.going) (sym same) (going f.rows.items);
   at_one = subst (λ (x : List Row). (g : Tag) × AreAt x g) (sym none) (record { time = 0; micro = 0 }, λ i x e. absurd (cc));
 }
   where
@@ -323,36 +292,143 @@ begins_within rows end begin begins within some = go (dec_lt 0 end)
     go (yes l) = let b : begin < end = begins.some l in omega (arith, b)
     go (no n) = omega (arith, up)
 
-module _ (plan : PlanParts) (t more : List Row) (old now : Follower) (is : IsFollowerOf plan t old) (hand : IsGoneOver plan (t ++ more) now) where
-  module _ (s : List Row) (rows : s ≡ now.rows.items) where
-    pub fit_over : RowsFit plan.program s
-    fit_over = subst (RowsFit plan.program) (sym rows) hand.held.fit
+module _ (plan : PlanParts) (t more : List Row) (old : Follower) (is : IsFollowerOf plan t old) where
+  abbrev pub rows : List Row
+  rows = old.rows.items ++ more
 
-    pub going_over : IsGoing plan (done_of (t ++ more) now) s now.going
-    going_over = subst (λ (x : List Row). IsGoing plan (done_of (t ++ more) now) x now.going) (sym rows) hand.going
+  -- rows and more behind them are those that are judged and those at hand
+  pub whole : t ++ more ≡ done_of t old ++ rows
+  whole = ap (λ (x : List Row). x ++ more) is.parts ∙ append_assoc (done_of t old) old.rows.items more
 
-    module _ (g : Going) where
-      abbrev pub then : Follower
-      then = record { judged = now.judged; going = g; rows = now.rows }
-
-      pub held_over : IsHeld plan (t ++ more) then
-      held_over = let h = hand.held in record { parts = h.parts; judged = h.judged; fit = h.fit; earlier = h.earlier; some = h.some }
-
-      pub over_end : HasGone plan (done_of (t ++ more) now) s g AtEnd → IsGoneOver plan (t ++ more) then × (g.passed ≡ length now.rows.items)
-      over_end gone = (record { held = held_over; going = subst (λ (x : List Row). IsGoing plan (done_of (t ++ more) now) x g) rows gone.0 }, gone.1 ∙ ap (λ (x : List Row). length x) rows)
-
-      pub over_row : (i k : ℕ) → HasGone plan (done_of (t ++ more) now) s g (AtRow i k) → (i < length now.rows.items) × IsHalt plan (done_of (t ++ more) now) now.rows.items i i k
-      over_row i k gone = let o = subst (λ (x : List Row). IsFirstBad plan (done_of (t ++ more) now) x i k) rows gone in (slice_get_within now.rows.items i o.row o.is_row, inl (refl, o))
-
-      pub over_later : (b i : ℕ) → HasGone plan (done_of (t ++ more) now) s g (AtLater b i) → (b < length now.rows.items) × (i < length now.rows.items) × IsHalt plan (done_of (t ++ more) now) now.rows.items b i 5
-      over_later b i gone = let o = subst (λ (x : List Row). IsRunLost plan (done_of (t ++ more) now) x b i) rows gone in (slice_get_within now.rows.items b o.row o.is_row, slice_get_within now.rows.items i o.later o.is_later, inr (refl, o))
-
-  -- what was judged before is what is done
-  pub still_done : now.judged ≡ old.judged → AreCleanRows plan t (done_of (t ++ more) now) now.judged.reach
-  still_done same = subst (λ (j : Judged). AreCleanRows plan t (take j.count (t ++ more)) j.reach) (sym same) (before.0, before.1 ∙ sym (take-append-le old.judged.count t more few))
+  pub fit_more : RowsFit plan.program more → length old.rows.items + length more ≤ 4000000 → RowsFit plan.program rows
+  fit_more fit few = record { few = let a : length rows ≡ length old.rows.items + length more = length-append old.rows.items more in omega (arith, a, few); each = λ i x e. each i x (get_append_cases old.rows.items more i x e) }
     where
-      before : AreCleanRows plan t (done_of t old) old.judged.reach
-      before = done_so_far plan t old is
+      each : (i : ℕ) (x : Row) → (slice_get old.rows.items i ≡ Some x) ⊎ ((j : ℕ) × (i ≡ length old.rows.items + j) × (slice_get more j ≡ Some x)) → RowFits plan.program x
+      each i x (inl e) = is.held.fit.each i x e
+      each i x (inr e) = fit.each e.0 x e.2
 
-      few : old.judged.count ≤ length t
-      few = let a : old.judged.count ≡ length (done_of t old) = is.hand.held.judged.counted in let b : length t ≡ length (done_of t old) + length old.rows.items = ap (λ (x : List Row). length x) is.hand.held.parts ∙ length-append (done_of t old) old.rows.items in omega (arith, a, b)
+  module _ (s : List Row) (same : s ≡ rows) where
+    pub held_over : RowsFit plan.program s → IsHeld plan (done_of t old) s old.judged
+    held_over fit = subst (λ (u : List Row). IsHeld plan (done_of t old) u old.judged) (sym same) (held_more plan (done_of t old) old.rows.items more old.judged is.held (subst (λ (u : List Row). RowsFit plan.program u) same fit))
+
+    pub going_over : IsGoing plan (done_of t old) s old.going
+    going_over = subst (λ (u : List Row). IsGoing plan (done_of t old) u old.going) (sym same) (going_more plan (done_of t old) old.rows.items more old.going is.going)
+
+    -- where they aren't gone past
+    pub hitch_over : (h : Hitch) → IsHitch plan (done_of t old ++ s) (length (done_of t old)) h → IsHitch plan (t ++ more) (length (done_of t old)) h
+    hitch_over h stuck = subst (λ (u : List Row). IsHitch plan u (length (done_of t old)) h) (ap (λ (u : List Row). done_of t old ++ u) same ∙ sym whole) stuck
+
+    -- where those before a place are judged, and the others are held
+    pub followed_on : (new : Follower) (begin : ℕ) → IsJudgedTo plan (done_of t old) s new.judged new.going begin → new.rows.items ≡ slice_range s begin (length s) → IsFollowedOn plan t more old new
+    followed_on new begin to left = record {
+      follows = record {
+        parts = parts ∙ ap (λ (x : List Row). x ++ new.rows.items) (sym judged);
+        held = subst (λ (x : List Row). IsHeld plan x new.rows.items new.judged) (sym judged) (subst (λ (u : List Row). IsHeld plan now u new.judged) (sym left) to.held);
+        going = subst (λ (x : List Row). IsGoing plan x new.rows.items new.going) (sym judged) (subst (λ (u : List Row). IsGoing plan now u new.going) (sym left) to.going);
+        at_one = subst (λ (u : List Row). (g : Tag) × AreAt u g) (sym left) to.at_one;
+      };
+      quiet = subst (λ (u : List Row). IsQuiet plan u) (sym both) to.quiet;
+      further = let a : length (done_of (t ++ more) new) ≡ length now = ap (λ (x : List Row). length x) judged in let b : length now ≡ length (done_of t old) + length (slice_range s 0 begin) = length-append (done_of t old) (slice_range s 0 begin) in omega (arith, a, b);
+    }
+      where
+        now : List Row
+        now = done_of t old ++ slice_range s 0 begin
+
+        both : t ++ more ≡ done_of t old ++ s
+        both = whole ∙ ap (λ (u : List Row). done_of t old ++ u) (sym same)
+
+        parts : t ++ more ≡ now ++ new.rows.items
+        parts = parted (t ++ more) (done_of t old) s begin to.within both ∙ ap (λ (x : List Row). now ++ x) (sym left)
+
+        judged : done_of (t ++ more) new ≡ now
+        judged = done_is (t ++ more) now new.rows.items new.judged.count to.held.judged.counted parts
+
+-- a list that ends as one with others before it does
+front_cut : (t a d u : List Row) → t ++ a ≡ d ++ u → length u ≤ length a → (v : List Row) × (a ≡ v ++ u)
+front_cut [] a d u e few = (d, e)
+front_cut (x ∷ t) a [] u e few = absurd (let p : length (x ∷ (t ++ a)) ≡ length u = ap (λ (y : List Row). length y) e in let q = length-append t a in omega (arith, p, q, few))
+front_cut (x ∷ t) a (y ∷ d) u e few = front_cut t a d u (let q : t ++ a ≡ d ++ u = cc in q) few
+
+-- what is behind the first rows
+range_behind : (more u v : List Row) (n : ℕ) → n ≡ length u → more ≡ u ++ v → slice_range more n (length more) ≡ v
+range_behind more u v n long parts = right u v (slice_range more 0 n) (slice_range more n (length more)) (sym parts ∙ parted more [] more n within refl) (sym long ∙ sym cut)
+  where
+    within : n ≤ length more
+    within = let l : length more ≡ length u + length v = ap (λ (x : List Row). length x) parts ∙ length-append u v in omega (arith, l, long)
+
+    cut : length (slice_range more 0 n) ≡ n
+    cut = let l : length (slice_range more 0 n) ≡ n - 0 = length-range more 0 n within in omega (arith, l)
+
+    right : (u v w x : List Row) → u ++ v ≡ w ++ x → length u ≡ length w → x ≡ v
+    right [] v [] x e l = sym e
+    right [] v (y ∷ w) x e l = absurd (omega (arith, l))
+    right (y ∷ u) v [] x e l = absurd (omega (arith, l))
+    right (y ∷ u) v (z ∷ w) x e l = right u v w x (let q : u ++ v ≡ w ++ x = cc in q) (omega (arith, l))
+
+-- what is sure of rows is sure with more behind them
+sure_longer : (plan : PlanParts) (t u : List Row) (b : Breach) → IsSureSoFar plan t b → IsSureSoFar plan (t ++ u) b
+sure_longer plan t u b (n, inl x) = (n, inl (record { within = let l = length-append t u in let m = x.within in omega (arith, l, m); breaks = subst (λ (v : List Row). RowBreach plan v b) (sym same) x.breaks; sure = go x.sure }))
+  where
+    same : take n (t ++ u) ≡ take n t
+    same = take-append-le n t u x.within
+
+    less : take (n - 1) (t ++ u) ≡ take (n - 1) t
+    less = take-append-le (n - 1) t u (let m = x.within in omega (arith, m))
+
+    go : IsBadRow plan t b n ⊎ IsLostRun plan t b n → IsBadRow plan (t ++ u) b n ⊎ IsLostRun plan (t ++ u) b n
+    go (inl y) = inl (record { rule = y.rule; last = y.last; quiet = subst (λ (v : List Row). IsQuiet plan v) (sym less) y.quiet; least = λ c r. y.least c (subst (λ (v : List Row). RowBreach plan v c) same r); ended = λ c r. y.ended c (subst (λ (v : List Row). RowBreach plan v c) same r) })
+    go (inr y) = inr (record { rule = y.rule; next = y.next; is_next = get_left t u n y.next y.is_next; before = y.before; quiet = subst (λ (v : List Row). IsQuiet plan v) (sym same) y.quiet; first = λ c r. y.first c (subst (λ (v : List Row). RowBreach plan v c) same r) })
+sure_longer plan t u b (n, inr x) = (n, inr (record { within = let l = length-append t u in let m = x.within in omega (arith, l, m); some = x.some; row = x.row; last = get_left t u (n - 1) x.row x.last; first = subst (λ (v : List Row). IsFirstBefore plan v x.row.tag b) (sym same) x.first; kept = subst (λ (v : List Row). KeepsButLast plan v) (sym same) x.kept }))
+  where
+    same : take n (t ++ u) ≡ take n t
+    same = take-append-le n t u x.within
+
+hitch_longer : (plan : PlanParts) (t u : List Row) (n : ℕ) (h : Hitch) → IsHitch plan t n h → IsHitch plan (t ++ u) n h
+hitch_longer plan t u n (hitch.Broken f) sure = sure_longer plan t u (breach_of f) sure
+hitch_longer plan t u n (hitch.Odd line) odd = record { place = odd.place; row = odd.row; next = odd.next; is_row = get_left t u odd.place odd.row odd.is_row; is_next = get_left t u (odd.place + 1) odd.next odd.is_next; before = odd.before; behind = odd.behind; line_is = odd.line_is }
+
+-- rows are followed on in two parts
+module _ (plan : PlanParts) (t a b more : List Row) (old : Follower) (both : a ++ b ≡ more) where
+  joined : (t ++ a) ++ b ≡ t ++ more
+  joined = append_assoc t a b ∙ ap (λ (x : List Row). t ++ x) both
+
+  pub hitch_in_first : (h : Hitch) → IsHitch plan (t ++ a) (length (done_of t old)) h → IsHitch plan (t ++ more) (length (done_of t old)) h
+  hitch_in_first h is = subst (λ (x : List Row). IsHitch plan x (length (done_of t old)) h) joined (hitch_longer plan (t ++ a) b (length (done_of t old)) h is)
+
+  module _ (mid : Follower) (first : IsFollowedOn plan t a old mid) where
+    hitch_in_two : (h : Hitch) → IsHitch plan ((t ++ a) ++ b) (length (done_of (t ++ a) mid)) h → IsHitch plan (t ++ more) (length (done_of t old)) h
+    hitch_in_two (hitch.Broken f) sure = subst (λ (x : List Row). IsSureSoFar plan x (breach_of f)) joined sure
+    hitch_in_two (hitch.Odd line) odd = subst (λ (x : List Row). IsOddBehind x (length (done_of t old)) line) joined (record { place = odd.place; row = odd.row; next = odd.next; is_row = odd.is_row; is_next = odd.is_next; before = odd.before; behind = let p = first.further in let q = odd.behind in omega (arith, p, q); line_is = odd.line_is })
+
+    pub in_two : (new : Follower) (o : Option Hitch) → MatchOption o (IsFollowedOn plan (t ++ a) b mid new) (IsHitch plan ((t ++ a) ++ b) (length (done_of (t ++ a) mid))) → MatchOption o (IsFollowedOn plan t more old new) (IsHitch plan (t ++ more) (length (done_of t old)))
+    in_two new None second = record {
+      follows = subst (λ (x : List Row). IsFollowerOf plan x new) joined second.follows;
+      quiet = subst (λ (x : List Row). IsQuiet plan x) joined second.quiet;
+      further = let p = first.further in let q = second.further in let r = ap (λ (x : List Row). length (done_of x new)) joined in omega (arith, p, q, r);
+    }
+    in_two new (Some h) is = hitch_in_two h is
+
+    -- the rows that are held behind the first part end it
+    pub tail_held : (n : ℕ) → n + length mid.rows.items ≡ length a → slice_range more n (length more) ≡ mid.rows.items ++ b
+    tail_held n long = by (front_cut t a (done_of (t ++ a) mid) mid.rows.items first.follows.parts (omega (arith, long)))
+      where
+        by : (u : List Row) × (a ≡ u ++ mid.rows.items) → slice_range more n (length more) ≡ mid.rows.items ++ b
+        by (u, cut) = range_behind more u (mid.rows.items ++ b) n (let p = ap (λ (x : List Row). length x) cut ∙ length-append u mid.rows.items in omega (arith, p, long)) (sym both ∙ ap (λ (x : List Row). x ++ b) cut ∙ append_assoc u mid.rows.items b)
+
+    module _ (is : IsFollowerOf plan t old) where
+      whole_is : length t ≡ length (done_of t old) + length old.rows.items
+      whole_is = ap (λ (x : List Row). length x) is.parts ∙ length-append (done_of t old) old.rows.items
+
+      first_is : length (t ++ a) ≡ length (done_of (t ++ a) mid) + length mid.rows.items
+      first_is = ap (λ (x : List Row). length x) first.follows.parts ∙ length-append (done_of (t ++ a) mid) mid.rows.items
+
+      more_is : length more ≡ length a + length b
+      more_is = ap (λ (x : List Row). length x) (sym both) ∙ length-append a b
+
+      -- no more are held with the rest than were with all
+      pub holds_on : length mid.rows.items + length b ≤ length old.rows.items + length more
+      holds_on = let u = length-append t a in let f = first.further in omega (arith, whole_is, first_is, more_is, u, f)
+
+      -- and no more are there to be judged
+      pub counts_on : mid.judged.count + length mid.rows.items + length b ≡ old.judged.count + length old.rows.items + length more
+      counts_on = let u = length-append t a in let q = is.held.judged.counted in let s = first.follows.held.judged.counted in omega (arith, whole_is, first_is, more_is, u, q, s)

@@ -267,10 +267,9 @@ module _ (plan : PlanParts) (event : Event) (place : ℕ) (within : place ≤ le
   -- an event that isn't before the rows at hand
   pub follower_more : (t : List Row) (f : Follower) → AreBefore (done_of t f) event.tag → IsFollowerOf plan t f → IsFollowerOf more t f
   follower_more t f before is = record {
-    hand = record {
-      held = record { parts = is.hand.held.parts; judged = judged_more (done_of t f) f.judged before is.hand.held.judged; fit = is.hand.held.fit; earlier = is.hand.held.earlier; some = is.hand.held.some };
-      going = going_more (done_of t f) f.rows.items f.going is.hand.going;
-    };
+    parts = is.parts;
+    held = record { judged = judged_more (done_of t f) f.judged before is.held.judged; fit = is.held.fit; earlier = is.held.earlier; some = is.held.some };
+    going = going_more (done_of t f) f.rows.items f.going is.going;
     at_one = is.at_one;
   }
 

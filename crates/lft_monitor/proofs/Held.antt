@@ -6,12 +6,9 @@ use Rattle.lft_lists.proofs.Places.{get_left, get_right, get_there}
 use Rattle.lft_ir.specs.declared.steps.row.Row.{Row}
 use Rattle.lft_model.specs.Plans.{PlanParts}
 use Rattle.lft_queue.specs.Coming.AtTag.{AreAt}
-use Rattle.lft_monitor.specs.{Follows.HasManyAtLast, inner.Follows.{IsFollowerOf, IsHeld, done_of}, declared.follower.Follower.Follower}
+use Rattle.lft_monitor.specs.{Follows.HasManyAtLast, inner.Follows.{IsFollowerOf, done_of}, declared.follower.Follower.Follower}
 
 module _ (plan : PlanParts) (t : List Row) (f : Follower) (is : IsFollowerOf plan t f) where
-  abbrev h : IsHeld plan t f
-  h = is.hand.held
-
   abbrev d : List Row
   d = done_of t f
 
@@ -19,7 +16,7 @@ module _ (plan : PlanParts) (t : List Row) (f : Follower) (is : IsFollowerOf pla
   items = f.rows.items
 
   whole : length t ≡ length d + length items
-  whole = ap (λ (u : List Row). length u) h.parts ∙ length-append d items
+  whole = ap (λ (u : List Row). length u) is.parts ∙ length-append d items
 
   -- of the rows that are judged none is at the last tag
   pub most_held : (done held : List Row) → t ≡ done ++ held → (g : Tag) → AreAt held g → length held ≤ length f.rows.items
@@ -40,7 +37,7 @@ module _ (plan : PlanParts) (t : List Row) (f : Follower) (is : IsFollowerOf pla
 
           go : Dec (0 < length items) → 0 < length items
           go (yes m) = m
-          go (no m) = let none : length d ≡ 0 = ap (λ (u : List Row). length u) (h.some (nothing items (omega (arith, m)))) in absurd (omega (arith, none, l))
+          go (no m) = let none : length d ≡ 0 = ap (λ (u : List Row). length u) (is.held.some (nothing items (omega (arith, m)))) in absurd (omega (arith, none, l))
 
       go : Dec (length items < length held) → length held ≤ length items
       go (no m) = omega (arith, m)
@@ -48,9 +45,9 @@ module _ (plan : PlanParts) (t : List Row) (f : Follower) (is : IsFollowerOf pla
           let one : 0 < length d = omega (arith, whole, both, l) in
           let last = get_there d (length d - 1) (omega (arith, one)) in
           let first = get_there items 0 (some one) in
-          let x_at = in_held (length d - 1) (length d - 1 - length done) last.0 (omega (arith, whole, both, l)) (subst (λ (u : List Row). slice_get u (length d - 1) ≡ Some last.0) (sym h.parts) (get_left d items (length d - 1) last.0 last.1)) in
-          let y_at = in_held (length d + 0) (length d - length done) first.0 (omega (arith, whole, both, l)) (subst (λ (u : List Row). slice_get u (length d + 0) ≡ Some first.0) (sym h.parts) (get_right d items 0 ∙ first.1)) in
-          let before = h.earlier first.0 first.1 (length d - 1) last.0 last.1 in
+          let x_at = in_held (length d - 1) (length d - 1 - length done) last.0 (omega (arith, whole, both, l)) (subst (λ (u : List Row). slice_get u (length d - 1) ≡ Some last.0) (sym is.parts) (get_left d items (length d - 1) last.0 last.1)) in
+          let y_at = in_held (length d + 0) (length d - length done) first.0 (omega (arith, whole, both, l)) (subst (λ (u : List Row). slice_get u (length d + 0) ≡ Some first.0) (sym is.parts) (get_right d items 0 ∙ first.1)) in
+          let before = is.held.earlier first.0 first.1 (length d - 1) last.0 last.1 in
           absurd (Before-irrefl g (subst (λ (k : Tag). Before k g) x_at (subst (λ (k : Tag). Before last.0.tag k) y_at before)))
 
   -- where the follower can hold more rows with those at the last tag, these aren't too many

@@ -48,12 +48,12 @@ last_up t r x n rises is at long = go r.tag is.last
             subst (λ (y : Row). UpTo g y.tag) q (UpTo-refl g)
 
 -- more rows are judged
-pub judged_more : (plan : PlanParts) (d u : List Row) (old new : Judged) → IsJudgedOf plan d old → 0 < length u → old.count ≤ 2 ^ 62 → length u ≤ 4000000 → IsAcceptorOf plan (d ++ u) new.acceptor → ((x : Row) → slice_get u (length u - 1) ≡ Some x → IsUnbroken plan (d ++ u) (after x.tag 0)) → IsPastOfRows plan (d ++ u) new.past → new.count ≡ old.count + length u → IsReach (d ++ u) new.reach → IsJudgedOf plan (d ++ u) new
-judged_more plan d u old new is some few short acceptor clean past count reach = record {
+pub judged_more : (plan : PlanParts) (d u : List Row) (old new : Judged) → IsJudgedOf plan d old → 0 < length u → old.count + length u ≤ 2 ^ 62 + 4000000 → IsAcceptorOf plan (d ++ u) new.acceptor → ((x : Row) → slice_get u (length u - 1) ≡ Some x → IsUnbroken plan (d ++ u) (after x.tag 0)) → IsPastOfRows plan (d ++ u) new.past → new.count ≡ old.count + length u → IsReach (d ++ u) new.reach → IsJudgedOf plan (d ++ u) new
+judged_more plan d u old new is some few acceptor clean past count reach = record {
   acceptor = acceptor;
   past = past;
   counted = let a : old.count ≡ length d = is.counted in let b : length (d ++ u) ≡ length d + length u = length-append d u in let c : new.count ≡ old.count + length u = count in omega arith;
-  few = let a : old.count ≤ 2 ^ 62 = few in let b : length u ≤ 4000000 = short in let c : new.count ≡ old.count + length u = count in omega arith;
+  few = let c : new.count ≡ old.count + length u = count in omega (arith, few, c);
   clean = record { reach = reach; unbroken = lower plan (d ++ u) (low_of new.reach.tag) (after last.0.tag 0) up (clean last.0 last.1) };
 }
   where

@@ -24,7 +24,7 @@ reach_up t r g is before = go r.tag is.last
 module _ (plan : PlanParts) (t : List Row) (f : Follower) (g : Tag) (is : IsFollowerOf plan t f) where
   -- a row at hand that is past the tag is a row
   pub is_passed : (x : Row) → slice_get f.rows.items 0 ≡ Some x → Before g x.tag → IsPassed t g
-  is_passed x at b = (length (done_of t f) + 0, x, subst (λ (u : List Row). slice_get u (length (done_of t f) + 0) ≡ Some x) (sym is.hand.held.parts) (get_right (done_of t f) f.rows.items 0 ∙ at), b)
+  is_passed x at b = (length (done_of t f) + 0, x, subst (λ (u : List Row). slice_get u (length (done_of t f) + 0) ≡ Some x) (sym is.parts) (get_right (done_of t f) f.rows.items 0 ∙ at), b)
 
   module _ (not : (x : Row) → slice_get f.rows.items 0 ≡ Some x → ¬ Before g x.tag) where
     -- where the first row at hand isn't past the tag, none of them is
@@ -40,11 +40,11 @@ module _ (plan : PlanParts) (t : List Row) (f : Follower) (g : Tag) (is : IsFoll
     done_before = go f.rows.items refl
       where
         go : (rows : List Row) → f.rows.items ≡ rows → AreBefore (done_of t f) g
-        go [] e i x at = let p : Some x ≡ None = sym at ∙ ap (λ (rows : List Row). slice_get rows i) (is.hand.held.some e) in absurd (cc)
-        go (y ∷ ys) e i x at = let first : slice_get f.rows.items 0 ≡ Some y = ap (λ (rows : List Row). slice_get rows 0) e in Before-UpTo x.tag y.tag g (is.hand.held.earlier y first i x at) (hand_up 0 y first)
+        go [] e i x at = let p : Some x ≡ None = sym at ∙ ap (λ (rows : List Row). slice_get rows i) (is.held.some e) in absurd (cc)
+        go (y ∷ ys) e i x at = let first : slice_get f.rows.items 0 ≡ Some y = ap (λ (rows : List Row). slice_get rows 0) e in Before-UpTo x.tag y.tag g (is.held.earlier y first i x at) (hand_up 0 y first)
 
     pub not_passed : ¬ IsPassed t g
-    not_passed p = go (get_append_cases (done_of t f) f.rows.items p.0 p.1 (subst (λ (u : List Row). slice_get u p.0 ≡ Some p.1) is.hand.held.parts p.2))
+    not_passed p = go (get_append_cases (done_of t f) f.rows.items p.0 p.1 (subst (λ (u : List Row). slice_get u p.0 ≡ Some p.1) is.parts p.2))
       where
         go : (slice_get (done_of t f) p.0 ≡ Some p.1) ⊎ ((j : ℕ) × (p.0 ≡ length (done_of t f) + j) × (slice_get f.rows.items j ≡ Some p.1)) → ⊥
         go (inl at) = Before-irrefl g (Before-trans g p.1.tag g p.3 (done_before p.0 p.1 at))

@@ -187,10 +187,9 @@ module _ (plan : PlanParts) (g : Tag) where
   -- a follower whose rows are none of them past the tag
   pub follower_sooner : (t : List Row) (f : Follower) → ((i : ℕ) (x : Row) → slice_get f.rows.items i ≡ Some x → UpTo x.tag g) → AreBefore (done_of t f) g → IsFollowerOf plan t f → IsFollowerOf sooner t (record f { judged = stopped_judged f.judged g; going = record f.going { stop = earlier g f.going.stop } })
   follower_sooner t f up before is = record {
-    hand = record {
-      held = record { parts = is.hand.held.parts; judged = judged_sooner (done_of t f) before f.judged is.hand.held.judged; fit = is.hand.held.fit; earlier = is.hand.held.earlier; some = is.hand.held.some };
-      going = going_sooner (done_of t f) f.rows.items f.going up is.hand.going;
-    };
+    parts = is.parts;
+    held = record { judged = judged_sooner (done_of t f) before f.judged is.held.judged; fit = is.held.fit; earlier = is.held.earlier; some = is.held.some };
+    going = going_sooner (done_of t f) f.rows.items f.going up is.going;
     at_one = is.at_one;
   }
 

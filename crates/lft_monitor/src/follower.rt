@@ -1,14 +1,15 @@
 //! Rows that are judged while they come.
 
-ghost use Rattle.std.specs.Prelude.{◌≡◌, ◌↔◌, ◌<◌, ◌≤◌, ◌^◌, ℕ, List, [], ◌++◌, length, Some, true, false, IfErr, IfOk, OnErr, IsTrue, MatchOption, slice_get, slice_range};
+ghost use Rattle.std.specs.Prelude.{◌≡◌, ◌↔◌, ◌+◌, ◌<◌, ◌≤◌, ◌^◌, ℕ, List, [], ◌++◌, length, Some, true, false, IfErr, IfOk, OnErr, IsTrue, MatchOption, slice_get, slice_range};
 ghost use Rattle.lft_tag.specs.{declared.Tag.Tag as TheTag, Tags.{Before, IsRecorded}};
 ghost use Rattle.lft_ir.specs.{declared.steps.row.Row.Row as TheRow, Steps.Fits.{EventFits, RowsFit}};
 ghost use Rattle.lft_model.specs.Plans.{PlanParts};
 ghost use Rattle.lft_rows.specs.inner.Slices.{Rises};
 ghost use Rattle.lft_queue.specs.Coming.AtTag.{AreAt};
 ghost use Rattle.lft_stream.specs.inner.Kept.{KeepRules};
-ghost use Rattle.lft_monitor.specs.inner.Follows.{AreCleanRows, IsGoneOver, IsHeld, IsFollowerOf, IsHalt, IsReceipt, stopped_at, TellsProgress, IsClosing, IsEnding, IsJudgedOf, IsTurn, IsUnjudged, BeginsLast, done_of};
-ghost use Rattle.lft_monitor.specs.{Follows.{IsPassed, HasManyLater, IsJudged}, OpenRuns.AreOpenRuns, declared.follower.Follower.Follower as TheFollower};
+ghost use Rattle.lft_monitor.specs.inner.Going.{IsGoing, IsHalt};
+ghost use Rattle.lft_monitor.specs.inner.Follows.{IsHeld, IsHitch, IsFollowedOn, IsFollowerOf, IsJudgedTo, IsReceipt, stopped_at, TellsProgress, IsClosing, IsEnding, IsJudgedOf, IsTurn, IsUnjudged, done_of};
+ghost use Rattle.lft_monitor.specs.{Follows.{IsPassed, HasManyLater, IsJudged}, OpenRuns.AreOpenRuns};
 
 use crate::found::{BrokenRule, found_at, found_of};
 use crate::gone::{Going, Halt};
@@ -58,6 +59,9 @@ const MOST: u64 = 1 << 62;
 /// falling order would cost the square of their number.
 const MOST_LATER: usize = 65_536;
 
+/// Fewer rows are copied: to judge them in two parts would cost more.
+const FEW: usize = 1_024;
+
 /// What is kept of rows so far: those of the last tag, and of those before what causes something later.
 #[derive(Drop)]
 pub struct Follower {
@@ -67,21 +71,29 @@ pub struct Follower {
     rows: Vec<Row>,
 }
 
-/// Judges the rows before the place, at which the first row of a later tag stands. It is what is told,
-/// where they may break a rule. They are known to break none of the rules 1 to 5.
+/// Why rows behind those that are judged aren't gone past.
+#[derive(Clone, Copy, Drop)]
+pub(crate) enum Hitch {
+    Broken(BrokenRule),
+    /// Of the rows up to the line too much is to be kept or looked at, or memory is refused.
+    Odd(u64),
+}
+
+/// Judges the rows before the place, at which the first row of a later tag stands. None where they break no
+/// rule. They are known to break none of the rules 1 to 5.
 fn judge_before(
     alloc: Global,
     plan: &Plan,
     judged: &mut Judged,
     rows: &[Row],
     begin: usize,
-) -> Result<Option<Progress>, NoMemory>
-    requires few { judged.old.count ≤ 2 ^ 62 }
+) -> Result<Option<Hitch>, NoMemory>
+    requires few { judged.old.count + length rows.now ≤ 2 ^ 62 + 4000000 }
     requires fit { RowsFit plan.now.program rows.now }
     requires begin { begin < length rows.now }
     requires kept { KeepRules plan.now (slice_range rows.now 0 begin) }
     requires stands { (done : List TheRow) × IsJudgedOf plan.now done judged.old }
-    ensures { IfOk result (λ o. (done : List TheRow) → IsJudgedOf plan.now done judged.old → MatchOption o (IsJudgedOf plan.now (done ++ slice_range rows.now 0 begin) judged.new) (λ told. (t more : List TheRow) (end : ℕ) (follower : TheFollower) → IsTurn plan.now t more done rows.now judged.old.reach begin end → TellsProgress plan.now t more follower told)) }
+    ensures { IfOk result (λ o. (done : List TheRow) → IsJudgedOf plan.now done judged.old → MatchOption o (IsJudgedOf plan.now (done ++ slice_range rows.now 0 begin) judged.new) (λ hitch. (end : ℕ) → IsTurn plan.now done rows.now begin end → IsHitch plan.now (done ++ rows.now) (length done) hitch)) }
 {
     let is_clean = judged.judge(alloc, plan, &rows[0..begin], true)?;
     if is_clean {
@@ -89,12 +101,86 @@ fn judge_before(
     }
     let high = row_at(rows, begin).tag;
     match judged.past.first_breach(alloc, plan, &rows[0..begin], high) {
-        Some(breach) => Ok(Some(Progress::Broken(found_of(breach)))),
+        Some(breach) => Ok(Some(Hitch::Broken(found_of(breach)))),
         None => {
             let line = judged.count + begin as u64 + 1;
-            Ok(Some(Progress::Odd(judged.reach, line)))
+            Ok(Some(Hitch::Odd(line)))
         }
     }
+}
+
+/// What is told where going over rows ended before the last one.
+fn tell(
+    alloc: Global,
+    plan: &Plan,
+    judged: &mut Judged,
+    rows: &[Row],
+    halt: Halt,
+) -> Result<Hitch, NoMemory>
+    requires few { judged.old.count + length rows.now ≤ 2 ^ 62 + 4000000 }
+    requires fit { RowsFit plan.now.program rows.now }
+    requires place { (halt.place < length rows.now) × (halt.end < length rows.now) }
+    requires halt { (done : List TheRow) × IsHeld plan.now done rows.now judged.old × IsHalt plan.now done rows.now halt }
+    ensures { IfOk result (λ hitch. (done : List TheRow) → IsHeld plan.now done rows.now judged.old → IsHalt plan.now done rows.now halt → IsHitch plan.now (done ++ rows.now) (length done) hitch) }
+{
+    let found = found_at(rows, halt.place, judged.count, halt.rule);
+    let begin = last_begins(rows, halt.end);
+    match judge_before(alloc, plan, judged, rows, begin)? {
+        Some(hitch) => Ok(hitch),
+        None => Ok(Hitch::Broken(found)),
+    }
+}
+
+/// Goes over rows that come behind those that are judged. It judges all but those at the last tag, and tells
+/// where these begin.
+fn go_past(
+    alloc: Global,
+    plan: &Plan,
+    judged: &mut Judged,
+    going: &mut Going,
+    rows: &[Row],
+) -> Result<Result<usize, Hitch>, NoMemory>
+    requires few { judged.old.count + length rows.now ≤ 2 ^ 62 + 4000000 }
+    requires fit { RowsFit plan.now.program rows.now }
+    requires stands { (done : List TheRow) × IsHeld plan.now done rows.now judged.old × IsGoing plan.now done rows.now going.old }
+    ensures within { IfOk result (λ r. IfOk r (λ begin. begin ≤ length rows.now)) }
+    ensures judged { IfOk result (λ r. IfOk r (λ begin. (done : List TheRow) → IsHeld plan.now done rows.now judged.old → IsGoing plan.now done rows.now going.old → IsJudgedTo plan.now done rows.now judged.new going.new begin)) }
+    ensures hitch { IfOk result (λ r. IfErr r (λ hitch. (done : List TheRow) → IsHeld plan.now done rows.now judged.old → IsGoing plan.now done rows.now going.old → IsHitch plan.now (done ++ rows.now) (length done) hitch)) }
+{
+    let last = judged.past.stop;
+    if let Some(halt) = going.go_over(alloc, plan, last, rows)? {
+        let hitch = tell(alloc, plan, judged, rows, halt)?;
+        return Ok(Err(hitch));
+    }
+    let begin = begin_of_last(rows);
+    if begin == 0 {
+        return Ok(Ok(0));
+    }
+    if let Some(hitch) = judge_before(alloc, plan, judged, rows, begin)? {
+        return Ok(Err(hitch));
+    }
+    going.begin(alloc, plan, judged.past.stop)?;
+    Ok(Ok(begin))
+}
+
+/// How many rows are put behind those held: up to the first at another tag, or all where they are few.
+fn put_behind(held: &[Row], rows: &[Row], reactions: usize) -> usize
+    ensures { result ≤ length rows.now }
+{
+    // Whoever begins anew goes over all reactions.
+    if rows.len() < FEW || rows.len() < reactions {
+        return rows.len();
+    }
+    let tag = row_at(if held.is_empty() { rows } else { held }, 0).tag;
+    if row_at(rows, rows.len() - 1).tag.is_same(tag) {
+        return rows.len();
+    }
+    for place in 0..rows.len() {
+        if !row_at(rows, place).tag.is_same(tag) {
+            return place + 1;
+        }
+    }
+    rows.len()
 }
 
 /// Whether the event that has `MOST_LATER` others behind it is at a later tag.
@@ -132,51 +218,86 @@ impl Follower {
         self.rows.as_slice().len()
     }
 
-    /// Judges the rows at hand but those at the last tag, all of which are gone over.
-    fn go_on(&mut self, alloc: Global, plan: &Plan) -> Result<Progress, NoMemory>
-        requires few { self.old.judged.count ≤ 2 ^ 62 }
-        requires hand { (t : List TheRow) × IsGoneOver plan.now t self.old }
-        requires gone { self.old.going.passed ≡ length self.old.rows.items }
-        ensures { IfOk result (λ p. (t more : List TheRow) → IsGoneOver plan.now (t ++ more) self.old → AreCleanRows plan.now t (done_of (t ++ more) self.old) self.old.judged.reach → TellsProgress plan.now t more self.new p) }
-    {
-        let rows = self.rows.as_slice();
-        let begin = begin_of_last(rows);
-        if begin == 0 {
-            return Ok(Progress::GoesOn);
-        }
-        if let Some(told) = judge_before(alloc, plan, &mut self.judged, rows, begin)? {
-            return Ok(told);
-        }
-        let rows = self.rows.as_slice();
-        let Ok(last) = Vec::from_slice(alloc, &rows[begin..rows.len()]) else {
-            return Err(NoMemory);
-        };
-        self.rows = last;
-        self.going.begin(alloc, plan, self.judged.past.stop)?;
-        Ok(Progress::GoesOn)
-    }
-
-    /// What is told where the row at the place breaks the rule and the end is that of the rows gone over.
-    fn tell(
+    /// Goes on past more rows, which it puts behind those that it holds.
+    fn add_behind(
         &mut self,
         alloc: Global,
         plan: &Plan,
-        place: usize,
-        end: usize,
-        rule: u8,
-    ) -> Result<Progress, NoMemory>
-        requires few { self.old.judged.count ≤ 2 ^ 62 }
-        requires place { (place < length self.old.rows.items) × (end < length self.old.rows.items) }
-        requires halt { (t : List TheRow) × IsHeld plan.now t self.old × IsHalt plan.now (done_of t self.old) self.old.rows.items place end rule }
-        ensures { IfOk result (λ p. (t more : List TheRow) → IsHeld plan.now (t ++ more) self.old → AreCleanRows plan.now t (done_of (t ++ more) self.old) self.old.judged.reach → IsHalt plan.now (done_of (t ++ more) self.old) self.old.rows.items place end rule → TellsProgress plan.now t more self.new p) }
+        more: &[Row],
+    ) -> Result<Option<Hitch>, NoMemory>
+        requires fit { RowsFit plan.now.program more.now }
+        requires short { length self.old.rows.items + length more.now ≤ 4000000 }
+        requires few { self.old.judged.count + length self.old.rows.items + length more.now ≤ 2 ^ 62 + 4000000 }
+        requires stands { (t : List TheRow) × IsFollowerOf plan.now t self.old }
+        ensures { IfOk result (λ o. (t : List TheRow) → IsFollowerOf plan.now t self.old → MatchOption o (IsFollowedOn plan.now t more.now self.old self.new) (IsHitch plan.now (t ++ more.now) (length (done_of t self.old)))) }
     {
+        let Ok(()) = self.rows.extend_from_slice(more) else {
+            return Err(NoMemory);
+        };
         let rows = self.rows.as_slice();
-        let found = found_at(rows, place, self.judged.count, rule);
-        let begin = last_begins(rows, end);
-        match judge_before(alloc, plan, &mut self.judged, rows, begin)? {
-            Some(told) => Ok(told),
-            None => Ok(Progress::Broken(found)),
+        match go_past(alloc, plan, &mut self.judged, &mut self.going, rows)? {
+            Ok(begin) => {
+                if begin == 0 {
+                    return Ok(None);
+                }
+                let rows = self.rows.as_slice();
+                let Ok(last) = Vec::from_slice(alloc, &rows[begin..rows.len()]) else {
+                    return Err(NoMemory);
+                };
+                self.rows = last;
+                Ok(None)
+            }
+            Err(hitch) => Ok(Some(hitch)),
         }
+    }
+
+    /// Goes on past rows that begin with those that it holds. It copies those at the last tag alone.
+    fn add_over(
+        &mut self,
+        alloc: Global,
+        plan: &Plan,
+        rows: &[Row],
+    ) -> Result<Option<Hitch>, NoMemory>
+        requires fit { RowsFit plan.now.program rows.now }
+        requires few { self.old.judged.count + length rows.now ≤ 2 ^ 62 + 4000000 }
+        requires stands { (t : List TheRow) × (more : List TheRow) × IsFollowerOf plan.now t self.old × (rows.now ≡ self.old.rows.items ++ more) }
+        ensures { IfOk result (λ o. (t more : List TheRow) → IsFollowerOf plan.now t self.old → rows.now ≡ self.old.rows.items ++ more → MatchOption o (IsFollowedOn plan.now t more self.old self.new) (IsHitch plan.now (t ++ more) (length (done_of t self.old)))) }
+    {
+        match go_past(alloc, plan, &mut self.judged, &mut self.going, rows)? {
+            Ok(begin) => {
+                let Ok(last) = Vec::from_slice(alloc, &rows[begin..rows.len()]) else {
+                    return Err(NoMemory);
+                };
+                self.rows = last;
+                Ok(None)
+            }
+            Err(hitch) => Ok(Some(hitch)),
+        }
+    }
+
+    /// Goes on past rows that it can hold with those at the last tag.
+    // Most rows are at later tags. So those that it holds are judged first, and the others where they stand.
+    fn add_few(
+        &mut self,
+        alloc: Global,
+        plan: &Plan,
+        more: &[Row],
+    ) -> Result<Option<Hitch>, NoMemory>
+        requires fit { RowsFit plan.now.program more.now }
+        requires short { length self.old.rows.items + length more.now ≤ 4000000 }
+        requires few { self.old.judged.count ≤ 2 ^ 62 }
+        requires stands { (t : List TheRow) × IsFollowerOf plan.now t self.old }
+        ensures { IfOk result (λ o. (t : List TheRow) → IsFollowerOf plan.now t self.old → MatchOption o (IsFollowedOn plan.now t more.now self.old self.new) (IsHitch plan.now (t ++ more.now) (length (done_of t self.old)))) }
+    {
+        let first = put_behind(self.rows.as_slice(), more, plan.program().reactions());
+        if let Some(hitch) = self.add_behind(alloc, plan, &more[0..first])? {
+            return Ok(Some(hitch));
+        }
+        let held = self.held();
+        if first < held {
+            return self.add_behind(alloc, plan, &more[first..more.len()]);
+        }
+        self.add_over(alloc, plan, &more[first - held..more.len()])
     }
 
     /// Goes on past more rows. A tag is judged once a row at a later one is there.
@@ -185,17 +306,14 @@ impl Follower {
         requires stands { (t : List TheRow) × IsFollowerOf plan.now t self.old }
         ensures { IfOk result (λ p. (t : List TheRow) → IsFollowerOf plan.now t self.old → TellsProgress plan.now t more.now self.new p) }
     {
-        let Ok(()) = self.rows.extend_from_slice(more) else {
-            return Err(NoMemory);
-        };
-        if self.rows.as_slice().len() > MAX_ROWS || self.judged.count > MOST {
+        if more.len() > MAX_ROWS - self.held() || self.judged.count > MOST {
             return Ok(Progress::TooMany);
         }
-        let last = self.judged.past.stop;
-        match self.going.go_over(alloc, plan, last, self.rows.as_slice())? {
-            Halt::AtEnd => self.go_on(alloc, plan),
-            Halt::AtRow(place, rule) => self.tell(alloc, plan, place, place, rule),
-            Halt::AtLater(start, place) => self.tell(alloc, plan, start, place, 5),
+        let reach = self.judged.reach;
+        match self.add_few(alloc, plan, more)? {
+            None => Ok(Progress::GoesOn),
+            Some(Hitch::Broken(found)) => Ok(Progress::Broken(found)),
+            Some(Hitch::Odd(line)) => Ok(Progress::Odd(reach, line)),
         }
     }
 

@@ -23,7 +23,7 @@ pub struct BrokenRule {
 /// The rule that the row at the place breaks, where so many rows stand before these.
 pub(crate) fn found_at(rows: &[Row], place: usize, before: u64, rule: u8) -> BrokenRule
     requires place { place < length rows.now }
-    requires few { before ≤ 2 ^ 62 }
+    requires few { before ≤ 2 ^ 62 + 4000000 }
     requires short { length rows.now ≤ 4000000 }
     ensures rule { result.rule ≡ rule }
     ensures line { result.line ≡ before + place + 2 }

@@ -1,11 +1,11 @@
 //! The rows at hand, gone over for the rules 1 to 5 as they come.
 
-ghost use Rattle.std.specs.Prelude.{◌≡◌, ◌+◌, ◌-◌, ◌<◌, ◌≤◌, ◌↔◌, List, ◌++◌, ◌∷◌, [], length, take, IfOk, IsTrue, Some, OnOk, MatchOption, slice_get};
+ghost use Rattle.std.specs.Prelude.{◌≡◌, ◌+◌, ◌-◌, ◌<◌, ◌≤◌, ◌↔◌, List, ◌++◌, ◌∷◌, [], length, take, IfOk, IsTrue, None, Some, OnOk, MatchOption, slice_get};
 ghost use Rattle.lft_tag.specs.Tags.{Before, IsRecorded, earlier};
 ghost use Rattle.lft_ir.specs.{Parts.Parts, declared.steps.row.Row.Row as TheRow, Steps.Fits.RowsFit};
 ghost use Rattle.lft_model.specs.{Fitting.EachFits, Plans.PlanParts, Presence.stop as stop_of};
 ghost use Rattle.lft_rows.specs.inner.Passes.{IsPass};
-ghost use Rattle.lft_monitor.specs.{inner.Going.{IsGoing, IsFirstBad, IsRunLost, HasEnded, HasGone, opened}, declared.gone.Halt.TheVariants.AtEnd};
+ghost use Rattle.lft_monitor.specs.inner.Going.{IsGoing, IsFirstBad, IsRunLost, HasEnded, HasGone, opened};
 
 use crate::last::begin_of_last;
 use lft_ir::steps::{Row, is_end, is_start, is_stop, row_at};
@@ -15,15 +15,14 @@ use lft_stream::earlier_of;
 use lft_tag::{NoMemory, Tag};
 use std::alloc::Global;
 
-/// Where going over rows ended.
+/// Where going over rows ended before the last one.
 #[derive(Clone, Copy, Drop)]
-pub(crate) enum Halt {
-    /// Behind the last row.
-    AtEnd,
-    /// The row at the place breaks the rule, one of 1 to 4.
-    AtRow(usize, u8),
-    /// The row at the first place starts a run without an end. The row at the second is at a later tag.
-    AtLater(usize, usize),
+pub(crate) struct Halt {
+    /// The row here breaks the rule, one of 1 to 5.
+    pub place: usize,
+    /// It is this row, or a run that it starts has no end and this one is at a later tag.
+    pub end: usize,
+    pub rule: u8,
 }
 
 /// How far the rows at hand are gone over.
@@ -175,20 +174,28 @@ impl Going {
 
     /// Goes on over the rows at hand one by one, up to the first that breaks one of the rules 1 to 4, or behind
     /// which a run without an end is sure.
-    fn go_by_rows(&mut self, plan: &Plan, rows: &[Row]) -> Result<Halt, NoMemory>
+    fn go_by_rows(&mut self, plan: &Plan, rows: &[Row]) -> Result<Option<Halt>, NoMemory>
         requires fit { RowsFit plan.now.program rows.now }
         requires stands { (d : List TheRow) × IsGoing plan.now d rows.now self.old }
         ensures { IfOk result (λ halt. (done : List TheRow) → IsGoing plan.now done rows.now self.old → HasGone plan.now done rows.now self.new halt) }
     {
         for place in self.passed..rows.len() {
             if let Some(start) = self.lost_before(rows, place) {
-                return Ok(Halt::AtLater(start, place));
+                return Ok(Some(Halt {
+                    place: start,
+                    end: place,
+                    rule: 5,
+                }));
             }
             if let Some(rule) = self.pass_row(plan, rows, place)? {
-                return Ok(Halt::AtRow(place, rule));
+                return Ok(Some(Halt {
+                    place,
+                    end: place,
+                    rule,
+                }));
             }
         }
-        Ok(Halt::AtEnd)
+        Ok(None)
     }
 
     /// Goes on over the rows at hand at once, of which none from there on asks for the stop. It is false where
@@ -197,7 +204,7 @@ impl Going {
         requires fit { RowsFit plan.now.program rows.now }
         requires stands { (d : List TheRow) × IsGoing plan.now d rows.now self.old }
         requires stays { (plan : PlanParts) (t : List TheRow) → stop_of plan (t ++ rows.now) ≡ stop_of plan (t ++ take self.old.passed rows.now) }
-        ensures gone { IfOk result (λ yes. IsTrue yes → (done : List TheRow) → IsGoing plan.now done rows.now self.old → HasGone plan.now done rows.now self.new AtEnd) }
+        ensures gone { IfOk result (λ yes. IsTrue yes → (done : List TheRow) → IsGoing plan.now done rows.now self.old → HasGone plan.now done rows.now self.new None) }
         ensures pass { IfOk result (λ yes. IsPass plan.now.program self.new.pass) }
     {
         if let Some(_found) = self.pass.go_on(plan, self.stop, rows, self.passed)? {
@@ -221,7 +228,7 @@ impl Going {
         plan: &Plan,
         last: Tag,
         rows: &[Row],
-    ) -> Result<Halt, NoMemory>
+    ) -> Result<Option<Halt>, NoMemory>
         requires fit { RowsFit plan.now.program rows.now }
         requires stands { (d : List TheRow) × IsGoing plan.now d rows.now self.old × (last ≡ stop_of plan.now d) }
         ensures { IfOk result (λ halt. (done : List TheRow) → last ≡ stop_of plan.now done → IsGoing plan.now done rows.now self.old → HasGone plan.now done rows.now self.new halt) }
@@ -230,7 +237,7 @@ impl Going {
             return self.go_by_rows(plan, rows);
         }
         if self.go_at_once(plan, rows)? {
-            return Ok(Halt::AtEnd);
+            return Ok(None);
         }
         self.begin(alloc, plan, last)?;
         self.go_by_rows(plan, rows)

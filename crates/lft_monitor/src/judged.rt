@@ -1,6 +1,6 @@
 //! Rows whose tags are finished, and how far they are judged.
 
-ghost use Rattle.std.specs.Prelude.{◌≡◌, ◌<◌, ◌≤◌, ◌^◌, List, [], ◌++◌, length, false, IfErr, IfOk, IfSome, IsTrue};
+ghost use Rattle.std.specs.Prelude.{◌≡◌, ◌+◌, ◌<◌, ◌≤◌, ◌^◌, List, [], ◌++◌, length, false, IfErr, IfOk, IfSome, IsTrue};
 ghost use Rattle.lft_ir.specs.{declared.steps.row.Row.Row as TheRow, Steps.Fits.RowsFit};
 ghost use Rattle.lft_model.specs.Breaches.{First};
 ghost use Rattle.lft_rows.specs.inner.Parts.{AreEarlier};
@@ -86,7 +86,7 @@ impl Judged {
     ) -> Result<bool, NoMemory>
         requires fit { RowsFit plan.now.program rows.now }
         requires kept { IsTrue is_kept → KeepRules plan.now rows.now }
-        requires few { self.old.count ≤ 2 ^ 62 }
+        requires few { self.old.count + length rows.now ≤ 2 ^ 62 + 4000000 }
         requires stands { (done : List TheRow) × IsJudgedOf plan.now done self.old }
         ensures stands { IfOk result (λ yes. IsTrue yes → (done : List TheRow) → IsJudgedOf plan.now done self.old → IsJudgedOf plan.now (done ++ rows.now) self.new) }
         ensures some { IfOk result (λ yes. yes ≡ false → 0 < length rows.now) }

@@ -1,5 +1,5 @@
 -- Inside: what is kept of rows that are judged while they come, and what is told of them.
-use Rattle.std.specs.Prelude.{◌≡◌, ℕ, Bool, true, false, ◌+◌, ◌-◌, ◌^◌, ◌≤◌, ◌<◌, ◌⊎◌, List, ◌++◌, length, take, None, Some, slice_get, []}
+use Rattle.std.specs.Prelude.{◌≡◌, ℕ, Bool, true, false, ◌+◌, ◌-◌, ◌^◌, ◌≤◌, ◌<◌, ◌⊎◌, List, ◌++◌, length, take, None, Some, slice_get, slice_range, []}
 use Rattle.std.specs.List.{insert}
 use Rattle.lft_tag.specs.{declared.Tag.Tag, Tags.{Before, earlier}}
 use Rattle.lft_ir.specs.{declared.steps.{externals.Event.Event, row.Row.Row}, Steps.{Fits.RowsFit, Inputs.IsTold}}
@@ -7,12 +7,14 @@ use Rattle.lft_model.specs.{Plans.PlanParts, Presence.stop, Breaches.First}
 use Rattle.lft_rows.specs.{Accepted.IsAccepted, inner.Firsts.FirstRow}
 use Rattle.lft_queue.specs.Coming.AtTag.{AreAt, AreBefore}
 use Rattle.lft_stream.specs.inner.Kept.{IsAcceptorOf, stopped_stream}
-use Rattle.lft_monitor.specs.inner.{Sure.with_inputs, Kept.IsPastOfRows, Going.{IsFirstBad, IsGoing, IsGoneTo, IsRunLost}}
-use Rattle.lft_monitor.specs.declared.{reach.Reach.Reach, judged.{Judged.Judged, Closing.Closing, Ending.Ending, Unjudged.Unjudged}}
-use Rattle.lft_monitor.specs.declared.follower.{Follower.Follower, Progress.{Progress, TheVariants.{GoesOn, Broken, Odd, TooMany}}, Receipt.Receipt}
+use Rattle.lft_monitor.specs.inner.{Sure.with_inputs, Kept.IsPastOfRows, Going.{IsGoing, IsGoneTo}}
+use Rattle.lft_monitor.specs.declared.{gone.Going.Going, reach.Reach.Reach, judged.{Judged.Judged, Closing.Closing, Ending.Ending, Unjudged.Unjudged}}
+use Rattle.lft_monitor.specs.declared.follower.{Follower.Follower, Hitch.Hitch, Progress.{Progress, TheVariants.{GoesOn, Broken, Odd, TooMany}}}
+use Rattle.lft_monitor.specs.declared.follower.Receipt.{Receipt}
 use Rattle.lft_monitor.specs.Follows.{IsCleanSoFar, IsJudged, HasManyLater, breach_of, IsQuiet, KeepsButLast, IsSureSoFar, HasManyAtLast, IsFirstUpToLast}
 use Rattle.lft_monitor.specs.declared.judged.Closing.TheVariants as closing
 use Rattle.lft_monitor.specs.declared.judged.Ending.TheVariants as ending
+use Rattle.lft_monitor.specs.declared.follower.Hitch.TheVariants as hitch
 use Rattle.lft_monitor.specs.declared.follower.Receipt.TheVariants as receipt
 
 -- what is kept of rows that are judged is right for them, and they are clean
@@ -38,23 +40,25 @@ stopped_judged j g = record j { acceptor = record j.acceptor { stream = stopped_
 abbrev pub done_of : List Row → Follower → List Row
 done_of t f = take f.judged.count t
 
--- the first rows are judged, and the follower holds the others, which are at later tags
-pub record IsHeld (plan : PlanParts) (t : List Row) (f : Follower) : Type 0 where
-  pub parts : t ≡ done_of t f ++ f.rows.items
-  pub judged : IsJudgedOf plan (done_of t f) f.judged
-  pub fit : RowsFit plan.program f.rows.items
-  pub earlier : (x : Row) → slice_get f.rows.items 0 ≡ Some x → AreBefore (done_of t f) x.tag
-  pub some : f.rows.items ≡ [] → done_of t f ≡ []
+-- rows are at hand behind those that are judged, and at later tags
+pub record IsHeld (plan : PlanParts) (done rows : List Row) (j : Judged) : Type 0 where
+  pub judged : IsJudgedOf plan done j
+  pub fit : RowsFit plan.program rows
+  pub earlier : (x : Row) → slice_get rows 0 ≡ Some x → AreBefore done x.tag
+  pub some : rows ≡ [] → done ≡ []
 
--- of those that it holds it has gone over some
-pub record IsGoneOver (plan : PlanParts) (t : List Row) (f : Follower) : Type 0 where
-  pub held : IsHeld plan t f
-  pub going : IsGoing plan (done_of t f) f.rows.items f.going
-
--- the follower has judged all rows but those at the last tag
+-- the follower has judged all rows but those at the last tag, which it holds; of these it has gone over some
 pub record IsFollowerOf (plan : PlanParts) (t : List Row) (f : Follower) : Type 0 where
-  pub hand : IsGoneOver plan t f
+  pub parts : t ≡ done_of t f ++ f.rows.items
+  pub held : IsHeld plan (done_of t f) f.rows.items f.judged
+  pub going : IsGoing plan (done_of t f) f.rows.items f.going
   pub at_one : (g : Tag) × AreAt f.rows.items g
+
+-- more rows are followed on: nothing is to be told of them, and no fewer are judged than before
+pub record IsFollowedOn (plan : PlanParts) (t more : List Row) (old new : Follower) : Type 0 where
+  pub follows : IsFollowerOf plan (t ++ more) new
+  pub quiet : IsQuiet plan (t ++ more)
+  pub further : length (done_of t old) ≤ length (done_of (t ++ more) new)
 
 -- the new plan has one more external event, put at a place among the others
 pub record HasOneMoreEvent (old new : PlanParts) (event : Event) : Type 0 where
@@ -87,17 +91,26 @@ pub record BeginsLast (rows : List Row) (end first : ℕ) : Type 0 where
   pub some : 0 < end → first < end
   pub other : (x z : Row) → 0 < first → slice_get rows (first - 1) ≡ Some x → slice_get rows (end - 1) ≡ Some z → ¬ (x.tag ≡ z.tag)
 
--- of rows that came before more, those but the ones at the last tag are clean, and reach so far; the line is that of a row behind these, and the next row is at a later tag
-pub record IsOdd (plan : PlanParts) (t more : List Row) (r : Reach) (line : ℕ) : Type 0 where
-  pub judged : IsJudged plan t r
+-- the line is that of a row behind the first n, and the next row is at a later tag
+pub record IsOddBehind (t : List Row) (n line : ℕ) : Type 0 where
   pub place : ℕ
   pub row : Row
   pub next : Row
-  pub is_row : slice_get (t ++ more) place ≡ Some row
-  pub is_next : slice_get (t ++ more) (place + 1) ≡ Some next
+  pub is_row : slice_get t place ≡ Some row
+  pub is_next : slice_get t (place + 1) ≡ Some next
   pub before : Before row.tag next.tag
-  pub behind : length judged.done ≤ place
+  pub behind : n ≤ place
   pub line_is : line ≡ place + 2
+
+-- of rows that came before more, those but the ones at the last tag are clean, and reach so far; the line is that of a row behind these, and the next row is at a later tag
+pub record IsOdd (plan : PlanParts) (t more : List Row) (r : Reach) (line : ℕ) : Type 0 where
+  pub judged : IsJudged plan t r
+  pub odd : IsOddBehind (t ++ more) (length judged.done) line
+
+-- why rows aren't gone past of which the first n are judged: a breach is sure behind some of them; or up to the line they are odd
+abbrev pub IsHitch : PlanParts → List Row → ℕ → Hitch → Type 0
+IsHitch plan t n (hitch.Broken b) = IsSureSoFar plan t (breach_of b)
+IsHitch plan t n (hitch.Odd line) = IsOddBehind t n line
 
 -- what is told of rows and more behind them: nothing is to be told, and all are followed on; a breach is sure behind some of them; they are odd; or the rows behind are too many with the last ones at one tag, or too many came
 abbrev pub TellsProgress : PlanParts → List Row → List Row → Follower → Progress → Type 0
@@ -125,18 +138,16 @@ IsClosing plan t (closing.Broken b) = IsFirstUpToLast plan t (breach_of b)
 abbrev pub IsUnjudged : PlanParts → List Row → Unjudged → Type 0
 IsUnjudged plan t u = IsReached plan t u.reach × (u.line ≡ length t + 1)
 
--- going over the rows at hand ended before the end: the row there breaks the rule and is the one at the place, or is at a later tag than the run without an end that starts at the place
-abbrev pub IsHalt : PlanParts → List Row → List Row → ℕ → ℕ → ℕ → Type 0
-IsHalt plan done rows place end rule = (end ≡ place) × IsFirstBad plan done rows place rule ⊎ (rule ≡ 5) × IsRunLost plan done rows place end
-
--- the rows but those at the last tag are clean, reach so far, and are these
-abbrev pub AreCleanRows : PlanParts → List Row → List Row → Reach → Type 0
-AreCleanRows plan t done r = (judged : IsJudged plan t r) × (judged.done ≡ done)
-
--- rows and more behind them are those that are done and those at hand; of these some are gone over up to an end, and their last tag begins at a place
-pub record IsTurn (plan : PlanParts) (t more done rows : List Row) (r : Reach) (begin end : ℕ) : Type 0 where
-  pub parts : t ++ more ≡ done ++ rows
-  pub judged : AreCleanRows plan t done r
+-- rows at hand behind those that are done are gone over up to an end, and their last tag begins at a place
+pub record IsTurn (plan : PlanParts) (done rows : List Row) (begin end : ℕ) : Type 0 where
   pub gone : IsGoneTo plan done rows end
   pub begins : BeginsLast rows end begin
   pub kept : KeepsButLast plan (done ++ take end rows)
+
+-- the rows at hand before the place are judged, those from there on are at one tag, and nothing is to be told of them
+pub record IsJudgedTo (plan : PlanParts) (done rows : List Row) (j : Judged) (g : Going) (begin : ℕ) : Type 0 where
+  pub within : begin ≤ length rows
+  pub held : IsHeld plan (done ++ slice_range rows 0 begin) (slice_range rows begin (length rows)) j
+  pub going : IsGoing plan (done ++ slice_range rows 0 begin) (slice_range rows begin (length rows)) g
+  pub at_one : (h : Tag) × AreAt (slice_range rows begin (length rows)) h
+  pub quiet : IsQuiet plan (done ++ rows)

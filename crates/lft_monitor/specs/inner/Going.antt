@@ -1,10 +1,10 @@
 -- What is known of rows at hand that are gone over row by row. This serves the follower's proof alone.
-use Rattle.std.specs.Prelude.{◌≡◌, ℕ, ◌+◌, ◌-◌, ◌≤◌, List, ◌++◌, length, take, Some, Contains, slice_get}
+use Rattle.std.specs.Prelude.{◌≡◌, ℕ, ◌+◌, ◌-◌, ◌≤◌, ◌⊎◌, List, ◌++◌, length, take, Option, Some, MatchOption, Contains, slice_get}
 use Rattle.lft_tag.specs.{declared.Tag.Tag, Tags.Before}
 use Rattle.lft_ir.specs.declared.steps.row.{Row.Row, Step.{Step, TheVariants.{Start, Read, Write, Schedule, Stop, End}}}
 use Rattle.lft_model.specs.{Plans.PlanParts, Presence.stop, Breaches.IsUnended}
 use Rattle.lft_rows.specs.inner.Passes.{KeepsEarly, EarlyRule, FirstUnended, HasPassed}
-use Rattle.lft_monitor.specs.declared.gone.{Going.Going, Halt.{Halt, TheVariants.{AtEnd, AtRow, AtLater}}}
+use Rattle.lft_monitor.specs.declared.gone.{Going.Going, Halt.Halt}
 
 -- each run of the rows that starts before the tag has its end among them
 abbrev pub AreEnded : List Row → Tag → Type 0
@@ -60,8 +60,10 @@ pub record IsRunLost (plan : PlanParts) (done rows : List Row) (s i : ℕ) : Typ
   pub gone : IsGoneTo plan done rows i
   pub first : FirstUnended (take i rows) i (Some s)
 
--- going over the rows ended behind the last, or at a row that breaks a rule, or where a run without an end is sure
-abbrev pub HasGone : PlanParts → List Row → List Row → Going → Halt → Type 0
-HasGone plan done rows g AtEnd = IsGoing plan done rows g × (g.passed ≡ length rows)
-HasGone plan done rows g (AtRow i k) = IsFirstBad plan done rows i k
-HasGone plan done rows g (AtLater s i) = IsRunLost plan done rows s i
+-- going over the rows ended before the last: the row at the place breaks the rule and is that at the end; or it starts a run without an end, and the row at the end is at a later tag
+abbrev pub IsHalt : PlanParts → List Row → List Row → Halt → Type 0
+IsHalt plan done rows h = (h.end ≡ h.place) × IsFirstBad plan done rows h.place h.rule ⊎ (h.rule ≡ 5) × IsRunLost plan done rows h.place h.end
+
+-- going over the rows ended behind the last, or before it
+abbrev pub HasGone : PlanParts → List Row → List Row → Going → Option Halt → Type 0
+HasGone plan done rows g halt = MatchOption halt (IsGoing plan done rows g × (g.passed ≡ length rows)) (IsHalt plan done rows)

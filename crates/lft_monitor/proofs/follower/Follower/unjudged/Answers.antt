@@ -6,7 +6,7 @@ use Rattle.lft_monitor.proofs.follower.Follower.unjudged.Goals as goal
 pub returns : goal.returns
 returns c = λ plan t is.
     let f = c.args.self.now in
-    let long : length t ≡ length (done_of t f) + length f.rows.items = ap (λ (x : List Row). length x) is.hand.held.parts ∙ length-append (done_of t f) f.rows.items in
-    let counted = is.hand.held.judged.counted in
+    let long : length t ≡ length (done_of t f) + length f.rows.items = ap (λ (x : List Row). length x) is.parts ∙ length-append (done_of t f) f.rows.items in
+    let counted = is.held.judged.counted in
     let same = ap (λ (x : List Row). length x) c.as_slice.ensures.value in
     (inl (judged_so_far plan t f is), omega (arith, long, counted, same))

@@ -1,5 +1,9 @@
+use Rattle.std.proofs.Common.{arith}
 use Rattle.lft_monitor.proofs.Ended.{still_judged}
 use Rattle.lft_monitor.proofs.judged.Judged.close.Goals as goal
+
+pub judge-requires-clause-few : goal.judge-requires-clause-few
+judge-requires-clause-few c = let f = c.requires.few in let n = c.requires.fit.few in omega (arith, f, n)
 
 pub judge-requires-clause-kept : goal.judge-requires-clause-kept
 judge-requires-clause-kept c = λ no_rules. absurd (cc)

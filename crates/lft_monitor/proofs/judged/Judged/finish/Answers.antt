@@ -4,6 +4,9 @@ use Rattle.lft_ir.specs.declared.steps.row.Row.{Row}
 use Rattle.lft_monitor.specs.{declared.judged.Unjudged.Unjudged, Follows.IsCleanSoFar, inner.Follows.{IsEnding, IsUnjudged}}
 use Rattle.lft_monitor.proofs.judged.Judged.finish.Goals as goal
 
+pub judge-requires-clause-few : goal.judge-requires-clause-few
+judge-requires-clause-few c = let f = c.requires.few in let n = c.requires.fit.few in omega (arith, f, n)
+
 pub judge-requires-clause-kept : goal.judge-requires-clause-kept
 judge-requires-clause-kept c = λ no_rules. absurd (cc)
 

@@ -29,4 +29,4 @@ returns-clause-stands c = λ yes done is.
     let stands = c.if-not-go_on_as.ensures.stands refl done is.acceptor in
     let unbroken = c.if-not-go_on_as.ensures.unbroken refl done is.acceptor in
     let rise = accepted_rise plan (done ++ rows) c.go_on_as.new.acceptor stands in
-    judged_more plan done rows c.args.self.now _ is some c.requires.few c.requires.fit.few stands unbroken (c.in_ok-add.ensures done is.past rise unbroken (λ x at yes. c.is_apart.ensures yes plan (done ++ rows) (after x.tag 0) stands (before plan done rows x some at rise))) refl (c.in-Some.ensures done rise is.clean.reach)
+    judged_more plan done rows c.args.self.now _ is some c.requires.few stands unbroken (c.in_ok-add.ensures done is.past rise unbroken (λ x at yes. c.is_apart.ensures yes plan (done ++ rows) (after x.tag 0) stands (before plan done rows x some at rise))) refl (c.in-Some.ensures done rise is.clean.reach)
