@@ -19,7 +19,7 @@ use lft_ir::steps::Rows;
 use lft_load::{Fault, Part, load, write_text};
 use lft_model::laws::law_one_worker;
 use lft_model::{Plan, is_workers};
-use lft_stream::batches::accepts_text_shared;
+use lft_stream::batches::accepts_reader_shared;
 use lft_trace::read_trace_shared;
 use std::alloc::Global;
 use std::io::Write;
@@ -151,11 +151,13 @@ fn accepts<R: Threads + Sync>(
     if !is_workers(workers) {
         return None;
     }
-    if workers == 1 || trace.len() < SHORT {
+    if trace.len() < SHORT {
         return accepted_text(alloc, plan, trace);
     }
-    let counts = accepts_text_shared(rt, alloc, plan, trace, workers)?;
-    Some(accepted_by(counts))
+    match accepts_reader_shared(rt, alloc, plan, trace, workers) {
+        Ok(Some(counts)) => Some(accepted_by(counts)),
+        _ => None,
+    }
 }
 
 /// The verdict of the checker on a trace table of a plan by so many workers.

@@ -3,3 +3,4 @@ pub mod Reading
 pub mod Sharing
 pub mod Counting
 pub mod Progressing
+pub mod Lining

@@ -8,7 +8,7 @@ mod session;
 mod words;
 
 use crate::follow::end_followed;
-use crate::session::{Session, is_known, workers_for};
+use crate::session::{Session, is_known};
 use crate::words::{
     Behind, Job, JudgeWords, PairWords, Question, RecordWords, ShowWords, read_words,
 };
@@ -27,8 +27,8 @@ use std::sync::Wait;
 use std::thread::Threads;
 use std::{env, io};
 
-/// Judges the trace of three files. All are read first, but for an ordinary file of a trace that one worker
-/// judges while it reads.
+/// Judges the trace of three files. All are read first, but for an ordinary file of a trace, which is judged
+/// while it is read.
 fn judge_files<F: Files + Threads + Sync, W: Write>(
     rt: &F,
     alloc: Global,
@@ -42,7 +42,6 @@ fn judge_files<F: Files + Threads + Sync, W: Write>(
     let mut session = Session::of(rt, alloc, out, behind.is_told());
     if matches!(behind, Behind::Nothing)
         && let Some(size) = ordinary_size(&file)
-        && workers_for(words.workers, size) == 1
     {
         return session.judge_file(words, &program, &externals, &mut file, size);
     }

@@ -24,7 +24,7 @@ use std::thread::Threads;
 const SHORT: usize = 1 << 20;
 
 /// How many of so many workers judge traces of so many bytes.
-pub(crate) fn workers_for(workers: u32, bytes: usize) -> u32 {
+fn workers_for(workers: u32, bytes: usize) -> u32 {
     if bytes < SHORT { 1 } else { workers }
 }
 
@@ -42,14 +42,16 @@ fn is_no_core(fault: &Fault) -> bool {
 
 /// Whether the trace that a reader of a file gives is accepted. None says nothing of it.
 // Apart, so that no type that is handed on names two borrows.
-fn judge_sized<R: Read + Drop, W: Write>(
+fn judge_sized<T: Threads + Sync, R: Read + Drop, W: Write>(
+    rt: &T,
     alloc: Global,
     plan: &Plan,
     path: &str,
     reader: &mut SizedReader<R>,
+    workers: u32,
     out: &mut W,
 ) -> Result<Option<bool>, Fault> {
-    match judge_reader(alloc, plan, path, reader, out) {
+    match judge_reader(rt, alloc, plan, path, reader, workers, out) {
         Ok(Some(verdict)) => Ok(Some(is_accepted(verdict))),
         Ok(None) => Ok(None),
         Err(fault) => Err(fault),
@@ -199,8 +201,8 @@ impl<'w, F: Files + Threads + Sync, W: Write> Session<'w, F, W> {
         Ok(is_accepted(verdict))
     }
 
-    /// Judges the trace of an ordinary file of this size by one worker. Its text is read whole only where it isn't
-    /// accepted while it is read.
+    /// Judges the trace of an ordinary file of this size. Its text is read whole only where it isn't accepted while
+    /// it is read.
     pub(crate) fn judge_file(
         &mut self,
         words: JudgeWords<'_>,
@@ -210,6 +212,7 @@ impl<'w, F: Files + Threads + Sync, W: Write> Session<'w, F, W> {
         size: usize,
     ) -> Result<bool, Failure> {
         let (rt, alloc, path) = (self.rt, self.alloc, words.trace);
+        let workers = workers_for(words.workers, size);
         let plan = match self.plan(words.program, program, externals) {
             Ok(plan) => plan,
             Err(failure) => {
@@ -219,14 +222,14 @@ impl<'w, F: Files + Threads + Sync, W: Write> Session<'w, F, W> {
             }
         };
         let mut reader = SizedReader::new(&mut *file, size);
-        match judge_sized(alloc, &plan, path, &mut reader, self.out) {
+        match judge_sized(rt, alloc, &plan, path, &mut reader, workers, self.out) {
             Ok(Some(answer)) => return Ok(answer),
             Ok(None) => {}
             Err(_) if reader.is_too_large() => return Err(too_large(alloc, path)),
             Err(fault) => return Err(Failure::from(fault)),
         }
         let trace = read_sized(rt, alloc, path, file, size)?;
-        let verdict = check_plan(rt, alloc, &plan, &trace, 1, self.out)?;
+        let verdict = check_plan(rt, alloc, &plan, &trace, workers, self.out)?;
         Ok(is_accepted(verdict))
     }
 

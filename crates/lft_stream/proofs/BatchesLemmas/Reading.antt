@@ -45,9 +45,3 @@ module _ (plan : PlanParts) (text rest : List ℕ) (old new : JudgedRows) (waiti
         stands = u.1;
         begins = subst (λ (r : List Row). BeginsWith plan.program so.body r behind) (ap (λ (r : List Row). r ++ read) (sym u.2) ∙ append_assoc u.0 left read) (begins_more plan.program so.body rest behind (so.t ++ waiting) read so.begins more);
       }
-
-  -- where nothing is left to be read, they are the table's last ones
-  pub reads_all : length rest ≡ 0 → (u : List Row) × IsProgress plan u new × (length (u ++ left) ≤ 4000000 → Table plan.program (records_of text) (u ++ left))
-  reads_all none =
-      let u = gone so.t so.stands in
-      (u.0, u.1, λ few. read_all plan.program text so.body rest (u.0 ++ left) so.under (subst (λ (r : List Row). BeginsWith plan.program so.body r rest) (sym u.2) so.begins) none few)

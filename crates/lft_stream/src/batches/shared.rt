@@ -1,7 +1,7 @@
-//! Trace tables that are accepted from their texts by several workers: while one judges a batch of
+//! Trace tables that are accepted from what a reader gives by several workers: while one judges a batch of
 //! rows, the others read the next.
 
-ghost use Rattle.std.specs.Prelude.{◌≡◌, ◌++◌, List, IfSome};
+ghost use Rattle.std.specs.Prelude.{◌++◌, ◌≤◌, List, IfOk, IfSome, length};
 ghost use Rattle.std.specs.Thread.{IsSync};
 ghost use Rattle.lft_ir.specs.{Steps.Fits.RowsFit, declared.steps.row.Row.Row as TheRow};
 ghost use Rattle.lft_trace.specs.{Records.records_of, Traces.Table, inner.Parts.{HoldsRows, rows_of}};
@@ -9,12 +9,16 @@ ghost use Rattle.lft_rows.specs.Accepted.{IsAccepted};
 ghost use Rattle.lft_stream.specs.inner.Batches.Progresses.{IsGoneOn, IsProgress};
 
 use crate::RunCounts;
+use crate::batches::lines::Lines;
 use crate::batches::progress::{JudgedRows, judge_batch};
+use crate::batches::reader::accepts_reader;
 use crate::batches::text::{batch_bytes, reaction_names};
 use lft_ir::steps::Row;
 use lft_model::Plan;
-use lft_trace::{ReactionNames, below_header, first_lines, read_lines};
+use lft_tag::MAX_ROWS;
+use lft_trace::{ReactionNames, ReadFailed, read_lines};
 use std::alloc::Global;
+use std::io::Read;
 use std::thread::{Threads, join};
 
 /// The bytes of a batch for each worker that reads: some milliseconds, beside which a thread costs little.
@@ -42,9 +46,26 @@ fn judge_parts(
     Some((progress, waiting))
 }
 
+/// Judges the last parts. The counts, where nothing is owed up to the stop.
+fn finish_parts(
+    progress: JudgedRows,
+    alloc: Global,
+    plan: &Plan,
+    waiting: Vec<Row>,
+    parts: Vec<Vec<Row>>,
+) -> Option<RunCounts>
+    requires waiting_fit { RowsFit plan.now.program waiting.items }
+    requires parts_fit { RowsFit plan.now.program (rows_of parts.items) }
+    requires stands { (t : List TheRow) × IsProgress plan.now t progress }
+    ensures { IfSome result (λ c. (t : List TheRow) → IsProgress plan.now t progress → (length (t ++ (waiting.items ++ rows_of parts.items)) ≤ 4000000) × IsAccepted plan.now (t ++ (waiting.items ++ rows_of parts.items)) c.runs c.tags) }
+{
+    let (mut progress, left) = judge_parts(progress, alloc, plan, waiting, parts)?;
+    progress.finish(alloc, plan, left.as_slice())
+}
+
 /// Goes on past the parts of a batch, while the next lines are read by so many workers.
-fn go_beside<R: Threads + Sync>(
-    rt: &R,
+fn go_beside<T: Threads + Sync>(
+    rt: &T,
     alloc: Global,
     plan: &Plan,
     names: &ReactionNames,
@@ -67,47 +88,67 @@ fn go_beside<R: Threads + Sync>(
         ensures { IfSome result (λ p. RowsFit plan.entry.now.program p.1.items × IsGoneOn plan.entry.now progress p.0 (waiting.items ++ rows_of parts.items) p.1.items) }
     { judge_parts(progress, alloc, plan, waiting, parts) };
     let reading = move || -> Option<Vec<Vec<Row>>>
-        requires { IsSync R.row }
+        requires { IsSync T.row }
         ensures { IfSome result (λ parts. HoldsRows names.entry.now lines.entry.now (rows_of parts.items) × RowsFit names.entry.now (rows_of parts.items)) }
     { read_lines(rt, alloc, names, lines, workers) };
     let (gone, read) = join(rt, judging, reading);
     Some((gone?, read?))
 }
 
-/// What `accepts_reader` does of a text, by so many workers: one judges, and the others read. With one worker
-/// or none they take turns. Beside what is kept, the rows of two batches are held. It says nothing of a text
-/// that has a quotation mark or another header than the plain one.
-pub fn accepts_text_shared<R: Threads + Sync>(
-    rt: &R,
+/// What `accepts_reader` does, by so many workers: of several one judges, and the others read. Beside
+/// what is kept, the text of a batch and the rows of two are held. Several say nothing of a text that has a
+/// quotation mark or another header than the plain one.
+pub fn accepts_reader_shared<T: Threads + Sync, R: Read + Drop>(
+    rt: &T,
     alloc: Global,
     plan: &Plan,
-    text: &[u8],
+    source: R,
     workers: u32,
-) -> Option<RunCounts>
-    ensures { IfSome result (λ c. (rows : List TheRow) × Table plan.now.program (records_of text.now) rows × IsAccepted plan.now rows c.runs c.tags) }
+) -> Result<Option<RunCounts>, ReadFailed>
+    ensures { IfOk result (λ found. IfSome found (λ c. IfSome (R.remaining source) (λ text. (rows : List TheRow) × Table plan.now.program (records_of text) rows × IsAccepted plan.now rows c.runs c.tags))) }
 {
+    if workers < 2 {
+        return accepts_reader(alloc, plan, source);
+    }
     // Tags are judged one after another, since each needs what those before it leave behind. So reading
     // alone is shared out.
-    let body = below_header(text)?;
-    let Ok(mut progress) = JudgedRows::new(alloc, plan) else {
-        return None;
+    let Some(mut text) = Lines::below_header(alloc, source)? else {
+        return Ok(None);
     };
-    let names = reaction_names(alloc, plan)?;
-    let readers = workers.saturating_sub(1).max(1);
+    let Some(names) = reaction_names(alloc, plan) else {
+        return Ok(None);
+    };
+    let Ok(mut progress) = JudgedRows::new(alloc, plan) else {
+        return Ok(None);
+    };
+    let readers = workers - 1;
     let bytes = batch_bytes(plan).max(SHARE * readers as usize);
     let mut waiting = Vec::new(alloc);
     let mut parts = Vec::new(alloc);
-    let mut rest = body;
-    while !rest.is_empty() {
-        let (lines, behind) = first_lines(rest, bytes);
-        let ((gone, left), read) = go_beside(
-            rt, alloc, plan, &names, progress, waiting, parts, lines, readers,
-        )?;
-        progress = gone;
-        waiting = left;
-        parts = read;
-        rest = behind;
+    // A table has no more batches than rows.
+    for _batch in 0..MAX_ROWS {
+        let Some(lines) = text.next(bytes)? else {
+            return Ok(None);
+        };
+        if lines.is_empty() {
+            return Ok(finish_parts(progress, alloc, plan, waiting, parts));
+        }
+        let Some(on) = go_beside(
+            rt,
+            alloc,
+            plan,
+            &names,
+            progress,
+            waiting,
+            parts,
+            lines.as_slice(),
+            readers,
+        ) else {
+            return Ok(None);
+        };
+        progress = on.0.0;
+        waiting = on.0.1;
+        parts = on.1;
     }
-    let (mut progress, waiting) = judge_parts(progress, alloc, plan, waiting, parts)?;
-    progress.finish(alloc, plan, waiting.as_slice())
+    Ok(None)
 }

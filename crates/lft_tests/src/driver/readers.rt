@@ -163,8 +163,9 @@ impl Read for Stumbling {
     }
 }
 
-/// What is written of the trace of a file that stumbles at a call.
-fn told_of_file(alloc: Global, at: usize, kind: Option<ErrorKind>) -> Vec<u8> {
+/// What so many workers write of the trace of a file that stumbles at a call.
+fn told_of_file(rt: &HostRuntime, workers: u32, at: usize, kind: Option<ErrorKind>) -> Vec<u8> {
+    let alloc = rt.alloc();
     let mut out = Vec::new(alloc);
     let Ok(plan) = load(alloc, PROGRAM, EXTERNALS) else {
         return out;
@@ -176,7 +177,7 @@ fn told_of_file(alloc: Global, at: usize, kind: Option<ErrorKind>) -> Vec<u8> {
         kind,
     };
     let file = SizedReader::new(reader, TRACE.len());
-    let answer = judge_reader(alloc, &plan, "a b", file, &mut out);
+    let answer = judge_reader(rt, alloc, &plan, "a b", file, workers, &mut out);
     with_fault(out, answer.err())
 }
 
@@ -186,15 +187,16 @@ fn told_of_file(alloc: Global, at: usize, kind: Option<ErrorKind>) -> Vec<u8> {
 fn judges_what_a_file_gives(rt: HostRuntime) {
     let accepted = b"accepted runs=1 tags=1\n".as_slice();
     let failed = b"fault read 1 Failed a b\n".as_slice();
-    for at in 0..=TRACE.len() {
-        let interrupted = told_of_file(rt.alloc(), at, Some(ErrorKind::Interrupted));
-        assert!(rt; interrupted.as_slice() == accepted, "{at}");
-        assert!(rt;
-            told_of_file(rt.alloc(), at, Some(ErrorKind::TimedOut)).as_slice() == failed,
-            "{at}"
-        );
-        let ended = told_of_file(rt.alloc(), at, None);
-        let wanted = if at < TRACE.len() { failed } else { accepted };
-        assert!(rt; ended.as_slice() == wanted, "{at}");
+    for workers in 1..=3 {
+        let told = |at, kind| told_of_file(&rt, workers, at, kind);
+        for at in 0..=TRACE.len() {
+            let interrupted = told(at, Some(ErrorKind::Interrupted));
+            assert!(rt; interrupted.as_slice() == accepted, "{at}");
+            let stopped = told(at, Some(ErrorKind::TimedOut));
+            assert!(rt; stopped.as_slice() == failed, "{at}");
+            let ended = told(at, None);
+            let wanted = if at < TRACE.len() { failed } else { accepted };
+            assert!(rt; ended.as_slice() == wanted, "{at}");
+        }
     }
 }
