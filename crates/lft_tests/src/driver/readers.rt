@@ -6,6 +6,7 @@ use lft_load::SizedReader;
 use std::alloc::Global;
 use std::io;
 use std::io::{ErrorKind, Read};
+use std::thread::Threads;
 
 /// Gives so many bytes, at most a number of them a call, whatever the buffer has. The first byte of
 /// each call is the next letter. At so many calls, from the one of the number `at` on, counted from
@@ -164,8 +165,13 @@ impl Read for Stumbling {
 }
 
 /// What so many workers write of the trace of a file that stumbles at a call.
-fn told_of_file(rt: &HostRuntime, workers: u32, at: usize, kind: Option<ErrorKind>) -> Vec<u8> {
-    let alloc = rt.alloc();
+fn told_of_file<T: Threads + Sync>(
+    rt: &T,
+    alloc: Global,
+    workers: u32,
+    at: usize,
+    kind: Option<ErrorKind>,
+) -> Vec<u8> {
     let mut out = Vec::new(alloc);
     let Ok(plan) = load(alloc, PROGRAM, EXTERNALS) else {
         return out;
@@ -188,13 +194,13 @@ fn judges_what_a_file_gives(rt: HostRuntime) {
     let accepted = b"accepted runs=1 tags=1\n".as_slice();
     let failed = b"fault read 1 Failed a b\n".as_slice();
     for workers in 1..=3 {
-        let told = |at, kind| told_of_file(&rt, workers, at, kind);
         for at in 0..=TRACE.len() {
-            let interrupted = told(at, Some(ErrorKind::Interrupted));
+            let alloc = rt.alloc();
+            let interrupted = told_of_file(&rt, alloc, workers, at, Some(ErrorKind::Interrupted));
             assert!(rt; interrupted.as_slice() == accepted, "{at}");
-            let stopped = told(at, Some(ErrorKind::TimedOut));
+            let stopped = told_of_file(&rt, alloc, workers, at, Some(ErrorKind::TimedOut));
             assert!(rt; stopped.as_slice() == failed, "{at}");
-            let ended = told(at, None);
+            let ended = told_of_file(&rt, alloc, workers, at, None);
             let wanted = if at < TRACE.len() { failed } else { accepted };
             assert!(rt; ended.as_slice() == wanted, "{at}");
         }
