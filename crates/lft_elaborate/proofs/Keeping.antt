@@ -306,15 +306,6 @@ module _ (shapes : List Shape) (settings : List Setting) (k m : ℕ) (x : Settin
   over : inside shapes t m ≡ option_and_then (λ (o : Shape). option_and_then (setting_of shapes o (valued x).values) (child_at o.children.items m)) (slice_get shapes x.shape)
   over = ap (λ (v : Valued). inside shapes v m) (sym (is_valued settings k x t is at))
 
-  pub no_outer : slice_get shapes x.shape ≡ None → inside shapes t m ≡ None
-  no_outer e = over ∙ ap (option_and_then (λ (o : Shape). option_and_then (setting_of shapes o (valued x).values) (child_at o.children.items m))) e
-
-  pub no_child : (outer : Shape) → slice_get shapes x.shape ≡ Some outer → child_at outer.children.items m ≡ None → inside shapes t m ≡ None
-  no_child outer e f = over ∙ ap (option_and_then (λ (o : Shape). option_and_then (setting_of shapes o (valued x).values) (child_at o.children.items m))) e ∙ ap (option_and_then (setting_of shapes outer (valued x).values)) f
-
-  pub no_inner : (outer : Shape) (child : Child) → slice_get shapes x.shape ≡ Some outer → child_at outer.children.items m ≡ Some child → slice_get shapes child.shape ≡ None → inside shapes t m ≡ None
-  no_inner outer child e f g = over ∙ ap (option_and_then (λ (o : Shape). option_and_then (setting_of shapes o (valued x).values) (child_at o.children.items m))) e ∙ ap (option_and_then (setting_of shapes outer (valued x).values)) f ∙ ap (option_map (λ (i : Shape). record { shape = child.shape; values = values_inside outer (valued x).values child.given.items i })) g
-
   pub there_inside : (outer : Shape) (child : Child) (inner : Shape) → slice_get shapes x.shape ≡ Some outer → child_at outer.children.items m ≡ Some child → slice_get shapes child.shape ≡ Some inner → inside shapes t m ≡ Some (record { shape = child.shape; values = values_inside outer (map (λ v. Some v) x.values.items) child.given.items inner })
   there_inside outer child inner e f g = over ∙ ap (option_and_then (λ (o : Shape). option_and_then (setting_of shapes o (valued x).values) (child_at o.children.items m))) e ∙ ap (option_and_then (setting_of shapes outer (valued x).values)) f ∙ ap (option_map (λ (i : Shape). record { shape = child.shape; values = values_inside outer (valued x).values child.given.items i })) g
 

@@ -10,12 +10,6 @@ use Rattle.lft_elaborate.specs.{Channels.Channels.below, inner.Values.{IsUnsized
 use Rattle.lft_whole.specs.declared.tree.{Expression.Expression, Value.Value}
 use Rattle.lft_classes.{specs.{declared.shapes.{Child.Child, GivenValue.GivenValue, Shape.Shape}, inner.Shapes.child_at}, proofs.Rows.map_alike}
 
--- what stands in a list, seen as found
-pub some_at : {X : Type 0} (xs : List X) (p : ℕ) → option_and_then (λ v. v) (slice_get (map (λ v. Some v) xs) p) ≡ slice_get xs p
-some_at [] p = refl
-some_at (x ∷ xs) zero = refl
-some_at (x ∷ xs) (suc p) = some_at xs p
-
 -- one more of a list that is made by number
 pub numbered_more : {X Y : Type 0} (g : X → Y) (f : ℕ → Y) (xs : List X) (x : X) (p : ℕ) → map g xs ≡ map f (below p) → f p ≡ g x → map g (xs ++ x ∷ []) ≡ map f (below (p + 1))
 numbered_more g f xs x p so_far is =

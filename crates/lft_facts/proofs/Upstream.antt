@@ -263,9 +263,6 @@ module _ (program : Parts) (graph : GraphParts) (is_graph : IsGraphOf program gr
       go (inl q) l = let s : level_of graph after ≡ level_of graph last = ap (level_of graph) q in omega arith
       go (inr m) l = let s : level_of graph after < level_of graph last = ways.below after m in omega arith
 
-  pub order_known : (i c : ℕ) → slice_get graph.by_level i ≡ Some c → c < length graph.before
-  order_known i c e = let l : c < length graph.levels = (is_graph.by_level.all c).0 (contains_at graph.by_level i c e) in let n : length graph.levels ≡ length graph.before = is_graph.levels.as_long in omega arith
-
   pub list_there : (c : ℕ) (list : List ℕ) → slice_get graph.before c ≡ Some list → (n : ℕ) → n ≡ length graph.before → AreThere n list
   list_there c list e n s i a f = let l : a < length program.reactions = from_known a c (list, i, e, f) in let m : length graph.before ≡ length program.reactions = is_graph.as_long in omega arith
 

@@ -1,7 +1,7 @@
 -- What a run answered for each port and each action, one row after another.
-use Rattle.std.proofs.Common.{◌≡◌, ℕ, zero, suc, ◌+◌, ◌==◌, ◌⊎◌, inl, inr, List, [], ◌∷◌, ◌++◌, length, take, append-nil, refl, sym, ap, ◌∙◌, arith, Option, Some, None, slice_get, Bool, true, false, cond, option_map, unwrap_or, eq-eqb}
+use Rattle.std.proofs.Common.{◌≡◌, ℕ, ◌+◌, ◌==◌, ◌⊎◌, inl, inr, List, [], ◌∷◌, ◌++◌, length, take, append-nil, refl, sym, ap, ◌∙◌, Option, Some, None, slice_get, Bool, true, false, cond, option_map, unwrap_or, eq-eqb}
 use Rattle.std.specs.{Cmp.nat_cmp_is, Ordering.{is_eq, nat_cmp, ordering_then}, declared.cmp.Ordering.{Ordering, TheVariants.Equal}}
-use Rattle.std.proofs.lemmas.{Bool.{cases_eq, eqb-true, false_from_ne_true}, Map.Lookups.{exact_unsigned, exact_pairs}}
+use Rattle.std.proofs.lemmas.{Bool.{cases_eq, eqb-true, false_from_ne_true}, Map.Lookups.{exact_unsigned, exact_pairs}, List.length_push}
 use Rattle.lft_lists.proofs.{Picked.kept_more, Places.get_last}
 use Rattle.lft_tag.proofs.Comparing.{not_equal}
 use Rattle.lft_ir.specs.declared.{parts.Name.TheVariants.{Port, Action}, steps.row.Step.{Step, TheVariants.{Start, Read, Write, Schedule, Stop, End}}}
@@ -9,6 +9,7 @@ use Rattle.lft_rows.proofs.AnswersLemmas.Stepping.{last_stays, last_changes}
 use Rattle.lft_pair.specs.inner.{Answering.place_cmp, Answered.{writing, action_scheduled}}
 use Rattle.lft_pair.specs.declared.contrasting.contrasts.{Placed.Placed, LastWrite.LastWrite, Scheduling.Scheduling}
 use Rattle.lft_pair.specs.Runs.{write, write_of, last_write, scheduling, scheduling_of, schedulings}
+use Rattle.lft_pair.proofs.Answering.{get_unpushed}
 
 -- what is found for one number, by the number that it stands under
 abbrev under : {Y : Type 0} → ℕ → Option (ℕ × Y) → Option Y
@@ -76,16 +77,6 @@ module _ (run : List Placed) (i : ℕ) (x : Placed) (here : slice_get run i ≡ 
       let t : (a == b) ≡ false = false_from_ne_true (a == b) (λ z. d (eqb-true a b z)) in
       kept_more (scheduling_of a) run i x None here (sym (scheduling_is a x ∙ ap (under a) e ∙ ap (λ (c : Bool). cond c (Some y) None) t)) ∙ append-nil (schedulings (take i run) a)
 
-get_unpushed : {X : Type 0} (xs : List X) (y : X) (k : ℕ) → (k ≡ length xs → ⊥) → slice_get (xs ++ y ∷ []) k ≡ slice_get xs k
-get_unpushed [] y zero d = absurd (d refl)
-get_unpushed [] y (suc k) d = refl
-get_unpushed (x ∷ xs) y zero d = refl
-get_unpushed (x ∷ xs) y (suc k) d = get_unpushed xs y k (λ e. d (ap suc e))
-
-longer : {X : Type 0} (xs : List X) (y : X) → length (xs ++ y ∷ []) ≡ length xs + 1
-longer [] y = refl
-longer (z ∷ xs) y = let q = longer xs y in omega arith
-
 module _ (run : List Placed) (i : ℕ) (x : Placed) (here : slice_get run i ≡ Some x) (b j : ℕ) (y : Scheduling) (e : action_scheduled x ≡ Some (b, y)) (count : j ≡ length (schedulings (take i run) b)) where
   -- a scheduling is put under its action, and the place past those before
   pub scheduling_put : (a k : ℕ) (old new : Option Scheduling) → new ≡ cond (is_eq (place_cmp (b, j) (a, k))) (Some y) old → old ≡ slice_get (schedulings (take i run) a) k → new ≡ slice_get (schedulings (take (i + 1) run) a) k
@@ -115,7 +106,7 @@ module _ (run : List Placed) (i : ℕ) (x : Placed) (here : slice_get run i ≡ 
       go (inl z) =
           let t : is_eq (nat_cmp b a) ≡ true = ap is_eq (sym (nat_cmp_is b a Equal (sym z))) in
           let one : new ≡ Some (j + 1) = put ∙ ap (λ (c : Bool). cond c (Some (j + 1)) old) t in
-          let long : length (schedulings (take (i + 1) run) a) ≡ length (schedulings (take i run) a) + 1 = ap length (scheduling_same run i x here a b y e z) ∙ longer (schedulings (take i run) a) y in
+          let long : length (schedulings (take (i + 1) run) a) ≡ length (schedulings (take i run) a) + 1 = ap length (scheduling_same run i x here a b y e z) ∙ length_push (schedulings (take i run) a) y in
           ap (λ (o : Option ℕ). unwrap_or o 0) one ∙ ap (λ (c : ℕ). c + 1) (count ∙ ap (λ (c : ℕ). length (schedulings (take i run) c)) (sym z)) ∙ sym long
       go (inr d) =
           let t : is_eq (nat_cmp b a) ≡ false = not_equal (nat_cmp b a) (λ z. d (sym (exact_unsigned b a z))) in

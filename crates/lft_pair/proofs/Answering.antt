@@ -4,6 +4,7 @@ use Rattle.std.specs.{BTreeMap.{BTreeMap, is_at}, Cmp.{IsTotalOrder, nat_cmp_is,
 use Rattle.std.specs.{Map.lookup, Ordering.{is_eq, nat_cmp, ordering_then}, declared.cmp.Ordering.{Ordering, TheVariants.Equal}}
 use Rattle.std.proofs.lemmas.Bool.{cases_eq, eqb-true, false_from_ne_true, Decides.{Decides-eqb, Decides-and, Decides-like}}
 use Rattle.std.proofs.lemmas.{Cmp.{nat_cmp_total, then_total, on_total}, Map.Lookups.{btree_map_from_get, btree_map_eq-Decides, exact_unsigned, exact_pairs}}
+use Rattle.std.proofs.lemmas.List.{length_push}
 use Rattle.lft_lists.proofs.{Members.{Mem, mem_from_filter, get_mem}, Picked.{kept_more, take_next}, Places.get_last}
 use Rattle.lft_tag.{specs.declared.Tag.Tag, proofs.Comparing.not_equal}
 use Rattle.lft_ir.specs.declared.parts.{Name.{Name, TheVariants.{Port, Action}}, Value.Value}
@@ -80,7 +81,7 @@ module _ (steps : List Step) (i : ℕ) (s : Step) (here : slice_get steps i ≡ 
       let t : (a == b) ≡ false = false_from_ne_true (a == b) (λ z. d (eqb-true a b z)) in
       kept_more (value_scheduled a) steps i s None here (sym (scheduled_is a s ∙ ap (scheduled_as a) e ∙ ap (λ (c : Bool). cond c (Some x) None) t)) ∙ append-nil (scheduled_for (take i steps) a)
 
-get_unpushed : {X : Type 0} (xs : List X) (y : X) (k : ℕ) → (k ≡ length xs → ⊥) → slice_get (xs ++ y ∷ []) k ≡ slice_get xs k
+pub get_unpushed : {X : Type 0} (xs : List X) (y : X) (k : ℕ) → (k ≡ length xs → ⊥) → slice_get (xs ++ y ∷ []) k ≡ slice_get xs k
 get_unpushed [] y zero d = absurd (d refl)
 get_unpushed [] y (suc k) d = refl
 get_unpushed (x ∷ xs) y zero d = refl
@@ -111,15 +112,11 @@ module _ (steps : List Step) (i : ℕ) (s : Step) (here : slice_get steps i ≡ 
   pub count_put : (a : ℕ) (old new : Option ℕ) → new ≡ cond (is_eq (nat_cmp b a)) (Some (j + 1)) old → unwrap_or old 0 ≡ length (scheduled_for (take i steps) a) → unwrap_or new 0 ≡ length (scheduled_for (take (i + 1) steps) a)
   count_put a old new put so_far = go (cases_eq a b)
     where
-      longer : {X : Type 0} (xs : List X) (y : X) → length (xs ++ y ∷ []) ≡ length xs + 1
-      longer [] y = refl
-      longer (z ∷ xs) y = let q = longer xs y in omega arith
-
       go : (a ≡ b) ⊎ (a ≡ b → ⊥) → unwrap_or new 0 ≡ length (scheduled_for (take (i + 1) steps) a)
       go (inl z) =
           let t : is_eq (nat_cmp b a) ≡ true = ap is_eq (sym (nat_cmp_is b a Equal (sym z))) in
           let one : new ≡ Some (j + 1) = put ∙ ap (λ (c : Bool). cond c (Some (j + 1)) old) t in
-          let long : length (scheduled_for (take (i + 1) steps) a) ≡ length (scheduled_for (take i steps) a) + 1 = ap length (scheduled_same steps i s here a b x e z) ∙ longer (scheduled_for (take i steps) a) x in
+          let long : length (scheduled_for (take (i + 1) steps) a) ≡ length (scheduled_for (take i steps) a) + 1 = ap length (scheduled_same steps i s here a b x e z) ∙ length_push (scheduled_for (take i steps) a) x in
           ap (λ (o : Option ℕ). unwrap_or o 0) one ∙ ap (λ (c : ℕ). c + 1) (count ∙ ap (λ (c : ℕ). length (scheduled_for (take i steps) c)) (sym z)) ∙ sym long
       go (inr d) =
           let t : is_eq (nat_cmp b a) ≡ false = not_equal (nat_cmp b a) (λ z. d (sym (exact_unsigned b a z))) in

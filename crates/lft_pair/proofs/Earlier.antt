@@ -1,10 +1,10 @@
 -- Where the first run that doesn't agree is, all before it is the same.
-use Rattle.std.proofs.Common.{◌≡◌, ℕ, zero, suc, ◌<◌, ◌⊎◌, inl, inr, List, length, refl, sym, ap, ◌∙◌, subst, arith, Option, Some, None, slice_get, Contains}
+use Rattle.std.proofs.Common.{◌≡◌, ℕ, zero, suc, ◌<◌, ◌⊎◌, inl, inr, List, length, refl, sym, ap, subst, arith, Option, Some, None}
 use native.Mathlib.Decide.{dec_lt}
 use Rattle.lft_tag.specs.declared.Tag.{Tag}
 use Rattle.lft_ir.specs.{Parts.Parts, declared.steps.row.Row.Row}
 use Rattle.lft_graph.specs.{Precedence.{Direct, Precedes, Precedes.{one, more}}, Graph.{GraphParts, IsGraphOf}}
-use Rattle.lft_lists.proofs.Places.{get_there}
+use Rattle.lft_graph.proofs.Ancestry.{level_there, lower as less_level, precedes_known}
 use Rattle.lft_model.specs.{Plans.{PlanParts, IsSoundPlan}, Runs.Ran, Recorded.SameRuns, Breaches.Legal}
 use Rattle.lft_model.proofs.{Places.slice_get_within, Decided.dec_ran}
 use Rattle.lft_model.proofs.Agree.{SameRun, swap, IsBefore, SameBefore, ran_same, history_same, reads_same, agree, values_same, absent_same}
@@ -81,53 +81,16 @@ module _ (plan : PlanParts) (good : IsSoundPlan plan) (P : Tag → ℕ → Type 
 
 -- what precedes a reaction has a lower level in the graph
 module _ (program : Parts) (graph : GraphParts) (is_graph : IsGraphOf program graph) where
-  leaves : (a r : ℕ) → Direct program a r → a < length program.reactions
-  leaves a r (inl d) = slice_get_within program.reactions a d.first d.is_first
-  leaves a r (inr d) = slice_get_within program.reactions a d.writer d.is_writer
-
   arrives : (a r : ℕ) → Direct program a r → r < length program.reactions
   arrives a r (inl d) = slice_get_within program.reactions r d.second d.is_second
   arrives a r (inr d) = slice_get_within program.reactions r d.reader d.is_reader
-
-  from_there : (a r : ℕ) → Precedes program a r → a < length program.reactions
-  from_there a r (one d) = leaves a r d
-  from_there a r (more {b = m} d p) = leaves a m d
 
   to_there : (a r : ℕ) → Precedes program a r → r < length program.reactions
   to_there a r (one d) = arrives a r d
   to_there a r (more {b = m} d p) = to_there m r p
 
-  has_level : (a : ℕ) → a < length program.reactions → (k : ℕ) × (slice_get graph.levels a ≡ Some k)
-  has_level a l = let x : length graph.levels ≡ length graph.before = is_graph.levels.as_long in let y : length graph.before ≡ length program.reactions = is_graph.as_long in get_there graph.levels a (omega arith)
-
-  has_list : (a : ℕ) → a < length program.reactions → (list : List ℕ) × (slice_get graph.before a ≡ Some list)
-  has_list a l = let y : length graph.before ≡ length program.reactions = is_graph.as_long in get_there graph.before a (omega arith)
-
-  lower_than : (n a r k l : ℕ) → l < n → Precedes program a r → slice_get graph.levels a ≡ Some k → slice_get graph.levels r ≡ Some l → k < l
-  lower_than zero a r k l u p e f = absurd (omega arith)
-  lower_than (suc n) a r k l u p e f = go (λ b m w v x. lower_than n a b k m v w e x) ((is_graph.chains a r list.0 list.1).0 p)
-    where
-      list : (x : List ℕ) × (slice_get graph.before r ≡ Some x)
-      list = has_list r (to_there a r p)
-
-      go : ((b m : ℕ) → Precedes program a b → m < n → slice_get graph.levels b ≡ Some m → k < m) → ((b : ℕ) × Contains list.0 b × ((a ≡ b) ⊎ Precedes program a b)) → k < l
-      go again q = by q.2
-        where
-          before : Precedes program q.0 r
-          before = (is_graph.chains q.0 r list.0 list.1).1 (q.0, q.1, inl refl)
-
-          level : (x : ℕ) × (slice_get graph.levels q.0 ≡ Some x)
-          level = has_level q.0 (from_there q.0 r before)
-
-          less : level.0 < l
-          less = is_graph.levels.above q.0 r level.0 l list.0 list.1 q.1 level.1 f
-
-          by : (a ≡ q.0) ⊎ Precedes program a q.0 → k < l
-          by (inl s) = let d : level.0 < l = less in let z : Some k ≡ Some level.0 = sym e ∙ ap (λ c. slice_get graph.levels c) s ∙ level.1 in let y : k ≡ level.0 = cc in omega arith
-          by (inr w) = let d : level.0 < l = less in let m : k < level.0 = again q.0 level.0 w (omega arith) level.1 in omega arith
-
   pub lower : (g : Tag) (a r : ℕ) → Precedes program a r → ComesFirst graph.levels g a g r
-  lower g a r p = let k = has_level a (from_there a r p) in let l = has_level r (to_there a r p) in inr (refl, (k.0, l.0, k.1, l.1, inl (lower_than (suc l.0) a r k.0 l.0 (omega arith) p k.1 l.1)))
+  lower g a r p = let k = level_there program graph is_graph a (precedes_known program a r p) in let l = level_there program graph is_graph r (to_there a r p) in inr (refl, (k.0, l.0, k.1, l.1, inl (less_level program graph is_graph (suc l.0) a r k.0 l.0 (omega arith) p k.1 l.1)))
 
   pub is_first : (g : Tag) (r : ℕ) (plan : PlanParts) → plan.program ≡ program → (h : Tag) (a : ℕ) → IsBefore plan g r h a → ComesFirst graph.levels h a g r
   is_first g r plan e h a (inl b) = inl b

@@ -1,8 +1,8 @@
 -- What holds of each reactor of a tree of which no cause holds that is looked for in each alone.
 use Rattle.std.proofs.Common.{◌≡◌, ◌≢◌, ℕ, ◌+◌, ◌<◌, ◌≤◌, ◌⊎◌, inl, inr, List, ◌++◌, length, sym, ap, ◌∙◌, arith, Some, slice_get, map}
 use Rattle.std.proofs.lemmas.Bool.{cases_lt, cases_eq}
-use Rattle.lft_resolve.proofs.{Effects.no_duplicate, Twice.Any-at}
-use Rattle.lft_resolve.specs.Causes.{IsTwice, NoneHolds, DuplicateName, DeclaresTwice, UnknownName, WrongPlace, TwoSources, WritesTwice, WidthMismatch, DiffersInWidth, later_causes}
+use Rattle.lft_resolve.proofs.{Twice.Any-at, Effects.names_once}
+use Rattle.lft_resolve.specs.Causes.{IsTwice, NoneHolds, UnknownName, WrongPlace, TwoSources, WritesTwice, WidthMismatch, DiffersInWidth, later_causes}
 use Rattle.lft_resolve.specs.Kinds.{names_in, destinations_in}
 use Rattle.lft_lists.proofs.{Mapped.mapped, Places.{get_right, get_left}}
 use Rattle.lft_tree.specs.Tree.{FileTree, ReactorTree, PortTree, ConnectionTree, reactors_of, connections_of, ports_of, timers_of, actions_of, instances_of}
@@ -24,10 +24,6 @@ once_among name xs all n once stands i j x y a b same = by (cases_lt i j) (cases
     by (inr l) (inr m) = omega arith
 
 module _ (tree : FileTree) (lawful : IsLawful tree) (k : ℕ) (r : ReactorTree) (at : slice_get (reactors_of tree) k ≡ Some r) where
-  names_once : IsTwice (names_in r) → ⊥
-  unfolding DuplicateName
-  names_once two = no_duplicate (reactors_of tree) lawful.first (inr (Any-at DeclaresTwice (reactors_of tree) k r at (inl two)))
-
   abbrev parameters : List (List ℕ)
   parameters = map (λ x. x.name) r.parameters
 
@@ -45,7 +41,7 @@ module _ (tree : FileTree) (lawful : IsLawful tree) (k : ℕ) (r : ReactorTree) 
 
   -- no two ports, timers or actions have one name
   pub ports_once : (i j : ℕ) (x y : PortTree) → slice_get (ports_of r) i ≡ Some x → slice_get (ports_of r) j ≡ Some y → x.name ≡ y.name → i ≡ j
-  ports_once = once_among (λ x. x.name) (ports_of r) (names_in r) (length parameters) names_once (λ m z e.
+  ports_once = once_among (λ x. x.name) (ports_of r) (names_in r) (length parameters) (names_once (reactors_of tree) k r at lawful.first) (λ m z e.
       get_left (parameters ++ ports ++ timers ++ actions) instances (length parameters + m) z.name
       (get_left (parameters ++ ports ++ timers) actions (length parameters + m) z.name
       (get_left (parameters ++ ports) timers (length parameters + m) z.name

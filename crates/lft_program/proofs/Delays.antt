@@ -21,7 +21,7 @@ value_at (p ∷ ps) (v ∷ vs) name k e = by (bytes_eq name p.name) (place name 
     by false None more e = absurd (cc)
     by false (Some j) more e = let z : k ≡ suc j = cc in ap (λ i. unwrap_or (slice_get (v ∷ vs) i) 0) z ∙ more j refl
 
-clock_is : (x : Inside) (t : TimeTree) (clock : Clock) → IsClock x.reactor t clock → (IsLongTime t → ⊥) → clock_in x.values clock ≡ time_in x t
+pub clock_is : (x : Inside) (t : TimeTree) (clock : Clock) → IsClock x.reactor t clock → (IsLongTime t → ⊥) → clock_in x.values clock ≡ time_in x t
 clock_is x (Written t) (Fixed m) is short = is ∙ kept_is (nanoseconds t) short
 clock_is x (Written t) (Parameter k) is short = absurd is
 clock_is x (Named name) (Fixed m) is short = absurd is

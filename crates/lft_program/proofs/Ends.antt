@@ -7,8 +7,8 @@ use Rattle.lft_resolve.specs.inner.{Expansion.{Children.child_of, Joins.{port_at
 use Rattle.lft_resolve.specs.Instances.{Inside, thing_at, stands_for, stands_inside, entered, main_instance, reactor_named, given_in}
 use Rattle.lft_resolve.proofs.ExpansionLemmas.Orders.{along_kid}
 use Rattle.lft_program.specs.{Located.{Located, ports_in}, inner.Nests.IsNest, declared.nesting.{nest.Nest.Nest, tables.Tables.Tables}}
-use Rattle.lft_program.proofs.{Counting.base, Nested.{instance_of, number_of, child_at}, Ports.{count_is, number_at, thing_forth}}
-use Rattle.lft_program.proofs.Singles.{place_forth, place_found}
+use Rattle.lft_program.proofs.{Counting.base, Nested.{instance_of, number_of, child_at}, Ports.{number_at, thing_forth}, Singles.{place_forth, place_found}}
+use Rattle.lft_program.proofs.Listing.{count_is}
 
 -- the step that an end goes down from its instance
 abbrev pub steps_to : End → List ℕ

@@ -3,8 +3,8 @@ use Rattle.std.proofs.Common.{◌≡◌, ℕ, ◌+◌, ◌<◌, ◌≤◌, zero,
 use Rattle.std.proofs.lemmas.{Grind.common_steps, Option.{slice_get_within, get_or_from_slice_get, slice_get-get_or}}
 use Rattle.lft_lists.proofs.Mapped.{mapped}
 use Rattle.lft_ir.specs.inner.Names.{HasNoTwice}
-use Rattle.lft_program.{specs.inner.Extended.{Ending, name_after, extended, AreAfter}, proofs.Zips.{map_around, map_last}}
-use Rattle.lft_resolve.proofs.Twice.{slice_get-front, slice_get-middle}
+use Rattle.lft_program.{specs.inner.Extended.{Ending, name_after, extended, AreAfter}, proofs.Zips.map_around}
+use Rattle.lft_resolve.proofs.Twice.{slice_get-front, slice_get-middle, map_last}
 
 pub extended-append : (t : List (List ℕ)) (xs ys : List Ending) → extended t (xs ++ ys) ≡ extended (extended t xs) ys
 extended-append t [] ys = refl

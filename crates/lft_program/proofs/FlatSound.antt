@@ -1,9 +1,9 @@
 -- The flat program of a lawful tree is sound.
 use Rattle.std.proofs.Common.{◌≡◌, ℕ, ◌<◌, ◌≤◌, filter_map, length, not, slice_get, Some, Any, Contains, option_to_list, sym, ap, subst, ◌∙◌}
 use Rattle.std.proofs.lemmas.{List.length-map, Option.slice_get_within}
-use Rattle.lft_lists.proofs.Places.{at_contains, Some_same}
+use Rattle.lft_lists.proofs.{Places.{at_contains, Some_same}, Zips.long as zip_long}
 use Rattle.lft_tree.specs.Tree.{FileTree, PortTree, RefTree, TriggerTree, AtStartup, AtShutdown, OnRef, reactors_of, ports_of, actions_of, timers_of, reactions_of}
-use Rattle.lft_resolve.proofs.{Effects.{Any-flat, reads_once, effects_once}, Somes.{Any-left, Any-right}}
+use Rattle.lft_resolve.proofs.{Effects.{Any-flat, reads_once, effects_once}, Somes.{Any-left, Any-right}, Files.AllZip-from}
 use Rattle.lft_resolve.specs.{Causes.{HasLongTime, IsLongTime}, Instances.{stands_for, thing_at}, Kinds.{names_read, ref_in, timer_times}}
 use Rattle.lft_resolve.specs.Sheets.{is_timer, without_timers}
 use Rattle.lft_program.specs.{Located.{Located, Declared, declared, ports_in, actions_in, timers_in}, inner.Tables.IsLawful}
@@ -11,7 +11,6 @@ use Rattle.lft_program.specs.Flattening.{Flat, IsPort, IsAction, IsTimer, IsReac
 use Rattle.lft_program.proofs.{Placed.{declared_from, thing_from, path_once}, Entered.{IsUsual, all_usual, option_short, in_timers, in_actions}}
 use Rattle.lft_program.proofs.{OneWriter.{Writes, writes, same_path}, Ordered.{reaction_at, is_numbered, is_consecutive}}
 use Rattle.lft_program.proofs.Standing.{Some_of, all_of, some_kept, some_append, some_distinct, once_apart, apart_pairs, name_once, trigger_names}
-use Rattle.lft_program.proofs.Zips.{AllZip-from, AllZip-length}
 use Rattle.lft_ir.specs.{Names.{AreDistinct, AreWords}, Parts.{Parts, inputs}, Naming.named}
 use Rattle.lft_ir.specs.Sound.{IsSound, HasOneWriter, HasDistinct, IsNameOf, IsTriggerOf, NamesParts, IsWithinLimits, HasTimes, IsWellNamed}
 use Rattle.lft_ir.specs.declared.parts.{Name.{Name, TheVariants.{Port, Action}}, Reaction.Reaction}
@@ -21,16 +20,16 @@ module _ (tree : FileTree) (program : Parts) (flat : Flat tree program) where
   -- ---- what is named is there
 
   many_ports : length (ports_in flat.instances) ≡ length program.ports
-  many_ports = length-map (declared ports_of flat.instances) _ ∙ sym (AllZip-length (IsPort tree flat.instances) (declared ports_of flat.instances) program.ports flat.ports)
+  many_ports = length-map (declared ports_of flat.instances) _ ∙ zip_long (IsPort tree flat.instances) (declared ports_of flat.instances) program.ports flat.ports
 
   many_actions : length (actions_in flat.instances) ≡ length program.actions
-  many_actions = length-map (declared actions_of flat.instances) _ ∙ sym (AllZip-length IsAction (declared actions_of flat.instances) program.actions flat.actions)
+  many_actions = length-map (declared actions_of flat.instances) _ ∙ zip_long IsAction (declared actions_of flat.instances) program.actions flat.actions
 
   many_timers : length (timers_in flat.instances) ≡ length program.timers
-  many_timers = length-map (declared timers_of flat.instances) _ ∙ sym (AllZip-length IsTimer (declared timers_of flat.instances) program.timers flat.timers)
+  many_timers = length-map (declared timers_of flat.instances) _ ∙ zip_long IsTimer (declared timers_of flat.instances) program.timers flat.timers
 
   many_reactions : length (declared reactions_of flat.instances) ≡ length program.reactions
-  many_reactions = sym (AllZip-length (IsReaction flat.instances) (declared reactions_of flat.instances) program.reactions flat.reactions)
+  many_reactions = zip_long (IsReaction flat.instances) (declared reactions_of flat.instances) program.reactions flat.reactions
 
   name_there : (at : Located) (ref : RefTree) (n : Name) → IsFlatName flat.instances at ref n → IsNameOf program n
   name_there at ref (Port p) is = subst (λ k. p < k) many_ports (slice_get_within (ports_in flat.instances) p is.0 is.2)

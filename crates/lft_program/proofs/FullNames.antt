@@ -1,9 +1,9 @@
 -- The full names of a program's things: none stands twice in the list of all, and what the list has at each place.
-use Rattle.std.proofs.Common.{◌≡◌, ℕ, ◌+◌, ◌-◌, ◌<◌, ◌^◌, zero, suc, List, [], ◌∷◌, ◌++◌, map, take, drop, length, get_or, slice_get, Some, All, AllPairs, codes, refl, sym, ap, subst, ◌∙◌, arith, ◌⊎◌, ⊎_elim, inl, inr, length-append, length-drop, append_assoc, append-nil, zero-add}
+use Rattle.std.proofs.Common.{◌≡◌, ℕ, ◌+◌, ◌-◌, ◌<◌, ◌^◌, List, [], ◌∷◌, ◌++◌, map, take, drop, length, get_or, slice_get, Some, All, AllPairs, codes, refl, sym, ap, subst, ◌∙◌, arith, ◌⊎◌, ⊎_elim, inl, inr, length-append, length-drop, append_assoc, append-nil}
 use Rattle.std.specs.Fmt.{decimal}
 use Rattle.std.proofs.lemmas.{Bool.cases_order, Fmt.decimal_injective, Grind.common_steps, List.{map-append, length-map}}
 use Rattle.std.proofs.lemmas.Option.{slice_get_within, get_or_from_slice_get}
-use Rattle.lft_lists.proofs.Mapped.{mapped_from}
+use Rattle.lft_lists.proofs.{Mapped.mapped_from, Places.{get_right, get_append_cases}}
 use Rattle.lft_ir.{specs.inner.Names.HasNoTwice, proofs.Ranges.slice_get-drop}
 use Rattle.lft_program.specs.inner.{Extended.{Ending, dotted, hashed, endings, extended, AreAfter}, FullNames.{members, AreOfProgram, AreFew}}
 use Rattle.lft_program.specs.declared.naming.{OwnName.OwnName, PlacedReaction.PlacedReaction}
@@ -13,16 +13,6 @@ use Rattle.lft_tree.specs.Identifiers.{IsName}
 use Rattle.lft_resolve.proofs.Twice.{slice_get-front}
 
 module _ {X : Type 0} where
-  -- an element of two lists in a row
-  pub part_at : (xs ys : List X) (i : ℕ) (x : X) → slice_get (xs ++ ys) i ≡ Some x → (slice_get xs i ≡ Some x) ⊎ ((j : ℕ) × (i ≡ length xs + j) × (slice_get ys j ≡ Some x))
-  part_at [] ys i x at = inr (i, sym (zero-add i), at)
-  part_at (y ∷ xs) ys zero x at = inl at
-  part_at (y ∷ xs) ys (suc i) x at = ⊎_elim (λ h. inl h) (λ h. inr (h.0, (let e = h.1 in omega arith), h.2)) (part_at xs ys i x at)
-
-  pub later_at : (xs ys : List X) (j : ℕ) → slice_get (xs ++ ys) (length xs + j) ≡ slice_get ys j
-  later_at [] ys j = ap (slice_get ys) (zero-add j)
-  later_at (x ∷ xs) ys j = let e : suc (length xs) + j ≡ suc (length xs + j) = omega arith in ap (slice_get (x ∷ xs ++ ys)) e ∙ later_at xs ys j
-
   pub all_at : (P : X → Type 0) (xs : List X) → All P xs → (k : ℕ) (x : X) → slice_get xs k ≡ Some x → P x
   all_at P xs all k x at = subst P (get_or_from_slice_get xs k x x at) (all k x (slice_get_within xs k x at))
 
@@ -52,7 +42,7 @@ ready front middle back all parts paths t so_far =
     let long : length t ≡ 1 + length front = ap length so_far ∙ length-extended main front in
     record {
       after = λ k e at.
-          let here : slice_get all (length front + k) ≡ Some e = ap (λ l. slice_get l (length front + k)) parts ∙ later_at front (middle ++ back) k ∙ slice_get-front middle back k e at in
+          let here : slice_get all (length front + k) ≡ Some e = ap (λ l. slice_get l (length front + k)) parts ∙ get_right front (middle ++ back) k ∙ slice_get-front middle back k e at in
           let low = paths.after (length front + k) e here in
           omega arith;
       distinct = λ i j text at_i at_j.
@@ -71,7 +61,7 @@ module _ (instances ports actions timers : List OwnName) (reactions : List Place
 
   -- an instance stands before what it declares
   pub before_member : (k : ℕ) (d : OwnName) → slice_get (members instances ports actions timers) k ≡ Some d → (d.instance < 1 + k) × (d.instance < length instances)
-  before_member k d at = ⊎_elim inner other (part_at (drop 1 instances) (ports ++ actions ++ timers) k d at)
+  before_member k d at = ⊎_elim inner other (get_append_cases (drop 1 instances) (ports ++ actions ++ timers) k d at)
     where
       some : 0 < length instances
       some = things.nested.main
@@ -103,7 +93,7 @@ module _ (instances ports actions timers : List OwnName) (reactions : List Place
       ⊎_elim
       (λ h. inl (mapped_from dotted (members instances ports actions timers) k e h))
       (λ h. let from = mapped_from hashed reactions h.0 e h.2 in inr (h.0, from.0, h.1 ∙ ap (λ n. n + h.0) (length-map (members instances ports actions timers) dotted), from.1, from.2))
-      (part_at (map dotted (members instances ports actions timers)) (map hashed reactions) k e at)
+      (get_append_cases (map dotted (members instances ports actions timers)) (map hashed reactions) k e at)
 
   after : AreAfter 1 (endings instances ports actions timers reactions)
   after k e at =

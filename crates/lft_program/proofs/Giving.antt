@@ -1,13 +1,13 @@
 -- What parameters are given, by name in the tree and by place in the tables.
-use Rattle.std.proofs.Common.{◌≡◌, ℕ, zero, suc, ◌+◌, ◌<◌, ◌≤◌, ◌⊎◌, inl, inr, Bool, true, false, cond, eqb, List, [], ◌∷◌, ◌++◌, Any, refl, sym, ap, ◌∙◌, subst, arith, Some, slice_get, find, map, flat_map, option_map, option_to_list, unwrap_or, bytes_eq}
-use Rattle.std.{specs.{List.{AllZip, enumerate_from}, Option.option_map_or}, proofs.lemmas.{Bool.{cases_lt, Decides.eqb_tells}, Slice.Eq.bytes_eq-Decides}}
-use Rattle.lft_program.proofs.{Delays.kept_is, Counting.flat_at}
+use Rattle.std.proofs.Common.{◌≡◌, ℕ, zero, suc, ◌+◌, ◌<◌, ◌⊎◌, inl, inr, Bool, true, false, cond, eqb, List, [], ◌∷◌, ◌++◌, Any, refl, sym, ap, ◌∙◌, subst, arith, Some, slice_get, find, map, flat_map, option_map, option_to_list, bytes_eq}
+use Rattle.std.{specs.{List.{AllZip, enumerate_from}, Option.option_map_or}, proofs.lemmas.{Bool.Decides.eqb_tells, Slice.Eq.bytes_eq-Decides}}
+use Rattle.lft_program.proofs.{Delays.{kept_is, clock_is}, Counting.flat_at, OneThing.once_at}
 use Rattle.lft_lists.proofs.Mapped.{mapped, option_map_some}
-use Rattle.lft_tree.specs.Tree.{ReactorTree, ParameterTree, AssignmentTree, InstanceTree, TimeTree, Written, Named, nanoseconds, instances_of, ports_of, timers_of, actions_of, connections_of}
-use Rattle.lft_resolve.specs.inner.{Expansion.Values.{clock_in, value_in, values_in}, Places.place, Sheets.{IsClock, IsGiven, kept}}
-use Rattle.lft_resolve.specs.declared.expansion.settings.{Clock.{Clock, TheVariants.{Fixed, Parameter}}, Given.Given}
+use Rattle.lft_tree.specs.Tree.{ReactorTree, ParameterTree, AssignmentTree, InstanceTree, TimeTree, nanoseconds, instances_of, ports_of, timers_of, actions_of, connections_of}
+use Rattle.lft_resolve.specs.inner.{Expansion.Values.{clock_in, value_in, values_in}, Places.place, Sheets.{IsGiven, kept}}
+use Rattle.lft_resolve.specs.declared.expansion.settings.Given.{Given}
 use Rattle.lft_resolve.specs.Causes.{DeclaresTwice, DuplicateName, HasLongTime, IsLongTime, IsTwice, NoneHolds, first_causes, longest}
-use Rattle.lft_resolve.specs.{Instances.{Inside, given_in, given_or_default, time_in, value_of}, Kinds.timer_times}
+use Rattle.lft_resolve.specs.{Instances.{Inside, given_in, given_or_default}, Kinds.timer_times}
 use Rattle.lft_resolve.proofs.{Somes.{Any-head, Any-left, Any-right, Any-tail}, Twice.{Any-at, twice_left}}
 
 -- ---- places of names that stand once
@@ -29,16 +29,8 @@ place_there q (t ∷ ts) (suc k) e = by (bytes_eq q t) (place_there q ts k e)
     by true r = (0, refl)
     by false r = (suc r.0, ap (option_map suc) r.1)
 
-once_at : {X : Type 0} (xs : List X) (i j : ℕ) (x : X) → (IsTwice xs → ⊥) → slice_get xs i ≡ Some x → slice_get xs j ≡ Some x → i ≡ j
-once_at xs i j x once e f = by (cases_lt i j) (cases_lt j i)
-  where
-    by : (i < j) ⊎ (j ≤ i) → (j < i) ⊎ (i ≤ j) → i ≡ j
-    by (inl l) m = absurd (once (i, j, x, l, e, f))
-    by (inr l) (inl m) = absurd (once (j, i, x, m, f, e))
-    by (inr l) (inr m) = omega arith
-
 pub place_once : (q : List ℕ) (xs : List (List ℕ)) (n : ℕ) → (IsTwice xs → ⊥) → slice_get xs n ≡ Some q → place q xs ≡ Some n
-place_once q xs n once e = let j = place_there q xs n e in j.1 ∙ ap Some (once_at xs j.0 n q once (place_is q xs j.0 j.1) e)
+place_once q xs n once e = let j = place_there q xs n e in j.1 ∙ ap Some (once_at xs q j.0 n once (place_is q xs j.0 j.1) e)
 
 -- no parameter is declared twice where none of the first causes holds
 pub parameters_once : (rs : List ReactorTree) (n : ℕ) (r : ReactorTree) → NoneHolds (first_causes rs) → slice_get rs n ≡ Some r → IsTwice (map (λ p. p.name) r.parameters) → ⊥
@@ -72,23 +64,6 @@ given_short r k j i a short e f long =
     let rest = flat_map (λ c. option_to_list c.delay) (connections_of r) in
     let here : Any IsLongTime given = Any-at IsLongTime given _ a.value at long in
     short (inr (Any-left IsLongTime (offsets ++ delays ++ given) rest (Any-right IsLongTime (offsets ++ delays) given here)))
-
--- ---- a time, by name and by place
-
-value_is : (ps : List ParameterTree) (vs : List ℕ) (name : List ℕ) (k : ℕ) → place name (map (λ p. p.name) ps) ≡ Some k → value_of ps vs name ≡ unwrap_or (slice_get vs k) 0
-value_is [] vs name k e = absurd (cc)
-value_is (p ∷ ps) [] name k e = refl
-value_is (p ∷ ps) (v ∷ vs) name k e = by (bytes_eq name p.name) (λ j f. value_is ps vs name j f) e
-  where
-    by : (b : Bool) → ((j : ℕ) → place name (map (λ p. p.name) ps) ≡ Some j → value_of ps vs name ≡ unwrap_or (slice_get vs j) 0) → cond b (Some 0) (option_map suc (place name (map (λ p. p.name) ps))) ≡ Some k → cond b v (value_of ps vs name) ≡ unwrap_or (slice_get (v ∷ vs) k) 0
-    by true go e = let z : 0 ≡ k = cc in subst (λ k. v ≡ unwrap_or (slice_get (v ∷ vs) k) 0) z refl
-    by false go e = let m = option_map_some suc (place name (map (λ p. p.name) ps)) k e in go m.0 m.1 ∙ ap (λ k. unwrap_or (slice_get (v ∷ vs) k) 0) m.2
-
-pub time_is : (x : Inside) (t : TimeTree) (clock : Clock) → (IsLongTime t → ⊥) → IsClock x.reactor t clock → clock_in x.values clock ≡ time_in x t
-time_is x (Written t) (Fixed n) short c = c ∙ kept_is (nanoseconds t) short
-time_is x (Written t) (Parameter k) short c = absurd c
-time_is x (Named name) (Fixed n) short c = absurd c
-time_is x (Named name) (Parameter k) short c = sym (value_is x.reactor.parameters x.values name k c)
 
 -- ---- what one instance is given
 
@@ -125,7 +100,7 @@ module _ (x : Inside) (r : ReactorTree) (once : IsTwice (map (λ p. p.name) r.pa
       ∙ by (bytes_eq p.name a.name) rest
     where
       by : (b : Bool) → value_in x.values gs n (nanoseconds p.default) ≡ given_in x assigned p → option_map_or (λ g. clock_in x.values g.clock) (cond b (Some g) (find (λ g. eqb g.place n) gs)) (nanoseconds p.default) ≡ given_or_default x p (cond b (Some a) (find (λ a. bytes_eq p.name a.name) assigned))
-      by true rest = time_is x a.value g.clock (short 0 a refl) all.0.clock
+      by true rest = clock_is x a.value g.clock all.0.clock (short 0 a refl)
       by false rest = rest
 
   module _ (assigned : List AssignmentTree) (gs : List Given) (short : (j : ℕ) (a : AssignmentTree) → slice_get assigned j ≡ Some a → IsLongTime a.value → ⊥) (all : AllZip (IsGiven x.reactor r) assigned gs) where

@@ -1,14 +1,14 @@
 -- The instances that others contain: where they stand, and what they are called.
-use Rattle.std.proofs.Common.{◌≡◌, ℕ, ◌+◌, ◌<◌, List, [], ◌∷◌, ◌++◌, map, flat_map, drop, length, slice_get, Some, None, Option, option_map, option_to_list, codes, ⊎_elim, refl, sym, ap, subst, ◌∙◌, arith, append_assoc, append-nil}
-use Rattle.std.proofs.lemmas.{Bool.cases_order, List.length-map, Option.slice_get_within}
-use Rattle.lft_lists.proofs.{Mapped.{mapped, mapped_from}, Places.{get_there, Some_same}}
+use Rattle.std.proofs.Common.{◌≡◌, ℕ, ◌+◌, ◌<◌, List, [], ◌∷◌, ◌++◌, map, flat_map, drop, length, slice_get, Some, None, Option, option_map, option_to_list, codes, refl, sym, ap, subst, ◌∙◌, arith, append_assoc, append-nil}
+use Rattle.std.proofs.lemmas.{List.length-map, Option.slice_get_within}
+use Rattle.lft_lists.proofs.{Mapped.{mapped, mapped_from}, Places.{get_there, Some_same}, Zips.long as zip_long}
 use Rattle.lft_tree.specs.Tree.{FileTree, ReactorTree, InstanceTree, reactors_of, instances_of}
 use Rattle.lft_resolve.specs.{Expansion.Paths.along, declared.expansion.walk.Instance.Instance}
 use Rattle.lft_resolve.specs.Instances.{Inside, entered, given_in, main_instance, reactor_named}
-use Rattle.lft_resolve.proofs.ExpansionLemmas.Orders.{before_itself}
+use Rattle.lft_resolve.proofs.{Directed.AllZip-to, Files.AllZip-from}
 use Rattle.lft_program.specs.{Located.Located, inner.{Nests.{IsInstanceOf, IsNest}, OwnNames.own_names, TreeLists.{name_at, seen}}}
 use Rattle.lft_program.specs.{declared.{nesting.{nest.Nest.Nest, tables.Tables.Tables}, naming.OwnName.OwnName}, Flattening.{name_of_path, name_under}}
-use Rattle.lft_program.proofs.{Zipping.{then_some, zip_at, zip_back, zip_long}, KindNames.instance_name_there, NamesOnce.instance_names, Sites.AreSites}
+use Rattle.lft_program.proofs.{Zipping.then_some, KindNames.instance_name_there, NamesOnce.instance_names, Sites.AreSites, Nested.{path_of, one_number}}
 use Rattle.lft_ir.proofs.Ranges.{slice_get-drop}
 use Rattle.lft_program.specs.declared.own_names.MemberKind.TheVariants as kinds
 
@@ -75,9 +75,6 @@ module _ (tree : FileTree) (tables : Tables) (nest : Nest) (is : IsNest tree tab
       let s = then_some (λ i. option_map (λ r. record { reactor = r; values = map (given_in y i.given) r.parameters }) (reactor_named (reactors_of tree) i.reactor)) (slice_get (instances_of y.reactor) k) z e in
       (s.0, s.1)
 
-  path_at : (n : ℕ) (l : Located) → slice_get is.located n ≡ Some l → slice_get is.walk.paths n ≡ Some l.path
-  path_at n l at = ap (λ ps. slice_get ps n) (sym is.paths) ∙ mapped (λ l. l.path) is.located n l at
-
   located_at : (n : ℕ) (p : List ℕ) → slice_get is.walk.paths n ≡ Some p → (l : Located) × (slice_get is.located n ≡ Some l) × (l.path ≡ p)
   located_at n p at = mapped_from (λ l. l.path) is.located n p (ap (λ ps. slice_get ps n) is.paths ∙ at)
 
@@ -90,22 +87,11 @@ module _ (tree : FileTree) (tables : Tables) (nest : Nest) (is : IsNest tree tab
       let root = is.walk.in_order.all [] (tables.main, refl) in
       let within = get_within_path root.0 root.1 in
       let l = get_there is.located 0 within in
-      let m = zip_at (IsInstanceOf (reactors_of tree)) is.located nest.instances.items is.instances 0 l.0 l.1 in
-      (l.0, l.1, (is.walk.each 0 m.0 l.0.path m.1 (path_at 0 l.0 l.1)).first refl)
+      let m = AllZip-to (IsInstanceOf (reactors_of tree)) is.located nest.instances.items is.instances 0 l.0 l.1 in
+      (l.0, l.1, (is.walk.each 0 m.0 l.0.path m.1 (path_of tree tables nest is 0 l.0 l.1)).first refl)
     where
       get_within_path : (i : ℕ) → slice_get is.walk.paths i ≡ Some [] → 0 < length is.located
       get_within_path i at = let l = located_at i [] at in let w = slice_get_within is.located i l.0 l.1 in omega arith
-
-  -- no two places have one path
-  one_path : (i j : ℕ) (k l : Located) → slice_get is.located i ≡ Some k → slice_get is.located j ≡ Some l → k.path ≡ l.path → i ≡ j
-  one_path i j k l at_k at_l same =
-      ⊎_elim
-      (λ e. e)
-      (λ h. ⊎_elim
-      (λ low. absurd (before_itself l.path (is.walk.in_order.in_order i j l.path l.path (path_at i k at_k ∙ ap Some same) (path_at j l at_l) low)))
-      (λ low. absurd (before_itself l.path (is.walk.in_order.in_order j i l.path l.path (path_at j l at_l) (path_at i k at_k ∙ ap Some same) low)))
-      h)
-      (cases_order i j)
 
   -- what a list of the instances says of one: the number of its container, and its name there
   abbrev pub told_of : Instance → ℕ × List ℕ
@@ -140,8 +126,8 @@ module _ (tree : FileTree) (tables : Tables) (nest : Nest) (is : IsNest tree tab
     inner_at k x at later =
         let made : slice_get (map told_of nest.instances.items) k ≡ Some (seen x) = ap (λ l. slice_get l k) (sym seen_so) ∙ mapped seen xs k x at in
         let m = mapped_from told_of nest.instances.items k (seen x) made in
-        let l = zip_back (IsInstanceOf (reactors_of tree)) is.located nest.instances.items is.instances k m.0 m.1 in
-        let walked = (is.walk.each k m.0 l.0.path m.1 (path_at k l.0 l.1)).later later in
+        let l = AllZip-from (IsInstanceOf (reactors_of tree)) is.located nest.instances.items is.instances k m.0 m.1 in
+        let walked = (is.walk.each k m.0 l.0.path m.1 (path_of tree tables nest is k l.0 l.1)).later later in
         let outer = located_at m.0.parent walked.0 walked.2 in
         let path : l.0.path ≡ outer.0.path ++ m.0.place ∷ [] = sym walked.3 ∙ ap (λ p. p ++ m.0.place ∷ []) (sym outer.2) in
         inner_of k x m.0 l.0 outer.0 l.1 outer.1 walked.1 path (sym m.2)
@@ -159,6 +145,6 @@ module _ (tree : FileTree) (tables : Tables) (nest : Nest) (is : IsNest tree tab
           let y = inner_at (1 + j) b (later_at j b at_b) (omega arith) in
           let outer : x.outer ≡ y.outer = Some_same x.outer y.outer (sym x.there ∙ ap (slice_get is.located) instance ∙ y.there) in
           let path : x.inner.path ≡ y.inner.path = x.path ∙ ap (λ (l : Located). l.path ++ x.place ∷ []) outer ∙ ap (λ p. y.outer.path ++ p ∷ []) place ∙ sym y.path in
-          let same : 1 + i ≡ 1 + j = one_path (1 + i) (1 + j) x.inner y.inner x.here y.here path in
+          let same : 1 + i ≡ 1 + j = one_number tree tables nest is (1 + i) (1 + j) x.inner y.inner x.here y.here path in
           omega arith;
     }

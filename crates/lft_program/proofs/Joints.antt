@@ -6,11 +6,11 @@ use Rattle.lft_tree.specs.Tree.{FileTree, ReactorTree, PortTree, InstanceTree, R
 use Rattle.lft_resolve.specs.declared.expansion.{walk.Instance.Instance, joins.{End.{End, TheVariants.{Own, Inner}}, Join.Join, Connections.Connections}}
 use Rattle.lft_resolve.specs.inner.{Expansion.Joins.{HasJoin, JoinPorts, LeadApart}, Sheets.{IsConnections, IsEnd, IsJoin, Single, singles_of}}
 use Rattle.lft_resolve.specs.{Causes.IsTwice, Instances.{thing_at, reactor_named}, Kinds.destinations_in}
-use Rattle.lft_resolve.proofs.Written.{own_written, inner_written}
+use Rattle.lft_resolve.proofs.{Written.{own_written, inner_written}, Directed.AllZip-to, Files.AllZip-from}
 use Rattle.lft_program.specs.{Located.{Located, ports_in}, inner.{Nests.IsNest, Tables.{AreTables, IsLawful}}}
 use Rattle.lft_program.specs.declared.nesting.{nest.Nest.Nest, tables.Tables.Tables}
 use Rattle.lft_program.proofs.{Checked.{later_parts, ports_once, even, destinations_once}, Counting.base, Ends.{Standing, standing, steps_to, place_at, holder}}
-use Rattle.lft_program.proofs.{Zipping.{zip_at, zip_back}, Nested.{located_of, instance_of, one_number}, Singles.{IsOf, single_back, to_at, place_forth}}
+use Rattle.lft_program.proofs.{Nested.{located_of, instance_of, one_number}, Singles.{IsOf, single_back, to_at, place_forth}}
 
 -- whether an end as a destination is an input
 abbrev pub goes_in : End → Bool
@@ -64,17 +64,17 @@ module _ (tree : FileTree) (tables : Tables) (nest : Nest) (made : AreTables tre
   pub joint : (k place : ℕ) (join : Join) → HasJoin tables.connections.items nest.instances.items k place join → Joint k place join
   joint k place join h =
       let l = located_of tree tables nest n k h.0 h.1 in
-      let c = zip_at (IsConnections (reactors_of tree)) (reactors_of tree) tables.connections.items made.connections h.0.reactor l.0.inside.reactor l.2 in
+      let c = AllZip-to (IsConnections (reactors_of tree)) (reactors_of tree) tables.connections.items made.connections h.0.reactor l.0.inside.reactor l.2 in
       let e : slice_get c.0.joins.items place ≡ Some join = sym (ap (λ o. slice_get (option_map_or (λ (d : Connections). d.joins.items) o []) place) c.1) ∙ h.2 in
-      let s = zip_back (IsJoin (reactors_of tree) l.0.inside.reactor) (singles_of l.0.inside.reactor) c.0.joins.items c.2 place join e in
+      let s = AllZip-from (IsJoin (reactors_of tree) l.0.inside.reactor) (singles_of l.0.inside.reactor) c.0.joins.items c.2 place join e in
       record { instance = l.0; single = s.0; is_instance = l.1; is_single = s.1; is_join = s.2 }
 
   -- and back
   pub has_join : (k : ℕ) (l : Located) → slice_get n.located k ≡ Some l → (place : ℕ) (s : Single) → slice_get (singles_of l.inside.reactor) place ≡ Some s → (join : Join) × HasJoin tables.connections.items nest.instances.items k place join × IsJoin (reactors_of tree) l.inside.reactor s join
   has_join k l e place s f =
       let i = instance_of tree tables nest n k l e in
-      let c = zip_at (IsConnections (reactors_of tree)) (reactors_of tree) tables.connections.items made.connections i.0.reactor l.inside.reactor i.2 in
-      let j = zip_at (IsJoin (reactors_of tree) l.inside.reactor) (singles_of l.inside.reactor) c.0.joins.items c.2 place s f in
+      let c = AllZip-to (IsConnections (reactors_of tree)) (reactors_of tree) tables.connections.items made.connections i.0.reactor l.inside.reactor i.2 in
+      let j = AllZip-to (IsJoin (reactors_of tree) l.inside.reactor) (singles_of l.inside.reactor) c.0.joins.items c.2 place s f in
       (j.0, (i.0, i.1, ap (λ o. slice_get (option_map_or (λ (d : Connections). d.joins.items) o []) place) c.1 ∙ j.1), j.2)
 
   pub join_ports : JoinPorts nest.ports.counts.items tables.connections.items nest.instances.items nest.children

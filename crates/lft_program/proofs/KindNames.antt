@@ -1,14 +1,14 @@
 -- The lists of what instances declare, as the naming takes them.
 use Rattle.std.proofs.Common.{◌≡◌, ℕ, ◌+◌, ◌<◌, ◌≤◌, List, [], map, length, slice_get, Some, sym, ap, ◌∙◌, arith}
 use Rattle.std.{specs.{List.AllZip, Option.{option_and_then, unwrap_or}}, proofs.lemmas.{List.length-map, Option.slice_get_within}}
-use Rattle.lft_lists.proofs.{Places.Some_same, Mapped.mapped, Picked.map-filter_map}
+use Rattle.lft_lists.proofs.{Places.Some_same, Mapped.mapped, Picked.map-filter_map, Zips.long as zip_long}
 use Rattle.lft_tree.specs.Tree.{ReactorTree, InstanceTree, instances_of, ports_of, actions_of, timers_of, instance_in, port_in, action_in, timer_in}
-use Rattle.lft_resolve.specs.declared.expansion.{numbering.Thing.Thing, walk.Instance.Instance}
+use Rattle.lft_resolve.{specs.declared.expansion.{numbering.Thing.Thing, walk.Instance.Instance}, proofs.{Directed.AllZip-to, Files.AllZip-from}}
 use Rattle.lft_program.specs.Located.{Located, declared, Declared}
 use Rattle.lft_program.specs.inner.{Nests.{IsInstanceOf, IsNumbering, IsThingOf}, OwnNames.own_names}
 use Rattle.lft_program.specs.inner.TreeLists.{name_at, placed_at, seen, SaysDeclaration, IsPlacedAt}
 use Rattle.lft_program.specs.declared.{nesting.nest.Numbering.Numbering, naming.{OwnName.OwnName, PlacedReaction.PlacedReaction}}
-use Rattle.lft_program.proofs.{Counting.base, Listing.{declared_from, declared-length}, Zipping.{zip_at, zip_back, zip_long, zip_of}, Sites.AreSites}
+use Rattle.lft_program.proofs.{Counting.base, Listing.{declared_from, declared-length}, Zipping.zip_of, Sites.AreSites}
 use Rattle.lft_program.specs.declared.own_names.MemberKind.TheVariants as kinds
 
 -- the names of a kind are those of the members
@@ -27,7 +27,7 @@ own_instances r = sym (map-filter_map (λ x. x.name) instance_in r.members)
 module _ (rs : List ReactorTree) (located : List Located) (instances : List Instance) (zipped : AllZip (IsInstanceOf rs) located instances) where
   -- the number of an instance's reactor
   pub reactor_at : (n : ℕ) (l : Located) → slice_get located n ≡ Some l → (m : Instance) × (slice_get instances n ≡ Some m) × (slice_get rs m.reactor ≡ Some l.inside.reactor)
-  reactor_at n l at = zip_at (IsInstanceOf rs) located instances zipped n l at
+  reactor_at n l at = AllZip-to (IsInstanceOf rs) located instances zipped n l at
 
   -- the name that is found at a place
   pub name_there : (names : ReactorTree → List (List ℕ)) (n place : ℕ) (l : Located) (x : List ℕ) → slice_get located n ≡ Some l → slice_get (names l.inside.reactor) place ≡ Some x → name_at (map names rs) instances n place ≡ x
@@ -68,7 +68,7 @@ module _ (rs : List ReactorTree) (located : List Located) (instances : List Inst
           each : (k : ℕ) (d : Declared X) (x : OwnName) → slice_get (declared kind located) k ≡ Some d → slice_get xs k ≡ Some x → SaysDeclaration name d x
           each k d x at_d at_x =
               let stands = declared_from kind located k d at_d in
-              let t = zip_at IsThingOf (declared kind located) things all k d at_d in
+              let t = AllZip-to IsThingOf (declared kind located) things all k d at_d in
               let made : slice_get (map (λ t. (t.instance, name_at (map names rs) instances t.instance t.place)) things) k ≡ Some (t.0.instance, name_at (map names rs) instances t.0.instance t.0.place) = mapped (λ t. (t.instance, name_at (map names rs) instances t.instance t.place)) things k t.0 t.1 in
               let shown : slice_get (map seen xs) k ≡ Some (seen x) = mapped seen xs k x at_x in
               let one : seen x ≡ (t.0.instance, name_at (map names rs) instances t.0.instance t.0.place) = Some_same _ _ (sym shown ∙ ap (λ l. slice_get l k) is ∙ made) in
@@ -88,7 +88,7 @@ module _ (rs : List ReactorTree) (located : List Located) (instances : List Inst
       pub sites : (xs : List OwnName) → AllZip (SaysDeclaration name) (declared kind located) xs → AreSites located names xs
       sites xs all = record {
         site = λ i x at.
-            let d = zip_back (SaysDeclaration name) (declared kind located) xs all i x at in
+            let d = AllZip-from (SaysDeclaration name) (declared kind located) xs all i x at in
             let stands = declared_from kind located i d.0 d.1 in
             record {
               at = d.0.located;
@@ -97,8 +97,8 @@ module _ (rs : List ReactorTree) (located : List Located) (instances : List Inst
               name = item_name d.0.located.inside.reactor d.0.place d.0.item stands.place ∙ ap Some (sym d.2.1);
             };
         one = λ i j a b at_a at_b instance place.
-            let c = zip_back (SaysDeclaration name) (declared kind located) xs all i a at_a in
-            let d = zip_back (SaysDeclaration name) (declared kind located) xs all j b at_b in
+            let c = AllZip-from (SaysDeclaration name) (declared kind located) xs all i a at_a in
+            let d = AllZip-from (SaysDeclaration name) (declared kind located) xs all j b at_b in
             one_declared i j c.0 d.0 c.1 d.1 (sym c.2.0 ∙ instance ∙ d.2.0) place;
       }
 
@@ -116,14 +116,14 @@ module _ (rs : List ReactorTree) (located : List Located) (instances : List Inst
       where
         each : (k : ℕ) (d : Declared X) (x : PlacedReaction) → slice_get (declared kind located) k ≡ Some d → slice_get xs k ≡ Some x → IsPlacedAt d x
         each k d x at_d at_x =
-            let t = zip_at IsThingOf (declared kind located) things all k d at_d in
+            let t = AllZip-to IsThingOf (declared kind located) things all k d at_d in
             let one : x ≡ placed_at t.0 = Some_same _ _ (sym at_x ∙ ap (λ l. slice_get l k) is ∙ mapped placed_at things k t.0 t.1) in
             (ap (λ p. p.instance) one ∙ t.2.0, ap (λ p. p.place) one ∙ t.2.1)
 
     module _ (xs : List PlacedReaction) (all : AllZip IsPlacedAt (declared kind located) xs) where
       pub placed_within : (k : ℕ) (x : PlacedReaction) → slice_get xs k ≡ Some x → (x.instance < length located) × (x.place < length xs)
       placed_within k x at =
-          let d = zip_back IsPlacedAt (declared kind located) xs all k x at in
+          let d = AllZip-from IsPlacedAt (declared kind located) xs all k x at in
           let stands = declared_from kind located k d.0 d.1 in
           let n : k ≡ base kind located d.0.instance + d.0.place = stands.number in
           let a = slice_get_within located d.0.instance d.0.located stands.instance in
@@ -134,8 +134,8 @@ module _ (rs : List ReactorTree) (located : List Located) (instances : List Inst
 
       pub placed_once : (i j : ℕ) (a b : PlacedReaction) → i < j → slice_get xs i ≡ Some a → slice_get xs j ≡ Some b → a.instance ≡ b.instance → a.place ≡ b.place → ⊥
       placed_once i j a b low at_a at_b instance place =
-          let c = zip_back IsPlacedAt (declared kind located) xs all i a at_a in
-          let d = zip_back IsPlacedAt (declared kind located) xs all j b at_b in
+          let c = AllZip-from IsPlacedAt (declared kind located) xs all i a at_a in
+          let d = AllZip-from IsPlacedAt (declared kind located) xs all j b at_b in
           let one : i ≡ j = one_declared i j c.0 d.0 c.1 d.1 (sym c.2.0 ∙ instance ∙ d.2.0) (sym c.2.1 ∙ place ∙ d.2.1) in
           absurd (omega arith)
 

@@ -5,8 +5,9 @@ use Rattle.lft_tree.specs.Tree.{FileTree, ReactorTree, reactors_of, ports_of, ti
 use Rattle.lft_program.specs.{Located.declared, inner.{Nests.{IsInstanceOf, IsNumbering}, OfTree.AreOfTree}}
 use Rattle.lft_program.specs.declared.nesting.{linking.Linked.Linked, nest.{Nest.Nest, Numbering.Numbering}, tables.Tables.Tables}
 use Rattle.lft_program.specs.Flattening.{Flat, IsPort, IsTimer, IsAction, IsReaction, names_of, name_of_path}
-use Rattle.lft_program.proofs.{Listing.declared-length, Zips.AllZip-length}
+use Rattle.lft_program.proofs.Listing.{declared-length}
 use Rattle.lft_ir.specs.{Parts.Parts, Sound.{IsWithinLimits, KeepsOrigins}}
+use Rattle.lft_lists.proofs.Zips.{long as zip_long}
 
 module _ (tree : FileTree) (tables : Tables) (nest : Nest) (links : List Linked) (n : AreOfTree tree tables nest links) (program : Parts)
     (origins : KeepsOrigins program)
@@ -30,14 +31,14 @@ module _ (tree : FileTree) (tables : Tables) (nest : Nest) (links : List Linked)
   -- as many as the instances declare
   few : {X Y : Type 0} (kind : ReactorTree → List X) (R : _ → Y → Type 0) (limit : ℕ) (numbering : Numbering) (parts : List Y) → IsNumbering kind (reactors_of tree) nest.instances.items limit numbering → AllZip R (declared kind n.is_nest.located) parts → length parts ≤ limit
   few kind R limit numbering parts is zipped =
-      let a = AllZip-length R (declared kind n.is_nest.located) parts zipped in
+      let a = zip_long R (declared kind n.is_nest.located) parts zipped in
       let b = declared-length kind (reactors_of tree) n.is_nest.located nest.instances.items limit numbering n.is_nest.instances is in
       omega (arith, a, b, is.few)
 
   instances : length program.names.instances ≤ 10000
   instances =
       let a : length program.names.instances ≡ length n.is_nest.located = ap (λ names. length names.instances) names ∙ length-map n.is_nest.located (λ i. name_of_path tree n.is_nest.are_located.main i.path) in
-      let b = AllZip-length (IsInstanceOf (reactors_of tree)) n.is_nest.located nest.instances.items n.is_nest.instances in
+      let b = zip_long (IsInstanceOf (reactors_of tree)) n.is_nest.located nest.instances.items n.is_nest.instances in
       omega (arith, a, b, n.is_nest.few)
 
   pub limits_of_parts : IsWithinLimits program

@@ -1,7 +1,7 @@
 -- What the tables and the nest of a tree have for a declaration of it.
-use Rattle.std.proofs.Common.{◌≡◌, ℕ, List, [], ◌∷◌, ◌++◌, Option, Some, map, flat_map, length, slice_get, option_to_list, Any, inr, sym, ap, ◌∙◌}
+use Rattle.std.proofs.Common.{◌≡◌, ℕ, List, [], ◌++◌, Option, Some, map, flat_map, length, slice_get, option_to_list, Any, inr, sym, ap, ◌∙◌}
 use Rattle.std.specs.{Option.{option_and_then, unwrap_or}, List.AllZip}
-use Rattle.lft_resolve.proofs.{Effects.Any-flat, Somes.{Any-left, Any-right}, Twice.Any-at}
+use Rattle.lft_resolve.proofs.{Effects.Any-flat, Somes.{Any-left, Any-right}, Twice.Any-at, Directed.AllZip-to, Files.AllZip-from}
 use Rattle.lft_resolve.specs.inner.{Expansion.Values.clock_in, Sheets.{IsDeclarations, IsTimerSheet, IsActionSheet, IsClockOrZero}}
 use Rattle.lft_resolve.specs.declared.expansion.{numbering.Thing.Thing, settings.Clock.Clock, walk.Instance.Instance}
 use Rattle.lft_resolve.specs.declared.by_number.sheets.{ActionSheet.ActionSheet, Declarations.Declarations, TimerSheet.TimerSheet}
@@ -12,7 +12,7 @@ use Rattle.lft_program.specs.Located.{Located, Declared, declared}
 use Rattle.lft_program.specs.inner.{Nests.{IsInstanceOf, IsThingOf}, Laying.{IsActionAt, IsTimerAt, action_at, clock_at, declarations_at, timer_at}}
 use Rattle.lft_program.specs.inner.OfTree.{AreOfTree}
 use Rattle.lft_program.specs.{declared.nesting.{linking.Linked.Linked, nest.Nest.Nest, tables.Tables.Tables}, Flattening.{IsTimer, IsAction, time_or_zero}}
-use Rattle.lft_program.proofs.{Declared.declared_from, Zipping.zip_at, Clocks.clock_or_zero_is, Making.{Made, made_zip}, Zips.AllZip-from}
+use Rattle.lft_program.proofs.{Declared.declared_from, Clocks.clock_or_zero_is, Making.{Made, made_zip}}
 use Rattle.lft_ir.specs.declared.parts.{Action.Action as ActionOf, Timer.Timer as TimerOf}
 
 -- times of timers and actions are among those of their reactor
@@ -27,13 +27,13 @@ long_action r k a at long = long_first r (Any-right IsLongTime (flat_map timer_t
 
 module _ (tree : FileTree) (tables : Tables) (nest : Nest) (links : List Linked) (of : AreOfTree tree tables nest links) where
   pub instance_there : (n : ℕ) (l : Located) → slice_get of.is_nest.located n ≡ Some l → (i : Instance) × (slice_get nest.instances.items n ≡ Some i) × IsInstanceOf (reactors_of tree) l i
-  instance_there n l at = zip_at (IsInstanceOf (reactors_of tree)) of.is_nest.located nest.instances.items of.is_nest.instances n l at
+  instance_there n l at = AllZip-to (IsInstanceOf (reactors_of tree)) of.is_nest.located nest.instances.items of.is_nest.instances n l at
 
   -- the row of a table that is kept for the reactor of an instance
   pub row_there : {Y : Type 0} (R : ReactorTree → Y → Type 0) (table : List Y) → AllZip R (reactors_of tree) table → (n : ℕ) (l : Located) → slice_get of.is_nest.located n ≡ Some l → (y : Y) × (option_and_then (λ i. slice_get table i.reactor) (slice_get nest.instances.items n) ≡ Some y) × R l.inside.reactor y
   row_there R table all n l at =
       let i = instance_there n l at in
-      let y = zip_at R (reactors_of tree) table all i.0.reactor l.inside.reactor i.2 in
+      let y = AllZip-to R (reactors_of tree) table all i.0.reactor l.inside.reactor i.2 in
       (y.0, ap (option_and_then (λ i. slice_get table i.reactor)) i.1 ∙ y.1, y.2)
 
   declarations_there : (n : ℕ) (l : Located) → slice_get of.is_nest.located n ≡ Some l → (d : Declarations) × (declarations_at tables nest n ≡ Some d) × IsDeclarations l.inside.reactor d
@@ -55,7 +55,7 @@ module _ (tree : FileTree) (tables : Tables) (nest : Nest) (links : List Linked)
     pub timer_there : (sheet : TimerSheet) × (timer_at tables nest thing ≡ Some sheet) × IsTimerSheet d.located.inside.reactor d.item sheet
     timer_there =
         let row = declarations_there thing.instance d.located timer_place.0 in
-        let sheet = zip_at (IsTimerSheet d.located.inside.reactor) (timers_of d.located.inside.reactor) row.0.timers.items row.2.timers thing.place d.item timer_place.1 in
+        let sheet = AllZip-to (IsTimerSheet d.located.inside.reactor) (timers_of d.located.inside.reactor) row.0.timers.items row.2.timers thing.place d.item timer_place.1 in
         (sheet.0, ap (option_and_then (λ x. slice_get x.timers.items thing.place)) row.1 ∙ sheet.1, sheet.2)
 
     pub timer_is : (timer : TimerOf) → IsTimerAt tables nest thing timer → IsTimer d timer
@@ -75,7 +75,7 @@ module _ (tree : FileTree) (tables : Tables) (nest : Nest) (links : List Linked)
     pub action_there : (sheet : ActionSheet) × (action_at tables nest thing ≡ Some sheet) × IsActionSheet d.located.inside.reactor d.item sheet
     action_there =
         let row = declarations_there thing.instance d.located action_place.0 in
-        let sheet = zip_at (IsActionSheet d.located.inside.reactor) (actions_of d.located.inside.reactor) row.0.actions.items row.2.actions thing.place d.item action_place.1 in
+        let sheet = AllZip-to (IsActionSheet d.located.inside.reactor) (actions_of d.located.inside.reactor) row.0.actions.items row.2.actions thing.place d.item action_place.1 in
         (sheet.0, ap (option_and_then (λ x. slice_get x.actions.items thing.place)) row.1 ∙ sheet.1, sheet.2)
 
     pub action_is : (action : ActionOf) → IsActionAt tables nest thing action → IsAction d action

@@ -5,9 +5,10 @@ use Rattle.lft_lists.proofs.{Mapped.{mapped, mapped_from}, Places.get_append_cas
 use Rattle.lft_tree.specs.Tree.{FileTree, ReactorTree, reactors_of}
 use Rattle.lft_resolve.specs.inner.Expansion.{Listing.AreThingsListed, Numbers.{count_of_things, things}}
 use Rattle.lft_resolve.specs.declared.expansion.{numbering.Thing.Thing, walk.Instance.Instance}
+use Rattle.lft_resolve.proofs.Directed.{AllZip-to}
 use Rattle.lft_program.specs.{Located.{Located, Declared, declared, declared_in}, inner.Nests.{IsInstanceOf, IsNest, IsNumbering, IsThingOf}}
 use Rattle.lft_program.specs.declared.nesting.{nest.{Nest.Nest, Numbering.Numbering}, tables.Tables.Tables}
-use Rattle.lft_program.proofs.{Counting.{base, total}, Zipping.{zip_at, zip_of}}
+use Rattle.lft_program.proofs.{Counting.{base, total}, Zipping.zip_of}
 
 -- ---- where a declaration stands
 
@@ -93,7 +94,7 @@ listed {X} kind rs located instances limit n all zipped is are = zip_of IsThingO
     each : (k : ℕ) (d : Declared X) (t : Thing) → slice_get (declared kind located) k ≡ Some d → slice_get all k ≡ Some t → IsThingOf d t
     each k d t at there =
         let s = declared_from kind located k d at in
-        let i = zip_at (IsInstanceOf rs) located instances zipped d.instance d.located s.instance in
+        let i = AllZip-to (IsInstanceOf rs) located instances zipped d.instance d.located s.instance in
         let within : d.place < count_of_things n.counts.items i.0.reactor = (let l = slice_get_within (kind d.located.inside.reactor) d.place d.item s.place in let c = count_is kind rs n.counts.items is.counts i.0.reactor d.located.inside.reactor i.2 in omega arith) in
         let number : k ≡ things n.counts.items (take d.instance instances) + d.place = s.number ∙ ap (λ b. b + d.place) (base_is kind rs n.counts.items is.counts located instances d.instance zipped) in
         let e : Some t ≡ Some (record { instance = d.instance; place = d.place }) = sym there ∙ ap (slice_get all) number ∙ are.each d.instance d.place i.0 i.1 within in

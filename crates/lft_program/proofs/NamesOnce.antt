@@ -1,10 +1,11 @@
 -- The names that a reactor declares, kind by kind.
-use Rattle.std.proofs.Common.{◌≡◌, ℕ, ◌+◌, List, ◌++◌, map, length, slice_get, Some, All, inr, inl, ◌∙◌, arith}
+use Rattle.std.proofs.Common.{◌≡◌, ℕ, ◌+◌, List, ◌++◌, map, length, slice_get, Some, All, ◌∙◌, arith}
 use Rattle.std.proofs.lemmas.Option.{slice_get_within}
 use Rattle.lft_tree.specs.Identifiers.{IsName, HasIdentifiers, declared_names}
 use Rattle.lft_tree.specs.Tree.{FileTree, ReactorTree, reactors_of, ports_of, timers_of, actions_of, instances_of}
-use Rattle.lft_resolve.{specs.{Causes.{IsTwice, DeclaresTwice, DuplicateName}, Kinds.names_in}, proofs.Twice.{twice_left, Any-at, slice_get-front}}
-use Rattle.lft_program.{specs.inner.Tables.IsLawful, proofs.{FullNames.{later_at, all_at}, Sites.AreApart}}
+use Rattle.lft_resolve.{specs.{Causes.IsTwice, Kinds.names_in}, proofs.Twice.{twice_left, slice_get-front}}
+use Rattle.lft_program.proofs.{FullNames.all_at, Sites.AreApart}
+use Rattle.lft_lists.proofs.Places.{get_right}
 
 -- the names of one kind
 abbrev pub port_names : ReactorTree → List (List ℕ)
@@ -23,7 +24,7 @@ instance_names r = map (λ x. x.name) (instances_of r)
 
 module _ (xs ys : List (List ℕ)) where
   right_at : (k : ℕ) (x : List ℕ) → slice_get ys k ≡ Some x → slice_get (xs ++ ys) (length xs + k) ≡ Some x
-  right_at k x at = later_at xs ys k ∙ at
+  right_at k x at = get_right xs ys k ∙ at
 
   twice_right : IsTwice ys → IsTwice (xs ++ ys)
   twice_right (i, j, x, low, first, second) = (length xs + i, length xs + j, x, omega arith, right_at i x first, right_at j x second)
@@ -99,12 +100,6 @@ module _ (r : ReactorTree) (never : IsTwice (names_in r) → ⊥) where
 
   pub ports_instances : AreApart (port_names r) (instance_names r)
   ports_instances = right_apart (map (λ x. x.name) r.parameters) (port_names r) (instance_names r) (left_apart to_ports (timer_names r) (instance_names r) from_timers)
-
--- ---- the reactors of a lawful tree
-
-pub never_twice : (tree : FileTree) → IsLawful tree → (n : ℕ) (r : ReactorTree) → slice_get (reactors_of tree) n ≡ Some r → IsTwice (names_in r) → ⊥
-unfolding DuplicateName
-never_twice tree law n r at two = law.first.1.1.0 (inr (Any-at DeclaresTwice (reactors_of tree) n r at (inl two)))
 
 -- ---- identifiers
 

@@ -5,17 +5,17 @@ use Rattle.lft_lists.proofs.{Places.push_apart, Mapped.{mapped, mapped_from}}
 use Rattle.lft_tree.specs.Tree.{FileTree, reactors_of}
 use Rattle.lft_resolve.specs.{declared.expansion.walk.Instance.Instance, Expansion.Paths.along}
 use Rattle.lft_resolve.specs.{inner.Expansion.{Children.{child_of, IsChild}, Contents.IsInstanceAtPath}, Instances.{Inside, IsInside, entered, main_instance}}
-use Rattle.lft_resolve.proofs.ExpansionLemmas.Orders.{before_itself}
+use Rattle.lft_resolve.proofs.{ExpansionLemmas.Orders.before_itself, Directed.AllZip-to, Files.AllZip-from}
 use Rattle.lft_program.specs.{Located.Located, inner.Nests.{IsNest, IsInstanceOf}, declared.nesting.{nest.Nest.Nest, tables.Tables.Tables}}
-use Rattle.lft_program.proofs.{Elements.some_step, Zipping.{zip_at, zip_back}}
+use Rattle.lft_program.proofs.Elements.{some_step}
 
 module _ (tree : FileTree) (tables : Tables) (nest : Nest) (n : IsNest tree tables nest) where
   -- the instance of a number in the tree, and back
   pub located_of : (k : ℕ) (i : Instance) → slice_get nest.instances.items k ≡ Some i → (l : Located) × (slice_get n.located k ≡ Some l) × (slice_get (reactors_of tree) i.reactor ≡ Some l.inside.reactor)
-  located_of k i e = zip_back (IsInstanceOf (reactors_of tree)) n.located nest.instances.items n.instances k i e
+  located_of k i e = AllZip-from (IsInstanceOf (reactors_of tree)) n.located nest.instances.items n.instances k i e
 
   pub instance_of : (k : ℕ) (l : Located) → slice_get n.located k ≡ Some l → (i : Instance) × (slice_get nest.instances.items k ≡ Some i) × (slice_get (reactors_of tree) i.reactor ≡ Some l.inside.reactor)
-  instance_of k l e = zip_at (IsInstanceOf (reactors_of tree)) n.located nest.instances.items n.instances k l e
+  instance_of k l e = AllZip-to (IsInstanceOf (reactors_of tree)) n.located nest.instances.items n.instances k l e
 
   -- its path
   pub path_of : (k : ℕ) (l : Located) → slice_get n.located k ≡ Some l → slice_get n.walk.paths k ≡ Some l.path

@@ -1,12 +1,12 @@
 -- A tree has one flat program.
 use Rattle.std.proofs.Common.{◌≡◌, ℕ, suc, List, [], ◌∷◌, map, slice_get, Some, refl, sym, ap, subst, ◌∙◌}
 use Rattle.std.specs.List.{AllZip}
-use Rattle.lft_lists.proofs.{Picked.map-same, Places.Some_same}
+use Rattle.lft_lists.proofs.{Picked.map-same, Places.Some_same, Zips.same as zip_same}
 use Rattle.lft_tree.specs.Tree.{FileTree, PortTree, ports_of, actions_of, timers_of, reactions_of}
 use Rattle.lft_program.specs.{Located.{Located, AreLocated, Declared, declared}, inner.Tables.IsLawful}
 use Rattle.lft_program.specs.Flattening.{Flat, IsPort, IsAction, IsTimer, IsReaction, names_of}
 use Rattle.lft_program.proofs.{Listing.declared_from, OneInstances.one_located, OneName.{one_of_action, one_of_timer, one_of_reaction}, OneOrigin.one_end}
-use Rattle.lft_program.proofs.{OneSource.one_source, Zips.AllZip-one}
+use Rattle.lft_program.proofs.OneSource.{one_source}
 use Rattle.lft_ir.specs.{Parts.Parts, Sound.KeepsOrigins, declared.parts.Port.Port as PortOf}
 
 -- lists that go with one list, where what is wanted of the items of an element is one
@@ -46,8 +46,8 @@ one_flat tree lawful p q a b =
     let same : b.instances ≡ all = one_located tree b.instances all b.are_located a.are_located in
     let main : b.are_located.main ≡ a.are_located.main = Some_same b.are_located.main a.are_located.main (sym b.are_located.is_main ∙ a.are_located.is_main) in
     let ports = one_ports tree lawful all a.are_located p q a.ports (subst (λ l. AllZip (IsPort tree l) (declared ports_of l) q.ports) same b.ports) a.origins b.origins in
-    let actions = AllZip-one IsAction one_of_action (declared actions_of all) p.actions q.actions a.actions (subst (λ l. AllZip IsAction (declared actions_of l) q.actions) same b.actions) in
-    let timers = AllZip-one IsTimer one_of_timer (declared timers_of all) p.timers q.timers a.timers (subst (λ l. AllZip IsTimer (declared timers_of l) q.timers) same b.timers) in
-    let reactions = AllZip-one (IsReaction all) (one_of_reaction tree lawful all a.are_located) (declared reactions_of all) p.reactions q.reactions a.reactions (subst (λ l. AllZip (IsReaction l) (declared reactions_of l) q.reactions) same b.reactions) in
+    let actions = zip_same IsAction one_of_action (declared actions_of all) p.actions q.actions a.actions (subst (λ l. AllZip IsAction (declared actions_of l) q.actions) same b.actions) in
+    let timers = zip_same IsTimer one_of_timer (declared timers_of all) p.timers q.timers a.timers (subst (λ l. AllZip IsTimer (declared timers_of l) q.timers) same b.timers) in
+    let reactions = zip_same (IsReaction all) (one_of_reaction tree lawful all a.are_located) (declared reactions_of all) p.reactions q.reactions a.reactions (subst (λ l. AllZip (IsReaction l) (declared reactions_of l) q.reactions) same b.reactions) in
     let names : p.names ≡ q.names = a.names ∙ ap (names_of tree a.are_located.main) (sym same) ∙ ap (λ m. names_of tree m b.instances) (sym main) ∙ sym b.names in
     λ j. record { ports = ports j; actions = actions j; timers = timers j; reactions = reactions j; names = names j }

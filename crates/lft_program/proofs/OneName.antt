@@ -1,11 +1,11 @@
 -- A name in an instance is of one port or action, a trigger is one, and so is a reaction.
 use Rattle.std.proofs.Common.{◌≡◌, ℕ, List, slice_get, Some, sym, ap, subst, ◌∙◌}
-use Rattle.lft_lists.proofs.Places.{Some_same}
+use Rattle.lft_lists.proofs.{Places.Some_same, Zips.same as zip_same}
 use Rattle.lft_tree.specs.Tree.{FileTree, RefTree, TriggerTree, ReactionTree, ActionTree, TimerTree, AtStartup, AtShutdown, OnRef}
 use Rattle.lft_resolve.specs.{Instances.{Thing, stands_for}, Sheets.without_timers}
 use Rattle.lft_program.specs.{Located.{Located, AreLocated, Declared, timers_in}, inner.Tables.IsLawful}
 use Rattle.lft_program.specs.Flattening.{NamesThing, IsFlatName, IsTrigger, IsAction, IsTimer, IsReaction}
-use Rattle.lft_program.proofs.{OneThing.{one_port, one_action, one_timer, port_or_timer, port_or_action, timer_or_action}, Zips.AllZip-one}
+use Rattle.lft_program.proofs.OneThing.{one_port, one_action, one_timer, port_or_timer, port_or_action, timer_or_action}
 use Rattle.lft_ir.specs.declared.parts.{Action.Action as ActionOf, Timer.Timer as TimerOf, Reaction.Reaction, Name.{Name, TheVariants.{Port, Action}}}
 use Rattle.lft_ir.specs.declared.parts.Trigger.{Trigger, TheVariants.{Startup, Shutdown, Timer, On}}
 
@@ -62,7 +62,7 @@ module _ (tree : FileTree) (lawful : IsLawful tree) (all : List Located) (are : 
   one_of_reaction d x y a b =
       let instance = a.instance ∙ sym b.instance in
       let place = a.place ∙ sym b.place in
-      let triggers = AllZip-one (IsTrigger all d.located) (one_trigger d.located) d.item.triggers x.triggers y.triggers a.triggers b.triggers in
-      let uses = AllZip-one (IsFlatName all d.located) (one_name d.located) (without_timers d.located.inside.reactor d.item.uses) x.uses y.uses a.uses b.uses in
-      let effects = AllZip-one (IsFlatName all d.located) (one_name d.located) d.item.effects x.effects y.effects a.effects b.effects in
+      let triggers = zip_same (IsTrigger all d.located) (one_trigger d.located) d.item.triggers x.triggers y.triggers a.triggers b.triggers in
+      let uses = zip_same (IsFlatName all d.located) (one_name d.located) (without_timers d.located.inside.reactor d.item.uses) x.uses y.uses a.uses b.uses in
+      let effects = zip_same (IsFlatName all d.located) (one_name d.located) d.item.effects x.effects y.effects a.effects b.effects in
       λ j. record { instance = instance j; place = place j; triggers = triggers j; uses = uses j; effects = effects j }

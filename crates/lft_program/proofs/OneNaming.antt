@@ -1,10 +1,10 @@
 -- The things of a program have full names in one way only.
-use Rattle.std.proofs.Common.{◌≡◌, ℕ, ◌+◌, ◌<◌, zero, suc, List, ◌∷◌, ◌++◌, drop, slice_get, Some, codes, sym, ap, subst, ◌∙◌, arith, length-drop}
+use Rattle.std.proofs.Common.{◌≡◌, ℕ, ◌+◌, ◌<◌, zero, suc, List, ◌++◌, drop, slice_get, Some, codes, sym, ap, subst, ◌∙◌, arith, length-drop}
 use Rattle.std.{specs.{Fmt.decimal, List.AllZip}, proofs.lemmas.Option.slice_get_within}
-use Rattle.lft_lists.proofs.Places.{Some_same, same_items}
+use Rattle.lft_lists.proofs.{Places.{Some_same, same_items}, Zips.{same as zip_same, long as zip_long}}
 use Rattle.lft_ir.{specs.Names.ThingNames, proofs.Ranges.slice_get-drop}
 use Rattle.lft_program.specs.{inner.FullNames.{IsDotted, IsHashed, AreFullNames, AreNested}, declared.naming.{OwnName.OwnName, PlacedReaction.PlacedReaction}}
-use Rattle.lft_program.proofs.Zips.{AllZip-length, AllZip-from, AllZip-one}
+use Rattle.lft_resolve.proofs.Files.{AllZip-from}
 
 -- a name as it is made from a container's
 dotted_by : (c e x : List ℕ) (d : OwnName) → c ≡ e → x ≡ c ++ codes "." ++ d.name.now → x ≡ e ++ codes "." ++ d.name.now
@@ -33,8 +33,8 @@ module _ (instances : List OwnName) (nested : AreNested instances) (ns ms : List
 
   same_instances : ns ≡ ms
   same_instances =
-      let a = AllZip-length (IsDotted ns) (drop 1 instances) (drop 1 ns) all_n in
-      let b = AllZip-length (IsDotted ms) (drop 1 instances) (drop 1 ms) all_m in
+      let a = zip_long (IsDotted ns) (drop 1 instances) (drop 1 ns) all_n in
+      let b = zip_long (IsDotted ms) (drop 1 instances) (drop 1 ms) all_m in
       let c = length-drop 1 ns in
       let d = length-drop 1 ms in
       let e = slice_get_within ns 0 (codes "main") main_n in
@@ -55,8 +55,8 @@ pub one_naming : (instances ports actions timers : List OwnName) (reactions : Li
     → AreFullNames instances ports actions timers reactions names → AreFullNames instances ports actions timers reactions other → other ≡ names
 one_naming instances ports actions timers reactions nested names other a b =
     let i : other.instances ≡ names.instances = same_instances instances nested other.instances names.instances b.main_name a.main_name b.instance_names a.instance_names in
-    let p : other.ports ≡ names.ports = AllZip-one (IsDotted names.instances) (one_dotted names.instances) ports other.ports names.ports (subst (λ l. AllZip (IsDotted l) ports other.ports) i b.port_names) a.port_names in
-    let c : other.actions ≡ names.actions = AllZip-one (IsDotted names.instances) (one_dotted names.instances) actions other.actions names.actions (subst (λ l. AllZip (IsDotted l) actions other.actions) i b.action_names) a.action_names in
-    let t : other.timers ≡ names.timers = AllZip-one (IsDotted names.instances) (one_dotted names.instances) timers other.timers names.timers (subst (λ l. AllZip (IsDotted l) timers other.timers) i b.timer_names) a.timer_names in
-    let r : other.reactions ≡ names.reactions = AllZip-one (IsHashed names.instances) (one_hashed names.instances) reactions other.reactions names.reactions (subst (λ l. AllZip (IsHashed l) reactions other.reactions) i b.reaction_names) a.reaction_names in
+    let p : other.ports ≡ names.ports = zip_same (IsDotted names.instances) (one_dotted names.instances) ports other.ports names.ports (subst (λ l. AllZip (IsDotted l) ports other.ports) i b.port_names) a.port_names in
+    let c : other.actions ≡ names.actions = zip_same (IsDotted names.instances) (one_dotted names.instances) actions other.actions names.actions (subst (λ l. AllZip (IsDotted l) actions other.actions) i b.action_names) a.action_names in
+    let t : other.timers ≡ names.timers = zip_same (IsDotted names.instances) (one_dotted names.instances) timers other.timers names.timers (subst (λ l. AllZip (IsDotted l) timers other.timers) i b.timer_names) a.timer_names in
+    let r : other.reactions ≡ names.reactions = zip_same (IsHashed names.instances) (one_hashed names.instances) reactions other.reactions names.reactions (subst (λ l. AllZip (IsHashed l) reactions other.reactions) i b.reaction_names) a.reaction_names in
     λ j. record { instances = i j; ports = p j; actions = c j; timers = t j; reactions = r j }

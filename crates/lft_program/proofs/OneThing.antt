@@ -1,10 +1,10 @@
 -- A thing that instances declare has one number and is of one kind.
-use Rattle.std.proofs.Common.{◌≡◌, ℕ, suc, ◌+◌, ⊎_elim, List, [], ◌∷◌, ◌++◌, map, length, slice_get, Some, sym, ap, subst, ◌∙◌, arith, length-append}
+use Rattle.std.proofs.Common.{◌≡◌, ℕ, ◌+◌, ⊎_elim, List, ◌++◌, map, length, slice_get, Some, sym, ap, subst, ◌∙◌, arith, length-append}
 use Rattle.std.proofs.lemmas.{Bool.cases_lt, List.length-map, Option.slice_get_within}
 use Rattle.lft_program.proofs.{NamesOnce.{port_names, timer_names, action_names, instance_names}, Placed.path_once, Counting.base}
 use Rattle.lft_program.proofs.{Listing.{Stands, declared_from}, OneInstances.{in_file, inside_at}}
 use Rattle.lft_program.specs.{Located.{Located, AreLocated, Declared, declared, declared_things, ports_in, actions_in, timers_in}, inner.Tables.IsLawful}
-use Rattle.lft_lists.proofs.{Mapped.{mapped, mapped_from}, Places.{get_left, Some_same}}
+use Rattle.lft_lists.proofs.{Mapped.{mapped, mapped_from}, Places.{get_left, Some_same, get_right}}
 use Rattle.lft_tree.specs.Tree.{FileTree, ReactorTree, PortTree, TimerTree, ActionTree, reactors_of, ports_of, timers_of, actions_of}
 use Rattle.lft_resolve.{specs.{Causes.IsTwice, Instances.{Thing, thing_at}, Kinds.names_in}, proofs.Effects.names_once}
 
@@ -15,8 +15,7 @@ once_at xs x i j once a b = ⊎_elim
     (cases_lt i j)
 
 pub right_at : {X : Type 0} (xs ys : List X) (k : ℕ) (x : X) → slice_get ys k ≡ Some x → slice_get (xs ++ ys) (length xs + k) ≡ Some x
-right_at [] ys k x at = let e : k ≡ 0 + k = omega arith in subst (λ n. slice_get ys n ≡ Some x) e at
-right_at (z ∷ xs) ys k x at = let e : suc (length xs + k) ≡ suc (length xs) + k = omega arith in subst (λ n. slice_get (z ∷ (xs ++ ys)) n ≡ Some x) e (right_at xs ys k x at)
+right_at xs ys k x at = get_right xs ys k ∙ at
 
 -- ---- where the names of a kind stand among those of a reactor
 

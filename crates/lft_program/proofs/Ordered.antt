@@ -1,17 +1,11 @@
 -- The reactions of an instance stand in the order of their declaration, one right after another.
-use Rattle.std.proofs.Common.{◌≡◌, ℕ, zero, suc, ◌+◌, ◌-◌, ◌<◌, List, [], ◌∷◌, length, get_or, slice_get, Some, refl, sym, ap, subst, ◌∙◌, arith}
-use Rattle.std.{specs.List.AllZip, proofs.lemmas.Option.{slice_get_within, slice_get-get_or}}
+use Rattle.std.proofs.Common.{◌≡◌, ℕ, ◌+◌, ◌-◌, ◌<◌, length, get_or, slice_get, Some, sym, ap, ◌∙◌, arith}
+use Rattle.std.proofs.lemmas.Option.{slice_get_within, slice_get-get_or}
 use Rattle.lft_tree.specs.Tree.{FileTree, ReactionTree, reactions_of}
 use Rattle.lft_program.specs.{Located.{Declared, declared}, Flattening.{IsReaction, Flat}}
-use Rattle.lft_program.proofs.{Counting.{base, declared_at}, Placed.{IsAt, declared_from}, Zips.AllZip-from}
+use Rattle.lft_program.proofs.{Counting.{base, declared_at}, Placed.{IsAt, declared_from}}
 use Rattle.lft_ir.specs.{Parts.Parts, Sound.{IsNumbered, IsConsecutive}, declared.parts.Reaction.Reaction}
-
--- the item that goes with an element
-pub AllZip-to : {A B : Type 0} (R : A → B → Type 0) (xs : List A) (ys : List B) → AllZip R xs ys → (k : ℕ) (x : A) → slice_get xs k ≡ Some x → (y : B) × (slice_get ys k ≡ Some y) × R x y
-AllZip-to R [] ys all k x at = absurd (cc)
-AllZip-to R (z ∷ xs) [] all k x at = absurd all
-AllZip-to R (z ∷ xs) (y ∷ ys) all zero x at = (y, refl, (let e : z ≡ x = cc in subst (λ w. R w y) e all.0))
-AllZip-to R (z ∷ xs) (y ∷ ys) all (suc k) x at = AllZip-to R xs ys all.1 k x at
+use Rattle.lft_resolve.proofs.{Directed.AllZip-to, Files.AllZip-from}
 
 module _ (tree : FileTree) (program : Parts) (flat : Flat tree program) where
   -- what a reaction is declared as

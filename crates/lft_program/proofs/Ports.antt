@@ -1,5 +1,5 @@
 -- The number of a port, or of another thing that instances declare under names, against the path of its instance and its place there.
-use Rattle.std.proofs.Common.{◌≡◌, ℕ, zero, suc, ◌+◌, List, [], ◌∷◌, length, length-append, refl, sym, ap, ◌∙◌, subst, arith, Some, slice_get, map, flat_map, take, unwrap_or}
+use Rattle.std.proofs.Common.{◌≡◌, ℕ, zero, suc, ◌+◌, List, [], ◌∷◌, length, length-append, refl, sym, ap, ◌∙◌, subst, arith, Some, slice_get, map, flat_map, take}
 use Rattle.std.specs.{List.{AllZip, enumerate_from}, Option.option_map}
 use Rattle.std.proofs.lemmas.{Option.slice_get_within, List.{length-map, FromFn.length-enumerate_from}}
 use Rattle.lft_lists.proofs.{Mapped.{mapped, mapped_from}, Places.get_there}
@@ -9,17 +9,15 @@ use Rattle.lft_resolve.specs.Instances.{Thing, thing_at}
 use Rattle.lft_program.specs.{Located.{Located, Declared, declared, declared_in, declared_things}, inner.Nests.{IsNest, IsNumbering, IsInstanceOf}}
 use Rattle.lft_program.specs.declared.nesting.{nest.{Nest.Nest, Numbering.Numbering}, tables.Tables.Tables}
 use Rattle.lft_program.proofs.{Counting.{total, base, declared_at}, Elements.{From, flat_back, enumerate_back}, Nested.{one_number, instance_of}}
+use Rattle.lft_program.proofs.Listing.{count_is}
 
 -- how many each instance declares
 module _ {X : Type 0} (kind : ReactorTree → List X) (rs : List ReactorTree) (counts : List ℕ) (is_counts : counts ≡ map (λ r. length (kind r)) rs) where
-  pub count_is : (n : ℕ) (r : ReactorTree) → slice_get rs n ≡ Some r → count_of_things counts n ≡ length (kind r)
-  count_is n r e = ap (λ c. unwrap_or (slice_get c n) 0) is_counts ∙ ap (λ o. unwrap_or o 0) (mapped (λ x. length (kind x)) rs n r e)
-
   length_in : (n : ℕ) (l : Located) → length (declared_in kind (n, l)) ≡ length (kind l.inside.reactor)
   length_in n l = length-map (enumerate_from 0 (kind l.inside.reactor)) _ ∙ length-enumerate_from 0 (kind l.inside.reactor)
 
   one : (n : ℕ) (l : Located) (i : Instance) → IsInstanceOf rs l i → count_of_things counts i.reactor ≡ length (declared_in kind (n, l))
-  one n l i e = count_is i.reactor l.inside.reactor e ∙ sym (length_in n l)
+  one n l i e = count_is kind rs counts is_counts i.reactor l.inside.reactor e ∙ sym (length_in n l)
 
   some : (n : ℕ) (ls : List Located) (is : List Instance) → AllZip (IsInstanceOf rs) ls is → (k : ℕ) → how_many counts (take k is) ≡ total (declared_in kind) k (enumerate_from n ls)
   some n ls is all zero = refl

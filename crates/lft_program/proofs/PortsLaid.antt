@@ -1,12 +1,13 @@
 -- What the tables and the links of a tree have for a port of it.
 use Rattle.std.proofs.Common.{◌≡◌, ◌<◌, ℕ, Bool, List, Some, length, slice_get, sym, subst, ap, ◌∙◌}
 use Rattle.std.{specs.{Option.option_and_then, List.AllZip}, proofs.lemmas.List.length-map}
-use Rattle.lft_lists.proofs.Mapped.{mapped}
+use Rattle.lft_lists.proofs.{Mapped.mapped, Zips.long as zip_long}
 use Rattle.lft_tree.specs.Tree.{FileTree, PortTree, ports_of}
 use Rattle.lft_resolve.specs.{declared.expansion.numbering.Thing.Thing, Instances.{Thing as Spoken, thing_at}, inner.Sheets.IsDeclarations}
+use Rattle.lft_resolve.proofs.Files.{AllZip-from}
 use Rattle.lft_program.specs.{Links.IsSource, Located.{Declared, declared, ports_in}, inner.{Nests.IsThingOf, Laying.{IsPortAt, input_at}, OfTree.AreOfTree}}
 use Rattle.lft_program.specs.{declared.nesting.{linking.Linked.Linked, nest.Nest.Nest, tables.Tables.Tables}, Flattening.IsPort}
-use Rattle.lft_program.proofs.{Declared.declared_from, LaidOut.row_there, Making.{Made, made_zip}, Zips.{AllZip-from, AllZip-length}}
+use Rattle.lft_program.proofs.{Declared.declared_from, LaidOut.row_there, Making.{Made, made_zip}}
 use Rattle.lft_ir.specs.declared.parts.Port.{Port as PortOf}
 
 -- the port is the one of its number's link
@@ -37,7 +38,7 @@ module _ (tree : FileTree) (tables : Tables) (nest : Nest) (links : List Linked)
 
   module _ (things : List Thing) (all : AllZip IsThingOf (declared ports_of of.is_nest.located) things) where
     pub links_long : length links ≡ length things
-    links_long = of.are_links.as_long ∙ length-map (declared ports_of of.is_nest.located) (λ x. thing_at x.located.path x.item.name) ∙ sym (AllZip-length IsThingOf (declared ports_of of.is_nest.located) things all)
+    links_long = of.are_links.as_long ∙ length-map (declared ports_of of.is_nest.located) (λ x. thing_at x.located.path x.item.name) ∙ zip_long IsThingOf (declared ports_of of.is_nest.located) things all
 
     pub link_within : (k : ℕ) → k < length things → k < length links
     link_within k within = subst (λ n. k < n) (sym links_long) within

@@ -1,10 +1,10 @@
 -- Things that instances declare, each with the place of its name among those of its reactor.
 use Rattle.std.proofs.Common.{◌≡◌, ℕ, ◌+◌, ◌<◌, List, ◌++◌, length, slice_get, get_or, Some, All, AllPairs, ⊎_elim, sym, ap, ◌∙◌, arith}
 use Rattle.std.proofs.lemmas.{Bool.cases_order, Option.{slice_get_within, slice_get-get_or}}
-use Rattle.lft_lists.proofs.Places.{Some_same}
+use Rattle.lft_lists.proofs.Places.{Some_same, get_append_cases}
 use Rattle.lft_tree.specs.Tree.{ReactorTree}
 use Rattle.lft_resolve.specs.Causes.{IsTwice}
-use Rattle.lft_program.{specs.{Located.Located, declared.naming.OwnName.OwnName}, proofs.FullNames.part_at}
+use Rattle.lft_program.specs.{Located.Located, declared.naming.OwnName.OwnName}
 
 -- ---- names that an instance has once
 
@@ -22,26 +22,26 @@ once_append xs ys once_x once_y apart i j a b low at_a at_b instance name =
     (λ p. ⊎_elim
     (λ q. once_x i j a b low p q instance name)
     (λ q. apart i q.0 a b p q.2 instance name)
-    (part_at xs ys j b at_b))
+    (get_append_cases xs ys j b at_b))
     (λ p. ⊎_elim
     (λ q. let within = slice_get_within xs j b q in let e : i ≡ length xs + p.0 = p.1 in absurd (omega arith))
     (λ q. let e : i ≡ length xs + p.0 = p.1 in let f : j ≡ length xs + q.0 = q.1 in once_y p.0 q.0 a b (omega arith) p.2 q.2 instance name)
-    (part_at xs ys j b at_b))
-    (part_at xs ys i a at_a)
+    (get_append_cases xs ys j b at_b))
+    (get_append_cases xs ys i a at_a)
 
 pub apart_append : (xs ys zs : List OwnName) → Apart xs ys → Apart xs zs → Apart xs (ys ++ zs)
 apart_append xs ys zs from_y from_z i j a b at_a at_b instance name =
     ⊎_elim
     (λ q. from_y i j a b at_a q instance name)
     (λ q. from_z i q.0 a b at_a q.2 instance name)
-    (part_at ys zs j b at_b)
+    (get_append_cases ys zs j b at_b)
 
 pub append_apart : (xs ys zs : List OwnName) → Apart xs zs → Apart ys zs → Apart (xs ++ ys) zs
 append_apart xs ys zs from_x from_y i j a b at_a at_b instance name =
     ⊎_elim
     (λ q. from_x i j a b q at_b instance name)
     (λ q. from_y q.0 j a b q.2 at_b instance name)
-    (part_at xs ys i a at_a)
+    (get_append_cases xs ys i a at_a)
 
 -- ---- from places to the whole list
 
@@ -53,7 +53,7 @@ module _ {X : Type 0} where
   pairs_of R xs each i j x low within = each i j (get_or xs i x) (get_or xs j x) low (slice_get-get_or xs i x (omega arith)) (slice_get-get_or xs j x within)
 
   pub each_append : (P : X → Type 0) (xs ys : List X) → ((k : ℕ) (x : X) → slice_get xs k ≡ Some x → P x) → ((k : ℕ) (x : X) → slice_get ys k ≡ Some x → P x) → (k : ℕ) (x : X) → slice_get (xs ++ ys) k ≡ Some x → P x
-  each_append P xs ys each_x each_y k x at = ⊎_elim (λ p. each_x k x p) (λ p. each_y p.0 x p.2) (part_at xs ys k x at)
+  each_append P xs ys each_x each_y k x at = ⊎_elim (λ p. each_x k x p) (λ p. each_y p.0 x p.2) (get_append_cases xs ys k x at)
 
 -- ---- sites
 

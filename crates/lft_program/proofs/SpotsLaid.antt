@@ -6,13 +6,14 @@ use Rattle.lft_lists.proofs.Mapped.{option_map_some}
 use Rattle.lft_resolve.specs.inner.{Expansion.Joins.port_at, Places.place, Sheets.{AreCues, IsCue, IsReactions, IsSpot}}
 use Rattle.lft_resolve.specs.declared.{expansion.numbering.Thing.Thing, by_number.sheets.{Cue.Cue, Cues.Cues, NamedThing.NamedThing}}
 use Rattle.lft_resolve.specs.{Instances.{Thing as Spoken, thing_at, stands_inside, stands_for}, Sheets.without_timers}
+use Rattle.lft_resolve.proofs.{Directed.AllZip-to, Files.AllZip-from}
 use Rattle.lft_program.specs.Located.{Located, Declared, declared, declared_things}
 use Rattle.lft_program.specs.inner.{Nests.{IsNumbering, IsThingOf}, Laying.{Each, HasCues, HasNamedThing, HasCue, IsReactionAt, cues_at, name_at, trigger_at}}
 use Rattle.lft_program.specs.inner.OfTree.{AreOfTree}
 use Rattle.lft_program.specs.declared.nesting.{linking.Linked.Linked, nest.{Nest.Nest, Numbering.Numbering}, tables.Tables.Tables}
 use Rattle.lft_program.specs.Flattening.{IsFlatName, IsReaction, IsTrigger}
 use Rattle.lft_program.proofs.{Counting.base, Declared.declared_from, Ends.{place_at, standing}, Ports.{as_many, number_at, thing_forth}, Singles.place_forth}
-use Rattle.lft_program.proofs.{Zipping.zip_at, LaidOut.row_there, Making.{Made, made_zip}, Zips.AllZip-from}
+use Rattle.lft_program.proofs.{LaidOut.row_there, Making.{Made, made_zip}}
 use Rattle.lft_ir.specs.declared.parts.{Name.{Name, TheVariants.{Port, Action}}, Reaction.Reaction}
 use Rattle.lft_ir.specs.declared.parts.Trigger.{Trigger, TheVariants.{Startup, Shutdown, Timer, On}}
 use Rattle.lft_resolve.specs.declared.by_number.sheets.Cue.TheVariants as cues
@@ -126,7 +127,7 @@ module _ (tree : FileTree) (tables : Tables) (nest : Nest) (links : List Linked)
     cues_there =
         let row = row_there tree tables nest links of (IsReactions (reactors_of tree)) tables.reactions.items of.are_tables.reactions thing.instance d.located here in
         let item : slice_get (reactions_of d.located.inside.reactor) thing.place ≡ Some d.item = ap (slice_get (reactions_of d.located.inside.reactor)) same.1 ∙ (declared_from reactions_of all k d is).1 in
-        let c = zip_at (AreCues (reactors_of tree) d.located.inside.reactor) (reactions_of d.located.inside.reactor) row.0.reactions.items row.2 thing.place d.item item in
+        let c = AllZip-to (AreCues (reactors_of tree) d.located.inside.reactor) (reactions_of d.located.inside.reactor) row.0.reactions.items row.2 thing.place d.item item in
         (c.0, ap (option_and_then (λ x. slice_get x.reactions.items thing.place)) row.1 ∙ c.1, c.2)
 
     pub reaction_is : (reaction : Reaction) → IsReactionAt tables nest thing reaction → IsReaction all d reaction

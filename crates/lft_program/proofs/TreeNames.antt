@@ -1,19 +1,18 @@
 -- The things of a tree's instances are those of one program, and their full names are those of the tree.
 use Rattle.std.proofs.Common.{◌≡◌, ◌≢◌, ℕ, ◌+◌, ◌<◌, List, ◌++◌, map, drop, length, slice_get, Some, Result, Ok, Err, IfOk, codes, refl, sym, ap, subst, ◌∙◌, arith, length-drop, append-nil}
 use Rattle.std.{specs.{Fmt.decimal, List.AllZip}, proofs.lemmas.{List.length-map, Option.slice_get_within}}
-use Rattle.lft_lists.proofs.{Places.Some_same, Mapped.{mapped, mapped_from}}
+use Rattle.lft_lists.proofs.{Places.Some_same, Mapped.{mapped, mapped_from}, Zips.long as zip_long}
 use Rattle.lft_tree.specs.{Identifiers.{IsName, HasIdentifiers}, Tree.{FileTree, ReactorTree, reactors_of, ports_of, actions_of, timers_of, reactions_of}}
-use Rattle.lft_resolve.specs.{Kinds.names_in, Causes.IsTwice}
+use Rattle.lft_resolve.{specs.{Kinds.names_in, Causes.IsTwice}, proofs.{Directed.AllZip-to, Effects.names_once}}
 use Rattle.lft_program.specs.Located.{Located, declared, declared_things}
 use Rattle.lft_program.specs.inner.{Nests.IsNest, Tables.IsLawful, FullNames.{IsDotted, IsHashed, AreFullNames, AreNested, AreOfProgram, AreFew, members}}
 use Rattle.lft_program.specs.inner.TreeLists.{AreLists, IsPlacedAt, SaysDeclaration}
 use Rattle.lft_program.specs.declared.{nesting.{nest.Nest.Nest, tables.Tables.Tables}, naming.{OwnName.OwnName, PlacedReaction.PlacedReaction}}
 use Rattle.lft_program.specs.declared.tree_lists.Lists.{Lists}
 use Rattle.lft_program.specs.Flattening.{name_of_path, name_of_thing, name_of_reaction, names_of}
-use Rattle.lft_program.proofs.{Listing.declared_from, Zipping.{zip_at, zip_long, zip_of}}
-use Rattle.lft_program.proofs.InnerNames.{first, inner_at, inner_sites, long, long_inner, path_last}
+use Rattle.lft_program.proofs.{Listing.declared_from, Zipping.zip_of, InnerNames.{first, inner_at, inner_sites, long, long_inner, path_last}}
 use Rattle.lft_program.proofs.KindNames.{reactor_at, sites, few_told, placed_within, placed_once, few_placed}
-use Rattle.lft_program.proofs.NamesOnce.{port_names, timer_names, action_names, instance_names, never_twice, ports_once, timers_once, actions_once, instances_once, ports_timers, ports_actions, ports_instances, timers_actions, timers_instances, actions_instances, ports_named, timers_named, actions_named, instances_named}
+use Rattle.lft_program.proofs.NamesOnce.{port_names, timer_names, action_names, instance_names, ports_once, timers_once, actions_once, instances_once, ports_timers, ports_actions, ports_instances, timers_actions, timers_instances, actions_instances, ports_named, timers_named, actions_named, instances_named}
 use Rattle.lft_program.proofs.Sites.{Once, AreApart, AreSites, Each, all_of, pairs_of, each_append, once_append, apart_append, append_apart, once_of, apart_of, names_of_sites, within_sites}
 use Rattle.lft_ir.{specs.Names.ThingNames, proofs.Ranges.slice_get-drop}
 
@@ -61,7 +60,7 @@ module _ (tree : FileTree) (tables : Tables) (nest : Nest) (is : IsNest tree tab
 
   module _ (identifiers : HasIdentifiers tree) (law : IsLawful tree) where
     never : Each is.located (λ r. IsTwice (names_in r) → ⊥)
-    never n l at = let m = reactor_at (reactors_of tree) is.located nest.instances.items is.instances n l at in never_twice tree law m.0.reactor l.inside.reactor m.2
+    never n l at = let m = reactor_at (reactors_of tree) is.located nest.instances.items is.instances n l at in names_once (reactors_of tree) m.0.reactor l.inside.reactor m.2 law.first
 
     once_members : Once (members inner ports actions timers)
     once_members =
@@ -137,7 +136,7 @@ module _ (tree : FileTree) (tables : Tables) (nest : Nest) (is : IsNest tree tab
       each k x y at_x at_y =
           let t = mapped_from (name_of_thing tree is.are_located.main) (declared_things name (declared kind is.located)) k y at_y in
           let d = mapped_from _ (declared kind is.located) k t.0 t.1 in
-          let s = zip_at (SaysDeclaration name) (declared kind is.located) xs all k d.0 d.1 in
+          let s = AllZip-to (SaysDeclaration name) (declared kind is.located) xs all k d.0 d.1 in
           let one : s.0 ≡ x = Some_same s.0 x (sym s.1 ∙ at_x) in
           let says : SaysDeclaration name d.0 x = subst (SaysDeclaration name d.0) one s.2 in
           let stands = declared_from kind is.located k d.0 d.1 in (
@@ -155,7 +154,7 @@ module _ (tree : FileTree) (tables : Tables) (nest : Nest) (is : IsNest tree tab
       each : (k : ℕ) (x : PlacedReaction) (y : List ℕ) → slice_get reactions k ≡ Some x → slice_get (map (name_of_reaction tree is.are_located.main) (declared reactions_of is.located)) k ≡ Some y → IsHashed instance_texts x y
       each k x y at_x at_y =
           let d = mapped_from (name_of_reaction tree is.are_located.main) (declared reactions_of is.located) k y at_y in
-          let s = zip_at IsPlacedAt (declared reactions_of is.located) reactions are.reactions k d.0 d.1 in
+          let s = AllZip-to IsPlacedAt (declared reactions_of is.located) reactions are.reactions k d.0 d.1 in
           let one : s.0 ≡ x = Some_same s.0 x (sym s.1 ∙ at_x) in
           let says : IsPlacedAt d.0 x = subst (IsPlacedAt d.0) one s.2 in
           let stands = declared_from reactions_of is.located k d.0 d.1 in (

@@ -7,9 +7,9 @@ use Rattle.lft_resolve.specs.inner.Expansion.{Contents.contained, Values.{defaul
 use Rattle.lft_resolve.specs.inner.{Numbers.AreContents, Sheets.{AreValuesGiven, AreParameters, IsGiven, IsParameters}}
 use Rattle.lft_resolve.specs.{declared.expansion.{settings.Parameters.Parameters, walk.Contents.Contents}, Causes.{HasLongTime, NoneHolds, first_causes}}
 use Rattle.lft_resolve.specs.Instances.{Inside, entered, given_in, main_instance, reactor_named}
-use Rattle.lft_resolve.proofs.{ExpansionLemmas.Simulation.Simulates, Twice.Any-at}
+use Rattle.lft_resolve.proofs.{ExpansionLemmas.Simulation.Simulates, Twice.Any-at, Directed.AllZip-to}
 use Rattle.lft_program.proofs.{Containing.inner_at, Entering.{entered_by, enters, made_in, step_forth}}
-use Rattle.lft_program.proofs.{Giving.{defaults_short, given_short, parameters_once, values_given}, Zipping.zip_at}
+use Rattle.lft_program.proofs.Giving.{defaults_short, given_short, parameters_once, values_given}
 
 -- the reactor's number and the values are those of the instance
 abbrev pub HasValues : List ReactorTree → Inside → ℕ × List ℕ → Type 0
@@ -18,7 +18,7 @@ HasValues rs x p = (slice_get rs p.0 ≡ Some x.reactor) × (p.1 ≡ x.values)
 module _ (rs : List ReactorTree) (table : List Parameters) (are : AreParameters rs table) (first : NoneHolds (first_causes rs)) (short : Any HasLongTime rs → ⊥) where
   defaults_are : (n : ℕ) (r : ReactorTree) → slice_get rs n ≡ Some r → defaults_of table n ≡ map (λ p. nanoseconds p.default) r.parameters
   defaults_are n r at =
-      let p = zip_at (IsParameters rs) rs table are n r at in
+      let p = AllZip-to (IsParameters rs) rs table are n r at in
       ap (λ o. option_map_or (λ p. p.defaults.items) o []) p.1 ∙ p.2.defaults ∙ defaults_short r.parameters (λ l. short (Any-at HasLongTime rs n r at (inl l)))
 
   pub main_values : (n : ℕ) (r : ReactorTree) → slice_get rs n ≡ Some r → HasValues rs (main_instance r) (n, defaults_of table n)
@@ -26,8 +26,8 @@ module _ (rs : List ReactorTree) (table : List Parameters) (are : AreParameters 
 
   given_are : (n k : ℕ) (o : ReactorTree) (i : InstanceTree) (r : ReactorTree) → slice_get rs n ≡ Some o → slice_get (instances_of o) k ≡ Some i → reactor_named rs i.reactor ≡ Some r → AllZip (IsGiven o r) i.given (given_by table n k)
   given_are n k o i r at e named =
-      let p = zip_at (IsParameters rs) rs table are n o at in
-      let g = zip_at (AreValuesGiven rs o) (instances_of o) (map (λ g. g.items) p.0.given.items) p.2.given k i e in
+      let p = AllZip-to (IsParameters rs) rs table are n o at in
+      let g = AllZip-to (AreValuesGiven rs o) (instances_of o) (map (λ g. g.items) p.0.given.items) p.2.given k i e in
       let v = mapped_from (λ g. g.items) p.0.given.items k g.0 g.1 in
       let same : g.2.0 ≡ r = (let f : Some g.2.0 ≡ Some r = sym g.2.1 ∙ named in cc) in
       let is : given_by table n k ≡ g.0 = ap (λ o. option_map_or (λ given. given.items) (option_and_then (λ p. slice_get p.given.items k) o) []) p.1 ∙ ap (λ o. option_map_or (λ given. given.items) o []) v.1 ∙ v.2 in

@@ -5,7 +5,7 @@ use Rattle.std.specs.{Prelude.{Result, OnOk, OnErr}, Option.unwrap_or}
 use Rattle.std.specs.declared.{result.Result.TheVariants.{Ok, Err}, cmp.Ordering.{Ordering, TheVariants.{Less, Equal, Greater}}}
 use Rattle.std.specs.Ordering.{is_eq, match_ordering, nat_cmp, bool_cmp, ordering_then}
 use Rattle.std.proofs.lemmas.{Bool.Decides.nat_tests, Map.Lookups.exact_unsigned}
-use Rattle.lft_tag.{specs.{declared.Tag.Tag, Tags.UpTo}, proofs.Comparing.{less_nat, less_then, both_equal}}
+use Rattle.lft_tag.{specs.{declared.Tag.Tag, Tags.UpTo}, proofs.{Comparing.{less_nat, less_then, both_equal}, Order.UpTo-refl}}
 use Rattle.lft_ir.specs.declared.parts.{Value.Value, Name.{Name, TheVariants.{Port, Action}}}
 use Rattle.lft_queue.specs.{Pending.{Pending, same_key, value_of, Becomes, IsMap}, inner.Keys.{Key, key_of, key_tag, name_of, pending_at, key_cmp}}
 
@@ -153,9 +153,6 @@ equal_up j k e =
     let b : j.1 ≡ k.1 = exact_unsigned j.1 k.1 r.1 in
     inr (exact_unsigned j.0 k.0 r.0, omega arith)
 
-up_to_self : (g : Tag) → UpTo g g
-up_to_self g = inr (refl, omega arith)
-
 all_later : (k : Key) (es : List (Key × Value)) → AllByRecursion (λ y. key_cmp k y ≡ Less) (keys_of es) → (j : ℕ) (d : Pending) → j < length (map pending_at es) → UpTo (key_tag k) (get_or (map pending_at es) j d).tag
 all_later k [] h j d lt = absurd (omega arith)
 all_later k (q ∷ es) h zero d lt = follows k q.0 h.0
@@ -171,7 +168,7 @@ first_least (p ∷ es) k v f h e c = subst (λ (j : Key). UpTo (key_tag j) e.tag
     is_first = let q : p ≡ (k, v) = cc (f) in ap (λ (x : Key × Value). x.0) q
 
     at : (j : ℕ) → j < length (map pending_at (p ∷ es)) → get_or (map pending_at (p ∷ es)) j e ≡ e → UpTo (key_tag p.0) e.tag
-    at zero lt q = subst (λ (x : Pending). UpTo (key_tag p.0) x.tag) q (up_to_self (key_tag p.0))
+    at zero lt q = subst (λ (x : Pending). UpTo (key_tag p.0) x.tag) q (UpTo-refl (key_tag p.0))
     at (suc j) lt q = subst (λ (x : Pending). UpTo (key_tag p.0) x.tag) q (all_later p.0 es h.0 j e (omega arith))
 
 -- and is one of the events

@@ -1,14 +1,9 @@
 -- The first lines of a text, byte by byte.
-use Rattle.std.proofs.Common.{◌≡◌, ℕ, zero, suc, ◌+◌, ◌≤◌, List, [], ◌∷◌, ◌++◌, take, drop, add-one, append_assoc, Some, sym, ap, ◌∙◌, arith, slice_get, nat_eq, false, if◌then◌else◌}
+use Rattle.std.proofs.Common.{◌≡◌, ℕ, suc, ◌+◌, List, [], ◌∷◌, ◌++◌, take, drop, add-one, append_assoc, Some, sym, ap, ◌∙◌, arith, slice_get, nat_eq, false, if◌then◌else◌}
 use Rattle.std.proofs.lemmas.Bool.Decides.{nat_tests}
 use Rattle.lft_ir.proofs.WordsLemmas.Steps.{drop_next}
 use Rattle.lft_report.specs.Shortened.{shortened}
-
--- one byte more in front
-take_next : {X : Type 0} (xs : List X) (i : ℕ) (x : X) → slice_get xs i ≡ Some x → take (suc i) xs ≡ take i xs ++ x ∷ []
-take_next [] i x e = absurd (cc)
-take_next (y ∷ ys) zero x e = let q : y ≡ x = cc in ap (λ z. z ∷ []) q
-take_next (y ∷ ys) (suc i) x e = ap (λ zs. y ∷ zs) (take_next ys i x e)
+use Rattle.lft_lists.proofs.Picked.{take_next}
 
 module _ (bytes all : List ℕ) (i left m x : ℕ) (up : left ≡ suc m) (e : slice_get bytes i ≡ Some x) (so_far : all ≡ take i bytes ++ shortened left (drop i bytes)) where
   -- one byte more is printed

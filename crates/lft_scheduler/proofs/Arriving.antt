@@ -1,7 +1,7 @@
 -- Lists by origin on the way to those of a program.
 use Rattle.std.proofs.Common.{◌≡◌, ◌⊎◌, inl, inr, ◌<◌, ◌≤◌, ◌+◌, ℕ, List, [], ◌∷◌, ◌++◌, length, sym, ap, ◌∙◌, subst, arith, Some, slice_get, slice_set, slice_index_or, Contains, AllPairs}
 use Rattle.std.proofs.lemmas.{Bool.cases_eq, Option.slice_get_within, List.{Elements.Contains-get_or, Quantifiers.all_pairs_push}}
-use Rattle.lft_ir.{specs.{Parts.Parts, Sound.IsSound, declared.parts.Port.Port as PortOf}, proofs.Origins.origin_inside}
+use Rattle.lft_ir.specs.{Parts.Parts, declared.parts.Port.Port as PortOf}
 use Rattle.lft_lists.proofs.Places.{length_written, same_at}
 use Rattle.lft_queue.specs.inner.Coming.NumberLists.{list_at}
 use Rattle.lft_scheduler.specs.inner.{Listeners.{IsArrival, IsWatched, AreArrivals}, Filling.AreArriving}
@@ -39,10 +39,6 @@ arriving_same program n lists before not = record { as_long = before.as_long; ea
     from : (o p : ℕ) → (p < n + 1) × IsArrival program o p × IsWatched program p → (p ≡ n) ⊎ (p ≡ n → ⊥) → Contains (list_at lists o) p
     from o p w (inl e) = absurd (not (subst (λ (i : ℕ). IsWatched program i) e w.2))
     from o p w (inr d) = (before.each o p).1 ((let l : p < n + 1 = w.0 in omega arith), w.1, w.2)
-
--- the origin of a port is a port
-pub origin_known : (program : Parts) → IsSound program → (n : ℕ) (port : PortOf) → slice_get program.ports n ≡ Some port → port.origin < length program.ports
-origin_known program sound n port here = origin_inside (sound.origins n port here).1
 
 -- all ports
 pub all_arriving : (program : Parts) (n : ℕ) (lists : List (List ℕ)) → length program.ports ≤ n → AreArriving program n lists → AreArrivals program lists

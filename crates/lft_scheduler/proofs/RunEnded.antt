@@ -26,7 +26,7 @@ undelayed g [] e = refl
 undelayed g (d ∷ ds) e = absurd (Before-irrefl g (subst (λ (k : Tag). Before g k) e (after_some_past g d ds)))
 
 module _ (plan : PlanParts) (good : IsSoundPlan plan) (t : List Row) (w : ℕ) (g : Tag) (r : ℕ) (steps : List Step) (b : MayEnd plan t w g r steps) where
-  may : (s : Step) → Mem s steps → MayAnswer plan r s
+  pub may : (s : Step) → Mem s steps → MayAnswer plan r s
   may s m = let p = get_mem s steps m in b.may p.0 s p.1
 
   abbrev new_rows : List Row
@@ -60,7 +60,7 @@ module _ (plan : PlanParts) (good : IsSoundPlan plan) (t : List Row) (w : ℕ) (
   ran_on h c o = record { place = o.place; worker = o.worker; starts = get_left t new_rows o.place (start_row o.worker h c) o.starts }
 
   -- the end row stands last
-  end_there : slice_get (t ++ committed_rows w g r steps) (length t + length steps) ≡ Some (end_row w g r)
+  pub end_there : slice_get (t ++ committed_rows w g r steps) (length t + length steps) ≡ Some (end_row w g r)
   end_there = put_right t new_rows (length steps) (end_row w g r) (length t + length steps) (omega arith) (last steps)
     where
       last : (ss : List Step) → slice_get (map (run_row w g r) (ss ++ End ∷ [])) (length ss) ≡ Some (end_row w g r)

@@ -6,10 +6,11 @@ use Rattle.lft_tag.{specs.{declared.Tag.Tag, Tags.{UpTo, same_tag}}, proofs.Orde
 use Rattle.lft_lists.proofs.{Members.{Mem, mem_get, get_mem, mem_cases}, Places.{get_append_cases, get_left}}
 use Rattle.lft_ir.specs.declared.{parts.Value.Value, steps.row.{Row.Row, Step.{Step, TheVariants.{Start, Read, End}}}}
 use Rattle.lft_model.specs.{Plans.{PlanParts, IsSoundPlan}, Presence.stop, Runs.{Ran, start_row, end_row, read_step, read_of, inputs_of, reads_at}}
-use Rattle.lft_model.specs.{Breaches.IsOpen, Recorded.{run_row, begun_rows, committed_rows, MayAnswer}}
+use Rattle.lft_model.specs.{Breaches.IsOpen, Recorded.{begun_rows, committed_rows}}
 use Rattle.lft_model.proofs.{Places.slice_get_within, Steps.{both_true, in_reads}, Blocks.put_right, Added.added_row, Begun.{steps_same, own_reads}}
 use Rattle.lft_model.proofs.{Committed.same_reads, Quiet.pending_time}
 use Rattle.lft_scheduler.specs.{Starts.IsBusy, declared.open.OpenRun.OpenRun, inner.{OpenRuns.{AreOpen, HasReads, is_run}, Agendas.{MayBegin, MayEnd}}}
+use Rattle.lft_scheduler.proofs.RunEnded.{may, end_there}
 
 -- what a filter keeps
 pub filter_mem : {X : Type 0} (p : X → Bool) (xs : List X) (x : X) → Mem x (filter p xs) → Mem x xs × (p x ≡ true)
@@ -128,9 +129,6 @@ module _ (plan : PlanParts) (good : IsSoundPlan plan) (t : List Row) (w : ℕ) (
           go (inr p) = (length runs, its, put_right runs (its ∷ []) 0 its (length runs) (omega arith) refl, ap (λ (x : OpenRun). x.worker) its_is ∙ sym p.0, ap (λ (x : OpenRun). x.tag) its_is ∙ sym p.1, ap (λ (x : OpenRun). x.reaction) its_is ∙ sym p.2)
 
 module _ (plan : PlanParts) (good : IsSoundPlan plan) (t : List Row) (w : ℕ) (g : Tag) (r : ℕ) (steps : List Step) (b : MayEnd plan t w g r steps) where
-  may : (s : Step) → Mem s steps → MayAnswer plan r s
-  may s m = let p = get_mem s steps m in b.may p.0 s p.1
-
   -- a new row is of the run, and no start
   its_row : (j v : ℕ) (h : Tag) (c : ℕ) (s : Step) → slice_get (committed_rows w g r steps) j ≡ Some (record { worker = v; tag = h; reaction = c; step = s }) → (v ≡ w) × (h ≡ g) × (c ≡ r) × Mem s (steps ++ End ∷ [])
   its_row j v h c s e =
@@ -141,17 +139,9 @@ module _ (plan : PlanParts) (good : IsSoundPlan plan) (t : List Row) (w : ℕ) (
   no_start m = go (mem_cases Start steps (End ∷ []) m)
     where
       go : Mem Start steps ⊎ Mem Start (End ∷ []) → ⊥
-      go (inl n) = may Start n
+      go (inl n) = may plan good t w g r steps b Start n
       go (inr (inl q)) = absurd (cc)
       go (inr (inr n)) = n
-
-  -- the end row stands last
-  end_there : slice_get (t ++ committed_rows w g r steps) (length t + length steps) ≡ Some (end_row w g r)
-  end_there = put_right t (committed_rows w g r steps) (length steps) (end_row w g r) (length t + length steps) (omega arith) (last steps)
-    where
-      last : (ss : List Step) → slice_get (map (run_row w g r) (ss ++ End ∷ [])) (length ss) ≡ Some (end_row w g r)
-      last [] = refl
-      last (s ∷ ss) = last ss
 
   -- an open run is an old one, and another than the one that is ended
   pub committed_cases : (v : ℕ) (h : Tag) (c : ℕ) → IsOpen (t ++ committed_rows w g r steps) (length (t ++ committed_rows w g r steps)) v h c → IsOpen t (length t) v h c × ((v ≡ w) × (h ≡ g) × (c ≡ r) → ⊥)
@@ -160,7 +150,7 @@ module _ (plan : PlanParts) (good : IsSoundPlan plan) (t : List Row) (w : ℕ) (
       other : slice_get t o.start ≡ Some (start_row v h c) → (v ≡ w) × (h ≡ g) × (c ≡ r) → ⊥
       other e q =
           let l : o.start < length t = slice_get_within t o.start (start_row v h c) e in
-          let there : slice_get (t ++ committed_rows w g r steps) (length t + length steps) ≡ Some (end_row v h c) = end_there ∙ ap (λ (d : ℕ). Some (end_row d g r)) (sym q.0) ∙ ap (λ (k : Tag). Some (end_row v k r)) (sym q.1) ∙ ap (λ (d : ℕ). Some (end_row v h d)) (sym q.2) in
+          let there : slice_get (t ++ committed_rows w g r steps) (length t + length steps) ≡ Some (end_row v h c) = end_there plan good t w g r steps b ∙ ap (λ (d : ℕ). Some (end_row d g r)) (sym q.0) ∙ ap (λ (k : Tag). Some (end_row v k r)) (sym q.1) ∙ ap (λ (d : ℕ). Some (end_row v h d)) (sym q.2) in
           o.not_ended (length t + length steps) (omega arith) (slice_get_within (t ++ committed_rows w g r steps) (length t + length steps) (end_row v h c) there) there
 
       go : (slice_get t o.start ≡ Some (start_row v h c)) ⊎ ((j : ℕ) × (o.start ≡ length t + j) × (slice_get (committed_rows w g r steps) j ≡ Some (start_row v h c))) → IsOpen t (length t) v h c × ((v ≡ w) × (h ≡ g) × (c ≡ r) → ⊥)
@@ -184,7 +174,7 @@ module _ (plan : PlanParts) (good : IsSoundPlan plan) (t : List Row) (w : ℕ) (
   committed_open runs is = record { each = each; all = all }
     where
       its_reads : (h : Tag) (c : ℕ) → reads_at plan (t ++ committed_rows w g r steps) h c ≡ reads_at plan t h c
-      its_reads h c = same_reads plan good t b.so_far w g r b.open_run steps may h c
+      its_reads h c = same_reads plan good t b.so_far w g r b.open_run steps (may plan good t w g r steps b) h c
 
       flip : (b : Bool) → not b ≡ true → b ≡ true → ⊥
       flip true e q = absurd (cc)

@@ -1,7 +1,7 @@
 -- Escaped bytes in strings, and strings that end on their line.
 use Rattle.std.proofs.Common.{◌≡◌, ℕ, zero, suc, ◌+◌, ◌-◌, ◌<◌, ◌≤◌, Bool, true, false, List, [], ◌∷◌, length, Option, Some, None, Result, Ok, Err, ◌⊎◌, inl, inr, if◌then◌else◌, refl, sym, ap, subst, ◌∙◌, arith}
 use Rattle.std.specs.Prelude.{not, ◌&&◌, ◌||◌, codes}
-use Rattle.std.proofs.lemmas.Bool.{and_parts}
+use Rattle.std.proofs.lemmas.Bool.{and_parts, or_from}
 use Rattle.lft_whole.specs.{Pieces.{stands, first_in, is_escaped, closes, past_or_line, past_in_line, past_or_next}, inner.Pieces.QuoteNothing}
 use Rattle.lft_whole.proofs.Searches.{NonePass, none_more, none_in, found_in, none_says, found_says}
 
@@ -82,16 +82,13 @@ not_there : (a b c : Bool) → (not a && b) ≡ false → (not a && c) ≡ true 
 not_there true b c h s = absurd cc
 not_there false b c h s = h
 
-neither : (a b : Bool) → a ≡ false → b ≡ false → (a || b) ≡ false
-neither a b f g = rw (f, g) refl
-
 pub line_found : (q : ℕ) (t : List ℕ) (i j : ℕ) → i ≤ j → j < length t → NonePass (ends_line q t i) i j → closes (q ∷ []) t i j ≡ false → closes (10 ∷ []) t i j ≡ true → past_in_line q t i ≡ Err j
 line_found q t i j le lt none quote line =
     let here : ends_line q t i j ≡ true = ap (λ (b : Bool). b || closes (10 ∷ []) t i j) quote ∙ line in
     line_is q t i j (record { none = none; end = inr (le, lt, here, not_there (is_escaped t i (j - i)) (stands (q ∷ []) t j) (stands (10 ∷ []) t j) quote line) })
 
 pub line_goes : (q : ℕ) (t : List ℕ) (i j : ℕ) → NonePass (ends_line q t i) i j → closes (q ∷ []) t i j ≡ false → closes (10 ∷ []) t i j ≡ false → NonePass (ends_line q t i) i (j + 1)
-line_goes q t i j none quote line = none_more (ends_line q t i) i j none (neither (closes (q ∷ []) t i j) (closes (10 ∷ []) t i j) quote line)
+line_goes q t i j none quote line = none_more (ends_line q t i) i j none (or_from (closes (q ∷ []) t i j) (closes (10 ∷ []) t i j) quote line)
 
 pub line_open : (q : ℕ) (t : List ℕ) (i : ℕ) → NonePass (ends_line q t i) i (length t) → past_in_line q t i ≡ Err (length t)
 line_open q t i none = line_is q t i (length t) (record { none = none; end = inl refl })

@@ -1,9 +1,9 @@
 -- Searches for a place, and runs of bytes.
-use Rattle.std.proofs.Common.{◌≡◌, ℕ, zero, suc, ◌+◌, ◌-◌, ◌<◌, ◌≤◌, Bool, true, false, List, ◌∷◌, length, Option, Some, None, inl, inr, if◌then◌else◌, refl, sym, ap, subst, ◌∙◌, arith}
+use Rattle.std.proofs.Common.{◌≡◌, ℕ, zero, suc, ◌+◌, ◌-◌, ◌<◌, ◌≤◌, Bool, true, false, List, length, Option, Some, None, inl, inr, if◌then◌else◌, refl, sym, ap, subst, ◌∙◌, arith}
 use Rattle.std.specs.Prelude.{slice_get, slice_index, not}
 use Rattle.std.{specs.Option.option_map, proofs.lemmas.{Bool.cases_lt, Option.{slice_get-get_or, slice_get_past}}}
 use Rattle.lft_syntax.specs.Lexes.{Run}
-use Rattle.lft_whole.specs.Pieces.{is_of, sees, stands, first, first_in, place_or, run_end, past}
+use Rattle.lft_whole.specs.Pieces.{is_of, sees, first, first_in, place_or, run_end, past}
 
 -- no place from i up to j passes the test
 abbrev pub NonePass : (ℕ → Bool) → ℕ → ℕ → Type 0
@@ -75,10 +75,6 @@ there t i lt = slice_get-get_or t i 0 lt
 
 pub sees_there : (class : ℕ → Bool) (t : List ℕ) (i : ℕ) → i < length t → sees class t i ≡ class (slice_index t i)
 sees_there class t i lt = ap (is_of class) (there t i lt)
-
--- no bytes stand past the end
-pub none_stand : (b : ℕ) (bs : List ℕ) (t : List ℕ) (i : ℕ) → length t ≤ i → stands (b ∷ bs) t i ≡ false
-none_stand b bs t i le = rw (slice_get_past t i le) refl
 
 -- a run ends where the definition says
 pub run_is : (class : ℕ → Bool) (t : List ℕ) (i j : ℕ) → Run class t i j → run_end class t i ≡ j

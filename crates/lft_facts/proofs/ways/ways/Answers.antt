@@ -1,18 +1,19 @@
 use Rattle.std.proofs.Common.{◌≡◌, ◌+◌, ◌-◌, ◌<◌, ℕ, List, Some, Bool, false, true, length, slice_get, sym, ap, ◌∙◌, subst, arith}
 use Rattle.lft_lists.proofs.Places.{written_back}
-use Rattle.lft_facts.{specs.inner.Ways.{LeadsOn, IsMarking}, proofs.Upstream.{WaysFrom, ways_pass, ways_mark, ways_end, order_known, list_there}}
+use Rattle.lft_facts.{specs.inner.Ways.{LeadsOn, IsMarking}, proofs.Upstream.{WaysFrom, ways_pass, ways_mark, ways_end, list_there}}
+use Rattle.lft_graph.proofs.Ancestry.{order_listed}
 use Rattle.lft_facts.proofs.ways.ways.Goals as goal
 
 -- the reaction at the place
 pub leads_on-requires : goal.leads_on-requires
 leads_on-requires c =
-    let k = order_known c.requires.graph.0 c.args.graph.now c.requires.graph.1 (c.loop-left.left - 1) c.item_at-reaction.result (ap (λ (xs : List ℕ). slice_get xs (c.loop-left.left - 1)) (sym c.by_level-order.ensures) ∙ c.item_at-reaction.ensures) in
+    let k = order_listed c.requires.graph.0 c.args.graph.now c.requires.graph.1 (c.loop-left.left - 1) c.item_at-reaction.result (ap (λ (xs : List ℕ). slice_get xs (c.loop-left.left - 1)) (sym c.by_level-order.ensures) ∙ c.item_at-reaction.ensures) in
     let l = c.loop-left.invariant.as_long in
     let e = ap length c.as_slice.ensures.value in
     omega arith
 
 pub before-requires : goal.before-requires
-before-requires c = order_known c.requires.graph.0 c.args.graph.now c.requires.graph.1 (c.loop-left.left - 1) c.item_at-reaction.result (ap (λ (xs : List ℕ). slice_get xs (c.loop-left.left - 1)) (sym c.by_level-order.ensures) ∙ c.item_at-reaction.ensures)
+before-requires c = order_listed c.requires.graph.0 c.args.graph.now c.requires.graph.1 (c.loop-left.left - 1) c.item_at-reaction.result (ap (λ (xs : List ℕ). slice_get xs (c.loop-left.left - 1)) (sym c.by_level-order.ensures) ∙ c.item_at-reaction.ensures)
 
 pub mark-requires : goal.mark-requires
 mark-requires c = list_there c.requires.graph.0 c.args.graph.now c.requires.graph.1 c.item_at-reaction.result c.before-then-leads_on.result.now c.before-then-leads_on.ensures (length c.as_mut_slice.result.now) (ap length c.as_mut_slice.ensures.value ∙ c.loop-left.invariant.as_long)

@@ -1,19 +1,11 @@
-use Rattle.std.proofs.Common.{◌≡◌, ◌<◌, inl, inr, ℕ, List, Option, Some, None, IfNone, IfOk, Result, Ok, Err, length, ap, subst, arith}
+use Rattle.std.proofs.Common.{◌≡◌, ◌<◌, inl, inr, ℕ, List, Some, length, ap, subst, arith}
 use Rattle.std.proofs.lemmas.Option.{slice_get_within}
 use Rattle.lft_ir.specs.declared.steps.row.Row.{Row}
 use Rattle.lft_model.specs.{declared.breach.Breach.Breach, Plans.PlanParts}
 use Rattle.lft_races.specs.{declared.hints.hint.Hint.Hint as TheHint, Hints.Hints.{IsHint, IsUntriggeredHint, OfRule8}}
+use Rattle.lft_lists.proofs.Options.{ok_none}
 use Rattle.lft_races.specs.declared.hints.hint.Hint.TheVariants as hint
 use Rattle.lft_races.proofs.hints.guessing.of_run.Goals as goal
-
--- what follows from an answer of nothing
-weaker : {X P Q : Type 0} (o : Option X) → (P → Q) → IfNone o P → IfNone o Q
-weaker None follows p = follows p
-weaker (Some x) follows p = p
-
-weaker_ok : {X E P Q : Type 0} (result : Result (Option X) E) → (P → Q) → IfOk result (λ o. IfNone o P) → IfOk result (λ o. IfNone o Q)
-weaker_ok (Ok o) follows p = weaker o follows p
-weaker_ok (Err e) follows p = p
 
 -- of a breach of rule 8 only the hints of its run are hints
 module _ (plan : PlanParts) (t : List Row) (b : Breach) (r : ℕ) (rule : b.rule ≡ 8) (run : b.reaction ≡ Some r) where
@@ -61,7 +53,7 @@ is_reaction plan t b r hint.LateEnd is = absurd is
 is_reaction plan t b r hint.SmallStop is = absurd is
 
 pub returns-in-Some-clause-none : goal.returns-in-Some-clause-none
-returns-in-Some-clause-none c = weaker_ok c.of_untriggered.result (no_hint c.args.plan.now c.args.rows.now c.args.breach c.in-Some.reaction c.requires.rule (let e = c.in-Some.is in cc)) c.of_untriggered.ensures.none
+returns-in-Some-clause-none c = ok_none _ _ c.of_untriggered.result (no_hint c.args.plan.now c.args.rows.now c.args.breach c.in-Some.reaction c.requires.rule (let e = c.in-Some.is in cc)) c.of_untriggered.ensures.none
 
 pub returns-in_default-clause-none : goal.returns-in_default-clause-none
 returns-in_default-clause-none c = no_hint c.args.plan.now c.args.rows.now c.args.breach c.in-Some.reaction c.requires.rule (let e = c.in-Some.is in cc)

@@ -1,18 +1,15 @@
-use Rattle.std.proofs.Common.{◌≡◌, Option, None, IfNone, subst}
 use Rattle.lft_races.specs.{declared.hints.hint.Hint.Hint as TheHint, Hints.Hints.IsUntriggeredHint}
 use Rattle.lft_races.proofs.hints.guessing.of_untriggered.Goals.{else-none_writes-via-then-none_writes+else-has_port, else-none_writes-via-else-none_writes}
+use Rattle.lft_lists.proofs.Options.{lacking}
 use Rattle.lft_races.specs.declared.hints.hint.Hint.TheVariants as hint
 use Rattle.lft_races.proofs.hints.guessing.of_untriggered.Goals as goal
-
-of_nothing : {X P : Type 0} (o : Option X) → o ≡ None → IfNone o P → P
-of_nothing {X} {P} o e p = subst (λ (u : Option X). IfNone u P) e p
 
 pub returns-clause-none : goal.returns-clause-none
 returns-clause-none c = none
   where
     none : (h : TheHint) → IsUntriggeredHint c.args.plan.now c.args.rows.now c.args.tag c.args.reaction h → ⊥
     none hint.Thousandfold is = let yes = c.in_ok-is_thousandfold.ensures.1 is in let no = c.if-branch.false in absurd (cc)
-    none (hint.WholeDelay i) is = of_nothing c.in_ok-row.field-0 c.in_default.is c.in_ok-row.ensures.none i is
+    none (hint.WholeDelay i) is = lacking _ c.in_ok-row.field-0 c.in_ok-row.ensures.none c.in_default.is i is
     none hint.RunsAtStop is = let yes = c.has_trigger.ensures.1 is in let no = c.if-has_trigger.false in absurd (cc)
     none hint.NoWrites is = elim c.else-none_writes.branch [
       | else-none_writes-via-then-none_writes+else-has_port w ↦ (let yes = w.has_port.ensures.1 is.1 in let no = w.if-has_port.false in absurd (cc))

@@ -1,24 +1,25 @@
 use Rattle.std.proofs.Common.{◌≡◌, ◌+◌, ℕ, None, replicate, length, refl, sym, ◌∙◌, subst, arith, rules}
 use Rattle.std.proofs.lemmas.{Bool.false≢true, Option.slice_get_read}
 use Rattle.lft_scheduler.specs.inner.Filling.{AreFirstDelayedPorts}
-use Rattle.lft_scheduler.proofs.{Arriving.origin_known, Watching.{first_start, first_stays, first_changes, first_inside}}
+use Rattle.lft_scheduler.proofs.Watching.{first_start, first_stays, first_changes, first_inside}
 use Rattle.lft_scheduler.proofs.listeners.watched.first_delayed.Goals.{then-precedes, else-precedes}
+use Rattle.lft_graph.proofs.Feeding.{origin_there}
 use Rattle.lft_scheduler.proofs.listeners.watched.first_delayed.Goals as goal
 
 pub ports-init : goal.ports-init
 ports-init c = (let same : c.in_ok-firsts.firsts.items ≡ replicate c.ports-2.result None = search rules in first_start c.args.program.now c.ports-2.result c.in_ok-firsts.firsts.items same c.ports-2.ensures.count)
 
 pub index-requires : goal.index-requires
-index-requires c = let o = origin_known c.args.program.now c.port-port.ensures.sound c.ports.number c.port-port.result.now c.port-port.ensures.value in let a = c.ports.invariant.as_long in omega arith
+index-requires c = let o = origin_there c.args.program.now c.port-port.ensures.sound c.ports.number c.port-port.result.now c.port-port.ensures.value in let a = c.ports.invariant.as_long in omega arith
 
 pub index_mut-requires : goal.index_mut-requires
-index_mut-requires c = let o = origin_known c.args.program.now c.port-port.ensures.sound c.ports.number c.port-port.result.now c.port-port.ensures.value in let a = c.ports.invariant.as_long in omega arith
+index_mut-requires c = let o = origin_there c.args.program.now c.port-port.ensures.sound c.ports.number c.port-port.result.now c.port-port.ensures.value in let a = c.ports.invariant.as_long in omega arith
 
 pub precedes-requires : goal.precedes-requires
 precedes-requires c =
     let program = c.args.program.now in
     let port = c.port-port.result.now in
-    let inside = origin_known program c.port-port.ensures.sound c.ports.number port c.port-port.ensures.value in
+    let inside = origin_there program c.port-port.ensures.sound c.ports.number port c.port-port.ensures.value in
     let a = c.ports.invariant.as_long in
     let there = slice_get_read c.ports.firsts.items (length c.ports.firsts.items) port.origin c.index.result.now refl (omega arith) c.index.ensures in
     first_inside program c.ports.number port.origin c.index.result.now (let t = c.ports-test.true in let e = c.ports-number-end.ensures.count in omega arith) (c.ports.invariant.each port.origin c.index.result.now there)
@@ -29,7 +30,7 @@ ports-preserved c =
     let n = c.ports.number in
     let port = c.port-port.result.now in
     let here = c.port-port.ensures.value in
-    let inside = origin_known program c.port-port.ensures.sound n port here in
+    let inside = origin_there program c.port-port.ensures.sound n port here in
     let a = c.ports.invariant.as_long in
     let there = slice_get_read c.ports.firsts.items (length c.ports.firsts.items) port.origin c.index.result.now refl (omega arith) c.index.ensures in
     elim c.if-precedes.branch [

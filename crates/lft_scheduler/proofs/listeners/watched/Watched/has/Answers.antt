@@ -1,8 +1,9 @@
 use Rattle.std.proofs.Common.{◌≡◌, ◌<◌, inl, inr, ℕ, length, Some, None, false, slice_get, refl, sym, ap, ◌∙◌, subst, arith, eqb-true, eq-eqb}
 use Rattle.std.proofs.lemmas.Option.{slice_get_read}
 use Rattle.lft_scheduler.specs.inner.{Listeners.IsWatched, Filling.{WatchedParts, AreWatched}}
-use Rattle.lft_scheduler.proofs.{Arriving.origin_known, Watching.{watched_known, watched_first}}
+use Rattle.lft_scheduler.proofs.Watching.{watched_known, watched_first}
 use Rattle.lft_scheduler.proofs.listeners.watched.Watched.has.Goals.{then-index-via-then-index, then-index-via-else-index+then-origin-number}
+use Rattle.lft_graph.proofs.Feeding.{origin_there}
 use Rattle.lft_scheduler.proofs.listeners.watched.Watched.has.Goals as goal
 
 pub returns-then-index : goal.returns-then-index
@@ -12,7 +13,7 @@ returns-then-index c =
     let port = c.port.result.now in
     let a : WatchedParts = record { read = c.self.inside.read.items; firsts = c.self.inside.firsts.items } in
     let is : AreWatched program a = subst (λ (x : WatchedParts). AreWatched program x) (sym c.self.view_is) c.requires.watched in
-    let inside : port.origin < length program.ports = origin_known program c.port.ensures.sound n port c.port.ensures.value in
+    let inside : port.origin < length program.ports = origin_there program c.port.ensures.sound n port c.port.ensures.value in
     let within = c.requires.number in
     let as_long = is.read.as_long in
     let known = watched_known program c.port.ensures.sound a is n port c.port.ensures.value inside in
@@ -28,7 +29,7 @@ index-requires-2 c =
     let program = c.args.program.now in
     let a : WatchedParts = record { read = c.self.inside.read.items; firsts = c.self.inside.firsts.items } in
     let is : AreWatched program a = subst (λ (x : WatchedParts). AreWatched program x) (sym c.self.view_is) c.requires.watched in
-    let inside : c.port.result.now.origin < length program.ports = origin_known program c.port.ensures.sound c.args.number c.port.result.now c.port.ensures.value in
+    let inside : c.port.result.now.origin < length program.ports = origin_there program c.port.ensures.sound c.args.number c.port.result.now c.port.ensures.value in
     let as_long = is.firsts.as_long in
     omega arith
 
@@ -39,7 +40,7 @@ returns-in-Some c =
     let port = c.port.result.now in
     let a : WatchedParts = record { read = c.self.inside.read.items; firsts = c.self.inside.firsts.items } in
     let is : AreWatched program a = subst (λ (x : WatchedParts). AreWatched program x) (sym c.self.view_is) c.requires.watched in
-    let inside : port.origin < length program.ports = origin_known program c.port.ensures.sound n port c.port.ensures.value in
+    let inside : port.origin < length program.ports = origin_there program c.port.ensures.sound n port c.port.ensures.value in
     let within = c.requires.number in
     let as_long = is.read.as_long in
     let as_many = is.firsts.as_long in
@@ -56,7 +57,7 @@ returns-in-None c =
     let port = c.port.result.now in
     let a : WatchedParts = record { read = c.self.inside.read.items; firsts = c.self.inside.firsts.items } in
     let is : AreWatched program a = subst (λ (x : WatchedParts). AreWatched program x) (sym c.self.view_is) c.requires.watched in
-    let inside : port.origin < length program.ports = origin_known program c.port.ensures.sound n port c.port.ensures.value in
+    let inside : port.origin < length program.ports = origin_there program c.port.ensures.sound n port c.port.ensures.value in
     let within = c.requires.number in
     let as_long = is.read.as_long in
     let as_many = is.firsts.as_long in
