@@ -12,13 +12,14 @@ use lft_tag::Tag;
 
 /// When a trigger is present next, of the tags at which its reaction has no run so far.
 // The period stands here, so that a run looks up neither its triggers nor their timers.
-#[derive(Clone, Copy, PartialEq, Eq, Drop)]
+#[derive(Clone, Copy, PartialEq, Eq, Default, Drop)]
 pub(crate) enum Due {
     /// At this tag, and again after each such period; once where that is 0.
     AtTag(Tag, u64),
     /// At the stop, which a later row may bring nearer.
     AtStop,
     /// At none; or an event is waited for.
+    #[default]
     Never,
 }
 

@@ -13,19 +13,23 @@ use lft_lists::item_at;
 use lft_model::Plan;
 use lft_rows::presence::needed_of;
 use lft_tag::{NoMemory, Tag};
+use smallvec::SmallVec;
 use std::alloc::Global;
 use std::marker::Model;
 
 /// Up to so many dues a run looks at each; of more, at those whose turn it is.
 const FEW: usize = 16;
 
+/// Some dues of a reaction. Most reactions have one, and each run asks for it, so it stands in place.
+type DueList = SmallVec<Due, 1>;
+
 /// When some triggers of a reaction are due.
 #[derive(Drop)]
 struct Beats {
-    dues: Vec<Due>,
+    dues: DueList,
     /// The turns of the dues, where these are many. Where one is missing or wrong, a run that is triggered may be
     /// taken for one that isn't.
-    turns: Option<Turns>,
+    turns: Option<Box<Turns>>,
 }
 
 impl Model for Beats {
@@ -63,11 +67,11 @@ fn timed(trigger: Trigger) -> Option<Trigger>
 }
 
 /// When those of some triggers that wait for no event are due before the first row.
-fn first_dues(alloc: Global, plan: &Plan, triggers: &[Trigger]) -> Result<Vec<Due>, NoMemory>
+fn first_dues(alloc: Global, plan: &Plan, triggers: &[Trigger]) -> Result<DueList, NoMemory>
     requires { (k : ℕ) (x : TheTrigger) → slice_get triggers.now k ≡ Some x → IsTriggerOf plan.now.program x }
     ensures { IfOk result (λ dues. (r : ℕ) → AreTriggersDue plan.now [] r (filter_map the_timed triggers.now) dues.items) }
 {
-    let mut dues = Vec::new(alloc);
+    let mut dues = SmallVec::new(alloc);
     for place in 0..triggers.len() {
         match timed(item_at(triggers, place)) {
             Some(trigger) => {
@@ -104,7 +108,7 @@ fn none_before(dues: &[Due], low: Tag, last: Tag) -> bool
 }
 
 /// The turns of these dues, where they are many.
-fn turns_of(alloc: Global, dues: &[Due]) -> Result<Option<Turns>, NoMemory> {
+fn turns_of(alloc: Global, dues: &[Due]) -> Result<Option<Box<Turns>>, NoMemory> {
     if dues.len() <= FEW {
         return Ok(None);
     }
@@ -112,7 +116,7 @@ fn turns_of(alloc: Global, dues: &[Due]) -> Result<Option<Turns>, NoMemory> {
     for place in 0..dues.len() {
         turns.put(place, item_at(dues, place).time());
     }
-    Ok(Some(turns))
+    Ok(Some(Box::new(alloc, turns)?))
 }
 
 /// Whether what stands at the place is due at the tag, where the stop is the last. Then it is due later now.
@@ -172,7 +176,7 @@ fn meet_in_turn(dues: &mut [Due], turns: &mut Turns, tag: Tag, last: Tag) -> boo
 
 impl Beats {
     /// These dues.
-    fn new(alloc: Global, dues: Vec<Due>) -> Result<Beats, NoMemory>
+    fn new(alloc: Global, dues: DueList) -> Result<Beats, NoMemory>
         ensures { IfOk result (λ beats. beats ≡ dues.items) }
     {
         let turns = turns_of(alloc, dues.as_slice())?;

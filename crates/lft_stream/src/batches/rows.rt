@@ -11,18 +11,16 @@ use lft_model::Plan;
 use lft_tag::MAX_ROWS;
 use std::alloc::Global;
 
-/// At least so many rows are taken together. More wouldn't stay near the processor.
-const TOGETHER: usize = 32_768;
+/// At least so many rows are taken together, which is 256 kB. Of more, each that is read would wait for its place
+/// in memory.
+const TOGETHER: usize = 4_096;
 
-/// For each reaction so many, so that what is looked up of a reaction stays near too.
-const FOR_EACH_REACTION: usize = 8;
-
-/// How many rows of a program are to be taken together.
+/// How many rows of a program are to be taken together. For each reaction there is one: before a batch is judged,
+/// what is kept of each reaction is wiped.
 pub(crate) fn rows_together(plan: &Plan) -> usize
     ensures { (0 < result) × (result ≤ 4000000) }
 {
-    let together = TOGETHER.max(plan.program().reactions().saturating_mul(FOR_EACH_REACTION));
-    together.min(MAX_ROWS)
+    TOGETHER.max(plan.program().reactions()).min(MAX_ROWS)
 }
 
 /// Where the rows end that are taken together from the first on: behind a whole tag.

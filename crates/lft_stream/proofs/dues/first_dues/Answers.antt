@@ -16,7 +16,7 @@ loop-place-preserved c =
       | in-Some+in_ok-push-in-Some w ↦
           let x = w.in-Some.trigger in
           let more : filter_map timed (take (k + 1) xs) ≡ old ++ x ∷ [] = kept_more timed xs k c.item_at.result (Some x) c.item_at.ensures (sym w.in-Some.is ∙ c.timed.ensures) in
-          λ r. subst (λ (ys : List Trigger). AreTriggersDue plan [] r ys c.match-timed.dues.items) (sym more) (subst (λ (ds : List Due). AreTriggersDue plan [] r (old ++ x ∷ []) ds) (sym (ap (λ z. z.items) w.dues-is ∙ w.in_ok-push-in-Some.ensures.items)) (due_push plan [] r old c.loop-place.dues.items x w.first.result (w.first.ensures r) (c.loop-place.invariant r)))
+          λ r. subst (λ (ys : List Trigger). AreTriggersDue plan [] r ys c.match-timed.dues.items) (sym more) (subst (λ (ds : List Due). AreTriggersDue plan [] r (old ++ x ∷ []) ds) (sym (ap (λ z. z.items) w.dues-is ∙ w.in_ok-push-in-Some.ensures.ok)) (due_push plan [] r old c.loop-place.dues.items x w.first.result (w.first.ensures r) (c.loop-place.invariant r)))
       | in-None w ↦
           let more : filter_map timed (take (k + 1) xs) ≡ old = kept_more timed xs k c.item_at.result None c.item_at.ensures (sym w.in-None.is ∙ c.timed.ensures) ∙ append-nil old in
           λ r. subst (λ (ys : List Trigger). AreTriggersDue plan [] r ys c.match-timed.dues.items) (sym more) (subst (λ (ds : List Due). AreTriggersDue plan [] r old ds) (sym (ap (λ z. z.items) w.dues-is)) (c.loop-place.invariant r))
