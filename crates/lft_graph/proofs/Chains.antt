@@ -5,7 +5,7 @@ use Rattle.lft_ir.specs.{Parts.Parts, Sound.IsSound, declared.parts.Reaction.Rea
 use Rattle.lft_graph.specs.Precedence.{Direct, IsDeclaredFirst, Feeds, Precedes, IsLevelled, Precedes.{one, more}}
 use Rattle.lft_graph.specs.{Before.{IsDeclaredJustBefore, FeedsLast, Writes}, Graph.{AreLevels, AreByLevel, GraphParts, HasChains, IsGraphOf}}
 use Rattle.lft_graph.specs.{Loops.{IsLoopOf, IsLoop}, inner.Walks.{HasLists, AreInside, IsStep}}
-use Rattle.lft_lists.proofs.Places.{contains_at, get_there}
+use Rattle.lft_lists.proofs.{Places.{contains_at, get_there}, Walking.circle_along}
 
 pub snoc : (program : Parts) (a b c : ℕ) → Precedes program a b → Direct program b c → Precedes program a c
 snoc program a b c (one d) e = more d (one e)
@@ -14,15 +14,6 @@ snoc program a b c (more d p) e = more d (snoc program _ b c p e)
 pub precedes_trans : {program : Parts} {a b c : ℕ} → Precedes program a b → Precedes program b c → Precedes program a c
 precedes_trans (one d) q = more d q
 precedes_trans (more d p) q = more d (precedes_trans p q)
-
-loop_along : (S T : ℕ → ℕ → Type 0) (loop : List ℕ) → ((a b : ℕ) → S a b → T a b) → IsLoopOf S loop → IsLoopOf T loop
-loop_along S T loop f w = record {
-  some = w.some;
-  steps = λ i a b e g. f a b (w.steps i a b e g);
-  closes = λ i a b e g h. f a b (w.closes i a b e g h);
-  once = w.once;
-  least_first = w.least_first;
-}
 
 module _ (program : Parts) (sound : IsSound program) (lists : List (List ℕ)) (has : HasLists program (length program.reactions) lists) where
   -- a member of a list precedes directly
@@ -48,7 +39,7 @@ module _ (program : Parts) (sound : IsSound program) (lists : List (List ℕ)) (
   step_direct a b s = member_direct a b s.0 s.2 (contains_at s.0 s.1 a s.3)
 
   pub is_loop : (loop : List ℕ) → IsLoopOf (IsStep lists) loop → IsLoop program loop
-  is_loop loop w = loop_along (IsStep lists) (Direct program) loop step_direct w
+  is_loop loop w = record { circle = circle_along (IsStep lists) (Direct program) loop step_direct w.circle; least_first = w.least_first }
 
   -- of two reactions of one instance, one is declared first, or they are the same
   ordered : (a b : ℕ) (x y : Reaction) → slice_get program.reactions a ≡ Some x → slice_get program.reactions b ≡ Some y → x.instance ≡ y.instance → x.place ≤ y.place → (a ≡ b) ⊎ IsDeclaredFirst program a b

@@ -25,7 +25,7 @@ module _ (program : Parts) (loop : List ℕ) (is : IsLoop program loop) where
   further first b a (inr p) d = inr (snoc program first b a p d)
 
   step : (i a b : ℕ) → slice_get loop i ≡ Some b → slice_get loop (suc i) ≡ Some a → Direct program b a
-  step i a b e f = is.steps i b a e (let k : suc i ≡ i + 1 = omega arith in subst (λ j. slice_get loop j ≡ Some a) k f)
+  step i a b e f = is.circle.steps i b a e (let k : suc i ≡ i + 1 = omega arith in subst (λ j. slice_get loop j ≡ Some a) k f)
 
   -- the first precedes each other one
   reached : (i first a : ℕ) → slice_get loop 0 ≡ Some first → slice_get loop i ≡ Some a → (first ≡ a) ⊎ Precedes program first a
@@ -37,10 +37,10 @@ module _ (program : Parts) (loop : List ℕ) (is : IsLoop program loop) where
 
   pub is_cycle : (r : ℕ) × Precedes program r r
   is_cycle =
-      let some : 0 < length loop = is.some in
+      let some : 0 < length loop = is.circle.some in
       let s = get_there loop 0 some in
       let t = get_there loop (length loop - 1) (omega arith) in
-      let last : Direct program t.0 s.0 = is.closes (length loop - 1) t.0 s.0 (omega arith) t.1 s.1 in
+      let last : Direct program t.0 s.0 = is.circle.closes (length loop - 1) t.0 s.0 (omega arith) t.1 s.1 in
       (s.0, closed s.0 t.0 (reached (length loop - 1) s.0 t.0 s.1 t.1) last)
     where
       closed : (a b : ℕ) → (a ≡ b) ⊎ Precedes program a b → Direct program b a → Precedes program a a
@@ -57,4 +57,4 @@ module _ (program : Parts) (loop : List ℕ) (is : IsLoop program loop) where
           let l : i < length loop = slice_get_within loop i a f in
           let some : 0 < length loop = omega arith in
           let t = get_there loop 0 some in
-          from_there program a t.0 (is.closes i a t.0 (omega arith) f t.1)
+          from_there program a t.0 (is.circle.closes i a t.0 (omega arith) f t.1)

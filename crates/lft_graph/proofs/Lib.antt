@@ -1,8 +1,6 @@
 pub mod Turning
 pub mod Writing
 pub mod Feeding
-pub mod Walking
-pub mod Settling
 pub mod Levelling
 pub mod Chains
 pub mod Cycles

@@ -1,147 +1,76 @@
-//! Levels by a walk along the short lists, or a loop.
+//! Levels in an order in which each reaction stands behind those in its short list, or a loop.
 
-ghost use Rattle.std.specs.Prelude.{◌≡◌, ◌≢◌, ℕ, List, ◌<◌, ◌≤◌, length, slice_get, Some, Err, IfOk, OnOk};
-ghost use Rattle.lft_graph.specs.{Graph.AreLevels, Loops.IsLoopOf};
-ghost use Rattle.lft_graph.specs.inner.Walks.{AreInside, IsStep, AreDone, IsLevelOf, AreSmall, IsSettled, NoneOpen, IsNext, KeepsLooked, tally, done_weight};
-ghost use Rattle.lft_graph.specs.declared.levels.LevelMark.TheVariants.{New, Open, Done};
+ghost use Rattle.std.specs.Prelude.{◌≡◌, ℕ, List, ◌<◌, ◌≤◌, length, slice_get, Some, Err, IfOk};
+ghost use Rattle.lft_graph.specs.{Graph.AreLevels, Loops.IsLoopOf, inner.Walks.{AreInside, IsStep, IsLevelOf, members_in}};
+ghost use Rattle.lft_lists.specs.inner.Walking.{IsOrder, Leads};
 
 use crate::fault::GraphFault;
-use crate::loops::cut_loop;
+use crate::loops::turned_back;
 use crate::members::Members;
-use lft_lists::item_at;
+use lft_lists::{Walked, Ways, item_at, walk_all};
+use lft_tag::NoMemory;
 use std::alloc::Global;
 
-/// How far a reaction is looked at: not yet, on the way with the first members of its list
-/// levelled, or to the end, with its level.
-#[derive(Clone, Copy, Drop)]
-pub(crate) enum LevelMark {
-    New,
-    Open(usize),
-    Done(u32),
-}
-
-/// What comes next at a reaction: its level, a member of its list that is on the way, or the
-/// first member that isn't looked at, with its place.
-#[derive(Clone, Copy, Drop)]
-pub(crate) enum LevelStep {
-    Level(u32),
-    Looped(u32),
-    First(usize, u32),
-}
-
-// the mark of a reaction
-fn mark_at(marks: &[LevelMark], reaction: u32) -> LevelMark
-    requires { reaction < length marks.now }
-    ensures { slice_get marks.now reaction ≡ Some result }
-{
-    marks[reaction as usize]
+/// The short lists, by reaction.
+#[derive(Drop)]
+struct Lists<'a> {
+    before: &'a [Members],
 }
 
 // the list of a reaction
-fn list_at(before: &[Members], reaction: u32) -> &[u32]
+fn list_at(before: &[Members], reaction: usize) -> &[u32]
     requires { reaction < length before.now }
-    ensures { slice_get before.now reaction ≡ Some result.now }
+    ensures { result.now ≡ members_in before.now reaction }
 {
-    before[reaction as usize].as_slice()
+    before[reaction].as_slice()
 }
 
-// how many members of its list are levelled
-fn place_in(mark: LevelMark) -> usize
-    ensures { (k : ℕ) → mark ≡ Open k → result ≡ k }
-{
-    match mark {
-        LevelMark::Open(place) => place,
-        _ => 0,
+impl Ways for Lists<'_> {
+    ghost use Rattle.lft_graph.specs.inner.Walks.{members_in};
+
+    ghost ways = { λ lists reaction. members_in lists.before.now reaction };
+
+    fn way(&self, number: usize, place: usize) -> Option<usize> {
+        if number >= self.before.len() {
+            return None;
+        }
+        let list = list_at(self.before, number);
+        if place < list.len() {
+            Some(list[place] as usize)
+        } else {
+            None
+        }
     }
 }
 
 // 0, or one more than the greatest level of the members
-fn level_of(list: &[u32], marks: &[LevelMark]) -> u32
-    requires done { (i a : ℕ) → slice_get list.now i ≡ Some a → (k : ℕ) × (slice_get marks.now a ≡ Some (Done k)) }
-    requires small { AreSmall marks.now }
-    requires few { tally done_weight marks.now < 100000 }
-    ensures level { IsLevelOf marks.now list.now (length list.now) result }
-    ensures small { result ≤ tally done_weight marks.now }
+fn level_of(list: &[u32], levels: &[u32]) -> u32
+    requires small { (i a : ℕ) → slice_get list.now i ≡ Some a → (k : ℕ) × (slice_get levels.now a ≡ Some k) × (k < 10000) }
+    ensures { IsLevelOf levels.now list.now (length list.now) result }
 {
     let mut level = 0;
     'members: for place in 0..list.len() {
-        if let LevelMark::Done(below) = mark_at(marks, item_at(list, place)) {
-            if below >= level {
-                level = below + 1;
-            }
+        let below = item_at(levels, item_at(list, place) as usize);
+        if below >= level {
+            level = below + 1;
         }
     }
     level
 }
 
-// what comes next at a reaction
-fn look(before: &[Members], marks: &[LevelMark], reaction: u32, from: usize) -> LevelStep
+// the level of each reaction, in an order in which each stands behind those in its list
+fn levels_along(alloc: Global, before: &[Members], order: &[usize]) -> Result<Vec<u32>, NoMemory>
     requires inside { AreInside before.now }
-    requires known { reaction < length before.now }
-    requires as_long { length marks.now ≡ length before.now }
-    requires done { AreDone before.now marks.now reaction from }
-    requires small { AreSmall marks.now }
-    requires few { tally done_weight marks.now < 100000 }
-    ensures { IsNext before.now marks.now reaction result }
-{
-    let list = list_at(before, reaction);
-    'members: for place in from..list.len() {
-        let member = item_at(list, place);
-        match mark_at(marks, member) {
-            LevelMark::New => return LevelStep::First(place, member),
-            LevelMark::Open(_) => return LevelStep::Looped(member),
-            LevelMark::Done(_) => {}
-        }
-    }
-    LevelStep::Level(level_of(list, marks))
-}
-
-// levels a reaction and all that precede it
-fn settle(
-    alloc: Global,
-    before: &[Members],
-    marks: &mut [LevelMark],
-    reaction: u32,
-) -> Result<(), GraphFault>
-    requires inside { AreInside before.now }
-    requires known { reaction < length before.now }
-    requires as_long { length marks.old ≡ length before.now }
     requires few { length before.now ≤ 10000 }
-    requires settled { IsSettled before.now marks.old }
-    requires none_open { NoneOpen marks.old }
-    ensures settled { OnOk result (IsSettled before.now marks.new) }
-    ensures none_open { OnOk result (NoneOpen marks.new) }
-    ensures kept { OnOk result (KeepsLooked marks.old marks.new) }
-    ensures looked { OnOk result (slice_get marks.new reaction ≢ Some New) }
-    ensures cycle { (l : List ℕ) → result ≡ Err (GraphFault.CausalityLoop l) → IsLoopOf (IsStep before.now) l }
+    requires order { IsOrder (Leads (members_in before.now)) (length before.now) order.now }
+    ensures { IfOk result (λ v. AreLevels before.now v.items) }
 {
-    match mark_at(marks, reaction) {
-        LevelMark::New => {}
-        _ => return Ok(()),
+    let mut levels = vec![in alloc; 0; before.len()]?;
+    'order: for place in 0..order.len() {
+        let reaction = item_at(order, place);
+        levels[reaction] = level_of(list_at(before, reaction), &levels);
     }
-    let mut stack = Vec::new(alloc);
-    marks[reaction as usize] = LevelMark::Open(0);
-    stack.push(reaction)?;
-    'walk: while let Some(top) = stack.pop() {
-        let from = place_in(mark_at(marks, top));
-        match look(before, marks, top, from) {
-            LevelStep::Level(level) => {
-                marks[top as usize] = LevelMark::Done(level);
-            }
-            LevelStep::Looped(member) => {
-                stack.push(top)?;
-                let found = cut_loop(alloc, &stack, member)?;
-                return Err(GraphFault::CausalityLoop(found));
-            }
-            LevelStep::First(place, member) => {
-                marks[top as usize] = LevelMark::Open(place);
-                marks[member as usize] = LevelMark::Open(0);
-                stack.push(top)?;
-                stack.push(member)?;
-            }
-        }
-    }
-    Ok(())
+    Ok(levels)
 }
 
 /// The level of each reaction, or a loop.
@@ -151,18 +80,8 @@ pub(crate) fn levels(alloc: Global, before: &[Members]) -> Result<Vec<u32>, Grap
     ensures levels { IfOk result (λ v. AreLevels before.now v.items) }
     ensures cycle { (l : List ℕ) → result ≡ Err (GraphFault.CausalityLoop l) → IsLoopOf (IsStep before.now) l }
 {
-    let mut marks = vec![in alloc; LevelMark::New; before.len()]?;
-    'reactions: for reaction in 0..before.len() {
-        match settle(alloc, before, &mut marks, reaction as u32) {
-            Ok(()) => {}
-            Err(fault) => return Err(fault),
-        }
+    match walk_all(alloc, &Lists { before }, before.len())? {
+        Walked::Order(order) => Ok(levels_along(alloc, before, &order)?),
+        Walked::Circle(circle) => { Err(GraphFault::CausalityLoop(turned_back(alloc, &circle)?)) }
     }
-    let mut all = Vec::new(alloc);
-    'marks: for reaction in 0..before.len() {
-        if let LevelMark::Done(level) = mark_at(&marks, reaction as u32) {
-            all.push(level)?;
-        }
-    }
-    Ok(all)
 }

@@ -1,68 +1,53 @@
-//! A loop, cut out of a walk.
+//! A loop, of a circle in which each leads to one that precedes it.
 
-ghost use Rattle.std.specs.Prelude.{◌≡◌, ℕ, ◌+◌, ◌<◌, ◌≤◌, length, slice_get, Some, IfOk, Contains};
-ghost use Rattle.lft_graph.specs.inner.Walks.{turned, IsCut};
+ghost use Rattle.std.specs.Prelude.{◌≡◌, ℕ, ◌<◌, ◌≤◌, ◌^◌, length, slice_get, Some, IfOk};
+ghost use Rattle.lft_graph.specs.inner.Walks.{turned, IsTurned};
 
 use crate::lists::Loop;
 use lft_lists::item_at;
 use lft_tag::NoMemory;
 use std::alloc::Global;
 
-// the first place of a number
-fn place_of(stack: &[u32], member: u32) -> usize
-    requires { Contains stack.now member }
-    ensures { slice_get stack.now result ≡ Some member }
+// the place of the least number
+fn least_place(circle: &[usize]) -> usize
+    requires { 0 < length circle.now }
+    ensures within { result < length circle.now }
+    ensures least { (i a b : ℕ) → slice_get circle.now i ≡ Some a → slice_get circle.now result ≡ Some b → b ≤ a }
 {
-    let mut place = 0;
-    'places: while item_at(stack, place) != member {
-        place += 1;
-    }
-    place
-}
-
-// the place of the least number from a place on
-fn least_place(stack: &[u32], start: usize) -> usize
-    requires { start < length stack.now }
-    ensures after_start { start ≤ result }
-    ensures within { result < length stack.now }
-    ensures least { (i a b : ℕ) → start ≤ i → slice_get stack.now i ≡ Some a → slice_get stack.now result ≡ Some b → b ≤ a }
-{
-    let mut least = start;
-    'places: for place in start..stack.len() {
-        if item_at(stack, place) < item_at(stack, least) {
+    let mut least = 0;
+    'places: for place in 0..circle.len() {
+        if item_at(circle, place) < item_at(circle, least) {
             least = place;
         }
     }
     least
 }
 
-// the place at a step of a turn that goes down from place to start, and then from the end
-fn turned_place(start: usize, place: usize, total: usize, step: usize) -> usize
-    requires after_start { start ≤ place }
+// the place at a step of a turn that goes down from a place to 0, and then from the end
+fn turned_place(place: usize, total: usize, step: usize) -> usize
     requires within { place < total }
-    requires step { start + step < total }
-    ensures value { result ≡ turned start place total step }
+    requires step { step < total }
+    ensures value { result ≡ turned place total step }
     ensures below { result < total }
 {
-    if step <= place - start {
+    if step <= place {
         place - step
     } else {
-        total - (step - (place - start))
+        total - (step - place)
     }
 }
 
-/// The loop that a walk makes which comes back to one of its members, the least number first. A
-/// walk goes from each reaction to one that precedes it.
-pub(crate) fn cut_loop(alloc: Global, stack: &[u32], member: u32) -> Result<Loop, NoMemory>
-    requires { Contains stack.now member }
-    ensures { IfOk result (λ loop. IsCut stack.now member loop) }
+/// The circle backwards, the least number first.
+pub(crate) fn turned_back(alloc: Global, circle: &[usize]) -> Result<Loop, NoMemory>
+    requires some { 0 < length circle.now }
+    requires small { (i a : ℕ) → slice_get circle.now i ≡ Some a → a < 2 ^ 32 }
+    ensures { IfOk result (λ loop. IsTurned circle.now loop) }
 {
-    let start = place_of(stack, member);
-    let place = least_place(stack, start);
+    let place = least_place(circle);
     let mut items = Vec::new(alloc);
-    'steps: for step in 0..stack.len() - start {
-        let next = turned_place(start, place, stack.len(), step);
-        items.push(item_at(stack, next))?;
+    'steps: for step in 0..circle.len() {
+        let next = turned_place(place, circle.len(), step);
+        items.push(item_at(circle, next) as u32)?;
     }
     Ok(Loop::from_vec(items))
 }

@@ -1,12 +1,14 @@
 #![tactic(auto)]
 //! Lists: the item at a place, a list of which contracts see the items, and lemmas that several crates
-//! cite. Its specs name classes of bytes.
+//! cite. A walk along the ways from number to number. Its specs name classes of bytes.
 
 ghost use Rattle.std.specs.Prelude.{◌≡◌, ◌<◌, length, slice_get, Some};
 
 mod list;
+mod walk;
 
 pub use list::List;
+pub use walk::{Walked, Ways, walk_all};
 
 /// The item at the place, counted from 0.
 pub fn item_at<T: Copy>(items: &[T], place: usize) -> T

@@ -5,7 +5,6 @@ pub mod Founding
 pub mod InMembers
 pub mod Roles
 pub mod SameRefs
-pub mod Searching
 pub mod Sound
 pub mod Standing
 pub mod Turns

@@ -1,8 +1,7 @@
 -- How far lists are walked. The contracts of private functions alone need this file.
-use Rattle.std.specs.Prelude.{◌≡◌, ◌≢◌, ℕ, ◌+◌, ◌-◌, ◌<◌, ◌≤◌, ◌⊎◌, List, [], ◌∷◌, Option, Some, slice_get, length, Contains, nat_le, if◌then◌else◌}
+use Rattle.std.specs.Prelude.{◌≡◌, ℕ, ◌+◌, ◌-◌, ◌<◌, ◌≤◌, ◌⊎◌, List, [], Option, Some, slice_get, length, Contains, nat_le, if◌then◌else◌, get_or}
 use Rattle.lft_ir.specs.{Parts.Parts, Origins.Origin, declared.parts.Name.{Name, TheVariants.{Port, Action}}}
 use Rattle.lft_graph.specs.Before.{Writes, IsLastWriter, Reaches, IsBefore}
-use Rattle.lft_graph.specs.declared.levels.{LevelMark.{LevelMark, TheVariants.{New, Open, Done}}, LevelStep.{LevelStep, TheVariants.{Level, Looped, First}}}
 
 -- for each port the last writer among the reactions below a number
 pub record KnowsWriters (program : Parts) (below : ℕ) (writers : List (Option ℕ)) : Type 0 where
@@ -43,66 +42,23 @@ AreInside before = (r i a : ℕ) (list : List ℕ) → slice_get before r ≡ So
 abbrev pub IsStep : List (List ℕ) → ℕ → ℕ → Type 0
 IsStep before a b = (list : List ℕ) × (i : ℕ) × (slice_get before b ≡ Some list) × (slice_get list i ≡ Some a)
 
-abbrev pub IsDone : List LevelMark → ℕ → Type 0
-IsDone marks a = (k : ℕ) × (slice_get marks a ≡ Some (Done k))
+-- the members of the list of a number
+abbrev pub members_in : List (List ℕ) → ℕ → List ℕ
+members_in before r = get_or before r []
 
--- the level that a list gives, where the levels of its members are marked
-pub record IsLevelOf (marks : List LevelMark) (list : List ℕ) (place level : ℕ) : Type 0 where
-  pub above : (i a : ℕ) → i < place → slice_get list i ≡ Some a → (k : ℕ) × (slice_get marks a ≡ Some (Done k)) × (k < level)
-  pub least : 0 < level → (i : ℕ) × (a : ℕ) × (k : ℕ) × (slice_get list i ≡ Some a) × (slice_get marks a ≡ Some (Done k)) × (k + 1 ≡ level)
+-- the level that a list gives, by the levels of its members
+pub record IsLevelOf (levels list : List ℕ) (place level : ℕ) : Type 0 where
+  pub above : (i a : ℕ) → i < place → slice_get list i ≡ Some a → (k : ℕ) × (slice_get levels a ≡ Some k) × (k < level)
+  pub least : 0 < level → (i : ℕ) × (a : ℕ) × (k : ℕ) × (slice_get list i ≡ Some a) × (slice_get levels a ≡ Some k) × (k + 1 ≡ level)
 
--- the members at the places below one are done
-abbrev pub AreDone : List (List ℕ) → List LevelMark → ℕ → ℕ → Type 0
-AreDone before marks r place = (i a : ℕ) (list : List ℕ) → i < place → slice_get before r ≡ Some list → slice_get list i ≡ Some a → IsDone marks a
+-- a step of a turn: from a place down to 0, and then from the end down to the place
+abbrev pub turned : ℕ → ℕ → ℕ → ℕ
+turned place total step = if nat_le step place then place - step else (total + place) - step
 
--- a weight of each mark, added up
-abbrev pub tally : (LevelMark → ℕ) → List LevelMark → ℕ
-tally f [] = 0
-tally f (m ∷ ms) = f m + tally f ms
-
-abbrev pub done_weight : LevelMark → ℕ
-done_weight New = 0
-done_weight (Open k) = 0
-done_weight (Done l) = 1
-
-abbrev pub new_weight : LevelMark → ℕ
-new_weight New = 1
-new_weight (Open k) = 0
-new_weight (Done l) = 0
-
--- a level is less than there are levels
-abbrev pub AreSmall : List LevelMark → Type 0
-AreSmall marks = (a k : ℕ) → slice_get marks a ≡ Some (Done k) → k < tally done_weight marks
-
--- what is marked as done is right
-pub record IsSettled (before : List (List ℕ)) (marks : List LevelMark) : Type 0 where
-  pub right : (r l : ℕ) (list : List ℕ) → slice_get marks r ≡ Some (Done l) → slice_get before r ≡ Some list → IsLevelOf marks list (length list) l
-  pub small : AreSmall marks
-
-abbrev pub NoneOpen : List LevelMark → Type 0
-NoneOpen marks = (p k : ℕ) → slice_get marks p ≢ Some (Open k)
-
--- what comes next at a reaction
-abbrev pub IsNext : List (List ℕ) → List LevelMark → ℕ → LevelStep → Type 0
-IsNext before marks r (Level l) = (list : List ℕ) × (slice_get before r ≡ Some list) × IsLevelOf marks list (length list) l × (l ≤ tally done_weight marks)
-IsNext before marks r (Looped m) = IsStep before m r × ((k : ℕ) × (slice_get marks m ≡ Some (Open k)))
-IsNext before marks r (First place m) = IsStep before m r × (slice_get marks m ≡ Some New) × AreDone before marks r place
-
--- what was looked at stays so
-abbrev pub KeepsLooked : List LevelMark → List LevelMark → Type 0
-KeepsLooked old new = (p : ℕ) → slice_get new p ≡ Some New → slice_get old p ≡ Some New
-
--- a step of a turn: from place down to start, and then from the end down to place
-abbrev pub turned : ℕ → ℕ → ℕ → ℕ → ℕ
-turned start place total step = if nat_le (start + step) place then place - step else (total + place) - (start + step)
-
--- the loop is the end of the stack from the member on, backwards, turned so that the least is first
-pub record IsCut (stack : List ℕ) (member : ℕ) (loop : List ℕ) : Type 0 where
-  pub start : ℕ
+-- the loop is the circle backwards, turned so that the least is first
+pub record IsTurned (circle loop : List ℕ) : Type 0 where
   pub place : ℕ
-  pub starts : slice_get stack start ≡ Some member
-  pub after_start : start ≤ place
-  pub within : place < length stack
-  pub as_long : start + length loop ≡ length stack
-  pub turns : (t : ℕ) → t < length loop → slice_get loop t ≡ slice_get stack (turned start place (length stack) t)
-  pub least : (i a b : ℕ) → start ≤ i → slice_get stack i ≡ Some a → slice_get stack place ≡ Some b → b ≤ a
+  pub within : place < length circle
+  pub as_long : length loop ≡ length circle
+  pub turns : (t : ℕ) → t < length loop → slice_get loop t ≡ slice_get circle (turned place (length circle) t)
+  pub least : (i a b : ℕ) → slice_get circle i ≡ Some a → slice_get circle place ≡ Some b → b ≤ a

@@ -1,5 +1,6 @@
 -- Inside: what each witness shows of the reactors of a file.
 use Rattle.std.specs.Prelude.{◌≡◌, ◌==◌, ℕ, ◌+◌, ◌<◌, Bool, true, false, List, ◌∷◌, ◌++◌, Option, Some, None, length, slice_get, map, flat_map, take, Any, []}
+use Rattle.lft_lists.specs.Walks.{IsCircle as IsCircleOf}
 use Rattle.lft_tree.specs.Tree.{ReactorTree, MemberTree, RefTree}
 use Rattle.lft_resolve.specs.Causes.{HasLongTime, Holds, IsFirst, NoneHolds, first_causes, later_causes, number_of}
 use Rattle.lft_resolve.specs.declared.{causes.ProgramFault.ProgramFault, kinds.Role.Role}
@@ -52,14 +53,6 @@ pub record HoldsAt (reactors : List ReactorTree) (a b : ℕ) : Type 0 where
   pub is_inner : slice_get reactors b ≡ Some inner
   pub holds : Holds reactors outer inner
 
--- each of the reactors has an instance of the next
-abbrev pub EachHoldsNext : List ReactorTree → List ℕ → Type 0
-EachHoldsNext reactors places = (i a b : ℕ) → slice_get places i ≡ Some a → slice_get places (i + 1) ≡ Some b → HoldsAt reactors a b
-
--- the last of the reactors has an instance of the first
-abbrev pub Closes : List ReactorTree → List ℕ → Type 0
-Closes reactors places = (i a b : ℕ) → i + 1 ≡ length places → slice_get places i ≡ Some a → slice_get places 0 ≡ Some b → HoldsAt reactors a b
-
 -- there is a reactor, each has an instance of the next, and the last of the first
 abbrev pub IsCircle : List ReactorTree → List ℕ → Type 0
-IsCircle reactors places = (0 < length places) × EachHoldsNext reactors places × Closes reactors places
+IsCircle reactors places = IsCircleOf (HoldsAt reactors) places
