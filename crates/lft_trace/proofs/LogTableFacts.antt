@@ -1,11 +1,12 @@
 -- What one more record does to rows with external inputs among them, and that what is read fits its program.
-use Rattle.std.proofs.Common.{Bor, ◌≡◌, ◌∙◌, ◌+◌, ◌≤◌, ◌++◌, ℕ, zero, suc, List, [], ◌∷◌, length, filter_map, Some, slice_get, refl, sym, ap, arith, append_assoc, append-nil, length-append}
-use Rattle.std.{specs.List.AllZip, proofs.lemmas.{List.Elements.{All-cons, All-nil, filter_map-append}, Slice.Zip.all_zipped_more}}
+use Rattle.std.proofs.Common.{Bor, ◌≡◌, ◌∙◌, ◌+◌, ◌≤◌, ◌++◌, ℕ, zero, suc, List, [], ◌∷◌, length, drop, filter_map, IfSome, Some, slice_get, refl, sym, ap, subst, arith, append_assoc, append-nil, length-append}
+use Rattle.std.specs.{Io.Cursor.{cursor_inner, cursor_position}, declared.io.impls.Cursor.Cursor, List.AllZip}
+use Rattle.std.proofs.lemmas.{List.Elements.{All-cons, All-nil, filter_map-append}, Slice.Zip.all_zipped_more}
 use Rattle.csv.specs.Records.{fields_of}
 use Rattle.lft_ir.specs.{Parts.Parts, Sound.IsSound, Steps.Fits.RowsFit, declared.steps.row.Row.Row as TheRow}
 use Rattle.lft_lists.proofs.Zips.{behind}
 use Rattle.lft_trace.specs.{ExternalTables.IsEntry, LogTables.{IsLine, row_of}}
-use Rattle.lft_trace.specs.inner.{LogTables.{EntryFits, InputsFit, ReadsLines, inputs_behind}, Records.{in_memory, IsNext, IsPlain, IsUnread, records_left}}
+use Rattle.lft_trace.specs.inner.{LogTables.{EntryFits, InputsFit, ReadsLines, inputs_behind}, Records.{in_cursor, IsNext, IsPlain, IsUnread, records_left}}
 use Rattle.lft_trace.specs.{Records.records_of, Traces.IsRow}
 use Rattle.lft_trace.specs.declared.external_table.Entry.{Entry, TheVariants.{Happens, Stops}}
 use Rattle.lft_trace.specs.declared.{log_table.{Among.Among, Line.{Line, TheVariants.{Row, Input}}, LogLines.LogLines}, records.Records.Records}
@@ -31,11 +32,11 @@ behind_input n (Row r ∷ lines) e =
 behind_input n (Input x ∷ lines) e = ap (λ (t : List Among). among n x ∷ t) (behind_input n lines e)
 
 -- what is read up to a record: these rows and external inputs, with the others left
-pub record Gone (program : Parts) (records : Texts) (rows : List TheRow) (inputs : List Among) (r : Records (Bor (List ℕ))) : Type 0 where
+pub record Gone (program : Parts) (records : Texts) (rows : List TheRow) (inputs : List Among) (r : Records (Cursor (Bor (List ℕ)))) : Type 0 where
   pub lines : List Line
   pub first : Texts
-  pub plain : IsPlain in_memory r
-  pub whole : records ≡ first ++ records_left in_memory r
+  pub plain : IsPlain in_cursor r
+  pub whole : records ≡ first ++ records_left in_cursor r
   pub each : AllZip (IsLine program) first lines
   pub rows_are : rows ≡ filter_map row_of lines
   pub inputs_are : inputs ≡ inputs_behind 0 lines
@@ -43,8 +44,8 @@ pub record Gone (program : Parts) (records : Texts) (rows : List TheRow) (inputs
   pub line : r.line ≤ r.last
   pub last : r.last ≡ 4000000
 
-pub start : (program : Parts) (text : List ℕ) (r : Records (Bor (List ℕ))) → IsUnread in_memory r text 4000000 → Gone program (records_of text) [] [] r
-start program text r u = record {
+pub start : (program : Parts) (text : Bor (List ℕ)) (c : Cursor (Bor (List ℕ))) (r : Records (Cursor (Bor (List ℕ)))) → cursor_inner c ≡ text → cursor_position c ≡ 0 → IfSome (in_cursor c) (λ t. IsUnread in_cursor r t 4000000) → Gone program (records_of text.now) [] [] r
+start program text c r inner position unread = record {
   lines = [];
   first = [];
   plain = u.plain;
@@ -56,10 +57,13 @@ start program text r u = record {
   line = let a = u.line in let b = u.last in omega (arith, a, b);
   last = u.last;
 }
+  where
+    u : IsUnread in_cursor r text.now 4000000
+    u = subst (λ (t : List ℕ). IsUnread in_cursor r t 4000000) (ap (λ (n : ℕ). drop n c.inner.now) position ∙ ap (λ (b : Bor (List ℕ)). b.now) inner) unread
 
-module _ (program : Parts) (records : Texts) (rows : List TheRow) (inputs : List Among) (old new : Records (Bor (List ℕ))) (r : Gone program records rows inputs old) (g : IsNext in_memory old new) where
-  whole_after : records ≡ (r.first ++ (fields_of new.fields ∷ [])) ++ records_left in_memory new
-  whole_after = r.whole ∙ ap (λ (t : Texts). r.first ++ t) g.left ∙ sym (append_assoc r.first (fields_of new.fields ∷ []) (records_left in_memory new))
+module _ (program : Parts) (records : Texts) (rows : List TheRow) (inputs : List Among) (old new : Records (Cursor (Bor (List ℕ)))) (r : Gone program records rows inputs old) (g : IsNext in_cursor old new) where
+  whole_after : records ≡ (r.first ++ (fields_of new.fields ∷ [])) ++ records_left in_cursor new
+  whole_after = r.whole ∙ ap (λ (t : Texts). r.first ++ t) g.left ∙ sym (append_assoc r.first (fields_of new.fields ∷ []) (records_left in_cursor new))
 
   line_after : new.line ≤ new.last
   line_after = let next = g.line in let inside = g.within in let last = g.last in omega (arith, next, inside, last)

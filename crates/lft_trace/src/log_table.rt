@@ -18,6 +18,7 @@ use lft_ir::Program;
 use lft_ir::steps::Row;
 use lft_tag::MAX_ROWS;
 use std::alloc::Global;
+use std::io::Cursor;
 
 /// The line that a record has in a table of its own. The header is line 1.
 const ONLY_LINE: u32 = 2;
@@ -78,7 +79,9 @@ fn read_lines_of(alloc: Global, names: &ReactionNames, text: &[u8]) -> Result<Lo
     ensures read { IfOk result (λ read. ReadsLines names.now (records_of text.now) read) }
     ensures few { IfOk result (λ read. length read.rows.items ≤ 4000000) }
 {
-    let mut records = Records::new(alloc, text, MAX_ROWS as u32);
+    // No other table is read by a cursor. So the compiler puts the reading of a record in here, where else it is
+    // a call with a long answer.
+    let mut records = Records::new(alloc, Cursor::new(text), MAX_ROWS as u32);
     // With room for most texts, so that no row is copied while others come.
     let Ok(mut rows) = Vec::with_capacity(alloc, text.len() / BYTES_OF_A_ROW) else {
         return Err(Unread::NoMemory);

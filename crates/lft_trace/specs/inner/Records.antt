@@ -3,11 +3,16 @@ use Rattle.std.specs.Prelude.{ℕ, List, length, ◌+◌, ◌≡◌, ◌≤◌, 
 use Rattle.std.proofs.Common.{Bor}
 use Rattle.csv.specs.{Records.fields_of, Reading.{Ready, default_config, records_from, source_of, reader_trim, reader_config}, declared.parser.State.State}
 use Rattle.lft_trace.specs.{declared.records.Records.Records, Records.records_of}
+use Rattle.std.specs.{Io.Cursor.cursor_remaining, declared.io.impls.Cursor.Cursor}
 use Rattle.csv.specs.declared.reader.Trim.TheVariants as trim
 
 -- the bytes that a text in memory has left
 abbrev pub in_memory : Bor (List ℕ) → Option (List ℕ)
 in_memory text = Some text.now
+
+-- and those that a cursor over one has left
+abbrev pub in_cursor : Cursor (Bor (List ℕ)) → Option (List ℕ)
+in_cursor c = cursor_remaining in_memory c
 
 -- the reader reads as the crate's defaults say, takes no record for a header, and has not failed, and what it has left is known
 abbrev pub IsPlain : {R : Type 0} → (R → Option (List ℕ)) → Records R → Type 0

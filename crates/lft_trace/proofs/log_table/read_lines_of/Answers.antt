@@ -1,12 +1,12 @@
 use Rattle.std.proofs.Common.{rules, ◌≡◌, ◌++◌, ◌∷◌, [], length, refl, subst}
 use Rattle.csv.specs.Records.{fields_of}
 use Rattle.lft_ir.specs.Parts.{Parts}
-use Rattle.lft_trace.specs.{ExternalTables.{FaultAt, IsEntry}, Records.records_of, inner.Records.{in_memory, records_left}}
+use Rattle.lft_trace.specs.{ExternalTables.{FaultAt, IsEntry}, Records.records_of, inner.Records.{in_cursor, records_left}}
 use Rattle.lft_trace.proofs.LogTableFacts.{among, input_more, row_more, start}
 use Rattle.lft_trace.proofs.log_table.read_lines_of.Goals as goal
 
 pub lines-init : goal.lines-init
-lines-init c = (rw (c.in-Ok.ensures.items, c.new-inputs.ensures.items) (start c.args.names.now c.args.text.now c.new-records.result c.new-records.ensures), tt)
+lines-init c = (rw (c.in-Ok.ensures.items, c.new-inputs.ensures.items) (start c.args.names.now c.args.text c.new.result c.new-records.result c.new.ensures.inner c.new.ensures.position c.new-records.ensures), tt)
 
 pub returns-in-Err-read_entry-clause-read : goal.returns-in-Err-read_entry-clause-read
 returns-in-Err-read_entry-clause-read c =
@@ -17,12 +17,12 @@ returns-in-Err-read_entry-clause-read c =
     record {
       lines = gone.lines;
       first = gone.first;
-      rest = records_left in_memory c.lines.records;
+      rest = records_left in_cursor c.lines.records;
       whole = gone.whole;
       each = gone.each;
       rows_are = gone.rows_are;
       inputs_are = gone.inputs_are;
-      stops = (fields, records_left in_memory c.next.new.self, found.left, (fault, c.if-begins_as_input.ensures.0 refl));
+      stops = (fields, records_left in_cursor c.next.new.self, found.left, (fault, c.if-begins_as_input.ensures.0 refl));
     }
 
 pub lines-preserved-then-begins_as_input : goal.lines-preserved-then-begins_as_input
