@@ -1,14 +1,14 @@
 -- A batch of rows in parts, which are judged one after another.
-use Rattle.std.proofs.Common.{◌≡◌, ◌∙◌, ℕ, ◌+◌, ◌≤◌, List, [], ◌∷◌, ◌++◌, Vec, length, take, drop, add-one, ap, sym, subst, arith, slice_get, Some}
+use Rattle.std.proofs.Common.{◌≡◌, ◌∙◌, ℕ, ◌+◌, ◌≤◌, List, [], ◌∷◌, ◌++◌, Vec, inl, inr, length, take, drop, add-one, ap, refl, sym, subst, arith, get_or, slice_get, Some}
 use Rattle.std.specs.declared.alloc.Global.{Global}
 use Rattle.std.proofs.lemmas.{Grind.flat_map-append, List.{append_assoc, append-nil, length-append, take-append-drop}}
-use Rattle.std.proofs.lemmas.Option.{get_or_from_slice_get, slice_get_within}
+use Rattle.std.proofs.lemmas.Option.{get_or_from_slice_get, slice_get-get_or, slice_get_within}
 use Rattle.std.proofs.Math.Seq.{take-suc}
 use Rattle.lft_ir.specs.{Parts.Parts, Steps.Fits.RowsFit, declared.steps.row.Row.Row}
 use Rattle.lft_lists.proofs.Places.{get_left, get_right}
-use Rattle.lft_trace.specs.inner.Parts.{rows_of}
+use Rattle.lft_trace.{specs.{Parts.HasNoQuote, inner.Parts.{HoldsRows, IsCut, rows_of}}, proofs.{Beginning.{begins_all, begins_lines, begins_more}, Together.holds_both}}
 use Rattle.lft_model.specs.Plans.{PlanParts}
-use Rattle.lft_stream.specs.{inner.Batches.Progresses.IsGoneOn, declared.batches.progress.JudgedRows.JudgedRows}
+use Rattle.lft_stream.specs.{inner.Batches.{Parted.PartsFit, Progresses.IsGoneOn}, declared.batches.progress.JudgedRows.JudgedRows}
 
 module _ (parts : List (Vec Row Global)) (n : ℕ) (part : Vec Row Global) (at : slice_get parts n ≡ Some part) where
   before : take (n + 1) parts ≡ take n parts ++ (part ∷ [])
@@ -22,7 +22,7 @@ module _ (parts : List (Vec Row Global)) (n : ℕ) (part : Vec Row Global) (at :
   split = ap rows_of (sym (take-append-drop (n + 1) parts)) ∙ flat_map-append (λ (p : Vec Row Global). p.items) (take (n + 1) parts) (drop (n + 1) parts) ∙ ap (λ (t : List Row). t ++ rows_of (drop (n + 1) parts)) rows_more
 
   -- its rows fit where those of all parts do
-  pub part_fits : (program : Parts) → RowsFit program (rows_of parts) → RowsFit program part.items
+  part_fits : (program : Parts) → RowsFit program (rows_of parts) → RowsFit program part.items
   part_fits program all =
       let a = rows_of (take n parts) in
       let b = part.items in
@@ -33,6 +33,19 @@ module _ (parts : List (Vec Row Global)) (n : ℕ) (part : Vec Row Global) (at :
         few = omega (arith, length-append (a ++ b) c, length-append a b, few);
         each = λ i row e. fit.each (length a + i) row (get_left (a ++ b) c (length a + i) row (get_right a b i ∙ e));
       }
+
+-- so do those of each part
+pub parts_fit : (program : Parts) (parts : List (Vec Row Global)) → RowsFit program (rows_of parts) → PartsFit program parts
+parts_fit program parts all k d within = part_fits parts k (get_or parts k d) (slice_get-get_or parts k d within) program all
+
+-- the rows of a text's first lines, and those of what stands behind them, are the text's rows
+pub holds_cut : (program : Parts) (text lines behind : List ℕ) (rows more : List Row) → IsCut text lines behind → HoldsRows program lines rows → HoldsRows program behind more → HoldsRows program text (rows ++ more)
+holds_cut program text lines behind rows more (is, inr ends) x y = holds_both program text lines behind rows more is ends.0 ends.1 x y
+holds_cut program text lines behind rows more (is, inl none) x y =
+    let last = begins_lines program behind behind [] more (sym (append-nil behind), inl refl) y in (
+      subst HasNoQuote (sym (is ∙ ap (λ (t : List ℕ). lines ++ t) none ∙ append-nil lines)) x.0,
+      begins_all program text (rows ++ more) (begins_more program text behind [] rows more (begins_lines program text lines behind rows (is, inl none) x) last),
+    )
 
 -- a part behind others is gone past with those
 pub part_gone : (plan : PlanParts) (old mid new : JudgedRows) (w x y l left : List Row) → IsGoneOn plan old mid (w ++ x) l → IsGoneOn plan mid new (l ++ y) left → IsGoneOn plan old new (w ++ (x ++ y)) left

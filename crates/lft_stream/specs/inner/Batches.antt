@@ -1,3 +1,4 @@
 pub mod Fronts
 pub mod Progresses
 pub mod Lines
+pub mod Parted

@@ -1,12 +1,12 @@
 //! Trace tables that are accepted from what a reader gives by several workers: while one judges a batch of
-//! rows, the others read the next.
+//! rows, the others read what comes next.
 
 ghost use Rattle.std.specs.Prelude.{◌++◌, ◌≤◌, List, IfOk, IfSome, length};
 ghost use Rattle.std.specs.Thread.{IsSync};
 ghost use Rattle.lft_ir.specs.{Steps.Fits.RowsFit, declared.steps.row.Row.Row as TheRow};
 ghost use Rattle.lft_trace.specs.{Records.records_of, Traces.Table, inner.Parts.{HoldsRows, rows_of}};
 ghost use Rattle.lft_rows.specs.Accepted.{IsAccepted};
-ghost use Rattle.lft_stream.specs.inner.Batches.Progresses.{IsGoneOn, IsProgress};
+ghost use Rattle.lft_stream.specs.inner.Batches.{Parted.PartsFit, Progresses.{IsGoneOn, IsProgress}};
 
 use crate::RunCounts;
 use crate::batches::lines::Lines;
@@ -16,7 +16,7 @@ use crate::batches::text::{batch_bytes, reaction_names};
 use lft_ir::steps::Row;
 use lft_model::Plan;
 use lft_tag::MAX_ROWS;
-use lft_trace::{ReactionNames, ReadFailed, read_lines};
+use lft_trace::{ReactionNames, ReadFailed, first_lines, read_lines};
 use std::alloc::Global;
 use std::io::Read;
 use std::thread::{Threads, join};
@@ -33,7 +33,7 @@ fn judge_parts(
     parts: Vec<Vec<Row>>,
 ) -> Option<(JudgedRows, Vec<Row>)>
     requires waiting_fit { RowsFit plan.now.program waiting.items }
-    requires parts_fit { RowsFit plan.now.program (rows_of parts.items) }
+    requires parts_fit { PartsFit plan.now.program parts.items }
     requires stands { (t : List TheRow) × IsProgress plan.now t progress }
     ensures fit { IfSome result (λ p. RowsFit plan.now.program p.1.items) }
     ensures gone { IfSome result (λ p. IsGoneOn plan.now progress p.0 (waiting.items ++ rows_of parts.items) p.1.items) }
@@ -55,7 +55,7 @@ fn finish_parts(
     parts: Vec<Vec<Row>>,
 ) -> Option<RunCounts>
     requires waiting_fit { RowsFit plan.now.program waiting.items }
-    requires parts_fit { RowsFit plan.now.program (rows_of parts.items) }
+    requires parts_fit { PartsFit plan.now.program parts.items }
     requires stands { (t : List TheRow) × IsProgress plan.now t progress }
     ensures { IfSome result (λ c. (t : List TheRow) → IsProgress plan.now t progress → (length (t ++ (waiting.items ++ rows_of parts.items)) ≤ 4000000) × IsAccepted plan.now (t ++ (waiting.items ++ rows_of parts.items)) c.runs c.tags) }
 {
@@ -63,7 +63,17 @@ fn finish_parts(
     progress.finish(alloc, plan, left.as_slice())
 }
 
-/// Goes on past the parts of a batch, while the next lines are read by so many workers.
+/// How many bytes of lines so many readers read while the parts are judged. To read rows takes some three
+/// times as long as to judge them.
+fn bytes_beside(parts: &[Vec<Row>], lines: &[u8], readers: u32) -> usize {
+    if parts.is_empty() {
+        return 0;
+    }
+    (lines.len() / 3).saturating_mul(readers as usize)
+}
+
+/// Goes on past the parts of a batch, while the others of so many workers read the first of the next lines. All
+/// of them read the rest.
 fn go_beside<T: Threads + Sync>(
     rt: &T,
     alloc: Global,
@@ -76,23 +86,31 @@ fn go_beside<T: Threads + Sync>(
     workers: u32,
 ) -> Option<((JudgedRows, Vec<Row>), Vec<Vec<Row>>)>
     requires waiting_fit { RowsFit plan.now.program waiting.items }
-    requires parts_fit { RowsFit plan.now.program (rows_of parts.items) }
+    requires parts_fit { PartsFit plan.now.program parts.items }
     requires stands { (t : List TheRow) × IsProgress plan.now t progress }
     ensures fit { IfSome result (λ p. RowsFit plan.now.program p.0.1.items) }
     ensures gone { IfSome result (λ p. IsGoneOn plan.now progress p.0.0 (waiting.items ++ rows_of parts.items) p.0.1.items) }
     ensures read { IfSome result (λ p. HoldsRows names.now lines.now (rows_of p.1.items)) }
-    ensures read_fit { IfSome result (λ p. RowsFit names.now (rows_of p.1.items)) }
+    ensures read_fit { IfSome result (λ p. PartsFit names.now p.1.items) }
 {
+    let readers = workers.saturating_sub(1);
+    let beside = bytes_beside(parts.as_slice(), lines, readers);
+    let (first, rest) = first_lines(lines, beside);
     let judging = move || -> Option<(JudgedRows, Vec<Row>)>
-        requires { RowsFit plan.now.program waiting.items × RowsFit plan.now.program (rows_of parts.items) × ((t : List TheRow) × IsProgress plan.now t progress) }
+        requires { RowsFit plan.now.program waiting.items × PartsFit plan.now.program parts.items × ((t : List TheRow) × IsProgress plan.now t progress) }
         ensures { IfSome result (λ p. RowsFit plan.entry.now.program p.1.items × IsGoneOn plan.entry.now progress p.0 (waiting.items ++ rows_of parts.items) p.1.items) }
     { judge_parts(progress, alloc, plan, waiting, parts) };
     let reading = move || -> Option<Vec<Vec<Row>>>
         requires { IsSync T.row }
-        ensures { IfSome result (λ parts. HoldsRows names.entry.now lines.entry.now (rows_of parts.items) × RowsFit names.entry.now (rows_of parts.items)) }
-    { read_lines(rt, alloc, names, lines, workers) };
+        ensures { IfSome result (λ parts. HoldsRows names.entry.now first.entry.now (rows_of parts.items) × RowsFit names.entry.now (rows_of parts.items)) }
+    { read_lines(rt, alloc, names, first, readers) };
     let (gone, read) = join(rt, judging, reading);
-    Some((gone?, read?))
+    let (gone, mut read) = (gone?, read?);
+    let mut more = read_lines(rt, alloc, names, rest, workers)?;
+    if read.append(&mut more).is_err() {
+        return None;
+    }
+    Some((gone, read))
 }
 
 /// What `accepts_reader` does, by so many workers: of several one judges, and the others read. Beside
@@ -121,8 +139,7 @@ pub fn accepts_reader_shared<T: Threads + Sync, R: Read + Drop>(
     let Ok(mut progress) = JudgedRows::new(alloc, plan) else {
         return Ok(None);
     };
-    let readers = workers - 1;
-    let bytes = batch_bytes(plan).max(SHARE * readers as usize);
+    let bytes = batch_bytes(plan).max(SHARE * workers as usize);
     let mut waiting = Vec::new(alloc);
     let mut parts = Vec::new(alloc);
     // A table has no more batches than rows.
@@ -142,7 +159,7 @@ pub fn accepts_reader_shared<T: Threads + Sync, R: Read + Drop>(
             waiting,
             parts,
             lines.as_slice(),
-            readers,
+            workers,
         ) else {
             return Ok(None);
         };

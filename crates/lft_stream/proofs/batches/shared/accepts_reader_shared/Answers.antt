@@ -1,8 +1,8 @@
 use Rattle.std.proofs.Common.{◌∙◌, ◌++◌, ℕ, List, Vec, IfSome, ap, length, subst, sym}
 use Rattle.std.{proofs.lemmas.{Bool.eqb-true, Option.IfSome_then}, specs.declared.alloc.Global.Global}
-use Rattle.lft_ir.specs.{Parts.Parts, Steps.Fits.RowsFit}
+use Rattle.lft_ir.specs.Parts.{Parts}
 use Rattle.lft_trace.{specs.inner.Parts.{HoldsRows, rows_of}, proofs.{Beginning.begins_lines, Together.at_some}}
-use Rattle.lft_stream.{specs.inner.Batches.Lines.{AreNextLines, text_left}, proofs.BatchesLemmas.Reading.{read_all, reads_on}}
+use Rattle.lft_stream.{specs.inner.Batches.{Lines.{AreNextLines, text_left}, Parted.PartsFit}, proofs.BatchesLemmas.Reading.{read_all, reads_on}}
 use Rattle.lft_stream.proofs.batches.shared.accepts_reader_shared.Goals as goal
 
 pub returns-then-is_empty : goal.returns-then-is_empty
@@ -38,7 +38,7 @@ loop-batch-preserved g c =
     let u = gone.gone c.loop-batch.invariant.stands.0 c.loop-batch.invariant.stands.1 in
     record {
       fit = gone.fit;
-      parts_fit = subst (λ (p : Parts). RowsFit p (rows_of read)) is gone.read_fit;
+      parts_fit = subst (λ (p : Parts). PartsFit p read) is gone.read_fit;
       stands = (u.0, u.1);
       read = IfSome_then (remaining c.args.source) c.loop-batch.invariant.read (λ text r.
           let next = at_some (AreNextLines remaining new lines) left r.0 r.1 is_next in

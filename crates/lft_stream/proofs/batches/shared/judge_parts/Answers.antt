@@ -2,7 +2,7 @@ use Rattle.std.proofs.Common.{◌≡◌, ◌∙◌, ◌++◌, List, Vec, ap, app
 use Rattle.std.{specs.declared.alloc.Global.Global, proofs.{lemmas.Option.slice_get_read, Math.Seq.take-length}}
 use Rattle.lft_ir.specs.{Steps.Fits.RowsFit, declared.steps.row.Row.Row}
 use Rattle.lft_trace.specs.inner.Parts.{rows_of}
-use Rattle.lft_stream.{specs.inner.Batches.Progresses.IsGoneOn, proofs.BatchesLemmas.Sharing.{part_fits, part_gone, rows_more}}
+use Rattle.lft_stream.{specs.inner.Batches.Progresses.IsGoneOn, proofs.BatchesLemmas.Sharing.{part_gone, rows_more}}
 use Rattle.lft_stream.proofs.batches.shared.judge_parts.Goals as goal
 
 pub loop-place-init : goal.loop-place-init
@@ -10,11 +10,9 @@ loop-place-init c = record { fit = c.requires.waiting_fit; gone = λ t so. (t, s
 
 pub judge_batch-requires-clause-batch_fit : goal.judge_batch-requires-clause-batch_fit
 judge_batch-requires-clause-batch_fit c =
-    let parts = c.args.parts.items in
-    let n = c.loop-place.place in
     let part = c.index.result.now in
-    let at = slice_get_read parts (length parts) n part refl (omega arith) c.index.ensures in
-    subst (RowsFit c.args.plan.now.program) (sym c.as_slice.ensures.value) (part_fits parts n part at c.args.plan.now.program c.requires.parts_fit)
+    let fit = subst (λ (p : Vec Row Global). RowsFit c.args.plan.now.program p.items) (sym c.index.ensures) (c.requires.parts_fit c.loop-place.place part (omega arith)) in
+    subst (RowsFit c.args.plan.now.program) (sym c.as_slice.ensures.value) fit
 
 pub judge_batch-requires-clause-stands : goal.judge_batch-requires-clause-stands
 judge_batch-requires-clause-stands c =
