@@ -1,4 +1,3 @@
-pub mod Batches
 pub mod Counted
 pub mod Dues
 pub mod Kept
