@@ -10,15 +10,12 @@ use Rattle.lft_classes.specs.{declared.shapes.Inherited.Inherited, Shapes.width_
 use Rattle.lft_lower.specs.inner.{Meanings.Meanings.Here, Lowered.IsMeasured, Reactors.IsLowering}
 use Rattle.lft_same.specs.{Expanded.{Instances.{Inside, Widths, numbers}, Reactors.members_of}, inner.Fits.Fits.IsShapeOf}
 use Rattle.lft_same.proofs.{Instances.{AreWidthsFound, StandsFor}, Lowered.{Appends, Becomes, all_become}}
-use Rattle.lft_same.proofs.Settings.{its_setting, numbers_are as numbers_found, of_class as class_found, same_shape as shape_found, unwritten as none_found}
+use Rattle.lft_same.proofs.Settings.{its_setting, numbers_are as numbers_found, of_class as class_found, unwritten as none_found}
 
 module _ (files : List SourceFile) (tree : Ast) (low : IsLowering files tree) (x : Inside) (core : CoreInside) (s : StandsFor files tree low x core) where
   -- where its references are looked up
   abbrev pub here : Here
   here = record { settings = low.settings; setting = s.number; shape = s.shape }
-
-  pub same_shape : s.fits.shape ≡ s.shape
-  same_shape = shape_found files tree low x (its_setting files tree low x core s)
 
   -- its shape is of the instance's reactor
   pub of_class : IsShapeOf files s.shape x.class

@@ -41,9 +41,6 @@ module _ (files : List SourceFile) (tree : Ast) (low : IsLowering files tree) (t
   member_is : (m : ℕ) → member_in low.settings.shapes.items t m ≡ slice_get is.shape.members.items m
   member_is m = ap (option_and_then (λ (s : Shape). slice_get s.members.items m)) (shape_of_setting low.settings is.number t is.shape is.is_setting is.is_shape)
 
-  written_is : (m : ℕ) (k : Inherited) → slice_get is.shape.members.items m ≡ Some k → written_width low.settings.shapes.items t m ≡ width_of k.member.now
-  written_is m k at = ap (option_and_then (λ (found : Inherited). width_of found.member.now)) (member_is m ∙ at)
-
   made : (m : ℕ) (k : Inherited) → slice_get is.shape.members.items m ≡ Some k → (new : List MemberTree) × Becomes low.names there r.members is.reactor.members.0 m k new
   made m k at = made_at low.names there r.members is.reactor.members.0 is.reactor.members.1 m k at
 

@@ -82,9 +82,6 @@ module _ (files : List SourceFile) (tree : Ast) (low : IsLowering files tree) wh
     abbrev pub here : Here
     here = record { settings = low.settings; setting = s.number; shape = s.shape }
 
-    made : (z : Setting) × (slice_get low.settings.settings.items s.number ≡ Some z) × (valued z ≡ s.setting)
-    made = made_at s.number s.setting s.is_setting
-
     pub shape_there : slice_get low.settings.shapes.items s.setting.shape ≡ Some s.shape
     shape_there = shape_of_setting low.settings s.number s.setting s.shape s.is_setting s.is_shape
 

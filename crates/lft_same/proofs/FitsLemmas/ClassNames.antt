@@ -2,8 +2,8 @@
 use Rattle.std.proofs.Common.{◌≡◌, inl, inr, ℕ, ◌+◌, ◌<◌, ◌≤◌, Bool, true, false, List, [], ◌∷◌, length, flat_map, get_or, Option, Some, None, option_map, slice_get, refl, sym, ap, subst, ◌∙◌, arith}
 use Rattle.std.specs.Prelude.{if◌then◌else◌, is_some, string_bytes, zip}
 use Rattle.std.specs.{List.{position, position_or_len}, Option.{option_and_then, option_map_or, option_or}}
-use Rattle.std.proofs.lemmas.{List.{Quantifiers.position-Some, Sums.fails_before_first}, Bool.true≢false, Grind.common_steps}
-use Rattle.std.proofs.lemmas.{Option.{get_or_from_slice_get, slice_get-get_or, slice_get_within}, Slice.Eq.bytes_eq-Decides}
+use Rattle.std.proofs.lemmas.{List.Sums.fails_before_first, Bool.true≢false, Grind.common_steps, Option.{get_or_from_slice_get, slice_get_within}}
+use Rattle.std.proofs.lemmas.Slice.Eq.{bytes_eq-Decides}
 use Rattle.lft_lists.proofs.Mapped.{mapped_from, option_map_some, pair_at}
 use Rattle.lft_lists.proofs.{Members.{mem_get, get_mem, mem_filter, mem_flat, mem_from_filter, mem_from_flat, Mem}, Places.Some_same}
 use Rattle.lft_whole.specs.declared.{sources.source.SourceFile.SourceFile, tree.{ImportedName.ImportedName, Name.Name, Reactor.Reactor}}
@@ -14,19 +14,13 @@ use Rattle.lft_same.specs.Expanded.Reactors.{class_named, imported_by, imported_
 use Rattle.lft_same.specs.inner.Fits.Fits.{number_at}
 use Rattle.lft_same.proofs.ExpandedLemmas.Flattened.{unzip}
 use Rattle.lft_program.proofs.Zipping.{then_some}
+use Rattle.lft_ir.proofs.Positions.{somewhere}
 
 -- the reactor of the scopes is the one at this place of this file
 pub record IsAt (files : List SourceFile) (c : Class) (at : ℕ × ℕ) : Type 0 where
   pub file : c.file ≡ at.0
   pub reactor : reactor_of files at ≡ Some c.reactor.now
   pub number : c.number ≡ number_at files at
-
--- what a search finds
-pub position_found : {X : Type 0} (p : X → Bool) (xs : List X) (k : ℕ) → position p xs ≡ Some k → (x : X) × (slice_get xs k ≡ Some x) × (p x ≡ true)
-position_found {X} p [] k e = absurd (let e' : None ≡ Some k = e in cc)
-position_found {X} p (y ∷ xs) k e =
-    let f = position-Some p (y ∷ xs) k y e in
-    (get_or (y ∷ xs) k y, slice_get-get_or (y ∷ xs) k y f.0, f.1)
 
 -- a name is this one
 pub named_so : (q : List ℕ) (name : Name) → is_named q name ≡ true → string_bytes name.text ≡ q
@@ -50,7 +44,7 @@ pub own_is : (files : List SourceFile) (scopes : _) → AreScopes files scopes �
 own_is files scopes are file q at e =
     let s = then_some (λ (f : SourceFile). option_map (λ k. (file, k)) (position (is_reactor_called q) f.tree.reactors.items)) (slice_get files file) at e in
     let k = option_map_some (λ k. (file, k)) (position (is_reactor_called q) s.0.tree.reactors.items) at s.2 in
-    let r = position_found (is_reactor_called q) s.0.tree.reactors.items k.0 k.1 in
+    let r = somewhere (is_reactor_called q) s.0.tree.reactors.items k.0 k.1 in
     let number : ℕ = length (reactors_before files file) + k.0 in
     let stands : slice_get (reactors_in files) number ≡ Some (file, r.0) = at_file files file s.0 k.0 r.0 s.1 r.1 in
     let c = mapped_from (λ (c : Class). (c.file, c.reactor.now)) scopes.classes.items number (file, r.0) (ap (λ l. slice_get l number) are.reactors ∙ stands) in

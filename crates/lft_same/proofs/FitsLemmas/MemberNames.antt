@@ -8,7 +8,8 @@ use Rattle.lft_classes.specs.declared.shapes.{Inherited.Inherited, InheritedPara
 use Rattle.lft_classes.specs.{inner.{Built.located_parameters, Shapes.thing_named}, Shapes.name_of}
 use Rattle.lft_same.specs.Expanded.{Instances.{Inside, place_named, value_by_name, value_named}, Reactors.{is_named, members_of, parameters_of}}
 use Rattle.lft_same.specs.inner.Fits.Fits.{IsShapeOf}
-use Rattle.lft_same.proofs.FitsLemmas.ClassNames.{called, called_so, named_so, position_found, position_lost}
+use Rattle.lft_same.proofs.FitsLemmas.ClassNames.{called, called_so, named_so, position_lost}
+use Rattle.lft_ir.proofs.Positions.{somewhere}
 use Rattle.lft_classes.specs.declared.shapes.OwnThing.TheVariants as thing
 
 -- the member has the name
@@ -36,7 +37,7 @@ module _ (files : List SourceFile) (shape : Shape) (x : Inside) (is : IsShapeOf 
       go : (o : Option ℕ) → position (has_name q) (members_of files x.class) ≡ o → o ≡ Some m
       go None p = absurd (position_lost (has_name q) (members_of files x.class) m (h.0.file, h.0.member.now) there (called q (name_of h.0.member.now) h.2) p)
       go (Some k) p =
-          let y = position_found (has_name q) (members_of files x.class) k p in
+          let y = somewhere (has_name q) (members_of files x.class) k p in
           let t : Some (thing.Member k) ≡ Some (thing.Member m) = sym (at_place k y.0 y.1 y.2) ∙ e in
           let s : k ≡ m = cc in ap Some s
 
@@ -46,7 +47,7 @@ module _ (files : List SourceFile) (shape : Shape) (x : Inside) (is : IsShapeOf 
     where
       go : (o : Option ℕ) → position (has_name q) (members_of files x.class) ≡ o → o ≡ None
       go None p = refl
-      go (Some k) p = let y = position_found (has_name q) (members_of files x.class) k p in absurd (none k (at_place k y.0 y.1 y.2))
+      go (Some k) p = let y = somewhere (has_name q) (members_of files x.class) k p in absurd (none k (at_place k y.0 y.1 y.2))
 
   -- a parameter has the value at its place
   pub value_found : (p : ℕ) (v : Option Value) → thing_named shape q ≡ Some (thing.Parameter p) → slice_get x.values p ≡ Some v → value_named files x q ≡ v

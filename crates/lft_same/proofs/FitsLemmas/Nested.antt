@@ -14,8 +14,9 @@ use Rattle.lft_program.proofs.Zipping.{then_some}
 use Rattle.lft_same.specs.Expanded.Instances.{Inside, value_given_in, inside_of, main_class_instance}
 use Rattle.lft_same.specs.Expanded.Reactors.{Class, class_named, main_of, members_of, parameters_of}
 use Rattle.lft_same.specs.inner.Fits.Fits.{Fits, IsShapeOf, number_at}
-use Rattle.lft_same.proofs.FitsLemmas.{ClassNames.{IsAt, names_law, own_place, position_found, position_lost}, Fitting.{inside_fits, main_fits}}
-use Rattle.lft_same.proofs.FitsLemmas.{Giving.{IsGivenBy, given_by}, Shapes.{named_here, shape_is}}
+use Rattle.lft_same.proofs.FitsLemmas.{ClassNames.{IsAt, names_law, own_place, position_lost}, Fitting.{inside_fits, main_fits}, Giving.{IsGivenBy, given_by}}
+use Rattle.lft_same.proofs.FitsLemmas.Shapes.{named_here, shape_is}
+use Rattle.lft_ir.proofs.Positions.{somewhere}
 use Rattle.lft_whole.specs.declared.tree.Member.TheVariants as member
 
 abbrev pub in_first : ℕ → ℕ × ℕ
@@ -37,7 +38,7 @@ main_is files scopes are c main = go (position (λ (r : Reactor). r.is_main) j.0
     go : (o : Option ℕ) → position (λ (r : Reactor). r.is_main) j.0.tree.reactors.items ≡ o → (at : ℕ × ℕ) × (main_of files ≡ Some at) × IsAt files c at
     go None e = absurd (position_lost (λ (r : Reactor). r.is_main) j.0.tree.reactors.items j.2 c.reactor.now j.3 main.is_there.is_main e)
     go (Some k) e =
-        let r = position_found (λ (r : Reactor). r.is_main) j.0.tree.reactors.items k e in
+        let r = somewhere (λ (r : Reactor). r.is_main) j.0.tree.reactors.items k e in
         let number : ℕ = length (reactors_before files 0) + k in
         let at : slice_get (reactors_in files) number ≡ Some (0, r.0) = at_file files 0 j.0 k r.0 j.1 r.1 in
         let d = mapped_from (λ (d : ScopesClass). (d.file, d.reactor.now)) scopes.classes.items number (0, r.0) (ap (λ l. slice_get l number) are.reactors ∙ at) in

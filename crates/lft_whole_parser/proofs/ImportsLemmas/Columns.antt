@@ -7,7 +7,7 @@ use Rattle.lft_lists.{specs.Bytes.is_in_line, proofs.Places.{get_last, same_some
 use Rattle.lft_text_diagnostics.specs.Places.{BeginsLine, begins_letter, is_feed}
 use Rattle.lft_syntax.specs.declared.token.Token.{Token}
 use Rattle.lft_whole.specs.{declared.sources.source.Spot.Spot, inner.Tokens.{IsToken, StandBetween}}
-use Rattle.lft_whole_parser.specs.Imports.Places.{AreSpots, IsSpotOfByte}
+use Rattle.lft_whole_parser.{specs.Imports.Places.{AreSpots, IsSpotOfByte}, proofs.ImportsLemmas.Known.kept}
 
 not_feed : (b : ℕ) → (b ≡ 10 → ⊥) → is_in_line b ≡ true
 not_feed b n = grind (arith, nat_tests)
@@ -132,11 +132,6 @@ SoFar text ts i spots = (k : ℕ) (t : Token) → k < i → slice_get ts k ≡ S
 
 pub some_and : {X : Type 0} (P : X → Type 0) (xs : List X) (k : ℕ) (x : X) → slice_get xs k ≡ Some x → P x → IsSomeAnd (slice_get xs k) P
 some_and P xs k x e h = subst (λ o. IsSomeAnd o P) (sym e) h
-
-kept : {X : Type 0} (P : X → Type 0) (xs : List X) (y : X) (k : ℕ) → IsSomeAnd (slice_get xs k) P → IsSomeAnd (slice_get (xs ++ y ∷ []) k) P
-kept P [] y k h = absurd h
-kept P (x ∷ xs) y zero h = h
-kept P (x ∷ xs) y (suc k) h = kept P xs y k h
 
 -- one more
 pub more : (text : List ℕ) (ts : List Token) (i : ℕ) (t : Token) (spots : List Spot) (spot : Spot) → slice_get ts i ≡ Some t → length spots ≡ i → IsSpotOfByte text t.start spot → SoFar text ts i spots → SoFar text ts (i + 1) (spots ++ spot ∷ [])

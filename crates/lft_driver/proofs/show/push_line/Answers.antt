@@ -1,6 +1,7 @@
 use Rattle.std.proofs.Common.{[], ◌++◌, OnOk, Result, Ok, Err, get_or, string_bytes, sym, ap, ◌∙◌}
 use Rattle.std.proofs.lemmas.Option.{get_or_from_slice_get}
-use Rattle.lft_driver.{specs.Shown.shown_reaction_words, proofs.Listed.before_within}
+use Rattle.lft_driver.specs.Shown.{shown_reaction_words}
+use Rattle.lft_graph.proofs.Ancestry.{member_known}
 use Rattle.lft_driver.proofs.show.push_line.Goals as goal
 
 then : {X E : Type 0} (r : Result X E) (P Q : Type 0) → (P → Q) → OnOk r P → OnOk r Q
@@ -8,7 +9,7 @@ then (Ok x) P Q f h = f h
 then (Err e) P Q f h = h
 
 pub push_reaction-requires-clause-before : goal.push_reaction-requires-clause-before
-push_reaction-requires-clause-before c = before_within c.args.program.now c.args.graph.now c.requires.graph c.args.number c.before-2.result.now c.before-2.ensures
+push_reaction-requires-clause-before c i a at = member_known c.args.program.now c.args.graph.now c.requires.graph a c.args.number i c.before-2.result.now c.before-2.ensures at
 
 pub returns : goal.returns
 returns c =

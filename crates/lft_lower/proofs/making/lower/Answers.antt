@@ -1,21 +1,14 @@
-use Rattle.std.proofs.Common.{◌≡◌, ℕ, List, subst, sym, ap, ◌∙◌}
+use Rattle.std.proofs.Common.{◌≡◌, ℕ, List, subst, sym}
 use Rattle.lft_whole.specs.declared.sources.source.SourceFile.{SourceFile}
 use Rattle.lft_classes.specs.{inner.Nestings.IsNesting, declared.work.Work.Work}
-use Rattle.lft_elaborate.specs.declared.settings.Settings.{Settings}
-use Rattle.lft_elaborate.specs.inner.{Noted.{AreSettings, SettingsTable, table, GoesOn}, Used.AreUsed, Values.main_setting}
+use Rattle.lft_elaborate.{specs.{declared.settings.Settings.Settings, inner.{Noted.{AreSettings, table, GoesOn}, Used.AreUsed}}, proofs.Keeping.goes_settings}
 use Rattle.lft_lower.specs.inner.Reactors.{IsProgram}
 use Rattle.lft_lower.proofs.making.lower.Goals as goal
-
-settings_stay : (old new : SettingsTable) → GoesOn old new → AreSettings old → AreSettings new
-settings_stay old new goes all = record {
-  main = (all.main.0, ap main_setting goes.shapes ∙ all.main.1, goes.stays 0 all.main.0 all.main.2);
-  made = goes.made all.made;
-}
 
 is_program : (files : List SourceFile) (first now : Settings) (used these : List ℕ) → ((scopes : _) × (work : Work) × IsNesting files scopes (record { work = work; shapes = first.shapes; order = first.order })) → AreSettings (table first) → GoesOn (table first) (table now) → AreUsed (table now) used → used ≡ these → IsProgram files now these
 is_program files first now used these found all goes are same = record {
   shapes = (found.0, record { work = found.1; shapes = first.shapes; order = first.order }, found.2, sym goes.shapes);
-  settings = settings_stay (table first) (table now) goes all;
+  settings = goes_settings (table first) (table now) goes all;
   are_used = subst (AreUsed (table now)) same are;
 }
 

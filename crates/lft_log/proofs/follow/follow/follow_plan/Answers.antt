@@ -3,7 +3,8 @@ use Rattle.std.proofs.KnownBytes.{Consumes-nil, Keeps-refl}
 use Rattle.lft_ir.specs.{Parts.Parts, Sound.IsSound}
 use Rattle.lft_log.specs.{inner.Follow.Lines.HasFound, Follow.{Lines.line_of_log, Refusals.{FollowRefusalUnder.by_reading, ReadRefusal.by_outside}}}
 use Rattle.lft_log.specs.declared.told.Ended.{Ended}
-use Rattle.lft_log.proofs.FollowLemmas.{Reaching.{none_written, told_all}, Refusing.{kept_unless, unwritten}, Telling.has_found}
+use Rattle.lft_log.proofs.FollowLemmas.{Reaching.{none_written, told_all}, Refusing.unwritten, Telling.has_found}
+use Rattle.lft_driver.proofs.Behind.{unwritten_kept}
 use Rattle.lft_log.proofs.follow.follow.follow_plan.Goals as goal
 
 pub report-requires : goal.report-requires
@@ -37,7 +38,7 @@ returns-clause-refused g c =
     unwritten c.args.plan c.args.path.now c.args.following.until c.args.following.whole read.0 _ _ _ _ told _ c.in-Err-report.fault read.1 (ap (λ (p : Parts). line_of_log p told) same) c.in-Err-report.ensures.refused
 
 pub returns-clause-kept : goal.returns-clause-kept
-returns-clause-kept g c = kept_unless _ _ _ c.in-Err-report.fault c.in-Err-report.ensures.refused
+returns-clause-kept g c = unwritten_kept _ _ _ c.in-Err-report.fault c.in-Err-report.ensures.refused
 
 pub returns-clause-every : goal.returns-clause-every
 returns-clause-every g c =
