@@ -229,7 +229,7 @@ fn item(input: &Input, at: usize, file: &mut File) -> Result<usize, TreeFault>
 }
 
 /// A file in which nothing stands.
-fn empty(alloc: Global) -> File
+pub(crate) fn empty(alloc: Global) -> File
     ensures { file_view result ≡ Files.empty_file }
 {
     File {

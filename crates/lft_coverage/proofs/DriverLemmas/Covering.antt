@@ -60,7 +60,7 @@ module _ (list : Bool) (plan : PlanParts) (covered : Covered) (line text : List 
 -- the verdict alone is right
 pub right_verdict : (plan : PlanParts) (rows : List Row) (covered : Covered) → IsCovered plan rows covered → IsVerdict plan rows (verdict_in covered)
 right_verdict plan rows (Accepted runs tags cover) is = is.0
-right_verdict plan rows (Broken b) is = is.0
+right_verdict plan rows (Broken b) is = is
 
 module _ (list : Bool) (plan : PlanParts) (trace : List ℕ) (workers : ℕ) (old new : Option (List ℕ)) where
   module _ (covered : Covered) (x : IsCoveredTable plan trace covered) where

@@ -4,6 +4,7 @@ ghost use Rattle.std.specs.Prelude.{◌≡◌, ◌<◌, Err, Some, IfOk, length}
 ghost use Rattle.lft_whole.specs.{Pieces.tokens_of, declared.fault.TextFault.TheVariants.BadText};
 ghost use Rattle.lft_whole_parser.specs.inner.Imports.Reads.{IsRead};
 
+use crate::files::empty;
 use crate::imports::spots::{spot_of, spots};
 use crate::parse;
 use lft_tag::NoMemory;
@@ -27,17 +28,6 @@ pub(crate) struct Text {
     pub(crate) refused: Option<NoTree>,
 }
 
-/// A file of nothing.
-fn no_file(alloc: Global) -> File {
-    File {
-        target: None,
-        timeouts: Vec::new(alloc),
-        decentralized: None,
-        imports: Vec::new(alloc),
-        reactors: Vec::new(alloc),
-    }
-}
-
 /// What is read of a text without tokens. They end at a byte.
 fn without_tokens(alloc: Global, text: &[u8], at: usize) -> Result<Text, NoMemory>
     requires inside { at < length text.now }
@@ -55,7 +45,7 @@ fn without_tree(alloc: Global, spots: Vec<Spot>, why: Why, token: usize) -> Text
     ensures refused { result.refused ≡ Some (record { why = why; token = token }) }
 {
     Text {
-        tree: no_file(alloc),
+        tree: empty(alloc),
         spots,
         refused: Some(NoTree { why, token }),
     }
