@@ -21,7 +21,7 @@ use std::alloc::Global;
 use std::io::Read;
 use std::thread::{Threads, join};
 
-/// The bytes of a batch for each worker that reads: some milliseconds, beside which a thread costs little.
+/// The bytes of a batch for each worker: some milliseconds, beside which a thread costs little.
 const SHARE: usize = 1 << 20;
 
 /// Goes on past the parts of a batch. The rows at its last tag are given back, as `judge_batch` does.
@@ -63,13 +63,16 @@ fn finish_parts(
     progress.finish(alloc, plan, left.as_slice())
 }
 
-/// How many bytes of lines so many readers read while the parts are judged. To read rows takes some three
-/// times as long as to judge them.
+/// How many bytes of lines so many readers read while the parts are judged. One takes some three times as long
+/// to read rows as to judge them. Several take about as long, and read all of them.
 fn bytes_beside(parts: &[Vec<Row>], lines: &[u8], readers: u32) -> usize {
     if parts.is_empty() {
-        return 0;
+        0
+    } else if readers > 1 {
+        lines.len()
+    } else {
+        lines.len() / 3
     }
-    (lines.len() / 3).saturating_mul(readers as usize)
 }
 
 /// Goes on past the parts of a batch, while the others of so many workers read the first of the next lines. All
@@ -113,9 +116,9 @@ fn go_beside<T: Threads + Sync>(
     Some((gone, read))
 }
 
-/// What `accepts_reader` does, by so many workers: of several one judges, and the others read. Beside
-/// what is kept, the text of a batch and the rows of two are held. Several say nothing of a text that has a
-/// quotation mark or another header than the plain one.
+/// What `accepts_reader` does, by so many workers: of several one judges, and the others read. Of two both read
+/// what is left. Beside what is kept, the text of a batch and the rows of two are held. Several say nothing of
+/// a text that has a quotation mark or another header than the plain one.
 pub fn accepts_reader_shared<T: Threads + Sync, R: Read + Drop>(
     rt: &T,
     alloc: Global,

@@ -1,4 +1,4 @@
-use Rattle.std.proofs.Common.{◌≡◌, ◌++◌, List, Vec, subst, sym, arith}
+use Rattle.std.proofs.Common.{◌≡◌, ◌++◌, Vec, subst, sym, arith}
 use Rattle.std.{proofs.lemmas.{Grind.{common_steps, flat_map-append}, List.Elements.All-append}, specs.declared.alloc.Global.Global}
 use Rattle.lft_ir.specs.{Steps.Fits.RowsFit, declared.steps.row.Row.Row}
 use Rattle.lft_trace.{specs.inner.Parts.{HoldsRows, rows_of}, proofs.Together.at_some}
