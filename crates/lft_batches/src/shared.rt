@@ -11,7 +11,7 @@ ghost use Rattle.lft_batches.specs.inner.{Parted.PartsFit, Progresses.{IsGoneOn,
 use crate::lines::Lines;
 use crate::progress::{JudgedRows, judge_batch};
 use crate::reader::accepts_reader;
-use crate::text::{batch_bytes, reaction_names};
+use crate::text::reaction_names;
 use lft_ir::steps::Row;
 use lft_model::Plan;
 use lft_stream::RunCounts;
@@ -21,8 +21,9 @@ use std::alloc::Global;
 use std::io::Read;
 use std::thread::{Threads, join};
 
-/// The bytes of a batch for each worker: some milliseconds, beside which a thread costs little.
-const SHARE: usize = 1 << 20;
+/// The bytes of a batch: some milliseconds, beside which a thread costs little. Three readers have a part each, which
+/// is as much as one judges meanwhile. More would wait for it.
+const BATCH: usize = 1 << 21;
 
 /// Goes on past the parts of a batch. The rows at its last tag are given back, as `judge_batch` does.
 fn judge_parts(
@@ -142,12 +143,11 @@ pub fn accepts_reader_shared<T: Threads + Sync, R: Read + Drop>(
     let Ok(mut progress) = JudgedRows::new(alloc, plan) else {
         return Ok(None);
     };
-    let bytes = batch_bytes(plan).max(SHARE * workers as usize);
     let mut waiting = Vec::new(alloc);
     let mut parts = Vec::new(alloc);
     // A table has no more batches than rows.
     for _batch in 0..MAX_ROWS {
-        let Some(lines) = text.next(bytes)? else {
+        let Some(lines) = text.next(BATCH)? else {
             return Ok(None);
         };
         if lines.is_empty() {
