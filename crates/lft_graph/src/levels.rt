@@ -13,7 +13,7 @@ use std::alloc::Global;
 
 /// The short lists, by reaction.
 #[derive(Drop)]
-struct Lists<'a> {
+struct BeforeLists<'a> {
     before: &'a [Members],
 }
 
@@ -25,7 +25,7 @@ fn list_at(before: &[Members], reaction: usize) -> &[u32]
     before[reaction].as_slice()
 }
 
-impl Ways for Lists<'_> {
+impl Ways for BeforeLists<'_> {
     ghost use Rattle.lft_graph.specs.inner.Walks.{members_in};
 
     ghost ways = { λ lists reaction. members_in lists.before.now reaction };
@@ -80,7 +80,7 @@ pub(crate) fn levels(alloc: Global, before: &[Members]) -> Result<Vec<u32>, Grap
     ensures levels { IfOk result (λ v. AreLevels before.now v.items) }
     ensures cycle { (l : List ℕ) → result ≡ Err (GraphFault.CausalityLoop l) → IsLoopOf (IsStep before.now) l }
 {
-    match walk_all(alloc, &Lists { before }, before.len())? {
+    match walk_all(alloc, &BeforeLists { before }, before.len())? {
         Walked::Order(order) => Ok(levels_along(alloc, before, &order)?),
         Walked::Circle(circle) => { Err(GraphFault::CausalityLoop(turned_back(alloc, &circle)?)) }
     }

@@ -1,11 +1,11 @@
 -- What a walk keeps.
 use Rattle.std.proofs.Common.{◌≡◌, ◌≢◌, ℕ, zero, suc, ◌+◌, ◌-◌, ◌<◌, ◌⊎◌, inl, inr, List, [], ◌∷◌, ◌++◌, length, drop, replicate, refl, sym, ap, ◌∙◌, subst, arith, Some, slice_get, slice_set, length-append}
 use Rattle.std.proofs.lemmas.{Bool.cases_lt, Option.slice_get_within, List.length-drop}
-use Rattle.lft_lists.specs.{Walks.{StandOnce, IsCircle}, inner.Walking.{IsOrder, Leads, Has, IsPassed, ArePassed, IsWalk, news, one_new}}
-use Rattle.lft_lists.specs.declared.walk.Mark.{Mark, TheVariants.{New, Open, Done}}
+use Rattle.lft_lists.specs.{Walks.{StandOnce, IsCircle}, inner.Walking.{IsOrder, Leads, Has, IsPassed, WaysPassed, IsWalk, news, one_new}}
+use Rattle.lft_lists.specs.declared.walk.Stage.{Stage, TheVariants.{New, Open, Done}}
 use Rattle.lft_lists.proofs.Places.{get_there, get_written, get_unwritten, get_write_cases, length_written, get_push, get_last, get_push_cases, get_same, length_same, same_some}
 
-news_written : (ms : List Mark) (i : ℕ) (x y : Mark) → slice_get ms i ≡ Some x → news (slice_set ms i y) + one_new x ≡ news ms + one_new y
+news_written : (ms : List Stage) (i : ℕ) (x y : Stage) → slice_get ms i ≡ Some x → news (slice_set ms i y) + one_new x ≡ news ms + one_new y
 news_written [] i x y at = absurd (cc)
 news_written (m ∷ ms) zero x y at = let e : one_new m ≡ one_new x = (let f : m ≡ x = cc in ap one_new f) in omega arith
 news_written (m ∷ ms) (suc i) x y at = let rest = news_written ms i x y at in omega arith
@@ -14,7 +14,7 @@ news_same : (n : ℕ) → news (replicate n New) ≡ n
 news_same zero = refl
 news_same (suc n) = let rest = news_same n in omega arith
 
-news_none : (ms : List Mark) → ((i : ℕ) → slice_get ms i ≢ Some New) → news ms ≡ 0
+news_none : (ms : List Stage) → ((i : ℕ) → slice_get ms i ≢ Some New) → news ms ≡ 0
 news_none [] none = refl
 news_none (New ∷ ms) none = absurd (none 0 refl)
 news_none (Open ∷ ms) none = let rest = news_none ms (λ i. none (suc i)) in omega arith
@@ -24,17 +24,17 @@ length_push : {X : Type 0} (xs : List X) (x : X) → length (xs ++ x ∷ []) ≡
 length_push xs x = length-append xs (x ∷ [])
 
 -- what is passed stays so, where a mark that isn't done is written
-passed_written : (ms : List Mark) (i : ℕ) (x y : Mark) (b : ℕ) → slice_get ms i ≡ Some x → x ≢ Done → IsPassed ms b → IsPassed (slice_set ms i y) b
+passed_written : (ms : List Stage) (i : ℕ) (x y : Stage) (b : ℕ) → slice_get ms i ≡ Some x → x ≢ Done → IsPassed ms b → IsPassed (slice_set ms i y) b
 passed_written ms i x y b at left passed m there = elim (get_write_cases ms i b y m (slice_get_within ms i x at) there) [
   | inl q ↦ absurd (left (passed x (subst (λ k. slice_get ms k ≡ Some x) (sym q.0) at)))
   | inr q ↦ passed m q.1
 ]
 
 -- one that isn't passed has a mark, and is open where it isn't new
-pub left_within : (ms : List Mark) (b : ℕ) → (IsPassed ms b → ⊥) → b < length ms
+pub left_within : (ms : List Stage) (b : ℕ) → (IsPassed ms b → ⊥) → b < length ms
 left_within ms b left = elim (cases_lt b (length ms)) [ inl l ↦ l | inr g ↦ absurd (left (λ m at. absurd (let l = slice_get_within ms b m at in omega arith))) ]
 
-pub left_is_open : (ms : List Mark) (b : ℕ) (m : Mark) → slice_get ms b ≡ Some m → (IsPassed ms b → ⊥) → m ≢ New → slice_get ms b ≡ Some Open
+pub left_is_open : (ms : List Stage) (b : ℕ) (m : Stage) → slice_get ms b ≡ Some m → (IsPassed ms b → ⊥) → m ≢ New → slice_get ms b ≡ Some Open
 left_is_open ms b New at left n = absurd (n refl)
 left_is_open ms b Open at left n = at
 left_is_open ms b Done at left n = absurd (left (λ m there. same_some (slice_get ms b) m Done there at))
@@ -97,7 +97,7 @@ module _ (ways : ℕ → List ℕ) where
   }
 
   -- at its end
-  pub walk_end : (marks : List Mark) (nexts order : List ℕ) → IsWalk ways (length marks) marks nexts [] order → IsOrder (Leads ways) (length marks) order
+  pub walk_end : (marks : List Stage) (nexts order : List ℕ) → IsWalk ways (length marks) marks nexts [] order → IsOrder (Leads ways) (length marks) order
   walk_end marks nexts order w = record {
     as_long = (let c = w.counted in let n = news_none marks none in omega arith);
     within = λ i a at. slice_get_within marks a Done (w.are_done i a at);
@@ -109,12 +109,12 @@ module _ (ways : ℕ → List ℕ) where
       none : (i : ℕ) → slice_get marks i ≢ Some New
       none i at = w.looked i (slice_get_within marks i New at) at
 
-      all : (a : ℕ) (m : Mark) → slice_get marks a ≡ Some m → Has order a
+      all : (a : ℕ) (m : Stage) → slice_get marks a ≡ Some m → Has order a
       all a New at = absurd (none a at)
       all a Open at = absurd (let p = w.on_path a at in let q = p.1 in cc)
       all a Done at = w.in_order a at
 
-  module _ (start : ℕ) (marks : List Mark) (nexts path order : List ℕ) where
+  module _ (start : ℕ) (marks : List Stage) (nexts path order : List ℕ) where
     -- a new number, to which the last one of the path leads, comes behind it
     pub walk_enter : (x limit : ℕ) → ((a : ℕ) → a < limit → (a < start) ⊎ (a ≡ x)) → IsWalk ways start marks nexts path order → slice_get marks x ≡ Some New → ((i a : ℕ) → i + 1 ≡ length path → slice_get path i ≡ Some a → Leads ways a x) → IsWalk ways limit (slice_set marks x Open) nexts (path ++ x ∷ []) order
     walk_enter x limit below w new leads = record {
@@ -141,7 +141,7 @@ module _ (ways : ℕ → List ℕ) where
         within : x < length marks
         within = slice_get_within marks x New new
 
-        cases : (a : ℕ) (m : Mark) → slice_get (slice_set marks x Open) a ≡ Some m → ((a ≡ x) × (Open ≡ m)) ⊎ ((a ≢ x) × (slice_get marks a ≡ Some m))
+        cases : (a : ℕ) (m : Stage) → slice_get (slice_set marks x Open) a ≡ Some m → ((a ≡ x) × (Open ≡ m)) ⊎ ((a ≢ x) × (slice_get marks a ≡ Some m))
         cases a m at = get_write_cases marks x a Open m within at
 
         open_not_new : (a : ℕ) → slice_get marks a ≡ Some Open → slice_get marks a ≡ Some New → ⊥
@@ -153,7 +153,7 @@ module _ (ways : ℕ → List ℕ) where
         earlier : (i a : ℕ) → slice_get (path ++ x ∷ []) i ≡ Some a → i < length path → slice_get path i ≡ Some a
         earlier i a f lt = elim (get_push_cases path x i a f) [ inl old ↦ old | inr last ↦ absurd (let e = last.0 in omega arith) ]
 
-  module _ (start : ℕ) (marks : List Mark) (nexts path order : List ℕ) (top : ℕ) (w : IsWalk ways start marks nexts (path ++ top ∷ []) order) where
+  module _ (start : ℕ) (marks : List Stage) (nexts path order : List ℕ) (top : ℕ) (w : IsWalk ways start marks nexts (path ++ top ∷ []) order) where
     top_open : slice_get marks top ≡ Some Open
     top_open = w.are_open (length path) top (get_last path top)
 
@@ -161,7 +161,7 @@ module _ (ways : ℕ → List ℕ) where
     top_within = let l = w.as_long in let m = slice_get_within marks top Open top_open in omega arith
 
     -- the last number of the path leads to no more
-    pub walk_done : (from : ℕ) → slice_get nexts top ≡ Some from → ArePassed marks (ways top) from (length (ways top)) → IsWalk ways start (slice_set marks top Done) nexts path (order ++ top ∷ [])
+    pub walk_done : (from : ℕ) → slice_get nexts top ≡ Some from → WaysPassed marks (ways top) from (length (ways top)) → IsWalk ways start (slice_set marks top Done) nexts path (order ++ top ∷ [])
     walk_done from next rest = record {
       as_long = w.as_long ∙ sym (length_written marks top Done);
       counted = (let c = w.counted in let n = news_written marks top Open Done top_open in let l = length_written marks top Done in let p = length_push path top in let o = length_push order top in omega arith);
@@ -186,7 +186,7 @@ module _ (ways : ℕ → List ℕ) where
         within : top < length marks
         within = slice_get_within marks top Open top_open
 
-        cases : (a : ℕ) (m : Mark) → slice_get (slice_set marks top Done) a ≡ Some m → ((a ≡ top) × (Done ≡ m)) ⊎ ((a ≢ top) × (slice_get marks a ≡ Some m))
+        cases : (a : ℕ) (m : Stage) → slice_get (slice_set marks top Done) a ≡ Some m → ((a ≡ top) × (Done ≡ m)) ⊎ ((a ≢ top) × (slice_get marks a ≡ Some m))
         cases a m at = get_write_cases marks top a Done m within at
 
         apart : (i : ℕ) → slice_get path i ≢ Some top
@@ -210,7 +210,7 @@ module _ (ways : ℕ → List ℕ) where
             (j.0, omega arith, get_push order top j.0 b j.1)
 
     -- it leads to one that isn't passed, and to none such before
-    pub walk_on : (from place : ℕ) → slice_get nexts top ≡ Some from → ArePassed marks (ways top) from place → IsWalk ways start marks (slice_set nexts top place) (path ++ top ∷ []) order
+    pub walk_on : (from place : ℕ) → slice_get nexts top ≡ Some from → WaysPassed marks (ways top) from place → IsWalk ways start marks (slice_set nexts top place) (path ++ top ∷ []) order
     walk_on from place next between = record {
       as_long = length_written nexts top place ∙ w.as_long;
       counted = w.counted;
@@ -226,7 +226,7 @@ module _ (ways : ℕ → List ℕ) where
       passed = λ a n at. elim (get_write_cases nexts top a place n top_within at) [ inl q ↦ up a n q.0 q.1 | inr q ↦ w.passed a n q.1 ];
     }
       where
-        up : (a n : ℕ) → a ≡ top → place ≡ n → ArePassed marks (ways a) 0 n
+        up : (a n : ℕ) → a ≡ top → place ≡ n → WaysPassed marks (ways a) 0 n
         up a n e f k b low lt is =
             let here : slice_get (ways top) k ≡ Some b = subst (λ t. slice_get (ways t) k ≡ Some b) e is in
             elim (cases_lt k from) [ inl l ↦ w.passed top from next k b low l here | inr g ↦ between k b g (omega arith) here ]

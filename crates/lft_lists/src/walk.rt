@@ -2,7 +2,7 @@
 //! leads to, or a circle.
 
 ghost use Rattle.std.specs.Prelude.{◌≡◌, ◌≢◌, ℕ, List, [], Some, ◌+◌, ◌<◌, ◌≤◌, ◌^◌, ◌↔◌, IfOk, IfSome, IfNone, IsTrue, drop, length, slice_get};
-ghost use Rattle.lft_lists.specs.{Walks.IsCircle, inner.Walking.{ArePassed, Has, IsPassed, IsWalk, IsWalked, Leads}, declared.walk.Mark.TheVariants.New};
+ghost use Rattle.lft_lists.specs.{Walks.IsCircle, inner.Walking.{WaysPassed, Has, IsPassed, IsWalk, IsWalked, Leads}, declared.walk.Stage.TheVariants.New};
 
 use crate::item_at;
 use std::alloc::{AllocError, Global};
@@ -30,29 +30,29 @@ pub enum Walked {
 
 /// How far a number is looked at: not yet, on the path, or to the end.
 #[derive(Clone, Copy, PartialEq, Eq, Drop)]
-enum Mark {
+enum Stage {
     New,
     Open,
     Done,
 }
 
 /// Whether the walk is done with the number. One past the end stands for none.
-fn is_passed(marks: &[Mark], number: usize) -> bool
+fn is_passed(marks: &[Stage], number: usize) -> bool
     ensures { IsTrue result ↔ IsPassed marks.now number }
 {
-    number >= marks.len() || marks[number] == Mark::Done
+    number >= marks.len() || marks[number] == Stage::Done
 }
 
 /// The first way of a number, from that place on, to one that the walk isn't done with: its place, and where it
 /// leads.
 fn first_left<W: Ways>(
     ways: &W,
-    marks: &[Mark],
+    marks: &[Stage],
     number: usize,
     from: usize,
 ) -> Option<(usize, usize)>
-    ensures some { IfSome result (λ p. (slice_get (W.ways ways.now number) p.0 ≡ Some p.1) × (¬ IsPassed marks.now p.1) × ArePassed marks.now (W.ways ways.now number) from p.0) }
-    ensures none { IfNone result (ArePassed marks.now (W.ways ways.now number) from (length (W.ways ways.now number))) }
+    ensures some { IfSome result (λ p. (slice_get (W.ways ways.now number) p.0 ≡ Some p.1) × (¬ IsPassed marks.now p.1) × WaysPassed marks.now (W.ways ways.now number) from p.0) }
+    ensures none { IfNone result (WaysPassed marks.now (W.ways ways.now number) from (length (W.ways ways.now number))) }
 {
     let mut place = from;
     'ways: while let Some(next) = ways.way(number, place) {
@@ -80,7 +80,7 @@ fn path_from(alloc: Global, path: &[usize], number: usize) -> Result<Vec<usize>,
 fn walk_from<W: Ways>(
     alloc: Global,
     ways: &W,
-    marks: &mut [Mark],
+    marks: &mut [Stage],
     nexts: &mut [usize],
     order: &mut Vec<usize>,
     start: usize,
@@ -91,27 +91,27 @@ fn walk_from<W: Ways>(
     ensures circle { IfOk result (λ found. IfSome found (λ v. IsCircle (Leads (W.ways ways.now)) v.items)) }
 {
     match item_at(marks, start) {
-        Mark::New => {}
+        Stage::New => {}
         _ => return Ok(None),
     }
     // A list, so that no depth of calls grows with the input.
     let mut path = Vec::new(alloc);
-    marks[start] = Mark::Open;
+    marks[start] = Stage::Open;
     path.push(start)?;
     'walk: while let Some(top) = path.pop() {
         match first_left(ways, marks, top, nexts[top]) {
             None => {
-                marks[top] = Mark::Done;
+                marks[top] = Stage::Done;
                 order.push(top)?;
             }
             Some((place, next)) => {
                 nexts[top] = place;
                 path.push(top)?;
                 match item_at(marks, next) {
-                    Mark::New => {}
+                    Stage::New => {}
                     _ => return Ok(Some(path_from(alloc, &path, next)?)),
                 }
-                marks[next] = Mark::Open;
+                marks[next] = Stage::Open;
                 path.push(next)?;
             }
         }
@@ -124,7 +124,7 @@ fn walk_from<W: Ways>(
 pub fn walk_all<W: Ways>(alloc: Global, ways: &W, count: usize) -> Result<Walked, AllocError>
     ensures { IfOk result (IsWalked (W.ways ways.now) count) }
 {
-    let mut marks = vec![in alloc; Mark::New; count]?;
+    let mut marks = vec![in alloc; Stage::New; count]?;
     let mut nexts = vec![in alloc; 0; count]?;
     let mut order = Vec::new(alloc);
     'starts: for start in 0..count {

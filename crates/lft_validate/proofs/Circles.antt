@@ -5,7 +5,7 @@ use Rattle.lft_resolve.specs.{declared.expansion.walk.Contents.Contents, Causes.
 use Rattle.lft_resolve.specs.inner.Numbers.{IsReactorNumberOf, IsContents, AreContents}
 use Rattle.lft_resolve.proofs.{Files.AllZip-from, Twice.Any-at}
 use Rattle.lft_lists.{specs.{Walks.IsCircle as IsCircleOf, inner.Walking.Leads}, proofs.{Places.{get_there, same_some}, Walking.{circle_along, circle_back}}}
-use Rattle.lft_validate.{specs.inner.{Circles.{instances_of as instances_inside, instances_in}, Witnesses.{HoldsAt, IsCircle}}, proofs.Founding.deeper}
+use Rattle.lft_validate.{specs.inner.{Circles.{instances_inside, instances_in}, Witnesses.{HoldsAt, IsCircle}}, proofs.Founding.deeper}
 
 module _ (rs : List ReactorTree) (table : List Contents) (all : AreContents rs table) where
   held : (a b : ℕ) → Leads (instances_in table) a b → HoldsAt rs a b

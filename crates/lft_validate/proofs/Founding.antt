@@ -6,7 +6,7 @@ use Rattle.lft_resolve.specs.{declared.expansion.walk.Contents.Contents, inner.N
 use Rattle.lft_resolve.specs.{Causes.{Holds, HoldsDeep, directly, through, RecursiveReactor}, Instances.reactor_named}
 use Rattle.lft_resolve.proofs.{Directed.AllZip-to, Twice.at-Any}
 use Rattle.lft_lists.specs.inner.Walking.{IsOrder, Leads}
-use Rattle.lft_validate.specs.inner.Circles.{instances_of as instances_inside, instances_in}
+use Rattle.lft_validate.specs.inner.Circles.{instances_inside, instances_in}
 
 -- one step more
 pub deeper : (rs : List ReactorTree) (a b c : ReactorTree) → HoldsDeep rs a b → Holds rs b c → HoldsDeep rs a c

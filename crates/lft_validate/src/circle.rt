@@ -12,11 +12,11 @@ use std::alloc::Global;
 
 /// What each reactor contains.
 #[derive(Drop)]
-struct Table<'a> {
+struct ContentsTable<'a> {
     contents: &'a [Contents],
 }
 
-impl Ways for Table<'_> {
+impl Ways for ContentsTable<'_> {
     ghost use Rattle.lft_validate.specs.inner.Circles.{instances_in};
 
     ghost ways = { λ table reactor. instances_in table.contents.now reactor };
@@ -41,7 +41,7 @@ pub fn circle_of(alloc: Global, contents: &[Contents]) -> Result<Option<Vec<usiz
     ensures some { IfOk result (λ found. IfSome found (λ _. (rs : List ReactorTree) → AreContents rs contents.now → RecursiveReactor rs)) }
     ensures none { IfOk result (λ found. IfNone found ((rs : List ReactorTree) → AreContents rs contents.now → ¬ RecursiveReactor rs)) }
 {
-    match walk_all(alloc, &Table { contents }, contents.len())? {
+    match walk_all(alloc, &ContentsTable { contents }, contents.len())? {
         Walked::Order(_) => Ok(None),
         Walked::Circle(circle) => Ok(Some(circle)),
     }

@@ -3,10 +3,10 @@ use Rattle.std.specs.Prelude.{ℕ, List, [], Option, Some, None, slice_get}
 use Rattle.lft_resolve.specs.declared.expansion.walk.Contents.{Contents}
 
 -- the instances in a reactor, if there is one
-abbrev pub instances_of : Option Contents → List ℕ
-instances_of None = []
-instances_of (Some c) = c.instances.items
+abbrev pub instances_inside : Option Contents → List ℕ
+instances_inside None = []
+instances_inside (Some c) = c.instances.items
 
 -- the instances in the reactor at a place
 abbrev pub instances_in : List Contents → ℕ → List ℕ
-instances_in table reactor = instances_of (slice_get table reactor)
+instances_in table reactor = instances_inside (slice_get table reactor)

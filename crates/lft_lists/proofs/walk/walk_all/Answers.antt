@@ -1,5 +1,5 @@
 use Rattle.std.proofs.Common.{◌≡◌, [], length, replicate, subst, arith}
-use Rattle.lft_lists.specs.{declared.walk.Mark.TheVariants.New, inner.Walking.{IsOrder, IsWalk, Leads}}
+use Rattle.lft_lists.specs.{declared.walk.Stage.TheVariants.New, inner.Walking.{IsOrder, IsWalk, Leads}}
 use Rattle.lft_lists.proofs.{Places.length_same, Walking.{walk_end, walk_start}}
 use Rattle.lft_lists.proofs.walk.walk_all.Goals as goal
 

@@ -1,6 +1,6 @@
 use Rattle.std.proofs.Common.{rules, ◌≡◌, ◌+◌, ◌<◌, inl, inr, [], ◌∷◌, ◌++◌, Some, drop, length, get_or, slice_get, slice_set, sym, ap, ◌∙◌, subst, arith}
 use Rattle.std.proofs.lemmas.{Bool.cases_eq, Option.slice_get-get_or}
-use Rattle.lft_lists.specs.{declared.walk.Mark.TheVariants.{New, Open}, inner.Walking.{Has, IsWalk}}
+use Rattle.lft_lists.specs.{declared.walk.Stage.TheVariants.{New, Open}, inner.Walking.{Has, IsWalk}}
 use Rattle.lft_lists.proofs.Walking.{left_is_open, left_within, top_within, walk_circle, walk_done, walk_enter, walk_on, last_leads}
 use Rattle.lft_lists.proofs.walk.walk_from.Goals as goal
 
