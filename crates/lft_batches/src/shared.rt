@@ -21,9 +21,9 @@ use std::alloc::Global;
 use std::io::Read;
 use std::thread::{Threads, join};
 
-/// The bytes of a batch: some milliseconds, beside which a thread costs little. Three readers have a part each, which
-/// is as much as one judges meanwhile. More would wait for it.
-const BATCH: usize = 1 << 21;
+/// The bytes of a batch: some milliseconds, beside which a thread costs little. Three readers take about as long as one
+/// judges, and more would wait. Two thirds of a batch are long enough for `read_lines` to part them.
+const BATCH: usize = 7 << 18;
 
 /// Goes on past the parts of a batch. The rows at its last tag are given back, as `judge_batch` does.
 fn judge_parts(
