@@ -5,7 +5,7 @@ use Rattle.lft_lists.proofs.{Mapped.option_map_some, Places.same_some, Members.{
 use Rattle.lft_tree.specs.{Tree.{AssignmentTree, InstanceTree, ReactorTree, instances_of, reactors_of}, View.tree_view, declared.ast.Ast.Ast}
 use Rattle.lft_resolve.specs.Causes.{NoneHolds, causes}
 use Rattle.lft_resolve.specs.Instances.{Inside as CoreInside, entered as core_entered, given_in as core_given_in, main_instance as core_main, main_of as core_main_of, reactor_named}
-use Rattle.lft_program.proofs.{Ordered.AllZip-to, Zips.AllZip-from}
+use Rattle.lft_resolve.proofs.{Directed.AllZip-to, Files.AllZip-from}
 use Rattle.lft_whole.specs.declared.sources.source.SourceFile.{SourceFile}
 use Rattle.lft_classes.specs.declared.shapes.Shape.{Shape}
 use Rattle.lft_elaborate.specs.inner.{Meanings.shape_inside, Values.{Valued, main_setting, main_values}}
