@@ -1,19 +1,21 @@
 #![tactic(auto)]
-//! The tests of what no clause says and what needs code: readers and writers that are interrupted or fail, bodies and
-//! books, who is told of a tag, and in `refused` growths of memory that are refused. What is text in and text out is
-//! a case in the folder `cases`.
+//! The tests of what no clause says and what needs code: who is told of a tag; rows that are followed as they come;
+//! books driven by hand, and recordings. In `driver` the calls on texts: inputs with two lengths, and readers and
+//! writers that are interrupted or fail. What is text in and text out is a case in the folder `cases`.
 
 #[cfg(test)]
-mod bodies;
+mod answers;
 #[cfg(test)]
 mod books;
 #[cfg(test)]
-mod calls;
+mod closures;
+pub mod driver;
 #[cfg(test)]
-mod readers;
+mod followers;
 #[cfg(test)]
 mod recordings;
-pub mod refused;
+#[cfg(test)]
+mod stops;
 #[cfg(test)]
 mod texts;
 #[cfg(test)]

@@ -2,7 +2,7 @@
 
 ghost use Rattle.lft_ir.specs.Steps.Fits.{RowsFit};
 
-use crate::texts::{NO_ROWS, plan, rows};
+use crate::texts::{AGAIN, plan, rows};
 use lft_check::{CheckFault, Verdict, Watch, judge, judge_alone};
 use lft_ir::steps::Rows;
 use lft_model::Plan;
@@ -28,12 +28,11 @@ impl Watch for Digits {
     }
 }
 
-/// Two reactions, of which the first precedes the second, at two tags.
-const TWICE: &[u8] = b"main reactor { timer t(0, 1 ns) reaction(t) {= =} reaction(t) {= =} }";
+const TWO: &[u8] = b"main reactor { timer t(0, 1 ns) reaction(t) {= =} reaction(t) {= =} }";
 
-const TWO_TAGS: &[u8] = b"kind,time,microstep,name,value\nstop,1,0,,\n";
+const EXTERNALS: &[u8] = b"kind,time,microstep,name,value\nstop,2,0,,\n";
 
-/// Two runs one after another at each tag.
+/// Two runs one after another at each of three tags.
 const RUNS: &[u8] = b"event,worker,time,microstep,reaction,name,value,delay
 start,0,0,0,main#1,,,
 end,0,0,0,main#1,,,
@@ -43,23 +42,35 @@ start,0,1,0,main#1,,,
 end,0,1,0,main#1,,,
 start,0,1,0,main#2,,,
 end,0,1,0,main#2,,,
+start,0,2,0,main#1,,,
+end,0,2,0,main#1,,,
+start,0,2,0,main#2,,,
+end,0,2,0,main#2,,,
 ";
 
-/// At the first tag the second run begins too early.
+/// At the second tag the second run begins too early.
 const EARLY: &[u8] = b"event,worker,time,microstep,reaction,name,value,delay
 start,0,0,0,main#1,,,
-start,1,0,0,main#2,,,
 end,0,0,0,main#1,,,
-end,1,0,0,main#2,,,
+start,0,0,0,main#2,,,
+end,0,0,0,main#2,,,
 start,0,1,0,main#1,,,
+start,1,1,0,main#2,,,
 end,0,1,0,main#1,,,
-start,0,1,0,main#2,,,
-end,0,1,0,main#2,,,
+end,1,1,0,main#2,,,
+start,0,2,0,main#1,,,
+end,0,2,0,main#1,,,
+start,0,2,0,main#2,,,
+end,0,2,0,main#2,,,
 ";
 
 /// A run that doesn't end.
 const OPEN: &[u8] = b"event,worker,time,microstep,reaction,name,value,delay
 start,0,0,0,main#1,,,
+";
+
+/// No run.
+const NONE: &[u8] = b"event,worker,time,microstep,reaction,name,value,delay
 ";
 
 /// Judges rows, and answers whether there was memory. Who is told is asked, and not the verdict.
@@ -82,11 +93,18 @@ fn told(alloc: Global, plan: &Plan, table: &[u8]) -> Result<u64, NoMemory> {
     }
 }
 
-// up to the first breach, and none where a row breaks a rule
+/// A copy of the plan of `TWO`.
+fn copied(alloc: Global) -> Result<Plan, NoMemory> {
+    let plan = plan(alloc, TWO, EXTERNALS)?;
+    plan.copy(alloc)
+}
+
+// up to the first breach, and none where a row breaks a rule; a copy is the same by its clause, but
+// no clause says that there is one
 #[test]
-fn tells_the_tags_that_are_judged(rt: HostRuntime) -> Result<(), Fail> {
-    let plan = plan(rt.alloc(), TWICE, TWO_TAGS)?;
-    for (table, digits) in [(RUNS, 12), (EARLY, 1), (OPEN, 0), (NO_ROWS, 0)] {
+fn tells_the_tags_that_a_copy_is_judged_at(rt: HostRuntime) -> Result<(), Fail> {
+    let plan = copied(rt.alloc())?;
+    for (table, digits) in [(RUNS, 123), (EARLY, 12), (OPEN, 0), (NONE, 0)] {
         assert!(rt; told(rt.alloc(), &plan, table) == Ok(digits), "{digits}");
     }
     Ok(())
@@ -115,10 +133,6 @@ impl Watch for Hold {
         self.late.store(true, Ordering::SeqCst);
     }
 }
-
-/// A reaction schedules an action, and another one reads it.
-const AGAIN: &[u8] =
-    b"main reactor { logical action n reaction(startup) -> n {= =} reaction(n) {= =} }";
 
 const AGAIN_EXTERNALS: &[u8] = b"kind,time,microstep,name,value\nstop,0,1,,\n";
 

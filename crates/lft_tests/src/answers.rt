@@ -9,12 +9,16 @@ use lft_pool::{AnyAnswer, Bodies, Body, Code, Done, Steps};
 use lft_tag::{NoMemory, Tag};
 use std::alloc::Global;
 
-/// Code that leaves a state word and takes steps whatever it is given. Where it has no steps it has no memory.
+/// Code that gives its answer whatever it is given.
 #[derive(Drop)]
 pub(crate) struct Prepared {
-    pub(crate) alloc: Global,
-    pub(crate) word: i64,
-    pub(crate) steps: Option<&'static [Step]>,
+    answer: Result<Done, NoMemory>,
+}
+
+impl Prepared {
+    pub(crate) fn new(answer: Result<Done, NoMemory>) -> Prepared {
+        Prepared { answer }
+    }
 }
 
 impl Code for Prepared {
@@ -22,21 +26,12 @@ impl Code for Prepared {
 
     ghost gives = { λ _ _ _ _ _. Unit {0} };
 
-    ghost repeats = { λ _. Unit {0} };
-
     fn run(self, _tag: Tag, _state: i64, _reads: Reads) -> Result<Done, NoMemory> {
-        match self.steps {
-            Some(steps) => done(self.alloc, self.word, steps),
-            None => Err(NoMemory),
-        }
+        self.answer
     }
 
     fn again(&self) -> Option<Self> {
-        Some(Prepared {
-            alloc: self.alloc,
-            word: self.word,
-            steps: self.steps,
-        })
+        None
     }
 }
 
@@ -52,22 +47,11 @@ pub(crate) fn done(alloc: Global, state: i64, steps: &[Step]) -> Result<Done, No
     Ok(Done { state, steps })
 }
 
-/// The step that writes a number to a port.
-pub(crate) fn write(port: u32, value: i64) -> Step {
-    Step::Write(Name::Port(port), Value::Int(value))
-}
-
-/// A body of a reaction that takes no step.
-pub(crate) fn idle_body(alloc: Global, reaction: u32) -> PreparedBody
+/// A body of the reaction with this answer.
+pub(crate) fn body(reaction: u32, answer: Result<Done, NoMemory>) -> PreparedBody
     ensures { result ≡ reaction }
 {
-    body_of(
-        alloc,
-        Answer {
-            reaction,
-            steps: Some(&[]),
-        },
-    )
+    Body::new(reaction, Prepared::new(answer))
 }
 
 /// Puts a body behind the others of its reaction.
@@ -83,36 +67,42 @@ pub(crate) fn put_body<C: Code + Drop>(
     }
 }
 
-/// What the body of a run of this reaction answers: its steps, or want of memory.
+/// What the body of a run of this reaction answers: the state word that it leaves, and its steps.
 #[derive(Clone, Copy)]
-pub(crate) struct Answer {
+pub(crate) struct Answer<'a> {
     pub(crate) reaction: u32,
-    pub(crate) steps: Option<&'static [Step]>,
+    pub(crate) state: i64,
+    pub(crate) steps: &'a [Step],
 }
 
-/// The body with this answer.
-fn body_of(alloc: Global, answer: Answer) -> PreparedBody
-    ensures { result ≡ answer.reaction }
-{
-    let code = Prepared {
-        alloc,
-        word: 0,
-        steps: answer.steps,
+/// The body with this answer, or with want of memory in its place.
+fn body_of(alloc: Global, answer: Answer<'_>, is_failing: bool) -> PreparedBody {
+    let done = if is_failing {
+        Err(NoMemory)
+    } else {
+        done(alloc, answer.state, answer.steps)
     };
-    Body::new(answer.reaction, code)
+    body(answer.reaction, done)
 }
 
-/// Bodies with these answers, each behind the others of its reaction.
+/// Bodies with these answers, each behind the others of its reaction. That of this place answers want
+/// of memory.
 pub(crate) fn bodies_of(
     alloc: Global,
     plan: &Plan,
-    answers: &[Answer],
+    answers: &[Answer<'_>],
+    failing: Option<usize>,
 ) -> Result<PreparedBodies, NoMemory>
     ensures { IfOk result (λ bodies. length bodies ≡ length plan.now.program.reactions) }
 {
     let mut bodies = PreparedBodies::new(alloc, plan.program())?;
-    for answer in answers.iter() {
-        put_body(&mut bodies, body_of(alloc, *answer))?;
+    for (place, answer) in answers.iter().enumerate() {
+        put_body(&mut bodies, body_of(alloc, *answer, failing == Some(place)))?;
     }
     Ok(bodies)
+}
+
+/// The step that writes a number to a port.
+pub(crate) fn write(port: u32, value: i64) -> Step {
+    Step::Write(Name::Port(port), Value::Int(value))
 }
