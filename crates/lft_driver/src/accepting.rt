@@ -5,11 +5,11 @@ ghost use Rattle.lft_ir.specs.Steps.Fits.{RowsFit};
 ghost use Rattle.lft_check.specs.{declared.verdict.Verdict.TheVariants.Accepted, Verdicts.IsVerdict};
 ghost use Rattle.lft_driver.specs.inner.Accepting.{IsRight};
 
-use lft_batches::{accepts_reader, accepts_rows};
 use lft_check::Verdict;
 use lft_ir::steps::Rows;
 use lft_model::Plan;
 use lft_stream::RunCounts;
+use lft_stream::batches::{accepts_reader, accepts_rows};
 use std::alloc::Global;
 
 /// The verdict on rows that are accepted with these counts.

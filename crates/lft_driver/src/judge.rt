@@ -13,13 +13,13 @@ ghost use Rattle.lft_load.specs.declared.fault.Part.TheVariants as part;
 
 use crate::accepting::{accepted, accepted_by, accepted_text};
 use crate::line::verdict_line;
-use lft_batches::accepts_reader_shared;
 use lft_check::{CheckFault, NoWatch, Verdict, judge};
 use lft_ir::Program;
 use lft_ir::steps::Rows;
 use lft_load::{Fault, Part, load, write_text};
 use lft_model::laws::law_one_worker;
 use lft_model::{Plan, is_workers};
+use lft_stream::batches::accepts_reader_shared;
 use lft_trace::read_trace_shared;
 use std::alloc::Global;
 use std::io::Write;

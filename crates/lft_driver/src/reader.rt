@@ -9,10 +9,10 @@ ghost use Rattle.lft_load.specs.declared.fault.Part.TheVariants as part;
 
 use crate::accepting::accepted_by;
 use crate::judge::tell;
-use lft_batches::accepts_reader_shared;
 use lft_check::Verdict;
 use lft_load::{Fault, Part};
 use lft_model::{Plan, is_workers};
+use lft_stream::batches::accepts_reader_shared;
 use std::alloc::Global;
 use std::io::{Read, Write};
 use std::thread::Threads;

@@ -1,8 +1,0 @@
-use Rattle.std.proofs.Common.{◌++◌, take}
-use Rattle.lft_ir.specs.Steps.Fits.{RowsFit}
-use Rattle.lft_trace.specs.inner.Parts.{rows_of}
-use Rattle.lft_batches.specs.inner.Progresses.{IsGoneOn}
-use Rattle.lft_batches.proofs.shared.judge_parts.Given as goal
-
-abbrev pub invariant-loop-place : goal.invariant-loop-place
-invariant-loop-place l = record { fit : RowsFit l.plan.program l.waiting.items; gone : IsGoneOn l.plan l.fn.progress l.progress (l.fn.waiting.items ++ rows_of (take l.place l.parts.items)) l.waiting.items }

@@ -1,0 +1,58 @@
+-- A batch of rows in parts, which are judged one after another.
+use Rattle.std.proofs.Common.{◌≡◌, ◌∙◌, ℕ, ◌+◌, ◌≤◌, List, [], ◌∷◌, ◌++◌, Vec, inl, inr, length, take, drop, add-one, ap, refl, sym, subst, arith, get_or, slice_get, Some}
+use Rattle.std.specs.declared.alloc.Global.{Global}
+use Rattle.std.proofs.lemmas.{Grind.flat_map-append, List.{append_assoc, append-nil, length-append, take-append-drop}}
+use Rattle.std.proofs.lemmas.Option.{get_or_from_slice_get, slice_get-get_or, slice_get_within}
+use Rattle.std.proofs.Math.Seq.{take-suc}
+use Rattle.lft_ir.specs.{Parts.Parts, Steps.Fits.RowsFit, declared.steps.row.Row.Row}
+use Rattle.lft_lists.proofs.Places.{get_left, get_right}
+use Rattle.lft_trace.{specs.{Parts.HasNoQuote, inner.Parts.{HoldsRows, IsCut, rows_of}}, proofs.{Beginning.{begins_all, begins_lines, begins_more}, Together.holds_both}}
+use Rattle.lft_model.specs.Plans.{PlanParts}
+use Rattle.lft_stream.specs.{inner.Batches.{Parted.PartsFit, Progresses.IsGoneOn}, declared.batches.progress.JudgedRows.JudgedRows}
+
+module _ (parts : List (Vec Row Global)) (n : ℕ) (part : Vec Row Global) (at : slice_get parts n ≡ Some part) where
+  before : take (n + 1) parts ≡ take n parts ++ (part ∷ [])
+  before = ap (λ k. take k parts) (add-one n) ∙ take-suc parts n part (slice_get_within parts n part at) ∙ ap (λ (p : Vec Row Global). take n parts ++ (p ∷ [])) (get_or_from_slice_get parts n part part at)
+
+  -- the rows of the parts up to one, and this one's
+  pub rows_more : rows_of (take (n + 1) parts) ≡ rows_of (take n parts) ++ part.items
+  rows_more = ap rows_of before ∙ flat_map-append (λ (p : Vec Row Global). p.items) (take n parts) (part ∷ []) ∙ ap (λ (t : List Row). rows_of (take n parts) ++ t) (append-nil part.items)
+
+  split : rows_of parts ≡ (rows_of (take n parts) ++ part.items) ++ rows_of (drop (n + 1) parts)
+  split = ap rows_of (sym (take-append-drop (n + 1) parts)) ∙ flat_map-append (λ (p : Vec Row Global). p.items) (take (n + 1) parts) (drop (n + 1) parts) ∙ ap (λ (t : List Row). t ++ rows_of (drop (n + 1) parts)) rows_more
+
+  -- its rows fit where those of all parts do
+  part_fits : (program : Parts) → RowsFit program (rows_of parts) → RowsFit program part.items
+  part_fits program all =
+      let a = rows_of (take n parts) in
+      let b = part.items in
+      let c = rows_of (drop (n + 1) parts) in
+      let fit : RowsFit program ((a ++ b) ++ c) = subst (RowsFit program) split all in
+      let few : length ((a ++ b) ++ c) ≤ 4000000 = fit.few in
+      record {
+        few = omega (arith, length-append (a ++ b) c, length-append a b, few);
+        each = λ i row e. fit.each (length a + i) row (get_left (a ++ b) c (length a + i) row (get_right a b i ∙ e));
+      }
+
+-- so do those of each part
+pub parts_fit : (program : Parts) (parts : List (Vec Row Global)) → RowsFit program (rows_of parts) → PartsFit program parts
+parts_fit program parts all k d within = part_fits parts k (get_or parts k d) (slice_get-get_or parts k d within) program all
+
+-- the rows of a text's first lines, and those of what stands behind them, are the text's rows
+pub holds_cut : (program : Parts) (text lines behind : List ℕ) (rows more : List Row) → IsCut text lines behind → HoldsRows program lines rows → HoldsRows program behind more → HoldsRows program text (rows ++ more)
+holds_cut program text lines behind rows more (is, inr ends) x y = holds_both program text lines behind rows more is ends.0 ends.1 x y
+holds_cut program text lines behind rows more (is, inl none) x y =
+    let last = begins_lines program behind behind [] more (sym (append-nil behind), inl refl) y in (
+      subst HasNoQuote (sym (is ∙ ap (λ (t : List ℕ). lines ++ t) none ∙ append-nil lines)) x.0,
+      begins_all program text (rows ++ more) (begins_more program text behind [] rows more (begins_lines program text lines behind rows (is, inl none) x) last),
+    )
+
+-- a part behind others is gone past with those
+pub part_gone : (plan : PlanParts) (old mid new : JudgedRows) (w x y l left : List Row) → IsGoneOn plan old mid (w ++ x) l → IsGoneOn plan mid new (l ++ y) left → IsGoneOn plan old new (w ++ (x ++ y)) left
+part_gone plan old mid new w x y l left one two t so =
+    let u = one t so in
+    let v = two u.0 u.1 in
+    (v.0, v.1, v.2 ∙ sym (append_assoc u.0 l y) ∙ ap (λ (r : List Row). r ++ y) u.2 ∙ regroup)
+  where
+    regroup : (t ++ (w ++ x)) ++ y ≡ t ++ (w ++ (x ++ y))
+    regroup = simp append_assoc

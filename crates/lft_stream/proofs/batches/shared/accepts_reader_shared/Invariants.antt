@@ -1,0 +1,15 @@
+use Rattle.std.proofs.Common.{◌≡◌, ◌++◌, ℕ, List, Some, IfSome}
+use Rattle.lft_ir.specs.{Steps.Fits.RowsFit, declared.steps.row.Row.Row}
+use Rattle.lft_trace.specs.inner.Parts.{rows_of}
+use Rattle.lft_stream.specs.inner.Batches.{Lines.text_left, Parted.PartsFit, Progresses.{IsProgress, IsReadUpTo}}
+use Rattle.lft_stream.proofs.batches.shared.accepts_reader_shared.Given as goal
+
+abbrev pub invariant-loop-batch : goal.invariant-loop-batch
+invariant-loop-batch g l =
+    let remaining = g.R.Read.remaining in
+    record {
+      fit : RowsFit l.plan.program l.waiting.items;
+      parts_fit : PartsFit l.plan.program l.parts.items;
+      stands : (t : List Row) × IsProgress l.plan t l.progress;
+      read : IfSome (remaining l.fn.source) (λ text. (rest : List ℕ) × (text_left remaining l.text ≡ Some rest) × IsReadUpTo l.plan text l.progress (l.waiting.items ++ rows_of l.parts.items) rest);
+    }

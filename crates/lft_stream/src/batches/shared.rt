@@ -1,0 +1,174 @@
+//! Trace tables that are accepted from what a reader gives by several workers: while one judges a batch of
+//! rows, the others read what comes next.
+
+ghost use Rattle.std.specs.Prelude.{◌++◌, ◌≤◌, List, IfOk, IfSome, length};
+ghost use Rattle.std.specs.Thread.{IsSync};
+ghost use Rattle.lft_ir.specs.{Steps.Fits.RowsFit, declared.steps.row.Row.Row as TheRow};
+ghost use Rattle.lft_trace.specs.{Records.records_of, Traces.Table, inner.Parts.{HoldsRows, rows_of}};
+ghost use Rattle.lft_rows.specs.Accepted.{IsAccepted};
+ghost use Rattle.lft_stream.specs.inner.Batches.{Parted.PartsFit, Progresses.{IsGoneOn, IsProgress}};
+
+use crate::batches::lines::Lines;
+use crate::batches::progress::{JudgedRows, judge_batch};
+use crate::batches::reader::accepts_reader;
+use crate::batches::text::reaction_names;
+use lft_ir::steps::Row;
+use lft_model::Plan;
+use crate::RunCounts;
+use lft_tag::MAX_ROWS;
+use lft_trace::{ReactionNames, ReadFailed, first_lines, read_lines};
+use std::alloc::Global;
+use std::io::Read;
+use std::thread::{Threads, join};
+
+/// The bytes of a batch: some milliseconds, beside which a thread costs little. Three readers take about as long as one
+/// judges, and more would wait. Two thirds of a batch are long enough for `read_lines` to part them.
+const BATCH: usize = 7 << 18;
+
+/// Goes on past the parts of a batch. The rows at its last tag are given back, as `judge_batch` does.
+fn judge_parts(
+    progress: JudgedRows,
+    alloc: Global,
+    plan: &Plan,
+    waiting: Vec<Row>,
+    parts: Vec<Vec<Row>>,
+) -> Option<(JudgedRows, Vec<Row>)>
+    requires waiting_fit { RowsFit plan.now.program waiting.items }
+    requires parts_fit { PartsFit plan.now.program parts.items }
+    requires stands { (t : List TheRow) × IsProgress plan.now t progress }
+    ensures fit { IfSome result (λ p. RowsFit plan.now.program p.1.items) }
+    ensures gone { IfSome result (λ p. IsGoneOn plan.now progress p.0 (waiting.items ++ rows_of parts.items) p.1.items) }
+{
+    let mut progress = progress;
+    let mut waiting = waiting;
+    for place in 0..parts.len() {
+        waiting = judge_batch(&mut progress, alloc, plan, waiting, parts[place].as_slice())?;
+    }
+    Some((progress, waiting))
+}
+
+/// Judges the last parts. The counts, where nothing is owed up to the stop.
+fn finish_parts(
+    progress: JudgedRows,
+    alloc: Global,
+    plan: &Plan,
+    waiting: Vec<Row>,
+    parts: Vec<Vec<Row>>,
+) -> Option<RunCounts>
+    requires waiting_fit { RowsFit plan.now.program waiting.items }
+    requires parts_fit { PartsFit plan.now.program parts.items }
+    requires stands { (t : List TheRow) × IsProgress plan.now t progress }
+    ensures { IfSome result (λ c. (t : List TheRow) → IsProgress plan.now t progress → (length (t ++ (waiting.items ++ rows_of parts.items)) ≤ 4000000) × IsAccepted plan.now (t ++ (waiting.items ++ rows_of parts.items)) c.runs c.tags) }
+{
+    let (mut progress, left) = judge_parts(progress, alloc, plan, waiting, parts)?;
+    progress.finish(alloc, plan, left.as_slice())
+}
+
+/// How many bytes of lines so many readers read while the parts are judged. One takes some three times as long
+/// to read rows as to judge them. Several take about as long, and read all of them.
+fn bytes_beside(parts: &[Vec<Row>], lines: &[u8], readers: u32) -> usize {
+    if parts.is_empty() {
+        0
+    } else if readers > 1 {
+        lines.len()
+    } else {
+        lines.len() / 3
+    }
+}
+
+/// Goes on past the parts of a batch, while the others of so many workers read the first of the next lines. All
+/// of them read the rest.
+fn go_beside<T: Threads + Sync>(
+    rt: &T,
+    alloc: Global,
+    plan: &Plan,
+    names: &ReactionNames,
+    progress: JudgedRows,
+    waiting: Vec<Row>,
+    parts: Vec<Vec<Row>>,
+    lines: &[u8],
+    workers: u32,
+) -> Option<((JudgedRows, Vec<Row>), Vec<Vec<Row>>)>
+    requires waiting_fit { RowsFit plan.now.program waiting.items }
+    requires parts_fit { PartsFit plan.now.program parts.items }
+    requires stands { (t : List TheRow) × IsProgress plan.now t progress }
+    ensures fit { IfSome result (λ p. RowsFit plan.now.program p.0.1.items) }
+    ensures gone { IfSome result (λ p. IsGoneOn plan.now progress p.0.0 (waiting.items ++ rows_of parts.items) p.0.1.items) }
+    ensures read { IfSome result (λ p. HoldsRows names.now lines.now (rows_of p.1.items)) }
+    ensures read_fit { IfSome result (λ p. PartsFit names.now p.1.items) }
+{
+    let readers = workers.saturating_sub(1);
+    let beside = bytes_beside(parts.as_slice(), lines, readers);
+    let (first, rest) = first_lines(lines, beside);
+    let judging = move || -> Option<(JudgedRows, Vec<Row>)>
+        requires { RowsFit plan.now.program waiting.items × PartsFit plan.now.program parts.items × ((t : List TheRow) × IsProgress plan.now t progress) }
+        ensures { IfSome result (λ p. RowsFit plan.entry.now.program p.1.items × IsGoneOn plan.entry.now progress p.0 (waiting.items ++ rows_of parts.items) p.1.items) }
+    { judge_parts(progress, alloc, plan, waiting, parts) };
+    let reading = move || -> Option<Vec<Vec<Row>>>
+        requires { IsSync T.row }
+        ensures { IfSome result (λ parts. HoldsRows names.entry.now first.entry.now (rows_of parts.items) × RowsFit names.entry.now (rows_of parts.items)) }
+    { read_lines(rt, alloc, names, first, readers) };
+    let (gone, read) = join(rt, judging, reading);
+    let (gone, mut read) = (gone?, read?);
+    let mut more = read_lines(rt, alloc, names, rest, workers)?;
+    if read.append(&mut more).is_err() {
+        return None;
+    }
+    Some((gone, read))
+}
+
+/// What `accepts_reader` does, by so many workers: of several one judges, and the others read. Of two both read
+/// what is left. Beside what is kept, the text of a batch and the rows of two are held. Several say nothing of
+/// a text that has a quotation mark or another header than the plain one.
+pub fn accepts_reader_shared<T: Threads + Sync, R: Read + Drop>(
+    rt: &T,
+    alloc: Global,
+    plan: &Plan,
+    source: R,
+    workers: u32,
+) -> Result<Option<RunCounts>, ReadFailed>
+    ensures { IfOk result (λ found. IfSome found (λ c. IfSome (R.remaining source) (λ text. (rows : List TheRow) × Table plan.now.program (records_of text) rows × IsAccepted plan.now rows c.runs c.tags))) }
+{
+    if workers < 2 {
+        return accepts_reader(alloc, plan, source);
+    }
+    // Tags are judged one after another, since each needs what those before it leave behind. So reading
+    // alone is shared out.
+    let Some(mut text) = Lines::below_header(alloc, source)? else {
+        return Ok(None);
+    };
+    let Some(names) = reaction_names(alloc, plan) else {
+        return Ok(None);
+    };
+    let Ok(mut progress) = JudgedRows::new(alloc, plan) else {
+        return Ok(None);
+    };
+    let mut waiting = Vec::new(alloc);
+    let mut parts = Vec::new(alloc);
+    // A table has no more batches than rows.
+    for _batch in 0..MAX_ROWS {
+        let Some(lines) = text.next(BATCH)? else {
+            return Ok(None);
+        };
+        if lines.is_empty() {
+            return Ok(finish_parts(progress, alloc, plan, waiting, parts));
+        }
+        let Some(on) = go_beside(
+            rt,
+            alloc,
+            plan,
+            &names,
+            progress,
+            waiting,
+            parts,
+            lines.as_slice(),
+            workers,
+        ) else {
+            return Ok(None);
+        };
+        progress = on.0.0;
+        waiting = on.0.1;
+        parts = on.1;
+    }
+    Ok(None)
+}
