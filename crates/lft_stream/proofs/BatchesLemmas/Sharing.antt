@@ -6,7 +6,8 @@ use Rattle.std.proofs.lemmas.Option.{get_or_from_slice_get, slice_get-get_or, sl
 use Rattle.std.proofs.Math.Seq.{take-suc}
 use Rattle.lft_ir.specs.{Parts.Parts, Steps.Fits.RowsFit, declared.steps.row.Row.Row}
 use Rattle.lft_lists.proofs.Places.{get_left, get_right}
-use Rattle.lft_trace.{specs.{Parts.HasNoQuote, inner.Parts.{HoldsRows, IsCut, rows_of}}, proofs.{Beginning.{begins_all, begins_lines, begins_more}, Together.holds_both}}
+use Rattle.lft_trace.specs.{Parts.HasNoQuote, inner.Parts.{HoldsRows, IsCut, rows_of}}
+use Rattle.lft_trace.proofs.{Beginning.{begins_all, begins_lines, begins_more}, Together.holds_both}
 use Rattle.lft_model.specs.Plans.{PlanParts}
 use Rattle.lft_stream.specs.{inner.Batches.{Parted.PartsFit, Progresses.IsGoneOn}, declared.batches.progress.JudgedRows.JudgedRows}
 

@@ -8,13 +8,13 @@ ghost use Rattle.lft_trace.specs.{Records.records_of, Traces.Table, inner.Parts.
 ghost use Rattle.lft_rows.specs.Accepted.{IsAccepted};
 ghost use Rattle.lft_stream.specs.inner.Batches.{Parted.PartsFit, Progresses.{IsGoneOn, IsProgress}};
 
+use crate::RunCounts;
 use crate::batches::lines::Lines;
 use crate::batches::progress::{JudgedRows, judge_batch};
 use crate::batches::reader::accepts_reader;
 use crate::batches::text::reaction_names;
 use lft_ir::steps::Row;
 use lft_model::Plan;
-use crate::RunCounts;
 use lft_tag::MAX_ROWS;
 use lft_trace::{ReactionNames, ReadFailed, first_lines, read_lines};
 use std::alloc::Global;

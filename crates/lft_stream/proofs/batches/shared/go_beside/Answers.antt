@@ -2,8 +2,7 @@ use Rattle.std.proofs.Common.{◌≡◌, ◌++◌, Vec, subst, sym, arith}
 use Rattle.std.{proofs.lemmas.{Grind.{common_steps, flat_map-append}, List.Elements.All-append}, specs.declared.alloc.Global.Global}
 use Rattle.lft_ir.specs.{Steps.Fits.RowsFit, declared.steps.row.Row.Row}
 use Rattle.lft_trace.{specs.inner.Parts.{HoldsRows, rows_of}, proofs.Together.at_some}
-use Rattle.lft_stream.specs.inner.Batches.Parted.{PartsFit}
-use Rattle.lft_stream.proofs.BatchesLemmas.Sharing.{holds_cut, parts_fit}
+use Rattle.lft_stream.{specs.inner.Batches.Parted.PartsFit, proofs.BatchesLemmas.Sharing.{holds_cut, parts_fit}}
 use Rattle.lft_stream.proofs.batches.shared.go_beside.Goals as goal
 
 pub returns-clause-read : goal.returns-clause-read
