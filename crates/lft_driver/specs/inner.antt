@@ -1,3 +1,4 @@
 pub mod Accepting
 pub mod Explained
+pub mod Pairs
 pub mod Told

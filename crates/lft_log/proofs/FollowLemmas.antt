@@ -1,4 +1,5 @@
 pub mod Reading
+pub mod Telling
 pub mod Words
 pub mod Reaching
 pub mod Refusing

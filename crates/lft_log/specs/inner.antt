@@ -1,3 +1,4 @@
 pub mod Explain
+pub mod Follow
 pub mod Logs
 pub mod Told
