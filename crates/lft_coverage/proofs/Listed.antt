@@ -1,7 +1,6 @@
 -- Texts of which a writer takes one piece for each item of a list.
 use Rattle.std.proofs.Common.{◌≡◌, ℕ, zero, suc, ◌+◌, ◌≤◌, List, [], ◌∷◌, ◌++◌, length, take, drop, flat_map, refl, sym, ap, ◌∙◌, arith, Some, slice_get, min, Option, Bool, subst}
-use Rattle.std.{specs.List.enumerate_from, proofs.lemmas.List.{append_assoc, append-nil, take_all, FromFn.length-enumerate_from}}
-use Rattle.lft_lists.proofs.Mapped.{enumerate_at}
+use Rattle.std.{specs.List.enumerate_from, proofs.lemmas.List.{append_assoc, take_all, FromFn.length-enumerate_from}}
 use Rattle.lft_ir.proofs.WordsLemmas.Steps.{said_more}
 use Rattle.lft_coverage.{specs.inner.Taking.TookMore, proofs.Taking.took_both}
 
@@ -12,9 +11,6 @@ took_one f xs k x {a} {b} {c} {p} {q} {r} e first second = subst (TookMore a p c
 -- the pieces of all items
 pub took_items : {X : Type 0} (f : X → List ℕ) (xs ys : List X) {a b : Option (List ℕ)} {p q : Bool} → xs ≡ ys → TookMore a p b q (flat_map f xs) → TookMore a p b q (flat_map f ys)
 took_items f xs ys {a} {b} {p} {q} e took = subst (λ zs. TookMore a p b q (flat_map f zs)) e took
-
-pub placed_first : {X : Type 0} (xs : List X) (n : ℕ) (x : X) → slice_get xs n ≡ Some x → slice_get (enumerate_from 0 xs) n ≡ Some (n, x)
-placed_first xs n x e = let j : 0 + n ≡ n = omega arith in enumerate_at 0 xs n x e ∙ ap (λ w. Some (w, x)) j
 
 -- all items
 pub all_placed : {X : Type 0} (xs : List X) (n : ℕ) → length xs ≤ n → take n (enumerate_from 0 xs) ≡ enumerate_from 0 xs

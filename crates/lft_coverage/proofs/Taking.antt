@@ -1,6 +1,6 @@
 -- What a writer takes of a text that it gets piece by piece.
-use Rattle.std.proofs.Common.{IsTrue, ◌≡◌, ℕ, zero, suc, ◌+◌, Bool, true, false, List, [], ◌∷◌, ◌++◌, length, take, Option, refl, sym, ap, ◌∙◌, subst, arith, append_assoc, append-nil, drop, ◌-◌, ◌≤◌}
-use Rattle.std.proofs.{Math.Seq.{take-add, take-append-add}, lemmas.List.{take_all, length-drop}, KnownBytes.{Appends-kept, Appends-nil, Appends-trans}}
+use Rattle.std.proofs.Common.{IsTrue, ◌≡◌, ℕ, zero, suc, ◌+◌, Bool, true, false, List, [], ◌∷◌, ◌++◌, length, take, Option, refl, sym, ap, subst, arith, append_assoc, append-nil, ◌-◌}
+use Rattle.std.proofs.{Math.Seq.take-append-add, lemmas.List.take_all, KnownBytes.{Appends-kept, Appends-nil, Appends-trans}}
 use Rattle.std.specs.Io.KnownBytes.{Appends, Keeps}
 use Rattle.lft_coverage.specs.inner.Taking.{Took, TookMore}
 
@@ -9,16 +9,6 @@ front_more : (text more : List ℕ) (n : ℕ) → (k : ℕ) × (take k (text ++ 
 front_more text more zero = (0, refl)
 front_more [] more (suc n) = (0, refl)
 front_more (x ∷ xs) more (suc n) = let r = front_more xs more n in (suc r.0, ap (λ s. x ∷ s) r.1)
-
--- the rest of a text from a place, as a slice gives it
-pub rest_from : (text : List ℕ) (n : ℕ) → take (length text - n) (drop n text) ≡ drop n text
-rest_from text n = let l : length (drop n text) ≤ length text - n = omega (arith, length-drop n text) in take_all (length text - n) (drop n text) l
-
--- a front of a text, and then a front of the rest
-pub took_rest : (a b c : Option (List ℕ)) (text : List ℕ) (n k : ℕ) → Appends a b (take n text) → Appends b c (take k (take (length text - n) (drop n text))) → Appends a c (take (n + k) text)
-took_rest a b c text n k first second =
-    let then : Appends b c (take k (drop n text)) = subst (λ x. Appends b c (take k x)) (rest_from text n) second in
-    subst (λ x. Appends a c x) (sym (take-add n k text)) (Appends-trans a b c (take n text) (take k (drop n text)) first then)
 
 -- nothing is given to a writer that failed
 pub took_no_more : (mid : Option (List ℕ)) (more : List ℕ) → TookMore mid false mid false more

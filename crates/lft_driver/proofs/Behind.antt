@@ -1,5 +1,5 @@
 -- What is written behind a line that was written.
-use Rattle.std.proofs.Common.{◌≡◌, ◌≢◌, ◌⊎◌, inl, inr, ℕ, suc, ◌+◌, Result, Ok, Err, OnOk, OnErr, IfErr, List, [], ◌∷◌, ◌++◌, Option, Some, None, length, take, append_assoc, arith, refl, sym, ap, ◌∙◌, subst}
+use Rattle.std.proofs.Common.{◌≡◌, ◌≢◌, inl, inr, ℕ, ◌+◌, Result, Ok, Err, OnOk, OnErr, IfErr, List, ◌++◌, Option, length, take, sym, ◌∙◌, subst}
 use Rattle.std.{proofs.{KnownBytes.{Appends-trans, Keeps-refl}, Math.Seq.take-append-add}, specs.Io.KnownBytes.{Appends, Keeps}}
 use Rattle.lft_load.specs.{Written.AppendsFront, declared.fault.Fault.Fault}
 use Rattle.lft_driver.specs.{Explained.Writes, inner.Explained.WriteRefusal, Refusals.IsRefusedGrowth}
@@ -33,3 +33,8 @@ module _ (P : List ℕ → Type 0) (text : List ℕ) (is : P text) (old new : Op
 -- there was no memory for a text, and nothing was written
 pub no_text : (P : List ℕ → Type 0) (o : Option (List ℕ)) (f : Fault) → f.part ≡ part.Memory → f.number ≡ 1 → WriteRefusal P o o f
 no_text P o f p n = inl (p, n, Keeps-refl o)
+
+-- without a fault of the writer nothing was written
+pub unwritten_kept : (P : List ℕ → Type 0) (old new : Option (List ℕ)) (f : Fault) → WriteRefusal P old new f → f.part ≢ part.Write → Keeps old new
+unwritten_kept P old new f (inl x) other = x.2
+unwritten_kept P old new f (inr x) other = absurd (other x.0)

@@ -1,43 +1,12 @@
--- The verdict's reaction, and faults that tell nothing of the texts.
-use Rattle.std.proofs.Common.{◌≡◌, ℕ, ◌<◌, inl, inr, List, length, Option, Some, None, true, sym, subst}
-use Rattle.lft_ir.specs.{declared.steps.row.Row.Row, Steps.Fits.RowsFit}
+-- What is accepted, and faults that tell nothing of the texts.
+use Rattle.std.proofs.Common.{◌≡◌, ℕ, inl, inr, List, true, subst}
+use Rattle.lft_ir.specs.declared.steps.row.Row.{Row}
 use Rattle.lft_trace.specs.{Records.records_of, Traces.Table}
-use Rattle.lft_model.specs.{declared.breach.Breach.Breach, Plans.PlanParts, Presence.Triggered, Runs.Ran, Breaches.{First, RowBreach}}
-use Rattle.lft_model.specs.{inner.Breaches.{BreaksAt, BreaksTag}, OneWorker.{LegalRunsAreOneWorker, LegalRunsKeepPrecedence}}
-use Rattle.lft_model.proofs.Places.{slice_get_within}
+use Rattle.lft_model.specs.{Plans.PlanParts, OneWorker.{LegalRunsAreOneWorker, LegalRunsKeepPrecedence}}
 use Rattle.lft_check.specs.{declared.verdict.Verdict.{Verdict, TheVariants.{Accepted, Broken}}, Verdicts.IsVerdict}
-use Rattle.lft_driver.specs.{Judged.AcceptedRuns, Lines.HasReaction, Meaning.Mean}
-use Rattle.lft_driver.specs.Refusals.{CheckRefusal, IsRefusedGrowth, CheckRefusal.{by_workers, by_growth}}
+use Rattle.lft_driver.specs.{Judged.AcceptedRuns, Meaning.Mean, Refusals.{CheckRefusal, IsRefusedGrowth, CheckRefusal.{by_workers, by_growth}}}
 use Rattle.lft_load.{specs.{Meaning.{IsPlanOf, IsOnly}, Refusals.is_of_text, declared.fault.{Fault.Fault, Part.Part}}, proofs.Loading.memory_untold}
 use Rattle.lft_load.specs.declared.fault.Part.TheVariants as part
-
--- the reaction of a breach is one of the program
-module _ (plan : PlanParts) (rows : List Row) (fit : RowsFit plan.program rows) where
-  of_run : (r : ℕ) (g : _) → Ran rows g r → r < length plan.program.reactions
-  of_run r g ran = (fit.each ran.place _ ran.starts).reaction
-
-  of_triggered : (r : ℕ) (g : _) → Triggered plan rows g r → r < length plan.program.reactions
-  of_triggered r g t = slice_get_within plan.program.reactions r t.reaction t.is_reaction
-
-  of_tag : (g : _) (r k : ℕ) → BreaksTag plan rows g r k → r < length plan.program.reactions
-  of_tag g r k (inl x) = of_triggered r g x.1
-  of_tag g r k (inr (inl x)) = of_run r g x.1
-  of_tag g r k (inr (inr (inl x))) = of_run r g x.1
-  of_tag g r k (inr (inr (inr x))) = of_run r g x.1
-
-  of_breach : (o : Option ℕ) (g : _) (k : ℕ) → BreaksAt plan rows g o k → HasReaction plan.program o
-  of_breach None g k x = tt
-  of_breach (Some r) g k x = of_tag g r k x
-
-  of_row : (b : Breach) → RowBreach plan rows b → HasReaction plan.program b.reaction
-  of_row b x = subst (λ o. HasReaction plan.program o) (sym x.reaction_is) (fit.each x.place x.row x.is_row).reaction
-
-  of_first : (b : Breach) → First plan rows b → HasReaction plan.program b.reaction
-  of_first b (inl x) = of_row b x.0
-  of_first b (inr x) = of_breach b.reaction b.tag b.rule x.1.breaks
-
-  pub has_reaction : (v : Verdict) → IsVerdict plan rows v → (b : Breach) → v ≡ Broken b → HasReaction plan.program b.reaction
-  has_reaction v is b e = of_first b (subst (λ x. IsVerdict plan rows x) e is)
 
 -- what is accepted is an execution by one worker
 pub accepted_runs : (plan : PlanParts) (rows : List Row) → LegalRunsAreOneWorker plan → LegalRunsKeepPrecedence plan → (v : Verdict) → IsVerdict plan rows v → AcceptedRuns plan rows v

@@ -1,11 +1,10 @@
 -- Texts that grow by a line for each thing of a program, and what a graph's lists hold.
-use Rattle.std.proofs.Common.{◌≡◌, ℕ, ◌+◌, ◌<◌, ◌≤◌, ◌⊎◌, inl, inr, List, ◌++◌, length, take, flat_map, ap, ◌∙◌, arith, Some, slice_get}
-use Rattle.std.{specs.List.enumerate_from, proofs.lemmas.{Option.slice_get_within, List.FromFn.length-enumerate_from}}
-use Rattle.lft_lists.proofs.{Mapped.enumerate_at, Places.{contains_at, get_there}}
-use Rattle.lft_ir.{proofs.WordsLemmas.Steps.{said_all, said_more}, specs.Parts.Parts}
-use Rattle.lft_graph.specs.{Graph.{GraphParts, IsGraphOf}, Before.{IsDeclaredJustBefore, FeedsLast}}
+use Rattle.std.proofs.Common.{◌≡◌, ℕ, ◌+◌, ◌<◌, ◌≤◌, List, ◌++◌, length, take, flat_map, ap, ◌∙◌, arith, Some, slice_get}
+use Rattle.std.{specs.List.enumerate_from, proofs.lemmas.List.FromFn.length-enumerate_from}
+use Rattle.lft_lists.proofs.{Mapped.enumerate_at, Places.get_there}
+use Rattle.lft_ir.proofs.WordsLemmas.Steps.{said_all, said_more}
 
-placed_first : {X : Type 0} (xs : List X) (n : ℕ) (x : X) → slice_get xs n ≡ Some x → slice_get (enumerate_from 0 xs) n ≡ Some (n, x)
+pub placed_first : {X : Type 0} (xs : List X) (n : ℕ) (x : X) → slice_get xs n ≡ Some x → slice_get (enumerate_from 0 xs) n ≡ Some (n, x)
 placed_first xs n x e = let j : 0 + n ≡ n = omega arith in enumerate_at 0 xs n x e ∙ ap (λ w. Some (w, x)) j
 
 -- what is put at the end of a text for each thing of a list and its number: one more, and all
@@ -16,11 +15,3 @@ placed_more f xs n start before after within so_far is =
 
 pub placed_all : {X : Type 0} (f : ℕ × X → List ℕ) (xs : List X) (n : ℕ) (start text : List ℕ) → length xs ≤ n → text ≡ start ++ flat_map f (take n (enumerate_from 0 xs)) → text ≡ start ++ flat_map f (enumerate_from 0 xs)
 placed_all f xs n start text l so_far = let e : length (enumerate_from 0 xs) ≡ length xs = length-enumerate_from 0 xs in said_all f (enumerate_from 0 xs) n start text (omega arith) so_far
-
--- what a graph's lists hold are reactions
-pub before_within : (program : Parts) (graph : GraphParts) → IsGraphOf program graph → (r : ℕ) (list : List ℕ) → slice_get graph.before r ≡ Some list → (i a : ℕ) → slice_get list i ≡ Some a → a < length program.reactions
-before_within program graph is r list e i a f = go (((is.before r list e).members a).0 (contains_at list i a f))
-  where
-    go : IsDeclaredJustBefore program a r ⊎ FeedsLast program a r → a < length program.reactions
-    go (inl j) = slice_get_within program.reactions a j.first j.is_first
-    go (inr w) = slice_get_within program.reactions a w.1.writes.writer w.1.writes.is_writer

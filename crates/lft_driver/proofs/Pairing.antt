@@ -1,21 +1,11 @@
--- What two traces show names a reaction of the program, and faults that tell nothing of the texts.
-use Rattle.std.proofs.Common.{◌≡◌, ◌⊎◌, inl, inr, ℕ, List, Option, true, refl, subst}
-use Rattle.lft_ir.specs.{declared.steps.row.Row.Row, Steps.Fits.RowsFit}
+-- Faults that tell nothing of the texts of two traces.
+use Rattle.std.proofs.Common.{◌≡◌, ◌⊎◌, inl, inr, ℕ, List, Option, true, subst}
+use Rattle.lft_ir.specs.declared.steps.row.Row.{Row}
 use Rattle.lft_trace.specs.{Records.records_of, Traces.Table}
 use Rattle.lft_model.specs.Plans.{PlanParts}
-use Rattle.lft_check.specs.declared.verdict.Verdict.TheVariants.{Broken}
 use Rattle.lft_load.specs.{Meaning.{IsOnly, IsPlanOf}, Refusals.is_of_text, declared.fault.Fault.Fault}
-use Rattle.lft_driver.specs.{Meaning.IsNoTrace, Pairs.{IsPairing, MeanBoth}, inner.Pairs.NamesReaction}
-use Rattle.lft_driver.specs.PairRefusals.{PairingRefusal, PairingRefusal.{by_check, by_writer}}
-use Rattle.lft_driver.specs.declared.paired.Paired.{Paired, TheVariants.{First, Second, Same, Differ}}
-use Rattle.lft_driver.proofs.Judging.{has_reaction, refusal_untold, rows_of_plan, write_untold}
-
--- the reaction that is named is one of the program
-pub names_reaction : (plan : PlanParts) (rows others : List Row) → RowsFit plan.program rows → RowsFit plan.program others → (said : Paired) → IsPairing plan rows others said → NamesReaction plan.program said
-names_reaction plan rows others fit fits (First b) x = has_reaction plan rows fit (Broken b) x b refl
-names_reaction plan rows others fit fits (Second b) x = has_reaction plan others fits (Broken b) x.2 b refl
-names_reaction plan rows others fit fits (Same runs tags) x = tt
-names_reaction plan rows others fit fits (Differ g r) x = let ran = x.1.is_pair.first_ran in (fit.each ran.place _ ran.starts).reaction
+use Rattle.lft_driver.specs.{Meaning.IsNoTrace, Pairs.MeanBoth, PairRefusals.{PairingRefusal, PairingRefusal.{by_check, by_writer}}}
+use Rattle.lft_driver.proofs.Judging.{refusal_untold, rows_of_plan, write_untold}
 
 -- where a plan and two traces get no comparison, the fault tells nothing of the texts
 pub pairing_untold : (plan : PlanParts) (rows others : List Row) (workers : ℕ) (old new : Option (List ℕ)) (f : Fault) → PairingRefusal plan rows others workers old new f → is_of_text f.part f.number ≡ true → ⊥

@@ -1,5 +1,5 @@
 -- What is told of texts is told of such as have no meaning.
-use Rattle.std.proofs.Common.{◌≡◌, ◌≢◌, ℕ, ◌⊎◌, List, [], ◌∷◌, ◌++◌, inl, inr, refl, sym, ◌∙◌, subst, Option, Some, None, IfNone, IfSome, Result, Ok, Err, IfOk}
+use Rattle.std.proofs.Common.{◌≡◌, ◌≢◌, ℕ, ◌⊎◌, List, [], ◌∷◌, ◌++◌, inl, inr, refl, sym, ◌∙◌, subst, Option, Some, None, IfSome, Result, Ok, Err, IfOk}
 use Rattle.lft_ir.specs.Parts.{Parts}
 use Rattle.lft_trace.specs.{Records.records_of, Traces.Table, declared.fault.TraceFault.TraceFault}
 use Rattle.lft_graph.{specs.{Precedence.HasNoLoop, Loops.IsLoop}, proofs.Cycles.is_cycle}
@@ -11,10 +11,6 @@ use Rattle.lft_trace.specs.declared.fault.TraceFault.TheVariants as fault
 -- what holds where something is told holds of what is told
 pub some_so : {X : Type 0} (o : Option X) (x : X) (P : Type 0) → o ≡ Some x → IfSome o (λ _. P) → P
 some_so o x P e h = subst (λ z. IfSome z (λ _. P)) e h
-
--- the same of what is said of the thing itself
-pub some_is : {X : Type 0} (o : Option X) (x : X) (P : X → Type 0) → o ≡ Some x → IfSome o P → P x
-some_is o x P e h = subst (λ z. IfSome z P) e h
 
 -- a loop of reactions is one that there must not be
 pub looped : (parts : Parts) (loop : List ℕ) → IsLoop parts loop → HasNoLoop parts → ⊥
@@ -57,21 +53,11 @@ module _ (program externals : List ℕ) (parts : Parts) (only : IsOnly (IsProgra
   pub meant : (trace : List ℕ) → IsTrace parts trace → HaveMeaning program externals trace
   meant trace is = (record { program = parts; externals = planned.0.0 }, is.0, meaning trace is)
 
--- what holds where nothing is told holds
-pub none_so : {X : Type 0} (o : Option X) (P : Type 0) → o ≡ None → IfNone o P → P
-none_so o P e h = subst (λ z. IfNone z P) e h
-
 -- what follows of each thing follows of one that is found
 pub of_found : {X E : Type 0} (o : Result (Option X) E) (P Q : X → Type 0) → ((x : X) → P x → Q x) → IfOk o (λ found. IfSome found P) → IfOk o (λ found. IfSome found Q)
 of_found (Ok None) P Q f h = tt
 of_found (Ok (Some x)) P Q f h = f x h
 of_found (Err e) P Q f h = tt
-
--- what follows where nothing is found
-pub of_none : {X E : Type 0} (o : Result (Option X) E) (P Q : Type 0) → (P → Q) → IfOk o (λ found. IfNone found P) → IfOk o (λ found. IfNone found Q)
-of_none (Ok None) P Q f h = f h
-of_none (Ok (Some x)) P Q f h = tt
-of_none (Err e) P Q f h = tt
 
 -- words that begin with a line aren't empty
 line_begins : (word : List ℕ) (n : ℕ) (rest : List ℕ) → table_line_words word n ++ rest ≢ []

@@ -1,10 +1,10 @@
 -- The lines that are printed.
-use Rattle.std.specs.Prelude.{ℕ, ◌<◌, List, [], ◌++◌, Option, Some, None, length, codes, nat_eq, if◌then◌else◌}
-use Rattle.lft_ir.specs.Parts.{Parts}
+use Rattle.std.specs.Prelude.{ℕ, List, [], ◌++◌, Option, Some, None, codes, nat_eq, if◌then◌else◌}
+use Rattle.lft_ir.specs.{Parts.Parts, Words.Words.reaction_words}
 use Rattle.lft_model.specs.declared.breach.Breach.{Breach}
 use Rattle.lft_check.specs.declared.verdict.Verdict.{Verdict, TheVariants.{Accepted, Broken}}
 use Rattle.lft_tag.specs.declared.Tag.{Tag}
-use Rattle.lft_load.specs.Words.{field, reaction_name}
+use Rattle.lft_load.specs.Words.{field}
 use Rattle.lft_driver.specs.declared.paired.Paired.{Paired}
 use Rattle.lft_driver.specs.declared.paired.Paired.TheVariants as paired
 
@@ -30,7 +30,7 @@ broken_row_words row = if nat_eq row 0 then [] else field (codes " line=") row
 -- the reaction that breaks a rule, by its name; a collision is of none
 abbrev pub breaking_reaction_words : Parts → Option ℕ → List ℕ
 breaking_reaction_words program None = codes " (outside the profile)"
-breaking_reaction_words program (Some r) = codes " reaction=" ++ reaction_name program r
+breaking_reaction_words program (Some r) = codes " reaction=" ++ reaction_words program r
 
 -- a broken rule: its number and name, the line or none, the tag, and the reaction
 abbrev pub breach_words : Parts → Breach → List ℕ
@@ -47,18 +47,13 @@ abbrev pub line_of : Parts → Verdict → List ℕ
 line_of program (Accepted runs tags) = accepted_words runs tags
 line_of program (Broken b) = breach_words program b
 
--- the reaction, if there is one, is of the program
-abbrev pub HasReaction : Parts → Option ℕ → Type 0
-HasReaction program None = Unit {0}
-HasReaction program (Some r) = r < length program.reactions
-
 -- two traces with the same runs: how many runs and how many tags with a run
 abbrev pub same_words : ℕ → ℕ → List ℕ
 same_words runs tags = field (codes "same runs=") runs ++ field (codes " tags=") tags ++ codes "\n"
 
 -- two traces that differ: the tag and the reaction
 abbrev pub differ_words : Parts → Tag → ℕ → List ℕ
-differ_words program g r = field (codes "differ time=") g.time ++ field (codes " microstep=") g.micro ++ codes " reaction=" ++ reaction_name program r ++ codes "\n"
+differ_words program g r = field (codes "differ time=") g.time ++ field (codes " microstep=") g.micro ++ codes " reaction=" ++ reaction_words program r ++ codes "\n"
 
 -- the line of two traces: a broken rule behind the word that tells which of them breaks it, or what their comparison says
 abbrev pub line_of_pair : Parts → Paired → List ℕ

@@ -1,21 +1,17 @@
 -- A program as it is shown: ports and precedence, or all of it, one thing a line.
-use Rattle.std.specs.Prelude.{ℕ, Bool, true, false, List, [], ◌∷◌, ◌++◌, Option, slice_get, unwrap_or, get_or, codes, flat_map, if◌then◌else◌}
+use Rattle.std.specs.Prelude.{ℕ, Bool, true, false, List, [], ◌∷◌, ◌++◌, Option, get_or, codes, flat_map, if◌then◌else◌}
 use Rattle.std.specs.{List.enumerate_from, Io.KnownBytes.Appends}
 use Rattle.lft_ir.specs.Parts.{Parts}
 use Rattle.lft_ir.specs.declared.parts.{Port.Port as PortOf, Action.Action as ActionOf, Timer.Timer as TimerOf, Reaction.Reaction}
 use Rattle.lft_ir.specs.declared.parts.{Name.{Name, TheVariants.{Port, Action}}, Trigger.{Trigger, TheVariants.{Startup, Shutdown, Timer, On}}}
-use Rattle.lft_ir.specs.Words.Words.{action_words, name_words, timer_words}
+use Rattle.lft_ir.specs.Words.Words.{action_words, name_words, timer_words, reaction_words, port_words}
 use Rattle.lft_graph.specs.Graph.{GraphParts, IsGraphOf}
-use Rattle.lft_load.specs.{Words.{field, names_words, reaction_name}, Meaning.{IsProgramOf, OfOnly}}
-
--- the name of a port
-abbrev pub port_name : Parts → ℕ → List ℕ
-port_name program p = unwrap_or (slice_get program.names.ports p) []
+use Rattle.lft_load.specs.{Words.{field, names_words}, Meaning.{IsProgramOf, OfOnly}}
 
 -- a port of this number: its name, where its chain of connections begins, and the folded delays of that chain
 abbrev pub shown_port_words : Parts → ℕ × PortOf → List ℕ
 shown_port_words program d =
-    codes "port " ++ port_name program d.0 ++ codes " origin=" ++ port_name program d.1.origin
+    codes "port " ++ port_words program d.0 ++ codes " origin=" ++ port_words program d.1.origin
     ++ field (codes " after=") d.1.shift.time ++ field (codes "+") d.1.shift.steps ++ codes "\n"
 
 -- the names of the reactions just before one; a dash where there are none
@@ -26,7 +22,7 @@ before_words program (r ∷ rs) = names_words program (r ∷ rs)
 -- a reaction: its name, its level, and the reactions just before it
 abbrev pub shown_reaction_words : Parts → ℕ → ℕ → List ℕ → List ℕ
 shown_reaction_words program r level before =
-    codes "reaction " ++ reaction_name program r ++ field (codes " level=") level
+    codes "reaction " ++ reaction_words program r ++ field (codes " level=") level
     ++ codes " before=" ++ before_words program before ++ codes "\n"
 
 -- a reaction of this number, by the graph
@@ -70,7 +66,7 @@ trigger_name program (On n) = name_words program n
 
 -- what a reaction has to do with the thing whose name follows: a word, and the reaction
 abbrev pub link_words : Parts → List ℕ → ℕ → List ℕ
-link_words program word r = word ++ codes " " ++ reaction_name program r ++ codes " "
+link_words program word r = word ++ codes " " ++ reaction_words program r ++ codes " "
 
 -- a reaction is triggered by this
 abbrev pub trigger_line : Parts → ℕ → Trigger → List ℕ

@@ -1,4 +1,3 @@
 pub mod Accepting
 pub mod Explained
-pub mod Pairs
 pub mod Told

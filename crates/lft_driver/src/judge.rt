@@ -3,10 +3,10 @@
 ghost use Rattle.std.specs.Prelude.{◌≡◌, ◌≢◌, ◌⊎◌, ℕ, true, OnOk, IfOk, IfErr, IfSome, List};
 ghost use Rattle.std.specs.Io.KnownBytes.{Appends, Keeps};
 ghost use Rattle.lft_ir.specs.{Steps.Fits.RowsFit, declared.steps.row.Row.Row};
-ghost use Rattle.lft_model.specs.{Plans.PlanParts, declared.breach.Breach.Breach, Workers.IsWorkers};
-ghost use Rattle.lft_check.specs.{declared.verdict.Verdict.TheVariants.Broken, Verdicts.IsVerdict};
-ghost use Rattle.lft_driver.specs.{Lines.{line_of, HasReaction}, inner.Accepting.{IsRight, IsUnjudgedText}, Meaning.{HasTable, IsNoTrace, Mean}};
-ghost use Rattle.lft_driver.specs.Judged.{AcceptedRuns, Accepts, IsJudged, IsJudgedUnder};
+ghost use Rattle.lft_model.specs.{Plans.PlanParts, Workers.IsWorkers};
+ghost use Rattle.lft_check.specs.Verdicts.{IsVerdict};
+ghost use Rattle.lft_driver.specs.{Lines.line_of, inner.Accepting.{IsRight, IsUnjudgedText}, Meaning.{HasTable, IsNoTrace, Mean}};
+ghost use Rattle.lft_driver.specs.Judged.{AcceptedRuns, IsJudged, IsJudgedUnder};
 ghost use Rattle.lft_driver.specs.Refusals.{CheckRefusal, IsRefusedGrowth, JudgeRefusal, JudgeRefusalUnder, TraceRefusal};
 ghost use Rattle.lft_load.specs.{Refusals.is_of_text, Written.AppendsFront};
 ghost use Rattle.lft_load.specs.declared.fault.Part.TheVariants as part;
@@ -101,7 +101,6 @@ pub(crate) fn report<W: Write>(
     verdict: Verdict,
     out: &mut W,
 ) -> Result<(), Fault>
-    requires { (b : Breach) → verdict ≡ Broken b → HasReaction program.now b.reaction }
     ensures written { OnOk result (Appends (W.contents out.old) (W.contents out.new) (line_of program.now verdict)) }
     ensures front { IfErr result (λ f. IsRefusedGrowth f ⊎ (f.part ≡ part.Write) × (f.number ≡ 1) × AppendsFront (W.contents out.old) (W.contents out.new) (line_of program.now verdict)) }
     ensures kept { IfErr result (λ f. f.part ≢ part.Write → Keeps (W.contents out.old) (W.contents out.new)) }
@@ -119,7 +118,6 @@ pub(crate) fn tell<W: Write>(
     verdict: Verdict,
     out: &mut W,
 ) -> Result<Verdict, Fault>
-    requires { Accepts verdict ⊎ ((trace : List ℕ) × IsRight plan.now trace verdict) }
     ensures same { IfOk result (λ told. told ≡ verdict) }
     ensures judged { (trace : List ℕ) → IsRight plan.now trace verdict → IfOk result (IsJudgedUnder plan.now trace (W.contents out.old) (W.contents out.new)) }
     ensures fault { IfErr result (λ f. IsRefusedGrowth f ⊎ (f.part ≡ part.Write) × (f.number ≡ 1)) }

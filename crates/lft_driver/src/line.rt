@@ -1,15 +1,13 @@
 //! The lines that are printed.
 
-ghost use Rattle.std.specs.Prelude.{◌≡◌, ◌++◌, ◌<◌, ℕ, IfOk, OnOk, Some, length, string_bytes};
-ghost use Rattle.lft_driver.specs.Lines.{accepted_words, breach_words, differ_words, line_of, line_of_pair, breaking_reaction_words, broken_row_words, rule_name, same_words, HasReaction};
-ghost use Rattle.lft_driver.specs.inner.Pairs.{NamesReaction};
-ghost use Rattle.lft_model.specs.declared.breach.Breach.{Breach as TheBreach};
-ghost use Rattle.lft_check.specs.declared.verdict.Verdict.TheVariants.{Broken};
+ghost use Rattle.std.specs.Prelude.{◌≡◌, ◌++◌, IfOk, OnOk, string_bytes};
+ghost use Rattle.lft_driver.specs.Lines.{accepted_words, breach_words, differ_words, line_of, line_of_pair, breaking_reaction_words, broken_row_words, rule_name, same_words};
 
 use crate::paired::Paired;
 use lft_check::Verdict;
 use lft_ir::Program;
-use lft_load::{push_field, push_name};
+use lft_ir::words::push_reaction;
+use lft_load::push_field;
 use lft_model::Breach;
 use lft_tag::Tag;
 use std::alloc::{AllocError, Global};
@@ -44,18 +42,17 @@ fn push_row(line: &mut String, row: u64) -> Result<(), AllocError>
 }
 
 /// Puts the reaction that breaks a rule at the end of a line.
-fn push_reaction(
+fn push_breaking(
     line: &mut String,
     program: &Program,
     reaction: Option<u32>,
 ) -> Result<(), AllocError>
-    requires { HasReaction program.now reaction }
     ensures { OnOk result (string_bytes line.new ≡ string_bytes line.old ++ breaking_reaction_words program.now reaction) }
 {
     match reaction {
         Some(number) => {
             line.push_str(" reaction=")?;
-            push_name(line, program, number)?;
+            push_reaction(line, program, number)?;
         }
         // Rule 6 alone names no reaction.
         None => line.push_str(" (outside the profile)")?,
@@ -73,7 +70,6 @@ pub fn broken_line(
     tag: Tag,
     reaction: Option<u32>,
 ) -> Result<String, AllocError>
-    requires { HasReaction program.now reaction }
     ensures { IfOk result (λ line. string_bytes line ≡ breach_words program.now (record { rule = rule; tag = tag; reaction = reaction; row = row })) }
 {
     let mut line = String::new(alloc);
@@ -83,14 +79,13 @@ pub fn broken_line(
     push_row(&mut line, row)?;
     push_field(&mut line, " time=", tag.time)?;
     push_field(&mut line, " microstep=", u64::from(tag.micro))?;
-    push_reaction(&mut line, program, reaction)?;
+    push_breaking(&mut line, program, reaction)?;
     line.push_str("\n")?;
     Ok(line)
 }
 
 /// The line of a breach, with its line feed.
 fn breach_line(alloc: Global, program: &Program, breach: Breach) -> Result<String, AllocError>
-    requires { HasReaction program.now breach.reaction }
     ensures { IfOk result (λ line. string_bytes line ≡ breach_words program.now breach) }
 {
     let row = u64::from(breach.row);
@@ -111,7 +106,6 @@ fn named_line(
     program: &Program,
     breach: Breach,
 ) -> Result<String, AllocError>
-    requires { HasReaction program.now breach.reaction }
     ensures { IfOk result (λ line. string_bytes line ≡ word.now ++ breach_words program.now breach) }
 {
     let mut line = String::from_str(alloc, word)?;
@@ -137,7 +131,6 @@ pub fn verdict_line(
     program: &Program,
     verdict: Verdict,
 ) -> Result<String, AllocError>
-    requires { (b : TheBreach) → verdict ≡ Broken b → HasReaction program.now b.reaction }
     ensures { IfOk result (λ line. string_bytes line ≡ line_of program.now verdict) }
 {
     match verdict {
@@ -164,21 +157,19 @@ fn differ_line(
     tag: Tag,
     reaction: u32,
 ) -> Result<String, AllocError>
-    requires { reaction < length program.now.reactions }
     ensures { IfOk result (λ line. string_bytes line ≡ differ_words program.now tag reaction) }
 {
     let mut line = String::new(alloc);
     push_field(&mut line, "differ time=", tag.time)?;
     push_field(&mut line, " microstep=", u64::from(tag.micro))?;
     line.push_str(" reaction=")?;
-    push_name(&mut line, program, reaction)?;
+    push_reaction(&mut line, program, reaction)?;
     line.push_str("\n")?;
     Ok(line)
 }
 
 /// The line of what two traces show, with its line feed.
 pub fn paired_line(alloc: Global, program: &Program, paired: Paired) -> Result<String, AllocError>
-    requires { NamesReaction program.now paired }
     ensures { IfOk result (λ line. string_bytes line ≡ line_of_pair program.now paired) }
 {
     match paired {

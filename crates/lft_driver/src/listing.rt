@@ -1,6 +1,6 @@
 //! The lines of all that a program has, one thing a line, for scripts.
 
-ghost use Rattle.std.specs.Prelude.{◌≡◌, ◌++◌, ◌<◌, ℕ, Some, IfOk, OnOk, flat_map, length, slice_get, string_bytes};
+ghost use Rattle.std.specs.Prelude.{◌≡◌, ◌++◌, ◌<◌, Some, IfOk, OnOk, flat_map, length, slice_get, string_bytes};
 ghost use Rattle.std.specs.List.{enumerate_from};
 ghost use Rattle.lft_ir.specs.declared.parts.{Action.Action as ActionOf, Reaction.Reaction as ReactionOf, Timer.Timer as TimerOf};
 ghost use Rattle.lft_graph.specs.Graph.{IsGraphOf};
@@ -8,10 +8,10 @@ ghost use Rattle.lft_driver.specs.Shown.{action_line, all_words, effect_line, ef
 
 use crate::show::{push_line, push_ports};
 use lft_graph::Graph;
-use lft_ir::words::{push_action, push_name, push_timer};
+use lft_ir::words::{push_action, push_name, push_reaction, push_timer};
 use lft_ir::{Name, Program, Trigger};
 use lft_lists::item_at;
-use lft_load::{push_field, push_name as push_reaction};
+use lft_load::push_field;
 use std::alloc::{AllocError, Global};
 
 /// Puts the line of an instance at the end of a text.
@@ -97,7 +97,6 @@ fn push_link(
     word: &str,
     reaction: u32,
 ) -> Result<(), AllocError>
-    requires { reaction < length program.now.reactions }
     ensures { OnOk result (string_bytes text.new ≡ string_bytes text.old ++ link_words program.now word.now reaction) }
 {
     text.push_str(word)?;
@@ -127,7 +126,6 @@ fn push_trigger_line(
     reaction: u32,
     trigger: Trigger,
 ) -> Result<(), AllocError>
-    requires { reaction < length program.now.reactions }
     ensures { OnOk result (string_bytes text.new ≡ string_bytes text.old ++ trigger_line program.now reaction trigger) }
 {
     push_link(text, program, "trigger", reaction)?;
@@ -143,7 +141,6 @@ fn push_triggers(
     reaction: u32,
     triggers: &[Trigger],
 ) -> Result<(), AllocError>
-    requires { reaction < length program.now.reactions }
     ensures { OnOk result (string_bytes text.new ≡ string_bytes text.old ++ flat_map (trigger_line program.now reaction) triggers.now) }
 {
     for place in 0..triggers.len() {
@@ -159,7 +156,6 @@ fn push_use(
     reaction: u32,
     name: Name,
 ) -> Result<(), AllocError>
-    requires { reaction < length program.now.reactions }
     ensures { OnOk result (string_bytes text.new ≡ string_bytes text.old ++ use_line program.now reaction name) }
 {
     push_link(text, program, "use", reaction)?;
@@ -175,7 +171,6 @@ fn push_uses(
     reaction: u32,
     uses: &[Name],
 ) -> Result<(), AllocError>
-    requires { reaction < length program.now.reactions }
     ensures { OnOk result (string_bytes text.new ≡ string_bytes text.old ++ flat_map (use_line program.now reaction) uses.now) }
 {
     for place in 0..uses.len() {
@@ -201,7 +196,6 @@ fn push_effect(
     reaction: u32,
     effect: Name,
 ) -> Result<(), AllocError>
-    requires { reaction < length program.now.reactions }
     ensures { OnOk result (string_bytes text.new ≡ string_bytes text.old ++ effect_line program.now reaction effect) }
 {
     push_link(text, program, word_of(effect), reaction)?;
@@ -217,7 +211,6 @@ fn push_effects(
     reaction: u32,
     effects: &[Name],
 ) -> Result<(), AllocError>
-    requires { reaction < length program.now.reactions }
     ensures { OnOk result (string_bytes text.new ≡ string_bytes text.old ++ flat_map (effect_line program.now reaction) effects.now) }
 {
     for place in 0..effects.len() {

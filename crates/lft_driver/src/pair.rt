@@ -6,7 +6,7 @@ ghost use Rattle.lft_ir.specs.{Steps.Fits.RowsFit, declared.steps.row.Row.Row};
 ghost use Rattle.lft_model.specs.{Plans.PlanParts, Workers.IsWorkers};
 ghost use Rattle.lft_rows.specs.Accepted.{IsAccepted};
 ghost use Rattle.lft_driver.specs.{Lines.line_of_pair, Meaning.IsNoTrace};
-ghost use Rattle.lft_driver.specs.{Pairs.{AreAccepted, HaveTables, IsExecution, IsPaired, IsPairedUnder, IsPairing, MeanBoth}, inner.Pairs.NamesReaction};
+ghost use Rattle.lft_driver.specs.Pairs.{AreAccepted, HaveTables, IsExecution, IsPaired, IsPairedUnder, IsPairing, MeanBoth};
 ghost use Rattle.lft_driver.specs.{PairRefusals.{PairRefusal, PairRefusalUnder, PairingRefusal, TracesRefusal}, Refusals.{CheckRefusal, IsRefusedGrowth}};
 ghost use Rattle.lft_load.specs.{Refusals.is_of_text, Written.AppendsFront};
 ghost use Rattle.lft_load.specs.declared.fault.Part.TheVariants as part;
@@ -150,7 +150,6 @@ pub(crate) fn report<W: Write>(
     paired: Paired,
     out: &mut W,
 ) -> Result<(), Fault>
-    requires { NamesReaction program.now paired }
     ensures written { OnOk result (Appends (W.contents out.old) (W.contents out.new) (line_of_pair program.now paired)) }
     ensures front { IfErr result (λ f. IsRefusedGrowth f ⊎ (f.part ≡ part.Write) × (f.number ≡ 1) × AppendsFront (W.contents out.old) (W.contents out.new) (line_of_pair program.now paired)) }
     ensures kept { IfErr result (λ f. f.part ≢ part.Write → Keeps (W.contents out.old) (W.contents out.new)) }

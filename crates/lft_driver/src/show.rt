@@ -1,6 +1,6 @@
 //! What is shown of a program: its ports and precedence, or all of it.
 
-ghost use Rattle.std.specs.Prelude.{◌≡◌, ◌≢◌, ◌++◌, ◌<◌, ℕ, Some, IfOk, IfErr, OnOk, flat_map, length, slice_get, string_bytes, true};
+ghost use Rattle.std.specs.Prelude.{◌≡◌, ◌≢◌, ◌++◌, ◌<◌, Some, IfOk, IfErr, OnOk, flat_map, length, slice_get, string_bytes, true};
 ghost use Rattle.std.specs.{List.enumerate_from, Io.KnownBytes.Keeps};
 ghost use Rattle.lft_ir.specs.{Parts.Parts, declared.parts.{Port.Port as PortOf, Reaction.Reaction}};
 ghost use Rattle.lft_graph.specs.{Graph.IsGraphOf, Precedence.HasNoLoop};
@@ -12,20 +12,21 @@ ghost use Rattle.lft_load.specs.declared.fault.Part.TheVariants as part;
 use crate::listing::all_lines;
 use lft_graph::Graph;
 use lft_ir::Program;
-use lft_load::{Fault, graph_of, push_field, push_name, push_names, read_program, write_text};
+use lft_ir::words::{push_port, push_reaction};
+use lft_load::{Fault, graph_of, push_field, push_names, read_program, write_text};
 use std::alloc::{AllocError, Global};
 use std::io::Write;
 
 /// Puts the line of a port at the end of a text.
-fn push_port(text: &mut String, program: &Program, number: u32) -> Result<(), AllocError>
+fn push_port_line(text: &mut String, program: &Program, number: u32) -> Result<(), AllocError>
     requires { number < length program.now.ports }
     ensures { OnOk result ((port : PortOf) → slice_get program.now.ports number ≡ Some port → string_bytes text.new ≡ string_bytes text.old ++ shown_port_words program.now (number, port)) }
 {
     let port = program.port(number);
     text.push_str("port ")?;
-    text.push_str(program.name_of_port(number))?;
+    push_port(text, program, number)?;
     text.push_str(" origin=")?;
-    text.push_str(program.name_of_port(port.origin))?;
+    push_port(text, program, port.origin)?;
     push_field(text, " after=", port.shift.time)?;
     push_field(text, "+", u64::from(port.shift.steps))?;
     text.push_str("\n")?;
@@ -34,7 +35,6 @@ fn push_port(text: &mut String, program: &Program, number: u32) -> Result<(), Al
 
 /// Puts the reactions just before one at the end of a line.
 fn push_before(text: &mut String, program: &Program, before: &[u32]) -> Result<(), AllocError>
-    requires { (i r : ℕ) → slice_get before.now i ≡ Some r → r < length program.now.reactions }
     ensures { OnOk result (string_bytes text.new ≡ string_bytes text.old ++ before_words program.now before.now) }
 {
     if before.is_empty() {
@@ -46,19 +46,17 @@ fn push_before(text: &mut String, program: &Program, before: &[u32]) -> Result<(
 }
 
 /// Puts the line of a reaction of this level at the end of a text.
-fn push_reaction(
+fn push_reaction_line(
     text: &mut String,
     program: &Program,
     number: u32,
     level: u32,
     before: &[u32],
 ) -> Result<(), AllocError>
-    requires reaction { number < length program.now.reactions }
-    requires before { (i r : ℕ) → slice_get before.now i ≡ Some r → r < length program.now.reactions }
     ensures { OnOk result (string_bytes text.new ≡ string_bytes text.old ++ shown_reaction_words program.now number level before.now) }
 {
     text.push_str("reaction ")?;
-    push_name(text, program, number)?;
+    push_reaction(text, program, number)?;
     push_field(text, " level=", u64::from(level))?;
     text.push_str(" before=")?;
     push_before(text, program, before)?;
@@ -78,7 +76,7 @@ pub(crate) fn push_line(
     requires graph { IsGraphOf program.now graph.now }
     ensures { OnOk result ((x : Reaction) → string_bytes text.new ≡ string_bytes text.old ++ reaction_line program.now graph.now (number, x)) }
 {
-    push_reaction(
+    push_reaction_line(
         text,
         program,
         number,
@@ -92,7 +90,7 @@ pub(crate) fn push_ports(text: &mut String, program: &Program) -> Result<(), All
     ensures { OnOk result (string_bytes text.new ≡ string_bytes text.old ++ port_lines program.now) }
 {
     for number in 0..program.ports() {
-        push_port(text, program, number as u32)?;
+        push_port_line(text, program, number as u32)?;
     }
     Ok(())
 }

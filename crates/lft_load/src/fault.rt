@@ -1,8 +1,7 @@
 //! Faults, and the line that each prints.
 
-ghost use Rattle.std.specs.Prelude.{◌≡◌, ◌<◌, ◌++◌, ℕ, List, Some, IfOk, OnOk, flat_map, length, slice_get, string_bytes};
+ghost use Rattle.std.specs.Prelude.{◌≡◌, ◌<◌, ◌++◌, IfOk, OnOk, flat_map, string_bytes};
 ghost use Rattle.std.specs.Char.{encode_utf8, Escape.escape_default};
-ghost use Rattle.lft_graph.specs.{Loops.IsLoop, declared.fault.GraphFault.TheVariants.CausalityLoop};
 ghost use Rattle.lft_resolve.specs.Causes.{number_of as program_number};
 ghost use Rattle.lft_load.specs.Faults.{lex_number, syntax_number, graph_number, table_number, IsFaultOfPart, IsFaultOfPath};
 ghost use Rattle.lft_load.specs.Words.{in_line, names_words, one_line};
@@ -127,7 +126,6 @@ fn one_line(alloc: Global, path: &str) -> Result<String, AllocError>
 
 /// The names of a loop's reactions, with a space between two.
 fn loop_words(alloc: Global, program: &Program, reactions: &[u32]) -> Result<String, AllocError>
-    requires { (i r : ℕ) → slice_get reactions.now i ≡ Some r → r < length program.now.reactions }
     ensures { IfOk result (λ words. string_bytes words ≡ names_words program.now reactions.now) }
 {
     let mut words = String::new(alloc);
@@ -241,7 +239,6 @@ impl Fault {
     /// The fault of a program without a graph. It names a loop's reactions; where their names
     /// can't be kept, it is want of memory.
     pub fn graph(alloc: Global, program: &Program, fault: &GraphFault) -> Fault
-        requires { (loop : List ℕ) → fault.now ≡ CausalityLoop loop → IsLoop program.now loop }
         ensures { IsFaultOfPart result part.Graph (graph_number fault.now) }
     {
         match fault {

@@ -16,4 +16,4 @@ pub use input::{SizedReader, read_input};
 pub use layers::{Unplanned, graph_of, load, plan_of, read_program};
 pub use output::write_text;
 pub use status::finish;
-pub use words::{push_field, push_name, push_names};
+pub use words::{push_field, push_names};

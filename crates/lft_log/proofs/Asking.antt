@@ -45,10 +45,6 @@ asked_within t a is = go a.until a.last is
     go (Some asked) None is i x e = λ place row first. absurd (UpTo-not asked row.tag first.from (is place row first.there))
     go (Some asked) (Some last) is i x e = λ place row first. subst (λ (g : Tag). UpTo x.tag g) (sym is.same ∙ ap (λ (r : Row). r.tag) (first_one asked t is.place place is.row row is.first first)) (is.up i x e)
 
--- no tag is asked for
-pub asked_none : (t : List Row) (a : Asked) → a.until ≡ None → IsAskedOf t a
-asked_none t a e = subst (λ (o : Option Tag). MatchOption o (Unit {0}) (λ asked. MatchOption a.last (AreBefore t asked) (ComeTo asked t))) (sym e) tt
-
 -- no row came to it
 pub asked_before : (t : List Row) (a : Asked) (asked : Tag) → a.until ≡ Some asked → a.last ≡ None → AreBefore t asked → IsAskedOf t a
 asked_before t a asked e f before = subst (λ (o : Option Tag). MatchOption o (Unit {0}) (λ asked. MatchOption a.last (AreBefore t asked) (ComeTo asked t))) (sym e) (subst (λ (o : Option Tag). MatchOption o (AreBefore t asked) (ComeTo asked t)) (sym f) before)

@@ -66,14 +66,6 @@ lines_left text n (inr l) = subst (λ (x : List ℕ). AreLines (drop n x)) (sym 
     left [] (suc (suc n)) = inl refl
     left (c ∷ line) (suc n) = left line n
 
--- lines up to a place behind some bytes end there
-pub ends_some : (text : List ℕ) (n : ℕ) → 0 < n → n ≤ length text → AreLines (take n text) → EndsLine (take n text)
-ends_some text n some within (inl e) =
-    let long : length (take n text) ≡ n = length-take-le n text within in
-    let none : length (take n text) ≡ 0 = ap (λ (x : List ℕ). length x) e in
-    absurd (omega arith)
-ends_some text n some within (inr ends) = ends
-
 -- what ends with a line is a line
 pub ends_behind : (a b : List ℕ) → EndsLine b → EndsLine (a ++ b)
 ends_behind a b l = (a ++ l.0, ap (λ (z : List ℕ). a ++ z) l.1 ∙ sym (append_assoc a l.0 (10 ∷ [])))

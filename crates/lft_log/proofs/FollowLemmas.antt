@@ -1,5 +1,4 @@
 pub mod Reading
-pub mod Telling
 pub mod Words
 pub mod Reaching
 pub mod Refusing

@@ -1,8 +1,8 @@
 -- What the first of whole lines tell.
-use Rattle.std.proofs.Common.{◌≡◌, ◌+◌, ◌-◌, ◌<◌, ◌≤◌, ◌∙◌, inl, inr, ℕ, zero, suc, List, [], ◌∷◌, None, Option, IfSome, length, take, drop, slice_range, refl, sym, ap, subst, arith}
+use Rattle.std.proofs.Common.{◌≡◌, ◌+◌, ◌-◌, ◌≤◌, ◌∙◌, ℕ, zero, suc, List, [], ◌∷◌, None, Option, IfSome, length, take, drop, slice_range, refl, sym, ap, subst, arith}
 use Rattle.std.proofs.lemmas.List.{length-drop, length-take, take-take, take_all}
 use Rattle.lft_ir.specs.{Parts.Parts, Steps.Fits.RowsFit}
-use Rattle.lft_trace.specs.{inner.LogTables.{InputsFit, ReadsLines, StopsAt}, Parts.EndsLine, declared.log_table.{LineFault.LineFault, LogLines.LogLines}}
+use Rattle.lft_trace.specs.{inner.LogTables.{InputsFit, ReadsLines, StopsAt}, declared.log_table.{LineFault.LineFault, LogLines.LogLines}}
 use Rattle.lft_log.specs.{Logs.{AreLines, ArePlain, inputs, records_below, rows}, inner.Logs.{BeginsOdd, IsFaultBehind, IsFront}}
 use Rattle.lft_log.specs.declared.{fault.LogFault.LogFault, front.LinesRead.LinesRead}
 use Rattle.lft_log.proofs.{Ends.{lines_left, range_take}, Behind.length_inputs}
@@ -30,15 +30,6 @@ lines_there text a n b within are =
     let up : n ≤ b - a = omega (arith, long, within) in
     let e : a + n - a ≡ n = omega arith in
     subst (λ (k : ℕ). AreLines (take k (drop a text))) (sym e) (subst AreLines (take-take n (b - a) (drop a text) up) are)
-
-pub nothing : {X : Type 0} (xs : List X) → length xs ≡ 0 → xs ≡ []
-nothing [] e = refl
-nothing (x ∷ xs) e = absurd (omega arith)
-
--- lines that aren't nothing end
-pub some_lines : (text : List ℕ) → AreLines text → 0 < length text → EndsLine text
-some_lines text (inl e) some = let none : length text ≡ 0 = ap (λ (x : List ℕ). length x) e in absurd (omega (arith, none, some))
-some_lines text (inr ends) some = ends
 
 -- a fault of the next record, or one behind the lines that are read
 abbrev pub IsNextFault : Option LineFault → List ℕ → ℕ → ℕ → LogFault → Type 0

@@ -1,4 +1,3 @@
 pub mod Explain
-pub mod Follow
 pub mod Logs
 pub mod Told

@@ -1,5 +1,5 @@
 -- What a last answer of a book says.
-use Rattle.std.proofs.Common.{◌≡◌, ◌≢◌, ◌⊎◌, ◌<◌, ◌≤◌, inl, inr, ℕ, ℤ, List, Result, Ok, Err, IfOk, IfErr, is_ok, Bool, true, false, subst, sym, ap, Option, Some, None, IfSome, ◌∙◌, refl}
+use Rattle.std.proofs.Common.{◌≡◌, ◌≢◌, ◌⊎◌, ◌<◌, ◌≤◌, inl, inr, ℕ, ℤ, List, Result, Ok, Err, IfOk, IfErr, is_ok, Bool, true, false, subst, sym, ap, Option, Some, None, ◌∙◌, refl}
 use Rattle.lft_pool.specs.declared.book.Begin.{Begin, TheVariants.{Run, Wait, Finished}}
 use Rattle.lft_pool.specs.declared.stop.Stop.{Stop}
 use Rattle.lft_pool.specs.declared.stop.Stop.TheVariants.{NoBody, Collision, UndeclaredEffect, TooManyRuns, Stranger, BodyNoMemory, NoMemory, NoWorker, PlanChanged, BadWorkers, TooManyRows, LimitTag}
@@ -28,11 +28,6 @@ unfinished_says (Err s) P u says = let e = u.1 in absurd (cc)
 stop_says : {L C : Type 0} (last : Result (Begin L C) Stop) (s : Stop) (P : Stop → Type 0) → last ≡ Err s → IfErr last P → P s
 stop_says (Ok b) s P e h = absurd (cc)
 stop_says (Err x) s P e h = let q : x ≡ s = cc in subst P q h
-
--- what is said of an item that is there
-pub if_some : {X : Type 0} (o : Option X) (x : X) (P : X → Type 0) → o ≡ Some x → IfSome o P → P x
-if_some None x P e h = absurd (cc)
-if_some (Some y) x P e h = let q : y ≡ x = cc in subst P q h
 
 -- a book that keeps the reason of its last answer keeps what it says
 pub own_reason : {L C : Type 0} (law : ℕ → Tag → ℤ → List (Option Value) → Done → Type 0) (last : Result (Begin L C) Stop) (old new : BookParts) → IfErr last (λ s. new ≡ record old { reason = Some s }) → ReasonHolds law (record new { reason = None }) new.reason → IfErr last (λ s. StopHolds law (record new { reason = None }) s)

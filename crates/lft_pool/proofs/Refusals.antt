@@ -1,5 +1,5 @@
 -- Causes of refusal, from one another.
-use Rattle.std.proofs.Common.{◌≡◌, inl, inr, ℕ, ℤ, ◌<◌, zero, suc, List, [], ◌∷◌, ◌++◌, length, refl, sym, ap, ◌∙◌, subst, arith, Option, Some, None, slice_get, slice_set, cond, ◌==◌, Bool, false, Ok, Err, Result, IsErr, IfErr, Contains, unwrap_or, option_map, rules}
+use Rattle.std.proofs.Common.{◌≡◌, inl, inr, ℕ, ℤ, ◌<◌, zero, suc, List, [], ◌∷◌, ◌++◌, length, refl, sym, ap, ◌∙◌, subst, arith, Option, Some, None, slice_get, slice_set, cond, ◌==◌, Bool, false, Ok, Err, Result, IsErr, Contains, unwrap_or, option_map, rules}
 use Rattle.std.proofs.lemmas.Bool.Decides.{nat_tests}
 use Rattle.lft_ir.specs.Sound.{IsSound}
 use Rattle.lft_ir.specs.declared.parts.{Name.{Name, TheVariants.{Port, Action}}, Reaction.Reaction, Value.Value}
@@ -86,11 +86,6 @@ set_words (x ∷ words) zero zero w v l e = refl
 set_words (x ∷ words) zero (suc k) w v l e = let ne : (0 == suc k) ≡ false = grind (arith, nat_tests) in e ∙ ap (λ (b : Bool). Some (cond b w v)) (sym ne)
 set_words (x ∷ words) (suc i) zero w v l e = let ne : (suc i == 0) ≡ false = grind (arith, nat_tests) in e ∙ ap (λ (b : Bool). Some (cond b w v)) (sym ne)
 set_words (x ∷ words) (suc i) (suc k) w v l e = let se : (suc i == suc k) ≡ (i == k) = grind (arith, nat_tests) in set_words words i k w v (omega arith) e ∙ ap (λ (b : Bool). Some (cond b w v)) (sym se)
-
--- what follows from an error
-pub if_err : {A E : Type 0} (r : Result A E) (P Q : E → Type 0) → ((s : E) → P s → Q s) → IfErr r P → IfErr r Q
-if_err (Ok a) P Q f h = h
-if_err (Err s) P Q f h = f s h
 
 pub is_err_of : {A E : Type 0} (r : Result A E) → ((x : A) → r ≡ Ok x → ⊥) → IsErr r
 is_err_of (Ok a) n = absurd (n a refl)

@@ -4,4 +4,3 @@ pub mod CardsDiffer
 pub mod Places
 pub mod Sums
 pub mod TermsDiffer
-pub mod Kept

@@ -1,6 +1,6 @@
 -- What is answered of a trace table is right under its plan.
-use Rattle.std.proofs.Common.{◌≡◌, ◌≢◌, ◌⊎◌, ◌++◌, inl, inr, ℕ, Bool, true, false, List, [], IfErr, IfOk, OnOk, Option, Result, Ok, Err, refl, sym, ap, ◌∙◌, subst, append-nil, length}
-use Rattle.std.specs.Io.KnownBytes.{Appends, Keeps}
+use Rattle.std.proofs.Common.{◌≡◌, ◌⊎◌, ◌++◌, inl, inr, ℕ, Bool, true, false, List, [], IfErr, OnOk, Option, Result, Ok, Err, refl, sym, ap, ◌∙◌, subst, append-nil, length}
+use Rattle.std.specs.Io.KnownBytes.{Appends}
 use Rattle.lft_ir.specs.{Parts.Parts, declared.steps.row.Row.Row}
 use Rattle.lft_trace.specs.{Records.records_of, Traces.Table}
 use Rattle.lft_model.specs.{Plans.PlanParts, declared.breach.Breach.Breach, OneWorker.{LegalRunsAreOneWorker, LegalRunsKeepPrecedence}, Workers.IsWorkers}
@@ -14,7 +14,6 @@ use Rattle.lft_load.specs.{Faults.table_number, Refusals.is_of_text, Written.App
 use Rattle.lft_load.proofs.Loading.{memory_untold, told_at, trace_told}
 use Rattle.lft_driver.specs.{inner.Explained.WriteRefusal, Explained.Writes, Lines.line_of, Refusals.{CheckRefusal, CheckRefusal.by_growth}}
 use Rattle.lft_driver.proofs.Judging.{accepted_runs, refusal_untold, write_untold}
-use Rattle.lft_check.specs.declared.verdict.Verdict.TheVariants as verdict
 use Rattle.lft_load.specs.declared.fault.Part.TheVariants as part
 
 -- what was written of one kind is of another
@@ -61,7 +60,7 @@ module _ (list : Bool) (plan : PlanParts) (covered : Covered) (line text : List 
 -- the verdict alone is right
 pub right_verdict : (plan : PlanParts) (rows : List Row) (covered : Covered) → IsCovered plan rows covered → IsVerdict plan rows (verdict_in covered)
 right_verdict plan rows (Accepted runs tags cover) is = is.0
-right_verdict plan rows (Broken b) is = is.0
+right_verdict plan rows (Broken b) is = is
 
 module _ (list : Bool) (plan : PlanParts) (trace : List ℕ) (workers : ℕ) (old new : Option (List ℕ)) where
   module _ (covered : Covered) (x : IsCoveredTable plan trace covered) where
@@ -93,8 +92,3 @@ module _ (P : List ℕ → Type 0) (old new : Option (List ℕ)) (f : Fault) whe
   pub unwritten_none : WriteRefusal P old new f → is_of_text f.part f.number ≡ true → ⊥
   unwritten_none (inl (m, n, k)) t = memory_untold f.part f.number m t
   unwritten_none (inr (p, n, w)) t = write_untold f.part f.number p t
-
-  -- without a fault of the writer nothing was written
-  pub unwritten_kept : WriteRefusal P old new f → f.part ≢ part.Write → Keeps old new
-  unwritten_kept (inl (m, n, k)) w = k
-  unwritten_kept (inr (p, n, x)) w = absurd (w p)

@@ -9,7 +9,7 @@ use Rattle.lft_model.specs.{declared.breach.Breach.Breach, Plans.PlanParts, Pres
 use Rattle.lft_model.specs.Breaches.{RowBreach, RowOrder, First}
 use Rattle.lft_model.proofs.Places.{slice_get_within}
 use Rattle.lft_rows.specs.inner.Passes.{KeepsEarly, EarlyRule}
-use Rattle.lft_check.specs.{declared.verdict.Verdict.{Verdict, TheVariants.Broken}, Verdicts.IsExact}
+use Rattle.lft_check.{specs.{declared.verdict.Verdict.{Verdict, TheVariants.Broken}, Verdicts.IsExact}, proofs.Exact.{breach_by, same_row_order}}
 use Rattle.lft_races.specs.Races.{FirstEarly, FirstSoFar}
 
 -- the breach of a rule by the row at a place
@@ -42,15 +42,6 @@ module _ (plan : PlanParts) (t : List Row) where
           go (no n) (yes z) (yes m) = absurd (rule.2 c.rule m (subst (λ (y : Row). BreaksRow plan t i y c.rule) (sym (same_at t i x.place row x.row is x.is_row (sym z))) (subst (λ j. BreaksRow plan t j x.row c.rule) z x.breaks)))
           go (no n) (yes z) (no m) = inr (omega arith, omega arith)
           go (no n) (no m) e = inl (omega arith)
-
-breach_by : {k m i j : ℕ} {g h : Tag} {o p : Option ℕ} → k ≡ m → g ≡ h → o ≡ p → i ≡ j → (let b : Breach = record { rule = k; tag = g; reaction = o; row = i } in let c : Breach = record { rule = m; tag = h; reaction = p; row = j } in b ≡ c)
-breach_by a b c d = cc
-
-same_row_order : (b c : Breach) → RowOrder b c → RowOrder c b → (b.row ≡ c.row) × (b.rule ≡ c.rule)
-same_row_order b c (inl x) (inl y) = absurd (omega arith)
-same_row_order b c (inl x) (inr y) = let e : c.row ≡ b.row = y.0 in absurd (omega arith)
-same_row_order b c (inr x) (inl y) = let e : b.row ≡ c.row = x.0 in absurd (omega arith)
-same_row_order b c (inr x) (inr y) = let p : b.rule ≤ c.rule = x.1 in let q : c.rule ≤ b.rule = y.1 in (x.0, omega arith)
 
 -- there is one first row of these rules
 one_early : (plan : PlanParts) (t : List Row) (b c : Breach) → FirstEarly plan t b → FirstEarly plan t c → b ≡ c

@@ -3,20 +3,19 @@ use Rattle.std.proofs.Common.{◌≡◌, ◌<◌, ◌^◌, ◌∙◌, inl, inr, 
 use Rattle.std.specs.Prelude.{IfOk, Result}
 use Rattle.std.{specs.{Io.KnownBytes.Appends, Global.Vec}, proofs.KnownBytes.{Appends-nil, Appends-trans}}
 use Rattle.lft_tag.specs.declared.{NoMemory.NoMemory, Tag.Tag}
-use Rattle.lft_ir.specs.{Parts.Parts, Sound.IsSound}
 use Rattle.lft_model.specs.Plans.{PlanParts}
 use Rattle.lft_load.specs.{Written.AppendsFront, declared.fault.Fault.Fault}
 use Rattle.lft_monitor.specs.Follows.{breach_of}
 use Rattle.lft_monitor.specs.declared.found.BrokenRule.{BrokenRule}
 use Rattle.lft_monitor.specs.declared.open.StillOpen.{StillOpen}
-use Rattle.lft_log.specs.{Logs.HasManyRows, Told.{AreOpenAtEnd, AreOpenIn, TellsOpen}}
+use Rattle.lft_log.specs.{Logs.HasManyRows, Told.{AreOpenAtEnd, TellsOpen}}
 use Rattle.lft_log.specs.declared.told.{Ended.Ended, Told.TheVariants.{Broken, Odd, Reached}, Final.{Final, TheVariants.{Soon, AtEnd}}}
 use Rattle.lft_log.specs.declared.{follow.kept.Kept.{Kept, TheVariants.{All, Nothing, TooLong}}, explain.explaining.Unexplained.Unexplained}
 use Rattle.lft_log.specs.Follow.{Lines.line_of_log, Followed.IsFollowedUnder, Kept.IsKeptOn}
-use Rattle.lft_log.specs.inner.Explain.{Listed.AreOf, Explained.{IsListOf, IsLongKept, IsReasonOf, IsTextBehind}}
+use Rattle.lft_log.specs.inner.Explain.Explained.{IsListOf, IsLongKept, IsReasonOf, IsTextBehind}
 use Rattle.lft_log.specs.Explain.Explained.{ExplainsCut, IsBehindLine, IsLogExplainedUnder, IsLack, IsTextOf, IsToStand, IsLogTooLong}
 use Rattle.lft_log.specs.Explain.Refusals.{ExplainLogRefusalUnder, ExplainLogRefusalUnder.by_writer_behind}
-use Rattle.lft_log.proofs.FollowLemmas.{Keeping.many_longer, Telling.of_log}
+use Rattle.lft_log.proofs.FollowLemmas.Keeping.{many_longer}
 use Rattle.lft_driver.proofs.Behind.{writes_both}
 use Rattle.lft_load.specs.declared.fault.Part.TheVariants as part
 use Rattle.lft_monitor.specs.declared.judged.Ending.TheVariants as ending
@@ -58,17 +57,6 @@ lack_of A B f (Soon (Reached r)) why x = x
 lack_of A B f (AtEnd (ending.Accepted c)) why x = x
 lack_of A B f (AtEnd (ending.Unbroken r)) why x = x
 lack_of A B f (AtEnd (ending.Broken b)) why x = λ e. f (x e)
-
--- the reactions of runs that are open at the end are of the program
-runs_of : (plan : PlanParts) (bytes : List ℕ) (runs : List StillOpen) → IsSound plan.program → AreOpenIn plan bytes runs → AreOf plan.program runs
-runs_of plan bytes runs sound (own, t, rest, tells, open_line, are) k run e =
-    let x = are.each k run e in
-    let l : x.row.reaction < length own.program.reactions = of_log plan own bytes [] rest t sound tells x.place x.row x.is_row in
-    subst (λ (r : StillOpen). r.reaction < length plan.program.reactions) (sym x.run_is) (subst (λ (p : Parts). x.row.reaction < length p.reactions) tells.told.program l)
-
-pub runs_known : (plan : PlanParts) (log : List ℕ) (runs : List StillOpen) → IsSound plan.program → AreOpenAtEnd plan log runs → AreOf plan.program runs
-runs_known plan log runs sound (inl x) = runs_of plan (log ++ 10 ∷ []) runs sound x.1
-runs_known plan log runs sound (inr x) = runs_of plan log runs sound x.1
 
 -- what is to stand behind the line, of the log that is kept
 module _ (plan : PlanParts) (all : Bool) (kept : Kept) (log text : List ℕ) (explains : (at_end : Bool) (b : BrokenRule) → IsReasonOf at_end plan kept b all text → ExplainsCut all at_end plan log (breach_of b) text) where

@@ -1,24 +1,12 @@
 -- Why nothing is told, and what was written then.
-use Rattle.std.proofs.Common.{◌≡◌, ◌≢◌, inl, inr, ℕ, Bool, List, Option, subst}
-use Rattle.std.specs.Io.KnownBytes.{Keeps}
+use Rattle.std.proofs.Common.{◌≡◌, inl, inr, ℕ, Bool, List, Option, subst}
 use Rattle.lft_tag.specs.declared.Tag.{Tag}
 use Rattle.lft_model.specs.Plans.{PlanParts}
 use Rattle.lft_load.specs.{Written.AppendsFront, declared.fault.Fault.Fault}
 use Rattle.lft_driver.specs.inner.Explained.{WriteRefusal}
 use Rattle.lft_log.specs.declared.told.Final.{Final}
 use Rattle.lft_log.specs.Follow.{Followed.IsRead, Lines.line_of_log}
-use Rattle.lft_log.specs.Follow.Refusals.{FollowRefusalUnder, IsOutside, FollowRefusalUnder.{by_reading, by_writer}, ReadRefusal.by_outside}
-use Rattle.lft_load.specs.declared.fault.Part.TheVariants as part
-
--- a text that wasn't written
-pub outside : (P : List ℕ → Type 0) (old new : Option (List ℕ)) (f : Fault) → WriteRefusal P old new f → IsOutside f
-outside P old new f (inl x) = inl (x.0, x.1)
-outside P old new f (inr x) = inr (x.0, x.1)
-
--- nothing was written, but where the writer failed
-pub kept_unless : (P : List ℕ → Type 0) (old new : Option (List ℕ)) (f : Fault) → WriteRefusal P old new f → f.part ≢ part.Write → Keeps old new
-kept_unless P old new f (inl x) other = x.2
-kept_unless P old new f (inr x) other = absurd (other x.0)
+use Rattle.lft_log.specs.Follow.Refusals.{FollowRefusalUnder, FollowRefusalUnder.{by_reading, by_writer}, ReadRefusal.by_outside}
 
 -- the line of what is told wasn't written
 pub unwritten : (plan : PlanParts) (path : List ℕ) (until : Option Tag) (whole : Bool) (bytes : List ℕ) (old new out_old out_new : Option (List ℕ)) (told : Final) (line : List ℕ) (f : Fault) → IsRead plan until whole bytes old new told → line ≡ line_of_log plan.program told → WriteRefusal (λ text. text ≡ line) out_old out_new f → FollowRefusalUnder plan path until whole old new out_old out_new f

@@ -1,10 +1,10 @@
 //! The line of a log, and the facts behind a broken rule.
 
-ghost use Rattle.std.specs.Prelude.{◌≡◌, ◌≢◌, ◌∷◌, ◌++◌, List, [], ℕ, Bool, IfErr, IfOk, IfSome};
+ghost use Rattle.std.specs.Prelude.{◌≡◌, ◌≢◌, ◌∷◌, ◌++◌, [], IfErr, IfOk, IfSome};
 ghost use Rattle.std.specs.Io.KnownBytes.{Keeps};
 ghost use Rattle.lft_ir.specs.Steps.Fits.{RowsFit};
 ghost use Rattle.lft_monitor.specs.Follows.{breach_of};
-ghost use Rattle.lft_log.specs.{Logs.HasManyRows, Told.{AreOpenAtEnd, TellsOpen}, Follow.Reaches.{OfReadReaches, OfTextReaches, WritesOrFails}};
+ghost use Rattle.lft_log.specs.{Logs.HasManyRows, Follow.Reaches.{OfReadReaches, OfTextReaches, WritesOrFails}};
 ghost use Rattle.lft_log.specs.Explain.Explained.{ExplainsCut, ExplainsFirst, IsLogExplained, IsLogExplainedUnder, IsLack, IsLogCut};
 ghost use Rattle.lft_log.specs.Explain.Refusals.{ExplainLogRefusal, ExplainLogRefusalUnder};
 ghost use Rattle.lft_log.specs.inner.Explain.Explained.{IsListOf, IsLongKept, IsReasonOf, IsTextBehind};
@@ -159,7 +159,6 @@ fn lines_of_open(
     plan: &Plan,
     still_open: Result<Vec<StillOpen>, NoMemory>,
 ) -> Result<Vec<u8>, NoMemory>
-    requires { IfOk still_open (λ runs. (log : List ℕ) × AreOpenAtEnd plan.now log runs.items) }
     ensures { IfOk result (λ text. IsListOf plan.now still_open text.items) }
 {
     let runs = still_open?;
@@ -176,7 +175,6 @@ fn text_behind(
     ended: Ended,
     all: bool,
 ) -> Result<Vec<u8>, Unexplained>
-    requires { (log : List ℕ) × TellsOpen plan.old log ended.told ended.still_open }
     ensures text { IfOk result (λ text. IsTextBehind all plan.old kept ended text.items) }
     ensures lack { IfErr result (IsLack (IsLongKept plan.old kept) ended.told) }
 {

@@ -5,7 +5,7 @@ ghost use Rattle.std.specs.Io.KnownBytes.{Appends, IsAtEnd, Keeps};
 ghost use Rattle.lft_tag.specs.{declared.Tag.Tag as TheTag, Tags.IsRecorded};
 ghost use Rattle.lft_model.specs.Plans.{PlanParts};
 ghost use Rattle.lft_driver.specs.inner.Explained.{WriteRefusal};
-ghost use Rattle.lft_log.specs.{inner.{Told.IsLog, Follow.Lines.HasFound}, Told.IsSoon};
+ghost use Rattle.lft_log.specs.{inner.Told.IsLog, Told.IsSoon};
 ghost use Rattle.lft_log.specs.Follow.{Lines.{line_of_log, log_status, unbroken_words}, Followed.{IsFollowed, IsFollowedUnder, IsReadKept, until_words}};
 ghost use Rattle.lft_log.specs.Follow.Reaches.{OfReaches, OfReadReaches, OfTextReaches, WritesOrFails};
 ghost use Rattle.lft_log.specs.Follow.Refusals.{FollowRefusal, FollowRefusalUnder, IsFaultOfLog, IsFaultNamed, IsOutside, IsToldAs, ReadRefusal, TellsLine};
@@ -240,7 +240,6 @@ fn read_log<R: Read, E: Write>(
 
 /// Writes the line of what is told.
 fn report<W: Write>(alloc: Global, program: &Program, told: Final, out: &mut W) -> Result<(), Fault>
-    requires { HasFound program.now told }
     ensures written { OnOk result (Appends (W.contents out.old) (W.contents out.new) (line_of_log program.now told)) }
     ensures refused { IfErr result (WriteRefusal (λ text. text ≡ line_of_log program.now told) (W.contents out.old) (W.contents out.new)) }
 {

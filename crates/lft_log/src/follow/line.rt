@@ -1,9 +1,9 @@
 //! The lines of a trace table that is followed.
 
-ghost use Rattle.std.specs.Prelude.{◌≡◌, ◌<◌, ◌++◌, IfOk, OnOk, length, string_bytes};
+ghost use Rattle.std.specs.Prelude.{◌≡◌, ◌++◌, IfOk, OnOk, string_bytes};
 ghost use Rattle.lft_monitor.specs.Follows.{breach_of};
-ghost use Rattle.lft_driver.specs.Lines.{HasReaction, breach_words};
-ghost use Rattle.lft_log.specs.{inner.Follow.Lines.HasFound, Follow.Lines.{last_words, line_of_log, odd_words, reach_words, tag_fields, unbroken_words}};
+ghost use Rattle.lft_driver.specs.Lines.{breach_words};
+ghost use Rattle.lft_log.specs.Follow.Lines.{last_words, line_of_log, odd_words, reach_words, tag_fields, unbroken_words};
 
 use crate::{Final, Told};
 use lft_driver::{accepted_line, broken_line};
@@ -65,7 +65,6 @@ fn odd_line(alloc: Global, reach: Reach, last: u64) -> Result<String, AllocError
 
 /// The line of a broken rule, with its line feed.
 fn found_line(alloc: Global, program: &Program, found: BrokenRule) -> Result<String, AllocError>
-    requires { HasReaction program.now found.reaction }
     ensures { IfOk result (λ line. string_bytes line ≡ breach_words program.now (breach_of found)) }
 {
     broken_line(
@@ -84,7 +83,6 @@ pub(crate) fn line_of_final(
     program: &Program,
     told: Final,
 ) -> Result<String, AllocError>
-    requires { HasFound program.now told }
     ensures { IfOk result (λ line. string_bytes line ≡ line_of_log program.now told) }
 {
     match told {

@@ -2,7 +2,8 @@ use Rattle.std.proofs.Common.{◌≡◌, ◌≤◌, length, arith, Some, slice_g
 use Rattle.std.specs.List.{enumerate_from}
 use Rattle.lft_lists.proofs.Places.{get_there}
 use Rattle.lft_ir.specs.declared.parts.Reaction.{Reaction}
-use Rattle.lft_coverage.{specs.Facts.pair_lines, proofs.{Taking.took_nothing, Listed.{all_placed, placed_first, took_items, took_one}}}
+use Rattle.lft_coverage.{specs.Facts.pair_lines, proofs.{Taking.took_nothing, Listed.{all_placed, took_items, took_one}}}
+use Rattle.lft_driver.proofs.Listed.{placed_first}
 use Rattle.lft_coverage.proofs.listing.put_pairs.Goals as goal
 
 pub loop-number-init : goal.loop-number-init

@@ -1,6 +1,7 @@
 use Rattle.std.proofs.Common.{◌≤◌, length, arith}
 use Rattle.std.specs.List.{enumerate_from}
-use Rattle.lft_coverage.{specs.Facts.width_line, proofs.{Taking.took_nothing, Listed.{all_placed, placed_first, took_items, took_one}}}
+use Rattle.lft_coverage.{specs.Facts.width_line, proofs.{Taking.took_nothing, Listed.{all_placed, took_items, took_one}}}
+use Rattle.lft_driver.proofs.Listed.{placed_first}
 use Rattle.lft_coverage.proofs.listing.put_widths.Goals as goal
 
 pub loop-width-init : goal.loop-width-init

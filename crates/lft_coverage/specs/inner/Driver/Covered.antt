@@ -6,7 +6,7 @@ use Rattle.lft_rows.specs.Accepted.{IsAccepted}
 use Rattle.lft_check.specs.declared.verdict.Verdict.{Verdict}
 use Rattle.lft_counts.specs.Cover.{CoversRows}
 use Rattle.lft_coverage.specs.{declared.driver.covered.Covered.{Covered, TheVariants.{Accepted, Broken}}, Driver.Covered.IsBehind}
-use Rattle.lft_driver.specs.{Lines.{HasReaction, line_of}, Meaning.HasTable}
+use Rattle.lft_driver.specs.{Lines.line_of, Meaning.HasTable}
 use Rattle.lft_check.specs.declared.verdict.Verdict.TheVariants as verdict
 
 -- the verdict alone
@@ -17,7 +17,7 @@ verdict_in (Broken b) = verdict.Broken b
 -- the verdict is right for the rows, and the counts of an accepted trace are those of all its rows
 abbrev pub IsCovered : PlanParts → List Row → Covered → Type 0
 IsCovered plan rows (Accepted runs tags cover) = IsAccepted plan rows runs tags × CoversRows plan.program rows (length rows) cover
-IsCovered plan rows (Broken b) = First plan rows b × HasReaction plan.program b.reaction
+IsCovered plan rows (Broken b) = First plan rows b
 
 -- the same of the rows of a trace table
 abbrev pub IsCoveredTable : PlanParts → List ℕ → Covered → Type 0

@@ -3,9 +3,6 @@ use Rattle.std.proofs.lemmas.Result.{IfErr-weaker}
 use Rattle.lft_driver.specs.Refusals.{JudgingRefusal.by_check, JudgeRefusalUnder.{by_judging, by_trace}}
 use Rattle.lft_driver.proofs.alone.judge_plan_alone.Goals as goal
 
-pub tell-requires : goal.tell-requires
-tell-requires g c = inr (c.args.trace.now, c.in-Ok.ensures.right)
-
 pub returns-in-Ok-clause-judged : goal.returns-in-Ok-clause-judged
 returns-in-Ok-clause-judged g c = c.tell.ensures.judged c.args.trace.now c.in-Ok.ensures.right
 

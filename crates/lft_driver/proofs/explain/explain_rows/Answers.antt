@@ -1,12 +1,7 @@
-use Rattle.std.proofs.Common.{inl, sym, subst}
-use Rattle.lft_ir.specs.Parts.{Parts}
-use Rattle.lft_driver.specs.{Lines.HasReaction, Explained.ExplainingRefusal.by_check}
-use Rattle.lft_driver.proofs.{Judging.has_reaction, Explaining.{line_refused, all_written, rest_refused}}
+use Rattle.std.proofs.Common.{inl}
+use Rattle.lft_driver.{specs.Explained.ExplainingRefusal.by_check, proofs.Explaining.{line_refused, all_written, rest_refused}}
 use Rattle.std.proofs.KnownBytes.{Keeps-refl}
 use Rattle.lft_driver.proofs.explain.explain_rows.Goals as goal
-
-pub report-requires : goal.report-requires
-report-requires g c = λ b e. subst (λ (p : Parts). HasReaction p b.reaction) (sym c.program.ensures.value) (has_reaction c.args.plan.now c.args.rows.now c.requires.fit c.in-Ok.verdict c.in-Ok.ensures.verdict b e)
 
 pub returns-in-Err-clause-refused : goal.returns-in-Err-clause-refused
 returns-in-Err-clause-refused g c = by_check c.in-Err.ensures.fault (inl (Keeps-refl (g.W.Write.contents c.args.out.now)))

@@ -1,12 +1,7 @@
-use Rattle.std.proofs.Common.{inl, sym, subst}
-use Rattle.lft_ir.specs.Parts.{Parts}
-use Rattle.lft_driver.specs.{inner.Pairs.NamesReaction, PairExplained.PairExplainingRefusal.by_check}
-use Rattle.lft_driver.proofs.{Pairing.names_reaction, PairExplaining.{line_refused, all_written, rest_refused}}
+use Rattle.std.proofs.Common.{inl}
+use Rattle.lft_driver.{specs.PairExplained.PairExplainingRefusal.by_check, proofs.PairExplaining.{line_refused, all_written, rest_refused}}
 use Rattle.std.proofs.KnownBytes.{Keeps-refl}
 use Rattle.lft_driver.proofs.explain_pair.explain_rows.Goals as goal
-
-pub report-requires : goal.report-requires
-report-requires g c = subst (λ (p : Parts). NamesReaction p c.in-Ok.paired) (sym c.program.ensures.value) (names_reaction c.args.plan.now c.args.first.now c.args.second.now c.requires.first_fits c.requires.second_fits c.in-Ok.paired c.in-Ok.ensures.right)
 
 pub returns-in-Err-clause-refused : goal.returns-in-Err-clause-refused
 returns-in-Err-clause-refused g c = by_check c.in-Err.ensures.fault (inl (Keeps-refl (g.W.Write.contents c.args.out.now)))

@@ -1,9 +1,5 @@
-use Rattle.std.proofs.Common.{inr}
 use Rattle.std.proofs.lemmas.Result.{IfErr-weaker}
 use Rattle.lft_driver.proofs.judge.judge_plan.Goals as goal
-
-pub tell-requires : goal.tell-requires
-tell-requires g c = inr (c.args.trace.now, c.in-Some.ensures.right)
 
 pub returns-in-Some-clause-judged : goal.returns-in-Some-clause-judged
 returns-in-Some-clause-judged g c = c.tell.ensures.judged c.args.trace.now c.in-Some.ensures.right

@@ -1,22 +1,12 @@
-use Rattle.std.proofs.Common.{inl, inr, sym, subst}
+use Rattle.std.proofs.Common.{inl, inr, subst}
 use Rattle.std.specs.Io.KnownBytes.{Appends}
 use Rattle.lft_ir.specs.Parts.{Parts}
-use Rattle.lft_trace.{specs.Records.records_of, proofs.TraceFacts.{one_table, table_fits}}
+use Rattle.lft_trace.{specs.Records.records_of, proofs.TraceFacts.one_table}
 use Rattle.lft_load.specs.Written.{AppendsFront}
-use Rattle.lft_driver.specs.{Judged.Accepts, Lines.{HasReaction, line_of}, Meaning.HasTable}
+use Rattle.lft_driver.specs.{Lines.line_of, Meaning.HasTable}
 use Rattle.lft_driver.specs.Refusals.{CheckRefusal.by_growth, JudgingRefusal.{by_check, by_writer}, JudgeRefusalUnder.by_judging}
-use Rattle.lft_driver.proofs.Judging.{accepted_runs, growth_untold, has_reaction, write_untold}
+use Rattle.lft_driver.proofs.Judging.{accepted_runs, growth_untold, write_untold}
 use Rattle.lft_driver.proofs.judge.tell.Goals as goal
-
-pub report-requires : goal.report-requires
-report-requires g c = λ b e. elim c.requires [
-  | inl accepts ↦ absurd (subst Accepts e accepts)
-  | inr known ↦
-      let plan = c.args.plan.now in
-      let right = known.1 in
-      let fit = table_fits plan.program (records_of known.0) right.0 c.program.ensures.sound.sound right.1 in
-      subst (λ (p : Parts). HasReaction p b.reaction) (sym c.program.ensures.value) (has_reaction plan right.0 fit c.args.verdict right.2 b e)
-]
 
 pub returns-in-Ok-clause-judged : goal.returns-in-Ok-clause-judged
 returns-in-Ok-clause-judged g c = λ trace right.

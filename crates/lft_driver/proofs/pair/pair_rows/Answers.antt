@@ -1,12 +1,7 @@
-use Rattle.std.proofs.Common.{inl, inr, sym, subst}
-use Rattle.lft_ir.specs.Parts.{Parts}
-use Rattle.lft_driver.specs.{Lines.line_of_pair, inner.Pairs.NamesReaction, Refusals.CheckRefusal.by_growth, PairRefusals.PairingRefusal.{by_check, by_writer}}
-use Rattle.lft_driver.proofs.Pairing.{names_reaction}
+use Rattle.std.proofs.Common.{inl, inr, subst}
+use Rattle.lft_driver.specs.{Lines.line_of_pair, Refusals.CheckRefusal.by_growth, PairRefusals.PairingRefusal.{by_check, by_writer}}
 use Rattle.lft_load.specs.Written.{AppendsFront}
 use Rattle.lft_driver.proofs.pair.pair_rows.Goals as goal
-
-pub report-requires : goal.report-requires
-report-requires g c = subst (λ (p : Parts). NamesReaction p c.in-Ok.paired) (sym c.program.ensures.value) (names_reaction c.args.plan.now c.args.first.now c.args.second.now c.requires.first_fits c.requires.second_fits c.in-Ok.paired c.in-Ok.ensures.right)
 
 pub returns-in-Err-report-clause-refused : goal.returns-in-Err-report-clause-refused
 returns-in-Err-report-clause-refused g c = elim c.in-Err-report.ensures.front [

@@ -1,7 +1,8 @@
 use Rattle.std.proofs.Common.{inl, inr, string_bytes, subst}
 use Rattle.lft_graph.specs.Precedence.{HasNoLoop}
 use Rattle.lft_driver.specs.{declared.refused.Start.Start, Told.{HasNoOrder, TellsLoop, TellsNoOrder}, inner.Told.ReadsProgram}
-use Rattle.lft_driver.proofs.Telling.{of_none, of_found, told_loop, no_order_by_loop, no_order_by_program}
+use Rattle.lft_driver.proofs.Telling.{of_found, told_loop, no_order_by_loop, no_order_by_program}
+use Rattle.lft_lists.proofs.Options.{ok_none}
 use Rattle.lft_driver.proofs.refused.refusal_of_program.Goals as goal
 
 pub returns-in-Program-clause-no_order : goal.returns-in-Program-clause-no_order
@@ -17,7 +18,7 @@ returns-in-Program-clause-tells c =
 pub returns-in-Program-clause-none : goal.returns-in-Program-clause-none
 returns-in-Program-clause-none c =
     let only = subst (λ (s : Start). ReadsProgram c.args.program.now s) c.in-Program.is c.in_ok-flat.ensures in
-    of_none c.refusal_of_graph.result (HasNoLoop c.in-Program.flat) _ (λ h. (c.in-Program.flat, only.is, h)) c.refusal_of_graph.ensures.none
+    ok_none (HasNoLoop c.in-Program.flat) _ c.refusal_of_graph.result (λ h. (c.in-Program.flat, only.is, h)) c.refusal_of_graph.ensures.none
 
 pub returns-in-Refused-clause-no_order : goal.returns-in-Refused-clause-no_order
 returns-in-Refused-clause-no_order c = no_order_by_program c.args.program.now (subst (λ (s : Start). ReadsProgram c.args.program.now s) c.in-Refused.is c.in_ok-flat.ensures).0

@@ -1,7 +1,8 @@
 use Rattle.std.proofs.Common.{inl, inr, string_bytes, subst}
 use Rattle.lft_driver.specs.{declared.refused.Start.Start, Meaning.{IsNoTrace, IsTrace}, Told.{HaveNoMeaning, IsPlanned, TellsInputsOrLoop}}
 use Rattle.lft_driver.specs.inner.Told.{ReadsProgram}
-use Rattle.lft_driver.proofs.Telling.{meant, none_by_program, none_by_trace, none_by_unplanned, none_so, of_found, of_none, some_is, some_so}
+use Rattle.lft_driver.proofs.Telling.{meant, none_by_program, none_by_trace, none_by_unplanned, of_found, some_so}
+use Rattle.lft_lists.proofs.Options.{found, lacking, ok_none}
 use Rattle.lft_driver.proofs.refused.refusal_of_texts.Goals as goal
 
 pub returns-in-Refused-clause-no_meaning : goal.returns-in-Refused-clause-no_meaning
@@ -19,7 +20,7 @@ pub returns-in-Some-clause-tells : goal.returns-in-Some-clause-tells
 returns-in-Some-clause-tells c =
     let flat = c.in-Program.flat in
     let only = subst (λ (s : Start). ReadsProgram c.args.program.now s) c.in-Program.is c.in_ok-flat.ensures in
-    inl (inr (record { it = flat; is_only = only; said = some_is c.in_ok-words.field-0 c.in-Some.words (λ told. TellsInputsOrLoop flat c.args.externals.now (string_bytes told)) c.in-Some.is c.in_ok-words.ensures.tells }))
+    inl (inr (record { it = flat; is_only = only; said = found (λ told. TellsInputsOrLoop flat c.args.externals.now (string_bytes told)) c.in_ok-words.field-0 c.in-Some.words c.in_ok-words.ensures.tells c.in-Some.is }))
 
 pub returns-clause-no_meaning : goal.returns-clause-no_meaning
 returns-clause-no_meaning c =
@@ -29,5 +30,5 @@ returns-clause-no_meaning c =
 pub returns-clause-none : goal.returns-clause-none
 returns-clause-none c =
     let only = subst (λ (s : Start). ReadsProgram c.args.program.now s) c.in-Program.is c.in_ok-flat.ensures in
-    let planned : IsPlanned c.in-Program.flat c.args.externals.now = none_so c.in_ok-words.field-0 _ c.in-None.is c.in_ok-words.ensures.none in
-    of_none c.refusal_of_trace.result (IsTrace c.in-Program.flat c.args.trace.now) _ (λ is. meant c.args.program.now c.args.externals.now c.in-Program.flat only planned c.args.trace.now is) c.refusal_of_trace.ensures.none
+    let planned : IsPlanned c.in-Program.flat c.args.externals.now = lacking _ c.in_ok-words.field-0 c.in_ok-words.ensures.none c.in-None.is in
+    ok_none (IsTrace c.in-Program.flat c.args.trace.now) _ c.refusal_of_trace.result (λ is. meant c.args.program.now c.args.externals.now c.in-Program.flat only planned c.args.trace.now is) c.refusal_of_trace.ensures.none

@@ -1,6 +1,5 @@
 use Rattle.std.proofs.Common.{refl, subst}
-use Rattle.lft_check.specs.{Verdicts.IsVerdict, declared.verdict.Verdict.TheVariants.{Accepted, Broken}}
-use Rattle.lft_driver.proofs.Judging.{has_reaction}
+use Rattle.lft_check.specs.Verdicts.{IsVerdict}
 use Rattle.lft_coverage.proofs.driver.covered.cover_rows.Goals as goal
 
 pub count_rows-requires : goal.count_rows-requires
@@ -9,6 +8,4 @@ count_rows-requires g c =
     (refl, (refl, (c.requires.fit, (c.args.plan.now, v.legal.rows))))
 
 pub returns-in-Ok-Broken-clause-covered : goal.returns-in-Ok-Broken-clause-covered
-returns-in-Ok-Broken-clause-covered g c =
-    let v = subst (IsVerdict c.args.plan.now c.args.rows.now) c.in-Ok-Broken.field-0-is c.in-Ok-Broken.ensures.verdict in
-    (v, has_reaction c.args.plan.now c.args.rows.now c.requires.fit (Broken c.in-Ok-Broken.breach) v c.in-Ok-Broken.breach refl)
+returns-in-Ok-Broken-clause-covered g c = subst (IsVerdict c.args.plan.now c.args.rows.now) c.in-Ok-Broken.field-0-is c.in-Ok-Broken.ensures.verdict

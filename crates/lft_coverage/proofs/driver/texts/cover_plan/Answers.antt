@@ -1,7 +1,8 @@
-use Rattle.std.proofs.Common.{Ok, sym, subst}
+use Rattle.std.proofs.Common.{sym, subst}
 use Rattle.lft_check.specs.declared.verdict.Verdict.{Verdict}
 use Rattle.lft_coverage.specs.{inner.Driver.Covered.IsCoverText, Driver.Covered.IsJudgedCoverUnder}
-use Rattle.lft_coverage.proofs.DriverLemmas.Covering.{judged, refused, refused_none, unwritten, unwritten_kept, unwritten_none}
+use Rattle.lft_coverage.proofs.DriverLemmas.Covering.{judged, refused, refused_none, unwritten, unwritten_none}
+use Rattle.lft_driver.proofs.Behind.{unwritten_kept}
 use Rattle.lft_coverage.proofs.driver.texts.cover_plan.Goals as goal
 
 pub returns-in-Err-clause-refused : goal.returns-in-Err-clause-refused

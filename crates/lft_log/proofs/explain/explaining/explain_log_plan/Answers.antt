@@ -1,18 +1,12 @@
-use Rattle.std.proofs.Common.{ℕ, List, [], Err, inl, sym, subst}
+use Rattle.std.proofs.Common.{ℕ, List, [], Err, inl, subst}
 use Rattle.std.{specs.Io.KnownBytes.Appends, proofs.KnownBytes.{Consumes-nil, Keeps-refl}}
 use Rattle.lft_model.specs.Plans.{PlanParts}
 use Rattle.lft_load.specs.Written.{AppendsFront}
-use Rattle.lft_log.specs.{Told.TellsOpen, Follow.Refusals.{FollowRefusalUnder.by_reading, ReadRefusal.by_outside}}
+use Rattle.lft_log.specs.Follow.Refusals.{FollowRefusalUnder.by_reading, ReadRefusal.by_outside}
 use Rattle.lft_log.specs.{Explain.{Explained.IsLack, Refusals.ExplainLogRefusalUnder.by_log}, inner.Explain.Explained.{IsLongKept, IsTextBehind}}
 use Rattle.lft_log.specs.declared.explain.explaining.Explained.{Explained}
 use Rattle.lft_log.proofs.{FollowLemmas.Reaching.{none_written, told_all}, ExplainLemmas.Writing.{line_alone, line_and_front, line_and_text}}
 use Rattle.lft_log.proofs.explain.explaining.explain_log_plan.Goals as goal
-
-pub text_behind-requires : goal.text_behind-requires
-text_behind-requires g c =
-    let ended = c.in-Ok-follow_plan.ended in
-    let read = c.in-Ok-follow_plan.ensures.followed.read in
-    (read.0, subst (λ (p : PlanParts). TellsOpen p read.0 ended.told ended.still_open) (sym c.in-Ok.ensures) read.3)
 
 pub returns-in_default-clause-refused : goal.returns-in_default-clause-refused
 returns-in_default-clause-refused g c = by_log (by_reading (by_outside (inl (c.no_memory.ensures.part, c.no_memory.ensures.number))) (Keeps-refl (g.W.Write.contents c.args.out.now)))

@@ -1,18 +1,10 @@
-use Rattle.std.proofs.Common.{◌∙◌, [], Err, inl, ap, sym, subst}
+use Rattle.std.proofs.Common.{◌∙◌, [], Err, inl, ap}
 use Rattle.std.proofs.KnownBytes.{Consumes-nil, Keeps-refl}
-use Rattle.lft_ir.specs.{Parts.Parts, Sound.IsSound}
-use Rattle.lft_log.specs.{inner.Follow.Lines.HasFound, Follow.{Lines.line_of_log, Refusals.{FollowRefusalUnder.by_reading, ReadRefusal.by_outside}}}
-use Rattle.lft_log.specs.declared.told.Ended.{Ended}
-use Rattle.lft_log.proofs.FollowLemmas.{Reaching.{none_written, told_all}, Refusing.{kept_unless, unwritten}, Telling.has_found}
+use Rattle.lft_ir.specs.Parts.{Parts}
+use Rattle.lft_log.specs.{Follow.{Lines.line_of_log, Refusals.{FollowRefusalUnder.by_reading, ReadRefusal.by_outside}}, declared.told.Ended.Ended}
+use Rattle.lft_log.proofs.FollowLemmas.{Reaching.{none_written, told_all}, Refusing.unwritten}
+use Rattle.lft_driver.proofs.Behind.{unwritten_kept}
 use Rattle.lft_log.proofs.follow.follow.follow_plan.Goals as goal
-
-pub report-requires : goal.report-requires
-report-requires g c =
-    let plan = c.args.plan in
-    let read = c.in-Ok-read_log.ensures.read in
-    let same = c.program.ensures.value ∙ c.in-Ok-read_log.ensures.program in
-    let sound = subst (λ (p : Parts). IsSound p) c.in-Ok-read_log.ensures.program c.program.ensures.sound.sound in
-    subst (λ (p : Parts). HasFound p c.in-Ok-read_log.ended.told) (sym same) (has_found plan c.args.following.until c.args.following.whole read.0 c.in-Ok-read_log.ended.told sound read.1.ended)
 
 pub returns-in_default-clause-refused : goal.returns-in_default-clause-refused
 returns-in_default-clause-refused g c = by_reading (by_outside (inl (c.no_memory.ensures.part, c.no_memory.ensures.number))) (Keeps-refl (g.W.Write.contents c.args.out.now))
@@ -37,7 +29,7 @@ returns-clause-refused g c =
     unwritten c.args.plan c.args.path.now c.args.following.until c.args.following.whole read.0 _ _ _ _ told _ c.in-Err-report.fault read.1 (ap (λ (p : Parts). line_of_log p told) same) c.in-Err-report.ensures.refused
 
 pub returns-clause-kept : goal.returns-clause-kept
-returns-clause-kept g c = kept_unless _ _ _ c.in-Err-report.fault c.in-Err-report.ensures.refused
+returns-clause-kept g c = unwritten_kept _ _ _ c.in-Err-report.fault c.in-Err-report.ensures.refused
 
 pub returns-clause-every : goal.returns-clause-every
 returns-clause-every g c =

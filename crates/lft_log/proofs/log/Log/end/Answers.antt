@@ -1,11 +1,12 @@
 use Rattle.std.proofs.Common.{[], List, ℕ, subst}
-use Rattle.lft_log.{specs.Logs.{HoldSoFar, rows}, proofs.{Fronts.nothing, Finishing.{final_of, kept_to, odd_at_end, tells_plan}}}
+use Rattle.lft_log.{specs.Logs.{HoldSoFar, rows}, proofs.Finishing.{final_of, kept_to, odd_at_end, tells_plan}}
+use Rattle.std.proofs.lemmas.List.{nil_from_length}
 use Rattle.lft_log.proofs.log.Log.end.Goals as goal
 
 pub returns-in-Ok : goal.returns-in-Ok
 returns-in-Ok c = λ base until bytes is begun.
     let rest = c.args.self.now.rest.items in
-    let held = subst (λ (x : List ℕ). HoldSoFar base.program bytes is.kept.lines [] x) (nothing rest c.requires.none) (is.kept.begun begun) in
+    let held = subst (λ (x : List ℕ). HoldSoFar base.program bytes is.kept.lines [] x) (nil_from_length rest c.requires.none) (is.kept.begun begun) in
     final_of base c.args.plan.now until c.args.whole bytes rest c.args.self.now is.kept held c.in-Ok.ending (c.in-Ok.ensures.ended (rows is.kept.lines) is.kept.follower)
 
 pub returns-in-Err : goal.returns-in-Err

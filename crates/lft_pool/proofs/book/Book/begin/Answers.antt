@@ -4,7 +4,8 @@ use Rattle.lft_scheduler.specs.{declared.found.NextRun.NextRun, inner.Agendas.{I
 use Rattle.lft_scheduler.specs.Starts.{MayStartFirst, NoneMayStart, NothingLeft, SomethingLeft, IsBusy, IsAnyOpen}
 use Rattle.lft_scheduler.proofs.Awaiting.{busy_left}
 use Rattle.lft_pool.specs.{declared.stop.Stop.Stop, Books.BookParts, inner.Books.AgendaHolds, Causes.{BeginCause, StartCause}}
-use Rattle.lft_pool.proofs.{Known.nothing_left_legal, Refusals.if_err}
+use Rattle.lft_pool.proofs.Known.{nothing_left_legal}
+use Rattle.std.proofs.lemmas.Result.{IfErr-weaker}
 use Rattle.lft_pool.proofs.book.Book.begin.Goals as goal
 
 pub returns-then-is_busy-clause-wait : goal.returns-then-is_busy-clause-wait
@@ -56,7 +57,7 @@ returns-in-Ready-clause-cause g c =
     let f : MayStartFirst plan t c.in-Ready.tag c.in-Ready.reaction = subst (λ (o : NextRun). Finds plan t o) c.in-Ready.is (c.find.ensures plan t may agenda) in
     let first : MayStartFirst c.args.self.now.plan c.args.self.now.rows c.in-Ready.tag c.in-Ready.reaction = subst (λ (b : BookParts). MayStartFirst b.plan b.rows c.in-Ready.tag c.in-Ready.reaction) c.self.view_is f in
     let idle : ¬ IsBusy c.args.self.now.rows c.args.worker = search rules in
-    if_err c.start.result (λ s. StartCause c.args.self.now c.args.worker c.in-Ready.tag c.in-Ready.reaction s) (λ s. c.args.self.now.reason ≡ None → BeginCause c.args.self.now c.args.worker s) (λ s h going. inr (idle, (c.in-Ready.tag, c.in-Ready.reaction, first, h))) c.start.ensures.cause
+    IfErr-weaker c.start.result (λ s. StartCause c.args.self.now c.args.worker c.in-Ready.tag c.in-Ready.reaction s) (λ s. c.args.self.now.reason ≡ None → BeginCause c.args.self.now c.args.worker s) (λ s h going. inr (idle, (c.in-Ready.tag, c.in-Ready.reaction, first, h))) c.start.ensures.cause
 
 pub returns-in-Blocked-clause-wait : goal.returns-in-Blocked-clause-wait
 returns-in-Blocked-clause-wait g c =

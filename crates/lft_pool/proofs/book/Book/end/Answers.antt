@@ -1,6 +1,6 @@
 use Rattle.std.proofs.Common.{◌≡◌, ◌∙◌, ◌<◌, ◌≤◌, ◌++◌, ◌∷◌, [], ℕ, ℤ, List, Option, Some, None, length, take, slice_get, slice_set, refl, sym, ap, subst, rules, unwrap_or, option_map, cond, ◌==◌}
 use Rattle.std.proofs.Math.Seq.{take-append_seam}
-use Rattle.lft_lists.proofs.Members.{mem_get}
+use Rattle.lft_lists.proofs.{Members.mem_get, Options.found}
 use Rattle.lft_ir.specs.declared.{steps.row.{Row.Row, Step.Step}, parts.{Value.Value, Reaction.Reaction}}
 use Rattle.lft_scheduler.specs.{inner.Agendas.{IsAgenda, EndsWith}, Answering.{MayAll, HasLongDelay}, Collisions.IsClean}
 use Rattle.lft_model.{specs.{Runs.{by_ends, reads_at}, Recorded.{committed_rows, instance_of, word_after}}, proofs.Places.slice_get_within}
@@ -8,7 +8,7 @@ use Rattle.lft_pool.specs.{declared.stop.Stop.{Stop, TheVariants.{NoMemory, Unde
 use Rattle.lft_pool.specs.{inner.{Books.{IsKept, AgendaHolds}, Answers.{HasClash, RefusalCause}}, Reasons.{StopHolds, ReasonHolds}}
 use Rattle.lft_pool.specs.Answers.{HasTicket, KeepsOpenRuns, EndCause, Committed, with_answer}
 use Rattle.lft_pool.proofs.Refusals.{memory_holds, before_it, holds_by_end, end_cause, may_mem, short_mem, answer_fits, set_words, ends_clash, ends_clean}
-use Rattle.lft_pool.proofs.{Finishing.if_some, Commuting.keeps_open_runs, CommittedRun.{committed_recording, word_more, committed_count}}
+use Rattle.lft_pool.proofs.{Commuting.keeps_open_runs, CommittedRun.{committed_recording, word_more, committed_count}}
 use Rattle.lft_pool.proofs.book.Book.end.Goals as goal
 
 pub end-requires-clause-fit : goal.end-requires-clause-fit
@@ -72,7 +72,7 @@ invariant_of-self-in-Some g c =
     let grown : c.append.new.self ≡ with_answer old k d = grown0 ∙ ap (λ (us : List Step). t ++ committed_rows k.worker k.tag k.reaction us) st in
     let ending : EndsWith plan t k.worker k.tag k.reaction ss c.end.new.self c.in-Ok-end.clash = c.in-Ok-end.ensures t agenda (record { so_far = c.self.invariant.0.so_far; quiet = c.self.invariant.0.quiet; open_run = has.open_run; may = may0 }) in
     let clash : HasClash plan c.append.new.self c.in-Ok-end.clash = subst (λ (ts : List Row). HasClash plan ts c.in-Ok-end.clash) (sym grown0) (ends_clash plan t k.worker k.tag k.reaction ss c.end.new.self c.in-Ok-end.clash ending) in
-    let cause0 : RefusalCause plan c.append.new.self c.in-Some.reason = if_some c.refusal.result c.in-Some.reason (λ s. RefusalCause plan c.append.new.self s) c.in-Some.is (c.refusal.ensures.some plan clash) in
+    let cause0 : RefusalCause plan c.append.new.self c.in-Some.reason = found (λ s. RefusalCause plan c.append.new.self s) c.refusal.result c.in-Some.reason (c.refusal.ensures.some plan clash) c.in-Some.is in
     let back : c.truncate-in-Some.new.self ≡ t = c.truncate-in-Some.ensures ∙ ap (λ (xs : List Row). take (length xs) c.append.new.self) c.as_slice-before.ensures ∙ ap (λ (xs : List Row). take (length t) xs) more ∙ take-append_seam t c.as_slice.result.now in
     let may : MayAll plan k.reaction d.steps = subst (λ (us : List Step). MayAll plan k.reaction us) st may0 in
     let short : ¬ HasLongDelay d.steps = subst (λ (us : List Step). ¬ HasLongDelay us) st short0 in
@@ -106,7 +106,7 @@ returns-in-Some-clause-cause g c =
     let grown : c.append.new.self ≡ with_answer old k d = grown0 ∙ ap (λ (us : List Step). t ++ committed_rows k.worker k.tag k.reaction us) st in
     let ending : EndsWith plan t k.worker k.tag k.reaction ss c.end.new.self c.in-Ok-end.clash = c.in-Ok-end.ensures t agenda (record { so_far = c.self.invariant.0.so_far; quiet = c.self.invariant.0.quiet; open_run = has.open_run; may = may0 }) in
     let clash : HasClash plan c.append.new.self c.in-Ok-end.clash = subst (λ (ts : List Row). HasClash plan ts c.in-Ok-end.clash) (sym grown0) (ends_clash plan t k.worker k.tag k.reaction ss c.end.new.self c.in-Ok-end.clash ending) in
-    let cause0 : RefusalCause plan c.append.new.self c.in-Some.reason = if_some c.refusal.result c.in-Some.reason (λ s. RefusalCause plan c.append.new.self s) c.in-Some.is (c.refusal.ensures.some plan clash) in
+    let cause0 : RefusalCause plan c.append.new.self c.in-Some.reason = found (λ s. RefusalCause plan c.append.new.self s) c.refusal.result c.in-Some.reason (c.refusal.ensures.some plan clash) c.in-Some.is in
     let may : MayAll plan k.reaction d.steps = subst (λ (us : List Step). MayAll plan k.reaction us) st may0 in
     let short : ¬ HasLongDelay d.steps = subst (λ (us : List Step). ¬ HasLongDelay us) st short0 in
     let cause : RefusalCause plan (with_answer old k d) c.in-Some.reason = subst (λ (ts : List Row). RefusalCause plan ts c.in-Some.reason) grown cause0 in
