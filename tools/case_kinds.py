@@ -72,8 +72,9 @@ FAULT = re.compile(rb"fault [a-z]+ \d+ .*\n")
 
 
 def with_stack(program, kib=STACK):
-    """The words that run a program with so much stack; its arguments stand behind them."""
-    return ["sh", "-c", f'ulimit -s {kib} && exec "$0" "$@"', program]
+    """The words that run a program with so much stack, a minute of processor time and 8 GB of addresses. Its arguments
+    stand behind them."""
+    return ["sh", "-c", f'ulimit -s {kib} && ulimit -t 60 && ulimit -v 8000000 && exec "$0" "$@"', program]
 
 
 class Runs:

@@ -1,21 +1,19 @@
 #![tactic(auto)]
-//! The tests of what no clause says and what needs code: who is told of a tag; rows that are followed as they come;
-//! books driven by hand, and recordings. In `driver` the calls on texts: inputs with two lengths, and readers and
-//! writers that are interrupted or fail. What is text in and text out is a case in the folder `cases`.
+//! The tests of what no clause says and what needs code: readers and writers that are interrupted or fail, bodies and
+//! books, who is told of a tag, and in `refused` growths of memory that are refused. What is text in and text out is
+//! a case in the folder `cases`.
 
 #[cfg(test)]
-mod answers;
+mod bodies;
 #[cfg(test)]
 mod books;
 #[cfg(test)]
-mod closures;
-pub mod driver;
+mod calls;
 #[cfg(test)]
-mod followers;
+mod readers;
 #[cfg(test)]
 mod recordings;
-#[cfg(test)]
-mod stops;
+pub mod refused;
 #[cfg(test)]
 mod texts;
 #[cfg(test)]

@@ -1,11 +1,15 @@
-//! Recordings by several workers: what no clause says of them.
+//! Recordings: bodies that run at once, in which order they are taken, a closure as a body, a body without memory.
 
 ghost use Rattle.std.specs.Prelude.{◌≡◌, IfOk, OnOk, length};
 
-use crate::answers::{Answer, Prepared, bodies_of, done, put_body, write};
-use crate::texts::{AT_ONCE, PIPE, TO_20_MS, TWO, is_accepted, plan};
+use crate::bodies::{Answer, Prepared, bodies_of, done, put_body, write};
+use crate::texts::{AT_ONCE, ONE, PIPE, TWO, is_accepted, plan};
+use lft_ir::steps::Step;
+use lft_ir::{Name, Value};
 use lft_model::{Plan, Reads};
-use lft_pool::{AnyAnswer, Bodies, Body, Code, Done, Recorded, Stopped, record_run};
+use lft_pool::{
+    AnyAnswer, Bodies, Body, BoxedCode, Code, Done, Recorded, Stop, Stopped, record_run,
+};
 use lft_tag::{NoMemory, Tag};
 use std::alloc::Global;
 use std::sync::Wait;
@@ -15,51 +19,27 @@ use std::thread;
 use std::thread::Threads;
 
 /// What comes of a recording.
-pub(crate) type Ended<C> = Result<Recorded<AnyAnswer, C>, Stopped<AnyAnswer, C>>;
+type Ended<C> = Result<Recorded<AnyAnswer, C>, Stopped<AnyAnswer, C>>;
 
-/// A recording. Nothing is told of it: what knows the clauses of a recording is long to prove.
-pub(crate) fn record<C: Code + Drop + Send, R: Threads + Wait + Sync>(
+/// A recording of at most ten runs. Nothing is told of it: what knows the clauses of a recording is long to prove.
+fn record<C: Code + Drop + Send, R: Threads + Wait + Sync>(
     rt: &R,
     alloc: Global,
     plan: Plan,
     bodies: Bodies<AnyAnswer, C>,
     workers: u32,
-    max_runs: u32,
 ) -> Ended<C>
     requires { length bodies ≡ length plan.program.reactions }
 {
-    record_run(rt, alloc, plan, bodies, workers, max_runs)
+    record_run(rt, alloc, plan, bodies, workers, 10)
 }
 
 /// Whether a recording came to its stop with these state words before and after each run.
-pub(crate) fn leaves<C: Code + Drop>(ended: &Ended<C>, words: &[(i64, i64)]) -> bool {
+fn leaves<C: Code + Drop>(ended: &Ended<C>, words: &[(i64, i64)]) -> bool {
     match ended {
         Ok(recorded) => recorded.states.as_slice() == words,
         Err(_) => false,
     }
-}
-
-/// What is recorded: a program's text and a table of external inputs, by bodies with these answers.
-#[derive(Clone, Copy)]
-pub(crate) struct Texts<'a> {
-    pub(crate) program: &'a [u8],
-    pub(crate) externals: &'a [u8],
-    pub(crate) answers: &'a [Answer<'a>],
-    /// Which of the bodies answers want of memory.
-    pub(crate) failing: Option<usize>,
-}
-
-/// A recording of them by so many workers, of at most so many runs.
-pub(crate) fn record_texts<R: Threads + Wait + Sync>(
-    rt: &R,
-    alloc: Global,
-    texts: Texts<'_>,
-    workers: u32,
-    max_runs: u32,
-) -> Result<Ended<Prepared>, NoMemory> {
-    let plan = plan(alloc, texts.program, texts.externals)?;
-    let bodies = bodies_of(alloc, &plan, texts.answers, texts.failing)?;
-    Ok(record(rt, alloc, plan, bodies, workers, max_runs))
 }
 
 /// A body that waits until another one has begun, and writes 1; -1 where the other one hadn't begun
@@ -106,19 +86,15 @@ fn meeting_bodies<'a>(
 ) -> Result<Bodies<AnyAnswer, Meeting<'a>>, NoMemory>
     ensures { IfOk result (λ bodies. length bodies ≡ length plan.now.program.reactions) }
 {
-    let p = Meeting {
-        alloc,
-        port: 0,
-        begun,
-    };
-    let q = Meeting {
-        alloc,
-        port: 1,
-        begun,
-    };
     let mut bodies = Bodies::new(alloc, plan.program())?;
-    put_body(&mut bodies, Body::new(0, p))?;
-    put_body(&mut bodies, Body::new(1, q))?;
+    for number in 0..2u32 {
+        let code = Meeting {
+            alloc,
+            port: number,
+            begun,
+        };
+        put_body(&mut bodies, Body::new(number, code))?;
+    }
     Ok(bodies)
 }
 
@@ -138,7 +114,7 @@ fn meets<R: Threads + Wait + Sync>(
 ) -> Result<bool, NoMemory> {
     let plan = plan(alloc, TWO, AT_ONCE)?;
     let bodies = meeting_bodies(alloc, &plan, begun)?;
-    let ended = record(rt, alloc, plan, bodies, 2, 10);
+    let ended = record(rt, alloc, plan, bodies, 2);
     Ok(leaves(&ended, &[(0, 1), (0, 1)]) && is_met(alloc, &ended))
 }
 
@@ -150,67 +126,20 @@ fn runs_two_bodies_at_once(rt: HostRuntime) {
     assert!(rt; meets(&rt, rt.alloc(), &begun) == Ok(true));
 }
 
-/// The first reaction of `PIPE` takes no step, and leaves this state word.
-const FIRST: Answer<'static> = Answer {
-    reaction: 0,
-    state: 1,
-    steps: &[],
-};
-
-/// Three runs of it, each with a state word of its own.
-const THREE: Texts<'static> = Texts {
-    program: PIPE,
-    externals: TO_20_MS,
-    answers: &[
-        FIRST,
-        Answer { state: 2, ..FIRST },
-        Answer { state: 3, ..FIRST },
-    ],
-    failing: None,
-};
-
-// no clause says which of a reaction's bodies meets which of its runs
-#[test]
-fn takes_bodies_in_the_order_in_which_they_were_put(rt: HostRuntime) -> Result<(), Fail> {
-    let ended = record_texts(&rt, rt.alloc(), THREE, 1, 10)?;
-    assert!(rt; leaves(&ended, &[(0, 1), (1, 2), (2, 3)]));
-    Ok(())
-}
-
-/// Code that leaves its word, and can be had again.
-#[derive(Drop)]
-struct Leaving {
-    alloc: Global,
-    word: i64,
-}
-
-impl Code for Leaving {
-    ghost can_run = { λ _. Unit {0} };
-
-    ghost gives = { λ _ _ _ _ _. Unit {0} };
-
-    ghost repeats = { λ _. Unit {0} };
-
-    fn run(self, _tag: Tag, _state: i64, _reads: Reads) -> Result<Done, NoMemory> {
-        done(self.alloc, self.word, &[])
-    }
-
-    fn again(&self) -> Option<Self> {
-        Some(Leaving {
-            alloc: self.alloc,
-            word: self.word,
-        })
-    }
-}
-
 /// Puts so many bodies that leave this word behind the others of the first reaction.
 fn put_leaving(
-    bodies: &mut Bodies<AnyAnswer, Leaving>,
-    code: Leaving,
+    alloc: Global,
+    bodies: &mut Bodies<AnyAnswer, Prepared>,
+    word: i64,
     count: u64,
 ) -> Result<(), NoMemory>
     ensures { OnOk result (length bodies.new ≡ length bodies.old) }
 {
+    let code = Prepared {
+        alloc,
+        word,
+        steps: Some(&[]),
+    };
     match bodies.put_many(0, code, count) {
         Ok(()) => return Ok(()),
         Err(_) => return Err(NoMemory),
@@ -220,39 +149,98 @@ fn put_leaving(
 const TO_40_MS: &[u8] = b"kind,time,microstep,name,value\nstop,40000000,0,,\n";
 
 /// Eleven bodies for the first reaction of `PIPE`.
-fn many_bodies(alloc: Global, plan: &Plan) -> Result<Bodies<AnyAnswer, Leaving>, NoMemory>
+fn many_bodies(alloc: Global, plan: &Plan) -> Result<Bodies<AnyAnswer, Prepared>, NoMemory>
     ensures { IfOk result (λ bodies. length bodies ≡ length plan.now.program.reactions) }
 {
     let mut bodies = Bodies::new(alloc, plan.program())?;
     for (word, count) in [(1, 1), (9, 0), (2, 3), (3, 7)] {
-        put_leaving(&mut bodies, Leaving { alloc, word }, count)?;
+        put_leaving(alloc, &mut bodies, word, count)?;
     }
     Ok(bodies)
 }
 
-/// A recording of five of them by one worker.
-fn record_many<R: Threads + Wait + Sync>(
-    rt: &R,
-    alloc: Global,
-) -> Result<Ended<Leaving>, NoMemory> {
+/// Whether a recording of five of them by one worker takes them in their order, and leaves six.
+fn takes_in_order<R: Threads + Wait + Sync>(rt: &R, alloc: Global) -> Result<bool, NoMemory> {
     let plan = plan(alloc, PIPE, TO_40_MS)?;
     let bodies = many_bodies(alloc, &plan)?;
-    Ok(record(rt, alloc, plan, bodies, 1, 10))
-}
-
-/// Whether six bodies are left of the first reaction.
-fn has_six_left(ended: &Ended<Leaving>) -> bool {
-    match ended {
+    let ended = record(rt, alloc, plan, bodies, 1);
+    let has_six = match &ended {
         Ok(recorded) => recorded.left.left(0) == 6,
         Err(_) => false,
+    };
+    Ok(has_six && leaves(&ended, &[(0, 1), (1, 2), (2, 2), (2, 2), (2, 3)]))
+}
+
+// no clause says which of a reaction's bodies meets which of its runs, or where among them those stand that are kept
+// by their count
+#[test]
+fn takes_bodies_in_the_order_in_which_they_were_put(rt: HostRuntime) {
+    assert!(rt; takes_in_order(&rt, rt.alloc()) == Ok(true));
+}
+
+/// Whether a recording of `ONE` with this body leaves the state word 1.
+fn leaves_one<C: Code + Drop + Send, R: Threads + Wait + Sync>(
+    rt: &R,
+    alloc: Global,
+    code: C,
+) -> Result<bool, NoMemory>
+    requires { C.can_run code }
+{
+    let plan = plan(alloc, ONE, AT_ONCE)?;
+    let mut bodies = Bodies::new(alloc, plan.program())?;
+    put_body(&mut bodies, Body::new(0, code))?;
+    Ok(leaves(&record(rt, alloc, plan, bodies, 1), &[(0, 1)]))
+}
+
+// what a body keeps of its code is asked for at the closure
+#[test]
+fn records_a_boxed_closure(rt: HostRuntime) -> Result<(), Fail> {
+    let alloc = rt.alloc();
+    let code: BoxedCode = Box::new(
+        alloc,
+        move |_tag: Tag, state: i64, _reads: Reads| -> Result<Done, NoMemory>
+            ensures { Unit {0} }
+        { done(alloc, state.wrapping_add(1), &[]) },
+    )?;
+    assert!(rt; leaves_one(&rt, alloc, code) == Ok(true));
+    Ok(())
+}
+
+const WRITES: Answer = Answer {
+    reaction: 0,
+    steps: Some(&[Step::Write(Name::Port(0), Value::Int(1))]),
+};
+
+const FIRST_FAILS: Answer = Answer {
+    reaction: 0,
+    steps: None,
+};
+
+const SECOND_FAILS: Answer = Answer {
+    reaction: 1,
+    steps: None,
+};
+
+/// How many rows a recording of `PIPE` has by these bodies where it stops for one that has no memory.
+fn rows_before<R: Threads + Wait + Sync>(
+    rt: &R,
+    alloc: Global,
+    answers: &[Answer],
+) -> Result<Option<usize>, NoMemory> {
+    let plan = plan(alloc, PIPE, AT_ONCE)?;
+    let bodies = bodies_of(alloc, &plan, answers)?;
+    match record(rt, alloc, plan, bodies, 1) {
+        Err(stopped) if stopped.reason == Stop::BodyNoMemory => {
+            Ok(Some(stopped.rows.as_slice().len()))
+        }
+        _ => Ok(None),
     }
 }
 
-// no clause says where among a reaction's bodies those stand that are kept by their count
+// the run stays open; no clause says that the reason isn't want of memory for the book
 #[test]
-fn takes_many_bodies_in_their_place(rt: HostRuntime) -> Result<(), Fail> {
-    let ended = record_many(&rt, rt.alloc())?;
-    assert!(rt; leaves(&ended, &[(0, 1), (1, 2), (2, 2), (2, 2), (2, 3)]));
-    assert!(rt; has_six_left(&ended));
-    Ok(())
+fn stops_where_a_body_has_no_memory(rt: HostRuntime) {
+    let at_first = rows_before(&rt, rt.alloc(), &[FIRST_FAILS, SECOND_FAILS]);
+    let at_second = rows_before(&rt, rt.alloc(), &[WRITES, SECOND_FAILS]);
+    assert!(rt; at_first == Ok(Some(1)) && at_second == Ok(Some(5)));
 }

@@ -8,7 +8,7 @@ use lft_ir::steps::Rows;
 use lft_load::load;
 use lft_model::Plan;
 use lft_tag::NoMemory;
-use lft_trace::{read_trace, write_trace};
+use lft_trace::read_trace;
 use std::alloc::Global;
 
 /// A reaction to a timer writes a port, and another one reads it at the same tag.
@@ -23,15 +23,20 @@ pub(crate) const TWO: &[u8] = b"reactor S { output o: int  reaction(startup) -> 
 main reactor { p = new S()  q = new S() }
 ";
 
-/// A reaction schedules an action, and another one reads it.
-pub(crate) const AGAIN: &[u8] =
-    b"main reactor { logical action n reaction(startup) -> n {= =} reaction(n) {= =} }";
+/// A reaction that runs once.
+pub(crate) const ONE: &[u8] = b"main reactor { reaction(startup) {= =} }";
 
 /// The execution is stopped at its first tag.
 pub(crate) const AT_ONCE: &[u8] = b"kind,time,microstep,name,value\nstop,0,0,,\n";
 
-/// The execution is stopped at the third firing of a timer of 10 ms.
-pub(crate) const TO_20_MS: &[u8] = b"kind,time,microstep,name,value\nstop,20000000,0,,\n";
+/// A trace table without rows.
+pub(crate) const NO_ROWS: &[u8] = b"event,worker,time,microstep,reaction,name,value,delay\n";
+
+/// The run of `ONE`.
+pub(crate) const ONE_RUN: &[u8] = b"event,worker,time,microstep,reaction,name,value,delay
+start,0,0,0,main#1,,,
+end,0,0,0,main#1,,,
+";
 
 /// The plan of a program's text and of a table of external inputs. It tells nothing of either, and any
 /// fault as want of memory: what knows the texts is long to prove.
@@ -49,24 +54,6 @@ pub(crate) fn rows(alloc: Global, plan: &Plan, table: &[u8]) -> Result<Rows, NoM
     match read_trace(alloc, plan.program(), table) {
         Ok(rows) => Ok(rows),
         Err(_) => Err(NoMemory),
-    }
-}
-
-// the table of rows, of which nothing is known
-fn table_of(alloc: Global, plan: &Plan, rows: &Rows) -> Result<Vec<u8>, NoMemory>
-    requires { RowsFit plan.now.program rows.now }
-{
-    write_trace(alloc, plan.program(), rows)
-}
-
-/// Whether rows fit the plan's program, and are written as this table.
-pub(crate) fn is_table(alloc: Global, plan: &Plan, rows: &Rows, table: &[u8]) -> bool {
-    if !rows.fits(plan.program()) {
-        return false;
-    }
-    match table_of(alloc, plan, rows) {
-        Ok(text) => text.as_slice() == table,
-        Err(_) => false,
     }
 }
 

@@ -2,7 +2,7 @@
 
 ghost use Rattle.lft_ir.specs.Steps.Fits.{RowsFit};
 
-use crate::texts::{AGAIN, plan, rows};
+use crate::texts::{NO_ROWS, plan, rows};
 use lft_check::{CheckFault, Verdict, Watch, judge, judge_alone};
 use lft_ir::steps::Rows;
 use lft_model::Plan;
@@ -28,11 +28,12 @@ impl Watch for Digits {
     }
 }
 
-const TWO: &[u8] = b"main reactor { timer t(0, 1 ns) reaction(t) {= =} reaction(t) {= =} }";
+/// Two reactions, of which the first precedes the second, at two tags.
+const TWICE: &[u8] = b"main reactor { timer t(0, 1 ns) reaction(t) {= =} reaction(t) {= =} }";
 
-const EXTERNALS: &[u8] = b"kind,time,microstep,name,value\nstop,2,0,,\n";
+const TWO_TAGS: &[u8] = b"kind,time,microstep,name,value\nstop,1,0,,\n";
 
-/// Two runs one after another at each of three tags.
+/// Two runs one after another at each tag.
 const RUNS: &[u8] = b"event,worker,time,microstep,reaction,name,value,delay
 start,0,0,0,main#1,,,
 end,0,0,0,main#1,,,
@@ -42,35 +43,23 @@ start,0,1,0,main#1,,,
 end,0,1,0,main#1,,,
 start,0,1,0,main#2,,,
 end,0,1,0,main#2,,,
-start,0,2,0,main#1,,,
-end,0,2,0,main#1,,,
-start,0,2,0,main#2,,,
-end,0,2,0,main#2,,,
 ";
 
-/// At the second tag the second run begins too early.
+/// At the first tag the second run begins too early.
 const EARLY: &[u8] = b"event,worker,time,microstep,reaction,name,value,delay
 start,0,0,0,main#1,,,
+start,1,0,0,main#2,,,
 end,0,0,0,main#1,,,
-start,0,0,0,main#2,,,
-end,0,0,0,main#2,,,
+end,1,0,0,main#2,,,
 start,0,1,0,main#1,,,
-start,1,1,0,main#2,,,
 end,0,1,0,main#1,,,
-end,1,1,0,main#2,,,
-start,0,2,0,main#1,,,
-end,0,2,0,main#1,,,
-start,0,2,0,main#2,,,
-end,0,2,0,main#2,,,
+start,0,1,0,main#2,,,
+end,0,1,0,main#2,,,
 ";
 
 /// A run that doesn't end.
 const OPEN: &[u8] = b"event,worker,time,microstep,reaction,name,value,delay
 start,0,0,0,main#1,,,
-";
-
-/// No run.
-const NONE: &[u8] = b"event,worker,time,microstep,reaction,name,value,delay
 ";
 
 /// Judges rows, and answers whether there was memory. Who is told is asked, and not the verdict.
@@ -93,18 +82,11 @@ fn told(alloc: Global, plan: &Plan, table: &[u8]) -> Result<u64, NoMemory> {
     }
 }
 
-/// A copy of the plan of `TWO`.
-fn copied(alloc: Global) -> Result<Plan, NoMemory> {
-    let plan = plan(alloc, TWO, EXTERNALS)?;
-    plan.copy(alloc)
-}
-
-// up to the first breach, and none where a row breaks a rule; a copy is the same by its clause, but
-// no clause says that there is one
+// up to the first breach, and none where a row breaks a rule
 #[test]
-fn tells_the_tags_that_a_copy_is_judged_at(rt: HostRuntime) -> Result<(), Fail> {
-    let plan = copied(rt.alloc())?;
-    for (table, digits) in [(RUNS, 123), (EARLY, 12), (OPEN, 0), (NONE, 0)] {
+fn tells_the_tags_that_are_judged(rt: HostRuntime) -> Result<(), Fail> {
+    let plan = plan(rt.alloc(), TWICE, TWO_TAGS)?;
+    for (table, digits) in [(RUNS, 12), (EARLY, 1), (OPEN, 0), (NO_ROWS, 0)] {
         assert!(rt; told(rt.alloc(), &plan, table) == Ok(digits), "{digits}");
     }
     Ok(())
@@ -133,6 +115,10 @@ impl Watch for Hold {
         self.late.store(true, Ordering::SeqCst);
     }
 }
+
+/// A reaction schedules an action, and another one reads it.
+const AGAIN: &[u8] =
+    b"main reactor { logical action n reaction(startup) -> n {= =} reaction(n) {= =} }";
 
 const AGAIN_EXTERNALS: &[u8] = b"kind,time,microstep,name,value\nstop,0,1,,\n";
 

@@ -9,16 +9,12 @@ use lft_pool::{AnyAnswer, Bodies, Body, Code, Done, Steps};
 use lft_tag::{NoMemory, Tag};
 use std::alloc::Global;
 
-/// Code that gives its answer whatever it is given.
+/// Code that leaves a state word and takes steps whatever it is given. Where it has no steps it has no memory.
 #[derive(Drop)]
 pub(crate) struct Prepared {
-    answer: Result<Done, NoMemory>,
-}
-
-impl Prepared {
-    pub(crate) fn new(answer: Result<Done, NoMemory>) -> Prepared {
-        Prepared { answer }
-    }
+    pub(crate) alloc: Global,
+    pub(crate) word: i64,
+    pub(crate) steps: Option<&'static [Step]>,
 }
 
 impl Code for Prepared {
@@ -26,12 +22,21 @@ impl Code for Prepared {
 
     ghost gives = { λ _ _ _ _ _. Unit {0} };
 
+    ghost repeats = { λ _. Unit {0} };
+
     fn run(self, _tag: Tag, _state: i64, _reads: Reads) -> Result<Done, NoMemory> {
-        self.answer
+        match self.steps {
+            Some(steps) => done(self.alloc, self.word, steps),
+            None => Err(NoMemory),
+        }
     }
 
     fn again(&self) -> Option<Self> {
-        None
+        Some(Prepared {
+            alloc: self.alloc,
+            word: self.word,
+            steps: self.steps,
+        })
     }
 }
 
@@ -47,11 +52,22 @@ pub(crate) fn done(alloc: Global, state: i64, steps: &[Step]) -> Result<Done, No
     Ok(Done { state, steps })
 }
 
-/// A body of the reaction with this answer.
-pub(crate) fn body(reaction: u32, answer: Result<Done, NoMemory>) -> PreparedBody
+/// The step that writes a number to a port.
+pub(crate) fn write(port: u32, value: i64) -> Step {
+    Step::Write(Name::Port(port), Value::Int(value))
+}
+
+/// A body of a reaction that takes no step.
+pub(crate) fn idle_body(alloc: Global, reaction: u32) -> PreparedBody
     ensures { result ≡ reaction }
 {
-    Body::new(reaction, Prepared::new(answer))
+    body_of(
+        alloc,
+        Answer {
+            reaction,
+            steps: Some(&[]),
+        },
+    )
 }
 
 /// Puts a body behind the others of its reaction.
@@ -67,42 +83,36 @@ pub(crate) fn put_body<C: Code + Drop>(
     }
 }
 
-/// What the body of a run of this reaction answers: the state word that it leaves, and its steps.
+/// What the body of a run of this reaction answers: its steps, or want of memory.
 #[derive(Clone, Copy)]
-pub(crate) struct Answer<'a> {
+pub(crate) struct Answer {
     pub(crate) reaction: u32,
-    pub(crate) state: i64,
-    pub(crate) steps: &'a [Step],
+    pub(crate) steps: Option<&'static [Step]>,
 }
 
-/// The body with this answer, or with want of memory in its place.
-fn body_of(alloc: Global, answer: Answer<'_>, is_failing: bool) -> PreparedBody {
-    let done = if is_failing {
-        Err(NoMemory)
-    } else {
-        done(alloc, answer.state, answer.steps)
+/// The body with this answer.
+fn body_of(alloc: Global, answer: Answer) -> PreparedBody
+    ensures { result ≡ answer.reaction }
+{
+    let code = Prepared {
+        alloc,
+        word: 0,
+        steps: answer.steps,
     };
-    body(answer.reaction, done)
+    Body::new(answer.reaction, code)
 }
 
-/// Bodies with these answers, each behind the others of its reaction. That of this place answers want
-/// of memory.
+/// Bodies with these answers, each behind the others of its reaction.
 pub(crate) fn bodies_of(
     alloc: Global,
     plan: &Plan,
-    answers: &[Answer<'_>],
-    failing: Option<usize>,
+    answers: &[Answer],
 ) -> Result<PreparedBodies, NoMemory>
     ensures { IfOk result (λ bodies. length bodies ≡ length plan.now.program.reactions) }
 {
     let mut bodies = PreparedBodies::new(alloc, plan.program())?;
-    for (place, answer) in answers.iter().enumerate() {
-        put_body(&mut bodies, body_of(alloc, *answer, failing == Some(place)))?;
+    for answer in answers.iter() {
+        put_body(&mut bodies, body_of(alloc, *answer))?;
     }
     Ok(bodies)
-}
-
-/// The step that writes a number to a port.
-pub(crate) fn write(port: u32, value: i64) -> Step {
-    Step::Write(Name::Port(port), Value::Int(value))
 }

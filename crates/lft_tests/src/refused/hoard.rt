@@ -81,8 +81,3 @@ impl Hoard {
         self.rest.clear();
     }
 }
-
-/// Whether all memory is refused.
-pub(crate) fn is_all_refused(alloc: Global) -> bool {
-    Vec::<u8>::with_capacity(alloc, 1).is_err()
-}
