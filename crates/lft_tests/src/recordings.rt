@@ -221,6 +221,20 @@ const SECOND_FAILS: Answer = Answer {
     steps: None,
 };
 
+/// How many rows a recording has that stopped for a body that has no memory.
+fn rows_stopped<C: Code + Drop>(ended: &Ended<C>) -> Option<usize> {
+    match ended {
+        Ok(_) => None,
+        Err(stopped) => {
+            if stopped.reason == Stop::BodyNoMemory {
+                Some(stopped.rows.as_slice().len())
+            } else {
+                None
+            }
+        }
+    }
+}
+
 /// How many rows a recording of `PIPE` has by these bodies where it stops for one that has no memory.
 fn rows_before<R: Threads + Wait + Sync>(
     rt: &R,
@@ -229,12 +243,8 @@ fn rows_before<R: Threads + Wait + Sync>(
 ) -> Result<Option<usize>, NoMemory> {
     let plan = plan(alloc, PIPE, AT_ONCE)?;
     let bodies = bodies_of(alloc, &plan, answers)?;
-    match record(rt, alloc, plan, bodies, 1) {
-        Err(stopped) if stopped.reason == Stop::BodyNoMemory => {
-            Ok(Some(stopped.rows.as_slice().len()))
-        }
-        _ => Ok(None),
-    }
+    let ended = record(rt, alloc, plan, bodies, 1);
+    Ok(rows_stopped(&ended))
 }
 
 // the run stays open; no clause says that the reason isn't want of memory for the book
