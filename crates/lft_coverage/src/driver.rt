@@ -3,4 +3,4 @@
 mod covered;
 mod texts;
 
-pub use texts::{cover_plan, cover_texts};
+pub use texts::cover_plan;

@@ -1,14 +1,14 @@
--- What is said of two traces, from texts, with what explains it, and why texts get none.
-use Rattle.std.specs.Prelude.{◌≡◌, ◌↔◌, ◌⊎◌, ℕ, Bool, IsTrue, List, [], ◌++◌, Option, codes}
+-- What is said of two traces under a plan, with what explains it, and why they get none.
+use Rattle.std.specs.Prelude.{◌≡◌, ◌⊎◌, ℕ, Bool, List, [], ◌++◌, Option, codes}
 use Rattle.std.specs.Io.KnownBytes.{Appends, Keeps}
 use Rattle.lft_tag.specs.declared.Tag.{Tag}
 use Rattle.lft_ir.specs.declared.steps.row.Row.{Row}
 use Rattle.lft_model.specs.Plans.{PlanParts}
 use Rattle.lft_driver.specs.{Explained.{AreReasons, Writes}, declared.paired.Paired.Paired, Lines.line_of_pair, PairRefusals.TracesRefusal}
-use Rattle.lft_driver.specs.{Pairs.{HaveTables, IsPairing, SaysSame}, Refusals.CheckRefusal}
+use Rattle.lft_driver.specs.{Pairs.{HaveTables, IsPairing}, Refusals.CheckRefusal}
 use Rattle.lft_report.specs.Shortened.{shown_part}
 use Rattle.lft_pair.specs.Shown.{ShowsDifference}
-use Rattle.lft_load.specs.{Meaning.{IsPlanOf, OfOnly}, Refusals.LoadRefusal, Written.AppendsFront, declared.fault.Fault.Fault}
+use Rattle.lft_load.specs.{Written.AppendsFront, declared.fault.Fault.Fault}
 use Rattle.lft_load.specs.declared.fault.Part.TheVariants as part
 use Rattle.lft_driver.specs.declared.paired.Paired.TheVariants as paired
 
@@ -39,10 +39,6 @@ pub record IsPairExplainedUnder (all : Bool) (plan : PlanParts) (first second : 
   pub right : IsPairing plan rows others said
   pub written : Writes (IsPairExplanation all plan rows others said) old new
 
--- what is said under the one plan of the first two texts
-abbrev pub IsPairExplained : Bool → List ℕ → List ℕ → List ℕ → List ℕ → Option (List ℕ) → Option (List ℕ) → Paired → Type 0
-IsPairExplained all program externals first second old new said = OfOnly (IsPlanOf program externals) (λ plan. IsPairExplainedUnder all plan first second old new said)
-
 -- a plan and two traces get no written explanation: by the checker or for want of memory they get none; or the writer failed on the line, or on the whole
 pub data PairExplainingRefusal (all : Bool) (plan : PlanParts) (rows others : List Row) (workers : ℕ) (old new : Option (List ℕ)) (f : Fault) : Type 0 where
   by_check : CheckRefusal workers f → WritesPairLineAtMost plan rows others old new f → PairExplainingRefusal all plan rows others workers old new f
@@ -53,7 +49,3 @@ pub data PairExplainingRefusal (all : Bool) (plan : PlanParts) (rows others : Li
 pub data PairExplainRefusalUnder (all : Bool) (plan : PlanParts) (first second : List ℕ) (workers : ℕ) (old new : Option (List ℕ)) (f : Fault) : Type 0 where
   by_traces : TracesRefusal plan.program first second f → Keeps old new → PairExplainRefusalUnder all plan first second workers old new f
   by_explaining : (rows others : List Row) → HaveTables plan.program first second rows others → PairExplainingRefusal all plan rows others workers old new f → PairExplainRefusalUnder all plan first second workers old new f
-
--- the four texts get no explanation: the first two have no plan, and nothing was written, or the others get none under it
-abbrev pub PairExplainRefusal : Bool → List ℕ → List ℕ → List ℕ → List ℕ → ℕ → Option (List ℕ) → Option (List ℕ) → Fault → Type 0
-PairExplainRefusal all program externals first second workers old new f = (LoadRefusal program externals f × Keeps old new) ⊎ OfOnly (IsPlanOf program externals) (λ plan. PairExplainRefusalUnder all plan first second workers old new f)

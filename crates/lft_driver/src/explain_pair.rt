@@ -1,12 +1,12 @@
 //! What is said of two traces, from texts, and what explains it.
 
-ghost use Rattle.std.specs.Prelude.{◌≡◌, ◌≢◌, ◌⊎◌, true, OnOk, IfOk, IfErr, List};
+ghost use Rattle.std.specs.Prelude.{◌≡◌, ◌≢◌, ◌⊎◌, true, OnOk, IfOk, IfErr};
 ghost use Rattle.std.specs.Io.KnownBytes.{Keeps};
-ghost use Rattle.lft_ir.specs.{Steps.Fits.RowsFit, declared.steps.row.Row.Row};
-ghost use Rattle.lft_model.specs.{Plans.PlanParts, Workers.IsWorkers};
-ghost use Rattle.lft_driver.specs.{Meaning.IsNoTrace, Pairs.{IsPairing, MeanBoth}, declared.paired.Paired.TheVariants.Differ as TheyDiffer, Explained.Writes};
+ghost use Rattle.lft_ir.specs.Steps.Fits.{RowsFit};
+ghost use Rattle.lft_model.specs.Workers.{IsWorkers};
+ghost use Rattle.lft_driver.specs.{Meaning.IsNoTrace, Pairs.IsPairing, declared.paired.Paired.TheVariants.Differ as TheyDiffer, Explained.Writes};
 ghost use Rattle.lft_driver.specs.inner.Explained.{WriteRefusal};
-ghost use Rattle.lft_driver.specs.PairExplained.{AreAnswers, StandsBehind, IsPairExplanation, IsPairExplained, IsPairExplainedUnder, PairExplainingRefusal, PairExplainRefusal, PairExplainRefusalUnder};
+ghost use Rattle.lft_driver.specs.PairExplained.{AreAnswers, StandsBehind, IsPairExplanation, IsPairExplainedUnder, PairExplainingRefusal, PairExplainRefusalUnder};
 ghost use Rattle.lft_load.specs.Refusals.{is_of_text};
 ghost use Rattle.lft_load.specs.declared.fault.Part.TheVariants as part;
 
@@ -14,7 +14,7 @@ use crate::explain::write_reasons;
 use crate::pair::{judge_both, read_both, report};
 use crate::paired::Paired;
 use lft_ir::steps::Rows;
-use lft_load::{Fault, load, write_text};
+use lft_load::{Fault, write_text};
 use lft_model::Plan;
 use lft_pair::contrast;
 use lft_report::push_shown;
@@ -125,8 +125,10 @@ fn explain_rows<W: Write, R: Threads + Sync>(
     }
 }
 
-/// Judges two trace tables of a plan by so many workers, compares them, and writes the line of what is
-/// said and what explains it, as `explain_pair_texts` does.
+/// Judges and compares as `pair_plan` does, and writes behind the line of a broken rule an empty line
+/// and the facts that explain it, and behind that of a difference an empty line and both answers: all, or
+/// the first lines. The line is written before these are looked for. Where memory is refused then, the
+/// fault is `memory` 1 `NoMemory`, and the line alone was written.
 pub fn explain_pair_plan<W: Write, R: Threads + Sync>(
     rt: &R,
     alloc: Global,
@@ -154,33 +156,6 @@ pub fn explain_pair_plan<W: Write, R: Threads + Sync>(
             all,
             out,
         ),
-        Err(fault) => Err(fault),
-    }
-}
-
-/// Judges and compares as `pair_texts` does, and writes behind the line of a broken rule an empty line
-/// and the facts that explain it, and behind that of a difference an empty line and both answers: all, or
-/// the first lines. The line is written before these are looked for. Where memory is refused then, the
-/// fault is `memory` 1 `NoMemory`, and the line alone was written.
-pub fn explain_pair_texts<W: Write, R: Threads + Sync>(
-    rt: &R,
-    alloc: Global,
-    program: &[u8],
-    externals: &[u8],
-    first: &[u8],
-    second: &[u8],
-    workers: u32,
-    all: bool,
-    out: &mut W,
-) -> Result<Paired, Fault>
-    ensures explained { IfOk result (IsPairExplained all program.now externals.now first.now second.now (W.contents out.old) (W.contents out.new)) }
-    ensures workers { OnOk result (IsWorkers workers) }
-    ensures refused { IfErr result (PairExplainRefusal all program.now externals.now first.now second.now workers (W.contents out.old) (W.contents out.new)) }
-    ensures none { IfErr result (λ f. is_of_text f.part f.number ≡ true → (plan : PlanParts) (rows others : List Row) → MeanBoth program.now externals.now first.now second.now plan rows others → ⊥) }
-    ensures kept { IfErr result (λ f. f.part ≢ part.Write → f.part ≢ part.Memory → Keeps (W.contents out.old) (W.contents out.new)) }
-{
-    match load(alloc, program, externals) {
-        Ok(plan) => explain_pair_plan(rt, alloc, &plan, first, second, workers, all, out),
         Err(fault) => Err(fault),
     }
 }

@@ -21,7 +21,7 @@ pub use alone::{judge_plan_alone, judge_texts_alone};
 pub use answer::{bundle_answer, explain_bundle_answer, is_accepted, is_same};
 pub use bundle::{Bundle, split_bundle};
 pub use explain::{explain_plan, explain_texts};
-pub use explain_pair::{explain_pair_plan, explain_pair_texts};
+pub use explain_pair::explain_pair_plan;
 pub use judge::{check_plan, judge_plan, judge_texts, verdict_of};
 pub use lft_load::{Fault, Part, finish, load, read_input};
 pub use line::{accepted_line, broken_line, verdict_line};

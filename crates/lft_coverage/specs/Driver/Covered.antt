@@ -7,7 +7,7 @@ use Rattle.lft_model.specs.Plans.{PlanParts}
 use Rattle.lft_check.specs.{declared.verdict.Verdict.Verdict, Verdicts.IsVerdict}
 use Rattle.lft_counts.specs.{Cover.CoversRows, declared.cover.Cover.Cover}
 use Rattle.lft_coverage.specs.{Facts.fact_lines, Sums.TellsSums, declared.driver.covered.Covered.TheVariants.{Accepted, Broken}}
-use Rattle.lft_load.specs.{Faults.table_number, Meaning.{IsOnly, IsPlanOf}, Refusals.LoadRefusal, Written.AppendsFront, declared.fault.Fault.Fault}
+use Rattle.lft_load.specs.{Faults.table_number, Written.AppendsFront, declared.fault.Fault.Fault}
 use Rattle.lft_driver.specs.{Judged.AcceptedRuns, Lines.line_of, Meaning.HasTable, Refusals.CheckRefusal}
 use Rattle.lft_check.specs.declared.verdict.Verdict.TheVariants as verdict
 use Rattle.lft_load.specs.declared.fault.Part.TheVariants as part
@@ -32,12 +32,6 @@ pub record IsJudgedCoverUnder (list : Bool) (plan : PlanParts) (trace : List ℕ
   pub told : IsBehind list plan rows v behind
   pub written : Appends old new (line_of plan.program v ++ behind)
 
--- the same under the one plan of the first two texts
-pub record IsJudgedCover (list : Bool) (program externals trace : List ℕ) (old new : Option (List ℕ)) (v : Verdict) : Type 0 where
-  pub plan : PlanParts
-  pub is_plan : IsOnly (IsPlanOf program externals) plan
-  pub judged : IsJudgedCoverUnder list plan trace old new v
-
 -- the trace is no table of the plan's program
 abbrev pub IsUnreadTrace : PlanParts → List ℕ → Fault → Type 0
 IsUnreadTrace plan trace f = (e : TraceFault) × (f.part ≡ part.Trace) × (f.number ≡ table_number e) × (is_told e ≡ true → TraceFails plan.program (records_of trace) e × ((rows : List Row) → Table plan.program (records_of trace) rows → ⊥))
@@ -47,8 +41,3 @@ pub data CoverRefusalUnder (list : Bool) (plan : PlanParts) (trace : List ℕ) (
   by_trace : IsUnreadTrace plan trace f → CoverRefusalUnder list plan trace workers old new f
   by_check : CheckRefusal workers f → CoverRefusalUnder list plan trace workers old new f
   by_writer : (rows : List Row) (v : Verdict) (behind : List ℕ) → f.part ≡ part.Write → f.number ≡ 1 → HasTable plan.program trace rows → IsVerdict plan rows v → IsBehind list plan rows v behind → AppendsFront old new (line_of plan.program v ++ behind) → CoverRefusalUnder list plan trace workers old new f
-
--- the three texts get no verdict: the first two have no plan, or the third gets none under it
-pub data CoverRefusal (list : Bool) (program externals trace : List ℕ) (workers : ℕ) (old new : Option (List ℕ)) (f : Fault) : Type 0 where
-  by_load : LoadRefusal program externals f → CoverRefusal list program externals trace workers old new f
-  by_plan : (plan : PlanParts) → IsOnly (IsPlanOf program externals) plan → CoverRefusalUnder list plan trace workers old new f → CoverRefusal list program externals trace workers old new f

@@ -4,11 +4,11 @@ ghost use Rattle.std.specs.Prelude.{◌≡◌, ◌≢◌, ◌++◌, ℕ, true, L
 ghost use Rattle.std.specs.Io.KnownBytes.{Keeps};
 ghost use Rattle.lft_ir.specs.declared.steps.row.Row.{Row as TheRow};
 ghost use Rattle.lft_trace.specs.{Records.records_of, Traces.Table};
-ghost use Rattle.lft_model.specs.{Plans.PlanParts, Workers.IsWorkers};
+ghost use Rattle.lft_model.specs.Workers.{IsWorkers};
 ghost use Rattle.lft_coverage.specs.{inner.{Facts.HasCounts, Driver.Covered.{IsCoverText, IsCovered, verdict_in}}, Facts.fact_lines, Sums.TellsSums};
-ghost use Rattle.lft_coverage.specs.Driver.Covered.{CoverRefusal, CoverRefusalUnder, IsJudgedCover, IsJudgedCoverUnder};
+ghost use Rattle.lft_coverage.specs.Driver.Covered.{CoverRefusalUnder, IsJudgedCoverUnder};
 ghost use Rattle.lft_load.specs.Refusals.{is_of_text};
-ghost use Rattle.lft_driver.specs.{inner.Explained.WriteRefusal, Explained.Writes, Meaning.Mean};
+ghost use Rattle.lft_driver.specs.{inner.Explained.WriteRefusal, Explained.Writes};
 ghost use Rattle.lft_load.specs.declared.fault.Part.TheVariants as part;
 
 use crate::driver::covered::{Covered, cover_table};
@@ -16,7 +16,7 @@ use crate::{push_told, write_facts};
 use lft_check::Verdict;
 use lft_counts::Cover;
 use lft_driver::verdict_line;
-use lft_load::{Fault, Part, load, write_text};
+use lft_load::{Fault, Part, write_text};
 use lft_model::Plan;
 use lft_model::laws::law_one_worker;
 use lft_tag::NoMemory;
@@ -150,30 +150,6 @@ pub fn cover_plan<W: Write, R: Threads + Sync>(
     };
     match write_covered(alloc, plan, &covered, list, out) {
         Ok(()) => Ok(covered.verdict()),
-        Err(fault) => Err(fault),
-    }
-}
-
-/// Judges the trace of a program under external inputs, from their texts, by so many workers, as
-/// `judge_texts` does, and tells of an accepted one what it exercised, as `cover_plan` does.
-pub fn cover_texts<W: Write, R: Threads + Sync>(
-    rt: &R,
-    alloc: Global,
-    program: &[u8],
-    externals: &[u8],
-    trace: &[u8],
-    workers: u32,
-    list: bool,
-    out: &mut W,
-) -> Result<Verdict, Fault>
-    ensures judged { IfOk result (IsJudgedCover list program.now externals.now trace.now (W.contents out.old) (W.contents out.new)) }
-    ensures workers { OnOk result (IsWorkers workers) }
-    ensures refused { IfErr result (CoverRefusal list program.now externals.now trace.now workers (W.contents out.old) (W.contents out.new)) }
-    ensures none { IfErr result (λ f. is_of_text f.part f.number ≡ true → (plan : PlanParts) (rows : List TheRow) → Mean program.now externals.now trace.now plan rows → ⊥) }
-    ensures kept { IfErr result (λ f. f.part ≢ part.Write → Keeps (W.contents out.old) (W.contents out.new)) }
-{
-    match load(alloc, program, externals) {
-        Ok(plan) => cover_plan(rt, alloc, &plan, trace, workers, list, out),
         Err(fault) => Err(fault),
     }
 }
