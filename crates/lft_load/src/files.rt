@@ -169,13 +169,3 @@ pub fn read_ordinary<F: Files>(
     }
     Ok(bytes)
 }
-
-/// An empty file at a path, to be written. What stood in a file there is lost.
-pub fn create_file<F: Files>(rt: &F, alloc: Global, path: &str) -> Result<F::File, Fault>
-    ensures { IfErr result (λ fault. IsFaultOfPath fault part.Write 1 path.now) }
-{
-    match File::create(rt, path) {
-        Ok(file) => Ok(file),
-        Err(_) => Err(Fault::of_path(alloc, Part::Write, 1, "Failed", path)),
-    }
-}

@@ -10,4 +10,4 @@ mod first;
 mod listed;
 mod reasons;
 
-pub use explaining::{Explained, Unexplained, explain_log, explain_log_plan};
+pub use explaining::{Explained, Unexplained, explain_log_plan};

@@ -1,11 +1,11 @@
--- What is recorded from texts.
-use Rattle.std.specs.Prelude.{◌≡◌, ◌⊎◌, ℕ, List, Option, true}
+-- What is recorded of a plan with cards.
+use Rattle.std.specs.Prelude.{◌≡◌, ℕ, List, Option, true}
 use Rattle.std.specs.Io.KnownBytes.{Keeps}
 use Rattle.lft_trace.specs.Records.{records_of}
 use Rattle.lft_model.specs.Plans.{PlanParts}
 use Rattle.lft_record.specs.{CardTables.{CardTable, CardsFail}, CardFaults.is_told, declared.cards.{Script.Script, fault.CardFault.CardFault}}
 use Rattle.lft_record.specs.{Faults.card_number, Recordings.{IsPlanRecorded, RecordRefusal}, Scripts.card_law}
-use Rattle.lft_load.specs.{Meaning.{IsPlanOf, OfOnly}, Refusals.LoadRefusal, declared.fault.Fault.Fault}
+use Rattle.lft_load.specs.declared.fault.Fault.{Fault}
 use Rattle.lft_load.specs.declared.fault.Part.TheVariants as part
 
 -- the plan was recorded to its stop, and each ended run answered what the cards say
@@ -14,16 +14,8 @@ pub record IsAnswerUnder (plan : PlanParts) (cards : List ℕ) (workers max_runs
   pub are_cards : CardTable plan.program (records_of cards) scripts
   pub recorded : IsPlanRecorded (card_law scripts) plan workers max_runs old new
 
--- so was the one plan of the first two texts
-abbrev pub IsRecordingAnswer : List ℕ → List ℕ → List ℕ → ℕ → ℕ → Option (List ℕ) → Option (List ℕ) → Type 0
-IsRecordingAnswer program externals cards workers max_runs old new = OfOnly (IsPlanOf program externals) (λ plan. IsAnswerUnder plan cards workers max_runs old new)
-
 -- the plan wasn't recorded: the text is no table of cards, a growth was refused, or the recording ended before, and each run that had ended answered what the cards say
 pub data AnswerRefusalUnder (plan : PlanParts) (cards : List ℕ) (workers max_runs : ℕ) (old new : Option (List ℕ)) (f : Fault) : Type 0 where
   by_cards : (e : CardFault) → f.part ≡ part.Cards → f.number ≡ card_number e → (is_told e ≡ true → CardsFail plan.program (records_of cards) e) → Keeps old new → AnswerRefusalUnder plan cards workers max_runs old new f
   by_growth : f.part ≡ part.Memory → f.number ≡ 1 → Keeps old new → AnswerRefusalUnder plan cards workers max_runs old new f
   by_recording : (scripts : List Script) → CardTable plan.program (records_of cards) scripts → RecordRefusal (card_law scripts) plan workers max_runs old new f → AnswerRefusalUnder plan cards workers max_runs old new f
-
--- the three texts weren't recorded: the first two have no plan, and nothing was written, or the plan wasn't recorded
-abbrev pub AnswerRefusal : List ℕ → List ℕ → List ℕ → ℕ → ℕ → Option (List ℕ) → Option (List ℕ) → Fault → Type 0
-AnswerRefusal program externals cards workers max_runs old new f = (LoadRefusal program externals f × Keeps old new) ⊎ OfOnly (IsPlanOf program externals) (λ plan. AnswerRefusalUnder plan cards workers max_runs old new f)

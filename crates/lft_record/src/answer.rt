@@ -1,14 +1,13 @@
-//! From texts to a recording.
+//! From a plan and cards to a recording.
 
 ghost use Rattle.std.specs.Prelude.{◌≡◌, IfOk, IfErr, OnOk, true};
-ghost use Rattle.lft_record.specs.{Answers.{AnswerRefusal, AnswerRefusalUnder, IsRecordingAnswer, IsAnswerUnder}, Recordings.{IsPlanRecorded, RecordRefusal}};
-ghost use Rattle.lft_record.specs.Scripts.{card_law};
+ghost use Rattle.lft_record.specs.{Answers.{AnswerRefusalUnder, IsAnswerUnder}, Recordings.{IsPlanRecorded, RecordRefusal}, Scripts.card_law};
 
 use crate::bodies::{FollowsCards, Scripted, card_bodies};
 use crate::cards::{Cards, read_cards};
 use crate::fault::cards_fault;
 use crate::recording::record_to;
-use lft_load::{Fault, load};
+use lft_load::Fault;
 use lft_model::Plan;
 use std::alloc::Global;
 use std::io::Write;
@@ -16,8 +15,9 @@ use std::marker::Brand;
 use std::sync::Wait;
 use std::thread::Threads;
 
-/// True, once a plan is recorded with the bodies of the cards, and the trace table is written, as
-/// `record_answer` does.
+/// True, once a plan is recorded with the bodies of the cards, and the trace table is written. The fault is
+/// that of the cards; then `write` where the table couldn't be written, else `pool` where the recording
+/// stopped. `memory` 1 may come in place of any.
 pub fn record_plan<R: Threads + Wait + Sync, W: Write>(
     rt: &R,
     alloc: Global,
@@ -37,30 +37,6 @@ pub fn record_plan<R: Threads + Wait + Sync, W: Write>(
     };
     match record_cards::<Brand, R, W>(rt, alloc, plan, &cards, workers, max_runs, out) {
         Ok(()) => Ok(true),
-        Err(fault) => Err(fault),
-    }
-}
-
-/// True, once the program under its external inputs is recorded with the bodies of the cards, and the
-/// trace table is written. The fault is that of the first layer that refuses, in the order lex,
-/// syntax, program, externals, graph, cards; then `write` where the table couldn't be written, else
-/// `pool` where the recording stopped. `memory` 1 may come in place of any from the cards on.
-pub fn record_answer<R: Threads + Wait + Sync, W: Write>(
-    rt: &R,
-    alloc: Global,
-    program: &[u8],
-    externals: &[u8],
-    cards: &[u8],
-    workers: u32,
-    max_runs: u32,
-    out: &mut W,
-) -> Result<bool, Fault>
-    ensures yes { IfOk result (λ recorded. recorded ≡ true) }
-    ensures recorded { IfOk result (λ recorded. IsRecordingAnswer program.now externals.now cards.now workers max_runs (W.contents out.old) (W.contents out.new)) }
-    ensures refused { IfErr result (AnswerRefusal program.now externals.now cards.now workers max_runs (W.contents out.old) (W.contents out.new)) }
-{
-    match load(alloc, program, externals) {
-        Ok(plan) => record_plan(rt, alloc, plan, cards, workers, max_runs, out),
         Err(fault) => Err(fault),
     }
 }

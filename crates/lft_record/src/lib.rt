@@ -11,7 +11,7 @@ mod cards;
 mod fault;
 mod recording;
 
-pub use answer::{record_answer, record_plan};
+pub use answer::record_plan;
 pub use bodies::{CardCode, FollowsCards, Scripted, card_bodies};
 pub use cards::{
     CardFault, CardStep, CardSteps, CardValue, Cards, Script, Sum, Summand, card_answer, read_cards,

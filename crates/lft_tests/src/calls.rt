@@ -2,9 +2,9 @@
 //! command gives, and faults that no text makes while memory is at hand.
 
 use crate::texts::{AT_ONCE, NO_ROWS, ONE, ONE_RUN, PIPE};
-use lft_driver::{Fault, finish, judge_texts, judge_texts_alone, pair_texts, show_text};
+use lft_driver::{Fault, finish, judge_texts, judge_texts_alone, load, pair_texts, show_text};
 use lft_program::ProgramFault;
-use lft_record::record_answer;
+use lft_record::record_plan;
 use lft_syntax::{LexFault, SyntaxFault};
 use lft_trace::TraceFault;
 use std::alloc::Global;
@@ -109,7 +109,10 @@ fn written<R: Threads + Wait + Sync>(
             pair_texts(rt, alloc, program, AT_ONCE, NO_ROWS, NO_ROWS, workers, to).err()
         }
         Call::Show => show_text(alloc, program, to).err(),
-        Call::Record => record_answer(rt, alloc, program, AT_ONCE, CARDS, workers, 10, to).err(),
+        Call::Record => match load(alloc, program, AT_ONCE) {
+            Ok(plan) => record_plan(rt, alloc, plan, CARDS, workers, 10, to).err(),
+            Err(fault) => Some(fault),
+        },
     };
     with_fault(out.taken, fault)
 }

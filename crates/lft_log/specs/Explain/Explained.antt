@@ -3,7 +3,6 @@ use Rattle.std.specs.Prelude.{◌≡◌, ◌⊎◌, ◌<◌, ◌^◌, ℕ, Bool,
 use Rattle.lft_tag.specs.declared.Tag.{Tag}
 use Rattle.lft_ir.specs.{Parts.Parts, declared.steps.row.Row.Row}
 use Rattle.lft_model.specs.{declared.breach.Breach.Breach, Plans.PlanParts}
-use Rattle.lft_load.specs.Meaning.{IsPlanOf, OfOnly}
 use Rattle.lft_races.specs.Races.{FirstSoFar}
 use Rattle.lft_log.specs.{Explain.{Cuts.IsCutBehind, Listed.runs_words, Reasons.AreReasonsSoFar}, Logs.HasManyRows, Told.{AreOpenAtEnd, TellsPlan}}
 use Rattle.lft_log.specs.declared.told.{Told.TheVariants.Broken, Final.{Final, TheVariants.{Soon, AtEnd}}}
@@ -69,7 +68,3 @@ pub record IsLogExplainedUnder (plan : PlanParts) (until : Option Tag) (whole al
   pub rest : List ℕ
   pub behind : IsBehindLine all plan log e rest
   pub written : Writes (λ text. text ≡ line_of_log plan.program e.told ++ rest) out_old out_new
-
--- the two texts have one plan, and under it the same is so
-abbrev pub IsLogExplained : List ℕ → List ℕ → Option Tag → Bool → Bool → Option (List ℕ) → Option (List ℕ) → Option (List ℕ) → Option (List ℕ) → Explained → Type 0
-IsLogExplained program externals until whole all old new out_old out_new e = OfOnly (IsPlanOf program externals) (λ plan. IsLogExplainedUnder plan until whole all old new out_old out_new e)

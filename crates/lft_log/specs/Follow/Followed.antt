@@ -4,7 +4,6 @@ use Rattle.std.specs.Io.KnownBytes.{Appends, Consumes, IsAtEnd}
 use Rattle.lft_tag.specs.declared.Tag.{Tag}
 use Rattle.lft_trace.specs.Numbers.{number}
 use Rattle.lft_model.specs.Plans.{PlanParts}
-use Rattle.lft_load.specs.Meaning.{IsPlanOf, OfOnly}
 use Rattle.lft_monitor.specs.declared.judged.Ending.{Ending}
 use Rattle.lft_log.specs.{Logs.HasManyRows, Told.{IsEnded, TellsOpen}, declared.{told.{Ended.Ended, Final.{Final, TheVariants.AtEnd}}, follow.kept.Kept.Kept}}
 use Rattle.lft_log.specs.Follow.{Kept.IsKeptOn, Lines.line_of_log}
@@ -27,7 +26,3 @@ IsReadKept base until whole kept_old kept_new old new e = (bytes : List ℕ) × 
 pub record IsFollowedUnder (plan : PlanParts) (until : Option Tag) (whole : Bool) (kept_old kept_new : Kept) (old new out_old out_new : Option (List ℕ)) (e : Ended) : Type 0 where
   pub read : IsReadKept plan until whole kept_old kept_new old new e
   pub written : Appends out_old out_new (line_of_log plan.program e.told)
-
--- the two texts have one plan, and under it the same is so
-abbrev pub IsFollowed : List ℕ → List ℕ → Option Tag → Bool → Kept → Kept → Option (List ℕ) → Option (List ℕ) → Option (List ℕ) → Option (List ℕ) → Ended → Type 0
-IsFollowed program externals until whole kept_old kept_new old new out_old out_new e = OfOnly (IsPlanOf program externals) (λ plan. IsFollowedUnder plan until whole kept_old kept_new old new out_old out_new e)

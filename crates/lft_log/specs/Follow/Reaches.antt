@@ -1,9 +1,9 @@
 -- What is told of a log while it comes: how far its rows are judged.
-use Rattle.std.specs.Prelude.{◌≢◌, ◌<◌, ◌≤◌, ℕ, ◌⊎◌, List, [], length, flat_map, Option, Result, MatchResult}
+use Rattle.std.specs.Prelude.{◌≢◌, ◌<◌, ◌≤◌, ℕ, List, length, flat_map, Option, Result, MatchResult}
 use Rattle.std.specs.{List.All, Io.KnownBytes.{Appends, Consumes}}
 use Rattle.lft_ir.specs.declared.steps.row.Row.{Row}
 use Rattle.lft_model.specs.Plans.{PlanParts}
-use Rattle.lft_load.specs.{Meaning.{IsPlanOf, OfOnly}, Written.AppendsFront, declared.fault.Fault.Fault}
+use Rattle.lft_load.specs.{Written.AppendsFront, declared.fault.Fault.Fault}
 use Rattle.lft_monitor.specs.{Follows.IsJudged, declared.reach.Reach.Reach}
 use Rattle.lft_log.specs.{Told.TellsPlan, Follow.Lines.unbroken_words}
 use Rattle.lft_load.specs.declared.fault.Part.TheVariants as part
@@ -26,10 +26,6 @@ OfReaches base bytes every P = (reaches : List Reach) × All (IsReachOf base byt
 -- this is so of the lines of some reaches of what the reader gave
 abbrev pub OfReadReaches : PlanParts → ℕ → Option (List ℕ) → Option (List ℕ) → (List ℕ → Type 0) → Type 0
 OfReadReaches base every old new P = (bytes : List ℕ) × Consumes old new bytes × OfReaches base bytes every P
-
--- the two texts have one plan, and under it this is so; or they have none, and of no lines
-abbrev pub OfTextReaches : List ℕ → List ℕ → ℕ → Option (List ℕ) → Option (List ℕ) → (List ℕ → Type 0) → Type 0
-OfTextReaches program externals every old new P = P [] ⊎ OfOnly (IsPlanOf program externals) (λ plan. OfReadReaches plan every old new P)
 
 -- the text was written; or a front of it, where a fault says that a writer failed
 abbrev pub WritesOrFails : {X : Type 0} → Result X Fault → Option (List ℕ) → Option (List ℕ) → List ℕ → Type 0

@@ -1,9 +1,9 @@
--- Why a log isn't followed: a line of it, the two texts, a reader or a writer, or want of memory.
+-- Why a log isn't followed: a line of it, a reader or a writer, or want of memory.
 use Rattle.std.specs.Prelude.{◌≡◌, ◌⊎◌, ℕ, Bool, List, Option, Some, None, codes}
 use Rattle.std.specs.Io.KnownBytes.{Consumes, IsAtEnd, Keeps}
 use Rattle.lft_tag.specs.declared.Tag.{Tag}
 use Rattle.lft_model.specs.Plans.{PlanParts}
-use Rattle.lft_load.specs.{Faults.{IsFaultOfPath, table_number, words_of}, Meaning.{IsPlanOf, OfOnly}, Refusals.LoadRefusal, Words.field, Written.AppendsFront}
+use Rattle.lft_load.specs.{Faults.{IsFaultOfPath, table_number, words_of}, Words.field, Written.AppendsFront}
 use Rattle.lft_load.specs.declared.fault.{Detail.Detail, Fault.Fault, Part.Part}
 use Rattle.lft_log.specs.{Told.{IsFaultAtEnd, IsFaultOf}, declared.{fault.LogFault.LogFault, told.Final.Final}, Follow.{Followed.IsRead, Lines.line_of_log}}
 use Rattle.lft_load.specs.declared.fault.Detail.TheVariants as detail
@@ -62,7 +62,3 @@ pub data ReadRefusal (base : PlanParts) (path : List ℕ) (old new : Option (Lis
 pub data FollowRefusalUnder (plan : PlanParts) (path : List ℕ) (until : Option Tag) (whole : Bool) (old new out_old out_new : Option (List ℕ)) (f : Fault) : Type 0 where
   by_reading : ReadRefusal plan path old new f → Keeps out_old out_new → FollowRefusalUnder plan path until whole old new out_old out_new f
   by_writer : (bytes : List ℕ) (told : Final) → f.part ≡ part.Write → f.number ≡ 1 → IsRead plan until whole bytes old new told → AppendsFront out_old out_new (line_of_log plan.program told) → FollowRefusalUnder plan path until whole old new out_old out_new f
-
--- a log isn't followed: the two texts have no plan, and nothing was written, or it isn't followed under theirs
-abbrev pub FollowRefusal : List ℕ → List ℕ → List ℕ → Option Tag → Bool → Option (List ℕ) → Option (List ℕ) → Option (List ℕ) → Option (List ℕ) → Fault → Type 0
-FollowRefusal program externals path until whole old new out_old out_new f = (LoadRefusal program externals f × Keeps out_old out_new) ⊎ OfOnly (IsPlanOf program externals) (λ plan. FollowRefusalUnder plan path until whole old new out_old out_new f)

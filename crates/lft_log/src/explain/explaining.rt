@@ -4,9 +4,8 @@ ghost use Rattle.std.specs.Prelude.{◌≡◌, ◌≢◌, ◌∷◌, ◌++◌, [
 ghost use Rattle.std.specs.Io.KnownBytes.{Keeps};
 ghost use Rattle.lft_ir.specs.Steps.Fits.{RowsFit};
 ghost use Rattle.lft_monitor.specs.Follows.{breach_of};
-ghost use Rattle.lft_log.specs.{Logs.HasManyRows, Follow.Reaches.{OfReadReaches, OfTextReaches, WritesOrFails}};
-ghost use Rattle.lft_log.specs.Explain.Explained.{ExplainsCut, ExplainsFirst, IsLogExplained, IsLogExplainedUnder, IsLack, IsLogCut};
-ghost use Rattle.lft_log.specs.Explain.Refusals.{ExplainLogRefusal, ExplainLogRefusalUnder};
+ghost use Rattle.lft_log.specs.{Logs.HasManyRows, Follow.Reaches.{OfReadReaches, WritesOrFails}};
+ghost use Rattle.lft_log.specs.Explain.{Explained.{ExplainsCut, ExplainsFirst, IsLogExplainedUnder, IsLack, IsLogCut}, Refusals.ExplainLogRefusalUnder};
 ghost use Rattle.lft_log.specs.inner.Explain.Explained.{IsListOf, IsLongKept, IsReasonOf, IsTextBehind};
 ghost use Rattle.lft_load.specs.declared.fault.Part.TheVariants as part;
 
@@ -17,7 +16,7 @@ use crate::explain::reasons::reasons;
 use crate::follow::{Ended, Final, Following, Kept, Told, follow_plan};
 use crate::rows_of_log;
 use lft_ir::steps::Rows;
-use lft_load::{Fault, load, write_text};
+use lft_load::{Fault, write_text};
 use lft_model::{Breach, Plan};
 use lft_monitor::{BrokenRule, Ending, StillOpen};
 use lft_tag::NoMemory;
@@ -238,30 +237,6 @@ pub fn explain_log_plan<R: Read, W: Write, E: Write>(
             told,
             unexplained: None,
         }),
-        Err(fault) => Err(fault),
-    }
-}
-
-/// Follows the log of a reader under the plan of two texts, and explains it, as `explain_log_plan` does. The
-/// fault may be that of `load` too.
-pub fn explain_log<R: Read, W: Write, E: Write>(
-    alloc: Global,
-    program: &[u8],
-    externals: &[u8],
-    path: &str,
-    reader: &mut R,
-    following: Following,
-    all: bool,
-    out: &mut W,
-    errors: &mut E,
-) -> Result<Explained, Fault>
-    ensures explained { IfOk result (IsLogExplained program.now externals.now following.until following.whole all (R.remaining reader.old) (R.remaining reader.new) (W.contents out.old) (W.contents out.new)) }
-    ensures refused { IfErr result (ExplainLogRefusal program.now externals.now path.now following.until following.whole all (R.remaining reader.old) (R.remaining reader.new) (W.contents out.old) (W.contents out.new)) }
-    ensures kept { IfErr result (λ f. f.part ≢ part.Write → Keeps (W.contents out.old) (W.contents out.new)) }
-    ensures every { OfTextReaches program.now externals.now following.every (R.remaining reader.old) (R.remaining reader.new) (WritesOrFails result (E.contents errors.old) (E.contents errors.new)) }
-{
-    match load(alloc, program, externals) {
-        Ok(plan) => explain_log_plan(alloc, plan, path, reader, following, all, out, errors),
         Err(fault) => Err(fault),
     }
 }

@@ -6,16 +6,16 @@ ghost use Rattle.lft_tag.specs.{declared.Tag.Tag as TheTag, Tags.IsRecorded};
 ghost use Rattle.lft_model.specs.Plans.{PlanParts};
 ghost use Rattle.lft_driver.specs.inner.Explained.{WriteRefusal};
 ghost use Rattle.lft_log.specs.{inner.Told.IsLog, Told.IsSoon};
-ghost use Rattle.lft_log.specs.Follow.{Lines.{line_of_log, log_status, unbroken_words}, Followed.{IsFollowed, IsFollowedUnder, IsReadKept, until_words}};
-ghost use Rattle.lft_log.specs.Follow.Reaches.{OfReaches, OfReadReaches, OfTextReaches, WritesOrFails};
-ghost use Rattle.lft_log.specs.Follow.Refusals.{FollowRefusal, FollowRefusalUnder, IsFaultOfLog, IsFaultNamed, IsOutside, IsToldAs, ReadRefusal, TellsLine};
+ghost use Rattle.lft_log.specs.Follow.{Lines.{line_of_log, log_status, unbroken_words}, Followed.{IsFollowedUnder, IsReadKept, until_words}};
+ghost use Rattle.lft_log.specs.Follow.Reaches.{OfReaches, OfReadReaches, WritesOrFails};
+ghost use Rattle.lft_log.specs.Follow.Refusals.{FollowRefusalUnder, IsFaultOfLog, IsFaultNamed, IsOutside, IsToldAs, ReadRefusal, TellsLine};
 ghost use Rattle.lft_load.specs.declared.fault.Part.TheVariants as part;
 
 use crate::follow::kept::{Kept, keep};
 use crate::follow::line::{line_of_final, unbroken_line};
 use crate::{Ended, Final, Log, LogFault, Told};
 use lft_ir::Program;
-use lft_load::{Detail, Fault, Part, load, push_field, write_text};
+use lft_load::{Detail, Fault, Part, push_field, write_text};
 use lft_model::Plan;
 use lft_monitor::{Ending, Reach};
 use lft_tag::{MAX_MICRO, MAX_TIME, Tag};
@@ -283,30 +283,6 @@ pub fn follow_plan<R: Read, W: Write, E: Write>(
     };
     match report(alloc, plan.program(), ended.told, out) {
         Ok(()) => Ok(ended),
-        Err(fault) => Err(fault),
-    }
-}
-
-/// Follows the log of a reader under the plan of two texts, as `follow_plan` does. The fault may be that of
-/// `load` too.
-pub fn follow_log<R: Read, W: Write, E: Write>(
-    alloc: Global,
-    program: &[u8],
-    externals: &[u8],
-    path: &str,
-    reader: &mut R,
-    following: Following,
-    kept: &mut Kept,
-    out: &mut W,
-    errors: &mut E,
-) -> Result<Ended, Fault>
-    ensures followed { IfOk result (IsFollowed program.now externals.now following.until following.whole kept.old kept.new (R.remaining reader.old) (R.remaining reader.new) (W.contents out.old) (W.contents out.new)) }
-    ensures refused { IfErr result (FollowRefusal program.now externals.now path.now following.until following.whole (R.remaining reader.old) (R.remaining reader.new) (W.contents out.old) (W.contents out.new)) }
-    ensures kept { IfErr result (λ f. f.part ≢ part.Write → Keeps (W.contents out.old) (W.contents out.new)) }
-    ensures every { OfTextReaches program.now externals.now following.every (R.remaining reader.old) (R.remaining reader.new) (WritesOrFails result (E.contents errors.old) (E.contents errors.new)) }
-{
-    match load(alloc, program, externals) {
-        Ok(plan) => follow_plan(alloc, plan, path, reader, following, kept, out, errors),
         Err(fault) => Err(fault),
     }
 }
