@@ -48,6 +48,7 @@ pub fn refused_at(text: &[u8]) -> Option<usize>
     if MAX_LENGTH < text.len() {
         return None;
     }
+    // The pieces are cut once more: the faults of `lex` for what isn't closed carry no place.
     let mut at = 0;
     'pieces: while at < text.len() {
         match piece(text, at) {

@@ -34,6 +34,7 @@ pub fn extent(
     match form {
         Form::Space => Ok((None, at + 1)),
         Form::LineComment => Ok((None, line_end(text, at))),
+        // Looked for behind both bytes of the opening, so `/*/` isn't closed.
         Form::StarComment => match past_pair(text, at + 2, b'*', b'/') {
             Some(end) => Ok((None, end)),
             None => Err(LexFault::OpenComment),
@@ -48,6 +49,7 @@ pub fn extent(
         },
         Form::Name => Ok((Some(TokenKind::Name), word_end(text, at))),
         Form::Digits => {
+            // Letters behind digits begin a token of their own: `10ms` has the tokens of `10 ms`.
             let end = digits_end(text, at);
             match number(text, at, end) {
                 Some(value) => Ok((Some(TokenKind::Number(value)), end)),
@@ -146,6 +148,7 @@ pub fn number(text: &[u8], from: usize, end: usize) -> Option<u64>
     let mut number: u64 = 0;
     for at in from..end {
         let digit = (text[at] - b'0') as u64;
+        // Asked before the product, which could overflow.
         if number > (u64::MAX - digit) / 10 {
             return None;
         }

@@ -21,6 +21,7 @@ fn trigger(input: &Input, at: usize) -> Result<(Trigger, usize), ParseError>
     ensures gives { Gives (λ x. (trigger_view x.0, x.1)) result (trigger_at (words input.now) at) }
     ensures stands { IfOk result (λ x. Takes (TriggerStands (words input.now)) trigger_tokens at x.0 x.1) }
 {
+    // Both words are reserved, so no reference of that name is lost by asking for them first.
     if is_key(input, at, b"startup") {
         let at = key(input, at, b"startup")?;
         return Ok((Trigger::Startup, at));

@@ -27,6 +27,7 @@ fn type_part(input: &Input, at: usize) -> Result<usize, ParseError>
         return skip_name(input, at);
     }
     let at = symbol(input, at, b':')?;
+    // Colons are tokens of one byte, so `::` is two of them.
     let at = symbol(input, at, b':')?;
     skip_name(input, at)
 }

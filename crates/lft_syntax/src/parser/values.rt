@@ -149,6 +149,7 @@ fn value(input: &Input, at: usize) -> Result<usize, ParseError>
     if is_name(input, at) {
         return path(input, at);
     }
+    // The last form: what begins no value is refused as a number that is missing.
     quantity(input, at)
 }
 
