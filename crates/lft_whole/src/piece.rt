@@ -20,6 +20,7 @@ fn symbol_piece(text: &[u8], at: usize) -> Option<(Option<TokenKind>, usize)>
     ensures is { result ≡ symbol_at text.now at }
     ensures piece { IfSome result (λ x. IsPiece text.now at x.0 x.1) }
 {
+    // Pairs first: `-` and `~` are symbols by themselves.
     if pair_stands(text, at, b'-', b'>') {
         return Some((Some(TokenKind::Arrow), at + 2));
     }
@@ -146,5 +147,6 @@ pub fn piece(text: &[u8], at: usize) -> Option<(Option<TokenKind>, usize)>
         let (kind, end) = number_piece(text, at);
         return Some((Some(kind), end));
     }
+    // Last, since what begins a remark, code or a string is a printable byte too.
     symbol_piece(text, at)
 }
