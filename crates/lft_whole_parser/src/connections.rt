@@ -31,6 +31,7 @@ pub fn is_connection(input: &Input, at: usize) -> bool
 {
     is_symbol(input, at, b'(')
         || is_word(input, at) && goes_on(input, at + 1)
+        // Behind this word stands a `(`, which goes on with no other name.
         || is_interleaved(input, at)
 }
 
@@ -44,6 +45,7 @@ fn left_side(input: &Input, at: usize) -> Result<(Vec<Reference>, bool, usize), 
 {
     if !is_symbol(input, at, b'(') {
         let (sources, end) = references(input, at)?;
+        // Without `+` the parentheses mean nothing.
         return Ok((sources, false, end));
     }
     let (sources, closing) = references(input, at + 1)?;

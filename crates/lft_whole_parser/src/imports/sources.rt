@@ -127,6 +127,7 @@ impl Sources {
         let Some(wanted) = self.wanted() else {
             return Ok(());
         };
+        // A copy: the list that has the path may grow below, by what the file imports.
         let path = String::from_str(self.alloc, wanted)?;
         let read = read_text(self.alloc, text.as_slice())?;
         let first = self.tokens;
