@@ -71,6 +71,7 @@ impl Path {
             return Ok(false);
         }
         self.steps.push(WidthStep {
+            // It stands below what it hangs on, so it is tried once more when that is known.
             wanted,
             is_open: true,
         })?;
