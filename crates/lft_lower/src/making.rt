@@ -30,6 +30,7 @@ pub struct Lowering {
 fn note_target(notes: &mut Notes, files: &[SourceFile]) -> Result<(), NoProgram>
     ensures { IfErr result (λ stop. stop ≡ NoMemory) }
 {
+    // Of the first file alone, which is the one that is run.
     if let Some(file) = files.first() {
         for timeout in &file.tree.timeouts {
             notes.timeout(timeout)?;
@@ -144,6 +145,7 @@ fn lowered(
     };
     let items = reactors(maker, &mut room, &mut notes, used)?;
     let tree = Ast {
+        // A target is a range of tokens of one core text, and no such text is made.
         target: None,
         items,
     };
