@@ -34,6 +34,7 @@ fn is_fed(program: &Program, effects: &[Name], name: Name) -> bool
     match name {
         Name::Port(number) if (number as usize) < program.ports() => {
             let port = program.port(number);
+            // Over a delay the one is read at a later tag than the other, and neither waits.
             port.shift.time == 0 && port.shift.steps == 0 && has_port(effects, port.origin)
         }
         _ => false,

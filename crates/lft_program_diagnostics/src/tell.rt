@@ -148,6 +148,7 @@ fn rest_of(
     requires { ArePages text.now files.now }
 {
     let mut out = String::new(alloc);
+    // The earlier place comes first, as in the text.
     push_marked(alloc, &mut out, text, files, reason.before)?;
     push_marked(alloc, &mut out, text, files, reason.at)?;
     out.push_str(reason.ways.as_str())?;
