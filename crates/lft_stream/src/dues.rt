@@ -29,6 +29,7 @@ struct Beats {
     dues: DueList,
     /// The turns of the dues, where these are many. Where one is missing or wrong, a run that is triggered may be
     /// taken for one that isn't.
+    // In a box, since most reactions have none and each has the room for it.
     turns: Option<Box<Turns>>,
 }
 
