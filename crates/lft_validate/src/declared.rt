@@ -45,6 +45,7 @@ fn push_declared<'a>(names: &mut Vec<&'a str>, members: &'a [Member]) -> Result<
 fn declarations(alloc: Global, reactor: &Reactor) -> Result<Vec<&str>, NoMemory>
     ensures { IfOk result (λ v. texts v.items ≡ declarations (reactor_view reactor.now)) }
 {
+    // Parameters and members share one space of names, and parameters stand first in the text.
     let mut names = parameter_names(alloc, &reactor.parameters)?;
     push_declared(&mut names, &reactor.members)?;
     Ok(names)
