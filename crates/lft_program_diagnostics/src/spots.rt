@@ -104,6 +104,7 @@ fn time_of_timer(timer: &Timer, place: usize) -> Option<&TimeExpression>
                 time_alone(&timer.period, place - 1)
             }
         }
+        // No text has a period without an offset, but a tree could.
         None => time_alone(&timer.period, place),
     }
 }

@@ -27,6 +27,8 @@ use std::alloc::Global;
 /// The witness with the first of the two things that it names in place of the second, if it names two.
 fn first_of(witness: Witness) -> Option<Witness> {
     match witness {
+        // The first takes the place of the second here and below, so `spot_of` says of either where it
+        // stands.
         Witness::TwoMains { first, .. } => Some(Witness::TwoMains {
             first,
             second: first,
