@@ -43,6 +43,7 @@ pub fn extent(
             Some(end) => Ok((Some(TokenKind::Code), end)),
             None => Err(LexFault::OpenCode),
         },
+        // A string may have line ends in it, so nothing but its quote ends it.
         Form::Text => match quoted_end(text, at + 1) {
             Some(end) => Ok((Some(TokenKind::Text), end)),
             None => Err(LexFault::OpenString),
@@ -124,6 +125,7 @@ pub fn quoted_end(text: &[u8], from: usize) -> Option<usize>
         if byte == b'"' {
             return Some(at + 1);
         }
+        // The byte behind it is passed over with it, so an escaped quote ends nothing.
         if byte == b'\\' {
             if at + 1 == text.len() {
                 return None;

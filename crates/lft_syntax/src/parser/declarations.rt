@@ -224,6 +224,7 @@ pub fn action(input: &Input, at: usize) -> Result<(Action, usize), ParseError>
 pub fn state(input: &Input, at: usize) -> Result<(TokenRange, usize), ParseError>
     ensures { Gives (λ x. (range_view x.0, x.1)) result (state_at (words input.now) at) }
 {
+    // Which tokens it has is all that is kept: no rule asks for the value of a state.
     let start = at;
     let at = key(input, at, b"state")?;
     let at = skip_name(input, at)?;

@@ -34,6 +34,7 @@ fn target(input: &Input, at: usize) -> Result<(TokenRange, usize), ParseError>
 {
     let start = at;
     let at = key(input, at, b"target")?;
+    // Any target will do, since the code of reactions isn't read.
     let at = skip_name(input, at)?;
     let end = properties(input, at)?;
     Ok((TokenRange { start, end }, end))

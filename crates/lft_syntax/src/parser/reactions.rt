@@ -102,6 +102,7 @@ pub fn reaction(input: &Input, at: usize) -> Result<(Reaction, usize), ParseErro
     ensures stands { IfOk result (λ x. ReactionStands (words input.now) at x.0) }
 {
     let own = key(input, at, b"reaction")?;
+    // A reaction is known by its number in its reactor, so its own name isn't kept.
     let opening = own_name(input, own)?;
     let (triggers, behind) = triggers(input, opening)?;
     let (uses, arrow) = uses(input, behind)?;

@@ -79,6 +79,7 @@ fn array_parts(input: &Input, at: usize) -> Result<usize, ParseError>
 fn skip_type(input: &Input, at: usize) -> Result<usize, ParseError>
     ensures { Gives at_next result (type_at (words input.now) at) }
 {
+    // Code stands for a type that these few forms don't write.
     if is_code(input, at) {
         return code(input, at);
     }
