@@ -67,9 +67,9 @@ impl<'a> Before<'a> {
     fn of_unit(&self) -> Option<&'static str> {
         if self.is_number(2) {
             of_word(self.spelling(1))
+        } else if self.is_number(3) {
             // In `mode A {` the name behind the word is taken for the next member, so it is refused one token
             // later.
-        } else if self.is_number(3) {
             of_word(self.spelling(2))
         } else {
             None

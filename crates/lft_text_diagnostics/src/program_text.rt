@@ -296,6 +296,7 @@ fn way_among(
     let Some(token) = tokens.as_slice().get(number - 1) else {
         return Ok(None);
     };
+    // As a core text it is refused elsewhere, and what helps there doesn't help here.
     if token.start < from || to < token.start {
         return Ok(None);
     }

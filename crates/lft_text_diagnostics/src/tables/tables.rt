@@ -132,6 +132,7 @@ fn tell_field(
     ensures field { IfOk result (λ words. (string_bytes words ≡ []) ⊎ NamesField (records_of text.now) (word_of table) line (IsWrongIn program.now table fault) (string_bytes words)) }
     ensures told { IfOk result (λ words. field_line fault ≡ Some line → (fields : List (List ℕ)) → HasRecord (records_of text.now) line fields → FailsThere program.now table (records_of text.now) fields fault → ContinuesFrom (table_line_words (word_of table) line) (string_bytes words)) }
 {
+    // The fault is of this record, so it is there.
     let Some(fields) = record_of(alloc, text, line)? else {
         return Ok(String::new(alloc));
     };
