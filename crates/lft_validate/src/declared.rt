@@ -90,6 +90,7 @@ pub(crate) fn same_reactors(
     ensures cause { IfOk result (λ found. IfSome found (λ w. fault_shown w ≡ faults.DuplicateName)) }
     ensures none { IfOk result (λ found. IfNone found (¬ IsTwice (filter_map (λ r. r.name) (reactor_trees reactors.now)))) }
 {
+    // Of those that have a name: a main reactor may have none.
     let names = reactor_names(alloc, reactors)?;
     match first_twice(alloc, &names)? {
         Some((first, second)) => Ok(Some(Witness::SameReactors { first, second })),

@@ -23,6 +23,7 @@ fn all_names(alloc: Global, reactor: &Reactor, role: Role) -> Result<Vec<&Refere
     ensures { IfOk result (λ v. ref_trees v.items ≡ all_names role (reactor_view reactor.now)) }
 {
     let mut found = Vec::new(alloc);
+    // One list over all members: a port may be written by a reaction and be the end of a connection.
     for member in &reactor.members {
         let names = names_of(alloc, member, role)?;
         found.extend_from_slice(names.as_slice())?;
