@@ -39,6 +39,7 @@ fn decimal_end(text: &[u8], point: usize) -> usize
     ensures within { (point < result) × (result ≤ length text.now) }
 {
     let end = exponent_end(text, past_digits(text, point + 1));
+    // So C and C++ write a number of single precision.
     if one_stands(text, end, b'f', b'F') {
         end + 1
     } else {

@@ -100,6 +100,7 @@ fn string_end(text: &[u8], at: usize) -> Option<usize>
     ensures is { result ≡ string_end text.now at }
     ensures within { IfSome result (λ end. (at < end) × (end ≤ length text.now)) }
 {
+    // Three are asked for first: two alone are an empty string.
     if three_stand(text, at, b'"') {
         past_long_string(text, at + 3)
     } else {

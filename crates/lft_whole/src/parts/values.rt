@@ -106,6 +106,7 @@ fn word_value(input: &Input, at: usize) -> Result<(Expression, usize), TreeFault
         return Err(TreeFault::Unexpected(at));
     };
     let end = path_end(input, at + 1);
+    // No parameter is named by words with points, so no more of these is kept.
     let value = if end == at + 1 {
         Value::Word(text_of(input.alloc, letters)?)
     } else {
