@@ -276,6 +276,7 @@ pub(crate) fn push_unit(
     let front = Prefix {
         alloc,
         text: text.get(..end).unwrap_or(b""),
+        // A unit would be the next token.
         token: token.saturating_add(1),
     };
     if front.can_stand(UNIT)? {
