@@ -65,6 +65,7 @@ fn is_joined(input: &Input, at: usize) -> bool
     ensures inside { result ≡ true → at < count input.now }
 {
     match (input.tokens.get(at - 1), input.tokens.get(at)) {
+        // By their bytes, since a gap between tokens is no token.
         (Some(before), Some(token)) => before.end == token.start,
         _ => false,
     }

@@ -86,6 +86,7 @@ impl Sources {
     pub fn wanted(&self) -> Option<&str>
         ensures { option_map (λ path. path.now) result ≡ next_path self.now }
     {
+        // A file has the number of its path, so the next one is behind as many as are read.
         match self.asked.paths.get(self.files.len()) {
             Some(wanted) => Some(wanted.path.as_str()),
             None => None,
