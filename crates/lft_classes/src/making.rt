@@ -68,7 +68,6 @@ fn given_of<'a>(
             value: &assignment.value,
         })?;
     }
-    // By parameter, as `Child` says, while the text may give them in any order.
     given.sort_by_key(|given| given.parameter)?;
     Ok(given)
 }

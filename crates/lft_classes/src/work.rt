@@ -32,7 +32,6 @@ impl Work {
         ensures why { IfErr result (λ stop. stop ≡ Refused (record { why = TooMuch; place = self.old.main })) }
         ensures err { OnErr result (self.new ≡ self.old) }
     {
-        // Nothing is taken where it doesn't suffice, as the whole program is refused then.
         match self.left.checked_sub(amount) {
             Some(left) => {
                 self.left = left;
