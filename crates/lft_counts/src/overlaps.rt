@@ -43,7 +43,7 @@ impl Overlaps {
     {
         let running = Set::with_room(alloc, reactions)?;
         let met = no_sets(alloc, reactions)?;
-        // One more than reactions, as none and all may have an open run.
+        // Numbers count from 0, and all reactions may have an open run.
         let widths = Tally::new(alloc, reactions + 1)?;
         Ok(Overlaps {
             running,
