@@ -38,8 +38,8 @@ pub(crate) fn accepted_text(alloc: Global, plan: &Plan, trace: &[u8]) -> Option<
     ensures { IfSome result (IsRight plan.now trace.now) }
 {
     match accepts_reader(alloc, plan, trace) {
-        // A failure of the look says nothing of the trace either: the checker reads the text anew.
         Ok(Some(counts)) => Some(accepted_by(counts)),
+        // A failure of the look says nothing of the trace either: the checker reads the text anew.
         _ => None,
     }
 }
