@@ -70,8 +70,8 @@ impl Path {
         if !is_new {
             return Ok(false);
         }
+        // It stands below what it hangs on, so it is tried once more when that is known.
         self.steps.push(WidthStep {
-            // It stands below what it hangs on, so it is tried once more when that is known.
             wanted,
             is_open: true,
         })?;
