@@ -44,7 +44,7 @@ impl Sides {
         ensures { IfErr result (λ stop. stop ≡ NoMemory) }
     {
         let (left, right) = (self.left as u64, self.right as u64);
-        // A broadcast of no sources joins nothing: of that the sides differ, and no width divides.
+        // A broadcast without sources joins nothing. Of it is said that the sides differ: nothing is divided by 0.
         if connection.is_broadcast && left != 0 {
             if right % left != 0 {
                 notes.divide(within.file, connection.at, left, right)?;

@@ -89,7 +89,7 @@ fn note_defaults(notes: &mut Notes, main: &Shape) -> Result<(), NoProgram>
     ensures { IfErr result (λ stop. stop ≡ NoMemory) }
 {
     for number in 0..main.parameters.len() {
-        // No other parameter decides anything that is judged, so of none else it is said.
+        // No other parameter decides anything that is judged.
         if main.is_sized(number) || main.is_timed(number) {
             let InheritedParameter { file, parameter } = main.parameters[number];
             notes.default(file, parameter.name.at, parameter.name.text.as_str())?;
