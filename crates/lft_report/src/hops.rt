@@ -47,8 +47,7 @@ fn way_back(alloc: Global, program: &Program, port: u32) -> Result<Vec<u32>, All
     let mut left = 21_u32;
     while left > 0 {
         left -= 1;
-        // A walk of so many steps, and no search for the origin, which a port has by itself: the ports
-        // between are told.
+        // Port by port, though each has its origin by itself: the connections between are what is told.
         match source_into(program, at) {
             Some(source) => {
                 way.push(at)?;
