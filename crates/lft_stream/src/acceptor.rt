@@ -72,7 +72,7 @@ impl Acceptor {
             Ok(None) => self
                 .stream
                 .add_kept(plan, &mut self.order, &mut self.marks, rows),
-            // Which rule is broken the checker tells, and it asks for its memory itself.
+            // Of what isn't accepted nothing is said, so the breach is dropped.
             Ok(Some(_)) => false,
             Err(_) => false,
         }

@@ -241,8 +241,8 @@ impl Stream {
         let effects = self.outline.effects(own);
         self.presence
             .find(plan, &self.channels, &self.coming, own, slice.tag);
-        // All writes of the tag come before any read of it: the last one counts, and the order of runs was
-        // looked at before.
+        // All writes of the tag are taken before its reads are looked at: the last one counts, and the order of
+        // runs was asked before.
         self.writes.pass_all(program, effects, slice.tag);
         self.starts.begin_all(program, started, slice.tag);
         if !self.effort.allows(
