@@ -25,7 +25,7 @@ fn default(input: &Input, at: usize) -> Result<(Time, usize), ParseError>
 {
     if is_symbol(input, at, b'=') {
         let behind = symbol(input, at, b'=')?;
-        // No name may stand here, as in other times: a default isn't another parameter.
+        // Other than in most times no name may stand here: a default isn't another parameter.
         return time(input, behind);
     }
     let first = symbol(input, at, b'(')?;
