@@ -201,7 +201,7 @@ fn header_words(alloc: Global, text: &[u8], table: Table) -> Result<String, NoMe
         out.push_str("a line of more than 200 bytes")?;
     }
     out.push_str("\n")?;
-    // For the guess alone, which asks for letters. What isn't UTF-8 begins with none of them.
+    // For the guess alone. What isn't UTF-8 is replaced, and no guess is made by that.
     let words = String::from_utf8_lossy(alloc, first)?;
     push_way(&mut out, of_text(text, words.as_str()))?;
     Ok(out)
