@@ -95,7 +95,7 @@ pub(crate) fn first_named_twice(
     ensures some { IfOk result (λ found. IfSome found (λ p. IsTwiceAt (ref_trees names.now) p.0 p.1)) }
     ensures none { IfOk result (λ found. IfNone found (¬ IsTwice (ref_trees names.now))) }
 {
-    // The hash hangs on all names: so no text can be made whose names collide for each program.
+    // The state of the hash hangs on all names, so that colliding ones can't be chosen beforehand.
     let mut seen = SeenNames::new(alloc, NameHash::of_references(names));
     for place in 0..names.len() {
         if !seen.add(names[place])? {
