@@ -14,7 +14,7 @@ fn is_part(input: &Input, at: usize) -> bool
     ensures is { result ≡ Parts.on_part (source input.now) at }
     ensures inside { result ≡ true → at < count input.now }
 {
-    // A single colon goes on with nothing: the second is asked for before the name is taken to go on.
+    // A single colon is no part of a type's name, so both are asked for.
     is_symbol(input, at, b'.') || is_symbol(input, at, b':') && is_symbol(input, at + 1, b':')
 }
 
