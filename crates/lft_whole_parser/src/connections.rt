@@ -45,7 +45,6 @@ fn left_side(input: &Input, at: usize) -> Result<(Vec<Reference>, bool, usize), 
 {
     if !is_symbol(input, at, b'(') {
         let (sources, end) = references(input, at)?;
-        // Without `+` the parentheses mean nothing.
         return Ok((sources, false, end));
     }
     let (sources, closing) = references(input, at + 1)?;
@@ -53,6 +52,7 @@ fn left_side(input: &Input, at: usize) -> Result<(Vec<Reference>, bool, usize), 
     if is_symbol(input, end, b'+') {
         Ok((sources, true, end + 1))
     } else {
+        // Without `+` the parentheses mean nothing.
         Ok((sources, false, end))
     }
 }
