@@ -83,6 +83,7 @@ pub fn first_from(
         Err(CutFault::NoMemory) => return Err(FromFault::Refused),
     };
     let clash = sliced.clash();
+    // From a collision on an input has no one value, so of runs behind it rule 10 decides nothing.
     if !is_from(clash, low) {
         return Err(FromFault::EarlyCollision);
     }

@@ -23,6 +23,7 @@ fn share_begins(tags: usize, workers: usize, worker: usize) -> usize
     ensures value { result ≡ share_start tags workers worker }
     ensures within { result ≤ tags }
 {
+    // The product comes first, so that shares differ by one tag at most. Its factors are small.
     worker * tags / workers
 }
 

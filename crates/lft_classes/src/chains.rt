@@ -57,6 +57,7 @@ fn step(scopes: &ReactorNames, work: &mut Work, walk: &mut Traversal) -> Result<
     let Some(visit) = walk.top() else {
         return Ok(false);
     };
+    // Each step counts, also one that passes a base: bases of bases may be met far more often than listed.
     work.spend(1)?;
     let Some(base) = base_at(scopes, work, visit.node, visit.next)? else {
         walk.end()?;
@@ -64,6 +65,7 @@ fn step(scopes: &ReactorNames, work: &mut Work, walk: &mut Traversal) -> Result<
     };
     // A base that was entered is met here once more when it is listed. Then the walk passes it.
     if walk.is_done(base.class) {
+        // It never saturates: a base has this number.
         walk.pass(visit.next.saturating_add(1))?;
         return Ok(true);
     }

@@ -32,6 +32,7 @@ fn named(shape: &Shape, value: &Expression) -> Option<usize>
 fn mark(list: &mut Vec<bool>, parameter: usize)
     ensures { Marks (λ n. n ≡ parameter) list.old.items list.new.items }
 {
+    // True of each number that is given. Asked here, so that no caller has to show it.
     if parameter < list.len() {
         list[parameter] = true;
     }
@@ -103,6 +104,7 @@ impl Needs {
         ensures sized { Marks (IsPassed Widths shape.now inner.now assignment.now) self.old.sized.items self.new.sized.items }
         ensures timed { Marks (IsPassed Times shape.now inner.now assignment.now) self.old.timed.items self.new.timed.items }
     {
+        // A name that is no parameter doesn't come: it was refused when the values were put in order.
         let Some(needed) = inner.parameter(assignment.name.text.as_str()) else {
             return;
         };
@@ -172,6 +174,8 @@ impl Needs {
                 self.note_time(shape, &timer.offset);
                 self.note_time(shape, &timer.period);
             }
+            // Its spacing isn't noted: a logical action may have none but 0, and that of a physical one means
+            // nothing here.
             Member::Action(action) => self.note_time(shape, &action.min_delay),
             Member::Connection(connection) => self.note_connection(shape, connection),
             Member::Instance(instance) => {

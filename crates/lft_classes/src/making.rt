@@ -83,6 +83,7 @@ fn given_inside<'a>(
     ensures once { OnOk result ((inner : Shape) → slice_get shapes.now shape ≡ Some inner → GivesOnce instance.now.given.items) }
     ensures given { IfOk result (λ given. (inner : Shape) → slice_get shapes.now shape ≡ Some inner → AreGiven (thing_named inner) instance.now.given.items given.items) }
 {
+    // The other case doesn't come: the caller has just asked for this shape.
     let Some(inner) = shapes.get(shape) else {
         return Ok(Vec::new(alloc));
     };
@@ -191,6 +192,7 @@ impl<'a> Making<'a> {
         ensures others { OnOk result (KeepsBut self.old.shapes.items self.new.shapes.items shape) }
         ensures noted { OnOk result ((c : Core) → slice_get (cores self.old.shapes.items) shape ≡ Some c → length c.members ≡ count → IsNoted self.old.scopes (tables self.new.shapes.items) shape c) }
     {
+        // A list of its own until it is whole: meanwhile the shape is read, and shapes are put behind it.
         let mut children = Vec::new(self.alloc);
         for number in 0..count {
             let child = self.child_at(shape, number)?;
@@ -239,6 +241,7 @@ pub(crate) fn shapes_of<'a>(
         shapes,
         known,
     };
+    // First of all, so that its number is 0: the walk that orders the shapes begins there.
     making.add_shape(main)?;
     making.fill_all()?;
     let Making {

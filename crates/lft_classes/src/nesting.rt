@@ -95,6 +95,7 @@ fn last_token(files: &[SourceFile]) -> usize
     ensures { result ≡ last_token files.now }
 {
     match files.first() {
+        // The end of the text has a spot, so there is one at least.
         Some(file) => file.spots.len().saturating_sub(1),
         None => 0,
     }

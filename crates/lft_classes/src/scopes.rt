@@ -170,6 +170,7 @@ fn push_imports<'a>(
     ensures kept { OnOk result ((q : List ℕ) (n : ℕ) → HasMeaning meanings.old.items q n → HasMeaning meanings.new.items q n) }
     ensures all { OnOk result ((files : List SourceFile) → slice_get files number ≡ Some file.now → AreOwnScopes files own.now → HasImports files number meanings.new.items) }
 {
+    // Equal, of a file that was read to its end. One that was refused has no numbers.
     let count = file.tree.imports.len().min(file.imports.len());
     for place in 0..count {
         let import = &file.tree.imports[place];
@@ -190,6 +191,7 @@ fn own_meanings<'a>(
     let Some(scope) = own.get(number) else {
         return Ok(Vec::new(alloc));
     };
+    // A copy: imports are put behind it, and the scope itself is still asked for what the file hands on.
     let meanings = Vec::from_slice(alloc, &scope.meanings)?;
     Ok(meanings)
 }
@@ -315,6 +317,7 @@ impl<'a> ReactorNames<'a> {
         let Some((place, class)) = self.next_main(0) else {
             return Err(NoProgram::at(Why::NoMain, 0, end));
         };
+        // It never saturates: a reactor stands at the place before.
         if let Some((_, second)) = self.next_main(place.saturating_add(1)) {
             return Err(NoProgram::at(Why::TwoMains, 0, second.reactor.at));
         }

@@ -362,6 +362,7 @@ impl<'a> Shape<'a> {
             parameters,
             names: index,
             named,
+            // These three are filled later, as they need the shapes of what the reactor contains.
             children: Vec::new(alloc),
             sized: Vec::new(alloc),
             timed: Vec::new(alloc),

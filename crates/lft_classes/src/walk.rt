@@ -14,6 +14,8 @@ pub(crate) struct Visit {
 }
 
 /// How far a walk has come.
+// Not the walk of `lft_lists`: this one begins at one reactor and counts what it lists, and each way may
+// be refused.
 // Sets of numbers, and no mark for each reactor of the program: a walk begins at each of
 // them, for its bases. The path is a list, as no depth of calls may grow with the text.
 #[derive(Drop)]

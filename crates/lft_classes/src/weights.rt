@@ -11,6 +11,7 @@ fn of_name(name: &Name) -> u64 {
     (name.text.len() as u64).saturating_add(1)
 }
 
+// All sums here saturate: a weight near that limit is refused by `spend` as any that is too large.
 fn of_reference(reference: &Reference) -> u64 {
     let port = match &reference.port {
         Some(port) => of_name(port),

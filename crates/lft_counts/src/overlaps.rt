@@ -43,6 +43,7 @@ impl Overlaps {
     {
         let running = Set::with_room(alloc, reactions)?;
         let met = no_sets(alloc, reactions)?;
+        // Numbers count from 0, and all reactions may have an open run.
         let widths = Tally::new(alloc, reactions + 1)?;
         Ok(Overlaps {
             running,
@@ -63,7 +64,9 @@ impl Overlaps {
         requires step { row.step ≡ Start }
         ensures { Overlap here.trace (length here.program.reactions) (here.place + 1) self.new }
     {
+        // Before its own run is among them, so that it meets others alone.
         self.met[row.reaction as usize].add_all(&self.running);
+        // By the rules on rows no run of the reaction is open, so this puts it in.
         self.running.toggle(row.reaction);
         self.many += 1;
         self.widths.add(self.many);

@@ -39,6 +39,7 @@ pub(crate) fn accepted_text(alloc: Global, plan: &Plan, trace: &[u8]) -> Option<
 {
     match accepts_reader(alloc, plan, trace) {
         Ok(Some(counts)) => Some(accepted_by(counts)),
+        // A failure of the look says nothing of the trace either: the checker reads the text anew.
         _ => None,
     }
 }

@@ -64,6 +64,7 @@ pub(crate) enum Marker {
 
 /// Whether some marker stands in the text with a carriage return behind it.
 pub(crate) fn has_returned_marker(text: &[u8]) -> bool {
+    // Asked of a refused bundle alone, so it may look at each place.
     for place in 0..text.len() {
         let rest = &text[place..];
         if rest.starts_with(b"--- program\r")

@@ -119,6 +119,7 @@ fn explain_rows<W: Write, R: Threads + Sync>(
     ensures written { IfOk result (λ v. Writes (IsExplanation all plan.now rows.now v) (W.contents out.old) (W.contents out.new)) }
     ensures refused { IfErr result (ExplainingRefusal all plan.now rows.now workers (W.contents out.old) (W.contents out.new)) }
 {
+    // No `?` here and below: a clause speaks of the fault, and by a `match` its proof has it by name.
     let verdict = match verdict_of(rt, alloc, plan, rows, workers) {
         Ok(verdict) => verdict,
         Err(fault) => return Err(fault),

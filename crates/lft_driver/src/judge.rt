@@ -105,6 +105,7 @@ pub(crate) fn report<W: Write>(
     ensures front { IfErr result (λ f. IsRefusedGrowth f ⊎ (f.part ≡ part.Write) × (f.number ≡ 1) × AppendsFront (W.contents out.old) (W.contents out.new) (line_of program.now verdict)) }
     ensures kept { IfErr result (λ f. f.part ≢ part.Write → Keeps (W.contents out.old) (W.contents out.new)) }
 {
+    // The line is whole before any of it is written, so want of memory cuts none.
     match verdict_line(alloc, program, verdict) {
         Ok(line) => write_text(line.as_bytes(), out),
         Err(_) => Err(Fault::no_memory()),

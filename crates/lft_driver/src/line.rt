@@ -27,6 +27,7 @@ fn name_of_rule(rule: u8) -> &'static str
         8 => "not-triggered",
         9 => "too-early",
         10 => "wrong-read",
+        // No breach has another number.
         _ => "",
     }
 }

@@ -131,6 +131,7 @@ pub(crate) fn judge_both<R: Threads + Sync>(
     ensures workers { OnOk result (IsWorkers workers) }
     ensures fault { IfErr result (CheckRefusal workers) }
 {
+    // To its end before the second is begun: where both break a rule, the first is told.
     let verdict = match verdict_of(rt, alloc, plan, first, workers) {
         Ok(verdict) => verdict,
         Err(fault) => return Err(fault),

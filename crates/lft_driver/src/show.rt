@@ -38,6 +38,7 @@ fn push_before(text: &mut String, program: &Program, before: &[u32]) -> Result<(
     ensures { OnOk result (string_bytes text.new ≡ string_bytes text.old ++ before_words program.now before.now) }
 {
     if before.is_empty() {
+        // A sign for none, so that a script finds something in each field.
         text.push_str("-")?;
     } else {
         push_names(text, program, before)?;

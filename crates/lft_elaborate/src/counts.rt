@@ -127,6 +127,7 @@ fn mark(used: &mut Vec<usize>, is_used: &mut Vec<bool>, number: usize) -> Result
     ensures has { OnOk result (AreMarked used.old.items is_used.old.items → number < length is_used.old.items → Has used.new.items number) }
     ensures only { OnOk result ((k : ℕ) → Has used.new.items k → Has used.old.items k ⊎ (k ≡ number)) }
 {
+    // This doesn't come: `lengthen` has made room for each setting.
     if number >= is_used.len() {
         return Ok(());
     }
@@ -258,6 +259,7 @@ impl<'a> Settings<'a> {
     {
         let mut used = Vec::new(self.alloc);
         let mut is_used = Vec::new(self.alloc);
+        // The main one is in no other, so it is put in by itself.
         used.push(0)?;
         is_used.push(true)?;
         let mut place = 0;

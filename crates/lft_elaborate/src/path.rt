@@ -70,6 +70,7 @@ impl Path {
         if !is_new {
             return Ok(false);
         }
+        // It stands below what it hangs on, so it is tried once more when that is known.
         self.steps.push(WidthStep {
             wanted,
             is_open: true,

@@ -52,6 +52,7 @@ impl<'a> Settings<'a> {
         ensures { IfOk result (λ meaning. (t : Valued) → setting_at self.now setting ≡ Some t → meaning_in_setting self.now.shapes.items t reference.now ≡ Some meaning) }
     {
         let Some(shape) = self.shape_of(setting) else {
+            // This doesn't come: each setting has a shape.
             return Err(NoProgram::at(Why::UnknownName, file, reference.head.at));
         };
         let meaning = meaning_of(&self.shapes, shape, file, reference)?;

@@ -27,6 +27,7 @@ pub(crate) fn nothing<N: Copy>(alloc: Global, count: usize) -> Result<Vec<Option
 fn signed(is_negative: bool, count: u64) -> i64
     ensures { result ≡ signed is_negative count }
 {
+    // So cut it fits with either sign.
     let size = count.min(LARGE) as i64;
     if is_negative { -size } else { size }
 }
@@ -39,6 +40,7 @@ fn literal(value: &Value) -> Option<i64>
         Value::Number {
             is_negative,
             count,
+            // With a unit it is a time, and so no width.
             unit: None,
         } => Some(signed(*is_negative, *count)),
         _ => None,
@@ -50,6 +52,7 @@ pub(crate) fn number_named(shape: &Shape, values: &[i64], name: &str) -> Option<
     ensures { result ≡ number_named shape.now (map (λ v. Some v) values.now) name.now }
 {
     let parameter = shape.parameter(name)?;
+    // The value of any other is 0 in each setting, whatever it is given.
     if shape.is_sized(parameter) {
         values.get(parameter).copied()
     } else {
@@ -84,6 +87,7 @@ fn default(inner: &Shape, parameter: usize, missing: NoProgram) -> Result<i64, N
     let Some(value) = &inherited.parameter.default else {
         return Err(missing);
     };
+    // Written out it has to be, as a default can't be another parameter.
     match literal(&value.value) {
         Some(found) => Ok(found),
         None => Err(NoProgram::at(Why::NoWholeNumber, inherited.file, value.at)),

@@ -19,6 +19,7 @@ use std::alloc::AllocError;
 fn plus(one: Option<u64>, other: Option<u64>) -> Option<u64>
     ensures { result ≡ plus one other }
 {
+    // A sum that large passes each limit, so it needn't be told from the largest number.
     Some(one?.saturating_add(other?))
 }
 
@@ -217,6 +218,7 @@ impl<'a> Settings<'a> {
         ensures sum { IfOk result (λ all. IfSome all (λ n. (t : Valued) → AreMade (table self.old) → setting_at self.old setting ≡ Some t → IsSum self.old.shapes.items t terms.now n)) }
     {
         let mut all = Some(0);
+        // To the end, also behind one that isn't known: so all that the width hangs on is wanted at once.
         for term in terms {
             let count = self.term(setting, file, term, needs)?;
             all = plus(all, count);
@@ -229,6 +231,7 @@ impl<'a> Settings<'a> {
         ensures work { OnOk result (self.new.work.left ≤ self.old.work.left) }
         ensures goes { OnOk result (GoesOn (table self.old) (table self.new)) }
     {
+        // Several widths may hang on this one, and then it is wanted several times.
         if self.known(wanted.setting, wanted.member).is_some() {
             return Ok(());
         }
@@ -268,6 +271,7 @@ impl<'a> Settings<'a> {
                 return Ok(Some(width));
             }
             self.work.spend(1)?;
+            // The path may be empty and the width unknown: then this is the first turn.
             let wanted = path.pop(first);
             self.find_width(wanted, &mut path)?;
         }

@@ -132,6 +132,7 @@ fn timer_cause(plan: &Plan, tag: Tag, number: u32) -> Option<u64>
     if !fires(timer, tag) {
         return None;
     }
+    // Without a period it fires once, at its offset.
     if timer.period == 0 {
         Some(0)
     } else {

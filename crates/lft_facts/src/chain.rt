@@ -54,6 +54,7 @@ pub(crate) fn chain(
 {
     let mut facts = Vec::new(alloc);
     let mut at = first;
+    // No way leads on from the last reaction, so this ends there.
     while let Some(after) = next_at(next, at) {
         facts.push(step(plan, at, after))?;
         at = after;

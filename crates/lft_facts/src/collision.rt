@@ -107,6 +107,7 @@ fn two_causes(plan: &Plan, rows: &[Row], causes: &[EventCause], tag: Tag) -> (Ca
             return two;
         }
     }
+    // There is a collision at the tag, and it is of a port or an action.
     unreachable!()
 }
 

@@ -104,6 +104,7 @@ pub(crate) fn late_end(
         return end;
     }
     let Some(end) = least_end(rows, tag, start, next) else {
+        // The run breaks the rule, so a reaction that precedes it ends behind its start.
         unreachable!()
     };
     end

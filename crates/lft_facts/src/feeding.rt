@@ -31,6 +31,7 @@ fn fed_port(program: &Program, effects: &[Name], name: Name) -> Option<u32>
     match name {
         Name::Port(number) => {
             let port = program.port(number);
+            // By a delayed port nothing is fed at the tag of the write, so it orders no two runs there.
             if port.shift.time == 0 && port.shift.steps == 0 && has_port(effects, port.origin) {
                 Some(number)
             } else {

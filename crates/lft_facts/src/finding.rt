@@ -38,6 +38,7 @@ fn enough_at_tag(
 {
     let tag = breach.tag;
     let causes = presence.causes();
+    // Of the rules of a tag the sixth alone names no reaction.
     let Some(reaction) = breach.reaction else {
         return collision(alloc, plan, rows, causes, tag);
     };
@@ -77,6 +78,7 @@ fn of_breach(
     ensures enough { IfOk result (λ facts. Proves facts.items breach) }
     ensures own { IfOk result (λ facts. AreOwn breach facts.items) }
 {
+    // Lines count from 1, so 0 is no row: it says that the breach is of a tag.
     if breach.row == 0 {
         at_tag(alloc, plan, rows, breach)
     } else {

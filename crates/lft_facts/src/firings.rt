@@ -27,6 +27,7 @@ fn firing_before(timer: &Timer, tag: Tag) -> Option<Tag>
     if timer.period == 0 {
         return Some(first);
     }
+    // Where nothing is left over, the tag is at a later microstep: it isn't one of the timer's own.
     let since = (tag.time - timer.offset) % timer.period;
     Some(Tag {
         time: tag.time - since,

@@ -192,6 +192,7 @@ pub(crate) fn add_last_row(
     if rows.len() == 0 {
         return Ok(());
     }
+    // The last row has the greatest tag: one at a lesser tag would break rule 1, and be the breach.
     let place = rows.len() - 1;
     let last = row_at(rows, place).tag;
     if last.is_before(tag) {

@@ -29,6 +29,7 @@ fn passed_by(tag: Tag, ran: &[bool], step: Fact) -> Option<Reason>
     ensures own { (b : TheBreach) → b.tag ≡ tag → IfSome result (IsOwnReason b) }
 {
     let (reaction, next) = ends_of(step)?;
+    // No clause says here that the steps are of reactions with a mark.
     if (reaction as usize) < ran.len() && !ran[reaction as usize] {
         Some(Reason::PassedBy {
             tag,

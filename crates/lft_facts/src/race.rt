@@ -62,6 +62,7 @@ fn race_facts(
     let late = only(alloc, next.as_slice(), unfinished.as_slice())?;
     let late_near = only(alloc, near.as_slice(), unfinished.as_slice())?;
     let least = least_end(rows, row.tag, start, late.as_slice());
+    // `late_end` may be asked only where a row ends such a run. Where all are open, nothing is told.
     let Some(_) = least else {
         return Ok(Vec::new(alloc));
     };

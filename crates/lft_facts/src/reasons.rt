@@ -115,6 +115,7 @@ fn add_absent(
     ensures { OnOk result ((b : TheBreach) → b.tag ≡ tag → Adds b plan.now rows.now facts.old.items facts.new.items) }
 {
     match trigger {
+        // Where it is present is no question: at the first tag of all.
         Trigger::Startup => Ok(()),
         Trigger::Shutdown => add(facts, stop),
         Trigger::Timer(timer) => add_firings(plan, rows, tag, timer, facts),

@@ -77,6 +77,7 @@ fn later_start(rows: &[Row], row: u32) -> Option<Reason>
     ensures own { IfSome result (λ c. (b : TheBreach) → b.row ≡ row + 2 → IsOwnReason b c) }
 {
     let own = row_at(rows, row as usize);
+    // Where rows were written in a wrong order, the start stands behind the row that needs it.
     for place in row as usize + 1..rows.len() {
         if is_start_at(rows, own.tag, own.reaction, place) {
             let start = place as u32;
@@ -180,6 +181,7 @@ fn named_kind(program: &Program, step: Step) -> Option<Reason>
             kind: ThingKind::Port,
         }),
         Step::Schedule(Name::Action(action), _, _) => {
+            // Of a logical action nothing is odd: such a step is of such a thing.
             if program.action(action).physical {
                 Some(Reason::KindOf {
                     name: Name::Action(action),
@@ -267,6 +269,7 @@ pub(crate) fn add_row_reasons(
         RowFact::NotEffect { row } => add_of_effects(plan, rows, row, facts),
         RowFact::Unended { row } => add_of_end(rows, row, facts),
         RowFact::Late { row, .. } => add(facts, across(rows, row)),
+        // Each of these names the other row already.
         RowFact::StartsAgain { .. } | RowFact::Busy { .. } | RowFact::ReadAgain { .. } => Ok(()),
     }
 }

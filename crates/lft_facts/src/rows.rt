@@ -24,6 +24,7 @@ fn order_fact(rows: &[Row], place: u32, row: Row) -> RowFact
     if !is_start(&row.step) {
         return RowFact::NotOpen { row: place };
     }
+    // Both may hold, as where a start row stands twice. Then the second start of this run is told.
     match first_start(rows, place, row.tag, row.reaction) {
         Some(first) => RowFact::StartsAgain { row: place, first },
         None => RowFact::Busy {

@@ -41,6 +41,7 @@ fn present_trigger(
             return (trigger, cause);
         }
     }
+    // The reaction is triggered at the tag, so one of its triggers is present.
     unreachable!()
 }
 

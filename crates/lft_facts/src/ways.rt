@@ -46,6 +46,7 @@ fn mark(next: &mut [Option<u32>], list: &[u32], number: u32)
         let at = item_at(list, place);
         match next_at(next, at) {
             None => next[at as usize] = Some(number),
+            // Kept: the last reaction marks first, so what is just before it leads there in one step.
             Some(_) => {}
         }
     }

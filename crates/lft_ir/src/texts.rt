@@ -101,6 +101,7 @@ impl Texts {
         requires new { (i : ℕ) → slice_get self.old i ≡ Some (string_bytes text) → ⊥ }
         ensures { OnOk result (self.new ≡ self.old ++ string_bytes text ∷ []) }
     {
+        // Its answer is known: who calls this says that the text isn't there.
         self.push(text)?;
         Ok(())
     }
@@ -120,6 +121,7 @@ impl Texts {
     {
         match self.set.get_index(number) {
             Some(text) => text.as_str(),
+            // This doesn't come: the number is one of a text.
             None => "",
         }
     }

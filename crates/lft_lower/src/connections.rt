@@ -44,6 +44,7 @@ impl Sides {
         ensures { IfErr result (λ stop. stop ≡ NoMemory) }
     {
         let (left, right) = (self.left as u64, self.right as u64);
+        // A broadcast without sources joins nothing. Of it is said that the sides differ: nothing is divided by 0.
         if connection.is_broadcast && left != 0 {
             if right % left != 0 {
                 notes.divide(within.file, connection.at, left, right)?;
@@ -72,6 +73,7 @@ fn stays(within: Within, connection: &Written, sides: Sides) -> Result<bool, NoP
     ensures plain { IfOk result (λ yes. IsTrue yes → (connection.now.is_broadcast ≡ false) × (sides.left ≡ sides.right)) }
     ensures cause { IfErr result (IfRefused (IsOfSides (here within.entry) within.entry.file connection.now)) }
 {
+    // A core connection has a reference on each side, so one without places can't stay.
     if connection.is_broadcast || sides.left != sides.right || sides.left == 0 {
         return Ok(false);
     }
@@ -179,6 +181,7 @@ fn push_sides(
     let most = pairs.min(sides.left);
     let sources = some_places(alloc, room, within, &connection.sources, most)?;
     let destinations = some_places(alloc, room, within, &connection.destinations, pairs)?;
+    // Kept whole where it can be: so a program without widths has the connections of its text.
     let is_whole = stays(within, connection, sides)?;
     if is_whole {
         list.push(Member::Connection(Connection {

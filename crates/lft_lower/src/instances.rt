@@ -140,6 +140,7 @@ fn checked(
     ensures given { maker.entry.settings.now ≡ within.entry.settings.now → IfOk result (λ given. AreTimesGiven (here within.entry) member (map assignment_view given.items)) }
     ensures at { IfOk result (λ given. flat_map given_tokens given.items ≡ tokens_of_given (token_in within.entry) (here within.entry) member) }
 {
+    // Neither of these refusals comes: an instance has a child, and that a shape.
     let Some(child) = within.shape.child(member) else {
         return Err(within.settings.work.refused(Why::TooMuch));
     };

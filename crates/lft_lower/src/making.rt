@@ -30,6 +30,7 @@ pub struct Lowering {
 fn note_target(notes: &mut Notes, files: &[SourceFile]) -> Result<(), NoProgram>
     ensures { IfErr result (λ stop. stop ≡ NoMemory) }
 {
+    // Of the first file alone, which is the one that is run.
     if let Some(file) = files.first() {
         for timeout in &file.tree.timeouts {
             notes.timeout(timeout)?;
@@ -88,6 +89,7 @@ fn note_defaults(notes: &mut Notes, main: &Shape) -> Result<(), NoProgram>
     ensures { IfErr result (λ stop. stop ≡ NoMemory) }
 {
     for number in 0..main.parameters.len() {
+        // No other parameter decides anything that is judged.
         if main.is_sized(number) || main.is_timed(number) {
             let InheritedParameter { file, parameter } = main.parameters[number];
             notes.default(file, parameter.name.at, parameter.name.text.as_str())?;
@@ -144,6 +146,7 @@ fn lowered(
     };
     let items = reactors(maker, &mut room, &mut notes, used)?;
     let tree = Ast {
+        // A target is a range of tokens of one core text, and no such text is made.
         target: None,
         items,
     };

@@ -88,6 +88,7 @@ fn triggers(
     ensures some { OnOk result (reaction.now.triggers.items ≢ []) }
     ensures means { OnOk result (All (MeansTrigger (here within.entry)) reaction.now.triggers.items) }
 {
+    // Asked of what is written: triggers that have no place are no fault.
     if reaction.triggers.is_empty() {
         return Err(NoProgram::at(Why::NoTrigger, within.file, reaction.at));
     }

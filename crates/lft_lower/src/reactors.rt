@@ -51,6 +51,7 @@ fn default(inherited: InheritedParameter, is_main: bool) -> Result<Time, NoProgr
         };
     };
     match &value.value {
+        // Told apart from what is no time at all, since what to write in its place is another thing.
         Value::Word(_) => Err(NoProgram::at(Why::DefaultByName, file, value.at)),
         _ => written(file, value),
     }

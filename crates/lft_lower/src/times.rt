@@ -49,6 +49,7 @@ pub(crate) fn written(file: usize, value: &Expression) -> Result<Time, NoProgram
         return Err(NoProgram::at(Why::NoTime, file, value.at));
     };
     match nanoseconds(time) {
+        // Only whether it is short enough is asked. The tree keeps it as it is written.
         Some(_) => Ok(time),
         None => Err(NoProgram::at(Why::TimeTooLong, file, value.at)),
     }

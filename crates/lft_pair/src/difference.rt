@@ -134,6 +134,7 @@ pub(crate) fn first_odd(
     let mut least = None;
     for place in 0..rows.len() {
         let row = row_at(rows, place);
+        // Only at the next tag: at one tag runs may stand in another order than the one that says which is first.
         if is_over(least, row.tag) {
             return Ok(least);
         }

@@ -24,6 +24,7 @@ pub(crate) struct StartPlaces {
 fn is_start_at(rows: &[Row], tag: Tag, reaction: u32, place: usize) -> bool
     ensures { IsTrue result ↔ StartsAt rows.now tag reaction place }
 {
+    // The place may be of no row at all: 0 stands for none, and the trace may be empty.
     if place >= rows.len() {
         return false;
     }

@@ -43,6 +43,7 @@ fn work<L: Law, C: Code + Drop, R: Wait>(
                 drop(guard);
                 let answered = body.call(alloc, ticket);
                 let ended = book.lock(rt).commit(answered);
+                // Also where the answer is refused: all others have to see that the book has stopped.
                 moved.notify_all();
                 if ended.is_err() {
                     return;
@@ -82,6 +83,7 @@ fn work_all<L: Law + Send, C: Code + Drop + Send, R: Threads + Wait + Sync>(
                 all = false;
             }
         }
+        // The caller works too, so a recording ends where no other thread can be started.
         work(rt, alloc, 0, book, moved);
         all
     })
@@ -112,6 +114,7 @@ fn reason_of<L: Law, C: Code + Drop>(
         return Some(Stop::NoWorker);
     }
     match last {
+        // Then the book went by another limit than the one that was given.
         Err(Stop::TooManyRuns) if started < max_runs && started < MAX_RUNS => {
             Some(Stop::PlanChanged)
         }
@@ -197,6 +200,7 @@ pub fn record_run<L: Law + Send, C: Code + Drop + Send, R: Threads + Wait + Sync
     let shared = Mutex::new(book);
     let all = work_all(rt, alloc, workers, &shared);
     let mut book = shared.into_inner();
+    // Asked once more: only this answer says of the book whether it is finished or why it stopped.
     let last = book.begin(0);
     let Closed {
         reason: _,

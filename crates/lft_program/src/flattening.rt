@@ -33,6 +33,7 @@ fn known_contents(alloc: Global, scopes: &Scopes) -> Result<Vec<Contents>, NoMem
         Ok(contents) => Ok(contents),
         Err(fault) => match fault {
             ReactorFault::NoMemory => Err(NoMemory),
+            // What else `contents` could answer is one of the first causes, and none of them holds.
             _ => unreachable!(),
         },
     }
@@ -48,6 +49,7 @@ fn checked_contents(alloc: Global, scopes: &Scopes) -> Result<Vec<Contents>, Ref
     if let Some(witness) = check_first(alloc, scopes)? {
         return Err(Refusal::Shown(witness));
     }
+    // Only now: what a reactor contains has a number once each name is of one reactor.
     let contents = known_contents(alloc, scopes)?;
     if let Some(circle) = circle_of(alloc, &contents)? {
         return Err(Refusal::Recursive(circle));
@@ -118,6 +120,7 @@ pub fn flattened(alloc: Global, ast: &Ast) -> Result<Program, Refusal>
     let tables = tables_of(alloc, &scopes)?;
     let nest = Nest::of(alloc, &tables)?;
     let links = links(alloc, &scopes, &tables, &nest)?;
+    // Nothing below asks for a name by its text, so the tables of names needn't stand beside the program.
     drop(scopes);
     Ok(program(alloc, ast, &tables, &nest, &links)?)
 }

@@ -47,6 +47,7 @@ fn hashed_name(
     ensures { IfOk result (λ r. string_bytes r ≡ name_after instances.now (hashed reaction.now)) }
 {
     let container = instances.get(reaction.instance as usize);
+    // Widened first, so that one more fits whatever the place is.
     let number = u64::from(reaction.place) + 1;
     Ok(format!(in alloc; "{container}#{number}")?)
 }
@@ -104,6 +105,7 @@ fn seed_of(
     actions: &[OwnName<'_>],
     timers: &[OwnName<'_>],
 ) -> u64 {
+    // Reactions are left out, as they have no names of their own.
     let mut hasher = DefaultHasher::new();
     add_to_seed(&mut hasher, instances);
     add_to_seed(&mut hasher, ports);
@@ -126,6 +128,7 @@ fn all_names(
     ensures { IfOk result (λ r. r ≡ extended (codes "main" ∷ []) (endings instances.now ports.now actions.now timers.now reactions.now)) }
 {
     let mut texts = main_name(alloc, seed_of(instances, ports, actions, timers))?;
+    // The first is the main one, whose name stands there already.
     add_declared(alloc, &mut texts, &instances[1..])?;
     add_declared(alloc, &mut texts, ports)?;
     add_declared(alloc, &mut texts, actions)?;
@@ -155,6 +158,7 @@ pub(crate) fn full_names(
     let texts = all_names(alloc, instances, ports, actions, timers, reactions)?;
     let first_action = instances.len() + ports.len();
     let first_timer = first_action + actions.len();
+    // All kinds are within their limits, so the sums below fit 32 bits.
     let starts = Starts {
         ports: instances.len() as u32,
         actions: first_action as u32,

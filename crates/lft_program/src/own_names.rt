@@ -54,6 +54,7 @@ pub(crate) fn own_names<'a>(
     ensures { IfOk result (λ v. name_lists v.items ≡ map (own_names kind) (reactor_trees reactors.now)) }
 {
     let mut lists = Vec::new(alloc);
+    // One kind at a time, as things have their numbers by kind.
     for reactor in reactors {
         lists.push(names_among(alloc, &reactor.members, kind)?)?;
     }

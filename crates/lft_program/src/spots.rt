@@ -32,6 +32,7 @@ fn port_number(nest: &Nest, instance: u32, end: End) -> u32
             port,
         } => match nest.children.child(instance, place) {
             Some(inner) => number_of(&nest.ports, inner, port),
+            // The reactor contains an instance at this place, or the end would have no meaning.
             None => unreachable!(),
         },
     }

@@ -87,6 +87,7 @@ impl<'a> Refused<'a> {
             return self.plain(Sentence::Widths);
         };
         let owner = reactor_words(self.alloc, site.reactor)?;
+        // A buffer for each, as both texts stand in the sentence at once.
         let (mut from, mut to) = (Buffer::new(), Buffer::new());
         let from = from.format(connection.sources.len() as u64);
         let to = to.format(connection.destinations.len() as u64);

@@ -34,6 +34,7 @@ fn is_fed(program: &Program, effects: &[Name], name: Name) -> bool
     match name {
         Name::Port(number) if (number as usize) < program.ports() => {
             let port = program.port(number);
+            // What a delayed port gets is read at a later tag, so neither reaction waits for the other.
             port.shift.time == 0 && port.shift.steps == 0 && has_port(effects, port.origin)
         }
         _ => false,

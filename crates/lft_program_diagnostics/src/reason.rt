@@ -32,6 +32,7 @@ impl WhyRefused {
     ) -> Result<WhyRefused, NoMemory>
         ensures { IfOk result (λ r. r.sentence ≡ sentence) }
     {
+        // Copies, since some of the names are made by the caller and end with it.
         let mut owned = Vec::new(alloc);
         for name in names {
             let mut copy = String::new(alloc);

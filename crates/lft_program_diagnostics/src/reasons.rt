@@ -19,6 +19,7 @@ impl<'a> Refused<'a> {
     pub(crate) fn plain(&self, sentence: Sentence) -> Result<WhyRefused, NoMemory>
         ensures { IfOk result (λ r. r.sentence ≡ sentence) }
     {
+        // It is said too where a name isn't found. That doesn't come: what is shown stands in the tree.
         WhyRefused::of(self.alloc, sentence, &[])
     }
 
@@ -92,6 +93,7 @@ impl<'a> Refused<'a> {
     {
         match self.site(reactor, member) {
             Some(site) => self.of_finding(site, finding),
+            // The witness is shown by its member, so there is one.
             None => unreachable!(),
         }
     }

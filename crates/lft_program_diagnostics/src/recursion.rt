@@ -67,6 +67,7 @@ impl<'a> Refused<'a> {
             return self.plain(Sentence::Recursive);
         };
         let owner = reactor_words(self.alloc, reactor)?;
+        // A circle of one reactor has an instance of itself.
         let second = if circle.len() > 1 { circle[1] } else { first };
         let mut reason = WhyRefused::of(self.alloc, Sentence::Recursive, &[owner.as_str()])?.at(
             self.instance_spot(first, second),

@@ -26,6 +26,7 @@ pub(crate) fn single_in(reactor: &Reactor, number: usize) -> Option<(&Connection
     let mut left = number;
     for member in 0..reactor.members.len() {
         if let Some(connection) = as_connection(&reactor.members[member]) {
+            // Equal where a way is told of: sides that differ are another cause, which comes before.
             let width = connection.sources.len().min(connection.destinations.len());
             if left < width {
                 return Some((connection, left));

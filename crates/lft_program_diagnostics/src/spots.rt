@@ -104,6 +104,7 @@ fn time_of_timer(timer: &Timer, place: usize) -> Option<&TimeExpression>
                 time_alone(&timer.period, place - 1)
             }
         }
+        // No text has a period without an offset, but a tree could.
         None => time_alone(&timer.period, place),
     }
 }
@@ -143,6 +144,7 @@ fn declared_with(reactor: &Reactor, number: usize) -> Option<usize>
     if let Some(parameter) = reactor.parameters.get(number) {
         return Some(parameter.at);
     }
+    // None of the parameters has the number, so it isn't below their count.
     let mut left = number - reactor.parameters.len();
     for member in &reactor.members {
         if let Some(at) = declared_at(member) {
@@ -189,6 +191,7 @@ fn member_at(member: &Member) -> Option<usize>
         Member::Instance(instance) => Some(instance.reactor_at),
         Member::Connection(connection) => Some(connection.arrow),
         Member::Reaction(reaction) => Some(reaction.at),
+        // No finding is of one of these as a whole.
         Member::Port(_) | Member::Timer(_) | Member::Action(_) => None,
         Member::State(_) | Member::Preamble(_) => None,
     }

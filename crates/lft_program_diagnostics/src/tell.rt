@@ -27,6 +27,8 @@ use std::alloc::Global;
 /// The witness with the first of the two things that it names in place of the second, if it names two.
 fn first_of(witness: Witness) -> Option<Witness> {
     match witness {
+        // The first takes the place of the second here and below, so `spot_of` says of either where it
+        // stands.
         Witness::TwoMains { first, .. } => Some(Witness::TwoMains {
             first,
             second: first,
@@ -148,6 +150,7 @@ fn rest_of(
     requires { ArePages text.now files.now }
 {
     let mut out = String::new(alloc);
+    // The earlier place comes first, as in the text.
     push_marked(alloc, &mut out, text, files, reason.before)?;
     push_marked(alloc, &mut out, text, files, reason.at)?;
     out.push_str(reason.ways.as_str())?;

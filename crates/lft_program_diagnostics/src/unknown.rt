@@ -58,6 +58,7 @@ impl<'a> Refused<'a> {
         let names = [owner.as_str(), wanted];
         let reason = WhyRefused::of(self.alloc, Sentence::UnknownReactor, &names)?;
         let reason = meant(reason, self.near_reactor(wanted)?)?;
+        // Code without its end goes on into the next reactors, and then these aren't there.
         match way_of_code(self.text, self.tokens) {
             Some(way) => reason.way(way),
             None => Ok(reason),

@@ -85,6 +85,7 @@ impl<'a> Refused<'a> {
         let count = way.joins.len();
         let mut out = String::new(self.alloc);
         self.push_end(&mut out, way, first)?;
+        // With the last step the port at which it began comes once more: so the loop is seen to close.
         for step in 1..=count {
             out.push_str(" -> ")?;
             if step > MOST_NAMES {

@@ -17,6 +17,7 @@ pub fn rows_before(rows: &[Row], breach: Breach) -> usize
     ensures { StandBefore rows.now breach result }
 {
     if breach.row > 0 {
+        // Line 1 has the header, and places count from 0.
         return breach.row as usize - 2;
     }
     // A breach without a row is one of a whole tag, so the rows at that tag stand before it.

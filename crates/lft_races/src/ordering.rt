@@ -36,6 +36,7 @@ pub fn greater_row(rows: &[Row], place: u32, row: Row) -> u32
 {
     match first_greater(rows, place, row.tag) {
         Some(greater) => greater,
+        // The row is late, so one before it is at a greater tag.
         None => unreachable!(),
     }
 }
@@ -103,6 +104,7 @@ pub fn open_start(rows: &[Row], place: u32, worker: u32) -> u32
             return start;
         }
     }
+    // The worker has a run open before the place, so it started one.
     unreachable!()
 }
 

@@ -30,6 +30,7 @@ pub fn start_of(rows: &[Row], tag: Tag, reaction: u32) -> u32
             return place as u32;
         }
     }
+    // The reaction ran at the tag, and a run has a start row.
     unreachable!()
 }
 

@@ -40,6 +40,7 @@ pub fn unfinished_at(
     ensures long { IfOk result (λ marks. length marks.items ≡ reactions) }
     ensures marked { IfOk result (λ marks. AreUnfinished rows.now tag place marks.items) }
 {
+    // Runs that start behind the place count too: at the place they haven't ended.
     let mut marks = runs_at(alloc, rows, tag, reactions)?;
     for end in 0..place {
         unmark(rows, tag, end, marks.as_mut_slice());

@@ -95,6 +95,7 @@ pub fn card_bodies<'a, S: Scripted>(
             cards,
             reaction,
         };
+        // Each reaction has a list, so of the two faults only this one can come.
         if bodies.put_many(reaction, code, u64::from(count)).is_err() {
             return Err(NoMemory);
         }

@@ -42,6 +42,7 @@ fn times(program: &Program, timer: u32) -> (u64, u64)
     ensures offset { result.0 ≡ offset_of program.now timer }
     ensures period { result.1 ≡ period_of program.now timer }
 {
+    // The facts that are told needn't be true, so the number may be of no timer.
     if (timer as usize) < program.timers() {
         let timer = program.timer(timer);
         (timer.offset, timer.period)

@@ -47,6 +47,7 @@ fn way_back(alloc: Global, program: &Program, port: u32) -> Result<Vec<u32>, All
     let mut left = 21_u32;
     while left > 0 {
         left -= 1;
+        // Port by port, though each has its origin by itself: the connections between are what is told.
         match source_into(program, at) {
             Some(source) => {
                 way.push(at)?;

@@ -128,6 +128,7 @@ pub(crate) fn push_feeds(
     text.push_str(" before ")?;
     push_reaction(text, program, reader)?;
     text.push_str(": may write ")?;
+    // What the one writes has another name than what the other reads, where connections lie between.
     push_port(text, program, origin(program, port))?;
     text.push_str(" --> ")?;
     push_port(text, program, port)?;

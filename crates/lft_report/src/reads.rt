@@ -185,6 +185,7 @@ fn push_lines(
 {
     let widths = widest(alloc, program, facts)?;
     let lines = lines(alloc, program, widths, facts)?;
+    // Asked of the lines: facts of another kind give none, and then no heading stands alone.
     if !lines.is_empty() {
         push_line(text, widths, "input", "read", "present")?;
         text.push_str(lines.as_str())?;

@@ -77,6 +77,7 @@ fn push_head(
 {
     match fact {
         Fact::Row(fact) => push_row_fact(text, program, rows, fact),
+        // Both causes are of one port or action, so the first names it.
         Fact::Clash { first, .. } => push_clash(text, program, first),
         Fact::NoRun { tag, reaction } => push_no_run(text, program, tag, reaction),
         Fact::Runs {
@@ -91,6 +92,7 @@ fn push_head(
             start,
             end,
         } => push_early_race(text, program, tag, earlier, later, start, end),
+        // A race before the breach isn't what is wrong either, so it stands among the details.
         _ => Ok(()),
     }
 }

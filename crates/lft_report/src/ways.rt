@@ -115,6 +115,8 @@ fn happening(trigger: Trigger) -> &'static str
 {
     match trigger {
         Trigger::Timer(_) => "firing of ",
+        // No reason that is found says what is nearest to startup or shutdown. The words are there for any
+        // fact.
         Trigger::On(_) | Trigger::Startup | Trigger::Shutdown => "event of ",
     }
 }

@@ -74,6 +74,7 @@ fn may_write(program: &Program, effects: &Effects, reaction: u32, name: Name) ->
 {
     match name {
         Name::Port(port) => effects.writes(program, reaction, port),
+        // An action is scheduled and never written, also where it is among the effects.
         Name::Action(_) => false,
     }
 }
@@ -88,6 +89,7 @@ fn may_schedule(program: &Program, effects: &Effects, reaction: u32, name: Name)
     match name {
         Name::Port(_) => false,
         Name::Action(action) => {
+            // A physical action has its events from outside, also where it is among the effects.
             effects.schedules(program, reaction, action) && !program.action(action).physical
         }
     }

@@ -55,6 +55,7 @@ impl FarRuns {
 fn are_all_none(places: &[Option<usize>]) -> bool
     ensures { IsTrue result → (k : ℕ) (place : Option ℕ) → slice_get places.now k ≡ Some place → place ≡ None }
 {
+    // Asked once behind a pass, so no count of open runs is kept for each row.
     for number in 0..places.len() {
         if item_at(places, number).is_some() {
             return false;

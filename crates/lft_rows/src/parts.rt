@@ -50,6 +50,7 @@ fn keeps(alloc: Global, plan: &Plan, stop: Tag, rows: &[Row]) -> bool
     match first_breach(alloc, plan, stop, rows) {
         Ok(None) => true,
         Ok(Some(_)) => false,
+        // Not known is enough here: the pass over all rows asks for its memory itself, and tells of it.
         Err(_) => false,
     }
 }
@@ -76,6 +77,7 @@ fn keep_parts<R: Threads + Sync>(
     // The share of the low workers is no longer than all rows, since they are fewer than all.
     let share = rows.len() / workers as usize;
     let Some((first, second)) = cut_from(rows, share * low as usize) else {
+        // From there on all rows are of one tag. They may be of one run, so they aren't parted.
         return keeps(alloc, plan, stop, rows);
     };
     let front = move || -> bool

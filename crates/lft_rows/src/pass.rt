@@ -62,6 +62,7 @@ fn close(rows: &[Row], place: usize, runs: &mut OpenRuns)
     ensures { (p : ℕ) → p ≤ place → Holds rows.now p place runs.old → Holds rows.now p (place + 1) runs.new }
 {
     let row = row_at(rows, place);
+    // An end of another run ends nothing. Behind the first wrong row such rows may stand.
     if is_end(&row.step) && has_open(rows, row, runs) {
         runs.end(row.worker);
     }
@@ -179,6 +180,7 @@ impl Known {
         ensures { (row : _) → slice_get rows.now place ≡ Some row → EarlyRule stop plan.now rows.now place row result }
     {
         let row = row_at(rows, place);
+        // In the order of numbers: the least is told, and the third question takes it that no tag has fallen.
         if row.tag.is_before(self.last) {
             Some(1)
         } else if stop.is_before(row.tag) {
@@ -274,8 +276,10 @@ impl Pass {
     {
         self.known.clear(alloc, plan.program())?;
         let early = early_rows(&mut self.known, &self.effects, plan, stop, rows)?;
+        // The pass has stopped at a wrong row, and a run that is open there may end behind it.
         close_rest(rows, early.place, &mut self.known.runs);
         match least_open(rows, early.place, &self.known.runs) {
+            // It starts before the row at which the pass stopped. So of the two rows this one is the lesser.
             Some(start) => Ok(Some(breach(rows, start, 5))),
             None => match early.rule {
                 Some(rule) => Ok(Some(breach(rows, early.place, rule))),

@@ -41,6 +41,7 @@ impl Marks {
         ensures { (x : TheReaction) (n : TheName) → slice_get program.now.reactions reaction ≡ Some x → HasSeat x n seat → result ≡ read_of (steps_of rows.now slice.tag reaction) n }
     {
         let mark = self.of(program, reaction, seat) as usize;
+        // An older mark is of a row before the slice, and so of another run.
         if mark > slice.first {
             let row = row_at(rows, mark - 1);
             value_read(&row.step)

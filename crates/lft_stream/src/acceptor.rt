@@ -66,11 +66,13 @@ impl Acceptor {
         ensures { IsTrue result → (done : List TheRow) → IsAcceptorOf plan.now done self.old → IsAcceptorOf plan.now (done ++ rows.now) self.new }
     {
         let stop = self.stream.stop;
+        // Marks are places among the rows of one part, and say nothing of those of the next.
         self.marks.clear();
         match self.pass.first_breach(alloc, plan, stop, rows) {
             Ok(None) => self
                 .stream
                 .add_kept(plan, &mut self.order, &mut self.marks, rows),
+            // Of what isn't accepted nothing is said, so the breach is dropped.
             Ok(Some(_)) => false,
             Err(_) => false,
         }

@@ -98,6 +98,7 @@ impl Due {
                 let time = tag.time.checked_add(period)?;
                 Some(Due::AtTag(at_time(time), period))
             }
+            // The startup, the stop and a timer without a period come once.
             _ => Some(Due::Never),
         }
     }

@@ -29,6 +29,7 @@ struct Beats {
     dues: DueList,
     /// The turns of the dues, where these are many. Where one is missing or wrong, a run that is triggered may be
     /// taken for one that isn't.
+    // In a box, since most reactions have none and each has the room for it.
     turns: Option<Box<Turns>>,
 }
 
@@ -158,6 +159,8 @@ fn meet_in_turn(dues: &mut [Due], turns: &mut Turns, tag: Tag, last: Tag) -> boo
 {
     turns.go_to(dues, tag.time);
     let mut is_present = false;
+    // Nothing is proved of turns, so the loop has a bound of its own, and each place is looked at before it
+    // is used.
     for _ in 0..dues.len() {
         let Some(place) = turns.take() else {
             return is_present;

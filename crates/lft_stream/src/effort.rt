@@ -129,6 +129,7 @@ impl Effort {
         for place in 0..rows.len() {
             let row = row_at(rows, place);
             let cost = cost_of(program, presence, listeners, channels, row);
+            // What a row doesn't use is left for later ones.
             match left.saturating_add(PER_ROW).checked_sub(cost as u64) {
                 Some(rest) => left = rest,
                 None => return false,

@@ -77,6 +77,7 @@ impl Precedence {
             return true;
         }
         if self.ancestors.is_none() {
+            // Want of memory is no verdict here: without these sets the rows are given up.
             self.ancestors = Ancestors::new(self.alloc, plan.program(), plan.graph()).ok();
         }
         match &self.ancestors {

@@ -51,6 +51,7 @@ impl PlaceRange {
         ensures { (u : List TheRow) → IsSpan u place self → IsSpan u (place + 1) result }
     {
         let end = place + 1;
+        // No effect so far: behind one stands no place 0.
         if self.end == 0 {
             return PlaceRange { first: place, end };
         }

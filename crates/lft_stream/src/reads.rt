@@ -28,6 +28,7 @@ fn shown(writes: &Writes, coming: &Coming, plan: &Plan, tag: Tag, name: Name) ->
     match name {
         Name::Port(number) => {
             if is_undelayed(program, number) {
+                // Without a delay the event is the write itself, and in no queue.
                 writes.value_at(tag, program.port(number).origin)
             } else {
                 coming.value_at(tag, name)

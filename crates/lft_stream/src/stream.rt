@@ -205,6 +205,7 @@ impl Stream {
         ensures runs { IsTrue result → self.new.runs ≡ self.old.runs + runs }
         ensures tags { IsTrue result → self.new.tags ≡ self.old.tags + 1 }
     {
+        // Rows come part by part, and no clause bounds how many come in all.
         match (self.runs.checked_add(runs), self.tags.checked_add(1)) {
             (Some(runs), Some(tags)) => {
                 self.tag = Some(tag);
@@ -240,6 +241,8 @@ impl Stream {
         let effects = self.outline.effects(own);
         self.presence
             .find(plan, &self.channels, &self.coming, own, slice.tag);
+        // All writes of the tag are taken before its reads are looked at: the last one counts, and the order of
+        // runs was asked before.
         self.writes.pass_all(program, effects, slice.tag);
         self.starts.begin_all(program, started, slice.tag);
         if !self.effort.allows(

@@ -40,6 +40,7 @@ impl Turns {
     pub(crate) fn new(alloc: Global, places: usize) -> Result<Turns, NoMemory> {
         Ok(Turns {
             now: 0,
+            // One for each of the 64 bits, and the first for times that are the one at hand.
             firsts: vec![in alloc; NONE; 65]?,
             nexts: vec![in alloc; NONE; places]?,
         })
@@ -61,10 +62,12 @@ impl Turns {
     /// Goes on to a later time. Whose turn was before it has none any more.
     pub(crate) fn go_to(&mut self, dues: &[Due], time: u64) {
         let list = self.list(time);
+        // Then it is the time at hand, and its places stand in the first list already.
         if list == 0 {
             return;
         }
         self.now = time;
+        // The lists below have only what was due before that time. Where no run is missing, they are empty.
         let mut place = get(self.firsts.as_slice(), list);
         set(self.firsts.as_mut_slice(), list, NONE);
         for _ in 0..dues.len() {

@@ -56,6 +56,7 @@ impl Form {
         if byte == b'-' && is_byte(b'>', next) {
             return Form::Arrow;
         }
+        // Last, since `/`, `{` and `-` are symbols too where the byte behind them begins nothing longer.
         if b'!' <= byte && byte <= b'~' {
             Form::Symbol
         } else {

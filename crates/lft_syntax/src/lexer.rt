@@ -9,6 +9,7 @@ use crate::token::{Token, Tokens};
 use std::alloc::Global;
 
 /// The greatest length of a program text, in bytes.
+// It bounds each place in a text, so no sum of places overflows.
 pub const MAX_LENGTH: usize = 1_048_576;
 
 /// The tokens of a program text. A text that is too long is refused as such, whatever stands in
@@ -33,6 +34,7 @@ pub fn lex(alloc: Global, text: &[u8]) -> Result<Tokens, LexFault>
                 end,
             })?;
         }
+        // A piece has one byte at least, so the text comes to its end.
         at = end;
     }
     Ok(Tokens::from_vec(tokens))
@@ -48,6 +50,7 @@ pub fn refused_at(text: &[u8]) -> Option<usize>
     if MAX_LENGTH < text.len() {
         return None;
     }
+    // The pieces are cut once more: the faults of `lex` for what isn't closed carry no place.
     let mut at = 0;
     'pieces: while at < text.len() {
         match piece(text, at) {

@@ -87,6 +87,7 @@ pub fn can_stand(
     ensures cannot { IfOk result (λ can. can ≡ false → CanFollow (take count (lexemes text.now tokens.now)) (seen_as token.entry) → ⊥) }
 {
     let (kind, letters) = kind_and_letters(token);
+    // A token is a range of its text, so the letters of the tried one are put behind the text.
     let mut longer = Vec::from_slice(alloc, text)?;
     longer.extend_from_slice(letters)?;
     let mut tried = Vec::from_slice(alloc, &tokens.as_slice()[..count])?;
@@ -103,6 +104,7 @@ pub fn can_stand(
     match file::whole(&input) {
         Ok(_) => Ok(true),
         Err(ParseError::Memory) => Err(AllocError),
+        // The tried token is the last. A refusal behind it says only that the text ends too soon.
         Err(ParseError::Unexpected(at)) => Ok(count < at),
     }
 }

@@ -34,6 +34,7 @@ pub fn extent(
     match form {
         Form::Space => Ok((None, at + 1)),
         Form::LineComment => Ok((None, line_end(text, at))),
+        // Looked for behind both bytes of the opening, so `/*/` isn't closed.
         Form::StarComment => match past_pair(text, at + 2, b'*', b'/') {
             Some(end) => Ok((None, end)),
             None => Err(LexFault::OpenComment),
@@ -42,12 +43,14 @@ pub fn extent(
             Some(end) => Ok((Some(TokenKind::Code), end)),
             None => Err(LexFault::OpenCode),
         },
+        // A string may have line ends in it, so nothing but its quote ends it.
         Form::Text => match quoted_end(text, at + 1) {
             Some(end) => Ok((Some(TokenKind::Text), end)),
             None => Err(LexFault::OpenString),
         },
         Form::Name => Ok((Some(TokenKind::Name), word_end(text, at))),
         Form::Digits => {
+            // Letters behind digits begin a token of their own: `10ms` has the tokens of `10 ms`.
             let end = digits_end(text, at);
             match number(text, at, end) {
                 Some(value) => Ok((Some(TokenKind::Number(value)), end)),
@@ -122,6 +125,7 @@ pub fn quoted_end(text: &[u8], from: usize) -> Option<usize>
         if byte == b'"' {
             return Some(at + 1);
         }
+        // The byte behind it is passed over with it, so an escaped quote ends nothing.
         if byte == b'\\' {
             if at + 1 == text.len() {
                 return None;
@@ -146,6 +150,7 @@ pub fn number(text: &[u8], from: usize, end: usize) -> Option<u64>
     let mut number: u64 = 0;
     for at in from..end {
         let digit = (text[at] - b'0') as u64;
+        // Asked before the product, which could overflow.
         if number > (u64::MAX - digit) / 10 {
             return None;
         }

@@ -68,6 +68,8 @@ impl<'a> Before<'a> {
         if self.is_number(2) {
             of_word(self.spelling(1))
         } else if self.is_number(3) {
+            // In `mode A {` the name behind the word is taken for the next member, so it is refused one token
+            // later.
             of_word(self.spelling(2))
         } else {
             None
@@ -97,6 +99,7 @@ impl<'a> Before<'a> {
     fn of_sign(&self, sign: u8) -> Result<Option<&'static str>, NoMemory>
         requires lexed { AreTokens self.now }
     {
+        // Of this sign `of_token` has words, whatever stands before it.
         if sign == b'@' {
             return Ok(None);
         }

@@ -22,6 +22,7 @@ fn stands_at(text: &[u8], bytes: &[u8], place: usize) -> bool
     requires { place < length text.now }
     ensures { IsTrue result ↔ (slice_range text.now place (place + length bytes.now) ≡ bytes.now) }
 {
+    // Asked of what is left, as a sum could pass the greatest number.
     if text.len() - place < bytes.len() {
         return false;
     }

@@ -54,10 +54,13 @@ impl<'a> Before<'a> {
         }
         match self.second() {
             Some(token) => match token.kind {
+                // Names that stand before a `(` follow one of the words above, as in `timer mode(`.
                 TokenKind::Symbol(b'(') => true,
                 TokenKind::Name | TokenKind::Text | TokenKind::Symbol(b'{') => {
+                    // Behind an arrow it may end a connection, and the name behind it be the next member.
                     word != b"->".as_slice()
                 }
+                // As a handler, which stands between the reaction's code and its own.
                 TokenKind::Code => match self.token(1) {
                     Some(token) => token.kind == TokenKind::Code,
                     None => false,
@@ -108,6 +111,7 @@ fn left_out(
 
 /// Puts the line, the column and the spelling of a token behind the text.
 fn push_found(alloc: Global, out: &mut String, text: &[u8], token: Token) -> Result<(), NoMemory> {
+    // No clause says here that the tokens are of this text.
     let place = place_of(text, token.start.min(text.len()));
     out.push_str("    line ")?;
     push_number(out, place.line as u64)?;

@@ -27,6 +27,7 @@ fn line_feeds(bytes: &[u8]) -> usize
 pub fn begins_letter(byte: u8) -> bool
     ensures { result ≡ begins_letter byte }
 {
+    // In UTF-8 these are the bytes of a letter behind its first.
     !(128 <= byte && byte <= 191)
 }
 

@@ -170,6 +170,7 @@ fn push_help(out: &mut String, before: &Before<'_>) -> Result<(), NoMemory>
     requires lexed { AreTokens before.now }
     ensures { OnOk result ((help : List ℕ) × IsWholeHelp (CanStandBehind before.now) help × (string_bytes out.new ≡ string_bytes out.old ++ help)) }
 {
+    // Asked first: of a table the first word is refused, and what could stand in its place is no help.
     let way = headers::of_program(before.text);
     if way.is_some() {
         push_way(out, way)?;
@@ -295,6 +296,7 @@ fn way_among(
     let Some(token) = tokens.as_slice().get(number - 1) else {
         return Ok(None);
     };
+    // As a core text it is refused elsewhere, and what helps there doesn't help here.
     if token.start < from || to < token.start {
         return Ok(None);
     }
@@ -342,6 +344,7 @@ pub fn way_at(
         None => way_of_core(alloc, text, from, at)?,
     };
     match way {
+        // By the words themselves, so that no second list has to follow them.
         Some(words) if !words.contains("left out") => Ok(way),
         _ => Ok(None),
     }

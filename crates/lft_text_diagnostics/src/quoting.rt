@@ -72,6 +72,7 @@ pub fn push_line(
         return Ok(());
     }
     push_quoted(alloc, out, place.line, &text[place.start..place.end])?;
+    // Code may go on over many lines. Only the first is quoted, and the mark ends with it.
     let last = end.min(place.end);
     push_below(
         alloc,

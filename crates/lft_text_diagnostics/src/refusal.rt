@@ -59,6 +59,7 @@ pub(crate) fn at_byte(text: &[u8], fault: LexFault) -> Option<TextRefusal>
         Some(start) => Some(TextRefusal {
             why: TextCause::Lex(fault),
             start,
+            // Where that would end isn't known, so its first byte is marked.
             end: start + 1,
         }),
         None => None,

@@ -39,6 +39,7 @@ pub fn name_spot(tokens: &[Token], name: &Reference) -> Option<Span>
     ensures { result ≡ span tokens.now name.now.at (last_of_name name.now) }
 {
     match &name.port {
+        // The point and the port's name are tokens of their own.
         Some(_) => spot_up_to(tokens, name.at, 2),
         None => token_spot(tokens, name.at),
     }
@@ -50,6 +51,7 @@ pub fn time_spot(tokens: &[Token], time: &TimeExpression) -> Option<Span>
 {
     match time {
         TimeExpression::Written { time, at } => match time.unit {
+            // A unit is a token of its own, also where it touches the number.
             Some(_) => spot_up_to(tokens, *at, 1),
             None => token_spot(tokens, *at),
         },

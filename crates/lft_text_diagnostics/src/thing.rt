@@ -39,6 +39,7 @@ impl CoreTrial {
         ensures ascii { letters_ascii result }
     {
         match self {
+            // Any name will do that isn't a word of the grammar or a unit.
             CoreTrial::Name => Seen::Letters(b"x"),
             CoreTrial::Unit => Seen::Letters(b"ms"),
             CoreTrial::TypeTime => Seen::Letters(b"time"),

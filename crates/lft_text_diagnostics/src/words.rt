@@ -117,6 +117,7 @@ pub fn push_margin(out: &mut String, line: usize) -> Result<(), NoMemory>
 pub fn push_blank_margin(out: &mut String, line: usize) -> Result<(), NoMemory>
     ensures { OnOk result (string_bytes out.new ≡ string_bytes out.old ++ blank_margin line) }
 {
+    // Five blanks: two stand before the number of a line, and ` | ` behind it.
     out.push_str("\n     ")?;
     let mut buffer = Buffer::new();
     push_blanks(out, buffer.format(line as u64).len())?;

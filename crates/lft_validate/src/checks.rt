@@ -27,6 +27,7 @@ fn duplicate_name(
     ensures cause { IfOk result (λ found. IfSome found (λ w. fault_shown w ≡ ProgramFault.DuplicateName)) }
     ensures none { IfOk result (λ found. IfNone found (¬ DuplicateName (reactor_trees reactors.now))) }
 {
+    // Each of the three shows the same cause, so their order is free.
     if let Some(found) = same_reactors(alloc, reactors)? {
         return Ok(Some(found));
     }
@@ -47,6 +48,7 @@ fn long_time(
     ensures cause { IfOk result (λ found. IfSome found (λ w. fault_shown w ≡ ProgramFault.DelayTooLong)) }
     ensures none { IfOk result (λ found. IfNone found (¬ Any HasLongTime (reactor_trees reactors.now))) }
 {
+    // A default stands in no member, so members alone don't show the cause.
     if let Some(found) = long_default(reactors) {
         return Ok(Some(found));
     }
@@ -117,6 +119,7 @@ pub fn check_later(alloc: Global, scopes: &Scopes) -> Result<Option<Witness>, No
 pub fn check_times(alloc: Global, scopes: &Scopes) -> Result<Option<Witness>, NoMemory>
     ensures { IfOk result (IsFirstShown (reactors_of scopes.now) (time_causes (reactors_of scopes.now))) }
 {
+    // Apart from the later causes, since a cycle of connections is told before it.
     first_of(
         alloc,
         &[ProgramFault::DelayTooLong],

@@ -45,6 +45,7 @@ fn push_declared<'a>(names: &mut Vec<&'a str>, members: &'a [Member]) -> Result<
 fn declarations(alloc: Global, reactor: &Reactor) -> Result<Vec<&str>, NoMemory>
     ensures { IfOk result (λ v. texts v.items ≡ declarations (reactor_view reactor.now)) }
 {
+    // Parameters and members share one space of names, and parameters stand first in the text.
     let mut names = parameter_names(alloc, &reactor.parameters)?;
     push_declared(&mut names, &reactor.members)?;
     Ok(names)
@@ -89,6 +90,7 @@ pub(crate) fn same_reactors(
     ensures cause { IfOk result (λ found. IfSome found (λ w. fault_shown w ≡ faults.DuplicateName)) }
     ensures none { IfOk result (λ found. IfNone found (¬ IsTwice (filter_map (λ r. r.name) (reactor_trees reactors.now)))) }
 {
+    // Of those that have a name: a main reactor may have none.
     let names = reactor_names(alloc, reactors)?;
     match first_twice(alloc, &names)? {
         Some((first, second)) => Ok(Some(Witness::SameReactors { first, second })),

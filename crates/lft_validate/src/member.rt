@@ -96,6 +96,7 @@ fn is_long(time: &TimeExpression) -> bool
 {
     match time {
         TimeExpression::Written { time: written, .. } => nanoseconds(*written).is_none(),
+        // A default, or what is given in its place, is looked at where it is written.
         TimeExpression::Parameter { .. } => false,
     }
 }

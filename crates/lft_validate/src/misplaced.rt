@@ -21,6 +21,7 @@ fn wrong_kind(file: &ReactorTable, own: &Own, role: Role, name: &Reference) -> O
     ensures some { (rs : List ReactorTree) (r : ReactorTree) → IsFile rs file.now → IsOwn r own.now → IfSome result (λ kind. IsWrongKind rs r role kind (ref_view name.now)) }
     ensures none { (rs : List ReactorTree) (r : ReactorTree) → IsFile rs file.now → IsOwn r own.now → IfNone result (¬ IsMisplaced rs r (role, ref_view name.now)) }
 {
+    // A name that is nothing is another cause, which is looked for before this one.
     let kind = kind_of(file, own, name)?;
     if may_stand(role, kind) {
         None
@@ -93,6 +94,7 @@ fn wrong_time_kind(own: &Own, time: &TimeExpression) -> Option<Kind>
     match time {
         TimeExpression::Written { .. } => None,
         TimeExpression::Parameter { name, .. } => {
+            // A name that is nothing is another cause, as above.
             let kind = own.kind(name.as_str())?;
             if kind == Kind::OwnParameter {
                 None

@@ -14,6 +14,7 @@ use std::alloc::Global;
 fn push_all<'a>(found: &mut Vec<&'a Reference>, references: &'a [Reference]) -> Result<(), NoMemory>
     ensures { OnOk result (ref_trees found.new.items ≡ ref_trees found.old.items ++ ref_views references.now) }
 {
+    // No `extend_from_slice`: the list has references to names, and the tree the names themselves.
     for reference in references {
         found.push(reference)?;
     }

@@ -23,6 +23,7 @@ fn all_names(alloc: Global, reactor: &Reactor, role: Role) -> Result<Vec<&Refere
     ensures { IfOk result (λ v. ref_trees v.items ≡ all_names role (reactor_view reactor.now)) }
 {
     let mut found = Vec::new(alloc);
+    // One list over all members: a port may be written by a reaction and be the end of a connection.
     for member in &reactor.members {
         let names = names_of(alloc, member, role)?;
         found.extend_from_slice(names.as_slice())?;
@@ -40,6 +41,7 @@ fn placed(
     ensures some { IfOk result (λ found. IfSome found (IsPlaceOf (reactor_view reactor.now) role place)) }
     ensures none { IfOk result (λ found. IfNone found (length (all_names role (reactor_view reactor.now)) ≤ place)) }
 {
+    // The place counts over the whole reactor, and a witness has the member and the place in it.
     let mut left = place;
     for member in 0..reactor.members.len() {
         let names = names_of(alloc, &reactor.members[member], role)?;
@@ -79,6 +81,7 @@ fn first_shared(
     for place in 0..destinations.len() {
         let name = destinations[place];
         if written.has(name) {
+            // The set says only that it is there. It has no other names than the list, so it is found.
             return match place_of(effects, name) {
                 Some(effect) => Ok(Some((place, effect))),
                 None => Ok(None),
@@ -98,6 +101,7 @@ fn joined_twice(
     requires { IsTwiceAt (all_names roles.Destination (reactor_view reactor.now)) first second }
     ensures { IfOk result (λ found. IsSomeAnd found (λ p. IsWrittenTwice (reactor_view reactor.now) p.0 p.1)) }
 {
+    // Both places are of destinations, so neither look fails.
     let Some(one) = placed(alloc, reactor, Role::Destination, first)? else {
         return Ok(None);
     };
@@ -123,6 +127,7 @@ fn joined_and_written(
     let Some(written) = placed(alloc, reactor, Role::Effect, effect)? else {
         return Ok(None);
     };
+    // One is a reaction and the other a connection, so they are never one member.
     if written.member < joined.member {
         Ok(Some((written, joined)))
     } else {
@@ -139,6 +144,7 @@ fn written_twice(alloc: Global, reactor: &Reactor) -> Result<Option<(Naming, Nam
     if let Some((first, second)) = first_named_twice(alloc, &destinations)? {
         return joined_twice(alloc, reactor, first, second);
     }
+    // Effects are compared with destinations alone: several reactions of a reactor may write one port.
     let effects = all_names(alloc, reactor, Role::Effect)?;
     match first_shared(alloc, &destinations, &effects)? {
         Some((destination, effect)) => joined_and_written(alloc, reactor, destination, effect),

@@ -95,6 +95,7 @@ pub(crate) fn first_named_twice(
     ensures some { IfOk result (λ found. IfSome found (λ p. IsTwiceAt (ref_trees names.now) p.0 p.1)) }
     ensures none { IfOk result (λ found. IfNone found (¬ IsTwice (ref_trees names.now))) }
 {
+    // The state of the hash hangs on all names, so that colliding ones can't be chosen beforehand.
     let mut seen = SeenNames::new(alloc, NameHash::of_references(names));
     for place in 0..names.len() {
         if !seen.add(names[place])? {
@@ -130,6 +131,7 @@ pub(crate) fn named_twice(alloc: Global, member: &Member) -> Result<Option<Findi
 {
     match member {
         Member::Reaction(_) => {
+            // Triggers and uses are one role, so a name that is both stands twice.
             if let Some(found) = twice_in_role(alloc, member, Role::Read)? {
                 return Ok(Some(found));
             }

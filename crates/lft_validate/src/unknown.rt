@@ -117,6 +117,7 @@ fn unknown_value(file: &ReactorTable, instance: &Instance) -> Option<usize>
 {
     match file.reactor(instance.reactor.as_str()) {
         Some(inner) => first_for_none(inner, &instance.given),
+        // `new` of a reactor that isn't there is another cause, which is looked for before this one.
         None => None,
     }
 }
@@ -150,6 +151,8 @@ fn unknown_value_or_time(
         unknown_parameter(file, member),
         first_unknown_time(own, &times),
     ) {
+        // The times of an instance are what it gives, so both count the same list and the lesser stands
+        // first.
         (Some(value), Some(time)) if time < value => Ok(Some(Finding::UnknownTime { time })),
         (Some(value), _) => Ok(Some(Finding::UnknownParameter { value })),
         (None, Some(time)) => Ok(Some(Finding::UnknownTime { time })),

@@ -21,6 +21,7 @@ fn exponent_end(text: &[u8], at: usize) -> usize
     if !one_stands(text, at, b'e', b'E') {
         return at;
     }
+    // Without a digit behind it the `e` is no part of the number: it begins a word.
     if digit_stands(text, at + 1) {
         return past_digits(text, at + 1);
     }
@@ -38,6 +39,7 @@ fn decimal_end(text: &[u8], point: usize) -> usize
     ensures within { (point < result) × (result ≤ length text.now) }
 {
     let end = exponent_end(text, past_digits(text, point + 1));
+    // So C and C++ write a number of single precision.
     if one_stands(text, end, b'f', b'F') {
         end + 1
     } else {
@@ -50,6 +52,7 @@ fn hexadecimal(byte: u8) -> u64
     ensures is { result ≡ digit_value byte }
     ensures small { result < 16 }
 {
+    // No caller asks for a byte that isn't a digit.
     if b'0' <= byte && byte <= b'9' {
         (byte - b'0') as u64
     } else if b'a' <= byte && byte <= b'f' {
@@ -121,6 +124,7 @@ pub fn number_piece(text: &[u8], at: usize) -> (TokenKind, usize)
     ensures piece { IsPiece text.now at (Some result.0) result.1 }
 {
     let end = past_digits(text, at);
+    // A point without a digit behind it is a token of its own.
     if point_stands(text, end) {
         return (TokenKind::Decimal, decimal_end(text, end));
     }

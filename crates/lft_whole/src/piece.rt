@@ -20,6 +20,7 @@ fn symbol_piece(text: &[u8], at: usize) -> Option<(Option<TokenKind>, usize)>
     ensures is { result ≡ symbol_at text.now at }
     ensures piece { IfSome result (λ x. IsPiece text.now at x.0 x.1) }
 {
+    // Pairs first: `-` and `~` are symbols by themselves.
     if pair_stands(text, at, b'-', b'>') {
         return Some((Some(TokenKind::Arrow), at + 2));
     }
@@ -99,6 +100,7 @@ fn string_end(text: &[u8], at: usize) -> Option<usize>
     ensures is { result ≡ string_end text.now at }
     ensures within { IfSome result (λ end. (at < end) × (end ≤ length text.now)) }
 {
+    // Three are asked for first: two alone are an empty string.
     if three_stand(text, at, b'"') {
         past_long_string(text, at + 3)
     } else {
@@ -146,5 +148,6 @@ pub fn piece(text: &[u8], at: usize) -> Option<(Option<TokenKind>, usize)>
         let (kind, end) = number_piece(text, at);
         return Some((Some(kind), end));
     }
+    // Last, since what begins a remark, code or a string is a printable byte too.
     symbol_piece(text, at)
 }

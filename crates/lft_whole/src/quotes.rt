@@ -63,6 +63,7 @@ pub fn past_long_string(text: &[u8], from: usize) -> Option<usize>
 {
     let mut is_escaped = false;
     for at in from..text.len() {
+        // A single quote ends nothing here, so the three are looked for as one.
         let are_quotes = three_stand(text, at, b'"');
         let is_backslash = stands(text, at, b'\\');
         if is_free(is_escaped, are_quotes) {
@@ -89,6 +90,7 @@ pub fn past_in_line(text: &[u8], from: usize, quote: u8) -> Result<usize, usize>
         if is_free(is_escaped, is_quote) {
             return Ok(at + 1);
         }
+        // A backslash before the line's end joins the next line to this one.
         if is_free(is_escaped, is_end) {
             return Err(at);
         }
@@ -153,6 +155,7 @@ pub fn past_code(text: &[u8], from: usize) -> Option<usize>
     ensures within { IfSome result (λ end. (from < end) × (end ≤ length text.now)) }
 {
     let mut at = from;
+    // Nothing is known yet: no quote stands before the first byte of the code.
     let mut quoteless = from;
     'code: while at < text.len() {
         if pair_stands(text, at, b'=', b'}') {

@@ -144,6 +144,7 @@ fn is_read_past(alloc: Global, text: &[u8], token: usize) -> Result<bool, NoMemo
     };
     match parse(alloc, text, &tokens) {
         Ok(_) => Ok(true),
+        // The thing stands last. A refusal behind it says only that the text ends too soon.
         Err(TreeFault::Unexpected(at)) | Err(TreeFault::Package(at)) => Ok(token < at),
         Err(TreeFault::NoMemory) => Err(NoMemory),
     }
@@ -275,6 +276,7 @@ pub(crate) fn push_unit(
     let front = Prefix {
         alloc,
         text: text.get(..end).unwrap_or(b""),
+        // A unit would be the next token.
         token: token.saturating_add(1),
     };
     if front.can_stand(UNIT)? {

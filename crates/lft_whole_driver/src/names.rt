@@ -175,6 +175,7 @@ impl<'a> FileNames<'a> {
         let file = place.file;
         let mut found = None;
         for reactor in &self.files.get(file)?.tree.reactors {
+            // A reactor keeps no end. So a token stands in the last one that begins up to it.
             if reactor.at <= place.token {
                 found = Some(ReactorSite { file, reactor });
             }

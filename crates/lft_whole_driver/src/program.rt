@@ -45,6 +45,7 @@ fn program_of(alloc: Global, files: &[SourceFile]) -> Result<Whole, Unlowered>
             notes: lowering.notes,
         }),
         Err(refusal) => {
+            // Told apart first: of want of memory there is nothing to tell.
             if is_no_memory(&refusal) {
                 return Err(Unlowered::from(Fault::no_memory()));
             }

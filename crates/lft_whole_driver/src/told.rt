@@ -239,6 +239,7 @@ fn push_help(
     if refusal.why == Why::Unexpected {
         push_could(alloc, out, &file.text, spot.start, token)?;
     }
+    // Of the first token this is the token itself.
     let before = spot_in(alloc, file, token.saturating_sub(1))?;
     push_way(out, way_at(alloc, &file.text, before.start, spot.start)?)
 }

@@ -31,6 +31,7 @@ pub fn is_connection(input: &Input, at: usize) -> bool
 {
     is_symbol(input, at, b'(')
         || is_word(input, at) && goes_on(input, at + 1)
+        // Behind this word stands a `(`, which goes on with no other name.
         || is_interleaved(input, at)
 }
 
@@ -51,6 +52,7 @@ fn left_side(input: &Input, at: usize) -> Result<(Vec<Reference>, bool, usize), 
     if is_symbol(input, end, b'+') {
         Ok((sources, true, end + 1))
     } else {
+        // Without `+` the parentheses mean nothing.
         Ok((sources, false, end))
     }
 }

@@ -40,6 +40,7 @@ pub fn port(input: &Input, at: usize) -> Result<(Port, usize), TreeFault>
     let (is_input, bracket) = direction(input, first)?;
     let (width, word) = width(input, bracket)?;
     let (name, colon) = name(input, word)?;
+    // No type of a value decides when the port is present, so its answer is dropped.
     let (_, end) = typed(input, colon)?;
     Ok((
         Port {

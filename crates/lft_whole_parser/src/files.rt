@@ -82,6 +82,7 @@ fn import_path(input: &Input, at: usize) -> Result<(Vec<u8>, usize), TreeFault>
     ensures ok { IfOk result (λ x. Further input.now at x.1) }
     ensures err { IfErr result (Refuses input.now) }
 {
+    // Told apart from what else can't stand here: its sentence says what to write in its place.
     if is_symbol(input, at, b'<') {
         return Err(TreeFault::Package(at));
     }
@@ -118,6 +119,7 @@ fn timeout(input: &Input, at: usize, end: usize) -> Option<Timeout>
     requires { at < count input.now }
     ensures is { result ≡ Files.timeout_at (source input.now) end at }
 {
+    // The unit stands before the brace too, else this is no property but a word at their end.
     if !(is_key(input, at, b"timeout") && at + 3 < end) {
         return None;
     }
@@ -252,6 +254,7 @@ fn next_item(input: &Input, at: usize, file: &mut File) -> Result<usize, TreeFau
     if is_symbol(input, at, b';') {
         return Ok(at + 1);
     }
+    // An enclave is said of an instance. No attribute of what stands here changes the program.
     let (_, first) = attributes(input, at)?;
     item(input, first, file)
 }

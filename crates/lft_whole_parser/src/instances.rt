@@ -24,6 +24,7 @@ fn assignment(input: &Input, at: usize) -> Result<(Assignment, usize), TreeFault
     let (value, end) = initial(input, behind)?;
     match value {
         Some(value) => Ok((Assignment { name, value }, end)),
+        // Elsewhere a value may be left out. Here a name alone would give nothing.
         None => Err(TreeFault::Unexpected(behind)),
     }
 }
@@ -64,6 +65,7 @@ fn is_joined(input: &Input, at: usize) -> bool
     ensures inside { result ≡ true → at < count input.now }
 {
     match (input.tokens.get(at - 1), input.tokens.get(at)) {
+        // By their bytes, since a gap between tokens is no token.
         (Some(before), Some(token)) => before.end == token.start,
         _ => false,
     }
@@ -103,6 +105,7 @@ pub fn past_host(input: &Input, at: usize) -> usize
     if !is_key(input, at, b"at") {
         return at;
     }
+    // The first token of the host stands apart from the word `at`, so it isn't asked whether it touches that.
     let rest = past_any(input, at + 1);
     past_rest(input, rest)
 }
@@ -120,6 +123,7 @@ pub fn instance(input: &Input, at: usize, is_enclave: bool) -> Result<(Instance,
     let bracket = key(input, word, b"new")?;
     let (width, class) = width(input, bracket)?;
     let (reactor, behind) = name(input, class)?;
+    // The arguments of its type say nothing of what it contains.
     let opening = past_group(input, behind, b'<', b'>')?;
     let first = symbol(input, opening, b'(')?;
     let (given, end) = assignments(input, first)?;

@@ -172,6 +172,8 @@ fn kept(input: &Input, at: usize, is_enclave: bool) -> Result<(Member, usize), T
     ensures ok { IfOk result (λ x. Further input.now at x.1) }
     ensures err { IfErr result (Refuses input.now) }
 {
+    // Before all words that begin a declaration: some of them aren't reserved, as `mode`, and may name an
+    // instance.
     if is_instance(input, at) {
         let (instance, end) = instance(input, at, is_enclave)?;
         return Ok((Member::Instance(instance), end));
@@ -271,6 +273,7 @@ fn members(input: &Input, at: usize) -> Result<(Vec<Member>, usize), TreeFault>
 {
     let mut members = Vec::new(input.alloc);
     let mut next = at;
+    // Where the tokens end no brace stands: there `next_member` refuses, so this ends.
     'members: while !is_symbol(input, next, b'}') {
         next = next_member(input, next, &mut members)?;
     }

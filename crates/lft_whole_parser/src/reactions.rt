@@ -37,6 +37,7 @@ fn trigger(input: &Input, at: usize) -> Result<(Trigger, usize), TreeFault>
     if is_alone(input, at, b"shutdown") {
         return Ok((Trigger::Shutdown, at + 1));
     }
+    // Kept with its place: what `reset` triggers is of modes, and is refused where the reactor is used.
     if is_alone(input, at, b"reset") {
         return Ok((Trigger::Reset { at }, at + 1));
     }
@@ -211,6 +212,7 @@ pub fn reaction(input: &Input, at: usize, word: &[u8]) -> Result<(Reaction, usiz
     let (triggers, behind) = triggers(input, first)?;
     let (uses, arrow) = uses(input, behind)?;
     let (effects, body) = written(input, arrow)?;
+    // Handlers stand behind the code, also where that is left out.
     let end = past_handlers(input, past_code(input, body))?;
     Ok((
         Reaction {

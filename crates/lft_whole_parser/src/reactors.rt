@@ -189,6 +189,7 @@ fn kind_words(input: &Input, at: usize) -> (bool, bool, usize)
     ensures gives { Grammar.kind_words (source input.now) at ≡ Ok ((result.0, result.1), result.2) }
     ensures inside { NotBefore input.now at result.2 }
 {
+    // Both are asked of each word, since they may stand in any order.
     let mut is_main = false;
     let mut is_federated = false;
     let mut next = at;

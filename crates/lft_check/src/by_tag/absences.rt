@@ -35,11 +35,13 @@ impl Absences {
         ensures { IfOk result IsUnknown }
     {
         let first = Tag { time: 0, micro: 0 };
+        // A look at each of few inputs costs no more than to keep their block.
         let blocks = if inputs > BLOCK {
             inputs / BLOCK + 1
         } else {
             0
         };
+        // No tag is before the first one, so this says nothing yet.
         let until = vec![in alloc; Some(first); blocks]?;
         Ok(Absences { until })
     }
@@ -98,6 +100,7 @@ impl<'a> Sliced<'a> {
             return None;
         }
         let first = item_at(causes, place);
+        // Behind the causes of the name stand those of the next one.
         if first.name == name {
             Some(moved(cause_tag(first), shift))
         } else {
@@ -179,6 +182,7 @@ pub(crate) fn end_of(from: usize, length: usize) -> usize
     ensures whole { (result ≡ length) ⊎ (result ≡ from + 64) }
     ensures block { result ≤ from + 64 }
 {
+    // Asked of what is left, as the sum could pass the greatest number.
     if length - from < BLOCK {
         length
     } else {

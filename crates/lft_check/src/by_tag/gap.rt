@@ -21,6 +21,7 @@ impl<'a> Sliced<'a> {
         let mut first = None;
         for reaction in 0..presence.reactions() as u32 {
             let triggers = presence.program().reaction(reaction).triggers.as_slice();
+            // No run is of interest here, so nothing is marked.
             let vacant = lacked(presence, reaction, low, triggers, tags, &mut []);
             first = first_of(first, vacant, reaction);
         }

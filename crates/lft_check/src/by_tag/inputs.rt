@@ -32,6 +32,7 @@ impl<'a> Sliced<'a> {
         requires name { IsNameOf self.now.plan.program name }
         ensures { IsTrue result ↔ IsMissed self.now.plan self.now.rows slice.tag reaction name }
     {
+        // A mark is at hand, and the value has to be searched for among all causes.
         if self.read_at(walk, slice, reaction, seat).is_some() {
             return false;
         }
@@ -92,6 +93,7 @@ impl<'a> Sliced<'a> {
     {
         let row = row_at(self.rows(), place);
         match row.step {
+            // What a run should have read and didn't stands in no row, so its start tells of it.
             Step::Start => self.misses_input(walk, slice, row.reaction),
             Step::Read(name, value) => { !same_values(Some(value), self.value_at(slice.tag, name)) }
             Step::Write(_, _) | Step::Schedule(_, _, _) | Step::Stop | Step::End => false,

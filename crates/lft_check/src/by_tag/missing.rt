@@ -156,6 +156,7 @@ fn lacked_firing(
     ensures known { AreTriggered presence.now reaction tags.now known.new }
     ensures least { LeastTag (LacksFiring presence.now timer.now low tags.now) result }
 {
+    // A timer fires at microstep 0, so its time alone says whether that is up to the stop.
     let last = presence.stop().time;
     let mut hint = 0;
     let mut time = first_firing(timer, low)?;

@@ -66,6 +66,7 @@ impl<'a> Sliced<'a> {
     pub fn keeps(&self)
         ensures rules { IsCuttable self.now }
     {
+        // To read a field is enough to have what the type keeps.
         let _ = &self.slices;
     }
 
@@ -136,6 +137,7 @@ impl<'a> Sliced<'a> {
     {
         // Asked for what sliced rows keep: they break none of the rules 1 to 5.
         self.keeps();
+        // Found once more: who judges from the first tag on needs the runs once, so none are kept.
         let started = started_of(alloc, self.rows(), self.reactions())?;
         first_missing(alloc, &self.presence, &started, low, &mut [])
     }

@@ -39,6 +39,7 @@ fn step_fits(step: Step, program: &Program) -> bool
         Step::Start => true,
         Step::Read(name, _) => name_fits(name, program),
         Step::Write(name, _) => name_fits(name, program),
+        // A longer delay could lead to a tag whose time 64 bits don't hold.
         Step::Schedule(name, _, delay) => name_fits(name, program) && delay <= MAX_TIME,
         Step::Stop => true,
         Step::End => true,

@@ -19,6 +19,7 @@ pub fn push_blanks(text: &mut String, count: usize) -> Result<(), AllocError>
 pub fn push_fill(text: &mut String, width: usize, word: &str) -> Result<(), AllocError>
     ensures { OnOk result (string_bytes text.new ≡ string_bytes text.old ++ fill width word.now) }
 {
+    // A word that is wider than its column lacks none.
     push_blanks(text, width.saturating_sub(word.len()))?;
     Ok(())
 }

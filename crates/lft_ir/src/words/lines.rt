@@ -46,6 +46,7 @@ fn value_of(step: Step) -> Option<Value>
 pub fn push_value_at(text: &mut String, rows: &[Row], place: u32) -> Result<(), AllocError>
     ensures { OnOk result (string_bytes text.new ≡ string_bytes text.old ++ value_at rows.now place) }
 {
+    // Who tells a fact needn't know that it is true, so there may be no such row.
     if (place as usize) < rows.len() {
         push_value(text, value_of(row_at(rows, place as usize).step))?;
     }

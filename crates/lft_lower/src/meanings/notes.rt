@@ -114,6 +114,7 @@ impl<'a> Notes<'a> {
     fn say(&mut self, line: String) -> Result<(), AllocError>
         ensures { OnOk result (IsSaid (string_bytes line) self.old self.new) }
     {
+        // A reactor is lowered for each of its settings, and each time the same may be said of its lines.
         if !self.said.contains(line.as_str()) {
             self.said.insert(line.clone()?)?;
             self.lines.push(line)?;

@@ -305,6 +305,7 @@ fn push_inner(
 {
     let rows = members.count();
     let width = channels.count();
+    // It never saturates: the caller has counted these places, and `product` refuses as many.
     let all = rows.saturating_mul(width);
     for place in 0..all {
         if list.len() >= most {
@@ -435,6 +436,7 @@ pub fn push_places(
 {
     let meaning = within.meaning(reference)?;
     let count = within.count(meaning)?;
+    // All of them, so the bound is what the list has behind the last one.
     let most = sum(&within.settings.work, list.len(), count)?;
     let at = within.token(reference.head.at);
     let is_interleaved = reference.is_interleaved;

@@ -29,6 +29,7 @@ impl Room {
         ensures few { OnErr result (self.old.left ≤ bytes) }
         ensures why { IfErr result (λ stop. stop ≡ Refused (record { why = TooMuch; place = work.now.main })) }
     {
+        // One more than the bytes is taken, and that sum could overflow.
         if self.left <= bytes {
             return Err(work.refused(Why::TooMuch));
         }

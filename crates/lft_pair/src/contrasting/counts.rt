@@ -32,6 +32,7 @@ pub(crate) fn count_before(rows: &[Row], tag: Tag) -> u32
     ensures { Counts (StartsBefore tag) rows.now result }
 {
     let mut count = 0;
+    // To the last row, so that no clause has to say that tags rise.
     for place in 0..rows.len() {
         if starts_before(row_at(rows, place), tag) {
             count += 1;

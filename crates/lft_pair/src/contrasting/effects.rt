@@ -65,6 +65,7 @@ fn is_same_event(first: Option<Scheduling>, second: Option<Scheduling>) -> bool
 fn first_other(mine: &RunAnswers, theirs: &RunAnswers, action: u32) -> Option<usize>
     ensures { MatchOption result (events (the_schedulings mine.now action) ≡ events (the_schedulings theirs.now action)) (λ k. ¬ (the_event_of (slice_get (the_schedulings mine.now action) k) ≡ the_event_of (slice_get (the_schedulings theirs.now action) k))) }
 {
+    // One run may have more of them than the other: then the first that the other lacks is told.
     for place in 0..mine.count(action).max(theirs.count(action)) {
         if !is_same_event(
             mine.scheduling(action, place),
@@ -126,6 +127,7 @@ pub(crate) fn stop_contrast(mine: &[Placed], theirs: &[Placed]) -> Option<Contra
 {
     let first = first_request(mine);
     let second = first_request(theirs);
+    // An answer has whether a stop was requested. In which row, or how often, makes no difference.
     if first.is_some() == second.is_some() {
         return None;
     }

@@ -78,6 +78,7 @@ impl<L: Law, C: Code + Drop> BodiesLeft<L, C> {
         if self.runs[0].count() > 1 {
             self.runs[0].take()
         } else {
+            // Some body is left, so something stands first.
             self.runs.pop_front().unwrap().into_body()
         }
     }

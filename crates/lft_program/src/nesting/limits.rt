@@ -55,6 +55,7 @@ pub(crate) fn excess_of_instances(
     ensures { IfOk result (IsFull contents.now main) }
 {
     let (count, is_more) = count_instances(alloc, contents, main)?;
+    // The walk was ended by the limit, so there is one more at least. No clause of the count says so.
     let least = u64::from(LimitedKind::Instances.limit()) + 1;
     Ok(Excess {
         kind: LimitedKind::Instances,

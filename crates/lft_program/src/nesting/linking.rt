@@ -96,6 +96,7 @@ fn first_long(sources: &[Option<Source>], reached: &[Reached], port: usize) -> u
     ensures { IsTooLong reached.now result }
 {
     let mut at = port;
+    // Cycles were refused before, so no way back has more steps than there are ports.
     'back: for _ in 0..sources.len() {
         match long_before(sources, reached, at) {
             Some(before) => at = before,
@@ -113,6 +114,7 @@ fn way_to(alloc: Global, nest: &Nest, found: &PortSources, port: usize) -> Resul
     ensures instances { IfOk result (λ w. w.instances.items ≡ nest.now.instances.items) }
     ensures back { IfOk result (λ w. IsWayBack found.now.sources.items found.now.sites.items port w.joins.items) }
 {
+    // A copy, as the refusal is told when the nest is gone.
     let mut instances = Vec::new(alloc);
     instances.extend_from_slice(&nest.instances)?;
     Ok(Way {

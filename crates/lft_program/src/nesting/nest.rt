@@ -93,6 +93,7 @@ fn numbered(
         Some(firsts) => Ok(Numbering { counts, firsts }),
         None => Err(NestFault::TooMany(Excess {
             kind,
+            // `first_numbers` ends where the limit is passed, so for the words all are counted once more.
             count: count_things(&counts, instances) as u64,
             is_more: false,
         })),

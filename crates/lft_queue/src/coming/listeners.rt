@@ -77,6 +77,7 @@ impl NameListeners {
     {
         match self.get(name) {
             Some(list) => list.is_empty(),
+            // Of a name without a list nothing is known.
             None => false,
         }
     }

@@ -29,6 +29,7 @@ fn schedule(coming: &mut Coming, plan: &Plan, row: Row, last: Tag) -> bool
             let tag = row.tag.after(min_delay, delay);
             coming.put_until(last, tag, Name::Action(number), value)
         }
+        // Such a row breaks rule 4, and what it asks for causes nothing.
         Step::Schedule(Name::Port(_), _, _) => true,
         Step::Start => true,
         Step::Read(_, _) => true,

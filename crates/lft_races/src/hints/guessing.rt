@@ -308,6 +308,7 @@ fn of_run(
     ensures none { IfOk result (λ hint. IfNone hint ((other : TheHint) → IsHint plan.now rows.now breach other → ⊥)) }
 {
     match breach.reaction {
+        // Asked here, since no clause says that this breach is one of these rows.
         Some(reaction) if (reaction as usize) < plan.program().reactions() => {
             of_untriggered(alloc, plan, rows, breach.tag, reaction)
         }

@@ -201,6 +201,7 @@ fn read_schedule(
     let Some(name) = read_thing(program, fields.name) else {
         return Err(CardFault::UnknownName(line));
     };
+    // No field of such a card has to be empty, so none is asked for.
     match read_content(alloc, program, reaction, fields.value) {
         Ok(Some(content)) => {
             let entry = CardEntry::Step(CardStep::Schedule(name, content, delay));

@@ -124,6 +124,7 @@ pub(crate) fn read_expression(
     ensures none { IfOk result (λ found. IfNone found ((terms : List Summand) → IsExpression program.now reaction text.now terms → ⊥)) }
 {
     let mut terms = Vec::new(alloc);
+    // No name has a `+` in it, so no piece is cut in the middle.
     for piece in text.split(|byte| *byte == b'+') {
         match read_term(program, reaction, piece) {
             Some(term) => terms.push(term)?,

@@ -102,6 +102,7 @@ fn push_row_fact(quotes: &mut Vec<Quote>, fact: RowFact) -> Result<(), AllocErro
         RowFact::StartsAgain { first, .. } => push(quotes, first, RowMark::FirstStart),
         RowFact::Busy { start, .. } => push(quotes, start, RowMark::OpenStart),
         RowFact::ReadAgain { first, .. } => push(quotes, first, RowMark::FirstRead),
+        // These name no other row. The row itself is quoted by `Fact::RowIs`.
         RowFact::AfterStop { .. }
         | RowFact::NotOpen { .. }
         | RowFact::NotInput { .. }
@@ -164,6 +165,7 @@ pub(crate) fn push_named(quotes: &mut Vec<Quote>, fact: Fact) -> Result<(), Allo
             push(quotes, end, RowMark::LateEnd)
         }
         Fact::Reason(reason) => push_reason(quotes, reason),
+        // The others are of the program, or of what no row has.
         _ => Ok(()),
     }
 }

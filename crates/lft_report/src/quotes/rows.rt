@@ -98,6 +98,7 @@ fn push_step(text: &mut String, program: &Program, step: Step) -> Result<(), All
             push_delay(text, delay)
         }
         Step::Start | Step::Stop | Step::End => {
+            // A table has these fields in each row, so they are empty here and not left out.
             text.push_str(",,,")?;
             Ok(())
         }

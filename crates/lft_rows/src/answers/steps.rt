@@ -29,6 +29,7 @@ pub fn read_steps(
     ensures { OnOk result (steps.new.items ≡ steps_of rows.now start.tag start.reaction) }
 {
     steps.clear();
+    // Rows of other workers may stand between, so no range of the rows is the run.
     for at in place..rows.len() {
         let row = row_at(rows, at);
         if is_of_run(row, start) {

@@ -45,6 +45,7 @@ pub fn moved(tag: Tag, shift: Shift) -> Tag
     } else {
         Tag {
             time: tag.time + shift.time,
+            // A delay with a time leads to microstep 0, so only the steps behind it count.
             micro: shift.steps,
         }
     }

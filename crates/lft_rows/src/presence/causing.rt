@@ -24,6 +24,8 @@ fn of_write(tag: Tag, place: u32, name: Name) -> Option<EventCause>
             micro: tag.micro,
             place,
         }),
+        // Such a row breaks rule 4. Presence is asked of rows that break any rule, so it has to say
+        // something.
         Name::Action(_) => None,
     }
 }
@@ -42,6 +44,7 @@ fn of_schedule(
     ensures { result ≡ schedule_cause program.now tag place extra name }
 {
     match name {
+        // As above: such a row breaks rule 4.
         Name::Port(_) => None,
         Name::Action(action) => {
             let to = tag.after(program.action(action).min_delay, extra);

@@ -36,6 +36,7 @@ fn doubles_of(
     ensures { IfOk result (λ doubles. AreDoubles causes.now (length plan.now.program.ports) doubles.items) }
 {
     let mut doubles = Vec::new(alloc);
+    // Found once for each origin, since many ports may stand behind one and each asks for it.
     for port in 0..plan.program().ports() {
         doubles.push(first_pair(causes, port as u32, true))?;
     }
@@ -57,6 +58,7 @@ fn port_clash(
     ensures { LeastTag (λ g. PortClash plan.now rows.now g number) result }
 {
     let port = plan.program().port(number);
+    // Then two tags are led to two tags, and two writes at one tag are one event.
     if port.shift.time == 0 {
         return None;
     }
@@ -129,6 +131,7 @@ pub(crate) fn clash_of(
     let doubles = doubles_of(alloc, plan, rows, causes)?;
     let ports = ports_clash(plan, rows, causes, doubles.as_slice());
     match sooner(ports, actions_clash(plan, rows, causes)) {
+        // Causes may lead past the stop, where nothing happens any more.
         Some(tag) => Ok(if stop.is_before(tag) { None } else { Some(tag) }),
         None => Ok(None),
     }

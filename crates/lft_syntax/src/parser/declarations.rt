@@ -73,6 +73,7 @@ pub fn port(input: &Input, at: usize) -> Result<(Port, usize), ParseError>
     if is_input_key(input, at) {
         input_port(input, at)
     } else {
+        // What begins no input is read as an output, so a wrong first word is refused by that.
         output_port(input, at)
     }
 }
@@ -162,6 +163,7 @@ fn origin(input: &Input, at: usize) -> Result<(bool, usize), ParseError>
         let at = key(input, at, b"logical")?;
         return Ok((false, at));
     }
+    // Neither word is a refusal at this token, whichever of the two is asked for last.
     let at = key(input, at, b"physical")?;
     Ok((true, at))
 }
@@ -222,6 +224,7 @@ pub fn action(input: &Input, at: usize) -> Result<(Action, usize), ParseError>
 pub fn state(input: &Input, at: usize) -> Result<(TokenRange, usize), ParseError>
     ensures { Gives (λ x. (range_view x.0, x.1)) result (state_at (words input.now) at) }
 {
+    // Which tokens it has is all that is kept: no rule asks for the value of a state.
     let start = at;
     let at = key(input, at, b"state")?;
     let at = skip_name(input, at)?;

@@ -34,6 +34,7 @@ fn target(input: &Input, at: usize) -> Result<(TokenRange, usize), ParseError>
 {
     let start = at;
     let at = key(input, at, b"target")?;
+    // Any target will do, since the code of reactions isn't read.
     let at = skip_name(input, at)?;
     let end = properties(input, at)?;
     Ok((TokenRange { start, end }, end))
@@ -60,6 +61,7 @@ fn item(input: &Input, at: usize) -> Result<(Item, usize), ParseError>
         let (tokens, at) = preamble(input, at)?;
         return Ok((Item::Preamble(tokens), at));
     }
+    // What begins no item is read as a reactor, which refuses it at its first token.
     let (reactor, at) = reactor(input, at)?;
     Ok((Item::Reactor(reactor), at))
 }
@@ -71,6 +73,8 @@ fn items(input: &Input, at: usize) -> Result<(Vec<Item>, usize), ParseError>
 {
     let mut items = Vec::new(input.alloc);
     let mut next = at;
+    // Nothing closes the items but the end of the tokens. A token that begins no item must be refused, not
+    // left over.
     'list: while is_there(input, next) {
         let (item, after) = item(input, next)?;
         items.push(item)?;
@@ -102,6 +106,7 @@ pub fn whole(input: &Input) -> Result<Content, ParseError>
     ensures gives { Gives (λ x. file_view x.target x.items.items) result (whole_at (words input.now)) }
     ensures stand { IfOk result (λ x. FileStands (words input.now) x.target x.items.items) }
 {
+    // The place behind the file isn't asked for: items end only where the tokens do.
     let (content, _) = file(input)?;
     Ok(content)
 }

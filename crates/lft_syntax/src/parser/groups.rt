@@ -30,6 +30,7 @@ fn step(
         return Ok(Some(depth));
     };
     if opening == byte {
+        // Each open bracket is a token before this one, so the count can't overflow.
         return Ok(Some(depth + 1));
     }
     if closing != byte {

@@ -102,6 +102,7 @@ pub fn instance(input: &Input, at: usize) -> Result<(Instance, usize), ParseErro
     let (own, equals) = name(input, at)?;
     let word = symbol(input, equals, b'=')?;
     let reactor_at = key(input, word, b"new")?;
+    // The place of this name is kept too: there it is told that no reactor has it.
     let (reactor, opening) = name(input, reactor_at)?;
     let (given, end) = assignments(input, opening)?;
     Ok((
@@ -136,6 +137,7 @@ pub fn connection(input: &Input, at: usize) -> Result<(Connection, usize), Parse
     ensures stands { IfOk result (λ x. ConnectionStands (words input.now) at x.0) }
 {
     let (sources, arrow_at) = references(input, at)?;
+    // Its place is kept for what is said of the connection as a whole.
     let first = arrow(input, arrow_at)?;
     let (destinations, behind) = references(input, first)?;
     let (delay, end) = after(input, behind)?;

@@ -20,6 +20,7 @@ use lft_tree::Member;
 fn is_before_symbol(input: &Input, at: usize, byte: u8) -> bool
     ensures { result ≡ is (Symbol byte) (slice_get (words input.now) (at + 1)) }
 {
+    // Asked for first: only where a token stands here is the place after it known to fit a number.
     match peek(input, at) {
         Some(_) => is_symbol(input, at + 1, byte),
         None => false,
@@ -31,6 +32,7 @@ fn named_member(input: &Input, at: usize) -> Result<(Member, usize), ParseError>
     ensures gives { Gives (λ x. (member_view x.0, x.1)) result (choice_next (is (Symbol 61)) (apply InstanceMember instance_at) (apply ConnectionMember connection_at) (words input.now) at) }
     ensures stands { IfOk result (λ x. MemberStands (words input.now) at x.0) }
 {
+    // Instances and connections both begin with a name, and no other symbol tells them apart.
     if is_before_symbol(input, at, b'=') {
         let (instance, at) = instance(input, at)?;
         return Ok((Member::Instance(instance), at));
@@ -78,6 +80,7 @@ fn members(input: &Input, at: usize) -> Result<(Vec<Member>, usize), ParseError>
 {
     let mut members = Vec::new(input.alloc);
     let mut next = at;
+    // Not up to the end of the tokens: there `member` refuses, and says that the text ends too soon.
     'list: while !is_symbol(input, next, b'}') {
         let (member, after) = member(input, next)?;
         members.push(member)?;

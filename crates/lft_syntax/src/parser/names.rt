@@ -82,6 +82,7 @@ pub fn text_of(alloc: Global, letters: &[u8]) -> Result<String, AllocError>
     requires { IsAscii letters.now }
     ensures { IfOk result (λ text. string_bytes text ≡ letters.now) }
 {
+    // ASCII is UTF-8, so the other case doesn't come.
     let Ok(text) = str::from_utf8(letters) else {
         unreachable!();
     };

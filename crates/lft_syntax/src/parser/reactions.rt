@@ -21,6 +21,7 @@ fn trigger(input: &Input, at: usize) -> Result<(Trigger, usize), ParseError>
     ensures gives { Gives (λ x. (trigger_view x.0, x.1)) result (trigger_at (words input.now) at) }
     ensures stands { IfOk result (λ x. Takes (TriggerStands (words input.now)) trigger_tokens at x.0 x.1) }
 {
+    // Both words are reserved, so no reference of that name is lost by asking for them first.
     if is_key(input, at, b"startup") {
         let at = key(input, at, b"startup")?;
         return Ok((Trigger::Startup, at));
@@ -101,6 +102,7 @@ pub fn reaction(input: &Input, at: usize) -> Result<(Reaction, usize), ParseErro
     ensures stands { IfOk result (λ x. ReactionStands (words input.now) at x.0) }
 {
     let own = key(input, at, b"reaction")?;
+    // A reaction is known by its number in its reactor, so its own name isn't kept.
     let opening = own_name(input, own)?;
     let (triggers, behind) = triggers(input, opening)?;
     let (uses, arrow) = uses(input, behind)?;

@@ -25,6 +25,7 @@ fn default(input: &Input, at: usize) -> Result<(Time, usize), ParseError>
 {
     if is_symbol(input, at, b'=') {
         let behind = symbol(input, at, b'=')?;
+        // Other than in most times no name may stand here: a default isn't another parameter.
         return time(input, behind);
     }
     let first = symbol(input, at, b'(')?;
@@ -177,6 +178,7 @@ pub fn reactor(input: &Input, at: usize) -> Result<(Reactor, usize), ParseError>
     if is_key(input, at, b"reactor") {
         plain_reactor(input, at)
     } else {
+        // What begins neither kind is read as a main reactor, which refuses it at its first token.
         main_reactor(input, at)
     }
 }

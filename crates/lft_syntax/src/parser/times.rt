@@ -155,6 +155,8 @@ pub fn is_before_follower(input: &Input, at: usize) -> bool
     }
     match peek(input, at + 1) {
         Some(Seen::Arrow) => true,
+        // The comma is one of them, as the sources of a connection may be several. No list has a time that is
+        // asked here.
         Some(Seen::Symbol(b)) => b == b'=' || b == b'.' || b == b',',
         _ => false,
     }

@@ -27,6 +27,7 @@ fn type_part(input: &Input, at: usize) -> Result<usize, ParseError>
         return skip_name(input, at);
     }
     let at = symbol(input, at, b':')?;
+    // Colons are tokens of one byte, so `::` is two of them.
     let at = symbol(input, at, b':')?;
     skip_name(input, at)
 }
@@ -78,6 +79,7 @@ fn array_parts(input: &Input, at: usize) -> Result<usize, ParseError>
 fn skip_type(input: &Input, at: usize) -> Result<usize, ParseError>
     ensures { Gives at_next result (type_at (words input.now) at) }
 {
+    // Code stands for a type that these few forms don't write.
     if is_code(input, at) {
         return code(input, at);
     }

@@ -57,6 +57,7 @@ fn left_out_suffix(input: &Input, at: usize) -> Result<usize, ParseError>
 fn fraction(input: &Input, at: usize) -> Result<usize, ParseError>
     ensures { Gives at_next result (ignoring_at (maybe (is (Symbol 46)) (second (symbol_at 46) (ignoring_at number_at))) (words input.now) at) }
 {
+    // In a core text a decimal number is no token, but three.
     if !is_symbol(input, at, b'.') {
         return Ok(at);
     }
@@ -149,6 +150,7 @@ fn value(input: &Input, at: usize) -> Result<usize, ParseError>
     if is_name(input, at) {
         return path(input, at);
     }
+    // The last form: what begins no value is refused as a number that is missing.
     quantity(input, at)
 }
 

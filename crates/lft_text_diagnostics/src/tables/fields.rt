@@ -136,6 +136,7 @@ pub(crate) fn filled_of_trace(fields: &ByteRecord) -> Wrong
     if has_none && !field(fields, 6).is_empty() {
         return wrong_at(6, "value", "stands where nothing may", EMPTY);
     }
+    // Some field is filled that may not be, and of the three this one is left.
     let help = "Only `schedule` has a delay.";
     wrong_at(7, "delay", "stands where nothing may", help)
 }

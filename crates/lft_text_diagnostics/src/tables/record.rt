@@ -103,6 +103,7 @@ pub(crate) fn push_record(
     push_blank_margin(out, number as usize)?;
     for before in 0..at {
         let shown = quoted_text(alloc, field(fields, before))?;
+        // Below what is shown, which may be longer than the field: what isn't printed is escaped.
         push_blanks_below(out, shown.as_bytes())?;
         out.push_str(" ")?;
     }

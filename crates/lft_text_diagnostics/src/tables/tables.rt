@@ -132,6 +132,7 @@ fn tell_field(
     ensures field { IfOk result (λ words. (string_bytes words ≡ []) ⊎ NamesField (records_of text.now) (word_of table) line (IsWrongIn program.now table fault) (string_bytes words)) }
     ensures told { IfOk result (λ words. field_line fault ≡ Some line → (fields : List (List ℕ)) → HasRecord (records_of text.now) line fields → FailsThere program.now table (records_of text.now) fields fault → ContinuesFrom (table_line_words (word_of table) line) (string_bytes words)) }
 {
+    // The fault is of this record, so it is there.
     let Some(fields) = record_of(alloc, text, line)? else {
         return Ok(String::new(alloc));
     };
@@ -200,6 +201,7 @@ fn header_words(alloc: Global, text: &[u8], table: Table) -> Result<String, NoMe
         out.push_str("a line of more than 200 bytes")?;
     }
     out.push_str("\n")?;
+    // For the guess alone. What isn't UTF-8 is replaced, and no guess is made by that.
     let words = String::from_utf8_lossy(alloc, first)?;
     push_way(&mut out, of_text(text, words.as_str()))?;
     Ok(out)

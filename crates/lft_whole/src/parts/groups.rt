@@ -30,6 +30,7 @@ fn depth_behind(input: &Input, at: usize, depth: usize, opening: u8, closing: u8
         return depth + 1;
     }
     if is_symbol(input, at, closing) {
+        // Not of 0: a closing bracket at depth 0 ends the group, and isn't asked for.
         depth - 1
     } else {
         depth
@@ -45,6 +46,7 @@ fn closing_of(input: &Input, at: usize, opening: u8, closing: u8) -> Result<usiz
 {
     let mut depth: usize = 0;
     let mut next = at;
+    // True at the end of the tokens too, so that an open group is refused there and not taken as closed.
     'group: while is_inside(input, next, depth, closing) {
         if !is_there(input, next) {
             return Err(TreeFault::Unexpected(next));
@@ -102,6 +104,7 @@ fn begins_connection(input: &Input, at: usize) -> bool
             let next = end + 1;
             is_symbol(input, next, b'+') || is_arrow(input, next) || is_tilde_arrow(input, next)
         }
+        // A `(` that isn't closed is read as values, and that refuses it where the text ends.
         Err(_) => false,
     }
 }

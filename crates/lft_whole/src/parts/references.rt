@@ -51,6 +51,7 @@ pub fn is_interleaved(input: &Input, at: usize) -> bool
     ensures is { result ≡ Parts.on_interleaved (source input.now) at }
     ensures inside { result ≡ true → at < count input.now }
 {
+    // The word isn't reserved: without `(` it is a name like others.
     is_key(input, at, b"interleaved") && is_symbol(input, at + 1, b'(')
 }
 
@@ -62,6 +63,7 @@ fn past_alias(input: &Input, at: usize) -> Result<usize, TreeFault>
     ensures ok { IfOk result (NotBefore input.now at) }
     ensures err { IfErr result (Refuses input.now) }
 {
+    // The other name is one for the reaction's code, which isn't read.
     if is_key(input, at, b"as") {
         skip_name(input, at + 1)
     } else {
@@ -114,6 +116,7 @@ fn is_mode(input: &Input, at: usize) -> bool
     ensures is { result ≡ Parts.on_mode (source input.now) at }
     ensures inside { result ≡ true → at < count input.now }
 {
+    // Neither word is reserved: without `(` it is the name of a port or action.
     let is_word = is_key(input, at, b"reset") || is_key(input, at, b"history");
     is_word && is_symbol(input, at + 1, b'(')
 }

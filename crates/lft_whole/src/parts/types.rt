@@ -14,6 +14,7 @@ fn is_part(input: &Input, at: usize) -> bool
     ensures is { result ≡ Parts.on_part (source input.now) at }
     ensures inside { result ≡ true → at < count input.now }
 {
+    // A single colon is no part of a type's name, so both are asked for.
     is_symbol(input, at, b'.') || is_symbol(input, at, b':') && is_symbol(input, at + 1, b':')
 }
 
@@ -149,6 +150,7 @@ fn type_here(input: &Input, at: usize) -> Result<(bool, usize), TreeFault>
 {
     let first_end = member_type(input, at)?;
     let end = past_union(input, first_end)?;
+    // The word alone is asked for: `time*` and `time[]` are other types, whose values stand for no time.
     Ok((is_key(input, at, b"time") && end == at + 1, end))
 }
 

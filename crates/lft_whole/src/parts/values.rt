@@ -20,6 +20,7 @@ fn is_before_follower(input: &Input, at: usize) -> bool
     requires { at < count input.now }
     ensures is { result ≡ Parts.on_follower (source input.now) (at + 1) }
 {
+    // No comma, as in a core text: here values stand in lists, and behind a unit in one stands a comma.
     let next = at + 1;
     is_symbol(input, next, b'=')
         || is_symbol(input, next, b'.')
@@ -61,6 +62,7 @@ fn number(input: &Input, at: usize) -> Result<(Expression, usize), TreeFault>
         Some(Seen::Number(count)) => {
             let (unit, end) = unit_behind(input, first + 1);
             let value = Value::Number {
+                // `-0` is 0: as a negative number it would be refused where a time stands.
                 is_negative: is_signed && 0 < count,
                 count,
                 unit,
@@ -104,6 +106,7 @@ fn word_value(input: &Input, at: usize) -> Result<(Expression, usize), TreeFault
         return Err(TreeFault::Unexpected(at));
     };
     let end = path_end(input, at + 1);
+    // No parameter is named by words with points, so no more of these is kept.
     let value = if end == at + 1 {
         Value::Word(text_of(input.alloc, letters)?)
     } else {
@@ -142,6 +145,7 @@ fn lone_value(input: &Input, at: usize, end: usize) -> Result<Option<Expression>
 {
     match bare_value(input, at) {
         Ok((value, next)) if next == end => Ok(Some(value)),
+        // Any other refusal says only that the list is more than one bare value, which is allowed.
         Err(TreeFault::NoMemory) => Err(TreeFault::NoMemory),
         _ => Ok(None),
     }
@@ -223,6 +227,7 @@ pub fn initial(input: &Input, at: usize) -> Result<(Option<Expression>, usize), 
         let (value, end) = expression(input, at + 1)?;
         return Ok((Some(value), end));
     }
+    // A `(` may also begin the next member: connections of several sources stand in one.
     if is_symbol(input, at, b'{') || opens_values(input, at) {
         let (value, end) = expression(input, at)?;
         return Ok((Some(value), end));
@@ -297,6 +302,7 @@ pub fn two_values(
     if !opens_values(input, at) {
         return Ok((None, None, at));
     }
+    // Behind the end of the list both answers are none: the `)` is left for `past_list`.
     let (first, next) = listed_value(input, at + 1)?;
     let (second, rest) = listed_value(input, next)?;
     let end = past_list(input, rest)?;

@@ -16,6 +16,7 @@ fn is_width_of(input: &Input, at: usize) -> bool
     ensures is { result ≡ Parts.on_width_of (source input.now) at }
     ensures inside { result ≡ true → at < count input.now }
 {
+    // The word isn't reserved: without `(` it is a parameter's name.
     is_key(input, at, b"widthof") && is_symbol(input, at + 1, b'(')
 }
 
@@ -89,6 +90,7 @@ fn open_width(input: &Input, at: usize) -> Result<Width, TreeFault>
     ensures gives { Gives width_view result (Ok (Parts.open_width at tt)) }
     ensures err { IfErr result (Refuses input.now) }
 {
+    // A term for nothing at all: so a width has one always, and its refusal a place.
     let mut terms = Vec::new(input.alloc);
     let count = Count::Open;
     terms.push(Term { count, at })?;

@@ -49,6 +49,7 @@ impl SourceFile {
         ensures some { IfSome result (HasToken self.now number) }
         ensures none { IfNone result ((token : ℕ) → HasToken self.now number token → ⊥) }
     {
+        // A smaller number is of a file before this one.
         let token = number.checked_sub(self.first)?;
         if token < self.spots.len() {
             Some(token)
@@ -63,6 +64,7 @@ pub fn number_of(files: &[SourceFile], place: Place) -> usize
     ensures { result ≡ number_at files.now place }
 {
     match files.get(place.file) {
+        // No clause bounds what a file says of itself. Of files that were read the sum is below the limit.
         Some(file) => file.first.saturating_add(place.token),
         None => place.token,
     }

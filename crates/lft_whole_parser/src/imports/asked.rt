@@ -46,6 +46,7 @@ impl FileNumbers {
         ensures known { OnOk result (IsKnown self.new) }
         ensures paths { OnOk result (self.new.paths.items ≡ self.old.paths.items ++ record { path = path; import = import } ∷ []) }
     {
+        // A copy: the list owns the paths by number, and the map finds the number of one that was asked for.
         self.known.insert(path.clone()?, self.paths.len())?;
         self.paths.push(WantedFile { path, import })?;
         Ok(())

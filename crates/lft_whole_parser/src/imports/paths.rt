@@ -17,6 +17,7 @@ fn is_absolute(path: &str) -> bool
 fn stays(part: &str) -> bool
     ensures { result ≡ leads_nowhere part.now }
 {
+    // Empty parts stand before a `/` at the front, behind one at the end, and between two.
     part.is_empty() || part == "."
 }
 
@@ -52,6 +53,7 @@ fn push_back<'a>(
     if from_root {
         return Ok(());
     }
+    // Nothing is left to go back from: the path leads above the folder where it begins.
     folders.push(part)?;
     Ok(())
 }
@@ -108,6 +110,7 @@ fn root(from_root: bool) -> &'static str
 fn joined(alloc: Global, from_root: bool, folders: &[&str]) -> Result<String, AllocError>
     ensures { IfOk result (λ text. string_bytes text ≡ path_of from_root (map (λ x. x.now) folders.now)) }
 {
+    // Of no folders the letters would be none, which name no file.
     if folders.is_empty() {
         return String::from_str(alloc, if from_root { "/" } else { "." });
     }
@@ -139,6 +142,7 @@ pub(crate) fn imported(alloc: Global, importer: &str, path: &str) -> Result<Stri
     }
     let from_root = is_absolute(importer);
     let mut folders = folders(alloc, from_root, importer)?;
+    // The last part is the importer itself. What it imports is sought in the folder that it stands in.
     let _file = folders.pop();
     push_parts(&mut folders, from_root, path)?;
     joined(alloc, from_root, &folders)

@@ -65,6 +65,8 @@ fn without_tree(alloc: Global, spots: Vec<Spot>, why: Why, token: usize) -> Text
 pub(crate) fn read_text(alloc: Global, text: &[u8]) -> Result<Text, NoMemory>
     ensures { IfOk result (IsRead text.now) }
 {
+    // No `?`: a refusal is part of what is read, since its place is to be told. Want of memory alone ends the
+    // call.
     let tokens = match lex(alloc, text) {
         Ok(tokens) => tokens,
         Err(TextFault::BadText(at)) => return without_tokens(alloc, text, at),

@@ -86,6 +86,7 @@ impl Sources {
     pub fn wanted(&self) -> Option<&str>
         ensures { option_map (λ path. path.now) result ≡ next_path self.now }
     {
+        // A file has the number of its path, so the next one is behind as many as are read.
         match self.asked.paths.get(self.files.len()) {
             Some(wanted) => Some(wanted.path.as_str()),
             None => None,
@@ -127,6 +128,7 @@ impl Sources {
         let Some(wanted) = self.wanted() else {
             return Ok(());
         };
+        // A copy: the list that has the path may grow below, by what the file imports.
         let path = String::from_str(self.alloc, wanted)?;
         let read = read_text(self.alloc, text.as_slice())?;
         let first = self.tokens;

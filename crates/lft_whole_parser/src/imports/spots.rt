@@ -29,6 +29,7 @@ fn after(text: &[u8], at: usize, spot: Spot) -> Spot
             column: 1,
         };
     }
+    // The bytes of a letter behind its first move no column.
     if begins_letter(byte) {
         return Spot {
             line: spot.line,
