@@ -49,7 +49,7 @@ fn written_by(alloc: Global, steps: &[Step]) -> Result<BTreeMap<u32, Value>, NoM
 }
 
 /// The count of the action, or 0.
-fn count_of(counts: &BTreeMap<u32, usize>, action: u32) -> usize
+pub(crate) fn count_of(counts: &BTreeMap<u32, usize>, action: u32) -> usize
     ensures { result ≡ unwrap_or (get nat_cmp counts.now action) 0 }
 {
     counts.get(&action).copied().unwrap_or(0)

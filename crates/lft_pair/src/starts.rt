@@ -8,6 +8,7 @@ ghost use Rattle.lft_pair.specs.inner.Places.{AreLastStarts, AreRowsUpTo, AreRow
 
 use lft_ir::steps::{Row, is_start, row_at};
 use lft_lists::item_at;
+use lft_races::is_start_at;
 use lft_tag::{NoMemory, Tag};
 use std::alloc::Global;
 
@@ -21,15 +22,11 @@ pub(crate) struct StartPlaces {
 }
 
 /// Whether the row at the place starts the reaction's run at the tag.
-fn is_start_at(rows: &[Row], tag: Tag, reaction: u32, place: usize) -> bool
+fn starts_at(rows: &[Row], tag: Tag, reaction: u32, place: usize) -> bool
     ensures { IsTrue result ↔ StartsAt rows.now tag reaction place }
 {
     // The place may be of no row at all: 0 stands for none, and the trace may be empty.
-    if place >= rows.len() {
-        return false;
-    }
-    let row = row_at(rows, place);
-    is_start(&row.step) && row.tag.is_same(tag) && row.reaction == reaction
+    place < rows.len() && is_start_at(rows, tag, reaction, place)
 }
 
 /// No row is read.
@@ -82,7 +79,7 @@ impl StartPlaces {
     {
         self.read_to(rows, tag);
         let place = item_at(self.places.as_slice(), reaction as usize);
-        if is_start_at(rows, tag, reaction, place) {
+        if starts_at(rows, tag, reaction, place) {
             Some(place)
         } else {
             None

@@ -1,10 +1,10 @@
 //! What a run answered for its effects, and in which rows.
 
-ghost use Rattle.std.specs.Prelude.{◌≡◌, IfOk, length, slice_get, unwrap_or};
-ghost use Rattle.std.specs.{BTreeMap.get, Ordering.nat_cmp};
+ghost use Rattle.std.specs.Prelude.{◌≡◌, IfOk, length, slice_get};
 ghost use Rattle.lft_pair.specs.Runs.{request_of_step as the_request_of, last_write as the_last_write, schedulings as the_schedulings, first_request as the_first_request};
 ghost use Rattle.lft_pair.specs.inner.Answered.{writing as the_writing, action_scheduled as the_scheduled, AreLastWrites, AreSchedulings};
 
+use crate::answers::count_of;
 use crate::contrasting::contrasts::{LastWrite, Placed, Scheduling};
 use lft_ir::Name;
 use lft_ir::steps::Step;
@@ -58,13 +58,6 @@ fn scheduled(placed: Placed) -> Option<(u32, Scheduling)>
         )),
         _ => None,
     }
-}
-
-/// The count of the action, or 0.
-fn count_of(counts: &BTreeMap<u32, usize>, action: u32) -> usize
-    ensures { result ≡ unwrap_or (get nat_cmp counts.now action) 0 }
-{
-    counts.get(&action).copied().unwrap_or(0)
 }
 
 /// The schedulings of a run: how many each action has, and each under its action and its place among

@@ -1,23 +1,14 @@
 //! Causes of events, looked up by a key and a tag. The key is the origin of a port, or the number of
 //! all ports and that of an action.
 
-ghost use Rattle.std.specs.Prelude.{◌↔◌, List, IsTrue};
+ghost use Rattle.std.specs.Prelude.{List};
 ghost use Rattle.lft_ir.specs.declared.steps.row.Row.{Row as TheRow};
 ghost use Rattle.lft_model.specs.Plans.{PlanParts};
-ghost use Rattle.lft_rows.specs.inner.Presence.Causes.{tag_of, IsNear, AreAscending, AreNear, AreCauses, Leads, IsLastCause};
-ghost use Rattle.lft_rows.specs.inner.Presence.Lookups.{IsFirstCause, IsLastBefore, IsFirstAfter};
+ghost use Rattle.lft_rows.specs.inner.Presence.{Causes.{AreAscending, AreNear, AreCauses, IsLastCause}, Lookups.{IsFirstCause, IsLastBefore, IsFirstAfter}};
 
-use crate::presence::causes::{EventCause, cause_tag, moved, position};
+use crate::presence::causes::{EventCause, leads, position};
 use lft_lists::item_at;
 use lft_tag::{Shift, Tag};
-
-/// Whether the cause is of the key and the shift leads from its tag to this one.
-fn leads(cause: EventCause, key: u32, shift: Shift, tag: Tag) -> bool
-    requires { IsNear (tag_of cause) }
-    ensures { IsTrue result ↔ Leads key (shift.time, shift.steps) tag cause }
-{
-    cause.name == key && moved(cause_tag(cause), shift).is_same(tag)
-}
 
 /// Of the causes of the key from whose tags the shift leads to the tag the first.
 pub fn first_cause(causes: &[EventCause], key: u32, shift: Shift, tag: Tag) -> Option<EventCause>

@@ -5,8 +5,9 @@ ghost use Rattle.lft_ir.specs.Sound.{IsNameOf};
 ghost use Rattle.lft_model.specs.Presence.{At, IsPresent};
 ghost use Rattle.lft_rows.specs.inner.Presence.Causes.{IsCause, IsLastCause, IsValueFrom, Carries, value_of as the_value_of};
 
-use crate::presence::causes::{EventCause, leads, position};
+use crate::presence::causes::EventCause;
 use crate::presence::events::Presence;
+use crate::presence::lookup::last_cause;
 use lft_ir::steps::{Step, row_at};
 use lft_ir::{Name, Value};
 use lft_lists::item_at;
@@ -31,17 +32,7 @@ impl<'a> Presence<'a> {
     fn last_cause(&self, name: u32, shift: Shift, tag: Tag) -> Option<EventCause>
         ensures { IsLastCause self.now.plan self.now.rows name (shift.time, shift.steps) tag result }
     {
-        let causes = self.causes();
-        let end = position(causes, name, shift, tag, true);
-        if end == 0 {
-            return None;
-        }
-        let last = item_at(causes, end - 1);
-        if leads(last, name, shift, tag) {
-            Some(last)
-        } else {
-            None
-        }
+        last_cause(self.causes(), name, shift, tag)
     }
 
     /// The value that stands at the place of the cause.
