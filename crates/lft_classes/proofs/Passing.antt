@@ -11,7 +11,7 @@ use Rattle.lft_classes.specs.Shapes.{width_of}
 use Rattle.lft_classes.proofs.Marking.{AnyBelow}
 use Rattle.lft_whole.specs.declared.tree.Count.TheVariants as count
 use Rattle.lft_whole.specs.declared.tree.Member.TheVariants as member
-use Rattle.lft_whole.specs.declared.tree.Value.TheVariants as value
+use Rattle.lft_whole.specs.declared.tree.WrittenValue.TheVariants as value
 use Rattle.lft_classes.specs.declared.shapes.OwnThing.TheVariants as thing
 
 -- a name is that of one parameter

@@ -7,7 +7,7 @@ ghost use Rattle.lft_classes.specs.inner.Needs.{AreNeedMarks, HasNeed, IsParamet
 
 use crate::shapes::{Inherited, Shape};
 use lft_whole::sources::{NoProgram, Why};
-use lft_whole::{Assignment, Connection, Count, Expression, Instance, Member, Value, Width};
+use lft_whole::{Assignment, Connection, Count, Expression, Instance, Member, Width, WrittenValue};
 use std::alloc::Global;
 
 /// For each parameter of a shape whether it decides a width, and whether it is a time.
@@ -23,7 +23,7 @@ fn named(shape: &Shape, value: &Expression) -> Option<usize>
     ensures none { IfNone result ((n : ℕ) → IsParameterIn shape.now value.now n → ⊥) }
 {
     match &value.value {
-        Value::Word(word) => shape.parameter(word.as_str()),
+        WrittenValue::Word(word) => shape.parameter(word.as_str()),
         _ => None,
     }
 }

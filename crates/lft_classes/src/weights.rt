@@ -1,8 +1,8 @@
 //! How much there is to a member: its names in bytes, and its parts.
 
 use lft_whole::{
-    Assignment, Count, Effect, Expression, Member, Name, Parameter, Reference, Trigger, Value,
-    Width,
+    Assignment, Count, Effect, Expression, Member, Name, Parameter, Reference, Trigger, Width,
+    WrittenValue,
 };
 
 /// A name, counted in bytes.
@@ -37,7 +37,7 @@ fn of_value(value: &Option<Expression>) -> u64 {
 
 fn of_expression(expression: &Expression) -> u64 {
     match &expression.value {
-        Value::Word(word) => (word.len() as u64).saturating_add(1),
+        WrittenValue::Word(word) => (word.len() as u64).saturating_add(1),
         _ => 1,
     }
 }

@@ -7,7 +7,7 @@ use Rattle.std.proofs.lemmas.Option.{option_and_then_some, slice_get-map}
 use Rattle.std.proofs.Math.Seq.{drop-cons, drop-length}
 use Rattle.lft_lists.proofs.{Mapped.{mapped_at, option_map_some}, Places.{Some_same, get_unwritten, get_written, same_some}}
 use Rattle.lft_elaborate.specs.{Channels.Channels.below, inner.Values.{IsUnsized, Valued, given_to, inside, is_sized, setting_of, value_inside, values_inside}}
-use Rattle.lft_whole.specs.declared.tree.{Expression.Expression, Value.Value}
+use Rattle.lft_whole.specs.declared.tree.{Expression.Expression, WrittenValue.WrittenValue}
 use Rattle.lft_classes.{specs.{declared.shapes.{Child.Child, GivenValue.GivenValue, Shape.Shape}, inner.Shapes.child_at}, proofs.Rows.map_alike}
 
 -- one more of a list that is made by number
@@ -17,7 +17,7 @@ numbered_more g f xs x p so_far is =
     map_push g xs x ∙ ap (λ l. l ++ g x ∷ []) so_far ∙ ap (λ y. map f (below p) ++ y ∷ []) (sym is) ∙ sym (map-range_with_len_more f 0 p p e)
 
 -- what is seen of values that are given
-abbrev seen : Option (Bor Expression) → Option Value
+abbrev seen : Option (Bor Expression) → Option WrittenValue
 seen found = option_map (λ value. value.now.value) found
 
 all_same : {X Y : Type 0} (f : X → Y) (n p : ℕ) (x : X) → p < n → slice_get (map f (replicate n x)) p ≡ Some (f x)

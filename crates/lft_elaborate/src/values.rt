@@ -6,7 +6,7 @@ ghost use Rattle.lft_elaborate.specs.inner.Values.{value_for_parameter, default_
 
 use lft_classes::{Child, Shape};
 use lft_whole::sources::{NoProgram, Why};
-use lft_whole::{Expression, Value};
+use lft_whole::{Expression, WrittenValue};
 use std::alloc::{AllocError, Global};
 
 /// A number of this size or more is as good as this one: it passes every limit.
@@ -33,11 +33,11 @@ fn signed(is_negative: bool, count: u64) -> i64
 }
 
 /// The whole number that a value writes out.
-fn literal(value: &Value) -> Option<i64>
+fn literal(value: &WrittenValue) -> Option<i64>
     ensures { result ≡ literal value.now }
 {
     match value {
-        Value::Number {
+        WrittenValue::Number {
             is_negative,
             count,
             // With a unit it is a time, and so no width.
@@ -67,7 +67,7 @@ fn number(shape: &Shape, values: &[i64], file: usize, value: &Expression) -> Res
     ensures lacking { IfErr result (IsLacking (number_in shape.now (map (λ v. Some v) values.now) value.now.value) (Some value.now.value)) }
 {
     let found = match &value.value {
-        Value::Word(word) => number_named(shape, values, word.as_str()),
+        WrittenValue::Word(word) => number_named(shape, values, word.as_str()),
         other => literal(other),
     };
     match found {

@@ -25,7 +25,7 @@ use lft_tree::{Action, Item, Member, Parameter, Port, Reactor, Time, TimeExpress
 use lft_whole::sources::{NoProgram, Why};
 use lft_whole::{
     Action as WrittenAction, Expression, Member as Written, Name, Reactor as WrittenReactor,
-    Timer as WrittenTimer, Value,
+    Timer as WrittenTimer, WrittenValue,
 };
 use std::alloc::{AllocError, Global};
 
@@ -52,7 +52,7 @@ fn default(inherited: InheritedParameter, is_main: bool) -> Result<Time, NoProgr
     };
     match &value.value {
         // Told apart from what is no time at all, since what to write in its place is another thing.
-        Value::Word(_) => Err(NoProgram::at(Why::DefaultByName, file, value.at)),
+        WrittenValue::Word(_) => Err(NoProgram::at(Why::DefaultByName, file, value.at)),
         _ => written(file, value),
     }
 }

@@ -11,15 +11,15 @@ use lft_classes::{InheritedParameter, OwnThing, Shape};
 use lft_resolve::times::nanoseconds;
 use lft_tree::{Time, TimeExpression};
 use lft_whole::sources::{NoProgram, Why};
-use lft_whole::{Expression, Value};
+use lft_whole::{Expression, WrittenValue};
 use std::alloc::Global;
 
 /// The time that a value writes out, if it is one.
-fn time_in(value: &Value) -> Option<Time>
+fn time_in(value: &WrittenValue) -> Option<Time>
     ensures { result ≡ time_of_value value.now }
 {
     match value {
-        Value::Number {
+        WrittenValue::Number {
             is_negative: false,
             count,
             unit: Some(unit),
@@ -27,7 +27,7 @@ fn time_in(value: &Value) -> Option<Time>
             count: *count,
             unit: Some(*unit),
         }),
-        Value::Number {
+        WrittenValue::Number {
             is_negative: false,
             count: 0,
             unit: None,
@@ -59,7 +59,7 @@ pub(crate) fn written(file: usize, value: &Expression) -> Result<Time, NoProgram
 pub(crate) fn is_zero(value: &Expression) -> bool
     ensures { result ≡ not (is_some_time value.now.value) }
 {
-    matches!(value.value, Value::Number { count: 0, .. })
+    matches!(value.value, WrittenValue::Number { count: 0, .. })
 }
 
 /// Whether a value is the word `forever`.
@@ -67,16 +67,16 @@ pub(crate) fn is_forever(value: &Expression) -> bool
     ensures { result ≡ is_forever value.now.value }
 {
     match &value.value {
-        Value::Word(word) => word.as_str() == "forever",
+        WrittenValue::Word(word) => word.as_str() == "forever",
         _ => false,
     }
 }
 
 /// The parameter of the reactor whose name a value is.
-fn named_by<'a>(shape: &Shape<'a>, value: &Value) -> Option<InheritedParameter<'a>>
+fn named_by<'a>(shape: &Shape<'a>, value: &WrittenValue) -> Option<InheritedParameter<'a>>
     ensures { result ≡ named_by shape.now value.now }
 {
-    let Value::Word(word) = value else {
+    let WrittenValue::Word(word) = value else {
         return None;
     };
     match shape.find(word.as_str()) {
@@ -99,7 +99,7 @@ pub(crate) fn read_time(
     let file = within.file;
     let at = within.token(value.at);
     let found = named_by(within.shape, &value.value);
-    let Value::Word(word) = &value.value else {
+    let WrittenValue::Word(word) = &value.value else {
         let time = written(file, value)?;
         return Ok(TimeExpression::Written { time, at });
     };

@@ -10,7 +10,7 @@ use Rattle.lft_resolve.specs.inner.Expansion.Joins.{AreSites, AreSources}
 use Rattle.lft_resolve.specs.inner.Expansion.Sources.{AreReached, IsFolded, IsReached, LeadsBackwards, ChainOrigin, itself, over}
 use Rattle.lft_resolve.specs.inner.Expansion.Ways.{HaveSites, IsWayBack, LeadsBack}
 use Rattle.lft_resolve.specs.{Causes.longest, Instances.Thing}
-use Rattle.lft_resolve.proofs.ExpansionLemmas.{Settled.leads_from, Backwards.{end_back, ring_back}}
+use Rattle.lft_resolve.proofs.ExpansionLemmas.{Chains.leads_from, Backwards.{end_back, ring_back}}
 use Rattle.lft_program.specs.inner.{Linking.IsTooLong, Nests.IsNest, Tables.{AreTables, IsLawful}, Ways.{IsJoined, IsLongChain, IsRing, LeadBack}}
 use Rattle.lft_program.specs.{Located.{Located, ports_in}, declared.nesting.{linking.Way.Way, nest.Nest.Nest, tables.Tables.Tables}}
 use Rattle.lft_program.proofs.{Connected.{NoLongTime, TreeSources, joined_by, tree_sources}, Lengths.last_of}

@@ -1,9 +1,8 @@
 pub mod Pairs
 pub mod Orders
 pub mod Walks
-pub mod Settling
 pub mod Folding
-pub mod Settled
+pub mod Chains
 pub mod Backwards
 pub mod Limits
 pub mod Simulation

@@ -16,7 +16,7 @@ pub use census::count_instances;
 pub use joins::{Connections, End, Join, PortSources, Site, find_sources};
 pub use nesting::Children;
 pub use numbering::{Thing, count_things, first_numbers, list_things};
-pub use origins::{OriginFault, Reached, find_origins};
+pub use origins::{Reached, find_origins};
 pub use settings::{Clock, Given, Parameters, Values};
 pub use walk::{Contents, Instance, WalkFault, all_instances};
 pub use ways::way_back;

@@ -8,7 +8,7 @@ use Rattle.lft_tree.specs.{Tree.{AssignmentTree, ParameterTree, ReactorTree, Tim
 use Rattle.lft_resolve.specs.Causes.{longest}
 use Rattle.lft_resolve.specs.Instances.{Inside as CoreInside, given_in as core_given_in, given_or_default as core_given_or_default, main_instance as core_main, time_in as core_time_in, value_of}
 use Rattle.lft_program.{proofs.{FullNames.all_at, Zipping.then_some}, specs.Flattening.time_or_zero}
-use Rattle.lft_whole.specs.declared.{sources.source.SourceFile.SourceFile, tree.{Assignment.Assignment, Expression.Expression, Instance.Instance, Value.Value}}
+use Rattle.lft_whole.specs.declared.{sources.source.SourceFile.SourceFile, tree.{Assignment.Assignment, Expression.Expression, Instance.Instance, WrittenValue.WrittenValue}}
 use Rattle.lft_classes.specs.declared.shapes.{Child.Child, GivenValue.GivenValue, InheritedParameter.InheritedParameter, Shape.Shape}
 use Rattle.lft_classes.specs.inner.Shapes.{child_at, thing_named}
 use Rattle.lft_classes.proofs.Rows.{map_alike}
@@ -23,7 +23,7 @@ use Rattle.lft_same.specs.Expanded.Reactors.{Class, class_named, is_named, main_
 use Rattle.lft_same.specs.inner.{Fits.Fits.{Fits, IsShapeOf}, Times.{HasParameterTimes, IsKnown, time_named}}
 use Rattle.lft_same.proofs.FitsLemmas.{Fitting.parameter_is, Giving.{IsGivenBy, find_some}, MemberNames.value_found, Nested.{given_law, main_law}}
 use Rattle.lft_whole.specs.declared.tree.Member.TheVariants as member
-use Rattle.lft_whole.specs.declared.tree.Value.TheVariants as value
+use Rattle.lft_whole.specs.declared.tree.WrittenValue.TheVariants as value
 use Rattle.lft_classes.specs.declared.shapes.OwnThing.TheVariants as thing
 
 -- ---- reading
@@ -39,7 +39,7 @@ value_by f (p ∷ ps) q m = go (bytes_eq q p.name) refl m (value_by f ps q)
     go false e (inr n) rest = rest n
 
 -- a time that is written out
-time_is : (v : Value) (t : Time) → time_of_value v ≡ Some t → nanoseconds t ≡ time_of v
+time_is : (v : WrittenValue) (t : Time) → time_of_value v ≡ Some t → nanoseconds t ≡ time_of v
 time_is (value.Number false count (Some unit)) t e = let s : Some (record { count = count; unit = Some unit }) ≡ Some t = e in ap nanoseconds (sym (Some_same (record { count = count; unit = Some unit }) t s))
 time_is (value.Number false zero None) t e = let s : Some (record { count = 0; unit = None }) ≡ Some t = e in ap nanoseconds (sym (Some_same (record { count = 0; unit = None }) t s))
 time_is (value.Number false (suc n) None) t e = absurd (cc)
@@ -49,7 +49,7 @@ time_is value.Code t e = absurd (cc)
 time_is value.Other t e = absurd (cc)
 
 -- what becomes of a value is read as its time
-read_time : (files : List SourceFile) (x : Inside) (core : CoreInside) (v : Value) (t : TimeTree) → HasParameterTimes files x core → time_for v ≡ Some t → IsKnown core.reactor.parameters t → core_time_in core t ≡ option_map_or time_of (read_in files x v) 0
+read_time : (files : List SourceFile) (x : Inside) (core : CoreInside) (v : WrittenValue) (t : TimeTree) → HasParameterTimes files x core → time_for v ≡ Some t → IsKnown core.reactor.parameters t → core_time_in core t ≡ option_map_or time_of (read_in files x v) 0
 read_time files x core (value.Word q) t has e known =
     let s : Named (string_bytes q) ≡ t = Some_same (Named (string_bytes q)) t e in
     let k : Contains (map (λ p. p.name) core.reactor.parameters) (string_bytes q) = subst (IsKnown core.reactor.parameters) (sym s) known in
@@ -61,7 +61,7 @@ read_time files x core value.Code t has e known = absurd (cc)
 read_time files x core value.Other t has e known = absurd (cc)
 
 -- what can be read as a time becomes one
-pub becomes : (shape : Shape) (v : Value) → IsTime shape v → (t : TimeTree) × (time_for v ≡ Some t)
+pub becomes : (shape : Shape) (v : WrittenValue) → IsTime shape v → (t : TimeTree) × (time_for v ≡ Some t)
 becomes shape (value.Word q) is = (Named (string_bytes q), refl)
 becomes shape (value.Number negative n unit) is = go (time_of_value (value.Number negative n unit)) is
   where
@@ -95,7 +95,7 @@ module _ (outer inner : Shape) (n : ℕ) (ip : InheritedParameter) (at : slice_g
   given_tree p time = record { name = string_bytes p.parameter.now.name.text; value = time }
 
   -- what is found for a value that is given
-  abbrev IsFound : Option Value → Option AssignmentTree → Type 0
+  abbrev IsFound : Option WrittenValue → Option AssignmentTree → Type 0
   IsFound None a = a ≡ None
   IsFound (Some v) a = (t : TimeTree) × (time_for v ≡ Some t) × (a ≡ Some (given_tree ip t))
 
@@ -185,7 +185,7 @@ is_timed_one shape p stands = go m.0 (is_timed shape m.0) refl m.2
 
 module _ (files : List SourceFile) (shape : Shape) (x : Inside) (is : IsShapeOf files shape x.class) where
   -- a parameter has the value at its place
-  value_there : (p : ParameterTree) (one : IsTimed shape p) (v : Option Value) → slice_get x.values one.n ≡ Some v → time_named files x p.name ≡ option_map_or time_of v 0
+  value_there : (p : ParameterTree) (one : IsTimed shape p) (v : Option WrittenValue) → slice_get x.values one.n ≡ Some v → time_named files x p.name ≡ option_map_or time_of v 0
   value_there p one v has = ap (λ o. option_map_or time_of o 0) (ap (value_named files x) one.name ∙ value_found files shape x is (string_bytes one.ip.parameter.now.name.text) one.n v ((is.names (string_bytes one.ip.parameter.now.name.text) (thing.Parameter one.n)).1 (one.ip, one.at, refl)) has)
 
   alone : (n : ℕ) (ip : InheritedParameter) → slice_get shape.parameters.items n ≡ Some ip → (k : ℕ) (other : InheritedParameter) → slice_get shape.parameters.items k ≡ Some other → string_bytes ip.parameter.now.name.text ≡ string_bytes other.parameter.now.name.text → k ≡ n

@@ -21,5 +21,5 @@ pub use lft_tree::{Time, TimeUnit};
 pub use tree::{
     Action, Assignment, Connection, Count, Effect, Expression, File, Foreign, Import, ImportedName,
     Instance, Member, Name, Parameter, Port, Reaction, Reactor, Reference, Term, Timeout, Timer,
-    Trigger, Value, Width,
+    Trigger, Width, WrittenValue,
 };

@@ -2,7 +2,7 @@
 //! token to the part and the place behind it.
 
 pub mod groups;
-pub mod input;
+pub mod lexed;
 pub mod names;
 pub mod references;
 pub mod tokens;

@@ -25,7 +25,7 @@ pub struct Reference {
 
 /// What is given to a parameter, or where a time stands.
 #[derive(Debug, Drop)]
-pub enum Value {
+pub enum WrittenValue {
     /// A whole number, or a time where it has a unit. From 2^64 on it counts as 2^64 - 1. A 0 isn't negative.
     Number {
         is_negative: bool,
@@ -44,7 +44,7 @@ pub enum Value {
 /// A value as written. It begins at the token `at`.
 #[derive(Debug, Drop)]
 pub struct Expression {
-    pub value: Value,
+    pub value: WrittenValue,
     pub at: usize,
 }
 

@@ -5,7 +5,7 @@ ghost use Rattle.lft_whole.specs.inner.Parts.{Parsing.{count, Within, Further, N
 ghost use Rattle.lft_whole.specs.Parts.View.{reference_view, expression_view, connection_view};
 ghost use Rattle.lft_whole_parser.specs.Grammar as Grammar;
 
-use lft_whole::parts::input::Input;
+use lft_whole::parts::lexed::LexedText;
 use lft_whole::parts::references::{is_interleaved, references};
 use lft_whole::parts::tokens::{
     is_arrow, is_key, is_symbol, is_tilde_arrow, is_word, past_any, symbol,
@@ -14,7 +14,7 @@ use lft_whole::parts::values::expression;
 use lft_whole::{Connection, Expression, Reference, TreeFault};
 
 /// Whether what stands here goes on with a connection that begins before it.
-fn goes_on(input: &Input, at: usize) -> bool
+fn goes_on(input: &LexedText, at: usize) -> bool
     ensures is { result ≡ Grammar.on_rest (source input.now) at }
     ensures inside { result ≡ true → at < count input.now }
 {
@@ -25,7 +25,7 @@ fn goes_on(input: &Input, at: usize) -> bool
 }
 
 /// Whether a connection begins here.
-pub fn is_connection(input: &Input, at: usize) -> bool
+pub fn is_connection(input: &LexedText, at: usize) -> bool
     ensures is { result ≡ Grammar.on_connection (source input.now) at }
     ensures inside { result ≡ true → at < count input.now }
 {
@@ -37,7 +37,7 @@ pub fn is_connection(input: &Input, at: usize) -> bool
 
 /// The left side, and whether it is taken over and over.
 #[tactic(auto, unfolding(crate::specs::Grammar::left_side))]
-fn left_side(input: &Input, at: usize) -> Result<(Vec<Reference>, bool, usize), TreeFault>
+fn left_side(input: &LexedText, at: usize) -> Result<(Vec<Reference>, bool, usize), TreeFault>
     requires { Within input.now at }
     ensures gives { Gives (λ x. ((map reference_view x.0.items, x.1), x.2)) result (Grammar.left_side (source input.now) at) }
     ensures ok { IfOk result (λ x. Further input.now at x.2) }
@@ -59,7 +59,7 @@ fn left_side(input: &Input, at: usize) -> Result<(Vec<Reference>, bool, usize), 
 
 /// An arrow: whether it is `~>`.
 #[tactic(auto, unfolding(crate::specs::Grammar::arrow))]
-fn arrow(input: &Input, at: usize) -> Result<(bool, usize), TreeFault>
+fn arrow(input: &LexedText, at: usize) -> Result<(bool, usize), TreeFault>
     requires { Within input.now at }
     ensures gives { Gives (λ x. (x.0, x.1)) result (Grammar.arrow (source input.now) at) }
     ensures ok { IfOk result (λ x. Further input.now at x.1) }
@@ -78,7 +78,7 @@ fn arrow(input: &Input, at: usize) -> Result<(bool, usize), TreeFault>
 
 /// The delay behind `after`, which may be left out.
 #[tactic(auto, unfolding(crate::specs::Grammar::delay))]
-fn delay(input: &Input, at: usize) -> Result<(Option<Expression>, usize), TreeFault>
+fn delay(input: &LexedText, at: usize) -> Result<(Option<Expression>, usize), TreeFault>
     requires { Within input.now at }
     ensures gives { Gives (λ x. (option_map expression_view x.0, x.1)) result (Grammar.delay (source input.now) at) }
     ensures ok { IfOk result (λ x. NotBefore input.now at x.1) }
@@ -93,7 +93,7 @@ fn delay(input: &Input, at: usize) -> Result<(Option<Expression>, usize), TreeFa
 
 /// The place behind `serializer` and its name, which may be left out.
 #[tactic(auto, unfolding(crate::specs::Grammar::serializer))]
-fn past_serializer(input: &Input, at: usize) -> usize
+fn past_serializer(input: &LexedText, at: usize) -> usize
     requires { Within input.now at }
     ensures gives { Grammar.serializer (source input.now) at ≡ Ok (tt, result) }
     ensures inside { NotBefore input.now at result }
@@ -107,7 +107,7 @@ fn past_serializer(input: &Input, at: usize) -> usize
 }
 
 #[tactic(auto, unfolding(crate::specs::Grammar::connection))]
-pub fn connection(input: &Input, at: usize) -> Result<(Connection, usize), TreeFault>
+pub fn connection(input: &LexedText, at: usize) -> Result<(Connection, usize), TreeFault>
     requires { Within input.now at }
     ensures gives { Gives (λ x. (connection_view x.0, x.1)) result (Grammar.connection (source input.now) at) }
     ensures ok { IfOk result (λ x. Further input.now at x.1) }

@@ -6,7 +6,7 @@ ghost use Rattle.lft_whole.specs.Parts.View.{port_view, timer_view, action_view}
 ghost use Rattle.lft_whole_parser.specs.Grammar as Grammar;
 
 use lft_whole::parts::groups::group;
-use lft_whole::parts::input::Input;
+use lft_whole::parts::lexed::LexedText;
 use lft_whole::parts::names::{name, skip_name};
 use lft_whole::parts::tokens::{code, is_key, key, past_key};
 use lft_whole::parts::types::typed;
@@ -16,7 +16,7 @@ use lft_whole::{Action, Port, Timer, TreeFault};
 
 /// `input` or `output`: whether it is `input`.
 #[tactic(auto, unfolding(crate::specs::Grammar::direction))]
-fn direction(input: &Input, at: usize) -> Result<(bool, usize), TreeFault>
+fn direction(input: &LexedText, at: usize) -> Result<(bool, usize), TreeFault>
     requires { Within input.now at }
     ensures gives { Gives (λ x. (x.0, x.1)) result (Grammar.direction (source input.now) at) }
     ensures ok { IfOk result (λ x. Further input.now at x.1) }
@@ -30,7 +30,7 @@ fn direction(input: &Input, at: usize) -> Result<(bool, usize), TreeFault>
 }
 
 #[tactic(auto, unfolding(crate::specs::Grammar::port))]
-pub fn port(input: &Input, at: usize) -> Result<(Port, usize), TreeFault>
+pub fn port(input: &LexedText, at: usize) -> Result<(Port, usize), TreeFault>
     requires { Within input.now at }
     ensures gives { Gives (λ x. (port_view x.0, x.1)) result (Grammar.port (source input.now) at) }
     ensures ok { IfOk result (λ x. Further input.now at x.1) }
@@ -53,7 +53,7 @@ pub fn port(input: &Input, at: usize) -> Result<(Port, usize), TreeFault>
 }
 
 #[tactic(auto, unfolding(crate::specs::Grammar::timer))]
-pub fn timer(input: &Input, at: usize) -> Result<(Timer, usize), TreeFault>
+pub fn timer(input: &LexedText, at: usize) -> Result<(Timer, usize), TreeFault>
     requires { Within input.now at }
     ensures gives { Gives (λ x. (timer_view x.0, x.1)) result (Grammar.timer (source input.now) at) }
     ensures ok { IfOk result (λ x. Further input.now at x.1) }
@@ -74,7 +74,7 @@ pub fn timer(input: &Input, at: usize) -> Result<(Timer, usize), TreeFault>
 
 /// `logical` or `physical`: whether it is `physical`.
 #[tactic(auto, unfolding(crate::specs::Grammar::origin))]
-fn origin(input: &Input, at: usize) -> Result<(bool, usize), TreeFault>
+fn origin(input: &LexedText, at: usize) -> Result<(bool, usize), TreeFault>
     requires { Within input.now at }
     ensures gives { Gives (λ x. (x.0, x.1)) result (Grammar.origin (source input.now) at) }
     ensures ok { IfOk result (λ x. Further input.now at x.1) }
@@ -88,7 +88,7 @@ fn origin(input: &Input, at: usize) -> Result<(bool, usize), TreeFault>
 }
 
 #[tactic(auto, unfolding(crate::specs::Grammar::action))]
-pub fn action(input: &Input, at: usize) -> Result<(Action, usize), TreeFault>
+pub fn action(input: &LexedText, at: usize) -> Result<(Action, usize), TreeFault>
     requires { Within input.now at }
     ensures gives { Gives (λ x. (action_view x.0, x.1)) result (Grammar.action (source input.now) at) }
     ensures ok { IfOk result (λ x. Further input.now at x.1) }
@@ -111,7 +111,7 @@ pub fn action(input: &Input, at: usize) -> Result<(Action, usize), TreeFault>
 }
 
 /// Whether the word here says how far a preamble is seen.
-fn is_scope(input: &Input, at: usize) -> bool
+fn is_scope(input: &LexedText, at: usize) -> bool
     ensures is { result ≡ Grammar.on_scope (source input.now) at }
     ensures inside { result ≡ true → at < count input.now }
 {
@@ -119,7 +119,7 @@ fn is_scope(input: &Input, at: usize) -> bool
 }
 
 /// Whether a preamble begins here.
-pub fn is_preamble(input: &Input, at: usize) -> bool
+pub fn is_preamble(input: &LexedText, at: usize) -> bool
     ensures is { result ≡ Grammar.on_preamble (source input.now) at }
     ensures inside { result ≡ true → at < count input.now }
 {
@@ -127,7 +127,7 @@ pub fn is_preamble(input: &Input, at: usize) -> bool
 }
 
 #[tactic(auto, unfolding(crate::specs::Grammar::preamble))]
-pub fn preamble(input: &Input, at: usize) -> Result<usize, TreeFault>
+pub fn preamble(input: &LexedText, at: usize) -> Result<usize, TreeFault>
     requires { Within input.now at }
     ensures gives { Gives at_next result (Grammar.preamble (source input.now) at) }
     ensures ok { IfOk result (Further input.now at) }
@@ -140,7 +140,7 @@ pub fn preamble(input: &Input, at: usize) -> Result<usize, TreeFault>
 
 /// A state variable, also one with `reset`.
 #[tactic(auto, unfolding(crate::specs::Grammar::state))]
-pub fn state(input: &Input, at: usize) -> Result<usize, TreeFault>
+pub fn state(input: &LexedText, at: usize) -> Result<usize, TreeFault>
     requires { Within input.now at }
     ensures gives { Gives at_next result (Grammar.state (source input.now) at) }
     ensures ok { IfOk result (Further input.now at) }
@@ -156,7 +156,7 @@ pub fn state(input: &Input, at: usize) -> Result<usize, TreeFault>
 
 /// A method, also one with `const`.
 #[tactic(auto, unfolding(crate::specs::Grammar::method))]
-pub fn method(input: &Input, at: usize) -> Result<usize, TreeFault>
+pub fn method(input: &LexedText, at: usize) -> Result<usize, TreeFault>
     requires { Within input.now at }
     ensures gives { Gives at_next result (Grammar.method (source input.now) at) }
     ensures ok { IfOk result (Further input.now at) }

@@ -11,7 +11,7 @@ use crate::reactors::{is_reactor, reactor};
 use lft_syntax::Seen;
 use lft_tree::Time;
 use lft_whole::parts::groups::group_end;
-use lft_whole::parts::input::Input;
+use lft_whole::parts::lexed::LexedText;
 use lft_whole::parts::names::name;
 use lft_whole::parts::tokens::{is_key, is_symbol, is_text, is_there, key, peek, unit};
 use lft_whole::{File, Import, ImportedName, Name, Timeout, TreeFault};
@@ -19,7 +19,7 @@ use std::alloc::Global;
 
 /// A name of another file's reactor, and what it is called here.
 #[tactic(auto, unfolding(crate::specs::Files::imported))]
-fn imported_name(input: &Input, at: usize) -> Result<(ImportedName, usize), TreeFault>
+fn imported_name(input: &LexedText, at: usize) -> Result<(ImportedName, usize), TreeFault>
     requires { Within input.now at }
     ensures gives { Gives (λ x. (imported_view x.0, x.1)) result (Files.imported (source input.now) at) }
     ensures ok { IfOk result (λ x. Further input.now at x.1) }
@@ -36,7 +36,7 @@ fn imported_name(input: &Input, at: usize) -> Result<(ImportedName, usize), Tree
 }
 
 #[tactic(auto, unfolding(crate::specs::Files::imported_names))]
-fn imported_names(input: &Input, at: usize) -> Result<(Vec<ImportedName>, usize), TreeFault>
+fn imported_names(input: &LexedText, at: usize) -> Result<(Vec<ImportedName>, usize), TreeFault>
     requires { Within input.now at }
     ensures gives { Gives (λ x. (map imported_view x.0.items, x.1)) result (Files.imported_names (source input.now) at) }
     ensures ok { IfOk result (λ x. Further input.now at x.1) }
@@ -56,7 +56,7 @@ fn imported_names(input: &Input, at: usize) -> Result<(Vec<ImportedName>, usize)
 
 /// What stands between the quotes of a string.
 #[tactic(auto, using(crate::proofs::Targets::short_inner))]
-fn unquoted(input: &Input, at: usize) -> Result<Vec<u8>, TreeFault>
+fn unquoted(input: &LexedText, at: usize) -> Result<Vec<u8>, TreeFault>
     requires { Within input.now at }
     ensures gives { Gives (λ path. path.items) result (Ok (Files.unquoted input.now.text.now (slice_get input.now.tokens.now at))) }
     ensures err { IfErr result (Refuses input.now) }
@@ -76,7 +76,7 @@ fn unquoted(input: &Input, at: usize) -> Result<Vec<u8>, TreeFault>
 
 /// The path of another file, between quotes.
 #[tactic(auto, unfolding(crate::specs::Files::path_text))]
-fn import_path(input: &Input, at: usize) -> Result<(Vec<u8>, usize), TreeFault>
+fn import_path(input: &LexedText, at: usize) -> Result<(Vec<u8>, usize), TreeFault>
     requires { Within input.now at }
     ensures gives { Gives (λ x. ((x.0.items, at), x.1)) result (Files.path_text (source input.now) at) }
     ensures ok { IfOk result (λ x. Further input.now at x.1) }
@@ -94,7 +94,7 @@ fn import_path(input: &Input, at: usize) -> Result<(Vec<u8>, usize), TreeFault>
 }
 
 #[tactic(auto, unfolding(crate::specs::Files::import))]
-fn import(input: &Input, at: usize) -> Result<(Import, usize), TreeFault>
+fn import(input: &LexedText, at: usize) -> Result<(Import, usize), TreeFault>
     requires { Within input.now at }
     ensures gives { Gives (λ x. (import_view x.0, x.1)) result (Files.import (source input.now) at) }
     ensures ok { IfOk result (λ x. Further input.now at x.1) }
@@ -115,7 +115,7 @@ fn import(input: &Input, at: usize) -> Result<(Import, usize), TreeFault>
 }
 
 /// The time behind `timeout` and the sign after it, if one stands here, before `end`.
-fn timeout(input: &Input, at: usize, end: usize) -> Option<Timeout>
+fn timeout(input: &LexedText, at: usize, end: usize) -> Option<Timeout>
     requires { at < count input.now }
     ensures is { result ≡ Files.timeout_at (source input.now) end at }
 {
@@ -147,7 +147,7 @@ fn push_found(timeouts: &mut Vec<Timeout>, found: Option<Timeout>) -> Result<(),
 }
 
 /// The timeouts among the properties between two places.
-fn timeouts(input: &Input, first: usize, end: usize) -> Result<Vec<Timeout>, TreeFault>
+fn timeouts(input: &LexedText, first: usize, end: usize) -> Result<Vec<Timeout>, TreeFault>
     requires { end < count input.now }
     ensures gives { Gives (λ found. found.items) result (Ok (Files.timeouts (source input.now) first end)) }
     ensures err { IfErr result (Refuses input.now) }
@@ -162,7 +162,7 @@ fn timeouts(input: &Input, first: usize, end: usize) -> Result<Vec<Timeout>, Tre
 }
 
 /// Whether `coordination: decentralized` stands here, before `end`.
-fn is_decentralized(input: &Input, at: usize, end: usize) -> bool
+fn is_decentralized(input: &LexedText, at: usize, end: usize) -> bool
     requires { at < count input.now }
     ensures is { result ≡ Files.decentralized_at (source input.now) end at }
 {
@@ -170,7 +170,7 @@ fn is_decentralized(input: &Input, at: usize, end: usize) -> bool
 }
 
 /// The first place of `coordination: decentralized` among the properties between two places.
-fn decentralized(input: &Input, first: usize, end: usize) -> Option<usize>
+fn decentralized(input: &LexedText, first: usize, end: usize) -> Option<usize>
     requires { end < count input.now }
     ensures gives { result ≡ Files.decentralized (source input.now) first end }
     ensures inside { IfSome result (λ at. at < count input.now) }
@@ -185,7 +185,7 @@ fn decentralized(input: &Input, first: usize, end: usize) -> Option<usize>
 
 /// The target, with its properties if it has some. What was known of an earlier one is kept where it has none.
 #[tactic(auto, unfolding(crate::specs::Files::target))]
-fn target(input: &Input, at: usize, file: &mut File) -> Result<usize, TreeFault>
+fn target(input: &LexedText, at: usize, file: &mut File) -> Result<usize, TreeFault>
     requires { Within input.now at }
     ensures gives { Gives (λ next. (file_view file.new, next)) result (Files.target (file_view file.old) (source input.now) at) }
     ensures ok { IfOk result (Further input.now at) }
@@ -205,7 +205,7 @@ fn target(input: &Input, at: usize, file: &mut File) -> Result<usize, TreeFault>
 
 /// Reads what stands at the top of a file into it.
 #[tactic(auto, unfolding(crate::specs::Files::top), using(std::proofs::lemmas::List::map_push))]
-fn item(input: &Input, at: usize, file: &mut File) -> Result<usize, TreeFault>
+fn item(input: &LexedText, at: usize, file: &mut File) -> Result<usize, TreeFault>
     requires { Within input.now at }
     ensures gives { Gives (λ next. (file_view file.new, next)) result (Files.top (file_view file.old) (source input.now) at) }
     ensures ok { IfOk result (Further input.now at) }
@@ -245,7 +245,7 @@ fn empty(alloc: Global) -> File
 
 /// Reads what stands at the top of a file with its attributes, or a semicolon, into it.
 #[tactic(auto, unfolding(crate::specs::Files::next_top))]
-fn next_item(input: &Input, at: usize, file: &mut File) -> Result<usize, TreeFault>
+fn next_item(input: &LexedText, at: usize, file: &mut File) -> Result<usize, TreeFault>
     requires { Within input.now at }
     ensures gives { Gives (λ next. (file_view file.new, next)) result (Files.next_top (file_view file.old) (source input.now) at) }
     ensures ok { IfOk result (Further input.now at) }
@@ -260,7 +260,7 @@ fn next_item(input: &Input, at: usize, file: &mut File) -> Result<usize, TreeFau
 }
 
 /// The whole text. Semicolons may stand between what stands at its top.
-pub fn file(input: &Input) -> Result<File, TreeFault>
+pub fn file(input: &LexedText) -> Result<File, TreeFault>
     ensures gives { Gives file_view result (Files.whole_file (source input.now)) }
     ensures err { IfErr result (Refuses input.now) }
 {

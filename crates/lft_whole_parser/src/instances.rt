@@ -6,7 +6,7 @@ ghost use Rattle.lft_whole.specs.Parts.{Language.listed, View.{assignment_view, 
 ghost use Rattle.lft_whole_parser.specs.Grammar as Grammar;
 
 use lft_whole::parts::groups::past_group;
-use lft_whole::parts::input::Input;
+use lft_whole::parts::lexed::LexedText;
 use lft_whole::parts::names::name;
 use lft_whole::parts::tokens::{is_key, is_symbol, is_there, key, past_any, past_item, symbol};
 use lft_whole::parts::values::initial;
@@ -14,7 +14,7 @@ use lft_whole::parts::widths::width;
 use lft_whole::{Assignment, Instance, TreeFault};
 
 #[tactic(auto, unfolding(crate::specs::Grammar::assignment))]
-fn assignment(input: &Input, at: usize) -> Result<(Assignment, usize), TreeFault>
+fn assignment(input: &LexedText, at: usize) -> Result<(Assignment, usize), TreeFault>
     requires { Within input.now at }
     ensures gives { Gives (λ x. (assignment_view x.0, x.1)) result (Grammar.assignment (source input.now) at) }
     ensures ok { IfOk result (λ x. Further input.now at x.1) }
@@ -30,7 +30,7 @@ fn assignment(input: &Input, at: usize) -> Result<(Assignment, usize), TreeFault
 }
 
 /// An assignment, with the comma behind it.
-fn listed_assignment(input: &Input, at: usize) -> Result<(Assignment, usize), TreeFault>
+fn listed_assignment(input: &LexedText, at: usize) -> Result<(Assignment, usize), TreeFault>
     requires { Within input.now at }
     ensures gives { Gives (λ x. (assignment_view x.0, x.1)) result (listed 41 Grammar.assignment (source input.now) at) }
     ensures ok { IfOk result (λ x. Further input.now at x.1) }
@@ -42,7 +42,7 @@ fn listed_assignment(input: &Input, at: usize) -> Result<(Assignment, usize), Tr
 }
 
 /// Assignments in parentheses, of which the first stands here, and the place behind them.
-fn assignments(input: &Input, at: usize) -> Result<(Vec<Assignment>, usize), TreeFault>
+fn assignments(input: &LexedText, at: usize) -> Result<(Vec<Assignment>, usize), TreeFault>
     requires { Within input.now at }
     ensures gives { Gives (λ x. (map assignment_view x.0.items, x.1)) result (Grammar.assignments (source input.now) at) }
     ensures ok { IfOk result (λ x. Further input.now at x.1) }
@@ -59,7 +59,7 @@ fn assignments(input: &Input, at: usize) -> Result<(Vec<Assignment>, usize), Tre
 }
 
 /// Whether the token here touches the one before it.
-fn is_joined(input: &Input, at: usize) -> bool
+fn is_joined(input: &LexedText, at: usize) -> bool
     requires { 0 < at }
     ensures is { result ≡ Grammar.on_joined (source input.now) at }
     ensures inside { result ≡ true → at < count input.now }
@@ -72,7 +72,7 @@ fn is_joined(input: &Input, at: usize) -> bool
 }
 
 /// Whether a host's name goes on here.
-fn is_of_host(input: &Input, at: usize) -> bool
+fn is_of_host(input: &LexedText, at: usize) -> bool
     requires { 0 < at }
     ensures is { result ≡ Grammar.on_host (source input.now) at }
     ensures inside { result ≡ true → at < count input.now }
@@ -82,7 +82,7 @@ fn is_of_host(input: &Input, at: usize) -> bool
 }
 
 /// The place behind the rest of a host.
-fn past_rest(input: &Input, at: usize) -> usize
+fn past_rest(input: &LexedText, at: usize) -> usize
     requires within { Within input.now at }
     requires behind { 0 < at }
     ensures gives { Grammar.host_rest (source input.now) at ≡ Ok (tt, result) }
@@ -97,7 +97,7 @@ fn past_rest(input: &Input, at: usize) -> usize
 
 /// The place behind `at HOST`, which may be left out. A host is tokens without a gap.
 #[tactic(auto, unfolding(crate::specs::Grammar::host))]
-pub fn past_host(input: &Input, at: usize) -> usize
+pub fn past_host(input: &LexedText, at: usize) -> usize
     requires { Within input.now at }
     ensures gives { Grammar.host (source input.now) at ≡ Ok (tt, result) }
     ensures inside { NotBefore input.now at result }
@@ -112,7 +112,11 @@ pub fn past_host(input: &Input, at: usize) -> usize
 
 /// An instance, whose attributes have been read.
 #[tactic(auto, unfolding(crate::specs::Grammar::instance))]
-pub fn instance(input: &Input, at: usize, is_enclave: bool) -> Result<(Instance, usize), TreeFault>
+pub fn instance(
+    input: &LexedText,
+    at: usize,
+    is_enclave: bool,
+) -> Result<(Instance, usize), TreeFault>
     requires { Within input.now at }
     ensures gives { Gives (λ x. (instance_view x.0, x.1)) result (Grammar.instance is_enclave (source input.now) at) }
     ensures ok { IfOk result (λ x. Further input.now at x.1) }

@@ -17,7 +17,7 @@ mod members;
 mod reactions;
 mod reactors;
 
-use lft_whole::parts::input::Input;
+use lft_whole::parts::lexed::LexedText;
 use lft_whole::{File, Tokens, TreeFault};
 use std::alloc::Global;
 
@@ -27,7 +27,7 @@ pub fn parse(alloc: Global, text: &[u8], tokens: &Tokens) -> Result<File, TreeFa
     ensures tree { Gives file_view result (reads text.now tokens.now) }
     ensures fault { IfErr result (IsAmong tokens.now) }
 {
-    let input = Input {
+    let input = LexedText {
         alloc,
         text,
         tokens: tokens.as_slice(),

@@ -9,14 +9,14 @@ use crate::declarations::{action, is_preamble, method, port, preamble, state, ti
 use crate::instances::instance;
 use crate::reactions::{reaction, watchdog};
 use lft_whole::parts::groups::{group, past_group};
-use lft_whole::parts::input::Input;
+use lft_whole::parts::lexed::LexedText;
 use lft_whole::parts::names::skip_name;
 use lft_whole::parts::tokens::{is_key, is_symbol, is_word, key, past_key, symbol, word};
 use lft_whole::{Foreign, Member, TreeFault};
 
 /// An attribute: whether it is `@enclave`.
 #[tactic(auto, unfolding(crate::specs::Grammar::attribute))]
-fn attribute(input: &Input, at: usize) -> Result<(bool, usize), TreeFault>
+fn attribute(input: &LexedText, at: usize) -> Result<(bool, usize), TreeFault>
     requires { Within input.now at }
     ensures gives { Gives (λ x. (x.0, x.1)) result (Grammar.attribute (source input.now) at) }
     ensures ok { IfOk result (λ x. Further input.now at x.1) }
@@ -32,7 +32,11 @@ fn attribute(input: &Input, at: usize) -> Result<(bool, usize), TreeFault>
 
 /// One more attribute: whether `@enclave` is known now.
 #[tactic(auto, unfolding(crate::specs::Grammar::next_attribute))]
-fn next_attribute(input: &Input, at: usize, is_enclave: bool) -> Result<(bool, usize), TreeFault>
+fn next_attribute(
+    input: &LexedText,
+    at: usize,
+    is_enclave: bool,
+) -> Result<(bool, usize), TreeFault>
     requires { Within input.now at }
     ensures gives { Gives (λ x. (x.0, x.1)) result (Grammar.next_attribute is_enclave (source input.now) at) }
     ensures ok { IfOk result (λ x. Further input.now at x.1) }
@@ -43,7 +47,7 @@ fn next_attribute(input: &Input, at: usize, is_enclave: bool) -> Result<(bool, u
 }
 
 /// The place behind attributes, and whether `@enclave` is among them.
-pub fn attributes(input: &Input, at: usize) -> Result<(bool, usize), TreeFault>
+pub fn attributes(input: &LexedText, at: usize) -> Result<(bool, usize), TreeFault>
     requires { Within input.now at }
     ensures gives { Gives (λ x. (x.0, x.1)) result (Grammar.attributes (source input.now) at) }
     ensures ok { IfOk result (λ x. NotBefore input.now at x.1) }
@@ -60,7 +64,7 @@ pub fn attributes(input: &Input, at: usize) -> Result<(bool, usize), TreeFault>
 }
 
 /// Whether a mode begins here.
-fn is_mode(input: &Input, at: usize) -> bool
+fn is_mode(input: &LexedText, at: usize) -> bool
     ensures is { result ≡ Grammar.on_modes (source input.now) at }
     ensures inside { result ≡ true → at < count input.now }
 {
@@ -68,7 +72,7 @@ fn is_mode(input: &Input, at: usize) -> bool
 }
 
 /// Whether a port begins here.
-fn is_port(input: &Input, at: usize) -> bool
+fn is_port(input: &LexedText, at: usize) -> bool
     ensures is { result ≡ Grammar.on_port (source input.now) at }
     ensures inside { result ≡ true → at < count input.now }
 {
@@ -76,7 +80,7 @@ fn is_port(input: &Input, at: usize) -> bool
 }
 
 /// Whether an action begins here, with its origin or wrongly without.
-fn is_action(input: &Input, at: usize) -> bool
+fn is_action(input: &LexedText, at: usize) -> bool
     ensures is { result ≡ Grammar.on_action (source input.now) at }
     ensures inside { result ≡ true → at < count input.now }
 {
@@ -85,7 +89,7 @@ fn is_action(input: &Input, at: usize) -> bool
 
 /// The place behind a mode.
 #[tactic(auto, unfolding(crate::specs::Grammar::mode))]
-fn mode(input: &Input, at: usize) -> Result<usize, TreeFault>
+fn mode(input: &LexedText, at: usize) -> Result<usize, TreeFault>
     requires { Within input.now at }
     ensures gives { Gives at_next result (Grammar.mode (source input.now) at) }
     ensures ok { IfOk result (Further input.now at) }
@@ -104,7 +108,7 @@ fn mode(input: &Input, at: usize) -> Result<usize, TreeFault>
 
 /// What no core program has in its place.
 #[tactic(auto, unfolding(crate::specs::Grammar::foreign))]
-fn foreign(input: &Input, at: usize) -> Result<(Member, usize), TreeFault>
+fn foreign(input: &LexedText, at: usize) -> Result<(Member, usize), TreeFault>
     requires { Within input.now at }
     ensures gives { Gives (λ x. (member_view x.0, x.1)) result (Grammar.foreign (source input.now) at) }
     ensures ok { IfOk result (λ x. Further input.now at x.1) }
@@ -131,7 +135,7 @@ fn foreign(input: &Input, at: usize) -> Result<(Member, usize), TreeFault>
 
 /// A port, timer, action or reaction, or what no core program has in its place.
 #[tactic(auto, unfolding(crate::specs::Grammar::declared))]
-fn declared(input: &Input, at: usize) -> Result<(Member, usize), TreeFault>
+fn declared(input: &LexedText, at: usize) -> Result<(Member, usize), TreeFault>
     requires { Within input.now at }
     ensures gives { Gives (λ x. (member_view x.0, x.1)) result (Grammar.declared (source input.now) at) }
     ensures ok { IfOk result (λ x. Further input.now at x.1) }
@@ -157,7 +161,7 @@ fn declared(input: &Input, at: usize) -> Result<(Member, usize), TreeFault>
 }
 
 /// Whether an instance begins here.
-fn is_instance(input: &Input, at: usize) -> bool
+fn is_instance(input: &LexedText, at: usize) -> bool
     ensures is { result ≡ Grammar.on_instance (source input.now) at }
     ensures inside { result ≡ true → at < count input.now }
 {
@@ -166,7 +170,7 @@ fn is_instance(input: &Input, at: usize) -> bool
 
 /// A member that has a part in the tree. An instance and a connection begin with a word of any kind.
 #[tactic(auto, unfolding(crate::specs::Grammar::kept))]
-fn kept(input: &Input, at: usize, is_enclave: bool) -> Result<(Member, usize), TreeFault>
+fn kept(input: &LexedText, at: usize, is_enclave: bool) -> Result<(Member, usize), TreeFault>
     requires { Within input.now at }
     ensures gives { Gives (λ x. (member_view x.0, x.1)) result (Grammar.kept is_enclave (source input.now) at) }
     ensures ok { IfOk result (λ x. Further input.now at x.1) }
@@ -186,7 +190,7 @@ fn kept(input: &Input, at: usize, is_enclave: bool) -> Result<(Member, usize), T
 }
 
 /// Whether a state begins here.
-fn is_state(input: &Input, at: usize) -> bool
+fn is_state(input: &LexedText, at: usize) -> bool
     ensures is { result ≡ Grammar.on_state (source input.now) at }
     ensures inside { result ≡ true → at < count input.now }
 {
@@ -194,7 +198,7 @@ fn is_state(input: &Input, at: usize) -> bool
 }
 
 /// Whether a method begins here.
-fn is_method(input: &Input, at: usize) -> bool
+fn is_method(input: &LexedText, at: usize) -> bool
     ensures is { result ≡ Grammar.on_method (source input.now) at }
     ensures inside { result ≡ true → at < count input.now }
 {
@@ -202,7 +206,7 @@ fn is_method(input: &Input, at: usize) -> bool
 }
 
 /// Whether a preamble, state or method begins here, and no instance or connection.
-fn is_skipped(input: &Input, at: usize) -> bool
+fn is_skipped(input: &LexedText, at: usize) -> bool
     ensures is { result ≡ Grammar.on_skipped (source input.now) at }
     ensures inside { result ≡ true → at < count input.now }
 {
@@ -213,7 +217,7 @@ fn is_skipped(input: &Input, at: usize) -> bool
 
 /// The place behind a preamble, state or method.
 #[tactic(auto, unfolding(crate::specs::Grammar::skipped))]
-fn skipped(input: &Input, at: usize) -> Result<usize, TreeFault>
+fn skipped(input: &LexedText, at: usize) -> Result<usize, TreeFault>
     requires { Within input.now at }
     ensures gives { Gives at_next result (Grammar.skipped (source input.now) at) }
     ensures ok { IfOk result (Further input.now at) }
@@ -230,7 +234,7 @@ fn skipped(input: &Input, at: usize) -> Result<usize, TreeFault>
 
 /// A member with its attributes, if it has a part in the tree.
 #[tactic(auto, unfolding(crate::specs::Grammar::member))]
-fn member(input: &Input, at: usize) -> Result<(Option<Member>, usize), TreeFault>
+fn member(input: &LexedText, at: usize) -> Result<(Option<Member>, usize), TreeFault>
     requires { Within input.now at }
     ensures gives { Gives (λ x. (option_map member_view x.0, x.1)) result (Grammar.member (source input.now) at) }
     ensures ok { IfOk result (λ x. Further input.now at x.1) }
@@ -247,7 +251,7 @@ fn member(input: &Input, at: usize) -> Result<(Option<Member>, usize), TreeFault
 
 /// Reads a member, or a semicolon, behind other members.
 #[tactic(auto, unfolding(crate::specs::Grammar::next_member))]
-fn next_member(input: &Input, at: usize, members: &mut Vec<Member>) -> Result<usize, TreeFault>
+fn next_member(input: &LexedText, at: usize, members: &mut Vec<Member>) -> Result<usize, TreeFault>
     requires { Within input.now at }
     ensures gives { Gives (λ next. (map member_view members.new.items, next)) result (Grammar.next_member (map member_view members.old.items) (source input.now) at) }
     ensures ok { IfOk result (Further input.now at) }
@@ -265,7 +269,7 @@ fn next_member(input: &Input, at: usize, members: &mut Vec<Member>) -> Result<us
 }
 
 /// Members, and the brace behind them. Semicolons may stand between them.
-fn members(input: &Input, at: usize) -> Result<(Vec<Member>, usize), TreeFault>
+fn members(input: &LexedText, at: usize) -> Result<(Vec<Member>, usize), TreeFault>
     requires { Within input.now at }
     ensures gives { Gives (λ x. (map member_view x.0.items, x.1)) result (Grammar.members (source input.now) at) }
     ensures ok { IfOk result (λ x. Further input.now at x.1) }
@@ -282,7 +286,7 @@ fn members(input: &Input, at: usize) -> Result<(Vec<Member>, usize), TreeFault>
 
 /// The members of a reactor in their braces.
 #[tactic(auto, unfolding(crate::specs::Grammar::body))]
-pub fn body(input: &Input, at: usize) -> Result<(Vec<Member>, usize), TreeFault>
+pub fn body(input: &LexedText, at: usize) -> Result<(Vec<Member>, usize), TreeFault>
     requires { Within input.now at }
     ensures gives { Gives (λ x. (map member_view x.0.items, x.1)) result (Grammar.body (source input.now) at) }
     ensures ok { IfOk result (λ x. Further input.now at x.1) }

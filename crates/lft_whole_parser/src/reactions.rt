@@ -7,7 +7,7 @@ ghost use Rattle.lft_whole_parser.specs.Grammar as Grammar;
 
 use crate::declarations::is_preamble;
 use lft_whole::parts::groups::{group, past_group};
-use lft_whole::parts::input::Input;
+use lft_whole::parts::lexed::LexedText;
 use lft_whole::parts::names::skip_name;
 use lft_whole::parts::references::{effects, reference, references};
 use lft_whole::parts::tokens::{
@@ -16,7 +16,7 @@ use lft_whole::parts::tokens::{
 use lft_whole::{Effect, Reaction, Reference, TreeFault, Trigger};
 
 /// Whether this word stands here for itself, and not for a port of what it names.
-fn is_alone(input: &Input, at: usize, word: &[u8]) -> bool
+fn is_alone(input: &LexedText, at: usize, word: &[u8]) -> bool
     ensures is { result ≡ Grammar.on_alone word.now (source input.now) at }
     ensures inside { result ≡ true → at < count input.now }
 {
@@ -25,7 +25,7 @@ fn is_alone(input: &Input, at: usize, word: &[u8]) -> bool
 
 /// What a reaction is triggered by: a word of its own, or a reference.
 #[tactic(auto, unfolding(crate::specs::Grammar::trigger))]
-fn trigger(input: &Input, at: usize) -> Result<(Trigger, usize), TreeFault>
+fn trigger(input: &LexedText, at: usize) -> Result<(Trigger, usize), TreeFault>
     requires { Within input.now at }
     ensures gives { Gives (λ x. (trigger_view x.0, x.1)) result (Grammar.trigger (source input.now) at) }
     ensures ok { IfOk result (λ x. Further input.now at x.1) }
@@ -46,7 +46,7 @@ fn trigger(input: &Input, at: usize) -> Result<(Trigger, usize), TreeFault>
 }
 
 /// A trigger, with the comma behind it.
-fn listed_trigger(input: &Input, at: usize) -> Result<(Trigger, usize), TreeFault>
+fn listed_trigger(input: &LexedText, at: usize) -> Result<(Trigger, usize), TreeFault>
     requires { Within input.now at }
     ensures gives { Gives (λ x. (trigger_view x.0, x.1)) result (listed 41 Grammar.trigger (source input.now) at) }
     ensures ok { IfOk result (λ x. Further input.now at x.1) }
@@ -58,7 +58,7 @@ fn listed_trigger(input: &Input, at: usize) -> Result<(Trigger, usize), TreeFaul
 }
 
 /// Triggers in parentheses, of which the first stands here, and the place behind them.
-fn triggers(input: &Input, at: usize) -> Result<(Vec<Trigger>, usize), TreeFault>
+fn triggers(input: &LexedText, at: usize) -> Result<(Vec<Trigger>, usize), TreeFault>
     requires { Within input.now at }
     ensures gives { Gives (λ x. (map trigger_view x.0.items, x.1)) result (Grammar.triggers (source input.now) at) }
     ensures ok { IfOk result (λ x. Further input.now at x.1) }
@@ -75,7 +75,7 @@ fn triggers(input: &Input, at: usize) -> Result<(Vec<Trigger>, usize), TreeFault
 }
 
 /// Whether a word stands here that begins a declaration.
-fn is_declaring(input: &Input, at: usize) -> bool
+fn is_declaring(input: &LexedText, at: usize) -> bool
     ensures is { result ≡ Grammar.on_declaring (source input.now) at }
     ensures inside { result ≡ true → at < count input.now }
 {
@@ -91,7 +91,7 @@ fn is_declaring(input: &Input, at: usize) -> bool
 }
 
 /// Whether a word stands here that begins a member with code or a mode.
-fn is_coded(input: &Input, at: usize) -> bool
+fn is_coded(input: &LexedText, at: usize) -> bool
     ensures is { result ≡ Grammar.on_coded (source input.now) at }
     ensures inside { result ≡ true → at < count input.now }
 {
@@ -106,7 +106,7 @@ fn is_coded(input: &Input, at: usize) -> bool
 }
 
 /// Whether a handler of late events begins here.
-fn is_handler(input: &Input, at: usize) -> bool
+fn is_handler(input: &LexedText, at: usize) -> bool
     ensures is { result ≡ Grammar.on_handler (source input.now) at }
     ensures inside { result ≡ true → at < count input.now }
 {
@@ -118,7 +118,7 @@ fn is_handler(input: &Input, at: usize) -> bool
 }
 
 /// Whether the word here is a use of the reaction before it, and begins no declaration, code or handler.
-fn is_use(input: &Input, at: usize) -> bool
+fn is_use(input: &LexedText, at: usize) -> bool
     ensures is { result ≡ Grammar.on_use (source input.now) at }
     ensures inside { result ≡ true → at < count input.now }
 {
@@ -129,7 +129,7 @@ fn is_use(input: &Input, at: usize) -> bool
 
 /// Uses, which may be left out.
 #[tactic(auto, unfolding(crate::specs::Grammar::uses))]
-fn uses(input: &Input, at: usize) -> Result<(Vec<Reference>, usize), TreeFault>
+fn uses(input: &LexedText, at: usize) -> Result<(Vec<Reference>, usize), TreeFault>
     requires { Within input.now at }
     ensures gives { Gives (λ x. (map reference_view x.0.items, x.1)) result (Grammar.uses (source input.now) at) }
     ensures ok { IfOk result (λ x. NotBefore input.now at x.1) }
@@ -143,7 +143,7 @@ fn uses(input: &Input, at: usize) -> Result<(Vec<Reference>, usize), TreeFault>
 
 /// Effects behind an arrow, which may be left out.
 #[tactic(auto, unfolding(crate::specs::Grammar::written))]
-fn written(input: &Input, at: usize) -> Result<(Vec<Effect>, usize), TreeFault>
+fn written(input: &LexedText, at: usize) -> Result<(Vec<Effect>, usize), TreeFault>
     requires { Within input.now at }
     ensures gives { Gives (λ x. (map effect_view x.0.items, x.1)) result (Grammar.written (source input.now) at) }
     ensures ok { IfOk result (λ x. NotBefore input.now at x.1) }
@@ -157,7 +157,7 @@ fn written(input: &Input, at: usize) -> Result<(Vec<Effect>, usize), TreeFault>
 
 /// The place behind the handler of late events whose word stands here. Its code may stand elsewhere.
 #[tactic(auto, unfolding(crate::specs::Grammar::handler))]
-fn handler(input: &Input, at: usize) -> Result<usize, TreeFault>
+fn handler(input: &LexedText, at: usize) -> Result<usize, TreeFault>
     requires { at < count input.now }
     ensures gives { Gives at_next result (Grammar.handler (source input.now) at) }
     ensures ok { IfOk result (Further input.now at) }
@@ -168,7 +168,7 @@ fn handler(input: &Input, at: usize) -> Result<usize, TreeFault>
 }
 
 /// The place behind the handlers of late events.
-fn past_handlers(input: &Input, at: usize) -> Result<usize, TreeFault>
+fn past_handlers(input: &LexedText, at: usize) -> Result<usize, TreeFault>
     requires { Within input.now at }
     ensures gives { Gives at_next result (Grammar.handlers (source input.now) at) }
     ensures ok { IfOk result (NotBefore input.now at) }
@@ -185,7 +185,7 @@ fn past_handlers(input: &Input, at: usize) -> Result<usize, TreeFault>
 
 /// A reaction's own name, which may be left out.
 #[tactic(auto, unfolding(crate::specs::Grammar::own_name))]
-fn past_name(input: &Input, at: usize) -> Result<usize, TreeFault>
+fn past_name(input: &LexedText, at: usize) -> Result<usize, TreeFault>
     requires { Within input.now at }
     ensures gives { Gives at_next result (Grammar.own_name (source input.now) at) }
     ensures ok { IfOk result (NotBefore input.now at) }
@@ -200,7 +200,7 @@ fn past_name(input: &Input, at: usize) -> Result<usize, TreeFault>
 
 /// A reaction or mutation. Its code may stand elsewhere.
 #[tactic(auto, unfolding(crate::specs::Grammar::reaction))]
-pub fn reaction(input: &Input, at: usize, word: &[u8]) -> Result<(Reaction, usize), TreeFault>
+pub fn reaction(input: &LexedText, at: usize, word: &[u8]) -> Result<(Reaction, usize), TreeFault>
     requires { Within input.now at }
     ensures gives { Gives (λ x. (reaction_view x.0, x.1)) result (Grammar.reaction word.now (source input.now) at) }
     ensures ok { IfOk result (λ x. Further input.now at x.1) }
@@ -227,7 +227,7 @@ pub fn reaction(input: &Input, at: usize, word: &[u8]) -> Result<(Reaction, usiz
 
 /// The place behind a watchdog.
 #[tactic(auto, unfolding(crate::specs::Grammar::watchdog))]
-pub fn watchdog(input: &Input, at: usize) -> Result<usize, TreeFault>
+pub fn watchdog(input: &LexedText, at: usize) -> Result<usize, TreeFault>
     requires { Within input.now at }
     ensures gives { Gives at_next result (Grammar.watchdog (source input.now) at) }
     ensures ok { IfOk result (Further input.now at) }

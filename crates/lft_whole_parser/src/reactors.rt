@@ -9,12 +9,12 @@ ghost use Rattle.lft_whole.specs.Parts.Language as Language;
 use crate::instances::past_host;
 use crate::members::{attributes, body};
 use lft_whole::parts::groups::past_group;
-use lft_whole::parts::input::Input;
+use lft_whole::parts::lexed::LexedText;
 use lft_whole::parts::names::name;
 use lft_whole::parts::tokens::{is_key, is_symbol, is_word, key, past_item};
 use lft_whole::parts::types::typed;
 use lft_whole::parts::values::initial;
-use lft_whole::{Expression, Name, Parameter, Reactor, TreeFault, Value};
+use lft_whole::{Expression, Name, Parameter, Reactor, TreeFault, WrittenValue};
 
 /// Whether a value has a unit of time.
 fn has_unit(value: &Option<Expression>) -> bool
@@ -23,7 +23,7 @@ fn has_unit(value: &Option<Expression>) -> bool
     match value {
         Some(
             Expression {
-                value: Value::Number { unit: Some(_), .. },
+                value: WrittenValue::Number { unit: Some(_), .. },
                 ..
             },
         ) => true,
@@ -42,7 +42,7 @@ fn is_time(type_is_time: Option<bool>, default: &Option<Expression>) -> bool
 }
 
 #[tactic(auto, unfolding(crate::specs::Grammar::parameter))]
-fn parameter(input: &Input, at: usize) -> Result<(Parameter, usize), TreeFault>
+fn parameter(input: &LexedText, at: usize) -> Result<(Parameter, usize), TreeFault>
     requires { Within input.now at }
     ensures gives { Gives (λ x. (parameter_view x.0, x.1)) result (Grammar.parameter (source input.now) at) }
     ensures ok { IfOk result (λ x. Further input.now at x.1) }
@@ -64,7 +64,7 @@ fn parameter(input: &Input, at: usize) -> Result<(Parameter, usize), TreeFault>
 }
 
 /// A parameter, with the comma behind it.
-fn listed_parameter(input: &Input, at: usize) -> Result<(Parameter, usize), TreeFault>
+fn listed_parameter(input: &LexedText, at: usize) -> Result<(Parameter, usize), TreeFault>
     requires { Within input.now at }
     ensures gives { Gives (λ x. (parameter_view x.0, x.1)) result (listed 41 Grammar.parameter (source input.now) at) }
     ensures ok { IfOk result (λ x. Further input.now at x.1) }
@@ -76,7 +76,7 @@ fn listed_parameter(input: &Input, at: usize) -> Result<(Parameter, usize), Tree
 }
 
 /// Parameters in parentheses, of which the first stands here, and the place behind them.
-fn parameter_list(input: &Input, at: usize) -> Result<(Vec<Parameter>, usize), TreeFault>
+fn parameter_list(input: &LexedText, at: usize) -> Result<(Vec<Parameter>, usize), TreeFault>
     requires { Within input.now at }
     ensures gives { Gives (λ x. (map parameter_view x.0.items, x.1)) result (Grammar.parameter_list (source input.now) at) }
     ensures ok { IfOk result (λ x. Further input.now at x.1) }
@@ -94,7 +94,7 @@ fn parameter_list(input: &Input, at: usize) -> Result<(Vec<Parameter>, usize), T
 
 /// Parameters in parentheses, which may be left out.
 #[tactic(auto, unfolding(crate::specs::Grammar::parameters))]
-fn parameters(input: &Input, at: usize) -> Result<(Vec<Parameter>, usize), TreeFault>
+fn parameters(input: &LexedText, at: usize) -> Result<(Vec<Parameter>, usize), TreeFault>
     requires { Within input.now at }
     ensures gives { Gives (λ x. (map parameter_view x.0.items, x.1)) result (Grammar.parameters (source input.now) at) }
     ensures ok { IfOk result (λ x. NotBefore input.now at x.1) }
@@ -108,7 +108,7 @@ fn parameters(input: &Input, at: usize) -> Result<(Vec<Parameter>, usize), TreeF
 
 /// A base, with the arguments of its type.
 #[tactic(auto, unfolding(crate::specs::Grammar::base))]
-fn base(input: &Input, at: usize) -> Result<(Name, usize), TreeFault>
+fn base(input: &LexedText, at: usize) -> Result<(Name, usize), TreeFault>
     requires { Within input.now at }
     ensures gives { Gives (λ x. (name_view x.0, x.1)) result (Grammar.base (source input.now) at) }
     ensures ok { IfOk result (λ x. Further input.now at x.1) }
@@ -121,7 +121,7 @@ fn base(input: &Input, at: usize) -> Result<(Name, usize), TreeFault>
 
 /// Bases with commas between them, one at least.
 #[tactic(auto, unfolding(crate::specs::Grammar::base_list))]
-fn base_list(input: &Input, at: usize) -> Result<(Vec<Name>, usize), TreeFault>
+fn base_list(input: &LexedText, at: usize) -> Result<(Vec<Name>, usize), TreeFault>
     requires { Within input.now at }
     ensures gives { Gives (λ x. (map name_view x.0.items, x.1)) result (Grammar.base_list (source input.now) at) }
     ensures ok { IfOk result (λ x. Further input.now at x.1) }
@@ -141,7 +141,7 @@ fn base_list(input: &Input, at: usize) -> Result<(Vec<Name>, usize), TreeFault>
 
 /// What a reactor extends, which may be left out.
 #[tactic(auto, unfolding(crate::specs::Grammar::bases))]
-fn bases(input: &Input, at: usize) -> Result<(Vec<Name>, usize), TreeFault>
+fn bases(input: &LexedText, at: usize) -> Result<(Vec<Name>, usize), TreeFault>
     requires { Within input.now at }
     ensures gives { Gives (λ x. (map name_view x.0.items, x.1)) result (Grammar.bases (source input.now) at) }
     ensures ok { IfOk result (λ x. NotBefore input.now at x.1) }
@@ -154,7 +154,7 @@ fn bases(input: &Input, at: usize) -> Result<(Vec<Name>, usize), TreeFault>
 }
 
 /// Whether a word stands here that stands before `reactor`.
-fn is_before_reactor(input: &Input, at: usize) -> bool
+fn is_before_reactor(input: &LexedText, at: usize) -> bool
     ensures is { result ≡ Grammar.on_kind (source input.now) at }
     ensures inside { result ≡ true → at < count input.now }
 {
@@ -162,7 +162,7 @@ fn is_before_reactor(input: &Input, at: usize) -> bool
 }
 
 /// Whether a reactor begins here.
-pub fn is_reactor(input: &Input, at: usize) -> bool
+pub fn is_reactor(input: &LexedText, at: usize) -> bool
     ensures is { result ≡ Grammar.on_reactor (source input.now) at }
     ensures inside { result ≡ true → at < count input.now }
 {
@@ -177,14 +177,14 @@ struct ReactorKind {
 }
 
 /// Whether this word stands here, or is known to stand before.
-fn is_known(input: &Input, at: usize, word: &[u8], known: bool) -> bool
+fn is_known(input: &LexedText, at: usize, word: &[u8], known: bool) -> bool
     ensures { result ≡ (Language.word word.now (source input.now) at || known) }
 {
     is_key(input, at, word) || known
 }
 
 /// Whether `main`, and whether `federated` is among the words before `reactor`, which may be left out.
-fn kind_words(input: &Input, at: usize) -> (bool, bool, usize)
+fn kind_words(input: &LexedText, at: usize) -> (bool, bool, usize)
     requires { Within input.now at }
     ensures gives { Grammar.kind_words (source input.now) at ≡ Ok ((result.0, result.1), result.2) }
     ensures inside { NotBefore input.now at result.2 }
@@ -203,7 +203,7 @@ fn kind_words(input: &Input, at: usize) -> (bool, bool, usize)
 
 /// The words before `reactor`, which may be left out. A federated reactor is a main one.
 #[tactic(auto, unfolding(crate::specs::Grammar::kind))]
-fn kind_here(input: &Input, at: usize) -> (ReactorKind, usize)
+fn kind_here(input: &LexedText, at: usize) -> (ReactorKind, usize)
     requires { Within input.now at }
     ensures gives { Grammar.kind (source input.now) at ≡ Ok ((result.0.is_main, result.0.is_federated), result.1) }
     ensures inside { NotBefore input.now at result.1 }
@@ -220,7 +220,7 @@ fn kind_here(input: &Input, at: usize) -> (ReactorKind, usize)
 
 /// A reactor's name, which may be left out.
 #[tactic(auto, unfolding(crate::specs::Grammar::reactor_name))]
-fn own_name(input: &Input, at: usize) -> Result<(Option<Name>, usize), TreeFault>
+fn own_name(input: &LexedText, at: usize) -> Result<(Option<Name>, usize), TreeFault>
     requires { Within input.now at }
     ensures gives { Gives (λ x. (option_map name_view x.0, x.1)) result (Grammar.reactor_name (source input.now) at) }
     ensures ok { IfOk result (λ x. NotBefore input.now at x.1) }
@@ -236,7 +236,7 @@ fn own_name(input: &Input, at: usize) -> Result<(Option<Name>, usize), TreeFault
 }
 
 #[tactic(auto, unfolding(crate::specs::Grammar::reactor))]
-pub fn reactor(input: &Input, at: usize) -> Result<(Reactor, usize), TreeFault>
+pub fn reactor(input: &LexedText, at: usize) -> Result<(Reactor, usize), TreeFault>
     requires { Within input.now at }
     ensures gives { Gives (λ x. (reactor_view x.0, x.1)) result (Grammar.reactor (source input.now) at) }
     ensures ok { IfOk result (λ x. Further input.now at x.1) }

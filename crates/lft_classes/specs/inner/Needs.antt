@@ -7,7 +7,7 @@ use Rattle.lft_classes.specs.inner.{Built.{members_at, AreNoted, cores}, Chains.
 use Rattle.lft_classes.specs.inner.{Shapes.{thing_named, child_at, inside, tables}, Walks.IsReachable, Makings.AreShapes}
 use Rattle.lft_classes.specs.Shapes.{width_of}
 use Rattle.lft_whole.specs.declared.tree.Member.TheVariants as member
-use Rattle.lft_whole.specs.declared.tree.Value.TheVariants as value
+use Rattle.lft_whole.specs.declared.tree.WrittenValue.TheVariants as value
 use Rattle.lft_classes.specs.declared.shapes.OwnThing.TheVariants as thing
 
 -- what a parameter is needed for

@@ -1,7 +1,7 @@
 -- Why a reference means nothing, and there is no setting in an instance or no width of a member.
 use Rattle.std.specs.Prelude.{◌≡◌, ◌⊎◌, ℕ, ℤ, List, IsSomeAnd, Option, Some, None, option_map, string_bytes}
 use Rattle.std.specs.Option.{option_and_then}
-use Rattle.lft_whole.specs.declared.{sources.{stop.{FileRefusal.FileRefusal, NoProgram.NoProgram}, why.Why.Why}, tree.{Reference.Reference, Value.Value}}
+use Rattle.lft_whole.specs.declared.{sources.{stop.{FileRefusal.FileRefusal, NoProgram.NoProgram}, why.Why.Why}, tree.{Reference.Reference, WrittenValue.WrittenValue}}
 use Rattle.lft_classes.specs.{declared.shapes.{Shape.Shape, OwnThing.OwnThing}, inner.Shapes.thing_named}
 use Rattle.lft_elaborate.specs.{inner.{Meanings.{port_number_in, shape_inside}, Places.parameter_in, Values.Valued}, Places.natural}
 use Rattle.lft_classes.specs.declared.shapes.OwnThing.TheVariants as things
@@ -18,7 +18,7 @@ abbrev pub IsAt : ℕ → ℕ → FileRefusal → Type 0
 IsAt file token r = r.place ≡ record { file = file; token = token }
 
 -- nothing is written for a number, or what is written is no whole number
-abbrev pub HasNoWholeNumber : Option Value → Why → Type 0
+abbrev pub HasNoWholeNumber : Option WrittenValue → Why → Type 0
 HasNoWholeNumber None w = w ≡ why.MissingNumber
 HasNoWholeNumber (Some value) w = w ≡ why.NoWholeNumber
 
@@ -50,9 +50,9 @@ IsUnmeant shapes shape file r refusal = IsAt file r.head.at refusal × IsUnknown
 -- ---- for the crate's own contracts
 
 -- the refusal says that nothing is written for a number, or that this is no whole one
-abbrev pub SaysNoNumber : Option Value → NoProgram → Type 0
+abbrev pub SaysNoNumber : Option WrittenValue → NoProgram → Type 0
 SaysNoNumber value = IfRefused (λ r. HasNoWholeNumber value r.why)
 
 -- so it says of this number, and there is none
-abbrev pub IsLacking : Option ℤ → Option Value → NoProgram → Type 0
+abbrev pub IsLacking : Option ℤ → Option WrittenValue → NoProgram → Type 0
 IsLacking number value s = SaysNoNumber value s × (number ≡ None)

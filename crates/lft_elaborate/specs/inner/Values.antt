@@ -2,9 +2,9 @@
 use Rattle.std.specs.Prelude.{[], ℕ, ◌^◌, ℤ, pos, neg_ℤ, min, Bool, true, false, ◌==◌, List, ◌∷◌, map, length, Option, Some, None, option_map, slice_get, string_bytes, unwrap_or, if◌then◌else◌, ◌≡◌}
 use Rattle.std.specs.Option.{option_and_then, option_or}
 use Rattle.lft_elaborate.specs.Channels.Channels.{below}
-use Rattle.lft_whole.specs.declared.tree.Value.{Value}
+use Rattle.lft_whole.specs.declared.tree.WrittenValue.{WrittenValue}
 use Rattle.lft_classes.specs.{declared.shapes.{Child.Child, GivenValue.GivenValue, Shape.Shape, OwnThing.OwnThing}, inner.Shapes.{child_at, thing_named}}
-use Rattle.lft_whole.specs.declared.tree.Value.TheVariants as value
+use Rattle.lft_whole.specs.declared.tree.WrittenValue.TheVariants as value
 use Rattle.lft_classes.specs.declared.shapes.OwnThing.TheVariants as thing
 
 -- a shape, by its number, and for each of its parameters its number, if it has one
@@ -18,7 +18,7 @@ signed true count = neg_ℤ (pos (min count (2 ^ 62)))
 signed false count = pos (min count (2 ^ 62))
 
 -- the whole number that a value writes out
-abbrev pub literal : Value → Option ℤ
+abbrev pub literal : WrittenValue → Option ℤ
 literal (value.Number negative count None) = Some (signed negative count)
 literal _ = None
 
@@ -36,14 +36,14 @@ abbrev pub number_named : Shape → List (Option ℤ) → List ℕ → Option �
 number_named shape values q = option_and_then (number_of shape values) (thing_named shape q)
 
 -- the number that a value is: one that is written out, or that of a parameter
-abbrev pub number_in : Shape → List (Option ℤ) → Value → Option ℤ
+abbrev pub number_in : Shape → List (Option ℤ) → WrittenValue → Option ℤ
 number_in shape values (value.Word word) = number_named shape values (string_bytes word)
 number_in shape values (value.Number negative count unit) = literal (value.Number negative count unit)
 number_in shape values value.Code = None
 number_in shape values value.Other = None
 
 -- the default that is written at the parameter of this number
-abbrev pub default_written : Shape → ℕ → Option Value
+abbrev pub default_written : Shape → ℕ → Option WrittenValue
 default_written shape p = option_and_then (λ found. option_map (λ e. e.value) found.parameter.now.default) (slice_get shape.parameters.items p)
 
 -- the number that this is
@@ -51,12 +51,12 @@ abbrev pub default_at : Shape → ℕ → Option ℤ
 default_at shape p = option_and_then literal (default_written shape p)
 
 -- what `new` gives to the parameter of this number
-abbrev pub given_to : List GivenValue → ℕ → Option Value
+abbrev pub given_to : List GivenValue → ℕ → Option WrittenValue
 given_to [] p = None
 given_to (g ∷ gs) p = if g.parameter == p then Some g.value.now.value else given_to gs p
 
 -- a value that is given, read in the reactor around, or else the default
-abbrev pub chosen : Shape → List (Option ℤ) → Option Value → Option ℤ → Option ℤ
+abbrev pub chosen : Shape → List (Option ℤ) → Option WrittenValue → Option ℤ → Option ℤ
 chosen outer values (Some given) default = number_in outer values given
 chosen outer values None default = default
 
@@ -93,5 +93,5 @@ abbrev pub IsUnsized : List Shape → ℕ → Type 0
 IsUnsized shapes k = (shape : Shape) (p : ℕ) → slice_get shapes k ≡ Some shape → is_sized shape p ≡ false
 
 -- what is written for the parameter of this number: what `new` gives to it, or else its default
-abbrev pub value_for_parameter : List GivenValue → Shape → ℕ → Option Value
+abbrev pub value_for_parameter : List GivenValue → Shape → ℕ → Option WrittenValue
 value_for_parameter gs inner p = option_or (given_to gs p) (default_written inner p)

@@ -5,7 +5,7 @@ use Rattle.lft_tree.specs.Identifiers.{IsName}
 use Rattle.lft_tree.specs.Tree.{TimeTree, RefTree, TimerTree, ActionTree, TriggerTree, AtStartup, AtShutdown, OnRef, ReactionTree, AssignmentTree, ConnectionTree, MemberTree, PortMember, TimerMember, ActionMember, ReactionMember, InstanceMember, ConnectionMember}
 use Rattle.lft_tree.specs.{View.member_views, declared.tree.Member.Member as Core}
 use Rattle.lft_whole.specs.declared.tree.{Action.Action, Connection.Connection, Effect.Effect, Expression.Expression, Member.Member, Reaction.Reaction}
-use Rattle.lft_whole.specs.declared.tree.{Timer.Timer, Trigger.Trigger, Value.Value}
+use Rattle.lft_whole.specs.declared.tree.{Timer.Timer, Trigger.Trigger, WrittenValue.WrittenValue}
 use Rattle.lft_classes.specs.{declared.shapes.{Child.Child, GivenValue.GivenValue, Inherited.Inherited, Shape.Shape}, inner.Shapes.{child_at, thing_named}}
 use Rattle.lft_classes.specs.Shapes.{width_of}
 use Rattle.lft_elaborate.specs.inner.{Channels.Lowered.{AreJoinedPlaces, own}, Meanings.shape_inside, Noted.found_inside, Widths.found_width}
@@ -16,7 +16,7 @@ use Rattle.lft_lower.specs.declared.connections.Sides.{Sides}
 use Rattle.lft_whole.specs.declared.tree.Effect.TheVariants as effects
 use Rattle.lft_whole.specs.declared.tree.Member.TheVariants as member
 use Rattle.lft_whole.specs.declared.tree.Trigger.TheVariants as triggers
-use Rattle.lft_whole.specs.declared.tree.Value.TheVariants as value
+use Rattle.lft_whole.specs.declared.tree.WrittenValue.TheVariants as value
 
 -- ---- times, timers and actions
 -- what becomes of a time, where one is written
@@ -48,7 +48,7 @@ abbrev pub action_tree : Action → ActionTree
 action_tree a = record { name = string_bytes a.name.text; is_physical = a.is_physical; min_delay = time_at a.min_delay }
 
 -- a number that isn't 0, or what is no number
-abbrev pub is_some_time : Value → Bool
+abbrev pub is_some_time : WrittenValue → Bool
 is_some_time (value.Number negative zero unit) = false
 is_some_time v = true
 

@@ -3,7 +3,7 @@ use Rattle.std.specs.Prelude.{◌≡◌, ◌<◌, ◌⊎◌, ℕ, Bool, true, fa
 use Rattle.lft_resolve.specs.Causes.{longest}
 use Rattle.lft_tree.specs.Tree.{nanoseconds}
 use Rattle.lft_whole.specs.declared.sources.{source.SourceFile.SourceFile, stop.FileRefusal.FileRefusal, why.Why.Why}
-use Rattle.lft_whole.specs.declared.tree.{Action.Action, Connection.Connection, Effect.Effect, Expression.Expression, Timer.Timer, Trigger.Trigger, Value.Value}
+use Rattle.lft_whole.specs.declared.tree.{Action.Action, Connection.Connection, Effect.Effect, Expression.Expression, Timer.Timer, Trigger.Trigger, WrittenValue.WrittenValue}
 use Rattle.lft_classes.specs.declared.shapes.{GivenValue.GivenValue, InheritedParameter.InheritedParameter, Shape.Shape}
 use Rattle.lft_elaborate.specs.{declared.settings.Settings.Settings, inner.{Settings.shape_at, Refused.IsAt}, Values.is_forever}
 use Rattle.lft_lower.specs.inner.{Meanings.{Meanings.Here, Refused.{IsOfOne, IsOfReference}}, Lowered.is_spaced, Needed.is_timed, Programs.decentralized_in}
@@ -11,16 +11,16 @@ use Rattle.lft_lower.specs.inner.Times.{named_by, time_of_value}
 use Rattle.lft_whole.specs.declared.sources.why.Why.TheVariants as why
 use Rattle.lft_whole.specs.declared.tree.Effect.TheVariants as effects
 use Rattle.lft_whole.specs.declared.tree.Trigger.TheVariants as triggers
-use Rattle.lft_whole.specs.declared.tree.Value.TheVariants as value
+use Rattle.lft_whole.specs.declared.tree.WrittenValue.TheVariants as value
 
 -- ---- times
 
 -- the value writes out no time, or one past the greatest
-abbrev pub IsNoWritten : Value → Why → Type 0
+abbrev pub IsNoWritten : WrittenValue → Why → Type 0
 IsNoWritten v w = ((w ≡ why.NoTime) × (time_of_value v ≡ None)) ⊎ ((w ≡ why.TimeTooLong) × IsSomeAnd (time_of_value v) (λ time. longest < nanoseconds time))
 
 -- the value is a parameter that is no time; or it is no parameter, and writes out no time
-abbrev pub IsNoTime : Shape → Value → Why → Type 0
+abbrev pub IsNoTime : Shape → WrittenValue → Why → Type 0
 IsNoTime shape v w = ((w ≡ why.NotOfTypeTime) × IsSomeAnd (named_by shape v) (λ p. p.parameter.now.is_time ≡ false)) ⊎ ((named_by shape v ≡ None) × IsNoWritten v w)
 
 -- the refusal is of a time that is written there and is none
@@ -40,12 +40,12 @@ abbrev pub IsOfAction : Shape → ℕ → Action → FileRefusal → Type 0
 IsOfAction shape file a r = ((is_spaced a ≡ true) × (r.why ≡ why.Spacing) × IsSomeAnd a.spacing (λ e. IsAt file e.at r)) ⊎ IsOfTime shape file a.min_delay r
 
 -- the value is a word
-abbrev pub is_word : Value → Bool
+abbrev pub is_word : WrittenValue → Bool
 is_word (value.Word word) = true
 is_word _ = false
 
 -- the value is a name; or it is none, and writes out no time
-abbrev pub IsNoDefault : Value → Why → Type 0
+abbrev pub IsNoDefault : WrittenValue → Why → Type 0
 IsNoDefault v w = ((w ≡ why.DefaultByName) × (is_word v ≡ true)) ⊎ ((is_word v ≡ false) × IsNoWritten v w)
 
 -- a parameter from which a time is read isn't of type `time`; or it is of the main reactor and has no default

@@ -11,7 +11,7 @@ use crate::nesting::tables::Tables;
 use crate::refusal::Refusal;
 use lft_resolve::Scopes;
 use lft_resolve::expansion::{
-    Instance, OriginFault, PortSources, Reached, Site, find_origins, find_sources, way_back,
+    Instance, PortSources, Reached, Site, find_origins, find_sources, way_back,
 };
 use lft_tag::{NoMemory, Shift, Source};
 use lft_validate::check_times;
@@ -148,13 +148,12 @@ pub(crate) fn links(
         &nest.children,
         &nest.values,
     )?;
-    let reached = match find_origins(alloc, &found.sources) {
+    let reached = match find_origins(alloc, &found.sources)? {
         Ok(reached) => reached,
-        Err(OriginFault::Cycle(port)) => {
-            let way = way_to(alloc, nest, &found, port as usize)?;
+        Err(port) => {
+            let way = way_to(alloc, nest, &found, port)?;
             return Err(Refusal::ConnectionCycle(way));
         }
-        Err(OriginFault::NoMemory) => return Err(Refusal::NoMemory),
     };
     if let Some(witness) = check_times(alloc, scopes)? {
         return Err(Refusal::Shown(witness));

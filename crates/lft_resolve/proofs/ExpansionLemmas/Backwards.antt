@@ -2,7 +2,7 @@
 use Rattle.std.proofs.Common.{◌≡◌, ◌≢◌, ℕ, ◌⊎◌, inl, inr, List, [], ◌∷◌, ◌++◌, refl, sym, subst, Option, Some, None, slice_get}
 use Rattle.lft_tag.specs.declared.Source.{Source}
 use Rattle.lft_resolve.specs.{declared.expansion.joins.Site.Site, inner.Expansion.{Sources.{LeadsBackwards, one, more}, Ways.{IsWayBack, LeadsBack}}}
-use Rattle.lft_resolve.proofs.ExpansionLemmas.Settled.{leads_next}
+use Rattle.lft_resolve.proofs.ExpansionLemmas.Chains.{leads_next}
 
 -- one join more
 pub back_more : (sources : List (Option Source)) (sites : List Site) (p : ℕ) (way : List Site) (q : ℕ) (s : Source) (x : Site) → LeadsBack sources sites p way q → slice_get sources q ≡ Some (Some s) → slice_get sites q ≡ Some x → LeadsBack sources sites p (way ++ x ∷ []) s.port

@@ -1,5 +1,5 @@
 -- Delays folded along a chain.
-use Rattle.std.proofs.Common.{◌≡◌, ℕ, zero, suc, ◌+◌, ◌<◌, ◌≤◌, inl, inr, List, [], ◌∷◌, ◌++◌, refl, sym, ap, ◌∙◌, arith, Option, Some, None, sum}
+use Rattle.std.proofs.Common.{◌≡◌, ℕ, zero, suc, ◌+◌, ◌<◌, ◌≤◌, inl, inr, List, [], ◌∷◌, ◌++◌, length, refl, sym, ap, ◌∙◌, arith, Option, Some, None, IfSome, sum}
 use Rattle.std.{specs.Option.MatchOption, proofs.lemmas.{Bool.cases_lt, List.Sums.sum_by-cons}}
 use Rattle.lft_tag.specs.{Shifts.{join, join_all, none, HasRoom, Folded}, declared.Shift.Shift}
 use Rattle.lft_resolve.specs.inner.Expansion.Sources.{IsFolded}
@@ -15,6 +15,16 @@ join_time x (suc d) = refl
 pub time_sum : (x : Folded) (ds : List ℕ) → (join_all x ds).0 ≡ x.0 + sum ds
 time_sum x [] = omega arith
 time_sum x (d ∷ ds) = let a : (join_all x (d ∷ ds)).0 ≡ (join x d).0 + sum ds = time_sum (join x d) ds in let b = join_time x d in let e : sum (d ∷ ds) ≡ d + sum ds = sum_by-cons (λ z. z) d ds in omega arith
+
+join_steps : (x : Folded) (ds : List ℕ) → (join_all x ds).1 ≤ x.1 + length ds
+join_steps x [] = omega arith
+join_steps x (zero ∷ ds) = let a = join_steps (join x zero) ds in omega arith
+join_steps x (suc d ∷ ds) = let a = join_steps (join x (suc d)) ds in omega arith
+
+-- a shift has no more steps than delays are folded in it
+pub few_steps : (delays : List ℕ) (shift : Option Shift) (n : ℕ) → IsFolded delays shift → length delays < n → IfSome shift (λ s. s.steps < n)
+few_steps delays None n f l = tt
+few_steps delays (Some s) n f l = let a = join_steps none delays in let b : (join_all none delays).1 ≡ s.steps = ap (λ x. x.1) f in omega arith
 
 pub sum_push : (xs : List ℕ) (y : ℕ) → sum (xs ++ y ∷ []) ≡ sum xs + y
 sum_push [] y = omega arith

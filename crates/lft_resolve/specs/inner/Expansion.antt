@@ -2,7 +2,6 @@ pub mod Children
 pub mod Contents
 pub mod Joins
 pub mod Listing
-pub mod Marks
 pub mod Numbers
 pub mod Sources
 pub mod Values

@@ -4,7 +4,7 @@ use Rattle.std.specs.Prelude.{find, if◌then◌else◌, string_bytes}
 use Rattle.std.specs.{Option.option_and_then, List.range_with_len}
 use Rattle.lft_lists.proofs.{Mapped.mapped, Places.{Some_same, get_there}}
 use Rattle.lft_whole.specs.declared.sources.source.SourceFile.{SourceFile}
-use Rattle.lft_whole.specs.declared.tree.{Assignment.Assignment, Expression.Expression, Instance.Instance, Parameter.Parameter, Value.Value}
+use Rattle.lft_whole.specs.declared.tree.{Assignment.Assignment, Expression.Expression, Instance.Instance, Parameter.Parameter, WrittenValue.WrittenValue}
 use Rattle.lft_classes.specs.declared.shapes.{Child.Child, InheritedParameter.InheritedParameter, Shape.Shape, OwnThing.OwnThing}
 use Rattle.lft_classes.specs.inner.{Built.located_parameters, Shapes.{child_at, thing_named}}
 use Rattle.lft_elaborate.specs.Channels.Channels.{below}
@@ -14,11 +14,11 @@ use Rattle.lft_same.specs.Expanded.Reactors.{class_named, is_named, parameters_o
 use Rattle.lft_same.specs.inner.Fits.Fits.{Fits, IsShapeOf}
 use Rattle.lft_same.proofs.FitsLemmas.{Giving.IsGivenBy, MemberNames.value_found}
 use Rattle.lft_program.proofs.Zipping.{then_some}
-use Rattle.lft_whole.specs.declared.tree.Value.TheVariants as value
+use Rattle.lft_whole.specs.declared.tree.WrittenValue.TheVariants as value
 use Rattle.lft_classes.specs.declared.shapes.OwnThing.TheVariants as thing
 
 -- a number that is written or named is that of the value that is read
-pub number_fits : (files : List SourceFile) (shapes : List Shape) (t : Valued) (x : Inside) (fits : Fits files shapes t x) (v : Value) (n : ℤ) → number_in fits.shape t.values v ≡ Some n → (w : Value) × (read_in files x v ≡ Some w) × (literal w ≡ Some n)
+pub number_fits : (files : List SourceFile) (shapes : List Shape) (t : Valued) (x : Inside) (fits : Fits files shapes t x) (v : WrittenValue) (n : ℤ) → number_in fits.shape t.values v ≡ Some n → (w : WrittenValue) × (read_in files x v ≡ Some w) × (literal w ≡ Some n)
 number_fits files shapes t x fits (value.Word q) n e =
     let th = then_some (number_of fits.shape t.values) (thing_named fits.shape (string_bytes q)) n e in
     go th.0 th.1 th.2
@@ -27,7 +27,7 @@ number_fits files shapes t x fits (value.Word q) n e =
     sized p false is f = absurd (cc)
     sized p true is f = let o = then_some (λ (v : Option ℤ). v) (slice_get t.values p) n f in (is, o.1 ∙ ap Some o.2)
 
-    go : (th : OwnThing) → thing_named fits.shape (string_bytes q) ≡ Some th → number_of fits.shape t.values th ≡ Some n → (w : Value) × (value_named files x (string_bytes q) ≡ Some w) × (literal w ≡ Some n)
+    go : (th : OwnThing) → thing_named fits.shape (string_bytes q) ≡ Some th → number_of fits.shape t.values th ≡ Some n → (w : WrittenValue) × (value_named files x (string_bytes q) ≡ Some w) × (literal w ≡ Some n)
     go (thing.Member m) is f = absurd (cc)
     go (thing.Parameter p) is f =
         let s = sized p (is_sized fits.shape p) refl f in
@@ -54,7 +54,7 @@ pub parameter_is : (files : List SourceFile) (shape : Shape) (c : ℕ × ℕ) �
 parameter_is files shape c is p ip at = ap (λ l. slice_get l p) (sym is.parameters) ∙ mapped (λ (z : ℕ × Parameter). z.1) (located_parameters shape.parameters.items) p (ip.file, ip.parameter.now) (mapped (λ (z : InheritedParameter). (z.file, z.parameter.now)) shape.parameters.items p ip at)
 
 -- a default that is a number
-default_is : (shape : Shape) (p : ℕ) (ip : InheritedParameter) (n : ℤ) → slice_get shape.parameters.items p ≡ Some ip → default_at shape p ≡ Some n → (v : Value) × (default_of ip.parameter.now ≡ Some v) × (literal v ≡ Some n)
+default_is : (shape : Shape) (p : ℕ) (ip : InheritedParameter) (n : ℤ) → slice_get shape.parameters.items p ≡ Some ip → default_at shape p ≡ Some n → (v : WrittenValue) × (default_of ip.parameter.now ≡ Some v) × (literal v ≡ Some n)
 default_is shape p ip n at e =
     let v = then_some literal (default_written shape p) n e in
     (v.0, sym (ap (option_and_then (λ (found : InheritedParameter). option_map (λ (x : Expression). x.value) found.parameter.now.default)) at) ∙ v.1, v.2)
@@ -82,11 +82,11 @@ inside_fits files shapes t u x fits m child inner file i c in_u is_child is_inne
     sized p n true is e = e
     sized p n false is e = absurd (cc)
 
-    picked : (p : ℕ) (n : ℤ) (ip : InheritedParameter) → slice_get inner.parameters.items p ≡ Some ip → (o : Option Assignment) → given_to child.given.items p ≡ option_map (λ a. a.value.value) o → chosen fits.shape t.values (given_to child.given.items p) (default_at inner p) ≡ Some n → (w : Value) × (value_or_default files x ip.parameter.now o ≡ Some w) × (literal w ≡ Some n)
+    picked : (p : ℕ) (n : ℤ) (ip : InheritedParameter) → slice_get inner.parameters.items p ≡ Some ip → (o : Option Assignment) → given_to child.given.items p ≡ option_map (λ a. a.value.value) o → chosen fits.shape t.values (given_to child.given.items p) (default_at inner p) ≡ Some n → (w : WrittenValue) × (value_or_default files x ip.parameter.now o ≡ Some w) × (literal w ≡ Some n)
     picked p n ip at None g e = default_is inner p ip n at (sym (ap (λ o. chosen fits.shape t.values o (default_at inner p)) g) ∙ e)
     picked p n ip at (Some a) g e = number_fits files shapes t x fits a.value.value n (sym (ap (λ o. chosen fits.shape t.values o (default_at inner p)) g) ∙ e)
 
-    numbers : (p : ℕ) (n : ℤ) → is_sized inner p ≡ true → slice_get u.values p ≡ Some (Some n) → (w : Value) × (slice_get y.values p ≡ Some (Some w)) × (literal w ≡ Some n)
+    numbers : (p : ℕ) (n : ℤ) → is_sized inner p ≡ true → slice_get u.values p ≡ Some (Some n) → (w : WrittenValue) × (slice_get y.values p ≡ Some (Some w)) × (literal w ≡ Some n)
     numbers p n is at =
         let r = row (value_inside fits.shape t.values child.given.items inner) (length inner.parameters.items) p (Some n) (ap (λ (z : Valued). slice_get z.values p) is_u ∙ at) in
         let ip = get_there inner.parameters.items p r.0 in
@@ -108,7 +108,7 @@ main_fits files shapes t main c is_t is_main of_main = record { shape = main; is
     sized p n true is e = e
     sized p n false is e = absurd (cc)
 
-    numbers : (p : ℕ) (n : ℤ) → is_sized main p ≡ true → slice_get t.values p ≡ Some (Some n) → (w : Value) × (slice_get (map default_of (parameters_of files c)) p ≡ Some (Some w)) × (literal w ≡ Some n)
+    numbers : (p : ℕ) (n : ℤ) → is_sized main p ≡ true → slice_get t.values p ≡ Some (Some n) → (w : WrittenValue) × (slice_get (map default_of (parameters_of files c)) p ≡ Some (Some w)) × (literal w ≡ Some n)
     numbers p n is at =
         let r = row (main_value main) (length main.parameters.items) p (Some n) (ap (λ (z : Valued). slice_get z.values p) is_v ∙ at) in
         let ip = get_there main.parameters.items p r.0 in

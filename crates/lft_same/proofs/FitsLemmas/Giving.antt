@@ -4,7 +4,7 @@ use Rattle.std.specs.Prelude.{cond, find, if◌then◌else◌, string_bytes}
 use native.Mathlib.Decide.{dec_lt}
 use Rattle.std.proofs.lemmas.{Bool.Decides.eqb_tells, Slice.Eq.bytes_eq-Decides}
 use Rattle.lft_lists.proofs.{Members.{Mem, contains_mem, get_mem, mem_contains}, Places.Some_same}
-use Rattle.lft_whole.specs.declared.{sources.source.SourceFile.SourceFile, tree.{Assignment.Assignment, Expression.Expression, Instance.Instance, Value.Value}}
+use Rattle.lft_whole.specs.declared.{sources.source.SourceFile.SourceFile, tree.{Assignment.Assignment, Expression.Expression, Instance.Instance, WrittenValue.WrittenValue}}
 use Rattle.lft_classes.specs.declared.shapes.{Child.Child, GivenValue.GivenValue, InheritedParameter.InheritedParameter, Shape.Shape}
 use Rattle.lft_classes.specs.inner.{Shapes.thing_named, Built.AreGiven, Circles.GivesOnce}
 use Rattle.lft_elaborate.specs.inner.Values.{given_to}
@@ -12,7 +12,7 @@ use Rattle.lft_same.{specs.{Expanded.Reactors.is_named, inner.Fits.Fits.IsShapeO
 use Rattle.lft_classes.specs.declared.shapes.OwnThing.TheVariants as thing
 
 -- what is given to a parameter is noted
-to_some : (gs : List GivenValue) (p : ℕ) (v : Value) → given_to gs p ≡ Some v → (g : GivenValue) × Mem g gs × (g.parameter ≡ p) × (g.value.now.value ≡ v)
+to_some : (gs : List GivenValue) (p : ℕ) (v : WrittenValue) → given_to gs p ≡ Some v → (g : GivenValue) × Mem g gs × (g.parameter ≡ p) × (g.value.now.value ≡ v)
 to_some [] p v e = absurd (cc)
 to_some (g ∷ gs) p v e = elim (eqb_tells g.parameter p) [
   | inl same ↦ (g, inl refl, same.1, Some_same g.value.now.value v (sym (ap (λ (b : Bool). if b then Some g.value.now.value else given_to gs p) same.0) ∙ e))
@@ -90,7 +90,7 @@ given_by files inner c is child i once are p ip at = go (find (λ a. is_named (s
     go : (o : Option Assignment) → find (λ a. is_named (string_bytes ip.parameter.now.name.text) a.name) i.given.items ≡ o → given_to child.given.items p ≡ option_map (λ a. a.value.value) o
     go None e = lost (given_to child.given.items p) refl
       where
-        lost : (v : Option Value) → given_to child.given.items p ≡ v → v ≡ None
+        lost : (v : Option WrittenValue) → given_to child.given.items p ≡ v → v ≡ None
         lost None f = refl
         lost (Some v) f =
             let g = to_some child.given.items p v f in
@@ -104,7 +104,7 @@ given_by files inner c is child i once are p ip at = go (find (λ a. is_named (s
         so : string_bytes a.name.text ≡ string_bytes ip.parameter.now.name.text
         so = named_so (string_bytes ip.parameter.now.name.text) a.name f.1
 
-        found : (v : Option Value) → given_to child.given.items p ≡ v → v ≡ Some a.value.value
+        found : (v : Option WrittenValue) → given_to child.given.items p ≡ v → v ≡ Some a.value.value
         found None h =
             let g = are.all a (mem_contains a i.given.items f.0) in
             let s : Some (thing.Parameter g.0.parameter) ≡ Some (thing.Parameter p) = sym g.2.0 ∙ ap (thing_named inner) so ∙ means in

@@ -3,7 +3,7 @@ use Rattle.std.proofs.Common.{◌≡◌, ℕ, zero, suc, Bool, true, false, List
 use Rattle.std.specs.Prelude.{if◌then◌else◌, string_bytes}
 use Rattle.std.{specs.{List.position, Option.option_map_or}, proofs.lemmas.Slice.Eq.bytes_eq-Decides}
 use Rattle.lft_lists.proofs.Mapped.{mapped, mapped_from}
-use Rattle.lft_whole.specs.declared.{sources.source.SourceFile.SourceFile, tree.{Member.Member, Name.Name, Parameter.Parameter, Value.Value}}
+use Rattle.lft_whole.specs.declared.{sources.source.SourceFile.SourceFile, tree.{Member.Member, Name.Name, Parameter.Parameter, WrittenValue.WrittenValue}}
 use Rattle.lft_classes.specs.declared.shapes.{Inherited.Inherited, InheritedParameter.InheritedParameter, Shape.Shape}
 use Rattle.lft_classes.specs.{inner.{Built.located_parameters, Shapes.thing_named}, Shapes.name_of}
 use Rattle.lft_same.specs.Expanded.{Instances.{Inside, place_named, value_by_name, value_named}, Reactors.{is_named, members_of, parameters_of}}
@@ -49,7 +49,7 @@ module _ (files : List SourceFile) (shape : Shape) (x : Inside) (is : IsShapeOf 
       go (Some k) p = let y = position_found (has_name q) (members_of files x.class) k p in absurd (none k (at_place k y.0 y.1 y.2))
 
   -- a parameter has the value at its place
-  pub value_found : (p : ℕ) (v : Option Value) → thing_named shape q ≡ Some (thing.Parameter p) → slice_get x.values p ≡ Some v → value_named files x q ≡ v
+  pub value_found : (p : ℕ) (v : Option WrittenValue) → thing_named shape q ≡ Some (thing.Parameter p) → slice_get x.values p ≡ Some v → value_named files x q ≡ v
   value_found p v e has =
       let h = (is.names q (thing.Parameter p)).0 e in
       value_first (parameters_of files x.class) x.values p h.0.parameter.now (alone p e) (there p h.0 h.1) ((bytes_eq-Decides q (string_bytes h.0.parameter.now.name.text)).1 (sym h.2)) v has
@@ -65,7 +65,7 @@ module _ (files : List SourceFile) (shape : Shape) (x : Inside) (is : IsShapeOf 
           let t : thing_named shape q ≡ Some (thing.Parameter j) = (is.names q (thing.Parameter j)).1 (i.0, i.1, ap (λ (w : Parameter). string_bytes w.name.text) same ∙ named_so q r.name has) in
           let s : Some (thing.Parameter j) ≡ Some (thing.Parameter p) = sym t ∙ e in cc
 
-      value_first : (ps : List Parameter) (vs : List (Option Value)) (p : ℕ) (r : Parameter) → ((j : ℕ) (s : Parameter) → slice_get ps j ≡ Some s → is_named q s.name ≡ true → j ≡ p) → slice_get ps p ≡ Some r → is_named q r.name ≡ true → (v : Option Value) → slice_get vs p ≡ Some v → value_by_name ps vs q ≡ v
+      value_first : (ps : List Parameter) (vs : List (Option WrittenValue)) (p : ℕ) (r : Parameter) → ((j : ℕ) (s : Parameter) → slice_get ps j ≡ Some s → is_named q s.name ≡ true → j ≡ p) → slice_get ps p ≡ Some r → is_named q r.name ≡ true → (v : Option WrittenValue) → slice_get vs p ≡ Some v → value_by_name ps vs q ≡ v
       value_first [] vs p r alone at has v is = absurd (cc)
       value_first (s ∷ ps) [] p r alone at has v is = absurd (cc)
       value_first (s ∷ ps) (w ∷ vs) zero r alone at has v is =

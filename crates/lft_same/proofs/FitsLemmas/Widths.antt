@@ -6,7 +6,7 @@ use Rattle.lft_resolve.specs.Expansion.Paths.{along}
 use Rattle.lft_lists.proofs.{Mapped.{mapped, mapped_from, option_map_some}, Members.{Mem, get_mem, mem_from_flat, mem_from_map, mem_get}, Places.Some_same}
 use Rattle.lft_program.proofs.{Listing.enumerate_from_at, Zipping.then_some}
 use Rattle.lft_whole.specs.declared.sources.source.SourceFile.{SourceFile}
-use Rattle.lft_whole.specs.declared.tree.{Count.Count, Instance.Instance, Member.Member, Name.Name, Reference.Reference, Term.Term, Value.Value, Width.Width}
+use Rattle.lft_whole.specs.declared.tree.{Count.Count, Instance.Instance, Member.Member, Name.Name, Reference.Reference, Term.Term, WrittenValue.WrittenValue, Width.Width}
 use Rattle.lft_elaborate.specs.Channels.Channels.{below}
 use Rattle.lft_elaborate.specs.inner.Used.{IsReached, is_instance, is_instance_in, within}
 use Rattle.lft_elaborate.specs.inner.Places.{IsMany, capped, known_count as settings_count, how_many, how_many_inside, how_many_of, many, member_in, parameter_in, how_many_places, how_many_meant, plus, sum_in, capped_product, width_in, written_width}
@@ -21,7 +21,7 @@ use Rattle.lft_same.proofs.FitsLemmas.Ports.{IsPort, port_is, shape_is_inside}
 use Rattle.lft_elaborate.specs.declared.meanings.Meaning.TheVariants as meaning
 use Rattle.lft_whole.specs.declared.tree.Count.TheVariants as count
 use Rattle.lft_whole.specs.declared.tree.Member.TheVariants as member
-use Rattle.lft_whole.specs.declared.tree.Value.TheVariants as value
+use Rattle.lft_whole.specs.declared.tree.WrittenValue.TheVariants as value
 use Rattle.lft_classes.specs.declared.shapes.OwnThing.TheVariants as thing
 
 -- ---- small numbers
@@ -33,7 +33,7 @@ uncut : (c : ℕ) → min c (2 ^ 62) < small → min c (2 ^ 62) ≡ c
 uncut c l = omega (arith, l)
 
 -- a number that is written is that of the value
-pub number_is : (v : Value) (z : ℤ) (k : ℕ) → literal v ≡ Some z → natural z ≡ Some k → k < small → option_and_then natural (number_of v) ≡ Some k
+pub number_is : (v : WrittenValue) (z : ℤ) (k : ℕ) → literal v ≡ Some z → natural z ≡ Some k → k < small → option_and_then natural (number_of v) ≡ Some k
 number_is (value.Number true c None) z k e f l = below_zero c (min c (2 ^ 62)) refl (ap natural (Some_same (neg_ℤ (pos (min c (2 ^ 62)))) z e) ∙ f)
   where
     below_zero : (c m : ℕ) → m ≡ min c (2 ^ 62) → natural (neg_ℤ (pos m)) ≡ Some k → natural (neg_ℤ (pos c)) ≡ Some k

@@ -4,46 +4,46 @@ use Rattle.std.specs.{List.enumerate_from, Option.{option_and_then, option_map_o
 use Rattle.lft_elaborate.specs.{Channels.Channels.below, Names.tail, Values.is_forever}
 use Rattle.lft_classes.specs.Shapes.{name_of, width_of}
 use Rattle.lft_whole.specs.declared.sources.source.SourceFile.{SourceFile}
-use Rattle.lft_whole.specs.declared.tree.{Assignment.Assignment, Expression.Expression, Instance.Instance, Member.Member, Parameter.Parameter, Value.Value}
+use Rattle.lft_whole.specs.declared.tree.{Assignment.Assignment, Expression.Expression, Instance.Instance, Member.Member, Parameter.Parameter, WrittenValue.WrittenValue}
 use Rattle.lft_whole.specs.declared.tree.Width.{Width}
 use Rattle.lft_tree.specs.Tree.{nanoseconds}
 use Rattle.lft_same.specs.Expanded.Reactors.{Class, class_named, is_named, members_of, parameters_of}
 use Rattle.lft_whole.specs.declared.tree.Member.TheVariants as member
-use Rattle.lft_whole.specs.declared.tree.Value.TheVariants as value
+use Rattle.lft_whole.specs.declared.tree.WrittenValue.TheVariants as value
 
 -- ---- parameters
 
 -- an instance: its reactor, and of each parameter the value, if it has one
 pub record Inside : Type 0 where
   pub class : Class
-  pub values : List (Option Value)
+  pub values : List (Option WrittenValue)
 
 -- the value of the parameter of this name
-abbrev pub value_by_name : List Parameter → List (Option Value) → List ℕ → Option Value
+abbrev pub value_by_name : List Parameter → List (Option WrittenValue) → List ℕ → Option WrittenValue
 value_by_name [] vs q = None
 value_by_name (p ∷ ps) [] q = None
 value_by_name (p ∷ ps) (v ∷ vs) q = if is_named q p.name then v else value_by_name ps vs q
 
 -- the value that the parameter of this name has in an instance
-abbrev pub value_named : List SourceFile → Inside → List ℕ → Option Value
+abbrev pub value_named : List SourceFile → Inside → List ℕ → Option WrittenValue
 value_named files x q = value_by_name (parameters_of files x.class) x.values q
 
 -- a value, read in an instance: that of a parameter, if it is the name of one
-abbrev pub read_in : List SourceFile → Inside → Value → Option Value
+abbrev pub read_in : List SourceFile → Inside → WrittenValue → Option WrittenValue
 read_in files x (value.Word q) = value_named files x (string_bytes q)
 read_in files x v = Some v
 
 -- the default of a parameter
-abbrev pub default_of : Parameter → Option Value
+abbrev pub default_of : Parameter → Option WrittenValue
 default_of p = option_map (λ e. e.value) p.default
 
 -- what `new` gives to a parameter, read in the instance around; else its default
-abbrev pub value_or_default : List SourceFile → Inside → Parameter → Option Assignment → Option Value
+abbrev pub value_or_default : List SourceFile → Inside → Parameter → Option Assignment → Option WrittenValue
 value_or_default files outer p None = default_of p
 value_or_default files outer p (Some a) = read_in files outer a.value.value
 
 -- the value of a parameter of an instance to which `new` gives these
-abbrev pub value_given_in : List SourceFile → Inside → List Assignment → Parameter → Option Value
+abbrev pub value_given_in : List SourceFile → Inside → List Assignment → Parameter → Option WrittenValue
 value_given_in files outer given p = value_or_default files outer p (find (λ a. is_named (string_bytes p.name.text) a.name) given)
 
 -- the instance that a `new` in a file makes
@@ -55,13 +55,13 @@ abbrev pub main_class_instance : List SourceFile → Class → Inside
 main_class_instance files c = record { class = c; values = map default_of (parameters_of files c) }
 
 -- the whole number that a value is
-abbrev pub number_of : Value → Option ℤ
+abbrev pub number_of : WrittenValue → Option ℤ
 number_of (value.Number true n None) = Some (neg_ℤ (pos n))
 number_of (value.Number false n None) = Some (pos n)
 number_of v = None
 
 -- the time that a value is, in nanoseconds
-abbrev pub time_of : Value → ℕ
+abbrev pub time_of : WrittenValue → ℕ
 time_of (value.Number negative n unit) = nanoseconds (record { count = n; unit = unit })
 time_of v = 0
 

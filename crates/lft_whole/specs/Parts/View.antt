@@ -1,11 +1,11 @@
 -- What contracts see of the parts of a tree, and of what a function returned.
 use Rattle.std.specs.Prelude.{List, map, string_bytes, option_map}
-use Rattle.lft_whole.specs.declared.tree.{Name.Name, Reference.Reference, Value.Value, Expression.Expression, Count.Count, Term.Term, Width.Width}
+use Rattle.lft_whole.specs.declared.tree.{Name.Name, Reference.Reference, WrittenValue.WrittenValue, Expression.Expression, Count.Count, Term.Term, Width.Width}
 use Rattle.lft_whole.specs.declared.tree.{Parameter.Parameter, Port.Port, Timer.Timer, Action.Action, Trigger.Trigger, Effect.Effect, Reaction.Reaction}
 use Rattle.lft_whole.specs.declared.tree.{Assignment.Assignment, Instance.Instance, Connection.Connection, Member.Member, Reactor.Reactor}
 use Rattle.lft_whole.specs.declared.tree.{ImportedName.ImportedName, Import.Import, File.File}
 use Rattle.lft_whole.specs.Parts.Tree.{NameTree, ReferenceTree, ValueTree, NumberValue, WordValue, CodeValue, OtherValue, ExpressionTree, CountTree, NumberCount, WordCount, WidthOf, CodeCount, OpenCount, TermTree, ParameterTree, PortTree, TimerTree, ActionTree, TriggerTree, AtStartup, AtShutdown, AtReset, OnReference, EffectTree, ToMode, ToReference, ReactionTree, AssignmentTree, InstanceTree, ConnectionTree, MemberTree, PortMember, TimerMember, ActionMember, ReactionMember, InstanceMember, ConnectionMember, ForeignMember, ReactorTree, ImportedTree, ImportTree, FileTree}
-use Rattle.lft_whole.specs.declared.tree.Value.TheVariants as values
+use Rattle.lft_whole.specs.declared.tree.WrittenValue.TheVariants as values
 use Rattle.lft_whole.specs.declared.tree.Count.TheVariants as counts
 use Rattle.lft_whole.specs.declared.tree.Trigger.TheVariants as triggers
 use Rattle.lft_whole.specs.declared.tree.Effect.TheVariants as effects
@@ -20,7 +20,7 @@ abbrev pub reference_view : Reference → ReferenceTree
 reference_view r = record { head = name_view r.head; port = option_map name_view r.port; is_interleaved = r.is_interleaved }
 
 -- a value as what the tree keeps of it
-abbrev pub value_view : Value → ValueTree
+abbrev pub value_view : WrittenValue → ValueTree
 value_view (values.Number negative count unit) = NumberValue negative count unit
 value_view (values.Word word) = WordValue (string_bytes word)
 value_view values.Code = CodeValue

@@ -7,11 +7,11 @@ ghost use Rattle.lft_syntax.specs.Lexeme.{Symbol, is};
 ghost use Rattle.lft_whole.specs.Parts.Language as Language;
 
 use crate::TreeFault;
-use crate::parts::input::Input;
+use crate::parts::lexed::LexedText;
 use crate::parts::tokens::{is_arrow, is_symbol, is_there, is_tilde_arrow, symbol};
 
 /// Whether the token here is of the group, in which so many other brackets are open, and doesn't close it.
-fn is_inside(input: &Input, at: usize, depth: usize, closing: u8) -> bool
+fn is_inside(input: &LexedText, at: usize, depth: usize, closing: u8) -> bool
     ensures is { result ≡ Language.inside closing depth (source input.now) at }
     ensures inside { result ≡ false → at < count input.now }
 {
@@ -19,7 +19,7 @@ fn is_inside(input: &Input, at: usize, depth: usize, closing: u8) -> bool
 }
 
 /// How many other brackets are open behind the token here.
-fn depth_behind(input: &Input, at: usize, depth: usize, opening: u8, closing: u8) -> usize
+fn depth_behind(input: &LexedText, at: usize, depth: usize, opening: u8, closing: u8) -> usize
     requires depth { depth ≤ at }
     requires there { at < count input.now }
     requires closing { (is (Symbol closing) (see (source input.now) at) && (depth == 0)) ≡ false }
@@ -38,7 +38,7 @@ fn depth_behind(input: &Input, at: usize, depth: usize, opening: u8, closing: u8
 }
 
 /// The place of the bracket that closes the group whose tokens begin here.
-fn closing_of(input: &Input, at: usize, opening: u8, closing: u8) -> Result<usize, TreeFault>
+fn closing_of(input: &LexedText, at: usize, opening: u8, closing: u8) -> Result<usize, TreeFault>
     requires { Within input.now at }
     ensures gives { GivesAlways at_next result (ignored (repeat (Language.inside closing) (within opening closing) 0) (source input.now) at) }
     ensures ok { IfOk result (λ end. (at ≤ end) × (end < count input.now)) }
@@ -59,7 +59,7 @@ fn closing_of(input: &Input, at: usize, opening: u8, closing: u8) -> Result<usiz
 
 /// The place of the bracket that closes the group which opens here.
 #[tactic(auto, unfolding(crate::specs::Parts::Language::opened))]
-pub fn group_end(input: &Input, at: usize, opening: u8, closing: u8) -> Result<usize, TreeFault>
+pub fn group_end(input: &LexedText, at: usize, opening: u8, closing: u8) -> Result<usize, TreeFault>
     requires { Within input.now at }
     ensures gives { GivesAlways at_next result (opened opening closing (source input.now) at) }
     ensures ok { IfOk result (λ end. (at < end) × (end < count input.now)) }
@@ -70,7 +70,7 @@ pub fn group_end(input: &Input, at: usize, opening: u8, closing: u8) -> Result<u
 }
 
 /// The place behind the group which opens here.
-pub fn group(input: &Input, at: usize, opening: u8, closing: u8) -> Result<usize, TreeFault>
+pub fn group(input: &LexedText, at: usize, opening: u8, closing: u8) -> Result<usize, TreeFault>
     requires { Within input.now at }
     ensures gives { Gives at_next result (Language.group opening closing (source input.now) at) }
     ensures ok { IfOk result (Further input.now at) }
@@ -81,7 +81,12 @@ pub fn group(input: &Input, at: usize, opening: u8, closing: u8) -> Result<usize
 }
 
 /// The place behind a group, or this one where none opens here.
-pub fn past_group(input: &Input, at: usize, opening: u8, closing: u8) -> Result<usize, TreeFault>
+pub fn past_group(
+    input: &LexedText,
+    at: usize,
+    opening: u8,
+    closing: u8,
+) -> Result<usize, TreeFault>
     requires { Within input.now at }
     ensures gives { Gives at_next result (Language.past_group opening closing (source input.now) at) }
     ensures ok { IfOk result (NotBefore input.now at) }
@@ -95,7 +100,7 @@ pub fn past_group(input: &Input, at: usize, opening: u8, closing: u8) -> Result<
 }
 
 /// Whether the `(` here begins a connection, as in `(a, b)+ -> c`, and no values of what stands before it.
-fn begins_connection(input: &Input, at: usize) -> bool
+fn begins_connection(input: &LexedText, at: usize) -> bool
     requires { Within input.now at }
     ensures is { result ≡ before_arrow (source input.now) (opened 40 41 (source input.now) at) }
 {
@@ -111,7 +116,7 @@ fn begins_connection(input: &Input, at: usize) -> bool
 
 /// Whether values in parentheses open here.
 #[tactic(auto, unfolding(crate::specs::Parts::Parts::on_values))]
-pub fn opens_values(input: &Input, at: usize) -> bool
+pub fn opens_values(input: &LexedText, at: usize) -> bool
     requires { Within input.now at }
     ensures is { result ≡ on_values (source input.now) at }
     ensures inside { result ≡ true → at < count input.now }

@@ -6,7 +6,7 @@ ghost use Rattle.lft_whole.specs.Parts.View.{reference_view, effect_view};
 ghost use Rattle.lft_whole.specs.Parts.Parts as Parts;
 
 use crate::parts::groups::group;
-use crate::parts::input::Input;
+use crate::parts::lexed::LexedText;
 use crate::parts::names::{name, skip_name};
 use crate::parts::tokens::{is_key, is_symbol, symbol};
 use crate::{Effect, Reference, TreeFault};
@@ -14,7 +14,7 @@ use crate::{Effect, Reference, TreeFault};
 /// A name, or a port of a contained instance.
 #[tactic(auto, unfolding(crate::specs::Parts::Parts::plain_reference))]
 fn plain_reference(
-    input: &Input,
+    input: &LexedText,
     at: usize,
     is_interleaved: bool,
 ) -> Result<(Reference, usize), TreeFault>
@@ -47,7 +47,7 @@ fn plain_reference(
 }
 
 /// Whether `interleaved(` stands here.
-pub fn is_interleaved(input: &Input, at: usize) -> bool
+pub fn is_interleaved(input: &LexedText, at: usize) -> bool
     ensures is { result ≡ Parts.on_interleaved (source input.now) at }
     ensures inside { result ≡ true → at < count input.now }
 {
@@ -57,7 +57,7 @@ pub fn is_interleaved(input: &Input, at: usize) -> bool
 
 /// The place behind `as NAME`, which may be left out.
 #[tactic(auto, unfolding(crate::specs::Parts::Parts::alias))]
-fn past_alias(input: &Input, at: usize) -> Result<usize, TreeFault>
+fn past_alias(input: &LexedText, at: usize) -> Result<usize, TreeFault>
     requires { Within input.now at }
     ensures gives { Gives at_next result (Parts.alias (source input.now) at) }
     ensures ok { IfOk result (NotBefore input.now at) }
@@ -73,7 +73,7 @@ fn past_alias(input: &Input, at: usize) -> Result<usize, TreeFault>
 
 /// A reference, interleaved or not, also under another name.
 #[tactic(auto, unfolding(crate::specs::Parts::Parts::reference))]
-pub fn reference(input: &Input, at: usize) -> Result<(Reference, usize), TreeFault>
+pub fn reference(input: &LexedText, at: usize) -> Result<(Reference, usize), TreeFault>
     requires { Within input.now at }
     ensures gives { Gives (λ x. (reference_view x.0, x.1)) result (Parts.reference (source input.now) at) }
     ensures ok { IfOk result (λ x. Further input.now at x.1) }
@@ -93,7 +93,7 @@ pub fn reference(input: &Input, at: usize) -> Result<(Reference, usize), TreeFau
 
 /// References with commas between them, one at least.
 #[tactic(auto, unfolding(crate::specs::Parts::Parts::references))]
-pub fn references(input: &Input, at: usize) -> Result<(Vec<Reference>, usize), TreeFault>
+pub fn references(input: &LexedText, at: usize) -> Result<(Vec<Reference>, usize), TreeFault>
     requires { Within input.now at }
     ensures gives { Gives (λ x. (map reference_view x.0.items, x.1)) result (Parts.references (source input.now) at) }
     ensures ok { IfOk result (λ x. Further input.now at x.1) }
@@ -112,7 +112,7 @@ pub fn references(input: &Input, at: usize) -> Result<(Vec<Reference>, usize), T
 }
 
 /// Whether `reset(` or `history(` stands here.
-fn is_mode(input: &Input, at: usize) -> bool
+fn is_mode(input: &LexedText, at: usize) -> bool
     ensures is { result ≡ Parts.on_mode (source input.now) at }
     ensures inside { result ≡ true → at < count input.now }
 {
@@ -122,7 +122,7 @@ fn is_mode(input: &Input, at: usize) -> bool
 }
 
 #[tactic(auto, unfolding(crate::specs::Parts::Parts::effect))]
-fn effect(input: &Input, at: usize) -> Result<(Effect, usize), TreeFault>
+fn effect(input: &LexedText, at: usize) -> Result<(Effect, usize), TreeFault>
     requires { Within input.now at }
     ensures gives { Gives (λ x. (effect_view x.0, x.1)) result (Parts.effect (source input.now) at) }
     ensures ok { IfOk result (λ x. Further input.now at x.1) }
@@ -139,7 +139,7 @@ fn effect(input: &Input, at: usize) -> Result<(Effect, usize), TreeFault>
 
 /// Effects with commas between them, one at least.
 #[tactic(auto, unfolding(crate::specs::Parts::Parts::effects))]
-pub fn effects(input: &Input, at: usize) -> Result<(Vec<Effect>, usize), TreeFault>
+pub fn effects(input: &LexedText, at: usize) -> Result<(Vec<Effect>, usize), TreeFault>
     requires { Within input.now at }
     ensures gives { Gives (λ x. (map effect_view x.0.items, x.1)) result (Parts.effects (source input.now) at) }
     ensures ok { IfOk result (λ x. Further input.now at x.1) }

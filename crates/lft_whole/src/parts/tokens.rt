@@ -8,13 +8,13 @@ ghost use Rattle.lft_syntax.specs.Lexeme as Lexeme;
 ghost use Rattle.lft_whole.specs.Parts.Language as Language;
 
 use crate::TreeFault;
-use crate::parts::input::Input;
+use crate::parts::lexed::LexedText;
 use lft_syntax::{Seen, unit_named};
 use lft_tree::TimeUnit;
 
 /// What stands at a place.
 #[tactic(auto, unfolding(crate::specs::Parts::Lexeme::see))]
-pub fn peek<'a>(input: &Input<'a>, at: usize) -> Option<Seen<'a>>
+pub fn peek<'a>(input: &LexedText<'a>, at: usize) -> Option<Seen<'a>>
     ensures is { seen_there result ≡ see (source input.now) at }
     ensures inside { IfSome result (λ _. (at < count input.now) × (at < 2 ^ 63 - 1)) }
     ensures letters { IfSome result AreLetters }
@@ -23,14 +23,14 @@ pub fn peek<'a>(input: &Input<'a>, at: usize) -> Option<Seen<'a>>
     Some(Seen::of(input.text, *token))
 }
 
-pub fn is_there(input: &Input, at: usize) -> bool
+pub fn is_there(input: &LexedText, at: usize) -> bool
     ensures is { result ≡ on Lexeme.is_there (source input.now) at }
     ensures inside { result ≡ true → at < count input.now }
 {
     peek(input, at).is_some()
 }
 
-pub fn is_symbol(input: &Input, at: usize, byte: u8) -> bool
+pub fn is_symbol(input: &LexedText, at: usize, byte: u8) -> bool
     ensures is { result ≡ Language.sign byte (source input.now) at }
     ensures inside { result ≡ true → at < count input.now }
 {
@@ -41,7 +41,7 @@ pub fn is_symbol(input: &Input, at: usize, byte: u8) -> bool
 }
 
 /// Whether this word stands there.
-pub fn is_key(input: &Input, at: usize, word: &[u8]) -> bool
+pub fn is_key(input: &LexedText, at: usize, word: &[u8]) -> bool
     ensures is { result ≡ Language.word word.now (source input.now) at }
     ensures inside { result ≡ true → at < count input.now }
 {
@@ -52,42 +52,42 @@ pub fn is_key(input: &Input, at: usize, word: &[u8]) -> bool
 }
 
 /// Whether a word stands there, reserved or not.
-pub fn is_word(input: &Input, at: usize) -> bool
+pub fn is_word(input: &LexedText, at: usize) -> bool
     ensures is { result ≡ on is_any_word (source input.now) at }
     ensures inside { result ≡ true → at < count input.now }
 {
     matches!(peek(input, at), Some(Seen::Letters(_)))
 }
 
-pub fn is_code(input: &Input, at: usize) -> bool
+pub fn is_code(input: &LexedText, at: usize) -> bool
     ensures is { result ≡ on (is Code) (source input.now) at }
     ensures inside { result ≡ true → at < count input.now }
 {
     matches!(peek(input, at), Some(Seen::Code))
 }
 
-pub fn is_text(input: &Input, at: usize) -> bool
+pub fn is_text(input: &LexedText, at: usize) -> bool
     ensures is { result ≡ on (is Text) (source input.now) at }
     ensures inside { result ≡ true → at < count input.now }
 {
     matches!(peek(input, at), Some(Seen::Text))
 }
 
-pub fn is_arrow(input: &Input, at: usize) -> bool
+pub fn is_arrow(input: &LexedText, at: usize) -> bool
     ensures is { result ≡ on (is Arrow) (source input.now) at }
     ensures inside { result ≡ true → at < count input.now }
 {
     matches!(peek(input, at), Some(Seen::Arrow))
 }
 
-pub fn is_tilde_arrow(input: &Input, at: usize) -> bool
+pub fn is_tilde_arrow(input: &LexedText, at: usize) -> bool
     ensures is { result ≡ on (is TildeArrow) (source input.now) at }
     ensures inside { result ≡ true → at < count input.now }
 {
     matches!(peek(input, at), Some(Seen::TildeArrow))
 }
 
-pub fn symbol(input: &Input, at: usize, byte: u8) -> Result<usize, TreeFault>
+pub fn symbol(input: &LexedText, at: usize, byte: u8) -> Result<usize, TreeFault>
     requires { Within input.now at }
     ensures gives { GivesAlways at_next result (Language.symbol byte (source input.now) at) }
     ensures ok { IfOk result (Further input.now at) }
@@ -100,7 +100,7 @@ pub fn symbol(input: &Input, at: usize, byte: u8) -> Result<usize, TreeFault>
     }
 }
 
-pub fn key(input: &Input, at: usize, word: &[u8]) -> Result<usize, TreeFault>
+pub fn key(input: &LexedText, at: usize, word: &[u8]) -> Result<usize, TreeFault>
     requires { Within input.now at }
     ensures gives { Gives at_next result (Language.key word.now (source input.now) at) }
     ensures ok { IfOk result (Further input.now at) }
@@ -113,7 +113,7 @@ pub fn key(input: &Input, at: usize, word: &[u8]) -> Result<usize, TreeFault>
     }
 }
 
-pub fn code(input: &Input, at: usize) -> Result<usize, TreeFault>
+pub fn code(input: &LexedText, at: usize) -> Result<usize, TreeFault>
     requires { Within input.now at }
     ensures gives { Gives at_next result (Language.one (on (is Code)) (source input.now) at) }
     ensures ok { IfOk result (Further input.now at) }
@@ -127,7 +127,7 @@ pub fn code(input: &Input, at: usize) -> Result<usize, TreeFault>
 }
 
 /// Any word, reserved or not.
-pub fn word(input: &Input, at: usize) -> Result<usize, TreeFault>
+pub fn word(input: &LexedText, at: usize) -> Result<usize, TreeFault>
     requires { Within input.now at }
     ensures gives { Gives at_next result (Language.one (on is_any_word) (source input.now) at) }
     ensures ok { IfOk result (Further input.now at) }
@@ -141,7 +141,7 @@ pub fn word(input: &Input, at: usize) -> Result<usize, TreeFault>
 }
 
 /// The place behind a symbol, or this one where another token stands here.
-pub fn past_symbol(input: &Input, at: usize, byte: u8) -> usize
+pub fn past_symbol(input: &LexedText, at: usize, byte: u8) -> usize
     requires { Within input.now at }
     ensures is { result ≡ (if Language.sign byte (source input.now) at then at + 1 else at) }
     ensures inside { (at ≤ result) × Within input.now result }
@@ -154,7 +154,7 @@ pub fn past_symbol(input: &Input, at: usize, byte: u8) -> usize
 }
 
 /// The place behind a word, or this one where another token stands here.
-pub fn past_key(input: &Input, at: usize, word: &[u8]) -> usize
+pub fn past_key(input: &LexedText, at: usize, word: &[u8]) -> usize
     requires { Within input.now at }
     ensures is { result ≡ (if Language.word word.now (source input.now) at then at + 1 else at) }
     ensures inside { (at ≤ result) × Within input.now result }
@@ -163,7 +163,7 @@ pub fn past_key(input: &Input, at: usize, word: &[u8]) -> usize
 }
 
 /// The place behind code, or this one where another token stands here.
-pub fn past_code(input: &Input, at: usize) -> usize
+pub fn past_code(input: &LexedText, at: usize) -> usize
     requires { Within input.now at }
     ensures is { result ≡ (if on (is Code) (source input.now) at then at + 1 else at) }
     ensures inside { (at ≤ result) × Within input.now result }
@@ -172,7 +172,7 @@ pub fn past_code(input: &Input, at: usize) -> usize
 }
 
 /// The place behind whatever stands here.
-pub fn past_any(input: &Input, at: usize) -> usize
+pub fn past_any(input: &LexedText, at: usize) -> usize
     requires { Within input.now at }
     ensures is { result ≡ (if on Lexeme.is_there (source input.now) at then at + 1 else at) }
     ensures inside { (at ≤ result) × Within input.now result }
@@ -181,7 +181,7 @@ pub fn past_any(input: &Input, at: usize) -> usize
 }
 
 /// Behind an item of a list that may end in a comma: the place behind the comma, or that of what closes the list.
-pub fn past_item(input: &Input, at: usize, closing: u8) -> Result<usize, TreeFault>
+pub fn past_item(input: &LexedText, at: usize, closing: u8) -> Result<usize, TreeFault>
     requires { Within input.now at }
     ensures gives { Gives at_next result (Language.behind_item closing (source input.now) at) }
     ensures ok { IfOk result (λ next. (at ≤ next) × Within input.now next) }
@@ -198,7 +198,7 @@ pub fn past_item(input: &Input, at: usize, closing: u8) -> Result<usize, TreeFau
 }
 
 /// The unit that stands at a place.
-pub fn unit(input: &Input, at: usize) -> Option<TimeUnit>
+pub fn unit(input: &LexedText, at: usize) -> Option<TimeUnit>
     ensures is { result ≡ look unit_in (see (source input.now) at) }
     ensures inside { IfSome result (λ _. at < count input.now) }
 {

@@ -6,11 +6,11 @@ ghost use Rattle.lft_whole.specs.Parts.Parts as Parts;
 
 use crate::TreeFault;
 use crate::parts::groups::{group, past_group};
-use crate::parts::input::Input;
+use crate::parts::lexed::LexedText;
 use crate::parts::names::skip_name;
 use crate::parts::tokens::{is_code, is_key, is_symbol, symbol};
 
-fn is_part(input: &Input, at: usize) -> bool
+fn is_part(input: &LexedText, at: usize) -> bool
     ensures is { result ≡ Parts.on_part (source input.now) at }
     ensures inside { result ≡ true → at < count input.now }
 {
@@ -20,7 +20,7 @@ fn is_part(input: &Input, at: usize) -> bool
 
 /// `.NAME` or `::NAME`.
 #[tactic(auto, unfolding(crate::specs::Parts::Parts::type_part))]
-fn part(input: &Input, at: usize) -> Result<usize, TreeFault>
+fn part(input: &LexedText, at: usize) -> Result<usize, TreeFault>
     requires { Within input.now at }
     ensures gives { Gives at_next result (Parts.type_part (source input.now) at) }
     ensures ok { IfOk result (Further input.now at) }
@@ -35,7 +35,7 @@ fn part(input: &Input, at: usize) -> Result<usize, TreeFault>
 }
 
 /// The place behind what goes on with a name.
-fn past_parts(input: &Input, at: usize) -> Result<usize, TreeFault>
+fn past_parts(input: &LexedText, at: usize) -> Result<usize, TreeFault>
     requires { Within input.now at }
     ensures gives { Gives at_next result (Parts.type_parts (source input.now) at) }
     ensures ok { IfOk result (NotBefore input.now at) }
@@ -50,7 +50,7 @@ fn past_parts(input: &Input, at: usize) -> Result<usize, TreeFault>
 
 /// Names joined by `.` or `::`.
 #[tactic(auto, unfolding(crate::specs::Parts::Parts::joined_names))]
-fn joined_names(input: &Input, at: usize) -> Result<usize, TreeFault>
+fn joined_names(input: &LexedText, at: usize) -> Result<usize, TreeFault>
     requires { Within input.now at }
     ensures gives { Gives at_next result (Parts.joined_names (source input.now) at) }
     ensures ok { IfOk result (Further input.now at) }
@@ -61,7 +61,7 @@ fn joined_names(input: &Input, at: usize) -> Result<usize, TreeFault>
 }
 
 /// Whether `*` or `&` stands here.
-fn is_sign(input: &Input, at: usize) -> bool
+fn is_sign(input: &LexedText, at: usize) -> bool
     ensures is { result ≡ Parts.on_sign (source input.now) at }
     ensures inside { result ≡ true → at < count input.now }
 {
@@ -69,7 +69,7 @@ fn is_sign(input: &Input, at: usize) -> bool
 }
 
 /// The place behind the signs `*` and `&`.
-fn past_signs(input: &Input, at: usize) -> usize
+fn past_signs(input: &LexedText, at: usize) -> usize
     requires { Within input.now at }
     ensures gives { Parts.signs (source input.now) at ≡ Ok (tt, result) }
     ensures inside { NotBefore input.now at result }
@@ -82,7 +82,7 @@ fn past_signs(input: &Input, at: usize) -> usize
 }
 
 /// The place behind what arrays are written with.
-fn past_arrays(input: &Input, at: usize) -> Result<usize, TreeFault>
+fn past_arrays(input: &LexedText, at: usize) -> Result<usize, TreeFault>
     requires { Within input.now at }
     ensures gives { Gives at_next result (Parts.arrays (source input.now) at) }
     ensures ok { IfOk result (NotBefore input.now at) }
@@ -97,7 +97,7 @@ fn past_arrays(input: &Input, at: usize) -> Result<usize, TreeFault>
 
 /// What arrays are made of: code, a record in braces, or a name with arguments and signs.
 #[tactic(auto, unfolding(crate::specs::Parts::Parts::element))]
-fn element(input: &Input, at: usize) -> Result<usize, TreeFault>
+fn element(input: &LexedText, at: usize) -> Result<usize, TreeFault>
     requires { Within input.now at }
     ensures gives { Gives at_next result (Parts.element (source input.now) at) }
     ensures ok { IfOk result (Further input.now at) }
@@ -116,7 +116,7 @@ fn element(input: &Input, at: usize) -> Result<usize, TreeFault>
 
 /// A type without a bar.
 #[tactic(auto, unfolding(crate::specs::Parts::Parts::member_type))]
-fn member_type(input: &Input, at: usize) -> Result<usize, TreeFault>
+fn member_type(input: &LexedText, at: usize) -> Result<usize, TreeFault>
     requires { Within input.now at }
     ensures gives { Gives at_next result (Parts.member_type (source input.now) at) }
     ensures ok { IfOk result (Further input.now at) }
@@ -127,7 +127,7 @@ fn member_type(input: &Input, at: usize) -> Result<usize, TreeFault>
 }
 
 /// The place behind the types of a union that stand behind the first, each behind a bar.
-fn past_union(input: &Input, at: usize) -> Result<usize, TreeFault>
+fn past_union(input: &LexedText, at: usize) -> Result<usize, TreeFault>
     requires { Within input.now at }
     ensures gives { Gives at_next result (Parts.union (source input.now) at) }
     ensures ok { IfOk result (NotBefore input.now at) }
@@ -142,7 +142,7 @@ fn past_union(input: &Input, at: usize) -> Result<usize, TreeFault>
 
 /// A type: whether it is `time`.
 #[tactic(auto, unfolding(crate::specs::Parts::Parts::one_type))]
-fn type_here(input: &Input, at: usize) -> Result<(bool, usize), TreeFault>
+fn type_here(input: &LexedText, at: usize) -> Result<(bool, usize), TreeFault>
     requires { Within input.now at }
     ensures gives { Gives (λ x. (x.0, x.1)) result (Parts.one_type (source input.now) at) }
     ensures ok { IfOk result (λ x. Further input.now at x.1) }
@@ -156,7 +156,7 @@ fn type_here(input: &Input, at: usize) -> Result<(bool, usize), TreeFault>
 
 /// `:` and a type, which may be left out: whether it is `time`, if it stands there.
 #[tactic(auto, unfolding(crate::specs::Parts::Parts::typed))]
-pub fn typed(input: &Input, at: usize) -> Result<(Option<bool>, usize), TreeFault>
+pub fn typed(input: &LexedText, at: usize) -> Result<(Option<bool>, usize), TreeFault>
     requires { Within input.now at }
     ensures gives { Gives (λ x. (x.0, x.1)) result (Parts.typed (source input.now) at) }
     ensures ok { IfOk result (λ x. NotBefore input.now at x.1) }

@@ -6,17 +6,17 @@ ghost use Rattle.lft_whole.specs.Parts.{Language.ignored, View.expression_view};
 ghost use Rattle.lft_whole.specs.Parts.Parts as Parts;
 
 use crate::parts::groups::{group_end, opens_values};
-use crate::parts::input::Input;
+use crate::parts::lexed::LexedText;
 use crate::parts::tokens::{
     is_arrow, is_code, is_symbol, is_text, is_tilde_arrow, is_word, past_item, past_symbol, peek,
     unit,
 };
-use crate::{Expression, TreeFault, Value};
+use crate::{Expression, TreeFault, WrittenValue};
 use lft_syntax::{Seen, text_of};
 use lft_tree::TimeUnit;
 
 /// Whether what stands behind this place makes the word here the first of a member.
-fn is_before_follower(input: &Input, at: usize) -> bool
+fn is_before_follower(input: &LexedText, at: usize) -> bool
     requires { at < count input.now }
     ensures is { result ≡ Parts.on_follower (source input.now) (at + 1) }
 {
@@ -30,7 +30,7 @@ fn is_before_follower(input: &Input, at: usize) -> bool
 
 /// The unit of a number before this place, which may be left out: a word that begins a member is none.
 #[tactic(auto, unfolding(crate::specs::Parts::Parts::unit))]
-fn unit_behind(input: &Input, at: usize) -> (Option<TimeUnit>, usize)
+fn unit_behind(input: &LexedText, at: usize) -> (Option<TimeUnit>, usize)
     requires { Within input.now at }
     ensures gives { Parts.unit (source input.now) at ≡ Ok (result.0, result.1) }
     ensures inside { NotBefore input.now at result.1 }
@@ -43,7 +43,7 @@ fn unit_behind(input: &Input, at: usize) -> (Option<TimeUnit>, usize)
 
 /// A number, with a sign and a unit or without.
 #[tactic(auto, unfolding(crate::specs::Parts::Parts::number))]
-fn number(input: &Input, at: usize) -> Result<(Expression, usize), TreeFault>
+fn number(input: &LexedText, at: usize) -> Result<(Expression, usize), TreeFault>
     requires { Within input.now at }
     ensures gives { Gives (λ x. (expression_view x.0, x.1)) result (Parts.number (source input.now) at) }
     ensures ok { IfOk result (λ x. Further input.now at x.1) }
@@ -54,14 +54,14 @@ fn number(input: &Input, at: usize) -> Result<(Expression, usize), TreeFault>
     match peek(input, first) {
         Some(Seen::Decimal) => Ok((
             Expression {
-                value: Value::Other,
+                value: WrittenValue::Other,
                 at,
             },
             first + 1,
         )),
         Some(Seen::Number(count)) => {
             let (unit, end) = unit_behind(input, first + 1);
-            let value = Value::Number {
+            let value = WrittenValue::Number {
                 // `-0` is 0: as a negative number it would be refused where a time stands.
                 is_negative: is_signed && 0 < count,
                 count,
@@ -74,7 +74,7 @@ fn number(input: &Input, at: usize) -> Result<(Expression, usize), TreeFault>
 }
 
 /// Whether a point with a word behind it stands here.
-fn is_path(input: &Input, at: usize) -> bool
+fn is_path(input: &LexedText, at: usize) -> bool
     ensures is { result ≡ Parts.on_path (source input.now) at }
     ensures inside { result ≡ true → at + 1 < count input.now }
 {
@@ -82,7 +82,7 @@ fn is_path(input: &Input, at: usize) -> bool
 }
 
 /// The place behind words that are joined by points, the first of which stands before this place.
-fn path_end(input: &Input, at: usize) -> usize
+fn path_end(input: &LexedText, at: usize) -> usize
     requires { Within input.now at }
     ensures gives { Parts.path (source input.now) at ≡ Ok (tt, result) }
     ensures inside { NotBefore input.now at result }
@@ -96,7 +96,7 @@ fn path_end(input: &Input, at: usize) -> usize
 
 /// A word, or words that are joined by points.
 #[tactic(auto, unfolding(crate::specs::Parts::Parts::word_value), using(crate::proofs::Names::identifier_ascii))]
-fn word_value(input: &Input, at: usize) -> Result<(Expression, usize), TreeFault>
+fn word_value(input: &LexedText, at: usize) -> Result<(Expression, usize), TreeFault>
     requires { Within input.now at }
     ensures gives { Gives (λ x. (expression_view x.0, x.1)) result (Parts.word_value (source input.now) at) }
     ensures ok { IfOk result (λ x. Further input.now at x.1) }
@@ -108,27 +108,27 @@ fn word_value(input: &Input, at: usize) -> Result<(Expression, usize), TreeFault
     let end = path_end(input, at + 1);
     // No parameter is named by words with points, so no more of these is kept.
     let value = if end == at + 1 {
-        Value::Word(text_of(input.alloc, letters)?)
+        WrittenValue::Word(text_of(input.alloc, letters)?)
     } else {
-        Value::Other
+        WrittenValue::Other
     };
     Ok((Expression { value, at }, end))
 }
 
 /// A value without brackets around it.
 #[tactic(auto, unfolding(crate::specs::Parts::Parts::bare_value))]
-fn bare_value(input: &Input, at: usize) -> Result<(Expression, usize), TreeFault>
+fn bare_value(input: &LexedText, at: usize) -> Result<(Expression, usize), TreeFault>
     requires { Within input.now at }
     ensures gives { Gives (λ x. (expression_view x.0, x.1)) result (Parts.bare_value (source input.now) at) }
     ensures ok { IfOk result (λ x. Further input.now at x.1) }
     ensures err { IfErr result (Refuses input.now) }
 {
     if is_code(input, at) {
-        let value = Value::Code;
+        let value = WrittenValue::Code;
         return Ok((Expression { value, at }, at + 1));
     }
     if is_text(input, at) {
-        let value = Value::Other;
+        let value = WrittenValue::Other;
         return Ok((Expression { value, at }, at + 1));
     }
     if is_word(input, at) {
@@ -138,7 +138,7 @@ fn bare_value(input: &Input, at: usize) -> Result<(Expression, usize), TreeFault
 }
 
 /// The value that all tokens up to the second place are, if they are one without brackets around it.
-fn lone_value(input: &Input, at: usize, end: usize) -> Result<Option<Expression>, TreeFault>
+fn lone_value(input: &LexedText, at: usize, end: usize) -> Result<Option<Expression>, TreeFault>
     requires { Within input.now at }
     ensures gives { Gives (λ x. option_map expression_view x) result (Ok (Parts.sole end (Parts.bare_value (source input.now) at))) }
     ensures err { IfErr result (Refuses input.now) }
@@ -154,7 +154,7 @@ fn lone_value(input: &Input, at: usize, end: usize) -> Result<Option<Expression>
 /// A list between brackets. One of a single value is that value.
 #[tactic(auto, unfolding(crate::specs::Parts::Parts::list))]
 fn list(
-    input: &Input,
+    input: &LexedText,
     at: usize,
     opening: u8,
     closing: u8,
@@ -169,7 +169,7 @@ fn list(
         Some(value) => Ok((value, end + 1)),
         None => Ok((
             Expression {
-                value: Value::Other,
+                value: WrittenValue::Other,
                 at,
             },
             end + 1,
@@ -179,7 +179,7 @@ fn list(
 
 /// An array between square brackets, also of a single value.
 #[tactic(auto, unfolding(crate::specs::Parts::Parts::array))]
-fn array(input: &Input, at: usize) -> Result<(Expression, usize), TreeFault>
+fn array(input: &LexedText, at: usize) -> Result<(Expression, usize), TreeFault>
     requires { Within input.now at }
     ensures gives { Gives (λ x. (expression_view x.0, x.1)) result (Parts.array (source input.now) at) }
     ensures ok { IfOk result (λ x. Further input.now at x.1) }
@@ -188,7 +188,7 @@ fn array(input: &Input, at: usize) -> Result<(Expression, usize), TreeFault>
     let end = group_end(input, at, b'[', b']')?;
     Ok((
         Expression {
-            value: Value::Other,
+            value: WrittenValue::Other,
             at,
         },
         end + 1,
@@ -197,7 +197,7 @@ fn array(input: &Input, at: usize) -> Result<(Expression, usize), TreeFault>
 
 /// Any value.
 #[tactic(auto, unfolding(crate::specs::Parts::Parts::expression))]
-pub fn expression(input: &Input, at: usize) -> Result<(Expression, usize), TreeFault>
+pub fn expression(input: &LexedText, at: usize) -> Result<(Expression, usize), TreeFault>
     requires { Within input.now at }
     ensures gives { Gives (λ x. (expression_view x.0, x.1)) result (Parts.expression (source input.now) at) }
     ensures ok { IfOk result (λ x. Further input.now at x.1) }
@@ -217,7 +217,7 @@ pub fn expression(input: &Input, at: usize) -> Result<(Expression, usize), TreeF
 
 /// A value behind `=` or in brackets, which may be left out.
 #[tactic(auto, unfolding(crate::specs::Parts::Parts::initial))]
-pub fn initial(input: &Input, at: usize) -> Result<(Option<Expression>, usize), TreeFault>
+pub fn initial(input: &LexedText, at: usize) -> Result<(Option<Expression>, usize), TreeFault>
     requires { Within input.now at }
     ensures gives { Gives (λ x. (option_map expression_view x.0, x.1)) result (Parts.initial (source input.now) at) }
     ensures ok { IfOk result (λ x. NotBefore input.now at x.1) }
@@ -237,7 +237,7 @@ pub fn initial(input: &Input, at: usize) -> Result<(Option<Expression>, usize), 
 
 /// A value of a list, with the comma behind it.
 #[tactic(auto, unfolding(crate::specs::Parts::Parts::item))]
-fn item(input: &Input, at: usize) -> Result<(Expression, usize), TreeFault>
+fn item(input: &LexedText, at: usize) -> Result<(Expression, usize), TreeFault>
     requires { Within input.now at }
     ensures gives { Gives (λ x. (expression_view x.0, x.1)) result (Parts.item (source input.now) at) }
     ensures ok { IfOk result (λ x. Further input.now at x.1) }
@@ -250,7 +250,7 @@ fn item(input: &Input, at: usize) -> Result<(Expression, usize), TreeFault>
 
 /// A value of a list. None where the list ends.
 #[tactic(auto, unfolding(crate::specs::Parts::Parts::listed_value))]
-fn listed_value(input: &Input, at: usize) -> Result<(Option<Expression>, usize), TreeFault>
+fn listed_value(input: &LexedText, at: usize) -> Result<(Option<Expression>, usize), TreeFault>
     requires { Within input.now at }
     ensures gives { Gives (λ x. (option_map expression_view x.0, x.1)) result (Parts.listed_value (source input.now) at) }
     ensures ok { IfOk result (λ x. NotBefore input.now at x.1) }
@@ -264,7 +264,7 @@ fn listed_value(input: &Input, at: usize) -> Result<(Option<Expression>, usize),
 }
 
 /// A value of a list that means nothing.
-fn skip_item(input: &Input, at: usize) -> Result<usize, TreeFault>
+fn skip_item(input: &LexedText, at: usize) -> Result<usize, TreeFault>
     requires { Within input.now at }
     ensures gives { Gives at_next result (ignored Parts.item (source input.now) at) }
     ensures ok { IfOk result (Further input.now at) }
@@ -275,7 +275,7 @@ fn skip_item(input: &Input, at: usize) -> Result<usize, TreeFault>
 }
 
 /// The place behind the `)` that ends a list whose other values begin here.
-fn past_list(input: &Input, at: usize) -> Result<usize, TreeFault>
+fn past_list(input: &LexedText, at: usize) -> Result<usize, TreeFault>
     requires { Within input.now at }
     ensures gives { Gives at_next result (Parts.rest (source input.now) at) }
     ensures ok { IfOk result (Further input.now at) }
@@ -291,7 +291,7 @@ fn past_list(input: &Input, at: usize) -> Result<usize, TreeFault>
 /// The first two values in parentheses, which may be left out.
 #[tactic(auto, unfolding(crate::specs::Parts::Parts::two_values))]
 pub fn two_values(
-    input: &Input,
+    input: &LexedText,
     at: usize,
 ) -> Result<(Option<Expression>, Option<Expression>, usize), TreeFault>
     requires { Within input.now at }

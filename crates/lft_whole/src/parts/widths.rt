@@ -5,14 +5,14 @@ ghost use Rattle.lft_whole.specs.inner.Parts.{Parsing.{count, Within, Further, N
 ghost use Rattle.lft_whole.specs.Parts.View.{count_view, term_view, width_view};
 ghost use Rattle.lft_whole.specs.Parts.Parts as Parts;
 
-use crate::parts::input::Input;
+use crate::parts::lexed::LexedText;
 use crate::parts::references::reference;
 use crate::parts::tokens::{is_key, is_symbol, peek, symbol};
 use crate::{Count, Term, TreeFault, Width};
 use lft_syntax::{Seen, text_of};
 
 /// Whether `widthof(` stands here.
-fn is_width_of(input: &Input, at: usize) -> bool
+fn is_width_of(input: &LexedText, at: usize) -> bool
     ensures is { result ≡ Parts.on_width_of (source input.now) at }
     ensures inside { result ≡ true → at < count input.now }
 {
@@ -22,7 +22,7 @@ fn is_width_of(input: &Input, at: usize) -> bool
 
 /// `widthof(..)`, whose parenthesis stands here.
 #[tactic(auto, unfolding(crate::specs::Parts::Parts::width_of))]
-fn width_of(input: &Input, at: usize) -> Result<(Count, usize), TreeFault>
+fn width_of(input: &LexedText, at: usize) -> Result<(Count, usize), TreeFault>
     requires { Within input.now at }
     ensures gives { Gives (λ x. (count_view x.0, x.1)) result (Parts.width_of (source input.now) at) }
     ensures ok { IfOk result (λ x. Further input.now at x.1) }
@@ -35,7 +35,7 @@ fn width_of(input: &Input, at: usize) -> Result<(Count, usize), TreeFault>
 }
 
 #[tactic(auto, unfolding(crate::specs::Parts::Parts::count), using(crate::proofs::Names::identifier_ascii))]
-fn count_here(input: &Input, at: usize) -> Result<(Count, usize), TreeFault>
+fn count_here(input: &LexedText, at: usize) -> Result<(Count, usize), TreeFault>
     requires { Within input.now at }
     ensures gives { Gives (λ x. (count_view x.0, x.1)) result (Parts.count (source input.now) at) }
     ensures ok { IfOk result (λ x. Further input.now at x.1) }
@@ -55,7 +55,7 @@ fn count_here(input: &Input, at: usize) -> Result<(Count, usize), TreeFault>
 }
 
 #[tactic(auto, unfolding(crate::specs::Parts::Parts::term))]
-fn term(input: &Input, at: usize) -> Result<(Term, usize), TreeFault>
+fn term(input: &LexedText, at: usize) -> Result<(Term, usize), TreeFault>
     requires { Within input.now at }
     ensures gives { Gives (λ x. (term_view x.0, x.1)) result (Parts.term (source input.now) at) }
     ensures ok { IfOk result (λ x. Further input.now at x.1) }
@@ -67,7 +67,7 @@ fn term(input: &Input, at: usize) -> Result<(Term, usize), TreeFault>
 
 /// Terms with `+` between them, one at least.
 #[tactic(auto, unfolding(crate::specs::Parts::Parts::terms))]
-fn terms(input: &Input, at: usize) -> Result<(Vec<Term>, usize), TreeFault>
+fn terms(input: &LexedText, at: usize) -> Result<(Vec<Term>, usize), TreeFault>
     requires { Within input.now at }
     ensures gives { Gives (λ x. (map term_view x.0.items, x.1)) result (Parts.terms (source input.now) at) }
     ensures ok { IfOk result (λ x. Further input.now at x.1) }
@@ -86,7 +86,7 @@ fn terms(input: &Input, at: usize) -> Result<(Vec<Term>, usize), TreeFault>
 }
 
 /// The one term of an open width, whose bracket stands at a place.
-fn open_width(input: &Input, at: usize) -> Result<Width, TreeFault>
+fn open_width(input: &LexedText, at: usize) -> Result<Width, TreeFault>
     ensures gives { Gives width_view result (Ok (Parts.open_width at tt)) }
     ensures err { IfErr result (Refuses input.now) }
 {
@@ -99,7 +99,7 @@ fn open_width(input: &Input, at: usize) -> Result<Width, TreeFault>
 
 /// A width in its brackets, which may be left out.
 #[tactic(auto, unfolding(crate::specs::Parts::Parts::width))]
-pub fn width(input: &Input, at: usize) -> Result<(Option<Width>, usize), TreeFault>
+pub fn width(input: &LexedText, at: usize) -> Result<(Option<Width>, usize), TreeFault>
     requires { Within input.now at }
     ensures gives { Gives (λ x. (option_map width_view x.0, x.1)) result (Parts.width (source input.now) at) }
     ensures ok { IfOk result (λ x. NotBefore input.now at x.1) }

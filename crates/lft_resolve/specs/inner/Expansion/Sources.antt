@@ -1,11 +1,15 @@
 -- Chains of sources: ports by number, and for each the port before it, if it has one.
-use Rattle.std.specs.Prelude.{◌≡◌, ℕ, ◌<◌, List, [], ◌++◌, Option, Some, None, slice_get, length, option_to_list, sum}
+use Rattle.std.specs.Prelude.{◌≡◌, ℕ, ◌<◌, List, [], ◌++◌, Option, Some, None, IfSome, slice_get, length, option_map, option_to_list, sum, unwrap_or}
 use Rattle.lft_tag.specs.{Shifts.{join_all, none}, declared.{Shift.Shift, Source.Source}}
 use Rattle.lft_resolve.specs.declared.expansion.origins.Reached.{Reached}
 
 -- each source is a port of the list
 abbrev pub AreInside : List (Option Source) → Type 0
 AreInside sources = (p : ℕ) (s : Source) → slice_get sources p ≡ Some (Some s) → s.port < length sources
+
+-- the port before port p, if it has one
+abbrev pub ports_before : List (Option Source) → ℕ → List ℕ
+ports_before sources p = option_to_list (option_map (λ s. s.port) (unwrap_or (slice_get sources p) None))
 
 -- the chain into port p, walked backwards, ends at port o; the delays are those of the chain from o on
 pub data ChainOrigin (sources : List (Option Source)) : ℕ → ℕ → List ℕ → Type 0 where
@@ -32,3 +36,7 @@ pub record IsReached (sources : List (Option Source)) (p : ℕ) (r : Reached) : 
 pub record AreReached (sources : List (Option Source)) (all : List Reached) : Type 0 where
   pub as_long : length all ≡ length sources
   pub each : (p : ℕ) (r : Reached) → slice_get all p ≡ Some r → IsReached sources p r
+
+-- of the source of port p the end of its chain is known, and leaves room for a microstep more
+abbrev pub IsSourceReached : List (Option Source) → List Reached → ℕ → Type 0
+IsSourceReached sources all p = (s : Source) → slice_get sources p ≡ Some (Some s) → (r : Reached) × (slice_get all s.port ≡ Some r) × IsReached sources s.port r × IfSome r.shift (λ x. x.steps < 100000)

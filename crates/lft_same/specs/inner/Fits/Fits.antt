@@ -1,6 +1,6 @@
 -- Shapes and settings, as reactors and instances of the language.
 use Rattle.std.specs.Prelude.{◌≡◌, ◌↔◌, ℕ, ◌+◌, ℤ, true, List, Some, length, map, slice_get}
-use Rattle.lft_whole.specs.declared.{sources.source.SourceFile.SourceFile, tree.Value.Value}
+use Rattle.lft_whole.specs.declared.{sources.source.SourceFile.SourceFile, tree.WrittenValue.WrittenValue}
 use Rattle.lft_classes.specs.declared.shapes.{Shape.Shape, OwnThing.OwnThing}
 use Rattle.lft_classes.specs.inner.{Built.{HasName, located, located_parameters}, Scopes.reactors_before, Shapes.thing_named}
 use Rattle.lft_elaborate.specs.inner.Values.{Valued, is_sized, literal}
@@ -22,4 +22,4 @@ pub record Fits (files : List SourceFile) (shapes : List Shape) (t : Valued) (x 
   pub shape : Shape
   pub is_shape : slice_get shapes t.shape ≡ Some shape
   pub of_class : IsShapeOf files shape x.class
-  pub numbers : (p : ℕ) (n : ℤ) → is_sized shape p ≡ true → slice_get t.values p ≡ Some (Some n) → (v : Value) × (slice_get x.values p ≡ Some (Some v)) × (literal v ≡ Some n)
+  pub numbers : (p : ℕ) (n : ℤ) → is_sized shape p ≡ true → slice_get t.values p ≡ Some (Some n) → (v : WrittenValue) × (slice_get x.values p ≡ Some (Some v)) × (literal v ≡ Some n)

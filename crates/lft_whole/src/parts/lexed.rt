@@ -7,7 +7,7 @@ use std::alloc::Global;
 
 /// A text with its tokens, which lie in it.
 #[derive(Drop)]
-pub struct Input<'a> {
+pub struct LexedText<'a> {
     pub alloc: Global,
     pub text: &'a [u8],
     pub tokens: &'a [Token],
