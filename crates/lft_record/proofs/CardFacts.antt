@@ -19,7 +19,7 @@ use Rattle.lft_record.specs.declared.cards.fault.CardFault.TheVariants as fault
 -- what is read up to a line: the header and the records of some cards, and the scripts that they tell
 pub record Gathered (program : Parts) (records : Texts) (scripts : List Script) (r : Records (Bor (List ℕ))) : Type 0 where
   pub cards : List Card
-  pub read : Read (card_tables program) records cards r
+  pub read : Read in_memory (card_tables program) records cards r
   pub told : AreTold program cards scripts
 
 blank_told : (r : ℕ) (script : Script) → script ≡ blank → IsScript [] script

@@ -1,21 +1,23 @@
 -- What one more record does to a table of external inputs.
-use Rattle.std.proofs.Common.{Bor, ◌≡◌, ◌∙◌, inl, inr, ◌≤◌, ◌++◌, ℕ, List, [], ◌∷◌, length, Option, Some, None, filter_map, refl, sym, ap, subst, arith, append-nil}
+use Rattle.std.proofs.Common.{◌≡◌, ◌∙◌, inl, inr, ◌<◌, ◌≤◌, ◌++◌, ℕ, List, [], ◌∷◌, length, IfSome, Option, Some, None, filter_map, slice_get, refl, sym, ap, subst, arith, append-nil}
 use Rattle.std.specs.Prelude.{option_to_list}
-use Rattle.std.{specs.List.Sorted.IsPermutation, proofs.lemmas.List.{Elements.filter_map-append, Sorted.{IsPermutation-push_more, IsPermutation-refl}}}
+use Rattle.std.specs.List.Sorted.{IsPermutation}
+use Rattle.std.proofs.lemmas.List.{Elements.filter_map-append, Sorted.{IsPermutation-push_more, IsPermutation-refl, length_permutation}}
 use Rattle.csv.specs.Records.{fields_of}
-use Rattle.lft_ir.specs.{Parts.Parts, Steps.Inputs.{ExternalInputs, InOrder}, declared.steps.externals.Event.Event}
-use Rattle.lft_tag.specs.declared.Tag.{Tag}
-use Rattle.lft_trace.specs.ExternalTables.{AreApart, ExternalFails, ExternalTable, FaultAt, IsEntry, event_of, external_tables, header, stop_of}
-use Rattle.lft_trace.specs.{inner.{Records.{in_memory, IsNext, IsPast, IsUnread, records_left}, SeenExternals.{Keeps, Refuses}}, Records.records_of}
+use Rattle.lft_ir.specs.{Parts.Parts, Steps.{Fits.{EventFits, ExternalsFit}, Inputs.{ExternalInputs, InOrder}}, declared.steps.externals.Event.Event}
+use Rattle.lft_tag.specs.{declared.Tag.Tag, Tags.IsRecorded}
+use Rattle.lft_trace.specs.ExternalTables.{AreApart, ExternalFails, ExternalTable, FaultAt, Has, IsEntry, event_of, external_tables, header, stop_of}
+use Rattle.lft_trace.specs.{inner.{Records.{IsCounted, IsNext, IsPast, IsUnread, records_left}, SeenExternals.{Keeps, Refuses}}, Records.records_of}
 use Rattle.lft_trace.specs.declared.{external_table.Entry.{Entry, TheVariants.{Happens, Stops}}, fault.TraceFault.TraceFault, records.Records.Records}
+use Rattle.lft_trace.proofs.{EventFacts.{has_cons, has_none}, ExternalTableFacts.{event_fits, stop_fits}}
 use Rattle.lft_trace.proofs.Members.{apart_pushed, has_permuted, has_permuted_back}
 use Rattle.lft_trace.proofs.TableFacts.{Read, Texts, bad as bad_record, ended as all_read, one_more as read_more, past as past_last, start as first}
 use Rattle.lft_trace.specs.declared.fault.TraceFault.TheVariants as fault
 
 -- what is read up to a line: the header and the records of some entries, their stop, if any, and their events
-pub record Gathered (program : Parts) (records : Texts) (stop : Option Tag) (events : List Event) (r : Records (Bor (List ℕ))) : Type 0 where
+pub record Gathered {R : Type 0} (remaining : R → Option (List ℕ)) (program : Parts) (records : Texts) (stop : Option Tag) (events : List Event) (r : Records R) : Type 0 where
   pub entries : List Entry
-  pub read : Read (external_tables program) records entries r
+  pub read : Read remaining (external_tables program) records entries r
   pub stops : filter_map stop_of entries ≡ option_to_list stop
   pub same : IsPermutation (filter_map event_of entries) events
 
@@ -49,11 +51,11 @@ clash program line f (Happens x) entries stop events e is s p h = rw h.0 (refl, 
 clash program line f (Stops g) entries None events e is s p h = absurd (h.1 refl)
 clash program line f (Stops g) entries (Some o) events e is s p h = rw h.0 (refl, g, is, λ none. let q : ◌≡◌ {A = List Tag} [] (o ∷ []) = sym none ∙ s in cc (q))
 
-pub start : (program : Parts) (text : List ℕ) (old new : Records (Bor (List ℕ))) → IsUnread in_memory old text 4000001 → IsNext in_memory old new → fields_of new.fields ≡ header → Gathered program (records_of text) None [] new
+pub start : {R : Type 0} {remaining : R → Option (List ℕ)} (program : Parts) (text : List ℕ) (old new : Records R) → IsUnread remaining old text 4000001 → IsNext remaining old new → fields_of new.fields ≡ header → Gathered remaining program (records_of text) None [] new
 start program text old new u g top = record { entries = []; read = first (external_tables program) text old new u g top (omega arith, λ i j x y a b same. cc (a)); stops = refl; same = IsPermutation-refl [] }
 
-module _ (program : Parts) (records : Texts) (stop : Option Tag) (events : List Event) (old : Records (Bor (List ℕ))) (r : Gathered program records stop events old) where
-  pub one_more : (new : Records (Bor (List ℕ))) (entry : Entry) (now : Option Tag) (events_now : List Event) → IsNext in_memory old new → IsEntry program (fields_of new.fields) entry → Keeps entry stop events now events_now → Gathered program records now events_now new
+module _ {R : Type 0} {remaining : R → Option (List ℕ)} (program : Parts) (records : Texts) (stop : Option Tag) (events : List Event) (old : Records R) (r : Gathered remaining program records stop events old) where
+  pub one_more : (new : Records R) (entry : Entry) (now : Option Tag) (events_now : List Event) → IsNext remaining old new → IsEntry program (fields_of new.fields) entry → Keeps entry stop events now events_now → Gathered remaining program records now events_now new
   one_more new entry now events_now g is k =
       let stops = stops_after r.entries entry stop now events events_now r.stops k in
       let apart = apart_after r.entries entry stop now events events_now r.read.begins.together.1 r.same k in
@@ -64,16 +66,16 @@ module _ (program : Parts) (records : Texts) (stop : Option Tag) (events : List 
         same = same_after r.entries entry stop now events events_now r.same k;
       }
 
-  pub bad : (new : Records (Bor (List ℕ))) (e : TraceFault) → IsNext in_memory old new → ((before : List Entry) → FaultAt program before new.line (fields_of new.fields) e) → ExternalFails program records e
+  pub bad : (new : Records R) (e : TraceFault) → IsNext remaining old new → ((before : List Entry) → FaultAt program before new.line (fields_of new.fields) e) → ExternalFails program records e
   bad new e g is = inl (bad_record (external_tables program) records r.entries old new e r.read g (is r.entries))
 
-  pub refused : (new : Records (Bor (List ℕ))) (entry : Entry) (e : TraceFault) → IsNext in_memory old new → IsEntry program (fields_of new.fields) entry → Refuses entry stop events new.line e → ExternalFails program records e
+  pub refused : (new : Records R) (entry : Entry) (e : TraceFault) → IsNext remaining old new → IsEntry program (fields_of new.fields) entry → Refuses entry stop events new.line e → ExternalFails program records e
   refused new entry e g is h = inl (bad_record (external_tables program) records r.entries old new e r.read g (clash program new.line (fields_of new.fields) entry r.entries stop events e is r.stops r.same h))
 
-  pub past : (new : Records (Bor (List ℕ))) → IsPast in_memory old new → ExternalFails program records fault.TooManyRows
+  pub past : (new : Records R) → IsPast remaining old new → ExternalFails program records fault.TooManyRows
   past new p = inl (past_last (external_tables program) records r.entries old new r.read p)
 
-  pub ended : (inputs : ExternalInputs) → records_left in_memory old ≡ [] → (stop ≡ Some inputs.stop) × (inputs.events ≡ events) × InOrder inputs.events → ExternalTable program records inputs
+  pub ended : (inputs : ExternalInputs) → records_left remaining old ≡ [] → (stop ≡ Some inputs.stop) × (inputs.events ≡ events) × InOrder inputs.events → ExternalTable program records inputs
   ended inputs none h = record {
     entries = r.entries;
     holds = all_read (external_tables program) records r.entries old r.read none;
@@ -83,5 +85,52 @@ module _ (program : Parts) (records : Texts) (stop : Option Tag) (events : List 
     order = h.2;
   }
 
-  pub no_stop : (e : TraceFault) → records_left in_memory old ≡ [] → (e ≡ fault.NoStop) × (stop ≡ None) → ExternalFails program records e
+  pub no_stop : (e : TraceFault) → records_left remaining old ≡ [] → (e ≡ fault.NoStop) × (stop ≡ None) → ExternalFails program records e
   no_stop e none h = inr (h.0, record { entries = r.entries; holds = all_read (external_tables program) records r.entries old r.read none; apart = r.read.begins.together.1; none = r.stops ∙ ap option_to_list h.1 })
+
+-- ---- fits
+
+-- what is kept fits the program, and fewer events are kept than lines are read
+pub record Fitting {R : Type 0} (program : Parts) (stop : Option Tag) (events : List Event) (r : Records R) : Type 0 where
+  pub recorded : IfSome stop IsRecorded
+  pub each : (e : Event) → Has events e → EventFits program e
+  pub few : length events < r.line
+  pub line : r.line ≤ 4000001
+  pub last : r.last ≡ 4000001
+
+-- nothing is kept yet
+pub fit_first : {R : Type 0} (program : Parts) (old new : Records R) → old.last ≡ 4000001 → IsCounted old new → Fitting program None [] new
+fit_first program old new last n = record {
+  recorded = tt;
+  each = λ e has. absurd (has_none e has);
+  few = let line = n.line in omega (arith, line);
+  line = let line = n.line in let within = n.within in omega (arith, line, within, last);
+  last = n.last ∙ last;
+}
+
+module _ {R : Type 0} (program : Parts) (stop : Option Tag) (events : List Event) (old : Records R) (f : Fitting program stop events old) where
+  pub fit_more : (new : Records R) (fields : List (List ℕ)) (entry : Entry) (now : Option Tag) (events_now : List Event) → IsCounted old new → IsEntry program fields entry → Keeps entry stop events now events_now → Fitting program now events_now new
+  fit_more new fields (Happens x) now events_now n is k = record {
+    recorded = subst (λ (s : Option Tag). IfSome s IsRecorded) (sym k.0) f.recorded;
+    each = λ e has. elim (has_cons x e events (has_permuted_back (x ∷ events) events_now e k.2 has)) [
+      | inl same ↦ subst (λ (y : Event). EventFits program y) same (event_fits program is.1 is.0 x is.4)
+      | inr there ↦ f.each e there
+    ];
+    few = let l = length_permutation (x ∷ events) events_now k.2 in let few = f.few in let line = n.line in omega (arith, l, few, line);
+    line = let line = n.line in let within = n.within in let last = f.last in omega (arith, line, within, last);
+    last = n.last ∙ f.last;
+  }
+  fit_more new fields (Stops g) now events_now n is k = record {
+    recorded = subst (λ (s : Option Tag). IfSome s IsRecorded) (sym k.1) (stop_fits program is.1 is.0 g is.4);
+    each = subst (λ (l : List Event). (e : Event) → Has l e → EventFits program e) (sym k.2) f.each;
+    few = let l = ap (λ (t : List Event). length t) k.2 in let few = f.few in let line = n.line in omega (arith, l, few, line);
+    line = let line = n.line in let within = n.within in let last = f.last in omega (arith, line, within, last);
+    last = n.last ∙ f.last;
+  }
+
+  pub fit_all : (inputs : ExternalInputs) → (stop ≡ Some inputs.stop) × (inputs.events ≡ events) × InOrder inputs.events → ExternalsFit program inputs
+  fit_all inputs h = record {
+    stop = subst (λ (s : Option Tag). IfSome s IsRecorded) h.0 f.recorded;
+    few = let l = ap (λ (t : List Event). length t) h.1 in let few = f.few in let line = f.line in omega (arith, l, few, line);
+    each = λ i e at. f.each e (i, subst (λ (l : List Event). slice_get l i ≡ Some e) h.1 at);
+  }

@@ -1,13 +1,12 @@
--- Records have one table of external inputs, or a fault, and what a table holds fits its program.
-use Rattle.std.proofs.Common.{◌≡◌, ◌≢◌, ◌∙◌, inl, inr, ◌<◌, ◌≤◌, ◌++◌, ℕ, zero, suc, List, [], ◌∷◌, length, filter_map, Some, slice_get, refl, sym, ap, subst, arith}
-use Rattle.std.{specs.List.Sorted.IsPermutation, proofs.lemmas.{List.{Elements.filter_map-append, Sorted.length_permutation}, Option.slice_get_within}}
-use Rattle.lft_ir.specs.{Parts.Parts, Sound.IsSound, Steps.{Fits.{EventFits, ExternalsFit}, Inputs.ExternalInputs}, declared.steps.externals.Event.Event}
+-- Records have one table of external inputs, or a fault, and what a record tells fits its program.
+use Rattle.std.proofs.Common.{◌≡◌, ◌≢◌, ◌∙◌, inl, inr, ◌<◌, ◌++◌, ℕ, List, [], ◌∷◌, length, filter_map, Some, slice_get, refl, sym, ap, subst, arith}
+use Rattle.std.{specs.List.Sorted.IsPermutation, proofs.lemmas.{List.Elements.filter_map-append, Option.slice_get_within}}
+use Rattle.lft_ir.specs.{Parts.Parts, Sound.IsSound, Steps.{Fits.EventFits, Inputs.ExternalInputs}, declared.steps.externals.Event.Event}
 use Rattle.lft_tag.specs.{declared.Tag.Tag, Tags.IsRecorded}
 use Rattle.lft_trace.specs.ExternalTables.{ExternalFails, ExternalFields, ExternalTable, FaultAt, Has, IsEntry, IsOfKind, IsTag, event_of, external_tables, stop_of}
 use Rattle.lft_trace.specs.declared.{external_table.Entry.{Entry, TheVariants.{Happens, Stops}}, fault.TraceFault.TraceFault, kind.EntryKind.EntryKind}
 use Rattle.lft_trace.proofs.{Ascending.same_events, EntriesDiffer.{count_there, empty_there, kind_there, name_there, number_there, one_entry}}
 use Rattle.lft_trace.proofs.{Members.{at_front, at_middle, has_permuted, has_permuted_back}, TableFacts.{Texts, holds_no_fault, one_reading}, TraceFacts.within}
-use Rattle.lft_lists.proofs.Zips.{behind}
 use Rattle.lft_trace.specs.declared.fault.TraceFault.TheVariants as fault
 use Rattle.lft_trace.specs.declared.kind.EntryKind.TheVariants as kind
 
@@ -77,22 +76,6 @@ no_table program records e inputs sound (inr f) t =
 recorded : (c : ExternalFields) (g : Tag) → IsTag c g → IsRecorded g
 recorded c g h = (within 1000000000000000000 c.time g.time h.0, within 1000000000 c.microstep g.micro h.1)
 
-few_kept : (entries : List Entry) → length (filter_map event_of entries) ≤ length entries
-few_kept [] = omega arith
-few_kept (Happens e ∷ entries) = let h = few_kept entries in omega arith
-few_kept (Stops g ∷ entries) = let h = few_kept entries in omega arith
-
-event_behind : (entries : List Entry) (i : ℕ) (e : Event) → slice_get (filter_map event_of entries) i ≡ Some e → (j : ℕ) × (slice_get entries j ≡ Some (Happens e))
-event_behind [] i e h = cc (h)
-event_behind (Happens x ∷ entries) zero e h = let s : x ≡ e = cc (h) in (0, ap (λ (y : Event). Some (Happens y)) s)
-event_behind (Happens x ∷ entries) (suc i) e h = let r = event_behind entries i e h in (suc r.0, r.1)
-event_behind (Stops g ∷ entries) i e h = let r = event_behind entries i e h in (suc r.0, r.1)
-
-stop_behind : (entries : List Entry) (s : Tag) → filter_map stop_of entries ≡ s ∷ [] → (j : ℕ) × (slice_get entries j ≡ Some (Stops s))
-stop_behind [] s h = cc (h)
-stop_behind (Happens x ∷ entries) s h = let r = stop_behind entries s h in (suc r.0, r.1)
-stop_behind (Stops g ∷ entries) s h = let e : g ≡ s = cc (h) in (0, ap (λ (y : Tag). Some (Stops y)) e)
-
 pub event_fits : (program : Parts) (k : EntryKind) (c : ExternalFields) (e : Event) → IsOfKind program k c (Happens e) → EventFits program e
 event_fits program kind.Event c e h =
     let s : h.0 ≡ e = cc (h.4) in
@@ -102,14 +85,3 @@ event_fits program kind.Stop c e h = let q = h.4 in cc (q)
 pub stop_fits : (program : Parts) (k : EntryKind) (c : ExternalFields) (g : Tag) → IsOfKind program k c (Stops g) → IsRecorded g
 stop_fits program kind.Event c g h = let q = h.4 in absurd (cc (q))
 stop_fits program kind.Stop c g h = let s : h.0 ≡ g = cc (h.4) in subst IsRecorded s (recorded c h.0 h.1)
-
-pub table_fits : (program : Parts) (records : Texts) (inputs : ExternalInputs) → ExternalTable program records inputs → ExternalsFit program inputs
-table_fits program records inputs t = record {
-  stop = let j = stop_behind t.entries inputs.stop t.one_stop in let b = behind (IsEntry program) t.holds.rest t.entries j.0 (Stops inputs.stop) t.holds.each j.1 in stop_fits program b.1.1 b.1.0 inputs.stop b.1.4;
-  few = let a = few_kept t.entries in let l = length_permutation (filter_map event_of t.entries) inputs.events t.same in let few = t.holds.few in omega (arith, a, l, few);
-  each = λ i e at.
-      let h = has_permuted_back (filter_map event_of t.entries) inputs.events e t.same (i, at) in
-      let j = event_behind t.entries h.0 e h.1 in
-      let b = behind (IsEntry program) t.holds.rest t.entries j.0 (Happens e) t.holds.each j.1 in
-      event_fits program b.1.1 b.1.0 e b.1.4;
-}

@@ -1,6 +1,6 @@
 //! External inputs as tables.
 
-ghost use Rattle.std.specs.Prelude.{◌≡◌, ◌≢◌, ◌+◌, ℕ, List, IfOk, IfErr, IsTrue, ◌↔◌, true, false, not, ◌&&◌, ◌||◌, Some, None};
+ghost use Rattle.std.specs.Prelude.{◌≡◌, ◌≢◌, ◌+◌, ℕ, List, IfOk, IfErr, IsTrue, ◌↔◌, true, false, not, ◌&&◌, ◌||◌, Some, None, IfSome};
 ghost use Rattle.csv.specs.Records.{fields_of};
 ghost use Rattle.lft_trace.specs.{ExternalTables.{ExternalTable, ExternalFails, FaultAt, IsEntry, IsOfKind, header}, Faults.is_told, Numbers.value};
 ghost use Rattle.lft_trace.specs.{Records.records_of, inner.SeenExternals.{FieldFault, Keeps, Refuses, external_fields}};
@@ -18,6 +18,7 @@ use lft_ir::steps::{Event, Externals};
 use lft_ir::{Program, Value};
 use lft_tag::Tag;
 use std::alloc::Global;
+use std::io::Read;
 
 /// What a record tells: an event of a physical action, or the stop.
 #[derive(Clone, Copy, PartialEq, Eq, Debug, Drop)]
@@ -26,12 +27,7 @@ pub enum Entry {
     Stops(Tag),
 }
 
-/// The external inputs of a table. Line n of a fault is the n-th record.
-///
-/// `BadHeader` comes before the fault of the least line; at one line the order is field count,
-/// kind, number, name, field in place, then an event given before or a second stop; `TooManyRows`
-/// comes only where no row within the limit has a fault, and `NoStop` last. `NotCsv` and
-/// `NoMemory` may come before any other.
+/// The external inputs of a table, as `read_externals_from` reads them.
 pub fn read_externals(
     alloc: Global,
     program: &Program,
@@ -42,19 +38,44 @@ pub fn read_externals(
     ensures fits { IfOk result (λ inputs. ExternalsFit program.now inputs) }
     ensures fault { IfErr result (λ e. is_told e ≡ true → ExternalFails program.now (records_of text.now) e × ((inputs : ExternalInputs) → ExternalTable program.now (records_of text.now) inputs → ⊥)) }
 {
+    read_externals_from(alloc, program, text)
+}
+
+/// The external inputs of the table that a reader gives, of whose text no more is kept than csv's buffer has. Line n
+/// of a fault is the n-th record.
+///
+/// `BadHeader` comes before the fault of the least line; at one line the order is field count,
+/// kind, number, name, field in place, then an event given before or a second stop; `TooManyRows`
+/// comes only where no row within the limit has a fault, and `NoStop` last. `NotCsv`, where the reader
+/// fails, and `NoMemory` may come before any other.
+pub fn read_externals_from<R: Read + Drop>(
+    alloc: Global,
+    program: &Program,
+    source: R,
+) -> Result<Externals, TraceFault>
+    ensures table { IfOk result (λ inputs. IfSome (R.remaining source) (λ text. ExternalTable program.now (records_of text) inputs)) }
+    ensures one { IfOk result (λ inputs. IfSome (R.remaining source) (λ text. (other : ExternalInputs) → ExternalTable program.now (records_of text) other → other ≡ inputs)) }
+    ensures fits { IfOk result (λ inputs. ExternalsFit program.now inputs) }
+    ensures fault { IfErr result (λ e. IfSome (R.remaining source) (λ text. is_told e ≡ true → ExternalFails program.now (records_of text) e × ((inputs : ExternalInputs) → ExternalTable program.now (records_of text) inputs → ⊥))) }
+{
     // Asked for what every program keeps: no two of its things have one name.
     program.keeps();
-    read_inputs(alloc, program, text)
+    read_inputs(alloc, program, source)
 }
 
 // `stop` is the tag of the stop row, and in the arms of `next` why the records stop. A fault
 // is handed on by a `match` and not by `?`, here as in the other readers and where texts are
 // loaded: a clause speaks of the fault, and its proof then has it by its name.
-fn read_inputs(alloc: Global, program: &Program, text: &[u8]) -> Result<Externals, TraceFault>
-    ensures table { IfOk result (λ inputs. ExternalTable program.now (records_of text.now) inputs) }
-    ensures fault { IfErr result (λ e. is_told e ≡ true → ExternalFails program.now (records_of text.now) e) }
+fn read_inputs<R: Read + Drop>(
+    alloc: Global,
+    program: &Program,
+    source: R,
+) -> Result<Externals, TraceFault>
+    ensures table { IfOk result (λ inputs. IfSome (R.remaining source) (λ text. ExternalTable program.now (records_of text) inputs)) }
+    ensures fits { IfOk result (λ inputs. ExternalsFit program.now inputs) }
+    ensures fault { IfErr result (λ e. IfSome (R.remaining source) (λ text. is_told e ≡ true → ExternalFails program.now (records_of text) e)) }
 {
-    let mut records = Records::new(alloc, text, LAST_LINE);
+    let mut records = Records::new(alloc, source, LAST_LINE);
     match records.next() {
         Ok(true) => {}
         Ok(false) => return Err(TraceFault::BadHeader),

@@ -22,7 +22,7 @@ mod short_name;
 mod trace_table;
 mod trace_writer;
 
-pub use external_table::{Entry, read_externals};
+pub use external_table::{Entry, read_externals, read_externals_from};
 pub use fault::TraceFault;
 pub use lft_ir::steps::{Event, Externals, Row, Rows, Step, is_end, is_start, is_stop, row_at};
 pub use log_table::{Among, Line, LineFault, LogLines, read_log};

@@ -2,7 +2,7 @@
 
 ghost use Rattle.std.specs.Prelude.{◌≡◌, ◌<◌, [], true, false, IfOk, IfErr, IfSome, length, slice_index_or};
 ghost use Rattle.csv.specs.Records.{fields_of};
-ghost use Rattle.lft_trace.specs.{Faults.is_told, inner.Records.{IsNext, IsPast, IsPlain, IsUnread, records_left}};
+ghost use Rattle.lft_trace.specs.{Faults.is_told, inner.Records.{IsCounted, IsNext, IsPast, IsPlain, IsUnread, records_left}};
 
 use crate::fault::TraceFault;
 use csv::{ByteRecord, ErrorKind, Reader, ReaderBuilder};
@@ -49,7 +49,8 @@ impl<R: Read + Drop> Records<R> {
     /// The records that a reader gives, before the first one is read. More than `last` are too many. It takes
     /// no memory.
     pub fn new(alloc: Global, source: R, last: u32) -> Records<R>
-        ensures { IfSome (R.remaining source) (λ text. IsUnread R.remaining result text last) }
+        ensures unread { IfSome (R.remaining source) (λ text. IsUnread R.remaining result text last) }
+        ensures last { result.last ≡ last }
     {
         Records {
             reader: ReaderBuilder::new()
@@ -68,6 +69,7 @@ impl<R: Read + Drop> Records<R> {
         ensures found { IfOk result (λ found. found ≡ true → IsPlain R.remaining self.old → IsNext R.remaining self.old self.new) }
         ensures none { IfOk result (λ found. found ≡ false → IsPlain R.remaining self.old → records_left R.remaining self.old ≡ []) }
         ensures many { IfErr result (λ e. e ≡ Unread.TooMany → IsPlain R.remaining self.old → IsPast R.remaining self.old self.new) }
+        ensures counted { IfOk result (λ found. found ≡ true → IsCounted self.old self.new) }
     {
         match self.reader.read_byte_record(&mut self.fields) {
             Ok(true) => {}

@@ -34,6 +34,12 @@ pub record IsUnread {R : Type 0} (remaining : R → Option (List ℕ)) (r : Reco
   pub line : r.line ≡ 0
   pub last : r.last ≡ limit
 
+-- one line more was read, and it is within the lines that there may be
+pub record IsCounted {R : Type 0} (old new : Records R) : Type 0 where
+  pub line : new.line ≡ old.line + 1
+  pub within : old.line < old.last
+  pub last : new.last ≡ old.last
+
 -- the first of the records left is at hand, and within the lines that there may be
 pub record IsNext {R : Type 0} (remaining : R → Option (List ℕ)) (old new : Records R) : Type 0 where
   pub plain : IsPlain remaining new

@@ -1,54 +1,71 @@
-use Rattle.std.proofs.Common.{Bor, ℕ, rules, ◌≡◌, [], List, Option, Some, None, Result, Ok, Err, IfOk, IfErr, true}
+use Rattle.std.proofs.Common.{rules, ◌≡◌, ◌≢◌, inl}
+use Rattle.std.proofs.lemmas.{Option.IfSome_then, Result.{IfErr-weaker, IfOk-weaker}}
 use Rattle.csv.specs.Records.{fields_of}
-use Rattle.lft_ir.specs.{Parts.Parts, Steps.Inputs.{ExternalInputs, InOrder}, declared.steps.externals.Event.Event}
-use Rattle.lft_tag.specs.declared.Tag.{Tag}
-use Rattle.lft_trace.specs.{Faults.is_told, inner.Records.{in_memory, IsNext, records_left}, Records.records_of}
-use Rattle.lft_trace.specs.{ExternalTables.{ExternalFails, ExternalTable, header}, declared.{fault.TraceFault.TraceFault, records.Records.Records}}
-use Rattle.lft_trace.proofs.{ExternalFacts.{Gathered, bad, ended, no_stop, one_more, past, refused, start}, TableFacts.{Texts, fewer}}
-use Rattle.lft_trace.specs.declared.fault.TraceFault.TheVariants as fault
+use Rattle.lft_trace.specs.{ExternalTables.{external_tables, header}, Records.records_of}
+use Rattle.lft_trace.proofs.ExternalFacts.{bad, ended, fit_all, fit_first, fit_more, no_stop, one_more, past, refused, start}
+use Rattle.lft_trace.proofs.TableFacts.{fewer, not_past, without_header, without_records}
 use Rattle.lft_trace.proofs.external_table.read_inputs.Goals as goal
 
-module _ (program : Parts) (records : Texts) (stop : Option Tag) (events : List Event) (r : Records (Bor (List ℕ))) (g : Gathered program records stop events r) (none : records_left in_memory r ≡ []) where
-  made : (result : Result ExternalInputs TraceFault) → IfOk result (λ inputs. (stop ≡ Some inputs.stop) × (inputs.events ≡ events) × InOrder inputs.events) → IfOk result (ExternalTable program records)
-  made (Ok inputs) h = ended program records stop events r g inputs none h
-  made (Err e) h = tt
+pub returns-in-Ok-false-clause-fault : goal.returns-in-Ok-false-clause-fault
+returns-in-Ok-false-clause-fault g c =
+    IfSome_then (g.R.Read.remaining c.args.source) c.new-records.ensures.unread (λ text unread _.
+    inl (without_records (external_tables c.args.program.now) text c.new-records.result c.new-records.result unread (c.in-Ok-false.ensures.none c.in-Ok-false.field-0-test unread.plain)))
 
-  unmade : (result : Result ExternalInputs TraceFault) → IfErr result (λ e. is_told e ≡ true → (e ≡ fault.NoStop) × (stop ≡ None)) → IfErr result (λ e. is_told e ≡ true → ExternalFails program records e)
-  unmade (Ok inputs) h = tt
-  unmade (Err e) h = λ told. no_stop program records stop events r g e none (h told)
+pub returns-in-Err-clause-fault : goal.returns-in-Err-clause-fault
+returns-in-Err-clause-fault g c =
+    IfSome_then (g.R.Read.remaining c.args.source) c.new-records.ensures.unread (λ text unread told.
+    absurd (not_past (external_tables c.args.program.now) text c.new-records.result c.next.new.self unread (c.in-Err.ensures.many (c.stopped.ensures told).0 unread.plain)))
+
+pub returns-then-not-is_header-clause-fault : goal.returns-then-not-is_header-clause-fault
+returns-then-not-is_header-clause-fault g c =
+    IfSome_then (g.R.Read.remaining c.args.source) c.new-records.ensures.unread (λ text unread _.
+    let other : fields_of c.next.new.self.fields ≢ header = search rules in
+    inl (without_header (external_tables c.args.program.now) text c.new-records.result c.next.new.self unread (c.in-Ok-true.ensures.found c.in-Ok-true.field-0-test unread.plain) other))
 
 pub lines-init : goal.lines-init
-lines-init c =
-    let top : fields_of c.next.new.self.fields ≡ header = search rules in
-    rw c.new-events.ensures (start c.args.program.now c.args.text.now c.new-records.result c.next.new.self c.new-records.ensures (c.in-Ok-true.ensures.found c.in-Ok-true.field-0-test c.new-records.ensures.plain) top)
+lines-init g c = record {
+  known = IfSome_then (g.R.Read.remaining c.args.source) c.new-records.ensures.unread (λ text unread.
+      let top : fields_of c.next.new.self.fields ≡ header = search rules in
+      rw c.new-events.ensures (start c.args.program.now text c.new-records.result c.next.new.self unread (c.in-Ok-true.ensures.found c.in-Ok-true.field-0-test unread.plain) top));
+  fitting = rw c.new-events.ensures (fit_first c.args.program.now c.new-records.result c.next.new.self c.new-records.ensures.last (c.in-Ok-true.ensures.counted c.in-Ok-true.field-0-test));
+}
 
 pub returns-in-Ok-false-next-clause-table : goal.returns-in-Ok-false-next-clause-table
-returns-in-Ok-false-next-clause-table c =
-    made c.args.program.now (records_of c.args.text.now) c.lines.stop c.lines.events c.lines.records c.lines.invariant (c.in-Ok-false-next.ensures.none c.in-Ok-false-next.field-0-test c.lines.invariant.read.plain) c.finish.result c.finish.ensures.made
+returns-in-Ok-false-next-clause-table g c =
+    IfOk-weaker c.finish.result _ _ (λ inputs made. IfSome_then (g.R.Read.remaining c.args.source) c.lines.invariant.known (λ text read.
+    ended c.args.program.now (records_of text) c.lines.stop c.lines.events c.lines.records read inputs (c.in-Ok-false-next.ensures.none c.in-Ok-false-next.field-0-test read.read.plain) made)) c.finish.ensures.made
+
+pub returns-in-Ok-false-next-clause-fits : goal.returns-in-Ok-false-next-clause-fits
+returns-in-Ok-false-next-clause-fits g c =
+    IfOk-weaker c.finish.result _ _ (λ inputs made. fit_all c.args.program.now c.lines.stop c.lines.events c.lines.records c.lines.invariant.fitting inputs made) c.finish.ensures.made
 
 pub returns-in-Ok-false-next-clause-fault : goal.returns-in-Ok-false-next-clause-fault
-returns-in-Ok-false-next-clause-fault c =
-    unmade c.args.program.now (records_of c.args.text.now) c.lines.stop c.lines.events c.lines.records c.lines.invariant (c.in-Ok-false-next.ensures.none c.in-Ok-false-next.field-0-test c.lines.invariant.read.plain) c.finish.result c.finish.ensures.fault
+returns-in-Ok-false-next-clause-fault g c =
+    IfErr-weaker c.finish.result _ _ (λ e unmade. IfSome_then (g.R.Read.remaining c.args.source) c.lines.invariant.known (λ text read told.
+    no_stop c.args.program.now (records_of text) c.lines.stop c.lines.events c.lines.records read e (c.in-Ok-false-next.ensures.none c.in-Ok-false-next.field-0-test read.read.plain) (unmade told))) c.finish.ensures.fault
 
 pub returns-in-Err-next-clause-fault : goal.returns-in-Err-next-clause-fault
-returns-in-Err-next-clause-fault c told =
+returns-in-Err-next-clause-fault g c =
+    IfSome_then (g.R.Read.remaining c.args.source) c.lines.invariant.known (λ text read told.
     let s = c.stopped-in-Err-next.ensures told in
-    rw s.1 (past c.args.program.now (records_of c.args.text.now) c.lines.stop c.lines.events c.lines.records c.lines.invariant c.next-in-lines.new.self (c.in-Err-next.ensures.many s.0 c.lines.invariant.read.plain))
+    rw s.1 (past c.args.program.now (records_of text) c.lines.stop c.lines.events c.lines.records read c.next-in-lines.new.self (c.in-Err-next.ensures.many s.0 read.read.plain)))
 
 pub returns-in-Err-read_entry-clause-fault : goal.returns-in-Err-read_entry-clause-fault
-returns-in-Err-read_entry-clause-fault c _ =
-    let g : IsNext in_memory c.lines.records c.next-in-lines.new.self = c.in-Ok-true-next.ensures.found c.in-Ok-true-next.field-0-test c.lines.invariant.read.plain in
-    bad c.args.program.now (records_of c.args.text.now) c.lines.stop c.lines.events c.lines.records c.lines.invariant c.next-in-lines.new.self c.in-Err-read_entry.fault g c.in-Err-read_entry.ensures.fault
+returns-in-Err-read_entry-clause-fault g c =
+    IfSome_then (g.R.Read.remaining c.args.source) c.lines.invariant.known (λ text read _.
+    bad c.args.program.now (records_of text) c.lines.stop c.lines.events c.lines.records read c.next-in-lines.new.self c.in-Err-read_entry.fault (c.in-Ok-true-next.ensures.found c.in-Ok-true-next.field-0-test read.read.plain) c.in-Err-read_entry.ensures.fault)
 
 pub returns-in-Err-keep-clause-fault : goal.returns-in-Err-keep-clause-fault
-returns-in-Err-keep-clause-fault c told =
-    let g : IsNext in_memory c.lines.records c.next-in-lines.new.self = c.in-Ok-true-next.ensures.found c.in-Ok-true-next.field-0-test c.lines.invariant.read.plain in
-    refused c.args.program.now (records_of c.args.text.now) c.lines.stop c.lines.events c.lines.records c.lines.invariant c.next-in-lines.new.self c.in-Ok.entry c.in-Err-keep.fault g c.in-Ok.ensures.entry (c.in-Err-keep.ensures.fault told)
+returns-in-Err-keep-clause-fault g c =
+    IfSome_then (g.R.Read.remaining c.args.source) c.lines.invariant.known (λ text read told.
+    refused c.args.program.now (records_of text) c.lines.stop c.lines.events c.lines.records read c.next-in-lines.new.self c.in-Ok.entry c.in-Err-keep.fault (c.in-Ok-true-next.ensures.found c.in-Ok-true-next.field-0-test read.read.plain) c.in-Ok.ensures.entry (c.in-Err-keep.ensures.fault told))
 
 pub lines-smaller : goal.lines-smaller
-lines-smaller c = fewer c.lines.records c.next-in-lines.new.self (c.in-Ok-true-next.ensures.found c.in-Ok-true-next.field-0-test c.lines.invariant.read.plain)
+lines-smaller g c = fewer c.lines.records c.next-in-lines.new.self (c.in-Ok-true-next.ensures.counted c.in-Ok-true-next.field-0-test)
 
 pub lines-preserved : goal.lines-preserved
-lines-preserved c =
-    let g : IsNext in_memory c.lines.records c.next-in-lines.new.self = c.in-Ok-true-next.ensures.found c.in-Ok-true-next.field-0-test c.lines.invariant.read.plain in
-    one_more c.args.program.now (records_of c.args.text.now) c.lines.stop c.lines.events c.lines.records c.lines.invariant c.next-in-lines.new.self c.in-Ok.entry c.in-Ok-keep.stop c.keep.new.events g c.in-Ok.ensures.entry c.in-Ok-keep.ensures.kept
+lines-preserved g c = record {
+  known = IfSome_then (g.R.Read.remaining c.args.source) c.lines.invariant.known (λ text read.
+      one_more c.args.program.now (records_of text) c.lines.stop c.lines.events c.lines.records read c.next-in-lines.new.self c.in-Ok.entry c.in-Ok-keep.stop c.keep.new.events (c.in-Ok-true-next.ensures.found c.in-Ok-true-next.field-0-test read.read.plain) c.in-Ok.ensures.entry c.in-Ok-keep.ensures.kept);
+  fitting = fit_more c.args.program.now c.lines.stop c.lines.events c.lines.records c.lines.invariant.fitting c.next-in-lines.new.self (fields_of c.next-in-lines.new.self.fields) c.in-Ok.entry c.in-Ok-keep.stop c.keep.new.events (c.in-Ok-true-next.ensures.counted c.in-Ok-true-next.field-0-test) c.in-Ok.ensures.entry c.in-Ok-keep.ensures.kept;
+}

@@ -1,9 +1,12 @@
-use Rattle.std.proofs.Common.{◌-◌}
-use Rattle.lft_trace.{specs.Records.records_of, proofs.ExternalFacts.Gathered}
+use Rattle.std.proofs.Common.{◌-◌, IfSome}
+use Rattle.lft_trace.{specs.Records.records_of, proofs.ExternalFacts.{Fitting, Gathered}}
 use Rattle.lft_trace.proofs.external_table.read_inputs.Given as goal
 
 abbrev pub invariant-lines : goal.invariant-lines
-invariant-lines l = Gathered l.program (records_of l.fn.text) l.stop l.events l.records
+invariant-lines g l = record {
+  known : IfSome (g.R.Read.remaining l.fn.source) (λ text. Gathered g.R.Read.remaining l.program (records_of text) l.stop l.events l.records);
+  fitting : Fitting l.program l.stop l.events l.records;
+}
 
 abbrev pub decreases-lines : goal.decreases-lines
-decreases-lines l = l.records.last - l.records.line
+decreases-lines g l = l.records.last - l.records.line

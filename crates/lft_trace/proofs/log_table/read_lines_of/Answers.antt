@@ -6,7 +6,7 @@ use Rattle.lft_trace.proofs.LogTableFacts.{among, input_more, row_more, start}
 use Rattle.lft_trace.proofs.log_table.read_lines_of.Goals as goal
 
 pub lines-init : goal.lines-init
-lines-init c = (rw (c.in-Ok.ensures.items, c.new-inputs.ensures.items) (start c.args.names.now c.args.text c.new.result c.new-records.result c.new.ensures.inner c.new.ensures.position c.new-records.ensures), tt)
+lines-init c = (rw (c.in-Ok.ensures.items, c.new-inputs.ensures.items) (start c.args.names.now c.args.text c.new.result c.new-records.result c.new.ensures.inner c.new.ensures.position c.new-records.ensures.unread), tt)
 
 pub returns-in-Err-read_entry-clause-read : goal.returns-in-Err-read_entry-clause-read
 returns-in-Err-read_entry-clause-read c =

@@ -15,8 +15,8 @@ all_read program records left rows b none =
 
 pub lines-init : goal.lines-init
 lines-init c = record {
-  plain = c.new-records.ensures.plain;
-  begins = rw c.new-rows.ensures.items (record { first = []; under = ap (λ (t : Texts). header ∷ t) (sym c.new-records.ensures.left); each = tt; together = tt });
+  plain = c.new-records.ensures.unread.plain;
+  begins = rw c.new-rows.ensures.items (record { first = []; under = ap (λ (t : Texts). header ∷ t) (sym c.new-records.ensures.unread.left); each = tt; together = tt });
   last = tt;
 }
 
@@ -28,7 +28,7 @@ returns-in-Ok-false c =
     all_read c.args.names.now (records_of c.args.text.now) (records_left in_memory c.lines.records) c.lines.rows.items c.lines.invariant.begins (c.in-Ok-false.ensures.none c.in-Ok-false.field-0-test c.lines.invariant.plain)
 
 pub lines-smaller : goal.lines-smaller
-lines-smaller c = fewer c.lines.records c.next.new.self (c.in-Ok-true.ensures.found c.in-Ok-true.field-0-test c.lines.invariant.plain)
+lines-smaller c = fewer c.lines.records c.next.new.self (c.in-Ok-true.ensures.counted c.in-Ok-true.field-0-test)
 
 pub lines-preserved : goal.lines-preserved
 lines-preserved c =

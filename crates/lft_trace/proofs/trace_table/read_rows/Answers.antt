@@ -6,7 +6,7 @@ use Rattle.lft_trace.proofs.trace_table.read_rows.Goals as goal
 pub lines-init : goal.lines-init
 lines-init c =
     let top : fields_of c.next.new.self.fields ≡ header = search rules in
-    (rw c.new-rows.ensures.items (start (trace_tables c.args.names.now) c.args.text.now c.new-records.result c.next.new.self c.new-records.ensures (c.in-Ok-true.ensures.found c.in-Ok-true.field-0-test c.new-records.ensures.plain) top tt), tt)
+    (rw c.new-rows.ensures.items (start (trace_tables c.args.names.now) c.args.text.now c.new-records.result c.next.new.self c.new-records.ensures.unread (c.in-Ok-true.ensures.found c.in-Ok-true.field-0-test c.new-records.ensures.unread.plain) top tt), tt)
 
 pub read_row-requires : goal.read_row-requires
 read_row-requires c = c.lines.invariant.1
@@ -25,7 +25,7 @@ returns-in-Err-read_row-clause-fault c _ =
     bad (trace_tables c.args.names.now) (records_of c.args.text.now) c.lines.rows.items c.lines.records c.next-in-lines.new.self c.in-Err-read_row.fault c.lines.invariant.0 (c.in-Ok-true-next.ensures.found c.in-Ok-true-next.field-0-test c.lines.invariant.0.plain) c.in-Err-read_row.ensures.fault
 
 pub lines-smaller : goal.lines-smaller
-lines-smaller c = fewer c.lines.records c.next-in-lines.new.self (c.in-Ok-true-next.ensures.found c.in-Ok-true-next.field-0-test c.lines.invariant.0.plain)
+lines-smaller c = fewer c.lines.records c.next-in-lines.new.self (c.in-Ok-true-next.ensures.counted c.in-Ok-true-next.field-0-test)
 
 pub lines-preserved : goal.lines-preserved
 lines-preserved c =

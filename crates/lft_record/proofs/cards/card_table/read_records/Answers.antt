@@ -7,7 +7,7 @@ use Rattle.lft_record.proofs.cards.card_table.read_records.Goals as goal
 pub lines-init : goal.lines-init
 lines-init c =
     let top : fields_of c.next.new.self.fields ≡ cards_header = search rules in
-    start c.args.program.now c.args.text.now c.in-Ok.cards c.new-records.result c.next.new.self c.new-records.ensures (c.in-Ok-true.ensures.found c.in-Ok-true.field-0-test c.new-records.ensures.plain) top c.in-Ok.ensures.long c.in-Ok.ensures.blank
+    start c.args.program.now c.args.text.now c.in-Ok.cards c.new-records.result c.next.new.self c.new-records.ensures.unread (c.in-Ok-true.ensures.found c.in-Ok-true.field-0-test c.new-records.ensures.unread.plain) top c.in-Ok.ensures.long c.in-Ok.ensures.blank
 
 pub returns-in-Ok-false-next-clause-table : goal.returns-in-Ok-false-next-clause-table
 returns-in-Ok-false-next-clause-table c =
@@ -34,7 +34,7 @@ returns-in-Ok-false-add-clause-fault c _ =
     c.in-Ok-read_card.ensures.card c.in-Ok-read_card.ensures.within (rw c.in-Ok-false-add.field-0-test at c.in-Ok-false-add.ensures)
 
 pub lines-smaller : goal.lines-smaller
-lines-smaller c = fewer c.lines.records c.next-in-lines.new.self (c.in-Ok-true-next.ensures.found c.in-Ok-true-next.field-0-test c.lines.invariant.read.plain)
+lines-smaller c = fewer c.lines.records c.next-in-lines.new.self (c.in-Ok-true-next.ensures.counted c.in-Ok-true-next.field-0-test)
 
 pub lines-preserved : goal.lines-preserved
 lines-preserved c =

@@ -7,6 +7,6 @@ use Rattle.lft_trace.proofs.reading.rows.trace_records.Goals as goal
 pub returns : goal.returns
 returns g c =
     let top : fields_of c.next.new.self.fields ≡ header = search rules in
-    IfSome_then (g.R.Read.remaining c.args.source) c.new-records.ensures (λ text unread.
+    IfSome_then (g.R.Read.remaining c.args.source) c.new-records.ensures.unread (λ text unread.
     let next = c.in-Ok-true.ensures.found c.in-Ok-true.field-0-test unread.plain in
     (next.plain, sym unread.left ∙ next.left ∙ ap (λ (f : List (List ℕ)). f ∷ records_left g.R.Read.remaining c.next.new.self) top))
