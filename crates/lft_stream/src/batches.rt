@@ -1,14 +1,12 @@
-//! Trace tables and rows, accepted a batch at a time, and what they exercise.
+//! Trace tables and rows, accepted a batch at a time.
 
 mod cut;
-mod lines;
 mod progress;
 mod reader;
 mod rows;
 mod shared;
-mod text;
 
+pub use cut::{CutBatch, cut_batch};
 pub use reader::accepts_reader;
-pub use rows::accepts_rows;
+pub use rows::{accepts_rows, rows_together};
 pub use shared::accepts_reader_shared;
-pub use text::covers_text;

@@ -1,14 +1,9 @@
 -- A text whose first lines are read, and what stands behind them.
-use Rattle.std.proofs.Common.{◌≡◌, ◌++◌, ◌∙◌, inl, inr, ℕ, List, [], refl, sym, ap, subst}
+use Rattle.std.proofs.Common.{◌≡◌, ◌≤◌, ◌++◌, ◌∷◌, ◌∙◌, inl, inr, ℕ, List, [], length, refl, sym, ap, subst, arith}
 use Rattle.std.{specs.List.AllZip, proofs.lemmas.List.{append_assoc, append-nil}}
-use Rattle.csv.specs.{Machine.next_record, Reading.{records_from, strip_bom}}
 use Rattle.lft_ir.specs.{Parts.Parts, declared.steps.row.Row.Row}
-use Rattle.lft_trace.{specs.{Records.records_of, Traces.IsRow, inner.Parts.{BeginsWith, HoldsRows, IsCut}}, proofs.{Cutting.records_cut, Together.zipped}}
-
--- a text without bytes has no record
-pub no_record : records_of [] ≡ []
-unfolding records_from next_record strip_bom
-no_record = refl
+use Rattle.lft_trace.specs.{Records.records_of, Traces.{IsRow, Table, header}, inner.Parts.{BeginsWith, HoldsRows, IsCut}}
+use Rattle.lft_trace.proofs.{Cutting.records_cut, Together.{no_record, zipped}}
 
 -- before anything is read, all is left
 pub begins_none : (program : Parts) (text : List ℕ) → BeginsWith program text [] text
@@ -28,3 +23,8 @@ begins_more program text rest behind rows more (first, whole, each) (next, furth
 -- where nothing stands behind them, the rows are those of all records
 pub begins_all : (program : Parts) (text : List ℕ) (rows : List Row) → BeginsWith program text rows [] → AllZip (IsRow program) (records_of text) rows
 begins_all program text rows (first, whole, each) = subst (λ (t : List (List (List ℕ))). AllZip (IsRow program) t rows) (sym (whole ∙ ap (λ (t : List (List (List ℕ))). first ++ t) no_record ∙ append-nil first)) each
+
+-- where nothing is left to be read, the rows are the table's
+pub read_all : (program : Parts) (text body rest : List ℕ) (rows : List Row) → records_of text ≡ header ∷ records_of body → BeginsWith program body rows rest → length rest ≡ 0 → length rows ≤ 4000000 → Table program (records_of text) rows
+read_all program text body [] rows under begins none few = record { rest = records_of body; under = under; each = begins_all program body rows begins; few = few }
+read_all program text body (x ∷ xs) rows under begins none few = absurd (omega arith)

@@ -24,3 +24,4 @@ pub mod Together
 pub mod Behind
 pub mod FirstTold
 pub mod Beginning
+pub mod Lining

@@ -1,10 +1,10 @@
 -- The rows of a text are those of its parts, one part after another.
-use Rattle.std.proofs.Common.{◌≡◌, ◌∙◌, ◌++◌, ◌∷◌, ℕ, zero, suc, List, [], Option, Some, IfSome, Bool, true, false, refl, sym, ap, subst, codes}
+use Rattle.std.proofs.Common.{◌≡◌, ◌∙◌, ◌++◌, ◌∷◌, ◌⊎◌, inl, inr, ℕ, zero, suc, List, [], Option, Some, IfSome, Bool, true, false, refl, sym, ap, subst, codes}
 use Rattle.std.specs.Prelude.{◌==◌, ◌&&◌, not}
-use Rattle.std.{specs.List.{AllZip, list_all}, proofs.lemmas.Bool.false≢true}
+use Rattle.std.{specs.List.{AllZip, list_all}, proofs.lemmas.{Bool.false≢true, List.append-nil}}
 use Rattle.csv.specs.{Machine.next_record, Reading.{records_from, strip_bom}}
 use Rattle.lft_ir.specs.{Parts.Parts, declared.steps.row.Row.Row}
-use Rattle.lft_trace.specs.{Records.records_of, Traces.{IsRow, header}, Parts.{HasNoQuote, EndsLine}, inner.Parts.{BeginsPlain, HoldsRows}}
+use Rattle.lft_trace.specs.{Records.records_of, Traces.{IsRow, header}, Parts.{HasNoQuote, EndsLine}, inner.Parts.{BeginsPlain, HoldsRows, IsCut}}
 use Rattle.lft_trace.proofs.Cutting.{records_cut}
 
 no_quote_in_both : (a b : List ℕ) → HasNoQuote a → HasNoQuote b → HasNoQuote (a ++ b)
@@ -56,15 +56,31 @@ one_csv_record : records_of (csv_line ++ 10 ∷ []) ≡ header ∷ []
 unfolding records_from next_record strip_bom
 one_csv_record = refl
 
--- the records of a text that begins with a line that is the header
-under_line : (first text rest : List ℕ) → list_all (λ (c : ℕ). not (c == 34)) (first ++ 10 ∷ []) ≡ true → records_of (first ++ 10 ∷ []) ≡ header ∷ [] → text ≡ (first ++ 10 ∷ []) ++ rest → BeginsPlain rest → records_of text ≡ header ∷ records_of rest
-under_line first text rest none one is plain =
-    ap records_of is ∙ records_cut (first ++ 10 ∷ []) rest (quiet (first ++ 10 ∷ []) none) (first, refl) plain ∙ ap (λ (t : List (List (List ℕ))). t ++ records_of rest) one
+no_quote_in_line : HasNoQuote (line ++ 10 ∷ [])
+no_quote_in_line = quiet (line ++ 10 ∷ []) refl
+
+no_quote_in_csv_line : HasNoQuote (csv_line ++ 10 ∷ [])
+no_quote_in_csv_line = quiet (csv_line ++ 10 ∷ []) refl
+
+-- the header's line has no other record, and no quotation mark
+pub header_alone : (text : List ℕ) → (text ≡ line ++ 10 ∷ []) ⊎ (text ≡ csv_line ++ 10 ∷ []) → (records_of text ≡ header ∷ []) × HasNoQuote text
+header_alone text (inl is) = (ap records_of is ∙ one_record, subst HasNoQuote (sym is) no_quote_in_line)
+header_alone text (inr is) = (ap records_of is ∙ one_csv_record, subst HasNoQuote (sym is) no_quote_in_csv_line)
+
+-- a text without bytes has no record
+pub no_record : records_of [] ≡ []
+unfolding records_from next_record strip_bom
+no_record = refl
+
+-- a line whose records are the header alone stands above the records of what is behind it
+pub under_line : (text first rest : List ℕ) → HasNoQuote first → records_of first ≡ header ∷ [] → IsCut text first rest → records_of text ≡ header ∷ records_of rest
+under_line text first rest none one (is, inl empty) = ap records_of (is ∙ ap (λ (t : List ℕ). first ++ t) empty ∙ append-nil first) ∙ one ∙ ap (λ (t : List (List (List ℕ))). header ∷ t) (sym (ap records_of empty ∙ no_record))
+under_line text first rest none one (is, inr (ends, plain)) = ap records_of is ∙ records_cut first rest none ends plain ∙ ap (λ (t : List (List (List ℕ))). t ++ records_of rest) one
 
 -- the records of a text that begins with the header
 pub under_header : (text rest : List ℕ) → text ≡ (line ++ 10 ∷ []) ++ rest → BeginsPlain rest → records_of text ≡ header ∷ records_of rest
-under_header text rest is plain = under_line line text rest refl one_record is plain
+under_header text rest is plain = under_line text (line ++ 10 ∷ []) rest no_quote_in_line one_record (is, inr ((line, refl), plain))
 
 -- the same where a carriage return stands before the end of the header's line
 pub under_csv_header : (text rest : List ℕ) → text ≡ (csv_line ++ 10 ∷ []) ++ rest → BeginsPlain rest → records_of text ≡ header ∷ records_of rest
-under_csv_header text rest is plain = under_line csv_line text rest refl one_csv_record is plain
+under_csv_header text rest is plain = under_line text (csv_line ++ 10 ∷ []) rest no_quote_in_csv_line one_csv_record (is, inr ((csv_line, refl), plain))

@@ -5,9 +5,11 @@ mod batches;
 mod lines;
 mod rows;
 mod shared;
+mod trace_lines;
 mod workers;
 
 pub use batch::{first_lines, read_batch, read_lines};
 pub use lines::below_header;
 pub use rows::{ReadFailed, next_rows, trace_records};
 pub use shared::read_trace_shared;
+pub use trace_lines::TraceLines;

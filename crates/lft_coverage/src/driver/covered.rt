@@ -7,12 +7,12 @@ ghost use Rattle.lft_counts.specs.{inner.Counts.KeepsRows, Cover.CoversRows};
 ghost use Rattle.lft_driver.specs.Refusals.{CheckRefusal};
 ghost use Rattle.lft_coverage.specs.{inner.Driver.Covered.{IsCovered, IsCoveredTable, verdict_in}, Driver.Covered.IsUnreadTrace};
 
+use crate::driver::front::covers_text;
 use lft_check::{CheckFault, NoWatch, Verdict, judge};
 use lft_counts::Cover;
 use lft_ir::steps::Rows;
 use lft_load::{Fault, Part};
 use lft_model::{Breach, Plan, is_workers};
-use lft_stream::batches::covers_text;
 use lft_tag::NoMemory;
 use lft_trace::read_trace_shared;
 use std::alloc::Global;

@@ -35,23 +35,3 @@ module _ (program : Parts) (w b first next left : List Row) (x : RowsFit program
 
   pub left_fits : length left ≤ 4000000 → RowsFit program left
   left_fits few = record { few = few; each = λ i row e. each_fits (length (first ++ next) + i) row (get_right (first ++ next) left i ∙ e) }
-
--- behind rows that are judged the first part comes next, then the second, and the third is left
-module _ (j w b first next left : List Row) (is : (first ++ next) ++ left ≡ w ++ b) where
-  pub first_next : (r more : List Row) → r ≡ (j ++ (w ++ b)) ++ more → r ≡ (j ++ first) ++ ((next ++ left) ++ more)
-  first_next r more next_is = next_is ∙ ap (λ (x : List Row). (j ++ x) ++ more) (sym is) ∙ regroup
-    where
-      regroup : (j ++ ((first ++ next) ++ left)) ++ more ≡ (j ++ first) ++ ((next ++ left) ++ more)
-      regroup = simp append_assoc
-
-  pub second_next : (r more k : List Row) → k ≡ j ++ first → r ≡ (j ++ (w ++ b)) ++ more → r ≡ (k ++ next) ++ (left ++ more)
-  second_next r more k one next_is = next_is ∙ ap (λ (x : List Row). (j ++ x) ++ more) (sym is) ∙ regroup ∙ ap (λ (x : List Row). (x ++ next) ++ (left ++ more)) (sym one)
-    where
-      regroup : (j ++ ((first ++ next) ++ left)) ++ more ≡ ((j ++ first) ++ next) ++ (left ++ more)
-      regroup = simp append_assoc
-
-  pub third_left : (k l : List Row) → k ≡ j ++ first → l ≡ k ++ next → l ++ left ≡ j ++ (w ++ b)
-  third_left k l one two = ap (λ (x : List Row). x ++ left) (two ∙ ap (λ (x : List Row). x ++ next) one) ∙ regroup ∙ ap (λ (x : List Row). j ++ x) is
-    where
-      regroup : ((j ++ first) ++ next) ++ left ≡ j ++ ((first ++ next) ++ left)
-      regroup = simp append_assoc

@@ -1,4 +1,2 @@
-pub mod Fronts
 pub mod Progresses
-pub mod Lines
 pub mod Parted

@@ -51,17 +51,17 @@ fn put_behind(rows: Vec<Row>, more: &[Row]) -> Option<Vec<Row>>
 
 /// Rows that waited and a batch behind them, cut where tags end.
 #[derive(Drop)]
-pub(crate) struct CutBatch<'b> {
+pub struct CutBatch<'b> {
     /// The rows that waited, with those at their last tag.
-    pub(crate) first: Vec<Row>,
+    pub first: Vec<Row>,
     /// Those at later tags that are finished.
-    pub(crate) next: &'b [Row],
+    pub next: &'b [Row],
     /// Those at the last tag: more may follow at it.
-    pub(crate) waiting: Vec<Row>,
+    pub waiting: Vec<Row>,
 }
 
 /// Cuts rows that wait and a batch behind them.
-pub(crate) fn cut_batch<'b>(
+pub fn cut_batch<'b>(
     alloc: Global,
     waiting: Vec<Row>,
     batch: &'b [Row],

@@ -8,12 +8,21 @@ ghost use Rattle.lft_rows.specs.Accepted.{IsAccepted};
 use crate::RunCounts;
 use crate::batches::progress::{JudgedRows, judge_batch};
 use crate::batches::rows::rows_together;
-use crate::batches::text::reaction_names;
 use lft_model::Plan;
 use lft_tag::MAX_ROWS;
-use lft_trace::{ReadFailed, next_rows, trace_records};
+use lft_trace::{ReactionNames, ReadFailed, next_rows, trace_records};
 use std::alloc::Global;
 use std::io::Read;
+
+/// The names of a plan's reactions, where there is memory for them.
+pub(crate) fn reaction_names(alloc: Global, plan: &Plan) -> Option<ReactionNames<'_>>
+    ensures { IfSome result (λ names. names ≡ plan.now.program) }
+{
+    match ReactionNames::new(alloc, plan.program()) {
+        Ok(names) => Some(names),
+        Err(_) => None,
+    }
+}
 
 /// The counts of the trace table that a reader gives, whose rows are legal. It is read a batch of rows at a
 /// time, and no row is kept once its tag is judged.

@@ -17,7 +17,7 @@ const TOGETHER: usize = 4_096;
 
 /// How many rows of a program are to be taken together. For each reaction there is one: before a batch is judged,
 /// what is kept of each reaction is wiped.
-pub(crate) fn rows_together(plan: &Plan) -> usize
+pub fn rows_together(plan: &Plan) -> usize
     ensures { (0 < result) × (result ≤ 4000000) }
 {
     TOGETHER.max(plan.program().reactions()).min(MAX_ROWS)

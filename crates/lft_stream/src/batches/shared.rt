@@ -9,14 +9,12 @@ ghost use Rattle.lft_rows.specs.Accepted.{IsAccepted};
 ghost use Rattle.lft_stream.specs.inner.Batches.{Parted.PartsFit, Progresses.{IsGoneOn, IsProgress}};
 
 use crate::RunCounts;
-use crate::batches::lines::Lines;
 use crate::batches::progress::{JudgedRows, judge_batch};
-use crate::batches::reader::accepts_reader;
-use crate::batches::text::reaction_names;
+use crate::batches::reader::{accepts_reader, reaction_names};
 use lft_ir::steps::Row;
 use lft_model::Plan;
 use lft_tag::MAX_ROWS;
-use lft_trace::{ReactionNames, ReadFailed, first_lines, read_lines};
+use lft_trace::{ReactionNames, ReadFailed, TraceLines, first_lines, read_lines};
 use std::alloc::Global;
 use std::io::Read;
 use std::thread::{Threads, join};
@@ -134,7 +132,7 @@ pub fn accepts_reader_shared<T: Threads + Sync, R: Read + Drop>(
     }
     // Tags are judged one after another, since each needs what those before it leave behind. So reading
     // alone is shared out.
-    let Some(mut text) = Lines::below_header(alloc, source)? else {
+    let Some(mut text) = TraceLines::new(alloc, source)? else {
         return Ok(None);
     };
     let Some(names) = reaction_names(alloc, plan) else {

@@ -1,7 +1,7 @@
 //! Texts cut where a line ends.
 
-ghost use Rattle.std.specs.Prelude.{◌≡◌, ◌++◌, ◌∷◌, IfSome, false};
-ghost use Rattle.lft_trace.specs.{Records.records_of, Traces.header, inner.Parts.BeginsPlain, Parts.EndsLine};
+ghost use Rattle.std.specs.Prelude.{◌≡◌, ◌++◌, ◌∷◌, [], IfSome, IsTrue, false};
+ghost use Rattle.lft_trace.specs.{Records.records_of, Traces.header, inner.Parts.BeginsPlain, Parts.{EndsLine, HasNoQuote}};
 
 /// The header as it is mostly written.
 const HEADER: &[u8] = b"event,worker,time,microstep,reaction,name,value,delay\n";
@@ -12,6 +12,14 @@ const HEADER_OF_CSV: &[u8] = b"event,worker,time,microstep,reaction,name,value,d
 /// The first byte of a byte order mark. A reader takes the mark off where a text begins, and
 /// nowhere else.
 const MARK: u8 = 239;
+
+/// Whether a line is the header's, with just its bytes.
+pub(crate) fn is_header_line(line: &[u8]) -> bool
+    ensures one { IsTrue result → records_of line.now ≡ header ∷ [] }
+    ensures quiet { IsTrue result → HasNoQuote line.now }
+{
+    line == HEADER || line == HEADER_OF_CSV
+}
 
 /// What stands behind the header, where the text begins with just its bytes.
 fn strip_header(text: &[u8]) -> Option<&[u8]>

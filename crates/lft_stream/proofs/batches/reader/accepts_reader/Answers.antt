@@ -27,7 +27,7 @@ returns-then-not-more g c =
     let left = c.in-Some-judge_batch.left.items in
     let last = subst (λ (o : Option Bool). IfSome o (IsBatch remaining names old new batch)) (c.in-Some-2.is ∙ ap (λ (b : Bool). Some b) c.if-not-more.true) c.in_ok-more.ensures.rows in
     let on = subst (λ (t : List Row). IsGoneOn plan before after (waiting ++ t) left) c.as_slice.ensures.value c.in-Some-judge_batch.ensures.gone in
-    let all = table_gone remaining plan c.args.source old new before after waiting batch left c.loop-batch.invariant.gone on (subst (λ (p : Parts). AreLast remaining p old batch) c.in-Some-reaction_names.ensures.names last) in
+    let all = table_gone remaining plan c.args.source old new before after waiting batch left c.loop-batch.invariant.gone on (subst (λ (p : Parts). AreLast remaining p old batch) c.in-Some-reaction_names.ensures last) in
     IfSome_then c.finish.result c.finish.ensures (λ counts accepted.
     let so = subst (λ (t : List Row). (length (all.0 ++ t) ≤ 4000000) × IsAccepted plan (all.0 ++ t) counts.runs counts.tags) c.as_slice-then-not-more.ensures.value (accepted all.0 all.1) in
     IfSome_then (remaining c.args.source) (all.2 so.0) (λ text table. (all.0 ++ left, table, so.1)))
@@ -47,6 +47,6 @@ loop-batch-preserved g c =
     let next = subst (λ (o : Option Bool). IfSome o (IsBatch remaining names old new batch)) (c.in-Some-2.is ∙ ap (λ (b : Bool). Some b) c.if-not-more.false) c.in_ok-more.ensures.rows in
     let on = subst (λ (t : List Row). IsGoneOn plan before after (waiting ++ t) left) c.as_slice.ensures.value c.in-Some-judge_batch.ensures.gone in
     record {
-      gone = batch_gone remaining plan c.args.source old new before after waiting batch left c.loop-batch.invariant.gone on (subst (λ (p : Parts). AreNext remaining p old new batch) c.in-Some-reaction_names.ensures.names next);
+      gone = batch_gone remaining plan c.args.source old new before after waiting batch left c.loop-batch.invariant.gone on (subst (λ (p : Parts). AreNext remaining p old new batch) c.in-Some-reaction_names.ensures next);
       fit = c.in-Some-judge_batch.ensures.fit;
     }

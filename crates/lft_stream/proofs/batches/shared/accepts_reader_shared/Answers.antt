@@ -1,8 +1,9 @@
 use Rattle.std.proofs.Common.{◌∙◌, ◌++◌, ℕ, List, Vec, IfSome, ap, length, subst, sym}
 use Rattle.std.{proofs.lemmas.{Bool.eqb-true, Option.IfSome_then}, specs.declared.alloc.Global.Global}
 use Rattle.lft_ir.specs.Parts.{Parts}
-use Rattle.lft_trace.{specs.inner.Parts.{HoldsRows, rows_of}, proofs.{Beginning.begins_lines, Together.at_some}}
-use Rattle.lft_stream.{specs.inner.Batches.{Lines.{AreNextLines, text_left}, Parted.PartsFit}, proofs.BatchesLemmas.Reading.{read_all, reads_on}}
+use Rattle.lft_trace.specs.inner.{Parts.{HoldsRows, rows_of}, TraceLines.{AreNextLines, text_left}}
+use Rattle.lft_trace.proofs.{Beginning.{begins_lines, read_all}, Together.at_some}
+use Rattle.lft_stream.{specs.inner.Batches.Parted.PartsFit, proofs.BatchesLemmas.Reading.reads_on}
 use Rattle.lft_stream.proofs.batches.shared.accepts_reader_shared.Goals as goal
 
 pub returns-then-is_empty : goal.returns-then-is_empty
@@ -34,7 +35,7 @@ loop-batch-preserved g c =
     let on = c.in-Some-go_beside.on in
     let read = on.1.items in
     let gone = c.in-Some-go_beside.ensures in
-    let is = c.in-Some-reaction_names.ensures.names in
+    let is = c.in-Some-reaction_names.ensures in
     let u = gone.gone c.loop-batch.invariant.stands.0 c.loop-batch.invariant.stands.1 in
     record {
       fit = gone.fit;

@@ -1,7 +1,7 @@
 use Rattle.std.proofs.Common.{◌≡◌, ◌++◌, ℕ, List, Some, IfSome}
 use Rattle.lft_ir.specs.{Steps.Fits.RowsFit, declared.steps.row.Row.Row}
-use Rattle.lft_trace.specs.inner.Parts.{rows_of}
-use Rattle.lft_stream.specs.inner.Batches.{Lines.text_left, Parted.PartsFit, Progresses.{IsProgress, IsReadUpTo}}
+use Rattle.lft_trace.specs.inner.{Parts.rows_of, TraceLines.text_left}
+use Rattle.lft_stream.specs.inner.Batches.{Parted.PartsFit, Progresses.{IsProgress, IsReadUpTo}}
 use Rattle.lft_stream.proofs.batches.shared.accepts_reader_shared.Given as goal
 
 abbrev pub invariant-loop-batch : goal.invariant-loop-batch

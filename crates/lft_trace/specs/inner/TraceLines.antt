@@ -1,0 +1,19 @@
+-- Inside: the text that a reader gives, some whole lines at a time.
+use Rattle.std.specs.Prelude.{◌≡◌, ◌∷◌, ℕ, List, [], Option, Some, length}
+use Rattle.std.specs.Io.KnownBytes.{prepend_known}
+use Rattle.lft_trace.specs.{Records.records_of, Traces.header, inner.Parts.IsCut, declared.reading.trace_lines.TraceLines.TraceLines}
+
+-- what is still to be given, where it is known
+abbrev pub text_left : {R : Type 0} → (R → Option (List ℕ)) → TraceLines R → Option (List ℕ)
+text_left remaining source = prepend_known source.read.items (remaining source.reader)
+
+-- the text begins with these lines, and what stands behind them is still to be given; they are none only where the text is empty
+pub record AreNextLines {R : Type 0} (remaining : R → Option (List ℕ)) (source : TraceLines R) (lines text : List ℕ) : Type 0 where
+  pub behind : List ℕ
+  pub cut : IsCut text lines behind
+  pub left : text_left remaining source ≡ Some behind
+  pub none : length lines ≡ 0 → text ≡ []
+
+-- the text's first record is the header, and those of what is still to be given are the others
+abbrev pub AreLinesBelowHeader : {R : Type 0} → (R → Option (List ℕ)) → TraceLines R → List ℕ → Type 0
+AreLinesBelowHeader remaining source text = (body : List ℕ) × (text_left remaining source ≡ Some body) × (records_of text ≡ header ∷ records_of body)

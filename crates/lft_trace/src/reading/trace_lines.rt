@@ -1,0 +1,82 @@
+//! The text of the trace table that a reader gives, some whole lines at a time.
+
+ghost use Rattle.std.specs.Prelude.{◌≡◌, IfOk, IfSome, false};
+ghost use Rattle.std.specs.Io.KnownBytes.{IsAtEnd, Keeps};
+ghost use Rattle.lft_trace.specs.inner.TraceLines.{AreNextLines, AreLinesBelowHeader, text_left};
+
+use crate::reading::batch::first_lines;
+use crate::reading::lines::is_header_line;
+use crate::reading::rows::ReadFailed;
+use std::alloc::Global;
+use std::io::Read;
+use std::mem;
+
+/// So many bytes are read at a time. No line of a table is as long.
+const CHUNK: usize = 1 << 14;
+
+/// The text that a reader gives, and what was read of it and isn't given yet.
+#[derive(Drop)]
+pub struct TraceLines<R: Read + Drop> {
+    reader: R,
+    read: Vec<u8>,
+}
+
+impl<R: Read + Drop> TraceLines<R> {
+    /// The text below the header of the trace table that a reader gives. None where its first line is no such
+    /// header, or memory is refused.
+    pub fn new(alloc: Global, reader: R) -> Result<Option<TraceLines<R>>, ReadFailed>
+        ensures { IfOk result (λ found. IfSome found (λ lines. IfSome (R.remaining reader) (AreLinesBelowHeader R.remaining lines))) }
+    {
+        let mut lines = TraceLines {
+            reader,
+            read: Vec::new(alloc),
+        };
+        let Some(first) = lines.next(0)? else {
+            return Ok(None);
+        };
+        if !is_header_line(first.as_slice()) {
+            return Ok(None);
+        }
+        Ok(Some(lines))
+    }
+
+    /// Reads until so many bytes are at hand, and tells whether the reader may give more. None where memory is
+    /// refused.
+    fn fill(&mut self, bytes: usize) -> Result<Option<bool>, ReadFailed>
+        ensures kept { IfOk result (λ found. IfSome found (λ more. Keeps (text_left R.remaining self.old) (text_left R.remaining self.new))) }
+        ensures end { IfOk result (λ found. IfSome found (λ more. more ≡ false → IsAtEnd (R.remaining self.new.reader))) }
+    {
+        let mut chunk = [0u8; CHUNK];
+        while self.read.len() < bytes {
+            match self.reader.read(&mut chunk) {
+                Ok(0) => return Ok(Some(false)),
+                Ok(count) => {
+                    if self.read.extend_from_slice(&chunk[..count]).is_err() {
+                        return Ok(None);
+                    }
+                }
+                Err(_) => return Err(ReadFailed),
+            }
+        }
+        Ok(Some(true))
+    }
+
+    /// The next lines, of so many bytes or a few more, or all that are left. None where a line is longer than
+    /// one of a table, or memory is refused.
+    pub fn next(&mut self, bytes: usize) -> Result<Option<Vec<u8>>, ReadFailed>
+        ensures { IfOk result (λ found. IfSome found (λ lines. IfSome (text_left R.remaining self.old) (AreNextLines R.remaining self.new lines.items))) }
+    {
+        let Some(more) = self.fill(bytes.saturating_add(CHUNK))? else {
+            return Ok(None);
+        };
+        let (lines, behind) = first_lines(self.read.as_slice(), bytes);
+        if more && behind.is_empty() {
+            return Ok(None);
+        }
+        let count = lines.len();
+        let Ok(rest) = self.read.split_off(count) else {
+            return Ok(None);
+        };
+        Ok(Some(mem::replace(&mut self.read, rest)))
+    }
+}
