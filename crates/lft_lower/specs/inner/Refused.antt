@@ -3,7 +3,8 @@ use Rattle.std.specs.Prelude.{◌≡◌, ◌<◌, ◌⊎◌, ℕ, Bool, true, fa
 use Rattle.lft_resolve.specs.Causes.{longest}
 use Rattle.lft_tree.specs.Tree.{nanoseconds}
 use Rattle.lft_whole.specs.declared.sources.{source.SourceFile.SourceFile, stop.FileRefusal.FileRefusal, why.Why.Why}
-use Rattle.lft_whole.specs.declared.tree.{Action.Action, Connection.Connection, Effect.Effect, Expression.Expression, Timer.Timer, Trigger.Trigger, WrittenValue.WrittenValue}
+use Rattle.lft_whole.specs.declared.tree.{Action.Action, Connection.Connection, Effect.Effect, Expression.Expression, Timer.Timer, Trigger.Trigger}
+use Rattle.lft_whole.specs.declared.tree.WrittenValue.{WrittenValue}
 use Rattle.lft_classes.specs.declared.shapes.{GivenValue.GivenValue, InheritedParameter.InheritedParameter, Shape.Shape}
 use Rattle.lft_elaborate.specs.{declared.settings.Settings.Settings, inner.{Settings.shape_at, Refused.IsAt}, Values.is_forever}
 use Rattle.lft_lower.specs.inner.{Meanings.{Meanings.Here, Refused.{IsOfOne, IsOfReference}}, Lowered.is_spaced, Needed.is_timed, Programs.decentralized_in}

@@ -6,7 +6,8 @@ use Rattle.lft_resolve.specs.Expansion.Paths.{along}
 use Rattle.lft_lists.proofs.{Mapped.{mapped, mapped_from, option_map_some}, Members.{Mem, get_mem, mem_from_flat, mem_from_map, mem_get}, Places.Some_same}
 use Rattle.lft_program.proofs.{Listing.enumerate_from_at, Zipping.then_some}
 use Rattle.lft_whole.specs.declared.sources.source.SourceFile.{SourceFile}
-use Rattle.lft_whole.specs.declared.tree.{Count.Count, Instance.Instance, Member.Member, Name.Name, Reference.Reference, Term.Term, WrittenValue.WrittenValue, Width.Width}
+use Rattle.lft_whole.specs.declared.tree.{Count.Count, Instance.Instance, Member.Member, Name.Name, Reference.Reference, Term.Term, WrittenValue.WrittenValue}
+use Rattle.lft_whole.specs.declared.tree.Width.{Width}
 use Rattle.lft_elaborate.specs.Channels.Channels.{below}
 use Rattle.lft_elaborate.specs.inner.Used.{IsReached, is_instance, is_instance_in, within}
 use Rattle.lft_elaborate.specs.inner.Places.{IsMany, capped, known_count as settings_count, how_many, how_many_inside, how_many_of, many, member_in, parameter_in, how_many_places, how_many_meant, plus, sum_in, capped_product, width_in, written_width}
