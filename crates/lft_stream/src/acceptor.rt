@@ -34,11 +34,12 @@ impl Acceptor {
         ensures { IfOk result (IsAcceptorOf plan.now []) }
     {
         let program = plan.program();
+        // The largest is made last: no way out has to drop it.
         Ok(Acceptor {
-            stream: Stream::new(alloc, plan, effort)?,
             pass: Pass::new(alloc, program)?,
             marks: Marks::new(alloc, program)?,
             order: Precedence::new(alloc),
+            stream: Stream::new(alloc, plan, effort)?,
         })
     }
 

@@ -159,21 +159,25 @@ impl Stream {
         ensures { IfOk result (IsStreamOf plan.now []) }
     {
         let program = plan.program();
-        let listeners = NameListeners::new(alloc, plan)?;
+        // The smaller are made first: the ways out behind one have to drop it.
+        let starts = StartTags::new(alloc, program)?;
+        let writes = Writes::new(alloc, program)?;
+        let unread = UnreadPorts::new(alloc, program)?;
         let channels = Channels::new(alloc, program)?;
+        let listeners = NameListeners::new(alloc, plan)?;
         Ok(Stream {
             stop: plan.externals().stop(),
             tag: None,
             runs: 0,
             tags: 0,
             dues: Dues::new(alloc, plan)?,
-            starts: StartTags::new(alloc, program)?,
-            writes: Writes::new(alloc, program)?,
+            starts,
+            writes,
             effort: effort.of_program(program, &listeners, &channels),
             listeners,
             channels,
             coming: Coming::new(alloc, effort.most_events()),
-            unread: UnreadPorts::new(alloc, program)?,
+            unread,
             presence: PresentNames::new(alloc, program),
             outline: Outline::new(alloc),
         })

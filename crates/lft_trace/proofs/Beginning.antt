@@ -1,8 +1,8 @@
 -- A text whose first lines are read, and what stands behind them.
-use Rattle.std.proofs.Common.{◌≡◌, ◌≤◌, ◌++◌, ◌∷◌, ◌∙◌, inl, inr, ℕ, List, [], length, refl, sym, ap, subst, arith}
+use Rattle.std.proofs.Common.{◌≡◌, ◌++◌, ◌∷◌, ◌∙◌, inl, inr, ℕ, List, [], length, refl, sym, ap, subst, arith}
 use Rattle.std.{specs.List.AllZip, proofs.lemmas.List.{append_assoc, append-nil}}
 use Rattle.lft_ir.specs.{Parts.Parts, declared.steps.row.Row.Row}
-use Rattle.lft_trace.specs.{Records.records_of, Traces.{IsRow, Table, header}, inner.Parts.{BeginsWith, HoldsRows, IsCut}}
+use Rattle.lft_trace.specs.{Records.records_of, Traces.IsRow, inner.Parts.{BeginsWith, HoldsRows, IsCut}}
 use Rattle.lft_trace.proofs.{Cutting.records_cut, Together.{no_record, zipped}}
 
 -- before anything is read, all is left
@@ -24,7 +24,7 @@ begins_more program text rest behind rows more (first, whole, each) (next, furth
 pub begins_all : (program : Parts) (text : List ℕ) (rows : List Row) → BeginsWith program text rows [] → AllZip (IsRow program) (records_of text) rows
 begins_all program text rows (first, whole, each) = subst (λ (t : List (List (List ℕ))). AllZip (IsRow program) t rows) (sym (whole ∙ ap (λ (t : List (List (List ℕ))). first ++ t) no_record ∙ append-nil first)) each
 
--- where nothing is left to be read, the rows are the table's
-pub read_all : (program : Parts) (text body rest : List ℕ) (rows : List Row) → records_of text ≡ header ∷ records_of body → BeginsWith program body rows rest → length rest ≡ 0 → length rows ≤ 4000000 → Table program (records_of text) rows
-read_all program text body [] rows under begins none few = record { rest = records_of body; under = under; each = begins_all program body rows begins; few = few }
-read_all program text body (x ∷ xs) rows under begins none few = absurd (omega arith)
+-- where nothing is left to be read, the rows are those of all records
+pub begins_out : (program : Parts) (text rest : List ℕ) (rows : List Row) → BeginsWith program text rows rest → length rest ≡ 0 → AllZip (IsRow program) (records_of text) rows
+begins_out program text [] rows begins none = begins_all program text rows begins
+begins_out program text (x ∷ xs) rows begins none = absurd (omega arith)

@@ -1,8 +1,9 @@
 //! What a trace table exercises that is accepted from its text.
 
 ghost use Rattle.std.specs.Prelude.{◌≡◌, ◌++◌, ◌+◌, ◌≤◌, ℕ, List, Some, length, slice_get, IfOk, IfSome, IsTrue};
+ghost use Rattle.std.specs.List.{AllZip};
 ghost use Rattle.lft_ir.specs.{Parts.Parts, Steps.Fits.RowsFit, declared.steps.row.Row.Row as TheRow};
-ghost use Rattle.lft_trace.specs.{Records.records_of, Traces.Table};
+ghost use Rattle.lft_trace.specs.{Records.records_of, Traces.{IsRow, Table}};
 ghost use Rattle.lft_rows.specs.Accepted.{IsAccepted};
 ghost use Rattle.lft_counts.specs.{inner.Counts.KeepsRows, Cover.CoversRows};
 ghost use Rattle.lft_coverage.specs.inner.Driver.Fronts.{IsFrontOfText, IsNextBehind, judged_rows};
@@ -97,6 +98,30 @@ fn add_batch(
     Some(cut.waiting)
 }
 
+/// Goes on past all rows of a text below its header. The counts of the runs, where all rows are legal.
+// The front is the caller's: each way out of a loop is proved to drop all that its function owns.
+fn add_text(front: &mut Front, alloc: Global, plan: &Plan, body: &[u8]) -> Option<RunCounts>
+    requires stands { IsFrontOfText plan.now body.now front.old }
+    requires none { front.old.cover.rows ≡ 0 }
+    ensures { IfSome result (λ c. (rows : List TheRow) × AllZip (IsRow plan.now.program) (records_of body.now) rows × (length rows ≤ 4000000) × IsAccepted plan.now rows c.runs c.tags × CoversRows plan.now.program rows (length rows) front.new.cover) }
+{
+    let Ok(names) = ReactionNames::new(alloc, plan.program()) else {
+        return None;
+    };
+    let bytes = rows_together(plan).saturating_mul(BYTES_OF_A_ROW);
+    let mut waiting = Vec::new(alloc);
+    let mut rest = body;
+    while !rest.is_empty() {
+        let (batch, behind) = read_batch(alloc, &names, rest, bytes)?;
+        waiting = add_batch(front, alloc, plan, body, waiting, batch.as_slice())?;
+        rest = behind;
+    }
+    if !front.judge(alloc, plan, body, waiting.as_slice()) {
+        return None;
+    }
+    front.acceptor.finish(plan)
+}
+
 /// The counts of a trace table whose rows are legal, and what the rows exercise, both in one pass over its text.
 /// No row is kept once its tag is judged.
 ///
@@ -109,20 +134,6 @@ pub(crate) fn covers_text(alloc: Global, plan: &Plan, text: &[u8]) -> Option<(Ru
     let Ok(mut front) = Front::new(alloc, plan) else {
         return None;
     };
-    let Ok(names) = ReactionNames::new(alloc, plan.program()) else {
-        return None;
-    };
-    let bytes = rows_together(plan).saturating_mul(BYTES_OF_A_ROW);
-    let mut waiting = Vec::new(alloc);
-    let mut rest = body;
-    while !rest.is_empty() {
-        let (batch, behind) = read_batch(alloc, &names, rest, bytes)?;
-        waiting = add_batch(&mut front, alloc, plan, body, waiting, batch.as_slice())?;
-        rest = behind;
-    }
-    if !front.judge(alloc, plan, body, waiting.as_slice()) {
-        return None;
-    }
-    let counts = front.acceptor.finish(plan)?;
+    let counts = add_text(&mut front, alloc, plan, body)?;
     Some((counts, front.cover))
 }

@@ -1,15 +1,14 @@
 -- A batch of rows in parts, which are judged one after another.
 use Rattle.std.proofs.Common.{◌≡◌, ◌∙◌, ℕ, ◌+◌, ◌≤◌, List, [], ◌∷◌, ◌++◌, Vec, inl, inr, length, take, drop, add-one, ap, refl, sym, subst, arith, get_or, slice_get, Some}
 use Rattle.std.specs.declared.alloc.Global.{Global}
-use Rattle.std.proofs.lemmas.{Grind.flat_map-append, List.{append_assoc, append-nil, length-append, take-append-drop}}
+use Rattle.std.proofs.lemmas.{Grind.flat_map-append, List.{append-nil, length-append, take-append-drop}}
 use Rattle.std.proofs.lemmas.Option.{get_or_from_slice_get, slice_get-get_or, slice_get_within}
 use Rattle.std.proofs.Math.Seq.{take-suc}
 use Rattle.lft_ir.specs.{Parts.Parts, Steps.Fits.RowsFit, declared.steps.row.Row.Row}
 use Rattle.lft_lists.proofs.Places.{get_left, get_right}
 use Rattle.lft_trace.specs.{Parts.HasNoQuote, inner.Parts.{HoldsRows, IsCut, rows_of}}
 use Rattle.lft_trace.proofs.{Beginning.{begins_all, begins_lines, begins_more}, Together.holds_both}
-use Rattle.lft_model.specs.Plans.{PlanParts}
-use Rattle.lft_stream.specs.{inner.Batches.{Parted.PartsFit, Progresses.IsGoneOn}, declared.batches.progress.JudgedRows.JudgedRows}
+use Rattle.lft_stream.specs.inner.Batches.Parted.{PartsFit}
 
 module _ (parts : List (Vec Row Global)) (n : ℕ) (part : Vec Row Global) (at : slice_get parts n ≡ Some part) where
   before : take (n + 1) parts ≡ take n parts ++ (part ∷ [])
@@ -47,13 +46,3 @@ holds_cut program text lines behind rows more (is, inl none) x y =
       subst HasNoQuote (sym (is ∙ ap (λ (t : List ℕ). lines ++ t) none ∙ append-nil lines)) x.0,
       begins_all program text (rows ++ more) (begins_more program text behind [] rows more (begins_lines program text lines behind rows (is, inl none) x) last),
     )
-
--- a part behind others is gone past with those
-pub part_gone : (plan : PlanParts) (old mid new : JudgedRows) (w x y l left : List Row) → IsGoneOn plan old mid (w ++ x) l → IsGoneOn plan mid new (l ++ y) left → IsGoneOn plan old new (w ++ (x ++ y)) left
-part_gone plan old mid new w x y l left one two t so =
-    let u = one t so in
-    let v = two u.0 u.1 in
-    (v.0, v.1, v.2 ∙ sym (append_assoc u.0 l y) ∙ ap (λ (r : List Row). r ++ y) u.2 ∙ regroup)
-  where
-    regroup : (t ++ (w ++ x)) ++ y ≡ t ++ (w ++ (x ++ y))
-    regroup = simp append_assoc

@@ -61,11 +61,7 @@ pub struct CutBatch<'b> {
 }
 
 /// Cuts rows that wait and a batch behind them.
-pub fn cut_batch<'b>(
-    alloc: Global,
-    waiting: Vec<Row>,
-    batch: &'b [Row],
-) -> Option<CutBatch<'b>>
+pub fn cut_batch<'b>(alloc: Global, waiting: Vec<Row>, batch: &'b [Row]) -> Option<CutBatch<'b>>
     ensures rows { IfSome result (λ cut. (cut.first.items ++ cut.next.now) ++ cut.waiting.items ≡ waiting.items ++ batch.now) }
     ensures few { IfSome result (λ cut. (length cut.first.items ≤ 4000000) × (length cut.next.now ≤ length batch.now) × (length cut.waiting.items ≤ 4000000)) }
 {

@@ -1,27 +1,49 @@
 //! Trace tables that are accepted from what a reader gives.
 
-ghost use Rattle.std.specs.Prelude.{◌≡◌, List, IfOk, IfSome};
+ghost use Rattle.std.specs.Prelude.{◌≡◌, [], List, IfOk, IfSome};
 ghost use Rattle.lft_ir.specs.declared.steps.row.Row.{Row as TheRow};
-ghost use Rattle.lft_trace.specs.{Records.records_of, Traces.Table};
+ghost use Rattle.lft_trace.specs.{Records.records_of, Traces.Table, inner.Records.{IsPlain, records_left}};
 ghost use Rattle.lft_rows.specs.Accepted.{IsAccepted};
+ghost use Rattle.lft_stream.specs.inner.Batches.Progresses.{HaveAcceptedRows, IsProgress};
 
 use crate::RunCounts;
-use crate::batches::progress::{JudgedRows, judge_batch};
+use crate::batches::progress::JudgedRows;
 use crate::batches::rows::rows_together;
 use lft_model::Plan;
 use lft_tag::MAX_ROWS;
+use lft_trace::records::Records;
 use lft_trace::{ReactionNames, ReadFailed, next_rows, trace_records};
 use std::alloc::Global;
 use std::io::Read;
 
-/// The names of a plan's reactions, where there is memory for them.
-pub(crate) fn reaction_names(alloc: Global, plan: &Plan) -> Option<ReactionNames<'_>>
-    ensures { IfSome result (λ names. names ≡ plan.now.program) }
+/// The counts of the rows of all records that are left. None as for `accepts_reader`.
+// What has to be dropped is the caller's: each way out of a loop is proved to drop all that its function owns.
+fn accepts_records<R: Read + Drop>(
+    alloc: Global,
+    plan: &Plan,
+    names: &ReactionNames,
+    records: &mut Records<R>,
+    progress: &mut JudgedRows,
+) -> Result<Option<RunCounts>, ReadFailed>
+    requires names { names.now ≡ plan.now.program }
+    requires first { IsProgress plan.now [] progress.old }
+    ensures { IfOk result (λ found. IfSome found (λ c. IsPlain R.remaining records.old → HaveAcceptedRows plan.now (records_left R.remaining records.old) c)) }
 {
-    match ReactionNames::new(alloc, plan.program()) {
-        Ok(names) => Some(names),
-        Err(_) => None,
+    let together = rows_together(plan);
+    let mut batch = Vec::new(alloc);
+    // A table has no more batches than rows.
+    for _batch in 0..MAX_ROWS {
+        let Some(more) = next_rows(names, records, together, &mut batch)? else {
+            return Ok(None);
+        };
+        if !progress.add(alloc, plan, batch.as_slice()) {
+            return Ok(None);
+        }
+        if !more {
+            return Ok(progress.finish(alloc, plan));
+        }
     }
+    Ok(None)
 }
 
 /// The counts of the trace table that a reader gives, whose rows are legal. It is read a batch of rows at a
@@ -41,27 +63,11 @@ pub fn accepts_reader<R: Read + Drop>(
     let Some(mut records) = trace_records(alloc, source)? else {
         return Ok(None);
     };
-    let Some(names) = reaction_names(alloc, plan) else {
+    let Ok(names) = ReactionNames::new(alloc, plan.program()) else {
         return Ok(None);
     };
     let Ok(mut progress) = JudgedRows::new(alloc, plan) else {
         return Ok(None);
     };
-    let together = rows_together(plan);
-    let mut batch = Vec::new(alloc);
-    let mut waiting = Vec::new(alloc);
-    // A table has no more batches than rows.
-    for _batch in 0..MAX_ROWS {
-        let Some(more) = next_rows(&names, &mut records, together, &mut batch)? else {
-            return Ok(None);
-        };
-        let Some(left) = judge_batch(&mut progress, alloc, plan, waiting, batch.as_slice()) else {
-            return Ok(None);
-        };
-        if !more {
-            return Ok(progress.finish(alloc, plan, left.as_slice()));
-        }
-        waiting = left;
-    }
-    Ok(None)
+    accepts_records(alloc, plan, &names, &mut records, &mut progress)
 }

@@ -1,7 +1,7 @@
 //! Rows that are accepted, part by part.
 
-ghost use Rattle.std.specs.Prelude.{◌≡◌, ◌<◌, ◌≤◌, List, length, take, IfSome, IsTrue};
-ghost use Rattle.lft_ir.specs.{declared.steps.row.Row.Row as TheRow, Steps.Fits.RowsFit};
+ghost use Rattle.std.specs.Prelude.{◌<◌, ◌≤◌, [], length, IfSome, IsTrue};
+ghost use Rattle.lft_ir.specs.Steps.Fits.{RowsFit};
 ghost use Rattle.lft_rows.specs.Accepted.{IsAccepted};
 ghost use Rattle.lft_stream.specs.inner.Kept.{IsAcceptorOf};
 
@@ -36,21 +36,22 @@ fn end_of_part(rows: &[Row], first: usize, together: usize) -> usize
     end
 }
 
-/// Goes on past the rows from the first on up to the end.
-fn add_part(
-    acceptor: &mut Acceptor,
-    alloc: Global,
-    plan: &Plan,
-    rows: &[Row],
-    first: usize,
-    end: usize,
-) -> bool
+/// Goes on past the rows, part by part.
+fn add_parts(acceptor: &mut Acceptor, alloc: Global, plan: &Plan, rows: &[Row]) -> bool
     requires fit { RowsFit plan.now.program rows.now }
-    requires range { (first ≤ end) × (end ≤ length rows.now) }
-    requires stands { IsAcceptorOf plan.now (take first rows.now) acceptor.old }
-    ensures { IsTrue result → IsAcceptorOf plan.now (take end rows.now) acceptor.new }
+    requires first { IsAcceptorOf plan.now [] acceptor.old }
+    ensures { IsTrue result → IsAcceptorOf plan.now rows.now acceptor.new }
 {
-    acceptor.add(alloc, plan, &rows[first..end])
+    let together = rows_together(plan);
+    let mut first = 0;
+    while first < rows.len() {
+        let end = end_of_part(rows, first, together);
+        if !acceptor.add(alloc, plan, &rows[first..end]) {
+            return false;
+        }
+        first = end;
+    }
+    true
 }
 
 /// The counts of rows that are legal. None says nothing of them: they may break a rule, or memory may be
@@ -60,18 +61,11 @@ pub fn accepts_rows(alloc: Global, plan: &Plan, rows: &Rows) -> Option<RunCounts
     requires { RowsFit plan.now.program rows.now }
     ensures { IfSome result (λ c. IsAccepted plan.now rows.now c.runs c.tags) }
 {
-    let rows = rows.as_slice();
     let Ok(mut acceptor) = Acceptor::new(alloc, plan) else {
         return None;
     };
-    let together = rows_together(plan);
-    let mut first = 0;
-    while first < rows.len() {
-        let end = end_of_part(rows, first, together);
-        if !add_part(&mut acceptor, alloc, plan, rows, first, end) {
-            return None;
-        }
-        first = end;
+    if !add_parts(&mut acceptor, alloc, plan, rows.as_slice()) {
+        return None;
     }
     acceptor.finish(plan)
 }

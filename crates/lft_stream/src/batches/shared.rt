@@ -1,16 +1,16 @@
 //! Trace tables that are accepted from what a reader gives by several workers: while one judges a batch of
 //! rows, the others read what comes next.
 
-ghost use Rattle.std.specs.Prelude.{◌++◌, ◌≤◌, List, IfOk, IfSome, length};
+ghost use Rattle.std.specs.Prelude.{◌≡◌, ◌++◌, ◌≤◌, [], ℕ, List, IfOk, IfSome, length};
 ghost use Rattle.std.specs.Thread.{IsSync};
 ghost use Rattle.lft_ir.specs.{Steps.Fits.RowsFit, declared.steps.row.Row.Row as TheRow};
-ghost use Rattle.lft_trace.specs.{Records.records_of, Traces.Table, inner.Parts.{HoldsRows, rows_of}};
+ghost use Rattle.lft_trace.specs.{Records.records_of, Traces.Table, inner.{Parts.{HoldsRows, IsCut, rows_of}, TraceLines.text_left}};
 ghost use Rattle.lft_rows.specs.Accepted.{IsAccepted};
-ghost use Rattle.lft_stream.specs.inner.Batches.{Parted.PartsFit, Progresses.{IsGoneOn, IsProgress}};
+ghost use Rattle.lft_stream.specs.inner.Batches.{Parted.PartsFit, Progresses.{HaveAcceptedRows, IsGoneOn, IsProgress}};
 
 use crate::RunCounts;
-use crate::batches::progress::{JudgedRows, judge_batch};
-use crate::batches::reader::{accepts_reader, reaction_names};
+use crate::batches::progress::JudgedRows;
+use crate::batches::reader::accepts_reader;
 use lft_ir::steps::Row;
 use lft_model::Plan;
 use lft_tag::MAX_ROWS;
@@ -23,26 +23,24 @@ use std::thread::{Threads, join};
 /// judges, and more would wait. Two thirds of a batch are long enough for `read_lines` to part them.
 const BATCH: usize = 7 << 18;
 
-/// Goes on past the parts of a batch. The rows at its last tag are given back, as `judge_batch` does.
+/// Goes on past the parts of a batch.
 fn judge_parts(
     progress: JudgedRows,
     alloc: Global,
     plan: &Plan,
-    waiting: Vec<Row>,
     parts: Vec<Vec<Row>>,
-) -> Option<(JudgedRows, Vec<Row>)>
-    requires waiting_fit { RowsFit plan.now.program waiting.items }
+) -> Option<JudgedRows>
     requires parts_fit { PartsFit plan.now.program parts.items }
     requires stands { (t : List TheRow) × IsProgress plan.now t progress }
-    ensures fit { IfSome result (λ p. RowsFit plan.now.program p.1.items) }
-    ensures gone { IfSome result (λ p. IsGoneOn plan.now progress p.0 (waiting.items ++ rows_of parts.items) p.1.items) }
+    ensures { IfSome result (λ on. IsGoneOn plan.now progress on (rows_of parts.items)) }
 {
     let mut progress = progress;
-    let mut waiting = waiting;
     for place in 0..parts.len() {
-        waiting = judge_batch(&mut progress, alloc, plan, waiting, parts[place].as_slice())?;
+        if !progress.add(alloc, plan, parts[place].as_slice()) {
+            return None;
+        }
     }
-    Some((progress, waiting))
+    Some(progress)
 }
 
 /// Judges the last parts. The counts, where nothing is owed up to the stop.
@@ -50,16 +48,14 @@ fn finish_parts(
     progress: JudgedRows,
     alloc: Global,
     plan: &Plan,
-    waiting: Vec<Row>,
     parts: Vec<Vec<Row>>,
 ) -> Option<RunCounts>
-    requires waiting_fit { RowsFit plan.now.program waiting.items }
     requires parts_fit { PartsFit plan.now.program parts.items }
     requires stands { (t : List TheRow) × IsProgress plan.now t progress }
-    ensures { IfSome result (λ c. (t : List TheRow) → IsProgress plan.now t progress → (length (t ++ (waiting.items ++ rows_of parts.items)) ≤ 4000000) × IsAccepted plan.now (t ++ (waiting.items ++ rows_of parts.items)) c.runs c.tags) }
+    ensures { IfSome result (λ c. (t : List TheRow) → IsProgress plan.now t progress → (length (t ++ rows_of parts.items) ≤ 4000000) × IsAccepted plan.now (t ++ rows_of parts.items) c.runs c.tags) }
 {
-    let (mut progress, left) = judge_parts(progress, alloc, plan, waiting, parts)?;
-    progress.finish(alloc, plan, left.as_slice())
+    let mut progress = judge_parts(progress, alloc, plan, parts)?;
+    progress.finish(alloc, plan)
 }
 
 /// How many bytes of lines so many readers read while the parts are judged. One takes some three times as long
@@ -74,6 +70,29 @@ fn bytes_beside(parts: &[Vec<Row>], lines: &[u8], readers: u32) -> usize {
     }
 }
 
+/// The parts of lines, and behind them those of the rest, read by so many workers.
+// The first lines are passed for what the clauses say of their parts.
+fn read_rest<T: Threads + Sync>(
+    rt: &T,
+    alloc: Global,
+    names: &ReactionNames,
+    first: &[u8],
+    read: Option<Vec<Vec<Row>>>,
+    rest: &[u8],
+    workers: u32,
+) -> Option<Vec<Vec<Row>>>
+    requires { IfSome read (λ parts. HoldsRows names.now first.now (rows_of parts.items) × RowsFit names.now (rows_of parts.items)) }
+    ensures rows { IfSome result (λ all. (lines : List ℕ) → IsCut lines first.now rest.now → HoldsRows names.now lines (rows_of all.items)) }
+    ensures fit { IfSome result (λ all. PartsFit names.now all.items) }
+{
+    let mut read = read?;
+    let mut more = read_lines(rt, alloc, names, rest, workers)?;
+    if read.append(&mut more).is_err() {
+        return None;
+    }
+    Some(read)
+}
+
 /// Goes on past the parts of a batch, while the others of so many workers read the first of the next lines. All
 /// of them read the rest.
 fn go_beside<T: Threads + Sync>(
@@ -82,37 +101,72 @@ fn go_beside<T: Threads + Sync>(
     plan: &Plan,
     names: &ReactionNames,
     progress: JudgedRows,
-    waiting: Vec<Row>,
     parts: Vec<Vec<Row>>,
     lines: &[u8],
     workers: u32,
-) -> Option<((JudgedRows, Vec<Row>), Vec<Vec<Row>>)>
-    requires waiting_fit { RowsFit plan.now.program waiting.items }
+) -> Option<(JudgedRows, Vec<Vec<Row>>)>
     requires parts_fit { PartsFit plan.now.program parts.items }
     requires stands { (t : List TheRow) × IsProgress plan.now t progress }
-    ensures fit { IfSome result (λ p. RowsFit plan.now.program p.0.1.items) }
-    ensures gone { IfSome result (λ p. IsGoneOn plan.now progress p.0.0 (waiting.items ++ rows_of parts.items) p.0.1.items) }
+    ensures gone { IfSome result (λ p. IsGoneOn plan.now progress p.0 (rows_of parts.items)) }
     ensures read { IfSome result (λ p. HoldsRows names.now lines.now (rows_of p.1.items)) }
     ensures read_fit { IfSome result (λ p. PartsFit names.now p.1.items) }
 {
     let readers = workers.saturating_sub(1);
     let beside = bytes_beside(parts.as_slice(), lines, readers);
     let (first, rest) = first_lines(lines, beside);
-    let judging = move || -> Option<(JudgedRows, Vec<Row>)>
-        requires { RowsFit plan.now.program waiting.items × PartsFit plan.now.program parts.items × ((t : List TheRow) × IsProgress plan.now t progress) }
-        ensures { IfSome result (λ p. RowsFit plan.entry.now.program p.1.items × IsGoneOn plan.entry.now progress p.0 (waiting.items ++ rows_of parts.items) p.1.items) }
-    { judge_parts(progress, alloc, plan, waiting, parts) };
+    let judging = move || -> Option<JudgedRows>
+        requires { PartsFit plan.now.program parts.items × ((t : List TheRow) × IsProgress plan.now t progress) }
+        ensures { IfSome result (λ on. IsGoneOn plan.entry.now progress on (rows_of parts.items)) }
+    { judge_parts(progress, alloc, plan, parts) };
     let reading = move || -> Option<Vec<Vec<Row>>>
         requires { IsSync T.row }
         ensures { IfSome result (λ parts. HoldsRows names.entry.now first.entry.now (rows_of parts.items) × RowsFit names.entry.now (rows_of parts.items)) }
     { read_lines(rt, alloc, names, first, readers) };
     let (gone, read) = join(rt, judging, reading);
-    let (gone, mut read) = (gone?, read?);
-    let mut more = read_lines(rt, alloc, names, rest, workers)?;
-    if read.append(&mut more).is_err() {
-        return None;
+    let read = read_rest(rt, alloc, names, first, read, rest, workers)?;
+    Some((gone?, read))
+}
+
+/// The counts of the rows of all lines that are left. None as for `accepts_reader_shared`.
+fn accepts_lines<T: Threads + Sync, R: Read + Drop>(
+    rt: &T,
+    alloc: Global,
+    plan: &Plan,
+    names: &ReactionNames,
+    progress: JudgedRows,
+    text: &mut TraceLines<R>,
+    workers: u32,
+) -> Result<Option<RunCounts>, ReadFailed>
+    requires names { names.now ≡ plan.now.program }
+    requires first { IsProgress plan.now [] progress }
+    ensures { IfOk result (λ found. IfSome found (λ c. IfSome (text_left R.remaining text.old) (λ body. HaveAcceptedRows plan.now (records_of body) c))) }
+{
+    let mut progress = progress;
+    let mut parts = Vec::new(alloc);
+    // A table has no more batches than rows.
+    for _batch in 0..MAX_ROWS {
+        let Some(lines) = text.next(BATCH)? else {
+            return Ok(None);
+        };
+        if lines.is_empty() {
+            return Ok(finish_parts(progress, alloc, plan, parts));
+        }
+        let Some(on) = go_beside(
+            rt,
+            alloc,
+            plan,
+            names,
+            progress,
+            parts,
+            lines.as_slice(),
+            workers,
+        ) else {
+            return Ok(None);
+        };
+        progress = on.0;
+        parts = on.1;
     }
-    Some((gone, read))
+    Ok(None)
 }
 
 /// What `accepts_reader` does, by so many workers: of several one judges, and the others read. Of two both read
@@ -135,38 +189,11 @@ pub fn accepts_reader_shared<T: Threads + Sync, R: Read + Drop>(
     let Some(mut text) = TraceLines::new(alloc, source)? else {
         return Ok(None);
     };
-    let Some(names) = reaction_names(alloc, plan) else {
+    let Ok(names) = ReactionNames::new(alloc, plan.program()) else {
         return Ok(None);
     };
-    let Ok(mut progress) = JudgedRows::new(alloc, plan) else {
+    let Ok(progress) = JudgedRows::new(alloc, plan) else {
         return Ok(None);
     };
-    let mut waiting = Vec::new(alloc);
-    let mut parts = Vec::new(alloc);
-    // A table has no more batches than rows.
-    for _batch in 0..MAX_ROWS {
-        let Some(lines) = text.next(BATCH)? else {
-            return Ok(None);
-        };
-        if lines.is_empty() {
-            return Ok(finish_parts(progress, alloc, plan, waiting, parts));
-        }
-        let Some(on) = go_beside(
-            rt,
-            alloc,
-            plan,
-            &names,
-            progress,
-            waiting,
-            parts,
-            lines.as_slice(),
-            workers,
-        ) else {
-            return Ok(None);
-        };
-        progress = on.0.0;
-        waiting = on.0.1;
-        parts = on.1;
-    }
-    Ok(None)
+    accepts_lines(rt, alloc, plan, &names, progress, &mut text, workers)
 }

@@ -1,26 +1,4 @@
-use Rattle.std.proofs.Common.{◌≡◌, ◌++◌, Vec, subst, sym, arith}
-use Rattle.std.{proofs.lemmas.{Grind.{common_steps, flat_map-append}, List.Elements.All-append}, specs.declared.alloc.Global.Global}
-use Rattle.lft_ir.specs.{Steps.Fits.RowsFit, declared.steps.row.Row.Row}
-use Rattle.lft_trace.{specs.inner.Parts.{HoldsRows, rows_of}, proofs.Together.at_some}
-use Rattle.lft_stream.{specs.inner.Batches.Parted.PartsFit, proofs.BatchesLemmas.Sharing.{holds_cut, parts_fit}}
 use Rattle.lft_stream.proofs.batches.shared.go_beside.Goals as goal
 
 pub returns-clause-read : goal.returns-clause-read
-returns-clause-read g c =
-    let names = c.args.names.now in
-    let read = c.in_ok-read.read.items in
-    let more = c.in_ok-more.more.items in
-    let first = c.first_lines.result.0.now in
-    let held = at_some (λ (p : Vec (Vec Row Global) Global). HoldsRows names first (rows_of p.items) × RowsFit names (rows_of p.items)) c.join-gone.result.1 c.in_ok-read.read c.in_ok-read.was c.join-gone.ensures.second in
-    let both = holds_cut names c.args.lines.now first c.first_lines.result.1.now (rows_of read) (rows_of more) c.first_lines.ensures.cut held.0 c.in_ok-more.ensures.rows in
-    let all : c.append.new.self.items ≡ read ++ more = grind (arith, common_steps, c.append.ensures.items, c.is_err.ensures.value, c.if-is_err.false) in
-    rw (all, flat_map-append (λ (part : Vec Row Global). part.items) read more) both
-
-pub returns-clause-read_fit : goal.returns-clause-read_fit
-returns-clause-read_fit g c =
-    let names = c.args.names.now in
-    let read = c.in_ok-read.read.items in
-    let more = c.in_ok-more.more.items in
-    let held = at_some (λ (p : Vec (Vec Row Global) Global). HoldsRows names c.first_lines.result.0.now (rows_of p.items) × RowsFit names (rows_of p.items)) c.join-gone.result.1 c.in_ok-read.read c.in_ok-read.was c.join-gone.ensures.second in
-    let all : c.append.new.self.items ≡ read ++ more = grind (arith, common_steps, c.append.ensures.items, c.is_err.ensures.value, c.if-is_err.false) in
-    subst (PartsFit names) (sym all) (All-append (λ (part : Vec Row Global). RowsFit names part.items) read more (parts_fit names read held.1) (parts_fit names more c.in_ok-more.ensures.fit))
+returns-clause-read g c = c.in_ok-read.ensures.rows c.args.lines.now c.first_lines.ensures.cut
