@@ -10,7 +10,7 @@ use Rattle.lft_resolve.specs.{Causes.{HasLongTime, IsLongTime}, Instances.{Insid
 use Rattle.lft_program.specs.{Located.{Located, declared, ports_in}, inner.{Nests.IsNest, Tables.{AreTables, IsLawful}, Ways.IsJoined}}
 use Rattle.lft_program.specs.declared.nesting.{nest.Nest.Nest, tables.Tables.Tables}
 use Rattle.lft_program.proofs.{Checked.ports_once, Counting.base, Delays.{delay_is, long_delay}, Ends.{Standing, standing, place_at}}
-use Rattle.lft_program.proofs.{Joints.{Joint, joint, has_join, join_ports, lead_apart}, Nested.{instance_of, inside_of, number_of}, Ports.{as_many, distinct}}
+use Rattle.lft_program.proofs.{Joints.{Joint, joint, has_join, join_ports, lead_apart}, Nested.{instance_of, inside_of, number_of}, Listing.declared_long, Ports.distinct}
 use Rattle.lft_program.proofs.Singles.{IsOf, single_back, single_forth}
 
 -- no reactor has a time past the greatest
@@ -138,7 +138,7 @@ module _ (tree : FileTree) (tables : Tables) (nest : Nest) (made : AreTables tre
 
   pub tree_sources : TreeSources tree (ports_in n.located) sources
   tree_sources = record {
-    as_long = length-map (declared ports_of n.located) _ ∙ as_many ports_of (reactors_of tree) nest.ports.counts.items n.ports.counts n.located nest.instances.items n.instances ∙ sym w.as_long;
+    as_long = length-map (declared ports_of n.located) _ ∙ declared_long ports_of (reactors_of tree) nest.ports.counts.items n.ports.counts n.located nest.instances.items n.instances ∙ sym w.as_long;
     joined = joined;
     complete = complete;
     distinct = distinct ports_of (λ p. p.name) tree tables nest n (λ k i j l x y e f g same. let r = instance_of tree tables nest n k l e in ports_once tree lawful r.0.reactor l.inside.reactor r.2 i j x y f g same);

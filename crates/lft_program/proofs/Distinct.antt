@@ -1,12 +1,12 @@
 -- Names that begin with `main`, each made from one before it: no two are the same where no instance has an ending twice.
 use Rattle.std.proofs.Common.{◌≡◌, ℕ, ◌+◌, ◌<◌, zero, suc, List, [], ◌∷◌, ◌++◌, length, get_or, slice_get, Some, codes, refl, sym, ap, subst, ◌∙◌, arith, append_assoc, append-nil}
 use Rattle.std.proofs.lemmas.Option.{slice_get_within, slice_get-get_or}
-use Rattle.lft_lists.proofs.Places.{Some_same}
+use Rattle.lft_lists.proofs.Places.{get_left, Some_same}
 use Rattle.lft_ir.{specs.inner.Names.HasNoTwice, proofs.Positions.HasNoTwice-push}
 use Rattle.lft_program.specs.inner.Extended.{Ending, name_after, extended, AreAfter}
 use Rattle.lft_program.proofs.Extending.{extended-append, length-extended, extended-keeps, extended-at}
 use Rattle.lft_program.proofs.Separators.{HasNoSeparator, IsEnding, HasNoSeparator-main, separator_inside, same_ending}
-use Rattle.lft_resolve.proofs.Twice.{slice_get-front, slice_get-middle}
+use Rattle.lft_resolve.proofs.Twice.{slice_get-middle}
 
 abbrev pub main : List (List ℕ)
 main = codes "main" ∷ []
@@ -37,8 +37,8 @@ module _ (ds rest : List Ending) (e : Ending) (paths : ArePaths (ds ++ e ∷ res
       let inside : k < length ds = omega arith in
       let d = get_or ds k e in
       let at_d : slice_get ds k ≡ Some d = slice_get-get_or ds k e inside in
-      let in_all : slice_get (ds ++ e ∷ rest) k ≡ Some d = slice_get-front ds (e ∷ rest) k d at_d in
-      let stands = extended-at main ds (λ i x there. paths.after i x (slice_get-front ds (e ∷ rest) i x there)) k d at_d in
+      let in_all : slice_get (ds ++ e ∷ rest) k ≡ Some d = get_left ds (e ∷ rest) k d at_d in
+      let stands = extended-at main ds (λ i x there. paths.after i x (get_left ds (e ∷ rest) i x there)) k d at_d in
       let place : 1 + k ≡ suc k = omega arith in
       let named : slice_get t (suc k) ≡ Some (stands.container ++ d.1) = subst (λ n. slice_get t n ≡ Some (stands.container ++ d.1)) place stands.name in
       let after = paths.after (length ds) e here in

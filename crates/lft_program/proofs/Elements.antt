@@ -1,4 +1,4 @@
--- Elements of joined lists, of pairs, and of paths with one more step.
+-- Elements of joined lists, and of pairs.
 use Rattle.std.proofs.Common.{◌≡◌, ℕ, zero, suc, ◌+◌, ◌⊎◌, inl, inr, List, [], ◌∷◌, ◌++◌, length, refl, ap, ◌∙◌, arith, Some, slice_get, flat_map}
 use Rattle.std.specs.List.{enumerate_from, zip}
 use Rattle.lft_lists.proofs.Places.{get_append_cases}
@@ -26,17 +26,8 @@ flat_back {X} {Y} f (x ∷ xs) p y e = by (get_append_cases (f x) (flat_map f xs
         let t : total f (suc r.number) (x ∷ xs) ≡ length (f x) + total f r.number xs = refl in
         record { number = suc r.number; element = r.element; place = r.place; is_element = r.is_element; is_piece = r.is_piece; is_at = omega arith }
 
-pub enumerate_back : {X : Type 0} (i : ℕ) (xs : List X) (n : ℕ) (y : ℕ × X) → slice_get (enumerate_from i xs) n ≡ Some y → (i + n ≡ y.0) × (slice_get xs n ≡ Some y.1)
-enumerate_back i [] n y e = absurd (cc)
-enumerate_back i (x ∷ xs) zero y e = let q : (i, x) ≡ y = cc in let z : i + 0 ≡ i = omega arith in (z ∙ ap (λ w. w.0) q, ap (λ w. Some w.1) q)
-enumerate_back i (x ∷ xs) (suc n) y e = let r = enumerate_back (i + 1) xs n y e in let z : i + suc n ≡ (i + 1) + n = omega arith in (z ∙ r.0, r.1)
-
 pub pair_back : {X Y : Type 0} (xs : List X) (ys : List Y) (k : ℕ) (p : X × Y) → slice_get (zip xs ys) k ≡ Some p → (slice_get xs k ≡ Some p.0) × (slice_get ys k ≡ Some p.1)
 pair_back [] ys k p e = absurd (cc)
 pair_back (x ∷ xs) [] k p e = absurd (cc)
 pair_back (x ∷ xs) (y ∷ ys) zero p e = let q : (x, y) ≡ p = cc in (ap (λ w. Some w.0) q, ap (λ w. Some w.1) q)
 pair_back (x ∷ xs) (y ∷ ys) (suc k) p e = pair_back xs ys k p e
-
-pub some_step : (p : List ℕ) (k : ℕ) → p ++ k ∷ [] ≡ [] → ⊥
-some_step [] k e = cc
-some_step (x ∷ p) k e = cc

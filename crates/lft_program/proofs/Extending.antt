@@ -4,7 +4,8 @@ use Rattle.std.proofs.lemmas.{Grind.common_steps, Option.{slice_get_within, get_
 use Rattle.lft_lists.proofs.Mapped.{mapped}
 use Rattle.lft_ir.specs.inner.Names.{HasNoTwice}
 use Rattle.lft_program.{specs.inner.Extended.{Ending, name_after, extended, AreAfter}, proofs.Zips.map_around}
-use Rattle.lft_resolve.proofs.Twice.{slice_get-front, slice_get-middle, map_last}
+use Rattle.lft_lists.proofs.Places.{get_left}
+use Rattle.lft_resolve.proofs.Twice.{slice_get-middle, map_last}
 
 pub extended-append : (t : List (List ℕ)) (xs ys : List Ending) → extended t (xs ++ ys) ≡ extended (extended t xs) ys
 extended-append t [] ys = refl
@@ -21,7 +22,7 @@ length-extended t (e ∷ es) =
 -- what stands there stays
 pub extended-keeps : (t : List (List ℕ)) (es : List Ending) (i : ℕ) (x : List ℕ) → slice_get t i ≡ Some x → slice_get (extended t es) i ≡ Some x
 extended-keeps t [] i x at = at
-extended-keeps t (e ∷ es) i x at = extended-keeps (t ++ name_after t e ∷ []) es i x (slice_get-front t (name_after t e ∷ []) i x at)
+extended-keeps t (e ∷ es) i x at = extended-keeps (t ++ name_after t e ∷ []) es i x (get_left t (name_after t e ∷ []) i x at)
 
 -- the ending has its name at this place
 pub record StandsAt (t : List (List ℕ)) (e : Ending) (place : ℕ) : Type 0 where
@@ -49,7 +50,7 @@ extended-at t (d ∷ es) after zero e at =
         let last = slice_get-middle t [] (c ++ d.1) in
         record {
           container = c;
-          there = extended-keeps (t ++ (c ++ d.1) ∷ []) es d.0 c (slice_get-front t ((c ++ d.1) ∷ []) d.0 c there);
+          there = extended-keeps (t ++ (c ++ d.1) ∷ []) es d.0 c (get_left t ((c ++ d.1) ∷ []) d.0 c there);
           name = rw (add-zero (length t)) (extended-keeps (t ++ (c ++ d.1) ∷ []) es (length t) (c ++ d.1) last);
         }
 extended-at t (d ∷ es) after (suc k) e at =
@@ -64,7 +65,7 @@ pub extended-fresh : (t : List (List ℕ)) (before after : List Ending) (e : End
 extended-fresh t before after e once i at =
     let u = extended t before in
     let n = name_after u e in
-    let early : slice_get (extended (u ++ n ∷ []) after) i ≡ Some n = extended-keeps (u ++ n ∷ []) after i n (slice_get-front u (n ∷ []) i n at) in
+    let early : slice_get (extended (u ++ n ∷ []) after) i ≡ Some n = extended-keeps (u ++ n ∷ []) after i n (get_left u (n ∷ []) i n at) in
     let late : slice_get (extended (u ++ n ∷ []) after) (length u) ≡ Some n = extended-keeps (u ++ n ∷ []) after (length u) n (slice_get-middle u [] n) in
     let all : HasNoTwice (extended (u ++ n ∷ []) after) = subst HasNoTwice (extended-append t before (e ∷ after)) once in
     let same : i ≡ length u = all i (length u) n early late in

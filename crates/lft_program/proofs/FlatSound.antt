@@ -8,7 +8,7 @@ use Rattle.lft_resolve.specs.{Causes.{HasLongTime, IsLongTime}, Instances.{stand
 use Rattle.lft_resolve.specs.Sheets.{is_timer, without_timers}
 use Rattle.lft_program.specs.{Located.{Located, Declared, declared, ports_in, actions_in, timers_in}, inner.Tables.IsLawful}
 use Rattle.lft_program.specs.Flattening.{Flat, IsPort, IsAction, IsTimer, IsReaction, IsFlatName, IsTrigger, name_of_thing, name_of_reaction}
-use Rattle.lft_program.proofs.{Placed.{declared_from, thing_from, path_once}, Entered.{IsUsual, all_usual, option_short, in_timers, in_actions}}
+use Rattle.lft_program.proofs.{Listing.declared_from, Placed.{thing_from, path_once}, Entered.{IsUsual, all_usual, option_short, in_timers, in_actions}}
 use Rattle.lft_program.proofs.{OneWriter.{Writes, writes, same_path}, Ordered.{reaction_at, is_numbered, is_consecutive}}
 use Rattle.lft_program.proofs.Standing.{Some_of, all_of, some_kept, some_append, some_distinct, once_apart, apart_pairs, name_once, trigger_names}
 use Rattle.lft_ir.specs.{Names.{AreDistinct, AreWords}, Parts.{Parts, inputs}, Naming.named}
@@ -74,15 +74,15 @@ module _ (tree : FileTree) (program : Parts) (flat : Flat tree program) where
         let o = reaction_at tree program flat a x at in
         let d = o.declaration in
         let r = d.located.inside.reactor in
-        let u = usual d.instance d.located o.at.located in
+        let u = usual d.instance d.located o.at.instance in
         let R = IsFlatName flat.instances d.located in
         let reads : Some_of R (names_read d.item) (inputs x) =
         some_append R (filter_map ref_in d.item.triggers) d.item.uses (filter_map named x.triggers) x.uses
         (trigger_names flat.instances d.located d.item.triggers x.triggers o.is.triggers)
         (some_kept R (λ ref. not (is_timer r ref.head ref.port)) d.item.uses x.uses (all_of R (without_timers r d.item.uses) x.uses o.is.uses)) in
         let written : Some_of R d.item.effects x.effects = all_of R d.item.effects x.effects o.is.effects in
-        let once = once_apart (names_read d.item) (reads_once (reactors_of tree) u.number r u.reactor lawful.later d.place d.item o.at.item) in
-        let effects = once_apart d.item.effects (effects_once (reactors_of tree) u.number r u.reactor lawful.later d.place d.item o.at.item) in
+        let once = once_apart (names_read d.item) (reads_once (reactors_of tree) u.number r u.reactor lawful.later d.place d.item o.at.place) in
+        let effects = once_apart d.item.effects (effects_once (reactors_of tree) u.number r u.reactor lawful.later d.place d.item o.at.place) in
         let one = name_once flat.instances d.located in
         (apart_pairs (inputs x) (some_distinct R one (names_read d.item) (inputs x) once reads), apart_pairs x.effects (some_distinct R one d.item.effects x.effects effects written))
 
@@ -108,7 +108,7 @@ module _ (tree : FileTree) (program : Parts) (flat : Flat tree program) where
         let n : IsFlatName flat.instances o.declaration.located z.0 (Port p) = z.2 in
         let t = thing_from (λ w. w.name) (declared ports_of flat.instances) p n.0 n.2 in
         let path = same_path o.declaration e.declaration t.0 (writes_it a x p at_a t.0 t.1 has) (writes_it b y p at_b t.0 t.1 other) in
-        let one = path_once tree flat.instances flat.are_located o.declaration.instance e.declaration.instance o.declaration.located e.declaration.located o.at.located e.at.located path in
+        let one = path_once tree flat.instances flat.are_located o.declaration.instance e.declaration.instance o.declaration.located e.declaration.located o.at.instance e.at.instance path in
         o.is.instance ∙ one ∙ sym e.is.instance
 
     has_times : HasTimes program
@@ -118,21 +118,21 @@ module _ (tree : FileTree) (program : Parts) (flat : Flat tree program) where
           let d = z.0 in
           let here = declared_from actions_of flat.instances a d z.1 in
           let r = d.located.inside.reactor in
-          let short = option_short tree in_time d.located.inside (usual d.instance d.located here.located) d.item.min_delay (λ l. in_actions r (Any-flat IsLongTime (λ w. option_to_list w.min_delay) (actions_of r) d.place d.item here.item l)) in
+          let short = option_short tree in_time d.located.inside (usual d.instance d.located here.instance) d.item.min_delay (λ l. in_actions r (Any-flat IsLongTime (λ w. option_to_list w.min_delay) (actions_of r) d.place d.item here.place l)) in
           subst (λ m. m ≤ 1000000000000000000) (sym z.2.min_delay) short);
       offsets = λ n timer at. (
           let z = AllZip-from IsTimer (declared timers_of flat.instances) program.timers flat.timers n timer at in
           let d = z.0 in
           let here = declared_from timers_of flat.instances n d z.1 in
           let r = d.located.inside.reactor in
-          let short = option_short tree in_time d.located.inside (usual d.instance d.located here.located) d.item.offset (λ l. in_timers r (Any-flat IsLongTime timer_times (timers_of r) d.place d.item here.item (Any-left IsLongTime (option_to_list d.item.offset) (option_to_list d.item.period) l))) in
+          let short = option_short tree in_time d.located.inside (usual d.instance d.located here.instance) d.item.offset (λ l. in_timers r (Any-flat IsLongTime timer_times (timers_of r) d.place d.item here.place (Any-left IsLongTime (option_to_list d.item.offset) (option_to_list d.item.period) l))) in
           subst (λ m. m ≤ 1000000000000000000) (sym z.2.offset) short);
       periods = λ n timer at. (
           let z = AllZip-from IsTimer (declared timers_of flat.instances) program.timers flat.timers n timer at in
           let d = z.0 in
           let here = declared_from timers_of flat.instances n d z.1 in
           let r = d.located.inside.reactor in
-          let short = option_short tree in_time d.located.inside (usual d.instance d.located here.located) d.item.period (λ l. in_timers r (Any-flat IsLongTime timer_times (timers_of r) d.place d.item here.item (Any-right IsLongTime (option_to_list d.item.offset) (option_to_list d.item.period) l))) in
+          let short = option_short tree in_time d.located.inside (usual d.instance d.located here.instance) d.item.period (λ l. in_timers r (Any-flat IsLongTime timer_times (timers_of r) d.place d.item here.place (Any-right IsLongTime (option_to_list d.item.offset) (option_to_list d.item.period) l))) in
           subst (λ m. m ≤ 1000000000000000000) (sym z.2.period) short);
     }
 

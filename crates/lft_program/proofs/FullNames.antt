@@ -3,14 +3,13 @@ use Rattle.std.proofs.Common.{◌≡◌, ℕ, ◌+◌, ◌-◌, ◌<◌, ◌^◌
 use Rattle.std.specs.Fmt.{decimal}
 use Rattle.std.proofs.lemmas.{Bool.cases_order, Fmt.decimal_injective, Grind.common_steps, List.{map-append, length-map}}
 use Rattle.std.proofs.lemmas.Option.{slice_get_within, get_or_from_slice_get}
-use Rattle.lft_lists.proofs.{Mapped.mapped_from, Places.{get_right, get_append_cases}}
+use Rattle.lft_lists.proofs.{Mapped.mapped_from, Places.{get_left, get_right, get_append_cases}}
 use Rattle.lft_ir.{specs.inner.Names.HasNoTwice, proofs.Ranges.slice_get-drop}
 use Rattle.lft_program.specs.inner.{Extended.{Ending, dotted, hashed, endings, extended, AreAfter}, FullNames.{members, AreOfProgram, AreFew}}
 use Rattle.lft_program.specs.declared.naming.{OwnName.OwnName, PlacedReaction.PlacedReaction}
 use Rattle.lft_program.proofs.{Distinct.{main, ArePaths, HasNoTwice-extended}, Extending.{extended-append, length-extended, extended-keeps}}
 use Rattle.lft_program.proofs.Separators.{IsEnding, HasNoSeparator-name, HasNoSeparator-decimal}
 use Rattle.lft_tree.specs.Identifiers.{IsName}
-use Rattle.lft_resolve.proofs.Twice.{slice_get-front}
 
 module _ {X : Type 0} where
   pub all_at : (P : X → Type 0) (xs : List X) → All P xs → (k : ℕ) (x : X) → slice_get xs k ≡ Some x → P x
@@ -42,7 +41,7 @@ ready front middle back all parts paths t so_far =
     let long : length t ≡ 1 + length front = ap length so_far ∙ length-extended main front in
     record {
       after = λ k e at.
-          let here : slice_get all (length front + k) ≡ Some e = ap (λ l. slice_get l (length front + k)) parts ∙ get_right front (middle ++ back) k ∙ slice_get-front middle back k e at in
+          let here : slice_get all (length front + k) ≡ Some e = ap (λ l. slice_get l (length front + k)) parts ∙ get_right front (middle ++ back) k ∙ get_left middle back k e at in
           let low = paths.after (length front + k) e here in
           omega arith;
       distinct = λ i j text at_i at_j.

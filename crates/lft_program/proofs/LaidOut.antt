@@ -12,7 +12,7 @@ use Rattle.lft_program.specs.Located.{Located, Declared, declared}
 use Rattle.lft_program.specs.inner.{Nests.{IsInstanceOf, IsThingOf}, Laying.{IsActionAt, IsTimerAt, action_at, clock_at, declarations_at, timer_at}}
 use Rattle.lft_program.specs.inner.OfTree.{AreOfTree}
 use Rattle.lft_program.specs.{declared.nesting.{linking.Linked.Linked, nest.Nest.Nest, tables.Tables.Tables}, Flattening.{IsTimer, IsAction, time_or_zero}}
-use Rattle.lft_program.proofs.{Declared.declared_from, Clocks.clock_or_zero_is, Making.{Made, made_zip}}
+use Rattle.lft_program.proofs.{Clocks.clock_or_zero_is, Listing.declared_from, Making.{Made, made_zip}}
 use Rattle.lft_ir.specs.declared.parts.{Action.Action as ActionOf, Timer.Timer as TimerOf}
 
 -- times of timers and actions are among those of their reactor
@@ -50,7 +50,7 @@ module _ (tree : FileTree) (tables : Tables) (nest : Nest) (links : List Linked)
   -- the thing of a declaration is in the tables
   module _ (k : ℕ) (d : Declared TimerTree) (thing : Thing) (is : slice_get (declared timers_of of.is_nest.located) k ≡ Some d) (same : IsThingOf d thing) where
     timer_place : (slice_get of.is_nest.located thing.instance ≡ Some d.located) × (slice_get (timers_of d.located.inside.reactor) thing.place ≡ Some d.item)
-    timer_place = let at = declared_from timers_of of.is_nest.located k d is in (ap (slice_get of.is_nest.located) same.0 ∙ at.0, ap (slice_get (timers_of d.located.inside.reactor)) same.1 ∙ at.1)
+    timer_place = let at = declared_from timers_of of.is_nest.located k d is in (ap (slice_get of.is_nest.located) same.0 ∙ at.instance, ap (slice_get (timers_of d.located.inside.reactor)) same.1 ∙ at.place)
 
     pub timer_there : (sheet : TimerSheet) × (timer_at tables nest thing ≡ Some sheet) × IsTimerSheet d.located.inside.reactor d.item sheet
     timer_there =
@@ -70,7 +70,7 @@ module _ (tree : FileTree) (tables : Tables) (nest : Nest) (links : List Linked)
 
   module _ (k : ℕ) (d : Declared ActionTree) (thing : Thing) (is : slice_get (declared actions_of of.is_nest.located) k ≡ Some d) (same : IsThingOf d thing) where
     action_place : (slice_get of.is_nest.located thing.instance ≡ Some d.located) × (slice_get (actions_of d.located.inside.reactor) thing.place ≡ Some d.item)
-    action_place = let at = declared_from actions_of of.is_nest.located k d is in (ap (slice_get of.is_nest.located) same.0 ∙ at.0, ap (slice_get (actions_of d.located.inside.reactor)) same.1 ∙ at.1)
+    action_place = let at = declared_from actions_of of.is_nest.located k d is in (ap (slice_get of.is_nest.located) same.0 ∙ at.instance, ap (slice_get (actions_of d.located.inside.reactor)) same.1 ∙ at.place)
 
     pub action_there : (sheet : ActionSheet) × (action_at tables nest thing ≡ Some sheet) × IsActionSheet d.located.inside.reactor d.item sheet
     action_there =

@@ -15,7 +15,6 @@ pub mod Nested
 pub mod Ports
 pub mod Singles
 pub mod Ends
-pub mod Declared
 pub mod Placed
 pub mod Checked
 pub mod Joints

@@ -1,34 +1,18 @@
 -- The list of the things of one kind has the declarations of the instances in order.
 use Rattle.std.proofs.Common.{◌≡◌, ℕ, zero, suc, ◌+◌, ◌<◌, ◌⊎◌, inl, inr, List, [], ◌∷◌, length, length-append, refl, sym, ap, ◌∙◌, subst, arith, Some, Result, Ok, Err, IfOk, slice_get, take, map, flat_map, unwrap_or}
 use Rattle.std.{specs.List.{AllZip, enumerate_from}, proofs.lemmas.{Option.slice_get_within, List.{length-map, FromFn.length-enumerate_from}}}
-use Rattle.lft_lists.proofs.{Mapped.{mapped, mapped_from}, Places.get_append_cases}
+use Rattle.lft_lists.proofs.Mapped.{mapped, mapped_from}
 use Rattle.lft_tree.specs.Tree.{FileTree, ReactorTree, reactors_of}
 use Rattle.lft_resolve.specs.inner.Expansion.{Listing.AreThingsListed, Numbers.{count_of_things, things}}
 use Rattle.lft_resolve.specs.declared.expansion.{numbering.Thing.Thing, walk.Instance.Instance}
-use Rattle.lft_resolve.proofs.Directed.{AllZip-to}
+use Rattle.lft_resolve.proofs.{Directed.AllZip-to, Flat.enumerated}
 use Rattle.lft_program.specs.{Located.{Located, Declared, declared, declared_in}, inner.Nests.{IsInstanceOf, IsNest, IsNumbering, IsThingOf}}
 use Rattle.lft_program.specs.declared.nesting.{nest.{Nest.Nest, Numbering.Numbering}, tables.Tables.Tables}
-use Rattle.lft_program.proofs.{Counting.{base, total}, Zipping.zip_of}
+use Rattle.lft_program.proofs.{Counting.{base, total}, Elements.{From, flat_back}, Zipping.zip_of}
 
 -- ---- where a declaration stands
 
-pub flat_from : {X Y : Type 0} (f : X → List Y) (xs : List X) (k : ℕ) (y : Y) → slice_get (flat_map f xs) k ≡ Some y → (n : ℕ) × (j : ℕ) × (x : X) × (slice_get xs n ≡ Some x) × (slice_get (f x) j ≡ Some y) × (k ≡ total f n xs + j)
-flat_from f [] k y at = absurd (cc)
-flat_from {X} {Y} f (x ∷ xs) k y at = by (get_append_cases (f x) (flat_map f xs) k y at) (λ i a. flat_from f xs i y a)
-  where
-    Found : List X → ℕ → Type 0
-    Found l k = (n : ℕ) × (j : ℕ) × (x : X) × (slice_get l n ≡ Some x) × (slice_get (f x) j ≡ Some y) × (k ≡ total f n l + j)
-
-    by : (slice_get (f x) k ≡ Some y) ⊎ ((j : ℕ) × (k ≡ length (f x) + j) × (slice_get (flat_map f xs) j ≡ Some y)) → ((i : ℕ) → slice_get (flat_map f xs) i ≡ Some y → Found xs i) → Found (x ∷ xs) k
-    by (inl a) go = (0, k, x, refl, a, omega arith)
-    by (inr (i, e, a)) go = (let g = go i a in let s : i ≡ total f g.0 xs + g.1 = g.5 in (suc g.0, g.1, g.2, g.3, g.4, (let t : k ≡ (length (f x) + total f g.0 xs) + g.1 = omega arith in t)))
-
-pub enumerate_from_at : {X : Type 0} (i : ℕ) (xs : List X) (n : ℕ) (d : ℕ × X) → slice_get (enumerate_from i xs) n ≡ Some d → (d.0 ≡ i + n) × (slice_get xs n ≡ Some d.1)
-enumerate_from_at i [] n d at = absurd (cc)
-enumerate_from_at {X} i (x ∷ xs) zero d at = let e : (i, x) ≡ d = cc in (sym (ap (λ p. p.0) e) ∙ (let z : i ≡ i + 0 = omega arith in z), ap (λ p. Some p.1) e)
-enumerate_from_at i (x ∷ xs) (suc n) d at = let r = enumerate_from_at (i + 1) xs n d at in let e : d.0 ≡ (i + 1) + n = r.0 in (omega arith, r.1)
-
--- the instance and the place of the declaration at a number
+-- the declaration at a number is one of the instance, at its place
 pub record Stands {X : Type 0} (kind : ReactorTree → List X) (located : List Located) (k : ℕ) (d : Declared X) : Type 0 where
   pub instance : slice_get located d.instance ≡ Some d.located
   pub place : slice_get (kind d.located.inside.reactor) d.place ≡ Some d.item
@@ -36,17 +20,17 @@ pub record Stands {X : Type 0} (kind : ReactorTree → List X) (located : List L
 
 pub declared_from : {X : Type 0} (kind : ReactorTree → List X) (located : List Located) (k : ℕ) (d : Declared X) → slice_get (declared kind located) k ≡ Some d → Stands kind located k d
 declared_from {X} kind located k d at =
-    let f = flat_from (declared_in kind) (enumerate_from 0 located) k d at in
-    let l = enumerate_from_at 0 located f.0 f.2 f.3 in
-    let P : ℕ × X → Declared X = λ p. record { instance = f.2.0; located = f.2.1; place = p.0; item = p.1 } in
-    let m = mapped_from P (enumerate_from 0 (kind f.2.1.inside.reactor)) f.1 d f.4 in
-    let j = enumerate_from_at 0 (kind f.2.1.inside.reactor) f.1 m.0 m.1 in
-    let number : f.2.0 ≡ f.0 = (let a : f.2.0 ≡ 0 + f.0 = l.0 in omega arith) in
-    let place : m.0.0 ≡ f.1 = (let a : m.0.0 ≡ 0 + f.1 = j.0 in omega arith) in
+    let f : From (declared_in kind) (enumerate_from 0 located) k d = flat_back (declared_in kind) (enumerate_from 0 located) k d at in
+    let l = enumerated 0 located f.number f.element f.is_element in
+    let P : ℕ × X → Declared X = λ p. record { instance = f.element.0; located = f.element.1; place = p.0; item = p.1 } in
+    let m = mapped_from P (enumerate_from 0 (kind f.element.1.inside.reactor)) f.place d f.is_piece in
+    let j = enumerated 0 (kind f.element.1.inside.reactor) f.place m.0 m.1 in
+    let number : f.element.0 ≡ f.number = (let a : f.element.0 ≡ 0 + f.number = l.0 in omega arith) in
+    let place : m.0.0 ≡ f.place = (let a : m.0.0 ≡ 0 + f.place = j.0 in omega arith) in
     subst (Stands kind located k) m.2 (record {
       instance = ap (slice_get located) number ∙ l.1;
-      place = ap (slice_get (kind f.2.1.inside.reactor)) place ∙ j.1;
-      number = f.5 ∙ ap (λ i. base kind located i + f.1) (sym number) ∙ ap (λ i. base kind located f.2.0 + i) (sym place);
+      place = ap (slice_get (kind f.element.1.inside.reactor)) place ∙ j.1;
+      number = f.is_at ∙ ap (λ i. base kind located i + f.place) (sym number) ∙ ap (λ i. base kind located f.element.0 + i) (sym place);
     })
 
 -- ---- counted by reactor and counted by declaration

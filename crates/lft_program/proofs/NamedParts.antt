@@ -1,14 +1,13 @@
 -- The list of all names, cut where the kinds begin, has the full name of each thing.
 use Rattle.std.proofs.Common.{◌≡◌, ℕ, ◌+◌, ◌-◌, ◌<◌, ◌≤◌, suc, List, [], ◌∷◌, ◌++◌, map, drop, length, slice_get, slice_range, Some, codes, refl, sym, ap, subst, ◌∙◌, arith, length-append, length-drop, append_assoc, append-nil, zero-add}
 use Rattle.std.{specs.{Fmt.decimal, List.AllZip}, proofs.lemmas.List.length-map}
-use Rattle.lft_lists.proofs.{Places.{Some_same, get_right}, Mapped.mapped}
+use Rattle.lft_lists.proofs.{Places.{Some_same, get_left, get_right}, Mapped.mapped}
 use Rattle.lft_ir.specs.{inner.Places.{names_from, AreStarts}, declared.names.Starts.Starts}
 use Rattle.lft_ir.proofs.Ranges.{slice_get-drop, range-get, range-within, length-range}
 use Rattle.lft_program.specs.inner.{Extended.{Ending, dotted, hashed, endings, extended}, FullNames.{IsDotted, IsHashed, AreFullNames, AreOfProgram, AreFew}}
 use Rattle.lft_program.specs.declared.naming.{OwnName.OwnName, PlacedReaction.PlacedReaction}
 use Rattle.lft_program.proofs.{Distinct.{main, ArePaths}, Extending.{StandsAt, length-extended, extended-keeps, extended-at}}
 use Rattle.lft_program.proofs.FullNames.{all_at, are_paths, before_member, parts, parts2, parts3, parts4}
-use Rattle.lft_resolve.proofs.Twice.{slice_get-front}
 
 AllZip-from_at : {X Y : Type 0} (R : X → Y → Type 0) (xs : List X) (ys : List Y) → length ys ≡ length xs → ((k : ℕ) (x : X) (y : Y) → slice_get xs k ≡ Some x → slice_get ys k ≡ Some y → R x y) → AllZip R xs ys
 AllZip-from_at R [] [] long each = tt
@@ -29,7 +28,7 @@ module _ (all : List Ending) (paths : ArePaths all) (texts : List (List ℕ)) (i
       where
         each : (k : ℕ) (x : X) (y : List ℕ) → slice_get xs k ≡ Some x → slice_get names k ≡ Some y → R x y
         each k x y at_x at_y =
-            let here : slice_get all (length front + k) ≡ Some (v x) = ap (λ l. slice_get l (length front + k)) whole ∙ get_right front (map v xs ++ back) k ∙ slice_get-front (map v xs) back k (v x) (mapped v xs k x at_x) in
+            let here : slice_get all (length front + k) ≡ Some (v x) = ap (λ l. slice_get l (length front + k)) whole ∙ get_right front (map v xs ++ back) k ∙ get_left (map v xs) back k (v x) (mapped v xs k x at_x) in
             let s = stands (length front + k) (v x) here in
             let same : s.container ++ (v x).1 ≡ y = Some_same _ _ (sym s.name ∙ placed k y at_y) in
             let low = inside k x at_x in
@@ -88,16 +87,16 @@ module _ (instances ports actions timers : List OwnName) (reactions : List Place
 
   inside_inner : (k : ℕ) (d : OwnName) → slice_get (drop 1 instances) k ≡ Some d → d.instance < length instances
   inside_inner k d at =
-      (before_member instances ports actions timers reactions things few k d (slice_get-front (drop 1 instances) (ports ++ actions ++ timers) k d at)).1
+      (before_member instances ports actions timers reactions things few k d (get_left (drop 1 instances) (ports ++ actions ++ timers) k d at)).1
 
   inside_declared : (k : ℕ) (d : OwnName) → slice_get (ports ++ actions ++ timers) k ≡ Some d → d.instance < length instances
   inside_declared = all_at (λ d. d.instance < length instances) (ports ++ actions ++ timers) things.declared
 
   inside_ports : (k : ℕ) (d : OwnName) → slice_get ports k ≡ Some d → d.instance < length instances
-  inside_ports k d at = inside_declared k d (slice_get-front (ports ++ actions) timers k d (slice_get-front ports actions k d at))
+  inside_ports k d at = inside_declared k d (get_left (ports ++ actions) timers k d (get_left ports actions k d at))
 
   inside_actions : (k : ℕ) (d : OwnName) → slice_get actions k ≡ Some d → d.instance < length instances
-  inside_actions k d at = inside_declared (length ports + k) d (slice_get-front (ports ++ actions) timers (length ports + k) d (get_right ports actions k ∙ at))
+  inside_actions k d at = inside_declared (length ports + k) d (get_left (ports ++ actions) timers (length ports + k) d (get_right ports actions k ∙ at))
 
   inside_timers : (k : ℕ) (d : OwnName) → slice_get timers k ≡ Some d → d.instance < length instances
   inside_timers k d at = inside_declared (length (ports ++ actions) + k) d (get_right (ports ++ actions) timers k ∙ at)

@@ -3,9 +3,9 @@ use Rattle.std.proofs.Common.{◌≡◌, ℕ, ◌+◌, List, ◌++◌, map, leng
 use Rattle.std.proofs.lemmas.Option.{slice_get_within}
 use Rattle.lft_tree.specs.Identifiers.{IsName, HasIdentifiers, declared_names}
 use Rattle.lft_tree.specs.Tree.{FileTree, ReactorTree, reactors_of, ports_of, timers_of, actions_of, instances_of}
-use Rattle.lft_resolve.{specs.{Causes.IsTwice, Kinds.names_in}, proofs.Twice.{twice_left, slice_get-front}}
+use Rattle.lft_resolve.{specs.{Causes.IsTwice, Kinds.names_in}, proofs.Twice.twice_left}
 use Rattle.lft_program.proofs.{FullNames.all_at, Sites.AreApart}
-use Rattle.lft_lists.proofs.Places.{get_right}
+use Rattle.lft_lists.proofs.Places.{get_left, get_right}
 
 -- the names of one kind
 abbrev pub port_names : ReactorTree → List (List ℕ)
@@ -32,10 +32,10 @@ module _ (xs ys : List (List ℕ)) where
   apart : (IsTwice (xs ++ ys) → ⊥) → AreApart xs ys
   apart never i j x first second =
       let within = slice_get_within xs i x first in
-      never (i, length xs + j, x, omega arith, slice_get-front xs ys i x first, right_at j x second)
+      never (i, length xs + j, x, omega arith, get_left xs ys i x first, right_at j x second)
 
   left_apart : (zs : List (List ℕ)) → AreApart (xs ++ ys) zs → AreApart xs zs
-  left_apart zs both i j x first second = both i j x (slice_get-front xs ys i x first) second
+  left_apart zs both i j x first second = both i j x (get_left xs ys i x first) second
 
   right_apart : (zs : List (List ℕ)) → AreApart (xs ++ ys) zs → AreApart ys zs
   right_apart zs both i j x first second = both (length xs + i) j x (right_at i x first) second
@@ -111,10 +111,10 @@ module _ (tree : FileTree) (identifiers : HasIdentifiers tree) (n : ℕ) (r : Re
   instances_named k x here = all_named _ x (right_at (port_names r ++ timer_names r ++ action_names r) (instance_names r) k x here)
 
   pub actions_named : (k : ℕ) (x : List ℕ) → slice_get (action_names r) k ≡ Some x → IsName x
-  actions_named k x here = all_named _ x (slice_get-front (port_names r ++ timer_names r ++ action_names r) (instance_names r) _ x (right_at (port_names r ++ timer_names r) (action_names r) k x here))
+  actions_named k x here = all_named _ x (get_left (port_names r ++ timer_names r ++ action_names r) (instance_names r) _ x (right_at (port_names r ++ timer_names r) (action_names r) k x here))
 
   pub timers_named : (k : ℕ) (x : List ℕ) → slice_get (timer_names r) k ≡ Some x → IsName x
-  timers_named k x here = all_named _ x (slice_get-front (port_names r ++ timer_names r ++ action_names r) (instance_names r) _ x (slice_get-front (port_names r ++ timer_names r) (action_names r) _ x (right_at (port_names r) (timer_names r) k x here)))
+  timers_named k x here = all_named _ x (get_left (port_names r ++ timer_names r ++ action_names r) (instance_names r) _ x (get_left (port_names r ++ timer_names r) (action_names r) _ x (right_at (port_names r) (timer_names r) k x here)))
 
   pub ports_named : (k : ℕ) (x : List ℕ) → slice_get (port_names r) k ≡ Some x → IsName x
-  ports_named k x here = all_named _ x (slice_get-front (port_names r ++ timer_names r ++ action_names r) (instance_names r) _ x (slice_get-front (port_names r ++ timer_names r) (action_names r) _ x (slice_get-front (port_names r) (timer_names r) k x here)))
+  ports_named k x here = all_named _ x (get_left (port_names r ++ timer_names r ++ action_names r) (instance_names r) _ x (get_left (port_names r ++ timer_names r) (action_names r) _ x (get_left (port_names r) (timer_names r) k x here)))

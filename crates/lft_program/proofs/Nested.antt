@@ -5,9 +5,8 @@ use Rattle.lft_lists.proofs.{Places.push_apart, Mapped.{mapped, mapped_from}}
 use Rattle.lft_tree.specs.Tree.{FileTree, reactors_of}
 use Rattle.lft_resolve.specs.{declared.expansion.walk.Instance.Instance, Expansion.Paths.along}
 use Rattle.lft_resolve.specs.{inner.Expansion.{Children.{child_of, IsChild}, Contents.IsInstanceAtPath}, Instances.{Inside, IsInside, entered, main_instance}}
-use Rattle.lft_resolve.proofs.{ExpansionLemmas.Orders.before_itself, Directed.AllZip-to, Files.AllZip-from}
+use Rattle.lft_resolve.proofs.{ExpansionLemmas.{Backwards.pushed_some, Orders.before_itself}, Directed.AllZip-to, Files.AllZip-from}
 use Rattle.lft_program.specs.{Located.Located, inner.Nests.{IsNest, IsInstanceOf}, declared.nesting.{nest.Nest.Nest, tables.Tables.Tables}}
-use Rattle.lft_program.proofs.Elements.{some_step}
 
 module _ (tree : FileTree) (tables : Tables) (nest : Nest) (n : IsNest tree tables nest) where
   -- the instance of a number in the tree, and back
@@ -69,7 +68,7 @@ module _ (tree : FileTree) (tables : Tables) (nest : Nest) (n : IsNest tree tabl
       is_at = n.walk.each k made.0 m.path made.1 (path_of k m b)
 
       later : (k < 1) ⊎ (1 ≤ k) → 0 < k
-      later (inl x) = absurd (some_step l.path place (sym longer ∙ is_at.first (omega arith)))
+      later (inl x) = absurd (pushed_some l.path place (sym longer ∙ is_at.first (omega arith)))
       later (inr x) = omega arith
 
       above : (path : List ℕ) × (made.0.parent < k) × (slice_get n.walk.paths made.0.parent ≡ Some path) × (path ++ made.0.place ∷ [] ≡ m.path)

@@ -3,7 +3,7 @@ use Rattle.std.proofs.Common.{◌≡◌, ℕ, ◌+◌, ◌-◌, ◌<◌, length,
 use Rattle.std.proofs.lemmas.Option.{slice_get_within, slice_get-get_or}
 use Rattle.lft_tree.specs.Tree.{FileTree, ReactionTree, reactions_of}
 use Rattle.lft_program.specs.{Located.{Declared, declared}, Flattening.{IsReaction, Flat}}
-use Rattle.lft_program.proofs.{Counting.{base, declared_at}, Placed.{IsAt, declared_from}}
+use Rattle.lft_program.proofs.{Counting.{base, declared_at}, Listing.{Stands, declared_from}}
 use Rattle.lft_ir.specs.{Parts.Parts, Sound.{IsNumbered, IsConsecutive}, declared.parts.Reaction.Reaction}
 use Rattle.lft_resolve.proofs.{Directed.AllZip-to, Files.AllZip-from}
 
@@ -11,7 +11,7 @@ module _ (tree : FileTree) (program : Parts) (flat : Flat tree program) where
   -- what a reaction is declared as
   pub record IsOf (a : ℕ) (x : Reaction) : Type 0 where
     pub declaration : Declared ReactionTree
-    pub at : IsAt reactions_of flat.instances a declaration
+    pub at : Stands reactions_of flat.instances a declaration
     pub is : IsReaction flat.instances declaration x
 
   pub reaction_at : (a : ℕ) (x : Reaction) → slice_get program.reactions a ≡ Some x → IsOf a x
@@ -38,11 +38,11 @@ module _ (tree : FileTree) (program : Parts) (flat : Flat tree program) where
       let is = (reaction_at a x at).is in
       let rs = reactions_of d.located.inside.reactor in
       let place : x.place ≡ d.place = is.place in
-      let inside : d.place < length rs = slice_get_within rs d.place d.item here.item in
+      let inside : d.place < length rs = slice_get_within rs d.place d.item here.place in
       let item = get_or rs (d.place - 1) d.item in
       let before : slice_get rs (d.place - 1) ≡ Some item = slice_get-get_or rs (d.place - 1) d.item (omega arith) in
       let n = base reactions_of flat.instances d.instance + (d.place - 1) in
-      let there = declared_at reactions_of flat.instances d.instance (d.place - 1) d.located item here.located before in
+      let there = declared_at reactions_of flat.instances d.instance (d.place - 1) d.located item here.instance before in
       let y = AllZip-to (IsReaction flat.instances) (declared reactions_of flat.instances) program.reactions flat.reactions n _ there in
       let number : a ≡ base reactions_of flat.instances d.instance + d.place = here.number in
       let next : y.0.place ≡ d.place - 1 = y.2.place in

@@ -1,22 +1,11 @@
--- What stands at a number: the declaration, with the number of its instance and its place there.
+-- Things by their numbers, and instances by their paths.
 use Rattle.std.proofs.Common.{◌≡◌, ℕ, ◌+◌, ⊎_elim, List, sym, ap, ◌∙◌, subst, arith, Some, slice_get, map}
 use Rattle.std.proofs.lemmas.Bool.{cases_lt}
 use Rattle.lft_lists.proofs.{Places.Some_same, Mapped.{mapped, mapped_from}}
 use Rattle.lft_tree.specs.Tree.{FileTree, ReactorTree}
 use Rattle.lft_resolve.specs.{Expansion.Paths.{along, PathBefore}, Instances.{Thing, thing_at, entered, main_instance}}
 use Rattle.lft_resolve.proofs.ExpansionLemmas.Orders.{before_itself}
-use Rattle.lft_program.{specs.Located.{Located, AreLocated, Declared, declared, declared_things}, proofs.{Counting.base, Listing.declared_from as stands}}
-
--- the declaration at a number is one of the instance, at its place
-pub record IsAt {X : Type 0} (kind : ReactorTree → List X) (instances : List Located) (n : ℕ) (d : Declared X) : Type 0 where
-  pub located : slice_get instances d.instance ≡ Some d.located
-  pub item : slice_get (kind d.located.inside.reactor) d.place ≡ Some d.item
-  pub number : n ≡ base kind instances d.instance + d.place
-
-pub declared_from : {X : Type 0} (kind : ReactorTree → List X) (instances : List Located) (n : ℕ) (d : Declared X) → slice_get (declared kind instances) n ≡ Some d → IsAt kind instances n d
-declared_from kind instances n d at =
-    let s = stands kind instances n d at in
-    record { located = s.instance; item = s.place; number = s.number }
+use Rattle.lft_program.specs.Located.{Located, AreLocated, Declared, declared_things}
 
 -- the declaration of a thing at a number
 pub thing_from : {X : Type 0} (name : X → List ℕ) (all : List (Declared X)) (n : ℕ) (t : Thing) → slice_get (declared_things name all) n ≡ Some t → (d : Declared X) × (slice_get all n ≡ Some d) × (thing_at d.located.path (name d.item) ≡ t)

@@ -7,7 +7,7 @@ use Rattle.lft_resolve.specs.{declared.expansion.numbering.Thing.Thing, Instance
 use Rattle.lft_resolve.proofs.Files.{AllZip-from}
 use Rattle.lft_program.specs.{Links.IsSource, Located.{Declared, declared, ports_in}, inner.{Nests.IsThingOf, Laying.{IsPortAt, input_at}, OfTree.AreOfTree}}
 use Rattle.lft_program.specs.{declared.nesting.{linking.Linked.Linked, nest.Nest.Nest, tables.Tables.Tables}, Flattening.IsPort}
-use Rattle.lft_program.proofs.{Declared.declared_from, LaidOut.row_there, Making.{Made, made_zip}}
+use Rattle.lft_program.proofs.{LaidOut.row_there, Listing.declared_from, Making.{Made, made_zip}}
 use Rattle.lft_ir.specs.declared.parts.Port.{Port as PortOf}
 
 -- the port is the one of its number's link
@@ -19,8 +19,8 @@ module _ (tree : FileTree) (tables : Tables) (nest : Nest) (links : List Linked)
     pub port_there : input_at tables nest thing ≡ Some d.item.is_input
     port_there =
         let at = declared_from ports_of of.is_nest.located k d is in
-        let row = row_there tree tables nest links of IsDeclarations tables.declarations.items of.are_tables.declarations thing.instance d.located (ap (slice_get of.is_nest.located) same.0 ∙ at.0) in
-        let item : slice_get (ports_of d.located.inside.reactor) thing.place ≡ Some d.item = ap (slice_get (ports_of d.located.inside.reactor)) same.1 ∙ at.1 in
+        let row = row_there tree tables nest links of IsDeclarations tables.declarations.items of.are_tables.declarations thing.instance d.located (ap (slice_get of.is_nest.located) same.0 ∙ at.instance) in
+        let item : slice_get (ports_of d.located.inside.reactor) thing.place ≡ Some d.item = ap (slice_get (ports_of d.located.inside.reactor)) same.1 ∙ at.place in
         ap (option_and_then (λ x. slice_get x.inputs.items thing.place)) row.1
         ∙ ap (λ inputs. slice_get inputs thing.place) row.2.inputs
         ∙ mapped (λ x. x.is_input) (ports_of d.located.inside.reactor) thing.place d.item item

@@ -12,7 +12,7 @@ use Rattle.lft_program.specs.inner.{Nests.{IsNumbering, IsThingOf}, Laying.{Each
 use Rattle.lft_program.specs.inner.OfTree.{AreOfTree}
 use Rattle.lft_program.specs.declared.nesting.{linking.Linked.Linked, nest.{Nest.Nest, Numbering.Numbering}, tables.Tables.Tables}
 use Rattle.lft_program.specs.Flattening.{IsFlatName, IsReaction, IsTrigger}
-use Rattle.lft_program.proofs.{Counting.base, Declared.declared_from, Ends.{place_at, standing}, Ports.{as_many, number_at, thing_forth}, Singles.place_forth}
+use Rattle.lft_program.proofs.{Counting.base, Ends.{place_at, standing}, Listing.{declared_from, declared_long}, Ports.{number_at, thing_forth}, Singles.place_forth}
 use Rattle.lft_program.proofs.{LaidOut.row_there, Making.{Made, made_zip}}
 use Rattle.lft_ir.specs.declared.parts.{Name.{Name, TheVariants.{Port, Action}}, Reaction.Reaction}
 use Rattle.lft_ir.specs.declared.parts.Trigger.{Trigger, TheVariants.{Startup, Shutdown, Timer, On}}
@@ -38,7 +38,7 @@ module _ (tree : FileTree) (tables : Tables) (nest : Nest) (links : List Linked)
   module _ {X : Type 0} (kind : ReactorTree → List X) (name : X → List ℕ) (limit : ℕ) (numbers : Numbering) (w : IsNumbering kind (reactors_of tree) nest.instances.items limit numbers) where
     pub declared_few : length (declared kind all) ≤ limit
     declared_few =
-        let many = as_many kind (reactors_of tree) numbers.counts.items w.counts all nest.instances.items of.is_nest.instances in
+        let many = declared_long kind (reactors_of tree) numbers.counts.items w.counts all nest.instances.items of.is_nest.instances in
         let most = w.few in
         omega arith
 
@@ -121,12 +121,12 @@ module _ (tree : FileTree) (tables : Tables) (nest : Nest) (links : List Linked)
 
   module _ (k : ℕ) (d : Declared ReactionTree) (thing : Thing) (is : slice_get (declared reactions_of all) k ≡ Some d) (same : IsThingOf d thing) where
     here : slice_get all thing.instance ≡ Some d.located
-    here = ap (slice_get all) same.0 ∙ (declared_from reactions_of all k d is).0
+    here = ap (slice_get all) same.0 ∙ (declared_from reactions_of all k d is).instance
 
     pub cues_there : (c : Cues) × (cues_at tables nest thing ≡ Some c) × AreCues (reactors_of tree) d.located.inside.reactor d.item c
     cues_there =
         let row = row_there tree tables nest links of (IsReactions (reactors_of tree)) tables.reactions.items of.are_tables.reactions thing.instance d.located here in
-        let item : slice_get (reactions_of d.located.inside.reactor) thing.place ≡ Some d.item = ap (slice_get (reactions_of d.located.inside.reactor)) same.1 ∙ (declared_from reactions_of all k d is).1 in
+        let item : slice_get (reactions_of d.located.inside.reactor) thing.place ≡ Some d.item = ap (slice_get (reactions_of d.located.inside.reactor)) same.1 ∙ (declared_from reactions_of all k d is).place in
         let c = AllZip-to (AreCues (reactors_of tree) d.located.inside.reactor) (reactions_of d.located.inside.reactor) row.0.reactions.items row.2 thing.place d.item item in
         (c.0, ap (option_and_then (λ x. slice_get x.reactions.items thing.place)) row.1 ∙ c.1, c.2)
 

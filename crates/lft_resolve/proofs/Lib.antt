@@ -3,6 +3,7 @@ pub mod Effects
 pub mod Files
 pub mod Filtered
 pub mod Firsts
+pub mod Flat
 pub mod Joined
 pub mod Lacking
 pub mod Lost

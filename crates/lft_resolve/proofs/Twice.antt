@@ -1,6 +1,7 @@
 -- What stands twice in a list, and loops that note each element and stop at one that was met.
 use Rattle.std.proofs.Common.{◌≡◌, ℕ, ◌+◌, ◌<◌, ◌≤◌, zero, suc, List, [], ◌∷◌, ◌++◌, map, take, length, get_or, slice_get, Some, Any, ◌⊎◌, inl, inr, ⊎_elim, refl, sym, ap, subst, ◌∙◌, arith}
 use Rattle.std.proofs.lemmas.{Grind.common_steps, List.map-append, Option.{slice_get_within, get_or_from_slice_get, slice_get-get_or}}
+use Rattle.lft_lists.proofs.Places.{get_left}
 use Rattle.lft_resolve.specs.Causes.{IsTwice}
 
 module _ {X : Type 0} where
@@ -15,11 +16,6 @@ module _ {X : Type 0} where
   slice_get-middle [] rest x = refl
   slice_get-middle (y ∷ xs) rest x = slice_get-middle xs rest x
 
-  pub slice_get-front : (xs rest : List X) (k : ℕ) (x : X) → slice_get xs k ≡ Some x → slice_get (xs ++ rest) k ≡ Some x
-  slice_get-front [] rest k x at = absurd (cc)
-  slice_get-front (y ∷ xs) rest zero x at = at
-  slice_get-front (y ∷ xs) rest (suc k) x at = slice_get-front xs rest k x at
-
   pub Any-at : (P : X → Type 0) (xs : List X) (k : ℕ) (x : X) → slice_get xs k ≡ Some x → P x → Any P xs
   Any-at P xs k x at p = (k, x, slice_get_within xs k x at, get_or_from_slice_get xs k x x at, p)
 
@@ -30,7 +26,7 @@ module _ {X : Type 0} where
   once_none (i, j, x, lt, first, second) = absurd (cc)
 
   pub twice_left : (xs ys : List X) → IsTwice xs → IsTwice (xs ++ ys)
-  twice_left xs ys (i, j, x, lt, first, second) = (i, j, x, lt, slice_get-front xs ys i x first, slice_get-front xs ys j x second)
+  twice_left xs ys (i, j, x, lt, first, second) = (i, j, x, lt, get_left xs ys i x first, get_left xs ys j x second)
 
   -- one more element stands twice only if it was met
   pub once_pushed : (xs : List X) (y : X) → (IsTwice xs → ⊥) → (Any (λ z. z ≡ y) xs → ⊥) → IsTwice (xs ++ y ∷ []) → ⊥

@@ -3,29 +3,10 @@ use Rattle.std.proofs.Common.{◌≡◌, ℕ, zero, suc, ◌+◌, ◌<◌, ◌�
 use Rattle.std.proofs.lemmas.Bool.{cases_lt}
 use Rattle.lft_tree.specs.Tree.{ReactorTree, MemberTree, RefTree, PortMember, TimerMember, ActionMember, StateMember, PreambleMember, ReactionMember, InstanceMember, ConnectionMember, connection_in, reaction_in}
 use Rattle.lft_resolve.specs.{Kinds.{destinations_in, effects_in}, declared.kinds.Role.{Role, TheVariants.{Effect, Destination}}}
-use Rattle.lft_resolve.proofs.Twice.{slice_get-front}
+use Rattle.lft_lists.proofs.Places.{get_there}
+use Rattle.lft_resolve.proofs.Flat.{flat_at}
 use Rattle.lft_validate.specs.{Findings.IsTwiceAt, Members.names_of, inner.{Shown.all_names, Witnesses.{IsPlaceOf, IsSharedAt}}}
 use Rattle.lft_validate.specs.{Witnesses.{IsEarlier, IsNamedAt, IsWrittenTwice}, declared.witness.Naming.Naming}
-
-module _ {X : Type 0} where
-  at_back : (xs ys : List X) (k : ℕ) → slice_get (xs ++ ys) (length xs + k) ≡ slice_get ys k
-  at_back [] ys k = ap (slice_get ys) (zero-add k)
-  at_back (x ∷ xs) ys k = (let e : length (x ∷ xs) + k ≡ suc (length xs + k) = omega arith in ap (slice_get (x ∷ xs ++ ys)) e) ∙ at_back xs ys k
-
-  item : (xs : List X) (k : ℕ) → k < length xs → (x : X) × (slice_get xs k ≡ Some x)
-  item [] k within = absurd (omega arith)
-  item (x ∷ xs) zero within = (x, refl)
-  item (x ∷ xs) (suc k) within = item xs k (omega arith)
-
--- the item of one of the lists, in all of them
-at_flat : {X Y : Type 0} (f : X → List Y) (xs : List X) (i : ℕ) (x : X) (k : ℕ) (y : Y) → slice_get xs i ≡ Some x → slice_get (f x) k ≡ Some y → slice_get (flat_map f xs) (length (flat_map f (take i xs)) + k) ≡ Some y
-at_flat f [] i x k y at is = absurd (cc)
-at_flat f (z ∷ xs) zero x k y at is =
-    let e : z ≡ x = cc in
-    ap (slice_get (f z ++ flat_map f xs)) (zero-add k) ∙ slice_get-front (f z) (flat_map f xs) k y (subst (λ w. slice_get (f w) k ≡ Some y) (sym e) is)
-at_flat f (z ∷ xs) (suc i) x k y at is =
-    let e : length (f z ++ flat_map f (take i xs)) + k ≡ length (f z) + (length (flat_map f (take i xs)) + k) = omega (arith, length-append (f z) (flat_map f (take i xs))) in
-    ap (slice_get (f z ++ flat_map f xs)) e ∙ at_back (f z) (flat_map f xs) (length (flat_map f (take i xs)) + k) ∙ at_flat f xs i x k y at is
 
 -- the items of more of the lists are no fewer
 flat_grows : {X Y : Type 0} (f : X → List Y) (xs : List X) (i j : ℕ) → i ≤ j → length (flat_map f (take i xs)) ≤ length (flat_map f (take j xs))
@@ -61,8 +42,8 @@ module _ (r : ReactorTree) where
   -- what stands at the place stands there in its member
   pub named_at : (role : Role) (place : ℕ) (n : Naming) (x : RefTree) → IsPlaceOf r role place n → slice_get (all_names role r) place ≡ Some x → IsNamedAt r n x
   named_at role place n x is there =
-      let y = item (names_of role is.member) n.name is.within in
-      let whole : slice_get (all_names role r) (length (flat_map (names_of role) (take n.member r.members)) + n.name) ≡ Some y.0 = at_flat (names_of role) r.members n.member is.member n.name y.0 is.is_member y.1 in
+      let y = get_there (names_of role is.member) n.name is.within in
+      let whole : slice_get (all_names role r) (length (flat_map (names_of role) (take n.member r.members)) + n.name) ≡ Some y.0 = flat_at (names_of role) r.members n.member is.member n.name y.0 is.is_member y.1 in
       let same : y.0 ≡ x = (let e : Some y.0 ≡ Some x = sym whole ∙ ap (slice_get (all_names role r)) is.at ∙ there in cc) in
       let here : slice_get (names_of n.role is.member) n.name ≡ Some x = ap (λ p. slice_get (names_of p is.member) n.name) is.is_role ∙ y.1 ∙ ap Some same in
       subst (λ o. IsSomeAnd o (λ m. slice_get (names_of n.role m) n.name ≡ Some x)) (sym is.is_member) here
