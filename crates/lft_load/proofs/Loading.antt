@@ -1,5 +1,5 @@
 -- What a refusal of one layer says of the texts.
-use Rattle.std.proofs.Common.{◌≡◌, ℕ, List, Result, Err, true, refl, sym, ◌∙◌, subst, inl, inr}
+use Rattle.std.proofs.Common.{◌≡◌, ℕ, List, IfSome, Option, Some, None, Result, Err, true, refl, sym, ◌∙◌, subst, inl, inr}
 use Rattle.lft_syntax.specs.{declared.{token.Token.Token, fault.SyntaxFault.SyntaxFault}, Lexes.Lexes, View.lexemes, Grammar.Spells}
 use Rattle.lft_tree.specs.Tree.{FileTree}
 use Rattle.lft_resolve.specs.{declared.causes.ProgramFault.ProgramFault, Causes.{number_of as program_number, causes}}
@@ -73,10 +73,12 @@ module _ (text : List ℕ) (tree : FileTree) (only_tree : IsOnly (IsTreeOf text)
     only = λ other x. one other (flat_of other x);
   }
 
--- the plan of a program and a table is one
-pub only_under : (program : Parts) (externals : List ℕ) (given : ExternalInputs) (plan : PlanParts) → HasNoLoop program → ExternalTable program (records_of externals) given → ((other : ExternalInputs) → ExternalTable program (records_of externals) other → other ≡ given) → plan.program ≡ program → plan.externals ≡ given → IsOnly (IsPlanUnder program externals) plan
-only_under program externals given plan no_loop table one p e = record {
-  is = record { of_program = p; no_loop = no_loop; is_externals = subst (λ k. ExternalTable program (records_of externals) k) (sym e) table };
+-- the plan of a program and a table that is known is one
+pub only_under : (known : Option (List ℕ)) (program : Parts) (given : ExternalInputs) (plan : PlanParts) → HasNoLoop program → IfSome known (λ text. ExternalTable program (records_of text) given)
+    → IfSome known (λ text. (other : ExternalInputs) → ExternalTable program (records_of text) other → other ≡ given) → plan.program ≡ program → plan.externals ≡ given → IfSome known (λ text. IsOnly (IsPlanUnder program text) plan)
+only_under None program given plan no_loop table one p e = tt
+only_under (Some text) program given plan no_loop table one p e = record {
+  is = record { of_program = p; no_loop = no_loop; is_externals = subst (λ k. ExternalTable program (records_of text) k) (sym e) table };
   only = λ other x. same_plan other.program plan.program other.externals plan.externals (x.of_program ∙ sym p) (one other.externals x.is_externals ∙ sym e);
 }
 

@@ -1,10 +1,12 @@
-//! Files by their paths: their bytes, or why they can't be read or written.
+//! Files by their paths: their bytes, the plan under what one has, or why they can't be read or written.
 
-ghost use Rattle.std.specs.Prelude.{◌≡◌, ◌≤◌, ◌^◌, ◌⊎◌, IfErr, IfOk, IfSome, length};
-ghost use Rattle.lft_load.specs.Faults.{IsFaultOfPath};
+ghost use Rattle.std.specs.Prelude.{◌≡◌, ◌<◌, ◌≤◌, ◌^◌, ◌⊎◌, ◌↔◌, IfErr, IfOk, IfSome, IsTrue, length};
+ghost use Rattle.lft_load.specs.{Faults.IsFaultOfPath, Meaning.{IsOnly, IsPlanUnder}, Refusals.PlanRefusal};
 ghost use Rattle.lft_load.specs.declared.fault.Part.TheVariants as part;
 
-use crate::{Fault, Part, SizedReader, read_input};
+use crate::{Fault, Part, SizedReader, Unplanned, plan_from, read_input};
+use lft_ir::Program;
+use lft_model::Plan;
 use std::alloc::Global;
 use std::fs;
 use std::fs::{File, OpenFile};
@@ -72,7 +74,9 @@ pub fn too_large(alloc: Global, path: &str) -> Failure
 }
 
 /// How many bytes an open file has, if it is an ordinary one with some. Such a file can be read twice.
-pub fn ordinary_size<T: OpenFile>(file: &T) -> Option<usize> {
+pub fn ordinary_size<T: OpenFile>(file: &T) -> Option<usize>
+    ensures { IfSome result (λ size. 0 < size) }
+{
     // A file that the kernel makes up, as those below /proc, has a size of 0, and other bytes each time.
     match file.metadata() {
         Ok(found) if found.is_file() && found.len() > 0 => usize::try_from(found.len()).ok(),
@@ -134,6 +138,35 @@ pub fn read_sized<F: Files>(
 {
     match file.rewind() {
         Ok(()) => read_opened(rt, alloc, path, &mut SizedReader::new(file, size)),
+        Err(_) => Err(unread(alloc, path, None)),
+    }
+}
+
+/// Whether a fault is that the reader of a table of external inputs failed.
+fn is_of_reader(fault: &Fault) -> bool
+    ensures { IsTrue result ↔ (fault.now.part ≡ part.Externals) × (fault.now.number ≡ 11) }
+{
+    matches!(fault.part, Part::Externals) && fault.number == 11
+}
+
+/// The plan of a program under the table of external inputs in the ordinary file at a path, which a reader gives, or
+/// why there is none. An error is that it can't be read.
+pub fn plan_sized<R: Read + Drop>(
+    alloc: Global,
+    path: &str,
+    program: Program,
+    reader: &mut SizedReader<R>,
+) -> Result<Result<Plan, Unplanned>, Failure>
+    ensures plan { IfOk result (λ planned. IfOk planned (λ plan. IfSome (R.remaining reader.old.reader) (λ text. IsOnly (IsPlanUnder program text) plan))) }
+    ensures program { IfOk result (λ planned. IfErr planned (λ u. u.program ≡ program)) }
+    ensures refused { IfOk result (λ planned. IfErr planned (λ u. IfSome (R.remaining reader.old.reader) (λ text. PlanRefusal program text u.fault))) }
+    ensures given { IfOk result (λ planned. IfErr planned (λ u. ¬ ((u.fault.part ≡ part.Externals) × (u.fault.number ≡ 11)))) }
+    ensures unread { IfErr result (λ failure. IsFaultOfPath failure.fault part.Read 1 path.now ⊎ IsFaultOfPath failure.fault part.Read 2 path.now) }
+{
+    match plan_from(alloc, program, &mut *reader) {
+        Ok(plan) => Ok(Ok(plan)),
+        Err(unplanned) if !is_of_reader(&unplanned.fault) => Ok(Err(unplanned)),
+        Err(_) if reader.is_too_large() => Err(too_large(alloc, path)),
         Err(_) => Err(unread(alloc, path, None)),
     }
 }

@@ -1,7 +1,7 @@
 //! From texts to a plan. Faults are handed on by a `match` and not by `?`, since the clauses speak of
 //! them.
 
-ghost use Rattle.std.specs.Prelude.{◌≡◌, true, IfOk, OnOk, IfErr};
+ghost use Rattle.std.specs.Prelude.{◌≡◌, true, IfOk, OnOk, IfErr, IfSome};
 ghost use Rattle.lft_tree.specs.{Tree.FileTree, View.tree_view};
 ghost use Rattle.lft_ir.specs.Parts.{Parts};
 ghost use Rattle.lft_graph.specs.{Graph.IsGraphOf, Precedence.{HasNoLoop, IsLevelled}};
@@ -15,9 +15,10 @@ use lft_ir::Program;
 use lft_model::Plan;
 use lft_program::flatten;
 use lft_syntax::{lex, parse};
-use lft_trace::read_externals;
+use lft_trace::read_externals_from;
 use lft_tree::Ast;
 use std::alloc::Global;
+use std::io::Read;
 
 /// The tree of a program's text.
 fn read_tree(alloc: Global, text: &[u8]) -> Result<Ast, Fault>
@@ -72,15 +73,29 @@ pub struct Unplanned {
     pub program: Program,
 }
 
-/// The plan of a program and a table of external inputs, else the fault of the first layer that
-/// refuses, in the order externals, graph.
+/// The plan of a program and a table of external inputs, as `plan_from` makes it.
 pub fn plan_of(alloc: Global, program: Program, externals: &[u8]) -> Result<Plan, Unplanned>
     ensures plan { IfOk result (IsOnly (IsPlanUnder program externals.now)) }
     ensures program { IfErr result (λ u. u.program ≡ program) }
     ensures refused { IfErr result (λ u. PlanRefusal program externals.now u.fault) }
     ensures none { IfErr result (λ u. is_of_text u.fault.part u.fault.number ≡ true → (plan : PlanParts) → IsPlanUnder program externals.now plan → ⊥) }
 {
-    let given = match read_externals(alloc, &program, externals) {
+    plan_from(alloc, program, externals)
+}
+
+/// The plan of a program and the table of external inputs that a reader gives, else the fault of the
+/// first layer that refuses, in the order externals, graph. Where the reader fails that is `externals` 11 `NotCsv`.
+pub fn plan_from<R: Read + Drop>(
+    alloc: Global,
+    program: Program,
+    externals: R,
+) -> Result<Plan, Unplanned>
+    ensures plan { IfOk result (λ plan. IfSome (R.remaining externals) (λ text. IsOnly (IsPlanUnder program text) plan)) }
+    ensures program { IfErr result (λ u. u.program ≡ program) }
+    ensures refused { IfErr result (λ u. IfSome (R.remaining externals) (λ text. PlanRefusal program text u.fault)) }
+    ensures none { IfErr result (λ u. IfSome (R.remaining externals) (λ text. is_of_text u.fault.part u.fault.number ≡ true → (plan : PlanParts) → IsPlanUnder program text plan → ⊥)) }
+{
+    let given = match read_externals_from(alloc, &program, externals) {
         Ok(given) => given,
         Err(fault) => {
             let fault = Fault::externals(fault);
