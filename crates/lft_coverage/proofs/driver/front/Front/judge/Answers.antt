@@ -15,7 +15,7 @@ count_next-requires c =
     let judged = c.args.self.now.cover.rows in
     let within = c.requires.stands.within in
     let few = c.requires.stands.few in
-    let left = c.if-rows.false in
+    let left = c.if-rows-self.false in
     let now = c.if-not-add.ensures refl (take judged all) c.requires.stands.stands in (
       keeps plan (take judged all ++ rows) c.add.new.self now,
       (
@@ -33,7 +33,7 @@ returns-clause-stands c = λ yes.
     let judged = c.args.self.now.cover.rows in
     let within = c.requires.stands.within in
     let few = c.requires.stands.few in
-    let left = c.if-rows.false in
+    let left = c.if-rows-self.false in
     let cover = c.count_next.new.cover in
     let now = c.if-not-add.ensures refl (take judged all) c.requires.stands.stands in
     let counts = c.count_next.ensures yes in

@@ -1,4 +1,4 @@
-use Rattle.std.proofs.Common.{◌≤◌, ◌∙◌, ◌++◌, List, Vec, length, ap, refl, sym, subst, arith}
+use Rattle.std.proofs.Common.{◌∙◌, ◌++◌, List, Vec, ap, refl, sym, subst, arith}
 use Rattle.std.{specs.declared.alloc.Global.Global, proofs.lemmas.Option.IfSome_then}
 use Rattle.lft_ir.specs.{Steps.Fits.RowsFit, declared.steps.row.Row.Row}
 use Rattle.lft_stream.specs.inner.Batches.Progresses.{IsJudgedTo}
