@@ -305,7 +305,7 @@ def all_recorded():
 
 
 def whole(name, command, tables, own, status=0):
-    """An example with `--lower`. What it imports is read behind the other files."""
+    """An example with `--lower`. What it imports is read behind the program."""
     files = {"program.lf": BANK, **tables}
     example(name, command, {**files, "B.lf": IMPORTED}, own, status)
     EXAMPLES[-1].words = [command, "--lower", *files]

@@ -1,20 +1,16 @@
 //! `follow`: a trace that is judged while it is written.
 
-use crate::session::Session;
+use crate::session::{Planned, Session};
 use crate::words::FollowWords;
 use crate::{await_text, end, say};
 use lft_driver::{Fault, Part};
-use lft_load::files::{Failure, open_file, read_file};
+use lft_load::files::{Failure, open_file};
 use lft_log::explain::{Unexplained, explain_log_plan};
 use lft_log::follow::{Final, Kept, drain, follow_plan, status_of_log};
 use lft_model::Plan;
 use std::alloc::Global;
 use std::io::{Read, Write};
 use std::process::ExitCode;
-
-/// External inputs where no table of them is given: no event, and the greatest stop. The log may tell more.
-const NO_EXTERNALS: &[u8] =
-    b"kind,time,microstep,name,value\nstop,1000000000000000000,1000000000,,\n";
 
 /// What is said at a terminal below the line of the fault, where it helps. A log in the place of EXTERNALS has
 /// another header.
@@ -92,14 +88,12 @@ fn tell_plan<R: Read, W: Write>(
 fn tell_reader<R: Read, W: Write>(
     rt: &HostRuntime,
     alloc: Global,
-    texts: (&[u8], &[u8]),
+    planned: Planned,
     words: FollowWords<'_>,
     reader: &mut R,
     out: &mut W,
 ) -> Result<Final, Failure> {
-    let (program, externals) = texts;
-    let plan = Session::of(rt, alloc, out, false).plan(words.program, program, externals)?;
-    let told = tell_plan(rt, alloc, plan, words, reader, out)?;
+    let told = tell_plan(rt, alloc, planned?, words, reader, out)?;
     Ok(told)
 }
 
@@ -107,12 +101,12 @@ fn tell_reader<R: Read, W: Write>(
 fn follow_reader<R: Read, W: Write>(
     rt: &HostRuntime,
     alloc: Global,
-    texts: (&[u8], &[u8]),
+    planned: Planned,
     words: FollowWords<'_>,
     reader: &mut R,
     out: &mut W,
 ) -> u8 {
-    let status = match tell_reader(rt, alloc, texts, words, reader, out) {
+    let status = match tell_reader(rt, alloc, planned, words, reader, out) {
         Ok(told) => status_of_log(told),
         Err(failure) => end_failed(rt, alloc, failure),
     };
@@ -130,24 +124,15 @@ fn follow_files<W: Write>(
     words: FollowWords<'_>,
     out: &mut W,
 ) -> Result<u8, Failure> {
-    let program = read_file(rt, alloc, words.program.path)?;
-    let table = match words.externals {
-        Some(path) => Some(read_file(rt, alloc, path)?),
-        None => None,
-    };
-    let externals = match &table {
-        Some(table) => table.as_slice(),
-        None => NO_EXTERNALS,
-    };
-    let texts = (program.as_slice(), externals);
+    let planned = Session::of(rt, alloc, out, false).plan(words.program, words.externals)?;
     let status = match words.log {
         Some(path) => {
             let mut file = open_file(rt, alloc, path)?;
-            follow_reader(rt, alloc, texts, words, &mut file, out)
+            follow_reader(rt, alloc, planned, words, &mut file, out)
         }
         None => {
             await_text(rt, "a log");
-            follow_reader(rt, alloc, texts, words, &mut rt.stdin(), out)
+            follow_reader(rt, alloc, planned, words, &mut rt.stdin(), out)
         }
     };
     Ok(status)

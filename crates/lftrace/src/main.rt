@@ -27,8 +27,7 @@ use std::sync::Wait;
 use std::thread::Threads;
 use std::{env, io};
 
-/// Judges the trace of three files. All are read first, but for an ordinary file of a trace, which is judged
-/// while it is read.
+/// Judges the trace of three files. That one can't be read is told before what is wrong with another.
 fn judge_files<F: Files + Threads + Sync, W: Write>(
     rt: &F,
     alloc: Global,
@@ -36,21 +35,20 @@ fn judge_files<F: Files + Threads + Sync, W: Write>(
     behind: Behind,
     out: &mut W,
 ) -> Result<bool, Failure> {
-    let program = read_file(rt, alloc, words.program.path)?;
-    let externals = read_file(rt, alloc, words.externals)?;
-    let mut file = open_file(rt, alloc, words.trace)?;
     let mut session = Session::of(rt, alloc, out, behind.is_told());
+    let planned = session.plan(words.program, Some(words.externals))?;
+    let mut file = open_file(rt, alloc, words.trace)?;
     if matches!(behind, Behind::Nothing)
         && let Some(size) = ordinary_size(&file)
     {
-        return session.judge_file(words, &program, &externals, &mut file, size);
+        return session.judge_file(words, planned, &mut file, size);
     }
     let trace = read_opened(rt, alloc, words.trace, &mut file)?;
-    let plan = session.plan(words.program, &program, &externals)?;
+    let plan = session.taken(planned)?;
     session.judge(&plan, &trace, words.workers, behind)
 }
 
-/// Compares the two traces of four files, all of which are read first.
+/// Compares the two traces of four files.
 fn pair_files<F: Files + Threads + Sync, W: Write>(
     rt: &F,
     alloc: Global,
@@ -58,27 +56,33 @@ fn pair_files<F: Files + Threads + Sync, W: Write>(
     behind: Behind,
     out: &mut W,
 ) -> Result<bool, Failure> {
-    let program = read_file(rt, alloc, words.program.path)?;
-    let externals = read_file(rt, alloc, words.externals)?;
+    let mut session = Session::of(rt, alloc, out, behind.is_told());
+    let planned = session.plan(words.program, Some(words.externals))?;
     let first = read_file(rt, alloc, words.first)?;
     let second = read_file(rt, alloc, words.second)?;
-    let mut session = Session::of(rt, alloc, out, behind.is_told());
-    let plan = session.plan(words.program, &program, &externals)?;
+    let plan = session.taken(planned)?;
     session.compare(&plan, &first, &second, words.workers, behind)
 }
 
-/// Records the program of three files, all of which are read first.
+/// Records the program of three files.
 fn record_files<R: Files + Threads + Wait + Sync, W: Write>(
     rt: &R,
     alloc: Global,
     words: RecordWords<'_>,
     out: &mut W,
 ) -> Result<bool, Failure> {
-    let program = read_file(rt, alloc, words.program.path)?;
-    let externals = read_file(rt, alloc, words.externals)?;
+    let session = Session::of(rt, alloc, out, false);
+    let planned = session.plan(words.program, Some(words.externals))?;
     let cards = read_file(rt, alloc, words.cards)?;
-    let plan = Session::of(rt, alloc, out, false).plan(words.program, &program, &externals)?;
-    let recorded = record_plan(rt, alloc, plan, &cards, words.workers, words.max_runs, out)?;
+    let recorded = record_plan(
+        rt,
+        alloc,
+        planned?,
+        &cards,
+        words.workers,
+        words.max_runs,
+        out,
+    )?;
     Ok(recorded)
 }
 
@@ -102,7 +106,8 @@ fn show_file<F: Files, W: Write, E: Write>(
 ) -> Result<bool, Failure> {
     let text = read_file(rt, alloc, words.program.path)?;
     let mut session = Session::of(rt, alloc, out, tells);
-    let whole = session.program(words.program, &text)?;
+    let whole = session.program(words.program, &text);
+    let whole = session.taken(whole)?;
     let shown = session.show(&whole.program, words.all)?;
     if !tells {
         write_notes(&whole.notes, errors);

@@ -9,8 +9,10 @@ use lft_driver::{
     refusal_of_traces, show_program,
 };
 use lft_ir::Program;
-use lft_load::files::{Failure, read_sized, too_large};
-use lft_load::{Fault, Part, SizedReader, plan_of, read_program};
+use lft_load::files::{
+    Failure, open_file, ordinary_size, plan_sized, read_file, read_opened, read_sized, too_large,
+};
+use lft_load::{Fault, Part, SizedReader, Unplanned, plan_of, read_program};
 use lft_model::Plan;
 use lft_tag::NoMemory;
 use lft_whole_driver::{Whole, whole_program};
@@ -58,6 +60,26 @@ fn judge_sized<T: Threads + Sync, R: Read + Drop, W: Write>(
     }
 }
 
+/// External inputs where no table of them is given: no event, and the greatest stop. A log may tell more.
+const NO_EXTERNALS: &[u8] =
+    b"kind,time,microstep,name,value\nstop,1000000000000000000,1000000000,,\n";
+
+/// Why texts are refused, and what there is to tell of it once all files are read.
+#[derive(Drop)]
+pub(crate) struct Refused {
+    failure: Failure,
+    told: Option<String>,
+}
+
+impl From<Refused> for Failure {
+    fn from(refused: Refused) -> Failure {
+        refused.failure
+    }
+}
+
+/// The plan of texts, or why they have none.
+pub(crate) type Planned = Result<Plan, Refused>;
+
 /// What a session writes to, and whether it tells there why a text is refused.
 #[derive(Drop)]
 pub(crate) struct Session<'w, F, W> {
@@ -85,75 +107,131 @@ impl<'w, F: Files, W: Write> Session<'w, F, W> {
     /// Tells why a text is refused, where that is asked for and can be told. This is help alone: where it can't be
     /// written, the line of the fault comes all the same.
     fn tell(&mut self, told: Result<Option<String>, NoMemory>) {
+        if !self.tells {
+            return;
+        }
         if let Ok(Some(told)) = told {
             // On standard output: the line of a fault is fixed and stands on standard error, where scripts read it.
             let _ = self.out.write_all(told.as_bytes());
         }
     }
 
-    /// Tells why a core text has no program, and whether it is a whole one.
-    fn tell_refused(&mut self, path: &str, text: &[u8], fault: &Fault) {
-        if !self.tells_of(fault) {
-            return;
-        }
-        self.tell(refusal_of_program(self.alloc, text));
-        if is_no_core(fault) && whole_program(self.rt, self.alloc, path, text).is_ok() {
-            let _ = self
-                .out
-                .write_all(b"  With `--lower` this program is taken.\n");
-        }
-    }
-
-    /// The program of a whole text and the files that it imports.
-    fn whole(&mut self, path: &str, text: &[u8]) -> Result<Whole, Failure> {
-        match whole_program(self.rt, self.alloc, path, text) {
-            Ok(whole) => Ok(whole),
-            Err(unlowered) => {
-                let told = unlowered.told;
-                let failure = unlowered.failure;
-                if self.tells {
-                    self.tell(Ok(told));
-                }
-                Err(failure)
+    /// What there is, or else the failure of texts that are refused, of which is told.
+    pub(crate) fn taken<X>(&mut self, found: Result<X, Refused>) -> Result<X, Failure> {
+        match found {
+            Ok(found) => Ok(found),
+            Err(refused) => {
+                self.tell(Ok(refused.told));
+                Err(refused.failure)
             }
         }
     }
 
+    /// What is told of a core text that has no program, and whether it is a whole one.
+    fn told_of_program(&self, path: &str, text: &[u8], fault: &Fault) -> Option<String> {
+        if !self.tells_of(fault) {
+            return None;
+        }
+        let mut told = refusal_of_program(self.alloc, text).ok()??;
+        if is_no_core(fault) && whole_program(self.rt, self.alloc, path, text).is_ok() {
+            let _ = told.push_str("  With `--lower` this program is taken.\n");
+        }
+        Some(told)
+    }
+
     /// The program that these words and this text tell, and what is said of it.
-    pub(crate) fn program(
-        &mut self,
-        words: ProgramWords<'_>,
-        text: &[u8],
-    ) -> Result<Whole, Failure> {
+    pub(crate) fn program(&self, words: ProgramWords<'_>, text: &[u8]) -> Result<Whole, Refused> {
         // A core text is taken as one with `--lower` too, so that scripts may always write the flag.
         match read_program(self.alloc, text) {
             Ok(program) => Ok(Whole {
                 program,
                 notes: Vec::new(self.alloc),
             }),
-            Err(fault) if words.lower && is_no_core(&fault) => self.whole(words.path, text),
-            Err(fault) => {
-                self.tell_refused(words.path, text, &fault);
-                Err(Failure::from(fault))
+            Err(fault) if words.lower && is_no_core(&fault) => {
+                match whole_program(self.rt, self.alloc, words.path, text) {
+                    Ok(whole) => Ok(whole),
+                    Err(unlowered) => Err(Refused {
+                        failure: unlowered.failure,
+                        told: unlowered.told,
+                    }),
+                }
+            }
+            Err(fault) => Err(Refused {
+                told: self.told_of_program(words.path, text, &fault),
+                failure: Failure::from(fault),
+            }),
+        }
+    }
+
+    /// Why a program has no plan under these external inputs.
+    fn unplanned(&self, unplanned: Unplanned, externals: &[u8]) -> Refused {
+        let told = if self.tells_of(&unplanned.fault) {
+            refusal_of_plan(self.alloc, &unplanned.program, externals)
+        } else {
+            Ok(None)
+        };
+        Refused {
+            failure: Failure::from(unplanned.fault),
+            told: told.unwrap_or(None),
+        }
+    }
+
+    /// The plan of a program under the external inputs of a text.
+    fn plan_of_text(&self, whole: Result<Whole, Refused>, externals: &[u8]) -> Planned {
+        let whole = whole?;
+        match plan_of(self.alloc, whole.program, externals) {
+            Ok(plan) => Ok(plan),
+            Err(unplanned) => Err(self.unplanned(unplanned, externals)),
+        }
+    }
+
+    /// The same of the ordinary file of this size that was opened at a path. Its text is read whole only where there
+    /// is no plan: that the file can't be read is told before that.
+    fn plan_of_file(
+        &self,
+        whole: Result<Whole, Refused>,
+        path: &str,
+        file: &mut F::File,
+        size: usize,
+    ) -> Result<Planned, Failure> {
+        let (rt, alloc) = (self.rt, self.alloc);
+        let program = match whole {
+            Ok(whole) => whole.program,
+            Err(refused) => {
+                read_sized(rt, alloc, path, file, size)?;
+                return Ok(Err(refused));
+            }
+        };
+        let mut reader = SizedReader::new(&mut *file, size);
+        match plan_sized(alloc, path, program, &mut reader)? {
+            Ok(plan) => Ok(Ok(plan)),
+            Err(unplanned) => {
+                let externals = read_sized(rt, alloc, path, file, size)?;
+                Ok(Err(self.unplanned(unplanned, &externals)))
             }
         }
     }
 
-    /// Its plan under these external inputs.
+    /// The plan of a program under the table of external inputs at a path, or under none. An error is that a file
+    /// can't be read: it comes before what is wrong with the texts, which is told once all files are read.
     pub(crate) fn plan(
-        &mut self,
+        &self,
         words: ProgramWords<'_>,
-        text: &[u8],
-        externals: &[u8],
-    ) -> Result<Plan, Failure> {
-        let whole = self.program(words, text)?;
-        match plan_of(self.alloc, whole.program, externals) {
-            Ok(plan) => Ok(plan),
-            Err(unplanned) => {
-                if self.tells_of(&unplanned.fault) {
-                    self.tell(refusal_of_plan(self.alloc, &unplanned.program, externals));
-                }
-                Err(Failure::from(unplanned.fault))
+        externals: Option<&str>,
+    ) -> Result<Planned, Failure> {
+        let (rt, alloc) = (self.rt, self.alloc);
+        let text = read_file(rt, alloc, words.path)?;
+        let whole = self.program(words, &text);
+        let Some(path) = externals else {
+            return Ok(self.plan_of_text(whole, NO_EXTERNALS));
+        };
+        let mut file = open_file(rt, alloc, path)?;
+        match ordinary_size(&file) {
+            Some(size) => self.plan_of_file(whole, path, &mut file, size),
+            // A pipe can't be read twice.
+            None => {
+                let table = read_opened(rt, alloc, path, &mut file)?;
+                Ok(self.plan_of_text(whole, &table))
             }
         }
     }
@@ -206,19 +284,18 @@ impl<'w, F: Files + Threads + Sync, W: Write> Session<'w, F, W> {
     pub(crate) fn judge_file(
         &mut self,
         words: JudgeWords<'_>,
-        program: &[u8],
-        externals: &[u8],
+        planned: Planned,
         file: &mut F::File,
         size: usize,
     ) -> Result<bool, Failure> {
         let (rt, alloc, path) = (self.rt, self.alloc, words.trace);
         let workers = workers_for(words.workers, size);
-        let plan = match self.plan(words.program, program, externals) {
+        let plan = match planned {
             Ok(plan) => plan,
-            Err(failure) => {
+            Err(refused) => {
                 // That a file can't be read is told before what is wrong with the others.
                 read_sized(rt, alloc, path, file, size)?;
-                return Err(failure);
+                return self.taken(Err(refused));
             }
         };
         let mut reader = SizedReader::new(&mut *file, size);
