@@ -121,9 +121,6 @@ module _ (u effects : List Row) (are : AreEffectsOf u effects) where
 pub all_started : (u : List Row) (o : Outline) → IsOutline u o → o.started.items ≡ starters u
 all_started u o is = is.started ∙ ap starters (take_all (length u) u (omega arith))
 
-pub all_runs : (u : List Row) (o : Outline) → IsOutline u o → length o.started.items ≡ runs_in u
-all_runs u o is = is.runs ∙ ap runs_in (take_all (length u) u (omega arith))
-
 -- with more rows that have no effect the span is right still
 pub span_stays : (u : List Row) (n : ℕ) (s : PlaceRange) (x : Row) → slice_get u n ≡ Some x → has_effect x.step ≡ false → IsSpan u n s → IsSpan u (n + 1) s
 span_stays u n s x here quiet is = record {

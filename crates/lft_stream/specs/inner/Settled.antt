@@ -1,8 +1,8 @@
 -- Rows at finished tags: what is kept of them, and what they still owe.
-use Rattle.std.specs.Prelude.{◌↔◌, ℕ, List, ◌++◌, None}
+use Rattle.std.specs.Prelude.{ℕ, List, ◌++◌, None}
 use Rattle.lft_tag.specs.{declared.Tag.Tag, Tags.UpTo}
 use Rattle.lft_ir.specs.declared.steps.row.Row.{Row}
-use Rattle.lft_model.specs.{Plans.PlanParts, Presence.{stop, Triggered, Inputs, Collision}, Runs.{Ran, reads_at}, Breaches.{Legal, IsTooEarly}}
+use Rattle.lft_model.specs.{Plans.PlanParts, Presence.{stop, Triggered, Inputs, Collision}, Runs.{Ran, reads_at}, Breaches.IsTooEarly}
 use Rattle.lft_rows.specs.inner.Firsts.{FirstRow}
 use Rattle.lft_queue.specs.Coming.AtTag.{AreBefore, AreAt}
 
@@ -34,7 +34,3 @@ pub record IsRightBehind (plan : PlanParts) (d u : List Row) (g : Tag) : Type 0 
   pub triggered : (r : ℕ) → Ran u g r → Triggered plan (d ++ u) g r
   pub in_order : (r : ℕ) → Ran u g r → ¬ IsTooEarly plan u g r
   pub reads : (r : ℕ) → Ran u g r → Inputs plan (d ++ u) g r (reads_at plan u g r)
-
--- a trace is legal exactly where no row breaks one of the rules 1 to 5, each run is right, and nothing is owed up to the stop
-abbrev pub EndLaw : PlanParts → Type 0
-EndLaw plan = (t : List Row) → Legal plan t ↔ AreRowsSettled plan t × OwesNothing plan t
