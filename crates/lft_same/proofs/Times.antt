@@ -8,7 +8,8 @@ use Rattle.lft_tree.specs.{Tree.{AssignmentTree, ParameterTree, ReactorTree, Tim
 use Rattle.lft_resolve.specs.Causes.{longest}
 use Rattle.lft_resolve.specs.Instances.{Inside as CoreInside, given_in as core_given_in, given_or_default as core_given_or_default, main_instance as core_main, time_in as core_time_in, value_of}
 use Rattle.lft_program.{proofs.{FullNames.all_at, Zipping.then_some}, specs.Flattening.time_or_zero}
-use Rattle.lft_whole.specs.declared.{sources.source.SourceFile.SourceFile, tree.{Assignment.Assignment, Expression.Expression, Instance.Instance, WrittenValue.WrittenValue}}
+use Rattle.lft_whole.specs.declared.sources.source.SourceFile.{SourceFile}
+use Rattle.lft_whole.specs.declared.tree.{Assignment.Assignment, Expression.Expression, Instance.Instance, WrittenValue.WrittenValue}
 use Rattle.lft_classes.specs.declared.shapes.{Child.Child, GivenValue.GivenValue, InheritedParameter.InheritedParameter, Shape.Shape}
 use Rattle.lft_classes.specs.inner.Shapes.{child_at, thing_named}
 use Rattle.lft_classes.proofs.Rows.{map_alike}

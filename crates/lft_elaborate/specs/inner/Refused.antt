@@ -1,7 +1,8 @@
 -- Why a reference means nothing, and there is no setting in an instance or no width of a member.
 use Rattle.std.specs.Prelude.{◌≡◌, ◌⊎◌, ℕ, ℤ, List, IsSomeAnd, Option, Some, None, option_map, string_bytes}
 use Rattle.std.specs.Option.{option_and_then}
-use Rattle.lft_whole.specs.declared.{sources.{stop.{FileRefusal.FileRefusal, NoProgram.NoProgram}, why.Why.Why}, tree.{Reference.Reference, WrittenValue.WrittenValue}}
+use Rattle.lft_whole.specs.declared.sources.{stop.{FileRefusal.FileRefusal, NoProgram.NoProgram}, why.Why.Why}
+use Rattle.lft_whole.specs.declared.tree.{Reference.Reference, WrittenValue.WrittenValue}
 use Rattle.lft_classes.specs.{declared.shapes.{Shape.Shape, OwnThing.OwnThing}, inner.Shapes.thing_named}
 use Rattle.lft_elaborate.specs.{inner.{Meanings.{port_number_in, shape_inside}, Places.parameter_in, Values.Valued}, Places.natural}
 use Rattle.lft_classes.specs.declared.shapes.OwnThing.TheVariants as things

@@ -4,7 +4,8 @@ use Rattle.std.specs.Prelude.{cond, find, if◌then◌else◌, string_bytes}
 use native.Mathlib.Decide.{dec_lt}
 use Rattle.std.proofs.lemmas.{Bool.Decides.eqb_tells, Slice.Eq.bytes_eq-Decides}
 use Rattle.lft_lists.proofs.{Members.{Mem, contains_mem, get_mem, mem_contains}, Places.Some_same}
-use Rattle.lft_whole.specs.declared.{sources.source.SourceFile.SourceFile, tree.{Assignment.Assignment, Expression.Expression, Instance.Instance, WrittenValue.WrittenValue}}
+use Rattle.lft_whole.specs.declared.sources.source.SourceFile.{SourceFile}
+use Rattle.lft_whole.specs.declared.tree.{Assignment.Assignment, Expression.Expression, Instance.Instance, WrittenValue.WrittenValue}
 use Rattle.lft_classes.specs.declared.shapes.{Child.Child, GivenValue.GivenValue, InheritedParameter.InheritedParameter, Shape.Shape}
 use Rattle.lft_classes.specs.inner.{Shapes.thing_named, Built.AreGiven, Circles.GivesOnce}
 use Rattle.lft_elaborate.specs.inner.Values.{given_to}

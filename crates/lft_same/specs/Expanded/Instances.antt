@@ -4,8 +4,8 @@ use Rattle.std.specs.{List.enumerate_from, Option.{option_and_then, option_map_o
 use Rattle.lft_elaborate.specs.{Channels.Channels.below, Names.tail, Values.is_forever}
 use Rattle.lft_classes.specs.Shapes.{name_of, width_of}
 use Rattle.lft_whole.specs.declared.sources.source.SourceFile.{SourceFile}
-use Rattle.lft_whole.specs.declared.tree.{Assignment.Assignment, Expression.Expression, Instance.Instance, Member.Member, Parameter.Parameter, WrittenValue.WrittenValue}
-use Rattle.lft_whole.specs.declared.tree.Width.{Width}
+use Rattle.lft_whole.specs.declared.tree.{Assignment.Assignment, Expression.Expression, Instance.Instance, Member.Member, Parameter.Parameter}
+use Rattle.lft_whole.specs.declared.tree.{WrittenValue.WrittenValue, Width.Width}
 use Rattle.lft_tree.specs.Tree.{nanoseconds}
 use Rattle.lft_same.specs.Expanded.Reactors.{Class, class_named, is_named, members_of, parameters_of}
 use Rattle.lft_whole.specs.declared.tree.Member.TheVariants as member
