@@ -3,7 +3,7 @@ use Rattle.std.proofs.Common.{◌≡◌, ℕ, zero, suc, ◌+◌, ◌<◌, ◌�
 use Rattle.std.specs.Prelude.{IfNone, IfSome, option_map, unwrap_or}
 use Rattle.std.{specs.Option.option_and_then, proofs.lemmas.{Bool.cases_lt, Option.slice_get_within}}
 use Rattle.lft_lists.proofs.Places.{Some_same, get_there, same_some}
-use Rattle.lft_classes.{specs.{declared.shapes.{Shape.Shape, Inherited.Inherited}, inner.Walks.Has}, proofs.Walking.some_of}
+use Rattle.lft_classes.{specs.{declared.shapes.{Shape.Shape, Inherited.Inherited}, inner.Walks.Has}, proofs.Walking.{none_of, some_of}}
 use Rattle.lft_elaborate.specs.inner.{Places.{AreMany, member_in}, Widths.member_at, Noted.{GoesOn, AreMade, AreSettings, IsNumberOf, SettingsTable, noted_for}}
 use Rattle.lft_elaborate.specs.inner.Settings.{setting_at, setting_in, shape_at, valued}
 use Rattle.lft_elaborate.specs.inner.Used.{AreMarked, HasInner, IsNumberIn, HasNumber, Stay, is_marked, AreUsed, IsIn, IsReached, main, within, is_instance, is_instance_in}
@@ -126,10 +126,6 @@ module _ (s : SettingsTable) (used : List ℕ) (marks : List Bool) (done : ℕ) 
 
 -- ---- what is in a member
 
-none_if : (P : Type 0) (o : Option ℕ) → (o ≡ None → P) → IfNone o P
-none_if P None h = h refl
-none_if P (Some k) h = tt
-
 -- of none there is no setting
 pub none_in : (shapes : List Shape) (t u : Valued) (m count : ℕ) → AreMany shapes t (thing.Member m) count → count ≡ 0 → IsIn shapes t m u → ⊥
 none_in shapes t u m count many empty is =
@@ -145,7 +141,7 @@ module _ (t0 t1 t2 : SettingsTable) (one : GoesOn t0 t1) (setting m count : ℕ)
   inside_some some = some_of (λ k. (t : Valued) → AreMade t0 → setting_in t0.settings setting ≡ Some t → IsNumberIn t0.shapes t2.settings t m k) inner (λ k is t made at. let n = subst (IsNumberOf t2.settings (inside t0.shapes t m)) is (number_is t made at) in (n.0, record { instance = instance t at; is_inside = n.1; count = count; many = many t made at; some = some }, n.2))
 
   pub inside_none : IfNone inner ((t u : Valued) → AreMade t0 → setting_in t0.settings setting ≡ Some t → IsIn t0.shapes t m u → ⊥)
-  inside_none = none_if ((t u : Valued) → AreMade t0 → setting_in t0.settings setting ≡ Some t → IsIn t0.shapes t m u → ⊥) inner (λ none t u made at is. let n : inside t0.shapes t m ≡ None = subst (IsNumberOf t2.settings (inside t0.shapes t m)) none (number_is t made at) in let e = is.is_inside in cc)
+  inside_none = none_of ((t u : Valued) → AreMade t0 → setting_in t0.settings setting ≡ Some t → IsIn t0.shapes t m u → ⊥) inner (λ none t u made at is. let n : inside t0.shapes t m ≡ None = subst (IsNumberOf t2.settings (inside t0.shapes t m)) none (number_is t made at) in let e = is.is_inside in cc)
 
 pub has_inside : (t0 t1 : SettingsTable) (t u : Valued) (m inner : ℕ) (used : List ℕ) → IsNumberIn t0.shapes t1.settings t m inner → IsIn t0.shapes t m u → (inner < length t1.settings → Has used inner) → HasNumber t1 used u
 has_inside t0 t1 t u m inner used (v, is_v, at) is has =

@@ -10,8 +10,8 @@ use Rattle.lft_resolve.specs.{Causes.{HasLongTime, IsLongTime}, Instances.{Insid
 use Rattle.lft_program.specs.{Located.{Located, declared, ports_in}, inner.{Nests.IsNest, Tables.{AreTables, IsLawful}, Ways.IsJoined}}
 use Rattle.lft_program.specs.declared.nesting.{nest.Nest.Nest, tables.Tables.Tables}
 use Rattle.lft_program.proofs.{Checked.ports_once, Counting.base, Delays.{delay_is, long_delay}, Ends.{Standing, standing, place_at}}
-use Rattle.lft_program.proofs.{Joints.{Joint, joint, has_join, join_ports, lead_apart}, Nested.{instance_of, inside_of, number_of}, Listing.declared_long, Ports.distinct}
-use Rattle.lft_program.proofs.Singles.{IsOf, single_back, single_forth}
+use Rattle.lft_program.proofs.{Joints.{Joint, joint, has_join, join_ports, lead_apart}, Nested.{instance_of, inside_of, number_of}, Listing.declared_long}
+use Rattle.lft_program.proofs.{Ports.distinct, Singles.{IsOf, single_back, single_forth}}
 
 -- no reactor has a time past the greatest
 abbrev pub NoLongTime : FileTree → Type 0

@@ -1,6 +1,6 @@
 -- Elements of joined lists, and of pairs.
-use Rattle.std.proofs.Common.{◌≡◌, ℕ, zero, suc, ◌+◌, ◌⊎◌, inl, inr, List, [], ◌∷◌, ◌++◌, length, refl, ap, ◌∙◌, arith, Some, slice_get, flat_map}
-use Rattle.std.specs.List.{enumerate_from, zip}
+use Rattle.std.proofs.Common.{◌≡◌, ℕ, zero, suc, ◌+◌, ◌⊎◌, inl, inr, List, [], ◌∷◌, length, refl, ap, arith, Some, slice_get, flat_map}
+use Rattle.std.specs.List.{zip}
 use Rattle.lft_lists.proofs.Places.{get_append_cases}
 use Rattle.lft_program.proofs.Counting.{total}
 

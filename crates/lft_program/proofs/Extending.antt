@@ -1,10 +1,9 @@
 -- Names that are put one after another: where they stand, and why none stands there twice.
 use Rattle.std.proofs.Common.{◌≡◌, ℕ, ◌+◌, ◌<◌, ◌≤◌, zero, suc, List, [], ◌∷◌, ◌++◌, map, take, drop, length, get_or, slice_get, Some, refl, sym, ap, subst, ◌∙◌, arith, length-append, add-zero}
 use Rattle.std.proofs.lemmas.{Grind.common_steps, Option.{slice_get_within, get_or_from_slice_get, slice_get-get_or}}
-use Rattle.lft_lists.proofs.Mapped.{mapped}
+use Rattle.lft_lists.proofs.{Mapped.mapped, Places.get_left}
 use Rattle.lft_ir.specs.inner.Names.{HasNoTwice}
 use Rattle.lft_program.{specs.inner.Extended.{Ending, name_after, extended, AreAfter}, proofs.Zips.map_around}
-use Rattle.lft_lists.proofs.Places.{get_left}
 use Rattle.lft_resolve.proofs.Twice.{slice_get-middle, map_last}
 
 pub extended-append : (t : List (List ℕ)) (xs ys : List Ending) → extended t (xs ++ ys) ≡ extended (extended t xs) ys

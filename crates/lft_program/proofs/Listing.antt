@@ -1,5 +1,5 @@
 -- The list of the things of one kind has the declarations of the instances in order.
-use Rattle.std.proofs.Common.{◌≡◌, ℕ, zero, suc, ◌+◌, ◌<◌, ◌⊎◌, inl, inr, List, [], ◌∷◌, length, length-append, refl, sym, ap, ◌∙◌, subst, arith, Some, Result, Ok, Err, IfOk, slice_get, take, map, flat_map, unwrap_or}
+use Rattle.std.proofs.Common.{◌≡◌, ℕ, zero, suc, ◌+◌, ◌<◌, List, [], ◌∷◌, length, length-append, refl, sym, ap, ◌∙◌, subst, arith, Some, Result, Ok, Err, IfOk, slice_get, take, map, flat_map, unwrap_or}
 use Rattle.std.{specs.List.{AllZip, enumerate_from}, proofs.lemmas.{Option.slice_get_within, List.{length-map, FromFn.length-enumerate_from}}}
 use Rattle.lft_lists.proofs.Mapped.{mapped, mapped_from}
 use Rattle.lft_tree.specs.Tree.{FileTree, ReactorTree, reactors_of}

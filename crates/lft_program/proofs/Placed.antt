@@ -1,8 +1,8 @@
 -- Things by their numbers, and instances by their paths.
-use Rattle.std.proofs.Common.{◌≡◌, ℕ, ◌+◌, ⊎_elim, List, sym, ap, ◌∙◌, subst, arith, Some, slice_get, map}
+use Rattle.std.proofs.Common.{◌≡◌, ℕ, ⊎_elim, List, sym, ap, ◌∙◌, subst, arith, Some, slice_get, map}
 use Rattle.std.proofs.lemmas.Bool.{cases_lt}
 use Rattle.lft_lists.proofs.{Places.Some_same, Mapped.{mapped, mapped_from}}
-use Rattle.lft_tree.specs.Tree.{FileTree, ReactorTree}
+use Rattle.lft_tree.specs.Tree.{FileTree}
 use Rattle.lft_resolve.specs.{Expansion.Paths.{along, PathBefore}, Instances.{Thing, thing_at, entered, main_instance}}
 use Rattle.lft_resolve.proofs.ExpansionLemmas.Orders.{before_itself}
 use Rattle.lft_program.specs.Located.{Located, AreLocated, Declared, declared_things}

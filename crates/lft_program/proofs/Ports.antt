@@ -1,12 +1,10 @@
 -- The number of a port, or of another thing that instances declare under names, against the path of its instance and its place there.
-use Rattle.std.proofs.Common.{◌≡◌, ℕ, zero, suc, ◌+◌, List, [], ◌∷◌, length, length-append, refl, sym, ap, ◌∙◌, subst, arith, Some, slice_get, map, flat_map, take}
-use Rattle.std.specs.{List.{AllZip, enumerate_from}, Option.option_map}
-use Rattle.std.proofs.lemmas.{Option.slice_get_within, List.{length-map, FromFn.length-enumerate_from}}
-use Rattle.lft_lists.proofs.{Mapped.{mapped, mapped_from}, Places.get_there}
+use Rattle.std.proofs.Common.{◌≡◌, ℕ, ◌+◌, List, sym, ap, ◌∙◌, subst, arith, Some, slice_get}
+use Rattle.std.{specs.Option.option_map, proofs.lemmas.Option.slice_get_within}
+use Rattle.lft_lists.proofs.{Mapped.mapped, Places.get_there}
 use Rattle.lft_tree.specs.Tree.{FileTree, ReactorTree, reactors_of}
-use Rattle.lft_resolve.specs.{declared.expansion.walk.Instance.Instance, inner.Expansion.{Joins.port_at, Numbers.{count_of_things, things as how_many}}}
-use Rattle.lft_resolve.specs.Instances.{Thing, thing_at}
-use Rattle.lft_program.specs.{Located.{Located, Declared, declared, declared_in, declared_things}, inner.Nests.{IsNest, IsNumbering, IsInstanceOf}}
+use Rattle.lft_resolve.specs.{inner.Expansion.Joins.port_at, Instances.{Thing, thing_at}}
+use Rattle.lft_program.specs.{Located.{Located, declared, declared_things}, inner.Nests.{IsNest, IsNumbering}}
 use Rattle.lft_program.specs.declared.nesting.{nest.{Nest.Nest, Numbering.Numbering}, tables.Tables.Tables}
 use Rattle.lft_program.proofs.{Counting.{base, declared_at}, Listing.{base_is, declared_from}, Nested.{one_number, instance_of}, Placed.thing_from}
 

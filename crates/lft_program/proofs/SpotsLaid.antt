@@ -12,8 +12,8 @@ use Rattle.lft_program.specs.inner.{Nests.{IsNumbering, IsThingOf}, Laying.{Each
 use Rattle.lft_program.specs.inner.OfTree.{AreOfTree}
 use Rattle.lft_program.specs.declared.nesting.{linking.Linked.Linked, nest.{Nest.Nest, Numbering.Numbering}, tables.Tables.Tables}
 use Rattle.lft_program.specs.Flattening.{IsFlatName, IsReaction, IsTrigger}
-use Rattle.lft_program.proofs.{Counting.base, Ends.{place_at, standing}, Listing.{declared_from, declared_long}, Ports.{number_at, thing_forth}, Singles.place_forth}
-use Rattle.lft_program.proofs.{LaidOut.row_there, Making.{Made, made_zip}}
+use Rattle.lft_program.proofs.{Counting.base, Ends.{place_at, standing}, Listing.{declared_from, declared_long}, Ports.{number_at, thing_forth}}
+use Rattle.lft_program.proofs.{Singles.place_forth, LaidOut.row_there, Making.{Made, made_zip}}
 use Rattle.lft_ir.specs.declared.parts.{Name.{Name, TheVariants.{Port, Action}}, Reaction.Reaction}
 use Rattle.lft_ir.specs.declared.parts.Trigger.{Trigger, TheVariants.{Startup, Shutdown, Timer, On}}
 use Rattle.lft_resolve.specs.declared.by_number.sheets.Cue.TheVariants as cues

@@ -1,7 +1,7 @@
 -- The way back by number is one along connections of the tree.
 use Rattle.std.proofs.Common.{◌≡◌, ℕ, ◌<◌, List, [], ◌∷◌, ◌++◌, refl, sym, ap, ◌∙◌, subst, arith, sum, Option, Some, None, slice_get, option_to_list, length}
 use Rattle.std.proofs.lemmas.Option.{slice_get_within}
-use Rattle.lft_lists.proofs.Places.{get_there, same_some, Some_same}
+use Rattle.lft_lists.proofs.Places.{get_there, same_some}
 use Rattle.lft_tree.specs.Tree.{FileTree}
 use Rattle.lft_tag.specs.declared.Source.{Source}
 use Rattle.lft_resolve.specs.declared.expansion.{joins.{Connections.Connections, Site.Site, PortSources.PortSources}, origins.Reached.Reached}
@@ -12,7 +12,7 @@ use Rattle.lft_resolve.specs.inner.Expansion.Ways.{HaveSites, IsWayBack, LeadsBa
 use Rattle.lft_resolve.specs.{Causes.longest, Instances.Thing}
 use Rattle.lft_resolve.proofs.ExpansionLemmas.{Chains.leads_from, Backwards.{end_back, ring_back}}
 use Rattle.lft_program.specs.inner.{Linking.IsTooLong, Nests.IsNest, Tables.{AreTables, IsLawful}, Ways.{IsJoined, IsLongChain, IsRing, LeadBack}}
-use Rattle.lft_program.specs.{Located.{Located, ports_in}, declared.nesting.{linking.Way.Way, nest.Nest.Nest, tables.Tables.Tables}}
+use Rattle.lft_program.specs.{Located.ports_in, declared.nesting.{linking.Way.Way, nest.Nest.Nest, tables.Tables.Tables}}
 use Rattle.lft_program.proofs.{Connected.{NoLongTime, TreeSources, joined_by, tree_sources}, Lengths.last_of}
 
 -- nothing delays what no join leads into

@@ -1,7 +1,7 @@
 -- The reactions of a core instance are those of the instance that it stands for, but for what sleeps.
 use Rattle.std.proofs.Common.{◌≡◌, ℕ, inl, inr, All, Bool, true, false, List, [], ◌∷◌, ◌++◌, map, flat_map, filter_map, Option, Some, None, option_to_list, refl, sym, ap, subst, ◌∙◌}
 use Rattle.std.specs.Prelude.{bytes_eq, filter, if◌then◌else◌, not, string_bytes, ◌&&◌}
-use Rattle.std.proofs.lemmas.{Grind.flat_map-append, List.{map-append, Elements.filter_map-append}, Slice.Eq.bytes_eq-Decides}
+use Rattle.std.proofs.lemmas.{Grind.flat_map-append, List.{map-append, Elements.filter_map-append, Folds.flat_map-map}, Slice.Eq.bytes_eq-Decides}
 use Rattle.lft_lists.proofs.Members.{Mem, filter_map-flat_map, mem_from_flat, mem_from_map}
 use Rattle.lft_tree.specs.Tree.{MemberTree, RefTree, TriggerTree, AtStartup as StartupTrigger, AtShutdown as ShutdownTrigger, OnRef, PortMember, ReactionMember, reaction_in, reactions_of}
 use Rattle.lft_tree.specs.{View.tree_view, declared.ast.Ast.Ast}
@@ -18,7 +18,7 @@ use Rattle.lft_lower.specs.inner.Reactors.{IsLowering}
 use Rattle.lft_same.specs.inner.Expanded.Core.{core_reaction, things_for, triggers_for}
 use Rattle.lft_same.specs.Expanded.{Expanded.{Reaction, Trigger, AtStartup, AtShutdown, OnThing}, Instances.{Inside, Widths}, Reactors.members_of}
 use Rattle.lft_same.specs.Expanded.{Same.{awake_reaction, is_other}, Whole.{channels, channels_of_effect, reactions_at, triggers_in, uses_in}}
-use Rattle.lft_same.proofs.{FitsLemmas.Shapes.{flat_alike, flat_mapped}, Instances.{AreWidthsFound, StandsFor}, Inners.names_alike}
+use Rattle.lft_same.proofs.{FitsLemmas.Shapes.flat_alike, Instances.{AreWidthsFound, StandsFor}, Inners.names_alike}
 use Rattle.lft_same.proofs.{Kept.{all_pass, filter-flat_map, flat_kept, flat_map-flat_map, of_all}, Listed.{none_mapped, unnumbered}}
 use Rattle.lft_same.proofs.{Lowered.{Appends, Becomes, of_connection, of_instance}, Members.{here, members_alike, never_of}, References.places_channels}
 use Rattle.lft_same.proofs.{Settings.its_setting, Sleeping.{never_meant, own_thing}, Timers.use_alike}
@@ -78,7 +78,7 @@ module _ (files : List SourceFile) (tree : Ast) (low : IsLowering files tree) (w
   trigger_alike trigger.Shutdown means = refl
   trigger_alike (trigger.Reset at) means = absurd means
   trigger_alike (trigger.Reference ref) means =
-      flat_mapped (triggers_for path core.reactor) OnRef (places_in (here files tree low x core s) ref)
+      flat_map-map (triggers_for path core.reactor) OnRef (places_in (here files tree low x core s) ref)
       ∙ flat_kept (stands_for core.reactor path) OnThing (places_in (here files tree low x core s) ref)
       ∙ ap (map OnThing) (its_channels ref means)
 

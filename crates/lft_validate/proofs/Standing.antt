@@ -1,10 +1,9 @@
 -- Where names of one role stand in a reactor, by their places among all of that role.
-use Rattle.std.proofs.Common.{◌≡◌, ℕ, zero, suc, ◌+◌, ◌<◌, ◌≤◌, List, [], ◌∷◌, ◌++◌, flat_map, filter_map, take, length, slice_get, Some, IsSomeAnd, inl, inr, zero-add, length-append, refl, sym, ap, subst, ◌∙◌, arith}
+use Rattle.std.proofs.Common.{◌≡◌, ℕ, zero, suc, ◌+◌, ◌<◌, ◌≤◌, List, [], ◌∷◌, ◌++◌, flat_map, filter_map, take, length, slice_get, Some, IsSomeAnd, inl, inr, length-append, refl, sym, ap, subst, ◌∙◌, arith}
 use Rattle.std.proofs.lemmas.Bool.{cases_lt}
 use Rattle.lft_tree.specs.Tree.{ReactorTree, MemberTree, RefTree, PortMember, TimerMember, ActionMember, StateMember, PreambleMember, ReactionMember, InstanceMember, ConnectionMember, connection_in, reaction_in}
-use Rattle.lft_resolve.specs.{Kinds.{destinations_in, effects_in}, declared.kinds.Role.{Role, TheVariants.{Effect, Destination}}}
+use Rattle.lft_resolve.{specs.{Kinds.{destinations_in, effects_in}, declared.kinds.Role.{Role, TheVariants.{Effect, Destination}}}, proofs.Flat.flat_at}
 use Rattle.lft_lists.proofs.Places.{get_there}
-use Rattle.lft_resolve.proofs.Flat.{flat_at}
 use Rattle.lft_validate.specs.{Findings.IsTwiceAt, Members.names_of, inner.{Shown.all_names, Witnesses.{IsPlaceOf, IsSharedAt}}}
 use Rattle.lft_validate.specs.{Witnesses.{IsEarlier, IsNamedAt, IsWrittenTwice}, declared.witness.Naming.Naming}
 

@@ -1,5 +1,5 @@
 -- Chains of sources, followed from port to port: none of a circle ends, and along an order each does.
-use Rattle.std.proofs.Common.{◌≡◌, ◌≢◌, ℕ, zero, suc, ◌+◌, ◌-◌, ◌<◌, ◌≤◌, ◌⊎◌, inl, inr, List, [], ◌∷◌, length, refl, sym, ap, ◌∙◌, subst, arith, Option, Some, None, slice_get, slice_set, option_map, option_to_list, unwrap_or, length-append}
+use Rattle.std.proofs.Common.{◌≡◌, ◌≢◌, ℕ, zero, suc, ◌+◌, ◌-◌, ◌<◌, ◌≤◌, ◌⊎◌, inl, inr, List, length, refl, sym, ap, ◌∙◌, subst, arith, Option, Some, None, slice_get, slice_set, option_map, option_to_list, unwrap_or, length-append}
 use Rattle.std.proofs.lemmas.{Bool.cases_lt, Option.slice_get_within}
 use Rattle.lft_lists.specs.{Walks.IsCircle, inner.Walking.{IsOrder, Leads}}
 use Rattle.lft_lists.proofs.{Places.{get_there, get_write_cases, length_written, same_at, Some_same}, Walking.circle_back}

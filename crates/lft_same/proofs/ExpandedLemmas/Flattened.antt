@@ -8,6 +8,7 @@ use Rattle.lft_tree.specs.Tree.{FileTree, ReactorTree, PortTree, ActionTree, Tim
 use Rattle.lft_resolve.specs.Expansion.Paths.{along, PathBefore}
 use Rattle.lft_resolve.specs.Instances.{Inside, Thing, thing_at, entered, given_in, main_instance, main_of, reactor_named, stands_for, time_in, Connects as TreeConnects}
 use Rattle.lft_resolve.specs.Sheets.{without_timers}
+use Rattle.lft_resolve.proofs.Flat.{enumerated}
 use Rattle.lft_ir.specs.Parts.{Parts}
 use Rattle.lft_ir.specs.declared.parts.{Name.{Name, TheVariants.{Port as PortName, Action as ActionName}}, Port.Port as FlatPort, Action.Action as FlatAction}
 use Rattle.lft_ir.specs.declared.parts.{Timer.Timer as FlatTimer, Reaction.Reaction as FlatReaction}
@@ -16,7 +17,7 @@ use Rattle.lft_tag.specs.declared.Source.{Source}
 use Rattle.lft_program.specs.Located.{Located as TreeLocated, AreLocated, Declared as TreeDeclared, declared as tree_declared, declared_in as tree_declared_in, ports_in as tree_ports, actions_in as tree_actions, timers_in as tree_timers, declared_things as tree_things}
 use Rattle.lft_program.specs.Links.{IsSource as IsTreeSource}
 use Rattle.lft_program.specs.Flattening.{Flat, time_or_zero, IsFlatName as IsTreeName, IsTrigger as IsTreeTrigger, IsPort as IsTreePort, IsAction as IsTreeAction, IsTimer as IsTreeTimer, IsReaction as IsTreeReaction, NamesThing as TreeMeans, name_under, name_of_path as tree_name_of_path, name_of_thing as tree_name_of_thing, name_of_reaction as tree_name_of_reaction, names_of as tree_names_of}
-use Rattle.lft_program.proofs.{Listing.enumerate_from_at, Zipping.then_some}
+use Rattle.lft_program.proofs.Zipping.{then_some}
 use Rattle.lft_classes.proofs.Rows.{map_alike}
 use Rattle.lft_same.specs.Expanded.Expanded.{Action, Contents, OnThing, Link, Port, Reaction, Timer}
 use Rattle.lft_same.specs.Expanded.Flat.{AreAllInstances, JoinsThings, ExpandedItem, IsExpandedAction, IsFlat, IsExpandedPort, IsExpandedReaction, IsExpandedSource, IsExpandedTimer, LocatedContents, NamesExpandedThing, IsExpandedTrigger, expanded_actions, expanded_items, items_of_instance, name_behind, expanded_path_name, expanded_reaction_name, expanded_thing_name, names_along, names_of, expanded_ports, expanded_things, expanded_timers}
@@ -226,14 +227,14 @@ pub map_twice : {X Y Z : Type 0} (f : X → Y) (g : Y → Z) (xs : List X) → m
 map_twice f g [] = refl
 map_twice {X} {Y} {Z} f g (x ∷ xs) = ap (λ (l : List Z). g (f x) ∷ l) (map_twice f g xs)
 
-enumerated : {X : Type 0} (k : ℕ) (xs : List X) (p : ℕ × X) → Mem p (enumerate_from k xs) → Mem p.1 xs
-enumerated k xs p m = let i = get_mem p (enumerate_from k xs) m in mem_get xs i.0 p.1 (enumerate_from_at k xs i.0 p i.1).1
+unnumbered : {X : Type 0} (k : ℕ) (xs : List X) (p : ℕ × X) → Mem p (enumerate_from k xs) → Mem p.1 xs
+unnumbered k xs p m = let i = get_mem p (enumerate_from k xs) m in mem_get xs i.0 p.1 (enumerated k xs i.0 p i.1).1
 
 located_of : {Y : Type 0} (kind : ReactorTree → List Y) (all : List TreeLocated) (d : TreeDeclared Y) → Mem d (tree_declared kind all) → Mem d.located all
 located_of {Y} kind all d m =
     let i = mem_from_flat (tree_declared_in kind) (enumerate_from 0 all) d m in
     let e = mem_from_map (λ (p : ℕ × Y). at i.0.0 i.0.1 p) (enumerate_from 0 (kind i.0.1.inside.reactor)) d i.2 in
-    subst (λ x. Mem x all) (ap (λ (v : TreeDeclared Y). v.located) e.2) (enumerated 0 all i.0 i.1)
+    subst (λ x. Mem x all) (ap (λ (v : TreeDeclared Y). v.located) e.2) (unnumbered 0 all i.0 i.1)
   where
     at : ℕ → TreeLocated → ℕ × Y → TreeDeclared Y
     at n x p = record { instance = n; located = x; place = p.0; item = p.1 }

@@ -1,7 +1,7 @@
 -- A reactor and all that it extends are listed in the order of the language.
 use Rattle.std.proofs.Common.{◌≡◌, ◌≢◌, ◌⊎◌, inl, inr, ℕ, zero, suc, ◌<◌, ◌≤◌, Bool, true, false, not, List, [], ◌∷◌, ◌++◌, length, map, filter, flat_map, Some, slice_get, refl, sym, ap, append_assoc, subst, ◌∙◌, arith}
 use Rattle.std.specs.Prelude.{if◌then◌else◌}
-use Rattle.std.proofs.lemmas.{Bool.true≢false, List.{append-nil, map-append}, Option.slice_get_within}
+use Rattle.std.proofs.lemmas.{Bool.not-true, List.{append-nil, map-append}, Option.slice_get_within}
 use Rattle.lft_lists.proofs.Members.{Mem, get_mem, mem_cases, mem_from_flat, mem_from_map, mem_get, mem_left, mem_map, mem_right}
 use Rattle.lft_resolve.proofs.ExpansionLemmas.Pairs.{Pairs}
 use Rattle.lft_whole.specs.declared.sources.source.SourceFile.{SourceFile}
@@ -50,10 +50,6 @@ pairs_kept R p (x ∷ xs) h = go (p x) (pairs_kept R p xs h.1)
 abbrev pub Apart : Class → Class → Type 0
 Apart c d = same_class c d ≡ false
 
-not_true : (b : Bool) → not b ≡ true → b ≡ false
-not_true true e = absurd (true≢false (sym e))
-not_true false e = refl
-
 once_from : (zs : List Class) (y : Class) → Mem y (each_once zs) → Mem y zs
 once_from [] y m = m
 once_from (z ∷ zs) y (inl e) = inl e
@@ -61,7 +57,7 @@ once_from (z ∷ zs) y (inr m) = inr (once_from zs y (kept (λ d. not (same_clas
 
 once_apart : (zs : List Class) → Pairs Apart (each_once zs)
 once_apart [] = tt
-once_apart (z ∷ zs) = (λ y m. not_true (same_class z y) (kept (λ d. not (same_class z d)) (each_once zs) y m).1, pairs_kept Apart (λ d. not (same_class z d)) (each_once zs) (once_apart zs))
+once_apart (z ∷ zs) = (λ y m. not-true (same_class z y) (kept (λ d. not (same_class z d)) (each_once zs) y m).1, pairs_kept Apart (λ d. not (same_class z d)) (each_once zs) (once_apart zs))
 
 module _ (num : Class → ℕ) (alike : (c d : Class) → same_class c d ≡ true → num c ≡ num d) where
   -- one that stands already may be left out

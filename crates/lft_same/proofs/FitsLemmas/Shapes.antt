@@ -2,7 +2,7 @@
 use Rattle.std.proofs.Common.{◌≡◌, ◌≢◌, ◌⊎◌, inl, inr, ℕ, ◌+◌, ◌<◌, ◌≤◌, true, false, ◌&&◌, ◌||◌, List, [], ◌∷◌, ◌++◌, length, map, filter_map, flat_map, Option, Some, None, option_map, option_to_list, slice_get, refl, sym, ap, subst, ◌∙◌, arith}
 use Rattle.std.specs.Prelude.{◌==◌, string_bytes}
 use Rattle.std.specs.{List.{enumerate_from, list_any, AllByRecursion, IsDistinct}, Option.option_and_then}
-use Rattle.std.proofs.lemmas.{Bool.{true≢false, Decides.eqb_tells}, List.{append-nil, length-append, length-map, map-append}}
+use Rattle.std.proofs.lemmas.{Bool.{true≢false, Decides.eqb_tells}, List.{append-nil, length-append, length-map, map-append, Folds.flat_map-map}}
 use Rattle.std.proofs.lemmas.{Map.Steps.length-le_from_distinct_below, Option.slice_get_within}
 use Rattle.lft_lists.proofs.{Mapped.{mapped_from, option_map_some}, Members.{Mem, get_mem, mem_from_filter, mem_from_flat}, Picked.map-filter_map}
 use Rattle.lft_lists.proofs.Places.{get_push_cases, Some_same}
@@ -59,10 +59,6 @@ few list n apart below = length-le_from_distinct_below list n (distinct list apa
 pub flat_alike : {X Y : Type 0} (f g : X → List Y) (xs : List X) → ((x : X) → Mem x xs → f x ≡ g x) → flat_map f xs ≡ flat_map g xs
 flat_alike f g [] same = refl
 flat_alike f g (x ∷ xs) same = ap (λ l. l ++ flat_map f xs) (same x (inl refl)) ∙ ap (λ l. g x ++ l) (flat_alike f g xs (λ y m. same y (inr m)))
-
-pub flat_mapped : {X Y Z : Type 0} (f : Y → List Z) (g : X → Y) (xs : List X) → flat_map f (map g xs) ≡ flat_map (λ x. f (g x)) xs
-flat_mapped f g [] = refl
-flat_mapped f g (x ∷ xs) = ap (λ l. f (g x) ++ l) (flat_mapped f g xs)
 
 map_flat : {X Y Z : Type 0} (g : Y → Z) (f : X → List Y) (xs : List X) → map g (flat_map f xs) ≡ flat_map (λ x. map g (f x)) xs
 map_flat g f [] = refl
@@ -194,8 +190,8 @@ module _ (files : List SourceFile) (scopes : _) (are : AreScopes files scopes) w
   pub shape_is : (shape : Shape) (c : Class) → IsHere files c → shape.class.number ≡ number_at files c → IsBuilt scopes (core shape) → IsShapeOf files shape c
   shape_is shape c here number built = record {
     number = number;
-    members = built.has_members ∙ ap (flat_map (members_at scopes)) listed ∙ flat_mapped (members_at scopes) (number_at files) (lineage files c) ∙ flat_alike (λ d. members_at scopes (number_at files d)) (λ d. flat_map (λ (r : Reactor). map (λ (m : Member). at d.0 m) r.members.items) (option_to_list (reactor_of files d))) (lineage files c) members;
-    parameters = ap (map (λ (p : ℕ × Parameter). p.1)) (built.has_parameters ∙ ap (flat_map (parameters_at scopes)) listed ∙ flat_mapped (parameters_at scopes) (number_at files) (lineage files c)) ∙ map_flat (λ (p : ℕ × Parameter). p.1) (λ d. parameters_at scopes (number_at files d)) (lineage files c) ∙ flat_alike (λ d. map (λ (p : ℕ × Parameter). p.1) (parameters_at scopes (number_at files d))) (λ d. flat_map (λ (r : Reactor). r.parameters.items) (option_to_list (reactor_of files d))) (lineage files c) parameters;
+    members = built.has_members ∙ ap (flat_map (members_at scopes)) listed ∙ flat_map-map (members_at scopes) (number_at files) (lineage files c) ∙ flat_alike (λ d. members_at scopes (number_at files d)) (λ d. flat_map (λ (r : Reactor). map (λ (m : Member). at d.0 m) r.members.items) (option_to_list (reactor_of files d))) (lineage files c) members;
+    parameters = ap (map (λ (p : ℕ × Parameter). p.1)) (built.has_parameters ∙ ap (flat_map (parameters_at scopes)) listed ∙ flat_map-map (parameters_at scopes) (number_at files) (lineage files c)) ∙ map_flat (λ (p : ℕ × Parameter). p.1) (λ d. parameters_at scopes (number_at files d)) (lineage files c) ∙ flat_alike (λ d. map (λ (p : ℕ × Parameter). p.1) (parameters_at scopes (number_at files d))) (λ d. flat_map (λ (r : Reactor). r.parameters.items) (option_to_list (reactor_of files d))) (lineage files c) parameters;
     names = built.has_names;
   }
     where

@@ -2,9 +2,9 @@
 use Rattle.std.proofs.Common.{◌≡◌, ℕ, zero, suc, ◌+◌, ◌*◌, ◌<◌, ◌≤◌, min, ℤ, pos, Bool, true, false, List, [], ◌∷◌, length, map, Option, Some, None, option_map, slice_get, refl, sym, ap, subst, ◌∙◌, arith}
 use Rattle.std.specs.Prelude.{◌^◌, neg_ℤ, string_bytes, unwrap_or}
 use Rattle.std.{specs.{Option.{option_and_then, option_map_or}, List.enumerate_from}, proofs.lemmas.List.{length-map, FromFn.length-range_with_len}}
-use Rattle.lft_resolve.specs.Expansion.Paths.{along}
+use Rattle.lft_resolve.{specs.Expansion.Paths.along, proofs.Flat.enumerated}
 use Rattle.lft_lists.proofs.{Mapped.{mapped, mapped_from, option_map_some}, Members.{Mem, get_mem, mem_from_flat, mem_from_map, mem_get}, Places.Some_same}
-use Rattle.lft_program.proofs.{Listing.enumerate_from_at, Zipping.then_some}
+use Rattle.lft_program.proofs.Zipping.{then_some}
 use Rattle.lft_whole.specs.declared.sources.source.SourceFile.{SourceFile}
 use Rattle.lft_whole.specs.declared.tree.{Count.Count, Instance.Instance, Member.Member, Name.Name, Reference.Reference, Term.Term, WrittenValue.WrittenValue}
 use Rattle.lft_whole.specs.declared.tree.Width.{Width}
@@ -258,7 +258,7 @@ module _ (files : List SourceFile) (shapes : List Shape) (nested : AreNested fil
         from = mem_from_flat (inners_at (widths_to files depth) x) (enumerate_from 0 (members_of files x.class)) inner.0 (mem_get (inners files (widths_to files depth) x) k inner.0 inner.1)
 
         j : (n : ℕ) × (slice_get (members_of files x.class) from.0.0 ≡ Some from.0.1)
-        j = let g = get_mem from.0 (enumerate_from 0 (members_of files x.class)) from.1 in let h = enumerate_from_at 0 (members_of files x.class) g.0 from.0 g.1 in let n : from.0.0 ≡ g.0 = (let a = h.0 in omega (arith, a)) in (g.0, ap (slice_get (members_of files x.class)) n ∙ h.1)
+        j = let g = get_mem from.0 (enumerate_from 0 (members_of files x.class)) from.1 in let h = enumerated 0 (members_of files x.class) g.0 from.0 g.1 in let n : from.0.0 ≡ g.0 = (let a = h.0 in omega (arith, a)) in (g.0, ap (slice_get (members_of files x.class)) n ∙ h.1)
 
         go : (i : Inner) → slice_get (members_of files x.class) from.0.0 ≡ Some from.0.1 → inside_of files x i.new ≡ Some y → Mem i (inners_at (widths_to files depth) x from.0) → (u : Valued) × IsReached shapes u × Fits files shapes u y
         go i at new m = by from.0.0 from.0.1.0 from.0.1.1 at m

@@ -7,7 +7,7 @@ use Rattle.lft_lists.{specs.Bytes.is_in_line, proofs.Places.{get_last, same_some
 use Rattle.lft_text_diagnostics.specs.Places.{BeginsLine, begins_letter, is_feed}
 use Rattle.lft_syntax.specs.declared.token.Token.{Token}
 use Rattle.lft_whole.specs.{declared.sources.source.Spot.Spot, inner.Tokens.{IsToken, StandBetween}}
-use Rattle.lft_whole_parser.specs.Imports.Places.{AreSpots, IsSpotOfByte}
+use Rattle.lft_whole_parser.{specs.Imports.Places.{AreSpots, IsSpotOfByte}, proofs.ImportsLemmas.Known.{kept, some_and}}
 
 not_feed : (b : ℕ) → (b ≡ 10 → ⊥) → is_in_line b ≡ true
 not_feed b n = grind (arith, nat_tests)
@@ -130,14 +130,6 @@ next text ts i t from e h =
 abbrev pub SoFar : List ℕ → List Token → ℕ → List Spot → Type 0
 SoFar text ts i spots = (k : ℕ) (t : Token) → k < i → slice_get ts k ≡ Some t → IsSomeAnd (slice_get spots k) (IsSpotOfByte text t.start)
 
-pub some_and : {X : Type 0} (P : X → Type 0) (xs : List X) (k : ℕ) (x : X) → slice_get xs k ≡ Some x → P x → IsSomeAnd (slice_get xs k) P
-some_and P xs k x e h = subst (λ o. IsSomeAnd o P) (sym e) h
-
-kept : {X : Type 0} (P : X → Type 0) (xs : List X) (y : X) (k : ℕ) → IsSomeAnd (slice_get xs k) P → IsSomeAnd (slice_get (xs ++ y ∷ []) k) P
-kept P [] y k h = absurd h
-kept P (x ∷ xs) y zero h = h
-kept P (x ∷ xs) y (suc k) h = kept P xs y k h
-
 -- one more
 pub more : (text : List ℕ) (ts : List Token) (i : ℕ) (t : Token) (spots : List Spot) (spot : Spot) → slice_get ts i ≡ Some t → length spots ≡ i → IsSpotOfByte text t.start spot → SoFar text ts i spots → SoFar text ts (i + 1) (spots ++ spot ∷ [])
 more text ts i t spots spot e n h so k u l at = of (cases_lt k i)
@@ -148,7 +140,7 @@ more text ts i t spots spot e n h so k u l at = of (cases_lt k i)
         let same : length spots ≡ k = omega (arith, l, ge, n) in
         let there : i ≡ k = omega (arith, l, ge) in
         let token : t ≡ u = same_some (slice_get ts i) t u e (ap (slice_get ts) there ∙ at) in
-        some_and (IsSpotOfByte text u.start) (spots ++ spot ∷ []) k spot (ap (slice_get (spots ++ spot ∷ [])) (sym same) ∙ get_last spots spot) (subst (λ (z : Token). IsSpotOfByte text z.start spot) token h)
+        some_and (IsSpotOfByte text u.start) (slice_get (spots ++ spot ∷ []) k) spot (ap (slice_get (spots ++ spot ∷ [])) (sym same) ∙ get_last spots spot) (subst (λ (z : Token). IsSpotOfByte text z.start spot) token h)
 
 -- all of them, and the end
 pub spots_all : (text : List ℕ) (ts : List Token) (i : ℕ) (spots : List Spot) (spot : Spot) → length ts ≤ i → i ≤ length ts → length spots ≡ i → IsSpotOfByte text (length text) spot → SoFar text ts i spots → AreSpots text ts (spots ++ spot ∷ [])
@@ -157,5 +149,5 @@ spots_all text ts i spots spot a b n h so =
     record {
       many = omega (arith, length_push spots spot, same);
       begin = λ k t at. kept (IsSpotOfByte text t.start) spots spot k (so k t (omega (arith, slice_get_within ts k t at, a)) at);
-      end = some_and (IsSpotOfByte text (length text)) (spots ++ spot ∷ []) (length ts) spot (ap (slice_get (spots ++ spot ∷ [])) (sym same) ∙ get_last spots spot) h;
+      end = some_and (IsSpotOfByte text (length text)) (slice_get (spots ++ spot ∷ []) (length ts)) spot (ap (slice_get (spots ++ spot ∷ [])) (sym same) ∙ get_last spots spot) h;
     }

@@ -177,7 +177,7 @@ some_from : {X : Type 0} (P : X → Type 0) (o : Option X) → IsSomeAnd o P →
 some_from P None h = absurd h
 some_from P (Some x) h = (x, refl, h)
 
-some_and : {X : Type 0} (P : X → Type 0) (o : Option X) (x : X) → o ≡ Some x → P x → IsSomeAnd o P
+pub some_and : {X : Type 0} (P : X → Type 0) (o : Option X) (x : X) → o ≡ Some x → P x → IsSomeAnd o P
 some_and P o x e h = subst (λ o. IsSomeAnd o P) (sym e) h
 
 -- the path that an import means has an import

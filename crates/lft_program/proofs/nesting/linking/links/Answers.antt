@@ -3,7 +3,7 @@ use Rattle.std.proofs.lemmas.Option.{slice_get_within}
 use Rattle.lft_tree.specs.Tree.{reactors_of}
 use Rattle.lft_resolve.{proofs.ExpansionLemmas.Chains.leads_from, specs.{Causes.IsFirst, inner.Expansion.Sources.{AreReached, LeadsBackwards}}}
 use Rattle.lft_validate.{specs.inner.Witnesses.time_causes, proofs.Sound.{first_shown, none_shown}}
-use Rattle.lft_program.specs.inner.{Linking.{AreLinked, IsTooLong}, Links.last_causes}
+use Rattle.lft_program.specs.inner.{Linking.IsTooLong, Links.last_causes}
 use Rattle.lft_program.proofs.{Connected.{ports_read, apart_read, sources_read}, Lengths.time_is_cause}
 use Rattle.lft_program.proofs.{Reaching.{first_cycle, first_long, first_sum, no_cause, are_links}, Told.{long_read, ring_read, sites_read}}
 use Rattle.lft_program.proofs.nesting.linking.links.Goals.{In-Err, In-Ok}

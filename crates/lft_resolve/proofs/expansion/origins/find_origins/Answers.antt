@@ -1,7 +1,7 @@
 use Rattle.std.proofs.Common.{◌≡◌, ◌-◌, ◌<◌, length, slice_get, Some, subst, sym, arith}
 use Rattle.lft_lists.specs.{Walks.IsCircle, inner.Walking.{IsOrder, IsWalked, Leads}}
-use Rattle.lft_resolve.{specs.inner.Expansion.Sources.ports_before, proofs.ExpansionLemmas.Chains.{circle_leads_back, no_cycle}}
-use Rattle.lft_resolve.proofs.expansion.origins.find_origins.Goals.{In-Circle}
+use Rattle.lft_resolve.specs.inner.Expansion.Sources.{ports_before}
+use Rattle.lft_resolve.proofs.{ExpansionLemmas.Chains.{circle_leads_back, no_cycle}, expansion.origins.find_origins.Goals.In-Circle}
 use Rattle.lft_resolve.proofs.expansion.origins.find_origins.Goals as goal
 
 pub reached_along-requires-clause-order : goal.reached_along-requires-clause-order

@@ -3,7 +3,7 @@ use Rattle.std.specs.Prelude.{slice_get}
 use Rattle.std.{specs.Str.IsUtf8, proofs.lemmas.{List.length_push, Option.slice_get-get_or}}
 use Rattle.lft_whole.specs.declared.tree.Import.{Import}
 use Rattle.lft_whole_parser.specs.{declared.imports.asked.WantedFile.WantedFile, inner.Imports.Files.{IsAskedBy, IsUnreadPath, paths_of}, Imports.Paths.meaning}
-use Rattle.lft_whole_parser.proofs.ImportsLemmas.{Columns.some_and, Known.{SoFar, adds_more, adds_weaker, asked_by, goes_on, numbers_all, numbers_more}}
+use Rattle.lft_whole_parser.proofs.ImportsLemmas.Known.{SoFar, adds_more, adds_weaker, asked_by, goes_on, numbers_all, numbers_more, some_and}
 use Rattle.lft_whole_parser.proofs.imports.asked.FileNumbers.numbers.Goals as goal
 
 pub returns-in_default-clause-refused : goal.returns-in_default-clause-refused
@@ -13,7 +13,7 @@ returns-in_default-clause-refused c =
     let item = c.index-imports-place.result in
     let test = c.loop-place-test.true in
     let there : slice_get imports place ≡ Some item = slice_get-get_or imports place item (omega arith) ∙ ap Some (sym c.index-imports-place.is) in
-    subst (IsUnreadPath c.args.file imports) (sym c.at.ensures) (refl, refl, (place, some_and (λ (import : Import). (item.at ≡ import.at) × (IsUtf8 import.path.items → ⊥)) imports place item there (refl, λ u. c.in_default.ensures.cases.0 (subst IsUtf8 (sym c.as_slice.ensures.value) u))))
+    subst (IsUnreadPath c.args.file imports) (sym c.at.ensures) (refl, refl, (place, some_and (λ (import : Import). (item.at ≡ import.at) × (IsUtf8 import.path.items → ⊥)) (slice_get imports place) item there (refl, λ u. c.in_default.ensures.cases.0 (subst IsUtf8 (sym c.as_slice.ensures.value) u))))
 
 pub loop-place-preserved : goal.loop-place-preserved
 loop-place-preserved c =
