@@ -43,9 +43,7 @@ fn is_no_core(fault: &Fault) -> bool {
 }
 
 /// Whether the trace that a reader of a file gives is accepted. None says nothing of it.
-// Apart, so that no type that is handed on names two borrows. Not inlined: csv's readers take 64 KiB of the
-// stack, which are to be gone where the text is read once more.
-#[inline(never)]
+// Apart, so that no type that is handed on names two borrows.
 fn judge_sized<T: Threads + Sync, R: Read + Drop, W: Write>(
     rt: &T,
     alloc: Global,
