@@ -299,7 +299,13 @@ impl<'w, F: Files + Threads + Sync, W: Write> Session<'w, F, W> {
             }
         };
         let mut reader = SizedReader::new(&mut *file, size);
-        match judge_sized(rt, alloc, &plan, path, &mut reader, workers, self.out) {
+        // Two calls, so that none is inlined: csv's readers would stand on the stack here while other texts are read.
+        let judged = if workers == 1 {
+            judge_sized(rt, alloc, &plan, path, &mut reader, 1, self.out)
+        } else {
+            judge_sized(rt, alloc, &plan, path, &mut reader, workers, self.out)
+        };
+        match judged {
             Ok(Some(answer)) => return Ok(answer),
             Ok(None) => {}
             Err(_) if reader.is_too_large() => return Err(too_large(alloc, path)),
