@@ -1,11 +1,20 @@
-use Rattle.lft_monitor.proofs.Following.{odd_of_first}
+use Rattle.std.proofs.Common.{◌∙◌, ◌++◌, List, ap, refl, subst, sym}
+use Rattle.std.proofs.lemmas.Result.{IfOk-weaker}
+use Rattle.lft_ir.specs.declared.steps.row.Row.{Row}
+use Rattle.lft_model.specs.Fitting.{EachFits}
+use Rattle.lft_monitor.{specs.inner.Follows.TellsProgress, proofs.Following.more_next}
 use Rattle.lft_monitor.proofs.follower.Follower.add.Goals as goal
 
-pub returns-in-None : goal.returns-in-None
-returns-in-None c = λ t is. let on = (rw c.in-None.is at c.in_ok-add_few.ensures) t is in (on.follows, on.quiet)
+pub go_on-requires : goal.go_on-requires
+go_on-requires c =
+    let t = c.requires.stands.0 in
+    let is = c.requires.stands.1 in
+    let more = c.args.more.now in
+    let on = more_next c.args.plan.now t more c.args.self.now _ refl refl refl c.in-Ok.ensures.items is.0 in
+    record { fit = subst (λ (u : List Row). EachFits c.args.plan.now.program u) (sym (on.1 ∙ ap (λ (u : List Row). u ++ more) is.1)) c.requires.fit; stands = (t, on.0) }
 
-pub returns-in-Some-Broken : goal.returns-in-Some-Broken
-returns-in-Some-Broken c = λ t is. rw c.in-Some-Broken.field-0-is at ((rw c.in-Some-Broken.is at c.in_ok-add_few.ensures) t is)
-
-pub returns-in-Some-Odd : goal.returns-in-Some-Odd
-returns-in-Some-Odd c = λ t is. odd_of_first c.args.plan.now t c.args.more.now c.args.self.now is c.in-Some-Odd.line (rw c.in-Some-Odd.field-0-is at ((rw c.in-Some-Odd.is at c.in_ok-add_few.ensures) t is))
+pub returns : goal.returns
+returns c = IfOk-weaker c.go_on.result _ _ (λ p told t is.
+    let more = c.args.more.now in
+    let on = more_next c.args.plan.now t more c.args.self.now _ refl refl refl c.in-Ok.ensures.items is.0 in
+    subst (λ (u : List Row). TellsProgress c.args.plan.now t u c.go_on.new.self p) (on.1 ∙ ap (λ (u : List Row). u ++ more) is.1) (told t on.0)) c.go_on.ensures
