@@ -48,11 +48,7 @@ pub struct Log {
 }
 
 /// Goes on past the rows that the follower has.
-fn add_rows(
-    follower: &mut Follower,
-    alloc: Global,
-    plan: &Plan,
-) -> Result<Option<Told>, LogFault>
+fn add_rows(follower: &mut Follower, alloc: Global, plan: &Plan) -> Result<Option<Told>, LogFault>
     requires fit { EachFits plan.now.program (next_of follower.old) }
     requires stands { (t : List TheRow) × IsFollowerOf plan.now t follower.old }
     ensures told { IfOk result (λ o. (t : List TheRow) → IsFollowerOf plan.now t follower.old → MatchOption o (HasGonePast plan.now (t ++ next_of follower.old) follower.new × IsQuiet plan.now (t ++ next_of follower.old)) (λ told. (until : Option TheTag) (more : List TheRow) → IsSaid plan.now until (t ++ next_of follower.old) more told)) }

@@ -197,7 +197,10 @@ pub(crate) fn tell_all(
     let mut gone = 0;
     for place in 0..inputs.len() {
         let among = inputs[place];
-        latest = latest_of(latest, rows_between(follower.next(), gone, among.rows_before));
+        latest = latest_of(
+            latest,
+            rows_between(follower.next(), gone, among.rows_before),
+        );
         gone = among.rows_before;
         let number = before + place as u64 + 2;
         if let Err(fault) = tell_behind(follower, plan, latest, among.entry, number) {

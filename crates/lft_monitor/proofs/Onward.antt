@@ -67,10 +67,10 @@ module _ (xs : List Row) (begin end : ℕ) (up : begin ≤ end) (within : end �
       let same : length (slice_range xs 0 end) ≡ end = omega (arith, long) in
       let parted : end ≡ begin + (end - begin) = omega (arith, up) in
       sym (
-        ap (λ (n : ℕ). slice_range (slice_range xs 0 end) begin n) same
-        ∙ ap (λ (u : List Row). take (end - begin) (drop begin u)) (first ∙ ap (λ (n : ℕ). take n xs) parted)
-        ∙ ap (λ (u : List Row). take (end - begin) u) (drop-take begin (end - begin) xs)
-        ∙ take-take (end - begin) (end - begin) (drop begin xs) (omega arith)
+      ap (λ (n : ℕ). slice_range (slice_range xs 0 end) begin n) same
+      ∙ ap (λ (u : List Row). take (end - begin) (drop begin u)) (first ∙ ap (λ (n : ℕ). take n xs) parted)
+      ∙ ap (λ (u : List Row). take (end - begin) u) (drop-take begin (end - begin) xs)
+      ∙ take-take (end - begin) (end - begin) (drop begin xs) (omega arith)
       )
 
   pub next_then : drop (end - begin) (drop begin xs) ≡ drop end xs

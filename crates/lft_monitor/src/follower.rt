@@ -223,12 +223,7 @@ impl Follower {
     }
 
     /// Goes on past so many more of its rows.
-    fn go_to(
-        &mut self,
-        alloc: Global,
-        plan: &Plan,
-        count: usize,
-    ) -> Result<Option<Hitch>, NoMemory>
+    fn go_to(&mut self, alloc: Global, plan: &Plan, count: usize) -> Result<Option<Hitch>, NoMemory>
         requires count { count ≤ length (next_of self.old) }
         requires short { self.old.held + count ≤ 4000000 }
         requires fit { EachFits plan.now.program (next_of self.old) }

@@ -25,8 +25,7 @@ returns-in-Ok-Some-clause-told c = λ t follows is.
     let end = c.in-Some.end in
     let until = c.args.asked.now.until in
     let past = c.in-Some.ensures.past t is in
-    let said = rw c.in-Ok-Some.field-0-is at (c.in-Ok-Some.ensures.told t (c.cut.ensures.stands c.args.plan.now t follows)) in
-    (
+    let said = rw c.in-Ok-Some.field-0-is at (c.in-Ok-Some.ensures.told t (c.cut.ensures.stands c.args.plan.now t follows)) in (
       take end rows,
       drop end rows,
       sym (take-append-drop end rows),
@@ -42,8 +41,7 @@ returns-in-Ok-None-clause-told c = λ t follows is.
     let until = c.args.asked.now.until in
     let past = c.in-Some.ensures.past t is in
     let on = rw c.in-Ok-None.field-0-is at (c.in-Ok-None.ensures.told t (c.cut.ensures.stands plan t follows)) in
-    let both = subst (λ (x : List Row). HasGonePast plan (t ++ x) c.add_rows-2.new.follower × IsQuiet plan (t ++ x)) c.cut.ensures.next on in
-    (
+    let both = subst (λ (x : List Row). HasGonePast plan (t ++ x) c.add_rows-2.new.follower × IsQuiet plan (t ++ x)) c.cut.ensures.next on in (
       take end rows,
       drop end rows,
       sym (take-append-drop end rows),

@@ -6,11 +6,14 @@ use Rattle.lft_trace.proofs.LogTableFacts.{among, input_more, row_more, start}
 use Rattle.lft_trace.proofs.log_table.read_lines_of.Goals as goal
 
 pub lines-init : goal.lines-init
-lines-init c = (record {
-  read = [];
-  behind = sym (append-nil c.args.rows.now.items);
-  gone = rw c.new-inputs.ensures.items (start c.args.names.now c.args.text c.new.result c.new-records.result c.new.ensures.inner c.new.ensures.position c.new-records.ensures);
-}, tt)
+lines-init c = (
+  record {
+    read = [];
+    behind = sym (append-nil c.args.rows.now.items);
+    gone = rw c.new-inputs.ensures.items (start c.args.names.now c.args.text c.new.result c.new-records.result c.new.ensures.inner c.new.ensures.position c.new-records.ensures);
+  },
+  tt,
+)
 
 pub returns-in-Err-read_entry : goal.returns-in-Err-read_entry
 returns-in-Err-read_entry c =
@@ -21,17 +24,21 @@ returns-in-Err-read_entry c =
     let fault = subst (λ (p : Parts). FaultAt p [] 2 fields c.in-Err-read_entry.fault) c.program.ensures.value (c.in-Err-read_entry.ensures.fault []) in
     let few = gone.few in
     let line = gone.line in
-    let last = gone.last in
-    (at.read, at.behind, omega (arith, few, line, last), record {
-      lines = gone.lines;
-      first = gone.first;
-      rest = records_left in_cursor c.lines.records;
-      whole = gone.whole;
-      each = gone.each;
-      rows_are = gone.rows_are;
-      inputs_are = gone.inputs_are;
-      stops = (fields, records_left in_cursor c.next.new.self, found.left, (fault, c.if-begins_as_input.ensures.0 refl));
-    })
+    let last = gone.last in (
+      at.read,
+      at.behind,
+      omega (arith, few, line, last),
+      record {
+        lines = gone.lines;
+        first = gone.first;
+        rest = records_left in_cursor c.lines.records;
+        whole = gone.whole;
+        each = gone.each;
+        rows_are = gone.rows_are;
+        inputs_are = gone.inputs_are;
+        stops = (fields, records_left in_cursor c.next.new.self, found.left, (fault, c.if-begins_as_input.ensures.0 refl));
+      },
+    )
 
 pub lines-preserved-then-begins_as_input : goal.lines-preserved-then-begins_as_input
 lines-preserved-then-begins_as_input c =

@@ -16,6 +16,6 @@ returns-clause-stands c = λ plan t is.
     let end = old.held + c.args.count in
     let long = length-take-le end items (let a = c.requires.count in let b = length-drop old.held items in let e = is.within in omega (arith, a, b, e)) in
     follower_as plan t old _ refl refl
-      (subst (λ (u : List Row). old.held ≤ length u) (sym c.truncate.ensures.items) (omega (arith, long)))
-      (ap (λ (u : List Row). take old.held u) c.truncate.ensures.items ∙ take-take old.held end items (omega arith))
-      is
+    (subst (λ (u : List Row). old.held ≤ length u) (sym c.truncate.ensures.items) (omega (arith, long)))
+    (ap (λ (u : List Row). take old.held u) c.truncate.ensures.items ∙ take-take old.held end items (omega arith))
+    is

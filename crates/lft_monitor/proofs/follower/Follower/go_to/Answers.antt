@@ -40,8 +40,8 @@ returns-in-Ok-clause-on c = λ t is.
     let to = (rw c.in-Ok.is at c.in_ok-begin.ensures.judged) (done_of t old) (held_over plan t more old is s same fit) (going_over plan t more old is s same) in
     let left = c.drop_first.ensures in
     followed_on plan t more old is s same _ begin to
-      (subst (λ (u : List Row). end - begin ≤ length u) (sym left) (within_then items begin end up within))
-      (ap (λ (u : List Row). take (end - begin) u) left ∙ held_then items begin end up within ∙ ap (λ (u : List Row). slice_range (slice_range u 0 end) begin (length (slice_range u 0 end))) (sym c.as_slice.ensures.value))
+    (subst (λ (u : List Row). end - begin ≤ length u) (sym left) (within_then items begin end up within))
+    (ap (λ (u : List Row). take (end - begin) u) left ∙ held_then items begin end up within ∙ ap (λ (u : List Row). slice_range (slice_range u 0 end) begin (length (slice_range u 0 end))) (sym c.as_slice.ensures.value))
 
 pub returns-in-Ok-clause-next : goal.returns-in-Ok-clause-next
 returns-in-Ok-clause-next c =
