@@ -14,7 +14,7 @@ use Rattle.lft_monitor.specs.declared.{gone.{Going.Going, Halt.Halt}, follower.{
 use Rattle.lft_monitor.specs.declared.reach.Reach.{Reach}
 use Rattle.lft_monitor.specs.inner.Going.{AreEnded, AreFewOpenRuns, IsGoing, IsGoneTo, IsHalt}
 use Rattle.lft_monitor.specs.inner.Follows.{done_of, held_of, next_of, IsFollowedOn, IsFollowerOf, IsHeld, IsHitch, IsJudgedOf, IsJudgedTo, IsOdd, IsOddBehind, IsTurn, IsUnjudged, BeginsLast}
-use Rattle.lft_monitor.specs.Follows.{IsCleanSoFar, IsCleanTo, IsJudged, IsOddSoFar, IsQuiet, IsSureBehind}
+use Rattle.lft_monitor.specs.Follows.{IsCleanSoFar, IsCleanTo, IsJudged, IsOddSoFar, IsQuiet, IsSureBehind, IsSureSoFar}
 use Rattle.lft_monitor.proofs.{Judging.{accepted_rise, parted, rest_at}, Over.{apart, keeps_but_last, quiet}, Telling.{IsOf, bad_is_sure, lost_is_sure}}
 
 -- what is gone over is gone over still when more rows come behind

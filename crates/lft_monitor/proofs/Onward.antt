@@ -8,7 +8,7 @@ use Rattle.lft_model.specs.{declared.breach.Breach.Breach, Fitting.EachFits, Pla
 use Rattle.lft_model.proofs.Places.{slice_get_take}
 use Rattle.lft_stream.proofs.Parting.{up_to_second}
 use Rattle.lft_monitor.specs.declared.follower.{Follower.Follower, Hitch.Hitch}
-use Rattle.lft_monitor.specs.inner.Follows.{done_of, held_of, next_of, HasGonePast, IsFollowedOn, IsFollowerOf, IsHitch, IsOddBehind}
+use Rattle.lft_monitor.specs.inner.Follows.{done_of, held_of, next_of, HasGonePast, IsFollowedOn, IsFollowerOf, IsHitch}
 use Rattle.lft_monitor.specs.Sure.{IsFirstBefore}
 use Rattle.lft_monitor.specs.Follows.{breach_of, AreTooMany, IsBadRow, IsLostRun, IsQuiet, IsSureSoFar, KeepsButLast}
 use Rattle.lft_monitor.specs.declared.follower.Hitch.TheVariants as hitch

@@ -8,7 +8,7 @@ use Rattle.lft_ir.specs.declared.steps.row.{Row.Row, Step.TheVariants.Start}
 use Rattle.lft_model.{specs.{Plans.PlanParts, Presence.stop, Runs.end_row, Breaches.IsUnended}, proofs.Places.slice_get_within}
 use Rattle.lft_monitor.specs.declared.follower.Follower.{Follower}
 use Rattle.lft_monitor.specs.declared.open.StillOpen.{StillOpen}
-use Rattle.lft_monitor.specs.{inner.{Follows.IsFollowerOf, OpenRuns.EndBefore}, OpenRuns.{AreOpenRuns, IsOpenRun, run_in}}
+use Rattle.lft_monitor.specs.{inner.{Follows.{IsFollowerOf, held_of}, OpenRuns.EndBefore}, OpenRuns.{AreOpenRuns, IsOpenRun, run_in}}
 use Rattle.lft_monitor.proofs.{Ended.at_end, Hand.{ended, unended_whole}}
 
 -- whether the row starts a run without an end, where its end is looked for up to the last of its reaction

@@ -1,4 +1,4 @@
-use Rattle.std.proofs.Common.{◌∙◌, ap, arith, take}
+use Rattle.std.proofs.Common.{◌∙◌, ap, take}
 use Rattle.lft_monitor.proofs.Onward.{shifted}
 use Rattle.lft_monitor.proofs.follower.drop_first.Goals as goal
 

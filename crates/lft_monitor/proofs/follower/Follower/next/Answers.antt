@@ -1,4 +1,4 @@
-use Rattle.std.proofs.Common.{◌≡◌, ◌∙◌, List, length, slice_range, ap, sym}
+use Rattle.std.proofs.Common.{◌∙◌, List, slice_range, ap}
 use Rattle.std.proofs.lemmas.List.{take_rest}
 use Rattle.lft_ir.specs.declared.steps.row.Row.{Row}
 use Rattle.lft_monitor.proofs.follower.Follower.next.Goals as goal
