@@ -56,7 +56,7 @@ returns-in-Some-Broken c = λ t is.
     let mid = c.parts.self in
     let way = c.parts.invariant t is in
     let hitch = (rw c.in-Some-Broken.is at c.in_ok-go_to.ensures.on) _ way.follows in
-    rw c.in-Some-Broken.field-0-is at hitch_on plan t (next_of old) old mid way c.min-count.result _ hitch
+    rw c.in-Some-Broken.field-0-is at (hitch_on plan t (next_of old) old mid way c.min-count.result _ hitch)
 
 pub returns-in-Some-Odd : goal.returns-in-Some-Odd
 returns-in-Some-Odd c = λ t is.
@@ -65,4 +65,4 @@ returns-in-Some-Odd c = λ t is.
     let mid = c.parts.self in
     let way = c.parts.invariant t is in
     let hitch = (rw c.in-Some-Odd.is at c.in_ok-go_to.ensures.on) _ way.follows in
-    odd_of_first plan t (next_of old) old is c.in-Some-Odd.line (rw c.in-Some-Odd.field-0-is at hitch_on plan t (next_of old) old mid way c.min-count.result _ hitch)
+    odd_of_first plan t (next_of old) old is c.in-Some-Odd.line (rw c.in-Some-Odd.field-0-is at (hitch_on plan t (next_of old) old mid way c.min-count.result _ hitch))
