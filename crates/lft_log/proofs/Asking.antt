@@ -4,10 +4,10 @@ use Rattle.std.specs.Prelude.{MatchOption}
 use Rattle.std.proofs.lemmas.List.{append_assoc}
 use native.Mathlib.Decide.{dec_lt}
 use Rattle.lft_tag.{specs.{declared.Tag.Tag, Tags.{Before, UpTo}}, proofs.Order.{Before-UpTo, Before-weaken, UpTo-not, UpTo-refl, order_cases}}
-use Rattle.lft_lists.proofs.{Picked.take_next, Places.{get_append_cases, get_last, get_left, get_push_cases, same_at}}
+use Rattle.lft_lists.proofs.{Picked.take_next, Places.{get_last, get_left, get_push_cases, same_at}}
 use Rattle.lft_ir.specs.declared.steps.row.Row.{Row}
 use Rattle.lft_model.proofs.Places.{slice_get_within}
-use Rattle.lft_log.specs.{inner.Told.{ComeTo, IsAskedOf}, Told.{IsFirstFrom, IsPastEnd, IsWithinAsked, KeepTo}, declared.asked.Asked.Asked}
+use Rattle.lft_log.specs.{inner.Told.{ComeTo, IsAskedOf}, Told.{IsFirstFrom, IsPastEnd, KeepTo}, declared.asked.Asked.Asked}
 
 -- each row is before the tag
 abbrev pub AreBefore : List Row → Tag → Type 0
@@ -58,27 +58,6 @@ asked_come t a asked last e f come = subst (λ (o : Option Tag). MatchOption o (
 
 pub come_asked : (t : List Row) (a : Asked) (asked last : Tag) → a.until ≡ Some asked → a.last ≡ Some last → IsAskedOf t a → ComeTo asked t last
 come_asked t a asked last e f is = subst (λ (o : Option Tag). MatchOption o (AreBefore t asked) (ComeTo asked t)) f (subst (λ (o : Option Tag). MatchOption o (Unit {0}) (λ asked. MatchOption a.last (AreBefore t asked) (ComeTo asked t))) e is)
-
--- where none of some rows is past the end, none of the first of them is
-pub kept_before : (until : Option Tag) (t first behind rows : List Row) → rows ≡ first ++ behind → KeepTo until (t ++ rows) → KeepTo until (t ++ first)
-kept_before until t first behind rows parted keeps i x e = go until (keeps i x (longer i x e))
-  where
-    whole : (t ++ first) ++ behind ≡ t ++ rows
-    whole = append_assoc t first behind ∙ ap (λ (u : List Row). t ++ u) (sym parted)
-
-    longer : (i : ℕ) (x : Row) → slice_get (t ++ first) i ≡ Some x → slice_get (t ++ rows) i ≡ Some x
-    longer i x e = ap (λ (u : List Row). slice_get u i) (sym whole) ∙ get_left (t ++ first) behind i x e
-
-    go : (until : Option Tag) → IsWithinAsked until (t ++ rows) x.tag → IsWithinAsked until (t ++ first) x.tag
-    go None within = tt
-    go (Some asked) within = λ place row is. within place row (record {
-      there = longer place row is.there;
-      from = is.from;
-      first = λ j y l f. is.first j y l (let m = slice_get_within (t ++ first) place row is.there in shorter j y (omega (arith, l, m)) f);
-    })
-      where
-        shorter : (j : ℕ) (y : Row) → j < length (t ++ first) → slice_get (t ++ rows) j ≡ Some y → slice_get (t ++ first) j ≡ Some y
-        shorter j y l f = ⊎_elim (λ p. p) (λ p. let at = p.1 in absurd (omega (arith, l, at))) (get_append_cases (t ++ first) behind j y (ap (λ (u : List Row). slice_get u j) whole ∙ f))
 
 -- ---- one row more
 

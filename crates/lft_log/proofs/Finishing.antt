@@ -1,5 +1,5 @@
 -- What is told at the end, where no half line is left.
-use Rattle.std.proofs.Common.{◌≡◌, ◌∙◌, ◌∷◌, ◌++◌, inl, inr, ℕ, Bool, true, false, List, [], Option, None, Some, append-nil, refl, subst, sym}
+use Rattle.std.proofs.Common.{◌≡◌, ◌∙◌, ◌∷◌, ◌++◌, inl, inr, ℕ, Bool, true, false, List, [], Option, append-nil, refl, subst, sym}
 use Rattle.std.specs.Prelude.{Err, IfOk, Ok, Result}
 use Rattle.std.{specs.Global.Vec, proofs.lemmas.List.append_assoc}
 use Rattle.lft_tag.specs.declared.{NoMemory.NoMemory, Tag.Tag}

@@ -1,7 +1,7 @@
 -- What the first of whole lines tell.
 use Rattle.std.proofs.Common.{◌≡◌, ◌+◌, ◌-◌, ◌≤◌, ◌∙◌, ℕ, zero, suc, List, [], ◌∷◌, None, Option, IfSome, length, take, drop, slice_range, refl, sym, ap, subst, arith}
 use Rattle.std.proofs.lemmas.List.{length-drop, length-take, take-take, take_all}
-use Rattle.lft_ir.specs.{Parts.Parts, Steps.Fits.RowsFit}
+use Rattle.lft_ir.specs.{Parts.Parts, declared.steps.row.Row.Row, Steps.Fits.RowsFit}
 use Rattle.lft_trace.specs.{inner.LogTables.{InputsFit, ReadsLines, StopsAt}, declared.log_table.{LineFault.LineFault, LogLines.LogLines}}
 use Rattle.lft_log.specs.{Logs.{AreLines, ArePlain, inputs, records_below, rows}, inner.Logs.{BeginsOdd, IsFaultBehind, IsFront}}
 use Rattle.lft_log.specs.declared.{fault.LogFault.LogFault, front.LinesRead.LinesRead}
@@ -35,15 +35,15 @@ lines_there text a n b within are =
 abbrev pub IsNextFault : Option LineFault → List ℕ → ℕ → ℕ → LogFault → Type 0
 IsNextFault fault behind row input f = (program : Parts) (records : List (List (List ℕ))) → StopsAt program records fault → BeginsOdd behind → IsFaultBehind program records behind row input f
 
-pub front_is : (program : Parts) (text : List ℕ) (rows_before inputs_before plain : ℕ) (read : LogLines) (front : LinesRead) (row input : ℕ)
+pub front_is : (program : Parts) (text : List ℕ) (rows_before inputs_before plain : ℕ) (t : List Row) (read : LogLines) (front : LinesRead) (row input : ℕ)
     → plain ≤ length text → AreLines (take plain text) → ArePlain (take plain text) → BeginsOdd (drop plain text)
-    → ReadsLines program (records_below (slice_range text 0 plain)) read → RowsFit program read.rows.items → InputsFit program read.inputs.items
-    → front.rows ≡ read.rows → front.inputs ≡ read.inputs
+    → ReadsLines program (records_below (slice_range text 0 plain)) t read → RowsFit program t → InputsFit program read.inputs.items
+    → front.inputs ≡ read.inputs
     → (front.fault ≡ None → (read.fault ≡ None) × (length (slice_range text plain (length text)) ≡ 0))
     → IfSome front.fault (IsNextFault read.fault (slice_range text plain (length text)) row input)
-    → row ≡ rows_before + length read.rows.items + 2 → input ≡ inputs_before + length read.inputs.items + 2
-    → IsFront program text rows_before inputs_before front
-front_is program text rows_before inputs_before plain read front row input within are quiet odd reads rows_fit inputs_fit rows_same inputs_same all none row_is input_is = record {
+    → row ≡ rows_before + length t + 2 → input ≡ inputs_before + length read.inputs.items + 2
+    → IsFront program text rows_before inputs_before t front
+front_is program text rows_before inputs_before plain t read front row input within are quiet odd reads rows_fit inputs_fit inputs_same all none row_is input_is = record {
   plain = plain;
   within = within;
   are = are;
@@ -53,9 +53,9 @@ front_is program text rows_before inputs_before plain read front row input withi
   others = reads.rest;
   whole = ap records_below (sym (range_take text plain)) ∙ reads.whole;
   each = reads.each;
-  rows_are = ap (λ v. v.items) rows_same ∙ reads.rows_are;
+  rows_are = reads.rows_are;
   inputs_are = ap (λ v. v.items) inputs_same ∙ reads.inputs_are;
-  rows_fit = subst (λ v. RowsFit program v.items) (sym rows_same) rows_fit;
+  rows_fit = rows_fit;
   inputs_fit = subst (λ v. InputsFit program v.items) (sym inputs_same) inputs_fit;
   all = λ e.
       let a = all e in

@@ -1,15 +1,16 @@
 -- Rows of a log that are read, over more lines.
 use Rattle.std.proofs.Common.{◌≡◌, ◌+◌, ◌-◌, ◌<◌, ◌≤◌, ◌∙◌, ⊎_elim, ℕ, Bool, true, false, List, [], ◌∷◌, ◌++◌, Option, Some, None, length, take, drop, slice_range, refl, sym, ap, subst, arith, length-append}
-use Rattle.std.specs.Prelude.{MatchOption, is_some}
-use Rattle.std.proofs.lemmas.{Bool.false≢true, List.{append_assoc, append-nil, drop-drop, length-take, take-append-drop}}
+use Rattle.std.specs.{Global.Vec, Prelude.{MatchOption, is_some}}
+use Rattle.std.proofs.lemmas.{Bool.false≢true, List.{append_assoc, append-nil, drop-drop, take-append-drop}}
 use Rattle.lft_lists.proofs.Places.{get_append_cases}
-use Rattle.lft_ir.{specs.{Parts.Parts, declared.steps.row.Row.Row, Steps.{Fits.RowsFit, Inputs.InOrder}}, proofs.Ranges.slice_get-drop}
+use Rattle.lft_ir.specs.{Parts.Parts, declared.steps.row.Row.Row, Steps.{Fits.RowsFit, Inputs.InOrder}}
 use Rattle.lft_trace.specs.{inner.LogTables.inputs_behind, declared.log_table.Line.Line}
-use Rattle.lft_model.{specs.Plans.PlanParts, proofs.Places.slice_get_take}
-use Rattle.lft_monitor.specs.inner.Follows.{IsFollowerOf}
+use Rattle.lft_model.specs.Plans.{PlanParts}
+use Rattle.lft_monitor.specs.inner.Follows.{HasGonePast, IsFollowerOf, next_of}
 use Rattle.lft_log.specs.{Logs.{HasManyRows, IsHead, rows}, inner.{Logs.IsFront, Told.{HasRead, IsReadOn, IsReadSoFar, IsTaken}}, Told.TellsPlan}
 use Rattle.lft_log.specs.declared.{front.LinesRead.LinesRead, rows.LogRows.LogRows, telling.Taken.Taken}
-use Rattle.lft_log.proofs.{Behind.rows_both, Fronts.rest_from, Holding.{header_there, hold_front}, Taking.{grown_tells, tells_all}, Plans.told_none}
+use Rattle.lft_log.proofs.{Behind.rows_both, Fronts.rest_from, Holding.{header_there, hold_front}, InPlace.{each_first, next_read, read_behind, with_rows}}
+use Rattle.lft_log.proofs.{Taking.{grown_tells, tells_all}, Plans.told_none}
 
 -- a part of what is left, and what is left behind it
 pub split_at : (text behind : List ℕ) (a b : ℕ) → a ≤ b → slice_range text a b ++ (drop b text ++ behind) ≡ drop a text ++ behind
@@ -22,21 +23,11 @@ split_at text behind a b up = sym (append_assoc (slice_range text a b) (drop b t
     both = ap (λ (x : List ℕ). take (b - a) (drop a text) ++ x) left ∙ take-append-drop (b - a) (drop a text)
 
 -- the first of rows fit
-first_short : (t : List Row) (n : ℕ) → length (slice_range t 0 n) ≤ length t
-first_short t n = let l = length-append (take (n - 0) t) (drop (n - 0) t) in let e = ap (λ (s : List Row). length s) (take-append-drop (n - 0) t) in omega (arith, l, e)
+first_short : (t : List Row) (n : ℕ) → length (take n t) ≤ length t
+first_short t n = let l = length-append (take n t) (drop n t) in let e = ap (λ (s : List Row). length s) (take-append-drop n t) in omega (arith, l, e)
 
-pub fit_first : (program : Parts) (t : List Row) (n : ℕ) → RowsFit program t → RowsFit program (slice_range t 0 n)
-fit_first program t n fit = record {
-  few = let l = first_short t n in let m = fit.few in omega (arith, l, m);
-  each = λ i row q. fit.each i row (slice_get_take (n - 0) t i row q).1;
-}
-
--- one of rows fits
-pub fit_part : (program : Parts) (t : List Row) (i : ℕ) → RowsFit program t → RowsFit program (slice_range t i (i + 1))
-fit_part program t i fit = record {
-  few = let l = length-take (i + 1 - i) (drop i t) in omega (arith, l);
-  each = λ j row q. fit.each (i + j) row (sym (slice_get-drop t i j) ∙ (slice_get_take (i + 1 - i) (drop i t) j row q).1);
-}
+pub fit_first : (program : Parts) (t : List Row) (n : ℕ) → RowsFit program t → RowsFit program (take n t)
+fit_first program t n fit = record { few = let l = first_short t n in let m = fit.few in omega (arith, l, m); each = each_first program t n fit.each }
 
 -- more rows fit
 pub fit_none : (program : Parts) (t : List Row) → t ≡ [] → RowsFit program t
@@ -63,36 +54,36 @@ none_is None e = refl
 none_is (Some x) e = absurd (false≢true (sym e))
 
 -- the first lines of a front are taken behind those that are read
-module _ (base old new : PlanParts) (bytes text behind : List ℕ) (r : LogRows) (rows_before inputs_before : ℕ) (front : LinesRead) (taken : Taken) (t : List Row) (so : IsReadSoFar base old bytes (text ++ behind) r) (given : IsFront old.program text rows_before inputs_before front) (program : new.program ≡ old.program) (are : (s : List Row) (lines : List Line) → IsFollowerOf old s r.follower → front.rows.items ≡ rows lines → front.inputs.items ≡ inputs_behind 0 lines → IsTaken old new s inputs_before front lines taken) (few : length front.rows.items ≤ 4000000 - length r.rows.items) (e : t ≡ r.rows.items ++ slice_range front.rows.items 0 taken.rows) where
-  fronts : IsFront base.program text rows_before inputs_before front
-  fronts = subst (λ (p : Parts). IsFront p text rows_before inputs_before front) so.tells.told.program given
+module _ (base old new : PlanParts) (bytes text behind : List ℕ) (r : LogRows) (rows_before inputs_before : ℕ) (v : Vec Row) (read : List Row) (front : LinesRead) (taken : Taken) (t : List Row) (so : IsReadSoFar base old bytes (text ++ behind) r) (rows_are : v.items ≡ r.follower.rows.items ++ read) (given : IsFront old.program text rows_before inputs_before read front) (program : new.program ≡ old.program) (are : (s : List Row) (lines : List Line) → IsFollowerOf old s (with_rows r.follower v) → next_of (with_rows r.follower v) ≡ rows lines → front.inputs.items ≡ inputs_behind 0 lines → IsTaken old new s inputs_before front lines taken) (few : length read ≤ 4000000 - length r.rows.items) (e : t ≡ r.rows.items ++ take taken.rows read) where
+  fronts : IsFront base.program text rows_before inputs_before read front
+  fronts = subst (λ (p : Parts). IsFront p text rows_before inputs_before read front) so.tells.told.program given
 
   takes : IsTaken old new (rows so.tells.lines) inputs_before front fronts.lines taken
-  takes = are (rows so.tells.lines) fronts.lines (subst (λ (s : List Row). IsFollowerOf old s r.follower) (sym so.tells.rows_are) so.follower) fronts.rows_are fronts.inputs_are
+  takes = are (rows so.tells.lines) fronts.lines (subst (λ (s : List Row). IsFollowerOf old s (with_rows r.follower v)) (sym so.tells.rows_are) (read_behind old r.rows.items read r.follower v rows_are so.follower)) (next_read old r.rows.items read r.follower v rows_are so.follower ∙ fronts.rows_are) fronts.inputs_are
 
-  whole : t ≡ rows so.tells.lines ++ slice_range front.rows.items 0 taken.rows
-  whole = e ∙ ap (λ (s : List Row). s ++ slice_range front.rows.items 0 taken.rows) (sym so.tells.rows_are)
+  whole : t ≡ rows so.tells.lines ++ take taken.rows read
+  whole = e ∙ ap (λ (s : List Row). s ++ take taken.rows read) (sym so.tells.rows_are)
 
   pub rows_fit : RowsFit new.program t
-  rows_fit = subst (λ (p : Parts). RowsFit p t) (sym program) (fit_more old.program r.rows.items (slice_range front.rows.items 0 taken.rows) t so.fit (fit_first old.program front.rows.items taken.rows given.rows_fit) fewer e)
+  rows_fit = subst (λ (p : Parts). RowsFit p t) (sym program) (fit_more old.program r.rows.items (take taken.rows read) t so.fit (fit_first old.program read taken.rows given.rows_fit) fewer e)
     where
-      fewer : length (slice_range front.rows.items 0 taken.rows) ≤ 4000000 - length r.rows.items
+      fewer : length (take taken.rows read) ≤ 4000000 - length r.rows.items
       fewer =
-          let l : length (slice_range front.rows.items 0 taken.rows) ≤ length front.rows.items = first_short front.rows.items taken.rows in
+          let l : length (take taken.rows read) ≤ length read = first_short read taken.rows in
           omega (arith, l, few)
 
   pub rows_read : (is_cut : Bool) → is_cut ≡ r.is_cut → ((others : List (List (List ℕ))) × (rest : List ℕ) × TellsPlan base bytes new t others rest) × RowsFit new.program t × (is_cut ≡ true → HasManyRows base.program bytes)
-  rows_read is_cut same = ((_, _, grown_tells base old new bytes text behind so.tells.lines rows_before inputs_before front taken so.tells.held fronts takes so.tells.timely so.tells.told t whole), rows_fit, λ yes. absurd (false≢true (sym so.uncut ∙ sym same ∙ yes)))
+  rows_read is_cut same = ((_, _, grown_tells base old new bytes text behind so.tells.lines rows_before inputs_before read front taken so.tells.held fronts takes so.tells.timely so.tells.told t whole), rows_fit, λ yes. absurd (false≢true (sym so.uncut ∙ sym same ∙ yes)))
 
   pub all_read : taken.fault ≡ None → TellsPlan base bytes new t [] behind
-  all_read none = tells_all base old new bytes text behind so.tells.lines rows_before inputs_before front taken so.tells.held fronts takes so.tells.timely so.tells.told none t whole
+  all_read none = tells_all base old new bytes text behind so.tells.lines rows_before inputs_before read front taken so.tells.held fronts takes so.tells.timely so.tells.told none t whole
 
 -- with a front the log has more rows than a table may have
-pub cut_rows : (base old : PlanParts) (bytes text behind : List ℕ) (r : LogRows) (rows_before inputs_before : ℕ) (front : LinesRead) → IsReadSoFar base old bytes (text ++ behind) r → IsFront old.program text rows_before inputs_before front → 4000000 < length r.rows.items + length front.rows.items → HasManyRows base.program bytes
-cut_rows base old bytes text behind r rows_before inputs_before front so given many = (so.tells.lines ++ fronts.lines, fronts.others, _, hold_front base.program bytes text behind so.tells.lines rows_before inputs_before front so.tells.held fronts, more)
+pub cut_rows : (base old : PlanParts) (bytes text behind : List ℕ) (r : LogRows) (rows_before inputs_before : ℕ) (read : List Row) (front : LinesRead) → IsReadSoFar base old bytes (text ++ behind) r → IsFront old.program text rows_before inputs_before read front → 4000000 < length r.rows.items + length read → HasManyRows base.program bytes
+cut_rows base old bytes text behind r rows_before inputs_before read front so given many = (so.tells.lines ++ fronts.lines, fronts.others, _, hold_front base.program bytes text behind so.tells.lines rows_before inputs_before read front so.tells.held fronts, more)
   where
-    fronts : IsFront base.program text rows_before inputs_before front
-    fronts = subst (λ (p : Parts). IsFront p text rows_before inputs_before front) so.tells.told.program given
+    fronts : IsFront base.program text rows_before inputs_before read front
+    fronts = subst (λ (p : Parts). IsFront p text rows_before inputs_before read front) so.tells.told.program given
 
     more : 4000000 < length (rows (so.tells.lines ++ fronts.lines))
     more =
@@ -103,11 +94,11 @@ cut_rows base old bytes text behind r rows_before inputs_before front so given m
         omega (arith, many, both, long, left, right)
 
 -- nothing is read yet
-pub read_none : (base : PlanParts) (log body more : List ℕ) (r : LogRows) → InOrder base.externals.events → (head : List ℕ) × (log ≡ head ++ body) × IsHead head → r.rows.items ≡ [] → r.is_cut ≡ false → IsFollowerOf base [] r.follower → IsReadSoFar base base (log ++ more) (body ++ more) r
+pub read_none : (base : PlanParts) (log body more : List ℕ) (r : LogRows) → InOrder base.externals.events → (head : List ℕ) × (log ≡ head ++ body) × IsHead head → r.rows.items ≡ [] → r.is_cut ≡ false → HasGonePast base [] r.follower → IsReadSoFar base base (log ++ more) (body ++ more) r
 read_none base log body more r order below none uncut follower = record {
   tells = tells_none base log body more r.rows.items order below none;
   fit = fit_none base.program r.rows.items none;
-  follower = subst (λ (t : List Row). IsFollowerOf base t r.follower) (sym none) follower;
+  follower = subst (λ (t : List Row). HasGonePast base t r.follower) (sym none) follower;
   uncut = uncut;
 }
 

@@ -1,7 +1,7 @@
 -- What the bytes of a log hold, over more bytes and over more lines.
 use Rattle.std.proofs.Common.{◌≡◌, ◌∙◌, ℕ, inl, List, [], ◌∷◌, ◌++◌, drop, take, refl, sym, ap}
 use Rattle.std.{specs.List.AllZip, proofs.lemmas.List.{append_assoc, append-nil, take-append-drop}}
-use Rattle.lft_ir.specs.Parts.{Parts}
+use Rattle.lft_ir.specs.{Parts.Parts, declared.steps.row.Row.Row}
 use Rattle.lft_trace.{specs.{LogTables.IsLine, Traces.header, declared.log_table.Line.Line}, proofs.Together.zipped}
 use Rattle.lft_log.specs.{Logs.{HoldSoFar, IsHead, records_below}, inner.Logs.{IsFront, LogLaw, row_records}, declared.front.LinesRead.LinesRead}
 use Rattle.lft_log.proofs.{Below.{below_head, lines_joined, no_bytes}, Ends.lines_both, Plain.{no_lines, plain_both}, Behind.{rows_each, zip_cut}}
@@ -21,8 +21,8 @@ header_there program bytes lines head body e f is = record {
 }
 
 -- a front of the rest more
-pub hold_front : (program : Parts) (bytes text behind : List ℕ) (lines : List Line) (rows_before inputs_before : ℕ) (front : LinesRead) → HoldSoFar program bytes lines [] (text ++ behind) → (f : IsFront program text rows_before inputs_before front) → HoldSoFar program bytes (lines ++ f.lines) f.others (drop f.plain text ++ behind)
-hold_front program bytes text behind lines rows_before inputs_before front h f = record {
+pub hold_front : (program : Parts) (bytes text behind : List ℕ) (lines : List Line) (rows_before inputs_before : ℕ) (read : List Row) (front : LinesRead) → HoldSoFar program bytes lines [] (text ++ behind) → (f : IsFront program text rows_before inputs_before read front) → HoldSoFar program bytes (lines ++ f.lines) f.others (drop f.plain text ++ behind)
+hold_front program bytes text behind lines rows_before inputs_before read front h f = record {
   head = h.head;
   body = h.body ++ more;
   whole = h.whole ∙ ap (λ (x : List ℕ). h.head ++ x) (ap (λ (x : List ℕ). h.body ++ x) parted ∙ sym (append_assoc h.body more (drop f.plain text ++ behind)));

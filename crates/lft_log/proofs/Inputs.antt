@@ -239,8 +239,8 @@ only_rows n [] t e = tt
 only_rows n (Row r ∷ lines) t e = only_rows (n + 1) lines (t ++ r ∷ []) e
 only_rows n (Input x ∷ lines) t e = absurd (cc e)
 
-pub all_gone : (old now : PlanParts) (t : List TheRow) (before : ℕ) (lines : List Line) (left : List Among) (place gone : ℕ) (latest : Option Tag) (front : LinesRead) (taken : Taken) → IsGone old now t lines left place gone latest → left ≡ [] → front.rows.items ≡ rows lines → front.inputs.items ≡ inputs_behind 0 lines → taken.rows ≡ length front.rows.items → taken.inputs ≡ length front.inputs.items → taken.fault ≡ front.fault → IsTaken old now t before front lines taken
-all_gone old now t before lines left place gone latest front taken is none rows_are inputs_are counted numbered same = record {
+pub all_gone : (old now : PlanParts) (t : List TheRow) (before : ℕ) (lines : List Line) (left : List Among) (place gone : ℕ) (latest : Option Tag) (read : List TheRow) (front : LinesRead) (taken : Taken) → IsGone old now t lines left place gone latest → left ≡ [] → read ≡ rows lines → front.inputs.items ≡ inputs_behind 0 lines → taken.rows ≡ length read → taken.inputs ≡ length front.inputs.items → taken.fault ≡ front.fault → IsTaken old now t before front lines taken
+all_gone old now t before lines left place gone latest read front taken is none rows_are inputs_are counted numbered same = record {
   first = lines;
   others = [];
   parted = sym (append-nil lines);

@@ -1,21 +1,21 @@
 -- What is kept of a table, over more lines and over more bytes.
-use Rattle.std.proofs.Common.{◌≡◌, ◌+◌, ◌^◌, ◌≤◌, ◌∙◌, inl, inr, ℕ, Bool, true, false, List, [], ◌++◌, Option, Some, None, length, take, drop, slice_range, refl, sym, ap, subst, arith}
-use Rattle.std.specs.Prelude.{MatchOption}
-use Rattle.std.proofs.lemmas.{List.{append_assoc, append-nil, length-append, take-append-drop}, Bool.false≢true}
+use Rattle.std.proofs.Common.{◌≡◌, ◌+◌, ◌^◌, ◌≤◌, ◌∙◌, inl, inr, ℕ, Bool, true, false, List, [], ◌++◌, Option, Some, None, length, take, drop, refl, sym, ap, subst, arith}
+use Rattle.std.{specs.{Global.Vec, Prelude.MatchOption}, proofs.lemmas.{List.{append_assoc, append-nil, length-append, take-append-drop}, Bool.false≢true}}
 use Rattle.lft_tag.specs.declared.Tag.{Tag}
 use Rattle.lft_ir.specs.{Parts.Parts, declared.steps.row.Row.Row}
 use Rattle.lft_trace.specs.{ExternalTables.IsEntry, LogTables.IsNoLine, inner.LogTables.inputs_behind}
 use Rattle.lft_trace.specs.declared.{external_table.Entry.TheVariants.Happens, log_table.Line.Line}
 use Rattle.lft_model.specs.Plans.{PlanParts}
-use Rattle.lft_monitor.specs.{declared.follower.Follower.Follower, inner.Follows.IsFollowerOf, Follows.IsQuiet}
+use Rattle.lft_monitor.specs.{declared.follower.Follower.Follower, inner.Follows.{HasGonePast, IsFollowerOf, next_of}, Follows.IsQuiet}
 use Rattle.lft_log.specs.declared.asked.Asked.{Asked}
 use Rattle.lft_log.specs.declared.fault.LogFault.{LogFault}
 use Rattle.lft_log.specs.declared.fault.LogFault.TheVariants.{NoHeader, NoRow, NotPlain, SecondHeader, LongLine, TooManyRows, NoInput, NotPlainInput, LateInput, InputAgain, ManyLater, TooManyInputs, NoMemory}
 use Rattle.lft_log.specs.declared.{front.LinesRead.LinesRead, log.Log.Log, telling.Taken.Taken, told.Told.Told}
 use Rattle.lft_log.specs.Logs.{BeginsLong, HoldSoFar, IsHead, IsOddLine, inputs, rows}
-use Rattle.lft_log.specs.inner.{Logs.IsFront, Told.{IsAskedOf, IsBegun, IsFaultOfRows, IsLog, IsLogOf, IsSaidOfSome, IsTaken}}
+use Rattle.lft_log.specs.inner.{Logs.IsFront, Told.{IsAskedOf, IsBegun, IsFaultOfRows, IsLog, IsLogOf, IsTaken}}
 use Rattle.lft_log.specs.Told.{IsFaultOf, IsOddLineBehind, IsSaid, IsSoon, KeepTo, RecordStandsBehind}
-use Rattle.lft_log.proofs.{Asking.{asked_within, kept_before}, Holding.{header_there, hold_longer}, Odd.{line_longer, long_longer}}
+use Rattle.lft_log.proofs.{Asking.asked_within, Holding.{header_there, hold_longer}, InPlace.{next_read, read_behind, with_rows}}
+use Rattle.lft_log.proofs.Odd.{line_longer, long_longer}
 use Rattle.lft_log.proofs.Taking.{all_held, fault_held, fault_of_rows, grown, grown_numbered, grown_rows, grown_tells, grown_timely, grown_told, taken_rows}
 use Rattle.lft_trace.specs.declared.log_table.LineFault.TheVariants as none
 
@@ -30,71 +30,79 @@ body_held base plan until bytes lines body log is below above = go log.is_begun 
         let h = above e in
         subst (λ (l : List Line). HoldSoFar base.program bytes l [] body) (sym f.1) (header_there base.program bytes lines h.0 body f.0 h.1 h.2)
 
--- whole lines are read and told
-module _ (base old new : PlanParts) (until : Option Tag) (bytes text : List ℕ) (log : Log) (front : LinesRead) (taken : Taken) (is : IsBegun base old until bytes text log) (given : IsFront old.program text log.rows log.inputs front) (are : (t : List Row) (lines : List Line) → IsFollowerOf old t log.follower → front.rows.items ≡ rows lines → front.inputs.items ≡ inputs_behind 0 lines → IsTaken old new t log.inputs front lines taken) where
+-- whole lines are read to their place and told
+module _ (base old new : PlanParts) (until : Option Tag) (bytes text : List ℕ) (log : Log) (v : Vec Row) (read : List Row) (front : LinesRead) (taken : Taken) (is : IsBegun base old until bytes text log) (rows_are : v.items ≡ log.follower.rows.items ++ read) (given : IsFront old.program text log.rows log.inputs read front) (are : (t : List Row) (lines : List Line) → IsFollowerOf old t (with_rows log.follower v) → next_of (with_rows log.follower v) ≡ rows lines → front.inputs.items ≡ inputs_behind 0 lines → IsTaken old new t log.inputs front lines taken) where
   abbrev so_far : List Line
   so_far = is.0.lines
 
   abbrev u : List Row
-  u = slice_range front.rows.items 0 taken.rows
+  u = take taken.rows read
 
   held : HoldSoFar base.program bytes so_far [] (text ++ [])
   held = subst (λ (x : List ℕ). HoldSoFar base.program bytes so_far [] x) (sym (append-nil text)) (is.0.begun is.1)
 
-  fronts : IsFront base.program text log.rows log.inputs front
-  fronts = subst (λ (p : Parts). IsFront p text log.rows log.inputs front) is.0.told.program given
+  fronts : IsFront base.program text log.rows log.inputs read front
+  fronts = subst (λ (p : Parts). IsFront p text log.rows log.inputs read front) is.0.told.program given
+
+  next : next_of (with_rows log.follower v) ≡ read
+  next = next_read old (rows so_far) read log.follower v rows_are is.0.follower
 
   takes : IsTaken old new (rows so_far) log.inputs front fronts.lines taken
-  takes = are (rows so_far) fronts.lines is.0.follower fronts.rows_are fronts.inputs_are
-
-  -- without a fault they are all
-  pub lines_on : log.rows ≤ 2 ^ 62 → taken.rows ≤ length front.rows.items → taken.fault ≡ None → (after : Log) → IsFollowerOf new (rows so_far ++ u) after.follower → after.rows ≡ log.rows + taken.rows → after.inputs ≡ log.inputs + taken.inputs → after.asked.until ≡ log.asked.until → IsAskedOf (rows so_far ++ u) after.asked → after.is_begun ≡ true → IsBegun base new until bytes [] after
-  lines_on few within none after follower counted numbered until_is asked begun = (
-    record {
-      lines = grown base old new bytes text [] so_far log.rows log.inputs front taken held fronts takes;
-      told = grown_told base old new bytes text [] so_far log.rows log.inputs front taken held fronts takes is.0.timely is.0.told;
-      timely = grown_timely base old new bytes text [] so_far log.rows log.inputs front taken held fronts takes is.0.timely is.0.told;
-      follower = subst (λ (t : List Row). IsFollowerOf new t after.follower) (sym more) follower;
-      counted =
-          let l = length-append (rows so_far) u in
-          let m = ap (λ (t : List Row). length t) more in
-          let n = ap (λ (t : List Row). length t) (taken_rows base old new bytes text [] so_far log.rows log.inputs front taken held fronts takes) in
-          let k = takes.counted in
-          let before = is.0.counted in
-          omega (arith, l, m, n, k, before, counted);
-      few = let most = fronts.rows_fit.few in omega (arith, few, within, most, counted);
-      numbered =
-          let m = grown_numbered base old new bytes text [] so_far log.rows log.inputs front taken held fronts takes in
-          let before = is.0.numbered in
-          omega (arith, m, before, numbered);
-      until_is = until_is ∙ is.0.until_is;
-      asked = subst (λ (t : List Row). IsAskedOf t after.asked) (sym more) asked;
-      begun = λ _. all_held base old new bytes text [] so_far log.rows log.inputs front taken held fronts takes none;
-      fresh = λ e. absurd (false≢true (sym e ∙ begun));
-    },
-    begun,
-  )
-    where
-      more : rows (grown base old new bytes text [] so_far log.rows log.inputs front taken held fronts takes) ≡ rows so_far ++ u
-      more = grown_rows base old new bytes text [] so_far log.rows log.inputs front taken held fronts takes
+  takes = are (rows so_far) fronts.lines (read_behind old (rows so_far) read log.follower v rows_are is.0.follower) (next ∙ fronts.rows_are) fronts.inputs_are
 
   pub fault_on : (f : LogFault) → taken.fault ≡ Some f → IsFaultOf base bytes f
-  fault_on f named = fault_held base old new bytes text [] so_far log.rows log.inputs front taken held fronts takes is.0.timely is.0.told f named is.0.counted is.0.numbered
+  fault_on f named = fault_held base old new bytes text [] so_far log.rows log.inputs read front taken held fronts takes is.0.timely is.0.told f named is.0.counted is.0.numbered
 
-  pub rows_fault_on : (f : LogFault) → IsFaultOfRows (rows so_far ++ u) f → IsFaultOf base bytes f
-  rows_fault_on f of = fault_of_rows base old new bytes text [] so_far log.rows log.inputs front taken held fronts takes is.0.timely is.0.told f of
+  -- the follower goes past those that are taken
+  module _ (cut : Follower) (left : next_of cut ≡ u) where
+    -- without a fault they are all
+    pub lines_on : log.rows ≤ 2 ^ 62 → taken.rows ≤ length (next_of (with_rows log.follower v)) → taken.fault ≡ None → (after : Log) → HasGonePast new (rows so_far ++ next_of cut) after.follower → after.rows ≡ log.rows + taken.rows → after.inputs ≡ log.inputs + taken.inputs → after.asked.until ≡ log.asked.until → IsAskedOf (rows so_far ++ next_of cut) after.asked → after.is_begun ≡ true → IsBegun base new until bytes [] after
+    lines_on few within none after follower counted numbered until_is asked begun = (
+      record {
+        lines = grown base old new bytes text [] so_far log.rows log.inputs read front taken held fronts takes;
+        told = grown_told base old new bytes text [] so_far log.rows log.inputs read front taken held fronts takes is.0.timely is.0.told;
+        timely = grown_timely base old new bytes text [] so_far log.rows log.inputs read front taken held fronts takes is.0.timely is.0.told;
+        follower = subst (λ (t : List Row). HasGonePast new t after.follower) same follower;
+        counted =
+            let l = length-append (rows so_far) u in
+            let m = ap (λ (t : List Row). length t) more in
+            let n = ap (λ (t : List Row). length t) (taken_rows base old new bytes text [] so_far log.rows log.inputs read front taken held fronts takes) in
+            let k = takes.counted in
+            let before = is.0.counted in
+            omega (arith, l, m, n, k, before, counted);
+        few = let most = fronts.rows_fit.few in let n = ap (λ (t : List Row). length t) next in omega (arith, few, within, most, counted, n);
+        numbered =
+            let m = grown_numbered base old new bytes text [] so_far log.rows log.inputs read front taken held fronts takes in
+            let before = is.0.numbered in
+            omega (arith, m, before, numbered);
+        until_is = until_is ∙ is.0.until_is;
+        asked = subst (λ (t : List Row). IsAskedOf t after.asked) same asked;
+        begun = λ _. all_held base old new bytes text [] so_far log.rows log.inputs read front taken held fronts takes none;
+        fresh = λ e. absurd (false≢true (sym e ∙ begun));
+      },
+      begun,
+    )
+      where
+        more : rows (grown base old new bytes text [] so_far log.rows log.inputs read front taken held fronts takes) ≡ rows so_far ++ u
+        more = grown_rows base old new bytes text [] so_far log.rows log.inputs read front taken held fronts takes
 
-  pub soon_on : (told : Told) (first more : List Row) → u ≡ first ++ more → KeepTo until (rows so_far ++ first) → IsSaid new until (rows so_far ++ first) more told → IsSoon base until bytes told
-  soon_on told first more parted within said = (
-    new,
-    rows so_far ++ first,
-    more,
-    _,
-    _,
-    grown_tells base old new bytes text [] so_far log.rows log.inputs front taken held fronts takes is.0.timely is.0.told ((rows so_far ++ first) ++ more) (append_assoc (rows so_far) first more ∙ ap (λ (t : List Row). rows so_far ++ t) (sym parted)),
-    within,
-    said,
-  )
+        same : rows so_far ++ next_of cut ≡ rows (grown base old new bytes text [] so_far log.rows log.inputs read front taken held fronts takes)
+        same = ap (λ (t : List Row). rows so_far ++ t) left ∙ sym more
+
+    pub rows_fault_on : (f : LogFault) → IsFaultOfRows (rows so_far ++ next_of cut) f → IsFaultOf base bytes f
+    rows_fault_on f of = fault_of_rows base old new bytes text [] so_far log.rows log.inputs read front taken held fronts takes is.0.timely is.0.told f (subst (λ (t : List Row). IsFaultOfRows (rows so_far ++ t) f) left of)
+
+    pub soon_on : (told : Told) (first more : List Row) → next_of cut ≡ first ++ more → KeepTo until (rows so_far ++ first) → IsSaid new until (rows so_far ++ first) more told → IsSoon base until bytes told
+    soon_on told first more parted within said = (
+      new,
+      rows so_far ++ first,
+      more,
+      _,
+      _,
+      grown_tells base old new bytes text [] so_far log.rows log.inputs read front taken held fronts takes is.0.timely is.0.told ((rows so_far ++ first) ++ more) (append_assoc (rows so_far) first more ∙ ap (λ (t : List Row). rows so_far ++ t) (sym parted ∙ left)),
+      within,
+      said,
+    )
 
 -- the rest may be another, and what is kept elsewhere
 pub kept_as : (base plan : PlanParts) (until : Option Tag) (bytes rest other lines : List ℕ) (log new : Log) → new.follower ≡ log.follower → new.rows ≡ log.rows → new.inputs ≡ log.inputs → new.asked ≡ log.asked → (is : IsLogOf base plan until bytes rest log) → (new.is_begun ≡ true → HoldSoFar base.program other is.lines [] lines) → (new.is_begun ≡ false → (other ≡ lines) × (is.lines ≡ [])) → IsLogOf base plan until other lines new
@@ -102,7 +110,7 @@ kept_as base plan until bytes rest other lines log new follower rows_are numbere
   lines = is.lines;
   told = is.told;
   timely = is.timely;
-  follower = subst (λ x. IsFollowerOf plan (rows is.lines) x) (sym follower) is.follower;
+  follower = subst (λ x. HasGonePast plan (rows is.lines) x) (sym follower) is.follower;
   counted = rows_are ∙ is.counted;
   few = subst (λ (n : ℕ). n ≤ 2 ^ 62 + 4000000) (sym rows_are) is.few;
   numbered = numbered ∙ is.numbered;
@@ -161,12 +169,10 @@ fault_longer base bytes more NoMemory x = tt
 pub piece_parts : (bytes piece : List ℕ) (n : ℕ) → (bytes ++ take n piece) ++ drop n piece ≡ bytes ++ piece
 piece_parts bytes piece n = append_assoc bytes (take n piece) (drop n piece) ∙ ap (λ (x : List ℕ). bytes ++ x) (take-append-drop n piece)
 
--- what is told of some rows is told of those up to the last that is asked for, where none of all is past it
-pub rows_told : (plan : PlanParts) (until : Option Tag) (t rows : List Row) (follower : Follower) (asked : Asked) (o : Option Told) → MatchOption o (IsFollowerOf plan (t ++ rows) follower × IsQuiet plan (t ++ rows)) (IsSaidOfSome plan t rows) → IsAskedOf (t ++ rows) asked → asked.until ≡ until → MatchOption o (IsFollowerOf plan (t ++ rows) follower × IsAskedOf (t ++ rows) asked) (λ (told : Told). (u : List Row) × (more : List Row) × (rows ≡ u ++ more) × KeepTo until (t ++ u) × IsSaid plan until (t ++ u) more told)
+-- what is told of rows is told of those up to the last that is asked for, where none of them is past it
+pub rows_told : (plan : PlanParts) (until : Option Tag) (t rows : List Row) (follower : Follower) (asked : Asked) (o : Option Told) → MatchOption o (HasGonePast plan (t ++ rows) follower × IsQuiet plan (t ++ rows)) (λ (told : Told). (until : Option Tag) (more : List Row) → IsSaid plan until (t ++ rows) more told) → IsAskedOf (t ++ rows) asked → asked.until ≡ until → MatchOption o (HasGonePast plan (t ++ rows) follower × IsAskedOf (t ++ rows) asked) (λ (told : Told). (u : List Row) × (more : List Row) × (rows ≡ u ++ more) × KeepTo until (t ++ u) × IsSaid plan until (t ++ u) more told)
 rows_told plan until t rows follower asked None follows is same = (follows.0, is)
-rows_told plan until t rows follower asked (Some told) (first, behind, parted, said) is same =
-    let all = subst (λ (o : Option Tag). KeepTo o (t ++ rows)) same (asked_within (t ++ rows) asked is) in
-    (first, behind, parted, kept_before until t first behind rows parted all, said until behind)
+rows_told plan until t rows follower asked (Some told) said is same = (rows, [], sym (append-nil rows), subst (λ (o : Option Tag). KeepTo o (t ++ rows)) same (asked_within (t ++ rows) asked is), said until [])
 
 pub with_fact : (A E : Type 0) (Q : Told → Type 0) (o : Option Told) → MatchOption o A Q → E → MatchOption o (A × E) Q
 with_fact A E Q None a e = (a, e)

@@ -6,6 +6,7 @@ pub mod Many
 pub mod Below
 pub mod Behind
 pub mod Holding
+pub mod InPlace
 pub mod Taking
 pub mod Keeping
 pub mod Asking

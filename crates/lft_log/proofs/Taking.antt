@@ -1,16 +1,17 @@
 -- The first lines of a front are taken: they stand behind those of the log so far.
-use Rattle.std.proofs.Common.{◌≡◌, ◌+◌, ◌∙◌, ℕ, List, [], ◌∷◌, ◌++◌, ◌⊎◌, inl, inr, None, Some, length, take, drop, slice_range, refl, sym, ap, subst, arith}
+use Rattle.std.proofs.Common.{◌≡◌, ◌+◌, ◌∙◌, ℕ, List, [], ◌∷◌, ◌++◌, ◌⊎◌, inl, inr, None, Some, length, take, drop, refl, sym, ap, subst, arith}
 use Rattle.std.{specs.List.AllZip, proofs.{Math.Seq.take-append_seam, lemmas.List.{append-nil, append_assoc, length-append}}}
 use Rattle.lft_ir.specs.{Parts.Parts, declared.steps.row.Row.Row}
 use Rattle.lft_trace.specs.{ExternalTables.IsEntry, LogTables.IsLine, declared.{external_table.Entry.Entry, log_table.Line.{Line, TheVariants.Input}}}
 use Rattle.lft_model.specs.Plans.{PlanParts}
+use Rattle.lft_monitor.specs.Follows.{AreTooMany}
 use Rattle.lft_log.specs.declared.fault.LogFault.{LogFault}
 use Rattle.lft_log.specs.declared.fault.LogFault.TheVariants.{NoHeader, NoRow, NotPlain, SecondHeader, LongLine, TooManyRows, NoInput, NotPlainInput, LateInput, InputAgain, ManyLater, TooManyInputs, NoMemory}
 use Rattle.lft_log.specs.declared.{front.LinesRead.LinesRead, telling.Taken.Taken}
 use Rattle.lft_log.specs.Logs.{AreTimely, BeginsWithLine, HoldSoFar, IsOddLine, inputs, rows}
 use Rattle.lft_log.specs.inner.{Logs.{IsFaultBehind, IsFront}, Told.{IsFaultOfRows, IsInputRefused, IsTaken}}
-use Rattle.lft_log.specs.Told.{AreTooMany, HasTold, IsFaultOf, IsOddLineBehind, RecordStandsBehind, TellsPlan}
-use Rattle.lft_log.proofs.{Ends.range_take, Fronts.all_dropped, Holding.{hold_cut, hold_front}, Odd.line_longer, Behind.{inputs_both, rows_both, timely_both}}
+use Rattle.lft_log.specs.Told.{HasTold, IsFaultOf, IsOddLineBehind, RecordStandsBehind, TellsPlan}
+use Rattle.lft_log.proofs.{Fronts.all_dropped, Holding.{hold_cut, hold_front}, Odd.line_longer, Behind.{inputs_both, rows_both, timely_both}}
 
 -- no records tell no lines
 pub zip_none : {A B : Type 0} (R : A → B → Type 0) (fs : List A) (xs : List B) → xs ≡ [] → AllZip R fs xs → fs ≡ []
@@ -55,7 +56,7 @@ behind_cut program bytes lines (f ∷ cut) others rest left entry more h timely 
     ((f ∷ cut) ++ others, rest, (h, timely), (f, cut ++ others, refl, e.0))
 
 -- the first lines of a front are taken
-module _ (base old new : PlanParts) (bytes text behind : List ℕ) (before : List Line) (rows_before inputs_before : ℕ) (front : LinesRead) (taken : Taken) (held : HoldSoFar base.program bytes before [] (text ++ behind)) (fronts : IsFront base.program text rows_before inputs_before front) (is : IsTaken old new (rows before) inputs_before front fronts.lines taken) where
+module _ (base old new : PlanParts) (bytes text behind : List ℕ) (before : List Line) (rows_before inputs_before : ℕ) (read : List Row) (front : LinesRead) (taken : Taken) (held : HoldSoFar base.program bytes before [] (text ++ behind)) (fronts : IsFront base.program text rows_before inputs_before read front) (is : IsTaken old new (rows before) inputs_before front fronts.lines taken) where
   abbrev pub grown : List Line
   grown = before ++ is.first
 
@@ -63,7 +64,7 @@ module _ (base old new : PlanParts) (bytes text behind : List ℕ) (before : Lis
   rest = drop fronts.plain text ++ behind
 
   whole : HoldSoFar base.program bytes (before ++ fronts.lines) fronts.others rest
-  whole = hold_front base.program bytes text behind before rows_before inputs_before front held fronts
+  whole = hold_front base.program bytes text behind before rows_before inputs_before read front held fronts
 
   parted : before ++ fronts.lines ≡ grown ++ is.others
   parted = ap (λ (l : List Line). before ++ l) is.parted ∙ sym (append_assoc before is.first is.others)
@@ -72,12 +73,12 @@ module _ (base old new : PlanParts) (bytes text behind : List ℕ) (before : Lis
   cut = hold_cut base.program bytes rest grown is.others fronts.others (subst (λ (l : List Line). HoldSoFar base.program bytes l fronts.others rest) parted whole)
 
   -- their rows are the first of the front
-  pub taken_rows : slice_range front.rows.items 0 taken.rows ≡ rows is.first
+  pub taken_rows : take taken.rows read ≡ rows is.first
   taken_rows =
-      let all : front.rows.items ≡ rows is.first ++ rows is.others = fronts.rows_are ∙ ap rows is.parted ∙ rows_both is.first is.others in
-      range_take front.rows.items taken.rows ∙ ap (λ (n : ℕ). take n front.rows.items) is.counted ∙ ap (λ (t : List Row). take (length (rows is.first)) t) all ∙ take-append_seam (rows is.first) (rows is.others)
+      let all : read ≡ rows is.first ++ rows is.others = fronts.rows_are ∙ ap rows is.parted ∙ rows_both is.first is.others in
+      ap (λ (n : ℕ). take n read) is.counted ∙ ap (λ (t : List Row). take (length (rows is.first)) t) all ∙ take-append_seam (rows is.first) (rows is.others)
 
-  pub grown_rows : rows grown ≡ rows before ++ slice_range front.rows.items 0 taken.rows
+  pub grown_rows : rows grown ≡ rows before ++ take taken.rows read
   grown_rows = rows_both before is.first ∙ ap (λ (t : List Row). rows before ++ t) (sym taken_rows)
 
   pub grown_numbered : length (inputs grown) ≡ length (inputs before) + taken.inputs
@@ -108,7 +109,7 @@ module _ (base old new : PlanParts) (bytes text behind : List ℕ) (before : Lis
     grown_told = subst (λ (l : List Entry). HasTold base l new) (sym (inputs_both before is.first)) (is.told base (inputs before) told)
 
     -- so these are the lines so far
-    pub grown_tells : (t : List Row) → t ≡ rows before ++ slice_range front.rows.items 0 taken.rows → TellsPlan base bytes new t (cut.0 ++ fronts.others) rest
+    pub grown_tells : (t : List Row) → t ≡ rows before ++ take taken.rows read → TellsPlan base bytes new t (cut.0 ++ fronts.others) rest
     grown_tells t e = record {
       lines = grown;
       held = cut.1;
@@ -118,7 +119,7 @@ module _ (base old new : PlanParts) (bytes text behind : List ℕ) (before : Lis
     }
 
     -- without a fault they are all
-    pub tells_all : taken.fault ≡ None → (t : List Row) → t ≡ rows before ++ slice_range front.rows.items 0 taken.rows → TellsPlan base bytes new t [] behind
+    pub tells_all : taken.fault ≡ None → (t : List Row) → t ≡ rows before ++ take taken.rows read → TellsPlan base bytes new t [] behind
     tells_all none t e = record {
       lines = grown;
       held = all_held none;
@@ -128,7 +129,7 @@ module _ (base old new : PlanParts) (bytes text behind : List ℕ) (before : Lis
     }
 
     -- rows among them may show one
-    pub fault_of_rows : (f : LogFault) → IsFaultOfRows (rows before ++ slice_range front.rows.items 0 taken.rows) f → IsFaultOf base bytes f
+    pub fault_of_rows : (f : LogFault) → IsFaultOfRows (rows before ++ take taken.rows read) f → IsFaultOf base bytes f
     fault_of_rows f (inl (e, many)) = subst (λ (g : LogFault). IsFaultOf base bytes g) (sym e) (grown, cut.0 ++ fronts.others, rest, (cut.1, grown_timely), subst AreTooMany (sym grown_rows) many)
     fault_of_rows f (inr e) = subst (λ (g : LogFault). IsFaultOf base bytes g) (sym e) tt
 

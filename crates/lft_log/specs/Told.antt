@@ -6,7 +6,7 @@ use Rattle.lft_tag.specs.{declared.{NoMemory.NoMemory as WantOfMemory, Tag.Tag},
 use Rattle.lft_model.specs.{Plans.PlanParts, Breaches.First}
 use Rattle.lft_rows.specs.Accepted.{IsAccepted}
 use Rattle.lft_monitor.specs.{declared.open.StillOpen.StillOpen, OpenRuns.AreOpenRuns}
-use Rattle.lft_monitor.specs.Follows.{HasManyAtLast, HasManyLater, IsSureSoFar, IsOddSoFar, IsCleanSoFar, IsFirstUpToLast, IsJudged, IsPassed, IsQuiet, breach_of}
+use Rattle.lft_monitor.specs.Follows.{AreTooMany, HasManyLater, IsSureSoFar, IsOddSoFar, IsCleanSoFar, IsFirstUpToLast, IsJudged, IsPassed, IsQuiet, breach_of}
 use Rattle.lft_trace.specs.{ExternalTables.{IsEntry, event_of, stop_of}, LogTables.IsNoLine}
 use Rattle.lft_trace.specs.declared.{external_table.Entry.{Entry, TheVariants.Happens}, log_table.Line.Line}
 use Rattle.lft_log.specs.Logs.{AreTimely, BeginsLong, BeginsWithLine, BeginsWithRecord, HasNoEnd, HoldSoFar, IsHead, IsOddLine, LastCounts, LastIsLeft, inputs, rows, tag_of_entry}
@@ -101,10 +101,6 @@ RecordStandsBehind program bytes lines P = (others : List (List (List ℕ))) × 
 -- behind the lines of a log stands one that isn't plain, of which the fault is told
 abbrev pub IsOddLineBehind : PlanParts → List ℕ → LogFault → Type 0
 IsOddLineBehind base bytes f = (lines : List Line) × (rest : List ℕ) × HoldInTime base.program bytes lines [] rest × BeginsWithLine (IsOddLine (length (rows lines) + 2) (length (inputs lines) + 2) f) rest
-
--- behind 4,000,000 rows at one tag another row stands, or more than 2^62 rows are there
-abbrev pub AreTooMany : List Row → Type 0
-AreTooMany t = ((before : List Row) × (row : Row) × (more : List Row) × (t ≡ before ++ row ∷ more) × HasManyAtLast before (row ∷ [])) ⊎ (2 ^ 62 < length t)
 
 -- the plan of these external inputs has 4,000,000 events
 abbrev pub AreAllEvents : PlanParts → List Entry → Type 0

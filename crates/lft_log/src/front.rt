@@ -1,7 +1,7 @@
 //! What whole lines tell, up to one that tells nothing.
 
-ghost use Rattle.std.specs.Prelude.{◌≡◌, ◌≤◌, ◌^◌, ℕ, List, length, false, None, IfOk, IfSome};
-ghost use Rattle.lft_ir.specs.{Parts.Parts, Steps.Fits.RowsFit};
+ghost use Rattle.std.specs.Prelude.{◌≡◌, ◌≤◌, ◌++◌, ◌^◌, ℕ, List, length, false, None, IfOk, IfSome};
+ghost use Rattle.lft_ir.specs.{Parts.Parts, declared.steps.row.Row.Row as TheRow, Steps.Fits.RowsFit};
 ghost use Rattle.lft_trace.specs.{inner.{LogTables.{InputsFit, ReadsLines, StopsAt}, Parts.BeginsPlain}, Parts.EndsLine};
 ghost use Rattle.lft_log.specs.{Logs.{AreLines, BeginsWithLine, IsOddLine, records_below}, inner.Logs.{BeginsOdd, IsFaultBehind, IsFront}};
 
@@ -11,16 +11,15 @@ use lft_ir::Program;
 use lft_ir::steps::Row;
 use lft_tag::NoMemory;
 use lft_trace::records::Unread;
-use lft_trace::{Among, LineFault, LogLines, read_log};
+use lft_trace::{Among, LineFault, LogLines, ReactionNumbers, read_log};
 use std::alloc::Global;
 
 /// A reader of tables takes a byte order mark off where a text begins.
 const MARK: u8 = 239;
 
-/// The rows and the external inputs of lines, and the fault of the line behind them, if it has one.
+/// The external inputs among the rows of lines, and the fault of the line behind them, if it has one.
 #[derive(Drop)]
 pub(crate) struct LinesRead {
-    pub rows: Vec<Row>,
     pub inputs: Vec<Among>,
     pub fault: Option<LogFault>,
 }
@@ -32,15 +31,21 @@ fn may_begin_with_mark(lines: &[u8]) -> bool
     !lines.is_empty() && lines[0] == MARK
 }
 
-/// What lines tell that stand below others. A reader takes a byte order mark off where a text begins, so
-/// an empty line is put before lines that may begin with one. An empty line is no record.
-fn read_below(alloc: Global, program: &Program, lines: &[u8]) -> Result<LogLines, Unread>
-    ensures read { IfOk result (λ read. ReadsLines program.now (records_below lines.now) read) }
-    ensures rows { IfOk result (λ read. RowsFit program.now read.rows.items) }
+/// What lines tell that stand below others. Their rows are put behind others. A reader takes a byte order
+/// mark off where a text begins, so an empty line is put before lines that may begin with one. An empty line
+/// is no record.
+fn read_below(
+    alloc: Global,
+    program: &Program,
+    numbers: &mut ReactionNumbers,
+    lines: &[u8],
+    rows: &mut Vec<Row>,
+) -> Result<LogLines, Unread>
+    ensures read { IfOk result (λ read. (t : List TheRow) × (rows.new.items ≡ rows.old.items ++ t) × RowsFit program.now t × ReadsLines program.now (records_below lines.now) t read) }
     ensures inputs { IfOk result (λ read. InputsFit program.now read.inputs.items) }
 {
     if !may_begin_with_mark(lines) {
-        return read_log(alloc, program, lines);
+        return read_log(alloc, program, numbers, lines, rows);
     }
     let Ok(mut text) = Vec::from_slice(alloc, b"\n") else {
         return Err(Unread::NoMemory);
@@ -48,7 +53,7 @@ fn read_below(alloc: Global, program: &Program, lines: &[u8]) -> Result<LogLines
     let Ok(()) = text.extend_from_slice(lines) else {
         return Err(Unread::NoMemory);
     };
-    read_log(alloc, program, text.as_slice())
+    read_log(alloc, program, numbers, text.as_slice(), rows)
 }
 
 /// The fault of the first line, which isn't plain. It has one of these numbers.
@@ -87,28 +92,30 @@ fn fault_behind(fault: Option<LineFault>, behind: &[u8], row: u64, input: u64) -
 }
 
 /// What whole lines tell up to one that isn't plain or tells nothing, where so many rows and so many
-/// external inputs stand before them.
+/// external inputs stand before them. The rows are put behind others.
 pub(crate) fn read_front(
     alloc: Global,
     program: &Program,
+    numbers: &mut ReactionNumbers,
     lines: &[u8],
     rows_before: u64,
     inputs_before: u64,
+    rows: &mut Vec<Row>,
 ) -> Result<LinesRead, NoMemory>
     requires few { (rows_before ≤ 2 ^ 62) × (inputs_before ≤ 2 ^ 62) }
     requires lines { AreLines lines.now }
-    ensures { IfOk result (IsFront program.now lines.now rows_before inputs_before) }
+    ensures { IfOk result (λ front. (t : List TheRow) × (rows.new.items ≡ rows.old.items ++ t) × IsFront program.now lines.now rows_before inputs_before t front) }
 {
     // Within quotation marks a record could go on in a line that hasn't come.
     let plain = plain_lines(lines);
-    let Ok(read) = read_below(alloc, program, &lines[0..plain]) else {
+    let others = rows.len();
+    let Ok(read) = read_below(alloc, program, numbers, &lines[0..plain], rows) else {
         return Err(NoMemory);
     };
-    let row = rows_before + read.rows.len() as u64 + 2;
+    let row = rows_before + (rows.len() - others) as u64 + 2;
     let input = inputs_before + read.inputs.len() as u64 + 2;
     let fault = fault_behind(read.fault, &lines[plain..lines.len()], row, input);
     Ok(LinesRead {
-        rows: read.rows,
         inputs: read.inputs,
         fault,
     })

@@ -1,14 +1,14 @@
 //! A log: a trace table that comes in pieces, with lines of external inputs among its rows.
 
-ghost use Rattle.std.specs.Prelude.{◌≡◌, Bool, ◌⊎◌, ◌+◌, ◌++◌, ◌∷◌, ◌^◌, ◌≤◌, ℕ, List, [], Option, true, false, length, IfOk, IfErr, IfNone, IfSome, IsTrue, MatchOption};
+ghost use Rattle.std.specs.Prelude.{◌≡◌, Bool, ◌+◌, ◌++◌, ◌∷◌, ◌^◌, ◌≤◌, ℕ, List, [], Option, true, false, length, IfOk, IfErr, IfNone, IfSome, IsTrue, MatchOption};
 ghost use Rattle.lft_tag.specs.declared.Tag.{Tag as TheTag};
 ghost use Rattle.lft_trace.specs.Parts.{EndsLine};
-ghost use Rattle.lft_ir.specs.{declared.steps.row.Row.Row as TheRow, Steps.Fits.RowsFit};
-ghost use Rattle.lft_model.specs.Plans.{PlanParts};
-ghost use Rattle.lft_monitor.specs.{inner.Follows.IsFollowerOf, Follows.{IsJudged, IsQuiet}};
+ghost use Rattle.lft_ir.specs.declared.steps.row.Row.{Row as TheRow};
+ghost use Rattle.lft_model.specs.{Fitting.EachFits, Plans.PlanParts};
+ghost use Rattle.lft_monitor.specs.{inner.Follows.{HasGonePast, IsFollowerOf, next_of}, Follows.{IsJudged, IsQuiet}};
 ghost use Rattle.lft_log.specs.Logs.{AreLines, BeginsLong, HasNoEnd, IsHead};
 ghost use Rattle.lft_log.specs.Told.{AreAll, AreOpenAtEnd, AreOpenIn, IsEnded, IsFaultAtEnd, IsFaultOf, IsFinal, IsSaid, IsSoon, KeepTo, TellsOpen};
-ghost use Rattle.lft_log.specs.inner.Told.{IsAskedOf, IsBegun, IsFaultOfRows, IsLog, IsLogOf, IsSaidOfSome};
+ghost use Rattle.lft_log.specs.inner.Told.{IsAskedOf, IsBegun, IsFaultOfRows, IsLog, IsLogOf};
 
 use crate::asked::Asked;
 use crate::fault::LogFault;
@@ -16,10 +16,10 @@ use crate::front::read_front;
 use crate::lines::{before_end, below_header, is_whole, whole_lines};
 use crate::telling::tell_all;
 use crate::told::{Ended, Final, Told};
-use lft_ir::steps::Row;
 use lft_model::Plan;
 use lft_monitor::{Closing, Ending, Follower, Progress, Reach, StillOpen};
-use lft_tag::{MAX_ROWS, NoMemory, Tag};
+use lft_tag::{NoMemory, Tag};
+use lft_trace::ReactionNumbers;
 use std::alloc::Global;
 
 /// No line has more bytes.
@@ -34,6 +34,7 @@ const MOST: u64 = 1 << 62;
 // would wait for the next event while the runtime waits at the first.
 #[derive(Drop)]
 pub struct Log {
+    numbers: ReactionNumbers,
     follower: Follower,
     /// The bytes of a line whose end hasn't come.
     rest: Vec<u8>,
@@ -46,52 +47,20 @@ pub struct Log {
     asked: Asked,
 }
 
-/// Goes on past rows that the follower can hold with those at the last tag, or past one.
-fn add_few(
-    follower: &mut Follower,
-    alloc: Global,
-    plan: &Plan,
-    rows: &[Row],
-) -> Result<Option<Told>, LogFault>
-    requires fit { RowsFit plan.now.program rows.now }
-    requires few { (length follower.old.rows.items + length rows.now ≤ 4000000) ⊎ (length rows.now ≡ 1) }
+/// Goes on past the rows that the follower has.
+fn add_rows(follower: &mut Follower, alloc: Global, plan: &Plan) -> Result<Option<Told>, LogFault>
+    requires fit { EachFits plan.now.program (next_of follower.old) }
     requires stands { (t : List TheRow) × IsFollowerOf plan.now t follower.old }
-    ensures told { IfOk result (λ o. (t : List TheRow) → IsFollowerOf plan.now t follower.old → MatchOption o (IsFollowerOf plan.now (t ++ rows.now) follower.new × IsQuiet plan.now (t ++ rows.now)) (λ told. (until : Option TheTag) (more : List TheRow) → IsSaid plan.now until (t ++ rows.now) more told)) }
-    ensures fault { IfErr result (λ f. (t : List TheRow) → IsFollowerOf plan.now t follower.old → IsFaultOfRows (t ++ rows.now) f) }
+    ensures told { IfOk result (λ o. (t : List TheRow) → IsFollowerOf plan.now t follower.old → MatchOption o (HasGonePast plan.now (t ++ next_of follower.old) follower.new × IsQuiet plan.now (t ++ next_of follower.old)) (λ told. (until : Option TheTag) (more : List TheRow) → IsSaid plan.now until (t ++ next_of follower.old) more told)) }
+    ensures fault { IfErr result (λ f. (t : List TheRow) → IsFollowerOf plan.now t follower.old → IsFaultOfRows (t ++ next_of follower.old) f) }
 {
-    match follower.add(alloc, plan, rows) {
+    match follower.go_on(alloc, plan) {
         Ok(Progress::GoesOn) => Ok(None),
         Ok(Progress::Broken(found)) => Ok(Some(Told::Broken(found))),
         Ok(Progress::Odd(reach, line)) => Ok(Some(Told::Odd(reach, line))),
         Ok(Progress::TooMany) => Err(LogFault::TooManyRows),
         Err(_) => Err(LogFault::NoMemory),
     }
-}
-
-/// Goes on past rows. Where the last tag has nearly as many as it may have they are told one by one: rows at
-/// other tags are not to be too many with these.
-fn add_rows(
-    follower: &mut Follower,
-    alloc: Global,
-    plan: &Plan,
-    rows: &[Row],
-) -> Result<Option<Told>, LogFault>
-    requires fit { RowsFit plan.now.program rows.now }
-    requires stands { (t : List TheRow) × IsFollowerOf plan.now t follower.old }
-    ensures told { IfOk result (λ o. (t : List TheRow) → IsFollowerOf plan.now t follower.old → MatchOption o (IsFollowerOf plan.now (t ++ rows.now) follower.new × IsQuiet plan.now (t ++ rows.now)) (IsSaidOfSome plan.now t rows.now)) }
-    ensures fault { IfErr result (λ f. (t : List TheRow) → IsFollowerOf plan.now t follower.old → IsFaultOfRows (t ++ rows.now) f) }
-{
-    if rows.len() <= MAX_ROWS - follower.held() {
-        return add_few(follower, alloc, plan, rows);
-    }
-    for place in 0..rows.len() {
-        match add_few(follower, alloc, plan, &rows[place..place + 1]) {
-            Ok(None) => {}
-            Ok(Some(told)) => return Ok(Some(told)),
-            Err(fault) => return Err(fault),
-        }
-    }
-    Ok(None)
 }
 
 /// What all rows show that are asked for.
@@ -106,25 +75,25 @@ fn close(follower: &mut Follower, alloc: Global, plan: &Plan) -> Told
     }
 }
 
-/// Goes on past rows, up to the last that is asked for. The first one behind it shows only that there are
-/// no more.
+/// Goes on past the rows that the follower has, up to the last that is asked for. The first one behind it
+/// shows only that there are no more.
 fn add_asked(
     follower: &mut Follower,
     asked: &mut Asked,
     alloc: Global,
     plan: &Plan,
-    rows: &[Row],
 ) -> Result<Option<Told>, LogFault>
-    requires fit { RowsFit plan.now.program rows.now }
+    requires fit { EachFits plan.now.program (next_of follower.old) }
     requires stands { (t : List TheRow) × IsFollowerOf plan.now t follower.old }
     ensures until { asked.new.until ≡ asked.old.until }
-    ensures told { IfOk result (λ o. (t : List TheRow) → IsFollowerOf plan.now t follower.old → IsAskedOf t asked.old → MatchOption o (IsFollowerOf plan.now (t ++ rows.now) follower.new × IsAskedOf (t ++ rows.now) asked.new) (λ told. (u more : List TheRow) × (rows.now ≡ u ++ more) × KeepTo asked.old.until (t ++ u) × IsSaid plan.now asked.old.until (t ++ u) more told)) }
-    ensures fault { IfErr result (λ f. (t : List TheRow) → IsFollowerOf plan.now t follower.old → IsFaultOfRows (t ++ rows.now) f) }
+    ensures told { IfOk result (λ o. (t : List TheRow) → IsFollowerOf plan.now t follower.old → IsAskedOf t asked.old → MatchOption o (HasGonePast plan.now (t ++ next_of follower.old) follower.new × IsAskedOf (t ++ next_of follower.old) asked.new) (λ told. (u more : List TheRow) × (next_of follower.old ≡ u ++ more) × KeepTo asked.old.until (t ++ u) × IsSaid plan.now asked.old.until (t ++ u) more told)) }
+    ensures fault { IfErr result (λ f. (t : List TheRow) → IsFollowerOf plan.now t follower.old → IsFaultOfRows (t ++ next_of follower.old) f) }
 {
-    let Some(end) = asked.past_end(rows) else {
-        return add_rows(follower, alloc, plan, rows);
+    let Some(end) = asked.past_end(follower.next()) else {
+        return add_rows(follower, alloc, plan);
     };
-    match add_rows(follower, alloc, plan, &rows[0..end]) {
+    follower.cut(end);
+    match add_rows(follower, alloc, plan) {
         Ok(Some(told)) => Ok(Some(told)),
         Ok(None) => Ok(Some(close(follower, alloc, plan))),
         Err(fault) => Err(fault),
@@ -152,6 +121,7 @@ impl Log {
         // Asked for what every plan keeps: its external events stand in order.
         plan.keeps();
         Ok(Log {
+            numbers: ReactionNumbers::new(alloc, plan.program())?,
             follower: Follower::new(alloc, plan)?,
             rest: Vec::new(alloc),
             rows: 0,
@@ -195,15 +165,23 @@ impl Log {
         if self.inputs > MOST {
             return Err(LogFault::TooManyInputs);
         }
-        let Ok(front) = read_front(alloc, plan.program(), lines, self.rows, self.inputs) else {
+        let Ok(front) = read_front(
+            alloc,
+            plan.program(),
+            &mut self.numbers,
+            lines,
+            self.rows,
+            self.inputs,
+            &mut self.follower.rows,
+        ) else {
             return Err(LogFault::NoMemory);
         };
         // Told first: rows of these lines may be at the tags of these inputs.
         let taken = tell_all(&mut self.follower, plan, &front, self.inputs);
         self.inputs += taken.inputs as u64;
         self.rows += taken.rows as u64;
-        let rows = &front.rows.as_slice()[0..taken.rows];
-        match add_asked(&mut self.follower, &mut self.asked, alloc, plan, rows) {
+        self.follower.cut(taken.rows);
+        match add_asked(&mut self.follower, &mut self.asked, alloc, plan) {
             // The rows before a bad line are judged first: a breach of theirs is
             // sure, whatever that line was to say.
             Ok(None) => match taken.fault {

@@ -12,6 +12,7 @@ use lft_ir::steps::Row;
 use lft_model::Plan;
 use lft_monitor::{Follower, Progress};
 use lft_tag::{MAX_ROWS, NoMemory};
+use lft_trace::ReactionNumbers;
 use std::alloc::Global;
 
 /// No part of a log that is read at once has more bytes.
@@ -29,6 +30,7 @@ pub struct FirstRows {
 /// The rows of a log so far, and what follows them: no external input may be late.
 #[derive(Drop)]
 pub(crate) struct LogRows {
+    numbers: ReactionNumbers,
     rows: Vec<Row>,
     is_cut: bool,
     follower: Follower,
@@ -54,18 +56,26 @@ impl LogRows {
         ensures read { IfOk result (λ on. (base : PlanParts) (bytes behind : List ℕ) → IsReadSoFar base plan.old bytes (lines.now ++ behind) self.old → IsReadOn on base plan.new bytes behind self.new) }
     {
         // The fault of a line isn't told here, so its number may be any.
-        let front = read_front(alloc, plan.program(), lines, 0, 0)?;
-        if front.rows.len() > MAX_ROWS - self.rows.len() {
+        let front = read_front(
+            alloc,
+            plan.program(),
+            &mut self.numbers,
+            lines,
+            0,
+            0,
+            &mut self.follower.rows,
+        )?;
+        if self.follower.next().len() > MAX_ROWS - self.rows.len() {
             self.is_cut = true;
             return Ok(false);
         }
         let taken = tell_all(&mut self.follower, plan, &front, 0);
-        let rows = &front.rows.as_slice()[0..taken.rows];
-        self.rows.extend_from_slice(rows)?;
+        self.follower.cut(taken.rows);
+        self.rows.extend_from_slice(self.follower.next())?;
         if taken.fault.is_some() {
             return Ok(false);
         }
-        match self.follower.add(alloc, plan, rows)? {
+        match self.follower.go_on(alloc, plan)? {
             Progress::GoesOn => Ok(true),
             _ => Ok(false),
         }
@@ -139,6 +149,7 @@ pub fn rows_of_log(
     // Asked for what every plan keeps: its external events stand in order.
     plan.keeps();
     let mut read = LogRows {
+        numbers: ReactionNumbers::new(alloc, plan.program())?,
         rows: Vec::new(alloc),
         is_cut: false,
         follower: Follower::new(alloc, plan)?,

@@ -4,7 +4,7 @@ ghost use Rattle.std.specs.Prelude.{◌≡◌, ◌↔◌, ◌≤◌, ◌^◌, �
 ghost use Rattle.lft_tag.specs.Tags.{IsRecorded};
 ghost use Rattle.lft_ir.specs.{declared.steps.row.Row.Row as TheRow, Steps.Fits.EventFits};
 ghost use Rattle.lft_model.specs.Plans.{PlanParts};
-ghost use Rattle.lft_monitor.specs.{inner.Follows.IsFollowerOf, Follows.IsPassed};
+ghost use Rattle.lft_monitor.specs.{inner.Follows.{IsFollowerOf, next_of}, Follows.IsPassed};
 ghost use Rattle.lft_trace.specs.declared.{external_table.Entry.Entry as TheEntry, log_table.Line.Line as TheLine};
 ghost use Rattle.lft_trace.specs.inner.LogTables.{EntryFits, InputsFit, inputs_behind};
 ghost use Rattle.lft_log.specs.{Logs.{rows, tag_of_entry}, Told.HasTold, inner.Told.{IsBeforeLatest, IsInputFault, IsLatestTag, IsTaken}};
@@ -58,6 +58,7 @@ fn tell_stop(
     ensures told { IfOk result (λ _. (base : PlanParts) (before : List TheEntry) → HasTold base before plan.old → HasTold base (before ++ Entry.Stops stop ∷ []) plan.new) }
     ensures timely { IfOk result (λ _. (t : List TheRow) → IsFollowerOf plan.old t follower.old → ¬ IsPassed t stop) }
     ensures stands { (t : List TheRow) → IsFollowerOf plan.old t follower.old → IsFollowerOf plan.new t follower.new }
+    ensures next { next_of follower.new ≡ next_of follower.old }
     ensures stays { OnErr result (plan.new ≡ plan.old) }
     ensures fault { IfErr result (λ f. (t u : List TheRow) → IsFollowerOf plan.old t follower.old → IsInputFault plan.old (t ++ u) (Entry.Stops stop) number f) }
 {
@@ -75,6 +76,7 @@ fn tell(follower: &mut Follower, plan: &mut Plan, entry: Entry, number: u64) -> 
     ensures told { IfOk result (λ _. (base : PlanParts) (before : List TheEntry) → HasTold base before plan.old → HasTold base (before ++ entry ∷ []) plan.new) }
     ensures timely { IfOk result (λ _. (t : List TheRow) → IsFollowerOf plan.old t follower.old → ¬ IsPassed t (tag_of_entry entry)) }
     ensures stands { (t : List TheRow) → IsFollowerOf plan.old t follower.old → IsFollowerOf plan.new t follower.new }
+    ensures next { next_of follower.new ≡ next_of follower.old }
     ensures stays { OnErr result (plan.new ≡ plan.old) }
     ensures fault { IfErr result (λ f. (t u : List TheRow) → IsFollowerOf plan.old t follower.old → IsInputFault plan.old (t ++ u) entry number f) }
 {
@@ -144,6 +146,7 @@ fn tell_behind(
     ensures told { IfOk result (λ _. (base : PlanParts) (before : List TheEntry) → HasTold base before plan.old → HasTold base (before ++ entry ∷ []) plan.new) }
     ensures timely { IfOk result (λ _. (t u : List TheRow) → IsFollowerOf plan.old t follower.old → IsLatestTag u latest → ¬ IsPassed (t ++ u) (tag_of_entry entry)) }
     ensures stands { (t : List TheRow) → IsFollowerOf plan.old t follower.old → IsFollowerOf plan.new t follower.new }
+    ensures next { next_of follower.new ≡ next_of follower.old }
     ensures stays { OnErr result (plan.new ≡ plan.old) }
     ensures fault { IfErr result (λ f. (t u : List TheRow) → IsFollowerOf plan.old t follower.old → IsLatestTag u latest → IsInputFault plan.old (t ++ u) entry number f) }
 {
@@ -171,8 +174,8 @@ pub(crate) struct Taken {
     pub fault: Option<LogFault>,
 }
 
-/// Tells the external inputs among rows before these are judged, up to one that can't be taken. So many
-/// came before them.
+/// Tells the external inputs among rows before the follower goes past these, up to one that can't be taken. So
+/// many came before them.
 pub(crate) fn tell_all(
     follower: &mut Follower,
     plan: &mut Plan,
@@ -180,21 +183,24 @@ pub(crate) fn tell_all(
     before: u64,
 ) -> Taken
     requires few { before ≤ 2 ^ 62 }
-    requires lines { (lines : List TheLine) × (front.now.rows.items ≡ rows lines) × (front.now.inputs.items ≡ inputs_behind 0 lines) }
+    requires lines { (lines : List TheLine) × (next_of follower.old ≡ rows lines) × (front.now.inputs.items ≡ inputs_behind 0 lines) }
     requires fit { InputsFit plan.old.program front.now.inputs.items }
     requires stands { (t : List TheRow) × IsFollowerOf plan.old t follower.old }
     ensures program { plan.new.program ≡ plan.old.program }
-    ensures within { (result.rows ≤ length front.now.rows.items) × (result.inputs ≤ length front.now.inputs.items) }
+    ensures next { next_of follower.new ≡ next_of follower.old }
+    ensures within { (result.rows ≤ length (next_of follower.old)) × (result.inputs ≤ length front.now.inputs.items) }
     ensures stands { (t : List TheRow) → IsFollowerOf plan.old t follower.old → IsFollowerOf plan.new t follower.new }
-    ensures taken { (t : List TheRow) (lines : List TheLine) → IsFollowerOf plan.old t follower.old → front.now.rows.items ≡ rows lines → front.now.inputs.items ≡ inputs_behind 0 lines → IsTaken plan.old plan.new t before front.now lines result }
+    ensures taken { (t : List TheRow) (lines : List TheLine) → IsFollowerOf plan.old t follower.old → next_of follower.old ≡ rows lines → front.now.inputs.items ≡ inputs_behind 0 lines → IsTaken plan.old plan.new t before front.now lines result }
 {
-    let rows = front.rows.as_slice();
     let inputs = front.inputs.as_slice();
     let mut latest = None;
     let mut gone = 0;
     for place in 0..inputs.len() {
         let among = inputs[place];
-        latest = latest_of(latest, rows_between(rows, gone, among.rows_before));
+        latest = latest_of(
+            latest,
+            rows_between(follower.next(), gone, among.rows_before),
+        );
         gone = among.rows_before;
         let number = before + place as u64 + 2;
         if let Err(fault) = tell_behind(follower, plan, latest, among.entry, number) {
@@ -206,7 +212,7 @@ pub(crate) fn tell_all(
         }
     }
     Taken {
-        rows: rows.len(),
+        rows: follower.next().len(),
         inputs: inputs.len(),
         fault: front.fault,
     }

@@ -6,13 +6,8 @@ use native.Mathlib.Decide.{dec_lt}
 use Rattle.lft_tag.{specs.{declared.Tag.Tag, Tags.Before}, proofs.Order.{Before-irrefl, UpTo-refl}}
 use Rattle.lft_ir.specs.declared.steps.row.Row.{Row}
 use Rattle.lft_model.{specs.{Plans.PlanParts, Presence.stop}, proofs.Places.slice_get_within}
-use Rattle.lft_rows.specs.{declared.pass.Pass.Pass, inner.{Passes.{FirstUnended, HasPassed, IsPass}, Slices.Rises}}
-use Rattle.lft_rows.proofs.{Growing.grown_law, Rereads.rises_to}
+use Rattle.lft_rows.{specs.{declared.pass.Pass.Pass, inner.{Passes.{FirstUnended, HasPassed}, Slices.Rises}}, proofs.{Growing.grown_law, Rereads.rises_to}}
 use Rattle.lft_monitor.specs.{declared.gone.Going.Going, inner.{Follows.BeginsLast, Going.{AreEnded, AreFewOpenRuns, IsGoing}}}
-
--- what a pass goes by is of the program
-pub pass_of : (last : Tag) (plan : PlanParts) (t : List Row) (i : ℕ) (pass : Pass) → HasPassed last plan t i pass → IsPass plan.program pass
-pass_of last plan t i pass is = record { effects = is.effects; laid = is.known.marked.are_before.is_laid }
 
 -- rows that a pass has gone over rise
 pub passed_rise : (last : Tag) (plan : PlanParts) (t : List Row) (pass : Pass) → HasPassed last plan t (length t) pass → Rises t

@@ -10,7 +10,7 @@ use Rattle.lft_model.proofs.Places.{slice_get_within}
 use Rattle.lft_rows.{specs.{inner.{Firsts.FirstRow, Parts.AreEarlier}, Answers.Answers.KeepsRows}, proofs.Together.together}
 use Rattle.lft_stream.proofs.{Behind.in_time_added, Settling.{rows_in_time, rows_until}}
 use Rattle.lft_monitor.specs.{Sure.IsFirstBefore, declared.{follower.Follower.Follower, judged.Judged.Judged, past.Past.Past}}
-use Rattle.lft_monitor.specs.{inner.{Kept.IsPastOfRows, Follows.{AreJudged, done_of, IsFollowerOf, IsJudgedOf}}, Follows.IsJudged}
+use Rattle.lft_monitor.specs.{inner.{Kept.IsPastOfRows, Follows.{AreJudged, done_of, held_of, IsFollowerOf, IsJudgedOf}}, Follows.IsJudged}
 use Rattle.lft_monitor.proofs.{Following.judged_so_far, Hand.{breaks_own, breaks_whole, unended_whole}, Rows.breaks_back}
 
 module _ (plan : PlanParts) (d v : List Row) (settled : FirstRow (stop plan d) plan d None) (earlier : AreEarlier d v) where
@@ -67,9 +67,9 @@ pub still_judged : (plan : PlanParts) (d : List Row) (old new : Judged) → IsJu
 still_judged plan d old new is past count = record { past = subst (λ (p : Past). IsPastOfRows plan d p) (sym past) is.past; counted = count ∙ is.counted; few = subst (λ (n : ℕ). n ≤ 2 ^ 62 + 4000000) (sym count) is.few; rows = is.acceptor.stands.state.settled.rows }
 
 -- the rows that a follower holds are later than those that it has judged
-pub hand_later : (plan : PlanParts) (t : List Row) (f : Follower) → IsFollowerOf plan t f → AreEarlier (done_of t f) f.rows.items
+pub hand_later : (plan : PlanParts) (t : List Row) (f : Follower) → IsFollowerOf plan t f → AreEarlier (done_of t f) (held_of f)
 hand_later plan t f is i j x y p q =
-    let z = get_there f.rows.items 0 (let l : j < length f.rows.items = slice_get_within f.rows.items j y q in omega arith) in
+    let z = get_there (held_of f) 0 (let l : j < length (held_of f) = slice_get_within (held_of f) j y q in omega arith) in
     subst (λ (k : Tag). Before x.tag k) (is.at_one.1 0 z.0 z.1 ∙ sym (is.at_one.1 j y q)) (is.held.earlier z.0 z.1 i x p)
 
 -- the first breach of the rules 6 to 10 before some tag is the first of all, where no row breaks another rule
@@ -87,7 +87,7 @@ first_of_tags plan t high b before keeps = inr (keeps, first.breaks, least)
         go (inr up) = inl (Before-UpTo b.tag high c.tag first.before up)
 
 -- what is so of the rows at hand behind those that are judged is so of all
-pub at_end : (plan : PlanParts) (t : List Row) (f : Follower) → IsFollowerOf plan t f → (s : List Row) → s ≡ f.rows.items → (P : List Row → Type 0) → ((d : List Row) → IsJudgedOf plan d f.judged → AreEarlier d s → IsJudged plan (d ++ s) f.judged.reach → P (d ++ s)) → P t
+pub at_end : (plan : PlanParts) (t : List Row) (f : Follower) → IsFollowerOf plan t f → (s : List Row) → s ≡ held_of f → (P : List Row → Type 0) → ((d : List Row) → IsJudgedOf plan d f.judged → AreEarlier d s → IsJudged plan (d ++ s) f.judged.reach → P (d ++ s)) → P t
 at_end plan t f is s rows P ends = subst P same (ends (done_of t f) is.held.judged (subst (λ (u : List Row). AreEarlier (done_of t f) u) (sym rows) (hand_later plan t f is)) (subst (λ (u : List Row). IsJudged plan u f.judged.reach) (sym same) (judged_so_far plan t f is)))
   where
     same : done_of t f ++ s ≡ t

@@ -1,24 +1,20 @@
 -- What a follower holds, over more rows and over rows that are judged.
-use Rattle.std.proofs.Common.{◌≡◌, ℕ, ◌+◌, ◌-◌, ◌∷◌, ◌<◌, ◌≤◌, ◌⊎◌, inl, inr, List, [], ◌++◌, length, take, length-append, refl, sym, ap, ◌∙◌, subst, arith, Option, Some, None, slice_get, slice_range}
-use Rattle.std.specs.Prelude.{MatchOption}
-use Rattle.std.proofs.{Math.Seq.{take-append_seam, take-length}, lemmas.List.{append_assoc, append-nil, take-append-le}}
+use Rattle.std.proofs.Common.{◌≡◌, ℕ, ◌+◌, ◌-◌, ◌∷◌, ◌<◌, ◌≤◌, ◌⊎◌, inl, inr, List, [], ◌++◌, length, take, drop, length-append, refl, sym, ap, ◌∙◌, subst, arith, Some, None, slice_get, slice_range}
+use Rattle.std.proofs.{Math.Seq.{take-append_seam, take-length}, lemmas.List.{append_assoc, append-nil, drop-append-le, take-append-le}}
 use native.Mathlib.Decide.{dec_lt}
 use Rattle.lft_tag.{specs.{declared.Tag.Tag, Tags.{Before, UpTo}}, proofs.Order.{UpTo-Before, UpTo-refl, UpTo_antisym, order_cases, split_up}}
 use Rattle.lft_ir.{proofs.Ranges.{length-range, range-get}, specs.{declared.steps.row.Row.Row, Steps.Fits.{RowFits, RowsFit}}}
-use Rattle.lft_lists.proofs.Places.{get_append_cases, get_left, get_right, get_there, same_at}
-use Rattle.lft_model.specs.{declared.breach.Breach.Breach, Plans.PlanParts, Presence.stop, Breaches.RowBreach}
-use Rattle.lft_model.proofs.Places.{slice_get_within, slice_get_take}
+use Rattle.lft_lists.proofs.Places.{get_append_cases, get_right, get_there, same_at}
+use Rattle.lft_model.{specs.{declared.breach.Breach.Breach, Plans.PlanParts, Presence.stop}, proofs.Places.{slice_get_within, slice_get_take}}
 use Rattle.lft_rows.specs.inner.{Firsts.FirstRow, Slices.Rises, Passes.{HasPassed, KeepsEarly}}
 use Rattle.lft_queue.specs.Coming.AtTag.{AreAt, AreBefore}
 use Rattle.lft_stream.proofs.Parting.{range_fits, up_to_second}
 use Rattle.lft_monitor.specs.declared.{gone.{Going.Going, Halt.Halt}, follower.{Follower.Follower, Hitch.Hitch}, judged.{Judged.Judged, Unjudged.Unjudged}}
 use Rattle.lft_monitor.specs.declared.reach.Reach.{Reach}
 use Rattle.lft_monitor.specs.inner.Going.{AreEnded, AreFewOpenRuns, IsGoing, IsGoneTo, IsHalt}
-use Rattle.lft_monitor.specs.inner.Follows.{done_of, IsFollowedOn, IsFollowerOf, IsHeld, IsHitch, IsJudgedOf, IsJudgedTo, IsOdd, IsOddBehind, IsTurn, IsUnjudged, BeginsLast}
-use Rattle.lft_monitor.specs.Sure.{IsFirstBefore}
-use Rattle.lft_monitor.specs.Follows.{breach_of, IsBadRow, IsCleanSoFar, IsCleanTo, IsJudged, IsLostRun, IsOddSoFar, IsQuiet, IsSureBehind, IsSureSoFar, KeepsButLast}
+use Rattle.lft_monitor.specs.inner.Follows.{done_of, held_of, next_of, IsFollowedOn, IsFollowerOf, IsHeld, IsHitch, IsJudgedOf, IsJudgedTo, IsOdd, IsOddBehind, IsTurn, IsUnjudged, BeginsLast}
+use Rattle.lft_monitor.specs.Follows.{IsCleanSoFar, IsCleanTo, IsJudged, IsOddSoFar, IsQuiet, IsSureBehind, IsSureSoFar}
 use Rattle.lft_monitor.proofs.{Judging.{accepted_rise, parted, rest_at}, Over.{apart, keeps_but_last, quiet}, Telling.{IsOf, bad_is_sure, lost_is_sure}}
-use Rattle.lft_monitor.specs.declared.follower.Hitch.TheVariants as hitch
 
 -- what is gone over is gone over still when more rows come behind
 pub going_more : (plan : PlanParts) (done rows more : List Row) (g : Going) → IsGoing plan done rows g → IsGoing plan done (rows ++ more) g
@@ -246,7 +242,7 @@ unjudged_so_far plan t u (inr clean, line) = (length t, clean_to plan t t [] u.r
 
 -- how far the rows are judged
 pub judged_so_far : (plan : PlanParts) (t : List Row) (f : Follower) → IsFollowerOf plan t f → IsJudged plan t f.judged.reach
-judged_so_far plan t f is = record { done = d; left = f.rows.items; parts = is.parts; at_one = at_one f.rows.items is.held.some is.held.earlier is.at_one; some = is.held.some; clean = is.held.judged.clean }
+judged_so_far plan t f is = record { done = d; left = held_of f; parts = is.parts; at_one = at_one (held_of f) is.held.some is.held.earlier is.at_one; some = is.held.some; clean = is.held.judged.clean }
   where
     d : List Row
     d = done_of t f
@@ -261,27 +257,47 @@ unfolding judged_so_far
 odd_of_first plan t more f is line odd = record { judged = judged_so_far plan t f is; odd = odd }
 
 -- before the first row
-pub new_follower : (plan : PlanParts) (f : Follower) → IsJudgedOf plan [] f.judged → ((rows : List Row) → IsGoing plan [] rows f.going) → f.rows.items ≡ [] → IsFollowerOf plan [] f
-new_follower plan f judged going none = record {
-  parts = sym (none) ∙ ap (λ (x : List Row). x ++ f.rows.items) (sym same);
+pub new_follower : (plan : PlanParts) (f : Follower) → IsJudgedOf plan [] f.judged → ((rows : List Row) → IsGoing plan [] rows f.going) → f.held ≡ 0 → IsFollowerOf plan [] f
+new_follower plan f judged going zero = record {
+  within = omega (arith, zero);
+  parts = sym none ∙ ap (λ (x : List Row). x ++ held_of f) (sym same);
   held = record {
     judged = subst (λ (x : List Row). IsJudgedOf plan x f.judged) (sym same) judged;
     fit = subst (RowsFit plan.program) (sym none) (record { few = omega arith; each = λ i x e. absurd (cc) });
     earlier = λ x e. subst (λ (u : List Row). AreBefore u x.tag) (sym same) (λ i y g. absurd (cc));
     some = λ e. same;
   };
-  going = subst (λ (x : List Row). IsGoing plan x f.rows.items f.going) (sym same) (going f.rows.items);
+  going = subst (λ (x : List Row). IsGoing plan x (held_of f) f.going) (sym same) (going (held_of f));
   at_one = subst (λ (x : List Row). (g : Tag) × AreAt x g) (sym none) (record { time = 0; micro = 0 }, λ i x e. absurd (cc));
 }
   where
+    none : held_of f ≡ []
+    none = ap (λ (n : ℕ). take n f.rows.items) zero
+
     same : done_of [] f ≡ []
-    same = done_is [] [] f.rows.items f.judged.count judged.counted (sym none)
+    same = done_is [] [] (held_of f) f.judged.count judged.counted (sym none)
 
--- where the rows of a slice begin that are at its last tag
-pub begins_of : (rows s : List Row) (n begin : ℕ) → s ≡ rows → n ≡ length rows → BeginsLast s n begin → BeginsLast rows (length rows) begin
-begins_of rows s n begin is long begins = subst (λ (x : List Row). BeginsLast x (length rows) begin) is (subst (λ (m : ℕ). BeginsLast s m begin) long begins)
+-- what holds the same, with others to go past next
+pub follower_as : (plan : PlanParts) (t : List Row) (f new : Follower) → new.judged ≡ f.judged → new.going ≡ f.going → new.held ≤ length new.rows.items → held_of new ≡ held_of f → IsFollowerOf plan t f → IsFollowerOf plan t new
+follower_as plan t f new judged going within same is = record {
+  within = within;
+  parts = is.parts ∙ ap (λ (j : Judged). take j.count t ++ held_of f) (sym judged) ∙ ap (λ (u : List Row). done_of t new ++ u) (sym same);
+  held = subst (λ (j : Judged). IsHeld plan (take j.count t) (held_of new) j) (sym judged) (subst (λ (u : List Row). IsHeld plan (done_of t f) u f.judged) (sym same) is.held);
+  going = subst (λ (j : Judged). IsGoing plan (take j.count t) (held_of new) new.going) (sym judged) (subst (λ (u : List Row). IsGoing plan (done_of t f) u new.going) (sym same) (subst (λ (g : Going). IsGoing plan (done_of t f) (held_of f) g) (sym going) is.going));
+  at_one = subst (λ (u : List Row). (g : Tag) × AreAt u g) (sym same) is.at_one;
+}
 
--- and before the end of the rows
+-- more rows are put behind
+pub more_next : (plan : PlanParts) (t more : List Row) (f new : Follower) → new.judged ≡ f.judged → new.going ≡ f.going → new.held ≡ f.held → new.rows.items ≡ f.rows.items ++ more → IsFollowerOf plan t f → IsFollowerOf plan t new × (next_of new ≡ next_of f ++ more)
+more_next plan t more f new judged going held rows is = (
+  follower_as plan t f new judged going (let a : length new.rows.items ≡ length f.rows.items + length more = ap (λ (u : List Row). length u) rows ∙ length-append f.rows.items more in let b = is.within in omega (arith, a, b, held)) (both take ∙ take-append-le f.held f.rows.items more is.within) is,
+  both drop ∙ drop-append-le f.held f.rows.items more is.within,
+)
+  where
+    both : (cut : ℕ → List Row → List Row) → cut new.held new.rows.items ≡ cut f.held (f.rows.items ++ more)
+    both cut = ap (λ (n : ℕ). cut n new.rows.items) held ∙ ap (λ (u : List Row). cut f.held u) rows
+
+-- the last tag of some rows begins before the end of all
 pub begins_within : (rows : List Row) (end begin : ℕ) → BeginsLast rows end begin → end ≤ length rows → 0 < length rows → begin < length rows
 begins_within rows end begin begins within some = go (dec_lt 0 end)
   where
@@ -294,37 +310,38 @@ begins_within rows end begin begins within some = go (dec_lt 0 end)
 
 module _ (plan : PlanParts) (t more : List Row) (old : Follower) (is : IsFollowerOf plan t old) where
   abbrev pub rows : List Row
-  rows = old.rows.items ++ more
+  rows = held_of old ++ more
 
   -- rows and more behind them are those that are judged and those at hand
   pub whole : t ++ more ≡ done_of t old ++ rows
-  whole = ap (λ (x : List Row). x ++ more) is.parts ∙ append_assoc (done_of t old) old.rows.items more
+  whole = ap (λ (x : List Row). x ++ more) is.parts ∙ append_assoc (done_of t old) (held_of old) more
 
-  pub fit_more : RowsFit plan.program more → length old.rows.items + length more ≤ 4000000 → RowsFit plan.program rows
-  fit_more fit few = record { few = let a : length rows ≡ length old.rows.items + length more = length-append old.rows.items more in omega (arith, a, few); each = λ i x e. each i x (get_append_cases old.rows.items more i x e) }
+  pub fit_more : RowsFit plan.program more → length (held_of old) + length more ≤ 4000000 → RowsFit plan.program rows
+  fit_more fit few = record { few = let a : length rows ≡ length (held_of old) + length more = length-append (held_of old) more in omega (arith, a, few); each = λ i x e. each i x (get_append_cases (held_of old) more i x e) }
     where
-      each : (i : ℕ) (x : Row) → (slice_get old.rows.items i ≡ Some x) ⊎ ((j : ℕ) × (i ≡ length old.rows.items + j) × (slice_get more j ≡ Some x)) → RowFits plan.program x
+      each : (i : ℕ) (x : Row) → (slice_get (held_of old) i ≡ Some x) ⊎ ((j : ℕ) × (i ≡ length (held_of old) + j) × (slice_get more j ≡ Some x)) → RowFits plan.program x
       each i x (inl e) = is.held.fit.each i x e
       each i x (inr e) = fit.each e.0 x e.2
 
   module _ (s : List Row) (same : s ≡ rows) where
     pub held_over : RowsFit plan.program s → IsHeld plan (done_of t old) s old.judged
-    held_over fit = subst (λ (u : List Row). IsHeld plan (done_of t old) u old.judged) (sym same) (held_more plan (done_of t old) old.rows.items more old.judged is.held (subst (λ (u : List Row). RowsFit plan.program u) same fit))
+    held_over fit = subst (λ (u : List Row). IsHeld plan (done_of t old) u old.judged) (sym same) (held_more plan (done_of t old) (held_of old) more old.judged is.held (subst (λ (u : List Row). RowsFit plan.program u) same fit))
 
     pub going_over : IsGoing plan (done_of t old) s old.going
-    going_over = subst (λ (u : List Row). IsGoing plan (done_of t old) u old.going) (sym same) (going_more plan (done_of t old) old.rows.items more old.going is.going)
+    going_over = subst (λ (u : List Row). IsGoing plan (done_of t old) u old.going) (sym same) (going_more plan (done_of t old) (held_of old) more old.going is.going)
 
     -- where they aren't gone past
     pub hitch_over : (h : Hitch) → IsHitch plan (done_of t old ++ s) (length (done_of t old)) h → IsHitch plan (t ++ more) (length (done_of t old)) h
     hitch_over h stuck = subst (λ (u : List Row). IsHitch plan u (length (done_of t old)) h) (ap (λ (u : List Row). done_of t old ++ u) same ∙ sym whole) stuck
 
     -- where those before a place are judged, and the others are held
-    pub followed_on : (new : Follower) (begin : ℕ) → IsJudgedTo plan (done_of t old) s new.judged new.going begin → new.rows.items ≡ slice_range s begin (length s) → IsFollowedOn plan t more old new
-    followed_on new begin to left = record {
+    pub followed_on : (new : Follower) (begin : ℕ) → IsJudgedTo plan (done_of t old) s new.judged new.going begin → new.held ≤ length new.rows.items → held_of new ≡ slice_range s begin (length s) → IsFollowedOn plan t more old new
+    followed_on new begin to within left = record {
       follows = record {
-        parts = parts ∙ ap (λ (x : List Row). x ++ new.rows.items) (sym judged);
-        held = subst (λ (x : List Row). IsHeld plan x new.rows.items new.judged) (sym judged) (subst (λ (u : List Row). IsHeld plan now u new.judged) (sym left) to.held);
-        going = subst (λ (x : List Row). IsGoing plan x new.rows.items new.going) (sym judged) (subst (λ (u : List Row). IsGoing plan now u new.going) (sym left) to.going);
+        within = within;
+        parts = parts ∙ ap (λ (x : List Row). x ++ held_of new) (sym judged);
+        held = subst (λ (x : List Row). IsHeld plan x (held_of new) new.judged) (sym judged) (subst (λ (u : List Row). IsHeld plan now u new.judged) (sym left) to.held);
+        going = subst (λ (x : List Row). IsGoing plan x (held_of new) new.going) (sym judged) (subst (λ (u : List Row). IsGoing plan now u new.going) (sym left) to.going);
         at_one = subst (λ (u : List Row). (g : Tag) × AreAt u g) (sym left) to.at_one;
       };
       quiet = subst (λ (u : List Row). IsQuiet plan u) (sym both) to.quiet;
@@ -337,98 +354,8 @@ module _ (plan : PlanParts) (t more : List Row) (old : Follower) (is : IsFollowe
         both : t ++ more ≡ done_of t old ++ s
         both = whole ∙ ap (λ (u : List Row). done_of t old ++ u) (sym same)
 
-        parts : t ++ more ≡ now ++ new.rows.items
+        parts : t ++ more ≡ now ++ held_of new
         parts = parted (t ++ more) (done_of t old) s begin to.within both ∙ ap (λ (x : List Row). now ++ x) (sym left)
 
         judged : done_of (t ++ more) new ≡ now
-        judged = done_is (t ++ more) now new.rows.items new.judged.count to.held.judged.counted parts
-
--- a list that ends as one with others before it does
-front_cut : (t a d u : List Row) → t ++ a ≡ d ++ u → length u ≤ length a → (v : List Row) × (a ≡ v ++ u)
-front_cut [] a d u e few = (d, e)
-front_cut (x ∷ t) a [] u e few = absurd (let p : length (x ∷ (t ++ a)) ≡ length u = ap (λ (y : List Row). length y) e in let q = length-append t a in omega (arith, p, q, few))
-front_cut (x ∷ t) a (y ∷ d) u e few = front_cut t a d u (let q : t ++ a ≡ d ++ u = cc in q) few
-
--- what is behind the first rows
-range_behind : (more u v : List Row) (n : ℕ) → n ≡ length u → more ≡ u ++ v → slice_range more n (length more) ≡ v
-range_behind more u v n long parts = right u v (slice_range more 0 n) (slice_range more n (length more)) (sym parts ∙ parted more [] more n within refl) (sym long ∙ sym cut)
-  where
-    within : n ≤ length more
-    within = let l : length more ≡ length u + length v = ap (λ (x : List Row). length x) parts ∙ length-append u v in omega (arith, l, long)
-
-    cut : length (slice_range more 0 n) ≡ n
-    cut = let l : length (slice_range more 0 n) ≡ n - 0 = length-range more 0 n within in omega (arith, l)
-
-    right : (u v w x : List Row) → u ++ v ≡ w ++ x → length u ≡ length w → x ≡ v
-    right [] v [] x e l = sym e
-    right [] v (y ∷ w) x e l = absurd (omega (arith, l))
-    right (y ∷ u) v [] x e l = absurd (omega (arith, l))
-    right (y ∷ u) v (z ∷ w) x e l = right u v w x (let q : u ++ v ≡ w ++ x = cc in q) (omega (arith, l))
-
--- what is sure of rows is sure with more behind them
-sure_longer : (plan : PlanParts) (t u : List Row) (b : Breach) → IsSureSoFar plan t b → IsSureSoFar plan (t ++ u) b
-sure_longer plan t u b (n, inl x) = (n, inl (record { within = let l = length-append t u in let m = x.within in omega (arith, l, m); breaks = subst (λ (v : List Row). RowBreach plan v b) (sym same) x.breaks; sure = go x.sure }))
-  where
-    same : take n (t ++ u) ≡ take n t
-    same = take-append-le n t u x.within
-
-    less : take (n - 1) (t ++ u) ≡ take (n - 1) t
-    less = take-append-le (n - 1) t u (let m = x.within in omega (arith, m))
-
-    go : IsBadRow plan t b n ⊎ IsLostRun plan t b n → IsBadRow plan (t ++ u) b n ⊎ IsLostRun plan (t ++ u) b n
-    go (inl y) = inl (record { rule = y.rule; last = y.last; quiet = subst (λ (v : List Row). IsQuiet plan v) (sym less) y.quiet; least = λ c r. y.least c (subst (λ (v : List Row). RowBreach plan v c) same r); ended = λ c r. y.ended c (subst (λ (v : List Row). RowBreach plan v c) same r) })
-    go (inr y) = inr (record { rule = y.rule; next = y.next; is_next = get_left t u n y.next y.is_next; before = y.before; quiet = subst (λ (v : List Row). IsQuiet plan v) (sym same) y.quiet; first = λ c r. y.first c (subst (λ (v : List Row). RowBreach plan v c) same r) })
-sure_longer plan t u b (n, inr x) = (n, inr (record { within = let l = length-append t u in let m = x.within in omega (arith, l, m); some = x.some; row = x.row; last = get_left t u (n - 1) x.row x.last; first = subst (λ (v : List Row). IsFirstBefore plan v x.row.tag b) (sym same) x.first; kept = subst (λ (v : List Row). KeepsButLast plan v) (sym same) x.kept }))
-  where
-    same : take n (t ++ u) ≡ take n t
-    same = take-append-le n t u x.within
-
-hitch_longer : (plan : PlanParts) (t u : List Row) (n : ℕ) (h : Hitch) → IsHitch plan t n h → IsHitch plan (t ++ u) n h
-hitch_longer plan t u n (hitch.Broken f) sure = sure_longer plan t u (breach_of f) sure
-hitch_longer plan t u n (hitch.Odd line) odd = record { place = odd.place; row = odd.row; next = odd.next; is_row = get_left t u odd.place odd.row odd.is_row; is_next = get_left t u (odd.place + 1) odd.next odd.is_next; before = odd.before; behind = odd.behind; line_is = odd.line_is }
-
--- rows are followed on in two parts
-module _ (plan : PlanParts) (t a b more : List Row) (old : Follower) (both : a ++ b ≡ more) where
-  joined : (t ++ a) ++ b ≡ t ++ more
-  joined = append_assoc t a b ∙ ap (λ (x : List Row). t ++ x) both
-
-  pub hitch_in_first : (h : Hitch) → IsHitch plan (t ++ a) (length (done_of t old)) h → IsHitch plan (t ++ more) (length (done_of t old)) h
-  hitch_in_first h is = subst (λ (x : List Row). IsHitch plan x (length (done_of t old)) h) joined (hitch_longer plan (t ++ a) b (length (done_of t old)) h is)
-
-  module _ (mid : Follower) (first : IsFollowedOn plan t a old mid) where
-    hitch_in_two : (h : Hitch) → IsHitch plan ((t ++ a) ++ b) (length (done_of (t ++ a) mid)) h → IsHitch plan (t ++ more) (length (done_of t old)) h
-    hitch_in_two (hitch.Broken f) sure = subst (λ (x : List Row). IsSureSoFar plan x (breach_of f)) joined sure
-    hitch_in_two (hitch.Odd line) odd = subst (λ (x : List Row). IsOddBehind x (length (done_of t old)) line) joined (record { place = odd.place; row = odd.row; next = odd.next; is_row = odd.is_row; is_next = odd.is_next; before = odd.before; behind = let p = first.further in let q = odd.behind in omega (arith, p, q); line_is = odd.line_is })
-
-    pub in_two : (new : Follower) (o : Option Hitch) → MatchOption o (IsFollowedOn plan (t ++ a) b mid new) (IsHitch plan ((t ++ a) ++ b) (length (done_of (t ++ a) mid))) → MatchOption o (IsFollowedOn plan t more old new) (IsHitch plan (t ++ more) (length (done_of t old)))
-    in_two new None second = record {
-      follows = subst (λ (x : List Row). IsFollowerOf plan x new) joined second.follows;
-      quiet = subst (λ (x : List Row). IsQuiet plan x) joined second.quiet;
-      further = let p = first.further in let q = second.further in let r = ap (λ (x : List Row). length (done_of x new)) joined in omega (arith, p, q, r);
-    }
-    in_two new (Some h) is = hitch_in_two h is
-
-    -- the rows that are held behind the first part end it
-    pub tail_held : (n : ℕ) → n + length mid.rows.items ≡ length a → slice_range more n (length more) ≡ mid.rows.items ++ b
-    tail_held n long = by (front_cut t a (done_of (t ++ a) mid) mid.rows.items first.follows.parts (omega (arith, long)))
-      where
-        by : (u : List Row) × (a ≡ u ++ mid.rows.items) → slice_range more n (length more) ≡ mid.rows.items ++ b
-        by (u, cut) = range_behind more u (mid.rows.items ++ b) n (let p = ap (λ (x : List Row). length x) cut ∙ length-append u mid.rows.items in omega (arith, p, long)) (sym both ∙ ap (λ (x : List Row). x ++ b) cut ∙ append_assoc u mid.rows.items b)
-
-    module _ (is : IsFollowerOf plan t old) where
-      whole_is : length t ≡ length (done_of t old) + length old.rows.items
-      whole_is = ap (λ (x : List Row). length x) is.parts ∙ length-append (done_of t old) old.rows.items
-
-      first_is : length (t ++ a) ≡ length (done_of (t ++ a) mid) + length mid.rows.items
-      first_is = ap (λ (x : List Row). length x) first.follows.parts ∙ length-append (done_of (t ++ a) mid) mid.rows.items
-
-      more_is : length more ≡ length a + length b
-      more_is = ap (λ (x : List Row). length x) (sym both) ∙ length-append a b
-
-      -- no more are held with the rest than were with all
-      pub holds_on : length mid.rows.items + length b ≤ length old.rows.items + length more
-      holds_on = let u = length-append t a in let f = first.further in omega (arith, whole_is, first_is, more_is, u, f)
-
-      -- and no more are there to be judged
-      pub counts_on : mid.judged.count + length mid.rows.items + length b ≡ old.judged.count + length old.rows.items + length more
-      counts_on = let u = length-append t a in let q = is.held.judged.counted in let s = first.follows.held.judged.counted in omega (arith, whole_is, first_is, more_is, u, q, s)
+        judged = done_is (t ++ more) now (held_of new) new.judged.count to.held.judged.counted parts

@@ -18,7 +18,7 @@ use Rattle.lft_queue.specs.{Coming.AtTag.AreBefore, inner.Coming.{Coming.AreComi
 use Rattle.lft_stream.specs.declared.{acceptor.Acceptor.Acceptor, stream.Stream.Stream}
 use Rattle.lft_stream.specs.{inner.{Settled.IsRightRun, Kept.{AreUpToLast, HaveCome, IsLater, IsOfRow, IsStreamOf, IsAcceptorOf}}, Kept.low_of}
 use Rattle.lft_monitor.specs.Sure.{IsUnbroken}
-use Rattle.lft_monitor.specs.inner.{Sure.{with_inputs, GiveSame}, Kept.IsPastOfRows, Going.IsGoing, Follows.{IsJudgedOf, IsFollowerOf, done_of}}
+use Rattle.lft_monitor.specs.inner.{Sure.{with_inputs, GiveSame}, Kept.IsPastOfRows, Going.IsGoing, Follows.{IsJudgedOf, IsFollowerOf, done_of, held_of}}
 use Rattle.lft_monitor.specs.declared.{past.Past.Past, gone.Going.Going, judged.Judged.Judged, follower.Follower.Follower}
 use Rattle.lft_monitor.proofs.{Behind.after_least, Later.{later_law, same_alike, at_alike, clash_alike}}
 use Rattle.lft_monitor.proofs.{OtherInputs.{row_other, listens_back, listeners_other, dues_other, right_other, kept_other}, Passed.{reach_up, done_before}}
@@ -267,14 +267,15 @@ module _ (plan : PlanParts) (event : Event) (place : ℕ) (within : place ≤ le
   -- an event that isn't before the rows at hand
   pub follower_more : (t : List Row) (f : Follower) → AreBefore (done_of t f) event.tag → IsFollowerOf plan t f → IsFollowerOf more t f
   follower_more t f before is = record {
+    within = is.within;
     parts = is.parts;
     held = record { judged = judged_more (done_of t f) f.judged before is.held.judged; fit = is.held.fit; earlier = is.held.earlier; some = is.held.some };
-    going = going_more (done_of t f) f.rows.items f.going is.going;
+    going = going_more (done_of t f) (held_of f) f.going is.going;
     at_one = is.at_one;
   }
 
 -- a plan that has one more event now, which no row is past
-pub follower_told : (old new : PlanParts) (event : Event) (place : ℕ) → new.program ≡ old.program → new.externals.stop ≡ old.externals.stop → (place ≤ length old.externals.events) × (new.externals.events ≡ insert old.externals.events place event) → InOrder new.externals.events → (f : Follower) → ((x : Row) → slice_get f.rows.items 0 ≡ Some x → ¬ Before event.tag x.tag) → (t : List Row) → IsFollowerOf old t f → IsFollowerOf new t f
+pub follower_told : (old new : PlanParts) (event : Event) (place : ℕ) → new.program ≡ old.program → new.externals.stop ≡ old.externals.stop → (place ≤ length old.externals.events) × (new.externals.events ≡ insert old.externals.events place event) → InOrder new.externals.events → (f : Follower) → ((x : Row) → slice_get (held_of f) 0 ≡ Some x → ¬ Before event.tag x.tag) → (t : List Row) → IsFollowerOf old t f → IsFollowerOf new t f
 follower_told old new event place program at put order f not t is =
     subst (λ (plan : PlanParts). IsFollowerOf plan t f) (same_parts old new (insert old.externals.events place event) program at put.1)
     (follower_more old event place put.0 (subst (λ (events : List Event). InOrder events) put.1 order) t f (done_before old t f event.tag is not) is)

@@ -79,9 +79,6 @@ last_at u n begins = go (dec_lt n (length u))
     go (yes l) = let z = get_there u (length u - 1) (omega arith) in (z.0.tag, λ i x a b e. begins.at_one i x z.0 a b e z.1)
     go (no m) = (record { time = 0; micro = 0 }, λ i x a b e. absurd (omega arith))
 
-pub all_at : (u : List Row) → AreAtLastTag u (length u) 0 → (g : Tag) × AreAt u g
-all_at u begins = let g = last_at u 0 begins in (g.0, λ i x e. g.1 i x (omega arith) (slice_get_within u i x e) e)
-
 pub rest_at : (u : List Row) (n : ℕ) → AreAtLastTag u (length u) n → (g : Tag) × AreAt (slice_range u n (length u)) g
 rest_at u n begins = let g = last_at u n begins in (g.0, λ i x e. let l = range-within u n (length u) i x (omega arith) e in g.1 (n + i) x (omega arith) (omega (arith, l)) (sym (range-get u n (length u) i l) ∙ e))
 

@@ -188,10 +188,6 @@ module _ (last : Tag) (plan : PlanParts) (t kept : List Row) (low : Tag) (is : I
 abbrev pub IsIdleApart : PlanParts → Tag → Bool → Row → Type 0
 IsIdleApart plan low is_apart row = (last : Tag) (t : List Row) → (IsTrue is_apart → MeetNowhere last plan t low) → IsIdle last plan t low row
 
--- a row that writes nothing
-pub idle_row : (plan : PlanParts) (low : Tag) (is_apart : Bool) (row : Row) → ((g : Tag) (a : ℕ) → UpTo low g → scheduled g a (min_delay plan.program a) row ≡ None) → ((h : Tag) (o : ℕ) → written h o row ≡ None) → asked row.tag row.step ≡ None → IsIdleApart plan low is_apart row
-idle_row plan low is_apart row schedules writes asks last t apart = record { schedules = schedules; writes = λ h p o delays way up. inl (writes h o); asks = asks }
-
 -- a row that writes a port, where each way arrives before the tag or goes unheard
 pub idle_write : (plan : PlanParts) (low : Tag) (is_apart : Bool) (row : Row) (n : ℕ) (v : Value) → row.step ≡ Write (Port n) v → ((p : ℕ) (delays : List ℕ) → Origin plan.program p n delays → Before (after_all row.tag delays) low ⊎ (is_read plan.program p ≡ false) × IsTrue is_apart × (row.tag.time < low.time)) → IsIdleApart plan low is_apart row
 idle_write plan low is_apart row n v step leads last t apart = record { schedules = λ g a up. ap (λ (s : Step). option_and_then (λ x. cond (same_tag g (after row.tag (min_delay plan.program a + x.0))) (Some x.1) None) (value_scheduled a s)) step; writes = writes; asks = ap (λ (s : Step). asked row.tag s) step }

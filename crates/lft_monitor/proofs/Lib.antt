@@ -29,4 +29,4 @@ pub mod Ended
 pub mod Front
 pub mod Opening
 pub mod Opened
-pub mod Held
+pub mod Onward

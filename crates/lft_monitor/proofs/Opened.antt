@@ -8,7 +8,7 @@ use Rattle.lft_ir.specs.declared.steps.row.{Row.Row, Step.TheVariants.Start}
 use Rattle.lft_model.{specs.{Plans.PlanParts, Presence.stop, Runs.end_row, Breaches.IsUnended}, proofs.Places.slice_get_within}
 use Rattle.lft_monitor.specs.declared.follower.Follower.{Follower}
 use Rattle.lft_monitor.specs.declared.open.StillOpen.{StillOpen}
-use Rattle.lft_monitor.specs.{inner.{Follows.IsFollowerOf, OpenRuns.EndBefore}, OpenRuns.{AreOpenRuns, IsOpenRun, run_in}}
+use Rattle.lft_monitor.specs.{inner.{Follows.{IsFollowerOf, held_of}, OpenRuns.EndBefore}, OpenRuns.{AreOpenRuns, IsOpenRun, run_in}}
 use Rattle.lft_monitor.proofs.{Ended.at_end, Hand.{ended, unended_whole}}
 
 -- whether the row starts a run without an end, where its end is looked for up to the last of its reaction
@@ -116,5 +116,5 @@ module _ (done rows : List Row) (runs : List StillOpen) (over : (j : ℕ) (x : R
   open_behind = record { each = each_behind; all = all_behind; order = is.order }
 
 -- those at hand are all: the runs that are judged have their ends
-pub open_runs : (plan : PlanParts) (t : List Row) (f : Follower) → IsFollowerOf plan t f → (s : List Row) → s ≡ f.rows.items → (runs : List StillOpen) → AreOpenRuns f.judged.count s runs → AreOpenRuns 0 t runs
+pub open_runs : (plan : PlanParts) (t : List Row) (f : Follower) → IsFollowerOf plan t f → (s : List Row) → s ≡ held_of f → (runs : List StillOpen) → AreOpenRuns f.judged.count s runs → AreOpenRuns 0 t runs
 open_runs plan t f is s rows runs at_hand = at_end plan t f is s rows (λ u. AreOpenRuns 0 u runs) (λ d judged earlier so_far. open_behind d s runs (λ j x e. ended plan d s (stop plan d) judged.acceptor.stands.state.settled.rows 0 j x e) (subst (λ (n : ℕ). AreOpenRuns n s runs) judged.counted at_hand))

@@ -134,12 +134,3 @@ opened_few n (Write m v) = omega arith
 opened_few n (Schedule m v d) = omega arith
 opened_few n Stop = omega arith
 opened_few n End = omega arith
-
--- a step that neither starts nor ends a run leaves their number
-pub opened_same : (n : ℕ) (s : Step) → ¬ (s ≡ Start) → ¬ (s ≡ End) → opened n s ≡ n
-opened_same n Start never none = absurd (never refl)
-opened_same n (Read m v) never none = refl
-opened_same n (Write m v) never none = refl
-opened_same n (Schedule m v d) never none = refl
-opened_same n Stop never none = refl
-opened_same n End never none = absurd (none refl)

@@ -6,7 +6,7 @@ use Rattle.lft_tag.specs.{declared.Tag.Tag, Tags.{Before, UpTo, after}}
 use Rattle.lft_tag.proofs.Order.{Before-irrefl, Before-UpTo, UpTo-Before, UpTo-refl, UpTo-trans, Before-weaken, after_past, order_cases}
 use Rattle.lft_lists.proofs.{Members.Mem, Places.{get_there, same_at}, Picked.take_one_more}
 use Rattle.lft_ir.specs.declared.steps.row.{Row.Row, Step.{Step, TheVariants.End}}
-use Rattle.lft_model.specs.{Breaches.{IsOpen, IsOutOfOrder, IsUnended}, Plans.PlanParts, Presence.{stop, requests}}
+use Rattle.lft_model.specs.{Breaches.{IsOpen, IsOutOfOrder}, Plans.PlanParts, Presence.{stop, requests}}
 use Rattle.lft_model.proofs.{Places.{slice_get_within, slice_get_take, slice_get_taken}, Stops.{asker, stop_added}}
 use Rattle.lft_rows.specs.{inner.{Passes.{KeepsEarly, EarlyRule, FirstUnended, HasPassed, HasGoneOn, IsPass}, Places.place_of}, declared.pass.Pass.Pass}
 use Rattle.lft_rows.proofs.Growing.{grown_law, nearer_law}
@@ -175,18 +175,6 @@ module _ (rows : List Row) (place : ℕ) (inside : place < length rows) where
 
   pub all_gone : (plan : PlanParts) (done : List Row) (g : Going) → place ≡ g.passed → IsGoing plan done rows g → HasPassed g.stop plan (slice_range rows 0 place) (length (slice_range rows 0 place)) g.pass
   all_gone plan done g here is = subst (λ (t : List Row). HasPassed g.stop plan t (length t) g.pass) (sym front) (subst (λ (n : ℕ). HasPassed g.stop plan (take place rows) n g.pass) (sym long_front) (subst (λ (n : ℕ). HasPassed g.stop plan (take n rows) n g.pass) (sym here) is.passes))
-
-  -- where no run is open, each has its end
-  pub none_open : (plan : PlanParts) (done : List Row) (g : Going) → place ≡ g.passed → IsGoing plan done rows g → g.runs ≡ 0 → HasEnded rows place
-  none_open plan done g here is shut row at i x e before o = go is.runs
-    where
-      go : AreFewOpenRuns (take g.passed rows) g.runs → ⊥
-      go (places, few, each) =
-          let c = each i x (subst (λ (n : ℕ). slice_get (take n rows) i ≡ Some x) here e) (subst (λ (n : ℕ). IsUnended (take n rows) i x) here o) in
-          let l : c.0 < length places = c.1 in
-          let z : g.runs ≡ 0 = shut in
-          let m : length places ≤ g.runs = few in
-          omega arith
 
   -- where no row is before the place
   pub none_before : place ≡ 0 → HasEnded rows place

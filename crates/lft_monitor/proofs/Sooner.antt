@@ -10,7 +10,8 @@ use Rattle.lft_rows.{specs.inner.Passes.HasPassed, proofs.Growing.nearer_law}
 use Rattle.lft_queue.specs.{Coming.AtTag.AreBefore, inner.Coming.Lanes.IsLane}
 use Rattle.lft_stream.specs.{declared.stream.Stream.Stream, inner.{Settled.IsRightRun, Kept.{stopped_stream, IsStreamOf}}, Kept.low_of}
 use Rattle.lft_monitor.specs.Sure.{IsUnbroken}
-use Rattle.lft_monitor.specs.inner.{Sure.GiveSame, Kept.IsPastOfRows, Going.IsGoing, Follows.{IsJudgedOf, IsFollowerOf, done_of, stopped_at, stopped_judged}}
+use Rattle.lft_monitor.specs.inner.{Sure.GiveSame, Kept.IsPastOfRows, Going.IsGoing}
+use Rattle.lft_monitor.specs.inner.Follows.{IsJudgedOf, IsFollowerOf, done_of, held_of, stopped_at, stopped_judged}
 use Rattle.lft_monitor.specs.declared.{past.Past.Past, gone.Going.Going, judged.Judged.Judged, follower.Follower.Follower}
 use Rattle.lft_monitor.proofs.{Same.SameAt, Later.{later_law, same_alike, same_time, same_stop, turned_stop, at_alike, clash_alike}}
 use Rattle.lft_monitor.proofs.Passed.{reach_up, hand_up, done_before}
@@ -185,18 +186,19 @@ module _ (plan : PlanParts) (g : Tag) where
       go n i x y = y
 
   -- a follower whose rows are none of them past the tag
-  pub follower_sooner : (t : List Row) (f : Follower) → ((i : ℕ) (x : Row) → slice_get f.rows.items i ≡ Some x → UpTo x.tag g) → AreBefore (done_of t f) g → IsFollowerOf plan t f → IsFollowerOf sooner t (record f { judged = stopped_judged f.judged g; going = record f.going { stop = earlier g f.going.stop } })
+  pub follower_sooner : (t : List Row) (f : Follower) → ((i : ℕ) (x : Row) → slice_get (held_of f) i ≡ Some x → UpTo x.tag g) → AreBefore (done_of t f) g → IsFollowerOf plan t f → IsFollowerOf sooner t (record f { judged = stopped_judged f.judged g; going = record f.going { stop = earlier g f.going.stop } })
   follower_sooner t f up before is = record {
+    within = is.within;
     parts = is.parts;
     held = record { judged = judged_sooner (done_of t f) before f.judged is.held.judged; fit = is.held.fit; earlier = is.held.earlier; some = is.held.some };
-    going = going_sooner (done_of t f) f.rows.items f.going up is.going;
+    going = going_sooner (done_of t f) (held_of f) f.going up is.going;
     at_one = is.at_one;
   }
 
 -- a plan that stops at the tag now, which no row is past
-pub follower_stopped : (plan new : PlanParts) (g : Tag) (f : Follower) (judged : Judged) (going : Going) → new ≡ stopped_at plan g → judged ≡ stopped_judged f.judged g → going ≡ record f.going { stop = earlier g f.going.stop } → ((x : Row) → slice_get f.rows.items 0 ≡ Some x → ¬ Before g x.tag) → (t : List Row) → IsFollowerOf plan t f → IsFollowerOf new t (record { judged = judged; going = going; rows = f.rows })
+pub follower_stopped : (plan new : PlanParts) (g : Tag) (f : Follower) (judged : Judged) (going : Going) → new ≡ stopped_at plan g → judged ≡ stopped_judged f.judged g → going ≡ record f.going { stop = earlier g f.going.stop } → ((x : Row) → slice_get (held_of f) 0 ≡ Some x → ¬ Before g x.tag) → (t : List Row) → IsFollowerOf plan t f → IsFollowerOf new t (record { judged = judged; going = going; rows = f.rows; held = f.held })
 follower_stopped plan new g f judged going sooner_is judged_is going_is not t is =
-    subst (λ (p : PlanParts). IsFollowerOf p t (record { judged = judged; going = going; rows = f.rows })) (sym sooner_is)
-    (subst (λ (j : Judged). IsFollowerOf (stopped_at plan g) t (record { judged = j; going = going; rows = f.rows })) (sym judged_is)
-    (subst (λ (k : Going). IsFollowerOf (stopped_at plan g) t (record { judged = stopped_judged f.judged g; going = k; rows = f.rows })) (sym going_is)
+    subst (λ (p : PlanParts). IsFollowerOf p t (record { judged = judged; going = going; rows = f.rows; held = f.held })) (sym sooner_is)
+    (subst (λ (j : Judged). IsFollowerOf (stopped_at plan g) t (record { judged = j; going = going; rows = f.rows; held = f.held })) (sym judged_is)
+    (subst (λ (k : Going). IsFollowerOf (stopped_at plan g) t (record { judged = stopped_judged f.judged g; going = k; rows = f.rows; held = f.held })) (sym going_is)
     (follower_sooner plan g t f (hand_up plan t f g is not) (done_before plan t f g is not) is)))

@@ -1,5 +1,5 @@
 -- What is kept of rows that are judged while they come, and what is told of them.
-use Rattle.std.specs.Prelude.{◌≡◌, ℕ, ◌+◌, ◌-◌, ◌≤◌, ◌<◌, ◌⊎◌, List, ◌++◌, length, take, Some, slice_get, []}
+use Rattle.std.specs.Prelude.{◌≡◌, ℕ, ◌+◌, ◌-◌, ◌≤◌, ◌<◌, ◌^◌, ◌⊎◌, List, ◌++◌, ◌∷◌, length, take, Some, slice_get, []}
 use Rattle.lft_tag.specs.{declared.Tag.Tag, Tags.{Before, UpTo}}
 use Rattle.lft_ir.specs.declared.steps.{externals.Event.Event, row.Row.Row}
 use Rattle.lft_model.specs.{declared.breach.Breach.Breach, Plans.PlanParts, Breaches.{RowBreach, RowOrder, TagBreach, First}}
@@ -101,9 +101,9 @@ IsSureSoFar plan t b = (n : ℕ) × (IsSureBehind plan t b n ⊎ IsFirstBehind p
 abbrev pub IsOddSoFar : PlanParts → List Row → Reach → ℕ → Type 0
 IsOddSoFar plan t r line = (n : ℕ) × IsCleanTo plan t r n × (n < line) × (line ≤ length t + 1)
 
--- some last rows are at one tag, and with those behind them more than 4,000,000
-abbrev pub HasManyAtLast : List Row → List Row → Type 0
-HasManyAtLast t more = (done : List Row) × (held : List Row) × (t ≡ done ++ held) × ((g : Tag) × AreAt held g) × (4000000 < length held + length more)
+-- behind 4,000,000 rows at one tag another row stands, or more than 2^62 rows are there
+abbrev pub AreTooMany : List Row → Type 0
+AreTooMany t = ((done : List Row) × (held : List Row) × (row : Row) × (more : List Row) × (t ≡ (done ++ held) ++ row ∷ more) × ((g : Tag) × AreAt held g) × (4000000 ≤ length held)) ⊎ (2 ^ 62 < length t)
 
 -- the breach is the first of the rows, at a tag up to that of one of them
 pub record IsFirstUpToLast (plan : PlanParts) (t : List Row) (b : Breach) : Type 0 where

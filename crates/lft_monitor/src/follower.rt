@@ -1,14 +1,12 @@
 //! Rows that are judged while they come.
 
-ghost use Rattle.std.specs.Prelude.{◌≡◌, ◌↔◌, ◌+◌, ◌<◌, ◌≤◌, ◌^◌, ℕ, List, [], ◌++◌, length, Some, true, false, IfErr, IfOk, OnErr, IsTrue, MatchOption, slice_get, slice_range};
-ghost use Rattle.lft_tag.specs.{declared.Tag.Tag as TheTag, Tags.{Before, IsRecorded}};
+ghost use Rattle.std.specs.Prelude.{◌≡◌, ◌↔◌, ◌+◌, ◌<◌, ◌≤◌, ◌^◌, ℕ, List, [], ◌++◌, length, take, drop, Some, false, IfErr, IfNone, IfOk, OnErr, IsTrue, MatchOption, slice_get, slice_range};
+ghost use Rattle.lft_tag.specs.Tags.{Before, IsRecorded};
 ghost use Rattle.lft_ir.specs.{declared.steps.row.Row.Row as TheRow, Steps.Fits.{EventFits, RowsFit}};
-ghost use Rattle.lft_model.specs.Plans.{PlanParts};
-ghost use Rattle.lft_rows.specs.inner.Slices.{Rises};
-ghost use Rattle.lft_queue.specs.Coming.AtTag.{AreAt};
+ghost use Rattle.lft_model.specs.{Fitting.EachFits, Plans.PlanParts};
 ghost use Rattle.lft_stream.specs.inner.Kept.{KeepRules};
 ghost use Rattle.lft_monitor.specs.inner.Going.{IsGoing, IsHalt};
-ghost use Rattle.lft_monitor.specs.inner.Follows.{IsHeld, IsHitch, IsFollowedOn, IsFollowerOf, IsJudgedTo, IsReceipt, stopped_at, TellsProgress, IsClosing, IsEnding, IsJudgedOf, IsTurn, IsUnjudged, done_of};
+ghost use Rattle.lft_monitor.specs.inner.Follows.{HasGonePast, IsHeld, IsHitch, IsFollowedOn, IsFollowerOf, IsJudgedTo, IsReceipt, stopped_at, TellsProgress, IsClosing, IsEnding, IsJudgedOf, IsTurn, IsUnjudged, done_of, held_of, next_of};
 ghost use Rattle.lft_monitor.specs.{Follows.{IsPassed, HasManyLater, IsJudged}, OpenRuns.AreOpenRuns};
 
 use crate::found::{BrokenRule, found_at, found_of};
@@ -33,7 +31,7 @@ pub enum Progress {
     /// The rows that are judged break no rule. Of the next ones, up to the line, too much is to be kept or
     /// looked at, or memory is refused.
     Odd(Reach, u64),
-    /// The rows at the last tag and these are more than a table may have, or more came than are counted.
+    /// A row stands behind 4,000,000 at one tag, or more came than are counted.
     TooMany,
 }
 
@@ -59,16 +57,15 @@ const MOST: u64 = 1 << 62;
 /// falling order would cost the square of their number.
 const MOST_LATER: usize = 65_536;
 
-/// Fewer rows are copied: to judge them in two parts would cost more.
-const FEW: usize = 1_024;
-
 /// What is kept of rows so far: those of the last tag, and of those before what causes something later.
 #[derive(Drop)]
 pub struct Follower {
     judged: Judged,
     going: Going,
-    /// The rows at the last tag.
-    rows: Vec<Row>,
+    /// Those at the last tag, and behind them rows that it goes past next. More may be put behind these.
+    pub rows: Vec<Row>,
+    /// How many rows are at the last tag.
+    held: usize,
 }
 
 /// Why rows behind those that are judged aren't gone past.
@@ -163,24 +160,17 @@ fn go_past(
     Ok(Ok(begin))
 }
 
-/// How many rows are put behind those held: up to the first at another tag, or all where they are few.
-fn put_behind(held: &[Row], rows: &[Row], reactions: usize) -> usize
-    ensures { result ≤ length rows.now }
+/// Takes the first rows away, and moves the others to their place.
+fn drop_first(rows: &mut Vec<Row>, count: usize)
+    requires { count ≤ length rows.old.items }
+    ensures { rows.new.items ≡ drop count rows.old.items }
 {
-    // Whoever begins anew goes over all reactions.
-    if rows.len() < FEW || rows.len() < reactions {
-        return rows.len();
+    if count == 0 {
+        return;
     }
-    let tag = row_at(if held.is_empty() { rows } else { held }, 0).tag;
-    if row_at(rows, rows.len() - 1).tag.is_same(tag) {
-        return rows.len();
-    }
-    for place in 0..rows.len() {
-        if !row_at(rows, place).tag.is_same(tag) {
-            return place + 1;
-        }
-    }
-    rows.len()
+    let end = rows.len();
+    rows.copy_within(count..end, 0);
+    rows.truncate(end - count);
 }
 
 /// Whether the event that has `MOST_LATER` others behind it is at a later tag.
@@ -193,12 +183,13 @@ fn has_many_later(events: &[Event], tag: Tag) -> bool
 impl Follower {
     /// Before the first row.
     pub fn new(alloc: Global, plan: &Plan) -> Result<Follower, NoMemory>
-        ensures { IfOk result (IsFollowerOf plan.now []) }
+        ensures { IfOk result (HasGonePast plan.now []) }
     {
         Ok(Follower {
             judged: Judged::new(alloc, plan)?,
             going: Going::new(alloc, plan)?,
             rows: Vec::new(alloc),
+            held: 0,
         })
     }
 
@@ -211,119 +202,82 @@ impl Follower {
         self.judged.reach
     }
 
-    /// How many rows it holds. They are those at the last tag.
-    pub fn held(&self) -> usize
-        ensures { result ≡ length self.now.rows.items }
+    /// The rows that it goes past next. `close`, `finish` and `open_runs` leave them out.
+    pub fn next(&self) -> &[Row]
+        requires { self.now.held ≤ length self.now.rows.items }
+        ensures { result.now ≡ next_of self.now }
     {
-        self.rows.as_slice().len()
+        &self.rows.as_slice()[self.held..self.rows.len()]
     }
 
-    /// Goes on past more rows, which it puts behind those that it holds.
-    fn add_behind(
-        &mut self,
-        alloc: Global,
-        plan: &Plan,
-        more: &[Row],
-    ) -> Result<Option<Hitch>, NoMemory>
-        requires fit { RowsFit plan.now.program more.now }
-        requires short { length self.old.rows.items + length more.now ≤ 4000000 }
-        requires few { self.old.judged.count + length self.old.rows.items + length more.now ≤ 2 ^ 62 + 4000000 }
-        requires stands { (t : List TheRow) × IsFollowerOf plan.now t self.old }
-        ensures { IfOk result (λ o. (t : List TheRow) → IsFollowerOf plan.now t self.old → MatchOption o (IsFollowedOn plan.now t more.now self.old self.new) (IsHitch plan.now (t ++ more.now) (length (done_of t self.old)))) }
+    /// Leaves out those of them that stand behind so many.
+    pub fn cut(&mut self, count: usize)
+        requires within { self.old.held ≤ length self.old.rows.items }
+        requires count { count ≤ length (next_of self.old) }
+        ensures next { next_of self.new ≡ take count (next_of self.old) }
+        ensures stands { (plan : PlanParts) (t : List TheRow) → IsFollowerOf plan t self.old → IsFollowerOf plan t self.new }
     {
-        let Ok(()) = self.rows.extend_from_slice(more) else {
-            return Err(NoMemory);
-        };
-        let rows = self.rows.as_slice();
-        match go_past(alloc, plan, &mut self.judged, &mut self.going, rows)? {
-            Ok(begin) => {
-                if begin == 0 {
-                    return Ok(None);
-                }
-                let rows = self.rows.as_slice();
-                let Ok(last) = Vec::from_slice(alloc, &rows[begin..rows.len()]) else {
-                    return Err(NoMemory);
-                };
-                self.rows = last;
-                Ok(None)
-            }
-            Err(hitch) => Ok(Some(hitch)),
-        }
+        self.rows.truncate(self.held + count);
     }
 
-    /// Goes on past rows that begin with those that it holds. It copies those at the last tag alone.
-    fn add_over(
-        &mut self,
-        alloc: Global,
-        plan: &Plan,
-        rows: &[Row],
-    ) -> Result<Option<Hitch>, NoMemory>
-        requires fit { RowsFit plan.now.program rows.now }
-        requires few { self.old.judged.count + length rows.now ≤ 2 ^ 62 + 4000000 }
-        requires stands { (t : List TheRow) × (more : List TheRow) × IsFollowerOf plan.now t self.old × (rows.now ≡ self.old.rows.items ++ more) }
-        ensures { IfOk result (λ o. (t more : List TheRow) → IsFollowerOf plan.now t self.old → rows.now ≡ self.old.rows.items ++ more → MatchOption o (IsFollowedOn plan.now t more self.old self.new) (IsHitch plan.now (t ++ more) (length (done_of t self.old)))) }
-    {
-        match go_past(alloc, plan, &mut self.judged, &mut self.going, rows)? {
-            Ok(begin) => {
-                let Ok(last) = Vec::from_slice(alloc, &rows[begin..rows.len()]) else {
-                    return Err(NoMemory);
-                };
-                self.rows = last;
-                Ok(None)
-            }
-            Err(hitch) => Ok(Some(hitch)),
-        }
-    }
-
-    /// Goes on past rows that it can hold with those at the last tag.
-    // Most rows are at later tags. So those that it holds are judged first, and the others where they stand.
-    fn add_few(
-        &mut self,
-        alloc: Global,
-        plan: &Plan,
-        more: &[Row],
-    ) -> Result<Option<Hitch>, NoMemory>
-        requires fit { RowsFit plan.now.program more.now }
-        requires short { length self.old.rows.items + length more.now ≤ 4000000 }
+    /// Goes on past so many more of its rows.
+    fn go_to(&mut self, alloc: Global, plan: &Plan, count: usize) -> Result<Option<Hitch>, NoMemory>
+        requires count { count ≤ length (next_of self.old) }
+        requires short { self.old.held + count ≤ 4000000 }
+        requires fit { EachFits plan.now.program (next_of self.old) }
         requires few { self.old.judged.count ≤ 2 ^ 62 }
         requires stands { (t : List TheRow) × IsFollowerOf plan.now t self.old }
-        ensures { IfOk result (λ o. (t : List TheRow) → IsFollowerOf plan.now t self.old → MatchOption o (IsFollowedOn plan.now t more.now self.old self.new) (IsHitch plan.now (t ++ more.now) (length (done_of t self.old)))) }
+        ensures on { IfOk result (λ o. (t : List TheRow) → IsFollowerOf plan.now t self.old → MatchOption o (IsFollowedOn plan.now t (take count (next_of self.old)) self.old self.new) (IsHitch plan.now (t ++ take count (next_of self.old)) (length (done_of t self.old)))) }
+        ensures next { IfOk result (λ o. IfNone o (next_of self.new ≡ drop count (next_of self.old))) }
     {
-        let first = put_behind(self.rows.as_slice(), more, plan.program().reactions());
-        if let Some(hitch) = self.add_behind(alloc, plan, &more[0..first])? {
-            return Ok(Some(hitch));
+        let end = self.held + count;
+        let rows = &self.rows.as_slice()[0..end];
+        match go_past(alloc, plan, &mut self.judged, &mut self.going, rows)? {
+            Ok(begin) => {
+                drop_first(&mut self.rows, begin);
+                self.held = end - begin;
+                Ok(None)
+            }
+            Err(hitch) => Ok(Some(hitch)),
         }
-        let held = self.held();
-        if first < held {
-            return self.add_behind(alloc, plan, &more[first..more.len()]);
-        }
-        self.add_over(alloc, plan, &more[first - held..more.len()])
     }
 
-    /// Goes on past more rows. A tag is judged once a row at a later one is there.
-    pub fn add(&mut self, alloc: Global, plan: &Plan, more: &[Row]) -> Result<Progress, NoMemory>
-        requires fit { RowsFit plan.now.program more.now }
+    /// Goes on past all of its rows. A tag is judged once a row at a later one is there.
+    // At once, where these are no more than a table may have.
+    pub fn go_on(&mut self, alloc: Global, plan: &Plan) -> Result<Progress, NoMemory>
+        requires fit { EachFits plan.now.program (next_of self.old) }
         requires stands { (t : List TheRow) × IsFollowerOf plan.now t self.old }
-        ensures { IfOk result (λ p. (t : List TheRow) → IsFollowerOf plan.now t self.old → TellsProgress plan.now t more.now self.new p) }
+        ensures { IfOk result (λ p. (t : List TheRow) → IsFollowerOf plan.now t self.old → TellsProgress plan.now t (next_of self.old) self.new p) }
     {
-        if more.len() > MAX_ROWS - self.held() || self.judged.count > MOST {
-            return Ok(Progress::TooMany);
-        }
         let reach = self.judged.reach;
-        match self.add_few(alloc, plan, more)? {
-            None => Ok(Progress::GoesOn),
-            Some(Hitch::Broken(found)) => Ok(Progress::Broken(found)),
-            Some(Hitch::Odd(line)) => Ok(Progress::Odd(reach, line)),
+        'parts: loop {
+            if self.judged.count > MOST {
+                return Ok(Progress::TooMany);
+            }
+            let left = self.rows.len() - self.held;
+            let count = left.min(MAX_ROWS - self.held);
+            if count == 0 && left > 0 {
+                return Ok(Progress::TooMany);
+            }
+            match self.go_to(alloc, plan, count)? {
+                None => {
+                    if count == left {
+                        return Ok(Progress::GoesOn);
+                    }
+                }
+                Some(Hitch::Broken(found)) => return Ok(Progress::Broken(found)),
+                Some(Hitch::Odd(line)) => return Ok(Progress::Odd(reach, line)),
+            }
         }
     }
 
     /// Whether a row at a later tag came.
     fn is_past(&self, tag: Tag) -> bool
-        ensures past { IsTrue result → (x : TheRow) × (slice_get self.now.rows.items 0 ≡ Some x) × Before tag x.tag }
-        ensures not { result ≡ false → (x : TheRow) → slice_get self.now.rows.items 0 ≡ Some x → ¬ Before tag x.tag }
+        ensures past { IsTrue result → (x : TheRow) × (slice_get (held_of self.now) 0 ≡ Some x) × Before tag x.tag }
+        ensures not { result ≡ false → (x : TheRow) → slice_get (held_of self.now) 0 ≡ Some x → ¬ Before tag x.tag }
     {
         let rows = self.rows.as_slice();
-        !rows.is_empty() && tag.is_before(row_at(rows, 0).tag)
+        self.held > 0 && !rows.is_empty() && tag.is_before(row_at(rows, 0).tag)
     }
 
     /// Puts an external event at its place in the plan that the rows are judged by. Of those that aren't
@@ -362,6 +316,7 @@ impl Follower {
         ensures stopped { IsTrue result → plan.new ≡ stopped_at plan.old stop }
         ensures stays { result ≡ false → (plan.new ≡ plan.old) × (self.new ≡ self.old) }
         ensures late { (t : List TheRow) → IsFollowerOf plan.old t self.old → (result ≡ false) ↔ IsPassed t stop }
+        ensures next { next_of self.new ≡ next_of self.old }
         ensures stands { (t : List TheRow) → IsFollowerOf plan.old t self.old → IsFollowerOf plan.new t self.new }
     {
         if self.is_past(stop) {
@@ -380,7 +335,7 @@ impl Follower {
     {
         Unjudged {
             reach: self.judged.reach,
-            line: self.judged.count + self.rows.as_slice().len() as u64 + 1,
+            line: self.judged.count + self.held as u64 + 1,
         }
     }
 
@@ -394,7 +349,7 @@ impl Follower {
         if self.judged.count > MOST {
             return Err(self.unjudged());
         }
-        let rows = self.rows.as_slice();
+        let rows = &self.rows.as_slice()[0..self.held];
         self.judged.close(alloc, plan, rows)
     }
 
@@ -404,7 +359,8 @@ impl Follower {
         ensures { IfOk result (λ runs. (t : List TheRow) → IsFollowerOf plan.now t self.now → AreOpenRuns 0 t runs.items) }
     {
         let reactions = plan.program().reactions();
-        open_among(alloc, self.rows.as_slice(), self.judged.count, reactions)
+        let rows = &self.rows.as_slice()[0..self.held];
+        open_among(alloc, rows, self.judged.count, reactions)
     }
 
     /// What the rows show where no more come. The last tag is judged too, where all of its runs are there.
@@ -417,7 +373,7 @@ impl Follower {
         if self.judged.count > MOST {
             return Err(self.unjudged());
         }
-        let rows = self.rows.as_slice();
+        let rows = &self.rows.as_slice()[0..self.held];
         self.judged.finish(alloc, plan, rows, whole)
     }
 }

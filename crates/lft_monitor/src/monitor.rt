@@ -1,30 +1,20 @@
 //! Rows that come one after another, of which nothing is broken so far.
 
 ghost use Rattle.std.specs.Prelude.{◌≡◌, ◌<◌, ◌-◌, List, ◌++◌, length, Some, IsTrue, slice_get};
-ghost use Rattle.lft_tag.specs.Tags.{UpTo, after};
+ghost use Rattle.lft_tag.specs.Tags.{after};
 ghost use Rattle.lft_ir.specs.{declared.steps.row.Row.Row as TheRow, Steps.Fits.RowsFit};
-ghost use Rattle.lft_stream.specs.{inner.Kept.{IsAcceptorOf, KeepRules}, Kept.low_of};
+ghost use Rattle.lft_stream.specs.inner.Kept.{IsAcceptorOf, KeepRules};
 ghost use Rattle.lft_monitor.specs.Sure.{IsUnbroken};
 
 use lft_ir::steps::{Row, row_at};
 use lft_model::Plan;
 use lft_stream::Acceptor;
-use lft_tag::Tag;
 use std::alloc::Global;
-
-/// Whether nothing is broken so far, of tags before this one. It is false too where that isn't known.
-// The plan is passed for what the contract says of it.
-pub fn is_unbroken(acceptor: &Acceptor, plan: &Plan, low: Tag) -> bool
-    ensures { IsTrue result → (rows : List TheRow) → IsAcceptorOf plan.now rows acceptor.now → UpTo low (low_of acceptor.now.stream.tag) → IsUnbroken plan.now rows low }
-{
-    let _ = plan;
-    acceptor.is_timely(low)
-}
 
 /// Goes on past more rows, of whole tags. Where it is true nothing is broken up to the tag of the last row,
 /// whatever rows come at later tags. Where it is false the rows may break a rule, or too much is to be
 /// looked at, or memory is refused.
-pub fn go_on(acceptor: &mut Acceptor, alloc: Global, plan: &Plan, rows: &[Row]) -> bool
+fn go_on(acceptor: &mut Acceptor, alloc: Global, plan: &Plan, rows: &[Row]) -> bool
     requires fit { RowsFit plan.now.program rows.now }
     requires some { 0 < length rows.now }
     requires stands { (done : List TheRow) × IsAcceptorOf plan.now done acceptor.old }
@@ -40,7 +30,7 @@ pub fn go_on(acceptor: &mut Acceptor, alloc: Global, plan: &Plan, rows: &[Row]) 
 }
 
 /// The same of rows that are known to break none of the rules 1 to 5.
-pub(crate) fn go_on_kept(acceptor: &mut Acceptor, plan: &Plan, rows: &[Row]) -> bool
+fn go_on_kept(acceptor: &mut Acceptor, plan: &Plan, rows: &[Row]) -> bool
     requires fit { RowsFit plan.now.program rows.now }
     requires some { 0 < length rows.now }
     requires kept { KeepRules plan.now rows.now }

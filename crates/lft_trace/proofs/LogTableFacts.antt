@@ -107,8 +107,8 @@ row_behind (Row x ∷ lines) zero row h = let s : x ≡ row = cc (h) in (0, ap (
 row_behind (Row x ∷ lines) (suc i) row h = let r = row_behind lines i row h in (suc r.0, r.1)
 row_behind (Input e ∷ lines) i row h = let r = row_behind lines i row h in (suc r.0, r.1)
 
-pub rows_fit : (program : Parts) (records : Texts) (read : LogLines) → IsSound program → ReadsLines program records read → length read.rows.items ≤ 4000000 → RowsFit program read.rows.items
-rows_fit program records read sound h few = record {
+pub rows_fit : (program : Parts) (records : Texts) (rows : List TheRow) (read : LogLines) → IsSound program → ReadsLines program records rows read → length rows ≤ 4000000 → RowsFit program rows
+rows_fit program records rows read sound h few = record {
   few = few;
   each = λ i row at.
       let j = row_behind h.lines i row (rw (← h.rows_are) at) in
@@ -130,5 +130,13 @@ entries_fit program n [] (line ∷ lines) h = absurd h
 entries_fit program n (f ∷ first) (Row row ∷ lines) h = entries_fit program (n + 1) first lines h.1
 entries_fit program n (f ∷ first) (Input entry ∷ lines) h = All-cons (FitsIn program) (among n entry) (inputs_behind n lines) (entry_fits program f entry h.0) (entries_fit program n first lines h.1)
 
-pub inputs_fit : (program : Parts) (records : Texts) (read : LogLines) → ReadsLines program records read → InputsFit program read.inputs.items
-inputs_fit program records read h = rw h.inputs_are (entries_fit program 0 h.first h.lines h.each)
+pub inputs_fit : (program : Parts) (records : Texts) (rows : List TheRow) (read : LogLines) → ReadsLines program records rows read → InputsFit program read.inputs.items
+inputs_fit program records rows read h = rw h.inputs_are (entries_fit program 0 h.first h.lines h.each)
+
+-- ---- rows behind others
+
+-- what is read up to a record, its rows behind others
+pub record GoneBehind (program : Parts) (records : Texts) (others rows : List TheRow) (inputs : List Among) (r : Records (Cursor (Bor (List ℕ)))) : Type 0 where
+  pub read : List TheRow
+  pub behind : rows ≡ others ++ read
+  pub gone : Gone program records read inputs r

@@ -26,7 +26,7 @@ pub use external_table::{Entry, read_externals, read_externals_from};
 pub use fault::TraceFault;
 pub use lft_ir::steps::{Event, Externals, Row, Rows, Step, is_end, is_start, is_stop, row_at};
 pub use log_table::{Among, Line, LineFault, LogLines, read_log};
-pub use reaction_names::ReactionNames;
+pub use reaction_names::{ReactionNames, ReactionNumbers};
 pub use reading::{
     ReadFailed, TraceLines, below_header, first_lines, next_rows, read_batch, read_lines,
     read_trace_shared, trace_records,

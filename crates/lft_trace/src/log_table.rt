@@ -1,8 +1,8 @@
 //! Rows with external inputs among them.
 
-ghost use Rattle.std.specs.Prelude.{◌↔◌, ◌≤◌, length, IfOk, IsTrue};
+ghost use Rattle.std.specs.Prelude.{◌≡◌, ◌↔◌, ◌≤◌, ◌++◌, List, length, IfOk, IsTrue};
 ghost use Rattle.csv.specs.Records.{fields_of};
-ghost use Rattle.lft_ir.specs.Steps.Fits.{RowsFit};
+ghost use Rattle.lft_ir.specs.{declared.steps.row.Row.Row as TheRow, Steps.Fits.RowsFit};
 ghost use Rattle.lft_trace.specs.{inner.LogTables.{InputsFit, ReadsLines}, LogTables.BeginsAsInput, Records.records_of};
 
 use crate::external_table::{Entry, read_entry};
@@ -10,7 +10,7 @@ use crate::fault::TraceFault;
 use crate::fields::ExternalFields;
 use crate::kind::read_entry_kind;
 use crate::next_names::NextNames;
-use crate::reaction_names::ReactionNames;
+use crate::reaction_names::{ReactionNames, ReactionNumbers};
 use crate::records::{Records, Unread};
 use crate::trace_table::read_row;
 use csv::ByteRecord;
@@ -22,9 +22,6 @@ use std::io::Cursor;
 
 /// The line that a record has in a table of its own. The header is line 1.
 const ONLY_LINE: u32 = 2;
-
-/// Few rows have fewer bytes.
-const BYTES_OF_A_ROW: usize = 22;
 
 /// What a record tells that stands among rows.
 #[derive(Clone, Copy, PartialEq, Eq, Drop)]
@@ -51,10 +48,9 @@ pub struct Among {
     pub entry: Entry,
 }
 
-/// Rows and the external inputs among them, up to a record that is neither.
+/// The external inputs among rows, up to a record that is neither.
 #[derive(Drop)]
 pub struct LogLines {
-    pub rows: Vec<Row>,
     pub inputs: Vec<Among>,
     /// What is wrong with the next record. There is none where all records were read.
     pub fault: Option<LineFault>,
@@ -75,17 +71,18 @@ fn begins_as_input(fields: &ByteRecord) -> bool
     }
 }
 
-fn read_lines_of(alloc: Global, names: &ReactionNames, text: &[u8]) -> Result<LogLines, Unread>
-    ensures read { IfOk result (λ read. ReadsLines names.now (records_of text.now) read) }
-    ensures few { IfOk result (λ read. length read.rows.items ≤ 4000000) }
+fn read_lines_of(
+    alloc: Global,
+    names: &ReactionNames,
+    text: &[u8],
+    rows: &mut Vec<Row>,
+) -> Result<LogLines, Unread>
+    ensures { IfOk result (λ read. (t : List TheRow) × (rows.new.items ≡ rows.old.items ++ t) × (length t ≤ 4000000) × ReadsLines names.now (records_of text.now) t read) }
 {
     // No other table is read by a cursor. So the compiler puts the reading of a record in here, where else it is
     // a call with a long answer.
     let mut records = Records::new(alloc, Cursor::new(text), MAX_ROWS as u32);
-    // With room for most texts, so that no row is copied while others come.
-    let Ok(mut rows) = Vec::with_capacity(alloc, text.len() / BYTES_OF_A_ROW) else {
-        return Err(Unread::NoMemory);
-    };
+    let others = rows.len();
     let mut inputs = Vec::new(alloc);
     let mut last = None;
     let mut next = NextNames::first();
@@ -93,29 +90,22 @@ fn read_lines_of(alloc: Global, names: &ReactionNames, text: &[u8]) -> Result<Lo
         match records.next() {
             Ok(true) => {}
             Ok(false) => {
-                return Ok(LogLines {
-                    rows,
-                    inputs,
-                    fault: None,
-                });
+                let fault = None;
+                return Ok(LogLines { inputs, fault });
             }
             Err(stop) => return Err(stop),
         }
         if begins_as_input(&records.fields) {
             match read_entry(names.program(), &records.fields, ONLY_LINE) {
                 Ok(entry) => {
-                    let rows_before = rows.len();
+                    let rows_before = rows.len() - others;
                     if inputs.push(Among { rows_before, entry }).is_err() {
                         return Err(Unread::NoMemory);
                     }
                 }
                 Err(fault) => {
                     let fault = Some(LineFault::NoInput(fault));
-                    return Ok(LogLines {
-                        rows,
-                        inputs,
-                        fault,
-                    });
+                    return Ok(LogLines { inputs, fault });
                 }
             }
             continue 'lines;
@@ -131,30 +121,34 @@ fn read_lines_of(alloc: Global, names: &ReactionNames, text: &[u8]) -> Result<Lo
             }
             Err(fault) => {
                 let fault = Some(LineFault::NoRow(fault));
-                return Ok(LogLines {
-                    rows,
-                    inputs,
-                    fault,
-                });
+                return Ok(LogLines { inputs, fault });
             }
         }
     }
 }
 
 /// The rows and the external inputs of a text without a header, up to a record that is neither. The text
-/// is read once.
+/// is read once, and its rows are put behind others.
 ///
 /// An error tells nothing of a line: there are more records than a table may have rows, a reader failed,
 /// or a growth of memory was refused.
-pub fn read_log(alloc: Global, program: &Program, text: &[u8]) -> Result<LogLines, Unread>
-    ensures read { IfOk result (λ read. ReadsLines program.now (records_of text.now) read) }
-    ensures rows { IfOk result (λ read. RowsFit program.now read.rows.items) }
+pub fn read_log(
+    alloc: Global,
+    program: &Program,
+    numbers: &mut ReactionNumbers,
+    text: &[u8],
+    rows: &mut Vec<Row>,
+) -> Result<LogLines, Unread>
+    ensures read { IfOk result (λ read. (t : List TheRow) × (rows.new.items ≡ rows.old.items ++ t) × RowsFit program.now t × ReadsLines program.now (records_of text.now) t read) }
     ensures inputs { IfOk result (λ read. InputsFit program.now read.inputs.items) }
 {
     // Asked for what every program keeps: no two of its things have one name.
     program.keeps();
-    let names = ReactionNames::without(alloc, program);
-    match read_lines_of(alloc, &names, text) {
+    let by_hash = std::mem::replace(&mut numbers.by_hash, Vec::new(alloc));
+    let names = ReactionNames::with(alloc, program, by_hash);
+    let read = read_lines_of(alloc, &names, text, rows);
+    numbers.by_hash = names.into_numbers();
+    match read {
         Ok(read) => Ok(read),
         Err(unread) => Err(unread),
     }

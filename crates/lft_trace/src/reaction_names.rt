@@ -25,6 +25,21 @@ pub struct ReactionNames<'a> {
     numbers: Vec<u16>,
 }
 
+/// Numbers of the reactions of a program by hashes of their names, for many texts.
+#[derive(Drop)]
+pub struct ReactionNumbers {
+    pub(crate) by_hash: Vec<u16>,
+}
+
+impl ReactionNumbers {
+    /// Those of the program.
+    pub fn new(alloc: Global, program: &Program) -> Result<ReactionNumbers, NoMemory> {
+        Ok(ReactionNumbers {
+            by_hash: numbers_by_hash(alloc, program)?,
+        })
+    }
+}
+
 impl<'a> Model for ReactionNames<'a> {
     ghost use Rattle.lft_ir.specs.Parts.{Parts};
 
@@ -51,15 +66,20 @@ impl<'a> ReactionNames<'a> {
         })
     }
 
-    /// The program, and no name is kept. It takes no memory.
-    pub(crate) fn without(alloc: Global, program: &'a Program) -> ReactionNames<'a>
+    /// The program, and these numbers by hashes of names.
+    pub(crate) fn with(alloc: Global, program: &'a Program, numbers: Vec<u16>) -> ReactionNames<'a>
         ensures { result ≡ program.now }
     {
         ReactionNames {
             program,
             names: Vec::new(alloc),
-            numbers: Vec::new(alloc),
+            numbers,
         }
+    }
+
+    /// Its numbers by hashes of names.
+    pub(crate) fn into_numbers(self) -> Vec<u16> {
+        self.numbers
     }
 
     /// The program.

@@ -1,7 +1,7 @@
 //! The records that a reader gives, one at a time.
 
 ghost use Rattle.std.specs.Prelude.{◌≡◌, ◌<◌, [], true, false, IfOk, IfErr, IfSome, length, slice_index_or};
-ghost use Rattle.csv.specs.Records.{fields_of};
+ghost use Rattle.csv.specs.Records.{fields_of, partial_of};
 ghost use Rattle.lft_trace.specs.{Faults.is_told, inner.Records.{IsCounted, IsNext, IsPast, IsPlain, IsUnread, records_left}};
 
 use crate::fault::TraceFault;
@@ -12,6 +12,12 @@ use std::io::Read;
 
 /// The line of the last row that a table may have. The header is line 1.
 pub const LAST_LINE: u32 = MAX_ROWS as u32 + 1;
+
+/// A record of a trace mostly has fewer bytes.
+const BYTES: usize = 256;
+
+/// A record of a trace has so many fields.
+const FIELDS: usize = 8;
 
 /// Why the records stop before their end.
 #[derive(Clone, Copy, PartialEq, Eq)]
@@ -34,6 +40,18 @@ pub(crate) fn stopped(unread: Unread) -> TraceFault
     }
 }
 
+/// An empty record with room for most, where there is memory: the reader takes as many bytes at once as there is
+/// room for.
+fn empty_record(alloc: Global) -> ByteRecord
+    ensures fields { fields_of result ≡ [] }
+    ensures partial { partial_of result ≡ [] }
+{
+    match ByteRecord::with_capacity(alloc, BYTES, FIELDS) {
+        Ok(fields) => fields,
+        Err(_) => ByteRecord::new(alloc),
+    }
+}
+
 /// The records that a reader gives, the header included, one at a time. The first is line 1.
 #[derive(Drop)]
 pub struct Records<R: Read + Drop> {
@@ -46,8 +64,7 @@ pub struct Records<R: Read + Drop> {
 }
 
 impl<R: Read + Drop> Records<R> {
-    /// The records that a reader gives, before the first one is read. More than `last` are too many. It takes
-    /// no memory.
+    /// The records that a reader gives, before the first one is read. More than `last` are too many.
     pub fn new(alloc: Global, source: R, last: u32) -> Records<R>
         ensures unread { IfSome (R.remaining source) (λ text. IsUnread R.remaining result text last) }
         ensures last { result.last ≡ last }
@@ -57,7 +74,7 @@ impl<R: Read + Drop> Records<R> {
                 .has_headers(false)
                 .flexible(true)
                 .from_reader(alloc, source),
-            fields: ByteRecord::new(alloc),
+            fields: empty_record(alloc),
             line: 0,
             last,
         }

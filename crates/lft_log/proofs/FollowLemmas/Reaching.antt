@@ -46,7 +46,7 @@ reach_of base plan until bytes every log r is judged asked some = record {
   others = [];
   rest = log.rest.items;
   tells = tells_plan base plan until bytes log.rest.items log.rest.items log is.kept (is.kept.begun (is_begun base plan until bytes log is (omega (arith, least, asked))));
-  judged = judged (rows is.kept.lines) is.kept.follower;
+  judged = judged (rows is.kept.lines) is.kept.follower.0;
   asked = asked;
   many = many;
 }

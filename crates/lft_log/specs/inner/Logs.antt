@@ -2,7 +2,7 @@
 use Rattle.std.specs.Prelude.{◌≡◌, ◌≢◌, ◌⊎◌, ◌≤◌, ◌+◌, ℕ, List, ◌++◌, ◌∷◌, length, take, drop, None, Some, slice_get, []}
 use Rattle.std.specs.List.{AllZip}
 use Rattle.csv.specs.Reading.{records}
-use Rattle.lft_ir.specs.{Parts.Parts, Steps.Fits.RowsFit}
+use Rattle.lft_ir.specs.{Parts.Parts, declared.steps.row.Row.Row as TheRow, Steps.Fits.RowsFit}
 use Rattle.lft_trace.specs.{inner.LogTables.{InputsFit, inputs_behind}, LogTables.{IsLine, IsNoLine}, Records.records_of, Traces.{Table, header}}
 use Rattle.lft_trace.specs.declared.log_table.Line.{Line, TheVariants.{Row, Input}}
 use Rattle.lft_log.specs.declared.{fault.LogFault.{LogFault, TheVariants.{NoRow, NoInput}}, front.LinesRead.LinesRead}
@@ -38,8 +38,8 @@ IsRecordFault program records row input f = ⊥
 abbrev pub IsFaultBehind : Parts → List (List (List ℕ)) → List ℕ → ℕ → ℕ → LogFault → Type 0
 IsFaultBehind program records rest row input f = IsRecordFault program records row input f ⊎ (records ≡ []) × BeginsWithLine (IsOddLine row input f) rest
 
--- the front has the rows and the external inputs of the first records of the plain lines, behind so many others; without a fault it is of all lines, and a fault is of the next record or of the line behind the plain ones
-pub record IsFront (program : Parts) (text : List ℕ) (rows_before inputs_before : ℕ) (front : LinesRead) : Type 0 where
+-- the rows and the front's external inputs are those of the first records of the plain lines, behind so many others; a front without a fault is of all lines, and a fault is of the next record or of the line behind the plain ones
+pub record IsFront (program : Parts) (text : List ℕ) (rows_before inputs_before : ℕ) (read : List TheRow) (front : LinesRead) : Type 0 where
   pub plain : ℕ
   pub within : plain ≤ length text
   pub are : AreLines (take plain text)
@@ -49,9 +49,9 @@ pub record IsFront (program : Parts) (text : List ℕ) (rows_before inputs_befor
   pub others : List (List (List ℕ))
   pub whole : records_below (take plain text) ≡ first ++ others
   pub each : AllZip (IsLine program) first lines
-  pub rows_are : front.rows.items ≡ rows lines
+  pub rows_are : read ≡ rows lines
   pub inputs_are : front.inputs.items ≡ inputs_behind 0 lines
-  pub rows_fit : RowsFit program front.rows.items
+  pub rows_fit : RowsFit program read
   pub inputs_fit : InputsFit program front.inputs.items
   pub all : front.fault ≡ None → (others ≡ []) × (plain ≡ length text)
   pub none : (f : LogFault) → front.fault ≡ Some f → IsFaultBehind program others (drop plain text) (rows_before + length (rows lines) + 2) (inputs_before + length (inputs lines) + 2) f

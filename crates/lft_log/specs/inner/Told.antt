@@ -3,12 +3,12 @@ use Rattle.std.specs.Prelude.{◌≡◌, ◌↔◌, ◌⊎◌, ◌+◌, ◌^◌,
 use Rattle.lft_ir.specs.{declared.steps.row.Row.Row, Steps.Fits.RowsFit}
 use Rattle.lft_tag.specs.{declared.Tag.Tag, Tags.{Before, UpTo}}
 use Rattle.lft_model.specs.Plans.{PlanParts}
-use Rattle.lft_monitor.specs.{inner.Follows.IsFollowerOf, Follows.IsPassed}
+use Rattle.lft_monitor.specs.{inner.Follows.HasGonePast, Follows.{AreTooMany, IsPassed}}
 use Rattle.lft_trace.specs.{ExternalTables.IsEntry, declared.{external_table.Entry.Entry, log_table.Line.{Line, TheVariants.Input}}}
 use Rattle.lft_log.specs.Logs.{AreTimely, HasNoEnd, HoldSoFar, inputs, rows, HasManyRows}
 use Rattle.lft_log.specs.declared.{asked.Asked.Asked, fault.LogFault.{LogFault, TheVariants.{TooManyRows, NoMemory}}, front.LinesRead.LinesRead, log.Log.Log}
-use Rattle.lft_log.specs.declared.{rows.LogRows.LogRows, telling.Taken.Taken, told.Told.Told}
-use Rattle.lft_log.specs.Told.{HasTold, TellsPlan, IsFirstFrom, IsSaid, RecordStandsBehind, AreTooMany, IsFaultOf}
+use Rattle.lft_log.specs.declared.{rows.LogRows.LogRows, telling.Taken.Taken}
+use Rattle.lft_log.specs.Told.{HasTold, TellsPlan, IsFirstFrom, RecordStandsBehind, IsFaultOf}
 
 -- the first row at or past the asked tag is at the last tag of the rows
 pub record ComeTo (asked : Tag) (t : List Row) (last : Tag) : Type 0 where
@@ -22,10 +22,6 @@ pub record ComeTo (asked : Tag) (t : List Row) (last : Tag) : Type 0 where
 abbrev pub IsAskedOf : List Row → Asked → Type 0
 IsAskedOf t a = MatchOption a.until (Unit {0}) (λ asked. MatchOption a.last ((i : ℕ) (x : Row) → slice_get t i ≡ Some x → Before x.tag asked) (ComeTo asked t))
 
--- what is told is so of the first of some rows behind these, whatever is asked for
-abbrev pub IsSaidOfSome : PlanParts → List Row → List Row → Told → Type 0
-IsSaidOfSome plan t rows told = (first : List Row) × (behind : List Row) × (rows ≡ first ++ behind) × ((until : Option Tag) (more : List Row) → IsSaid plan until (t ++ first) more told)
-
 -- what in rows shows a fault: they are too many; or memory was refused
 abbrev pub IsFaultOfRows : List Row → LogFault → Type 0
 IsFaultOfRows t f = (f ≡ TooManyRows) × AreTooMany t ⊎ (f ≡ NoMemory)
@@ -35,7 +31,7 @@ pub record IsLogOf (base plan : PlanParts) (until : Option Tag) (bytes rest : Li
   pub lines : List Line
   pub told : HasTold base (inputs lines) plan
   pub timely : AreTimely [] lines
-  pub follower : IsFollowerOf plan (rows lines) log.follower
+  pub follower : HasGonePast plan (rows lines) log.follower
   pub counted : log.rows ≡ length (rows lines)
   pub few : log.rows ≤ 2 ^ 62 + 4000000
   pub numbered : log.inputs ≡ length (inputs lines)
@@ -89,7 +85,7 @@ HasRead base plan bytes r = ((others : List (List (List ℕ))) × (rest : List �
 pub record IsReadSoFar (base plan : PlanParts) (bytes rest : List ℕ) (r : LogRows) : Type 0 where
   pub tells : TellsPlan base bytes plan r.rows.items [] rest
   pub fit : RowsFit plan.program r.rows.items
-  pub follower : IsFollowerOf plan r.rows.items r.follower
+  pub follower : HasGonePast plan r.rows.items r.follower
   pub uncut : r.is_cut ≡ false
 
 -- the rows are read up to a rest, or no more is to be read

@@ -1,5 +1,5 @@
 -- Inside: what is kept of rows that are judged while they come, and what is told of them.
-use Rattle.std.specs.Prelude.{◌≡◌, ℕ, Bool, true, false, ◌+◌, ◌-◌, ◌^◌, ◌≤◌, ◌<◌, ◌⊎◌, List, ◌++◌, length, take, None, Some, slice_get, slice_range, []}
+use Rattle.std.specs.Prelude.{◌≡◌, ℕ, Bool, true, false, ◌+◌, ◌-◌, ◌^◌, ◌≤◌, ◌<◌, ◌⊎◌, List, ◌++◌, length, take, drop, None, Some, slice_get, slice_range, []}
 use Rattle.std.specs.List.{insert}
 use Rattle.lft_tag.specs.{declared.Tag.Tag, Tags.{Before, earlier}}
 use Rattle.lft_ir.specs.{declared.steps.{externals.Event.Event, row.Row.Row}, Steps.{Fits.RowsFit, Inputs.IsTold}}
@@ -11,7 +11,7 @@ use Rattle.lft_monitor.specs.inner.{Sure.with_inputs, Kept.IsPastOfRows, Going.{
 use Rattle.lft_monitor.specs.declared.{gone.Going.Going, reach.Reach.Reach, judged.{Judged.Judged, Closing.Closing, Ending.Ending, Unjudged.Unjudged}}
 use Rattle.lft_monitor.specs.declared.follower.{Follower.Follower, Hitch.Hitch, Progress.{Progress, TheVariants.{GoesOn, Broken, Odd, TooMany}}}
 use Rattle.lft_monitor.specs.declared.follower.Receipt.{Receipt}
-use Rattle.lft_monitor.specs.Follows.{IsCleanSoFar, IsJudged, HasManyLater, breach_of, IsQuiet, KeepsButLast, IsSureSoFar, HasManyAtLast, IsFirstUpToLast}
+use Rattle.lft_monitor.specs.Follows.{IsCleanSoFar, IsJudged, HasManyLater, breach_of, IsQuiet, KeepsButLast, IsSureSoFar, AreTooMany, IsFirstUpToLast}
 use Rattle.lft_monitor.specs.declared.judged.Closing.TheVariants as closing
 use Rattle.lft_monitor.specs.declared.judged.Ending.TheVariants as ending
 use Rattle.lft_monitor.specs.declared.follower.Hitch.TheVariants as hitch
@@ -40,6 +40,14 @@ stopped_judged j g = record j { acceptor = record j.acceptor { stream = stopped_
 abbrev pub done_of : List Row → Follower → List Row
 done_of t f = take f.judged.count t
 
+-- the rows that the follower holds
+abbrev pub held_of : Follower → List Row
+held_of f = take f.held f.rows.items
+
+-- the rows behind these, which it goes past next
+abbrev pub next_of : Follower → List Row
+next_of f = drop f.held f.rows.items
+
 -- rows are at hand behind those that are judged, and at later tags
 pub record IsHeld (plan : PlanParts) (done rows : List Row) (j : Judged) : Type 0 where
   pub judged : IsJudgedOf plan done j
@@ -47,14 +55,19 @@ pub record IsHeld (plan : PlanParts) (done rows : List Row) (j : Judged) : Type 
   pub earlier : (x : Row) → slice_get rows 0 ≡ Some x → AreBefore done x.tag
   pub some : rows ≡ [] → done ≡ []
 
--- the follower has judged all rows but those at the last tag, which it holds; of these it has gone over some
+-- the follower has judged all rows but those at the last tag, which it holds, and has gone over some of these; what it goes past next isn't among the rows
 pub record IsFollowerOf (plan : PlanParts) (t : List Row) (f : Follower) : Type 0 where
-  pub parts : t ≡ done_of t f ++ f.rows.items
-  pub held : IsHeld plan (done_of t f) f.rows.items f.judged
-  pub going : IsGoing plan (done_of t f) f.rows.items f.going
-  pub at_one : (g : Tag) × AreAt f.rows.items g
+  pub within : f.held ≤ length f.rows.items
+  pub parts : t ≡ done_of t f ++ held_of f
+  pub held : IsHeld plan (done_of t f) (held_of f) f.judged
+  pub going : IsGoing plan (done_of t f) (held_of f) f.going
+  pub at_one : (g : Tag) × AreAt (held_of f) g
 
--- more rows are followed on: nothing is to be told of them, and no fewer are judged than before
+-- and it has gone past all of its rows
+abbrev pub HasGonePast : PlanParts → List Row → Follower → Type 0
+HasGonePast plan t f = IsFollowerOf plan t f × (next_of f ≡ [])
+
+-- more rows are followed on: nothing is to be told of all, and no fewer are judged than before
 pub record IsFollowedOn (plan : PlanParts) (t more : List Row) (old new : Follower) : Type 0 where
   pub follows : IsFollowerOf plan (t ++ more) new
   pub quiet : IsQuiet plan (t ++ more)
@@ -112,12 +125,12 @@ abbrev pub IsHitch : PlanParts → List Row → ℕ → Hitch → Type 0
 IsHitch plan t n (hitch.Broken b) = IsSureSoFar plan t (breach_of b)
 IsHitch plan t n (hitch.Odd line) = IsOddBehind t n line
 
--- what is told of rows and more behind them: nothing is to be told, and all are followed on; a breach is sure behind some of them; they are odd; or the rows behind are too many with the last ones at one tag, or too many came
+-- what is told of rows and more behind them: nothing is to be told, and all are gone past; a breach is sure behind some of them; they are odd; or they are too many
 abbrev pub TellsProgress : PlanParts → List Row → List Row → Follower → Progress → Type 0
-TellsProgress plan t more f GoesOn = IsFollowerOf plan (t ++ more) f × IsQuiet plan (t ++ more)
+TellsProgress plan t more f GoesOn = HasGonePast plan (t ++ more) f × IsQuiet plan (t ++ more)
 TellsProgress plan t more f (Broken b) = IsSureSoFar plan (t ++ more) (breach_of b)
 TellsProgress plan t more f (Odd r line) = IsOdd plan t more r line
-TellsProgress plan t more f TooMany = HasManyAtLast t more ⊎ (2 ^ 62 < length t)
+TellsProgress plan t more f TooMany = AreTooMany (t ++ more)
 
 -- the rows are clean, all or but those at the last tag, and reach so far
 abbrev pub IsReached : PlanParts → List Row → Reach → Type 0

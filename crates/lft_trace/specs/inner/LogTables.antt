@@ -1,7 +1,7 @@
 -- Inside: tables of rows with external inputs among them: the lines of their records, and why a record is none.
 use Rattle.std.specs.Prelude.{◌≡◌, ◌+◌, ℕ, List, ◌∷◌, ◌++◌, filter_map, All, Option, Some, None, []}
 use Rattle.std.specs.List.{AllZip}
-use Rattle.lft_ir.specs.{Parts.Parts, Steps.Fits.EventFits}
+use Rattle.lft_ir.specs.{Parts.Parts, declared.steps.row.Row.Row as TheRow, Steps.Fits.EventFits}
 use Rattle.lft_tag.specs.Tags.{IsRecorded}
 use Rattle.lft_trace.specs.declared.external_table.Entry.{Entry, TheVariants.{Happens, Stops}}
 use Rattle.lft_trace.specs.declared.log_table.{Among.Among, Line.{Line, TheVariants.{Row, Input}}, LineFault.LineFault, LogLines.LogLines}
@@ -19,13 +19,13 @@ StopsAt program rest None = rest ≡ []
 StopsAt program rest (Some e) = (bad : List (List ℕ)) × (more : List (List (List ℕ))) × (rest ≡ bad ∷ more) × IsNoLine program bad e
 
 -- the rows and the external inputs are those of the records, one by one, up to the first that is no line
-pub record ReadsLines (program : Parts) (records : List (List (List ℕ))) (read : LogLines) : Type 0 where
+pub record ReadsLines (program : Parts) (records : List (List (List ℕ))) (rows : List TheRow) (read : LogLines) : Type 0 where
   pub lines : List Line
   pub first : List (List (List ℕ))
   pub rest : List (List (List ℕ))
   pub whole : records ≡ first ++ rest
   pub each : AllZip (IsLine program) first lines
-  pub rows_are : read.rows.items ≡ filter_map row_of lines
+  pub rows_are : rows ≡ filter_map row_of lines
   pub inputs_are : read.inputs.items ≡ inputs_behind 0 lines
   pub stops : StopsAt program rest read.fault
 

@@ -3,8 +3,7 @@ use Rattle.std.specs.Prelude.{◌≡◌, ◌⊎◌, ℕ, Bool, List, ◌∷◌, 
 use Rattle.std.specs.Global.{Vec}
 use Rattle.lft_tag.specs.declared.NoMemory.{NoMemory as TheNoMemory}
 use Rattle.lft_model.specs.Plans.{PlanParts}
-use Rattle.lft_log.specs.{Explain.{Listed.runs_words, Explained.{IsTextOf, ExplainsCut}}, Logs.HasManyRows}
-use Rattle.lft_log.specs.declared.{told.Ended.Ended, follow.kept.Kept.Kept, explain.explaining.Unexplained.TheVariants.TooLong}
+use Rattle.lft_log.specs.{Explain.{Listed.runs_words, Explained.{IsTextOf, ExplainsCut}}, Logs.HasManyRows, declared.{told.Ended.Ended, follow.kept.Kept.Kept}}
 use Rattle.lft_monitor.specs.Follows.{breach_of}
 use Rattle.lft_monitor.specs.declared.found.BrokenRule.{BrokenRule}
 use Rattle.lft_monitor.specs.declared.open.StillOpen.{StillOpen}

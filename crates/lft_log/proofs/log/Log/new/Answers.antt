@@ -8,14 +8,14 @@ returns c = record {
     lines = [];
     told = told_none c.args.plan.now c.keeps.ensures.sound.in_order;
     timely = tt;
-    follower = c.in_ok-new.ensures;
+    follower = c.in_ok-new-2.ensures;
     counted = refl;
     few = omega arith;
     numbered = refl;
-    until_is = c.new-3.ensures.until;
-    asked = c.new-3.ensures.asked;
+    until_is = c.new-4.ensures.until;
+    asked = c.new-4.ensures.asked;
     begun = λ e. absurd (cc e);
-    fresh = λ e. (sym c.new-2.ensures.items, refl);
+    fresh = λ e. (sym c.new-3.ensures.items, refl);
   };
-  open_line = subst HasNoEnd (sym c.new-2.ensures.items) (λ i e. absurd (cc e));
+  open_line = subst HasNoEnd (sym c.new-3.ensures.items) (λ i e. absurd (cc e));
 }
