@@ -12,7 +12,7 @@ use std::io::{ErrorKind, Read};
 
 /// The most bytes of a file.
 const MOST_BYTES: usize = 1 << 30;
-/// The bytes that are asked for in one call. They stand on the stack, once for each place that reads a file whole.
+/// The bytes that are asked for in one call. They stand on the stack.
 const PIECE: usize = 1 << 12;
 /// The most calls of `read` that a file may take.
 // Enough for 2^30 bytes in pieces of 64. A reader that is interrupted

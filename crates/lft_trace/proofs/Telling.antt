@@ -5,14 +5,14 @@ use Rattle.lft_ir.specs.{Names.AreDistinct, Parts.Parts, declared.{parts.Name.{N
 use Rattle.lft_ir.proofs.Positions.{nowhere, somewhere}
 use Rattle.lft_trace.specs.Traces.{IsRow, IsStep, IsThing, RowOf, TraceFields, word}
 use Rattle.lft_trace.specs.declared.kind.RowKind.{RowKind, TheVariants.{Start, Read, Write, Schedule, Stop, End}}
-use Rattle.lft_trace.specs.inner.Telling.{fields_in, kind_in, place_in, row_in, row_of, step_in, thing_in}
+use Rattle.lft_trace.specs.inner.Telling.{fields_in, kind_in, number_among, row_in, row_of, step_in, thing_in}
 use Rattle.lft_ir.specs.declared.found.Found.TheVariants as found
 
 -- a text that stands in a list once is found where it stands
-place_is : (names : List (List ℕ)) (i : ℕ) (text : List ℕ) → ((j : ℕ) → slice_get names j ≡ Some text → j ≡ i) → slice_get names i ≡ Some text → place_in names text ≡ Some i
-place_is names i text once at = go (place_in names text) refl
+place_is : (names : List (List ℕ)) (i : ℕ) (text : List ℕ) → ((j : ℕ) → slice_get names j ≡ Some text → j ≡ i) → slice_get names i ≡ Some text → number_among names text ≡ Some i
+place_is names i text once at = go (number_among names text) refl
   where
-    go : (o : Option ℕ) → place_in names text ≡ o → place_in names text ≡ Some i
+    go : (o : Option ℕ) → number_among names text ≡ o → number_among names text ≡ Some i
     go None none = absurd (true≢false (sym ((bytes_eq-Decides text text).1 refl) ∙ nowhere (bytes_eq text) names none i text at))
     go (Some j) there =
         let s = somewhere (bytes_eq text) names j there in
@@ -20,10 +20,10 @@ place_is names i text once at = go (place_in names text) refl
         there ∙ ap Some (once j (s.1 ∙ ap Some (sym same)))
 
 -- a text that stands nowhere in a list isn't found
-nowhere_is : (names : List (List ℕ)) (text : List ℕ) → ((j : ℕ) → slice_get names j ≡ Some text → ⊥) → place_in names text ≡ None
-nowhere_is names text not_there = go (place_in names text) refl
+nowhere_is : (names : List (List ℕ)) (text : List ℕ) → ((j : ℕ) → slice_get names j ≡ Some text → ⊥) → number_among names text ≡ None
+nowhere_is names text not_there = go (number_among names text) refl
   where
-    go : (o : Option ℕ) → place_in names text ≡ o → place_in names text ≡ None
+    go : (o : Option ℕ) → number_among names text ≡ o → number_among names text ≡ None
     go None none = none
     go (Some j) there =
         let s = somewhere (bytes_eq text) names j there in
@@ -39,7 +39,7 @@ kind_is Stop = refl
 kind_is End = refl
 
 module _ (program : Parts) (distinct : AreDistinct program.names) where
-  reaction_is : (r : ℕ) (text : List ℕ) → slice_get program.names.reactions r ≡ Some text → place_in program.names.reactions text ≡ Some r
+  reaction_is : (r : ℕ) (text : List ℕ) → slice_get program.names.reactions r ≡ Some text → number_among program.names.reactions text ≡ Some r
   reaction_is r text at = place_is program.names.reactions r text (λ j h. let e = distinct (found.Reaction j) (found.Reaction r) text h at in cc) at
 
   thing_is : (n : Name) (text : List ℕ) → IsThing program text n → thing_in program text ≡ Some n

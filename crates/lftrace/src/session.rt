@@ -66,19 +66,19 @@ const NO_EXTERNALS: &[u8] =
 
 /// Why texts are refused, and what there is to tell of it once all files are read.
 #[derive(Drop)]
-pub(crate) struct Refused {
+pub(crate) struct RefusedTexts {
     failure: Failure,
     told: Option<String>,
 }
 
-impl From<Refused> for Failure {
-    fn from(refused: Refused) -> Failure {
+impl From<RefusedTexts> for Failure {
+    fn from(refused: RefusedTexts) -> Failure {
         refused.failure
     }
 }
 
 /// The plan of texts, or why they have none.
-pub(crate) type Planned = Result<Plan, Refused>;
+pub(crate) type Planned = Result<Plan, RefusedTexts>;
 
 /// What a session writes to, and whether it tells there why a text is refused.
 #[derive(Drop)]
@@ -117,7 +117,7 @@ impl<'w, F: Files, W: Write> Session<'w, F, W> {
     }
 
     /// What there is, or else the failure of texts that are refused, of which is told.
-    pub(crate) fn taken<X>(&mut self, found: Result<X, Refused>) -> Result<X, Failure> {
+    pub(crate) fn taken<X>(&mut self, found: Result<X, RefusedTexts>) -> Result<X, Failure> {
         match found {
             Ok(found) => Ok(found),
             Err(refused) => {
@@ -140,7 +140,11 @@ impl<'w, F: Files, W: Write> Session<'w, F, W> {
     }
 
     /// The program that these words and this text tell, and what is said of it.
-    pub(crate) fn program(&self, words: ProgramWords<'_>, text: &[u8]) -> Result<Whole, Refused> {
+    pub(crate) fn program(
+        &self,
+        words: ProgramWords<'_>,
+        text: &[u8],
+    ) -> Result<Whole, RefusedTexts> {
         // A core text is taken as one with `--lower` too, so that scripts may always write the flag.
         match read_program(self.alloc, text) {
             Ok(program) => Ok(Whole {
@@ -150,13 +154,13 @@ impl<'w, F: Files, W: Write> Session<'w, F, W> {
             Err(fault) if words.lower && is_no_core(&fault) => {
                 match whole_program(self.rt, self.alloc, words.path, text) {
                     Ok(whole) => Ok(whole),
-                    Err(unlowered) => Err(Refused {
+                    Err(unlowered) => Err(RefusedTexts {
                         failure: unlowered.failure,
                         told: unlowered.told,
                     }),
                 }
             }
-            Err(fault) => Err(Refused {
+            Err(fault) => Err(RefusedTexts {
                 told: self.told_of_program(words.path, text, &fault),
                 failure: Failure::from(fault),
             }),
@@ -164,20 +168,20 @@ impl<'w, F: Files, W: Write> Session<'w, F, W> {
     }
 
     /// Why a program has no plan under these external inputs.
-    fn unplanned(&self, unplanned: Unplanned, externals: &[u8]) -> Refused {
+    fn unplanned(&self, unplanned: Unplanned, externals: &[u8]) -> RefusedTexts {
         let told = if self.tells_of(&unplanned.fault) {
             refusal_of_plan(self.alloc, &unplanned.program, externals)
         } else {
             Ok(None)
         };
-        Refused {
+        RefusedTexts {
             failure: Failure::from(unplanned.fault),
             told: told.unwrap_or(None),
         }
     }
 
     /// The plan of a program under the external inputs of a text.
-    fn plan_of_text(&self, whole: Result<Whole, Refused>, externals: &[u8]) -> Planned {
+    fn plan_of_text(&self, whole: Result<Whole, RefusedTexts>, externals: &[u8]) -> Planned {
         let whole = whole?;
         match plan_of(self.alloc, whole.program, externals) {
             Ok(plan) => Ok(plan),
@@ -189,7 +193,7 @@ impl<'w, F: Files, W: Write> Session<'w, F, W> {
     /// is no plan: that the file can't be read is told before that.
     fn plan_of_file(
         &self,
-        whole: Result<Whole, Refused>,
+        whole: Result<Whole, RefusedTexts>,
         path: &str,
         file: &mut F::File,
         size: usize,

@@ -18,8 +18,8 @@ kind_in w =
     else (if bytes_eq w (codes "read") then Some Read else (if bytes_eq w (codes "write") then Some Write else (if bytes_eq w (codes "schedule") then Some Schedule else (if bytes_eq w (codes "stop") then Some Stop else (if bytes_eq w (codes "end") then Some End else None)))))
 
 -- where a text stands among names
-abbrev pub place_in : List (List ℕ) → List ℕ → Option ℕ
-place_in names text = position (bytes_eq text) names
+abbrev pub number_among : List (List ℕ) → List ℕ → Option ℕ
+number_among names text = position (bytes_eq text) names
 
 -- what is there, else something else
 abbrev pub or_else : Option Name → Option Name → Option Name
@@ -28,7 +28,7 @@ or_else None other = other
 
 -- the port or action of a name
 unfoldable pub thing_in : Parts → List ℕ → Option Name
-thing_in program text = or_else (option_map Port (place_in program.names.ports text)) (option_map Action (place_in program.names.actions text))
+thing_in program text = or_else (option_map Port (number_among program.names.ports text)) (option_map Action (number_among program.names.actions text))
 
 -- the step of an event with these fields
 abbrev pub step_in : Parts → RowKind → TraceFields → Option Step
@@ -42,7 +42,7 @@ step_in program End c = Some step.End
 -- the row of an event with these fields
 abbrev pub row_of : Parts → TraceFields → RowKind → Option Row
 row_of program c kind =
-    option_and_then (λ worker. option_and_then (λ time. option_and_then (λ micro. option_and_then (λ reaction. option_map (λ step. record { tag = record { time = time; micro = micro }; worker = worker; reaction = reaction; step = step }) (step_in program kind c)) (place_in program.names.reactions c.reaction)) (number 1000000000 c.microstep)) (number 1000000000000000000 c.time)) (number 4294967295 c.worker)
+    option_and_then (λ worker. option_and_then (λ time. option_and_then (λ micro. option_and_then (λ reaction. option_map (λ step. record { tag = record { time = time; micro = micro }; worker = worker; reaction = reaction; step = step }) (step_in program kind c)) (number_among program.names.reactions c.reaction)) (number 1000000000 c.microstep)) (number 1000000000000000000 c.time)) (number 4294967295 c.worker)
 
 -- the row of a record
 unfoldable pub row_in : Parts → List (List ℕ) → Option Row
