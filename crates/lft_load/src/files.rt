@@ -4,14 +4,16 @@ ghost use Rattle.std.specs.Prelude.{◌≡◌, ◌<◌, ◌≤◌, ◌^◌, ◌�
 ghost use Rattle.lft_load.specs.{Faults.IsFaultOfPath, Meaning.{IsOnly, IsPlanUnder}, Refusals.PlanRefusal};
 ghost use Rattle.lft_load.specs.declared.fault.Part.TheVariants as part;
 
-use crate::{Fault, Part, SizedReader, Unplanned, plan_from, read_input};
+use crate::{Fault, Part, SizedReader, Unplanned, graph_of, plan_from, read_input};
 use lft_ir::Program;
 use lft_model::Plan;
+use lft_trace::read_externals_shared;
 use std::alloc::Global;
 use std::fs;
 use std::fs::{File, OpenFile};
 use std::io::{ErrorKind, Read, Seek};
 use std::rt::Files;
+use std::thread::Threads;
 
 /// What is said of a folder in the place of a file.
 const FOLDER: &str = "that is a folder";
@@ -136,9 +138,28 @@ pub fn read_sized<F: Files>(
     ensures limit { IfOk result (λ bytes. length bytes.items ≤ 2 ^ 30) }
     ensures refused { IfErr result (λ failure. IsFaultOfPath failure.fault part.Read 1 path.now ⊎ IsFaultOfPath failure.fault part.Read 2 path.now) }
 {
+    rewind(alloc, path, file)?;
+    read_opened(rt, alloc, path, &mut SizedReader::new(file, size))
+}
+
+/// Goes back to the first byte of the file that was opened at a path.
+pub fn rewind<T: Seek>(alloc: Global, path: &str, file: &mut T) -> Result<(), Failure>
+    ensures { IfErr result (λ failure. IsFaultOfPath failure.fault part.Read 1 path.now) }
+{
     match file.rewind() {
-        Ok(()) => read_opened(rt, alloc, path, &mut SizedReader::new(file, size)),
+        Ok(()) => Ok(()),
         Err(_) => Err(unread(alloc, path, None)),
+    }
+}
+
+/// The failure of the reader of an ordinary file at a path.
+fn unread_sized<R: Read + Drop>(alloc: Global, path: &str, reader: &SizedReader<R>) -> Failure
+    ensures { IsFaultOfPath result.fault part.Read 1 path.now ⊎ IsFaultOfPath result.fault part.Read 2 path.now }
+{
+    if reader.is_too_large() {
+        too_large(alloc, path)
+    } else {
+        unread(alloc, path, None)
     }
 }
 
@@ -166,8 +187,32 @@ pub fn plan_sized<R: Read + Drop>(
     match plan_from(alloc, program, &mut *reader) {
         Ok(plan) => Ok(Ok(plan)),
         Err(unplanned) if !is_of_reader(&unplanned.fault) => Ok(Err(unplanned)),
-        Err(_) if reader.is_too_large() => Err(too_large(alloc, path)),
-        Err(_) => Err(unread(alloc, path, None)),
+        Err(_) => Err(unread_sized(alloc, path, reader)),
+    }
+}
+
+/// The same plan, where so many workers read the table. Where nothing is said of the table, or there is no plan, the
+/// program comes back: why, `plan_sized` says, which reads the file from its first byte on.
+pub fn plan_shared<T: Threads + Sync, R: Read + Drop>(
+    rt: &T,
+    alloc: Global,
+    path: &str,
+    program: Program,
+    reader: &mut SizedReader<R>,
+    workers: u32,
+) -> Result<Result<Plan, Program>, Failure>
+    ensures plan { IfOk result (λ planned. IfOk planned (λ plan. IfSome (R.remaining reader.old.reader) (λ text. IsOnly (IsPlanUnder program text) plan))) }
+    ensures program { IfOk result (λ planned. IfErr planned (λ back. back ≡ program)) }
+    ensures unread { IfErr result (λ failure. IsFaultOfPath failure.fault part.Read 1 path.now ⊎ IsFaultOfPath failure.fault part.Read 2 path.now) }
+{
+    let given = match read_externals_shared(rt, alloc, &program, &mut *reader, workers) {
+        Ok(Some(given)) => given,
+        Ok(None) => return Ok(Err(program)),
+        Err(_) => return Err(unread_sized(alloc, path, reader)),
+    };
+    match graph_of(alloc, &program) {
+        Ok(graph) => Ok(Ok(Plan::with_graph(program, given, graph))),
+        Err(_) => Ok(Err(program)),
     }
 }
 

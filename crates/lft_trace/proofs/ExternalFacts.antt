@@ -1,13 +1,13 @@
 -- What one more record does to a table of external inputs.
-use Rattle.std.proofs.Common.{◌≡◌, ◌∙◌, inl, inr, ◌<◌, ◌≤◌, ◌++◌, ℕ, List, [], ◌∷◌, length, IfSome, Option, Some, None, filter_map, slice_get, refl, sym, ap, subst, arith, append-nil}
+use Rattle.std.proofs.Common.{◌≡◌, ◌∙◌, inl, inr, ◌+◌, ◌<◌, ◌≤◌, ◌++◌, ℕ, List, [], ◌∷◌, length, IfSome, Option, Some, None, filter_map, slice_get, refl, sym, ap, subst, arith, append_assoc, append-nil, take, get_or, add-one}
 use Rattle.std.specs.Prelude.{option_to_list}
 use Rattle.std.specs.List.Sorted.{IsPermutation}
-use Rattle.std.proofs.lemmas.List.{Elements.filter_map-append, Sorted.{IsPermutation-push_more, IsPermutation-refl, length_permutation}}
+use Rattle.std.proofs.{lemmas.List.{Elements.filter_map-append, Sorted.{IsPermutation-push_more, IsPermutation-refl, length_permutation}}, Math.Seq.take-suc}
 use Rattle.csv.specs.Records.{fields_of}
 use Rattle.lft_ir.specs.{Parts.Parts, Steps.{Fits.{EventFits, ExternalsFit}, Inputs.{ExternalInputs, InOrder}}, declared.steps.externals.Event.Event}
 use Rattle.lft_tag.specs.{declared.Tag.Tag, Tags.IsRecorded}
 use Rattle.lft_trace.specs.ExternalTables.{AreApart, ExternalFails, ExternalTable, FaultAt, Has, IsEntry, event_of, external_tables, header, stop_of}
-use Rattle.lft_trace.specs.{inner.{Records.{IsCounted, IsNext, IsPast, IsUnread, records_left}, SeenExternals.{Keeps, Refuses}}, Records.records_of}
+use Rattle.lft_trace.specs.{inner.{Records.{IsCounted, IsNext, IsPast, IsUnread, records_left}, SeenExternals.{AreKept, Keeps, Refuses}}, Records.records_of}
 use Rattle.lft_trace.specs.declared.{external_table.Entry.{Entry, TheVariants.{Happens, Stops}}, fault.TraceFault.TraceFault, records.Records.Records}
 use Rattle.lft_trace.proofs.{EventFacts.{has_cons, has_none}, ExternalTableFacts.{event_fits, stop_fits}}
 use Rattle.lft_trace.proofs.Members.{apart_pushed, has_permuted, has_permuted_back}
@@ -18,8 +18,7 @@ use Rattle.lft_trace.specs.declared.fault.TraceFault.TheVariants as fault
 pub record Gathered {R : Type 0} (remaining : R → Option (List ℕ)) (program : Parts) (records : Texts) (stop : Option Tag) (events : List Event) (r : Records R) : Type 0 where
   pub entries : List Entry
   pub read : Read remaining (external_tables program) records entries r
-  pub stops : filter_map stop_of entries ≡ option_to_list stop
-  pub same : IsPermutation (filter_map event_of entries) events
+  pub kept : AreKept entries stop events
 
 stops_after : (entries : List Entry) (entry : Entry) (stop now : Option Tag) (events events_now : List Event) → filter_map stop_of entries ≡ option_to_list stop → Keeps entry stop events now events_now → filter_map stop_of (entries ++ (entry ∷ [])) ≡ option_to_list now
 stops_after entries (Happens x) stop now events events_now h k = filter_map-append stop_of entries (Happens x ∷ []) ∙ append-nil (filter_map stop_of entries) ∙ h ∙ ap option_to_list (sym k.0)
@@ -41,6 +40,24 @@ same_after entries (Stops g) stop now events events_now p k =
     subst (λ (l : List Event). IsPermutation l events_now) (sym (filter_map-append event_of entries (Stops g ∷ []) ∙ append-nil (filter_map event_of entries)))
     (subst (λ (l : List Event). IsPermutation (filter_map event_of entries) l) (sym k.2) p)
 
+-- before the first entry nothing is kept
+pub kept_none : AreKept [] None []
+kept_none = record { stops = refl; apart = λ i j x y a b same. cc (a); same = IsPermutation-refl [] }
+
+-- one entry more
+pub kept_more : (entries : List Entry) (entry : Entry) (stop now : Option Tag) (events events_now : List Event) → AreKept entries stop events → Keeps entry stop events now events_now → AreKept (entries ++ (entry ∷ [])) now events_now
+kept_more entries entry stop now events events_now r k = record {
+  stops = stops_after entries entry stop now events events_now r.stops k;
+  apart = apart_after entries entry stop now events events_now r.apart r.same k;
+  same = same_after entries entry stop now events events_now r.same k;
+}
+
+-- the next of some entries
+pub kept_next : (entries : List Entry) (n : ℕ) (d : Entry) (before : List Entry) (stop now : Option Tag) (events events_now : List Event) → n < length entries → AreKept (before ++ take n entries) stop events → Keeps (get_or entries n d) stop events now events_now → AreKept (before ++ take (n + 1) entries) now events_now
+kept_next entries n d before stop now events events_now lt r k =
+    let next : take (n + 1) entries ≡ take n entries ++ (get_or entries n d ∷ []) = ap (λ (k : ℕ). take k entries) (add-one n) ∙ take-suc entries n d lt in
+    subst (λ (t : List Entry). AreKept t now events_now) (append_assoc before (take n entries) (get_or entries n d ∷ []) ∙ ap (λ (t : List Entry). before ++ t) (sym next)) (kept_more (before ++ take n entries) (get_or entries n d) stop now events events_now r k)
+
 at_most_one : (stop : Option Tag) → length (option_to_list stop) ≤ 1
 at_most_one None = omega arith
 at_most_one (Some g) = omega arith
@@ -52,25 +69,19 @@ clash program line f (Stops g) entries None events e is s p h = absurd (h.1 refl
 clash program line f (Stops g) entries (Some o) events e is s p h = rw h.0 (refl, g, is, λ none. let q : ◌≡◌ {A = List Tag} [] (o ∷ []) = sym none ∙ s in cc (q))
 
 pub start : {R : Type 0} {remaining : R → Option (List ℕ)} (program : Parts) (text : List ℕ) (old new : Records R) → IsUnread remaining old text 4000001 → IsNext remaining old new → fields_of new.fields ≡ header → Gathered remaining program (records_of text) None [] new
-start program text old new u g top = record { entries = []; read = first (external_tables program) text old new u g top (omega arith, λ i j x y a b same. cc (a)); stops = refl; same = IsPermutation-refl [] }
+start program text old new u g top = record { entries = []; read = first (external_tables program) text old new u g top (omega arith, kept_none.apart); kept = kept_none }
 
 module _ {R : Type 0} {remaining : R → Option (List ℕ)} (program : Parts) (records : Texts) (stop : Option Tag) (events : List Event) (old : Records R) (r : Gathered remaining program records stop events old) where
   pub one_more : (new : Records R) (entry : Entry) (now : Option Tag) (events_now : List Event) → IsNext remaining old new → IsEntry program (fields_of new.fields) entry → Keeps entry stop events now events_now → Gathered remaining program records now events_now new
   one_more new entry now events_now g is k =
-      let stops = stops_after r.entries entry stop now events events_now r.stops k in
-      let apart = apart_after r.entries entry stop now events events_now r.read.begins.together.1 r.same k in
-      record {
-        entries = r.entries ++ (entry ∷ []);
-        read = read_more (external_tables program) records r.entries old new entry r.read g is (rw stops (at_most_one now), apart);
-        stops = stops;
-        same = same_after r.entries entry stop now events events_now r.same k;
-      }
+      let kept = kept_more r.entries entry stop now events events_now r.kept k in
+      record { entries = r.entries ++ (entry ∷ []); read = read_more (external_tables program) records r.entries old new entry r.read g is (rw kept.stops (at_most_one now), kept.apart); kept = kept }
 
   pub bad : (new : Records R) (e : TraceFault) → IsNext remaining old new → ((before : List Entry) → FaultAt program before new.line (fields_of new.fields) e) → ExternalFails program records e
   bad new e g is = inl (bad_record (external_tables program) records r.entries old new e r.read g (is r.entries))
 
   pub refused : (new : Records R) (entry : Entry) (e : TraceFault) → IsNext remaining old new → IsEntry program (fields_of new.fields) entry → Refuses entry stop events new.line e → ExternalFails program records e
-  refused new entry e g is h = inl (bad_record (external_tables program) records r.entries old new e r.read g (clash program new.line (fields_of new.fields) entry r.entries stop events e is r.stops r.same h))
+  refused new entry e g is h = inl (bad_record (external_tables program) records r.entries old new e r.read g (clash program new.line (fields_of new.fields) entry r.entries stop events e is r.kept.stops r.kept.same h))
 
   pub past : (new : Records R) → IsPast remaining old new → ExternalFails program records fault.TooManyRows
   past new p = inl (past_last (external_tables program) records r.entries old new r.read p)
@@ -79,14 +90,14 @@ module _ {R : Type 0} {remaining : R → Option (List ℕ)} (program : Parts) (r
   ended inputs none h = record {
     entries = r.entries;
     holds = all_read (external_tables program) records r.entries old r.read none;
-    one_stop = r.stops ∙ ap option_to_list h.0;
-    apart = r.read.begins.together.1;
-    same = subst (λ (l : List Event). IsPermutation (filter_map event_of r.entries) l) (sym h.1) r.same;
+    one_stop = r.kept.stops ∙ ap option_to_list h.0;
+    apart = r.kept.apart;
+    same = subst (λ (l : List Event). IsPermutation (filter_map event_of r.entries) l) (sym h.1) r.kept.same;
     order = h.2;
   }
 
   pub no_stop : (e : TraceFault) → records_left remaining old ≡ [] → (e ≡ fault.NoStop) × (stop ≡ None) → ExternalFails program records e
-  no_stop e none h = inr (h.0, record { entries = r.entries; holds = all_read (external_tables program) records r.entries old r.read none; apart = r.read.begins.together.1; none = r.stops ∙ ap option_to_list h.1 })
+  no_stop e none h = inr (h.0, record { entries = r.entries; holds = all_read (external_tables program) records r.entries old r.read none; apart = r.kept.apart; none = r.kept.stops ∙ ap option_to_list h.1 })
 
 -- ---- fits
 

@@ -4,11 +4,13 @@ pub mod EntriesDiffer
 pub mod EventFacts
 pub mod EventLists
 pub mod ExternalFacts
+pub mod ExternalReading
 pub mod ExternalTableFacts
 pub mod Fuel
 pub mod LogTableFacts
 pub mod Members
 pub mod NumbersBack
+pub mod Parts
 pub mod PlainRows
 pub mod RowFacts
 pub mod RowsBack

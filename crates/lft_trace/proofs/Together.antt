@@ -1,10 +1,10 @@
--- The rows of a text are those of its parts, one part after another.
+-- What the records of a text tell is what those of its parts tell, one part after another.
 use Rattle.std.proofs.Common.{◌≡◌, ◌∙◌, ◌++◌, ◌∷◌, ◌⊎◌, inl, inr, ℕ, zero, suc, List, [], Option, Some, IfSome, Bool, true, false, refl, sym, ap, subst, codes}
 use Rattle.std.specs.Prelude.{◌==◌, ◌&&◌, not}
 use Rattle.std.{specs.List.{AllZip, list_all}, proofs.lemmas.{Bool.false≢true, List.append-nil}}
 use Rattle.csv.specs.{Machine.next_record, Reading.{records_from, strip_bom}}
-use Rattle.lft_ir.specs.{Parts.Parts, declared.steps.row.Row.Row}
-use Rattle.lft_trace.specs.{Records.records_of, Traces.{IsRow, header}, Parts.{HasNoQuote, EndsLine}, inner.Parts.{BeginsPlain, HoldsRows, IsCut}}
+use Rattle.lft_trace.specs.{Records.records_of, Traces.header, ExternalTables.header as inputs_header, Parts.{HasNoQuote, EndsLine}}
+use Rattle.lft_trace.specs.inner.Parts.{BeginsPlain, HoldsItems, IsCut}
 use Rattle.lft_trace.proofs.Cutting.{records_cut}
 
 no_quote_in_both : (a b : List ℕ) → HasNoQuote a → HasNoQuote b → HasNoQuote (a ++ b)
@@ -19,12 +19,12 @@ zipped R [] more (y ∷ ys) others h k = absurd h
 zipped R (x ∷ xs) more [] others h k = absurd h
 zipped R (x ∷ xs) more (y ∷ ys) others h k = (h.0, zipped R xs more ys others h.1 k)
 
--- the rows of two parts, one after the other, are those of the whole
-pub holds_both : (program : Parts) (text a b : List ℕ) (rows more : List Row) → text ≡ a ++ b → EndsLine a → BeginsPlain b → HoldsRows program a rows → HoldsRows program b more → HoldsRows program text (rows ++ more)
-holds_both program text a b rows more is ends plain x y =
+-- what the records of two parts tell, one part after the other, is what those of the whole tell
+pub holds_both : {Item : Type 0} (tells : List (List ℕ) → Item → Type 0) (text a b : List ℕ) (items more : List Item) → text ≡ a ++ b → EndsLine a → BeginsPlain b → HoldsItems tells a items → HoldsItems tells b more → HoldsItems tells text (items ++ more)
+holds_both tells text a b items more is ends plain x y =
     let cut : records_of text ≡ records_of a ++ records_of b = ap records_of is ∙ records_cut a b x.0 ends plain in (
       subst HasNoQuote (sym is) (no_quote_in_both a b x.0 y.0),
-      subst (λ (t : List (List (List ℕ))). AllZip (IsRow program) t (rows ++ more)) (sym cut) (zipped (IsRow program) (records_of a) (records_of b) rows more x.1 y.1),
+      subst (λ (t : List (List (List ℕ))). AllZip tells t (items ++ more)) (sym cut) (zipped tells (records_of a) (records_of b) items more x.1 y.1),
     )
 
 -- what a clause says of what is there
@@ -67,20 +67,36 @@ pub header_alone : (text : List ℕ) → (text ≡ line ++ 10 ∷ []) ⊎ (text 
 header_alone text (inl is) = (ap records_of is ∙ one_record, subst HasNoQuote (sym is) no_quote_in_line)
 header_alone text (inr is) = (ap records_of is ∙ one_csv_record, subst HasNoQuote (sym is) no_quote_in_csv_line)
 
+-- the same of a table of external inputs
+abbrev pub inputs_line : List ℕ
+inputs_line = codes "kind,time,microstep,name,value"
+
+one_inputs_record : records_of (inputs_line ++ 10 ∷ []) ≡ inputs_header ∷ []
+unfolding records_from next_record strip_bom
+one_inputs_record = refl
+
+one_csv_inputs_record : records_of (inputs_line ++ 13 ∷ 10 ∷ []) ≡ inputs_header ∷ []
+unfolding records_from next_record strip_bom
+one_csv_inputs_record = refl
+
+pub inputs_alone : (text : List ℕ) → (text ≡ inputs_line ++ 10 ∷ []) ⊎ (text ≡ inputs_line ++ 13 ∷ 10 ∷ []) → (records_of text ≡ inputs_header ∷ []) × HasNoQuote text
+inputs_alone text (inl is) = (ap records_of is ∙ one_inputs_record, subst HasNoQuote (sym is) (quiet (inputs_line ++ 10 ∷ []) refl))
+inputs_alone text (inr is) = (ap records_of is ∙ one_csv_inputs_record, subst HasNoQuote (sym is) (quiet (inputs_line ++ 13 ∷ 10 ∷ []) refl))
+
 -- a text without bytes has no record
 pub no_record : records_of [] ≡ []
 unfolding records_from next_record strip_bom
 no_record = refl
 
--- a line whose records are the header alone stands above the records of what is behind it
-pub under_line : (text first rest : List ℕ) → HasNoQuote first → records_of first ≡ header ∷ [] → IsCut text first rest → records_of text ≡ header ∷ records_of rest
-under_line text first rest none one (is, inl empty) = ap records_of (is ∙ ap (λ (t : List ℕ). first ++ t) empty ∙ append-nil first) ∙ one ∙ ap (λ (t : List (List (List ℕ))). header ∷ t) (sym (ap records_of empty ∙ no_record))
-under_line text first rest none one (is, inr (ends, plain)) = ap records_of is ∙ records_cut first rest none ends plain ∙ ap (λ (t : List (List (List ℕ))). t ++ records_of rest) one
+-- a line whose only record is the first one of a table stands above the records of what is behind it
+pub under_line : (top : List (List ℕ)) (text first rest : List ℕ) → HasNoQuote first → records_of first ≡ top ∷ [] → IsCut text first rest → records_of text ≡ top ∷ records_of rest
+under_line top text first rest none one (is, inl empty) = ap records_of (is ∙ ap (λ (t : List ℕ). first ++ t) empty ∙ append-nil first) ∙ one ∙ ap (λ (t : List (List (List ℕ))). top ∷ t) (sym (ap records_of empty ∙ no_record))
+under_line top text first rest none one (is, inr (ends, plain)) = ap records_of is ∙ records_cut first rest none ends plain ∙ ap (λ (t : List (List (List ℕ))). t ++ records_of rest) one
 
 -- the records of a text that begins with the header
 pub under_header : (text rest : List ℕ) → text ≡ (line ++ 10 ∷ []) ++ rest → BeginsPlain rest → records_of text ≡ header ∷ records_of rest
-under_header text rest is plain = under_line text (line ++ 10 ∷ []) rest no_quote_in_line one_record (is, inr ((line, refl), plain))
+under_header text rest is plain = under_line header text (line ++ 10 ∷ []) rest no_quote_in_line one_record (is, inr ((line, refl), plain))
 
 -- the same where a carriage return stands before the end of the header's line
 pub under_csv_header : (text rest : List ℕ) → text ≡ (csv_line ++ 10 ∷ []) ++ rest → BeginsPlain rest → records_of text ≡ header ∷ records_of rest
-under_csv_header text rest is plain = under_line text (csv_line ++ 10 ∷ []) rest no_quote_in_csv_line one_csv_record (is, inr ((csv_line, refl), plain))
+under_csv_header text rest is plain = under_line header text (csv_line ++ 10 ∷ []) rest no_quote_in_csv_line one_csv_record (is, inr ((csv_line, refl), plain))

@@ -1,4 +1,5 @@
 pub mod Batches
+pub mod ExternalLines
 pub mod Keys
 pub mod LogTables
 pub mod Parts

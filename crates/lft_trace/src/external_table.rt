@@ -1,9 +1,9 @@
 //! External inputs as tables.
 
-ghost use Rattle.std.specs.Prelude.{◌≡◌, ◌≢◌, ◌+◌, ℕ, List, IfOk, IfErr, IsTrue, ◌↔◌, true, false, not, ◌&&◌, ◌||◌, Some, None, IfSome};
+ghost use Rattle.std.specs.Prelude.{◌≡◌, ◌≢◌, ◌+◌, ◌∷◌, ℕ, List, [], IfOk, IfErr, IsTrue, ◌↔◌, true, false, not, ◌&&◌, ◌||◌, Some, None, IfSome};
 ghost use Rattle.csv.specs.Records.{fields_of};
 ghost use Rattle.lft_trace.specs.{ExternalTables.{ExternalTable, ExternalFails, FaultAt, IsEntry, IsOfKind, header}, Faults.is_told, Numbers.value};
-ghost use Rattle.lft_trace.specs.{Records.records_of, inner.SeenExternals.{FieldFault, Keeps, Refuses, external_fields}};
+ghost use Rattle.lft_trace.specs.{Parts.HasNoQuote, Records.records_of, inner.SeenExternals.{FieldFault, Keeps, Refuses, external_fields}};
 ghost use Rattle.lft_ir.specs.Steps.{Fits.ExternalsFit, Inputs.{ExternalInputs, InOrder}};
 
 use crate::event_map::EventMap;
@@ -12,6 +12,8 @@ use crate::fields::ExternalFields;
 use crate::kind::{EntryKind, read_entry_kind};
 use crate::names::read_physical;
 use crate::number::{read_tag, read_value};
+use crate::reading::lines::is_inputs_line;
+use crate::reading::table::TableReader;
 use crate::records::{LAST_LINE, Records, stopped};
 use csv::ByteRecord;
 use lft_ir::steps::{Event, Externals};
@@ -104,7 +106,7 @@ fn read_inputs<R: Read + Drop>(
 }
 
 // Keeps an entry beside those before it, and gives the stop so far.
-fn keep(
+pub(crate) fn keep(
     alloc: Global,
     entry: Entry,
     stop: Option<Tag>,
@@ -127,8 +129,42 @@ fn keep(
     }
 }
 
+impl TableReader for Program {
+    ghost use Rattle.std.specs.Prelude.{⊤};
+    ghost use Rattle.lft_trace.specs.ExternalTables.{IsEntry, header};
+
+    type Item = Entry;
+
+    type Guess = ();
+
+    ghost header = { header };
+
+    ghost tells = { IsEntry };
+
+    ghost is_guess = { λ _ _. ⊤ };
+
+    fn is_header_line(line: &[u8]) -> bool
+        ensures one { IsTrue result → records_of line.now ≡ header ∷ [] }
+        ensures quiet { IsTrue result → HasNoQuote line.now }
+    {
+        is_inputs_line(line)
+    }
+
+    fn first_guess(&self) {}
+
+    fn read(&self, _guess: (), fields: &ByteRecord) -> Option<(Entry, ())> {
+        // Of a fault no line is told.
+        let entry = read_entry(self, fields, 0).ok()?;
+        Some((entry, ()))
+    }
+}
+
 // The external inputs, once all records are read.
-fn finish(alloc: Global, stop: Option<Tag>, events: EventMap) -> Result<Externals, TraceFault>
+pub(crate) fn finish(
+    alloc: Global,
+    stop: Option<Tag>,
+    events: EventMap,
+) -> Result<Externals, TraceFault>
     ensures made { IfOk result (λ inputs. (stop ≡ Some inputs.stop) × (inputs.events ≡ events) × InOrder inputs.events) }
     ensures fault { IfErr result (λ e. is_told e ≡ true → (e ≡ TraceFault.NoStop) × (stop ≡ None)) }
 {

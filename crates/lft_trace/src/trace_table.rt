@@ -1,9 +1,8 @@
 //! Traces as tables.
 
-ghost use Rattle.std.specs.Prelude.{◌≡◌, ◌≢◌, ◌+◌, ◌<◌, ℕ, List, length, IfSome, IfNone, IfOk, IfErr, IsTrue, ◌↔◌, true, false, is_some, not, ◌||◌, Some};
-ghost use Rattle.std.specs.List.{AllZip};
+ghost use Rattle.std.specs.Prelude.{◌≡◌, ◌≢◌, ◌+◌, ◌<◌, ◌∷◌, ℕ, List, [], length, IfSome, IfNone, IfOk, IfErr, IsTrue, ◌↔◌, true, false, is_some, not, ◌||◌, Some};
 ghost use Rattle.csv.specs.Records.{fields_of};
-ghost use Rattle.lft_trace.specs.{Numbers.{number_or_zero, value}, Faults.is_told, Records.records_of};
+ghost use Rattle.lft_trace.specs.{Numbers.{number_or_zero, value}, Faults.is_told, Parts.HasNoQuote, Records.records_of};
 ghost use Rattle.lft_trace.specs.Traces.{Table, TraceFails, header, FaultAt, IsRow, IsThing, RowOf, has_delay, has_name, has_numbers, word};
 ghost use Rattle.lft_trace.specs.inner.Seen.{FieldFault, NumbersOf, StepOf, trace_fields};
 ghost use Rattle.lft_ir.specs.Steps.Fits.{RowsFit};
@@ -15,6 +14,8 @@ use crate::names::{read_guessed, read_reaction_of};
 use crate::next_names::NextNames;
 use crate::number::{read_number, read_number_or_zero, read_tag, read_value};
 use crate::reaction_names::ReactionNames;
+use crate::reading::lines::is_header_line;
+use crate::reading::table::TableReader;
 use crate::records::{LAST_LINE, Records, stopped};
 use csv::ByteRecord;
 use lft_ir::steps::{Row, Rows, Step};
@@ -78,31 +79,42 @@ fn read_rows(alloc: Global, names: &ReactionNames, text: &[u8]) -> Result<Vec<Ro
     }
 }
 
-/// The rows of a part of a trace table: of a text whose records are rows, the first one too.
-///
-/// It says nothing of why a part has none: a record that is no row, more records than `most`, or
-/// want of memory. Which fault the whole table has is for [`read_trace`] to say.
-pub fn read_part(alloc: Global, names: &ReactionNames, text: &[u8], most: u32) -> Option<Vec<Row>>
-    ensures { IfSome result (λ rows. AllZip (IsRow names.now) (records_of text.now) rows.items) }
-{
-    let mut records = Records::new(alloc, text, most);
-    let mut rows = Vec::new(alloc);
-    let mut last = None;
-    let mut next = NextNames::first();
-    'lines: loop {
-        match records.next() {
-            Ok(true) => {}
-            Ok(false) => return Some(rows),
-            Err(_) => return None,
-        }
-        let Ok(row) = read_row(names, last, next, &records.fields, records.line) else {
-            return None;
-        };
-        if rows.push(row).is_err() {
-            return None;
-        }
-        last = Some(row.reaction);
-        next = next.after(names.program(), row);
+impl<'a> TableReader for ReactionNames<'a> {
+    ghost use Rattle.std.specs.Prelude.{IfSome, length, ◌<◌};
+    ghost use Rattle.lft_trace.specs.Traces.{IsRow, header};
+
+    type Item = Row;
+
+    /// The reaction of the row before, and where its names are looked for first.
+    type Guess = (Option<u32>, NextNames);
+
+    ghost header = { header };
+
+    ghost tells = { IsRow };
+
+    ghost is_guess = { λ program guess. IfSome guess.0 (λ r. r < length program.reactions) };
+
+    fn is_header_line(line: &[u8]) -> bool
+        ensures one { IsTrue result → records_of line.now ≡ header ∷ [] }
+        ensures quiet { IsTrue result → HasNoQuote line.now }
+    {
+        is_header_line(line)
+    }
+
+    fn first_guess(&self) -> (Option<u32>, NextNames) {
+        (None, NextNames::first())
+    }
+
+    #[inline(always)]
+    fn read(
+        &self,
+        guess: (Option<u32>, NextNames),
+        fields: &ByteRecord,
+    ) -> Option<(Row, (Option<u32>, NextNames))> {
+        let (last, next) = guess;
+        // Of a fault no line is told.
+        let row = read_row(self, last, next, fields, 0).ok()?;
+        Some((row, (Some(row.reaction), next.after(self.program(), row))))
     }
 }
 

@@ -36,7 +36,7 @@ fn judge_files<F: Files + Threads + Sync, W: Write>(
     out: &mut W,
 ) -> Result<bool, Failure> {
     let mut session = Session::of(rt, alloc, out, behind.is_told());
-    let planned = session.plan(words.program, Some(words.externals))?;
+    let planned = session.plan_shared(words.program, words.externals, words.workers)?;
     let mut file = open_file(rt, alloc, words.trace)?;
     if matches!(behind, Behind::Nothing)
         && let Some(size) = ordinary_size(&file)
@@ -57,7 +57,7 @@ fn pair_files<F: Files + Threads + Sync, W: Write>(
     out: &mut W,
 ) -> Result<bool, Failure> {
     let mut session = Session::of(rt, alloc, out, behind.is_told());
-    let planned = session.plan(words.program, Some(words.externals))?;
+    let planned = session.plan_shared(words.program, words.externals, words.workers)?;
     let first = read_file(rt, alloc, words.first)?;
     let second = read_file(rt, alloc, words.second)?;
     let plan = session.taken(planned)?;
@@ -72,7 +72,7 @@ fn record_files<R: Files + Threads + Wait + Sync, W: Write>(
     out: &mut W,
 ) -> Result<bool, Failure> {
     let session = Session::of(rt, alloc, out, false);
-    let planned = session.plan(words.program, Some(words.externals))?;
+    let planned = session.plan_shared(words.program, words.externals, words.workers)?;
     let cards = read_file(rt, alloc, words.cards)?;
     let recorded = record_plan(
         rt,

@@ -10,7 +10,8 @@ use lft_driver::{
 };
 use lft_ir::Program;
 use lft_load::files::{
-    Failure, open_file, ordinary_size, plan_sized, read_file, read_opened, read_sized, too_large,
+    Failure, open_file, ordinary_size, plan_shared, plan_sized, read_file, read_opened, read_sized,
+    rewind, too_large,
 };
 use lft_load::{Fault, Part, SizedReader, Unplanned, plan_of, read_program};
 use lft_model::Plan;
@@ -21,11 +22,11 @@ use std::io::{BufWriter, Read, Write};
 use std::rt::Files;
 use std::thread::Threads;
 
-/// A trace of fewer bytes is judged by one worker: of it a thread costs more than it brings.
+/// A table of fewer bytes is read by one worker: of it a thread costs more than it brings.
 // Calls of the library have limits of their own: this one holds of all that a command does.
 const SHORT: usize = 1 << 20;
 
-/// How many of so many workers judge traces of so many bytes.
+/// How many of so many workers read tables of so many bytes, and judge them.
 fn workers_for(workers: u32, bytes: usize) -> u32 {
     if bytes < SHORT { 1 } else { workers }
 }
@@ -181,9 +182,8 @@ impl<'w, F: Files, W: Write> Session<'w, F, W> {
     }
 
     /// The plan of a program under the external inputs of a text.
-    fn plan_of_text(&self, whole: Result<Whole, RefusedTexts>, externals: &[u8]) -> Planned {
-        let whole = whole?;
-        match plan_of(self.alloc, whole.program, externals) {
+    fn plan_of_text(&self, program: Result<Program, RefusedTexts>, externals: &[u8]) -> Planned {
+        match plan_of(self.alloc, program?, externals) {
             Ok(plan) => Ok(plan),
             Err(unplanned) => Err(self.unplanned(unplanned, externals)),
         }
@@ -193,14 +193,14 @@ impl<'w, F: Files, W: Write> Session<'w, F, W> {
     /// is no plan: that the file can't be read is told before that.
     fn plan_of_file(
         &self,
-        whole: Result<Whole, RefusedTexts>,
+        program: Result<Program, RefusedTexts>,
         path: &str,
         file: &mut F::File,
         size: usize,
     ) -> Result<Planned, Failure> {
         let (rt, alloc) = (self.rt, self.alloc);
-        let program = match whole {
-            Ok(whole) => whole.program,
+        let program = match program {
+            Ok(program) => program,
             Err(refused) => {
                 read_sized(rt, alloc, path, file, size)?;
                 return Ok(Err(refused));
@@ -216,6 +216,35 @@ impl<'w, F: Files, W: Write> Session<'w, F, W> {
         }
     }
 
+    /// The same of the file of any kind that was opened at a path.
+    fn plan_of_opened(
+        &self,
+        program: Result<Program, RefusedTexts>,
+        path: &str,
+        file: &mut F::File,
+    ) -> Result<Planned, Failure> {
+        match ordinary_size(file) {
+            Some(size) => self.plan_of_file(program, path, file, size),
+            // A pipe can't be read twice.
+            None => {
+                let table = read_opened(self.rt, self.alloc, path, file)?;
+                Ok(self.plan_of_text(program, &table))
+            }
+        }
+    }
+
+    /// The program of a file, or why its text has none.
+    fn program_of_file(
+        &self,
+        words: ProgramWords<'_>,
+    ) -> Result<Result<Program, RefusedTexts>, Failure> {
+        let text = read_file(self.rt, self.alloc, words.path)?;
+        match self.program(words, &text) {
+            Ok(whole) => Ok(Ok(whole.program)),
+            Err(refused) => Ok(Err(refused)),
+        }
+    }
+
     /// The plan of a program under the table of external inputs at a path, or under none. An error is that a file
     /// can't be read: it comes before what is wrong with the texts, which is told once all files are read.
     pub(crate) fn plan(
@@ -223,21 +252,12 @@ impl<'w, F: Files, W: Write> Session<'w, F, W> {
         words: ProgramWords<'_>,
         externals: Option<&str>,
     ) -> Result<Planned, Failure> {
-        let (rt, alloc) = (self.rt, self.alloc);
-        let text = read_file(rt, alloc, words.path)?;
-        let whole = self.program(words, &text);
+        let program = self.program_of_file(words)?;
         let Some(path) = externals else {
-            return Ok(self.plan_of_text(whole, NO_EXTERNALS));
+            return Ok(self.plan_of_text(program, NO_EXTERNALS));
         };
-        let mut file = open_file(rt, alloc, path)?;
-        match ordinary_size(&file) {
-            Some(size) => self.plan_of_file(whole, path, &mut file, size),
-            // A pipe can't be read twice.
-            None => {
-                let table = read_opened(rt, alloc, path, &mut file)?;
-                Ok(self.plan_of_text(whole, &table))
-            }
-        }
+        let mut file = open_file(self.rt, self.alloc, path)?;
+        self.plan_of_opened(program, path, &mut file)
     }
 
     /// Shows a program, or all of it.
@@ -255,6 +275,34 @@ impl<'w, F: Files, W: Write> Session<'w, F, W> {
 }
 
 impl<'w, F: Files + Threads + Sync, W: Write> Session<'w, F, W> {
+    /// What `plan` gives of a table at a path, which so many workers read. Where these say nothing of it, it is read
+    /// once more.
+    pub(crate) fn plan_shared(
+        &self,
+        words: ProgramWords<'_>,
+        path: &str,
+        workers: u32,
+    ) -> Result<Planned, Failure> {
+        let (rt, alloc) = (self.rt, self.alloc);
+        let program = self.program_of_file(words)?;
+        let mut file = open_file(rt, alloc, path)?;
+        let size = ordinary_size(&file).unwrap_or(0);
+        let workers = workers_for(workers, size);
+        let mut program = match program {
+            Ok(program) => program,
+            Err(refused) => return self.plan_of_opened(Err(refused), path, &mut file),
+        };
+        if workers > 1 {
+            let mut reader = SizedReader::new(&mut file, size);
+            program = match plan_shared(rt, alloc, path, program, &mut reader, workers)? {
+                Ok(plan) => return Ok(Ok(plan)),
+                Err(back) => back,
+            };
+            rewind(alloc, path, &mut file)?;
+        }
+        self.plan_of_opened(Ok(program), path, &mut file)
+    }
+
     /// The verdict on a trace, and the list of what it exercised. The list has many short lines, so it goes out by a
     /// buffer.
     fn listed(&mut self, plan: &Plan, trace: &[u8], workers: u32) -> Result<bool, Fault> {

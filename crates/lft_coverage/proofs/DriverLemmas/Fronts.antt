@@ -2,7 +2,7 @@
 use Rattle.std.proofs.Common.{◌≡◌, ◌∙◌, ℕ, List, [], ◌++◌, take, ap, sym, subst}
 use Rattle.std.proofs.lemmas.List.{append_assoc}
 use Rattle.lft_ir.specs.{Sound.IsSound, declared.steps.row.Row.Row}
-use Rattle.lft_trace.{specs.inner.{Telling.rows_in, Parts.BeginsWith}, proofs.{Beginning.{begins_more, begins_none}, FirstTold.tells}}
+use Rattle.lft_trace.{specs.{Traces.IsRow, inner.{Telling.rows_in, Parts.BeginsWith}}, proofs.{Beginning.{begins_more, begins_none}, FirstTold.tells}}
 use Rattle.lft_model.specs.Plans.{PlanParts}
 use Rattle.lft_coverage.specs.{inner.Driver.Fronts.{IsNextBehind, judged_rows}, declared.driver.front.Front.Front}
 
@@ -11,12 +11,12 @@ module _ (plan : PlanParts) (body : List ℕ) (front : Front) (waiting : List Ro
   pub nothing_read : front.cover.rows ≡ 0 → waiting ≡ [] → IsNextBehind plan body front waiting × BeginsWith plan.program body (judged_rows plan body front ++ waiting) body
   nothing_read none empty =
       let no_rows : judged_rows plan body front ++ waiting ≡ [] = ap (λ n. take n (rows_in plan.program body) ++ waiting) none ∙ empty in
-      ((rows_in plan.program body, ap (λ (t : List Row). t ++ rows_in plan.program body) (sym no_rows)), subst (λ (t : List Row). BeginsWith plan.program body t body) (sym no_rows) (begins_none plan.program body))
+      ((rows_in plan.program body, ap (λ (t : List Row). t ++ rows_in plan.program body) (sym no_rows)), subst (λ (t : List Row). BeginsWith plan.program body t body) (sym no_rows) (begins_none (IsRow plan.program) body))
 
   module _ (rest behind : List ℕ) (batch : List Row) (begins : BeginsWith plan.program body (judged_rows plan body front ++ waiting) rest) (more : BeginsWith plan.program rest batch behind) where
     -- a batch that is read comes next behind the rows that wait
     pub read_on : BeginsWith plan.program body (judged_rows plan body front ++ (waiting ++ batch)) behind
-    read_on = subst (λ (t : List Row). BeginsWith plan.program body t behind) (append_assoc (judged_rows plan body front) waiting batch) (begins_more plan.program body rest behind (judged_rows plan body front ++ waiting) batch begins more)
+    read_on = subst (λ (t : List Row). BeginsWith plan.program body t behind) (append_assoc (judged_rows plan body front) waiting batch) (begins_more (IsRow plan.program) body rest behind (judged_rows plan body front ++ waiting) batch begins more)
 
     pub batch_next : IsSound plan.program → IsNextBehind plan body front (waiting ++ batch)
     batch_next sound = (rows_in plan.program behind, tells plan.program body behind (judged_rows plan body front ++ (waiting ++ batch)) sound read_on)

@@ -1,25 +1,16 @@
 -- A batch of rows in parts, which are judged one after another.
-use Rattle.std.proofs.Common.{◌≡◌, ◌∙◌, ℕ, ◌+◌, ◌≤◌, List, [], ◌∷◌, ◌++◌, Vec, inl, inr, length, take, drop, add-one, ap, refl, sym, subst, arith, get_or, slice_get, Some}
+use Rattle.std.proofs.Common.{◌≡◌, ◌∙◌, ℕ, ◌+◌, ◌≤◌, List, [], ◌++◌, Vec, inl, inr, length, take, drop, ap, refl, sym, subst, arith, get_or, slice_get, Some}
 use Rattle.std.specs.declared.alloc.Global.{Global}
-use Rattle.std.proofs.lemmas.{Grind.flat_map-append, List.{append-nil, length-append, take-append-drop}}
-use Rattle.std.proofs.lemmas.Option.{get_or_from_slice_get, slice_get-get_or, slice_get_within}
-use Rattle.std.proofs.Math.Seq.{take-suc}
+use Rattle.std.proofs.lemmas.{Grind.flat_map-append, List.{append-nil, length-append, take-append-drop}, Option.slice_get-get_or}
 use Rattle.lft_ir.specs.{Parts.Parts, Steps.Fits.RowsFit, declared.steps.row.Row.Row}
 use Rattle.lft_lists.proofs.Places.{get_left, get_right}
-use Rattle.lft_trace.specs.{Parts.HasNoQuote, inner.Parts.{HoldsRows, IsCut, rows_of}}
-use Rattle.lft_trace.proofs.{Beginning.{begins_all, begins_lines, begins_more}, Together.holds_both}
+use Rattle.lft_trace.specs.{Parts.HasNoQuote, Traces.IsRow, inner.Parts.{HoldsRows, IsCut, rows_of}}
+use Rattle.lft_trace.proofs.{Beginning.{begins_all, begins_lines, begins_more}, Parts.items_more, Together.holds_both}
 use Rattle.lft_stream.specs.inner.Batches.Parted.{PartsFit}
 
 module _ (parts : List (Vec Row Global)) (n : ℕ) (part : Vec Row Global) (at : slice_get parts n ≡ Some part) where
-  before : take (n + 1) parts ≡ take n parts ++ (part ∷ [])
-  before = ap (λ k. take k parts) (add-one n) ∙ take-suc parts n part (slice_get_within parts n part at) ∙ ap (λ (p : Vec Row Global). take n parts ++ (p ∷ [])) (get_or_from_slice_get parts n part part at)
-
-  -- the rows of the parts up to one, and this one's
-  pub rows_more : rows_of (take (n + 1) parts) ≡ rows_of (take n parts) ++ part.items
-  rows_more = ap rows_of before ∙ flat_map-append (λ (p : Vec Row Global). p.items) (take n parts) (part ∷ []) ∙ ap (λ (t : List Row). rows_of (take n parts) ++ t) (append-nil part.items)
-
   split : rows_of parts ≡ (rows_of (take n parts) ++ part.items) ++ rows_of (drop (n + 1) parts)
-  split = ap rows_of (sym (take-append-drop (n + 1) parts)) ∙ flat_map-append (λ (p : Vec Row Global). p.items) (take (n + 1) parts) (drop (n + 1) parts) ∙ ap (λ (t : List Row). t ++ rows_of (drop (n + 1) parts)) rows_more
+  split = ap rows_of (sym (take-append-drop (n + 1) parts)) ∙ flat_map-append (λ (p : Vec Row Global). p.items) (take (n + 1) parts) (drop (n + 1) parts) ∙ ap (λ (t : List Row). t ++ rows_of (drop (n + 1) parts)) (items_more parts n part at)
 
   -- its rows fit where those of all parts do
   part_fits : (program : Parts) → RowsFit program (rows_of parts) → RowsFit program part.items
@@ -40,9 +31,9 @@ parts_fit program parts all k d within = part_fits parts k (get_or parts k d) (s
 
 -- the rows of a text's first lines, and those of what stands behind them, are the text's rows
 pub holds_cut : (program : Parts) (text lines behind : List ℕ) (rows more : List Row) → IsCut text lines behind → HoldsRows program lines rows → HoldsRows program behind more → HoldsRows program text (rows ++ more)
-holds_cut program text lines behind rows more (is, inr ends) x y = holds_both program text lines behind rows more is ends.0 ends.1 x y
+holds_cut program text lines behind rows more (is, inr ends) x y = holds_both (IsRow program) text lines behind rows more is ends.0 ends.1 x y
 holds_cut program text lines behind rows more (is, inl none) x y =
-    let last = begins_lines program behind behind [] more (sym (append-nil behind), inl refl) y in (
+    let last = begins_lines (IsRow program) behind behind [] more (sym (append-nil behind), inl refl) y in (
       subst HasNoQuote (sym (is ∙ ap (λ (t : List ℕ). lines ++ t) none ∙ append-nil lines)) x.0,
-      begins_all program text (rows ++ more) (begins_more program text behind [] rows more (begins_lines program text lines behind rows (is, inl none) x) last),
+      begins_all (IsRow program) text (rows ++ more) (begins_more (IsRow program) text behind [] rows more (begins_lines (IsRow program) text lines behind rows (is, inl none) x) last),
     )

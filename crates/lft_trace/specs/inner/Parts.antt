@@ -12,14 +12,26 @@ BeginsPlain text = slice_get text 0 ≢ Some 239
 abbrev pub IsCut : List ℕ → List ℕ → List ℕ → Type 0
 IsCut text lines behind = (text ≡ lines ++ behind) × ((behind ≡ []) ⊎ EndsLine lines × BeginsPlain behind)
 
+-- the text has no quotation mark, and its records tell these items, one by one
+abbrev pub HoldsItems : {Item : Type 0} → (List (List ℕ) → Item → Type 0) → List ℕ → List Item → Type 0
+HoldsItems tells text items = HasNoQuote text × AllZip tells (records_of text) items
+
 -- the text has no quotation mark, and its records are those of the rows, one by one
 abbrev pub HoldsRows : Parts → List ℕ → List Row → Type 0
-HoldsRows program text rows = HasNoQuote text × AllZip (IsRow program) (records_of text) rows
+HoldsRows program text rows = HoldsItems (IsRow program) text rows
+
+-- the items of lists, one list after another
+abbrev pub items_of : {Item : Type 0} → List (Vec Item Global) → List Item
+items_of {Item} parts = flat_map (λ (part : Vec Item Global). part.items) parts
 
 -- the rows of lists of rows, one list after another
 abbrev pub rows_of : List (Vec Row Global) → List Row
-rows_of parts = flat_map (λ (part : Vec Row Global). part.items) parts
+rows_of parts = items_of parts
+
+-- the text's first records tell the items, one by one, and behind them are those of the rest
+abbrev pub BeginsItems : {Item : Type 0} → (List (List ℕ) → Item → Type 0) → List ℕ → List Item → List ℕ → Type 0
+BeginsItems tells text items rest = (first : List (List (List ℕ))) × (records_of text ≡ first ++ records_of rest) × AllZip tells first items
 
 -- the text's records are those of the rows, one by one, and behind them those of the rest
 abbrev pub BeginsWith : Parts → List ℕ → List Row → List ℕ → Type 0
-BeginsWith program text rows rest = (first : List (List (List ℕ))) × (records_of text ≡ first ++ records_of rest) × AllZip (IsRow program) first rows
+BeginsWith program text rows rest = BeginsItems (IsRow program) text rows rest

@@ -14,6 +14,10 @@ pub record AreNextLines {R : Type 0} (remaining : R → Option (List ℕ)) (sour
   pub left : text_left remaining source ≡ Some behind
   pub none : length lines ≡ 0 → text ≡ []
 
--- the text's first record is the header, and those of what is still to be given are the others
+-- the text's first record is this one, and those of what is still to be given are the others
+abbrev pub AreLinesBelow : {R : Type 0} → (R → Option (List ℕ)) → List (List ℕ) → TraceLines R → List ℕ → Type 0
+AreLinesBelow remaining first source text = (body : List ℕ) × (text_left remaining source ≡ Some body) × (records_of text ≡ first ∷ records_of body)
+
+-- the same of the header of a trace table
 abbrev pub AreLinesBelowHeader : {R : Type 0} → (R → Option (List ℕ)) → TraceLines R → List ℕ → Type 0
-AreLinesBelowHeader remaining source text = (body : List ℕ) × (text_left remaining source ≡ Some body) × (records_of text ≡ header ∷ records_of body)
+AreLinesBelowHeader remaining source text = AreLinesBelow remaining header source text

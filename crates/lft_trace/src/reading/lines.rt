@@ -1,7 +1,8 @@
 //! Texts cut where a line ends.
 
 ghost use Rattle.std.specs.Prelude.{◌≡◌, ◌++◌, ◌∷◌, [], IfSome, IsTrue, false};
-ghost use Rattle.lft_trace.specs.{Records.records_of, Traces.header, inner.Parts.BeginsPlain, Parts.{EndsLine, HasNoQuote}};
+ghost use Rattle.lft_trace.specs.{ExternalTables.header as inputs_header, Records.records_of, Traces.header, inner.Parts.BeginsPlain};
+ghost use Rattle.lft_trace.specs.Parts.{EndsLine, HasNoQuote};
 
 /// The header as it is mostly written.
 const HEADER: &[u8] = b"event,worker,time,microstep,reaction,name,value,delay\n";
@@ -9,16 +10,29 @@ const HEADER: &[u8] = b"event,worker,time,microstep,reaction,name,value,delay\n"
 /// The same header as writers of tables in CSV mostly end their lines.
 const HEADER_OF_CSV: &[u8] = b"event,worker,time,microstep,reaction,name,value,delay\r\n";
 
+/// The header of external inputs as it is mostly written, and as writers of CSV mostly end it.
+const INPUTS: &[u8] = b"kind,time,microstep,name,value\n";
+
+const INPUTS_OF_CSV: &[u8] = b"kind,time,microstep,name,value\r\n";
+
 /// The first byte of a byte order mark. A reader takes the mark off where a text begins, and
 /// nowhere else.
 const MARK: u8 = 239;
 
-/// Whether a line is the header's, with just its bytes.
+/// Whether a line is the header's of a trace table, with just its bytes.
 pub(crate) fn is_header_line(line: &[u8]) -> bool
     ensures one { IsTrue result → records_of line.now ≡ header ∷ [] }
     ensures quiet { IsTrue result → HasNoQuote line.now }
 {
     line == HEADER || line == HEADER_OF_CSV
+}
+
+/// Whether a line is the header's of a table of external inputs, with just its bytes.
+pub(crate) fn is_inputs_line(line: &[u8]) -> bool
+    ensures one { IsTrue result → records_of line.now ≡ inputs_header ∷ [] }
+    ensures quiet { IsTrue result → HasNoQuote line.now }
+{
+    line == INPUTS || line == INPUTS_OF_CSV
 }
 
 /// What stands behind the header, where the text begins with just its bytes.

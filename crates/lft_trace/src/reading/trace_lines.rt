@@ -1,12 +1,13 @@
-//! The text of the trace table that a reader gives, some whole lines at a time.
+//! The text of the table that a reader gives, some whole lines at a time.
 
 ghost use Rattle.std.specs.Prelude.{◌≡◌, IfOk, IfSome, false};
 ghost use Rattle.std.specs.Io.KnownBytes.{IsAtEnd, Keeps};
-ghost use Rattle.lft_trace.specs.inner.TraceLines.{AreNextLines, AreLinesBelowHeader, text_left};
+ghost use Rattle.lft_trace.specs.inner.TraceLines.{AreNextLines, AreLinesBelow, AreLinesBelowHeader, text_left};
 
+use crate::reaction_names::ReactionNames;
 use crate::reading::batch::first_lines;
-use crate::reading::lines::is_header_line;
 use crate::reading::rows::ReadFailed;
+use crate::reading::table::TableReader;
 use std::alloc::Global;
 use std::io::Read;
 use std::mem;
@@ -27,6 +28,16 @@ impl<R: Read + Drop> TraceLines<R> {
     pub fn new(alloc: Global, reader: R) -> Result<Option<TraceLines<R>>, ReadFailed>
         ensures { IfOk result (λ found. IfSome found (λ lines. IfSome (R.remaining reader) (AreLinesBelowHeader R.remaining lines))) }
     {
+        TraceLines::below::<ReactionNames>(alloc, reader)
+    }
+
+    /// The same of any kind of table.
+    pub(crate) fn below<K: TableReader>(
+        alloc: Global,
+        reader: R,
+    ) -> Result<Option<TraceLines<R>>, ReadFailed>
+        ensures { IfOk result (λ found. IfSome found (λ lines. IfSome (R.remaining reader) (AreLinesBelow R.remaining K.header lines))) }
+    {
         let mut lines = TraceLines {
             reader,
             read: Vec::new(alloc),
@@ -34,7 +45,7 @@ impl<R: Read + Drop> TraceLines<R> {
         let Some(first) = lines.next(0)? else {
             return Ok(None);
         };
-        if !is_header_line(first.as_slice()) {
+        if !K::is_header_line(first.as_slice()) {
             return Ok(None);
         }
         Ok(Some(lines))

@@ -1,7 +1,7 @@
 use Rattle.std.proofs.Common.{◌≢◌, ◌≤◌, ◌++◌, ◌∙◌, List, length, ap, arith, refl, rules, sym, subst}
 use Rattle.std.proofs.lemmas.{Bool.{eqb-false, eqb-true}, List.length-take-le, Option.IfSome_then}
 use Rattle.lft_ir.specs.{Parts.Parts, Steps.Fits.RowsFit, declared.steps.row.Row.Row}
-use Rattle.lft_trace.{specs.inner.{Parts.BeginsWith, Telling.rows_in}, proofs.Beginning.begins_out}
+use Rattle.lft_trace.{specs.{Traces.IsRow, inner.{Parts.BeginsWith, Telling.rows_in}}, proofs.Beginning.begins_out}
 use Rattle.lft_coverage.specs.inner.Driver.Fronts.{IsNextBehind, judged_rows}
 use Rattle.lft_coverage.proofs.DriverLemmas.{Counting.counts_whole, Fronts.{batch_next, gone_on, nothing_read}}
 use Rattle.lft_coverage.proofs.driver.front.add_text.Goals as goal
@@ -72,4 +72,4 @@ returns c =
     let none = eqb-true (length c.loop-rest.rest.now) 0 (sym c.is_empty.ensures ∙ c.loop-rest-test.false) in
     let long = length-take-le front.cover.rows (rows_in plan.program body) stands.within in
     let few : length rows ≤ 4000000 = (let up = stands.few in omega (arith, long, up)) in
-    IfSome_then c.finish.result c.finish.ensures (λ counts accepted. (rows, begins_out plan.program body c.loop-rest.rest.now rows begins none, few, accepted rows stands.stands, counts_whole plan.program (rows_in plan.program body) front.cover.rows front.cover stands.within stands.covers))
+    IfSome_then c.finish.result c.finish.ensures (λ counts accepted. (rows, begins_out (IsRow plan.program) body c.loop-rest.rest.now rows begins none, few, accepted rows stands.stands, counts_whole plan.program (rows_in plan.program body) front.cover.rows front.cover stands.within stands.covers))

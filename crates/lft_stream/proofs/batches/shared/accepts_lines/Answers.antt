@@ -1,7 +1,8 @@
 use Rattle.std.proofs.Common.{◌∙◌, ℕ, List, Vec, IfSome, subst, sym}
 use Rattle.std.{proofs.lemmas.{Bool.eqb-true, Option.IfSome_then}, specs.declared.alloc.Global.Global}
 use Rattle.lft_ir.specs.Parts.{Parts}
-use Rattle.lft_trace.{specs.inner.{Parts.{HoldsRows, rows_of}, TraceLines.{AreNextLines, text_left}}, proofs.{Beginning.begins_lines, Together.at_some}}
+use Rattle.lft_trace.specs.{Traces.IsRow, inner.{Parts.{HoldsRows, rows_of}, TraceLines.{AreNextLines, text_left}}}
+use Rattle.lft_trace.proofs.{Beginning.begins_lines, Together.at_some}
 use Rattle.lft_stream.{specs.inner.Batches.Parted.PartsFit, proofs.BatchesLemmas.Reading.{all_accepted, reads_on}}
 use Rattle.lft_stream.proofs.batches.shared.accepts_lines.Goals as goal
 
@@ -39,5 +40,5 @@ loop-batch-preserved g c =
       stands = (_, gone.gone c.loop-batch.invariant.stands.0 c.loop-batch.invariant.stands.1);
       read = IfSome_then (text_left remaining c.args.text.now) c.loop-batch.invariant.read (λ body r.
           let next = at_some (AreNextLines remaining new lines) left r.0 r.1 is_next in
-          (next.behind, next.left, reads_on plan body r.0 c.loop-batch.progress (rows_of c.loop-batch.parts.items) r.2 on.0 (rows_of read) next.behind gone.gone (begins_lines plan.program r.0 lines next.behind (rows_of read) next.cut holds)));
+          (next.behind, next.left, reads_on plan body r.0 c.loop-batch.progress (rows_of c.loop-batch.parts.items) r.2 on.0 (rows_of read) next.behind gone.gone (begins_lines (IsRow plan.program) r.0 lines next.behind (rows_of read) next.cut holds)));
     }

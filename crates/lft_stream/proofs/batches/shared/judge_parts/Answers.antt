@@ -1,8 +1,8 @@
 use Rattle.std.proofs.Common.{◌≡◌, ◌∙◌, ◌++◌, List, Vec, ap, append-nil, arith, length, refl, subst, sym, take}
 use Rattle.std.{specs.declared.alloc.Global.Global, proofs.{lemmas.{List.append_assoc, Option.slice_get_read}, Math.Seq.take-length}}
 use Rattle.lft_ir.specs.{Steps.Fits.RowsFit, declared.steps.row.Row.Row}
-use Rattle.lft_trace.specs.inner.Parts.{rows_of}
-use Rattle.lft_stream.{specs.inner.Batches.Progresses.{IsGoneOn, IsProgress}, proofs.BatchesLemmas.Sharing.rows_more}
+use Rattle.lft_trace.{specs.inner.Parts.rows_of, proofs.Parts.items_more}
+use Rattle.lft_stream.specs.inner.Batches.Progresses.{IsGoneOn, IsProgress}
 use Rattle.lft_stream.proofs.batches.shared.judge_parts.Goals as goal
 
 pub loop-place-init : goal.loop-place-init
@@ -27,7 +27,7 @@ loop-place-preserved c =
     let new = c.add.new.self in
     let on = subst (λ (r : List Row). IsGoneOn plan c.loop-place.progress new r) c.as_slice.ensures.value (c.if-not-add.ensures refl) in
     record {
-      gone = λ t so. subst (λ (r : List Row). IsProgress plan r new) (append_assoc t (rows_of (take n parts)) part.items ∙ ap (λ (r : List Row). t ++ r) (sym (rows_more parts n part at))) (on (t ++ rows_of (take n parts)) (c.loop-place.invariant.gone t so));
+      gone = λ t so. subst (λ (r : List Row). IsProgress plan r new) (append_assoc t (rows_of (take n parts)) part.items ∙ ap (λ (r : List Row). t ++ r) (sym (items_more parts n part at))) (on (t ++ rows_of (take n parts)) (c.loop-place.invariant.gone t so));
     }
 
 pub returns : goal.returns

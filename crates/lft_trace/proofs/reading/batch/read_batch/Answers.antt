@@ -1,9 +1,9 @@
 use Rattle.std.proofs.Common.{◌≤◌, ◌∷◌, length, refl, arith}
-use Rattle.lft_trace.{specs.{Records.records_of, Traces.header}, proofs.{TraceFacts.table_fits, Beginning.begins_lines}}
+use Rattle.lft_trace.{specs.{Records.records_of, Traces.{IsRow, header}}, proofs.{TraceFacts.table_fits, Beginning.begins_lines}}
 use Rattle.lft_trace.proofs.reading.batch.read_batch.Goals as goal
 
 pub returns-clause-rows : goal.returns-clause-rows
-returns-clause-rows c = begins_lines c.args.names.now c.args.text.now c.first_lines.result.0.now c.first_lines.result.1.now c.in_ok-rows.rows.items c.first_lines.ensures.cut c.in_ok-rows.ensures
+returns-clause-rows c = begins_lines (IsRow c.args.names.now) c.args.text.now c.first_lines.result.0.now c.first_lines.result.1.now c.in_ok-rows.rows.items c.first_lines.ensures.cut c.in_ok-rows.ensures
 
 pub returns-clause-fit : goal.returns-clause-fit
 returns-clause-fit c =
