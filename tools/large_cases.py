@@ -14,8 +14,9 @@ LOG = "reactor Log { timer t  reaction(t) {= =} }\n"
 IMPORT = 'import Log from "log.lf"\nmain reactor { l = new[2] Log() }\n'
 SHOWN = "reaction main.l[0]#1 level=0 before=-\nreaction main.l[1]#1 level=0 before=-\n"
 MIB = 1 << 20
-# The tags of a table past 1 MiB: a shorter one gets one worker.
+# The tags and the external inputs of tables past 1 MiB: a shorter one gets one worker.
 TAGS = 12_000
+EVENTS = 50_000
 PERIOD = 5_000_000
 
 
@@ -46,6 +47,28 @@ def long_tables():
             ("the last row of a long table is missing", table[:table.rindex("end,")], unended),
         ):
             yield f"{title}, {workers} workers", JUDGE.format(workers), "", {**files, "trace.csv": trace}, wanted
+
+
+def long_inputs():
+    """A table of external inputs that several workers share, and such tables with something wrong or odd in them."""
+    program = "main reactor { timer t  physical action key  reaction(t) {= =} }\n"
+    files = {"program.lf": program, "trace.csv": HEADER + run(0, 0)}
+    events = [f"event,{time},0,main.key,\n" for time in range(EVENTS)]
+    stop, last = f"stop,{EVENTS},0,,\n", EVENTS + 1
+    number = events[:-1] + ["event,x,0,main.key,\n"]
+    accepted, fault = "accepted runs=1 tags=1\nstatus 0\n", "! fault externals {}\nstatus 2\n"
+    for workers in (1, 2, 64):
+        for title, lines, wanted in (
+            ("a long table of external inputs", [*events, stop], accepted),
+            ("one with the stop before its events", [stop, *events], accepted),
+            ("one in the other order", [*events[::-1], stop], accepted),
+            ("one with a quotation mark in the last part", [*events[:-1], f'"event"{events[-1][5:]}', stop], accepted),
+            ("one with a fault in the last part", [*number, stop], fault.format(f"4 BadNumber line={last}")),
+            ("one with an event of the first part in the last", [*events, events[0], stop], fault.format(f"7 DuplicateExternal line={last + 1}")),
+            ("one with two stops", [stop, *events, stop], fault.format(f"9 TwoStops line={last + 2}")),
+            ("one without a stop", events, fault.format("8 NoStop")),
+        ):
+            yield f"{title}, {workers} workers", JUDGE.format(workers), "", {**files, "externals.csv": INPUTS + "".join(lines)}, wanted
 
 
 def full_trace():
@@ -146,5 +169,5 @@ def great_programs():
 
 def cases():
     """Each case: its title, its head, its text, its files and what is to come of it."""
-    for group in (long_tables, great_tables, great_logs, long_texts, great_imports, great_programs):
+    for group in (long_tables, long_inputs, great_tables, great_logs, long_texts, great_imports, great_programs):
         yield from group()
