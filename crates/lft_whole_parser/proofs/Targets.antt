@@ -1,5 +1,5 @@
 -- What is found among the properties of a target, place by place, and what is between quotes.
-use Rattle.std.proofs.Common.{◌≡◌, ℕ, zero, suc, ◌+◌, ◌-◌, ◌≤◌, ◌<◌, Bool, true, false, cond, List, [], ◌∷◌, ◌++◌, Option, Some, None, refl, sym, ap, ◌∙◌, append_assoc, arith, length, take, drop}
+use Rattle.std.proofs.Common.{◌≡◌, ℕ, suc, ◌+◌, ◌-◌, ◌≤◌, ◌<◌, Bool, false, List, [], ◌∷◌, ◌++◌, Option, Some, None, refl, ap, append_assoc, arith, length, take, drop}
 use Rattle.std.specs.Prelude.{filter_map, find, option_to_list}
 use Rattle.std.proofs.lemmas.List.{append-nil}
 use Rattle.lft_whole_parser.specs.Files.{places_from, inner_bytes}
@@ -27,15 +27,8 @@ found_turn h xs o at end lt e = rw (places_turn at end lt) (moved xs o (filter_m
 pub found_done : {B : Type 0} (h : ℕ → Option B) (xs : List B) (at end : ℕ) → end ≤ at → xs ++ filter_map h (places_from at (end - at)) ≡ xs
 found_done h xs at end le = rw (places_done at end le) (append-nil xs)
 
--- the first that passes is here, or further on
-pub find_here : (h : ℕ → Bool) (at end : ℕ) → at < end → h at ≡ true → find h (places_from at (end - at)) ≡ Some at
-find_here h at end lt t = rw (places_turn at end lt, t) refl
-
 pub find_turn : (h : ℕ → Bool) (at end : ℕ) → at < end → h at ≡ false → find h (places_from (at + 1) (end - (at + 1))) ≡ find h (places_from at (end - at))
 find_turn h at end lt t = rw (places_turn at end lt, t) refl
-
-pub find_done : (h : ℕ → Bool) (at end : ℕ) → end ≤ at → find h (places_from at (end - at)) ≡ None
-find_done h at end le = rw (places_done at end le) refl
 
 pub short_inner : (bytes : List ℕ) → length bytes < 2 → inner_bytes bytes ≡ []
 short_inner bytes short = let e : length bytes - 1 - 1 ≡ 0 = omega (arith, short) in ap (λ (n : ℕ). take n (drop 1 bytes)) e

@@ -1,7 +1,7 @@
 //! Connections.
 
-ghost use Rattle.std.specs.Prelude.{◌≡◌, ◌<◌, ◌≤◌, true, IfOk, IfErr, map, option_map, Ok};
-ghost use Rattle.lft_whole.specs.inner.Parts.{Parsing.{count, Within, Further, NotBefore, Refuses, source}, View.{Gives, at_next}};
+ghost use Rattle.std.specs.Prelude.{◌≡◌, ◌<◌, true, IfOk, IfErr, map, option_map, Ok};
+ghost use Rattle.lft_whole.specs.inner.Parts.{Parsing.{count, Within, Further, NotBefore, Refuses, source}, View.Gives};
 ghost use Rattle.lft_whole.specs.Parts.View.{reference_view, expression_view, connection_view};
 ghost use Rattle.lft_whole_parser.specs.Grammar as Grammar;
 

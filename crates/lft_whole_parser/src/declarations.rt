@@ -1,7 +1,7 @@
 //! Ports, timers, actions, and what is declared and has no part in the tree.
 
-ghost use Rattle.std.specs.Prelude.{◌≡◌, ◌<◌, ◌≤◌, true, IfOk, IfErr};
-ghost use Rattle.lft_whole.specs.inner.Parts.{Parsing.{count, Within, Further, NotBefore, Refuses, source}, View.{Gives, at_next}};
+ghost use Rattle.std.specs.Prelude.{◌≡◌, ◌<◌, true, IfOk, IfErr};
+ghost use Rattle.lft_whole.specs.inner.Parts.{Parsing.{count, Within, Further, Refuses, source}, View.{Gives, at_next}};
 ghost use Rattle.lft_whole.specs.Parts.View.{port_view, timer_view, action_view};
 ghost use Rattle.lft_whole_parser.specs.Grammar as Grammar;
 

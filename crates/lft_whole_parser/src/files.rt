@@ -1,7 +1,7 @@
 //! Files.
 
-ghost use Rattle.std.specs.Prelude.{◌≡◌, ◌<◌, ◌≤◌, true, IfOk, IfErr, IfSome, ◌++◌, option_to_list, map, slice_get, Ok};
-ghost use Rattle.lft_whole.specs.inner.Parts.{Parsing.{count, Within, Further, NotBefore, Refuses, source}, View.{Gives, at_next}};
+ghost use Rattle.std.specs.Prelude.{◌≡◌, ◌<◌, IfOk, IfErr, IfSome, ◌++◌, option_to_list, map, slice_get, Ok};
+ghost use Rattle.lft_whole.specs.inner.Parts.{Parsing.{count, Within, Further, Refuses, source}, View.Gives};
 ghost use Rattle.lft_whole.specs.{Parts.View.{imported_view, import_view, file_view}, declared.fault.TreeFault.TheVariants.NoMemory};
 ghost use Rattle.lft_whole_parser.specs.Files as Files;
 

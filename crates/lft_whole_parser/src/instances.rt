@@ -1,7 +1,7 @@
 //! Contained instances.
 
-ghost use Rattle.std.specs.Prelude.{◌≡◌, ◌<◌, ◌≤◌, true, IfOk, IfErr, map, Ok};
-ghost use Rattle.lft_whole.specs.inner.Parts.{Parsing.{count, Within, Further, NotBefore, Refuses, source}, View.{Gives, at_next}};
+ghost use Rattle.std.specs.Prelude.{◌≡◌, ◌<◌, true, IfOk, IfErr, map, Ok};
+ghost use Rattle.lft_whole.specs.inner.Parts.{Parsing.{count, Within, Further, NotBefore, Refuses, source}, View.Gives};
 ghost use Rattle.lft_whole.specs.Parts.{Language.listed, View.{assignment_view, instance_view}};
 ghost use Rattle.lft_whole_parser.specs.Grammar as Grammar;
 

@@ -1,6 +1,6 @@
 //! The members of a reactor.
 
-ghost use Rattle.std.specs.Prelude.{◌≡◌, ◌<◌, ◌≤◌, true, IfOk, IfErr, map, option_map};
+ghost use Rattle.std.specs.Prelude.{◌≡◌, ◌<◌, true, IfOk, IfErr, map, option_map};
 ghost use Rattle.lft_whole.specs.{inner.Parts.{Parsing.{count, Within, Further, NotBefore, Refuses, source}, View.{Gives, at_next}}, Parts.View.member_view};
 ghost use Rattle.lft_whole_parser.specs.Grammar as Grammar;
 

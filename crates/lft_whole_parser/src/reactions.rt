@@ -1,6 +1,6 @@
 //! Reactions, mutations and watchdogs.
 
-ghost use Rattle.std.specs.Prelude.{◌≡◌, ◌<◌, ◌≤◌, true, IfOk, IfErr, map};
+ghost use Rattle.std.specs.Prelude.{◌≡◌, ◌<◌, true, IfOk, IfErr, map};
 ghost use Rattle.lft_whole.specs.inner.Parts.{Parsing.{count, Within, Further, NotBefore, Refuses, source}, View.{Gives, at_next}};
 ghost use Rattle.lft_whole.specs.Parts.{Language.listed, View.{trigger_view, reference_view, effect_view, reaction_view}};
 ghost use Rattle.lft_whole_parser.specs.Grammar as Grammar;

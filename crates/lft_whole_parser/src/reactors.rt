@@ -1,7 +1,7 @@
 //! Reactors.
 
-ghost use Rattle.std.specs.Prelude.{◌≡◌, ◌<◌, ◌≤◌, true, IfOk, IfErr, Ok, ◌||◌, map, option_map};
-ghost use Rattle.lft_whole.specs.inner.Parts.{Parsing.{count, Within, Further, NotBefore, Refuses, source}, View.{Gives, at_next}};
+ghost use Rattle.std.specs.Prelude.{◌≡◌, ◌<◌, true, IfOk, IfErr, Ok, ◌||◌, map, option_map};
+ghost use Rattle.lft_whole.specs.inner.Parts.{Parsing.{count, Within, Further, NotBefore, Refuses, source}, View.Gives};
 ghost use Rattle.lft_whole.specs.Parts.{Language.listed, View.{expression_view, parameter_view, name_view, reactor_view}};
 ghost use Rattle.lft_whole_parser.specs.Grammar as Grammar;
 ghost use Rattle.lft_whole.specs.Parts.Language as Language;

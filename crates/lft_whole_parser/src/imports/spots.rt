@@ -1,6 +1,6 @@
 //! Where the tokens of a text stand, by line and column.
 
-ghost use Rattle.std.specs.Prelude.{◌≡◌, ◌+◌, ◌<◌, ◌≤◌, IfOk, length};
+ghost use Rattle.std.specs.Prelude.{◌+◌, ◌<◌, ◌≤◌, IfOk, length};
 ghost use Rattle.lft_whole_parser.specs.Imports.Places.{AreSpots, IsSpotOfByte};
 ghost use Rattle.lft_whole.specs.inner.Tokens.{AreTokens};
 

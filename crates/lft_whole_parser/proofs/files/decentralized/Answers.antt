@@ -1,4 +1,4 @@
-use Rattle.std.proofs.Common.{◌≡◌, ◌<◌, sym, ◌∙◌}
+use Rattle.std.proofs.Common.{sym, ◌∙◌}
 use Rattle.lft_whole_parser.{specs.Files.decentralized_at, proofs.Targets.find_turn}
 use Rattle.lft_whole.specs.inner.Parts.Parsing.{source}
 use Rattle.lft_whole_parser.proofs.files.decentralized.Goals as goal

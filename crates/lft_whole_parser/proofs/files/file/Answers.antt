@@ -1,4 +1,4 @@
-use Rattle.std.proofs.Common.{◌≡◌, ℕ, ◌<◌, ◌≤◌, Ok, refl, sym, ◌∙◌, arith}
+use Rattle.std.proofs.Common.{Ok, refl, sym, ◌∙◌, arith}
 use Rattle.std.proofs.lemmas.Result.{err_from_is_err_and}
 use Rattle.lft_syntax.specs.Lexeme.{is_there}
 use Rattle.lft_whole.{specs.{Parts.Language.on, inner.Parts.Parsing.source}, proofs.PartsLemmas.Loop.{loop_begins, loop_turns, loop_fails, loop_done}}

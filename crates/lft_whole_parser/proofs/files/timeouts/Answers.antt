@@ -1,4 +1,4 @@
-use Rattle.std.proofs.Common.{◌≡◌, ◌<◌, Ok, refl, sym, ap, ◌∙◌}
+use Rattle.std.proofs.Common.{Ok, refl, sym, ap, ◌∙◌}
 use Rattle.lft_whole_parser.{specs.Files.timeout_at, proofs.Targets.{found_turn, found_done}}
 use Rattle.lft_whole.specs.inner.Parts.Parsing.{source}
 use Rattle.lft_whole_parser.proofs.files.timeouts.Goals as goal

@@ -1,4 +1,4 @@
-use Rattle.std.proofs.Common.{◌≡◌, ℕ, ◌<◌, ◌≤◌, false, Ok, refl, sym, ◌∙◌, arith}
+use Rattle.std.proofs.Common.{false, refl, sym, ◌∙◌, arith}
 use Rattle.std.proofs.lemmas.Result.{err_from_is_err_and}
 use Rattle.lft_whole.{specs.{Parts.Language.sign, inner.Parts.Parsing.source}, proofs.PartsLemmas.Loop.{loop_opens, loop_turns, loop_fails, loop_done}}
 use Rattle.lft_whole_parser.specs.Grammar.{attributes}

@@ -1,4 +1,4 @@
-use Rattle.std.proofs.Common.{◌≡◌, ℕ, ◌+◌, ◌<◌, ◌≤◌, false, Bool, Ok, refl, sym, ap, ◌∙◌, arith}
+use Rattle.std.proofs.Common.{false, refl, sym, ◌∙◌, arith}
 use Rattle.lft_whole_parser.specs.Grammar.{kind_words}
 use Rattle.lft_whole.{specs.inner.Parts.Parsing.source, proofs.PartsLemmas.Loop.{loop_opens, loop_turns, loop_done}}
 use Rattle.lft_whole_parser.specs.Grammar as Grammar

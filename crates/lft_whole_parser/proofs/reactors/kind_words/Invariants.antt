@@ -1,5 +1,5 @@
 use Rattle.std.proofs.Common.{◌-◌, Ok}
-use Rattle.lft_whole.{specs.{Parts.Language.sign, inner.Parts.Parsing.{count, NotBefore, source}}, proofs.PartsLemmas.Loop.Loop}
+use Rattle.lft_whole.{specs.inner.Parts.Parsing.{count, NotBefore, source}, proofs.PartsLemmas.Loop.Loop}
 use Rattle.lft_whole_parser.specs.Grammar as Grammar
 use Rattle.lft_whole_parser.proofs.reactors.kind_words.Given as goal
 

@@ -1,4 +1,4 @@
-use Rattle.std.proofs.Common.{◌≡◌, ℕ, ◌<◌, ◌≤◌, List, [], ◌∷◌, ◌++◌, map, not, true, Ok, refl, sym, ap, ◌∙◌, arith}
+use Rattle.std.proofs.Common.{◌≡◌, [], ◌∷◌, ◌++◌, map, not, true, Ok, refl, sym, ap, ◌∙◌, arith}
 use Rattle.std.proofs.lemmas.{Result.err_from_is_err_and, List.map_push}
 use Rattle.lft_whole.specs.{Parts.{Language.{sign, isnt, symbol, one_more, listed, ◌>>=◌}, View.parameter_view}, inner.Parts.Parsing.source}
 use Rattle.lft_whole.proofs.PartsLemmas.Loop.{bind_fails, loop_begins, loop_turns, loop_fails, loop_done}

@@ -2,7 +2,6 @@
 use Rattle.std.specs.Prelude.{ℕ, List, Option, Some, None}
 use Rattle.lft_whole.specs.declared.{tree.File.File, sources.source.Spot.Spot}
 use Rattle.lft_whole_parser.specs.{declared.imports.reading.{NoTree.NoTree, Text.Text}, Imports.Reads.{HasTree, HasNoFileTree}}
-use Rattle.lft_whole.specs.declared.sources.why.Why.TheVariants as why
 
 -- ---- for the crate's own contracts
 -- The text has this tree, if it isn't refused; else it has none.
