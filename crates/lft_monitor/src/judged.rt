@@ -10,7 +10,7 @@ ghost use Rattle.lft_monitor.specs.Follows.{IsFirstUpToLast, IsJudged, breach_of
 
 use crate::found::{BrokenRule, found_behind};
 use crate::gone::stop_over;
-use crate::monitor::go_on_as;
+use crate::monitor::add_tags;
 use crate::past::Past;
 use crate::reach::{Reach, reach_behind};
 use lft_ir::steps::{Row, row_at};
@@ -97,7 +97,7 @@ impl Judged {
         if rows.is_empty() {
             return Ok(true);
         }
-        if !go_on_as(&mut self.acceptor, alloc, plan, rows, is_kept) {
+        if !add_tags(&mut self.acceptor, alloc, plan, rows, is_kept) {
             return Ok(false);
         }
         let Some(reach) = reach_behind(self.reach, rows) else {

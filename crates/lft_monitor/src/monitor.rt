@@ -11,43 +11,30 @@ use lft_model::Plan;
 use lft_stream::Acceptor;
 use std::alloc::Global;
 
-/// Goes on past more rows, of whole tags. Where it is true nothing is broken up to the tag of the last row,
-/// whatever rows come at later tags. Where it is false the rows may break a rule, or too much is to be
-/// looked at, or memory is refused.
-fn go_on(acceptor: &mut Acceptor, alloc: Global, plan: &Plan, rows: &[Row]) -> bool
+/// Adds rows. With `is_kept` they are known to break none of the rules 1 to 5, and aren't asked for these.
+fn add_rows(
+    acceptor: &mut Acceptor,
+    alloc: Global,
+    plan: &Plan,
+    rows: &[Row],
+    is_kept: bool,
+) -> bool
     requires fit { RowsFit plan.now.program rows.now }
-    requires some { 0 < length rows.now }
+    requires kept { IsTrue is_kept → KeepRules plan.now rows.now }
     requires stands { (done : List TheRow) × IsAcceptorOf plan.now done acceptor.old }
-    ensures stands { IsTrue result → (done : List TheRow) → IsAcceptorOf plan.now done acceptor.old → IsAcceptorOf plan.now (done ++ rows.now) acceptor.new }
-    ensures unbroken { IsTrue result → (done : List TheRow) → IsAcceptorOf plan.now done acceptor.old → (x : TheRow) → slice_get rows.now (length rows.now - 1) ≡ Some x → IsUnbroken plan.now (done ++ rows.now) (after x.tag 0) }
+    ensures { IsTrue result → (done : List TheRow) → IsAcceptorOf plan.now done acceptor.old → IsAcceptorOf plan.now (done ++ rows.now) acceptor.new }
 {
-    let last = row_at(rows, rows.len() - 1);
-    let low = last.tag.after(0, 0);
-    if !acceptor.add(alloc, plan, rows) {
-        return false;
+    if is_kept {
+        acceptor.add_kept(plan, rows)
+    } else {
+        acceptor.add(alloc, plan, rows)
     }
-    acceptor.is_timely(low)
 }
 
-/// The same of rows that are known to break none of the rules 1 to 5.
-fn go_on_kept(acceptor: &mut Acceptor, plan: &Plan, rows: &[Row]) -> bool
-    requires fit { RowsFit plan.now.program rows.now }
-    requires some { 0 < length rows.now }
-    requires kept { KeepRules plan.now rows.now }
-    requires stands { (done : List TheRow) × IsAcceptorOf plan.now done acceptor.old }
-    ensures stands { IsTrue result → (done : List TheRow) → IsAcceptorOf plan.now done acceptor.old → IsAcceptorOf plan.now (done ++ rows.now) acceptor.new }
-    ensures unbroken { IsTrue result → (done : List TheRow) → IsAcceptorOf plan.now done acceptor.old → (x : TheRow) → slice_get rows.now (length rows.now - 1) ≡ Some x → IsUnbroken plan.now (done ++ rows.now) (after x.tag 0) }
-{
-    let last = row_at(rows, rows.len() - 1);
-    let low = last.tag.after(0, 0);
-    if !acceptor.add_kept(plan, rows) {
-        return false;
-    }
-    acceptor.is_timely(low)
-}
-
-/// The same. With `is_kept` the rows are known to break none of the rules 1 to 5, and aren't asked for these.
-pub(crate) fn go_on_as(
+/// Adds rows of whole tags. Where it is true nothing is broken up to the tag of the last row, whatever rows
+/// come at later tags. Where it is false the rows may break a rule, or too much is to be looked at, or memory
+/// is refused.
+pub(crate) fn add_tags(
     acceptor: &mut Acceptor,
     alloc: Global,
     plan: &Plan,
@@ -61,9 +48,10 @@ pub(crate) fn go_on_as(
     ensures stands { IsTrue result → (done : List TheRow) → IsAcceptorOf plan.now done acceptor.old → IsAcceptorOf plan.now (done ++ rows.now) acceptor.new }
     ensures unbroken { IsTrue result → (done : List TheRow) → IsAcceptorOf plan.now done acceptor.old → (x : TheRow) → slice_get rows.now (length rows.now - 1) ≡ Some x → IsUnbroken plan.now (done ++ rows.now) (after x.tag 0) }
 {
-    if is_kept {
-        go_on_kept(acceptor, plan, rows)
-    } else {
-        go_on(acceptor, alloc, plan, rows)
+    let last = row_at(rows, rows.len() - 1);
+    let low = last.tag.after(0, 0);
+    if !add_rows(acceptor, alloc, plan, rows, is_kept) {
+        return false;
     }
+    acceptor.is_timely(low)
 }
