@@ -1,5 +1,5 @@
 -- The way back from a port, found from the port on, and what is said of it from its end on.
-use Rattle.std.proofs.Common.{◌≡◌, ℕ, ◌+◌, ◌≤◌, List, [], ◌∷◌, ◌++◌, Option, Some, drop, add-one, append_assoc, sym, ap, ◌∙◌, slice_get, unwrap_or, option_map}
+use Rattle.std.proofs.Common.{◌≡◌, ℕ, ◌+◌, List, [], ◌∷◌, ◌++◌, Option, Some, drop, add-one, append_assoc, sym, ap, ◌∙◌, slice_get, unwrap_or, option_map}
 use Rattle.lft_ir.{specs.Parts.Parts, proofs.WordsLemmas.Steps.drop_next}
 use Rattle.lft_report.specs.Hops.{source_into, way_back, told_back}
 

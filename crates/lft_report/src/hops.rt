@@ -3,7 +3,7 @@
 ghost use Rattle.std.specs.Prelude.{◌≡◌, ◌++◌, unwrap_or, IfOk, OnOk, string_bytes};
 ghost use Rattle.lft_tag.specs.Tags.{IsRecorded};
 ghost use Rattle.lft_ir.specs.Steps.Fits.{RowsFit};
-ghost use Rattle.lft_report.specs.Hops.{source_into as the_source_into, way_back as the_way_back, reached as the_reached, end_words, hop_words, told_back, hops_words, way_words, way_at};
+ghost use Rattle.lft_report.specs.Hops.{source_into as the_source_into, way_back as the_way_back, reached as the_reached, end_words, hop_words, told_back, hops_words, way_at};
 
 use crate::ways::{delay_into, push_arrow};
 use lft_ir::Program;

@@ -2,7 +2,7 @@
 
 ghost use Rattle.std.specs.Prelude.{◌≡◌, ◌++◌, max, IfOk, OnOk, string_bytes};
 ghost use Rattle.lft_ir.specs.Words.Words.{value_words, name_words};
-ghost use Rattle.lft_report.specs.Reads.{read_so, reads_so as the_reads_so, widened, widths_of, input_line, read_line, read_lines, headed, input_lines, others_words, inputs_table as the_table};
+ghost use Rattle.lft_report.specs.Reads.{read_so, reads_so as the_reads_so, widened, widths_of, input_line, read_line, read_lines, input_lines, others_words, inputs_table as the_table};
 
 use lft_facts::Fact;
 use lft_ir::words::{push_name, push_number, push_padded, push_value};

@@ -1,5 +1,5 @@
 -- A quote in its place among others.
-use Rattle.std.proofs.Common.{◌≡◌, ℕ, suc, ◌+◌, ◌<◌, ◌≤◌, List, [], ◌∷◌, ◌++◌, take, drop, take-append-drop, add-one, append_assoc, sym, ap, ◌∙◌, arith, Some, slice_get}
+use Rattle.std.proofs.Common.{◌≡◌, ℕ, suc, ◌+◌, ◌<◌, List, [], ◌∷◌, ◌++◌, take, drop, take-append-drop, add-one, append_assoc, sym, ap, ◌∙◌, arith, Some, slice_get}
 use Rattle.std.proofs.lemmas.Bool.Decides.{nat_tests}
 use Rattle.lft_lists.proofs.Picked.{take_next}
 use Rattle.lft_report.specs.{declared.quotes.marks.Quote.Quote, Quotes.Picked.inserted}

@@ -1,5 +1,5 @@
 -- The rows that facts name, in order.
-use Rattle.std.specs.Prelude.{ℕ, List, [], ◌∷◌, nat_lt, nat_eq, if◌then◌else◌, fold, flat_map}
+use Rattle.std.specs.Prelude.{List, [], ◌∷◌, nat_lt, nat_eq, if◌then◌else◌, fold, flat_map}
 use Rattle.lft_facts.specs.declared.facts.Fact.{Fact}
 use Rattle.lft_report.specs.{declared.quotes.marks.Quote.Quote, Quotes.Marks.named_rows}
 

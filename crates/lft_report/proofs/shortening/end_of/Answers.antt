@@ -1,4 +1,4 @@
-use Rattle.std.proofs.Common.{◌≡◌, ◌+◌, ◌-◌, ◌<◌, suc, length, arith}
+use Rattle.std.proofs.Common.{◌≡◌, ◌-◌, suc, arith}
 use Rattle.lft_report.proofs.{Lines.{feed_more, other_more}, shortening.end_of.Goals.{then-byte-eq10, else-byte-eq10}}
 use Rattle.lft_report.proofs.shortening.end_of.Goals as goal
 

@@ -1,6 +1,0 @@
-use Rattle.std.proofs.Common.{◌++◌, codes}
-use Rattle.lft_ir.{specs.Words.Lines.{line_words, worker_at}, proofs.WordsLemmas.Steps.also}
-use Rattle.lft_report.proofs.reasons.push_in_line.Goals as goal
-
-pub returns : goal.returns
-returns c = also _ _ _ ((((codes "  Worker ") ++ (worker_at c.args.rows.now c.args.worker)) ++ c.args.does.now) ++ (line_words c.args.row)) (codes ".\n") (also _ _ _ (((codes "  Worker ") ++ (worker_at c.args.rows.now c.args.worker)) ++ c.args.does.now) (line_words c.args.row) (also _ _ _ ((codes "  Worker ") ++ (worker_at c.args.rows.now c.args.worker)) c.args.does.now (also _ _ _ (codes "  Worker ") (worker_at c.args.rows.now c.args.worker) c.in_ok-push_str.ensures.bytes c.in_ok-push_worker_at.ensures) c.in_ok-push_str-2.ensures.bytes) c.in_ok-push_line.ensures) c.in_ok-push_str-3.ensures.bytes

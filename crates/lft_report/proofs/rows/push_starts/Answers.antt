@@ -1,7 +1,0 @@
-use Rattle.std.proofs.Common.{◌++◌, codes}
-use Rattle.lft_ir.{specs.Words.Lines.{line_words, worker_at}, proofs.WordsLemmas.Steps.also}
-use Rattle.lft_report.specs.Rows.{run_words}
-use Rattle.lft_report.proofs.rows.push_starts.Goals as goal
-
-pub returns : goal.returns
-returns c = also _ _ _ (((((codes "Worker ") ++ (worker_at c.args.rows.now c.args.row)) ++ (codes " starts ")) ++ (run_words c.args.program.now c.args.rows.now c.args.row)) ++ (codes " in ")) (line_words c.args.row) (also _ _ _ ((((codes "Worker ") ++ (worker_at c.args.rows.now c.args.row)) ++ (codes " starts ")) ++ (run_words c.args.program.now c.args.rows.now c.args.row)) (codes " in ") (also _ _ _ (((codes "Worker ") ++ (worker_at c.args.rows.now c.args.row)) ++ (codes " starts ")) (run_words c.args.program.now c.args.rows.now c.args.row) (also _ _ _ ((codes "Worker ") ++ (worker_at c.args.rows.now c.args.row)) (codes " starts ") (also _ _ _ (codes "Worker ") (worker_at c.args.rows.now c.args.row) c.in_ok-push_str.ensures.bytes c.in_ok-push_worker_at.ensures) c.in_ok-push_str-2.ensures.bytes) c.in_ok-push_run.ensures) c.in_ok-push_str-3.ensures.bytes) c.in_ok-push_line.ensures
