@@ -4,14 +4,13 @@ use Rattle.std.specs.Prelude.{not, is_some, option_to_list}
 use Rattle.std.specs.List.{All}
 use Rattle.std.proofs.lemmas.{Bool.{cases_Bool, Decides.nat_tests}, List.Elements.filter_map-append}
 use Rattle.std.proofs.lemmas.Option.{slice_get-get_or, slice_get_within, get_or_from_slice_get}
-use Rattle.csv.specs.Records.{fields_of}
 use Rattle.lft_ir.specs.Parts.{Parts}
 use Rattle.lft_resolve.proofs.Placing.{not_some}
 use Rattle.lft_record.specs.CardTables.{AreTold, CardsFail, FaultAt, IsAgain, IsCard, IsScript, card_tables, entries_of, entry_bodies, entry_of, entry_state, entry_step, cards_header}
 use Rattle.lft_record.specs.{inner.Scripts.{Adds, is_taken, with_entry}, Scripts.blank}
 use Rattle.lft_record.specs.declared.cards.{card.{Card.Card, CardStep.CardStep, CardEntry.CardEntry}, Script.Script, expression.Summand.Summand}
 use Rattle.lft_record.specs.declared.cards.fault.CardFault.{CardFault}
-use Rattle.lft_trace.specs.{inner.Records.{in_memory, IsNext, IsUnread}, Records.records_of, declared.records.Records.Records}
+use Rattle.lft_trace.specs.{inner.Records.{fields_at_hand, in_memory, IsNext, IsUnread}, Records.records_of, declared.records.Records.Records}
 use Rattle.lft_trace.proofs.TableFacts.{Read, Texts, bad as bad_record, one_more as read_more, start as first}
 use Rattle.lft_record.specs.declared.cards.card.CardEntry.TheVariants as entry
 use Rattle.lft_record.specs.declared.cards.fault.CardFault.TheVariants as fault
@@ -25,7 +24,7 @@ pub record Gathered (program : Parts) (records : Texts) (scripts : List Script) 
 blank_told : (r : ℕ) (script : Script) → script ≡ blank → IsScript [] script
 blank_told r script e = rw e (record { bodies = refl; steps = refl; state = refl })
 
-pub start : (program : Parts) (text : List ℕ) (scripts : List Script) (old new : Records (Bor (List ℕ))) → IsUnread in_memory old text 4000001 → IsNext in_memory old new → fields_of new.fields ≡ cards_header → length scripts ≡ length program.reactions → All (λ script. script ≡ blank) scripts → Gathered program (records_of text) scripts new
+pub start : (program : Parts) (text : List ℕ) (scripts : List Script) (old new : Records (Bor (List ℕ))) → IsUnread in_memory old text 4000001 → IsNext in_memory old new → fields_at_hand new ≡ cards_header → length scripts ≡ length program.reactions → All (λ script. script ≡ blank) scripts → Gathered program (records_of text) scripts new
 start program text scripts old new u g top l b =
     let told : AreTold program [] scripts = record {
       long = l;
@@ -101,15 +100,15 @@ taken_again cards card script s taken = again card.entry refl taken
     again (entry.State terms) e t = inr (terms, ap entry_state e, some script.state (filter_map entry_state (entries_of card.reaction cards)) t s.state)
 
 module _ (program : Parts) (records : Texts) (scripts : List Script) (old new : Records (Bor (List ℕ))) (r : Gathered program records scripts old) where
-  pub one_more : (now : List Script) (card : Card) → IsNext in_memory old new → IsCard program (fields_of new.fields) card → card.reaction < length program.reactions → Adds scripts now card true → Gathered program records now new
+  pub one_more : (now : List Script) (card : Card) → IsNext in_memory old new → IsCard program (fields_at_hand new) card → card.reaction < length program.reactions → Adds scripts now card true → Gathered program records now new
   one_more now card g is within a =
       let told = told_more program r.cards scripts now card r.told (let l = r.told.long in omega (arith, l, within)) a in
       record { cards = r.cards ++ (card ∷ []); read = read_more (card_tables program) records r.cards old new card r.read g is (now, told); told = told }
 
-  pub bad : (e : CardFault) → IsNext in_memory old new → ((before : List Card) → FaultAt program before new.line (fields_of new.fields) e) → CardsFail program records e
+  pub bad : (e : CardFault) → IsNext in_memory old new → ((before : List Card) → FaultAt program before new.line (fields_at_hand new) e) → CardsFail program records e
   bad e g is = bad_record (card_tables program) records r.cards old new e r.read g (is r.cards)
 
-  pub refused : (now : List Script) (card : Card) → IsNext in_memory old new → IsCard program (fields_of new.fields) card → card.reaction < length program.reactions → Adds scripts now card false → CardsFail program records (fault.GivenTwice new.line)
+  pub refused : (now : List Script) (card : Card) → IsNext in_memory old new → IsCard program (fields_at_hand new) card → card.reaction < length program.reactions → Adds scripts now card false → CardsFail program records (fault.GivenTwice new.line)
   refused now card g is within a =
       let inside : card.reaction < length scripts = let l = r.told.long in omega (arith, l, within) in
       let old_script = get_or scripts card.reaction blank in

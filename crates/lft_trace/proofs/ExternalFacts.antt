@@ -3,11 +3,11 @@ use Rattle.std.proofs.Common.{◌≡◌, ◌∙◌, inl, inr, ◌+◌, ◌<◌, 
 use Rattle.std.specs.Prelude.{option_to_list}
 use Rattle.std.specs.List.Sorted.{IsPermutation}
 use Rattle.std.proofs.{lemmas.List.{Elements.filter_map-append, Sorted.{IsPermutation-push_more, IsPermutation-refl, length_permutation}}, Math.Seq.take-suc}
-use Rattle.csv.specs.Records.{fields_of}
 use Rattle.lft_ir.specs.{Parts.Parts, Steps.{Fits.{EventFits, ExternalsFit}, Inputs.{ExternalInputs, InOrder}}, declared.steps.externals.Event.Event}
 use Rattle.lft_tag.specs.{declared.Tag.Tag, Tags.IsRecorded}
 use Rattle.lft_trace.specs.ExternalTables.{AreApart, ExternalFails, ExternalTable, FaultAt, Has, IsEntry, event_of, external_tables, header, stop_of}
-use Rattle.lft_trace.specs.{inner.{Records.{IsCounted, IsNext, IsPast, IsUnread, records_left}, SeenExternals.{AreKept, Keeps, Refuses}}, Records.records_of}
+use Rattle.lft_trace.specs.inner.{Records.{fields_at_hand, IsCounted, IsNext, IsPast, IsUnread, records_left}, SeenExternals.{AreKept, Keeps, Refuses}}
+use Rattle.lft_trace.specs.Records.{records_of}
 use Rattle.lft_trace.specs.declared.{external_table.Entry.{Entry, TheVariants.{Happens, Stops}}, fault.TraceFault.TraceFault, records.Records.Records}
 use Rattle.lft_trace.proofs.{EventFacts.{has_cons, has_none}, ExternalTableFacts.{event_fits, stop_fits}}
 use Rattle.lft_trace.proofs.Members.{apart_pushed, has_permuted, has_permuted_back}
@@ -68,20 +68,20 @@ clash program line f (Happens x) entries stop events e is s p h = rw h.0 (refl, 
 clash program line f (Stops g) entries None events e is s p h = absurd (h.1 refl)
 clash program line f (Stops g) entries (Some o) events e is s p h = rw h.0 (refl, g, is, λ none. let q : ◌≡◌ {A = List Tag} [] (o ∷ []) = sym none ∙ s in cc (q))
 
-pub start : {R : Type 0} {remaining : R → Option (List ℕ)} (program : Parts) (text : List ℕ) (old new : Records R) → IsUnread remaining old text 4000001 → IsNext remaining old new → fields_of new.fields ≡ header → Gathered remaining program (records_of text) None [] new
+pub start : {R : Type 0} {remaining : R → Option (List ℕ)} (program : Parts) (text : List ℕ) (old new : Records R) → IsUnread remaining old text 4000001 → IsNext remaining old new → fields_at_hand new ≡ header → Gathered remaining program (records_of text) None [] new
 start program text old new u g top = record { entries = []; read = first (external_tables program) text old new u g top (omega arith, kept_none.apart); kept = kept_none }
 
 module _ {R : Type 0} {remaining : R → Option (List ℕ)} (program : Parts) (records : Texts) (stop : Option Tag) (events : List Event) (old : Records R) (r : Gathered remaining program records stop events old) where
-  pub one_more : (new : Records R) (entry : Entry) (now : Option Tag) (events_now : List Event) → IsNext remaining old new → IsEntry program (fields_of new.fields) entry → Keeps entry stop events now events_now → Gathered remaining program records now events_now new
+  pub one_more : (new : Records R) (entry : Entry) (now : Option Tag) (events_now : List Event) → IsNext remaining old new → IsEntry program (fields_at_hand new) entry → Keeps entry stop events now events_now → Gathered remaining program records now events_now new
   one_more new entry now events_now g is k =
       let kept = kept_more r.entries entry stop now events events_now r.kept k in
       record { entries = r.entries ++ (entry ∷ []); read = read_more (external_tables program) records r.entries old new entry r.read g is (rw kept.stops (at_most_one now), kept.apart); kept = kept }
 
-  pub bad : (new : Records R) (e : TraceFault) → IsNext remaining old new → ((before : List Entry) → FaultAt program before new.line (fields_of new.fields) e) → ExternalFails program records e
+  pub bad : (new : Records R) (e : TraceFault) → IsNext remaining old new → ((before : List Entry) → FaultAt program before new.line (fields_at_hand new) e) → ExternalFails program records e
   bad new e g is = inl (bad_record (external_tables program) records r.entries old new e r.read g (is r.entries))
 
-  pub refused : (new : Records R) (entry : Entry) (e : TraceFault) → IsNext remaining old new → IsEntry program (fields_of new.fields) entry → Refuses entry stop events new.line e → ExternalFails program records e
-  refused new entry e g is h = inl (bad_record (external_tables program) records r.entries old new e r.read g (clash program new.line (fields_of new.fields) entry r.entries stop events e is r.kept.stops r.kept.same h))
+  pub refused : (new : Records R) (entry : Entry) (e : TraceFault) → IsNext remaining old new → IsEntry program (fields_at_hand new) entry → Refuses entry stop events new.line e → ExternalFails program records e
+  refused new entry e g is h = inl (bad_record (external_tables program) records r.entries old new e r.read g (clash program new.line (fields_at_hand new) entry r.entries stop events e is r.kept.stops r.kept.same h))
 
   pub past : (new : Records R) → IsPast remaining old new → ExternalFails program records fault.TooManyRows
   past new p = inl (past_last (external_tables program) records r.entries old new r.read p)

@@ -6,7 +6,7 @@ use Rattle.csv.specs.Machine.{Read, next_record, step, is_end, fields_after, fie
 use Rattle.csv.specs.Reading.{Reached, ReadRecord, Ready, default_config, records_from, records_next}
 use Rattle.csv.specs.declared.{parser.{Config.Config, State.State}, reader.Reader.Reader}
 use Rattle.csv.proofs.ReadFacts.{rows-more, rows-end}
-use Rattle.lft_trace.specs.{inner.Records.{IsPlain, records_left}, declared.records.Records.Records}
+use Rattle.lft_trace.specs.inner.Records.{IsPlainReader, records_unread}
 use Rattle.csv.specs.declared.parser.State.TheVariants as st
 
 -- a record takes a byte, or is the last one
@@ -93,11 +93,11 @@ unfolding Reached
 reached-one s s2 f y z h = one-more default_config s y h.0 h.1 ∙ rw (h.2, h.3.0, h.3.1) refl
 
 -- a read that found a record leaves the others, and the reader as it was
-pub left-more : {R : Type 0} (remaining : R → Option (List ℕ)) (a b : Records R) (f : List (List ℕ)) → IsPlain remaining a → Ready b.reader → ReadRecord remaining a.reader b.reader true f → IsPlain remaining b × (records_left remaining a ≡ f ∷ records_left remaining b)
-left-more remaining a b f p ready r =
-    let m = rows-more remaining a.reader b.reader f default_config a.reader.state p.3 p.3 [] p.2 p.4 (none-yet a.reader.state p.3) r in
-    ((r.3 ∙ p.0, ready, r.2 ∙ p.2, m.0, m.1), rw (p.4, m.1) (reached-one a.reader.state b.reader.state f p.3 m.0 m.2))
+pub read-more : {R : Type 0} (remaining : R → Option (List ℕ)) (a b : Reader R) (f : List (List ℕ)) → IsPlainReader remaining a → Ready b → ReadRecord remaining a b true f → IsPlainReader remaining b × (records_unread remaining a ≡ f ∷ records_unread remaining b)
+read-more remaining a b f p ready r =
+    let m = rows-more remaining a b f default_config a.state p.3 p.3 [] p.2 p.4 (none-yet a.state p.3) r in
+    ((r.3 ∙ p.0, ready, r.2 ∙ p.2, m.0, m.1), rw (p.4, m.1) (reached-one a.state b.state f p.3 m.0 m.2))
 
 -- a read that found none was at the end
-pub left-none : {R : Type 0} (remaining : R → Option (List ℕ)) (a : Records R) (b : Reader R) (f : List (List ℕ)) → IsPlain remaining a → ReadRecord remaining a.reader b false f → records_left remaining a ≡ []
-left-none remaining a b f p r = rw p.4 (no-more default_config a.reader.state p.3 (rows-end remaining a.reader b f default_config p.3 p.2 p.4 r))
+pub read-none : {R : Type 0} (remaining : R → Option (List ℕ)) (a b : Reader R) (f : List (List ℕ)) → IsPlainReader remaining a → ReadRecord remaining a b false f → records_unread remaining a ≡ []
+read-none remaining a b f p r = rw p.4 (no-more default_config a.state p.3 (rows-end remaining a b f default_config p.3 p.2 p.4 r))

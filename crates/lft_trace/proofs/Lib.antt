@@ -1,3 +1,4 @@
+pub mod Ahead
 pub mod Ascending
 pub mod Digits
 pub mod EntriesDiffer

@@ -2,11 +2,11 @@
 use Rattle.std.proofs.Common.{Bor, ◌≡◌, ◌∙◌, ◌+◌, ◌≤◌, ◌++◌, ℕ, zero, suc, List, [], ◌∷◌, length, drop, filter_map, IfSome, Some, slice_get, refl, sym, ap, subst, arith, append_assoc, append-nil, length-append}
 use Rattle.std.specs.{Io.Cursor.{cursor_inner, cursor_position}, declared.io.impls.Cursor.Cursor, List.AllZip}
 use Rattle.std.proofs.lemmas.{List.Elements.{All-cons, All-nil, filter_map-append}, Slice.Zip.all_zipped_more}
-use Rattle.csv.specs.Records.{fields_of}
 use Rattle.lft_ir.specs.{Parts.Parts, Sound.IsSound, Steps.Fits.RowsFit, declared.steps.row.Row.Row as TheRow}
 use Rattle.lft_lists.proofs.Zips.{behind}
 use Rattle.lft_trace.specs.{ExternalTables.IsEntry, LogTables.{IsLine, row_of}}
-use Rattle.lft_trace.specs.inner.{LogTables.{EntryFits, InputsFit, ReadsLines, inputs_behind}, Records.{in_cursor, IsNext, IsPlain, IsUnread, records_left}}
+use Rattle.lft_trace.specs.inner.LogTables.{EntryFits, InputsFit, ReadsLines, inputs_behind}
+use Rattle.lft_trace.specs.inner.Records.{fields_at_hand, in_cursor, IsNext, IsPlain, IsUnread, records_left}
 use Rattle.lft_trace.specs.{Records.records_of, Traces.IsRow}
 use Rattle.lft_trace.specs.declared.external_table.Entry.{Entry, TheVariants.{Happens, Stops}}
 use Rattle.lft_trace.specs.declared.{log_table.{Among.Among, Line.{Line, TheVariants.{Row, Input}}, LogLines.LogLines}, records.Records.Records}
@@ -62,19 +62,19 @@ start program text c r inner position unread = record {
     u = subst (λ (t : List ℕ). IsUnread in_cursor r t 4000000) (ap (λ (n : ℕ). drop n c.inner.now) position ∙ ap (λ (b : Bor (List ℕ)). b.now) inner) unread
 
 module _ (program : Parts) (records : Texts) (rows : List TheRow) (inputs : List Among) (old new : Records (Cursor (Bor (List ℕ)))) (r : Gone program records rows inputs old) (g : IsNext in_cursor old new) where
-  whole_after : records ≡ (r.first ++ (fields_of new.fields ∷ [])) ++ records_left in_cursor new
-  whole_after = r.whole ∙ ap (λ (t : Texts). r.first ++ t) g.left ∙ sym (append_assoc r.first (fields_of new.fields ∷ []) (records_left in_cursor new))
+  whole_after : records ≡ (r.first ++ (fields_at_hand new ∷ [])) ++ records_left in_cursor new
+  whole_after = r.whole ∙ ap (λ (t : Texts). r.first ++ t) g.left ∙ sym (append_assoc r.first (fields_at_hand new ∷ []) (records_left in_cursor new))
 
   line_after : new.line ≤ new.last
   line_after = let next = g.line in let inside = g.within in let last = g.last in omega (arith, next, inside, last)
 
-  pub row_more : (row : TheRow) → IsRow program (fields_of new.fields) row → Gone program records (rows ++ (row ∷ [])) inputs new
+  pub row_more : (row : TheRow) → IsRow program (fields_at_hand new) row → Gone program records (rows ++ (row ∷ [])) inputs new
   row_more row is = record {
     lines = r.lines ++ (Row row ∷ []);
-    first = r.first ++ (fields_of new.fields ∷ []);
+    first = r.first ++ (fields_at_hand new ∷ []);
     plain = g.plain;
     whole = whole_after;
-    each = all_zipped_more (IsLine program) r.first r.lines (fields_of new.fields) (Row row) r.each is;
+    each = all_zipped_more (IsLine program) r.first r.lines (fields_at_hand new) (Row row) r.each is;
     rows_are = ap (λ (t : List TheRow). t ++ (row ∷ [])) r.rows_are ∙ sym (filter_map-append row_of r.lines (Row row ∷ []));
     inputs_are = r.inputs_are ∙ sym (behind_row 0 r.lines row);
     few = let l = length-append rows (row ∷ []) in let few = r.few in let next = g.line in omega (arith, l, few, next);
@@ -82,13 +82,13 @@ module _ (program : Parts) (records : Texts) (rows : List TheRow) (inputs : List
     last = g.last ∙ r.last;
   }
 
-  pub input_more : (entry : Entry) → IsEntry program (fields_of new.fields) entry → Gone program records rows (inputs ++ (record { rows_before = length rows; entry = entry } ∷ [])) new
+  pub input_more : (entry : Entry) → IsEntry program (fields_at_hand new) entry → Gone program records rows (inputs ++ (record { rows_before = length rows; entry = entry } ∷ [])) new
   input_more entry is = record {
     lines = r.lines ++ (Input entry ∷ []);
-    first = r.first ++ (fields_of new.fields ∷ []);
+    first = r.first ++ (fields_at_hand new ∷ []);
     plain = g.plain;
     whole = whole_after;
-    each = all_zipped_more (IsLine program) r.first r.lines (fields_of new.fields) (Input entry) r.each is;
+    each = all_zipped_more (IsLine program) r.first r.lines (fields_at_hand new) (Input entry) r.each is;
     rows_are = r.rows_are ∙ sym (filter_map-append row_of r.lines (Input entry ∷ []) ∙ append-nil (filter_map row_of r.lines));
     inputs_are =
         let l : length rows ≡ length (filter_map row_of r.lines) = ap length r.rows_are in

@@ -1,8 +1,7 @@
 -- What one more record does to a table of any kind, and that records are one table or have a fault.
 use Rattle.std.proofs.Common.{◌≡◌, ◌≢◌, ◌∙◌, inl, inr, ◌+◌, ◌-◌, ◌<◌, ◌≤◌, ◌++◌, ℕ, List, [], ◌∷◌, length, Option, refl, sym, ap, arith, append_assoc, append-nil, length-append}
 use Rattle.std.proofs.lemmas.Slice.Zip.{all_zipped_more}
-use Rattle.csv.specs.Records.{fields_of}
-use Rattle.lft_trace.specs.{inner.Records.{IsCounted, IsNext, IsPast, IsPlain, IsUnread, records_left}, Records.records_of}
+use Rattle.lft_trace.specs.{inner.Records.{fields_at_hand, IsCounted, IsNext, IsPast, IsPlain, IsUnread, records_left}, Records.records_of}
 use Rattle.lft_trace.specs.{Tables.{Begins, FailsAt, Fails, HasTooMany, Holds, TableKind}, declared.records.Records.Records}
 use Rattle.lft_lists.proofs.Zips.{Parted, long, parted, same, same_rest}
 
@@ -22,7 +21,7 @@ pub fewer : {R : Type 0} (old new : Records R) → IsCounted old new → new.las
 fewer old new n = let line = n.line in let last = n.last in let within = n.within in omega (arith, line, last, within)
 
 module _ {R Item Fault : Type 0} {remaining : R → Option (List ℕ)} (kind : TableKind Item Fault) (text : List ℕ) (old new : Records R) (unread : IsUnread remaining old text 4000001) where
-  pub start : IsNext remaining old new → fields_of new.fields ≡ kind.header → kind.Together [] → Read remaining kind (records_of text) [] new
+  pub start : IsNext remaining old new → fields_at_hand new ≡ kind.header → kind.Together [] → Read remaining kind (records_of text) [] new
   start g top together = record {
     plain = g.plain;
     begins = record { first = []; under = sym unread.left ∙ g.left ∙ ap (λ (f : List (List ℕ)). f ∷ records_left remaining new) top; each = tt; together = together };
@@ -34,10 +33,10 @@ module _ {R Item Fault : Type 0} {remaining : R → Option (List ℕ)} (kind : T
   pub without_records : records_left remaining old ≡ [] → Fails kind (records_of text) kind.no_header
   without_records none = inl (refl, λ rest under. let q : ◌≡◌ {A = Texts} [] (kind.header ∷ rest) = sym none ∙ unread.left ∙ under in cc (q))
 
-  pub without_header : IsNext remaining old new → fields_of new.fields ≢ kind.header → Fails kind (records_of text) kind.no_header
+  pub without_header : IsNext remaining old new → fields_at_hand new ≢ kind.header → Fails kind (records_of text) kind.no_header
   without_header g other = inl (
     refl,
-    λ rest under. let q : ◌≡◌ {A = Texts} (fields_of new.fields ∷ records_left remaining new) (kind.header ∷ rest) = sym g.left ∙ unread.left ∙ under in other (cc (q)),
+    λ rest under. let q : ◌≡◌ {A = Texts} (fields_at_hand new ∷ records_left remaining new) (kind.header ∷ rest) = sym g.left ∙ unread.left ∙ under in other (cc (q)),
   )
 
   pub not_past : IsPast remaining old new → ⊥
@@ -53,13 +52,13 @@ module _ {Item Fault : Type 0} (kind : TableKind Item Fault) (records : Texts) (
   }
 
   module _ {R : Type 0} {remaining : R → Option (List ℕ)} where
-    pub one_more : (old new : Records R) (item : Item) → Read remaining kind records items old → IsNext remaining old new → kind.Tells (fields_of new.fields) item → kind.Together (items ++ (item ∷ [])) → Read remaining kind records (items ++ (item ∷ [])) new
+    pub one_more : (old new : Records R) (item : Item) → Read remaining kind records items old → IsNext remaining old new → kind.Tells (fields_at_hand new) item → kind.Together (items ++ (item ∷ [])) → Read remaining kind records (items ++ (item ∷ [])) new
     one_more old new item r g is together =
         let e = length-append items (item ∷ []) in
         let here = r.line in
         record {
           plain = g.plain;
-          begins = begins_more (fields_of new.fields) (records_left remaining new) item (rw g.left at r.begins) is together;
+          begins = begins_more (fields_at_hand new) (records_left remaining new) item (rw g.left at r.begins) is together;
           line = let next = g.line in omega (arith, e, here, next);
           few = let inside = g.within in let last = r.last in omega (arith, e, here, inside, last);
           last = g.last ∙ r.last;
@@ -73,14 +72,14 @@ module _ {Item Fault : Type 0} (kind : TableKind Item Fault) (records : Texts) (
       few = read.few;
     }
 
-    pub bad : (old new : Records R) (e : Fault) → Read remaining kind records items old → IsNext remaining old new → kind.FaultAt items new.line (fields_of new.fields) e → Fails kind records e
+    pub bad : (old new : Records R) (e : Fault) → Read remaining kind records items old → IsNext remaining old new → kind.FaultAt items new.line (fields_at_hand new) e → Fails kind records e
     bad old new e r g is =
         let here = r.line in
         let next = g.line in
         let line : new.line ≡ length items + 2 = omega (arith, here, next) in
         inr (inl (record {
           items = items;
-          bad = fields_of new.fields;
+          bad = fields_at_hand new;
           more = records_left remaining new;
           begins = rw g.left at r.begins;
           within = let inside = g.within in let last = r.last in omega (arith, here, inside, last);
@@ -92,7 +91,7 @@ module _ {Item Fault : Type 0} (kind : TableKind Item Fault) (records : Texts) (
       refl,
       record {
         items = items;
-        next = fields_of new.fields;
+        next = fields_at_hand new;
         more = records_left remaining new;
         begins = rw p.left at r.begins;
         full = let full = p.full in let here = r.line in let last = r.last in let few = r.few in omega (arith, full, here, last, few);

@@ -9,5 +9,5 @@ pub mod SeenExternals
 pub mod SeenWriting
 pub mod ShortNames
 pub mod Telling
-pub mod TraceLines
+pub mod TableLines
 pub mod Written

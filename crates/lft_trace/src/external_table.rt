@@ -83,7 +83,7 @@ fn read_inputs<R: Read + Drop>(
         Ok(false) => return Err(TraceFault::BadHeader),
         Err(stop) => return Err(stopped(stop)),
     }
-    if !is_header(&records.fields) {
+    if !is_header(records.fields()) {
         return Err(TraceFault::BadHeader);
     }
     let mut stop = None;
@@ -94,7 +94,7 @@ fn read_inputs<R: Read + Drop>(
             Ok(false) => return finish(alloc, stop, events),
             Err(stop) => return Err(stopped(stop)),
         }
-        let entry = match read_entry(program, &records.fields, records.line) {
+        let entry = match read_entry(program, records.fields(), records.line) {
             Ok(entry) => entry,
             Err(fault) => return Err(fault),
         };

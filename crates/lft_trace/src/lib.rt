@@ -28,7 +28,7 @@ pub use lft_ir::steps::{Event, Externals, Row, Rows, Step, is_end, is_start, is_
 pub use log_table::{Among, Line, LineFault, LogLines, read_log};
 pub use reaction_names::{ReactionNames, ReactionNumbers};
 pub use reading::{
-    ReadFailed, TraceLines, below_header, first_lines, next_rows, read_batch,
+    ReadFailed, TableLines, below_header, first_lines, next_rows, read_batch,
     read_externals_shared, read_lines, read_trace_shared, trace_records,
 };
 pub use trace_table::read_trace;

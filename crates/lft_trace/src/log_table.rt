@@ -95,8 +95,9 @@ fn read_lines_of(
             }
             Err(stop) => return Err(stop),
         }
-        if begins_as_input(&records.fields) {
-            match read_entry(names.program(), &records.fields, ONLY_LINE) {
+        let fields = records.fields();
+        if begins_as_input(fields) {
+            match read_entry(names.program(), fields, ONLY_LINE) {
                 Ok(entry) => {
                     let rows_before = rows.len() - others;
                     if inputs.push(Among { rows_before, entry }).is_err() {
@@ -111,7 +112,7 @@ fn read_lines_of(
             continue 'lines;
         }
         // The row goes to its place at once: it is long, and put into a `Line` it would be moved twice more.
-        match read_row(names, last, next, &records.fields, ONLY_LINE) {
+        match read_row(names, last, next, fields, ONLY_LINE) {
             Ok(row) => {
                 if rows.push(row).is_err() {
                     return Err(Unread::NoMemory);

@@ -1,4 +1,4 @@
-//! Trace tables read in batches, and in parts by several workers.
+//! Tables read in batches, and in parts by several workers.
 
 mod batch;
 mod batches;
@@ -7,7 +7,7 @@ pub(crate) mod lines;
 mod rows;
 mod shared;
 pub(crate) mod table;
-mod trace_lines;
+mod table_lines;
 mod workers;
 
 pub use batch::{first_lines, read_batch, read_lines};
@@ -15,4 +15,4 @@ pub use externals::read_externals_shared;
 pub use lines::below_header;
 pub use rows::{ReadFailed, next_rows, trace_records};
 pub use shared::read_trace_shared;
-pub use trace_lines::TraceLines;
+pub use table_lines::TableLines;

@@ -55,7 +55,7 @@ fn read_rows(alloc: Global, names: &ReactionNames, text: &[u8]) -> Result<Vec<Ro
         Ok(false) => return Err(TraceFault::BadHeader),
         Err(stop) => return Err(stopped(stop)),
     }
-    if !is_header(&records.fields) {
+    if !is_header(records.fields()) {
         return Err(TraceFault::BadHeader);
     }
     let mut rows = Vec::new(alloc);
@@ -67,7 +67,7 @@ fn read_rows(alloc: Global, names: &ReactionNames, text: &[u8]) -> Result<Vec<Ro
             Ok(false) => return Ok(rows),
             Err(stop) => return Err(stopped(stop)),
         }
-        let row = match read_row(names, last, next, &records.fields, records.line) {
+        let row = match read_row(names, last, next, records.fields(), records.line) {
             Ok(row) => row,
             Err(fault) => return Err(fault),
         };

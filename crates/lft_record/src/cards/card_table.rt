@@ -60,7 +60,7 @@ fn read_records(alloc: Global, program: &Program, text: &[u8]) -> Result<Cards, 
         Ok(false) => return Err(CardFault::BadHeader),
         Err(stop) => return Err(stopped(stop)),
     }
-    if !is_header(&records.fields) {
+    if !is_header(records.fields()) {
         return Err(CardFault::BadHeader);
     }
     let Ok(mut cards) = Cards::new(alloc, program) else {
@@ -72,7 +72,7 @@ fn read_records(alloc: Global, program: &Program, text: &[u8]) -> Result<Cards, 
             Ok(false) => return Ok(cards),
             Err(stop) => return Err(stopped(stop)),
         }
-        let card = match read_card(alloc, program, &records.fields, records.line) {
+        let card = match read_card(alloc, program, records.fields(), records.line) {
             Ok(card) => card,
             Err(fault) => return Err(fault),
         };

@@ -4,7 +4,7 @@
 ghost use Rattle.std.specs.Prelude.{◌≡◌, ◌++◌, ◌≤◌, [], ℕ, List, IfOk, IfSome, length};
 ghost use Rattle.std.specs.Thread.{IsSync};
 ghost use Rattle.lft_ir.specs.{Steps.Fits.RowsFit, declared.steps.row.Row.Row as TheRow};
-ghost use Rattle.lft_trace.specs.{Records.records_of, Traces.Table, inner.{Parts.{HoldsRows, IsCut, rows_of}, TraceLines.text_left}};
+ghost use Rattle.lft_trace.specs.{Records.records_of, Traces.Table, inner.{Parts.{HoldsRows, IsCut, rows_of}, TableLines.text_left}};
 ghost use Rattle.lft_rows.specs.Accepted.{IsAccepted};
 ghost use Rattle.lft_stream.specs.inner.Batches.{Parted.PartsFit, Progresses.{HaveAcceptedRows, IsGoneOn, IsProgress}};
 
@@ -14,7 +14,7 @@ use crate::batches::reader::accepts_reader;
 use lft_ir::steps::Row;
 use lft_model::Plan;
 use lft_tag::MAX_ROWS;
-use lft_trace::{ReactionNames, ReadFailed, TraceLines, first_lines, read_lines};
+use lft_trace::{ReactionNames, ReadFailed, TableLines, first_lines, read_lines};
 use std::alloc::Global;
 use std::io::Read;
 use std::thread::{Threads, join};
@@ -134,7 +134,7 @@ fn accepts_lines<T: Threads + Sync, R: Read + Drop>(
     plan: &Plan,
     names: &ReactionNames,
     progress: JudgedRows,
-    text: &mut TraceLines<R>,
+    text: &mut TableLines<R>,
     workers: u32,
 ) -> Result<Option<RunCounts>, ReadFailed>
     requires names { names.now ≡ plan.now.program }
@@ -186,7 +186,7 @@ pub fn accepts_reader_shared<T: Threads + Sync, R: Read + Drop>(
     }
     // Tags are judged one after another, since each needs what those before it leave behind. So reading
     // alone is shared out.
-    let Some(mut text) = TraceLines::new(alloc, source)? else {
+    let Some(mut text) = TableLines::new(alloc, source)? else {
         return Ok(None);
     };
     let Ok(names) = ReactionNames::new(alloc, plan.program()) else {

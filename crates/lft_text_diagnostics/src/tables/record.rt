@@ -38,7 +38,7 @@ pub(crate) fn record_of(
             Err(_) => return Err(NoMemory),
         }
     }
-    Ok(Some(records.fields))
+    Ok(Some(records.into_fields()))
 }
 
 /// Whether no record follows the one with that number, and no line end either: the writing of the table was

@@ -3,12 +3,12 @@
 ghost use Rattle.std.specs.Prelude.{◌≡◌, ◌++◌, List, IfOk, IfSome, Some};
 ghost use Rattle.lft_ir.specs.Steps.{Fits.ExternalsFit, Inputs.{ExternalInputs, InOrder}};
 ghost use Rattle.lft_trace.specs.{ExternalTables.{ExternalTable, IsEntry}, Records.records_of, declared.external_table.Entry.Entry as TheEntry};
-ghost use Rattle.lft_trace.specs.inner.{ExternalLines.{AreKeptIn, AreReadOf}, Parts.HoldsItems, TraceLines.text_left};
+ghost use Rattle.lft_trace.specs.inner.{ExternalLines.{AreKeptIn, AreReadOf}, Parts.HoldsItems, TableLines.text_left};
 
 use crate::event_map::EventMap;
 use crate::external_table::{Entry, finish, keep};
 use crate::reading::rows::ReadFailed;
-use crate::reading::trace_lines::TraceLines;
+use crate::reading::table_lines::TableLines;
 use crate::reading::workers::read_parts;
 use lft_ir::Program;
 use lft_ir::steps::Externals;
@@ -89,7 +89,7 @@ fn read_inputs<T: Threads + Sync, R: Read + Drop>(
     rt: &T,
     alloc: Global,
     program: &Program,
-    text: &mut TraceLines<R>,
+    text: &mut TableLines<R>,
     workers: u32,
 ) -> Result<Option<Externals>, ReadFailed>
     ensures { IfOk result (λ found. IfSome found (λ inputs. AreReadOf program.now (text_left R.remaining text.old) inputs)) }
@@ -134,7 +134,7 @@ pub fn read_externals_shared<T: Threads + Sync, R: Read + Drop>(
 {
     // Asked for what every program keeps: no two of its things have one name.
     program.keeps();
-    let Some(mut text) = TraceLines::below::<Program>(alloc, source)? else {
+    let Some(mut text) = TableLines::below::<Program>(alloc, source)? else {
         return Ok(None);
     };
     read_inputs(rt, alloc, program, &mut text, workers)

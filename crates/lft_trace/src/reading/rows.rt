@@ -31,7 +31,7 @@ pub fn trace_records<R: Read + Drop>(
         Err(Unread::NotCsv) => return Err(ReadFailed),
         Err(_) => return Ok(None),
     }
-    if !is_header(&records.fields) {
+    if !is_header(records.fields()) {
         return Ok(None);
     }
     Ok(Some(records))
@@ -62,7 +62,7 @@ pub fn next_rows<R: Read + Drop>(
             Err(Unread::NotCsv) => return Err(ReadFailed),
             Err(_) => return Ok(None),
         }
-        let Ok(row) = read_row(names, last, next, &records.fields, records.line) else {
+        let Ok(row) = read_row(names, last, next, records.fields(), records.line) else {
             return Ok(None);
         };
         if rows.push(row).is_err() {

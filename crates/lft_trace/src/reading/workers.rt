@@ -100,7 +100,7 @@ fn read_part<K: TableReader>(
             Ok(false) => return Some(items),
             Err(_) => return None,
         }
-        let Some((item, next)) = table.read(guess, &records.fields) else {
+        let Some((item, next)) = table.read(guess, records.fields()) else {
             return None;
         };
         if items.push(item).is_err() {

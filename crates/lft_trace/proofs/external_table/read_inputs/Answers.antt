@@ -1,7 +1,6 @@
 use Rattle.std.proofs.Common.{rules, ◌≡◌, ◌≢◌, inl}
 use Rattle.std.proofs.lemmas.{Option.IfSome_then, Result.{IfErr-weaker, IfOk-weaker}}
-use Rattle.csv.specs.Records.{fields_of}
-use Rattle.lft_trace.specs.{ExternalTables.{external_tables, header}, Records.records_of}
+use Rattle.lft_trace.specs.{ExternalTables.{external_tables, header}, Records.records_of, inner.Records.fields_at_hand}
 use Rattle.lft_trace.proofs.ExternalFacts.{bad, ended, fit_all, fit_first, fit_more, no_stop, one_more, past, refused, start}
 use Rattle.lft_trace.proofs.TableFacts.{fewer, not_past, without_header, without_records}
 use Rattle.lft_trace.proofs.external_table.read_inputs.Goals as goal
@@ -19,13 +18,13 @@ returns-in-Err-clause-fault g c =
 pub returns-then-not-is_header-clause-fault : goal.returns-then-not-is_header-clause-fault
 returns-then-not-is_header-clause-fault g c =
     IfSome_then (g.R.Read.remaining c.args.source) c.new-records.ensures.unread (λ text unread _.
-    let other : fields_of c.next.new.self.fields ≢ header = search rules in
+    let other : fields_at_hand c.next.new.self ≢ header = search rules in
     inl (without_header (external_tables c.args.program.now) text c.new-records.result c.next.new.self unread (c.in-Ok-true.ensures.found c.in-Ok-true.field-0-test unread.plain) other))
 
 pub lines-init : goal.lines-init
 lines-init g c = record {
   known = IfSome_then (g.R.Read.remaining c.args.source) c.new-records.ensures.unread (λ text unread.
-      let top : fields_of c.next.new.self.fields ≡ header = search rules in
+      let top : fields_at_hand c.next.new.self ≡ header = search rules in
       rw c.new-events.ensures (start c.args.program.now text c.new-records.result c.next.new.self unread (c.in-Ok-true.ensures.found c.in-Ok-true.field-0-test unread.plain) top));
   fitting = rw c.new-events.ensures (fit_first c.args.program.now c.new-records.result c.next.new.self c.new-records.ensures.last (c.in-Ok-true.ensures.counted c.in-Ok-true.field-0-test));
 }
@@ -53,12 +52,12 @@ returns-in-Err-next-clause-fault g c =
 pub returns-in-Err-read_entry-clause-fault : goal.returns-in-Err-read_entry-clause-fault
 returns-in-Err-read_entry-clause-fault g c =
     IfSome_then (g.R.Read.remaining c.args.source) c.lines.invariant.known (λ text read _.
-    bad c.args.program.now (records_of text) c.lines.stop c.lines.events c.lines.records read c.next-in-lines.new.self c.in-Err-read_entry.fault (c.in-Ok-true-next.ensures.found c.in-Ok-true-next.field-0-test read.read.plain) c.in-Err-read_entry.ensures.fault)
+    bad c.args.program.now (records_of text) c.lines.stop c.lines.events c.lines.records read c.next-in-lines.new.self c.in-Err-read_entry.fault (c.in-Ok-true-next.ensures.found c.in-Ok-true-next.field-0-test read.read.plain) (λ before. rw c.fields-in-lines.ensures at c.in-Err-read_entry.ensures.fault before))
 
 pub returns-in-Err-keep-clause-fault : goal.returns-in-Err-keep-clause-fault
 returns-in-Err-keep-clause-fault g c =
     IfSome_then (g.R.Read.remaining c.args.source) c.lines.invariant.known (λ text read told.
-    refused c.args.program.now (records_of text) c.lines.stop c.lines.events c.lines.records read c.next-in-lines.new.self c.in-Ok.entry c.in-Err-keep.fault (c.in-Ok-true-next.ensures.found c.in-Ok-true-next.field-0-test read.read.plain) c.in-Ok.ensures.entry (c.in-Err-keep.ensures.fault told))
+    refused c.args.program.now (records_of text) c.lines.stop c.lines.events c.lines.records read c.next-in-lines.new.self c.in-Ok.entry c.in-Err-keep.fault (c.in-Ok-true-next.ensures.found c.in-Ok-true-next.field-0-test read.read.plain) (rw c.fields-in-lines.ensures at c.in-Ok.ensures.entry) (c.in-Err-keep.ensures.fault told))
 
 pub lines-smaller : goal.lines-smaller
 lines-smaller g c = fewer c.lines.records c.next-in-lines.new.self (c.in-Ok-true-next.ensures.counted c.in-Ok-true-next.field-0-test)
@@ -66,6 +65,6 @@ lines-smaller g c = fewer c.lines.records c.next-in-lines.new.self (c.in-Ok-true
 pub lines-preserved : goal.lines-preserved
 lines-preserved g c = record {
   known = IfSome_then (g.R.Read.remaining c.args.source) c.lines.invariant.known (λ text read.
-      one_more c.args.program.now (records_of text) c.lines.stop c.lines.events c.lines.records read c.next-in-lines.new.self c.in-Ok.entry c.in-Ok-keep.stop c.keep.new.events (c.in-Ok-true-next.ensures.found c.in-Ok-true-next.field-0-test read.read.plain) c.in-Ok.ensures.entry c.in-Ok-keep.ensures.kept);
-  fitting = fit_more c.args.program.now c.lines.stop c.lines.events c.lines.records c.lines.invariant.fitting c.next-in-lines.new.self (fields_of c.next-in-lines.new.self.fields) c.in-Ok.entry c.in-Ok-keep.stop c.keep.new.events (c.in-Ok-true-next.ensures.counted c.in-Ok-true-next.field-0-test) c.in-Ok.ensures.entry c.in-Ok-keep.ensures.kept;
+      one_more c.args.program.now (records_of text) c.lines.stop c.lines.events c.lines.records read c.next-in-lines.new.self c.in-Ok.entry c.in-Ok-keep.stop c.keep.new.events (c.in-Ok-true-next.ensures.found c.in-Ok-true-next.field-0-test read.read.plain) (rw c.fields-in-lines.ensures at c.in-Ok.ensures.entry) c.in-Ok-keep.ensures.kept);
+  fitting = fit_more c.args.program.now c.lines.stop c.lines.events c.lines.records c.lines.invariant.fitting c.next-in-lines.new.self (fields_at_hand c.next-in-lines.new.self) c.in-Ok.entry c.in-Ok-keep.stop c.keep.new.events (c.in-Ok-true-next.ensures.counted c.in-Ok-true-next.field-0-test) (rw c.fields-in-lines.ensures at c.in-Ok.ensures.entry) c.in-Ok-keep.ensures.kept;
 }

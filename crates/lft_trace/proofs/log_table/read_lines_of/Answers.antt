@@ -1,7 +1,6 @@
 use Rattle.std.proofs.Common.{rules, ◌≡◌, ◌∙◌, ◌+◌, ◌-◌, ◌++◌, ◌∷◌, [], List, length, refl, sym, ap, subst, arith, append-nil, append_assoc, length-append}
-use Rattle.csv.specs.Records.{fields_of}
 use Rattle.lft_ir.specs.{Parts.Parts, declared.steps.row.Row.Row as TheRow}
-use Rattle.lft_trace.specs.{ExternalTables.{FaultAt, IsEntry}, Records.records_of, inner.Records.{in_cursor, records_left}}
+use Rattle.lft_trace.specs.{ExternalTables.{FaultAt, IsEntry}, Records.records_of, inner.Records.{fields_at_hand, in_cursor, records_left}}
 use Rattle.lft_trace.proofs.LogTableFacts.{among, input_more, row_more, start}
 use Rattle.lft_trace.proofs.log_table.read_lines_of.Goals as goal
 
@@ -20,8 +19,8 @@ returns-in-Err-read_entry c =
     let at = c.lines.invariant.0 in
     let gone = at.gone in
     let found = c.in-Ok-true.ensures.found c.in-Ok-true.field-0-test gone.plain in
-    let fields = fields_of c.next.new.self.fields in
-    let fault = subst (λ (p : Parts). FaultAt p [] 2 fields c.in-Err-read_entry.fault) c.program.ensures.value (c.in-Err-read_entry.ensures.fault []) in
+    let fields = fields_at_hand c.next.new.self in
+    let fault = subst (λ (p : Parts). FaultAt p [] 2 fields c.in-Err-read_entry.fault) c.program.ensures.value (rw c.fields-fields.ensures at c.in-Err-read_entry.ensures.fault []) in
     let few = gone.few in
     let line = gone.line in
     let last = gone.last in (
@@ -36,7 +35,7 @@ returns-in-Err-read_entry c =
         each = gone.each;
         rows_are = gone.rows_are;
         inputs_are = gone.inputs_are;
-        stops = (fields, records_left in_cursor c.next.new.self, found.left, (fault, c.if-begins_as_input.ensures.0 refl));
+        stops = (fields, records_left in_cursor c.next.new.self, found.left, (fault, rw c.fields-fields.ensures at c.if-begins_as_input.ensures.0 refl));
       },
     )
 
@@ -44,7 +43,7 @@ pub lines-preserved-then-begins_as_input : goal.lines-preserved-then-begins_as_i
 lines-preserved-then-begins_as_input c =
     let at = c.lines.invariant.0 in
     let items : c.push.new.self.items ≡ c.lines.inputs.items ++ (among (c.len.result - c.len-others.result) c.in-Ok.entry ∷ []) = search rules in
-    let entry = subst (λ (p : Parts). IsEntry p (fields_of c.next.new.self.fields) c.in-Ok.entry) c.program.ensures.value c.in-Ok.ensures.entry in
+    let entry = subst (λ (p : Parts). IsEntry p (fields_at_hand c.next.new.self) c.in-Ok.entry) c.program.ensures.value (rw c.fields-fields.ensures at c.in-Ok.ensures.entry) in
     let more = input_more c.args.names.now (records_of c.args.text.now) at.read c.lines.inputs.items c.lines.records c.next.new.self at.gone (c.in-Ok-true.ensures.found c.in-Ok-true.field-0-test at.gone.plain) c.in-Ok.entry entry in
     let long : length c.lines.rows.items ≡ length c.args.rows.now.items + length at.read = ap (λ (t : List TheRow). length t) at.behind ∙ length-append c.args.rows.now.items at.read in
     let here = c.len.ensures in
@@ -57,5 +56,5 @@ lines-preserved c =
     let at = c.lines.invariant.0 in
     let row = c.in-Ok-read_row.row in
     let items : c.push-in-Ok-read_row.new.self.items ≡ c.lines.rows.items ++ (row ∷ []) = search rules in
-    let more = row_more c.args.names.now (records_of c.args.text.now) at.read c.lines.inputs.items c.lines.records c.next.new.self at.gone (c.in-Ok-true.ensures.found c.in-Ok-true.field-0-test at.gone.plain) row c.in-Ok-read_row.ensures.row in
+    let more = row_more c.args.names.now (records_of c.args.text.now) at.read c.lines.inputs.items c.lines.records c.next.new.self at.gone (c.in-Ok-true.ensures.found c.in-Ok-true.field-0-test at.gone.plain) row (rw c.fields-fields.ensures at c.in-Ok-read_row.ensures.row) in
     (record { read = at.read ++ row ∷ []; behind = items ∙ ap (λ (t : List TheRow). t ++ row ∷ []) at.behind ∙ append_assoc c.args.rows.now.items at.read (row ∷ []); gone = more }, c.in-Ok-read_row.ensures.within)

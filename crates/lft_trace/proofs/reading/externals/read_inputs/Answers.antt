@@ -1,6 +1,6 @@
 use Rattle.std.proofs.Common.{◌∙◌, ℕ, List, [], Vec, IfSome, subst, sym, arith}
 use Rattle.std.{proofs.lemmas.{Bool.eqb-true, Option.IfSome_then}, specs.declared.alloc.Global.Global}
-use Rattle.lft_trace.specs.{ExternalTables.IsEntry, inner.{Parts.HoldsItems, TraceLines.{AreNextLines, text_left}}}
+use Rattle.lft_trace.specs.{ExternalTables.IsEntry, inner.{Parts.HoldsItems, TableLines.{AreNextLines, text_left}}}
 use Rattle.lft_trace.proofs.{ExternalFacts.kept_none, ExternalReading.{all_left, read_all, read_more}, Together.at_some}
 use Rattle.lft_trace.proofs.reading.externals.read_inputs.Goals as goal
 

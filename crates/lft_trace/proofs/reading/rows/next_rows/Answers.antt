@@ -1,8 +1,7 @@
 use Rattle.std.proofs.Common.{rules, ◌≡◌, ◌∙◌, ◌≤◌, ◌++◌, ◌∷◌, [], List, length, append_assoc, append-nil, length-append, refl, sym, ap, subst, arith}
 use Rattle.std.{specs.List.AllZip, proofs.lemmas.Slice.Zip.all_zipped_more}
-use Rattle.csv.specs.Records.{fields_of}
 use Rattle.lft_ir.specs.declared.steps.row.Row.{Row}
-use Rattle.lft_trace.{specs.{inner.Records.records_left, Traces.{IsRow, header}}, proofs.{TableFacts.Texts, TraceFacts.table_fits}}
+use Rattle.lft_trace.{specs.{inner.Records.{fields_at_hand, records_left}, Traces.{IsRow, header}}, proofs.{TableFacts.Texts, TraceFacts.table_fits}}
 use Rattle.lft_trace.proofs.reading.rows.next_rows.Goals as goal
 
 pub loop-place-init : goal.loop-place-init
@@ -39,12 +38,12 @@ loop-place-preserved g c =
     let next = c.loop-place.invariant.next in
     let rows = c.loop-place.rows.items in
     let row = c.in-Ok.row in
-    let fields = fields_of c.next.new.self.fields in
+    let fields = fields_at_hand c.next.new.self in
     let items : c.push.new.self.items ≡ rows ++ (row ∷ []) = search rules in
     record {
       next = record {
         first = next.first ++ (fields ∷ []);
-        each = subst (λ (t : List Row). AllZip (IsRow c.args.names.now) (next.first ++ (fields ∷ [])) t) (sym items) (all_zipped_more (IsRow c.args.names.now) next.first rows fields row next.each c.in-Ok.ensures.row);
+        each = subst (λ (t : List Row). AllZip (IsRow c.args.names.now) (next.first ++ (fields ∷ [])) t) (sym items) (all_zipped_more (IsRow c.args.names.now) next.first rows fields row next.each (rw c.fields.ensures at c.in-Ok.ensures.row));
         left = λ p.
             let now = next.left p in
             let found = c.in-Ok-true.ensures.found c.in-Ok-true.field-0-test now.0 in

@@ -1,7 +1,6 @@
 use Rattle.std.proofs.Common.{rules, ◌≡◌, ◌∙◌, ◌++◌, ◌∷◌, [], append_assoc, append-nil, sym, ap, subst}
 use Rattle.std.{specs.List.AllZip, proofs.lemmas.Slice.Zip.all_zipped_more}
-use Rattle.csv.specs.Records.{fields_of}
-use Rattle.lft_trace.{specs.inner.Records.{in_memory, IsNext, records_left}, proofs.TableFacts.{Texts, fewer}}
+use Rattle.lft_trace.{specs.inner.Records.{fields_at_hand, in_memory, IsNext, records_left}, proofs.TableFacts.{Texts, fewer}}
 use Rattle.lft_trace.proofs.reading.workers.read_part.Goals as goal
 
 pub lines-init : goal.lines-init
@@ -28,10 +27,10 @@ pub lines-preserved : goal.lines-preserved
 lines-preserved g c =
     let next : IsNext in_memory c.lines.records c.next.new.self = c.in-Ok-true.ensures.found c.in-Ok-true.field-0-test c.lines.invariant.plain in
     let read = c.lines.invariant.read in
-    let fields = fields_of c.next.new.self.fields in
+    let fields = fields_at_hand c.next.new.self in
     let items : c.push.new.self.items ≡ c.lines.items.items ++ (c.in-Some.item ∷ []) = search rules in
     record {
       plain = next.plain;
-      read = rw items (read.0 ++ (fields ∷ []), read.1 ∙ ap (λ (t : Texts). read.0 ++ t) next.left ∙ sym (append_assoc read.0 (fields ∷ []) (records_left in_memory c.next.new.self)), all_zipped_more (g.K.TableReader.tells c.args.table.now) read.0 c.lines.items.items fields c.in-Some.item read.2 c.in-Some.ensures.item);
+      read = rw items (read.0 ++ (fields ∷ []), read.1 ∙ ap (λ (t : Texts). read.0 ++ t) next.left ∙ sym (append_assoc read.0 (fields ∷ []) (records_left in_memory c.next.new.self)), all_zipped_more (g.K.TableReader.tells c.args.table.now) read.0 c.lines.items.items fields c.in-Some.item read.2 (rw c.fields.ensures at c.in-Some.ensures.item));
       guess = c.in-Some.ensures.guess;
     }

@@ -1,10 +1,10 @@
 use Rattle.std.proofs.Common.{◌≡◌, ◌≢◌, ◌∙◌, ◌<◌, ℕ, List, Some, Vec, Bool, true, false, ap, length, subst, sym}
 use Rattle.std.specs.{declared.alloc.Global.Global, Io.KnownBytes.{IsAtEnd, Keeps, prepend_known}}
 use Rattle.std.proofs.lemmas.{Bool.{eqb-false, false≢true}, Option.IfSome_then}
-use Rattle.lft_trace.specs.inner.{Parts.IsCut, TraceLines.text_left}
+use Rattle.lft_trace.specs.inner.{Parts.IsCut, TableLines.text_left}
 use Rattle.lft_trace.proofs.{Lining.{next_lines, split}, Together.at_some}
-use Rattle.lft_trace.proofs.reading.trace_lines.TraceLines.next.Goals.{else-more-via-then-more+else-is_empty, else-more-via-else-more}
-use Rattle.lft_trace.proofs.reading.trace_lines.TraceLines.next.Goals as goal
+use Rattle.lft_trace.proofs.reading.table_lines.TableLines.next.Goals.{else-more-via-then-more+else-is_empty, else-more-via-else-more}
+use Rattle.lft_trace.proofs.reading.table_lines.TableLines.next.Goals as goal
 
 pub returns : goal.returns
 returns g c =

@@ -1,7 +1,7 @@
 use Rattle.std.proofs.Common.{◌≡◌, ◌∷◌, ℕ, List, [], IfSome, Vec, refl, subst}
 use Rattle.std.{specs.{declared.alloc.Global.Global, Io.KnownBytes.prepend_known}, proofs.lemmas.Option.IfSome_then}
-use Rattle.lft_trace.{specs.{Parts.HasNoQuote, Records.records_of, inner.TraceLines.AreNextLines}, proofs.{Lining.none_read, Together.{at_some, under_line}}}
-use Rattle.lft_trace.proofs.reading.trace_lines.TraceLines.below.Goals as goal
+use Rattle.lft_trace.{specs.{Parts.HasNoQuote, Records.records_of, inner.TableLines.AreNextLines}, proofs.{Lining.none_read, Together.{at_some, under_line}}}
+use Rattle.lft_trace.proofs.reading.table_lines.TableLines.below.Goals as goal
 
 pub returns : goal.returns
 returns g c =

@@ -1,7 +1,7 @@
 use Rattle.std.proofs.Common.{◌≡◌, ◌-◌, length}
 use Rattle.std.specs.Io.KnownBytes.{Keeps}
-use Rattle.lft_trace.specs.inner.TraceLines.{text_left}
-use Rattle.lft_trace.proofs.reading.trace_lines.TraceLines.fill.Given as goal
+use Rattle.lft_trace.specs.inner.TableLines.{text_left}
+use Rattle.lft_trace.proofs.reading.table_lines.TableLines.fill.Given as goal
 
 abbrev pub invariant-loop-chunk : goal.invariant-loop-chunk
 invariant-loop-chunk g l = record { kept : Keeps (text_left g.R.Read.remaining l.fn.self) (text_left g.R.Read.remaining l.self); chunk : length l.chunk ≡ 16384 }

@@ -1,23 +1,23 @@
 -- Inside: the text that a reader gives, some whole lines at a time.
 use Rattle.std.specs.Prelude.{◌≡◌, ◌∷◌, ℕ, List, [], Option, Some, length}
 use Rattle.std.specs.Io.KnownBytes.{prepend_known}
-use Rattle.lft_trace.specs.{Records.records_of, Traces.header, inner.Parts.IsCut, declared.reading.trace_lines.TraceLines.TraceLines}
+use Rattle.lft_trace.specs.{Records.records_of, Traces.header, inner.Parts.IsCut, declared.reading.table_lines.TableLines.TableLines}
 
 -- what is still to be given, where it is known
-abbrev pub text_left : {R : Type 0} → (R → Option (List ℕ)) → TraceLines R → Option (List ℕ)
+abbrev pub text_left : {R : Type 0} → (R → Option (List ℕ)) → TableLines R → Option (List ℕ)
 text_left remaining source = prepend_known source.read.items (remaining source.reader)
 
 -- the text begins with these lines, and what stands behind them is still to be given; they are none only where the text is empty
-pub record AreNextLines {R : Type 0} (remaining : R → Option (List ℕ)) (source : TraceLines R) (lines text : List ℕ) : Type 0 where
+pub record AreNextLines {R : Type 0} (remaining : R → Option (List ℕ)) (source : TableLines R) (lines text : List ℕ) : Type 0 where
   pub behind : List ℕ
   pub cut : IsCut text lines behind
   pub left : text_left remaining source ≡ Some behind
   pub none : length lines ≡ 0 → text ≡ []
 
 -- the text's first record is this one, and those of what is still to be given are the others
-abbrev pub AreLinesBelow : {R : Type 0} → (R → Option (List ℕ)) → List (List ℕ) → TraceLines R → List ℕ → Type 0
+abbrev pub AreLinesBelow : {R : Type 0} → (R → Option (List ℕ)) → List (List ℕ) → TableLines R → List ℕ → Type 0
 AreLinesBelow remaining first source text = (body : List ℕ) × (text_left remaining source ≡ Some body) × (records_of text ≡ first ∷ records_of body)
 
 -- the same of the header of a trace table
-abbrev pub AreLinesBelowHeader : {R : Type 0} → (R → Option (List ℕ)) → TraceLines R → List ℕ → Type 0
+abbrev pub AreLinesBelowHeader : {R : Type 0} → (R → Option (List ℕ)) → TableLines R → List ℕ → Type 0
 AreLinesBelowHeader remaining source text = AreLinesBelow remaining header source text

@@ -2,7 +2,7 @@
 
 ghost use Rattle.std.specs.Prelude.{◌≡◌, IfOk, IfSome, false};
 ghost use Rattle.std.specs.Io.KnownBytes.{IsAtEnd, Keeps};
-ghost use Rattle.lft_trace.specs.inner.TraceLines.{AreNextLines, AreLinesBelow, AreLinesBelowHeader, text_left};
+ghost use Rattle.lft_trace.specs.inner.TableLines.{AreNextLines, AreLinesBelow, AreLinesBelowHeader, text_left};
 
 use crate::reaction_names::ReactionNames;
 use crate::reading::batch::first_lines;
@@ -17,28 +17,28 @@ const CHUNK: usize = 1 << 14;
 
 /// The text that a reader gives, and what was read of it and isn't given yet.
 #[derive(Drop)]
-pub struct TraceLines<R: Read + Drop> {
+pub struct TableLines<R: Read + Drop> {
     reader: R,
     read: Vec<u8>,
 }
 
-impl<R: Read + Drop> TraceLines<R> {
+impl<R: Read + Drop> TableLines<R> {
     /// The text below the header of the trace table that a reader gives. None where its first line is no such
     /// header, or memory is refused.
-    pub fn new(alloc: Global, reader: R) -> Result<Option<TraceLines<R>>, ReadFailed>
+    pub fn new(alloc: Global, reader: R) -> Result<Option<TableLines<R>>, ReadFailed>
         ensures { IfOk result (λ found. IfSome found (λ lines. IfSome (R.remaining reader) (AreLinesBelowHeader R.remaining lines))) }
     {
-        TraceLines::below::<ReactionNames>(alloc, reader)
+        TableLines::below::<ReactionNames>(alloc, reader)
     }
 
     /// The same of any kind of table.
     pub(crate) fn below<K: TableReader>(
         alloc: Global,
         reader: R,
-    ) -> Result<Option<TraceLines<R>>, ReadFailed>
+    ) -> Result<Option<TableLines<R>>, ReadFailed>
         ensures { IfOk result (λ found. IfSome found (λ lines. IfSome (R.remaining reader) (AreLinesBelow R.remaining K.header lines))) }
     {
-        let mut lines = TraceLines {
+        let mut lines = TableLines {
             reader,
             read: Vec::new(alloc),
         };
