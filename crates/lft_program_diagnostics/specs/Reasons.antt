@@ -3,16 +3,13 @@ use Rattle.std.specs.Prelude.{◌≡◌, ℕ, ◌⊎◌, List, ◌++◌, Option,
 use Rattle.lft_tree.specs.{View.{file_view, reactor_view}, declared.tree.{Item.Item, Reactor.Reactor, TokenRange.TokenRange}}
 use Rattle.lft_syntax.specs.{declared.token.Token.Token, Lexes.Lexes, Placed.FileStands, Grammar.Spells, View.lexemes}
 use Rattle.lft_resolve.specs.Causes.{IsFirst, causes, number_of}
-use Rattle.lft_text_diagnostics.specs.{Pages.SaysSpot, declared.{pages.Page.Page, spots.Span.Span}}
+use Rattle.lft_text_diagnostics.specs.{Diagnostics.SaysOf, Pages.SaysSpot, declared.{pages.Page.Page, spots.Span.Span}}
 use Rattle.lft_validate.specs.{Witnesses.{Shows, fault_shown}, declared.witness.Witness.Witness}
 use Rattle.lft_program_diagnostics.specs.{Sentences.{fault_told, said, words_in}, declared.sentence.Sentence.Sentence, Spots.{reactors_among, witness_spot}}
 
--- the words begin with where the bytes stand, and then with this sentence
-pub record BeginsAt (t : List ℕ) (files : List Page) (spot : Option Span) (sentence words : List ℕ) : Type 0 where
-  pub start : List ℕ
-  pub rest : List ℕ
-  pub whole : words ≡ start ++ sentence ++ codes ".\n" ++ rest
-  pub place : SaysSpot t files spot start
+-- the words say this where the bytes stand
+abbrev pub BeginsAt : List ℕ → List Page → Option Span → List ℕ → List ℕ → Type 0
+BeginsAt t files spot sentence words = (place : List ℕ) × SaysSpot t files spot place × SaysOf place (sentence ++ codes ".") words
 
 -- a witness of these reactors shows the cause, and stands at these bytes
 pub record HasWitnessAt (tokens : List Token) (reactors : List Reactor) (cause : ℕ) (spot : Option Span) : Type 0 where

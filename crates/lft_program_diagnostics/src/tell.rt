@@ -19,7 +19,7 @@ use lft_program::Refusal;
 use lft_syntax::{Token, Tokens};
 use lft_tag::NoMemory;
 use lft_text_diagnostics::words::push_way;
-use lft_text_diagnostics::{Page, Span, place_words, push_marked};
+use lft_text_diagnostics::{Diagnostic, Page, Span, place_words, push_marked};
 use lft_tree::{Ast, Reactor};
 use lft_validate::{Finding, Witness};
 use std::alloc::Global;
@@ -124,54 +124,21 @@ fn reason_of(
     }
 }
 
-/// Where it is, and the sentence.
-fn head_of(
-    alloc: Global,
-    text: &[u8],
-    files: &[Page],
-    reason: &WhyRefused,
-) -> Result<String, NoMemory>
+/// What is told of a reason.
+fn tell(alloc: Global, text: &[u8], files: &[Page], reason: &WhyRefused) -> Result<String, NoMemory>
     requires { ArePages text.now files.now }
     ensures { IfOk result (λ words. BeginsAt text.now files.now reason.now.at (reason_sentence reason.now) (string_bytes words)) }
 {
-    let mut out = place_words(alloc, text, files, reason.at)?;
-    push_said(&mut out, reason.sentence.words(), &reason.names)?;
-    out.push_str(".\n")?;
-    Ok(out)
-}
-
-/// What is behind the sentence: both lines, and what to write.
-fn rest_of(
-    alloc: Global,
-    text: &[u8],
-    files: &[Page],
-    reason: &WhyRefused,
-) -> Result<String, NoMemory>
-    requires { ArePages text.now files.now }
-{
-    let mut out = String::new(alloc);
+    let mut told = Diagnostic::new(alloc);
+    told.place = place_words(alloc, text, files, reason.at)?;
+    push_said(&mut told.sentence, reason.sentence.words(), &reason.names)?;
+    told.sentence.push_str(".")?;
     // The earlier place comes first, as in the text.
-    push_marked(alloc, &mut out, text, files, reason.before)?;
-    push_marked(alloc, &mut out, text, files, reason.at)?;
-    out.push_str(reason.ways.as_str())?;
-    push_way(&mut out, reason.sentence.way())?;
-    Ok(out)
-}
-
-/// The reason in lines.
-fn lines(
-    alloc: Global,
-    text: &[u8],
-    files: &[Page],
-    reason: &WhyRefused,
-) -> Result<String, NoMemory>
-    requires { ArePages text.now files.now }
-    ensures { IfOk result (λ words. BeginsAt text.now files.now reason.now.at (reason_sentence reason.now) (string_bytes words)) }
-{
-    let rest = rest_of(alloc, text, files, reason)?;
-    let mut out = head_of(alloc, text, files, reason)?;
-    out.push_str(rest.as_str())?;
-    Ok(out)
+    push_marked(alloc, &mut told.lines, text, files, reason.before)?;
+    push_marked(alloc, &mut told.lines, text, files, reason.at)?;
+    told.help.push_str(reason.ways.as_str())?;
+    push_way(&mut told.help, reason.sentence.way())?;
+    told.print()
 }
 
 /// Why a program that has this tree is refused, in lines that end with a line feed: the place, what is wrong
@@ -191,7 +158,7 @@ pub fn tell_refusal_in(
     ensures memory { refusal.now ≡ refusals.NoMemory → IsErr result }
 {
     let reason = reason_of(alloc, text, tokens, ast, refusal)?;
-    lines(alloc, text, files, &reason)
+    tell(alloc, text, files, &reason)
 }
 
 /// The same of a program whose text stands alone.

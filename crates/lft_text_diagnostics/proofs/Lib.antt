@@ -1,2 +1,3 @@
 pub mod Helping
+pub mod Printing
 pub mod TablesLemmas

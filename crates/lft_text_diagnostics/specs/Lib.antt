@@ -1,4 +1,5 @@
 pub mod Candidates
+pub mod Diagnostics
 pub mod Pages
 pub mod Places
 pub mod Quotes

@@ -16,6 +16,10 @@ letter_shown c = if is_format c then escape_unicode c else if is_control c && no
 abbrev pub quoted : List ℕ → List ℕ
 quoted bytes = flat_map (λ c. flat_map encode_utf8 (letter_shown c)) (chars (utf8_lossy bytes))
 
+-- How bytes of a token are named: as they are quoted, or by `this`, where there are more than 40.
+abbrev pub spelled_bytes : List ℕ → List ℕ
+spelled_bytes bytes = if nat_lt 40 (length bytes) then codes "this" else codes "`" ++ quoted bytes ++ codes "`"
+
 -- What stands below a byte where a mark follows: a tab below a tab, and a blank below the first byte of another letter.
 abbrev pub blank_below : ℕ → List ℕ
 blank_below b = if b == 9 then 9 ∷ [] else if begins_letter b then 32 ∷ [] else []
@@ -40,13 +44,15 @@ blank_margin line = codes "\n     " ++ blanks (length (decimal line))
 abbrev pub trimmed : List ℕ → List ℕ
 trimmed bytes = take (length bytes - suffix_len is_ascii_whitespace bytes) bytes
 
+-- A line of that number, and below it a mark at the bytes that follow those before.
+abbrev pub quote : ℕ → List ℕ → List ℕ → List ℕ → List ℕ
+quote number line before marked = margin number ++ quoted line ++ (blank_margin number ++ blanks_below (quoted before) ++ marks (quoted marked)) ++ codes "\n"
+
 -- The line of a place, and below it a mark at the bytes from start up to end that are in the line; nothing where the line has more than 200 bytes.
 abbrev pub marked_line : List ℕ → LineColumn → ℕ → ℕ → List ℕ
 marked_line t place start end =
     if nat_lt 200 (place.end - place.start) then []
-    else margin place.line ++ quoted (trimmed (slice_range t place.start place.end))
-    ++ (blank_margin place.line ++ blanks_below (quoted (slice_range t place.start start)) ++ marks (quoted (slice_range t start (min end place.end))))
-    ++ codes "\n"
+    else quote place.line (trimmed (slice_range t place.start place.end)) (slice_range t place.start start) (slice_range t start (min end place.end))
 
 -- `Program, line L, column C: `
 abbrev pub program_place_words : LineColumn → List ℕ

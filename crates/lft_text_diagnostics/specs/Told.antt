@@ -1,8 +1,8 @@
 -- What is told of a program's text that has no tree.
-use Rattle.std.specs.Prelude.{◌≡◌, ℕ, ◌⊎◌, ◌++◌, List, codes, decimal, if◌then◌else◌, length, nat_lt, slice_range}
+use Rattle.std.specs.Prelude.{◌≡◌, ℕ, ◌⊎◌, ◌++◌, List, codes, decimal, length, slice_range}
 use Rattle.lft_syntax.specs.declared.{fault.LexFault.LexFault, token.TokenKind.TokenKind}
-use Rattle.lft_text_diagnostics.specs.{Candidates.{CanStandAt, IsWholeHelp}, Places.IsPlace, Quotes.{marked_line, program_place_words, quoted}}
-use Rattle.lft_text_diagnostics.specs.Refusals.{IsLong, IsRefusal}
+use Rattle.lft_text_diagnostics.specs.{Candidates.{CanStandAt, IsWholeHelp}, Diagnostics.told_words, Places.IsPlace}
+use Rattle.lft_text_diagnostics.specs.{Quotes.{marked_line, program_place_words, spelled_bytes}, Refusals.{IsLong, IsRefusal}}
 use Rattle.lft_text_diagnostics.specs.declared.place.LineColumn.{LineColumn}
 use Rattle.lft_text_diagnostics.specs.declared.refusal.{TextRefusal.TextRefusal, TextCause.{TextCause, TheVariants.{Lex, Token, End}}}
 use Rattle.lft_syntax.specs.declared.fault.LexFault.TheVariants as fault
@@ -18,31 +18,27 @@ fault_words (fault.NumberTooLarge start) = codes "this number is too large."
 fault_words fault.TooLong = codes "the text is too long."
 fault_words fault.NoMemory = codes "memory was refused."
 
--- How bytes of a token are named: as they are quoted, or by `this`, where there are more than 40.
-abbrev pub spelled_bytes : List ℕ → List ℕ
-spelled_bytes bytes = if nat_lt 40 (length bytes) then codes "this" else codes "`" ++ quoted bytes ++ codes "`"
-
 -- How a token is named: by its bytes, but for code and strings.
 abbrev pub token_words : TokenKind → List ℕ → List ℕ
 token_words kind.Code bytes = codes "this code"
 token_words kind.Text bytes = codes "this string"
 token_words _ bytes = spelled_bytes bytes
 
+-- What is said of a token that can't stand where it is.
+abbrev pub standing_words : TokenKind → List ℕ → List ℕ
+standing_words k bytes = token_words k bytes ++ codes " can't stand here."
+
 -- What is wrong at some bytes.
 abbrev pub why_words : TextCause → List ℕ → List ℕ
 why_words (Lex e) bytes = fault_words e
-why_words (Token number k) bytes = token_words k bytes ++ codes " can't stand here."
+why_words (Token number k) bytes = standing_words k bytes
 why_words (End number) bytes = codes "the text ends too soon."
-
--- What is wrong where a text is refused, in a line.
-abbrev pub refusal_sentence : List ℕ → TextRefusal → List ℕ
-refusal_sentence t r = why_words r.why (slice_range t r.start r.end) ++ codes "\n"
 
 -- The words are the line and the column of the refusal, what is wrong there, the line with a mark, and the help.
 pub record SaysAt (t : List ℕ) (r : TextRefusal) (help words : List ℕ) : Type 0 where
   pub place : LineColumn
   pub is_place : IsPlace t r.start place
-  pub whole : words ≡ program_place_words place ++ refusal_sentence t r ++ marked_line t place r.start r.end ++ help
+  pub whole : words ≡ told_words (program_place_words place) (why_words r.why (slice_range t r.start r.end)) (marked_line t place r.start r.end) help
 
 -- The words begin with the place of the refusal and what is wrong there. What they list behind the marked line as what could stand there can.
 abbrev pub IsToldAt : List ℕ → TextRefusal → List ℕ → Type 0

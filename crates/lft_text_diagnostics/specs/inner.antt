@@ -1,5 +1,6 @@
 pub mod Candidates
 pub mod Codes
+pub mod Diagnostics
 pub mod Pages
 pub mod Refusals
 pub mod Tables

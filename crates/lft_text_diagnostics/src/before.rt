@@ -1,9 +1,9 @@
 //! What to write in place of a token, by the tokens before it.
 
-ghost use Rattle.std.specs.Prelude.{◌≡◌, true, IfOk};
-ghost use Rattle.lft_text_diagnostics.specs.inner.Trying.{AreTokens, CanStandBehind};
+ghost use Rattle.lft_text_diagnostics.specs.inner.Trying.{AreTokens};
 
-use crate::thing::CoreTrial;
+use crate::candidates::Trial;
+use crate::thing::Thing;
 use crate::ways::{BROADCAST, FEDERATION, GENERICS, SPACING, TYPE, VALUE, of_token, of_word};
 use lft_syntax::{Token, TokenKind, Tokens, can_stand};
 use lft_tag::NoMemory;
@@ -19,12 +19,27 @@ pub(crate) struct Before<'a> {
     pub count: usize,
 }
 
-impl<'a> Before<'a> {
-    /// Whether the thing can stand behind them.
-    pub(crate) fn can_stand(&self, thing: CoreTrial) -> Result<bool, NoMemory>
-        requires lexed { AreTokens self.now }
-        ensures { IfOk result (λ can. can ≡ true → CanStandBehind self.now thing) }
-    {
+/// What a core text has alone where nothing is told of what could stand, or not at all.
+fn is_of_whole(thing: Thing) -> bool {
+    matches!(
+        thing,
+        Thing::Import | Thing::From | Thing::Text | Thing::Symbol(b'[') | Thing::Symbol(b']')
+    )
+}
+
+impl Trial for Before<'_> {
+    ghost use Rattle.std.specs.Prelude.{◌≤◌, length};
+    ghost use Rattle.lft_syntax.specs.Lexes.{Lexes};
+    ghost use Rattle.lft_text_diagnostics.specs.Candidates.{CanStand};
+
+    ghost is_sound = { λ before. Lexes before.text.now before.tokens.now × (before.count ≤ length before.tokens.now) };
+
+    ghost stands = { λ before thing. CanStand before.text.now before.count thing };
+
+    fn can_stand(&self, thing: Thing) -> Result<bool, NoMemory> {
+        if is_of_whole(thing) {
+            return Ok(false);
+        }
         let can = can_stand(
             self.alloc,
             self.text,
@@ -34,7 +49,9 @@ impl<'a> Before<'a> {
         )?;
         Ok(can)
     }
+}
 
+impl<'a> Before<'a> {
     /// The token with that number. The one that is refused is number 0.
     pub(crate) fn token(&self, number: usize) -> Option<Token> {
         let place = self.count.checked_sub(number)?;
@@ -103,10 +120,10 @@ impl<'a> Before<'a> {
         if sign == b'@' {
             return Ok(None);
         }
-        if self.is(1, ":") && self.can_stand(CoreTrial::Code)? {
+        if self.is(1, ":") && self.can_stand(Thing::Code)? {
             return Ok(Some(TYPE));
         }
-        if !self.can_stand(CoreTrial::Member)? {
+        if !self.can_stand(Thing::Member)? {
             return Ok(None);
         }
         match sign {
@@ -130,7 +147,7 @@ impl<'a> Before<'a> {
             tokens: self.tokens,
             count,
         };
-        shorter.can_stand(CoreTrial::Member)
+        shorter.can_stand(Thing::Member)
     }
 
     /// What to write in place of the token that is refused, by those just before it.

@@ -1,91 +1,157 @@
-//! What could stand in place of a token, found by trying.
+//! What could stand in place of a token, found by trying, and listed.
 
-ghost use Rattle.std.specs.Prelude.{IfOk, OnOk};
+ghost use Rattle.std.specs.Prelude.{◌≡◌, ◌++◌, IfOk, OnOk, flat_map, string_bytes};
 ghost use Rattle.std.specs.List.{All};
-ghost use Rattle.lft_text_diagnostics.specs.inner.Trying.{AreTokens, CanStandBehind};
+ghost use Rattle.lft_text_diagnostics.specs.{Candidates.{could_words, other_thing_words}, inner.Candidates.few};
 
-use crate::before::Before;
-use crate::thing::CoreTrial;
+use crate::thing::Thing;
 use lft_tag::NoMemory;
+use std::alloc::Global;
+
+/// A place in a text at which things are tried.
+pub trait Trial {
+    ghost use Rattle.std.specs.Prelude.{◌≡◌, IfOk, true};
+    ghost use Rattle.lft_text_diagnostics.specs.declared.thing.Thing.{Thing};
+
+    ghost is_sound: { Self → Type 0 };
+
+    ghost stands: { Self → Thing → Type 0 };
+
+    /// Whether the thing can stand there.
+    fn can_stand(&self, thing: Thing) -> Result<bool, NoMemory>
+        requires { is_sound self.now }
+        ensures { IfOk result (λ can. can ≡ true → stands self.now thing) };
+}
 
 /// What is also a name elsewhere, and so isn't told where a name can stand.
-const WORDS: [CoreTrial; 2] = [CoreTrial::Unit, CoreTrial::TypeTime];
+const WORDS: [Thing; 4] = [Thing::Unit, Thing::TypeTime, Thing::Import, Thing::From];
 
-const OTHERS: [CoreTrial; 17] = [
-    CoreTrial::Number,
-    CoreTrial::Code,
-    CoreTrial::OpenParenthesis,
-    CoreTrial::CloseParenthesis,
-    CoreTrial::OpenBrace,
-    CoreTrial::CloseBrace,
-    CoreTrial::Comma,
-    CoreTrial::Colon,
-    CoreTrial::Equals,
-    CoreTrial::Point,
-    CoreTrial::Arrow,
-    CoreTrial::Member,
-    CoreTrial::Reactor,
-    CoreTrial::Action,
-    CoreTrial::Startup,
-    CoreTrial::New,
-    CoreTrial::After,
+const OTHERS: [Thing; 14] = [
+    Thing::Number,
+    Thing::Code,
+    Thing::Text,
+    Thing::Symbol(b'('),
+    Thing::Symbol(b')'),
+    Thing::Symbol(b'['),
+    Thing::Symbol(b']'),
+    Thing::Symbol(b'{'),
+    Thing::Symbol(b'}'),
+    Thing::Symbol(b','),
+    Thing::Symbol(b':'),
+    Thing::Symbol(b'='),
+    Thing::Symbol(b'.'),
+    Thing::Arrow,
 ];
 
-/// Puts the thing behind what was found, if it can stand behind the tokens.
-fn try_thing(
-    before: &Before<'_>,
-    found: &mut Vec<CoreTrial>,
-    thing: CoreTrial,
-) -> Result<(), NoMemory>
-    requires lexed { AreTokens before.now }
-    requires found { All (CanStandBehind before.now) found.old.items }
-    ensures { OnOk result (All (CanStandBehind before.now) found.new.items) }
+/// Words that begin something. Where each of them can stand any word can, and it is told as a name.
+const KEYS: [Thing; 6] = [
+    Thing::Member,
+    Thing::Reactor,
+    Thing::Action,
+    Thing::Startup,
+    Thing::New,
+    Thing::After,
+];
+
+/// Puts the thing behind what was found, if it can stand there.
+fn try_thing<T: Trial>(trial: &T, found: &mut Vec<Thing>, thing: Thing) -> Result<(), NoMemory>
+    requires sound { T.is_sound trial.now }
+    requires found { All (T.stands trial.now) found.old.items }
+    ensures { OnOk result (All (T.stands trial.now) found.new.items) }
 {
-    if !before.can_stand(thing)? {
-        return Ok(());
+    if trial.can_stand(thing)? {
+        found.push(thing)?;
     }
-    found.push(thing)?;
     Ok(())
 }
 
-/// Puts those of the things that can stand behind the tokens behind what was found.
-fn find(
-    before: &Before<'_>,
-    found: &mut Vec<CoreTrial>,
-    things: &[CoreTrial],
-) -> Result<(), NoMemory>
-    requires lexed { AreTokens before.now }
-    requires found { All (CanStandBehind before.now) found.old.items }
-    ensures { OnOk result (All (CanStandBehind before.now) found.new.items) }
+/// Puts those of the things that can stand there behind what was found.
+fn find<T: Trial>(trial: &T, found: &mut Vec<Thing>, things: &[Thing]) -> Result<(), NoMemory>
+    requires sound { T.is_sound trial.now }
+    requires found { All (T.stands trial.now) found.old.items }
+    ensures { OnOk result (All (T.stands trial.now) found.new.items) }
 {
     for at in 0..things.len() {
-        try_thing(before, found, things[at])?;
+        try_thing(trial, found, things[at])?;
     }
     Ok(())
 }
 
-/// A name, where one can stand behind the tokens; else the words that can.
-fn name_or_words(before: &Before<'_>) -> Result<Vec<CoreTrial>, NoMemory>
-    requires lexed { AreTokens before.now }
-    ensures { IfOk result (λ found. All (CanStandBehind before.now) found.items) }
+/// A name, where one can stand there; else the words that can.
+fn name_or_words<T: Trial>(alloc: Global, trial: &T) -> Result<Vec<Thing>, NoMemory>
+    requires { T.is_sound trial.now }
+    ensures { IfOk result (λ found. All (T.stands trial.now) found.items) }
 {
-    let mut found = Vec::new(before.alloc);
-    if before.can_stand(CoreTrial::Name)? {
-        found.push(CoreTrial::Name)?;
-        return Ok(found);
+    let mut found = Vec::new(alloc);
+    try_thing(trial, &mut found, Thing::Name)?;
+    if found.is_empty() {
+        find(trial, &mut found, &WORDS)?;
     }
-    find(before, &mut found, &WORDS)?;
     Ok(found)
 }
 
-/// What can stand behind the tokens.
-pub(crate) fn candidates(before: &Before<'_>) -> Result<Vec<CoreTrial>, NoMemory>
-    requires lexed { AreTokens before.now }
-    ensures { IfOk result (λ found. All (CanStandBehind before.now) found.items) }
+/// The words that can stand there, unless any word can.
+fn keys<T: Trial>(alloc: Global, trial: &T) -> Result<Vec<Thing>, NoMemory>
+    requires { T.is_sound trial.now }
+    ensures { IfOk result (λ found. All (T.stands trial.now) found.items) }
 {
-    // The parser is asked, some twenty times, so the grammar stands once. That is paid only where a text is
-    // refused.
-    let mut found = name_or_words(before)?;
-    find(before, &mut found, &OTHERS)?;
+    let mut found = Vec::new(alloc);
+    find(trial, &mut found, &KEYS)?;
+    if found.len() == KEYS.len() {
+        found.clear();
+    }
     Ok(found)
+}
+
+/// What can stand there: a name, or the words that can, and other things. The parser is asked of each of some twenty
+/// things, so the grammar stands once.
+pub fn candidates<T: Trial>(alloc: Global, trial: &T) -> Result<Vec<Thing>, NoMemory>
+    requires { T.is_sound trial.now }
+    ensures { IfOk result (λ found. All (T.stands trial.now) found.items) }
+{
+    let mut found = name_or_words(alloc, trial)?;
+    find(trial, &mut found, &OTHERS)?;
+    let keys = keys(alloc, trial)?;
+    found.extend_from_slice(&keys)?;
+    Ok(found)
+}
+
+/// Puts one more thing behind the text that could stand there.
+fn push_other(alloc: Global, out: &mut String, thing: Thing) -> Result<(), NoMemory>
+    ensures { OnOk result (string_bytes out.new ≡ string_bytes out.old ++ other_thing_words thing) }
+{
+    out.push_str(", ")?;
+    thing.push_words(alloc, out)
+}
+
+/// Puts further things behind the text that could stand there.
+fn push_others(alloc: Global, out: &mut String, things: &[Thing]) -> Result<(), NoMemory>
+    ensures { OnOk result (string_bytes out.new ≡ string_bytes out.old ++ flat_map other_thing_words things.now) }
+{
+    for at in 0..things.len() {
+        push_other(alloc, out, things[at])?;
+    }
+    Ok(())
+}
+
+/// Puts what could stand there behind the text, where that is no more than so many things.
+pub fn push_candidates(
+    alloc: Global,
+    out: &mut String,
+    found: &[Thing],
+    most: usize,
+) -> Result<(), NoMemory>
+    ensures { OnOk result (string_bytes out.new ≡ string_bytes out.old ++ could_words (few most found.now)) }
+{
+    if found.len() > most {
+        return Ok(());
+    }
+    let Some((first, others)) = found.split_first() else {
+        return Ok(());
+    };
+    out.push_str("  There could stand: ")?;
+    first.push_words(alloc, out)?;
+    push_others(alloc, out, others)?;
+    out.push_str(".\n")?;
+    Ok(())
 }

@@ -3,14 +3,15 @@
 //! stand there, and what to write in place of what is left out of the language.
 //!
 //! - `tables`: why a table is refused.
-//! - `words`, `headers`: for who tells of other texts.
+//! - `words`, `headers`, `candidates`: for who tells of other texts.
 //!
 //! The clauses speak of the place, of what is wrong there, and of what is listed as what could stand there.
 //! Which way out is told and what else is listed is free: cases try it.
 
 mod before;
-mod candidates;
+pub mod candidates;
 mod code;
+mod diagnostic;
 pub mod headers;
 mod left_out;
 mod pages;
@@ -18,6 +19,7 @@ mod place;
 mod program_text;
 mod quoting;
 mod refusal;
+mod sentence;
 mod spots;
 pub mod tables;
 mod thing;
@@ -25,8 +27,10 @@ mod ways;
 pub mod words;
 
 pub use code::has_code_with;
+pub use diagnostic::Diagnostic;
 pub use pages::{Page, place_words, push_marked};
 pub use place::{LineColumn, begins_letter, place_of};
 pub use program_text::{tell_no_tokens, tell_no_tree, way_at};
-pub use quoting::{push_line, push_place};
+pub use sentence::{TOO_SOON, push_standing};
 pub use spots::{Span, name_spot, reactor_spot, time_spot, token_spot};
+pub use thing::Thing;

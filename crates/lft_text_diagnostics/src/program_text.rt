@@ -1,21 +1,21 @@
 //! Why a program's text is refused, for people.
 
-ghost use Rattle.std.specs.Prelude.{◌≡◌, ◌≢◌, ℕ, ◌+◌, ◌<◌, ◌≤◌, ◌++◌, List, flat_map, length, string_bytes, IfOk, IfSome, OnOk};
+ghost use Rattle.std.specs.Prelude.{◌≡◌, ◌≢◌, ℕ, ◌+◌, ◌<◌, ◌≤◌, ◌++◌, List, length, string_bytes, IfOk, IfSome, OnOk};
 ghost use Rattle.lft_syntax.specs.{declared.fault.LexFault.TheVariants.NoMemory as LexNoMemory, Lexes.{LexFails, Lexes}};
-ghost use Rattle.lft_text_diagnostics.specs.Candidates.{IsHelp, IsWholeHelp, could_words, other_trial_words};
-ghost use Rattle.lft_text_diagnostics.specs.{inner.{Candidates.few, Refusals.{IsRefusedFrom, MayHelp}, Trying.{AreTokens, CanStandBehind}}, Refusals.HasNoTree};
-ghost use Rattle.lft_text_diagnostics.specs.Told.{SaysAt, TellsProgram, fault_words, long_words as words_of_long, refusal_sentence, spelled_bytes, token_words};
+ghost use Rattle.lft_text_diagnostics.specs.{Candidates.{IsHelp, IsWholeHelp}, inner.{Refusals.{IsRefusedFrom, MayHelp}, Trying.{AreTokens, CanStandBehind}}};
+ghost use Rattle.lft_text_diagnostics.specs.{Refusals.HasNoTree, Told.{SaysAt, TellsProgram, long_words}};
 
 use crate::before::Before;
-use crate::candidates::candidates;
+use crate::candidates::{candidates, push_candidates};
+use crate::diagnostic::Diagnostic;
 use crate::headers;
 use crate::left_out::push_left_out;
 use crate::place::place_of;
 use crate::quoting::{push_line, push_place};
-use crate::refusal::{TextCause, TextRefusal, at_byte, at_token};
-use crate::thing::CoreTrial;
+use crate::refusal::{TextRefusal, at_byte, at_token};
+use crate::sentence::push_sentence;
 use crate::ways::{CODE, NO_CODE, of_candidates, of_fault, of_token};
-use crate::words::{push_bytes, push_way};
+use crate::words::push_way;
 use lft_ir::words::push_number;
 use lft_syntax::{
     LexFault, MAX_LENGTH, SyntaxFault, Token, TokenKind, Tokens, lex, parse, refused_at,
@@ -23,120 +23,8 @@ use lft_syntax::{
 use lft_tag::NoMemory;
 use std::alloc::Global;
 
-/// A token of more bytes isn't quoted.
-const LONGEST_TOKEN: usize = 40;
-
 /// Where more could stand, it isn't said what.
 const MOST_CANDIDATES: usize = 6;
-
-/// What a fault of tokens says of the place.
-fn lex_words(fault: LexFault) -> &'static str
-    ensures { result.now ≡ fault_words fault }
-{
-    match fault {
-        LexFault::BadChar(_) => "no token begins so.",
-        LexFault::OpenComment => "this comment is never closed.",
-        LexFault::OpenCode => "this code is never closed.",
-        LexFault::OpenString => "this string is never closed.",
-        LexFault::NumberTooLarge(_) => "this number is too large.",
-        LexFault::TooLong => "the text is too long.",
-        LexFault::NoMemory => "memory was refused.",
-    }
-}
-
-/// Puts the bytes of a token behind the text, if they aren't too many.
-fn push_spelled(alloc: Global, out: &mut String, spelling: &[u8]) -> Result<(), NoMemory>
-    ensures { OnOk result (string_bytes out.new ≡ string_bytes out.old ++ spelled_bytes spelling.now) }
-{
-    if spelling.len() > LONGEST_TOKEN {
-        out.push_str("this")?;
-        return Ok(());
-    }
-    out.push_str("`")?;
-    push_bytes(alloc, out, spelling)?;
-    out.push_str("`")?;
-    Ok(())
-}
-
-/// Puts the token behind the text: its spelling, or what it is.
-fn push_token(
-    alloc: Global,
-    out: &mut String,
-    kind: TokenKind,
-    spelling: &[u8],
-) -> Result<(), NoMemory>
-    ensures { OnOk result (string_bytes out.new ≡ string_bytes out.old ++ token_words kind spelling.now) }
-{
-    match kind {
-        TokenKind::Code => {
-            out.push_str("this code")?;
-            Ok(())
-        }
-        TokenKind::Text => {
-            out.push_str("this string")?;
-            Ok(())
-        }
-        _ => push_spelled(alloc, out, spelling),
-    }
-}
-
-/// Puts what is wrong behind the text.
-fn push_sentence(
-    alloc: Global,
-    out: &mut String,
-    text: &[u8],
-    refusal: TextRefusal,
-) -> Result<(), NoMemory>
-    requires { (refusal.start ≤ refusal.end) × (refusal.end ≤ length text.now) }
-    ensures { OnOk result (string_bytes out.new ≡ string_bytes out.old ++ refusal_sentence text.now refusal) }
-{
-    match refusal.why {
-        TextCause::Lex(fault) => out.push_str(lex_words(fault))?,
-        TextCause::End(_) => out.push_str("the text ends too soon.")?,
-        TextCause::Token(_, kind) => {
-            push_token(alloc, out, kind, &text[refusal.start..refusal.end])?;
-            out.push_str(" can't stand here.")?;
-        }
-    }
-    out.push_str("\n")?;
-    Ok(())
-}
-
-/// Puts one more thing behind the text that could stand there.
-fn push_other(out: &mut String, thing: CoreTrial) -> Result<(), NoMemory>
-    ensures { OnOk result (string_bytes out.new ≡ string_bytes out.old ++ other_trial_words thing) }
-{
-    out.push_str(", ")?;
-    out.push_str(thing.words())?;
-    Ok(())
-}
-
-/// Puts further things behind the text that could stand there.
-fn push_others(out: &mut String, things: &[CoreTrial]) -> Result<(), NoMemory>
-    ensures { OnOk result (string_bytes out.new ≡ string_bytes out.old ++ flat_map other_trial_words things.now) }
-{
-    for at in 0..things.len() {
-        push_other(out, things[at])?;
-    }
-    Ok(())
-}
-
-/// Puts what could stand there behind the text, where that is few things.
-fn push_candidates(out: &mut String, found: &[CoreTrial]) -> Result<(), NoMemory>
-    ensures { OnOk result (string_bytes out.new ≡ string_bytes out.old ++ could_words (few found.now)) }
-{
-    if found.len() > MOST_CANDIDATES {
-        return Ok(());
-    }
-    let Some((first, others)) = found.split_first() else {
-        return Ok(());
-    };
-    out.push_str("  There could stand: ")?;
-    out.push_str(first.words())?;
-    push_others(out, others)?;
-    out.push_str(".\n")?;
-    Ok(())
-}
 
 /// Puts what to write in place of the token behind the text, or else what could stand there.
 fn push_help_at_token(
@@ -158,8 +46,8 @@ fn push_help_at_token(
         return push_way(out, better.or(way));
     }
     // Asked only now: the parser tries each of some twenty things.
-    let found = candidates(before)?;
-    push_candidates(out, &found)?;
+    let found = candidates(before.alloc, before)?;
+    push_candidates(before.alloc, out, &found, MOST_CANDIDATES)?;
     push_way(out, better.or(of_candidates(kind, before, &found)))?;
     Ok(())
 }
@@ -182,15 +70,15 @@ fn push_help(out: &mut String, before: &Before<'_>) -> Result<(), NoMemory>
             push_left_out(before.alloc, out, before.text, before.tokens, token.end)
         }
         None => {
-            let found = candidates(before)?;
-            push_candidates(out, &found)
+            let found = candidates(before.alloc, before)?;
+            push_candidates(before.alloc, out, &found, MOST_CANDIDATES)
         }
     }
 }
 
-/// How long a text is that is too long, and how long it may be.
-fn long_words(alloc: Global, length: usize) -> Result<String, NoMemory>
-    ensures { IfOk result (λ words. string_bytes words ≡ words_of_long length) }
+/// How long a text is that is too long, and how long it may be. It has no place, and nothing of it is quoted.
+fn tell_long(alloc: Global, length: usize) -> Result<String, NoMemory>
+    ensures { IfOk result (λ words. string_bytes words ≡ long_words length) }
 {
     let mut out = String::new(alloc);
     out.push_str("Program: the text has ")?;
@@ -201,23 +89,25 @@ fn long_words(alloc: Global, length: usize) -> Result<String, NoMemory>
     Ok(out)
 }
 
-/// The place, what is wrong there, the line with a mark, and the help, in lines.
-fn words_at(
-    alloc: Global,
-    text: &[u8],
-    refusal: TextRefusal,
-    help: &str,
-) -> Result<String, NoMemory>
+/// Where a text is refused, what is wrong there, the line with a mark, and the help.
+fn tell_at(alloc: Global, text: &[u8], refusal: TextRefusal, help: &str) -> Result<String, NoMemory>
     requires inside { (refusal.start ≤ refusal.end) × (refusal.end ≤ length text.now) }
     ensures { IfOk result (λ words. SaysAt text.now refusal help.now (string_bytes words)) }
 {
     let place = place_of(text, refusal.start);
-    let mut out = String::new(alloc);
-    push_place(&mut out, place)?;
-    push_sentence(alloc, &mut out, text, refusal)?;
-    push_line(alloc, &mut out, text, place, refusal.start, refusal.end)?;
-    out.push_str(help)?;
-    Ok(out)
+    let mut told = Diagnostic::new(alloc);
+    push_place(&mut told.place, place)?;
+    push_sentence(alloc, &mut told.sentence, text, refusal)?;
+    push_line(
+        alloc,
+        &mut told.lines,
+        text,
+        place,
+        refusal.start,
+        refusal.end,
+    )?;
+    told.help.push_str(help)?;
+    told.print()
 }
 
 /// Where and why a program's text has no tokens, in lines that end with a line feed: the place, what is
@@ -229,12 +119,12 @@ pub fn tell_no_tokens(alloc: Global, text: &[u8], fault: LexFault) -> Result<Str
     ensures { IfOk result (λ words. TellsProgram text.now (string_bytes words)) }
 {
     let Some(refusal) = at_byte(text, fault) else {
-        return long_words(alloc, text.len());
+        return tell_long(alloc, text.len());
     };
     let way = headers::of_program(text).or(of_fault(fault, &text[refusal.start..]));
     let mut help = String::new(alloc);
     push_way(&mut help, way)?;
-    words_at(alloc, text, refusal, help.as_str())
+    tell_at(alloc, text, refusal, help.as_str())
 }
 
 /// Where and why the tokens of a program's text spell no tree, in such lines. The number is that of the
@@ -261,7 +151,7 @@ pub fn tell_no_tree(
     };
     let mut help = String::new(alloc);
     push_help(&mut help, &before)?;
-    words_at(alloc, text, at_token(text, tokens, number), help.as_str())
+    tell_at(alloc, text, at_token(text, tokens, number), help.as_str())
 }
 
 /// What helps in place of a token that stands behind others: by the tokens before it, or by what could stand there.
@@ -270,7 +160,7 @@ fn way_behind(before: &Before<'_>, token: Token) -> Result<Option<&'static str>,
     requires lexed { AreTokens before.now }
 {
     let better = before.way(token.kind, before.spelling(0))?;
-    let found = candidates(before)?;
+    let found = candidates(before.alloc, before)?;
     match better.or(of_candidates(token.kind, before, &found)) {
         Some(way) if way == NO_CODE => Ok(Some(CODE)),
         way => Ok(way),

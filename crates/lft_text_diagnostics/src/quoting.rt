@@ -2,7 +2,7 @@
 
 ghost use Rattle.std.specs.Prelude.{◌≡◌, ◌≤◌, ◌++◌, OnOk, length, min, string_bytes};
 ghost use Rattle.lft_text_diagnostics.specs.Places.{IsPlace};
-ghost use Rattle.lft_text_diagnostics.specs.Quotes.{blank_margin, blanks_below, margin, marked_line, marks, program_place_words, quoted, trimmed};
+ghost use Rattle.lft_text_diagnostics.specs.Quotes.{blank_margin, blanks_below, marked_line, marks, program_place_words, quote, quoted, trimmed};
 
 use crate::place::LineColumn;
 use crate::words::{
@@ -13,10 +13,10 @@ use lft_tag::NoMemory;
 use std::alloc::Global;
 
 /// A line of more bytes isn't quoted.
-const LONGEST_LINE: usize = 200;
+pub(crate) const LONGEST_LINE: usize = 200;
 
 /// Puts the line and the column behind the text.
-pub fn push_place(out: &mut String, place: LineColumn) -> Result<(), NoMemory>
+pub(crate) fn push_place(out: &mut String, place: LineColumn) -> Result<(), NoMemory>
     ensures { OnOk result (string_bytes out.new ≡ string_bytes out.old ++ program_place_words place) }
 {
     out.push_str("Program, line ")?;
@@ -27,13 +27,11 @@ pub fn push_place(out: &mut String, place: LineColumn) -> Result<(), NoMemory>
     Ok(())
 }
 
-/// Puts a line of that number behind the text.
-fn push_quoted(alloc: Global, out: &mut String, number: usize, line: &[u8]) -> Result<(), NoMemory>
-    ensures { OnOk result (string_bytes out.new ≡ string_bytes out.old ++ (margin number ++ quoted (trimmed line.now))) }
+/// A line without blanks at its end, such as the carriage return of CR LF.
+fn trimmed(line: &[u8]) -> &[u8]
+    ensures { result.now ≡ trimmed line.now }
 {
-    push_margin(out, number)?;
-    // Without blanks at its end, such as the carriage return of CR LF.
-    push_bytes(alloc, out, line.trim_ascii_end())
+    line.trim_ascii_end()
 }
 
 /// Puts a mark below a line of that number behind the text, at the bytes that follow those before, as
@@ -54,9 +52,27 @@ fn push_below(
     push_marks(out, marked.as_bytes())
 }
 
+/// Puts a line of that number behind the text, and below it a mark at the bytes that follow those before.
+pub(crate) fn push_quote(
+    alloc: Global,
+    out: &mut String,
+    number: usize,
+    line: &[u8],
+    before: &[u8],
+    marked: &[u8],
+) -> Result<(), NoMemory>
+    ensures { OnOk result (string_bytes out.new ≡ string_bytes out.old ++ quote number line.now before.now marked.now) }
+{
+    push_margin(out, number)?;
+    push_bytes(alloc, out, line)?;
+    push_below(alloc, out, number, before, marked)?;
+    out.push_str("\n")?;
+    Ok(())
+}
+
 /// Puts the line of a place behind the text, and below it a mark at the bytes from there up to the end. A
 /// long line isn't quoted.
-pub fn push_line(
+pub(crate) fn push_line(
     alloc: Global,
     out: &mut String,
     text: &[u8],
@@ -71,16 +87,14 @@ pub fn push_line(
     if LONGEST_LINE < place.end - place.start {
         return Ok(());
     }
-    push_quoted(alloc, out, place.line, &text[place.start..place.end])?;
     // Code may go on over many lines. Only the first is quoted, and the mark ends with it.
     let last = end.min(place.end);
-    push_below(
+    push_quote(
         alloc,
         out,
         place.line,
+        trimmed(&text[place.start..place.end]),
         &text[place.start..start],
         &text[start..last],
-    )?;
-    out.push_str("\n")?;
-    Ok(())
+    )
 }

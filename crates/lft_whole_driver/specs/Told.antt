@@ -2,6 +2,8 @@
 use Rattle.std.specs.Prelude.{◌≡◌, ◌⊎◌, ◌++◌, ◌-◌, ℕ, IfSome, List, Some, None, codes, option_map, slice_get, string_bytes, unwrap_or, []}
 use Rattle.lft_load.specs.{Faults.words_of, declared.fault.Fault.Fault}
 use Rattle.lft_program_diagnostics.specs.Reasons.{IsToldIn}
+use Rattle.lft_syntax.specs.declared.token.TokenKind.{TokenKind}
+use Rattle.lft_text_diagnostics.specs.{Diagnostics.SaysOf, Told.standing_words}
 use Rattle.lft_whole.specs.Sources.{Causes.{names, number_of, sentence_of}, Shown.place_words}
 use Rattle.lft_whole.specs.declared.sources.{source.SourceFile.SourceFile, stop.{Place.Place, FileRefusal.FileRefusal}, why.Why.{Why, TheVariants.Unexpected}}
 use Rattle.lft_tree.specs.declared.tree.Item.{Item}
@@ -14,18 +16,15 @@ where_words files place = unwrap_or (option_map (λ file. place_words file place
 
 -- What is said of a token that can't stand where it is, or of a text that ends there.
 abbrev pub IsUnexpected : List ℕ → Type 0
-IsUnexpected words = ((token : List ℕ) × (words ≡ token ++ codes " can't stand here.")) ⊎ (words ≡ codes "the text ends too soon.")
+IsUnexpected words = ((kind : TokenKind) × (bytes : List ℕ) × (words ≡ standing_words kind bytes)) ⊎ (words ≡ codes "the text ends too soon.")
 
 -- What is said of a cause: something first, then its sentence; of a token that can't stand where it is, that.
 abbrev pub IsSentence : List ℕ → Why → List ℕ → Type 0
 IsSentence first why words = (words ≡ first ++ sentence_of why) ⊎ ((why ≡ Unexpected) × IsUnexpected words)
 
--- The words begin with the place and what is said of the cause.
-pub record TellsAt (place first : List ℕ) (why : Why) (words : List ℕ) : Type 0 where
-  pub sentence : List ℕ
-  pub is_sentence : IsSentence first why sentence
-  pub rest : List ℕ
-  pub whole : words ≡ place ++ codes ": " ++ sentence ++ codes "\n" ++ rest
+-- The words say of the place what is said of the cause.
+abbrev pub TellsAt : List ℕ → List ℕ → Why → List ℕ → Type 0
+TellsAt place first why words = (sentence : List ℕ) × IsSentence first why sentence × SaysOf (place ++ codes ": ") sentence words
 
 -- The fault has the number and the name of the cause, and tells its place.
 pub record IsLowerFault (files : List SourceFile) (refusal : FileRefusal) (fault : Fault) : Type 0 where

@@ -19,15 +19,12 @@ use lft_load::{Detail, Fault, Part};
 use lft_program::Refusal as ProgramRefusal;
 use lft_program_diagnostics::tell_refusal_in;
 use lft_tag::NoMemory;
-use lft_text_diagnostics::words::{push_bytes, push_way};
-use lft_text_diagnostics::{Span, push_marked, way_at};
+use lft_text_diagnostics::words::push_way;
+use lft_text_diagnostics::{Diagnostic, Span, TOO_SOON, push_marked, push_standing, way_at};
 use lft_tree::Ast;
 use lft_whole::sources::{FileRefusal, NoProgram, Place, SourceFile, Why, push_place};
-use lft_whole::{TextFault, lex};
+use lft_whole::{TextFault, TokenKind, lex};
 use std::alloc::{AllocError, Global};
-
-/// A token of more bytes isn't quoted.
-const LONGEST_TOKEN: usize = 40;
 
 /// Why a program isn't lowered: its fault, and what is told of it for people. Where memory is refused, or the
 /// program's own file can't be read, nothing is told.
@@ -128,39 +125,15 @@ fn spot_in(alloc: Global, file: &SourceFile, token: usize) -> Result<Span, NoMem
     }
 }
 
-/// What a token is called: code and strings are told as such, and so are those of more bytes than are quoted.
-fn token_words(alloc: Global, bytes: &[u8]) -> Result<String, NoMemory> {
-    let mut out = String::new(alloc);
+/// The kind of a token, as far as it matters for what the token is called.
+fn kind_of(bytes: &[u8]) -> TokenKind {
     if bytes.starts_with(b"{=") {
-        out.push_str("this code")?;
+        TokenKind::Code
     } else if bytes.starts_with(b"\"") || bytes.starts_with(b"'") {
-        out.push_str("this string")?;
-    } else if bytes.len() > LONGEST_TOKEN {
-        out.push_str("this")?;
+        TokenKind::Text
     } else {
-        out.push_str("`")?;
-        push_bytes(alloc, &mut out, bytes)?;
-        out.push_str("`")?;
+        TokenKind::Name
     }
-    Ok(out)
-}
-
-/// What is said of a token that can't stand where it is.
-fn standing_words(alloc: Global, bytes: &[u8]) -> Result<String, NoMemory>
-    ensures { IfOk result (λ words. IsUnexpected (string_bytes words)) }
-{
-    let mut out = token_words(alloc, bytes)?;
-    out.push_str(" can't stand here.")?;
-    Ok(out)
-}
-
-/// What is said of a text that ends before its tree does.
-fn ending_words(alloc: Global) -> Result<String, NoMemory>
-    ensures { IfOk result (λ words. IsUnexpected (string_bytes words)) }
-{
-    let mut out = String::new(alloc);
-    out.push_str("the text ends too soon.")?;
-    Ok(out)
 }
 
 /// What is said of a token that can't stand where it is, or of a text that ends there.
@@ -169,11 +142,13 @@ fn unexpected_words(alloc: Global, file: &SourceFile, token: usize) -> Result<St
 {
     let spot = spot_in(alloc, file, token)?;
     let bytes = file.text.get(spot.start..spot.end).unwrap_or(b"");
+    let mut out = String::new(alloc);
     if bytes.is_empty() {
-        ending_words(alloc)
+        out.push_str(TOO_SOON)?;
     } else {
-        standing_words(alloc, bytes)
+        push_standing(alloc, &mut out, kind_of(bytes), bytes)?;
     }
+    Ok(out)
 }
 
 /// What is said of a refusal: of a token that can't stand where it is its bytes, else the sentence of the cause.
@@ -245,15 +220,19 @@ fn push_help(
 }
 
 /// The line of a refusal with a mark, and what helps. Of two things of which the second is refused both lines.
-fn rest_of(alloc: Global, files: &[SourceFile], refusal: FileRefusal) -> Result<String, NoMemory> {
-    let mut out = String::new(alloc);
+fn quoting(
+    alloc: Global,
+    files: &[SourceFile],
+    refusal: FileRefusal,
+) -> Result<Diagnostic, NoMemory> {
+    let mut told = Diagnostic::new(alloc);
     let Some(file) = files.get(refusal.place.file) else {
-        return Ok(out);
+        return Ok(told);
     };
     if matches!(refusal.why, Why::Unexpected | Why::NotText) {
-        push_line(alloc, &mut out, files, refusal.place)?;
-        push_help(alloc, &mut out, file, refusal)?;
-        return Ok(out);
+        push_line(alloc, &mut told.lines, files, refusal.place)?;
+        push_help(alloc, &mut told.help, file, refusal)?;
+        return Ok(told);
     }
     let Ok(tokens) = lex(alloc, &file.text) else {
         // The cause is none of a text without tokens, so only memory can be refused.
@@ -266,11 +245,11 @@ fn rest_of(alloc: Global, files: &[SourceFile], refusal: FileRefusal) -> Result<
         place: refusal.place,
     };
     if let Some(first) = hint.before(refusal.why)? {
-        push_first(alloc, &mut out, files, refusal.place, first)?;
+        push_first(alloc, &mut told.lines, files, refusal.place, first)?;
     }
-    push_line(alloc, &mut out, files, refusal.place)?;
-    hint.push(&mut out, refusal.why)?;
-    Ok(out)
+    push_line(alloc, &mut told.lines, files, refusal.place)?;
+    hint.push(&mut told.help, refusal.why)?;
+    Ok(told)
 }
 
 /// What is told of a refusal at a place in words, in lines that end with a line feed.
@@ -284,14 +263,13 @@ fn told_of(
     ensures { IfOk result (λ words. TellsAt place.now first.now refusal.why (string_bytes words)) }
 {
     let sentence = sentence(alloc, files, refusal, first)?;
-    let rest = rest_of(alloc, files, refusal)?;
-    let mut out = String::new(alloc);
-    out.push_str(place)?;
-    out.push_str(": ")?;
-    out.push_str(sentence.as_str())?;
-    out.push_str("\n")?;
-    out.push_str(rest.as_str())?;
-    Ok(out)
+    let mut at = String::new(alloc);
+    at.push_str(place)?;
+    at.push_str(": ")?;
+    let mut told = quoting(alloc, files, refusal)?;
+    told.place = at;
+    told.sentence = sentence;
+    told.print()
 }
 
 /// A refusal with its fault, and what is told of it.

@@ -104,7 +104,7 @@ heading word fault.NoMemory = []
 
 -- `TABLE, line L, field K (NAME): `
 abbrev pub field_words : List ℕ → ℕ → Wrong → List ℕ
-field_words word line w = table_line_words word line ++ codes ", field " ++ decimal (w.at + 1) ++ codes " (" ++ w.name.now ++ codes "): "
+field_words word line w = table_line_words word line ++ (codes ", field " ++ decimal (w.at + 1) ++ codes " (" ++ w.name.now ++ codes "): ")
 
 -- The words begin with a field of the record with that number of which this holds.
 pub record NamesField (records : List (List (List ℕ))) (word : List ℕ) (line : ℕ) (Holds : List (List ℕ) → Wrong → Type 0) (words : List ℕ) : Type 0 where
@@ -112,5 +112,4 @@ pub record NamesField (records : List (List (List ℕ))) (word : List ℕ) (line
   pub has_record : HasRecord records line fields
   pub wrong : Wrong
   pub holds : Holds fields wrong
-  pub rest : List ℕ
-  pub begins : words ≡ field_words word line wrong ++ rest
+  pub begins : ContinuesFrom (field_words word line wrong) words

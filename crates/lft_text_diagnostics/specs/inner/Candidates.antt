@@ -1,7 +1,7 @@
 -- Inside: what can stand where a program's text is refused, and how it is listed.
-use Rattle.std.specs.Prelude.{List, if◌then◌else◌, length, nat_lt, []}
-use Rattle.lft_text_diagnostics.specs.declared.thing.CoreTrial.{CoreTrial}
+use Rattle.std.specs.Prelude.{ℕ, List, if◌then◌else◌, length, nat_lt, []}
+use Rattle.lft_text_diagnostics.specs.declared.thing.Thing.{Thing}
 
--- Where there are more than six, none is listed.
-abbrev pub few : List CoreTrial → List CoreTrial
-few things = if nat_lt 6 (length things) then [] else things
+-- Where there are more than so many, none is listed.
+abbrev pub few : ℕ → List Thing → List Thing
+few most things = if nat_lt most (length things) then [] else things

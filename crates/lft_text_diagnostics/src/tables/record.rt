@@ -5,16 +5,11 @@ ghost use Rattle.csv.specs.Records.{fields_of};
 ghost use Rattle.lft_trace.specs.Records.{records_of};
 ghost use Rattle.lft_text_diagnostics.specs.Tables.Tables.{HasRecord, field_at};
 
-use crate::words::{
-    push_blank_margin, push_blanks_below, push_bytes, push_margin, push_marks, quoted_text,
-};
+use crate::quoting::{LONGEST_LINE, push_quote};
 use csv::ByteRecord;
 use lft_tag::NoMemory;
 use lft_trace::records::Records;
 use std::alloc::Global;
-
-/// A record of more bytes isn't quoted.
-const LONGEST: usize = 200;
 
 /// The record of a table with that number, if there is one. The first is number 1.
 pub(crate) fn record_of(
@@ -51,14 +46,12 @@ pub(crate) fn is_torn(alloc: Global, text: &[u8], number: u32) -> Result<bool, N
     Ok(next.is_none())
 }
 
-/// The bytes of the record, its fields joined by commas.
-fn joined(alloc: Global, fields: &ByteRecord) -> Result<Vec<u8>, NoMemory> {
+/// The bytes of the first fields of a record, with a comma behind each.
+fn joined(alloc: Global, fields: &ByteRecord, count: usize) -> Result<Vec<u8>, NoMemory> {
     let mut bytes = Vec::new(alloc);
-    for at in 0..fields.len() {
-        if at > 0 {
-            bytes.push(b',')?;
-        }
+    for at in 0..count {
         bytes.extend_from_slice(field(fields, at))?;
+        bytes.push(b',')?;
     }
     Ok(bytes)
 }
@@ -75,7 +68,7 @@ pub(crate) fn field(fields: &ByteRecord, at: usize) -> &[u8]
 
 /// Whether the bytes can be quoted in a line: there are few, and none of them ends a line.
 fn is_short(bytes: &[u8]) -> bool {
-    if bytes.len() > LONGEST {
+    if bytes.len() > LONGEST_LINE {
         return false;
     }
     for byte in bytes {
@@ -94,21 +87,18 @@ pub(crate) fn push_record(
     fields: &ByteRecord,
     at: usize,
 ) -> Result<(), NoMemory> {
-    let bytes = joined(alloc, fields)?;
-    if !is_short(bytes.as_slice()) {
+    let mut line = joined(alloc, fields, fields.len())?;
+    line.pop();
+    if !is_short(&line) {
         return Ok(());
     }
-    push_margin(out, number as usize)?;
-    push_bytes(alloc, out, bytes.as_slice())?;
-    push_blank_margin(out, number as usize)?;
-    for before in 0..at {
-        let shown = quoted_text(alloc, field(fields, before))?;
-        // Below what is shown, which may be longer than the field: what isn't printed is escaped.
-        push_blanks_below(out, shown.as_bytes())?;
-        out.push_str(" ")?;
-    }
-    let shown = quoted_text(alloc, field(fields, at))?;
-    push_marks(out, shown.as_bytes())?;
-    out.push_str("\n")?;
-    Ok(())
+    let before = joined(alloc, fields, at)?;
+    push_quote(
+        alloc,
+        out,
+        number as usize,
+        &line,
+        &before,
+        field(fields, at),
+    )
 }

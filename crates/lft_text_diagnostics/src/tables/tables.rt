@@ -6,7 +6,9 @@ ghost use Rattle.lft_trace.specs.{Faults.is_told, Records.records_of, ExternalTa
 ghost use Rattle.lft_text_diagnostics.specs.Tables.Tables.{ContinuesFrom, HasRecord, IsWrong, IsWrongThere, NamesField, field_line, field_words, heading, table_line_words};
 ghost use Rattle.lft_text_diagnostics.specs.inner.Tables.Tables.{Fails, FailsThere, IsWrongIn, word_of};
 
+use crate::diagnostic::Diagnostic;
 use crate::headers::{EXTERNALS, TRACE};
+use crate::quoting::LONGEST_LINE;
 use crate::tables::fields::{
     Wrong, filled_of_externals, filled_of_trace, name_of_externals, name_of_trace,
     number_of_externals, number_of_trace,
@@ -22,11 +24,11 @@ use lft_tag::NoMemory;
 use lft_trace::TraceFault;
 use std::alloc::Global;
 
-const NO_STOP: &str = ": there is no record stop,TIME,MICROSTEP,,\n";
+const NO_STOP: &str = ": there is no record stop,TIME,MICROSTEP,,";
 
 const TORN: &str = "  It is the last record, and no line end follows. Was the run killed?\n";
 
-const TOO_MANY: &str = ": a table has at most 4,000,000 records.\n";
+const TOO_MANY: &str = ": a table has at most 4,000,000 records.";
 
 /// The table that was read. A trace is called by a word, since there may be two.
 #[derive(Clone, Copy)]
@@ -139,13 +141,13 @@ fn tell_field(
     let Some(wrong) = wrong_field(program, &fields, fault, table) else {
         return Ok(String::new(alloc));
     };
-    let mut out = String::new(alloc);
-    push_field(&mut out, line, table, wrong)?;
-    let rest = wrong_words(alloc, line, &fields, wrong)?;
-    out.push_str(rest.as_str())?;
-    let more = siblings_words(alloc, program, &fields, fault, wrong)?;
-    out.push_str(more.as_str())?;
-    Ok(out)
+    let mut told = Diagnostic::new(alloc);
+    push_field(&mut told.place, line, table, wrong)?;
+    push_wrong(alloc, &mut told.sentence, &fields, wrong)?;
+    push_record(alloc, &mut told.lines, line, &fields, wrong.at as usize)?;
+    push_way(&mut told.help, wrong.help)?;
+    push_beside(alloc, &mut told.help, program, &fields, fault, wrong)?;
+    told.print()
 }
 
 /// The same of a fault of a record as a whole.
@@ -161,54 +163,59 @@ fn tell_record(
     let Some(fields) = record_of(alloc, text, line)? else {
         return Ok(String::new(alloc));
     };
-    let mut out = String::new(alloc);
-    push_line(&mut out, line, table)?;
-    let rest = record_words(alloc, text, line, &fields, fault, table)?;
-    out.push_str(rest.as_str())?;
-    Ok(out)
+    let mut told = Diagnostic::new(alloc);
+    push_line(&mut told.place, line, table)?;
+    push_fault(&mut told.sentence, &fields, fault, table)?;
+    push_record(alloc, &mut told.lines, line, &fields, 0)?;
+    if matches!(fault, TraceFault::BadFieldCount(_)) {
+        push_wanted(alloc, &mut told.help, text, line, table)?;
+    }
+    told.print()
 }
 
 /// The same of a fault of no record.
 fn tell_whole(alloc: Global, table: Table, is_wrong: &str) -> Result<String, NoMemory>
-    ensures { IfOk result (λ words. string_bytes words ≡ word_of table ++ is_wrong.now) }
+    ensures { IfOk result (λ words. ContinuesFrom (word_of table) (string_bytes words)) }
 {
-    let mut out = String::new(alloc);
-    out.push_str(table.word())?;
-    out.push_str(is_wrong)?;
-    Ok(out)
+    let mut told = Diagnostic::new(alloc);
+    told.place.push_str(table.word())?;
+    told.sentence.push_str(is_wrong)?;
+    told.print()
 }
 
 /// The same of a table that begins with another record than its header.
 fn tell_header(alloc: Global, text: &[u8], table: Table) -> Result<String, NoMemory>
     ensures { IfOk result (λ words. ContinuesFrom (table_line_words (word_of table) 1) (string_bytes words)) }
 {
-    let mut out = String::new(alloc);
-    push_line(&mut out, 1, table)?;
-    let rest = header_words(alloc, text, table)?;
-    out.push_str(rest.as_str())?;
-    Ok(out)
+    let first = first_line(text);
+    let mut told = Diagnostic::new(alloc);
+    push_line(&mut told.place, 1, table)?;
+    told.sentence.push_str(": this isn't the header.")?;
+    push_headers(alloc, &mut told.lines, first, table)?;
+    // For the guess alone. What isn't UTF-8 is replaced, and no guess is made by that.
+    let words = String::from_utf8_lossy(alloc, first)?;
+    push_way(&mut told.help, of_text(text, words.as_str()))?;
+    told.print()
 }
 
-/// What is said of a first record that isn't the header.
-fn header_words(alloc: Global, text: &[u8], table: Table) -> Result<String, NoMemory> {
-    let mut out = String::from_str(alloc, ": this isn't the header.\n\n  wanted  ")?;
+/// Puts the header that is wanted and the line that stands in its place behind the text.
+fn push_headers(
+    alloc: Global,
+    out: &mut String,
+    first: &[u8],
+    table: Table,
+) -> Result<(), NoMemory> {
+    out.push_str("\n  wanted  ")?;
     out.push_str(table.header())?;
     out.push_str("\n  found   ")?;
-    let first = first_line(text);
-    if first.len() <= LONGEST {
-        push_bytes(alloc, &mut out, first)?;
+    if first.len() <= LONGEST_LINE {
+        push_bytes(alloc, out, first)?;
     } else {
         out.push_str("a line of more than 200 bytes")?;
     }
     out.push_str("\n")?;
-    // For the guess alone. What isn't UTF-8 is replaced, and no guess is made by that.
-    let words = String::from_utf8_lossy(alloc, first)?;
-    push_way(&mut out, of_text(text, words.as_str()))?;
-    Ok(out)
+    Ok(())
 }
-
-/// A line of more bytes isn't quoted.
-const LONGEST: usize = 200;
 
 /// The first line of the text, without its end.
 fn first_line(text: &[u8]) -> &[u8] {
@@ -267,52 +274,43 @@ fn push_line(out: &mut String, line: u32, table: Table) -> Result<(), NoMemory>
     Ok(())
 }
 
-/// What is said of a record that is wrong as a whole.
-fn record_words(
-    alloc: Global,
-    text: &[u8],
-    line: u32,
+/// Puts what is wrong with a record as a whole behind the text.
+fn push_fault(
+    out: &mut String,
     fields: &ByteRecord,
     fault: TraceFault,
     table: Table,
-) -> Result<String, NoMemory> {
-    let mut out = String::new(alloc);
+) -> Result<(), NoMemory> {
     match fault {
         TraceFault::DuplicateExternal(_) => {
-            out.push_str(": that action has an event at that tag already.\n")?;
-            push_record(alloc, &mut out, line, fields, 0)?;
+            out.push_str(": that action has an event at that tag already.")?;
         }
-        TraceFault::TwoStops(_) => {
-            out.push_str(": a stop stands before it already.\n")?;
-            push_record(alloc, &mut out, line, fields, 0)?;
-        }
+        TraceFault::TwoStops(_) => out.push_str(": a stop stands before it already.")?,
         _ => {
-            push_count(&mut out, fields, table)?;
-            push_record(alloc, &mut out, line, fields, 0)?;
-            push_wanted(&mut out, table)?;
-            if is_torn(alloc, text, line)? {
-                out.push_str(TORN)?;
-            }
+            out.push_str(" has ")?;
+            push_number(out, fields.len() as u64)?;
+            out.push_str(" fields, and ")?;
+            out.push_str(table.count())?;
+            out.push_str(" are wanted.")?;
         }
     }
-    Ok(out)
-}
-
-/// Puts how many fields a record has, and how many are wanted, behind the text.
-fn push_count(out: &mut String, fields: &ByteRecord, table: Table) -> Result<(), NoMemory> {
-    out.push_str(" has ")?;
-    push_number(out, fields.len() as u64)?;
-    out.push_str(" fields, and ")?;
-    out.push_str(table.count())?;
-    out.push_str(" are wanted.\n")?;
     Ok(())
 }
 
-/// Puts the header behind the text.
-fn push_wanted(out: &mut String, table: Table) -> Result<(), NoMemory> {
+/// Puts the header behind the text, and whether the record is torn.
+fn push_wanted(
+    alloc: Global,
+    out: &mut String,
+    text: &[u8],
+    line: u32,
+    table: Table,
+) -> Result<(), NoMemory> {
     out.push_str("  The fields are ")?;
     out.push_str(table.header())?;
     out.push_str("\n")?;
+    if is_torn(alloc, text, line)? {
+        out.push_str(TORN)?;
+    }
     Ok(())
 }
 
@@ -329,54 +327,46 @@ fn push_field(out: &mut String, line: u32, table: Table, wrong: Wrong) -> Result
     Ok(())
 }
 
-/// What stands in a field that is wrong, and what may.
-fn wrong_words(
+/// Puts what stands beside the name of a row of a trace behind the text, where the row is refused for a name that
+/// nothing has.
+fn push_beside(
     alloc: Global,
-    line: u32,
-    fields: &ByteRecord,
-    wrong: Wrong,
-) -> Result<String, NoMemory> {
-    let mut out = String::new(alloc);
-    push_found(alloc, &mut out, field(fields, wrong.at as usize))?;
-    out.push_str(wrong.is_no)?;
-    out.push_str(".\n")?;
-    push_record(alloc, &mut out, line, fields, wrong.at as usize)?;
-    push_way(&mut out, wrong.help)?;
-    Ok(out)
-}
-
-/// What stands beside the name of a row of a trace, where the row is refused for a name that nothing has.
-fn siblings_words(
-    alloc: Global,
+    out: &mut String,
     program: &Program,
     fields: &ByteRecord,
     fault: TraceFault,
     wrong: Wrong,
-) -> Result<String, NoMemory> {
-    let mut out = String::new(alloc);
+) -> Result<(), NoMemory> {
     let name = field(fields, NAME as usize);
     let is_name = matches!(fault, TraceFault::UnknownName(_)) && wrong.at == NAME;
     if is_name && program.find_bytes(name).is_none() {
-        push_siblings(alloc, &mut out, program, name)?;
+        push_siblings(alloc, out, program, name)?;
     }
-    Ok(out)
+    Ok(())
 }
 
 /// The place of the name in a row of a trace.
 const NAME: u8 = 5;
 
-/// Puts what stands in a field behind the text.
-fn push_found(alloc: Global, out: &mut String, found: &[u8]) -> Result<(), NoMemory> {
-    if found.len() > LONGEST {
-        out.push_str("what stands there ")?;
-        return Ok(());
+/// Puts what stands in a field that is wrong behind the text, and what it isn't.
+fn push_wrong(
+    alloc: Global,
+    out: &mut String,
+    fields: &ByteRecord,
+    wrong: Wrong,
+) -> Result<(), NoMemory> {
+    let found = field(fields, wrong.at as usize);
+    if found.len() > LONGEST_LINE {
+        out.push_str("what stands there")?;
+    } else if found.is_empty() {
+        out.push_str("the empty field")?;
+    } else {
+        out.push_str("`")?;
+        push_bytes(alloc, out, found)?;
+        out.push_str("`")?;
     }
-    if found.is_empty() {
-        out.push_str("the empty field ")?;
-        return Ok(());
-    }
-    out.push_str("`")?;
-    push_bytes(alloc, out, found)?;
-    out.push_str("` ")?;
+    out.push_str(" ")?;
+    out.push_str(wrong.is_no)?;
+    out.push_str(".")?;
     Ok(())
 }

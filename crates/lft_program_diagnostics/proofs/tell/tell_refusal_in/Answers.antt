@@ -10,7 +10,7 @@ returns-clause-told c =
     let text = c.args.text.now in
     let files = c.args.files.now in
     let reason = c.in_ok-reason.reason in
-    IfOk-weaker c.lines.result (λ words. BeginsAt text files reason.at (reason_sentence reason) (string_bytes words)) (λ words. IsToldIn text c.args.tokens.now files c.args.ast.now.items.items (cause_of c.args.refusal.now) (string_bytes words))
+    IfOk-weaker c.tell.result (λ words. BeginsAt text files reason.at (reason_sentence reason) (string_bytes words)) (λ words. IsToldIn text c.args.tokens.now files c.args.ast.now.items.items (cause_of c.args.refusal.now) (string_bytes words))
     (λ words begins. record {
       spot = reason.at;
       shown = c.in_ok-reason.ensures.shown;
@@ -19,4 +19,4 @@ returns-clause-told c =
       names = map string_bytes reason.names.items;
       begins = begins;
     })
-    c.lines.ensures
+    c.tell.ensures

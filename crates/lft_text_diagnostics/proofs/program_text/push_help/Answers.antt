@@ -14,7 +14,7 @@ pub returns-in_ok-found-in-None : goal.returns-in_ok-found-in-None
 returns-in_ok-found-in-None c =
     let can = CanStandBehind c.args.before.now in
     let things = c.deref.result.now in
-    let each = all_few can things (All-same can things c.in_ok-found-in-None.found.items c.deref.ensures.value c.in_ok-found-in-None.ensures) in
+    let each = all_few can 6 things (All-same can things c.in_ok-found-in-None.found.items c.deref.ensures.value c.in_ok-found-in-None.ensures) in
     let old = string_bytes c.args.out.now in
     let new = string_bytes c.push_candidates.new.out in
-    on_ok_weaker c.push_candidates.result (λ e. puts_help can old new (helps_by_list can (few things) each old new e)) c.push_candidates.ensures
+    on_ok_weaker c.push_candidates.result (λ e. puts_help can old new (helps_by_list can (few 6 things) each old new e)) c.push_candidates.ensures

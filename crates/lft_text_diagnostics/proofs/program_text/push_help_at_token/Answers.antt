@@ -7,5 +7,5 @@ pub returns : goal.returns
 returns c =
     let can = CanStandBehind c.args.before.now in
     let found = c.deref.result.now in
-    helps can (few found) (all_few can found (All-same can found c.in_ok-found.found.items c.deref.ensures.value c.in_ok-found.ensures)) _
+    helps can (few 6 found) (all_few can 6 found (All-same can found c.in_ok-found.found.items c.deref.ensures.value c.in_ok-found.ensures)) _
     (string_bytes c.args.out.now) (string_bytes c.push_candidates.new.out) (string_bytes c.push_way-2.new.out) c.in_ok-push_candidates.ensures c.in_ok-push_way.ensures

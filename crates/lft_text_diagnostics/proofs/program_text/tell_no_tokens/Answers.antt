@@ -14,6 +14,6 @@ returns c =
     let old = string_bytes c.new-help.result in
     let new = string_bytes c.push_way.new.out in
     let puts = puts_help can old new (helps_by_way can _ old new c.in_ok-push_way.ensures) in
-    IfOk-weaker c.words_at.result (λ words. SaysAt t r c.as_str.result.now (string_bytes words)) (λ words. TellsProgram t (string_bytes words))
+    IfOk-weaker c.tell_at.result (λ words. SaysAt t r c.as_str.result.now (string_bytes words)) (λ words. TellsProgram t (string_bytes words))
     (λ words says. inr (r, is, told_at t r c.as_str.result.now (string_bytes words) says can (λ x h. h) old new c.new-help.ensures.bytes puts c.as_str.ensures.value))
-    c.words_at.ensures
+    c.tell_at.ensures

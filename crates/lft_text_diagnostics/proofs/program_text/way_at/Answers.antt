@@ -1,4 +1,4 @@
-use Rattle.std.proofs.Common.{◌≡◌, ◌⊎◌, false, true, ℕ, List, Some, IfSome, codes, inl, inr, subst, sym, ◌∙◌}
+use Rattle.std.proofs.Common.{◌≡◌, ◌⊎◌, false, true, IfSome, codes, inl, inr, subst, sym, ◌∙◌}
 use Rattle.std.{specs.Str.Iter.HasSubslice, proofs.lemmas.Str.Pattern.contains_text}
 use Rattle.lft_text_diagnostics.specs.inner.Refusals.{BeginsTable, IsRefusedFrom, MayHelp}
 use Rattle.lft_text_diagnostics.proofs.program_text.way_at.Goals.{in-Some, in-None+in_ok-way-in-None}

@@ -1,6 +1,0 @@
-use Rattle.std.proofs.Common.{◌≡◌, ◌++◌, take, flat_map, string_bytes}
-use Rattle.lft_text_diagnostics.specs.Candidates.{other_trial_words}
-use Rattle.lft_text_diagnostics.proofs.program_text.push_others.Given as goal
-
-abbrev pub invariant-loop-at : goal.invariant-loop-at
-invariant-loop-at l = string_bytes l.out ≡ string_bytes l.fn.out ++ flat_map other_trial_words (take l.at l.things)
