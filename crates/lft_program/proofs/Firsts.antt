@@ -1,7 +1,7 @@
 -- The first cause of refusal among lists of causes one after another.
 use Rattle.std.proofs.Common.{◌≡◌, ◌≢◌, ℕ, List, [], ◌∷◌, ◌++◌, Any, inl, inr, Result, Ok, Err, IfErr, refl, sym, subst}
 use Rattle.std.specs.Result.{IsErrAnd}
-use Rattle.lft_tree.specs.Tree.{FileTree, reactors_of}
+use Rattle.lft_tree.specs.{Tree.{FileTree, reactors_of}, View.tree_view, declared.ast.Ast.Ast}
 use Rattle.lft_resolve.specs.Causes.{IsFirst, NoneHolds, TooMany, HasLongTime, DelayTooLong, causes}
 use Rattle.lft_program.specs.inner.{Links.last_causes, Tables.IsLawful, Faults.reactor_causes, Refusals.{Tells, cause_of, of_nest}, Limits.IsExcess}
 use Rattle.lft_program.specs.declared.nesting.{limits.Excess.Excess, nest.NestFault.NestFault}
@@ -64,6 +64,6 @@ nest_first tree nests.NoMemory none many other = absurd (other refl)
 
 -- ---- what faults tell
 
-pub nest_tells : (tree : FileTree) (f : NestFault) → ((e : Excess) → f ≡ nests.TooMany e → IsExcess tree e) → Tells tree (of_nest f)
-nest_tells tree (nests.TooMany e) many = many e refl
-nest_tells tree nests.NoMemory many = tt
+pub nest_tells : (ast : Ast) (f : NestFault) → ((e : Excess) → f ≡ nests.TooMany e → IsExcess (tree_view ast) e) → Tells ast (of_nest f)
+nest_tells ast (nests.TooMany e) many = many e refl
+nest_tells ast nests.NoMemory many = tt

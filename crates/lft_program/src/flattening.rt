@@ -40,13 +40,18 @@ fn known_contents(alloc: Global, scopes: &Scopes) -> Result<Vec<Contents>, NoMem
 }
 
 /// The same, if none of the causes that are looked for in each reactor holds.
-fn checked_contents(alloc: Global, scopes: &Scopes) -> Result<Vec<Contents>, Refusal>
+fn checked_contents<'a>(
+    alloc: Global,
+    ast: &'a Ast,
+    scopes: &Scopes,
+) -> Result<Vec<Contents>, Refusal<'a>>
+    requires { scopes.now ≡ tree_view ast.now }
     ensures contents { IfOk result (λ v. AreContents (reactors_of scopes.now) v.items) }
     ensures none { OnOk result (NoneHolds (reactor_causes scopes.now)) }
     ensures first { IfErr result (λ f. f ≢ refusals.NoMemory → IsFirst (reactor_causes scopes.now) (cause_of f)) }
-    ensures tells { IfErr result (Tells scopes.now) }
+    ensures tells { IfErr result (Tells ast.now) }
 {
-    if let Some(witness) = check_first(alloc, scopes)? {
+    if let Some(witness) = check_first(alloc, ast, scopes)? {
         return Err(Refusal::Shown(witness));
     }
     // Only now: what a reactor contains has a number once each name is of one reactor.
@@ -54,7 +59,7 @@ fn checked_contents(alloc: Global, scopes: &Scopes) -> Result<Vec<Contents>, Ref
     if let Some(circle) = circle_of(alloc, &contents)? {
         return Err(Refusal::Recursive(circle));
     }
-    if let Some(witness) = check_later(alloc, scopes)? {
+    if let Some(witness) = check_later(alloc, ast, scopes)? {
         return Err(Refusal::Shown(witness));
     }
     Ok(contents)
@@ -78,15 +83,16 @@ fn tables_with(alloc: Global, scopes: &Scopes, contents: Vec<Contents>) -> Resul
 }
 
 /// The same, if none of the causes that are looked for in each reactor holds.
-fn tables_of(alloc: Global, scopes: &Scopes) -> Result<Tables, Refusal>
+fn tables_of<'a>(alloc: Global, ast: &'a Ast, scopes: &Scopes) -> Result<Tables, Refusal<'a>>
+    requires { scopes.now ≡ tree_view ast.now }
     ensures tables { IfOk result (AreTables scopes.now) }
     ensures none { OnOk result (NoneHolds (reactor_causes scopes.now)) }
     ensures first { IfErr result (λ f. f ≢ refusals.NoMemory → IsFirst (reactor_causes scopes.now) (cause_of f)) }
-    ensures tells { IfErr result (Tells scopes.now) }
+    ensures tells { IfErr result (Tells ast.now) }
 {
     // The causes are tested first, so to make the tables has no fault of its own. The price is that
     // names are looked up twice, in the same tables.
-    let contents = checked_contents(alloc, scopes)?;
+    let contents = checked_contents(alloc, ast, scopes)?;
     Ok(tables_with(alloc, scopes, contents)?)
 }
 
@@ -110,16 +116,16 @@ fn program(
 }
 
 /// The flat program of a tree, if no cause of refusal holds of it.
-pub fn flattened(alloc: Global, ast: &Ast) -> Result<Program, Refusal>
+pub fn flattened(alloc: Global, ast: &Ast) -> Result<Program, Refusal<'_>>
     ensures flat { IfOk result (IsFlatOf (tree_view ast.now)) }
     ensures one { IfOk result (λ p. (other : Parts) → IsFlatOf (tree_view ast.now) other → other ≡ p) }
     ensures first { IfErr result (λ f. f ≢ refusals.NoMemory → IsFirst (causes (tree_view ast.now)) (cause_of f)) }
-    ensures tells { IfErr result (Tells (tree_view ast.now)) }
+    ensures tells { IfErr result (Tells ast.now) }
 {
     let scopes = Scopes::of(alloc, ast)?;
-    let tables = tables_of(alloc, &scopes)?;
+    let tables = tables_of(alloc, ast, &scopes)?;
     let nest = Nest::of(alloc, &tables)?;
-    let links = links(alloc, &scopes, &tables, &nest)?;
+    let links = links(alloc, ast, &scopes, &tables, &nest)?;
     // Nothing below asks for a name by its text, so the tables of names needn't stand beside the program.
     drop(scopes);
     Ok(program(alloc, ast, &tables, &nest, &links)?)

@@ -10,9 +10,9 @@ use lft_validate::Witness;
 
 /// Why a tree has no flat program, with what shows it.
 #[derive(Drop)]
-pub enum Refusal {
+pub enum Refusal<'a> {
     /// What shows the cause in a reactor, or among the reactors of the file.
-    Shown(Witness),
+    Shown(Witness<'a>),
     /// Reactors by their places in the file, of which each has an instance of the next, and the last of
     /// the first.
     Recursive(Vec<usize>),
@@ -26,20 +26,20 @@ pub enum Refusal {
     NoMemory,
 }
 
-impl From<lft_tag::NoMemory> for Refusal {
+impl<'a> From<lft_tag::NoMemory> for Refusal<'a> {
     ghost from_gives = { λ _ e. e ≡ refusals.NoMemory };
 
-    fn from(_error: lft_tag::NoMemory) -> Refusal {
+    fn from(_error: lft_tag::NoMemory) -> Refusal<'a> {
         Refusal::NoMemory
     }
 }
 
-impl From<NestFault> for Refusal {
+impl<'a> From<NestFault> for Refusal<'a> {
     ghost use Rattle.lft_program.specs.inner.Refusals.{of_nest};
 
     ghost from_gives = { λ f e. e ≡ of_nest f };
 
-    fn from(fault: NestFault) -> Refusal {
+    fn from(fault: NestFault) -> Refusal<'a> {
         match fault {
             NestFault::TooMany(excess) => Refusal::TooMany(excess),
             NestFault::NoMemory => Refusal::NoMemory,
@@ -47,7 +47,7 @@ impl From<NestFault> for Refusal {
     }
 }
 
-impl Refusal {
+impl<'a> Refusal<'a> {
     /// The fault, without what shows it.
     pub fn fault(&self) -> ProgramFault
         ensures { result ≡ fault_of self.now }

@@ -1,6 +1,4 @@
 mod Firsts
-mod Picking
-mod Showing
 mod Turned
 mod Numbered
 mod Saying

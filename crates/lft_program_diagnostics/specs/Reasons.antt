@@ -1,11 +1,11 @@
 -- What is told of a program that has a tree and is refused.
-use Rattle.std.specs.Prelude.{◌≡◌, ℕ, ◌⊎◌, List, ◌++◌, Option, codes, map, []}
-use Rattle.lft_tree.specs.{View.{file_view, reactor_view}, declared.tree.{Item.Item, Reactor.Reactor, TokenRange.TokenRange}}
+use Rattle.std.specs.Prelude.{◌≡◌, ℕ, ◌⊎◌, List, ◌++◌, Option, codes, []}
+use Rattle.lft_tree.specs.{View.file_view, declared.tree.{Item.Item, Reactor.Reactor, TokenRange.TokenRange}}
 use Rattle.lft_syntax.specs.{declared.token.Token.Token, Lexes.Lexes, Placed.FileStands, Grammar.Spells, View.lexemes}
 use Rattle.lft_resolve.specs.Causes.{IsFirst, causes, number_of}
 use Rattle.lft_text_diagnostics.specs.{Diagnostics.SaysOf, Pages.SaysSpot, declared.{pages.Page.Page, spots.Span.Span}}
-use Rattle.lft_validate.specs.{Witnesses.{Shows, fault_shown}, declared.witness.Witness.Witness}
-use Rattle.lft_program_diagnostics.specs.{Sentences.{fault_told, said, words_in}, declared.sentence.Sentence.Sentence, Spots.{reactors_among, witness_spot}}
+use Rattle.lft_validate.specs.{Members.reactors_among, Witnesses.{Shows, fault_shown}, declared.witness.Witness.Witness}
+use Rattle.lft_program_diagnostics.specs.{Sentences.{fault_told, said, words_in}, declared.sentence.Sentence.Sentence, Spots.witness_spot}
 
 -- the words say this where the bytes stand
 abbrev pub BeginsAt : List ℕ → List Page → Option Span → List ℕ → List ℕ → Type 0
@@ -14,9 +14,9 @@ BeginsAt t files spot sentence words = (place : List ℕ) × SaysSpot t files sp
 -- a witness of these reactors shows the cause, and stands at these bytes
 pub record HasWitnessAt (tokens : List Token) (reactors : List Reactor) (cause : ℕ) (spot : Option Span) : Type 0 where
   pub witness : Witness
-  pub shows : Shows (map reactor_view reactors) witness
+  pub shows : Shows reactors witness
   pub shows_cause : number_of (fault_shown witness) ≡ cause
-  pub at : spot ≡ witness_spot tokens reactors witness
+  pub at : spot ≡ witness_spot tokens witness
 
 -- reactors that contain one another, connections that form a loop, delays that only together are too long, too many things: several places show the cause together
 abbrev pub IsOfWhole : ℕ → Type 0

@@ -1,97 +1,36 @@
 //! Why a program with a tree is refused, for people.
 
-ghost use Rattle.std.specs.Prelude.{◌≡◌, ◌≢◌, IfOk, IsErr, map, string_bytes};
-ghost use Rattle.lft_tree.specs.View.{reactor_view, tree_view};
+ghost use Rattle.std.specs.Prelude.{◌≡◌, ◌≢◌, IfOk, IsErr, string_bytes};
+ghost use Rattle.lft_tree.specs.View.{tree_view};
 ghost use Rattle.lft_syntax.specs.{Grammar.Spells, Lexes.Lexes, Placed.FileStands, View.lexemes};
 ghost use Rattle.lft_resolve.specs.Causes.{IsFirst, causes};
-ghost use Rattle.lft_validate.specs.Witnesses.{Shows, fault_shown};
+ghost use Rattle.lft_validate.specs.{Members.reactors_among, Witnesses.fault_shown};
 ghost use Rattle.lft_program.specs.inner.Refusals.{Tells, cause_of, fault_of};
 ghost use Rattle.lft_text_diagnostics.specs.inner.Pages.{ArePages};
-ghost use Rattle.lft_program_diagnostics.specs.{Reasons.{BeginsAt, IsShownAt, IsToldIn, IsToldOf}, inner.{Sentences.{IsOf, reason_sentence}, Spots.behind}};
-ghost use Rattle.lft_program_diagnostics.specs.Spots.{reactors_among as the_reactors_among, witness_spot};
+ghost use Rattle.lft_program_diagnostics.specs.{Reasons.{BeginsAt, IsShownAt, IsToldIn, IsToldOf}, inner.Sentences.{IsOf, reason_sentence}, Spots.witness_spot};
 ghost use Rattle.lft_program.specs.declared.refusal.Refusal.TheVariants as refusals;
 
 use crate::reason::WhyRefused;
 use crate::refused::Refused;
 use crate::sentence::push_said;
-use crate::spots::{reactors_among, spot_of};
+use crate::spots::{spot_before, spot_of};
 use lft_program::Refusal;
 use lft_syntax::{Token, Tokens};
 use lft_tag::NoMemory;
 use lft_text_diagnostics::words::push_way;
-use lft_text_diagnostics::{Diagnostic, Page, Span, place_words, push_marked};
-use lft_tree::{Ast, Reactor};
-use lft_validate::{Finding, Witness};
+use lft_text_diagnostics::{Diagnostic, Page, place_words, push_marked};
+use lft_tree::Ast;
+use lft_validate::{Witness, reactors_among};
 use std::alloc::Global;
 
-/// The witness with the first of the two things that it names in place of the second, if it names two.
-fn first_of(witness: Witness) -> Option<Witness> {
-    match witness {
-        // The first takes the place of the second here and below, so `spot_of` says of either where it
-        // stands.
-        Witness::TwoMains { first, .. } => Some(Witness::TwoMains {
-            first,
-            second: first,
-        }),
-        Witness::SameReactors { first, .. } => Some(Witness::SameReactors {
-            first,
-            second: first,
-        }),
-        Witness::DeclaredTwice { reactor, first, .. } => Some(Witness::DeclaredTwice {
-            reactor,
-            first,
-            second: first,
-        }),
-        Witness::TwoSources { reactor, first, .. } => Some(Witness::TwoSources {
-            reactor,
-            first,
-            second: first,
-        }),
-        Witness::Member {
-            reactor,
-            member,
-            finding,
-        } => Some(Witness::Member {
-            reactor,
-            member,
-            finding: first_found(finding)?,
-        }),
-        Witness::NoMain => None,
-        Witness::LongDefault { .. } => None,
-    }
-}
-
-/// The same of a finding.
-fn first_found(finding: Finding) -> Option<Finding> {
-    match finding {
-        Finding::GivenTwice { first, .. } => Some(Finding::GivenTwice {
-            first,
-            second: first,
-        }),
-        Finding::NamedTwice { role, first, .. } => Some(Finding::NamedTwice {
-            role,
-            first,
-            second: first,
-        }),
-        _ => None,
-    }
-}
-
-/// Where the first of the two things that a witness names stands, if it names two.
-fn spot_before(tokens: &[Token], reactors: &[&Reactor], witness: Witness) -> Option<Span> {
-    spot_of(tokens, reactors, first_of(witness)?)
-}
-
 /// What is said of a witness, and where it stands.
-fn of_witness(refused: &Refused, witness: Witness) -> Result<WhyRefused, NoMemory>
-    requires { Shows (map reactor_view (behind refused.now.reactors.now)) witness }
-    ensures fault { IfOk result (IsOf (fault_shown witness)) }
-    ensures at { IfOk result (λ r. r.at ≡ witness_spot refused.now.tokens.now (behind refused.now.reactors.now) witness) }
+fn of_witness<'a>(refused: &Refused<'a>, witness: Witness<'a>) -> Result<WhyRefused, NoMemory>
+    ensures fault { IfOk result (IsOf (fault_shown witness.entry)) }
+    ensures at { IfOk result (λ r. r.at ≡ witness_spot refused.now.tokens.now witness.entry) }
 {
     let reason = refused.of_witness(witness)?;
-    let before = spot_before(refused.tokens, refused.reactors, witness);
-    let spot = spot_of(refused.tokens, refused.reactors, witness);
-    Ok(reason.before(before).at(spot))
+    let before = spot_before(refused.tokens, witness);
+    Ok(reason.before(before).at(spot_of(refused.tokens, witness)))
 }
 
 /// What is said of a refusal of a program that has this tree.
@@ -102,9 +41,9 @@ fn reason_of(
     ast: &Ast,
     refusal: &Refusal,
 ) -> Result<WhyRefused, NoMemory>
-    requires { Tells (tree_view ast.now) refusal.now }
+    requires { Tells ast.now refusal.now }
     ensures fault { IfOk result (IsOf (fault_of refusal.now)) }
-    ensures shown { IfOk result (λ r. IsShownAt tokens.now (the_reactors_among ast.now.items.items) (cause_of refusal.now) r.at) }
+    ensures shown { IfOk result (λ r. IsShownAt tokens.now (reactors_among ast.now.items.items) (cause_of refusal.now) r.at) }
     ensures memory { refusal.now ≡ refusals.NoMemory → IsErr result }
 {
     let reactors = reactors_among(alloc, &ast.items)?;
@@ -153,7 +92,7 @@ pub fn tell_refusal_in(
     refusal: &Refusal,
 ) -> Result<String, NoMemory>
     requires files { ArePages text.now files.now }
-    requires tells { Tells (tree_view ast.now) refusal.now }
+    requires tells { Tells ast.now refusal.now }
     ensures told { IfOk result (λ words. IsToldIn text.now tokens.now files.now ast.now.items.items (cause_of refusal.now) (string_bytes words)) }
     ensures memory { refusal.now ≡ refusals.NoMemory → IsErr result }
 {
@@ -173,7 +112,7 @@ pub fn tell_refusal(
     requires spelled { Spells (tree_view ast.now) (lexemes text.now tokens.now) }
     requires places { FileStands (lexemes text.now tokens.now) ast.now.target ast.now.items.items }
     requires first { refusal.now ≢ refusals.NoMemory → IsFirst (causes (tree_view ast.now)) (cause_of refusal.now) }
-    requires tells { Tells (tree_view ast.now) refusal.now }
+    requires tells { Tells ast.now refusal.now }
     ensures { IfOk result (λ words. IsToldOf text.now (cause_of refusal.now) (string_bytes words)) }
 {
     tell_refusal_in(alloc, text, tokens.as_slice(), &[], ast, refusal)

@@ -6,23 +6,13 @@ ghost use Rattle.lft_program_diagnostics.specs.inner.Sentences.{IsOf};
 ghost use Rattle.lft_resolve.specs.declared.causes.ProgramFault.TheVariants as faults;
 
 use crate::reason::WhyRefused;
-use crate::refused::{MemberSite, Refused};
+use crate::refused::Refused;
 use crate::sentence::Sentence;
-use crate::spots::{name_at, time_at};
 use crate::words::reactor_words;
-use lft_resolve::kinds::Role;
 use lft_syntax::Token;
 use lft_tag::NoMemory;
 use lft_text_diagnostics::has_code_with;
-use lft_tree::{Instance, Member, TimeExpression};
-
-/// The instance that the member is, if it is one.
-pub(crate) fn instance_of(member: &Member) -> Option<&Instance> {
-    match member {
-        Member::Instance(instance) => Some(instance),
-        _ => None,
-    }
-}
+use lft_tree::{Assignment, Instance, Member, Reactor, Reference, TimeExpression};
 
 /// What helps where code reaches too far, so that a reactor is in it.
 pub fn way_of_code(text: &[u8], tokens: &[Token]) -> Option<&'static str>
@@ -47,14 +37,15 @@ fn meant(reason: WhyRefused, near: Option<&str>) -> Result<WhyRefused, NoMemory>
 
 impl<'a> Refused<'a> {
     /// An instance is of a reactor that isn't there.
-    pub(crate) fn unknown_reactor(&self, site: MemberSite<'a>) -> Result<WhyRefused, NoMemory>
+    pub(crate) fn unknown_reactor(
+        &self,
+        reactor: &Reactor,
+        instance: &Instance,
+    ) -> Result<WhyRefused, NoMemory>
         ensures { IfOk result (IsOf faults.UnknownReactor) }
     {
-        let Some(instance) = instance_of(site.member) else {
-            return self.plain(Sentence::UnknownReactor);
-        };
         let wanted = instance.reactor.as_str();
-        let owner = reactor_words(self.alloc, site.reactor)?;
+        let owner = reactor_words(self.alloc, reactor)?;
         let names = [owner.as_str(), wanted];
         let reason = WhyRefused::of(self.alloc, Sentence::UnknownReactor, &names)?;
         let reason = meant(reason, self.near_reactor(wanted)?)?;
@@ -66,15 +57,15 @@ impl<'a> Refused<'a> {
     }
 
     /// A name without a port is nothing.
-    fn unknown_plain(&self, site: MemberSite<'a>, wanted: &str) -> Result<WhyRefused, NoMemory>
+    fn unknown_plain(&self, reactor: &'a Reactor, wanted: &str) -> Result<WhyRefused, NoMemory>
         ensures { IfOk result (IsOf faults.UnknownName) }
     {
-        let owner = reactor_words(self.alloc, site.reactor)?;
+        let owner = reactor_words(self.alloc, reactor)?;
         let names = [owner.as_str(), wanted];
         let reason = WhyRefused::of(self.alloc, Sentence::UnknownName, &names)?;
-        let reason = meant(reason, self.near_declared(site.reactor, wanted)?)?;
+        let reason = meant(reason, self.near_declared(reactor, wanted)?)?;
         // A port of an instance may be meant, with the instance left out.
-        match self.with_that_port(site.reactor, wanted)? {
+        match self.with_that_port(reactor, wanted)? {
             Some(instance) => reason.ask(instance, Some(wanted)),
             None => Ok(reason),
         }
@@ -83,16 +74,16 @@ impl<'a> Refused<'a> {
     /// An instance is nothing whose port is named.
     fn unknown_instance(
         &self,
-        site: MemberSite<'a>,
+        reactor: &'a Reactor,
         head: &str,
         port: &str,
     ) -> Result<WhyRefused, NoMemory>
         ensures { IfOk result (IsOf faults.UnknownName) }
     {
-        let owner = reactor_words(self.alloc, site.reactor)?;
+        let owner = reactor_words(self.alloc, reactor)?;
         let names = [owner.as_str(), head];
         let reason = WhyRefused::of(self.alloc, Sentence::UnknownInstance, &names)?;
-        match self.near_instance(site.reactor, head, port)? {
+        match self.near_instance(reactor, head, port)? {
             Some(near) => reason.ask(near, Some(port)),
             None => Ok(reason),
         }
@@ -101,28 +92,28 @@ impl<'a> Refused<'a> {
     /// A port of an instance is nothing.
     fn unknown_port(
         &self,
-        site: MemberSite<'a>,
+        reactor: &'a Reactor,
         instance: &Instance,
         port: &str,
     ) -> Result<WhyRefused, NoMemory>
         ensures { IfOk result (IsOf faults.UnknownName) }
     {
-        let owner = reactor_words(self.alloc, site.reactor)?;
+        let owner = reactor_words(self.alloc, reactor)?;
         let (head, inner) = (instance.name.as_str(), instance.reactor.as_str());
         let names = [owner.as_str(), head, inner, port];
         let reason = WhyRefused::of(self.alloc, Sentence::UnknownPort, &names)?;
-        let Some(reactor) = self.named(inner) else {
+        let Some(inner) = self.named(inner) else {
             return Ok(reason);
         };
-        match self.near_port(reactor, port)? {
+        match self.near_port(inner, port)? {
             Some(near) => Ok(reason.ask(head, Some(near))?),
             None => Ok(reason),
         }
     }
 
     /// The instance of that name in the reactor of the site.
-    fn instance(&self, site: MemberSite<'a>, wanted: &str) -> Option<&'a Instance> {
-        for member in &site.reactor.members {
+    fn instance(&self, reactor: &'a Reactor, wanted: &str) -> Option<&'a Instance> {
+        for member in &reactor.members {
             if let Member::Instance(instance) = member {
                 if instance.name.as_str() == wanted {
                     return Some(instance);
@@ -135,41 +126,38 @@ impl<'a> Refused<'a> {
     /// A name is nothing.
     pub(crate) fn unknown_name(
         &self,
-        site: MemberSite<'a>,
-        role: Role,
-        place: usize,
+        reactor: &'a Reactor,
+        name: &Reference,
     ) -> Result<WhyRefused, NoMemory>
         ensures { IfOk result (IsOf faults.UnknownName) }
     {
-        let Some(name) = name_at(site.member, role, place) else {
-            return self.plain(Sentence::UnknownName);
-        };
         let head = name.head.as_str();
         let Some(port) = &name.port else {
-            return self.unknown_plain(site, head);
+            return self.unknown_plain(reactor, head);
         };
-        match self.instance(site, head) {
-            Some(instance) => self.unknown_port(site, instance, port.as_str()),
-            None => self.unknown_instance(site, head, port.as_str()),
+        match self.instance(reactor, head) {
+            Some(instance) => self.unknown_port(reactor, instance, port.as_str()),
+            None => self.unknown_instance(reactor, head, port.as_str()),
         }
     }
 
     /// A time names nothing.
     pub(crate) fn unknown_time(
         &self,
-        site: MemberSite<'a>,
-        place: usize,
+        reactor: &'a Reactor,
+        time: &TimeExpression,
     ) -> Result<WhyRefused, NoMemory>
         ensures { IfOk result (IsOf faults.UnknownName) }
     {
-        let Some(TimeExpression::Parameter { name, .. }) = time_at(site.member, place) else {
+        // What is written names nothing, and is never found.
+        let TimeExpression::Parameter { name, .. } = time else {
             return self.plain(Sentence::UnknownName);
         };
         let wanted = name.as_str();
-        let owner = reactor_words(self.alloc, site.reactor)?;
+        let owner = reactor_words(self.alloc, reactor)?;
         let names = [owner.as_str(), wanted];
         let reason = WhyRefused::of(self.alloc, Sentence::UnknownName, &names)?;
-        let reason = meant(reason, self.near_parameter(site.reactor, wanted)?)?;
+        let reason = meant(reason, self.near_parameter(reactor, wanted)?)?;
         let way = "A time is a number with a unit, or a parameter of the reactor.";
         reason.way(way)
     }
@@ -177,24 +165,18 @@ impl<'a> Refused<'a> {
     /// A value is for what isn't a parameter.
     pub(crate) fn unknown_parameter(
         &self,
-        site: MemberSite<'a>,
-        value: usize,
+        reactor: &Reactor,
+        instance: &Instance,
+        value: &Assignment,
     ) -> Result<WhyRefused, NoMemory>
         ensures { IfOk result (IsOf faults.UnknownName) }
     {
-        let Some(instance) = instance_of(site.member) else {
-            return self.plain(Sentence::UnknownParameter);
-        };
-        if value >= instance.given.len() {
-            return self.plain(Sentence::UnknownParameter);
-        }
-        let given = &instance.given[value];
-        let (wanted, inner) = (given.name.as_str(), instance.reactor.as_str());
-        let owner = reactor_words(self.alloc, site.reactor)?;
+        let (wanted, inner) = (value.name.as_str(), instance.reactor.as_str());
+        let owner = reactor_words(self.alloc, reactor)?;
         let names = [owner.as_str(), inner, wanted];
         let reason = WhyRefused::of(self.alloc, Sentence::UnknownParameter, &names)?;
         match self.named(inner) {
-            Some(reactor) => meant(reason, self.near_parameter(reactor, wanted)?),
+            Some(inner) => meant(reason, self.near_parameter(inner, wanted)?),
             None => Ok(reason),
         }
     }

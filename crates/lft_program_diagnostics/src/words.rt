@@ -82,12 +82,3 @@ pub(crate) fn list_words(role: Role) -> &'static str {
         _ => "its effects",
     }
 }
-
-/// What writes a port from two places.
-pub(crate) fn writer_words(first: Role, second: Role) -> &'static str {
-    match (first, second) {
-        (Role::Destination, Role::Destination) => "two connections",
-        // Two effects are no fault, so one of the two is a connection.
-        _ => "a connection and an effect",
-    }
-}

@@ -3,9 +3,10 @@ pub mod Circles
 pub mod DeclaredNames
 pub mod Founding
 pub mod InMembers
+pub mod Listing
+pub mod Picking
 pub mod Roles
 pub mod SameRefs
 pub mod Sound
-pub mod Standing
 pub mod Turns
 pub mod TwoMains

@@ -1,5 +1,5 @@
 -- The test of two names being the same.
-use Rattle.std.proofs.Common.{◌≡◌, ◌&&◌, ℕ, Bool, true, false, List, Option, Some, None, refl, ap, subst, bytes_eq, Decides}
+use Rattle.std.proofs.Common.{◌≡◌, ℕ, true, List, Option, Some, None, refl, ap, subst, bytes_eq, Decides}
 use Rattle.std.proofs.lemmas.{Bool.and_parts, Slice.Eq.bytes_eq-Decides}
 use Rattle.lft_tree.specs.Tree.{RefTree}
 use Rattle.lft_validate.specs.inner.Seen.{same_ref, same_inside}

@@ -1,120 +1,95 @@
-//! What shows a cause of refusal in one member. Everything is named by its place, counted from 0.
+//! What shows a cause of refusal in one member.
 
 ghost use Rattle.std.specs.Prelude.{◌≡◌};
-ghost use Rattle.lft_validate.specs.Findings.{fault_found, part_found};
+ghost use Rattle.lft_validate.specs.Findings.{fault_found};
 
+use crate::placed::NameAt;
 use lft_resolve::ProgramFault;
 use lft_resolve::kinds::{Kind, Role};
+use lft_tree::{Assignment, Connection, Instance, Port, Reaction, Reference, TimeExpression};
 
 /// The roles in the order in which they stand in a member.
 pub const ROLES: [Role; 4] = [Role::Read, Role::Effect, Role::Source, Role::Destination];
 
-/// What is wrong with one member of a reactor. Names count among those of their role, times and values
-/// among those of the member.
-#[derive(Clone, Copy, PartialEq, Eq, Drop)]
-pub enum Finding {
+/// What is wrong with one member of a reactor.
+#[derive(Clone, Copy, Drop)]
+pub enum Finding<'a> {
     /// One `new` gives a parameter two values.
     GivenTwice {
-        first: usize,
-        second: usize,
+        instance: &'a Instance,
+        first: NameAt<'a>,
+        second: NameAt<'a>,
     },
     /// `new` of a name that no reactor has.
-    UnknownReactor,
+    UnknownReactor {
+        instance: &'a Instance,
+    },
     /// A name that is nothing.
     UnknownName {
-        role: Role,
-        name: usize,
+        name: &'a Reference,
     },
     /// The name of a time is nothing.
     UnknownTime {
-        time: usize,
+        time: &'a TimeExpression,
     },
     /// A value for what isn't a parameter of the new reactor.
     UnknownParameter {
-        value: usize,
+        instance: &'a Instance,
+        value: &'a Assignment,
     },
     /// A name that may not stand where it does, and what it is.
     WrongPlace {
         role: Role,
-        name: usize,
+        name: &'a Reference,
         kind: Kind,
     },
     /// The name of a time is no parameter, and what it is.
     WrongTime {
-        time: usize,
+        time: &'a TimeExpression,
         kind: Kind,
     },
     /// A port of the main reactor.
-    MainHasPort,
+    MainHasPort {
+        port: &'a Port,
+    },
     /// The two lists of a connection differ in length.
-    WidthMismatch,
+    WidthMismatch {
+        connection: &'a Connection,
+    },
     /// A reaction has no trigger.
-    NoTrigger,
-    /// A name stands twice in one role.
+    NoTrigger {
+        reaction: &'a Reaction,
+    },
+    /// A name stands twice in one role of a reaction.
     NamedTwice {
         role: Role,
-        first: usize,
-        second: usize,
+        first: &'a Reference,
+        second: &'a Reference,
     },
     /// A time past the greatest.
     LongTime {
-        time: usize,
+        time: &'a TimeExpression,
     },
 }
 
-/// A part of a member.
-#[derive(Clone, Copy, Drop)]
-pub enum MemberPart {
-    /// What tells the whole member.
-    Whole,
-    /// The name that it declares.
-    Declared,
-    /// One of its names.
-    Name { role: Role, name: usize },
-    /// One of its times.
-    Time { time: usize },
-    /// The parameter that one of its values is for.
-    Value { value: usize },
-}
-
-impl Finding {
+impl<'a> Finding<'a> {
     /// The cause that it shows.
     pub fn fault(self) -> ProgramFault
-        ensures { result ≡ fault_found self }
+        ensures { result ≡ fault_found self.entry }
     {
         match self {
             Finding::GivenTwice { .. } => ProgramFault::DuplicateName,
-            Finding::UnknownReactor => ProgramFault::UnknownReactor,
+            Finding::UnknownReactor { .. } => ProgramFault::UnknownReactor,
             Finding::UnknownName { .. } => ProgramFault::UnknownName,
             Finding::UnknownTime { .. } => ProgramFault::UnknownName,
             Finding::UnknownParameter { .. } => ProgramFault::UnknownName,
             Finding::WrongPlace { .. } => ProgramFault::WrongPlace,
             Finding::WrongTime { .. } => ProgramFault::WrongPlace,
-            Finding::MainHasPort => ProgramFault::MainHasPorts,
-            Finding::WidthMismatch => ProgramFault::WidthMismatch,
-            Finding::NoTrigger => ProgramFault::NoTrigger,
+            Finding::MainHasPort { .. } => ProgramFault::MainHasPorts,
+            Finding::WidthMismatch { .. } => ProgramFault::WidthMismatch,
+            Finding::NoTrigger { .. } => ProgramFault::NoTrigger,
             Finding::NamedTwice { .. } => ProgramFault::DuplicateInput,
             Finding::LongTime { .. } => ProgramFault::DelayTooLong,
-        }
-    }
-
-    /// Where in the member it is: of two that are one, the second.
-    pub fn part(self) -> MemberPart
-        ensures { result ≡ part_found self }
-    {
-        match self {
-            Finding::GivenTwice { second, .. } => MemberPart::Value { value: second },
-            Finding::UnknownReactor => MemberPart::Whole,
-            Finding::UnknownName { role, name } => MemberPart::Name { role, name },
-            Finding::UnknownTime { time } => MemberPart::Time { time },
-            Finding::UnknownParameter { value } => MemberPart::Value { value },
-            Finding::WrongPlace { role, name, .. } => MemberPart::Name { role, name },
-            Finding::WrongTime { time, .. } => MemberPart::Time { time },
-            Finding::MainHasPort => MemberPart::Declared,
-            Finding::WidthMismatch => MemberPart::Whole,
-            Finding::NoTrigger => MemberPart::Whole,
-            Finding::NamedTwice { role, second, .. } => MemberPart::Name { role, name: second },
-            Finding::LongTime { time } => MemberPart::Time { time },
         }
     }
 }

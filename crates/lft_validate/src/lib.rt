@@ -1,6 +1,6 @@
 #![tactic(auto)]
-//! Which cause of refusal the reactors of a core program show, with the reactor, the member and the name that
-//! show it. The causes themselves are in `lft_resolve`.
+//! Which cause of refusal the reactors of a core program show, with the parts of the tree that show it. The
+//! causes themselves are in `lft_resolve`.
 
 mod checks;
 mod circle;
@@ -10,7 +10,8 @@ mod mains;
 mod member;
 mod members;
 mod misplaced;
-pub mod names;
+mod names;
+mod placed;
 mod seen;
 mod sources;
 mod twice;
@@ -19,6 +20,7 @@ mod witness;
 
 pub use checks::{check_first, check_later, check_times};
 pub use circle::circle_of;
-pub use declared::declared_name;
-pub use finding::{Finding, MemberPart};
-pub use witness::{Naming, Witness};
+pub use finding::Finding;
+pub use names::reactors_among;
+pub use placed::NameAt;
+pub use witness::Witness;

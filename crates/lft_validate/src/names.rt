@@ -1,18 +1,40 @@
-//! The names and times of one member, in order.
+//! The reactors of a file, and the names and times of one member, in order.
 
-ghost use Rattle.std.specs.Prelude.{◌≡◌, ◌++◌, IfOk, OnOk, option_map, filter_map, option_to_list, map};
-ghost use Rattle.lft_tree.specs.View.{assignment_view, member_view, ref_view, ref_views, trigger_view, reaction_view, time_view};
-ghost use Rattle.lft_resolve.specs.{Kinds.{ref_in, names_read}, inner.References.ref_trees};
-ghost use Rattle.lft_validate.specs.{Members.{names_of, times_of}, inner.Members.time_trees};
+ghost use Rattle.std.specs.Prelude.{◌≡◌, ◌++◌, IfOk, OnOk, filter_map, map, option_map, option_to_list};
+ghost use Rattle.lft_validate.specs.{Members.{name_among, names_of, reactor_of, reactors_among, times_of}, inner.Members.behind};
 
 use lft_resolve::kinds::Role;
 use lft_tag::NoMemory;
-use lft_tree::{Assignment, Member, Reaction, Reference, TimeExpression, Trigger};
+use lft_tree::{Assignment, Item, Member, Reaction, Reactor, Reference, TimeExpression, Trigger};
 use std::alloc::Global;
+
+/// The reactor that the item is, if it is one.
+fn reactor_of(item: &Item) -> Option<&Reactor>
+    ensures { option_map (λ r. r.now) result ≡ reactor_of item.now }
+{
+    match item {
+        Item::Reactor(reactor) => Some(reactor),
+        Item::Preamble(_) => None,
+    }
+}
+
+/// The reactors of a file, in order.
+pub fn reactors_among(alloc: Global, items: &[Item]) -> Result<Vec<&Reactor>, NoMemory>
+    ensures { IfOk result (λ v. behind v.items ≡ reactors_among items.now) }
+{
+    let mut found = Vec::new(alloc);
+    for item in items {
+        match reactor_of(item) {
+            Some(reactor) => found.push(reactor)?,
+            None => {}
+        }
+    }
+    Ok(found)
+}
 
 /// Puts references to all of the names at the end.
 fn push_all<'a>(found: &mut Vec<&'a Reference>, references: &'a [Reference]) -> Result<(), NoMemory>
-    ensures { OnOk result (ref_trees found.new.items ≡ ref_trees found.old.items ++ ref_views references.now) }
+    ensures { OnOk result (behind found.new.items ≡ behind found.old.items ++ references.now) }
 {
     // No `extend_from_slice`: the list has references to names, and the tree the names themselves.
     for reference in references {
@@ -22,8 +44,8 @@ fn push_all<'a>(found: &mut Vec<&'a Reference>, references: &'a [Reference]) -> 
 }
 
 /// The name of a trigger, if it has one.
-fn reference_in(trigger: &Trigger) -> Option<&Reference>
-    ensures { option_map (λ r. ref_view r.now) result ≡ ref_in (trigger_view trigger.now) }
+fn name_among(trigger: &Trigger) -> Option<&Reference>
+    ensures { option_map (λ r. r.now) result ≡ name_among trigger.now }
 {
     match trigger {
         Trigger::Startup | Trigger::Shutdown => None,
@@ -33,11 +55,11 @@ fn reference_in(trigger: &Trigger) -> Option<&Reference>
 
 /// The names among the triggers.
 fn trigger_names(alloc: Global, triggers: &[Trigger]) -> Result<Vec<&Reference>, NoMemory>
-    ensures { IfOk result (λ v. ref_trees v.items ≡ filter_map ref_in (map trigger_view triggers.now)) }
+    ensures { IfOk result (λ v. behind v.items ≡ filter_map name_among triggers.now) }
 {
     let mut found = Vec::new(alloc);
     for trigger in triggers {
-        match reference_in(trigger) {
+        match name_among(trigger) {
             Some(reference) => found.push(reference)?,
             None => {}
         }
@@ -47,7 +69,7 @@ fn trigger_names(alloc: Global, triggers: &[Trigger]) -> Result<Vec<&Reference>,
 
 /// The names among a reaction's triggers and uses.
 fn reads(alloc: Global, reaction: &Reaction) -> Result<Vec<&Reference>, NoMemory>
-    ensures { IfOk result (λ v. ref_trees v.items ≡ names_read (reaction_view reaction.now)) }
+    ensures { IfOk result (λ v. behind v.items ≡ names_of Role.Read (Member.Reaction reaction.now)) }
 {
     let mut found = trigger_names(alloc, &reaction.triggers)?;
     push_all(&mut found, &reaction.uses)?;
@@ -56,7 +78,7 @@ fn reads(alloc: Global, reaction: &Reaction) -> Result<Vec<&Reference>, NoMemory
 
 /// References to all of the names.
 fn all(alloc: Global, references: &[Reference]) -> Result<Vec<&Reference>, NoMemory>
-    ensures { IfOk result (λ v. ref_trees v.items ≡ ref_views references.now) }
+    ensures { IfOk result (λ v. behind v.items ≡ references.now) }
 {
     let mut found = Vec::new(alloc);
     push_all(&mut found, references)?;
@@ -64,8 +86,12 @@ fn all(alloc: Global, references: &[Reference]) -> Result<Vec<&Reference>, NoMem
 }
 
 /// The names of the member that have the role, in order.
-pub fn names_of(alloc: Global, member: &Member, role: Role) -> Result<Vec<&Reference>, NoMemory>
-    ensures { IfOk result (λ v. ref_trees v.items ≡ names_of role (member_view member.now)) }
+pub(crate) fn names_of(
+    alloc: Global,
+    member: &Member,
+    role: Role,
+) -> Result<Vec<&Reference>, NoMemory>
+    ensures { IfOk result (λ v. behind v.items ≡ names_of role member.now) }
 {
     match (role, member) {
         (Role::Read, Member::Reaction(reaction)) => reads(alloc, reaction),
@@ -84,7 +110,7 @@ fn times_among<'a>(
     first: &'a Option<TimeExpression>,
     second: &'a Option<TimeExpression>,
 ) -> Result<Vec<&'a TimeExpression>, NoMemory>
-    ensures { IfOk result (λ v. time_trees v.items ≡ option_to_list (option_map time_view first.now) ++ option_to_list (option_map time_view second.now)) }
+    ensures { IfOk result (λ v. behind v.items ≡ option_to_list first.now ++ option_to_list second.now) }
 {
     let mut found = Vec::new(alloc);
     push_time(&mut found, first)?;
@@ -97,7 +123,7 @@ fn time_alone<'a>(
     alloc: Global,
     time: &'a Option<TimeExpression>,
 ) -> Result<Vec<&'a TimeExpression>, NoMemory>
-    ensures { IfOk result (λ v. time_trees v.items ≡ option_to_list (option_map time_view time.now)) }
+    ensures { IfOk result (λ v. behind v.items ≡ option_to_list time.now) }
 {
     let mut found = Vec::new(alloc);
     push_time(&mut found, time)?;
@@ -106,7 +132,7 @@ fn time_alone<'a>(
 
 /// The times that are given to parameters.
 fn values(alloc: Global, given: &[Assignment]) -> Result<Vec<&TimeExpression>, NoMemory>
-    ensures { IfOk result (λ v. time_trees v.items ≡ map (λ a. a.value) (map assignment_view given.now)) }
+    ensures { IfOk result (λ v. behind v.items ≡ map (λ a. a.value) given.now) }
 {
     let mut found = Vec::new(alloc);
     for assignment in given {
@@ -116,8 +142,8 @@ fn values(alloc: Global, given: &[Assignment]) -> Result<Vec<&TimeExpression>, N
 }
 
 /// The times of the member, in order.
-pub fn times_of(alloc: Global, member: &Member) -> Result<Vec<&TimeExpression>, NoMemory>
-    ensures { IfOk result (λ v. time_trees v.items ≡ times_of (member_view member.now)) }
+pub(crate) fn times_of(alloc: Global, member: &Member) -> Result<Vec<&TimeExpression>, NoMemory>
+    ensures { IfOk result (λ v. behind v.items ≡ times_of member.now) }
 {
     match member {
         Member::Timer(timer) => times_among(alloc, &timer.offset, &timer.period),
@@ -135,7 +161,7 @@ fn push_time<'a>(
     found: &mut Vec<&'a TimeExpression>,
     time: &'a Option<TimeExpression>,
 ) -> Result<(), NoMemory>
-    ensures { OnOk result (time_trees found.new.items ≡ time_trees found.old.items ++ option_to_list (option_map time_view time.now)) }
+    ensures { OnOk result (behind found.new.items ≡ behind found.old.items ++ option_to_list time.now) }
 {
     match time {
         Some(time) => Ok(found.push(time)?),

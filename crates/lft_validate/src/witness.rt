@@ -1,65 +1,62 @@
-//! What shows a cause of refusal. Everything is named by its place in the tree, counted from 0.
+//! What shows a cause of refusal: parts of the tree, which know where they stand.
 
 ghost use Rattle.std.specs.Prelude.{◌≡◌};
 ghost use Rattle.lft_validate.specs.Witnesses.{fault_shown};
 
 use crate::finding::Finding;
+use crate::placed::NameAt;
 use lft_resolve::ProgramFault;
-use lft_resolve::kinds::Role;
-
-/// The place of a name in a reactor: the member, and the name's place among those of its role there.
-#[derive(Clone, Copy, Drop)]
-pub struct Naming {
-    pub member: usize,
-    pub role: Role,
-    pub name: usize,
-}
+use lft_tree::{Parameter, Reactor, Reference};
 
 /// What shows a cause of refusal.
 #[derive(Clone, Copy, Drop)]
-pub enum Witness {
+pub enum Witness<'a> {
     /// No reactor is a main one.
     NoMain,
     /// Two main reactors.
     TwoMains {
-        first: usize,
-        second: usize,
+        first: &'a Reactor,
+        second: &'a Reactor,
     },
-    /// Two reactors have one name. They count among those that have a name.
+    /// Two reactors have one name.
     SameReactors {
-        first: usize,
-        second: usize,
+        first: NameAt<'a>,
+        second: NameAt<'a>,
     },
-    /// A reactor declares two things of one name. They count among all that it declares, in the order of
-    /// the text.
+    /// A reactor declares two things of one name.
     DeclaredTwice {
-        reactor: usize,
-        first: usize,
-        second: usize,
+        reactor: &'a Reactor,
+        first: NameAt<'a>,
+        second: NameAt<'a>,
     },
     /// Something is wrong with a member of a reactor.
     Member {
-        reactor: usize,
-        member: usize,
-        finding: Finding,
+        reactor: &'a Reactor,
+        finding: Finding<'a>,
     },
-    /// A port is written at two places, one of them the end of a connection.
-    TwoSources {
-        reactor: usize,
-        first: Naming,
-        second: Naming,
+    /// Two connections of a reactor end at one port.
+    JoinedTwice {
+        reactor: &'a Reactor,
+        first: &'a Reference,
+        second: &'a Reference,
+    },
+    /// A connection of a reactor ends at a port that a reaction of it writes.
+    JoinedAndWritten {
+        reactor: &'a Reactor,
+        joined: &'a Reference,
+        written: &'a Reference,
     },
     /// The default of a parameter is past the greatest time.
     LongDefault {
-        reactor: usize,
-        parameter: usize,
+        reactor: &'a Reactor,
+        parameter: &'a Parameter,
     },
 }
 
-impl Witness {
+impl<'a> Witness<'a> {
     /// The cause that it shows.
     pub fn fault(self) -> ProgramFault
-        ensures { result ≡ fault_shown self }
+        ensures { result ≡ fault_shown self.entry }
     {
         match self {
             Witness::NoMain => ProgramFault::NoMain,
@@ -67,7 +64,8 @@ impl Witness {
             Witness::SameReactors { .. } => ProgramFault::DuplicateName,
             Witness::DeclaredTwice { .. } => ProgramFault::DuplicateName,
             Witness::Member { finding, .. } => finding.fault(),
-            Witness::TwoSources { .. } => ProgramFault::TwoSources,
+            Witness::JoinedTwice { .. } => ProgramFault::TwoSources,
+            Witness::JoinedAndWritten { .. } => ProgramFault::TwoSources,
             Witness::LongDefault { .. } => ProgramFault::DelayTooLong,
         }
     }

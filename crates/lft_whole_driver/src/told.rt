@@ -315,7 +315,7 @@ fn told_of_tree(
     refusal: &ProgramRefusal,
 ) -> Result<String, NoMemory>
     requires files { AreOfTexts files.now }
-    requires tells { Tells (tree_view ast.now) refusal.now }
+    requires tells { Tells ast.now refusal.now }
     ensures { IfOk result (λ words. IsToldTree files.now ast.now.items.items (cause_of refusal.now) (string_bytes words)) }
 {
     let joined = join_files(alloc, files)?;
@@ -337,7 +337,7 @@ pub(crate) fn unlowered_tree(
     refusal: &ProgramRefusal,
 ) -> Unlowered
     requires files { AreOfTexts files.now }
-    requires tells { Tells (tree_view ast.now) refusal.now }
+    requires tells { Tells ast.now refusal.now }
     ensures { TellsTree files.now ast.now.items.items (cause_of refusal.now) result }
 {
     let failure = Failure::from(Fault::program(refusal.fault()));

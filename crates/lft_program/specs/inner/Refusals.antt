@@ -1,8 +1,8 @@
 -- Why a tree has no flat program, with what shows it.
 use Rattle.std.specs.Prelude.{ℕ}
-use Rattle.lft_tree.specs.Tree.{FileTree, reactors_of}
+use Rattle.lft_tree.specs.{Tree.reactors_of, View.tree_view, declared.ast.Ast.Ast}
 use Rattle.lft_resolve.specs.{Causes.number_of, declared.causes.ProgramFault.ProgramFault}
-use Rattle.lft_validate.specs.{Witnesses.{Shows, fault_shown}, inner.Witnesses.IsCircle}
+use Rattle.lft_validate.specs.{Members.reactors_among, Witnesses.{Shows, fault_shown}, inner.Witnesses.IsCircle}
 use Rattle.lft_program.specs.{inner.{Limits.IsExcess, Ways.{IsLongChain, IsRing}}, declared.{nesting.nest.NestFault.NestFault, refusal.Refusal.Refusal}}
 use Rattle.lft_resolve.specs.declared.causes.ProgramFault.TheVariants as faults
 use Rattle.lft_program.specs.declared.nesting.nest.NestFault.TheVariants as nests
@@ -22,13 +22,13 @@ abbrev pub cause_of : Refusal → ℕ
 cause_of refusal = number_of (fault_of refusal)
 
 -- what a refusal tells of the tree is so
-abbrev pub Tells : FileTree → Refusal → Type 0
-Tells tree (refusals.Shown witness) = Shows (reactors_of tree) witness
-Tells tree (refusals.Recursive places) = IsCircle (reactors_of tree) places.items
-Tells tree (refusals.TooMany excess) = IsExcess tree excess
-Tells tree (refusals.ConnectionCycle way) = IsRing tree way
-Tells tree (refusals.LongChain way) = IsLongChain tree way
-Tells tree refusals.NoMemory = Unit {0}
+abbrev pub Tells : Ast → Refusal → Type 0
+Tells ast (refusals.Shown witness) = Shows (reactors_among ast.items.items) witness
+Tells ast (refusals.Recursive places) = IsCircle (reactors_of (tree_view ast)) places.items
+Tells ast (refusals.TooMany excess) = IsExcess (tree_view ast) excess
+Tells ast (refusals.ConnectionCycle way) = IsRing (tree_view ast) way
+Tells ast (refusals.LongChain way) = IsLongChain (tree_view ast) way
+Tells ast refusals.NoMemory = Unit {0}
 
 -- the refusal that a fault of the instances together is
 abbrev pub of_nest : NestFault → Refusal

@@ -1,6 +1,7 @@
 //! The source and the origin of each port.
 
 ghost use Rattle.std.specs.Prelude.{◌≡◌, ◌≢◌, ℕ, ◌<◌, None, IfSome, IfOk, IfErr, OnOk, length};
+ghost use Rattle.lft_tree.specs.View.{tree_view};
 ghost use Rattle.lft_resolve.specs.{inner.Expansion.{Sources.AreInside, Ways.{HaveSites, IsWayBack}}, Causes.{IsFirst, NoneHolds}};
 ghost use Rattle.lft_program.specs.inner.{Linking.{AreLinked, IsLinked, IsTooLong}, Links.{AreLinks, last_causes}, Nests.IsNest, Refusals.{Tells, cause_of}};
 ghost use Rattle.lft_program.specs.inner.Tables.{AreTables, IsLawful};
@@ -14,6 +15,7 @@ use lft_resolve::expansion::{
     Instance, PortSources, Reached, Site, find_origins, find_sources, way_back,
 };
 use lft_tag::{NoMemory, Shift, Source};
+use lft_tree::Ast;
 use lft_validate::check_times;
 use std::alloc::Global;
 
@@ -125,19 +127,21 @@ fn way_to(alloc: Global, nest: &Nest, found: &PortSources, port: usize) -> Resul
 
 /// How each port is reached, by the port's number. The file is that of the tables and the nest. A
 /// cycle comes before a time that is too long.
-pub(crate) fn links(
+pub(crate) fn links<'a>(
     alloc: Global,
+    ast: &'a Ast,
     scopes: &Scopes,
     tables: &Tables,
     nest: &Nest,
-) -> Result<Vec<Linked>, Refusal>
+) -> Result<Vec<Linked>, Refusal<'a>>
+    requires tree { scopes.now ≡ tree_view ast.now }
     requires tables { AreTables scopes.now tables.now }
     requires lawful { IsLawful scopes.now }
     requires nest { IsNest scopes.now tables.now nest.now }
     ensures links { IfOk result (λ v. (n : IsNest scopes.now tables.now nest.now) → AreLinks scopes.now n.located v.items) }
     ensures none { OnOk result (NoneHolds (last_causes scopes.now)) }
     ensures first { IfErr result (λ f. f ≢ refusals.NoMemory → IsFirst (last_causes scopes.now) (cause_of f)) }
-    ensures tells { IfErr result (Tells scopes.now) }
+    ensures tells { IfErr result (Tells ast.now) }
 {
     let found = find_sources(
         alloc,
@@ -155,7 +159,7 @@ pub(crate) fn links(
             return Err(Refusal::ConnectionCycle(way));
         }
     };
-    if let Some(witness) = check_times(alloc, scopes)? {
+    if let Some(witness) = check_times(alloc, ast, scopes)? {
         return Err(Refusal::Shown(witness));
     }
     match link_all(alloc, &found.sources, &reached)? {

@@ -1,22 +1,9 @@
 -- Inside: what each witness shows of the reactors of a file.
-use Rattle.std.specs.Prelude.{◌≡◌, ◌==◌, ℕ, ◌+◌, ◌<◌, Bool, true, false, List, ◌∷◌, ◌++◌, Option, Some, None, length, slice_get, map, flat_map, take, Any, []}
+use Rattle.std.specs.Prelude.{◌≡◌, ◌==◌, ℕ, Bool, true, false, List, ◌∷◌, ◌++◌, Option, Some, None, slice_get, map, Any, []}
 use Rattle.lft_lists.specs.Walks.{IsCircle as IsCircleOf}
-use Rattle.lft_tree.specs.Tree.{ReactorTree, MemberTree, RefTree}
-use Rattle.lft_resolve.specs.Causes.{HasLongTime, Holds, IsFirst, NoneHolds, first_causes, later_causes, number_of}
-use Rattle.lft_resolve.specs.declared.{causes.ProgramFault.ProgramFault, kinds.Role.Role}
-use Rattle.lft_validate.specs.{Members.names_of, declared.witness.{Naming.Naming, Witness.Witness}, Witnesses.{Shows, fault_shown}}
-
--- the name at that place among those that have the role in the reactor stands there
-pub record IsPlaceOf (r : ReactorTree) (role : Role) (place : ℕ) (n : Naming) : Type 0 where
-  pub is_role : n.role ≡ role
-  pub member : MemberTree
-  pub is_member : slice_get r.members n.member ≡ Some member
-  pub within : n.name < length (names_of role member)
-  pub at : length (flat_map (names_of role) (take n.member r.members)) + n.name ≡ place
-
--- one name stands at a place of the one list and at a place of the other
-abbrev pub IsSharedAt : List RefTree → ℕ → List RefTree → ℕ → Type 0
-IsSharedAt xs i ys j = (x : RefTree) × (slice_get xs i ≡ Some x) × (slice_get ys j ≡ Some x)
+use Rattle.lft_tree.specs.{Tree.ReactorTree, declared.tree.Reactor.Reactor}
+use Rattle.lft_resolve.specs.{Causes.{HasLongTime, Holds, IsFirst, NoneHolds, first_causes, later_causes, number_of}, declared.causes.ProgramFault.ProgramFault}
+use Rattle.lft_validate.specs.{declared.witness.Witness.Witness, Witnesses.{Shows, fault_shown}}
 
 -- the cause that a time alone shows, with its number
 abbrev pub time_causes : List ReactorTree → List (ℕ × Type 0)
@@ -41,7 +28,7 @@ abbrev pub causes_in_order : List ReactorTree → List ProgramFault → List (�
 causes_in_order reactors = map (λ c. (number_of c, CauseSays reactors c))
 
 -- the witness shows the first of the causes that holds; where there is none, no cause holds
-abbrev pub IsFirstShown : List ReactorTree → List (ℕ × Type 0) → Option Witness → Type 0
+abbrev pub IsFirstShown : List Reactor → List (ℕ × Type 0) → Option Witness → Type 0
 IsFirstShown reactors causes (Some w) = Shows reactors w × IsFirst causes (number_of (fault_shown w))
 IsFirstShown reactors causes None = NoneHolds causes
 

@@ -15,9 +15,8 @@ returns-in_err-tables-clause-first c =
 
 pub returns-in_err-tables-clause-tells : goal.returns-in_err-tables-clause-tells
 returns-in_err-tables-clause-tells c =
-    let tree = tree_view c.args.ast.now in
     let e = c.in_err-tables.field-0.0 in
-    handed_on (Tells tree) e c.from_residual-in_err-tables.result (subst (λ t. Tells t e) c.in_ok-scopes.ensures c.in_err-tables.ensures.tells) c.from_residual-in_err-tables.ensures.1
+    handed_on (Tells c.args.ast.now) e c.from_residual-in_err-tables.result c.in_err-tables.ensures.tells c.from_residual-in_err-tables.ensures.1
 
 pub returns-in_err-nest-clause-first : goal.returns-in_err-nest-clause-first
 returns-in_err-nest-clause-first c =
@@ -34,8 +33,8 @@ returns-in_err-nest-clause-tells c =
     let e = c.in_err-nest.field-0.0 in
     let none = subst (λ t. NoneHolds (reactor_causes t)) c.in_ok-scopes.ensures c.in_ok-tables.ensures.none in
     let are = subst (λ t. AreTables t c.in_ok-tables.tables) c.in_ok-scopes.ensures c.in_ok-tables.ensures.tables in
-    handed_on (Tells tree) (of_nest e) c.from_residual-in_err-nest.result
-    (nest_tells tree e (λ x many. c.in_err-nest.ensures.too_many x (cc) tree are (lawful tree none))) c.from_residual-in_err-nest.ensures.1
+    handed_on (Tells c.args.ast.now) (of_nest e) c.from_residual-in_err-nest.result
+    (nest_tells c.args.ast.now e (λ x many. c.in_err-nest.ensures.too_many x (cc) tree are (lawful tree none))) c.from_residual-in_err-nest.ensures.1
 
 pub links-requires-clause-lawful : goal.links-requires-clause-lawful
 links-requires-clause-lawful c = lawful _ c.in_ok-tables.ensures.none
@@ -56,9 +55,8 @@ returns-in_err-links-clause-first c =
 
 pub returns-in_err-links-clause-tells : goal.returns-in_err-links-clause-tells
 returns-in_err-links-clause-tells c =
-    let tree = tree_view c.args.ast.now in
     let e = c.in_err-links.field-0.0 in
-    handed_on (Tells tree) e c.from_residual-in_err-links.result (subst (λ t. Tells t e) c.in_ok-scopes.ensures c.in_err-links.ensures.tells) c.from_residual-in_err-links.ensures.1
+    handed_on (Tells c.args.ast.now) e c.from_residual-in_err-links.result c.in_err-links.ensures.tells c.from_residual-in_err-links.ensures.1
 
 pub program-requires : goal.program-requires
 program-requires c =

@@ -1,5 +1,6 @@
-use Rattle.lft_resolve.specs.inner.References.{reactor_trees}
-use Rattle.lft_validate.{specs.inner.{Shown.SomeShows, Witnesses.CauseSays}, proofs.Causes.by_member}
+use Rattle.std.proofs.Common.{map}
+use Rattle.lft_tree.specs.View.{reactor_view}
+use Rattle.lft_validate.{specs.inner.{Members.behind, Shown.SomeShows, Witnesses.CauseSays}, proofs.Causes.by_member}
 use Rattle.lft_lists.proofs.Options.{ok_none}
 use Rattle.lft_validate.proofs.checks.shown.Goals as goal
 
@@ -20,6 +21,6 @@ returns-in-DelayTooLong-clause-none c = rw c.in-DelayTooLong.is c.long_time.ensu
 
 pub returns-in_default-clause-none : goal.returns-in_default-clause-none
 returns-in_default-clause-none c =
-    let rs = reactor_trees c.args.reactors.now in
+    let rs = behind c.args.reactors.now in
     let cause = c.args.cause in
-    ok_none (SomeShows rs cause → ⊥) (CauseSays rs cause → ⊥) c.first_member.result (λ none says. none (by_member rs cause c.in_default.not-NoMain c.in_default.not-TwoMains c.in_default.not-DuplicateName c.in_default.not-TwoSources c.in_default.not-DelayTooLong says)) c.first_member.ensures.none
+    ok_none (SomeShows rs cause → ⊥) (CauseSays (map reactor_view rs) cause → ⊥) c.first_member.result (λ none says. none (by_member rs cause c.in_default.not-NoMain c.in_default.not-TwoMains c.in_default.not-DuplicateName c.in_default.not-TwoSources c.in_default.not-DelayTooLong says)) c.first_member.ensures.none

@@ -1,12 +1,19 @@
-use Rattle.std.proofs.Common.{◌≡◌, sym, ap, subst, ◌∙◌}
-use Rattle.lft_tree.specs.View.{reactor_view}
-use Rattle.lft_resolve.specs.{Causes.IsTwice, Kinds.names_in, inner.Tests.texts}
-use Rattle.lft_validate.{specs.Members.declarations, proofs.DeclaredNames.declared_twice}
-use Rattle.lft_lists.proofs.Options.{ok_none}
+use Rattle.std.proofs.Common.{◌≡◌, ℕ, List, map, sym, ap, subst, ◌∙◌}
+use Rattle.std.proofs.lemmas.Simd.{map-map}
+use Rattle.lft_resolve.specs.Causes.{IsTwice}
+use Rattle.lft_validate.specs.{Findings.{StandsTwice, name_at}, Members.declarations, declared.placed.NameAt.NameAt}
+use Rattle.lft_validate.proofs.DeclaredNames.{declared_twice, names}
+use Rattle.lft_lists.proofs.Options.{found, lacking}
 use Rattle.lft_validate.proofs.declared.declared_twice.Goals as goal
 
+pub returns-in-Some-clause-shows : goal.returns-in-Some-clause-shows
+returns-in-Some-clause-shows c reactors stands =
+    let all : map name_at c.deref.result.now ≡ declarations c.args.reactor.now = ap (map name_at) c.deref.ensures.value ∙ c.in_ok-names.ensures in
+    (stands, subst (λ l. StandsTwice (λ p. p.0) l (name_at c.in-Some.first) (name_at c.in-Some.second)) all (found (λ p. StandsTwice (λ q. q.0) (map name_at c.deref.result.now) (name_at p.0) (name_at p.1)) c.in_ok-first.field-0 (c.in-Some.first, c.in-Some.second) c.in_ok-first.ensures.some c.in-Some.is))
+
 pub returns-clause-none : goal.returns-clause-none
-returns-clause-none c =
-    let r = reactor_view c.args.reactor.now in
-    let all : texts c.deref.result.now ≡ declarations r = ap texts c.deref.ensures.value ∙ c.in_ok-names.ensures in
-    ok_none (IsTwice (texts c.deref.result.now) → ⊥) (IsTwice (names_in r) → ⊥) c.first_twice.result (λ once two. once (subst IsTwice (sym all) (declared_twice r two))) c.first_twice.ensures.none
+returns-clause-none c two =
+    let r = c.args.reactor.now in
+    let all : map name_at c.deref.result.now ≡ declarations r = ap (map name_at) c.deref.ensures.value ∙ c.in_ok-names.ensures in
+    let named : map (λ (n : NameAt). n.name.now) c.deref.result.now ≡ names r = sym (map-map (λ (p : List ℕ × ℕ). p.0) name_at c.deref.result.now) ∙ ap (map (λ p. p.0)) all in
+    lacking (IsTwice (map (λ (n : NameAt). n.name.now) c.deref.result.now) → ⊥) c.in_ok-first.field-0 c.in_ok-first.ensures.none c.in-None.is (subst IsTwice (sym named) (declared_twice r two))

@@ -1,7 +1,6 @@
 use Rattle.std.proofs.Common.{ℕ, ◌<◌, ◌≤◌}
-use Rattle.lft_resolve.specs.inner.References.{reactor_trees}
-use Rattle.lft_validate.specs.Witnesses.{IsMainAt}
+use Rattle.lft_validate.specs.inner.Members.{IsMainAt, behind}
 use Rattle.lft_validate.proofs.mains.main_from.Given as goal
 
 abbrev pub invariant-loop-place : goal.invariant-loop-place
-invariant-loop-place l = (k : ℕ) → l.start ≤ k → k < l.place → IsMainAt (reactor_trees l.reactors) k → ⊥
+invariant-loop-place l = (k : ℕ) → l.start ≤ k → k < l.place → IsMainAt (behind l.reactors) k → ⊥

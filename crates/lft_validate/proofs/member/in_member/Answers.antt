@@ -1,83 +1,54 @@
-use Rattle.std.proofs.Common.{List, None, Any, IfNone, IsSomeAnd}
-use Rattle.lft_tree.specs.{Tree.{ReactorTree, instance_in, reaction_in}, View.{member_view, reactor_view}}
-use Rattle.lft_resolve.specs.{Causes.{GivesTwice, NamesTwice, IsLongTime}, inner.Tables.{IsFile, IsOwn}}
-use Rattle.lft_validate.{specs.{Members.times_of, inner.Shown.ShowsCause}, proofs.{Turns.weaker, Causes.{unshown, no_other}}}
-use Rattle.lft_resolve.specs.declared.causes.ProgramFault.TheVariants as faults
+use Rattle.lft_tree.specs.View.{reactor_view}
+use Rattle.lft_validate.proofs.{Turns.weaker, Causes.no_other}
 use Rattle.lft_validate.proofs.member.in_member.Goals as goal
 
 pub returns-in-DuplicateName-clause-some : goal.returns-in-DuplicateName-clause-some
 returns-in-DuplicateName-clause-some c = weaker _ _ c.given_twice.result (λ found all rs file own. all rs (reactor_view c.args.reactor.now)) c.given_twice.ensures.some
 
 pub returns-in-DuplicateName-clause-none : goal.returns-in-DuplicateName-clause-none
-returns-in-DuplicateName-clause-none c =
-    let r = reactor_view c.args.reactor.now in
-    let m = member_view c.args.member.now in
-    rw c.in-DuplicateName.is (weaker (λ found. IfNone found (IsSomeAnd (instance_in m) GivesTwice → ⊥)) (λ found. (rs : List ReactorTree) → IsFile rs c.args.file.now → IsOwn r c.args.own.now → IfNone found (ShowsCause rs r m faults.DuplicateName → ⊥)) c.given_twice.result (λ found none rs file own. unshown rs r m faults.DuplicateName found (none)) c.given_twice.ensures.none)
+returns-in-DuplicateName-clause-none c = rw c.in-DuplicateName.is (weaker _ _ c.given_twice.result (λ found none rs file own. none) c.given_twice.ensures.none)
 
 pub returns-in-UnknownReactor-clause-some : goal.returns-in-UnknownReactor-clause-some
 returns-in-UnknownReactor-clause-some c rs file own = c.unknown_reactor.ensures.some rs (reactor_view c.args.reactor.now) file
 
 pub returns-in-UnknownReactor-clause-none : goal.returns-in-UnknownReactor-clause-none
-returns-in-UnknownReactor-clause-none c rs file own =
-    let r = reactor_view c.args.reactor.now in
-    rw c.in-UnknownReactor.is (unshown rs r (member_view c.args.member.now) faults.UnknownReactor c.unknown_reactor.result (c.unknown_reactor.ensures.none rs r file))
+returns-in-UnknownReactor-clause-none c rs file own = rw c.in-UnknownReactor.is (c.unknown_reactor.ensures.none rs (reactor_view c.args.reactor.now) file)
 
 pub returns-in-UnknownName-clause-none : goal.returns-in-UnknownName-clause-none
-returns-in-UnknownName-clause-none c =
-    let r = reactor_view c.args.reactor.now in
-    let m = member_view c.args.member.now in
-    rw c.in-UnknownName.is (weaker _ (λ found. (rs : List ReactorTree) → IsFile rs c.args.file.now → IsOwn r c.args.own.now → IfNone found (ShowsCause rs r m faults.UnknownName → ⊥)) c.unknown.result (λ found none rs file own. unshown rs r m faults.UnknownName found (none rs r file own)) c.unknown.ensures.none)
+returns-in-UnknownName-clause-none c = rw c.in-UnknownName.is (weaker _ _ c.unknown.result (λ found none rs file own. none rs (reactor_view c.args.reactor.now) file own) c.unknown.ensures.none)
 
 pub returns-in-WrongPlace-clause-none : goal.returns-in-WrongPlace-clause-none
-returns-in-WrongPlace-clause-none c =
-    let r = reactor_view c.args.reactor.now in
-    let m = member_view c.args.member.now in
-    rw c.in-WrongPlace.is (weaker _ (λ found. (rs : List ReactorTree) → IsFile rs c.args.file.now → IsOwn r c.args.own.now → IfNone found (ShowsCause rs r m faults.WrongPlace → ⊥)) c.misplaced.result (λ found none rs file own. unshown rs r m faults.WrongPlace found (none rs r file own)) c.misplaced.ensures.none)
+returns-in-WrongPlace-clause-none c = rw c.in-WrongPlace.is (weaker _ _ c.misplaced.result (λ found none rs file own. none rs (reactor_view c.args.reactor.now) file own) c.misplaced.ensures.none)
 
 pub returns-in-MainHasPorts-clause-some : goal.returns-in-MainHasPorts-clause-some
 returns-in-MainHasPorts-clause-some c rs file own = c.main_port.ensures.some rs
 
 pub returns-in-MainHasPorts-clause-none : goal.returns-in-MainHasPorts-clause-none
-returns-in-MainHasPorts-clause-none c rs file own =
-    let r = reactor_view c.args.reactor.now in
-    rw c.in-MainHasPorts.is (unshown rs r (member_view c.args.member.now) faults.MainHasPorts c.main_port.result (c.main_port.ensures.none rs))
+returns-in-MainHasPorts-clause-none c rs file own = rw c.in-MainHasPorts.is (c.main_port.ensures.none rs)
 
 pub returns-in-WidthMismatch-clause-some : goal.returns-in-WidthMismatch-clause-some
 returns-in-WidthMismatch-clause-some c rs file own = c.width.ensures.some rs (reactor_view c.args.reactor.now)
 
 pub returns-in-WidthMismatch-clause-none : goal.returns-in-WidthMismatch-clause-none
-returns-in-WidthMismatch-clause-none c rs file own =
-    let r = reactor_view c.args.reactor.now in
-    rw c.in-WidthMismatch.is (unshown rs r (member_view c.args.member.now) faults.WidthMismatch c.width.result (c.width.ensures.none rs r))
+returns-in-WidthMismatch-clause-none c rs file own = rw c.in-WidthMismatch.is (c.width.ensures.none rs (reactor_view c.args.reactor.now))
 
 pub returns-in-NoTrigger-clause-some : goal.returns-in-NoTrigger-clause-some
 returns-in-NoTrigger-clause-some c rs file own = c.no_trigger.ensures.some rs (reactor_view c.args.reactor.now)
 
 pub returns-in-NoTrigger-clause-none : goal.returns-in-NoTrigger-clause-none
-returns-in-NoTrigger-clause-none c rs file own =
-    let r = reactor_view c.args.reactor.now in
-    rw c.in-NoTrigger.is (unshown rs r (member_view c.args.member.now) faults.NoTrigger c.no_trigger.result (c.no_trigger.ensures.none rs r))
+returns-in-NoTrigger-clause-none c rs file own = rw c.in-NoTrigger.is (c.no_trigger.ensures.none rs (reactor_view c.args.reactor.now))
 
 pub returns-in-DuplicateInput-clause-some : goal.returns-in-DuplicateInput-clause-some
 returns-in-DuplicateInput-clause-some c = weaker _ _ c.named_twice.result (λ found all rs file own. all rs (reactor_view c.args.reactor.now)) c.named_twice.ensures.some
 
 pub returns-in-DuplicateInput-clause-none : goal.returns-in-DuplicateInput-clause-none
-returns-in-DuplicateInput-clause-none c =
-    let r = reactor_view c.args.reactor.now in
-    let m = member_view c.args.member.now in
-    rw c.in-DuplicateInput.is (weaker (λ found. IfNone found (IsSomeAnd (reaction_in m) NamesTwice → ⊥)) (λ found. (rs : List ReactorTree) → IsFile rs c.args.file.now → IsOwn r c.args.own.now → IfNone found (ShowsCause rs r m faults.DuplicateInput → ⊥)) c.named_twice.result (λ found none rs file own. unshown rs r m faults.DuplicateInput found (none)) c.named_twice.ensures.none)
+returns-in-DuplicateInput-clause-none c = rw c.in-DuplicateInput.is (weaker _ _ c.named_twice.result (λ found none rs file own. none) c.named_twice.ensures.none)
 
 pub returns-in-DelayTooLong-clause-some : goal.returns-in-DelayTooLong-clause-some
 returns-in-DelayTooLong-clause-some c = weaker _ _ c.long_time.result (λ found all rs file own. all rs (reactor_view c.args.reactor.now)) c.long_time.ensures.some
 
 pub returns-in-DelayTooLong-clause-none : goal.returns-in-DelayTooLong-clause-none
-returns-in-DelayTooLong-clause-none c =
-    let r = reactor_view c.args.reactor.now in
-    let m = member_view c.args.member.now in
-    rw c.in-DelayTooLong.is (weaker (λ found. IfNone found (Any IsLongTime (times_of m) → ⊥)) (λ found. (rs : List ReactorTree) → IsFile rs c.args.file.now → IsOwn r c.args.own.now → IfNone found (ShowsCause rs r m faults.DelayTooLong → ⊥)) c.long_time.result (λ found none rs file own. unshown rs r m faults.DelayTooLong found (none)) c.long_time.ensures.none)
+returns-in-DelayTooLong-clause-none c = rw c.in-DelayTooLong.is (weaker _ _ c.long_time.result (λ found none rs file own. none) c.long_time.ensures.none)
 
 pub returns-in_default-clause-none : goal.returns-in_default-clause-none
-returns-in_default-clause-none c rs file own =
-    let r = reactor_view c.args.reactor.now in
-    let m = member_view c.args.member.now in
-    unshown rs r m c.args.cause None (no_other rs r m c.args.cause c.in_default.not-DuplicateName c.in_default.not-UnknownReactor c.in_default.not-UnknownName c.in_default.not-WrongPlace c.in_default.not-MainHasPorts c.in_default.not-WidthMismatch c.in_default.not-NoTrigger c.in_default.not-DuplicateInput c.in_default.not-DelayTooLong)
+returns-in_default-clause-none c rs file own = no_other rs (reactor_view c.args.reactor.now) c.args.member.now c.args.cause c.in_default.not-DuplicateName c.in_default.not-UnknownReactor c.in_default.not-UnknownName c.in_default.not-WrongPlace c.in_default.not-MainHasPorts c.in_default.not-WidthMismatch c.in_default.not-NoTrigger c.in_default.not-DuplicateInput c.in_default.not-DelayTooLong

@@ -1,6 +1,6 @@
 use Rattle.std.proofs.Common.{◌≡◌, inl, inr, Any, get_or, arith}
 use Rattle.std.proofs.lemmas.Bool.{cases_lt}
-use Rattle.lft_tree.specs.View.{member_view}
+use Rattle.lft_tree.specs.View.{ref_view}
 use Rattle.lft_resolve.specs.{Causes.IsMisplaced, declared.kinds.Role.TheVariants.Read}
 use Rattle.lft_validate.{specs.Members.names_of, proofs.Roles.{roles, place_of_role, role_there, place_within, last}}
 use Rattle.lft_lists.proofs.Options.{lacking}
@@ -8,13 +8,13 @@ use Rattle.lft_validate.proofs.misplaced.misplaced_name.Goals as goal
 
 pub loop-role-preserved : goal.loop-role-preserved
 loop-role-preserved c rs r file own k role lt at some =
-    let member = member_view c.args.member.now in
+    let member = c.args.member.now in
     elim (cases_lt k c.loop-role.role-index) [
       | inl l ↦ c.loop-role.invariant rs r file own k role l at some
       | inr g ↦ (
           let e : k ≡ c.loop-role.role-index = omega (arith, g, lt) in
-          let none = lacking (Any (λ ref. IsMisplaced rs r (get_or roles c.loop-role.role-index Read, ref)) (names_of (get_or roles c.loop-role.role-index Read) member) → ⊥) c.in_ok-found.field-0 (c.in_ok-found.ensures.none rs r file own) c.in_default.is in
-          last (λ role. Any (λ ref. IsMisplaced rs r (role, ref)) (names_of role member)) k c.loop-role.role-index role e at none some
+          let none = lacking (Any (λ x. IsMisplaced rs r (get_or roles c.loop-role.role-index Read, ref_view x)) (names_of (get_or roles c.loop-role.role-index Read) member) → ⊥) c.in_ok-found.field-0 (c.in_ok-found.ensures.none rs r file own) c.in_default.is in
+          last (λ role. Any (λ x. IsMisplaced rs r (role, ref_view x)) (names_of role member)) k c.loop-role.role-index role e at none some
           )
     ]
 

@@ -1,14 +1,18 @@
 use Rattle.std.proofs.Common.{sym}
 use Rattle.lft_tree.specs.View.{reactor_view}
 use Rattle.lft_resolve.{specs.Causes.{TwoSources, WritesTwice}, proofs.Somes.{none_more, none_done}}
-use Rattle.lft_lists.proofs.Options.{lacking}
+use Rattle.lft_validate.{specs.{Witnesses.Shows, inner.Members.behind}, proofs.Listing.{stands_at, unmapped}}
+use Rattle.lft_lists.proofs.Options.{found, lacking}
 use Rattle.lft_validate.proofs.sources.two_sources.Goals as goal
 
+pub returns-in-Some-clause-shows : goal.returns-in-Some-clause-shows
+returns-in-Some-clause-shows c =
+    let rs = c.args.reactors.now in
+    found (Shows (behind rs)) c.in_ok-found.field-0 c.in-Some.found (c.in_ok-found.ensures.shows (behind rs) (stands_at (λ r. r.now) rs c.loop-reactor.reactor-index c.reactor-item.result c.loop-reactor-test.true (sym c.reactor-item.is))) c.in-Some.is
+
 pub loop-reactor-preserved : goal.loop-reactor-preserved
-loop-reactor-preserved c =
-    let item = c.index-reactors-reactor.result in
-    none_more (λ r. reactor_view r.now) WritesTwice c.args.reactors.now c.loop-reactor.reactor item c.loop-reactor-test.true (sym c.index-reactors-reactor.is) c.loop-reactor.invariant (lacking (WritesTwice (reactor_view item.now) → ⊥) c.in_ok-first.field-0 c.in_ok-first.ensures.none c.in_default.is)
+loop-reactor-preserved c = none_more (λ r. r.now) (λ r. WritesTwice (reactor_view r)) c.args.reactors.now c.loop-reactor.reactor-index c.reactor-item.result c.loop-reactor-test.true (sym c.reactor-item.is) c.loop-reactor.invariant (lacking (WritesTwice (reactor_view c.reactor-item.result.now) → ⊥) c.in_ok-found.field-0 c.in_ok-found.ensures.none c.in_default.is)
 
 pub returns-clause-none : goal.returns-clause-none
 unfolding TwoSources
-returns-clause-none c = none_done (λ r. reactor_view r.now) WritesTwice c.args.reactors.now c.loop-reactor.reactor c.loop-reactor-test.false c.loop-reactor.invariant
+returns-clause-none c a = none_done (λ r. r.now) (λ r. WritesTwice (reactor_view r)) c.args.reactors.now c.loop-reactor.reactor-index c.loop-reactor-test.false c.loop-reactor.invariant (unmapped WritesTwice reactor_view (behind c.args.reactors.now) a)

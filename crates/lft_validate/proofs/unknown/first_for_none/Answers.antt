@@ -3,4 +3,4 @@ use Rattle.lft_resolve.{specs.Causes.LacksParameter, proofs.Somes.none_done}
 use Rattle.lft_validate.proofs.unknown.first_for_none.Goals as goal
 
 pub returns-clause-none : goal.returns-clause-none
-returns-clause-none c r own = none_done assignment_view (LacksParameter r) c.args.given.now c.loop-value.value c.loop-value-test.false (c.loop-value.invariant r own)
+returns-clause-none c r own = none_done assignment_view (LacksParameter r) c.args.given.now c.loop-value.value-index c.loop-value-test.false (c.loop-value.invariant r own)

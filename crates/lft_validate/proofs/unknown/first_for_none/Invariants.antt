@@ -4,4 +4,4 @@ use Rattle.lft_resolve.specs.{Causes.LacksParameter, inner.Tables.IsOwn}
 use Rattle.lft_validate.proofs.unknown.first_for_none.Given as goal
 
 abbrev pub invariant-loop-value : goal.invariant-loop-value
-invariant-loop-value l = (r : ReactorTree) → IsOwn r l.inner → Any (LacksParameter r) (map assignment_view (take l.value l.given)) → ⊥
+invariant-loop-value l = (r : ReactorTree) → IsOwn r l.inner → Any (LacksParameter r) (map assignment_view (take l.value-index l.given)) → ⊥

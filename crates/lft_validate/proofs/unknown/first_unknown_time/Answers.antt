@@ -4,7 +4,7 @@ use Rattle.lft_resolve.{specs.Causes.IsUnknownTime, proofs.Somes.{fails, none_mo
 use Rattle.lft_validate.proofs.unknown.first_unknown_time.Goals as goal
 
 pub loop-time-preserved : goal.loop-time-preserved
-loop-time-preserved c r own = none_more (λ t. time_view t.now) (IsUnknownTime r) c.args.times.now c.loop-time.time c.index-times-time.result c.loop-time-test.true (sym c.index-times-time.is) (c.loop-time.invariant r own) (fails c.is_unknown_time.result (c.is_unknown_time.ensures r own) c.if-is_unknown_time.false)
+loop-time-preserved c r own = none_more (λ t. t.now) (λ t. IsUnknownTime r (time_view t)) c.args.times.now c.loop-time.time-index c.time-item.result c.loop-time-test.true (sym c.time-item.is) (c.loop-time.invariant r own) (fails c.is_unknown_time.result (c.is_unknown_time.ensures r own) c.if-is_unknown_time.false)
 
 pub returns-clause-none : goal.returns-clause-none
-returns-clause-none c r own = none_done (λ t. time_view t.now) (IsUnknownTime r) c.args.times.now c.loop-time.time c.loop-time-test.false (c.loop-time.invariant r own)
+returns-clause-none c r own = none_done (λ t. t.now) (λ t. IsUnknownTime r (time_view t)) c.args.times.now c.loop-time.time-index c.loop-time-test.false (c.loop-time.invariant r own)

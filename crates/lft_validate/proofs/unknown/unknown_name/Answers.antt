@@ -1,6 +1,5 @@
 use Rattle.std.proofs.Common.{◌≡◌, inl, inr, Any, get_or, arith}
 use Rattle.std.proofs.lemmas.Bool.{cases_lt}
-use Rattle.lft_tree.specs.View.{member_view}
 use Rattle.lft_resolve.specs.declared.kinds.Role.TheVariants.{Read}
 use Rattle.lft_validate.{specs.{Findings.IsNothing, Members.names_of}, proofs.Roles.{roles, place_of_role, role_there, place_within, last}}
 use Rattle.lft_lists.proofs.Options.{lacking}
@@ -8,7 +7,7 @@ use Rattle.lft_validate.proofs.unknown.unknown_name.Goals as goal
 
 pub loop-role-preserved : goal.loop-role-preserved
 loop-role-preserved c rs r file own k role lt at some =
-    let member = member_view c.args.member.now in
+    let member = c.args.member.now in
     elim (cases_lt k c.loop-role.role-index) [
       | inl l ↦ c.loop-role.invariant rs r file own k role l at some
       | inr g ↦ (
