@@ -30,17 +30,18 @@ has_open_words program t j = codes "  Worker " ++ worker_at t j ++ codes " has i
 abbrev pub spaced : Parts → Name → List ℕ
 spaced program n = codes " " ++ name_words program n
 
-abbrev pub listed : Parts → List Name → List ℕ
-listed program [] = codes " none"
-listed program (n ∷ ns) = flat_map (spaced program) (n ∷ ns)
+-- the names, or that there is none
+abbrev pub listed_names : Parts → List Name → List ℕ
+listed_names program [] = codes " none"
+listed_names program (n ∷ ns) = flat_map (spaced program) (n ∷ ns)
 
 -- `Inputs of X: N M`
 abbrev pub inputs_words : Parts → ℕ → List ℕ
-inputs_words program r = codes "  Inputs of " ++ reaction_words program r ++ codes ":" ++ listed program (inputs_of program r) ++ codes "\n"
+inputs_words program r = codes "  Inputs of " ++ reaction_words program r ++ codes ":" ++ listed_names program (inputs_of program r) ++ codes "\n"
 
 -- `Effects of X: N M`
 abbrev pub effects_words : Parts → ℕ → List ℕ
-effects_words program r = codes "  Effects of " ++ reaction_words program r ++ codes ":" ++ listed program (effects_of program r) ++ codes "\n"
+effects_words program r = codes "  Effects of " ++ reaction_words program r ++ codes ":" ++ listed_names program (effects_of program r) ++ codes "\n"
 
 -- what a thing is, and what is done with it
 abbrev pub kind_words : ThingKind → List ℕ

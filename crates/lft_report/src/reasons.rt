@@ -2,7 +2,7 @@
 
 ghost use Rattle.std.specs.Prelude.{◌≡◌, ◌++◌, OnOk, flat_map, string_bytes};
 ghost use Rattle.lft_model.specs.Runs.{inputs_of, effects_of};
-ghost use Rattle.lft_report.specs.Reasons.{given_stop_words, asked_stop_words, in_line_words, has_open_words, spaced, listed, inputs_words, effects_words, kind_words as the_kind_words, named_kind_words, fed_words, ends_other_words, last_of_worker_words, later_words, reason_words};
+ghost use Rattle.lft_report.specs.Reasons.{given_stop_words, asked_stop_words, in_line_words, has_open_words, spaced, listed_names, inputs_words, effects_words, kind_words as the_kind_words, named_kind_words, fed_words, ends_other_words, last_of_worker_words, later_words, reason_words};
 
 use crate::neighbours::{push_last_row, push_never, push_run_after, push_run_before};
 use crate::orders::push_passed_by;
@@ -93,7 +93,7 @@ fn push_each(text: &mut String, program: &Program, names: &[Name]) -> Result<(),
 
 /// Puts the names, or that there are none, at the end of the text.
 fn push_listed(text: &mut String, program: &Program, names: &[Name]) -> Result<(), AllocError>
-    ensures { OnOk result (string_bytes text.new ≡ string_bytes text.old ++ listed program.now names.now) }
+    ensures { OnOk result (string_bytes text.new ≡ string_bytes text.old ++ listed_names program.now names.now) }
 {
     if names.is_empty() {
         text.push_str(" none")?;
@@ -110,7 +110,7 @@ fn push_inputs_of(
     program: &Program,
     reaction: u32,
 ) -> Result<(), NoMemory>
-    ensures { OnOk result (string_bytes text.new ≡ string_bytes text.old ++ listed program.now (inputs_of program.now reaction)) }
+    ensures { OnOk result (string_bytes text.new ≡ string_bytes text.old ++ listed_names program.now (inputs_of program.now reaction)) }
 {
     if (reaction as usize) < program.reactions() {
         let inputs = program.reaction(reaction).inputs(alloc)?;
@@ -124,7 +124,7 @@ fn push_inputs_of(
 
 /// Puts the effects of the reaction, if there is one, at the end of the text.
 fn push_effects_of(text: &mut String, program: &Program, reaction: u32) -> Result<(), AllocError>
-    ensures { OnOk result (string_bytes text.new ≡ string_bytes text.old ++ listed program.now (effects_of program.now reaction)) }
+    ensures { OnOk result (string_bytes text.new ≡ string_bytes text.old ++ listed_names program.now (effects_of program.now reaction)) }
 {
     if (reaction as usize) < program.reactions() {
         push_listed(text, program, program.reaction(reaction).effects.as_slice())

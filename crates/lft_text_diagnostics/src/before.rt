@@ -3,7 +3,7 @@
 ghost use Rattle.lft_text_diagnostics.specs.inner.Trying.{AreTokens};
 
 use crate::candidates::Trial;
-use crate::thing::Thing;
+use crate::candidate::Candidate;
 use crate::ways::{BROADCAST, FEDERATION, GENERICS, SPACING, TYPE, VALUE, of_token, of_word};
 use lft_syntax::{Token, TokenKind, Tokens, can_stand};
 use lft_tag::NoMemory;
@@ -20,10 +20,10 @@ pub(crate) struct Before<'a> {
 }
 
 /// What a core text has alone where nothing is told of what could stand, or not at all.
-fn is_of_whole(thing: Thing) -> bool {
+fn is_of_whole(candidate: Candidate) -> bool {
     matches!(
-        thing,
-        Thing::Import | Thing::From | Thing::Text | Thing::Symbol(b'[') | Thing::Symbol(b']')
+        candidate,
+        Candidate::Import | Candidate::From | Candidate::Text | Candidate::Symbol(b'[') | Candidate::Symbol(b']')
     )
 }
 
@@ -34,10 +34,10 @@ impl Trial for Before<'_> {
 
     ghost is_sound = { λ before. Lexes before.text.now before.tokens.now × (before.count ≤ length before.tokens.now) };
 
-    ghost stands = { λ before thing. CanStand before.text.now before.count thing };
+    ghost stands = { λ before candidate. CanStand before.text.now before.count candidate };
 
-    fn can_stand(&self, thing: Thing) -> Result<bool, NoMemory> {
-        if is_of_whole(thing) {
+    fn can_stand(&self, candidate: Candidate) -> Result<bool, NoMemory> {
+        if is_of_whole(candidate) {
             return Ok(false);
         }
         let can = can_stand(
@@ -45,7 +45,7 @@ impl Trial for Before<'_> {
             self.text,
             self.tokens,
             self.count,
-            thing.token(),
+            candidate.token(),
         )?;
         Ok(can)
     }
@@ -120,10 +120,10 @@ impl<'a> Before<'a> {
         if sign == b'@' {
             return Ok(None);
         }
-        if self.is(1, ":") && self.can_stand(Thing::Code)? {
+        if self.is(1, ":") && self.can_stand(Candidate::Code)? {
             return Ok(Some(TYPE));
         }
-        if !self.can_stand(Thing::Member)? {
+        if !self.can_stand(Candidate::Member)? {
             return Ok(None);
         }
         match sign {
@@ -147,7 +147,7 @@ impl<'a> Before<'a> {
             tokens: self.tokens,
             count,
         };
-        shorter.can_stand(Thing::Member)
+        shorter.can_stand(Candidate::Member)
     }
 
     /// What to write in place of the token that is refused, by those just before it.

@@ -2,88 +2,88 @@
 
 ghost use Rattle.std.specs.Prelude.{◌≡◌, ◌++◌, IfOk, OnOk, flat_map, string_bytes};
 ghost use Rattle.std.specs.List.{All};
-ghost use Rattle.lft_text_diagnostics.specs.{Candidates.{could_words, other_thing_words}, inner.Candidates.few};
+ghost use Rattle.lft_text_diagnostics.specs.{Candidates.{could_words, other_candidate_words}, inner.Candidates.few};
 
-use crate::thing::Thing;
+use crate::candidate::Candidate;
 use lft_tag::NoMemory;
 use std::alloc::Global;
 
-/// A place in a text at which things are tried.
+/// A place in a text at which candidates are tried.
 pub trait Trial {
     ghost use Rattle.std.specs.Prelude.{◌≡◌, IfOk, true};
-    ghost use Rattle.lft_text_diagnostics.specs.declared.thing.Thing.{Thing};
+    ghost use Rattle.lft_text_diagnostics.specs.declared.candidate.Candidate.{Candidate};
 
     ghost is_sound: { Self → Type 0 };
 
-    ghost stands: { Self → Thing → Type 0 };
+    ghost stands: { Self → Candidate → Type 0 };
 
-    /// Whether the thing can stand there.
-    fn can_stand(&self, thing: Thing) -> Result<bool, NoMemory>
+    /// Whether the candidate can stand there.
+    fn can_stand(&self, candidate: Candidate) -> Result<bool, NoMemory>
         requires { is_sound self.now }
-        ensures { IfOk result (λ can. can ≡ true → stands self.now thing) };
+        ensures { IfOk result (λ can. can ≡ true → stands self.now candidate) };
 }
 
 /// What is also a name elsewhere, and so isn't told where a name can stand.
-const WORDS: [Thing; 4] = [Thing::Unit, Thing::TypeTime, Thing::Import, Thing::From];
+const WORDS: [Candidate; 4] = [Candidate::Unit, Candidate::TypeTime, Candidate::Import, Candidate::From];
 
-const OTHERS: [Thing; 14] = [
-    Thing::Number,
-    Thing::Code,
-    Thing::Text,
-    Thing::Symbol(b'('),
-    Thing::Symbol(b')'),
-    Thing::Symbol(b'['),
-    Thing::Symbol(b']'),
-    Thing::Symbol(b'{'),
-    Thing::Symbol(b'}'),
-    Thing::Symbol(b','),
-    Thing::Symbol(b':'),
-    Thing::Symbol(b'='),
-    Thing::Symbol(b'.'),
-    Thing::Arrow,
+const OTHERS: [Candidate; 14] = [
+    Candidate::Number,
+    Candidate::Code,
+    Candidate::Text,
+    Candidate::Symbol(b'('),
+    Candidate::Symbol(b')'),
+    Candidate::Symbol(b'['),
+    Candidate::Symbol(b']'),
+    Candidate::Symbol(b'{'),
+    Candidate::Symbol(b'}'),
+    Candidate::Symbol(b','),
+    Candidate::Symbol(b':'),
+    Candidate::Symbol(b'='),
+    Candidate::Symbol(b'.'),
+    Candidate::Arrow,
 ];
 
 /// Words that begin something. Where each of them can stand any word can, and it is told as a name.
-const KEYS: [Thing; 6] = [
-    Thing::Member,
-    Thing::Reactor,
-    Thing::Action,
-    Thing::Startup,
-    Thing::New,
-    Thing::After,
+const KEYS: [Candidate; 6] = [
+    Candidate::Member,
+    Candidate::Reactor,
+    Candidate::Action,
+    Candidate::Startup,
+    Candidate::New,
+    Candidate::After,
 ];
 
-/// Puts the thing behind what was found, if it can stand there.
-fn try_thing<T: Trial>(trial: &T, found: &mut Vec<Thing>, thing: Thing) -> Result<(), NoMemory>
+/// Puts the candidate behind what was found, if it can stand there.
+fn try_candidate<T: Trial>(trial: &T, found: &mut Vec<Candidate>, candidate: Candidate) -> Result<(), NoMemory>
     requires sound { T.is_sound trial.now }
     requires found { All (T.stands trial.now) found.old.items }
     ensures { OnOk result (All (T.stands trial.now) found.new.items) }
 {
-    if trial.can_stand(thing)? {
-        found.push(thing)?;
+    if trial.can_stand(candidate)? {
+        found.push(candidate)?;
     }
     Ok(())
 }
 
-/// Puts those of the things that can stand there behind what was found.
-fn find<T: Trial>(trial: &T, found: &mut Vec<Thing>, things: &[Thing]) -> Result<(), NoMemory>
+/// Puts those of the candidates that can stand there behind what was found.
+fn find<T: Trial>(trial: &T, found: &mut Vec<Candidate>, tried: &[Candidate]) -> Result<(), NoMemory>
     requires sound { T.is_sound trial.now }
     requires found { All (T.stands trial.now) found.old.items }
     ensures { OnOk result (All (T.stands trial.now) found.new.items) }
 {
-    for at in 0..things.len() {
-        try_thing(trial, found, things[at])?;
+    for at in 0..tried.len() {
+        try_candidate(trial, found, tried[at])?;
     }
     Ok(())
 }
 
 /// A name, where one can stand there; else the words that can.
-fn name_or_words<T: Trial>(alloc: Global, trial: &T) -> Result<Vec<Thing>, NoMemory>
+fn name_or_words<T: Trial>(alloc: Global, trial: &T) -> Result<Vec<Candidate>, NoMemory>
     requires { T.is_sound trial.now }
     ensures { IfOk result (λ found. All (T.stands trial.now) found.items) }
 {
     let mut found = Vec::new(alloc);
-    try_thing(trial, &mut found, Thing::Name)?;
+    try_candidate(trial, &mut found, Candidate::Name)?;
     if found.is_empty() {
         find(trial, &mut found, &WORDS)?;
     }
@@ -91,7 +91,7 @@ fn name_or_words<T: Trial>(alloc: Global, trial: &T) -> Result<Vec<Thing>, NoMem
 }
 
 /// The words that can stand there, unless any word can.
-fn keys<T: Trial>(alloc: Global, trial: &T) -> Result<Vec<Thing>, NoMemory>
+fn keys<T: Trial>(alloc: Global, trial: &T) -> Result<Vec<Candidate>, NoMemory>
     requires { T.is_sound trial.now }
     ensures { IfOk result (λ found. All (T.stands trial.now) found.items) }
 {
@@ -105,7 +105,7 @@ fn keys<T: Trial>(alloc: Global, trial: &T) -> Result<Vec<Thing>, NoMemory>
 
 /// What can stand there: a name, or the words that can, and other things. The parser is asked of each of some twenty
 /// things, so the grammar stands once.
-pub fn candidates<T: Trial>(alloc: Global, trial: &T) -> Result<Vec<Thing>, NoMemory>
+pub fn candidates<T: Trial>(alloc: Global, trial: &T) -> Result<Vec<Candidate>, NoMemory>
     requires { T.is_sound trial.now }
     ensures { IfOk result (λ found. All (T.stands trial.now) found.items) }
 {
@@ -116,29 +116,29 @@ pub fn candidates<T: Trial>(alloc: Global, trial: &T) -> Result<Vec<Thing>, NoMe
     Ok(found)
 }
 
-/// Puts one more thing behind the text that could stand there.
-fn push_other(alloc: Global, out: &mut String, thing: Thing) -> Result<(), NoMemory>
-    ensures { OnOk result (string_bytes out.new ≡ string_bytes out.old ++ other_thing_words thing) }
+/// Puts one more candidate behind the text that could stand there.
+fn push_other(alloc: Global, out: &mut String, candidate: Candidate) -> Result<(), NoMemory>
+    ensures { OnOk result (string_bytes out.new ≡ string_bytes out.old ++ other_candidate_words candidate) }
 {
     out.push_str(", ")?;
-    thing.push_words(alloc, out)
+    candidate.push_words(alloc, out)
 }
 
-/// Puts further things behind the text that could stand there.
-fn push_others(alloc: Global, out: &mut String, things: &[Thing]) -> Result<(), NoMemory>
-    ensures { OnOk result (string_bytes out.new ≡ string_bytes out.old ++ flat_map other_thing_words things.now) }
+/// Puts further candidates behind the text that could stand there.
+fn push_others(alloc: Global, out: &mut String, others: &[Candidate]) -> Result<(), NoMemory>
+    ensures { OnOk result (string_bytes out.new ≡ string_bytes out.old ++ flat_map other_candidate_words others.now) }
 {
-    for at in 0..things.len() {
-        push_other(alloc, out, things[at])?;
+    for at in 0..others.len() {
+        push_other(alloc, out, others[at])?;
     }
     Ok(())
 }
 
-/// Puts what could stand there behind the text, where that is no more than so many things.
+/// Puts what could stand there behind the text, where that is no more than so many.
 pub fn push_candidates(
     alloc: Global,
     out: &mut String,
-    found: &[Thing],
+    found: &[Candidate],
     most: usize,
 ) -> Result<(), NoMemory>
     ensures { OnOk result (string_bytes out.new ≡ string_bytes out.old ++ could_words (few most found.now)) }

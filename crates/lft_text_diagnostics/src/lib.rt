@@ -22,7 +22,7 @@ mod refusal;
 mod sentence;
 mod spots;
 pub mod tables;
-mod thing;
+mod candidate;
 mod ways;
 pub mod words;
 
@@ -33,4 +33,4 @@ pub use place::{LineColumn, begins_letter, place_of};
 pub use program_text::{tell_no_tokens, tell_no_tree, way_at};
 pub use sentence::{TOO_SOON, push_standing};
 pub use spots::{Span, name_spot, reactor_spot, time_spot, token_spot};
-pub use thing::Thing;
+pub use candidate::Candidate;

@@ -2,7 +2,7 @@
 
 ghost use Rattle.std.specs.Prelude.{◌≢◌, ◌-◌, ◌<◌, ◌≤◌, length, IfSome, IfNone};
 ghost use Rattle.lft_syntax.specs.{declared.fault.LexFault.TheVariants.NoMemory as LexNoMemory, Lexes.LexFails};
-ghost use Rattle.lft_text_diagnostics.specs.{Candidates.{CanStand, CanStandAt}, Refusals.{HasNoTree, IsLong, IsRefusal}, declared.thing.Thing.Thing};
+ghost use Rattle.lft_text_diagnostics.specs.{Candidates.{CanStand, CanStandAt}, Refusals.{HasNoTree, IsLong, IsRefusal}, declared.candidate.Candidate.Candidate};
 
 use lft_syntax::{LexFault, TokenKind, Tokens, refused_at};
 
@@ -31,7 +31,7 @@ pub(crate) fn at_token(text: &[u8], tokens: &Tokens, number: usize) -> TextRefus
     requires none { HasNoTree text.now tokens.now number }
     ensures refusal { IsRefusal text.now result }
     ensures inside { (result.start ≤ result.end) × (result.end ≤ length text.now) }
-    ensures behind { (thing : Thing) → CanStand text.now (number - 1) thing → CanStandAt text.now result.why thing }
+    ensures behind { (candidate : Candidate) → CanStand text.now (number - 1) candidate → CanStandAt text.now result.why candidate }
 {
     match tokens.as_slice().get(number - 1) {
         Some(token) => TextRefusal {

@@ -1,7 +1,7 @@
 //! What to write in place of what the language has and `lftrace` leaves out.
 
 use crate::before::Before;
-use crate::thing::Thing;
+use crate::candidate::Candidate;
 use lft_syntax::{LexFault, TokenKind};
 
 pub(crate) const BROADCAST: &str = "Broadcasts are left out: write each connection by itself.";
@@ -98,31 +98,31 @@ fn of_time(kind: TokenKind, before: &Before<'_>) -> Option<&'static str> {
 pub(crate) fn of_candidates(
     kind: TokenKind,
     before: &Before<'_>,
-    found: &[Thing],
+    found: &[Candidate],
 ) -> Option<&'static str> {
-    if found.contains(&Thing::TypeTime) {
+    if found.contains(&Candidate::TypeTime) {
         return Some(PARAMETERS);
     }
-    if found.len() == 1 && found.contains(&Thing::Symbol(b':')) {
+    if found.len() == 1 && found.contains(&Candidate::Symbol(b':')) {
         return Some(
             "A parameter is a name and its type, as period: time = 5 ms. Those of other types are left out.",
         );
     }
-    if found.contains(&Thing::Unit) && before.is(2, "=") && !before.is(3, "time") {
+    if found.contains(&Candidate::Unit) && before.is(2, "=") && !before.is(3, "time") {
         return Some(
             "A time is a whole number with a unit. If it is no time, leave out the parameter and its value.",
         );
     }
-    if found.contains(&Thing::Unit) {
+    if found.contains(&Candidate::Unit) {
         return Some("A time is a whole number with a unit. Only 0 has none.");
     }
-    if found.contains(&Thing::Code) {
+    if found.contains(&Candidate::Code) {
         return Some(of_code(before));
     }
-    if found.contains(&Thing::Name) && found.contains(&Thing::Number) {
+    if found.contains(&Candidate::Name) && found.contains(&Candidate::Number) {
         return of_time(kind, before);
     }
-    if found.contains(&Thing::Name) && kind == TokenKind::Name {
+    if found.contains(&Candidate::Name) && kind == TokenKind::Name {
         return Some("That is a word of the language, and no name.");
     }
     None

@@ -7,12 +7,12 @@ use Rattle.lft_tag.specs.{declared.Tag.Tag, Tags.IsRecorded}
 use Rattle.lft_trace.specs.{Records.records_of, ExternalTables.{ExternalTable, Has, IsEntry, event_of, header, stop_of}}
 use Rattle.lft_trace.specs.inner.{ExternalLines.{AreKeptIn, AreReadOf}, Parts.HoldsItems, TableLines.{AreNextLines, text_left}}
 use Rattle.lft_trace.specs.declared.external_table.Entry.{Entry, TheVariants.{Happens, Stops}}
-use Rattle.lft_trace.specs.declared.reading.{externals.Kept.Kept, table_lines.TableLines.TableLines}
+use Rattle.lft_trace.specs.declared.reading.{externals.KeptEntries.KeptEntries, table_lines.TableLines.TableLines}
 use Rattle.lft_trace.proofs.{Beginning.records_of_lines, EventFacts.{has_cons, has_none}, ExternalTableFacts.{event_fits, stop_fits}, Members.has_permuted_back}
 use Rattle.lft_trace.proofs.{TableFacts.Texts, Together.{at_some, no_record, zipped}}
 
 -- up to what is left, the text's records tell entries that are kept
-pub record ReadUpTo (program : Parts) (known left : Option (List ℕ)) (k : Kept) : Type 0 where
+pub record ReadUpTo (program : Parts) (known left : Option (List ℕ)) (k : KeptEntries) : Type 0 where
   pub entries : List Entry
   pub records : Texts
   pub each : AllZip (IsEntry program) records entries
@@ -24,9 +24,9 @@ pub all_left : (known : Option (List ℕ)) → IfSome known (λ text. (rest : Li
 all_left None = tt
 all_left (Some text) = (text, refl, refl)
 
-module _ {R : Type 0} (remaining : R → Option (List ℕ)) (program : Parts) (known left : Option (List ℕ)) (k : Kept) (r : ReadUpTo program known left k) (new : TableLines R) (lines : List ℕ) (is_next : IfSome left (AreNextLines remaining new lines)) where
+module _ {R : Type 0} (remaining : R → Option (List ℕ)) (program : Parts) (known left : Option (List ℕ)) (k : KeptEntries) (r : ReadUpTo program known left k) (new : TableLines R) (lines : List ℕ) (is_next : IfSome left (AreNextLines remaining new lines)) where
   -- the entries of the next lines are kept too
-  pub read_more : (items : List Entry) (on : Kept) → HoldsItems (IsEntry program) lines items → ((before : List Entry) → AreKeptIn before k → AreKeptIn (before ++ items) on) → ReadUpTo program known (text_left remaining new) on
+  pub read_more : (items : List Entry) (on : KeptEntries) → HoldsItems (IsEntry program) lines items → ((before : List Entry) → AreKeptIn before k → AreKeptIn (before ++ items) on) → ReadUpTo program known (text_left remaining new) on
   read_more items on held keeps = record {
     entries = r.entries ++ items;
     records = r.records ++ records_of lines;

@@ -183,7 +183,8 @@ impl<R: Read + Drop> Records<R> {
         ahead.swap_remove(self.next - 1)
     }
 
-    /// Goes on to the next record, if there is one.
+    /// Goes on to the next record, if there is one. Where the reader fails, the error comes as soon as the records
+    /// before the failure are read: up to 31 of them are then never given.
     #[inline(always)]
     pub fn next(&mut self) -> Result<bool, Unread>
         ensures found { IfOk result (λ found. found ≡ true → IsPlain R.remaining self.old → IsNext R.remaining self.old self.new) }

@@ -4,7 +4,7 @@ ghost use Rattle.std.specs.Prelude.{◌≡◌, IfOk, true};
 ghost use Rattle.lft_whole_driver.specs.inner.Could.{IsReadPast};
 
 use lft_tag::NoMemory;
-use lft_text_diagnostics::Thing;
+use lft_text_diagnostics::Candidate;
 use lft_text_diagnostics::candidates::{Trial, candidates, push_candidates};
 use lft_whole::{TextFault, TreeFault, lex};
 use lft_whole_parser::parse;
@@ -24,7 +24,7 @@ fn is_read_past(alloc: Global, text: &[u8], token: usize) -> Result<bool, NoMemo
     };
     match parse(alloc, text, &tokens) {
         Ok(_) => Ok(true),
-        // The thing stands last. A refusal behind it says only that the text ends too soon.
+        // The candidate stands last. A refusal behind it says only that the text ends too soon.
         Err(TreeFault::Unexpected(at)) | Err(TreeFault::Package(at)) => Ok(token < at),
         Err(TreeFault::NoMemory) => Err(NoMemory),
     }
@@ -43,14 +43,14 @@ impl Trial for Prefix<'_> {
 
     ghost is_sound = { λ front. Unit {0} };
 
-    ghost stands = { λ front thing. CanStand front.text.now front.token thing };
+    ghost stands = { λ front candidate. CanStand front.text.now front.token candidate };
 
-    fn can_stand(&self, thing: Thing) -> Result<bool, NoMemory> {
+    fn can_stand(&self, candidate: Candidate) -> Result<bool, NoMemory> {
         // A try reads the front anew, however long it is.
         let mut text = Vec::from_slice(self.alloc, self.text)?;
-        // A blank, so that the thing doesn't go on with the last token of the front.
+        // A blank, so that the candidate doesn't go on with the last token of the front.
         text.push(b' ')?;
-        thing.push_token(&mut text)?;
+        candidate.push_token(&mut text)?;
         is_read_past(self.alloc, &text, self.token)
     }
 }
@@ -86,9 +86,9 @@ pub(crate) fn push_unit(
         // A unit would be the next token.
         token: token.saturating_add(1),
     };
-    if front.can_stand(Thing::Unit)? {
+    if front.can_stand(Candidate::Unit)? {
         out.push_str("  Behind it could stand: ")?;
-        Thing::Unit.push_words(alloc, out)?;
+        Candidate::Unit.push_words(alloc, out)?;
         out.push_str(".\n")?;
     }
     Ok(())

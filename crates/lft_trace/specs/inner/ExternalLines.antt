@@ -3,10 +3,10 @@ use Rattle.std.specs.Prelude.{◌≡◌, ◌≤◌, ◌+◌, ℕ, List, length, 
 use Rattle.std.specs.List.{AllZip}
 use Rattle.lft_ir.specs.{Parts.Parts, Steps.Inputs.{ExternalInputs, InOrder}}
 use Rattle.lft_trace.specs.{Records.records_of, ExternalTables.IsEntry, inner.SeenExternals.AreKept}
-use Rattle.lft_trace.specs.declared.{external_table.Entry.Entry, reading.externals.Kept.Kept}
+use Rattle.lft_trace.specs.declared.{external_table.Entry.Entry, reading.externals.KeptEntries.KeptEntries}
 
 -- the stop and the events of the entries are kept, and so many more may come
-abbrev pub AreKeptIn : List Entry → Kept → Type 0
+abbrev pub AreKeptIn : List Entry → KeptEntries → Type 0
 AreKeptIn entries k = AreKept entries k.stop k.events × (k.left + length entries ≡ 4000000)
 
 -- the inputs are those of entries that these records tell, one by one, and where the text is known its records are these

@@ -24,10 +24,6 @@ HoldsRows program text rows = HoldsItems (IsRow program) text rows
 abbrev pub items_of : {Item : Type 0} → List (Vec Item Global) → List Item
 items_of {Item} parts = flat_map (λ (part : Vec Item Global). part.items) parts
 
--- the rows of lists of rows, one list after another
-abbrev pub rows_of : List (Vec Row Global) → List Row
-rows_of parts = items_of parts
-
 -- the text's first records tell the items, one by one, and behind them are those of the rest
 abbrev pub BeginsItems : {Item : Type 0} → (List (List ℕ) → Item → Type 0) → List ℕ → List Item → List ℕ → Type 0
 BeginsItems tells text items rest = (first : List (List (List ℕ))) × (records_of text ≡ first ++ records_of rest) × AllZip tells first items

@@ -2,7 +2,7 @@
 
 ghost use Rattle.std.specs.Prelude.{◌<◌, ◌≤◌, length, IfSome, IsTrue};
 ghost use Rattle.lft_ir.specs.Steps.Fits.{RowsFit};
-ghost use Rattle.lft_trace.specs.inner.Parts.{BeginsWith, HoldsRows, IsCut, rows_of};
+ghost use Rattle.lft_trace.specs.inner.Parts.{BeginsWith, HoldsRows, IsCut, items_of};
 
 use crate::reaction_names::ReactionNames;
 use crate::reading::lines::cut_behind;
@@ -50,7 +50,7 @@ pub fn read_batch<'a>(
 
 /// Whether a table may have as many rows as the parts together.
 fn are_few(parts: &[Vec<Row>]) -> bool
-    ensures { IsTrue result → length (rows_of parts.now) ≤ 4000000 }
+    ensures { IsTrue result → length (items_of parts.now) ≤ 4000000 }
 {
     let mut left = MAX_ROWS;
     for place in 0..parts.len() {
@@ -72,8 +72,8 @@ pub fn read_lines<R: Threads + Sync>(
     lines: &[u8],
     workers: u32,
 ) -> Option<Vec<Vec<Row>>>
-    ensures rows { IfSome result (λ parts. HoldsRows names.now lines.now (rows_of parts.items)) }
-    ensures fit { IfSome result (λ parts. RowsFit names.now (rows_of parts.items)) }
+    ensures rows { IfSome result (λ parts. HoldsRows names.now lines.now (items_of parts.items)) }
+    ensures fit { IfSome result (λ parts. RowsFit names.now (items_of parts.items)) }
 {
     // Asked for what every program keeps: no two of its things have one name.
     names.program();

@@ -2,7 +2,7 @@
 
 ghost use Rattle.std.specs.Prelude.{◌≡◌, ◌≤◌, ◌++◌, length, IfSome};
 ghost use Rattle.std.specs.Thread.{IsSync};
-ghost use Rattle.lft_trace.specs.inner.Parts.{HoldsRows, rows_of};
+ghost use Rattle.lft_trace.specs.inner.Parts.{HoldsRows, items_of};
 
 use crate::reaction_names::ReactionNames;
 use crate::reading::lines::cut_behind;
@@ -51,14 +51,14 @@ fn read_beside<R: Threads + Sync>(
     batch: &[u8],
     workers: u32,
 ) -> Option<(Vec<Row>, Vec<Vec<Row>>)>
-    ensures { IfSome result (λ p. (p.0.items ≡ all.items ++ rows_of read.items) × HoldsRows names.now batch.now (rows_of p.1.items)) }
+    ensures { IfSome result (λ p. (p.0.items ≡ all.items ++ items_of read.items) × HoldsRows names.now batch.now (items_of p.1.items)) }
 {
     let putting = move || -> Option<Vec<Row>>
-        ensures { IfSome result (λ rows. rows.items ≡ all.items ++ rows_of read.items) }
+        ensures { IfSome result (λ rows. rows.items ≡ all.items ++ items_of read.items) }
     { put_together(all, read) };
     let reading = move || -> Option<Vec<Vec<Row>>>
         requires { IsSync R.row }
-        ensures { IfSome result (λ parts. HoldsRows names.entry.now batch.entry.now (rows_of parts.items)) }
+        ensures { IfSome result (λ parts. HoldsRows names.entry.now batch.entry.now (items_of parts.items)) }
     { read_parts(rt, alloc, names, batch, workers) };
     let (rows, more) = join(rt, putting, reading);
     Some((rows?, more?))
@@ -66,7 +66,7 @@ fn read_beside<R: Threads + Sync>(
 
 /// The rows, and behind them those of the parts, where a table may have as many.
 fn put_together(rows: Vec<Row>, parts: Vec<Vec<Row>>) -> Option<Vec<Row>>
-    ensures rows { IfSome result (λ all. all.items ≡ rows.items ++ rows_of parts.items) }
+    ensures rows { IfSome result (λ all. all.items ≡ rows.items ++ items_of parts.items) }
     ensures few { IfSome result (λ all. length all.items ≤ 4000000) }
 {
     let mut all = rows;

@@ -22,17 +22,17 @@ const SHARE: usize = 1 << 20;
 
 /// The stop and the events of the entries so far, and how many more entries a table may have.
 #[derive(Drop)]
-struct Kept {
+struct KeptEntries {
     stop: Option<Tag>,
     events: EventMap,
     left: usize,
 }
 
 /// Keeps entries behind those before them. None where they can't stand with these, or there are too many.
-fn keep_part(alloc: Global, kept: Kept, entries: &[Entry]) -> Option<Kept>
+fn keep_part(alloc: Global, kept: KeptEntries, entries: &[Entry]) -> Option<KeptEntries>
     ensures { IfSome result (λ on. (before : List TheEntry) → AreKeptIn before kept → AreKeptIn (before ++ entries.now) on) }
 {
-    let Kept {
+    let KeptEntries {
         mut stop,
         mut events,
         left,
@@ -47,7 +47,7 @@ fn keep_part(alloc: Global, kept: Kept, entries: &[Entry]) -> Option<Kept>
         };
         stop = now;
     }
-    Some(Kept {
+    Some(KeptEntries {
         stop,
         events,
         left: left - entries.len(),
@@ -59,10 +59,10 @@ fn keep_lines<T: Threads + Sync>(
     rt: &T,
     alloc: Global,
     program: &Program,
-    kept: Kept,
+    kept: KeptEntries,
     lines: &[u8],
     workers: u32,
-) -> Option<Kept>
+) -> Option<KeptEntries>
     ensures { IfSome result (λ on. (entries : List TheEntry) × HoldsItems (IsEntry program.now) lines.now entries × ((before : List TheEntry) → AreKeptIn before kept → AreKeptIn (before ++ entries) on)) }
 {
     let parts = read_parts(rt, alloc, program, lines, workers)?;
@@ -75,7 +75,7 @@ fn keep_lines<T: Threads + Sync>(
 }
 
 /// The external inputs, once all entries are kept. None where there is no stop, or memory is refused.
-fn finish_kept(alloc: Global, kept: Kept) -> Option<Externals>
+fn finish_kept(alloc: Global, kept: KeptEntries) -> Option<Externals>
     ensures { IfSome result (λ inputs. (kept.stop ≡ Some inputs.stop) × (inputs.events ≡ kept.events) × InOrder inputs.events) }
 {
     match finish(alloc, kept.stop, kept.events) {
@@ -94,7 +94,7 @@ fn read_inputs<T: Threads + Sync, R: Read + Drop>(
 ) -> Result<Option<Externals>, ReadFailed>
     ensures { IfOk result (λ found. IfSome found (λ inputs. AreReadOf program.now (text_left R.remaining text.old) inputs)) }
 {
-    let mut kept = Kept {
+    let mut kept = KeptEntries {
         stop: None,
         events: EventMap::new(alloc),
         left: MAX_ROWS,

@@ -3,7 +3,7 @@ use Rattle.std.specs.Prelude.{◌≡◌, ◌<◌, ◌++◌, ◌∷◌, ℕ, List
 use Rattle.lft_syntax.specs.declared.token.Token.{Token}
 use Rattle.lft_whole.specs.{Pieces.tokens_of, declared.fault.TreeFault.TreeFault, Parts.Tree.FileTree}
 use Rattle.lft_whole_parser.specs.Files.{reads}
-use Rattle.lft_text_diagnostics.specs.{Candidates.{thing_token, written}, declared.thing.Thing.Thing}
+use Rattle.lft_text_diagnostics.specs.{Candidates.{candidate_token, lexeme_words}, declared.candidate.Candidate.Candidate}
 use Rattle.lft_whole.specs.declared.fault.TreeFault.TheVariants as faults
 
 -- What is read has a tree, or is refused behind the token of this number.
@@ -17,6 +17,6 @@ GoesPast token (Err faults.NoMemory) = ⊥
 abbrev pub IsReadPast : List ℕ → ℕ → Type 0
 IsReadPast t token = (tokens : List Token) × (tokens_of t ≡ Ok tokens) × GoesPast token (reads t tokens)
 
--- With the thing behind it, and a blank between, the front of a text is read further than its last token, which is the thing's.
-abbrev pub CanStand : List ℕ → ℕ → Thing → Type 0
-CanStand front token thing = IsReadPast ((front ++ 32 ∷ []) ++ written (thing_token thing)) token
+-- With the candidate behind it, and a blank between, the front of a text is read further than its last token, which is the candidate's.
+abbrev pub CanStand : List ℕ → ℕ → Candidate → Type 0
+CanStand front token candidate = IsReadPast ((front ++ 32 ∷ []) ++ lexeme_words (candidate_token candidate)) token

@@ -1,6 +1,6 @@
 use Rattle.std.proofs.Common.{◌≡◌, ◌+◌, length, take}
-use Rattle.lft_trace.specs.inner.Parts.{rows_of}
+use Rattle.lft_trace.specs.inner.Parts.{items_of}
 use Rattle.lft_trace.proofs.reading.batch.are_few.Given as goal
 
 abbrev pub invariant-loop-place : goal.invariant-loop-place
-invariant-loop-place l = l.left + length (rows_of (take l.place l.parts)) ≡ 4000000
+invariant-loop-place l = l.left + length (items_of (take l.place l.parts)) ≡ 4000000

@@ -1,5 +1,5 @@
 use Rattle.std.proofs.Common.{◌++◌}
-use Rattle.lft_trace.{specs.inner.Parts.rows_of, proofs.Behind.{GoesOn, goes_on}}
+use Rattle.lft_trace.{specs.inner.Parts.items_of, proofs.Behind.{GoesOn, goes_on}}
 use Rattle.lft_trace.proofs.reading.batches.read_batches.Goals as goal
 
 pub loop-batch-preserved : goal.loop-batch-preserved
@@ -8,5 +8,5 @@ loop-batch-preserved g c =
     let text = c.args.text.now in
     let cut = c.in-Some.ensures in
     let read = c.in_ok-put.ensures in
-    let before : GoesOn program text (c.loop-batch.all.items ++ rows_of c.loop-batch.read.items) c.loop-batch.rest.now = c.loop-batch.invariant in
-    rw read.0 (goes_on program text c.loop-batch.rest.now c.in-Some.batch.now c.in-Some.behind.now (c.loop-batch.all.items ++ rows_of c.loop-batch.read.items) (rows_of c.in_ok-put.more.items) before cut.0 cut.1 cut.2 read.1)
+    let before : GoesOn program text (c.loop-batch.all.items ++ items_of c.loop-batch.read.items) c.loop-batch.rest.now = c.loop-batch.invariant in
+    rw read.0 (goes_on program text c.loop-batch.rest.now c.in-Some.batch.now c.in-Some.behind.now (c.loop-batch.all.items ++ items_of c.loop-batch.read.items) (items_of c.in_ok-put.more.items) before cut.0 cut.1 cut.2 read.1)
