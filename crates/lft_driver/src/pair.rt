@@ -3,8 +3,7 @@
 ghost use Rattle.std.specs.Prelude.{◌≡◌, ◌≢◌, ◌⊎◌, true, OnOk, IfOk, IfErr, List};
 ghost use Rattle.std.specs.Io.KnownBytes.{Appends, Keeps};
 ghost use Rattle.lft_ir.specs.{Steps.Fits.RowsFit, declared.steps.row.Row.Row};
-ghost use Rattle.lft_model.specs.{Plans.PlanParts, Workers.IsWorkers};
-ghost use Rattle.lft_rows.specs.Accepted.{IsAccepted};
+ghost use Rattle.lft_model.specs.{Plans.PlanParts, Workers.IsWorkers, Accepted.IsAccepted};
 ghost use Rattle.lft_driver.specs.{Lines.line_of_pair, Meaning.IsNoTrace};
 ghost use Rattle.lft_driver.specs.Pairs.{AreAccepted, HaveTables, IsExecution, IsPaired, IsPairedUnder, IsPairing, MeanBoth};
 ghost use Rattle.lft_driver.specs.{PairRefusals.{PairRefusal, PairRefusalUnder, PairingRefusal, TracesRefusal}, Refusals.{CheckRefusal, IsRefusedGrowth}};

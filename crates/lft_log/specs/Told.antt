@@ -3,8 +3,7 @@ use Rattle.std.specs.Prelude.{◌≡◌, ◌⊎◌, ◌+◌, ◌^◌, ◌<◌, �
 use Rattle.std.specs.{Global.Vec, List.Sorted.IsPermutation}
 use Rattle.lft_ir.specs.{Parts.Parts, declared.steps.{externals.Event.Event as EventOf, row.Row.Row}, Steps.Inputs.{InOrder, IsTold}}
 use Rattle.lft_tag.specs.{declared.{NoMemory.NoMemory as WantOfMemory, Tag.Tag}, Tags.{Before, UpTo, earliest}}
-use Rattle.lft_model.specs.{Plans.PlanParts, Breaches.First}
-use Rattle.lft_rows.specs.Accepted.{IsAccepted}
+use Rattle.lft_model.specs.{Plans.PlanParts, Breaches.First, Accepted.IsAccepted}
 use Rattle.lft_monitor.specs.{declared.open.StillOpen.StillOpen, OpenRuns.AreOpenRuns}
 use Rattle.lft_monitor.specs.Follows.{AreTooMany, HasManyLater, IsSureSoFar, IsOddSoFar, IsCleanSoFar, IsFirstUpToLast, IsJudged, IsPassed, IsQuiet, breach_of}
 use Rattle.lft_trace.specs.{ExternalTables.{IsEntry, event_of, stop_of}, LogTables.IsNoLine}

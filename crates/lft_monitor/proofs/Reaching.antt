@@ -4,8 +4,8 @@ use native.Mathlib.Decide.{dec_lt}
 use Rattle.lft_tag.{specs.{declared.Tag.Tag, Tags.{Before, UpTo}}, proofs.Order.{Before-trans, split_up}}
 use Rattle.lft_lists.proofs.Places.{get_push, get_last, get_push_cases, same_at}
 use Rattle.lft_ir.specs.declared.steps.row.{Row.Row, Step.TheVariants.Start}
-use Rattle.lft_model.{specs.Runs.{start_row, Ran}, proofs.Places.{slice_get_within, slice_get_take, slice_get_taken}}
-use Rattle.lft_rows.{specs.{Slices.AreTags, inner.Slices.Rises}, proofs.{Counted.{count_start, count_inner}, Steps.row_eq}}
+use Rattle.lft_model.{specs.{Runs.{start_row, Ran}, Accepted.AreTags}, proofs.Places.{slice_get_within, slice_get_take, slice_get_taken}}
+use Rattle.lft_rows.{specs.inner.Slices.Rises, proofs.{Counted.{count_start, count_inner}, Steps.row_eq}}
 use Rattle.lft_monitor.specs.{Reach.{IsLastOf, IsReach}, declared.reach.Reach.Reach}
 
 module _ (t : List Row) (n : ℕ) (row : Row) (at : slice_get t n ≡ Some row) where

@@ -2,7 +2,7 @@
 use Rattle.std.specs.Prelude.{◌≡◌, List, [], ◌∷◌, ◌++◌, length, Option, MatchOption}
 use Rattle.lft_tag.specs.declared.Tag.{Tag}
 use Rattle.lft_ir.specs.declared.steps.row.Row.{Row}
-use Rattle.lft_rows.specs.Slices.{runs_in, AreTags}
+use Rattle.lft_model.specs.Accepted.{runs_in, AreTags}
 use Rattle.lft_monitor.specs.declared.reach.Reach.{Reach}
 
 -- the tag is the last of the tags; where there is none, there are no tags

@@ -2,8 +2,7 @@
 use Rattle.std.proofs.Common.{◌≡◌, ℕ, ◌+◌, List, take, refl, ap, ◌∙◌, Some, slice_get, false}
 use Rattle.std.proofs.lemmas.{List.Sums.{count_by_more_yes, count_by_more_no}, Option.get_or_from_slice_get}
 use Rattle.lft_ir.specs.declared.steps.row.{Row.Row, Step.{Step, TheVariants.{Start, Read, Write, Schedule, Stop, End}}}
-use Rattle.lft_model.proofs.Places.{slice_get_within}
-use Rattle.lft_rows.specs.Slices.{begins, runs_in}
+use Rattle.lft_model.{proofs.Places.slice_get_within, specs.Accepted.{begins, runs_in}}
 
 not_begins : (s : Step) → ¬ (s ≡ Start) → begins s ≡ false
 not_begins Start n = absurd (n refl)

@@ -9,9 +9,9 @@ use Rattle.lft_tag.{specs.{declared.Tag.Tag, Tags.Before}, proofs.Order.{Before-
 use Rattle.lft_ir.{proofs.Ranges.{range-get, range-within}, specs.declared.steps.row.{Row.Row, Step.{Step, TheVariants.{Start, End}}}}
 use Rattle.lft_lists.proofs.Places.{get_there, same_at, get_write_cases, get_written, get_unwritten, get_push, get_last, get_push_cases, length_written, get_append_cases, get_left}
 use Rattle.lft_lists.proofs.Members.{mem_get, get_mem, mem_contains, contains_mem}
-use Rattle.lft_model.specs.{Plans.PlanParts, Runs.{start_row, end_row, Ran}}
+use Rattle.lft_model.specs.{Plans.PlanParts, Runs.{start_row, end_row, Ran}, Accepted.AreTags}
 use Rattle.lft_model.proofs.{Blocks.put_right, Ended.row_is, Legality.{four, one_start, one_end, ended, ran_at}, Places.slice_get_within}
-use Rattle.lft_rows.specs.{declared.slices.Slice.Slice, inner.Slices.IsSlice, Slices.AreTags}
+use Rattle.lft_rows.specs.{declared.slices.Slice.Slice, inner.Slices.IsSlice}
 use Rattle.lft_slices.specs.{declared.pieces.{Piece.Piece, Pieces.Pieces}, Pieces.{IsRunPiece, AreRuns, IsTagAt}}
 use Rattle.lft_slices.specs.inner.Pieces.{AreEndsTo, AreStartsTo, AreRunsIn, ArePiecesTo, ArePieces}
 use Rattle.lft_check.specs.inner.ByTag.Slices.{IsCuttable, AreSlices}

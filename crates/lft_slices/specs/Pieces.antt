@@ -2,8 +2,7 @@
 use Rattle.std.specs.Prelude.{◌≡◌, ℕ, ◌<◌, List, Some, slice_get}
 use Rattle.lft_tag.specs.declared.Tag.{Tag}
 use Rattle.lft_ir.specs.declared.steps.row.Row.{Row}
-use Rattle.lft_model.specs.Runs.{start_row, end_row, Ran}
-use Rattle.lft_rows.specs.Slices.{AreTags}
+use Rattle.lft_model.specs.{Runs.{start_row, end_row, Ran}, Accepted.AreTags}
 use Rattle.lft_slices.specs.declared.pieces.Piece.{Piece}
 
 -- the piece tells the places of the start row and of the end row of its reaction's run at g

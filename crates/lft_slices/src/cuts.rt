@@ -3,8 +3,8 @@
 ghost use Rattle.std.specs.Prelude.{◌≡◌, ◌<◌, List, Option, length, IfOk};
 ghost use Rattle.lft_tag.specs.declared.Tag.{Tag as TheTag};
 ghost use Rattle.lft_ir.specs.declared.parts.Value.{Value as Carried};
-ghost use Rattle.lft_model.specs.Presence.{Collision, Inputs};
-ghost use Rattle.lft_rows.specs.{Presence.{Clashes.IsClash, Traces.AreDue}, Slices.AreTags};
+ghost use Rattle.lft_model.specs.{Presence.{Collision, Inputs}, Accepted.AreTags};
+ghost use Rattle.lft_rows.specs.Presence.{Clashes.IsClash, Traces.AreDue};
 ghost use Rattle.lft_check.specs.ByTag.Slices.{IsGap};
 ghost use Rattle.lft_slices.specs.Pieces.{IsTagAt, AreRuns};
 

@@ -4,8 +4,7 @@ use Rattle.std.{specs.List.count_by, proofs.lemmas.List.Sums.sum_by-append}
 use Rattle.lft_tag.specs.{declared.Tag.Tag, Tags.Before}
 use Rattle.lft_lists.proofs.Places.{get_left, get_right, get_push, get_last, get_push_cases, get_append_cases}
 use Rattle.lft_ir.specs.declared.steps.row.Row.{Row}
-use Rattle.lft_model.{specs.Runs.{start_row, Ran}, proofs.Places.slice_get_within}
-use Rattle.lft_rows.specs.Slices.{begins, runs_in, AreTags}
+use Rattle.lft_model.{specs.{Runs.{start_row, Ran}, Accepted.{begins, runs_in, AreTags}}, proofs.Places.slice_get_within}
 use Rattle.lft_queue.specs.Coming.AtTag.{AreBefore, AreAt}
 use Rattle.lft_stream.specs.inner.Counted.{AreRunsCounted}
 

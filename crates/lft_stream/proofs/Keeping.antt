@@ -10,9 +10,9 @@ use Rattle.lft_ir.specs.{Origins.Origin, Sound.IsSound}
 use Rattle.lft_ir.specs.declared.parts.{Value.Value, Name.{Name, TheVariants.{Port, Action}}, Trigger.TheVariants.On}
 use Rattle.lft_ir.specs.declared.steps.{externals.Event.Event, row.{Row.Row, Step.Step}}
 use Rattle.lft_model.specs.{Plans.PlanParts, Presence.{requests, stop, given, written, Shows, Inputs, Triggered}, Runs.{Ran, inputs_of, read_of, reads_at}}
-use Rattle.lft_model.specs.Breaches.{IsTooEarly}
+use Rattle.lft_model.specs.{Breaches.IsTooEarly, Accepted.{runs_in, IsAccepted}}
 use Rattle.lft_model.proofs.Stops.{stop_append}
-use Rattle.lft_rows.specs.{inner.{Firsts.FirstRow, Slices.IsSlice}, declared.slices.Slice.Slice, Slices.runs_in, Accepted.IsAccepted}
+use Rattle.lft_rows.specs.{inner.{Firsts.FirstRow, Slices.IsSlice}, declared.slices.Slice.Slice}
 use Rattle.lft_stream.specs.declared.stream.Stream.{Stream}
 use Rattle.lft_stream.specs.inner.{Settled.IsRightBehind, Owed.MeetNowhere, StartTags.AreStartTags, Dues.{AreDues, NoneOwed}}
 use Rattle.lft_stream.specs.inner.Kept.{KeepRules, IsLater, AreUpToLast, IsOfRow, HaveCome, state_of, IsStreamOf, IsAtHand, IsJudged}

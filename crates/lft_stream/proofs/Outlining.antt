@@ -12,9 +12,9 @@ use Rattle.lft_ir.specs.declared.steps.row.{Row.Row, Step.{Step, TheVariants.{St
 use Rattle.lft_ir.specs.Steps.Fits.{RowsFit}
 use Rattle.lft_ir.proofs.Ranges.{range-get, range-within, slice_get-drop}
 use Rattle.lft_model.specs.{Plans.PlanParts, Presence.{asked, requests, value_written, value_scheduled, written, min_delay}, Runs.{start_row, Ran}}
+use Rattle.lft_model.specs.Accepted.{begins, runs_in}
 use Rattle.lft_model.proofs.Places.{slice_get_take, slice_get_within}
-use Rattle.lft_rows.specs.{Slices.{begins, runs_in}, declared.marks.Marks.Marks, inner.Marks.{NoneReads, IsMark, AreMarks}}
-use Rattle.lft_rows.proofs.{Steps.row_eq, Counted.{count_start, count_inner}}
+use Rattle.lft_rows.{specs.{declared.marks.Marks.Marks, inner.Marks.{NoneReads, IsMark, AreMarks}}, proofs.{Steps.row_eq, Counted.{count_start, count_inner}}}
 use Rattle.lft_queue.specs.inner.Coming.{AtOnce.{AreHeard, origin_of}, Channels.{arrives_at, caused_by}, Lanes.coming, Shown.last_write}
 use Rattle.lft_queue.specs.inner.Coming.{Unread.{UnreadParts, AreUnread, AreFree, IsWrittenAt, IsLastTag}, Writes.AreWrites}
 use Rattle.lft_queue.specs.{Coming.AtTag.AreAt, declared.coming.writes.Written.Written}

@@ -4,8 +4,7 @@ use Rattle.lft_tag.specs.{declared.Tag.Tag, Tags.UpTo}
 use Rattle.lft_ir.specs.Origins.{Origin}
 use Rattle.lft_ir.specs.declared.parts.{Value.Value, Name.{Name, TheVariants.{Port, Action}}, Trigger.{Trigger, TheVariants.{Startup, Shutdown, Timer, On}}}
 use Rattle.lft_ir.specs.declared.steps.row.Row.{Row}
-use Rattle.lft_model.{specs.{Plans.PlanParts, Runs.{start_row, Ran}}, proofs.Places.slice_get_within}
-use Rattle.lft_rows.specs.{Accepted.IsAccepted, Slices.runs_in}
+use Rattle.lft_model.{specs.{Plans.PlanParts, Runs.{start_row, Ran}, Accepted.{IsAccepted, runs_in}}, proofs.Places.slice_get_within}
 use Rattle.lft_stream.specs.inner.{Settled.IsRightBehind, Counted.AreRunsCounted, Owed.{IsMet, AreCausesApart}, Dues.{AreDues, timed}}
 use Rattle.lft_stream.specs.inner.Streams.{State, first_state, IsStream, IsMetUpToStop, IsGrown}
 use Rattle.lft_stream.specs.declared.due.Due.{Due}

@@ -2,10 +2,9 @@
 
 ghost use Rattle.std.specs.Prelude.{◌≡◌, List, [], ◌++◌, IsTrue, IfOk, IfSome};
 ghost use Rattle.lft_ir.specs.{declared.steps.row.Row.Row as TheRow, Steps.Fits.RowsFit};
-ghost use Rattle.lft_rows.specs.Accepted.{IsAccepted};
+ghost use Rattle.lft_model.specs.{Accepted.IsAccepted, Plans.PlanParts, Presence.stop};
 ghost use Rattle.lft_stream.specs.inner.{Dues.NoneDueBefore, Owed.MeetNowhere, Kept.{IsAcceptorOf, KeepRules, stopped_stream}};
 ghost use Rattle.lft_tag.specs.declared.Tag.{Tag as TheTag};
-ghost use Rattle.lft_model.specs.{Plans.PlanParts, Presence.stop};
 ghost use Rattle.lft_queue.specs.Coming.AtTag.{AreBefore};
 
 use crate::effort::Effort;

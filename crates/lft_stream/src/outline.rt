@@ -2,7 +2,7 @@
 
 ghost use Rattle.std.specs.Prelude.{◌≡◌, ◌+◌, ◌++◌, ◌∷◌, [], ◌<◌, List, length, IsTrue};
 ghost use Rattle.lft_ir.specs.declared.steps.row.Row.{Row as TheRow};
-ghost use Rattle.lft_rows.specs.Slices.{runs_in};
+ghost use Rattle.lft_model.specs.Accepted.{runs_in};
 ghost use Rattle.lft_stream.specs.inner.Outlines.{IsSpan, IsOutlineTo, IsOutline, AreEffectsOf};
 
 use lft_ir::steps::{Row, Step, row_at};

@@ -4,8 +4,8 @@ ghost use Rattle.std.specs.Prelude.{◌≡◌, ℕ, List, [], ◌++◌, ◌+◌,
 ghost use Rattle.lft_ir.specs.{declared.steps.row.Row.Row as TheRow, Steps.Fits.RowsFit};
 ghost use Rattle.lft_graph.specs.inner.Sets.{AreAncestors};
 ghost use Rattle.lft_tag.specs.Tags.{UpTo, earlier, earliest};
-ghost use Rattle.lft_model.specs.{Presence.{stop, requests, Triggered}, Runs.Ran};
-ghost use Rattle.lft_rows.specs.{inner.{Marks.{AreMarks, AreBefore as HaveMarksTo, IsLaid}, Slices.{IsSlice, Rises}}, Accepted.IsAccepted};
+ghost use Rattle.lft_model.specs.{Presence.{stop, requests, Triggered}, Runs.Ran, Accepted.IsAccepted};
+ghost use Rattle.lft_rows.specs.inner.{Marks.{AreMarks, AreBefore as HaveMarksTo, IsLaid}, Slices.{IsSlice, Rises}};
 ghost use Rattle.lft_stream.specs.inner.{Outlines.IsOutline, Dues.{AreDues, AreDuesAt, NoneDueBefore}};
 ghost use Rattle.lft_stream.specs.inner.{Kept.{KeepRules, IsLater, stopped_stream, IsStreamOf, RisesAt, IsAtHand, IsJudged}, Present.AreShown};
 

@@ -4,9 +4,9 @@ use native.Mathlib.Decide.{ℕ_discrete}
 use Rattle.lft_tag.{specs.{declared.Tag.Tag, Tags.{Before, UpTo}}, proofs.Order.{order_cases, UpTo_antisym, UpTo-not, from_first}}
 use Rattle.lft_ir.{specs.declared.steps.row.{Row.Row, Step.TheVariants.Start}, proofs.Ranges.slice_get-drop}
 use Rattle.lft_lists.proofs.Places.{get_there, same_at, get_write_cases, get_written, get_unwritten, get_push, get_last, get_push_cases, length_written, get_same, get_append_cases}
-use Rattle.lft_model.specs.{Plans.PlanParts, Presence.Triggered, Runs.{start_row, Ran}}
+use Rattle.lft_model.specs.{Plans.PlanParts, Presence.Triggered, Runs.{start_row, Ran}, Accepted.AreTags}
 use Rattle.lft_model.proofs.{Ended.row_is, Legality.{four, rising, one_start}, Places.{slice_get_within, slice_get_take}}
-use Rattle.lft_rows.{specs.{Presence.Traces.{TraceParts, LeastTag}, Slices.AreTags}, proofs.PresenceLemmas.Leasts.least_as}
+use Rattle.lft_rows.{specs.Presence.Traces.{TraceParts, LeastTag}, proofs.PresenceLemmas.Leasts.least_as}
 use Rattle.lft_check.specs.declared.by_tag.started.Started.{Started}
 use Rattle.lft_check.specs.inner.ByTag.{Slices.{IsCuttable, IsMissingRun}, Least.{HasTag, IsPassed, AreTriggered, Lacks}}
 use Rattle.lft_check.specs.inner.ByTag.Indexes.{AreStartsOf, HasRunsTo, HasRuns, AreTriggeredRows, AreMarkedTo}

@@ -1,6 +1,6 @@
 //! The first tag without any run at which a reaction is triggered.
 
-ghost use Rattle.lft_rows.specs.Slices.{AreTags};
+ghost use Rattle.lft_model.specs.Accepted.{AreTags};
 ghost use Rattle.lft_check.specs.ByTag.Slices.{IsGap};
 
 use crate::by_tag::missing::{first_of, lacked};

@@ -3,8 +3,8 @@
 ghost use Rattle.std.specs.Prelude.{◌≡◌, ◌<◌, ◌≤◌, ◌↔◌, length, Some, IsTrue, IfOk, IfSome, IfNone, slice_get};
 ghost use Rattle.lft_ir.specs.{Sound.IsNameOf, declared.steps.row.Row.Row as TheRow};
 ghost use Rattle.lft_graph.specs.Graph.{IsGraphOf};
-ghost use Rattle.lft_model.specs.Presence.{At, IsPresent, Triggered};
-ghost use Rattle.lft_rows.specs.{Presence.Clashes.IsClash, Slices.runs_in};
+ghost use Rattle.lft_model.specs.{Presence.{At, IsPresent, Triggered}, Accepted.runs_in};
+ghost use Rattle.lft_rows.specs.Presence.Clashes.{IsClash};
 ghost use Rattle.lft_check.specs.inner.ByTag.Slices.{AreSlices, IsCuttable, IsFirstMissing, IsFirstMissingFrom};
 
 use crate::by_tag::missing::first_missing;

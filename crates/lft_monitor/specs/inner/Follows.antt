@@ -3,8 +3,8 @@ use Rattle.std.specs.Prelude.{◌≡◌, ℕ, Bool, true, false, ◌+◌, ◌-�
 use Rattle.std.specs.List.{insert}
 use Rattle.lft_tag.specs.{declared.Tag.Tag, Tags.{Before, earlier}}
 use Rattle.lft_ir.specs.{declared.steps.{externals.Event.Event, row.Row.Row}, Steps.{Fits.RowsFit, Inputs.IsTold}}
-use Rattle.lft_model.specs.{Plans.PlanParts, Presence.stop, Breaches.First}
-use Rattle.lft_rows.specs.{Accepted.IsAccepted, inner.Firsts.FirstRow}
+use Rattle.lft_model.specs.{Plans.PlanParts, Presence.stop, Breaches.First, Accepted.IsAccepted}
+use Rattle.lft_rows.specs.inner.Firsts.{FirstRow}
 use Rattle.lft_queue.specs.Coming.AtTag.{AreAt, AreBefore}
 use Rattle.lft_stream.specs.inner.Kept.{IsAcceptorOf, stopped_stream}
 use Rattle.lft_monitor.specs.inner.{Sure.with_inputs, Kept.IsPastOfRows, Going.{IsGoing, IsGoneTo}}

@@ -2,8 +2,8 @@
 use Rattle.std.specs.Prelude.{◌≡◌, ℕ, ◌+◌, ◌<◌, ◌≤◌, List, length, Some, slice_get}
 use Rattle.lft_tag.specs.declared.Tag.{Tag}
 use Rattle.lft_ir.specs.declared.steps.row.Row.{Row}
-use Rattle.lft_model.specs.Runs.{start_row, end_row, Ran}
-use Rattle.lft_rows.specs.{declared.slices.Slice.Slice, Slices.AreTags}
+use Rattle.lft_model.specs.{Runs.{start_row, end_row, Ran}, Accepted.AreTags}
+use Rattle.lft_rows.specs.declared.slices.Slice.{Slice}
 use Rattle.lft_slices.specs.{declared.pieces.{Piece.Piece, Pieces.Pieces}, Pieces.IsRunPiece}
 
 -- what follows serves the proof that a cut has the runs

@@ -2,8 +2,7 @@
 use Rattle.std.proofs.Common.{◌≡◌, ◌≤◌, ℕ, List, [], ◌++◌, length, subst}
 use Rattle.lft_ir.specs.declared.steps.row.Row.{Row}
 use Rattle.lft_trace.{specs.{Records.records_of, Traces.IsRow, inner.Parts.BeginsWith}, proofs.Beginning.{begins_all, begins_more}}
-use Rattle.lft_model.specs.Plans.{PlanParts}
-use Rattle.lft_rows.specs.Accepted.{IsAccepted}
+use Rattle.lft_model.specs.{Plans.PlanParts, Accepted.IsAccepted}
 use Rattle.lft_stream.specs.inner.Batches.Progresses.{HaveAcceptedRows, IsGoneOn, IsReadUpTo}
 use Rattle.lft_stream.specs.declared.{batches.progress.JudgedRows.JudgedRows, stream.RunCounts.RunCounts}
 

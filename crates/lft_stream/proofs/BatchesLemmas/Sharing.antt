@@ -4,20 +4,20 @@ use Rattle.std.specs.declared.alloc.Global.{Global}
 use Rattle.std.proofs.lemmas.{Grind.flat_map-append, List.{append-nil, length-append, take-append-drop}, Option.slice_get-get_or}
 use Rattle.lft_ir.specs.{Parts.Parts, Steps.Fits.RowsFit, declared.steps.row.Row.Row}
 use Rattle.lft_lists.proofs.Places.{get_left, get_right}
-use Rattle.lft_trace.specs.{Parts.HasNoQuote, Traces.IsRow, inner.Parts.{HoldsRows, IsCut, rows_of}}
+use Rattle.lft_trace.specs.{Parts.HasNoQuote, Traces.IsRow, inner.Parts.{HoldsRows, IsCut, items_of}}
 use Rattle.lft_trace.proofs.{Beginning.{begins_all, begins_lines, begins_more}, Parts.items_more, Together.holds_both}
 use Rattle.lft_stream.specs.inner.Batches.Parted.{PartsFit}
 
 module _ (parts : List (Vec Row Global)) (n : ℕ) (part : Vec Row Global) (at : slice_get parts n ≡ Some part) where
-  split : rows_of parts ≡ (rows_of (take n parts) ++ part.items) ++ rows_of (drop (n + 1) parts)
-  split = ap rows_of (sym (take-append-drop (n + 1) parts)) ∙ flat_map-append (λ (p : Vec Row Global). p.items) (take (n + 1) parts) (drop (n + 1) parts) ∙ ap (λ (t : List Row). t ++ rows_of (drop (n + 1) parts)) (items_more parts n part at)
+  split : items_of parts ≡ (items_of (take n parts) ++ part.items) ++ items_of (drop (n + 1) parts)
+  split = ap items_of (sym (take-append-drop (n + 1) parts)) ∙ flat_map-append (λ (p : Vec Row Global). p.items) (take (n + 1) parts) (drop (n + 1) parts) ∙ ap (λ (t : List Row). t ++ items_of (drop (n + 1) parts)) (items_more parts n part at)
 
   -- its rows fit where those of all parts do
-  part_fits : (program : Parts) → RowsFit program (rows_of parts) → RowsFit program part.items
+  part_fits : (program : Parts) → RowsFit program (items_of parts) → RowsFit program part.items
   part_fits program all =
-      let a = rows_of (take n parts) in
+      let a = items_of (take n parts) in
       let b = part.items in
-      let c = rows_of (drop (n + 1) parts) in
+      let c = items_of (drop (n + 1) parts) in
       let fit : RowsFit program ((a ++ b) ++ c) = subst (RowsFit program) split all in
       let few : length ((a ++ b) ++ c) ≤ 4000000 = fit.few in
       record {
@@ -26,7 +26,7 @@ module _ (parts : List (Vec Row Global)) (n : ℕ) (part : Vec Row Global) (at :
       }
 
 -- so do those of each part
-pub parts_fit : (program : Parts) (parts : List (Vec Row Global)) → RowsFit program (rows_of parts) → PartsFit program parts
+pub parts_fit : (program : Parts) (parts : List (Vec Row Global)) → RowsFit program (items_of parts) → PartsFit program parts
 parts_fit program parts all k d within = part_fits parts k (get_or parts k d) (slice_get-get_or parts k d within) program all
 
 -- the rows of a text's first lines, and those of what stands behind them, are the text's rows

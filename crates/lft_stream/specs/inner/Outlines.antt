@@ -1,7 +1,7 @@
 -- What the rows of a tag ask for.
 use Rattle.std.specs.Prelude.{◌≡◌, ℕ, ◌<◌, ◌≤◌, Bool, true, false, cond, List, length, take, Option, Some, None, slice_get, slice_range, filter_map}
 use Rattle.lft_ir.specs.declared.{parts.{Name.Name, Value.Value}, steps.row.{Row.Row, Step.{Step, TheVariants.{Start, Read, Write, Schedule, Stop, End}}}}
-use Rattle.lft_rows.specs.Slices.{begins, runs_in}
+use Rattle.lft_model.specs.Accepted.{begins, runs_in}
 use Rattle.lft_stream.specs.declared.outline.{PlaceRange.PlaceRange, Outline.Outline}
 
 -- the reaction that the row starts, if it starts one

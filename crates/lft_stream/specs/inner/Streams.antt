@@ -2,8 +2,7 @@
 use Rattle.std.specs.Prelude.{◌≡◌, ℕ, ◌+◌, List, ◌++◌}
 use Rattle.lft_tag.specs.{declared.Tag.Tag, Tags.{Before, UpTo}}
 use Rattle.lft_ir.specs.{Origins.Origin, declared.{parts.{Value.Value, Name.{Name, TheVariants.{Port, Action}}}, steps.row.Row.Row}}
-use Rattle.lft_model.specs.{Plans.PlanParts, Presence.stop}
-use Rattle.lft_rows.specs.Slices.{runs_in}
+use Rattle.lft_model.specs.{Plans.PlanParts, Presence.stop, Accepted.runs_in}
 use Rattle.lft_stream.specs.{inner.{Settled.AreRowsSettled, Counted.AreRunsCounted, Dues.{AreDues, NoneOwed}}, declared.due.Due.Due}
 use Rattle.lft_queue.specs.inner.Coming.Lanes.{first_events, made, carried, IsLane}
 

@@ -3,7 +3,7 @@
 ghost use Rattle.std.specs.Prelude.{◌≡◌, [], List, IfOk, IfSome};
 ghost use Rattle.lft_ir.specs.declared.steps.row.Row.{Row as TheRow};
 ghost use Rattle.lft_trace.specs.{Records.records_of, Traces.Table, inner.Records.{IsPlain, records_left}};
-ghost use Rattle.lft_rows.specs.Accepted.{IsAccepted};
+ghost use Rattle.lft_model.specs.Accepted.{IsAccepted};
 ghost use Rattle.lft_stream.specs.inner.Batches.Progresses.{HaveAcceptedRows, IsProgress};
 
 use crate::RunCounts;

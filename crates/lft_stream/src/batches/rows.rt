@@ -2,7 +2,7 @@
 
 ghost use Rattle.std.specs.Prelude.{◌<◌, ◌≤◌, [], length, IfSome, IsTrue};
 ghost use Rattle.lft_ir.specs.Steps.Fits.{RowsFit};
-ghost use Rattle.lft_rows.specs.Accepted.{IsAccepted};
+ghost use Rattle.lft_model.specs.Accepted.{IsAccepted};
 ghost use Rattle.lft_stream.specs.inner.Kept.{IsAcceptorOf};
 
 use crate::{Acceptor, RunCounts};

@@ -4,8 +4,8 @@
 ghost use Rattle.std.specs.Prelude.{◌≡◌, ◌++◌, ◌≤◌, [], ℕ, List, IfOk, IfSome, length};
 ghost use Rattle.std.specs.Thread.{IsSync};
 ghost use Rattle.lft_ir.specs.{Steps.Fits.RowsFit, declared.steps.row.Row.Row as TheRow};
-ghost use Rattle.lft_trace.specs.{Records.records_of, Traces.Table, inner.{Parts.{HoldsRows, IsCut, rows_of}, TableLines.text_left}};
-ghost use Rattle.lft_rows.specs.Accepted.{IsAccepted};
+ghost use Rattle.lft_trace.specs.{Records.records_of, Traces.Table, inner.{Parts.{HoldsRows, IsCut, items_of}, TableLines.text_left}};
+ghost use Rattle.lft_model.specs.Accepted.{IsAccepted};
 ghost use Rattle.lft_stream.specs.inner.Batches.{Parted.PartsFit, Progresses.{HaveAcceptedRows, IsGoneOn, IsProgress}};
 
 use crate::RunCounts;
@@ -32,7 +32,7 @@ fn judge_parts(
 ) -> Option<JudgedRows>
     requires parts_fit { PartsFit plan.now.program parts.items }
     requires stands { (t : List TheRow) × IsProgress plan.now t progress }
-    ensures { IfSome result (λ on. IsGoneOn plan.now progress on (rows_of parts.items)) }
+    ensures { IfSome result (λ on. IsGoneOn plan.now progress on (items_of parts.items)) }
 {
     let mut progress = progress;
     for place in 0..parts.len() {
@@ -52,7 +52,7 @@ fn finish_parts(
 ) -> Option<RunCounts>
     requires parts_fit { PartsFit plan.now.program parts.items }
     requires stands { (t : List TheRow) × IsProgress plan.now t progress }
-    ensures { IfSome result (λ c. (t : List TheRow) → IsProgress plan.now t progress → (length (t ++ rows_of parts.items) ≤ 4000000) × IsAccepted plan.now (t ++ rows_of parts.items) c.runs c.tags) }
+    ensures { IfSome result (λ c. (t : List TheRow) → IsProgress plan.now t progress → (length (t ++ items_of parts.items) ≤ 4000000) × IsAccepted plan.now (t ++ items_of parts.items) c.runs c.tags) }
 {
     let mut progress = judge_parts(progress, alloc, plan, parts)?;
     progress.finish(alloc, plan)
@@ -81,8 +81,8 @@ fn read_rest<T: Threads + Sync>(
     rest: &[u8],
     workers: u32,
 ) -> Option<Vec<Vec<Row>>>
-    requires { IfSome read (λ parts. HoldsRows names.now first.now (rows_of parts.items) × RowsFit names.now (rows_of parts.items)) }
-    ensures rows { IfSome result (λ all. (lines : List ℕ) → IsCut lines first.now rest.now → HoldsRows names.now lines (rows_of all.items)) }
+    requires { IfSome read (λ parts. HoldsRows names.now first.now (items_of parts.items) × RowsFit names.now (items_of parts.items)) }
+    ensures rows { IfSome result (λ all. (lines : List ℕ) → IsCut lines first.now rest.now → HoldsRows names.now lines (items_of all.items)) }
     ensures fit { IfSome result (λ all. PartsFit names.now all.items) }
 {
     let mut read = read?;
@@ -107,8 +107,8 @@ fn go_beside<T: Threads + Sync>(
 ) -> Option<(JudgedRows, Vec<Vec<Row>>)>
     requires parts_fit { PartsFit plan.now.program parts.items }
     requires stands { (t : List TheRow) × IsProgress plan.now t progress }
-    ensures gone { IfSome result (λ p. IsGoneOn plan.now progress p.0 (rows_of parts.items)) }
-    ensures read { IfSome result (λ p. HoldsRows names.now lines.now (rows_of p.1.items)) }
+    ensures gone { IfSome result (λ p. IsGoneOn plan.now progress p.0 (items_of parts.items)) }
+    ensures read { IfSome result (λ p. HoldsRows names.now lines.now (items_of p.1.items)) }
     ensures read_fit { IfSome result (λ p. PartsFit names.now p.1.items) }
 {
     let readers = workers.saturating_sub(1);
@@ -116,11 +116,11 @@ fn go_beside<T: Threads + Sync>(
     let (first, rest) = first_lines(lines, beside);
     let judging = move || -> Option<JudgedRows>
         requires { PartsFit plan.now.program parts.items × ((t : List TheRow) × IsProgress plan.now t progress) }
-        ensures { IfSome result (λ on. IsGoneOn plan.entry.now progress on (rows_of parts.items)) }
+        ensures { IfSome result (λ on. IsGoneOn plan.entry.now progress on (items_of parts.items)) }
     { judge_parts(progress, alloc, plan, parts) };
     let reading = move || -> Option<Vec<Vec<Row>>>
         requires { IsSync T.row }
-        ensures { IfSome result (λ parts. HoldsRows names.entry.now first.entry.now (rows_of parts.items) × RowsFit names.entry.now (rows_of parts.items)) }
+        ensures { IfSome result (λ parts. HoldsRows names.entry.now first.entry.now (items_of parts.items) × RowsFit names.entry.now (items_of parts.items)) }
     { read_lines(rt, alloc, names, first, readers) };
     let (gone, read) = join(rt, judging, reading);
     let read = read_rest(rt, alloc, names, first, read, rest, workers)?;

@@ -2,8 +2,8 @@
 use Rattle.std.specs.Prelude.{◌≡◌, ℕ, ◌<◌, Bool, true, List, length, Option, Some, slice_get}
 use Rattle.lft_tag.specs.{declared.Tag.Tag, Tags.Before}
 use Rattle.lft_ir.specs.declared.steps.row.Row.{Row}
-use Rattle.lft_model.specs.{Presence.Triggered, Runs.start_row}
-use Rattle.lft_rows.specs.{Presence.Traces.TraceParts, declared.slices.Slice.Slice, Slices.runs_in}
+use Rattle.lft_model.specs.{Presence.Triggered, Runs.start_row, Accepted.runs_in}
+use Rattle.lft_rows.specs.{Presence.Traces.TraceParts, declared.slices.Slice.Slice}
 use Rattle.lft_check.specs.{declared.by_tag.{started.Started.Started, slicing.Caused.Caused}, inner.ByTag.Slices.{IsCuttable, AreSlices, IsFirstMissing}}
 
 -- the tags of the starts of r before place i, ascending, and their places

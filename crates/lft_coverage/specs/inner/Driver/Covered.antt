@@ -1,8 +1,7 @@
 -- Inside: a verdict on a trace table with what an accepted one exercised, and what was written of both.
 use Rattle.std.specs.Prelude.{◌≡◌, ◌++◌, ℕ, Bool, List, length}
 use Rattle.lft_ir.specs.declared.steps.row.Row.{Row}
-use Rattle.lft_model.specs.{Breaches.First, Plans.PlanParts}
-use Rattle.lft_rows.specs.Accepted.{IsAccepted}
+use Rattle.lft_model.specs.{Breaches.First, Plans.PlanParts, Accepted.IsAccepted}
 use Rattle.lft_check.specs.declared.verdict.Verdict.{Verdict}
 use Rattle.lft_counts.specs.Cover.{CoversRows}
 use Rattle.lft_coverage.specs.{declared.driver.covered.Covered.{Covered, TheVariants.{Accepted, Broken}}, Driver.Covered.IsBehind}

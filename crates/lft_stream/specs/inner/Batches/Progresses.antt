@@ -2,9 +2,8 @@
 use Rattle.std.specs.Prelude.{◌≡◌, ◌+◌, ◌++◌, ◌≤◌, ℕ, List, length}
 use Rattle.std.specs.List.{AllZip}
 use Rattle.lft_ir.specs.{Steps.Fits.RowsFit, declared.steps.row.Row.Row}
-use Rattle.lft_model.specs.Plans.{PlanParts}
+use Rattle.lft_model.specs.{Plans.PlanParts, Accepted.IsAccepted}
 use Rattle.lft_trace.specs.{Traces.IsRow, inner.Parts.BeginsWith}
-use Rattle.lft_rows.specs.Accepted.{IsAccepted}
 use Rattle.lft_stream.specs.{inner.Kept.IsAcceptorOf, declared.{batches.progress.JudgedRows.JudgedRows, stream.RunCounts.RunCounts}}
 
 -- what is kept is right for the rows that are judged, which are no more than a table may have

@@ -1,6 +1,7 @@
 use Rattle.std.proofs.Common.{◌≡◌, ◌+◌, ◌<◌, ◌≤◌, length, refl, sym, ap, ◌∙◌, subst, arith}
 use Rattle.std.proofs.lemmas.List.{take_all}
-use Rattle.lft_rows.{proofs.{PresenceLemmas.Lists.not_true, Counted.{count_start, count_inner}}, specs.Slices.runs_in}
+use Rattle.lft_rows.proofs.{PresenceLemmas.Lists.not_true, Counted.{count_start, count_inner}}
+use Rattle.lft_model.specs.Accepted.{runs_in}
 use Rattle.lft_check.specs.inner.ByTag.Indexes.{HasRunsTo}
 use Rattle.lft_check.proofs.ByTagLemmas.Begun.{starts_begin, starts_stay, starts_more}
 use Rattle.lft_check.proofs.by_tag.started.started_of.Goals.{then-is_start+in_ok-push+in_ok-push-2, else-is_start}

@@ -1,6 +1,6 @@
 use Rattle.std.proofs.Common.{◌≡◌, ◌≤◌, take}
 use Rattle.lft_check.specs.inner.ByTag.Indexes.{HasRunsTo}
-use Rattle.lft_rows.specs.Slices.{runs_in}
+use Rattle.lft_model.specs.Accepted.{runs_in}
 use Rattle.lft_check.proofs.by_tag.started.started_of.Given as goal
 
 abbrev pub invariant-loop-place : goal.invariant-loop-place

@@ -1,7 +1,7 @@
 use Rattle.std.proofs.Common.{◌≡◌, ◌∙◌, ◌++◌, List, Vec, ap, append-nil, arith, length, refl, subst, sym, take}
 use Rattle.std.{specs.declared.alloc.Global.Global, proofs.{lemmas.{List.append_assoc, Option.slice_get_read}, Math.Seq.take-length}}
 use Rattle.lft_ir.specs.{Steps.Fits.RowsFit, declared.steps.row.Row.Row}
-use Rattle.lft_trace.{specs.inner.Parts.rows_of, proofs.Parts.items_more}
+use Rattle.lft_trace.{specs.inner.Parts.items_of, proofs.Parts.items_more}
 use Rattle.lft_stream.specs.inner.Batches.Progresses.{IsGoneOn, IsProgress}
 use Rattle.lft_stream.proofs.batches.shared.judge_parts.Goals as goal
 
@@ -27,11 +27,11 @@ loop-place-preserved c =
     let new = c.add.new.self in
     let on = subst (λ (r : List Row). IsGoneOn plan c.loop-place.progress new r) c.as_slice.ensures.value (c.if-not-add.ensures refl) in
     record {
-      gone = λ t so. subst (λ (r : List Row). IsProgress plan r new) (append_assoc t (rows_of (take n parts)) part.items ∙ ap (λ (r : List Row). t ++ r) (sym (items_more parts n part at))) (on (t ++ rows_of (take n parts)) (c.loop-place.invariant.gone t so));
+      gone = λ t so. subst (λ (r : List Row). IsProgress plan r new) (append_assoc t (items_of (take n parts)) part.items ∙ ap (λ (r : List Row). t ++ r) (sym (items_more parts n part at))) (on (t ++ items_of (take n parts)) (c.loop-place.invariant.gone t so));
     }
 
 pub returns : goal.returns
 returns c =
     let parts = c.args.parts.items in
     let all : c.loop-place.place ≡ length parts = (let end = c.loop-place.auto.place-end in let test = c.loop-place-test.false in let long = c.len-place-end.ensures in omega (arith, end, test, long)) in
-    subst (λ (r : List (Vec Row Global)). IsGoneOn c.args.plan.now c.args.progress c.loop-place.progress (rows_of r)) (ap (λ n. take n parts) all ∙ take-length parts) c.loop-place.invariant.gone
+    subst (λ (r : List (Vec Row Global)). IsGoneOn c.args.plan.now c.args.progress c.loop-place.progress (items_of r)) (ap (λ n. take n parts) all ∙ take-length parts) c.loop-place.invariant.gone
