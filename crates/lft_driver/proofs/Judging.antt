@@ -1,7 +1,8 @@
 -- What is accepted, and faults that tell nothing of the texts.
 use Rattle.std.proofs.Common.{◌≡◌, ℕ, inl, inr, List, true, subst}
 use Rattle.lft_ir.specs.declared.steps.row.Row.{Row}
-use Rattle.lft_trace.specs.{Records.records_of, Traces.Table}
+use Rattle.lft_tables.specs.Records.{records_of}
+use Rattle.lft_trace.specs.Traces.{Table}
 use Rattle.lft_model.specs.{Plans.PlanParts, OneWorker.{LegalRunsAreOneWorker, LegalRunsKeepPrecedence}}
 use Rattle.lft_check.specs.{declared.verdict.Verdict.{Verdict, TheVariants.{Accepted, Broken}}, Verdicts.IsVerdict}
 use Rattle.lft_driver.specs.{Judged.AcceptedRuns, Meaning.Mean, Refusals.{CheckRefusal, IsRefusedGrowth, CheckRefusal.{by_workers, by_growth}}}

@@ -1,7 +1,8 @@
 -- Faults that tell nothing of the texts of two traces.
 use Rattle.std.proofs.Common.{◌≡◌, ◌⊎◌, inl, inr, ℕ, List, Option, true, subst}
 use Rattle.lft_ir.specs.declared.steps.row.Row.{Row}
-use Rattle.lft_trace.specs.{Records.records_of, Traces.Table}
+use Rattle.lft_tables.specs.Records.{records_of}
+use Rattle.lft_trace.specs.Traces.{Table}
 use Rattle.lft_model.specs.Plans.{PlanParts}
 use Rattle.lft_load.specs.{Meaning.{IsOnly, IsPlanOf}, Refusals.is_of_text, declared.fault.Fault.Fault}
 use Rattle.lft_driver.specs.{Meaning.IsNoTrace, Pairs.MeanBoth, PairRefusals.{PairingRefusal, PairingRefusal.{by_check, by_writer}}}

@@ -1,7 +1,8 @@
 -- What a reader of trace tables says of a text holds under a plan of the same program.
 use Rattle.std.proofs.Common.{◌≡◌, ℕ, List, true, sym, subst}
 use Rattle.lft_ir.specs.{Parts.Parts, declared.steps.row.Row.Row}
-use Rattle.lft_trace.specs.{Faults.is_told, Records.records_of, Traces.{Table, TraceFails}, declared.fault.TraceFault.TraceFault}
+use Rattle.lft_trace.specs.{Faults.is_told, Traces.{Table, TraceFails}, declared.fault.TraceFault.TraceFault}
+use Rattle.lft_tables.specs.Records.{records_of}
 use Rattle.lft_load.{specs.{Faults.table_number, Refusals.is_of_text, declared.fault.Fault.Fault}, proofs.Loading.{trace_told, told_at}}
 use Rattle.lft_driver.specs.{Meaning.{HasTable, IsNoTrace}, Refusals.TraceRefusal}
 use Rattle.lft_load.specs.declared.fault.Part.TheVariants as part

@@ -1,7 +1,8 @@
 -- What is told of texts is told of such as have no meaning.
 use Rattle.std.proofs.Common.{◌≡◌, ◌≢◌, ℕ, ◌⊎◌, List, [], ◌∷◌, ◌++◌, inl, inr, refl, sym, ◌∙◌, subst, Option, Some, None, IfSome, Result, Ok, Err, IfOk}
 use Rattle.lft_ir.specs.Parts.{Parts}
-use Rattle.lft_trace.specs.{Records.records_of, Traces.Table, declared.fault.TraceFault.TraceFault}
+use Rattle.lft_tables.specs.Records.{records_of}
+use Rattle.lft_trace.specs.{Traces.Table, declared.fault.TraceFault.TraceFault}
 use Rattle.lft_graph.{specs.{Precedence.HasNoLoop, Loops.IsLoop}, proofs.Cycles.is_cycle}
 use Rattle.lft_load.{specs.Meaning.{IsProgramOf, IsOnly}, proofs.Loading.under}
 use Rattle.lft_text_diagnostics.specs.Tables.Tables.{ContinuesFrom, field_line, heading, table_line_words}

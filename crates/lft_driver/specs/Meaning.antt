@@ -1,7 +1,8 @@
 -- What the texts of a program, its external inputs and a trace mean.
 use Rattle.std.specs.Prelude.{ℕ, List}
 use Rattle.lft_ir.specs.{Parts.Parts, declared.steps.row.Row.Row}
-use Rattle.lft_trace.specs.{Records.records_of, Traces.Table}
+use Rattle.lft_tables.specs.Records.{records_of}
+use Rattle.lft_trace.specs.Traces.{Table}
 use Rattle.lft_model.specs.Plans.{PlanParts}
 use Rattle.lft_load.specs.Meaning.{IsOnly, IsPlanOf}
 

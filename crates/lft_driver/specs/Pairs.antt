@@ -2,7 +2,8 @@
 use Rattle.std.specs.Prelude.{ℕ, List, Option}
 use Rattle.std.specs.Io.KnownBytes.{Appends}
 use Rattle.lft_ir.specs.{Parts.Parts, declared.steps.row.Row.Row}
-use Rattle.lft_trace.specs.{Records.records_of, Traces.Table}
+use Rattle.lft_tables.specs.Records.{records_of}
+use Rattle.lft_trace.specs.Traces.{Table}
 use Rattle.lft_model.specs.{Plans.PlanParts, Runs.by_ends, Breaches.{Legal, First}, OneWorker.{OneWorker, InOrderOfPrecedence}, Accepted.IsAccepted}
 use Rattle.lft_pair.specs.Pairs.{IsComparison}
 use Rattle.lft_load.specs.Meaning.{IsPlanOf, OfOnly}

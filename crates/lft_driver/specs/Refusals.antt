@@ -1,7 +1,8 @@
 -- Why texts get no plan and no verdict: the fault of the first layer that refuses.
 use Rattle.std.specs.Prelude.{◌≡◌, ℕ, ◌⊎◌, Bool, List, Option, true, false}
 use Rattle.lft_ir.specs.{Parts.Parts, declared.steps.row.Row.Row}
-use Rattle.lft_trace.specs.{declared.fault.TraceFault.TraceFault, Faults.is_told, Records.records_of, Traces.TraceFails}
+use Rattle.lft_trace.specs.{declared.fault.TraceFault.TraceFault, Faults.is_told, Traces.TraceFails}
+use Rattle.lft_tables.specs.Records.{records_of}
 use Rattle.lft_model.specs.{Plans.PlanParts, Workers.IsWorkers}
 use Rattle.lft_load.specs.{Faults.table_number, Meaning.{IsProgramOf, IsPlanOf, OfOnly}, Written.AppendsFront, declared.fault.Fault.Fault}
 use Rattle.lft_load.specs.Refusals.{LoadRefusal, ProgramRefusal, GraphRefusal}

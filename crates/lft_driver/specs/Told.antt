@@ -2,7 +2,8 @@
 use Rattle.std.specs.Prelude.{◌≡◌, ℕ, ◌⊎◌, List, ◌++◌, Some, codes}
 use Rattle.lft_ir.specs.{declared.steps.row.Row.Row, Parts.Parts, Steps.Inputs.ExternalInputs}
 use Rattle.lft_graph.specs.{Loops.IsLoop, Precedence.HasNoLoop}
-use Rattle.lft_trace.specs.{ExternalTables.{ExternalTable, ExternalFails}, Records.records_of, Traces.TraceFails, declared.fault.TraceFault.TraceFault}
+use Rattle.lft_trace.specs.{ExternalTables.{ExternalTable, ExternalFails}, Traces.TraceFails, declared.fault.TraceFault.TraceFault}
+use Rattle.lft_tables.specs.Records.{records_of}
 use Rattle.lft_model.specs.Plans.{PlanParts}
 use Rattle.lft_load.specs.Meaning.{IsPlanUnder, IsProgramOf, OfOnly}
 use Rattle.lft_text_diagnostics.specs.{Told.TellsProgram, Tables.Tables.{ContinuesFrom, IsWrong, IsWrongThere, NamesField, field_line, heading}}

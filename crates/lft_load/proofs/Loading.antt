@@ -5,7 +5,8 @@ use Rattle.lft_tree.specs.Tree.{FileTree}
 use Rattle.lft_resolve.specs.{declared.causes.ProgramFault.ProgramFault, Causes.{number_of as program_number, causes}}
 use Rattle.lft_program.{specs.Flattening.IsFlatOf, proofs.Firsts.first_holds}
 use Rattle.lft_ir.specs.{Parts.Parts, Steps.Inputs.ExternalInputs}
-use Rattle.lft_trace.specs.{declared.fault.TraceFault.TraceFault, Faults.is_told, Records.records_of, ExternalTables.ExternalTable}
+use Rattle.lft_trace.specs.{declared.fault.TraceFault.TraceFault, Faults.is_told, ExternalTables.ExternalTable}
+use Rattle.lft_tables.specs.Records.{records_of}
 use Rattle.lft_model.specs.Plans.{PlanParts}
 use Rattle.lft_load.specs.{Faults.{syntax_number, graph_number, table_number, IsFaultOfPart}, Meaning.{IsTreeOf, IsProgramOf, IsPlanOf, IsPlanUnder, IsOnly}}
 use Rattle.lft_load.specs.{Refusals.{SyntaxFails, ProgramFails, GraphFails, GraphRefusal, is_of_text}, declared.fault.{Fault.Fault, Part.Part}}

@@ -5,7 +5,8 @@ use Rattle.lft_tree.specs.Tree.{FileTree}
 use Rattle.lft_ir.specs.Parts.{Parts}
 use Rattle.lft_program.specs.Flattening.{IsFlatOf}
 use Rattle.lft_graph.specs.Precedence.{HasNoLoop}
-use Rattle.lft_trace.specs.{Records.records_of, ExternalTables.ExternalTable}
+use Rattle.lft_tables.specs.Records.{records_of}
+use Rattle.lft_trace.specs.ExternalTables.{ExternalTable}
 use Rattle.lft_model.specs.Plans.{PlanParts}
 
 -- x is the one thing of this kind

@@ -5,7 +5,8 @@ use Rattle.lft_syntax.specs.{View.lexemes, Grammar.Spells}
 use Rattle.lft_tree.specs.Tree.{FileTree}
 use Rattle.lft_resolve.specs.{declared.causes.ProgramFault.ProgramFault, Causes.{number_of as program_number, IsFirst, causes}}
 use Rattle.lft_ir.specs.{Parts.Parts, Steps.Inputs.ExternalInputs}
-use Rattle.lft_trace.specs.{declared.fault.TraceFault.TraceFault, Faults.is_told, Records.records_of, ExternalTables.{ExternalTable, ExternalFails}}
+use Rattle.lft_trace.specs.{declared.fault.TraceFault.TraceFault, Faults.is_told, ExternalTables.{ExternalTable, ExternalFails}}
+use Rattle.lft_tables.specs.Records.{records_of}
 use Rattle.lft_graph.specs.{Loops.IsLoop, declared.fault.GraphFault.GraphFault}
 use Rattle.lft_load.specs.{Faults.{lex_number, syntax_number, graph_number, table_number, IsFaultOfPart}, Meaning.{IsTreeOf, IsProgramOf}}
 use Rattle.lft_load.specs.declared.fault.{Fault.Fault, Part.Part}

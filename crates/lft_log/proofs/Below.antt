@@ -1,8 +1,9 @@
 -- The records of whole lines and of what stands below them, one part after another.
 use Rattle.std.proofs.Common.{◌≡◌, ◌∙◌, ◌∷◌, ◌++◌, [], ℕ, List, zero, suc, inl, inr, refl, sym, ap}
 use Rattle.csv.specs.{Machine.next_record, Reading.{records_from, strip_bom}}
-use Rattle.lft_trace.specs.{Records.records_of, Traces.header, inner.Parts.BeginsPlain, Parts.HasNoQuote}
-use Rattle.lft_trace.proofs.{Cutting.{lines_lead, records_cut}, Joining.{LeadsToStart, records_joined}}
+use Rattle.lft_tables.specs.{Records.records_of, inner.Parts.BeginsPlain, Parts.HasNoQuote}
+use Rattle.lft_tables.proofs.{Cutting.{lines_lead, records_cut}, Joining.{LeadsToStart, records_joined}}
+use Rattle.lft_trace.specs.Traces.{header}
 use Rattle.lft_log.specs.Logs.{AreLines, IsHead, header_words, records_below}
 
 pub no_bytes : records_below [] ≡ []

@@ -6,7 +6,7 @@ use Rattle.std.proofs.Math.Seq.{drop-append_seam}
 use Rattle.memchr.specs.Find.{IsLastByte, Nowhere, Passes, is_byte}
 use Rattle.lft_ir.proofs.Ranges.{slice_get-drop, slice_get-take}
 use Rattle.lft_lists.proofs.Picked.{take_next}
-use Rattle.lft_trace.specs.Parts.{EndsLine}
+use Rattle.lft_tables.specs.Parts.{EndsLine}
 use Rattle.lft_log.specs.Logs.{AreLines, HasNoEnd, IsHead}
 
 -- the first of a list

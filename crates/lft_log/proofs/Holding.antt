@@ -2,7 +2,8 @@
 use Rattle.std.proofs.Common.{◌≡◌, ◌∙◌, ℕ, inl, List, [], ◌∷◌, ◌++◌, drop, take, refl, sym, ap}
 use Rattle.std.{specs.List.AllZip, proofs.lemmas.List.{append_assoc, append-nil, take-append-drop}}
 use Rattle.lft_ir.specs.{Parts.Parts, declared.steps.row.Row.Row}
-use Rattle.lft_trace.{specs.{LogTables.IsLine, Traces.header, declared.log_table.Line.Line}, proofs.Together.zipped}
+use Rattle.lft_trace.specs.{LogTables.IsLine, Traces.header, declared.log_table.Line.Line}
+use Rattle.lft_tables.proofs.Together.{zipped}
 use Rattle.lft_log.specs.{Logs.{HoldSoFar, IsHead, records_below}, inner.Logs.{IsFront, LogLaw, row_records}, declared.front.LinesRead.LinesRead}
 use Rattle.lft_log.proofs.{Below.{below_head, lines_joined, no_bytes}, Ends.lines_both, Plain.{no_lines, plain_both}, Behind.{rows_each, zip_cut}}
 

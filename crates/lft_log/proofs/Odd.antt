@@ -7,7 +7,7 @@ use native.Mathlib.Decide.{dec_lt}
 use Rattle.memchr.specs.Find.{FindsNeedle, OccursAt}
 use Rattle.lft_ir.proofs.Ranges.{slice_get-drop, slice_get-take}
 use Rattle.lft_lists.proofs.{Picked.take_next, Places.{get_append_cases, get_last, get_left}}
-use Rattle.lft_trace.specs.Parts.{EndsLine}
+use Rattle.lft_tables.specs.Parts.{EndsLine}
 use Rattle.lft_log.specs.Logs.{ArePlain, BeginsLong, BeginsWithLine, HasNoEnd, IsHead, IsOddLine, IsOneLine, HasHeaderWords, header_words}
 use Rattle.lft_log.specs.{inner.Logs.{BeginsOdd, IsLoneReturn}, declared.fault.LogFault.LogFault}
 use Rattle.lft_log.proofs.{Ends.{never_both, range_take}, Plain.words_line}

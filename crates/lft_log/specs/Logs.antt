@@ -5,8 +5,9 @@ use Rattle.csv.specs.Reading.{default_config, records}
 use Rattle.memchr.specs.Find.{OccursAt, is_byte, places}
 use Rattle.lft_tag.specs.declared.Tag.{Tag}
 use Rattle.lft_ir.specs.{Parts.Parts, declared.steps.row.Row.Row as TheRow}
-use Rattle.lft_trace.specs.{LogTables.{IsLine, row_of}, Parts.{EndsLine, HasNoQuote}}
+use Rattle.lft_trace.specs.LogTables.{IsLine, row_of}
 use Rattle.lft_trace.specs.declared.{external_table.Entry.{Entry, TheVariants.{Happens, Stops}}, log_table.Line.{Line, TheVariants.{Row, Input}}}
+use Rattle.lft_tables.specs.Parts.{EndsLine, HasNoQuote}
 use Rattle.lft_monitor.specs.Follows.{IsPassed}
 use Rattle.lft_log.specs.declared.fault.LogFault.{LogFault, TheVariants.{NotPlain, NotPlainInput, SecondHeader}}
 

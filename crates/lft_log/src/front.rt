@@ -2,15 +2,16 @@
 
 ghost use Rattle.std.specs.Prelude.{◌≡◌, ◌≤◌, ◌++◌, ◌^◌, ℕ, List, length, false, None, IfOk, IfSome};
 ghost use Rattle.lft_ir.specs.{Parts.Parts, declared.steps.row.Row.Row as TheRow, Steps.Fits.RowsFit};
-ghost use Rattle.lft_trace.specs.{inner.{LogTables.{InputsFit, ReadsLines, StopsAt}, Parts.BeginsPlain}, Parts.EndsLine};
+ghost use Rattle.lft_trace.specs.inner.LogTables.{InputsFit, ReadsLines, StopsAt};
+ghost use Rattle.lft_tables.specs.{inner.Parts.BeginsPlain, Parts.EndsLine};
 ghost use Rattle.lft_log.specs.{Logs.{AreLines, BeginsWithLine, IsOddLine, records_below}, inner.Logs.{BeginsOdd, IsFaultBehind, IsFront}};
 
 use crate::fault::LogFault;
 use crate::lines::{first_line, has_words, is_input, plain_lines};
 use lft_ir::Program;
 use lft_ir::steps::Row;
+use lft_tables::Unread;
 use lft_tag::NoMemory;
-use lft_trace::records::Unread;
 use lft_trace::{Among, LineFault, LogLines, ReactionNumbers, read_log};
 use std::alloc::Global;
 

@@ -2,7 +2,7 @@
 
 ghost use Rattle.std.specs.Prelude.{◌≡◌, ◌≢◌, ◌↔◌, ◌⊎◌, ◌<◌, ◌≤◌, ◌+◌, ◌++◌, ◌∷◌, ℕ, List, [], Some, length, take, drop, slice_get, IfNone, IfSome, IsTrue, false, MatchOption};
 ghost use Rattle.memchr.specs.Find.{OccursAt};
-ghost use Rattle.lft_trace.specs.Parts.{EndsLine};
+ghost use Rattle.lft_tables.specs.Parts.{EndsLine};
 ghost use Rattle.lft_log.specs.Logs.{AreLines, ArePlain, LineBeginsWith, LineEndsWith, HasNoEnd, HasHeaderWords, IsHead, IsHeaderThen, IsOfInput, IsOneLine, IsWholeLine, IsWholeRow, IsWholeStop, fields, header_words};
 ghost use Rattle.lft_log.specs.inner.Logs.{BeginsOdd, IsLoneReturn};
 

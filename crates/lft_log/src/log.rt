@@ -2,7 +2,7 @@
 
 ghost use Rattle.std.specs.Prelude.{◌≡◌, Bool, ◌+◌, ◌++◌, ◌∷◌, ◌^◌, ◌≤◌, ℕ, List, [], Option, true, false, length, IfOk, IfErr, IfNone, IfSome, IsTrue, MatchOption};
 ghost use Rattle.lft_tag.specs.declared.Tag.{Tag as TheTag};
-ghost use Rattle.lft_trace.specs.Parts.{EndsLine};
+ghost use Rattle.lft_tables.specs.Parts.{EndsLine};
 ghost use Rattle.lft_ir.specs.declared.steps.row.Row.{Row as TheRow};
 ghost use Rattle.lft_model.specs.{Fitting.EachFits, Plans.PlanParts};
 ghost use Rattle.lft_monitor.specs.{inner.Follows.{HasGonePast, IsFollowerOf, next_of}, Follows.{IsJudged, IsQuiet}};

@@ -10,8 +10,8 @@ use Rattle.lft_record.specs.CardTables.{AreTold, CardsFail, FaultAt, IsAgain, Is
 use Rattle.lft_record.specs.{inner.Scripts.{Adds, is_taken, with_entry}, Scripts.blank}
 use Rattle.lft_record.specs.declared.cards.{card.{Card.Card, CardStep.CardStep, CardEntry.CardEntry}, Script.Script, expression.Summand.Summand}
 use Rattle.lft_record.specs.declared.cards.fault.CardFault.{CardFault}
-use Rattle.lft_trace.specs.{inner.Records.{fields_at_hand, in_memory, IsNext, IsUnread}, Records.records_of, declared.records.Records.Records}
-use Rattle.lft_trace.proofs.TableFacts.{Read, Texts, bad as bad_record, one_more as read_more, start as first}
+use Rattle.lft_tables.specs.{inner.Records.{fields_at_hand, in_memory, IsNext, IsUnread}, Records.records_of, declared.records.Records.Records}
+use Rattle.lft_tables.proofs.TableFacts.{Read, Texts, bad as bad_record, one_more as read_more, start as first}
 use Rattle.lft_record.specs.declared.cards.card.CardEntry.TheVariants as entry
 use Rattle.lft_record.specs.declared.cards.fault.CardFault.TheVariants as fault
 

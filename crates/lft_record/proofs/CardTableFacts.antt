@@ -3,7 +3,7 @@ use Rattle.std.proofs.Common.{◌≡◌, ◌≢◌, ◌∙◌, inl, inr, ◌++�
 use Rattle.std.specs.Prelude.{option_to_list}
 use Rattle.std.proofs.lemmas.{List.Elements.filter_map-append, Option.{slice_get-get_or, slice_get_within}}
 use Rattle.lft_ir.specs.{Parts.Parts, Sound.IsSound}
-use Rattle.lft_trace.proofs.TableFacts.{Texts, holds_no_fault, one_reading}
+use Rattle.lft_tables.proofs.TableFacts.{Texts, holds_no_fault, one_reading}
 use Rattle.lft_record.specs.CardTables.{AreTold, CardTable, CardsFail, FaultAt, IsCard, IsScript, card_tables, entries_of, entry_bodies, entry_of, entry_state}
 use Rattle.lft_record.specs.{Scripts.blank, declared.cards.{card.{Card.Card, CardEntry.CardEntry}, Script.Script, fault.CardFault.CardFault}}
 use Rattle.lft_record.proofs.{CardFacts.is_own, CardsDiffer.{count_there, empty_there, kind_there, name_there, number_there, one_card, value_there}}

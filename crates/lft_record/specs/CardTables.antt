@@ -1,7 +1,8 @@
 -- Tables of cards: the scripts of their records, and their faults.
 use Rattle.std.specs.Prelude.{◌≡◌, ◌≢◌, ◌==◌, ◌⊎◌, ℕ, List, [], ◌∷◌, length, codes, slice_get, filter_map, option_to_list, cond, Bool, true, false, not, ◌&&◌, ◌||◌, is_some, Option, Some, None}
 use Rattle.lft_ir.specs.{Names.IsNamed, Parts.Parts, declared.parts.Name.Name}
-use Rattle.lft_trace.specs.{Numbers.{number, number_or_zero}, Tables.{Fails, Holds, TableKind}, Traces.{IsThing, is_empty}}
+use Rattle.lft_trace.specs.{Numbers.{number, number_or_zero}, Traces.{IsThing, is_empty}}
+use Rattle.lft_tables.specs.Tables.{Fails, Holds, TableKind}
 use Rattle.lft_record.specs.Expressions.{IsExpression}
 use Rattle.lft_record.specs.declared.cards.{card.{Card.Card, CardStep.CardStep, CardValue.CardValue, CardEntry.CardEntry}, Script.Script}
 use Rattle.lft_record.specs.declared.cards.{expression.Summand.Summand, fault.CardFault.CardFault, kind.CardKind.CardKind}

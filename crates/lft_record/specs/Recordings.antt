@@ -3,7 +3,8 @@ use Rattle.std.specs.Prelude.{◌≡◌, ◌≢◌, ◌≤◌, ◌⊎◌, ℕ, �
 use Rattle.std.specs.Io.KnownBytes.{Appends, Keeps}
 use Rattle.lft_tag.specs.declared.Tag.{Tag}
 use Rattle.lft_ir.specs.{Parts.Parts, declared.{parts.Value.Value, steps.row.Row.Row}}
-use Rattle.lft_trace.specs.{Records.records_of, Traces.Table, Written.table_text}
+use Rattle.lft_tables.specs.Records.{records_of}
+use Rattle.lft_trace.specs.{Traces.Table, Written.table_text}
 use Rattle.lft_model.specs.{Breaches.Legal, Plans.PlanParts, Workers.IsWorkers}
 use Rattle.lft_pool.specs.{declared.{bodies.done.Done.Done, stop.Stop.Stop}, Books.{IsRecording, LacksBody}, Endings.WhyStopped}
 use Rattle.lft_scheduler.specs.Starts.{SomethingLeft, started_count}

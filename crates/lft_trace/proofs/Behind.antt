@@ -2,7 +2,8 @@
 use Rattle.std.proofs.Common.{◌≡◌, ◌++◌, ℕ, List}
 use Rattle.std.proofs.lemmas.List.{append_assoc}
 use Rattle.lft_ir.specs.{Parts.Parts, declared.steps.row.Row.Row}
-use Rattle.lft_trace.{specs.{Parts.EndsLine, Traces.IsRow, inner.Parts.{BeginsPlain, HoldsRows}}, proofs.Together.holds_both}
+use Rattle.lft_tables.{specs.{Parts.EndsLine, inner.Parts.BeginsPlain}, proofs.Together.holds_both}
+use Rattle.lft_trace.specs.{Traces.IsRow, inner.Parts.HoldsRows}
 
 -- the text holds these rows and behind them those of its rest, whichever they are
 abbrev pub GoesOn : Parts → List ℕ → List Row → List ℕ → Type 0

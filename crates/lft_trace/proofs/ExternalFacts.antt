@@ -6,12 +6,13 @@ use Rattle.std.proofs.{lemmas.List.{Elements.filter_map-append, Sorted.{IsPermut
 use Rattle.lft_ir.specs.{Parts.Parts, Steps.{Fits.{EventFits, ExternalsFit}, Inputs.{ExternalInputs, InOrder}}, declared.steps.externals.Event.Event}
 use Rattle.lft_tag.specs.{declared.Tag.Tag, Tags.IsRecorded}
 use Rattle.lft_trace.specs.ExternalTables.{AreApart, ExternalFails, ExternalTable, FaultAt, Has, IsEntry, event_of, external_tables, header, stop_of}
-use Rattle.lft_trace.specs.inner.{Records.{fields_at_hand, IsCounted, IsNext, IsPast, IsUnread, records_left}, SeenExternals.{AreKept, Keeps, Refuses}}
-use Rattle.lft_trace.specs.Records.{records_of}
-use Rattle.lft_trace.specs.declared.{external_table.Entry.{Entry, TheVariants.{Happens, Stops}}, fault.TraceFault.TraceFault, records.Records.Records}
+use Rattle.lft_trace.specs.inner.SeenExternals.{AreKept, Keeps, Refuses}
+use Rattle.lft_trace.specs.declared.{external_table.Entry.{Entry, TheVariants.{Happens, Stops}}, fault.TraceFault.TraceFault}
 use Rattle.lft_trace.proofs.{EventFacts.{has_cons, has_none}, ExternalTableFacts.{event_fits, stop_fits}}
 use Rattle.lft_trace.proofs.Members.{apart_pushed, has_permuted, has_permuted_back}
-use Rattle.lft_trace.proofs.TableFacts.{Read, Texts, bad as bad_record, ended as all_read, one_more as read_more, past as past_last, start as first}
+use Rattle.lft_tables.specs.{inner.Records.{fields_at_hand, IsCounted, IsNext, IsPast, IsUnread, records_left}, Records.records_of}
+use Rattle.lft_tables.specs.declared.records.Records.{Records}
+use Rattle.lft_tables.proofs.TableFacts.{Read, Texts, bad as bad_record, ended as all_read, one_more as read_more, past as past_last, start as first}
 use Rattle.lft_trace.specs.declared.fault.TraceFault.TheVariants as fault
 
 -- what is read up to a line: the header and the records of some entries, their stop, if any, and their events

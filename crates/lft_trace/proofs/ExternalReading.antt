@@ -4,12 +4,11 @@ use Rattle.std.specs.Prelude.{option_to_list}
 use Rattle.std.{specs.List.{AllZip, Sorted.IsPermutation}, proofs.lemmas.{List.Sorted.length_permutation, Option.IfSome_then}}
 use Rattle.lft_ir.specs.{Parts.Parts, Steps.{Fits.{EventFits, ExternalsFit}, Inputs.{ExternalInputs, InOrder}}, declared.steps.externals.Event.Event}
 use Rattle.lft_tag.specs.{declared.Tag.Tag, Tags.IsRecorded}
-use Rattle.lft_trace.specs.{Records.records_of, ExternalTables.{ExternalTable, Has, IsEntry, event_of, header, stop_of}}
-use Rattle.lft_trace.specs.inner.{ExternalLines.{AreKeptIn, AreReadOf}, Parts.HoldsItems, TableLines.{AreNextLines, text_left}}
-use Rattle.lft_trace.specs.declared.external_table.Entry.{Entry, TheVariants.{Happens, Stops}}
-use Rattle.lft_trace.specs.declared.reading.{externals.KeptEntries.KeptEntries, table_lines.TableLines.TableLines}
-use Rattle.lft_trace.proofs.{Beginning.records_of_lines, EventFacts.{has_cons, has_none}, ExternalTableFacts.{event_fits, stop_fits}, Members.has_permuted_back}
-use Rattle.lft_trace.proofs.{TableFacts.Texts, Together.{at_some, no_record, zipped}}
+use Rattle.lft_tables.specs.{Records.records_of, inner.{Parts.HoldsItems, TableLines.{AreNextLines, text_left}}, declared.table_lines.TableLines.TableLines}
+use Rattle.lft_tables.proofs.{Beginning.records_of_lines, TableFacts.Texts, Together.{at_some, no_record, zipped}}
+use Rattle.lft_trace.specs.{ExternalTables.{ExternalTable, Has, IsEntry, event_of, header, stop_of}, inner.ExternalLines.{AreKeptIn, AreReadOf}}
+use Rattle.lft_trace.specs.declared.{external_table.Entry.{Entry, TheVariants.{Happens, Stops}}, reading.externals.KeptEntries.KeptEntries}
+use Rattle.lft_trace.proofs.{EventFacts.{has_cons, has_none}, ExternalTableFacts.{event_fits, stop_fits}, Members.has_permuted_back}
 
 -- up to what is left, the text's records tell entries that are kept
 pub record ReadUpTo (program : Parts) (known left : Option (List ℕ)) (k : KeptEntries) : Type 0 where

@@ -6,7 +6,8 @@ use Rattle.lft_tag.specs.{declared.Tag.Tag, Tags.IsRecorded}
 use Rattle.lft_trace.specs.ExternalTables.{ExternalFails, ExternalFields, ExternalTable, FaultAt, Has, IsEntry, IsOfKind, IsTag, event_of, external_tables, stop_of}
 use Rattle.lft_trace.specs.declared.{external_table.Entry.{Entry, TheVariants.{Happens, Stops}}, fault.TraceFault.TraceFault, kind.EntryKind.EntryKind}
 use Rattle.lft_trace.proofs.{Ascending.same_events, EntriesDiffer.{count_there, empty_there, kind_there, name_there, number_there, one_entry}}
-use Rattle.lft_trace.proofs.{Members.{at_front, at_middle, has_permuted, has_permuted_back}, TableFacts.{Texts, holds_no_fault, one_reading}, TraceFacts.within}
+use Rattle.lft_trace.proofs.{Members.{at_front, at_middle, has_permuted, has_permuted_back}, TraceFacts.within}
+use Rattle.lft_tables.proofs.TableFacts.{Texts, holds_no_fault, one_reading}
 use Rattle.lft_trace.specs.declared.fault.TraceFault.TheVariants as fault
 use Rattle.lft_trace.specs.declared.kind.EntryKind.TheVariants as kind
 

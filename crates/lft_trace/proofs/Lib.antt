@@ -1,4 +1,3 @@
-pub mod Ahead
 pub mod Ascending
 pub mod Digits
 pub mod EntriesDiffer
@@ -7,24 +6,17 @@ pub mod EventLists
 pub mod ExternalFacts
 pub mod ExternalReading
 pub mod ExternalTableFacts
-pub mod Fuel
 pub mod LogTableFacts
 pub mod Members
 pub mod NumbersBack
-pub mod Parts
 pub mod PlainRows
 pub mod RowFacts
 pub mod RowsBack
 pub mod RowsDiffer
 pub mod Sized
-pub mod TableFacts
 pub mod TraceFacts
 mod WrittenSamples
 pub mod Telling
-pub mod Joining
-pub mod Cutting
-pub mod Together
 pub mod Behind
 pub mod FirstTold
-pub mod Beginning
-pub mod Lining
+pub mod Headers

@@ -4,13 +4,13 @@ use Rattle.std.specs.{Io.Cursor.{cursor_inner, cursor_position}, declared.io.imp
 use Rattle.std.proofs.lemmas.{List.Elements.{All-cons, All-nil, filter_map-append}, Slice.Zip.all_zipped_more}
 use Rattle.lft_ir.specs.{Parts.Parts, Sound.IsSound, Steps.Fits.RowsFit, declared.steps.row.Row.Row as TheRow}
 use Rattle.lft_lists.proofs.Zips.{behind}
-use Rattle.lft_trace.specs.{ExternalTables.IsEntry, LogTables.{IsLine, row_of}}
-use Rattle.lft_trace.specs.inner.LogTables.{EntryFits, InputsFit, ReadsLines, inputs_behind}
-use Rattle.lft_trace.specs.inner.Records.{fields_at_hand, in_cursor, IsNext, IsPlain, IsUnread, records_left}
-use Rattle.lft_trace.specs.{Records.records_of, Traces.IsRow}
+use Rattle.lft_trace.specs.{ExternalTables.IsEntry, LogTables.{IsLine, row_of}, inner.LogTables.{EntryFits, InputsFit, ReadsLines, inputs_behind}, Traces.IsRow}
 use Rattle.lft_trace.specs.declared.external_table.Entry.{Entry, TheVariants.{Happens, Stops}}
-use Rattle.lft_trace.specs.declared.{log_table.{Among.Among, Line.{Line, TheVariants.{Row, Input}}, LogLines.LogLines}, records.Records.Records}
-use Rattle.lft_trace.proofs.{ExternalTableFacts.{event_fits, stop_fits}, TableFacts.Texts, TraceFacts.row_fits}
+use Rattle.lft_trace.specs.declared.log_table.{Among.Among, Line.{Line, TheVariants.{Row, Input}}, LogLines.LogLines}
+use Rattle.lft_trace.proofs.{ExternalTableFacts.{event_fits, stop_fits}, TraceFacts.row_fits}
+use Rattle.lft_tables.specs.{inner.Records.{fields_at_hand, in_cursor, IsNext, IsPlain, IsUnread, records_left}, Records.records_of}
+use Rattle.lft_tables.specs.declared.records.Records.{Records}
+use Rattle.lft_tables.proofs.TableFacts.{Texts}
 
 -- ---- many
 

@@ -12,10 +12,11 @@ use Rattle.lft_ir.specs.{Parts.Parts, Sound.{IsNameOf, IsSound}}
 use Rattle.lft_ir.specs.declared.parts.Name.{Name, TheVariants.{Port, Action}}
 use Rattle.lft_ir.specs.declared.steps.row.{Row.Row, Step.{Step, TheVariants.{Start, Read, Write, Schedule, Stop, End}}}
 use Rattle.lft_ir.specs.Steps.Fits.{RowFits, RowsFit, StepFits}
-use Rattle.lft_trace.specs.{Records.records_of, Traces.{IsRow, IsStep, IsThing, Table, TraceFields, header, in_order, word}}
+use Rattle.lft_tables.{specs.Records.records_of, proofs.Fuel.{at-end, one-more}}
+use Rattle.lft_trace.specs.Traces.{IsRow, IsStep, IsThing, Table, TraceFields, header, in_order, word}
 use Rattle.lft_trace.specs.inner.{SeenWriting.{AllHaveWords, HasWord, HasWords, HasWritten}, Written.csv_text}
 use Rattle.lft_trace.specs.Written.{event_of, name_text, row_fields, step_fields, written_records}
-use Rattle.lft_trace.proofs.{Fuel.{at-end, one-more}, NumbersBack.{delay_back, number_back, value_back}}
+use Rattle.lft_trace.proofs.NumbersBack.{delay_back, number_back, value_back}
 use Rattle.csv.specs.declared.writer.QuoteStyle.TheVariants as style
 use Rattle.csv.specs.declared.parser.State.TheVariants as st
 

@@ -7,7 +7,8 @@ use Rattle.lft_ir.specs.{declared.{parts.Name.{Name, TheVariants.{Port, Action}}
 use Rattle.lft_trace.specs.Numbers.{digits_after, number, number_or_zero}
 use Rattle.lft_trace.specs.Traces.{IsRow, IsStep, IsThing, RowOf, Table, TraceFails, TraceFields, trace_tables}
 use Rattle.lft_trace.specs.declared.{fault.TraceFault.TraceFault, kind.RowKind.{RowKind, TheVariants.{Start, Read, Write, Schedule, Stop, End}}}
-use Rattle.lft_trace.proofs.{RowsDiffer.{not_both, one_row}, TableFacts.{Texts, holds_no_fault, one_reading}}
+use Rattle.lft_trace.proofs.RowsDiffer.{not_both, one_row}
+use Rattle.lft_tables.proofs.TableFacts.{Texts, holds_no_fault, one_reading}
 use Rattle.lft_lists.proofs.Zips.{behind}
 use Rattle.lft_ir.specs.declared.found.Found.TheVariants as found
 

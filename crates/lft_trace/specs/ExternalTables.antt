@@ -4,8 +4,9 @@ use Rattle.std.specs.List.Sorted.{IsPermutation}
 use Rattle.lft_ir.specs.{Names.IsNamed, Parts.Parts, declared.{parts.Action.Action as ActionOf, steps.externals.Event.Event}}
 use Rattle.lft_ir.specs.Steps.Inputs.{ExternalInputs, InOrder}
 use Rattle.lft_tag.specs.declared.Tag.{Tag}
-use Rattle.lft_trace.specs.{Numbers.{number, value}, Tables.{Fails, Holds, TableKind}, Traces.is_empty}
+use Rattle.lft_trace.specs.{Numbers.{number, value}, Traces.is_empty}
 use Rattle.lft_trace.specs.declared.{external_table.Entry.{Entry, TheVariants.{Happens, Stops}}, fault.TraceFault.TraceFault, kind.EntryKind.EntryKind}
+use Rattle.lft_tables.specs.Tables.{Fails, Holds, TableKind}
 use Rattle.lft_ir.specs.declared.found.Found.TheVariants as found
 use Rattle.lft_trace.specs.declared.fault.TraceFault.TheVariants as fault
 use Rattle.lft_trace.specs.declared.kind.EntryKind.TheVariants as kind

@@ -1,10 +1,7 @@
-pub mod Records
 pub mod Numbers
-pub mod Tables
 pub mod Traces
 pub mod Faults
 pub mod ExternalTables
 pub mod Written
-pub mod Parts
 pub mod LogTables
 pub mod inner

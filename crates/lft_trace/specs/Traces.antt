@@ -2,8 +2,9 @@
 use Rattle.std.specs.Prelude.{◌≡◌, ◌≢◌, ◌⊎◌, ℕ, List, [], ◌∷◌, length, codes, Bool, true, false, not, ◌&&◌, ◌||◌, is_some, ◌==◌, Some}
 use Rattle.lft_ir.specs.{Names.IsNamed, Parts.Parts}
 use Rattle.lft_ir.specs.declared.{found.Found.Found, parts.{Name.{Name, TheVariants.{Port, Action}}, Value.Value}, steps.row.{Row.Row, Step.Step}}
-use Rattle.lft_trace.specs.{Numbers.{number, number_or_zero, value}, Tables.{Fails, Holds, TableKind}}
+use Rattle.lft_trace.specs.Numbers.{number, number_or_zero, value}
 use Rattle.lft_trace.specs.declared.{fault.TraceFault.TraceFault, kind.RowKind.{RowKind, TheVariants.{Start, Read, Write, Schedule, Stop, End}}}
+use Rattle.lft_tables.specs.Tables.{Fails, Holds, TableKind}
 use Rattle.lft_ir.specs.declared.found.Found.TheVariants as found
 use Rattle.lft_trace.specs.declared.fault.TraceFault.TheVariants as fault
 use Rattle.lft_ir.specs.declared.steps.row.Step.TheVariants as step

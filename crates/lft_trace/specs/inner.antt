@@ -3,11 +3,9 @@ pub mod ExternalLines
 pub mod Keys
 pub mod LogTables
 pub mod Parts
-pub mod Records
 pub mod Seen
 pub mod SeenExternals
 pub mod SeenWriting
 pub mod ShortNames
 pub mod Telling
-pub mod TableLines
 pub mod Written

@@ -3,21 +3,22 @@
 ghost use Rattle.std.specs.Prelude.{◌≡◌, ◌≢◌, ◌+◌, ◌∷◌, ℕ, List, [], IfOk, IfErr, IsTrue, ◌↔◌, true, false, not, ◌&&◌, ◌||◌, Some, None, IfSome};
 ghost use Rattle.csv.specs.Records.{fields_of};
 ghost use Rattle.lft_trace.specs.{ExternalTables.{ExternalTable, ExternalFails, FaultAt, IsEntry, IsOfKind, header}, Faults.is_told, Numbers.value};
-ghost use Rattle.lft_trace.specs.{Parts.HasNoQuote, Records.records_of, inner.SeenExternals.{FieldFault, Keeps, Refuses, external_fields}};
+ghost use Rattle.lft_trace.specs.inner.SeenExternals.{FieldFault, Keeps, Refuses, external_fields};
+ghost use Rattle.lft_tables.specs.{Parts.HasNoQuote, Records.records_of};
 ghost use Rattle.lft_ir.specs.Steps.{Fits.ExternalsFit, Inputs.{ExternalInputs, InOrder}};
 
 use crate::event_map::EventMap;
-use crate::fault::TraceFault;
+use crate::fault::{TraceFault, stopped};
 use crate::fields::ExternalFields;
 use crate::kind::{EntryKind, read_entry_kind};
 use crate::names::read_physical;
 use crate::number::{read_tag, read_value};
-use crate::reading::lines::is_inputs_line;
-use crate::reading::table::TableReader;
-use crate::records::{LAST_LINE, Records, stopped};
+use crate::reading::headers::is_inputs_line;
+use crate::trace_table::LAST_LINE;
 use csv::ByteRecord;
 use lft_ir::steps::{Event, Externals};
 use lft_ir::{Program, Value};
+use lft_tables::{Records, TableReader};
 use lft_tag::Tag;
 use std::alloc::Global;
 use std::io::Read;

@@ -1,5 +1,10 @@
 //! Why bytes are no table.
 
+ghost use Rattle.std.specs.Prelude.{◌≡◌, true};
+ghost use Rattle.lft_trace.specs.Faults.{is_told};
+
+use lft_tables::Unread;
+
 /// Why a text is no trace table or no table of external inputs. A line is the number of a record,
 /// the header being line 1.
 #[derive(Clone, Copy, PartialEq, Eq, Debug, Drop)]
@@ -28,4 +33,15 @@ pub enum TraceFault {
     NotCsv,
     /// A growth of memory was refused.
     NoMemory,
+}
+
+/// The fault of a table whose records stop. Only that of too many tells something of the text.
+pub(crate) fn stopped(unread: Unread) -> TraceFault
+    ensures { is_told result ≡ true → (unread ≡ Unread.TooMany) × (result ≡ TraceFault.TooManyRows) }
+{
+    match unread {
+        Unread::TooMany => TraceFault::TooManyRows,
+        Unread::NotCsv => TraceFault::NotCsv,
+        Unread::NoMemory => TraceFault::NoMemory,
+    }
 }

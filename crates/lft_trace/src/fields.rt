@@ -7,8 +7,8 @@ ghost use Rattle.lft_trace.specs.ExternalTables.{header as external_header, in_o
 ghost use Rattle.lft_trace.specs.inner.{Seen.trace_fields, SeenExternals.external_fields};
 
 use crate::kind::{EntryKind, RowKind};
-use crate::records::field;
 use csv::ByteRecord;
+use lft_tables::field;
 
 /// The fields of a record of a trace table.
 #[derive(Clone, Copy)]

@@ -1,10 +1,6 @@
 #![tactic(auto)]
-//! The tables of trace rows and of external inputs, read and written. `records`, `number` and `names` serve who
-//! reads another table.
-//!
-//! The records of a text (`records_of`) are by definition those of the crate `csv`. Reading in parts rests on
-//! the lemma `records_cut`: a text is cut behind a line feed, has no quotation mark before the cut, and no byte
-//! order mark begins behind it. Then its records are those before the cut, and then those behind it.
+//! The tables of trace rows and of external inputs, read and written. `number` and `names` serve who reads another
+//! table.
 
 mod event_map;
 mod external_table;
@@ -17,7 +13,6 @@ mod next_names;
 pub mod number;
 mod reaction_names;
 mod reading;
-pub mod records;
 mod short_name;
 mod trace_table;
 mod trace_writer;
@@ -28,8 +23,8 @@ pub use lft_ir::steps::{Event, Externals, Row, Rows, Step, is_end, is_start, is_
 pub use log_table::{Among, Line, LineFault, LogLines, read_log};
 pub use reaction_names::{ReactionNames, ReactionNumbers};
 pub use reading::{
-    ReadFailed, TableLines, below_header, first_lines, next_rows, read_batch,
-    read_externals_shared, read_lines, read_trace_shared, trace_records,
+    below_header, next_rows, read_batch, read_externals_shared, read_lines, read_trace_shared,
+    trace_lines, trace_records,
 };
-pub use trace_table::read_trace;
+pub use trace_table::{LAST_LINE, read_trace};
 pub use trace_writer::write_trace;

@@ -3,7 +3,8 @@
 ghost use Rattle.std.specs.Prelude.{◌≡◌, ◌↔◌, ◌≤◌, ◌++◌, List, length, IfOk, IsTrue};
 ghost use Rattle.csv.specs.Records.{fields_of};
 ghost use Rattle.lft_ir.specs.{declared.steps.row.Row.Row as TheRow, Steps.Fits.RowsFit};
-ghost use Rattle.lft_trace.specs.{inner.LogTables.{InputsFit, ReadsLines}, LogTables.BeginsAsInput, Records.records_of};
+ghost use Rattle.lft_trace.specs.{inner.LogTables.{InputsFit, ReadsLines}, LogTables.BeginsAsInput};
+ghost use Rattle.lft_tables.specs.Records.{records_of};
 
 use crate::external_table::{Entry, read_entry};
 use crate::fault::TraceFault;
@@ -11,11 +12,11 @@ use crate::fields::ExternalFields;
 use crate::kind::read_entry_kind;
 use crate::next_names::NextNames;
 use crate::reaction_names::{ReactionNames, ReactionNumbers};
-use crate::records::{Records, Unread};
 use crate::trace_table::read_row;
 use csv::ByteRecord;
 use lft_ir::Program;
 use lft_ir::steps::Row;
+use lft_tables::{Records, Unread};
 use lft_tag::MAX_ROWS;
 use std::alloc::Global;
 use std::io::Cursor;

@@ -2,26 +2,29 @@
 
 ghost use Rattle.std.specs.Prelude.{◌≡◌, ◌≢◌, ◌+◌, ◌<◌, ◌∷◌, ℕ, List, [], length, IfSome, IfNone, IfOk, IfErr, IsTrue, ◌↔◌, true, false, is_some, not, ◌||◌, Some};
 ghost use Rattle.csv.specs.Records.{fields_of};
-ghost use Rattle.lft_trace.specs.{Numbers.{number_or_zero, value}, Faults.is_told, Parts.HasNoQuote, Records.records_of};
+ghost use Rattle.lft_trace.specs.{Numbers.{number_or_zero, value}, Faults.is_told};
 ghost use Rattle.lft_trace.specs.Traces.{Table, TraceFails, header, FaultAt, IsRow, IsThing, RowOf, has_delay, has_name, has_numbers, word};
 ghost use Rattle.lft_trace.specs.inner.Seen.{FieldFault, NumbersOf, StepOf, trace_fields};
+ghost use Rattle.lft_tables.specs.{Parts.HasNoQuote, Records.records_of};
 ghost use Rattle.lft_ir.specs.Steps.Fits.{RowsFit};
 
-use crate::fault::TraceFault;
+use crate::fault::{TraceFault, stopped};
 use crate::fields::TraceFields;
 use crate::kind::{RowKind, read_kind};
 use crate::names::{read_guessed, read_reaction_of};
 use crate::next_names::NextNames;
 use crate::number::{read_number, read_number_or_zero, read_tag, read_value};
 use crate::reaction_names::ReactionNames;
-use crate::reading::lines::is_header_line;
-use crate::reading::table::TableReader;
-use crate::records::{LAST_LINE, Records, stopped};
+use crate::reading::headers::is_header_line;
 use csv::ByteRecord;
 use lft_ir::steps::{Row, Rows, Step};
 use lft_ir::{Name, Program, Value};
-use lft_tag::{MAX_TIME, Tag};
+use lft_tables::{Records, TableReader};
+use lft_tag::{MAX_ROWS, MAX_TIME, Tag};
 use std::alloc::Global;
+
+/// The line of the last row that a table may have. The header is line 1.
+pub const LAST_LINE: u32 = MAX_ROWS as u32 + 1;
 
 /// The rows of a trace table. Line n of a fault is the n-th record.
 ///

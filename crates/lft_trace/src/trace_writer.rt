@@ -2,7 +2,8 @@
 
 ghost use Rattle.std.specs.Prelude.{◌≡◌, ◌++◌, ◌∷◌, [], ℕ, List, IfOk, OnOk, ◌<◌, slice_index_or};
 ghost use Rattle.lft_ir.specs.{Parts.Parts, Sound.IsNameOf, Steps.Fits.{RowFits, RowsFit, StepFits}};
-ghost use Rattle.lft_trace.specs.{Records.records_of, Traces.{Table, header, in_order, word}};
+ghost use Rattle.lft_tables.specs.Records.{records_of};
+ghost use Rattle.lft_trace.specs.Traces.{Table, header, in_order, word};
 ghost use Rattle.lft_trace.specs.inner.{Seen.trace_fields, SeenWriting.{AllHaveWords, HasWord, HasWords, HasWritten, IsWord}, Written.csv_text};
 ghost use Rattle.lft_trace.specs.Written.{delay_text, event_of, name_text, row_fields, step_fields, table_text, value_text, written_records};
 

@@ -2,7 +2,8 @@
 use Rattle.std.proofs.Common.{◌≡◌, ◌⊎◌, ◌++◌, inl, inr, ℕ, Bool, true, false, List, [], IfErr, OnOk, Option, Result, Ok, Err, refl, sym, ap, ◌∙◌, subst, append-nil, length}
 use Rattle.std.specs.Io.KnownBytes.{Appends}
 use Rattle.lft_ir.specs.{Parts.Parts, declared.steps.row.Row.Row}
-use Rattle.lft_trace.specs.{Records.records_of, Traces.Table}
+use Rattle.lft_tables.specs.Records.{records_of}
+use Rattle.lft_trace.specs.Traces.{Table}
 use Rattle.lft_model.specs.{Plans.PlanParts, declared.breach.Breach.Breach, OneWorker.{LegalRunsAreOneWorker, LegalRunsKeepPrecedence}, Workers.IsWorkers}
 use Rattle.lft_check.specs.Verdicts.{IsVerdict}
 use Rattle.lft_counts.specs.{Cover.CoversRows, declared.cover.Cover.Cover}

@@ -2,7 +2,8 @@
 use Rattle.std.proofs.Common.{◌≡◌, ◌∙◌, ℕ, List, [], ◌++◌, take, ap, sym, subst}
 use Rattle.std.proofs.lemmas.List.{append_assoc}
 use Rattle.lft_ir.specs.{Sound.IsSound, declared.steps.row.Row.Row}
-use Rattle.lft_trace.{specs.{Traces.IsRow, inner.{Telling.rows_in, Parts.BeginsWith}}, proofs.{Beginning.{begins_more, begins_none}, FirstTold.tells}}
+use Rattle.lft_trace.{specs.{Traces.IsRow, inner.{Telling.rows_in, Parts.BeginsWith}}, proofs.FirstTold.tells}
+use Rattle.lft_tables.proofs.Beginning.{begins_more, begins_none}
 use Rattle.lft_model.specs.Plans.{PlanParts}
 use Rattle.lft_coverage.specs.{inner.Driver.Fronts.{IsNextBehind, judged_rows}, declared.driver.front.Front.Front}
 

@@ -2,7 +2,8 @@
 use Rattle.std.specs.Prelude.{◌≡◌, ◌++◌, ℕ, Bool, true, false, List, Option, length, []}
 use Rattle.std.specs.Io.KnownBytes.{Appends}
 use Rattle.lft_ir.specs.declared.steps.row.Row.{Row}
-use Rattle.lft_trace.specs.{declared.fault.TraceFault.TraceFault, Faults.is_told, Records.records_of, Traces.{Table, TraceFails}}
+use Rattle.lft_trace.specs.{declared.fault.TraceFault.TraceFault, Faults.is_told, Traces.{Table, TraceFails}}
+use Rattle.lft_tables.specs.Records.{records_of}
 use Rattle.lft_model.specs.Plans.{PlanParts}
 use Rattle.lft_check.specs.{declared.verdict.Verdict.Verdict, Verdicts.IsVerdict}
 use Rattle.lft_counts.specs.{Cover.CoversRows, declared.cover.Cover.Cover}

@@ -3,7 +3,8 @@
 ghost use Rattle.std.specs.Prelude.{◌≡◌, ◌++◌, ◌+◌, ◌≤◌, ℕ, List, Some, length, slice_get, IfOk, IfSome, IsTrue};
 ghost use Rattle.std.specs.List.{AllZip};
 ghost use Rattle.lft_ir.specs.{Parts.Parts, Steps.Fits.RowsFit, declared.steps.row.Row.Row as TheRow};
-ghost use Rattle.lft_trace.specs.{Records.records_of, Traces.{IsRow, Table}};
+ghost use Rattle.lft_tables.specs.Records.{records_of};
+ghost use Rattle.lft_trace.specs.Traces.{IsRow, Table};
 ghost use Rattle.lft_model.specs.Accepted.{IsAccepted};
 ghost use Rattle.lft_counts.specs.{inner.Counts.KeepsRows, Cover.CoversRows};
 ghost use Rattle.lft_coverage.specs.inner.Driver.Fronts.{IsFrontOfText, IsNextBehind, judged_rows};

@@ -3,7 +3,8 @@
 ghost use Rattle.std.specs.Prelude.{◌≡◌, ◌≢◌, ◌++◌, ℕ, true, List, IfErr, IfOk, OnOk, length, string_bytes};
 ghost use Rattle.std.specs.Io.KnownBytes.{Keeps};
 ghost use Rattle.lft_ir.specs.declared.steps.row.Row.{Row as TheRow};
-ghost use Rattle.lft_trace.specs.{Records.records_of, Traces.Table};
+ghost use Rattle.lft_tables.specs.Records.{records_of};
+ghost use Rattle.lft_trace.specs.Traces.{Table};
 ghost use Rattle.lft_model.specs.Workers.{IsWorkers};
 ghost use Rattle.lft_coverage.specs.{inner.{Facts.HasCounts, Driver.Covered.{IsCoverText, IsCovered, verdict_in}}, Facts.fact_lines, Sums.TellsSums};
 ghost use Rattle.lft_coverage.specs.Driver.Covered.{CoverRefusalUnder, IsJudgedCoverUnder};

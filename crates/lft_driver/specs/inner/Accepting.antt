@@ -1,7 +1,8 @@
 -- A verdict on a trace table of a plan. The contracts of the crate's own functions alone need this file.
 use Rattle.std.specs.Prelude.{ℕ, ◌⊎◌, List}
 use Rattle.lft_ir.specs.declared.steps.row.Row.{Row}
-use Rattle.lft_trace.specs.{Records.records_of, Traces.Table}
+use Rattle.lft_tables.specs.Records.{records_of}
+use Rattle.lft_trace.specs.Traces.{Table}
 use Rattle.lft_model.specs.Plans.{PlanParts}
 use Rattle.lft_check.specs.{declared.verdict.Verdict.Verdict, Verdicts.IsVerdict}
 use Rattle.lft_load.specs.declared.fault.Fault.{Fault}

@@ -3,8 +3,9 @@ use Rattle.std.specs.Prelude.{◌≡◌, ◌≢◌, ◌⊎◌, ◌≤◌, ◌+�
 use Rattle.std.specs.List.{AllZip}
 use Rattle.csv.specs.Reading.{records}
 use Rattle.lft_ir.specs.{Parts.Parts, declared.steps.row.Row.Row as TheRow, Steps.Fits.RowsFit}
-use Rattle.lft_trace.specs.{inner.LogTables.{InputsFit, inputs_behind}, LogTables.{IsLine, IsNoLine}, Records.records_of, Traces.{Table, header}}
+use Rattle.lft_trace.specs.{inner.LogTables.{InputsFit, inputs_behind}, LogTables.{IsLine, IsNoLine}, Traces.{Table, header}}
 use Rattle.lft_trace.specs.declared.log_table.Line.{Line, TheVariants.{Row, Input}}
+use Rattle.lft_tables.specs.Records.{records_of}
 use Rattle.lft_log.specs.declared.{fault.LogFault.{LogFault, TheVariants.{NoRow, NoInput}}, front.LinesRead.LinesRead}
 use Rattle.lft_log.specs.Logs.{AreLines, ArePlain, IsOneLine, BeginsWithLine, fields, rows, inputs, records_below, HoldSoFar, BeginsWithRecord, IsOddLine}
 use Rattle.lft_trace.specs.declared.log_table.LineFault.TheVariants as none

@@ -2,7 +2,7 @@
 
 ghost use Rattle.std.specs.Prelude.{◌≡◌, ◌≢◌, ◌↔◌, ◌<◌, ℕ, List, length, IfOk, IfErr, IfSome, IfNone, IsTrue, true, false};
 ghost use Rattle.csv.specs.Records.{fields_of};
-ghost use Rattle.lft_trace.specs.Records.{records_of};
+ghost use Rattle.lft_tables.specs.Records.{records_of};
 ghost use Rattle.lft_record.specs.{CardTables.{CardTable, CardsFail, FaultAt, IsCard, IsContent, cards_header}, CardFaults.is_told};
 ghost use Rattle.lft_record.specs.{inner.Seen.{FieldFault, IsCardOf, card_fields}, declared.cards.{card.Card.Card as TheCard, Script.Script}};
 
@@ -14,10 +14,11 @@ use crate::cards::fields::CardFields;
 use crate::cards::kind::{CardKind, read_card_kind};
 use csv::ByteRecord;
 use lft_ir::{Name, Program};
+use lft_tables::{Records, Unread};
 use lft_tag::{MAX_TIME, NoMemory};
+use lft_trace::LAST_LINE;
 use lft_trace::names::{read_reaction, read_thing};
 use lft_trace::number::{read_number, read_number_or_zero};
-use lft_trace::records::{LAST_LINE, Records, Unread};
 use std::alloc::Global;
 
 /// The greatest number of bodies that a card may give a reaction.

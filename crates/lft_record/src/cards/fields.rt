@@ -6,7 +6,7 @@ ghost use Rattle.lft_record.specs.{CardTables.{cards_header, card_columns, is_wr
 
 use crate::cards::kind::CardKind;
 use csv::ByteRecord;
-use lft_trace::records::field;
+use lft_tables::field;
 
 /// The fields of a record of a table of cards.
 #[derive(Clone, Copy)]

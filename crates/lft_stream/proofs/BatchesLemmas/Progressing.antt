@@ -3,9 +3,9 @@ use Rattle.std.proofs.Common.{◌≡◌, ◌∙◌, ℕ, ◌≤◌, List, [], �
 use Rattle.std.{specs.List.AllZip, proofs.lemmas.List.{append_assoc, append-nil}}
 use Rattle.lft_ir.specs.declared.steps.row.Row.{Row}
 use Rattle.lft_model.specs.{Plans.PlanParts, Accepted.IsAccepted}
-use Rattle.lft_trace.specs.{Records.records_of, Traces.{IsRow, Table, header}, declared.records.Records.Records}
-use Rattle.lft_trace.specs.inner.{Batches.{AreLast, AreNext}, Records.{IsPlain, records_left}}
-use Rattle.lft_trace.proofs.{TableFacts.Texts, Together.zipped}
+use Rattle.lft_tables.specs.{Records.records_of, declared.records.Records.Records, inner.Records.{IsPlain, records_left}}
+use Rattle.lft_tables.proofs.{TableFacts.Texts, Together.zipped}
+use Rattle.lft_trace.specs.{Traces.{IsRow, Table, header}, inner.Batches.{AreLast, AreNext}}
 use Rattle.lft_stream.specs.inner.Batches.Progresses.{HaveAcceptedRows, IsJudgedTo}
 use Rattle.lft_stream.specs.declared.{batches.progress.JudgedRows.JudgedRows, stream.RunCounts.RunCounts}
 

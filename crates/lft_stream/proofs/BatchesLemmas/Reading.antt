@@ -1,7 +1,8 @@
 -- A text that is read batch by batch while its rows are judged.
 use Rattle.std.proofs.Common.{◌≡◌, ◌≤◌, ℕ, List, [], ◌++◌, length, subst}
 use Rattle.lft_ir.specs.declared.steps.row.Row.{Row}
-use Rattle.lft_trace.{specs.{Records.records_of, Traces.IsRow, inner.Parts.BeginsWith}, proofs.Beginning.{begins_all, begins_more}}
+use Rattle.lft_tables.{specs.Records.records_of, proofs.Beginning.{begins_all, begins_more}}
+use Rattle.lft_trace.specs.{Traces.IsRow, inner.Parts.BeginsWith}
 use Rattle.lft_model.specs.{Plans.PlanParts, Accepted.IsAccepted}
 use Rattle.lft_stream.specs.inner.Batches.Progresses.{HaveAcceptedRows, IsGoneOn, IsReadUpTo}
 use Rattle.lft_stream.specs.declared.{batches.progress.JudgedRows.JudgedRows, stream.RunCounts.RunCounts}

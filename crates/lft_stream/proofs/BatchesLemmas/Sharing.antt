@@ -4,8 +4,9 @@ use Rattle.std.specs.declared.alloc.Global.{Global}
 use Rattle.std.proofs.lemmas.{Grind.flat_map-append, List.{append-nil, length-append, take-append-drop}, Option.slice_get-get_or}
 use Rattle.lft_ir.specs.{Parts.Parts, Steps.Fits.RowsFit, declared.steps.row.Row.Row}
 use Rattle.lft_lists.proofs.Places.{get_left, get_right}
-use Rattle.lft_trace.specs.{Parts.HasNoQuote, Traces.IsRow, inner.Parts.{HoldsRows, IsCut, items_of}}
-use Rattle.lft_trace.proofs.{Beginning.{begins_all, begins_lines, begins_more}, Parts.items_more, Together.holds_both}
+use Rattle.lft_tables.specs.{Parts.HasNoQuote, inner.Parts.{IsCut, items_of}}
+use Rattle.lft_tables.proofs.{Beginning.{begins_all, begins_lines, begins_more}, Parts.items_more, Together.holds_both}
+use Rattle.lft_trace.specs.{Traces.IsRow, inner.Parts.HoldsRows}
 use Rattle.lft_stream.specs.inner.Batches.Parted.{PartsFit}
 
 module _ (parts : List (Vec Row Global)) (n : ℕ) (part : Vec Row Global) (at : slice_get parts n ≡ Some part) where

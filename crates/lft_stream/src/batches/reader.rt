@@ -2,7 +2,8 @@
 
 ghost use Rattle.std.specs.Prelude.{◌≡◌, [], List, IfOk, IfSome};
 ghost use Rattle.lft_ir.specs.declared.steps.row.Row.{Row as TheRow};
-ghost use Rattle.lft_trace.specs.{Records.records_of, Traces.Table, inner.Records.{IsPlain, records_left}};
+ghost use Rattle.lft_tables.specs.{Records.records_of, inner.Records.{IsPlain, records_left}};
+ghost use Rattle.lft_trace.specs.Traces.{Table};
 ghost use Rattle.lft_model.specs.Accepted.{IsAccepted};
 ghost use Rattle.lft_stream.specs.inner.Batches.Progresses.{HaveAcceptedRows, IsProgress};
 
@@ -10,9 +11,9 @@ use crate::RunCounts;
 use crate::batches::progress::JudgedRows;
 use crate::batches::rows::rows_together;
 use lft_model::Plan;
+use lft_tables::{ReadFailed, Records};
 use lft_tag::MAX_ROWS;
-use lft_trace::records::Records;
-use lft_trace::{ReactionNames, ReadFailed, next_rows, trace_records};
+use lft_trace::{ReactionNames, next_rows, trace_records};
 use std::alloc::Global;
 use std::io::Read;
 

@@ -4,7 +4,8 @@
 ghost use Rattle.std.specs.Prelude.{◌≡◌, ◌++◌, ◌≤◌, [], ℕ, List, IfOk, IfSome, length};
 ghost use Rattle.std.specs.Thread.{IsSync};
 ghost use Rattle.lft_ir.specs.{Steps.Fits.RowsFit, declared.steps.row.Row.Row as TheRow};
-ghost use Rattle.lft_trace.specs.{Records.records_of, Traces.Table, inner.{Parts.{HoldsRows, IsCut, items_of}, TableLines.text_left}};
+ghost use Rattle.lft_tables.specs.{Records.records_of, inner.{Parts.{IsCut, items_of}, TableLines.text_left}};
+ghost use Rattle.lft_trace.specs.{Traces.Table, inner.Parts.HoldsRows};
 ghost use Rattle.lft_model.specs.Accepted.{IsAccepted};
 ghost use Rattle.lft_stream.specs.inner.Batches.{Parted.PartsFit, Progresses.{HaveAcceptedRows, IsGoneOn, IsProgress}};
 
@@ -13,8 +14,9 @@ use crate::batches::progress::JudgedRows;
 use crate::batches::reader::accepts_reader;
 use lft_ir::steps::Row;
 use lft_model::Plan;
+use lft_tables::{ReadFailed, TableLines, first_lines};
 use lft_tag::MAX_ROWS;
-use lft_trace::{ReactionNames, ReadFailed, TableLines, first_lines, read_lines};
+use lft_trace::{ReactionNames, read_lines, trace_lines};
 use std::alloc::Global;
 use std::io::Read;
 use std::thread::{Threads, join};
@@ -186,7 +188,7 @@ pub fn accepts_reader_shared<T: Threads + Sync, R: Read + Drop>(
     }
     // Tags are judged one after another, since each needs what those before it leave behind. So reading
     // alone is shared out.
-    let Some(mut text) = TableLines::new(alloc, source)? else {
+    let Some(mut text) = trace_lines(alloc, source)? else {
         return Ok(None);
     };
     let Ok(names) = ReactionNames::new(alloc, plan.program()) else {

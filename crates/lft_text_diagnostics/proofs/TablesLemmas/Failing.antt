@@ -3,7 +3,8 @@ use Rattle.std.proofs.Common.{◌≡◌, ℕ, ◌+◌, List, [], ◌∷◌, ◌+
 use Rattle.std.proofs.lemmas.Slice.Zip.{AllZip-long}
 use Rattle.csv.specs.Records.{field_at as at_place}
 use Rattle.lft_ir.specs.Parts.{Parts}
-use Rattle.lft_trace.specs.{ExternalTables.external_tables, Tables.{FailsAt, TableKind}, Traces.trace_tables, declared.fault.TraceFault.TraceFault}
+use Rattle.lft_trace.specs.{ExternalTables.external_tables, Traces.trace_tables, declared.fault.TraceFault.TraceFault}
+use Rattle.lft_tables.specs.Tables.{FailsAt, TableKind}
 use Rattle.lft_text_diagnostics.specs.{inner.Tables.Tables.{Fails, FailsThere}, Tables.Tables.{HasRecord, field_at}}
 use Rattle.lft_text_diagnostics.specs.declared.tables.tables.Table.{Table, TheVariants.{Trace, Externals}}
 use Rattle.lft_trace.specs.declared.fault.TraceFault.TheVariants as fault

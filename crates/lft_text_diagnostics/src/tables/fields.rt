@@ -3,7 +3,8 @@
 ghost use Rattle.std.specs.Prelude.{◌≡◌, ℕ, List, IfSome, IfNone, codes};
 ghost use Rattle.csv.specs.Records.{fields_of};
 ghost use Rattle.lft_ir.specs.Parts.{Parts};
-ghost use Rattle.lft_trace.specs.{ExternalTables.external_tables, Tables.FailsAt, Traces.FaultAt};
+ghost use Rattle.lft_trace.specs.{ExternalTables.external_tables, Traces.FaultAt};
+ghost use Rattle.lft_tables.specs.Tables.{FailsAt};
 ghost use Rattle.lft_text_diagnostics.specs.Tables.Tables.{IsField, IsFilled, IsFilledThere, IsNoNumber, IsNoNumberThere, NamesNone, takes_name};
 ghost use Rattle.lft_trace.specs.declared.fault.TraceFault.TheVariants as fault;
 

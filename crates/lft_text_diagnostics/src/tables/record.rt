@@ -2,13 +2,13 @@
 
 ghost use Rattle.std.specs.Prelude.{◌≡◌, ℕ, List, IfOk, IfSome, IfNone};
 ghost use Rattle.csv.specs.Records.{fields_of};
-ghost use Rattle.lft_trace.specs.Records.{records_of};
+ghost use Rattle.lft_tables.specs.Records.{records_of};
 ghost use Rattle.lft_text_diagnostics.specs.Tables.Tables.{HasRecord, field_at};
 
 use crate::quoting::{LONGEST_LINE, push_quote};
 use csv::ByteRecord;
+use lft_tables::Records;
 use lft_tag::NoMemory;
-use lft_trace::records::Records;
 use std::alloc::Global;
 
 /// The record of a table with that number, if there is one. The first is number 1.

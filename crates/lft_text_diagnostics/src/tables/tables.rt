@@ -2,7 +2,8 @@
 
 ghost use Rattle.std.specs.Prelude.{◌≡◌, ◌++◌, [], ℕ, List, Some, false, ◌⊎◌, IfOk, IfSome, IfNone, OnOk, codes, string_bytes};
 ghost use Rattle.csv.specs.Records.{fields_of};
-ghost use Rattle.lft_trace.specs.{Faults.is_told, Records.records_of, ExternalTables.ExternalFails, Traces.TraceFails};
+ghost use Rattle.lft_trace.specs.{Faults.is_told, ExternalTables.ExternalFails, Traces.TraceFails};
+ghost use Rattle.lft_tables.specs.Records.{records_of};
 ghost use Rattle.lft_text_diagnostics.specs.Tables.Tables.{ContinuesFrom, HasRecord, IsWrong, IsWrongThere, NamesField, field_line, field_words, heading, table_line_words};
 ghost use Rattle.lft_text_diagnostics.specs.inner.Tables.Tables.{Fails, FailsThere, IsWrongIn, word_of};
 

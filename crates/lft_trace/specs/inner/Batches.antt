@@ -2,7 +2,9 @@
 use Rattle.std.specs.Prelude.{◌≡◌, ◌++◌, ◌∷◌, ℕ, List, Option, Bool, true, false}
 use Rattle.std.specs.List.{AllZip}
 use Rattle.lft_ir.specs.{Parts.Parts, declared.steps.row.Row.Row}
-use Rattle.lft_trace.specs.{Records.records_of, Traces.{IsRow, header}, declared.records.Records.Records, inner.Records.{IsPlain, records_left}}
+use Rattle.lft_tables.specs.declared.{table_lines.TableLines.TableLines, records.Records.Records}
+use Rattle.lft_tables.specs.{inner.{TableLines.AreLinesBelow, Records.{IsPlain, records_left}}, Records.records_of}
+use Rattle.lft_trace.specs.Traces.{IsRow, header}
 
 -- all records of the text but the header are left
 abbrev pub IsBelowHeader : {R : Type 0} → (R → Option (List ℕ)) → Records R → List ℕ → Type 0
@@ -24,3 +26,7 @@ pub record AreLast {R : Type 0} (remaining : R → Option (List ℕ)) (program :
 abbrev pub IsBatch : {R : Type 0} → (R → Option (List ℕ)) → Parts → Records R → Records R → List Row → Bool → Type 0
 IsBatch remaining program old new rows true = AreNext remaining program old new rows
 IsBatch remaining program old new rows false = AreLast remaining program old rows
+
+-- the text's first record is the header, and those of what is still to be given are the others
+abbrev pub AreLinesBelowHeader : {R : Type 0} → (R → Option (List ℕ)) → TableLines R → List ℕ → Type 0
+AreLinesBelowHeader remaining lines text = AreLinesBelow remaining header lines text

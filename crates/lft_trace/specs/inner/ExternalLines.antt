@@ -2,7 +2,8 @@
 use Rattle.std.specs.Prelude.{◌≡◌, ◌≤◌, ◌+◌, ℕ, List, length, Option, Some, IfSome}
 use Rattle.std.specs.List.{AllZip}
 use Rattle.lft_ir.specs.{Parts.Parts, Steps.Inputs.{ExternalInputs, InOrder}}
-use Rattle.lft_trace.specs.{Records.records_of, ExternalTables.IsEntry, inner.SeenExternals.AreKept}
+use Rattle.lft_tables.specs.Records.{records_of}
+use Rattle.lft_trace.specs.{ExternalTables.IsEntry, inner.SeenExternals.AreKept}
 use Rattle.lft_trace.specs.declared.{external_table.Entry.Entry, reading.externals.KeptEntries.KeptEntries}
 
 -- the stop and the events of the entries are kept, and so many more may come

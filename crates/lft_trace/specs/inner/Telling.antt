@@ -2,8 +2,9 @@
 use Rattle.std.specs.Prelude.{ℕ, List, [], codes, Option, Some, None, option_and_then, option_map, position, filter_map, if◌then◌else◌, slice_index_or}
 use Rattle.std.specs.Str.{bytes_eq}
 use Rattle.lft_ir.specs.{Parts.Parts, declared.{parts.Name.{Name, TheVariants.{Port, Action}}, steps.row.{Row.Row, Step.Step}}}
-use Rattle.lft_trace.specs.{Numbers.{number, number_or_zero, value}, Records.records_of, Traces.TraceFields}
+use Rattle.lft_trace.specs.{Numbers.{number, number_or_zero, value}, Traces.TraceFields}
 use Rattle.lft_trace.specs.declared.kind.RowKind.{RowKind, TheVariants.{Start, Read, Write, Schedule, Stop, End}}
+use Rattle.lft_tables.specs.Records.{records_of}
 use Rattle.lft_ir.specs.declared.steps.row.Step.TheVariants as step
 
 -- the fields by their places

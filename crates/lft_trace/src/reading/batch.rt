@@ -2,26 +2,15 @@
 
 ghost use Rattle.std.specs.Prelude.{◌<◌, ◌≤◌, length, IfSome, IsTrue};
 ghost use Rattle.lft_ir.specs.Steps.Fits.{RowsFit};
-ghost use Rattle.lft_trace.specs.inner.Parts.{BeginsWith, HoldsRows, IsCut, items_of};
+ghost use Rattle.lft_trace.specs.inner.Parts.{BeginsWith, HoldsRows};
+ghost use Rattle.lft_tables.specs.inner.Parts.{IsCut, items_of};
 
 use crate::reaction_names::ReactionNames;
-use crate::reading::lines::cut_behind;
-use crate::reading::workers::{read_parts, read_plain};
 use lft_ir::steps::Row;
+use lft_tables::{first_lines, read_parts, read_plain};
 use lft_tag::MAX_ROWS;
 use std::alloc::Global;
 use std::thread::Threads;
-
-/// The first lines of a text, of so many bytes or a few more, and what comes behind them.
-pub fn first_lines(text: &[u8], bytes: usize) -> (&[u8], &[u8])
-    ensures cut { IsCut text.now result.0.now result.1.now }
-    ensures shorter { 0 < length text.now → length result.1.now < length text.now }
-{
-    match cut_behind(text, bytes) {
-        Some(parts) => parts,
-        None => text.split_at(text.len()),
-    }
-}
 
 /// The rows of the first lines of a text without a header, and the text behind these lines. The lines
 /// have so many bytes or a few more, or all of the text.

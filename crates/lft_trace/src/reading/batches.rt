@@ -2,12 +2,12 @@
 
 ghost use Rattle.std.specs.Prelude.{◌≡◌, ◌≤◌, ◌++◌, length, IfSome};
 ghost use Rattle.std.specs.Thread.{IsSync};
-ghost use Rattle.lft_trace.specs.inner.Parts.{HoldsRows, items_of};
+ghost use Rattle.lft_trace.specs.inner.Parts.{HoldsRows};
+ghost use Rattle.lft_tables.specs.inner.Parts.{items_of};
 
 use crate::reaction_names::ReactionNames;
-use crate::reading::lines::cut_behind;
-use crate::reading::workers::read_parts;
 use lft_ir::steps::Row;
+use lft_tables::{cut_behind, read_parts};
 use lft_tag::MAX_ROWS;
 use std::alloc::Global;
 use std::thread::{Threads, join};

@@ -2,16 +2,15 @@
 
 ghost use Rattle.std.specs.Prelude.{◌≡◌, ◌++◌, List, IfOk, IfSome, Some};
 ghost use Rattle.lft_ir.specs.Steps.{Fits.ExternalsFit, Inputs.{ExternalInputs, InOrder}};
-ghost use Rattle.lft_trace.specs.{ExternalTables.{ExternalTable, IsEntry}, Records.records_of, declared.external_table.Entry.Entry as TheEntry};
-ghost use Rattle.lft_trace.specs.inner.{ExternalLines.{AreKeptIn, AreReadOf}, Parts.HoldsItems, TableLines.text_left};
+ghost use Rattle.lft_trace.specs.{ExternalTables.{ExternalTable, IsEntry}, declared.external_table.Entry.Entry as TheEntry};
+ghost use Rattle.lft_trace.specs.inner.ExternalLines.{AreKeptIn, AreReadOf};
+ghost use Rattle.lft_tables.specs.{Records.records_of, inner.{Parts.HoldsItems, TableLines.text_left}};
 
 use crate::event_map::EventMap;
 use crate::external_table::{Entry, finish, keep};
-use crate::reading::rows::ReadFailed;
-use crate::reading::table_lines::TableLines;
-use crate::reading::workers::read_parts;
 use lft_ir::Program;
 use lft_ir::steps::Externals;
+use lft_tables::{ReadFailed, TableLines, read_parts};
 use lft_tag::{MAX_ROWS, Tag};
 use std::alloc::Global;
 use std::io::Read;

@@ -2,19 +2,15 @@
 
 ghost use Rattle.std.specs.Prelude.{◌≤◌, IfOk, IfSome, OnSome};
 ghost use Rattle.lft_ir.specs.Steps.Fits.{RowsFit};
-ghost use Rattle.lft_trace.specs.inner.Batches.{IsBelowHeader, IsBatch};
+ghost use Rattle.lft_trace.specs.inner.Batches.{AreLinesBelowHeader, IsBelowHeader, IsBatch};
 
 use crate::next_names::NextNames;
 use crate::reaction_names::ReactionNames;
-use crate::records::{LAST_LINE, Records, Unread};
-use crate::trace_table::{is_header, read_row};
+use crate::trace_table::{LAST_LINE, is_header, read_row};
 use lft_ir::steps::Row;
+use lft_tables::{ReadFailed, Records, TableLines, Unread};
 use std::alloc::Global;
 use std::io::Read;
-
-/// A reader failed. What it would have given isn't known.
-#[derive(Clone, Copy, PartialEq, Eq, Debug, Drop)]
-pub struct ReadFailed;
 
 /// The records below the header of the trace table that a reader gives. None where its first record is no
 /// such header, or memory is refused.
@@ -35,6 +31,17 @@ pub fn trace_records<R: Read + Drop>(
         return Ok(None);
     }
     Ok(Some(records))
+}
+
+/// The text below the header of the trace table that a reader gives, some whole lines at a time. None where its
+/// first line is no such header, or memory is refused.
+pub fn trace_lines<R: Read + Drop>(
+    alloc: Global,
+    source: R,
+) -> Result<Option<TableLines<R>>, ReadFailed>
+    ensures { IfOk result (λ found. IfSome found (λ lines. IfSome (R.remaining source) (AreLinesBelowHeader R.remaining lines))) }
+{
+    TableLines::below::<ReactionNames>(alloc, source)
 }
 
 /// Puts the next rows in the place of others, so many or all that are left, and tells whether more may

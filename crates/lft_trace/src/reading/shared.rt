@@ -1,17 +1,18 @@
 //! Trace tables, read by several workers.
 
 ghost use Rattle.std.specs.Prelude.{◌≡◌, List, IfSome, IfOk, IfErr, true};
-ghost use Rattle.lft_trace.specs.{Faults.is_told, Records.records_of, Traces.{Table, TraceFails}};
+ghost use Rattle.lft_trace.specs.{Faults.is_told, Traces.{Table, TraceFails}};
+ghost use Rattle.lft_tables.specs.Records.{records_of};
 ghost use Rattle.lft_ir.specs.Steps.Fits.{RowsFit};
 
 use crate::fault::TraceFault;
 use crate::reaction_names::ReactionNames;
 use crate::reading::batches::read_batches;
-use crate::reading::lines::below_header;
-use crate::reading::workers::is_one_part;
+use crate::reading::headers::below_header;
 use crate::trace_table::read_trace;
 use lft_ir::Program;
 use lft_ir::steps::{Row, Rows};
+use lft_tables::is_one_part;
 use std::alloc::Global;
 use std::thread::Threads;
 

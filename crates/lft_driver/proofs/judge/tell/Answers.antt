@@ -1,7 +1,8 @@
 use Rattle.std.proofs.Common.{inl, inr, subst}
 use Rattle.std.specs.Io.KnownBytes.{Appends}
 use Rattle.lft_ir.specs.Parts.{Parts}
-use Rattle.lft_trace.{specs.Records.records_of, proofs.TraceFacts.one_table}
+use Rattle.lft_tables.specs.Records.{records_of}
+use Rattle.lft_trace.proofs.TraceFacts.{one_table}
 use Rattle.lft_load.specs.Written.{AppendsFront}
 use Rattle.lft_driver.specs.{Lines.line_of, Meaning.HasTable}
 use Rattle.lft_driver.specs.Refusals.{CheckRefusal.by_growth, JudgingRefusal.{by_check, by_writer}, JudgeRefusalUnder.by_judging}

@@ -1,5 +1,6 @@
 use Rattle.std.proofs.Common.{rules, ◌≡◌, true, codes, string_bytes}
-use Rattle.lft_trace.specs.{Faults.is_told, Records.records_of, ExternalTables.ExternalFails}
+use Rattle.lft_trace.specs.{Faults.is_told, ExternalTables.ExternalFails}
+use Rattle.lft_tables.specs.Records.{records_of}
 use Rattle.lft_driver.proofs.Telling.{named}
 use Rattle.lft_driver.proofs.refused.refusal_of_externals.Goals as goal
 

@@ -1,5 +1,6 @@
 use Rattle.std.proofs.Common.{rules, ◌≡◌, true, string_bytes}
-use Rattle.lft_trace.specs.{Faults.is_told, Records.records_of, Traces.TraceFails}
+use Rattle.lft_trace.specs.{Faults.is_told, Traces.TraceFails}
+use Rattle.lft_tables.specs.Records.{records_of}
 use Rattle.lft_driver.proofs.Telling.{named}
 use Rattle.lft_driver.proofs.refused.refusal_of_trace.Goals as goal
 

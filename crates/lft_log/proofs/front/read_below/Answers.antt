@@ -1,6 +1,7 @@
 use Rattle.std.proofs.Common.{◌≡◌, ◌∙◌, ◌++◌, ℕ, List, IfOk, refl, ap, subst}
 use Rattle.lft_ir.specs.{declared.steps.row.Row.Row, Steps.Fits.RowsFit}
-use Rattle.lft_trace.specs.{inner.LogTables.ReadsLines, Records.records_of}
+use Rattle.lft_trace.specs.inner.LogTables.{ReadsLines}
+use Rattle.lft_tables.specs.Records.{records_of}
 use Rattle.lft_log.proofs.Below.{below_empty, below_plain}
 use Rattle.lft_log.proofs.front.read_below.Goals as goal
 

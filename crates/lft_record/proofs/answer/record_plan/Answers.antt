@@ -1,6 +1,6 @@
 use Rattle.std.proofs.Common.{◌≡◌, true, subst}
 use Rattle.lft_ir.specs.Parts.{Parts}
-use Rattle.lft_trace.specs.Records.{records_of}
+use Rattle.lft_tables.specs.Records.{records_of}
 use Rattle.lft_record.specs.{CardTables.{CardTable, CardsFail}, CardFaults.is_told, Answers.AnswerRefusalUnder.{by_cards, by_recording}}
 use Rattle.std.proofs.KnownBytes.{Keeps-refl}
 use Rattle.lft_record.proofs.answer.record_plan.Goals as goal

@@ -1,7 +1,8 @@
 use Rattle.std.proofs.Common.{◌≡◌, ℕ, List, Option, Result, Ok, Err, OnOk, subst}
 use Rattle.std.specs.Io.KnownBytes.{Appends}
 use Rattle.lft_ir.specs.{Parts.Parts, declared.steps.row.Row.Row}
-use Rattle.lft_trace.specs.{Records.records_of, Traces.Table, Written.table_text}
+use Rattle.lft_tables.specs.Records.{records_of}
+use Rattle.lft_trace.specs.{Traces.Table, Written.table_text}
 use Rattle.lft_record.specs.Recordings.{Writes}
 use Rattle.lft_record.proofs.recording.write_rows.Goals as goal
 

@@ -1,8 +1,8 @@
 -- Inside: which field of a table is wrong, and how it is named.
 use Rattle.std.specs.Prelude.{◌≡◌, ℕ, List, codes}
 use Rattle.lft_ir.specs.Parts.{Parts}
-use Rattle.lft_trace.specs.{ExternalTables.{ExternalFails, external_tables}, Tables.FailsAt, Traces.{TraceFails, trace_tables}}
-use Rattle.lft_trace.specs.declared.fault.TraceFault.{TraceFault}
+use Rattle.lft_trace.specs.{ExternalTables.{ExternalFails, external_tables}, Traces.{TraceFails, trace_tables}, declared.fault.TraceFault.TraceFault}
+use Rattle.lft_tables.specs.Tables.{FailsAt}
 use Rattle.lft_text_diagnostics.specs.declared.tables.{fields.Wrong.Wrong, tables.Table.{Table, TheVariants.{Trace, Externals}}}
 use Rattle.lft_text_diagnostics.specs.Tables.Tables.{IsWrong, IsWrongThere}
 

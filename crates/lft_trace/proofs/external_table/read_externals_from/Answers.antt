@@ -1,5 +1,6 @@
 use Rattle.std.proofs.lemmas.{Option.IfSome_then, Result.{IfErr-weaker, IfOk-weaker}}
-use Rattle.lft_trace.{specs.Records.records_of, proofs.ExternalTableFacts.{no_table, one_table}}
+use Rattle.lft_tables.specs.Records.{records_of}
+use Rattle.lft_trace.proofs.ExternalTableFacts.{no_table, one_table}
 use Rattle.lft_trace.proofs.external_table.read_externals_from.Goals as goal
 
 pub returns-clause-one : goal.returns-clause-one

@@ -1,8 +1,8 @@
 use Rattle.std.proofs.Common.{rules, ◌≡◌, ◌≢◌, inl}
 use Rattle.std.proofs.lemmas.{Option.IfSome_then, Result.{IfErr-weaker, IfOk-weaker}}
-use Rattle.lft_trace.specs.{ExternalTables.{external_tables, header}, Records.records_of, inner.Records.fields_at_hand}
+use Rattle.lft_trace.specs.ExternalTables.{external_tables, header}
 use Rattle.lft_trace.proofs.ExternalFacts.{bad, ended, fit_all, fit_first, fit_more, no_stop, one_more, past, refused, start}
-use Rattle.lft_trace.proofs.TableFacts.{fewer, not_past, without_header, without_records}
+use Rattle.lft_tables.{specs.{Records.records_of, inner.Records.fields_at_hand}, proofs.TableFacts.{fewer, not_past, without_header, without_records}}
 use Rattle.lft_trace.proofs.external_table.read_inputs.Goals as goal
 
 pub returns-in-Ok-false-clause-fault : goal.returns-in-Ok-false-clause-fault

@@ -1,5 +1,6 @@
 use Rattle.std.proofs.Common.{◌-◌, IfSome}
-use Rattle.lft_trace.{specs.Records.records_of, proofs.ExternalFacts.{Fitting, Gathered}}
+use Rattle.lft_tables.specs.Records.{records_of}
+use Rattle.lft_trace.proofs.ExternalFacts.{Fitting, Gathered}
 use Rattle.lft_trace.proofs.external_table.read_inputs.Given as goal
 
 abbrev pub invariant-lines : goal.invariant-lines

@@ -1,7 +1,7 @@
 use Rattle.std.proofs.Common.{rules, ◌≡◌, ◌∙◌, ◌+◌, ◌-◌, ◌++◌, ◌∷◌, [], List, length, refl, sym, ap, subst, arith, append-nil, append_assoc, length-append}
 use Rattle.lft_ir.specs.{Parts.Parts, declared.steps.row.Row.Row as TheRow}
-use Rattle.lft_trace.specs.{ExternalTables.{FaultAt, IsEntry}, Records.records_of, inner.Records.{fields_at_hand, in_cursor, records_left}}
-use Rattle.lft_trace.proofs.LogTableFacts.{among, input_more, row_more, start}
+use Rattle.lft_trace.{specs.ExternalTables.{FaultAt, IsEntry}, proofs.LogTableFacts.{among, input_more, row_more, start}}
+use Rattle.lft_tables.specs.{Records.records_of, inner.Records.{fields_at_hand, in_cursor, records_left}}
 use Rattle.lft_trace.proofs.log_table.read_lines_of.Goals as goal
 
 pub lines-init : goal.lines-init

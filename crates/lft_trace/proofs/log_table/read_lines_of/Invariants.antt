@@ -1,5 +1,6 @@
 use Rattle.std.proofs.Common.{◌<◌, ◌-◌, IfSome, length}
-use Rattle.lft_trace.{specs.Records.records_of, proofs.LogTableFacts.GoneBehind}
+use Rattle.lft_tables.specs.Records.{records_of}
+use Rattle.lft_trace.proofs.LogTableFacts.{GoneBehind}
 use Rattle.lft_trace.proofs.log_table.read_lines_of.Given as goal
 
 abbrev pub invariant-lines : goal.invariant-lines

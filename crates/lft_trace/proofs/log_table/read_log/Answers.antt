@@ -1,6 +1,7 @@
 use Rattle.std.proofs.Common.{List, subst}
 use Rattle.lft_ir.specs.{Parts.Parts, declared.steps.row.Row.Row as TheRow}
-use Rattle.lft_trace.{specs.{inner.LogTables.ReadsLines, Records.records_of}, proofs.{LogTableFacts.{inputs_fit, rows_fit}, log_table.read_log.Goals.In-Ok}}
+use Rattle.lft_trace.{specs.inner.LogTables.ReadsLines, proofs.{LogTableFacts.{inputs_fit, rows_fit}, log_table.read_log.Goals.In-Ok}}
+use Rattle.lft_tables.specs.Records.{records_of}
 use Rattle.lft_trace.proofs.log_table.read_log.Goals as goal
 
 read : (c : In-Ok) → ReadsLines c.args.program.now (records_of c.args.text.now) c.in-Ok.ensures.0 c.in-Ok.read

@@ -1,6 +1,6 @@
 use Rattle.std.proofs.Common.{rules, ◌≡◌, ◌++◌, ◌∷◌, []}
-use Rattle.lft_trace.specs.{Records.records_of, inner.Records.fields_at_hand, Traces.{header, trace_tables}}
-use Rattle.lft_trace.proofs.TableFacts.{bad, ended, fewer, one_more, past, start}
+use Rattle.lft_tables.{specs.{Records.records_of, inner.Records.fields_at_hand}, proofs.TableFacts.{bad, ended, fewer, one_more, past, start}}
+use Rattle.lft_trace.specs.Traces.{header, trace_tables}
 use Rattle.lft_trace.proofs.trace_table.read_rows.Goals as goal
 
 pub lines-init : goal.lines-init

@@ -1,5 +1,6 @@
 use Rattle.std.proofs.Common.{◌<◌, ◌-◌, IfSome, length}
-use Rattle.lft_trace.{specs.{inner.Records.in_memory, Records.records_of, Traces.trace_tables}, proofs.TableFacts.Read}
+use Rattle.lft_tables.{specs.{inner.Records.in_memory, Records.records_of}, proofs.TableFacts.Read}
+use Rattle.lft_trace.specs.Traces.{trace_tables}
 use Rattle.lft_trace.proofs.trace_table.read_rows.Given as goal
 
 abbrev pub invariant-lines : goal.invariant-lines

@@ -1,7 +1,7 @@
 use Rattle.std.proofs.Common.{subst}
 use Rattle.lft_ir.specs.Parts.{Parts}
-use Rattle.lft_trace.specs.{Records.records_of, Traces.{Table, TraceFails}}
-use Rattle.lft_trace.proofs.{TraceFacts.{no_table, one_table, table_fits}, trace_table.read_trace.Goals.In-Ok-read_rows}
+use Rattle.lft_tables.specs.Records.{records_of}
+use Rattle.lft_trace.{specs.Traces.{Table, TraceFails}, proofs.{TraceFacts.{no_table, one_table, table_fits}, trace_table.read_trace.Goals.In-Ok-read_rows}}
 use Rattle.lft_trace.proofs.trace_table.read_trace.Goals as goal
 
 read : (c : In-Ok-read_rows) → Table c.args.program.now (records_of c.args.text.now) c.in-Ok-read_rows.rows.items

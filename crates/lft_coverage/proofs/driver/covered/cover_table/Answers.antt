@@ -1,7 +1,8 @@
 use Rattle.std.proofs.Common.{◌≡◌, inr, List, true, sym, subst}
 use Rattle.std.proofs.lemmas.Result.{IfOk-weaker}
 use Rattle.lft_ir.specs.{Parts.Parts, declared.steps.row.Row.Row}
-use Rattle.lft_trace.{specs.{Faults.is_told, Records.records_of, Traces.{Table, TraceFails}}, proofs.TraceFacts.one_table}
+use Rattle.lft_trace.{specs.{Faults.is_told, Traces.{Table, TraceFails}}, proofs.TraceFacts.one_table}
+use Rattle.lft_tables.specs.Records.{records_of}
 use Rattle.lft_driver.specs.Meaning.{HasTable}
 use Rattle.lft_coverage.specs.inner.Driver.Covered.{IsCovered, IsCoveredTable}
 use Rattle.lft_coverage.proofs.driver.covered.cover_table.Goals as goal

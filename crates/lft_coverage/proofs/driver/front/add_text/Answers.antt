@@ -1,7 +1,8 @@
 use Rattle.std.proofs.Common.{◌≢◌, ◌≤◌, ◌++◌, ◌∙◌, List, length, ap, arith, refl, rules, sym, subst}
 use Rattle.std.proofs.lemmas.{Bool.{eqb-false, eqb-true}, List.length-take-le, Option.IfSome_then}
 use Rattle.lft_ir.specs.{Parts.Parts, Steps.Fits.RowsFit, declared.steps.row.Row.Row}
-use Rattle.lft_trace.{specs.{Traces.IsRow, inner.{Parts.BeginsWith, Telling.rows_in}}, proofs.Beginning.begins_out}
+use Rattle.lft_trace.specs.{Traces.IsRow, inner.{Parts.BeginsWith, Telling.rows_in}}
+use Rattle.lft_tables.proofs.Beginning.{begins_out}
 use Rattle.lft_coverage.specs.inner.Driver.Fronts.{IsNextBehind, judged_rows}
 use Rattle.lft_coverage.proofs.DriverLemmas.{Counting.counts_whole, Fronts.{batch_next, gone_on, nothing_read}}
 use Rattle.lft_coverage.proofs.driver.front.add_text.Goals as goal

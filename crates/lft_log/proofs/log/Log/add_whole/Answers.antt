@@ -1,6 +1,6 @@
 use Rattle.std.proofs.Common.{◌∙◌, ◌++◌, ℕ, Vec, refl, sym, ap, subst}
 use Rattle.std.{specs.declared.alloc.Global.Global, proofs.lemmas.Result.{IfOk-weaker, IfErr-weaker}}
-use Rattle.lft_trace.specs.Parts.{EndsLine}
+use Rattle.lft_tables.specs.Parts.{EndsLine}
 use Rattle.lft_log.proofs.{Ends.ends_behind, Keeping.{kept_all, with_fact}}
 use Rattle.lft_log.proofs.log.Log.add_whole.Goals as goal
 

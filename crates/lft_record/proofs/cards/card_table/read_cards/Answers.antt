@@ -1,6 +1,6 @@
 use Rattle.std.proofs.Common.{◌≡◌, List, Result, Ok, Err, IfOk, IfErr, true}
 use Rattle.lft_ir.specs.{Parts.Parts, Sound.IsSound}
-use Rattle.lft_trace.{specs.Records.records_of, proofs.TableFacts.Texts}
+use Rattle.lft_tables.{specs.Records.records_of, proofs.TableFacts.Texts}
 use Rattle.lft_record.specs.{CardTables.{CardTable, CardsFail}, CardFaults.is_told, declared.cards.{Script.Script, fault.CardFault.CardFault}}
 use Rattle.lft_record.proofs.CardTableFacts.{no_table, one_table}
 use Rattle.lft_record.proofs.cards.card_table.read_cards.Goals as goal

@@ -1,5 +1,5 @@
 use Rattle.std.proofs.Common.{rules, ◌≡◌}
-use Rattle.lft_trace.{specs.{Records.records_of, inner.Records.fields_at_hand}, proofs.TableFacts.{ended, fewer, past}}
+use Rattle.lft_tables.{specs.{Records.records_of, inner.Records.fields_at_hand}, proofs.TableFacts.{ended, fewer, past}}
 use Rattle.lft_record.{specs.CardTables.{card_tables, cards_header}, proofs.CardFacts.{bad, one_more, refused, start}}
 use Rattle.lft_record.proofs.cards.card_table.read_records.Goals as goal
 

@@ -1,5 +1,5 @@
 use Rattle.std.proofs.Common.{◌-◌}
-use Rattle.lft_trace.specs.Records.{records_of}
+use Rattle.lft_tables.specs.Records.{records_of}
 use Rattle.lft_record.proofs.CardFacts.{Gathered}
 use Rattle.lft_record.proofs.cards.card_table.read_records.Given as goal
 

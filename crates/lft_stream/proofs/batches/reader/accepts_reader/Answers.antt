@@ -1,6 +1,7 @@
 use Rattle.std.specs.Prelude.{IfSome}
 use Rattle.std.proofs.lemmas.{Option.IfSome_then, Result.IfOk-weaker}
-use Rattle.lft_trace.{specs.{declared.records.Records.Records, inner.{Batches.IsBelowHeader, Records.records_left}}, proofs.Together.at_some}
+use Rattle.lft_tables.{specs.{declared.records.Records.Records, inner.Records.records_left}, proofs.Together.at_some}
+use Rattle.lft_trace.specs.inner.Batches.{IsBelowHeader}
 use Rattle.lft_stream.proofs.BatchesLemmas.Progressing.{table_of}
 use Rattle.lft_stream.proofs.batches.reader.accepts_reader.Goals as goal
 

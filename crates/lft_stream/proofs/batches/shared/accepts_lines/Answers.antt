@@ -1,8 +1,8 @@
 use Rattle.std.proofs.Common.{◌∙◌, ℕ, List, Vec, IfSome, subst, sym}
 use Rattle.std.{proofs.lemmas.{Bool.eqb-true, Option.IfSome_then}, specs.declared.alloc.Global.Global}
 use Rattle.lft_ir.specs.Parts.{Parts}
-use Rattle.lft_trace.specs.{Traces.IsRow, inner.{Parts.{HoldsRows, items_of}, TableLines.{AreNextLines, text_left}}}
-use Rattle.lft_trace.proofs.{Beginning.begins_lines, Together.at_some}
+use Rattle.lft_trace.specs.{Traces.IsRow, inner.Parts.HoldsRows}
+use Rattle.lft_tables.{specs.inner.{Parts.items_of, TableLines.{AreNextLines, text_left}}, proofs.{Beginning.begins_lines, Together.at_some}}
 use Rattle.lft_stream.{specs.inner.Batches.Parted.PartsFit, proofs.BatchesLemmas.Reading.{all_accepted, reads_on}}
 use Rattle.lft_stream.proofs.batches.shared.accepts_lines.Goals as goal
 

@@ -1,6 +1,6 @@
 use Rattle.std.proofs.Common.{◌≡◌, ℕ, List, Some, IfSome}
 use Rattle.lft_ir.specs.declared.steps.row.Row.{Row}
-use Rattle.lft_trace.specs.inner.{Parts.items_of, TableLines.text_left}
+use Rattle.lft_tables.specs.inner.{Parts.items_of, TableLines.text_left}
 use Rattle.lft_stream.specs.inner.Batches.{Parted.PartsFit, Progresses.{IsProgress, IsReadUpTo}}
 use Rattle.lft_stream.proofs.batches.shared.accepts_lines.Given as goal
 

@@ -1,7 +1,7 @@
 use Rattle.std.proofs.Common.{ℕ, List, IfSome}
 use Rattle.std.proofs.lemmas.{Option.IfSome_then, Result.IfOk-weaker}
-use Rattle.lft_trace.specs.{declared.reading.table_lines.TableLines.TableLines, Records.records_of, inner.TableLines.{AreLinesBelowHeader, text_left}}
-use Rattle.lft_trace.proofs.Together.{at_some}
+use Rattle.lft_tables.{specs.{declared.table_lines.TableLines.TableLines, Records.records_of, inner.TableLines.text_left}, proofs.Together.at_some}
+use Rattle.lft_trace.specs.inner.Batches.{AreLinesBelowHeader}
 use Rattle.lft_stream.{specs.inner.Batches.Progresses.HaveAcceptedRows, proofs.BatchesLemmas.Progressing.table_of}
 use Rattle.lft_stream.proofs.batches.shared.accepts_reader_shared.Goals as goal
 

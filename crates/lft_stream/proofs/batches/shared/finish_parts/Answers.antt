@@ -1,6 +1,6 @@
 use Rattle.std.proofs.Common.{◌++◌}
 use Rattle.std.proofs.lemmas.Option.{IfSome_then}
-use Rattle.lft_trace.specs.inner.Parts.{items_of}
+use Rattle.lft_tables.specs.inner.Parts.{items_of}
 use Rattle.lft_stream.proofs.batches.shared.finish_parts.Goals as goal
 
 pub finish-requires : goal.finish-requires

@@ -1,7 +1,7 @@
 use Rattle.std.proofs.Common.{◌≡◌, ◌∙◌, ◌++◌, List, Vec, ap, append-nil, arith, length, refl, subst, sym, take}
 use Rattle.std.{specs.declared.alloc.Global.Global, proofs.{lemmas.{List.append_assoc, Option.slice_get_read}, Math.Seq.take-length}}
 use Rattle.lft_ir.specs.{Steps.Fits.RowsFit, declared.steps.row.Row.Row}
-use Rattle.lft_trace.{specs.inner.Parts.items_of, proofs.Parts.items_more}
+use Rattle.lft_tables.{specs.inner.Parts.items_of, proofs.Parts.items_more}
 use Rattle.lft_stream.specs.inner.Batches.Progresses.{IsGoneOn, IsProgress}
 use Rattle.lft_stream.proofs.batches.shared.judge_parts.Goals as goal
 

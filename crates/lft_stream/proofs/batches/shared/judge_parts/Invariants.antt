@@ -1,5 +1,5 @@
 use Rattle.std.proofs.Common.{take}
-use Rattle.lft_trace.specs.inner.Parts.{items_of}
+use Rattle.lft_tables.specs.inner.Parts.{items_of}
 use Rattle.lft_stream.specs.inner.Batches.Progresses.{IsGoneOn}
 use Rattle.lft_stream.proofs.batches.shared.judge_parts.Given as goal
 

@@ -1,7 +1,8 @@
 use Rattle.std.proofs.Common.{◌≡◌, ◌++◌, Vec, subst, sym, arith}
 use Rattle.std.{proofs.lemmas.{Grind.{common_steps, flat_map-append}, List.Elements.All-append}, specs.declared.alloc.Global.Global}
 use Rattle.lft_ir.specs.{Steps.Fits.RowsFit, declared.steps.row.Row.Row}
-use Rattle.lft_trace.{specs.inner.Parts.{HoldsRows, items_of}, proofs.Together.at_some}
+use Rattle.lft_trace.specs.inner.Parts.{HoldsRows}
+use Rattle.lft_tables.{specs.inner.Parts.items_of, proofs.Together.at_some}
 use Rattle.lft_stream.{specs.inner.Batches.Parted.PartsFit, proofs.BatchesLemmas.Sharing.{holds_cut, parts_fit}}
 use Rattle.lft_stream.proofs.batches.shared.read_rest.Goals as goal
 

@@ -1,5 +1,5 @@
 use Rattle.std.proofs.Common.{slice_get, sym, ap, ◌∙◌, arith}
-use Rattle.lft_trace.specs.Records.{records_of}
+use Rattle.lft_tables.specs.Records.{records_of}
 use Rattle.lft_text_diagnostics.proofs.TablesLemmas.Drops.{first_left, left_more, none_left}
 use Rattle.lft_text_diagnostics.proofs.tables.record.record_of.Goals as goal
 

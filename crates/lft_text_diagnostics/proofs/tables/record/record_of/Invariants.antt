@@ -1,5 +1,5 @@
 use Rattle.std.proofs.Common.{◌≡◌, ◌-◌, ◌<◌, Some, drop, slice_get}
-use Rattle.lft_trace.specs.{inner.Records.{fields_at_hand, in_memory, IsPlain, records_left}, Records.records_of}
+use Rattle.lft_tables.specs.{inner.Records.{fields_at_hand, in_memory, IsPlain, records_left}, Records.records_of}
 use Rattle.lft_text_diagnostics.proofs.tables.record.record_of.Given as goal
 
 abbrev pub invariant-loop-before : goal.invariant-loop-before

@@ -1,6 +1,6 @@
 use Rattle.std.proofs.Common.{rules, ◌≡◌, Some, string_bytes, subst, sym}
 use Rattle.std.proofs.lemmas.Result.{IfOk-weaker}
-use Rattle.lft_trace.specs.Records.{records_of}
+use Rattle.lft_tables.specs.Records.{records_of}
 use Rattle.lft_text_diagnostics.specs.{Tables.Tables.{ContinuesFrom, field_line, heading, table_line_words}, inner.Tables.Tables.{FailsThere, word_of}}
 use Rattle.lft_text_diagnostics.proofs.TablesLemmas.Failing.{failing, line_in}
 use Rattle.lft_text_diagnostics.proofs.tables.tables.tell.Goals as goal

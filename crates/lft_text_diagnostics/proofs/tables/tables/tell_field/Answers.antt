@@ -2,7 +2,7 @@ use Rattle.std.proofs.Common.{◌≡◌, ◌+◌, ◌++◌, [], ◌⊎◌, ℕ, 
 use Rattle.std.specs.Prelude.{decimal}
 use Rattle.std.proofs.lemmas.Result.{IfOk-weaker}
 use Rattle.csv.specs.Records.{fields_of}
-use Rattle.lft_trace.specs.Records.{records_of}
+use Rattle.lft_tables.specs.Records.{records_of}
 use Rattle.lft_text_diagnostics.specs.{declared.diagnostic.Diagnostic.Diagnostic, inner.{Diagnostics.printed, Tables.Tables.{FailsThere, IsWrongIn, word_of}}}
 use Rattle.lft_text_diagnostics.specs.Tables.Tables.{ContinuesFrom, HasRecord, NamesField, field_line, field_words, table_line_words}
 use Rattle.lft_text_diagnostics.proofs.{Printing.{begins, begins_with}, TablesLemmas.Failing.one_record}

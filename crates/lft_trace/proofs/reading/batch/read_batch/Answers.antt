@@ -1,5 +1,6 @@
 use Rattle.std.proofs.Common.{◌≤◌, ◌∷◌, length, refl, arith}
-use Rattle.lft_trace.{specs.{Records.records_of, Traces.{IsRow, header}}, proofs.{TraceFacts.table_fits, Beginning.begins_lines}}
+use Rattle.lft_tables.{specs.Records.records_of, proofs.Beginning.begins_lines}
+use Rattle.lft_trace.{specs.Traces.{IsRow, header}, proofs.TraceFacts.table_fits}
 use Rattle.lft_trace.proofs.reading.batch.read_batch.Goals as goal
 
 pub returns-clause-rows : goal.returns-clause-rows

@@ -1,6 +1,7 @@
 use Rattle.std.proofs.Common.{◌∷◌, length, refl, subst, ◌≤◌, Vec, List}
 use Rattle.std.specs.declared.alloc.Global.{Global}
-use Rattle.lft_trace.{specs.{Records.records_of, Traces.header, inner.Parts.items_of}, proofs.TraceFacts.table_fits}
+use Rattle.lft_tables.specs.{Records.records_of, inner.Parts.items_of}
+use Rattle.lft_trace.{specs.Traces.header, proofs.TraceFacts.table_fits}
 use Rattle.lft_ir.specs.declared.steps.row.Row.{Row}
 use Rattle.lft_trace.proofs.reading.batch.read_lines.Goals as goal
 

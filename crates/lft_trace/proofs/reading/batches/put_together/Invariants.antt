@@ -1,5 +1,5 @@
 use Rattle.std.proofs.Common.{◌≡◌, ◌++◌, take}
-use Rattle.lft_trace.specs.inner.Parts.{items_of}
+use Rattle.lft_tables.specs.inner.Parts.{items_of}
 use Rattle.lft_trace.proofs.reading.batches.put_together.Given as goal
 
 abbrev pub invariant-loop-place : goal.invariant-loop-place

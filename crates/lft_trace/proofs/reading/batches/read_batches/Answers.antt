@@ -1,5 +1,6 @@
 use Rattle.std.proofs.Common.{◌++◌}
-use Rattle.lft_trace.{specs.inner.Parts.items_of, proofs.Behind.{GoesOn, goes_on}}
+use Rattle.lft_tables.specs.inner.Parts.{items_of}
+use Rattle.lft_trace.proofs.Behind.{GoesOn, goes_on}
 use Rattle.lft_trace.proofs.reading.batches.read_batches.Goals as goal
 
 pub loop-batch-preserved : goal.loop-batch-preserved

@@ -1,5 +1,6 @@
 use Rattle.std.proofs.Common.{◌++◌, length}
-use Rattle.lft_trace.{specs.inner.Parts.items_of, proofs.Behind.GoesOn}
+use Rattle.lft_tables.specs.inner.Parts.{items_of}
+use Rattle.lft_trace.proofs.Behind.{GoesOn}
 use Rattle.lft_trace.proofs.reading.batches.read_batches.Given as goal
 
 abbrev pub invariant-loop-batch : goal.invariant-loop-batch

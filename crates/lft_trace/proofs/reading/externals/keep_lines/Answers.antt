@@ -1,6 +1,7 @@
 use Rattle.std.proofs.Common.{◌≡◌, ◌∙◌, ◌++◌, List, Vec, ap, append-nil, arith, length, refl, subst, sym, take}
 use Rattle.std.{specs.declared.alloc.Global.Global, proofs.{lemmas.{List.append_assoc, Option.slice_get_read}, Math.Seq.take-length}}
-use Rattle.lft_trace.{specs.{inner.{ExternalLines.AreKeptIn, Parts.items_of}, declared.external_table.Entry.Entry}, proofs.Parts.items_more}
+use Rattle.lft_trace.specs.{inner.ExternalLines.AreKeptIn, declared.external_table.Entry.Entry}
+use Rattle.lft_tables.{specs.inner.Parts.items_of, proofs.Parts.items_more}
 use Rattle.lft_trace.proofs.reading.externals.keep_lines.Goals as goal
 
 pub loop-place-init : goal.loop-place-init

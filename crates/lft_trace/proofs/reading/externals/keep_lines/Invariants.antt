@@ -1,5 +1,6 @@
 use Rattle.std.proofs.Common.{List, ◌++◌, take}
-use Rattle.lft_trace.specs.{inner.{ExternalLines.AreKeptIn, Parts.items_of}, declared.external_table.Entry.Entry}
+use Rattle.lft_trace.specs.{inner.ExternalLines.AreKeptIn, declared.external_table.Entry.Entry}
+use Rattle.lft_tables.specs.inner.Parts.{items_of}
 use Rattle.lft_trace.proofs.reading.externals.keep_lines.Given as goal
 
 abbrev pub invariant-loop-place : goal.invariant-loop-place

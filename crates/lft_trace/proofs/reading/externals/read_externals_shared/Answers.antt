@@ -1,8 +1,8 @@
 use Rattle.std.proofs.Common.{IfSome}
 use Rattle.std.proofs.lemmas.{Option.IfSome_then, Result.IfOk-weaker}
-use Rattle.lft_trace.specs.{declared.reading.table_lines.TableLines.TableLines, ExternalTables.header, Records.records_of}
-use Rattle.lft_trace.specs.inner.TableLines.{AreLinesBelow, text_left}
-use Rattle.lft_trace.proofs.{ExternalReading.{read_fit, read_table}, ExternalTableFacts.one_table, Together.at_some}
+use Rattle.lft_tables.specs.{declared.table_lines.TableLines.TableLines, Records.records_of, inner.TableLines.{AreLinesBelow, text_left}}
+use Rattle.lft_tables.proofs.Together.{at_some}
+use Rattle.lft_trace.{specs.ExternalTables.header, proofs.{ExternalReading.{read_fit, read_table}, ExternalTableFacts.one_table}}
 use Rattle.lft_trace.proofs.reading.externals.read_externals_shared.Goals as goal
 
 pub returns-clause-table : goal.returns-clause-table

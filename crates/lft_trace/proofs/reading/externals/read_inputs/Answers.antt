@@ -1,7 +1,7 @@
 use Rattle.std.proofs.Common.{◌∙◌, ℕ, List, [], Vec, IfSome, subst, sym, arith}
 use Rattle.std.{proofs.lemmas.{Bool.eqb-true, Option.IfSome_then}, specs.declared.alloc.Global.Global}
-use Rattle.lft_trace.specs.{ExternalTables.IsEntry, inner.{Parts.HoldsItems, TableLines.{AreNextLines, text_left}}}
-use Rattle.lft_trace.proofs.{ExternalFacts.kept_none, ExternalReading.{all_left, read_all, read_more}, Together.at_some}
+use Rattle.lft_trace.{specs.ExternalTables.IsEntry, proofs.{ExternalFacts.kept_none, ExternalReading.{all_left, read_all, read_more}}}
+use Rattle.lft_tables.{specs.inner.{Parts.HoldsItems, TableLines.{AreNextLines, text_left}}, proofs.Together.at_some}
 use Rattle.lft_trace.proofs.reading.externals.read_inputs.Goals as goal
 
 pub loop-batch-init : goal.loop-batch-init

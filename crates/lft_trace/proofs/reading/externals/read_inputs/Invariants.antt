@@ -1,4 +1,5 @@
-use Rattle.lft_trace.{specs.inner.TableLines.text_left, proofs.ExternalReading.ReadUpTo}
+use Rattle.lft_tables.specs.inner.TableLines.{text_left}
+use Rattle.lft_trace.proofs.ExternalReading.{ReadUpTo}
 use Rattle.lft_trace.proofs.reading.externals.read_inputs.Given as goal
 
 abbrev pub invariant-loop-batch : goal.invariant-loop-batch

@@ -1,7 +1,8 @@
 use Rattle.std.proofs.Common.{rules, ◌≡◌, ◌∙◌, ◌≤◌, ◌++◌, ◌∷◌, [], List, length, append_assoc, append-nil, length-append, refl, sym, ap, subst, arith}
 use Rattle.std.{specs.List.AllZip, proofs.lemmas.Slice.Zip.all_zipped_more}
 use Rattle.lft_ir.specs.declared.steps.row.Row.{Row}
-use Rattle.lft_trace.{specs.{inner.Records.{fields_at_hand, records_left}, Traces.{IsRow, header}}, proofs.{TableFacts.Texts, TraceFacts.table_fits}}
+use Rattle.lft_tables.{specs.inner.Records.{fields_at_hand, records_left}, proofs.TableFacts.Texts}
+use Rattle.lft_trace.{specs.Traces.{IsRow, header}, proofs.TraceFacts.table_fits}
 use Rattle.lft_trace.proofs.reading.rows.next_rows.Goals as goal
 
 pub loop-place-init : goal.loop-place-init

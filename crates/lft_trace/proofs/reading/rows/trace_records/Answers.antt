@@ -1,6 +1,7 @@
 use Rattle.std.proofs.Common.{rules, ◌≡◌, ◌∙◌, ◌∷◌, List, ℕ, sym, ap}
 use Rattle.std.proofs.lemmas.Option.{IfSome_then}
-use Rattle.lft_trace.specs.{inner.Records.{fields_at_hand, records_left}, Traces.header}
+use Rattle.lft_tables.specs.inner.Records.{fields_at_hand, records_left}
+use Rattle.lft_trace.specs.Traces.{header}
 use Rattle.lft_trace.proofs.reading.rows.trace_records.Goals as goal
 
 pub returns : goal.returns

@@ -1,4 +1,5 @@
-use Rattle.lft_trace.{specs.Records.records_of, proofs.TraceFacts.{one_table, table_fits}}
+use Rattle.lft_tables.specs.Records.{records_of}
+use Rattle.lft_trace.proofs.TraceFacts.{one_table, table_fits}
 use Rattle.lft_trace.proofs.reading.shared.read_trace_shared.Goals as goal
 
 pub returns-in-Some-clause-one : goal.returns-in-Some-clause-one

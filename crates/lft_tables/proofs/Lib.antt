@@ -1,0 +1,9 @@
+pub mod Ahead
+pub mod TableFacts
+pub mod Fuel
+pub mod Parts
+pub mod Joining
+pub mod Cutting
+pub mod Together
+pub mod Beginning
+pub mod Lining

@@ -1,0 +1,4 @@
+pub mod Records
+pub mod Parts
+pub mod Tables
+pub mod inner
