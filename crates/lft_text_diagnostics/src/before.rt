@@ -2,8 +2,8 @@
 
 ghost use Rattle.lft_text_diagnostics.specs.inner.Trying.{AreTokens};
 
-use crate::candidates::Trial;
 use crate::candidate::Candidate;
+use crate::candidates::Trial;
 use crate::ways::{BROADCAST, FEDERATION, GENERICS, SPACING, TYPE, VALUE, of_token, of_word};
 use lft_syntax::{Token, TokenKind, Tokens, can_stand};
 use lft_tag::NoMemory;
@@ -23,7 +23,11 @@ pub(crate) struct Before<'a> {
 fn is_of_whole(candidate: Candidate) -> bool {
     matches!(
         candidate,
-        Candidate::Import | Candidate::From | Candidate::Text | Candidate::Symbol(b'[') | Candidate::Symbol(b']')
+        Candidate::Import
+            | Candidate::From
+            | Candidate::Text
+            | Candidate::Symbol(b'[')
+            | Candidate::Symbol(b']')
     )
 }
 

@@ -24,7 +24,12 @@ pub trait Trial {
 }
 
 /// What is also a name elsewhere, and so isn't told where a name can stand.
-const WORDS: [Candidate; 4] = [Candidate::Unit, Candidate::TypeTime, Candidate::Import, Candidate::From];
+const WORDS: [Candidate; 4] = [
+    Candidate::Unit,
+    Candidate::TypeTime,
+    Candidate::Import,
+    Candidate::From,
+];
 
 const OTHERS: [Candidate; 14] = [
     Candidate::Number,
@@ -54,7 +59,11 @@ const KEYS: [Candidate; 6] = [
 ];
 
 /// Puts the candidate behind what was found, if it can stand there.
-fn try_candidate<T: Trial>(trial: &T, found: &mut Vec<Candidate>, candidate: Candidate) -> Result<(), NoMemory>
+fn try_candidate<T: Trial>(
+    trial: &T,
+    found: &mut Vec<Candidate>,
+    candidate: Candidate,
+) -> Result<(), NoMemory>
     requires sound { T.is_sound trial.now }
     requires found { All (T.stands trial.now) found.old.items }
     ensures { OnOk result (All (T.stands trial.now) found.new.items) }
@@ -66,7 +75,11 @@ fn try_candidate<T: Trial>(trial: &T, found: &mut Vec<Candidate>, candidate: Can
 }
 
 /// Puts those of the candidates that can stand there behind what was found.
-fn find<T: Trial>(trial: &T, found: &mut Vec<Candidate>, tried: &[Candidate]) -> Result<(), NoMemory>
+fn find<T: Trial>(
+    trial: &T,
+    found: &mut Vec<Candidate>,
+    tried: &[Candidate],
+) -> Result<(), NoMemory>
     requires sound { T.is_sound trial.now }
     requires found { All (T.stands trial.now) found.old.items }
     ensures { OnOk result (All (T.stands trial.now) found.new.items) }

@@ -2,7 +2,8 @@
 
 ghost use Rattle.std.specs.Prelude.{◌≢◌, ◌-◌, ◌<◌, ◌≤◌, length, IfSome, IfNone};
 ghost use Rattle.lft_syntax.specs.{declared.fault.LexFault.TheVariants.NoMemory as LexNoMemory, Lexes.LexFails};
-ghost use Rattle.lft_text_diagnostics.specs.{Candidates.{CanStand, CanStandAt}, Refusals.{HasNoTree, IsLong, IsRefusal}, declared.candidate.Candidate.Candidate};
+ghost use Rattle.lft_text_diagnostics.specs.{Candidates.{CanStand, CanStandAt}, Refusals.{HasNoTree, IsLong, IsRefusal}};
+ghost use Rattle.lft_text_diagnostics.specs.declared.candidate.Candidate.{Candidate};
 
 use lft_syntax::{LexFault, TokenKind, Tokens, refused_at};
 

@@ -1,6 +1,7 @@
 use Rattle.std.proofs.Common.{◌≡◌, List, ◌∷◌, ◌++◌, codes, string_bytes, flat_map, sym, ap, ◌∙◌}
 use Rattle.lft_ir.proofs.WordsLemmas.Steps.{also}
-use Rattle.lft_text_diagnostics.specs.{Candidates.{could_words, other_candidate_words, candidate_words}, inner.Candidates.few, declared.candidate.Candidate.Candidate}
+use Rattle.lft_text_diagnostics.specs.{Candidates.{could_words, other_candidate_words, candidate_words}, inner.Candidates.few}
+use Rattle.lft_text_diagnostics.specs.declared.candidate.Candidate.{Candidate}
 use Rattle.lft_text_diagnostics.proofs.Helping.{few_all}
 use Rattle.lft_text_diagnostics.proofs.candidates.push_candidates.Goals as goal
 
