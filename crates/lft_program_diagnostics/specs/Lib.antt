@@ -1,3 +1,5 @@
+pub mod Spans
+pub mod Pages
 pub mod Spots
 pub mod Reasons
 pub mod Loops

@@ -3,9 +3,10 @@ use Rattle.std.specs.Prelude.{◌≡◌, ℕ, ◌⊎◌, List, ◌++◌, Option,
 use Rattle.lft_tree.specs.{View.file_view, declared.tree.{Item.Item, Reactor.Reactor, TokenRange.TokenRange}}
 use Rattle.lft_syntax.specs.{declared.token.Token.Token, Lexes.Lexes, Placed.FileStands, Grammar.Spells, View.lexemes}
 use Rattle.lft_resolve.specs.Causes.{IsFirst, causes, number_of}
-use Rattle.lft_text_diagnostics.specs.{Diagnostics.SaysOf, Pages.SaysSpot, declared.{pages.Page.Page, spots.Span.Span}}
+use Rattle.lft_text_diagnostics.specs.Diagnostics.{SaysOf}
 use Rattle.lft_validate.specs.{Members.reactors_among, Witnesses.{Shows, fault_shown}, declared.witness.Witness.Witness}
-use Rattle.lft_program_diagnostics.specs.{Sentences.{fault_told, said, words_in}, declared.sentence.Sentence.Sentence, Spots.witness_spot}
+use Rattle.lft_program_diagnostics.specs.{Pages.SaysSpot, Sentences.{fault_told, said, words_in}, Spots.witness_spot}
+use Rattle.lft_program_diagnostics.specs.declared.{pages.Page.Page, sentence.Sentence.Sentence, spans.Span.Span}
 
 -- the words say this where the bytes stand
 abbrev pub BeginsAt : List ℕ → List Page → Option Span → List ℕ → List ℕ → Type 0

@@ -2,7 +2,7 @@
 use Rattle.std.specs.Prelude.{ℕ, List, Option, None, nat_lt, if◌then◌else◌}
 use Rattle.lft_tree.specs.declared.tree.{Reference.Reference, TimeExpression.TimeExpression}
 use Rattle.lft_syntax.specs.{Placed.token_of, declared.token.Token.Token}
-use Rattle.lft_text_diagnostics.specs.{Spots.{last_of_head, last_of_name, last_of_time, span}, declared.spots.Span.Span}
+use Rattle.lft_program_diagnostics.specs.{Spans.{last_of_head, last_of_name, last_of_time, span}, declared.spans.Span.Span}
 use Rattle.lft_validate.specs.declared.{finding.Finding.Finding, witness.Witness.Witness}
 use Rattle.lft_validate.specs.declared.finding.Finding.TheVariants as finding
 use Rattle.lft_validate.specs.declared.witness.Witness.TheVariants as witness

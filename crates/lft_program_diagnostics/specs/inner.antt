@@ -1,2 +1,4 @@
+pub mod Codes
+pub mod Pages
 pub mod Sentences
 pub mod Singles

@@ -4,8 +4,8 @@ ghost use Rattle.std.specs.Prelude.{◌≡◌, IfOk};
 
 use crate::near::{push_link, push_question};
 use crate::sentence::Sentence;
+use crate::spans::Span;
 use lft_tag::NoMemory;
-use lft_text_diagnostics::Span;
 use std::alloc::Global;
 
 /// Why a program is refused.

@@ -7,9 +7,9 @@ ghost use Rattle.lft_resolve.specs.declared.causes.ProgramFault.TheVariants as f
 use crate::reason::WhyRefused;
 use crate::refused::Refused;
 use crate::sentence::Sentence;
+use crate::spans::{Span, token_spot};
 use crate::words::reactor_words;
 use lft_tag::NoMemory;
-use lft_text_diagnostics::{Span, token_spot};
 use lft_tree::{Instance, Member, Reactor};
 
 /// The first instance in the reactor of one with that name.

@@ -3,8 +3,8 @@
 ghost use Rattle.std.specs.Prelude.{◌≡◌};
 ghost use Rattle.lft_program_diagnostics.specs.Spots.{found_spot, later, witness_spot};
 
+use crate::spans::{Span, name_spot, reactor_spot, time_spot, token_spot};
 use lft_syntax::Token;
-use lft_text_diagnostics::{Span, name_spot, reactor_spot, time_spot, token_spot};
 use lft_tree::Reference;
 use lft_validate::{Finding, Witness};
 

@@ -6,10 +6,11 @@ ghost use Rattle.lft_syntax.specs.{Grammar.Spells, Lexes.Lexes, Placed.FileStand
 ghost use Rattle.lft_resolve.specs.Causes.{IsFirst, causes};
 ghost use Rattle.lft_validate.specs.{Members.reactors_among, Witnesses.fault_shown};
 ghost use Rattle.lft_program.specs.inner.Refusals.{Tells, cause_of, fault_of};
-ghost use Rattle.lft_text_diagnostics.specs.inner.Pages.{ArePages};
-ghost use Rattle.lft_program_diagnostics.specs.{Reasons.{BeginsAt, IsShownAt, IsToldIn, IsToldOf}, inner.Sentences.{IsOf, reason_sentence}, Spots.witness_spot};
+ghost use Rattle.lft_program_diagnostics.specs.{Reasons.{BeginsAt, IsShownAt, IsToldIn, IsToldOf}, inner.{Pages.ArePages, Sentences.{IsOf, reason_sentence}}};
+ghost use Rattle.lft_program_diagnostics.specs.Spots.{witness_spot};
 ghost use Rattle.lft_program.specs.declared.refusal.Refusal.TheVariants as refusals;
 
+use crate::pages::{Page, place_words, push_marked};
 use crate::reason::WhyRefused;
 use crate::refused::Refused;
 use crate::sentence::push_said;
@@ -17,8 +18,8 @@ use crate::spots::{spot_before, spot_of};
 use lft_program::Refusal;
 use lft_syntax::{Token, Tokens};
 use lft_tag::NoMemory;
+use lft_text_diagnostics::Diagnostic;
 use lft_text_diagnostics::words::push_way;
-use lft_text_diagnostics::{Diagnostic, Page, place_words, push_marked};
 use lft_tree::Ast;
 use lft_validate::{Witness, reactors_among};
 use std::alloc::Global;

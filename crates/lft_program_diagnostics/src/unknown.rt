@@ -1,17 +1,16 @@
 //! What is said of names that are nothing.
 
 ghost use Rattle.std.specs.Prelude.{◌≡◌, IfOk, IfSome, codes};
-ghost use Rattle.lft_text_diagnostics.specs.inner.Codes.{HasCodeWith};
-ghost use Rattle.lft_program_diagnostics.specs.inner.Sentences.{IsOf};
+ghost use Rattle.lft_program_diagnostics.specs.inner.{Codes.HasCodeWith, Sentences.IsOf};
 ghost use Rattle.lft_resolve.specs.declared.causes.ProgramFault.TheVariants as faults;
 
+use crate::code::has_code_with;
 use crate::reason::WhyRefused;
 use crate::refused::Refused;
 use crate::sentence::Sentence;
 use crate::words::reactor_words;
 use lft_syntax::Token;
 use lft_tag::NoMemory;
-use lft_text_diagnostics::has_code_with;
 use lft_tree::{Assignment, Instance, Member, Reactor, Reference, TimeExpression};
 
 /// What helps where code reaches too far, so that a reactor is in it.

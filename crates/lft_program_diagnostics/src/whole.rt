@@ -8,11 +8,11 @@ ghost use Rattle.lft_resolve.specs.declared.causes.ProgramFault.TheVariants as f
 use crate::reason::WhyRefused;
 use crate::refused::Refused;
 use crate::sentence::Sentence;
+use crate::spans::{Span, name_spot, time_spot};
 use crate::ways::first_place;
 use itoa::Buffer;
 use lft_program::{Excess, LimitedKind, Way};
 use lft_tag::NoMemory;
-use lft_text_diagnostics::{Span, name_spot, time_spot};
 use lft_tree::Reference;
 
 /// More ports of a loop aren't named.

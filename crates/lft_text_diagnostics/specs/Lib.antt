@@ -1,10 +1,8 @@
 pub mod Candidates
 pub mod Diagnostics
-pub mod Pages
 pub mod Places
 pub mod Quotes
 pub mod Refusals
-pub mod Spots
 pub mod Told
 pub mod Tables
 pub mod inner

@@ -11,26 +11,21 @@
 mod before;
 mod candidate;
 pub mod candidates;
-mod code;
 mod diagnostic;
 pub mod headers;
 mod left_out;
-mod pages;
 mod place;
 mod program_text;
 mod quoting;
 mod refusal;
 mod sentence;
-mod spots;
 pub mod tables;
 mod ways;
 pub mod words;
 
 pub use candidate::Candidate;
-pub use code::has_code_with;
 pub use diagnostic::Diagnostic;
-pub use pages::{Page, place_words, push_marked};
 pub use place::{LineColumn, begins_letter, place_of};
 pub use program_text::{tell_no_tokens, tell_no_tree, way_at};
+pub use quoting::{push_line, push_place};
 pub use sentence::{TOO_SOON, push_standing};
-pub use spots::{Span, name_spot, reactor_spot, time_spot, token_spot};

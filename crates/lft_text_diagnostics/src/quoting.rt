@@ -16,7 +16,7 @@ use std::alloc::Global;
 pub(crate) const LONGEST_LINE: usize = 200;
 
 /// Puts the line and the column behind the text.
-pub(crate) fn push_place(out: &mut String, place: LineColumn) -> Result<(), NoMemory>
+pub fn push_place(out: &mut String, place: LineColumn) -> Result<(), NoMemory>
     ensures { OnOk result (string_bytes out.new ≡ string_bytes out.old ++ program_place_words place) }
 {
     out.push_str("Program, line ")?;
@@ -72,7 +72,7 @@ pub(crate) fn push_quote(
 
 /// Puts the line of a place behind the text, and below it a mark at the bytes from there up to the end. A
 /// long line isn't quoted.
-pub(crate) fn push_line(
+pub fn push_line(
     alloc: Global,
     out: &mut String,
     text: &[u8],

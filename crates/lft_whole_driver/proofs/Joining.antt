@@ -2,7 +2,7 @@
 use Rattle.std.proofs.Common.{◌≡◌, ℕ, ◌+◌, ◌≤◌, ◌<◌, List, [], ◌∷◌, ◌++◌, Ok, Some, length, map, take, get_or, slice_get, sym, ap, subst, ◌∙◌, add-one, arith, string_bytes}
 use Rattle.std.{specs.List.All, proofs.lemmas.{List.{append_assoc, length-append, Elements.{All-append, All-cons, All-nil}}, Option.slice_get-get_or}}
 use Rattle.lft_lists.proofs.Picked.{take_next}
-use Rattle.lft_text_diagnostics.specs.{inner.Pages.ArePages, declared.pages.Page.Page}
+use Rattle.lft_program_diagnostics.specs.{inner.Pages.ArePages, declared.pages.Page.Page}
 use Rattle.lft_whole.specs.{Sources.Shown.shown_path, declared.sources.source.SourceFile.SourceFile, Pieces.tokens_of, inner.Tokens.{AreTokens, IsToken}}
 use Rattle.lft_whole.proofs.Between.{each_token}
 use Rattle.lft_syntax.specs.declared.token.Token.{Token}

@@ -1,6 +1,6 @@
 -- The files of a program as one text.
 use Rattle.std.specs.Prelude.{◌≡◌, ◌+◌, ◌++◌, ℕ, List, ◌∷◌, Result, Ok, Err, length, map, string_bytes, []}
-use Rattle.lft_text_diagnostics.specs.declared.pages.Page.{Page}
+use Rattle.lft_program_diagnostics.specs.declared.pages.Page.{Page}
 use Rattle.lft_whole.specs.{Sources.Shown.shown_path, declared.{sources.source.SourceFile.SourceFile, fault.TextFault.TextFault}, Pieces.tokens_of}
 use Rattle.lft_syntax.specs.declared.token.Token.{Token}
 use Rattle.lft_whole_driver.specs.declared.pages.Joined.{Joined}

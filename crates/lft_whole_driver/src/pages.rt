@@ -5,9 +5,9 @@ ghost use Rattle.lft_whole.specs.inner.Tokens.{AreTokens};
 ghost use Rattle.lft_whole_parser.specs.Imports.{Files.AreOfTexts, Reads.HasTree};
 ghost use Rattle.lft_whole_driver.specs.{Pages.{AreJoined, token_moved as moved_token}, inner.Pages.{JoinsFile, JoinsTokens}};
 
+use lft_program_diagnostics::Page;
 use lft_syntax::{Token, TokenKind, Tokens};
 use lft_tag::NoMemory;
-use lft_text_diagnostics::Page;
 use lft_whole::lex;
 use lft_whole::sources::{SourceFile, shown_path};
 use std::alloc::Global;

@@ -1,6 +1,6 @@
 -- Inside: the files of a program as one text.
 use Rattle.std.specs.Prelude.{◌≡◌, ◌++◌, ℕ, List, ◌∷◌, length, map, []}
-use Rattle.lft_text_diagnostics.specs.declared.pages.Page.{Page}
+use Rattle.lft_program_diagnostics.specs.declared.pages.Page.{Page}
 use Rattle.lft_whole.specs.declared.sources.source.SourceFile.{SourceFile}
 use Rattle.lft_syntax.specs.declared.token.Token.{Token}
 use Rattle.lft_whole_driver.specs.{declared.pages.Joined.Joined, Pages.{token_moved, file_tokens, is_page}}

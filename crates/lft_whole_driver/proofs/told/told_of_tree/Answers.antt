@@ -1,8 +1,7 @@
 use Rattle.std.proofs.Common.{string_bytes, subst, sym}
 use Rattle.std.proofs.lemmas.Result.{IfOk-weaker}
 use Rattle.lft_program.specs.inner.Refusals.{cause_of}
-use Rattle.lft_program_diagnostics.specs.Reasons.{IsToldIn}
-use Rattle.lft_text_diagnostics.specs.inner.Pages.{ArePages}
+use Rattle.lft_program_diagnostics.specs.{Reasons.IsToldIn, inner.Pages.ArePages}
 use Rattle.lft_whole_driver.{specs.Told.IsToldTree, proofs.Joining.pages_in}
 use Rattle.lft_whole_driver.proofs.told.told_of_tree.Goals as goal
 

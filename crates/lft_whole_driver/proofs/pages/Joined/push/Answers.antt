@@ -1,5 +1,5 @@
 use Rattle.std.proofs.Common.{◌++◌, ap, sym, ◌∙◌}
-use Rattle.lft_text_diagnostics.specs.declared.pages.Page.{Page}
+use Rattle.lft_program_diagnostics.specs.declared.pages.Page.{Page}
 use Rattle.lft_whole.specs.{Sources.Shown.shown_path, Pieces.tokens_of}
 use Rattle.lft_whole_driver.proofs.Joining.{joins_file}
 use Rattle.lft_whole_driver.proofs.pages.Joined.push.Goals as goal

@@ -1,7 +1,8 @@
 use Rattle.std.proofs.Common.{◌≡◌, ◌-◌, ◌++◌, ℕ, List, ap, inl, inr, min, refl, slice_range, string_bytes, ◌∙◌}
 use Rattle.std.proofs.lemmas.Result.{on_ok_weaker}
-use Rattle.lft_text_diagnostics.specs.{inner.Pages.MarksBytes, Quotes.marked_line}
-use Rattle.lft_text_diagnostics.proofs.pages.push_spot.Goals as goal
+use Rattle.lft_text_diagnostics.specs.Quotes.{marked_line}
+use Rattle.lft_program_diagnostics.specs.inner.Pages.{MarksBytes}
+use Rattle.lft_program_diagnostics.proofs.pages.push_spot.Goals as goal
 
 pub returns-in-Some : goal.returns-in-Some
 returns-in-Some c =

@@ -1,6 +1,7 @@
 -- Where a byte of a program's text stands: in one of its files, or in the text as a whole.
 use Rattle.std.specs.Prelude.{◌≡◌, ◌⊎◌, ◌≤◌, ◌-◌, ◌++◌, ℕ, List, Option, Some, None, Contains, codes, decimal, length, slice_get, slice_range, string_bytes}
-use Rattle.lft_text_diagnostics.specs.{Places.IsPlace, Quotes.program_place_words, declared.{pages.Page.Page, place.LineColumn.LineColumn, spots.Span.Span}}
+use Rattle.lft_text_diagnostics.specs.{Places.IsPlace, Quotes.program_place_words, declared.place.LineColumn.LineColumn}
+use Rattle.lft_program_diagnostics.specs.declared.{pages.Page.Page, spans.Span.Span}
 
 -- The byte stands in the file, or at its end.
 abbrev pub HasByte : ℕ → Page → Type 0

@@ -1,8 +1,8 @@
 -- Inside: where a byte of a program's text stands: in one of its files, or in the text as a whole.
 use Rattle.std.specs.Prelude.{◌≡◌, ◌⊎◌, ◌≤◌, ◌-◌, ℕ, List, Option, Some, None, Contains, length, min, slice_range, []}
 use Rattle.std.specs.List.{All}
-use Rattle.lft_text_diagnostics.specs.{Places.IsPlace, Quotes.marked_line, declared.{pages.Page.Page, place.LineColumn.LineColumn, spots.Span.Span}}
-use Rattle.lft_text_diagnostics.specs.Pages.{HasByte, HasNone}
+use Rattle.lft_text_diagnostics.specs.{Places.IsPlace, Quotes.marked_line, declared.place.LineColumn.LineColumn}
+use Rattle.lft_program_diagnostics.specs.{Pages.{HasByte, HasNone}, declared.{pages.Page.Page, spans.Span.Span}}
 
 -- Each file is a part of the text.
 abbrev pub ArePages : List ℕ → List Page → Type 0

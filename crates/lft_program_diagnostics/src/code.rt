@@ -1,7 +1,7 @@
 //! Whether some code of a program's text has some bytes.
 
 ghost use Rattle.std.specs.Prelude.{◌≡◌, ◌↔◌, ◌+◌, ◌<◌, ◌≤◌, IfSome, IsSome, IsTrue, length, slice_range};
-ghost use Rattle.lft_text_diagnostics.specs.inner.Codes.{HasCodeWith, IsCodeWith, StandsIn};
+ghost use Rattle.lft_program_diagnostics.specs.inner.Codes.{HasCodeWith, IsCodeWith, StandsIn};
 
 use lft_syntax::{Token, TokenKind};
 
@@ -54,7 +54,7 @@ fn is_code_with(text: &[u8], token: Token, word: &[u8]) -> bool
 }
 
 /// Whether some code among the tokens of the text has those bytes.
-pub fn has_code_with(text: &[u8], tokens: &[Token], word: &[u8]) -> bool
+pub(crate) fn has_code_with(text: &[u8], tokens: &[Token], word: &[u8]) -> bool
     ensures { IsTrue result ↔ HasCodeWith text.now tokens.now word.now }
 {
     for at in 0..tokens.len() {

@@ -1,13 +1,13 @@
 //! The text of a program as it is told of: one that stands alone, or files one behind another.
 
 ghost use Rattle.std.specs.Prelude.{◌≡◌, ◌↔◌, ◌≤◌, ◌++◌, ℕ, List, Contains, IfNone, IfOk, IfSome, IsTrue, OnOk, length, string_bytes};
-ghost use Rattle.lft_text_diagnostics.specs.{inner.Pages.{ArePages, HasBytes, MarksBytes, MarksSpot}, Pages.{HasByte, HasNone, SaysByte, SaysSpot, page_words}};
+ghost use Rattle.lft_program_diagnostics.specs.inner.Pages.{ArePages, HasBytes, MarksBytes, MarksSpot};
+ghost use Rattle.lft_program_diagnostics.specs.Pages.{HasByte, HasNone, SaysByte, SaysSpot, page_words};
 
-use crate::place::{LineColumn, place_of};
-use crate::quoting::{push_line, push_place};
-use crate::spots::Span;
+use crate::spans::Span;
 use lft_ir::words::push_number;
 use lft_tag::NoMemory;
+use lft_text_diagnostics::{LineColumn, place_of, push_line, push_place};
 use std::alloc::Global;
 
 /// A file among several: its path, and which bytes of the text of all it has.
@@ -67,7 +67,7 @@ fn push_byte(out: &mut String, text: &[u8], files: &[Page], at: usize) -> Result
 }
 
 /// Where some bytes stand, in words: those of a program as a whole, where there are none.
-pub fn place_words(
+pub(crate) fn place_words(
     alloc: Global,
     text: &[u8],
     files: &[Page],

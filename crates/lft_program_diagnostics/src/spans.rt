@@ -2,7 +2,7 @@
 
 ghost use Rattle.std.specs.Prelude.{◌≡◌, ◌+◌};
 ghost use Rattle.lft_syntax.specs.Placed.{token_of};
-ghost use Rattle.lft_text_diagnostics.specs.Spots.{last_of_head, last_of_name, last_of_time, span};
+ghost use Rattle.lft_program_diagnostics.specs.Spans.{last_of_head, last_of_name, last_of_time, span};
 
 use lft_syntax::Token;
 use lft_tree::{Reactor, Reference, TimeExpression};
@@ -28,14 +28,14 @@ fn spot_up_to(tokens: &[Token], at: usize, behind: usize) -> Option<Span>
 }
 
 /// The bytes of a token. None where the text has fewer.
-pub fn token_spot(tokens: &[Token], at: usize) -> Option<Span>
+pub(crate) fn token_spot(tokens: &[Token], at: usize) -> Option<Span>
     ensures { result ≡ span tokens.now at at }
 {
     spot_up_to(tokens, at, 0)
 }
 
 /// The bytes of a name, with those of its port.
-pub fn name_spot(tokens: &[Token], name: &Reference) -> Option<Span>
+pub(crate) fn name_spot(tokens: &[Token], name: &Reference) -> Option<Span>
     ensures { result ≡ span tokens.now name.now.at (last_of_name name.now) }
 {
     match &name.port {
@@ -46,7 +46,7 @@ pub fn name_spot(tokens: &[Token], name: &Reference) -> Option<Span>
 }
 
 /// The bytes of a time, with those of its unit.
-pub fn time_spot(tokens: &[Token], time: &TimeExpression) -> Option<Span>
+pub(crate) fn time_spot(tokens: &[Token], time: &TimeExpression) -> Option<Span>
     ensures { result ≡ span tokens.now (token_of time.now) (last_of_time time.now) }
 {
     match time {
@@ -60,7 +60,7 @@ pub fn time_spot(tokens: &[Token], time: &TimeExpression) -> Option<Span>
 }
 
 /// The bytes of a reactor's name, or of `main reactor` where it has none.
-pub fn reactor_spot(tokens: &[Token], reactor: &Reactor) -> Option<Span>
+pub(crate) fn reactor_spot(tokens: &[Token], reactor: &Reactor) -> Option<Span>
     ensures { result ≡ span tokens.now reactor.now.at (last_of_head reactor.now) }
 {
     match &reactor.name {

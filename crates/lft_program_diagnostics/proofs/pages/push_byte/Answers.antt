@@ -1,7 +1,7 @@
 use Rattle.std.proofs.Common.{◌≡◌, ◌++◌, ℕ, List, inl, refl, string_bytes}
 use Rattle.std.proofs.lemmas.Result.{on_ok_weaker}
-use Rattle.lft_text_diagnostics.specs.Pages.{SaysByte, page_words}
-use Rattle.lft_text_diagnostics.proofs.pages.push_byte.Goals as goal
+use Rattle.lft_program_diagnostics.specs.Pages.{SaysByte, page_words}
+use Rattle.lft_program_diagnostics.proofs.pages.push_byte.Goals as goal
 
 pub returns-in-Some : goal.returns-in-Some
 returns-in-Some c =

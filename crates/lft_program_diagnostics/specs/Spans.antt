@@ -2,7 +2,7 @@
 use Rattle.std.specs.Prelude.{ℕ, ◌+◌, List, Option, Some, None, slice_get}
 use Rattle.lft_tree.specs.declared.tree.{Reactor.Reactor, Reference.Reference, TimeExpression.TimeExpression}
 use Rattle.lft_syntax.specs.declared.token.Token.{Token}
-use Rattle.lft_text_diagnostics.specs.declared.spots.Span.{Span}
+use Rattle.lft_program_diagnostics.specs.declared.spans.Span.{Span}
 use Rattle.lft_tree.specs.declared.tree.TimeExpression.TheVariants as times
 
 -- The bytes from the start of the one token up to the end of the other, if both are there.
