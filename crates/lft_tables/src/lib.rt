@@ -7,13 +7,13 @@
 //! order mark begins behind it. Then its records are those before the cut, and then those behind it.
 
 mod lines;
-mod parts;
 mod records;
 mod table;
 mod table_lines;
+mod workers;
 
 pub use lines::{cut_behind, first_lines, may_begin_with_mark};
-pub use parts::{is_one_part, read_parts, read_plain};
 pub use records::{Records, Unread, field};
 pub use table::TableReader;
 pub use table_lines::{ReadFailed, TableLines};
+pub use workers::{is_one_part, read_parts, read_plain};

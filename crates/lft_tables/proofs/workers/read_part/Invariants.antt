@@ -1,7 +1,7 @@
 use Rattle.std.proofs.Common.{◌≡◌, ◌-◌, ◌++◌}
 use Rattle.std.specs.List.{AllZip}
 use Rattle.lft_tables.{specs.{inner.Records.{in_memory, IsPlain, records_left}, Records.records_of}, proofs.TableFacts.Texts}
-use Rattle.lft_tables.proofs.parts.read_part.Given as goal
+use Rattle.lft_tables.proofs.workers.read_part.Given as goal
 
 abbrev pub invariant-lines : goal.invariant-lines
 invariant-lines g l = record {

@@ -1,7 +1,7 @@
 use Rattle.std.proofs.Common.{rules, ◌≡◌, ◌∙◌, ◌++◌, ◌∷◌, [], append_assoc, append-nil, sym, ap, subst}
 use Rattle.std.{specs.List.AllZip, proofs.lemmas.Slice.Zip.all_zipped_more}
 use Rattle.lft_tables.{specs.inner.Records.{fields_at_hand, in_memory, IsNext, records_left}, proofs.TableFacts.{Texts, fewer}}
-use Rattle.lft_tables.proofs.parts.read_part.Goals as goal
+use Rattle.lft_tables.proofs.workers.read_part.Goals as goal
 
 pub lines-init : goal.lines-init
 lines-init g c = record {

@@ -1,6 +1,6 @@
 use Rattle.std.proofs.lemmas.Option.{IfSome_then}
 use Rattle.lft_tables.{specs.inner.Parts.{HoldsItems, items_of}, proofs.{Parts.items_both, Together.{at_some, holds_both}}}
-use Rattle.lft_tables.proofs.parts.+parts.Goals as goal
+use Rattle.lft_tables.proofs.workers.+parts.Goals as goal
 
 pub returns : goal.returns
 returns g t c =

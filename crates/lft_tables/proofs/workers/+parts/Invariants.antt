@@ -1,5 +1,5 @@
 use Rattle.std.proofs.Common.{◌+◌, ◌*◌}
-use Rattle.lft_tables.proofs.parts.+parts.Given as goal
+use Rattle.lft_tables.proofs.workers.+parts.Given as goal
 
 abbrev pub decreases-read_parts : goal.decreases-read_parts
 decreases-read_parts g l = 2 * l.workers
