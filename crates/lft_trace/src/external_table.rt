@@ -130,7 +130,13 @@ pub(crate) fn keep(
     }
 }
 
-impl TableReader for Program {
+/// Reads records of the external inputs of a program.
+#[derive(Clone, Copy)]
+pub(crate) struct InputReader<'a> {
+    pub(crate) program: &'a Program,
+}
+
+impl<'a> TableReader for InputReader<'a> {
     ghost use Rattle.std.specs.Prelude.{⊤};
     ghost use Rattle.lft_trace.specs.ExternalTables.{IsEntry, header};
 
@@ -140,7 +146,7 @@ impl TableReader for Program {
 
     ghost header = { header };
 
-    ghost tells = { IsEntry };
+    ghost tells = { λ reader. IsEntry reader.program.now };
 
     ghost is_guess = { λ _ _. ⊤ };
 
@@ -155,7 +161,7 @@ impl TableReader for Program {
 
     fn read(&self, _guess: (), fields: &ByteRecord) -> Option<(Entry, ())> {
         // Of a fault no line is told.
-        let entry = read_entry(self, fields, 0).ok()?;
+        let entry = read_entry(self.program, fields, 0).ok()?;
         Some((entry, ()))
     }
 }

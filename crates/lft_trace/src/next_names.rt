@@ -14,7 +14,7 @@ const AHEAD: usize = 4;
 /// order, so the next name is looked for there first. What is found is compared with the row's
 /// field: nothing that is read depends on a place.
 #[derive(Clone, Copy)]
-pub(crate) struct NextNames {
+pub struct NextNames {
     input: usize,
     effect: usize,
 }

@@ -7,7 +7,7 @@ ghost use Rattle.lft_trace.specs.inner.ExternalLines.{AreKeptIn, AreReadOf};
 ghost use Rattle.lft_tables.specs.{Records.records_of, inner.{Parts.HoldsItems, TableLines.text_left}};
 
 use crate::event_map::EventMap;
-use crate::external_table::{Entry, finish, keep};
+use crate::external_table::{Entry, InputReader, finish, keep};
 use lft_ir::Program;
 use lft_ir::steps::Externals;
 use lft_tables::{ReadFailed, TableLines, read_parts};
@@ -64,7 +64,7 @@ fn keep_lines<T: Threads + Sync>(
 ) -> Option<KeptEntries>
     ensures { IfSome result (λ on. (entries : List TheEntry) × HoldsItems (IsEntry program.now) lines.now entries × ((before : List TheEntry) → AreKeptIn before kept → AreKeptIn (before ++ entries) on)) }
 {
-    let parts = read_parts(rt, alloc, program, lines, workers)?;
+    let parts = read_parts(rt, alloc, &InputReader { program }, lines, workers)?;
     let mut kept = kept;
     for place in 0..parts.len() {
         let on = keep_part(alloc, kept, parts[place].as_slice())?;
@@ -133,7 +133,7 @@ pub fn read_externals_shared<T: Threads + Sync, R: Read + Drop>(
 {
     // Asked for what every program keeps: no two of its things have one name.
     program.keeps();
-    let Some(mut text) = TableLines::below::<Program>(alloc, source)? else {
+    let Some(mut text) = TableLines::below::<InputReader>(alloc, source)? else {
         return Ok(None);
     };
     read_inputs(rt, alloc, program, &mut text, workers)
