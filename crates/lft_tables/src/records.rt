@@ -147,10 +147,8 @@ impl<R: Read + Drop> Records<R> {
     pub fn fields(&self) -> &ByteRecord
         ensures { fields_of result.now ≡ fields_at_hand self.now }
     {
-        if self.next == 0 {
-            return &self.none;
-        }
-        match self.ahead.get(self.next - 1) {
+        // Before the first record no place is meant: that behind the last one.
+        match self.ahead.get(self.next.wrapping_sub(1)) {
             Some(fields) => fields,
             None => &self.none,
         }

@@ -2,8 +2,8 @@
 
 use csv::ByteRecord;
 
-/// A kind of table of a program: its header, and what its records tell.
-// Rows and external inputs have this in common, so that a text of either is read in parts.
+/// A kind of table: its header, and what its records tell.
+// Whoever has this can read a text in parts: so it is of rows and of external inputs.
 pub trait TableReader: Sync {
     ghost use Rattle.std.specs.Prelude.{◌≡◌, ◌∷◌, ℕ, List, [], IfSome, IsTrue};
     ghost use Rattle.csv.specs.Records.{fields_of};

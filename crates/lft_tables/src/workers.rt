@@ -22,7 +22,8 @@ pub fn is_one_part(text: &[u8], workers: u32) -> bool
     workers < 2 || text.len() < SHORT
 }
 
-/// What the records of a text without a quotation mark tell, those of each part in a list of its own.
+/// What the records of a text without a quotation mark tell, those of each part in a list of its own. None where it
+/// has one, a record tells nothing, there are more than 4,000,000, or memory is refused.
 // Text and workers are divided in two, in the same proportion, until a part has one worker.
 // The parts stay lists: joined on the way back, half of a batch is copied twice while others wait.
 #[cycle(parts)]
@@ -64,8 +65,8 @@ fn read_alone<K: TableReader>(alloc: Global, table: &K, text: &[u8]) -> Option<V
     only_part(alloc, read_plain(alloc, table, text)?)
 }
 
-// What the records of a text tell, by one worker. A line may end within quotes: no place of such a text is known
-// to be one where a record begins.
+/// What the records of a text without a quotation mark tell, by one worker. None as for `read_parts`.
+// A line may end within quotes: no place of such a text is known to be one where a record begins.
 pub fn read_plain<K: TableReader>(alloc: Global, table: &K, text: &[u8]) -> Option<Vec<K::Item>>
     ensures { IfSome result (λ items. HoldsItems (K.tells table.now) text.now items.items) }
 {
